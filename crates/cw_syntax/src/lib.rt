@@ -1,0 +1,4 @@
+//! The C subset of CapWeave.
+#![tactic(auto)]
+
+pub mod program;
