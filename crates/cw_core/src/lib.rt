@@ -1,0 +1,11 @@
+//! What every crate of CapWeave stands on: numbers of places, points and states, sets of states, numbers
+//! and sets as text, and the names of the quantities that have a limit.
+#![tactic(auto)]
+
+mod ids;
+mod memory;
+mod quantity;
+
+pub use ids::{MemId, PointId, PosId, SeamId, StateId};
+pub use memory::NoMemory;
+pub use quantity::Quantity;

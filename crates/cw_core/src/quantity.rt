@@ -1,0 +1,71 @@
+//! The quantities that have a limit.
+
+ghost use Rattle.std.specs.Prelude.{◌≡◌};
+
+/// A quantity that has a limit, in the order in which the limits are listed.
+#[derive(Clone, Copy, Debug, PartialEq, Eq, PartialOrd, Ord, Hash)]
+pub enum Quantity {
+    /// Bytes of a policy, at most 65,536.
+    PolicyBytes,
+    /// Bytes of a source, at most 262,144.
+    SourceBytes,
+    /// Bytes of a woven text, a strategy or a tape, at most 16,777,216.
+    FileBytes,
+    /// Descriptors of a policy, at most 8.
+    Descriptors,
+    /// Limits of a policy, at most 12.
+    Limits,
+    /// Rules of a policy, at most 32.
+    Rules,
+    /// Literals of all rules, and the start, at most 64.
+    RulePositions,
+    /// Nesting of statements, of expressions and of regular expressions, at most 64.
+    Nesting,
+    /// Functions of a source, at most 512.
+    Functions,
+    /// Distinct label names of a source, at most 256.
+    Labels,
+    /// Points of a source, at most 8,192.
+    Points,
+    /// States of the rights, at most 128.
+    RightsStates,
+    /// States of the policy, at most 64.
+    PolicyStates,
+    /// Pairs of a policy state and a rights state, at most 512.
+    ProductStates,
+    /// Positions of the game times product states, at most 1,048,576.
+    PositionsTimesStates,
+    /// Cells that the solver tables, at most 4,194,304.
+    Cells,
+    /// Rows of a certificate, at most 65,536.
+    Rows,
+}
+
+impl Quantity {
+    ghost use Rattle.cw_core.specs.Quantities.{name_of};
+
+    /// The quantity's name, as a refusal prints it.
+    pub fn name(&self) -> &'static str
+        ensures { result.now ≡ name_of self.now }
+    {
+        match self {
+            Quantity::PolicyBytes => "policy bytes",
+            Quantity::SourceBytes => "source bytes",
+            Quantity::FileBytes => "file bytes",
+            Quantity::Descriptors => "descriptors",
+            Quantity::Limits => "limits",
+            Quantity::Rules => "rules",
+            Quantity::RulePositions => "rule positions",
+            Quantity::Nesting => "nesting",
+            Quantity::Functions => "functions",
+            Quantity::Labels => "labels",
+            Quantity::Points => "points",
+            Quantity::RightsStates => "rights states",
+            Quantity::PolicyStates => "policy states",
+            Quantity::ProductStates => "product states",
+            Quantity::PositionsTimesStates => "positions times states",
+            Quantity::Cells => "cells",
+            Quantity::Rows => "rows",
+        }
+    }
+}
