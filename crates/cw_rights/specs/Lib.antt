@@ -1,0 +1,6 @@
+-- The definitions.
+pub mod Capabilities
+pub mod Trees
+pub mod Words
+pub mod Policies
+pub mod Valid
