@@ -1,0 +1,27 @@
+-- The strategy of the environment: rows that name the rows that come next.
+use Rattle.std.specs.Prelude.{ℕ, List, Option, option_map, find, nat_eq}
+use Rattle.cw_certs.specs.declared.moves.Move.{Move}
+
+-- What a row does: the policy is violated here; the frame ends; the weaver moves, a row for each of its moves; the environment
+-- makes a move; a function is called, a row for its body and one for each state in which it may end.
+pub data How : Type 0 where
+  Bad : How
+  Out : How
+  Both : (skip tried : ℕ) → How
+  Go : (by : Move) → (row : ℕ) → How
+  Into : (callee : ℕ) → (backs : List (ℕ × ℕ)) → How
+
+-- The position and the state at which the row stands, the exit states that the strategy aims at in this frame, as the sum of their powers of two.
+pub record Row : Type 0 where
+  pub pos : ℕ
+  pub state : ℕ
+  pub aim : ℕ
+  pub how : How
+
+pub record Strategy : Type 0 where
+  pub states : ℕ
+  pub rows : List Row
+
+-- the row that a list of backs has for an exit state
+abbrev pub back_of : List (ℕ × ℕ) → ℕ → Option ℕ
+back_of backs exit = option_map (λ b. b.1) (find (λ b. nat_eq b.0 exit) backs)

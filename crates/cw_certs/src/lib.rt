@@ -1,0 +1,8 @@
+//! The data of both answers: the table of a woven program, and the strategy of its environment.
+#![tactic(auto)]
+
+mod moves;
+mod rows;
+
+pub use moves::Move;
+pub use rows::{AtRow, BackRow, IntoRow, OpenRow, TryRow};

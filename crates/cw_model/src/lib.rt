@@ -1,0 +1,2 @@
+//! The model of a program under a policy: boards and their moves, woven runs, strategies.
+#![tactic(auto)]
