@@ -1,0 +1,2 @@
+//! The checker of tables.
+#![tactic(auto)]
