@@ -135,7 +135,7 @@ module _ (Means : Meaning) (Ex : ℕ → List Ret → Type 0) (g : Game) (t : Ta
     pub row_in : (p m q e : ℕ) (s : Spot) → is_live t p m ≡ true → IsMeant m q e → slice_get g.spots p ≡ Some s → row_ok_in g t p m q e (Some s) ≡ true
     row_in p m q e s l k es = sym (ap (row_ok_in g t p m q e) es) ∙ row_by p m q e (slice_get t.mems m) (live_in t.live p m ok l) k
 
-    leads_to : (p m q e : ℕ) → leads t p m q e ≡ true → (is_live t p m ≡ true) × IsMeant m q e
+    pub leads_to : (p m q e : ℕ) → leads t p m q e ≡ true → (is_live t p m ≡ true) × IsMeant m q e
     leads_to p m q e h = let k = and_parts (means_it (slice_get t.mems m) q e) (is_live t p m) h in (k.1, k.0)
 
     row_some : (n q e : ℕ) (o : Option AtRow) → row_leads t n q e o ≡ true → (k : ℕ) × (option_map (λ r. r.after.0) o ≡ Some k) × (leads t n k q e ≡ true)
