@@ -2,3 +2,4 @@ pub mod Places
 pub mod Fronts
 pub mod Stands
 pub mod Moves
+pub mod Reached

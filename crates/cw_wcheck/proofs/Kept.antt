@@ -1,5 +1,5 @@
 -- What holds at every board of a woven run, over the whole stack.
-use Rattle.std.proofs.Common.{◌≡◌, ◌⊎◌, ℕ, zero, suc, ◌+◌, ◌<◌, length, List, [], ◌∷◌, ◌++◌, Contains, Bool, true, false, cond, not, ◌&&◌, ◌||◌, Option, Some, None, is_some, find, nat_eq, option_map, option_and_then, refl, sym, ap, ap₂, ◌∙◌, subst, inl, inr, ⊎_elim, eqb-true, eq-eqb, append-nil, arith}
+use Rattle.std.proofs.Common.{◌≡◌, ◌⊎◌, ℕ, suc, ◌+◌, ◌<◌, length, List, [], ◌∷◌, ◌++◌, Bool, true, false, cond, not, ◌&&◌, ◌||◌, Option, Some, None, is_some, find, nat_eq, option_map, option_and_then, refl, sym, ap, ap₂, ◌∙◌, subst, inl, inr, ⊎_elim, eqb-true, eq-eqb}
 use Rattle.std.specs.Prelude.{slice_get}
 use Rattle.std.proofs.lemmas.Option.{none-some, same_Some, cond_some}
 use Rattle.cw_core.specs.declared.ids.MemId.{MemId}
@@ -7,12 +7,12 @@ use Rattle.cw_core.specs.declared.ids.StateId.{StateId}
 use Rattle.cw_core.specs.declared.ids.PosId.{PosId}
 use Rattle.cw_rights.specs.declared.capabilities.Caps.{Caps}
 use Rattle.cw_rights.specs.declared.capabilities.Primitive.{Primitive}
-use Rattle.cw_rights.specs.declared.capabilities.Primitive.TheVariants.{Limit, Enter, Split}
+use Rattle.cw_rights.specs.declared.capabilities.Primitive.TheVariants.{Split}
 use Rattle.cw_rights.specs.Capabilities.{closed}
 use Rattle.cw_rights.specs.Words.{Word}
-use Rattle.cw_rights.specs.Policies.{PlainPolicy, IsBad, primitives}
+use Rattle.cw_rights.specs.Policies.{IsBad, primitives}
 use Rattle.cw_certs.specs.declared.moves.Move.{Move}
-use Rattle.cw_certs.specs.declared.moves.Move.TheVariants.{Skip, Try, Grant, Refuse, On, Left, Right, Opened, Failed}
+use Rattle.cw_certs.specs.declared.moves.Move.TheVariants.{Skip, Try, Grant, Refuse, On, Left, Right}
 use Rattle.cw_certs.specs.declared.rows.TryRow.{TryRow}
 use Rattle.cw_certs.specs.declared.rows.AtRow.{AtRow}
 use Rattle.cw_certs.specs.declared.rows.OpenRow.{OpenRow}
@@ -20,18 +20,18 @@ use Rattle.cw_certs.specs.declared.rows.IntoRow.{IntoRow}
 use Rattle.cw_certs.specs.declared.rows.BackRow.{BackRow}
 use Rattle.cw_certs.specs.Tables.{Table, try_at, after_at, open_at, into_at, back_at, state_of}
 use Rattle.cw_syntax.specs.Plans.{Callee, Stm, Open, Close, Call, Label, Routine, Plan}
-use Rattle.cw_syntax.specs.Frames.{Item, Todo, End, Frame, new_frame, settle, Way, after, pass, popped, pushed, frame_of}
+use Rattle.cw_syntax.specs.Frames.{Item, Todo, End, Frame, new_frame, settle, Way, after, pass, popped}
 use Rattle.cw_syntax.specs.Frames.{On as OnWay, Left as LeftWay, Right as RightWay, Opened as OpenedWay, Failed as FailedWay}
-use Rattle.cw_model.specs.Boards.{Problem, Phase, Visit, Asked, Free, FreeSplit, Over, Board, seam_in, primitives_in, onward, begin, letters_in, letters, may_grant, may_refuse, way_of, kept_after, with_opened, after_open, given_back, caps_after, landed, stepped, granted, passed_by, answered, moved, Moves, Party, Environment, turn_of}
-use Rattle.cw_model.specs.Runs.{try_in, front_seam, number_if, top_by, stays_where, stays_unless, called_with, returned_with, return_memories, was_split, step_memories, memories, State, WovenStep}
+use Rattle.cw_model.specs.Boards.{Problem, Phase, Visit, Asked, Free, FreeSplit, Over, Board, seam_in, onward, begin, letters_in, may_grant, may_refuse, way_of, kept_after, with_opened, given_back, caps_after, landed, granted, passed_by, answered, moved, Environment, turn_of}
+use Rattle.cw_model.specs.Runs.{try_in, number_if, top_by, stays_where, stays_unless, called_with, returned_with, return_memories, was_split, step_memories, memories, State, WovenStep}
 use Rattle.cw_game.specs.declared.spots.Spot.{Spot}
-use Rattle.cw_game.specs.declared.spots.Spot.TheVariants.{Step, Branch, Exit, Visit as VisitSpot, Asked as AskedSpot, Label as LabelSpot, Open as OpenSpot, Close as CloseSpot, Call as CallSpot, SplitCall}
-use Rattle.cw_game.specs.Games.{States, AreStates, letter_of, Game, may_refuse_in, returned, Ret, at_pair, past_asked}
-use Rattle.cw_game.specs.Places.{Visits, CallsAt, At, IsLaidOut}
+use Rattle.cw_game.specs.declared.spots.Spot.TheVariants.{Step, Branch, Visit as VisitSpot, Asked as AskedSpot, Label as LabelSpot, Open as OpenSpot, Close as CloseSpot, Call as CallSpot, SplitCall}
+use Rattle.cw_game.specs.Games.{AreStates, letter_of, Game, may_refuse_in, returned, Ret, past_asked}
+use Rattle.cw_game.specs.Places.{At, IsLaidOut}
 use Rattle.cw_game.specs.Conditions.{is_live, means_it, leads, leads_if, asked_ok, row_leads, open_leads, back_leads, returns_in, returns_ok, enters, call_ok, row_ok_in, row_ok_by, row_ok, rows_ok}
 use Rattle.cw_game.proofs.Moves.{move_of, step_of}
-use Rattle.cw_game.proofs.Fronts.{settled, FreeAt, IsSplitCall, Stage, next_stage, IsQuiet, on_only, either, Front, is_step, is_branch, is_label, is_open, is_close, is_call, is_end, front_of}
-use Rattle.cw_game.proofs.Stands.{Meaning, KeptIs, same_kept, Resumes, StandsIn, no_letter, stage_at, lands_at, onward_at, refused_at, grants_is, refuses_is, granted_at, given_is, enters_at}
+use Rattle.cw_game.proofs.Fronts.{next_stage, IsQuiet, on_only, either, Front, is_step, is_branch, is_label, is_open, is_close, is_call, is_end, front_of}
+use Rattle.cw_game.proofs.Stands.{Meaning, KeptIs, same_kept, Resumes, StandsIn, no_letter, stage_at, lands_at, refused_at, grants_is, refuses_is, granted_at, given_is, enters_at}
 
 -- Truth values.
 pub and_parts : (a b : Bool) → (a && b) ≡ true → (a ≡ true) × (b ≡ true)
@@ -194,9 +194,9 @@ module _ (Means : Meaning) (Ex : ℕ → List Ret → Type 0) (g : Game) (t : Ta
         let hs = and_parts (not (nat_eq r.0.0 exit) || returns_in g t j kept m n e promise (slice_get t.mems r.1.0)) (returns_ok g t j kept m n exit e promise rows) h in
         ⊎_elim
         (λ y.
-          let w = and_parts (nat_eq r.0.0 exit) (nat_eq r.1.0 k) y in
-          let i = or_parts (nat_eq r.0.0 exit) (returns_in g t j kept m n e promise (slice_get t.mems r.1.0)) hs.0 w.0 in
-          returns_some j kept m n e promise q (slice_get t.mems k) (sym (ap (λ z. returns_in g t j kept m n e promise (slice_get t.mems z)) (eqb-true r.1.0 k w.1)) ∙ i) s)
+        let w = and_parts (nat_eq r.0.0 exit) (nat_eq r.1.0 k) y in
+        let i = or_parts (nat_eq r.0.0 exit) (returns_in g t j kept m n e promise (slice_get t.mems r.1.0)) hs.0 w.0 in
+        returns_some j kept m n e promise q (slice_get t.mems k) (sym (ap (λ z. returns_in g t j kept m n e promise (slice_get t.mems z)) (eqb-true r.1.0 k w.1)) ∙ i) s)
         (λ y. way_back j kept m n exit e promise rows k q hs.1 y s)
         (found (nat_eq r.0.0 exit && nat_eq r.1.0 k) r (find (λ r. nat_eq r.0.0 exit && nat_eq r.1.0 k) rows) l)
 
@@ -298,6 +298,7 @@ module _ (Means : Meaning) (Ex : ℕ → List Ret → Type 0) (g : Game) (t : Ta
       where
         on : is_live t n m ≡ true
         on = row_in p m q e (Step n) l s es
+
         by : (way : Way) → after i way is ≡ on_only raw way → pass plan ((i ∷ is) ∷ frames) way ≡ Some next → Advances (step_memories t false (move_of way) ((i ∷ is) ∷ frames) kept (m ∷ ms)) (landed problem None (record { stack = (i ∷ is) ∷ frames; kept = kept; caps = caps; word = word; phase = Free }) way next)
         by OnWay ea en = quiet_on fn e rets i is raw frames next kept caps word m ms n q OnWay On quiet ea en a h on s x b
         by LeftWay ea en = absurd (no_way i is frames next LeftWay quiet ea en)
@@ -308,6 +309,7 @@ module _ (Means : Meaning) (Ex : ℕ → List Ret → Type 0) (g : Game) (t : Ta
       where
         on : (is_live t n m ≡ true) × (is_live t n' m ≡ true)
         on = and_parts (is_live t n m) (is_live t n' m) (row_in p m q e (Branch n n') l s es)
+
         by : (way : Way) → after i way is ≡ either left right' way → pass plan ((i ∷ is) ∷ frames) way ≡ Some next → Advances (step_memories t false (move_of way) ((i ∷ is) ∷ frames) kept (m ∷ ms)) (landed problem None (record { stack = (i ∷ is) ∷ frames; kept = kept; caps = caps; word = word; phase = Free }) way next)
         by LeftWay ea en = quiet_on fn e rets i is left frames next kept caps word m ms n q LeftWay Left quiet ea en a h on.0 s x b
         by RightWay ea en = quiet_on fn e rets i is right' frames next kept caps word m ms n' q RightWay Right quiet ea en a' h on.1 s x b

@@ -1,7 +1,6 @@
 -- Woven runs, whatever the table: they add no path, try seldom, and are put end to end.
-use Rattle.std.proofs.Common.{◌≡◌, ◌≢◌, ◌⊎◌, ℕ, zero, suc, ◌+◌, ◌≤◌, List, [], ◌∷◌, ◌++◌, map, length, Bool, true, false, cond, Option, Some, None, refl, sym, ap, ◌∙◌, subst, inl, inr, ⊎_elim, append_assoc, arith}
+use Rattle.std.proofs.Common.{◌≡◌, ℕ, zero, suc, ◌+◌, ◌≤◌, List, [], ◌∷◌, ◌++◌, map, length, Bool, true, false, cond, Some, None, refl, sym, ap, ap₂, ◌∙◌, subst, ⊎_elim, append_assoc, arith}
 use Rattle.std.proofs.lemmas.Option.{none-some, same_Some, cond_some}
-use Rattle.cw_rights.specs.declared.capabilities.Caps.{Caps}
 use Rattle.cw_rights.specs.declared.capabilities.Limit.{Limit as ALimit}
 use Rattle.cw_rights.specs.declared.capabilities.Primitive.{Primitive}
 use Rattle.cw_rights.specs.declared.capabilities.Primitive.TheVariants.{Limit, Enter, Split}
@@ -11,8 +10,8 @@ use Rattle.cw_certs.specs.declared.moves.Move.TheVariants.{Skip, Try, Grant, Ref
 use Rattle.cw_certs.specs.Tables.{Table}
 use Rattle.cw_syntax.specs.Plans.{Call, Label, Plan}
 use Rattle.cw_syntax.specs.Frames.{Item, Entry, Todo, Frame, Way, pass, front, PathFrom}
-use Rattle.cw_model.specs.Boards.{Problem, Phase, Visit, Asked, Free, FreeSplit, Over, Board, onward, begin, way_of, landed, granted, passed_by, answered, moved, may_grant, may_refuse, start_board, Forced}
-use Rattle.cw_model.specs.Runs.{State, start_state, WovenStep, Goes, WovenRun, last, reached, passed_in, passed, erased, is_asked, tries, Sound}
+use Rattle.cw_model.specs.Boards.{Problem, Phase, Visit, Asked, Free, FreeSplit, Over, Board, onward, begin, way_of, granted, passed_by, answered, moved, may_grant, may_refuse, start_board, Forced}
+use Rattle.cw_model.specs.Runs.{State, start_state, Goes, WovenRun, last, reached, passed_in, passed, erased, is_asked, tries, Sound}
 use Rattle.cw_game.proofs.Moves.{step_of}
 
 -- End to end.
@@ -23,6 +22,12 @@ goes_append p t s (next ∷ run) more h k = (h.0, goes_append p t next run more 
 pub erased_append : (s : State) (run more : List State) → erased s (run ++ more) ≡ erased s run ++ erased (last s run) more
 erased_append s [] more = refl
 erased_append s (next ∷ run) more = ap (λ l. passed s ++ l) (erased_append next run more) ∙ sym (append_assoc (passed s) (erased next run) (erased (last next run) more))
+
+-- a run that passes no item, and one that passes an item first
+pub erased_join : (s : State) (run more : List State) (next : State) (i : Item) (items : List Item) → erased s run ≡ [] → passed (last s run) ≡ i ∷ [] → erased next more ≡ items → erased s (run ++ next ∷ more) ≡ i ∷ items
+erased_join s run more next i items none one rest =
+    ◌∙◌ {b = erased s run ++ (passed (last s run) ++ erased next more)} (erased_append s run (next ∷ more))
+    (ap₂ (λ y z. y ++ z) none (ap₂ (λ y z. y ++ z) one rest))
 
 pub last_append : (s : State) (run : List State) (next : State) → last s (run ++ next ∷ []) ≡ next
 last_append s [] next = refl
@@ -171,16 +176,16 @@ forced_along : (p : Problem) (t : Table) → Sound p t → (n : ℕ) (run : List
 forced_along p t sound zero run h f = sound.meets run h f
 forced_along p t sound (suc n) run h f =
     ⊎_elim (λ v. sound.meets run h v) (λ r. ⊎_elim
-      (λ w.
-        let k = sound.chooses run h w.0 in
-        let g = goes_append p t (start_state p t) run (k.1 ∷ []) h ((k.0, k.2), tt) in
-        forced_along p t sound n (run ++ k.1 ∷ []) g (subst (λ s. Forced p n s.board) (sym (last_append (start_state p t) run k.1)) (w.1 k.0 k.1.board k.2.0)))
-      (λ w.
-        let m = w.1 in
-        let k = sound.answers run m.0 m.1 h w.0 m.2 in
-        let next : State = record { board = m.1; mems = k.0 } in
-        let g = goes_append p t (start_state p t) run (next ∷ []) h ((m.0, k.1), tt) in
-        forced_along p t sound n (run ++ next ∷ []) g (subst (λ s. Forced p n s.board) (sym (last_append (start_state p t) run next)) m.3)) r) f
+    (λ w.
+    let k = sound.chooses run h w.0 in
+    let g = goes_append p t (start_state p t) run (k.1 ∷ []) h ((k.0, k.2), tt) in
+    forced_along p t sound n (run ++ k.1 ∷ []) g (subst (λ s. Forced p n s.board) (sym (last_append (start_state p t) run k.1)) (w.1 k.0 k.1.board k.2.0)))
+    (λ w.
+    let m = w.1 in
+    let k = sound.answers run m.0 m.1 h w.0 m.2 in
+    let next : State = record { board = m.1; mems = k.0 } in
+    let g = goes_append p t (start_state p t) run (next ∷ []) h ((m.0, k.1), tt) in
+    forced_along p t sound n (run ++ next ∷ []) g (subst (λ s. Forced p n s.board) (sym (last_append (start_state p t) run next)) m.3)) r) f
 
 pub never_forced : (p : Problem) (t : Table) → Sound p t → (n : ℕ) → Forced p n (start_board p) → ⊥
 never_forced p t sound n f = forced_along p t sound n [] tt f

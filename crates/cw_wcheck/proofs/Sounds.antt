@@ -1,29 +1,27 @@
 -- A table that meets the conditions is sound, over stacks of any depth.
-use Rattle.std.proofs.Common.{◌≡◌, ◌≢◌, ◌⊎◌, ℕ, zero, suc, ◌+◌, ◌≤◌, List, [], ◌∷◌, ◌++◌, length, Bool, true, false, cond, not, ◌&&◌, ◌||◌, Option, Some, None, is_some, option_map, refl, sym, ap, ap₂, ◌∙◌, subst, inl, inr, ⊎_elim, arith}
+use Rattle.std.proofs.Common.{◌≡◌, ◌≢◌, ◌⊎◌, ℕ, suc, ◌≤◌, List, [], ◌∷◌, ◌++◌, length, Bool, true, false, cond, not, ◌||◌, Option, Some, None, is_some, option_map, refl, sym, ap, ◌∙◌, subst, inl, inr, ⊎_elim, arith}
 use Rattle.std.specs.Prelude.{slice_get}
 use Rattle.std.proofs.lemmas.Option.{none-some, same_Some}
 use Rattle.cw_rights.specs.declared.capabilities.Caps.{Caps}
 use Rattle.cw_rights.specs.declared.capabilities.Primitive.{Primitive}
-use Rattle.cw_rights.specs.declared.capabilities.Primitive.TheVariants.{Limit, Enter, Split}
-use Rattle.cw_rights.specs.Capabilities.{applied}
+use Rattle.cw_rights.specs.declared.capabilities.Primitive.TheVariants.{Split}
 use Rattle.cw_rights.specs.Words.{Word}
-use Rattle.cw_rights.specs.Policies.{PlainPolicy, IsBad, is_refusable, primitives, start_caps}
+use Rattle.cw_rights.specs.Policies.{IsBad, is_refusable, start_caps}
 use Rattle.cw_certs.specs.declared.moves.Move.{Move}
 use Rattle.cw_certs.specs.declared.moves.Move.TheVariants.{Skip, Try, Grant, Refuse}
 use Rattle.cw_certs.specs.Tables.{Table}
 use Rattle.cw_syntax.specs.Plans.{Label, Routine, Plan}
 use Rattle.cw_syntax.specs.Frames.{Item, Todo, Frame, Way, pass, front, new_frame, PathFrom, stack_of}
-use Rattle.cw_model.specs.Boards.{Problem, Phase, Visit, Asked, Free, FreeSplit, Over, Board, seam_in, primitives_in, onward, begin, letters, may_grant, may_refuse, way_of, landed, stepped, granted, passed_by, moved, Moves, Violates, start_board, Party, Weaver, Environment, turn_of, IsWeavers, IsEnvironments}
-use Rattle.cw_model.specs.Runs.{try_in, stays_where, stays_unless, memories, State, start_state, WovenStep, Goes, WovenRun, last, reached, passed_in, passed, erased, Sound}
-use Rattle.cw_game.specs.declared.spots.Spot.{Spot}
+use Rattle.cw_model.specs.Boards.{Problem, Phase, Visit, Asked, Free, FreeSplit, Over, Board, seam_in, primitives_in, onward, begin, letters, may_grant, landed, stepped, granted, passed_by, moved, Moves, Violates, Weaver, turn_of, IsWeavers, IsEnvironments}
+use Rattle.cw_model.specs.Runs.{try_in, stays_where, stays_unless, memories, State, start_state, WovenStep, Goes, last, passed_in, passed, erased, Sound}
 use Rattle.cw_game.specs.declared.spots.Spot.TheVariants.{Label as LabelSpot}
-use Rattle.cw_game.specs.Games.{States, AreStates, Game, Ret}
+use Rattle.cw_game.specs.Games.{AreStates, Game, Ret}
 use Rattle.cw_game.specs.Places.{IsLaidOut}
-use Rattle.cw_game.specs.Conditions.{is_live, leads, row_leads, rows_ok, all_states, is_closed_table}
+use Rattle.cw_game.specs.Conditions.{is_live, leads, rows_ok, all_states, is_closed_table}
 use Rattle.cw_game.proofs.Moves.{move_of, way_is}
 use Rattle.cw_game.proofs.Stands.{Meaning, enters_at}
 use Rattle.cw_wcheck.proofs.Kept.{and_parts, not_both, IsMeant, Kept, KeptOn, Hands, row_in, leads_to, advances, free_advances, split_advances, keeps}
-use Rattle.cw_wcheck.proofs.Runs.{goes_append, erased_append, path_of, few}
+use Rattle.cw_wcheck.proofs.Runs.{goes_append, erased_join, path_of, few}
 
 module _ (Means : Meaning) (Ex : ℕ → List Ret → Type 0) (g : Game) (t : Table) (plan : Plan) (right : AreStates g.policy g.states Means) (laid : IsLaidOut plan g) (ok : rows_ok g t t.live ≡ true) (hands : Hands Means Ex g t) where
   abbrev pub problem : Problem
@@ -66,6 +64,7 @@ module _ (Means : Meaning) (Ex : ℕ → List Ret → Type 0) (g : Game) (t : Ta
     where
       b : Board
       b = record { stack = frame ∷ frames; kept = kept; caps = caps; word = word; phase = Visit n a later }
+
       by : (yes : Bool) → is_some (try_in t (seam_in frame) n m) ≡ yes → (by : Move) × (next : Board) × (moved problem b (Visit n a later) by ≡ Some next) × (memories t b (m ∷ ms) (Visit n a later) by ≡ Some (m ∷ ms))
       by true e = (Try, record b { phase = Asked n a later }, refl, ap (λ y. option_map (λ new. new ∷ ms) (stays_where y m)) e)
       by false e = (Skip, passed_by b n later, refl, ap (λ y. option_map (λ new. new ∷ ms) (stays_unless y m)) e)
@@ -104,6 +103,7 @@ module _ (Means : Meaning) (Ex : ℕ → List Ret → Type 0) (g : Game) (t : Ta
     where
       s : State
       s = state_on frame frames kept caps word (Asked i a later) ms
+
       by : (yes : Bool) → may_grant caps a ≡ yes → Frees (frame ∷ frames) s
       by true e =
           let en = ap (λ y. cond y (Some (granted s.board i a later)) None) e in
@@ -120,6 +120,7 @@ module _ (Means : Meaning) (Ex : ℕ → List Ret → Type 0) (g : Game) (t : Ta
     where
       s : State
       s = state_on frame frames kept caps word (Visit i a later) (m ∷ ms)
+
       by : (yes : Bool) → is_some (try_in t (seam_in frame) i m) ≡ yes → Frees (frame ∷ frames) s
       by true e =
           let next = state_on frame frames kept caps word (Asked i a later) (m ∷ ms) in
@@ -168,10 +169,11 @@ module _ (Means : Meaning) (Ex : ℕ → List Ret → Type 0) (g : Game) (t : Ta
       let next : State = record { board = k.0; mems = k.1 } in
       let step : WovenStep problem t u (move_of h.0) next = ((safe u j, k.2), k.3) in
       let r = follows items next k.4 (k.6 ∙ ap (begin g.policy) (sym k.5)) (subst (λ stack. PathFrom plan stack items) (sym k.5) h.4) in
-      let here : passed u ≡ a ∷ [] = k.7 ∙ ap front f.3 ∙ h.2 in
-      ( f.0 ++ next ∷ r.0
-      , goes_append problem t s f.0 (next ∷ r.0) f.1 ((move_of h.0, step), r.1)
-      , erased_append s f.0 (next ∷ r.0) ∙ ap₂ (λ y z. y ++ z) f.4 (ap₂ (λ y z. y ++ z) here r.2) )
+      let here : passed u ≡ a ∷ [] = k.7 ∙ ap front f.3 ∙ h.2 in (
+        f.0 ++ next ∷ r.0,
+        goes_append problem t s f.0 (next ∷ r.0) f.1 ((move_of h.0, step), r.1),
+        erased_join s f.0 r.0 next a items f.4 here r.2,
+      )
 
   -- The start is kept.
   pub kept_start : leads t (g.entry g.main) t.start.0 g.states.start (all_states g) ≡ true → Ex (all_states g) [] → KeptAt (start_state problem t)
@@ -179,6 +181,7 @@ module _ (Means : Meaning) (Ex : ℕ → List Ret → Type 0) (g : Game) (t : Ta
     where
       l : (is_live t (g.entry g.main) t.start.0 ≡ true) × IsMeant Means Ex g t t.start.0 g.states.start (all_states g)
       l = leads_to Means Ex g t plan right laid ok hands (g.entry g.main) t.start.0 g.states.start (all_states g) h
+
       by : (o : Option Routine) → slice_get plan.routines plan.main ≡ o → let stack = stack_of (option_map (new_frame plan.main) o) in KeptOn Means Ex g t stack (start_caps g.policy) [] (begin g.policy stack) (None ∷ []) (t.start.0 ∷ [])
       by None e = tt
       by (Some r) e =

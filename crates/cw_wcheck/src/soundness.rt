@@ -1,0 +1,16 @@
+//! Laws of tables, over woven runs of any length and stacks of any depth. The functions here do nothing: what they promise is
+//! true of every program, game and table.
+
+ghost use Rattle.cw_wcheck.specs.Soundness.{ConditionsMakeSound, SoundIsNeverForced};
+
+/// Each table that meets the conditions of a game is sound for the program that the game is laid out for.
+///
+/// Public source: the instrumented programs of Harris, Jha, Reps, Anderson and Watson (2013).
+pub fn conditions_make_sound()
+    ensures sound { ConditionsMakeSound }
+{}
+
+/// Where a table is sound the environment can't force a violation from the start.
+pub fn sound_is_never_forced()
+    ensures never { SoundIsNeverForced }
+{}
