@@ -2,3 +2,4 @@ pub mod Trees
 pub mod Names
 pub mod Plans
 pub mod Frames
+pub mod Marks
