@@ -3,3 +3,4 @@ pub mod Names
 pub mod Plans
 pub mod Frames
 pub mod Marks
+pub mod Steps
