@@ -1,0 +1,7 @@
+-- The proofs.
+pub mod Along
+pub mod Bools
+pub mod Limits
+pub mod Pieces
+pub mod Plainly
+pub mod Rows
