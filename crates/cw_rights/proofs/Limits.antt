@@ -1,5 +1,5 @@
 -- Whether a limit is allowed, in terms of single rights.
-use Rattle.std.proofs.Common.{◌≡◌, ◌≢◌, ◌⊎◌, inl, inr, ℕ, zero, suc, ◌+◌, ◌<◌, ◌≤◌, ◌^◌, min, Bool, true, false, nat_eq, bit_and, refl, sym, ◌∙◌, ap, arith, eqb-true, eq-eqb, cond, subst, ◌↔◌, pow-suc}
+use Rattle.std.proofs.Common.{◌≡◌, ◌≢◌, ◌⊎◌, inl, inr, ℕ, zero, suc, ◌<◌, ◌≤◌, ◌^◌, Bool, true, false, nat_eq, bit_and, refl, sym, ◌∙◌, ap, arith, eqb-true, eq-eqb, cond, subst, ◌↔◌, pow-suc}
 use Rattle.std.specs.Int.{bit_at}
 use Rattle.std.proofs.lemmas.Nat.Bits.{bit_at_and, bit_at-lt, same_from_bits, bit_at_above}
 use Rattle.cw_rights.specs.declared.capabilities.Rights.{Rights}
@@ -82,6 +82,7 @@ yes_on (Open held) keep = (by (is_contained keep held.0) refl, back)
     by : (t : Bool) → is_contained keep held.0 ≡ t → cond t Yes NotCapable ≡ Yes → (other : Rights) × (Open held ≡ Open other) × IsContained keep other.0
     by true q e = (held, refl, IsContained-of keep held.0 q)
     by false q e = absurd (cc)
+
     back : ((other : Rights) × (Open held ≡ Open other) × IsContained keep other.0) → allowed_on (Open held) keep ≡ Yes
     back x = let y = x.1 in let same : x.0 ≡ held = cc in ap (λ t. cond t Yes NotCapable) (is_contained-by keep held.0 (subst (λ (r : Rights). IsContained keep r.0) same x.2))
 
@@ -92,9 +93,11 @@ not_capable_on (Open held) keep = (by (is_contained keep held.0) refl, back)
     by : (t : Bool) → is_contained keep held.0 ≡ t → cond t Yes NotCapable ≡ NotCapable → (other : Rights) × (Open held ≡ Open other) × HasMore keep other.0
     by true q e = absurd (cc)
     by false q e = (held, refl, more_of keep held.0 q)
+
     no : (t : Bool) → is_contained keep held.0 ≡ t → HasMore keep held.0 → cond t Yes NotCapable ≡ NotCapable
     no true q m = absurd (m.2 (IsContained-of keep held.0 q m.0 m.1))
     no false q m = refl
+
     back : ((other : Rights) × (Open held ≡ Open other) × HasMore keep other.0) → allowed_on (Open held) keep ≡ NotCapable
     back x = let y = x.1 in let same : x.0 ≡ held = cc in no (is_contained keep held.0) refl (subst (λ (r : Rights). HasMore keep r.0) same x.2)
 

@@ -1,5 +1,5 @@
 -- The tree of a sequence and of an alternative.
-use Rattle.std.proofs.Common.{◌≡◌, ℕ, Bool, List, Vec, Global, refl, sym, ap, ◌∙◌}
+use Rattle.std.proofs.Common.{◌≡◌, List, Vec, Global, refl, sym, ap, ◌∙◌}
 use mathlib.Core.Former.{Count}
 use Rattle.cw_rights.specs.declared.words.Letter.{Letter}
 use Rattle.cw_rights.specs.declared.words.Regex.{Regex, Cat', Or', Row_of-Regex, end_of-Regex, more_of-Regex, items-the_row-Regex, items_hidden-the_row-Regex-0}

@@ -1,9 +1,6 @@
 -- Letters and words, and what a literal and a regular expression match.
 use Rattle.std.specs.Prelude.{◌≡◌, ◌⊎◌, ℕ, List, [], ◌∷◌, ◌++◌, Bool, true, false, ◌&&◌, Option, Some, None, nat_eq, IsTrue}
-use Rattle.std.specs.Int.{bit_at}
 use Rattle.std.specs.List.{list_all}
-use Rattle.cw_rights.specs.declared.capabilities.Hold.{Hold}
-use Rattle.cw_rights.specs.declared.capabilities.Hold.TheVariants.{Closed, Open}
 use Rattle.cw_rights.specs.declared.capabilities.Caps.{Caps}
 use Rattle.cw_rights.specs.declared.words.Letter.{Letter}
 use Rattle.cw_rights.specs.declared.words.Test.{Test}

@@ -5,8 +5,11 @@
 #![tactic(auto)]
 
 pub mod capabilities;
+pub mod laws;
 pub mod plain;
 pub mod policy;
+#[cfg(test)]
+mod tests;
 pub mod words;
 
 pub use capabilities::{
