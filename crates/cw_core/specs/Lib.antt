@@ -1,1 +1,3 @@
 pub mod Quantities
+pub mod StateSet
+pub mod Words

@@ -5,7 +5,9 @@
 mod ids;
 mod memory;
 mod quantity;
+mod state_set;
 
 pub use ids::{MemId, PointId, PosId, SeamId, StateId};
 pub use memory::NoMemory;
 pub use quantity::Quantity;
+pub use state_set::StateSet;
