@@ -3,6 +3,7 @@ use Rattle.std.proofs.Common.{◌≡◌, ℕ, zero, suc, ◌/◌, ◌^◌, ◌<�
 use Rattle.std.specs.Int.{bit_at}
 use Rattle.std.proofs.lemmas.Bool.{cases_lt, eqb-true, false≢true}
 use Rattle.std.proofs.lemmas.Nat.Bits.{bit_at-zero, bit_at-suc, bit_at-lt, bit_at_above, same_from_bits}
+use Rattle.std.proofs.Math.Nat.{div-eq_of_lt}
 use Rattle.std.specs.Cmp.{both_ways}
 use Rattle.cw_core.specs.StateSet.{has, IsSubset, IsBelow}
 
@@ -56,3 +57,6 @@ IsBelow_from_lt n set lt s h =
           let none : bit_at set s ≡ 0 = bit_at_above set n s lt le in
           absurd (omega (arith, none, eqb-true (bit_at set s) 1 h))
     ]
+
+pub IsBelow-shr : (n set : ℕ) → IsBelow n set → set / 2 ^ n ≡ 0
+IsBelow-shr n set h = let lt = IsBelow-lt n set h in div-eq_of_lt lt

@@ -131,6 +131,25 @@ impl StateSet {
         StateSet { words }
     }
 
+    /// The four bits from 4 times a place on.
+    pub(crate) fn nibble(&self, place: usize) -> u8
+        requires { place < 128 }
+        ensures value { result ≡ self.now / 2 ^ (4 * place) % 2 ^ 4 }
+        ensures small { result < 16 }
+    {
+        ((self.words[place / 16] >> (4 * (place % 16))) & 15) as u8
+    }
+
+    /// Puts four bits from 4 times a place on, above all that the set has.
+    pub(crate) fn add_nibble(&mut self, place: usize, digit: u8)
+        requires place { place < 128 }
+        requires digit { digit < 16 }
+        requires above { self.old < 2 ^ (4 * place) }
+        ensures { self.new ≡ self.old + digit * 2 ^ (4 * place) }
+    {
+        self.words[place / 16] |= u64::from(digit) << (4 * (place % 16));
+    }
+
     /// A law: a set has numbers below 512 alone.
     pub fn is_below_512(&self)
         ensures { IsBelow 512 self.now }
