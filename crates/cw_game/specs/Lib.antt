@@ -1,3 +1,4 @@
 pub mod Games
+pub mod Reached
 pub mod Places
 pub mod Conditions

@@ -1,10 +1,10 @@
 -- Where the items of a frame stand among the positions. The relations go by the tree, and say nothing of how positions are counted.
-use Rattle.std.specs.Prelude.{◌≡◌, ℕ, ◌+◌, suc, List, [], ◌∷◌, Bool, true, false, Option, Some, None, slice_get}
+use Rattle.std.specs.Prelude.{◌≡◌, ℕ, ◌+◌, ◌<◌, suc, length, List, [], ◌∷◌, Bool, true, false, Option, Some, None, slice_get}
 use Rattle.cw_rights.specs.declared.capabilities.Primitive.{Primitive}
-use Rattle.cw_rights.specs.declared.capabilities.Primitive.TheVariants.{Limit, Enter, Split}
+use Rattle.cw_rights.specs.declared.capabilities.Primitive.TheVariants.{Split}
 use Rattle.cw_rights.specs.Policies.{PlainPolicy, primitives}
 use Rattle.cw_syntax.specs.Plans.{Callee, Stm, Plain, Break, Continue, Return, Open, Close, Call, Group, Label, If, While, Do, For, Stms, end, then, Routine, Plan}
-use Rattle.cw_syntax.specs.Frames.{Item, Entry, Todo, Test, After, Mark, End, Frame, new_frame}
+use Rattle.cw_syntax.specs.Frames.{Entry, Todo, Test, After, Mark, End, Frame, new_frame}
 use Rattle.cw_game.specs.declared.spots.Spot.{Spot}
 use Rattle.cw_game.specs.declared.spots.Spot.TheVariants.{Visit, Asked, Step, Branch, Exit, Label as LabelSpot, Open as OpenSpot, Close as CloseSpot, Call as CallSpot, SplitCall}
 use Rattle.cw_game.specs.Games.{Game}
@@ -39,14 +39,15 @@ abbrev pub CallsAt : List Spot → ℕ → Callee → ℕ → ℕ → Type 0
 CallsAt g j callee z k = (slice_get g z ≡ Some (CallSpot j callee.number k)) × (callee.split ≡ true → slice_get g (z + 1) ≡ Some (SplitCall j callee.number k))
 
 -- The statement stands at p and what follows it at k; the function's exit is at x, a `break` leads to b and a `continue` to c, where a loop is around it.
+-- What is opened or closed is a descriptor of the policy.
 abbrev mutual
   pub Placed : List Spot → PlainPolicy → ℕ → Option ℕ → Option ℕ → Stm → ℕ → ℕ → Type 0
   Placed g pol x b c (Plain at) p k = slice_get g p ≡ Some (Step k)
   Placed g pol x b c (Break at) p k = (n : ℕ) × (b ≡ Some n) × (slice_get g p ≡ Some (Step n))
   Placed g pol x b c (Continue at) p k = (n : ℕ) × (c ≡ Some n) × (slice_get g p ≡ Some (Step n))
   Placed g pol x b c (Return at) p k = slice_get g p ≡ Some (Step x)
-  Placed g pol x b c (Open at j d) p k = slice_get g p ≡ Some (OpenSpot j d k)
-  Placed g pol x b c (Close at j d) p k = slice_get g p ≡ Some (CloseSpot j d k)
+  Placed g pol x b c (Open at j d) p k = (d < length pol.descriptors) × (slice_get g p ≡ Some (OpenSpot j d k))
+  Placed g pol x b c (Close at j d) p k = (d < length pol.descriptors) × (slice_get g p ≡ Some (CloseSpot j d k))
   Placed g pol x b c (Call at j callee) p k = (z : ℕ) × Visits g j 0 (primitives pol callee.split) p z × CallsAt g j callee z k
   Placed g pol x b c (Group ss) p k = PlacedAll g pol x b c ss p k
   Placed g pol x b c (Label at mark j l s) p k = (z : ℕ) × Visits g j 0 (primitives pol false) p z × ((m : ℕ) × (slice_get g z ≡ Some (LabelSpot j l m)) × Placed g pol x b c s m k)

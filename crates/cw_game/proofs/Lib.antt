@@ -1,0 +1,5 @@
+pub mod Places
+pub mod Fronts
+pub mod Stands
+pub mod Moves
+pub mod Reached

@@ -1,0 +1,27 @@
+-- What the conditions of a table are good for.
+use Rattle.std.specs.Prelude.{◌≡◌, ℕ, ◌≤◌, true, length}
+use Rattle.cw_certs.specs.Strategies.{Strategy}
+use Rattle.cw_certs.specs.Tables.{Table}
+use Rattle.cw_model.specs.Boards.{Problem, start_board, Forced}
+use Rattle.cw_model.specs.Runs.{Sound}
+use Rattle.cw_model.specs.Plays.{Beats}
+use Rattle.cw_game.specs.Games.{AreStates, Game}
+use Rattle.cw_game.specs.Reached.{Reached}
+use Rattle.cw_game.specs.Places.{IsLaidOut}
+use Rattle.cw_game.specs.Conditions.{is_closed_table}
+
+-- Where a game is laid out for a program, and its states are the policy's, each table that meets the conditions is sound, over stacks of any depth.
+abbrev pub ConditionsMakeSound : Type 0
+ConditionsMakeSound = (p : Problem) (g : Game) (t : Table) → g.policy ≡ p.policy → AreStates g.policy g.states (Reached g.policy g.states) → IsLaidOut p.plan g → is_closed_table g t ≡ true → length p.policy.limits ≤ 12 → Sound p t
+
+-- Where a table is sound the start isn't forced.
+abbrev pub SoundIsNeverForced : Type 0
+SoundIsNeverForced = (p : Problem) (t : Table) → Sound p t → (n : ℕ) → Forced p n (start_board p) → ⊥
+
+-- Where a strategy beats every weaver the start is forced.
+abbrev pub BeatenIsForced : Type 0
+BeatenIsForced = (p : Problem) (s : Strategy) (row : ℕ) → Beats p s row → (n : ℕ) × Forced p n (start_board p)
+
+-- So no program has both a sound table and a strategy that beats every weaver.
+abbrev pub NeverBoth : Type 0
+NeverBoth = (p : Problem) (t : Table) (s : Strategy) (row : ℕ) → Sound p t → Beats p s row → ⊥
