@@ -10,6 +10,7 @@ use Rattle.cw_certs.specs.declared.rows.AtRow.{AtRow}
 use Rattle.cw_certs.specs.declared.rows.OpenRow.{OpenRow}
 use Rattle.cw_certs.specs.declared.rows.IntoRow.{IntoRow}
 use Rattle.cw_certs.specs.declared.rows.BackRow.{BackRow}
+use Rattle.cw_certs.specs.declared.table.WeaverCert.{WeaverCert}
 
 -- `mems` has the state and the promise of each memory, by its number. A promise is the set of the states in which the function may end.
 -- `live` has the positions and memories that a run may come to.
@@ -24,6 +25,21 @@ pub record Table : Type 0 where
   pub closed : List AtRow
   pub into : List IntoRow
   pub back : List BackRow
+
+-- what the program's data stand for
+abbrev pub table_of : WeaverCert → Table
+table_of c = record {
+  states = c.states;
+  start = c.start;
+  mems = c.mems.items;
+  live = c.live.items;
+  tries = c.tries.items;
+  ats = c.ats.items;
+  opened = c.opened.items;
+  closed = c.closed.items;
+  into = c.into.items;
+  back = c.back.items;
+}
 
 abbrev pub same : Bool → Bool → Bool
 same true b = b

@@ -3,6 +3,10 @@
 
 mod moves;
 mod rows;
+mod strategy;
+mod table;
 
 pub use moves::Move;
 pub use rows::{AtRow, BackRow, IntoRow, OpenRow, TryRow};
+pub use strategy::{EnvCert, EnvRow, How};
+pub use table::WeaverCert;

@@ -1,1 +1,4 @@
+pub mod Numerals
 pub mod Quantities
+pub mod StateSet
+pub mod Words

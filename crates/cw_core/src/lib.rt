@@ -2,10 +2,16 @@
 //! and sets as text, and the names of the quantities that have a limit.
 #![tactic(auto)]
 
+mod decimal;
+mod hexadecimal;
 mod ids;
 mod memory;
 mod quantity;
+mod state_set;
 
+pub use decimal::{put_dec, read_dec};
+pub use hexadecimal::{put_hex, read_hex};
 pub use ids::{MemId, PointId, PosId, SeamId, StateId};
 pub use memory::NoMemory;
 pub use quantity::Quantity;
+pub use state_set::StateSet;

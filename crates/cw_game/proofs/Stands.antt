@@ -108,7 +108,7 @@ module _ (Means : Meaning) (g : List Spot) (pol : PlainPolicy) (x : ℕ) where
   pub refused_at : (frame : Frame) (caps : Caps) (word : Word) (i : ℕ) (a : Primitive) (later : List Primitive) (o p q : ℕ) → Stage g pol x frame i (a ∷ later) o → p ≡ o + 1 → Means q word caps → StandsIn Means g pol x frame caps word (onward (suc i) later) (p + 1) q
   refused_at frame caps word i a later o p q s e h = onward_at frame caps word i a later o (p + 1) q s (ap (λ n. n + 1) e ∙ two_more o) h
 
-module _ (Means : Meaning) (g : Game) (right : AreStates g.policy g.states Means) where
+module _ (Means : Meaning) (g : Game) (right : AreStates g.policy g.spots g.states Means) where
   -- what may be granted and refused, by the state
   pub grants_is : (x : ℕ) (frame : Frame) (caps : Caps) (word : Word) (i : ℕ) (a : Primitive) (later : List Primitive) (o q : ℕ) → Stage g.spots g.policy x frame i (a ∷ later) o → Means q word caps → g.states.may_grant q a ≡ may_grant caps a
   grants_is x frame caps word i a later o q s h = right.grants q word caps a (in_policy g.policy frame a (within_first g.policy frame a later s.5)) h

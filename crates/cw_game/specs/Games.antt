@@ -1,6 +1,6 @@
 -- The game on pairs of a position and a state: what a position leads to, what a state stands for. Public source: the visibly pushdown
 -- games of Löding, Madhusudan and Serre (2004).
-use Rattle.std.specs.Prelude.{◌≡◌, ℕ, zero, suc, ◌+◌, ◌<◌, List, [], ◌∷◌, ◌++◌, Bool, true, false, cond, not, ◌&&◌, ◌||◌, Option, Some, None, nat_eq, slice_get, length, Contains}
+use Rattle.std.specs.Prelude.{◌≡◌, ◌⊎◌, ℕ, zero, suc, ◌+◌, ◌<◌, List, [], ◌∷◌, ◌++◌, Bool, true, false, cond, not, ◌&&◌, ◌||◌, Option, Some, None, nat_eq, slice_get, length, Contains}
 use Rattle.cw_rights.specs.declared.capabilities.Caps.{Caps}
 use Rattle.cw_rights.specs.declared.capabilities.Primitive.{Primitive}
 use Rattle.cw_rights.specs.declared.capabilities.Primitive.TheVariants.{Split}
@@ -30,17 +30,28 @@ pub record States : Type 0 where
 abbrev pub letter_of : ℕ → Caps → Letter
 letter_of label caps = record { label = label; caps = caps }
 
--- The states are a policy's, where `Means q word caps` says that state q stands for this word and these capabilities. Nothing is said of the
--- state after a letter that makes the word bad.
-pub record AreStates (policy : PlainPolicy) (states : States) (Means : ℕ → Word → Caps → Type 0) : Type 0 where
+-- a descriptor that some position opens, one that some position opens in vain or closes, a label that some position has
+abbrev pub IsOpenedIn : List Spot → ℕ → Type 0
+IsOpenedIn spots d = (p : ℕ) × (j : ℕ) × (n : ℕ) × (slice_get spots p ≡ Some (Open j d n))
+
+abbrev pub IsClosedIn : List Spot → ℕ → Type 0
+IsClosedIn spots d = IsOpenedIn spots d ⊎ ((p : ℕ) × (j : ℕ) × (n : ℕ) × (slice_get spots p ≡ Some (Close j d n)))
+
+abbrev pub IsLabelIn : List Spot → ℕ → Type 0
+IsLabelIn spots l = (p : ℕ) × (j : ℕ) × (n : ℕ) × (slice_get spots p ≡ Some (Label j l n))
+
+-- The states are a policy's for what stands at these positions, where `Means q word caps` says that state q stands for this word and these
+-- capabilities. They follow the opens, closes and labels that the positions have, and no others. Nothing is said of the state after a letter that
+-- makes the word bad.
+pub record AreStates (policy : PlainPolicy) (spots : List Spot) (states : States) (Means : ℕ → Word → Caps → Type 0) : Type 0 where
   pub begins : Means states.start [] (start_caps policy)
   pub within : (q : ℕ) (w : Word) (c : Caps) → Means q w c → q < states.count
   pub grants : (q : ℕ) (w : Word) (c : Caps) (a : Primitive) → Contains (primitives policy true) a → Means q w c → states.may_grant q a ≡ may_grant c a
   pub granted : (q : ℕ) (w : Word) (c : Caps) (a : Primitive) → Contains (primitives policy true) a → Means q w c → may_grant c a ≡ true → Means (states.granted q a) w (applied c a)
-  pub opened : (q : ℕ) (w : Word) (c : Caps) (d : ℕ) → d < length policy.descriptors → Means q w c → Means (states.opened q d) w (with_opened c d (slice_get policy.descriptors d))
-  pub closed : (q : ℕ) (w : Word) (c : Caps) (d : ℕ) → d < length policy.descriptors → Means q w c → Means (states.closed q d) w (closed c d)
-  pub bad : (q : ℕ) (w : Word) (c : Caps) (l : ℕ) → Means q w c → (states.bad q l ≡ true → IsBad policy (w ++ letter_of l c ∷ [])) × (IsBad policy (w ++ letter_of l c ∷ []) → states.bad q l ≡ true)
-  pub lettered : (q : ℕ) (w : Word) (c : Caps) (l : ℕ) → Means q w c → (IsBad policy (w ++ letter_of l c ∷ []) → ⊥) → Means (states.lettered q l) (w ++ letter_of l c ∷ []) c
+  pub opened : (q : ℕ) (w : Word) (c : Caps) (d : ℕ) → IsOpenedIn spots d → d < length policy.descriptors → Means q w c → Means (states.opened q d) w (with_opened c d (slice_get policy.descriptors d))
+  pub closed : (q : ℕ) (w : Word) (c : Caps) (d : ℕ) → IsClosedIn spots d → d < length policy.descriptors → Means q w c → Means (states.closed q d) w (closed c d)
+  pub bad : (q : ℕ) (w : Word) (c : Caps) (l : ℕ) → IsLabelIn spots l → Means q w c → (states.bad q l ≡ true → IsBad policy (w ++ letter_of l c ∷ [])) × (IsBad policy (w ++ letter_of l c ∷ []) → states.bad q l ≡ true)
+  pub lettered : (q : ℕ) (w : Word) (c : Caps) (l : ℕ) → IsLabelIn spots l → Means q w c → (IsBad policy (w ++ letter_of l c ∷ []) → ⊥) → Means (states.lettered q l) (w ++ letter_of l c ∷ []) c
   pub returned : (x q : ℕ) (w v : Word) (c k : Caps) → Means x w c → Means q v k → Means (states.with_rights x q) w k
 
 -- A game: what stands at each position, where each function begins and ends, which function is `main`, and the states.
@@ -79,7 +90,7 @@ abbrev pub past_asked : Game → ℕ → ℕ → Primitive → List Ret → Conf
 past_asked g p q Split rets = at_pair (p + 2) q rets
 past_asked g p q a rets = at_pair (p + 1) (g.states.granted q a) rets
 
--- where a move leads
+-- where a move leads from a pair that isn't bad
 abbrev pub leads_in : Game → ℕ → ℕ → List Ret → Option Spot → Move → Option Config
 leads_in g p q rets (Some (Visit j i a)) Skip = Some (at_pair (p + 2) q rets)
 leads_in g p q rets (Some (Visit j i a)) Try = Some (at_pair (p + 1) q rets)

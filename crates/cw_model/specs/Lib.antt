@@ -1,3 +1,4 @@
 pub mod Boards
 pub mod Runs
 pub mod Plays
+pub mod Laws

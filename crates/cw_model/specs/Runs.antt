@@ -92,11 +92,12 @@ start_state p t = record { board = start_board p; mems = t.start.0 ∷ [] }
 abbrev pub WovenStep : Problem → Table → State → Move → State → Type 0
 WovenStep p t s m next = Moves p s.board m next.board × (memories t s.board s.mems s.board.phase m ≡ Some next.mems)
 
--- A woven run goes on from a state by these states.
+-- A woven run goes on from a state by these states, one after the other.
 abbrev pub Goes : Problem → Table → State → List State → Type 0
 Goes p t s [] = Unit {0}
 Goes p t s (next ∷ later) = ((m : Move) × WovenStep p t s m next) × Goes p t next later
 
+-- A woven run, as the list of its states after the start.
 abbrev pub WovenRun : Problem → Table → List State → Type 0
 WovenRun p t run = Goes p t (start_state p t) run
 

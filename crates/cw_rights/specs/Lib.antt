@@ -4,3 +4,4 @@ pub mod Trees
 pub mod Words
 pub mod Policies
 pub mod Valid
+pub mod Plain

@@ -1,20 +1,12 @@
 -- Letters and words, and what a literal and a regular expression match.
 use Rattle.std.specs.Prelude.{◌≡◌, ◌⊎◌, ℕ, List, [], ◌∷◌, ◌++◌, Bool, true, false, ◌&&◌, Option, Some, None, nat_eq, IsTrue}
-use Rattle.std.specs.Int.{bit_at}
 use Rattle.std.specs.List.{list_all}
-use Rattle.cw_rights.specs.declared.capabilities.Hold.{Hold}
-use Rattle.cw_rights.specs.declared.capabilities.Hold.TheVariants.{Closed, Open}
 use Rattle.cw_rights.specs.declared.capabilities.Caps.{Caps}
 use Rattle.cw_rights.specs.declared.words.Letter.{Letter}
 use Rattle.cw_rights.specs.declared.words.Test.{Test}
 use Rattle.cw_rights.specs.declared.words.Test.TheVariants.{Amb, Holds}
-use Rattle.cw_rights.specs.Capabilities.{hold_of}
+use Rattle.cw_rights.specs.Capabilities.{hold_of, is_open_with}
 use Rattle.cw_rights.specs.Trees.{Literal, Tree, nothing, never, one, seq, alt, star, plus, maybe}
-
--- a descriptor is open with this right
-abbrev pub is_open_with : Hold → ℕ → Bool
-is_open_with Closed right = false
-is_open_with (Open held) right = nat_eq (bit_at held.0 right) 1
 
 -- the truth of a test
 abbrev pub truth : Caps → Test → Bool

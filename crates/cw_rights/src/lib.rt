@@ -5,5 +5,16 @@
 #![tactic(auto)]
 
 pub mod capabilities;
+pub mod laws;
+pub mod plain;
 pub mod policy;
+#[cfg(test)]
+mod tests;
 pub mod words;
+
+pub use capabilities::{
+    Allowed, Caps, Hold, Limit, Primitive, Rights, apply, close_hold, limit_allowed, open_hold,
+};
+pub use plain::matches_plain;
+pub use policy::{Descriptor, Policy, Rule};
+pub use words::{Letter, Lit, Regex, Test, lit_matches};

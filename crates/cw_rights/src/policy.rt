@@ -1,6 +1,10 @@
 //! The data of policies.
 
-use crate::capabilities::{Limit, Rights};
+ghost use Rattle.std.specs.Prelude.{◌≡◌};
+ghost use Rattle.std.specs.Option.{option_copied, option_map};
+ghost use Rattle.cw_rights.specs.Policies.{policy_of, is_refusable, start_caps, start_hold, descriptor_of};
+
+use crate::capabilities::{Caps, Hold, Limit, Primitive, Rights};
 use crate::words::Regex;
 
 /// A descriptor of a policy: a number that starts open, or a variable that starts closed.
@@ -33,4 +37,36 @@ pub struct Policy {
     pub split: Vec<Vec<u8>>,
     pub labels: Vec<Vec<u8>>,
     pub rules: Vec<Rule>,
+}
+
+fn start_hold(descriptor: Option<&Descriptor>) -> Hold
+    ensures { result ≡ start_hold (option_map descriptor_of (option_copied descriptor.entry)) }
+{
+    match descriptor {
+        Some(d) if d.number.is_some() => Hold::Open(d.rights),
+        _ => Hold::Closed,
+    }
+}
+
+/// The capabilities at the start: ambient authority, each descriptor that is a number open with its rights, and
+/// every other hold closed.
+pub fn start_caps(policy: &Policy) -> Caps
+    ensures { result ≡ start_caps (policy_of policy.now) }
+{
+    let mut holds = [Hold::Closed; 8];
+    for i in 0..8 {
+        holds[i] = start_hold(policy.descriptors.get(i));
+    }
+    Caps { amb: true, holds }
+}
+
+/// Whether the policy lets a try of this kind of primitive be refused.
+pub fn is_refusable(policy: &Policy, prim: Primitive) -> bool
+    ensures { result ≡ is_refusable (policy_of policy.now) prim }
+{
+    match prim {
+        Primitive::Limit(_) => policy.refuse_limit,
+        Primitive::Enter => policy.refuse_enter,
+        Primitive::Split => policy.refuse_split,
+    }
 }

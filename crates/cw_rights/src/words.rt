@@ -1,6 +1,12 @@
 //! Letters, literals and regular expressions over words.
 
-use crate::capabilities::Caps;
+ghost use Rattle.std.specs.Prelude.{◌≡◌, nat_eq};
+ghost use Rattle.std.specs.Int.{bit_at};
+ghost use Rattle.cw_rights.specs.Capabilities.{is_open_with};
+ghost use Rattle.cw_rights.specs.Trees.{literal_of};
+ghost use Rattle.cw_rights.specs.Words.{truth, tests_hold, fits};
+
+use crate::capabilities::{Caps, Hold};
 
 /// A label with the capabilities that are held when it is reached.
 ///
@@ -35,4 +41,49 @@ pub enum Regex {
     Star(Box<Regex>),
     Plus(Box<Regex>),
     Maybe(Box<Regex>),
+}
+
+fn has_right(rights: u16, right: u8) -> bool
+    ensures { result ≡ nat_eq (bit_at rights right) 1 }
+{
+    right < 16 && rights >> right & 1 == 1
+}
+
+fn is_open_with(hold: Hold, right: u8) -> bool
+    ensures { result ≡ is_open_with hold right }
+{
+    match hold {
+        Hold::Closed => false,
+        Hold::Open(held) => has_right(held.0, right),
+    }
+}
+
+fn truth(test: Test, caps: &Caps) -> bool
+    ensures { result ≡ truth caps.now test }
+{
+    match test {
+        Test::Amb => caps.amb,
+        Test::Holds { descriptor, right } => match caps.holds.get(descriptor as usize) {
+            None => false,
+            Some(hold) => is_open_with(*hold, right),
+        },
+    }
+}
+
+fn tests_hold(tests: &[(bool, Test)], caps: &Caps) -> bool
+    ensures { result ≡ tests_hold caps.now tests.now }
+{
+    tests.iter().all(|t| t.0 == truth(t.1, caps))
+}
+
+/// Whether a literal matches the word of this one letter: its label is the letter's or any, and each test has the
+/// wanted truth. A number that no descriptor or no right has names one that isn't held.
+pub fn lit_matches(lit: &Lit, letter: &Letter) -> bool
+    ensures { result ≡ fits (literal_of lit.now) letter.now }
+{
+    let named = match lit.label {
+        None => true,
+        Some(label) => label == letter.label,
+    };
+    named && tests_hold(&lit.tests, &letter.caps)
 }

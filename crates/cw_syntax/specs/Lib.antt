@@ -2,3 +2,5 @@ pub mod Trees
 pub mod Names
 pub mod Plans
 pub mod Frames
+pub mod Marks
+pub mod Steps

@@ -1,4 +1,5 @@
 //! The C subset of CapWeave.
 #![tactic(auto)]
 
+pub mod laws;
 pub mod program;

@@ -112,7 +112,7 @@ module _ (Means : Meaning) (Ex : ℕ → List Ret → Type 0) (g : Game) (t : Ta
   pub state_meant : (m q e : ℕ) → IsMeant m q e → state_of t m ≡ Some q
   state_meant m q e h = let k = meant (slice_get t.mems m) q e h in ap (option_map (λ r. r.0.0)) k.1 ∙ ap Some k.2
 
-  module _ (plan : Plan) (right : AreStates g.policy g.states Means) (laid : IsLaidOut plan g) (ok : rows_ok g t t.live ≡ true) (hands : Hands) where
+  module _ (plan : Plan) (right : AreStates g.policy g.spots g.states Means) (laid : IsLaidOut plan g) (ok : rows_ok g t t.live ≡ true) (hands : Hands) where
     abbrev pub problem : Problem
     problem = record { plan = plan; policy = g.policy }
 
@@ -264,15 +264,15 @@ module _ (Means : Meaning) (Ex : ℕ → List Ret → Type 0) (g : Game) (t : Ta
     label_on : (fn e : ℕ) (rets : List Ret) (at mark j l : ℕ) (s : Stm) (is : Frame) (frames next : List Frame) (kept : List (Option Caps)) (caps : Caps) (word : Word) (m : ℕ) (ms : List ℕ) (p q n : ℕ) → slice_get g.spots p ≡ Some (LabelSpot j l n) → At g.spots g.policy (g.exit fn) (Todo s ∷ is) n → Means q word caps → is_live t p m ≡ true → IsMeant m q e → Ex e rets → Below fn e frames ms kept rets → Some (settle (Todo s ∷ is) ∷ frames) ≡ Some next → Advances (top_by (λ m. option_map (λ r. r.after.0) (after_at t.ats j m)) (m ∷ ms)) (landed problem None (record { stack = (Todo (Label at mark j l s) ∷ is) ∷ frames; kept = kept; caps = caps; word = word; phase = Free }) OnWay next)
     label_on fn e rets at mark j l s is frames next kept caps word m ms p q n es a h lv mt x b en =
         let ro = and_parts (not (g.states.bad q l)) (row_leads t n (g.states.lettered q l) e (after_at t.ats j m)) (row_in p m q e (LabelSpot j l n) lv mt es) in
-        let fine : IsBad g.policy (word ++ letter_of l caps ∷ []) → ⊥ = λ y. not_both (g.states.bad q l) ro.0 ((right.bad q word caps l h).1 y) in
+        let fine : IsBad g.policy (word ++ letter_of l caps ∷ []) → ⊥ = λ y. not_both (g.states.bad q l) ro.0 ((right.bad q word caps l (p, j, n, es) h).1 y) in
         let to = row_some n (g.states.lettered q l) e (after_at t.ats j m) ro.1 in
-        let new = goes_on fn e rets (Todo s ∷ is) frames next kept caps (word ++ letter_of l caps ∷ []) to.0 ms n (g.states.lettered q l) en a (right.lettered q word caps l h fine) (leads_to n to.0 (g.states.lettered q l) e to.2) x b in
+        let new = goes_on fn e rets (Todo s ∷ is) frames next kept caps (word ++ letter_of l caps ∷ []) to.0 ms n (g.states.lettered q l) en a (right.lettered q word caps l (p, j, n, es) h fine) (leads_to n to.0 (g.states.lettered q l) e to.2) x b in
         (to.0 ∷ ms, ap (option_map (λ new. new ∷ ms)) to.1, new)
 
     close_on : (fn e : ℕ) (rets : List Ret) (at j d : ℕ) (is : Frame) (frames next : List Frame) (kept : List (Option Caps)) (caps : Caps) (word : Word) (m : ℕ) (ms : List ℕ) (p q n : ℕ) → d < length g.policy.descriptors → slice_get g.spots p ≡ Some (CloseSpot j d n) → At g.spots g.policy (g.exit fn) is n → Means q word caps → is_live t p m ≡ true → IsMeant m q e → Ex e rets → Below fn e frames ms kept rets → Some (settle is ∷ frames) ≡ Some next → Advances (top_by (λ m. option_map (λ r. r.after.0) (after_at t.closed j m)) (m ∷ ms)) (landed problem None (record { stack = (Todo (Close at j d) ∷ is) ∷ frames; kept = kept; caps = caps; word = word; phase = Free }) OnWay next)
     close_on fn e rets at j d is frames next kept caps word m ms p q n lt es a h lv mt x b en =
         let to = row_some n (g.states.closed q d) e (after_at t.closed j m) (row_in p m q e (CloseSpot j d n) lv mt es) in
-        let new = goes_on fn e rets is frames next kept (closed caps d) (word ++ []) to.0 ms n (g.states.closed q d) en a (no_letter Means (g.states.closed q d) word [] (closed caps d) refl (right.closed q word caps d lt h)) (leads_to n to.0 (g.states.closed q d) e to.2) x b in
+        let new = goes_on fn e rets is frames next kept (closed caps d) (word ++ []) to.0 ms n (g.states.closed q d) en a (no_letter Means (g.states.closed q d) word [] (closed caps d) refl (right.closed q word caps d (inr (p, j, n, es)) lt h)) (leads_to n to.0 (g.states.closed q d) e to.2) x b in
         (to.0 ∷ ms, ap (option_map (λ new. new ∷ ms)) to.1, new)
 
     -- an open, in both ways
@@ -280,11 +280,11 @@ module _ (Means : Meaning) (Ex : ℕ → List Ret → Type 0) (g : Game) (t : Ta
     open_on fn e rets at j d is frames next kept caps word m ms p q n OpenedWay lt es a h lv mt x b en =
         let to = open_some n (g.states.opened q d) (g.states.closed q d) e (open_at t j m) (row_in p m q e (OpenSpot j d n) lv mt es) in
         let after = with_opened caps d (slice_get g.policy.descriptors d) in
-        let new = goes_on fn e rets is frames next kept after (word ++ []) to.0.opened.0 ms n (g.states.opened q d) en a (no_letter Means (g.states.opened q d) word [] after refl (right.opened q word caps d lt h)) (leads_to n to.0.opened.0 (g.states.opened q d) e to.2) x b in
+        let new = goes_on fn e rets is frames next kept after (word ++ []) to.0.opened.0 ms n (g.states.opened q d) en a (no_letter Means (g.states.opened q d) word [] after refl (right.opened q word caps d (p, j, n, es) lt h)) (leads_to n to.0.opened.0 (g.states.opened q d) e to.2) x b in
         (to.0.opened.0 ∷ ms, ap (λ o. option_map (λ new. new ∷ ms) (option_map (λ r. r.opened.0) o)) to.1, new)
     open_on fn e rets at j d is frames next kept caps word m ms p q n FailedWay lt es a h lv mt x b en =
         let to = open_some n (g.states.opened q d) (g.states.closed q d) e (open_at t j m) (row_in p m q e (OpenSpot j d n) lv mt es) in
-        let new = goes_on fn e rets is frames next kept (closed caps d) (word ++ []) to.0.failed.0 ms n (g.states.closed q d) en a (no_letter Means (g.states.closed q d) word [] (closed caps d) refl (right.closed q word caps d lt h)) (leads_to n to.0.failed.0 (g.states.closed q d) e to.3) x b in
+        let new = goes_on fn e rets is frames next kept (closed caps d) (word ++ []) to.0.failed.0 ms n (g.states.closed q d) en a (no_letter Means (g.states.closed q d) word [] (closed caps d) refl (right.closed q word caps d (inl (p, j, n, es)) lt h)) (leads_to n to.0.failed.0 (g.states.closed q d) e to.3) x b in
         (to.0.failed.0 ∷ ms, ap (λ o. option_map (λ new. new ∷ ms) (option_map (λ r. r.failed.0) o)) to.1, new)
     open_on fn e rets at j d is frames next kept caps word m ms p q n OnWay lt es a h lv mt x b en = absurd (none-some next en)
     open_on fn e rets at j d is frames next kept caps word m ms p q n LeftWay lt es a h lv mt x b en = absurd (none-some next en)

@@ -23,7 +23,7 @@ use Rattle.cw_game.proofs.Stands.{Meaning, enters_at}
 use Rattle.cw_wcheck.proofs.Kept.{and_parts, not_both, IsMeant, Kept, KeptOn, Hands, row_in, leads_to, advances, free_advances, split_advances, keeps}
 use Rattle.cw_wcheck.proofs.Runs.{goes_append, erased_join, path_of, few}
 
-module _ (Means : Meaning) (Ex : ℕ → List Ret → Type 0) (g : Game) (t : Table) (plan : Plan) (right : AreStates g.policy g.states Means) (laid : IsLaidOut plan g) (ok : rows_ok g t t.live ≡ true) (hands : Hands Means Ex g t) where
+module _ (Means : Meaning) (Ex : ℕ → List Ret → Type 0) (g : Game) (t : Table) (plan : Plan) (right : AreStates g.policy g.spots g.states Means) (laid : IsLaidOut plan g) (ok : rows_ok g t t.live ≡ true) (hands : Hands Means Ex g t) where
   abbrev pub problem : Problem
   problem = record { plan = plan; policy = g.policy }
 
@@ -46,7 +46,7 @@ module _ (Means : Meaning) (Ex : ℕ → List Ret → Type 0) (g : Game) (t : Ta
       let w = i.3 in
       let n = w.2.0.2.1 in
       let r = and_parts (not (g.states.bad w.1 l)) _ (row_in Means Ex g t plan right laid ok hands w.0 m w.1 i.1 (LabelSpot j l n.0) w.3 w.4 n.1) in
-      not_both (g.states.bad w.1 l) r.0 ((right.bad w.1 word caps l w.2.1).1 bad)
+      not_both (g.states.bad w.1 l) r.0 ((right.bad w.1 word caps l (w.0, j, n.0, n.1) w.2.1).1 bad)
   safe_on (_ ∷ frames) caps word Free kept (m ∷ ms) i e some bad = some refl
 
   pub safe : (s : State) → KeptAt s → Violates problem s.board → ⊥
@@ -189,7 +189,7 @@ module _ (Means : Meaning) (Ex : ℕ → List Ret → Type 0) (g : Game) (t : Ta
           (plan.main, all_states g, [], (g.entry plan.main, g.states.start, st, subst (λ f. is_live t (g.entry f) t.start.0 ≡ true) (sym laid.main) l.0, l.1), x, tt)
 
 -- The theorem, for a policy of at most twelve limits.
-sound_at : (Means : Meaning) (g : Game) (t : Table) (plan : Plan) → AreStates g.policy g.states Means → IsLaidOut plan g → is_closed_table g t ≡ true → length g.policy.limits ≤ 12 → Sound (record { plan = plan; policy = g.policy }) t
+sound_at : (Means : Meaning) (g : Game) (t : Table) (plan : Plan) → AreStates g.policy g.spots g.states Means → IsLaidOut plan g → is_closed_table g t ≡ true → length g.policy.limits ≤ 12 → Sound (record { plan = plan; policy = g.policy }) t
 sound_at Means g t plan right laid closed short =
     let Ex : ℕ → List Ret → Type 0 = λ e rets. Unit {0} in
     let hands : Hands Means Ex g t = λ p m q e j f n e2 split r rets word caps h l s n' o s2 x. tt in
@@ -207,6 +207,6 @@ sound_at Means g t plan right laid closed short =
     }
 
 -- A table that meets the conditions is sound.
-pub sound : (Means : Meaning) (p : Problem) (g : Game) (t : Table) → g.policy ≡ p.policy → AreStates g.policy g.states Means → IsLaidOut p.plan g → is_closed_table g t ≡ true → length p.policy.limits ≤ 12 → Sound p t
+pub sound : (Means : Meaning) (p : Problem) (g : Game) (t : Table) → g.policy ≡ p.policy → AreStates g.policy g.spots g.states Means → IsLaidOut p.plan g → is_closed_table g t ≡ true → length p.policy.limits ≤ 12 → Sound p t
 sound Means p g t e right laid closed short =
     subst (λ policy. length policy.limits ≤ 12 → Sound (record { plan = p.plan; policy = policy }) t) e (λ le. sound_at Means g t p.plan right laid closed le) short

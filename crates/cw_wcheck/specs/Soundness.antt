@@ -12,7 +12,7 @@ use Rattle.cw_game.specs.Conditions.{is_closed_table}
 
 -- Where a game is laid out for a program, and its states are the policy's, each table that meets the conditions is sound, over stacks of any depth.
 abbrev pub ConditionsMakeSound : Type 0
-ConditionsMakeSound = (p : Problem) (g : Game) (t : Table) → g.policy ≡ p.policy → AreStates g.policy g.states (Reached g.policy g.states) → IsLaidOut p.plan g → is_closed_table g t ≡ true → length p.policy.limits ≤ 12 → Sound p t
+ConditionsMakeSound = (p : Problem) (g : Game) (t : Table) → g.policy ≡ p.policy → AreStates g.policy g.spots g.states (Reached g.policy g.spots g.states) → IsLaidOut p.plan g → is_closed_table g t ≡ true → length p.policy.limits ≤ 12 → Sound p t
 
 -- Where a table is sound the start isn't forced.
 abbrev pub SoundIsNeverForced : Type 0

@@ -1,0 +1,105 @@
+-- Decimals and the digits that they have.
+use Rattle.std.proofs.Common.{◌≡◌, ◌≢◌, ℕ, zero, suc, ◌+◌, ◌*◌, ◌^◌, ◌<◌, ◌≤◌, Bool, true, false, cond, eqb, leb, ◌&&◌, List, [], ◌∷◌, length, get_or, take, drop, map, refl, sym, ap, ◌∙◌, arith}
+use Rattle.std.specs.Char.{digit_value, is_ascii_digit}
+use Rattle.std.specs.Fmt.{decimal}
+use Rattle.std.specs.Int.Digits.{number_from_digits, number_from_digits_after}
+use Rattle.std.specs.List.{take_while}
+use Rattle.std.specs.Str.Parse.{AllDigits, digits_value}
+use Rattle.std.proofs.lemmas.Bool.{leb-true}
+use Rattle.std.proofs.lemmas.Str.{digit_value_digit}
+use Rattle.std.specs.Prelude.{Option, Some, None, IfSome, IfNone}
+use Rattle.std.proofs.lemmas.Fmt.{decimal_nonempty, first_decimal, decimal_digit, decimal-digits_value, digits_value-decimal, decimal_injective}
+use Rattle.cw_core.specs.Numerals.{IsDecimalAt}
+use Rattle.std.proofs.lemmas.Int.Digits.{number_after_append, number_after_ge, digits_value_is, digits_value_more}
+use Rattle.std.proofs.lemmas.List.{take-append-drop, map-append}
+use Rattle.std.proofs.lemmas.List.Sums.{take_while-cons}
+use Rattle.std.proofs.lemmas.Str.Parse.{IsNumeralModel}
+
+own : IsNumeralModel (AllDigits 10) (digits_value 10)
+own = record { to = λ _ h. h; from = λ _ h. h; same = λ _ _. refl }
+
+-- no decimal is empty
+pub not_empty : (bs : List ℕ) (number : ℕ) → number < 2 ^ 64 → length bs ≡ 0 → decimal number ≢ bs
+not_empty bs number small none e = let p = decimal_nonempty number small in absurd (omega (arith, p, none, ap length e))
+
+-- none of several digits begins with a zero
+pub no_needless_zero : (bs : List ℕ) (number : ℕ) → number < 2 ^ 64 → get_or bs 0 0 ≡ 48 → 1 < length bs → decimal number ≢ bs
+no_needless_zero bs zero small first several e =
+    absurd (omega (arith, several, ap length (sym (decimal_digit 0 (omega arith)) ∙ e)))
+no_needless_zero bs (suc n) small first several e =
+    let p = first_decimal (suc n) (omega arith) small in
+    absurd (omega (arith, p, first, ap (λ (ds : List ℕ). get_or ds 0 0) e))
+
+-- the value of a front is at most that of the whole
+pub digits_value-take-le : (base : ℕ) (ds : List ℕ) (i : ℕ) → 0 < base → digits_value base (take i ds) ≤ digits_value base ds
+digits_value-take-le base ds i pos =
+    let p = number_after_ge base (number_from_digits base (map digit_value (take i ds))) (map digit_value (drop i ds)) pos in
+    let whole : digits_value base ds ≡ number_from_digits_after base (number_from_digits base (map digit_value (take i ds))) (map digit_value (drop i ds)) =
+    digits_value_is base ds
+    ∙ ap (λ (z : List ℕ). number_from_digits base (map digit_value z)) (sym (take-append-drop i ds))
+    ∙ ap (number_from_digits base) (map-append digit_value (take i ds) (drop i ds))
+    ∙ number_after_append base 0 (map digit_value (take i ds)) (map digit_value (drop i ds)) in
+    rw (digits_value_is base (take i ds), whole) p
+
+pub decimal_from_value : (ds : List ℕ) (number : ℕ) → AllDigits 10 ds → 0 < length ds → (get_or ds 0 0 ≡ 48 → length ds ≡ 1) → number < 2 ^ 64 → number ≡ digits_value 10 ds → decimal number ≡ ds
+decimal_from_value ds number all some first small e = rw e (decimal-digits_value own ds all some first (rw e at small))
+
+pub value_from_decimal : (ds : List ℕ) (number : ℕ) → number < 2 ^ 64 → decimal number ≡ ds → digits_value 10 ds ≡ number
+value_from_decimal ds number small e = rw (← e) (digits_value-decimal own number small)
+
+pub AllDigits-at : (base : ℕ) (ds : List ℕ) (i : ℕ) → AllDigits base ds → i < length ds → digit_value (get_or ds i 0) < base
+AllDigits-at base [] i all lt = absurd (omega (arith, lt))
+AllDigits-at base (d ∷ ds) zero all lt = all.0
+AllDigits-at base (d ∷ ds) (suc i) all lt = AllDigits-at base ds i all.1 (omega (arith, lt))
+
+both_from_and : (s t : Bool) → (s && t) ≡ true → (s ≡ true) × (t ≡ true)
+both_from_and true true e = (refl, refl)
+both_from_and true false e = absurd (cc)
+both_from_and false t e = absurd (cc)
+
+digit_from_test : (b : ℕ) → is_ascii_digit b ≡ true → digit_value b < 10
+digit_from_test b e =
+    let low = leb-true 48 b (both_from_and (leb 48 b) (leb b 57) e).0 in
+    let high = leb-true b 57 (both_from_and (leb 48 b) (leb b 57) e).1 in
+    let p = digit_value_digit b (low, high) in
+    omega (arith, p, high)
+
+-- the run of digits at the front has digits alone
+pub AllDigits-take_while : (bs : List ℕ) → AllDigits 10 (take_while is_ascii_digit bs)
+AllDigits-take_while [] = tt
+AllDigits-take_while (b ∷ bs) = rw (take_while-cons is_ascii_digit b bs) (by_test (take_while is_ascii_digit bs) (AllDigits-take_while bs) (is_ascii_digit b) refl)
+  where
+    by_test : (rest : List ℕ) → AllDigits 10 rest → (t : Bool) → is_ascii_digit b ≡ t → AllDigits 10 (cond t (b ∷ rest) [])
+    by_test rest all true e = (digit_from_test b e, all)
+    by_test rest all false e = tt
+
+-- the loop over digits: the value so far, and what it is where it is too large
+value_more : (ds : List ℕ) (i : ℕ) → i < length ds → digits_value 10 (take (i + 1) ds) ≡ digits_value 10 (take i ds) * 10 + digit_value (get_or ds i 0)
+value_more ds i lt = digits_value_more 10 ds i lt
+
+pub value_step : (ds : List ℕ) (i number more : ℕ) → i < length ds → number ≡ digits_value 10 (take i ds) → more ≡ number * 10 + digit_value (get_or ds i 0) → more ≡ digits_value 10 (take (i + 1) ds)
+value_step ds i number more lt e h = let q = value_more ds i lt in omega (arith, q, e, h)
+
+pub too_large : (ds : List ℕ) (i number : ℕ) → i < length ds → number ≡ digits_value 10 (take i ds) → 2 ^ 64 ≤ number * 10 + digit_value (get_or ds i 0) → 2 ^ 64 ≤ digits_value 10 ds
+too_large ds i number lt e large =
+    let p = digits_value-take-le 10 ds (i + 1) (omega arith) in
+    let q = value_more ds i lt in
+    omega (arith, p, q, e, large)
+
+-- what was read of digits is what they spell
+pub spells : (ds : List ℕ) (read : Option ℕ) → AllDigits 10 ds → 0 < length ds → (get_or ds 0 0 ≡ 48 → length ds ≡ 1) → IfSome read (λ number. (number ≡ digits_value 10 ds) × (number < 2 ^ 64)) → IfSome read (λ number. (decimal number ≡ ds) × (number < 2 ^ 64))
+spells ds None all some first e = tt
+spells ds (Some number) all some first e = (decimal_from_value ds number all some first e.1 e.0, e.1)
+
+pub spells_none : (ds : List ℕ) (read : Option ℕ) → IfNone read (2 ^ 64 ≤ digits_value 10 ds) → IfNone read ((number : ℕ) → number < 2 ^ 64 → decimal number ≢ ds)
+spells_none ds None large = λ number small e. let p = value_from_decimal ds number small e in absurd (omega (arith, p, large, small))
+spells_none ds (Some number) large = tt
+
+pub positive : (ds : List ℕ) → eqb (length ds) 0 ≡ false → 0 < length ds
+positive [] e = absurd (cc)
+positive (d ∷ ds) e = omega arith
+
+-- the number that was read of a run is the one that stands there
+pub same_decimal : (text : List ℕ) (at read number : ℕ) (run : List ℕ) → run ≡ take_while is_ascii_digit (drop at text) → decimal read ≡ run → read < 2 ^ 64 → IsDecimalAt text at number → (read ≡ number) × (at + length run ≡ at + length (decimal number))
+same_decimal text at read number run is e small h =
+    (decimal_injective read number small h.small (e ∙ is ∙ sym h.spelled), ap (λ (ds : List ℕ). at + length ds) (is ∙ sym h.spelled))

@@ -1,0 +1,9 @@
+pub mod Bits
+pub mod Decimals
+pub mod Glyphs
+pub mod Hexadecimals
+pub mod Nibbles
+pub mod Sets
+pub mod Subset
+pub mod Texts
+pub mod Words

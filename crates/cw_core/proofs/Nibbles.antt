@@ -1,0 +1,137 @@
+-- Four bits at a time.
+use Rattle.std.proofs.Common.{◌≡◌, ℕ, zero, suc, ◌+◌, ◌*◌, ◌-◌, ◌/◌, ◌%◌, ◌^◌, ◌<◌, ◌≤◌, Bool, true, false, eqb, cond, List, [], ◌∷◌, ◌++◌, length, get_or, refl, sym, ap, ◌∙◌, arith, inl, inr, map, not, ◌||◌, append_assoc, bit_or}
+use Rattle.std.proofs.Math.ListN.{set}
+use Rattle.std.proofs.Math.Nat.{mul_assoc, add_comm, mul-le-mul_right}
+use Rattle.std.specs.Int.Bits.{or_shifted_r}
+use Rattle.std.specs.Int.Digits.{digits_of}
+use Rattle.std.proofs.lemmas.Int.Digits.{digits_of_step}
+use Rattle.std.proofs.lemmas.Bool.{cases_lt, ne_eqb, eqb-true, not-false}
+use Rattle.std.proofs.lemmas.List.{map_push}
+use Rattle.std.proofs.lemmas.Nat.{shr-shr, shr_le, field_of, or_lt, pow-add}
+use Rattle.std.proofs.Math.Pow.{mod-mod-pow}
+use Rattle.std.proofs.lemmas.Nat as nat
+use Rattle.cw_core.specs.Words.{number_of, AreWords}
+use Rattle.cw_core.proofs.Words.{AreWords-at}
+use Rattle.std.specs.Char.{digit_char}
+
+zero_shr : (k : ℕ) → 0 / 2 ^ k ≡ 0
+zero_shr k = let p = shr_le 0 k in omega (arith, p)
+
+low : (hi w k : ℕ) → w < 2 ^ 64 → k ≤ 64 → (hi * 2 ^ 64 + w) % 2 ^ k ≡ w % 2 ^ k
+low hi w k fit le =
+    let e : (64 - k) + k ≡ 64 = omega arith in
+    let whole : (hi * 2 ^ 64 + w) % 2 ^ ((64 - k) + k) ≡ w = rw e (nat.mod_low hi 64 w fit) in
+    sym (mod-mod-pow (hi * 2 ^ 64 + w) (64 - k) k) ∙ ap (λ (z : ℕ). z % 2 ^ k) whole
+
+pub nibble_is : (ws : List ℕ) (i : ℕ) → AreWords ws → number_of ws / 2 ^ (4 * i) % 2 ^ 4 ≡ get_or ws (i / 16) 0 / 2 ^ (4 * (i % 16)) % 2 ^ 4
+unfolding number_of
+nibble_is [] i fit = rw (zero_shr (4 * i), zero_shr (4 * (i % 16))) refl
+nibble_is (w ∷ ws) i fit =
+    elim (cases_lt i 16) [
+      | inl lt ↦
+          let q : i / 16 ≡ 0 = omega arith in
+          let r : i % 16 ≡ i = omega arith in
+          rw (q, r) (sym (field_of (number_of ws * 2 ^ 64 + w) 4 (4 * i)) ∙ ap (λ (z : ℕ). z / 2 ^ (4 * i)) (low (number_of ws) w (4 + 4 * i) fit.0 (omega arith)) ∙ field_of w 4 (4 * i))
+      | inr le ↦
+          let q : i / 16 ≡ suc ((i - 16) / 16) = omega arith in
+          let r : i % 16 ≡ (i - 16) % 16 = omega arith in
+          let e : 64 + 4 * (i - 16) ≡ 4 * i = omega arith in
+          let up : (number_of ws * 2 ^ 64 + w) / 2 ^ (4 * i) ≡ number_of ws / 2 ^ (4 * (i - 16)) = rw (← e) (sym (shr-shr (number_of ws * 2 ^ 64 + w) 64 (4 * (i - 16))) ∙ ap (λ (z : ℕ). z / 2 ^ (4 * (i - 16))) (nat.shr_high (number_of ws) 64 w fit.0)) in
+          rw (q, r, up) (nibble_is ws (i - 16) fit.1)
+    ]
+
+-- one digit more
+pub digits_more : (n i : ℕ) → 0 < n / 2 ^ (4 * i) → digits_of 16 (n / 2 ^ (4 * i)) ≡ digits_of 16 (n / 2 ^ (4 * (i + 1))) ++ (n / 2 ^ (4 * i) % 2 ^ 4 ∷ [])
+digits_more n i pos =
+    let e : 4 * i + 4 ≡ 4 * (i + 1) = omega arith in
+    let f : n / 2 ^ (4 * i) / 16 ≡ n / 2 ^ (4 * (i + 1)) = shr-shr n (4 * i) 4 ∙ ap (λ (z : ℕ). n / 2 ^ z) e in
+    digits_of_step 16 (n / 2 ^ (4 * i)) (omega arith) pos ∙ ap (λ (z : ℕ). digits_of 16 z ++ (n / 2 ^ (4 * i) % 2 ^ 4 ∷ [])) f
+
+-- the number so far is the one before, and a digit
+pub number_more : (n i : ℕ) → n / 2 ^ (4 * i) ≡ n / 2 ^ (4 * (i + 1)) * 16 + n / 2 ^ (4 * i) % 2 ^ 4
+number_more n i =
+    let e : 4 * i + 4 ≡ 4 * (i + 1) = omega arith in
+    let f : n / 2 ^ (4 * i) / 16 ≡ n / 2 ^ (4 * (i + 1)) = shr-shr n (4 * i) 4 ∙ ap (λ (z : ℕ). n / 2 ^ z) e in
+    rw (← f) (omega arith)
+
+not_zero : (n : ℕ) → not (eqb n 0) ≡ true → 0 < n
+not_zero zero e = absurd cc
+not_zero (suc n) e = omega arith
+
+pub one_digit : (s : Bool) (m d k : ℕ) → s ≡ not (eqb m 0) → k ≡ m * 16 + d → (s || not (eqb d 0)) ≡ not (eqb k 0)
+one_digit s zero zero k e f = rw (e, f) refl
+one_digit s zero (suc d) k e f = let g : k ≡ suc d = omega arith in rw (e, g) refl
+one_digit s (suc m) d zero e f = absurd (omega arith)
+one_digit s (suc m) d (suc k) e f =
+    let p : eqb (suc m) 0 ≡ false = ne_eqb (suc m) 0 (λ h. omega arith) in
+    let q : eqb (suc k) 0 ≡ false = ne_eqb (suc k) 0 (λ h. omega arith) in
+    rw (e, p, q) refl
+
+-- what is written after one nibble more
+pub text_more : (n i : ℕ) (front : List ℕ) (old : List ℕ) (some r : Bool) (d : ℕ) → d ≡ n / 2 ^ (4 * i) % 2 ^ 4 → some ≡ not (eqb (n / 2 ^ (4 * (i + 1))) 0) → r ≡ (some || not (eqb d 0))
+    → old ≡ front ++ map digit_char (digits_of 16 (n / 2 ^ (4 * (i + 1)))) → cond r (old ++ digit_char d ∷ []) old ≡ front ++ map digit_char (digits_of 16 (n / 2 ^ (4 * i)))
+text_more n i front old some true d is s r e =
+    let more : n / 2 ^ (4 * i) ≡ n / 2 ^ (4 * (i + 1)) * 16 + d = rw is (number_more n i) in
+    let pos : 0 < n / 2 ^ (4 * i) = not_zero (n / 2 ^ (4 * i)) (sym (one_digit some (n / 2 ^ (4 * (i + 1))) d (n / 2 ^ (4 * i)) s more) ∙ sym r) in
+    rw (digits_more n i pos, ← is, e) (append_assoc front (map digit_char (digits_of 16 (n / 2 ^ (4 * (i + 1))))) (digit_char d ∷ []) ∙ ap (λ (z : List ℕ). front ++ z) (sym (map_push digit_char (digits_of 16 (n / 2 ^ (4 * (i + 1)))) d)))
+text_more n i front old some false d is s r e =
+    let more : n / 2 ^ (4 * i) ≡ n / 2 ^ (4 * (i + 1)) * 16 + d = rw is (number_more n i) in
+    let zero_now : eqb (n / 2 ^ (4 * i)) 0 ≡ true = not-false (eqb (n / 2 ^ (4 * i)) 0) (sym (one_digit some (n / 2 ^ (4 * (i + 1))) d (n / 2 ^ (4 * i)) s more) ∙ sym r) in
+    let k : n / 2 ^ (4 * i) ≡ 0 = eqb-true (n / 2 ^ (4 * i)) 0 zero_now in
+    let m : n / 2 ^ (4 * (i + 1)) ≡ 0 = omega arith in
+    rw (k, e, m) refl
+
+-- ---- four bits more, above all others
+
+word-le : (ws : List ℕ) (k : ℕ) → get_or ws k 0 * 2 ^ (64 * k) ≤ number_of ws
+unfolding number_of
+word-le [] k = omega arith
+word-le (w ∷ ws) zero = omega arith
+word-le (w ∷ ws) (suc k) =
+    let e : 64 * suc k ≡ 64 * k + 64 = omega arith in
+    let p : 2 ^ (64 * suc k) ≡ 2 ^ (64 * k) * 2 ^ 64 = ap (λ (z : ℕ). 2 ^ z) e ∙ pow-add 2 (64 * k) 64 in
+    let q : get_or ws k 0 * 2 ^ (64 * suc k) ≡ get_or ws k 0 * 2 ^ (64 * k) * 2 ^ 64 = ap (λ (z : ℕ). get_or ws k 0 * z) p ∙ sym (mul_assoc (get_or ws k 0) (2 ^ (64 * k)) (2 ^ 64)) in
+    let less = word-le ws k in
+    rw q (omega (arith, less))
+
+number_of-add : (ws : List ℕ) (k x : ℕ) → k < length ws → number_of (set ws k (get_or ws k 0 + x)) ≡ number_of ws + x * 2 ^ (64 * k)
+unfolding number_of
+number_of-add [] k x lt = absurd (omega (arith, lt))
+number_of-add (w ∷ ws) zero x lt = omega arith
+number_of-add (w ∷ ws) (suc k) x lt =
+    let e : 64 * suc k ≡ 64 * k + 64 = omega arith in
+    let p : 2 ^ (64 * suc k) ≡ 2 ^ (64 * k) * 2 ^ 64 = ap (λ (z : ℕ). 2 ^ z) e ∙ pow-add 2 (64 * k) 64 in
+    let q : x * 2 ^ (64 * suc k) ≡ x * 2 ^ (64 * k) * 2 ^ 64 = ap (λ (z : ℕ). x * z) p ∙ sym (mul_assoc x (2 ^ (64 * k)) (2 ^ 64)) in
+    let rest = number_of-add ws k x (omega (arith, lt)) in
+    rw q (omega (arith, rest))
+
+place_pow : (place : ℕ) → 2 ^ (4 * (place % 16)) * 2 ^ (64 * (place / 16)) ≡ 2 ^ (4 * place)
+place_pow place =
+    let e : 4 * (place % 16) + 64 * (place / 16) ≡ 4 * place = omega arith in
+    sym (pow-add 2 (4 * (place % 16)) (64 * (place / 16))) ∙ ap (λ (z : ℕ). 2 ^ z) e
+
+word_below : (ws : List ℕ) (place : ℕ) → number_of ws < 2 ^ (4 * place) → get_or ws (place / 16) 0 < 2 ^ (4 * (place % 16))
+word_below ws place lt =
+    elim (cases_lt (get_or ws (place / 16) 0) (2 ^ (4 * (place % 16)))) [
+      | inl below ↦ below
+      | inr le ↦
+          let p = mul-le-mul_right (2 ^ (64 * (place / 16))) le in
+          let q = word-le ws (place / 16) in
+          absurd (omega (arith, p, q, place_pow place, lt))
+    ]
+
+abbrev pub with_nibble : List ℕ → ℕ → ℕ → ℕ
+with_nibble ws place digit = bit_or (get_or ws (place / 16) 0) (digit * 2 ^ (4 * (place % 16)) % 2 ^ 64)
+
+pub with_nibble-lt : (ws : List ℕ) (place digit : ℕ) → AreWords ws → with_nibble ws place digit < 2 ^ 64
+with_nibble-lt ws place digit fit = or_lt 64 (get_or ws (place / 16) 0) (digit * 2 ^ (4 * (place % 16)) % 2 ^ 64) (AreWords-at ws (place / 16) fit) (omega arith)
+
+pub number_of-with_nibble : (ws : List ℕ) (place digit : ℕ) → place / 16 < length ws → digit < 16 → number_of ws < 2 ^ (4 * place) → number_of (set ws (place / 16) (with_nibble ws place digit)) ≡ number_of ws + digit * 2 ^ (4 * place)
+number_of-with_nibble ws place digit within small above =
+    let w = get_or ws (place / 16) 0 in
+    let r = 4 * (place % 16) in
+    let whole : digit * 2 ^ r % 2 ^ 64 ≡ digit * 2 ^ r = nat.shl_whole digit 4 r 64 small (omega arith) in
+    let sum : with_nibble ws place digit ≡ w + digit * 2 ^ r = ap (bit_or w) whole ∙ or_shifted_r digit r w (word_below ws place above) ∙ add_comm (digit * 2 ^ r) w in
+    ap (λ (z : ℕ). number_of (set ws (place / 16) z)) sum
+    ∙ number_of-add ws (place / 16) (digit * 2 ^ r) within
+    ∙ ap (λ (z : ℕ). number_of ws + z) (mul_assoc digit (2 ^ r) (2 ^ (64 * (place / 16))) ∙ ap (λ (z : ℕ). digit * z) (place_pow place))

@@ -1,0 +1,67 @@
+-- Words of 64 bits and the number that they stand for.
+use Rattle.std.proofs.Common.{◌≡◌, ◌≢◌, ℕ, zero, suc, ◌^◌, ◌<◌, ◌≤◌, true, eqb, List, [], ◌∷◌, length, get_or, refl, sym, ap, ◌∙◌, arith, inl, inr, Less, Greater, nat_cmp}
+use Rattle.std.proofs.lemmas.Bool.{cases_lt, eq-eqb, eqb-true}
+use Rattle.std.specs.Cmp.{both_ways, nat_cmp_is}
+use Rattle.std.specs.Cmp.Lexicographic.{same_text}
+use lib.Pointwise.{pointwise}
+use Rattle.std.proofs.Math.ListN.{set}
+use Rattle.std.proofs.lemmas.List.{length-set, ext_get_or}
+use Rattle.cw_core.specs.Words.{number_of, words_of, AreWords, AreEightWords, words_of-number_of}
+
+pub AreWords-set : (ws : List ℕ) (i w : ℕ) → AreWords ws → w < 2 ^ 64 → AreWords (set ws i w)
+AreWords-set [] i w fit lt = tt
+AreWords-set (x ∷ ws) zero w fit lt = (lt, fit.1)
+AreWords-set (x ∷ ws) (suc i) w fit lt = (fit.0, AreWords-set ws i w fit.1 lt)
+
+pub AreEightWords-set : (ws : List ℕ) (i w : ℕ) → AreEightWords ws → w < 2 ^ 64 → AreEightWords (set ws i w)
+AreEightWords-set ws i w fit lt = (AreWords-set ws i w fit.0 lt, length-set ws i w ∙ fit.1)
+
+pub AreWords-at : (ws : List ℕ) (i : ℕ) → AreWords ws → get_or ws i 0 < 2 ^ 64
+AreWords-at [] i fit = omega arith
+AreWords-at (x ∷ ws) zero fit = fit.0
+AreWords-at (x ∷ ws) (suc i) fit = AreWords-at ws i fit.1
+
+-- equal numbers have equal words
+pub same_words : (xs ys : List ℕ) → AreWords xs → AreWords ys → length xs ≡ length ys → number_of xs ≡ number_of ys → xs ≡ ys
+same_words xs ys p q len e =
+    sym (words_of-number_of (length xs) xs p refl) ∙ ap (words_of (length xs)) e ∙ words_of-number_of (length xs) ys q (sym len)
+
+-- the highest words that differ tell which number is less
+pub number_of-lt : (xs ys : List ℕ) (i : ℕ) → AreWords xs → AreWords ys → length xs ≡ length ys → ((k : ℕ) → i < k → get_or xs k 0 ≡ get_or ys k 0) → get_or xs i 0 < get_or ys i 0 → number_of xs < number_of ys
+unfolding number_of
+number_of-lt [] [] i p q len above lt = absurd (omega (arith, lt))
+number_of-lt [] (y ∷ ys) i p q len above lt = absurd (omega (arith, len))
+number_of-lt (x ∷ xs) [] i p q len above lt = absurd (omega (arith, len))
+number_of-lt (x ∷ xs) (y ∷ ys) zero p q len above lt =
+    let rest : xs ≡ ys = ext_get_or 0 xs ys (omega (arith, len)) (λ k _. above (suc k) (omega arith)) in
+    let same : number_of xs ≡ number_of ys = ap number_of rest in
+    omega (arith, same, lt)
+number_of-lt (x ∷ xs) (y ∷ ys) (suc i) p q len above lt =
+    let less = number_of-lt xs ys i p.1 q.1 (omega (arith, len)) (λ k h. above (suc k) (omega (arith, h))) lt in
+    let low = p.0 in
+    omega (arith, less, low)
+
+-- the test of all words is the test of the numbers
+pub pointwise-number_of : (xs ys : List ℕ) → AreWords xs → AreWords ys → length xs ≡ length ys → pointwise eqb xs ys ≡ eqb (number_of xs) (number_of ys)
+pointwise-number_of xs ys p q len =
+    both_ways (pointwise eqb xs ys) (eqb (number_of xs) (number_of ys))
+    (λ h. eq-eqb (number_of xs) (number_of ys) (ap number_of (same_text xs ys (sym h))))
+    (λ h. rw (same_words xs ys p q len (eqb-true (number_of xs) (number_of ys) h)) (pointwise_refl ys))
+  where
+    pointwise_refl : (zs : List ℕ) → pointwise eqb zs zs ≡ true
+    pointwise_refl [] = refl
+    pointwise_refl (z ∷ zs) = rw (eq-eqb z z refl) (pointwise_refl zs)
+
+-- two words that differ tell the order of the numbers, where the words above are equal
+pub nat_cmp-number_of : (xs ys : List ℕ) (i : ℕ) → AreWords xs → AreWords ys → length xs ≡ length ys → ((k : ℕ) → i < k → get_or xs k 0 ≡ get_or ys k 0) → get_or xs i 0 ≢ get_or ys i 0 → nat_cmp (get_or xs i 0) (get_or ys i 0) ≡ nat_cmp (number_of xs) (number_of ys)
+nat_cmp-number_of xs ys i p q len above differ =
+    elim (cases_lt (get_or xs i 0) (get_or ys i 0)) [
+      | inl lt ↦ sym (nat_cmp_is _ _ Less lt) ∙ nat_cmp_is _ _ Less (number_of-lt xs ys i p q len above lt)
+      | inr le ↦
+          let gt : get_or ys i 0 < get_or xs i 0 = omega (arith, le, differ) in
+          sym (nat_cmp_is _ _ Greater gt) ∙ nat_cmp_is _ _ Greater (number_of-lt ys xs i q p (sym len) (λ k h. sym (above k h)) gt)
+    ]
+
+-- words that are all equal
+pub same_number : (xs ys : List ℕ) → length xs ≡ length ys → ((k : ℕ) → 0 ≤ k → get_or xs k 0 ≡ get_or ys k 0) → number_of xs ≡ number_of ys
+same_number xs ys len all = ap number_of (ext_get_or 0 xs ys len (λ k _. all k (omega arith)))

@@ -1,0 +1,183 @@
+//! Sets of states.
+
+ghost use Rattle.std.specs.Prelude.{◌≡◌, ℕ, ◌+◌, ◌-◌, ◌*◌, ◌/◌, ◌%◌, ◌^◌, ◌<◌, ◌≤◌, ◌↔◌, ◌==◌, ◌||◌, ◌&&◌, not, nat_lt, min, bit_and, slice_index, IsTrue};
+ghost use Rattle.cw_core.specs.StateSet.{has, IsSubset, IsBelow};
+ghost use Rattle.std.proofs.Common.{rules};
+ghost use Rattle.std.specs.Cmp.{partial_order_from_own_ties};
+ghost use Rattle.std.specs.Cmp.Rules.{comparing};
+ghost use Rattle.std.specs.Ordering.{nat_cmp, as_partial_cmp};
+
+use crate::ids::StateId;
+use std::cmp::Ordering;
+use std::marker::Model;
+
+/// A set of numbers below 512. A contract sees it as a number, the sum of 2 to the power s over its
+/// members s. Sets are compared as these numbers.
+#[derive(Clone, Copy, Debug)]
+pub struct StateSet {
+    /// The members 64 * i to 64 * i + 63 are the bits of word i.
+    words: [u64; 8],
+}
+
+impl Model for StateSet {
+    ghost use Rattle.std.specs.Prelude.{ℕ};
+    ghost use Rattle.cw_core.specs.Words.{number_of, words_of, AreEightWords, words_of-number_of};
+
+    ghost Value = { ℕ };
+
+    ghost view = { λ s. number_of s.words };
+
+    ghost invariant = { λ s. AreEightWords s.words };
+
+    ghost inverse = { λ n. record { words = words_of 8 n } };
+
+    ghost inverse_ok = { λ s h i. record { words = words_of-number_of 8 s.words h.0 h.1 i } };
+}
+
+impl PartialEq for StateSet {
+    ghost eq = { λ a b. a == b };
+
+    ghost laws = { Prim.search (comparing, rules) };
+
+    fn eq(&self, other: &StateSet) -> bool {
+        self.words == other.words
+    }
+}
+
+impl Eq for StateSet {
+    ghost laws = { Prim.search (comparing, rules) };
+}
+
+impl Ord for StateSet {
+    ghost cmp = { nat_cmp };
+
+    ghost total = { Prim.search (comparing, rules) };
+
+    ghost matches_partial_cmp = { Prim.search (comparing, rules) };
+
+    ghost matches_eq = { Prim.search (comparing, rules) };
+
+    fn cmp(&self, other: &StateSet) -> Ordering {
+        for i in (0..8).rev() {
+            if self.words[i] != other.words[i] {
+                return self.words[i].cmp(&other.words[i]);
+            }
+        }
+        Ordering::Equal
+    }
+}
+
+impl PartialOrd for StateSet {
+    ghost partial_cmp = { as_partial_cmp nat_cmp };
+
+    ghost laws = { partial_order_from_own_ties (Prim.search (comparing, rules)) (Prim.search (comparing, rules)) };
+
+    fn partial_cmp(&self, other: &StateSet) -> Option<Ordering> {
+        Some(self.cmp(other))
+    }
+}
+
+impl StateSet {
+    /// The empty set.
+    pub fn empty() -> StateSet
+        ensures { result ≡ 0 }
+    {
+        StateSet { words: [0; 8] }
+    }
+
+    /// Whether the set has a number.
+    pub fn contains(&self, s: StateId) -> bool
+        requires { s.0 < 512 }
+        ensures { result ≡ has self.now s.0 }
+    {
+        let word = self.words[(s.0 / 64) as usize];
+        (word >> (s.0 % 64)) & 1 == 1
+    }
+
+    /// Adds a number; every other number stays in or out.
+    pub fn insert(&mut self, s: StateId)
+        requires { s.0 < 512 }
+        ensures { (i : ℕ) → has self.new i ≡ (i == s.0 || has self.old i) }
+    {
+        let at = (s.0 / 64) as usize;
+        self.words[at] |= 1 << (s.0 % 64);
+    }
+
+    /// Takes a number out; every other number stays in or out.
+    pub fn remove(&mut self, s: StateId)
+        requires { s.0 < 512 }
+        ensures { (i : ℕ) → has self.new i ≡ (not (i == s.0) && has self.old i) }
+    {
+        let at = (s.0 / 64) as usize;
+        self.words[at] &= !(1 << (s.0 % 64));
+    }
+
+    /// Whether the other set has every number of this one.
+    pub fn is_subset(&self, other: &StateSet) -> bool
+        ensures { IsTrue result ↔ IsSubset self.now other.now }
+    {
+        are_within(&self.words, &other.words)
+    }
+
+    /// The numbers below n that aren't in the set.
+    pub fn complement_in(&self, n: u16) -> StateSet
+        requires { n ≤ 512 }
+        ensures { (i : ℕ) → has result i ≡ (nat_lt i n && not (has self.now i)) }
+    {
+        let mut words = [0; 8];
+        for i in 0..8 {
+            words[i] = !self.words[i] & ones_below(n.saturating_sub(64 * i as u16));
+        }
+        StateSet { words }
+    }
+
+    /// The four bits from 4 times a place on.
+    pub(crate) fn nibble(&self, place: usize) -> u8
+        requires { place < 128 }
+        ensures value { result ≡ self.now / 2 ^ (4 * place) % 2 ^ 4 }
+        ensures small { result < 16 }
+    {
+        ((self.words[place / 16] >> (4 * (place % 16))) & 15) as u8
+    }
+
+    /// Puts four bits from 4 times a place on, above all that the set has.
+    pub(crate) fn add_nibble(&mut self, place: usize, digit: u8)
+        requires place { place < 128 }
+        requires digit { digit < 16 }
+        requires above { self.old < 2 ^ (4 * place) }
+        ensures { self.new ≡ self.old + digit * 2 ^ (4 * place) }
+    {
+        self.words[place / 16] |= u64::from(digit) << (4 * (place % 16));
+    }
+
+    /// A law: a set has numbers below 512 alone.
+    pub fn is_below_512(&self)
+        ensures { IsBelow 512 self.now }
+    {
+        let _ = &self.words;
+    }
+}
+
+/// Whether every bit of the words a is one of the words b.
+fn are_within(a: &[u64; 8], b: &[u64; 8]) -> bool
+    ensures yes { IsTrue result → (k : ℕ) → k < 8 → bit_and (slice_index a.now k) (slice_index b.now k) ≡ slice_index a.now k }
+    ensures all { ((k : ℕ) → k < 8 → bit_and (slice_index a.now k) (slice_index b.now k) ≡ slice_index a.now k) → IsTrue result }
+{
+    for i in 0..8 {
+        if a[i] & b[i] != a[i] {
+            return false;
+        }
+    }
+    true
+}
+
+/// The word whose ones are the bits below a place: all 64 from place 64 on.
+fn ones_below(place: u16) -> u64
+    ensures { result ≡ 2 ^ min place 64 - 1 }
+{
+    if place < 64 {
+        (1 << place) - 1
+    } else {
+        u64::MAX
+    }
+}

@@ -1,0 +1,52 @@
+-- The marks of the seams, in the order of the text.
+use Rattle.std.specs.Prelude.{◌≡◌, ℕ, List, [], ◌∷◌, ◌++◌, Option, map, length}
+use Rattle.std.specs.List.{range_with_len}
+use Rattle.cw_syntax.specs.declared.program.Name.{Name}
+use Rattle.cw_syntax.specs.Names.{Names}
+use Rattle.cw_syntax.specs.Trees.{File}
+use Rattle.cw_syntax.specs.Plans.{Callee, Stm, Plain, Break, Continue, Return, Open, Close, Call, Group, Label, If, While, Do, For, Stms, end, then, Routine, Plan, plan_of}
+
+-- What a mark stands at: an entry, a label, an open of a descriptor, a close, a call and the variable that takes its result.
+pub data MarkKind : Type 0 where
+  EntryMark : MarkKind
+  LabelMark : MarkKind
+  OpenMark : (descriptor : ℕ) → MarkKind
+  CloseMark : MarkKind
+  CallMark : (result : Option Name) → MarkKind
+
+-- A mark: its place in the source, its seam's number, what it stands at.
+pub record SeamMark : Type 0 where
+  pub place : ℕ
+  pub seam : ℕ
+  pub kind : MarkKind
+
+abbrev mutual
+  pub marks_in : Stm → List SeamMark
+  marks_in (Plain at) = []
+  marks_in (Break at) = []
+  marks_in (Continue at) = []
+  marks_in (Return at) = []
+  marks_in (Open at j d) = record { place = at; seam = j; kind = OpenMark d } ∷ []
+  marks_in (Close at j d) = record { place = at; seam = j; kind = CloseMark } ∷ []
+  marks_in (Call at j callee) = record { place = at; seam = j; kind = CallMark callee.result } ∷ []
+  marks_in (Group ss) = marks_in_all ss
+  marks_in (Label at mark j l s) = record { place = mark; seam = j; kind = LabelMark } ∷ marks_in s
+  marks_in (If at s t) = marks_in s ++ marks_in t
+  marks_in (While at s) = marks_in s
+  marks_in (Do at s) = marks_in s
+  marks_in (For at init decided stepped s) = marks_in s
+
+  pub marks_in_all : Stms → List SeamMark
+  marks_in_all end = []
+  marks_in_all (then s ss) = marks_in s ++ marks_in_all ss
+
+abbrev pub marks_from : List Routine → List SeamMark
+marks_from [] = []
+marks_from (r ∷ rs) = record { place = r.mark; seam = r.seam; kind = EntryMark } ∷ (marks_in_all r.body ++ marks_from rs)
+
+abbrev pub marks_of : Plan → List SeamMark
+marks_of plan = marks_from plan.routines
+
+-- The seams of every program are numbered from 0 in the order of their marks.
+abbrev pub SeamsAreInOrder : Type 0
+SeamsAreInOrder = (names : Names) (source : List ℕ) (file : File) → map (λ m. m.seam) (marks_of (plan_of names source file)) ≡ range_with_len 0 (length (marks_of (plan_of names source file)))
