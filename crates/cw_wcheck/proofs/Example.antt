@@ -113,19 +113,6 @@ closed_is (suc (suc zero)) zero one lt = (omega arith, refl)
 closed_is (suc (suc (suc n))) zero one lt = (omega arith, refl)
 closed_is q (suc d) one lt = absurd (omega (arith, one))
 
-right : AreStates policy states Means
-right = record {
-  begins = (omega arith, refl);
-  within = λ q w c h. h.0;
-  grants = λ q w c a at h. ap (λ y. may_grant y a) (sym h.1);
-  granted = λ q w c a at h may. granted_is q c a at h.0 h.1 may;
-  opened = λ q w c d one h. let k = opened_is q d one h.0 in (k.0, ap (λ y. with_opened y d (slice_get policy.descriptors d)) h.1 ∙ k.1);
-  closed = λ q w c d one h. let k = closed_is q d one h.0 in (k.0, ap (λ y. closed y d) h.1 ∙ k.1);
-  bad = λ q w c l h. (λ e. cc, λ b. absurd (none-some b.1.1 b.1.2));
-  lettered = λ q w c l h fine. h;
-  returned = λ x q w v c k h h2. h2;
-}
-
 -- main: a label; a loop that is left or begun again; an open; a loop with init and step and no condition, which calls in a process of its own and is left.
 abbrev main_body : Stms
 main_body =
@@ -149,6 +136,19 @@ spots = VisitSpot 0 0 (Limit limit) ∷ AskedSpot 0 0 (Limit limit) ∷ VisitSpo
     ∷ VisitSpot 4 0 (Limit limit) ∷ AskedSpot 4 0 (Limit limit) ∷ VisitSpot 4 1 Enter ∷ AskedSpot 4 1 Enter ∷ Step 34 ∷ CloseSpot 5 0 35
     ∷ Branch 36 41 ∷ VisitSpot 6 0 (Limit limit) ∷ AskedSpot 6 0 (Limit limit) ∷ VisitSpot 6 1 Enter ∷ AskedSpot 6 1 Enter ∷ CallSpot 6 1 42 ∷ Step 42
     ∷ Branch 35 43 ∷ Step 44 ∷ Exit 1 ∷ []
+
+right : AreStates policy spots states Means
+right = record {
+  begins = (omega arith, refl);
+  within = λ q w c h. h.0;
+  grants = λ q w c a at h. ap (λ y. may_grant y a) (sym h.1);
+  granted = λ q w c a at h may. granted_is q c a at h.0 h.1 may;
+  opened = λ q w c d at one h. let k = opened_is q d one h.0 in (k.0, ap (λ y. with_opened y d (slice_get policy.descriptors d)) h.1 ∙ k.1);
+  closed = λ q w c d at one h. let k = closed_is q d one h.0 in (k.0, ap (λ y. closed y d) h.1 ∙ k.1);
+  bad = λ q w c l at h. (λ e. cc, λ b. absurd (none-some b.1.1 b.1.2));
+  lettered = λ q w c l at h fine. h;
+  returned = λ x q w v c k h h2. h2;
+}
 
 abbrev entries : ℕ → ℕ
 entries zero = 0
