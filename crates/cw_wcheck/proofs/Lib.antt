@@ -2,4 +2,5 @@ pub mod Kept
 pub mod Runs
 pub mod Sounds
 pub mod Beaten
+pub mod Tries
 mod Example
