@@ -5,6 +5,7 @@
 mod decimal;
 mod hexadecimal;
 mod ids;
+mod laws;
 mod memory;
 mod quantity;
 mod state_set;
@@ -12,6 +13,7 @@ mod state_set;
 pub use decimal::{put_dec, read_dec};
 pub use hexadecimal::{put_hex, read_hex};
 pub use ids::{MemId, PointId, PosId, SeamId, StateId};
+pub use laws::{decimal_is_read_back, set_is_read_back};
 pub use memory::NoMemory;
 pub use quantity::Quantity;
 pub use state_set::StateSet;
