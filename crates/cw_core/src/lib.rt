@@ -9,6 +9,8 @@ mod laws;
 mod memory;
 mod quantity;
 mod state_set;
+#[cfg(test)]
+mod tests;
 
 pub use decimal::{put_dec, read_dec};
 pub use hexadecimal::{put_hex, read_hex};

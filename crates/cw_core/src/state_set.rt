@@ -4,11 +4,13 @@ ghost use Rattle.std.specs.Prelude.{◌≡◌, ℕ, ◌+◌, ◌-◌, ◌*◌, �
 ghost use Rattle.cw_core.specs.StateSet.{has, IsSubset, IsBelow, sum_of_powers};
 ghost use Rattle.std.proofs.Common.{rules};
 ghost use Rattle.std.specs.Cmp.{partial_order_from_own_ties};
-ghost use Rattle.std.specs.Cmp.Rules.{comparing};
+ghost use Rattle.std.specs.Cmp.Rules.{comparing, hashing};
+ghost use Rattle.std.specs.Hash as fed;
 ghost use Rattle.std.specs.Ordering.{nat_cmp, as_partial_cmp};
 
 use crate::ids::StateId;
 use std::cmp::Ordering;
+use std::hash::{Hash, Hasher};
 use std::marker::Model;
 
 /// A set of numbers below 512. A contract sees it as a number, the sum of 2 to the power s over its
@@ -46,6 +48,18 @@ impl PartialEq for StateSet {
 
 impl Eq for StateSet {
     ghost laws = { Prim.search (comparing, rules) };
+}
+
+impl Hash for StateSet {
+    ghost use Rattle.cw_core.specs.Words.{words_of};
+
+    ghost hash_input = { λ a. fed.slice fed.u64 (words_of 8 a) };
+
+    ghost respects_eq = { Prim.search (hashing, rules) };
+
+    fn hash<H: Hasher>(&self, state: &mut H) {
+        self.words.hash(state);
+    }
 }
 
 impl Ord for StateSet {
