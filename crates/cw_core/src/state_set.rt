@@ -1,6 +1,6 @@
 //! Sets of states.
 
-ghost use Rattle.std.specs.Prelude.{◌≡◌, ℕ, ◌+◌, ◌-◌, ◌*◌, ◌/◌, ◌%◌, ◌^◌, ◌<◌, ◌≤◌, ◌↔◌, ◌==◌, ◌||◌, ◌&&◌, not, nat_lt, min, bit_and, slice_index, IsTrue};
+ghost use Rattle.std.specs.Prelude.{◌≡◌, ℕ, ◌+◌, ◌-◌, ◌*◌, ◌/◌, ◌%◌, ◌^◌, ◌<◌, ◌≤◌, ◌↔◌, ◌==◌, ◌||◌, ◌&&◌, false, not, nat_lt, min, bit_and, slice_index, IsTrue};
 ghost use Rattle.cw_core.specs.StateSet.{has, IsSubset, IsBelow, sum_of_powers};
 ghost use Rattle.std.proofs.Common.{rules};
 ghost use Rattle.std.specs.Cmp.{partial_order_from_own_ties};
@@ -94,7 +94,8 @@ impl PartialOrd for StateSet {
 impl StateSet {
     /// The empty set.
     pub fn empty() -> StateSet
-        ensures { result ≡ 0 }
+        ensures zero { result ≡ 0 }
+        ensures members { (i : ℕ) → has result i ≡ false }
     {
         StateSet { words: [0; 8] }
     }
