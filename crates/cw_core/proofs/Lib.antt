@@ -4,6 +4,7 @@ pub mod Glyphs
 pub mod Hexadecimals
 pub mod Nibbles
 pub mod Sets
+pub mod Spellings
 pub mod Subset
 pub mod Texts
 pub mod Words

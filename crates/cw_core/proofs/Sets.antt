@@ -1,11 +1,12 @@
 -- Laws of sets of numbers, for whoever uses them.
-use Rattle.std.proofs.Common.{◌≡◌, ℕ, zero, suc, ◌/◌, ◌^◌, ◌<◌, false, eqb, refl, sym, ap, ◌∙◌, arith, inl, inr}
+use Rattle.std.proofs.Common.{◌≡◌, ℕ, zero, suc, ◌+◌, ◌*◌, ◌/◌, ◌%◌, ◌^◌, ◌<◌, false, cond, eqb, refl, sym, ap, ◌∙◌, arith, inl, inr}
 use Rattle.std.specs.Int.{bit_at}
 use Rattle.std.proofs.lemmas.Bool.{cases_lt, eqb-true, false≢true}
 use Rattle.std.proofs.lemmas.Nat.Bits.{bit_at-zero, bit_at-suc, bit_at-lt, bit_at_above, same_from_bits}
-use Rattle.std.proofs.Math.Nat.{div-eq_of_lt}
+use Rattle.std.proofs.Math.Nat.{div-eq_of_lt, mod-eq_of_lt, add_comm}
+use Rattle.std.proofs.lemmas.Nat.{mod-pow-add}
 use Rattle.std.specs.Cmp.{both_ways}
-use Rattle.cw_core.specs.StateSet.{has, IsSubset, IsBelow}
+use Rattle.cw_core.specs.StateSet.{has, IsSubset, IsBelow, sum_of_powers}
 
 -- the empty set has no member
 pub has-zero : (s : ℕ) → has 0 s ≡ false
@@ -60,3 +61,27 @@ IsBelow_from_lt n set lt s h =
 
 pub IsBelow-shr : (n set : ℕ) → IsBelow n set → set / 2 ^ n ≡ 0
 IsBelow-shr n set h = let lt = IsBelow-lt n set h in div-eq_of_lt lt
+
+power_of_member : (set n : ℕ) → cond (has set n) (2 ^ n) 0 ≡ set / 2 ^ n % 2 ^ 1 * 2 ^ n
+unfolding has
+power_of_member set n = by_bit (bit_at set n) (bit_at-lt set n)
+  where
+    by_bit : (bit : ℕ) → bit < 2 → cond (eqb bit 1) (2 ^ n) 0 ≡ bit * 2 ^ n
+    by_bit zero lt = omega arith
+    by_bit (suc zero) lt = omega arith
+    by_bit (suc (suc bit)) lt = absurd (omega (arith, lt))
+
+-- a number is the sum of the powers of its members
+sum_of_powers-mod : (n set : ℕ) → sum_of_powers n set ≡ set % 2 ^ n
+unfolding sum_of_powers
+sum_of_powers-mod zero set = omega arith
+sum_of_powers-mod (suc n) set =
+    let e : 1 + n ≡ suc n = omega arith in
+    ap (λ (z : ℕ). z + cond (has set n) (2 ^ n) 0) (sum_of_powers-mod n set)
+    ∙ ap (λ (z : ℕ). set % 2 ^ n + z) (power_of_member set n)
+    ∙ add_comm (set % 2 ^ n) (set / 2 ^ n % 2 ^ 1 * 2 ^ n)
+    ∙ sym (mod-pow-add set 1 n)
+    ∙ ap (λ (k : ℕ). set % 2 ^ k) e
+
+pub sum_of_powers-same : (n set : ℕ) → IsBelow n set → sum_of_powers n set ≡ set
+sum_of_powers-same n set below = sum_of_powers-mod n set ∙ mod-eq_of_lt (IsBelow-lt n set below)

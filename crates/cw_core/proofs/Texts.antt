@@ -40,7 +40,11 @@ set_at text at set run mark is e small = record {
   spelled = rw (mark, e, is) refl;
 }
 
-length-hexadecimal : (set : ℕ) → length (hexadecimal set) ≡ 2 + length (hexadecimal_digits set)
+pub hexadecimal-parts : (n : ℕ) → hexadecimal n ≡ codes "0x" ++ hexadecimal_digits n
+unfolding hexadecimal
+hexadecimal-parts n = refl
+
+pub length-hexadecimal : (set : ℕ) → length (hexadecimal set) ≡ 2 + length (hexadecimal_digits set)
 unfolding hexadecimal
 length-hexadecimal set = omega arith
 

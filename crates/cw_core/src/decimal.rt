@@ -25,6 +25,7 @@ pub fn read_dec(text: &[u8], at: usize) -> Option<(u64, usize)>
     requires { at ≤ length text.now }
     ensures some { IfSome result (λ (number, end). IsDecimalAt text.now at number × (end ≡ at + length (decimal number))) }
     ensures found { (number : ℕ) → IsDecimalAt text.now at number → result ≡ Some (number, at + length (decimal number)) }
+    ensures within { IfSome result (λ (number, end). (at < end) × (end ≤ length text.now)) }
     ensures none { IsNone result ↔ ((number : ℕ) → ¬ (IsDecimalAt text.now at number)) }
 {
     let digits = leading_digits(text_from(text, at));

@@ -30,6 +30,7 @@ pub fn read_hex(text: &[u8], at: usize) -> Option<(StateSet, usize)>
     requires { at ≤ length text.now }
     ensures some { IfSome result (λ (set, end). IsSetAt text.now at set × (end ≡ at + length (hexadecimal set))) }
     ensures found { (set : ℕ) → IsSetAt text.now at set → result ≡ Some (set, at + length (hexadecimal set)) }
+    ensures within { IfSome result (λ (set, end). (at < end) × (end ≤ length text.now)) }
     ensures none { IsNone result ↔ ((set : ℕ) → ¬ (IsSetAt text.now at set)) }
 {
     let digits = digits_at(text, at)?;
@@ -45,7 +46,7 @@ fn spelling_of(alloc: Global, set: &StateSet) -> Result<Vec<u8>, AllocError>
     let mut text = Vec::new(alloc);
     text.push(b'0')?;
     text.push(b'x')?;
-    set.is_below_512();
+    set.members_are_below_512();
     let mut some = false;
     let mut place: usize = 128;
     'nibbles: while place > 0 {
@@ -136,7 +137,7 @@ fn set_of(digits: &[u8]) -> Option<StateSet>
         return None;
     }
     let set = sum_of(digits);
-    set.is_below_512();
+    set.members_are_below_512();
     Some(set)
 }
 

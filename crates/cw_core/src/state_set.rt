@@ -1,14 +1,16 @@
 //! Sets of states.
 
-ghost use Rattle.std.specs.Prelude.{◌≡◌, ℕ, ◌+◌, ◌-◌, ◌*◌, ◌/◌, ◌%◌, ◌^◌, ◌<◌, ◌≤◌, ◌↔◌, ◌==◌, ◌||◌, ◌&&◌, not, nat_lt, min, bit_and, slice_index, IsTrue};
-ghost use Rattle.cw_core.specs.StateSet.{has, IsSubset, IsBelow};
+ghost use Rattle.std.specs.Prelude.{◌≡◌, ℕ, ◌+◌, ◌-◌, ◌*◌, ◌/◌, ◌%◌, ◌^◌, ◌<◌, ◌≤◌, ◌↔◌, ◌==◌, ◌||◌, ◌&&◌, false, not, nat_lt, min, bit_and, slice_index, IsTrue};
+ghost use Rattle.cw_core.specs.StateSet.{has, IsSubset, IsBelow, sum_of_powers};
 ghost use Rattle.std.proofs.Common.{rules};
 ghost use Rattle.std.specs.Cmp.{partial_order_from_own_ties};
-ghost use Rattle.std.specs.Cmp.Rules.{comparing};
+ghost use Rattle.std.specs.Cmp.Rules.{comparing, hashing};
+ghost use Rattle.std.specs.Hash as fed;
 ghost use Rattle.std.specs.Ordering.{nat_cmp, as_partial_cmp};
 
 use crate::ids::StateId;
 use std::cmp::Ordering;
+use std::hash::{Hash, Hasher};
 use std::marker::Model;
 
 /// A set of numbers below 512. A contract sees it as a number, the sum of 2 to the power s over its
@@ -48,6 +50,18 @@ impl Eq for StateSet {
     ghost laws = { Prim.search (comparing, rules) };
 }
 
+impl Hash for StateSet {
+    ghost use Rattle.cw_core.specs.Words.{words_of};
+
+    ghost hash_input = { λ a. fed.slice fed.u64 (words_of 8 a) };
+
+    ghost respects_eq = { Prim.search (hashing, rules) };
+
+    fn hash<H: Hasher>(&self, state: &mut H) {
+        self.words.hash(state);
+    }
+}
+
 impl Ord for StateSet {
     ghost cmp = { nat_cmp };
 
@@ -80,7 +94,8 @@ impl PartialOrd for StateSet {
 impl StateSet {
     /// The empty set.
     pub fn empty() -> StateSet
-        ensures { result ≡ 0 }
+        ensures zero { result ≡ 0 }
+        ensures members { (i : ℕ) → has result i ≡ false }
     {
         StateSet { words: [0; 8] }
     }
@@ -150,12 +165,24 @@ impl StateSet {
         self.words[place / 16] |= u64::from(digit) << (4 * (place % 16));
     }
 
-    /// A law: a set has numbers below 512 alone.
-    pub fn is_below_512(&self)
+    /// A law: the members are below 512.
+    pub fn members_are_below_512(&self)
         ensures { IsBelow 512 self.now }
     {
         let _ = &self.words;
     }
+
+    /// A law: the number that a contract sees is the sum of 2 to the power s over the members s.
+    pub fn number_is_sum(&self)
+        ensures { self.now ≡ sum_of_powers 512 self.now }
+    {
+        self.members_are_below_512();
+    }
+
+    /// A law: sets with the same members are the same number, and the other way round.
+    pub fn same_members(&self, other: &StateSet)
+        ensures { ((s : ℕ) → has self.now s ≡ has other.now s) ↔ (self.now ≡ other.now) }
+    {}
 }
 
 /// Whether every bit of the words a is one of the words b.

@@ -1,7 +1,12 @@
 use Rattle.std.proofs.Common.{refl}
 use Rattle.cw_core.specs.Words.{number_of}
+use Rattle.cw_core.proofs.Sets.{has-zero}
 use Rattle.cw_core.proofs.state_set.StateSet.empty.Goals as goal
 
-pub returns : goal.returns
+pub returns-clause-zero : goal.returns-clause-zero
 unfolding number_of
-returns c = refl
+returns-clause-zero c = refl
+
+pub returns-clause-members : goal.returns-clause-members
+unfolding number_of
+returns-clause-members c = has-zero

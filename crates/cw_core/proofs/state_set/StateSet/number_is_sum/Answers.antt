@@ -1,0 +1,6 @@
+use Rattle.std.proofs.Common.{sym}
+use Rattle.cw_core.proofs.Sets.{sum_of_powers-same}
+use Rattle.cw_core.proofs.state_set.StateSet.number_is_sum.Goals as goal
+
+pub returns : goal.returns
+returns c = sym (sum_of_powers-same 512 c.args.self.now c.members_are_below_512.ensures)

@@ -1,0 +1,161 @@
+//! What no clause says: the texts themselves, and that a call succeeds.
+
+use crate::decimal::{put_dec, read_dec};
+use crate::hexadecimal::{put_hex, read_hex};
+use crate::ids::StateId;
+use crate::laws::{decimal_is_read_back, set_is_read_back};
+use crate::memory::NoMemory;
+use crate::quantity::Quantity;
+use crate::state_set::StateSet;
+use std::alloc::{AllocError, Global};
+use std::cmp::Ordering;
+use std::test::Fail;
+
+/// `0x`, a first digit and so many times a further one.
+fn spelling(alloc: Global, first: u8, further: u8, count: usize) -> Result<Vec<u8>, AllocError> {
+    let mut text = b"0x".to_vec(alloc)?;
+    text.push(first)?;
+    for _ in 0..count {
+        text.push(further)?;
+    }
+    Ok(text)
+}
+
+#[test]
+fn numbers_are_written_and_read_back(rt: HostRuntime) -> Result<(), Fail> {
+    for (number, want) in [
+        (0, "0"),
+        (7, "7"),
+        (10, "10"),
+        (u64::MAX, "18446744073709551615"),
+    ] {
+        let mut text = Vec::new(rt.alloc());
+        put_dec(number, &mut text)?;
+        assert_eq!(rt; text.as_slice(), want.as_bytes(), "at {want}");
+        assert_eq!(rt; read_dec(&text, 0), Some((number, text.len())), "at {want}");
+        decimal_is_read_back(number, b"a", b",");
+    }
+    Ok(())
+}
+
+#[test]
+fn numbers_are_read_exactly(rt: HostRuntime) {
+    for (text, at, want) in [
+        ("007", 0, None),
+        ("007", 2, Some((7, 3))),
+        ("00", 0, None),
+        ("0,", 0, Some((0, 1))),
+        ("a12,3", 1, Some((12, 3))),
+        ("a12,3", 0, None),
+        ("+1", 0, None),
+        ("12", 2, None),
+        ("", 0, None),
+        ("18446744073709551616", 0, None),
+        ("99999999999999999999", 0, None),
+        ("100000000000000000000", 0, None),
+    ] {
+        assert!(rt; at <= text.len());
+        assert_eq!(rt; read_dec(text.as_bytes(), at), want, "at {text}");
+    }
+}
+
+#[test]
+fn sets_are_written_and_read_back(rt: HostRuntime) -> Result<(), Fail> {
+    let none = StateSet::empty();
+    let mut last = StateSet::empty();
+    last.insert(StateId(511));
+    for (set, want) in [
+        (none, spelling(rt.alloc(), b'0', b'0', 0)?),
+        (none.complement_in(4), spelling(rt.alloc(), b'f', b'0', 0)?),
+        (
+            none.complement_in(4).complement_in(5),
+            spelling(rt.alloc(), b'1', b'0', 1)?,
+        ),
+        (
+            none.complement_in(64).complement_in(65),
+            spelling(rt.alloc(), b'1', b'0', 16)?,
+        ),
+        (
+            none.complement_in(510).complement_in(511),
+            spelling(rt.alloc(), b'4', b'0', 127)?,
+        ),
+        (last, spelling(rt.alloc(), b'8', b'0', 127)?),
+        (
+            none.complement_in(512),
+            spelling(rt.alloc(), b'f', b'f', 127)?,
+        ),
+    ] {
+        let mut text = Vec::new(rt.alloc());
+        put_hex(&set, &mut text)?;
+        assert_eq!(rt; text.as_slice(), want.as_slice());
+        assert!(rt; read_hex(&text, 0) == Some((set, text.len())));
+        set_is_read_back(&set, b"a", b",");
+    }
+    Ok(())
+}
+
+#[test]
+fn sets_are_read_exactly(rt: HostRuntime) -> Result<(), Fail> {
+    let none = StateSet::empty();
+    for (text, at, want) in [
+        ("0x0f", 0, None),
+        ("0x00", 0, None),
+        ("0x0)", 0, Some((none, 3))),
+        ("0xf", 0, Some((none.complement_in(4), 3))),
+        ("a0x1F", 1, Some((none.complement_in(1), 4))),
+        ("a0x1F", 0, None),
+        ("0xF", 0, None),
+        ("0X1", 0, None),
+        ("0x", 0, None),
+        ("0xg", 0, None),
+        ("0", 0, None),
+        ("", 0, None),
+    ] {
+        assert!(rt; at <= text.len());
+        assert!(rt; read_hex(text.as_bytes(), at) == want, "at {text}");
+    }
+    for text in [
+        spelling(rt.alloc(), b'1', b'0', 128)?,
+        spelling(rt.alloc(), b'0', b'f', 127)?,
+    ] {
+        assert!(rt; read_hex(&text, 0) == None);
+    }
+    Ok(())
+}
+
+#[test]
+fn sets_are_sets(rt: HostRuntime) -> Result<(), Fail> {
+    let mut set = StateSet::empty();
+    for number in [0, 63, 64, 511] {
+        assert!(rt; !set.contains(StateId(number)));
+        set.insert(StateId(number));
+        assert!(rt; set.contains(StateId(number)));
+    }
+    let before = set;
+    set.remove(StateId(63));
+    assert!(rt;
+        !set.contains(StateId(63)) && set.contains(StateId(64)) && set.contains(StateId(511))
+    );
+    assert!(rt; set.is_subset(&before) && !before.is_subset(&set));
+    assert!(rt; set != before && set.cmp(&before) == Ordering::Less);
+    let rest = set.complement_in(512);
+    assert!(rt; rest.contains(StateId(63)) && !rest.contains(StateId(64)));
+    assert!(rt; rest.complement_in(512) == set);
+    set.members_are_below_512();
+    set.number_is_sum();
+    set.same_members(&rest.complement_in(512));
+    Ok(())
+}
+
+#[test]
+fn names_are_printed(rt: HostRuntime) -> Result<(), Fail> {
+    assert_eq!(rt; Quantity::PolicyBytes.name(), "policy bytes");
+    assert_eq!(rt; Quantity::RulePositions.name(), "rule positions");
+    assert_eq!(rt;
+        Quantity::PositionsTimesStates.name(),
+        "positions times states"
+    );
+    let refused = NoMemory::from(AllocError);
+    assert_eq!(rt; refused.to_string(rt.alloc())?.as_str(), "out of memory");
+    Ok(())
+}
