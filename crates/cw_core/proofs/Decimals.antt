@@ -1,15 +1,15 @@
 -- Decimals and the digits that they have.
-use Rattle.std.proofs.Common.{◌≡◌, ◌≢◌, ℕ, zero, suc, ◌+◌, ◌*◌, ◌^◌, ◌<◌, ◌≤◌, Bool, true, false, cond, eqb, leb, ◌&&◌, List, [], ◌∷◌, length, get_or, take, drop, map, refl, sym, ap, ◌∙◌, arith}
+use Rattle.std.proofs.Common.{◌≡◌, ◌≢◌, ℕ, zero, suc, ◌+◌, ◌*◌, ◌^◌, ◌<◌, ◌≤◌, Bool, true, false, cond, eqb, List, [], ◌∷◌, length, get_or, take, drop, map, refl, sym, ap, ◌∙◌, arith}
 use Rattle.std.specs.Char.{digit_value, is_ascii_digit}
 use Rattle.std.specs.Fmt.{decimal}
 use Rattle.std.specs.Int.Digits.{number_from_digits, number_from_digits_after}
 use Rattle.std.specs.List.{take_while}
 use Rattle.std.specs.Str.Parse.{AllDigits, digits_value}
-use Rattle.std.proofs.lemmas.Bool.{leb-true}
 use Rattle.std.proofs.lemmas.Str.{digit_value_digit}
 use Rattle.std.specs.Prelude.{Option, Some, None, IfSome, IfNone}
 use Rattle.std.proofs.lemmas.Fmt.{decimal_nonempty, first_decimal, decimal_digit, decimal-digits_value, digits_value-decimal, decimal_injective}
 use Rattle.cw_core.specs.Numerals.{IsDecimalAt}
+use Rattle.cw_core.proofs.Glyphs.{bounds}
 use Rattle.std.proofs.lemmas.Int.Digits.{number_after_append, number_after_ge, digits_value_is, digits_value_more}
 use Rattle.std.proofs.lemmas.List.{take-append-drop, map-append}
 use Rattle.std.proofs.lemmas.List.Sums.{take_while-cons}
@@ -52,17 +52,11 @@ AllDigits-at base [] i all lt = absurd (omega (arith, lt))
 AllDigits-at base (d ∷ ds) zero all lt = all.0
 AllDigits-at base (d ∷ ds) (suc i) all lt = AllDigits-at base ds i all.1 (omega (arith, lt))
 
-both_from_and : (s t : Bool) → (s && t) ≡ true → (s ≡ true) × (t ≡ true)
-both_from_and true true e = (refl, refl)
-both_from_and true false e = absurd (cc)
-both_from_and false t e = absurd (cc)
-
 digit_from_test : (b : ℕ) → is_ascii_digit b ≡ true → digit_value b < 10
 digit_from_test b e =
-    let low = leb-true 48 b (both_from_and (leb 48 b) (leb b 57) e).0 in
-    let high = leb-true b 57 (both_from_and (leb 48 b) (leb b 57) e).1 in
-    let p = digit_value_digit b (low, high) in
-    omega (arith, p, high)
+    let within = bounds 48 57 b e in
+    let p = digit_value_digit b within in
+    omega (arith, p, within.1)
 
 -- the run of digits at the front has digits alone
 pub AllDigits-take_while : (bs : List ℕ) → AllDigits 10 (take_while is_ascii_digit bs)

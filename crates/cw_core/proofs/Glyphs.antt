@@ -12,7 +12,8 @@ both_from_and true true e = (refl, refl)
 both_from_and true false e = absurd (cc)
 both_from_and false t e = absurd (cc)
 
-bounds : (lo hi b : ℕ) → is_in_range lo hi b ≡ true → (lo ≤ b) × (b ≤ hi)
+-- the test of a range, and the range
+pub bounds : (lo hi b : ℕ) → is_in_range lo hi b ≡ true → (lo ≤ b) × (b ≤ hi)
 bounds lo hi b e = let p = both_from_and (leb lo b) (leb b hi) e in (leb-true lo b p.0, leb-true b hi p.1)
 
 -- what a digit's byte is: '0' to '9', or 'a' to 'f'

@@ -1,10 +1,10 @@
-pub mod Bits
-pub mod Decimals
-pub mod Glyphs
-pub mod Hexadecimals
-pub mod Nibbles
+mod Bits
+mod Decimals
+mod Glyphs
+mod Hexadecimals
+mod Nibbles
 pub mod Sets
 pub mod Spellings
-pub mod Subset
-pub mod Texts
-pub mod Words
+mod Subset
+mod Texts
+mod Words

@@ -15,7 +15,8 @@ is_hexadecimal_digit byte = is_ascii_digit byte || is_in_range 97 102 byte
 unfoldable pub hexadecimal_digits : ℕ → List ℕ
 hexadecimal_digits number = if number == 0 then codes "0" else map digit_char (digits_of 16 number)
 
--- `0x` and the shortest lower-case hexadecimal of a number, as a set is spelled
+-- `0x` and the shortest lower-case hexadecimal of a number: how a set is spelled, in the form of C's
+-- hexadecimal constants (ISO/IEC 9899:2011, 6.4.4.1)
 unfoldable pub hexadecimal : ℕ → List ℕ
 hexadecimal number = codes "0x" ++ hexadecimal_digits number
 

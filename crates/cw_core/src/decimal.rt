@@ -22,9 +22,11 @@ pub fn put_dec(n: u64, text: &mut Vec<u8>) -> Result<(), NoMemory>
 /// The number whose decimal is the longest run of digits at a place, and the index after it. There is
 /// none where that run is empty, begins with a needless zero or is of a number of 2 to the power 64 or more.
 pub fn read_dec(text: &[u8], at: usize) -> Option<(u64, usize)>
-    requires { at ≤ length text.now }
-    ensures some { IfSome result (λ (number, end). IsDecimalAt text.now at number × (end ≡ at + length (decimal number))) }
-    ensures found { (number : ℕ) → IsDecimalAt text.now at number → result ≡ Some (number, at + length (decimal number)) }
+    requires in_range { at ≤ length text.now }
+    ensures some { IfSome result (λ (number, end).
+        IsDecimalAt text.now at number × (end ≡ at + length (decimal number))) }
+    ensures found { (number : ℕ) → IsDecimalAt text.now at number
+        → result ≡ Some (number, at + length (decimal number)) }
     ensures within { IfSome result (λ (number, end). (at < end) × (end ≤ length text.now)) }
     ensures none { IsNone result ↔ ((number : ℕ) → ¬ (IsDecimalAt text.now at number)) }
 {
@@ -35,7 +37,7 @@ pub fn read_dec(text: &[u8], at: usize) -> Option<(u64, usize)>
 
 /// The text from an index on.
 pub(crate) fn text_from(text: &[u8], at: usize) -> &[u8]
-    requires { at ≤ length text.now }
+    requires in_range { at ≤ length text.now }
     ensures rest { result.now ≡ drop at text.now }
     ensures length { at + length result.now ≡ length text.now }
 {
@@ -62,7 +64,7 @@ fn digit_count(text: &[u8]) -> usize
 
 /// The number below 2 to the power 64 of which these digits are the decimal.
 fn decimal_value(digits: &[u8]) -> Option<u64>
-    requires { AllDigits 10 digits.now }
+    requires digits { AllDigits 10 digits.now }
     ensures some { IfSome result (λ number. (decimal number ≡ digits.now) × (number < 2 ^ 64)) }
     ensures none { IfNone result ((number : ℕ) → number < 2 ^ 64 → decimal number ≢ digits.now) }
 {
@@ -77,7 +79,7 @@ fn decimal_value(digits: &[u8]) -> Option<u64>
 
 /// The value of digits, where 64 bits hold it.
 fn value_of(digits: &[u8]) -> Option<u64>
-    requires { AllDigits 10 digits.now }
+    requires digits { AllDigits 10 digits.now }
     ensures some { IfSome result (λ number. (number ≡ digits_value 10 digits.now) × (number < 2 ^ 64)) }
     ensures none { IfNone result (2 ^ 64 ≤ digits_value 10 digits.now) }
 {
@@ -90,7 +92,7 @@ fn value_of(digits: &[u8]) -> Option<u64>
 
 /// The number with one digit more at its end, where 64 bits hold it.
 fn with_digit(number: u64, digit: u8) -> Option<u64>
-    requires { digit_value digit < 10 }
+    requires digit { digit_value digit < 10 }
     ensures some { IfSome result (λ more. (more ≡ number * 10 + digit_value digit) × (more < 2 ^ 64)) }
     ensures none { IfNone result (2 ^ 64 ≤ number * 10 + digit_value digit) }
 {

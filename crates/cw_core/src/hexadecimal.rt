@@ -27,9 +27,11 @@ pub fn put_hex(set: &StateSet, text: &mut Vec<u8>) -> Result<(), NoMemory>
 /// and the index after the spelling. There is none where no `0x` stands there, and where that run is empty,
 /// begins with a needless zero or has a number of 512 or more.
 pub fn read_hex(text: &[u8], at: usize) -> Option<(StateSet, usize)>
-    requires { at ≤ length text.now }
-    ensures some { IfSome result (λ (set, end). IsSetAt text.now at set × (end ≡ at + length (hexadecimal set))) }
-    ensures found { (set : ℕ) → IsSetAt text.now at set → result ≡ Some (set, at + length (hexadecimal set)) }
+    requires in_range { at ≤ length text.now }
+    ensures some { IfSome result (λ (set, end).
+        IsSetAt text.now at set × (end ≡ at + length (hexadecimal set))) }
+    ensures found { (set : ℕ) → IsSetAt text.now at set
+        → result ≡ Some (set, at + length (hexadecimal set)) }
     ensures within { IfSome result (λ (set, end). (at < end) × (end ≤ length text.now)) }
     ensures none { IsNone result ↔ ((set : ℕ) → ¬ (IsSetAt text.now at set)) }
 {
@@ -41,7 +43,7 @@ pub fn read_hex(text: &[u8], at: usize) -> Option<(StateSet, usize)>
 /// The spelling of a set.
 #[tactic(auto, unfolding(crate::specs::Numerals::hexadecimal, crate::specs::Numerals::hexadecimal_digits))]
 fn spelling_of(alloc: Global, set: &StateSet) -> Result<Vec<u8>, AllocError>
-    ensures { IfOk result (λ v. v.items ≡ hexadecimal set.now) }
+    ensures spelling { IfOk result (λ v. v.items ≡ hexadecimal set.now) }
 {
     let mut text = Vec::new(alloc);
     text.push(b'0')?;
@@ -62,9 +64,10 @@ fn spelling_of(alloc: Global, set: &StateSet) -> Result<Vec<u8>, AllocError>
 
 /// Appends a digit, but for a zero with none before it, and says whether there is one now.
 fn put_digit(text: &mut Vec<u8>, some: bool, digit: u8) -> Result<bool, AllocError>
-    requires { digit < 16 }
+    requires digit { digit < 16 }
     ensures answer { IfOk result (λ r. r ≡ (some || not (digit == 0))) }
-    ensures text { IfOk result (λ r. text.new.items ≡ (if r then text.old.items ++ digit_char digit ∷ [] else text.old.items)) }
+    ensures text { IfOk result (λ r.
+        text.new.items ≡ (if r then text.old.items ++ digit_char digit ∷ [] else text.old.items)) }
 {
     if !some && digit == 0 {
         return Ok(false);
@@ -80,8 +83,11 @@ fn put_digit(text: &mut Vec<u8>, some: bool, digit: u8) -> Result<bool, AllocErr
 
 /// The longest run of hexadecimal digits after `0x` at a place.
 fn digits_at(text: &[u8], at: usize) -> Option<&[u8]>
-    requires { at ≤ length text.now }
-    ensures some { IfSome result (λ digits. (take 2 (drop at text.now) ≡ codes "0x") × (digits.now ≡ take_while is_hexadecimal_digit (drop (at + 2) text.now)) × (at + 2 + length digits.now ≤ length text.now)) }
+    requires in_range { at ≤ length text.now }
+    ensures mark { IfSome result (λ _. take 2 (drop at text.now) ≡ codes "0x") }
+    ensures run { IfSome result (λ digits.
+        digits.now ≡ take_while is_hexadecimal_digit (drop (at + 2) text.now)) }
+    ensures within { IfSome result (λ digits. at + 2 + length digits.now ≤ length text.now) }
     ensures none { IfNone result (take 2 (drop at text.now) ≢ codes "0x") }
 {
     if !has_mark(text_from(text, at)) {
@@ -116,14 +122,14 @@ fn digit_count(text: &[u8]) -> usize
 
 /// Whether the byte is '0' to '9' or 'a' to 'f'.
 fn is_digit(byte: u8) -> bool
-    ensures { result ≡ is_hexadecimal_digit byte }
+    ensures digit { result ≡ is_hexadecimal_digit byte }
 {
     (byte >= b'0' && byte <= b'9') || (byte >= b'a' && byte <= b'f')
 }
 
 /// The set of which these digits are the shortest hexadecimal.
 fn set_of(digits: &[u8]) -> Option<StateSet>
-    requires { IsTrue (list_all is_hexadecimal_digit digits.now) }
+    requires digits { IsTrue (list_all is_hexadecimal_digit digits.now) }
     ensures some { IfSome result (λ set. (hexadecimal_digits set ≡ digits.now) × IsBelow 512 set) }
     ensures none { IfNone result ((set : ℕ) → IsBelow 512 set → hexadecimal_digits set ≢ digits.now) }
 {
@@ -145,7 +151,7 @@ fn set_of(digits: &[u8]) -> Option<StateSet>
 fn sum_of(digits: &[u8]) -> StateSet
     requires digits { IsTrue (list_all is_hexadecimal_digit digits.now) }
     requires few { length digits.now ≤ 128 }
-    ensures { result ≡ digits_value 16 digits.now }
+    ensures sum { result ≡ digits_value 16 digits.now }
 {
     let mut set = StateSet::empty();
     for place in 0..digits.len() {
@@ -157,7 +163,7 @@ fn sum_of(digits: &[u8]) -> StateSet
 
 /// The value of a digit.
 fn value_of(digit: u8) -> u8
-    requires { IsTrue (is_hexadecimal_digit digit) }
+    requires digit { IsTrue (is_hexadecimal_digit digit) }
     ensures value { result ≡ digit_value digit }
     ensures small { result < 16 }
 {

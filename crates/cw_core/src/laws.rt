@@ -10,14 +10,14 @@ use crate::state_set::StateSet;
 
 /// A number that was put stands in the text to be read, whatever is before it, where no digit follows.
 pub fn decimal_is_read_back(number: u64, before: &[u8], after: &[u8])
-    requires { take_while is_ascii_digit after.now ≡ [] }
-    ensures { IsDecimalAt (before.now ++ (decimal number ++ after.now)) (length before.now) number }
+    requires stops { take_while is_ascii_digit after.now ≡ [] }
+    ensures stands { IsDecimalAt (before.now ++ (decimal number ++ after.now)) (length before.now) number }
 {}
 
 /// A set that was put stands in the text to be read, whatever is before it, where no digit follows.
 pub fn set_is_read_back(set: &StateSet, before: &[u8], after: &[u8])
-    requires { take_while is_hexadecimal_digit after.now ≡ [] }
-    ensures { IsSetAt (before.now ++ (hexadecimal set.now ++ after.now)) (length before.now) set.now }
+    requires stops { take_while is_hexadecimal_digit after.now ≡ [] }
+    ensures stands { IsSetAt (before.now ++ (hexadecimal set.now ++ after.now)) (length before.now) set.now }
 {
     set.members_are_below_512();
 }

@@ -46,7 +46,7 @@ impl Quantity {
 
     /// The quantity's name, as a refusal prints it.
     pub fn name(&self) -> &'static str
-        ensures { result.now ≡ name_of self.now }
+        ensures name { result.now ≡ name_of self.now }
     {
         match self {
             Quantity::PolicyBytes => "policy bytes",

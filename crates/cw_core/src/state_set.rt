@@ -102,8 +102,8 @@ impl StateSet {
 
     /// Whether the set has a number.
     pub fn contains(&self, s: StateId) -> bool
-        requires { s.0 < 512 }
-        ensures { result ≡ has self.now s.0 }
+        requires in_range { s.0 < 512 }
+        ensures member { result ≡ has self.now s.0 }
     {
         let word = self.words[(s.0 / 64) as usize];
         (word >> (s.0 % 64)) & 1 == 1
@@ -111,8 +111,8 @@ impl StateSet {
 
     /// Adds a number; every other number stays in or out.
     pub fn insert(&mut self, s: StateId)
-        requires { s.0 < 512 }
-        ensures { (i : ℕ) → has self.new i ≡ (i == s.0 || has self.old i) }
+        requires in_range { s.0 < 512 }
+        ensures members { (i : ℕ) → has self.new i ≡ (i == s.0 || has self.old i) }
     {
         let at = (s.0 / 64) as usize;
         self.words[at] |= 1 << (s.0 % 64);
@@ -120,8 +120,8 @@ impl StateSet {
 
     /// Takes a number out; every other number stays in or out.
     pub fn remove(&mut self, s: StateId)
-        requires { s.0 < 512 }
-        ensures { (i : ℕ) → has self.new i ≡ (not (i == s.0) && has self.old i) }
+        requires in_range { s.0 < 512 }
+        ensures members { (i : ℕ) → has self.new i ≡ (not (i == s.0) && has self.old i) }
     {
         let at = (s.0 / 64) as usize;
         self.words[at] &= !(1 << (s.0 % 64));
@@ -129,15 +129,15 @@ impl StateSet {
 
     /// Whether the other set has every number of this one.
     pub fn is_subset(&self, other: &StateSet) -> bool
-        ensures { IsTrue result ↔ IsSubset self.now other.now }
+        ensures subset { IsTrue result ↔ IsSubset self.now other.now }
     {
         are_within(&self.words, &other.words)
     }
 
     /// The numbers below n that aren't in the set.
     pub fn complement_in(&self, n: u16) -> StateSet
-        requires { n ≤ 512 }
-        ensures { (i : ℕ) → has result i ≡ (nat_lt i n && not (has self.now i)) }
+        requires in_range { n ≤ 512 }
+        ensures members { (i : ℕ) → has result i ≡ (nat_lt i n && not (has self.now i)) }
     {
         let mut words = [0; 8];
         for i in 0..8 {
@@ -148,7 +148,7 @@ impl StateSet {
 
     /// The four bits from 4 times a place on.
     pub(crate) fn nibble(&self, place: usize) -> u8
-        requires { place < 128 }
+        requires in_range { place < 128 }
         ensures value { result ≡ self.now / 2 ^ (4 * place) % 2 ^ 4 }
         ensures small { result < 16 }
     {
@@ -157,38 +157,41 @@ impl StateSet {
 
     /// Puts four bits from 4 times a place on, above all that the set has.
     pub(crate) fn add_nibble(&mut self, place: usize, digit: u8)
-        requires place { place < 128 }
+        requires in_range { place < 128 }
         requires digit { digit < 16 }
         requires above { self.old < 2 ^ (4 * place) }
-        ensures { self.new ≡ self.old + digit * 2 ^ (4 * place) }
+        ensures sum { self.new ≡ self.old + digit * 2 ^ (4 * place) }
     {
         self.words[place / 16] |= u64::from(digit) << (4 * (place % 16));
     }
 
     /// A law: the members are below 512.
     pub fn members_are_below_512(&self)
-        ensures { IsBelow 512 self.now }
+        ensures below { IsBelow 512 self.now }
     {
         let _ = &self.words;
     }
 
     /// A law: the number that a contract sees is the sum of 2 to the power s over the members s.
     pub fn number_is_sum(&self)
-        ensures { self.now ≡ sum_of_powers 512 self.now }
+        ensures sum { self.now ≡ sum_of_powers 512 self.now }
     {
         self.members_are_below_512();
     }
 
     /// A law: sets with the same members are the same number, and the other way round.
     pub fn same_members(&self, other: &StateSet)
-        ensures { ((s : ℕ) → has self.now s ≡ has other.now s) ↔ (self.now ≡ other.now) }
+        ensures same { ((s : ℕ) → has self.now s ≡ has other.now s) ↔ (self.now ≡ other.now) }
     {}
 }
 
 /// Whether every bit of the words a is one of the words b.
 fn are_within(a: &[u64; 8], b: &[u64; 8]) -> bool
-    ensures yes { IsTrue result → (k : ℕ) → k < 8 → bit_and (slice_index a.now k) (slice_index b.now k) ≡ slice_index a.now k }
-    ensures all { ((k : ℕ) → k < 8 → bit_and (slice_index a.now k) (slice_index b.now k) ≡ slice_index a.now k) → IsTrue result }
+    ensures yes { IsTrue result → (k : ℕ) → k < 8
+        → bit_and (slice_index a.now k) (slice_index b.now k) ≡ slice_index a.now k }
+    ensures all { ((k : ℕ) → k < 8
+        → bit_and (slice_index a.now k) (slice_index b.now k) ≡ slice_index a.now k)
+        → IsTrue result }
 {
     for i in 0..8 {
         if a[i] & b[i] != a[i] {
@@ -200,7 +203,7 @@ fn are_within(a: &[u64; 8], b: &[u64; 8]) -> bool
 
 /// The word whose ones are the bits below a place: all 64 from place 64 on.
 fn ones_below(place: u16) -> u64
-    ensures { result ≡ 2 ^ min place 64 - 1 }
+    ensures ones { result ≡ 2 ^ min place 64 - 1 }
 {
     if place < 64 {
         (1 << place) - 1

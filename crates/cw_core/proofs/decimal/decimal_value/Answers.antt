@@ -11,7 +11,7 @@ returns-then-digits-gt1-clause-none c = λ number small. no_needless_zero c.args
 pub returns-clause-some : goal.returns-clause-some
 returns-clause-some c =
     let some = positive c.args.digits.now (sym c.if-is_empty.ensures) in
-    spells c.args.digits.now c.value_of.result c.requires some (λ zero. elim c.else-digits-eq48.either [ inl p ↦ omega (arith, p.1, some) | inr differs ↦ absurd (differs zero) ]) c.value_of.ensures.some
+    spells c.args.digits.now c.value_of.result c.requires.digits some (λ zero. elim c.else-digits-eq48.either [ inl p ↦ omega (arith, p.1, some) | inr differs ↦ absurd (differs zero) ]) c.value_of.ensures.some
 
 pub returns-clause-none : goal.returns-clause-none
 returns-clause-none c = spells_none c.args.digits.now c.value_of.result c.value_of.ensures.none

@@ -7,7 +7,7 @@ use Rattle.cw_core.proofs.Decimals.{AllDigits-take_while, same_decimal}
 use Rattle.cw_core.proofs.decimal.read_dec.Goals as goal
 
 pub decimal_value-requires : goal.decimal_value-requires
-decimal_value-requires c = rw c.leading_digits-digits.ensures.run (AllDigits-take_while c.text_from.result.now)
+decimal_value-requires c = record { digits = rw c.leading_digits-digits.ensures.run (AllDigits-take_while c.text_from.result.now) }
 
 pub returns-clause-found : goal.returns-clause-found
 returns-clause-found c = λ number h.

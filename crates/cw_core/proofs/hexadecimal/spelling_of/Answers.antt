@@ -19,4 +19,4 @@ nibbles-preserved c =
     }
 
 pub nibbles-init : goal.nibbles-init
-nibbles-init c = rw (IsBelow-shr 512 c.args.set.now c.members_are_below_512.ensures) (record { text = rw (c.in_ok-push-2.ensures.items, c.in_ok-push.ensures.items, c.new-text.ensures.items) refl; some = refl; small = omega arith })
+nibbles-init c = rw (IsBelow-shr 512 c.args.set.now c.members_are_below_512.ensures.below) (record { text = rw (c.in_ok-push-2.ensures.items, c.in_ok-push.ensures.items, c.new-text.ensures.items) refl; some = refl; small = omega arith })

@@ -7,5 +7,4 @@ pub invariant_of-self : goal.invariant_of-self
 invariant_of-self c = AreEightWords-set c.self.inside.words _ _ c.self.invariant (with_nibble-lt c.self.inside.words c.args.place c.from.result c.self.invariant.0)
 
 pub returns : goal.returns
-returns c =
-    rw (← c.from.ensures, ← c.self.view_is) (number_of-with_nibble c.self.inside.words c.args.place c.from.result (omega (arith, c.self.told, c.requires.place)) (omega (arith, c.from.ensures, c.requires.digit)) (rw c.self.view_is c.requires.above))
+returns c = record { sum = rw (← c.from.ensures, ← c.self.view_is) (number_of-with_nibble c.self.inside.words c.args.place c.from.result (omega (arith, c.self.told, c.requires.in_range)) (omega (arith, c.from.ensures, c.requires.digit)) (rw c.self.view_is c.requires.above)) }

@@ -7,4 +7,4 @@ pub invariant_of-self : goal.invariant_of-self
 invariant_of-self c = AreEightWords-set c.self.inside.words _ _ c.self.invariant (without_bit-lt c.self.inside.words c.args.s.0 c.self.invariant.0)
 
 pub returns : goal.returns
-returns c = λ i. rw (← c.self.view_is) (has-remove c.self.inside.words c.args.s.0 c.self.invariant.0 (omega (arith, c.self.told)) i)
+returns c = record { members = λ i. rw (← c.self.view_is) (has-remove c.self.inside.words c.args.s.0 c.self.invariant.0 (omega (arith, c.self.told)) i) }

@@ -4,4 +4,4 @@ use Rattle.cw_core.proofs.Sets.{same_from_members}
 use Rattle.cw_core.proofs.state_set.StateSet.same_members.Goals as goal
 
 pub returns : goal.returns
-returns c = (same_from_members c.args.self.now c.args.other.now, λ e s. ap (λ (n : ℕ). has n s) e)
+returns c = record { same = (same_from_members c.args.self.now c.args.other.now, λ e s. ap (λ (n : ℕ). has n s) e) }
