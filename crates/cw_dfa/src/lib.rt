@@ -1,0 +1,6 @@
+//! The rules of a policy, judged by sets of positions: after a word, the set of literals that some way of reading
+//! the word through its rule reads last.
+#![tactic(auto)]
+
+pub mod matching;
+pub mod tables;
