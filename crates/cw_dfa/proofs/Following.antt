@@ -91,6 +91,7 @@ below_all set l = same_from_bits _ _ (λ i. below_bit 64 set i ∙ by i (nat_lt 
     by i false e = let le : 64 ≤ i = grind (arith, nat_tests) in sym (bit_at_above set 64 i l le)
 
 pub unite_same : (f g : ℕ → ℕ) (n set : ℕ) → ((p : ℕ) → p < n → f p ≡ g p) → unite f n set ≡ unite g n set
+unfolding unite
 unite_same f g zero set h = refl
 unite_same f g (suc n) set h = ap₂ bit_or (unite_same f g n set (λ p l. h p (omega arith))) (ap (λ x. cond (has set n) x 0) (h n (omega arith)))
 

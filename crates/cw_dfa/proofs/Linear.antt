@@ -1,5 +1,5 @@
 -- A union of sets is followed by the union of what follows each.
-use Rattle.std.proofs.Common.{◌≡◌, ◌⊎◌, inl, inr, ℕ, zero, suc, ◌+◌, ◌*◌, ◌<◌, ◌≤◌, ◌^◌, Bool, true, false, cond, ◌&&◌, ◌||◌, min, max, refl, sym, ap, ap₂, ◌∙◌, subst, arith, ⊎_elim, ◌≢◌, eqb-true, eq-eqb}
+use Rattle.std.proofs.Common.{◌≡◌, ◌⊎◌, inl, inr, ℕ, zero, suc, ◌+◌, ◌*◌, ◌<◌, ◌≤◌, ◌^◌, Bool, true, false, cond, ◌&&◌, ◌||◌, min, max, refl, sym, ap, ap₂, ◌∙◌, subst, arith, ⊎_elim, ◌≢◌, eqb-true, eq-eqb, add-one}
 use Rattle.std.specs.Int.{bit_at}
 use Rattle.std.specs.Int.RustNames.{bit_or, bit_and}
 use Rattle.std.proofs.lemmas.Nat.Bits.{bit_at_or, bit_at_and, and_pow, bit_at-lt, same_from_bits, bit_at-zero}
@@ -172,9 +172,18 @@ below zero set = 0
 below (suc n) set = bit_or (below n set) (cond (has set n) (2 ^ n) 0)
 
 pub goes_united : (r : Tree) (k n set : ℕ) → goes r k false (below n set) ≡ unite (λ p. goes r k false (2 ^ p)) n set
+unfolding unite
 goes_united r k zero set = goes_none r k
 goes_united r k (suc n) set = goes_or r k false false (below n set) (cond (has set n) (2 ^ n) 0) ∙ ap₂ bit_or (goes_united r k n set) (by (has set n))
   where
     by : (t : Bool) → goes r k false (cond t (2 ^ n) 0) ≡ cond t (goes r k false (2 ^ n)) 0
     by true = refl
     by false = goes_none r k
+
+pub unite_none : (f : ℕ → ℕ) (set : ℕ) → unite f 0 set ≡ 0
+unfolding unite
+unite_none f set = refl
+
+pub unite_more : (f : ℕ → ℕ) (n set : ℕ) → unite f (n + 1) set ≡ bit_or (unite f n set) (cond (has set n) (f n) 0)
+unfolding unite
+unite_more f n set = rw (add-one n) refl

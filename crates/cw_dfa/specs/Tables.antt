@@ -74,7 +74,7 @@ abbrev pub meets : ℕ → ℕ → Bool
 meets set mask = cond (nat_eq (bit_and set mask) 0) false true
 
 -- the union of what stands in a table at the members below n
-abbrev pub unite : (ℕ → ℕ) → ℕ → ℕ → ℕ
+unfoldable pub unite : (ℕ → ℕ) → ℕ → ℕ → ℕ
 unite f zero set = 0
 unite f (suc n) set = bit_or (unite f n set) (cond (has set n) (f n) 0)
 

@@ -3,4 +3,7 @@
 #![tactic(auto)]
 
 pub mod matching;
+pub mod rules;
 pub mod tables;
+
+pub use rules::{DfaFault, Rules, start, step, violated};

@@ -4,9 +4,11 @@ ghost use Rattle.std.specs.Prelude.{◌≡◌, ◌+◌, ◌<◌, ◌≤◌, ◌^
 ghost use Rattle.cw_rights.specs.Trees.{tree_of, seq_of, literal_of, count};
 ghost use Rattle.cw_rights.specs.Words.{fits};
 ghost use Rattle.cw_dfa.specs.Tables.{matching};
+ghost use Rattle.cw_dfa.specs.Positions.{bad_of};
+ghost use Rattle.cw_dfa.specs.Verdicts.{rules_of};
 
 use crate::tables::single;
-use cw_rights::words::{Letter, Lit, Regex, lit_matches};
+use cw_rights::{Letter, Lit, Regex, Rule, lit_matches};
 
 /// What is left of a budget after the literals of an expression, where they fit.
 #[cycle(spare)]
@@ -79,4 +81,31 @@ fn matching_row(parts: &[Regex], k: u32, c: &Letter) -> Marked
         set |= found.set;
     }
     Marked { next, set }
+}
+
+/// The literals of all rules, numbered from 1, that match a letter.
+pub fn matching_rules(rules: &[Rule], c: &Letter) -> u64
+    requires { count (bad_of (rules_of rules.now)) < 64 }
+    ensures { result ≡ matching (bad_of (rules_of rules.now)) 1 c.now }
+{
+    let mut next = 1;
+    let mut set = 0;
+    for rule in rules {
+        let found = matching(&rule.bad, next, c);
+        next = found.next;
+        set |= found.set;
+    }
+    set
+}
+
+/// What is left of a budget after the literals of all rules, where they fit.
+pub fn spare_rules(rules: &[Rule], budget: u32) -> Option<u32>
+    ensures some { IfSome result (λ left. left + count (bad_of (rules_of rules.now)) ≡ budget) }
+    ensures none { IfNone result (budget < count (bad_of (rules_of rules.now))) }
+{
+    let mut left = budget;
+    for rule in rules {
+        left = spare(&rule.bad, left)?;
+    }
+    Some(left)
 }

@@ -4,10 +4,12 @@ ghost use Rattle.std.specs.Prelude.{false, ◌≡◌, ◌+◌, ◌<◌, ◌≤�
 ghost use Rattle.std.specs.Int.RustNames.{bit_or};
 ghost use Rattle.cw_rights.specs.Trees.{tree_of, seq_of, alt_of, count};
 ghost use Rattle.cw_dfa.specs.Sets.{has};
-ghost use Rattle.cw_dfa.specs.Tables.{linked, Gains};
-ghost use Rattle.cw_dfa.specs.Parts.{IsPart};
+ghost use Rattle.cw_dfa.specs.Tables.{linked, Gains, unite, first_met};
+ghost use Rattle.cw_dfa.specs.Parts.{IsPart, IsTables};
+ghost use Rattle.cw_dfa.specs.Positions.{bad_of};
+ghost use Rattle.cw_dfa.specs.Verdicts.{rules_of};
 
-use cw_rights::words::Regex;
+use cw_rights::{Regex, Rule};
 
 /// Of an expression whose literals are numbered: the number after its last, whether it matches the empty word, and
 /// the literals that may stand first and last.
@@ -168,4 +170,60 @@ fn alternative_of(parts: &[Regex], k: u32, follow: &mut [u64]) -> Part
             alternative(p, q)
         }
     }
+}
+
+/// Of all rules, whose literals are numbered from 1, rule by rule and from left to right: the literals that may read
+/// a first letter, for each literal those that may read the letter after it, and for each rule its last ones.
+#[derive(Drop)]
+pub struct Tables {
+    pub first: u64,
+    pub follow: [u64; 64],
+    pub last: [u64; 32],
+}
+
+/// Makes the tables.
+pub fn make_tables(rules: &[Rule]) -> Tables
+    requires room { count (bad_of (rules_of rules.now)) < 64 }
+    requires few { length rules.now ≤ 32 }
+    ensures { IsTables (rules_of rules.now) result }
+{
+    let mut follow = [0; 64];
+    let mut last = [0; 32];
+    let mut first = 0;
+    let mut at = 1;
+    for (i, rule) in rules.iter().enumerate() {
+        let part = add_part(&rule.bad, at, &mut follow);
+        first |= part.first;
+        last[i] = part.last;
+        at = part.next;
+    }
+    Tables {
+        first,
+        follow,
+        last,
+    }
+}
+
+/// The literals that may read the letter after those of a set; where the set has 0, those that may read a first one, too.
+pub fn following(tables: &Tables, set: u64) -> u64
+    ensures { result ≡ bit_or (cond (has set 0) tables.now.first 0) (unite (slice_index tables.now.follow) 64 set) }
+{
+    let mut next = only_if(has(set, 0), tables.first);
+    for p in 0..64 {
+        next |= only_if(has(set, p as u32), tables.follow[p]);
+    }
+    next
+}
+
+/// The number of the first row that has a member of the set.
+pub fn first_met(last: &[u64], set: u64) -> Option<u8>
+    requires { length last.now ≤ 32 }
+    ensures { result ≡ first_met last.now 0 set }
+{
+    for (i, row) in last.iter().enumerate() {
+        if set & *row != 0 {
+            return Some(i as u8);
+        }
+    }
+    None
 }
