@@ -1,6 +1,6 @@
 -- One more number seen.
-use Rattle.std.proofs.Common.{◌≡◌, ◌⊎◌, inl, inr, ℕ, ◌+◌, List, [], ◌∷◌, ◌++◌, Bool, true, false, cond, length, refl, sym, ap, ◌∙◌, subst, arith, append-nil, append_assoc, length-append, ⊎_elim}
-use Rattle.std.specs.List.{Contains}
+use Rattle.std.proofs.Common.{◌≡◌, ◌⊎◌, inl, inr, ℕ, ◌+◌, List, [], ◌∷◌, ◌++◌, Bool, true, false, cond, length, refl, sym, ap, ◌∙◌, subst, arith, Option, Some, None, append-nil, append_assoc, length-append, ⊎_elim}
+use Rattle.std.specs.List.{Contains, filter_map}
 use Rattle.std.specs.declared.cmp.Ordering.{Ordering}
 use Rattle.std.specs.declared.cmp.Ordering.TheVariants.{Less, Equal, Greater}
 use Rattle.std.specs.Ordering.{nat_cmp, is_eq}
@@ -68,11 +68,18 @@ adds_none seen s k h e = record {
 pub adds_start : (seen : List ℕ) → Adds seen seen []
 adds_start seen = record { more = []; is = sym (append-nil seen); from = λ q c. absurd (contains_none q c); has = λ q c. absurd (contains_none q c) }
 
--- one key after others
-pub adds_more : (old mid new keys : List ℕ) (k : ℕ) → Adds old mid keys → Adds mid new (k ∷ []) → Adds old new (keys ++ k ∷ [])
-adds_more old mid new keys k a b = record {
+-- some keys after others
+pub adds_more : (old mid new keys more : List ℕ) → Adds old mid keys → Adds mid new more → Adds old new (keys ++ more)
+adds_more old mid new keys more a b = record {
   more = a.more ++ b.more;
   is = b.is ∙ ap (λ y. y ++ b.more) a.is ∙ append_assoc old a.more b.more;
-  from = λ q c. ⊎_elim (λ d. Contains-append_left keys (k ∷ []) q (a.from q d)) (λ d. Contains-append_right keys (k ∷ []) q (b.from q d)) (Contains-append_cases a.more b.more q c);
-  has = λ q c. ⊎_elim (λ d. subst (λ y. Contains y q) (sym b.is) (Contains-append_left mid b.more q (a.has q d))) (λ e. subst (Contains new) e (b.has k (contains_first k []))) (Contains-push_cases keys k q c);
+  from = λ q c. ⊎_elim (λ d. Contains-append_left keys more q (a.from q d)) (λ d. Contains-append_right keys more q (b.from q d)) (Contains-append_cases a.more b.more q c);
+  has = λ q c. ⊎_elim (λ d. subst (λ y. Contains y q) (sym b.is) (Contains-append_left mid b.more q (a.has q d))) (λ d. b.has q d) (Contains-append_cases keys more q c);
 }
+
+-- one letter: the keys are those of its set, or none
+pub one_some : (f : ℕ → Option ℕ) (m k : ℕ) → f m ≡ Some k → filter_map f (m ∷ []) ≡ k ∷ []
+one_some f m k e = rw e refl
+
+pub one_none : (f : ℕ → Option ℕ) (m : ℕ) → f m ≡ None → filter_map f (m ∷ []) ≡ []
+one_none f m e = rw e refl

@@ -6,6 +6,7 @@ pub mod Gaining
 pub mod Keys
 pub mod Known
 pub mod Linear
+pub mod Masked
 pub mod Meeting
 pub mod Pieces
 pub mod Reach

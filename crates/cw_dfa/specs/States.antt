@@ -1,5 +1,6 @@
 -- The policy states: the least set that has the start and is closed under letters that break no rule.
 use Rattle.std.specs.Prelude.{◌≡◌, ℕ, List, ◌++◌, Option, Some, None, length}
+use Rattle.std.specs.Int.RustNames.{bit_and}
 use Rattle.std.specs.List.{Contains, filter_map}
 use Rattle.std.specs.List.Sorted.{IsStrictlySortedBy}
 use Rattle.std.specs.Ordering.{nat_cmp}
@@ -28,6 +29,10 @@ steps rules letters set = filter_map (after rules set) letters
 
 abbrev pub Reached : List PlainRule → List Letter → ℕ → Type 0
 Reached rules letters = Least (steps rules letters) 1
+
+-- the same by what may follow the set, and a mask of what matches the letter
+abbrev pub after_mask : List PlainRule → ℕ → ℕ → Option ℕ
+after_mask rules ahead mask = unless_bad (verdict rules 0 1 (bit_and ahead mask)) (bit_and ahead mask)
 
 -- the set has the numbers that were seen, each once
 pub record SeenIs (seen set : List ℕ) : Type 0 where

@@ -4,6 +4,8 @@
 
 pub mod matching;
 pub mod rules;
+pub mod states;
 pub mod tables;
 
 pub use rules::{DfaFault, Rules, start, step, violated};
+pub use states::all_states;
