@@ -1,5 +1,5 @@
 -- What follows a set, by tables made once.
-use Rattle.std.proofs.Common.{◌≡◌, ◌≢◌, ◌⊎◌, inl, inr, ℕ, zero, suc, ◌+◌, ◌*◌, ◌<◌, ◌≤◌, ◌^◌, List, [], ◌∷◌, Bool, true, false, cond, ◌&&◌, ◌||◌, max, min, nat_eq, nat_lt, slice_index, refl, sym, ap, ap₂, ◌∙◌, subst, arith, eqb-true, eq-eqb}
+use Rattle.std.proofs.Common.{◌≡◌, ◌≢◌, ◌⊎◌, inl, inr, ℕ, zero, suc, ◌+◌, ◌<◌, ◌≤◌, ◌^◌, List, Bool, true, false, cond, ◌||◌, max, nat_eq, nat_lt, refl, sym, ap, ap₂, ◌∙◌, subst, arith, eqb-true, eq-eqb}
 use Rattle.std.specs.Int.{bit_at}
 use Rattle.std.specs.Int.RustNames.{bit_or, bit_and}
 use Rattle.std.proofs.lemmas.Nat.Bits.{bit_at_or, bit_at-lt, bit_at-pow_same, bit_at-pow_other, bit_at_above, same_from_bits, bit_at-zero}
@@ -8,12 +8,12 @@ use Rattle.cw_rights.specs.declared.words.Letter.{Letter}
 use Rattle.cw_rights.specs.Trees.{Tree, nothing, never, one, seq, alt, star, plus, maybe, count}
 use Rattle.cw_rights.specs.Words.{fits}
 use Rattle.cw_rights.specs.Policies.{PlainRule}
-use Rattle.cw_dfa.specs.Sets.{has, skips, ends, reads}
+use Rattle.cw_dfa.specs.Sets.{has, skips, ends}
 use Rattle.cw_dfa.specs.Positions.{bad_of}
 use Rattle.cw_dfa.specs.Verdicts.{next_of}
 use Rattle.cw_dfa.specs.Tables.{goes, firsts, lasts, linked, followers, matching, unite}
-use Rattle.cw_dfa.proofs.Bools.{has_none, has_pow, has_pow_only, or_left, or_right, or_cases}
-use Rattle.cw_dfa.proofs.Sums.{or_assoc, or_zero, zero_or}
+use Rattle.cw_dfa.proofs.Bools.{has_none, has_pow, has_pow_only, or_cases}
+use Rattle.cw_dfa.proofs.Sums.{or_assoc}
 use Rattle.cw_dfa.proofs.Linear.{goes_none, goes_apart, goes_united, ends_none, below, Marks, reads_masked, has_or}
 use Rattle.cw_dfa.proofs.Meeting.{ends_pow}
 
@@ -152,6 +152,7 @@ marks_by (one l) k c m h = h k (omega arith) (omega arith) ∙ by (fits l c)
     no : (t : Bool) → has 0 k ≡ t → has 0 k ≡ false
     no true e = absurd (has_none k e)
     no false e = e
+
     by : (t : Bool) → has (cond t (2 ^ k) 0) k ≡ t
     by true = has_pow k
     by false = no (has 0 k) refl

@@ -1,7 +1,7 @@
 -- What the rows gain, part by part.
-use Rattle.std.proofs.Common.{◌≡◌, ◌⊎◌, ⊎_elim, ℕ, ◌+◌, ◌<◌, List, [], ◌∷◌, slice_index, refl, sym, ap, ap₂, ◌∙◌, subst}
+use Rattle.std.proofs.Common.{◌≡◌, ℕ, ◌+◌, ◌<◌, List, slice_index, sym, ap, ap₂, ◌∙◌, subst}
 use Rattle.std.specs.Int.RustNames.{bit_or}
-use Rattle.cw_rights.specs.Trees.{Tree, nothing, never, one, seq, alt, star, plus, maybe, count}
+use Rattle.cw_rights.specs.Trees.{Tree, seq, alt, count}
 use Rattle.cw_dfa.specs.Tables.{firsts, lasts, linked, followers, Gains}
 use Rattle.cw_dfa.proofs.Sums.{or_assoc, or_zero}
 

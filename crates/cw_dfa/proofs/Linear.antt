@@ -1,5 +1,5 @@
 -- A union of sets is followed by the union of what follows each.
-use Rattle.std.proofs.Common.{◌≡◌, ◌⊎◌, inl, inr, ℕ, zero, suc, ◌+◌, ◌*◌, ◌<◌, ◌≤◌, ◌^◌, Bool, true, false, cond, ◌&&◌, ◌||◌, min, max, refl, sym, ap, ap₂, ◌∙◌, subst, arith, ⊎_elim, ◌≢◌, eqb-true, eq-eqb, add-one}
+use Rattle.std.proofs.Common.{◌≡◌, ℕ, zero, suc, ◌+◌, ◌*◌, ◌^◌, Bool, true, false, cond, ◌&&◌, ◌||◌, refl, sym, ap, ap₂, ◌∙◌, arith, ⊎_elim, ◌≢◌, eqb-true, eq-eqb, add-one}
 use Rattle.std.specs.Int.{bit_at}
 use Rattle.std.specs.Int.RustNames.{bit_or, bit_and}
 use Rattle.std.proofs.lemmas.Nat.Bits.{bit_at_or, bit_at_and, and_pow, bit_at-lt, same_from_bits, bit_at-zero}
@@ -9,7 +9,7 @@ use Rattle.cw_rights.specs.Words.{fits}
 use Rattle.cw_rights.specs.Trees.{Tree, nothing, never, one, seq, alt, star, plus, maybe, count}
 use Rattle.cw_dfa.specs.Sets.{has, skips, ends, reads}
 use Rattle.cw_dfa.proofs.Sums.{or_zero}
-use Rattle.cw_dfa.specs.Tables.{goes, matching, unite}
+use Rattle.cw_dfa.specs.Tables.{goes, unite}
 use Rattle.cw_dfa.proofs.Bools.{or_cases, or_left, or_right, has_or_cases, has_or_left, has_or_right, has_none}
 
 -- two truth values that say the same

@@ -1,7 +1,6 @@
 -- The sets after one, by the masks of the letters.
 use Rattle.std.proofs.Common.{◌≡◌, ℕ, List, [], ◌∷◌, map, refl, sym, ap, ap₂}
 use Rattle.std.specs.List.{filter_map, cons_option}
-use Rattle.std.specs.Int.RustNames.{bit_and}
 use Rattle.cw_rights.specs.declared.words.Letter.{Letter}
 use Rattle.cw_rights.specs.Policies.{PlainRule}
 use Rattle.cw_dfa.specs.Positions.{bad_of}

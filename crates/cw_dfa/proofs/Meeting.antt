@@ -1,5 +1,5 @@
 -- Sets that meet, and the first rule whose last literals a set meets.
-use Rattle.std.proofs.Common.{◌≡◌, ◌≢◌, ◌⊎◌, inl, inr, ℕ, ◌+◌, ◌*◌, ◌<◌, ◌^◌, List, [], ◌∷◌, Bool, true, false, cond, ◌&&◌, ◌||◌, max, min, nat_eq, Option, Some, None, refl, sym, ap, ap₂, ◌∙◌, subst, arith, eqb-true, eq-eqb}
+use Rattle.std.proofs.Common.{◌≡◌, ◌≢◌, ℕ, ◌+◌, ◌*◌, ◌<◌, ◌^◌, List, [], ◌∷◌, Bool, true, false, cond, ◌&&◌, ◌||◌, nat_eq, Some, refl, sym, ap, ap₂, ◌∙◌, arith, eqb-true, eq-eqb}
 use Rattle.std.specs.Int.{bit_at}
 use Rattle.std.specs.Int.RustNames.{bit_or, bit_and}
 use Rattle.std.proofs.lemmas.Nat.Bits.{bit_at_or, bit_at_and, and_pow, bit_at-lt, same_from_bits, bit_at-zero}
@@ -92,9 +92,11 @@ ends_lasts (seq r s) k set = ap₂ (λ a b. (a && skips s) || b) (ends_lasts r k
     and_true : (a : Bool) → (a && true) ≡ a
     and_true true = refl
     and_true false = refl
+
     and_false : (a : Bool) → (a && false) ≡ false
     and_false true = refl
     and_false false = refl
+
     by : (t : Bool) → (meets set (lasts r k) && t) ≡ meets set (cond t (lasts r k) 0)
     by true = and_true (meets set (lasts r k))
     by false = and_false (meets set (lasts r k)) ∙ sym (meets_none set)

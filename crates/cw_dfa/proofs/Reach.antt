@@ -3,22 +3,11 @@ use Rattle.std.proofs.Common.{◌≡◌, ℕ, ◌+◌, ◌<◌, ◌≤◌, List,
 use Rattle.std.proofs.lemmas.List.{get_or_append_left}
 use Rattle.std.specs.List.{Contains}
 use Rattle.std.specs.List.Sorted.{IsStrictlySortedBy}
-use Rattle.std.specs.Ordering.{eq_by_cmp, is_eq, nat_cmp}
-use Rattle.std.specs.Bool.{Decides}
-use Rattle.std.specs.Cmp.{eq_by_cmp_equiv, tied_itself}
+use Rattle.std.specs.Ordering.{nat_cmp}
 use Rattle.std.proofs.lemmas.Bool.Decides.{nat_tests}
-use Rattle.std.proofs.lemmas.Map.Keys.{IsDistinct-from_sorted}
-use Rattle.std.proofs.lemmas.Map.Made.{length-le_from_is_member, is_member-Decides}
 use Rattle.std.proofs.lemmas.List.Elements.{Contains-append_left, Contains-append_cases}
-use Rattle.cw_dfa.specs.States.{Least, first, then, Exactly, SeenIs, Adds}
-use Rattle.cw_dfa.proofs.Keys.{key_total, key_exact, at_equal, contains_one, contains_first}
-
--- equality of keys
-decides_key : (a b : ℕ) → Decides (eq_by_cmp nat_cmp a b) (a ≡ b)
-decides_key a b = (λ e. key_exact a b (at_equal _ e), λ e. subst (λ y. eq_by_cmp nat_cmp a y ≡ true) e (ap is_eq (tied_itself key_total a)))
-
-pub few_keys : (xs ys : List ℕ) → IsStrictlySortedBy nat_cmp xs → ((k : ℕ) → Contains xs k → Contains ys k) → length xs ≤ length ys
-few_keys xs ys s h = length-le_from_is_member (eq_by_cmp_equiv key_total) xs ys (IsDistinct-from_sorted nat_cmp xs s) (λ q e. (is_member-Decides decides_key ys q).1 (h q ((is_member-Decides decides_key xs q).0 e)))
+use Rattle.cw_dfa.specs.States.{Least, first, then, Exactly, HasMore, SeenIs, Adds}
+use Rattle.cw_dfa.proofs.Keys.{contains_one, contains_first}
 
 module _ (step : ℕ → List ℕ) (start : ℕ) where
   pub record Seen (seen set : List ℕ) (i : ℕ) : Type 0 where
@@ -76,9 +65,8 @@ module _ (step : ℕ → List ℕ) (start : ℕ) where
   pub reached_all : (seen set : List ℕ) (i : ℕ) (v : List ℕ) → Seen seen set i → length seen ≤ i → v ≡ set → IsStrictlySortedBy nat_cmp v → Exactly (Least step start) v
   reached_all seen set i v h l e o = (o, λ k. (λ c. h.needed k ((h.same.same k).1 (subst (λ y. Contains y k) e c)), λ n. subst (λ y. Contains y k) (sym e) ((h.same.same k).0 (all_seen seen set i h l k n))))
 
-  pub reached_many : (seen set : List ℕ) (i : ℕ) → Seen seen set i → (xs : List ℕ) → Exactly (Least step start) xs → i ≤ length xs
-  reached_many seen set i h xs x =
-      let f = few_keys set xs h.same.order (λ k c. (x.1 k).1 (h.needed k ((h.same.same k).1 c))) in
+  pub reached_many : (seen set : List ℕ) (i n : ℕ) → Seen seen set i → n < i → HasMore (Least step start) n
+  reached_many seen set i n h l =
       let o = h.same.once in
       let g = h.far in
-      omega arith
+      (set, h.same.order, λ k c. h.needed k ((h.same.same k).1 c), omega arith)

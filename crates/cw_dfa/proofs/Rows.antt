@@ -1,5 +1,5 @@
 -- The trees of sequences and of alternatives.
-use Rattle.std.proofs.Common.{◌≡◌, ◌⊎◌, inl, inr, ℕ, ◌+◌, List, [], ◌∷◌, Vec, Global, refl, sym, ap, ap₂, ◌∙◌}
+use Rattle.std.proofs.Common.{◌≡◌, ◌⊎◌, inl, inr, ℕ, ◌+◌, List, [], ◌∷◌, Vec, Global, refl, sym, ap, ◌∙◌}
 use Rattle.std.specs.Int.RustNames.{bit_or}
 use mathlib.Core.Former.{Count}
 use Rattle.cw_rights.specs.declared.words.Letter.{Letter}

@@ -1,5 +1,5 @@
 -- The policy states: the least set that has the start and is closed under letters that break no rule.
-use Rattle.std.specs.Prelude.{◌≡◌, ℕ, List, ◌++◌, Option, Some, None, length}
+use Rattle.std.specs.Prelude.{◌≡◌, ℕ, List, ◌++◌, Option, Some, None, length, ◌<◌}
 use Rattle.std.specs.Int.RustNames.{bit_and}
 use Rattle.std.specs.List.{Contains, filter_map}
 use Rattle.std.specs.List.Sorted.{IsStrictlySortedBy}
@@ -15,6 +15,10 @@ pub data Least {A : Type 0} (step : A → List A) (start : A) : A → Type 0 whe
 -- the numbers ascend, and are those of P
 abbrev pub Exactly : (ℕ → Type 0) → List ℕ → Type 0
 Exactly P xs = IsStrictlySortedBy nat_cmp xs × ((x : ℕ) → (Contains xs x → P x) × (P x → Contains xs x))
+
+-- more than n numbers of P
+abbrev pub HasMore : (ℕ → Type 0) → ℕ → Type 0
+HasMore P n = (xs : List ℕ) × IsStrictlySortedBy nat_cmp xs × ((x : ℕ) → Contains xs x → P x) × (n < length xs)
 
 abbrev pub unless_bad : Option ℕ → ℕ → Option ℕ
 unless_bad None set = Some set

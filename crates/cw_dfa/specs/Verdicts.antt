@@ -1,5 +1,5 @@
 -- The rule that a word breaks, and how a set of positions tells it.
-use Rattle.std.specs.Prelude.{◌≡◌, ℕ, ◌+◌, ◌≤◌, List, [], ◌∷◌, cond, Option, Some, None, map}
+use Rattle.std.specs.Prelude.{ℕ, ◌+◌, ◌≤◌, List, [], ◌∷◌, cond, Option, Some, None, map}
 use Rattle.cw_rights.specs.declared.policy.Rule.{Rule}
 use Rattle.cw_rights.specs.declared.words.Letter.{Letter}
 use Rattle.cw_rights.specs.Trees.{count}

@@ -2,10 +2,12 @@
 //! the word through its rule reads last.
 #![tactic(auto)]
 
-pub mod matching;
+mod matching;
 pub mod rules;
 pub mod states;
-pub mod tables;
+mod tables;
+#[cfg(test)]
+mod tests;
 
 pub use rules::{DfaFault, Rules, start, step, violated};
 pub use states::all_states;

@@ -68,21 +68,21 @@ impl<'r> Rules<'r> {
     }
 
     /// The literals that may read a letter after those of a set, whatever the letter is.
-    pub fn ahead(&self, set: u64) -> u64
+    pub(crate) fn ahead(&self, set: u64) -> u64
         ensures { result ≡ goes (bad_of (rules_of self.now)) 1 (has set 0) set }
     {
         following(&self.tables, set)
     }
 
     /// The literals that match a letter.
-    pub fn mask(&self, letter: &Letter) -> u64
+    pub(crate) fn mask(&self, letter: &Letter) -> u64
         ensures { result ≡ matching (bad_of (rules_of self.now)) 1 letter.now }
     {
         matching_rules(self.rules, letter)
     }
 
     /// The first rule that may end after a literal of a set.
-    pub fn ended(&self, set: u64) -> Option<u8>
+    pub(crate) fn ended(&self, set: u64) -> Option<u8>
         ensures { result ≡ verdict (rules_of self.now) 0 1 set }
     {
         first_met(&self.tables.last[..self.rules.len()], set)

@@ -7,7 +7,7 @@ ghost use Rattle.std.specs.Ordering.{nat_cmp};
 ghost use Rattle.cw_dfa.specs.Positions.{bad_of};
 ghost use Rattle.cw_dfa.specs.Tables.{matching};
 ghost use Rattle.cw_dfa.specs.Verdicts.{rules_of};
-ghost use Rattle.cw_dfa.specs.States.{Exactly, after_mask, Reached, SeenIs, Adds};
+ghost use Rattle.cw_dfa.specs.States.{Exactly, HasMore, after_mask, Reached, SeenIs, Adds};
 
 use crate::rules::{DfaFault, Rules, start};
 use cw_rights::Letter;
@@ -17,7 +17,10 @@ use std::collections::BTreeSet;
 fn masks(alloc: Global, rules: &Rules, letters: &[Letter]) -> Result<Vec<u64>, AllocError>
     ensures { IfOk result (λ v. v.items ≡ map (matching (bad_of (rules_of rules.now)) 1) letters.now) }
 {
-    letters.iter().map(|letter| rules.mask(letter)).collect(alloc)
+    letters
+        .iter()
+        .map(|letter| rules.mask(letter))
+        .collect(alloc)
 }
 
 // The set after a letter, where it breaks no rule.
@@ -93,8 +96,7 @@ fn reach(alloc: Global, rules: &Rules, letters: &[Letter]) -> Result<Option<Vec<
     ensures some { IfOk result (λ keys. IfSome keys
         (λ v. Exactly (Reached (rules_of rules.now) letters.now) v.items)) }
     ensures few { IfOk result (λ keys. IfSome keys (λ v. length v.items ≤ 64)) }
-    ensures none { IfOk result (λ keys. IfNone keys
-        ((all : List ℕ) → Exactly (Reached (rules_of rules.now) letters.now) all → 64 < length all)) }
+    ensures none { IfOk result (λ keys. IfNone keys (HasMore (Reached (rules_of rules.now) letters.now) 64)) }
 {
     let masks = masks(alloc, rules, letters)?;
     let mut seen = Vec::new(alloc);
@@ -114,8 +116,7 @@ fn reach(alloc: Global, rules: &Rules, letters: &[Letter]) -> Result<Option<Vec<
 pub fn all_states(alloc: Global, rules: &Rules, letters: &[Letter]) -> Result<Vec<u64>, DfaFault>
     ensures states { IfOk result (λ v. Exactly (Reached (rules_of rules.now) letters.now) v.items) }
     ensures few { IfOk result (λ v. length v.items ≤ 64) }
-    ensures many { result ≡ Err DfaFault.TooManyStates →
-        (all : List ℕ) → Exactly (Reached (rules_of rules.now) letters.now) all → 64 < length all }
+    ensures many { result ≡ Err DfaFault.TooManyStates → HasMore (Reached (rules_of rules.now) letters.now) 64 }
     ensures positions { result ≡ Err DfaFault.TooManyPositions → ⊥ }
 {
     match reach(alloc, rules, letters) {

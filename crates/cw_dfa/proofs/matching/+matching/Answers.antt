@@ -1,7 +1,6 @@
 use Rattle.std.proofs.Common.{rules, ◌≡◌, ◌+◌, ◌≤◌, length, ap, ◌∷◌, ◌<◌, get_or, drop, subst}
 use Rattle.cw_rights.specs.declared.words.Regex.{the_lemmas}
-use Rattle.cw_rights.specs.Trees.{seq, nothing, count, tree_of, seq_of}
-use Rattle.cw_dfa.specs.Tables.{matching}
+use Rattle.cw_rights.specs.Trees.{seq, nothing, tree_of, seq_of}
 use Rattle.cw_dfa.proofs.Rows.{row_count}
 use Rattle.cw_dfa.proofs.Along.{drop_all, drop_item, matching_step, matching_end}
 use Rattle.cw_dfa.proofs.matching.+matching.Goals as goal

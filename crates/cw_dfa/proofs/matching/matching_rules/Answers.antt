@@ -2,7 +2,6 @@ use Rattle.std.proofs.Common.{rules, ◌≡◌, ◌+◌, ◌≤◌, length, ap, 
 use Rattle.cw_rights.specs.Trees.{alt, never, tree_of}
 use Rattle.cw_dfa.specs.Positions.{bad_of}
 use Rattle.cw_dfa.specs.Verdicts.{rules_of}
-use Rattle.cw_dfa.proofs.Sums.{zero_or}
 use Rattle.cw_dfa.proofs.Along.{drop_all, drop_item, rules_step, rules_end}
 use Rattle.cw_dfa.proofs.matching.matching_rules.Goals as goal
 

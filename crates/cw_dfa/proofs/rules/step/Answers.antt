@@ -1,7 +1,7 @@
-use Rattle.std.proofs.Common.{rules, ◌≡◌, ap₂, sym, ◌∙◌, subst, ◌++◌, ◌∷◌, []}
+use Rattle.std.proofs.Common.{ap₂, sym, ◌∙◌, subst, ◌++◌, ◌∷◌, []}
 use Rattle.std.specs.Int.RustNames.{bit_and}
 use Rattle.cw_dfa.specs.Positions.{IsSetOf}
-use Rattle.cw_dfa.specs.Verdicts.{rules_of, next_of}
+use Rattle.cw_dfa.specs.Verdicts.{rules_of}
 use Rattle.cw_dfa.proofs.Following.{next_masked}
 use Rattle.cw_dfa.proofs.Whole.{next_set}
 use Rattle.cw_dfa.proofs.rules.step.Goals as goal

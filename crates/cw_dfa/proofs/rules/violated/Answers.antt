@@ -1,4 +1,4 @@
-use Rattle.std.proofs.Common.{◌≡◌, sym, subst}
+use Rattle.std.proofs.Common.{sym, subst}
 use Rattle.cw_dfa.specs.Verdicts.{rules_of, IsVerdict}
 use Rattle.cw_dfa.proofs.Whole.{verdict_is}
 use Rattle.cw_dfa.proofs.rules.violated.Goals as goal

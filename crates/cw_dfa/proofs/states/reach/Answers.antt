@@ -30,10 +30,7 @@ returns-in-None-clause-some c =
     reached_all (steps (rules_of c.args.rules.now) c.args.letters.now) 1 c.loop-i.seen.items c.loop-i.set.keys c.loop-i.i _ c.loop-i.invariant far c.in_ok-in_order-in-None.ensures.items c.in_ok-in_order-in-None.ensures.order
 
 pub returns-clause-none : goal.returns-clause-none
-returns-clause-none c xs x =
-    let k = reached_many (steps (rules_of c.args.rules.now) c.args.letters.now) 1 c.loop-i.seen.items c.loop-i.set.keys c.loop-i.i c.loop-i.invariant xs x in
-    let t = c.loop-i-test.false in
-    omega arith
+returns-clause-none c = reached_many (steps (rules_of c.args.rules.now) c.args.letters.now) 1 c.loop-i.seen.items c.loop-i.set.keys c.loop-i.i 64 c.loop-i.invariant (omega (arith, c.loop-i-test.false))
 
 pub returns-in-None-clause-few : goal.returns-in-None-clause-few
 returns-in-None-clause-few c =

@@ -1,6 +1,3 @@
-use Rattle.std.proofs.Common.{◌≡◌}
-use Rattle.cw_dfa.specs.Positions.{bad_of}
-use Rattle.cw_dfa.specs.Tables.{matching}
 use Rattle.cw_dfa.specs.Verdicts.{rules_of}
 use Rattle.cw_dfa.specs.States.{steps}
 use Rattle.cw_dfa.proofs.Reach.{Seen}

@@ -1,6 +1,5 @@
 use Rattle.std.proofs.Common.{rules, ◌≡◌, [], ◌∷◌, ◌-◌, length, drop, take, ap, sym, ◌∙◌, subst, arith, length-drop}
-use Rattle.cw_rights.specs.declared.words.Regex.{Regex}
-use Rattle.cw_rights.specs.Trees.{Tree, tree_of, seq_of, alt_of, seq, alt, star, plus}
+use Rattle.cw_rights.specs.Trees.{tree_of, seq_of, alt_of, star, plus}
 use Rattle.cw_dfa.specs.Tables.{Gains, firsts}
 use Rattle.cw_dfa.proofs.Along.{drop_item, drop_all, take_all}
 use Rattle.cw_dfa.proofs.Gaining.{same_row, gains_again, gains_seq, gains_alt}
