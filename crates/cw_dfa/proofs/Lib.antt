@@ -1,0 +1,15 @@
+-- The proofs.
+pub mod Along
+pub mod Bools
+pub mod Following
+pub mod Gaining
+pub mod Keys
+pub mod Known
+pub mod Linear
+pub mod Masked
+pub mod Meeting
+pub mod Pieces
+pub mod Reach
+pub mod Rows
+pub mod Sums
+pub mod Whole

@@ -1,0 +1,11 @@
+use Rattle.std.proofs.Common.{take}
+use Rattle.std.specs.List.{filter_map}
+use Rattle.cw_dfa.specs.Verdicts.{rules_of}
+use Rattle.cw_dfa.specs.States.{SeenIs, Adds, after_mask}
+use Rattle.cw_dfa.proofs.states.see_after.Given as goal
+
+abbrev pub invariant-loop-mask : goal.invariant-loop-mask
+invariant-loop-mask l = record {
+  same : SeenIs l.seen.items l.set.keys;
+  adds : Adds l.initial.seen.items l.seen.items (filter_map (after_mask (rules_of l.rules) l.ahead) (take l.mask-index l.masks));
+}

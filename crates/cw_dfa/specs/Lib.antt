@@ -1,0 +1,7 @@
+-- The definitions.
+pub mod Parts
+pub mod Positions
+pub mod Sets
+pub mod States
+pub mod Tables
+pub mod Verdicts

@@ -1,0 +1,52 @@
+-- The policy states: the least set that has the start and is closed under letters that break no rule.
+use Rattle.std.specs.Prelude.{◌≡◌, ℕ, List, ◌++◌, Option, Some, None, length, ◌<◌}
+use Rattle.std.specs.Int.RustNames.{bit_and}
+use Rattle.std.specs.List.{Contains, filter_map}
+use Rattle.std.specs.List.Sorted.{IsStrictlySortedBy}
+use Rattle.std.specs.Ordering.{nat_cmp}
+use Rattle.cw_rights.specs.Policies.{PlainRule}
+use Rattle.cw_rights.specs.declared.words.Letter.{Letter}
+use Rattle.cw_dfa.specs.Verdicts.{verdict, next_of}
+
+pub data Least {A : Type 0} (step : A → List A) (start : A) : A → Type 0 where
+  first : Least step start start
+  then : (a b : A) → Least step start a → Contains (step a) b → Least step start b
+
+-- the numbers ascend, and are those of P
+abbrev pub Exactly : (ℕ → Type 0) → List ℕ → Type 0
+Exactly P xs = IsStrictlySortedBy nat_cmp xs × ((x : ℕ) → (Contains xs x → P x) × (P x → Contains xs x))
+
+-- more than n numbers of P
+abbrev pub HasMore : (ℕ → Type 0) → ℕ → Type 0
+HasMore P n = (xs : List ℕ) × IsStrictlySortedBy nat_cmp xs × ((x : ℕ) → Contains xs x → P x) × (n < length xs)
+
+abbrev pub unless_bad : Option ℕ → ℕ → Option ℕ
+unless_bad None set = Some set
+unless_bad (Some i) set = None
+
+-- the set after a letter, where it breaks no rule
+abbrev pub after : List PlainRule → ℕ → Letter → Option ℕ
+after rules set c = unless_bad (verdict rules 0 1 (next_of rules set c)) (next_of rules set c)
+
+abbrev pub steps : List PlainRule → List Letter → ℕ → List ℕ
+steps rules letters set = filter_map (after rules set) letters
+
+abbrev pub Reached : List PlainRule → List Letter → ℕ → Type 0
+Reached rules letters = Least (steps rules letters) 1
+
+-- the same by what may follow the set, and a mask of what matches the letter
+abbrev pub after_mask : List PlainRule → ℕ → ℕ → Option ℕ
+after_mask rules ahead mask = unless_bad (verdict rules 0 1 (bit_and ahead mask)) (bit_and ahead mask)
+
+-- the set has the numbers that were seen, each once
+pub record SeenIs (seen set : List ℕ) : Type 0 where
+  pub same : (k : ℕ) → (Contains seen k → Contains set k) × (Contains set k → Contains seen k)
+  pub once : length set ≡ length seen
+  pub order : IsStrictlySortedBy nat_cmp set
+
+-- what was seen grows by some of these numbers, and has all of them then
+pub record Adds (old new keys : List ℕ) : Type 0 where
+  pub more : List ℕ
+  pub is : new ≡ old ++ more
+  pub from : (k : ℕ) → Contains more k → Contains keys k
+  pub has : (k : ℕ) → Contains keys k → Contains new k

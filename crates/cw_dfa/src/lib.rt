@@ -1,0 +1,13 @@
+//! The rules of a policy, judged by sets of positions: after a word, the set of literals that some way of reading
+//! the word through its rule reads last.
+#![tactic(auto)]
+
+mod matching;
+pub mod rules;
+pub mod states;
+mod tables;
+#[cfg(test)]
+mod tests;
+
+pub use rules::{DfaFault, Rules, start, step, violated};
+pub use states::all_states;
