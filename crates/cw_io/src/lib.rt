@@ -1,0 +1,11 @@
+#![tactic(auto)]
+
+mod fault;
+mod mem_sink;
+mod sink;
+mod sure_sink;
+
+pub use fault::{ReadFault, SinkFault};
+pub use mem_sink::MemSink;
+pub use sink::{Sink, put_both};
+pub use sure_sink::SureSink;
