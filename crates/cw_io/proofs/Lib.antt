@@ -1,1 +1,2 @@
 pub mod TwoPuts
+mod Writes

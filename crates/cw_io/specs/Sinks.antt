@@ -1,13 +1,8 @@
 -- The sinks in memory: what they mean, and what a put makes of them.
-use Rattle.std.specs.Prelude.{◌≡◌, ℕ, ◌+◌, ◌/◌, max, Bool, ◌==◌, List, [], ◌++◌, length, take, Option, Result, Ok, Err}
-use Rattle.std.specs.List.{list_any}
+use Rattle.std.specs.Prelude.{◌≡◌, ℕ, ◌+◌, ◌/◌, max, List, [], ◌++◌, length, take, Option, Result, Ok, Err}
 use Rattle.cw_io.specs.Causes.{raised}
 use Rattle.cw_io.specs.declared.fault.SinkFault.{SinkFault}
 use Rattle.cw_io.specs.declared.fault.SinkFault.TheVariants.{Failed, NoMemory}
-
--- whether the call of this number is one of those that are to fail
-abbrev pub is_due : List ℕ → ℕ → Bool
-is_due failing call = list_any (λ number. number == call) failing
 
 -- a sink that never fails: the bytes taken, and how often memory was refused
 pub record SureSinkState : Type 0 where

@@ -2,8 +2,10 @@
 ghost use Rattle.std.specs.Prelude.{◌≡◌, ℕ, List, Option, Some, None, Ok, OnOk, IsErrOf, IsTrue, false, ◌++◌};
 ghost use Rattle.cw_io.specs.Causes.{HasCause};
 ghost use Rattle.cw_io.specs.Pieces.{Puts};
-ghost use Rattle.cw_io.specs.Sinks.{is_due, new_mem_sink, after_put};
+ghost use Rattle.cw_io.specs.Calls.{is_due};
+ghost use Rattle.cw_io.specs.Sinks.{new_mem_sink, after_put};
 
+use crate::calls::is_due;
 use crate::{Sink, SinkFault};
 use std::alloc::Global;
 use std::marker::Model;
@@ -59,13 +61,6 @@ impl MemSink {
     {
         self.longest
     }
-}
-
-/// Whether the call of this number is to fail.
-fn is_due(failing: &[u32], call: u64) -> bool
-    ensures { result ≡ is_due failing.now call }
-{
-    failing.iter().any(|number| u64::from(*number) == call)
 }
 
 impl Sink for MemSink {

@@ -8,4 +8,4 @@ returns-in_err-put-clause-bytes g c =
     rw p.1 (puts_first (g.K.Sink.taken c.args.sink.now) (g.K.Sink.taken c.put.new.self) c.args.first.now c.args.second.now c.in_err-put.field-0.0 p.0 c.in_err-put.ensures.bytes)
 
 pub returns-clause-bytes : goal.returns-clause-bytes
-returns-clause-bytes g c = puts_both (g.K.Sink.taken c.args.sink.now) (g.K.Sink.taken c.put.new.self) (g.K.Sink.taken c.put-2.new.self) c.args.first.now c.args.second.now _ c.put-2.result c.in_ok-put.ensures.bytes c.put-2.ensures.bytes
+returns-clause-bytes g c = puts_both (g.K.Sink.taken c.args.sink.now) (g.K.Sink.taken c.put.new.self) (g.K.Sink.taken c.put-2.new.self) c.args.first.now c.args.second.now c.put-2.result c.in_ok-put.ensures.bytes c.put-2.ensures.bytes
