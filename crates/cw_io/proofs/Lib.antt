@@ -1,2 +1,4 @@
 pub mod TwoPuts
-mod Writes
+mod Places
+mod Reading
+mod Writing

@@ -1,5 +1,5 @@
 -- Two puts, one after the other.
-use Rattle.std.proofs.Common.{◌≡◌, ℕ, ◌+◌, min, List, [], ◌∷◌, ◌++◌, zero, suc, length, take, Option, Some, None, Result, Ok, Err, refl, sym, ap, subst, ◌∙◌, append_assoc, arith, zero-add}
+use Rattle.std.proofs.Common.{◌≡◌, ℕ, ◌+◌, min, List, [], ◌∷◌, ◌++◌, zero, suc, length, take, Option, Some, None, Result, Ok, Err, refl, ap, ◌∙◌, append_assoc, arith, zero-add}
 use Rattle.cw_io.specs.Pieces.{Grows, Puts}
 
 -- the front of two lists that is longer than the first

@@ -1,5 +1,5 @@
 -- The shelves in memory: what they mean, and what a read makes of them.
-use Rattle.std.specs.Prelude.{◌≡◌, ℕ, ◌-◌, Bool, List, [], ◌++◌, map, length, replicate, position, find, slice_index, slice_set, Option, Some, None, option_map, unwrap_or, Result, Ok, Err, if◌then◌else◌}
+use Rattle.std.specs.Prelude.{ℕ, ◌-◌, List, [], ◌++◌, map, length, replicate, position, find, slice_index, slice_set, Option, Some, None, option_map, unwrap_or, Result, Err, if◌then◌else◌}
 use Rattle.std.specs.Prelude.{bytes_eq}
 use Rattle.std.specs.Global.{Vec}
 use Rattle.cw_io.specs.Calls.{is_due}

@@ -1,5 +1,5 @@
 -- The sinks in memory: what they mean, and what a put makes of them.
-use Rattle.std.specs.Prelude.{◌≡◌, ℕ, ◌+◌, ◌/◌, max, List, [], ◌++◌, length, take, Option, Result, Ok, Err}
+use Rattle.std.specs.Prelude.{ℕ, ◌/◌, max, List, [], ◌++◌, length, take, Result, Ok, Err}
 use Rattle.cw_io.specs.Causes.{raised}
 use Rattle.cw_io.specs.declared.fault.SinkFault.{SinkFault}
 use Rattle.cw_io.specs.declared.fault.SinkFault.TheVariants.{Failed, NoMemory}

@@ -1,5 +1,5 @@
 -- What a sink over a writer of the system means: the writer, and its count of faults.
-use Rattle.std.specs.Prelude.{ℕ, Bool, true, false, Result, is_ok, if◌then◌else◌}
+use Rattle.std.specs.Prelude.{ℕ}
 use Rattle.cw_io.specs.declared.stream_sink.StreamSink.{StreamSink}
 
 abbrev pub stream_writer : {W : Type 0} → StreamSink W → W

@@ -1,4 +1,4 @@
-use Rattle.cw_io.proofs.Writes.{puts_flushed}
+use Rattle.cw_io.proofs.Writing.{puts_flushed}
 use Rattle.cw_io.proofs.stream_sink.write_and_flush.Goals as goal
 
 pub returns : goal.returns

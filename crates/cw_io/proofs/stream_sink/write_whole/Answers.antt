@@ -1,6 +1,6 @@
-use Rattle.std.proofs.Common.{rules, arith, length-take, length-drop}
+use Rattle.std.proofs.Common.{arith, length-drop}
 use Rattle.std.proofs.lemmas.List.{take_rest}
-use Rattle.cw_io.proofs.Writes.{grows_more}
+use Rattle.cw_io.proofs.Writing.{grows_more}
 use Rattle.cw_io.proofs.stream_sink.write_whole.Goals as goal
 
 pub loop-done-preserved : goal.loop-done-preserved
