@@ -101,3 +101,53 @@ impl<R: Files + Drop> Shelf for FileShelf<R> {
         answer
     }
 }
+
+#[cfg(test)]
+mod tests {
+    use super::*;
+    use std::io;
+    use std::test::Fail;
+
+    /// A reader of so many bytes, some at a time, which then fails where `errs`.
+    #[derive(Drop)]
+    struct Short {
+        left: usize,
+        step: usize,
+        errs: bool,
+    }
+
+    impl Read for Short {
+        fn read(&mut self, buf: &mut [u8]) -> io::Result<usize> {
+            let count = buf.len().min(self.step).min(self.left);
+            if count == 0 && self.errs {
+                return Err(io::Error::from(io::ErrorKind::BrokenPipe));
+            }
+            buf[..count].fill(b'x');
+            self.left -= count;
+            Ok(count)
+        }
+    }
+
+    #[test]
+    fn a_reader_that_fails(rt: HostRuntime) -> Result<(), Fail> {
+        let alloc = rt.alloc();
+        for (left, step, errs, max, want, unread) in [
+            (10, 3, false, 10, Ok(10), 0),
+            (10, 3, true, 10, Err(ReadFault::Failed), 0),
+            (10, 3, true, 9, Err(ReadFault::TooLong), 0),
+            (10, 3, true, 4, Err(ReadFault::TooLong), 5),
+            (9000, 5000, false, 9000, Ok(9000), 0),
+            (9000, 5000, false, 5000, Err(ReadFault::TooLong), 3999),
+        ] {
+            let mut reader = Short { left, step, errs };
+            let answer = read_all(alloc, &mut reader, max);
+            assert_eq!(rt;
+                answer.map(|bytes| bytes.len()),
+                want,
+                "{left} {step} {max}"
+            );
+            assert_eq!(rt; reader.left, unread, "{left} {step} {max}");
+        }
+        Ok(())
+    }
+}

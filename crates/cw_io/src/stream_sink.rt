@@ -87,3 +87,66 @@ impl<W: Write + Drop> Sink for StreamSink<W> {
         }
     }
 }
+
+#[cfg(test)]
+mod tests {
+    use super::*;
+    use std::test::Fail;
+
+    /// A writer that takes at most `step` bytes in a write and at most `room` in all, fails past that where
+    /// `errs`, and whose flush works or doesn't.
+    #[derive(Drop)]
+    struct Narrow {
+        taken: Vec<u8>,
+        step: usize,
+        room: usize,
+        errs: bool,
+        flushes: bool,
+    }
+
+    impl Write for Narrow {
+        fn write(&mut self, piece: &[u8]) -> io::Result<usize> {
+            let count = piece.len().min(self.step).min(self.room);
+            if count == 0 && self.errs {
+                return Err(io::Error::from(io::ErrorKind::BrokenPipe));
+            }
+            self.taken.extend_from_slice(&piece[..count])?;
+            self.room -= count;
+            Ok(count)
+        }
+
+        fn flush(&mut self) -> io::Result<()> {
+            if self.flushes {
+                Ok(())
+            } else {
+                Err(io::Error::from(io::ErrorKind::BrokenPipe))
+            }
+        }
+    }
+
+    #[test]
+    fn a_writer_that_fails(rt: HostRuntime) -> Result<(), Fail> {
+        let alloc = rt.alloc();
+        for (step, room, errs, flushes, want, taken) in [
+            (9, 9, true, true, Ok(()), "abcdef"),
+            (1, 6, true, true, Ok(()), "abcdef"),
+            (4, 5, true, true, Err(SinkFault::Failed), "abcde"),
+            (4, 5, false, true, Err(SinkFault::Failed), "abcde"),
+            (9, 0, false, true, Err(SinkFault::Failed), ""),
+            (9, 9, true, false, Err(SinkFault::Failed), "abcdef"),
+        ] {
+            let mut writer = Narrow {
+                taken: Vec::new(alloc),
+                step,
+                room,
+                errs,
+                flushes,
+            };
+            let mut sink = StreamSink::make(&mut writer);
+            assert_eq!(rt; sink.put(b"abcdef"), want, "{step} {room} {errs} {flushes}");
+            drop(sink);
+            assert_eq!(rt; writer.taken.as_slice(), taken.as_bytes(), "{step} {room}");
+        }
+        Ok(())
+    }
+}
