@@ -46,15 +46,23 @@ faults_at shelf (Some place) = slice_index shelf.faults place
 abbrev pub faults_of : MemShelfState → List ℕ → ℕ
 faults_of shelf name = faults_at shelf (place_of shelf.files name)
 
--- that count raised, and every other as before
-abbrev pub raised_at : MemShelfState → Option ℕ → MemShelfState
-raised_at shelf None = record shelf { unheld = raised shelf.unheld }
-raised_at shelf (Some place) = record shelf { faults = slice_set shelf.faults place (raised (slice_index shelf.faults place)) }
+-- the counts of the files after a read of the one at a place, by the answer
+abbrev pub file_faults_after : List ℕ → Option ℕ → Result (List ℕ) ReadFault → List ℕ
+file_faults_after counts (Some place) (Err Failed) = slice_set counts place (raised (slice_index counts place))
+file_faults_after counts place answer = counts
 
--- the shelf after a read of a name, by the answer
+-- the shared count after a read of a file or of none, by the answer
+abbrev pub unheld_after : ℕ → Option ℕ → Result (List ℕ) ReadFault → ℕ
+unheld_after count None (Err Failed) = raised count
+unheld_after count place answer = count
+
+-- the shelf after a read of a name, by the answer: where it failed, the one count of that name has risen
 abbrev pub after_read : MemShelfState → List ℕ → Result (List ℕ) ReadFault → MemShelfState
-after_read shelf name (Err Failed) = raised_at (record shelf { calls = raised shelf.calls }) (place_of shelf.files name)
-after_read shelf name answer = record shelf { calls = raised shelf.calls }
+after_read shelf name answer = record shelf {
+  calls = raised shelf.calls;
+  faults = file_faults_after shelf.faults (place_of shelf.files name) answer;
+  unheld = unheld_after shelf.unheld (place_of shelf.files name) answer;
+}
 
 -- the answer that is due to a read of a name
 abbrev pub answer_due : MemShelfState → List ℕ → ℕ → Result (List ℕ) ReadFault

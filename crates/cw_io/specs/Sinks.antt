@@ -23,21 +23,36 @@ pub record MemSinkState : Type 0 where
 abbrev pub new_mem_sink : List ℕ → MemSinkState
 new_mem_sink numbers = record { bytes = []; failing = numbers; calls = 0; longest = 0; faults = 0; refused = 0 }
 
--- the front of a piece that a put takes where it is to fail: the first half, rounded down
-abbrev pub first_half : List ℕ → List ℕ
-first_half piece = take (length piece / 2) piece
+-- what is taken of a piece, by the answer: the first half, rounded down, where the put was to fail
+abbrev pub taken_of : List ℕ → Result (Unit {0}) SinkFault → List ℕ
+taken_of piece (Ok u) = piece
+taken_of piece (Err Failed) = take (length piece / 2) piece
+taken_of piece (Err NoMemory) = []
 
--- the call and its piece are counted, whatever the answer
-abbrev pub after_call : MemSinkState → List ℕ → MemSinkState
-after_call sink piece = record sink { calls = raised sink.calls; longest = max sink.longest (length piece) }
+-- a count of faults, and one of refused memory, after a put: one more where it answered so
+abbrev pub faults_after : ℕ → Result (Unit {0}) SinkFault → ℕ
+faults_after count (Ok u) = count
+faults_after count (Err Failed) = raised count
+faults_after count (Err NoMemory) = count
 
--- the sink after a put of a piece, by the answer
+abbrev pub refused_after : ℕ → Result (Unit {0}) SinkFault → ℕ
+refused_after count (Ok u) = count
+refused_after count (Err Failed) = count
+refused_after count (Err NoMemory) = raised count
+
+-- the sink after a put of a piece, by the answer; the call and its piece are counted, whatever the answer
 abbrev pub after_put : MemSinkState → List ℕ → Result (Unit {0}) SinkFault → MemSinkState
-after_put sink piece (Ok u) = record (after_call sink piece) { bytes = sink.bytes ++ piece }
-after_put sink piece (Err Failed) = record (after_call sink piece) { bytes = sink.bytes ++ first_half piece; faults = raised sink.faults }
-after_put sink piece (Err NoMemory) = record (after_call sink piece) { refused = raised sink.refused }
+after_put sink piece answer = record sink {
+  bytes = sink.bytes ++ taken_of piece answer;
+  calls = raised sink.calls;
+  longest = max sink.longest (length piece);
+  faults = faults_after sink.faults answer;
+  refused = refused_after sink.refused answer;
+}
 
 -- the same of a sink that never fails
 abbrev pub after_sure_put : SureSinkState → List ℕ → Result (Unit {0}) SinkFault → SureSinkState
-after_sure_put sink piece (Ok u) = record sink { bytes = sink.bytes ++ piece }
-after_sure_put sink piece (Err fault) = record sink { refused = raised sink.refused }
+after_sure_put sink piece answer = record {
+  bytes = sink.bytes ++ taken_of piece answer;
+  refused = refused_after sink.refused answer;
+}
