@@ -1,3 +1,4 @@
+pub mod Counts
 pub mod TwoPuts
 mod Places
 mod Reading
