@@ -1,6 +1,5 @@
 -- The shelves in memory: what they mean, and what a read makes of them.
-use Rattle.std.specs.Prelude.{ℕ, ◌-◌, List, [], ◌++◌, map, length, replicate, position, find, slice_index, slice_set, Option, Some, None, option_map, unwrap_or, Result, Err, if◌then◌else◌}
-use Rattle.std.specs.Prelude.{bytes_eq}
+use Rattle.std.specs.Prelude.{ℕ, ◌-◌, List, [], ◌++◌, map, length, replicate, position, find, slice_index, slice_set, Option, Some, None, option_map, unwrap_or, bytes_eq, Result, Err, if◌then◌else◌}
 use Rattle.std.specs.Global.{Vec}
 use Rattle.cw_io.specs.Calls.{is_due}
 use Rattle.cw_io.specs.Causes.{raised}
@@ -24,8 +23,8 @@ content_of files name = option_map (λ file. file.1) (find (λ file. bytes_eq fi
 abbrev pub sure_content : List (List ℕ × List ℕ) → List ℕ → List ℕ
 sure_content files name = unwrap_or (content_of files name) []
 
--- a shelf that fails where it is told to: its files, the numbers of the calls that are to fail, the number of the
--- next call, the count of faults of each file in order, and the count that all names share that aren't held
+-- a shelf that fails where it is told to: its files, the numbers of the calls that are to fail, the number of
+-- the next call, the count of faults of each file in order, and the count that all names share that aren't held
 pub record MemShelfState : Type 0 where
   pub files : List (List ℕ × List ℕ)
   pub failing : List ℕ
@@ -35,7 +34,13 @@ pub record MemShelfState : Type 0 where
 
 -- nothing read yet
 abbrev pub new_mem_shelf : List (List ℕ × List ℕ) → List ℕ → MemShelfState
-new_mem_shelf given numbers = record { files = given; failing = numbers; calls = 0; faults = replicate (length given) 0; unheld = 0 }
+new_mem_shelf given numbers = record {
+  files = given;
+  failing = numbers;
+  calls = 0;
+  faults = replicate (length given) 0;
+  unheld = 0;
+}
 
 -- the count of a file by its place, or of the names that aren't held
 abbrev pub faults_at : MemShelfState → Option ℕ → ℕ
@@ -66,7 +71,8 @@ after_read shelf name answer = record shelf {
 
 -- the answer that is due to a read of a name
 abbrev pub answer_due : MemShelfState → List ℕ → ℕ → Result (List ℕ) ReadFault
-answer_due shelf name max = if is_due shelf.failing shelf.calls then Err Failed else answer_for (content_of shelf.files name) max
+answer_due shelf name max =
+    if is_due shelf.failing shelf.calls then Err Failed else answer_for (content_of shelf.files name) max
 
 -- counters of the first files, and 0 for the others
 abbrev pub padded : ℕ → List ℕ → List ℕ

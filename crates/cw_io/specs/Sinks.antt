@@ -9,8 +9,8 @@ pub record SureSinkState : Type 0 where
   pub bytes : List ℕ
   pub refused : ℕ
 
--- a sink that fails where it is told to: beside that the numbers of the calls that are to fail, the number of the
--- next call, the length of the longest piece that was put, and the count of faults
+-- a sink that fails where it is told to: beside that the numbers of the calls that are to fail, the number of
+-- the next call, the length of the longest piece that was put, and the count of faults
 pub record MemSinkState : Type 0 where
   pub bytes : List ℕ
   pub failing : List ℕ

@@ -15,8 +15,8 @@ use std::rt::Files;
 /// The most bytes that are asked of a file in one turn.
 const CHUNK: usize = 4096;
 
-/// The files of the system, by their paths. It doesn't tell what they hold. Each error of opening or reading raises
-/// the one count of faults that all names share.
+/// The files of the system, by their paths. It doesn't tell what they hold. Each error of opening or reading
+/// raises the one count of faults that all names share.
 #[derive(Drop)]
 pub struct FileShelf<R: Files + Drop> {
     rt: R,
@@ -41,13 +41,14 @@ impl<R: Files + Drop> FileShelf<R> {
     }
 }
 
-/// One read, of at most one byte more than `room`, which is appended to `all`. It answers how many bytes came, and
-/// 0 only at the end.
+/// One read, of at most one byte more than `room`, which is appended to `all`. It answers how many bytes came,
+/// and 0 only at the end.
 fn read_some<F: Read>(file: &mut F, all: &mut Vec<u8>, room: usize) -> Result<usize, ReadFault>
     ensures bound { IfOk result (λ count. count ≤ room + 1) }
     ensures front { OnOk result (take (vec_len all.old) all.new.items ≡ all.old.items) }
     ensures count { IfOk result (λ count. vec_len all.new ≡ vec_len all.old + count) }
-    ensures bytes { OnOk result (Consumes (F.remaining file.old) (F.remaining file.new) (drop (vec_len all.old) all.new.items)) }
+    ensures bytes { OnOk result (Consumes (F.remaining file.old) (F.remaining file.new)
+        (drop (vec_len all.old) all.new.items)) }
     ensures end { IfOk result (λ count. count ≡ 0 → IsAtEnd (F.remaining file.new)) }
     ensures any_length { IsErrOf result ReadFault.TooLong → ⊥ }
 {
@@ -66,7 +67,8 @@ fn read_all<F: Read>(alloc: Global, file: &mut F, max: usize) -> Result<Vec<u8>,
 
     // Where the reader tells what it has left: all of that, or it is too long.
     ensures whole { IfOk result (λ bytes. IfSome (F.remaining file.old) (λ left. bytes.items ≡ left)) }
-    ensures too_long { IsErrOf result ReadFault.TooLong → IfSome (F.remaining file.old) (λ left. max < length left) }
+    ensures too_long { IsErrOf result ReadFault.TooLong
+        → IfSome (F.remaining file.old) (λ left. max < length left) }
 {
     let mut all = Vec::new(alloc);
     while all.len() <= max {

@@ -30,14 +30,20 @@ impl Model for MemShelf {
 
     ghost Value = { MemShelfState };
 
-    ghost view = { λ s. record { files = listed s.files.items; failing = s.failing.items; calls = s.calls; faults = padded (vec_len s.files) s.faults.items; unheld = s.unheld } };
+    ghost view = { λ s. record {
+      files = listed s.files.items;
+      failing = s.failing.items;
+      calls = s.calls;
+      faults = padded (vec_len s.files) s.faults.items;
+      unheld = s.unheld;
+    } };
 
     ghost invariant = { λ s. vec_len s.faults ≤ vec_len s.files };
 }
 
 impl MemShelf {
-    /// A shelf of these files, each a name and its bytes. Of two files of one name the first counts. `failing` has
-    /// the numbers, from 0, of the calls of `read` that are to fail. It takes no memory.
+    /// A shelf of these files, each a name and its bytes. Of two files of one name the first counts. `failing`
+    /// has the numbers, from 0, of the calls of `read` that are to fail. It takes no memory.
     pub fn make(files: Vec<(Vec<u8>, Vec<u8>)>, failing: Vec<u32>) -> MemShelf
         ensures { result ≡ new_mem_shelf (listed files.items) failing.items }
     {
@@ -58,8 +64,10 @@ fn raise_at(counts: &mut Vec<u64>, place: usize, files: usize) -> Result<(), All
     requires room { vec_len counts.old ≤ files }
     ensures room { vec_len counts.new ≤ files }
     ensures ok { OnOk result (padded files counts.new.items
-        ≡ slice_set (padded files counts.old.items) place (raised (slice_index (padded files counts.old.items) place))) }
-    ensures later { OnOk result ((at : ℕ) → slice_index (padded files counts.old.items) at ≤ slice_index (padded files counts.new.items) at) }
+        ≡ slice_set (padded files counts.old.items) place
+        (raised (slice_index (padded files counts.old.items) place))) }
+    ensures later { OnOk result ((at : ℕ) → slice_index (padded files counts.old.items) at
+        ≤ slice_index (padded files counts.new.items) at) }
     ensures err { OnErr result (counts.new.items ≡ counts.old.items) }
 {
     counts.resize(files, 0)?;
@@ -77,8 +85,10 @@ impl Shelf for MemShelf {
         ensures within { IfOk result (λ bytes. vec_len bytes ≤ max) }
         ensures answer { IsAnswer (Some (content_of self.old.files)) name.now max (answer_of result) }
         ensures later { (other : List ℕ) → faults_of self.old other ≤ faults_of self.new other }
-        ensures failed { IsErrOf result ReadFault.Failed → Rose (faults_of self.old name.now) (faults_of self.new name.now) }
-        ensures unheld { IsUnheld (Some (content_of self.old.files)) name.now → Rose (faults_of self.old name.now) (faults_of self.new name.now) }
+        ensures failed { IsErrOf result ReadFault.Failed
+            → Rose (faults_of self.old name.now) (faults_of self.new name.now) }
+        ensures unheld { IsUnheld (Some (content_of self.old.files)) name.now
+            → Rose (faults_of self.old name.now) (faults_of self.new name.now) }
 
         // Which answer is due, and what the shelf is then. Only want of memory comes beside it.
         ensures due { IsDue (answer_due self.old name.now max) (answer_of result) }

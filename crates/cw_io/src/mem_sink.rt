@@ -29,12 +29,19 @@ impl Model for MemSink {
 
     ghost Value = { MemSinkState };
 
-    ghost view = { λ s. record { bytes = s.bytes.items; failing = s.failing.items; calls = s.calls; longest = s.longest; faults = s.faults; refused = s.refused } };
+    ghost view = { λ s. record {
+      bytes = s.bytes.items;
+      failing = s.failing.items;
+      calls = s.calls;
+      longest = s.longest;
+      faults = s.faults;
+      refused = s.refused;
+    } };
 }
 
 impl MemSink {
-    /// A sink that has taken nothing. `failing` has the numbers, from 0, of the calls of `put` that are to fail.
-    /// The bytes grow later with `alloc`; the maker itself takes no memory.
+    /// A sink that has taken nothing. `failing` has the numbers, from 0, of the calls of `put` that are to
+    /// fail. The bytes grow later with `alloc`; the maker itself takes no memory.
     pub fn make(alloc: Global, failing: Vec<u32>) -> MemSink
         ensures { result ≡ new_mem_sink failing.items }
     {

@@ -5,8 +5,8 @@ ghost use Rattle.cw_io.specs.Pieces.{Puts};
 
 use crate::SinkFault;
 
-/// Takes bytes, piece by piece. It means the bytes that it has taken, where it tells them, and two counts that
-/// never fall. A count that stands at its last value, 2^64 - 1, also counts as risen.
+/// Takes bytes, piece by piece. It means the bytes that it has taken, where it tells them, and two counts
+/// that never fall. A count that stands at its last value, 2^64 - 1, also counts as risen.
 pub trait Sink {
     /// The bytes taken so far, or `None` where the sink doesn't tell.
     ghost taken: { Self → Option (List ℕ) };
@@ -18,6 +18,9 @@ pub trait Sink {
     ghost refused: { Self → ℕ };
 
     /// Appends a piece. After an error a front of the piece, maybe empty or all of it, was appended.
+    ///
+    /// `Failed`: the bytes can't be written, and the count of faults rose. `NoMemory`: there was no memory for
+    /// them, and the count of refused memory rose.
     fn put(&mut self, piece: &[u8]) -> Result<(), SinkFault>
         ensures bytes { Puts (taken self.old) (taken self.new) piece.now result }
         ensures failed { HasCause SinkFault.Failed (faults self.old) (faults self.new) result }

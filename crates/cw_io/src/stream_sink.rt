@@ -7,8 +7,9 @@ use crate::{Sink, SinkFault};
 use std::io;
 use std::io::Write;
 
-/// A writer, as a file or the standard output. It has taken what the writer says that it holds, and the writers
-/// of the system don't say. Each error of the writer, and a write that takes nothing, raises the count of faults.
+/// A writer, as a file or the standard output. It has taken what the writer says that it holds, and the
+/// writers of the system don't say. A put writes the whole piece and flushes. Each error of the writer, and
+/// a write that takes nothing of a piece that isn't empty, raises the count of faults and is `Failed`.
 #[derive(Drop)]
 pub struct StreamSink<W: Write + Drop> {
     writer: W,
@@ -32,7 +33,8 @@ fn write_some<W: Write>(writer: &mut W, piece: &[u8]) -> io::Result<usize>
     requires { 0 < length piece.now }
     ensures count { IfOk result (λ count. 0 < count) }
     ensures bound { IfOk result (λ count. count ≤ length piece.now) }
-    ensures taken { IfOk result (λ count. Grows (W.contents writer.old) (W.contents writer.new) (take count piece.now)) }
+    ensures taken { IfOk result (λ count.
+        Grows (W.contents writer.old) (W.contents writer.new) (take count piece.now)) }
     ensures kept { OnErr result (Grows (W.contents writer.old) (W.contents writer.new) []) }
 {
     let count = writer.write(piece)?;
@@ -64,19 +66,21 @@ fn write_and_flush<W: Write>(writer: &mut W, piece: &[u8]) -> io::Result<()>
 impl<W: Write + Drop> Sink for StreamSink<W> {
     ghost use Rattle.cw_io.specs.Streams.{stream_writer, stream_faults};
 
-    ghost taken = { λ s. W.contents s.writer };
+    ghost taken = { λ s. W.contents (stream_writer s) };
 
-    ghost faults = { λ s. s.faults };
+    ghost faults = { stream_faults };
 
     ghost refused = { λ _. 0 };
 
     fn put(&mut self, piece: &[u8]) -> Result<(), SinkFault>
-        ensures bytes { Puts (W.contents (stream_writer self.old)) (W.contents (stream_writer self.new)) piece.now result }
+        ensures bytes { Puts (W.contents (stream_writer self.old)) (W.contents (stream_writer self.new))
+            piece.now result }
         ensures failed { HasCause SinkFault.Failed (stream_faults self.old) (stream_faults self.new) result }
         ensures refused { HasCause SinkFault.NoMemory 0 0 result }
 
         // The count of faults rises with each error, and with nothing else.
-        ensures counted { stream_faults self.new ≡ (if is_ok result then stream_faults self.old else raised (stream_faults self.old)) }
+        ensures counted { stream_faults self.new
+            ≡ (if is_ok result then stream_faults self.old else raised (stream_faults self.old)) }
     {
         match write_and_flush(&mut self.writer, piece) {
             Ok(()) => Ok(()),

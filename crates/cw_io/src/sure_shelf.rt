@@ -28,7 +28,8 @@ impl Model for SureShelf {
 }
 
 impl SureShelf {
-    /// A shelf of these files, each a name and its bytes. Of two files of one name the first counts. It takes no memory.
+    /// A shelf of these files, each a name and its bytes. Of two files of one name the first counts. It takes
+    /// no memory.
     pub fn make(files: Vec<(Vec<u8>, Vec<u8>)>) -> SureShelf
         ensures { result ≡ listed files.items }
     {
@@ -44,7 +45,8 @@ impl Shelf for SureShelf {
     fn read(&mut self, alloc: Global, name: &str, max: usize) -> Result<Vec<u8>, ReadFault>
         ensures same { self.new ≡ self.old }
         ensures within { IfOk result (λ bytes. vec_len bytes ≤ max) }
-        ensures answer { IsAnswer (Some (λ name. Some (sure_content self.old name))) name.now max (answer_of result) }
+        ensures answer { IsAnswer (Some (λ other. Some (sure_content self.old other))) name.now max
+            (answer_of result) }
         ensures sure { IsErrOf result ReadFault.Failed → ⊥ }
 
         // The bytes, or `TooLong`, exactly; only want of memory comes beside it.

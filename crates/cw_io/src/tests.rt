@@ -4,9 +4,9 @@ use crate::{
     SureSink, put_both,
 };
 use std::alloc::{AllocError, Global};
-use std::fs;
 use std::process::Abort;
 use std::test::Fail;
+use std::{fs, io};
 
 /// What one read answers, with its bytes as text for an assertion.
 fn expect_read<S: Shelf>(
@@ -110,6 +110,13 @@ fn real_files(rt: HostRuntime) -> Result<(), Fail> {
     drop(sink);
     fs::write(&rt, "long", vec![in alloc; b'x'; 9000]?.as_slice())?;
     fs::create_dir(&rt, "folder")?;
+
+    let stderr = rt.stderr();
+    assert_eq!(rt;
+        StreamSink::make(io::writer(&rt)).put(b"to standard output\n"),
+        Ok(())
+    );
+    assert_eq!(rt; StreamSink::make(io::writer(&stderr)).put(b""), Ok(()));
 
     let mut shelf = FileShelf::make(&rt);
     for (name, max, want) in [
