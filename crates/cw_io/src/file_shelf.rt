@@ -1,5 +1,5 @@
 //! The shelf over the files of the system.
-ghost use Rattle.std.specs.Prelude.{◌≡◌, ◌+◌, ◌≤◌, ◌<◌, ℕ, List, Option, None, IfOk, IfSome, OnOk, IsErrOf, vec_len, length, take, drop};
+ghost use Rattle.std.specs.Prelude.{◌≡◌, ◌+◌, ◌≤◌, ◌<◌, ℕ, None, IfOk, IfSome, OnOk, IsErrOf, vec_len, length, take, drop};
 ghost use Rattle.std.specs.Io.KnownBytes.{Consumes, IsAtEnd};
 ghost use Rattle.cw_io.specs.Answers.{answer_of};
 ghost use Rattle.cw_io.specs.Causes.{Rose};

@@ -1,5 +1,5 @@
 //! Files in memory, by name.
-ghost use Rattle.std.specs.Prelude.{◌≡◌, ◌≤◌, ◌<◌, ℕ, List, Option, Some, IfSome, option_map, length, position, bytes_eq};
+ghost use Rattle.std.specs.Prelude.{◌≡◌, ◌<◌, Option, Some, IfSome, option_map, length, position, bytes_eq};
 ghost use Rattle.cw_io.specs.Answers.{answer_of};
 ghost use Rattle.cw_io.specs.Files.{IsDue, answer_for};
 ghost use Rattle.cw_io.specs.Shelves.{listed, content_of, place_of as first_place};

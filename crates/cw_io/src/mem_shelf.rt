@@ -1,8 +1,8 @@
 //! A shelf in memory that fails where it is told to.
-ghost use Rattle.std.specs.Prelude.{◌≡◌, ◌≤◌, ◌<◌, ℕ, List, Option, Some, None, Ok, Err, IfOk, OnOk, OnErr, IsErrOf, vec_len, position, slice_index, slice_set, bytes_eq};
+ghost use Rattle.std.specs.Prelude.{◌≡◌, ◌≤◌, ◌<◌, ℕ, List, Some, Ok, Err, IfOk, OnOk, OnErr, IsErrOf, vec_len, slice_index, slice_set};
 ghost use Rattle.cw_io.specs.Answers.{answer_of};
 ghost use Rattle.cw_io.specs.Causes.{Rose, raised};
-ghost use Rattle.cw_io.specs.Files.{FilesByName, IsAnswer, IsUnheld, IsDue, answer_for};
+ghost use Rattle.cw_io.specs.Files.{IsAnswer, IsUnheld, IsDue};
 ghost use Rattle.cw_io.specs.Shelves.{listed, padded, content_of, new_mem_shelf, faults_of, after_read, answer_due};
 
 use crate::calls::is_due;

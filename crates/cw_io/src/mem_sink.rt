@@ -1,5 +1,5 @@
 //! A sink in memory that fails where it is told to.
-ghost use Rattle.std.specs.Prelude.{◌≡◌, ℕ, List, Option, Some, None, Ok, OnOk, IsErrOf, IsTrue, false, ◌++◌};
+ghost use Rattle.std.specs.Prelude.{◌≡◌, Some, Ok, OnOk, IsErrOf, IsTrue, false};
 ghost use Rattle.cw_io.specs.Causes.{HasCause};
 ghost use Rattle.cw_io.specs.Pieces.{Puts};
 ghost use Rattle.cw_io.specs.Calls.{is_due};

@@ -1,5 +1,5 @@
 //! What takes bytes.
-ghost use Rattle.std.specs.Prelude.{◌≡◌, ◌++◌, ℕ, List, Option};
+ghost use Rattle.std.specs.Prelude.{◌++◌, ℕ, List, Option};
 ghost use Rattle.cw_io.specs.Causes.{HasCause};
 ghost use Rattle.cw_io.specs.Pieces.{Puts};
 

@@ -1,5 +1,5 @@
 //! The sink over a writer of the system.
-ghost use Rattle.std.specs.Prelude.{◌≡◌, ◌<◌, ◌≤◌, ℕ, List, [], take, length, Option, Ok, Err, IfOk, OnErr, is_ok, if◌then◌else◌};
+ghost use Rattle.std.specs.Prelude.{◌≡◌, ◌<◌, ◌≤◌, [], take, length, Ok, Err, IfOk, OnErr, is_ok, if◌then◌else◌};
 ghost use Rattle.cw_io.specs.Causes.{HasCause, raised};
 ghost use Rattle.cw_io.specs.Pieces.{Grows, Puts};
 

@@ -1,8 +1,7 @@
 //! A shelf in memory that never fails.
-ghost use Rattle.std.specs.Prelude.{◌≡◌, ◌≤◌, ℕ, List, Option, Some, None, Ok, Err, IfOk, IsErrOf, vec_len};
+ghost use Rattle.std.specs.Prelude.{◌≡◌, ◌≤◌, ℕ, List, Some, None, Ok, IfOk, IsErrOf, vec_len};
 ghost use Rattle.cw_io.specs.Answers.{answer_of};
-ghost use Rattle.cw_io.specs.Causes.{Rose};
-ghost use Rattle.cw_io.specs.Files.{FilesByName, IsAnswer, IsUnheld, IsDue, answer_for};
+ghost use Rattle.cw_io.specs.Files.{IsAnswer, IsDue, answer_for};
 ghost use Rattle.cw_io.specs.Shelves.{listed, sure_content};
 
 use crate::files::{copy_within, file_of};

@@ -1,5 +1,5 @@
 //! A sink in memory that never fails.
-ghost use Rattle.std.specs.Prelude.{◌≡◌, ℕ, List, [], Option, Some, None, Ok};
+ghost use Rattle.std.specs.Prelude.{◌≡◌, [], Some, Ok};
 ghost use Rattle.cw_io.specs.Causes.{HasCause};
 ghost use Rattle.cw_io.specs.Pieces.{Puts};
 ghost use Rattle.cw_io.specs.Sinks.{after_sure_put};
