@@ -1,5 +1,5 @@
 //! A shelf in memory that fails where it is told to.
-ghost use Rattle.std.specs.Prelude.{◌≡◌, ◌≤◌, ◌<◌, ℕ, List, Some, Ok, Err, IfOk, OnOk, OnErr, IsErrOf, vec_len, slice_index, slice_set};
+ghost use Rattle.std.specs.Prelude.{◌≡◌, ◌≤◌, ◌<◌, ℕ, List, Some, None, Ok, Err, IfOk, OnOk, OnErr, IsErrOf, vec_len, slice_index, slice_set};
 ghost use Rattle.cw_io.specs.Answers.{answer_of};
 ghost use Rattle.cw_io.specs.Causes.{Rose, raised};
 ghost use Rattle.cw_io.specs.Files.{IsAnswer, IsUnheld, IsDue};
@@ -90,8 +90,10 @@ impl Shelf for MemShelf {
         ensures unheld { IsUnheld (Some (content_of self.old.files)) name.now
             → Rose (faults_of self.old name.now) (faults_of self.new name.now) }
 
-        // Which answer is due, and what the shelf is then. Only want of memory comes beside it.
+        // Which answer is due, and what the shelf is then. Only want of memory comes beside it, and only for a
+        // name that is held.
         ensures due { IsDue (answer_due self.old name.now max) (answer_of result) }
+        ensures absent { content_of self.old.files name.now ≡ None → result ≡ Err ReadFault.Failed }
         ensures after { self.new ≡ after_read self.old name.now (answer_of result) }
     {
         let due = is_due(&self.failing, self.calls);
