@@ -1,0 +1,5 @@
+pub mod Counts
+pub mod TwoPuts
+mod Places
+mod Reading
+mod Writing
