@@ -1,0 +1,5 @@
+pub mod Rows
+pub mod Heads
+pub mod Threads
+pub mod Spelling
+pub mod Moves
