@@ -3,3 +3,4 @@ pub mod Heads
 pub mod Threads
 pub mod Spelling
 pub mod Moves
+pub mod Piles
