@@ -4,8 +4,8 @@
 mod buckets;
 mod chains;
 mod links;
-// #[cfg(test)]
-// mod tests;
+#[cfg(test)]
+mod tests;
 
 pub use buckets::Buckets;
 pub use chains::Chains;
