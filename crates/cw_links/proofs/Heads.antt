@@ -1,12 +1,12 @@
-use Rattle.std.proofs.Common.{◌≡◌, ◌≢◌, ℕ, suc, zero, ◌+◌, ◌-◌, ◌<◌, ◌≤◌, min, Bool, true, false, cond, not, eqb, List, [], ◌∷◌, ◌++◌, length, map, get_or, Option, Some, None, refl, sym, ap, ◌∙◌, subst, arith, inl, inr, ⊎_elim, ◌⊎◌, ltb, set}
-use Rattle.std.specs.List.{filter, slice_get}
+-- The row of the lists: heads and cells, the lists without a cell, and with one in front.
+use Rattle.std.proofs.Common.{◌≡◌, ℕ, suc, zero, ◌+◌, ◌<◌, ◌≤◌, true, false, not, eqb, List, [], ◌∷◌, ◌++◌, length, Option, Some, None, refl, sym, ap, ◌∙◌, subst, arith, inl, inr, ⊎_elim, ◌⊎◌}
+use Rattle.std.specs.List.{slice_get}
 use Rattle.std.proofs.lemmas.List.Elements.{filter-append}
-use Rattle.std.proofs.lemmas.Bool.{eqb-true, eqb-false, eq-eqb, ne_eqb, cases_eq, false≢true, cases_Bool, both_ways, cond-true, cond-false, ltb-true, lt-ltb, le-ltb}
+use Rattle.std.proofs.lemmas.Bool.{eq-eqb, ne_eqb, cases_eq, false≢true, cases_Bool}
 use Rattle.std.proofs.lemmas.Bool.Decides.{nat_tests}
-use Rattle.std.proofs.lemmas.Option.{none-some, same_Some}
-use Rattle.cw_links.specs.Lists.{list_at, without, with_front}
-use Rattle.cw_links.specs.Rows.{has, after, Once, head_of, row_from, Below, link_to}
-use Rattle.cw_links.proofs.Rows.{less, put_behind, has-append, put_behind-append_right, apart-append, Once-append_right, Once-append_left, Once-append, has-less_within, has-after}
+use Rattle.cw_links.specs.Lists.{without, with_front}
+use Rattle.cw_links.specs.Rows.{has, head_of, row_from, Below, link_to}
+use Rattle.cw_links.proofs.Rows.{less, put_behind, has-append, put_behind-append_right, has-less_within}
 
 pub link_to_cell : (o : Option ℕ) (y : ℕ) → y < 4294967295 → link_to o ≡ y → o ≡ Some y
 link_to_cell None y l e = absurd (omega (arith, e))
@@ -46,8 +46,8 @@ row-with_front n (xs ∷ ls) k (suc l) c i few b =
     let e : k + suc l ≡ suc k + l = omega arith in
     rw (ne_eqb (head_of k) (head_of (k + suc l)) (λ q. absurd (omega (arith, q))))
     (ap (λ w. head_of k ∷ w)
-        (ap (λ w. xs ++ w) (row-with_front n ls (suc k) l c (omega (arith, i)) few b.1 ∙ ap (λ w. put_behind (row_from (suc k) ls) (head_of w) c) (sym e))
-        ∙ sym (put_behind-append_right xs (row_from (suc k) ls) (head_of (k + suc l)) c (absent_head n xs (head_of (k + suc l)) b.0 (omega arith)))))
+    (ap (λ w. xs ++ w) (row-with_front n ls (suc k) l c (omega (arith, i)) few b.1 ∙ ap (λ w. put_behind (row_from (suc k) ls) (head_of w) c) (sym e))
+    ∙ sym (put_behind-append_right xs (row_from (suc k) ls) (head_of (k + suc l)) c (absent_head n xs (head_of (k + suc l)) b.0 (omega arith)))))
 
 -- the head of a list stands in the row
 pub has_head : (ls : List (List ℕ)) (k l : ℕ) → l < length ls → has (row_from k ls) (head_of (k + l)) ≡ true
@@ -64,9 +64,9 @@ in_row n [] k y b h = absurd (false≢true h)
 in_row n (xs ∷ ls) k y b h = ⊎_elim
     (λ e. inr (omega (arith, e), omega (arith, e)))
     (λ ne. ⊎_elim
-        (λ i. inl (b.0 y i))
-        (λ a. ⊎_elim (λ c. inl c) (λ q. inr (omega (arith, q.0), omega (arith, q.1))) (in_row n ls (suc k) y b.1 (grind (arith, nat_tests, has-append xs (row_from (suc k) ls) y))))
-        (cases_Bool (has xs y)))
+    (λ i. inl (b.0 y i))
+    (λ a. ⊎_elim (λ c. inl c) (λ q. inr (omega (arith, q.0), omega (arith, q.1))) (in_row n ls (suc k) y b.1 (grind (arith, nat_tests, has-append xs (row_from (suc k) ls) y))))
+    (cases_Bool (has xs y)))
     (cases_eq (head_of k) y)
 
 pub link_to_row : (ls : List (List ℕ)) (k : ℕ) → link_to (slice_get (row_from k ls) 0) ≡ 4294967295

@@ -3,4 +3,5 @@ pub mod Heads
 pub mod Threads
 pub mod Spelling
 pub mod Moves
+pub mod CallerLemmas
 pub mod Piles

@@ -1,16 +1,16 @@
 -- What the calls do to the vectors, and what that does to the lists.
-use Rattle.std.proofs.Common.{◌≡◌, ◌≢◌, ℕ, suc, zero, ◌+◌, ◌-◌, ◌<◌, ◌≤◌, min, Bool, true, false, cond, not, eqb, List, [], ◌∷◌, ◌++◌, length, map, get_or, Option, Some, None, refl, sym, ap, ◌∙◌, subst, arith, inl, inr, ⊎_elim, ◌⊎◌, ltb, set, replicate, zero-add}
-use Rattle.std.specs.List.{filter, slice_get, Contains, concat}
+use Rattle.std.proofs.Common.{◌≡◌, ◌≢◌, ℕ, suc, zero, ◌+◌, ◌-◌, ◌<◌, ◌≤◌, Bool, true, false, cond, eqb, List, [], ◌∷◌, ◌++◌, length, get_or, Option, Some, None, refl, sym, ap, ◌∙◌, subst, arith, inl, inr, ⊎_elim, ltb, set, replicate, zero-add}
+use Rattle.std.specs.List.{slice_get, Contains, concat}
 use Rattle.std.specs.Option.{IfSome, IfNone}
-use Rattle.std.proofs.lemmas.List.{length-set, get_or-set_same, get_or-set_other, get_or_push, length_push, get_or_append_left, get_or-replicate, length-replicate, get_or-append_right, length-append, append-nil, get_or_read, length-map, get_or_past, append_assoc}
-use Rattle.std.proofs.lemmas.Bool.{eqb-true, eqb-false, eq-eqb, ne_eqb, cases_eq, cases_lt, false≢true, cases_Bool, both_ways, cond-true, cond-false, ltb-true, lt-ltb, le-ltb}
+use Rattle.std.proofs.lemmas.List.{length-set, get_or-set_same, get_or-set_other, get_or_push, length_push, get_or_append_left, get_or-replicate, length-replicate, get_or-append_right, length-append, get_or_read, length-map, get_or_past, append_assoc}
+use Rattle.std.proofs.lemmas.Bool.{eq-eqb, ne_eqb, cases_eq, cases_lt, false≢true, cases_Bool, cond-true, cond-false, lt-ltb, le-ltb}
 use Rattle.std.proofs.lemmas.Bool.Decides.{nat_tests}
 use Rattle.std.proofs.lemmas.Option.{none-some, same_Some}
 use Rattle.cw_links.specs.Lists.{list_at, without, with_front, IsUnlinked, AreApart}
-use Rattle.cw_links.specs.Rows.{has, after, Once, head_of, row_from, Below, link_to, IsNode, Threads, AreLinks, next_at, lists_of, spelled}
-use Rattle.cw_links.proofs.Rows.{less, put_behind, Once-less, Once-put_behind, less_absent, absent_tail, has-less_same, has-before, has-after, node_before, has-append, Agrees, Agrees-after, Once-append, has_tail, has-first, after_absent, apart-append, Once-append_left, Once-append_right}
-use Rattle.cw_links.proofs.Heads.{in_row, has_head, row-without, row-with_front, Below-without, Below-with_front, Below-more, link_to_row, link_to_cell, link_to_past}
-use Rattle.cw_links.proofs.Threads.{TakesOut, PutsBehind, Threads-less, Threads-put_behind, Threads-more_cell, Threads-append, AreHeads}
+use Rattle.cw_links.specs.Rows.{has, after, Once, head_of, row_from, Below, link_to, IsNode, Threads, AreLinks, next_at, lists_of}
+use Rattle.cw_links.proofs.Rows.{less, put_behind, Once-less, Once-put_behind, less_absent, absent_tail, has-less_same, has-before, has-after, node_before, has-append, Agrees-after, Once-append, has_tail, has-first, after_absent, apart-append, Once-append_left, Once-append_right}
+use Rattle.cw_links.proofs.Heads.{in_row, has_head, row-without, row-with_front, Below-without, Below-with_front, Below-more, link_to_cell}
+use Rattle.cw_links.proofs.Threads.{TakesOut, PutsBehind, Threads-less, Threads-put_behind, Threads-more_cell, Threads-append}
 use Rattle.cw_links.proofs.Spelling.{IsDistinct-from_Once, map-spelled, head_link, cell_next}
 
 -- reads
@@ -22,7 +22,6 @@ next_at_head : (f n : List ℕ) (j : ℕ) → next_at f n (head_of j) ≡ get_or
 next_at_head f n j = rw (le-ltb (head_of j) 4294967296 (omega arith)) (ap (λ w. get_or f w 0) (omega arith))
 
 module _ (f n b : List ℕ) (ls : List (List ℕ)) (a : AreLinks f n b ls) where
-
   pub cell_kept : (y : ℕ) → y < length n → get_or n y 0 ≡ link_to (after (row_from 0 ls) y)
   cell_kept y i = sym (next_at_cell f n y (omega (arith, a.few_cells))) ∙ a.threads.nexts y (inl i)
 
@@ -145,10 +144,10 @@ module _ (f n b : List ℕ) (ls : List (List ℕ)) (c p x : ℕ) (a : AreLinks f
         next_others = λ y yc yp is. next_at_set_other f' n' c 4294967295 y yc ∙ sn y ∙ cond_there y p x (next_at f n y) yp;
         before_c = get_or-set_same b' c 18446744073709551615 0 (omega (arith, a.long));
         before_next = λ y yc k l. get_or-set_other b' c y 18446744073709551615 0 yc ∙ sb y (omega (arith, a.long)) ∙ cond_here y x p (get_or b y 0) (k ∙ sym e_x);
-        before_others = λ y yc k l. get_or-set_other b' c y 18446744073709551615 0 yc ∙ sb y (omega (arith, a.long)) ∙ cond_there y x p (get_or b y 0) (λ q. k (q ∙ e_x))
+        before_others = λ y yc k l. get_or-set_other b' c y 18446744073709551615 0 yc ∙ sb y (omega (arith, a.long)) ∙ cond_there y x p (get_or b y 0) (λ q. k (q ∙ e_x));
       } in
       let t : Threads (length n) (length f) (next_at f' (set n' c 4294967295)) (λ y. get_or (set b' c 18446744073709551615) y 0) (less (row_from 0 ls) c) =
-        Threads-less (length n) (length f) (next_at f n) (λ y. get_or b y 0) (next_at f' (set n' c 4294967295)) (λ y. get_or (set b' c 18446744073709551615) y 0) (row_from 0 ls) p c a.few_cells a.once i a.threads p_before w in
+      Threads-less (length n) (length f) (next_at f n) (λ y. get_or b y 0) (next_at f' (set n' c 4294967295)) (λ y. get_or (set b' c 18446744073709551615) y 0) (row_from 0 ls) p c a.few_cells a.once i a.threads p_before w in
       record {
         heads = lf ∙ a.heads ∙ sym (length-map ls _);
         long = length-set b' c 18446744073709551615 ∙ lb ∙ a.long ∙ sym e_n;
@@ -156,7 +155,7 @@ module _ (f n b : List ℕ) (ls : List (List ℕ)) (c p x : ℕ) (a : AreLinks f
         few_lists = omega (arith, a.few_lists);
         once = rw (row-without ls 0 c (omega (arith, a.few_cells))) (Once-less (row_from 0 ls) c a.once);
         below = rw e_n (Below-without (length n) ls c a.below);
-        threads = rw (e_n, lf, row-without ls 0 c (omega (arith, a.few_cells))) t
+        threads = rw (e_n, lf, row-without ls 0 c (omega (arith, a.few_cells))) t;
       }
 
 -- the call that puts a cell in front
@@ -193,12 +192,12 @@ module _ (f n b : List ℕ) (ls : List (List ℕ)) (c l x : ℕ) (a : AreLinks f
         next_others = λ y yc yh is. next_at_set_other (set f l c) n c x y yc ∙ others y yh is;
         before_c = sb c (omega (arith, a.long)) ∙ cond_there c x c (get_or (set b c h) c 0) (λ k. not_next k) ∙ get_or-set_same b c h 0 (omega (arith, a.long));
         before_next = λ y yc k q. sb y (omega (arith, a.long)) ∙ cond_here y x c (get_or (set b c h) y 0) (k ∙ sym e_x);
-        before_others = λ y yc k q. sb y (omega (arith, a.long)) ∙ cond_there y x c (get_or (set b c h) y 0) (λ z. k (z ∙ e_x)) ∙ get_or-set_other b c y h 0 yc
+        before_others = λ y yc k q. sb y (omega (arith, a.long)) ∙ cond_there y x c (get_or (set b c h) y 0) (λ z. k (z ∙ e_x)) ∙ get_or-set_other b c y h 0 yc;
       } in
       let t : Threads (length n) (length f) (next_at (set f l c) (set n c x)) (λ y. get_or b' y 0) (put_behind (row_from 0 ls) h c) =
-        Threads-put_behind (length n) (length f) (next_at f n) (λ y. get_or b y 0) (next_at (set f l c) (set n c x)) (λ y. get_or b' y 0) (row_from 0 ls) h c a.few_cells i (inr (omega arith, omega arith)) a.threads rh rc w in
+      Threads-put_behind (length n) (length f) (next_at f n) (λ y. get_or b y 0) (next_at (set f l c) (set n c x)) (λ y. get_or b' y 0) (row_from 0 ls) h c a.few_cells i (inr (omega arith, omega arith)) a.threads rh rc w in
       let e_row : row_from 0 (with_front ls l c) ≡ put_behind (row_from 0 ls) h c =
-        row-with_front (length n) ls 0 l c j (omega (arith, a.few_cells)) a.below ∙ ap (λ w. put_behind (row_from 0 ls) (head_of w) c) (zero-add l) in
+      row-with_front (length n) ls 0 l c j (omega (arith, a.few_cells)) a.below ∙ ap (λ w. put_behind (row_from 0 ls) (head_of w) c) (zero-add l) in
       record {
         heads = e_f ∙ a.heads ∙ sym (length-set ls l _);
         long = lb ∙ a.long ∙ sym e_n;
@@ -206,7 +205,7 @@ module _ (f n b : List ℕ) (ls : List (List ℕ)) (c l x : ℕ) (a : AreLinks f
         few_lists = omega (arith, a.few_lists, e_f);
         once = rw e_row (Once-put_behind (row_from 0 ls) h c rh rc a.once);
         below = rw e_n (Below-with_front (length n) ls l c i a.below);
-        threads = rw (e_n, e_f, e_row) t
+        threads = rw (e_n, e_f, e_row) t;
       }
 
 -- a cell that is new
@@ -227,12 +226,12 @@ pub adds_cell : (f n b : List ℕ) (ls : List (List ℕ)) → AreLinks f n b ls 
 adds_cell f n b ls a few =
     let e_n : length (n ++ 4294967295 ∷ []) ≡ length n + 1 = length_push n 4294967295 in
     let t : Threads (length n + 1) (length f) (next_at f (n ++ 4294967295 ∷ [])) (λ y. get_or (b ++ 18446744073709551615 ∷ []) y 0) (row_from 0 ls) =
-      Threads-more_cell (length n) (length f) (next_at f n) (λ y. get_or b y 0) (next_at f (n ++ 4294967295 ∷ [])) (λ y. get_or (b ++ 18446744073709551615 ∷ []) y 0) (row_from 0 ls) (omega arith) a.threads
-      (λ y ne. ap (λ w. cond (ltb y 4294967296) w (get_or f (y - 4294967296) 0)) (get_or_push_other n 4294967295 y ne))
-      (λ y ne. get_or_push_other b 18446744073709551615 y (λ e. ne (e ∙ a.long)))
-      (next_at_cell f (n ++ 4294967295 ∷ []) (length n) (omega arith) ∙ get_or_push n 4294967295 0 (length n) refl)
-      (get_or_push b 18446744073709551615 0 (length n) a.long)
-      (new_absent f n b ls a) in
+    Threads-more_cell (length n) (length f) (next_at f n) (λ y. get_or b y 0) (next_at f (n ++ 4294967295 ∷ [])) (λ y. get_or (b ++ 18446744073709551615 ∷ []) y 0) (row_from 0 ls) (omega arith) a.threads
+    (λ y ne. ap (λ w. cond (ltb y 4294967296) w (get_or f (y - 4294967296) 0)) (get_or_push_other n 4294967295 y ne))
+    (λ y ne. get_or_push_other b 18446744073709551615 y (λ e. ne (e ∙ a.long)))
+    (next_at_cell f (n ++ 4294967295 ∷ []) (length n) (omega arith) ∙ get_or_push n 4294967295 0 (length n) refl)
+    (get_or_push b 18446744073709551615 0 (length n) a.long)
+    (new_absent f n b ls a) in
     record {
       heads = a.heads;
       long = omega (arith, e_n, length_push b 18446744073709551615, a.long);
@@ -240,7 +239,7 @@ adds_cell f n b ls a few =
       few_lists = a.few_lists;
       once = a.once;
       below = rw e_n (Below-more (length n) (length n + 1) ls (omega arith) a.below);
-      threads = rw e_n t
+      threads = rw e_n t;
     }
 
 pub new_unlinked : (f n b : List ℕ) (ls : List (List ℕ)) → AreLinks f n b ls → without ls (length n) ≡ ls
@@ -254,7 +253,7 @@ starts n few =
     let t : Threads n 0 (next_at [] (replicate n 4294967295)) (λ y. get_or (replicate n 18446744073709551615) y 0) [] = record {
       nexts = λ y is. ⊎_elim (λ i. next_at_cell [] (replicate n 4294967295) y (omega arith) ∙ get_or-replicate n y 4294967295 0 i) (λ i. absurd (omega (arith, i.0, i.1))) is;
       backs = λ p y e i. absurd (none-some y e);
-      outs = λ y i h. get_or-replicate n y 18446744073709551615 0 i
+      outs = λ y i h. get_or-replicate n y 18446744073709551615 0 i;
     } in
     record {
       heads = refl;
@@ -263,7 +262,7 @@ starts n few =
       few_lists = omega arith;
       once = tt;
       below = tt;
-      threads = rw e_n t
+      threads = rw e_n t;
     }
 
 row-append : (ms ns : List (List ℕ)) (k : ℕ) → row_from k (ms ++ ns) ≡ row_from k ms ++ row_from (k + length ms) ns
@@ -296,29 +295,30 @@ reaches f n b ls k a few =
     let e_f : length f' ≡ length f + k = length-append f (replicate k 4294967295) ∙ ap (λ w. length f + w) (length-replicate k 4294967295) in
     let e_row : row_from 0 (ls ++ replicate k []) ≡ row_from 0 ls ++ hs = row-append ls (replicate k []) 0 ∙ ap (λ w. row_from 0 ls ++ row_from w (replicate k [])) (zero-add (length ls)) in
     let gone : (y : ℕ) → head_of (length ls) ≤ y → has (row_from 0 ls) y ≡ false = λ y g. ⊎_elim
-      (λ h. ⊎_elim (λ i. absurd (omega (arith, i, a.few_cells))) (λ i. absurd (omega (arith, i.1))) (in_row (length n) ls 0 y a.below h))
-      (λ h. h)
-      (cases_Bool (has (row_from 0 ls) y)) in
+    (λ h. ⊎_elim (λ i. absurd (omega (arith, i, a.few_cells))) (λ i. absurd (omega (arith, i.1))) (in_row (length n) ls 0 y a.below h))
+    (λ h. h)
+    (cases_Bool (has (row_from 0 ls) y)) in
     let t : Threads (length n) (length f') (next_at f' n) (λ y. get_or b y 0) (row_from 0 ls ++ hs) =
-      Threads-append (length n) (length f) (length f') (next_at f n) (λ y. get_or b y 0) (next_at f' n) (row_from 0 ls) hs a.few_cells (λ y h. omega (arith, empties_from k (length ls) y h)) a.threads
-      (λ y is. ⊎_elim
-        (λ i. next_at_cell f' n y (omega (arith, a.few_cells)) ∙ sym (next_at_cell f n y (omega (arith, a.few_cells))))
-        (λ i. ap (λ w. cond (ltb y 4294967296) (get_or n y 0) w) (get_or_append_left f (replicate k 4294967295) 0 (y - 4294967296) (omega (arith, i.0, i.1))))
-        is)
-      (λ y g l.
-        (rw (le-ltb y 4294967296 (omega arith))
+    Threads-append (length n) (length f) (length f') (next_at f n) (λ y. get_or b y 0) (next_at f' n) (row_from 0 ls) hs a.few_cells (λ y h. omega (arith, empties_from k (length ls) y h)) a.threads
+    (λ y is. ⊎_elim
+    (λ i. next_at_cell f' n y (omega (arith, a.few_cells)) ∙ sym (next_at_cell f n y (omega (arith, a.few_cells))))
+    (λ i. ap (λ w. cond (ltb y 4294967296) (get_or n y 0) w) (get_or_append_left f (replicate k 4294967295) 0 (y - 4294967296) (omega (arith, i.0, i.1))))
+    is)
+    (λ y g l. (
+      rw (le-ltb y 4294967296 (omega arith))
           (get_or-append_right f (replicate k 4294967295) (length f) (y - 4294967296) 0 refl (omega arith) ∙ get_or-replicate k (y - 4294967296 - length f) 4294967295 0 (omega (arith, e_f))),
-        gone y (omega (arith, a.heads)))) in
+      gone y (omega (arith, a.heads)),
+    )) in
     record {
       heads = omega (arith, e_f, a.heads, length-append ls (replicate k []), length-replicate {A = List ℕ} k []);
       long = a.long;
       few_cells = a.few_cells;
       few_lists = omega (arith, e_f);
       once = rw e_row
-        (Once-append (row_from 0 ls) hs a.once (Once-empties k (length ls))
+          (Once-append (row_from 0 ls) hs a.once (Once-empties k (length ls))
           (λ y h. ⊎_elim (λ g. absurd (false≢true (sym (gone y (empties_from k (length ls) y g)) ∙ h))) (λ g. g) (cases_Bool (has hs y))));
       below = Below-empties (length n) ls k a.below;
-      threads = rw e_row t
+      threads = rw e_row t;
     }
 
 has_more : (x : ℕ) (xs : List ℕ) (y : ℕ) → has xs y ≡ true → has (x ∷ xs) y ≡ true
@@ -328,7 +328,7 @@ has_behind : (front : List ℕ) (c : ℕ) (back : List ℕ) (z : ℕ) → has ba
 has_behind [] c back z h = grind (arith, nat_tests)
 has_behind (x ∷ front) c back z h = grind (arith, nat_tests, has_behind front c back z h)
 
-contains_from_has : (xs : List ℕ) (c : ℕ) → has xs c ≡ true → Contains xs c
+pub contains_from_has : (xs : List ℕ) (c : ℕ) → has xs c ≡ true → Contains xs c
 contains_from_has [] c h = absurd (false≢true h)
 contains_from_has (x ∷ xs) c h = ⊎_elim
     (λ e. (0, omega arith, e))
@@ -357,14 +357,25 @@ answer_is (Some x) None number s n e b = absurd (omega (arith, s.0, s.1, e))
 answer_is (Some x) (Some z) number s n e b = ap (λ w. Some w) (omega (arith, s.0, s.1, e, b z refl))
 
 module _ (f n b : List ℕ) (ls : List (List ℕ)) (a : AreLinks f n b ls) where
-
   pub first_answer : (l x : ℕ) (answer : Option ℕ) → l < length ls → x ≡ get_or f l x → IfSome answer (λ c. (c ≡ x) × (c < 4294967295)) → IfNone answer (x ≡ 4294967295) → answer ≡ slice_get (list_at ls l) 0
   first_answer l x answer i read s none =
       answer_is answer (slice_get (list_at ls l) 0) x s none
       (get_or_read f l x (omega (arith, a.heads)) read 0 ∙ head_kept f n b ls a l i
-        ∙ ap (λ w. link_to (after (row_from 0 ls) (head_of w))) (sym (zero-add l))
-        ∙ head_link (after (row_from 0 ls)) ls 0 l (Agrees-after (row_from 0 ls) a.once) i)
+      ∙ ap (λ w. link_to (after (row_from 0 ls) (head_of w))) (sym (zero-add l))
+      ∙ head_link (after (row_from 0 ls)) ls 0 l (Agrees-after (row_from 0 ls) a.once) i)
       (λ z e. omega (arith, Below-list_at (length n) ls l z a.below (has-first (list_at ls l) z e), a.few_cells))
+
+  pub first_known : (l x : ℕ) (answer : Option ℕ) → l < length ls → x ≡ get_or f l x → IfSome answer (λ c. (c ≡ x) × (c < 4294967295)) → IfSome answer (λ c. c < length n)
+  first_known l x None i read s = tt
+  first_known l x (Some c) i read s =
+      let e : x ≡ get_or f l 0 = get_or_read f l x (omega (arith, a.heads)) read 0 in
+      omega (arith, s.0, e, head_within f n b ls a l i (λ k. absurd (omega (arith, s.0, s.1, e, k))))
+
+  pub next_known : (c x : ℕ) (answer : Option ℕ) → c < length n → x ≡ get_or n c x → IfSome answer (λ y. (y ≡ x) × (y < 4294967295)) → IfSome answer (λ y. y < length n)
+  next_known c x None i read s = tt
+  next_known c x (Some y) i read s =
+      let e : x ≡ get_or n c 0 = get_or_read n c x i read 0 in
+      omega (arith, s.0, e, cell_within f n b ls a c i (λ k. absurd (omega (arith, s.0, s.1, e, k))))
 
   module _ (c x : ℕ) (answer : Option ℕ) (i : c < length n) (read : x ≡ get_or n c x) (some : IfSome answer (λ y. (y ≡ x) × (y < 4294967295))) (none : IfNone answer (x ≡ 4294967295)) where
     kept : x ≡ link_to (after (row_from 0 ls) c)
@@ -389,18 +400,18 @@ has_concat [] k y h = absurd (false≢true h)
 has_concat (xs ∷ ms) k y h =
     has_more (head_of k) (xs ++ row_from (suc k) ms) y
     (⊎_elim
-      (λ i. has-append xs (row_from (suc k) ms) y ∙ rw i refl)
-      (λ i. has-append xs (row_from (suc k) ms) y ∙ rw (i, has_concat ms (suc k) y (sym (rw i at (has-append xs (concat ms) y)) ∙ h)) refl)
-      (cases_Bool (has xs y)))
+    (λ i. has-append xs (row_from (suc k) ms) y ∙ rw i refl)
+    (λ i. has-append xs (row_from (suc k) ms) y ∙ rw (i, has_concat ms (suc k) y (sym (rw i at (has-append xs (concat ms) y)) ∙ h)) refl)
+    (cases_Bool (has xs y)))
 
 Once-concat : (ms : List (List ℕ)) (k : ℕ) → Once (row_from k ms) → Once (concat ms)
 Once-concat [] k o = tt
 Once-concat (xs ∷ ms) k o =
     Once-append xs (concat ms) (Once-append_left xs (row_from (suc k) ms) o.1) (Once-concat ms (suc k) (Once-append_right xs (row_from (suc k) ms) o.1))
     (λ y h. ⊎_elim
-      (λ i. absurd (false≢true (sym (apart-append xs (row_from (suc k) ms) y o.1 (has_concat ms (suc k) y i)) ∙ h)))
-      (λ i. i)
-      (cases_Bool (has (concat ms) y)))
+    (λ i. absurd (false≢true (sym (apart-append xs (row_from (suc k) ms) y o.1 (has_concat ms (suc k) y i)) ∙ h)))
+    (λ i. i)
+    (cases_Bool (has (concat ms) y)))
 
 Below-concat : (n : ℕ) (ms : List (List ℕ)) (y : ℕ) → Below n ms → has (concat ms) y ≡ true → y < n
 Below-concat n [] y b h = absurd (false≢true h)
@@ -409,7 +420,7 @@ Below-concat n (xs ∷ ms) y b h = ⊎_elim
     (λ i. Below-concat n ms y b.1 (sym (rw i at (has-append xs (concat ms) y)) ∙ h))
     (cases_Bool (has xs y))
 
-has_place : (xs : List ℕ) (k d : ℕ) → k < length xs → has xs (get_or xs k d) ≡ true
+pub has_place : (xs : List ℕ) (k d : ℕ) → k < length xs → has xs (get_or xs k d) ≡ true
 has_place [] k d l = absurd (omega (arith, l))
 has_place (x ∷ xs) zero d l = rw (eq-eqb x x refl) refl
 has_place (x ∷ xs) (suc k) d l = has_more x xs (get_or xs k d) (has_place xs k d (omega (arith, l)))
@@ -417,5 +428,5 @@ has_place (x ∷ xs) (suc k) d l = has_more x xs (get_or xs k d) (has_place xs k
 pub apart : (f n b : List ℕ) (ls : List (List ℕ)) → AreLinks f n b ls → AreApart ls (length n)
 apart f n b ls a = record {
   known = λ k d l. Below-concat (length n) ls (get_or (concat ls) k d) a.below (has_place (concat ls) k d l);
-  once = IsDistinct-from_Once (concat ls) (Once-concat ls 0 a.once)
+  once = IsDistinct-from_Once (concat ls) (Once-concat ls 0 a.once);
 }

@@ -1,7 +1,7 @@
 -- A row of nodes, each once: what comes after a node, a node taken out, and a node put behind another.
-use Rattle.std.proofs.Common.{◌≡◌, ◌≢◌, ℕ, Bool, true, false, cond, not, eqb, List, [], ◌∷◌, ◌++◌, length, Option, Some, None, refl, sym, ap, ◌∙◌, subst, arith, inl, inr, ⊎_elim, ◌⊎◌}
+use Rattle.std.proofs.Common.{◌≡◌, ◌≢◌, ℕ, true, false, cond, not, eqb, List, [], ◌∷◌, ◌++◌, Option, Some, None, refl, sym, ap, ◌∙◌, arith, ⊎_elim}
 use Rattle.std.specs.List.{filter, slice_get}
-use Rattle.std.proofs.lemmas.Bool.{eqb-true, eqb-false, eq-eqb, ne_eqb, cases_eq, false≢true, cases_Bool, both_ways, cond-true, cond-false}
+use Rattle.std.proofs.lemmas.Bool.{eq-eqb, ne_eqb, cases_eq, false≢true}
 use Rattle.std.proofs.lemmas.Bool.Decides.{nat_tests}
 use Rattle.cw_links.specs.Rows.{has, after, Once}
 use Rattle.std.proofs.lemmas.Option.{none-some, same_Some}
@@ -95,8 +95,8 @@ node_before (x ∷ z ∷ zs) c o h ne =
     ⊎_elim
     (λ e. (x, after_first x z zs c e))
     (λ zc.
-        let q : (p : ℕ) × (after (z ∷ zs) p ≡ Some c) = node_before (z ∷ zs) c o.1 (has_tail x (z ∷ zs) c h (λ e. ne (ap (λ w. Some w) e))) (some_other z c zc) in
-        (q.0, after_skip x q.0 (z ∷ zs) c o.0 q.1))
+    let q : (p : ℕ) × (after (z ∷ zs) p ≡ Some c) = node_before (z ∷ zs) c o.1 (has_tail x (z ∷ zs) c h (λ e. ne (ap (λ w. Some w) e))) (some_other z c zc) in
+    (q.0, after_skip x q.0 (z ∷ zs) c o.0 q.1))
     (cases_eq z c)
 
 -- a node put right behind h
@@ -159,9 +159,10 @@ apart-append (x ∷ xs) ys y o h = grind (arith, nat_tests, o.0, has-append xs y
 
 pub Once-append : (xs ys : List ℕ) → Once xs → Once ys → ((y : ℕ) → has xs y ≡ true → has ys y ≡ false) → Once (xs ++ ys)
 Once-append [] ys o q apart = q
-Once-append (x ∷ xs) ys o q apart =
-    (grind (arith, nat_tests, o.0, has-append xs ys x, apart x),
-        Once-append xs ys o.1 q (λ y h. apart y (grind (arith, nat_tests, h))))
+Once-append (x ∷ xs) ys o q apart = (
+  grind (arith, nat_tests, o.0, has-append xs ys x, apart x),
+  Once-append xs ys o.1 q (λ y h. apart y (grind (arith, nat_tests, h))),
+)
 
 pub put_behind-append_right : (xs ys : List ℕ) (h c : ℕ) → has xs h ≡ false → put_behind (xs ++ ys) h c ≡ xs ++ put_behind ys h c
 put_behind-append_right [] ys h c a = refl

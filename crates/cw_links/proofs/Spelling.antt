@@ -1,12 +1,11 @@
-use Rattle.std.proofs.Common.{◌≡◌, ◌≢◌, ℕ, suc, zero, ◌+◌, ◌-◌, ◌<◌, ◌≤◌, min, Bool, true, false, cond, not, eqb, List, [], ◌∷◌, ◌++◌, length, map, get_or, Option, Some, None, refl, sym, ap, ◌∙◌, subst, arith, inl, inr, ⊎_elim, ◌⊎◌, ltb, set, append_assoc}
-use Rattle.std.specs.List.{filter, slice_get, IsDistinct, list_any, AllByRecursion}
+-- What is read along the links from a first cell is the list.
+use Rattle.std.proofs.Common.{◌≡◌, ℕ, suc, zero, ◌+◌, ◌<◌, ◌≤◌, true, false, eqb, List, [], ◌∷◌, ◌++◌, length, map, get_or, Option, refl, ap, ◌∙◌, arith}
+use Rattle.std.specs.List.{slice_get, IsDistinct, list_any, AllByRecursion}
 use Rattle.std.proofs.lemmas.Map.Steps.{length-le_from_distinct_below}
-use Rattle.std.proofs.lemmas.Map.Keys.{IsDistinct-cons}
-use Rattle.std.proofs.lemmas.Bool.{eqb-true, eqb-false, eq-eqb, ne_eqb, cases_eq, cases_lt, false≢true, cases_Bool, both_ways, cond-true, cond-false, ltb-true, lt-ltb, le-ltb}
+use Rattle.std.proofs.lemmas.Bool.{eq-eqb, ne_eqb}
 use Rattle.std.proofs.lemmas.Bool.Decides.{nat_tests}
-use Rattle.std.proofs.lemmas.Option.{none-some, same_Some}
 use Rattle.cw_links.specs.Lists.{list_at}
-use Rattle.cw_links.specs.Rows.{has, after, Once, link_to, row_from, head_of, Below, spelled}
+use Rattle.cw_links.specs.Rows.{has, Once, link_to, row_from, head_of, Below, spelled}
 use Rattle.cw_links.proofs.Rows.{Agrees, Agrees-append_right, Once-append_left, Once-append_right}
 use Rattle.cw_links.proofs.Heads.{link_to_row}
 
@@ -27,7 +26,7 @@ spelled_list A next n few nexts (x ∷ cells) post y (suc left) g b e le =
     let l : link_to (A y) ≡ x = ap link_to g.0 ∙ omega arith in
     spelled_on next left (link_to (A y)) x l (omega arith)
     ∙ ap (λ w. x ∷ w) (ap (λ w. spelled next left w) (nexts x i)
-        ∙ spelled_list A next n few nexts cells post x left g.1 (λ z h. b z (grind (arith, nat_tests, h))) e (omega (arith, le)))
+    ∙ spelled_list A next n few nexts cells post x left g.1 (λ z h. b z (grind (arith, nat_tests, h))) e (omega (arith, le)))
 
 -- a row of cells below n that has each once is no longer than n
 
@@ -57,12 +56,12 @@ map-spelled A next n few long nexts (l ∷ ls) k [] e heads g o b = absurd (omeg
 map-spelled A next n few long nexts (l ∷ ls) k (x ∷ first) e heads g o b =
     let h : x ≡ link_to (A (head_of k)) = heads 0 (omega arith) ∙ ap (λ w. link_to (A w)) (omega arith) in
     let s : spelled next (length next) x ≡ l =
-      ap (λ w. spelled next (length next) w) h
-      ∙ spelled_list A next n few nexts l (row_from (suc k) ls) (head_of k) (length next) g b.0 (link_to_row ls (suc k)) (omega (arith, short l n (Once-append_left l (row_from (suc k) ls) o.1) b.0, long)) in
+    ap (λ w. spelled next (length next) w) h
+    ∙ spelled_list A next n few nexts l (row_from (suc k) ls) (head_of k) (length next) g b.0 (link_to_row ls (suc k)) (omega (arith, short l n (Once-append_left l (row_from (suc k) ls) o.1) b.0, long)) in
     let r : map (spelled next (length next)) first ≡ ls =
-      map-spelled A next n few long nexts ls (suc k) first (omega (arith, e))
-      (λ j i. heads (suc j) (omega (arith, i)) ∙ ap (λ w. link_to (A w)) (omega arith))
-      (Agrees-append_right A l (row_from (suc k) ls) g.1) (Once-append_right l (row_from (suc k) ls) o.1) b.1 in
+    map-spelled A next n few long nexts ls (suc k) first (omega (arith, e))
+    (λ j i. heads (suc j) (omega (arith, i)) ∙ ap (λ w. link_to (A w)) (omega arith))
+    (Agrees-append_right A l (row_from (suc k) ls) g.1) (Once-append_right l (row_from (suc k) ls) o.1) b.1 in
     ap (λ w. w ∷ map (spelled next (length next)) first) s ∙ ap (λ w. l ∷ w) r
 
 link_to_front : (back : List ℕ) (k : ℕ) (ls : List (List ℕ)) → link_to (slice_get (back ++ row_from k ls) 0) ≡ link_to (slice_get back 0)

@@ -1,5 +1,5 @@
 -- Lists of cells, seen as a list of lists of numbers.
-use Rattle.std.specs.Prelude.{◌≡◌, ℕ, ◌<◌, Bool, not, ◌==◌, List, [], ◌∷◌, map, slice_set, slice_index_or, refl, All, Contains}
+use Rattle.std.specs.Prelude.{ℕ, ◌<◌, not, ◌==◌, List, [], ◌∷◌, map, slice_set, slice_index_or, refl, All, Contains}
 use Rattle.std.specs.List.{filter, concat, IsDistinct}
 use Rattle.std.specs.Coded.{Coded, code_by, coded×, coded_ℕ, coded_list}
 

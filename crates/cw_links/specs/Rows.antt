@@ -1,6 +1,5 @@
 -- What the vectors of links stand for. A node is a cell, or the head of a list; the nodes stand in one row, each head before the cells of its list.
 use Rattle.std.specs.Prelude.{◌≡◌, ℕ, suc, zero, ◌+◌, ◌-◌, ◌<◌, ◌≤◌, min, Bool, true, false, if◌then◌else◌, ◌==◌, nat_lt, ◌⊎◌, List, [], ◌∷◌, ◌++◌, length, map, slice_get, slice_index, Option, None, Some}
-use Rattle.cw_links.specs.Lists.{list_at}
 
 -- the cells of each list, how many cells there are, and how many more have their memory already
 pub record Linked : Type 0 where

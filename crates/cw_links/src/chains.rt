@@ -1,5 +1,5 @@
 //! Lists of cells with a value each.
-ghost use Rattle.std.specs.Prelude.{◌≡◌, ℕ, List, ◌+◌, ◌<◌, ◌≤◌, [], ◌∷◌, ◌++◌, length, replicate, slice_get, None, Some, IsOk, IfOk, OnOk, OnErr};
+ghost use Rattle.std.specs.Prelude.{◌≡◌, ℕ, List, ◌+◌, ◌<◌, ◌≤◌, [], ◌∷◌, ◌++◌, length, replicate, slice_get, None, Some, IsOk, IfOk, OnOk, OnErr, IfSome};
 ghost use Rattle.cw_links.specs.Lists.{list_at, without, with_front, IsUnlinked, AreApart};
 
 use crate::links::Links;
@@ -105,6 +105,7 @@ impl<T: Copy> Chains<T> {
     pub fn first(&self, list: u32) -> Option<u32>
         requires { list < length self.now.lists }
         ensures first { result ≡ slice_get (list_at self.now.lists list) 0 }
+        ensures known { IfSome result (λ cell. cell < length self.now.values) }
         ensures apart { AreApart self.now.lists (length self.now.values) }
     {
         self.links.first(list)
@@ -115,6 +116,7 @@ impl<T: Copy> Chains<T> {
         requires { cell < length self.now.values }
         ensures within { (list : ℕ) (front back : List ℕ) → list_at self.now.lists list ≡ front ++ cell ∷ back → result ≡ slice_get back 0 }
         ensures unlinked { IsUnlinked self.now.lists cell → result ≡ None }
+        ensures known { IfSome result (λ next. next < length self.now.values) }
         ensures apart { AreApart self.now.lists (length self.now.values) }
     {
         self.links.next(cell)

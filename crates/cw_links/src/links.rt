@@ -155,6 +155,7 @@ impl Links {
     pub(crate) fn first(&self, list: u32) -> Option<u32>
         requires { list < length self.now.lists }
         ensures first { result ≡ slice_get (list_at self.now.lists list) 0 }
+        ensures known { IfSome result (λ cell. cell < self.now.cells) }
         ensures apart { AreApart self.now.lists self.now.cells }
     {
         cell_of(self.first[list as usize])
@@ -165,6 +166,7 @@ impl Links {
         requires { cell < self.now.cells }
         ensures within { (list : ℕ) (front back : List ℕ) → list_at self.now.lists list ≡ front ++ cell ∷ back → result ≡ slice_get back 0 }
         ensures unlinked { IsUnlinked self.now.lists cell → result ≡ None }
+        ensures known { IfSome result (λ next. next < self.now.cells) }
         ensures apart { AreApart self.now.lists self.now.cells }
     {
         cell_of(self.next[cell as usize])

@@ -1,7 +1,6 @@
-use Rattle.std.proofs.Common.{◌≡◌, ℕ, sym, ◌∙◌, Some, None, arith, refl}
+use Rattle.std.proofs.Common.{sym, ◌∙◌, arith, refl}
 use Rattle.std.proofs.lemmas.Bool.{false≢true}
 use Rattle.std.proofs.lemmas.Option.{none-some}
-use Rattle.cw_links.specs.Heights.{height_at}
 use Rattle.cw_links.proofs.Piles.{held, taken_known, takes, least, none_in}
 use Rattle.cw_links.proofs.buckets.Buckets.take_least.Goals as goal
 
@@ -23,9 +22,10 @@ invariant_of-self c =
 
 pub returns-in-Some-clause-none : goal.returns-in-Some-clause-none
 returns-in-Some-clause-none c =
-    let s = c.self.inside in
-    (λ e. absurd (false≢true (sym e)),
-      λ out. absurd (none-some c.in-Some.height (sym (out c.in-Some.cell) ∙ rw (← c.self.view_is) (held s.links.lists s.links.cells c.in-Some.cell c.in-Some.height s.heights.items s.floor c.self.invariant c.in-Some.ensures.first c.in-Some.ensures.lowest))))
+    let s = c.self.inside in (
+      λ e. absurd (false≢true (sym e)),
+      λ out. absurd (none-some c.in-Some.height (sym (out c.in-Some.cell) ∙ rw (← c.self.view_is) (held s.links.lists s.links.cells c.in-Some.cell c.in-Some.height s.heights.items s.floor c.self.invariant c.in-Some.ensures.first c.in-Some.ensures.lowest))),
+    )
 
 pub returns-in-Some-clause-held : goal.returns-in-Some-clause-held
 returns-in-Some-clause-held c =

@@ -1,4 +1,4 @@
-use Rattle.std.proofs.Common.{◌≡◌, ℕ, ◌<◌, ◌++◌, ◌∷◌, [], length, arith, min, ◌-◌, vec_len, vec_capacity, ◌∙◌}
+use Rattle.std.proofs.Common.{◌≡◌, ◌<◌, ◌++◌, ◌∷◌, [], length, arith, min, ◌-◌, vec_len, vec_capacity, ◌∙◌}
 use Rattle.std.proofs.lemmas.Bool.{cond-true}
 use Rattle.cw_links.specs.Rows.{lists_of, AreLinks}
 use Rattle.cw_links.proofs.Moves.{adds_cell, new_unlinked, linked, lists_are}

@@ -1,4 +1,4 @@
-use Rattle.std.proofs.Common.{◌≡◌, ℕ, ◌<◌, List, length, refl, sym, ◌∙◌, ap, take, drop, ◌++◌, ◌+◌, set, arith}
+use Rattle.std.proofs.Common.{◌≡◌, ◌<◌, length, ◌∙◌, ap, drop, ◌+◌, set}
 use Rattle.std.proofs.lemmas.List.{take_at, length-set}
 use Rattle.cw_links.specs.Lists.{without, with_front}
 use Rattle.cw_links.specs.Rows.{lists_of, AreLinks}

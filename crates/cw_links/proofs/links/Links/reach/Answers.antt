@@ -13,7 +13,7 @@ reached c =
     let long : s.first.len ≡ length s.first.items = s.first.ok.0 in
     let lists : length s.first.items ≡ length (lists_of s.first.items s.next.items) = c.self.invariant.heads in
     let items : c.resize.new.self.items ≡ s.first.items ++ replicate (c.args.lists - length s.first.items) 4294967295 =
-      c.in_ok-resize.ensures.items ∙ grown s.first.items c.args.lists s.first.len long (omega (arith, c.if-len-lists.true, c.len.ensures)) in
+    c.in_ok-resize.ensures.items ∙ grown s.first.items c.args.lists s.first.len long (omega (arith, c.if-len-lists.true, c.len.ensures)) in
     rw items (reaches s.first.items s.next.items s.before.items (lists_of s.first.items s.next.items) (c.args.lists - length s.first.items) c.self.invariant (omega (arith, c.requires, c.if-len-lists.true, c.len.ensures)))
 
 pub invariant_of-self : goal.invariant_of-self

@@ -1,4 +1,4 @@
-use Rattle.std.proofs.Common.{◌≡◌, ℕ, ◌<◌, List, length, refl, sym, ◌∙◌, ap, take, drop, ◌++◌, set, arith}
+use Rattle.std.proofs.Common.{◌≡◌, ℕ, ◌<◌, List, length, sym, ◌∙◌, ap, take, drop, ◌++◌, set}
 use Rattle.std.proofs.lemmas.List.{take_at}
 use Rattle.cw_links.specs.Lists.{without}
 use Rattle.cw_links.specs.Rows.{lists_of, AreLinks}
@@ -48,16 +48,18 @@ refilled n xs ws e = take_at ws (drop (length ws) xs) n e
 pub invariant_of-self : goal.invariant_of-self
 invariant_of-self c =
     let s = c.self.inside in
-    rw
-    (refilled s.first.len s.first.items c.set_after.new.first (c.set_after.auto.first ∙ c.deref_mut.ensures.len),
+    rw (
+      refilled s.first.len s.first.items c.set_after.new.first (c.set_after.auto.first ∙ c.deref_mut.ensures.len),
       refilled s.next.len s.next.items c.set_after.new.next (c.set_after.auto.next ∙ c.deref_mut-2.ensures.len),
-      refilled s.before.len s.before.items c.set_before.new.before (c.set_before.auto.before ∙ c.deref_mut-3.ensures.len))
+      refilled s.before.len s.before.items c.set_before.new.before (c.set_before.auto.before ∙ c.deref_mut-3.ensures.len),
+    )
     (linked _ _ _ _ (taken c))
 
 pub returns-clause-lists : goal.returns-clause-lists
 returns-clause-lists c =
     let s = c.self.inside in
-    rw
-    (refilled s.first.len s.first.items c.set_after.new.first (c.set_after.auto.first ∙ c.deref_mut.ensures.len),
-      refilled s.next.len s.next.items c.set_after.new.next (c.set_after.auto.next ∙ c.deref_mut-2.ensures.len))
+    rw (
+      refilled s.first.len s.first.items c.set_after.new.first (c.set_after.auto.first ∙ c.deref_mut.ensures.len),
+      refilled s.next.len s.next.items c.set_after.new.next (c.set_after.auto.next ∙ c.deref_mut-2.ensures.len),
+    )
     (rw (← c.self.view_is) (lists_are _ _ _ _ (taken c)))
