@@ -11,10 +11,11 @@ use std::marker::Model;
 /// Cells with a height each, or with none.
 ///
 /// Contracts see the list of the cells' heights, as long as there are cells, in which a cell that is not in
-/// has `None`. The cells of one height stand in one list, and no cell stands below the floor, which moves up
-/// as cells are taken. So `put` takes a constant number of steps, but for the growth of the table of lists
-/// to the greatest height, and `take_least` too, but for the heights that it passes. That table takes four
-/// bytes for each height up to the greatest.
+/// has `None`. The cells of one height stand in one list (Dial, Algorithm 360, Communications of the ACM 12,
+/// 1969), and no cell stands below the floor, which moves up as cells are taken and down where one is put in
+/// lower. So `put` is meant to take a constant number of steps, but for the growth of the table of lists to
+/// the greatest height, and `take_least` too, but for the heights that it passes; no clause says that. The
+/// table takes four bytes for each height up to the greatest.
 #[derive(Drop)]
 pub struct Buckets {
     links: Links,
@@ -34,7 +35,7 @@ impl Model for Buckets {
 }
 
 impl Buckets {
-    /// So many cells, of which none is in.
+    /// So many cells, of which none is in. The one error is want of memory.
     pub fn make(alloc: Global, cells: u32) -> Result<Buckets, NoMemory>
         ensures { IfOk result (λ buckets. buckets ≡ replicate cells None) }
     {
@@ -47,7 +48,8 @@ impl Buckets {
         })
     }
 
-    /// Puts the cell in at this height, or moves it there.
+    /// Puts the cell in at this height, or moves it there. The one error is want of memory, which changes
+    /// nothing.
     pub fn put(&mut self, cell: u32, height: u32) -> Result<(), NoMemory>
         requires { cell < length self.old }
         ensures put { OnOk result (self.new ≡ slice_set self.old cell (Some height)) }

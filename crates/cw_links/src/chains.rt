@@ -9,10 +9,11 @@ use std::marker::Model;
 
 /// A fixed number of lists of cells. Each cell has a value, and stands in one list at most.
 ///
-/// Lists and cells are named by number, cells in the order in which they were made. Contracts see the list
-/// of lists of cells (`lists`), the list of values (`values`), and how many more cells have their memory
-/// already (`spare`). Links take twelve bytes for a cell, and every call but `make` and `reserve` takes a
-/// constant number of steps.
+/// Lists and cells are named by number from 0 on, cells in the order in which they were made. Contracts see
+/// the list of lists of cells (`lists`), the list of values (`values`), and how many more cells have their
+/// memory already (`spare`). The lists are doubly linked (Knuth, The Art of Computer Programming, volume 1,
+/// section 2.2.5), by twelve bytes for a cell, and every call but `make` and `reserve` is meant to take a
+/// constant number of steps, but for a growth; no clause says that.
 #[derive(Drop)]
 pub struct Chains<T: Copy> {
     links: Links,
@@ -33,7 +34,7 @@ impl<T: Copy> Model for Chains<T> {
 }
 
 impl<T: Copy> Chains<T> {
-    /// So many empty lists, and no cell.
+    /// So many empty lists, and no cell. The one error is want of memory.
     pub fn make(alloc: Global, lists: u32) -> Result<Chains<T>, NoMemory>
         ensures lists { IfOk result (λ chains. chains.lists ≡ replicate lists []) }
         ensures values { IfOk result (λ chains. chains.values ≡ []) }
@@ -45,7 +46,8 @@ impl<T: Copy> Chains<T> {
         })
     }
 
-    /// Takes the memory of so many more cells, beyond those that are made.
+    /// Takes the memory of so many more cells, beyond those that are made. The one error is want of memory;
+    /// lists and values stay as they are, and what was spare stays spare.
     pub fn reserve(&mut self, more: u32) -> Result<(), NoMemory>
         ensures room { OnOk result (more ≤ self.new.spare) }
         ensures lists { self.new.lists ≡ self.old.lists }
@@ -58,8 +60,8 @@ impl<T: Copy> Chains<T> {
         Ok(())
     }
 
-    /// Makes a cell with this value, in front of the list, and answers its number. It is not refused while
-    /// `spare` is positive.
+    /// Makes a cell with this value, in front of the list, and answers its number. The one error is want of
+    /// memory, which does not come while `spare` is positive; lists and values then stay as they are.
     pub fn push_front(&mut self, list: u32, value: T) -> Result<u32, NoMemory>
         requires list { list < length self.old.lists }
         requires few { length self.old.values < 4294967295 }
