@@ -75,6 +75,7 @@ impl<T: Copy> Chains<T> {
     {
         self.links.reserve(1)?;
         self.values.reserve(1)?;
+        // There is room now, so the push is not refused.
         let cell = self.values.len() as u32;
         let _ = self.values.push(value);
         self.links.add_cell();

@@ -93,6 +93,7 @@ impl Links {
         ensures cells { self.new.cells ≡ self.old.cells + 1 }
         ensures spare { self.old.spare ≤ self.new.spare + 1 }
     {
+        // There is room, so neither push is refused.
         let _ = self.next.push(NONE);
         let _ = self.before.push(OUT);
     }
