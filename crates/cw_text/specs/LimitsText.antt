@@ -18,5 +18,5 @@ descriptor_name policy descriptor = name_if (slice_get policy.descriptors descri
 abbrev pub limit_word : PlainPolicy → ℕ → Limit → List ℕ
 limit_word policy index limit = codes " " ++ with_fields (codes "X") (decimal index ∷ descriptor_name policy limit.descriptor ∷ hexadecimal limit.keep.0 ∷ [])
 
-abbrev pub limits_line : PlainPolicy → List ℕ
+unfoldable pub limits_line : PlainPolicy → List ℕ
 limits_line policy = line (codes "#define CW_LIMITS(X)" ++ numbered (limit_word policy) policy.limits)

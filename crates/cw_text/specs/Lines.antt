@@ -1,8 +1,7 @@
 -- What lines are made of: words, a name with its fields, the end of a line.
-use Rattle.std.specs.Prelude.{ℕ, List, [], ◌∷◌, ◌++◌, Bool, false, true, Option, None, Some, codes}
+use Rattle.std.specs.Prelude.{ℕ, List, ◌++◌, codes}
 use Rattle.std.specs.Fmt.{decimal}
 use Rattle.std.specs.List.{flat_map, join_by, enumerate_from}
-use Rattle.cw_core.specs.declared.ids.MemId.{MemId}
 use Rattle.cw_core.specs.Numerals.{hexadecimal}
 use Rattle.cw_text.specs.declared.lines.Word.{Word}
 use Rattle.cw_text.specs.declared.lines.Word.TheVariants.{Number, Set, Missing}
@@ -17,7 +16,7 @@ with_fields name fields = name ++ codes "(" ++ joined (codes ",") fields ++ code
 
 -- a line ends with LF
 abbrev pub line : List ℕ → List ℕ
-line words = words ++ (10 ∷ [])
+line words = words ++ codes "\n"
 
 -- one line for each row, by the number of the row, from 0
 abbrev pub numbered : {A : Type 0} → (ℕ → A → List ℕ) → List A → List ℕ

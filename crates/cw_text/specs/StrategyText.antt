@@ -34,7 +34,7 @@ how_words (Into callee backs) = codes "into" ∷ decimal callee ∷ map back_wor
 abbrev pub row_line : ℕ → Row → List ℕ
 row_line number r = line (joined (codes " ") (decimal number ∷ decimal r.pos ∷ decimal r.state ∷ hexadecimal r.aim ∷ how_words r.how))
 
-abbrev pub strategy_text : Strategy → List ℕ
+unfoldable pub strategy_text : Strategy → List ℕ
 strategy_text s =
     line (codes "capweave strategy 1")
     ++ line (joined (codes " ") (codes "states" ∷ decimal s.states ∷ []))

@@ -53,7 +53,7 @@ lines name fields rows = flat_map (λ row. line (with_fields name (fields row)))
 
 -- From CW_TABLE, with the format's version 1, up to and with CW_DONE and its LF. CW_AT has the memory after a label,
 -- CW_CLOSED that after a close.
-abbrev pub table_text : Table → List ℕ
+unfoldable pub table_text : Table → List ℕ
 table_text t =
     line (with_fields (codes "CW_TABLE") (decimal 1 ∷ decimal t.states ∷ decimal t.start.0 ∷ []))
     ++ numbered memory_line t.mems

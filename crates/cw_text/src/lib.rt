@@ -10,5 +10,6 @@ mod strategy;
 mod table;
 
 pub use limits::{descriptor_name, put_limits};
+pub use lines::put_bytes;
 pub use strategy::put_strategy;
 pub use table::put_table;

@@ -22,6 +22,7 @@ pub fn put_limits(policy: &Policy, text: &mut Vec<u8>) -> Result<(), NoMemory>
     Ok(())
 }
 
+#[tactic(auto, unfolding(crate::specs::LimitsText::limits_line))]
 fn limits_line(alloc: Global, policy: &Policy) -> Result<Vec<u8>, NoMemory>
     ensures { IfOk result (λ line. line.items ≡ limits_line (policy_of policy.now)) }
 {

@@ -1,6 +1,6 @@
 //! What lines are made of.
 
-ghost use Rattle.std.specs.Prelude.{◌≡◌, ◌++◌, ◌∷◌, [], map, OnOk, codes};
+ghost use Rattle.std.specs.Prelude.{◌≡◌, ◌++◌, ◌∷◌, [], map, OnErr, OnOk};
 ghost use Rattle.std.specs.List.{flat_map};
 ghost use Rattle.cw_text.specs.Lines.{joined, line, with_fields, spelled};
 
@@ -17,9 +17,10 @@ pub(crate) enum Word {
     Missing,
 }
 
-/// Appends bytes.
-pub(crate) fn put_bytes(bytes: &[u8], text: &mut Vec<u8>) -> Result<(), NoMemory>
-    ensures { OnOk result (text.new.items ≡ text.old.items ++ bytes.now) }
+/// Appends bytes. Where the text can't grow, it is as before.
+pub fn put_bytes(bytes: &[u8], text: &mut Vec<u8>) -> Result<(), NoMemory>
+    ensures written { OnOk result (text.new.items ≡ text.old.items ++ bytes.now) }
+    ensures refused { OnErr result (text.new.items ≡ text.old.items) }
 {
     text.extend_from_slice(bytes)?;
     Ok(())

@@ -22,6 +22,7 @@ pub fn put_strategy(cert: &EnvCert, text: &mut Vec<u8>) -> Result<(), NoMemory>
     Ok(())
 }
 
+#[tactic(auto, unfolding(crate::specs::StrategyText::strategy_text))]
 fn strategy_lines(alloc: Global, cert: &EnvCert) -> Result<Vec<u8>, NoMemory>
     ensures { IfOk result (λ lines. lines.items ≡ strategy_text (strategy_of cert.now)) }
 {

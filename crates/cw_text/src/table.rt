@@ -22,6 +22,7 @@ pub fn put_table(cert: &WeaverCert, text: &mut Vec<u8>) -> Result<(), NoMemory>
 }
 
 /// The lines of a table.
+#[tactic(auto, unfolding(crate::specs::TableText::table_text))]
 fn table_lines(alloc: Global, cert: &WeaverCert) -> Result<Vec<u8>, NoMemory>
     ensures { IfOk result (λ lines. lines.items ≡ table_text (table_of cert.now)) }
 {
