@@ -3,10 +3,10 @@ use Rattle.std.proofs.Common.{◌≡◌, ℕ, suc, ◌+◌, ◌-◌, true, false
 use Rattle.std.specs.Prelude.{codes}
 use Rattle.std.proofs.lemmas.List.{append-nil, take-append-drop}
 use Rattle.cw_rights.specs.Policies.{PlainPolicy}
-use Rattle.cw_syntax.specs.Marks.{SeamMark}
+use Rattle.cw_syntax.specs.Marks.{SeamMark, AreInOrder}
 use Rattle.cw_certs.specs.Tables.{Table}
 use Rattle.cw_emit.specs.Cut.{cut_from, cut, part, HasNone}
-use Rattle.cw_emit.specs.Woven.{spelled, woven_from, woven, prologue, prologue_lines, AreInOrder, ArePlainNames, ArePlainMarks}
+use Rattle.cw_emit.specs.Woven.{spelled, woven_from, woven, prologue, prologue_lines, ArePlainNames, ArePlainMarks}
 use Rattle.cw_emit.proofs.Slashes.{plain_spelled, plain_prologue}
 use Rattle.cw_emit.proofs.Openings.{is_free, free_from_none, free_cut, free_drop, free_take, part_cut}
 

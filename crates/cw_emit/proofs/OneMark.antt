@@ -3,9 +3,9 @@ use Rattle.std.proofs.Common.{◌≡◌, ℕ, ◌+◌, ◌-◌, ◌<◌, ◌≤�
 use Rattle.std.proofs.Math.ListN.{drop_of_length-le}
 use Rattle.cw_rights.specs.Policies.{PlainPolicy}
 use Rattle.cw_syntax.specs.declared.marks.SeamMark.{SeamMark as Held}
-use Rattle.cw_syntax.specs.Marks.{mark_of}
+use Rattle.cw_syntax.specs.Marks.{mark_of, AreInOrder}
 use Rattle.cw_emit.specs.Cut.{part}
-use Rattle.cw_emit.specs.Woven.{spelled, woven_from, AreInOrder}
+use Rattle.cw_emit.specs.Woven.{spelled, woven_from}
 
 marks_step : (ms : List Held) (i : ℕ) (m : Held) → i < length ms → m ≡ get_or ms i m → map mark_of (drop i ms) ≡ mark_of m ∷ map mark_of (drop (i + 1) ms)
 marks_step ms i m lt is =

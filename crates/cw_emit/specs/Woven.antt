@@ -1,5 +1,5 @@
 -- The woven text: a prologue with the table, and the source with the marks of its seams.
-use Rattle.std.specs.Prelude.{◌≡◌, ℕ, ◌-◌, ◌≤◌, List, [], ◌∷◌, ◌++◌, None, Some, take, drop, codes}
+use Rattle.std.specs.Prelude.{◌≡◌, ℕ, ◌-◌, List, [], ◌∷◌, ◌++◌, None, Some, take, drop, codes}
 use Rattle.std.specs.Fmt.{decimal}
 use Rattle.std.specs.List.{All}
 use Rattle.cw_rights.specs.Policies.{PlainPolicy}
@@ -43,11 +43,6 @@ prologue policy table = part (prologue_lines policy table)
 -- the text is the prologue, and then the source with its marks
 abbrev pub Stands : List ℕ → List ℕ → List SeamMark → Table → PlainPolicy → Type 0
 Stands text source marks table policy = text ≡ prologue policy table ++ woven policy source marks
-
--- the marks stand in the order of their places, from this one on, and within a source of this length
-abbrev pub AreInOrder : ℕ → ℕ → List SeamMark → Type 0
-AreInOrder at length [] = at ≤ length
-AreInOrder at length (m ∷ ms) = (at ≤ m.place) × (m.place ≤ length) × AreInOrder m.place length ms
 
 -- no name that is spelled has a slash: a name has letters, digits and `_`
 abbrev pub ArePlainNames : PlainPolicy → Type 0

@@ -2,6 +2,8 @@
 #![tactic(auto)]
 
 mod marks;
+#[cfg(test)]
+mod tests;
 mod weave;
 
 pub use weave::weave_text;

@@ -2,10 +2,10 @@
 
 ghost use Rattle.std.specs.Prelude.{◌≡◌, ◌≤◌, ◌++◌, IfOk, OnOk, codes, drop, length, map, take, ◌-◌};
 ghost use Rattle.cw_rights.specs.Policies.{policy_of};
-ghost use Rattle.cw_syntax.specs.Marks.{mark_of};
+ghost use Rattle.cw_syntax.specs.Marks.{mark_of, AreInOrder};
 ghost use Rattle.cw_certs.specs.Tables.{table_of};
 ghost use Rattle.cw_emit.specs.Cut.{HasNone, cut};
-ghost use Rattle.cw_emit.specs.Woven.{ArePlainMarks, ArePlainNames, AreInOrder, Stands, prologue, woven};
+ghost use Rattle.cw_emit.specs.Woven.{ArePlainMarks, ArePlainNames, Stands, prologue, woven};
 
 use crate::marks::put_mark;
 use cw_certs::WeaverCert;

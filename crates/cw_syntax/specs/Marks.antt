@@ -1,5 +1,5 @@
 -- The marks of the seams, in the order of the text.
-use Rattle.std.specs.Prelude.{◌≡◌, ℕ, List, [], ◌∷◌, ◌++◌, Option, map, length}
+use Rattle.std.specs.Prelude.{◌≡◌, ◌≤◌, ℕ, List, [], ◌∷◌, ◌++◌, Option, map, length}
 use Rattle.std.specs.List.{range_with_len}
 use Rattle.cw_syntax.specs.declared.program.Name.{Name}
 use Rattle.cw_syntax.specs.declared.marks.MarkKind.{MarkKind as KindData}
@@ -60,6 +60,11 @@ marks_from (r ∷ rs) = record { place = r.mark; seam = r.seam; kind = EntryMark
 
 abbrev pub marks_of : Plan → List SeamMark
 marks_of plan = marks_from plan.routines
+
+-- the marks stand in the order of their places, from this one on, and within a source of this length
+abbrev pub AreInOrder : ℕ → ℕ → List SeamMark → Type 0
+AreInOrder at len [] = at ≤ len
+AreInOrder at len (m ∷ ms) = (at ≤ m.place) × (m.place ≤ len) × AreInOrder m.place len ms
 
 -- The seams of every program are numbered from 0 in the order of their marks.
 abbrev pub SeamsAreInOrder : Type 0

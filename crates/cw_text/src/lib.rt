@@ -8,6 +8,8 @@ mod lines;
 mod rows;
 mod strategy;
 mod table;
+#[cfg(test)]
+mod tests;
 
 pub use limits::{descriptor_name, put_limits};
 pub use lines::put_bytes;

@@ -1,7 +1,7 @@
 use Rattle.std.proofs.Common.{◌≡◌, ◌++◌, length, drop, map}
 use Rattle.cw_rights.specs.Policies.{policy_of}
-use Rattle.cw_syntax.specs.Marks.{mark_of}
-use Rattle.cw_emit.specs.Woven.{AreInOrder, woven, woven_from}
+use Rattle.cw_syntax.specs.Marks.{mark_of, AreInOrder}
+use Rattle.cw_emit.specs.Woven.{woven, woven_from}
 use Rattle.cw_emit.proofs.weave.put_source.Given as goal
 
 abbrev pub invariant-loop-mark : goal.invariant-loop-mark
