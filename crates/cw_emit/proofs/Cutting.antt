@@ -19,7 +19,7 @@ ends : (a : List ℕ) → a ++ cut_from 0 false [] ≡ a
 unfolding cut_from
 ends a = append-nil a
 
-others_plain : (source : List ℕ) (m : SeamMark) (ms : List SeamMark) → ArePlainMarks source (m ∷ ms) → ArePlainMarks source ms
+pub others_plain : (source : List ℕ) (m : SeamMark) (ms : List SeamMark) → ArePlainMarks source (m ∷ ms) → ArePlainMarks source ms
 others_plain source m ms plain k d lt = plain (suc k) d (omega (arith, lt))
 
 woven_cut : (policy : PlainPolicy) (source : List ℕ) (ms : List SeamMark) (at : ℕ) → is_free source ≡ true → ArePlainNames policy → ArePlainMarks source ms → AreInOrder at (length source) ms → cut (woven_from policy source at ms) ≡ drop at source

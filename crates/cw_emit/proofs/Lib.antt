@@ -3,3 +3,4 @@ pub mod Slashes
 pub mod Openings
 pub mod Cutting
 pub mod Premises
+pub mod OneList

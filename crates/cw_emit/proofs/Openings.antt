@@ -59,7 +59,7 @@ starts_is (b ∷ t) (x ∷ w) e =
     let others : t ≡ w ++ drop (length w) t = starts_is t w p.1 in
     cc
 
-starts_again : (w t : List ℕ) → starts_with nat_eq (w ++ t) w ≡ true
+pub starts_again : (w t : List ℕ) → starts_with nat_eq (w ++ t) w ≡ true
 starts_again [] t = refl
 starts_again (x ∷ w) t = rw (eq-eqb x x refl) (starts_again w t)
 
@@ -87,7 +87,7 @@ by_bytes b (c ∷ d ∷ f ∷ g ∷ h ∷ more) rest t free slash e =
     let e4 : h ≡ 42 = cc in
     both_ways (starts_with nat_eq (d ∷ f ∷ g ∷ h ∷ more) (codes "cw{*")) (not-true (starts_with nat_eq (d ∷ f ∷ g ∷ h ∷ more) (codes "cw{*")) r.0) (marked d f g h more e1 e2 e3 e4)
 
-no_opening : (b : ℕ) (bs rest : List ℕ) → is_free (b ∷ bs) ≡ true → Slash rest → starts_with nat_eq (b ∷ (bs ++ rest)) opening ≡ true → ⊥
+pub no_opening : (b : ℕ) (bs rest : List ℕ) → is_free (b ∷ bs) ≡ true → Slash rest → starts_with nat_eq (b ∷ (bs ++ rest)) opening ≡ true → ⊥
 no_opening b bs rest free slash e = by_bytes b bs rest (drop 7 (b ∷ (bs ++ rest))) free slash (starts_is (b ∷ (bs ++ rest)) opening e)
 
 pub free_cut : (bs rest : List ℕ) → is_free bs ≡ true → Slash rest → cut_from 0 false (bs ++ rest) ≡ bs ++ cut_from 0 false rest

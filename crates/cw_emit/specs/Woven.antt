@@ -24,6 +24,10 @@ spelling policy source seam (CallMark (Some x)) = with_fields (codes "CW_CALLV")
 abbrev pub spelled : PlainPolicy → List ℕ → SeamMark → List ℕ
 spelled policy source m = spelling policy source m.seam m.kind
 
+-- where a mark stands, and how it is spelled
+abbrev pub placed : PlainPolicy → List ℕ → SeamMark → ℕ × List ℕ
+placed policy source m = (m.place, spelled policy source m)
+
 -- the source from a place on, with each mark at its place
 unfoldable pub woven_from : PlainPolicy → List ℕ → ℕ → List SeamMark → List ℕ
 woven_from policy source at [] = drop at source
