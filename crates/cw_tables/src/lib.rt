@@ -1,0 +1,4 @@
+//! Tables and strategies for programs of one function under policies that test ambient authority alone.
+#![tactic(auto)]
+
+pub mod heights;
