@@ -1,1 +1,5 @@
 pub mod Losing
+mod Keys
+mod Members
+mod Reach
+mod Places

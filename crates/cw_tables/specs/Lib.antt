@@ -1,2 +1,5 @@
 pub mod Lost
 pub mod Heights
+pub mod Least
+pub mod Needed
+pub mod Rows
