@@ -3,3 +3,9 @@ mod Keys
 mod Members
 mod Reach
 mod Places
+mod Lazily
+mod Tabled
+mod Rising
+mod Same
+mod Tops
+mod Fulls

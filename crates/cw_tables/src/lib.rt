@@ -3,3 +3,4 @@
 
 pub mod closure;
 pub mod heights;
+pub mod tables;
