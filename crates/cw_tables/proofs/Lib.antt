@@ -9,3 +9,5 @@ mod Rising
 mod Same
 mod Tops
 mod Fulls
+mod Striving
+mod Holding

@@ -4,6 +4,7 @@ use Rattle.cw_game.specs.declared.ambient.AmbientPolicy.{AmbientPolicy}
 use Rattle.cw_game.specs.declared.ambient.Node.{Node}
 use Rattle.cw_game.specs.declared.ambient.Node.TheVariants.{TryAt, AskedAt, LabelTo, StepTo, BranchTo, ExitAt}
 use Rattle.cw_game.specs.Ambient.{flag_of, granted_of, lettered, is_bad}
+use Rattle.cw_game.specs.Games.{Game, Promise, Holds}
 use Rattle.cw_tables.specs.Lost.{lost}
 
 abbrev pub height_at : List ℕ → ℕ → ℕ → ℕ
@@ -13,6 +14,12 @@ height_at hs p q = slice_index hs (p * 4 + q)
 pub record AreHeights (g : List Node) (pol : AmbientPolicy) (hs : List ℕ) : Type 0 where
   pub there : (p q n : ℕ) → q < 4 → slice_index hs (p * 4 + q) ≡ suc n → (lost g pol (suc n) p q ≡ true) × (lost g pol n p q ≡ false)
   pub absent : (p q n : ℕ) → q < 4 → slice_index hs (p * 4 + q) ≡ 0 → lost g pol n p q ≡ false
+
+-- The same by the game: each height is the least number of moves for which the pair doesn't hold, under any promise of `main`, and a
+-- pair without a height holds for every number.
+pub record AreHeightsOf (game : Game) (hs : List ℕ) : Type 0 where
+  pub there : (p q n : ℕ) (e : Promise) → q < 4 → height_at hs p q ≡ suc n → (Holds game (suc n) p q e ≡ false) × (Holds game n p q e ≡ true)
+  pub absent : (p q n : ℕ) (e : Promise) → q < 4 → height_at hs p q ≡ 0 → Holds game n p q e ≡ true
 
 -- the lesser of two heights, and the greater, where none is above all
 abbrev pub is_sooner : ℕ → ℕ → Bool

@@ -1,7 +1,9 @@
 //! The heights of pairs: the least number of moves within which the environment wins.
 
 ghost use Rattle.std.specs.Prelude.{◌≡◌, ℕ, ◌+◌, ◌-◌, ◌*◌, ◌<◌, ◌≤◌, ◌^◌, length, slice_get, slice_index, slice_set, IfOk, IsFalse, IsTrue, true, false};
-ghost use Rattle.cw_tables.specs.Heights.{height_at, AreHeights, is_sooner, sooner, later, after, height_in, next_height, weight, Settled, Upper};
+ghost use Rattle.cw_rights.specs.Policies.{PlainPolicy};
+ghost use Rattle.cw_game.specs.Ambient.{ambient_game, numbering_of};
+ghost use Rattle.cw_tables.specs.Heights.{height_at, AreHeights, AreHeightsOf, is_sooner, sooner, later, after, height_in, next_height, weight, Settled, Upper};
 
 use cw_game::ambient::{flag_of, granted_of, is_bad, AmbientPolicy, Node};
 use std::alloc::{AllocError, Global};
@@ -114,7 +116,10 @@ fn lower_all(nodes: &[Node], policy: &AmbientPolicy, hs: &mut Vec<u32>) -> bool
 /// wins from there, and 0 where it never does.
 pub fn heights(alloc: Global, nodes: &[Node], policy: &AmbientPolicy) -> Result<Vec<u32>, AllocError>
     requires small { length nodes.now < 2 ^ 20 }
+    requires numbered { policy.now.numbering ≡ numbering_of policy.now.tests.items nodes.now }
     ensures least { IfOk result (λ hs. AreHeights nodes.now policy.now hs.items) }
+    ensures holds { IfOk result (λ hs. (plain : PlainPolicy) → plain.refuse_enter ≡ policy.now.refusable →
+        AreHeightsOf (ambient_game plain policy.now.tests.items nodes.now) hs.items) }
 {
     let mut hs = vec![in alloc; 0u32; nodes.len() * 4]?;
     while lower_all(nodes, policy, &mut hs) {}

@@ -3,4 +3,5 @@
 
 pub mod closure;
 pub mod heights;
+pub mod strategies;
 pub mod tables;
