@@ -97,9 +97,11 @@ module _ (pol : AmbientPolicy) (hs : List ℕ) where
 
       or_left : (a b : Bool) → a ≡ true → (a || b) ≡ true
       or_left a b e = ap (λ y. y || b) e
+
       or_right : (a b : Bool) → b ≡ true → (a || b) ≡ true
       or_right true b e = refl
       or_right false b e = e
+
       and_both : (a b : Bool) → a ≡ true → b ≡ true → (a && b) ≡ true
       and_both a b e f = ap₂ (λ y z. y && z) e f
 

@@ -283,6 +283,7 @@ module _ (g : List Node) (pol : AmbientPolicy) (cur : List ℕ) (u : Upper g pol
           by : (p q : ℕ) → q < 4 → Low n (height_at cur p q) → (h : ℕ) → height_at cur p q ≡ h → lost g pol n p q ≡ true
           by p q l w zero z = absurd (omega (arith, w.0, z))
           by p q l w (suc m) z = more_to g pol n (suc m) p q (omega (arith, w.1, z)) (u.right p q m l z)
+
       right_at : (p q n : ℕ) → q < 4 → height_at (set cur i v) p q ≡ suc n → lost g pol (suc n) p q ≡ true
       right_at p q n l e = by (nat_eq (p * 4 + q) i) refl
         where
@@ -293,6 +294,7 @@ module _ (g : List Node) (pol : AmbientPolicy) (cur : List ℕ) (u : Upper g pol
               let vn : v ≡ suc n = sym (get_or-set_same cur i v 0 lt) ∙ ap (λ (j : ℕ). get_or (set cur i v) j 0) (sym ji) ∙ e in
               subst (λ y. lost_in pol (lost g pol n) p y (slice_get g p) ≡ true) k.1 (subst (λ x. lost_in pol (lost g pol n) x (i % 4) (slice_get g x) ≡ true) k.0 (here n vn))
           by false t = let ne : p * 4 + q ≢ i = grind (arith, nat_tests) in u.right p q n l (sym (get_or-set_other cur i (p * 4 + q) v 0 ne) ∙ e)
+
       low_at : (j : ℕ) → slice_index (set cur i v) j + none_yet (set cur i v) ≤ length (set cur i v)
       low_at j = by (nat_eq j i) refl
         where
@@ -351,6 +353,7 @@ half_step g pol old cur cur' i v k changed now changed' h lt at ev hit miss ch =
           where
             was : changed ≡ false
             was = (or_false changed now (sym ch ∙ e)).0
+
             case : (t : Bool) → nat_eq j i ≡ t → Settled g pol old j
             case true t =
                 let ji : j ≡ i = eqb-true j i t in
@@ -421,6 +424,7 @@ module _ (g : List Node) (pol : AmbientPolicy) (hs : List ℕ) (u : Upper g pol 
           by : (t : Bool) → lost g pol n p q ≡ t → t ≡ false
           by false t = refl
           by true t = let b = lower_bound n p q l t in absurd (omega (arith, b.1, e))
+
       never : (p q n : ℕ) → q < 4 → slice_index hs (p * 4 + q) ≡ 0 → lost g pol n p q ≡ false
       never p q n l e = by (lost g pol n p q) refl
         where

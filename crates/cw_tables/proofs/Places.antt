@@ -75,6 +75,7 @@ module _ {K : Type 0} {R : K → K → Ordering} (o : IsTotalOrder R) (exact : C
     where
       p : IsPartitionPoint (λ y. R y k ≡ Less) (λ y. R y k ≡ Greater) xs i
       p = h (searchable_from_sorted o (λ x. x) xs k (sorted_weakly xs s))
+
       by : (j : ℕ) (d : K) → j < length xs → (j < i → R (get_or xs j d) k ≡ Less) → (i ≤ j → j < length xs → R (get_or xs j d) k ≡ Greater) → is_eq (R (get_or xs j d) k) ≡ false
       by j d l a b = cases (nat_lt j i) refl
         where

@@ -14,7 +14,6 @@ use Rattle.cw_tables.specs.declared.closure.Key.{Key}
 use Rattle.cw_tables.specs.Least.{Least, first, then, Exactly, key_cmp, SeenIs, Adds}
 use Rattle.cw_tables.proofs.Keys.{key_total, key_exact, at_equal, contains_one, contains_first}
 
-
 -- equality of keys
 decides_key : (a b : Key) → Decides (eq_by_cmp key_cmp a b) (a ≡ b)
 decides_key a b = (λ e. key_exact a b (at_equal _ e), λ e. subst (λ y. eq_by_cmp key_cmp a y ≡ true) e (ap is_eq (tied_itself key_total a)))
@@ -50,13 +49,16 @@ module _ (step : Key → List Key) (start : Key) where
     where
       old : (q : Key) → Contains seen q → Contains seen' q
       old q c = subst (λ y. Contains y q) (sym a.is) (Contains-append_left seen a.more q c)
+
       same_at : (j : ℕ) (d : Key) → j < length seen → get_or seen' j d ≡ get_or seen j d
       same_at j d b = ap (λ y. get_or y j d) a.is ∙ get_or_append_left seen a.more d j b
+
       closes : (j : ℕ) (d : Key) → j < i + 1 → (b : Key) → Contains (step (get_or seen' j d)) b → Contains seen' b
       closes j d b q c = by (nat_eq j i) refl
         where
           in' : j < length seen
           in' = omega arith
+
           by : (t : Bool) → nat_eq j i ≡ t → Contains seen' q
           by true t =
               let ji : j ≡ i = eqb-true j i t in

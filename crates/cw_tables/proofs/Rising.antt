@@ -76,8 +76,10 @@ mems_rise mems s q r m n e f l = by (nat_lt m n) refl (nat_lt n m) refl
   where
     pm : (m < length mems) × ((d : ℕ) → nat_eq (get_or mems m d) q ≡ true)
     pm = placed_at (λ x. nat_eq x q) mems m e
+
     pn : (n < length mems) × ((d : ℕ) → nat_eq (get_or mems n d) r ≡ true)
     pn = placed_at (λ x. nat_eq x r) mems n f
+
     by : (t : Bool) → nat_lt m n ≡ t → (u : Bool) → nat_lt n m ≡ u → m < n
     by true t u eu = grind (arith, nat_tests)
     by false t true eu =
@@ -144,16 +146,16 @@ module _ (g : List Node) (pol : AmbientPolicy) (hs : List ℕ) (ok : AreHeights 
       let y = try_inv pol states a.state (slice_get g a.pos) u f in
       let z = try_inv pol states b.state (slice_get g b.pos) v h in
       three_less u.seam.0 v.seam.0 u.stage v.stage u.mem.0 v.mem.0 (y.2 ∙ sym z.2) (⊎_elim (λ l. inl (laid.asks a.pos b.pos u.seam.0 v.seam.0 y.0 z.0 l)) (λ m.
-          let s : AskedAt u.seam.0 ≡ AskedAt v.seam.0 = same_Some (AskedAt u.seam.0) (AskedAt v.seam.0) (sym y.0 ∙ ap (slice_get g) m.0 ∙ z.0) in
-          inr (cc, mems_rise states are.0 a.state b.state u.mem.0 v.mem.0 y.1 z.1 m.1)) (keys_rise a b i j e))
+      let s : AskedAt u.seam.0 ≡ AskedAt v.seam.0 = same_Some (AskedAt u.seam.0) (AskedAt v.seam.0) (sym y.0 ∙ ap (slice_get g) m.0 ∙ z.0) in
+      inr (cc, mems_rise states are.0 a.state b.state u.mem.0 v.mem.0 y.1 z.1 m.1)) (keys_rise a b i j e))
 
   at_rises : (a b : Key) (u v : AtRow) → In keys a → In keys b → key_cmp a b ≡ Less → at_row g pol states a ≡ Some u → at_row g pol states b ≡ Some v → at_cmp u v ≡ Less
   at_rises a b u v i j e f h =
       let y = at_inv pol states a.state (slice_get g a.pos) u f in
       let z = at_inv pol states b.state (slice_get g b.pos) v h in
       then_less u.seam.0 v.seam.0 u.mem.0 v.mem.0 (⊎_elim (λ l. inl (laid.labels a.pos b.pos u.seam.0 v.seam.0 y.0 y.1 z.0 z.1 y.2 z.2 l)) (λ m.
-          let s : LabelTo u.seam.0 y.0 y.1 ≡ LabelTo v.seam.0 z.0 z.1 = same_Some (LabelTo u.seam.0 y.0 y.1) (LabelTo v.seam.0 z.0 z.1) (sym y.2 ∙ ap (slice_get g) m.0 ∙ z.2) in
-          inr (cc, mems_rise states are.0 a.state b.state u.mem.0 v.mem.0 y.3 z.3 m.1)) (keys_rise a b i j e))
+      let s : LabelTo u.seam.0 y.0 y.1 ≡ LabelTo v.seam.0 z.0 z.1 = same_Some (LabelTo u.seam.0 y.0 y.1) (LabelTo v.seam.0 z.0 z.1) (sym y.2 ∙ ap (slice_get g) m.0 ∙ z.2) in
+      inr (cc, mems_rise states are.0 a.state b.state u.mem.0 v.mem.0 y.3 z.3 m.1)) (keys_rise a b i j e))
 
   pub lazy_ascends : Ascends c
   lazy_ascends = record {

@@ -15,5 +15,6 @@ exactly_same {A} {R} o exact P xs ys a b = btree_set_from_contains o s t a.0 b.0
   where
     s : BTreeSet A
     s = record { keys = xs }
+
     t : BTreeSet A
     t = record { keys = ys }

@@ -144,6 +144,7 @@ module _ (g : List Node) (pol : AmbientPolicy) (hs : List ℕ) (ok : AreHeights 
     where
       a : Way
       a = way_to ByGrant (key_of hs (p + 1) (granted_of q))
+
       by : (t : Bool) → pol.refusable ≡ t → Every (Low n) (way_keys (Some (cond t (better (way_to ByGrant (key_of hs (p + 1) (granted_of q))) (way_to ByRefuse (key_of hs (p + 1) q))) (way_to ByGrant (key_of hs (p + 1) (granted_of q))))))
       by true t = (better_low n (way_to ByGrant (key_of hs (p + 1) (granted_of q))) (way_to ByRefuse (key_of hs (p + 1) q)) (⊎_elim (λ x. inl (at_low n (p + 1) (granted_of q) (omega arith) x)) (λ x. inr (at_low n (p + 1) q l (halves _ _ x).1)) (either _ _ e)), tt)
       by false t = (⊎_elim (λ x. at_low n (p + 1) (granted_of q) (omega arith) x) (λ x. let w : true ≡ false = sym (halves _ _ x).0 ∙ t in cc) (either _ _ e), tt)
@@ -279,6 +280,7 @@ module _ (g : List Node) (pol : AmbientPolicy) (hs : List ℕ) (ok : AreHeights 
         where
           grant : Way
           grant = way_to ByGrant (key_of hs (p + 1) (granted_of q))
+
           by : (t : Bool) → pol.refusable ≡ t → Leads p q (Some (AskedAt j)) w
           by true t =
               let s = same_Some (better (way_to ByGrant (key_of hs (p + 1) (granted_of q))) (way_to ByRefuse (key_of hs (p + 1) q))) w (sym (ap (λ t. Some (cond t (better (way_to ByGrant (key_of hs (p + 1) (granted_of q))) (way_to ByRefuse (key_of hs (p + 1) q))) (way_to ByGrant (key_of hs (p + 1) (granted_of q))))) t) ∙ b) in

@@ -201,6 +201,7 @@ module _ (g : List Node) (pol : AmbientPolicy) (hs : List ℕ) (ok : AreHeights 
       where
         gives : at_row g pol states k ≡ Some (met j m a)
         gives = ap (at_in pol states k.state) e ∙ ap₂ (both_met j) f ea
+
         only : (y : AtRow) → In c.ats.items y → (nat_eq y.seam.0 j && nat_eq y.mem.0 m) ≡ true → y ≡ met j m a
         only y iy test =
             let z = kept_from (at_row g pol states) keys y (subst (λ l. In l y) t.ats iy) in
@@ -222,6 +223,7 @@ module _ (g : List Node) (pol : AmbientPolicy) (hs : List ℕ) (ok : AreHeights 
       where
         next : (b : Bool) → is_lost hs (k.pos + 2) k.state ≡ b → In keys (key_of hs (cond b (k.pos + 1) (k.pos + 2)) k.state)
         next b l = steps_at k (key_of hs (cond b (k.pos + 1) (k.pos + 2)) k.state) (Some (TryAt j)) e n (inl (ap (λ b. key_of hs (cond b (k.pos + 1) (k.pos + 2)) k.state) l))
+
         by : (b : Bool) → is_lost hs (k.pos + 2) k.state ≡ b → is_live (table_of c) (cond (is_some (try_at (table_of c) j 0 m)) (k.pos + 1) (k.pos + 2)) m ≡ true
         by true l =
             let r = try_is (key_of hs (k.pos + 1) k.state) j m (next true l) (laid.visit k.pos j e) f in
@@ -249,9 +251,9 @@ module _ (g : List Node) (pol : AmbientPolicy) (hs : List ℕ) (ok : AreHeights 
         let o = there pol hs g laid z.0 (needed z.0 z.1) in
         let e : (pos_id z.0.pos, mem_id m.0) ≡ r = same_Some (pos_id z.0.pos, mem_id m.0) r (sym (ap (option_map (λ m. (pos_id z.0.pos, mem_id m))) m.1) ∙ z.2) in
         subst (λ (r : PosId × MemId). row_ok game (table_of c) r.0.0 r.1.0 ≡ true) e (
-          ap (row_ok_by game (table_of c) z.0.pos m.0) (means z.0.state m.0 m.1)
-          ∙ ap (row_ok_in game (table_of c) z.0.pos m.0 z.0.state (full pol)) (map_at spot_of g z.0.pos o.0 o.1)
-          ∙ node_ok z.0 m.0 o.0 o.1 z.1 m.1)
+        ap (row_ok_by game (table_of c) z.0.pos m.0) (means z.0.state m.0 m.1)
+        ∙ ap (row_ok_in game (table_of c) z.0.pos m.0 z.0.state (full pol)) (map_at spot_of g z.0.pos o.0 o.1)
+        ∙ node_ok z.0 m.0 o.0 o.1 z.1 m.1)
 
     all_good : (rs : List (PosId × MemId)) → ((r : PosId × MemId) → In rs r → row_ok game (table_of c) r.0.0 r.1.0 ≡ true) → rows_ok game (table_of c) rs ≡ true
     all_good [] h = refl

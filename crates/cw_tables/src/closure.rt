@@ -7,9 +7,9 @@ ghost use Rattle.cw_tables.specs.Heights.{height_at};
 ghost use Rattle.cw_game.specs.Ambient.{start_of};
 ghost use Rattle.cw_tables.specs.Needed.{key_of, is_lost, lazy_in, better, way_to, best_in, named_in, steps_in, steps, Needed};
 
-use cw_certs::Move;
-use cw_game::ambient::{flag_of, granted_of, is_bad, AmbientPolicy, Node};
 use crate::heights::height_at;
+use cw_certs::Move;
+use cw_game::ambient::{AmbientPolicy, Node, flag_of, granted_of, is_bad};
 use std::alloc::{AllocError, Global};
 use std::collections::BTreeSet;
 
@@ -39,7 +39,11 @@ pub struct Way {
 pub fn key_of(hs: &[u32], pos: u32, state: u16) -> Key
     ensures { result ≡ key_of hs.now pos state }
 {
-    Key { height: height_at(hs, pos, state), pos, state }
+    Key {
+        height: height_at(hs, pos, state),
+        pos,
+        state,
+    }
 }
 
 fn one(alloc: Global, key: Key) -> Result<Vec<Key>, AllocError>
@@ -62,7 +66,11 @@ fn two(alloc: Global, a: Key, b: Key) -> Result<Vec<Key>, AllocError>
 fn better(a: Way, b: Way) -> Way
     ensures { result ≡ better a b }
 {
-    if 0 < a.to.height && (b.to.height == 0 || a.to.height <= b.to.height) { a } else { b }
+    if 0 < a.to.height && (b.to.height == 0 || a.to.height <= b.to.height) {
+        a
+    } else {
+        b
+    }
 }
 
 /// The environment's move: to the pair of the least height, by the first move on a tie. None where the letter is bad.
@@ -72,21 +80,60 @@ pub fn best(policy: &AmbientPolicy, hs: &[u32], pos: u32, q: u16, node: Node) ->
 {
     match node {
         Node::AskedAt(_) => {
-            let grant = Way { by: Move::Grant, to: key_of(hs, pos + 1, granted_of(q)) };
-            Some(if policy.refusable { better(grant, Way { by: Move::Refuse, to: key_of(hs, pos + 1, q) }) } else { grant })
+            let grant = Way {
+                by: Move::Grant,
+                to: key_of(hs, pos + 1, granted_of(q)),
+            };
+            Some(if policy.refusable {
+                better(
+                    grant,
+                    Way {
+                        by: Move::Refuse,
+                        to: key_of(hs, pos + 1, q),
+                    },
+                )
+            } else {
+                grant
+            })
         }
         Node::LabelTo(_, letter, next) => {
-            if is_bad(&policy.tests, letter, flag_of(q)) { None } else { Some(Way { by: Move::On, to: key_of(hs, next, policy.numbering.lettered(q)) }) }
+            if is_bad(&policy.tests, letter, flag_of(q)) {
+                None
+            } else {
+                Some(Way {
+                    by: Move::On,
+                    to: key_of(hs, next, policy.numbering.lettered(q)),
+                })
+            }
         }
-        Node::StepTo(next) => Some(Way { by: Move::On, to: key_of(hs, next, q) }),
+        Node::StepTo(next) => Some(Way {
+            by: Move::On,
+            to: key_of(hs, next, q),
+        }),
         Node::BranchTo(left, right) => {
-            Some(better(Way { by: Move::Left, to: key_of(hs, left, q) }, Way { by: Move::Right, to: key_of(hs, right, q) }))
+            Some(better(
+                Way {
+                    by: Move::Left,
+                    to: key_of(hs, left, q),
+                },
+                Way {
+                    by: Move::Right,
+                    to: key_of(hs, right, q),
+                },
+            ))
         }
         _ => None,
     }
 }
 
-fn named_steps(alloc: Global, policy: &AmbientPolicy, hs: &[u32], pos: u32, q: u16, node: Node) -> Result<Vec<Key>, AllocError>
+fn named_steps(
+    alloc: Global,
+    policy: &AmbientPolicy,
+    hs: &[u32],
+    pos: u32,
+    q: u16,
+    node: Node,
+) -> Result<Vec<Key>, AllocError>
     requires { pos < 2 ^ 20 }
     ensures { IfOk result (λ v. v.items ≡ named_in policy.now hs.now pos q (Some node)) }
 {
@@ -99,15 +146,37 @@ fn named_steps(alloc: Global, policy: &AmbientPolicy, hs: &[u32], pos: u32, q: u
     }
 }
 
-fn lazy_steps(alloc: Global, policy: &AmbientPolicy, hs: &[u32], pos: u32, q: u16, node: Node) -> Result<Vec<Key>, AllocError>
+fn lazy_steps(
+    alloc: Global,
+    policy: &AmbientPolicy,
+    hs: &[u32],
+    pos: u32,
+    q: u16,
+    node: Node,
+) -> Result<Vec<Key>, AllocError>
     requires { pos < 2 ^ 20 }
     ensures { IfOk result (λ v. v.items ≡ lazy_in policy.now hs.now pos q (Some node)) }
 {
     match node {
-        Node::TryAt(_) => one(alloc, key_of(hs, if 0 < height_at(hs, pos + 2, q) { pos + 1 } else { pos + 2 }, q)),
+        Node::TryAt(_) => one(
+            alloc,
+            key_of(
+                hs,
+                if 0 < height_at(hs, pos + 2, q) {
+                    pos + 1
+                } else {
+                    pos + 2
+                },
+                q,
+            ),
+        ),
         Node::AskedAt(_) => {
             let granted = key_of(hs, pos + 1, granted_of(q));
-            if policy.refusable { two(alloc, granted, key_of(hs, pos + 1, q)) } else { one(alloc, granted) }
+            if policy.refusable {
+                two(alloc, granted, key_of(hs, pos + 1, q))
+            } else {
+                one(alloc, granted)
+            }
         }
         Node::LabelTo(_, _, next) => one(alloc, key_of(hs, next, policy.numbering.lettered(q))),
         Node::StepTo(next) => one(alloc, key_of(hs, next, q)),
@@ -116,7 +185,15 @@ fn lazy_steps(alloc: Global, policy: &AmbientPolicy, hs: &[u32], pos: u32, q: u1
     }
 }
 
-fn steps_at(alloc: Global, side: Side, policy: &AmbientPolicy, hs: &[u32], pos: u32, q: u16, node: Node) -> Result<Vec<Key>, AllocError>
+fn steps_at(
+    alloc: Global,
+    side: Side,
+    policy: &AmbientPolicy,
+    hs: &[u32],
+    pos: u32,
+    q: u16,
+    node: Node,
+) -> Result<Vec<Key>, AllocError>
     requires { pos < 2 ^ 20 }
     ensures { IfOk result (λ v. v.items ≡ steps_in side policy.now hs.now pos q (Some node)) }
 {
@@ -127,7 +204,14 @@ fn steps_at(alloc: Global, side: Side, policy: &AmbientPolicy, hs: &[u32], pos: 
 }
 
 /// The pairs that a certificate needs beside this one.
-pub fn steps(alloc: Global, side: Side, nodes: &[Node], policy: &AmbientPolicy, hs: &[u32], key: Key) -> Result<Vec<Key>, AllocError>
+fn steps(
+    alloc: Global,
+    side: Side,
+    nodes: &[Node],
+    policy: &AmbientPolicy,
+    hs: &[u32],
+    key: Key,
+) -> Result<Vec<Key>, AllocError>
     requires { length nodes.now < 2 ^ 20 }
     ensures { IfOk result (λ v. v.items ≡ steps side nodes.now policy.now hs.now key) }
 {
@@ -138,7 +222,7 @@ pub fn steps(alloc: Global, side: Side, nodes: &[Node], policy: &AmbientPolicy, 
 }
 
 // Sees a key, where it is new.
-pub fn see(seen: &mut Vec<Key>, set: &mut BTreeSet<Key>, key: Key) -> Result<(), AllocError>
+fn see(seen: &mut Vec<Key>, set: &mut BTreeSet<Key>, key: Key) -> Result<(), AllocError>
     requires { SeenIs seen.old.items set.old.keys }
     ensures more { OnOk result (Adds seen.old.items seen.new.items (key ∷ [])) }
     ensures same { OnOk result (SeenIs seen.new.items set.new.keys) }
@@ -150,7 +234,7 @@ pub fn see(seen: &mut Vec<Key>, set: &mut BTreeSet<Key>, key: Key) -> Result<(),
 }
 
 // The same, of several.
-pub fn see_all(seen: &mut Vec<Key>, set: &mut BTreeSet<Key>, keys: &[Key]) -> Result<(), AllocError>
+fn see_all(seen: &mut Vec<Key>, set: &mut BTreeSet<Key>, keys: &[Key]) -> Result<(), AllocError>
     requires { SeenIs seen.old.items set.old.keys }
     ensures more { OnOk result (Adds seen.old.items seen.new.items keys.now) }
     ensures same { OnOk result (SeenIs seen.new.items set.new.keys) }
@@ -162,7 +246,7 @@ pub fn see_all(seen: &mut Vec<Key>, set: &mut BTreeSet<Key>, keys: &[Key]) -> Re
 }
 
 // The keys of a set, in order.
-pub fn in_order(alloc: Global, set: BTreeSet<Key>) -> Result<Vec<Key>, AllocError>
+fn in_order(alloc: Global, set: BTreeSet<Key>) -> Result<Vec<Key>, AllocError>
     ensures items { IfOk result (λ v. v.items ≡ set.keys) }
     ensures order { IfOk result (λ v. IsStrictlySortedBy key_cmp v.items) }
 {
@@ -170,7 +254,13 @@ pub fn in_order(alloc: Global, set: BTreeSet<Key>) -> Result<Vec<Key>, AllocErro
 }
 
 /// The keys that a certificate needs, in order, where they are at most 65,536.
-pub fn reach(alloc: Global, side: Side, nodes: &[Node], policy: &AmbientPolicy, hs: &[u32]) -> Result<Option<Vec<Key>>, AllocError>
+pub fn reach(
+    alloc: Global,
+    side: Side,
+    nodes: &[Node],
+    policy: &AmbientPolicy,
+    hs: &[u32],
+) -> Result<Option<Vec<Key>>, AllocError>
     requires { length nodes.now < 2 ^ 20 }
     ensures some { IfOk result (λ keys. IfSome keys (λ v. Exactly key_cmp (Needed side nodes.now policy.now hs.now) v.items)) }
     ensures few { IfOk result (λ keys. IfSome keys (λ v. length v.items ≤ 65536)) }

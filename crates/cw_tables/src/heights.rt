@@ -5,8 +5,9 @@ ghost use Rattle.cw_rights.specs.Policies.{PlainPolicy};
 ghost use Rattle.cw_game.specs.Ambient.{ambient_game, numbering_of};
 ghost use Rattle.cw_tables.specs.Heights.{height_at, AreHeights, AreHeightsOf, is_sooner, sooner, later, after, height_in, next_height, weight, Settled, Upper};
 
-use cw_game::ambient::{flag_of, granted_of, is_bad, AmbientPolicy, Node};
-use std::alloc::{AllocError, Global};
+use cw_core::NoMemory;
+use cw_game::ambient::{AmbientPolicy, Node, flag_of, granted_of, is_bad};
+use std::alloc::Global;
 
 /// The height of a pair, 0 where it has none.
 pub fn height_at(hs: &[u32], pos: u32, state: u16) -> u32
@@ -52,7 +53,11 @@ fn height_by(policy: &AmbientPolicy, hs: &[u32], pos: u32, q: u16, node: Node) -
         Node::TryAt(_) => after(later(height_at(hs, pos + 2, q), height_at(hs, pos + 1, q))),
         Node::AskedAt(_) => {
             let granted = height_at(hs, pos + 1, granted_of(q));
-            after(if policy.refusable { sooner(granted, height_at(hs, pos + 1, q)) } else { granted })
+            after(if policy.refusable {
+                sooner(granted, height_at(hs, pos + 1, q))
+            } else {
+                granted
+            })
         }
         Node::LabelTo(_, label, next) => {
             if is_bad(&policy.tests, label, flag_of(q)) {
@@ -62,7 +67,10 @@ fn height_by(policy: &AmbientPolicy, hs: &[u32], pos: u32, q: u16, node: Node) -
             }
         }
         Node::StepTo(next) => after(height_at(hs, next, q)),
-        Node::BranchTo(left, right) => after(sooner(height_at(hs, left, q), height_at(hs, right, q))),
+        Node::BranchTo(left, right) => after(sooner(
+            height_at(hs, left, q),
+            height_at(hs, right, q),
+        )),
         Node::ExitAt => 0,
     }
 }
@@ -114,7 +122,7 @@ fn lower_all(nodes: &[Node], policy: &AmbientPolicy, hs: &mut Vec<u32>) -> bool
 
 /// The heights of all pairs, four for each position by state: the least number of moves within which the environment
 /// wins from there, and 0 where it never does.
-pub fn heights(alloc: Global, nodes: &[Node], policy: &AmbientPolicy) -> Result<Vec<u32>, AllocError>
+pub fn heights(alloc: Global, nodes: &[Node], policy: &AmbientPolicy) -> Result<Vec<u32>, NoMemory>
     requires small { length nodes.now < 2 ^ 20 }
     requires numbered { policy.now.numbering ≡ numbering_of policy.now.tests.items nodes.now }
     ensures least { IfOk result (λ hs. AreHeights nodes.now policy.now hs.items) }

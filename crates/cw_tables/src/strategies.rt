@@ -11,9 +11,9 @@ ghost use Rattle.cw_tables.specs.Least.{key_cmp};
 ghost use Rattle.cw_tables.specs.Heights.{height_at, AreHeights};
 ghost use Rattle.cw_tables.specs.Rows.{number, go_how, how_in, env_row, IsLeast};
 
-use crate::closure::{best, key_of, reach, Key, Side, Way};
+use crate::closure::{Key, Side, Way, best, key_of, reach};
 use cw_certs::{EnvCert, EnvRow, How};
-use cw_core::{PosId, StateId, StateSet};
+use cw_core::{NoMemory, PosId, StateId, StateSet};
 use cw_game::ambient::{AmbientPolicy, Node};
 use std::alloc::{AllocError, Global};
 
@@ -42,7 +42,14 @@ fn go_how(keys: &[Key], way: Option<Way>) -> Option<How>
     }
 }
 
-fn how_at(policy: &AmbientPolicy, hs: &[u32], keys: &[Key], pos: u32, q: u16, node: Node) -> Option<How>
+fn how_at(
+    policy: &AmbientPolicy,
+    hs: &[u32],
+    keys: &[Key],
+    pos: u32,
+    q: u16,
+    node: Node,
+) -> Option<How>
     requires order { IsStrictlySortedBy key_cmp keys.now }
     requires few { length keys.now ≤ 65536 }
     requires small { pos < 2 ^ 20 }
@@ -60,7 +67,13 @@ fn how_at(policy: &AmbientPolicy, hs: &[u32], keys: &[Key], pos: u32, q: u16, no
     }
 }
 
-fn env_row(nodes: &[Node], policy: &AmbientPolicy, hs: &[u32], keys: &[Key], key: Key) -> Option<EnvRow>
+fn env_row(
+    nodes: &[Node],
+    policy: &AmbientPolicy,
+    hs: &[u32],
+    keys: &[Key],
+    key: Key,
+) -> Option<EnvRow>
     requires order { IsStrictlySortedBy key_cmp keys.now }
     requires few { length keys.now ≤ 65536 }
     requires small { length nodes.now < 2 ^ 20 }
@@ -72,11 +85,22 @@ fn env_row(nodes: &[Node], policy: &AmbientPolicy, hs: &[u32], keys: &[Key], key
     };
     match how {
         None => None,
-        Some(how) => Some(EnvRow { pos: PosId(key.pos), state: StateId(key.state), aim: StateSet::empty(), how }),
+        Some(how) => Some(EnvRow {
+            pos: PosId(key.pos),
+            state: StateId(key.state),
+            aim: StateSet::empty(),
+            how,
+        }),
     }
 }
 
-fn env_rows(alloc: Global, nodes: &[Node], policy: &AmbientPolicy, hs: &[u32], keys: &[Key]) -> Result<Vec<EnvRow>, AllocError>
+fn env_rows(
+    alloc: Global,
+    nodes: &[Node],
+    policy: &AmbientPolicy,
+    hs: &[u32],
+    keys: &[Key],
+) -> Result<Vec<EnvRow>, AllocError>
     requires order { IsStrictlySortedBy key_cmp keys.now }
     requires few { length keys.now ≤ 65536 }
     requires small { length nodes.now < 2 ^ 20 }
@@ -95,7 +119,12 @@ fn env_rows(alloc: Global, nodes: &[Node], policy: &AmbientPolicy, hs: &[u32], k
 /// environment to the pair of the least height, by the first move on a tie. None: it has more than 65,536 rows.
 ///
 /// Public source: the environment's strategies of Harris, Jha, Reps, Anderson and Watson (2013).
-pub fn env_table(alloc: Global, nodes: &[Node], policy: &AmbientPolicy, hs: &[u32]) -> Result<Option<EnvCert>, AllocError>
+pub fn env_table(
+    alloc: Global,
+    nodes: &[Node],
+    policy: &AmbientPolicy,
+    hs: &[u32],
+) -> Result<Option<EnvCert>, NoMemory>
     requires small { length nodes.now < 2 ^ 20 }
     requires numbered { policy.now.numbering ≡ numbering_of policy.now.tests.items nodes.now }
     requires heights { AreHeights nodes.now policy.now hs.now }
@@ -111,7 +140,10 @@ pub fn env_table(alloc: Global, nodes: &[Node], policy: &AmbientPolicy, hs: &[u3
         None => Ok(None),
         Some(keys) => {
             let rows = env_rows(alloc, nodes, policy, hs, &keys)?;
-            Ok(Some(EnvCert { states: policy.numbering.count(), rows }))
+            Ok(Some(EnvCert {
+                states: policy.numbering.count(),
+                rows,
+            }))
         }
     }
 }

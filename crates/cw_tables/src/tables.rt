@@ -17,10 +17,10 @@ ghost use Rattle.cw_tables.specs.Heights.{height_at, AreHeights};
 ghost use Rattle.cw_tables.specs.Ascends.{Ascends};
 ghost use Rattle.cw_tables.specs.Rows.{mem_id, full, mem_of, mem_row, live_row, try_in, try_row, at_in, at_row, AreStatesOf, IsTableOf, IsTable, IsLazy, table_rows};
 
-use crate::closure::{reach, Key, Side};
+use crate::closure::{Key, Side, reach};
 use cw_certs::{AtRow, TryRow, WeaverCert};
-use cw_core::{MemId, PosId, SeamId, StateId, StateSet};
-use cw_game::ambient::{granted_of, AmbientPolicy, Node};
+use cw_core::{MemId, NoMemory, PosId, SeamId, StateId, StateSet};
+use cw_game::ambient::{AmbientPolicy, Node, granted_of};
 use std::alloc::{AllocError, Global};
 use std::collections::BTreeSet;
 
@@ -99,8 +99,18 @@ fn try_at_node(policy: &AmbientPolicy, states: &[u16], q: u16, node: Node) -> Op
             None => None,
             Some(mem) => {
                 let granted = mem_id_of(states, granted_of(q));
-                let refused = if policy.refusable { mem_id_of(states, q) } else { None };
-                Some(TryRow { seam: SeamId(seam), stage: 0, mem: MemId(mem), granted, refused })
+                let refused = if policy.refusable {
+                    mem_id_of(states, q)
+                } else {
+                    None
+                };
+                Some(TryRow {
+                    seam: SeamId(seam),
+                    stage: 0,
+                    mem: MemId(mem),
+                    granted,
+                    refused,
+                })
             }
         },
         _ => None,
@@ -128,7 +138,11 @@ fn at_at_node(policy: &AmbientPolicy, states: &[u16], q: u16, node: Node) -> Opt
             None => None,
             Some(mem) => match mem_of(states, policy.numbering.lettered(q)) {
                 None => None,
-                Some(after) => Some(AtRow { seam: SeamId(seam), mem: MemId(mem), after: MemId(after) }),
+                Some(after) => Some(AtRow {
+                    seam: SeamId(seam),
+                    mem: MemId(mem),
+                    after: MemId(after),
+                }),
             },
         },
         _ => None,
@@ -146,7 +160,11 @@ fn at_row(nodes: &[Node], policy: &AmbientPolicy, states: &[u16], key: Key) -> O
     }
 }
 
-fn mem_rows(alloc: Global, policy: &AmbientPolicy, states: &[u16]) -> Result<Vec<(StateId, StateSet)>, AllocError>
+fn mem_rows(
+    alloc: Global,
+    policy: &AmbientPolicy,
+    states: &[u16],
+) -> Result<Vec<(StateId, StateSet)>, AllocError>
     ensures { IfOk result (λ v. v.items ≡ map (mem_row policy.now) states.now) }
 {
     let promise = full(policy);
@@ -171,7 +189,13 @@ fn live_rows(alloc: Global, states: &[u16], keys: &[Key]) -> Result<Vec<(PosId, 
     Ok(rows)
 }
 
-fn try_rows(alloc: Global, nodes: &[Node], policy: &AmbientPolicy, states: &[u16], keys: &[Key]) -> Result<Vec<TryRow>, AllocError>
+fn try_rows(
+    alloc: Global,
+    nodes: &[Node],
+    policy: &AmbientPolicy,
+    states: &[u16],
+    keys: &[Key],
+) -> Result<Vec<TryRow>, AllocError>
     requires order { IsStrictlySortedBy nat_cmp states.now }
     requires few { length states.now ≤ 65536 }
     ensures { IfOk result (λ v. v.items ≡ filter_map (try_row nodes.now policy.now states.now) keys.now) }
@@ -185,7 +209,13 @@ fn try_rows(alloc: Global, nodes: &[Node], policy: &AmbientPolicy, states: &[u16
     Ok(rows)
 }
 
-fn at_rows(alloc: Global, nodes: &[Node], policy: &AmbientPolicy, states: &[u16], keys: &[Key]) -> Result<Vec<AtRow>, AllocError>
+fn at_rows(
+    alloc: Global,
+    nodes: &[Node],
+    policy: &AmbientPolicy,
+    states: &[u16],
+    keys: &[Key],
+) -> Result<Vec<AtRow>, AllocError>
     requires order { IsStrictlySortedBy nat_cmp states.now }
     requires few { length states.now ≤ 65536 }
     ensures { IfOk result (λ v. v.items ≡ filter_map (at_row nodes.now policy.now states.now) keys.now) }
@@ -203,12 +233,21 @@ fn count_rows(mems: usize, live: usize, tries: usize, ats: usize) -> Option<usiz
     ensures some { IfSome result (λ n. (n ≡ mems + live + tries + ats) × (n ≤ 65536)) }
     ensures none { IfNone result (65536 < mems + live + tries + ats) }
 {
-    let total = mems.checked_add(live)?.checked_add(tries)?.checked_add(ats)?;
+    let total = mems
+        .checked_add(live)?
+        .checked_add(tries)?
+        .checked_add(ats)?;
     if total <= 65536 { Some(total) } else { None }
 }
 
 // The table of these pairs with these states.
-fn table_of_keys(alloc: Global, nodes: &[Node], policy: &AmbientPolicy, keys: &[Key], states: &[u16]) -> Result<Option<WeaverCert>, AllocError>
+fn table_of_keys(
+    alloc: Global,
+    nodes: &[Node],
+    policy: &AmbientPolicy,
+    keys: &[Key],
+    states: &[u16],
+) -> Result<Option<WeaverCert>, AllocError>
     requires exactly { AreStatesOf keys.now states.now }
     requires few { length states.now ≤ 65536 }
     ensures some { IfOk result (λ o. IfSome o (λ c. IsTableOf nodes.now policy.now keys.now states.now c × (table_rows c ≤ 65536))) }
@@ -242,7 +281,12 @@ fn table_of_keys(alloc: Global, nodes: &[Node], policy: &AmbientPolicy, keys: &[
 /// The lazy table, where the start isn't lost. None: it has more than 65,536 rows, all entries of all its lists together.
 ///
 /// Public source: the weaver's strategies of Harris, Jha, Reps, Anderson and Watson (2013).
-pub fn weaver_table(alloc: Global, nodes: &[Node], policy: &AmbientPolicy, hs: &[u32]) -> Result<Option<WeaverCert>, AllocError>
+pub fn weaver_table(
+    alloc: Global,
+    nodes: &[Node],
+    policy: &AmbientPolicy,
+    hs: &[u32],
+) -> Result<Option<WeaverCert>, NoMemory>
     requires small { length nodes.now < 2 ^ 20 }
     requires laid { Laid nodes.now }
     requires numbered { policy.now.numbering ≡ numbering_of policy.now.tests.items nodes.now }
