@@ -214,13 +214,13 @@ module _ (pol : AmbientPolicy) (f : ℕ → ℕ → Bool) (h : ℕ → ℕ → �
   most_in k p q (Some (BranchTo a b)) = after_most n (sooner (h a q) (h b q)) (sooner_most (h a q) (h b q) n (k _ _) (k _ _))
   most_in k p q (Some ExitAt) = omega arith
 
--- some cells were looked at, from the last one on
-pub record Halfway (g : List Node) (pol : AmbientPolicy) (old cur : List ℕ) (k : ℕ) (changed : Bool) : Type 0 where
+-- some cells were looked at: those of Seen
+pub record Halfway (g : List Node) (pol : AmbientPolicy) (old cur : List ℕ) (Seen : ℕ → Type 0) (changed : Bool) : Type 0 where
   pub upper : Upper g pol cur
   pub less : weight (4 * length g + 1) cur ≤ weight (4 * length g + 1) old
   pub fell : changed ≡ true → weight (4 * length g + 1) cur < weight (4 * length g + 1) old
   pub same : changed ≡ false → cur ≡ old
-  pub settled : changed ≡ false → (j : ℕ) → j < length old → length old ≤ j + k → Settled g pol old j
+  pub settled : changed ≡ false → (j : ℕ) → j < length old → Seen j → Settled g pol old j
 
 nonzero : (v : ℕ) → 0 < v → nat_eq v 0 ≡ false
 nonzero v l = grind (arith, nat_tests)
@@ -320,10 +320,10 @@ or_false true b e = cc
 or_false false b e = (refl, e)
 
 -- one more cell
-pub half_step : (g : List Node) (pol : AmbientPolicy) (old cur cur' : List ℕ) (i v k : ℕ) (changed now changed' : Bool) → Halfway g pol old cur k changed → i < length cur → i + k + 1 ≡ length old → v ≡ next_height g pol cur i → (now ≡ true → (is_sooner v (slice_index cur i) ≡ true) × (cur' ≡ set cur i v)) → (now ≡ false → (is_sooner v (slice_index cur i) ≡ false) × (cur' ≡ cur)) → changed' ≡ (changed || now) → Halfway g pol old cur' (k + 1) changed'
-half_step g pol old cur cur' i v k changed now changed' h lt at ev hit miss ch = by now refl
+pub half_step : (g : List Node) (pol : AmbientPolicy) (old cur cur' : List ℕ) (Seen Next : ℕ → Type 0) (i v : ℕ) (changed now changed' : Bool) → Halfway g pol old cur Seen changed → i < length cur → ((j : ℕ) → j < length old → Next j → j ≢ i → Seen j) → v ≡ next_height g pol cur i → (now ≡ true → (is_sooner v (slice_index cur i) ≡ true) × (cur' ≡ set cur i v)) → (now ≡ false → (is_sooner v (slice_index cur i) ≡ false) × (cur' ≡ cur)) → changed' ≡ (changed || now) → Halfway g pol old cur' Next changed'
+half_step g pol old cur cur' Seen Next i v changed now changed' h lt more ev hit miss ch = by now refl
   where
-    by : (t : Bool) → now ≡ t → Halfway g pol old cur' (k + 1) changed'
+    by : (t : Bool) → now ≡ t → Halfway g pol old cur' Next changed'
     by true t =
         let y = hit t in
         let s = sooner_is v (slice_index cur i) y.0 in
@@ -348,7 +348,7 @@ half_step g pol old cur cur' i v k changed now changed' h lt at ev hit miss ch =
           settled = settled_at n;
         }
       where
-        settled_at : (is_sooner v (slice_index cur i) ≡ false) × (cur' ≡ cur) → changed' ≡ false → (j : ℕ) → j < length old → length old ≤ j + (k + 1) → Settled g pol old j
+        settled_at : (is_sooner v (slice_index cur i) ≡ false) × (cur' ≡ cur) → changed' ≡ false → (j : ℕ) → j < length old → Next j → Settled g pol old j
         settled_at n e j l m = case (nat_eq j i) refl
           where
             was : changed ≡ false
@@ -358,15 +358,15 @@ half_step g pol old cur cur' i v k changed now changed' h lt at ev hit miss ch =
             case true t =
                 let ji : j ≡ i = eqb-true j i t in
                 subst (Settled g pol old) (sym ji) (subst (λ c. Settled g pol c i) (h.same was) (subst (λ v. is_sooner v (slice_index cur i) ≡ false) ev n.0))
-            case false t = let ne : j ≢ i = grind (arith, nat_tests) in h.settled was j l (omega (arith, ne, m, at))
+            case false t = let ne : j ≢ i = grind (arith, nat_tests) in h.settled was j l (more j l m ne)
 
-pub half_start : (g : List Node) (pol : AmbientPolicy) (hs : List ℕ) → Upper g pol hs → Halfway g pol hs hs 0 false
-half_start g pol hs u = record {
+pub half_start : (g : List Node) (pol : AmbientPolicy) (hs : List ℕ) (Seen : ℕ → Type 0) → ((j : ℕ) → j < length hs → Seen j → ⊥) → Upper g pol hs → Halfway g pol hs hs Seen false
+half_start g pol hs Seen none u = record {
   upper = u;
   less = omega arith;
   fell = λ e. cc;
   same = λ e. refl;
-  settled = λ e j l m. absurd (omega (arith, l, m));
+  settled = λ e j l m. absurd (none j l m);
 }
 
 one_le : (b : Bool) → one_if b ≤ 1

@@ -102,7 +102,7 @@ fn lower(hs: &mut Vec<u32>, i: usize, height: u32) -> bool
 }
 
 // Lowers what can be lowered, from the last position to the first, since most steps lead on: whether anything could.
-fn lower_all(nodes: &[Node], policy: &AmbientPolicy, hs: &mut Vec<u32>) -> bool
+fn lower_back(nodes: &[Node], policy: &AmbientPolicy, hs: &mut Vec<u32>) -> bool
     requires small { length nodes.now < 2 ^ 20 }
     requires upper { Upper nodes.now policy.now hs.old.items }
     ensures upper { Upper nodes.now policy.now hs.new.items }
@@ -118,6 +118,37 @@ fn lower_all(nodes: &[Node], policy: &AmbientPolicy, hs: &mut Vec<u32>) -> bool
         changed = changed | now;
     }
     changed
+}
+
+// The same from the first position to the last, as the loops lead back.
+fn lower_on(nodes: &[Node], policy: &AmbientPolicy, hs: &mut Vec<u32>) -> bool
+    requires small { length nodes.now < 2 ^ 20 }
+    requires upper { Upper nodes.now policy.now hs.old.items }
+    ensures upper { Upper nodes.now policy.now hs.new.items }
+    ensures fell { IsTrue result → weight (4 * length nodes.now + 1) hs.new.items < weight (4 * length nodes.now + 1) hs.old.items }
+    ensures settled { IsFalse result → (j : ℕ) → j < length hs.new.items → Settled nodes.now policy.now hs.new.items j }
+{
+    let mut changed = false;
+    for i in 0..hs.len() {
+        let height = next_height(nodes, policy, hs, i);
+        let now = lower(hs, i, height);
+        changed = changed | now;
+    }
+    changed
+}
+
+// There and back: whether any height could be lowered on the way back, where any could on the way there.
+fn lower_all(nodes: &[Node], policy: &AmbientPolicy, hs: &mut Vec<u32>) -> bool
+    requires small { length nodes.now < 2 ^ 20 }
+    requires upper { Upper nodes.now policy.now hs.old.items }
+    ensures upper { Upper nodes.now policy.now hs.new.items }
+    ensures fell { IsTrue result → weight (4 * length nodes.now + 1) hs.new.items < weight (4 * length nodes.now + 1) hs.old.items }
+    ensures settled { IsFalse result → (j : ℕ) → j < length hs.new.items → Settled nodes.now policy.now hs.new.items j }
+{
+    if lower_back(nodes, policy, hs) {
+        return lower_on(nodes, policy, hs);
+    }
+    false
 }
 
 /// The heights of all pairs, four for each position by state: the least number of moves within which the environment

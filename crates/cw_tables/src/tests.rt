@@ -40,7 +40,11 @@ fn a_label_that_is_never_ambient(rt: HostRuntime) -> Result<(), Fail> {
         Node::StepTo(8),
         Node::ExitAt,
     ];
-    let tests = [AmbientTest { label: 0, wanted: true }].to_vec(rt.alloc())?;
+    let tests = [AmbientTest {
+        label: 0,
+        wanted: true,
+    }]
+    .to_vec(rt.alloc())?;
     let policy = AmbientPolicy::new(false, tests, &nodes);
     let hs = heights(rt.alloc(), &nodes, &policy)?;
     assert_eq!(rt; height_at(&hs, 0, policy.numbering.start()), 0);
@@ -50,24 +54,57 @@ fn a_label_that_is_never_ambient(rt: HostRuntime) -> Result<(), Fail> {
     let mut states = Vec::new(rt.alloc());
     for mem in &table.mems {
         states.push(mem.0)?;
-        assert!(rt; mem.1.contains(StateId(0)) && mem.1.contains(StateId(3)) && !mem.1.contains(StateId(4)));
+        assert!(rt;
+            mem.1.contains(StateId(0)) && mem.1.contains(StateId(3)) && !mem.1.contains(StateId(4))
+        );
     }
-    assert_eq!(rt; states.as_slice(), [StateId(0), StateId(1), StateId(3)].as_slice());
-    let live = [(0, 0), (2, 0), (3, 0), (4, 0), (5, 1), (6, 2), (7, 2), (8, 2)];
+    assert_eq!(rt;
+        states.as_slice(),
+        [StateId(0), StateId(1), StateId(3)].as_slice()
+    );
+    let live = [
+        (0, 0),
+        (2, 0),
+        (3, 0),
+        (4, 0),
+        (5, 1),
+        (6, 2),
+        (7, 2),
+        (8, 2),
+    ];
     assert_eq!(rt; table.live.len(), live.len());
     for i in 0..8 {
-        assert_eq!(rt; table.live.get(i).copied(), Some((PosId(live[i].0), MemId(live[i].1))), "row {i}");
+        assert_eq!(rt;
+            table.live.get(i).copied(),
+            Some((PosId(live[i].0), MemId(live[i].1))),
+            "row {i}"
+        );
     }
-    let tried = TryRow { seam: SeamId(1), stage: 0, mem: MemId(0), granted: Some(MemId(1)), refused: None };
+    let tried = TryRow {
+        seam: SeamId(1),
+        stage: 0,
+        mem: MemId(0),
+        granted: Some(MemId(1)),
+        refused: None,
+    };
     assert_eq!(rt; table.tries.as_slice(), [tried].as_slice());
-    let at = AtRow { seam: SeamId(1), mem: MemId(1), after: MemId(2) };
+    let at = AtRow {
+        seam: SeamId(1),
+        mem: MemId(1),
+        after: MemId(2),
+    };
     assert_eq!(rt; table.ats.as_slice(), [at].as_slice());
     Ok(())
 }
 
 #[test]
 fn a_label_without_rules(rt: HostRuntime) -> Result<(), Fail> {
-    let nodes = [Node::TryAt(0), Node::AskedAt(0), Node::LabelTo(0, 0, 3), Node::ExitAt];
+    let nodes = [
+        Node::TryAt(0),
+        Node::AskedAt(0),
+        Node::LabelTo(0, 0, 3),
+        Node::ExitAt,
+    ];
     let policy = AmbientPolicy::new(false, Vec::new(rt.alloc()), &nodes);
     let hs = heights(rt.alloc(), &nodes, &policy)?;
     assert_eq!(rt; height_at(&hs, 0, policy.numbering.start()), 0);
@@ -94,7 +131,17 @@ fn the_second_label_wants_what_the_first_forbids(rt: HostRuntime) -> Result<(), 
         Node::StepTo(12),
         Node::ExitAt,
     ];
-    let tests = [AmbientTest { label: 0, wanted: true }, AmbientTest { label: 1, wanted: false }].to_vec(rt.alloc())?;
+    let tests = [
+        AmbientTest {
+            label: 0,
+            wanted: true,
+        },
+        AmbientTest {
+            label: 1,
+            wanted: false,
+        },
+    ]
+    .to_vec(rt.alloc())?;
     let policy = AmbientPolicy::new(false, tests, &nodes);
     let hs = heights(rt.alloc(), &nodes, &policy)?;
     assert!(rt; 0 < height_at(&hs, 0, policy.numbering.start()));
@@ -118,7 +165,11 @@ fn the_second_label_wants_what_the_first_forbids(rt: HostRuntime) -> Result<(), 
     assert_eq!(rt; strategy.rows.len(), rows.len());
     for i in 0..14 {
         let row = &strategy.rows[i];
-        assert_eq!(rt; (row.pos.0, row.state.0, how_numbers(&row.how)), rows[i], "row {i}");
+        assert_eq!(rt;
+            (row.pos.0, row.state.0, how_numbers(&row.how)),
+            rows[i],
+            "row {i}"
+        );
         assert!(rt; !row.aim.contains(StateId(0)) && !row.aim.contains(StateId(3)));
     }
     Ok(())
@@ -137,7 +188,11 @@ fn a_kernel_that_may_refuse_enter(rt: HostRuntime) -> Result<(), Fail> {
         Node::StepTo(8),
         Node::ExitAt,
     ];
-    let tests = [AmbientTest { label: 0, wanted: true }].to_vec(rt.alloc())?;
+    let tests = [AmbientTest {
+        label: 0,
+        wanted: true,
+    }]
+    .to_vec(rt.alloc())?;
     let policy = AmbientPolicy::new(true, tests, &nodes);
     let hs = heights(rt.alloc(), &nodes, &policy)?;
     assert!(rt; 0 < height_at(&hs, 0, policy.numbering.start()));
@@ -153,7 +208,11 @@ fn a_kernel_that_may_refuse_enter(rt: HostRuntime) -> Result<(), Fail> {
     assert_eq!(rt; strategy.rows.len(), rows.len());
     for i in 0..6 {
         let row = &strategy.rows[i];
-        assert_eq!(rt; (row.pos.0, row.state.0, how_numbers(&row.how)), rows[i], "row {i}");
+        assert_eq!(rt;
+            (row.pos.0, row.state.0, how_numbers(&row.how)),
+            rows[i],
+            "row {i}"
+        );
     }
     Ok(())
 }
