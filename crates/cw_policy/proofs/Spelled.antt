@@ -153,8 +153,8 @@ tests_within labels (item d ds) (here, more) =
     let must : List AmbientTest = replicate (must_at d) (record { label = n; wanted = false }) in
     let never : List AmbientTest = replicate (never_at d) (record { label = n; wanted = true }) in
     All-append (IsTestOf labels) (must ++ never) (tests_of labels ds)
-      (All-append (IsTestOf labels) must never (All-replicate (IsTestOf labels) (must_at d) (record { label = n; wanted = false }) w) (All-replicate (IsTestOf labels) (never_at d) (record { label = n; wanted = true }) w))
-      (tests_within labels ds more)
+    (All-append (IsTestOf labels) must never (All-replicate (IsTestOf labels) (must_at d) (record { label = n; wanted = false }) w) (All-replicate (IsTestOf labels) (never_at d) (record { label = n; wanted = true }) w))
+    (tests_within labels ds more)
 
 tests_counted : (labels : List (List ℕ)) (ds : Items) → length (tests_of labels ds) ≡ count_tests ds
 tests_counted labels no_items = refl
@@ -245,9 +245,9 @@ is_valid text policy (u, (t, parsed, first)) =
     let labels = labels_from [] h.items in
     let few : length (tests_of labels h.items) ≤ 31 = subst (λ n. n ≤ 31) (sym (tests_counted labels h.items)) h.tests in
     subst IsValid (sym h.is) (valid_with labels (tests_of labels h.items)
-      (all_named [] h.items (All-nil IsNamed) h.form)
-      (all_distinct [] h.items (λ i j d lt w. absurd (omega (arith, lt, w))))
-      h.labels few (tests_within labels h.items (all_among [] h.items)))
+    (all_named [] h.items (All-nil IsNamed) h.form)
+    (all_distinct [] h.items (λ i j d lt w. absurd (omega (arith, lt, w))))
+    h.labels few (tests_within labels h.items (all_among [] h.items)))
 
 -- and its rules are those of at most 31 tests
 pub is_ambient : (text : List ℕ) (policy : PlainPolicy) → SpellsFirst text policy → (tests : List AmbientTest) × (length tests ≤ 31) × IsAmbient policy tests

@@ -346,7 +346,11 @@ fn add_tests(tests: &mut Vec<AmbientTest>, labels: &[Vec<u8>], item: &Value) -> 
     )
 }
 
-fn tests_of(alloc: Global, labels: &[Vec<u8>], items: &[Value]) -> Result<Vec<AmbientTest>, NoMemory>
+fn tests_of(
+    alloc: Global,
+    labels: &[Vec<u8>],
+    items: &[Value],
+) -> Result<Vec<AmbientTest>, NoMemory>
     requires few { length labels.now ≤ 65535 }
     ensures tests { IfOk result (λ tests. tests.items ≡ form.tests_of (texts labels.now) (items_view items.now)) }
 {

@@ -4,6 +4,8 @@
 pub mod ambient;
 pub mod first;
 pub mod laws;
+#[cfg(test)]
+mod tests;
 
 pub use ambient::ambient_tests;
 pub use first::read_first_policy;
