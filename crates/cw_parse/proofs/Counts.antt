@@ -1,5 +1,5 @@
 -- The points and the labels of statements are those that their tokens make.
-use Rattle.std.proofs.Common.{◌≡◌, ℕ, zero, suc, ◌+◌, ◌≤◌, Bool, true, false, List, [], ◌∷◌, ◌++◌, length, refl, sym, ap, ◌∙◌, append_assoc, arith}
+use Rattle.std.proofs.Common.{◌≡◌, ℕ, zero, suc, ◌+◌, Bool, true, false, List, [], ◌∷◌, ◌++◌, refl, sym, ap, ◌∙◌, append_assoc, arith}
 use Rattle.std.proofs.lemmas.List.{append-nil}
 use Rattle.cw_parse.specs.declared.first_tokens.Token.{Token}
 use Rattle.cw_parse.specs.declared.first_tokens.Word.{Word}
@@ -8,8 +8,8 @@ use Rattle.cw_syntax.specs.declared.program.Name.{Name}
 use Rattle.cw_syntax.specs.Trees.{Statement, Form, Stated, Statements, nil, cons, Block, Evaluates, Empties, Labels, Chooses, Whiles, nothing, just}
 use Rattle.cw_parse.specs.FirstGrammar.{Is, name_of, AreTrees, IsForm, IsStmt, then_last}
 use Rattle.cw_parse.specs.First.{points, points_of, points_in, labels, labels_of, labels_in}
-use Rattle.cw_parse.specs.FirstReading.{same, begins, makes_point, one_if, point_count, label_at, labels_after, label_names}
-use Rattle.cw_parse.proofs.Complete.{starts, kids_unmet}
+use Rattle.cw_parse.specs.FirstReading.{same, begins, makes_point, one_if, point_count, labels_after, label_names}
+use Rattle.cw_parse.proofs.Complete.{kids_unmet}
 
 -- ---- points
 

@@ -1,5 +1,5 @@
 -- Names that lie in the bytes.
-use Rattle.std.proofs.Common.{◌≡◌, ℕ, suc, ◌-◌, ◌≤◌, List, [], ◌∷◌, length, take, drop, refl, sym, ap, subst, arith}
+use Rattle.std.proofs.Common.{◌≡◌, ℕ, ◌-◌, ◌≤◌, List, [], ◌∷◌, length, take, drop, arith}
 use Rattle.std.proofs.lemmas.List.{take_all}
 use Rattle.cw_syntax.specs.declared.program.Name.{Name}
 use Rattle.cw_parse.specs.FirstReading.{LieIn}

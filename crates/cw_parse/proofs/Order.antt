@@ -1,12 +1,11 @@
 -- Tokens lie one after the other in the source.
-use Rattle.std.proofs.Common.{◌≡◌, ℕ, suc, ◌+◌, ◌<◌, ◌≤◌, Bool, true, false, cond, List, [], ◌∷◌, ◌++◌, length, drop, Option, Some, None, refl, sym, ap, subst, ◌∙◌, arith, length-append, length-drop}
-use Rattle.std.specs.Prelude.{IfSome}
+use Rattle.std.proofs.Common.{◌≡◌, ℕ, suc, ◌+◌, ◌<◌, ◌≤◌, Bool, true, false, cond, List, [], ◌∷◌, ◌++◌, length, drop, Some, refl, ap, subst, arith, length-append, length-drop}
 use Rattle.cw_syntax.specs.declared.program.Name.{Name}
 use Rattle.cw_parse.specs.declared.first_tokens.Token.{Token}
 use Rattle.cw_parse.specs.declared.first_tokens.Word.TheVariants as w
-use Rattle.cw_parse.specs.FirstTokens.{front, AreTokens}
+use Rattle.cw_parse.specs.FirstTokens.{AreTokens}
 use Rattle.cw_parse.specs.FirstGrammar.{name_of, from_of, to_of}
-use Rattle.cw_parse.specs.FirstReading.{found, IsWithin, lexed, same, labels_after, label_names, LieIn}
+use Rattle.cw_parse.specs.FirstReading.{lexed, same, labels_after, label_names, LieIn}
 use Rattle.cw_parse.proofs.Within.{front_within}
 use Rattle.cw_parse.proofs.Tokens.{lexed_told}
 use Rattle.cw_parse.proofs.Steps.{some_at}

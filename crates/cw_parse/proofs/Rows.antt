@@ -6,7 +6,7 @@ use Rattle.cw_syntax.specs.declared.program.Expr.TheBlock.{hidden-the_row-Expr-0
 use Rattle.cw_syntax.specs.declared.program.Stmt.{Stmt}
 use Rattle.cw_syntax.specs.declared.program.What.{Block as BlockWhat, Row_of-Stmt, end_of-Stmt, more_of-Stmt, items-the_row-Stmt, items_hidden-the_row-Stmt-0}
 use Rattle.cw_syntax.specs.declared.program.What.TheBlock.{hidden-the_row-Stmt-0}
-use Rattle.cw_syntax.specs.Trees.{Trees, Node, more, tree_of, row_trees, trees_of, Statements, Stated, Block, nil, cons, form_of, row_statements, statement_of, statements_of}
+use Rattle.cw_syntax.specs.Trees.{Trees, Node, more, tree_of, row_trees, trees_of, Stated, Block, cons, form_of, row_statements, statement_of, statements_of}
 use Rattle.cw_parse.specs.FirstGrammar.{then_last}
 
 trees_are : {m : _} (r : Row_of-Expr m) → row_trees r ≡ trees_of (items-the_row-Expr _ r)

@@ -1,5 +1,5 @@
 -- No `*` stands in a source of the first form.
-use Rattle.std.proofs.Common.{◌≡◌, ℕ, suc, ◌+◌, ◌<◌, ◌≤◌, Bool, true, false, cond, eqb, List, [], ◌∷◌, ◌++◌, length, take, drop, Option, Some, None, refl, sym, ap, subst, ◌∙◌, arith}
+use Rattle.std.proofs.Common.{◌≡◌, ℕ, suc, ◌+◌, Bool, true, false, cond, List, [], ◌∷◌, ◌++◌, take, drop, Option, Some, None, refl, sym, ap, subst, ◌∙◌, arith}
 use Rattle.std.specs.Prelude.{nat_eq}
 use Rattle.std.specs.List.{list_all, list_any, prefix_len}
 use Rattle.std.proofs.lemmas.Bool.{eqb-true, and_parts, false≢true}
@@ -53,8 +53,8 @@ front_free [] = λ w n e. absurd (cc)
 front_free (b ∷ bs) =
     let k = prefix_len is_name_byte (b ∷ bs) in
     choose_front (SizedFree (b ∷ bs)) (is_letter b) (sized k (word_of (take k (b ∷ bs)))) (sized 1 (mark_of b))
-      (λ e. sized_free (b ∷ bs) k (word_of (take k (b ∷ bs))) (λ v h. none_of is_name_byte refl (take k (b ∷ bs)) (prefix_passes is_name_byte (b ∷ bs))))
-      (λ e. sized_free (b ∷ bs) 1 (mark_of b) (λ v h. mark_free b bs v h))
+    (λ e. sized_free (b ∷ bs) k (word_of (take k (b ∷ bs))) (λ v h. none_of is_name_byte refl (take k (b ∷ bs)) (prefix_passes is_name_byte (b ∷ bs))))
+    (λ e. sized_free (b ∷ bs) 1 (mark_of b) (λ v h. mark_free b bs v h))
 
 both_free : (a b : List ℕ) → stars a ≡ false → stars b ≡ false → stars (a ++ b) ≡ false
 both_free a b p q = list_any-append (nat_eq 42) a b ∙ rw (p, q) refl

@@ -1,15 +1,14 @@
 -- The tokens that are read are those of the source, and there is one list of them.
-use Rattle.std.proofs.Common.{◌≡◌, ℕ, zero, suc, ◌+◌, ◌<◌, ◌≤◌, Bool, true, false, ◌&&◌, eqb, ⊎_elim, List, [], ◌∷◌, ◌++◌, length, take, drop, Option, Some, None, refl, sym, ap, subst, ◌∙◌, arith, length-append, length-drop}
+use Rattle.std.proofs.Common.{◌≡◌, ℕ, zero, suc, ◌+◌, ◌<◌, ◌≤◌, Bool, true, false, ◌&&◌, eqb, ⊎_elim, List, [], ◌∷◌, ◌++◌, length, drop, Option, Some, None, refl, sym, ap, subst, ◌∙◌, arith, length-drop}
 use Rattle.std.specs.Prelude.{IfSome, nat_le}
-use Rattle.std.specs.List.{list_all, list_any, prefix_len}
-use Rattle.std.proofs.lemmas.Bool.{false≢true, eqb-true, leb-true, and_parts, or_cases}
+use Rattle.std.specs.List.{list_all}
+use Rattle.std.proofs.lemmas.Bool.{eqb-true, leb-true, and_parts, or_cases}
 use Rattle.cw_parse.specs.declared.first_tokens.Word.{Word}
 use Rattle.cw_parse.specs.declared.first_tokens.Token.{Token}
-use Rattle.cw_parse.specs.declared.first_tokens.Piece.{Piece}
 use Rattle.cw_parse.specs.declared.first_tokens.Piece.TheVariants as piece
-use Rattle.cw_parse.specs.FirstTokens.{is_white, is_letter, is_name_byte, word_of, mark_of, sized, front, AreTokens}
+use Rattle.cw_parse.specs.FirstTokens.{is_white, is_letter, mark_of, front, AreTokens}
 use Rattle.cw_parse.specs.FirstReading.{found, piece_at, IsWithin, Lexed, with_token, lexed}
-use Rattle.cw_parse.proofs.Within.{front_within, choose_front}
+use Rattle.cw_parse.proofs.Within.{front_within}
 use Rattle.cw_parse.proofs.Fuel.{by_piece, lexed_step, lexed_end}
 use Rattle.cw_parse.proofs.Steps.{is_false}
 
@@ -110,7 +109,9 @@ lexed_again (suc k) at (b ∷ bs) (t ∷ ts) lt (g ∷ gap, rest, n, e, white, t
     let same = tail_of b g bs (gap ++ rest) e in
     let first : is_white b ≡ true = ap is_white same.0 ∙ w.0 in
     let place : t.from ≡ at + 1 + length gap = omega (arith, from) in
-    lexed_white k at b bs first ∙ lexed_again k (at + 1) bs (t ∷ ts) (omega arith) (gap, rest, n, same.1, w.1, token, place, to, h)
+    let others : lexed k (at + 1) bs ≡ Some (t ∷ ts) = lexed_again k (at + 1) bs (t ∷ ts) (omega arith) (gap, rest, n, same.1, w.1, token, place, to, h) in
+    let step : lexed (suc k) at (b ∷ bs) ≡ lexed k (at + 1) bs = lexed_white k at b bs first in
+    step ∙ others
 lexed_again (suc k) at (b ∷ bs) (t ∷ ts) lt ([], rest, n, e, white, token, from, to, h) =
     let here : front (b ∷ bs) ≡ Some (t.word, n) = ap front e ∙ token in
     let within = front_within (b ∷ bs) in
@@ -129,4 +130,3 @@ one_list source ts us p q =
     let a = lexed_again (suc (length source)) 0 source ts (omega arith) p in
     let b = lexed_again (suc (length source)) 0 source us (omega arith) q in
     cc
-

@@ -1,22 +1,19 @@
 -- Both ways, for a whole source.
-use Rattle.std.proofs.Common.{◌≡◌, ℕ, suc, ◌+◌, ◌<◌, ◌≤◌, Bool, true, false, not, ◌&&◌, List, [], ◌∷◌, ◌++◌, length, map, Result, Ok, Err, Option, Some, None, refl, sym, ap, subst, ◌∙◌, eqb, append_assoc, arith, length-append}
-use Rattle.std.specs.Prelude.{IfOk, IfSome, IfNone, nat_le}
+use Rattle.std.proofs.Common.{◌≡◌, ℕ, suc, ◌≤◌, Bool, true, false, not, ◌&&◌, List, [], ◌∷◌, ◌++◌, length, map, Result, Ok, Some, None, refl, sym, ap, subst, ◌∙◌, eqb, arith, length-append}
+use Rattle.std.specs.Prelude.{IfSome, nat_le}
 use Rattle.std.specs.List.{list_any}
 use Rattle.std.specs.Str.{bytes_eq}
-use Rattle.std.proofs.lemmas.Bool.{eqb-true, leb-true, le-leb, and_parts, and_from, false≢true}
-use Rattle.std.proofs.lemmas.List.{append-nil, nil_from_length}
+use Rattle.std.proofs.lemmas.Bool.{eqb-true, leb-true, le-leb, and_parts, false≢true}
+use Rattle.std.proofs.lemmas.List.{nil_from_length}
 use Rattle.cw_syntax.specs.declared.program.Name.{Name}
 use Rattle.cw_syntax.specs.declared.program.Program.{Program}
 use Rattle.cw_syntax.specs.Names.{text}
-use Rattle.cw_syntax.specs.Trees.{Statement, Statements, Definition, File, file_of}
+use Rattle.cw_syntax.specs.Trees.{Statement, Definition, File, file_of}
 use Rattle.cw_parse.specs.declared.first_tokens.Token.{Token}
-use Rattle.cw_parse.specs.declared.first_tokens.Word.{Word}
 use Rattle.cw_parse.specs.declared.first_tokens.Word.TheVariants as w
 use Rattle.cw_parse.specs.declared.first_tokens.Stop.{Stop}
-use Rattle.cw_parse.specs.declared.first_tokens.Stop.TheVariants as stop
-use Rattle.cw_parse.specs.FirstTokens.{AreTokens}
-use Rattle.cw_parse.specs.FirstGrammar.{Is, AreTrees, IsStmt, return_of, main_of, IsMain, then_last}
-use Rattle.cw_parse.specs.First.{points_in, labels_in, AllDiffer, IsSmall, only, ReadsFirst}
+use Rattle.cw_parse.specs.FirstGrammar.{Is, return_of, main_of, IsMain, then_last}
+use Rattle.cw_parse.specs.First.{points_in, labels_in, AllDiffer, IsSmall, ReadsFirst}
 use Rattle.cw_parse.specs.FirstReading.{Gives, lexed, begins, expect, many, header, ending, whole, read_stmt, point_count, labels_after, label_names, all_differ, labels_are_small, first_file}
 use Rattle.cw_parse.proofs.Steps.{if_bind, if_cond, some_at, expect_takes, expect_again, begins_again}
 use Rattle.cw_parse.proofs.Sound.{stmt_sound, many_sound}
@@ -57,7 +54,7 @@ ending_takes ts =
     if_bind (expect w.CloseBrace s.1) _ _ _ (expect_takes w.CloseBrace s.1) (λ e u.
     if_cond (eqb (length e.1) 0) _ _ _
     (λ l. let none : e.1 ≡ [] = nil_from_length e.1 (eqb-true (length e.1) 0 l) in
-        (r.0, z.0, s.0, e.0, cc, p.1, q.1, t.1, u.1, refl))
+    (r.0, z.0, s.0, e.0, cc, p.1, q.1, t.1, u.1, refl))
     (λ l. tt)))))
 
 ending_again : (r z s e : Token) → Is w.Return r → Is w.Zero z → Is w.Semi s → Is w.CloseBrace e → ending (r ∷ z ∷ s ∷ e ∷ []) ≡ Some (return_of r z s)

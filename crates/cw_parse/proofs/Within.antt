@@ -1,5 +1,5 @@
 -- A piece takes bytes, and no more than there are.
-use Rattle.std.proofs.Common.{◌≡◌, ℕ, zero, suc, ◌<◌, ◌≤◌, Bool, true, false, cond, List, [], ◌∷◌, length, take, Option, Some, None, refl, arith}
+use Rattle.std.proofs.Common.{◌≡◌, ℕ, ◌<◌, ◌≤◌, Bool, true, false, cond, List, [], ◌∷◌, length, take, Option, Some, None, refl, arith}
 use Rattle.std.proofs.lemmas.Bool.{or_left}
 use Rattle.std.proofs.lemmas.List.Sums.{prefix_len-le-length}
 use Rattle.std.specs.List.{prefix_len}
@@ -31,8 +31,8 @@ front_within (b ∷ bs) =
     let len = length (b ∷ bs) in
     let n = prefix_len is_name_byte (b ∷ bs) in
     choose_front (λ o. IsWithin len (found o)) (is_letter b) (sized n (word_of (take n (b ∷ bs)))) (sized 1 (mark_of b))
-      (λ e. sized_within len n (word_of (take n (b ∷ bs))) (some_prefix is_name_byte b bs (or_left (is_letter b) (is_digit b) e)) (prefix_len-le-length is_name_byte (b ∷ bs)))
-      (λ e. sized_within len 1 (mark_of b) (omega arith) (omega arith))
+    (λ e. sized_within len n (word_of (take n (b ∷ bs))) (some_prefix is_name_byte b bs (or_left (is_letter b) (is_digit b) e)) (prefix_len-le-length is_name_byte (b ∷ bs)))
+    (λ e. sized_within len 1 (mark_of b) (omega arith) (omega arith))
 
 pub piece_within : (bs : List ℕ) → IsWithin (length bs) (piece_at bs)
 unfolding piece_at

@@ -1,10 +1,10 @@
 -- The grammar of the first form, by cases on the tree: each line is a production.
 -- Public source: ISO/IEC 9899:2011, 6.8 (statements; an `else` belongs to the nearest `if` that allows it), 6.9.1 (functions).
-use Rattle.std.specs.Prelude.{◌≡◌, ℕ, zero, suc, ◌+◌, Bool, true, false, Option, Some, List, [], ◌∷◌, ◌++◌}
+use Rattle.std.specs.Prelude.{◌≡◌, ℕ, zero, suc, Bool, true, false, Some, List, [], ◌∷◌, ◌++◌}
 use Rattle.cw_syntax.specs.declared.program.Name.{Name}
 use Rattle.cw_syntax.specs.declared.program.Base.TheVariants.{Int}
 use Rattle.cw_syntax.specs.declared.program.Op.TheVariants.{Name as NameOp, Number, Call}
-use Rattle.cw_syntax.specs.Trees.{Tree, Node, none, Statement, Stated, Form, Block, Evaluates, Empties, Labels, Chooses, Whiles, Returns, Perhaps, nothing, just, Statements, nil, cons, Definition}
+use Rattle.cw_syntax.specs.Trees.{Tree, Node, none, Statement, Stated, Form, Block, Evaluates, Empties, Labels, Chooses, Whiles, Returns, nothing, just, Statements, nil, cons, Definition}
 use Rattle.cw_parse.specs.declared.first_tokens.Word.{Word}
 use Rattle.cw_parse.specs.declared.first_tokens.Word.TheVariants as w
 use Rattle.cw_parse.specs.declared.first_tokens.Token.{Token}
@@ -39,7 +39,6 @@ to_of (t ∷ u ∷ ts) = to_of (u ∷ ts)
 abbrev pub AreTrees : (List Token → Statement → Type 0) → List Token → Statements → Type 0
 AreTrees P ts nil = ts ≡ []
 AreTrees P ts (cons x xs) = (a : List Token) × (b : List Token) × (ts ≡ a ++ b) × P a x × AreTrees P b xs
-
 
 -- One production. P says what the inner statements are; what is closed may be followed by `else`: it doesn't end in an `if` without one.
 abbrev pub IsForm : (Bool → List Token → Statement → Type 0) → Bool → List Token → Form → Type 0

@@ -50,9 +50,10 @@ pub fn read_first(alloc: Global, source: &[u8]) -> Result<Option<Program>, NoMem
     }
 }
 
-/// A source is read as at most one program. The spans of what is read nest and lie in the source, one after the other,
-/// and a label's mark lies behind its name and before its statement. No `*` stands in the source.
-pub fn one_program()
+/// What holds of each source of the first form. It is read as one program alone. The spans of what is read nest and lie in the
+/// source, those of statements one after the other, and a label's mark lies behind its name and before its statement. No `*`
+/// stands in the source.
+pub fn laws_of_first_form()
     ensures one { (source : List ℕ) (file other : File)
         → ReadsFirst source file → ReadsFirst source other → file ≡ other }
     ensures nests { (source : List ℕ) (file : File)

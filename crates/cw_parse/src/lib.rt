@@ -2,8 +2,8 @@
 #![tactic(auto)]
 
 pub mod first;
-pub mod first_limits;
-pub mod first_parser;
+mod first_limits;
+mod first_parser;
 pub mod first_tokens;
 #[cfg(test)]
 mod tests;

@@ -1,6 +1,6 @@
 //! What no clause says: the trees of a few sources, and that a call succeeds.
 
-use crate::first::{one_program, read_first};
+use crate::first::{laws_of_first_form, read_first};
 use cw_core::NoMemory;
 use cw_syntax::program::{Base, CType, Name, Op, Program, Stmt, What};
 use std::alloc::{AllocError, Global};
@@ -41,7 +41,7 @@ fn body(program: &Program) -> &[Stmt] {
 fn a_label_has_these_places(rt: HostRuntime) -> Result<(), Fail> {
     let source = "int main(void){a:;return 0;}";
     let program = read_first(rt.alloc(), source.as_bytes())?.expect(&rt, "of the form");
-    one_program();
+    laws_of_first_form();
     assert!(rt; program.protos.is_empty() && program.globals.is_empty());
     let main = program.functions.first().expect(&rt, "a function");
     let int = CType {
@@ -49,13 +49,19 @@ fn a_label_has_these_places(rt: HostRuntime) -> Result<(), Fail> {
         unsigned: false,
         stars: 0,
     };
-    assert_eq!(rt; (main.name, main.result, main.brace), (Name { from: 4, to: 8 }, int, 15));
+    assert_eq!(rt;
+        (main.name, main.result, main.brace),
+        (Name { from: 4, to: 8 }, int, 15)
+    );
     assert!(rt; main.params.is_empty());
     let (first, last) = match body(&program) {
         [first, last] => (first, last),
         _ => panic!(rt; "two statements"),
     };
-    assert_eq!(rt; (first.from, first.to, last.from, last.to), (15, 18, 18, 27));
+    assert_eq!(rt;
+        (first.from, first.to, last.from, last.to),
+        (15, 18, 18, 27)
+    );
     match &first.what {
         What::Label(name, mark, inner) => {
             assert_eq!(rt; (*name, *mark), (Name { from: 15, to: 16 }, 17));
