@@ -1,0 +1,7 @@
+//! Woven texts: a prologue with the table, and the source with the marks of its seams.
+#![tactic(auto)]
+
+mod marks;
+mod weave;
+
+pub use weave::weave_text;
