@@ -50,13 +50,13 @@ abbrev mutual
   pub HasWithin : (from to : ℕ) → Form → Type 0
   HasWithin from to (Block ss) = LieIn from to ss
   HasWithin from to (Labels name mark s) = (from < mark) × LiesIn mark to s
-  HasWithin from to (Chooses test s other) = HasArms from to s other
+  HasWithin from to (Chooses test s other) = (middle : ℕ) × LiesIn from middle s × ArmLiesIn middle to other
   HasWithin from to (Whiles test s) = LiesIn from to s
   HasWithin from to _ = Unit {0}
 
-  pub HasArms : (from to : ℕ) → Statement → Perhaps → Type 0
-  HasArms from to s nothing = LiesIn from to s
-  HasArms from to s (just other) = (middle : ℕ) × LiesIn from middle s × LiesIn middle to other
+  pub ArmLiesIn : (low high : ℕ) → Perhaps → Type 0
+  ArmLiesIn low high nothing = low ≤ high
+  ArmLiesIn low high (just s) = LiesIn low high s
 
   pub LieIn : (low high : ℕ) → Statements → Type 0
   LieIn low high nil = low ≤ high
@@ -109,7 +109,7 @@ points_from (f ∷ fs) = points_in f.body + 2 + points_from fs
 abbrev pub points : File → ℕ
 points file = points_from file.functions
 
--- The labels of a program, in the order of the text.
+-- How many labels a statement has.
 abbrev mutual
   pub labels_of : Statement → ℕ
   labels_of (Stated form from to) = labels_in_form form
@@ -133,6 +133,6 @@ abbrev pub labels_from : List Definition → ℕ
 labels_from [] = 0
 labels_from (f ∷ fs) = labels_in f.body + labels_from fs
 
--- how many labels it has
-abbrev pub labels : File → ℕ
-labels file = labels_from file.functions
+-- and a program
+abbrev pub label_count : File → ℕ
+label_count file = labels_from file.functions

@@ -9,6 +9,7 @@ ghost use Rattle.cw_points.specs.First.{points_of, points_in, points_from, point
 use cw_syntax::program::{Program, Stmt, What};
 
 #[cycle(points)]
+#[tactic(auto, using(crate::proofs::Blocks::block_points))]
 fn points_of(s: &Stmt) -> u32
     requires { points_of (statement_of s.now) < 2 ^ 31 }
     ensures { result ≡ points_of (statement_of s.now) }

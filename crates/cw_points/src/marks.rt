@@ -23,6 +23,7 @@ fn put(marks: &mut Vec<SeamMark>, place: u32, seam: u32, kind: MarkKind) -> Resu
 
 // Appends the marks of a statement's labels, the first of which has this seam; it answers the seam that is next.
 #[cycle(put_labels)]
+#[tactic(auto, using(crate::proofs::Blocks::block_labels, crate::proofs::Blocks::block_marks))]
 fn put_labels(marks: &mut Vec<SeamMark>, s: &Stmt, seam: u32) -> Result<u32, AllocError>
     requires { seam + labels_of (statement_of s.now) < 2 ^ 31 }
     ensures seam { IfOk result (λ to. to ≡ seam + labels_of (statement_of s.now)) }

@@ -10,7 +10,7 @@ ghost use Rattle.cw_game.specs.declared.ambient.AmbientTest.{AmbientTest};
 ghost use Rattle.cw_game.specs.Ambient.{ambient_game};
 ghost use Rattle.cw_game.specs.Laid.{Laid};
 ghost use Rattle.cw_game.specs.Places.{IsLaidOut};
-ghost use Rattle.cw_points.specs.First.{IsFirstForm, points, labels, labels_of, labels_in};
+ghost use Rattle.cw_points.specs.First.{IsFirstForm, points, label_count, labels_of, labels_in};
 ghost use Rattle.cw_points.specs.Layout.{size, size_all, first, layout, layout_all, layout_body};
 
 use cw_core::NoMemory;
@@ -41,6 +41,7 @@ fn letter_of(source: &[u8], labels: &[Vec<u8>], name: Name) -> u16
 
 // How many positions a statement has.
 #[cycle(size)]
+#[tactic(auto, using(crate::proofs::Blocks::block_size))]
 fn size(s: &Stmt) -> u32
     requires { size (statement_of s.now) < 2 ^ 31 }
     ensures { result ≡ size (statement_of s.now) }
@@ -86,6 +87,7 @@ fn put(nodes: &mut Vec<Node>, node: Node) -> Result<(), AllocError>
 
 // Appends the positions of a statement, whose first label has this seam; it answers the seam that is next.
 #[cycle(lay)]
+#[tactic(auto, using(crate::proofs::Lengths::layout_length, crate::proofs::Blocks::block_labels, crate::proofs::Blocks::block_layout))]
 fn lay(
     nodes: &mut Vec<Node>,
     source: &[u8],
@@ -198,7 +200,7 @@ pub fn positions(
     requires first { IsFirstForm source.now (file_of program.now) }
     requires small { points (file_of program.now) ≤ 1024 }
     requires names { length labels.now < 65536 }
-    ensures count { IfOk result (λ nodes. length nodes.items ≡ points (file_of program.now) + 2 * (labels (file_of program.now) + 1)) }
+    ensures count { IfOk result (λ nodes. length nodes.items ≡ points (file_of program.now) + 2 * (label_count (file_of program.now) + 1)) }
     ensures laid { IfOk result (λ nodes. Laid nodes.items) }
     ensures laid_out { IfOk result (λ nodes. (policy : PlainPolicy) (tests : List AmbientTest) → policy.limits ≡ [] → policy.labels ≡ map (λ l. l.items) labels.now →
         IsLaidOut (plan_of (names_of policy) source.now (file_of program.now)) (ambient_game policy tests nodes.items)) }
