@@ -1,5 +1,5 @@
 -- The positions of a program of the first form are those of its plan.
-use Rattle.std.proofs.Common.{◌≡◌, ℕ, zero, suc, ◌+◌, ◌-◌, ◌*◌, List, [], ◌∷◌, ◌++◌, length, map, Option, Some, None, refl, sym, ap, ap₂, ◌∙◌, subst, length-append, arith, get_or}
+use Rattle.std.proofs.Common.{◌≡◌, ℕ, zero, suc, ◌+◌, ◌-◌, ◌*◌, List, [], ◌∷◌, ◌++◌, length, map, Bool, true, false, Option, Some, None, refl, sym, ap, ap₂, ◌∙◌, subst, length-append, arith, get_or, Result, Ok, Err, IfOk}
 use Rattle.std.specs.Prelude.{slice_get, codes}
 use Rattle.std.proofs.lemmas.Option.{none-some, same_Some}
 use Rattle.cw_rights.specs.declared.capabilities.Primitive.TheVariants.{Limit, Enter}
@@ -44,7 +44,7 @@ stands pol source file h none f x e =
     let body = placed_all c g pol one z ss None None 1 3 z (plain_body (names_of pol) source file h) hs in
     let last = spot_at g z ExitAt (ends source pol.labels ss) in
     let all : At (map spot_of g) pol z (new_frame 0 (record { mark = h.main.brace; seam = 0; body = numbered_all (steps_of_all c ss) 1 })) 0 =
-        (None, (None, (2, (visit_at c g pol one z 0 0 has.0 has.1.0, (m, (spot_at g 2 (StepTo m) has.1.1.0, at_items (map spot_of g) pol z None None (numbered_all (steps_of_all c ss) 1) (End 0 ∷ []) m z body (refl, (refl, (refl, (last, refl))))))))))
+        (None, None, (2, visit_at c g pol one z 0 0 has.0 has.1.0, (m, spot_at g 2 (StepTo m) has.1.1.0, at_items (map spot_of g) pol z None None (numbered_all (steps_of_all c ss) 1) (End 0 ∷ []) m z body (refl, refl, refl, last, refl))))
     in subst (λ y. At (map spot_of g) pol y (new_frame 0 (record { mark = h.main.brace; seam = 0; body = numbered_all (steps_of_all c ss) 1 })) 0) (sym e) all
 
 pub lays : (pol : PlainPolicy) (tests : List AmbientTest) (source : List ℕ) (file : File) (nodes : List Node) → (h : IsFirstForm source file) → pol.limits ≡ [] → nodes ≡ layout_body source pol.labels h.main.body → IsLaidOut (plan_of (names_of pol) source file) (ambient_game pol tests nodes)
@@ -73,3 +73,7 @@ the_main (i ∷ is) main f e g = ap definition_of (sym (same_Some i f g)) ∙ ap
 pub some_main : (items : List Function) (main : Definition) → map definition_of items ≡ main ∷ [] → slice_get items 0 ≡ None → ⊥
 some_main [] main e g = let w : length (map definition_of []) ≡ 1 = ap length e in omega (arith, w)
 some_main (i ∷ is) main e g = none-some i (sym g)
+
+pub if_ok : {A E : Type 0} {P Q : A → Type 0} (r : Result A E) → IfOk r P → ((x : A) → P x → Q x) → IfOk r Q
+if_ok (Ok x) h f = f x h
+if_ok (Err e) h f = h

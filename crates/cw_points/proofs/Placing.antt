@@ -1,8 +1,8 @@
 -- The positions of a program stand as its frames need them.
-use Rattle.std.proofs.Common.{◌≡◌, ℕ, zero, suc, ◌+◌, ◌<◌, List, [], ◌∷◌, ◌++◌, length, map, Option, Some, None, refl, sym, ap, ap₂, ◌∙◌, subst, append_assoc, append-nil, length-append, arith, zero-add, add-zero, suc-add}
+use Rattle.std.proofs.Common.{◌≡◌, ℕ, zero, suc, ◌+◌, ◌<◌, List, [], ◌∷◌, ◌++◌, length, map, Bool, true, false, Option, Some, None, refl, sym, ap, ap₂, ◌∙◌, subst, append_assoc, append-nil, length-append, arith, zero-add, add-zero, suc-add}
 use Rattle.std.specs.Prelude.{slice_get}
 use Rattle.std.proofs.Math.Seq.{get_or-append_seam}
-use Rattle.std.proofs.lemmas.Option.{slice_get-get_or}
+use Rattle.std.proofs.lemmas.Option.{slice_get-get_or, none-some}
 use Rattle.cw_rights.specs.declared.capabilities.Primitive.TheVariants.{Enter}
 use Rattle.cw_rights.specs.Policies.{PlainPolicy, primitives}
 use Rattle.cw_syntax.specs.Names.{text, number_or_other}
@@ -52,7 +52,7 @@ first_two (suc a) b n k = first_own (suc a + b) n k (omega arith)
 
 -- the spot of a node
 pub spot_at : (g : List Node) (p : ℕ) (o : Node) → slice_get g p ≡ Some o → slice_get (map spot_of g) p ≡ Some (spot_of o)
-spot_at [] p o ()
+spot_at [] p o e = absurd (none-some o e)
 spot_at (i ∷ g) zero o e = ap (λ m. from m) e
   where
     from : Option Node → Option Spot
@@ -117,7 +117,7 @@ module _ (c : Scene) (g : List Node) (pol : PlainPolicy) (one : primitives pol f
 
   -- the visit of a seam, and what stands behind it
   pub visit_at : (j n : ℕ) → slice_get g n ≡ Some (TryAt j) → slice_get g (n + 1) ≡ Some (AskedAt j) → Visits (map spot_of g) j 0 (primitives pol false) n (n + 2)
-  visit_at j n t a = subst (λ l. Visits (map spot_of g) j 0 l n (n + 2)) (sym one) (spot_at g n (TryAt j) t, (spot_at g (n + 1) (AskedAt j) a, (tt, refl)))
+  visit_at j n t a = subst (λ l. Visits (map spot_of g) j 0 l n (n + 2)) (sym one) (spot_at g n (TryAt j) t, spot_at g (n + 1) (AskedAt j) a, tt, refl)
 
   mutual
     pub placed : (s : Statement) (b d : Option ℕ) (j n k : ℕ) → IsPlain c s → HasAt g n (layout c.source names s j n x k) → Placed (map spot_of g) pol x b d (numbered (steps_of c s) j) (first (size s) n k) k

@@ -13,10 +13,10 @@ use Rattle.cw_points.proofs.Placing.{IsPlain, IsPlainOf, IsPlainArm, ArePlain}
 
 -- no function has this name
 unnumbered : (name : List ℕ) → (name ≡ codes "main" → ⊥) → number_in (codes "main" ∷ []) name ≡ None
-unnumbered name no = by (bytes_eq name (codes "main")) refl
+unnumbered name other = by (bytes_eq name (codes "main")) refl
   where
     by : (t : Bool) → bytes_eq name (codes "main") ≡ t → cond (nat_lt (cond (not t) (1 + 0) 0) 1) (Some (cond (not t) (1 + 0) 0)) None ≡ None
-    by true e = absurd (no ((bytes_eq-Decides name (codes "main")).0 e))
+    by true e = absurd (other ((bytes_eq-Decides name (codes "main")).0 e))
     by false e = refl
 
 external : (c : Scene) (e : Tree) → c.functions ≡ codes "main" ∷ [] → IsExternalCall c.source e → action_of c e ≡ Computes
