@@ -2,3 +2,5 @@ pub mod Boards
 pub mod Runs
 pub mod Plays
 pub mod Laws
+pub mod Kinds
+pub mod Held

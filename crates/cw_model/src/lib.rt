@@ -1,4 +1,8 @@
 //! The model of a program under a policy: boards and their moves, woven runs, strategies.
 #![tactic(auto)]
 
+mod actions;
+mod items;
+mod kinds;
 pub mod laws;
+mod names;

@@ -1,5 +1,6 @@
 //! The C subset of CapWeave.
 #![tactic(auto)]
 
+pub mod checked;
 pub mod laws;
 pub mod program;
