@@ -1,3 +1,4 @@
 pub mod Moving
 pub mod Places
 pub mod Digits
+pub mod Acting
