@@ -2,3 +2,4 @@ pub mod Moving
 pub mod Places
 pub mod Digits
 pub mod Acting
+pub mod Shapes

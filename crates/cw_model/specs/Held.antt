@@ -4,8 +4,9 @@ use Rattle.std.specs.declared.collections.VecDeque.{VecDeque}
 use Rattle.std.specs.declared.alloc.Global.{Global}
 use Rattle.cw_rights.specs.Policies.{PlainPolicy}
 use Rattle.cw_syntax.specs.declared.checked.Checked.{Checked}
-use Rattle.cw_syntax.specs.Trees.{statement_of, file_of}
-use Rattle.cw_syntax.specs.Plans.{Stm, Plain, Group, end, Scene, scene_of, steps_of, numbered}
+use Rattle.cw_syntax.specs.declared.program.Stmt.{Stmt}
+use Rattle.cw_syntax.specs.Trees.{statement_of, statements_of, file_of}
+use Rattle.cw_syntax.specs.Plans.{Stm, Stms, Plain, Group, end, Scene, scene_of, steps_of, steps_of_all, numbered}
 use Rattle.cw_syntax.specs.Frames.{Item, Entry, Todo, Test, After, Mark, End, Frame}
 use Rattle.cw_model.specs.declared.items.Item.{Item as Held}
 use Rattle.cw_model.specs.declared.items.Item.TheVariants.{Entry as HeldEntry, Todo as HeldTodo, Nothing as HeldNothing, Init as HeldInit, Test as HeldTest, After as HeldAfter, Mark as HeldMark, End as HeldEnd}
@@ -15,13 +16,20 @@ use Rattle.cw_model.specs.Boards.{names_of}
 abbrev pub scene_in : Checked → PlainPolicy → Scene
 scene_in checked policy = scene_of (names_of policy) checked.source.now (file_of checked.program)
 
+-- a statement by its steps, its seams not yet numbered
+abbrev pub stm_in : Scene → Stmt → Stm
+stm_in s statement = steps_of s (statement_of statement)
+
+abbrev pub stms_in : Scene → List Stmt → Stms
+stms_in s statements = steps_of_all s (statements_of statements)
+
 -- a statement that is still to do is held with the number of its first seam
 abbrev pub item_of : Scene → Held → Item
 item_of s (HeldEntry f j) = Entry f j
-item_of s (HeldTodo statement j) = Todo (numbered (steps_of s (statement_of statement.now)) j)
+item_of s (HeldTodo statement j) = Todo (numbered (stm_in s statement.now) j)
 item_of s HeldNothing = Todo (Group end)
 item_of s (HeldInit at) = Todo (Plain at)
-item_of s (HeldTest at decided stepped body j) = Test at decided stepped (numbered (steps_of s (statement_of body.now)) j)
+item_of s (HeldTest at decided stepped body j) = Test at decided stepped (numbered (stm_in s body.now) j)
 item_of s (HeldAfter at) = After at
 item_of s HeldMark = Mark
 item_of s (HeldEnd f) = End f

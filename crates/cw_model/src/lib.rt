@@ -6,3 +6,4 @@ mod items;
 mod kinds;
 pub mod laws;
 mod names;
+mod seams;

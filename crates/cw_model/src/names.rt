@@ -1,12 +1,13 @@
 //! Names by their bytes, and the numbers that stand for them.
 
-ghost use Rattle.std.specs.Prelude.{◌≡◌, ◌<◌, length, map, is_some};
+ghost use Rattle.std.specs.Prelude.{◌≡◌, map, is_some};
 ghost use Rattle.std.specs.Fmt.{decimal};
 ghost use Rattle.std.specs.Str.{bytes_eq};
 ghost use Rattle.cw_syntax.specs.Names.{slice, number_in, number_or_other};
 ghost use Rattle.cw_syntax.specs.Plans.{function_names};
 ghost use Rattle.cw_syntax.specs.Trees.{file_of};
 ghost use Rattle.cw_rights.specs.Policies.{policy_of};
+ghost use Rattle.cw_rights.specs.Valid.{IsValid};
 ghost use Rattle.cw_model.specs.Boards.{names_of};
 
 use cw_core::read_dec;
@@ -77,7 +78,7 @@ pub(crate) fn is_split(policy: &Policy, name: &[u8]) -> bool
 
 /// The number of the label with this name, or the number of the policy's labels for any other.
 pub(crate) fn label_number(policy: &Policy, name: &[u8]) -> u16
-    requires { length policy.now.labels.items < 65536 }
+    requires { IsValid (policy_of policy.now) }
     ensures { result ≡ number_or_other (names_of (policy_of policy.now)).labels name.now }
 {
     match place_of(&policy.labels, name) {
