@@ -3,3 +3,6 @@ pub mod Places
 pub mod Digits
 pub mod Acting
 pub mod Shapes
+pub mod Putting
+pub mod Settled
+pub mod Dropped

@@ -2,6 +2,7 @@
 #![tactic(auto)]
 
 mod actions;
+mod frames;
 mod items;
 mod kinds;
 pub mod laws;
