@@ -6,3 +6,4 @@ pub mod Shapes
 pub mod Putting
 pub mod Settled
 pub mod Dropped
+pub mod Routines

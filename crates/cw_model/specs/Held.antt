@@ -5,8 +5,9 @@ use Rattle.std.specs.declared.alloc.Global.{Global}
 use Rattle.cw_rights.specs.Policies.{PlainPolicy}
 use Rattle.cw_syntax.specs.declared.checked.Checked.{Checked}
 use Rattle.cw_syntax.specs.declared.program.Stmt.{Stmt}
+use Rattle.cw_syntax.specs.declared.program.Function.{Function}
 use Rattle.cw_syntax.specs.Trees.{statement_of, statements_of, file_of}
-use Rattle.cw_syntax.specs.Plans.{Stm, Stms, Plain, Break, Continue, Return, Open, Close, Call, Group, Label, If, While, Do, For, end, then, Scene, scene_of, steps_of, steps_of_all, numbered}
+use Rattle.cw_syntax.specs.Plans.{Stm, Stms, Plain, Break, Continue, Return, Open, Close, Call, Group, Label, If, While, Do, For, end, then, Scene, scene_of, steps_of, steps_of_all, numbered, seams_all, Plan, plan_of}
 use Rattle.cw_syntax.specs.Frames.{Item, Entry, Todo, Test, After, Mark, End, Frame, settle}
 use Rattle.cw_model.specs.declared.items.Item.{Item as Held}
 use Rattle.cw_model.specs.declared.items.Item.TheVariants.{Entry as HeldEntry, Todo as HeldTodo, Nothing as HeldNothing, Init as HeldInit, Test as HeldTest, After as HeldAfter, Mark as HeldMark, End as HeldEnd}
@@ -66,3 +67,11 @@ frame_weight (i ∷ is) = item_weight i + frame_weight is
 abbrev pub Rewrites : Scene → Frame → Rewritten → Type 0
 Rewrites s frame (Last next) = frame_in s next ≡ settle frame
 Rewrites s frame (More next) = (settle (frame_in s next) ≡ settle frame) × (frame_weight (frame_in s next) < frame_weight frame)
+
+abbrev pub plan_in : Checked → PlainPolicy → Plan
+plan_in checked policy = plan_of (names_of policy) checked.source.now (file_of checked.program)
+
+-- how many seams these functions have together
+abbrev pub seams_before : Scene → List Function → ℕ
+seams_before s [] = 0
+seams_before s (f ∷ fs) = 1 + seams_all (stms_in s f.body.items) + seams_before s fs

@@ -3,4 +3,5 @@ pub mod Runs
 pub mod Plays
 pub mod Laws
 pub mod Kinds
+pub mod Turns
 pub mod Held

@@ -8,3 +8,5 @@ mod kinds;
 pub mod laws;
 mod names;
 mod seams;
+mod steps;
+mod turns;
