@@ -7,3 +7,4 @@ pub mod Putting
 pub mod Settled
 pub mod Dropped
 pub mod Routines
+pub mod Passing

@@ -5,3 +5,4 @@ pub mod Laws
 pub mod Kinds
 pub mod Turns
 pub mod Held
+pub mod Choices

@@ -1,7 +1,7 @@
 -- How a step passes a front item, by its kind.
-use Rattle.std.specs.Prelude.{ℕ, true, false, List, [], ◌∷◌, Option, Some, None}
-use Rattle.cw_syntax.specs.Plans.{Stm, Plain, Break, Continue, Return, Open, Close, Call, Group, Label, If, While, Do, For}
-use Rattle.cw_syntax.specs.Frames.{Item, Entry, Todo, Test, After, Mark, End, Frame, after_if, Way}
+use Rattle.std.specs.Prelude.{ℕ, true, false, List, [], ◌∷◌, Option, Some, None, option_map}
+use Rattle.cw_syntax.specs.Plans.{Stm, Plain, Break, Continue, Return, Open, Close, Call, Group, Label, If, While, Do, For, Plan}
+use Rattle.cw_syntax.specs.Frames.{Item, Entry, Todo, Test, After, Mark, End, Frame, after_if, broken, continued, ended, settle, popped, frame_of, Way}
 use Rattle.cw_syntax.specs.Frames.{On as OnWay, Left as LeftWay, Right as RightWay, Opened as OpenedWay, Failed as FailedWay}
 use Rattle.cw_model.specs.declared.kinds.Kind.{Kind}
 use Rattle.cw_model.specs.declared.kinds.Kind.TheVariants.{Entry as EntryKind, Plain as PlainKind, Break as BreakKind, Continue as ContinueKind, Return as ReturnKind, Open as OpenKind, Close as CloseKind, Call as CallKind, Group as GroupKind, Label as LabelKind, If as IfKind, Loop as LoopKind, Test as TestKind, Step as StepKind, Mark as MarkKind, End as EndKind}
@@ -60,3 +60,18 @@ entered (Todo (If at s t)) RightWay rest = Some (Todo t ∷ rest)
 entered (Test at true stepped s) LeftWay rest = Some (Todo s ∷ after_if stepped at (Test at true stepped s ∷ rest))
 entered (Test at false stepped s) OnWay rest = Some (Todo s ∷ after_if stepped at (Test at false stepped s ∷ rest))
 entered _ _ _ = None
+
+-- what is to do then in the frame of the item
+abbrev pub taken : Turn → Item → Way → Frame → Option Frame
+taken Passes i way rest = Some rest
+taken Breaks i way rest = broken rest
+taken Continues i way rest = continued rest
+taken Ends i way rest = Some (ended rest)
+taken Enters i way rest = entered i way rest
+taken _ i way rest = None
+
+-- a step of a stack that has this item at its front
+abbrev pub stepped_by : Plan → Turn → Item → Way → Frame → List Frame → Option (List Frame)
+stepped_by plan (Calls f) i way is frames = option_map (λ frame. frame ∷ ((i ∷ is) ∷ frames)) (frame_of plan f)
+stepped_by plan Returns i way is frames = popped frames
+stepped_by plan turn i way is frames = option_map (λ next. settle next ∷ frames) (taken turn i way is)

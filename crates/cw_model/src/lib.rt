@@ -2,6 +2,7 @@
 #![tactic(auto)]
 
 mod actions;
+mod choices;
 mod frames;
 mod items;
 mod kinds;

@@ -1,13 +1,15 @@
 //! Steps of a stack of frames, the top first.
 
-ghost use Rattle.std.specs.Prelude.{◌≡◌, ◌<◌, ◌+◌, [], ◌∷◌, length, take, IfOk, IfSome, option_map};
-ghost use Rattle.cw_syntax.specs.Plans.{numbered, numbered_all, seams};
-ghost use Rattle.cw_syntax.specs.Frames.{Entry, Todo, End, items_of, after, frame_of, pass, popped, start_stack};
+ghost use Rattle.std.specs.Prelude.{◌≡◌, codes, ◌<◌, ◌+◌, [], ◌∷◌, length, take, IfOk, IfSome, option_map};
+ghost use Rattle.cw_syntax.specs.Plans.{Scene, function_names, numbered, numbered_all, seams};
+ghost use Rattle.cw_syntax.specs.Names.{number_or_other};
+ghost use Rattle.cw_syntax.specs.Trees.{file_of};
+ghost use Rattle.cw_syntax.specs.Frames.{Entry, Todo, Test, End, after_if, items_of, settle, frame_of, pass, popped, start_stack};
 ghost use Rattle.cw_rights.specs.Policies.{policy_of};
 ghost use Rattle.cw_rights.specs.Valid.{IsValid};
 ghost use Rattle.cw_model.specs.Held.{scene_in, plan_in, stm_in, stms_in, item_of, frame_in, stack_in, seams_before};
 ghost use Rattle.cw_model.specs.Kinds.{item_kind};
-ghost use Rattle.cw_model.specs.Turns.{way_in, entered, turn_of};
+ghost use Rattle.cw_model.specs.Turns.{way_in, entered, taken, turn_of, stepped_by};
 
 use crate::frames::{broken, continued, ended, put, put_all, settle};
 use crate::items::Item;
@@ -160,5 +162,256 @@ fn enter_statement<'s>(
         What::For(_, _) => Ok(None),
         What::Decl(_) | What::Empty | What::While(_, _) | What::Do(_, _) => Ok(None),
         What::Break | What::Continue | What::Return(_) => Ok(None),
+    }
+}
+
+/// The body of a loop, its step and its test, before a frame.
+fn enter_body<'s>(
+    rest: VecDeque<Item<'s>>,
+    at: u32,
+    decided: bool,
+    stepped: bool,
+    body: &'s Stmt,
+    seam: usize,
+) -> Result<VecDeque<Item<'s>>, AllocError>
+    ensures { IfOk result (λ next. (s : Scene) → frame_in s next ≡ Todo (numbered (stm_in s body.now) seam) ∷ after_if stepped at (Test at decided stepped (numbered (stm_in s body.now) seam) ∷ frame_in s rest.entry)) }
+{
+    let test = Item::Test {
+        at,
+        decided,
+        stepped,
+        body,
+        seam,
+    };
+    let first = Item::Todo {
+        statement: body,
+        seam,
+    };
+    let tested = put(rest, test)?;
+    if stepped {
+        let again = put(tested, Item::After(at))?;
+        put(again, first)
+    } else {
+        put(tested, first)
+    }
+}
+
+/// The statement that stands in an item comes next.
+fn enter<'s>(
+    checked: &Checked<'s>,
+    policy: &Policy,
+    item: Item<'s>,
+    way: Way,
+    rest: VecDeque<Item<'s>>,
+) -> Result<Option<VecDeque<Item<'s>>>, AllocError>
+    ensures { IfOk result (λ o. option_map (frame_in (scene_in checked.now (policy_of policy.now))) o ≡ entered (item_of (scene_in checked.now (policy_of policy.now)) item.entry) (way_in way) (frame_in (scene_in checked.now (policy_of policy.now)) rest.entry)) }
+{
+    match item {
+        Item::Todo { statement, seam } => {
+            enter_statement(checked, policy, statement, seam, way, rest)
+        }
+        Item::Test {
+            at,
+            decided,
+            stepped,
+            body,
+            seam,
+        } => enter_test(at, decided, stepped, body, seam, way, rest),
+        Item::Entry { .. } | Item::Nothing | Item::Init(_) => Ok(None),
+        Item::After(_) | Item::Mark | Item::End(_) => Ok(None),
+    }
+}
+
+fn enter_test<'s>(
+    at: u32,
+    decided: bool,
+    stepped: bool,
+    body: &'s Stmt,
+    seam: usize,
+    way: Way,
+    rest: VecDeque<Item<'s>>,
+) -> Result<Option<VecDeque<Item<'s>>>, AllocError>
+    ensures { IfOk result (λ o. (s : Scene) → option_map (frame_in s) o ≡ entered (Test at decided stepped (numbered (stm_in s body.now) seam)) (way_in way) (frame_in s rest.entry)) }
+{
+    let goes_in = match way {
+        Way::On => !decided,
+        Way::Left => decided,
+        Way::Right | Way::Opened | Way::Failed => false,
+    };
+    if goes_in {
+        let next = enter_body(rest, at, decided, stepped, body, seam)?;
+        Ok(Some(next))
+    } else {
+        Ok(None)
+    }
+}
+
+/// What is to do after an item that is passed, not yet rewritten; a call and an end aren't passed within their frame.
+fn after<'s>(
+    alloc: Global,
+    checked: &Checked<'s>,
+    policy: &Policy,
+    item: Item<'s>,
+    turn: Turn,
+    way: Way,
+    rest: VecDeque<Item<'s>>,
+) -> Result<Option<VecDeque<Item<'s>>>, AllocError>
+    ensures { IfOk result (λ o. option_map (frame_in (scene_in checked.now (policy_of policy.now))) o ≡ taken turn (item_of (scene_in checked.now (policy_of policy.now)) item.entry) (way_in way) (frame_in (scene_in checked.now (policy_of policy.now)) rest.entry)) }
+{
+    match turn {
+        Turn::Passes => Ok(Some(rest)),
+        Turn::Breaks => Ok(broken(rest)),
+        Turn::Continues => {
+            let next = continued(rest)?;
+            Ok(next)
+        }
+        Turn::Ends => {
+            let next = ended(alloc, rest)?;
+            Ok(Some(next))
+        }
+        Turn::Enters => enter(checked, policy, item, way, rest),
+        Turn::Calls(_) => Ok(None),
+        Turn::Returns | Turn::Stops => Ok(None),
+    }
+}
+
+/// A step within the top frame.
+fn within<'s>(
+    alloc: Global,
+    checked: &Checked<'s>,
+    policy: &Policy,
+    item: Item<'s>,
+    turn: Turn,
+    way: Way,
+    rest: VecDeque<Item<'s>>,
+    mut frames: VecDeque<VecDeque<Item<'s>>>,
+) -> Result<Option<VecDeque<VecDeque<Item<'s>>>>, AllocError>
+    ensures { IfOk result (λ o. option_map (stack_in (scene_in checked.now (policy_of policy.now))) o ≡ option_map (λ next. settle next ∷ stack_in (scene_in checked.now (policy_of policy.now)) frames.entry) (taken turn (item_of (scene_in checked.now (policy_of policy.now)) item.entry) (way_in way) (frame_in (scene_in checked.now (policy_of policy.now)) rest.entry))) }
+{
+    match after(alloc, checked, policy, item, turn, way, rest)? {
+        None => Ok(None),
+        Some(next) => {
+            let top = settle(checked, policy, next)?;
+            frames.push_front(top)?;
+            Ok(Some(frames))
+        }
+    }
+}
+
+/// A call of the defined function with this number: its frame comes on top.
+fn called<'s>(
+    alloc: Global,
+    checked: &'s Checked<'s>,
+    policy: &Policy,
+    number: usize,
+    mut frames: VecDeque<VecDeque<Item<'s>>>,
+) -> Result<Option<VecDeque<VecDeque<Item<'s>>>>, AllocError>
+    ensures { IfOk result (λ o. option_map (stack_in (scene_in checked.now (policy_of policy.now))) o ≡ option_map (λ frame. frame ∷ stack_in (scene_in checked.now (policy_of policy.now)) frames.entry) (frame_of (plan_in checked.now (policy_of policy.now)) number)) }
+{
+    match new_frame(alloc, checked, policy, number)? {
+        None => Ok(None),
+        Some(frame) => {
+            frames.push_front(frame)?;
+            Ok(Some(frames))
+        }
+    }
+}
+
+/// The end of a frame that was taken off: the call at the front of the frame below is passed.
+fn returned<'s>(
+    checked: &Checked<'s>,
+    policy: &Policy,
+    mut frames: VecDeque<VecDeque<Item<'s>>>,
+) -> Result<Option<VecDeque<VecDeque<Item<'s>>>>, AllocError>
+    ensures { IfOk result (λ o. option_map (stack_in (scene_in checked.now (policy_of policy.now))) o ≡ popped (stack_in (scene_in checked.now (policy_of policy.now)) frames.entry)) }
+{
+    match frames.pop_front() {
+        None => Ok(Some(frames)),
+        Some(mut frame) => match frame.pop_front() {
+            None => Ok(None),
+            Some(_) => {
+                let top = settle(checked, policy, frame)?;
+                frames.push_front(top)?;
+                Ok(Some(frames))
+            }
+        },
+    }
+}
+
+/// A step of a stack whose front item was taken off.
+fn pass_front<'s>(
+    alloc: Global,
+    checked: &'s Checked<'s>,
+    policy: &Policy,
+    item: Item<'s>,
+    rest: VecDeque<Item<'s>>,
+    mut frames: VecDeque<VecDeque<Item<'s>>>,
+    way: Way,
+) -> Result<Option<VecDeque<VecDeque<Item<'s>>>>, AllocError>
+    requires { IsValid (policy_of policy.now) }
+    ensures { IfOk result (λ o. option_map (stack_in (scene_in checked.now (policy_of policy.now))) o ≡ stepped_by (plan_in checked.now (policy_of policy.now)) (turn_of (item_kind (item_of (scene_in checked.now (policy_of policy.now)) item.entry)) way) (item_of (scene_in checked.now (policy_of policy.now)) item.entry) (way_in way) (frame_in (scene_in checked.now (policy_of policy.now)) rest.entry) (stack_in (scene_in checked.now (policy_of policy.now)) frames.entry)) }
+{
+    let turn = turn_of(item_kind(checked, policy, &item), way);
+    match turn {
+        Turn::Calls(number) => {
+            let caller = put(rest, item)?;
+            frames.push_front(caller)?;
+            called(alloc, checked, policy, number, frames)
+        }
+        Turn::Returns => returned(checked, policy, frames),
+        Turn::Passes | Turn::Breaks | Turn::Continues | Turn::Ends | Turn::Enters | Turn::Stops => {
+            within(alloc, checked, policy, item, turn, way, rest, frames)
+        }
+    }
+}
+
+/// One step of a stack of frames, where its front can be passed this way.
+pub(crate) fn pass<'s>(
+    alloc: Global,
+    checked: &'s Checked<'s>,
+    policy: &Policy,
+    mut frames: VecDeque<VecDeque<Item<'s>>>,
+    way: Way,
+) -> Result<Option<VecDeque<VecDeque<Item<'s>>>>, AllocError>
+    requires { IsValid (policy_of policy.now) }
+    ensures { IfOk result (λ o. option_map (stack_in (scene_in checked.now (policy_of policy.now))) o ≡ pass (plan_in checked.now (policy_of policy.now)) (stack_in (scene_in checked.now (policy_of policy.now)) frames.entry) (way_in way)) }
+{
+    match frames.pop_front() {
+        None => Ok(None),
+        Some(mut rest) => match rest.pop_front() {
+            None => Ok(None),
+            Some(item) => pass_front(alloc, checked, policy, item, rest, frames, way),
+        },
+    }
+}
+
+/// The stack with which a program starts: one frame, that of `main`, where it has that function.
+pub(crate) fn start_stack<'s>(
+    alloc: Global,
+    checked: &'s Checked<'s>,
+    policy: &Policy,
+) -> Result<VecDeque<VecDeque<Item<'s>>>, AllocError>
+    ensures { IfOk result (λ stack. stack_in (scene_in checked.now (policy_of policy.now)) stack ≡ start_stack (plan_in checked.now (policy_of policy.now))) }
+{
+    let mut stack = VecDeque::new(alloc);
+    if let Some(frame) = new_frame(alloc, checked, policy, main_number(checked))? {
+        stack.push_front(frame)?;
+    }
+    Ok(stack)
+}
+
+fn main_text() -> &'static [u8]
+    ensures { result.now ≡ codes "main" }
+{
+    b"main".as_slice()
+}
+
+/// The number of `main`, or the number of functions where there is none.
+fn main_number(checked: &Checked) -> usize
+    ensures { result ≡ number_or_other (function_names checked.now.source.now (file_of checked.now.program)) (codes "main") }
+{
+    match function_named(checked, main_text()) {
+        Some(number) => number,
+        None => checked.program.functions.len(),
     }
 }
