@@ -8,3 +8,5 @@ pub mod Settled
 pub mod Dropped
 pub mod Routines
 pub mod Passing
+pub mod Gets
+pub mod Chosen

@@ -6,3 +6,4 @@ pub mod Kinds
 pub mod Turns
 pub mod Held
 pub mod Choices
+pub mod HeldBoards

@@ -2,6 +2,8 @@
 #![tactic(auto)]
 
 mod actions;
+pub mod boards;
+mod changes;
 mod choices;
 mod frames;
 mod items;
