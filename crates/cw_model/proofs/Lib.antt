@@ -7,6 +7,6 @@ pub mod Putting
 pub mod Settled
 pub mod Dropped
 pub mod Routines
-pub mod Passing
 pub mod Gets
 pub mod Chosen
+pub mod Having

@@ -1,5 +1,5 @@
 -- Boards as the program holds them.
-use Rattle.std.specs.Prelude.{◌≡◌, ◌↔◌, IsTrue, ℕ, List, [], ◌∷◌, ◌++◌, Bool, true, false, Option, Some, None, drop, slice_get}
+use Rattle.std.specs.Prelude.{◌≡◌, ◌↔◌, IsTrue, ℕ, List, [], ◌∷◌, ◌++◌, Bool, true, false, Option, Some, None, drop, slice_get, is_some}
 use Rattle.cw_rights.specs.declared.capabilities.Caps.{Caps}
 use Rattle.cw_rights.specs.declared.words.Letter.{Letter}
 use Rattle.cw_rights.specs.Capabilities.{closed}
@@ -7,9 +7,11 @@ use Rattle.cw_rights.specs.Words.{Word}
 use Rattle.cw_rights.specs.Policies.{PlainPolicy}
 use Rattle.cw_certs.specs.declared.moves.Move.{Move}
 use Rattle.cw_syntax.specs.declared.checked.Checked.{Checked}
-use Rattle.cw_syntax.specs.Plans.{Scene}
+use Rattle.cw_syntax.specs.Plans.{Scene, Plan}
 use Rattle.cw_syntax.specs.Trees.{file_of}
-use Rattle.cw_syntax.specs.Frames.{Frame, Way}
+use Rattle.cw_syntax.specs.Frames.{Frame, Way, broken, continued, frame_of, popped, pass}
+use Rattle.cw_model.specs.declared.turns.Turn.{Turn}
+use Rattle.cw_model.specs.declared.turns.Turn.TheVariants.{Breaks, Continues, Calls, Returns, Stops}
 use Rattle.cw_model.specs.declared.kinds.Kind.{Kind}
 use Rattle.cw_model.specs.declared.kinds.Kind.TheVariants.{Open, Close, Call, Label, End}
 use Rattle.cw_model.specs.declared.boards.State.{State}
@@ -72,3 +74,17 @@ reached_letter _ _ caps = None
 abbrev pub is_free : Phase → Bool
 is_free Free = true
 is_free _ = false
+
+-- whether a front that turns so is passed, by its frame and those below
+abbrev pub may_turn : Plan → Turn → Frame → List Frame → Bool
+may_turn plan Breaks frame below = is_some (broken frame)
+may_turn plan Continues frame below = is_some (continued frame)
+may_turn plan (Calls f) frame below = is_some (frame_of plan f)
+may_turn plan Returns frame below = is_some (popped below)
+may_turn plan Stops frame below = false
+may_turn plan _ frame below = true
+
+-- whether the program steps by this move
+abbrev pub may_step : Problem → List Frame → Option Way → Bool
+may_step p stack None = false
+may_step p stack (Some way) = is_some (pass p.plan stack way)

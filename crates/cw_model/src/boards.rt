@@ -44,8 +44,8 @@ pub(crate) struct State<'s> {
 /// A board of a program under a policy, in the source's lifetime.
 #[derive(Drop)]
 pub struct Board<'s> {
-    state: State<'s>,
-    violates: bool,
+    pub(crate) state: State<'s>,
+    pub(crate) violates: bool,
 }
 
 /// The phase in which a front begins.

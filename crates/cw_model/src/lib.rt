@@ -2,14 +2,18 @@
 #![tactic(auto)]
 
 mod actions;
-pub mod boards;
+mod boards;
 mod changes;
 mod choices;
 mod frames;
 mod items;
 mod kinds;
 pub mod laws;
+mod moves;
 mod names;
 mod seams;
 mod steps;
 mod turns;
+
+pub use boards::{Board, board_move, board_start};
+pub use moves::{Moves, board_moves};
