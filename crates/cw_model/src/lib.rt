@@ -13,6 +13,8 @@ mod moves;
 mod names;
 mod seams;
 mod steps;
+#[cfg(test)]
+mod tests;
 mod turns;
 
 pub use boards::{Board, board_move, board_start};
