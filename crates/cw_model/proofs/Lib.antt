@@ -1,1 +1,12 @@
 pub mod Moving
+pub mod Places
+pub mod Digits
+pub mod Acting
+pub mod Shapes
+pub mod Putting
+pub mod Settled
+pub mod Dropped
+pub mod Routines
+pub mod Gets
+pub mod Chosen
+pub mod Having

@@ -1,0 +1,23 @@
+use Rattle.std.proofs.Common.{◌≡◌, ◌<◌, length, get_or, map, drop, ap, ◌∙◌, rules}
+use Rattle.cw_rights.specs.Policies.{policy_of}
+use Rattle.cw_model.specs.Held.{scene_in, plan_in, frame_in}
+use Rattle.cw_model.specs.HeldBoards.{may_turn}
+use Rattle.cw_model.specs.Turns.{turn_of}
+use Rattle.cw_model.proofs.Having.{may_at}
+use Rattle.cw_model.proofs.moves.may_pass.Goals as goal
+
+pub returns-in-Some-front : goal.returns-in-Some-front
+returns-in-Some-front c =
+    let pol = policy_of c.args.policy.now in
+    let s = scene_in c.args.checked.now pol in
+    let plan = plan_in c.args.checked.now pol in
+    let stack = c.args.stack.now.items in
+    let frame = c.in-Some.frame.now in
+    let item = c.in-Some-front.item.now in
+    let l : 0 < length stack = search rules in
+    let e : frame ≡ get_or stack 0 frame = search rules in
+    let k : 0 < length frame.items = search rules in
+    let f : item ≡ get_or frame.items 0 item = search rules in
+    c.may_turn.ensures
+    ∙ ap (λ t. may_turn plan t (frame_in s frame) (map (frame_in s) (drop 1 stack))) (c.turn_of-turn.ensures ∙ ap (λ k. turn_of k c.args.way) c.item_kind.ensures)
+    ∙ may_at plan s stack frame item c.args.way l e k f

@@ -1,0 +1,10 @@
+use Rattle.std.proofs.Common.{Some, ap, sym, ◌∙◌}
+use Rattle.cw_rights.specs.Policies.{policy_of}
+use Rattle.cw_model.specs.Held.{scene_in, item_of, frame_in}
+use Rattle.cw_model.specs.Turns.{way_in, taken}
+use Rattle.cw_model.proofs.steps.after.Goals as goal
+
+pub returns-in-Ends : goal.returns-in-Ends
+returns-in-Ends c =
+    let s = scene_in c.args.checked.now (policy_of c.args.policy.now) in
+    ap Some (c.in_ok-next-in-Ends.ensures s) ∙ sym (ap (λ t. taken t (item_of s c.args.item) (way_in c.args.way) (frame_in s c.args.rest)) c.in-Ends.is)
