@@ -17,7 +17,7 @@ use std::alloc::Global;
 
 /// The woven text: the prologue with the policy's limits and the table, and then the source with each mark at its place, in
 /// bytes. Where the source has no `cw{*` and no name that a mark or a limit spells has a slash, the text without the
-/// parts from `/*cw{*/` to the next `/*}cw*/` is the source, byte for byte.
+/// parts from `/*cw{*/` to the next `/*}cw*/` is the source, byte for byte. The only error is NoMemory.
 pub fn weave_text(
     alloc: Global,
     source: &[u8],
