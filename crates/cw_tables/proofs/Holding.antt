@@ -1,14 +1,14 @@
 -- What is lost is what doesn't hold in the game.
-use Rattle.std.proofs.Common.{◌≡◌, ℕ, zero, suc, ◌+◌, ◌-◌, ◌*◌, ◌<◌, List, [], ◌∷◌, Bool, true, false, cond, not, ◌&&◌, ◌||◌, Option, Some, None, option_map, map, length, refl, sym, ap, ap₂, ◌∙◌, subst}
-use Rattle.std.specs.Prelude.{slice_get, slice_index}
+use Rattle.std.proofs.Common.{◌≡◌, ℕ, zero, suc, ◌+◌, List, [], ◌∷◌, Bool, true, false, not, ◌&&◌, ◌||◌, Option, Some, None, option_map, map, refl, sym, ap, ◌∙◌, subst}
+use Rattle.std.specs.Prelude.{slice_get}
 use Rattle.cw_rights.specs.Policies.{PlainPolicy}
 use Rattle.cw_game.specs.declared.ambient.AmbientPolicy.{AmbientPolicy}
 use Rattle.cw_game.specs.declared.ambient.Node.{Node}
 use Rattle.cw_game.specs.declared.ambient.Node.TheVariants.{TryAt, AskedAt, LabelTo, StepTo, BranchTo, ExitAt}
 use Rattle.cw_game.specs.Games.{Game, Promise, holds_in, Holds}
-use Rattle.cw_game.specs.Ambient.{spot_of, flag_of, granted_of, lettered, is_bad, ambient_states, ambient_game, numbering_of}
+use Rattle.cw_game.specs.Ambient.{spot_of, flag_of, granted_of, lettered, is_bad, ambient_game, numbering_of}
 use Rattle.cw_tables.specs.Lost.{lost_in, lost}
-use Rattle.cw_tables.specs.Heights.{height_at, AreHeights, AreHeightsOf}
+use Rattle.cw_tables.specs.Heights.{AreHeights, AreHeightsOf}
 use Rattle.cw_tables.proofs.Tabled.{game_by}
 
 spot_by : {A B : Type 0} (f : A → B) (xs : List A) (i : ℕ) → slice_get (map f xs) i ≡ option_map f (slice_get xs i)

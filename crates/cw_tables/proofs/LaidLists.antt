@@ -5,7 +5,7 @@ use Rattle.std.proofs.lemmas.Bool.Decides.{nat_tests}
 use Rattle.std.proofs.lemmas.Option.{none-some, same_Some}
 use Rattle.cw_game.specs.declared.ambient.Node.{Node}
 use Rattle.cw_game.specs.declared.ambient.Node.TheVariants.{TryAt, AskedAt, LabelTo, StepTo, BranchTo, ExitAt}
-use Rattle.cw_game.specs.Laid.{IsUnasked, IsEntered, Laid}
+use Rattle.cw_game.specs.Laid.{IsEntered, Laid}
 
 abbrev is_entered : Option Node → Bool
 is_entered None = false

@@ -1,9 +1,7 @@
 -- The keys of a lazy table.
-use Rattle.std.proofs.Common.{◌≡◌, ◌≢◌, ◌⊎◌, inl, inr, ℕ, zero, suc, ◌+◌, ◌-◌, ◌*◌, ◌<◌, ◌≤◌, List, [], ◌∷◌, Bool, true, false, cond, not, ◌&&◌, ◌||◌, Option, Some, None, is_some, find, filter_map, option_map, length, get_or, nat_eq, nat_lt, refl, sym, ap, ap₂, ◌∙◌, subst, arith, ⊎_elim, eqb-true, eq-eqb}
+use Rattle.std.proofs.Common.{◌≡◌, ℕ, zero, suc, ◌+◌, ◌-◌, ◌<◌, ◌≤◌, List, [], ◌∷◌, Bool, true, false, cond, ◌&&◌, ◌||◌, Option, Some, None, nat_eq, nat_lt, refl, sym, ap, ap₂, ◌∙◌, subst, arith}
 use Rattle.std.specs.Prelude.{slice_get}
-use Rattle.std.specs.List.{Contains}
 use Rattle.std.proofs.lemmas.Bool.Decides.{nat_tests}
-use Rattle.std.proofs.lemmas.Option.{none-some, same_Some}
 use Rattle.cw_game.specs.declared.ambient.AmbientPolicy.{AmbientPolicy}
 use Rattle.cw_game.specs.declared.ambient.Node.{Node}
 use Rattle.cw_game.specs.declared.ambient.Node.TheVariants.{TryAt, AskedAt, LabelTo, StepTo, BranchTo, ExitAt}
@@ -15,10 +13,10 @@ use Rattle.cw_tables.specs.declared.closure.Way.{Way}
 use Rattle.cw_game.specs.Ambient.{start_of, flag_of, granted_of, lettered, is_bad}
 use Rattle.cw_tables.specs.Lost.{lost, lost_in}
 use Rattle.cw_tables.specs.Heights.{height_at, AreHeights}
-use Rattle.cw_tables.specs.Least.{Least, first, then}
-use Rattle.cw_tables.specs.Needed.{key_of, is_lost, lazy_in, better, way_to, best_in, way_keys, named_in, steps_in, steps, Needed}
+use Rattle.cw_tables.specs.Least.{first, then}
+use Rattle.cw_tables.specs.Needed.{key_of, is_lost, lazy_in, better, way_to, way_keys, named_in, steps_in, steps, Needed}
 use Rattle.cw_game.specs.Laid.{Laid, IsUnasked}
-use Rattle.cw_tables.proofs.Members.{In, in_of, of_in, Every, every, every_if}
+use Rattle.cw_tables.proofs.Members.{in_of, Every, every, every_if}
 use Rattle.cw_tables.proofs.Losing.{more_by, lettered_small, start_small}
 
 -- a key is of its own height, and its state is small

@@ -1,7 +1,7 @@
 -- The keys that a loop over what it sees reaches.
-use Rattle.std.proofs.Common.{◌≡◌, ◌⊎◌, inl, inr, ℕ, zero, suc, ◌+◌, ◌<◌, ◌≤◌, List, [], ◌∷◌, ◌++◌, Bool, true, false, length, get_or, take, refl, sym, ap, ◌∙◌, subst, arith, ⊎_elim, length-append, eqb-true, nat_eq}
-use Rattle.std.proofs.lemmas.List.{take_more, get_or_append_left}
-use Rattle.std.specs.List.{Contains, list_any}
+use Rattle.std.proofs.Common.{◌≡◌, ℕ, ◌+◌, ◌<◌, ◌≤◌, List, [], ◌∷◌, ◌++◌, Bool, true, false, length, get_or, refl, sym, ap, ◌∙◌, subst, arith, ⊎_elim, length-append, eqb-true, nat_eq}
+use Rattle.std.proofs.lemmas.List.{get_or_append_left}
+use Rattle.std.specs.List.{Contains}
 use Rattle.std.specs.List.Sorted.{IsStrictlySortedBy}
 use Rattle.std.specs.Ordering.{eq_by_cmp, is_eq}
 use Rattle.std.specs.Bool.{Decides}

@@ -1,5 +1,5 @@
 -- The rows of a lazy table ascend.
-use Rattle.std.proofs.Common.{◌≡◌, ◌⊎◌, inl, inr, ℕ, zero, suc, ◌+◌, ◌*◌, ◌<◌, ◌≤◌, List, [], ◌∷◌, Bool, true, false, Option, Some, None, option_map, filter_map, length, get_or, map, nat_eq, nat_lt, refl, sym, ap, ap₂, ◌∙◌, subst, arith, ⊎_elim, eqb-true}
+use Rattle.std.proofs.Common.{◌≡◌, ◌⊎◌, inl, inr, ℕ, ◌<◌, List, [], ◌∷◌, Bool, true, false, Option, Some, None, option_map, filter_map, length, get_or, map, nat_eq, nat_lt, refl, sym, ap, ◌∙◌, subst, arith, ⊎_elim, eqb-true}
 use Rattle.std.specs.Prelude.{slice_get}
 use Rattle.std.specs.List.{cons_option, AllByRecursion}
 use Rattle.std.specs.List.Sorted.{IsStrictlySortedBy}
@@ -23,7 +23,6 @@ use Rattle.cw_game.specs.Ambient.{start_of}
 use Rattle.cw_tables.specs.Needed.{Needed}
 use Rattle.cw_core.specs.declared.ids.MemId.{MemId}
 use Rattle.cw_core.specs.declared.ids.PosId.{PosId}
-use Rattle.cw_core.specs.declared.ids.StateId.{StateId}
 use Rattle.cw_tables.specs.Rows.{pos_id, mem_id, full, mem_of, mem_row, live_row, try_row, at_row, AreStatesOf, IsTableOf}
 use Rattle.cw_game.specs.Laid.{Laid}
 use Rattle.cw_tables.specs.Ascends.{mem_cmp, live_cmp, try_cmp, at_cmp, Ascends}

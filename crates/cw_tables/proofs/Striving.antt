@@ -1,11 +1,10 @@
 -- The strategy by least heights meets the conditions.
-use Rattle.std.proofs.Common.{◌≡◌, ◌≢◌, ◌⊎◌, inl, inr, ℕ, zero, suc, ◌+◌, ◌*◌, ◌<◌, ◌≤◌, List, [], ◌∷◌, Bool, true, false, cond, not, ◌&&◌, ◌||◌, Option, Some, None, is_some, find, filter_map, option_map, length, get_or, map, nat_eq, nat_lt, nat_le, refl, sym, ap, ap₂, ◌∙◌, subst, arith, ⊎_elim, eqb-true, eq-eqb}
+use Rattle.std.proofs.Common.{◌≡◌, ◌⊎◌, inl, inr, ℕ, zero, suc, ◌+◌, ◌<◌, ◌≤◌, List, [], ◌∷◌, Bool, true, false, cond, ◌&&◌, ◌||◌, Option, Some, None, filter_map, option_map, length, get_or, map, nat_eq, nat_lt, nat_le, refl, sym, ap, ap₂, ◌∙◌, subst, arith, ⊎_elim, eqb-true}
 use Rattle.std.specs.Prelude.{slice_get, option_and_then}
-use Rattle.std.specs.List.{Contains, cons_option}
+use Rattle.std.specs.List.{cons_option}
 use Rattle.std.specs.List.Sorted.{IsStrictlySortedBy}
-use Rattle.std.specs.Ordering.{nat_cmp, eq_by_cmp, ordering_then}
-use Rattle.std.specs.declared.cmp.Ordering.{Ordering}
-use Rattle.std.specs.declared.cmp.Ordering.TheVariants.{Less, Equal, Greater}
+use Rattle.std.specs.Ordering.{nat_cmp, ordering_then}
+use Rattle.std.specs.declared.cmp.Ordering.TheVariants.{Less, Greater}
 use Rattle.std.specs.Cmp.{tied_itself}
 use Rattle.std.proofs.lemmas.Bool.Decides.{nat_tests}
 use Rattle.std.proofs.lemmas.Option.{none-some, same_Some}
@@ -17,7 +16,7 @@ use Rattle.cw_certs.specs.declared.strategy.How.{How as RowHow}
 use Rattle.cw_certs.specs.declared.strategy.How.TheVariants.{Bad as IsBad, Both as IsBoth, Go as IsGo}
 use Rattle.cw_certs.specs.declared.strategy.EnvRow.{EnvRow}
 use Rattle.cw_certs.specs.declared.strategy.EnvCert.{EnvCert}
-use Rattle.cw_certs.specs.Strategies.{Row, Strategy, how_of, row_of, strategy_of}
+use Rattle.cw_certs.specs.Strategies.{Row, Strategy, how_of, row_of}
 use Rattle.cw_game.specs.declared.ambient.AmbientPolicy.{AmbientPolicy}
 use Rattle.cw_game.specs.declared.ambient.Node.{Node}
 use Rattle.cw_game.specs.declared.ambient.Node.TheVariants.{TryAt, AskedAt, LabelTo, StepTo, BranchTo, ExitAt}
@@ -29,15 +28,14 @@ use Rattle.cw_tables.specs.declared.closure.Key.{Key}
 use Rattle.cw_tables.specs.declared.closure.Way.{Way}
 use Rattle.cw_tables.specs.Lost.{lost, lost_in}
 use Rattle.cw_tables.specs.Heights.{height_at, AreHeights}
-use Rattle.cw_tables.specs.Least.{Least, first, then, Exactly, key_cmp}
+use Rattle.cw_tables.specs.Least.{first, then, Exactly, key_cmp}
 use Rattle.cw_tables.specs.Needed.{key_of, better, way_to, best_in, way_keys, named_in, steps, Needed}
-use Rattle.cw_tables.specs.Rows.{state_id, pos_id, place, number, go_how, how_in, env_row, IsLeast}
-use Rattle.cw_tables.proofs.Keys.{key_total, key_exact}
+use Rattle.cw_tables.specs.Rows.{state_id, pos_id, number, go_how, how_in, env_row, IsLeast}
+use Rattle.cw_tables.proofs.Keys.{key_total}
 use Rattle.cw_tables.proofs.Members.{In, in_of, of_in, Every, every}
-use Rattle.cw_tables.proofs.Places.{placed_at, found_key}
+use Rattle.cw_tables.proofs.Places.{found_key}
 use Rattle.cw_tables.proofs.Losing.{lettered_small}
-use Rattle.cw_tables.proofs.Lazily.{IsKey, needed_key, height_within}
-use Rattle.cw_tables.proofs.Same.{exactly_same}
+use Rattle.cw_tables.proofs.Lazily.{needed_key, height_within}
 use Rattle.cw_tables.proofs.Tabled.{got, halves, map_at, game_by}
 use Rattle.cw_tables.proofs.Tops.{full_length}
 

@@ -1,40 +1,35 @@
 -- The lazy table meets the conditions.
-use Rattle.std.proofs.Common.{◌≡◌, ◌≢◌, ◌⊎◌, inl, inr, ℕ, zero, suc, ◌+◌, ◌-◌, ◌*◌, ◌<◌, ◌≤◌, List, [], ◌∷◌, Bool, true, false, cond, not, ◌&&◌, ◌||◌, Option, Some, None, is_some, find, filter_map, option_map, length, get_or, map, nat_eq, nat_lt, refl, sym, ap, ap₂, ◌∙◌, subst, arith, ⊎_elim, eqb-true, eq-eqb}
+use Rattle.std.proofs.Common.{◌≡◌, inl, inr, ℕ, zero, suc, ◌+◌, ◌-◌, ◌<◌, List, [], ◌∷◌, Bool, true, false, cond, not, ◌&&◌, ◌||◌, Option, Some, None, is_some, option_map, length, get_or, map, nat_eq, nat_lt, refl, sym, ap, ap₂, ◌∙◌, subst, arith, eqb-true, eq-eqb}
 use Rattle.std.specs.Prelude.{slice_get, option_and_then}
-use Rattle.std.specs.List.{Contains}
 use Rattle.std.specs.Ordering.{nat_cmp}
-use Rattle.std.specs.declared.cmp.Ordering.TheVariants.{Equal}
 use Rattle.std.specs.Cmp.{tied_itself, nat_cmp_total}
 use Rattle.std.proofs.lemmas.Bool.Decides.{nat_tests}
 use Rattle.std.proofs.lemmas.Option.{none-some, same_Some}
 use Rattle.std.proofs.lemmas.List.{get_or_default}
-use Rattle.cw_core.specs.declared.ids.StateId.{StateId}
 use Rattle.cw_core.specs.declared.ids.MemId.{MemId}
 use Rattle.cw_core.specs.declared.ids.PosId.{PosId}
-use Rattle.cw_rights.specs.declared.capabilities.Primitive.TheVariants.{Enter}
 use Rattle.cw_rights.specs.Policies.{PlainPolicy}
 use Rattle.cw_certs.specs.declared.table.WeaverCert.{WeaverCert}
 use Rattle.cw_certs.specs.declared.rows.TryRow.{TryRow}
 use Rattle.cw_certs.specs.declared.rows.AtRow.{AtRow}
-use Rattle.cw_certs.specs.Tables.{Table, table_of, try_at, after_at}
-use Rattle.cw_game.specs.declared.spots.Spot.{Spot}
+use Rattle.cw_certs.specs.Tables.{table_of, try_at, after_at}
 use Rattle.cw_game.specs.declared.ambient.AmbientPolicy.{AmbientPolicy}
 use Rattle.cw_game.specs.declared.ambient.Node.{Node}
 use Rattle.cw_game.specs.declared.ambient.Node.TheVariants.{TryAt, AskedAt, LabelTo, StepTo, BranchTo, ExitAt}
 use Rattle.cw_game.specs.declared.ambient.Numbering.{Numbering}
 use Rattle.cw_game.specs.Games.{Game}
-use Rattle.cw_game.specs.Conditions.{is_live, means_it, leads, leads_if, asked_ok, row_leads, row_ok_in, row_ok_by, row_ok, rows_ok, all_states, is_closed_table}
-use Rattle.cw_game.specs.Ambient.{spot_of, count_of, start_of, flag_of, granted_of, lettered, is_bad, ambient_states, ambient_game, numbering_of}
+use Rattle.cw_game.specs.Conditions.{is_live, means_it, leads, leads_if, asked_ok, row_leads, row_ok_in, row_ok_by, row_ok, rows_ok, is_closed_table}
+use Rattle.cw_game.specs.Ambient.{spot_of, start_of, granted_of, lettered, ambient_states, ambient_game, numbering_of}
 use Rattle.cw_game.specs.Laid.{Laid}
-use Rattle.cw_tables.specs.declared.closure.Side.TheVariants.{Weaver, Environment}
+use Rattle.cw_tables.specs.declared.closure.Side.TheVariants.{Weaver}
 use Rattle.cw_tables.specs.declared.closure.Key.{Key}
 use Rattle.cw_tables.specs.Heights.{height_at, AreHeights}
-use Rattle.cw_tables.specs.Least.{Least, first, then, Exactly, key_cmp}
+use Rattle.cw_tables.specs.Least.{first, then, Exactly, key_cmp}
 use Rattle.cw_tables.specs.Needed.{key_of, is_lost, lazy_in, steps, Needed}
-use Rattle.cw_tables.specs.Rows.{place, seam_id, state_id, mem_id, pos_id, full, mem_of, mem_row, live_row, try_in, try_row, at_in, at_row, AreStatesOf, IsTableOf}
-use Rattle.cw_tables.proofs.Members.{In, in_of, of_in, find_in, find_some, find_is, find_not, kept, kept_from}
+use Rattle.cw_tables.specs.Rows.{seam_id, state_id, mem_id, pos_id, full, mem_of, mem_row, live_row, try_in, try_row, at_in, at_row, AreStatesOf, IsTableOf}
+use Rattle.cw_tables.proofs.Members.{In, in_of, of_in, find_some, find_is, find_not, kept, kept_from}
 use Rattle.cw_tables.proofs.Places.{placed_at, found_nat}
-use Rattle.cw_tables.proofs.Lazily.{IsKey, needed_key, not_lost, not_bad, came, there}
+use Rattle.cw_tables.proofs.Lazily.{IsKey, needed_key, not_bad, came, there}
 
 pub map_at : {A B : Type 0} (f : A → B) (xs : List A) (i : ℕ) (x : A) → slice_get xs i ≡ Some x → slice_get (map f xs) i ≡ Some (f x)
 map_at f [] i x e = absurd (none-some x e)

@@ -1,7 +1,6 @@
 -- The tables that there are.
-use Rattle.std.proofs.Common.{◌≡◌, ℕ, ◌+◌, ◌<◌, ◌≤◌, List, [], ◌∷◌, Option, Some, None, length, map, filter_map, option_map, suc, inl, inr, ◌⊎◌, refl, sym, ap, ap₂, ◌∙◌, subst, arith}
+use Rattle.std.proofs.Common.{◌≡◌, ℕ, ◌+◌, ◌<◌, List, [], ◌∷◌, Option, Some, None, length, map, filter_map, option_map, suc, inl, inr, refl, sym, ap, ◌∙◌, subst, arith}
 use Rattle.std.specs.List.{Contains, cons_option}
-use Rattle.std.specs.Ordering.{nat_cmp}
 use Rattle.std.specs.Option.{IfNone}
 use Rattle.std.specs.Cmp.{nat_cmp_total}
 use Rattle.std.proofs.lemmas.Map.Lookups.{exact_unsigned}
@@ -21,7 +20,7 @@ use Rattle.cw_tables.specs.declared.closure.Key.{Key}
 use Rattle.cw_tables.specs.Heights.{height_at, AreHeights}
 use Rattle.cw_tables.specs.Least.{Exactly, key_cmp}
 use Rattle.cw_tables.specs.Needed.{Needed}
-use Rattle.cw_tables.specs.Rows.{pos_id, mem_id, mem_of, mem_row, live_row, try_row, at_row, AreStatesOf, IsTableOf, IsTable, IsLazy, table_rows}
+use Rattle.cw_tables.specs.Rows.{pos_id, mem_id, mem_of, mem_row, live_row, try_row, at_row, AreStatesOf, IsTable, IsLazy, table_rows}
 use Rattle.cw_tables.proofs.Keys.{key_total, key_exact}
 use Rattle.cw_tables.proofs.Members.{In}
 use Rattle.cw_tables.proofs.Same.{exactly_same}

@@ -1,8 +1,8 @@
 -- Heights: 0 stands for none. Those of a position are four, one for each state.
-use Rattle.std.specs.Prelude.{◌≡◌, ℕ, zero, suc, ◌+◌, ◌*◌, ◌<◌, ◌≤◌, ◌/◌, ◌%◌, List, Bool, true, false, cond, ◌&&◌, ◌||◌, Option, Some, None, nat_eq, nat_lt, nat_le, slice_get, slice_index, sum_by, length}
+use Rattle.std.specs.Prelude.{◌≡◌, ℕ, zero, suc, ◌+◌, ◌*◌, ◌<◌, ◌≤◌, ◌/◌, ◌%◌, List, Bool, true, false, cond, ◌&&◌, ◌||◌, Option, Some, nat_eq, nat_lt, slice_get, slice_index, sum_by, length}
 use Rattle.cw_game.specs.declared.ambient.AmbientPolicy.{AmbientPolicy}
 use Rattle.cw_game.specs.declared.ambient.Node.{Node}
-use Rattle.cw_game.specs.declared.ambient.Node.TheVariants.{TryAt, AskedAt, LabelTo, StepTo, BranchTo, ExitAt}
+use Rattle.cw_game.specs.declared.ambient.Node.TheVariants.{TryAt, AskedAt, LabelTo, StepTo, BranchTo}
 use Rattle.cw_game.specs.Ambient.{flag_of, granted_of, lettered, is_bad}
 use Rattle.cw_game.specs.Games.{Game, Promise, Holds}
 use Rattle.cw_tables.specs.Lost.{lost}

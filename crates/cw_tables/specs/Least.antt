@@ -1,5 +1,5 @@
 -- The least set that has a start and is closed under steps, and a list that has just what a relation says, in order.
-use Rattle.std.specs.Prelude.{◌≡◌, ◌⊎◌, ℕ, ◌+◌, ◌*◌, List, [], ◌∷◌, ◌++◌, Bool, true, false, cond, slice_index, length}
+use Rattle.std.specs.Prelude.{◌≡◌, List, ◌++◌, length}
 use Rattle.std.specs.List.{Contains}
 use Rattle.std.specs.List.Sorted.{IsStrictlySortedBy}
 use Rattle.std.specs.declared.cmp.Ordering.{Ordering}

@@ -1,8 +1,8 @@
 -- The pairs of a position and a state that are lost: every choice of tries comes to a violation.
-use Rattle.std.specs.Prelude.{ℕ, zero, suc, ◌+◌, List, Bool, true, false, ◌&&◌, ◌||◌, Option, Some, None, slice_get}
+use Rattle.std.specs.Prelude.{ℕ, zero, suc, ◌+◌, List, Bool, false, ◌&&◌, ◌||◌, Option, Some, slice_get}
 use Rattle.cw_game.specs.declared.ambient.AmbientPolicy.{AmbientPolicy}
 use Rattle.cw_game.specs.declared.ambient.Node.{Node}
-use Rattle.cw_game.specs.declared.ambient.Node.TheVariants.{TryAt, AskedAt, LabelTo, StepTo, BranchTo, ExitAt}
+use Rattle.cw_game.specs.declared.ambient.Node.TheVariants.{TryAt, AskedAt, LabelTo, StepTo, BranchTo}
 use Rattle.cw_game.specs.Ambient.{flag_of, granted_of, lettered, is_bad}
 
 -- by what is lost one move later

@@ -1,8 +1,8 @@
 -- The keys that each certificate needs.
-use Rattle.std.specs.Prelude.{◌≡◌, ◌⊎◌, ℕ, ◌+◌, List, [], ◌∷◌, ◌++◌, Bool, true, false, cond, not, ◌&&◌, ◌||◌, Option, Some, None, nat_eq, nat_lt, nat_le, slice_get, length}
+use Rattle.std.specs.Prelude.{ℕ, ◌+◌, List, [], ◌∷◌, Bool, cond, ◌&&◌, ◌||◌, Option, Some, None, nat_eq, nat_lt, nat_le, slice_get}
 use Rattle.cw_game.specs.declared.ambient.AmbientPolicy.{AmbientPolicy}
 use Rattle.cw_game.specs.declared.ambient.Node.{Node}
-use Rattle.cw_game.specs.declared.ambient.Node.TheVariants.{TryAt, AskedAt, LabelTo, StepTo, BranchTo, ExitAt}
+use Rattle.cw_game.specs.declared.ambient.Node.TheVariants.{TryAt, AskedAt, LabelTo, StepTo, BranchTo}
 use Rattle.cw_certs.specs.declared.moves.Move.{Move}
 use Rattle.cw_certs.specs.declared.moves.Move.TheVariants.{Grant, Refuse, On, Left, Right}
 use Rattle.cw_tables.specs.declared.closure.Side.{Side}

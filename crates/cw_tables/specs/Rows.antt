@@ -1,5 +1,5 @@
 -- The rows of the two certificates: the lazy table and the strategy by least heights.
-use Rattle.std.specs.Prelude.{◌≡◌, ℕ, ◌+◌, ◌-◌, ◌^◌, List, [], ◌∷◌, Bool, true, false, cond, Option, Some, None, option_map, option_and_then, nat_eq, slice_get, length, map, filter_map}
+use Rattle.std.specs.Prelude.{◌≡◌, ℕ, ◌+◌, ◌-◌, ◌^◌, List, [], ◌∷◌, Bool, cond, Option, Some, None, option_map, option_and_then, nat_eq, slice_get, length, map, filter_map}
 use Rattle.std.specs.List.{Contains}
 use Rattle.std.specs.Ordering.{eq_by_cmp, nat_cmp}
 use Rattle.cw_core.specs.declared.ids.SeamId.{SeamId}
@@ -15,7 +15,7 @@ use Rattle.cw_certs.specs.declared.strategy.How.{How}
 use Rattle.cw_certs.specs.declared.strategy.How.TheVariants.{Bad, Both, Go}
 use Rattle.cw_game.specs.declared.ambient.AmbientPolicy.{AmbientPolicy}
 use Rattle.cw_game.specs.declared.ambient.Node.{Node}
-use Rattle.cw_game.specs.declared.ambient.Node.TheVariants.{TryAt, AskedAt, LabelTo, StepTo, BranchTo, ExitAt}
+use Rattle.cw_game.specs.declared.ambient.Node.TheVariants.{TryAt, AskedAt, LabelTo}
 use Rattle.cw_game.specs.Ambient.{count_of, start_of, granted_of, lettered}
 use Rattle.cw_tables.specs.declared.closure.Key.{Key}
 use Rattle.cw_tables.specs.declared.closure.Way.{Way}

@@ -1,5 +1,5 @@
 use Rattle.cw_game.specs.Ambient.{start_of}
-use Rattle.std.proofs.Common.{rules, ◌≡◌, ◌+◌, ◌<◌, ◌≤◌, ◌++◌, [], ◌∷◌, length, arith, get_or, subst, sym, ap}
+use Rattle.std.proofs.Common.{rules, ◌≡◌, ◌<◌, ◌≤◌, [], ◌∷◌, length, arith, get_or, ap}
 use Rattle.cw_tables.specs.declared.closure.Key.{Key}
 use Rattle.cw_tables.specs.Needed.{steps, key_of}
 use Rattle.cw_tables.specs.Least.{Adds}

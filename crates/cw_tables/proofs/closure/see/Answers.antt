@@ -1,4 +1,4 @@
-use Rattle.std.proofs.Common.{rules, ◌≡◌, ℕ, ◌+◌, true, arith}
+use Rattle.std.proofs.Common.{rules, ◌≡◌, true}
 use Rattle.std.specs.BTreeSet.{contains}
 use Rattle.cw_tables.specs.Least.{key_cmp}
 use Rattle.cw_tables.proofs.Keys.{see_new, adds_none}

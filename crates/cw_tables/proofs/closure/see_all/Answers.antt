@@ -1,6 +1,5 @@
-use Rattle.std.proofs.Common.{rules, ◌≡◌, ◌+◌, ◌<◌, ◌++◌, [], ◌∷◌, length, take, arith, subst, sym}
+use Rattle.std.proofs.Common.{rules, ◌<◌, length, take}
 use Rattle.std.proofs.lemmas.List.{take_more}
-use Rattle.cw_tables.specs.Least.{Adds}
 use Rattle.cw_tables.proofs.Keys.{adds_more}
 use Rattle.cw_tables.proofs.closure.see_all.Goals as goal
 

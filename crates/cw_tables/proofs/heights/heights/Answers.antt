@@ -1,4 +1,3 @@
-use Rattle.std.proofs.Common.{◌≡◌}
 use Rattle.cw_tables.specs.Heights.{AreHeights}
 use Rattle.cw_tables.proofs.Losing.{are_heights}
 use Rattle.cw_tables.proofs.Holding.{heights_of}

@@ -1,4 +1,4 @@
-use Rattle.std.proofs.Common.{rules, ◌≡◌, ◌≢◌, ℕ, ◌+◌, ◌-◌, ◌<◌, ◌≤◌, ◌∙◌, length, arith, ap, sym, refl}
+use Rattle.std.proofs.Common.{rules, ◌≡◌, ◌+◌, ◌-◌, ◌<◌, ◌≤◌, ◌∙◌, length, arith, ap, refl}
 use Rattle.cw_tables.specs.Heights.{next_height}
 use Rattle.cw_tables.proofs.Losing.{half_step, half_start}
 use Rattle.cw_tables.proofs.heights.lower_back.Goals as goal

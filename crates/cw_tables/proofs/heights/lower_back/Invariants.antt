@@ -1,4 +1,4 @@
-use Rattle.std.proofs.Common.{◌+◌, ◌<◌, ◌≤◌, length}
+use Rattle.std.proofs.Common.{◌+◌, ◌≤◌, length}
 use Rattle.cw_tables.proofs.Losing.{Halfway}
 use Rattle.cw_tables.proofs.heights.lower_back.Given as goal
 

@@ -1,4 +1,4 @@
-use Rattle.std.proofs.Common.{rules, ◌≡◌, ◌+◌, ◌<◌, ◌≤◌, length, filter_map, arith}
+use Rattle.std.proofs.Common.{rules, ◌≡◌, ◌≤◌, length, arith}
 use Rattle.cw_tables.proofs.Striving.{least_closed, start_row, least_length, least_many}
 use Rattle.cw_tables.proofs.strategies.env_table.Goals as goal
 

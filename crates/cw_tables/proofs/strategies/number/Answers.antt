@@ -1,5 +1,5 @@
 use Rattle.cw_tables.proofs.Places.{found_key, lost_key}
-use Rattle.std.proofs.Common.{sym, ◌≡◌, Option, Some, None}
+use Rattle.std.proofs.Common.{sym}
 use Rattle.cw_tables.proofs.strategies.number.Goals as goal
 
 pub returns-in-Ok : goal.returns-in-Ok

@@ -1,8 +1,8 @@
-use Rattle.std.proofs.Common.{take, map, ℕ, ◌<◌, ◌+◌, length, rules, ◌≡◌, sym}
+use Rattle.std.proofs.Common.{take, map, ℕ, ◌<◌, length, rules, ◌≡◌, sym}
 use Rattle.std.specs.List.{Contains}
 use Rattle.std.proofs.lemmas.List.{map_more, take_all}
 use Rattle.cw_tables.specs.declared.closure.Key.{Key}
-use Rattle.cw_tables.proofs.Places.{StatesIs, states_more, states_start}
+use Rattle.cw_tables.proofs.Places.{states_more, states_start}
 use Rattle.cw_tables.proofs.tables.collect_states.Goals as goal
 
 pub loop-key-init : goal.loop-key-init

@@ -1,4 +1,4 @@
-use Rattle.std.proofs.Common.{take, map, ℕ}
+use Rattle.std.proofs.Common.{take, map}
 use Rattle.cw_tables.specs.declared.closure.Key.{Key}
 use Rattle.cw_tables.proofs.Places.{StatesIs}
 use Rattle.cw_tables.proofs.tables.collect_states.Given as goal

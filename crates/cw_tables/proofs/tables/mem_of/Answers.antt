@@ -1,5 +1,5 @@
 use Rattle.cw_tables.proofs.Places.{found_nat, lost_nat}
-use Rattle.std.proofs.Common.{sym, ◌≡◌, Option, Some, None}
+use Rattle.std.proofs.Common.{sym}
 use Rattle.cw_tables.proofs.tables.mem_of.Goals as goal
 
 pub returns-in-Ok : goal.returns-in-Ok

@@ -1,4 +1,4 @@
-use Rattle.std.proofs.Common.{rules, ◌≡◌, ◌+◌, ◌<◌, length, ℕ, Option, None, sym}
+use Rattle.std.proofs.Common.{rules, ◌≡◌, ◌+◌, ◌<◌, length, None}
 use Rattle.cw_game.specs.Ambient.{start_of}
 use Rattle.cw_tables.specs.Rows.{mem_of}
 use Rattle.cw_tables.proofs.Tops.{no_start, many_rows}

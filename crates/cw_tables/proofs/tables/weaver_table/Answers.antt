@@ -1,4 +1,4 @@
-use Rattle.std.proofs.Common.{rules, ◌≡◌, ◌+◌, ◌<◌, ℕ, length, List, sym, subst}
+use Rattle.std.proofs.Common.{rules, ℕ, List, sym, subst}
 use Rattle.std.proofs.lemmas.Option.{IfSome_then}
 use Rattle.cw_tables.specs.declared.closure.Key.{Key}
 use Rattle.cw_tables.specs.declared.closure.Side.TheVariants.{Weaver}
