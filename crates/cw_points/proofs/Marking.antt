@@ -4,10 +4,10 @@ use Rattle.std.proofs.lemmas.List.{drop_all}
 use Rattle.cw_syntax.specs.declared.marks.SeamMark.{SeamMark as MarkData}
 use Rattle.cw_syntax.specs.declared.program.Function.{Function}
 use Rattle.cw_syntax.specs.Names.{Names}
-use Rattle.cw_syntax.specs.Trees.{Statement, Stated, Form, Block, Declares, Evaluates, Empties, Labels, Chooses, Whiles, Does, Fors, Breaks, Continues, Returns, Perhaps, nothing, just, Statements, nil, cons, Definition, File, definition_of}
-use Rattle.cw_syntax.specs.Plans.{Scene, Routine, acting, steps_of, steps_of_form, steps_of_arm, steps_of_all, seams, seams_all, numbered, numbered_all, routines_from, scene_of, plan_of}
+use Rattle.cw_syntax.specs.Trees.{Statement, Stated, Form, Block, Declares, Evaluates, Empties, Labels, Chooses, Whiles, Does, Fors, Breaks, Continues, Returns, Perhaps, nothing, just, Statements, nil, cons, File, definition_of}
+use Rattle.cw_syntax.specs.Plans.{Scene, acting, steps_of, steps_of_form, steps_of_arm, steps_of_all, numbered, numbered_all, routines_from, scene_of, plan_of}
 use Rattle.cw_syntax.specs.Marks.{SeamMark, EntryMark, LabelMark, mark_of, marks_in, marks_in_all, marks_from as marks_of_routines, marks_of}
-use Rattle.cw_points.specs.First.{LiesIn, HasWithin, ArmLiesIn, LieIn, IsFirstForm, labels_of, labels_in}
+use Rattle.cw_points.specs.First.{LiesIn, HasWithin, ArmLiesIn, LieIn, IsFirstForm, labels_of}
 use Rattle.cw_points.specs.Marked.{label_marks, label_marks_of, label_marks_arm, label_marks_in, marks_from}
 use Rattle.cw_points.specs.Order.{Ascend}
 use Rattle.cw_points.proofs.Placing.{IsPlain, IsPlainOf, IsPlainArm, ArePlain, seams_are}
@@ -100,7 +100,7 @@ mutual
   ordered_form (Labels name mark s) j from to l h = (omega (arith, h.0), wide s mark to h.1, ordered s (j + 1) mark to h.1)
   ordered_form (Chooses test s other) j from to l h =
       subst (Ascend (from + 1) to) (sym (joined (label_marks s j) (label_marks_arm other (j + labels_of s))))
-        (in_turn (from + 1) h.0 to (plain_marks (label_marks s j)) (plain_marks (label_marks_arm other (j + labels_of s))) (omega (arith, wide s from h.0 h.1)) (wide_arm other h.0 to h.2) (ordered s j from h.0 h.1) (ordered_arm other (j + labels_of s) h.0 to h.2))
+      (in_turn (from + 1) h.0 to (plain_marks (label_marks s j)) (plain_marks (label_marks_arm other (j + labels_of s))) (omega (arith, wide s from h.0 h.1)) (wide_arm other h.0 to h.2) (ordered s j from h.0 h.1) (ordered_arm other (j + labels_of s) h.0 to h.2))
   ordered_form (Whiles test s) j from to l h = ordered s j from to h
   ordered_form Empties j from to l h = tt
   ordered_form (Evaluates e) j from to l h = tt
@@ -119,14 +119,14 @@ mutual
   ordered_all nil j low high h = tt
   ordered_all (cons s ss) j low high h =
       subst (Ascend (low + 1) high) (sym (joined (label_marks s j) (label_marks_in ss (j + labels_of s))))
-        (in_turn (low + 1) h.0 high (plain_marks (label_marks s j)) (plain_marks (label_marks_in ss (j + labels_of s))) (omega (arith, wide s low h.0 h.1)) (wide_all ss h.0 high h.2) (ordered s j low h.0 h.1) (ordered_all ss (j + labels_of s) h.0 high h.2))
+      (in_turn (low + 1) h.0 high (plain_marks (label_marks s j)) (plain_marks (label_marks_in ss (j + labels_of s))) (omega (arith, wide s low h.0 h.1)) (wide_all ss h.0 high h.2) (ordered s j low h.0 h.1) (ordered_all ss (j + labels_of s) h.0 high h.2))
 
 pub marks_ascend : (source : List ℕ) (file : File) → (h : IsFirstForm source file) → Ascend 0 (length source) (map mark_of (marks_from file.functions 0))
 marks_ascend source file h =
     let ms = label_marks_in h.main.body 1 in
     let body = ordered_all h.main.body 1 h.main.brace (length source) h.spans in
     let all : Ascend 0 (length source) (map mark_of (marks_from (h.main ∷ []) 0)) =
-        (omega arith, wide_all h.main.body h.main.brace (length source) h.spans, subst (Ascend (h.main.brace + 1) (length source)) (sym (joined ms [] ∙ no_more (plain_marks ms))) body) in
+    (omega arith, wide_all h.main.body h.main.brace (length source) h.spans, subst (Ascend (h.main.brace + 1) (length source)) (sym (joined ms [] ∙ no_more (plain_marks ms))) body) in
     subst (λ fs. Ascend 0 (length source) (map mark_of (marks_from fs 0))) (sym h.functions) all
 
 -- One more function of a list.

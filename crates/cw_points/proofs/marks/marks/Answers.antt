@@ -1,9 +1,8 @@
-use Rattle.std.proofs.Common.{◌≡◌, ℕ, ◌+◌, ◌++◌, List, [], ◌∷◌, length, drop, map, ap, ap₂, ◌∙◌, sym, rules, arith, subst}
+use Rattle.std.proofs.Common.{◌≡◌, ◌+◌, ◌++◌, [], ◌∷◌, length, drop, map, ap, ◌∙◌, sym, rules, arith, subst}
 use Rattle.cw_syntax.specs.declared.marks.SeamMark.{SeamMark}
 use Rattle.cw_syntax.specs.declared.marks.MarkKind.TheVariants.{Entry}
 use Rattle.cw_syntax.specs.Trees.{statements_of, definition_of, file_of}
-use Rattle.cw_syntax.specs.Plans.{plan_of}
-use Rattle.cw_syntax.specs.Marks.{mark_of, marks_of}
+use Rattle.cw_syntax.specs.Marks.{mark_of}
 use Rattle.cw_points.specs.First.{points_from, points_in, labels_in}
 use Rattle.cw_points.specs.Marked.{label_marks_in, marks_from}
 use Rattle.cw_points.specs.Order.{Ascend}
@@ -36,18 +35,18 @@ loop-f-preserved c =
     record {
       seams = omega (arith, p, seam, c.loop-f.invariant.seams, labels_all_few body);
       marks = ap (λ n. c.put_all_labels.new.marks.items ++ marks_from rest n) seam
-        ∙ one_put c.loop-f.marks.items c.put.new.marks.items c.put_all_labels.new.marks.items (label_marks_in body (j + 1)) (marks_from rest (j + 1 + labels_in body)) entry put new
-        ∙ sym (ap (λ l. c.loop-f.marks.items ++ marks_from l j) d) ∙ c.loop-f.invariant.marks;
+          ∙ one_put c.loop-f.marks.items c.put.new.marks.items c.put_all_labels.new.marks.items (label_marks_in body (j + 1)) (marks_from rest (j + 1 + labels_in body)) entry put new
+          ∙ sym (ap (λ l. c.loop-f.marks.items ++ marks_from l j) d) ∙ c.loop-f.invariant.marks;
     }
 
 pub returns-clause-marks : goal.returns-clause-marks
 returns-clause-marks c names source h =
     let e : c.loop-f.marks.items ≡ marks_from (file_of c.args.program.now).functions 0 =
-        at_end c.deref-f-items.result.now c.loop-f.f-index c.loop-f.seam c.loop-f.marks.items _ (omega (arith, c.loop-f-test.false)) c.loop-f.invariant.marks in
+    at_end c.deref-f-items.result.now c.loop-f.f-index c.loop-f.seam c.loop-f.marks.items _ (omega (arith, c.loop-f-test.false)) c.loop-f.invariant.marks in
     ap (map mark_of) e ∙ marks_are names source (file_of c.args.program.now) h
 
 pub returns-clause-order : goal.returns-clause-order
 returns-clause-order c source h =
     let e : c.loop-f.marks.items ≡ marks_from (file_of c.args.program.now).functions 0 =
-        at_end c.deref-f-items.result.now c.loop-f.f-index c.loop-f.seam c.loop-f.marks.items _ (omega (arith, c.loop-f-test.false)) c.loop-f.invariant.marks in
+    at_end c.deref-f-items.result.now c.loop-f.f-index c.loop-f.seam c.loop-f.marks.items _ (omega (arith, c.loop-f-test.false)) c.loop-f.invariant.marks in
     subst (λ ms. Ascend 0 (length source) (map mark_of ms)) (sym e) (marks_ascend source (file_of c.args.program.now) h)

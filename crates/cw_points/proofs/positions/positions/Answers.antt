@@ -1,13 +1,7 @@
-use Rattle.std.proofs.Common.{◌≡◌, ℕ, ◌+◌, ◌*◌, ◌<◌, List, [], ◌∷◌, length, map, slice_get, Some, IfOk, OnOk, Result, Ok, Err, ap, ◌∙◌, sym, subst, rules, arith}
-use Rattle.cw_rights.specs.Policies.{PlainPolicy}
-use Rattle.cw_syntax.specs.Trees.{statements_of, file_of, definition_of}
-use Rattle.cw_syntax.specs.Plans.{plan_of}
-use Rattle.cw_model.specs.Boards.{names_of}
-use Rattle.cw_game.specs.declared.ambient.AmbientTest.{AmbientTest}
-use Rattle.cw_game.specs.Ambient.{ambient_game}
+use Rattle.std.proofs.Common.{◌≡◌, ℕ, ◌+◌, List, map, slice_get, Some, ap, ◌∙◌, sym, subst, rules, arith}
+use Rattle.cw_syntax.specs.Trees.{statements_of, file_of}
 use Rattle.cw_game.specs.Laid.{Laid}
-use Rattle.cw_game.specs.Places.{IsLaidOut}
-use Rattle.cw_points.specs.First.{points, points_in, points_from, label_count, labels_in, labels_from}
+use Rattle.cw_points.specs.First.{points, points_in, points_from}
 use Rattle.cw_points.specs.Layout.{size_all, layout_body}
 use Rattle.cw_points.proofs.Lengths.{size_all_is, labels_all_few}
 use Rattle.cw_points.proofs.LaidGraph.{laid_graph}
@@ -48,4 +42,4 @@ returns-in-Some-clause-laid_out c =
     let m = the_main items h.main c.in-Some.main.now h.functions at in
     let b : statements_of c.deref-in-Some.result.now ≡ h.main.body = ap statements_of c.deref-in-Some.ensures.value ∙ ap (λ d. d.body) m in
     if_ok c.positions_of.result c.positions_of.ensures (λ nodes e policy tests none same.
-      lays policy tests c.args.source.now (file_of c.args.program.now) nodes.items h none (e ∙ ap (layout_body c.args.source.now names) b ∙ sym (ap (λ l. layout_body c.args.source.now l h.main.body) same)))
+    lays policy tests c.args.source.now (file_of c.args.program.now) nodes.items h none (e ∙ ap (layout_body c.args.source.now names) b ∙ sym (ap (λ l. layout_body c.args.source.now l h.main.body) same)))
