@@ -1,0 +1,6 @@
+-- The proofs.
+pub mod Bools
+pub mod Cutting
+pub mod Fronts
+pub mod Parsing
+pub mod Running

@@ -1,0 +1,6 @@
+-- The definitions.
+pub mod Faults
+pub mod Grammar
+pub mod Machine
+pub mod Meaning
+pub mod Parts
