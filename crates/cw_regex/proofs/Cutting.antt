@@ -19,7 +19,7 @@ parts_blank b t e = rw e refl
 pub parts_mark : (b : ℕ) (t : List ℕ) → is_blank b ≡ false → is_name_byte b ≡ false → parts (b ∷ t) ≡ mark (mark_of b) ∷ parts t
 parts_mark b t e f = rw (e, f) refl
 
-parts_byte : (b : ℕ) (t : List ℕ) → is_name_byte b ≡ true → parts (b ∷ t) ≡ grown b (begins_word t) (parts t)
+pub parts_byte : (b : ℕ) (t : List ℕ) → is_name_byte b ≡ true → parts (b ∷ t) ≡ grown b (begins_word t) (parts t)
 parts_byte b t e = let f = word_no_blank b e in rw (f, e) refl
 
 -- a word that ends there

@@ -16,7 +16,7 @@ use Rattle.cw_regex.proofs.Cutting.{ends_word, Apart, parts_cut}
 use Rattle.cw_regex.proofs.Running.{after_subject, after, expression_end, run_word, run_expression, run_test, run_close}
 use Rattle.cw_regex.proofs.Parsing.{parsed}
 
-abbrev At : Type 0
+abbrev pub At : Type 0
 At = Phase × ℕ
 
 pub run_append : (alone : Bool) (xs ys : List Part) (q r : Phase) (d e : ℕ) → run alone q d xs ≡ Some (r, e) → run alone q d (xs ++ ys) ≡ run alone r e ys
@@ -119,7 +119,7 @@ closing_runs q (suc d) e =
     let x = closing_runs Whole d refl in
     (x.0, subst (λ n. run false q n (mark ParenClose ∷ parts (closing d)) ≡ run false Whole d (parts (closing d))) (add-one d) (run_close q d (parts (closing d)) e) ∙ x.1, x.2)
 
-apart_begins : (s t : List ℕ) → begins_word t ≡ false → Apart s t
+pub apart_begins : (s t : List ℕ) → begins_word t ≡ false → Apart s t
 apart_begins s t e = by (ends_word s)
   where
     by : (b : Bool) → (b && begins_word t) ≡ false
@@ -129,7 +129,7 @@ apart_begins s t e = by (ends_word s)
 apart_ends : (s t : List ℕ) → ends_word s ≡ false → Apart s t
 apart_ends s t e = rw e refl
 
-ends_append : (s : List ℕ) (b : ℕ) (t : List ℕ) → ends_blank (s ++ b ∷ t) ≡ ends_blank (b ∷ t)
+pub ends_append : (s : List ℕ) (b : ℕ) (t : List ℕ) → ends_blank (s ++ b ∷ t) ≡ ends_blank (b ∷ t)
 ends_append [] b t = refl
 ends_append (a ∷ []) b t = refl
 ends_append (a ∷ (c ∷ s)) b t = ends_append (c ∷ s) b t
@@ -166,7 +166,7 @@ some_tail Descriptor rest = (_, _, refl)
 some_tail Colon rest = (_, _, refl)
 some_tail Right rest = (_, _, refl)
 
-starts_append : (s t : List ℕ) → starts_blank s ≡ false → (s ≡ [] → starts_blank t ≡ false) → starts_blank (s ++ t) ≡ false
+pub starts_append : (s t : List ℕ) → starts_blank s ≡ false → (s ≡ [] → starts_blank t ≡ false) → starts_blank (s ++ t) ≡ false
 starts_append [] t e f = f refl
 starts_append (b ∷ s) t e f = e
 

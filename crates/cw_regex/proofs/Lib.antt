@@ -4,3 +4,4 @@ pub mod Cutting
 pub mod Fronts
 pub mod Parsing
 pub mod Running
+pub mod Scanned
