@@ -3,6 +3,7 @@ use Rattle.std.proofs.Common.{◌≡◌, ◌⊎◌, inl, inr, ⊎_elim, ℕ, ◌
 use Rattle.std.specs.List.{list_all}
 use Rattle.cw_rights.specs.Valid.{is_name_byte}
 use Rattle.cw_regex.specs.Parts.{Part, word, mark, is_blank, mark_of, begins_word, grown, parts, Placed, grown_at, placed}
+use Rattle.cw_regex.specs.Scans.{ends_word, Apart}
 use Rattle.cw_regex.proofs.Bools.{or_cases, and_left, and_right, and_both, which}
 
 -- a byte of a word is no blank
@@ -46,16 +47,6 @@ placed_word n b (c ∷ w) t a e =
     let first : is_name_byte c ≡ true = and_left (is_name_byte c) (list_all is_name_byte w) more in
     let far : (n + 1) + length (c ∷ w) ≡ n + length (b ∷ (c ∷ w)) = omega arith in
     placed_byte n b ((c ∷ w) ++ t) (and_left (is_name_byte b) (list_all is_name_byte (c ∷ w)) a) ∙ ap₂ (grown_at n b) first (placed_word (n + 1) c w t more e ∙ ap (λ m. record { at = n + 1; part = word (c ∷ w) } ∷ placed m t) far)
-
--- whether the last byte is one of a word
-abbrev pub ends_word : List ℕ → Bool
-ends_word [] = false
-ends_word (b ∷ []) = is_name_byte b
-ends_word (b ∷ (c ∷ s)) = ends_word (c ∷ s)
-
--- no word goes on from the one side into the other
-abbrev pub Apart : List ℕ → List ℕ → Type 0
-Apart s t = (ends_word s && begins_word t) ≡ false
 
 -- a text that begins with a word byte has a word first
 begins_is : (c : ℕ) (s : List ℕ) → is_name_byte c ≡ true → (w : List ℕ) × (ps : List Part) × (parts (c ∷ s) ≡ word w ∷ ps)

@@ -6,13 +6,14 @@ use Rattle.std.proofs.lemmas.Slice.Eq.{bytes_eq-Decides}
 use Rattle.cw_rights.specs.Valid.{is_name}
 use Rattle.cw_regex.specs.declared.text.Mark.{Mark}
 use Rattle.cw_regex.specs.declared.text.Mark.TheVariants.{Dot, ParenOpen, ParenClose, Bar, Star, Plus, Question, BracketOpen, BracketClose, Bang, Colon as ColonMark, Comma, Other}
-use Rattle.cw_regex.specs.declared.text.Phase.{Phase}
-use Rattle.cw_regex.specs.declared.text.Phase.TheVariants.{Begin, Label, Whole, Repeated, Test, Negated, Ambient, Descriptor, Colon, Right}
+use Rattle.cw_regex.specs.declared.phase.Phase.{Phase}
+use Rattle.cw_regex.specs.declared.phase.Phase.TheVariants.{Begin, Label, Whole, Repeated, Test, Negated, Ambient, Descriptor, Colon, Right}
 use Rattle.cw_regex.specs.Parts.{Part, word, mark, is_blank, begins_word, parts, starts_blank, ends_blank}
 use Rattle.cw_regex.specs.Grammar.{is_descriptor, amb, Name, DescriptorName, Subject, ambient, holds, TestForm, Expression, spelled_subject, spelled_if, spelled_test, spelled, IsMadeOf, IsExpression, IsTest}
 use Rattle.cw_regex.specs.Machine.{in_test, step_word, takes_atom, is_end, is_test_end, step, run, start, ends_here, In}
 use Rattle.cw_regex.proofs.Bools.{which, and_left, and_right, and_both}
-use Rattle.cw_regex.proofs.Cutting.{ends_word, Apart, parts_cut}
+use Rattle.cw_regex.proofs.Cutting.{parts_cut}
+use Rattle.cw_regex.specs.Scans.{ends_word, Apart, May}
 use Rattle.cw_regex.proofs.Running.{after_subject, after, expression_end, run_word, run_expression, run_test, run_close}
 use Rattle.cw_regex.proofs.Parsing.{parsed}
 
@@ -529,10 +530,6 @@ front_test (c ∷ s) q d b h e =
     let goes : run true Test 0 (parts ((c ∷ s) ++ more)) ≡ Some (Right, d) = ap (run true Test 0) cut ∙ run_append true (parts (c ∷ s)) (parts more) Test q 0 d h ∙ test_tail_runs q d t in
     let x = alone_test 0 (parts ((c ∷ s) ++ more)) (Right, d, goes, refl) in
     (more, (x.0, record { parts = x.1; front = b; back = test_tail_ends (c ∷ s) q t e }))
-
--- both at once
-abbrev pub May : Bool → Phase → List ℕ → Type 0
-May alone q s = alone ≡ true → q ≡ Right → ends_blank s ≡ false
 
 pub front_of : (alone : Bool) (s : List ℕ) (q : Phase) (d : ℕ) → starts_blank s ≡ false → run alone (start alone) 0 (parts s) ≡ Some (q, d) → May alone q s → (rest : List ℕ) × In alone (s ++ rest)
 front_of true s q d b h m = front_test s q d b h (m refl)

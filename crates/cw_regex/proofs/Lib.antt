@@ -3,5 +3,7 @@ pub mod Bools
 pub mod Cutting
 pub mod Fronts
 pub mod Parsing
+pub mod Placing
 pub mod Running
+pub mod Runs
 pub mod Scanned

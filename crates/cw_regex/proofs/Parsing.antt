@@ -5,13 +5,13 @@ use Rattle.std.proofs.lemmas.Slice.Eq.{bytes_eq-Decides}
 use Rattle.cw_rights.specs.Valid.{is_name}
 use Rattle.cw_regex.specs.declared.text.Mark.{Mark}
 use Rattle.cw_regex.specs.declared.text.Mark.TheVariants.{Dot, ParenOpen, ParenClose, Bar, Star, Plus, Question, BracketOpen, BracketClose, Bang, Colon as ColonMark, Comma, Other}
-use Rattle.cw_regex.specs.declared.text.Phase.{Phase}
-use Rattle.cw_regex.specs.declared.text.Phase.TheVariants.{Begin, Label, Whole, Repeated, Test, Negated, Ambient, Descriptor, Colon, Right}
+use Rattle.cw_regex.specs.declared.phase.Phase.{Phase}
+use Rattle.cw_regex.specs.declared.phase.Phase.TheVariants.{Begin, Label, Whole, Repeated, Test, Negated, Ambient, Descriptor, Colon, Right}
 use Rattle.cw_regex.specs.Parts.{Part, word, mark}
 use Rattle.cw_regex.specs.Grammar.{is_descriptor, amb, Name, DescriptorName, Subject, ambient, holds, TestForm, Expression, only, either, Term, single, then, Factor, plain, star, plus, maybe, Atom, literal, group, spelled_subject, spelled_if, spelled_test, spelled_more, spelled_tests, spelled_label, spelled, spelled_term, spelled_factor, spelled_atom}
-use Rattle.cw_regex.specs.Machine.{in_test, step_word, takes_atom, is_end, step, run}
+use Rattle.cw_regex.specs.Machine.{is_test_start, in_test, step_word, takes_atom, is_end, step, run}
 use Rattle.cw_regex.proofs.Bools.{which}
-use Rattle.cw_regex.proofs.Running.{after_subject, after_atom, after_factor, is_test_start, is_atom_end, factor_end, takes_of_end, run_word, run_open, run_label, run_again, atom_end}
+use Rattle.cw_regex.proofs.Running.{after_subject, after_atom, after_factor, is_atom_end, factor_end, takes_of_end, run_word, run_open, run_label, run_again, atom_end}
 
 -- from here the rest runs through
 abbrev pub Good : Phase → ℕ → List Part → Type 0

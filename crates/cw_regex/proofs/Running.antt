@@ -4,11 +4,11 @@ use Rattle.std.specs.Option.{option_map}
 use Rattle.std.specs.Str.{bytes_eq}
 use Rattle.cw_rights.specs.Valid.{is_name}
 use Rattle.cw_regex.specs.declared.text.Mark.TheVariants.{Dot, ParenOpen, ParenClose, Bar, Star, Plus, Question, BracketOpen, BracketClose, Bang, Colon as ColonMark, Comma, Other}
-use Rattle.cw_regex.specs.declared.text.Phase.{Phase}
-use Rattle.cw_regex.specs.declared.text.Phase.TheVariants.{Begin, Label, Whole, Repeated, Test, Negated, Ambient, Descriptor, Colon, Right}
+use Rattle.cw_regex.specs.declared.phase.Phase.{Phase}
+use Rattle.cw_regex.specs.declared.phase.Phase.TheVariants.{Begin, Label, Whole, Repeated, Test, Negated, Ambient, Descriptor, Colon, Right}
 use Rattle.cw_regex.specs.Parts.{Part, word, mark}
 use Rattle.cw_regex.specs.Grammar.{is_descriptor, amb, Name, DescriptorName, Subject, ambient, holds, TestForm, Expression, only, either, Term, single, then, Factor, plain, star, plus, maybe, Atom, literal, group, spelled_subject, spelled_if, spelled_test, spelled_more, spelled_tests, spelled_label, spelled, spelled_term, spelled_factor, spelled_atom}
-use Rattle.cw_regex.specs.Machine.{in_test, step_word, takes_atom, is_end, step, run}
+use Rattle.cw_regex.specs.Machine.{is_test_start, in_test, step_word, takes_atom, is_end, step, run}
 use Rattle.cw_regex.proofs.Bools.{which}
 
 -- the phase after each
@@ -83,12 +83,6 @@ term_end (then f t) = term_end t
 pub expression_end : (e : Expression) → is_end (after e) ≡ true
 expression_end (only t) = term_end t
 expression_end (either t e) = expression_end e
-
--- a phase in which a test may come, after `!` or not
-abbrev pub is_test_start : Phase → Bool
-is_test_start Test = true
-is_test_start Negated = true
-is_test_start q = false
 
 in_test_either : (w : List ℕ) → is_descriptor w ≡ true → (in_test w ≡ Some Ambient) ⊎ (in_test w ≡ Some Descriptor)
 in_test_either w e = by (which (bytes_eq w amb))

@@ -6,25 +6,16 @@ use Rattle.std.specs.Str.{bytes_eq}
 use Rattle.cw_rights.specs.Valid.{is_name_start, is_name_byte, is_name}
 use Rattle.cw_regex.specs.declared.text.Mark.{Mark}
 use Rattle.cw_regex.specs.declared.text.Mark.TheVariants.{Dot, ParenOpen, ParenClose, Bar, Star, Plus, Question, BracketOpen, BracketClose, Bang, Colon as ColonMark, Comma, Other}
-use Rattle.cw_regex.specs.declared.text.Phase.{Phase}
-use Rattle.cw_regex.specs.declared.text.Phase.TheVariants.{Begin, Label, Whole, Repeated, Test, Negated, Ambient, Descriptor, Colon, Right}
+use Rattle.cw_regex.specs.declared.phase.Phase.{Phase}
+use Rattle.cw_regex.specs.declared.phase.Phase.TheVariants.{Begin, Label, Whole, Repeated, Test, Negated, Ambient, Descriptor, Colon, Right}
 use Rattle.cw_regex.specs.Parts.{Part, word, mark, is_blank, mark_of, begins_word, grown, parts, starts_blank, ends_blank}
 use Rattle.cw_regex.specs.Grammar.{is_digit, is_descriptor, amb, IsFaultAt}
-use Rattle.cw_regex.specs.Machine.{in_test, step_word, step_mark, closed_one, takes_atom, is_end, step, run, start, ends_here, In, deepest}
+use Rattle.cw_regex.specs.Machine.{is_test_start, kept, in_test, step_word, step_mark, closed_one, takes_atom, is_end, step, run, start, ends_here, In, deepest}
 use Rattle.cw_regex.proofs.Bools.{which, or_cases, and_left, and_right}
-use Rattle.cw_regex.proofs.Cutting.{word_no_blank, parts_blank, parts_mark, parts_byte, parts_word, ends_word, Apart, parts_cut}
-use Rattle.cw_regex.proofs.Fronts.{At, run_append, apart_begins, ends_append, starts_append, May, front_of, runs, accepted, rejected, stuck_part}
-use Rattle.cw_regex.proofs.Running.{is_test_start}
-
--- s was read, t is left
-pub record Scan (alone : Bool) (s t : List ℕ) (q : Phase) (d most : ℕ) : Type 0 where
-  pub runs : run alone (start alone) 0 (parts s) ≡ Some (q, d)
-  pub apart : Apart s t
-  pub front : starts_blank s ≡ false
-  pub may : May alone q s
-  pub deep : max most (deepest d (parts t)) ≡ deepest 0 (parts (s ++ t))
-  pub within : d ≤ most
-  pub few : most ≤ length s
+use Rattle.cw_regex.proofs.Cutting.{word_no_blank, parts_blank, parts_mark, parts_byte, parts_word, parts_cut}
+use Rattle.cw_regex.specs.Scans.{ends_word, Apart, May, Scan}
+use Rattle.cw_regex.proofs.Runs.{take_front}
+use Rattle.cw_regex.proofs.Fronts.{At, run_append, apart_begins, ends_append, starts_append, front_of, runs, accepted, rejected, stuck_part}
 
 pub scan_start : (alone : Bool) (t : List ℕ) → Scan alone [] t (start alone) 0 0
 scan_start alone t = record {
@@ -233,10 +224,6 @@ abbrev pub Stuck : Bool → List ℕ → List ℕ → Type 0
 Stuck alone s [] = In alone s → ⊥
 Stuck alone s (b ∷ u) = (rest : List ℕ) → In alone (s ++ b ∷ rest) → ⊥
 
-take_front : (s u : List ℕ) → take (length s) (s ++ u) ≡ s
-take_front [] u = refl
-take_front (b ∷ s) u = ap (λ l. b ∷ l) (take_front s u)
-
 take_one : (s : List ℕ) (b : ℕ) (u : List ℕ) → take (length s + 1) (s ++ b ∷ u) ≡ s ++ b ∷ []
 take_one [] b u = refl
 take_one (a ∷ s) b u = let e : length (a ∷ s) + 1 ≡ suc (length s + 1) = omega arith in rw e (ap (λ l. a ∷ l) (take_one s b u))
@@ -318,10 +305,6 @@ begins_with c rest e = by (begins_word rest) (parts rest) (parts_byte c rest e)
 
 begins_two : (c b : ℕ) (rest : List ℕ) → is_name_byte c ≡ true → is_name_byte b ≡ true → (w : List ℕ) × (ps : List Part) × (parts (c ∷ (b ∷ rest)) ≡ word (c ∷ (b ∷ w)) ∷ ps)
 begins_two c b rest e f = let x = begins_with b rest f in (x.0, x.1, parts_byte c (b ∷ rest) e ∙ ap₂ (grown c) f x.2)
-
--- a digit that may name a descriptor, where a test may come
-abbrev pub kept : Phase → ℕ → Bool
-kept q c = is_test_start q && is_digit (c ∷ [])
 
 no_start : (c : ℕ) (w : List ℕ) → list_all is_name_byte w ≡ true → is_name (c ∷ w) ≡ false → is_name_start c ≡ false
 no_start c w a e = by (is_name_start c) (subst (λ x. (is_name_start c && x) ≡ false) a e)

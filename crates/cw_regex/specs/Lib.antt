@@ -4,3 +4,5 @@ pub mod Grammar
 pub mod Machine
 pub mod Meaning
 pub mod Parts
+pub mod Pieces
+pub mod Scans

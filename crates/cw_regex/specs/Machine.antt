@@ -5,10 +5,10 @@ use Rattle.std.specs.Str.{bytes_eq}
 use Rattle.cw_rights.specs.Valid.{is_name}
 use Rattle.cw_regex.specs.declared.text.Mark.{Mark}
 use Rattle.cw_regex.specs.declared.text.Mark.TheVariants.{Dot, ParenOpen, ParenClose, Bar, Star, Plus, Question, BracketOpen, BracketClose, Bang, Colon as ColonMark, Comma, Other}
-use Rattle.cw_regex.specs.declared.text.Phase.{Phase}
-use Rattle.cw_regex.specs.declared.text.Phase.TheVariants.{Begin, Label, Whole, Repeated, Test, Negated, Ambient, Descriptor, Colon, Right}
+use Rattle.cw_regex.specs.declared.phase.Phase.{Phase}
+use Rattle.cw_regex.specs.declared.phase.Phase.TheVariants.{Begin, Label, Whole, Repeated, Test, Negated, Ambient, Descriptor, Colon, Right}
 use Rattle.cw_regex.specs.Parts.{Part, word, mark}
-use Rattle.cw_regex.specs.Grammar.{is_descriptor, amb, IsExpression, IsTest}
+use Rattle.cw_regex.specs.Grammar.{is_digit, is_descriptor, amb, IsExpression, IsTest}
 
 abbrev pub in_test : List ℕ → Option Phase
 in_test w = cond (bytes_eq w amb) (Some Ambient) (cond (is_descriptor w) (Some Descriptor) None)
@@ -91,6 +91,16 @@ deepest d (word w ∷ rest) = deepest d rest
 deepest d (mark ParenOpen ∷ rest) = max d (deepest (d + 1) rest)
 deepest d (mark ParenClose ∷ rest) = max d (deepest (d - 1) rest)
 deepest d (mark m ∷ rest) = deepest d rest
+
+-- a test may come, after `!` or not
+abbrev pub is_test_start : Phase → Bool
+is_test_start Test = true
+is_test_start Negated = true
+is_test_start q = false
+
+-- a digit that may name a descriptor, where a test may come
+abbrev pub kept : Phase → ℕ → Bool
+kept q c = is_test_start q && is_digit (c ∷ [])
 
 -- an expression, or a test by itself
 abbrev pub In : Bool → List ℕ → Type 0

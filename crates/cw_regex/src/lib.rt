@@ -1,4 +1,6 @@
 //! Regular expressions and tests of policies, read from their texts.
 #![tactic(auto)]
 
+mod phase;
+mod scan;
 mod text;

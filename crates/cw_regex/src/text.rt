@@ -1,5 +1,11 @@
 //! The parts of a text: words of letters, digits and `_`, and marks.
 
+ghost use Rattle.std.specs.Prelude.{◌≡◌, ◌+◌, ◌-◌, ◌<◌, ◌≤◌, true, false, length, take, drop, slice_index};
+ghost use Rattle.std.specs.List.{list_all};
+ghost use Rattle.cw_rights.specs.Valid.{is_name_start, is_name_byte, is_name};
+ghost use Rattle.cw_regex.specs.Parts.{is_blank, mark_of, begins_word, ends_blank};
+ghost use Rattle.cw_regex.specs.Pieces.{IsPiece};
+
 /// A byte that is no blank and in no word.
 #[derive(Clone, Copy, Drop, PartialEq, Eq)]
 pub enum Mark {
@@ -18,27 +24,106 @@ pub enum Mark {
     Other,
 }
 
-/// What was read last, as far as it tells what may come.
-#[derive(Clone, Copy, Drop, PartialEq, Eq)]
-pub enum Phase {
-    /// Nothing yet, or `(` or `|`: an atom comes.
-    Begin,
-    /// `.` or a label.
-    Label,
-    /// `]` or `)`.
-    Whole,
-    /// `*`, `+` or `?`.
-    Repeated,
-    /// `[` or `,`: a test comes.
-    Test,
-    /// `!` of a test.
-    Negated,
-    /// `amb` in a test.
-    Ambient,
-    /// Another name or a digit in a test: `:` comes.
-    Descriptor,
-    /// `:` in a test: a right comes.
-    Colon,
-    /// A right.
-    Right,
+fn is_blank(byte: u8) -> bool
+    ensures { result ≡ is_blank byte }
+{
+    byte == b' ' || byte == b'\t'
+}
+
+fn is_name_start(byte: u8) -> bool
+    ensures { result ≡ is_name_start byte }
+{
+    byte >= b'A' && byte <= b'Z' || byte >= b'a' && byte <= b'z' || byte == b'_'
+}
+
+fn is_name_byte(byte: u8) -> bool
+    ensures { result ≡ is_name_byte byte }
+{
+    is_name_start(byte) || byte >= b'0' && byte <= b'9'
+}
+
+/// Whether a word has the form of a C name.
+pub fn is_name(word: &[u8]) -> bool
+    ensures { result ≡ is_name word.now }
+{
+    match word {
+        [] => false,
+        [first, rest @ ..] => is_name_start(*first) && all_name_bytes(rest),
+    }
+}
+
+fn all_name_bytes(bytes: &[u8]) -> bool
+    ensures { result ≡ list_all is_name_byte bytes.now }
+{
+    bytes.iter().all(|b| is_name_byte(*b))
+}
+
+fn mark_of(byte: u8) -> Mark
+    ensures { result ≡ mark_of byte }
+{
+    match byte {
+        b'.' => Mark::Dot,
+        b'(' => Mark::ParenOpen,
+        b')' => Mark::ParenClose,
+        b'|' => Mark::Bar,
+        b'*' => Mark::Star,
+        b'+' => Mark::Plus,
+        b'?' => Mark::Question,
+        b'[' => Mark::BracketOpen,
+        b']' => Mark::BracketClose,
+        b'!' => Mark::Bang,
+        b':' => Mark::Colon,
+        b',' => Mark::Comma,
+        _ => Mark::Other,
+    }
+}
+
+fn word_end(text: &[u8], at: usize) -> usize
+    requires inside { at < length text.now }
+    requires begins { is_name_byte (slice_index text.now at) ≡ true }
+    ensures after { at < result }
+    ensures within { result ≤ length text.now }
+    ensures word { list_all is_name_byte (take (result - at) (drop at text.now)) ≡ true }
+    ensures stop { begins_word (drop result text.now) ≡ false }
+{
+    for end in at + 1..text.len() {
+        if !is_name_byte(text[end]) {
+            return end;
+        }
+    }
+    text.len()
+}
+
+/// What stands at a place of a text: a blank, a word up to a place, or a mark.
+#[derive(Clone, Copy, Drop)]
+pub enum Piece {
+    Blank,
+    Word(usize),
+    Mark(Mark),
+}
+
+/// What stands at a place.
+pub fn piece_at(text: &[u8], at: usize) -> Piece
+    requires { at < length text.now }
+    ensures { IsPiece text.now at result }
+{
+    let byte = text[at];
+    if is_blank(byte) {
+        return Piece::Blank;
+    }
+    if is_name_byte(byte) {
+        return Piece::Word(word_end(text, at));
+    }
+    Piece::Mark(mark_of(byte))
+}
+
+/// Whether the last byte of a text is a blank.
+#[tactic(auto, using(crate::proofs::Runs::ends_last))]
+pub fn ends_blank(text: &[u8]) -> bool
+    ensures { result ≡ ends_blank text.now }
+{
+    if text.is_empty() {
+        return false;
+    }
+    is_blank(text[text.len() - 1])
 }
