@@ -1,7 +1,9 @@
 -- The proofs.
 pub mod Bools
+pub mod Comings
 pub mod Cutting
 pub mod Fronts
+pub mod Numbers
 pub mod Parsing
 pub mod Placing
 pub mod Running

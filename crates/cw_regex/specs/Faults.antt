@@ -4,12 +4,10 @@ use Rattle.std.specs.List.{list_any}
 use Rattle.std.specs.Str.{bytes_eq}
 use Rattle.cw_regex.specs.declared.text.Mark.{Mark}
 use Rattle.cw_regex.specs.declared.text.Mark.TheVariants.{Dot, ParenOpen, ParenClose, Bar, Star, Plus, Question, BracketOpen, BracketClose, Bang, Colon, Comma, Other}
+use Rattle.cw_regex.specs.declared.unknown.Unknown.{Unknown}
+use Rattle.cw_regex.specs.declared.unknown.Unknown.TheVariants.{Descriptor, Right}
 use Rattle.cw_regex.specs.Parts.{Part, word, mark, Placed}
-use Rattle.cw_regex.specs.Meaning.{right_names}
-
-pub data Unknown : Type 0 where
-  descriptor : ℕ → Unknown
-  right : ℕ → Unknown
+use Rattle.cw_regex.specs.Meaning.{is_right}
 
 abbrev pub is_known : List (List ℕ) → List ℕ → Bool
 is_known names w = list_any (bytes_eq w) names
@@ -28,8 +26,8 @@ colon_next (p ∷ rest) = is_colon_part p.part
 
 -- `after`: the part before was `:`
 abbrev pub unknown_word : List (List ℕ) → Bool → Bool → ℕ → List ℕ → Option Unknown
-unknown_word descriptors true before n w = cond (is_known right_names w) None (Some (right n))
-unknown_word descriptors false before n w = cond (before && not (is_known descriptors w)) (Some (descriptor n)) None
+unknown_word descriptors true before n w = cond (is_right w) None (Some (Right n))
+unknown_word descriptors false before n w = cond (before && not (is_known descriptors w)) (Some (Descriptor n)) None
 
 abbrev pub unknown_part : List (List ℕ) → Bool → Bool → ℕ → Part → Option Unknown
 unknown_part descriptors after before n (word w) = unknown_word descriptors after before n w

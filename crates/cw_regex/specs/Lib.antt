@@ -6,3 +6,4 @@ pub mod Meaning
 pub mod Parts
 pub mod Pieces
 pub mod Scans
+pub mod Tokens

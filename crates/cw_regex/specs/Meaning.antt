@@ -1,5 +1,5 @@
 -- What an expression and a test mean: the tree, with numbers for names.
-use Rattle.std.specs.Prelude.{ℕ, List, [], ◌∷◌, ◌++◌, map, Bool, true, false, cond, not, Option, Some, None, codes, fold, position, unwrap_or}
+use Rattle.std.specs.Prelude.{ℕ, List, [], ◌∷◌, ◌++◌, map, Bool, true, false, cond, not, Option, Some, None, codes, fold, position, unwrap_or, is_some}
 use Rattle.std.specs.Option.{option_map}
 use Rattle.std.specs.List.{list_any}
 use Rattle.std.specs.Str.{bytes_eq}
@@ -9,10 +9,29 @@ use Rattle.cw_rights.specs.declared.policy.Descriptor.{Descriptor}
 use Rattle.cw_rights.specs.Trees.{Literal, Tree, nothing, never, one, seq, alt, star as star_of, plus as plus_of, maybe as maybe_of}
 use Rattle.cw_regex.specs.Grammar.{Name, Subject, ambient, holds, TestForm, Expression, only, either, Term, single, then, Factor, plain, star, plus, maybe, Atom, literal, group}
 
--- the twelve rights in the order of their numbers: rights(4)
-abbrev pub right_names : List (List ℕ)
-right_names =
-    codes "CAP_READ" ∷ codes "CAP_WRITE" ∷ codes "CAP_SEEK" ∷ codes "CAP_FSTAT" ∷ codes "CAP_FTRUNCATE" ∷ codes "CAP_FSYNC" ∷ codes "CAP_FCNTL" ∷ codes "CAP_IOCTL" ∷ codes "CAP_EVENT" ∷ codes "CAP_ACCEPT" ∷ codes "CAP_LISTEN" ∷ codes "CAP_LOOKUP" ∷ []
+-- the number of a right: rights(4), in this project's order
+abbrev pub later_right_number : List ℕ → Option ℕ
+later_right_number w =
+    cond (bytes_eq w (codes "CAP_FCNTL")) (Some 6) (
+    cond (bytes_eq w (codes "CAP_IOCTL")) (Some 7) (
+    cond (bytes_eq w (codes "CAP_EVENT")) (Some 8) (
+    cond (bytes_eq w (codes "CAP_ACCEPT")) (Some 9) (
+    cond (bytes_eq w (codes "CAP_LISTEN")) (Some 10) (
+    cond (bytes_eq w (codes "CAP_LOOKUP")) (Some 11) (
+    None))))))
+
+abbrev pub right_number : List ℕ → Option ℕ
+right_number w =
+    cond (bytes_eq w (codes "CAP_READ")) (Some 0) (
+    cond (bytes_eq w (codes "CAP_WRITE")) (Some 1) (
+    cond (bytes_eq w (codes "CAP_SEEK")) (Some 2) (
+    cond (bytes_eq w (codes "CAP_FSTAT")) (Some 3) (
+    cond (bytes_eq w (codes "CAP_FTRUNCATE")) (Some 4) (
+    cond (bytes_eq w (codes "CAP_FSYNC")) (Some 5) (
+    later_right_number w))))))
+
+abbrev pub is_right : List ℕ → Bool
+is_right w = is_some (right_number w)
 
 -- the place of a name in a list, and 0 where it isn't there
 abbrev pub number_in : List (List ℕ) → List ℕ → ℕ
@@ -23,7 +42,7 @@ names_of descriptors = map (λ d. d.name.items) descriptors
 
 abbrev pub subject_meaning : List (List ℕ) → Subject → Test
 subject_meaning descriptors ambient = Amb
-subject_meaning descriptors (holds d r) = Holds (number_in descriptors d.bytes) (number_in right_names r.bytes)
+subject_meaning descriptors (holds d r) = Holds (number_in descriptors d.bytes) (unwrap_or (right_number r.bytes) 0)
 
 -- the wanted truth and the test
 abbrev pub test_meaning : List (List ℕ) → TestForm → Bool × Test

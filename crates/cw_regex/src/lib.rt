@@ -4,3 +4,4 @@
 mod phase;
 mod scan;
 mod text;
+mod unknown;

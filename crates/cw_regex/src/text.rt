@@ -3,7 +3,9 @@
 ghost use Rattle.std.specs.Prelude.{◌≡◌, ◌+◌, ◌-◌, ◌<◌, ◌≤◌, true, false, length, take, drop, slice_index};
 ghost use Rattle.std.specs.List.{list_all};
 ghost use Rattle.cw_rights.specs.Valid.{is_name_start, is_name_byte, is_name};
-ghost use Rattle.cw_regex.specs.Parts.{is_blank, mark_of, begins_word, ends_blank};
+ghost use Rattle.cw_regex.specs.Parts.{is_blank, mark_of, begins_word, ends_blank, placed};
+ghost use Rattle.cw_regex.specs.Faults.{colon_next};
+ghost use Rattle.cw_regex.specs.Tokens.{IsToken};
 ghost use Rattle.cw_regex.specs.Pieces.{IsPiece};
 
 /// A byte that is no blank and in no word.
@@ -126,4 +128,35 @@ pub fn ends_blank(text: &[u8]) -> bool
         return false;
     }
     is_blank(text[text.len() - 1])
+}
+
+/// The next part of a text: a word from one place to another, or a mark up to a place.
+#[derive(Clone, Copy, Drop)]
+pub enum Token {
+    End,
+    Word { from: usize, to: usize },
+    Mark { mark: Mark, to: usize },
+}
+
+/// The next part from a place on.
+pub fn token_at(text: &[u8], at: usize) -> Token
+    requires { at ≤ length text.now }
+    ensures { IsToken text.now at result }
+{
+    for from in at..text.len() {
+        match piece_at(text, from) {
+            Piece::Blank => {}
+            Piece::Word(to) => return Token::Word { from, to },
+            Piece::Mark(mark) => return Token::Mark { mark, to: from + 1 },
+        }
+    }
+    Token::End
+}
+
+/// Whether the next part is a colon.
+pub fn colon_next(text: &[u8], at: usize) -> bool
+    requires { at ≤ length text.now }
+    ensures { result ≡ colon_next (placed at (drop at text.now)) }
+{
+    matches!(token_at(text, at), Token::Mark { mark: Mark::Colon, .. })
 }
