@@ -10,6 +10,7 @@ use Rattle.cw_regex.specs.declared.phase.Phase.TheVariants.{Begin, Label, Whole,
 use Rattle.cw_regex.specs.Parts.{Part, word, mark}
 use Rattle.cw_regex.specs.Grammar.{is_descriptor, amb, Name, DescriptorName, Subject, ambient, holds, TestForm, Expression, only, either, Term, single, then, Factor, plain, star, plus, maybe, Atom, literal, group, spelled_subject, spelled_if, spelled_test, spelled_more, spelled_tests, spelled_label, spelled, spelled_term, spelled_factor, spelled_atom}
 use Rattle.cw_regex.specs.Machine.{is_test_start, in_test, step_word, takes_atom, is_end, step, run}
+use Rattle.cw_regex.specs.Tokens.{begins_colon, begins_bracket, Settled}
 use Rattle.cw_regex.proofs.Bools.{which}
 use Rattle.cw_regex.proofs.Running.{after_subject, after_atom, after_factor, is_atom_end, factor_end, takes_of_end, run_word, run_open, run_label, run_again, atom_end}
 
@@ -80,15 +81,6 @@ read_descriptor d (mark BracketClose ∷ rest) h = absurd (let e = h.1 in cc)
 read_descriptor d (mark Bang ∷ rest) h = absurd (let e = h.1 in cc)
 read_descriptor d (mark Comma ∷ rest) h = absurd (let e = h.1 in cc)
 read_descriptor d (mark Other ∷ rest) h = absurd (let e = h.1 in cc)
-
-abbrev begins_colon : List Part → Bool
-begins_colon (mark ColonMark ∷ rest) = true
-begins_colon ps = false
-
--- after `amb` and no `:`, a test has ended
-abbrev Settled : Subject → List Part → Type 0
-Settled ambient rest = begins_colon rest ≡ false
-Settled (holds d r) rest = Unit {0}
 
 abbrev SubjectRead : ℕ → List Part → Type 0
 SubjectRead d ps = (s : Subject) × (rest : List Part) × (ps ≡ spelled_subject s rest) × Good (after_subject s) d rest × Settled s rest
@@ -246,10 +238,6 @@ read_more n d ambient (mark Bang ∷ rest) l h t = absurd (let e = h.1 in cc)
 read_more n d (holds a b) (mark Bang ∷ rest) l h t = absurd (let e = h.1 in cc)
 read_more n d ambient (mark Other ∷ rest) l h t = absurd (let e = h.1 in cc)
 read_more n d (holds a b) (mark Other ∷ rest) l h t = absurd (let e = h.1 in cc)
-
-abbrev begins_bracket : List Part → Bool
-begins_bracket (mark BracketOpen ∷ rest) = true
-begins_bracket ps = false
 
 abbrev begins_repeat : List Part → Bool
 begins_repeat (mark Star ∷ rest) = true

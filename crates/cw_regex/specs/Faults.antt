@@ -40,3 +40,7 @@ or_else (Some u) o = Some u
 abbrev pub first_unknown : List (List ℕ) → Bool → List Placed → Option Unknown
 first_unknown descriptors after [] = None
 first_unknown descriptors after (p ∷ rest) = or_else (unknown_part descriptors after (colon_next rest) p.at p.part) (first_unknown descriptors (is_colon_part p.part) rest)
+
+abbrev pub place_of : Unknown → ℕ
+place_of (Descriptor n) = n
+place_of (Right n) = n

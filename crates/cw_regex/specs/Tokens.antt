@@ -1,9 +1,24 @@
 -- The next part from a place of a text on.
-use Rattle.std.specs.Prelude.{◌≡◌, ℕ, ◌-◌, ◌<◌, ◌≤◌, List, [], ◌∷◌, take, drop, length}
+use Rattle.std.specs.Prelude.{◌≡◌, ℕ, Bool, true, false, ◌-◌, ◌<◌, ◌≤◌, List, [], ◌∷◌, take, drop, length}
 use Rattle.cw_regex.specs.declared.text.Mark.{Mark}
 use Rattle.cw_regex.specs.declared.text.Token.{Token}
 use Rattle.cw_regex.specs.declared.text.Token.TheVariants.{End, Word, Mark as MarkToken}
+use Rattle.cw_regex.specs.declared.text.Mark.TheVariants.{Dot, ParenOpen, ParenClose, Bar, Star, Plus, Question, BracketOpen, BracketClose, Bang, Colon, Comma, Other}
+use Rattle.cw_regex.specs.Grammar.{Subject, ambient, holds}
 use Rattle.cw_regex.specs.Parts.{Part, word, mark, parts, Placed, placed}
+
+abbrev pub begins_colon : List Part → Bool
+begins_colon (mark Colon ∷ rest) = true
+begins_colon ps = false
+
+abbrev pub begins_bracket : List Part → Bool
+begins_bracket (mark BracketOpen ∷ rest) = true
+begins_bracket ps = false
+
+-- after `amb` and no `:`, a test has ended
+abbrev pub Settled : Subject → List Part → Type 0
+Settled ambient rest = begins_colon rest ≡ false
+Settled (holds d r) rest = Unit {0}
 
 -- this part comes next, from one place to another
 pub record Comes (text : List ℕ) (at from to : ℕ) (p : Part) : Type 0 where

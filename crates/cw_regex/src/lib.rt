@@ -3,5 +3,6 @@
 
 mod phase;
 mod scan;
+mod test;
 mod text;
 mod unknown;

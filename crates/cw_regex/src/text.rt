@@ -3,9 +3,9 @@
 ghost use Rattle.std.specs.Prelude.{◌≡◌, ◌+◌, ◌-◌, ◌<◌, ◌≤◌, true, false, length, take, drop, slice_index};
 ghost use Rattle.std.specs.List.{list_all};
 ghost use Rattle.cw_rights.specs.Valid.{is_name_start, is_name_byte, is_name};
-ghost use Rattle.cw_regex.specs.Parts.{is_blank, mark_of, begins_word, ends_blank, placed};
+ghost use Rattle.cw_regex.specs.Parts.{is_blank, mark_of, begins_word, ends_blank, parts, placed};
 ghost use Rattle.cw_regex.specs.Faults.{colon_next};
-ghost use Rattle.cw_regex.specs.Tokens.{IsToken};
+ghost use Rattle.cw_regex.specs.Tokens.{IsToken, begins_colon};
 ghost use Rattle.cw_regex.specs.Pieces.{IsPiece};
 
 /// A byte that is no blank and in no word.
@@ -156,7 +156,8 @@ pub fn token_at(text: &[u8], at: usize) -> Token
 /// Whether the next part is a colon.
 pub fn colon_next(text: &[u8], at: usize) -> bool
     requires { at ≤ length text.now }
-    ensures { result ≡ colon_next (placed at (drop at text.now)) }
+    ensures placed { result ≡ colon_next (placed at (drop at text.now)) }
+    ensures part { result ≡ begins_colon (parts (drop at text.now)) }
 {
     matches!(token_at(text, at), Token::Mark { mark: Mark::Colon, .. })
 }

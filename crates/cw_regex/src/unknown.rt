@@ -3,7 +3,7 @@
 ghost use Rattle.std.specs.Prelude.{◌≡◌, ◌<◌, ◌≤◌, false, Some, length, drop, unwrap_or, None, IfOk, IfErr, IfSome, IfNone};
 ghost use Rattle.cw_regex.specs.Parts.{placed};
 ghost use Rattle.cw_regex.specs.Meaning.{right_number, later_right_number, is_right, names_of, number_in};
-ghost use Rattle.cw_regex.specs.Faults.{is_known, unknown_word, first_unknown};
+ghost use Rattle.cw_regex.specs.Faults.{is_known, unknown_word, first_unknown, place_of};
 
 use crate::text::{Mark, Token, colon_next, token_at};
 use cw_rights::Descriptor;
@@ -95,7 +95,8 @@ fn unknown_word(
     from: usize,
     word: &[u8],
 ) -> Option<Unknown>
-    ensures { result ≡ unknown_word (names_of descriptors.now) after before from word.now }
+    ensures is { result ≡ unknown_word (names_of descriptors.now) after before from word.now }
+    ensures place { IfSome result (λ u. place_of u ≡ from) }
 {
     if after {
         return match right_number(word) {
@@ -131,6 +132,7 @@ fn search_token(
         (first_unknown (names_of descriptors.now) so_far.after (placed so_far.at (drop so_far.at text.now)) ≡ None)) }
     ensures unknown { IfErr result (λ u.
         first_unknown (names_of descriptors.now) so_far.after (placed so_far.at (drop so_far.at text.now)) ≡ Some u) }
+    ensures place { IfErr result (λ u. place_of u < length text.now) }
 {
     match token_at(text, so_far.at) {
         Token::End => Ok(None),
@@ -153,7 +155,8 @@ fn search_token(
 
 /// The first name of a text, from the left, that isn't known.
 pub fn first_unknown(text: &[u8], descriptors: &[Descriptor]) -> Option<Unknown>
-    ensures { result ≡ first_unknown (names_of descriptors.now) false (placed 0 text.now) }
+    ensures is { result ≡ first_unknown (names_of descriptors.now) false (placed 0 text.now) }
+    ensures place { IfSome result (λ u. place_of u < length text.now) }
 {
     let mut so_far = Searched {
         at: 0,
