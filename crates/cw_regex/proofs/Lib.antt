@@ -9,3 +9,4 @@ pub mod Placing
 pub mod Running
 pub mod Runs
 pub mod Scanned
+pub mod Subjects

@@ -37,3 +37,51 @@ fn right_after_colon(text: &[u8], at: usize) -> (u8, usize)
         _ => (0, at),
     }
 }
+
+fn subject(text: &[u8], at: usize, descriptors: &[Descriptor]) -> (Test, usize)
+    requires inside { at ≤ length text.now }
+    requires few { length descriptors.now ≤ 8 }
+    ensures within { result.1 ≤ length text.now }
+    ensures read { (s : Subject) (rest : List Part) → parts (drop at text.now) ≡ spelled_subject s rest →
+        Settled s rest → result.0 ≡ subject_meaning (names_of descriptors.now) s }
+    ensures rest { (s : Subject) (rest : List Part) → parts (drop at text.now) ≡ spelled_subject s rest →
+        Settled s rest → parts (drop result.1 text.now) ≡ rest }
+{
+    match token_at(text, at) {
+        Token::Word { from, to } => {
+            if colon_next(text, to) {
+                let (right, end) = right_after_colon(text, to);
+                let descriptor = descriptor_number(descriptors, &text[from..to]);
+                (Test::Holds { descriptor, right }, end)
+            } else {
+                (Test::Amb, to)
+            }
+        }
+        _ => (Test::Amb, at),
+    }
+}
+
+/// Reads a test from a place on: its wanted truth and the test, and the place after it.
+pub fn test(text: &[u8], at: usize, descriptors: &[Descriptor]) -> ((bool, Test), usize)
+    requires inside { at ≤ length text.now }
+    requires few { length descriptors.now ≤ 8 }
+    ensures within { result.1 ≤ length text.now }
+    ensures read { (t : TestForm) (rest : List Part) → parts (drop at text.now) ≡ spelled_test t rest →
+        Settled t.what rest → result.0 ≡ test_meaning (names_of descriptors.now) t }
+    ensures rest { (t : TestForm) (rest : List Part) → parts (drop at text.now) ≡ spelled_test t rest →
+        Settled t.what rest → parts (drop result.1 text.now) ≡ rest }
+{
+    match token_at(text, at) {
+        Token::Mark {
+            mark: Mark::Bang,
+            to,
+        } => {
+            let (read, end) = subject(text, to, descriptors);
+            ((false, read), end)
+        }
+        _ => {
+            let (read, end) = subject(text, at, descriptors);
+            ((true, read), end)
+        }
+    }
+}
