@@ -2,7 +2,10 @@
 #![tactic(auto)]
 
 mod phase;
+mod read;
 mod scan;
 mod test;
 mod text;
 mod unknown;
+
+pub use read::{RegexFault, read_test};
