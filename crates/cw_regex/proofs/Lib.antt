@@ -3,6 +3,8 @@ pub mod Bools
 pub mod Comings
 pub mod Cutting
 pub mod Fronts
+pub mod Labelling
+pub mod Naming
 pub mod Numbers
 pub mod Parsing
 pub mod Placing

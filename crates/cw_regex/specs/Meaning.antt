@@ -7,6 +7,8 @@ use Rattle.cw_rights.specs.declared.words.Test.{Test}
 use Rattle.cw_rights.specs.declared.words.Test.TheVariants.{Amb, Holds}
 use Rattle.cw_rights.specs.declared.policy.Descriptor.{Descriptor}
 use Rattle.cw_rights.specs.Trees.{Literal, Tree, nothing, never, one, seq, alt, star as star_of, plus as plus_of, maybe as maybe_of}
+use Rattle.cw_regex.specs.declared.text.Mark.TheVariants.{Dot, ParenOpen, ParenClose, Bar, Star, Plus, Question, BracketOpen, BracketClose, Bang, Colon, Comma, Other}
+use Rattle.cw_regex.specs.Parts.{Part, word, mark}
 use Rattle.cw_regex.specs.Grammar.{Name, Subject, ambient, holds, TestForm, Expression, only, either, Term, single, then, Factor, plain, star, plus, maybe, Atom, literal, group}
 
 -- the number of a right: rights(4), in this project's order
@@ -125,3 +127,12 @@ with_name names w = cond (list_any (bytes_eq w) names) names (names ++ w ∷ [])
 
 abbrev pub with_names : List (List ℕ) → List (List ℕ) → List (List ℕ)
 with_names names ws = fold with_name names ws
+
+-- the words outside brackets
+abbrev pub labels_in : Bool → List Part → List (List ℕ)
+labels_in inside [] = []
+labels_in false (word w ∷ rest) = w ∷ labels_in false rest
+labels_in true (word w ∷ rest) = labels_in true rest
+labels_in inside (mark BracketOpen ∷ rest) = labels_in true rest
+labels_in inside (mark BracketClose ∷ rest) = labels_in false rest
+labels_in inside (mark m ∷ rest) = labels_in inside rest

@@ -1,6 +1,7 @@
 //! Regular expressions and tests of policies, read from their texts.
 #![tactic(auto)]
 
+mod label;
 mod phase;
 mod read;
 mod scan;
