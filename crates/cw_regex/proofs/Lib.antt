@@ -1,5 +1,6 @@
 -- The proofs.
 pub mod Bools
+pub mod Built
 pub mod Comings
 pub mod Cutting
 pub mod Fronts

@@ -2,6 +2,7 @@
 pub mod Causes
 pub mod Faults
 pub mod Grammar
+pub mod Items
 pub mod Labels
 pub mod Machine
 pub mod Meaning

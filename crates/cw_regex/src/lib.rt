@@ -1,6 +1,7 @@
 //! Regular expressions and tests of policies, read from their texts.
 #![tactic(auto)]
 
+mod build;
 mod label;
 mod phase;
 mod read;
