@@ -1,6 +1,8 @@
 -- The tree that is built of an expression's items is its meaning.
-use Rattle.std.proofs.Common.{◌≡◌, ℕ, List, [], ◌∷◌, ◌++◌, fold, refl, sym, ap, ap₂, ◌∙◌, subst, append_assoc, append-nil}
-use Rattle.cw_rights.specs.Trees.{Tree, one, star as star_of, plus as plus_of, maybe as maybe_of}
+use Rattle.std.proofs.Common.{◌≡◌, ℕ, List, [], ◌∷◌, ◌++◌, fold, map, refl, sym, ap, ap₂, ◌∙◌, subst, append_assoc, append-nil}
+use Rattle.std.proofs.lemmas.List.{map-append}
+use Rattle.cw_rights.specs.declared.words.Regex.{Regex}
+use Rattle.cw_rights.specs.Trees.{tree_of, Tree, one, star as star_of, plus as plus_of, maybe as maybe_of}
 use Rattle.cw_regex.specs.declared.text.Mark.TheVariants.{ParenOpen, ParenClose, Bar, Star, Plus, Question}
 use Rattle.cw_regex.specs.Parts.{Part, mark}
 use Rattle.cw_regex.specs.Grammar.{Name, TestForm, Expression, only, either, Term, single, then, Factor, plain, star, plus, maybe, Atom, literal, group, spelled, spelled_term, spelled_factor, spelled_atom, spelled_label, spelled_tests}
@@ -31,6 +33,9 @@ last_changed : (f : Tree → Tree) (ts : List Tree) (t : Tree) → on_last f (ts
 last_changed f [] t = refl
 last_changed f (u ∷ []) t = refl
 last_changed f (u ∷ (v ∷ ts)) t = ap (λ l. u ∷ l) (last_changed f (v ∷ ts) t)
+
+pub last_mapped : (f : Tree → Tree) (xs : List Regex) (r s : Regex) → tree_of s ≡ f (tree_of r) → map tree_of (xs ++ s ∷ []) ≡ on_last f (map tree_of (xs ++ r ∷ []))
+last_mapped f xs r s e = map-append tree_of xs (s ∷ []) ∙ ap (λ t. map tree_of xs ++ t ∷ []) e ∙ sym (last_changed f (map tree_of xs) (tree_of r)) ∙ ap (on_last f) (sym (map-append tree_of xs (r ∷ [])))
 
 module _ (labels descriptors : List (List ℕ)) where
   abbrev level : List Tree → List Tree → Level

@@ -4,6 +4,7 @@ pub mod Built
 pub mod Comings
 pub mod Cutting
 pub mod Fronts
+pub mod Joining
 pub mod Labelling
 pub mod Naming
 pub mod Numbers

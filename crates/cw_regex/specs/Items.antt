@@ -1,6 +1,7 @@
 -- An expression as a list of items, and the tree that is built of them from left to right.
 use Rattle.std.specs.Prelude.{ℕ, List, [], ◌∷◌, ◌++◌, Option, map, fold, reverse}
-use Rattle.cw_rights.specs.Trees.{Tree, tree_of, one, star as star_of, plus as plus_of, maybe as maybe_of}
+use Rattle.cw_rights.specs.Trees.{Literal, Tree, tree_of, one, star as star_of, plus as plus_of, maybe as maybe_of}
+use Rattle.cw_regex.specs.declared.text.Mark.{Mark}
 use Rattle.cw_regex.specs.declared.text.Mark.TheVariants.{ParenOpen, ParenClose, Bar, Star, Plus, Question}
 use Rattle.cw_regex.specs.declared.build.Frame.{Frame}
 use Rattle.cw_regex.specs.declared.build.Building.{Building}
@@ -80,14 +81,38 @@ closed_into (l ∷ rest) t = record { inner = with_factor l t; outer = rest }
 abbrev pub repeated : (Tree → Tree) → Levels → Levels
 repeated f s = record { inner = record { terms = s.inner.terms; factors = on_last f s.inner.factors }; outer = s.outer }
 
+abbrev pub with_literal : Levels → Literal → Levels
+with_literal s l = record { inner = with_factor s.inner (one l); outer = s.outer }
+
+abbrev pub with_begin : Levels → Levels
+with_begin s = record { inner = empty; outer = s.inner ∷ s.outer }
+
+abbrev pub with_close : Levels → Levels
+with_close s = closed_into s.outer (finished s.inner)
+
+abbrev pub with_bar : Levels → Levels
+with_bar s = record { inner = record { terms = s.inner.terms ++ joined_seq s.inner.factors ∷ []; factors = [] }; outer = s.outer }
+
 abbrev pub put : List (List ℕ) → List (List ℕ) → Levels → Item → Levels
-put labels descriptors s (lit label tests) = record { inner = with_factor s.inner (one (literal_meaning labels descriptors label tests)); outer = s.outer }
-put labels descriptors s begin = record { inner = empty; outer = s.inner ∷ s.outer }
-put labels descriptors s close = closed_into s.outer (finished s.inner)
-put labels descriptors s bar = record { inner = record { terms = s.inner.terms ++ joined_seq s.inner.factors ∷ []; factors = [] }; outer = s.outer }
+put labels descriptors s (lit label tests) = with_literal s (literal_meaning labels descriptors label tests)
+put labels descriptors s begin = with_begin s
+put labels descriptors s close = with_close s
+put labels descriptors s bar = with_bar s
 put labels descriptors s many = repeated star_of s
 put labels descriptors s some = repeated plus_of s
 put labels descriptors s optional = repeated maybe_of s
+
+-- the same by the mark that stands in the text
+abbrev pub repeated_by : Mark → Tree → Tree
+repeated_by Star t = star_of t
+repeated_by Plus t = plus_of t
+repeated_by m t = maybe_of t
+
+abbrev pub with_mark : Levels → Mark → Levels
+with_mark s ParenOpen = with_begin s
+with_mark s ParenClose = with_close s
+with_mark s Bar = with_bar s
+with_mark s m = repeated (repeated_by m) s
 
 abbrev pub put_all : List (List ℕ) → List (List ℕ) → Levels → List Item → Levels
 put_all labels descriptors s is = fold (put labels descriptors) s is
