@@ -2,6 +2,7 @@
 #![tactic(auto)]
 
 mod build;
+mod items;
 mod label;
 mod phase;
 mod read;
