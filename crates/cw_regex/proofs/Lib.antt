@@ -13,4 +13,5 @@ pub mod Placing
 pub mod Running
 pub mod Runs
 pub mod Scanned
+pub mod Stepping
 pub mod Subjects
