@@ -3,6 +3,7 @@ pub mod Bools
 pub mod Built
 pub mod Comings
 pub mod Cutting
+pub mod Depth
 pub mod Fronts
 pub mod Joining
 pub mod Labelling

@@ -11,4 +11,4 @@ mod test;
 mod text;
 mod unknown;
 
-pub use read::{RegexFault, read_test};
+pub use read::{RegexFault, read_regex, read_test};
