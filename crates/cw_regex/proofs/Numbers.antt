@@ -1,0 +1,28 @@
+-- The place of a name.
+use Rattle.std.proofs.Common.{◌≡◌, ◌⊎◌, inl, inr, ℕ, zero, suc, ◌+◌, ◌<◌, ◌≤◌, List, [], ◌∷◌, ◌++◌, Bool, true, false, cond, Option, Some, None, unwrap_or, map, length, drop, get_or, refl, sym, ap, ap₂, ◌∙◌, subst, arith, drop-cons, add-one}
+use Rattle.std.specs.List.{position_from, position, list_any}
+use Rattle.std.specs.Str.{bytes_eq}
+use Rattle.std.proofs.lemmas.Iterator.Adapters.{position_from-zero}
+use Rattle.cw_rights.specs.declared.policy.Descriptor.{Descriptor}
+use Rattle.cw_regex.specs.Meaning.{names_of, number_in}
+
+pub number_is : (names : List (List ℕ)) (w : List ℕ) → number_in names w ≡ unwrap_or (position_from (bytes_eq w) 0 names) 0
+number_is names w = ap (λ o. unwrap_or o 0) (position_from-zero (bytes_eq w) names)
+
+pub drop_item : {A : Type 0} (l : List A) (i : ℕ) (x : A) → i < length l → get_or l i x ≡ x → drop i l ≡ x ∷ drop (i + 1) l
+drop_item l i x lt is = drop-cons l i x lt ∙ ap₂ (λ y z. y ∷ drop z l) is (sym (add-one i))
+
+pub drop_end : {A : Type 0} (l : List A) (n : ℕ) → length l ≤ n → drop n l ≡ []
+drop_end [] zero h = refl
+drop_end [] (suc n) h = refl
+drop_end (x ∷ l) zero h = absurd (omega arith)
+drop_end (x ∷ l) (suc n) h = drop_end l n (omega arith)
+
+-- the search ends at a name, or at the end of the list
+pub found_here : (ds : List Descriptor) (d : Descriptor) (rest : List Descriptor) (w : List ℕ) (i : ℕ) → ds ≡ d ∷ rest → bytes_eq w d.name.items ≡ true → (o : Option ℕ) → position_from (bytes_eq w) i (names_of ds) ≡ o → i ≡ unwrap_or o 0
+found_here ds d rest w i e f o h =
+    let z : position_from (bytes_eq w) i (names_of ds) ≡ Some i = ap (λ l. position_from (bytes_eq w) i (names_of l)) e ∙ rw f refl in
+    ap (λ x. unwrap_or x 0) (sym z ∙ h)
+
+pub found_none : (ds : List Descriptor) (w : List ℕ) (i : ℕ) → ds ≡ [] → (o : Option ℕ) → position_from (bytes_eq w) i (names_of ds) ≡ o → 0 ≡ unwrap_or o 0
+found_none ds w i e o h = ap (λ x. unwrap_or x 0) (sym (ap (λ l. position_from (bytes_eq w) i (names_of l)) e) ∙ h)

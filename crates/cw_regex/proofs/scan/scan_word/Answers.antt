@@ -1,0 +1,20 @@
+use Rattle.std.proofs.Common.{rules, ◌≡◌, true, false, ap, sym, ◌∙◌, slice_index}
+use Rattle.cw_regex.specs.Machine.{kept}
+use Rattle.cw_regex.proofs.Runs.{byte_at}
+use Rattle.cw_regex.proofs.Placing.{word_ok, word_fault, later_fault}
+use Rattle.cw_regex.proofs.scan.scan_word.Goals as goal
+
+pub returns-in-Some-clause-ok : goal.returns-in-Some-clause-ok
+returns-in-Some-clause-ok c = word_ok c.args.alone c.args.text.now c.args.scan c.requires.is c.args.end c.in-Some.phase c.requires.word (search rules)
+
+pub returns-in-None-clause-err : goal.returns-in-None-clause-err
+returns-in-None-clause-err c =
+    let first = byte_at c.args.text.now c.args.scan.at c.requires.word.first _ c.requires.word.cut in
+    let is : kept c.args.scan.phase c.requires.word.first ≡ true = ap (kept c.args.scan.phase) (sym first) ∙ sym c.kept.ensures ∙ c.if-kept.true in
+    later_fault c.args.alone c.args.text.now c.args.scan c.requires.is c.args.end c.requires.word (search rules) is
+
+pub returns-in-None-2-clause-err : goal.returns-in-None-2-clause-err
+returns-in-None-2-clause-err c =
+    let first = byte_at c.args.text.now c.args.scan.at c.requires.word.first _ c.requires.word.cut in
+    let is : kept c.args.scan.phase c.requires.word.first ≡ false = ap (kept c.args.scan.phase) (sym first) ∙ sym c.kept.ensures ∙ c.if-kept.false in
+    word_fault c.args.alone c.args.text.now c.args.scan c.requires.is c.args.end c.requires.word (search rules) is

@@ -1,0 +1,12 @@
+-- The definitions.
+pub mod Causes
+pub mod Faults
+pub mod Grammar
+pub mod Items
+pub mod Labels
+pub mod Machine
+pub mod Meaning
+pub mod Parts
+pub mod Pieces
+pub mod Scans
+pub mod Tokens

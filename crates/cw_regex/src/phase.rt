@@ -1,0 +1,165 @@
+//! What may come after what was read.
+
+ghost use Rattle.std.specs.Prelude.{◌≡◌, ◌+◌, ◌-◌, ◌<◌, ◌^◌, nat_eq, cond, Some, None};
+ghost use Rattle.cw_rights.specs.Valid.{is_name};
+ghost use Rattle.std.specs.Option.{option_map};
+ghost use Rattle.std.specs.Str.{bytes_eq};
+ghost use Rattle.cw_regex.specs.Parts.{mark as part};
+ghost use Rattle.cw_regex.specs.Grammar.{is_digit, is_descriptor, amb};
+ghost use Rattle.cw_regex.specs.Scans.{is_held};
+ghost use Rattle.cw_regex.specs.Machine.{kept, step, in_test, step_word, step_mark, takes_atom, is_end, is_test_end, start, ends_here};
+
+use crate::text::{Mark, is_name};
+
+/// What was read last, as far as it tells what may come.
+#[derive(Clone, Copy, Drop, PartialEq, Eq)]
+pub enum Phase {
+    /// Nothing yet, or `(` or `|`: an atom comes.
+    Begin,
+    /// `.` or a label.
+    Label,
+    /// `]` or `)`.
+    Whole,
+    /// `*`, `+` or `?`.
+    Repeated,
+    /// `[` or `,`: a test comes.
+    Test,
+    /// `!` of a test.
+    Negated,
+    /// `amb` in a test.
+    Ambient,
+    /// Another name or a digit in a test: `:` comes.
+    Descriptor,
+    /// `:` in a test: a right comes.
+    Colon,
+    /// A right.
+    Right,
+}
+
+fn is_digit(word: &[u8]) -> bool
+    ensures { result ≡ is_digit word.now }
+{
+    match word {
+        [byte] => *byte == b'0' || *byte == b'1' || *byte == b'2',
+        _ => false,
+    }
+}
+
+fn in_test(word: &[u8]) -> Option<Phase>
+    ensures { result ≡ in_test word.now }
+{
+    if word == b"amb".as_slice() {
+        return Some(Phase::Ambient);
+    }
+    if is_name(word) || is_digit(word) {
+        return Some(Phase::Descriptor);
+    }
+    None
+}
+
+fn if_name(word: &[u8], phase: Phase) -> Option<Phase>
+    ensures { result ≡ cond (is_name word.now) (Some phase) None }
+{
+    if is_name(word) { Some(phase) } else { None }
+}
+
+/// The phase after a word.
+pub fn step_word(phase: Phase, word: &[u8]) -> Option<Phase>
+    ensures { result ≡ step_word phase word.now }
+{
+    match phase {
+        Phase::Begin | Phase::Label | Phase::Whole | Phase::Repeated => if_name(word, Phase::Label),
+        Phase::Test | Phase::Negated => in_test(word),
+        Phase::Colon => if_name(word, Phase::Right),
+        Phase::Ambient | Phase::Descriptor | Phase::Right => None,
+    }
+}
+
+/// The phase after a mark that is no parenthesis; `alone`: a test by itself.
+pub fn step_mark(alone: bool, phase: Phase, mark: Mark) -> Option<Phase>
+    ensures { result ≡ step_mark alone phase mark }
+{
+    match (phase, mark) {
+        (Phase::Begin | Phase::Label | Phase::Whole | Phase::Repeated, Mark::Dot) => {
+            Some(Phase::Label)
+        }
+        (Phase::Label | Phase::Whole | Phase::Repeated, Mark::Bar) => Some(Phase::Begin),
+        (Phase::Label | Phase::Whole, Mark::Star | Mark::Plus | Mark::Question) => {
+            Some(Phase::Repeated)
+        }
+        (Phase::Label, Mark::BracketOpen) => Some(Phase::Test),
+        (Phase::Test, Mark::Bang) => Some(Phase::Negated),
+        (Phase::Ambient | Phase::Descriptor, Mark::Colon) => Some(Phase::Colon),
+        (Phase::Ambient | Phase::Right, Mark::Comma) if !alone => Some(Phase::Test),
+        (Phase::Ambient | Phase::Right, Mark::BracketClose) if !alone => Some(Phase::Whole),
+        _ => None,
+    }
+}
+
+fn takes_atom(phase: Phase) -> bool
+    ensures { result ≡ takes_atom phase }
+{
+    match phase {
+        Phase::Begin | Phase::Label | Phase::Whole | Phase::Repeated => true,
+        _ => false,
+    }
+}
+
+fn is_end(phase: Phase) -> bool
+    ensures { result ≡ is_end phase }
+{
+    match phase {
+        Phase::Label | Phase::Whole | Phase::Repeated => true,
+        _ => false,
+    }
+}
+
+/// The phase in which an expression, or a test by itself, begins.
+pub fn start(alone: bool) -> Phase
+    ensures { result ≡ start alone }
+{
+    if alone { Phase::Test } else { Phase::Begin }
+}
+
+/// Whether the text may end there.
+pub fn ends_here(alone: bool, phase: Phase, depth: u32) -> bool
+    ensures { result ≡ ends_here alone phase depth }
+{
+    if alone {
+        return matches!(phase, Phase::Ambient | Phase::Right);
+    }
+    is_end(phase) && depth == 0
+}
+
+/// Whether a word that may not stand there begins with a digit that may.
+pub fn kept(phase: Phase, first: u8) -> bool
+    ensures { result ≡ kept phase first }
+{
+    matches!(phase, Phase::Test | Phase::Negated) && is_digit(&[first])
+}
+
+/// The phase after a mark, and how many parentheses are open then.
+pub fn step(alone: bool, phase: Phase, depth: u32, mark: Mark) -> Option<(Phase, u32)>
+    requires { depth < 2 ^ 32 - 1 }
+    ensures { result ≡ step alone phase depth (part mark) }
+{
+    match mark {
+        Mark::ParenOpen if takes_atom(phase) => Some((Phase::Begin, depth + 1)),
+        Mark::ParenClose if is_end(phase) && depth > 0 => Some((Phase::Whole, depth - 1)),
+        Mark::ParenOpen | Mark::ParenClose => None,
+        _ => match step_mark(alone, phase, mark) {
+            None => None,
+            Some(next) => Some((next, depth)),
+        },
+    }
+}
+
+/// Whether a test by itself has had its right, so that nothing may come, not even a blank.
+pub fn is_held(alone: bool, phase: Phase) -> bool
+    ensures { result ≡ is_held alone phase }
+{
+    match phase {
+        Phase::Right => alone,
+        _ => false,
+    }
+}

@@ -1,0 +1,163 @@
+//! The parts of a text: words of letters, digits and `_`, and marks.
+
+ghost use Rattle.std.specs.Prelude.{◌≡◌, ◌+◌, ◌-◌, ◌<◌, ◌≤◌, true, false, length, take, drop, slice_index};
+ghost use Rattle.std.specs.List.{list_all};
+ghost use Rattle.cw_rights.specs.Valid.{is_name_start, is_name_byte, is_name};
+ghost use Rattle.cw_regex.specs.Parts.{is_blank, mark_of, begins_word, ends_blank, parts, placed};
+ghost use Rattle.cw_regex.specs.Faults.{colon_next};
+ghost use Rattle.cw_regex.specs.Tokens.{IsToken, begins_colon};
+ghost use Rattle.cw_regex.specs.Pieces.{IsPiece};
+
+/// A byte that is no blank and in no word.
+#[derive(Clone, Copy, Drop, PartialEq, Eq)]
+pub enum Mark {
+    Dot,
+    ParenOpen,
+    ParenClose,
+    Bar,
+    Star,
+    Plus,
+    Question,
+    BracketOpen,
+    BracketClose,
+    Bang,
+    Colon,
+    Comma,
+    Other,
+}
+
+fn is_blank(byte: u8) -> bool
+    ensures { result ≡ is_blank byte }
+{
+    byte == b' ' || byte == b'\t'
+}
+
+fn is_name_start(byte: u8) -> bool
+    ensures { result ≡ is_name_start byte }
+{
+    byte >= b'A' && byte <= b'Z' || byte >= b'a' && byte <= b'z' || byte == b'_'
+}
+
+fn is_name_byte(byte: u8) -> bool
+    ensures { result ≡ is_name_byte byte }
+{
+    is_name_start(byte) || byte >= b'0' && byte <= b'9'
+}
+
+/// Whether a word has the form of a C name.
+pub fn is_name(word: &[u8]) -> bool
+    ensures { result ≡ is_name word.now }
+{
+    match word {
+        [] => false,
+        [first, rest @ ..] => is_name_start(*first) && all_name_bytes(rest),
+    }
+}
+
+fn all_name_bytes(bytes: &[u8]) -> bool
+    ensures { result ≡ list_all is_name_byte bytes.now }
+{
+    bytes.iter().all(|b| is_name_byte(*b))
+}
+
+fn mark_of(byte: u8) -> Mark
+    ensures { result ≡ mark_of byte }
+{
+    match byte {
+        b'.' => Mark::Dot,
+        b'(' => Mark::ParenOpen,
+        b')' => Mark::ParenClose,
+        b'|' => Mark::Bar,
+        b'*' => Mark::Star,
+        b'+' => Mark::Plus,
+        b'?' => Mark::Question,
+        b'[' => Mark::BracketOpen,
+        b']' => Mark::BracketClose,
+        b'!' => Mark::Bang,
+        b':' => Mark::Colon,
+        b',' => Mark::Comma,
+        _ => Mark::Other,
+    }
+}
+
+fn word_end(text: &[u8], at: usize) -> usize
+    requires inside { at < length text.now }
+    requires begins { is_name_byte (slice_index text.now at) ≡ true }
+    ensures after { at < result }
+    ensures within { result ≤ length text.now }
+    ensures word { list_all is_name_byte (take (result - at) (drop at text.now)) ≡ true }
+    ensures stop { begins_word (drop result text.now) ≡ false }
+{
+    for end in at + 1..text.len() {
+        if !is_name_byte(text[end]) {
+            return end;
+        }
+    }
+    text.len()
+}
+
+/// What stands at a place of a text: a blank, a word up to a place, or a mark.
+#[derive(Clone, Copy, Drop)]
+pub enum Piece {
+    Blank,
+    Word(usize),
+    Mark(Mark),
+}
+
+/// What stands at a place.
+pub fn piece_at(text: &[u8], at: usize) -> Piece
+    requires { at < length text.now }
+    ensures { IsPiece text.now at result }
+{
+    let byte = text[at];
+    if is_blank(byte) {
+        return Piece::Blank;
+    }
+    if is_name_byte(byte) {
+        return Piece::Word(word_end(text, at));
+    }
+    Piece::Mark(mark_of(byte))
+}
+
+/// Whether the last byte of a text is a blank.
+#[tactic(auto, using(crate::proofs::Runs::ends_last))]
+pub fn ends_blank(text: &[u8]) -> bool
+    ensures { result ≡ ends_blank text.now }
+{
+    if text.is_empty() {
+        return false;
+    }
+    is_blank(text[text.len() - 1])
+}
+
+/// The next part of a text: a word from one place to another, or a mark up to a place.
+#[derive(Clone, Copy, Drop)]
+pub enum Token {
+    End,
+    Word { from: usize, to: usize },
+    Mark { mark: Mark, to: usize },
+}
+
+/// The next part from a place on.
+pub fn token_at(text: &[u8], at: usize) -> Token
+    requires { at ≤ length text.now }
+    ensures { IsToken text.now at result }
+{
+    for from in at..text.len() {
+        match piece_at(text, from) {
+            Piece::Blank => {}
+            Piece::Word(to) => return Token::Word { from, to },
+            Piece::Mark(mark) => return Token::Mark { mark, to: from + 1 },
+        }
+    }
+    Token::End
+}
+
+/// Whether the next part is a colon.
+pub fn colon_next(text: &[u8], at: usize) -> bool
+    requires { at ≤ length text.now }
+    ensures placed { result ≡ colon_next (placed at (drop at text.now)) }
+    ensures part { result ≡ begins_colon (parts (drop at text.now)) }
+{
+    matches!(token_at(text, at), Token::Mark { mark: Mark::Colon, .. })
+}

@@ -1,0 +1,173 @@
+//! The names of a text that aren't known.
+
+ghost use Rattle.std.specs.Prelude.{◌≡◌, ◌<◌, ◌≤◌, false, Some, length, drop, unwrap_or, None, IfOk, IfErr, IfSome, IfNone};
+ghost use Rattle.cw_regex.specs.Parts.{placed};
+ghost use Rattle.cw_regex.specs.Meaning.{right_number, later_right_number, is_right, names_of, number_in};
+ghost use Rattle.cw_regex.specs.Faults.{is_known, unknown_word, first_unknown, place_of};
+
+use crate::text::{Mark, Token, colon_next, token_at};
+use cw_rights::Descriptor;
+
+/// A name that isn't known, by its place.
+#[derive(Clone, Copy, Drop)]
+pub enum Unknown {
+    Descriptor(usize),
+    Right(usize),
+}
+
+/// The number of a right.
+pub fn right_number(word: &[u8]) -> Option<u8>
+    ensures { result ≡ right_number word.now }
+{
+    if word == b"CAP_READ".as_slice() {
+        return Some(0);
+    }
+    if word == b"CAP_WRITE".as_slice() {
+        return Some(1);
+    }
+    if word == b"CAP_SEEK".as_slice() {
+        return Some(2);
+    }
+    if word == b"CAP_FSTAT".as_slice() {
+        return Some(3);
+    }
+    if word == b"CAP_FTRUNCATE".as_slice() {
+        return Some(4);
+    }
+    if word == b"CAP_FSYNC".as_slice() {
+        return Some(5);
+    }
+    later_right_number(word)
+}
+
+fn later_right_number(word: &[u8]) -> Option<u8>
+    ensures { result ≡ later_right_number word.now }
+{
+    if word == b"CAP_FCNTL".as_slice() {
+        return Some(6);
+    }
+    if word == b"CAP_IOCTL".as_slice() {
+        return Some(7);
+    }
+    if word == b"CAP_EVENT".as_slice() {
+        return Some(8);
+    }
+    if word == b"CAP_ACCEPT".as_slice() {
+        return Some(9);
+    }
+    if word == b"CAP_LISTEN".as_slice() {
+        return Some(10);
+    }
+    if word == b"CAP_LOOKUP".as_slice() {
+        return Some(11);
+    }
+    None
+}
+
+/// The number of a descriptor's name, and 0 where it isn't known.
+pub fn descriptor_number(descriptors: &[Descriptor], word: &[u8]) -> u8
+    requires { length descriptors.now ≤ 8 }
+    ensures { result ≡ number_in (names_of descriptors.now) word.now }
+{
+    for (i, descriptor) in descriptors.iter().enumerate() {
+        if word == descriptor.name.as_slice() {
+            return i as u8;
+        }
+    }
+    0
+}
+
+fn is_known(descriptors: &[Descriptor], word: &[u8]) -> bool
+    ensures { result ≡ is_known (names_of descriptors.now) word.now }
+{
+    for descriptor in descriptors {
+        if word == descriptor.name.as_slice() {
+            return true;
+        }
+    }
+    false
+}
+
+fn unknown_word(
+    descriptors: &[Descriptor],
+    after: bool,
+    before: bool,
+    from: usize,
+    word: &[u8],
+) -> Option<Unknown>
+    ensures is { result ≡ unknown_word (names_of descriptors.now) after before from word.now }
+    ensures place { IfSome result (λ u. place_of u ≡ from) }
+{
+    if after {
+        return match right_number(word) {
+            None => Some(Unknown::Right(from)),
+            Some(_) => None,
+        };
+    }
+    if before && !is_known(descriptors, word) {
+        return Some(Unknown::Descriptor(from));
+    }
+    None
+}
+
+/// How far a search for unknown names has come: the place, and whether a colon was before.
+#[derive(Clone, Copy, Drop)]
+struct Searched {
+    at: usize,
+    after: bool,
+}
+
+fn search_token(
+    text: &[u8],
+    descriptors: &[Descriptor],
+    so_far: Searched,
+) -> Result<Option<Searched>, Unknown>
+    requires { so_far.at ≤ length text.now }
+    ensures next { IfOk result (λ o. IfSome o (λ next.
+        first_unknown (names_of descriptors.now) so_far.after (placed so_far.at (drop so_far.at text.now))
+        ≡ first_unknown (names_of descriptors.now) next.after (placed next.at (drop next.at text.now)))) }
+    ensures on { IfOk result (λ o. IfSome o (λ next. so_far.at < next.at)) }
+    ensures within { IfOk result (λ o. IfSome o (λ next. next.at ≤ length text.now)) }
+    ensures end { IfOk result (λ o. IfNone o
+        (first_unknown (names_of descriptors.now) so_far.after (placed so_far.at (drop so_far.at text.now)) ≡ None)) }
+    ensures unknown { IfErr result (λ u.
+        first_unknown (names_of descriptors.now) so_far.after (placed so_far.at (drop so_far.at text.now)) ≡ Some u) }
+    ensures place { IfErr result (λ u. place_of u < length text.now) }
+{
+    match token_at(text, so_far.at) {
+        Token::End => Ok(None),
+        Token::Mark { mark, to } => Ok(Some(Searched {
+            at: to,
+            after: matches!(mark, Mark::Colon),
+        })),
+        Token::Word { from, to } => {
+            let before = colon_next(text, to);
+            match unknown_word(descriptors, so_far.after, before, from, &text[from..to]) {
+                Some(unknown) => Err(unknown),
+                None => Ok(Some(Searched {
+                    at: to,
+                    after: false,
+                })),
+            }
+        }
+    }
+}
+
+/// The first name of a text, from the left, that isn't known.
+pub fn first_unknown(text: &[u8], descriptors: &[Descriptor]) -> Option<Unknown>
+    ensures is { result ≡ first_unknown (names_of descriptors.now) false (placed 0 text.now) }
+    ensures place { IfSome result (λ u. place_of u < length text.now) }
+{
+    let mut so_far = Searched {
+        at: 0,
+        after: false,
+    };
+    for _ in 0..=text.len() {
+        match search_token(text, descriptors, so_far) {
+            Err(unknown) => return Some(unknown),
+            Ok(None) => return None,
+            Ok(Some(next)) => so_far = next,
+        }
+    }
+    None
+}
