@@ -11,9 +11,15 @@ pub enum How {
     /// The function ends here, in a state of the aim.
     Out,
     /// The weaver moves: the row after a skip, and after a try.
-    Both { skip: u32, tried: u32 },
+    Both {
+        skip: u32,
+        tried: u32,
+    },
     /// The environment moves: its move, and the row after it.
-    Go { by: Move, row: u32 },
+    Go {
+        by: Move,
+        row: u32,
+    },
     /// A function is called: the row in its body, and by the state in which it ends the row after its return.
     Into {
         callee: u32,

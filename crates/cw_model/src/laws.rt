@@ -1,41 +1,40 @@
 //! Laws of the definitions: functions with nothing to do, whose contracts say what holds of all programs and policies.
 
 ghost use Rattle.cw_model.specs.Laws.{
-    CapabilityModeStays, OnePartyMoves, OverHasNoMove, RefusedIsSkipped, RightsNeverGrow,
+  CapabilityModeStays,
+  OnePartyMoves,
+  OverHasNoMove,
+  RefusedIsSkipped,
+  RightsNeverGrow,
 };
 
 /// A board has moves of the one party whose turn it is, or none.
 #[tactic(auto, using(crate::proofs::Moving::one_party))]
 pub fn one_party_moves()
     ensures one_party { OnePartyMoves }
-{
-}
+{}
 
 /// A board that is over has no move.
 #[tactic(auto, using(crate::proofs::Moving::over_has_none))]
 pub fn over_has_no_move()
     ensures none { OverHasNoMove }
-{
-}
+{}
 
 /// A try that is refused leads where skipping leads.
 #[tactic(auto, using(crate::proofs::Moving::refused_is_skipped))]
 pub fn refused_is_skipped()
     ensures skipped { RefusedIsSkipped }
-{
-}
+{}
 
 /// Nothing leads out of capability mode but the return of a split call, after which the caller holds what it held:
 /// cap_enter(2), capsicum(4).
 #[tactic(auto, using(crate::proofs::Moving::mode_stays))]
 pub fn capability_mode_stays()
     ensures stays { CapabilityModeStays }
-{
-}
+{}
 
 /// No move gives a right but an open that succeeds and the return of a split call: cap_rights_limit(2).
 #[tactic(auto, using(crate::proofs::Moving::never_grow_by_moves))]
 pub fn rights_never_grow()
     ensures shrink { RightsNeverGrow }
-{
-}
+{}

@@ -7,13 +7,11 @@ ghost use Rattle.cw_syntax.specs.Steps.{StepsAreTheTable};
 #[tactic(auto, using(crate::proofs::Counting::in_order))]
 pub fn seams_are_in_order()
     ensures in_order { SeamsAreInOrder }
-{
-}
+{}
 
 /// The steps that a stack of frames makes are those of the table of cases, and no others, for every program: ISO/IEC
 /// 9899:2011, sections 6.8.4 to 6.8.6.
 #[tactic(auto, using(crate::proofs::Tabled::tabled))]
 pub fn steps_are_the_table()
     ensures table { StepsAreTheTable }
-{
-}
+{}
