@@ -1,15 +1,14 @@
 -- What an expression does, by its operator and its parts.
-use Rattle.std.proofs.Common.{◌≡◌, ◌≢◌, ◌<◌, ◌≤◌, ℕ, zero, suc, List, [], ◌∷◌, Option, Some, None, length, get_or, nat_eq, false, true, Bool, refl, sym, ap, ap₂, ◌∙◌, arith}
-use mathlib.Core.Former.{Count}
+use Rattle.std.proofs.Common.{◌≡◌, ◌≢◌, ℕ, zero, suc, List, [], ◌∷◌, None, length, get_or, refl, sym, ap, ap₂, ◌∙◌}
 use Rattle.cw_syntax.specs.declared.program.Name.{Name}
 use Rattle.cw_syntax.specs.declared.program.Op.{Op}
 use Rattle.cw_syntax.specs.declared.program.Op.TheVariants.{Name as NameOp, Number, Call as CallOp, Assign}
-use Rattle.cw_syntax.specs.declared.program.Expr.{Expr, Expr', out-Expr, Row_of-Expr, end_of-Expr, more_of-Expr, items-the_row-Expr, is-Expr', items_hidden-the_row-Expr-0}
+use Rattle.cw_syntax.specs.declared.program.Expr.{Expr, out-Expr, Row_of-Expr, end_of-Expr, more_of-Expr, items-the_row-Expr, is-Expr', items_hidden-the_row-Expr-0}
 use Rattle.cw_syntax.specs.declared.program.Expr.TheBlock.{hidden-the_row-Expr-0}
 use Rattle.std.specs.Fmt.{decimal}
 use Rattle.cw_syntax.specs.Names.{slice, text, number_in}
 use Rattle.cw_syntax.specs.Trees.{Tree, Node, Trees, none, more, tree_of, row_trees, trees_of}
-use Rattle.cw_syntax.specs.Plans.{Scene, Action, Computes, action_of, call_action, assigned_action, descriptor_of, closed_by}
+use Rattle.cw_syntax.specs.Plans.{Scene, Computes, action_of, call_action, assigned_action, descriptor_of, closed_by}
 
 row_is : (n : _) (row : Row_of-Expr n) → row_trees row ≡ trees_of (items-the_row-Expr n row)
 row_is n end_of-Expr = refl

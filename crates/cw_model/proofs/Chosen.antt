@@ -1,5 +1,5 @@
 -- What a move does, by the choice that it makes.
-use Rattle.std.proofs.Common.{◌≡◌, ◌≢◌, ℕ, zero, suc, ◌+◌, List, [], ◌∷◌, ◌++◌, Bool, true, false, cond, Option, Some, None, drop, refl, sym, ap, ap₂, ◌∙◌, subst, arith, add-one}
+use Rattle.std.proofs.Common.{◌≡◌, ℕ, suc, ◌+◌, List, [], ◌∷◌, ◌++◌, Bool, true, false, cond, Option, Some, None, drop, refl, sym, ap, ap₂, ◌∙◌, subst, add-one}
 use Rattle.std.specs.Prelude.{slice_get, option_map}
 use Rattle.cw_rights.specs.declared.capabilities.Caps.{Caps}
 use Rattle.cw_rights.specs.declared.capabilities.Primitive.{Primitive}
@@ -11,16 +11,16 @@ use Rattle.cw_rights.specs.Policies.{PlainPolicy, IsBad}
 use Rattle.cw_rights.specs.Words.{Word}
 use Rattle.cw_certs.specs.declared.moves.Move.{Move}
 use Rattle.cw_certs.specs.declared.moves.Move.TheVariants.{Skip, Try, Grant, Refuse, On, Left, Right, Opened, Failed}
-use Rattle.cw_syntax.specs.Plans.{Stm, Plain, Break, Continue, Return, Open, Close, Call, Group, Label, If, While, Do, For}
+use Rattle.cw_syntax.specs.Plans.{Plain, Break, Continue, Return, Open, Close, Call, Group, Label, If, While, Do, For}
 use Rattle.cw_syntax.specs.Frames.{Item, Entry, Todo, Test, After, Mark, End, Frame, Way, pass}
 use Rattle.cw_model.specs.declared.kinds.Kind.{Kind}
 use Rattle.cw_model.specs.declared.choices.Phase.{Phase as HeldPhase}
 use Rattle.cw_model.specs.declared.choices.Phase.TheVariants.{Visit as HeldVisit, Asked as HeldAsked, Split as HeldSplit, Over as HeldOver}
 use Rattle.cw_model.specs.declared.choices.Choice.{Choice}
 use Rattle.cw_model.specs.declared.choices.Choice.TheVariants.{Refused, To}
-use Rattle.cw_model.specs.Boards.{Problem, Phase, Visit, Asked, Free, FreeSplit, Over, Board, primitives_in, onward, may_grant, may_refuse, way_of, stepped, moved, passed_by, granted, kept_after, caps_after, letters, landed, begin, given_back, Violates}
+use Rattle.cw_model.specs.Boards.{Problem, Phase, Visit, Asked, Free, FreeSplit, Over, Board, primitives_in, onward, may_grant, may_refuse, stepped, moved, passed_by, granted, kept_after, caps_after, letters, landed, begin, Violates}
 use Rattle.cw_model.specs.Kinds.{item_kind, front_kind}
-use Rattle.cw_model.specs.Choices.{primitives_by, primitives_at, phase_by, asking, choice_of, visit_choice, asked_choice, answered_choice, granted_choice, chosen}
+use Rattle.cw_model.specs.Choices.{primitives_by, primitives_at, phase_by, asking, choice_of, visit_choice, asked_choice, granted_choice, chosen}
 use Rattle.cw_model.specs.HeldBoards.{kept_by, caps_by, letters_by, reached_letter}
 use Rattle.cw_model.proofs.Gets.{drop_none, drop_some}
 
@@ -267,9 +267,10 @@ reached_free x Over k caps e = absurd (cc)
 pub violates_where : (p : Problem) (b : Board) (x : Letter) → Some x ≡ reached_letter b.phase (front_kind b.stack) b.caps → (IsBad p.policy (b.word ++ x ∷ []) → Violates p b) × (Violates p b → IsBad p.policy (b.word ++ x ∷ []))
 violates_where p b x e =
     let f = reached_free x b.phase (front_kind b.stack) b.caps e in
-    let l = the_letter x b.stack b.caps (e ∙ ap (λ g. reached_letter g (front_kind b.stack) b.caps) f) in
-    (λ bad. (f, (λ z. let q : x ∷ [] ≡ [] = sym l ∙ z in absurd (cc)), subst (λ ls. IsBad p.policy (b.word ++ ls)) (sym l) bad),
-    λ v. subst (λ ls. IsBad p.policy (b.word ++ ls)) l v.2)
+    let l = the_letter x b.stack b.caps (e ∙ ap (λ g. reached_letter g (front_kind b.stack) b.caps) f) in (
+      λ bad. (f, (λ z. let q : x ∷ [] ≡ [] = sym l ∙ z in absurd (cc)), subst (λ ls. IsBad p.policy (b.word ++ ls)) (sym l) bad),
+      λ v. subst (λ ls. IsBad p.policy (b.word ++ ls)) l v.2,
+    )
 
 pub changed_by : (p : Problem) (b : Board) (mode : Option Caps) (way : Way) (next : List Frame) (k : Kind) (kept : List (Option Caps)) (caps : Caps) (word : Word) (phase : Phase) → kept ≡ kept_by k mode b.kept → caps ≡ caps_by p.policy k b.kept way b.caps → word ≡ b.word ++ letters_by k b.caps → phase ≡ begin p.policy next → record { stack = next; kept = kept; caps = caps; word = word; phase = phase } ≡ Changed p b mode way next k
 changed_by p b mode way next k kept caps word phase e f g h =

@@ -1,9 +1,9 @@
 -- What a jump drops of a frame, item by item.
-use Rattle.std.proofs.Common.{◌≡◌, ◌≢◌, ◌⊎◌, inl, inr, ℕ, ◌+◌, List, [], ◌∷◌, ◌++◌, Option, Some, None, drop, map, length, Bor, refl, sym, ap, ◌∙◌, arith}
-use Rattle.std.proofs.lemmas.List.{append_assoc, append-nil, map-append}
+use Rattle.std.proofs.Common.{◌≡◌, ◌≢◌, ◌⊎◌, inl, inr, ℕ, List, [], ◌∷◌, ◌++◌, Some, drop, map, length, Bor, refl, sym, ap, ◌∙◌, arith}
+use Rattle.std.proofs.lemmas.List.{append_assoc, map-append}
 use Rattle.cw_syntax.specs.Plans.{Scene}
 use Rattle.cw_syntax.specs.declared.program.Stmt.{Stmt}
-use Rattle.cw_syntax.specs.Frames.{Item, End, Frame, broken, continued, ended}
+use Rattle.cw_syntax.specs.Frames.{End, Frame, broken, continued, ended}
 use Rattle.cw_model.specs.declared.items.Item.{Item as Held}
 use Rattle.cw_model.specs.declared.items.Item.TheVariants.{Entry, Todo, Nothing, Init, Test, After, Mark, End as HeldEnd}
 use Rattle.cw_model.specs.Held.{item_of}

@@ -1,9 +1,9 @@
 -- An element of a list, and what stands from it on.
-use Rattle.std.proofs.Common.{◌≡◌, ◌<◌, ◌≤◌, ℕ, zero, suc, ◌+◌, List, [], ◌∷◌, Option, Some, None, drop, map, length, get_or, refl, sym, ap, ◌∙◌, arith, add-one, true, false, Bool}
+use Rattle.std.proofs.Common.{◌≡◌, ◌<◌, ℕ, zero, suc, List, [], ◌∷◌, Some, None, drop, map, length, get_or, refl, sym, ap, arith, true, false}
 use Rattle.std.specs.Prelude.{slice_get}
 use Rattle.std.proofs.lemmas.Option.{none-some, same_Some}
 use Rattle.cw_rights.specs.declared.capabilities.Primitive.{Primitive}
-use Rattle.cw_model.specs.Boards.{Phase, onward}
+use Rattle.cw_model.specs.Boards.{onward}
 use Rattle.cw_model.specs.HeldBoards.{is_free}
 
 pub drop_none : {A : Type 0} (xs : List A) (n : ℕ) → slice_get xs n ≡ None → drop n xs ≡ []

@@ -1,23 +1,20 @@
 -- Which moves a board has.
-use Rattle.std.proofs.Common.{◌≡◌, ◌<◌, ◌≤◌, ℕ, zero, suc, ◌+◌, List, [], ◌∷◌, Bool, true, false, not, nat_eq, nat_lt, Option, Some, None, drop, map, length, get_or, refl, sym, ap, ap₂, ◌∙◌, arith, add-one, drop-cons}
+use Rattle.std.proofs.Common.{◌≡◌, ◌<◌, ◌≤◌, ℕ, zero, suc, ◌+◌, List, [], ◌∷◌, Bool, true, false, nat_lt, Option, Some, None, drop, map, length, get_or, refl, sym, ap, ap₂, ◌∙◌, arith, add-one, drop-cons}
 use Rattle.std.specs.Prelude.{option_map, is_some, slice_get}
 use Rattle.std.proofs.lemmas.Bool.Decides.{nat_tests}
-use Rattle.std.proofs.lemmas.Option.{none-some}
 use Rattle.std.specs.declared.collections.VecDeque.{VecDeque}
 use Rattle.std.specs.declared.alloc.Global.{Global}
 use Rattle.cw_syntax.specs.declared.program.Function.{Function}
 use Rattle.cw_syntax.specs.Trees.{definition_of}
-use Rattle.cw_syntax.specs.Plans.{Scene, Stm, Plain, Break, Continue, Return, Open, Close, Call, Group, Label, If, While, Do, For, Plan, routines_from}
-use Rattle.cw_syntax.specs.Frames.{Item, Entry, Todo, Test, After, Mark, End, Frame, Way, broken, continued, pass, popped, frame_of, new_frame}
+use Rattle.cw_syntax.specs.Plans.{Scene, Plain, Break, Continue, Return, Open, Close, Call, Group, Label, If, While, Do, For, Plan, routines_from}
+use Rattle.cw_syntax.specs.Frames.{Item, Entry, Todo, Test, After, Mark, End, Frame, Way, broken, continued, pass, frame_of, new_frame}
 use Rattle.cw_rights.specs.declared.capabilities.Caps.{Caps}
 use Rattle.cw_rights.specs.declared.capabilities.Primitive.{Primitive}
 use Rattle.cw_rights.specs.Policies.{PlainPolicy}
-use Rattle.cw_certs.specs.declared.moves.Move.{Move}
 use Rattle.cw_model.specs.declared.items.Item.{Item as Held}
-use Rattle.cw_model.specs.declared.items.Item.TheVariants.{Entry as HeldEntry, Todo as HeldTodo, Nothing, Init, Test as HeldTest, After as HeldAfter, Mark as HeldMark, End as HeldEnd}
 use Rattle.cw_model.specs.declared.turns.Way.{Way as HeldWay}
-use Rattle.cw_model.specs.declared.turns.Way.TheVariants.{On, Left, Right, Opened, Failed}
-use Rattle.cw_model.specs.Boards.{Problem, Phase, Board, Party, Weaver, Environment, landed, stepped, way_of, onward, turn_of as party_turn}
+use Rattle.cw_model.specs.declared.turns.Way.TheVariants.{On}
+use Rattle.cw_model.specs.Boards.{Problem, Phase, Board, Weaver, Environment, landed, stepped, onward, turn_of as party_turn}
 use Rattle.cw_model.specs.declared.kinds.Kind.{Kind}
 use Rattle.cw_model.specs.declared.choices.Phase.{Phase as HeldPhase}
 use Rattle.cw_model.specs.Choices.{primitives_by, primitives_at, phase_by}

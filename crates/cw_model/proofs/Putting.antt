@@ -1,10 +1,9 @@
 -- Statements put before a frame, from the last to the first.
-use Rattle.std.proofs.Common.{◌≡◌, ◌<◌, ◌≤◌, ℕ, zero, suc, ◌+◌, List, [], ◌∷◌, drop, get_or, length, refl, sym, ap, ap₂, ◌∙◌, subst, arith, add-one, drop-cons}
-use Rattle.std.proofs.lemmas.List.{drop_all}
+use Rattle.std.proofs.Common.{◌≡◌, ◌≤◌, ℕ, ◌+◌, List, drop, length}
 use Rattle.cw_syntax.specs.declared.program.Stmt.{Stmt}
-use Rattle.cw_syntax.specs.Plans.{Scene, Stms, end, then, numbered, numbered_all, seams, seams_all}
-use Rattle.cw_syntax.specs.Frames.{Frame, Todo, items_of}
-use Rattle.cw_model.specs.Held.{stm_in, stms_in}
+use Rattle.cw_syntax.specs.Plans.{Scene, numbered_all, seams_all}
+use Rattle.cw_syntax.specs.Frames.{Frame, items_of}
+use Rattle.cw_model.specs.Held.{stms_in}
 
 pub record Puts (s : Scene) (xs : List Stmt) (seam : ℕ) (rest : Frame) (i at : ℕ) (frame : Frame) : Type 0 where
   pub within : i ≤ length xs

@@ -1,22 +1,18 @@
 -- Rewriting the front of a frame.
-use Rattle.std.proofs.Common.{◌≡◌, ◌≢◌, ◌<◌, ℕ, zero, suc, ◌+◌, List, [], ◌∷◌, Bool, true, false, Option, Some, None, Vec, Box, Global, map, refl, sym, ap, ap₂, ◌∙◌, subst, arith}
+use Rattle.std.proofs.Common.{◌≡◌, ◌<◌, ℕ, ◌+◌, ◌∷◌, Bool, true, false, Option, Some, None, Vec, Box, Global, refl, sym, ap, ap₂, ◌∙◌, arith}
 use Rattle.std.specs.Prelude.{option_map, is_some}
 use denote.Hole.Carrier
 use Rattle.std.specs.declared.collections.VecDeque.{VecDeque}
-use Rattle.cw_syntax.specs.declared.program.Name.{Name}
-use Rattle.cw_syntax.specs.declared.program.Decl.{Decl}
 use Rattle.cw_syntax.specs.declared.program.Expr.{Expr}
 use Rattle.cw_syntax.specs.declared.program.Stmt.{Stmt}
-use Rattle.cw_syntax.specs.declared.program.Head.{Head, Head', out-Head, Held-Head-init, Head-init-None', Head-init-Some'}
-use Rattle.cw_syntax.specs.declared.program.What.{What}
-use Rattle.cw_syntax.specs.declared.program.What.TheVariants.{Block, Decl as DeclWhat, Expr as ExprWhat, Empty, Label as LabelWhat, If as IfWhat, While as WhileWhat, Do as DoWhat, For as ForWhat, Break as BreakWhat, Continue as ContinueWhat, Return as ReturnWhat}
-use Rattle.cw_syntax.specs.Trees.{Statement, Stated, form_of, for_of, tree_of, statement_of}
-use Rattle.cw_syntax.specs.Plans.{Callee, Action, Computes, Opens, Closes, Invokes, action_of, acting, Stm, Plain, Break, Continue, Return, Open, Close, Call, Group, Label, If, While, Do, For, Stms, end, then, Scene, numbered, numbered_all, steps_of, steps_of_form}
-use Rattle.cw_syntax.specs.Frames.{Item, Todo, Test, Mark, Frame, items_of, init_if, opened, opened_all, settle}
+use Rattle.cw_syntax.specs.declared.program.Head.{Head, Head', out-Head, Head-init-None', Head-init-Some'}
+use Rattle.cw_syntax.specs.declared.program.What.TheVariants.{Block, Expr as ExprWhat, While as WhileWhat, Do as DoWhat, For as ForWhat}
+use Rattle.cw_syntax.specs.Trees.{Statement, form_of, for_of, tree_of, statement_of}
+use Rattle.cw_syntax.specs.Plans.{Action, Computes, Opens, Closes, Invokes, action_of, acting, Stm, Group, While, Do, For, Stms, end, then, Scene, numbered, numbered_all, steps_of, steps_of_form}
+use Rattle.cw_syntax.specs.Frames.{Todo, Test, Mark, Frame, items_of, init_if, opened, opened_all, settle}
 use Rattle.cw_model.specs.declared.items.Item.{Item as Held}
-use Rattle.cw_model.specs.declared.frames.Rewritten.{Rewritten}
 use Rattle.cw_model.specs.declared.frames.Rewritten.TheVariants.{Last, More}
-use Rattle.cw_model.specs.Held.{stm_in, stms_in, item_of, frame_in, weight, weights, item_weight, frame_weight, Rewrites}
+use Rattle.cw_model.specs.Held.{stm_in, stms_in, frame_in, weights, frame_weight, Rewrites}
 use Rattle.cw_model.proofs.Shapes.{block_steps}
 
 settle_all : (ss : Stms) (rest : Frame) → opened_all ss rest (settle rest) ≡ settle (items_of ss rest)
@@ -33,11 +29,12 @@ module _ (s : Scene) where
   At st j rest = Todo (numbered (stm_in s st) j) ∷ rest
 
   more : (st : Stmt) (x : Stm) (j : ℕ) (rest next : Frame) (d : VecDeque Held Global) → stm_in s st ≡ x → frame_in s d ≡ next → settle next ≡ settle (Todo (numbered x j) ∷ rest) → frame_weight next < frame_weight (Todo (numbered x j) ∷ rest) → Rewrites s (At st j rest) (More d)
-  more st x j rest next d e f g w =
-      (ap settle f ∙ g ∙ sym (ap (λ y. settle (Todo (numbered y j) ∷ rest)) e),
-      let a : frame_weight (frame_in s d) ≡ frame_weight next = ap frame_weight f in
-      let b : frame_weight (At st j rest) ≡ frame_weight (Todo (numbered x j) ∷ rest) = ap (λ y. frame_weight (Todo (numbered y j) ∷ rest)) e in
-      omega (arith, a, b, w))
+  more st x j rest next d e f g w = (
+    ap settle f ∙ g ∙ sym (ap (λ y. settle (Todo (numbered y j) ∷ rest)) e),
+    let a : frame_weight (frame_in s d) ≡ frame_weight next = ap frame_weight f in
+        let b : frame_weight (At st j rest) ≡ frame_weight (Todo (numbered x j) ∷ rest) = ap (λ y. frame_weight (Todo (numbered y j) ∷ rest)) e in
+        omega (arith, a, b, w),
+  )
 
   pub a_block : (st : Stmt) (v : Vec Stmt Global) (j : ℕ) (rest : Frame) (d : VecDeque Held Global) → st.what ≡ Block v → frame_in s d ≡ items_of (numbered_all (stms_in s v.items) j) rest → Rewrites s (At st j rest) (More d)
   a_block st v j rest d e f =

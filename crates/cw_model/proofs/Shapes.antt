@@ -1,13 +1,12 @@
 -- The form of a block, by the statements that it holds; and what numbering the seams leaves.
-use Rattle.std.proofs.Common.{◌≡◌, ℕ, zero, suc, ◌+◌, List, [], ◌∷◌, Vec, Box, Global, refl, sym, ap, ◌∙◌, arith}
+use Rattle.std.proofs.Common.{◌≡◌, ℕ, Vec, Box, Global, refl, sym, ap, ◌∙◌}
 use mathlib.Core.Former.{Count}
 use Rattle.cw_syntax.specs.declared.program.Stmt.{Stmt}
 use Rattle.cw_syntax.specs.declared.program.What.{What, Block', Row_of-Stmt, end_of-Stmt, more_of-Stmt, items-the_row-Stmt, items_hidden-the_row-Stmt-0}
 use Rattle.cw_syntax.specs.declared.program.Head.{Head, Head'}
 use Rattle.cw_syntax.specs.declared.program.What.TheVariants.{Block, For as ForWhat}
 use Rattle.cw_syntax.specs.Trees.{Statement, Block as BlockForm, form_of, for_of, row_statements, statements_of, Stated, cons}
-use Rattle.cw_syntax.specs.Plans.{Callee, Stm, Plain, Break, Continue, Return, Open, Close, Call, Group, Label, If, While, Do, For, Stms, end, then, Scene, numbered, numbered_all, seams, seams_all, steps_of_form}
-use Rattle.cw_model.specs.declared.kinds.Kind.{Kind}
+use Rattle.cw_syntax.specs.Plans.{Stm, Plain, Break, Continue, Return, Open, Close, Call, Group, Label, If, While, Do, For, Scene, numbered, steps_of_form}
 use Rattle.cw_model.specs.declared.kinds.Kind.TheVariants.{Loop as LoopKind}
 use Rattle.cw_model.specs.Kinds.{kind_of}
 use Rattle.cw_syntax.specs.Frames.{Frame, Todo, Way}

@@ -1,8 +1,8 @@
 -- Phases as the program holds them, and what a move does in them.
-use Rattle.std.specs.Prelude.{◌≡◌, ◌<◌, ℕ, ◌+◌, List, [], ◌∷◌, Bool, true, false, cond, Option, Some, None, drop, slice_get}
+use Rattle.std.specs.Prelude.{ℕ, ◌+◌, List, [], ◌∷◌, Bool, true, false, cond, Option, Some, None, drop, slice_get}
 use Rattle.cw_rights.specs.declared.capabilities.Caps.{Caps}
 use Rattle.cw_rights.specs.declared.capabilities.Primitive.{Primitive}
-use Rattle.cw_rights.specs.declared.capabilities.Primitive.TheVariants.{Limit, Enter, Split}
+use Rattle.cw_rights.specs.declared.capabilities.Primitive.TheVariants.{Split}
 use Rattle.cw_rights.specs.Capabilities.{applied}
 use Rattle.cw_rights.specs.Policies.{PlainPolicy, primitives}
 use Rattle.cw_certs.specs.declared.moves.Move.{Move}
@@ -14,7 +14,7 @@ use Rattle.cw_model.specs.declared.choices.Phase.{Phase as HeldPhase}
 use Rattle.cw_model.specs.declared.choices.Phase.TheVariants.{Visit as HeldVisit, Asked as HeldAsked, Split as HeldSplit, Over as HeldOver}
 use Rattle.cw_model.specs.declared.choices.Choice.{Choice}
 use Rattle.cw_model.specs.declared.choices.Choice.TheVariants.{Refused, To, Grants, Steps}
-use Rattle.cw_model.specs.Boards.{Problem, Phase, Visit, Asked, Free, FreeSplit, Over, Board, primitives_in, onward, may_grant, may_refuse, way_of, stepped}
+use Rattle.cw_model.specs.Boards.{Problem, Phase, Asked, FreeSplit, Over, Board, primitives_in, onward, may_grant, may_refuse, way_of, stepped}
 
 -- the primitives that are passed at a front item of this kind
 abbrev pub primitives_by : PlainPolicy → Option Kind → List Primitive

@@ -1,5 +1,5 @@
 -- What the program holds of a board, and the board that it stands for.
-use Rattle.std.specs.Prelude.{◌≡◌, ◌<◌, suc, ◌+◌, ℕ, Bool, List, [], ◌∷◌, Option, Some, None, map}
+use Rattle.std.specs.Prelude.{◌≡◌, ◌<◌, suc, ◌+◌, ℕ, List, [], ◌∷◌, map}
 use Rattle.std.specs.declared.collections.VecDeque.{VecDeque}
 use Rattle.std.specs.declared.alloc.Global.{Global}
 use Rattle.cw_rights.specs.Policies.{PlainPolicy}
@@ -7,7 +7,7 @@ use Rattle.cw_syntax.specs.declared.checked.Checked.{Checked}
 use Rattle.cw_syntax.specs.declared.program.Stmt.{Stmt}
 use Rattle.cw_syntax.specs.declared.program.Function.{Function}
 use Rattle.cw_syntax.specs.Trees.{statement_of, statements_of, file_of}
-use Rattle.cw_syntax.specs.Plans.{Stm, Stms, Plain, Break, Continue, Return, Open, Close, Call, Group, Label, If, While, Do, For, end, then, Scene, scene_of, steps_of, steps_of_all, numbered, seams_all, Plan, plan_of}
+use Rattle.cw_syntax.specs.Plans.{Stm, Stms, Plain, Group, While, Do, For, end, then, Scene, scene_of, steps_of, steps_of_all, numbered, seams_all, Plan, plan_of}
 use Rattle.cw_syntax.specs.Frames.{Item, Entry, Todo, Test, After, Mark, End, Frame, settle}
 use Rattle.cw_model.specs.declared.items.Item.{Item as Held}
 use Rattle.cw_model.specs.declared.items.Item.TheVariants.{Entry as HeldEntry, Todo as HeldTodo, Nothing as HeldNothing, Init as HeldInit, Test as HeldTest, After as HeldAfter, Mark as HeldMark, End as HeldEnd}

@@ -1,5 +1,5 @@
 -- Boards as the program holds them.
-use Rattle.std.specs.Prelude.{◌≡◌, ◌↔◌, IsTrue, ℕ, List, [], ◌∷◌, ◌++◌, Bool, true, false, Option, Some, None, drop, slice_get, is_some}
+use Rattle.std.specs.Prelude.{◌↔◌, IsTrue, List, [], ◌∷◌, Bool, true, false, Option, Some, None, drop, is_some}
 use Rattle.cw_rights.specs.declared.capabilities.Caps.{Caps}
 use Rattle.cw_rights.specs.declared.words.Letter.{Letter}
 use Rattle.cw_rights.specs.Capabilities.{closed}

@@ -1,5 +1,5 @@
 -- What a front item does, without what stands in it or behind it.
-use Rattle.std.specs.Prelude.{ℕ, Bool, Option, Some, None, List, [], ◌∷◌}
+use Rattle.std.specs.Prelude.{Option, Some, None, List, [], ◌∷◌}
 use Rattle.cw_syntax.specs.Plans.{Action, Computes, Opens, Closes, Invokes, Stm, Plain, Break, Continue, Return, Open, Close, Call, Group, Label, If, While, Do, For}
 use Rattle.cw_syntax.specs.Frames.{Item, Entry, Todo, Test, After, Mark, End, Frame}
 use Rattle.cw_model.specs.declared.actions.Act.{Act}

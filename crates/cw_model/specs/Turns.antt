@@ -1,10 +1,10 @@
 -- How a step passes a front item, by its kind.
-use Rattle.std.specs.Prelude.{ℕ, true, false, List, [], ◌∷◌, Option, Some, None, option_map}
-use Rattle.cw_syntax.specs.Plans.{Stm, Plain, Break, Continue, Return, Open, Close, Call, Group, Label, If, While, Do, For, Plan}
-use Rattle.cw_syntax.specs.Frames.{Item, Entry, Todo, Test, After, Mark, End, Frame, after_if, broken, continued, ended, settle, popped, frame_of, Way}
+use Rattle.std.specs.Prelude.{true, false, List, ◌∷◌, Option, Some, None, option_map}
+use Rattle.cw_syntax.specs.Plans.{Label, If, Plan}
+use Rattle.cw_syntax.specs.Frames.{Item, Todo, Test, Frame, after_if, broken, continued, ended, settle, popped, frame_of, Way}
 use Rattle.cw_syntax.specs.Frames.{On as OnWay, Left as LeftWay, Right as RightWay, Opened as OpenedWay, Failed as FailedWay}
 use Rattle.cw_model.specs.declared.kinds.Kind.{Kind}
-use Rattle.cw_model.specs.declared.kinds.Kind.TheVariants.{Entry as EntryKind, Plain as PlainKind, Break as BreakKind, Continue as ContinueKind, Return as ReturnKind, Open as OpenKind, Close as CloseKind, Call as CallKind, Group as GroupKind, Label as LabelKind, If as IfKind, Loop as LoopKind, Test as TestKind, Step as StepKind, Mark as MarkKind, End as EndKind}
+use Rattle.cw_model.specs.declared.kinds.Kind.TheVariants.{Entry as EntryKind, Plain as PlainKind, Break as BreakKind, Continue as ContinueKind, Return as ReturnKind, Open as OpenKind, Close as CloseKind, Call as CallKind, Label as LabelKind, If as IfKind, Test as TestKind, Step as StepKind, End as EndKind}
 use Rattle.cw_model.specs.declared.turns.Way.{Way as HeldWay}
 use Rattle.cw_model.specs.declared.turns.Way.TheVariants.{On, Left, Right, Opened, Failed}
 use Rattle.cw_model.specs.declared.turns.Turn.{Turn}

@@ -9,9 +9,7 @@ ghost use Rattle.cw_rights.specs.Policies.{policy_of};
 ghost use Rattle.cw_model.specs.Held.{scene_in};
 ghost use Rattle.cw_model.specs.Kinds.{act_of};
 
-use crate::names::{
-    descriptor_named, descriptor_numbered, function_named, is_split, slice, text,
-};
+use crate::names::{descriptor_named, descriptor_numbered, function_named, is_split, slice, text};
 use cw_rights::Policy;
 use cw_syntax::checked::Checked;
 use cw_syntax::program::{Expr, Name, Op};

@@ -14,9 +14,7 @@ ghost use Rattle.cw_model.specs.HeldBoards.{board_in, board_of, problem_in, IsBo
 ghost use Rattle.cw_model.specs.Turns.{way_in};
 ghost use Rattle.std.specs.Prelude.{option_map};
 
-use crate::changes::{
-    caps_after, is_bad_with, kept_after, reached_letter, way_of, with_letter,
-};
+use crate::changes::{caps_after, is_bad_with, kept_after, reached_letter, way_of, with_letter};
 use crate::choices::{Choice, Phase, choice_of};
 use crate::items::Item;
 use crate::kinds::{Kind, front_kind};

@@ -45,7 +45,13 @@ pub(crate) fn put_all<'s>(
         let statement = &statements[i];
         let own = seams(checked, policy, statement).ok_or(AllocError)?;
         at = at.checked_sub(own).ok_or(AllocError)?;
-        frame = put(frame, Item::Todo { statement, seam: at })?;
+        frame = put(
+            frame,
+            Item::Todo {
+                statement,
+                seam: at,
+            },
+        )?;
     }
     Ok(frame)
 }

@@ -6,8 +6,14 @@ use cw_syntax::program::Stmt;
 /// whether there is a condition, whether a step comes after the body, and the body.
 #[derive(Clone, Copy, Drop)]
 pub(crate) enum Item<'s> {
-    Entry { function: usize, seam: usize },
-    Todo { statement: &'s Stmt, seam: usize },
+    Entry {
+        function: usize,
+        seam: usize,
+    },
+    Todo {
+        statement: &'s Stmt,
+        seam: usize,
+    },
     /// The arm of an `if` that isn't there.
     Nothing,
     /// The init of a `for`, by its place.

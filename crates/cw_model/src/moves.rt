@@ -97,12 +97,7 @@ fn may_turn(
     }
 }
 
-fn may_pass(
-    checked: &Checked,
-    policy: &Policy,
-    stack: &VecDeque<VecDeque<Item>>,
-    way: Way,
-) -> bool
+fn may_pass(checked: &Checked, policy: &Policy, stack: &VecDeque<VecDeque<Item>>, way: Way) -> bool
     requires { IsValid (policy_of policy.now) }
     ensures { result ≡ is_some (pass (plan_in checked.now (policy_of policy.now)) (stack_in (scene_in checked.now (policy_of policy.now)) stack.now) (way_in way)) }
 {
@@ -118,12 +113,7 @@ fn may_pass(
     }
 }
 
-fn may_step(
-    checked: &Checked,
-    policy: &Policy,
-    stack: &VecDeque<VecDeque<Item>>,
-    by: Move,
-) -> bool
+fn may_step(checked: &Checked, policy: &Policy, stack: &VecDeque<VecDeque<Item>>, by: Move) -> bool
     requires { IsValid (policy_of policy.now) }
     ensures { result ≡ may_step (problem_in checked.now (policy_of policy.now)) (stack_in (scene_in checked.now (policy_of policy.now)) stack.now) (way_of by) }
 {

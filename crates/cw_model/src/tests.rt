@@ -19,9 +19,13 @@ use std::test::Fail;
 const SOURCE: &[u8] = b"main g open close a b x";
 
 const MAIN: Name = Name { from: 0, to: 4 };
+
 const G: Name = Name { from: 5, to: 6 };
+
 const OPEN: Name = Name { from: 7, to: 11 };
+
 const CLOSE: Name = Name { from: 12, to: 17 };
+
 const X: Name = Name { from: 22, to: 23 };
 
 fn bytes(alloc: Global, text: &[u8]) -> Result<Vec<u8>, AllocError>
@@ -192,10 +196,7 @@ fn loops(alloc: Global) -> Result<Vec<Stmt>, AllocError> {
         Box::new(alloc, head)?,
         Box::new(alloc, stmt(What::Continue, 7))?,
     );
-    Ok(Vec::from_array(
-        alloc,
-        [stmt(first, 0), stmt(second, 4), stmt(third, 6)],
-    )?)
+    Ok(Vec::from_array(alloc, [stmt(first, 0), stmt(second, 4), stmt(third, 6)])?)
 }
 
 #[test]
@@ -290,10 +291,7 @@ fn a_split_call_gives_back_what_its_caller_held(rt: HostRuntime) -> Result<(), F
 /// `if (x) g();`
 fn recursion(alloc: Global) -> Result<Vec<Stmt>, AllocError> {
     let arm = Box::new(alloc, call(alloc, G))?;
-    Ok(Vec::from_array(
-        alloc,
-        [stmt(What::If(variable(alloc), arm, None), 0)],
-    )?)
+    Ok(Vec::from_array(alloc, [stmt(What::If(variable(alloc), arm, None), 0)])?)
 }
 
 #[test]

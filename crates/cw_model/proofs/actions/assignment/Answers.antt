@@ -5,7 +5,7 @@ use Rattle.cw_syntax.specs.declared.program.Op.TheVariants.{Assign}
 use Rattle.cw_syntax.specs.Plans.{action_of}
 use Rattle.cw_model.specs.Held.{scene_in}
 use Rattle.cw_model.specs.Kinds.{act_of}
-use Rattle.cw_model.proofs.Acting.{not_two, two_parts, by_operator}
+use Rattle.cw_model.proofs.Acting.{not_two}
 use Rattle.cw_model.proofs.actions.assignment.Goals as goal
 
 pub returns-in_default : goal.returns-in_default

@@ -1,4 +1,4 @@
-use Rattle.std.proofs.Common.{◌≡◌, ◌≢◌, length, ap, sym, arith}
+use Rattle.std.proofs.Common.{◌≢◌, length, ap, sym, arith}
 use Rattle.cw_rights.specs.Policies.{policy_of}
 use Rattle.cw_model.specs.Held.{scene_in}
 use Rattle.cw_model.specs.Kinds.{act_of}

@@ -1,4 +1,4 @@
-use Rattle.std.proofs.Common.{◌≡◌, Some, None, true, false, refl, ap, sym, ◌∙◌}
+use Rattle.std.proofs.Common.{◌≡◌, Some, true, false, ap, sym, ◌∙◌}
 use Rattle.std.specs.Prelude.{option_map}
 use Rattle.std.proofs.lemmas.Option.{none-some}
 use Rattle.cw_rights.specs.Policies.{policy_of}
@@ -22,7 +22,10 @@ returns-in_ok-after-in-Some c =
     let s = scene_in c.args.checked.now pol in
     let p = problem_in c.args.checked.now pol in
     let b = board_in pol s c.args.board.state in
-    let m = moved_by_kind p b c.front_kind-kind.result c.args.board.state.phase c.args.by c.choice_of-choice.result c.front_kind-kind.ensures c.choice_of-choice.ensures in
-    ((λ v. let t = c.requires.board.1 v in let z : false ≡ true = sym c.if-violates.false ∙ t in absurd (cc),
-    m ∙ sym c.in_ok-chosen.ensures ∙ ap (option_map (board_in pol s)) c.in-Some.is ∙ ap Some (sym c.in_ok-after-in-Some.ensures.same)),
-    c.in_ok-after-in-Some.ensures.board)
+    let m = moved_by_kind p b c.front_kind-kind.result c.args.board.state.phase c.args.by c.choice_of-choice.result c.front_kind-kind.ensures c.choice_of-choice.ensures in (
+      (
+        λ v. let t = c.requires.board.1 v in let z : false ≡ true = sym c.if-violates.false ∙ t in absurd (cc),
+        m ∙ sym c.in_ok-chosen.ensures ∙ ap (option_map (board_in pol s)) c.in-Some.is ∙ ap Some (sym c.in_ok-after-in-Some.ensures.same),
+      ),
+      c.in_ok-after-in-Some.ensures.board,
+    )

@@ -1,4 +1,4 @@
-use Rattle.std.proofs.Common.{◌≡◌, ◌∷◌, [], ◌++◌, Some, None, refl, ap, sym, ◌∙◌, subst}
+use Rattle.std.proofs.Common.{◌∷◌, [], ◌++◌, Some, None, refl, sym, subst}
 use Rattle.cw_rights.specs.Policies.{policy_of, IsBad}
 use Rattle.cw_model.specs.Held.{scene_in}
 use Rattle.cw_model.specs.HeldBoards.{board_in, problem_in}

@@ -1,9 +1,9 @@
-use Rattle.std.proofs.Common.{◌≡◌, ◌<◌, ◌≤◌, List, [], length, get_or, subst, ap, sym, ◌∙◌, refl, true, arith, rules}
+use Rattle.std.proofs.Common.{◌≡◌, ◌<◌, ◌≤◌, List, [], length, get_or, subst, ap, sym, ◌∙◌, refl, arith, rules}
 use Rattle.std.proofs.lemmas.Bool.Decides.{nat_tests}
 use Rattle.cw_rights.specs.declared.policy.Rule.{Rule}
 use Rattle.cw_rights.specs.Trees.{tree_of}
 use Rattle.cw_rights.specs.Words.{Matches}
-use Rattle.cw_rights.specs.Policies.{rule_of, policy_of, IsBad}
+use Rattle.cw_rights.specs.Policies.{rule_of}
 use Rattle.cw_model.proofs.Gets.{get_mapped, from_mapped}
 use Rattle.cw_model.proofs.changes.is_bad.Goals as goal
 
@@ -21,9 +21,10 @@ returns-then-matches_plain c =
 pub returns : goal.returns
 returns c =
     let xs = c.args.policy.now.rules.items in
-    let l : length xs ≤ c.loop-rule.rule-index = search rules in
-    (λ z. absurd (cc),
-    λ bad.
-        let g = from_mapped rule_of xs bad.0 bad.1.1 bad.1.2 in
-        let k : bad.0 < c.loop-rule.rule-index = omega (arith, g.1, l) in
-        absurd (c.loop-rule.invariant bad.0 g.0 k g.2 (subst (λ r. Matches r.bad c.args.word.now) (sym g.3) bad.1.3)))
+    let l : length xs ≤ c.loop-rule.rule-index = search rules in (
+      λ z. absurd (cc),
+      λ bad.
+          let g = from_mapped rule_of xs bad.0 bad.1.1 bad.1.2 in
+          let k : bad.0 < c.loop-rule.rule-index = omega (arith, g.1, l) in
+          absurd (c.loop-rule.invariant bad.0 g.0 k g.2 (subst (λ r. Matches r.bad c.args.word.now) (sym g.3) bad.1.3)),
+    )

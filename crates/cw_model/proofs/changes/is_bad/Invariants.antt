@@ -1,4 +1,4 @@
-use Rattle.std.proofs.Common.{◌≡◌, ◌<◌, ◌≤◌, ℕ, ◌∷◌, length, get_or}
+use Rattle.std.proofs.Common.{◌≡◌, ◌<◌, ℕ, get_or}
 use Rattle.cw_rights.specs.declared.policy.Rule.{Rule}
 use Rattle.cw_rights.specs.Words.{Matches}
 use Rattle.cw_rights.specs.Trees.{tree_of}

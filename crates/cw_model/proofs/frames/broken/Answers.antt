@@ -1,4 +1,4 @@
-use Rattle.std.proofs.Common.{◌≡◌, ◌∷◌, [], map, ap, sym, ◌∙◌}
+use Rattle.std.proofs.Common.{◌∷◌, map, ap, sym, ◌∙◌}
 use Rattle.cw_syntax.specs.Frames.{broken}
 use Rattle.cw_model.specs.Held.{item_of}
 use Rattle.cw_model.proofs.Dropped.{broken_other, none_left}

@@ -1,4 +1,4 @@
-use Rattle.std.proofs.Common.{Some, ◌≡◌, ◌∷◌, [], map, ap, sym, ◌∙◌}
+use Rattle.std.proofs.Common.{Some, map, ap, sym, ◌∙◌}
 use Rattle.cw_syntax.specs.Frames.{continued}
 use Rattle.cw_model.specs.Held.{item_of}
 use Rattle.cw_model.proofs.Dropped.{continued_other, continued_stays, none_left}

@@ -1,4 +1,4 @@
-use Rattle.std.proofs.Common.{◌≡◌, ◌∷◌, ap, ap₂, sym, ◌∙◌}
+use Rattle.std.proofs.Common.{◌∷◌, ap, ap₂, ◌∙◌}
 use Rattle.std.specs.Prelude.{option_map}
 use Rattle.cw_syntax.specs.declared.program.Head.{out-Head}
 use Rattle.cw_syntax.specs.declared.program.Stmt.{Stmt}

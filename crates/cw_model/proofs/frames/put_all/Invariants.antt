@@ -1,8 +1,5 @@
-use Rattle.std.proofs.Common.{◌≡◌, ◌≤◌, ◌+◌, drop, length}
-use Rattle.cw_syntax.specs.Plans.{numbered_all, seams_all}
-use Rattle.cw_syntax.specs.Frames.{items_of}
 use Rattle.cw_rights.specs.Policies.{policy_of}
-use Rattle.cw_model.specs.Held.{scene_in, stms_in, frame_in}
+use Rattle.cw_model.specs.Held.{scene_in, frame_in}
 use Rattle.cw_model.proofs.Putting.{Puts}
 use Rattle.cw_model.proofs.frames.put_all.Given as goal
 

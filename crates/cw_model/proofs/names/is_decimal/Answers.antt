@@ -1,4 +1,4 @@
-use Rattle.std.proofs.Common.{refl, ◌≡◌, ◌<◌, ℕ, ◌+◌, ◌^◌, nat_eq, length, true, false, eqb-true, sym, ap, ◌∙◌, subst, arith, rules, Some}
+use Rattle.std.proofs.Common.{refl, ◌≡◌, ◌<◌, ◌+◌, ◌^◌, nat_eq, length, false, subst, arith, rules}
 use Rattle.std.specs.Fmt.{decimal}
 use Rattle.cw_core.specs.Numerals.{IsDecimalAt}
 use Rattle.cw_model.proofs.Digits.{ends_there, other_number, no_number}
