@@ -8,3 +8,5 @@ pub mod LaidGraph
 pub mod Plains
 pub mod Lays
 pub mod Marking
+pub mod Example
+pub mod Rows

@@ -4,3 +4,5 @@
 pub mod first;
 pub mod marks;
 pub mod positions;
+#[cfg(test)]
+mod tests;
