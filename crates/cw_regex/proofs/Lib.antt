@@ -8,6 +8,7 @@ pub mod Fronts
 pub mod Joining
 pub mod Labelling
 pub mod Naming
+pub mod Nested
 pub mod Numbers
 pub mod Parsing
 pub mod Placing
@@ -16,3 +17,4 @@ pub mod Runs
 pub mod Scanned
 pub mod Stepping
 pub mod Subjects
+pub mod Within

@@ -2,7 +2,8 @@
 
 ghost use Rattle.std.specs.Prelude.{◌≡◌, ◌+◌, ◌<◌, ◌≤◌, ◌^◌, List, ℕ, [], None, false, length, OnOk, IfOk, IfErr};
 ghost use Rattle.indexmap.specs.IndexSet.{index_set_len};
-ghost use Rattle.cw_rights.specs.Trees.{tree_of};
+ghost use Rattle.cw_rights.specs.Trees.{tree_of, nesting};
+ghost use Rattle.cw_rights.specs.Valid.{IsTreeWithin, IsTestWithin};
 ghost use Rattle.cw_regex.specs.Parts.{parts, placed};
 ghost use Rattle.cw_regex.specs.Grammar.{Expression, TestForm, Spells, SpellsTest, IsExpression, IsTest, spelled};
 ghost use Rattle.cw_regex.specs.Labels.{names_in};
@@ -71,6 +72,7 @@ pub fn read_test(text: &str, descriptors: &[Descriptor]) -> Result<(bool, Test),
     ensures known { OnOk result (first_unknown (names_of descriptors.now) false (placed 0 text.now) ≡ None) }
     ensures means { IfOk result (λ r. (t : TestForm) → SpellsTest text.now t →
         r ≡ test_meaning (names_of descriptors.now) t) }
+    ensures within { IfOk result (λ r. IsTestWithin (length descriptors.now) r.1) }
     ensures fault { IfErr result (λ e. IsTestFault (names_of descriptors.now) text.now e) }
 {
     let text = text.as_bytes();
@@ -166,6 +168,8 @@ fn read_bytes(
     ensures few { OnOk result (index_set_len labels.new ≤ index_set_len labels.old + length text.now) }
     ensures means { IfOk result (λ r. (e : Expression) → Spells text.now e →
         tree_of r ≡ meaning (names_in labels.new.keys) (names_of descriptors.now) e) }
+    ensures within { IfOk result (λ r. IsTreeWithin (length descriptors.now) (length labels.new.keys) (tree_of r)) }
+    ensures nesting { IfOk result (λ r. nesting (tree_of r) ≤ 64) }
     ensures fault { IfErr result (λ e. IsRegexFault (names_of descriptors.now) text.now e) }
 {
     sound(text, descriptors)?;
@@ -193,6 +197,8 @@ pub fn read_regex(
     ensures few { OnOk result (index_set_len labels.new ≤ index_set_len labels.old + length text.now) }
     ensures means { IfOk result (λ r. (e : Expression) → Spells text.now e →
         tree_of r ≡ meaning (names_in labels.new.keys) (names_of descriptors.now) e) }
+    ensures within { IfOk result (λ r. IsTreeWithin (length descriptors.now) (length labels.new.keys) (tree_of r)) }
+    ensures nesting { IfOk result (λ r. nesting (tree_of r) ≤ 64) }
     ensures fault { IfErr result (λ e. IsRegexFault (names_of descriptors.now) text.now e) }
 {
     let regex = read_bytes(alloc, text.as_bytes(), descriptors, labels)?;
