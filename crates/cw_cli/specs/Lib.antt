@@ -1,0 +1,4 @@
+pub mod Due
+pub mod Words
+pub mod Ends
+pub mod Lines
