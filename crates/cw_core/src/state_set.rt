@@ -100,6 +100,16 @@ impl StateSet {
         StateSet { words: [0; 8] }
     }
 
+    /// The set of the numbers whose bits are 1: s where bit s is.
+    #[tactic(auto, unfolding(crate::specs::Words::number_of))]
+    pub fn from_bits(bits: u64) -> StateSet
+        ensures { result ≡ bits }
+    {
+        StateSet {
+            words: [bits, 0, 0, 0, 0, 0, 0, 0],
+        }
+    }
+
     /// Whether the set has a number.
     pub fn contains(&self, s: StateId) -> bool
         requires in_range { s.0 < 512 }

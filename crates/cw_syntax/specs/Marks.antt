@@ -1,7 +1,10 @@
 -- The marks of the seams, in the order of the text.
-use Rattle.std.specs.Prelude.{◌≡◌, ℕ, List, [], ◌∷◌, ◌++◌, Option, map, length}
+use Rattle.std.specs.Prelude.{◌≡◌, ◌≤◌, ℕ, List, [], ◌∷◌, ◌++◌, Option, map, length}
 use Rattle.std.specs.List.{range_with_len}
 use Rattle.cw_syntax.specs.declared.program.Name.{Name}
+use Rattle.cw_syntax.specs.declared.marks.MarkKind.{MarkKind as KindData}
+use Rattle.cw_syntax.specs.declared.marks.MarkKind.TheVariants.{Entry as EntryData, Label as LabelData, Open as OpenData, Close as CloseData, Call as CallData}
+use Rattle.cw_syntax.specs.declared.marks.SeamMark.{SeamMark as MarkData}
 use Rattle.cw_syntax.specs.Names.{Names}
 use Rattle.cw_syntax.specs.Trees.{File}
 use Rattle.cw_syntax.specs.Plans.{Callee, Stm, Plain, Break, Continue, Return, Open, Close, Call, Group, Label, If, While, Do, For, Stms, end, then, Routine, Plan, plan_of}
@@ -19,6 +22,17 @@ pub record SeamMark : Type 0 where
   pub place : ℕ
   pub seam : ℕ
   pub kind : MarkKind
+
+-- what the program's data stand for
+abbrev pub kind_of : KindData → MarkKind
+kind_of EntryData = EntryMark
+kind_of LabelData = LabelMark
+kind_of (OpenData d) = OpenMark d
+kind_of CloseData = CloseMark
+kind_of (CallData result) = CallMark result
+
+abbrev pub mark_of : MarkData → SeamMark
+mark_of m = record { place = m.place; seam = m.seam; kind = kind_of m.kind }
 
 abbrev mutual
   pub marks_in : Stm → List SeamMark
@@ -46,6 +60,11 @@ marks_from (r ∷ rs) = record { place = r.mark; seam = r.seam; kind = EntryMark
 
 abbrev pub marks_of : Plan → List SeamMark
 marks_of plan = marks_from plan.routines
+
+-- the marks stand in the order of their places, from this one on, and within a source of this length
+abbrev pub AreInOrder : ℕ → ℕ → List SeamMark → Type 0
+AreInOrder at len [] = at ≤ len
+AreInOrder at len (m ∷ ms) = (at ≤ m.place) × (m.place ≤ len) × AreInOrder m.place len ms
 
 -- The seams of every program are numbered from 0 in the order of their marks.
 abbrev pub SeamsAreInOrder : Type 0

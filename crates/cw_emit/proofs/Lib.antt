@@ -1,0 +1,4 @@
+pub mod OneMark
+pub mod Slashes
+pub mod Openings
+pub mod Cutting

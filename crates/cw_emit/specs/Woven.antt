@@ -1,0 +1,56 @@
+-- The woven text: a prologue with the table, and the source with the marks of its seams.
+use Rattle.std.specs.Prelude.{◌≡◌, ℕ, ◌-◌, List, [], ◌∷◌, ◌++◌, None, Some, take, drop, codes}
+use Rattle.std.specs.Fmt.{decimal}
+use Rattle.std.specs.List.{All}
+use Rattle.cw_rights.specs.Policies.{PlainPolicy}
+use Rattle.cw_syntax.specs.Names.{text}
+use Rattle.cw_syntax.specs.Marks.{MarkKind, EntryMark, LabelMark, OpenMark, CloseMark, CallMark, SeamMark}
+use Rattle.cw_certs.specs.Tables.{Table}
+use Rattle.cw_text.specs.Lines.{line, with_fields}
+use Rattle.cw_text.specs.TableText.{table_text}
+use Rattle.cw_text.specs.LimitsText.{descriptor_name, limits_line}
+use Rattle.cw_emit.specs.Cut.{HasNone, part}
+
+-- A mark as it is spelled. That of an entry is a statement of its own, the others are prefixes of one. An open has the
+-- descriptor's name in the policy, a call whose result is taken the variable that takes it.
+abbrev pub spelling : PlainPolicy → List ℕ → ℕ → MarkKind → List ℕ
+spelling policy source seam EntryMark = with_fields (codes "CW_ENTRY") (decimal seam ∷ []) ++ codes ";"
+spelling policy source seam LabelMark = with_fields (codes "CW_LABEL") (decimal seam ∷ [])
+spelling policy source seam (OpenMark d) = with_fields (codes "CW_OPEN") (decimal seam ∷ descriptor_name policy d ∷ [])
+spelling policy source seam CloseMark = with_fields (codes "CW_CLOSE") (decimal seam ∷ [])
+spelling policy source seam (CallMark None) = with_fields (codes "CW_CALL") (decimal seam ∷ [])
+spelling policy source seam (CallMark (Some x)) = with_fields (codes "CW_CALLV") (decimal seam ∷ text source x ∷ [])
+
+abbrev pub spelled : PlainPolicy → List ℕ → SeamMark → List ℕ
+spelled policy source m = spelling policy source m.seam m.kind
+
+-- the source from a place on, with each mark at its place
+unfoldable pub woven_from : PlainPolicy → List ℕ → ℕ → List SeamMark → List ℕ
+woven_from policy source at [] = drop at source
+woven_from policy source at (m ∷ ms) = take (m.place - at) (drop at source) ++ (part (spelled policy source m) ++ woven_from policy source m.place ms)
+
+abbrev pub woven : PlainPolicy → List ℕ → List SeamMark → List ℕ
+woven policy source marks = woven_from policy source 0 marks
+
+-- the header that the marks need, the policy's limits and the table; the first line has the opening alone
+abbrev pub prologue_lines : PlainPolicy → Table → List ℕ
+prologue_lines policy table = line [] ++ line (codes "#include \"capweave.h\"") ++ limits_line policy ++ table_text table
+
+-- a part with these lines
+abbrev pub prologue : PlainPolicy → Table → List ℕ
+prologue policy table = part (prologue_lines policy table)
+
+-- the text is the prologue, and then the source with its marks
+abbrev pub Stands : List ℕ → List ℕ → List SeamMark → Table → PlainPolicy → Type 0
+Stands text source marks table policy = text ≡ prologue policy table ++ woven policy source marks
+
+-- no name that is spelled has a slash: a name has letters, digits and `_`
+abbrev pub ArePlainNames : PlainPolicy → Type 0
+ArePlainNames policy = (d : ℕ) → HasNone (codes "/") (descriptor_name policy d)
+
+abbrev pub IsPlainKind : List ℕ → MarkKind → Type 0
+IsPlainKind source (CallMark (Some x)) = HasNone (codes "/") (text source x)
+IsPlainKind source _ = Unit {0}
+
+abbrev pub ArePlainMarks : List ℕ → List SeamMark → Type 0
+ArePlainMarks source marks = All (λ m. IsPlainKind source m.kind) marks

@@ -1,0 +1,4 @@
+pub mod Lines
+pub mod TableText
+pub mod LimitsText
+pub mod StrategyText
