@@ -3,3 +3,4 @@ pub mod Fronts
 pub mod Stands
 pub mod Moves
 pub mod Reached
+pub mod Ambients

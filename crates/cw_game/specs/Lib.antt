@@ -2,3 +2,5 @@ pub mod Games
 pub mod Reached
 pub mod Places
 pub mod Conditions
+pub mod Ambient
+pub mod Laid

@@ -1,0 +1,6 @@
+pub mod Lost
+pub mod Heights
+pub mod Least
+pub mod Needed
+pub mod Rows
+pub mod Ascends
