@@ -1,0 +1,3 @@
+-- The proofs.
+pub mod Names
+pub mod Whole
