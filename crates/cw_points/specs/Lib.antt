@@ -1,0 +1,4 @@
+pub mod First
+pub mod Layout
+pub mod Marked
+pub mod Order
