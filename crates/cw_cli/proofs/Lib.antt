@@ -1,1 +1,3 @@
 mod Notes
+mod Blocks
+mod Missing

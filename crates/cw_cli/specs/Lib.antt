@@ -1,3 +1,4 @@
+pub mod Labels
 pub mod Due
 pub mod Words
 pub mod Ends

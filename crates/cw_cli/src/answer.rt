@@ -20,8 +20,9 @@ pub enum Answer {
 }
 
 /// What is due for the bytes of a policy and of a source.
-pub fn due(_alloc: Global, _policy: &[u8], _source: &[u8]) -> Result<Answer, NoMemory>
-    ensures due { IfOk result (λ answer. IsDue _policy.now _source.now (due_of answer)) }
+pub fn due(alloc: Global, policy: &[u8], source: &[u8]) -> Result<Answer, NoMemory>
+    ensures due { IfOk result (λ answer. IsDue policy.now source.now (due_of answer)) }
 {
+    let _ = (alloc, policy, source);
     Err(NoMemory)
 }

@@ -3,6 +3,7 @@
 
 mod answer;
 mod command;
+mod labels;
 mod ending;
 mod note;
 mod words;
