@@ -1,0 +1,15 @@
+pub mod Within
+pub mod Fuel
+pub mod Steps
+pub mod Rows
+pub mod Sound
+pub mod Short
+pub mod Front
+pub mod Complete
+pub mod Tokens
+pub mod Counts
+pub mod Lie
+pub mod Whole
+pub mod Order
+pub mod Nest
+pub mod Star
