@@ -1,3 +1,5 @@
 -- The proofs.
 pub mod Names
+pub mod Spelled
+pub mod Views
 pub mod Whole
