@@ -11,3 +11,4 @@ mod Tops
 mod Fulls
 mod Striving
 mod Holding
+mod LaidLists

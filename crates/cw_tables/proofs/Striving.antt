@@ -340,16 +340,19 @@ module _ (g : List Node) (pol : AmbientPolicy) (hs : List ℕ) (ok : AreHeights 
       how_good k i (Some (BranchTo a b)) e n f h w = go_good k i (Some (BranchTo a b)) e n f (λ j q. cc) refl h w
       how_good k i (Some ExitAt) e n f h w = go_good k i (Some ExitAt) e n f (λ j q. cc) refl h w
 
+      row_good : (k : Key) (i : ℕ) (y : EnvRow) (r : Row) → In keys k → slice_get keys i ≡ Some k → slice_get rows i ≡ Some y → row_of y ≡ r → HowOk game strategy i r.pos r.state r.aim r.how
+      row_good k i y r n at there e =
+          let z = row_at k i n at in
+          let h = how_there k (slice_get g k.pos) refl n in
+          let ry = row_is k z.0 h.0 h.1 z.2 in
+          let yz : z.0 ≡ y = same_Some z.0 y (sym z.1 ∙ there) in
+          subst (λ (r : Row). HowOk game strategy i r.pos r.state r.aim r.how) (ap row_of (ry ∙ yz) ∙ e) (how_good k i (slice_get g k.pos) refl n at h.0 h.1)
+
       closed_by : IsClosedStrategy game strategy
       closed_by i r e =
           let y = map_from row_of rows i r e in
           let k = rows_none (env_row g pol hs keys) keys row_there i y.0 (sym (ap (λ l. slice_get l i) are) ∙ y.1) in
-          let n = in_from keys i k.0 k.1 in
-          let z = row_at k.0 i n k.1 in
-          let yz : z.0 ≡ y.0 = same_Some z.0 y.0 (sym z.1 ∙ y.1) in
-          let h = how_there k.0 (slice_get g k.0.pos) refl n in
-          let ry = row_is k.0 z.0 h.0 h.1 z.2 in
-          subst (λ (r : Row). HowOk game strategy i r.pos r.state r.aim r.how) (ap row_of (ry ∙ yz) ∙ y.2) (how_good k.0 i (slice_get g k.0.pos) refl n k.1 h.0 h.1)
+          row_good k.0 i y.0 r (in_from keys i k.0 k.1) k.1 y.1 y.2
 
       pub least_closed : pol.numbering ≡ numbering_of pol.tests.items g → IsClosedStrategy (ambient_game plain pol.tests.items g) strategy
       least_closed e = subst (λ num. IsClosedStrategy (game_by plain num pol g) strategy) e closed_by

@@ -5,3 +5,5 @@ pub mod closure;
 pub mod heights;
 pub mod strategies;
 pub mod tables;
+#[cfg(test)]
+mod tests;
