@@ -1,13 +1,18 @@
 -- What is woven is cut back to the source.
-use Rattle.std.proofs.Common.{◌≡◌, ℕ, suc, ◌+◌, ◌-◌, true, false, List, [], ◌∷◌, ◌++◌, length, take, drop, refl, sym, ap, ◌∙◌, arith, drop-drop}
-use Rattle.std.specs.Prelude.{codes}
+use Rattle.std.proofs.Common.{◌≡◌, ℕ, suc, ◌+◌, ◌-◌, true, false, List, [], ◌∷◌, ◌++◌, length, take, drop, refl, sym, ap, ◌∙◌, append_assoc, arith, drop-drop}
+use Rattle.std.specs.Prelude.{not, ◌==◌, codes}
+use Rattle.std.proofs.Math.Seq.{drop-append_seam}
+use Rattle.std.proofs.lemmas.Bool.{and_parts, true≢false, eq-eqb}
+use Rattle.cw_text.specs.Lines.{line}
+use Rattle.cw_text.specs.LimitsText.{limits_line}
+use Rattle.cw_text.specs.TableText.{table_text}
 use Rattle.std.proofs.lemmas.List.{append-nil, take-append-drop}
 use Rattle.cw_rights.specs.Policies.{PlainPolicy}
 use Rattle.cw_syntax.specs.Marks.{SeamMark, AreInOrder}
 use Rattle.cw_certs.specs.Tables.{Table}
-use Rattle.cw_emit.specs.Cut.{cut_from, cut, part, HasNone}
-use Rattle.cw_emit.specs.Woven.{spelled, woven_from, woven, prologue, prologue_lines, ArePlainNames, ArePlainMarks}
-use Rattle.cw_emit.proofs.Slashes.{plain_spelled, plain_prologue}
+use Rattle.cw_emit.specs.Cut.{closing, cut_from, cut, part, HasNone}
+use Rattle.cw_emit.specs.Woven.{spelled, woven_from, woven, prologue, prologue_lines, ArePlainNames, ArePlainMarks, StandsPlainly}
+use Rattle.cw_emit.proofs.Slashes.{is_plain, plain_spelled, plain_prologue}
 use Rattle.cw_emit.proofs.Openings.{is_free, free_from_none, free_cut, free_drop, free_take, part_cut}
 
 ends : (a : List ℕ) → a ++ cut_from 0 false [] ≡ a
@@ -36,3 +41,32 @@ pub cut_of_woven : (policy : PlainPolicy) (table : Table) (source : List ℕ) (m
 cut_of_woven policy table source ms none names plain order =
     part_cut (prologue_lines policy table) (woven policy source ms) (plain_prologue policy table names)
     ∙ woven_cut policy source ms 0 (free_from_none source none) names plain order
+
+cut_is : (text source : List ℕ) (ms : List SeamMark) (table : Table) (policy : PlainPolicy) → StandsPlainly text source ms table policy → cut text ≡ source
+cut_is text source ms table policy s = ap cut s.stands ∙ cut_of_woven policy table source ms s.free s.names s.marked s.order
+
+pub source_is_one : (text source other : List ℕ) (marks others : List SeamMark) (table table2 : Table) (policy policy2 : PlainPolicy) → StandsPlainly text source marks table policy → StandsPlainly text other others table2 policy2 → source ≡ other
+source_is_one text source other marks others table table2 policy policy2 s t = sym (cut_is text source marks table policy s) ∙ cut_is text other others table2 policy2 t
+
+-- what stands before the first slash
+before_slash : (a b x y : List ℕ) → is_plain a ≡ true → is_plain b ≡ true → a ++ 47 ∷ x ≡ b ++ 47 ∷ y → a ≡ b
+before_slash [] [] x y p q e = refl
+before_slash [] (c ∷ b) x y p q e = let f : c ≡ 47 = cc in absurd (true≢false (sym (and_parts (not (c == 47)) (is_plain b) q).0 ∙ ap not (eq-eqb c 47 f)))
+before_slash (c ∷ a) [] x y p q e = let f : c ≡ 47 = cc in absurd (true≢false (sym (and_parts (not (c == 47)) (is_plain a) p).0 ∙ ap not (eq-eqb c 47 f)))
+before_slash (c ∷ a) (d ∷ b) x y p q e =
+    let f : c ≡ d = cc in
+    let g : a ++ 47 ∷ x ≡ b ++ 47 ∷ y = cc in
+    let h : a ≡ b = before_slash a b x y (and_parts (not (c == 47)) (is_plain a) p).1 (and_parts (not (d == 47)) (is_plain b) q).1 g in
+    cc
+
+part_shape : (a x : List ℕ) → drop 7 (part a ++ x) ≡ a ++ 47 ∷ (drop 1 closing ++ x)
+part_shape a x = append_assoc a closing x
+
+pub same_part : (a b x y : List ℕ) → is_plain a ≡ true → is_plain b ≡ true → part a ++ x ≡ part b ++ y → a ≡ b
+same_part a b x y p q e = before_slash a b (drop 1 closing ++ x) (drop 1 closing ++ y) p q (sym (part_shape a x) ∙ ap (drop 7) e ∙ part_shape b y)
+
+pub table_text_is_one : (text source other : List ℕ) (marks others : List SeamMark) (table table2 : Table) (policy : PlainPolicy) → StandsPlainly text source marks table policy → StandsPlainly text other others table2 policy → table_text table ≡ table_text table2
+table_text_is_one text source other marks others table table2 policy s t =
+    let lines : prologue_lines policy table ≡ prologue_lines policy table2 = same_part (prologue_lines policy table) (prologue_lines policy table2) (woven policy source marks) (woven policy other others) (plain_prologue policy table s.names) (plain_prologue policy table2 t.names) (sym s.stands ∙ t.stands) in
+    let head : List ℕ = line [] ++ line (codes "#include \"capweave.h\"") ++ limits_line policy in
+    sym (drop-append_seam head (table_text table)) ∙ ap (drop (length head)) lines ∙ drop-append_seam head (table_text table2)

@@ -1,10 +1,10 @@
 -- The woven text: a prologue with the table, and the source with the marks of its seams.
-use Rattle.std.specs.Prelude.{◌≡◌, ℕ, ◌-◌, List, [], ◌∷◌, ◌++◌, None, Some, take, drop, codes}
+use Rattle.std.specs.Prelude.{◌≡◌, ℕ, ◌-◌, List, [], ◌∷◌, ◌++◌, None, Some, length, take, drop, codes}
 use Rattle.std.specs.Fmt.{decimal}
 use Rattle.std.specs.List.{All}
 use Rattle.cw_rights.specs.Policies.{PlainPolicy}
 use Rattle.cw_syntax.specs.Names.{text}
-use Rattle.cw_syntax.specs.Marks.{MarkKind, EntryMark, LabelMark, OpenMark, CloseMark, CallMark, SeamMark}
+use Rattle.cw_syntax.specs.Marks.{MarkKind, EntryMark, LabelMark, OpenMark, CloseMark, CallMark, SeamMark, AreInOrder}
 use Rattle.cw_certs.specs.Tables.{Table}
 use Rattle.cw_text.specs.Lines.{line, with_fields}
 use Rattle.cw_text.specs.TableText.{table_text}
@@ -54,3 +54,11 @@ IsPlainKind source _ = Unit {0}
 
 abbrev pub ArePlainMarks : List ℕ → List SeamMark → Type 0
 ArePlainMarks source marks = All (λ m. IsPlainKind source m.kind) marks
+
+-- the text stands for the source, the marks and the table, and these are such that the weaver's parts can be told from the rest
+pub record StandsPlainly (text source : List ℕ) (marks : List SeamMark) (table : Table) (policy : PlainPolicy) : Type 0 where
+  pub stands : Stands text source marks table policy
+  pub free : HasNone (codes "cw{*") source
+  pub names : ArePlainNames policy
+  pub marked : ArePlainMarks source marks
+  pub order : AreInOrder 0 (length source) marks

@@ -87,7 +87,8 @@ fn are_in_order(marks: &[SeamMark], at: usize, length: usize) -> bool
     }
 }
 
-const LABEL_TEXT: &str = "/*cw{*/\n#include \"capweave.h\"\n#define CW_LIMITS(X)\nCW_TABLE(1,4,0)\nCW_MEM(0,0,0xf)\nCW_MEM(1,1,0xf)\nCW_MEM(2,3,0xf)\nCW_LIVE(0,0)\nCW_LIVE(2,0)\nCW_LIVE(3,0)\nCW_LIVE(4,0)\nCW_LIVE(5,1)\nCW_LIVE(6,2)\nCW_LIVE(7,2)\nCW_LIVE(8,2)\nCW_TRY(1,0,0,1,CW_NONE)\nCW_AT(1,1,2)\nCW_DONE\n/*}cw*/int main(void){/*cw{*/CW_ENTRY(0);/*}cw*/a:/*cw{*/CW_LABEL(1)/*}cw*/;return 0;}";
+const LABEL_TEXT: &str =
+    "/*cw{*/\n#include \"capweave.h\"\n#define CW_LIMITS(X)\nCW_TABLE(1,4,0)\nCW_MEM(0,0,0xf)\nCW_MEM(1,1,0xf)\nCW_MEM(2,3,0xf)\nCW_LIVE(0,0)\nCW_LIVE(2,0)\nCW_LIVE(3,0)\nCW_LIVE(4,0)\nCW_LIVE(5,1)\nCW_LIVE(6,2)\nCW_LIVE(7,2)\nCW_LIVE(8,2)\nCW_TRY(1,0,0,1,CW_NONE)\nCW_AT(1,1,2)\nCW_DONE\n/*}cw*/int main(void){/*cw{*/CW_ENTRY(0);/*}cw*/a:/*cw{*/CW_LABEL(1)/*}cw*/;return 0;}";
 
 #[test]
 fn one_label_is_woven(rt: HostRuntime) -> Result<(), Fail> {
@@ -126,23 +127,20 @@ fn every_mark_is_spelled(rt: HostRuntime) -> Result<(), Fail> {
         keep: Rights(0x1f),
     })?;
     let mut marks = Vec::new(alloc);
-    for (place, kind) in [
-        (1, MarkKind::Entry),
-        (1, MarkKind::Open(0)),
-        (16, MarkKind::Close),
-        (25, MarkKind::Call(None)),
-        (29, MarkKind::Call(Some(Name { from: 29, to: 30 }))),
-        (37, MarkKind::Label),
+    for (seam, place, kind) in [
+        (7, 1, MarkKind::Entry),
+        (8, 1, MarkKind::Open(0)),
+        (9, 16, MarkKind::Close),
+        (10, 25, MarkKind::Call(None)),
+        (11, 29, MarkKind::Call(Some(Name { from: 29, to: 30 }))),
+        (12, 37, MarkKind::Label),
     ] {
-        marks.push(SeamMark {
-            place,
-            seam: marks.len() as u32 + 7,
-            kind,
-        })?;
+        marks.push(SeamMark { place, seam, kind })?;
     }
     assert!(rt; are_in_order(&marks, 0, source.len()));
     let text = weave_text(alloc, source, &marks, &policy, &table(alloc))?;
-    let want = "/*cw{*/\n#include \"capweave.h\"\n#define CW_LIMITS(X) X(0,d,0x1f)\nCW_TABLE(1,4,0)\nCW_DONE\n/*}cw*/{/*cw{*/CW_ENTRY(7);/*}cw*//*cw{*/CW_OPEN(8,d)/*}cw*/d=open(p);/* *//*cw{*/CW_CLOSE(9)/*}cw*/close(d);/*cw{*/CW_CALL(10)/*}cw*/f();/*cw{*/CW_CALLV(11,y)/*}cw*/y=f(1);}/*cw{*/CW_LABEL(12)/*}cw*/";
+    let want =
+        "/*cw{*/\n#include \"capweave.h\"\n#define CW_LIMITS(X) X(0,d,0x1f)\nCW_TABLE(1,4,0)\nCW_DONE\n/*}cw*/{/*cw{*/CW_ENTRY(7);/*}cw*//*cw{*/CW_OPEN(8,d)/*}cw*/d=open(p);/* *//*cw{*/CW_CLOSE(9)/*}cw*/close(d);/*cw{*/CW_CALL(10)/*}cw*/f();/*cw{*/CW_CALLV(11,y)/*}cw*/y=f(1);}/*cw{*/CW_LABEL(12)/*}cw*/";
     assert_eq!(rt; text.as_slice(), want.as_bytes());
     Ok(())
 }

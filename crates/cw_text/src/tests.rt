@@ -3,9 +3,7 @@
 use crate::limits::put_limits;
 use crate::strategy::put_strategy;
 use crate::table::put_table;
-use cw_certs::{
-    AtRow, BackRow, EnvCert, EnvRow, How, IntoRow, Move, OpenRow, TryRow, WeaverCert,
-};
+use cw_certs::{AtRow, BackRow, EnvCert, EnvRow, How, IntoRow, Move, OpenRow, TryRow, WeaverCert};
 use cw_core::{MemId, NoMemory, PosId, SeamId, StateId, StateSet};
 use cw_rights::{Descriptor, Limit, Policy, Rights};
 use std::alloc::Global;
@@ -101,7 +99,8 @@ fn table_of_a_label_that_is_never_ambient(rt: HostRuntime) -> Result<(), Fail> {
     table.ats.push(after(1, 1, 2))?;
     let mut text = Vec::new(alloc);
     put_table(&table, &mut text)?;
-    let want = "CW_TABLE(1,4,0)\nCW_MEM(0,0,0xf)\nCW_MEM(1,1,0xf)\nCW_MEM(2,3,0xf)\nCW_LIVE(0,0)\nCW_LIVE(2,0)\nCW_LIVE(3,0)\nCW_LIVE(4,0)\nCW_LIVE(5,1)\nCW_LIVE(6,2)\nCW_LIVE(7,2)\nCW_LIVE(8,2)\nCW_TRY(1,0,0,1,CW_NONE)\nCW_AT(1,1,2)\nCW_DONE\n";
+    let want =
+        "CW_TABLE(1,4,0)\nCW_MEM(0,0,0xf)\nCW_MEM(1,1,0xf)\nCW_MEM(2,3,0xf)\nCW_LIVE(0,0)\nCW_LIVE(2,0)\nCW_LIVE(3,0)\nCW_LIVE(4,0)\nCW_LIVE(5,1)\nCW_LIVE(6,2)\nCW_LIVE(7,2)\nCW_LIVE(8,2)\nCW_TRY(1,0,0,1,CW_NONE)\nCW_AT(1,1,2)\nCW_DONE\n";
     assert_eq!(rt; text.as_slice(), want.as_bytes());
     Ok(())
 }
@@ -124,7 +123,8 @@ fn table_of_a_split_call(rt: HostRuntime) -> Result<(), Fail> {
     table.back.push(back(3, true, 0, 3, 2))?;
     let mut text = Vec::new(alloc);
     put_table(&table, &mut text)?;
-    let want = "CW_TABLE(1,4,0)\nCW_MEM(0,0,0xf)\nCW_MEM(1,1,0xf)\nCW_MEM(2,2,0xf)\nCW_MEM(3,3,0xf)\nCW_LIVE(0,0)\nCW_LIVE(19,2)\nCW_TRY(1,0,0,1,CW_NONE)\nCW_TRY(3,0,1,0,CW_NONE)\nCW_AT(1,1,3)\nCW_AT(4,2,2)\nCW_INTO(3,1,0,0)\nCW_BACK(3,1,0,3,2)\nCW_DONE\n";
+    let want =
+        "CW_TABLE(1,4,0)\nCW_MEM(0,0,0xf)\nCW_MEM(1,1,0xf)\nCW_MEM(2,2,0xf)\nCW_MEM(3,3,0xf)\nCW_LIVE(0,0)\nCW_LIVE(19,2)\nCW_TRY(1,0,0,1,CW_NONE)\nCW_TRY(3,0,1,0,CW_NONE)\nCW_AT(1,1,3)\nCW_AT(4,2,2)\nCW_INTO(3,1,0,0)\nCW_BACK(3,1,0,3,2)\nCW_DONE\n";
     assert_eq!(rt; text.as_slice(), want.as_bytes());
     Ok(())
 }
@@ -157,7 +157,8 @@ fn table_of_a_promise_to_a_callee(rt: HostRuntime) -> Result<(), Fail> {
     table.back.push(back(6, false, 4, 3, 4))?;
     let mut text = b"x".to_vec(alloc)?;
     put_table(&table, &mut text)?;
-    let want = "xCW_TABLE(1,4,1)\nCW_MEM(0,0,0x5)\nCW_MEM(1,0,0xf)\nCW_MEM(2,2,0x5)\nCW_MEM(3,2,0xf)\nCW_MEM(4,3,0xf)\nCW_LIVE(0,0)\nCW_LIVE(0,4)\nCW_LIVE(26,4)\nCW_TRY(5,0,3,4,3)\nCW_AT(1,0,2)\nCW_OPENED(2,0,1,2)\nCW_CLOSED(4,3,3)\nCW_INTO(3,0,1,0)\nCW_INTO(6,0,4,4)\nCW_BACK(3,0,1,2,3)\nCW_BACK(6,0,4,3,4)\nCW_DONE\n";
+    let want =
+        "xCW_TABLE(1,4,1)\nCW_MEM(0,0,0x5)\nCW_MEM(1,0,0xf)\nCW_MEM(2,2,0x5)\nCW_MEM(3,2,0xf)\nCW_MEM(4,3,0xf)\nCW_LIVE(0,0)\nCW_LIVE(0,4)\nCW_LIVE(26,4)\nCW_TRY(5,0,3,4,3)\nCW_AT(1,0,2)\nCW_OPENED(2,0,1,2)\nCW_CLOSED(4,3,3)\nCW_INTO(3,0,1,0)\nCW_INTO(6,0,4,4)\nCW_BACK(3,0,1,2,3)\nCW_BACK(6,0,4,3,4)\nCW_DONE\n";
     assert_eq!(rt; text.as_slice(), want.as_bytes());
     Ok(())
 }
@@ -195,7 +196,8 @@ fn limits_name_their_descriptors(rt: HostRuntime) -> Result<(), Fail> {
         })?;
     }
     put_limits(&policy, &mut text)?;
-    let want = "#define CW_LIMITS(X)\n#define CW_LIMITS(X) X(0,fd,0x1) X(1,0,0x2) X(2,fd,0xfff) X(3,0,0x0)\n";
+    let want =
+        "#define CW_LIMITS(X)\n#define CW_LIMITS(X) X(0,fd,0x1) X(1,0,0x2) X(2,fd,0xfff) X(3,0,0x0)\n";
     assert_eq!(rt; text.as_slice(), want.as_bytes());
     Ok(())
 }
@@ -243,7 +245,8 @@ fn strategy_against_two_labels(rt: HostRuntime) -> Result<(), Fail> {
     }
     let mut text = Vec::new(alloc);
     put_strategy(&EnvCert { states: 4, rows }, &mut text)?;
-    let want = "capweave strategy 1\nstates 4\n0 5 0 0x0 bad\n1 9 3 0x0 bad\n2 8 3 0x0 grant 1\n3 7 3 0x0 both 1 2\n4 6 3 0x0 on 3\n5 5 1 0x0 on 4\n6 4 0 0x0 grant 5\n7 4 1 0x0 grant 5\n8 3 0 0x0 both 0 6\n9 3 1 0x0 both 5 7\n10 2 0 0x0 on 8\n11 2 1 0x0 on 9\n12 1 0 0x0 grant 11\n13 0 0 0x0 both 10 12\nend\n";
+    let want =
+        "capweave strategy 1\nstates 4\n0 5 0 0x0 bad\n1 9 3 0x0 bad\n2 8 3 0x0 grant 1\n3 7 3 0x0 both 1 2\n4 6 3 0x0 on 3\n5 5 1 0x0 on 4\n6 4 0 0x0 grant 5\n7 4 1 0x0 grant 5\n8 3 0 0x0 both 0 6\n9 3 1 0x0 both 5 7\n10 2 0 0x0 on 8\n11 2 1 0x0 on 9\n12 1 0 0x0 grant 11\n13 0 0 0x0 both 10 12\nend\n";
     assert_eq!(rt; text.as_slice(), want.as_bytes());
     Ok(())
 }
@@ -285,7 +288,8 @@ fn strategy_with_every_word(rt: HostRuntime) -> Result<(), Fail> {
     ))?;
     let mut text = Vec::new(alloc);
     put_strategy(&EnvCert { states: 13, rows }, &mut text)?;
-    let want = "capweave strategy 1\nstates 13\n0 9 1 0x1a out\n1 2 0 0x0 skip 0\n2 2 0 0x0 try 0\n3 2 0 0x0 refuse 0\n4 2 0 0x0 left 0\n5 2 0 0x0 right 0\n6 2 0 0x0 opened 0\n7 2 0 0x0 failed 0\n8 1 0 0x0 into 0 1=7 12=3\n9 0 0 0x0 into 8\nend\n";
+    let want =
+        "capweave strategy 1\nstates 13\n0 9 1 0x1a out\n1 2 0 0x0 skip 0\n2 2 0 0x0 try 0\n3 2 0 0x0 refuse 0\n4 2 0 0x0 left 0\n5 2 0 0x0 right 0\n6 2 0 0x0 opened 0\n7 2 0 0x0 failed 0\n8 1 0 0x0 into 0 1=7 12=3\n9 0 0 0x0 into 8\nend\n";
     assert_eq!(rt; text.as_slice(), want.as_bytes());
     Ok(())
 }
