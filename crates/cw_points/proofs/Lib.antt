@@ -1,2 +1,9 @@
 pub mod Blocks
 pub mod Lengths
+pub mod Letters
+pub mod Emits
+pub mod Placing
+pub mod Seams
+pub mod LaidGraph
+pub mod Plains
+pub mod Lays

@@ -1,6 +1,7 @@
 //! The positions of a program of the first form.
 
-ghost use Rattle.std.specs.Prelude.{◌≡◌, ℕ, ◌+◌, ◌*◌, ◌<◌, ◌≤◌, ◌^◌, List, [], ◌∷◌, ◌++◌, map, length, vec_len, IfOk, OnOk};
+ghost use Rattle.std.specs.Prelude.{◌≡◌, ℕ, ◌+◌, ◌*◌, ◌<◌, ◌≤◌, ◌^◌, List, [], ◌∷◌, ◌++◌, map, length, position, vec_len, IfOk, OnOk};
+ghost use Rattle.std.specs.Str.{bytes_eq};
 ghost use Rattle.cw_rights.specs.Policies.{PlainPolicy};
 ghost use Rattle.cw_syntax.specs.Names.{text, number_or_other};
 ghost use Rattle.cw_syntax.specs.Trees.{statement_of, statements_of, file_of};
@@ -27,16 +28,19 @@ fn text_of(source: &[u8], name: Name) -> &[u8]
     &source[from..to]
 }
 
+fn place_in(labels: &[Vec<u8>], name: &[u8]) -> Option<usize>
+    ensures { result ≡ position (λ l. bytes_eq name.now l.items) labels.now }
+{
+    labels.iter().position(|label| name == label.as_slice())
+}
+
 // The number of a label in the policy: its name's place among these, or their number.
+#[tactic(auto, using(crate::proofs::Letters::letter))]
 fn letter_of(source: &[u8], labels: &[Vec<u8>], name: Name) -> u16
     requires { length labels.now < 65536 }
     ensures { result ≡ number_or_other (map (λ l. l.items) labels.now) (text source.now name) }
 {
-    let name = text_of(source, name);
-    labels
-        .iter()
-        .position(|label| name == label.as_slice())
-        .unwrap_or(labels.len()) as u16
+    place_in(labels, text_of(source, name)).unwrap_or(labels.len()) as u16
 }
 
 // How many positions a statement has.
