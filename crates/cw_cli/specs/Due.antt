@@ -1,11 +1,13 @@
 -- What is due for the bytes of a policy and of a source.
-use Rattle.std.specs.Prelude.{◌≡◌, ◌⊎◌, ℕ, List, Some, None, true}
+use Rattle.std.specs.Prelude.{◌≡◌, ◌⊎◌, ℕ, ◌<◌, List, [], length, Some, None, true}
 use Rattle.cw_rights.specs.Policies.{PlainPolicy}
 use Rattle.cw_syntax.specs.Trees.{File}
 use Rattle.cw_syntax.specs.Marks.{marks_of}
 use Rattle.cw_certs.specs.Tables.{Table}
 use Rattle.cw_model.specs.Boards.{Problem, problem_of}
 use Rattle.cw_model.specs.Runs.{Sound}
+use Rattle.cw_game.specs.declared.ambient.AmbientTest.{AmbientTest}
+use Rattle.cw_game.specs.Ambient.{IsAmbient}
 use Rattle.cw_game.specs.Games.{AreStates, Game, IsLost}
 use Rattle.cw_game.specs.Reached.{Reached}
 use Rattle.cw_game.specs.Places.{IsLaidOut}
@@ -34,6 +36,14 @@ due_of (WovenData text) = Woven text.items
 abbrev pub AreRead : List ℕ → List ℕ → File → PlainPolicy → Type 0
 AreRead policy source file plain = ReadsFirst source file × SpellsFirst policy plain
 
+-- What holds of each policy of the first form: it has no descriptors and no limits, its labels have numbers of 16 bits, and its rules are
+-- those of tests of ambient authority.
+pub record IsPlainPolicy (plain : PlainPolicy) : Type 0 where
+  pub descriptors : plain.descriptors ≡ []
+  pub limits : plain.limits ≡ []
+  pub labels : length plain.labels < 65536
+  pub tests : (tests : List AmbientTest) × IsAmbient plain tests
+
 -- The start is lost: in a game that is laid out for the program, and whose states are the policy's, the pair of the start has a
 -- height. Then the environment can force a violation, and which strategy does so isn't written yet.
 abbrev pub StartIsLost : Problem → Type 0
@@ -47,6 +57,12 @@ IsWoven plain source file text =
     × Stands text source (marks_of (problem_of plain source file).plan) table plain
     × (cut text ≡ source)
     × Sound (problem_of plain source file) table
+
+-- What is due where each label of the policy is in the source: the policy is refused where the start is lost, and else there is a text.
+abbrev pub IsDueOf : PlainPolicy → List ℕ → File → Due → Type 0
+IsDueOf plain source file PolicyNotYet = StartIsLost (problem_of plain source file)
+IsDueOf plain source file (Woven text) = IsWoven plain source file text
+IsDueOf plain source file due = ⊥
 
 abbrev pub IsDue : List ℕ → List ℕ → Due → Type 0
 IsDue policy source SourceNotYet = (file : File) → ReadsFirst source file → ⊥

@@ -55,7 +55,11 @@ fn has_label_file(source: &[u8], name: &[u8], program: &Program) -> bool
 
 /// The first of these names that no label of the program has.
 #[tactic(auto, using(crate::proofs::Missing::find_texts))]
-pub(crate) fn missing_label(source: &[u8], program: &Program, names: &[Vec<u8>]) -> Option<&[u8]>
+pub(crate) fn missing_label<'a>(
+    source: &[u8],
+    program: &Program,
+    names: &'a [Vec<u8>],
+) -> Option<&'a [u8]>
     ensures { option_map (λ name. name.now) result ≡ missing_label source.now (file_of program.now) (map (λ name. name.items) names.now) }
 {
     names

@@ -11,3 +11,6 @@ mod words;
 pub use answer::{Answer, due};
 pub use command::capweave;
 pub use ending::Ending;
+
+#[cfg(test)]
+mod tests;
