@@ -1,11 +1,11 @@
 -- The statement of a block.
-use Rattle.std.proofs.Common.{◌≡◌, ℕ, List, [], ◌∷◌, Vec, Global, Box, Option, Some, None, refl, sym, ap, ◌∙◌, subst}
+use Rattle.std.proofs.Common.{◌≡◌, ℕ, List, Vec, Global, Box, Option, Some, refl, sym, ap, ◌∙◌}
 use mathlib.Core.Former.{Count}
 use Rattle.cw_syntax.specs.declared.program.Expr.{Expr}
 use Rattle.cw_syntax.specs.declared.program.What.{What, Block', Row_of-Stmt, end_of-Stmt, more_of-Stmt, items-the_row-Stmt, items_hidden-the_row-Stmt-0}
 use Rattle.cw_syntax.specs.declared.program.What.TheVariants.{Block, If}
 use Rattle.cw_syntax.specs.declared.program.Stmt.{Stmt}
-use Rattle.cw_syntax.specs.Trees.{Statement, Stated, Form, Block as Blocked, Chooses, nothing, just, Statements, nil, cons, tree_of, form_of, row_statements, statement_of, statements_of}
+use Rattle.cw_syntax.specs.Trees.{Stated, Block as Blocked, Chooses, just, cons, tree_of, form_of, row_statements, statement_of, statements_of}
 use Rattle.cw_points.specs.First.{points_of, points_in, labels_of, labels_in}
 use Rattle.cw_points.specs.Layout.{size, size_all, layout, layout_all}
 use Rattle.cw_points.specs.Marked.{label_marks, label_marks_in}

@@ -1,10 +1,10 @@
 -- What the parts of a statement's positions make together.
-use Rattle.std.proofs.Common.{◌≡◌, ℕ, suc, ◌+◌, ◌<◌, List, [], ◌∷◌, ◌++◌, length, drop, get_or, Result, Ok, Err, OnOk, refl, sym, ap, ap₂, ◌∙◌, subst, length-append, append_assoc, append-nil, arith, drop-cons, add-one}
+use Rattle.std.proofs.Common.{◌≡◌, ℕ, ◌+◌, ◌<◌, List, [], ◌∷◌, ◌++◌, length, drop, get_or, Result, Ok, Err, OnOk, sym, ap, ap₂, ◌∙◌, length-append, append_assoc, arith, drop-cons, add-one}
 use Rattle.cw_syntax.specs.declared.program.Stmt.{Stmt}
-use Rattle.cw_syntax.specs.Trees.{Tree, Statement, Stated, Form, Chooses, Perhaps, nothing, just, Statements, nil, cons, statement_of, statements_of}
+use Rattle.cw_syntax.specs.Trees.{Tree, Statement, Stated, Chooses, just, cons, statement_of, statements_of}
 use Rattle.cw_game.specs.declared.ambient.Node.{Node}
 use Rattle.cw_game.specs.declared.ambient.Node.TheVariants.{BranchTo}
-use Rattle.cw_points.specs.First.{labels_of, labels_in}
+use Rattle.cw_points.specs.First.{labels_of}
 use Rattle.cw_points.specs.Layout.{size, size_all, first, layout, layout_all}
 use Rattle.cw_points.proofs.Lengths.{layout_length}
 

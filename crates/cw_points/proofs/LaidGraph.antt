@@ -1,17 +1,17 @@
 -- The positions of a program are laid as a table needs them.
-use Rattle.std.proofs.Common.{◌≡◌, ℕ, zero, suc, ◌+◌, ◌<◌, ◌≤◌, List, [], ◌∷◌, ◌++◌, length, Bool, true, false, Option, Some, None, refl, sym, ap, ap₂, ◌∙◌, subst, arith}
+use Rattle.std.proofs.Common.{◌≡◌, ℕ, zero, suc, ◌+◌, List, [], ◌∷◌, ◌++◌, length, Bool, true, false, Some, refl, sym, ap, ◌∙◌, subst, arith}
 use Rattle.std.specs.Prelude.{slice_get}
 use Rattle.std.proofs.lemmas.Option.{none-some, same_Some}
 use Rattle.cw_syntax.specs.Names.{text, number_or_other}
 use Rattle.cw_syntax.specs.Trees.{Statement, Stated, Form, Block, Declares, Evaluates, Empties, Labels, Chooses, Whiles, Does, Fors, Breaks, Continues, Returns, Perhaps, nothing, just, Statements, nil, cons}
 use Rattle.cw_game.specs.declared.ambient.Node.{Node}
 use Rattle.cw_game.specs.declared.ambient.Node.TheVariants.{TryAt, AskedAt, LabelTo, StepTo, BranchTo, ExitAt}
-use Rattle.cw_game.specs.Laid.{IsUnasked, IsEntered, Laid}
+use Rattle.cw_game.specs.Laid.{IsEntered, Laid}
 use Rattle.cw_points.specs.First.{labels_of, labels_in}
 use Rattle.cw_points.specs.Layout.{size, size_of, size_arm, size_all, first, layout, layout_of, layout_arm, layout_all, layout_body}
 use Rattle.cw_points.proofs.Lengths.{layout_length, layout_all_length}
 use Rattle.cw_points.proofs.Placing.{HasAt, has_front, has_back, has_all, first_own, first_two}
-use Rattle.cw_points.proofs.Seams.{asks, up_from, asks_body, asks_rise}
+use Rattle.cw_points.proofs.Seams.{asks_body, asks_rise}
 
 abbrev is_asked : Node → Bool
 is_asked (AskedAt j) = true

@@ -1,17 +1,16 @@
 -- The positions of a program of the first form are those of its plan.
-use Rattle.std.proofs.Common.{◌≡◌, ℕ, zero, suc, ◌+◌, ◌-◌, ◌*◌, List, [], ◌∷◌, ◌++◌, length, map, Option, Some, None, refl, sym, ap, ap₂, ◌∙◌, subst, length-append, arith, get_or}
-use Rattle.std.specs.Prelude.{slice_get, codes}
+use Rattle.std.proofs.Common.{◌≡◌, ℕ, zero, suc, ◌+◌, ◌-◌, ◌*◌, List, [], ◌∷◌, ◌++◌, length, map, false, Some, None, refl, sym, ap, ◌∙◌, subst, length-append, arith, get_or, Result, Ok, Err, IfOk}
+use Rattle.std.specs.Prelude.{slice_get}
 use Rattle.std.proofs.lemmas.Option.{none-some, same_Some}
 use Rattle.cw_rights.specs.declared.capabilities.Primitive.TheVariants.{Limit, Enter}
 use Rattle.cw_rights.specs.Policies.{PlainPolicy, primitives}
 use Rattle.cw_syntax.specs.declared.program.Function.{Function}
-use Rattle.cw_syntax.specs.Names.{Names}
-use Rattle.cw_syntax.specs.Trees.{Statements, Definition, File, statements_of, definition_of}
-use Rattle.cw_syntax.specs.Plans.{Routine, Plan, Stms, numbered_all, steps_of_all, routines_from, scene_of, plan_of}
-use Rattle.cw_syntax.specs.Frames.{Entry, End, new_frame}
+use Rattle.cw_syntax.specs.Trees.{Statements, Definition, File, definition_of}
+use Rattle.cw_syntax.specs.Plans.{Routine, numbered_all, steps_of_all, routines_from, scene_of, plan_of}
+use Rattle.cw_syntax.specs.Frames.{End, new_frame}
 use Rattle.cw_model.specs.Boards.{names_of}
 use Rattle.cw_game.specs.declared.ambient.Node.{Node}
-use Rattle.cw_game.specs.declared.ambient.Node.TheVariants.{TryAt, AskedAt, StepTo, ExitAt}
+use Rattle.cw_game.specs.declared.ambient.Node.TheVariants.{StepTo, ExitAt}
 use Rattle.cw_game.specs.declared.ambient.AmbientTest.{AmbientTest}
 use Rattle.cw_game.specs.Ambient.{spot_of, ambient_game}
 use Rattle.cw_game.specs.Places.{At, IsLaidOut}
@@ -44,19 +43,19 @@ stands pol source file h none f x e =
     let body = placed_all c g pol one z ss None None 1 3 z (plain_body (names_of pol) source file h) hs in
     let last = spot_at g z ExitAt (ends source pol.labels ss) in
     let all : At (map spot_of g) pol z (new_frame 0 (record { mark = h.main.brace; seam = 0; body = numbered_all (steps_of_all c ss) 1 })) 0 =
-        (None, (None, (2, (visit_at c g pol one z 0 0 has.0 has.1.0, (m, (spot_at g 2 (StepTo m) has.1.1.0, at_items (map spot_of g) pol z None None (numbered_all (steps_of_all c ss) 1) (End 0 ∷ []) m z body (refl, (refl, (refl, (last, refl))))))))))
+    (None, None, (2, visit_at c g pol one z 0 0 has.0 has.1.0, (m, spot_at g 2 (StepTo m) has.1.1.0, at_items (map spot_of g) pol z None None (numbered_all (steps_of_all c ss) 1) (End 0 ∷ []) m z body (refl, refl, refl, last, refl))))
     in subst (λ y. At (map spot_of g) pol y (new_frame 0 (record { mark = h.main.brace; seam = 0; body = numbered_all (steps_of_all c ss) 1 })) 0) (sym e) all
 
 pub lays : (pol : PlainPolicy) (tests : List AmbientTest) (source : List ℕ) (file : File) (nodes : List Node) → (h : IsFirstForm source file) → pol.limits ≡ [] → nodes ≡ layout_body source pol.labels h.main.body → IsLaidOut (plan_of (names_of pol) source file) (ambient_game pol tests nodes)
 lays pol tests source file nodes h none e = subst (λ n. IsLaidOut (plan_of (names_of pol) source file) (ambient_game pol tests n)) (sym e) (record {
-    main = numbered_main source file h;
-    functions = λ f r s. of f r (subst (λ fs. slice_get (routines_from (scene_of (names_of pol) source file) 0 fs) f ≡ Some r) h.functions s);
-  })
+  main = numbered_main source file h;
+  functions = λ f r s. of f r (subst (λ fs. slice_get (routines_from (scene_of (names_of pol) source file) 0 fs) f ≡ Some r) h.functions s);
+})
   where
     of : (f : ℕ) (r : Routine) → slice_get (routines_from (scene_of (names_of pol) source file) 0 (h.main ∷ [])) f ≡ Some r → At (map spot_of (layout_body source pol.labels h.main.body)) pol (length (layout_body source pol.labels h.main.body) - 1) (new_frame f r) 0
     of zero r s =
         subst (λ q. At (map spot_of (layout_body source pol.labels h.main.body)) pol (length (layout_body source pol.labels h.main.body) - 1) (new_frame 0 q) 0) (same_Some _ r s)
-          (stands pol source file h none 0 (length (layout_body source pol.labels h.main.body) - 1) (omega (arith, body_length source pol.labels h.main.body)))
+        (stands pol source file h none 0 (length (layout_body source pol.labels h.main.body) - 1) (omega (arith, body_length source pol.labels h.main.body)))
     of (suc f) r s = absurd (none-some r s)
 
 pub counted : (source : List ℕ) (names : List (List ℕ)) (file : File) (nodes : List Node) → (h : IsFirstForm source file) → nodes ≡ layout_body source names h.main.body → length nodes ≡ points file + 2 * (label_count file + 1)
@@ -73,3 +72,7 @@ the_main (i ∷ is) main f e g = ap definition_of (sym (same_Some i f g)) ∙ ap
 pub some_main : (items : List Function) (main : Definition) → map definition_of items ≡ main ∷ [] → slice_get items 0 ≡ None → ⊥
 some_main [] main e g = let w : length (map definition_of []) ≡ 1 = ap length e in omega (arith, w)
 some_main (i ∷ is) main e g = none-some i (sym g)
+
+pub if_ok : {A E : Type 0} {P Q : A → Type 0} (r : Result A E) → IfOk r P → ((x : A) → P x → Q x) → IfOk r Q
+if_ok (Ok x) h f = f x h
+if_ok (Err e) h f = h

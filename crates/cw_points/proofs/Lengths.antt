@@ -1,5 +1,5 @@
 -- How many positions there are.
-use Rattle.std.proofs.Common.{◌≡◌, ℕ, ◌+◌, ◌*◌, ◌≤◌, List, [], ◌∷◌, ◌++◌, length, refl, sym, ap, ap₂, ◌∙◌, length-append, arith}
+use Rattle.std.proofs.Common.{◌≡◌, ℕ, ◌+◌, ◌*◌, ◌≤◌, List, length, refl, length-append, arith}
 use Rattle.cw_syntax.specs.Trees.{Statement, Stated, Form, Block, Declares, Evaluates, Empties, Labels, Chooses, Whiles, Does, Fors, Breaks, Continues, Returns, Perhaps, nothing, just, Statements, nil, cons}
 use Rattle.cw_points.specs.First.{points_of, points_in, points_in_form, points_in_arm, labels_of, labels_in, labels_in_form, labels_in_arm}
 use Rattle.cw_points.specs.Layout.{size, size_of, size_arm, size_all, first, layout, layout_of, layout_arm, layout_all}

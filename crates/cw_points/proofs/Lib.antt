@@ -7,3 +7,4 @@ pub mod Seams
 pub mod LaidGraph
 pub mod Plains
 pub mod Lays
+pub mod Marking

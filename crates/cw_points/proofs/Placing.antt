@@ -1,21 +1,21 @@
 -- The positions of a program stand as its frames need them.
-use Rattle.std.proofs.Common.{◌≡◌, ℕ, zero, suc, ◌+◌, ◌<◌, List, [], ◌∷◌, ◌++◌, length, map, Option, Some, None, refl, sym, ap, ap₂, ◌∙◌, subst, append_assoc, append-nil, length-append, arith, zero-add, add-zero, suc-add}
+use Rattle.std.proofs.Common.{◌≡◌, ℕ, zero, suc, ◌+◌, ◌<◌, List, [], ◌∷◌, ◌++◌, length, map, false, Option, Some, None, refl, sym, ap, ap₂, ◌∙◌, subst, append_assoc, length-append, arith, zero-add, add-zero}
 use Rattle.std.specs.Prelude.{slice_get}
 use Rattle.std.proofs.Math.Seq.{get_or-append_seam}
-use Rattle.std.proofs.lemmas.Option.{slice_get-get_or}
+use Rattle.std.proofs.lemmas.Option.{slice_get-get_or, none-some}
 use Rattle.cw_rights.specs.declared.capabilities.Primitive.TheVariants.{Enter}
 use Rattle.cw_rights.specs.Policies.{PlainPolicy, primitives}
 use Rattle.cw_syntax.specs.Names.{text, number_or_other}
-use Rattle.cw_syntax.specs.Trees.{Tree, Statement, Stated, Form, Block, Declares, Evaluates, Empties, Labels, Chooses, Whiles, Does, Fors, Breaks, Continues, Returns, Perhaps, nothing, just, Statements, nil, cons}
-use Rattle.cw_syntax.specs.Plans.{Scene, Stm, Plain, Return, Group, Label, If, While, end, then, Computes, action_of, acting, steps_of, steps_of_form, steps_of_arm, steps_of_all, seams, seams_all, numbered, numbered_all}
+use Rattle.cw_syntax.specs.Trees.{Statement, Stated, Form, Block, Declares, Evaluates, Empties, Labels, Chooses, Whiles, Does, Fors, Breaks, Continues, Returns, Perhaps, nothing, just, Statements, nil, cons}
+use Rattle.cw_syntax.specs.Plans.{Scene, Label, If, While, Computes, action_of, acting, steps_of, steps_of_form, steps_of_arm, steps_of_all, seams, seams_all, numbered, numbered_all}
 use Rattle.cw_game.specs.declared.spots.Spot.{Spot}
 use Rattle.cw_game.specs.declared.ambient.Node.{Node}
-use Rattle.cw_game.specs.declared.ambient.Node.TheVariants.{TryAt, AskedAt, LabelTo, StepTo, BranchTo, ExitAt}
+use Rattle.cw_game.specs.declared.ambient.Node.TheVariants.{TryAt, AskedAt, LabelTo, StepTo, BranchTo}
 use Rattle.cw_game.specs.Ambient.{spot_of}
 use Rattle.cw_game.specs.Places.{Visits, Placed, PlacedAll}
 use Rattle.cw_points.specs.First.{labels_of, labels_in, labels_in_form, labels_in_arm}
 use Rattle.cw_points.specs.Layout.{size, size_of, size_arm, size_all, first, layout, layout_of, layout_arm, layout_all}
-use Rattle.cw_points.proofs.Lengths.{layout_length, layout_all_length}
+use Rattle.cw_points.proofs.Lengths.{layout_length}
 
 -- these positions stand at this place
 abbrev pub HasAt : List Node → ℕ → List Node → Type 0
@@ -52,7 +52,7 @@ first_two (suc a) b n k = first_own (suc a + b) n k (omega arith)
 
 -- the spot of a node
 pub spot_at : (g : List Node) (p : ℕ) (o : Node) → slice_get g p ≡ Some o → slice_get (map spot_of g) p ≡ Some (spot_of o)
-spot_at [] p o ()
+spot_at [] p o e = absurd (none-some o e)
 spot_at (i ∷ g) zero o e = ap (λ m. from m) e
   where
     from : Option Node → Option Spot
@@ -117,7 +117,7 @@ module _ (c : Scene) (g : List Node) (pol : PlainPolicy) (one : primitives pol f
 
   -- the visit of a seam, and what stands behind it
   pub visit_at : (j n : ℕ) → slice_get g n ≡ Some (TryAt j) → slice_get g (n + 1) ≡ Some (AskedAt j) → Visits (map spot_of g) j 0 (primitives pol false) n (n + 2)
-  visit_at j n t a = subst (λ l. Visits (map spot_of g) j 0 l n (n + 2)) (sym one) (spot_at g n (TryAt j) t, (spot_at g (n + 1) (AskedAt j) a, (tt, refl)))
+  visit_at j n t a = subst (λ l. Visits (map spot_of g) j 0 l n (n + 2)) (sym one) (spot_at g n (TryAt j) t, spot_at g (n + 1) (AskedAt j) a, tt, refl)
 
   mutual
     pub placed : (s : Statement) (b d : Option ℕ) (j n k : ℕ) → IsPlain c s → HasAt g n (layout c.source names s j n x k) → Placed (map spot_of g) pol x b d (numbered (steps_of c s) j) (first (size s) n k) k
@@ -135,12 +135,15 @@ module _ (c : Scene) (g : List Node) (pol : PlainPolicy) (one : primitives pol f
         let m = first (size t) (n + 3) k in
         let l = number_or_other names (text c.source name) in
         let s = numbered (steps_of c t) (j + 1) in
-        let r : Placed (map spot_of g) pol x b d (Label at mark j l s) n k =
-            ( n + 2
-            , visit_at j n h.0 h.1.0
-            , ( m
-              , spot_at g (n + 2) (LabelTo j l m) (subst (λ p. slice_get g p ≡ Some (LabelTo j l m)) e2 h.1.1.0)
-              , placed t b d (j + 1) (n + 3) k i (subst (λ p. HasAt g p (layout c.source names t (j + 1) (n + 3) x k)) e3 h.1.1.1) ) ) in
+        let r : Placed (map spot_of g) pol x b d (Label at mark j l s) n k = (
+          n + 2,
+          visit_at j n h.0 h.1.0,
+          (
+            m,
+            spot_at g (n + 2) (LabelTo j l m) (subst (λ p. slice_get g p ≡ Some (LabelTo j l m)) e2 h.1.1.0),
+            placed t b d (j + 1) (n + 3) k i (subst (λ p. HasAt g p (layout c.source names t (j + 1) (n + 3) x k)) e3 h.1.1.1),
+          ),
+        ) in
         subst (λ p. Placed (map spot_of g) pol x b d (Label at mark j l s) p k) (sym e) r
     placed_form (Chooses test t other) at b d j n k i h =
         let e : first (size t + size_arm other + 1) n k ≡ n = first_own (size t + size_arm other + 1) n k (omega arith) in
@@ -151,12 +154,13 @@ module _ (c : Scene) (g : List Node) (pol : PlainPolicy) (one : primitives pol f
         let u = first (size t) (n + 1) k in
         let v = first (size_arm other) (n + 1 + size t) k in
         let second = placed_arm other b d (j + labels_of t) (n + 1 + size t) k i.1 ht in
-        let r : Placed (map spot_of g) pol x b d (If at (numbered (steps_of c t) j) (numbered (steps_of_arm c other) (j + seams (steps_of c t)))) n k =
-            ( u
-            , v
-            , spot_at g n (BranchTo u v) h.0
-            , placed t b d j (n + 1) k i.0 hs
-            , subst (λ y. Placed (map spot_of g) pol x b d (numbered (steps_of_arm c other) (j + y)) v k) (sym (seams_are c t i.0)) second ) in
+        let r : Placed (map spot_of g) pol x b d (If at (numbered (steps_of c t) j) (numbered (steps_of_arm c other) (j + seams (steps_of c t)))) n k = (
+          u,
+          v,
+          spot_at g n (BranchTo u v) h.0,
+          placed t b d j (n + 1) k i.0 hs,
+          subst (λ y. Placed (map spot_of g) pol x b d (numbered (steps_of_arm c other) (j + y)) v k) (sym (seams_are c t i.0)) second,
+        ) in
         subst (λ p. Placed (map spot_of g) pol x b d (If at (numbered (steps_of c t) j) (numbered (steps_of_arm c other) (j + seams (steps_of c t)))) p k) (sym e) r
     placed_form (Whiles test t) at b d j n k i h =
         let e : first (size t + 1) n k ≡ n = first_own (size t + 1) n k (omega arith) in

@@ -1,22 +1,20 @@
 -- A program of the first form does nothing at its calls that the policy sees.
-use Rattle.std.proofs.Common.{◌≡◌, ℕ, ◌+◌, List, [], ◌∷◌, Bool, true, false, cond, not, Option, Some, None, refl, sym, ap, ◌∙◌, subst}
+use Rattle.std.proofs.Common.{◌≡◌, ℕ, ◌+◌, List, [], ◌∷◌, Bool, true, false, cond, not, Some, None, refl, sym, ap, ◌∙◌, subst}
 use Rattle.std.specs.Prelude.{codes, nat_lt}
 use Rattle.std.specs.Str.{bytes_eq}
 use Rattle.std.proofs.lemmas.Slice.Eq.{bytes_eq-Decides}
-use Rattle.cw_syntax.specs.declared.program.Name.{Name}
-use Rattle.cw_syntax.specs.declared.program.Op.TheVariants.{Call as CallOp}
 use Rattle.cw_syntax.specs.Names.{text, number_in, number_or_other, Names}
-use Rattle.cw_syntax.specs.Trees.{Tree, Node, none, Statement, Stated, Form, Block, Declares, Evaluates, Empties, Labels, Chooses, Whiles, Does, Fors, Breaks, Continues, Returns, Perhaps, nothing, just, Statements, nil, cons, Definition, File}
+use Rattle.cw_syntax.specs.Trees.{Tree, none, Statement, Stated, Form, Block, Declares, Evaluates, Empties, Labels, Chooses, Whiles, Does, Fors, Breaks, Continues, Returns, Perhaps, nothing, just, Statements, nil, cons, File}
 use Rattle.cw_syntax.specs.Plans.{Scene, Computes, action_of, call_action, function_names, scene_of}
 use Rattle.cw_points.specs.First.{IsExternalCall, IsFirst, IsFirstOf, IsFirstArm, AreFirst, IsReturnZero, then_last, IsFirstForm}
 use Rattle.cw_points.proofs.Placing.{IsPlain, IsPlainOf, IsPlainArm, ArePlain}
 
 -- no function has this name
 unnumbered : (name : List ℕ) → (name ≡ codes "main" → ⊥) → number_in (codes "main" ∷ []) name ≡ None
-unnumbered name no = by (bytes_eq name (codes "main")) refl
+unnumbered name other = by (bytes_eq name (codes "main")) refl
   where
     by : (t : Bool) → bytes_eq name (codes "main") ≡ t → cond (nat_lt (cond (not t) (1 + 0) 0) 1) (Some (cond (not t) (1 + 0) 0)) None ≡ None
-    by true e = absurd (no ((bytes_eq-Decides name (codes "main")).0 e))
+    by true e = absurd (other ((bytes_eq-Decides name (codes "main")).0 e))
     by false e = refl
 
 external : (c : Scene) (e : Tree) → c.functions ≡ codes "main" ∷ [] → IsExternalCall c.source e → action_of c e ≡ Computes

@@ -1,12 +1,12 @@
 -- Seams rise with their positions.
-use Rattle.std.proofs.Common.{◌≡◌, ℕ, zero, suc, ◌+◌, ◌<◌, ◌≤◌, List, [], ◌∷◌, ◌++◌, Option, Some, None, refl, sym, ap, ap₂, ◌∙◌, subst, append-nil, arith}
+use Rattle.std.proofs.Common.{◌≡◌, ℕ, zero, suc, ◌+◌, ◌<◌, ◌≤◌, List, [], ◌∷◌, ◌++◌, Some, refl, sym, ap, ap₂, ◌∙◌, append-nil, arith}
 use Rattle.std.specs.Prelude.{slice_get}
 use Rattle.std.proofs.lemmas.Option.{none-some, same_Some}
 use Rattle.cw_syntax.specs.Trees.{Statement, Stated, Form, Block, Declares, Evaluates, Empties, Labels, Chooses, Whiles, Does, Fors, Breaks, Continues, Returns, Perhaps, nothing, just, Statements, nil, cons}
 use Rattle.cw_game.specs.declared.ambient.Node.{Node}
 use Rattle.cw_game.specs.declared.ambient.Node.TheVariants.{TryAt, AskedAt, LabelTo, StepTo, BranchTo, ExitAt}
 use Rattle.cw_points.specs.First.{labels_of, labels_in, labels_in_form, labels_in_arm}
-use Rattle.cw_points.specs.Layout.{size, size_arm, size_all, first, layout, layout_of, layout_arm, layout_all, layout_body}
+use Rattle.cw_points.specs.Layout.{size, size_all, first, layout, layout_of, layout_arm, layout_all, layout_body}
 
 -- the seams in the order of their positions
 abbrev pub asks : List Node → List ℕ

@@ -1,6 +1,6 @@
 -- Programs of the first form: one function `main` without parameters, of empty statements, blocks, calls `name();` of external
 -- functions, labels, `if` and `while`, with `return 0;` at its end. Public source: ISO/IEC 9899:2011, sections 6.8 and 6.9.1.
-use Rattle.std.specs.Prelude.{◌≡◌, ℕ, ◌+◌, ◌<◌, ◌≤◌, List, [], ◌∷◌, Option, Some, codes, length}
+use Rattle.std.specs.Prelude.{◌≡◌, ℕ, ◌+◌, ◌<◌, ◌≤◌, List, [], ◌∷◌, Some, codes, length}
 use Rattle.cw_syntax.specs.declared.program.Name.{Name}
 use Rattle.cw_syntax.specs.declared.program.Op.TheVariants.{Number, Call}
 use Rattle.cw_syntax.specs.Names.{text}

@@ -122,7 +122,10 @@ fn lay(
             let letter = letter_of(source, labels, *name);
             put(nodes, Node::TryAt(seam))?;
             put(nodes, Node::AskedAt(seam))?;
-            put(nodes, Node::LabelTo(seam, letter, first(size(inner), at + 3, next)))?;
+            put(
+                nodes,
+                Node::LabelTo(seam, letter, first(size(inner), at + 3, next)),
+            )?;
             lay(nodes, source, labels, inner, seam + 1, exit, next)
         }
         What::If(_, a, arm) => {
@@ -133,7 +136,10 @@ fn lay(
                     lay(nodes, source, labels, a, seam, exit, next)
                 }
                 Some(b) => {
-                    put(nodes, Node::BranchTo(first(size(a), at + 1, next), first(size(b), middle, next)))?;
+                    put(
+                        nodes,
+                        Node::BranchTo(first(size(a), at + 1, next), first(size(b), middle, next)),
+                    )?;
                     let seam = lay(nodes, source, labels, a, seam, exit, next)?;
                     lay(nodes, source, labels, b, seam, exit, next)
                 }
@@ -170,13 +176,26 @@ fn lay_all(
         let here = size(s);
         left -= here;
         let at = nodes.len() as u32;
-        to = lay(nodes, source, labels, s, to, exit, first(left, at + here, next))?;
+        to = lay(
+            nodes,
+            source,
+            labels,
+            s,
+            to,
+            exit,
+            first(left, at + here, next),
+        )?;
     }
     Ok(to)
 }
 
 // The positions of a function with this body.
-fn positions_of(alloc: Global, source: &[u8], body: &[Stmt], labels: &[Vec<u8>]) -> Result<Vec<Node>, NoMemory>
+fn positions_of(
+    alloc: Global,
+    source: &[u8],
+    body: &[Stmt],
+    labels: &[Vec<u8>],
+) -> Result<Vec<Node>, NoMemory>
     requires names { length labels.now < 65536 }
     requires small { size_all (statements_of body.now) < 2 ^ 30 }
     ensures { IfOk result (λ nodes. nodes.items ≡ layout_body source.now (map (λ l. l.items) labels.now) (statements_of body.now)) }

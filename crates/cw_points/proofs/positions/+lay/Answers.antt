@@ -1,9 +1,9 @@
-use Rattle.std.proofs.Common.{◌≡◌, ℕ, drop, ◌-◌, ap₂, List, [], ◌∷◌, ◌+◌, ◌<◌, ◌++◌, length, map, vec_len, sym, ap, ◌∙◌, subst, rules, arith, IfOk, OnOk}
+use Rattle.std.proofs.Common.{◌≡◌, ℕ, drop, ◌-◌, ap₂, List, [], ◌∷◌, ◌+◌, ◌<◌, ◌++◌, length, map, vec_len, sym, ap, ◌∙◌, subst, rules, arith, OnOk}
 use Rattle.cw_syntax.specs.declared.program.What.{the_lemmas}
-use Rattle.cw_syntax.specs.Trees.{Statement, Stated, Chooses, just, statement_of, statements_of, tree_of}
+use Rattle.cw_syntax.specs.Trees.{Stated, Chooses, just, statement_of, statements_of, tree_of}
 use Rattle.cw_game.specs.declared.ambient.Node.TheVariants.{BranchTo}
 use Rattle.cw_points.specs.First.{labels_of, labels_in}
-use Rattle.cw_points.specs.Layout.{first, size, size_all, layout, layout_all}
+use Rattle.cw_points.specs.Layout.{first, size, size_all, layout}
 use Rattle.cw_points.proofs.Blocks.{block_of, choose_some}
 use Rattle.cw_points.proofs.Emits.{on_ok, if_some, if_some_room, all_step, all_drop, all_length}
 use Rattle.cw_points.proofs.positions.+lay.Goals as goal
@@ -54,8 +54,8 @@ lay-returns-in_ok-seam-in-Some-clause-nodes t c =
     let sm : c.in_ok-seam-in-Some.seam ≡ c.args.seam + labels_of a = search rules in
     let lst : OnOk c.lay-in-Some-2.result (c.lay-in-Some-2.new.nodes.items ≡ c.lay-in-Some.new.nodes.items ++ layout source names b c.in_ok-seam-in-Some.seam (length c.lay-in-Some.new.nodes.items) c.args.exit c.args.next) = search rules in
     on_ok c.lay-in-Some-2.result lst (λ h.
-      if_some source names (tree_of c.in-If.field-0) s.from s.to c.args.seam c.in_ok-seam-in-Some.seam c.args.exit c.args.next c.first-in-Some.result c.first-in-Some-2.result a b old c.put-in-Some.new.nodes.items c.lay-in-Some.new.nodes.items c.lay-in-Some-2.new.nodes.items c.in_ok-put-in-Some.ensures ef eg mid sm h
-      ∙ sym (ap (λ s. old ++ layout source names s c.args.seam (length old) c.args.exit c.args.next) e))
+    if_some source names (tree_of c.in-If.field-0) s.from s.to c.args.seam c.in_ok-seam-in-Some.seam c.args.exit c.args.next c.first-in-Some.result c.first-in-Some-2.result a b old c.put-in-Some.new.nodes.items c.lay-in-Some.new.nodes.items c.lay-in-Some-2.new.nodes.items c.in_ok-put-in-Some.ensures ef eg mid sm h
+    ∙ sym (ap (λ s. old ++ layout source names s c.args.seam (length old) c.args.exit c.args.next) e))
 
 pub lay-lay-requires-in-Some-2 : goal.lay-lay-requires-in-Some-2
 lay-lay-requires-in-Some-2 t c =
@@ -72,8 +72,13 @@ lay-lay-requires-in-Some-2 t c =
     let p : put ≡ old ++ BranchTo c.first-in-Some.result c.first-in-Some-2.result ∷ [] = search rules in
     let room : vec_len c.args.nodes.now + (size a + size b + 1) < 2147483648 = subst (λ s. vec_len c.args.nodes.now + size s < 2147483648) e c.requires.room in
     let seams : c.args.seam + (labels_of a + labels_of b) < 2147483648 = subst (λ s. c.args.seam + labels_of s < 2147483648) e c.requires.seams in
-    let now : c.deref-in-Some-4.result.now ≡ c.in-Some.b.value = search rules in
-    ( search (rules, the_lemmas)
-    , ( c.requires.names
-      , ( rw now (if_some_room source names a b c.args.seam c.args.exit c.args.next _ _ _ old put c.lay-in-Some.new.nodes.items c.args.nodes.now.ok.0 c.lay-in-Some.new.nodes.ok.0 p mid room)
-        , rw (now, sm) (omega arith) ) ) )
+    let now : c.deref-in-Some-4.result.now ≡ c.in-Some.b.value = search rules in (
+      search (rules, the_lemmas),
+      (
+        c.requires.names,
+        (
+          rw now (if_some_room source names a b c.args.seam c.args.exit c.args.next _ _ _ old put c.lay-in-Some.new.nodes.items c.args.nodes.now.ok.0 c.lay-in-Some.new.nodes.ok.0 p mid room),
+          rw (now, sm) (omega arith),
+        ),
+      ),
+    )
