@@ -173,7 +173,7 @@ mutual
 
 -- at most 1,024 points, and no more labels
 pub is_small : (source : List ℕ) (file : File) → read.ReadsFirst source file → (points file ≤ 1024) × (label_count file ≤ points file)
-unfolding read.ReadsFirst, read.IsSmall
+unfolding read.ReadsFirst read.IsSmall
 is_small source file (ts, main, tokens, form, small, is) =
     let few : (points (read.only main) ≤ 1024) × (label_count (read.only main) ≤ points (read.only main)) = (omega (arith, small.0, same_points_in main.body), omega (arith, few_labels_in main.body)) in
     subst (λ (f : File). (points f ≤ 1024) × (label_count f ≤ points f)) (sym is) few

@@ -6,3 +6,4 @@ mod FirstForms
 mod Policies
 mod Starts
 mod Weaves
+mod Dues

@@ -1,9 +1,9 @@
 -- What holds of each policy of the first form.
-use Rattle.std.proofs.Common.{◌≡◌, ℕ, ◌<◌, Bool, true, false, cond, List, [], length, Option, Some, None, refl, sym, subst, arith}
-use Rattle.std.specs.Prelude.{nat_le}
+use Rattle.std.proofs.Common.{◌≡◌, ℕ, ◌<◌, Bool, true, false, cond, List, [], length, map, Option, Some, None, refl, sym, subst, arith}
+use Rattle.std.specs.Prelude.{codes, nat_le}
 use Rattle.std.proofs.lemmas.Bool.{leb-true}
 use Rattle.std.proofs.lemmas.Option.{none-some, same_Some}
-use Rattle.toml.specs.Data.{Members, Items}
+use Rattle.toml.specs.Data.{Members, Items, get_member}
 use Rattle.cw_rights.specs.Policies.{PlainPolicy}
 use Rattle.cw_policy.specs.First.{has_form, first_policy, policy_from, policy_with, labels_from, rule_for, tests_of, items_at}
 use Rattle.cw_policy.specs.Answer.{SpellsFirst}
@@ -20,10 +20,12 @@ if_some false o p f e = absurd (none-some p e)
 tables_bare : (ds : Items) (p : PlainPolicy) → policy_from ds ≡ Some p → IsBare p
 tables_bare ds p e =
     let labels = labels_from [] ds in
-    if_some (nat_le (length labels) 65535) (Some _) p (λ few is. subst IsBare (same_Some _ p is) (refl, refl, omega (arith, leb-true (length labels) 65535 few))) e
+    if_some (nat_le (length labels) 65535) (Some (policy_with labels (map (rule_for labels) (tests_of labels ds)))) p (λ few is. subst IsBare (same_Some (policy_with labels (map (rule_for labels) (tests_of labels ds))) p is) (refl, refl, omega (arith, leb-true (length labels) 65535 few))) e
 
 tree_bare : (tree : Members) (p : PlainPolicy) → first_policy tree ≡ Some p → IsBare p
-tree_bare tree p e = if_some (has_form tree) (policy_from _) p (λ form is. tables_bare _ p is) e
+tree_bare tree p e =
+    let ds = items_at (get_member (codes "at") tree) in
+    if_some (has_form tree) (policy_from ds) p (λ form is. tables_bare ds p is) e
 
 pub is_plain_policy : (text : List ℕ) (p : PlainPolicy) → SpellsFirst text p → IsPlainPolicy p
 is_plain_policy text p h =

@@ -60,19 +60,19 @@ abbrev main_word : List ℕ → Option Word
 main_word bytes = cond (bytes_eq bytes (codes "main")) (Some w.Main) (void_word bytes)
 
 not_main : (bytes : List ℕ) → bytes_eq bytes (codes "main") ≡ false → bytes ≡ codes "main" → ⊥
-not_main bytes no is = false≢true (sym no ∙ (bytes_eq-Decides bytes (codes "main")).1 is)
+not_main bytes differs is = false≢true (sym differs ∙ (bytes_eq-Decides bytes (codes "main")).1 is)
 
 last_spelled : (bytes : List ℕ) → bytes_eq bytes (codes "main") ≡ false → IsSpelled bytes (last_word bytes)
-last_spelled bytes no = pick (IsSpelled bytes) (is_reserved bytes) None (Some w.Name) (λ e. unknown bytes) (λ e. known bytes w.Name (not_main bytes no))
+last_spelled bytes differs = pick (IsSpelled bytes) (is_reserved bytes) None (Some w.Name) (λ e. unknown bytes) (λ e. known bytes w.Name (not_main bytes differs))
 
 void_spelled : (bytes : List ℕ) → bytes_eq bytes (codes "main") ≡ false → IsSpelled bytes (void_word bytes)
-void_spelled bytes no =
+void_spelled bytes differs =
     pick (IsSpelled bytes) (bytes_eq bytes (codes "void")) (Some w.Void) (return_word bytes) (λ e. known bytes w.Void tt)
       (λ e. pick (IsSpelled bytes) (bytes_eq bytes (codes "return")) (Some w.Return) (if_word bytes) (λ e. known bytes w.Return tt)
         (λ e. pick (IsSpelled bytes) (bytes_eq bytes (codes "if")) (Some w.If) (else_word bytes) (λ e. known bytes w.If tt)
           (λ e. pick (IsSpelled bytes) (bytes_eq bytes (codes "else")) (Some w.Else) (while_word bytes) (λ e. known bytes w.Else tt)
             (λ e. pick (IsSpelled bytes) (bytes_eq bytes (codes "while")) (Some w.While) (last_word bytes) (λ e. known bytes w.While tt)
-              (λ e. last_spelled bytes no)))))
+              (λ e. last_spelled bytes differs)))))
 
 word_spelled : (bytes : List ℕ) → IsSpelled bytes (word_of bytes)
 unfolding word_of

@@ -1,5 +1,5 @@
 -- The table of a policy that tests ambient authority is sound, and where there is none the start is lost.
-use Rattle.std.proofs.Common.{◌≡◌, ℕ, zero, suc, ◌<◌, ◌≤◌, List, [], length, map, true, false, refl, sym, ap, ◌∙◌, arith}
+use Rattle.std.proofs.Common.{◌≡◌, ℕ, zero, suc, ◌+◌, ◌*◌, ◌<◌, ◌≤◌, List, [], length, map, true, false, refl, sym, ap, ◌∙◌, arith}
 use Rattle.cw_rights.specs.Policies.{PlainPolicy}
 use Rattle.cw_syntax.specs.Plans.{plan_of}
 use Rattle.cw_syntax.specs.Trees.{File}
@@ -41,3 +41,6 @@ module _ (policy : PlainPolicy) (source : List ℕ) (file : File) (tests : List 
 
   pub start_is_lost : (hs : List ℕ) → AreHeightsOf game hs → 0 < height_at hs 0 (start_of (numbering_of tests nodes)) → StartIsLost (problem_of policy source file)
   start_is_lost hs heights some = with_height hs (height_at hs 0 (start_of (numbering_of tests nodes))) heights refl some
+
+pub few_nodes : (nodes points labels : ℕ) → nodes ≡ points + 2 * (labels + 1) → points ≤ 1024 → labels ≤ points → nodes < 1048576
+few_nodes nodes points labels e p q = omega (arith, e, p, q)

@@ -4,16 +4,24 @@ use Rattle.std.specs.Prelude.{codes, nat_eq}
 use Rattle.std.specs.List.{All, list_any}
 use Rattle.std.proofs.lemmas.Bool.{false≢true}
 use Rattle.cw_syntax.specs.declared.marks.SeamMark.{SeamMark as MarkData}
-use Rattle.cw_syntax.specs.Marks.{SeamMark, mark_of, AreInOrder}
-use Rattle.cw_emit.specs.Cut.{HasNone}
-use Rattle.cw_emit.proofs.Premises.{none_without_a_star}
+use Rattle.cw_rights.specs.Policies.{PlainPolicy}
+use Rattle.cw_syntax.specs.Marks.{SeamMark, mark_of, marks_of, AreInOrder}
+use Rattle.cw_syntax.specs.Plans.{plan_of}
+use Rattle.cw_certs.specs.Tables.{Table}
+use Rattle.cw_model.specs.Boards.{names_of, problem_of}
+use Rattle.cw_model.specs.Runs.{Sound}
+use Rattle.cw_emit.specs.Cut.{HasNone, cut}
+use Rattle.cw_emit.proofs.Premises.{none_without_a_star, plain_without_descriptors}
 use Rattle.cw_syntax.specs.Trees.{Statement, Stated, Form, Block, Declares, Evaluates, Empties, Labels, Chooses, Whiles, Does, Fors, Breaks, Continues, Returns, Perhaps, nothing, just, Statements, nil, cons, Definition, File}
-use Rattle.cw_emit.specs.Woven.{IsPlainKind, ArePlainMarks}
+use Rattle.cw_emit.specs.Woven.{IsPlainKind, ArePlainMarks, ArePlainNames, Stands}
 use Rattle.cw_parse.specs.First.{ReadsFirst}
 use Rattle.cw_parse.proofs.Star.{source_free}
 use Rattle.cw_points.specs.First.{labels_of, labels_in}
 use Rattle.cw_points.specs.Marked.{label_marks, label_marks_of, label_marks_arm, label_marks_in, marks_from}
 use Rattle.cw_points.specs.Order.{Ascend}
+use Rattle.cw_points.proofs.Marking.{marks_are}
+use Rattle.cw_cli.specs.Due.{IsPlainPolicy, IsWoven}
+use Rattle.cw_cli.proofs.FirstForms.{is_first_form}
 
 pub in_order : (low at len : ℕ) (ms : List SeamMark) → at ≤ low → at ≤ len → Ascend low len ms → AreInOrder at len ms
 in_order low at len [] p q h = q
@@ -81,3 +89,21 @@ module _ (source : List ℕ) where
 
   pub marks_plain : (fs : List Definition) → ArePlainMarks source (map mark_of (marks_from fs 0))
   marks_plain fs = all_each (marks_from fs 0) (functions_plain fs 0)
+
+-- ---- the text
+
+pub is_woven : (plain : PlainPolicy) (source : List ℕ) (file : File) (marks : List MarkData) (table : Table) (bytes : List ℕ)
+    → ReadsFirst source file → IsPlainPolicy plain
+    → map mark_of marks ≡ marks_of (plan_of (names_of plain) source file)
+    → Stands bytes source (map mark_of marks) table plain
+    → (HasNone (codes "cw{*") source → ArePlainNames plain → ArePlainMarks source (map mark_of marks) → cut bytes ≡ source)
+    → Sound (problem_of plain source file) table
+    → IsWoven plain source file bytes
+is_woven plain source file marks table bytes reads policy same stands cuts sound =
+    let are = marks_are (names_of plain) source file (is_first_form source file reads) ∙ sym same in
+    let plain_marks = subst (ArePlainMarks source) are (marks_plain source file.functions) in (
+      table,
+      subst (λ ms. Stands bytes source ms table plain) same stands,
+      cuts (has_no_opening source file reads) (plain_without_descriptors plain policy.descriptors) plain_marks,
+      sound,
+    )

@@ -82,7 +82,7 @@ fn woven(
 ) -> Result<Answer, NoMemory>
     requires reads { ReadsFirst source.now (file_of program.now) }
     requires plain { IsPlainPolicy (policy_of policy.now) }
-    ensures due { IfOk result (λ answer. IsDueOf (policy_of policy.now) source.now (file_of program.now) (due_of answer)) }
+    ensures { IfOk result (λ answer. IsDueOf (policy_of policy.now) source.now (file_of program.now) (due_of answer)) }
 {
     match sound_table(alloc, source, program, policy)? {
         None => Ok(Answer::PolicyNotYet),

@@ -1,11 +1,12 @@
 //! The labels of a source, by their names.
 
-ghost use Rattle.std.specs.Prelude.{◌≡◌, map, option_map};
+ghost use Rattle.std.specs.Prelude.{◌≡◌, find, not, option_map};
+ghost use Rattle.std.specs.List.{list_any};
 ghost use Rattle.cw_syntax.specs.Names.{text};
 ghost use Rattle.cw_syntax.specs.Trees.{statement_of, statements_of, file_of};
-ghost use Rattle.cw_cli.specs.Labels.{has_label, has_label_in, has_label_file, missing_label};
+ghost use Rattle.cw_cli.specs.Labels.{has_label, has_label_in, has_label_file};
 
-use cw_syntax::program::{Name, Program, Stmt, What};
+use cw_syntax::program::{Function, Name, Program, Stmt, What};
 
 fn text_of(source: &[u8], name: Name) -> &[u8]
     ensures { result.now ≡ text source.now name }
@@ -44,26 +45,29 @@ fn has_label_in(source: &[u8], name: &[u8], ss: &[Stmt]) -> bool
     false
 }
 
-fn has_label_file(source: &[u8], name: &[u8], program: &Program) -> bool
-    ensures { result ≡ has_label_file source.now name.now (file_of program.now) }
+fn any_has_label(source: &[u8], name: &[u8], functions: &[Function]) -> bool
+    ensures { result ≡ list_any (λ f. has_label_in source.now name.now (statements_of f.body.items)) functions.now }
 {
-    program
-        .functions
+    functions
         .iter()
         .any(|f| has_label_in(source, name, &f.body))
 }
 
+fn has_label_file(source: &[u8], name: &[u8], program: &Program) -> bool
+    ensures { result ≡ has_label_file source.now name.now (file_of program.now) }
+{
+    any_has_label(source, name, &program.functions)
+}
+
 /// The first of these names that no label of the program has.
-#[tactic(auto, using(crate::proofs::Missing::find_texts))]
 pub(crate) fn missing_label<'a>(
     source: &[u8],
     program: &Program,
     names: &'a [Vec<u8>],
-) -> Option<&'a [u8]>
-    ensures { option_map (λ name. name.now) result ≡ missing_label source.now (file_of program.now) (map (λ name. name.items) names.now) }
+) -> Option<&'a Vec<u8>>
+    ensures { option_map (λ name. name.now) result ≡ find (λ name. not (has_label_file source.now name.items (file_of program.now))) names.now }
 {
     names
         .iter()
         .find(|name| !has_label_file(source, name, program))
-        .map(|name| name.as_slice())
 }
