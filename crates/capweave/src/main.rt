@@ -1,0 +1,33 @@
+//! CapWeave: weaves the sandboxing calls of capsicum(4) into a C program, so that each of its runs meets a policy.
+#![tactic(auto)]
+
+use cw_cli::capweave;
+use cw_io::{FileShelf, StreamSink};
+use std::env;
+use std::io;
+use std::process::ExitCode;
+
+/// The status of want of memory.
+const MEMORY: u8 = 8;
+
+/// Words that aren't UTF-8 are words that fit no command.
+fn main(rt: HostRuntime) -> ExitCode {
+    let alloc = rt.alloc();
+    let words: Vec<String> = match env::args(&rt) {
+        Ok(args) => match args.skip(1).collect(alloc) {
+            Ok(words) => words,
+            Err(_) => return ExitCode::from(MEMORY),
+        },
+        Err(fault) => {
+            if fault.kind() == io::ErrorKind::OutOfMemory {
+                return ExitCode::from(MEMORY);
+            }
+            Vec::new(alloc)
+        }
+    };
+    let stderr = rt.stderr();
+    let mut shelf = FileShelf::make(&rt);
+    let mut out = StreamSink::make(io::writer(&rt));
+    let mut note = StreamSink::make(io::writer(&stderr));
+    ExitCode::from(capweave(alloc, &words, &mut shelf, &mut out, &mut note))
+}

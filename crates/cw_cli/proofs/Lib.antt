@@ -1,0 +1,9 @@
+mod Notes
+mod Blocks
+mod Missing
+mod Spelled
+mod FirstForms
+mod Policies
+mod Starts
+mod Weaves
+mod Dues

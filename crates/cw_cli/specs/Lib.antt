@@ -1,0 +1,5 @@
+pub mod Labels
+pub mod Due
+pub mod Words
+pub mod Ends
+pub mod Lines

@@ -1,0 +1,111 @@
+//! What is due for a policy and a source.
+
+ghost use Rattle.std.specs.Prelude.{◌≡◌, ◌≤◌, ◌<◌, List, [], length, map, IfOk, IfSome, IfNone, None};
+ghost use Rattle.cw_rights.specs.Policies.{policy_of};
+ghost use Rattle.cw_syntax.specs.Trees.{file_of};
+ghost use Rattle.cw_certs.specs.Tables.{table_of};
+ghost use Rattle.cw_model.specs.Boards.{problem_of};
+ghost use Rattle.cw_model.specs.Runs.{Sound};
+ghost use Rattle.cw_parse.specs.First.{ReadsFirst};
+ghost use Rattle.cw_cli.specs.Due.{due_of, IsDue, IsDueOf, IsPlainPolicy, StartIsLost};
+
+use crate::labels::missing_label;
+use cw_certs::WeaverCert;
+use cw_core::NoMemory;
+use cw_emit::weave_text;
+use cw_game::ambient::AmbientPolicy;
+use cw_parse::first::read_first;
+use cw_points::marks::marks;
+use cw_points::positions::positions;
+use cw_policy::{ambient_tests, read_first_policy};
+use cw_rights::Policy;
+use cw_syntax::program::Program;
+use cw_tables::heights::{height_at, heights};
+use cw_tables::tables::weaver_table;
+use std::alloc::Global;
+
+/// What is due for a policy and a source.
+#[derive(Drop)]
+pub enum Answer {
+    /// The source isn't of the form that is woven yet.
+    SourceNotYet,
+    /// The policy isn't of the form that is woven yet.
+    PolicyNotYet,
+    /// The first label of the policy that isn't in the source.
+    NoLabel(Vec<u8>),
+    /// The woven text.
+    Woven(Vec<u8>),
+}
+
+fn copied(alloc: Global, bytes: &[u8]) -> Result<Vec<u8>, NoMemory>
+    ensures { IfOk result (λ copy. copy.items ≡ bytes.now) }
+{
+    let mut copy = Vec::new(alloc);
+    copy.extend_from_slice(bytes)?;
+    Ok(copy)
+}
+
+/// A sound table of the program, and none where the start is lost. A table of more than 65,536 rows, which a
+/// program of at most 1,024 points hasn't, would be want of memory.
+fn sound_table(
+    alloc: Global,
+    source: &[u8],
+    program: &Program,
+    policy: &Policy,
+) -> Result<Option<WeaverCert>, NoMemory>
+    requires reads { ReadsFirst source.now (file_of program.now) }
+    requires plain { IsPlainPolicy (policy_of policy.now) }
+    ensures sound { IfOk result (λ found. IfSome found (λ table. Sound (problem_of (policy_of policy.now) source.now (file_of program.now)) (table_of table))) }
+    ensures lost { IfOk result (λ found. IfNone found (StartIsLost (problem_of (policy_of policy.now) source.now (file_of program.now)))) }
+{
+    let nodes = positions(alloc, source, program, &policy.labels)?;
+    let Some(tests) = ambient_tests(alloc, policy)? else {
+        return Err(NoMemory);
+    };
+    let ambient = AmbientPolicy::new(policy.refuse_enter, tests, &nodes);
+    let hs = heights(alloc, &nodes, &ambient)?;
+    if height_at(&hs, 0, ambient.numbering.start()) > 0 {
+        return Ok(None);
+    }
+    match weaver_table(alloc, &nodes, &ambient, &hs)? {
+        Some(table) => Ok(Some(table)),
+        None => Err(NoMemory),
+    }
+}
+
+/// What is due for a program and a policy that has no label that the source hasn't.
+fn woven(
+    alloc: Global,
+    source: &[u8],
+    program: &Program,
+    policy: &Policy,
+) -> Result<Answer, NoMemory>
+    requires reads { ReadsFirst source.now (file_of program.now) }
+    requires plain { IsPlainPolicy (policy_of policy.now) }
+    ensures { IfOk result (λ answer. IsDueOf (policy_of policy.now) source.now (file_of program.now) (due_of answer)) }
+{
+    match sound_table(alloc, source, program, policy)? {
+        None => Ok(Answer::PolicyNotYet),
+        Some(table) => {
+            let marks = marks(alloc, program)?;
+            Ok(Answer::Woven(weave_text(alloc, source, &marks, policy, &table)?))
+        }
+    }
+}
+
+/// What is due for the bytes of a policy and of a source.
+pub fn due(alloc: Global, policy: &[u8], source: &[u8]) -> Result<Answer, NoMemory>
+    requires short { length source.now ≤ 262144 }
+    ensures due { IfOk result (λ answer. IsDue policy.now source.now (due_of answer)) }
+{
+    let Some(program) = read_first(alloc, source)? else {
+        return Ok(Answer::SourceNotYet);
+    };
+    let Some(plain) = read_first_policy(alloc, policy)? else {
+        return Ok(Answer::PolicyNotYet);
+    };
+    match missing_label(source, &program, &plain.labels) {
+        Some(name) => Ok(Answer::NoLabel(copied(alloc, name)?)),
+        None => woven(alloc, source, &program, &plain),
+    }
+}

@@ -1,0 +1,47 @@
+//! How a run ends.
+
+ghost use Rattle.std.specs.Prelude.{◌≡◌};
+ghost use Rattle.cw_cli.specs.Ends.{status_of};
+
+/// How a run over a named policy and a named source ends: the text was put, or why it wasn't.
+#[derive(Drop)]
+pub enum Ending {
+    /// The woven text was put whole.
+    Woven,
+    /// The source isn't of the form that is woven yet.
+    SourceNotYet,
+    /// The policy isn't of the form that is woven yet.
+    PolicyNotYet,
+    /// This label of the policy isn't in the source.
+    NoLabel(Vec<u8>),
+    /// The policy has more than 65,536 bytes.
+    PolicyTooLong,
+    /// The source has more than 262,144 bytes.
+    SourceTooLong,
+    /// The policy can't be read.
+    PolicyUnread,
+    /// The source can't be read.
+    SourceUnread,
+    /// The text can't be written.
+    Unwritten,
+    /// There was no memory.
+    Memory,
+}
+
+/// The status of an ending.
+pub(crate) fn status(ending: &Ending) -> u8
+    ensures { result ≡ status_of ending.now }
+{
+    match ending {
+        Ending::Woven => 0,
+        Ending::SourceNotYet => 3,
+        Ending::PolicyNotYet => 4,
+        Ending::NoLabel(_) => 4,
+        Ending::PolicyTooLong => 5,
+        Ending::SourceTooLong => 5,
+        Ending::PolicyUnread => 6,
+        Ending::SourceUnread => 6,
+        Ending::Unwritten => 7,
+        Ending::Memory => 8,
+    }
+}

@@ -1,0 +1,16 @@
+//! The top call: words, a shelf and two sinks in, the status out.
+#![tactic(auto)]
+
+mod answer;
+mod command;
+mod labels;
+mod ending;
+mod note;
+mod words;
+
+pub use answer::{Answer, due};
+pub use command::capweave;
+pub use ending::Ending;
+
+#[cfg(test)]
+mod tests;

@@ -1,0 +1,157 @@
+//! Whole runs of the command line over files and sinks in memory.
+use crate::capweave;
+use cw_io::{MemShelf, MemSink, SureShelf, SureSink};
+use std::alloc::{AllocError, Global};
+use std::test::Fail;
+
+const NO_RULES: &str = "/*cw{*/
+#include \"capweave.h\"
+#define CW_LIMITS(X)
+CW_TABLE(1,2,0)
+CW_MEM(0,0,0x3)
+CW_LIVE(0,0)
+CW_LIVE(2,0)
+CW_LIVE(3,0)
+CW_LIVE(4,0)
+CW_DONE
+/*}cw*/int main(void){/*cw{*/CW_ENTRY(0);/*}cw*/return 0;}";
+
+const NEVER_AMBIENT: &str = "/*cw{*/
+#include \"capweave.h\"
+#define CW_LIMITS(X)
+CW_TABLE(1,4,0)
+CW_MEM(0,0,0xf)
+CW_MEM(1,1,0xf)
+CW_MEM(2,3,0xf)
+CW_LIVE(0,0)
+CW_LIVE(2,0)
+CW_LIVE(3,0)
+CW_LIVE(4,0)
+CW_LIVE(5,1)
+CW_LIVE(6,2)
+CW_LIVE(7,2)
+CW_LIVE(8,2)
+CW_TRY(1,0,0,1,CW_NONE)
+CW_AT(1,1,2)
+CW_DONE
+/*}cw*/int main(void){/*cw{*/CW_ENTRY(0);/*}cw*/a:/*cw{*/CW_LABEL(1)/*}cw*/;return 0;}";
+
+const LOOP: &str = "/*cw{*/
+#include \"capweave.h\"
+#define CW_LIMITS(X)
+CW_TABLE(1,4,1)
+CW_MEM(0,0,0xf)
+CW_MEM(1,2,0xf)
+CW_LIVE(0,1)
+CW_LIVE(2,1)
+CW_LIVE(3,0)
+CW_LIVE(3,1)
+CW_LIVE(4,0)
+CW_LIVE(4,1)
+CW_LIVE(6,0)
+CW_LIVE(6,1)
+CW_LIVE(7,0)
+CW_LIVE(8,0)
+CW_LIVE(10,0)
+CW_LIVE(11,0)
+CW_LIVE(12,0)
+CW_LIVE(12,1)
+CW_LIVE(13,0)
+CW_LIVE(13,1)
+CW_AT(1,0,0)
+CW_AT(1,1,0)
+CW_AT(2,0,0)
+CW_DONE
+/*}cw*/int main(void){/*cw{*/CW_ENTRY(0);/*}cw*/while(c){o:/*cw{*/CW_LABEL(1)/*}cw*/;p:/*cw{*/CW_LABEL(2)/*}cw*/;}return 0;}";
+
+fn words(alloc: Global, line: &[&str]) -> Result<Vec<String>, AllocError> {
+    let mut words = Vec::new(alloc);
+    for word in line {
+        words.push(String::from_str(alloc, word)?)?;
+    }
+    Ok(words)
+}
+
+fn files(alloc: Global, policy: &str, source: &str) -> Result<Vec<(Vec<u8>, Vec<u8>)>, AllocError> {
+    let mut files = Vec::new(alloc);
+    for (name, text) in [("p.toml", policy), ("s.c", source)] {
+        files.push((
+            Vec::from_slice(alloc, name.as_bytes())?,
+            Vec::from_slice(alloc, text.as_bytes())?,
+        ))?;
+    }
+    Ok(files)
+}
+
+#[test]
+fn weaves_or_tells_why_not(rt: HostRuntime) -> Result<(), Fail> {
+    let alloc = rt.alloc();
+    let two = "int main(void){a:;return 0;}";
+    let never = "format = 1\n[[at]]\nlabel = \"a\"\nnever = [\"amb\"]\n";
+    let elsewhere = "format = 1\n[[at]]\nlabel = \"z\"\nnever = [\"amb\"]\n";
+    let both = "format = 1\n[[at]]\nlabel = \"a\"\nnever = [\"amb\"]\n[[at]]\nlabel = \"b\"\nmust = [\"amb\"]\n";
+    let weave = words(alloc, &["weave", "p.toml", "s.c"])?;
+    for (policy, source, status, text, line) in [
+        ("format = 1\n", "int main(void){return 0;}", 0, NO_RULES, ""),
+        (never, two, 0, NEVER_AMBIENT, ""),
+        ("format = 1\n", "int main(void){while(c){o:;p:;}return 0;}", 0, LOOP, ""),
+        (elsewhere, two, 4, "", "policy: no label z\n"),
+        (both, "int main(void){a:;b:;return 0;}", 4, "", "policy: not yet\n"),
+        ("format = 2\n", two, 4, "", "policy: not yet\n"),
+        ("format = 2\n", "", 3, "", "source: not yet\n"),
+    ] {
+        let mut shelf = SureShelf::make(files(alloc, policy, source)?);
+        let mut out = SureSink::make(alloc);
+        let mut note = SureSink::make(alloc);
+        assert_eq!(rt; capweave(alloc, &weave, &mut shelf, &mut out, &mut note), status, "{source}");
+        assert_eq!(rt; out.bytes(), text.as_bytes(), "{source}");
+        assert_eq!(rt; note.bytes(), line.as_bytes(), "{source}");
+    }
+    Ok(())
+}
+
+#[test]
+fn faults_and_limits(rt: HostRuntime) -> Result<(), Fail> {
+    let alloc = rt.alloc();
+    let source = "int main(void){return 0;}";
+    let long_policy = vec![in alloc; b'#'; 65_537]?;
+    let long_source = vec![in alloc; b';'; 262_145]?;
+    // The words, the numbers of the reads and of the puts that fail, the status, how many bytes were put, the line.
+    for (line, reads, puts, status, count, told) in [
+        (["weave", "p.toml", "s.c"].as_slice(), 9, 0, 7, NO_RULES.len() / 2, "write\n"),
+        (&["weave", "p.toml", "s.c"], 0, 9, 6, 0, "read: p.toml\n"),
+        (&["weave", "p.toml", "s.c"], 1, 9, 6, 0, "read: s.c\n"),
+        (&["weave", "p.toml", "missing"], 9, 9, 6, 0, "read: missing\n"),
+        (&["weave", "long.toml", "missing"], 9, 9, 5, 0, "limit: policy bytes\n"),
+        (&["weave", "p.toml", "long.c"], 9, 9, 5, 0, "limit: source bytes\n"),
+        (&["weave", "p.toml"], 9, 9, 2, 0, "usage: capweave weave POLICY SOURCE\n"),
+        (&["weave", "-p", "s.c"], 9, 9, 2, 0, "usage: capweave weave POLICY SOURCE\n"),
+        (&["weave", "p.toml", "s.c", "t"], 9, 9, 2, 0, "usage: capweave weave POLICY SOURCE\n"),
+        (&["woven", "p.toml", "s.c"], 9, 9, 2, 0, "usage: capweave COMMAND ARGUMENTS\n"),
+        (&[], 9, 9, 2, 0, "usage: capweave COMMAND ARGUMENTS\n"),
+    ] {
+        let mut held = files(alloc, "format = 1\n", source)?;
+        held.push((Vec::from_slice(alloc, b"long.toml")?, long_policy.try_clone()?))?;
+        held.push((Vec::from_slice(alloc, b"long.c")?, long_source.try_clone()?))?;
+        let mut shelf = MemShelf::make(held, vec![in alloc; reads; 1]?);
+        let mut out = MemSink::make(alloc, vec![in alloc; puts; 1]?);
+        let mut note = MemSink::make(alloc, vec![in alloc; 9; 1]?);
+        let given = words(alloc, line)?;
+        assert_eq!(rt; capweave(alloc, &given, &mut shelf, &mut out, &mut note), status, "{told}");
+        assert_eq!(rt; out.bytes().len(), count, "{told}");
+        assert_eq!(rt; note.bytes(), told.as_bytes(), "{told}");
+    }
+    Ok(())
+}
+
+#[test]
+fn what_the_note_answers_changes_no_status(rt: HostRuntime) -> Result<(), Fail> {
+    let alloc = rt.alloc();
+    let mut shelf = SureShelf::make(files(alloc, "format = 1\n", "")?);
+    let mut out = SureSink::make(alloc);
+    let mut note = MemSink::make(alloc, vec![in alloc; 0; 1]?);
+    let weave = words(alloc, &["weave", "p.toml", "s.c"])?;
+    assert_eq!(rt; capweave(alloc, &weave, &mut shelf, &mut out, &mut note), 3);
+    assert_eq!(rt; out.bytes(), b"".as_slice());
+    Ok(())
+}
