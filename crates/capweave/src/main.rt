@@ -3,9 +3,8 @@
 
 use cw_cli::capweave;
 use cw_io::{FileShelf, StreamSink};
-use std::env;
-use std::io;
 use std::process::ExitCode;
+use std::{env, io};
 
 /// The status of want of memory.
 const MEMORY: u8 = 8;

@@ -1,5 +1,5 @@
 -- What is due where each label of the policy is in the source is due.
-use Rattle.std.proofs.Common.{◌≡◌, ℕ, List, Option, None, Result, inr}
+use Rattle.std.proofs.Common.{◌≡◌, ℕ, List, None, Result, inr}
 use Rattle.std.specs.Prelude.{IfOk}
 use Rattle.cw_rights.specs.Policies.{PlainPolicy}
 use Rattle.cw_syntax.specs.Trees.{File}

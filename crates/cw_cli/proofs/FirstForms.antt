@@ -1,6 +1,5 @@
 -- What is read of a source has the first form that its points ask for.
-use Rattle.std.proofs.Common.{◌≡◌, ℕ, zero, suc, ◌+◌, ◌<◌, ◌≤◌, Bool, true, false, List, [], ◌∷◌, ◌++◌, length, Option, Some, None, refl, sym, ap, subst, ◌∙◌, arith}
-use Rattle.std.specs.Prelude.{codes}
+use Rattle.std.proofs.Common.{◌≡◌, ℕ, zero, suc, ◌≤◌, Bool, true, false, List, [], ◌∷◌, ◌++◌, length, refl, sym, ap, subst, ◌∙◌, arith}
 use Rattle.cw_syntax.specs.Names.{text}
 use Rattle.cw_syntax.specs.Trees.{Statement, Stated, Form, Block, Declares, Evaluates, Empties, Labels, Chooses, Whiles, Does, Fors, Breaks, Continues, Returns, Perhaps, nothing, just, Statements, nil, cons, Definition, File}
 use Rattle.cw_parse.specs.declared.first_tokens.Word.TheVariants as w
@@ -8,9 +7,9 @@ use Rattle.cw_parse.specs.declared.first_tokens.Token.{Token}
 use Rattle.cw_parse.specs.First as read
 use Rattle.cw_parse.specs.FirstGrammar.{name_of, IsForm, IsStmt, AreTrees, IsMain, return_of, main_of}
 use Rattle.cw_parse.specs.FirstGrammar as grammar
-use Rattle.cw_parse.specs.Spans.{end_of, Nests, NestsIn, MayNest, AllNest, FunctionsNest}
+use Rattle.cw_parse.specs.Spans.{end_of, Nests, NestsIn, MayNest, AllNest}
 use Rattle.cw_parse.proofs.Nest.{file_nests}
-use Rattle.cw_points.specs.First.{IsFirst, IsFirstOf, IsFirstArm, AreFirst, LiesIn, HasWithin, ArmLiesIn, LieIn, IsFirstForm, then_last, points_of, points_in_form, points_in_arm, points_in, points, labels_of, labels_in_form, labels_in_arm, labels_in, label_count}
+use Rattle.cw_points.specs.First.{IsFirst, IsFirstOf, AreFirst, LiesIn, HasWithin, ArmLiesIn, LieIn, IsFirstForm, then_last, points_of, points_in_form, points_in_arm, points_in, points, labels_of, labels_in_form, labels_in_arm, labels_in, label_count}
 use Rattle.cw_cli.proofs.Spelled.{Spelled, AreSpelled, tokens_spelled, spelled_parts}
 
 -- ---- where statements lie

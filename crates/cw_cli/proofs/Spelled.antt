@@ -1,5 +1,5 @@
 -- The names of a source of the first form: `main` is spelled so, and nothing else is.
-use Rattle.std.proofs.Common.{◌≡◌, ℕ, ◌+◌, ◌-◌, ◌<◌, ◌≤◌, Bool, true, false, cond, List, [], ◌∷◌, ◌++◌, length, take, drop, Option, Some, None, refl, sym, ap, subst, ◌∙◌, arith, append_assoc, length-append, length-drop}
+use Rattle.std.proofs.Common.{◌≡◌, ℕ, ◌-◌, ◌<◌, ◌≤◌, Bool, true, false, cond, List, [], ◌∷◌, ◌++◌, length, take, drop, Option, Some, None, refl, sym, ap, subst, ◌∙◌, arith, append_assoc, length-append, length-drop}
 use Rattle.std.specs.Prelude.{codes, ◌==◌}
 use Rattle.std.specs.List.{prefix_len}
 use Rattle.std.specs.Str.{bytes_eq}
@@ -14,7 +14,6 @@ use Rattle.cw_parse.specs.declared.first_tokens.Word.TheVariants as w
 use Rattle.cw_parse.specs.declared.first_tokens.Token.{Token}
 use Rattle.cw_parse.specs.FirstTokens.{is_letter, is_name_byte, is_reserved, word_of, mark_of, sized, front, AreTokens}
 use Rattle.cw_parse.specs.FirstGrammar.{name_of}
-use Rattle.cw_parse.specs.FirstReading.{found, IsWithin}
 use Rattle.cw_parse.proofs.Within.{front_within, choose_front}
 
 -- how a word of this kind is spelled, as far as it is `main` or a name
@@ -68,18 +67,18 @@ last_spelled bytes differs = pick (IsSpelled bytes) (is_reserved bytes) None (So
 void_spelled : (bytes : List ℕ) → bytes_eq bytes (codes "main") ≡ false → IsSpelled bytes (void_word bytes)
 void_spelled bytes differs =
     pick (IsSpelled bytes) (bytes_eq bytes (codes "void")) (Some w.Void) (return_word bytes) (λ e. known bytes w.Void tt)
-      (λ e. pick (IsSpelled bytes) (bytes_eq bytes (codes "return")) (Some w.Return) (if_word bytes) (λ e. known bytes w.Return tt)
-        (λ e. pick (IsSpelled bytes) (bytes_eq bytes (codes "if")) (Some w.If) (else_word bytes) (λ e. known bytes w.If tt)
-          (λ e. pick (IsSpelled bytes) (bytes_eq bytes (codes "else")) (Some w.Else) (while_word bytes) (λ e. known bytes w.Else tt)
-            (λ e. pick (IsSpelled bytes) (bytes_eq bytes (codes "while")) (Some w.While) (last_word bytes) (λ e. known bytes w.While tt)
-              (λ e. last_spelled bytes differs)))))
+    (λ e. pick (IsSpelled bytes) (bytes_eq bytes (codes "return")) (Some w.Return) (if_word bytes) (λ e. known bytes w.Return tt)
+    (λ e. pick (IsSpelled bytes) (bytes_eq bytes (codes "if")) (Some w.If) (else_word bytes) (λ e. known bytes w.If tt)
+    (λ e. pick (IsSpelled bytes) (bytes_eq bytes (codes "else")) (Some w.Else) (while_word bytes) (λ e. known bytes w.Else tt)
+    (λ e. pick (IsSpelled bytes) (bytes_eq bytes (codes "while")) (Some w.While) (last_word bytes) (λ e. known bytes w.While tt)
+    (λ e. last_spelled bytes differs)))))
 
 word_spelled : (bytes : List ℕ) → IsSpelled bytes (word_of bytes)
 unfolding word_of
 word_spelled bytes =
     pick (IsSpelled bytes) (bytes_eq bytes (codes "int")) (Some w.Int) (main_word bytes) (λ e. known bytes w.Int tt)
-      (λ e. pick (IsSpelled bytes) (bytes_eq bytes (codes "main")) (Some w.Main) (void_word bytes) (λ e. known bytes w.Main ((bytes_eq-Decides bytes (codes "main")).0 e))
-        (void_spelled bytes))
+    (λ e. pick (IsSpelled bytes) (bytes_eq bytes (codes "main")) (Some w.Main) (void_word bytes) (λ e. known bytes w.Main ((bytes_eq-Decides bytes (codes "main")).0 e))
+    (void_spelled bytes))
 
 -- ---- marks
 
@@ -95,19 +94,19 @@ open_mark b = cond (b == 40) (Some w.Open) (cond (b == 41) (Some w.Close) (brace
 semi_spelled : (bytes : List ℕ) (b : ℕ) → IsSpelled bytes (semi_mark b)
 semi_spelled bytes b =
     pick (IsSpelled bytes) (b == 59) (Some w.Semi) (cond (b == 58) (Some w.Colon) None) (λ e. known bytes w.Semi tt)
-      (λ e. pick (IsSpelled bytes) (b == 58) (Some w.Colon) None (λ e. known bytes w.Colon tt) (λ e. unknown bytes))
+    (λ e. pick (IsSpelled bytes) (b == 58) (Some w.Colon) None (λ e. known bytes w.Colon tt) (λ e. unknown bytes))
 
 brace_spelled : (bytes : List ℕ) (b : ℕ) → IsSpelled bytes (brace_mark b)
 brace_spelled bytes b =
     pick (IsSpelled bytes) (b == 123) (Some w.OpenBrace) (cond (b == 125) (Some w.CloseBrace) (semi_mark b)) (λ e. known bytes w.OpenBrace tt)
-      (λ e. pick (IsSpelled bytes) (b == 125) (Some w.CloseBrace) (semi_mark b) (λ e. known bytes w.CloseBrace tt) (λ e. semi_spelled bytes b))
+    (λ e. pick (IsSpelled bytes) (b == 125) (Some w.CloseBrace) (semi_mark b) (λ e. known bytes w.CloseBrace tt) (λ e. semi_spelled bytes b))
 
 mark_spelled : (bytes : List ℕ) (b : ℕ) → IsSpelled bytes (mark_of b)
 unfolding mark_of
 mark_spelled bytes b =
     pick (IsSpelled bytes) (b == 48) (Some w.Zero) (open_mark b) (λ e. known bytes w.Zero tt)
-      (λ e. pick (IsSpelled bytes) (b == 40) (Some w.Open) (cond (b == 41) (Some w.Close) (brace_mark b)) (λ e. known bytes w.Open tt)
-        (λ e. pick (IsSpelled bytes) (b == 41) (Some w.Close) (brace_mark b) (λ e. known bytes w.Close tt) (λ e. brace_spelled bytes b)))
+    (λ e. pick (IsSpelled bytes) (b == 40) (Some w.Open) (cond (b == 41) (Some w.Close) (brace_mark b)) (λ e. known bytes w.Open tt)
+    (λ e. pick (IsSpelled bytes) (b == 41) (Some w.Close) (brace_mark b) (λ e. known bytes w.Close tt) (λ e. brace_spelled bytes b)))
 
 -- ---- the token at the front of some bytes
 
@@ -128,8 +127,8 @@ front_spelled [] = λ v n e. absurd (cc)
 front_spelled (b ∷ bs) =
     let k = prefix_len is_name_byte (b ∷ bs) in
     choose_front (FrontSpelled (b ∷ bs)) (is_letter b) (sized k (word_of (take k (b ∷ bs)))) (sized 1 (mark_of b))
-      (λ e. sized_spelled (b ∷ bs) k (word_of (take k (b ∷ bs))) (word_spelled (take k (b ∷ bs))))
-      (λ e. sized_spelled (b ∷ bs) 1 (mark_of b) (mark_spelled (take 1 (b ∷ bs)) b))
+    (λ e. sized_spelled (b ∷ bs) k (word_of (take k (b ∷ bs))) (word_spelled (take k (b ∷ bs))))
+    (λ e. sized_spelled (b ∷ bs) 1 (mark_of b) (mark_spelled (take 1 (b ∷ bs)) b))
 
 -- ---- the tokens of a source
 

@@ -1,5 +1,5 @@
 -- The table of a policy that tests ambient authority is sound, and where there is none the start is lost.
-use Rattle.std.proofs.Common.{◌≡◌, ℕ, zero, suc, ◌+◌, ◌*◌, ◌<◌, ◌≤◌, List, [], length, map, true, false, refl, sym, ap, ◌∙◌, arith}
+use Rattle.std.proofs.Common.{◌≡◌, ℕ, zero, suc, ◌+◌, ◌*◌, ◌<◌, ◌≤◌, List, length, true, refl, ap, arith}
 use Rattle.cw_rights.specs.Policies.{PlainPolicy}
 use Rattle.cw_syntax.specs.Plans.{plan_of}
 use Rattle.cw_syntax.specs.Trees.{File}
@@ -11,8 +11,7 @@ use Rattle.cw_game.specs.declared.ambient.Node.{Node}
 use Rattle.cw_game.specs.declared.ambient.Numbering.{Numbering}
 use Rattle.cw_game.specs.declared.ambient.Numbering.TheVariants.{LettersLast, LettersFirst, NoLetter}
 use Rattle.cw_game.specs.Ambient.{IsAmbient, AmbientMeans, ambient_game, numbering_of, start_of}
-use Rattle.cw_game.specs.Games.{AreStates, Game}
-use Rattle.cw_game.specs.Reached.{Reached}
+use Rattle.cw_game.specs.Games.{Game}
 use Rattle.cw_game.specs.Places.{IsLaidOut}
 use Rattle.cw_game.specs.Conditions.{is_closed_table}
 use Rattle.cw_game.proofs.Ambients.{ambient_are_states}

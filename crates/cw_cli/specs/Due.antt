@@ -69,7 +69,7 @@ IsDue policy source SourceNotYet = (file : File) → ReadsFirst source file → 
 IsDue policy source PolicyNotYet =
     (file : File) × ReadsFirst source file
     × (((plain : PlainPolicy) → SpellsFirst policy plain → ⊥)
-       ⊎ ((plain : PlainPolicy) × SpellsFirst policy plain × (missing_label source file plain.labels ≡ None) × StartIsLost (problem_of plain source file)))
+    ⊎ ((plain : PlainPolicy) × SpellsFirst policy plain × (missing_label source file plain.labels ≡ None) × StartIsLost (problem_of plain source file)))
 IsDue policy source (NoLabel name) =
     (file : File) × (plain : PlainPolicy) × AreRead policy source file plain × (missing_label source file plain.labels ≡ Some name)
 IsDue policy source (Woven text) =

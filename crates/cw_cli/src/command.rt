@@ -104,7 +104,7 @@ pub fn capweave<F: Shelf, O: Sink, N: Sink>(
     // Words that fit: one of the endings, with its status, what it leaves on the output and its line on the note.
     ensures ends { IfSome (files_named words.now) (λ names. (ending : Ending) × (result ≡ status_of ending)
         × Ends (F.files shelf.old) (F.faults shelf.old) (F.faults shelf.new)
-            (O.taken out.old) (O.taken out.new) (O.faults out.old) (O.faults out.new) names.0 names.1 ending
+        (O.taken out.old) (O.taken out.new) (O.faults out.old) (O.faults out.new) names.0 names.1 ending
         × IsNoted (N.taken note.old) (N.taken note.new) (line_of names.0 names.1 ending)) }
 {
     match files_named(words) {

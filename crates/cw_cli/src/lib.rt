@@ -3,8 +3,8 @@
 
 mod answer;
 mod command;
-mod labels;
 mod ending;
+mod labels;
 mod note;
 mod words;
 

@@ -89,21 +89,38 @@ fn weaves_or_tells_why_not(rt: HostRuntime) -> Result<(), Fail> {
     let two = "int main(void){a:;return 0;}";
     let never = "format = 1\n[[at]]\nlabel = \"a\"\nnever = [\"amb\"]\n";
     let elsewhere = "format = 1\n[[at]]\nlabel = \"z\"\nnever = [\"amb\"]\n";
-    let both = "format = 1\n[[at]]\nlabel = \"a\"\nnever = [\"amb\"]\n[[at]]\nlabel = \"b\"\nmust = [\"amb\"]\n";
+    let both =
+        "format = 1\n[[at]]\nlabel = \"a\"\nnever = [\"amb\"]\n[[at]]\nlabel = \"b\"\nmust = [\"amb\"]\n";
     let weave = words(alloc, &["weave", "p.toml", "s.c"])?;
     for (policy, source, status, text, line) in [
         ("format = 1\n", "int main(void){return 0;}", 0, NO_RULES, ""),
         (never, two, 0, NEVER_AMBIENT, ""),
-        ("format = 1\n", "int main(void){while(c){o:;p:;}return 0;}", 0, LOOP, ""),
+        (
+            "format = 1\n",
+            "int main(void){while(c){o:;p:;}return 0;}",
+            0,
+            LOOP,
+            "",
+        ),
         (elsewhere, two, 4, "", "policy: no label z\n"),
-        (both, "int main(void){a:;b:;return 0;}", 4, "", "policy: not yet\n"),
+        (
+            both,
+            "int main(void){a:;b:;return 0;}",
+            4,
+            "",
+            "policy: not yet\n",
+        ),
         ("format = 2\n", two, 4, "", "policy: not yet\n"),
         ("format = 2\n", "", 3, "", "source: not yet\n"),
     ] {
         let mut shelf = SureShelf::make(files(alloc, policy, source)?);
         let mut out = SureSink::make(alloc);
         let mut note = SureSink::make(alloc);
-        assert_eq!(rt; capweave(alloc, &weave, &mut shelf, &mut out, &mut note), status, "{source}");
+        assert_eq!(rt;
+            capweave(alloc, &weave, &mut shelf, &mut out, &mut note),
+            status,
+            "{source}"
+        );
         assert_eq!(rt; out.bytes(), text.as_bytes(), "{source}");
         assert_eq!(rt; note.bytes(), line.as_bytes(), "{source}");
     }
@@ -118,26 +135,92 @@ fn faults_and_limits(rt: HostRuntime) -> Result<(), Fail> {
     let long_source = vec![in alloc; b';'; 262_145]?;
     // The words, the numbers of the reads and of the puts that fail, the status, how many bytes were put, the line.
     for (line, reads, puts, status, count, told) in [
-        (["weave", "p.toml", "s.c"].as_slice(), 9, 0, 7, NO_RULES.len() / 2, "write\n"),
+        (
+            ["weave", "p.toml", "s.c"].as_slice(),
+            9,
+            0,
+            7,
+            NO_RULES.len() / 2,
+            "write\n",
+        ),
         (&["weave", "p.toml", "s.c"], 0, 9, 6, 0, "read: p.toml\n"),
         (&["weave", "p.toml", "s.c"], 1, 9, 6, 0, "read: s.c\n"),
-        (&["weave", "p.toml", "missing"], 9, 9, 6, 0, "read: missing\n"),
-        (&["weave", "long.toml", "missing"], 9, 9, 5, 0, "limit: policy bytes\n"),
-        (&["weave", "p.toml", "long.c"], 9, 9, 5, 0, "limit: source bytes\n"),
-        (&["weave", "p.toml"], 9, 9, 2, 0, "usage: capweave weave POLICY SOURCE\n"),
-        (&["weave", "-p", "s.c"], 9, 9, 2, 0, "usage: capweave weave POLICY SOURCE\n"),
-        (&["weave", "p.toml", "s.c", "t"], 9, 9, 2, 0, "usage: capweave weave POLICY SOURCE\n"),
-        (&["woven", "p.toml", "s.c"], 9, 9, 2, 0, "usage: capweave COMMAND ARGUMENTS\n"),
+        (
+            &["weave", "p.toml", "missing"],
+            9,
+            9,
+            6,
+            0,
+            "read: missing\n",
+        ),
+        (
+            &["weave", "long.toml", "missing"],
+            9,
+            9,
+            5,
+            0,
+            "limit: policy bytes\n",
+        ),
+        (
+            &["weave", "p.toml", "long.c"],
+            9,
+            9,
+            5,
+            0,
+            "limit: source bytes\n",
+        ),
+        (
+            &["weave", "p.toml"],
+            9,
+            9,
+            2,
+            0,
+            "usage: capweave weave POLICY SOURCE\n",
+        ),
+        (
+            &["weave", "-p", "s.c"],
+            9,
+            9,
+            2,
+            0,
+            "usage: capweave weave POLICY SOURCE\n",
+        ),
+        (
+            &["weave", "p.toml", "s.c", "t"],
+            9,
+            9,
+            2,
+            0,
+            "usage: capweave weave POLICY SOURCE\n",
+        ),
+        (
+            &["woven", "p.toml", "s.c"],
+            9,
+            9,
+            2,
+            0,
+            "usage: capweave COMMAND ARGUMENTS\n",
+        ),
         (&[], 9, 9, 2, 0, "usage: capweave COMMAND ARGUMENTS\n"),
     ] {
         let mut held = files(alloc, "format = 1\n", source)?;
-        held.push((Vec::from_slice(alloc, b"long.toml")?, long_policy.try_clone()?))?;
-        held.push((Vec::from_slice(alloc, b"long.c")?, long_source.try_clone()?))?;
+        held.push((
+            Vec::from_slice(alloc, b"long.toml")?,
+            Vec::from_slice(alloc, &long_policy)?,
+        ))?;
+        held.push((
+            Vec::from_slice(alloc, b"long.c")?,
+            Vec::from_slice(alloc, &long_source)?,
+        ))?;
         let mut shelf = MemShelf::make(held, vec![in alloc; reads; 1]?);
         let mut out = MemSink::make(alloc, vec![in alloc; puts; 1]?);
         let mut note = MemSink::make(alloc, vec![in alloc; 9; 1]?);
         let given = words(alloc, line)?;
-        assert_eq!(rt; capweave(alloc, &given, &mut shelf, &mut out, &mut note), status, "{told}");
+        assert_eq!(rt;
+            capweave(alloc, &given, &mut shelf, &mut out, &mut note),
+            status,
+            "{told}"
+        );
         assert_eq!(rt; out.bytes().len(), count, "{told}");
         assert_eq!(rt; note.bytes(), told.as_bytes(), "{told}");
     }

@@ -1,11 +1,10 @@
-use Rattle.std.proofs.Common.{◌≡◌, ◌<◌, List, length, map, sym, ap, subst, ◌∙◌, arith}
+use Rattle.std.proofs.Common.{◌<◌, length, map, sym, ap, subst, ◌∙◌, arith}
 use Rattle.cw_rights.specs.Policies.{PlainPolicy, policy_of}
 use Rattle.cw_syntax.specs.Plans.{plan_of}
 use Rattle.cw_syntax.specs.Trees.{File, file_of}
 use Rattle.cw_certs.specs.Tables.{table_of}
 use Rattle.cw_model.specs.Boards.{names_of}
 use Rattle.cw_game.specs.Ambient.{IsAmbient, ambient_game, numbering_of, start_of}
-use Rattle.cw_game.specs.Conditions.{is_closed_table}
 use Rattle.cw_game.specs.Places.{IsLaidOut}
 use Rattle.cw_policy.specs.Ambient.{IsView}
 use Rattle.cw_points.specs.First.{points, label_count}
