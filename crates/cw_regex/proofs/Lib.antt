@@ -6,6 +6,7 @@ pub mod Cutting
 pub mod Depth
 pub mod Fronts
 pub mod Joining
+pub mod Kept
 pub mod Labelling
 pub mod Naming
 pub mod Nested

@@ -3,10 +3,10 @@
 ghost use Rattle.std.specs.Prelude.{◌≡◌, ◌+◌, ◌<◌, ◌≤◌, ◌^◌, List, ℕ, [], None, false, length, OnOk, IfOk, IfErr};
 ghost use Rattle.indexmap.specs.IndexSet.{index_set_len};
 ghost use Rattle.cw_rights.specs.Trees.{tree_of, nesting};
-ghost use Rattle.cw_rights.specs.Valid.{IsTreeWithin, IsTestWithin};
+ghost use Rattle.cw_rights.specs.Valid.{IsTreeWithin, IsTestWithin, IsDistinct};
 ghost use Rattle.cw_regex.specs.Parts.{parts, placed};
 ghost use Rattle.cw_regex.specs.Grammar.{Expression, TestForm, Spells, SpellsTest, IsExpression, IsTest, spelled};
-ghost use Rattle.cw_regex.specs.Labels.{names_in};
+ghost use Rattle.cw_regex.specs.Labels.{names_in, AreNames};
 ghost use Rattle.cw_regex.specs.Meaning.{names_of, test_meaning, meaning, labels_of, with_names};
 ghost use Rattle.cw_regex.specs.Faults.{first_unknown, place_of};
 ghost use Rattle.cw_regex.specs.Causes.{IsTestFault, IsRegexFault, IsShallow, IsUnknown, fault_of};
@@ -166,6 +166,8 @@ fn read_bytes(
     ensures labels { OnOk result ((e : Expression) → Spells text.now e →
         names_in labels.new.keys ≡ with_names (names_in labels.old.keys) (labels_of e [])) }
     ensures few { OnOk result (index_set_len labels.new ≤ index_set_len labels.old + length text.now) }
+    ensures names { OnOk result (AreNames (names_in labels.old.keys) → AreNames (names_in labels.new.keys)) }
+    ensures distinct { OnOk result (IsDistinct (names_in labels.old.keys) → IsDistinct (names_in labels.new.keys)) }
     ensures means { IfOk result (λ r. (e : Expression) → Spells text.now e →
         tree_of r ≡ meaning (names_in labels.new.keys) (names_of descriptors.now) e) }
     ensures within { IfOk result (λ r. IsTreeWithin (length descriptors.now) (length labels.new.keys) (tree_of r)) }
@@ -195,6 +197,8 @@ pub fn read_regex(
     ensures labels { OnOk result ((e : Expression) → Spells text.now e →
         names_in labels.new.keys ≡ with_names (names_in labels.old.keys) (labels_of e [])) }
     ensures few { OnOk result (index_set_len labels.new ≤ index_set_len labels.old + length text.now) }
+    ensures names { OnOk result (AreNames (names_in labels.old.keys) → AreNames (names_in labels.new.keys)) }
+    ensures distinct { OnOk result (IsDistinct (names_in labels.old.keys) → IsDistinct (names_in labels.new.keys)) }
     ensures means { IfOk result (λ r. (e : Expression) → Spells text.now e →
         tree_of r ≡ meaning (names_in labels.new.keys) (names_of descriptors.now) e) }
     ensures within { IfOk result (λ r. IsTreeWithin (length descriptors.now) (length labels.new.keys) (tree_of r)) }
