@@ -180,12 +180,17 @@ front_expression s q d b h =
     let x = closing_runs (closed_by q) d (closed_end q) in
     let goes : run false Begin 0 (parts (s ++ more)) ≡ Some (x.0, 0) = ap (run false Begin 0) cut ∙ run_append false (parts s) (parts more) Begin q 0 d h ∙ ap (run false q d) within ∙ run_append false (parts (tail q)) (parts (closing d)) q (closed_by q) d d (tail_runs q d) ∙ x.1 in
     let e = parsed (parts (s ++ more)) (x.0, goes, x.2) in
-    let t = some_tail q (closing d) in
-    (more, (e.0, record {
-      parts = e.1;
-      front = starts_append s more b (λ n. let z : Begin ≡ q = (same_end Begin q 0 d (run false Begin 0 (parts [])) refl (subst (λ l. run false Begin 0 (parts l) ≡ Some (q, d)) n h)).0 in subst (λ p. starts_blank (tail p ++ closing d) ≡ false) z refl);
-      back = ap (λ l. ends_blank (s ++ l)) t.2 ∙ ends_append s t.0 t.1 ∙ ap ends_blank (sym t.2) ∙ both_end q d;
-    }))
+    let t = some_tail q (closing d) in (
+      more,
+      (
+        e.0,
+        record {
+          parts = e.1;
+          front = starts_append s more b (λ n. let z : Begin ≡ q = (same_end Begin q 0 d (run false Begin 0 (parts [])) refl (subst (λ l. run false Begin 0 (parts l) ≡ Some (q, d)) n h)).0 in subst (λ p. starts_blank (tail p ++ closing d) ≡ false) z refl);
+          back = ap (λ l. ends_blank (s ++ l)) t.2 ∙ ends_append s t.0 t.1 ∙ ap ends_blank (sym t.2) ∙ both_end q d;
+        },
+      ),
+    )
 
 -- what is read of an expression runs, so a text that doesn't run is none
 pub expression_runs : (text : List ℕ) → IsExpression text → (z : Phase) × (run false Begin 0 (parts text) ≡ Some (z, 0)) × (is_end z ≡ true)

@@ -373,8 +373,10 @@ digit_start c e = ⊎_elim (λ y. ⊎_elim (λ z. zero' (eqb-true c 48 z)) (λ z
   where
     zero' : c ≡ 48 → is_name_start c ≡ false
     zero' f = subst (λ x. is_name_start x ≡ false) (sym f) refl
+
     one' : c ≡ 49 → is_name_start c ≡ false
     one' f = subst (λ x. is_name_start x ≡ false) (sym f) refl
+
     two' : c ≡ 50 → is_name_start c ≡ false
     two' f = subst (λ x. is_name_start x ≡ false) (sym f) refl
 
@@ -418,10 +420,10 @@ later_word alone s c (b ∷ w) t q d most h a e k =
     record {
       front = front_of alone (s ++ c ∷ []) Descriptor d (starts_append s (c ∷ []) h.front (λ z. word_no_blank c first)) runs' (λ x y. absurd (cc));
       stuck = λ rest x.
-        let two = begins_two c b rest first second in
-        let dead : step_word q (c ∷ (b ∷ two.0)) ≡ None = test_word q (c ∷ (b ∷ two.0)) f ∙ no_test c (b ∷ two.0) (digit_start c g) refl in
-        let stops : step alone q d (word (c ∷ (b ∷ two.0))) ≡ None = ap (λ (o : Option Phase). option_map (λ (y : Phase). let z : At = (y, d) in z) o) dead in
-        stuck_part alone s (c ∷ (b ∷ rest)) q d (word (c ∷ (b ∷ two.0))) two.1 (apart_before s (c ∷ (b ∷ rest)) free) h.runs two.2 stops (subst (In alone) (one_more s c (b ∷ rest)) x);
+          let two = begins_two c b rest first second in
+          let dead : step_word q (c ∷ (b ∷ two.0)) ≡ None = test_word q (c ∷ (b ∷ two.0)) f ∙ no_test c (b ∷ two.0) (digit_start c g) refl in
+          let stops : step alone q d (word (c ∷ (b ∷ two.0))) ≡ None = ap (λ (o : Option Phase). option_map (λ (y : Phase). let z : At = (y, d) in z) o) dead in
+          stuck_part alone s (c ∷ (b ∷ rest)) q d (word (c ∷ (b ∷ two.0))) two.1 (apart_before s (c ∷ (b ∷ rest)) free) h.runs two.2 stops (subst (In alone) (one_more s c (b ∷ rest)) x);
     }
 
 pub scan_ends : (alone : Bool) (s : List ℕ) (q : Phase) (d most : ℕ) → Scan alone s [] q d most → ends_here alone q d ≡ true → ends_blank s ≡ false → In alone s × (deepest 0 (parts s) ≡ most)

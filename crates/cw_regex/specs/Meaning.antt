@@ -53,7 +53,8 @@ test_meaning descriptors t = (not t.negated, subject_meaning descriptors t.what)
 abbrev pub literal_meaning : List (List ℕ) → List (List ℕ) → Option Name → List TestForm → Literal
 literal_meaning labels descriptors label tests = record {
   label = option_map (λ name. number_in labels name.bytes) label;
-  tests = map (test_meaning descriptors) tests }
+  tests = map (test_meaning descriptors) tests;
+}
 
 -- several parts are a sequence or an alternative, one is itself
 abbrev pub chain_seq : List Tree → Tree
