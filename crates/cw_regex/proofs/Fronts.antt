@@ -1,5 +1,5 @@
 -- A front that runs goes on to a whole text.
-use Rattle.std.proofs.Common.{◌≡◌, ◌⊎◌, inl, inr, ⊎_elim, ℕ, zero, suc, ◌+◌, ◌<◌, ◌≤◌, List, [], ◌∷◌, ◌++◌, Bool, true, false, cond, ◌&&◌, Option, Some, None, option_and_then, length, refl, sym, ap, ap₂, ◌∙◌, subst, add-one, arith, append-nil, nat_eq, eqb-true}
+use Rattle.std.proofs.Common.{◌≡◌, ◌⊎◌, inl, inr, ℕ, zero, suc, List, [], ◌∷◌, ◌++◌, Bool, true, false, ◌&&◌, Option, Some, None, option_and_then, refl, sym, ap, ap₂, ◌∙◌, subst, add-one, append-nil, nat_eq, eqb-true}
 use Rattle.std.specs.Option.{option_map}
 use Rattle.std.specs.Str.{bytes_eq}
 use Rattle.std.proofs.lemmas.Slice.Eq.{bytes_eq-Decides}
@@ -8,9 +8,9 @@ use Rattle.cw_regex.specs.declared.text.Mark.{Mark}
 use Rattle.cw_regex.specs.declared.text.Mark.TheVariants.{Dot, ParenOpen, ParenClose, Bar, Star, Plus, Question, BracketOpen, BracketClose, Bang, Colon as ColonMark, Comma, Other}
 use Rattle.cw_regex.specs.declared.phase.Phase.{Phase}
 use Rattle.cw_regex.specs.declared.phase.Phase.TheVariants.{Begin, Label, Whole, Repeated, Test, Negated, Ambient, Descriptor, Colon, Right}
-use Rattle.cw_regex.specs.Parts.{Part, word, mark, is_blank, begins_word, parts, starts_blank, ends_blank}
-use Rattle.cw_regex.specs.Grammar.{is_descriptor, amb, Name, DescriptorName, Subject, ambient, holds, TestForm, Expression, spelled_subject, spelled_if, spelled_test, spelled, IsMadeOf, IsExpression, IsTest}
-use Rattle.cw_regex.specs.Machine.{in_test, step_word, takes_atom, is_end, is_test_end, step, run, start, ends_here, In}
+use Rattle.cw_regex.specs.Parts.{Part, word, mark, begins_word, parts, starts_blank, ends_blank}
+use Rattle.cw_regex.specs.Grammar.{is_descriptor, amb, Name, DescriptorName, Subject, ambient, holds, TestForm, spelled_subject, spelled_test, IsExpression, IsTest}
+use Rattle.cw_regex.specs.Machine.{in_test, step_word, is_end, is_test_end, step, run, start, ends_here, In}
 use Rattle.cw_regex.proofs.Bools.{which, and_left, and_right, and_both}
 use Rattle.cw_regex.proofs.Cutting.{parts_cut}
 use Rattle.cw_regex.specs.Scans.{ends_word, Apart, May}
@@ -180,12 +180,17 @@ front_expression s q d b h =
     let x = closing_runs (closed_by q) d (closed_end q) in
     let goes : run false Begin 0 (parts (s ++ more)) ≡ Some (x.0, 0) = ap (run false Begin 0) cut ∙ run_append false (parts s) (parts more) Begin q 0 d h ∙ ap (run false q d) within ∙ run_append false (parts (tail q)) (parts (closing d)) q (closed_by q) d d (tail_runs q d) ∙ x.1 in
     let e = parsed (parts (s ++ more)) (x.0, goes, x.2) in
-    let t = some_tail q (closing d) in
-    (more, (e.0, record {
-      parts = e.1;
-      front = starts_append s more b (λ n. let z : Begin ≡ q = (same_end Begin q 0 d (run false Begin 0 (parts [])) refl (subst (λ l. run false Begin 0 (parts l) ≡ Some (q, d)) n h)).0 in subst (λ p. starts_blank (tail p ++ closing d) ≡ false) z refl);
-      back = ap (λ l. ends_blank (s ++ l)) t.2 ∙ ends_append s t.0 t.1 ∙ ap ends_blank (sym t.2) ∙ both_end q d;
-    }))
+    let t = some_tail q (closing d) in (
+      more,
+      (
+        e.0,
+        record {
+          parts = e.1;
+          front = starts_append s more b (λ n. let z : Begin ≡ q = (same_end Begin q 0 d (run false Begin 0 (parts [])) refl (subst (λ l. run false Begin 0 (parts l) ≡ Some (q, d)) n h)).0 in subst (λ p. starts_blank (tail p ++ closing d) ≡ false) z refl);
+          back = ap (λ l. ends_blank (s ++ l)) t.2 ∙ ends_append s t.0 t.1 ∙ ap ends_blank (sym t.2) ∙ both_end q d;
+        },
+      ),
+    )
 
 -- what is read of an expression runs, so a text that doesn't run is none
 pub expression_runs : (text : List ℕ) → IsExpression text → (z : Phase) × (run false Begin 0 (parts text) ≡ Some (z, 0)) × (is_end z ≡ true)

@@ -15,8 +15,8 @@ is_blank b = nat_eq b 32 || nat_eq b 9
 abbrev pub mark_of : ℕ → Mark
 mark_of b =
     cond (nat_eq b 46) Dot (cond (nat_eq b 40) ParenOpen (cond (nat_eq b 41) ParenClose (cond (nat_eq b 124) Bar (
-      cond (nat_eq b 42) Star (cond (nat_eq b 43) Plus (cond (nat_eq b 63) Question (cond (nat_eq b 91) BracketOpen (
-        cond (nat_eq b 93) BracketClose (cond (nat_eq b 33) Bang (cond (nat_eq b 58) Colon (cond (nat_eq b 44) Comma Other)))))))))))
+    cond (nat_eq b 42) Star (cond (nat_eq b 43) Plus (cond (nat_eq b 63) Question (cond (nat_eq b 91) BracketOpen (
+    cond (nat_eq b 93) BracketClose (cond (nat_eq b 33) Bang (cond (nat_eq b 58) Colon (cond (nat_eq b 44) Comma Other)))))))))))
 
 abbrev pub begins_word : List ℕ → Bool
 begins_word [] = false

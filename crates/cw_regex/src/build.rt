@@ -51,10 +51,7 @@ fn alternative(mut terms: Vec<Regex>) -> Regex
 pub fn finish(frame: Frame) -> Result<Regex, AllocError>
     ensures { IfOk result (λ r. tree_of r ≡ finished (level_of frame)) }
 {
-    let Frame {
-        mut terms,
-        factors,
-    } = frame;
+    let Frame { mut terms, factors } = frame;
     terms.push(sequence(factors))?;
     Ok(alternative(terms))
 }
@@ -81,25 +78,16 @@ fn new_frame(alloc: Global) -> Frame
 fn with_factor(frame: Frame, factor: Regex) -> Result<Frame, AllocError>
     ensures { IfOk result (λ f. level_of f ≡ with_factor (level_of frame) (tree_of factor)) }
 {
-    let Frame {
-        terms,
-        mut factors,
-    } = frame;
+    let Frame { terms, mut factors } = frame;
     factors.push(factor)?;
-    Ok(Frame {
-        terms,
-        factors,
-    })
+    Ok(Frame { terms, factors })
 }
 
 /// A literal comes.
 pub fn put_literal(building: Building, lit: Lit) -> Result<Building, AllocError>
     ensures { IfOk result (λ b. levels_of b ≡ with_literal (levels_of building) (literal_of lit)) }
 {
-    let Building {
-        inner,
-        outer,
-    } = building;
+    let Building { inner, outer } = building;
     Ok(Building {
         inner: with_factor(inner, Regex::Lit(lit))?,
         outer,
@@ -109,10 +97,7 @@ pub fn put_literal(building: Building, lit: Lit) -> Result<Building, AllocError>
 fn put_begin(alloc: Global, building: Building) -> Result<Building, AllocError>
     ensures { IfOk result (λ b. levels_of b ≡ with_begin (levels_of building)) }
 {
-    let Building {
-        inner,
-        mut outer,
-    } = building;
+    let Building { inner, mut outer } = building;
     outer.push(inner)?;
     Ok(Building {
         inner: new_frame(alloc),
@@ -123,10 +108,7 @@ fn put_begin(alloc: Global, building: Building) -> Result<Building, AllocError>
 fn put_close(alloc: Global, building: Building) -> Result<Building, AllocError>
     ensures { IfOk result (λ b. levels_of b ≡ with_close (levels_of building)) }
 {
-    let Building {
-        inner,
-        mut outer,
-    } = building;
+    let Building { inner, mut outer } = building;
     let done = finish(inner)?;
     let below = match outer.pop() {
         Some(frame) => frame,
@@ -141,14 +123,8 @@ fn put_close(alloc: Global, building: Building) -> Result<Building, AllocError>
 fn put_bar(alloc: Global, building: Building) -> Result<Building, AllocError>
     ensures { IfOk result (λ b. levels_of b ≡ with_bar (levels_of building)) }
 {
-    let Building {
-        inner,
-        outer,
-    } = building;
-    let Frame {
-        mut terms,
-        factors,
-    } = inner;
+    let Building { inner, outer } = building;
+    let Frame { mut terms, factors } = inner;
     terms.push(sequence(factors))?;
     Ok(Building {
         inner: Frame {
@@ -169,11 +145,7 @@ fn repeated(mark: Mark, body: Box<Regex>) -> Regex
     }
 }
 
-fn repeat_last(
-    alloc: Global,
-    mut factors: Vec<Regex>,
-    mark: Mark,
-) -> Result<Vec<Regex>, AllocError>
+fn repeat_last(alloc: Global, mut factors: Vec<Regex>, mark: Mark) -> Result<Vec<Regex>, AllocError>
     ensures { IfOk result (λ v. map tree_of v.items ≡ on_last (repeated_by mark) (map tree_of factors.items)) }
 {
     match factors.pop() {
@@ -188,14 +160,8 @@ fn repeat_last(
 fn put_repeat(alloc: Global, building: Building, mark: Mark) -> Result<Building, AllocError>
     ensures { IfOk result (λ b. levels_of b ≡ repeated (repeated_by mark) (levels_of building)) }
 {
-    let Building {
-        inner,
-        outer,
-    } = building;
-    let Frame {
-        terms,
-        factors,
-    } = inner;
+    let Building { inner, outer } = building;
+    let Frame { terms, factors } = inner;
     Ok(Building {
         inner: Frame {
             terms,

@@ -65,7 +65,7 @@ fn put_label(
     ensures read { IfOk result (λ r. (ts : List TestForm) (rest : List Part) →
         parts (drop at text.now) ≡ spelled_tests ts rest → begins_bracket rest ≡ false →
         levels_of r.0 ≡ with_literal (levels_of building)
-            (record { label = label; tests = map (test_meaning (names_of descriptors.now)) ts })) }
+        (record { label = label; tests = map (test_meaning (names_of descriptors.now)) ts })) }
     ensures rest { IfOk result (λ r. (ts : List TestForm) (rest : List Part) →
         parts (drop at text.now) ≡ spelled_tests ts rest → begins_bracket rest ≡ false →
         parts (drop r.1 text.now) ≡ rest) }
@@ -128,10 +128,7 @@ fn at_end(text: &[u8], at: usize) -> bool
 fn done(building: Building) -> Result<Regex, AllocError>
     ensures { IfOk result (λ r. tree_of r ≡ finished (levels_of building).inner) }
 {
-    let Building {
-        inner,
-        ..
-    } = building;
+    let Building { inner, .. } = building;
     finish(inner)
 }
 

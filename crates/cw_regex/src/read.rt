@@ -118,11 +118,7 @@ fn sound(text: &[u8], descriptors: &[Descriptor]) -> Result<(), RegexFault>
     }
 }
 
-fn named(
-    alloc: Global,
-    text: &[u8],
-    labels: &mut IndexSet<Vec<u8>>,
-) -> Result<(), RegexFault>
+fn named(alloc: Global, text: &[u8], labels: &mut IndexSet<Vec<u8>>) -> Result<(), RegexFault>
     ensures labels { OnOk result ((e : Expression) → parts text.now ≡ spelled e [] →
         names_in labels.new.keys ≡ with_names (names_in labels.old.keys) (labels_of e [])) }
     ensures few { OnOk result (index_set_len labels.new ≤ index_set_len labels.old + length text.now) }

@@ -73,9 +73,18 @@ fn offsets_of_faults(rt: HostRuntime) -> Result<(), AllocError> {
         ("a)", Answer::At(1)),
         ("a[nil:CAP_NONE]", Answer::UnknownDescriptor(2)),
         ("a[0:CAP_NONE, nil:CAP_READ]", Answer::UnknownRight(4)),
-        ("(((((((((((((((((((((((((((((((((((((((((((((((((((((((((((((((((a)))))))))))))))))))))))))))))))))))))))))))))))))))))))))))))))))", Answer::TooDeep),
-        ("((((((((((((((((((((((((((((((((((((((((((((((((((((((((((((((((a))))))))))))))))))))))))))))))))))))))))))))))))))))))))))))))))", Answer::Read),
-        ("a\t| amb ( 0x [ ! amb , log : CAP_SEEK ] ) ?", Answer::At(10)),
+        (
+            "(((((((((((((((((((((((((((((((((((((((((((((((((((((((((((((((((a)))))))))))))))))))))))))))))))))))))))))))))))))))))))))))))))))",
+            Answer::TooDeep,
+        ),
+        (
+            "((((((((((((((((((((((((((((((((((((((((((((((((((((((((((((((((a))))))))))))))))))))))))))))))))))))))))))))))))))))))))))))))))",
+            Answer::Read,
+        ),
+        (
+            "a\t| amb ( 0x [ ! amb , log : CAP_SEEK ] ) ?",
+            Answer::At(10),
+        ),
         ("a\t| amb ( x0 [ ! amb , log : CAP_SEEK ] ) ?", Answer::Read),
     ];
     for (text, expected) in cases {
@@ -97,7 +106,12 @@ fn labels_are_numbered_in_their_order(rt: HostRuntime) -> Result<(), AllocError>
         Ok(tree) => assert!(rt; matches!(&tree, Regex::Or(parts) if parts.len() == 2)),
     }
     assert_eq!(rt; labels.len(), 2);
-    match read_regex(alloc, "(go next[!amb, log:CAP_LOOKUP])+ .", &descriptors, &mut labels) {
+    match read_regex(
+        alloc,
+        "(go next[!amb, log:CAP_LOOKUP])+ .",
+        &descriptors,
+        &mut labels,
+    ) {
         Err(_) => assert!(rt; false, "the labels are few"),
         Ok(tree) => {
             let outer = sequence_of(&tree);

@@ -159,5 +159,11 @@ pub fn colon_next(text: &[u8], at: usize) -> bool
     ensures placed { result ≡ colon_next (placed at (drop at text.now)) }
     ensures part { result ≡ begins_colon (parts (drop at text.now)) }
 {
-    matches!(token_at(text, at), Token::Mark { mark: Mark::Colon, .. })
+    matches!(
+        token_at(text, at),
+        Token::Mark {
+            mark: Mark::Colon,
+            ..
+        }
+    )
 }
