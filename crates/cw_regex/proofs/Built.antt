@@ -1,13 +1,13 @@
 -- The tree that is built of an expression's items is its meaning.
-use Rattle.std.proofs.Common.{◌≡◌, ℕ, List, [], ◌∷◌, ◌++◌, fold, map, refl, sym, ap, ap₂, ◌∙◌, subst, append_assoc, append-nil}
+use Rattle.std.proofs.Common.{◌≡◌, ℕ, List, [], ◌∷◌, ◌++◌, map, refl, sym, ap, ◌∙◌, append_assoc}
 use Rattle.std.proofs.lemmas.List.{map-append}
 use Rattle.cw_rights.specs.declared.words.Regex.{Regex}
-use Rattle.cw_rights.specs.Trees.{tree_of, Tree, one, star as star_of, plus as plus_of, maybe as maybe_of}
-use Rattle.cw_regex.specs.declared.text.Mark.TheVariants.{ParenOpen, ParenClose, Bar, Star, Plus, Question}
-use Rattle.cw_regex.specs.Parts.{Part, mark}
-use Rattle.cw_regex.specs.Grammar.{Name, TestForm, Expression, only, either, Term, single, then, Factor, plain, star, plus, maybe, Atom, literal, group, spelled, spelled_term, spelled_factor, spelled_atom, spelled_label, spelled_tests}
-use Rattle.cw_regex.specs.Meaning.{literal_meaning, joined_seq, joined_alt, terms, factors, factor_meaning, atom_meaning, meaning}
-use Rattle.cw_regex.specs.Items.{Item, lit, begin, close, bar, many, some, optional, spelled_item, spelled_items, items, items_term, items_factor, items_atom, Level, Levels, empty, finished, with_factor, on_last, closed_into, repeated, put, put_all}
+use Rattle.cw_rights.specs.Trees.{tree_of, Tree, star as star_of, plus as plus_of, maybe as maybe_of}
+use Rattle.cw_regex.specs.declared.text.Mark.TheVariants.{ParenOpen, Bar}
+use Rattle.cw_regex.specs.Parts.{mark}
+use Rattle.cw_regex.specs.Grammar.{Expression, only, either, Term, single, then, Factor, plain, star, plus, maybe, Atom, literal, group, spelled, spelled_term, spelled_factor, spelled_atom}
+use Rattle.cw_regex.specs.Meaning.{joined_seq, joined_alt, terms, factors, factor_meaning, atom_meaning, meaning}
+use Rattle.cw_regex.specs.Items.{Item, close, bar, many, some, optional, spelled_items, items, items_term, items_factor, items_atom, Level, Levels, finished, on_last, put_all}
 
 -- the items are spelled as the expression is
 mutual

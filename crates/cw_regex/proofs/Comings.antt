@@ -1,7 +1,7 @@
 -- The next part from a place of a text on.
-use Rattle.std.proofs.Common.{◌≡◌, ℕ, zero, suc, ◌+◌, ◌-◌, ◌<◌, ◌≤◌, List, [], ◌∷◌, ◌++◌, Bool, true, false, length, take, drop, refl, sym, ap, ap₂, ◌∙◌, subst, arith, length-drop}
+use Rattle.std.proofs.Common.{◌≡◌, ℕ, zero, suc, ◌+◌, ◌-◌, ◌<◌, ◌≤◌, List, [], ◌∷◌, length, take, drop, refl, sym, ap, ap₂, ◌∙◌, arith}
 use Rattle.cw_regex.specs.declared.text.Mark.{Mark}
-use Rattle.cw_regex.specs.Parts.{Part, word, mark, parts, Placed, placed}
+use Rattle.cw_regex.specs.Parts.{word, mark, parts, placed}
 use Rattle.cw_regex.specs.Pieces.{IsBlankAt, IsMarkAt, IsWordAt}
 use Rattle.cw_regex.specs.Tokens.{Comes, IsEnd}
 use Rattle.cw_regex.proofs.Cutting.{parts_blank, parts_mark, parts_word, placed_blank, placed_mark, placed_word}

@@ -1,10 +1,10 @@
 -- The parts of a text that is cut in two.
-use Rattle.std.proofs.Common.{◌≡◌, ◌⊎◌, inl, inr, ⊎_elim, ℕ, ◌+◌, List, [], ◌∷◌, ◌++◌, Bool, true, false, cond, ◌&&◌, ◌||◌, nat_eq, refl, sym, ap, ap₂, ◌∙◌, subst, eqb-true, length, arith}
+use Rattle.std.proofs.Common.{◌≡◌, ◌⊎◌, inl, inr, ⊎_elim, ℕ, ◌+◌, List, [], ◌∷◌, ◌++◌, Bool, true, false, ◌&&◌, nat_eq, refl, sym, ap, ap₂, ◌∙◌, subst, eqb-true, length, arith}
 use Rattle.std.specs.List.{list_all}
 use Rattle.cw_rights.specs.Valid.{is_name_byte}
-use Rattle.cw_regex.specs.Parts.{Part, word, mark, is_blank, mark_of, begins_word, grown, parts, Placed, grown_at, placed}
-use Rattle.cw_regex.specs.Scans.{ends_word, Apart}
-use Rattle.cw_regex.proofs.Bools.{or_cases, and_left, and_right, and_both, which}
+use Rattle.cw_regex.specs.Parts.{Part, word, mark, is_blank, mark_of, begins_word, grown, parts, grown_at, placed}
+use Rattle.cw_regex.specs.Scans.{Apart}
+use Rattle.cw_regex.proofs.Bools.{or_cases, and_left, and_right, which}
 
 -- a byte of a word is no blank
 pub word_no_blank : (b : ℕ) → is_name_byte b ≡ true → is_blank b ≡ false

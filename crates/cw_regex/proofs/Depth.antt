@@ -1,7 +1,7 @@
 -- The depth of an expression is the most parentheses that are open at once.
-use Rattle.std.proofs.Common.{◌≡◌, ℕ, ◌+◌, ◌-◌, ◌≤◌, ◌<◌, max, List, [], ◌∷◌, Bool, true, false, Option, Some, None, refl, sym, ap, ap₂, ◌∙◌, subst, arith}
-use Rattle.cw_regex.specs.declared.text.Mark.TheVariants.{Dot, ParenOpen, ParenClose, Bar, Star, Plus, Question, BracketOpen, BracketClose, Bang, Colon, Comma, Other}
-use Rattle.cw_regex.specs.Parts.{Part, word, mark, parts}
+use Rattle.std.proofs.Common.{◌≡◌, ℕ, ◌+◌, ◌-◌, ◌≤◌, ◌<◌, max, List, [], ◌∷◌, Bool, true, false, Option, Some, None, refl, ap, ◌∙◌, arith}
+use Rattle.cw_regex.specs.declared.text.Mark.TheVariants.{ParenClose, Bar, Star, Plus, Question}
+use Rattle.cw_regex.specs.Parts.{Part, mark, parts}
 use Rattle.cw_regex.specs.Grammar.{Name, Subject, ambient, holds, TestForm, Expression, only, either, Term, single, then, Factor, plain, star, plus, maybe, Atom, literal, group, spelled_subject, spelled_if, spelled_test, spelled_more, spelled_tests, spelled_label, spelled, spelled_term, spelled_factor, spelled_atom, depth, depth_term, depth_factor, depth_atom, Spells, IsExpression}
 use Rattle.cw_regex.specs.Machine.{deepest}
 use Rattle.cw_regex.specs.Causes.{IsShallow, IsDeep, IsUnknown, IsRegexFault, fault_of}

@@ -1,8 +1,8 @@
 -- Sequences and alternatives of what was built.
-use Rattle.std.proofs.Common.{◌≡◌, ◌≢◌, ℕ, List, [], ◌∷◌, ◌++◌, Vec, Global, map, length, refl, sym, ap, ap₂, ◌∙◌, arith, length-append}
+use Rattle.std.proofs.Common.{◌≡◌, ◌≢◌, List, [], ◌∷◌, ◌++◌, Vec, Global, map, length, refl, sym, ap, ◌∙◌, arith, length-append}
 use Rattle.cw_rights.specs.declared.words.Regex.{Regex}
 use Rattle.cw_rights.specs.declared.words.Regex.TheVariants.{Cat, Or}
-use Rattle.cw_rights.specs.Trees.{Tree, seq, alt, tree_of, seq_of, alt_of}
+use Rattle.cw_rights.specs.Trees.{seq, alt, tree_of, seq_of, alt_of}
 use Rattle.cw_rights.proofs.Rows.{cat_tree, or_tree}
 use Rattle.cw_regex.specs.Meaning.{chain_seq, chain_alt, joined_seq, joined_alt}
 

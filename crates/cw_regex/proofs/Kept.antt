@@ -1,5 +1,5 @@
 -- Labels stay names, no two of them the same.
-use Rattle.std.proofs.Common.{◌≡◌, ◌≢◌, ℕ, List, [], ◌∷◌, ◌++◌, Bool, true, false, ◌||◌, cond, Option, Some, None, IsTrue, refl, sym, subst, ◌∙◌}
+use Rattle.std.proofs.Common.{◌≡◌, ◌≢◌, ℕ, List, [], ◌∷◌, ◌++◌, Bool, true, false, ◌||◌, cond, Some, None, IsTrue, refl, sym, subst}
 use Rattle.std.specs.List.{All, list_any}
 use Rattle.std.specs.Str.{bytes_eq}
 use Rattle.std.proofs.lemmas.List.Elements.{All-nil, All-cons, All-head, All-tail, All-push}
@@ -7,8 +7,8 @@ use Rattle.std.proofs.lemmas.List.Quantifiers.{all_pairs_push}
 use Rattle.std.proofs.lemmas.Slice.Eq.{bytes_eq-Decides}
 use Rattle.cw_rights.specs.Valid.{is_name, IsDistinct}
 use Rattle.cw_regex.specs.Labels.{AreNames}
-use Rattle.cw_regex.specs.Grammar.{Name, Expression, only, either, Term, single, then, Factor, plain, star, plus, maybe, Atom, literal, group, Spells, IsExpression}
-use Rattle.cw_regex.specs.Meaning.{named_label, labels_of, labels_of_term, labels_of_factor, labels_of_atom, with_name, with_names}
+use Rattle.cw_regex.specs.Grammar.{Expression, only, either, Term, single, then, Factor, plain, star, plus, maybe, Atom, literal, group, Spells, IsExpression}
+use Rattle.cw_regex.specs.Meaning.{labels_of, labels_of_term, labels_of_factor, labels_of_atom, with_name, with_names}
 
 name_kept : (names : List (List ℕ)) (w : List ℕ) → AreNames names → IsTrue (is_name w) → AreNames (with_name names w)
 name_kept names w a n = by (list_any (bytes_eq w) names)

@@ -1,7 +1,7 @@
 -- The labels of an expression are the words outside brackets.
-use Rattle.std.proofs.Common.{◌≡◌, ℕ, List, [], ◌∷◌, Bool, true, false, Option, Some, None, refl, sym, ap, ◌∙◌}
-use Rattle.cw_regex.specs.declared.text.Mark.TheVariants.{Dot, ParenOpen, ParenClose, Bar, Star, Plus, Question, BracketOpen, BracketClose, Bang, Colon, Comma, Other}
-use Rattle.cw_regex.specs.Parts.{Part, word, mark}
+use Rattle.std.proofs.Common.{◌≡◌, List, [], ◌∷◌, Bool, true, false, Option, Some, None, refl, ap, ◌∙◌}
+use Rattle.cw_regex.specs.declared.text.Mark.TheVariants.{ParenClose, Bar, Star, Plus, Question}
+use Rattle.cw_regex.specs.Parts.{Part, mark}
 use Rattle.cw_regex.specs.Grammar.{Name, Subject, ambient, holds, TestForm, Expression, only, either, Term, single, then, Factor, plain, star, plus, maybe, Atom, literal, group, spelled_subject, spelled_if, spelled_test, spelled_more, spelled_tests, spelled_label, spelled, spelled_term, spelled_factor, spelled_atom}
 use Rattle.cw_regex.specs.Meaning.{named_label, labels_of, labels_of_term, labels_of_factor, labels_of_atom, labels_in}
 

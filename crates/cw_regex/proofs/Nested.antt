@@ -1,7 +1,7 @@
 -- The tree of an expression nests no deeper than its parentheses do.
-use Rattle.std.proofs.Common.{◌≡◌, ℕ, ◌+◌, ◌≤◌, max, List, [], ◌∷◌, Option, sym, subst, ap, ◌∙◌, arith}
+use Rattle.std.proofs.Common.{◌≡◌, ℕ, ◌+◌, ◌≤◌, max, List, [], ◌∷◌, ap, arith}
 use Rattle.cw_rights.specs.Trees.{Tree, nothing, never, one, seq, alt, star as star_of, plus as plus_of, maybe as maybe_of, in_seq, in_alt, in_body, nesting}
-use Rattle.cw_regex.specs.Grammar.{Name, TestForm, Expression, only, either, Term, single, then, Factor, plain, star, plus, maybe, Atom, literal, group, depth, depth_term, depth_factor, depth_atom, Spells, IsExpression}
+use Rattle.cw_regex.specs.Grammar.{Expression, only, either, Term, single, then, Factor, plain, star, plus, maybe, Atom, literal, group, depth, depth_term, depth_factor, depth_atom, Spells, IsExpression}
 use Rattle.cw_regex.specs.Meaning.{chain_seq, chain_alt, joined_seq, joined_alt, terms, factors, factor_meaning, atom_meaning, meaning}
 use Rattle.cw_regex.specs.Causes.{IsShallow}
 

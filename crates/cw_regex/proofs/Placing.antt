@@ -1,5 +1,5 @@
 -- A scan at a place of a text.
-use Rattle.std.proofs.Common.{◌≡◌, ◌⊎◌, inl, inr, ℕ, zero, suc, ◌+◌, ◌-◌, ◌<◌, ◌≤◌, max, List, [], ◌∷◌, ◌++◌, Bool, true, false, cond, ◌&&◌, Some, None, length, take, drop, refl, sym, ap, ap₂, ◌∙◌, subst, arith, append-nil, append_assoc, length-append, length-take, length-drop}
+use Rattle.std.proofs.Common.{◌≡◌, ℕ, zero, suc, ◌+◌, ◌-◌, ◌<◌, ◌≤◌, max, List, [], ◌∷◌, ◌++◌, Bool, true, false, cond, ◌&&◌, Some, None, length, take, drop, refl, sym, ap, ap₂, ◌∙◌, subst, arith, append-nil, append_assoc, length-append, length-take, length-drop}
 use Rattle.cw_regex.specs.declared.text.Mark.{Mark}
 use Rattle.cw_regex.specs.declared.phase.Phase.{Phase}
 use Rattle.cw_regex.specs.declared.phase.Phase.TheVariants.{Begin, Label, Whole, Repeated, Test, Negated, Ambient, Descriptor, Colon, Right}
@@ -11,7 +11,7 @@ use Rattle.cw_regex.specs.Pieces.{IsBlankAt, IsMarkAt, IsWordAt}
 use Rattle.cw_regex.specs.Scans.{is_held, Scan, ScanAt}
 use Rattle.cw_regex.proofs.Bools.{and_left, and_right}
 use Rattle.cw_regex.proofs.Runs.{take_drop, take_on}
-use Rattle.cw_regex.proofs.Scanned.{scan_start, scan_blank, scan_mark, scan_word, Stuck, fault_by, front_scan, stuck_front, stuck_held, stuck_mark, stuck_word, Later, later_word, scan_ends, stuck_end}
+use Rattle.cw_regex.proofs.Scanned.{scan_start, scan_blank, scan_mark, scan_word, Stuck, fault_by, front_scan, stuck_front, stuck_held, stuck_mark, stuck_word, later_word, scan_ends, stuck_end}
 
 held_is : (alone : Bool) (q : Phase) → is_held alone q ≡ true → (alone ≡ true) × (q ≡ Right)
 held_is true Right e = (refl, refl)

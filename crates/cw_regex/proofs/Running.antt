@@ -1,14 +1,13 @@
 -- Each expression runs through.
-use Rattle.std.proofs.Common.{◌≡◌, ◌⊎◌, inl, inr, ℕ, ◌+◌, List, [], ◌∷◌, ◌++◌, Bool, true, false, cond, Option, Some, None, option_and_then, refl, sym, ap, ap₂, ◌∙◌, subst, add-one}
+use Rattle.std.proofs.Common.{◌≡◌, ◌⊎◌, inl, inr, ℕ, ◌+◌, List, [], ◌∷◌, Bool, true, false, Option, Some, None, option_and_then, refl, ap, ◌∙◌, add-one}
 use Rattle.std.specs.Option.{option_map}
 use Rattle.std.specs.Str.{bytes_eq}
-use Rattle.cw_rights.specs.Valid.{is_name}
-use Rattle.cw_regex.specs.declared.text.Mark.TheVariants.{Dot, ParenOpen, ParenClose, Bar, Star, Plus, Question, BracketOpen, BracketClose, Bang, Colon as ColonMark, Comma, Other}
+use Rattle.cw_regex.specs.declared.text.Mark.TheVariants.{ParenOpen, ParenClose, Bar, Star, Plus, Question, Colon as ColonMark}
 use Rattle.cw_regex.specs.declared.phase.Phase.{Phase}
 use Rattle.cw_regex.specs.declared.phase.Phase.TheVariants.{Begin, Label, Whole, Repeated, Test, Negated, Ambient, Descriptor, Colon, Right}
 use Rattle.cw_regex.specs.Parts.{Part, word, mark}
-use Rattle.cw_regex.specs.Grammar.{is_descriptor, amb, Name, DescriptorName, Subject, ambient, holds, TestForm, Expression, only, either, Term, single, then, Factor, plain, star, plus, maybe, Atom, literal, group, spelled_subject, spelled_if, spelled_test, spelled_more, spelled_tests, spelled_label, spelled, spelled_term, spelled_factor, spelled_atom}
-use Rattle.cw_regex.specs.Machine.{is_test_start, in_test, step_word, takes_atom, is_end, step, run}
+use Rattle.cw_regex.specs.Grammar.{is_descriptor, amb, Name, Subject, ambient, holds, TestForm, Expression, only, either, Term, single, then, Factor, plain, star, plus, maybe, Atom, literal, group, spelled_subject, spelled_if, spelled_test, spelled_more, spelled_tests, spelled_label, spelled, spelled_term, spelled_factor, spelled_atom}
+use Rattle.cw_regex.specs.Machine.{is_test_start, in_test, step_word, takes_atom, is_end, run}
 use Rattle.cw_regex.proofs.Bools.{which}
 
 -- the phase after each

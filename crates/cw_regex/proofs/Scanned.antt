@@ -1,5 +1,5 @@
 -- What a scan keeps, part by part, and where it stops.
-use Rattle.std.proofs.Common.{◌≡◌, ◌⊎◌, inl, inr, ⊎_elim, ℕ, zero, suc, ◌+◌, ◌-◌, ◌<◌, ◌≤◌, max, List, [], ◌∷◌, ◌++◌, Bool, true, false, cond, ◌&&◌, ◌||◌, nat_eq, eqb-true, Option, Some, None, option_and_then, length, take, refl, sym, ap, ap₂, ◌∙◌, subst, add-one, arith, append-nil, append_assoc, length-append}
+use Rattle.std.proofs.Common.{◌≡◌, ◌⊎◌, inl, inr, ⊎_elim, ℕ, zero, suc, ◌+◌, ◌-◌, ◌<◌, ◌≤◌, max, List, [], ◌∷◌, ◌++◌, Bool, true, false, cond, ◌&&◌, ◌||◌, nat_eq, eqb-true, Option, Some, None, option_and_then, length, take, refl, sym, ap, ap₂, ◌∙◌, subst, arith, append-nil, append_assoc, length-append}
 use Rattle.std.specs.Option.{option_map}
 use Rattle.std.specs.List.{list_all}
 use Rattle.std.specs.Str.{bytes_eq}
@@ -8,12 +8,12 @@ use Rattle.cw_regex.specs.declared.text.Mark.{Mark}
 use Rattle.cw_regex.specs.declared.text.Mark.TheVariants.{Dot, ParenOpen, ParenClose, Bar, Star, Plus, Question, BracketOpen, BracketClose, Bang, Colon as ColonMark, Comma, Other}
 use Rattle.cw_regex.specs.declared.phase.Phase.{Phase}
 use Rattle.cw_regex.specs.declared.phase.Phase.TheVariants.{Begin, Label, Whole, Repeated, Test, Negated, Ambient, Descriptor, Colon, Right}
-use Rattle.cw_regex.specs.Parts.{Part, word, mark, is_blank, mark_of, begins_word, grown, parts, starts_blank, ends_blank}
-use Rattle.cw_regex.specs.Grammar.{is_digit, is_descriptor, amb, IsFaultAt}
+use Rattle.cw_regex.specs.Parts.{Part, word, mark, is_blank, mark_of, begins_word, grown, parts, ends_blank}
+use Rattle.cw_regex.specs.Grammar.{is_digit, amb, IsFaultAt}
 use Rattle.cw_regex.specs.Machine.{is_test_start, kept, in_test, step_word, step_mark, closed_one, takes_atom, is_end, step, run, start, ends_here, In, deepest}
 use Rattle.cw_regex.proofs.Bools.{which, or_cases, and_left, and_right}
 use Rattle.cw_regex.proofs.Cutting.{word_no_blank, parts_blank, parts_mark, parts_byte, parts_word, parts_cut}
-use Rattle.cw_regex.specs.Scans.{ends_word, Apart, May, Scan}
+use Rattle.cw_regex.specs.Scans.{ends_word, Apart, Scan}
 use Rattle.cw_regex.proofs.Runs.{take_front}
 use Rattle.cw_regex.proofs.Fronts.{At, run_append, apart_begins, ends_append, starts_append, front_of, runs, accepted, rejected, stuck_part}
 

@@ -1,12 +1,11 @@
 -- One item more of an expression.
-use Rattle.std.proofs.Common.{◌≡◌, ◌≢◌, ℕ, List, [], ◌∷◌, ◌++◌, Bool, true, false, Option, Some, None, map, drop, refl, sym, ap, ap₂, ◌∙◌, subst}
-use Rattle.cw_rights.specs.Trees.{Tree, Literal, tree_of}
+use Rattle.std.proofs.Common.{◌≡◌, ◌≢◌, ℕ, List, [], ◌∷◌, false, Option, Some, None, map, drop, refl, sym, ap, ◌∙◌}
 use Rattle.cw_regex.specs.declared.text.Mark.{Mark}
-use Rattle.cw_regex.specs.declared.text.Mark.TheVariants.{Dot, ParenOpen, ParenClose, Bar, Star, Plus, Question, BracketOpen, BracketClose, Bang, Colon, Comma, Other}
+use Rattle.cw_regex.specs.declared.text.Mark.TheVariants.{Dot, ParenOpen, ParenClose, Bar, Star, Plus, Question}
 use Rattle.cw_regex.specs.Parts.{Part, word, mark, parts}
-use Rattle.cw_regex.specs.Grammar.{Name, TestForm, Expression, spelled, spelled_label, spelled_tests}
+use Rattle.cw_regex.specs.Grammar.{Name, TestForm, Expression, spelled, spelled_tests}
 use Rattle.cw_regex.specs.Tokens.{begins_bracket}
-use Rattle.cw_regex.specs.Meaning.{number_in, test_meaning, literal_meaning, meaning}
+use Rattle.cw_regex.specs.Meaning.{number_in, test_meaning, meaning}
 use Rattle.cw_regex.specs.Items.{Item, lit, begin, close, bar, many, some, optional, spelled_item, spelled_items, items, Levels, empty, finished, with_literal, with_mark, put, put_all}
 use Rattle.cw_regex.proofs.Built.{items_spelled, built}
 

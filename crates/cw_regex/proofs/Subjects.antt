@@ -1,10 +1,10 @@
 -- What is read of a test.
-use Rattle.std.proofs.Common.{◌≡◌, ℕ, List, [], ◌∷◌, ◌++◌, Bool, true, false, unwrap_or, map, drop, refl, sym, ap, ap₂, ◌∙◌, subst, append_assoc}
+use Rattle.std.proofs.Common.{◌≡◌, ℕ, List, [], ◌∷◌, ◌++◌, Bool, true, false, unwrap_or, map, drop, refl, ap, ap₂, ◌∙◌, append_assoc}
 use Rattle.cw_rights.specs.declared.words.Test.{Test}
 use Rattle.cw_rights.specs.declared.words.Test.TheVariants.{Holds}
 use Rattle.cw_regex.specs.declared.text.Mark.TheVariants.{Colon}
 use Rattle.cw_regex.specs.Parts.{Part, word, mark, parts}
-use Rattle.cw_regex.specs.Grammar.{amb, Name, DescriptorName, Subject, ambient, holds, spelled_subject, TestForm, spelled_test, spelled_more}
+use Rattle.cw_regex.specs.Grammar.{Name, Subject, ambient, holds, spelled_subject, TestForm, spelled_test, spelled_more}
 use Rattle.cw_regex.specs.Meaning.{number_in, right_number, subject_meaning, test_meaning}
 use Rattle.cw_regex.specs.Tokens.{begins_colon, Settled}
 

@@ -1,7 +1,7 @@
 -- The numbers of a tree are those of names that there are.
-use Rattle.std.proofs.Common.{◌≡◌, ◌⊎◌, inl, inr, ℕ, ◌+◌, ◌<◌, ◌≤◌, List, [], ◌∷◌, ◌++◌, Bool, true, false, not, ◌&&◌, ◌||◌, cond, Vec, Global, Option, Some, None, map, length, fold, unwrap_or, nat_lt, codes, is_some, refl, sym, subst, ap, ap₂, ◌∙◌, arith}
+use Rattle.std.proofs.Common.{◌≡◌, ℕ, ◌+◌, ◌<◌, List, [], ◌∷◌, ◌++◌, Bool, true, false, not, ◌&&◌, ◌||◌, cond, Vec, Global, Option, Some, None, map, length, unwrap_or, nat_lt, codes, refl, sym, subst, ap, ◌∙◌, arith}
 use Rattle.std.specs.Option.{option_map}
-use Rattle.std.specs.List.{All, list_any, position, position_or_len}
+use Rattle.std.specs.List.{All, list_any, position_or_len}
 use Rattle.std.specs.Str.{bytes_eq}
 use Rattle.std.proofs.lemmas.List.Elements.{All-nil, All-cons}
 use Rattle.std.proofs.lemmas.Bool.Decides.{nat_tests}
@@ -9,21 +9,19 @@ use Rattle.std.proofs.lemmas.List.{length-map}
 use Rattle.std.proofs.lemmas.List.Folds.{list_any-append}
 use Rattle.std.proofs.lemmas.Slice.Eq.{bytes_eq-Decides}
 use Rattle.cw_rights.specs.declared.words.Test.{Test}
-use Rattle.cw_rights.specs.declared.words.Test.TheVariants.{Amb, Holds}
-use Rattle.cw_rights.specs.Trees.{Literal, Tree, nothing, never, one, seq, alt, star as star_of, plus as plus_of, maybe as maybe_of, AllLiterals}
+use Rattle.cw_rights.specs.Trees.{Literal, Tree, AllLiterals}
 use Rattle.cw_rights.specs.Valid.{IsTestWithin, IsLabelWithin, IsLiteralWithin, IsTreeWithin}
-use Rattle.cw_regex.specs.declared.text.Mark.TheVariants.{Dot, ParenOpen, ParenClose, Bar, Star, Plus, Question, BracketOpen, BracketClose, Bang, Colon, Comma, Other}
+use Rattle.cw_regex.specs.declared.text.Mark.TheVariants.{ParenClose, Bar, Star, Plus, Question}
 use Rattle.cw_regex.specs.declared.unknown.Unknown.{Unknown}
 use Rattle.cw_regex.specs.declared.unknown.Unknown.TheVariants.{Descriptor, Right}
 use Rattle.cw_rights.specs.Valid.{is_name_byte}
 use Rattle.cw_regex.specs.Parts.{Part, word, mark, is_blank, mark_of, begins_word, grown, parts, Placed, grown_at, placed}
-use Rattle.cw_regex.specs.Grammar.{Name, DescriptorName, Subject, ambient, holds, TestForm, Expression, only, either, Term, single, then, Factor, plain, star, plus, maybe, Atom, literal, group, spelled_subject, spelled_if, spelled_test, spelled_more, spelled_tests, spelled_label, spelled, spelled_term, spelled_factor, spelled_atom, Spells, SpellsTest, IsExpression, IsTest}
-use Rattle.cw_regex.specs.Meaning.{later_right_number, right_number, is_right, number_in, subject_meaning, test_meaning, literal_meaning, chain_seq, chain_alt, joined_seq, joined_alt, terms, factors, factor_meaning, atom_meaning, meaning, named_label, labels_of, labels_of_term, labels_of_factor, labels_of_atom, with_name, with_names, names_of}
+use Rattle.cw_regex.specs.Grammar.{Name, Subject, ambient, holds, TestForm, Expression, only, either, Term, single, then, Factor, plain, star, plus, maybe, Atom, literal, group, spelled_subject, spelled_if, spelled_test, spelled_more, spelled_tests, spelled_label, spelled, spelled_term, spelled_factor, spelled_atom, Spells, SpellsTest, IsExpression, IsTest}
+use Rattle.cw_regex.specs.Meaning.{later_right_number, right_number, is_right, number_in, subject_meaning, test_meaning, chain_seq, chain_alt, joined_seq, joined_alt, terms, factors, factor_meaning, atom_meaning, meaning, named_label, labels_of, labels_of_term, labels_of_factor, labels_of_atom, with_name, with_names, names_of}
 use Rattle.cw_rights.specs.declared.policy.Descriptor.{Descriptor as AnyDescriptor}
 use Rattle.cw_regex.specs.Labels.{names_in}
 use Rattle.cw_regex.specs.Tokens.{Settled}
 use Rattle.cw_regex.specs.Faults.{is_known, is_colon_part, colon_next, unknown_word, unknown_part, or_else, first_unknown}
-use Rattle.cw_regex.proofs.Bools.{and_left, and_right}
 
 -- the number of a right is below 12
 one_right : (b : Bool) (n : ℕ) (o : Option ℕ) → n < 12 → unwrap_or o 0 < 12 → unwrap_or (cond b (Some n) o) 0 < 12

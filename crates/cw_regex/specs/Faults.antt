@@ -3,7 +3,7 @@ use Rattle.std.specs.Prelude.{ℕ, List, [], ◌∷◌, Bool, true, false, ◌&&
 use Rattle.std.specs.List.{list_any}
 use Rattle.std.specs.Str.{bytes_eq}
 use Rattle.cw_regex.specs.declared.text.Mark.{Mark}
-use Rattle.cw_regex.specs.declared.text.Mark.TheVariants.{Dot, ParenOpen, ParenClose, Bar, Star, Plus, Question, BracketOpen, BracketClose, Bang, Colon, Comma, Other}
+use Rattle.cw_regex.specs.declared.text.Mark.TheVariants.{Colon}
 use Rattle.cw_regex.specs.declared.unknown.Unknown.{Unknown}
 use Rattle.cw_regex.specs.declared.unknown.Unknown.TheVariants.{Descriptor, Right}
 use Rattle.cw_regex.specs.Parts.{Part, word, mark, Placed}

@@ -7,9 +7,9 @@
 --     test       = [ "!" ] ( "amb" | descriptor ":" right )
 --
 -- A name and a right have the form of a C name, a descriptor has that form or is `0`, `1` or `2`.
-use Rattle.std.specs.Prelude.{◌≡◌, ◌≢◌, ℕ, ◌+◌, ◌≤◌, ◌<◌, max, List, [], ◌∷◌, ◌++◌, Bool, true, false, ◌||◌, Option, Some, None, nat_eq, take, length, IsTrue}
+use Rattle.std.specs.Prelude.{◌≡◌, ℕ, ◌+◌, ◌≤◌, ◌<◌, max, List, [], ◌∷◌, ◌++◌, Bool, true, false, ◌||◌, Option, Some, None, nat_eq, take, length, IsTrue}
 use Rattle.cw_rights.specs.Valid.{is_name}
-use Rattle.cw_regex.specs.declared.text.Mark.TheVariants.{Dot, ParenOpen, ParenClose, Bar, Star, Plus, Question, BracketOpen, BracketClose, Bang, Colon, Comma, Other}
+use Rattle.cw_regex.specs.declared.text.Mark.TheVariants.{Dot, ParenOpen, ParenClose, Bar, Star, Plus, Question, BracketOpen, BracketClose, Bang, Colon, Comma}
 use Rattle.cw_regex.specs.Parts.{Part, word, mark, parts, starts_blank, ends_blank}
 
 abbrev pub is_digit : List ℕ → Bool

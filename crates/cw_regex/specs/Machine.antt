@@ -4,7 +4,7 @@ use Rattle.std.specs.Option.{option_map}
 use Rattle.std.specs.Str.{bytes_eq}
 use Rattle.cw_rights.specs.Valid.{is_name}
 use Rattle.cw_regex.specs.declared.text.Mark.{Mark}
-use Rattle.cw_regex.specs.declared.text.Mark.TheVariants.{Dot, ParenOpen, ParenClose, Bar, Star, Plus, Question, BracketOpen, BracketClose, Bang, Colon as ColonMark, Comma, Other}
+use Rattle.cw_regex.specs.declared.text.Mark.TheVariants.{Dot, ParenOpen, ParenClose, Bar, Star, Plus, Question, BracketOpen, BracketClose, Bang, Colon as ColonMark, Comma}
 use Rattle.cw_regex.specs.declared.phase.Phase.{Phase}
 use Rattle.cw_regex.specs.declared.phase.Phase.TheVariants.{Begin, Label, Whole, Repeated, Test, Negated, Ambient, Descriptor, Colon, Right}
 use Rattle.cw_regex.specs.Parts.{Part, word, mark}

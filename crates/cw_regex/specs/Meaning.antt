@@ -7,7 +7,7 @@ use Rattle.cw_rights.specs.declared.words.Test.{Test}
 use Rattle.cw_rights.specs.declared.words.Test.TheVariants.{Amb, Holds}
 use Rattle.cw_rights.specs.declared.policy.Descriptor.{Descriptor}
 use Rattle.cw_rights.specs.Trees.{Literal, Tree, nothing, never, one, seq, alt, star as star_of, plus as plus_of, maybe as maybe_of}
-use Rattle.cw_regex.specs.declared.text.Mark.TheVariants.{Dot, ParenOpen, ParenClose, Bar, Star, Plus, Question, BracketOpen, BracketClose, Bang, Colon, Comma, Other}
+use Rattle.cw_regex.specs.declared.text.Mark.TheVariants.{BracketOpen, BracketClose}
 use Rattle.cw_regex.specs.Parts.{Part, word, mark}
 use Rattle.cw_regex.specs.Grammar.{Name, Subject, ambient, holds, TestForm, Expression, only, either, Term, single, then, Factor, plain, star, plus, maybe, Atom, literal, group}
 

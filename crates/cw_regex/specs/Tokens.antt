@@ -1,11 +1,10 @@
 -- The next part from a place of a text on.
 use Rattle.std.specs.Prelude.{◌≡◌, ℕ, Bool, true, false, ◌-◌, ◌<◌, ◌≤◌, List, [], ◌∷◌, take, drop, length}
-use Rattle.cw_regex.specs.declared.text.Mark.{Mark}
 use Rattle.cw_regex.specs.declared.text.Token.{Token}
 use Rattle.cw_regex.specs.declared.text.Token.TheVariants.{End, Word, Mark as MarkToken}
-use Rattle.cw_regex.specs.declared.text.Mark.TheVariants.{Dot, ParenOpen, ParenClose, Bar, Star, Plus, Question, BracketOpen, BracketClose, Bang, Colon, Comma, Other}
+use Rattle.cw_regex.specs.declared.text.Mark.TheVariants.{BracketOpen, Colon}
 use Rattle.cw_regex.specs.Grammar.{Subject, ambient, holds}
-use Rattle.cw_regex.specs.Parts.{Part, word, mark, parts, Placed, placed}
+use Rattle.cw_regex.specs.Parts.{Part, word, mark, parts, placed}
 
 abbrev pub begins_colon : List Part → Bool
 begins_colon (mark Colon ∷ rest) = true

@@ -1,4 +1,4 @@
-use Rattle.std.proofs.Common.{sym, ◌∙◌, ◌≢◌, ◌≤◌, ◌<◌, ◌+◌, [], drop, arith}
+use Rattle.std.proofs.Common.{◌∙◌, ◌≢◌, ◌≤◌, ◌<◌, ◌+◌, [], drop, arith}
 use Rattle.cw_regex.proofs.Bools.{not_both}
 use Rattle.cw_regex.specs.Parts.{parts}
 use Rattle.cw_regex.specs.Labels.{names_in}

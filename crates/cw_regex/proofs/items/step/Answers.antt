@@ -1,4 +1,4 @@
-use Rattle.std.proofs.Common.{sym, ◌∙◌, Some, None, take, drop, ◌-◌}
+use Rattle.std.proofs.Common.{sym, ◌∙◌, take, drop, ◌-◌}
 use Rattle.cw_regex.specs.Parts.{parts}
 use Rattle.cw_regex.specs.Labels.{names_in}
 use Rattle.cw_regex.specs.Meaning.{names_of}

@@ -1,4 +1,4 @@
-use Rattle.std.proofs.Common.{rules, sym, ◌∙◌}
+use Rattle.std.proofs.Common.{sym, ◌∙◌}
 use Rattle.cw_regex.proofs.Naming.{known_name, new_name}
 use Rattle.cw_regex.proofs.label.add_label.Goals as goal
 

@@ -1,6 +1,4 @@
-use Rattle.std.proofs.Common.{rules, ◌≡◌, true, false, cond, ◌&&◌, sym, ◌∙◌}
-use Rattle.cw_regex.specs.Parts.{ends_blank}
-use Rattle.cw_regex.specs.Machine.{ends_here}
+use Rattle.std.proofs.Common.{sym, ◌∙◌}
 use Rattle.cw_regex.proofs.Placing.{end_both, end_fault}
 use Rattle.cw_regex.proofs.scan.scan.Goals as goal
 

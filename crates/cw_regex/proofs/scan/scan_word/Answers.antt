@@ -1,4 +1,4 @@
-use Rattle.std.proofs.Common.{rules, ◌≡◌, true, false, ap, sym, ◌∙◌, slice_index}
+use Rattle.std.proofs.Common.{rules, ◌≡◌, true, false, ap, sym, ◌∙◌}
 use Rattle.cw_regex.specs.Machine.{kept}
 use Rattle.cw_regex.proofs.Runs.{byte_at}
 use Rattle.cw_regex.proofs.Placing.{word_ok, word_fault, later_fault}

@@ -1,4 +1,4 @@
-use Rattle.std.proofs.Common.{rules, ◌≡◌, ◌-◌, true, drop, take, sym, ◌∙◌}
+use Rattle.std.proofs.Common.{◌≡◌, ◌-◌, true, drop, take, sym, ◌∙◌}
 use Rattle.cw_regex.specs.Parts.{parts}
 use Rattle.cw_regex.specs.Tokens.{begins_colon}
 use Rattle.cw_regex.specs.Meaning.{names_of}

@@ -1,4 +1,4 @@
-use Rattle.std.proofs.Common.{rules, ◌≡◌, ◌<◌, [], ◌∷◌, ◌++◌, true, false, sym, arith}
+use Rattle.std.proofs.Common.{rules, ◌≡◌, ◌<◌, [], ◌∷◌, ◌++◌, true, false, arith}
 use Rattle.cw_regex.specs.Meaning.{names_of}
 use Rattle.cw_regex.proofs.Subjects.{tests_step, tests_end}
 use Rattle.cw_regex.proofs.test.tests.Goals as goal

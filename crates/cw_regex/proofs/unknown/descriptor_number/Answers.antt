@@ -1,4 +1,4 @@
-use Rattle.std.proofs.Common.{rules, ◌≡◌, ◌<◌, ◌≤◌, ◌+◌, ◌∷◌, [], true, length, drop, get_or, sym, ◌∙◌}
+use Rattle.std.proofs.Common.{rules, ◌≡◌, ◌<◌, ◌≤◌, ◌+◌, true, length, drop, get_or, sym, ◌∙◌}
 use Rattle.std.specs.Str.{bytes_eq}
 use Rattle.cw_regex.specs.Meaning.{names_of}
 use Rattle.cw_regex.proofs.Numbers.{number_is, drop_item, drop_end, found_here, found_none}
