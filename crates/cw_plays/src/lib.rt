@@ -1,0 +1,5 @@
+//! Boards played move by move, against lists written out by hand: what crosses the reader of sources and the model.
+#![tactic(auto)]
+
+#[cfg(test)]
+mod tests;
