@@ -1,9 +1,9 @@
 -- What the conditions of a table are good for.
-use Rattle.std.specs.Prelude.{◌≡◌, ℕ, ◌≤◌, true, length}
+use Rattle.std.specs.Prelude.{◌≡◌, ℕ, ◌+◌, ◌≤◌, List, [], true, length}
 use Rattle.cw_certs.specs.Strategies.{Strategy}
 use Rattle.cw_certs.specs.Tables.{Table}
 use Rattle.cw_model.specs.Boards.{Problem, start_board, Forced}
-use Rattle.cw_model.specs.Runs.{Sound}
+use Rattle.cw_model.specs.Runs.{State, WovenRun, Goes, reached, erased, tries, Sound}
 use Rattle.cw_model.specs.Plays.{Beats}
 use Rattle.cw_game.specs.Games.{AreStates, Game}
 use Rattle.cw_game.specs.Reached.{Reached}
@@ -25,3 +25,7 @@ BeatenIsForced = (p : Problem) (s : Strategy) (row : ℕ) → Beats p s row → 
 -- So no program has both a sound table and a strategy that beats every weaver.
 abbrev pub NeverBoth : Type 0
 NeverBoth = (p : Problem) (t : Table) (s : Strategy) (row : ℕ) → Sound p t → Beats p s row → ⊥
+
+-- Whatever the table, between two steps of the program there are at most two tries more than the policy has limits: 14 for the most that a policy may have, 12.
+abbrev pub TriesAreFew : Type 0
+TriesAreFew = (p : Problem) (t : Table) (run later : List State) → WovenRun p t run → Goes p t (reached p t run) later → erased (reached p t run) later ≡ [] → tries later ≤ length p.policy.limits + 2

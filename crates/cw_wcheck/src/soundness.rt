@@ -1,7 +1,7 @@
 //! Laws of tables, over woven runs of any length and stacks of any depth. The functions here do nothing: what they promise is
 //! true of every program, game and table.
 
-ghost use Rattle.cw_wcheck.specs.Soundness.{ConditionsMakeSound, SoundIsNeverForced, BeatenIsForced, NeverBoth};
+ghost use Rattle.cw_wcheck.specs.Soundness.{ConditionsMakeSound, SoundIsNeverForced, BeatenIsForced, NeverBoth, TriesAreFew};
 
 /// Each table that meets the conditions of a game is sound for the program that the game is laid out for.
 ///
@@ -23,4 +23,10 @@ pub fn beaten_is_forced()
 /// No program has both a sound table and a strategy that beats every weaver.
 pub fn never_both()
     ensures never { NeverBoth }
+{}
+
+/// Whatever the table, a woven run has at most two tries more between two steps of the program than the policy has limits:
+/// at most 14 for a policy of at most 12 limits.
+pub fn tries_are_few()
+    ensures few { TriesAreFew }
 {}
