@@ -144,3 +144,15 @@ Holds g (suc n) p q e = holds_in g (Holds g n) p q e (slice_get g.spots p)
 -- The pair is lost under the promise: it has a height.
 abbrev pub IsLost : Game → ℕ → ℕ → Promise → Type 0
 IsLost g p q e = (n : ℕ) × (Holds g n p q e ≡ false)
+
+-- where a move leads from a configuration
+abbrev pub leads_to : Game → Config → Move → Option Config
+leads_to g c by = leads_in g c.pos c.state c.rets (slice_get g.spots c.pos) by
+
+-- The weaver can't avoid from here that a label makes the word bad, which comes after at most n moves: what `Forced` is of boards.
+abbrev pub ForcedAt : Game → ℕ → Config → Type 0
+ForcedAt g zero c = bad_in g c.state (slice_get g.spots c.pos) ≡ true
+ForcedAt g (suc n) c =
+    (bad_in g c.state (slice_get g.spots c.pos) ≡ true)
+    ⊎ (((weavers_in (slice_get g.spots c.pos) ≡ true) × ((by : Move) (next : Config) → leads_to g c by ≡ Some next → ForcedAt g n next))
+    ⊎ ((weavers_in (slice_get g.spots c.pos) ≡ false) × ((by : Move) × (next : Config) × (leads_to g c by ≡ Some next) × ForcedAt g n next)))

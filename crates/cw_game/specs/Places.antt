@@ -1,5 +1,5 @@
 -- Where the items of a frame stand among the positions. The relations go by the tree, and say nothing of how positions are counted.
-use Rattle.std.specs.Prelude.{◌≡◌, ℕ, ◌+◌, ◌<◌, suc, length, List, [], ◌∷◌, Bool, true, false, Option, Some, None, slice_get}
+use Rattle.std.specs.Prelude.{◌≡◌, ◌⊎◌, ℕ, ◌+◌, ◌<◌, suc, length, List, [], ◌∷◌, Bool, true, false, Option, Some, None, slice_get}
 use Rattle.cw_rights.specs.declared.capabilities.Primitive.{Primitive}
 use Rattle.cw_rights.specs.declared.capabilities.Primitive.TheVariants.{Split}
 use Rattle.cw_rights.specs.Policies.{PlainPolicy, primitives}
@@ -77,3 +77,8 @@ At g pol x frame p = (b : Option ℕ) × (c : Option ℕ) × AtIn g pol x b c fr
 pub record IsLaidOut (plan : Plan) (g : Game) : Type 0 where
   pub main : plan.main ≡ g.main
   pub functions : (f : ℕ) (r : Routine) → slice_get plan.routines f ≡ Some r → At g.spots g.policy (g.exit f) (new_frame f r) (g.entry f)
+
+-- The plan has `main`, and each function that some position calls.
+pub record HasRoutines (plan : Plan) (g : Game) : Type 0 where
+  pub main : (r : Routine) × (slice_get plan.routines g.main ≡ Some r)
+  pub called : (p j f n : ℕ) → (slice_get g.spots p ≡ Some (CallSpot j f n)) ⊎ (slice_get g.spots p ≡ Some (SplitCall j f n)) → (r : Routine) × (slice_get plan.routines f ≡ Some r)
