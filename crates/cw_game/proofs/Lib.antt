@@ -4,3 +4,5 @@ pub mod Stands
 pub mod Moves
 pub mod Reached
 pub mod Ambients
+pub mod Holding
+pub mod Necessity
