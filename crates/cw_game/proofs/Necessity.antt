@@ -50,7 +50,7 @@ module _ (g : Game) where
   forced_by zero n c h = let e : 0 + n ≡ n = omega arith in rw e h
   forced_by (suc k) n c h = let e : suc k + n ≡ suc (k + n) = omega arith in rw e (forced_more (k + n) c (forced_by k n c h))
 
-module _ (g : Game) (IsSuch : Config → Type 0) (onward : GoesOn g IsSuch) where
+module _ (g : Game) (IsSuch : Config → Type 0) where
   -- some such configuration ends with this state over these returns
   abbrev pub EndsIn : List Ret → ℕ → Type 0
   EndsIn rets x = (p : ℕ) × (f : ℕ) × (slice_get g.spots p ≡ Some (Exit f)) × IsSuch (at_pair p x rets)
@@ -64,6 +64,7 @@ module _ (g : Game) (IsSuch : Config → Type 0) (onward : GoesOn g IsSuch) wher
   abbrev pub Owed : Promise → List Ret → Type 0
   Owed e rets = (x : ℕ) → EndsIn rets x → e x ≡ false → After rets x
 
+module _ (g : Game) (IsSuch : Config → Type 0) (onward : GoesOn g IsSuch) where
   goes : (p q : ℕ) (rets : List Ret) (o : Option Spot) (by : Move) (next : Config) → slice_get g.spots p ≡ o → bad_in g q o ≡ false → leads_in g p q rets o by ≡ Some next → IsSuch (at_pair p q rets) → IsSuch next
   goes p q rets o by next es fine e such = onward (at_pair p q rets) next by such (ap (bad_in g q) es ∙ fine) (ap (λ s. leads_in g p q rets s by) es ∙ e)
 
@@ -88,19 +89,19 @@ module _ (g : Game) (IsSuch : Config → Type 0) (onward : GoesOn g IsSuch) wher
       case Try next e = subst (λ c. ForcedAt g (t.0 + s.0) c) (same_Some (at_pair (p + 1) q rets) next e) tried
       case _ next e = absurd (none-some next e)
 
-  exits : (p q f : ℕ) (rets : List Ret) → slice_get g.spots p ≡ Some (Exit f) → IsSuch (at_pair p q rets) → After rets q → Eventually g (at_pair p q rets)
+  exits : (p q f : ℕ) (rets : List Ret) → slice_get g.spots p ≡ Some (Exit f) → IsSuch (at_pair p q rets) → After g IsSuch rets q → Eventually g (at_pair p q rets)
   exits p q f [] es such k = absurd k
   exits p q f (r ∷ rets) es such k = moves p q (r ∷ rets) (Some (Exit f)) On (at_pair r.back (returned g.states r.kept q) rets) es refl refl refl such (λ y. k)
 
   abbrev Here : (ℕ → ℕ → Promise → Bool) → Type 0
-  Here h = (p q : ℕ) (e : Promise) (rets : List Ret) → IsSuch (at_pair p q rets) → Owed e rets → h p q e ≡ false → Eventually g (at_pair p q rets)
+  Here h = (p q : ℕ) (e : Promise) (rets : List Ret) → IsSuch (at_pair p q rets) → Owed g IsSuch e rets → h p q e ≡ false → Eventually g (at_pair p q rets)
 
   -- what is owed below a call
-  returns : (h : ℕ → ℕ → Promise → Bool) → Here h → (n : ℕ) (kept : Option ℕ) (e : Promise) (rets : List Ret) → Owed e rets → Owed (λ x. h n (returned g.states kept x) e) (record { back = n; kept = kept } ∷ rets)
+  returns : (h : ℕ → ℕ → Promise → Bool) → Here h → (n : ℕ) (kept : Option ℕ) (e : Promise) (rets : List Ret) → Owed g IsSuch e rets → Owed g IsSuch (λ x. h n (returned g.states kept x) e) (record { back = n; kept = kept } ∷ rets)
   returns h to n kept e rets owed x ends k =
       to n (returned g.states kept x) e rets (goes ends.0 x (record { back = n; kept = kept } ∷ rets) (Some (Exit ends.1)) On (at_pair n (returned g.states kept x) rets) ends.2 refl refl ends.3) owed k
 
-  forced_in : (h : ℕ → ℕ → Promise → Bool) → Here h → (p q : ℕ) (e : Promise) (rets : List Ret) → IsSuch (at_pair p q rets) → Owed e rets → (o : Option Spot) → slice_get g.spots p ≡ o → holds_in g h p q e o ≡ false → Eventually g (at_pair p q rets)
+  forced_in : (h : ℕ → ℕ → Promise → Bool) → Here h → (p q : ℕ) (e : Promise) (rets : List Ret) → IsSuch (at_pair p q rets) → Owed g IsSuch e rets → (o : Option Spot) → slice_get g.spots p ≡ o → holds_in g h p q e o ≡ false → Eventually g (at_pair p q rets)
   forced_in h to p q e rets such owed None es k = cc
   forced_in h to p q e rets such owed (Some (Visit j i a)) es k =
       let z = both_false (h (p + 2) q e) (h (p + 1) q e) k in
@@ -154,16 +155,16 @@ module _ (g : Game) (IsSuch : Config → Type 0) (onward : GoesOn g IsSuch) wher
       exits p q f rets es such (owed q (p, f, es, such) (both_false (nat_eq f g.main) (e q) k).1)
 
   -- by one induction on the number of moves, over all lists of returns at once
-  pub lost_forced : (n p q : ℕ) (e : Promise) (rets : List Ret) → IsSuch (at_pair p q rets) → Owed e rets → Holds g n p q e ≡ false → Eventually g (at_pair p q rets)
+  pub lost_forced : (n p q : ℕ) (e : Promise) (rets : List Ret) → IsSuch (at_pair p q rets) → Owed g IsSuch e rets → Holds g n p q e ≡ false → Eventually g (at_pair p q rets)
   lost_forced zero p q e rets such owed k = cc
   lost_forced (suc n) p q e rets such owed k =
       forced_in (Holds g n) (λ p q e rets such owed k. lost_forced n p q e rets such owed k) p q e rets such owed (slice_get g.spots p) refl k
 
-  pub is_forced : (p q : ℕ) (e : Promise) (rets : List Ret) → IsSuch (at_pair p q rets) → Owed e rets → IsLost g p q e → Eventually g (at_pair p q rets)
+  pub is_forced : (p q : ℕ) (e : Promise) (rets : List Ret) → IsSuch (at_pair p q rets) → Owed g IsSuch e rets → IsLost g p q e → Eventually g (at_pair p q rets)
   is_forced p q e rets such owed l = lost_forced l.0 p q e rets such owed l.1
 
   -- A call hands down what is owed, where the callee's promise leaves out only states from which the return is lost.
-  pub call_owed : ((c : Config) → IsSuch c → c.state < g.states.count) → (n : ℕ) (kept : Option ℕ) (e promised : Promise) (rets : List Ret) → Owed e rets → LeavesOutLost g promised n kept e → Owed promised (record { back = n; kept = kept } ∷ rets)
+  pub call_owed : ((c : Config) → IsSuch c → c.state < g.states.count) → (n : ℕ) (kept : Option ℕ) (e promised : Promise) (rets : List Ret) → Owed g IsSuch e rets → LeavesOutLost g promised n kept e → Owed g IsSuch promised (record { back = n; kept = kept } ∷ rets)
   call_owed below n kept e promised rets owed full x ends z =
       let ret : Ret = record { back = n; kept = kept } in
       let l = full x (below (at_pair ends.0 x (ret ∷ rets)) ends.3) z in
@@ -171,5 +172,5 @@ module _ (g : Game) (IsSuch : Config → Type 0) (onward : GoesOn g IsSuch) wher
       is_forced n (returned g.states kept x) e rets such owed l
 
   -- where all states are promised nothing is owed
-  pub all_owed : ((c : Config) → IsSuch c → c.state < g.states.count) → (e : Promise) → ((x : ℕ) → x < g.states.count → e x ≡ true) → (rets : List Ret) → Owed e rets
+  pub all_owed : ((c : Config) → IsSuch c → c.state < g.states.count) → (e : Promise) → ((x : ℕ) → x < g.states.count → e x ≡ true) → (rets : List Ret) → Owed g IsSuch e rets
   all_owed below e all rets x ends z = let w : true ≡ false = sym (all x (below (at_pair ends.0 x rets) ends.3)) ∙ z in cc
