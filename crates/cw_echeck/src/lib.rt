@@ -1,0 +1,4 @@
+//! What the conditions of a strategy are good for.
+#![tactic(auto)]
+
+pub mod strategies;
