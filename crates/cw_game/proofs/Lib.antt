@@ -7,3 +7,4 @@ pub mod Reached
 pub mod Ambients
 pub mod Holding
 pub mod Necessity
+pub mod Standing
