@@ -3,4 +3,5 @@ pub mod Runs
 pub mod Sounds
 pub mod Beaten
 pub mod Tries
+pub mod Lazies
 mod Example

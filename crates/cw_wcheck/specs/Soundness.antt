@@ -3,16 +3,26 @@ use Rattle.std.specs.Prelude.{◌≡◌, ℕ, ◌+◌, ◌≤◌, List, [], true
 use Rattle.cw_certs.specs.Strategies.{Strategy}
 use Rattle.cw_certs.specs.Tables.{Table}
 use Rattle.cw_model.specs.Boards.{Problem, start_board, Forced}
-use Rattle.cw_model.specs.Runs.{State, WovenRun, Goes, reached, erased, tries, Sound}
+use Rattle.cw_model.specs.Runs.{State, WovenRun, Goes, reached, erased, tries, Sound, Lazy}
 use Rattle.cw_model.specs.Plays.{Beats}
-use Rattle.cw_game.specs.Games.{AreStates, Game}
+use Rattle.cw_game.specs.Games.{AreStates, Game, IsLost}
 use Rattle.cw_game.specs.Reached.{Reached}
-use Rattle.cw_game.specs.Places.{IsLaidOut}
+use Rattle.cw_game.specs.Places.{IsLaidOut, HasRoutines}
 use Rattle.cw_game.specs.Conditions.{is_closed_table}
+use Rattle.cw_game.specs.Necessity.{TriesOnlyLost}
 
 -- Where a game is laid out for a program, and its states are the policy's, each table that meets the conditions is sound, over stacks of any depth.
 abbrev pub ConditionsMakeSound : Type 0
 ConditionsMakeSound = (p : Problem) (g : Game) (t : Table) → g.policy ≡ p.policy → AreStates g.policy g.spots g.states (Reached g.policy g.spots g.states) → IsLaidOut p.plan g → is_closed_table g t ≡ true → length p.policy.limits ≤ 12 → Sound p t
+
+-- Where the program has the functions that are called, too, and the table tries only what is lost to skip, a primitive is tried at a board of a woven run
+-- only where the board after a skip is forced.
+abbrev pub LostPairsMakeLazy : Type 0
+LostPairsMakeLazy = (p : Problem) (g : Game) (t : Table) → g.policy ≡ p.policy → AreStates g.policy g.spots g.states (Reached g.policy g.spots g.states) → IsLaidOut p.plan g → HasRoutines p.plan g → is_closed_table g t ≡ true → TriesOnlyLost g t → Lazy p t
+
+-- Where the start is lost with all states promised it is forced.
+abbrev pub LostStartIsForced : Type 0
+LostStartIsForced = (p : Problem) (g : Game) → g.policy ≡ p.policy → AreStates g.policy g.spots g.states (Reached g.policy g.spots g.states) → IsLaidOut p.plan g → HasRoutines p.plan g → IsLost g (g.entry g.main) g.states.start (λ x. true) → (n : ℕ) × Forced p n (start_board p)
 
 -- Where a table is sound the start isn't forced.
 abbrev pub SoundIsNeverForced : Type 0

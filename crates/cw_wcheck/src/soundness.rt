@@ -1,13 +1,27 @@
 //! Laws of tables, over woven runs of any length and stacks of any depth. The functions here do nothing: what they promise is
 //! true of every program, game and table.
 
-ghost use Rattle.cw_wcheck.specs.Soundness.{ConditionsMakeSound, SoundIsNeverForced, BeatenIsForced, NeverBoth, TriesAreFew};
+ghost use Rattle.cw_wcheck.specs.Soundness.{ConditionsMakeSound, LostPairsMakeLazy, LostStartIsForced, SoundIsNeverForced, BeatenIsForced, NeverBoth, TriesAreFew};
 
 /// Each table that meets the conditions of a game is sound for the program that the game is laid out for.
 ///
 /// Public source: the instrumented programs of Harris, Jha, Reps, Anderson and Watson (2013).
 pub fn conditions_make_sound()
     ensures sound { ConditionsMakeSound }
+{}
+
+/// Each table that meets the conditions of a game, and tries a primitive only where the pair after a skip is lost, is lazy for the
+/// program that the game is laid out for: at each board of a woven run at which it tries, the environment can force a violation from
+/// the board after a skip.
+///
+/// Public source: the visibly pushdown games of Löding, Madhusudan and Serre (2004).
+pub fn lost_pairs_make_lazy()
+    ensures lazy { LostPairsMakeLazy }
+{}
+
+/// Where the pair of the start is lost, with all states promised, the environment can force a violation from the start.
+pub fn lost_start_is_forced()
+    ensures forced { LostStartIsForced }
 {}
 
 /// Where a table is sound the environment can't force a violation from the start.
