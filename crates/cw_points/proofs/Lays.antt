@@ -1,5 +1,5 @@
 -- The positions of a program of the first form are those of its plan.
-use Rattle.std.proofs.Common.{◌≡◌, ℕ, zero, suc, ◌+◌, ◌-◌, ◌*◌, List, [], ◌∷◌, ◌++◌, length, map, false, Some, None, refl, sym, ap, ◌∙◌, subst, length-append, arith, get_or, Result, Ok, Err, IfOk}
+use Rattle.std.proofs.Common.{◌≡◌, ℕ, zero, suc, ◌+◌, ◌-◌, ◌*◌, List, [], ◌∷◌, ◌++◌, length, map, false, Some, None, refl, sym, ap, ◌∙◌, subst, length-append, arith, get_or, Result, Ok, Err, IfOk, ⊎_elim}
 use Rattle.std.specs.Prelude.{slice_get}
 use Rattle.std.proofs.lemmas.Option.{none-some, same_Some}
 use Rattle.cw_rights.specs.declared.capabilities.Primitive.TheVariants.{Limit, Enter}
@@ -13,7 +13,9 @@ use Rattle.cw_game.specs.declared.ambient.Node.{Node}
 use Rattle.cw_game.specs.declared.ambient.Node.TheVariants.{StepTo, ExitAt}
 use Rattle.cw_game.specs.declared.ambient.AmbientTest.{AmbientTest}
 use Rattle.cw_game.specs.Ambient.{spot_of, ambient_game}
-use Rattle.cw_game.specs.Places.{At, IsLaidOut}
+use Rattle.cw_game.specs.Places.{At, IsLaidOut, HasRoutines}
+use Rattle.cw_game.specs.declared.spots.Spot.TheVariants.{Call, SplitCall}
+use Rattle.cw_game.proofs.Ambients.{no_call}
 use Rattle.cw_game.proofs.Places.{at_items}
 use Rattle.cw_points.specs.First.{IsFirstForm, points, label_count, points_from, labels_from, points_in, labels_in}
 use Rattle.cw_points.specs.Layout.{size_all, first, layout_all, layout_body}
@@ -57,6 +59,16 @@ lays pol tests source file nodes h none e = subst (λ n. IsLaidOut (plan_of (nam
         subst (λ q. At (map spot_of (layout_body source pol.labels h.main.body)) pol (length (layout_body source pol.labels h.main.body) - 1) (new_frame 0 q) 0) (same_Some _ r s)
         (stands pol source file h none 0 (length (layout_body source pol.labels h.main.body) - 1) (omega (arith, body_length source pol.labels h.main.body)))
     of (suc f) r s = absurd (none-some r s)
+
+-- `main` is there, and no other function is called
+pub has_routines : (pol : PlainPolicy) (tests : List AmbientTest) (source : List ℕ) (file : File) (nodes : List Node) → IsFirstForm source file → HasRoutines (plan_of (names_of pol) source file) (ambient_game pol tests nodes)
+has_routines pol tests source file nodes h =
+    let c = scene_of (names_of pol) source file in
+    let main : (r : Routine) × (slice_get (routines_from c 0 (h.main ∷ [])) 0 ≡ Some r) = (record { mark = h.main.brace; seam = 0; body = numbered_all (steps_of_all c h.main.body) 1 }, refl) in
+    record {
+      main = subst (λ fs. (r : Routine) × (slice_get (routines_from c 0 fs) 0 ≡ Some r)) (sym h.functions) main;
+      called = λ p j f n e. absurd (⊎_elim (λ y. no_call nodes p (Call j f n) y refl) (λ y. no_call nodes p (SplitCall j f n) y refl) e);
+    }
 
 pub counted : (source : List ℕ) (names : List (List ℕ)) (file : File) (nodes : List Node) → (h : IsFirstForm source file) → nodes ≡ layout_body source names h.main.body → length nodes ≡ points file + 2 * (label_count file + 1)
 counted source names file nodes h e =

@@ -10,7 +10,7 @@ ghost use Rattle.cw_model.specs.Boards.{names_of};
 ghost use Rattle.cw_game.specs.declared.ambient.AmbientTest.{AmbientTest};
 ghost use Rattle.cw_game.specs.Ambient.{ambient_game};
 ghost use Rattle.cw_game.specs.Laid.{Laid};
-ghost use Rattle.cw_game.specs.Places.{IsLaidOut};
+ghost use Rattle.cw_game.specs.Places.{IsLaidOut, HasRoutines};
 ghost use Rattle.cw_points.specs.First.{IsFirstForm, points, label_count, labels_of, labels_in};
 ghost use Rattle.cw_points.specs.Layout.{size, size_all, first, layout, layout_all, layout_body};
 
@@ -227,6 +227,8 @@ pub fn positions(
     ensures laid { IfOk result (λ nodes. Laid nodes.items) }
     ensures laid_out { IfOk result (λ nodes. (policy : PlainPolicy) (tests : List AmbientTest) → policy.limits ≡ [] → policy.labels ≡ map (λ l. l.items) labels.now →
         IsLaidOut (plan_of (names_of policy) source.now (file_of program.now)) (ambient_game policy tests nodes.items)) }
+    ensures routines { IfOk result (λ nodes. (policy : PlainPolicy) (tests : List AmbientTest) →
+        HasRoutines (plan_of (names_of policy) source.now (file_of program.now)) (ambient_game policy tests nodes.items)) }
 {
     match program.functions.first() {
         None => Ok(Vec::new(alloc)),

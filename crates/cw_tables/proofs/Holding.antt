@@ -11,7 +11,7 @@ use Rattle.cw_tables.specs.Lost.{lost_in, lost}
 use Rattle.cw_tables.specs.Heights.{AreHeights, AreHeightsOf}
 use Rattle.cw_tables.proofs.Tabled.{game_by}
 
-spot_by : {A B : Type 0} (f : A → B) (xs : List A) (i : ℕ) → slice_get (map f xs) i ≡ option_map f (slice_get xs i)
+pub spot_by : {A B : Type 0} (f : A → B) (xs : List A) (i : ℕ) → slice_get (map f xs) i ≡ option_map f (slice_get xs i)
 spot_by f [] i = refl
 spot_by f (x ∷ xs) zero = refl
 spot_by f (x ∷ xs) (suc i) = spot_by f xs i

@@ -11,4 +11,5 @@ mod Tops
 mod Fulls
 mod Striving
 mod Holding
+mod Needing
 mod LaidLists

@@ -27,7 +27,7 @@ use Rattle.cw_tables.specs.Heights.{height_at, AreHeights}
 use Rattle.cw_tables.specs.Least.{first, then, Exactly, key_cmp}
 use Rattle.cw_tables.specs.Needed.{key_of, is_lost, lazy_in, steps, Needed}
 use Rattle.cw_tables.specs.Rows.{seam_id, state_id, mem_id, pos_id, full, mem_of, mem_row, live_row, try_in, try_row, at_in, at_row, AreStatesOf, IsTableOf}
-use Rattle.cw_tables.proofs.Members.{In, in_of, of_in, find_some, find_is, find_not, kept, kept_from}
+use Rattle.cw_tables.proofs.Members.{In, in_of, of_in, find_in, find_some, find_is, find_not, kept, kept_from}
 use Rattle.cw_tables.proofs.Places.{placed_at, found_nat}
 use Rattle.cw_tables.proofs.Lazily.{IsKey, needed_key, not_bad, came, there}
 
@@ -190,6 +190,34 @@ module _ (g : List Node) (pol : AmbientPolicy) (hs : List ℕ) (ok : AreHeights 
         let pp : o.0 ≡ k.pos = omega (arith, o.1, at) in
         let w : true ≡ false = sym o.2 ∙ ap₂ (λ p q. is_lost hs (p + 2) q) pp st ∙ l in
         cc)
+
+    -- a state's memory means this state alone
+    meant_is : (q r m : ℕ) (e : ℕ) → mem_of states r ≡ Some m → means_it (slice_get c.mems.items m) q e ≡ true → r ≡ q
+    meant_is q r m e f h = eqb-true r q (halves (nat_eq r q) (nat_eq (full pol) e) (sym (ap (λ o. means_it o q e) (means r m f)) ∙ h)).0
+
+    tried_row : (j i m : ℕ) (o : Option TryRow) → try_at (table_of c) j i m ≡ o → is_some o ≡ true → (y : TryRow) × In c.tries.items y × (y.seam.0 ≡ j) × (y.mem.0 ≡ m)
+    tried_row j i m None f e = cc
+    tried_row j i m (Some y) f e =
+        let k = find_in (λ (r : TryRow). nat_eq r.seam.0 j && (nat_eq r.stage i && nat_eq r.mem.0 m)) c.tries.items y f in
+        let h = halves (nat_eq y.seam.0 j) (nat_eq y.stage i && nat_eq y.mem.0 m) k.1 in
+        (y, k.0, eqb-true y.seam.0 j h.0, eqb-true y.mem.0 m (halves (nat_eq y.stage i) (nat_eq y.mem.0 m) h.1).1)
+
+    lost_too : (a b q r : ℕ) → a ≡ b → q ≡ r → is_lost hs (a + 2) q ≡ true → is_lost hs (b + 2) r ≡ true
+    lost_too a b q r e f h = sym (ap₂ (λ p q. is_lost hs (p + 2) q) e f) ∙ h
+
+    -- where something is tried the skip is lost
+    pub lost_where_tried : (p m q e j i : ℕ) → slice_get g p ≡ Some (TryAt j) → means_it (slice_get c.mems.items m) q e ≡ true → is_some (try_at (table_of c) j i m) ≡ true → (q < 4) × (is_lost hs (p + 2) q ≡ true)
+    lost_where_tried p m q e j i es h tried =
+        let y = tried_row j i m (try_at (table_of c) j i m) refl tried in
+        let z = kept_from (try_row g pol states) keys y.0 (subst (λ l. In l y.0) t.tries y.1) in
+        let v = try_inv pol states z.0.state (slice_get g z.0.pos) y.0 z.2 in
+        let asks : slice_get g z.0.pos ≡ Some (AskedAt j) = v.0 ∙ ap (λ s. Some (AskedAt s)) y.2 in
+        let here = laid.visit p j es in
+        let at : z.0.pos ≡ p + 1 = same_place z.0.pos (p + 1) (λ l. let b = laid.asks z.0.pos (p + 1) j j asks here l in absurd (omega arith)) (λ l. let b = laid.asks (p + 1) z.0.pos j j here asks l in absurd (omega arith)) in
+        let st : z.0.state ≡ q = meant_is q z.0.state m e (v.1 ∙ ap Some y.3) h in
+        let o = came pol hs g laid z.0 (needed z.0 z.1) j asks in
+        let pp : o.0 ≡ p = omega (arith, o.1, at) in
+        (subst (λ y. y < 4) st (is_key z.0 z.1).1, lost_too o.0 p z.0.state q pp st o.2)
 
     at_is : (k : Key) (j l n m a : ℕ) → In keys k → slice_get g k.pos ≡ Some (LabelTo j l n) → mem_of states k.state ≡ Some m → mem_of states (lettered pol.numbering k.state) ≡ Some a → after_at c.ats.items j m ≡ Some (met j m a)
     at_is k j l n m a i e f ea = find_is (λ (r : AtRow). nat_eq r.seam.0 j && nat_eq r.mem.0 m) c.ats.items (met j m a) (subst (λ l. In l (met j m a)) (sym t.ats) (kept (at_row g pol states) keys k (met j m a) i gives)) (both _ _ (self j) (self m)) only

@@ -10,6 +10,7 @@ ghost use Rattle.cw_certs.specs.Tables.{table_of};
 ghost use Rattle.cw_game.specs.Laid.{Laid};
 ghost use Rattle.cw_game.specs.Ambient.{start_of, ambient_game, numbering_of};
 ghost use Rattle.cw_game.specs.Conditions.{is_closed_table};
+ghost use Rattle.cw_game.specs.Necessity.{TriesOnlyLost};
 ghost use Rattle.cw_tables.specs.declared.closure.Key.{Key};
 ghost use Rattle.cw_tables.specs.Least.{Exactly, key_cmp};
 ghost use Rattle.cw_tables.specs.Needed.{Needed};
@@ -295,6 +296,8 @@ pub fn weaver_table(
     ensures lazy { IfOk result (λ o. IfSome o (λ c. IsLazy nodes.now policy.now hs.now c)) }
     ensures closed { IfOk result (λ o. IfSome o (λ c. (plain : PlainPolicy) → plain.refuse_enter ≡ policy.now.refusable →
         IsTrue (is_closed_table (ambient_game plain policy.now.tests.items nodes.now) (table_of c)))) }
+    ensures tries_lost { IfOk result (λ o. IfSome o (λ c. (plain : PlainPolicy) → plain.refuse_enter ≡ policy.now.refusable →
+        TriesOnlyLost (ambient_game plain policy.now.tests.items nodes.now) (table_of c))) }
     ensures ascends { IfOk result (λ o. IfSome o (λ c. Ascends c)) }
     ensures few { IfOk result (λ o. IfSome o (λ c. table_rows c ≤ 65536)) }
     ensures many { IfOk result (λ o. IfNone o ((c : WeaverCert) → IsLazy nodes.now policy.now hs.now c → 65536 < table_rows c)) }

@@ -5,7 +5,7 @@ use Rattle.cw_points.specs.First.{points, points_in, points_from}
 use Rattle.cw_points.specs.Layout.{size_all, layout_body}
 use Rattle.cw_points.proofs.Lengths.{size_all_is, labels_all_few}
 use Rattle.cw_points.proofs.LaidGraph.{laid_graph}
-use Rattle.cw_points.proofs.Lays.{lays, counted, the_main, if_ok}
+use Rattle.cw_points.proofs.Lays.{lays, has_routines, counted, the_main, if_ok}
 use Rattle.cw_points.proofs.positions.positions.Goals as goal
 
 pub positions_of-requires-clause-small : goal.positions_of-requires-clause-small
@@ -43,3 +43,6 @@ returns-in-Some-clause-laid_out c =
     let b : statements_of c.deref-in-Some.result.now ≡ h.main.body = ap statements_of c.deref-in-Some.ensures.value ∙ ap (λ d. d.body) m in
     if_ok c.positions_of.result c.positions_of.ensures (λ nodes e policy tests none same.
     lays policy tests c.args.source.now (file_of c.args.program.now) nodes.items h none (e ∙ ap (layout_body c.args.source.now names) b ∙ sym (ap (λ l. layout_body c.args.source.now l h.main.body) same)))
+
+pub returns-in-Some-clause-routines : goal.returns-in-Some-clause-routines
+returns-in-Some-clause-routines c = if_ok c.positions_of.result c.positions_of.ensures (λ nodes e policy tests. has_routines policy tests c.args.source.now (file_of c.args.program.now) nodes.items c.requires.first)

@@ -7,6 +7,7 @@ use Rattle.cw_tables.specs.Needed.{Needed}
 use Rattle.cw_tables.specs.Rows.{AreStatesOf, IsTableOf, IsTable}
 use Rattle.cw_tables.proofs.Tops.{lazy_many_keys, lazy_many_mems, lazy_none, IfNone_then}
 use Rattle.cw_tables.proofs.Tabled.{lazy_closed}
+use Rattle.cw_tables.proofs.Needing.{tries_only_lost}
 use Rattle.cw_tables.proofs.Rising.{lazy_ascends}
 use Rattle.cw_tables.proofs.tables.weaver_table.Goals as goal
 
@@ -34,6 +35,12 @@ returns-in_ok-table-in-Some-clause-closed c =
     let x : Exactly key_cmp (Needed Weaver c.args.nodes.now c.args.policy.now c.args.hs.now) c.in-Some.keys.items = search rules in
     let m = subst (λ (ks : List Key). AreStatesOf ks c.in_ok-states-in-Some.states.items) c.deref.ensures.value c.in_ok-states-in-Some.ensures in
     IfSome_then c.in_ok-table-in-Some.table c.in_ok-table-in-Some.ensures.some (λ w p. λ plain r. lazy_closed c.args.nodes.now c.args.policy.now c.args.hs.now c.requires.heights c.requires.start c.requires.laid c.in-Some.keys.items x c.in_ok-states-in-Some.states.items m w (subst (λ (ss : List ℕ). IsTableOf c.args.nodes.now c.args.policy.now c.in-Some.keys.items ss w) c.deref-in-Some-2.ensures.value (subst (λ (ks : List Key). IsTableOf c.args.nodes.now c.args.policy.now ks c.deref-in-Some-2.result.now w) c.deref-in-Some.ensures.value p.0)) plain r c.requires.numbered)
+
+pub returns-in_ok-table-in-Some-clause-tries_lost : goal.returns-in_ok-table-in-Some-clause-tries_lost
+returns-in_ok-table-in-Some-clause-tries_lost c =
+    let x : Exactly key_cmp (Needed Weaver c.args.nodes.now c.args.policy.now c.args.hs.now) c.in-Some.keys.items = search rules in
+    let m = subst (λ (ks : List Key). AreStatesOf ks c.in_ok-states-in-Some.states.items) c.deref.ensures.value c.in_ok-states-in-Some.ensures in
+    IfSome_then c.in_ok-table-in-Some.table c.in_ok-table-in-Some.ensures.some (λ w p. λ plain r. tries_only_lost c.args.nodes.now c.args.policy.now c.args.hs.now c.requires.heights c.requires.start c.requires.laid c.in-Some.keys.items x c.in_ok-states-in-Some.states.items m w (subst (λ (ss : List ℕ). IsTableOf c.args.nodes.now c.args.policy.now c.in-Some.keys.items ss w) c.deref-in-Some-2.ensures.value (subst (λ (ks : List Key). IsTableOf c.args.nodes.now c.args.policy.now ks c.deref-in-Some-2.result.now w) c.deref-in-Some.ensures.value p.0)) plain r c.requires.numbered)
 
 pub returns-in_ok-table-in-Some-clause-ascends : goal.returns-in_ok-table-in-Some-clause-ascends
 returns-in_ok-table-in-Some-clause-ascends c =

@@ -1,0 +1,53 @@
+-- The lazy table tries only where skipping is lost.
+use Rattle.std.proofs.Common.{◌≡◌, ℕ, zero, suc, ◌+◌, ◌<◌, List, Bool, true, false, Option, Some, None, is_some, map, option_map, nat_lt, refl, sym, ap, ◌∙◌}
+use Rattle.std.specs.Prelude.{slice_get}
+use Rattle.std.proofs.lemmas.Option.{none-some, same_Some}
+use Rattle.cw_rights.specs.declared.capabilities.Primitive.{Primitive}
+use Rattle.cw_rights.specs.Policies.{PlainPolicy}
+use Rattle.cw_certs.specs.declared.table.WeaverCert.{WeaverCert}
+use Rattle.cw_certs.specs.Tables.{table_of, try_at}
+use Rattle.cw_game.specs.declared.ambient.AmbientPolicy.{AmbientPolicy}
+use Rattle.cw_game.specs.declared.ambient.Node.{Node}
+use Rattle.cw_game.specs.declared.ambient.Node.TheVariants.{TryAt, AskedAt, LabelTo, StepTo, BranchTo, ExitAt}
+use Rattle.cw_game.specs.declared.spots.Spot.TheVariants.{Visit, Call, SplitCall}
+use Rattle.cw_game.specs.Games.{Game, Promise, IsLost}
+use Rattle.cw_game.specs.Conditions.{has, means_it}
+use Rattle.cw_game.specs.Ambient.{spot_of, start_of, ambient_game, numbering_of}
+use Rattle.cw_game.specs.Laid.{Laid}
+use Rattle.cw_game.specs.Necessity.{TriesOnlyLost}
+use Rattle.cw_game.proofs.Ambients.{no_call}
+use Rattle.cw_tables.specs.declared.closure.Side.TheVariants.{Weaver}
+use Rattle.cw_tables.specs.declared.closure.Key.{Key}
+use Rattle.cw_tables.specs.Heights.{height_at, AreHeights, AreHeightsOf}
+use Rattle.cw_tables.specs.Least.{Exactly, key_cmp}
+use Rattle.cw_tables.specs.Needed.{is_lost, Needed}
+use Rattle.cw_tables.specs.Rows.{AreStatesOf, IsTableOf}
+use Rattle.cw_tables.proofs.Tabled.{lost_where_tried}
+use Rattle.cw_tables.proofs.Holding.{spot_by, heights_of}
+
+-- the spots of a program of one function
+visit_of : (o : Option Node) (j i : ℕ) (a : Primitive) → option_map spot_of o ≡ Some (Visit j i a) → o ≡ Some (TryAt j)
+visit_of None j i a e = absurd (none-some (Visit j i a) e)
+visit_of (Some (TryAt k)) j i a e = cc
+visit_of (Some (AskedAt k)) j i a e = cc
+visit_of (Some (LabelTo k l n)) j i a e = cc
+visit_of (Some (StepTo n)) j i a e = cc
+visit_of (Some (BranchTo m n)) j i a e = cc
+visit_of (Some ExitAt) j i a e = cc
+
+-- a pair with a height is lost, under any promise
+with_height : (game : Game) (hs : List ℕ) (p q h : ℕ) (e : Promise) → AreHeightsOf game hs → q < 4 → height_at hs p q ≡ h → nat_lt 0 h ≡ true → IsLost game p q e
+with_height game hs p q zero e heights lt z lost = cc
+with_height game hs p q (suc n) e heights lt z lost = (suc n, (heights.there p q n e lt z).0)
+
+pub tries_only_lost : (g : List Node) (pol : AmbientPolicy) (hs : List ℕ) → AreHeights g pol hs → height_at hs 0 (start_of pol.numbering) ≡ 0 → Laid g → (keys : List Key) → Exactly key_cmp (Needed Weaver g pol hs) keys → (states : List ℕ) → AreStatesOf keys states → (c : WeaverCert) → IsTableOf g pol keys states c → (plain : PlainPolicy) → plain.refuse_enter ≡ pol.refusable → pol.numbering ≡ numbering_of pol.tests.items g → TriesOnlyLost (ambient_game plain pol.tests.items g) (table_of c)
+tries_only_lost g pol hs ok start laid keys x states are c t plain refuses numbered =
+    let game = ambient_game plain pol.tests.items g in
+    let heights = heights_of g pol hs ok numbered plain refuses in
+    record {
+      tries = λ p m q e j i a live meant es tried.
+          let k = lost_where_tried g pol hs ok start laid keys x states are c t plain refuses p m q e j i (visit_of (slice_get g p) j i a (sym (spot_by spot_of g p) ∙ es)) meant tried in
+          with_height game hs (p + 2) q (height_at hs (p + 2) q) (has e) heights k.0 refl k.1;
+      calls = λ p m q e j f n e2 r live meant es er meant2. absurd (no_call g p (Call j f n) es refl);
+      split_calls = λ p m q e j f n e2 r live meant es er meant2. absurd (no_call g p (SplitCall j f n) es refl);
+    }
