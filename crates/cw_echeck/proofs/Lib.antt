@@ -1,1 +1,3 @@
+pub mod Leads
 pub mod Wins
+pub mod Rows

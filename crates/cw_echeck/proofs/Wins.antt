@@ -1,14 +1,11 @@
 -- A strategy whose rows meet the conditions comes to a violation, whatever the weaver tries: by one induction on the number of the row,
 -- for all boards and all stacks of returns at once.
-use Rattle.std.proofs.Common.{◌≡◌, ◌⊎◌, ℕ, zero, suc, ◌+◌, ◌<◌, ◌≤◌, List, [], ◌∷◌, length, Bool, true, false, cond, Option, Some, None, option_map, nat_eq, refl, sym, ap, ◌∙◌, subst, inl, inr, arith}
+use Rattle.std.proofs.Common.{◌≡◌, ◌⊎◌, ℕ, zero, suc, ◌+◌, ◌<◌, ◌≤◌, List, [], ◌∷◌, length, Bool, true, false, Option, Some, option_map, refl, sym, ap, ◌∙◌, subst, inl, inr, arith}
 use Rattle.std.specs.Prelude.{slice_get}
-use Rattle.std.proofs.lemmas.Nat.Bits.{bit_at-zero}
 use Rattle.cw_rights.specs.declared.capabilities.Caps.{Caps}
-use Rattle.cw_rights.specs.declared.capabilities.Primitive.{Primitive}
-use Rattle.cw_rights.specs.declared.capabilities.Primitive.TheVariants.{Split}
 use Rattle.cw_rights.specs.Words.{Word}
 use Rattle.cw_certs.specs.declared.moves.Move.{Move}
-use Rattle.cw_certs.specs.declared.moves.Move.TheVariants.{Skip, Try, Grant, Refuse, On, Left, Right, Opened, Failed}
+use Rattle.cw_certs.specs.declared.moves.Move.TheVariants.{Skip, Try, On}
 use Rattle.cw_certs.specs.Strategies.{How, Bad, Out, Both, Go, Into, Row, Strategy, back_of}
 use Rattle.cw_syntax.specs.Plans.{Call, Plan}
 use Rattle.cw_syntax.specs.Frames.{Todo, Frame}
@@ -16,16 +13,13 @@ use Rattle.cw_model.specs.Boards.{Problem, Phase, Visit, Asked, Free, FreeSplit,
 use Rattle.cw_model.specs.Plays.{is_at_call, is_at_end, FollowsHow, FollowsRow, FollowedPlay, Beats}
 use Rattle.cw_game.specs.declared.spots.Spot.{Spot}
 use Rattle.cw_game.specs.declared.spots.Spot.TheVariants.{Visit as VisitSpot, Asked as AskedSpot, Step, Branch, Label as LabelSpot, Open as OpenSpot, Close as CloseSpot, Call as CallSpot, SplitCall, Exit}
-use Rattle.cw_game.specs.Games.{AreStates, Game, may_refuse_in, returned, Ret, Config, at_pair, past_asked, leads_in, bad_in, weavers_in, leads_to}
+use Rattle.cw_game.specs.Games.{AreStates, Game, returned, Ret, Config, at_pair, leads_in, bad_in, leads_to}
 use Rattle.cw_game.specs.Places.{IsLaidOut, HasRoutines}
-use Rattle.cw_game.specs.Conditions.{has, IsAt, CallsIn, is_call_in, is_exit_in, HowOk, IsClosedStrategy}
+use Rattle.cw_game.specs.Conditions.{has, IsAt, is_call_in, is_exit_in, HowOk, IsClosedStrategy}
 use Rattle.cw_game.proofs.Fronts.{Front, is_step, is_branch, is_label, is_open, is_close, is_call, is_end, front_of}
 use Rattle.cw_game.proofs.Stands.{Meaning, StandsOn}
+use Rattle.cw_echeck.proofs.Leads.{empty, local_over, calls_to, weavers_to}
 use Rattle.cw_game.proofs.Link.{Stands, not_both, bad_violates, environments_turn, state_within, board_moves, start_stands, problem}
-
--- a set without members
-empty : (q : ℕ) → has 0 q ≡ false
-empty q = ap (λ b. nat_eq b 1) (bit_at-zero q)
 
 -- At the position of a call stands a call, and at that of an exit an end.
 module _ (Means : Meaning) (g : Game) where
@@ -67,41 +61,6 @@ module _ (Means : Meaning) (g : Game) where
   exit_on ((Todo (Call at j callee) ∷ is) ∷ frames) kept caps word FreeSplit p q rets h e = differ is_exit_in p (SplitCall j callee.number h.1.1.2.0) (ap (slice_get g.spots) h.1.3 ∙ h.1.1.2.1.1 h.1.2) refl e
   exit_on (_ ∷ frames) kept caps word FreeSplit p q rets h e = absurd h.1.2
   exit_on (frame ∷ frames) kept caps word Over p q rets h e = absurd h.1
-
-  -- what is neither a call nor an exit leads to the same pair over any returns
-  if_over : (yes : Bool) (c : Config) (rets : List Ret) → option_map (λ (c : Config). at_pair c.pos c.state rets) (cond yes (Some c) None) ≡ cond yes (Some (at_pair c.pos c.state rets)) None
-  if_over true c rets = refl
-  if_over false c rets = refl
-
-  granted_over : (p q : ℕ) (rets : List Ret) (a : Primitive) → option_map (λ (c : Config). at_pair c.pos c.state rets) (cond (g.states.may_grant q a) (Some (past_asked g p q a [])) None) ≡ cond (g.states.may_grant q a) (Some (past_asked g p q a rets)) None
-  granted_over p q rets Split = if_over (g.states.may_grant q Split) (at_pair (p + 2) q []) rets
-  granted_over p q rets a = if_over (g.states.may_grant q a) (at_pair (p + 1) (g.states.granted q a) []) rets
-
-  local_over : (p q : ℕ) (rets : List Ret) (spot : Option Spot) (by : Move) → is_call_in spot ≡ false → is_exit_in spot ≡ false → option_map (λ (c : Config). at_pair c.pos c.state rets) (leads_in g p q [] spot by) ≡ leads_in g p q rets spot by
-  local_over p q rets (Some (AskedSpot j i a)) Grant c e = granted_over p q rets a
-  local_over p q rets (Some (AskedSpot j i a)) Refuse c e = if_over (may_refuse_in g q a) (at_pair (p + 1) q []) rets
-  local_over p q rets (Some (CallSpot j f n)) by c e = cc
-  local_over p q rets (Some (SplitCall j f n)) by c e = cc
-  local_over p q rets (Some (Exit f)) by c e = cc
-  local_over p q rets _ On c e = refl
-  local_over p q rets _ Left c e = refl
-  local_over p q rets _ Right c e = refl
-  local_over p q rets _ Opened c e = refl
-  local_over p q rets _ Failed c e = refl
-  local_over p q rets _ Skip c e = refl
-  local_over p q rets _ Try c e = refl
-  local_over p q rets _ Grant c e = refl
-  local_over p q rets _ Refuse c e = refl
-
-  -- a call leads to its callee
-  calls_to : (p q f n : ℕ) (kept : Option ℕ) (rets : List Ret) (spot : Option Spot) → CallsIn q spot f n kept → (leads_in g p q rets spot On ≡ Some (at_pair (g.entry f) q (record { back = n; kept = kept } ∷ rets))) × (is_call_in spot ≡ true) × (bad_in g q spot ≡ false)
-  calls_to p q f n kept rets (Some (CallSpot j f2 n2)) h = rw (h.0, h.1, h.2) (refl, refl, refl)
-  calls_to p q f n kept rets (Some (SplitCall j f2 n2)) h = rw (h.0, h.1, h.2) (refl, refl, refl)
-  calls_to p q f n kept rets _ h = absurd h
-
-  weavers_to : (p q : ℕ) (rets : List Ret) (spot : Option Spot) → weavers_in spot ≡ true → (leads_in g p q rets spot Skip ≡ Some (at_pair (p + 2) q rets)) × (leads_in g p q rets spot Try ≡ Some (at_pair (p + 1) q rets)) × (bad_in g q spot ≡ false)
-  weavers_to p q rets (Some (VisitSpot j i a)) e = (refl, refl, refl)
-  weavers_to p q rets _ e = cc
 
   module _ (plan : Plan) (right : AreStates g.policy g.spots g.states Means) (laid : IsLaidOut plan g) (has_them : HasRoutines plan g) (s : Strategy) (closed : IsClosedStrategy g s) where
     abbrev goal : Problem
@@ -160,7 +119,7 @@ module _ (Means : Meaning) (g : Game) where
     by_how i b p q aim rets waiting Out er ok below h pays =
         out_how i _ b p q ok.0 rets waiting er refl refl ok.1 h (pays q (state_within Means g plan right laid has_them b (at_pair p q rets) h) ok.3)
     by_how i b p q aim rets waiting (Both skip tried) er ok below h pays =
-        let w = weavers_to p q rets (slice_get g.spots p) ok.2 in
+        let w = weavers_to g p q rets (slice_get g.spots p) ok.2 in
         let skipped = moves_to b (at_pair p q rets) (at_pair (p + 2) q rets) Skip h w.2 w.0 in
         let tried_to = moves_to b (at_pair p q rets) (at_pair (p + 1) q rets) Try h w.2 w.1 in
         let s0 = below skip ok.0 skipped.0 (p + 2) q aim rets waiting ok.3 skipped.2 pays in
@@ -168,7 +127,7 @@ module _ (Means : Meaning) (g : Game) where
         by_row i _ b waiting (suc (s0.0 + s1.0)) er (λ choices le. both_how b skipped.0 tried_to.0 waiting q skip tried skipped.1 tried_to.1 s0 s1 choices le)
     by_how i b p q aim rets waiting (Go by row) er ok below h pays =
         let t = ok.2 in
-        let l = sym (local_over p q rets (slice_get g.spots p) by ok.1.2 ok.1.3) ∙ ap (option_map (λ (c : Config). at_pair c.pos c.state rets)) t.2 in
+        let l = sym (local_over g p q rets (slice_get g.spots p) by ok.1.2 ok.1.3) ∙ ap (option_map (λ (c : Config). at_pair c.pos c.state rets)) t.2 in
         let to = moves_to b (at_pair p q rets) (at_pair t.0 t.1 rets) by h ok.1.1 l in
         let turn = environments_turn Means g plan right laid has_them b (at_pair p q rets) h ok.1.0 in
         let k = below row ok.0 to.0 t.0 t.1 aim rets waiting t.3 to.2 pays in
@@ -176,7 +135,7 @@ module _ (Means : Meaning) (g : Game) where
     by_how i b p q aim rets waiting (Into callee backs) er ok below h pays =
         let t = ok.1 in
         let ret : Ret = record { back = t.1; kept = t.2 } in
-        let l = calls_to p q t.0 t.1 t.2 rets (slice_get g.spots p) t.4 in
+        let l = calls_to g p q t.0 t.1 t.2 rets (slice_get g.spots p) t.4 in
         let to = moves_to b (at_pair p q rets) (at_pair (g.entry t.0) q (ret ∷ rets)) On h l.2 l.0 in
         let e = call_on b.stack b.kept b.caps b.word b.phase p q rets h l.1 in
         let deeper : Pays t.3 (ret ∷ rets) (backs ∷ waiting) = λ x lt y. let z = t.6 x lt y in (z.0, z.1, λ b2 h2. below z.0 z.2 b2 t.1 (returned g.states t.2 x) aim rets waiting z.3 h2 pays) in
