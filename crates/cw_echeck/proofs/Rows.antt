@@ -79,13 +79,13 @@ module _ (g : Game) (h : ℕ → ℕ → Promise → Bool) where
   move_lost p q e (Some (Close j d n)) On p2 q2 w c x s k = led e n (g.states.closed q d) p2 q2 s k
   move_lost p q e _ _ p2 q2 w c x s k = absurd (none-some (at_pair p2 q2 []) s)
 
-module _ (Means : Meaning) (g : Game) (plan : Plan) (right : AreStates g.policy g.spots g.states Means) (laid : IsLaidOut plan g) (has_them : HasRoutines plan g) (s : Strategy) (closed : IsClosedStrategy g s) where
+module _ (Means : Meaning) (g : Game) (plan : Plan) (right : AreStates g.policy g.spots g.states Means) (laid : IsLaidOut plan g) (routines : HasRoutines plan g) (s : Strategy) (closed : IsClosedStrategy g s) where
   -- some board stands there
   abbrev IsStoodAt : Config → Type 0
   IsStoodAt c = (b : Board) × Stands Means g b c
 
   goes : (c next : Config) (by : Move) → IsStoodAt c → bad_in g c.state (slice_get g.spots c.pos) ≡ false → leads_to g c by ≡ Some next → IsStoodAt next
-  goes c next by h good e = let to = board_moves Means g plan right laid has_them h.0 c next by h.1 good e in (to.0, to.2)
+  goes c next by h good e = let to = board_moves Means g plan right laid routines h.0 c next by h.1 good e in (to.0, to.2)
 
   -- the frame above these returns may end in this state
   abbrev EndsIn : List Ret → ℕ → Type 0
@@ -129,7 +129,7 @@ module _ (Means : Meaning) (g : Game) (plan : Plan) (right : AreStates g.policy 
       let l = calls_to g p q t.0 t.1 t.2 rets (slice_get g.spots p) t.4 in
       let to = goes (at_pair p q rets) (at_pair (g.entry t.0) q (ret ∷ rets)) On h l.2 l.0 in
       let inner : LeavesOut t.3 (ret ∷ rets) (λ x. Holds g n t.1 (returned g.states t.2 x) e) = λ x ends y.
-      let z = t.6 x (state_within Means g plan right laid has_them ends.3.0 (at_pair ends.0 x (ret ∷ rets)) ends.3.1) y in
+      let z = t.6 x (state_within Means g plan right laid routines ends.3.0 (at_pair ends.0 x (ret ∷ rets)) ends.3.1) y in
       below z.0 z.2 t.1 (returned g.states t.2 x) aim rets e (returns t.1 x t.2 rets ends) z.3 out in
       call_lost g (Holds g n) p q t.0 t.1 t.2 e (slice_get g.spots p) t.4
       (below callee ok.0 (g.entry t.0) q t.3 (ret ∷ rets) (λ x. Holds g n t.1 (returned g.states t.2 x) e) to t.5 inner)
@@ -145,6 +145,6 @@ module _ (Means : Meaning) (g : Game) (plan : Plan) (right : AreStates g.policy 
       (suc row, row_lost (suc row) row (omega arith) (g.entry g.main) g.states.start 0 [] (λ x. true) (b, h) at (λ x ends y. absurd (not_both (has 0 x) y (empty x))))
 
 pub closed_loses : (Means : Meaning) (g : Game) (p : Problem) → AreStates g.policy g.spots g.states Means → IsLaidOut p.plan g → HasRoutines p.plan g → (s : Strategy) (row : ℕ) → IsClosedStrategy g s → IsAt s row (g.entry g.main) g.states.start 0 → IsLost g (g.entry g.main) g.states.start (λ x. true)
-closed_loses Means g p right laid has_them s row closed at =
+closed_loses Means g p right laid routines s row closed at =
     let q : Problem = record { plan = p.plan; policy = g.policy } in
-    start_lost Means g p.plan right laid has_them s closed row at (start_board q) (start_stands Means g q refl right laid has_them)
+    start_lost Means g p.plan right laid routines s closed row at (start_board q) (start_stands Means g q refl right laid routines)

@@ -62,16 +62,16 @@ module _ (Means : Meaning) (g : Game) where
   exit_on (_ ∷ frames) kept caps word FreeSplit p q rets h e = absurd h.1.2
   exit_on (frame ∷ frames) kept caps word Over p q rets h e = absurd h.1
 
-  module _ (plan : Plan) (right : AreStates g.policy g.spots g.states Means) (laid : IsLaidOut plan g) (has_them : HasRoutines plan g) (s : Strategy) (closed : IsClosedStrategy g s) where
-    abbrev goal : Problem
-    goal = problem Means g plan right laid has_them
+  module _ (plan : Plan) (right : AreStates g.policy g.spots g.states Means) (laid : IsLaidOut plan g) (routines : HasRoutines plan g) (s : Strategy) (closed : IsClosedStrategy g s) where
+    abbrev of_game : Problem
+    of_game = problem Means g plan right laid routines
 
     abbrev Backs : Type 0
     Backs = List (List (ℕ × ℕ))
 
     -- with enough of the weaver's choices the play from this row and board comes to a violation
     abbrev Sure : ℕ → Board → Backs → Type 0
-    Sure row b waiting = (n : ℕ) × ((choices : List Bool) → n ≤ length choices → (steps : ℕ) × FollowedPlay goal s steps row b waiting choices)
+    Sure row b waiting = (n : ℕ) × ((choices : List Bool) → n ≤ length choices → (steps : ℕ) × FollowedPlay of_game s steps row b waiting choices)
 
     -- the exit state has its row on top, from which the play is sure at each board that stands where the return leads
     abbrev Back : ℕ → List Ret → Backs → Type 0
@@ -89,15 +89,15 @@ module _ (Means : Meaning) (g : Game) where
     SureBelow i = (k : ℕ) → k < i → SureAt k
 
     -- one row more
-    by_row : (i : ℕ) (r : Row) (b : Board) (waiting : Backs) (n : ℕ) → slice_get s.rows i ≡ Some r → ((choices : List Bool) → n ≤ length choices → (steps : ℕ) × FollowsHow goal (FollowedPlay goal s steps) b waiting r.state r.how choices) → Sure i b waiting
+    by_row : (i : ℕ) (r : Row) (b : Board) (waiting : Backs) (n : ℕ) → slice_get s.rows i ≡ Some r → ((choices : List Bool) → n ≤ length choices → (steps : ℕ) × FollowsHow of_game (FollowedPlay of_game s steps) b waiting r.state r.how choices) → Sure i b waiting
     by_row i r b waiting n er h =
-        (n, λ choices le. let k = h choices le in (suc k.0, subst (λ o. FollowsRow goal (FollowedPlay goal s k.0) b waiting o choices) (sym er) k.1))
+        (n, λ choices le. let k = h choices le in (suc k.0, subst (λ o. FollowsRow of_game (FollowedPlay of_game s k.0) b waiting o choices) (sym er) k.1))
 
     -- a move of the pair, as one of the board
-    moves_to : (b : Board) (c next : Config) (by : Move) → Stands Means g b c → bad_in g c.state (slice_get g.spots c.pos) ≡ false → leads_to g c by ≡ Some next → (to : Board) × Moves goal b by to × Stands Means g to next
-    moves_to b c next by h good e = board_moves Means g plan right laid has_them b c next by h good e
+    moves_to : (b : Board) (c next : Config) (by : Move) → Stands Means g b c → bad_in g c.state (slice_get g.spots c.pos) ≡ false → leads_to g c by ≡ Some next → (to : Board) × Moves of_game b by to × Stands Means g to next
+    moves_to b c next by h good e = board_moves Means g plan right laid routines b c next by h good e
 
-    both_how : (b skipped tried_to : Board) (waiting : Backs) (state skip tried : ℕ) → Moves goal b Skip skipped → Moves goal b Try tried_to → (s0 : Sure skip skipped waiting) → (s1 : Sure tried tried_to waiting) → (choices : List Bool) → suc (s0.0 + s1.0) ≤ length choices → (steps : ℕ) × FollowsHow goal (FollowedPlay goal s steps) b waiting state (Both skip tried) choices
+    both_how : (b skipped tried_to : Board) (waiting : Backs) (state skip tried : ℕ) → Moves of_game b Skip skipped → Moves of_game b Try tried_to → (s0 : Sure skip skipped waiting) → (s1 : Sure tried tried_to waiting) → (choices : List Bool) → suc (s0.0 + s1.0) ≤ length choices → (steps : ℕ) × FollowsHow of_game (FollowedPlay of_game s steps) b waiting state (Both skip tried) choices
     both_how b skipped tried_to waiting state skip tried m0 m1 s0 s1 [] le = absurd (omega (arith, le))
     both_how b skipped tried_to waiting state skip tried m0 m1 s0 s1 (false ∷ choices) le = let k = s0.1 choices (omega (arith, le)) in (k.0, (skipped, m0, k.1))
     both_how b skipped tried_to waiting state skip tried m0 m1 s0 s1 (true ∷ choices) le = let k = s1.1 choices (omega (arith, le)) in (k.0, (tried_to, m1, k.1))
@@ -114,10 +114,10 @@ module _ (Means : Meaning) (g : Game) where
 
     by_how : (i : ℕ) (b : Board) (p q aim : ℕ) (rets : List Ret) (waiting : Backs) (how : How) → slice_get s.rows i ≡ Some (record { pos = p; state = q; aim = aim; how = how }) → HowOk g s i p q aim how → SureBelow i → Stands Means g b (at_pair p q rets) → Pays aim rets waiting → Sure i b waiting
     by_how i b p q aim rets waiting Bad er ok below h pays =
-        let v = bad_violates Means g plan right laid has_them b (at_pair p q rets) h ok in
+        let v = bad_violates Means g plan right laid routines b (at_pair p q rets) h ok in
         by_row i _ b waiting 0 er (λ choices le. (0, v))
     by_how i b p q aim rets waiting Out er ok below h pays =
-        out_how i _ b p q ok.0 rets waiting er refl refl ok.1 h (pays q (state_within Means g plan right laid has_them b (at_pair p q rets) h) ok.3)
+        out_how i _ b p q ok.0 rets waiting er refl refl ok.1 h (pays q (state_within Means g plan right laid routines b (at_pair p q rets) h) ok.3)
     by_how i b p q aim rets waiting (Both skip tried) er ok below h pays =
         let w = weavers_to g p q rets (slice_get g.spots p) ok.2 in
         let skipped = moves_to b (at_pair p q rets) (at_pair (p + 2) q rets) Skip h w.2 w.0 in
@@ -129,7 +129,7 @@ module _ (Means : Meaning) (g : Game) where
         let t = ok.2 in
         let l = sym (local_over g p q rets (slice_get g.spots p) by ok.1.2 ok.1.3) ∙ ap (option_map (λ (c : Config). at_pair c.pos c.state rets)) t.2 in
         let to = moves_to b (at_pair p q rets) (at_pair t.0 t.1 rets) by h ok.1.1 l in
-        let turn = environments_turn Means g plan right laid has_them b (at_pair p q rets) h ok.1.0 in
+        let turn = environments_turn Means g plan right laid routines b (at_pair p q rets) h ok.1.0 in
         let k = below row ok.0 to.0 t.0 t.1 aim rets waiting t.3 to.2 pays in
         by_row i _ b waiting k.0 er (λ choices le. let w = k.1 choices le in (w.0, (turn, (to.0, to.1, w.1))))
     by_how i b p q aim rets waiting (Into callee backs) er ok below h pays =
@@ -151,7 +151,7 @@ module _ (Means : Meaning) (g : Game) where
     wins row at b h = sure (suc row) row (omega arith) b (g.entry g.main) g.states.start 0 [] [] at h (λ x lt y. absurd (not_both (has 0 x) y (empty x)))
 
 pub closed_beats : (Means : Meaning) (g : Game) (p : Problem) (e : g.policy ≡ p.policy) → AreStates g.policy g.spots g.states Means → IsLaidOut p.plan g → HasRoutines p.plan g → (s : Strategy) (row : ℕ) → IsClosedStrategy g s → IsAt s row (g.entry g.main) g.states.start 0 → Beats p s row
-closed_beats Means g p e right laid has_them s row closed at =
+closed_beats Means g p e right laid routines s row closed at =
     let q : Problem = record { plan = p.plan; policy = g.policy } in
-    let k = wins Means g p.plan right laid has_them s closed row at (start_board q) (start_stands Means g q refl right laid has_them) in
+    let k = wins Means g p.plan right laid routines s closed row at (start_board q) (start_stands Means g q refl right laid routines) in
     subst (λ y. Beats y s row) (ap (λ policy. record { plan = p.plan; policy = policy }) e) (k.0, λ choices l. k.1 choices (omega (arith, l)))
