@@ -21,6 +21,7 @@ use Rattle.cw_game.specs.declared.ambient.AmbientTest.{AmbientTest}
 use Rattle.cw_game.specs.declared.ambient.Numbering.{Numbering}
 use Rattle.cw_game.specs.declared.ambient.Numbering.TheVariants.{LettersLast, LettersFirst, NoLetter}
 use Rattle.cw_game.specs.Games.{States, AreStates, letter_of, IsOpenedIn, IsClosedIn, IsLabelIn}
+use Rattle.cw_game.specs.Conditions.{is_call_in}
 use Rattle.cw_game.specs.Ambient.{spot_of, bad_words, IsAmbient, is_bad, count_of, start_of, after_of, flag_of, granted_of, lettered, after_grant, is_granted, ambient_states, numbering_of, with_flag, number_of, AmbientMeans}
 
 -- A word is bad exactly by its last letter.
@@ -130,6 +131,20 @@ never_closes (StepTo m ∷ nodes) zero j d n e = cc
 never_closes (BranchTo a b ∷ nodes) zero j d n e = cc
 never_closes (ExitAt ∷ nodes) zero j d n e = cc
 never_closes (o ∷ nodes) (suc p) j d n e = never_closes nodes p j d n e
+
+-- nor does any call
+pub never_calls : (nodes : List Node) (p : ℕ) → is_call_in (slice_get (map spot_of nodes) p) ≡ false
+never_calls [] p = refl
+never_calls (TryAt i ∷ nodes) zero = refl
+never_calls (AskedAt i ∷ nodes) zero = refl
+never_calls (LabelTo i l m ∷ nodes) zero = refl
+never_calls (StepTo m ∷ nodes) zero = refl
+never_calls (BranchTo a b ∷ nodes) zero = refl
+never_calls (ExitAt ∷ nodes) zero = refl
+never_calls (o ∷ nodes) (suc p) = never_calls nodes p
+
+pub no_call : (nodes : List Node) (p : ℕ) (s : Spot) → slice_get (map spot_of nodes) p ≡ Some s → is_call_in (Some s) ≡ true → ⊥
+no_call nodes p s e y = let w : true ≡ false = sym y ∙ ap is_call_in (sym e) ∙ never_calls nodes p in cc
 
 -- the two first states of words are even, and leave room for one more
 abbrev Fits : Numbering → ℕ → Type 0

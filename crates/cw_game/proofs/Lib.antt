@@ -5,3 +5,6 @@ pub mod Link
 pub mod Moves
 pub mod Reached
 pub mod Ambients
+pub mod Holding
+pub mod Necessity
+pub mod Standing

@@ -4,3 +4,4 @@ pub mod Places
 pub mod Conditions
 pub mod Ambient
 pub mod Laid
+pub mod Necessity
