@@ -207,7 +207,7 @@ beats : Beats problem strategy 15
 beats = closed_beats Means game problem refl right laid has_routines strategy 15 meets (Both 13 14, refl)
 
 loses : IsLost game 0 0 (λ x. true)
-loses = closed_loses Means game problem right laid has_routines strategy 15 meets (Both 13 14, refl)
+loses = closed_loses Means game problem refl right laid has_routines strategy meets 15 (Both 13 14, refl)
 
 -- A row that names itself, a call without a row after its return, a label that isn't bad: none of these meets the conditions.
 needs_smaller : IsClosedStrategy game (record { states = 2; rows = row 10 0 (Go Refuse 0) ∷ [] }) → ⊥

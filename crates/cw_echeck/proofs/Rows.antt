@@ -8,15 +8,16 @@ use Rattle.cw_rights.specs.declared.capabilities.Primitive.TheVariants.{Split}
 use Rattle.cw_certs.specs.declared.moves.Move.{Move}
 use Rattle.cw_certs.specs.declared.moves.Move.TheVariants.{Skip, Try, Grant, Refuse, On, Left, Right, Opened, Failed}
 use Rattle.cw_certs.specs.Strategies.{How, Bad, Out, Both, Go, Into, Strategy}
-use Rattle.cw_syntax.specs.Plans.{Plan}
-use Rattle.cw_model.specs.Boards.{Problem, Board, start_board}
+use Rattle.cw_model.specs.Boards.{Problem, start_board}
 use Rattle.cw_game.specs.declared.spots.Spot.{Spot}
 use Rattle.cw_game.specs.declared.spots.Spot.TheVariants.{Visit, Asked, Step, Branch, Label, Open, Close, Call, SplitCall, Exit}
 use Rattle.cw_game.specs.Games.{AreStates, Game, may_refuse_in, returned, Ret, Config, at_pair, leads_in, bad_in, weavers_in, Promise, holds_in, Holds, IsLost, leads_to}
 use Rattle.cw_game.specs.Places.{IsLaidOut, HasRoutines}
 use Rattle.cw_game.specs.Conditions.{has, IsAt, CallsIn, is_call_in, is_exit_in, HowOk, IsClosedStrategy}
 use Rattle.cw_game.proofs.Stands.{Meaning}
-use Rattle.cw_game.proofs.Link.{Stands, not_both, state_within, board_moves, start_stands}
+use Rattle.cw_game.proofs.Link.{not_both, start_stands}
+use Rattle.cw_game.proofs.Necessity.{EndsIn}
+use Rattle.cw_game.proofs.Standing.{IsStanding, standing_on, state_below}
 use Rattle.cw_echeck.proofs.Leads.{empty, local_over, calls_to, weavers_to}
 
 fails_left : (a b : Bool) → a ≡ false → (a && b) ≡ false
@@ -79,72 +80,63 @@ module _ (g : Game) (h : ℕ → ℕ → Promise → Bool) where
   move_lost p q e (Some (Close j d n)) On p2 q2 w c x s k = led e n (g.states.closed q d) p2 q2 s k
   move_lost p q e _ _ p2 q2 w c x s k = absurd (none-some (at_pair p2 q2 []) s)
 
-module _ (Means : Meaning) (g : Game) (plan : Plan) (right : AreStates g.policy g.spots g.states Means) (laid : IsLaidOut plan g) (routines : HasRoutines plan g) (s : Strategy) (closed : IsClosedStrategy g s) where
-  -- some board stands there
-  abbrev IsStoodAt : Config → Type 0
-  IsStoodAt c = (b : Board) × Stands Means g b c
+module _ (Means : Meaning) (g : Game) (p : Problem) (e : g.policy ≡ p.policy) (right : AreStates g.policy g.spots g.states Means) (laid : IsLaidOut p.plan g) (routines : HasRoutines p.plan g) (s : Strategy) (closed : IsClosedStrategy g s) where
+  abbrev IsSuch : Config → Type 0
+  IsSuch c = IsStanding Means g c
 
-  goes : (c next : Config) (by : Move) → IsStoodAt c → bad_in g c.state (slice_get g.spots c.pos) ≡ false → leads_to g c by ≡ Some next → IsStoodAt next
-  goes c next by h good e = let to = board_moves Means g plan right laid routines h.0 c next by h.1 good e in (to.0, to.2)
+  goes : (c next : Config) (by : Move) → IsSuch c → bad_in g c.state (slice_get g.spots c.pos) ≡ false → leads_to g c by ≡ Some next → IsSuch next
+  goes c next by h good l = standing_on Means g p e right laid routines c next by h good l
 
-  -- the frame above these returns may end in this state
-  abbrev EndsIn : List Ret → ℕ → Type 0
-  EndsIn rets x = (p : ℕ) × (f : ℕ) × (slice_get g.spots p ≡ Some (Exit f)) × IsStoodAt (at_pair p x rets)
-
-  -- the promise leaves out the aim
+  -- the promise leaves out those exit states of the aim in which the frame above these returns may end
   abbrev LeavesOut : ℕ → List Ret → Promise → Type 0
-  LeavesOut aim rets e = (x : ℕ) → EndsIn rets x → has aim x ≡ true → e x ≡ false
+  LeavesOut aim rets promised = (x : ℕ) → EndsIn g IsSuch rets x → has aim x ≡ true → promised x ≡ false
 
   abbrev IsLostFor : ℕ → ℕ → Type 0
-  IsLostFor n i = (p q aim : ℕ) (rets : List Ret) (e : Promise) → IsStoodAt (at_pair p q rets) → IsAt s i p q aim → LeavesOut aim rets e → Holds g n p q e ≡ false
+  IsLostFor n i = (pos q aim : ℕ) (rets : List Ret) (promised : Promise) → IsSuch (at_pair pos q rets) → IsAt s i pos q aim → LeavesOut aim rets promised → Holds g n pos q promised ≡ false
 
   -- where the frame ended the return stands
-  returns : (n x : ℕ) (kept : Option ℕ) (rets : List Ret) → EndsIn (record { back = n; kept = kept } ∷ rets) x → IsStoodAt (at_pair n (returned g.states kept x) rets)
+  returns : (n x : ℕ) (kept : Option ℕ) (rets : List Ret) → EndsIn g IsSuch (record { back = n; kept = kept } ∷ rets) x → IsSuch (at_pair n (returned g.states kept x) rets)
   returns n x kept rets ends =
       let c = at_pair ends.0 x (record { back = n; kept = kept } ∷ rets) in
       goes c (at_pair n (returned g.states kept x) rets) On ends.3 (ap (bad_in g x) ends.2) (ap (λ o. leads_in g ends.0 x c.rets o On) ends.2)
 
   not_main : (f : ℕ) (b : Bool) → f ≢ g.main → nat_eq f g.main ≡ b → nat_eq f g.main ≡ false
-  not_main f true ne e = absurd (ne (eqb-true f g.main e))
-  not_main f false ne e = e
+  not_main f true ne h = absurd (ne (eqb-true f g.main h))
+  not_main f false ne h = h
 
-  by_how : (n i p q aim : ℕ) (rets : List Ret) (e : Promise) (how : How) → IsStoodAt (at_pair p q rets) → HowOk g s i p q aim how → ((k : ℕ) → k < i → IsLostFor n k) → LeavesOut aim rets e → Holds g (suc n) p q e ≡ false
-  by_how n i p q aim rets e Bad h ok below out = bad_lost g (Holds g n) p q e (slice_get g.spots p) ok
-  by_how n i p q aim rets e Out h ok below out =
-      ap (holds_in g (Holds g n) p q e) ok.1
-      ∙ fails_both (nat_eq ok.0 g.main) (e q) (not_main ok.0 (nat_eq ok.0 g.main) ok.2 refl) (out q (p, ok.0, ok.1, h) ok.3)
-  by_how n i p q aim rets e (Both skip tried) h ok below out =
-      let w = weavers_to g p q rets (slice_get g.spots p) ok.2 in
-      let s0 = goes (at_pair p q rets) (at_pair (p + 2) q rets) Skip h w.2 w.0 in
-      let s1 = goes (at_pair p q rets) (at_pair (p + 1) q rets) Try h w.2 w.1 in
-      both_lost g (Holds g n) p q e (slice_get g.spots p) ok.2 (below skip ok.0 (p + 2) q aim rets e s0 ok.3 out) (below tried ok.1 (p + 1) q aim rets e s1 ok.4 out)
-  by_how n i p q aim rets e (Go by row) h ok below out =
+  by_how : (n i pos q aim : ℕ) (rets : List Ret) (promised : Promise) (how : How) → IsSuch (at_pair pos q rets) → HowOk g s i pos q aim how → ((k : ℕ) → k < i → IsLostFor n k) → LeavesOut aim rets promised → Holds g (suc n) pos q promised ≡ false
+  by_how n i pos q aim rets promised Bad h ok below out = bad_lost g (Holds g n) pos q promised (slice_get g.spots pos) ok
+  by_how n i pos q aim rets promised Out h ok below out =
+      ap (holds_in g (Holds g n) pos q promised) ok.1
+      ∙ fails_both (nat_eq ok.0 g.main) (promised q) (not_main ok.0 (nat_eq ok.0 g.main) ok.2 refl) (out q (pos, ok.0, ok.1, h) ok.3)
+  by_how n i pos q aim rets promised (Both skip tried) h ok below out =
+      let w = weavers_to g pos q rets (slice_get g.spots pos) ok.2 in
+      let s0 = goes (at_pair pos q rets) (at_pair (pos + 2) q rets) Skip h w.2 w.0 in
+      let s1 = goes (at_pair pos q rets) (at_pair (pos + 1) q rets) Try h w.2 w.1 in
+      both_lost g (Holds g n) pos q promised (slice_get g.spots pos) ok.2 (below skip ok.0 (pos + 2) q aim rets promised s0 ok.3 out) (below tried ok.1 (pos + 1) q aim rets promised s1 ok.4 out)
+  by_how n i pos q aim rets promised (Go by row) h ok below out =
       let t = ok.2 in
-      let l = sym (local_over g p q rets (slice_get g.spots p) by ok.1.2 ok.1.3) ∙ ap (option_map (λ (c : Config). at_pair c.pos c.state rets)) t.2 in
-      let to = goes (at_pair p q rets) (at_pair t.0 t.1 rets) by h ok.1.1 l in
-      move_lost g (Holds g n) p q e (slice_get g.spots p) by t.0 t.1 ok.1.0 ok.1.2 ok.1.3 t.2 (below row ok.0 t.0 t.1 aim rets e to t.3 out)
-  by_how n i p q aim rets e (Into callee backs) h ok below out =
+      let l = sym (local_over g pos q rets (slice_get g.spots pos) by ok.1.2 ok.1.3) ∙ ap (option_map (λ (c : Config). at_pair c.pos c.state rets)) t.2 in
+      let to = goes (at_pair pos q rets) (at_pair t.0 t.1 rets) by h ok.1.1 l in
+      move_lost g (Holds g n) pos q promised (slice_get g.spots pos) by t.0 t.1 ok.1.0 ok.1.2 ok.1.3 t.2 (below row ok.0 t.0 t.1 aim rets promised to t.3 out)
+  by_how n i pos q aim rets promised (Into callee backs) h ok below out =
       let t = ok.1 in
       let ret : Ret = record { back = t.1; kept = t.2 } in
-      let l = calls_to g p q t.0 t.1 t.2 rets (slice_get g.spots p) t.4 in
-      let to = goes (at_pair p q rets) (at_pair (g.entry t.0) q (ret ∷ rets)) On h l.2 l.0 in
-      let inner : LeavesOut t.3 (ret ∷ rets) (λ x. Holds g n t.1 (returned g.states t.2 x) e) = λ x ends y.
-      let z = t.6 x (state_within Means g plan right laid routines ends.3.0 (at_pair ends.0 x (ret ∷ rets)) ends.3.1) y in
-      below z.0 z.2 t.1 (returned g.states t.2 x) aim rets e (returns t.1 x t.2 rets ends) z.3 out in
-      call_lost g (Holds g n) p q t.0 t.1 t.2 e (slice_get g.spots p) t.4
-      (below callee ok.0 (g.entry t.0) q t.3 (ret ∷ rets) (λ x. Holds g n t.1 (returned g.states t.2 x) e) to t.5 inner)
+      let l = calls_to g pos q t.0 t.1 t.2 rets (slice_get g.spots pos) t.4 in
+      let to = goes (at_pair pos q rets) (at_pair (g.entry t.0) q (ret ∷ rets)) On h l.2 l.0 in
+      let inner : LeavesOut t.3 (ret ∷ rets) (λ x. Holds g n t.1 (returned g.states t.2 x) promised) = λ x ends y.
+      let z = t.6 x (state_below Means g p e right laid routines (at_pair ends.0 x (ret ∷ rets)) ends.3) y in
+      below z.0 z.2 t.1 (returned g.states t.2 x) aim rets promised (returns t.1 x t.2 rets ends) z.3 out in
+      call_lost g (Holds g n) pos q t.0 t.1 t.2 promised (slice_get g.spots pos) t.4
+      (below callee ok.0 (g.entry t.0) q t.3 (ret ∷ rets) (λ x. Holds g n t.1 (returned g.states t.2 x) promised) to t.5 inner)
 
   -- by one induction on the number of the row
   row_lost : (n i : ℕ) → i < n → IsLostFor n i
-  row_lost zero i lt p q aim rets e h at out = absurd (omega (arith, lt))
-  row_lost (suc n) i lt p q aim rets e h at out =
-      by_how n i p q aim rets e at.0 h (closed i _ at.1) (λ k l p q aim rets e h at out. row_lost n k (omega (arith, lt, l)) p q aim rets e h at out) out
+  row_lost zero i lt pos q aim rets promised h at out = absurd (omega (arith, lt))
+  row_lost (suc n) i lt pos q aim rets promised h at out =
+      by_how n i pos q aim rets promised at.0 h (closed i _ at.1) (λ k l pos q aim rets promised h at out. row_lost n k (omega (arith, lt, l)) pos q aim rets promised h at out) out
 
-  start_lost : (row : ℕ) → IsAt s row (g.entry g.main) g.states.start 0 → (b : Board) → Stands Means g b (at_pair (g.entry g.main) g.states.start []) → IsLost g (g.entry g.main) g.states.start (λ x. true)
-  start_lost row at b h =
-      (suc row, row_lost (suc row) row (omega arith) (g.entry g.main) g.states.start 0 [] (λ x. true) (b, h) at (λ x ends y. absurd (not_both (has 0 x) y (empty x))))
-
-pub closed_loses : (Means : Meaning) (g : Game) (p : Problem) → AreStates g.policy g.spots g.states Means → IsLaidOut p.plan g → HasRoutines p.plan g → (s : Strategy) (row : ℕ) → IsClosedStrategy g s → IsAt s row (g.entry g.main) g.states.start 0 → IsLost g (g.entry g.main) g.states.start (λ x. true)
-closed_loses Means g p right laid routines s row closed at =
-    let q : Problem = record { plan = p.plan; policy = g.policy } in
-    start_lost Means g p.plan right laid routines s closed row at (start_board q) (start_stands Means g q refl right laid routines)
+  pub closed_loses : (row : ℕ) → IsAt s row (g.entry g.main) g.states.start 0 → IsLost g (g.entry g.main) g.states.start (λ x. true)
+  closed_loses row at =
+      let such : IsSuch (at_pair (g.entry g.main) g.states.start []) = (start_board p, start_stands Means g p e right laid routines) in
+      (suc row, row_lost (suc row) row (omega arith) (g.entry g.main) g.states.start 0 [] (λ x. true) such at (λ x ends y. absurd (not_both (has 0 x) y (empty x))))
