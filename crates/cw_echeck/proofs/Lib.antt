@@ -1,1 +1,4 @@
+pub mod Leads
 pub mod Wins
+pub mod Rows
+mod Example

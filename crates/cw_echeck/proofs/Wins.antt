@@ -1,14 +1,11 @@
 -- A strategy whose rows meet the conditions comes to a violation, whatever the weaver tries: by one induction on the number of the row,
 -- for all boards and all stacks of returns at once.
-use Rattle.std.proofs.Common.{◌≡◌, ◌⊎◌, ℕ, zero, suc, ◌+◌, ◌<◌, ◌≤◌, List, [], ◌∷◌, length, Bool, true, false, cond, Option, Some, None, option_map, nat_eq, refl, sym, ap, ◌∙◌, subst, inl, inr, arith}
+use Rattle.std.proofs.Common.{◌≡◌, ◌⊎◌, ℕ, zero, suc, ◌+◌, ◌<◌, ◌≤◌, List, [], ◌∷◌, length, Bool, true, false, Option, Some, option_map, refl, sym, ap, ◌∙◌, subst, inl, inr, arith}
 use Rattle.std.specs.Prelude.{slice_get}
-use Rattle.std.proofs.lemmas.Nat.Bits.{bit_at-zero}
 use Rattle.cw_rights.specs.declared.capabilities.Caps.{Caps}
-use Rattle.cw_rights.specs.declared.capabilities.Primitive.{Primitive}
-use Rattle.cw_rights.specs.declared.capabilities.Primitive.TheVariants.{Split}
 use Rattle.cw_rights.specs.Words.{Word}
 use Rattle.cw_certs.specs.declared.moves.Move.{Move}
-use Rattle.cw_certs.specs.declared.moves.Move.TheVariants.{Skip, Try, Grant, Refuse, On, Left, Right, Opened, Failed}
+use Rattle.cw_certs.specs.declared.moves.Move.TheVariants.{Skip, Try, On}
 use Rattle.cw_certs.specs.Strategies.{How, Bad, Out, Both, Go, Into, Row, Strategy, back_of}
 use Rattle.cw_syntax.specs.Plans.{Call, Plan}
 use Rattle.cw_syntax.specs.Frames.{Todo, Frame}
@@ -16,16 +13,13 @@ use Rattle.cw_model.specs.Boards.{Problem, Phase, Visit, Asked, Free, FreeSplit,
 use Rattle.cw_model.specs.Plays.{is_at_call, is_at_end, FollowsHow, FollowsRow, FollowedPlay, Beats}
 use Rattle.cw_game.specs.declared.spots.Spot.{Spot}
 use Rattle.cw_game.specs.declared.spots.Spot.TheVariants.{Visit as VisitSpot, Asked as AskedSpot, Step, Branch, Label as LabelSpot, Open as OpenSpot, Close as CloseSpot, Call as CallSpot, SplitCall, Exit}
-use Rattle.cw_game.specs.Games.{AreStates, Game, may_refuse_in, returned, Ret, Config, at_pair, past_asked, leads_in, bad_in, weavers_in, leads_to}
+use Rattle.cw_game.specs.Games.{AreStates, Game, returned, Ret, Config, at_pair, leads_in, bad_in, leads_to}
 use Rattle.cw_game.specs.Places.{IsLaidOut, HasRoutines}
-use Rattle.cw_game.specs.Conditions.{has, IsAt, CallsIn, is_call_in, is_exit_in, HowOk, IsClosedStrategy}
+use Rattle.cw_game.specs.Conditions.{has, IsAt, is_call_in, is_exit_in, HowOk, IsClosedStrategy}
 use Rattle.cw_game.proofs.Fronts.{Front, is_step, is_branch, is_label, is_open, is_close, is_call, is_end, front_of}
 use Rattle.cw_game.proofs.Stands.{Meaning, StandsOn}
+use Rattle.cw_echeck.proofs.Leads.{empty, local_over, calls_to, weavers_to}
 use Rattle.cw_game.proofs.Link.{Stands, not_both, bad_violates, environments_turn, state_within, board_moves, start_stands, problem}
-
--- a set without members
-empty : (q : ℕ) → has 0 q ≡ false
-empty q = ap (λ b. nat_eq b 1) (bit_at-zero q)
 
 -- At the position of a call stands a call, and at that of an exit an end.
 module _ (Means : Meaning) (g : Game) where
@@ -68,51 +62,16 @@ module _ (Means : Meaning) (g : Game) where
   exit_on (_ ∷ frames) kept caps word FreeSplit p q rets h e = absurd h.1.2
   exit_on (frame ∷ frames) kept caps word Over p q rets h e = absurd h.1
 
-  -- what is neither a call nor an exit leads to the same pair over any returns
-  if_over : (yes : Bool) (c : Config) (rets : List Ret) → option_map (λ (c : Config). at_pair c.pos c.state rets) (cond yes (Some c) None) ≡ cond yes (Some (at_pair c.pos c.state rets)) None
-  if_over true c rets = refl
-  if_over false c rets = refl
-
-  granted_over : (p q : ℕ) (rets : List Ret) (a : Primitive) → option_map (λ (c : Config). at_pair c.pos c.state rets) (cond (g.states.may_grant q a) (Some (past_asked g p q a [])) None) ≡ cond (g.states.may_grant q a) (Some (past_asked g p q a rets)) None
-  granted_over p q rets Split = if_over (g.states.may_grant q Split) (at_pair (p + 2) q []) rets
-  granted_over p q rets a = if_over (g.states.may_grant q a) (at_pair (p + 1) (g.states.granted q a) []) rets
-
-  local_over : (p q : ℕ) (rets : List Ret) (spot : Option Spot) (by : Move) → is_call_in spot ≡ false → is_exit_in spot ≡ false → option_map (λ (c : Config). at_pair c.pos c.state rets) (leads_in g p q [] spot by) ≡ leads_in g p q rets spot by
-  local_over p q rets (Some (AskedSpot j i a)) Grant c e = granted_over p q rets a
-  local_over p q rets (Some (AskedSpot j i a)) Refuse c e = if_over (may_refuse_in g q a) (at_pair (p + 1) q []) rets
-  local_over p q rets (Some (CallSpot j f n)) by c e = cc
-  local_over p q rets (Some (SplitCall j f n)) by c e = cc
-  local_over p q rets (Some (Exit f)) by c e = cc
-  local_over p q rets _ On c e = refl
-  local_over p q rets _ Left c e = refl
-  local_over p q rets _ Right c e = refl
-  local_over p q rets _ Opened c e = refl
-  local_over p q rets _ Failed c e = refl
-  local_over p q rets _ Skip c e = refl
-  local_over p q rets _ Try c e = refl
-  local_over p q rets _ Grant c e = refl
-  local_over p q rets _ Refuse c e = refl
-
-  -- a call leads to its callee
-  calls_to : (p q f n : ℕ) (kept : Option ℕ) (rets : List Ret) (spot : Option Spot) → CallsIn q spot f n kept → (leads_in g p q rets spot On ≡ Some (at_pair (g.entry f) q (record { back = n; kept = kept } ∷ rets))) × (is_call_in spot ≡ true) × (bad_in g q spot ≡ false)
-  calls_to p q f n kept rets (Some (CallSpot j f2 n2)) h = rw (h.0, h.1, h.2) (refl, refl, refl)
-  calls_to p q f n kept rets (Some (SplitCall j f2 n2)) h = rw (h.0, h.1, h.2) (refl, refl, refl)
-  calls_to p q f n kept rets _ h = absurd h
-
-  weavers_to : (p q : ℕ) (rets : List Ret) (spot : Option Spot) → weavers_in spot ≡ true → (leads_in g p q rets spot Skip ≡ Some (at_pair (p + 2) q rets)) × (leads_in g p q rets spot Try ≡ Some (at_pair (p + 1) q rets)) × (bad_in g q spot ≡ false)
-  weavers_to p q rets (Some (VisitSpot j i a)) e = (refl, refl, refl)
-  weavers_to p q rets _ e = cc
-
-  module _ (plan : Plan) (right : AreStates g.policy g.spots g.states Means) (laid : IsLaidOut plan g) (has_them : HasRoutines plan g) (s : Strategy) (closed : IsClosedStrategy g s) where
-    abbrev goal : Problem
-    goal = problem Means g plan right laid has_them
+  module _ (plan : Plan) (right : AreStates g.policy g.spots g.states Means) (laid : IsLaidOut plan g) (routines : HasRoutines plan g) (s : Strategy) (closed : IsClosedStrategy g s) where
+    abbrev of_game : Problem
+    of_game = problem Means g plan right laid routines
 
     abbrev Backs : Type 0
     Backs = List (List (ℕ × ℕ))
 
     -- with enough of the weaver's choices the play from this row and board comes to a violation
     abbrev Sure : ℕ → Board → Backs → Type 0
-    Sure row b waiting = (n : ℕ) × ((choices : List Bool) → n ≤ length choices → (steps : ℕ) × FollowedPlay goal s steps row b waiting choices)
+    Sure row b waiting = (n : ℕ) × ((choices : List Bool) → n ≤ length choices → (steps : ℕ) × FollowedPlay of_game s steps row b waiting choices)
 
     -- the exit state has its row on top, from which the play is sure at each board that stands where the return leads
     abbrev Back : ℕ → List Ret → Backs → Type 0
@@ -130,15 +89,15 @@ module _ (Means : Meaning) (g : Game) where
     SureBelow i = (k : ℕ) → k < i → SureAt k
 
     -- one row more
-    by_row : (i : ℕ) (r : Row) (b : Board) (waiting : Backs) (n : ℕ) → slice_get s.rows i ≡ Some r → ((choices : List Bool) → n ≤ length choices → (steps : ℕ) × FollowsHow goal (FollowedPlay goal s steps) b waiting r.state r.how choices) → Sure i b waiting
+    by_row : (i : ℕ) (r : Row) (b : Board) (waiting : Backs) (n : ℕ) → slice_get s.rows i ≡ Some r → ((choices : List Bool) → n ≤ length choices → (steps : ℕ) × FollowsHow of_game (FollowedPlay of_game s steps) b waiting r.state r.how choices) → Sure i b waiting
     by_row i r b waiting n er h =
-        (n, λ choices le. let k = h choices le in (suc k.0, subst (λ o. FollowsRow goal (FollowedPlay goal s k.0) b waiting o choices) (sym er) k.1))
+        (n, λ choices le. let k = h choices le in (suc k.0, subst (λ o. FollowsRow of_game (FollowedPlay of_game s k.0) b waiting o choices) (sym er) k.1))
 
     -- a move of the pair, as one of the board
-    moves_to : (b : Board) (c next : Config) (by : Move) → Stands Means g b c → bad_in g c.state (slice_get g.spots c.pos) ≡ false → leads_to g c by ≡ Some next → (to : Board) × Moves goal b by to × Stands Means g to next
-    moves_to b c next by h good e = board_moves Means g plan right laid has_them b c next by h good e
+    moves_to : (b : Board) (c next : Config) (by : Move) → Stands Means g b c → bad_in g c.state (slice_get g.spots c.pos) ≡ false → leads_to g c by ≡ Some next → (to : Board) × Moves of_game b by to × Stands Means g to next
+    moves_to b c next by h good e = board_moves Means g plan right laid routines b c next by h good e
 
-    both_how : (b skipped tried_to : Board) (waiting : Backs) (state skip tried : ℕ) → Moves goal b Skip skipped → Moves goal b Try tried_to → (s0 : Sure skip skipped waiting) → (s1 : Sure tried tried_to waiting) → (choices : List Bool) → suc (s0.0 + s1.0) ≤ length choices → (steps : ℕ) × FollowsHow goal (FollowedPlay goal s steps) b waiting state (Both skip tried) choices
+    both_how : (b skipped tried_to : Board) (waiting : Backs) (state skip tried : ℕ) → Moves of_game b Skip skipped → Moves of_game b Try tried_to → (s0 : Sure skip skipped waiting) → (s1 : Sure tried tried_to waiting) → (choices : List Bool) → suc (s0.0 + s1.0) ≤ length choices → (steps : ℕ) × FollowsHow of_game (FollowedPlay of_game s steps) b waiting state (Both skip tried) choices
     both_how b skipped tried_to waiting state skip tried m0 m1 s0 s1 [] le = absurd (omega (arith, le))
     both_how b skipped tried_to waiting state skip tried m0 m1 s0 s1 (false ∷ choices) le = let k = s0.1 choices (omega (arith, le)) in (k.0, (skipped, m0, k.1))
     both_how b skipped tried_to waiting state skip tried m0 m1 s0 s1 (true ∷ choices) le = let k = s1.1 choices (omega (arith, le)) in (k.0, (tried_to, m1, k.1))
@@ -155,12 +114,12 @@ module _ (Means : Meaning) (g : Game) where
 
     by_how : (i : ℕ) (b : Board) (p q aim : ℕ) (rets : List Ret) (waiting : Backs) (how : How) → slice_get s.rows i ≡ Some (record { pos = p; state = q; aim = aim; how = how }) → HowOk g s i p q aim how → SureBelow i → Stands Means g b (at_pair p q rets) → Pays aim rets waiting → Sure i b waiting
     by_how i b p q aim rets waiting Bad er ok below h pays =
-        let v = bad_violates Means g plan right laid has_them b (at_pair p q rets) h ok in
+        let v = bad_violates Means g plan right laid routines b (at_pair p q rets) h ok in
         by_row i _ b waiting 0 er (λ choices le. (0, v))
     by_how i b p q aim rets waiting Out er ok below h pays =
-        out_how i _ b p q ok.0 rets waiting er refl refl ok.1 h (pays q (state_within Means g plan right laid has_them b (at_pair p q rets) h) ok.3)
+        out_how i _ b p q ok.0 rets waiting er refl refl ok.1 h (pays q (state_within Means g plan right laid routines b (at_pair p q rets) h) ok.3)
     by_how i b p q aim rets waiting (Both skip tried) er ok below h pays =
-        let w = weavers_to p q rets (slice_get g.spots p) ok.2 in
+        let w = weavers_to g p q rets (slice_get g.spots p) ok.2 in
         let skipped = moves_to b (at_pair p q rets) (at_pair (p + 2) q rets) Skip h w.2 w.0 in
         let tried_to = moves_to b (at_pair p q rets) (at_pair (p + 1) q rets) Try h w.2 w.1 in
         let s0 = below skip ok.0 skipped.0 (p + 2) q aim rets waiting ok.3 skipped.2 pays in
@@ -168,15 +127,15 @@ module _ (Means : Meaning) (g : Game) where
         by_row i _ b waiting (suc (s0.0 + s1.0)) er (λ choices le. both_how b skipped.0 tried_to.0 waiting q skip tried skipped.1 tried_to.1 s0 s1 choices le)
     by_how i b p q aim rets waiting (Go by row) er ok below h pays =
         let t = ok.2 in
-        let l = sym (local_over p q rets (slice_get g.spots p) by ok.1.2 ok.1.3) ∙ ap (option_map (λ (c : Config). at_pair c.pos c.state rets)) t.2 in
+        let l = sym (local_over g p q rets (slice_get g.spots p) by ok.1.2 ok.1.3) ∙ ap (option_map (λ (c : Config). at_pair c.pos c.state rets)) t.2 in
         let to = moves_to b (at_pair p q rets) (at_pair t.0 t.1 rets) by h ok.1.1 l in
-        let turn = environments_turn Means g plan right laid has_them b (at_pair p q rets) h ok.1.0 in
+        let turn = environments_turn Means g plan right laid routines b (at_pair p q rets) h ok.1.0 in
         let k = below row ok.0 to.0 t.0 t.1 aim rets waiting t.3 to.2 pays in
         by_row i _ b waiting k.0 er (λ choices le. let w = k.1 choices le in (w.0, (turn, (to.0, to.1, w.1))))
     by_how i b p q aim rets waiting (Into callee backs) er ok below h pays =
         let t = ok.1 in
         let ret : Ret = record { back = t.1; kept = t.2 } in
-        let l = calls_to p q t.0 t.1 t.2 rets (slice_get g.spots p) t.4 in
+        let l = calls_to g p q t.0 t.1 t.2 rets (slice_get g.spots p) t.4 in
         let to = moves_to b (at_pair p q rets) (at_pair (g.entry t.0) q (ret ∷ rets)) On h l.2 l.0 in
         let e = call_on b.stack b.kept b.caps b.word b.phase p q rets h l.1 in
         let deeper : Pays t.3 (ret ∷ rets) (backs ∷ waiting) = λ x lt y. let z = t.6 x lt y in (z.0, z.1, λ b2 h2. below z.0 z.2 b2 t.1 (returned g.states t.2 x) aim rets waiting z.3 h2 pays) in
@@ -192,7 +151,7 @@ module _ (Means : Meaning) (g : Game) where
     wins row at b h = sure (suc row) row (omega arith) b (g.entry g.main) g.states.start 0 [] [] at h (λ x lt y. absurd (not_both (has 0 x) y (empty x)))
 
 pub closed_beats : (Means : Meaning) (g : Game) (p : Problem) (e : g.policy ≡ p.policy) → AreStates g.policy g.spots g.states Means → IsLaidOut p.plan g → HasRoutines p.plan g → (s : Strategy) (row : ℕ) → IsClosedStrategy g s → IsAt s row (g.entry g.main) g.states.start 0 → Beats p s row
-closed_beats Means g p e right laid has_them s row closed at =
+closed_beats Means g p e right laid routines s row closed at =
     let q : Problem = record { plan = p.plan; policy = g.policy } in
-    let k = wins Means g p.plan right laid has_them s closed row at (start_board q) (start_stands Means g q refl right laid has_them) in
+    let k = wins Means g p.plan right laid routines s closed row at (start_board q) (start_stands Means g q refl right laid routines) in
     subst (λ y. Beats y s row) (ap (λ policy. record { plan = p.plan; policy = policy }) e) (k.0, λ choices l. k.1 choices (omega (arith, l)))
