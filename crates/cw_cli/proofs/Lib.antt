@@ -4,6 +4,7 @@ mod Missing
 mod Spelled
 mod FirstForms
 mod Policies
+mod StartRows
 mod Starts
 mod Weaves
 mod Dues

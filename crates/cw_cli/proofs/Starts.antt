@@ -1,24 +1,27 @@
--- The table of a policy that tests ambient authority is sound, and where there is none the start is lost.
-use Rattle.std.proofs.Common.{◌≡◌, ℕ, zero, suc, ◌+◌, ◌*◌, ◌<◌, ◌≤◌, List, length, true, refl, ap, arith}
+-- The table of a policy that tests ambient authority is sound and lazy, and the strategy where there is none beats every weaver.
+use Rattle.std.proofs.Common.{◌≡◌, ℕ, ◌+◌, ◌*◌, ◌<◌, ◌≤◌, List, length, true, refl, ap, arith}
 use Rattle.cw_rights.specs.Policies.{PlainPolicy}
 use Rattle.cw_syntax.specs.Plans.{plan_of}
 use Rattle.cw_syntax.specs.Trees.{File}
+use Rattle.cw_certs.specs.Strategies.{Strategy}
 use Rattle.cw_certs.specs.Tables.{Table}
 use Rattle.cw_model.specs.Boards.{names_of, problem_of}
-use Rattle.cw_model.specs.Runs.{Sound}
+use Rattle.cw_model.specs.Runs.{Sound, Lazy}
 use Rattle.cw_game.specs.declared.ambient.AmbientTest.{AmbientTest}
 use Rattle.cw_game.specs.declared.ambient.Node.{Node}
-use Rattle.cw_game.specs.declared.ambient.Numbering.{Numbering}
-use Rattle.cw_game.specs.declared.ambient.Numbering.TheVariants.{LettersLast, LettersFirst, NoLetter}
 use Rattle.cw_game.specs.Ambient.{IsAmbient, AmbientMeans, ambient_game, numbering_of, start_of}
 use Rattle.cw_game.specs.Games.{Game}
-use Rattle.cw_game.specs.Places.{IsLaidOut}
-use Rattle.cw_game.specs.Conditions.{is_closed_table}
+use Rattle.cw_game.specs.Places.{HasRoutines, IsLaidOut}
+use Rattle.cw_game.specs.Conditions.{is_closed_table, IsAt, IsClosedStrategy}
 use Rattle.cw_game.proofs.Ambients.{ambient_are_states}
 use Rattle.cw_game.proofs.Reached.{are_reached}
+use Rattle.cw_game.specs.Necessity.{TriesOnlyLost}
+use Rattle.cw_wcheck.proofs.Lazies.{lazy}
 use Rattle.cw_wcheck.proofs.Sounds.{sound}
-use Rattle.cw_tables.specs.Heights.{height_at, AreHeightsOf}
-use Rattle.cw_cli.specs.Due.{StartIsLost}
+use Rattle.cw_echeck.proofs.Wins.{closed_beats}
+use Rattle.cw_echeck.specs.Beating.{IsGameOf}
+use Rattle.cw_cli.specs.Due.{BeatsFromStart}
+use Rattle.cw_cli.proofs.StartRows.{first_row}
 
 module _ (policy : PlainPolicy) (source : List ℕ) (file : File) (tests : List AmbientTest) (nodes : List Node) (ambient : IsAmbient policy tests) (laid : IsLaidOut (plan_of (names_of policy) source file) (ambient_game policy tests nodes)) where
   abbrev game : Game
@@ -27,19 +30,17 @@ module _ (policy : PlainPolicy) (source : List ℕ) (file : File) (tests : List 
   pub table_is_sound : (table : Table) → is_closed_table game table ≡ true → Sound (problem_of policy source file) table
   table_is_sound table closed = sound (AmbientMeans policy (numbering_of tests nodes)) (problem_of policy source file) game table refl (ambient_are_states policy tests nodes ambient) laid closed (omega (arith, ap length ambient.limits))
 
-  start_below : (numbering : Numbering) → start_of numbering < 4
-  start_below LettersLast = omega arith
-  start_below LettersFirst = omega arith
-  start_below NoLetter = omega arith
+  pub table_is_lazy : (table : Table) → HasRoutines (plan_of (names_of policy) source file) game → is_closed_table game table ≡ true → TriesOnlyLost game table → Lazy (problem_of policy source file) table
+  table_is_lazy table has closed lost = lazy (AmbientMeans policy (numbering_of tests nodes)) (problem_of policy source file) game table refl (ambient_are_states policy tests nodes ambient) laid has closed lost
 
-  with_height : (hs : List ℕ) (h : ℕ) → AreHeightsOf game hs → height_at hs 0 (start_of (numbering_of tests nodes)) ≡ h → 0 < h → StartIsLost (problem_of policy source file)
-  with_height hs zero heights e some = absurd (omega (arith, some))
-  with_height hs (suc n) heights e some =
-      let lost = heights.there 0 (start_of (numbering_of tests nodes)) n (λ q. true) (start_below (numbering_of tests nodes)) e in
-      (game, refl, laid, are_reached policy game.spots game.states (AmbientMeans policy (numbering_of tests nodes)) (ambient_are_states policy tests nodes ambient), (suc n, lost.0))
+  -- the game is the program's
+  pub is_game : HasRoutines (plan_of (names_of policy) source file) game → IsGameOf (problem_of policy source file) game
+  is_game has = record { policy = refl; laid = laid; routines = has; states = are_reached policy game.spots game.states (AmbientMeans policy (numbering_of tests nodes)) (ambient_are_states policy tests nodes ambient) }
 
-  pub start_is_lost : (hs : List ℕ) → AreHeightsOf game hs → 0 < height_at hs 0 (start_of (numbering_of tests nodes)) → StartIsLost (problem_of policy source file)
-  start_is_lost hs heights some = with_height hs (height_at hs 0 (start_of (numbering_of tests nodes))) heights refl some
+  pub strategy_beats : (s : Strategy) → HasRoutines (plan_of (names_of policy) source file) game → IsClosedStrategy game s → (row : ℕ) × IsAt s row 0 (start_of (numbering_of tests nodes)) 0 → BeatsFromStart (problem_of policy source file) s
+  strategy_beats s has closed some =
+      let first = first_row s 0 (start_of (numbering_of tests nodes)) 0 some.0 some.1 in
+      (game, first.0, is_game has, first.1, closed_beats (AmbientMeans policy (numbering_of tests nodes)) game (problem_of policy source file) refl (ambient_are_states policy tests nodes ambient) laid has s first.0 closed first.1.0)
 
 pub few_nodes : (nodes points labels : ℕ) → nodes ≡ points + 2 * (labels + 1) → points ≤ 1024 → labels ≤ points → nodes < 1048576
 few_nodes nodes points labels e p q = omega (arith, e, p, q)

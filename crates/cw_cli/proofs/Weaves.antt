@@ -7,20 +7,24 @@ use Rattle.cw_syntax.specs.declared.marks.SeamMark.{SeamMark as MarkData}
 use Rattle.cw_rights.specs.Policies.{PlainPolicy}
 use Rattle.cw_syntax.specs.Marks.{SeamMark, mark_of, marks_of, AreInOrder}
 use Rattle.cw_syntax.specs.Plans.{plan_of}
+use Rattle.cw_certs.specs.Strategies.{Strategy}
 use Rattle.cw_certs.specs.Tables.{Table}
-use Rattle.cw_model.specs.Boards.{names_of, problem_of}
-use Rattle.cw_model.specs.Runs.{Sound}
+use Rattle.cw_model.specs.Boards.{names_of, problem_of, start_board}
+use Rattle.cw_model.specs.Runs.{Sound, Lazy}
 use Rattle.cw_emit.specs.Cut.{HasNone, cut}
 use Rattle.cw_emit.proofs.Premises.{none_without_a_star, plain_without_descriptors}
 use Rattle.cw_syntax.specs.Trees.{Statement, Stated, Form, Block, Declares, Evaluates, Empties, Labels, Chooses, Whiles, Does, Fors, Breaks, Continues, Returns, Perhaps, nothing, just, Statements, nil, cons, Definition, File}
 use Rattle.cw_emit.specs.Woven.{IsPlainKind, ArePlainMarks, ArePlainNames, Stands}
+use Rattle.cw_text.specs.StrategyText.{strategy_text}
+use Rattle.cw_wcheck.proofs.Beaten.{beaten_is_forced}
+use Rattle.cw_wcheck.proofs.Runs.{never_forced}
 use Rattle.cw_parse.specs.First.{ReadsFirst}
 use Rattle.cw_parse.proofs.Star.{source_free}
 use Rattle.cw_points.specs.First.{labels_of, labels_in}
 use Rattle.cw_points.specs.Marked.{label_marks, label_marks_of, label_marks_arm, label_marks_in, marks_from}
 use Rattle.cw_points.specs.Order.{Ascend}
 use Rattle.cw_points.proofs.Marking.{marks_are}
-use Rattle.cw_cli.specs.Due.{IsPlainPolicy, IsWoven}
+use Rattle.cw_cli.specs.Due.{BeatsFromStart, IsPlainPolicy, IsRefuted, IsWoven}
 use Rattle.cw_cli.proofs.FirstForms.{is_first_form}
 
 pub in_order : (low at len : ℕ) (ms : List SeamMark) → at ≤ low → at ≤ len → Ascend low len ms → AreInOrder at len ms
@@ -98,12 +102,22 @@ pub is_woven : (plain : PlainPolicy) (source : List ℕ) (file : File) (marks : 
     → Stands bytes source (map mark_of marks) table plain
     → (HasNone (codes "cw{*") source → ArePlainNames plain → ArePlainMarks source (map mark_of marks) → cut bytes ≡ source)
     → Sound (problem_of plain source file) table
+    → Lazy (problem_of plain source file) table
     → IsWoven plain source file bytes
-is_woven plain source file marks table bytes reads policy same stands cuts sound =
+is_woven plain source file marks table bytes reads policy same stands cuts sound lazy =
     let are = marks_are (names_of plain) source file (is_first_form source file reads) ∙ sym same in
     let plain_marks = subst (ArePlainMarks source) are (marks_plain source file.functions) in (
       table,
       subst (λ ms. Stands bytes source ms table plain) same stands,
       cuts (has_no_opening source file reads) (plain_without_descriptors plain policy.descriptors) plain_marks,
       sound,
+      lazy,
+      never_forced (problem_of plain source file) table sound,
     )
+
+pub is_refuted : (plain : PlainPolicy) (source : List ℕ) (file : File) (strategy : Strategy) (bytes : List ℕ)
+    → bytes ≡ strategy_text strategy → BeatsFromStart (problem_of plain source file) strategy → IsRefuted plain source file bytes
+is_refuted plain source file strategy bytes spelled beats =
+    let p = problem_of plain source file in
+    let won = beats.4 in
+    (strategy, spelled, beats, beaten_is_forced p strategy won.0 beats.1 (start_board p) [] won.1)

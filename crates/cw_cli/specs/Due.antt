@@ -1,36 +1,41 @@
 -- What is due for the bytes of a policy and of a source.
-use Rattle.std.specs.Prelude.{◌≡◌, ◌⊎◌, ℕ, ◌<◌, List, [], length, Some, None, true}
+use Rattle.std.specs.Prelude.{◌≡◌, ℕ, ◌<◌, List, [], length, Some, None}
 use Rattle.cw_rights.specs.Policies.{PlainPolicy}
 use Rattle.cw_syntax.specs.Trees.{File}
 use Rattle.cw_syntax.specs.Marks.{marks_of}
 use Rattle.cw_certs.specs.Tables.{Table}
-use Rattle.cw_model.specs.Boards.{Problem, problem_of}
-use Rattle.cw_model.specs.Runs.{Sound}
+use Rattle.cw_certs.specs.Strategies.{Strategy}
+use Rattle.cw_model.specs.Boards.{Problem, problem_of, start_board, Forced}
+use Rattle.cw_model.specs.Runs.{Sound, Lazy}
+use Rattle.cw_model.specs.Plays.{Beats}
 use Rattle.cw_game.specs.declared.ambient.AmbientTest.{AmbientTest}
 use Rattle.cw_game.specs.Ambient.{IsAmbient}
-use Rattle.cw_game.specs.Games.{AreStates, Game, IsLost}
-use Rattle.cw_game.specs.Reached.{Reached}
-use Rattle.cw_game.specs.Places.{IsLaidOut}
+use Rattle.cw_game.specs.Games.{Game}
+use Rattle.cw_game.specs.Conditions.{IsAt}
 use Rattle.cw_parse.specs.First.{ReadsFirst}
 use Rattle.cw_policy.specs.Answer.{SpellsFirst}
+use Rattle.cw_echeck.specs.Beating.{IsGameOf}
+use Rattle.cw_text.specs.StrategyText.{strategy_text}
 use Rattle.cw_emit.specs.Cut.{cut}
 use Rattle.cw_emit.specs.Woven.{Stands}
 use Rattle.cw_cli.specs.declared.answer.Answer.{Answer}
-use Rattle.cw_cli.specs.declared.answer.Answer.TheVariants.{SourceNotYet as SourceData, PolicyNotYet as PolicyData, NoLabel as LabelData, Woven as WovenData}
+use Rattle.cw_cli.specs.declared.answer.Answer.TheVariants.{SourceNotYet as SourceData, PolicyNotYet as PolicyData, NoLabel as LabelData, Woven as WovenData, Refuted as RefutedData}
 use Rattle.cw_cli.specs.Labels.{missing_label}
 
--- What may be due: a refusal of the source, of the policy, of a label of the policy, or a text.
+-- What may be due: a refusal of the source, of the policy, of a label of the policy, a woven text, or the text of a strategy.
 pub data Due : Type 0 where
   SourceNotYet : Due
   PolicyNotYet : Due
   NoLabel : (name : List ℕ) → Due
   Woven : (text : List ℕ) → Due
+  Refuted : (text : List ℕ) → Due
 
 abbrev pub due_of : Answer → Due
 due_of SourceData = SourceNotYet
 due_of PolicyData = PolicyNotYet
 due_of (LabelData name) = NoLabel name.items
 due_of (WovenData text) = Woven text.items
+due_of (RefutedData text) = Refuted text.items
 
 -- the program that the source is read as, and the policy that the text spells, each of the first form
 abbrev pub AreRead : List ℕ → List ℕ → File → PlainPolicy → Type 0
@@ -44,33 +49,47 @@ pub record IsPlainPolicy (plain : PlainPolicy) : Type 0 where
   pub labels : length plain.labels < 65536
   pub tests : (tests : List AmbientTest) × IsAmbient plain tests
 
--- The start is lost: in a game that is laid out for the program, and whose states are the policy's, the pair of the start has a
--- height. Then the environment can force a violation, and which strategy does so isn't written yet.
-abbrev pub StartIsLost : Problem → Type 0
-StartIsLost p = (g : Game) × (g.policy ≡ p.policy) × IsLaidOut p.plan g × AreStates g.policy g.spots g.states (Reached g.policy g.spots g.states) × IsLost g (g.entry g.main) g.states.start (λ q. true)
+-- The strategy's start row: its first one at the position and the state of the start, with an empty aim.
+abbrev pub IsStartRow : Game → Strategy → ℕ → Type 0
+IsStartRow g s row = IsAt s row (g.entry g.main) g.states.start 0 × ((i : ℕ) → i < row → IsAt s i (g.entry g.main) g.states.start 0 → ⊥)
+
+-- the strategy beats every weaver of the program from its start row
+abbrev pub BeatsFromStart : Problem → Strategy → Type 0
+BeatsFromStart p s = (g : Game) × (row : ℕ) × IsGameOf p g × IsStartRow g s row × Beats p s row
 
 -- The text stands for the source and a table, it is the source but for marked insertions, and every woven run of the program with
--- this table, of any length, meets the policy and keeps exactly the source's paths.
+-- this table, of any length, meets the policy and keeps exactly the source's paths; a primitive is tried only where skipping it is lost.
+-- So nothing can force a violation from the start.
 abbrev pub IsWoven : PlainPolicy → List ℕ → File → List ℕ → Type 0
 IsWoven plain source file text =
     (table : Table)
     × Stands text source (marks_of (problem_of plain source file).plan) table plain
     × (cut text ≡ source)
     × Sound (problem_of plain source file) table
+    × Lazy (problem_of plain source file) table
+    × ((n : ℕ) → Forced (problem_of plain source file) n (start_board (problem_of plain source file)) → ⊥)
 
--- What is due where each label of the policy is in the source: the policy is refused where the start is lost, and else there is a text.
+-- The text is that of a strategy which from its start row beats every weaver of the program: whatever is tried, and wherever, it comes to a
+-- violation. So a violation is forced from the start, after some number of moves.
+abbrev pub IsRefuted : PlainPolicy → List ℕ → File → List ℕ → Type 0
+IsRefuted plain source file text =
+    (strategy : Strategy)
+    × (text ≡ strategy_text strategy)
+    × BeatsFromStart (problem_of plain source file) strategy
+    × ((n : ℕ) × Forced (problem_of plain source file) n (start_board (problem_of plain source file)))
+
+-- What is due where each label of the policy is in the source: a woven text, or the text of a strategy.
 abbrev pub IsDueOf : PlainPolicy → List ℕ → File → Due → Type 0
-IsDueOf plain source file PolicyNotYet = StartIsLost (problem_of plain source file)
 IsDueOf plain source file (Woven text) = IsWoven plain source file text
+IsDueOf plain source file (Refuted text) = IsRefuted plain source file text
 IsDueOf plain source file due = ⊥
 
 abbrev pub IsDue : List ℕ → List ℕ → Due → Type 0
 IsDue policy source SourceNotYet = (file : File) → ReadsFirst source file → ⊥
-IsDue policy source PolicyNotYet =
-    (file : File) × ReadsFirst source file
-    × (((plain : PlainPolicy) → SpellsFirst policy plain → ⊥)
-    ⊎ ((plain : PlainPolicy) × SpellsFirst policy plain × (missing_label source file plain.labels ≡ None) × StartIsLost (problem_of plain source file)))
+IsDue policy source PolicyNotYet = (file : File) × ReadsFirst source file × ((plain : PlainPolicy) → SpellsFirst policy plain → ⊥)
 IsDue policy source (NoLabel name) =
     (file : File) × (plain : PlainPolicy) × AreRead policy source file plain × (missing_label source file plain.labels ≡ Some name)
 IsDue policy source (Woven text) =
     (file : File) × (plain : PlainPolicy) × AreRead policy source file plain × (missing_label source file plain.labels ≡ None) × IsWoven plain source file text
+IsDue policy source (Refuted text) =
+    (file : File) × (plain : PlainPolicy) × AreRead policy source file plain × (missing_label source file plain.labels ≡ None) × IsRefuted plain source file text

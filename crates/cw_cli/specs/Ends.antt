@@ -5,11 +5,12 @@ use Rattle.cw_io.specs.declared.fault.ReadFault.TheVariants.{TooLong}
 use Rattle.cw_io.specs.Files.{FilesByName, IsAnswer}
 use Rattle.cw_io.specs.Pieces.{Grows}
 use Rattle.cw_cli.specs.declared.ending.Ending.{Ending}
-use Rattle.cw_cli.specs.declared.ending.Ending.TheVariants.{Woven as WovenEnd, SourceNotYet as SourceEnd, PolicyNotYet as PolicyEnd, NoLabel as LabelEnd, PolicyTooLong, SourceTooLong, PolicyUnread, SourceUnread, Unwritten, Memory}
-use Rattle.cw_cli.specs.Due.{Due, SourceNotYet, PolicyNotYet, NoLabel, Woven, IsDue}
+use Rattle.cw_cli.specs.declared.ending.Ending.TheVariants.{Woven as WovenEnd, Refuted as RefutedEnd, SourceNotYet as SourceEnd, PolicyNotYet as PolicyEnd, NoLabel as LabelEnd, PolicyTooLong, SourceTooLong, PolicyUnread, SourceUnread, Unwritten, Memory}
+use Rattle.cw_cli.specs.Due.{Due, SourceNotYet, PolicyNotYet, NoLabel, Woven, Refuted, IsDue}
 
 abbrev pub status_of : Ending → ℕ
 status_of WovenEnd = 0
+status_of RefutedEnd = 1
 status_of SourceEnd = 3
 status_of PolicyEnd = 4
 status_of (LabelEnd name) = 4
@@ -52,7 +53,7 @@ abbrev pub GrowsByFront : Option (List ℕ) → Option (List ℕ) → List ℕ �
 GrowsByFront old new bytes = (count : ℕ) × Grows old new (take count bytes)
 
 -- What becomes of what is due, by what the output had taken before and after, and its count of faults before and after.
--- A woven text is appended whole, or after a fault of the output or want of memory a front of it; for all else nothing is.
+-- A text is appended whole, or after a fault of the output or want of memory a front of it; for all else nothing is.
 abbrev pub Delivered : Option (List ℕ) → Option (List ℕ) → ℕ → ℕ → Due → Ending → Type 0
 Delivered old new faults faults' SourceNotYet SourceEnd = new ≡ old
 Delivered old new faults faults' PolicyNotYet PolicyEnd = new ≡ old
@@ -60,6 +61,9 @@ Delivered old new faults faults' (NoLabel name) (LabelEnd label) = (label.items 
 Delivered old new faults faults' (Woven text) WovenEnd = Grows old new text
 Delivered old new faults faults' (Woven text) Unwritten = GrowsByFront old new text × Rose faults faults'
 Delivered old new faults faults' (Woven text) Memory = GrowsByFront old new text
+Delivered old new faults faults' (Refuted text) RefutedEnd = Grows old new text
+Delivered old new faults faults' (Refuted text) Unwritten = GrowsByFront old new text × Rose faults faults'
+Delivered old new faults faults' (Refuted text) Memory = GrowsByFront old new text
 Delivered old new faults faults' due ending = ⊥
 
 -- Either the two files weren't read, or there was no memory, and nothing was appended; or they were read, and the ending is that

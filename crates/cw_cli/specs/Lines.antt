@@ -2,7 +2,7 @@
 use Rattle.std.specs.Prelude.{◌≡◌, ℕ, List, [], ◌∷◌, ◌++◌, Bool, true, false, Option, Some, None, codes, Result}
 use Rattle.cw_io.specs.Pieces.{Puts}
 use Rattle.cw_cli.specs.declared.ending.Ending.{Ending}
-use Rattle.cw_cli.specs.declared.ending.Ending.TheVariants.{Woven, SourceNotYet, PolicyNotYet, NoLabel, PolicyTooLong, SourceTooLong, PolicyUnread, SourceUnread, Unwritten, Memory}
+use Rattle.cw_cli.specs.declared.ending.Ending.TheVariants.{Woven, Refuted, SourceNotYet, PolicyNotYet, NoLabel, PolicyTooLong, SourceTooLong, PolicyUnread, SourceUnread, Unwritten, Memory}
 use Rattle.cw_cli.specs.Ends.{GrowsByFront}
 
 -- a line of some words and a name behind them
@@ -14,9 +14,10 @@ abbrev pub usage_line : Bool → List ℕ
 usage_line true = line (codes "usage: capweave weave POLICY SOURCE") []
 usage_line false = line (codes "usage: capweave COMMAND ARGUMENTS") []
 
--- the line of an ending, by the names of the policy and of the source; a text that was woven has none
+-- the line of an ending, by the names of the policy and of the source; where a text was put there is none
 abbrev pub line_of : List ℕ → List ℕ → Ending → Option (List ℕ)
 line_of policy source Woven = None
+line_of policy source Refuted = None
 line_of policy source SourceNotYet = Some (line (codes "source: not yet") [])
 line_of policy source PolicyNotYet = Some (line (codes "policy: not yet") [])
 line_of policy source (NoLabel name) = Some (line (codes "policy: no label ") name.items)

@@ -1,16 +1,17 @@
 //! What is due for a policy and a source.
 
-ghost use Rattle.std.specs.Prelude.{◌≡◌, ◌≤◌, ◌<◌, List, [], length, map, IfOk, IfSome, IfNone, None};
+ghost use Rattle.std.specs.Prelude.{◌≡◌, ◌≤◌, ◌<◌, List, [], length, map, IfOk, IfSome, None};
 ghost use Rattle.cw_rights.specs.Policies.{policy_of};
 ghost use Rattle.cw_syntax.specs.Trees.{file_of};
-ghost use Rattle.cw_certs.specs.Tables.{table_of};
+ghost use Rattle.cw_certs.specs.Strategies.{strategy_of};
 ghost use Rattle.cw_model.specs.Boards.{problem_of};
-ghost use Rattle.cw_model.specs.Runs.{Sound};
 ghost use Rattle.cw_parse.specs.First.{ReadsFirst};
-ghost use Rattle.cw_cli.specs.Due.{due_of, IsDue, IsDueOf, IsPlainPolicy, StartIsLost};
+ghost use Rattle.cw_text.specs.StrategyText.{strategy_text};
+ghost use Rattle.cw_cli.specs.Due.{due_of, IsDue, IsDueOf, IsPlainPolicy};
+ghost use Rattle.cw_cli.specs.Verdicts.{IsVerdict};
 
 use crate::labels::missing_label;
-use cw_certs::WeaverCert;
+use cw_certs::{EnvCert, WeaverCert};
 use cw_core::NoMemory;
 use cw_emit::weave_text;
 use cw_game::ambient::AmbientPolicy;
@@ -21,7 +22,9 @@ use cw_policy::{ambient_tests, read_first_policy};
 use cw_rights::Policy;
 use cw_syntax::program::Program;
 use cw_tables::heights::{height_at, heights};
+use cw_tables::strategies::env_table;
 use cw_tables::tables::weaver_table;
+use cw_text::put_strategy;
 use std::alloc::Global;
 
 /// What is due for a policy and a source.
@@ -35,6 +38,8 @@ pub enum Answer {
     NoLabel(Vec<u8>),
     /// The woven text.
     Woven(Vec<u8>),
+    /// The text of a strategy that beats every weaver.
+    Refuted(Vec<u8>),
 }
 
 fn copied(alloc: Global, bytes: &[u8]) -> Result<Vec<u8>, NoMemory>
@@ -45,18 +50,24 @@ fn copied(alloc: Global, bytes: &[u8]) -> Result<Vec<u8>, NoMemory>
     Ok(copy)
 }
 
-/// A sound table of the program, and none where the start is lost. A table of more than 65,536 rows, which a
-/// program of at most 1,024 points hasn't, would be want of memory.
-fn sound_table(
+/// Who wins: the weaver by a sound table, or the environment by a strategy that beats every weaver.
+#[derive(Drop)]
+pub(crate) enum Verdict {
+    Sound(WeaverCert),
+    Beaten(EnvCert),
+}
+
+/// The lazy table of the program where its start isn't lost, and else the strategy by least heights. One of more than
+/// 65,536 rows, which a program of at most 1,024 points hasn't, would be want of memory.
+fn solved(
     alloc: Global,
     source: &[u8],
     program: &Program,
     policy: &Policy,
-) -> Result<Option<WeaverCert>, NoMemory>
+) -> Result<Verdict, NoMemory>
     requires reads { ReadsFirst source.now (file_of program.now) }
     requires plain { IsPlainPolicy (policy_of policy.now) }
-    ensures sound { IfOk result (λ found. IfSome found (λ table. Sound (problem_of (policy_of policy.now) source.now (file_of program.now)) (table_of table))) }
-    ensures lost { IfOk result (λ found. IfNone found (StartIsLost (problem_of (policy_of policy.now) source.now (file_of program.now)))) }
+    ensures { IfOk result (IsVerdict (problem_of (policy_of policy.now) source.now (file_of program.now))) }
 {
     let nodes = positions(alloc, source, program, &policy.labels)?;
     let Some(tests) = ambient_tests(alloc, policy)? else {
@@ -65,16 +76,29 @@ fn sound_table(
     let ambient = AmbientPolicy::new(policy.refuse_enter, tests, &nodes);
     let hs = heights(alloc, &nodes, &ambient)?;
     if height_at(&hs, 0, ambient.numbering.start()) > 0 {
-        return Ok(None);
-    }
-    match weaver_table(alloc, &nodes, &ambient, &hs)? {
-        Some(table) => Ok(Some(table)),
-        None => Err(NoMemory),
+        match env_table(alloc, &nodes, &ambient, &hs)? {
+            Some(strategy) => Ok(Verdict::Beaten(strategy)),
+            None => Err(NoMemory),
+        }
+    } else {
+        match weaver_table(alloc, &nodes, &ambient, &hs)? {
+            Some(table) => Ok(Verdict::Sound(table)),
+            None => Err(NoMemory),
+        }
     }
 }
 
+/// The text of a strategy.
+fn spelled(alloc: Global, strategy: &EnvCert) -> Result<Vec<u8>, NoMemory>
+    ensures { IfOk result (λ text. text.items ≡ strategy_text (strategy_of strategy.now)) }
+{
+    let mut text = Vec::new(alloc);
+    put_strategy(strategy, &mut text)?;
+    Ok(text)
+}
+
 /// What is due for a program and a policy that has no label that the source hasn't.
-fn woven(
+fn judged(
     alloc: Global,
     source: &[u8],
     program: &Program,
@@ -84,12 +108,12 @@ fn woven(
     requires plain { IsPlainPolicy (policy_of policy.now) }
     ensures { IfOk result (λ answer. IsDueOf (policy_of policy.now) source.now (file_of program.now) (due_of answer)) }
 {
-    match sound_table(alloc, source, program, policy)? {
-        None => Ok(Answer::PolicyNotYet),
-        Some(table) => {
+    match solved(alloc, source, program, policy)? {
+        Verdict::Sound(table) => {
             let marks = marks(alloc, program)?;
             Ok(Answer::Woven(weave_text(alloc, source, &marks, policy, &table)?))
         }
+        Verdict::Beaten(strategy) => Ok(Answer::Refuted(spelled(alloc, &strategy)?)),
     }
 }
 
@@ -106,6 +130,6 @@ pub fn due(alloc: Global, policy: &[u8], source: &[u8]) -> Result<Answer, NoMemo
     };
     match missing_label(source, &program, &plain.labels) {
         Some(name) => Ok(Answer::NoLabel(copied(alloc, name)?)),
-        None => woven(alloc, source, &program, &plain),
+        None => judged(alloc, source, &program, &plain),
     }
 }

@@ -36,6 +36,11 @@ fn deliver<O: Sink>(answer: Answer, out: &mut O) -> Ending
             Err(SinkFault::Failed) => Ending::Unwritten,
             Err(SinkFault::NoMemory) => Ending::Memory,
         },
+        Answer::Refuted(text) => match out.put(&text) {
+            Ok(()) => Ending::Refuted,
+            Err(SinkFault::Failed) => Ending::Unwritten,
+            Err(SinkFault::NoMemory) => Ending::Memory,
+        },
     }
 }
 

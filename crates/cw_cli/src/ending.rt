@@ -3,11 +3,13 @@
 ghost use Rattle.std.specs.Prelude.{◌≡◌};
 ghost use Rattle.cw_cli.specs.Ends.{status_of};
 
-/// How a run over a named policy and a named source ends: the text was put, or why it wasn't.
+/// How a run over a named policy and a named source ends: a text was put, or why none was.
 #[derive(Drop)]
 pub enum Ending {
     /// The woven text was put whole.
     Woven,
+    /// The strategy that beats every weaver was put whole.
+    Refuted,
     /// The source isn't of the form that is woven yet.
     SourceNotYet,
     /// The policy isn't of the form that is woven yet.
@@ -34,6 +36,7 @@ pub(crate) fn status(ending: &Ending) -> u8
 {
     match ending {
         Ending::Woven => 0,
+        Ending::Refuted => 1,
         Ending::SourceNotYet => 3,
         Ending::PolicyNotYet => 4,
         Ending::NoLabel(_) => 4,

@@ -64,6 +64,52 @@ CW_AT(2,0,0)
 CW_DONE
 /*}cw*/int main(void){/*cw{*/CW_ENTRY(0);/*}cw*/while(c){o:/*cw{*/CW_LABEL(1)/*}cw*/;p:/*cw{*/CW_LABEL(2)/*}cw*/;}return 0;}";
 
+const TWO_LABELS: &str = "capweave strategy 1
+states 4
+0 5 0 0x0 bad
+1 9 3 0x0 bad
+2 8 3 0x0 grant 1
+3 7 3 0x0 both 1 2
+4 6 3 0x0 on 3
+5 5 1 0x0 on 4
+6 4 0 0x0 grant 5
+7 4 1 0x0 grant 5
+8 3 0 0x0 both 0 6
+9 3 1 0x0 both 5 7
+10 2 0 0x0 on 8
+11 2 1 0x0 on 9
+12 1 0 0x0 grant 11
+13 0 0 0x0 both 10 12
+end
+";
+
+const TWO_LABELS_IN_A_LOOP: &str = "capweave strategy 1
+states 4
+0 6 1 0x0 bad
+1 6 3 0x0 bad
+2 10 2 0x0 bad
+3 5 0 0x0 grant 0
+4 5 1 0x0 grant 0
+5 5 3 0x0 grant 1
+6 4 1 0x0 both 0 4
+7 4 3 0x0 both 1 5
+8 3 1 0x0 left 6
+9 3 3 0x0 left 7
+10 2 1 0x0 on 8
+11 11 3 0x0 on 9
+12 1 0 0x0 grant 10
+13 10 3 0x0 on 11
+14 9 2 0x0 grant 13
+15 8 2 0x0 both 2 14
+16 7 2 0x0 on 15
+17 6 0 0x0 on 16
+18 4 0 0x0 both 17 3
+19 3 0 0x0 left 18
+20 2 0 0x0 on 19
+21 0 0 0x0 both 20 12
+end
+";
+
 fn words(alloc: Global, line: &[&str]) -> Result<Vec<String>, AllocError> {
     let mut words = Vec::new(alloc);
     for word in line {
@@ -84,13 +130,15 @@ fn files(alloc: Global, policy: &str, source: &str) -> Result<Vec<(Vec<u8>, Vec<
 }
 
 #[test]
-fn weaves_or_tells_why_not(rt: HostRuntime) -> Result<(), Fail> {
+fn weaves_refutes_or_tells_why_not(rt: HostRuntime) -> Result<(), Fail> {
     let alloc = rt.alloc();
     let two = "int main(void){a:;return 0;}";
     let never = "format = 1\n[[at]]\nlabel = \"a\"\nnever = [\"amb\"]\n";
     let elsewhere = "format = 1\n[[at]]\nlabel = \"z\"\nnever = [\"amb\"]\n";
     let both =
         "format = 1\n[[at]]\nlabel = \"a\"\nnever = [\"amb\"]\n[[at]]\nlabel = \"b\"\nmust = [\"amb\"]\n";
+    let loops =
+        "format = 1\n[[at]]\nlabel = \"o\"\nmust = [\"amb\"]\n[[at]]\nlabel = \"p\"\nnever = [\"amb\"]\n";
     let weave = words(alloc, &["weave", "p.toml", "s.c"])?;
     for (policy, source, status, text, line) in [
         ("format = 1\n", "int main(void){return 0;}", 0, NO_RULES, ""),
@@ -103,12 +151,13 @@ fn weaves_or_tells_why_not(rt: HostRuntime) -> Result<(), Fail> {
             "",
         ),
         (elsewhere, two, 4, "", "policy: no label z\n"),
+        (both, "int main(void){a:;b:;return 0;}", 1, TWO_LABELS, ""),
         (
-            both,
-            "int main(void){a:;b:;return 0;}",
-            4,
+            loops,
+            "int main(void){while(c){o:;p:;}return 0;}",
+            1,
+            TWO_LABELS_IN_A_LOOP,
             "",
-            "policy: not yet\n",
         ),
         ("format = 2\n", two, 4, "", "policy: not yet\n"),
         ("format = 2\n", "", 3, "", "source: not yet\n"),

@@ -22,8 +22,8 @@ returns-in-Some-missing_label c =
     let copied = c.in_ok-copied-in-Some-missing_label.ensures ∙ c.deref-in-Some-missing_label.ensures.value in
     record { due = (file, plain, (reads, spells), missing ∙ ap Some (sym copied)) }
 
-pub woven-requires-clause-plain : goal.woven-requires-clause-plain
-woven-requires-clause-plain c =
+pub judged-requires-clause-plain : goal.judged-requires-clause-plain
+judged-requires-clause-plain c =
     let spells = subst (λ o. IsAnswer c.args.policy.now o) c.in-Some-2.is c.in_ok-plain.ensures.policy in
     is_plain_policy c.args.policy.now (policy_of c.in-Some-2.plain) spells
 
@@ -36,4 +36,4 @@ returns c =
     let spells = subst (λ o. IsAnswer c.args.policy.now o) c.in-Some-2.is c.in_ok-plain.ensures.policy in
     let found = c.in-None.ensures ∙ ap (find (λ l. not (has_label_file source l.items file))) c.deref.ensures.value in
     let missing = sym (missing_is source file c.in-Some-2.plain.labels.items None found) in
-    record { due = answer_is_due c.args.policy.now source file plain c.woven.result (reads, spells) missing c.woven.ensures }
+    record { due = answer_is_due c.args.policy.now source file plain c.judged.result (reads, spells) missing c.judged.ensures }

@@ -1,0 +1,1 @@
+int main(void){a:;b:;return 0;}
