@@ -38,7 +38,7 @@ pub record Specifiers : Type 0 where
 abbrev pub AreSpecifiers : List Lexeme → Specifiers → Type 0
 AreSpecifiers ts specs =
     (a : List Lexeme) × (b : List Lexeme) × (c : List Lexeme)
-    × (ts ≡ a ++ b ++ c) × IsStorage a specs.external specs.fixed × IsFlag w.Const b specs.constant × IsType c specs.base specs.unsigned
+    × (ts ≡ a ++ (b ++ c)) × IsStorage a specs.external specs.fixed × IsFlag w.Const b specs.constant × IsType c specs.base specs.unsigned
 
 abbrev pub pointer : Specifiers → (stars : ℕ) → CType
 pointer specs stars = record { base = specs.base; unsigned = specs.unsigned; stars = stars }
@@ -68,7 +68,7 @@ IsInitialiser E ts es true =
 abbrev pub IsItem : Expressions → Specifiers → List Lexeme → Declared → Type 0
 IsItem E specs ts item =
     (a : List Lexeme) × (b : List Lexeme) × (c : List Lexeme) × (d : List Lexeme) × (stars : ℕ)
-    × (ts ≡ a ++ b ++ c ++ d) × AreStars a stars × (item.kind ≡ pointer specs stars) × IsName b item.name
+    × (ts ≡ a ++ (b ++ (c ++ d))) × AreStars a stars × (item.kind ≡ pointer specs stars) × IsName b item.name
     × IsArray E c item.array × IsInitialiser E d item.init item.braces
 
 -- `specs item { "," item } ";"`
@@ -91,7 +91,7 @@ IsBrackets ts false = ts ≡ []
 abbrev pub IsParam : List Lexeme → Param → Type 0
 IsParam ts p =
     (a : List Lexeme) × (b : List Lexeme) × (c : List Lexeme)
-    × (ts ≡ a ++ b ++ c) × IsTypeName a p.kind × IsOptional IsName b p.name
+    × (ts ≡ a ++ (b ++ c)) × IsTypeName a p.kind × IsOptional IsName b p.name
     × IsBrackets c p.array
 
 -- `(void)` is the list without parameters, and is read in no other way
@@ -104,7 +104,7 @@ AreParams ts ps =
 abbrev pub IsHeader : List Lexeme → Name → CType → List Param → Type 0
 IsHeader ts name result params =
     (a : List Lexeme) × (b : List Lexeme) × (c : List Lexeme) × (d : List Lexeme) × (specs : Specifiers) × (stars : ℕ)
-    × (ts ≡ a ++ b ++ c ++ d) × AreSpecifiers a specs × AreStars b stars × (result ≡ pointer specs stars)
+    × (ts ≡ a ++ (b ++ (c ++ d))) × AreSpecifiers a specs × AreStars b stars × (result ≡ pointer specs stars)
     × IsName c name × IsBetween w.Open w.Close AreParams d params
 
 -- `specs stars name "(" params ")" ";"`

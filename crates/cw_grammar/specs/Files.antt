@@ -17,7 +17,7 @@ AreNamed (p ∷ ps) = (p.name ≢ None) × AreNamed ps
 abbrev pub IsFunction : ℕ → List Lexeme → Definition → Type 0
 IsFunction n ts f =
     (a : List Lexeme) × (o : Lexeme) × (b : List Lexeme) × (c : Lexeme) × (body : List Statement)
-    × (ts ≡ a ++ o ∷ b ++ c ∷ []) × IsHeader a f.name f.result f.params × AreNamed f.params
+    × (ts ≡ a ++ (o ∷ b ++ c ∷ [])) × IsHeader a f.name f.result f.params × AreNamed f.params
     × Is w.OpenBrace o × (f.brace ≡ o.to) × AreAll (IsStatement n n InBlock) b body × (f.body ≡ statements body) × Is w.CloseBrace c
 
 -- what a file is made of

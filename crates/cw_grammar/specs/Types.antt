@@ -39,4 +39,4 @@ AreStars ts stars = (stars ≤ 2) × (words ts ≡ replicate stars w.Star)
 abbrev pub IsTypeName : List Lexeme → CType → Type 0
 IsTypeName ts kind =
     (constant : Bool) × (c : List Lexeme) × (t : List Lexeme) × (s : List Lexeme)
-    × (ts ≡ c ++ t ++ s) × IsFlag w.Const c constant × IsType t kind.base kind.unsigned × AreStars s kind.stars
+    × (ts ≡ c ++ (t ++ s)) × IsFlag w.Const c constant × IsType t kind.base kind.unsigned × AreStars s kind.stars
