@@ -1,10 +1,9 @@
 -- The trees of expressions that hold vectors, by their fields.
-use Rattle.std.proofs.Common.{◌≡◌, ℕ, List, [], ◌∷◌, ap, refl, map, ◌∙◌}
+use Rattle.std.proofs.Common.{◌≡◌, List, [], ◌∷◌, ap, refl, map, ◌∙◌}
 use Rattle.std.specs.Global.{Vec}
-use Rattle.cw_syntax.specs.declared.program.Op.{Op}
 use Rattle.cw_syntax.specs.declared.program.Expr.{Expr, Expr-F, roll-Expr, rolls-Expr', Row_of-Expr, end_of-Expr, more_of-Expr, items-the_row-Expr, items_hidden-the_row-Expr-0}
 use Rattle.cw_syntax.specs.declared.program.Expr.TheBlock.{hidden-the_row-Expr-0}
-use Rattle.cw_syntax.specs.Trees.{Tree, Trees, Node, none, more, tree_of, row_trees, trees_of}
+use Rattle.cw_syntax.specs.Trees.{Trees, Node, more, tree_of, row_trees, trees_of}
 use Rattle.cw_grammar.specs.Lexemes.{trees}
 
 pub trees_map : (es : List Expr) → trees_of es ≡ trees (map tree_of es)

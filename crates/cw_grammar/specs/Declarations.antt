@@ -1,6 +1,6 @@
 -- Declarations, prototypes and headers of functions. E says what an expression is.
 -- Public source: ISO/IEC 9899:2011, 6.7 (declarations), 6.7.6 (declarators), 6.7.9 (initialisers), 6.9.1 (functions).
-use Rattle.std.specs.Prelude.{◌≡◌, ◌≢◌, ℕ, ◌<◌, ◌⊎◌, Bool, true, false, Option, Some, None, List, [], ◌∷◌, ◌++◌, length}
+use Rattle.std.specs.Prelude.{◌≡◌, ◌≢◌, ℕ, ◌<◌, ◌⊎◌, Bool, true, false, Option, List, [], ◌∷◌, ◌++◌, length}
 use Rattle.cw_syntax.specs.declared.program.Name.{Name}
 use Rattle.cw_syntax.specs.declared.program.CType.{CType}
 use Rattle.cw_syntax.specs.declared.program.Base.{Base}

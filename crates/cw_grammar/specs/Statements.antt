@@ -1,6 +1,6 @@
 -- Statements, by recursion on the nesting and by cases on the form: each line is a rule of the grammar.
 -- Public source: ISO/IEC 9899:2011, 6.8 (statements; an `else` belongs to the nearest `if` that allows it).
-use Rattle.std.specs.Prelude.{◌≡◌, ◌≢◌, ℕ, zero, suc, Option, List, [], ◌∷◌, ◌++◌}
+use Rattle.std.specs.Prelude.{◌≡◌, ◌≢◌, ℕ, zero, suc, List, [], ◌∷◌, ◌++◌}
 use Rattle.cw_syntax.specs.Trees.{Tree, Statement, Stated, Form, Block, Declares, Evaluates, Empties, Labels, Chooses, Whiles, Does, Fors, Breaks, Continues, Returns, Perhaps, nothing, just}
 use Rattle.cw_grammar.specs.declared.words.Word.TheVariants as w
 use Rattle.cw_grammar.specs.declared.words.Lexeme.{Lexeme}

@@ -6,7 +6,7 @@ use Rattle.cw_syntax.specs.declared.program.Base.TheVariants as base
 use Rattle.cw_grammar.specs.declared.words.Word.{Word}
 use Rattle.cw_grammar.specs.declared.words.Word.TheVariants as w
 use Rattle.cw_grammar.specs.declared.words.Lexeme.{Lexeme}
-use Rattle.cw_grammar.specs.Lexemes.{Is, words, IsFlag}
+use Rattle.cw_grammar.specs.Lexemes.{words, IsFlag}
 
 -- `type`: its words, its base, and whether it is unsigned
 abbrev pub type_words : List (List Word × (Base × Bool))
