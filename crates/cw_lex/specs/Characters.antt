@@ -28,22 +28,18 @@ Spelled = ℕ × ℕ
 abbrev pub longer : ℕ → Option Spelled → Option Spelled
 longer more spelled = option_map (λ x. (x.0, x.1 + more)) spelled
 
--- octal digits, of a value of at most 255
-abbrev pub octal : List ℕ → Option Spelled
-octal digits = if nat_le (digits_value 8 digits) 255 then Some (digits_value 8 digits, length digits) else None
-
--- hexadecimal digits, one at least
-abbrev pub hexadecimal : List ℕ → Option Spelled
-hexadecimal [] = None
-hexadecimal (b ∷ bs) = Some (digits_value 16 (b ∷ bs), length (b ∷ bs))
+-- the digits of an escape, one at least, of a value that a byte holds
+abbrev pub spelled : ℕ → List ℕ → Option Spelled
+spelled base [] = None
+spelled base (b ∷ bs) = if nat_le (digits_value base (b ∷ bs)) 255 then Some (digits_value base (b ∷ bs), length (b ∷ bs)) else None
 
 -- What stands behind a backslash: octal digits, as many as stand there but at most three; `x` and hexadecimal digits, at most two;
 -- or a byte of the simple escapes.
 unfoldable pub escape_at : List ℕ → Option Spelled
 escape_at [] = None
 escape_at (b ∷ bs) =
-    if is_octal_digit b then octal (take_while is_octal_digit (take 3 (b ∷ bs)))
-    else if b == 120 then longer 1 (hexadecimal (take_while is_hexadecimal_digit (take 2 bs)))
+    if is_octal_digit b then spelled 8 (take_while is_octal_digit (take 3 (b ∷ bs)))
+    else if b == 120 then longer 1 (spelled 16 (take_while is_hexadecimal_digit (take 2 bs)))
     else option_map (λ value. (value, 1)) (simple_escape b)
 
 -- The item at the front of a character or string between such quotes: a byte but the quote, the backslash and LF, or an escape.

@@ -1,7 +1,7 @@
 -- What stands at the front of some bytes: the longest piece of its kind. Public source: ISO/IEC 9899:2011, 6.4 (the longest
 -- sequence is one token; white space), 6.4.9 (comments), 6.10.2 (`#include`).
-use Rattle.std.specs.Prelude.{◌≡◌, ℕ, ◌+◌, ◌<◌, nat_eq, ◌==◌, Bool, ◌||◌, Option, Some, None, List, [], ◌∷◌, length, drop, take, if◌then◌else◌, codes}
-use Rattle.std.specs.List.{prefix_len, starts_with, take_while, list_any}
+use Rattle.std.specs.Prelude.{◌≡◌, ℕ, ◌+◌, ◌<◌, ◌≤◌, nat_eq, ◌==◌, Bool, Option, Some, None, List, [], ◌∷◌, length, drop, take, if◌then◌else◌, codes}
+use Rattle.std.specs.List.{prefix_len, starts_with, take_while}
 use Rattle.std.specs.Str.{bytes_eq}
 use Rattle.cw_syntax.specs.declared.tokens.TokenKind.{TokenKind}
 use Rattle.cw_syntax.specs.declared.tokens.TokenKind.TheVariants as kind
@@ -70,3 +70,9 @@ abbrev pub size : Piece → ℕ
 size (piece.Gap n) = n
 size (piece.Token k n) = n
 size (piece.Fault d) = 0
+
+-- a piece takes bytes, and no more than there are
+abbrev pub IsWithin : ℕ → Piece → Type 0
+IsWithin len (piece.Gap n) = (0 < n) × (n ≤ len)
+IsWithin len (piece.Token k n) = (0 < n) × (n ≤ len)
+IsWithin len (piece.Fault d) = Unit {0}

@@ -1,5 +1,5 @@
 -- The tokens of a source. Public source: ISO/IEC 9899:2011, 5.1.1.2 (a source is cut into tokens and white space, in order), 6.4.
-use Rattle.std.specs.Prelude.{◌≡◌, ℕ, ◌+◌, ◌<◌, ◌≤◌, nat_eq, Bool, true, false, ◌||◌, List, [], ◌∷◌, length, drop, take}
+use Rattle.std.specs.Prelude.{◌≡◌, ℕ, ◌+◌, ◌<◌, ◌≤◌, ◌==◌, Bool, true, false, ◌||◌, List, [], ◌∷◌, length, drop, take}
 use Rattle.std.specs.List.{list_any, sum_by}
 use Rattle.cw_syntax.specs.declared.tokens.Token.{Token}
 use Rattle.cw_lex.specs.declared.piece.Defect.{Defect}
@@ -13,7 +13,7 @@ use Rattle.cw_lex.specs.Pieces.{piece_at, size}
 
 -- whether no token stands on the line so far, behind a piece at the front of the bytes: an LF begins a line
 abbrev pub fresh_behind : Bool → Piece → List ℕ → Bool
-fresh_behind fresh (piece.Gap n) bs = fresh || list_any (nat_eq 10) (take n bs)
+fresh_behind fresh (piece.Gap n) bs = fresh || list_any (λ b. b == 10) (take n bs)
 fresh_behind fresh (piece.Token k n) bs = false
 fresh_behind fresh (piece.Fault d) bs = false
 

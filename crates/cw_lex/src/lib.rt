@@ -2,6 +2,9 @@
 #![tactic(auto)]
 
 mod bytes;
+mod characters;
 mod keywords;
 mod lexer;
+mod marks;
+mod numbers;
 mod piece;
