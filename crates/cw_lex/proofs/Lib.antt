@@ -3,4 +3,7 @@ mod Close
 mod Texts
 mod Within
 mod Standing
+pub mod Listing
+pub mod Alone
+pub mod Valued
 pub mod Markers

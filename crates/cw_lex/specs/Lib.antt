@@ -5,3 +5,4 @@ pub mod Characters
 pub mod Marks
 pub mod Pieces
 pub mod Tokens
+pub mod Listed

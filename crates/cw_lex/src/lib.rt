@@ -8,3 +8,9 @@ mod lexer;
 mod marks;
 mod numbers;
 mod piece;
+#[cfg(test)]
+mod tests;
+
+pub use characters::character_value;
+pub use lexer::{LexFault, lex};
+pub use numbers::number_value;
