@@ -13,15 +13,15 @@ skipped (suc k) (b ∷ bs) le =
     let order : k + 1 ≡ suc k = omega arith in
     ap (more_by 1) (skipped k bs (omega arith)) ∙ more_twice 1 k (text_len 0 (drop k bs)) ∙ ap (λ (j : ℕ). more_by j (text_len 0 (drop k bs))) order
 
-item_first : (b : ℕ) (bs : List ℕ) (x : Spelled) → eqb b 34 ≡ false → item_at 34 (b ∷ bs) ≡ Some x → text_len 0 (b ∷ bs) ≡ more_by 1 (text_len (x.1 - 1) bs)
+pub item_first : (b : ℕ) (bs : List ℕ) (x : Spelled) → eqb b 34 ≡ false → item_at 34 (b ∷ bs) ≡ Some x → text_len 0 (b ∷ bs) ≡ more_by 1 (text_len (x.1 - 1) bs)
 unfolding text_len
 item_first b bs x e is = rw (e, is) refl
 
-none_first : (b : ℕ) (bs : List ℕ) → eqb b 34 ≡ false → item_at 34 (b ∷ bs) ≡ None → text_len 0 (b ∷ bs) ≡ None
+pub none_first : (b : ℕ) (bs : List ℕ) → eqb b 34 ≡ false → item_at 34 (b ∷ bs) ≡ None → text_len 0 (b ∷ bs) ≡ None
 unfolding text_len
 none_first b bs e is = rw (e, is) refl
 
-quote_first : (b : ℕ) (bs : List ℕ) → eqb b 34 ≡ true → text_len 0 (b ∷ bs) ≡ Some 1
+pub quote_first : (b : ℕ) (bs : List ℕ) → eqb b 34 ≡ true → text_len 0 (b ∷ bs) ≡ Some 1
 unfolding text_len
 quote_first b bs e = rw e refl
 
