@@ -103,7 +103,7 @@ item_cut q (b ∷ bs) (suc k) x e le = both (eqb b q || eqb b 10) _ _ _ _ (Some 
 
 -- ---- characters and strings
 
-starts_cut : (ys w : List ℕ) (k : ℕ) → length w ≤ k → starts_with nat_eq (take k ys) w ≡ starts_with nat_eq ys w
+pub starts_cut : (ys w : List ℕ) (k : ℕ) → length w ≤ k → starts_with nat_eq (take k ys) w ≡ starts_with nat_eq ys w
 starts_cut ys w k le = rw (take-take (length w) k ys le) refl
 
 closed_cut : (bs : List ℕ) (k n : ℕ) (o : Option Spelled) → item_at 39 bs ≡ o → closed bs o ≡ Some n → n ≤ k → closed (take k bs) (item_at 39 (take k bs)) ≡ Some n

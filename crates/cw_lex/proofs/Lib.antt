@@ -3,6 +3,8 @@ mod Close
 mod Texts
 mod Within
 mod Standing
+pub mod Tokened
+pub mod Ordered
 pub mod Listing
 pub mod Alone
 pub mod Valued

@@ -17,7 +17,7 @@ use Rattle.cw_lex.specs.Characters.{Spelled, more_by, item_at, closed, character
 use Rattle.cw_lex.specs.Marks.{three_byte_marks, two_byte_marks, one_byte_marks, begins, mark_len}
 use Rattle.cw_lex.specs.Pieces.{word, number, quoted, to_close, comment, is_include, line, directive, mark, piece_at, IsWithin}
 
-starts_le : (bs w : List ℕ) → starts_with nat_eq bs w ≡ true → length w ≤ length bs
+pub starts_le : (bs w : List ℕ) → starts_with nat_eq bs w ≡ true → length w ≤ length bs
 starts_le bs [] e = omega arith
 starts_le [] (x ∷ w) e = absurd cc
 starts_le (b ∷ bs) (x ∷ w) e = let p = starts_le bs w (and_parts (eqb x b) (starts_with nat_eq bs w) e).1 in omega arith
@@ -87,11 +87,11 @@ line_within b bs e = (some_prefix is_line_byte b bs e, prefix_len-le-length is_l
 directive_within : (fresh : Bool) (b : ℕ) (bs : List ℕ) → is_line_byte b ≡ true → IsWithin (length (b ∷ bs)) (directive fresh (b ∷ bs))
 directive_within fresh b bs e = choose (length (b ∷ bs)) fresh _ _ (λ f. choose (length (b ∷ bs)) (is_include bs) _ _ (λ g. line_within b bs e) (λ g. tt)) (λ f. tt)
 
-abbrev AllLong : ℕ → List (List ℕ) → Type 0
+abbrev pub AllLong : ℕ → List (List ℕ) → Type 0
 AllLong n [] = Unit {0}
 AllLong n (w ∷ ws) = (n ≤ length w) × AllLong n ws
 
-begins_le : (n : ℕ) (ws : List (List ℕ)) (bs : List ℕ) → AllLong n ws → begins ws bs ≡ true → n ≤ length bs
+pub begins_le : (n : ℕ) (ws : List (List ℕ)) (bs : List ℕ) → AllLong n ws → begins ws bs ≡ true → n ≤ length bs
 begins_le n [] bs h e = absurd cc
 begins_le n (w ∷ ws) bs h e = elim (or_cases (starts_with nat_eq bs w) (begins ws bs) e) [
   | inl p ↦ let q = starts_le bs w p in omega (arith, q, h.0)
