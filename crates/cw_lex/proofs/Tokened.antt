@@ -70,23 +70,23 @@ mark_cut bs n e some = chosen (begins three_byte_marks bs) _ _ n _ (λ t h. (
 
 -- ---- pieces
 
-word_length : (text : List ℕ) (k : TokenKind) (n : ℕ) → word text ≡ piece.Token k n → length text ≡ n
+pub word_length : (text : List ℕ) (k : TokenKind) (n : ℕ) → word text ≡ piece.Token k n → length text ≡ n
 word_length text k n e = chosen (is_keyword text) _ _ (piece.Token k n) _ (λ t h. cc) (λ t h. cc) e
 
-number_length : (text : List ℕ) (k : TokenKind) (n : ℕ) → number text ≡ piece.Token k n → length text ≡ n
+pub number_length : (text : List ℕ) (k : TokenKind) (n : ℕ) → number text ≡ piece.Token k n → length text ≡ n
 number_length text k n e = chosen (is_number text) _ _ (piece.Token k n) _ (λ t h. cc) (λ t h. absurd cc) e
 
 quoted_cut : (q : TokenKind) (o p : Option ℕ) (k : TokenKind) (n : ℕ) → ((m : ℕ) → o ≡ Some m → m + 1 ≡ n → p ≡ Some m) → quoted q o ≡ piece.Token k n → quoted q p ≡ piece.Token k n
 quoted_cut q None p k n same e = absurd cc
 quoted_cut q (Some m) p k n same e = let count : m + 1 ≡ n = cc in rw (same m refl count) e
 
-no_line : (bs : List ℕ) (k : TokenKind) (n : ℕ) → line bs ≡ piece.Token k n → ⊥
+pub no_line : (bs : List ℕ) (k : TokenKind) (n : ℕ) → line bs ≡ piece.Token k n → ⊥
 no_line bs k n e = absurd cc
 
-no_directive : (fresh : Bool) (bs : List ℕ) (k : TokenKind) (n : ℕ) → directive fresh bs ≡ piece.Token k n → ⊥
+pub no_directive : (fresh : Bool) (bs : List ℕ) (k : TokenKind) (n : ℕ) → directive fresh bs ≡ piece.Token k n → ⊥
 no_directive fresh bs k n e = chosen fresh _ _ (piece.Token k n) ⊥ (λ t h. chosen (is_include (drop 1 bs)) _ _ (piece.Token k n) ⊥ (λ u g. absurd cc) (λ u g. absurd cc) h) (λ t h. absurd cc) e
 
-no_comment : (o : Option ℕ) (k : TokenKind) (n : ℕ) → comment o ≡ piece.Token k n → ⊥
+pub no_comment : (o : Option ℕ) (k : TokenKind) (n : ℕ) → comment o ≡ piece.Token k n → ⊥
 no_comment None k n e = absurd cc
 no_comment (Some m) k n e = absurd cc
 

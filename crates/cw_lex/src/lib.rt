@@ -4,6 +4,7 @@
 mod bytes;
 mod characters;
 mod keywords;
+mod laws;
 mod lexer;
 mod marks;
 mod numbers;
@@ -12,5 +13,6 @@ mod piece;
 mod tests;
 
 pub use characters::character_value;
+pub use laws::{laws_of_sources, laws_of_tokens};
 pub use lexer::{LexFault, lex};
 pub use numbers::number_value;

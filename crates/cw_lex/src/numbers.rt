@@ -66,20 +66,15 @@ fn digit_count(text: &[u8]) -> usize
     }
 }
 
-/// The digits of a number.
-#[tactic(auto, unfolding(crate::specs::Numbers::digits_of))]
-fn digits(text: &[u8]) -> &[u8]
-    ensures { result.now ≡ digits_of text.now }
+/// The digits of a number, and what follows them.
+#[tactic(auto, unfolding(crate::specs::Numbers::digits_of, crate::specs::Numbers::suffix_of))]
+fn parts(text: &[u8]) -> (&[u8], &[u8])
+    ensures digits { result.0.now ≡ digits_of text.now }
+    ensures suffix { result.1.now ≡ suffix_of text.now }
 {
-    &body(text)[..digit_count(text)]
-}
-
-/// What follows the digits of a number.
-#[tactic(auto, unfolding(crate::specs::Numbers::suffix_of))]
-fn suffix(text: &[u8]) -> &[u8]
-    ensures { result.now ≡ suffix_of text.now }
-{
-    tail(body(text), digit_count(text))
+    let body = body(text);
+    let count = digit_count(text);
+    (&body[..count], tail(body, count))
 }
 
 fn is_suffix(text: &[u8]) -> bool
@@ -164,10 +159,10 @@ pub(crate) fn is_number(text: &[u8]) -> bool
     ensures { result ≡ is_number text.now }
 {
     let base = base(text);
-    let digits = digits(text);
+    let (digits, suffix) = parts(text);
     !digits.is_empty()
         && are_of_base(base, digits)
-        && is_suffix(suffix(text))
+        && is_suffix(suffix)
         && value(base, digits).is_some()
 }
 
@@ -180,5 +175,6 @@ pub fn number_value(text: &[u8]) -> u64
     requires small { number_of text.now < 2 ^ 64 }
     ensures { result ≡ number_of text.now }
 {
-    value(base(text), digits(text)).unwrap_or(0)
+    let (digits, _) = parts(text);
+    value(base(text), digits).unwrap_or(0)
 }
