@@ -1,0 +1,9 @@
+//! Expressions, read from tokens.
+#![tactic(auto)]
+
+pub mod cursor;
+pub mod expressions;
+pub mod found;
+mod operators;
+pub mod refusal;
+pub mod types;

@@ -1,0 +1,2 @@
+pub mod SameWord
+pub mod TreeRows

@@ -1,0 +1,5 @@
+//! The grammar of the C subset.
+#![tactic(auto)]
+
+pub mod rules;
+pub mod words;
