@@ -1,0 +1,8 @@
+//! The scope rules of the C subset, and the rules of a policy's descriptors in a program.
+#![tactic(auto)]
+
+pub mod descriptors;
+pub mod faults;
+
+pub use descriptors::DescriptorFault;
+pub use faults::ScopeFault;
