@@ -1,1 +1,4 @@
 -- The proofs.
+pub mod Shapes
+pub mod Pushed
+pub mod Operators

@@ -4,3 +4,4 @@ pub mod Names
 pub mod Rules
 pub mod Faults
 pub mod Descriptors
+pub mod Held

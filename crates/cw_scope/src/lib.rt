@@ -3,6 +3,9 @@
 
 pub mod descriptors;
 pub mod faults;
+mod lists;
+mod names;
+mod walks;
 
 pub use descriptors::DescriptorFault;
 pub use faults::ScopeFault;
