@@ -8,7 +8,8 @@ use Rattle.cw_syntax.specs.declared.program.Head.{Head, Head'}
 use Rattle.cw_syntax.specs.declared.program.What.{What, Block', Row_of-Stmt, end_of-Stmt, more_of-Stmt, items-the_row-Stmt, items_hidden-the_row-Stmt-0}
 use Rattle.cw_syntax.specs.declared.program.What.TheVariants.{Block, For}
 use Rattle.cw_syntax.specs.Trees.{Node, more, just, tree_of, row_trees, trees_of, Statement, Stated, Block as BlockForm, cons, form_of, for_of, row_statements, statement_of, statements_of}
-use Rattle.std.specs.Prelude.{Bool, true}
+use Rattle.std.specs.Prelude.{Bool, true, false, not, ◌&&◌, None}
+use Rattle.cw_scope.specs.Rules.{is_jump, loose_jump, at_if}
 use Rattle.cw_scope.specs.Names.{names_in, init_names, label_in, label_of}
 use Rattle.cw_scope.specs.Walks.{nodes, nodes_in, placed, placed_within, placed_all, init_trees_in, init_trees}
 
@@ -66,3 +67,9 @@ for_label (Head' init test step) body = refl
 
 pub no_label : (s : Stmt) (h : Box Head Global) (b : Box Stmt Global) → s.what ≡ For h b → label_of (statement_of s) ≡ []
 no_label s h b e = ap (λ w. label_in (form_of w)) e ∙ for_label h.value (statement_of b.value)
+
+for_jump : (h : Head) (body : Statement) → is_jump (for_of h body) ≡ false
+for_jump (Head' init test step) body = refl
+
+pub no_jump : (looped : Bool) (s : Stmt) (h : Box Head Global) (b : Box Stmt Global) → s.what ≡ For h b → loose_jump looped (statement_of s) ≡ None
+no_jump looped s h b e = ap (λ j. at_if (j && not looped) s.from) (ap (λ w. is_jump (form_of w)) e ∙ for_jump h.value (statement_of b.value))

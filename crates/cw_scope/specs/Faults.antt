@@ -26,10 +26,10 @@ module _ (source : List ℕ) (file : File) where
   call_form = option_map CallForm (sooner (least (map (function_name source file) (uses file))) (least (map (wrong_form source file) (every_whole file))))
 
   abbrev pub main_called : Option ScopeFault
-  main_called = option_map MainCalled (least (map (main_call source file) (every_node file)))
+  main_called = option_map MainCalled (least (map (main_call source) (every_node file)))
 
   abbrev pub reserved_name : Option ScopeFault
-  reserved_name = option_map Reserved (least (map (reserved source file) (every_name file)))
+  reserved_name = option_map Reserved (least (map (reserved source) (every_name file)))
 
   abbrev pub jump : Option ScopeFault
   jump = option_map Jump (least (map (λ p. loose_jump p.looped p.statement) (every_statement file)))

@@ -53,6 +53,11 @@ abbrev pub is_call : Tree → Bool
 is_call (Node (CallOp f) arguments from to) = true
 is_call _ = false
 
+-- the place of a call, where its name passes a test
+abbrev pub call_if : (Name → Bool) → Tree → Option ℕ
+call_if test (Node (CallOp f) arguments from to) = at_if (test f) from
+call_if test _ = None
+
 -- the call of a whole statement `f(..);`, or `x = f(..);` with x a plain name
 abbrev pub statement_call : Tree → Option Tree
 statement_call (Node (CallOp f) arguments from to) = Some (Node (CallOp f) arguments from to)
@@ -97,12 +102,10 @@ module _ (source : List ℕ) (file : File) where
   function_name name = at_if (is_defined (text source name)) name.from
 
   abbrev pub defined_call : Tree → Option ℕ
-  defined_call (Node (CallOp f) arguments from to) = at_if (is_defined (text source f)) from
-  defined_call _ = None
+  defined_call t = call_if (λ f. is_defined (text source f)) t
 
   abbrev pub external_call : Tree → Option ℕ
-  external_call (Node (CallOp f) arguments from to) = at_if (not (is_defined (text source f))) from
-  external_call _ = None
+  external_call t = call_if (λ f. not (is_defined (text source f))) t
 
   -- The calls of defined functions that may not stand where they do: of a whole statement the call itself may, unless a call is in
   -- its arguments; any other may not.
@@ -117,14 +120,13 @@ module _ (source : List ℕ) (file : File) where
   abbrev pub wrong_form : Whole → Option ℕ
   wrong_form w = sooner (least (misplaced (standing_call w) w.tree)) (second_external w.tree)
 
-  -- `main` isn't called.
-  abbrev pub main_call : Tree → Option ℕ
-  main_call (Node (CallOp f) arguments from to) = at_if (is_main (text source f)) from
-  main_call _ = None
+-- `main` isn't called.
+abbrev pub main_call : List ℕ → Tree → Option ℕ
+main_call source t = call_if (λ f. is_main (text source f)) t
 
-  -- No name begins with `cw_` or `CW_`.
-  abbrev pub reserved : Name → Option ℕ
-  reserved name = at_if (is_reserved (text source name)) name.from
+-- No name begins with `cw_` or `CW_`.
+abbrev pub reserved : List ℕ → Name → Option ℕ
+reserved source name = at_if (is_reserved (text source name)) name.from
 
 -- `break` and `continue` stand in a loop.
 abbrev pub is_jump : Form → Bool

@@ -5,6 +5,7 @@ pub mod descriptors;
 pub mod faults;
 mod lists;
 mod names;
+mod rules;
 mod walks;
 
 pub use descriptors::DescriptorFault;
