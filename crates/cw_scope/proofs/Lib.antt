@@ -2,3 +2,4 @@
 pub mod Shapes
 pub mod Pushed
 pub mod Operators
+pub mod Lesser

@@ -5,6 +5,7 @@ pub mod descriptors;
 pub mod faults;
 mod lists;
 mod names;
+mod places;
 mod rules;
 mod walks;
 
