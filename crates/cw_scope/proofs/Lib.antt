@@ -1,0 +1,5 @@
+-- The proofs.
+pub mod Shapes
+pub mod Pushed
+pub mod Operators
+pub mod Lesser

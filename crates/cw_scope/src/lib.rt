@@ -1,0 +1,13 @@
+//! The scope rules of the C subset, and the rules of a policy's descriptors in a program.
+#![tactic(auto)]
+
+pub mod descriptors;
+pub mod faults;
+mod lists;
+mod names;
+mod places;
+mod rules;
+mod walks;
+
+pub use descriptors::DescriptorFault;
+pub use faults::ScopeFault;
