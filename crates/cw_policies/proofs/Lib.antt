@@ -1,1 +1,3 @@
 -- The proofs.
+pub mod Items
+pub mod Rights

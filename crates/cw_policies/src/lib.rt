@@ -8,5 +8,7 @@
 pub mod fault;
 mod form;
 pub mod keys;
+mod names;
+mod parts;
 
 pub use fault::{Path, PolicyFault};
