@@ -4,5 +4,6 @@ pub mod Form
 pub mod Names
 pub mod Parts
 pub mod Rules
+pub mod Sources
 pub mod Answer
 pub mod Lines

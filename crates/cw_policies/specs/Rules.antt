@@ -8,10 +8,10 @@ use Rattle.cw_rights.specs.Policies.{PlainRule}
 use Rattle.cw_regex.specs.declared.read.RegexFault.{RegexFault}
 use Rattle.cw_regex.specs.declared.read.RegexFault.TheVariants.{At as At', UnknownDescriptor, UnknownRight, TooDeep, NoMemory as NoMemory'}
 use Rattle.cw_regex.specs.Parts.{placed}
-use Rattle.cw_regex.specs.Grammar.{Expression, TestForm, depth, Spells, SpellsTest}
+use Rattle.cw_regex.specs.Grammar.{Expression, TestForm, Spells, SpellsTest, IsExpression, IsTest}
 use Rattle.cw_regex.specs.Meaning.{number_in, test_meaning, meaning, labels_of, with_names}
 use Rattle.cw_regex.specs.Faults.{first_unknown}
-use Rattle.cw_regex.specs.Causes.{IsTestFault, IsRegexFault}
+use Rattle.cw_regex.specs.Causes.{IsTestFault, IsRegexFault, IsShallow}
 use Rattle.cw_policies.specs.declared.fault.Path.{Path}
 use Rattle.cw_policies.specs.declared.fault.PolicyFault.{PolicyFault}
 use Rattle.cw_policies.specs.declared.fault.PolicyFault.TheVariants.{Kind, Regex, Limit as TooMany, NoMemory}
@@ -84,14 +84,25 @@ test_name t = t.label ++ cond t.must (codes " must ") (codes " never ") ++ t.tex
 abbrev pub test_rule : List (List ℕ) → List (List ℕ) → TestText → TestForm → PlainRule
 test_rule descriptors labels t form = record { name = test_name t; bad = bad_words (number_in labels t.label) (turned t.must (test_meaning descriptors form)) }
 
--- With the labels so far the text has this rule, and the labels after it: the labels that an expression names first go
--- to their end, from left to right.
+-- With the labels so far the text is a test with this rule.
+pub record HasTest (descriptors labels : List (List ℕ)) (t : TestText) (rule : PlainRule) : Type 0 where
+  pub is : IsTest t.text
+  pub known : AreKnown descriptors t.text
+  pub means : (form : TestForm) → SpellsTest t.text form → rule ≡ test_rule descriptors labels t form
+
+-- With the labels so far the text is an expression with this rule, and the labels after it are these: those that the
+-- expression names first go to their end, from left to right.
+pub record HasExpression (descriptors labels : List (List ℕ)) (r : ExpressionText) (rule : PlainRule) (after : List (List ℕ)) : Type 0 where
+  pub is : IsExpression r.text
+  pub shallow : IsShallow r.text
+  pub known : AreKnown descriptors r.text
+  pub name : rule.name ≡ r.name
+  pub means : (e : Expression) → Spells r.text e → rule.bad ≡ meaning after descriptors e
+  pub grown : (e : Expression) → Spells r.text e → after ≡ with_names labels (labels_of e [])
+
 abbrev pub HasRule : List (List ℕ) → List (List ℕ) → RuleText → PlainRule → List (List ℕ) → Type 0
-HasRule descriptors labels (tested t) rule after =
-    (form : TestForm) × SpellsTest t.text form × AreKnown descriptors t.text × (rule ≡ test_rule descriptors labels t form) × (after ≡ labels)
-HasRule descriptors labels (written r) rule after =
-    (e : Expression) × Spells r.text e × (depth e ≤ 64) × AreKnown descriptors r.text ×
-    (rule ≡ record { name = r.name; bad = meaning after descriptors e }) × (after ≡ with_names labels (labels_of e []))
+HasRule descriptors labels (tested t) rule after = HasTest descriptors labels t rule × (after ≡ labels)
+HasRule descriptors labels (written r) rule after = HasExpression descriptors labels r rule after
 
 -- rule by rule
 abbrev pub HaveRules : List (List ℕ) → List (List ℕ) → List RuleText → List PlainRule → List (List ℕ) → Type 0
@@ -101,6 +112,11 @@ HaveRules descriptors labels (t ∷ ts) rules after =
     (rules ≡ rule ∷ rest) × HasRule descriptors labels t rule next × HaveRules descriptors next ts rest after
 
 -- ---- why one is refused
+
+-- want of memory may come at any time
+abbrev pub OrMemory : (PolicyFault → Type 0) → PolicyFault → Type 0
+OrMemory P NoMemory = Unit {0}
+OrMemory P f = P f
 
 -- a test is Kind of its item, whatever is wrong with it
 abbrev pub regex_fault : ℕ → RegexFault → PolicyFault

@@ -10,5 +10,6 @@ mod form;
 pub mod keys;
 mod names;
 mod parts;
+mod sources;
 
 pub use fault::{Path, PolicyFault};
