@@ -10,6 +10,7 @@ mod form;
 pub mod keys;
 mod names;
 mod parts;
+mod rules;
 mod sources;
 
 pub use fault::{Path, PolicyFault};
