@@ -10,6 +10,7 @@ mod form;
 pub mod keys;
 mod names;
 mod parts;
+mod read;
 mod rules;
 mod sources;
 

@@ -156,3 +156,31 @@ fn read_rule(
         Source::Expression(expression) => read_expression(alloc, expression, descriptors, labels),
     }
 }
+
+/// Reads the rules from their texts in order: new labels of expressions go to the end of the labels. The fault is that
+/// of the first text that is refused.
+pub fn read_rules(
+    alloc: Global,
+    sources: &[Source],
+    descriptors: &[Descriptor],
+    labels: &mut IndexSet<Vec<u8>>,
+) -> Result<Vec<Rule>, PolicyFault>
+    requires few { length descriptors.now ≤ 8 }
+    requires names { index_set_len labels.old ≤ 65535 }
+    ensures rules { IfOk result (λ rules. spec.HaveRules (names_of descriptors.now) (names_in labels.old.keys) (map text_of sources.now) (map rule_of rules.items) (names_in labels.new.keys)) }
+    ensures names { OnOk result (index_set_len labels.new ≤ 65535) }
+    ensures fault { IfErr result (spec.OrMemory (spec.FirstRefused (names_of descriptors.now) (names_in labels.old.keys) (map text_of sources.now))) }
+{
+    let mut rules = Vec::new(alloc);
+    'sources: for source in sources {
+        match read_rule(alloc, source, descriptors, labels) {
+            Ok(rule) => {
+                if rules.push(rule).is_err() {
+                    return Err(PolicyFault::NoMemory);
+                }
+            }
+            Err(fault) => return Err(fault),
+        }
+    }
+    Ok(rules)
+}
