@@ -1,2 +1,3 @@
 pub mod SameWord
 pub mod TreeRows
+mod Placed

@@ -2,4 +2,5 @@
 #![tactic(auto)]
 
 pub mod rules;
+pub mod spelling;
 pub mod words;
