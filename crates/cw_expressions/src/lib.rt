@@ -6,4 +6,6 @@ pub mod expressions;
 pub mod found;
 mod operators;
 pub mod refusal;
+#[cfg(test)]
+mod tests;
 pub mod types;
