@@ -1,5 +1,5 @@
 -- Where the tokens of a source lie.
-use Rattle.std.proofs.Common.{◌≡◌, ℕ, zero, suc, ◌-◌, ◌^◌, ◌<◌, ◌≤◌, true, List, [], ◌∷◌, length, drop, refl, sym, ap, subst, ◌∙◌, arith, slice_index_or, length-drop}
+use Rattle.std.proofs.Common.{◌≡◌, ℕ, zero, suc, ◌-◌, ◌^◌, ◌<◌, ◌≤◌, true, List, [], ◌∷◌, length, drop, sym, ap, ◌∙◌, arith, slice_index_or, length-drop}
 use Rattle.std.proofs.lemmas.List.{length-take}
 use Rattle.cw_syntax.specs.declared.tokens.TokenKind.TheVariants as kind
 use Rattle.cw_syntax.specs.declared.tokens.TokenKind.{TokenKind}

@@ -3,4 +3,6 @@
 
 pub mod rules;
 pub mod spelling;
+#[cfg(test)]
+mod tests;
 pub mod words;
