@@ -1,15 +1,13 @@
 -- The items of characters and strings, where the bytes behind them are cut off.
-use Rattle.std.proofs.Common.{◌≡◌, ℕ, zero, suc, ◌+◌, ◌-◌, ◌<◌, ◌≤◌, Bool, true, false, cond, eqb, leb, ◌||◌, List, [], ◌∷◌, length, drop, take, Option, Some, None, refl, sym, ap, subst, ◌∙◌, arith, length-drop, length-take}
+use Rattle.std.proofs.Common.{◌≡◌, ℕ, zero, suc, ◌+◌, ◌-◌, ◌<◌, ◌≤◌, Bool, true, false, cond, eqb, leb, ◌||◌, List, [], ◌∷◌, length, drop, take, Option, Some, None, refl, sym, ap, subst, ◌∙◌, arith}
 use Rattle.std.specs.Prelude.{nat_eq, codes}
 use Rattle.std.specs.Option.{option_map}
 use Rattle.std.specs.List.{starts_with, prefix_len, take_while}
 use Rattle.std.specs.Str.Parse.{digits_value}
 use Rattle.std.proofs.lemmas.List.{take-take, drop-take}
 use Rattle.std.proofs.lemmas.List.Folds.{length-prefix_len}
-use Rattle.std.proofs.lemmas.Bool.{and_parts, and_from}
 use Rattle.cw_lex.specs.Bytes.{is_octal_digit, is_hexadecimal_digit}
 use Rattle.cw_lex.specs.Characters.{Spelled, longer, spelled, simple_escape, escape_at, item_at, closed, character_len, more_by, text_len}
-use Rattle.cw_lex.proofs.Texts.{item_first}
 
 pub both : {A : Type 0} (t : Bool) (a b c d v : A) → (a ≡ v → c ≡ v) → (b ≡ v → d ≡ v) → cond t a b ≡ v → cond t c d ≡ v
 both true a b c d v f g e = f e

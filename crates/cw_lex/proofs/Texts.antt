@@ -1,5 +1,5 @@
 -- Looking for the end of a string.
-use Rattle.std.proofs.Common.{◌≡◌, ℕ, zero, suc, ◌+◌, ◌-◌, ◌<◌, ◌≤◌, Bool, true, false, cond, eqb, List, [], ◌∷◌, length, drop, get_or, Option, Some, None, refl, sym, ap, ◌∙◌, arith, length-drop, drop-drop}
+use Rattle.std.proofs.Common.{◌≡◌, ℕ, zero, suc, ◌+◌, ◌-◌, ◌<◌, ◌≤◌, true, false, eqb, List, [], ◌∷◌, length, drop, get_or, Some, None, refl, sym, ap, ◌∙◌, arith, length-drop, drop-drop}
 use Rattle.std.proofs.Math.ListN.{drop_of_length-le}
 use Rattle.cw_lex.specs.Characters.{Spelled, more_by, item_at, text_len}
 use Rattle.cw_lex.proofs.Close.{more_twice, more_zero, drop_here}

@@ -1,5 +1,5 @@
 -- What the kind of a token says of its bytes.
-use Rattle.std.proofs.Common.{◌≡◌, ◌≢◌, ℕ, suc, ◌^◌, ◌<◌, ◌≤◌, ◌↔◌, Bool, true, false, cond, eqb, ◌&&◌, List, [], ◌∷◌, length, drop, take, Option, Some, None, refl, sym, ap, subst, ◌∙◌, arith, inl, inr, rules}
+use Rattle.std.proofs.Common.{◌≡◌, ◌≢◌, ℕ, suc, ◌^◌, ◌<◌, ◌≤◌, ◌↔◌, Bool, true, false, eqb, ◌&&◌, List, [], ◌∷◌, length, drop, Option, Some, None, refl, sym, subst, ◌∙◌, arith, inl, inr}
 use Rattle.std.specs.Prelude.{nat_eq, codes}
 use Rattle.std.specs.List.{starts_with, list_any, prefix_len, take_while}
 use Rattle.std.specs.Str.{bytes_eq}
@@ -8,14 +8,13 @@ use Rattle.std.proofs.lemmas.List.Folds.{length-prefix_len}
 use Rattle.std.proofs.lemmas.Bool.{ltb-true, and_parts, or_cases, both_ways, eqb-true}
 use Rattle.cw_syntax.specs.declared.tokens.TokenKind.{TokenKind}
 use Rattle.cw_syntax.specs.declared.tokens.TokenKind.TheVariants as kind
-use Rattle.cw_lex.specs.declared.piece.Piece.{Piece}
 use Rattle.cw_lex.specs.declared.piece.Piece.TheVariants as piece
 use Rattle.cw_lex.specs.Bytes.{is_white, is_letter, is_digit, is_name_byte, is_number_byte}
 use Rattle.cw_lex.specs.Keywords.{keywords, is_keyword}
 use Rattle.cw_lex.specs.Numbers.{is_number, number_of}
 use Rattle.cw_lex.specs.Characters.{character_len, text_len}
 use Rattle.cw_lex.specs.Marks.{mark_len}
-use Rattle.cw_lex.specs.Pieces.{word, number, quoted, to_close, comment, line, directive, mark, piece_at}
+use Rattle.cw_lex.specs.Pieces.{word, number, quoted, to_close, mark, piece_at}
 use Rattle.cw_lex.proofs.Alone.{chosen}
 use Rattle.cw_lex.proofs.Tokened.{word_length, number_length, no_line, no_directive, no_comment}
 
