@@ -9,3 +9,4 @@ pub mod Listing
 pub mod Alone
 pub mod Valued
 pub mod Markers
+pub mod Each
