@@ -10,3 +10,4 @@ pub mod Alone
 pub mod Valued
 pub mod Markers
 pub mod Each
+pub mod Strings

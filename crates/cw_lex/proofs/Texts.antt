@@ -5,7 +5,7 @@ use Rattle.cw_lex.specs.Characters.{Spelled, more_by, item_at, text_len}
 use Rattle.cw_lex.proofs.Close.{more_twice, more_zero, drop_here}
 
 -- bytes that are still to be passed
-skipped : (k : ℕ) (bs : List ℕ) → k ≤ length bs → text_len k bs ≡ more_by k (text_len 0 (drop k bs))
+pub skipped : (k : ℕ) (bs : List ℕ) → k ≤ length bs → text_len k bs ≡ more_by k (text_len 0 (drop k bs))
 unfolding text_len
 skipped zero bs le = sym (more_zero (text_len 0 bs))
 skipped (suc k) [] le = absurd (omega arith)
