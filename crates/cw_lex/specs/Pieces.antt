@@ -1,6 +1,6 @@
 -- What stands at the front of some bytes: the longest piece of its kind. Public source: ISO/IEC 9899:2011, 6.4 (the longest
 -- sequence is one token; white space), 6.4.9 (comments), 6.10.2 (`#include`).
-use Rattle.std.specs.Prelude.{◌≡◌, ℕ, ◌+◌, ◌<◌, ◌≤◌, nat_eq, ◌==◌, Bool, Option, Some, None, List, [], ◌∷◌, length, drop, take, if◌then◌else◌, codes}
+use Rattle.std.specs.Prelude.{ℕ, ◌+◌, ◌<◌, ◌≤◌, nat_eq, ◌==◌, Bool, Option, Some, None, List, [], ◌∷◌, length, drop, if◌then◌else◌, codes}
 use Rattle.std.specs.List.{prefix_len, starts_with, take_while}
 use Rattle.std.specs.Str.{bytes_eq}
 use Rattle.cw_syntax.specs.declared.tokens.TokenKind.{TokenKind}

@@ -20,7 +20,7 @@ use crate::numbers::is_number;
 use cw_syntax::tokens::TokenKind;
 
 /// Why no token can be read.
-#[derive(Clone, Copy, Drop, Debug, PartialEq, Eq)]
+#[derive(Clone, Copy, Drop)]
 pub enum Defect {
     BadByte,
     OpenComment,
@@ -30,7 +30,7 @@ pub enum Defect {
 }
 
 /// What stands at the front of some bytes, and how many of them it takes.
-#[derive(Clone, Copy, Drop, Debug, PartialEq, Eq)]
+#[derive(Clone, Copy, Drop)]
 pub enum Piece {
     /// White space, a comment or an include line.
     Gap(usize),
