@@ -5,3 +5,4 @@ pub mod checked;
 pub mod laws;
 pub mod marks;
 pub mod program;
+pub mod tokens;

@@ -1,0 +1,6 @@
+use Rattle.std.proofs.Common.{refl}
+use Rattle.cw_grammar.proofs.TreeRows.{tree_of_roll}
+use Rattle.cw_expressions.proofs.found.leaf.Goals as goal
+
+pub returns : goal.returns
+returns c = rw (tree_of_roll, c.new.ensures.items) refl

@@ -1,0 +1,5 @@
+pub mod Cursor
+pub mod TypeReading
+pub mod Reading
+pub mod View
+pub mod Next

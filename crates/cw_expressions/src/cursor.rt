@@ -1,0 +1,54 @@
+//! The steps that all readers of tokens take.
+
+ghost use Rattle.std.specs.Prelude.{◌≡◌};
+ghost use Rattle.cw_expressions.specs.Cursor.{Gives, begins, after, first, expect};
+
+use crate::refusal::Refusal;
+use cw_grammar::words::{Lexeme, Word, is_same};
+
+/// Whether a token of this kind is next.
+pub fn begins_with(tokens: &[Lexeme], word: Word) -> bool
+    ensures begins { result ≡ begins word tokens.now }
+{
+    match tokens {
+        [] => false,
+        [first, ..] => is_same(first.word, word),
+    }
+}
+
+/// The tokens after the first.
+pub fn past(tokens: &[Lexeme]) -> &[Lexeme]
+    ensures after { result.now ≡ after tokens.now }
+{
+    match tokens {
+        [] => tokens,
+        [_, rest @ ..] => rest,
+    }
+}
+
+/// The first token, and the tokens after it. Syntax where there is none.
+pub fn first_of(tokens: &[Lexeme]) -> Result<(Lexeme, &[Lexeme]), Refusal>
+    ensures first { Gives (λ x. (x.0, x.1.now)) result (first tokens.now) }
+{
+    match tokens {
+        [] => Err(Refusal::Syntax),
+        [first, rest @ ..] => Ok((*first, rest)),
+    }
+}
+
+/// The token of this kind that is next, and the tokens after it. Syntax where another is next.
+#[tactic(auto, unfolding(crate::specs::Cursor::expect))]
+pub fn take(tokens: &[Lexeme], word: Word) -> Result<(Lexeme, &[Lexeme]), Refusal>
+    ensures token { Gives (λ x. (x.0, x.1.now)) result (expect word tokens.now) }
+{
+    match tokens {
+        [] => Err(Refusal::Syntax),
+        [first, rest @ ..] => {
+            if is_same(first.word, word) {
+                Ok((*first, rest))
+            } else {
+                Err(Refusal::Syntax)
+            }
+        }
+    }
+}

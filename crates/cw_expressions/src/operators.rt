@@ -1,0 +1,123 @@
+//! The operators by their numbers.
+
+ghost use Rattle.std.specs.Prelude.{◌≡◌};
+ghost use Rattle.cw_grammar.specs.Operators.{sign, step, suffix, binary, assign};
+ghost use Rattle.cw_expressions.specs.Reading.{next_of, at_level, binary_at};
+
+use cw_grammar::words::{Lexeme, Word};
+
+pub(crate) fn sign_of(word: Word) -> Option<u8>
+    ensures { result ≡ sign word }
+{
+    match word {
+        Word::Plus => Some(0),
+        Word::Minus => Some(1),
+        Word::Exclamation => Some(2),
+        Word::Tilde => Some(3),
+        Word::Star => Some(4),
+        Word::Ampersand => Some(5),
+        _ => None,
+    }
+}
+
+pub(crate) fn step_of(word: Word) -> Option<u8>
+    ensures { result ≡ step word }
+{
+    match word {
+        Word::PlusPlus => Some(6),
+        Word::MinusMinus => Some(7),
+        _ => None,
+    }
+}
+
+pub(crate) fn suffix_of(word: Word) -> Option<u8>
+    ensures { result ≡ suffix word }
+{
+    match word {
+        Word::PlusPlus => Some(0),
+        Word::MinusMinus => Some(1),
+        _ => None,
+    }
+}
+
+fn binary_of(word: Word) -> Option<(u8, u32)>
+    ensures { result ≡ binary word }
+{
+    match word {
+        Word::BarBar => Some((0, 10)),
+        Word::AmpersandAmpersand => Some((1, 9)),
+        Word::Bar => Some((2, 8)),
+        Word::Caret => Some((3, 7)),
+        Word::Ampersand => Some((4, 6)),
+        Word::Equal => Some((5, 5)),
+        Word::NotEqual => Some((6, 5)),
+        Word::Less => Some((7, 4)),
+        Word::LessEqual => Some((8, 4)),
+        Word::Greater => Some((9, 4)),
+        Word::GreaterEqual => Some((10, 4)),
+        Word::LeftShift => Some((11, 3)),
+        Word::RightShift => Some((12, 3)),
+        Word::Plus => Some((13, 2)),
+        Word::Minus => Some((14, 2)),
+        Word::Star => Some((15, 1)),
+        Word::Slash => Some((16, 1)),
+        Word::Percent => Some((17, 1)),
+        _ => None,
+    }
+}
+
+fn assign_of(word: Word) -> Option<u8>
+    ensures { result ≡ assign word }
+{
+    match word {
+        Word::Assign => Some(0),
+        Word::AddAssign => Some(1),
+        Word::SubtractAssign => Some(2),
+        Word::MultiplyAssign => Some(3),
+        Word::DivideAssign => Some(4),
+        Word::RemainderAssign => Some(5),
+        Word::AndAssign => Some(6),
+        Word::OrAssign => Some(7),
+        Word::XorAssign => Some(8),
+        Word::LeftShiftAssign => Some(9),
+        Word::RightShiftAssign => Some(10),
+        _ => None,
+    }
+}
+
+pub(crate) fn suffix_next(tokens: &[Lexeme]) -> Option<u8>
+    ensures { result ≡ next_of suffix tokens.now }
+{
+    match tokens {
+        [] => None,
+        [first, ..] => suffix_of(first.word),
+    }
+}
+
+pub(crate) fn assign_next(tokens: &[Lexeme]) -> Option<u8>
+    ensures { result ≡ next_of assign tokens.now }
+{
+    match tokens {
+        [] => None,
+        [first, ..] => assign_of(first.word),
+    }
+}
+
+fn binary_next(tokens: &[Lexeme]) -> Option<(u8, u32)>
+    ensures { result ≡ next_of binary tokens.now }
+{
+    match tokens {
+        [] => None,
+        [first, ..] => binary_of(first.word),
+    }
+}
+
+/// A binary operator of this level that is next.
+pub(crate) fn binary_next_at(level: u32, tokens: &[Lexeme]) -> Option<u8>
+    ensures { result ≡ binary_at level tokens.now }
+{
+    match binary_next(tokens) {
+        None => None,
+        Some((number, found)) => { if found == level { Some(number) } else { None } }
+    }
+}

@@ -1,0 +1,108 @@
+//! Types.
+
+ghost use Rattle.std.specs.Prelude.{◌≡◌};
+ghost use Rattle.cw_expressions.specs.Cursor.{Gives};
+ghost use Rattle.cw_expressions.specs.TypeReading.{starts_type, skip, unsigned_base, base_of, stars_of, type_name, type_between};
+
+use crate::cursor::{begins_with, past, take};
+use crate::refusal::Refusal;
+use cw_grammar::words::{Lexeme, Word};
+use cw_syntax::program::{Base, CType};
+
+/// Whether a word begins a type, or a type with `const`.
+pub fn begins_type(word: Word) -> bool
+    ensures starts { result ≡ starts_type word }
+{
+    match word {
+        Word::Const | Word::Void | Word::Unsigned | Word::Char | Word::Int | Word::Long => true,
+        _ => false,
+    }
+}
+
+fn past_word(tokens: &[Lexeme], word: Word) -> &[Lexeme]
+    ensures { result.now ≡ skip word tokens.now }
+{
+    if begins_with(tokens, word) {
+        past(tokens)
+    } else {
+        tokens
+    }
+}
+
+#[tactic(auto, unfolding(crate::specs::TypeReading::unsigned_base))]
+fn unsigned_base_at(tokens: &[Lexeme]) -> Result<((Base, bool), &[Lexeme]), Refusal>
+    ensures { Gives (λ x. (x.0, x.1.now)) result (unsigned_base tokens.now) }
+{
+    match tokens {
+        [] => Ok(((Base::Int, true), tokens)),
+        [first, rest @ ..] => match first.word {
+            Word::Char => Ok(((Base::Char, true), rest)),
+            Word::Int => Ok(((Base::Int, true), rest)),
+            Word::Long => Ok(((Base::Long, true), past_word(rest, Word::Int))),
+            _ => Ok(((Base::Int, true), tokens)),
+        },
+    }
+}
+
+/// The base of a type that is next, whether it is unsigned, and the tokens after it.
+#[tactic(auto, unfolding(crate::specs::TypeReading::base_of))]
+pub fn base_at(tokens: &[Lexeme]) -> Result<((Base, bool), &[Lexeme]), Refusal>
+    ensures base { Gives (λ x. (x.0, x.1.now)) result (base_of tokens.now) }
+{
+    match tokens {
+        [] => Err(Refusal::Syntax),
+        [first, rest @ ..] => match first.word {
+            Word::Void => Ok(((Base::Void, false), rest)),
+            Word::Char => Ok(((Base::Char, false), rest)),
+            Word::Int => Ok(((Base::Int, false), rest)),
+            Word::Long => Ok(((Base::Long, false), past_word(rest, Word::Int))),
+            Word::Unsigned => unsigned_base_at(rest),
+            _ => Err(Refusal::Syntax),
+        },
+    }
+}
+
+/// How many stars are next, up to two, and the tokens after them.
+#[tactic(auto, unfolding(crate::specs::TypeReading::stars_of))]
+pub fn stars_at(tokens: &[Lexeme]) -> (u8, &[Lexeme])
+    ensures stars { (result.0, result.1.now) ≡ stars_of tokens.now }
+{
+    if begins_with(tokens, Word::Star) {
+        let rest = past(tokens);
+        if begins_with(rest, Word::Star) {
+            (2, past(rest))
+        } else {
+            (1, rest)
+        }
+    } else {
+        (0, tokens)
+    }
+}
+
+/// A type that is next, with its `const` and stars, and the tokens after it.
+#[tactic(auto, unfolding(crate::specs::TypeReading::type_name))]
+pub fn type_name_at(tokens: &[Lexeme]) -> Result<(CType, &[Lexeme]), Refusal>
+    ensures kind { Gives (λ x. (x.0, x.1.now)) result (type_name tokens.now) }
+{
+    let ((base, unsigned), rest) = base_at(past_word(tokens, Word::Const))?;
+    let (stars, rest) = stars_at(rest);
+    Ok((
+        CType {
+            base,
+            unsigned,
+            stars,
+        },
+        rest,
+    ))
+}
+
+/// A type in parentheses that is next, where it begins and ends, and the tokens after it.
+#[tactic(auto, unfolding(crate::specs::TypeReading::type_between))]
+pub fn type_between_at(tokens: &[Lexeme]) -> Result<((CType, (u32, u32)), &[Lexeme]), Refusal>
+    ensures kind { Gives (λ x. (x.0, x.1.now)) result (type_between tokens.now) }
+{
+    let (open, rest) = take(tokens, Word::Open)?;
+    let (kind, rest) = type_name_at(rest)?;
+    let (close, rest) = take(rest, Word::Close)?;
+    Ok(((kind, (open.from, close.to)), rest))
+}

@@ -1,0 +1,13 @@
+mod Digits
+mod Close
+mod Texts
+mod Within
+mod Standing
+pub mod Tokened
+pub mod Ordered
+pub mod Listing
+pub mod Alone
+pub mod Valued
+pub mod Markers
+pub mod Each
+pub mod Strings

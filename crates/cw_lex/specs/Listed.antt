@@ -1,0 +1,16 @@
+-- What tokens are: where they lie, and which bytes they have.
+use Rattle.std.specs.Prelude.{◌≡◌, ℕ, ◌-◌, ◌<◌, ◌≤◌, true, List, [], ◌∷◌}
+use Rattle.cw_syntax.specs.Names.{slice}
+use Rattle.cw_syntax.specs.declared.tokens.Token.{Token}
+use Rattle.cw_lex.specs.declared.piece.Piece.TheVariants as piece
+use Rattle.cw_lex.specs.Pieces.{piece_at}
+
+-- the tokens lie between two places, one after the other, and none is empty
+abbrev pub AreInOrder : ℕ → ℕ → List Token → Type 0
+AreInOrder from to [] = from ≤ to
+AreInOrder from to (t ∷ ts) = (from ≤ t.from) × (t.from < t.to) × AreInOrder t.to to ts
+
+-- the bytes of each token, alone, are that token
+abbrev pub AreOfTheirKind : List ℕ → List Token → Type 0
+AreOfTheirKind source [] = Unit {0}
+AreOfTheirKind source (t ∷ ts) = (piece_at true (slice source t.from t.to) ≡ piece.Token t.kind (t.to - t.from)) × AreOfTheirKind source ts

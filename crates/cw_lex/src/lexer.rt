@@ -1,0 +1,134 @@
+//! The tokens of a source.
+
+ghost use Rattle.std.specs.Prelude.{◌≡◌, ◌+◌, ◌^◌, ◌<◌, ◌≤◌, ◌-◌, ◌⊎◌, length, drop, IfOk, IfErr};
+ghost use Rattle.cw_lex.specs.declared.lexer.LexFault.TheVariants.{NoMemory};
+ghost use Rattle.cw_lex.specs.declared.piece.Piece.TheVariants as piece;
+ghost use Rattle.cw_lex.specs.Marks.{HasNoMarker};
+ghost use Rattle.cw_lex.specs.Pieces.{piece_at};
+ghost use Rattle.cw_lex.specs.Tokens.{fresh_behind, AreTokens, fault_at, IsFault};
+ghost use Rattle.cw_lex.specs.Pieces.{IsWithin};
+
+use crate::bytes::tail;
+use crate::marks::first_marker;
+use crate::piece::{Defect, Piece, front_piece, is_fresh_behind};
+use cw_syntax::tokens::Token;
+use std::alloc::{AllocError, AllocFailed, Global};
+use thiserror::Error;
+
+/// Why a source has no tokens. Places are counted in bytes from the front of the source.
+#[derive(Debug, Drop, Error)]
+pub enum LexFault {
+    /// A byte that is in no token and no white space.
+    #[error("bad byte at {0}")]
+    BadByte(u32),
+    /// A comment that isn't closed.
+    #[error("open comment at {0}")]
+    OpenComment(u32),
+    /// A character or a string that isn't closed, or has an item that is none.
+    #[error("open string at {0}")]
+    OpenString(u32),
+    /// A number that isn't spelled as one, or is too large.
+    #[error("number at {0}")]
+    Number(u32),
+    /// A directive that isn't `#include`.
+    #[error("directive at {0}")]
+    Directive(u32),
+    /// `cw{*` or `*}cw`.
+    #[error("marker at {0}")]
+    Marker(u32),
+    #[error("no memory is left")]
+    NoMemory,
+}
+
+impl From<AllocError> for LexFault {
+    ghost from_gives = { λ _ fault. fault ≡ NoMemory };
+
+    fn from(_refused: AllocError) -> LexFault {
+        LexFault::NoMemory
+    }
+}
+
+impl<T: Drop> From<AllocFailed<T>> for LexFault {
+    ghost from_gives = { λ _ fault. fault ≡ NoMemory };
+
+    fn from(_refused: AllocFailed<T>) -> LexFault {
+        LexFault::NoMemory
+    }
+}
+
+fn fault_at(defect: Defect, at: u32) -> LexFault
+    ensures { result ≡ fault_at defect at }
+{
+    match defect {
+        Defect::BadByte => LexFault::BadByte(at),
+        Defect::OpenComment => LexFault::OpenComment(at),
+        Defect::OpenString => LexFault::OpenString(at),
+        Defect::Number => LexFault::Number(at),
+        Defect::Directive => LexFault::Directive(at),
+    }
+}
+
+/// The piece at an index, given whether no token stands before it on its line.
+fn piece_from(source: &[u8], at: usize, fresh: bool) -> Piece
+    requires short { length source.now ≤ 262144 }
+    requires in_range { at < length source.now }
+    ensures value { result ≡ piece_at fresh (drop at source.now) }
+    ensures within { IsWithin (length source.now - at) result }
+{
+    front_piece(fresh, tail(source, at))
+}
+
+/// Whether no token stands on the line so far, behind a piece of so many bytes that is white space, a comment or an include line.
+fn is_fresh(source: &[u8], at: usize, fresh: bool, count: usize) -> bool
+    requires { at + count ≤ length source.now }
+    ensures { result ≡ fresh_behind fresh (piece.Gap count) (drop at source.now) }
+{
+    is_fresh_behind(fresh, tail(source, at), count)
+}
+
+fn read(alloc: Global, source: &[u8]) -> Result<Vec<Token>, LexFault>
+    requires short { length source.now ≤ 262144 }
+    requires unmarked { HasNoMarker source.now }
+    ensures tokens { IfOk result (λ v. AreTokens source.now v.items) }
+    ensures fault { IfErr result (λ f. (f ≡ NoMemory) ⊎ IsFault source.now f) }
+{
+    let mut tokens = Vec::new(alloc);
+    let mut at: usize = 0;
+    let mut fresh = true;
+    'pieces: while at < source.len() {
+        match piece_from(source, at, fresh) {
+            Piece::Gap(n) => {
+                fresh = is_fresh(source, at, fresh, n);
+                at += n;
+            }
+            Piece::Token(kind, n) => {
+                let token = Token {
+                    kind,
+                    from: at as u32,
+                    to: (at + n) as u32,
+                };
+                tokens.push(token)?;
+                fresh = false;
+                at += n;
+            }
+            Piece::Fault(defect) => return Err(fault_at(defect, at as u32)),
+        }
+    }
+    Ok(tokens)
+}
+
+/// The tokens of a source of at most 262,144 bytes, in order: all of it but white space, comments and include lines, each token the
+/// longest that stands at its place.
+///
+/// Refused are first of all markers, `cw{*` and `*}cw`, wherever they stand: the fault names the least place where one begins. Where
+/// there is none, the fault is the one at the least place.
+pub fn lex(alloc: Global, source: &[u8]) -> Result<Vec<Token>, LexFault>
+    requires short { length source.now ≤ 262144 }
+    ensures tokens { IfOk result (λ v. AreTokens source.now v.items) }
+    ensures fault { IfErr result (λ f. (f ≡ NoMemory) ⊎ IsFault source.now f) }
+{
+    match first_marker(source) {
+        Some(at) => Err(LexFault::Marker(at as u32)),
+        None => read(alloc, source),
+    }
+}

@@ -1,0 +1,18 @@
+//! The tokens of a source of the C subset.
+#![tactic(auto)]
+
+mod bytes;
+mod characters;
+mod keywords;
+mod laws;
+mod lexer;
+mod marks;
+mod numbers;
+mod piece;
+#[cfg(test)]
+mod tests;
+
+pub use characters::character_value;
+pub use laws::{laws_of_sources, laws_of_texts, laws_of_tokens};
+pub use lexer::{LexFault, lex};
+pub use numbers::number_value;

@@ -1,0 +1,236 @@
+//! What stands at the front of some bytes.
+
+ghost use Rattle.std.specs.Prelude.{◌≡◌, ◌+◌, ◌^◌, ◌<◌, ◌≤◌, ◌==◌, true, nat_eq, length, drop, codes, IfSome};
+ghost use Rattle.std.specs.List.{prefix_len, take_while, starts_with, list_any};
+ghost use Rattle.cw_syntax.specs.declared.tokens.TokenKind.TheVariants as kind;
+ghost use Rattle.cw_lex.specs.Characters.{character_len, text_len};
+ghost use Rattle.cw_lex.specs.Marks.{mark_len};
+ghost use Rattle.cw_lex.specs.Bytes.{is_white, is_blank, is_line_byte, is_name_byte, is_number_byte};
+ghost use Rattle.cw_lex.specs.Pieces.{word, number, quoted, to_close, comment, is_include, line, directive, mark, piece_at};
+ghost use Rattle.cw_lex.specs.declared.piece.Piece.TheVariants as piece;
+ghost use Rattle.cw_lex.specs.Tokens.{fresh_behind};
+
+use crate::bytes::{
+    is_blank, is_digit, is_letter, is_line_byte, is_name_byte, is_number_byte, is_white, tail,
+};
+use crate::characters::{character_length, text_length};
+use crate::keywords::is_keyword;
+use crate::marks::mark_length;
+use crate::numbers::is_number;
+use cw_syntax::tokens::TokenKind;
+
+/// Why no token can be read.
+#[derive(Clone, Copy, Drop)]
+pub enum Defect {
+    BadByte,
+    OpenComment,
+    OpenString,
+    Number,
+    Directive,
+}
+
+/// What stands at the front of some bytes, and how many of them it takes.
+#[derive(Clone, Copy, Drop)]
+pub enum Piece {
+    /// White space, a comment or an include line.
+    Gap(usize),
+    Token(TokenKind, usize),
+    Fault(Defect),
+}
+
+fn white_length(bytes: &[u8]) -> usize
+    ensures value { result ≡ prefix_len is_white bytes.now }
+    ensures within { result ≤ length bytes.now }
+{
+    bytes.iter().take_while(|b| is_white(**b)).count()
+}
+
+fn blank_length(bytes: &[u8]) -> usize
+    ensures value { result ≡ prefix_len is_blank bytes.now }
+    ensures within { result ≤ length bytes.now }
+{
+    bytes.iter().take_while(|b| is_blank(**b)).count()
+}
+
+fn line_length(bytes: &[u8]) -> usize
+    ensures value { result ≡ prefix_len is_line_byte bytes.now }
+    ensures within { result ≤ length bytes.now }
+{
+    bytes.iter().take_while(|b| is_line_byte(**b)).count()
+}
+
+fn name_length(bytes: &[u8]) -> usize
+    ensures value { result ≡ prefix_len is_name_byte bytes.now }
+    ensures within { result ≤ length bytes.now }
+{
+    bytes.iter().take_while(|b| is_name_byte(**b)).count()
+}
+
+fn number_length(bytes: &[u8]) -> usize
+    ensures value { result ≡ prefix_len is_number_byte bytes.now }
+    ensures within { result ≤ length bytes.now }
+{
+    bytes.iter().take_while(|b| is_number_byte(**b)).count()
+}
+
+fn word_text(bytes: &[u8]) -> &[u8]
+    ensures { result.now ≡ take_while is_name_byte bytes.now }
+{
+    &bytes[..name_length(bytes)]
+}
+
+fn number_text(bytes: &[u8]) -> &[u8]
+    ensures { result.now ≡ take_while is_number_byte bytes.now }
+{
+    &bytes[..number_length(bytes)]
+}
+
+fn word(text: &[u8]) -> Piece
+    ensures { result ≡ word text.now }
+{
+    if is_keyword(text) {
+        Piece::Token(TokenKind::Keyword, text.len())
+    } else {
+        Piece::Token(TokenKind::Name, text.len())
+    }
+}
+
+fn number(text: &[u8]) -> Piece
+    ensures { result ≡ number text.now }
+{
+    if is_number(text) {
+        Piece::Token(TokenKind::Number, text.len())
+    } else {
+        Piece::Fault(Defect::Number)
+    }
+}
+
+fn character(rest: &[u8]) -> Piece
+    requires { length rest.now < 2 ^ 32 }
+    ensures { result ≡ quoted kind.Character (character_len rest.now) }
+{
+    match character_length(rest) {
+        None => Piece::Fault(Defect::OpenString),
+        Some(n) => Piece::Token(TokenKind::Character, n + 1),
+    }
+}
+
+fn text(rest: &[u8]) -> Piece
+    requires { length rest.now < 2 ^ 32 }
+    ensures { result ≡ quoted kind.Text (text_len 0 rest.now) }
+{
+    match text_length(rest) {
+        None => Piece::Fault(Defect::OpenString),
+        Some(n) => Piece::Token(TokenKind::Text, n + 1),
+    }
+}
+
+fn closes_from(bytes: &[u8], at: usize) -> bool
+    requires { at ≤ length bytes.now }
+    ensures value { result ≡ starts_with nat_eq (drop at bytes.now) (codes "*/") }
+    ensures within { result ≡ true → at + 2 ≤ length bytes.now }
+{
+    tail(bytes, at).starts_with(b"*/")
+}
+
+/// How many bytes there are up to and with the first `*/`.
+fn close_length(bytes: &[u8]) -> Option<usize>
+    ensures value { result ≡ to_close bytes.now }
+    ensures within { IfSome result (λ n. n ≤ length bytes.now) }
+{
+    for at in 0..bytes.len() {
+        if closes_from(bytes, at) {
+            return Some(at + 2);
+        }
+    }
+    None
+}
+
+/// A comment, given what follows its first two bytes.
+fn comment(rest: &[u8]) -> Piece
+    requires { length rest.now < 2 ^ 32 }
+    ensures { result ≡ comment (to_close rest.now) }
+{
+    match close_length(rest) {
+        None => Piece::Fault(Defect::OpenComment),
+        Some(n) => Piece::Gap(n + 2),
+    }
+}
+
+fn is_include(bytes: &[u8]) -> bool
+    ensures { result ≡ is_include bytes.now }
+{
+    word_text(tail(bytes, blank_length(bytes))) == b"include".as_slice()
+}
+
+fn line(bytes: &[u8]) -> Piece
+    ensures { result ≡ line bytes.now }
+{
+    Piece::Gap(line_length(bytes))
+}
+
+fn directive(fresh: bool, bytes: &[u8]) -> Piece
+    requires { 1 ≤ length bytes.now }
+    ensures { result ≡ directive fresh bytes.now }
+{
+    if !fresh {
+        Piece::Fault(Defect::BadByte)
+    } else if is_include(tail(bytes, 1)) {
+        line(bytes)
+    } else {
+        Piece::Fault(Defect::Directive)
+    }
+}
+
+fn mark(bytes: &[u8]) -> Piece
+    ensures { result ≡ mark (mark_len bytes.now) }
+{
+    match mark_length(bytes) {
+        0 => Piece::Fault(Defect::BadByte),
+        n => Piece::Token(TokenKind::Punctuation, n),
+    }
+}
+
+/// The piece at the front, given whether no token stands before it on its line.
+#[tactic(auto, unfolding(crate::specs::Pieces::piece_at))]
+pub(crate) fn front_piece(fresh: bool, bytes: &[u8]) -> Piece
+    requires { length bytes.now < 2 ^ 32 }
+    ensures { result ≡ piece_at fresh bytes.now }
+{
+    let [first, rest @ ..] = bytes else {
+        return Piece::Gap(0);
+    };
+    if is_white(*first) {
+        Piece::Gap(white_length(bytes))
+    } else if is_letter(*first) {
+        word(word_text(bytes))
+    } else if is_digit(*first) {
+        number(number_text(bytes))
+    } else if *first == b'\'' {
+        character(rest)
+    } else if *first == b'"' {
+        text(rest)
+    } else if *first == b'#' {
+        directive(fresh, bytes)
+    } else if bytes.starts_with(b"/*") {
+        comment(tail(bytes, 2))
+    } else if bytes.starts_with(b"//") {
+        line(bytes)
+    } else {
+        mark(bytes)
+    }
+}
+
+fn has_line_end(bytes: &[u8]) -> bool
+    ensures { result ≡ list_any (λ b. b == 10) bytes.now }
+{
+    bytes.iter().any(|b| *b == b'\n')
+}
+
+/// Whether no token stands on the line so far, behind so many bytes at the front that hold no token.
+pub(crate) fn is_fresh_behind(fresh: bool, bytes: &[u8], count: usize) -> bool
+    requires { count ≤ length bytes.now }
+    ensures { result ≡ fresh_behind fresh (piece.Gap count) bytes.now }
+{
+    fresh || has_line_end(&bytes[..count])
+}
