@@ -7,7 +7,7 @@ use Rattle.cw_syntax.specs.declared.program.Expr.{Expr, out-Expr}
 use Rattle.cw_syntax.specs.Trees.{Tree, Node, Trees, tree_of, trees_of}
 use Rattle.cw_scope.specs.Names.{plain_name, called_name}
 use Rattle.cw_syntax.specs.Trees.{File}
-use Rattle.cw_scope.specs.Rules.{call_if, is_call, wrong_arity, count}
+use Rattle.cw_scope.specs.Rules.{call_if, is_call, wrong_arity, count, parts_of}
 use Rattle.cw_scope.proofs.Shapes.{node_is}
 
 -- a function of an expression, at the operator that it has
@@ -55,3 +55,6 @@ isnt_wrong source file e n = let o = out-Expr e in ap (wrong_arity source file) 
 pub counted : (es : List Expr) → count (trees_of es) ≡ length es
 counted [] = refl
 counted (e ∷ es) = ap (λ n. n + 1) (counted es) ∙ add-one (length es)
+
+pub parts_are : (e : Expr) → parts_of (tree_of e) ≡ trees_of (out-Expr e).parts.items
+parts_are e = ap parts_of (node_is e)

@@ -1,13 +1,16 @@
 //! The scope rules of the C subset, and the rules of a policy's descriptors in a program.
 #![tactic(auto)]
 
+pub mod check;
 pub mod descriptors;
 pub mod faults;
+mod forms;
 mod lists;
 mod names;
 mod places;
 mod rules;
 mod walks;
 
+pub use check::check_scope;
 pub use descriptors::DescriptorFault;
 pub use faults::ScopeFault;
