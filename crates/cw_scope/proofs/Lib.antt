@@ -4,3 +4,7 @@ pub mod Pushed
 pub mod Operators
 pub mod Lesser
 pub mod Standing
+pub mod Found
+pub mod Acting
+pub mod Once
+pub mod Starting

@@ -1,8 +1,10 @@
 //! The scope rules of the C subset, and the rules of a policy's descriptors in a program.
 #![tactic(auto)]
 
+mod actions;
 pub mod check;
 pub mod descriptors;
+mod entries;
 pub mod faults;
 mod forms;
 mod lists;
@@ -12,5 +14,5 @@ mod rules;
 mod walks;
 
 pub use check::check_scope;
-pub use descriptors::DescriptorFault;
+pub use descriptors::{DescriptorFault, check_descriptors};
 pub use faults::ScopeFault;
