@@ -1,0 +1,10 @@
+-- The proofs.
+pub mod Shapes
+pub mod Pushed
+pub mod Operators
+pub mod Lesser
+pub mod Standing
+pub mod Found
+pub mod Acting
+pub mod Once
+pub mod Starting

@@ -1,0 +1,6 @@
+use Rattle.std.proofs.Common.{◌≡◌, map, drop}
+use Rattle.cw_scope.specs.Rules.{sooner, least, reserved}
+use Rattle.cw_scope.proofs.places.reserved_names.Given as goal
+
+abbrev pub invariant-loop-name : goal.invariant-loop-name
+invariant-loop-name l = sooner l.place (least (map (reserved l.source) (drop l.name-index l.names))) ≡ least (map (reserved l.source) l.names)

@@ -1,0 +1,8 @@
+use Rattle.std.proofs.Common.{◌≡◌, map, drop}
+use Rattle.cw_syntax.specs.Trees.{file_of}
+use Rattle.cw_scope.specs.Rules.{sooner, least, wrong_arity}
+use Rattle.cw_scope.specs.Held.{tree_at}
+use Rattle.cw_scope.proofs.places.wrong_arities.Given as goal
+
+abbrev pub invariant-loop-e : goal.invariant-loop-e
+invariant-loop-e l = sooner l.place (least (map (wrong_arity l.source (file_of l.program)) (map tree_at (drop l.e-index l.nodes)))) ≡ least (map (wrong_arity l.source (file_of l.program)) (map tree_at l.nodes))

@@ -1,0 +1,30 @@
+-- What the program holds of a file's lists, and what it stands for.
+use Rattle.std.specs.Prelude.{List, ◌++◌, Option, Some, None}
+use Rattle.std.specs.Option.{option_map}
+use Rattle.std.specs.Borrow.{Bor}
+use Rattle.cw_syntax.specs.declared.program.Expr.{Expr}
+use Rattle.cw_syntax.specs.Trees.{Tree, tree_of, Perhaps, nothing, just, statement_of}
+use Rattle.cw_scope.specs.declared.walks.Placed.{Placed as HeldPlaced}
+use Rattle.cw_scope.specs.declared.walks.Whole.{Whole as HeldWhole}
+use Rattle.cw_syntax.specs.declared.program.Head.{Head, out-Head}
+use Rattle.cw_syntax.specs.declared.program.Stmt.{Stmt}
+use Rattle.cw_scope.specs.Walks.{Placed, Whole, given, init_trees}
+
+abbrev pub placed_of : HeldPlaced → Placed
+placed_of p = record { statement = statement_of p.statement.now; looped = p.looped }
+
+abbrev pub whole_of : HeldWhole → Whole
+whole_of w = record { tree = tree_of w.tree.now; stands = w.stands }
+
+abbrev pub tree_at : Bor Expr → Tree
+tree_at e = tree_of e.now
+
+abbrev pub perhaps_of : Option Stmt → Perhaps
+perhaps_of None = nothing
+perhaps_of (Some s) = just (statement_of s)
+
+-- the expressions of a `for` between its parentheses
+abbrev pub head_trees : Head → List Tree
+head_trees h =
+    let o = out-Head h in
+    init_trees (perhaps_of o.init) ++ given (option_map tree_of o.test) ++ given (option_map tree_of o.step)

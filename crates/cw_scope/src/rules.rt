@@ -1,0 +1,231 @@
+//! The scope rules, each for one thing that stands in a program.
+
+ghost use Rattle.std.specs.Prelude.{◌≡◌, [], map, IfOk, length, nat_lt, take, codes};
+ghost use Rattle.std.specs.List.{list_any};
+ghost use Rattle.std.specs.Option.{option_map};
+ghost use Rattle.cw_syntax.specs.Names.{text};
+ghost use Rattle.cw_syntax.specs.Trees.{tree_of, definition_of, file_of};
+ghost use Rattle.cw_scope.specs.Rules.{sooner, at_if, repeated, different, is_main, is_reserved, is_call, defined, is_defined, has_main, wrong_arity, function_name, defined_call, external_call, main_call, reserved, loose_jump};
+ghost use Rattle.cw_scope.specs.Held.{placed_of};
+ghost use Rattle.std.specs.Str.{bytes_eq};
+
+use crate::names::text;
+use crate::walks::Placed;
+use cw_syntax::program::{Expr, Function, Name, Op, Program, What};
+use std::alloc::{AllocError, Global};
+
+/// The lesser of two places, where there is one.
+pub(crate) fn sooner(place: Option<u32>, other: Option<u32>) -> Option<u32>
+    ensures { result ≡ sooner place other }
+{
+    match place {
+        None => other,
+        Some(a) => match other {
+            None => Some(a),
+            Some(b) => Some(a.min(b)),
+        },
+    }
+}
+
+/// A place, where something fails there.
+pub(crate) fn at_if(fails: bool, place: u32) -> Option<u32>
+    ensures { result ≡ at_if fails place }
+{
+    if fails { Some(place) } else { None }
+}
+
+fn is_among(text: &[u8], texts: &[&[u8]]) -> bool
+    ensures { result ≡ list_any (bytes_eq text.now) (map (λ t. t.now) texts.now) }
+{
+    for other in texts {
+        if text == *other {
+            return true;
+        }
+    }
+    false
+}
+
+/// The first name with the text of one before it.
+pub(crate) fn repeated(
+    alloc: Global,
+    source: &[u8],
+    names: &[Name],
+) -> Result<Option<Name>, AllocError>
+    ensures { IfOk result (λ found. found ≡ repeated source.now [] names.now) }
+{
+    let mut before = Vec::new(alloc);
+    for name in names {
+        let spelled = text(source, *name);
+        if is_among(spelled, &before) {
+            return Ok(Some(*name));
+        }
+        before.push(spelled)?;
+    }
+    Ok(None)
+}
+
+/// Whether these names have more than this many different texts.
+pub(crate) fn are_more(
+    alloc: Global,
+    source: &[u8],
+    names: &[Name],
+    most: usize,
+) -> Result<bool, AllocError>
+    ensures { IfOk result (λ more. more ≡ nat_lt most (length (different source.now [] names.now))) }
+{
+    let mut before = Vec::new(alloc);
+    for name in names {
+        let spelled = text(source, *name);
+        if !is_among(spelled, &before) {
+            if before.len() >= most {
+                return Ok(true);
+            }
+            before.push(spelled)?;
+        }
+    }
+    Ok(false)
+}
+
+/// The definition of the function with this name.
+pub(crate) fn defined<'p>(source: &[u8], program: &'p Program, name: &[u8]) -> Option<&'p Function>
+    ensures { option_map (λ f. definition_of f.now) result ≡ defined source.now (file_of program.now) name.now }
+{
+    for function in &program.functions {
+        if name == text(source, function.name) {
+            return Some(function);
+        }
+    }
+    None
+}
+
+/// Whether a function with this name is defined.
+pub(crate) fn is_defined(source: &[u8], program: &Program, name: Name) -> bool
+    ensures { result ≡ is_defined source.now (file_of program.now) (text source.now name) }
+{
+    defined(source, program, text(source, name)).is_some()
+}
+
+fn main_text() -> &'static [u8]
+    ensures { result.now ≡ codes "main" }
+{
+    b"main"
+}
+
+/// Whether `main` is defined.
+pub(crate) fn has_main(source: &[u8], program: &Program) -> bool
+    ensures { result ≡ has_main source.now (file_of program.now) }
+{
+    defined(source, program, main_text()).is_some()
+}
+
+/// A call of a defined function with another number of arguments than the function has parameters.
+pub(crate) fn wrong_arity(source: &[u8], program: &Program, e: &Expr) -> Option<u32>
+    ensures { result ≡ wrong_arity source.now (file_of program.now) (tree_of e.now) }
+{
+    match e.op {
+        Op::Call(name) => match defined(source, program, text(source, name)) {
+            None => None,
+            Some(function) => at_if(e.parts.len() != function.params.len(), e.from),
+        },
+        _ => None,
+    }
+}
+
+/// A name of a defined function.
+pub(crate) fn function_name(source: &[u8], program: &Program, name: Name) -> Option<u32>
+    ensures { result ≡ function_name source.now (file_of program.now) name }
+{
+    at_if(is_defined(source, program, name), name.from)
+}
+
+pub(crate) fn is_call(e: &Expr) -> bool
+    ensures { result ≡ is_call (tree_of e.now) }
+{
+    match e.op {
+        Op::Call(_) => true,
+        _ => false,
+    }
+}
+
+/// A call of a defined function.
+pub(crate) fn defined_call(source: &[u8], program: &Program, e: &Expr) -> Option<u32>
+    ensures { result ≡ defined_call source.now (file_of program.now) (tree_of e.now) }
+{
+    match e.op {
+        Op::Call(name) => at_if(is_defined(source, program, name), e.from),
+        _ => None,
+    }
+}
+
+/// A call of any other name.
+pub(crate) fn external_call(source: &[u8], program: &Program, e: &Expr) -> Option<u32>
+    ensures { result ≡ external_call source.now (file_of program.now) (tree_of e.now) }
+{
+    match e.op {
+        Op::Call(name) => at_if(!is_defined(source, program, name), e.from),
+        _ => None,
+    }
+}
+
+fn is_main(name: &[u8]) -> bool
+    ensures { result ≡ is_main name.now }
+{
+    name == main_text()
+}
+
+/// A call of `main`.
+pub(crate) fn main_call(source: &[u8], e: &Expr) -> Option<u32>
+    ensures { result ≡ main_call source.now (tree_of e.now) }
+{
+    match e.op {
+        Op::Call(name) => at_if(is_main(text(source, name)), e.from),
+        _ => None,
+    }
+}
+
+fn begins_with(name: &[u8], mark: &[u8]) -> bool
+    requires { length mark.now ≡ 3 }
+    ensures { result ≡ bytes_eq (take 3 name.now) mark.now }
+{
+    let front = name.len().min(3);
+    &name[..front] == mark
+}
+
+fn lower_mark() -> &'static [u8]
+    ensures { result.now ≡ codes "cw_" }
+{
+    b"cw_"
+}
+
+fn upper_mark() -> &'static [u8]
+    ensures { result.now ≡ codes "CW_" }
+{
+    b"CW_"
+}
+
+fn is_reserved(name: &[u8]) -> bool
+    ensures { result ≡ is_reserved name.now }
+{
+    begins_with(name, lower_mark()) || begins_with(name, upper_mark())
+}
+
+/// A name that begins with `cw_` or `CW_`.
+pub(crate) fn reserved(source: &[u8], name: Name) -> Option<u32>
+    ensures { result ≡ reserved source.now name }
+{
+    at_if(is_reserved(text(source, name)), name.from)
+}
+
+/// A `break` or `continue` that stands in no loop.
+pub(crate) fn loose_jump(placed: Placed) -> Option<u32>
+    ensures { result ≡ loose_jump (placed_of placed.entry).looped (placed_of placed.entry).statement }
+{
+    let statement = placed.statement;
+    match &statement.what {
+        What::Break | What::Continue => at_if(!placed.looped, statement.from),
+        What::Block(_) | What::Label(_, _, _) | What::If(_, _, _) => None,
+        What::While(_, _) | What::Do(_, _) => None,
+        What::For(_, _) => None,
+        What::Empty | What::Decl(_) | What::Expr(_) | What::Return(_) => None,
+    }
+}

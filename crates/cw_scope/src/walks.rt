@@ -1,0 +1,86 @@
+//! What stands in a program, as whole lists: its statements, its expressions.
+
+ghost use Rattle.std.specs.Prelude.{◌≡◌, ◌++◌, map, IfOk};
+ghost use Rattle.cw_syntax.specs.Trees.{tree_of, trees_of, statement_of, statements_of};
+ghost use Rattle.cw_scope.specs.Walks.{nodes, nodes_in, placed, placed_all};
+ghost use Rattle.cw_scope.specs.Held.{placed_of, tree_at};
+
+use cw_syntax::program::{Expr, Stmt, What};
+use std::alloc::AllocError;
+
+/// A statement, and whether it stands in a loop.
+#[derive(Clone, Copy, Drop)]
+pub(crate) struct Placed<'p> {
+    pub statement: &'p Stmt,
+    pub looped: bool,
+}
+
+/// A whole expression, and whether it is the whole of a statement.
+#[derive(Clone, Copy, Drop)]
+pub(crate) struct Whole<'p> {
+    pub tree: &'p Expr,
+    pub stands: bool,
+}
+
+/// Appends an expression and all that are in it, each before its parts, these from left to right.
+#[cycle(nodes)]
+pub(crate) fn put_nodes<'p>(e: &'p Expr, out: &mut Vec<&'p Expr>) -> Result<(), AllocError>
+    ensures { IfOk result (λ _. map tree_at out.new.items ≡ map tree_at out.old.items ++ nodes (tree_of e.now)) }
+{
+    out.push(e)?;
+    put_parts(&e.parts, out)
+}
+
+/// Appends these expressions with all that are in them.
+#[cycle(nodes)]
+pub(crate) fn put_parts<'p>(parts: &'p [Expr], out: &mut Vec<&'p Expr>) -> Result<(), AllocError>
+    ensures { IfOk result (λ _. map tree_at out.new.items ≡ map tree_at out.old.items ++ nodes_in (trees_of parts.now)) }
+{
+    for e in parts {
+        put_nodes(e, out)?;
+    }
+    Ok(())
+}
+
+/// Appends a statement and all that are in it, each before those in it.
+#[cycle(placed)]
+fn put_statement<'p>(
+    statement: &'p Stmt,
+    looped: bool,
+    out: &mut Vec<Placed<'p>>,
+) -> Result<(), AllocError>
+    ensures { IfOk result (λ _. map placed_of out.new.items ≡ map placed_of out.old.items ++ placed looped (statement_of statement.now)) }
+{
+    out.push(Placed { statement, looped })?;
+    match &statement.what {
+        What::Block(statements) => put_statements(statements, looped, out),
+        What::Label(_, _, body) => put_statement(body, looped, out),
+        What::If(_, arm, other) => {
+            put_statement(arm, looped, out)?;
+            match other {
+                None => Ok(()),
+                Some(other) => put_statement(other, looped, out),
+            }
+        }
+        What::While(_, body) => put_statement(body, true, out),
+        What::Do(body, _) => put_statement(body, true, out),
+        What::For(_, body) => put_statement(body, true, out),
+        What::Decl(_) | What::Expr(_) | What::Empty => Ok(()),
+        What::Break | What::Continue | What::Return(_) => Ok(()),
+    }
+}
+
+/// Appends these statements with all that are in them.
+#[cycle(placed)]
+pub(crate) fn put_statements<'p>(
+    statements: &'p [Stmt],
+    looped: bool,
+    out: &mut Vec<Placed<'p>>,
+) -> Result<(), AllocError>
+    ensures { IfOk result (λ _. map placed_of out.new.items ≡ map placed_of out.old.items ++ placed_all looped (statements_of statements.now)) }
+{
+    for statement in statements {
+        put_statement(statement, looped, out)?;
+    }
+    Ok(())
+}
