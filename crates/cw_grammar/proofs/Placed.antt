@@ -1,9 +1,9 @@
 -- Where the tokens of a source lie.
 use Rattle.std.proofs.Common.{◌≡◌, ℕ, zero, suc, ◌-◌, ◌^◌, ◌<◌, ◌≤◌, true, List, [], ◌∷◌, length, drop, sym, ap, ◌∙◌, arith, slice_index_or, length-drop}
 use Rattle.std.proofs.lemmas.List.{length-take}
-use Rattle.cw_syntax.specs.declared.tokens.TokenKind.TheVariants as kind
-use Rattle.cw_syntax.specs.declared.tokens.TokenKind.{TokenKind}
-use Rattle.cw_syntax.specs.declared.tokens.Token.{Token}
+use Rattle.cw_lex.specs.declared.tokens.TokenKind.TheVariants as kind
+use Rattle.cw_lex.specs.declared.tokens.TokenKind.{TokenKind}
+use Rattle.cw_lex.specs.declared.tokens.Token.{Token}
 use Rattle.cw_syntax.specs.Names.{slice}
 use Rattle.cw_lex.specs.declared.piece.Piece.TheVariants as piece
 use Rattle.cw_lex.specs.Pieces.{piece_at}

@@ -2,9 +2,9 @@
 use Rattle.std.specs.Prelude.{ℕ, Option, Some, None, List, [], ◌∷◌, map, codes, if◌then◌else◌}
 use Rattle.std.specs.Option.{unwrap_or}
 use Rattle.std.specs.Str.{bytes_eq}
-use Rattle.cw_syntax.specs.declared.tokens.TokenKind.{TokenKind}
-use Rattle.cw_syntax.specs.declared.tokens.TokenKind.TheVariants as kind
-use Rattle.cw_syntax.specs.declared.tokens.Token.{Token}
+use Rattle.cw_lex.specs.declared.tokens.TokenKind.{TokenKind}
+use Rattle.cw_lex.specs.declared.tokens.TokenKind.TheVariants as kind
+use Rattle.cw_lex.specs.declared.tokens.Token.{Token}
 use Rattle.cw_syntax.specs.Names.{slice}
 use Rattle.cw_lex.specs.Numbers.{number_of}
 use Rattle.cw_lex.specs.Characters.{character_of}

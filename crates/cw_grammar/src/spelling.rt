@@ -1,7 +1,7 @@
 //! The words of a source's tokens.
 
 ghost use Rattle.std.specs.Prelude.{◌≡◌, ◌^◌, ◌<◌, ◌≤◌, length, IfOk};
-ghost use Rattle.cw_syntax.specs.declared.tokens.TokenKind.TheVariants.{Number};
+ghost use Rattle.cw_lex.specs.declared.tokens.TokenKind.TheVariants.{Number};
 ghost use Rattle.cw_syntax.specs.Names.{slice};
 ghost use Rattle.cw_lex.specs.Numbers.{number_of};
 ghost use Rattle.cw_lex.specs.Tokens.{AreTokens};
@@ -10,7 +10,7 @@ ghost use Rattle.cw_grammar.specs.Spelling.{keywords, long_marks, short_marks, s
 use crate::words::{Lexeme, Word};
 use cw_core::NoMemory;
 use cw_lex::{character_value, number_value};
-use cw_syntax::tokens::{Token, TokenKind};
+use cw_lex::{Token, TokenKind};
 use std::alloc::Global;
 
 /// The keyword of the grammar that this text is.

@@ -2,7 +2,7 @@
 use Rattle.std.proofs.Common.{◌≡◌, ℕ, ◌<◌, ◌⊎◌, Bool, true, List, [], ◌∷◌, drop, refl, sym, ap, subst, ◌∙◌, arith, inl, inr}
 use Rattle.std.proofs.lemmas.Bool.{cases_order, both_ways}
 use Rattle.std.specs.List.{sum_by}
-use Rattle.cw_syntax.specs.declared.tokens.Token.{Token}
+use Rattle.cw_lex.specs.declared.tokens.Token.{Token}
 use Rattle.cw_lex.specs.declared.piece.Defect.{Defect}
 use Rattle.cw_lex.specs.declared.piece.Piece.{Piece}
 use Rattle.cw_lex.specs.declared.piece.Piece.TheVariants as piece

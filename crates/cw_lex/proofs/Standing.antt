@@ -4,8 +4,8 @@ use Rattle.std.specs.List.{sum_by}
 use Rattle.std.proofs.lemmas.List.{append-nil}
 use Rattle.std.proofs.lemmas.List.Sums.{sum_by-append, sum_by-cons}
 use Rattle.std.proofs.Math.ListN.{drop_of_length-le}
-use Rattle.cw_syntax.specs.declared.tokens.TokenKind.{TokenKind}
-use Rattle.cw_syntax.specs.declared.tokens.Token.{Token}
+use Rattle.cw_lex.specs.declared.tokens.TokenKind.{TokenKind}
+use Rattle.cw_lex.specs.declared.tokens.Token.{Token}
 use Rattle.cw_lex.specs.declared.piece.Defect.{Defect}
 use Rattle.cw_lex.specs.declared.piece.Defect.TheVariants as defect
 use Rattle.cw_lex.specs.declared.piece.Piece.{Piece}

@@ -1,9 +1,9 @@
 //! What holds of every source's tokens.
 
 ghost use Rattle.std.specs.Prelude.{◌≡◌, ◌^◌, ◌<◌, ◌↔◌, ℕ, List, length, true};
-ghost use Rattle.cw_syntax.specs.declared.tokens.Token.{Token};
-ghost use Rattle.cw_syntax.specs.declared.tokens.TokenKind.{TokenKind};
-ghost use Rattle.cw_syntax.specs.declared.tokens.TokenKind.TheVariants.{Keyword, Number, Character, Text};
+ghost use Rattle.cw_lex.specs.declared.tokens.Token.{Token};
+ghost use Rattle.cw_lex.specs.declared.tokens.TokenKind.{TokenKind};
+ghost use Rattle.cw_lex.specs.declared.tokens.TokenKind.TheVariants.{Keyword, Number, Character, Text};
 ghost use Rattle.cw_lex.specs.declared.piece.Piece.TheVariants as piece;
 ghost use Rattle.cw_lex.specs.declared.lexer.LexFault.{LexFault};
 ghost use Rattle.cw_lex.specs.Characters.{character_of};

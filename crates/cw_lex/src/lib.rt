@@ -9,6 +9,7 @@ mod lexer;
 mod marks;
 mod numbers;
 mod piece;
+mod tokens;
 #[cfg(test)]
 mod tests;
 
@@ -16,3 +17,4 @@ pub use characters::character_value;
 pub use laws::{laws_of_sources, laws_of_texts, laws_of_tokens};
 pub use lexer::{LexFault, lex};
 pub use numbers::number_value;
+pub use tokens::{Token, TokenKind};

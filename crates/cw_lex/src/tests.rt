@@ -4,7 +4,7 @@ use crate::numbers::is_number;
 use crate::{
     LexFault, character_value, laws_of_sources, laws_of_texts, laws_of_tokens, lex, number_value,
 };
-use cw_syntax::tokens::{Token, TokenKind};
+use crate::tokens::{Token, TokenKind};
 use std::alloc::{AllocError, Global};
 use std::test::Fail;
 

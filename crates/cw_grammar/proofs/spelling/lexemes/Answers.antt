@@ -1,4 +1,4 @@
-use Rattle.cw_syntax.specs.declared.tokens.TokenKind.TheVariants.{Name}
+use Rattle.cw_lex.specs.declared.tokens.TokenKind.TheVariants.{Name}
 use Rattle.cw_grammar.proofs.Placed.{placed}
 use Rattle.cw_grammar.proofs.spelling.lexemes.Goals as goal
 
