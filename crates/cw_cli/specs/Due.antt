@@ -1,5 +1,5 @@
 -- What is due for the bytes of a policy and of a source.
-use Rattle.std.specs.Prelude.{◌≡◌, ℕ, ◌<◌, List, [], length, Some, None}
+use Rattle.std.specs.Prelude.{◌≡◌, ◌≢◌, ℕ, ◌<◌, List, [], length, Bool, true, false, Some, None}
 use Rattle.cw_rights.specs.Policies.{PlainPolicy}
 use Rattle.cw_syntax.specs.Trees.{File}
 use Rattle.cw_syntax.specs.Marks.{marks_of}
@@ -14,16 +14,24 @@ use Rattle.cw_game.specs.Games.{Game}
 use Rattle.cw_game.specs.Conditions.{IsAt}
 use Rattle.cw_parse.specs.First.{ReadsFirst}
 use Rattle.cw_policy.specs.Answer.{SpellsFirst}
+use Rattle.cw_regex.specs.declared.read.RegexFault.TheVariants.{TooDeep}
+use Rattle.cw_policies.specs.declared.fault.PolicyFault.{PolicyFault}
+use Rattle.cw_policies.specs.declared.fault.PolicyFault.TheVariants.{Limit, Regex, NoMemory}
+use Rattle.cw_policies.specs.Answer.{Spells, IsFault}
+use Rattle.cw_policies.specs.Lines.{fault_line}
 use Rattle.cw_echeck.specs.Beating.{IsGameOf}
 use Rattle.cw_text.specs.StrategyText.{strategy_text}
 use Rattle.cw_emit.specs.Cut.{cut}
 use Rattle.cw_emit.specs.Woven.{Stands}
 use Rattle.cw_cli.specs.declared.answer.Answer.{Answer}
-use Rattle.cw_cli.specs.declared.answer.Answer.TheVariants.{SourceNotYet as SourceData, PolicyNotYet as PolicyData, NoLabel as LabelData, Woven as WovenData, Refuted as RefutedData}
+use Rattle.cw_cli.specs.declared.answer.Answer.TheVariants.{PolicyRefused as PolicyRefusedData, PolicyOverLimit as PolicyOverData, SourceNotYet as SourceData, PolicyNotYet as PolicyData, NoLabel as LabelData, Woven as WovenData, Refuted as RefutedData}
 use Rattle.cw_cli.specs.Labels.{missing_label}
 
--- What may be due: a refusal of the source, of the policy, of a label of the policy, a woven text, or the text of a strategy.
+-- What may be due: a refusal of the policy with the line that tells why, of the source, of a label of the policy, a woven text, or the text
+-- of a strategy.
 pub data Due : Type 0 where
+  PolicyRefused : (line : List ℕ) → Due
+  PolicyOverLimit : (line : List ℕ) → Due
   SourceNotYet : Due
   PolicyNotYet : Due
   NoLabel : (name : List ℕ) → Due
@@ -31,6 +39,8 @@ pub data Due : Type 0 where
   Refuted : (text : List ℕ) → Due
 
 abbrev pub due_of : Answer → Due
+due_of (PolicyRefusedData line) = PolicyRefused line.items
+due_of (PolicyOverData line) = PolicyOverLimit line.items
 due_of SourceData = SourceNotYet
 due_of PolicyData = PolicyNotYet
 due_of (LabelData name) = NoLabel name.items
@@ -84,12 +94,36 @@ IsDueOf plain source file (Woven text) = IsWoven plain source file text
 IsDueOf plain source file (Refuted text) = IsRefuted plain source file text
 IsDueOf plain source file due = ⊥
 
+-- a fault of a policy that says that a quantity is over its limit
+abbrev pub is_limit : PolicyFault → Bool
+is_limit (Limit quantity) = true
+is_limit (Regex index TooDeep) = true
+is_limit _ = false
+
+-- the line of the policy's first fault, by whether that is a limit
+abbrev pub IsRefusal : List ℕ → Bool → List ℕ → Type 0
+IsRefusal policy limit line = (f : PolicyFault) × IsFault policy f × (f ≢ NoMemory) × (is_limit f ≡ limit) × (line ≡ fault_line f)
+
+-- what is due for a fault: none for want of memory
+abbrev pub IsRefusalOf : PolicyFault → Due → Type 0
+IsRefusalOf f (PolicyRefused line) = (f ≢ NoMemory) × (is_limit f ≡ false) × (line ≡ fault_line f)
+IsRefusalOf f (PolicyOverLimit line) = (f ≢ NoMemory) × (is_limit f ≡ true) × (line ≡ fault_line f)
+IsRefusalOf f due = ⊥
+
+-- The policy is spelled as a whole, and the source has each label that it names.
+abbrev pub HasLabels : List ℕ → List ℕ → File → Type 0
+HasLabels policy source file = (whole : PlainPolicy) × Spells policy whole × (missing_label source file whole.labels ≡ None)
+
+-- The policy is judged first, then the source, then the labels, and then whether the policy is of the first form.
 abbrev pub IsDue : List ℕ → List ℕ → Due → Type 0
-IsDue policy source SourceNotYet = (file : File) → ReadsFirst source file → ⊥
-IsDue policy source PolicyNotYet = (file : File) × ReadsFirst source file × ((plain : PlainPolicy) → SpellsFirst policy plain → ⊥)
+IsDue policy source (PolicyRefused line) = IsRefusal policy false line
+IsDue policy source (PolicyOverLimit line) = IsRefusal policy true line
+IsDue policy source SourceNotYet = ((whole : PlainPolicy) × Spells policy whole) × ((file : File) → ReadsFirst source file → ⊥)
 IsDue policy source (NoLabel name) =
-    (file : File) × (plain : PlainPolicy) × AreRead policy source file plain × (missing_label source file plain.labels ≡ Some name)
+    (file : File) × (whole : PlainPolicy) × ReadsFirst source file × Spells policy whole × (missing_label source file whole.labels ≡ Some name)
+IsDue policy source PolicyNotYet =
+    (file : File) × ReadsFirst source file × HasLabels policy source file × ((plain : PlainPolicy) → SpellsFirst policy plain → ⊥)
 IsDue policy source (Woven text) =
-    (file : File) × (plain : PlainPolicy) × AreRead policy source file plain × (missing_label source file plain.labels ≡ None) × IsWoven plain source file text
+    (file : File) × (plain : PlainPolicy) × AreRead policy source file plain × HasLabels policy source file × IsWoven plain source file text
 IsDue policy source (Refuted text) =
-    (file : File) × (plain : PlainPolicy) × AreRead policy source file plain × (missing_label source file plain.labels ≡ None) × IsRefuted plain source file text
+    (file : File) × (plain : PlainPolicy) × AreRead policy source file plain × HasLabels policy source file × IsRefuted plain source file text

@@ -1,13 +1,13 @@
 //! What is due for a policy and a source.
 
-ghost use Rattle.std.specs.Prelude.{◌≡◌, ◌≤◌, ◌<◌, List, [], length, map, IfOk, IfSome, None};
+ghost use Rattle.std.specs.Prelude.{◌≡◌, ◌≤◌, ◌<◌, List, [], length, map, IfOk, None};
 ghost use Rattle.cw_rights.specs.Policies.{policy_of};
 ghost use Rattle.cw_syntax.specs.Trees.{file_of};
 ghost use Rattle.cw_certs.specs.Strategies.{strategy_of};
 ghost use Rattle.cw_model.specs.Boards.{problem_of};
 ghost use Rattle.cw_parse.specs.First.{ReadsFirst};
 ghost use Rattle.cw_text.specs.StrategyText.{strategy_text};
-ghost use Rattle.cw_cli.specs.Due.{due_of, IsDue, IsDueOf, IsPlainPolicy};
+ghost use Rattle.cw_cli.specs.Due.{due_of, HasLabels, IsDue, IsDueOf, IsPlainPolicy, IsRefusalOf};
 ghost use Rattle.cw_cli.specs.Verdicts.{IsVerdict};
 
 use crate::labels::missing_label;
@@ -18,7 +18,9 @@ use cw_game::ambient::AmbientPolicy;
 use cw_parse::first::read_first;
 use cw_points::marks::marks;
 use cw_points::positions::positions;
+use cw_policies::{PolicyFault, put_fault, read_policy};
 use cw_policy::{ambient_tests, read_first_policy};
+use cw_regex::RegexFault;
 use cw_rights::Policy;
 use cw_syntax::program::Program;
 use cw_tables::heights::{height_at, heights};
@@ -30,6 +32,10 @@ use std::alloc::Global;
 /// What is due for a policy and a source.
 #[derive(Drop)]
 pub enum Answer {
+    /// The policy is refused: the line that tells why.
+    PolicyRefused(Vec<u8>),
+    /// A quantity of the policy is over its limit: the line that tells which.
+    PolicyOverLimit(Vec<u8>),
     /// The source isn't of the form that is woven yet.
     SourceNotYet,
     /// The policy isn't of the form that is woven yet.
@@ -117,19 +123,56 @@ fn judged(
     }
 }
 
+/// The line of a policy's first fault.
+fn refusal(alloc: Global, fault: &PolicyFault) -> Result<Answer, NoMemory>
+    ensures { IfOk result (λ answer. IsRefusalOf fault.now (due_of answer)) }
+{
+    let mut line = Vec::new(alloc);
+    put_fault(fault, &mut line)?;
+    match fault {
+        PolicyFault::NoMemory => Err(NoMemory),
+        PolicyFault::Limit(_) => Ok(Answer::PolicyOverLimit(line)),
+        PolicyFault::Regex(_, RegexFault::TooDeep) => Ok(Answer::PolicyOverLimit(line)),
+        PolicyFault::Regex(_, _) => Ok(Answer::PolicyRefused(line)),
+        PolicyFault::Toml
+        | PolicyFault::Missing(_)
+        | PolicyFault::Unknown(_)
+        | PolicyFault::Kind(_)
+        | PolicyFault::Twice(_) => Ok(Answer::PolicyRefused(line)),
+    }
+}
+
+/// What is due for a program and the bytes of a policy, which has no label that the source hasn't.
+fn fitted(
+    alloc: Global,
+    policy: &[u8],
+    source: &[u8],
+    program: &Program,
+) -> Result<Answer, NoMemory>
+    requires reads { ReadsFirst source.now (file_of program.now) }
+    requires labels { HasLabels policy.now source.now (file_of program.now) }
+    ensures { IfOk result (λ answer. IsDue policy.now source.now (due_of answer)) }
+{
+    match read_first_policy(alloc, policy)? {
+        None => Ok(Answer::PolicyNotYet),
+        Some(plain) => judged(alloc, source, program, &plain),
+    }
+}
+
 /// What is due for the bytes of a policy and of a source.
 pub fn due(alloc: Global, policy: &[u8], source: &[u8]) -> Result<Answer, NoMemory>
     requires short { length source.now ≤ 262144 }
     ensures due { IfOk result (λ answer. IsDue policy.now source.now (due_of answer)) }
 {
+    let whole = match read_policy(alloc, policy) {
+        Ok(whole) => whole,
+        Err(fault) => return refusal(alloc, &fault),
+    };
     let Some(program) = read_first(alloc, source)? else {
         return Ok(Answer::SourceNotYet);
     };
-    let Some(plain) = read_first_policy(alloc, policy)? else {
-        return Ok(Answer::PolicyNotYet);
-    };
-    match missing_label(source, &program, &plain.labels) {
+    match missing_label(source, &program, &whole.labels) {
         Some(name) => Ok(Answer::NoLabel(copied(alloc, name)?)),
-        None => judged(alloc, source, &program, &plain),
+        None => fitted(alloc, policy, source, &program),
     }
 }

@@ -31,6 +31,8 @@ fn deliver<O: Sink>(answer: Answer, out: &mut O) -> Ending
         Answer::SourceNotYet => Ending::SourceNotYet,
         Answer::PolicyNotYet => Ending::PolicyNotYet,
         Answer::NoLabel(name) => Ending::NoLabel(name),
+        Answer::PolicyRefused(line) => Ending::PolicyRefused(line),
+        Answer::PolicyOverLimit(line) => Ending::PolicyOverLimit(line),
         Answer::Woven(text) => match out.put(&text) {
             Ok(()) => Ending::Woven,
             Err(SinkFault::Failed) => Ending::Unwritten,

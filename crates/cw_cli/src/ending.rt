@@ -10,6 +10,10 @@ pub enum Ending {
     Woven,
     /// The strategy that beats every weaver was put whole.
     Refuted,
+    /// The policy is refused, by this line.
+    PolicyRefused(Vec<u8>),
+    /// A quantity of the policy is over its limit, by this line.
+    PolicyOverLimit(Vec<u8>),
     /// The source isn't of the form that is woven yet.
     SourceNotYet,
     /// The policy isn't of the form that is woven yet.
@@ -37,6 +41,8 @@ pub(crate) fn status(ending: &Ending) -> u8
     match ending {
         Ending::Woven => 0,
         Ending::Refuted => 1,
+        Ending::PolicyRefused(_) => 4,
+        Ending::PolicyOverLimit(_) => 5,
         Ending::SourceNotYet => 3,
         Ending::PolicyNotYet => 4,
         Ending::NoLabel(_) => 4,

@@ -139,6 +139,15 @@ fn weaves_refutes_or_tells_why_not(rt: HostRuntime) -> Result<(), Fail> {
         "format = 1\n[[at]]\nlabel = \"a\"\nnever = [\"amb\"]\n[[at]]\nlabel = \"b\"\nmust = [\"amb\"]\n";
     let loops =
         "format = 1\n[[at]]\nlabel = \"o\"\nmust = [\"amb\"]\n[[at]]\nlabel = \"p\"\nnever = [\"amb\"]\n";
+    let refusable =
+        "format = 1\nrefusable = [\"enter\"]\n[[at]]\nlabel = \"a\"\nnever = [\"amb\"]\n";
+    let mut limits = String::from_str(
+        alloc,
+        "format = 1\n[[descriptor]]\nname = \"0\"\nrights = [\"CAP_READ\"]\n",
+    )?;
+    for _ in 0..13 {
+        limits.push_str("[[limit]]\ndescriptor = \"0\"\nkeep = []\n")?;
+    }
     let weave = words(alloc, &["weave", "p.toml", "s.c"])?;
     for (policy, source, status, text, line) in [
         ("format = 1\n", "int main(void){return 0;}", 0, NO_RULES, ""),
@@ -159,8 +168,26 @@ fn weaves_refutes_or_tells_why_not(rt: HostRuntime) -> Result<(), Fail> {
             TWO_LABELS_IN_A_LOOP,
             "",
         ),
-        ("format = 2\n", two, 4, "", "policy: not yet\n"),
-        ("format = 2\n", "", 3, "", "source: not yet\n"),
+        ("format = 2\n", two, 4, "", "policy: kind format\n"),
+        ("format = 2\n", "", 4, "", "policy: kind format\n"),
+        ("format = 1\n", "", 3, "", "source: not yet\n"),
+        (refusable, two, 4, "", "policy: not yet\n"),
+        (refusable, "", 3, "", "source: not yet\n"),
+        (
+            "format = 1\n[[rule]]\nname = \"r\"\nbad = \"a[\"\n",
+            two,
+            4,
+            "",
+            "policy: regex rule[0] at 2\n",
+        ),
+        (
+            "format = 1\n[[rule]]\nname = \"r\"\nbad = \"z\"\n",
+            two,
+            4,
+            "",
+            "policy: no label z\n",
+        ),
+        (&limits, two, 5, "", "limit: limits\n"),
     ] {
         let mut shelf = SureShelf::make(files(alloc, policy, source)?);
         let mut out = SureSink::make(alloc);

@@ -7,7 +7,7 @@ use Rattle.cw_syntax.specs.Trees.{Tree, tree_of}
 use Rattle.cw_grammar.specs.declared.rules.Rule.{Rule}
 use Rattle.cw_grammar.specs.declared.rules.Rule.TheVariants.{Level}
 use Rattle.cw_expressions.specs.declared.found.Found.{Found}
-use Rattle.cw_expressions.specs.declared.found.List.{List as FoundList}
+use Rattle.cw_expressions.specs.declared.found.FoundList.{FoundList}
 use Rattle.cw_expressions.specs.Reading.{Got, Arguments}
 
 abbrev pub got : Found → Got

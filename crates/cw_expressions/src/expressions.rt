@@ -1,6 +1,6 @@
 //! Expressions, by recursion on the nesting that is left.
 
-ghost use Rattle.std.specs.Prelude.{◌≡◌, ◌+◌, ◌<◌, ◌≤◌, ℕ, suc, List as Items, length, IfOk, Err};
+ghost use Rattle.std.specs.Prelude.{◌≡◌, ◌+◌, ◌<◌, ◌≤◌, ℕ, suc, List, length, IfOk, Err};
 ghost use Rattle.cw_syntax.specs.Trees.{Tree, tree_of};
 ghost use Rattle.cw_grammar.specs.declared.words.Lexeme.{Lexeme};
 ghost use Rattle.cw_expressions.specs.declared.refusal.Refusal.TheVariants.{Syntax, TooDeep};
@@ -12,7 +12,7 @@ ghost use Rattle.cw_expressions.specs.Reading.{rest_of, rest_of_arguments, begin
 ghost use Rattle.cw_expressions.specs.View.{got, got_arguments, seen, IsInRange};
 
 use crate::cursor::{begins_with, first_of, past, take};
-use crate::found::{Found, List, call, join, leaf, over};
+use crate::found::{Found, FoundList, call, join, leaf, over};
 use crate::operators::{assign_next, binary_next_at, sign_of, step_of, suffix_next, suffix_of};
 use crate::refusal::Refusal;
 use crate::types::{begins_type, type_between_at};
@@ -459,13 +459,17 @@ fn named_at<'t>(
 /// Arguments up to a parenthesis.
 #[cycle(parser)]
 #[tactic(auto, unfolding(crate::specs::Reading::arguments))]
-fn arguments_at<'t>(alloc: Global, depth: u32, tokens: &'t [Lexeme]) -> Result<List<'t>, Refusal>
+fn arguments_at<'t>(
+    alloc: Global,
+    depth: u32,
+    tokens: &'t [Lexeme],
+) -> Result<FoundList<'t>, Refusal>
     requires deep { depth < 64 }
     ensures gives { Gives got_arguments result (arguments (read_at depth) depth tokens.now) }
     ensures fits { IfOk result (λ x. x.depth ≤ depth) }
 {
     if begins_with(tokens, Word::Close) {
-        return Ok(List {
+        return Ok(FoundList {
             list: Vec::new(alloc),
             depth: 0,
             rest: tokens,
@@ -474,7 +478,7 @@ fn arguments_at<'t>(alloc: Global, depth: u32, tokens: &'t [Lexeme]) -> Result<L
     let first = read(alloc, depth, Rule::Expression, tokens)?;
     let mut list = Vec::new(alloc);
     list.push(first.tree)?;
-    let first = List {
+    let first = FoundList {
         list,
         depth: first.depth,
         rest: first.rest,
@@ -483,7 +487,11 @@ fn arguments_at<'t>(alloc: Global, depth: u32, tokens: &'t [Lexeme]) -> Result<L
 }
 
 #[cycle(parser)]
-fn arguments_all<'t>(alloc: Global, depth: u32, first: List<'t>) -> Result<List<'t>, Refusal>
+fn arguments_all<'t>(
+    alloc: Global,
+    depth: u32,
+    first: FoundList<'t>,
+) -> Result<FoundList<'t>, Refusal>
     requires deep { depth < 64 }
     requires first { first.depth ≤ depth }
     ensures gives { Gives got_arguments result (repeat rest_of_arguments (begins Comma) (argument (read_at depth) depth) (suc (length first.entry.rest.now)) (got_arguments first.entry)) }
@@ -499,7 +507,11 @@ fn arguments_all<'t>(alloc: Global, depth: u32, first: List<'t>) -> Result<List<
 /// Behind a comma.
 #[cycle(parser)]
 #[tactic(auto, unfolding(crate::specs::Reading::argument))]
-fn argument_at<'t>(alloc: Global, depth: u32, before: List<'t>) -> Result<List<'t>, Refusal>
+fn argument_at<'t>(
+    alloc: Global,
+    depth: u32,
+    before: FoundList<'t>,
+) -> Result<FoundList<'t>, Refusal>
     requires deep { depth < 64 }
     requires before { before.depth ≤ depth }
     ensures gives { Gives got_arguments result (argument (read_at depth) depth (got_arguments before.entry)) }
@@ -508,7 +520,7 @@ fn argument_at<'t>(alloc: Global, depth: u32, before: List<'t>) -> Result<List<'
     let next = read(alloc, depth, Rule::Expression, past(before.rest))?;
     let mut list = before.list;
     list.push(next.tree)?;
-    Ok(List {
+    Ok(FoundList {
         list,
         depth: before.depth.max(next.depth),
         rest: next.rest,
@@ -534,13 +546,13 @@ pub fn read_expression<'t>(
     // What is read is next.
     ensures found { IfOk result (λ x. IsNext nesting_limit tokens.now (tree_of x.0) x.1.now) }
     // What is next is read, unless memory runs out.
-    ensures only { (e : Tree) (rest : Items Lexeme) → IsNext nesting_limit tokens.now e rest → IsEnd rest
+    ensures only { (e : Tree) (rest : List Lexeme) → IsNext nesting_limit tokens.now e rest → IsEnd rest
         → Gives seen result (answer e rest) }
     // What is next and nests too deep is refused as such, unless memory runs out.
-    ensures deep { (n : ℕ) (e : Tree) (rest : Items Lexeme) → IsNext n tokens.now e rest → IsEnd rest
+    ensures deep { (n : ℕ) (e : Tree) (rest : List Lexeme) → IsNext n tokens.now e rest → IsEnd rest
         → ¬ (IsNext nesting_limit tokens.now e rest) → Gives seen result (refused TooDeep) }
     ensures syntax { result ≡ Err Syntax
-        → (n : ℕ) (e : Tree) (rest : Items Lexeme) → IsNext n tokens.now e rest → IsEnd rest → ⊥ }
+        → (n : ℕ) (e : Tree) (rest : List Lexeme) → IsNext n tokens.now e rest → IsEnd rest → ⊥ }
     // Which answer comes where no expression is next.
     ensures exact { Gives seen result (next_expression tokens.now) }
 {
@@ -549,6 +561,6 @@ pub fn read_expression<'t>(
 
 /// Tokens have at most one expression that is next, whatever its nesting.
 pub fn one_expression()
-    ensures one { (m n : ℕ) (ts : Items Lexeme) (e f : Tree) (a b : Items Lexeme)
+    ensures one { (m n : ℕ) (ts : List Lexeme) (e f : Tree) (a b : List Lexeme)
         → IsNext m ts e a → IsEnd a → IsNext n ts f b → IsEnd b → (e ≡ f) × (a ≡ b) }
 {}

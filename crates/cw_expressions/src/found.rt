@@ -26,7 +26,7 @@ pub struct Found<'t> {
 
 /// Expressions between commas, the greatest nesting among them, and the tokens after them.
 #[derive(Drop)]
-pub struct List<'t> {
+pub struct FoundList<'t> {
     pub list: Vec<Expr>,
     pub depth: u32,
     pub rest: &'t [Lexeme],
@@ -110,7 +110,12 @@ pub(crate) fn join<'t>(
 }
 
 /// A call.
-pub(crate) fn call<'t>(name: Name, to: u32, arguments: List<'_>, rest: &'t [Lexeme]) -> Found<'t>
+pub(crate) fn call<'t>(
+    name: Name,
+    to: u32,
+    arguments: FoundList<'_>,
+    rest: &'t [Lexeme],
+) -> Found<'t>
     requires { arguments.depth < 65 }
     ensures { got result ≡ built (op.Call name) (map tree_of arguments.entry.list.items) true (arguments.entry.depth + 1) name.from to rest.now }
 {

@@ -3,7 +3,9 @@
 
 pub mod cursor;
 pub mod expressions;
-pub mod found;
+mod found;
 mod operators;
 pub mod refusal;
+#[cfg(test)]
+mod tests;
 pub mod types;

@@ -1,2 +1,4 @@
 pub mod SameWord
 pub mod TreeRows
+mod Placed
+mod Examples

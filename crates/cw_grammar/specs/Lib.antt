@@ -6,3 +6,4 @@ pub mod Expressions
 pub mod Declarations
 pub mod Statements
 pub mod Files
+pub mod Spelling

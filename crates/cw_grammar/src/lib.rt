@@ -2,4 +2,7 @@
 #![tactic(auto)]
 
 pub mod rules;
+pub mod spelling;
+#[cfg(test)]
+mod tests;
 pub mod words;

@@ -1,15 +1,13 @@
 -- The items of characters and strings, where the bytes behind them are cut off.
-use Rattle.std.proofs.Common.{◌≡◌, ℕ, zero, suc, ◌+◌, ◌-◌, ◌<◌, ◌≤◌, Bool, true, false, cond, eqb, leb, ◌||◌, List, [], ◌∷◌, length, drop, take, Option, Some, None, refl, sym, ap, subst, ◌∙◌, arith, length-drop, length-take}
+use Rattle.std.proofs.Common.{◌≡◌, ℕ, zero, suc, ◌+◌, ◌-◌, ◌<◌, ◌≤◌, Bool, true, false, cond, eqb, leb, ◌||◌, List, [], ◌∷◌, length, drop, take, Option, Some, None, refl, sym, ap, subst, ◌∙◌, arith}
 use Rattle.std.specs.Prelude.{nat_eq, codes}
 use Rattle.std.specs.Option.{option_map}
 use Rattle.std.specs.List.{starts_with, prefix_len, take_while}
 use Rattle.std.specs.Str.Parse.{digits_value}
 use Rattle.std.proofs.lemmas.List.{take-take, drop-take}
 use Rattle.std.proofs.lemmas.List.Folds.{length-prefix_len}
-use Rattle.std.proofs.lemmas.Bool.{and_parts, and_from}
 use Rattle.cw_lex.specs.Bytes.{is_octal_digit, is_hexadecimal_digit}
 use Rattle.cw_lex.specs.Characters.{Spelled, longer, spelled, simple_escape, escape_at, item_at, closed, character_len, more_by, text_len}
-use Rattle.cw_lex.proofs.Texts.{item_first}
 
 pub both : {A : Type 0} (t : Bool) (a b c d v : A) → (a ≡ v → c ≡ v) → (b ≡ v → d ≡ v) → cond t a b ≡ v → cond t c d ≡ v
 both true a b c d v f g e = f e
@@ -88,7 +86,7 @@ escape_cut (b ∷ bs) zero x e le = absurd (let some = escape_some (b ∷ bs) x 
 escape_cut (b ∷ bs) (suc k) x e le = both (is_octal_digit b) _ _ _ _ (Some x) (λ h. spelled_cut 8 is_octal_digit 3 (b ∷ bs) (suc k) x h le) (λ h.
     both (eqb b 120) _ _ _ _ (Some x) (λ g. longer_cut (spelled 16 (take_while is_hexadecimal_digit (take 2 bs))) (spelled 16 (take_while is_hexadecimal_digit (take 2 (take k bs)))) x (λ y is long. spelled_cut 16 is_hexadecimal_digit 2 bs k y is (omega arith)) g) (λ g. g) h) e
 
-item_some : (q : ℕ) (bs : List ℕ) (x : Spelled) → item_at q bs ≡ Some x → 0 < x.1
+pub item_some : (q : ℕ) (bs : List ℕ) (x : Spelled) → item_at q bs ≡ Some x → 0 < x.1
 unfolding item_at
 item_some q [] x e = absurd cc
 item_some q (b ∷ bs) x e = chosen (eqb b q || eqb b 10) _ _ (Some x) _ (λ t h. absurd cc) (λ t h.
@@ -119,18 +117,18 @@ pub character_cut : (bs : List ℕ) (k n : ℕ) → character_len bs ≡ Some n 
 unfolding character_len
 character_cut bs k n e le = closed_cut bs k n (item_at 39 bs) refl e le
 
-more_is : (more : ℕ) (o : Option ℕ) (n : ℕ) → more_by more o ≡ Some n → (m : ℕ) × (o ≡ Some m) × (m + more ≡ n)
+pub more_is : (more : ℕ) (o : Option ℕ) (n : ℕ) → more_by more o ≡ Some n → (m : ℕ) × (o ≡ Some m) × (m + more ≡ n)
 more_is more None n e = absurd cc
 more_is more (Some m) n e = (m, refl, cc)
 
-abbrev by_item : List ℕ → Option Spelled → Option ℕ
+abbrev pub by_item : List ℕ → Option Spelled → Option ℕ
 by_item bs o = elim o as (λ x. Option ℕ) [ None ↦ None | Some item ↦ more_by 1 (text_len (item.1 - 1) bs) ]
 
 item_long : (o : Option Spelled) (bs : List ℕ) (n : ℕ) → by_item bs o ≡ Some n → 0 < n
 item_long None bs n e = absurd cc
 item_long (Some x) bs n e = let m = more_is 1 (text_len (x.1 - 1) bs) n e in let same = m.2 in omega arith
 
-text_long : (skip : ℕ) (bs : List ℕ) (n : ℕ) → text_len skip bs ≡ Some n → skip < n
+pub text_long : (skip : ℕ) (bs : List ℕ) (n : ℕ) → text_len skip bs ≡ Some n → skip < n
 unfolding text_len
 text_long skip [] n e = absurd cc
 text_long (suc skip) (b ∷ bs) n e =

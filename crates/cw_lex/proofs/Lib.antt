@@ -9,3 +9,5 @@ pub mod Listing
 pub mod Alone
 pub mod Valued
 pub mod Markers
+pub mod Each
+pub mod Strings

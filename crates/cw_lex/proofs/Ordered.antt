@@ -1,8 +1,6 @@
 -- Tokens lie in their source one after the other, and their bytes are of their kind.
-use Rattle.std.proofs.Common.{◌≡◌, ℕ, ◌+◌, ◌-◌, ◌<◌, ◌≤◌, Bool, true, false, List, [], ◌∷◌, length, drop, take, drop-drop, refl, sym, ap, subst, ◌∙◌, arith, length-drop}
-use Rattle.cw_syntax.specs.Names.{slice}
-use Rattle.cw_syntax.specs.declared.tokens.TokenKind.{TokenKind}
-use Rattle.cw_syntax.specs.declared.tokens.Token.{Token}
+use Rattle.std.proofs.Common.{◌≡◌, ℕ, ◌+◌, ◌-◌, ◌<◌, ◌≤◌, Bool, true, false, List, [], ◌∷◌, length, drop, drop-drop, ap, subst, arith, length-drop}
+use Rattle.cw_lex.specs.declared.tokens.Token.{Token}
 use Rattle.cw_lex.specs.declared.piece.Piece.{Piece}
 use Rattle.cw_lex.specs.declared.piece.Piece.TheVariants as piece
 use Rattle.cw_lex.specs.Pieces.{piece_at, size, IsWithin}

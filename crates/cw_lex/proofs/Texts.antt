@@ -1,11 +1,11 @@
 -- Looking for the end of a string.
-use Rattle.std.proofs.Common.{◌≡◌, ℕ, zero, suc, ◌+◌, ◌-◌, ◌<◌, ◌≤◌, Bool, true, false, cond, eqb, List, [], ◌∷◌, length, drop, get_or, Option, Some, None, refl, sym, ap, ◌∙◌, arith, length-drop, drop-drop}
+use Rattle.std.proofs.Common.{◌≡◌, ℕ, zero, suc, ◌+◌, ◌-◌, ◌<◌, ◌≤◌, true, false, eqb, List, [], ◌∷◌, length, drop, get_or, Some, None, refl, sym, ap, ◌∙◌, arith, length-drop, drop-drop}
 use Rattle.std.proofs.Math.ListN.{drop_of_length-le}
 use Rattle.cw_lex.specs.Characters.{Spelled, more_by, item_at, text_len}
 use Rattle.cw_lex.proofs.Close.{more_twice, more_zero, drop_here}
 
 -- bytes that are still to be passed
-skipped : (k : ℕ) (bs : List ℕ) → k ≤ length bs → text_len k bs ≡ more_by k (text_len 0 (drop k bs))
+pub skipped : (k : ℕ) (bs : List ℕ) → k ≤ length bs → text_len k bs ≡ more_by k (text_len 0 (drop k bs))
 unfolding text_len
 skipped zero bs le = sym (more_zero (text_len 0 bs))
 skipped (suc k) [] le = absurd (omega arith)

@@ -1,11 +1,10 @@
 -- The bytes of a token, alone, are that token.
-use Rattle.std.proofs.Common.{◌≡◌, ℕ, zero, suc, ◌+◌, ◌-◌, ◌<◌, ◌≤◌, Bool, true, false, cond, eqb, ◌||◌, List, [], ◌∷◌, length, drop, take, Option, Some, None, refl, sym, ap, subst, ◌∙◌, arith, length-drop, length-take, inl, inr, rules}
+use Rattle.std.proofs.Common.{◌≡◌, ℕ, zero, suc, ◌+◌, ◌<◌, ◌≤◌, Bool, true, false, cond, eqb, List, [], ◌∷◌, length, drop, take, Option, Some, None, refl, subst, ◌∙◌, arith, inl, inr, rules}
 use Rattle.std.specs.Prelude.{nat_eq, codes}
-use Rattle.std.specs.List.{starts_with, prefix_len, take_while}
+use Rattle.std.specs.List.{starts_with, take_while}
 use Rattle.std.proofs.lemmas.Bool.{and_parts, and_from, or_cases, both_ways, cases_Bool}
-use Rattle.cw_syntax.specs.declared.tokens.TokenKind.{TokenKind}
-use Rattle.cw_syntax.specs.declared.tokens.TokenKind.TheVariants as kind
-use Rattle.cw_lex.specs.declared.piece.Piece.{Piece}
+use Rattle.cw_lex.specs.declared.tokens.TokenKind.{TokenKind}
+use Rattle.cw_lex.specs.declared.tokens.TokenKind.TheVariants as kind
 use Rattle.cw_lex.specs.declared.piece.Piece.TheVariants as piece
 use Rattle.cw_lex.specs.Bytes.{is_white, is_letter, is_digit, is_name_byte, is_number_byte}
 use Rattle.cw_lex.specs.Keywords.{is_keyword}

@@ -1,15 +1,13 @@
 -- A piece takes bytes, and no more than there are.
-use Rattle.std.proofs.Common.{◌≡◌, ℕ, zero, suc, ◌+◌, ◌<◌, ◌≤◌, ◌-◌, Bool, true, false, cond, eqb, List, [], ◌∷◌, length, drop, take, Option, Some, None, refl, sym, arith, length-drop, inl, inr, rules}
+use Rattle.std.proofs.Common.{◌≡◌, ℕ, zero, suc, ◌+◌, ◌<◌, ◌≤◌, ◌-◌, Bool, true, false, cond, eqb, List, [], ◌∷◌, length, drop, Option, Some, None, refl, arith, length-drop, inl, inr, rules}
 use Rattle.std.specs.Prelude.{nat_eq, codes, IfSome}
 use Rattle.std.specs.List.{starts_with, prefix_len, take_while}
 use Rattle.std.proofs.lemmas.Bool.{cond_both, eqb-true, or_left, or_right, or_cases, and_parts}
 use Rattle.std.proofs.lemmas.List.Sums.{prefix_len-le-length}
 use Rattle.std.proofs.lemmas.List.Folds.{length-prefix_len}
-use Rattle.cw_syntax.specs.declared.tokens.TokenKind.{TokenKind}
-use Rattle.cw_syntax.specs.declared.tokens.TokenKind.TheVariants as kind
-use Rattle.cw_lex.specs.declared.piece.Defect.TheVariants as defect
+use Rattle.cw_lex.specs.declared.tokens.TokenKind.{TokenKind}
+use Rattle.cw_lex.specs.declared.tokens.TokenKind.TheVariants as kind
 use Rattle.cw_lex.specs.declared.piece.Piece.{Piece}
-use Rattle.cw_lex.specs.declared.piece.Piece.TheVariants as piece
 use Rattle.cw_lex.specs.Bytes.{is_white, is_letter, is_digit, is_name_byte, is_number_byte, is_line_byte}
 use Rattle.cw_lex.specs.Keywords.{is_keyword}
 use Rattle.cw_lex.specs.Numbers.{is_number}

@@ -1,5 +1,5 @@
 -- Characters and strings. Public source: ISO/IEC 9899:2011, 6.4.4.4 (character constants and escapes), 6.4.5 (string literals).
-use Rattle.std.specs.Prelude.{ℕ, zero, suc, ◌+◌, ◌-◌, nat_le, ◌==◌, Bool, ◌||◌, Option, Some, None, List, [], ◌∷◌, length, take, drop, if◌then◌else◌, codes, nat_eq}
+use Rattle.std.specs.Prelude.{ℕ, zero, suc, ◌+◌, ◌-◌, nat_le, ◌==◌, ◌||◌, Option, Some, None, List, [], ◌∷◌, length, take, drop, if◌then◌else◌, codes, nat_eq}
 use Rattle.std.specs.Option.{option_map}
 use Rattle.std.specs.List.{take_while, starts_with}
 use Rattle.std.specs.Str.Parse.{digits_value}

@@ -6,3 +6,4 @@ pub mod Marks
 pub mod Pieces
 pub mod Tokens
 pub mod Listed
+pub mod Forms

@@ -1,7 +1,7 @@
 -- What tokens are: where they lie, and which bytes they have.
 use Rattle.std.specs.Prelude.{◌≡◌, ℕ, ◌-◌, ◌<◌, ◌≤◌, true, List, [], ◌∷◌}
 use Rattle.cw_syntax.specs.Names.{slice}
-use Rattle.cw_syntax.specs.declared.tokens.Token.{Token}
+use Rattle.cw_lex.specs.declared.tokens.Token.{Token}
 use Rattle.cw_lex.specs.declared.piece.Piece.TheVariants as piece
 use Rattle.cw_lex.specs.Pieces.{piece_at}
 

@@ -1,5 +1,5 @@
 -- Punctuation, and the marks of woven texts. Public source: ISO/IEC 9899:2011, 6.4.6 (punctuators), 6.4 (the longest one counts).
-use Rattle.std.specs.Prelude.{◌≡◌, ℕ, ◌<◌, nat_eq, Bool, true, false, ◌||◌, List, [], ◌∷◌, length, drop, if◌then◌else◌, codes}
+use Rattle.std.specs.Prelude.{◌≡◌, ℕ, ◌<◌, nat_eq, Bool, true, false, ◌||◌, List, [], ◌∷◌, drop, if◌then◌else◌, codes}
 use Rattle.std.specs.List.{starts_with, list_any}
 
 abbrev pub three_byte_marks : List (List ℕ)

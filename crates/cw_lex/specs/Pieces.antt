@@ -1,10 +1,10 @@
 -- What stands at the front of some bytes: the longest piece of its kind. Public source: ISO/IEC 9899:2011, 6.4 (the longest
 -- sequence is one token; white space), 6.4.9 (comments), 6.10.2 (`#include`).
-use Rattle.std.specs.Prelude.{◌≡◌, ℕ, ◌+◌, ◌<◌, ◌≤◌, nat_eq, ◌==◌, Bool, Option, Some, None, List, [], ◌∷◌, length, drop, take, if◌then◌else◌, codes}
+use Rattle.std.specs.Prelude.{ℕ, ◌+◌, ◌<◌, ◌≤◌, nat_eq, ◌==◌, Bool, Option, Some, None, List, [], ◌∷◌, length, drop, if◌then◌else◌, codes}
 use Rattle.std.specs.List.{prefix_len, starts_with, take_while}
 use Rattle.std.specs.Str.{bytes_eq}
-use Rattle.cw_syntax.specs.declared.tokens.TokenKind.{TokenKind}
-use Rattle.cw_syntax.specs.declared.tokens.TokenKind.TheVariants as kind
+use Rattle.cw_lex.specs.declared.tokens.TokenKind.{TokenKind}
+use Rattle.cw_lex.specs.declared.tokens.TokenKind.TheVariants as kind
 use Rattle.cw_lex.specs.declared.piece.Defect.TheVariants as defect
 use Rattle.cw_lex.specs.declared.piece.Piece.{Piece}
 use Rattle.cw_lex.specs.declared.piece.Piece.TheVariants as piece

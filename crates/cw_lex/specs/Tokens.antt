@@ -1,7 +1,7 @@
 -- The tokens of a source. Public source: ISO/IEC 9899:2011, 5.1.1.2 (a source is cut into tokens and white space, in order), 6.4.
-use Rattle.std.specs.Prelude.{◌≡◌, ℕ, ◌+◌, ◌<◌, ◌≤◌, ◌==◌, Bool, true, false, ◌||◌, List, [], ◌∷◌, length, drop, take}
+use Rattle.std.specs.Prelude.{◌≡◌, ℕ, ◌+◌, ◌<◌, ◌==◌, Bool, true, false, ◌||◌, List, [], ◌∷◌, drop, take}
 use Rattle.std.specs.List.{list_any, sum_by}
-use Rattle.cw_syntax.specs.declared.tokens.Token.{Token}
+use Rattle.cw_lex.specs.declared.tokens.Token.{Token}
 use Rattle.cw_lex.specs.declared.piece.Defect.{Defect}
 use Rattle.cw_lex.specs.declared.piece.Defect.TheVariants as defect
 use Rattle.cw_lex.specs.declared.piece.Piece.{Piece}

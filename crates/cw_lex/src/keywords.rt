@@ -12,8 +12,8 @@ pub(crate) fn is_keyword(text: &[u8]) -> bool
         return false;
     };
     match *first {
-        b'a' => { text == b"auto".as_slice() }
-        b'b' => { text == b"break".as_slice() }
+        b'a' => text == b"auto".as_slice(),
+        b'b' => text == b"break".as_slice(),
         b'c' => {
             text == b"case".as_slice()
                 || text == b"char".as_slice()
@@ -29,11 +29,11 @@ pub(crate) fn is_keyword(text: &[u8]) -> bool
             text == b"else".as_slice() || text == b"enum".as_slice() || text == b"extern".as_slice()
         }
         b'f' => { text == b"float".as_slice() || text == b"for".as_slice() }
-        b'g' => { text == b"goto".as_slice() }
+        b'g' => text == b"goto".as_slice(),
         b'i' => {
             text == b"if".as_slice() || text == b"inline".as_slice() || text == b"int".as_slice()
         }
-        b'l' => { text == b"long".as_slice() }
+        b'l' => text == b"long".as_slice(),
         b'r' => {
             text == b"register".as_slice()
                 || text == b"restrict".as_slice()
@@ -47,10 +47,10 @@ pub(crate) fn is_keyword(text: &[u8]) -> bool
                 || text == b"struct".as_slice()
                 || text == b"switch".as_slice()
         }
-        b't' => { text == b"typedef".as_slice() }
+        b't' => text == b"typedef".as_slice(),
         b'u' => { text == b"union".as_slice() || text == b"unsigned".as_slice() }
         b'v' => { text == b"void".as_slice() || text == b"volatile".as_slice() }
-        b'w' => { text == b"while".as_slice() }
+        b'w' => text == b"while".as_slice(),
         b'_' => {
             text == b"_Alignas".as_slice()
                 || text == b"_Alignof".as_slice()

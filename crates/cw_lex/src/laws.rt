@@ -1,11 +1,13 @@
 //! What holds of every source's tokens.
 
 ghost use Rattle.std.specs.Prelude.{◌≡◌, ◌^◌, ◌<◌, ◌↔◌, ℕ, List, length, true};
-ghost use Rattle.cw_syntax.specs.declared.tokens.Token.{Token};
-ghost use Rattle.cw_syntax.specs.declared.tokens.TokenKind.{TokenKind};
-ghost use Rattle.cw_syntax.specs.declared.tokens.TokenKind.TheVariants.{Keyword, Number};
+ghost use Rattle.cw_lex.specs.declared.tokens.Token.{Token};
+ghost use Rattle.cw_lex.specs.declared.tokens.TokenKind.{TokenKind};
+ghost use Rattle.cw_lex.specs.declared.tokens.TokenKind.TheVariants.{Keyword, Number, Character, Text};
 ghost use Rattle.cw_lex.specs.declared.piece.Piece.TheVariants as piece;
 ghost use Rattle.cw_lex.specs.declared.lexer.LexFault.{LexFault};
+ghost use Rattle.cw_lex.specs.Characters.{character_of};
+ghost use Rattle.cw_lex.specs.Forms.{IsCharacter, IsString};
 ghost use Rattle.cw_lex.specs.Keywords.{is_keyword};
 ghost use Rattle.cw_lex.specs.Numbers.{number_of};
 ghost use Rattle.cw_lex.specs.Pieces.{piece_at};
@@ -33,4 +35,16 @@ pub fn laws_of_tokens()
         → piece_at true text ≡ piece.Token kind (length text) → (kind ≡ Keyword) ↔ (is_keyword text ≡ true) }
     ensures numbers { (text : List ℕ)
         → piece_at true text ≡ piece.Token Number (length text) → number_of text < 2 ^ 64 }
+{}
+
+/// The forms of characters and strings. Bytes alone are a character exactly where they are a quote, an item and a quote; its value is the
+/// item's. They are a string exactly where they are a quote, items one after the other and a quote.
+pub fn laws_of_texts()
+    ensures characters { (text : List ℕ)
+        → piece_at true text ≡ piece.Token Character (length text) → IsCharacter text (character_of text) }
+    ensures all_characters { (text : List ℕ) (value : ℕ)
+        → IsCharacter text value
+        → (piece_at true text ≡ piece.Token Character (length text)) × (character_of text ≡ value) }
+    ensures strings { (text : List ℕ)
+        → (piece_at true text ≡ piece.Token Text (length text)) ↔ IsString text }
 {}

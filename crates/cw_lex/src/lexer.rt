@@ -11,7 +11,7 @@ ghost use Rattle.cw_lex.specs.Pieces.{IsWithin};
 use crate::bytes::tail;
 use crate::marks::first_marker;
 use crate::piece::{Defect, Piece, front_piece, is_fresh_behind};
-use cw_syntax::tokens::Token;
+use crate::tokens::Token;
 use std::alloc::{AllocError, AllocFailed, Global};
 use thiserror::Error;
 

@@ -9,10 +9,12 @@ mod lexer;
 mod marks;
 mod numbers;
 mod piece;
+mod tokens;
 #[cfg(test)]
 mod tests;
 
 pub use characters::character_value;
-pub use laws::{laws_of_sources, laws_of_tokens};
+pub use laws::{laws_of_sources, laws_of_texts, laws_of_tokens};
 pub use lexer::{LexFault, lex};
 pub use numbers::number_value;
+pub use tokens::{Token, TokenKind};

@@ -2,7 +2,7 @@
 
 ghost use Rattle.std.specs.Prelude.{◌≡◌, ◌+◌, ◌^◌, ◌<◌, ◌≤◌, ◌==◌, true, nat_eq, length, drop, codes, IfSome};
 ghost use Rattle.std.specs.List.{prefix_len, take_while, starts_with, list_any};
-ghost use Rattle.cw_syntax.specs.declared.tokens.TokenKind.TheVariants as kind;
+ghost use Rattle.cw_lex.specs.declared.tokens.TokenKind.TheVariants as kind;
 ghost use Rattle.cw_lex.specs.Characters.{character_len, text_len};
 ghost use Rattle.cw_lex.specs.Marks.{mark_len};
 ghost use Rattle.cw_lex.specs.Bytes.{is_white, is_blank, is_line_byte, is_name_byte, is_number_byte};
@@ -17,10 +17,10 @@ use crate::characters::{character_length, text_length};
 use crate::keywords::is_keyword;
 use crate::marks::mark_length;
 use crate::numbers::is_number;
-use cw_syntax::tokens::TokenKind;
+use crate::tokens::TokenKind;
 
 /// Why no token can be read.
-#[derive(Clone, Copy, Drop, Debug, PartialEq, Eq)]
+#[derive(Clone, Copy, Drop)]
 pub enum Defect {
     BadByte,
     OpenComment,
@@ -30,7 +30,7 @@ pub enum Defect {
 }
 
 /// What stands at the front of some bytes, and how many of them it takes.
-#[derive(Clone, Copy, Drop, Debug, PartialEq, Eq)]
+#[derive(Clone, Copy, Drop)]
 pub enum Piece {
     /// White space, a comment or an include line.
     Gap(usize),

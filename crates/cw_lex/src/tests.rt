@@ -1,8 +1,10 @@
 //! Sources with their tokens and faults, written out by hand.
 
 use crate::numbers::is_number;
-use crate::{LexFault, character_value, lex, number_value};
-use cw_syntax::tokens::{Token, TokenKind};
+use crate::{
+    LexFault, character_value, laws_of_sources, laws_of_texts, laws_of_tokens, lex, number_value,
+};
+use crate::tokens::{Token, TokenKind};
 use std::alloc::{AllocError, Global};
 use std::test::Fail;
 
@@ -39,6 +41,9 @@ fn told(alloc: Global, source: &[u8]) -> Result<String, AllocError> {
 #[test]
 fn sources_have_these_tokens(rt: HostRuntime) -> Result<(), Fail> {
     let alloc = rt.alloc();
+    laws_of_sources();
+    laws_of_tokens();
+    laws_of_texts();
     for (source, want) in [
         ("", ""),
         (" \t\n\x0b\x0c\r", ""),

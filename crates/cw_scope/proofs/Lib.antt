@@ -3,3 +3,8 @@ pub mod Shapes
 pub mod Pushed
 pub mod Operators
 pub mod Lesser
+pub mod Standing
+pub mod Found
+pub mod Acting
+pub mod Once
+pub mod Starting

@@ -1,7 +1,7 @@
 -- The rules for the variables that a policy's descriptors name: where they are declared, and how they may be used. Public source:
 -- ISO/IEC 9899:2011, sections 6.5.2.4, 6.5.3.1, 6.5.3.2, 6.5.16, 6.7 and 6.9.2, and this project's model of descriptors.
 use Rattle.std.specs.Prelude.{◌≡◌, ◌⊎◌, ℕ, List, [], ◌∷◌, map, Bool, true, false, cond, not, ◌&&◌, nat_eq, nat_lt, nat_le, Option, Some, None, is_some, is_none, codes}
-use Rattle.std.specs.List.{flat_map, filter, list_any, list_all, position}
+use Rattle.std.specs.List.{flat_map, filter, list_any, list_all, position_from}
 use Rattle.std.specs.Option.{option_map, option_or}
 use Rattle.std.specs.Str.{bytes_eq}
 use Rattle.cw_syntax.specs.declared.program.Base.{Base}
@@ -11,7 +11,7 @@ use Rattle.cw_syntax.specs.declared.program.Name.{Name}
 use Rattle.cw_syntax.specs.declared.program.Op.{Op}
 use Rattle.cw_syntax.specs.declared.program.Op.TheVariants.{Name as NameOp, Number, Call as CallOp, Prefix, Suffix, Assign}
 use Rattle.cw_syntax.specs.Names.{Names, slice, text, number_in}
-use Rattle.cw_syntax.specs.Trees.{Tree, Node, Trees, none, more, Declared, Declaration, File}
+use Rattle.cw_syntax.specs.Trees.{Tree, Node, Trees, none, more, Declared, Declaration, Definition, File}
 use Rattle.cw_syntax.specs.Plans.{Scene, scene_of, Action, Opens, Closes, action_of, descriptor_of}
 use Rattle.cw_rights.specs.Policies.{PlainPolicy, PlainDescriptor}
 use Rattle.cw_scope.specs.declared.descriptors.DescriptorFault.{DescriptorFault}
@@ -56,41 +56,54 @@ is_int _ = false
 abbrev pub is_plain_int : CType → Bool
 is_plain_int kind = is_int kind.base && not kind.unsigned && nat_eq kind.stars 0
 
+abbrev pub is_before : ℕ → List Definition → Bool
+is_before place functions = list_all (λ f. nat_lt place f.name.from) functions
+
 -- An item of a declaration at file scope may be a descriptor's variable where it is an `int` without `unsigned`, `const`, stars or
 -- brackets, not `extern`, without initialiser or with `-1`, and before each definition of a function.
 abbrev pub may_be_variable : File → Declaration → Declared → Bool
 may_be_variable file d i =
-    not d.external && not d.constant && is_plain_int i.kind && is_none i.array && is_start i.braces (listed i.init) && list_all (λ f. nat_lt i.name.from f.name.from) file.functions
+    not d.external && not d.constant && is_plain_int i.kind && is_none i.array && is_start i.braces (listed i.init) && is_before i.name.from file.functions
 
 -- A name declared at file scope, and whether it may be a descriptor's variable.
 pub record Entry : Type 0 where
   pub name : Name
   pub fits : Bool
 
+abbrev pub entry_in : File → Declaration → Declared → Entry
+entry_in file d i = record { name = i.name; fits = may_be_variable file d i }
+
+abbrev pub entries_of : File → Declaration → List Entry
+entries_of file d = map (entry_in file d) d.items
+
 abbrev pub entries : File → List Entry
-entries file = flat_map (λ d. map (λ i. record { name = i.name; fits = may_be_variable file d i }) d.items) file.globals
+entries file = flat_map (entries_of file) file.globals
 
 -- it is declared once
-abbrev pub is_one : List Entry → Bool
-is_one (entry ∷ []) = entry.fits
-is_one _ = false
+abbrev pub is_empty : List Entry → Bool
+is_empty [] = true
+is_empty (entry ∷ rest) = false
 
-abbrev pub is_declared : List ℕ → File → List ℕ → Bool
-is_declared source file name = is_one (filter (λ e. bytes_eq name (text source e.name)) (entries file))
+abbrev pub is_one : List Entry → Bool
+is_one [] = false
+is_one (entry ∷ rest) = entry.fits && is_empty rest
+
+abbrev pub is_declared : List ℕ → List Entry → List ℕ → Bool
+is_declared source declared name = is_one (filter (λ e. bytes_eq name (text source e.name)) declared)
 
 -- a parameter or a local declaration has its name
-abbrev pub is_shadowed : List ℕ → File → List ℕ → Bool
-is_shadowed source file name = list_any (λ n. bytes_eq name (text source n)) (locals file)
+abbrev pub is_shadowed : List ℕ → List Name → List ℕ → Bool
+is_shadowed source names name = list_any (λ n. bytes_eq name (text source n)) names
 
 abbrev pub is_variable : PlainDescriptor → Bool
 is_variable d = is_none d.number
 
 -- The first descriptor that is a variable and has no such declaration; the first that is shadowed.
-abbrev pub first_undeclared : List ℕ → File → PlainPolicy → Option ℕ
-first_undeclared source file policy = position (λ d. is_variable d && not (is_declared source file d.name)) policy.descriptors
+abbrev pub first_undeclared : List ℕ → List Entry → List PlainDescriptor → Option ℕ
+first_undeclared source declared descriptors = position_from (λ d. is_variable d && not (is_declared source declared d.name)) 0 descriptors
 
-abbrev pub first_shadowed : List ℕ → File → PlainPolicy → Option ℕ
-first_shadowed source file policy = position (λ d. is_variable d && is_shadowed source file d.name) policy.descriptors
+abbrev pub first_shadowed : List ℕ → List Name → List PlainDescriptor → Option ℕ
+first_shadowed source names descriptors = position_from (λ d. is_variable d && is_shadowed source names d.name) 0 descriptors
 
 -- an expression that is a descriptor's variable
 abbrev pub names_variable : Scene → Tree → Bool
@@ -133,8 +146,8 @@ least_misuse s file = least (map (misuse s) (flat_map (used s) (every_whole file
 abbrev pub descriptor_fault : List ℕ → File → PlainPolicy → Option DescriptorFault
 descriptor_fault source file policy =
     option_or
-    (option_map NoVariable (first_undeclared source file policy))
-    (option_or (option_map Shadowed (first_shadowed source file policy)) (option_map Misuse (least_misuse (scene_under policy source file) file)))
+    (option_or (option_map NoVariable (first_undeclared source (entries file) policy.descriptors)) (option_map Shadowed (first_shadowed source (locals file) policy.descriptors)))
+    (option_map Misuse (least_misuse (scene_under policy source file) file))
 
 abbrev pub IsDueDescriptor : Option DescriptorFault → DescriptorFault → Type 0
 IsDueDescriptor due fault = (fault ≡ NoMemory) ⊎ (due ≡ Some fault)

@@ -1,63 +1,60 @@
 -- Which scope rule a file breaks first, and where.
-use Rattle.std.specs.Prelude.{◌≡◌, ◌⊎◌, ℕ, List, [], ◌∷◌, map, length, cond, nat_lt, Option, Some, None}
-use Rattle.std.specs.Option.{option_map}
+use Rattle.std.specs.Prelude.{◌≡◌, ◌⊎◌, ℕ, List, [], map, length, cond, nat_lt, Option, Some, None}
+use Rattle.std.specs.Option.{option_map, option_or}
 use Rattle.cw_core.specs.declared.quantity.Quantity.TheVariants.{Functions, Labels}
-use Rattle.cw_syntax.specs.Trees.{File}
+use Rattle.cw_syntax.specs.declared.program.Name.{Name}
+use Rattle.cw_syntax.specs.Trees.{Tree, File}
 use Rattle.cw_scope.specs.declared.faults.ScopeFault.{ScopeFault}
 use Rattle.cw_scope.specs.declared.faults.ScopeFault.TheVariants.{NoMain, TwoFunctions, TwoLabels, Arity, CallForm, MainCalled, Reserved, Jump, Limit, NoMemory}
-use Rattle.cw_scope.specs.Walks.{every_statement, every_whole, every_node}
+use Rattle.cw_scope.specs.Walks.{Placed, every_statement, Whole, every_whole, every_node}
 use Rattle.cw_scope.specs.Names.{uses, every_name, every_label}
 use Rattle.cw_scope.specs.Rules.{sooner, least, different, has_main, second_function, second_label, wrong_arity, function_name, wrong_form, main_call, reserved, loose_jump}
 
-module _ (source : List ℕ) (file : File) where
-  abbrev pub no_main : Option ScopeFault
-  no_main = cond (has_main source file) None (Some NoMain)
+-- Each rule by the fault that is due where it is broken, over the lists of what stands in the file.
+unfoldable pub no_main : List ℕ → File → Option ScopeFault
+no_main source file = cond (has_main source file) None (Some NoMain)
 
-  abbrev pub two_functions : Option ScopeFault
-  two_functions = option_map TwoFunctions (second_function source file)
+unfoldable pub two_functions : List ℕ → File → Option ScopeFault
+two_functions source file = option_map TwoFunctions (second_function source file)
 
-  abbrev pub two_labels : Option ScopeFault
-  two_labels = option_map TwoLabels (second_label source file file.functions)
+unfoldable pub two_labels : List ℕ → File → Option ScopeFault
+two_labels source file = option_map TwoLabels (second_label source file.functions)
 
-  abbrev pub arity : Option ScopeFault
-  arity = option_map Arity (least (map (wrong_arity source file) (every_node file)))
+unfoldable pub arity : List ℕ → File → List Tree → Option ScopeFault
+arity source file nodes = option_map Arity (least (map (wrong_arity source file) nodes))
 
-  abbrev pub call_form : Option ScopeFault
-  call_form = option_map CallForm (sooner (least (map (function_name source file) (uses file))) (least (map (wrong_form source file) (every_whole file))))
+unfoldable pub call_form : List ℕ → File → List Name → List Whole → Option ScopeFault
+call_form source file names wholes = option_map CallForm (sooner (least (map (function_name source file) names)) (least (map (wrong_form source file) wholes)))
 
-  abbrev pub main_called : Option ScopeFault
-  main_called = option_map MainCalled (least (map (main_call source) (every_node file)))
+unfoldable pub main_called : List ℕ → List Tree → Option ScopeFault
+main_called source nodes = option_map MainCalled (least (map (main_call source) nodes))
 
-  abbrev pub reserved_name : Option ScopeFault
-  reserved_name = option_map Reserved (least (map (reserved source) (every_name file)))
+unfoldable pub reserved_name : List ℕ → List Name → Option ScopeFault
+reserved_name source names = option_map Reserved (least (map (reserved source) names))
 
-  abbrev pub jump : Option ScopeFault
-  jump = option_map Jump (least (map (λ p. loose_jump p.looped p.statement) (every_statement file)))
+unfoldable pub jump : List Placed → Option ScopeFault
+jump statements = option_map Jump (least (map (λ p. loose_jump p.looped p.statement) statements))
 
-  -- At most 512 functions, and at most 256 different names of labels.
-  abbrev pub limit : Option ScopeFault
-  limit = cond (nat_lt 512 (length file.functions)) (Some (Limit Functions)) (cond (nat_lt 256 (length (different source [] (every_label file)))) (Some (Limit Labels)) None)
+-- at most 512 functions, and at most 256 different names of labels
+unfoldable pub limit : List ℕ → File → List Name → Option ScopeFault
+limit source file labels = cond (nat_lt 512 (length file.functions)) (Some (Limit Functions)) (cond (nat_lt 256 (length (different source [] labels))) (Some (Limit Labels)) None)
 
--- the first fault of a list of rules, each of which is kept (None) or broken
-abbrev pub first : List (Option ScopeFault) → Option ScopeFault
-first [] = None
-first (None ∷ rules) = first rules
-first (Some fault ∷ rules) = Some fault
+infixl 10 ◌or_else◌
+abbrev pub ◌or_else◌ : Option ScopeFault → Option ScopeFault → Option ScopeFault
+rule or_else other = option_or rule other
 
--- The rules in their order: the first that is broken, and None where all are kept.
+-- The rules in their order: the fault of the first that is broken, and None where all are kept.
 abbrev pub scope_fault : List ℕ → File → Option ScopeFault
 scope_fault source file =
-    first
-    (no_main source file
-    ∷ two_functions source file
-    ∷ two_labels source file
-    ∷ arity source file
-    ∷ call_form source file
-    ∷ main_called source file
-    ∷ reserved_name source file
-    ∷ jump source file
-    ∷ limit source file
-    ∷ [])
+    no_main source file
+    or_else two_functions source file
+    or_else two_labels source file
+    or_else arity source file (every_node file)
+    or_else call_form source file (uses file) (every_whole file)
+    or_else main_called source (every_node file)
+    or_else reserved_name source (every_name file)
+    or_else jump (every_statement file)
+    or_else limit source file (every_label file)
 
 -- A fault that is answered is the one that is due, or want of memory.
 abbrev pub IsDue : Option ScopeFault → ScopeFault → Type 0

@@ -67,6 +67,15 @@ statement_call _ = None
 abbrev pub standing_call : Whole → Option Tree
 standing_call w = cond w.stands (statement_call w.tree) None
 
+-- A label's name is unique within its function: function by function, the first label that stands there again.
+abbrev pub second_label : List ℕ → List Definition → Option Name
+second_label source [] = None
+second_label source (f ∷ fs) = option_or (repeated source [] (labels_of (body_of f))) (second_label source fs)
+
+abbrev pub miscounted : Option Definition → ℕ → ℕ → Option ℕ
+miscounted None n place = None
+miscounted (Some f) n place = at_if (not (nat_eq n (length f.params))) place
+
 module _ (source : List ℕ) (file : File) where
   -- the definition of the function with this name
   abbrev pub defined : List ℕ → Option Definition
@@ -83,16 +92,7 @@ module _ (source : List ℕ) (file : File) where
   abbrev pub second_function : Option Name
   second_function = repeated source [] (map (λ f. f.name) file.functions)
 
-  -- A label's name is unique within its function: function by function, the first label that stands there again.
-  abbrev pub second_label : List Definition → Option Name
-  second_label [] = None
-  second_label (f ∷ fs) = option_or (repeated source [] (labels_of (body_of f))) (second_label fs)
-
   -- A call of a defined function has as many arguments as the definition has parameters.
-  abbrev pub miscounted : Option Definition → ℕ → ℕ → Option ℕ
-  miscounted None n place = None
-  miscounted (Some f) n place = at_if (not (nat_eq n (length f.params))) place
-
   abbrev pub wrong_arity : Tree → Option ℕ
   wrong_arity (Node (CallOp f) arguments from to) = miscounted (defined (text source f)) (count arguments) from
   wrong_arity _ = None

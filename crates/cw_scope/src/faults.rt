@@ -1,7 +1,11 @@
 //! Why a program is refused.
 
+ghost use Rattle.std.specs.Prelude.{◌≡◌};
+ghost use Rattle.cw_scope.specs.declared.faults.ScopeFault.TheVariants as fault;
+
 use cw_core::Quantity;
 use cw_syntax::program::Name;
+use std::alloc::AllocError;
 use thiserror::Error;
 
 /// The scope rule that a program breaks first, in this order. A place is counted in bytes from the front of the source.
@@ -38,4 +42,12 @@ pub enum ScopeFault {
     /// There was no memory.
     #[error("out of memory")]
     NoMemory,
+}
+
+impl From<AllocError> for ScopeFault {
+    ghost from_gives = { λ _ refused. refused ≡ fault.NoMemory };
+
+    fn from(_refused: AllocError) -> ScopeFault {
+        ScopeFault::NoMemory
+    }
 }

@@ -1,13 +1,18 @@
 //! The scope rules of the C subset, and the rules of a policy's descriptors in a program.
 #![tactic(auto)]
 
+mod actions;
+pub mod check;
 pub mod descriptors;
+mod entries;
 pub mod faults;
+mod forms;
 mod lists;
 mod names;
 mod places;
 mod rules;
 mod walks;
 
-pub use descriptors::DescriptorFault;
+pub use check::check_scope;
+pub use descriptors::{DescriptorFault, check_descriptors};
 pub use faults::ScopeFault;

@@ -5,7 +5,7 @@ ghost use Rattle.std.specs.List.{flat_map, filter_map};
 ghost use Rattle.std.specs.Option.{option_to_list};
 ghost use Rattle.cw_syntax.specs.Names.{text};
 ghost use Rattle.cw_syntax.specs.Trees.{tree_of, statement_of, declared_of, declaration_of, definition_of, prototype_of, file_of};
-ghost use Rattle.cw_scope.specs.Walks.{every_statement};
+ghost use Rattle.cw_scope.specs.Walks.{every_statement, every_node};
 ghost use Rattle.cw_scope.specs.Names.{declared_names, param_names, local_names, init_names, globals, locals, label_of, labels_of, plain_name, called_name, uses, function_places, every_name};
 ghost use Rattle.cw_scope.specs.Held.{placed_of, tree_at, perhaps_of};
 ghost use Rattle.cw_syntax.specs.declared.program.Head.{out-Head};
@@ -125,7 +125,7 @@ fn put_label(statement: &Stmt, out: &mut Vec<Name>) -> Result<(), AllocError>
 }
 
 /// Appends the labels of these statements.
-pub(crate) fn put_labels(statements: &[Placed], out: &mut Vec<Name>) -> Result<(), AllocError>
+fn put_labels(statements: &[Placed], out: &mut Vec<Name>) -> Result<(), AllocError>
     ensures { IfOk result (λ _. out.new.items ≡ out.old.items ++ labels_of (map placed_of statements.now)) }
 {
     for placed in statements {
@@ -189,10 +189,7 @@ fn put_prototype_names(protos: &[Proto], out: &mut Vec<Name>) -> Result<(), Allo
 }
 
 /// Appends the names of these functions.
-pub(crate) fn put_function_names(
-    functions: &[Function],
-    out: &mut Vec<Name>,
-) -> Result<(), AllocError>
+fn put_function_names(functions: &[Function], out: &mut Vec<Name>) -> Result<(), AllocError>
     ensures { IfOk result (λ _. out.new.items ≡ out.old.items ++ map (λ f. f.name) (map definition_of functions.now)) }
 {
     for function in functions {
@@ -214,5 +211,62 @@ pub(crate) fn locals(
     put_prototypes(&program.protos, &mut names)?;
     put_functions(&program.functions, &mut names)?;
     put_all_local_names(statements, &mut names)?;
+    Ok(names)
+}
+
+/// The labels of these statements.
+pub(crate) fn labels(alloc: Global, statements: &[Placed]) -> Result<Vec<Name>, AllocError>
+    ensures { IfOk result (λ names. names.items ≡ labels_of (map placed_of statements.now)) }
+{
+    let mut names = Vec::new(alloc);
+    put_labels(statements, &mut names)?;
+    Ok(names)
+}
+
+/// The names of variables, parameters and labels, where they are declared and where they stand in expressions. The statements and
+/// the expressions are those of the program.
+pub(crate) fn uses(
+    alloc: Global,
+    program: &Program,
+    statements: &[Placed],
+    nodes: &[&Expr],
+) -> Result<Vec<Name>, AllocError>
+    requires statements { map placed_of statements.now ≡ every_statement (file_of program.now) }
+    requires nodes { map tree_at nodes.now ≡ every_node (file_of program.now) }
+    ensures { IfOk result (λ names. names.items ≡ uses (file_of program.now)) }
+{
+    let mut names = Vec::new(alloc);
+    put_declarations(&program.globals, &mut names)?;
+    put_prototypes(&program.protos, &mut names)?;
+    put_functions(&program.functions, &mut names)?;
+    put_all_local_names(statements, &mut names)?;
+    put_labels(statements, &mut names)?;
+    put_plain_names(nodes, &mut names)?;
+    Ok(names)
+}
+
+/// All names of a program. Those of `uses` are there.
+pub(crate) fn every_name(
+    program: &Program,
+    used: Vec<Name>,
+    nodes: &[&Expr],
+) -> Result<Vec<Name>, AllocError>
+    requires uses { used.items ≡ uses (file_of program.now) }
+    requires nodes { map tree_at nodes.now ≡ every_node (file_of program.now) }
+    ensures { IfOk result (λ names. names.items ≡ every_name (file_of program.now)) }
+{
+    let mut names = used;
+    put_prototype_names(&program.protos, &mut names)?;
+    put_function_names(&program.functions, &mut names)?;
+    put_called_names(nodes, &mut names)?;
+    Ok(names)
+}
+
+/// The names of the functions that are defined.
+pub(crate) fn function_names(alloc: Global, program: &Program) -> Result<Vec<Name>, AllocError>
+    ensures { IfOk result (λ names. names.items ≡ map (λ f. f.name) (file_of program.now).functions) }
+{
+    let mut names = Vec::new(alloc);
+    put_function_names(&program.functions, &mut names)?;
     Ok(names)
 }

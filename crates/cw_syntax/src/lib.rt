@@ -5,4 +5,3 @@ pub mod checked;
 pub mod laws;
 pub mod marks;
 pub mod program;
-pub mod tokens;

@@ -1,17 +1,17 @@
 -- The lazy table tries only where skipping is lost.
-use Rattle.std.proofs.Common.{◌≡◌, ℕ, zero, suc, ◌+◌, ◌<◌, List, Bool, true, false, Option, Some, None, is_some, map, option_map, nat_lt, refl, sym, ap, ◌∙◌}
+use Rattle.std.proofs.Common.{◌≡◌, ℕ, zero, suc, ◌+◌, ◌<◌, List, true, Option, Some, None, option_map, nat_lt, refl, sym, ◌∙◌}
 use Rattle.std.specs.Prelude.{slice_get}
-use Rattle.std.proofs.lemmas.Option.{none-some, same_Some}
+use Rattle.std.proofs.lemmas.Option.{none-some}
 use Rattle.cw_rights.specs.declared.capabilities.Primitive.{Primitive}
 use Rattle.cw_rights.specs.Policies.{PlainPolicy}
 use Rattle.cw_certs.specs.declared.table.WeaverCert.{WeaverCert}
-use Rattle.cw_certs.specs.Tables.{table_of, try_at}
+use Rattle.cw_certs.specs.Tables.{table_of}
 use Rattle.cw_game.specs.declared.ambient.AmbientPolicy.{AmbientPolicy}
 use Rattle.cw_game.specs.declared.ambient.Node.{Node}
 use Rattle.cw_game.specs.declared.ambient.Node.TheVariants.{TryAt, AskedAt, LabelTo, StepTo, BranchTo, ExitAt}
 use Rattle.cw_game.specs.declared.spots.Spot.TheVariants.{Visit, Call, SplitCall}
 use Rattle.cw_game.specs.Games.{Game, Promise, IsLost}
-use Rattle.cw_game.specs.Conditions.{has, means_it}
+use Rattle.cw_game.specs.Conditions.{has}
 use Rattle.cw_game.specs.Ambient.{spot_of, start_of, ambient_game, numbering_of}
 use Rattle.cw_game.specs.Laid.{Laid}
 use Rattle.cw_game.specs.Necessity.{TriesOnlyLost}
@@ -20,7 +20,7 @@ use Rattle.cw_tables.specs.declared.closure.Side.TheVariants.{Weaver}
 use Rattle.cw_tables.specs.declared.closure.Key.{Key}
 use Rattle.cw_tables.specs.Heights.{height_at, AreHeights, AreHeightsOf}
 use Rattle.cw_tables.specs.Least.{Exactly, key_cmp}
-use Rattle.cw_tables.specs.Needed.{is_lost, Needed}
+use Rattle.cw_tables.specs.Needed.{Needed}
 use Rattle.cw_tables.specs.Rows.{AreStatesOf, IsTableOf}
 use Rattle.cw_tables.proofs.Tabled.{lost_where_tried}
 use Rattle.cw_tables.proofs.Holding.{spot_by, heights_of}

@@ -1,11 +1,9 @@
 -- A table that tries only what is lost to skip is lazy, over stacks of any depth.
-use Rattle.std.proofs.Common.{◌≡◌, ℕ, ◌+◌, List, [], ◌∷◌, Bool, true, false, Option, Some, None, is_some, option_map, refl, sym, subst, eq-eqb}
-use Rattle.std.specs.Prelude.{slice_get}
+use Rattle.std.proofs.Common.{◌≡◌, ℕ, ◌+◌, List, [], ◌∷◌, Bool, true, false, Option, Some, None, is_some, option_map, refl, subst, eq-eqb}
 use Rattle.std.specs.Int.{bit_at}
 use Rattle.std.proofs.lemmas.Option.{none-some, same_Some}
 use Rattle.std.proofs.lemmas.Nat.Bits.{bit_at_ones}
 use Rattle.cw_rights.specs.declared.capabilities.Caps.{Caps}
-use Rattle.cw_rights.specs.declared.capabilities.Primitive.{Primitive}
 use Rattle.cw_rights.specs.Words.{Word}
 use Rattle.cw_certs.specs.declared.moves.Move.TheVariants.{Skip, Try}
 use Rattle.cw_certs.specs.Tables.{Table}
@@ -13,7 +11,7 @@ use Rattle.cw_syntax.specs.Plans.{Plan}
 use Rattle.cw_syntax.specs.Frames.{Frame}
 use Rattle.cw_model.specs.Boards.{Problem, Phase, Visit, Asked, Free, FreeSplit, Over, Board, seam_in, passed_by, moved, Forced}
 use Rattle.cw_model.specs.Runs.{try_in, stays_where, memories, last, start_state, Lazy}
-use Rattle.cw_game.specs.Games.{AreStates, Game, Ret, at_pair, IsLost}
+use Rattle.cw_game.specs.Games.{AreStates, Game, Ret}
 use Rattle.cw_game.specs.Places.{IsLaidOut, HasRoutines}
 use Rattle.cw_game.specs.Conditions.{has, leads, rows_ok, all_states, is_closed_table}
 use Rattle.cw_game.specs.Necessity.{TriesOnlyLost}

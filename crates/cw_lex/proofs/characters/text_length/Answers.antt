@@ -1,4 +1,4 @@
-use Rattle.std.proofs.Common.{◌≡◌, ◌∙◌, sym, ap, false, true, eqb, get_or}
+use Rattle.std.proofs.Common.{◌∙◌, sym}
 use Rattle.std.proofs.lemmas.Bool.{eq-eqb, ne_eqb}
 use Rattle.cw_lex.proofs.Texts.{text_step, text_here, text_bad, text_none}
 use Rattle.cw_lex.proofs.characters.text_length.Goals as goal

@@ -1,4 +1,4 @@
-use Rattle.std.proofs.Common.{◌∙◌, sym, inr, arith}
+use Rattle.std.proofs.Common.{sym, inr, arith}
 use Rattle.cw_lex.proofs.Standing.{gap_behind, token_behind, at_end, at_defect, is_fault}
 use Rattle.cw_lex.proofs.lexer.read.Goals as goal
 

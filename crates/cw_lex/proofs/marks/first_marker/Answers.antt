@@ -1,5 +1,4 @@
 use Rattle.std.proofs.Common.{◌∙◌, sym, below_more}
-use Rattle.cw_lex.proofs.Markers.{no_marker}
 use Rattle.cw_lex.proofs.marks.first_marker.Goals as goal
 
 pub loop-at-preserved : goal.loop-at-preserved

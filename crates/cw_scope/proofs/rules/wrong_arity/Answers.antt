@@ -13,7 +13,7 @@ returns-in-None c =
     let e = c.args.e.now in
     let o = out-Expr e in
     let is = c.in-None.ensures ∙ ap (defined source file) c.text.ensures in
-    ap (λ d. miscounted source file d (count (trees_of o.parts.items)) o.from) is ∙ sym (at_operator (wrong_arity source file) e (CallOp c.in-Call.name) c.in-Call.is)
+    ap (λ d. miscounted d (count (trees_of o.parts.items)) o.from) is ∙ sym (at_operator (wrong_arity source file) e (CallOp c.in-Call.name) c.in-Call.is)
 
 pub returns-in-Some : goal.returns-in-Some
 returns-in-Some c =
@@ -27,7 +27,7 @@ returns-in-Some c =
     let m : c.len-in-Some.result ≡ length params.items = omega (arith, params.ok.0) in
     c.at_if.ensures
     ∙ ap₂ (λ n m. at_if (not (nat_eq n m)) o.from) (n ∙ sym (counted o.parts.items)) m
-    ∙ ap (λ d. miscounted source file d (count (trees_of o.parts.items)) o.from) is
+    ∙ ap (λ d. miscounted d (count (trees_of o.parts.items)) o.from) is
     ∙ sym (at_operator (wrong_arity source file) e (CallOp c.in-Call.name) c.in-Call.is)
 
 pub returns-in_default : goal.returns-in_default

@@ -1,0 +1,10 @@
+-- The proofs.
+pub mod Items
+pub mod Rights
+pub mod Reading
+pub mod Whole
+pub mod Trees
+pub mod Formed
+pub mod Valid
+pub mod Kept
+pub mod Same

@@ -1,0 +1,10 @@
+use Rattle.std.proofs.Common.{◌≡◌}
+use Rattle.toml.specs.View.{members_view}
+use Rattle.cw_policies.specs.Form as spec
+use Rattle.cw_policies.proofs.form.has_only.Given as goal
+
+abbrev pub invariant-members : goal.invariant-members
+invariant-members l =
+    (goal.iterator-members).can_next l.text-iterator ×
+    (goal.iterator-members).is_finite l.text-iterator ×
+    (spec.has_only l.keys (members_view l.text-iterator) ≡ spec.has_only l.keys (members_view l.table.entries))

@@ -1,0 +1,9 @@
+-- The definitions.
+pub mod Keys
+pub mod Form
+pub mod Names
+pub mod Parts
+pub mod Rules
+pub mod Sources
+pub mod Answer
+pub mod Lines

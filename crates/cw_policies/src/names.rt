@@ -1,0 +1,296 @@
+//! Names that aren't known, names that stand twice, and too many descriptors.
+
+ghost use Rattle.std.specs.Prelude.{◌≡◌, ◌<◌, [], option_map, is_some, IfSome};
+ghost use Rattle.toml.specs.Data.{get};
+ghost use Rattle.toml.specs.View.{view, items_view, table_view};
+ghost use Rattle.cw_regex.specs.Meaning as meaning;
+ghost use Rattle.cw_policies.specs.Form as form;
+ghost use Rattle.cw_policies.specs.Names as spec;
+
+use crate::fault::PolicyFault;
+use crate::form::{array_at, form_fault, items_at, member};
+use crate::keys::{Key, Section, place};
+use cw_core::Quantity;
+use toml::{Table, Value};
+
+/// The value at a key of a table, and None where the value is no table.
+pub fn field<'a>(value: &'a Value, key: &str) -> Option<&'a Value>
+    ensures { option_map (λ x. view x.now) result ≡ get key.now (view value.now) }
+{
+    match value {
+        Value::Table(table) => member(table, key),
+        _ => None,
+    }
+}
+
+/// The text of a string, and none where there is no string.
+pub fn text_at<'a>(value: Option<&'a Value>) -> &'a str
+    ensures { result.now ≡ form.text_at (option_map (λ x. view x.now) value.entry) }
+{
+    match value {
+        Some(found) => match found {
+            Value::String(text) => text.as_str(),
+            _ => "",
+        },
+        None => "",
+    }
+}
+
+/// The text of a string, or of the name of a table.
+pub fn name_of(value: &Value) -> &str
+    ensures { result.now ≡ spec.name_of (view value.now) }
+{
+    match value {
+        Value::String(text) => text.as_str(),
+        Value::Table(table) => text_at(member(table, "name")),
+        _ => "",
+    }
+}
+
+/// Whether one of the items has the name.
+pub fn is_among(items: &[Value], name: &str) -> bool
+    ensures { result ≡ spec.is_among (spec.names_of (items_view items.now)) name.now }
+{
+    'items: for item in items {
+        if name == name_of(item) {
+            return true;
+        }
+    }
+    false
+}
+
+/// The number of a right.
+pub fn right_number(name: &str) -> Option<u8>
+    ensures number { result ≡ meaning.right_number name.now }
+    ensures within { IfSome result (λ n. n < 12) }
+{
+    if name == "CAP_READ" {
+        return Some(0);
+    }
+    if name == "CAP_WRITE" {
+        return Some(1);
+    }
+    if name == "CAP_SEEK" {
+        return Some(2);
+    }
+    if name == "CAP_FSTAT" {
+        return Some(3);
+    }
+    if name == "CAP_FTRUNCATE" {
+        return Some(4);
+    }
+    if name == "CAP_FSYNC" {
+        return Some(5);
+    }
+    later_right_number(name)
+}
+
+fn later_right_number(name: &str) -> Option<u8>
+    ensures number { result ≡ meaning.later_right_number name.now }
+    ensures within { IfSome result (λ n. n < 12) }
+{
+    if name == "CAP_FCNTL" {
+        return Some(6);
+    }
+    if name == "CAP_IOCTL" {
+        return Some(7);
+    }
+    if name == "CAP_EVENT" {
+        return Some(8);
+    }
+    if name == "CAP_ACCEPT" {
+        return Some(9);
+    }
+    if name == "CAP_LISTEN" {
+        return Some(10);
+    }
+    if name == "CAP_LOOKUP" {
+        return Some(11);
+    }
+    None
+}
+
+fn is_right(name: &str) -> bool
+    ensures { result ≡ meaning.is_right name.now }
+{
+    right_number(name).is_some()
+}
+
+fn unknown_right(items: &[Value]) -> Option<usize>
+    ensures { result ≡ form.first_in spec.unknown_right 1 (items_view items.now) }
+{
+    let mut number = 1;
+    'items: for item in items {
+        if !is_right(name_of(item)) {
+            return Some(number);
+        }
+        number += 1;
+    }
+    None
+}
+
+fn unknown_item(section: Section, index: usize, key: u8, item: Option<usize>) -> Option<PolicyFault>
+    ensures { result ≡ spec.unknown_item section index key item }
+{
+    match item {
+        Some(number) => Some(PolicyFault::Unknown(place(section, index, key, number))),
+        None => None,
+    }
+}
+
+fn rights_fault(
+    section: Section,
+    index: usize,
+    key: u8,
+    value: Option<&Value>,
+) -> Option<PolicyFault>
+    ensures { result ≡ spec.rights_fault section index key (option_map (λ x. view x.now) value.entry) }
+{
+    unknown_item(section, index, key, unknown_right(items_at(value)))
+}
+
+fn descriptor_unknown(index: usize, value: &Value) -> Option<PolicyFault>
+    ensures { result ≡ spec.descriptor_unknown index (view value.now) }
+{
+    rights_fault(Section::Descriptor, index, 2, field(value, "rights"))
+}
+
+fn descriptors_unknown(items: &[Value]) -> Option<PolicyFault>
+    ensures { result ≡ form.first_in spec.descriptor_unknown 0 (items_view items.now) }
+{
+    let mut index = 0;
+    'items: for item in items {
+        match descriptor_unknown(index, item) {
+            Some(fault) => return Some(fault),
+            None => {}
+        }
+        index += 1;
+    }
+    None
+}
+
+fn limit_unknown(descriptors: &[Value], index: usize, value: &Value) -> Option<PolicyFault>
+    ensures { result ≡ spec.limit_unknown (spec.names_of (items_view descriptors.now)) index (view value.now) }
+{
+    if !is_among(descriptors, text_at(field(value, "descriptor"))) {
+        return Some(PolicyFault::Unknown(place(Section::Limit, index, 1, 0)));
+    }
+    rights_fault(Section::Limit, index, 2, field(value, "keep"))
+}
+
+fn limits_unknown(descriptors: &[Value], items: &[Value]) -> Option<PolicyFault>
+    ensures { result ≡ form.first_in (spec.limit_unknown (spec.names_of (items_view descriptors.now))) 0 (items_view items.now) }
+{
+    let mut index = 0;
+    'items: for item in items {
+        match limit_unknown(descriptors, index, item) {
+            Some(fault) => return Some(fault),
+            None => {}
+        }
+        index += 1;
+    }
+    None
+}
+
+#[tactic(auto, unfolding(crate::specs::Names::unknown_fault))]
+fn unknown_fault(table: &Table) -> Option<PolicyFault>
+    ensures { result ≡ spec.unknown_fault (table_view table.now) }
+{
+    let descriptors = array_at(table, Key::Descriptors);
+    match descriptors_unknown(descriptors) {
+        Some(fault) => Some(fault),
+        None => limits_unknown(descriptors, array_at(table, Key::Limits)),
+    }
+}
+
+/// The number of the first item whose name an item before it has.
+fn repeated(items: &[Value]) -> Option<usize>
+    ensures { result ≡ spec.repeated [] 0 (spec.names_of (items_view items.now)) }
+{
+    let mut index = 0;
+    'items: for item in items {
+        if is_among(&items[..index], name_of(item)) {
+            return Some(index);
+        }
+        index += 1;
+    }
+    None
+}
+
+fn twice_table(section: Section, index: Option<usize>) -> Option<PolicyFault>
+    ensures { result ≡ spec.twice_table section index }
+{
+    match index {
+        Some(number) => Some(PolicyFault::Twice(place(section, number, 1, 0))),
+        None => None,
+    }
+}
+
+fn twice_split(index: Option<usize>) -> Option<PolicyFault>
+    ensures { result ≡ spec.twice_split index }
+{
+    match index {
+        Some(number) => Some(PolicyFault::Twice(place(
+            Section::Root,
+            0,
+            3,
+            number.saturating_add(1),
+        ))),
+        None => None,
+    }
+}
+
+#[tactic(auto, unfolding(crate::specs::Names::twice_fault))]
+fn twice_fault(table: &Table) -> Option<PolicyFault>
+    ensures { result ≡ spec.twice_fault (table_view table.now) }
+{
+    match twice_table(
+        Section::Descriptor,
+        repeated(array_at(table, Key::Descriptors)),
+    ) {
+        Some(fault) => return Some(fault),
+        None => {}
+    }
+    match twice_split(repeated(array_at(table, Key::Split))) {
+        Some(fault) => return Some(fault),
+        None => {}
+    }
+    twice_table(Section::Rule, repeated(array_at(table, Key::Rules)))
+}
+
+/// How many items there are.
+pub fn count(items: &[Value]) -> usize
+    ensures { result ≡ spec.count (items_view items.now) }
+{
+    items.len()
+}
+
+fn count_fault(table: &Table) -> Option<PolicyFault>
+    ensures { result ≡ spec.count_fault (table_view table.now) }
+{
+    if count(array_at(table, Key::Descriptors)) > 8 {
+        Some(PolicyFault::Limit(Quantity::Descriptors))
+    } else {
+        None
+    }
+}
+
+/// The first fault of a tree before its tests and expressions are read.
+#[tactic(auto, unfolding(crate::specs::Names::early_fault))]
+pub fn early_fault(table: &Table) -> Option<PolicyFault>
+    ensures { result ≡ spec.early_fault (table_view table.now) }
+{
+    match form_fault(table) {
+        Some(fault) => return Some(fault),
+        None => {}
+    }
+    match unknown_fault(table) {
+        Some(fault) => return Some(fault),
+        None => {}
+    }
+    match twice_fault(table) {
+        Some(fault) => return Some(fault),
+        None => {}
+    }
+    count_fault(table)
+}

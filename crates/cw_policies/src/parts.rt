@@ -1,0 +1,183 @@
+//! The parts of the policy that a tree of the form has, but for its rules.
+
+ghost use Rattle.std.specs.Prelude.{◌≡◌, ◌<◌, ◌≤◌, [], length, map, option_map, IfOk, OnOk};
+ghost use Rattle.toml.specs.Data.{get};
+ghost use Rattle.toml.specs.View.{view, items_view, table_view};
+ghost use Rattle.cw_rights.specs.Policies.{descriptor_of};
+ghost use Rattle.cw_regex.specs.Labels.{names_in};
+ghost use Rattle.cw_regex.specs.Meaning as meaning;
+ghost use Rattle.cw_policies.specs.Names as names;
+ghost use Rattle.cw_policies.specs.Parts as spec;
+
+use crate::form::{array_at, items_at};
+use crate::keys::Key;
+use crate::names::{field, is_among, name_of, right_number, text_at};
+use cw_core::NoMemory;
+use cw_rights::{Descriptor, Limit, Rights};
+use indexmap::IndexSet;
+use std::alloc::Global;
+use toml::{Table, Value};
+
+fn with_right(rights: u16, name: &str) -> u16
+    requires within { rights ≤ 0xfff }
+    ensures rights { result ≡ spec.with_right rights (meaning.right_number name.now) }
+    ensures within { result ≤ 0xfff }
+{
+    match right_number(name) {
+        None => rights,
+        Some(number) => rights | 1 << number,
+    }
+}
+
+fn rights_of(items: &[Value]) -> u16
+    ensures rights { result ≡ spec.rights_of 0 (items_view items.now) }
+    ensures within { result ≤ 0xfff }
+{
+    let mut rights = 0;
+    'items: for item in items {
+        rights = with_right(rights, name_of(item));
+    }
+    rights
+}
+
+fn rights_at(value: Option<&Value>) -> Rights
+    ensures rights { result ≡ spec.rights_at (option_map (λ x. view x.now) value.entry) }
+    ensures within { result.0 ≤ 0xfff }
+{
+    match value {
+        Some(_) => Rights(rights_of(items_at(value))),
+        None => Rights(0xfff),
+    }
+}
+
+fn digit_of(name: &str) -> Option<u8>
+    ensures { result ≡ spec.digit_of name.now }
+{
+    if name == "0" {
+        Some(0)
+    } else if name == "1" {
+        Some(1)
+    } else if name == "2" {
+        Some(2)
+    } else {
+        None
+    }
+}
+
+fn copied(alloc: Global, text: &str) -> Result<Vec<u8>, NoMemory>
+    ensures bytes { IfOk result (λ copy. copy.items ≡ text.now) }
+{
+    let mut copy = Vec::new(alloc);
+    copy.extend_from_slice(text.as_bytes())?;
+    Ok(copy)
+}
+
+fn descriptor_in(alloc: Global, value: &Value) -> Result<Descriptor, NoMemory>
+    ensures descriptor { IfOk result (λ d. descriptor_of d ≡ spec.descriptor_in (view value.now)) }
+{
+    let name = name_of(value);
+    Ok(Descriptor {
+        name: copied(alloc, name)?,
+        number: digit_of(name),
+        rights: rights_at(field(value, "rights")),
+    })
+}
+
+/// The descriptors of a policy.
+pub fn descriptors_in(alloc: Global, items: &[Value]) -> Result<Vec<Descriptor>, NoMemory>
+    ensures descriptors { IfOk result (λ list. map descriptor_of list.items ≡ spec.descriptors_in (items_view items.now)) }
+{
+    let mut list = Vec::new(alloc);
+    'items: for item in items {
+        list.push(descriptor_in(alloc, item)?)?;
+    }
+    Ok(list)
+}
+
+fn descriptor_number(descriptors: &[Descriptor], name: &str) -> u8
+    requires { length descriptors.now ≤ 8 }
+    ensures { result ≡ meaning.number_in (meaning.names_of descriptors.now) name.now }
+{
+    for (i, descriptor) in descriptors.iter().enumerate() {
+        if name.as_bytes() == descriptor.name.as_slice() {
+            return i as u8;
+        }
+    }
+    0
+}
+
+fn limit_in(descriptors: &[Descriptor], value: &Value) -> Limit
+    requires { length descriptors.now ≤ 8 }
+    ensures { result ≡ spec.limit_in (meaning.names_of descriptors.now) (view value.now) }
+{
+    Limit {
+        descriptor: descriptor_number(descriptors, text_at(field(value, "descriptor"))),
+        keep: Rights(rights_of(items_at(field(value, "keep")))),
+    }
+}
+
+/// The limits of a policy.
+pub fn limits_in(
+    alloc: Global,
+    descriptors: &[Descriptor],
+    items: &[Value],
+) -> Result<Vec<Limit>, NoMemory>
+    requires { length descriptors.now ≤ 8 }
+    ensures limits { IfOk result (λ list. list.items ≡ spec.limits_in (meaning.names_of descriptors.now) (items_view items.now)) }
+{
+    let mut list = Vec::new(alloc);
+    'items: for item in items {
+        list.push(limit_in(descriptors, item))?;
+    }
+    Ok(list)
+}
+
+/// Whether the policy lets primitives of a kind be refused.
+pub fn refuses(table: &Table, kind: &str) -> bool
+    ensures { result ≡ spec.refuses kind.now (table_view table.now) }
+{
+    is_among(array_at(table, Key::Refusable), kind)
+}
+
+/// The names of some items.
+pub fn names_of(alloc: Global, items: &[Value]) -> Result<Vec<Vec<u8>>, NoMemory>
+    ensures names { IfOk result (λ list. map (λ name. name.items) list.items ≡ names.names_of (items_view items.now)) }
+{
+    let mut list = Vec::new(alloc);
+    'items: for item in items {
+        list.push(copied(alloc, name_of(item))?)?;
+    }
+    Ok(list)
+}
+
+fn add_label(alloc: Global, labels: &mut IndexSet<Vec<u8>>, label: &str) -> Result<(), NoMemory>
+    ensures added { OnOk result (names_in labels.new.keys ≡ meaning.with_name (names_in labels.old.keys) label.now) }
+{
+    if labels.contains(label.as_bytes()) {
+        return Ok(());
+    }
+    labels.insert(copied(alloc, label)?)?;
+    Ok(())
+}
+
+/// The labels of the tables `at`, in the order of first mention.
+pub fn labels_of(alloc: Global, items: &[Value]) -> Result<IndexSet<Vec<u8>>, NoMemory>
+    ensures labels { IfOk result (λ labels. names_in labels.keys ≡ spec.labels_from [] (items_view items.now)) }
+{
+    let mut labels = IndexSet::new(alloc);
+    'items: for item in items {
+        add_label(alloc, &mut labels, text_at(field(item, "label")))?;
+    }
+    Ok(labels)
+}
+
+/// The labels of a set, in their order.
+pub fn listed(alloc: Global, labels: &IndexSet<Vec<u8>>) -> Result<Vec<Vec<u8>>, NoMemory>
+    ensures labels { IfOk result (λ list. map (λ name. name.items) list.items ≡ names_in labels.now.keys) }
+{
+    let mut list = Vec::new(alloc);
+    'labels: for label in labels.as_slice() {
+        list.push(label.to_vec(alloc)?)?;
+    }
+    Ok(list)
+}

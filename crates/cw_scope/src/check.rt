@@ -1,0 +1,203 @@
+//! The scope rules over a whole program, in their order.
+
+ghost use Rattle.std.specs.Prelude.{◌≡◌, None, map, IfOk, IfErr};
+ghost use Rattle.cw_syntax.specs.Trees.{definition_of, file_of};
+ghost use Rattle.cw_scope.specs.Rules.{second_label};
+ghost use Rattle.cw_scope.specs.Faults.{no_main, two_functions, two_labels, arity, call_form, main_called, reserved_name, jump, limit, scope_fault, IsDue};
+ghost use Rattle.cw_scope.specs.Held.{placed_of, whole_of, tree_at};
+
+use crate::faults::ScopeFault;
+use crate::forms::wrong_forms;
+use crate::lists::{body_of, every_node, every_statement, every_whole};
+use crate::names::{every_name, function_names, labels, uses};
+use crate::places;
+use crate::rules::{are_more, has_main, repeated, sooner};
+use crate::walks::{Placed, Whole};
+use cw_core::Quantity;
+use cw_syntax::checked::Checked;
+use cw_syntax::program::{Expr, Function, Name, Program};
+use std::alloc::{AllocError, Global};
+
+#[tactic(auto, unfolding(crate::specs::Faults::no_main))]
+fn no_main(source: &[u8], program: &Program) -> Option<ScopeFault>
+    ensures { result ≡ no_main source.now (file_of program.now) }
+{
+    if has_main(source, program) {
+        None
+    } else {
+        Some(ScopeFault::NoMain)
+    }
+}
+
+#[tactic(auto, unfolding(crate::specs::Faults::two_functions))]
+fn two_functions(
+    alloc: Global,
+    source: &[u8],
+    program: &Program,
+) -> Result<Option<ScopeFault>, AllocError>
+    ensures { IfOk result (λ fault. fault ≡ two_functions source.now (file_of program.now)) }
+{
+    let names = function_names(alloc, program)?;
+    match repeated(alloc, source, &names)? {
+        None => Ok(None),
+        Some(name) => Ok(Some(ScopeFault::TwoFunctions(name))),
+    }
+}
+
+/// Function by function, the first label that stands there again.
+fn second_label(
+    alloc: Global,
+    source: &[u8],
+    functions: &[Function],
+) -> Result<Option<Name>, AllocError>
+    ensures { IfOk result (λ name. name ≡ second_label source.now (map definition_of functions.now)) }
+{
+    for function in functions {
+        let body = body_of(alloc, function)?;
+        let names = labels(alloc, &body)?;
+        if let Some(name) = repeated(alloc, source, &names)? {
+            return Ok(Some(name));
+        }
+    }
+    Ok(None)
+}
+
+#[tactic(auto, unfolding(crate::specs::Faults::two_labels))]
+fn two_labels(
+    alloc: Global,
+    source: &[u8],
+    program: &Program,
+) -> Result<Option<ScopeFault>, AllocError>
+    ensures { IfOk result (λ fault. fault ≡ two_labels source.now (file_of program.now)) }
+{
+    match second_label(alloc, source, &program.functions)? {
+        None => Ok(None),
+        Some(name) => Ok(Some(ScopeFault::TwoLabels(name))),
+    }
+}
+
+#[tactic(auto, unfolding(crate::specs::Faults::arity))]
+fn arity(source: &[u8], program: &Program, nodes: &[&Expr]) -> Option<ScopeFault>
+    ensures { result ≡ arity source.now (file_of program.now) (map tree_at nodes.now) }
+{
+    match places::wrong_arities(source, program, nodes) {
+        None => None,
+        Some(place) => Some(ScopeFault::Arity(place)),
+    }
+}
+
+#[tactic(auto, unfolding(crate::specs::Faults::call_form))]
+fn call_form(
+    alloc: Global,
+    source: &[u8],
+    program: &Program,
+    names: &[Name],
+    wholes: &[Whole],
+) -> Result<Option<ScopeFault>, AllocError>
+    ensures { IfOk result (λ fault. fault ≡ call_form source.now (file_of program.now) names.now (map whole_of wholes.now)) }
+{
+    let named = places::function_names(source, program, names);
+    let called = wrong_forms(alloc, source, program, wholes)?;
+    match sooner(named, called) {
+        None => Ok(None),
+        Some(place) => Ok(Some(ScopeFault::CallForm(place))),
+    }
+}
+
+#[tactic(auto, unfolding(crate::specs::Faults::main_called))]
+fn main_called(source: &[u8], nodes: &[&Expr]) -> Option<ScopeFault>
+    ensures { result ≡ main_called source.now (map tree_at nodes.now) }
+{
+    match places::main_calls(source, nodes) {
+        None => None,
+        Some(place) => Some(ScopeFault::MainCalled(place)),
+    }
+}
+
+#[tactic(auto, unfolding(crate::specs::Faults::reserved_name))]
+fn reserved_name(source: &[u8], names: &[Name]) -> Option<ScopeFault>
+    ensures { result ≡ reserved_name source.now names.now }
+{
+    match places::reserved_names(source, names) {
+        None => None,
+        Some(place) => Some(ScopeFault::Reserved(place)),
+    }
+}
+
+#[tactic(auto, unfolding(crate::specs::Faults::jump))]
+fn jump(statements: &[Placed]) -> Option<ScopeFault>
+    ensures { result ≡ jump (map placed_of statements.now) }
+{
+    match places::loose_jumps(statements) {
+        None => None,
+        Some(place) => Some(ScopeFault::Jump(place)),
+    }
+}
+
+#[tactic(auto, unfolding(crate::specs::Faults::limit))]
+fn limit(
+    alloc: Global,
+    source: &[u8],
+    program: &Program,
+    labels: &[Name],
+) -> Result<Option<ScopeFault>, AllocError>
+    ensures { IfOk result (λ fault. fault ≡ limit source.now (file_of program.now) labels.now) }
+{
+    if program.functions.len() > 512 {
+        return Ok(Some(ScopeFault::Limit(Quantity::Functions)));
+    }
+    if are_more(alloc, source, labels, 256)? {
+        Ok(Some(ScopeFault::Limit(Quantity::Labels)))
+    } else {
+        Ok(None)
+    }
+}
+
+/// The fault of the first rule that the program breaks.
+fn scope_fault(
+    alloc: Global,
+    source: &[u8],
+    program: &Program,
+) -> Result<Option<ScopeFault>, AllocError>
+    ensures { IfOk result (λ fault. fault ≡ scope_fault source.now (file_of program.now)) }
+{
+    let statements = every_statement(alloc, program)?;
+    let wholes = every_whole(alloc, program, &statements)?;
+    let nodes = every_node(alloc, &wholes)?;
+    let used = uses(alloc, program, &statements, &nodes)?;
+    let called = call_form(alloc, source, program, &used, &wholes)?;
+    let names = every_name(program, used, &nodes)?;
+    let labels = labels(alloc, &statements)?;
+    Ok(
+        no_main(source, program)
+            .or(two_functions(alloc, source, program)?)
+            .or(two_labels(alloc, source, program)?)
+            .or(arity(source, program, &nodes))
+            .or(called)
+            .or(main_called(source, &nodes))
+            .or(reserved_name(source, &names))
+            .or(jump(&statements))
+            .or(limit(alloc, source, program, &labels)?),
+    )
+}
+
+/// A program with its source, where the scope rules hold.
+///
+/// The program is the one that was read from the source. The rules are tested in the order of the variants of `ScopeFault`, each
+/// over the whole source; the first that is broken is answered, and nothing is handed back. Public source: ISO/IEC 9899:2011,
+/// sections 6.2.1, 6.5.2.2, 6.8.1, 6.8.6 and 6.9, and this project's subset of C.
+pub fn check_scope<'s>(
+    alloc: Global,
+    source: &'s [u8],
+    program: Program,
+) -> Result<Checked<'s>, ScopeFault>
+    ensures ok { IfOk result (λ checked. scope_fault source.now (file_of program) ≡ None) }
+    ensures source { IfOk result (λ checked. checked.source.now ≡ source.now) }
+    ensures program { IfOk result (λ checked. checked.program ≡ program) }
+    ensures fault { IfErr result (λ fault. IsDue (scope_fault source.now (file_of program)) fault) }
+{
+    match scope_fault(alloc, source, &program)? {
+        None => Ok(Checked { source, program }),
+        Some(fault) => Err(fault),
+    }
+}

@@ -1,0 +1,170 @@
+//! The forms in which calls may stand.
+
+ghost use Rattle.std.specs.Prelude.{◌≡◌, ℕ, cond, None, map, IfOk, slice_get};
+ghost use Rattle.std.specs.List.{list_any, filter_map};
+ghost use Rattle.std.specs.Option.{option_map};
+ghost use Rattle.cw_syntax.specs.Trees.{Node, none, more, tree_of, trees_of, file_of};
+ghost use Rattle.cw_scope.specs.Walks.{nodes};
+ghost use Rattle.cw_scope.specs.Rules.{least, is_call, defined_call, external_call, statement_call, standing_call, misplaced, second_external, wrong_form};
+ghost use Rattle.cw_scope.specs.Held.{tree_at, whole_of};
+
+use crate::places::defined_calls;
+use crate::rules::{defined_call, external_call, is_call, sooner};
+use crate::walks::{Whole, put_nodes, put_parts};
+use cw_syntax::program::{Expr, Op, Program};
+use std::alloc::{AllocError, Global};
+
+/// The call of an assignment of these two parts.
+fn assigned_call<'p>(x: &Expr, value: &'p Expr) -> Option<&'p Expr>
+    ensures { (from to : ℕ) → option_map tree_at result ≡ statement_call (Node (Op.Assign 0) (more (tree_of x.now) (more (tree_of value.now) none)) from to) }
+{
+    match x.op {
+        Op::Name => match value.op {
+            Op::Call(_) => Some(value),
+            _ => None,
+        },
+        _ => None,
+    }
+}
+
+/// The call of an assignment by an operator of this number: 0 is `=`.
+fn assignment_call(by: u8, parts: &[Expr]) -> Option<&Expr>
+    ensures { (from to : ℕ) → option_map tree_at result ≡ statement_call (Node (Op.Assign by) (trees_of parts.now) from to) }
+{
+    if by != 0 {
+        return None;
+    }
+    match parts {
+        [] => None,
+        [_] => None,
+        [x, value] => assigned_call(x, value),
+        [_, _, _, ..] => None,
+    }
+}
+
+/// The call of a whole statement `f(..);` or `x = f(..);`.
+fn statement_call(e: &Expr) -> Option<&Expr>
+    ensures { option_map tree_at result ≡ statement_call (tree_of e.now) }
+{
+    match e.op {
+        Op::Call(_) => Some(e),
+        Op::Assign(by) => assignment_call(by, &e.parts),
+        _ => None,
+    }
+}
+
+fn standing_call<'p>(whole: Whole<'p>) -> Option<&'p Expr>
+    ensures { option_map tree_at result ≡ standing_call (whole_of whole.entry) }
+{
+    if whole.stands {
+        statement_call(whole.tree)
+    } else {
+        None
+    }
+}
+
+fn has_call(nodes: &[&Expr]) -> bool
+    ensures { result ≡ list_any is_call (map tree_at nodes.now) }
+{
+    for e in nodes {
+        if is_call(e) {
+            return true;
+        }
+    }
+    false
+}
+
+/// The place of a statement's call of a defined function, where a call is among these, which are in its arguments.
+fn holding_call(source: &[u8], program: &Program, call: &Expr, inner: &[&Expr]) -> Option<u32>
+    ensures { result ≡ cond (list_any is_call (map tree_at inner.now)) (defined_call source.now (file_of program.now) (tree_of call.now)) None }
+{
+    if has_call(inner) {
+        defined_call(source, program, call)
+    } else {
+        None
+    }
+}
+
+/// The least place of a call of a defined function that may not stand where it does in an expression.
+fn misplaced(
+    alloc: Global,
+    source: &[u8],
+    program: &Program,
+    call: Option<&Expr>,
+    tree: &Expr,
+) -> Result<Option<u32>, AllocError>
+    ensures { IfOk result (λ place. place ≡ least (misplaced source.now (file_of program.now) (option_map tree_at call.entry) (tree_of tree.now))) }
+{
+    let mut inner = Vec::new(alloc);
+    match call {
+        None => {
+            put_nodes(tree, &mut inner)?;
+            Ok(defined_calls(source, program, &inner))
+        }
+        Some(call) => {
+            put_parts(&call.parts, &mut inner)?;
+            let own = holding_call(source, program, call, &inner);
+            Ok(sooner(own, defined_calls(source, program, &inner)))
+        }
+    }
+}
+
+fn second_call(source: &[u8], program: &Program, nodes: &[&Expr]) -> Option<u32>
+    ensures { result ≡ slice_get (filter_map (external_call source.now (file_of program.now)) (map tree_at nodes.now)) 1 }
+{
+    let mut seen = false;
+    for e in nodes {
+        if let Some(place) = external_call(source, program, e) {
+            if seen {
+                return Some(place);
+            }
+            seen = true;
+        }
+    }
+    None
+}
+
+/// The second external call of an expression.
+fn second_external(
+    alloc: Global,
+    source: &[u8],
+    program: &Program,
+    tree: &Expr,
+) -> Result<Option<u32>, AllocError>
+    ensures { IfOk result (λ place. place ≡ second_external source.now (file_of program.now) (tree_of tree.now)) }
+{
+    let mut all = Vec::new(alloc);
+    put_nodes(tree, &mut all)?;
+    Ok(second_call(source, program, &all))
+}
+
+/// The least place at which a whole expression breaks the rule on the forms of calls.
+fn wrong_form(
+    alloc: Global,
+    source: &[u8],
+    program: &Program,
+    whole: Whole,
+) -> Result<Option<u32>, AllocError>
+    ensures { IfOk result (λ place. place ≡ wrong_form source.now (file_of program.now) (whole_of whole.entry)) }
+{
+    let own = misplaced(alloc, source, program, standing_call(whole), whole.tree)?;
+    let second = second_external(alloc, source, program, whole.tree)?;
+    Ok(sooner(own, second))
+}
+
+/// The least place at which one of these whole expressions does.
+#[tactic(auto, using(crate::proofs::Lesser::sooner_assoc))]
+pub(crate) fn wrong_forms(
+    alloc: Global,
+    source: &[u8],
+    program: &Program,
+    wholes: &[Whole],
+) -> Result<Option<u32>, AllocError>
+    ensures { IfOk result (λ place. place ≡ least (map (wrong_form source.now (file_of program.now)) (map whole_of wholes.now))) }
+{
+    let mut place = None;
+    for whole in wholes {
+        place = sooner(place, wrong_form(alloc, source, program, *whole)?);
+    }
+    Ok(place)
+}
