@@ -1,5 +1,5 @@
 -- The recogniser: a stack of what is still to come.
-use Rattle.std.specs.Prelude.{◌≡◌, Bool, true, false, List, [], ◌∷◌, ◌++◌, reverse, Option, Some, None}
+use Rattle.std.specs.Prelude.{◌≡◌, Bool, true, false, ◌&&◌, List, [], ◌∷◌, ◌++◌, reverse, Option, Some, None}
 use Rattle.cw_grammar.specs.declared.words.Lexeme.{Lexeme}
 use Rattle.cw_recogniser.specs.declared.kinds.Kind.{Kind}
 use Rattle.cw_recogniser.specs.declared.kinds.Kind.TheVariants as k
@@ -335,7 +335,7 @@ feed (symbol ∷ below) kind = fed (after symbol kind) (may_be_empty symbol) bel
 -- nothing more needs to come
 abbrev pub is_done : List Symbol → Bool
 is_done [] = true
-is_done (symbol ∷ below) = elim (may_be_empty symbol) [ true ↦ is_done below | false ↦ false ]
+is_done (symbol ∷ below) = may_be_empty symbol && is_done below
 
 -- the stack behind some tokens, if each of them may come where it stands
 abbrev pub run : List Symbol → List Lexeme → Next

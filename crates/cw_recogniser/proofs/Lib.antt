@@ -1,0 +1,5 @@
+mod Accepting
+mod WordKinds
+mod Heads
+mod TypesRead
+mod ExpressionsRead
