@@ -3,3 +3,5 @@ mod WordKinds
 mod Heads
 mod TypesRead
 mod ExpressionsRead
+mod DeclarationsRead
+mod StatementsRead
