@@ -186,7 +186,7 @@ module _ (n : ℕ) where
   abbrev pub behind : List Symbol → List Symbol
   behind others = s.TwoStars ∷ s.Name ∷ s.Array ∷ s.Initialiser ∷ s.MoreItems ∷ s.Semicolon ∷ others
 
-  first_of_items : (items : List Declared) (specs : Specifiers) (b rest : List Lexeme) (below : List Symbol) → 0 < length items → IsEnded w.Semicolon (AreSeparated (IsItem (IsExpression n) specs)) b items → Accepts below rest → FirstItem b rest (s.Semicolon ∷ below)
+  pub first_of_items : (items : List Declared) (specs : Specifiers) (b rest : List Lexeme) (below : List Symbol) → 0 < length items → IsEnded w.Semicolon (AreSeparated (IsItem (IsExpression n) specs)) b items → Accepts below rest → FirstItem b rest (s.Semicolon ∷ below)
   first_of_items [] specs b rest below some d h = absurd (omega arith)
   first_of_items (x ∷ xs) specs b rest below some (inner, c, e, is, d) h =
       subst (λ (z : List Lexeme). FirstItem z rest (s.Semicolon ∷ below)) (sym e) (joined inner (c ∷ []) rest (s.Semicolon ∷ below) (items_first specs xs x inner c rest (s.Semicolon ∷ below) d is (step is refl h)))

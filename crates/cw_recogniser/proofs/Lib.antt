@@ -5,3 +5,4 @@ mod TypesRead
 mod ExpressionsRead
 mod DeclarationsRead
 mod StatementsRead
+mod FilesRead
