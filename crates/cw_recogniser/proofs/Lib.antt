@@ -6,3 +6,5 @@ mod ExpressionsRead
 mod DeclarationsRead
 mod StatementsRead
 mod FilesRead
+mod Deeper
+mod Chains
