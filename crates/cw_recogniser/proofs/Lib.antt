@@ -8,3 +8,6 @@ mod StatementsRead
 mod FilesRead
 mod Deeper
 mod Chains
+mod Meanings
+mod TypesSound
+mod ExpressionsSound
