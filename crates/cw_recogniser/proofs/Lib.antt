@@ -11,3 +11,8 @@ mod Chains
 mod Meanings
 mod TypesSound
 mod ExpressionsSound
+mod DeclarationsSound
+mod ParamsSound
+mod StatementsSound
+mod FilesSound
+mod Sound
