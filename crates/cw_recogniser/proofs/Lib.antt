@@ -16,3 +16,5 @@ mod ParamsSound
 mod StatementsSound
 mod FilesSound
 mod Sound
+mod Fits
+mod Fronts
