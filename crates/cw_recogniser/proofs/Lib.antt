@@ -18,3 +18,4 @@ mod FilesSound
 mod Sound
 mod Fits
 mod Fronts
+pub mod Codes

@@ -19,6 +19,36 @@ abbrev pub either : Next → Next → Next
 either None other = other
 either (Some new) other = Some new
 
+-- ---- marks
+
+abbrev pub opening : Kind → Next
+opening k.Open = Some []
+opening _ = None
+
+abbrev pub closing : Kind → Next
+closing k.Close = Some []
+closing _ = None
+
+abbrev pub close_bracket : Kind → Next
+close_bracket k.CloseBracket = Some []
+close_bracket _ = None
+
+abbrev pub close_brace : Kind → Next
+close_brace k.CloseBrace = Some []
+close_brace _ = None
+
+abbrev pub semicolon : Kind → Next
+semicolon k.Semicolon = Some []
+semicolon _ = None
+
+abbrev pub while_word : Kind → Next
+while_word k.While = Some []
+while_word _ = None
+
+abbrev pub name : Kind → Next
+name k.Name = Some []
+name _ = None
+
 -- ---- expressions: what is to come behind the first token, if one of its kind may be first
 
 -- a unary that doesn't begin with a parenthesis
@@ -154,10 +184,14 @@ after_declared _ = None
 abbrev pub param : (named : Bool) → Kind → Next
 param named kind = onto (type_name kind) (s.AfterType named ∷ [])
 
+-- parameters that are none or begin with `void`
+abbrev pub params_front : Kind → Next
+params_front k.Close = Some (s.Ending true ∷ [])
+params_front k.Void = Some (s.AfterVoid ∷ [])
+params_front _ = None
+
 abbrev pub params : Kind → Next
-params k.Close = Some (s.Ending true ∷ [])
-params k.Void = Some (s.AfterVoid ∷ [])
-params kind = param true kind
+params kind = either (params_front kind) (param true kind)
 
 abbrev pub after_type : (named : Bool) → Kind → Next
 after_type named k.Name = Some (s.Brackets ∷ s.MoreParams named ∷ [])
@@ -187,17 +221,21 @@ ending named _ = None
 
 -- ---- statements
 
+-- a statement that doesn't begin with an expression alone
+abbrev pub keyword : Kind → Next
+keyword k.Semicolon = Some []
+keyword k.OpenBrace = Some (s.Items ∷ s.CloseBrace ∷ [])
+keyword k.Name = Some (s.AfterName ∷ [])
+keyword k.If = Some (s.Open ∷ s.Expression ∷ s.Close ∷ s.Statement ∷ s.MaybeElse ∷ [])
+keyword k.While = Some (s.Open ∷ s.Expression ∷ s.Close ∷ s.Statement ∷ [])
+keyword k.Do = Some (s.Statement ∷ s.While ∷ s.Open ∷ s.Expression ∷ s.Close ∷ s.Semicolon ∷ [])
+keyword k.For = Some (s.Open ∷ s.ForInit ∷ s.MaybeExpression ∷ s.Semicolon ∷ s.MaybeExpression ∷ s.Close ∷ s.Statement ∷ [])
+keyword k.Jump = Some (s.Semicolon ∷ [])
+keyword k.Return = Some (s.MaybeExpression ∷ s.Semicolon ∷ [])
+keyword _ = None
+
 abbrev pub statement : Kind → Next
-statement k.Semicolon = Some []
-statement k.OpenBrace = Some (s.Items ∷ s.CloseBrace ∷ [])
-statement k.Name = Some (s.AfterName ∷ [])
-statement k.If = Some (s.Open ∷ s.Expression ∷ s.Close ∷ s.Statement ∷ s.MaybeElse ∷ [])
-statement k.While = Some (s.Open ∷ s.Expression ∷ s.Close ∷ s.Statement ∷ [])
-statement k.Do = Some (s.Statement ∷ s.While ∷ s.Open ∷ s.Expression ∷ s.Close ∷ s.Semicolon ∷ [])
-statement k.For = Some (s.Open ∷ s.ForInit ∷ s.MaybeExpression ∷ s.Semicolon ∷ s.MaybeExpression ∷ s.Close ∷ s.Statement ∷ [])
-statement k.Jump = Some (s.Semicolon ∷ [])
-statement k.Return = Some (s.MaybeExpression ∷ s.Semicolon ∷ [])
-statement kind = onto (expression kind) (s.Semicolon ∷ [])
+statement kind = either (keyword kind) (onto (expression kind) (s.Semicolon ∷ []))
 
 abbrev pub after_name : Kind → Next
 after_name k.Colon = Some (s.Statement ∷ [])
@@ -212,38 +250,7 @@ maybe_else k.Else = Some (s.Statement ∷ [])
 maybe_else _ = None
 
 abbrev pub for_init : Kind → Next
-for_init k.Semicolon = Some []
-for_init kind = either (declaration kind) (onto (expression kind) (s.Semicolon ∷ []))
-
--- ---- marks
-
-abbrev pub opening : Kind → Next
-opening k.Open = Some []
-opening _ = None
-
-abbrev pub closing : Kind → Next
-closing k.Close = Some []
-closing _ = None
-
-abbrev pub close_bracket : Kind → Next
-close_bracket k.CloseBracket = Some []
-close_bracket _ = None
-
-abbrev pub close_brace : Kind → Next
-close_brace k.CloseBrace = Some []
-close_brace _ = None
-
-abbrev pub semicolon : Kind → Next
-semicolon k.Semicolon = Some []
-semicolon _ = None
-
-abbrev pub while_word : Kind → Next
-while_word k.While = Some []
-while_word _ = None
-
-abbrev pub name : Kind → Next
-name k.Name = Some []
-name _ = None
+for_init kind = either (semicolon kind) (either (declaration kind) (onto (expression kind) (s.Semicolon ∷ [])))
 
 -- ---- the machine
 
@@ -344,3 +351,8 @@ run stack (t ∷ ts) = elim (feed stack (kind_of_word t.word)) [ None ↦ None |
 
 abbrev pub start : List Symbol
 start = s.Parts ∷ []
+
+-- What a step answers: the stack behind it, as the code keeps it with its front last, or that the token can't come.
+abbrev pub Steps : Next → List Symbol → Bool → Type 0
+Steps next kept true = next ≡ Some (reverse kept)
+Steps next kept false = next ≡ None

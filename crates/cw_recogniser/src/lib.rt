@@ -2,4 +2,7 @@
 #![tactic(auto)]
 
 mod kinds;
+mod machine;
+mod marks;
 mod symbols;
+mod tables;
