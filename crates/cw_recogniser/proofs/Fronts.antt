@@ -51,3 +51,9 @@ open_text ts stack e d text =
     let f : accepts start ts ≡ false = ap (accepts start) (sym (append-nil ts)) ∙ accepts_both ts [] start ∙ rw e d in
     let g = (reads_text ts text).ok in
     absurd cc
+
+pub no_text : (ts : List Lexeme) → run start ts ≡ None → ¬ (IsText ts)
+no_text ts e text =
+    let f : accepts start ts ≡ false = ap (accepts start) (sym (append-nil ts)) ∙ accepts_both ts [] start ∙ rw e refl in
+    let g = (reads_text ts text).ok in
+    absurd cc

@@ -19,3 +19,4 @@ mod Sound
 mod Fits
 mod Fronts
 pub mod Codes
+pub mod Verdicts

@@ -1,5 +1,5 @@
 -- The recogniser: a stack of what is still to come.
-use Rattle.std.specs.Prelude.{◌≡◌, Bool, true, false, ◌&&◌, List, [], ◌∷◌, ◌++◌, reverse, Option, Some, None}
+use Rattle.std.specs.Prelude.{◌≡◌, ℕ, ◌+◌, ◌<◌, ◌≤◌, length, take, is_some, Bool, true, false, ◌&&◌, List, [], ◌∷◌, ◌++◌, reverse, Option, Some, None}
 use Rattle.cw_grammar.specs.declared.words.Lexeme.{Lexeme}
 use Rattle.cw_recogniser.specs.declared.kinds.Kind.{Kind}
 use Rattle.cw_recogniser.specs.declared.kinds.Kind.TheVariants as k
@@ -356,3 +356,16 @@ start = s.Parts ∷ []
 abbrev pub Steps : Next → List Symbol → Bool → Type 0
 Steps next kept true = next ≡ Some (reverse kept)
 Steps next kept false = next ≡ None
+
+-- whether a run ended where nothing more needs to come
+abbrev pub accepted : Next → Bool
+accepted None = false
+accepted (Some stack) = is_done stack
+
+-- What is said of some tokens: none, that they are accepted; a number, that they aren't, that so many are each taken where they stand,
+-- and that one more isn't.
+abbrev pub IsVerdict : List Lexeme → Option ℕ → Type 0
+IsVerdict ts None = accepted (run start ts) ≡ true
+IsVerdict ts (Some at) =
+    (at ≤ length ts) × (accepted (run start ts) ≡ false) × (is_some (run start (take at ts)) ≡ true)
+    × (at < length ts → is_some (run start (take (at + 1) ts)) ≡ false)

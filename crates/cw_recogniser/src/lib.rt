@@ -4,5 +4,8 @@
 mod kinds;
 mod machine;
 mod marks;
+mod recogniser;
 mod symbols;
 mod tables;
+
+pub use recogniser::recognise;
