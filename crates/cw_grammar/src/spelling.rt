@@ -9,8 +9,7 @@ ghost use Rattle.cw_grammar.specs.Spelling.{keywords, long_marks, short_marks, s
 
 use crate::words::{Lexeme, Word};
 use cw_core::NoMemory;
-use cw_lex::{character_value, number_value};
-use cw_lex::{Token, TokenKind};
+use cw_lex::{Token, TokenKind, character_value, number_value};
 use std::alloc::Global;
 
 /// The keyword of the grammar that this text is.

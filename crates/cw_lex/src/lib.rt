@@ -9,9 +9,9 @@ mod lexer;
 mod marks;
 mod numbers;
 mod piece;
-mod tokens;
 #[cfg(test)]
 mod tests;
+mod tokens;
 
 pub use characters::character_value;
 pub use laws::{laws_of_sources, laws_of_texts, laws_of_tokens};

@@ -1,10 +1,10 @@
 //! Sources with their tokens and faults, written out by hand.
 
 use crate::numbers::is_number;
+use crate::tokens::{Token, TokenKind};
 use crate::{
     LexFault, character_value, laws_of_sources, laws_of_texts, laws_of_tokens, lex, number_value,
 };
-use crate::tokens::{Token, TokenKind};
 use std::alloc::{AllocError, Global};
 use std::test::Fail;
 

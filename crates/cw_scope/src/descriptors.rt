@@ -24,7 +24,7 @@ use thiserror::Error;
 
 /// The rule that a policy's descriptors break first in a program, in this order. A descriptor has its number in the policy; a
 /// place is counted in bytes from the front of the source.
-#[derive(Debug, Drop, Error)]
+#[derive(Clone, Copy, Debug, PartialEq, Eq, Error)]
 pub enum DescriptorFault {
     /// This descriptor's variable isn't declared once at file scope as a descriptor's variable must be.
     #[error("no variable")]

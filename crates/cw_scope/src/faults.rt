@@ -9,7 +9,7 @@ use std::alloc::AllocError;
 use thiserror::Error;
 
 /// The scope rule that a program breaks first, in this order. A place is counted in bytes from the front of the source.
-#[derive(Debug, Drop, Error)]
+#[derive(Clone, Copy, Debug, PartialEq, Eq, Error)]
 pub enum ScopeFault {
     /// There is no definition of `main`.
     #[error("no main")]

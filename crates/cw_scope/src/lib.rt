@@ -11,6 +11,8 @@ mod lists;
 mod names;
 mod places;
 mod rules;
+#[cfg(test)]
+mod tests;
 mod walks;
 
 pub use check::check_scope;

@@ -1,0 +1,135 @@
+-- What may follow, by the kind of the first token.
+use Rattle.std.proofs.Common.{◌≡◌, Bool, true, false, List, [], ◌∷◌, ◌++◌, refl, ap, map}
+use Rattle.std.specs.Prelude.{is_some}
+use Rattle.cw_grammar.specs.declared.words.Word.{Word}
+use Rattle.cw_grammar.specs.declared.words.Lexeme.{Lexeme}
+use Rattle.cw_grammar.specs.Lexemes.{Is, words}
+use Rattle.cw_recogniser.specs.declared.kinds.Kind.{Kind}
+use Rattle.cw_recogniser.specs.declared.kinds.Kind.TheVariants as k
+use Rattle.cw_recogniser.specs.declared.symbols.Symbol.{Symbol}
+use Rattle.cw_recogniser.specs.declared.symbols.Symbol.TheVariants as s
+use Rattle.cw_recogniser.specs.Kinds.{kind_of_word}
+use Rattle.cw_recogniser.specs.Machine.{after}
+use Rattle.cw_recogniser.proofs.Accepting.{takes}
+
+abbrev pub head : (Kind → Bool) → List Lexeme → Bool
+head p [] = false
+head p (t ∷ ts) = p (kind_of_word t.word)
+
+pub head_is : (p : Kind → Bool) (word : Word) (t : Lexeme) (ts : List Lexeme) → Is word t → p (kind_of_word word) ≡ true → head p (t ∷ ts) ≡ true
+head_is p word t ts is e = rw is e
+
+pub untaken : (symbol : Symbol) (p : Kind → Bool) → ((kind : Kind) → p kind ≡ true → is_some (after symbol kind) ≡ false) → (ts : List Lexeme) → head p ts ≡ true → takes symbol ts ≡ false
+untaken symbol p f [] e = absurd cc
+untaken symbol p f (t ∷ ts) e = f (kind_of_word t.word) e
+
+pub head_wider : (p q : Kind → Bool) → ((kind : Kind) → p kind ≡ true → q kind ≡ true) → (ts : List Lexeme) → head p ts ≡ true → head q ts ≡ true
+head_wider p q f [] e = absurd cc
+head_wider p q f (t ∷ ts) e = f (kind_of_word t.word) e
+
+-- behind an expression
+abbrev pub is_end : Kind → Bool
+is_end k.Close = true
+is_end k.CloseBracket = true
+is_end k.CloseBrace = true
+is_end k.Semicolon = true
+is_end k.Comma = true
+is_end _ = false
+
+-- behind an operand
+abbrev pub is_halt : Kind → Bool
+is_halt k.Close = true
+is_halt k.CloseBracket = true
+is_halt k.CloseBrace = true
+is_halt k.Semicolon = true
+is_halt k.Comma = true
+is_halt k.Star = true
+is_halt k.Both = true
+is_halt k.Binary = true
+is_halt k.Assign = true
+is_halt k.Update = true
+is_halt _ = false
+
+-- behind a postfix
+abbrev pub is_follower : Kind → Bool
+is_follower k.OpenBracket = true
+is_follower k.Step = true
+is_follower kind = is_halt kind
+
+pub end_halts : (kind : Kind) → is_end kind ≡ true → is_halt kind ≡ true
+end_halts k.Close e = refl
+end_halts k.CloseBracket e = refl
+end_halts k.CloseBrace e = refl
+end_halts k.Semicolon e = refl
+end_halts k.Comma e = refl
+end_halts _ e = absurd cc
+
+pub halt_follows : (kind : Kind) → is_halt kind ≡ true → is_follower kind ≡ true
+halt_follows k.OpenBracket e = refl
+halt_follows k.Step e = refl
+halt_follows k.Close e = refl
+halt_follows k.CloseBracket e = refl
+halt_follows k.CloseBrace e = refl
+halt_follows k.Semicolon e = refl
+halt_follows k.Comma e = refl
+halt_follows k.Star e = refl
+halt_follows k.Both e = refl
+halt_follows k.Binary e = refl
+halt_follows k.Assign e = refl
+halt_follows k.Update e = refl
+halt_follows _ e = absurd cc
+
+pub no_tail : (may : Bool) (kind : Kind) → is_end kind ≡ true → is_some (after (s.Tail may) kind) ≡ false
+no_tail true k.Close e = refl
+no_tail true k.CloseBracket e = refl
+no_tail true k.CloseBrace e = refl
+no_tail true k.Semicolon e = refl
+no_tail true k.Comma e = refl
+no_tail true _ e = absurd cc
+no_tail false k.Close e = refl
+no_tail false k.CloseBracket e = refl
+no_tail false k.CloseBrace e = refl
+no_tail false k.Semicolon e = refl
+no_tail false k.Comma e = refl
+no_tail false _ e = absurd cc
+
+pub no_suffix : (kind : Kind) → is_halt kind ≡ true → is_some (after s.Suffixes kind) ≡ false
+no_suffix k.OpenBracket e = absurd cc
+no_suffix k.Step e = absurd cc
+no_suffix _ e = refl
+
+pub no_call : (kind : Kind) → is_follower kind ≡ true → is_some (after s.Call kind) ≡ false
+no_call k.Open e = absurd cc
+no_call _ e = refl
+
+pub no_text : (kind : Kind) → is_follower kind ≡ true → is_some (after s.Texts kind) ≡ false
+no_text k.Text e = absurd cc
+no_text _ e = refl
+
+-- ---- tokens with these words
+
+pub first_word : (ts : List Lexeme) (x : Word) (xs : List Word) → words ts ≡ x ∷ xs → (t : Lexeme) × (us : List Lexeme) × (ts ≡ t ∷ us) × Is x t × (words us ≡ xs)
+first_word [] x xs e = absurd cc
+first_word (t ∷ us) x xs e = (t, us, refl, (cc), (cc))
+
+pub no_words : (ts : List Lexeme) → words ts ≡ [] → ts ≡ []
+no_words [] e = refl
+no_words (t ∷ ts) e = absurd cc
+
+pub one_word : (ts : List Lexeme) (x : Word) → words ts ≡ x ∷ [] → (t : Lexeme) × (ts ≡ t ∷ []) × Is x t
+one_word [] x e = absurd cc
+one_word (t ∷ []) x e = (t, refl, (cc))
+one_word (t ∷ u ∷ ts) x e = absurd cc
+
+pub two_words : (ts : List Lexeme) (x y : Word) → words ts ≡ x ∷ y ∷ [] → (t : Lexeme) × (u : Lexeme) × (ts ≡ t ∷ u ∷ []) × Is x t × Is y u
+two_words [] x y e = absurd cc
+two_words (t ∷ []) x y e = absurd cc
+two_words (t ∷ u ∷ []) x y e = (t, u, refl, (cc), (cc))
+two_words (t ∷ u ∷ v ∷ ts) x y e = absurd cc
+
+pub three_words : (ts : List Lexeme) (x y z : Word) → words ts ≡ x ∷ y ∷ z ∷ [] → (t : Lexeme) × (u : Lexeme) × (v : Lexeme) × (ts ≡ t ∷ u ∷ v ∷ []) × Is x t × Is y u × Is z v
+three_words [] x y z e = absurd cc
+three_words (t ∷ []) x y z e = absurd cc
+three_words (t ∷ u ∷ []) x y z e = absurd cc
+three_words (t ∷ u ∷ v ∷ []) x y z e = (t, u, v, refl, (cc), (cc), (cc))
+three_words (t ∷ u ∷ v ∷ a ∷ ts) x y z e = absurd cc

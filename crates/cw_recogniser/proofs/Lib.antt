@@ -1,0 +1,22 @@
+mod Accepting
+mod WordKinds
+mod Heads
+mod TypesRead
+mod ExpressionsRead
+mod DeclarationsRead
+mod StatementsRead
+mod FilesRead
+mod Deeper
+mod Chains
+mod Meanings
+mod TypesSound
+mod ExpressionsSound
+mod DeclarationsSound
+mod ParamsSound
+mod StatementsSound
+mod FilesSound
+mod Sound
+mod Fits
+mod Fronts
+pub mod Codes
+pub mod Verdicts
