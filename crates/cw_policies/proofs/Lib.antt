@@ -1,3 +1,5 @@
 -- The proofs.
 pub mod Items
 pub mod Rights
+pub mod Reading
+pub mod Whole

@@ -34,15 +34,23 @@ quantity_fault limits rules =
     else if nat_lt 64 (positions rules) then Some (TooMany RulePositions)
     else None
 
+-- the policy of a tree with these labels and rules
+abbrev pub policy_with : Members → List (List ℕ) → List PlainRule → PlainPolicy
+policy_with ms labels rules = record {
+  descriptors = descriptors_in (array_at Descriptors ms);
+  limits = limits_in (descriptor_names ms) (array_at Limits ms);
+  refuse_limit = refuses (codes "limit") ms;
+  refuse_enter = refuses (codes "enter") ms;
+  refuse_split = refuses (codes "split") ms;
+  split = names_of (array_at Split ms);
+  labels = labels;
+  rules = rules;
+}
+
 -- The tree is of the form and has this policy.
 pub record HasPolicy (ms : Members) (policy : PlainPolicy) : Type 0 where
   pub early : early_fault ms ≡ None
-  pub descriptors : policy.descriptors ≡ descriptors_in (array_at Descriptors ms)
-  pub limits : policy.limits ≡ limits_in (descriptor_names ms) (array_at Limits ms)
-  pub refuse_limit : policy.refuse_limit ≡ refuses (codes "limit") ms
-  pub refuse_enter : policy.refuse_enter ≡ refuses (codes "enter") ms
-  pub refuse_split : policy.refuse_split ≡ refuses (codes "split") ms
-  pub split : policy.split ≡ names_of (array_at Split ms)
+  pub is : policy ≡ policy_with ms policy.labels policy.rules
   pub rules : HaveRules (descriptor_names ms) (at_labels ms) (rule_texts ms) policy.rules policy.labels
   pub quantities : quantity_fault (count_items (array_at Limits ms)) policy.rules ≡ None
 

@@ -81,14 +81,15 @@ turned must t = (cond must (not t.0) t.0, t.1)
 abbrev pub test_name : TestText → List ℕ
 test_name t = t.label ++ cond t.must (codes " must ") (codes " never ") ++ t.text
 
-abbrev pub test_rule : List (List ℕ) → List (List ℕ) → TestText → TestForm → PlainRule
-test_rule descriptors labels t form = record { name = test_name t; bad = bad_words (number_in labels t.label) (turned t.must (test_meaning descriptors form)) }
+abbrev pub test_words : List (List ℕ) → List (List ℕ) → TestText → TestForm → Tree
+test_words descriptors labels t form = bad_words (number_in labels t.label) (turned t.must (test_meaning descriptors form))
 
 -- With the labels so far the text is a test with this rule.
 pub record HasTest (descriptors labels : List (List ℕ)) (t : TestText) (rule : PlainRule) : Type 0 where
   pub is : IsTest t.text
   pub known : AreKnown descriptors t.text
-  pub means : (form : TestForm) → SpellsTest t.text form → rule ≡ test_rule descriptors labels t form
+  pub name : rule.name ≡ test_name t
+  pub means : (form : TestForm) → SpellsTest t.text form → rule.bad ≡ test_words descriptors labels t form
 
 -- With the labels so far the text is an expression with this rule, and the labels after it are these: those that the
 -- expression names first go to their end, from left to right.

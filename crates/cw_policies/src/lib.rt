@@ -10,6 +10,8 @@ mod form;
 pub mod keys;
 mod names;
 mod parts;
+mod read;
+mod rules;
 mod sources;
 
 pub use fault::{Path, PolicyFault};
