@@ -121,3 +121,6 @@ early_is ms f e = or_some (IsFaultOf ms) f (inl e)
 
 pub late_is : (ms : Members) (f : PolicyFault) → early_fault ms ≡ None → OrMemory (IsLateFault ms) f → OrMemory (IsFaultOf ms) f
 late_is ms f e = or_more (IsLateFault ms) (IsFaultOf ms) f (λ g h. inr (e, h))
+
+pub few_texts : (list : List (Vec ℕ Global)) → length list ≤ 65535 → length (map (λ v. v.items) list) ≤ 65535
+few_texts list h = let e = length-map list (λ (v : Vec ℕ Global). v.items) in omega (arith, e, h)

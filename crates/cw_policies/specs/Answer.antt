@@ -1,5 +1,5 @@
 -- The policy that a text spells, and the fault of one that spells none.
-use Rattle.std.specs.Prelude.{◌≡◌, ◌⊎◌, ℕ, ◌+◌, List, [], codes, if◌then◌else◌, Option, Some, None, length, nat_lt, sum_by, Bool}
+use Rattle.std.specs.Prelude.{◌≡◌, ◌⊎◌, ℕ, ◌+◌, ◌≤◌, List, [], codes, if◌then◌else◌, Option, Some, None, length, nat_lt, sum_by, Bool}
 use Rattle.std.specs.Str.{IsUtf8}
 use Rattle.toml.specs.Data.{Members}
 use Rattle.toml.specs.Parse.{parse_document}
@@ -64,13 +64,19 @@ IsLateFault ms f =
 abbrev pub IsFaultOf : Members → PolicyFault → Type 0
 IsFaultOf ms f = (early_fault ms ≡ Some f) ⊎ ((early_fault ms ≡ None) × IsLateFault ms f)
 
--- The text is UTF-8 and TOML, and its tree has the policy, which is valid.
+-- The text is UTF-8 and TOML, and its tree has the policy. Each list of names has as many as 16 bits can number, which
+-- all texts of 65,536 bytes have.
 pub record Spells (text : List ℕ) (policy : PlainPolicy) : Type 0 where
   pub utf8 : IsUtf8 text
   pub tree : Members
   pub parsed : parse_document text ≡ Some tree
   pub has : HasPolicy tree policy
-  pub valid : IsValid policy
+  pub few_splits : length policy.split ≤ 65535
+  pub few_labels : length policy.labels ≤ 65535
+
+-- each policy that is spelled is valid
+abbrev pub SpelledAreValid : Type 0
+SpelledAreValid = (text : List ℕ) (policy : PlainPolicy) → Spells text policy → IsValid policy
 
 -- why a text spells no policy; want of memory may come at any time
 abbrev pub IsFault : List ℕ → PolicyFault → Type 0

@@ -15,3 +15,4 @@ mod rules;
 mod sources;
 
 pub use fault::{Path, PolicyFault};
+pub use read::read_policy;

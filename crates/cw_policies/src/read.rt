@@ -4,7 +4,6 @@ ghost use Rattle.std.specs.Prelude.{◌≡◌, ◌≤◌, None, [], map, length,
 ghost use Rattle.toml.specs.View.{items_view, table_view};
 ghost use Rattle.indexmap.specs.IndexSet.{index_set_len};
 ghost use Rattle.cw_rights.specs.Policies.{descriptor_of, policy_of, rule_of};
-ghost use Rattle.cw_rights.specs.Valid.{IsValid};
 ghost use Rattle.cw_regex.specs.Labels.{names_in};
 ghost use Rattle.cw_regex.specs.Meaning.{names_of};
 ghost use Rattle.cw_policies.specs.Form as form;
@@ -178,5 +177,44 @@ fn read_table(alloc: Global, table: &Table) -> Result<Policy, PolicyFault>
             Ok(policy) => Ok(policy),
             Err(fault) => Err(fault),
         },
+    }
+}
+
+/// Reads a policy from its text.
+///
+/// The text is UTF-8 and TOML, and its tree is written as the format says: see the crate's page. The policy that is
+/// handed over is valid. A refusal is the first in this order:
+///
+/// 1. `Toml`: the text isn't UTF-8 or isn't TOML.
+/// 2. Table by table, the root first and then the arrays `descriptor`, `limit`, `at` and `rule`: `Missing` for the
+///    required keys in order, `Unknown` where a key isn't listed, `Kind` for each key in order whose value has another
+///    form.
+/// 3. `Unknown` for the name of a right or a descriptor that isn't known, table by table.
+/// 4. `Twice` for a descriptor's name, then a split function, then a rule's name that stands twice.
+/// 5. `Limit` of the descriptors.
+/// 6. Rule by rule, the tests of the tables `at` first: `Kind` of a test that is none or has an unknown name; `Regex` of
+///    an expression, with the number of its table, or `Limit` of nesting where its parentheses nest too deep.
+/// 7. `Limit` of the limits, the rules and the rule positions, in this order.
+///
+/// Want of memory may be answered at any time.
+pub fn read_policy(alloc: Global, text: &[u8]) -> Result<Policy, PolicyFault>
+    ensures policy { IfOk result (λ p. spec.Spells text.now (policy_of p)) }
+    ensures fault { IfErr result (spec.IsFault text.now) }
+{
+    let Ok(text) = str::from_utf8(text) else {
+        return Err(PolicyFault::Toml);
+    };
+    match toml::table_from_str(alloc, text) {
+        Ok(table) => match read_table(alloc, &table) {
+            Ok(policy) => Ok(policy),
+            Err(fault) => Err(fault),
+        },
+        Err(fault) => {
+            if fault.is_memory() {
+                Err(PolicyFault::NoMemory)
+            } else {
+                Err(PolicyFault::Toml)
+            }
+        }
     }
 }
