@@ -39,27 +39,46 @@ abbrev pub item_text : ℕ → List ℕ
 item_text item = if nat_eq item 0 then [] else in_brackets (item - 1)
 
 -- A path: `root`, `format`, `split[2]`, `limit[1]`, `limit[1].keep`, `limit[1].keep[0]`.
+abbrev pub root_key : ℕ → List ℕ
+root_key key = if nat_eq key 0 then codes "root" else key_named Root key
+
+abbrev pub dotted_key : Section → ℕ → List ℕ
+dotted_key section key = if nat_eq key 0 then [] else codes "." ++ key_named section key
+
+abbrev pub table_key : Section → ℕ → ℕ → List ℕ
+table_key section index key = section_text section ++ in_brackets index ++ dotted_key section key
+
 abbrev pub key_part : Section → ℕ → ℕ → List ℕ
-key_part Root index key = if nat_eq key 0 then codes "root" else key_named Root key
-key_part section index key = section_text section ++ in_brackets index ++ (if nat_eq key 0 then [] else codes "." ++ key_named section key)
+key_part Root index key = root_key key
+key_part section index key = table_key section index key
 
 abbrev pub path_text : Path → List ℕ
 path_text path = key_part (section_of path.array) path.index path.key ++ item_text path.item
 
+abbrev pub at_path : List ℕ → Path → List ℕ
+at_path word path = word ++ path_text path
+
+-- an expression that is refused
+unfoldable pub rule_text : ℕ → List ℕ
+rule_text index = codes "policy: regex rule" ++ in_brackets index
+
+abbrev pub refused : ℕ → List ℕ → ℕ → List ℕ
+refused index word at = rule_text index ++ word ++ decimal at
+
 abbrev pub regex_text : ℕ → RegexFault → List ℕ
-regex_text index (At' at) = codes "policy: regex rule" ++ in_brackets index ++ codes " at " ++ decimal at
-regex_text index (UnknownDescriptor at) = codes "policy: regex rule" ++ in_brackets index ++ codes " descriptor " ++ decimal at
-regex_text index (UnknownRight at) = codes "policy: regex rule" ++ in_brackets index ++ codes " right " ++ decimal at
+regex_text index (At' at) = refused index (codes " at ") at
+regex_text index (UnknownDescriptor at) = refused index (codes " descriptor ") at
+regex_text index (UnknownRight at) = refused index (codes " right ") at
 regex_text index TooDeep = codes "limit: nesting"
 regex_text index NoMemory' = codes "memory"
 
 -- The line of a refusal, without its end.
 abbrev pub fault_line : PolicyFault → List ℕ
 fault_line Toml = codes "policy: toml"
-fault_line (Missing path) = codes "policy: missing " ++ path_text path
-fault_line (Unknown path) = codes "policy: unknown " ++ path_text path
-fault_line (Kind path) = codes "policy: kind " ++ path_text path
+fault_line (Missing path) = at_path (codes "policy: missing ") path
+fault_line (Unknown path) = at_path (codes "policy: unknown ") path
+fault_line (Kind path) = at_path (codes "policy: kind ") path
 fault_line (Regex index fault) = regex_text index fault
 fault_line (TooMany quantity) = codes "limit: " ++ quantities.name_of quantity
-fault_line (Twice path) = codes "policy: twice " ++ path_text path
+fault_line (Twice path) = at_path (codes "policy: twice ") path
 fault_line NoMemory = codes "memory"

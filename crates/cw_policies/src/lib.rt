@@ -8,6 +8,7 @@
 pub mod fault;
 mod form;
 pub mod keys;
+mod lines;
 mod names;
 mod parts;
 mod read;
@@ -15,4 +16,5 @@ mod rules;
 mod sources;
 
 pub use fault::{Path, PolicyFault};
+pub use lines::{put_fault, put_path};
 pub use read::read_policy;
