@@ -4,3 +4,7 @@ pub mod Rights
 pub mod Reading
 pub mod Whole
 pub mod Trees
+pub mod Formed
+pub mod Valid
+pub mod Kept
+pub mod Same

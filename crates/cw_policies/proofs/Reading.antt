@@ -1,5 +1,5 @@
 -- Rule by rule.
-use Rattle.std.proofs.Common.{◌≡◌, ◌⊎◌, inl, ℕ, ◌<◌, List, length, map, drop, get_or, sym, subst, drop-cons}
+use Rattle.std.proofs.Common.{inl, ℕ, ◌<◌, List, length, map, drop, get_or, sym, subst, drop-cons}
 use Rattle.cw_policies.specs.declared.fault.PolicyFault.{PolicyFault}
 use Rattle.cw_policies.specs.declared.fault.PolicyFault.TheVariants.{Toml, Missing, Unknown, Kind, Regex, Limit as TooMany, Twice, NoMemory}
 use Rattle.cw_policies.specs.declared.sources.Source.{Source}

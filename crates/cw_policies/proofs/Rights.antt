@@ -1,5 +1,5 @@
 -- Sets of the twelve rights.
-use Rattle.std.proofs.Common.{◌≡◌, ◌<◌, ◌≤◌, ℕ, ◌*◌, ◌^◌, ◌%◌, arith}
+use Rattle.std.proofs.Common.{◌<◌, ◌≤◌, ℕ, ◌*◌, ◌^◌, ◌%◌, arith}
 use Rattle.std.specs.Prelude.{bit_or}
 use Rattle.std.proofs.Math.Nat.{mod-le}
 use Rattle.std.proofs.Math.Pow.{pow-lt}

@@ -5,7 +5,6 @@ use Rattle.std.proofs.lemmas.List.{length-map}
 use Rattle.std.proofs.lemmas.List.Sums.{sum_by-cons}
 use Rattle.std.proofs.lemmas.Option.{none-some}
 use Rattle.std.proofs.lemmas.Bool.Decides.{nat_tests}
-use Rattle.toml.specs.declared.value.Value.{Value}
 use Rattle.toml.specs.Data.{Items, no_items, item, Members}
 use Rattle.cw_rights.specs.declared.policy.Descriptor.{Descriptor}
 use Rattle.cw_rights.specs.Trees.{count as literals}
@@ -38,7 +37,7 @@ plain_names : (ds : List Descriptor) → map (λ (d : PlainDescriptor). d.name) 
 plain_names [] = refl
 plain_names (d ∷ ds) = ap (λ ns. d.name.items ∷ ns) (plain_names ds)
 
-table_names : (ds : Items) → map (λ (d : PlainDescriptor). d.name) (descriptors_in ds) ≡ names_of ds
+pub table_names : (ds : Items) → map (λ (d : PlainDescriptor). d.name) (descriptors_in ds) ≡ names_of ds
 table_names no_items = refl
 table_names (item d ds) = rw (table_names ds) refl
 
@@ -75,7 +74,7 @@ few_from n f e = by (nat_lt 8 n) refl e
 pub few_descriptors : (ms : Members) → early_fault ms ≡ None → count (array_at Descriptors ms) ≤ 8
 few_descriptors ms e = few_from (count (array_at Descriptors ms)) _ (early_parts ms e).count
 
-count_in : (ds : Items) → length (descriptors_in ds) ≡ count ds
+pub count_in : (ds : Items) → length (descriptors_in ds) ≡ count ds
 count_in no_items = refl
 count_in (item d ds) = ap suc (count_in ds)
 

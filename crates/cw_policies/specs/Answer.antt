@@ -1,5 +1,5 @@
 -- The policy that a text spells, and the fault of one that spells none.
-use Rattle.std.specs.Prelude.{◌≡◌, ◌⊎◌, ℕ, ◌+◌, ◌≤◌, List, [], codes, if◌then◌else◌, Option, Some, None, length, nat_lt, sum_by, Bool}
+use Rattle.std.specs.Prelude.{◌≡◌, ◌⊎◌, ℕ, ◌+◌, ◌≤◌, List, [], codes, if◌then◌else◌, Option, Some, None, length, nat_lt, sum_by}
 use Rattle.std.specs.Str.{IsUtf8}
 use Rattle.toml.specs.Data.{Members}
 use Rattle.toml.specs.Parse.{parse_document}
@@ -74,12 +74,22 @@ pub record Spells (text : List ℕ) (policy : PlainPolicy) : Type 0 where
   pub few_splits : length policy.split ≤ 65535
   pub few_labels : length policy.labels ≤ 65535
 
--- each policy that is spelled is valid
-abbrev pub SpelledAreValid : Type 0
-SpelledAreValid = (text : List ℕ) (policy : PlainPolicy) → Spells text policy → IsValid policy
-
 -- why a text spells no policy; want of memory may come at any time
 abbrev pub IsFault : List ℕ → PolicyFault → Type 0
 IsFault text Toml = IsUtf8 text → parse_document text ≡ None
 IsFault text NoMemory = Unit {0}
 IsFault text f = IsUtf8 text × ((tree : Members) × (parse_document text ≡ Some tree) × IsFaultOf tree f)
+
+-- ---- laws
+
+-- a text spells at most one policy
+abbrev pub SpellsOnePolicy : Type 0
+SpellsOnePolicy = (text : List ℕ) (policy other : PlainPolicy) → Spells text policy → Spells text other → policy ≡ other
+
+-- a text that is refused, for another cause than want of memory, spells none
+abbrev pub RefusedSpellsNone : Type 0
+RefusedSpellsNone = (text : List ℕ) (policy : PlainPolicy) (f : PolicyFault) → Spells text policy → IsFault text f → f ≡ NoMemory
+
+-- each policy that is spelled is valid
+abbrev pub SpelledAreValid : Type 0
+SpelledAreValid = (text : List ℕ) (policy : PlainPolicy) → Spells text policy → IsValid policy

@@ -1,8 +1,8 @@
 -- The form of a policy's tree, and the first place where the tree hasn't it.
-use Rattle.std.specs.Prelude.{ℕ, suc, pos, List, [], ◌∷◌, codes, Bool, true, false, ◌&&◌, ◌||◌, if◌then◌else◌, Option, Some, None, is_none, is_some, nat_eq}
+use Rattle.std.specs.Prelude.{ℕ, suc, pos, List, [], ◌∷◌, codes, Bool, true, false, ◌&&◌, ◌||◌, if◌then◌else◌, Option, Some, None, is_none, nat_eq}
 use Rattle.std.specs.List.{list_all}
 use Rattle.std.specs.Str.{bytes_eq}
-use Rattle.toml.specs.Data.{Data, string, integer, array, table, Items, no_items, item, Members, no_members, member, get, get_member}
+use Rattle.toml.specs.Data.{Data, string, integer, array, table, Items, no_items, item, Members, no_members, member, get_member}
 use Rattle.cw_rights.specs.Valid.{is_name, is_name_start, is_name_byte}
 use Rattle.cw_regex.specs.Grammar.{is_descriptor}
 use Rattle.cw_policies.specs.declared.fault.PolicyFault.{PolicyFault}

@@ -14,7 +14,7 @@ section_number Limit = 2
 section_number At = 3
 section_number Rule = 4
 
--- the keys of each kind of table in their order, which those come first in that are required
+-- the keys of each kind of table in their order; the required ones come first
 abbrev pub keys_of : Section → List Key
 keys_of Root = Format ∷ Refusable ∷ Split ∷ Descriptors ∷ Limits ∷ Ats ∷ Rules ∷ []
 keys_of Descriptor = Name ∷ Rights ∷ []

@@ -1,5 +1,5 @@
 -- The parts of the policy that a tree of the form has, but for its rules.
-use Rattle.std.specs.Prelude.{ℕ, suc, ◌^◌, List, [], ◌∷◌, codes, Bool, if◌then◌else◌, Option, Some, None, bit_or, unwrap_or}
+use Rattle.std.specs.Prelude.{ℕ, ◌^◌, List, [], ◌∷◌, codes, Bool, if◌then◌else◌, Option, Some, None, bit_or}
 use Rattle.std.specs.Str.{bytes_eq}
 use Rattle.toml.specs.Data.{Data, Items, no_items, item, Members, get}
 use Rattle.cw_rights.specs.declared.capabilities.Rights.{Rights}

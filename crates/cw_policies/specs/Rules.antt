@@ -1,12 +1,12 @@
 -- The rules of a policy: the texts that they are read from, what each text spells, and why one is refused.
-use Rattle.std.specs.Prelude.{◌≡◌, ◌⊎◌, ℕ, suc, ◌≤◌, List, [], ◌∷◌, ◌++◌, codes, Bool, true, false, cond, not, Option, Some, None}
+use Rattle.std.specs.Prelude.{◌≡◌, ◌⊎◌, ℕ, suc, List, [], ◌∷◌, ◌++◌, codes, Bool, true, false, cond, not, Some, None}
 use Rattle.toml.specs.Data.{Data, Items, no_items, item, Members, get}
 use Rattle.cw_core.specs.declared.quantity.Quantity.TheVariants.{Nesting}
 use Rattle.cw_rights.specs.declared.words.Test.{Test}
 use Rattle.cw_rights.specs.Trees.{Tree, nothing, one, seq, star}
 use Rattle.cw_rights.specs.Policies.{PlainRule}
 use Rattle.cw_regex.specs.declared.read.RegexFault.{RegexFault}
-use Rattle.cw_regex.specs.declared.read.RegexFault.TheVariants.{At as At', UnknownDescriptor, UnknownRight, TooDeep, NoMemory as NoMemory'}
+use Rattle.cw_regex.specs.declared.read.RegexFault.TheVariants.{TooDeep, NoMemory as NoMemory'}
 use Rattle.cw_regex.specs.Parts.{placed}
 use Rattle.cw_regex.specs.Grammar.{Expression, TestForm, Spells, SpellsTest, IsExpression, IsTest}
 use Rattle.cw_regex.specs.Meaning.{number_in, test_meaning, meaning, labels_of, with_names}

@@ -1,5 +1,4 @@
 -- What the program's texts of rules stand for.
-use Rattle.std.specs.Prelude.{ℕ, List}
 use Rattle.cw_policies.specs.declared.sources.TestSource.{TestSource}
 use Rattle.cw_policies.specs.declared.sources.ExpressionSource.{ExpressionSource}
 use Rattle.cw_policies.specs.declared.sources.Source.{Source}

@@ -5,9 +5,10 @@
 //! that spell no policy are refused with the first of their faults, in a fixed order.
 #![tactic(auto)]
 
-pub mod fault;
+mod fault;
 mod form;
-pub mod keys;
+mod keys;
+pub mod laws;
 mod lines;
 mod names;
 mod parts;

@@ -4,6 +4,7 @@ ghost use Rattle.std.specs.Prelude.{◌≡◌, ◌≤◌, None, [], map, length,
 ghost use Rattle.toml.specs.View.{items_view, table_view};
 ghost use Rattle.indexmap.specs.IndexSet.{index_set_len};
 ghost use Rattle.cw_rights.specs.Policies.{descriptor_of, policy_of, rule_of};
+ghost use Rattle.cw_rights.specs.Valid.{IsValid};
 ghost use Rattle.cw_regex.specs.Labels.{names_in};
 ghost use Rattle.cw_regex.specs.Meaning.{names_of};
 ghost use Rattle.cw_policies.specs.Form as form;
@@ -199,6 +200,7 @@ fn read_table(alloc: Global, table: &Table) -> Result<Policy, PolicyFault>
 /// Want of memory may be answered at any time.
 pub fn read_policy(alloc: Global, text: &[u8]) -> Result<Policy, PolicyFault>
     ensures policy { IfOk result (λ p. spec.Spells text.now (policy_of p)) }
+    ensures valid { IfOk result (λ p. IsValid (policy_of p)) }
     ensures fault { IfErr result (spec.IsFault text.now) }
 {
     let Ok(text) = str::from_utf8(text) else {

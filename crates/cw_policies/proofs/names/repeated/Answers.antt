@@ -1,7 +1,7 @@
-use Rattle.std.proofs.Common.{rules, ◌≡◌, ◌<◌, length, get_or, take, false, ap, ◌∙◌, ◌+◌, arith}
+use Rattle.std.proofs.Common.{◌≡◌, ◌<◌, length, get_or, take, false, ap, ◌∙◌, ◌+◌, arith}
 use Rattle.std.proofs.lemmas.Grind.{common_steps}
 use Rattle.toml.specs.View.{view, items_view}
-use Rattle.cw_policies.specs.Names.{name_of, names_of, is_among, repeated}
+use Rattle.cw_policies.specs.Names.{name_of, names_of, is_among}
 use Rattle.cw_policies.proofs.Items.{repeated_on}
 use Rattle.cw_policies.proofs.names.repeated.Goals as goal
 

@@ -1,4 +1,4 @@
-use Rattle.std.proofs.Common.{rules, ◌≡◌, ◌≤◌, length, map, ap, ◌∙◌}
+use Rattle.std.proofs.Common.{rules, ◌≡◌, map, ap, ◌∙◌}
 use Rattle.toml.specs.View.{table_view}
 use Rattle.cw_rights.specs.Policies.{descriptor_of, rule_of}
 use Rattle.cw_regex.specs.Labels.{names_in}

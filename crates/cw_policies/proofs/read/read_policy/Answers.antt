@@ -2,6 +2,8 @@ use Rattle.std.proofs.Common.{rules, ◌≡◌, Some}
 use Rattle.std.specs.Str.{IsUtf8}
 use Rattle.toml.specs.Parse.{parse_document}
 use Rattle.toml.specs.View.{table_view}
+use Rattle.cw_rights.specs.Policies.{policy_of}
+use Rattle.cw_policies.proofs.Kept.{is_valid}
 use Rattle.cw_policies.proofs.Trees.{fault_is}
 use Rattle.cw_policies.proofs.Whole.{few_texts}
 use Rattle.cw_policies.proofs.read.read_policy.Goals as goal
@@ -18,6 +20,9 @@ returns-in-Ok-read_table-clause-policy c =
       few_splits = few_texts c.in-Ok-read_table.policy.split.items c.in-Ok-read_table.ensures.splits;
       few_labels = few_texts c.in-Ok-read_table.policy.labels.items c.in-Ok-read_table.ensures.labels;
     }
+
+pub returns-in-Ok-read_table-clause-valid : goal.returns-in-Ok-read_table-clause-valid
+returns-in-Ok-read_table-clause-valid c = is_valid c.args.text.now (policy_of c.in-Ok-read_table.policy) (returns-in-Ok-read_table-clause-policy c)
 
 pub returns-in-Ok-table_from_str-clause-fault : goal.returns-in-Ok-table_from_str-clause-fault
 returns-in-Ok-table_from_str-clause-fault c =

@@ -1,10 +1,10 @@
-use Rattle.std.proofs.Common.{rules, ◌≡◌, ◌≤◌, [], ◌∷◌, ◌+◌, length, map, drop, get_or, refl, sym, ap, subst, List, ℕ, append-nil, arith}
+use Rattle.std.proofs.Common.{◌≤◌, [], length, map, drop, refl, sym, subst, List, append-nil, arith}
 use Rattle.std.proofs.lemmas.Grind.{common_steps}
 use Rattle.cw_rights.specs.Policies.{rule_of, PlainRule}
 use Rattle.cw_regex.specs.Labels.{names_in}
 use Rattle.cw_regex.specs.Meaning.{names_of}
-use Rattle.cw_regex.proofs.Numbers.{drop_end, drop_item}
-use Rattle.cw_policies.specs.Rules.{RuleText, HaveRules, FirstRefused, IsRuleFault}
+use Rattle.cw_regex.proofs.Numbers.{drop_end}
+use Rattle.cw_policies.specs.Rules.{HaveRules, FirstRefused}
 use Rattle.cw_policies.specs.Sources.{text_of}
 use Rattle.cw_policies.specs.declared.sources.Source.{Source}
 use Rattle.cw_policies.proofs.Reading.{or_more, refused_at}

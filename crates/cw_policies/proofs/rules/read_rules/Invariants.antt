@@ -1,4 +1,4 @@
-use Rattle.std.proofs.Common.{◌≡◌, ◌≤◌, List, ◌++◌, ℕ, map, drop}
+use Rattle.std.proofs.Common.{◌≤◌, List, ◌++◌, ℕ, map, drop}
 use Rattle.indexmap.specs.IndexSet.{index_set_len}
 use Rattle.cw_rights.specs.Policies.{PlainRule, rule_of}
 use Rattle.cw_regex.specs.Labels.{names_in}

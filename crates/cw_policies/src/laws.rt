@@ -1,0 +1,18 @@
+//! Laws of the policies that texts spell: functions that do nothing, and whose contracts hold of every text.
+
+ghost use Rattle.cw_policies.specs.Answer.{SpellsOnePolicy, RefusedSpellsNone, SpelledAreValid};
+
+/// A text spells at most one policy.
+pub fn text_spells_one_policy()
+    ensures { SpellsOnePolicy }
+{}
+
+/// A text that is refused for another cause than want of memory spells no policy.
+pub fn refused_texts_spell_none()
+    ensures { RefusedSpellsNone }
+{}
+
+/// Each policy that a text spells is valid.
+pub fn spelled_policies_are_valid()
+    ensures { SpelledAreValid }
+{}
