@@ -1,0 +1,3 @@
+pub mod BothWays
+pub mod Listed
+pub mod Sound

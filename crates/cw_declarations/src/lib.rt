@@ -1,0 +1,7 @@
+//! Declarations, prototypes and headers of functions, read from tokens.
+#![tactic(auto)]
+
+pub mod declarations;
+pub mod headers;
+pub mod initialisers;
+pub mod specifiers;
