@@ -1,3 +1,5 @@
 pub mod BothWays
 pub mod Listed
 pub mod Sound
+pub mod Wording
+pub mod Complete

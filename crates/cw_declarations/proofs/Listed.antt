@@ -104,30 +104,38 @@ module _ {X : Type 0} (read : Reader X) (goes : List Lexeme → Bool) where
 
 -- ---- items between commas
 
-module _ {X : Type 0} (read : Reader X) (goes : List Lexeme → Bool) (P : List Lexeme → X → Type 0) (comma : (ts : List Lexeme) → goes ts ≡ true → begins w.Comma ts ≡ true) (sound : (ts : List Lexeme) → IfOk (read ts) (Took P ts)) where
-  behind_sound : (ts : List Lexeme) → goes ts ≡ true → IfOk (behind read ts) (Took (Behind P) ts)
-  behind_sound ts go =
+-- a list with at least one item
+abbrev pub Several : {X : Type 0} → (List Lexeme → X → Type 0) → List Lexeme → List X → Type 0
+Several P ts xs = (0 < length xs) × AreSeparated P ts xs
+
+-- a reader goes on, or stays
+abbrev pub NotLonger : {X : Type 0} → Reader X → Type 0
+NotLonger read = (ts : List Lexeme) → IfOk (read ts) (λ x. length x.1 ≤ length ts)
+
+pub not_longer : {X : Type 0} (read : Reader X) (P : List Lexeme → X → Type 0) → ((ts : List Lexeme) → IfOk (read ts) (Took P ts)) → NotLonger read
+not_longer read P sound ts = IfOk-weaker (read ts) _ _ (λ x f. took_shorter P ts x f) (sound ts)
+
+module _ {X : Type 0} (read : Reader X) (goes : List Lexeme → Bool) (comma : (ts : List Lexeme) → goes ts ≡ true → begins w.Comma ts ≡ true) where
+  pub behind_shortens : NotLonger read → Shortening (behind read) goes
+  behind_shortens short ts go =
       let c = begins_takes w.Comma refl ts (comma ts go) in
-      IfOk-weaker (read (after ts)) _ _ (λ x f. (c.0 ∷ f.0, c.1 ∙ ap (λ (z : List Lexeme). c.0 ∷ z) f.1, (c.0, f.0, refl, c.2, f.2))) (sound (after ts))
+      IfOk-weaker (read (after ts)) _ _ (λ x f. omega (arith, ap length c.1, f)) (short (after ts))
 
-  pub behind_shortens : Shortening (behind read) goes
-  behind_shortens ts go =
-      let c = begins_takes w.Comma refl ts (comma ts go) in
-      IfOk-weaker (read (after ts)) _ _ (λ x f. omega (arith, ap length c.1, ap length f.1, length-append f.0 x.1)) (sound (after ts))
+  module _ (P : List Lexeme → X → Type 0) (sound : (ts : List Lexeme) → IfOk (read ts) (Took P ts)) where
+    behind_sound : (ts : List Lexeme) → goes ts ≡ true → IfOk (behind read ts) (Took (Behind P) ts)
+    behind_sound ts go =
+        let c = begins_takes w.Comma refl ts (comma ts go) in
+        IfOk-weaker (read (after ts)) _ _ (λ x f. (c.0 ∷ f.0, c.1 ∙ ap (λ (z : List Lexeme). c.0 ∷ z) f.1, (c.0, f.0, refl, c.2, f.2))) (sound (after ts))
 
-  -- a list with at least one item
-  abbrev pub Several : List Lexeme → List X → Type 0
-  Several ts xs = (0 < length xs) × AreSeparated P ts xs
+    pub separated_sound : (ts : List Lexeme) → IfOk (separated read goes ts) (Took (Several P) ts)
+    unfolding separated
+    separated_sound ts =
+        if_bind (read ts) _ _ _ (sound ts) (λ x f.
+        many_sound (behind read) goes (Behind P) (Several P) behind_sound
+        (λ a b xs y q p. (omega (arith, length-append xs (y ∷ [])), separated_more P xs a b y q.0 q.1 p))
+        ts (x.0 ∷ [], x.1) (f.0, f.1, (omega arith, f.2)))
 
-  pub separated_sound : (ts : List Lexeme) → IfOk (separated read goes ts) (Took Several ts)
-  unfolding separated
-  separated_sound ts =
-      if_bind (read ts) _ _ _ (sound ts) (λ x f.
-      many_sound (behind read) goes (Behind P) Several behind_sound
-      (λ a b xs y q p. (omega (arith, length-append xs (y ∷ [])), separated_more P xs a b y q.0 q.1 p))
-      ts (x.0 ∷ [], x.1) (f.0, f.1, (omega arith, f.2)))
-
-  module _ (D : Type 0) (Stop : List Lexeme → Type 0)
+  module _ (P : List Lexeme → X → Type 0) (D : Type 0) (Stop : List Lexeme → Type 0) (short : NotLonger read)
       (again : (a : List Lexeme) (x : X) (rest : List Lexeme) → P a x → Stop rest → Reads D (read (a ++ rest)) (x, rest))
       (on : (c : Lexeme) (a : List Lexeme) (x : X) (rest : List Lexeme) → Is w.Comma c → P a x → goes (c ∷ a ++ rest) ≡ true)
       (stops : (c : Lexeme) (rest : List Lexeme) → Is w.Comma c → Stop (c ∷ rest)) where
@@ -144,7 +152,7 @@ module _ {X : Type 0} (read : Reader X) (goes : List Lexeme → Bool) (P : List 
     all_stop [] a rest h stop = rw h stop
     all_stop (x ∷ xs) a rest (b, c, parts, p, h) stop = rw (parts, append_assoc b c rest) (behind_stops b x (c ++ rest) p)
 
-    pub separated_again : (xs : List X) (ts rest : List Lexeme) → Several ts xs → Stop rest → goes rest ≡ false → Reads D (separated read goes (ts ++ rest)) (xs, rest)
+    pub separated_again : (xs : List X) (ts rest : List Lexeme) → Several P ts xs → Stop rest → goes rest ≡ false → Reads D (separated read goes (ts ++ rest)) (xs, rest)
     unfolding separated
     separated_again [] ts rest (some, h) stop ends = absurd (omega arith)
     separated_again (x ∷ xs) ts rest (some, h) stop ends =
@@ -152,4 +160,4 @@ module _ {X : Type 0} (read : Reader X) (goes : List Lexeme → Bool) (P : List 
         let whole : ts ++ rest ≡ s.0 ++ (s.1 ++ rest) = ap (λ (z : List Lexeme). z ++ rest) s.2 ∙ append_assoc s.0 s.1 rest in
         reads_of D (separated read goes) (ts ++ rest) (s.0 ++ (s.1 ++ rest)) _ whole
         (reads_bind D (read (s.0 ++ (s.1 ++ rest))) _ (x, s.1 ++ rest) _ (again s.0 x (s.1 ++ rest) s.3 (all_stop xs s.1 rest s.4 stop))
-        (many_again (behind read) goes (Behind P) D Stop behind_shortens behind_again behind_on behind_stops xs s.1 rest (x ∷ []) s.4 stop ends))
+        (many_again (behind read) goes (Behind P) D Stop (behind_shortens short) behind_again behind_on behind_stops xs s.1 rest (x ∷ []) s.4 stop ends))

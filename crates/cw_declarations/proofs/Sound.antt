@@ -102,7 +102,7 @@ more_comma ts e = by_first (begins w.Comma ts) (begins w.CloseBrace (after ts)) 
 elements_sound : (ts : List Lexeme) → IfOk (elements ts) (Took (AreElements Allowed) ts)
 unfolding elements
 elements_sound ts =
-    if_bind (separated next_expression more_elements ts) _ _ _ (separated_sound next_expression more_elements Allowed more_comma next_sound ts) (λ es f.
+    if_bind (separated next_expression more_elements ts) _ _ _ (separated_sound next_expression more_elements more_comma Allowed next_sound ts) (λ es f.
     let c = flag_takes w.Comma refl es.1 in (
       f.0 ++ c.0,
       joined _ _ _ _ _ f.1 c.1,
@@ -157,8 +157,8 @@ item_sound specs ts =
       (s.0, p.0, q.0, r.0, (stars_of ts).0, refl, s.2, refl, p.2, q.2, r.2),
     ))))
 
-pub items_sound : (specs : Specifiers) (ts : List Lexeme) → IfOk (separated (item specs) (begins w.Comma) ts) (Took (Several (item specs) (begins w.Comma) (IsItem Allowed specs) (λ z e. e) (item_sound specs)) ts)
-items_sound specs ts = separated_sound (item specs) (begins w.Comma) (IsItem Allowed specs) (λ z e. e) (item_sound specs) ts
+pub items_sound : (specs : Specifiers) (ts : List Lexeme) → IfOk (separated (item specs) (begins w.Comma) ts) (Took (Several (IsItem Allowed specs)) ts)
+items_sound specs ts = separated_sound (item specs) (begins w.Comma) (λ z e. e) (IsItem Allowed specs) (item_sound specs) ts
 
 pub declaration_sound : (ts : List Lexeme) → IfOk (declaration ts) (Took (IsDeclaration Allowed) ts)
 unfolding declaration
@@ -243,8 +243,8 @@ params_sound ts =
     (λ e.
     if_cond (is_void ts) _ _ _
     (λ f. void_takes ts f)
-    (λ f. by_list (separated param (begins w.Comma) ts) (separated_sound param (begins w.Comma) IsParam (λ z g. g) param_sound ts) f)) where
-      by_list : (r : Read (List Param)) → IfOk r (Took (Several param (begins w.Comma) IsParam (λ z g. g) param_sound) ts) → is_void ts ≡ false → IfOk r (TakesParams ts)
+    (λ f. by_list (separated param (begins w.Comma) ts) (separated_sound param (begins w.Comma) (λ z g. g) IsParam param_sound ts) f)) where
+      by_list : (r : Read (List Param)) → IfOk r (Took (Several IsParam) ts) → is_void ts ≡ false → IfOk r (TakesParams ts)
       by_list (Ok x) f e = (f.0, f.1, λ close. inr (not_void f.0 x.1 (ap is_void (sym f.1) ∙ e) close, f.2.1))
       by_list (Err x) f e = tt
 

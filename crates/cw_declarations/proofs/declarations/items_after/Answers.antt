@@ -7,7 +7,7 @@ use Rattle.cw_declarations.specs.Reading.{item}
 use Rattle.cw_declarations.specs.View.{items, specifiers_of}
 use Rattle.cw_declarations.proofs.Sound.{Allowed, item_sound}
 use Rattle.cw_declarations.specs.Lists.{behind}
-use Rattle.cw_declarations.proofs.Listed.{many_ends, many_fails, many_further, behind_shortens, more_shortens}
+use Rattle.cw_declarations.proofs.Listed.{many_ends, many_fails, many_further, not_longer, behind_shortens, more_shortens}
 use Rattle.cw_declarations.proofs.declarations.items_after.Goals as goal
 
 pub returns-in_err-so_far : goal.returns-in_err-so_far
@@ -19,12 +19,12 @@ returns-in_err-so_far c =
 pub items-smaller : goal.items-smaller
 items-smaller c =
     let go : begins w.Comma c.items.so_far.1.now ≡ true = sym c.begins_with.ensures.begins ∙ c.items-test.true in
-    more_shortens (behind (item (specifiers_of c.args.specifiers))) (begins w.Comma) (behind_shortens (item (specifiers_of c.args.specifiers)) (begins w.Comma) (IsItem Allowed (specifiers_of c.args.specifiers)) (λ z e. e) (item_sound (specifiers_of c.args.specifiers))) (items c.items.so_far) (items c.in_ok-so_far.so_far) go c.in_ok-so_far.ensures
+    more_shortens (behind (item (specifiers_of c.args.specifiers))) (begins w.Comma) (behind_shortens (item (specifiers_of c.args.specifiers)) (begins w.Comma) (λ z e. e) (not_longer (item (specifiers_of c.args.specifiers)) (IsItem Allowed (specifiers_of c.args.specifiers)) (item_sound (specifiers_of c.args.specifiers)))) (items c.items.so_far) (items c.in_ok-so_far.so_far) go c.in_ok-so_far.ensures
 
 pub items-preserved : goal.items-preserved
 items-preserved c =
     let go : begins w.Comma c.items.so_far.1.now ≡ true = sym c.begins_with.ensures.begins ∙ c.items-test.true in
-    many_further (behind (item (specifiers_of c.args.specifiers))) (begins w.Comma) (behind_shortens (item (specifiers_of c.args.specifiers)) (begins w.Comma) (IsItem Allowed (specifiers_of c.args.specifiers)) (λ z e. e) (item_sound (specifiers_of c.args.specifiers))) (items c.items.so_far) (items c.in_ok-so_far.so_far) go c.in_ok-so_far.ensures ∙ c.items.invariant
+    many_further (behind (item (specifiers_of c.args.specifiers))) (begins w.Comma) (behind_shortens (item (specifiers_of c.args.specifiers)) (begins w.Comma) (λ z e. e) (not_longer (item (specifiers_of c.args.specifiers)) (IsItem Allowed (specifiers_of c.args.specifiers)) (item_sound (specifiers_of c.args.specifiers)))) (items c.items.so_far) (items c.in_ok-so_far.so_far) go c.in_ok-so_far.ensures ∙ c.items.invariant
 
 pub returns : goal.returns
 returns c =

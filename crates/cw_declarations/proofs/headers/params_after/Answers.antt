@@ -7,7 +7,7 @@ use Rattle.cw_declarations.specs.Reading.{param}
 use Rattle.cw_declarations.specs.View.{parameters}
 use Rattle.cw_declarations.proofs.Sound.{param_sound}
 use Rattle.cw_declarations.specs.Lists.{behind}
-use Rattle.cw_declarations.proofs.Listed.{many_ends, many_fails, many_further, behind_shortens, more_shortens}
+use Rattle.cw_declarations.proofs.Listed.{many_ends, many_fails, many_further, not_longer, behind_shortens, more_shortens}
 use Rattle.cw_declarations.proofs.headers.params_after.Goals as goal
 
 pub returns-in_err-so_far : goal.returns-in_err-so_far
@@ -19,12 +19,12 @@ returns-in_err-so_far c =
 pub params-smaller : goal.params-smaller
 params-smaller c =
     let go : begins w.Comma c.params.so_far.1.now ≡ true = sym c.begins_with.ensures.begins ∙ c.params-test.true in
-    more_shortens (behind param) (begins w.Comma) (behind_shortens param (begins w.Comma) IsParam (λ z e. e) param_sound) (parameters c.params.so_far) (parameters c.in_ok-so_far.so_far) go c.in_ok-so_far.ensures
+    more_shortens (behind param) (begins w.Comma) (behind_shortens param (begins w.Comma) (λ z e. e) (not_longer param IsParam param_sound)) (parameters c.params.so_far) (parameters c.in_ok-so_far.so_far) go c.in_ok-so_far.ensures
 
 pub params-preserved : goal.params-preserved
 params-preserved c =
     let go : begins w.Comma c.params.so_far.1.now ≡ true = sym c.begins_with.ensures.begins ∙ c.params-test.true in
-    many_further (behind param) (begins w.Comma) (behind_shortens param (begins w.Comma) IsParam (λ z e. e) param_sound) (parameters c.params.so_far) (parameters c.in_ok-so_far.so_far) go c.in_ok-so_far.ensures ∙ c.params.invariant
+    many_further (behind param) (begins w.Comma) (behind_shortens param (begins w.Comma) (λ z e. e) (not_longer param IsParam param_sound)) (parameters c.params.so_far) (parameters c.in_ok-so_far.so_far) go c.in_ok-so_far.ensures ∙ c.params.invariant
 
 pub returns : goal.returns
 returns c =

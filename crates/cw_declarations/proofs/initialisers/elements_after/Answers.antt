@@ -6,7 +6,7 @@ use Rattle.cw_declarations.specs.Reading.{more_elements}
 use Rattle.cw_declarations.specs.View.{expressions}
 use Rattle.cw_declarations.proofs.Sound.{Allowed, more_comma}
 use Rattle.cw_declarations.specs.Lists.{behind}
-use Rattle.cw_declarations.proofs.Listed.{many_ends, many_fails, many_further, behind_shortens, more_shortens}
+use Rattle.cw_declarations.proofs.Listed.{many_ends, many_fails, many_further, not_longer, behind_shortens, more_shortens}
 use Rattle.cw_declarations.proofs.initialisers.elements_after.Goals as goal
 
 pub returns-in_err-so_far : goal.returns-in_err-so_far
@@ -18,12 +18,12 @@ returns-in_err-so_far c =
 pub elements-smaller : goal.elements-smaller
 elements-smaller c =
     let go : more_elements c.elements.so_far.1.now ≡ true = sym c.has_more_elements.ensures ∙ c.elements-test.true in
-    more_shortens (behind next_expression) (more_elements) (behind_shortens next_expression more_elements Allowed more_comma next_sound) (expressions c.elements.so_far) (expressions c.in_ok-so_far.so_far) go c.in_ok-so_far.ensures
+    more_shortens (behind next_expression) (more_elements) (behind_shortens next_expression more_elements more_comma (not_longer next_expression Allowed next_sound)) (expressions c.elements.so_far) (expressions c.in_ok-so_far.so_far) go c.in_ok-so_far.ensures
 
 pub elements-preserved : goal.elements-preserved
 elements-preserved c =
     let go : more_elements c.elements.so_far.1.now ≡ true = sym c.has_more_elements.ensures ∙ c.elements-test.true in
-    many_further (behind next_expression) (more_elements) (behind_shortens next_expression more_elements Allowed more_comma next_sound) (expressions c.elements.so_far) (expressions c.in_ok-so_far.so_far) go c.in_ok-so_far.ensures ∙ c.elements.invariant
+    many_further (behind next_expression) (more_elements) (behind_shortens next_expression more_elements more_comma (not_longer next_expression Allowed next_sound)) (expressions c.elements.so_far) (expressions c.in_ok-so_far.so_far) go c.in_ok-so_far.ensures ∙ c.elements.invariant
 
 pub returns : goal.returns
 returns c =
