@@ -66,10 +66,10 @@ base_constant (t ∷ ts) h = by_word t.word h where
   by_word w.Unsigned e = refl
   by_word _ e = absurd (false≢true e)
 
-three : (a b c ts rest : List Lexeme) → ts ≡ a ++ (b ++ c) → ts ++ rest ≡ a ++ (b ++ (c ++ rest))
+pub three : (a b c ts rest : List Lexeme) → ts ≡ a ++ (b ++ c) → ts ++ rest ≡ a ++ (b ++ (c ++ rest))
 three a b c ts rest e = ap (λ (z : List Lexeme). z ++ rest) e ∙ append_assoc a (b ++ c) rest ∙ ap (λ (z : List Lexeme). a ++ z) (append_assoc b c rest)
 
-four : (a b c d ts rest : List Lexeme) → ts ≡ a ++ (b ++ (c ++ d)) → ts ++ rest ≡ a ++ (b ++ (c ++ (d ++ rest)))
+pub four : (a b c d ts rest : List Lexeme) → ts ≡ a ++ (b ++ (c ++ d)) → ts ++ rest ≡ a ++ (b ++ (c ++ (d ++ rest)))
 four a b c d ts rest e = three a b (c ++ d) ts rest e ∙ ap (λ (z : List Lexeme). a ++ (b ++ z)) (append_assoc c d rest)
 
 pub specifiers_again : (a : List Lexeme) (specs : Specifiers) (rest : List Lexeme) → AreSpecifiers a specs → Starts starts_declarator rest → specifiers (a ++ rest) ≡ Ok (specs, rest)
@@ -85,7 +85,7 @@ pub name_again : (a : List Lexeme) (name : Name) (rest : List Lexeme) → IsName
 unfolding next_name
 name_again a name rest (n, parts, is, e) = rw (parts, expect_again w.Name n rest is, e) refl
 
-name_starts : (f : Word → Bool) → f w.Name ≡ true → (a : List Lexeme) (name : Name) (rest : List Lexeme) → IsName a name → Starts f (a ++ rest)
+pub name_starts : (f : Word → Bool) → f w.Name ≡ true → (a : List Lexeme) (name : Name) (rest : List Lexeme) → IsName a name → Starts f (a ++ rest)
 name_starts f yes_word a name rest (n, parts, is, e) = rw (parts, is) yes_word
 
 pub between_again : (ts : List Lexeme) (o : Lexeme) (inner : List Lexeme) (c : Lexeme) (rest : List Lexeme) → ts ≡ o ∷ inner ++ c ∷ [] → ts ++ rest ≡ o ∷ (inner ++ (c ∷ rest))
@@ -192,7 +192,7 @@ module _ (n : ℕ) where
   initialiser_again d (more x (more y es)) true rest (t, b, elements, parts, is, h, e) stop = braces_again d (more x (more y es)) t b elements rest parts is h e
 
   -- neither a bracket nor a parenthesis is next, unless an array's
-  initialiser_next : (d : List Lexeme) (es : Trees) (braces : Bool) (rest : List Lexeme) → IsInitialiser Any d es braces → Starts ends_item rest → (begins w.OpenBracket (d ++ rest) ≡ false) × (begins w.Open (d ++ rest) ≡ false)
+  pub initialiser_next : (d : List Lexeme) (es : Trees) (braces : Bool) (rest : List Lexeme) → IsInitialiser Any d es braces → Starts ends_item rest → (begins w.OpenBracket (d ++ rest) ≡ false) × (begins w.Open (d ++ rest) ≡ false)
   initialiser_next d none false rest h stop = rw h (starts_never ends_item w.OpenBracket refl refl rest stop, starts_never ends_item w.Open refl refl rest stop)
   initialiser_next d (more e none) false rest (t, b, parts, is, h) stop = rw (parts, is) (refl, refl)
   initialiser_next d (more e (more f es)) false rest h stop = absurd h
@@ -200,7 +200,7 @@ module _ (n : ℕ) where
   initialiser_next d (more x none) true rest (t, b, elements, parts, is, h, e) stop = rw (parts, is) (refl, refl)
   initialiser_next d (more x (more y es)) true rest (t, b, elements, parts, is, h, e) stop = rw (parts, is) (refl, refl)
 
-  array_next : (c : List Lexeme) (x : Option (Option Tree)) (rest : List Lexeme) → IsArray Any c x → begins w.Open rest ≡ false → begins w.Open (c ++ rest) ≡ false
+  pub array_next : (c : List Lexeme) (x : Option (Option Tree)) (rest : List Lexeme) → IsArray Any c x → begins w.Open rest ≡ false → begins w.Open (c ++ rest) ≡ false
   array_next c None rest h e = rw h e
   array_next c (Some size) rest (o, inner, close, parts, opens, closes, h) e = rw (parts, opens) refl
 
@@ -236,7 +236,7 @@ module _ (n : ℕ) where
       separated_again (item specs) (begins w.Comma) (λ z e. e) (IsItem Any specs) Deep (Starts ends_item) (not_longer (item specs) (IsItem Allowed specs) (item_sound specs))
       (item_again specs) (item_on specs) item_stops xs ts (s ∷ rest) h (rw is refl) (rw is refl)
 
-  items_start : (specs : Specifiers) (xs : List Declared) (ts rest : List Lexeme) → Several (IsItem Any specs) ts xs → Starts starts_declarator (ts ++ rest)
+  pub items_start : (specs : Specifiers) (xs : List Declared) (ts rest : List Lexeme) → Several (IsItem Any specs) ts xs → Starts starts_declarator (ts ++ rest)
   items_start specs [] ts rest (some, h) = absurd (omega arith)
   items_start specs (x ∷ xs) ts rest (some, h) =
       let s = separated_all (IsItem Any specs) ts x xs h in

@@ -3,3 +3,4 @@ pub mod Listed
 pub mod Sound
 pub mod Wording
 pub mod Complete
+pub mod HeadersComplete
