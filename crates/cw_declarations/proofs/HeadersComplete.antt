@@ -22,7 +22,7 @@ use Rattle.cw_expressions.proofs.Steps.{begins_again, begins_takes}
 use Rattle.cw_expressions.proofs.Follows.{is_false, Starts, starts_never}
 use Rattle.cw_expressions.proofs.TypesComplete.{next_is, continues_type, type_name_again}
 use Rattle.cw_declarations.specs.Lists.{Read, separated}
-use Rattle.cw_declarations.specs.Reading.{next_name, optional_name, brackets, param, is_void, params, front, before_open, header, begins_header}
+use Rattle.cw_declarations.specs.Reading.{next_name, optional_name, brackets, param, is_void, params, front, header, begins_header}
 use Rattle.cw_declarations.proofs.BothWays.{Reads, reads_bind, reads_then, reads_else, reads_expect}
 use Rattle.cw_declarations.proofs.Listed.{Several, not_longer, separated_all, separated_again}
 use Rattle.cw_declarations.proofs.Sound.{param_sound, HasHeader}
@@ -235,24 +235,26 @@ module _ (D : Type 0) where
 
 -- ---- which of them is next
 
-pub header_next : (ts : List Lexeme) (p : Prototype) (rest : List Lexeme) → HasHeader ts p → begins_header (ts ++ rest) ≡ true
+pub header_next : (ts : List Lexeme) (p : Prototype) (rest : List Lexeme) → HasHeader ts p → begins_header (ts ++ rest) ≡ Ok true
+unfolding begins_header
 header_next ts p rest (a, b, c, d, specs, stars, parts, hs, hb, result, hc, (o, inner, close, between, opens, closes, hp)) =
     let whole : ts ++ rest ≡ a ++ (b ++ (c ++ (o ∷ (inner ++ (close ∷ rest))))) = four a b c d ts rest parts ∙ ap (λ (z : List Lexeme). a ++ (b ++ (c ++ z))) (between_again d o inner close rest between) in
-    rw (whole, front_again a b c (o ∷ (inner ++ (close ∷ rest))) specs stars p.name hs hb hc) (begins_again w.Open o (inner ++ (close ∷ rest)) opens)
+    rw (whole, front_again a b c (o ∷ (inner ++ (close ∷ rest))) specs stars p.name hs hb hc, begins_again w.Open o (inner ++ (close ∷ rest)) opens) refl
 
 module _ (n : ℕ) where
-  item_no_header : (a : List Lexeme) (specs : Specifiers) (ts : List Lexeme) (x : Declared) (rest : List Lexeme) → AreSpecifiers a specs → IsItem (Any n) specs ts x → Starts ends_item rest → begins_header (a ++ (ts ++ rest)) ≡ false
+  item_no_header : (a : List Lexeme) (specs : Specifiers) (ts : List Lexeme) (x : Declared) (rest : List Lexeme) → AreSpecifiers a specs → IsItem (Any n) specs ts x → Starts ends_item rest → begins_header (a ++ (ts ++ rest)) ≡ Ok false
+  unfolding begins_header
   item_no_header a specs ts x rest hs (s, b, c, d, stars, parts, hstars, kind, hb, hc, hd) stop =
-      rw (four s b c d ts rest parts, front_again a s b (c ++ (d ++ rest)) specs stars x.name hs hstars hb) (array_next n c x.array (d ++ rest) hc (initialiser_next n d x.init x.braces rest hd stop).1)
+      rw (four s b c d ts rest parts, front_again a s b (c ++ (d ++ rest)) specs stars x.name hs hstars hb, array_next n c x.array (d ++ rest) hc (initialiser_next n d x.init x.braces rest hd stop).1) refl
 
-  items_no_header : (a : List Lexeme) (specs : Specifiers) (xs : List Declared) (ts rest : List Lexeme) → AreSpecifiers a specs → Several (IsItem (Any n) specs) ts xs → Starts ends_item rest → begins_header (a ++ (ts ++ rest)) ≡ false
+  items_no_header : (a : List Lexeme) (specs : Specifiers) (xs : List Declared) (ts rest : List Lexeme) → AreSpecifiers a specs → Several (IsItem (Any n) specs) ts xs → Starts ends_item rest → begins_header (a ++ (ts ++ rest)) ≡ Ok false
   items_no_header a specs [] ts rest hs (some, h) stop = absurd (omega arith)
   items_no_header a specs (x ∷ []) ts rest hs (some, h) stop = item_no_header a specs ts x rest hs h stop
   items_no_header a specs (x ∷ y ∷ xs) ts rest hs (some, (b, c, inner, parts, comma, h, more_items)) stop =
       let whole : ts ++ rest ≡ b ++ (c ∷ (inner ++ rest)) = ap (λ (z : List Lexeme). z ++ rest) parts ∙ append_assoc b (c ∷ inner) rest in
       rw whole (item_no_header a specs b x (c ∷ (inner ++ rest)) hs h (rw comma refl))
 
-  pub declaration_next : (ts : List Lexeme) (d : Declaration) (rest : List Lexeme) → IsDeclaration (Any n) ts d → begins_header (ts ++ rest) ≡ false
+  pub declaration_next : (ts : List Lexeme) (d : Declaration) (rest : List Lexeme) → IsDeclaration (Any n) ts d → begins_header (ts ++ rest) ≡ Ok false
   declaration_next ts d rest (p, q, specs, parts, hs, e1, e2, e3, some, (inner, s, closed, semi, hitems), from, to) =
       let whole : ts ++ rest ≡ p ++ (inner ++ (s ∷ rest)) = ap (λ (z : List Lexeme). z ++ rest) parts ∙ append_assoc p q rest ∙ ap (λ (z : List Lexeme). p ++ z) (ap (λ (z : List Lexeme). z ++ rest) closed ∙ append_assoc inner (s ∷ []) rest) in
       ap begins_header whole ∙ items_no_header p specs d.items inner (s ∷ rest) hs (some, hitems) (rw semi refl)

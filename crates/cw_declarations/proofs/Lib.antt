@@ -4,3 +4,4 @@ pub mod Sound
 pub mod Wording
 pub mod Complete
 pub mod HeadersComplete
+pub mod Whole

@@ -137,13 +137,11 @@ header ts = do
   c ← expect w.Close ps.1
   Ok (record { name = f.0.1; result = pointer f.0.0.0 f.0.0.1; params = ps.0 }, c.1)
 
-abbrev pub before_open : Read ((Specifiers × ℕ) × Name) → Bool
-before_open (Ok f) = begins w.Open f.1
-before_open (Err e) = false
-
--- whether a header is next, and not a declaration
-abbrev pub begins_header : List Lexeme → Bool
-begins_header ts = before_open (front ts)
+-- whether `(` follows what comes first: so it is in a header, and not in a declaration
+unfoldable pub begins_header : List Lexeme → Result Bool Refusal
+begins_header ts = do
+  f ← front ts
+  Ok (begins w.Open f.1)
 
 -- a word that begins a declaration
 abbrev pub starts_declaration : Word → Bool

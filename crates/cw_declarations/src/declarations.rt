@@ -1,6 +1,11 @@
 //! Declarations.
 
-ghost use Rattle.std.specs.Prelude.{◌≡◌};
+ghost use Rattle.std.specs.Prelude.{◌≡◌, ℕ, List as Items, IfOk, Err};
+ghost use Rattle.cw_syntax.specs.Trees.{Declaration, declaration_of};
+ghost use Rattle.cw_grammar.specs.Expressions.{nesting_limit};
+ghost use Rattle.cw_grammar.specs.declared.words.Lexeme.{Lexeme};
+ghost use Rattle.cw_expressions.specs.declared.refusal.Refusal.TheVariants.{Syntax, TooDeep};
+ghost use Rattle.cw_declarations.specs.Next.{IsNextDeclaration, answer, refused};
 ghost use Rattle.cw_expressions.specs.Cursor.{Gives, begins};
 ghost use Rattle.cw_grammar.specs.declared.words.Word.TheVariants.{Comma};
 ghost use Rattle.cw_declarations.specs.Lists.{one_more, many, behind, separated};
@@ -112,3 +117,33 @@ fn declaration_at<'t>(
         rest,
     ))
 }
+
+/// The declaration that is next, with its `;`, and the tokens after it. Tokens are any: Syntax comes only where no declaration
+/// is next, however deep its expressions nest, and TooDeep where one is next with an expression that nests more than 64 deep,
+/// and perhaps where none is. Its span goes from the first byte of its tokens to the last. Public source: ISO/IEC 9899:2011,
+/// 6.7.
+pub fn read_declaration<'t>(
+    alloc: Global,
+    tokens: &'t [Lexeme],
+) -> Result<(Decl, &'t [Lexeme]), Refusal>
+    // What is read is next.
+    ensures found { IfOk result (λ x. IsNextDeclaration nesting_limit tokens.now (declaration_of x.0) x.1.now) }
+    // What is next is read, unless memory runs out.
+    ensures only { (d : Declaration) (rest : Items Lexeme) → IsNextDeclaration nesting_limit tokens.now d rest
+        → Gives declared result (answer d rest) }
+    // What is next and nests too deep is refused as such, unless memory runs out.
+    ensures deep { (n : ℕ) (d : Declaration) (rest : Items Lexeme) → IsNextDeclaration n tokens.now d rest
+        → ¬ (IsNextDeclaration nesting_limit tokens.now d rest) → Gives declared result (refused TooDeep) }
+    ensures syntax { result ≡ Err Syntax
+        → (n : ℕ) (d : Declaration) (rest : Items Lexeme) → IsNextDeclaration n tokens.now d rest → ⊥ }
+    // Which answer comes where no declaration is next.
+    ensures exact { Gives declared result (declaration tokens.now) }
+{
+    declaration_at(alloc, tokens)
+}
+
+/// Tokens have at most one declaration that is next, within the greatest nesting that is allowed.
+pub fn one_declaration()
+    ensures one { (ts : Items Lexeme) (d e : Declaration) (a b : Items Lexeme)
+        → IsNextDeclaration nesting_limit ts d a → IsNextDeclaration nesting_limit ts e b → (d ≡ e) × (a ≡ b) }
+{}

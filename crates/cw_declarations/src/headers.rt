@@ -1,6 +1,10 @@
 //! Parameters, and headers of prototypes and functions.
 
-ghost use Rattle.std.specs.Prelude.{◌≡◌};
+ghost use Rattle.std.specs.Prelude.{◌≡◌, ℕ, true, false, List as Items, IfOk, Ok, Err};
+ghost use Rattle.cw_syntax.specs.Trees.{Declaration, Prototype, prototype_of};
+ghost use Rattle.cw_grammar.specs.declared.words.Lexeme.{Lexeme};
+ghost use Rattle.cw_expressions.specs.declared.refusal.Refusal.TheVariants.{Syntax};
+ghost use Rattle.cw_declarations.specs.Next.{IsNextDeclaration, IsNextHeader, answer};
 ghost use Rattle.cw_expressions.specs.Cursor.{Gives, begins};
 ghost use Rattle.cw_grammar.specs.declared.words.Word.TheVariants.{Comma};
 ghost use Rattle.cw_declarations.specs.Lists.{one_more, many, behind, separated};
@@ -134,3 +138,45 @@ fn header_at<'t>(alloc: Global, tokens: &'t [Lexeme]) -> Result<(Proto, &'t [Lex
         rest,
     ))
 }
+
+/// The header of a prototype or a function that is next, up to the parenthesis that closes its parameters, and the tokens after
+/// it. Tokens are any: where no header is next, an error comes. Public source: ISO/IEC 9899:2011, 6.7.6.3 and 6.9.1.
+pub fn read_header<'t>(
+    alloc: Global,
+    tokens: &'t [Lexeme],
+) -> Result<(Proto, &'t [Lexeme]), Refusal>
+    // What is read is next.
+    ensures found { IfOk result (λ x. IsNextHeader tokens.now (prototype_of x.0) x.1.now) }
+    // What is next is read, unless memory runs out.
+    ensures only { (p : Prototype) (rest : Items Lexeme) → IsNextHeader tokens.now p rest → Gives headed result (answer p rest) }
+    ensures syntax { result ≡ Err Syntax → (p : Prototype) (rest : Items Lexeme) → IsNextHeader tokens.now p rest → ⊥ }
+    // Which answer comes where no header is next.
+    ensures exact { Gives headed result (header tokens.now) }
+{
+    header_at(alloc, tokens)
+}
+
+#[tactic(auto, unfolding(crate::specs::Reading::begins_header))]
+fn opens_parameters(tokens: &[Lexeme]) -> Result<bool, Refusal>
+    ensures { Gives (λ x. x) result (begins_header tokens.now) }
+{
+    let (_, rest) = front_at(tokens)?;
+    Ok(begins_with(rest, Word::Open))
+}
+
+/// Whether `(` follows the specifiers, stars and name that are next: so it is where a header is next, and not where a
+/// declaration is. Syntax where these are not next.
+pub fn is_header_next(tokens: &[Lexeme]) -> Result<bool, Refusal>
+    ensures header { (p : Prototype) (rest : Items Lexeme) → IsNextHeader tokens.now p rest → Gives (λ x. x) result (Ok true) }
+    ensures declaration { (n : ℕ) (d : Declaration) (rest : Items Lexeme) → IsNextDeclaration n tokens.now d rest
+        → Gives (λ x. x) result (Ok false) }
+    ensures exact { Gives (λ x. x) result (begins_header tokens.now) }
+{
+    opens_parameters(tokens)
+}
+
+/// Tokens have at most one header that is next.
+pub fn one_header()
+    ensures one { (ts : Items Lexeme) (p q : Prototype) (a b : Items Lexeme)
+        → IsNextHeader ts p a → IsNextHeader ts q b → (p ≡ q) × (a ≡ b) }
+{}
