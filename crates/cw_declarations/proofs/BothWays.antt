@@ -1,15 +1,13 @@
 -- What a reader took, and what it reads again: both ways in one shape for all readers.
-use Rattle.std.proofs.Common.{◌≡◌, ◌<◌, ◌≤◌, Bool, true, false, cond, List, [], ◌∷◌, ◌++◌, length, Result, Ok, Err, refl, sym, ap, ◌∙◌, append_assoc, arith, length-append, inl, inr}
-use Rattle.std.specs.Prelude.{IfOk, ◌⊎◌}
-use Rattle.cw_syntax.specs.Trees.{Tree}
+use Rattle.std.proofs.Common.{◌≡◌, ◌≤◌, Bool, true, false, cond, List, ◌∷◌, ◌++◌, length, Result, Ok, Err, refl, sym, ap, ◌∙◌, append_assoc, arith, length-append, inl, inr}
+use Rattle.std.specs.Prelude.{◌⊎◌}
 use Rattle.cw_grammar.specs.declared.words.Lexeme.{Lexeme}
 use Rattle.cw_grammar.specs.declared.words.Word.{Word}
 use Rattle.cw_grammar.specs.Lexemes.{Is}
 use Rattle.cw_expressions.specs.declared.refusal.Refusal.{Refusal}
 use Rattle.cw_expressions.specs.declared.refusal.Refusal.TheVariants as refusal
 use Rattle.cw_expressions.specs.Cursor.{◌>>=◌, expect}
-use Rattle.cw_expressions.proofs.Steps.{if_bind, expect_again}
-use Rattle.cw_declarations.specs.Lists.{Read}
+use Rattle.cw_expressions.proofs.Steps.{expect_again}
 
 -- what was read stands before the rest, and is such a thing
 abbrev pub Took : {X : Type 0} → (List Lexeme → X → Type 0) → List Lexeme → X × List Lexeme → Type 0

@@ -1,34 +1,30 @@
 -- Declarations and headers are read as what they are, or nest too deep.
-use Rattle.std.proofs.Common.{◌≡◌, ℕ, zero, suc, ◌<◌, ◌≤◌, Bool, true, false, ◌&&◌, not, cond, List, [], ◌∷◌, ◌++◌, length, replicate, Option, Some, None, Result, Ok, Err, refl, sym, ap, subst, ◌∙◌, append_assoc, arith, length-append, inl, inr}
-use Rattle.std.specs.Prelude.{◌⊎◌, ◌≢◌}
+use Rattle.std.proofs.Common.{◌≡◌, ℕ, ◌<◌, Bool, true, false, List, [], ◌∷◌, ◌++◌, length, Option, Some, None, Ok, refl, sym, ap, ◌∙◌, append_assoc, arith, length-append, inl}
 use Rattle.std.proofs.lemmas.Bool.{false≢true}
 use Rattle.cw_syntax.specs.declared.program.Name.{Name}
 use Rattle.cw_syntax.specs.declared.program.CType.{CType}
-use Rattle.cw_syntax.specs.declared.program.Param.{Param}
-use Rattle.cw_syntax.specs.Trees.{Tree, Trees, none, more, Declared, Declaration, Prototype}
+use Rattle.cw_syntax.specs.Trees.{Tree, Trees, none, more, Declared, Declaration}
 use Rattle.cw_grammar.specs.declared.words.Lexeme.{Lexeme}
 use Rattle.cw_grammar.specs.declared.words.Word.{Word}
 use Rattle.cw_grammar.specs.declared.words.Word.TheVariants as w
 use Rattle.cw_grammar.specs.declared.rules.Rule.TheVariants.{Expression}
 use Rattle.cw_grammar.specs.Words.{same}
-use Rattle.cw_grammar.specs.Lexemes.{Is, words, name_of, from_of, to_of, IsFlag, IsOptional, AreSeparated, IsBetween, trees}
-use Rattle.cw_grammar.specs.Types.{IsType, AreStars, IsTypeName}
+use Rattle.cw_grammar.specs.Lexemes.{Is, to_of, IsFlag, IsOptional, IsBetween, trees}
 use Rattle.cw_grammar.specs.Expressions.{IsExpression, nesting_limit}
-use Rattle.cw_grammar.specs.Declarations.{IsName, IsStorage, Specifiers, AreSpecifiers, pointer, IsArray, AreElements, IsInitialiser, IsItem, IsDeclaration, IsBrackets, IsParam, AreParams, IsHeader}
+use Rattle.cw_grammar.specs.Declarations.{IsName, IsStorage, Specifiers, AreSpecifiers, pointer, IsArray, AreElements, IsInitialiser, IsItem, IsDeclaration}
 use Rattle.cw_grammar.proofs.SameWord.{is_plain, same-itself}
-use Rattle.cw_expressions.specs.Cursor.{begins, after, first, expect}
-use Rattle.cw_expressions.specs.TypeReading.{base_of, stars_of, type_name}
+use Rattle.cw_expressions.specs.Cursor.{begins, first, expect}
+use Rattle.cw_expressions.specs.TypeReading.{stars_of}
 use Rattle.cw_expressions.specs.Next.{ends, IsEnd, next_expression}
-use Rattle.cw_expressions.proofs.Steps.{expect_again, begins_again, begins_takes, to_of_append}
-use Rattle.cw_expressions.proofs.Follows.{is_false, Starts, starts_append, starts_never, starts_some, starts_expression, derived_starts}
-use Rattle.cw_expressions.proofs.TypesComplete.{next_is, continues_type, type_name_again}
+use Rattle.cw_expressions.proofs.Steps.{expect_again, begins_again, to_of_append}
+use Rattle.cw_expressions.proofs.Follows.{Starts, starts_append, starts_never, starts_expression, derived_starts}
 use Rattle.cw_expressions.proofs.Whole.{next_again, next_sound}
 use Rattle.cw_declarations.specs.Lists.{Read, separated}
-use Rattle.cw_declarations.specs.Reading.{storage, flag, specifiers, next_name, optional_expression, array, more_elements, elements, value, initialiser, item, declaration, optional_name, brackets, param, is_void, params, front, header, begins_header}
-use Rattle.cw_declarations.proofs.BothWays.{Took, Reads, reads_bind, reads_then, reads_else, reads_of, reads_expect, joined}
+use Rattle.cw_declarations.specs.Reading.{storage, flag, specifiers, next_name, optional_expression, array, more_elements, elements, value, initialiser, item, declaration}
+use Rattle.cw_declarations.proofs.BothWays.{Reads, reads_bind, reads_then, reads_else, reads_expect}
 use Rattle.cw_declarations.proofs.Listed.{Several, not_longer, separated_all, separated_again}
-use Rattle.cw_declarations.proofs.Sound.{Allowed, more_comma, item_sound, param_sound, HasHeader}
-use Rattle.cw_declarations.proofs.Wording.{no_tokens, first_token, one_token, two_tokens, flag_again, first_again, starts_declarator, ends_item, ends_element, ends_param, follows_name, item_end, element_end, param_follows, base_again, starts_base, type_starts, stars_again, stars_start}
+use Rattle.cw_declarations.proofs.Sound.{Allowed, more_comma, item_sound}
+use Rattle.cw_declarations.proofs.Wording.{one_token, flag_again, first_again, starts_declarator, ends_item, ends_element, item_end, element_end, base_again, starts_base, type_starts, stars_again, stars_start}
 
 -- ---- specifiers
 
@@ -254,7 +250,7 @@ module _ (n : ℕ) where
       let f = first_again ts rest long in
       let ends : to_of ts ≡ s.to = ap to_of parts ∙ to_of_append p q (omega (arith, ap length closed, length-append inner (s ∷ []))) ∙ ap to_of closed ∙ to_of_append inner (s ∷ []) (omega arith) in
       let last : ok_declaration (made_declaration specs.external specs.fixed specs.constant d.items f.0.from s.to) rest ≡ ok_declaration d rest =
-          ap (λ (z : Declaration). ok_declaration z rest) (declaration_is d specs.external specs.fixed specs.constant f.0.from s.to e1 e2 e3 (f.3 ∙ sym from) (sym ends ∙ sym to)) in
+      ap (λ (z : Declaration). ok_declaration z rest) (declaration_is d specs.external specs.fixed specs.constant f.0.from s.to e1 e2 e3 (f.3 ∙ sym from) (sym ends ∙ sym to)) in
       let several : Several (IsItem Any specs) inner d.items = (some, hitems) in
       reads_bind Deep (first (ts ++ rest)) _ (f.0, f.1) _ (inl f.2)
       (rw whole

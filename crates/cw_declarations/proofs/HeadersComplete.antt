@@ -1,33 +1,33 @@
 -- Headers are read as what they are.
-use Rattle.std.proofs.Common.{◌≡◌, ℕ, zero, suc, ◌<◌, ◌≤◌, Bool, true, false, ◌&&◌, not, cond, List, [], ◌∷◌, ◌++◌, length, replicate, Option, Some, None, Result, Ok, Err, refl, sym, ap, subst, ◌∙◌, append_assoc, arith, length-append, inl, inr}
-use Rattle.std.specs.Prelude.{◌⊎◌, ◌≢◌}
+use Rattle.std.proofs.Common.{◌≡◌, ℕ, zero, suc, Bool, true, false, ◌&&◌, cond, List, [], ◌∷◌, ◌++◌, replicate, Option, Some, None, Ok, Err, refl, sym, ap, ◌∙◌, append_assoc, arith, inl, inr}
+use Rattle.std.specs.Prelude.{◌≢◌}
 use Rattle.std.proofs.lemmas.Bool.{false≢true}
 use Rattle.cw_syntax.specs.declared.program.Name.{Name}
 use Rattle.cw_syntax.specs.declared.program.CType.{CType}
 use Rattle.cw_syntax.specs.declared.program.Param.{Param}
 use Rattle.cw_syntax.specs.declared.program.Base.{Base}
-use Rattle.cw_syntax.specs.Trees.{Tree, Declared, Declaration, Prototype}
+use Rattle.cw_syntax.specs.Trees.{Declared, Declaration, Prototype}
 use Rattle.cw_grammar.specs.declared.words.Lexeme.{Lexeme}
 use Rattle.cw_grammar.specs.declared.words.Word.{Word}
 use Rattle.cw_grammar.specs.declared.words.Word.TheVariants as w
 use Rattle.cw_grammar.specs.Words.{same}
-use Rattle.cw_grammar.specs.Lexemes.{Is, words, name_of, IsFlag, IsOptional, AreSeparated, IsBetween}
+use Rattle.cw_grammar.specs.Lexemes.{Is, words, IsFlag, IsOptional, AreSeparated}
 use Rattle.cw_grammar.specs.Types.{IsType, AreStars, IsTypeName}
-use Rattle.cw_grammar.specs.Declarations.{IsName, Specifiers, AreSpecifiers, pointer, IsItem, IsDeclaration, IsBrackets, IsParam, AreParams, IsHeader}
+use Rattle.cw_grammar.specs.Declarations.{IsName, Specifiers, AreSpecifiers, pointer, IsItem, IsDeclaration, IsBrackets, IsParam, AreParams}
 use Rattle.cw_grammar.proofs.SameWord.{same-true}
 use Rattle.cw_expressions.specs.declared.refusal.Refusal.TheVariants as refusal
-use Rattle.cw_expressions.specs.Cursor.{begins, after, expect}
-use Rattle.cw_expressions.specs.TypeReading.{base_of, stars_of, type_name}
-use Rattle.cw_expressions.proofs.Steps.{begins_again, begins_takes}
+use Rattle.cw_expressions.specs.Cursor.{begins, expect}
+use Rattle.cw_expressions.specs.TypeReading.{base_of, type_name}
+use Rattle.cw_expressions.proofs.Steps.{begins_again}
 use Rattle.cw_expressions.proofs.Follows.{is_false, Starts, starts_never}
 use Rattle.cw_expressions.proofs.TypesComplete.{next_is, continues_type, type_name_again}
-use Rattle.cw_declarations.specs.Lists.{Read, separated}
-use Rattle.cw_declarations.specs.Reading.{next_name, optional_name, brackets, param, is_void, params, front, header, begins_header}
+use Rattle.cw_declarations.specs.Lists.{Read}
+use Rattle.cw_declarations.specs.Reading.{optional_name, brackets, param, is_void, params, front, header, begins_header}
 use Rattle.cw_declarations.proofs.BothWays.{Reads, reads_bind, reads_then, reads_else, reads_expect}
 use Rattle.cw_declarations.proofs.Listed.{Several, not_longer, separated_all, separated_again}
 use Rattle.cw_declarations.proofs.Sound.{param_sound, HasHeader}
-use Rattle.cw_declarations.proofs.Wording.{no_tokens, one_token, two_tokens, starts_declarator, ends_item, ends_param, follows_name, param_follows, stars_again, stars_start}
-use Rattle.cw_declarations.proofs.Complete.{specifiers_again, name_again, name_starts, three, four, between_again, Any, initialiser_next, array_next, items_start}
+use Rattle.cw_declarations.proofs.Wording.{one_token, two_tokens, starts_declarator, ends_item, ends_param, follows_name, param_follows, stars_again, stars_start}
+use Rattle.cw_declarations.proofs.Complete.{specifiers_again, name_again, name_starts, three, four, between_again, Any, initialiser_next, array_next}
 
 abbrev ok_prototype : Prototype → List Lexeme → Read Prototype
 ok_prototype p rest = Ok (p, rest)

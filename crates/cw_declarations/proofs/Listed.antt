@@ -1,6 +1,6 @@
 -- Lists, both ways.
-use Rattle.std.proofs.Common.{◌≡◌, ℕ, suc, ◌<◌, ◌≤◌, Bool, true, false, List, [], ◌∷◌, ◌++◌, length, Result, Ok, Err, refl, sym, ap, subst, ◌∙◌, append_assoc, arith, length-append, inl, inr}
-use Rattle.std.specs.Prelude.{IfOk, ◌⊎◌}
+use Rattle.std.proofs.Common.{◌≡◌, suc, ◌<◌, ◌≤◌, Bool, true, false, List, [], ◌∷◌, ◌++◌, length, Ok, refl, sym, ap, subst, ◌∙◌, append_assoc, arith, length-append, inl, inr}
+use Rattle.std.specs.Prelude.{IfOk}
 use Rattle.std.proofs.lemmas.Result.{IfOk-at_ok, IfOk-weaker}
 use Rattle.std.proofs.lemmas.List.{append-nil}
 use Rattle.cw_grammar.specs.declared.words.Lexeme.{Lexeme}
@@ -8,9 +8,9 @@ use Rattle.cw_grammar.specs.declared.words.Word.TheVariants as w
 use Rattle.cw_grammar.specs.Lexemes.{Is, AreAll, AreSeparated}
 use Rattle.cw_expressions.specs.declared.refusal.Refusal.{Refusal}
 use Rattle.cw_expressions.specs.declared.refusal.Refusal.TheVariants as refusal
-use Rattle.cw_expressions.specs.Cursor.{◌>>=◌, Fails, begins, after, repeat}
+use Rattle.cw_expressions.specs.Cursor.{Fails, begins, after}
 use Rattle.cw_expressions.proofs.Steps.{if_bind, begins_takes}
-use Rattle.cw_expressions.proofs.Repeat.{Shortens, repeat_ends, repeat_goes, repeat_fails, repeat_keeps, repeat_further}
+use Rattle.cw_expressions.proofs.Repeat.{Shortens, repeat_ends, repeat_fails, repeat_keeps, repeat_further}
 use Rattle.cw_declarations.specs.Lists.{Read, Reader, rest_after, one_more, many, behind, separated}
 use Rattle.cw_declarations.proofs.BothWays.{Took, Reads, reads_bind, reads_of, took_shorter}
 
@@ -96,9 +96,9 @@ module _ {X : Type 0} (read : Reader X) (goes : List Lexeme → Bool) where
         let whole : a ++ rest ≡ b ++ (c ++ rest) = rw parts (append_assoc b c rest) in
         let listed : (before ++ x ∷ []) ++ xs ≡ before ++ x ∷ xs = append_assoc before (x ∷ []) xs in
         let s : Reads D (many read goes (before, b ++ (c ++ rest))) ((before ++ x ∷ []) ++ xs, rest) =
-            many_step D short (before, b ++ (c ++ rest)) (before ++ x ∷ [], c ++ rest) ((before ++ x ∷ []) ++ xs, rest) (on b x (c ++ rest) p)
-            (one_again before b x (c ++ rest) p (stop_before xs c rest h stop))
-            (many_again xs c rest (before ++ x ∷ []) h stop ends) in
+        many_step D short (before, b ++ (c ++ rest)) (before ++ x ∷ [], c ++ rest) ((before ++ x ∷ []) ++ xs, rest) (on b x (c ++ rest) p)
+        (one_again before b x (c ++ rest) p (stop_before xs c rest h stop))
+        (many_again xs c rest (before ++ x ∷ []) h stop ends) in
         subst (λ (z : List X). Reads D (many read goes (before, a ++ rest)) (z, rest)) listed
         (reads_of D (λ (ts : List Lexeme). many read goes (before, ts)) (a ++ rest) (b ++ (c ++ rest)) _ whole s)
 

@@ -1,18 +1,18 @@
 -- What is read as a declaration or a header is one.
-use Rattle.std.proofs.Common.{◌≡◌, ℕ, ◌<◌, ◌≤◌, Bool, true, false, ◌&&◌, not, cond, List, [], ◌∷◌, ◌++◌, length, Option, Some, None, Result, Ok, Err, refl, sym, ap, ◌∙◌, append_assoc, arith, length-append, inl, inr}
-use Rattle.std.specs.Prelude.{IfOk, ◌⊎◌, ◌≢◌}
+use Rattle.std.proofs.Common.{◌≡◌, ℕ, ◌<◌, Bool, true, false, ◌&&◌, not, cond, List, [], ◌∷◌, ◌++◌, length, Option, Some, None, Ok, Err, refl, sym, ap, ◌∙◌, append_assoc, arith, length-append, inl, inr}
+use Rattle.std.specs.Prelude.{IfOk, ◌≢◌}
 use Rattle.std.proofs.lemmas.Bool.{false≢true}
 use Rattle.cw_syntax.specs.declared.program.Name.{Name}
 use Rattle.cw_syntax.specs.declared.program.Param.{Param}
-use Rattle.cw_syntax.specs.Trees.{Tree, Trees, none, more, Declared, Declaration, Prototype}
+use Rattle.cw_syntax.specs.Trees.{Tree, Trees, Prototype}
 use Rattle.cw_grammar.specs.declared.words.Lexeme.{Lexeme}
 use Rattle.cw_grammar.specs.declared.words.Word.{Word}
 use Rattle.cw_grammar.specs.declared.words.Word.TheVariants as w
 use Rattle.cw_grammar.specs.Words.{same}
-use Rattle.cw_grammar.specs.Lexemes.{Is, words, name_of, from_of, to_of, IsFlag, IsOptional, AreSeparated, IsBetween, trees}
-use Rattle.cw_grammar.specs.Types.{IsType, AreStars, IsTypeName}
+use Rattle.cw_grammar.specs.Lexemes.{Is, words, name_of, from_of, to_of, IsFlag, IsOptional, IsBetween, trees}
+use Rattle.cw_grammar.specs.Types.{AreStars}
 use Rattle.cw_grammar.specs.Expressions.{IsExpression, nesting_limit}
-use Rattle.cw_grammar.specs.Declarations.{IsName, IsStorage, Specifiers, AreSpecifiers, pointer, IsArray, AreElements, IsInitialiser, IsItem, IsDeclaration, IsBrackets, IsParam, AreParams, IsHeader}
+use Rattle.cw_grammar.specs.Declarations.{IsName, IsStorage, Specifiers, AreSpecifiers, IsArray, AreElements, IsInitialiser, IsItem, IsDeclaration, IsBrackets, IsParam, AreParams, IsHeader}
 use Rattle.cw_grammar.proofs.SameWord.{is_plain, same-true}
 use Rattle.cw_expressions.specs.Cursor.{begins, after, first, expect}
 use Rattle.cw_expressions.specs.TypeReading.{base_of, stars_of, type_name}
@@ -257,9 +257,13 @@ front_sound ts =
     if_bind (specifiers ts) _ _ _ (specifiers_sound ts) (λ specs p.
     let s = stars_take specs.1 in
     if_bind (next_name (stars_of specs.1).1) _ _ _ (name_sound (stars_of specs.1).1) (λ n q. (
-      p.0, s.0, q.0,
+      p.0,
+      s.0,
+      q.0,
       p.1 ∙ ap (λ (z : List Lexeme). p.0 ++ z) (s.1 ∙ ap (λ (z : List Lexeme). s.0 ++ z) q.1),
-      p.2, s.2, q.2,
+      p.2,
+      s.2,
+      q.2,
     )))
 
 -- a header, seen as its prototype

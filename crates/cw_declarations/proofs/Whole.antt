@@ -1,17 +1,16 @@
 -- What calls of the parser say.
-use Rattle.std.proofs.Common.{◌≡◌, ℕ, ◌<◌, Bool, true, false, List, [], ◌∷◌, ◌++◌, Result, Ok, Err, refl, sym, ap, subst, ◌∙◌, arith, inl, inr}
-use Rattle.std.specs.Prelude.{◌⊎◌, IfOk}
+use Rattle.std.proofs.Common.{◌≡◌, ℕ, ◌<◌, true, false, List, Result, Ok, Err, sym, ap, subst, ◌∙◌, arith, inl, inr}
+use Rattle.std.specs.Prelude.{IfOk}
 use Rattle.cw_syntax.specs.Trees.{Declaration, Prototype}
 use Rattle.cw_grammar.specs.declared.words.Lexeme.{Lexeme}
 use Rattle.cw_grammar.specs.Expressions.{nesting_limit}
 use Rattle.cw_expressions.specs.declared.refusal.Refusal.{Refusal}
 use Rattle.cw_expressions.specs.declared.refusal.Refusal.TheVariants as refusal
 use Rattle.cw_expressions.specs.Cursor.{Fails, Gives}
-use Rattle.cw_declarations.specs.Lists.{Read}
 use Rattle.cw_declarations.specs.Reading.{declaration, header, begins_header}
 use Rattle.cw_declarations.specs.Next.{IsNextDeclaration, IsNextHeader, answer, refused}
-use Rattle.cw_declarations.proofs.BothWays.{Took, Reads}
-use Rattle.cw_declarations.proofs.Sound.{HasHeader, declaration_sound, header_sound}
+use Rattle.cw_declarations.proofs.BothWays.{Reads}
+use Rattle.cw_declarations.proofs.Sound.{declaration_sound}
 use Rattle.cw_declarations.proofs.Complete.{declaration_again}
 use Rattle.cw_declarations.proofs.HeadersComplete.{header_again, header_next, declaration_next}
 

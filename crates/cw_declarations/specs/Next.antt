@@ -1,5 +1,5 @@
 -- The declaration or header that is next. Public source: ISO/IEC 9899:2011, 6.7 (declarations), 6.7.6 (declarators), 6.9.1.
-use Rattle.std.specs.Prelude.{◌≡◌, ℕ, List, [], ◌∷◌, ◌++◌, Result, Ok, Err}
+use Rattle.std.specs.Prelude.{◌≡◌, ℕ, List, ◌++◌, Ok, Err}
 use Rattle.cw_syntax.specs.Trees.{Declaration, Prototype}
 use Rattle.cw_grammar.specs.declared.words.Lexeme.{Lexeme}
 use Rattle.cw_grammar.specs.Expressions.{IsExpression}

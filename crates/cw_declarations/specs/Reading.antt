@@ -1,5 +1,5 @@
 -- Reading declarations and headers from left to right, on lists: what proofs compare the code with.
-use Rattle.std.specs.Prelude.{ℕ, Bool, true, false, ◌&&◌, not, Option, Some, None, List, [], ◌∷◌, Result, Ok, Err, if◌then◌else◌}
+use Rattle.std.specs.Prelude.{ℕ, Bool, true, false, ◌&&◌, not, Option, Some, None, List, [], ◌∷◌, Result, Ok, if◌then◌else◌}
 use Rattle.cw_syntax.specs.declared.program.Name.{Name}
 use Rattle.cw_syntax.specs.declared.program.Param.{Param}
 use Rattle.cw_syntax.specs.Trees.{Tree, Trees, none, more, Declared, Declaration, Prototype}

@@ -1,5 +1,5 @@
 -- What a function of the parser returned, without where it lies in memory.
-use Rattle.std.specs.Prelude.{ℕ, Bool, Option, option_map, List, map}
+use Rattle.std.specs.Prelude.{Bool, Option, option_map, List, map}
 use Rattle.std.specs.Borrow.{Bor}
 use Rattle.std.specs.Global.{Vec}
 use Rattle.cw_syntax.specs.declared.program.Expr.{Expr}

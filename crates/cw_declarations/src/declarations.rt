@@ -95,10 +95,7 @@ fn items_at<'t>(
 }
 
 #[tactic(auto, unfolding(crate::specs::Reading::declaration))]
-fn declaration_at<'t>(
-    alloc: Global,
-    tokens: &'t [Lexeme],
-) -> Result<(Decl, &'t [Lexeme]), Refusal>
+fn declaration_at<'t>(alloc: Global, tokens: &'t [Lexeme]) -> Result<(Decl, &'t [Lexeme]), Refusal>
     ensures { Gives declared result (declaration tokens.now) }
 {
     let (first, _) = first_of(tokens)?;

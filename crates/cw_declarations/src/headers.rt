@@ -90,10 +90,7 @@ fn is_void_next(tokens: &[Lexeme]) -> bool
 
 /// Parameters up to a parenthesis.
 #[tactic(auto, unfolding(crate::specs::Reading::params))]
-fn params_at<'t>(
-    alloc: Global,
-    tokens: &'t [Lexeme],
-) -> Result<(Vec<Param>, &'t [Lexeme]), Refusal>
+fn params_at<'t>(alloc: Global, tokens: &'t [Lexeme]) -> Result<(Vec<Param>, &'t [Lexeme]), Refusal>
     ensures { Gives parameters result (params tokens.now) }
 {
     if begins_with(tokens, Word::Close) {

@@ -5,3 +5,5 @@ pub mod declarations;
 pub mod headers;
 pub mod initialisers;
 pub mod specifiers;
+#[cfg(test)]
+mod tests;
