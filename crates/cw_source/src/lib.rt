@@ -4,8 +4,10 @@
 pub mod fault;
 pub mod line;
 pub mod place;
+pub mod text;
 #[cfg(test)]
 mod tests;
 
 pub use fault::SourceFault;
 pub use line::fault_line;
+pub use text::check_text;

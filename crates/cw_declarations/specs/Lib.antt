@@ -1,0 +1,4 @@
+pub mod Lists
+pub mod Reading
+pub mod View
+pub mod Next

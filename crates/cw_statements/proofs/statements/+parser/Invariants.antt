@@ -1,0 +1,47 @@
+use Rattle.std.proofs.Common.{◌≡◌, true, length, ◌+◌, ◌*◌}
+use Rattle.cw_declarations.specs.Lists.{many}
+use Rattle.cw_statements.specs.Reading.{goes_on, read_statement}
+use Rattle.cw_statements.specs.View.{several}
+use Rattle.cw_statements.proofs.statements.+parser.Given as goal
+
+abbrev pub decreases-read : goal.decreases-read
+decreases-read l = 8 * l.depth
+
+abbrev pub decreases-statement_at : goal.decreases-statement_at
+decreases-statement_at l = 8 * l.depth + 7
+
+abbrev pub decreases-stated_at : goal.decreases-stated_at
+decreases-stated_at l = 8 * l.depth + 6
+
+abbrev pub decreases-block_at : goal.decreases-block_at
+decreases-block_at l = 8 * l.depth + 5
+
+abbrev pub decreases-statements_after : goal.decreases-statements_after
+decreases-statements_after l = 8 * l.depth + 2
+
+abbrev pub decreases-statement_after : goal.decreases-statement_after
+decreases-statement_after l = 8 * l.depth + 1
+
+abbrev pub decreases-labelled_at : goal.decreases-labelled_at
+decreases-labelled_at l = 8 * l.depth + 5
+
+abbrev pub decreases-branched_at : goal.decreases-branched_at
+decreases-branched_at l = 8 * l.depth + 5
+
+abbrev pub decreases-chosen_at : goal.decreases-chosen_at
+decreases-chosen_at l = 8 * l.depth + 4
+
+abbrev pub decreases-looped_at : goal.decreases-looped_at
+decreases-looped_at l = 8 * l.depth + 5
+
+abbrev pub decreases-done_at : goal.decreases-done_at
+decreases-done_at l = 8 * l.depth + 5
+
+abbrev pub decreases-counted_at : goal.decreases-counted_at
+decreases-counted_at l = 8 * l.depth + 5
+
+abbrev pub invariant-statements_after-statements : goal.invariant-statements_after-statements
+invariant-statements_after-statements l = many (read_statement l.depth true) goes_on (several l.so_far) ≡ many (read_statement l.depth true) goes_on (several l.fn.first)
+
+abbrev pub decreases-statements_after-statements : goal.decreases-statements_after-statements
+decreases-statements_after-statements l = length l.so_far.1.now
