@@ -1,5 +1,5 @@
 -- The line that tells why a source is refused, without its line feed.
-use Rattle.std.specs.Prelude.{ℕ, List, [], ◌++◌, codes}
+use Rattle.std.specs.Prelude.{ℕ, List, ◌++◌, codes}
 use Rattle.std.specs.Fmt.{decimal}
 use Rattle.cw_core.specs.Quantities.{name_of}
 use Rattle.cw_lex.specs.declared.lexer.LexFault.{LexFault}

@@ -4,9 +4,9 @@
 pub mod fault;
 pub mod line;
 pub mod place;
-pub mod text;
 #[cfg(test)]
 mod tests;
+pub mod text;
 
 pub use fault::SourceFault;
 pub use line::fault_line;

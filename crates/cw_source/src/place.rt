@@ -14,7 +14,11 @@ fn front_of(source: &[u8], at: u32) -> &[u8]
 pub fn line_of(source: &[u8], at: u32) -> usize
     ensures line { result ≡ line_of source.now at }
 {
-    front_of(source, at).iter().filter(|byte| **byte == b'\n').count() + 1
+    front_of(source, at)
+        .iter()
+        .filter(|byte| **byte == b'\n')
+        .count()
+        + 1
 }
 
 /// The column behind a byte that stands at this column.

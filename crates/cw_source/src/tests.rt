@@ -11,11 +11,23 @@ fn lines_tell_the_place(rt: HostRuntime) -> Result<(), Fail> {
     let alloc = rt.alloc();
     let source = b"int a;\n\nint main(void){";
     for (fault, line) in [
-        (SourceFault::Lex(LexFault::BadByte(0)), "source 1:1: bad byte"),
-        (SourceFault::Lex(LexFault::OpenComment(6)), "source 1:7: open comment"),
-        (SourceFault::Lex(LexFault::OpenString(7)), "source 2:1: open string"),
+        (
+            SourceFault::Lex(LexFault::BadByte(0)),
+            "source 1:1: bad byte",
+        ),
+        (
+            SourceFault::Lex(LexFault::OpenComment(6)),
+            "source 1:7: open comment",
+        ),
+        (
+            SourceFault::Lex(LexFault::OpenString(7)),
+            "source 2:1: open string",
+        ),
         (SourceFault::Lex(LexFault::Number(8)), "source 3:1: number"),
-        (SourceFault::Lex(LexFault::Directive(12)), "source 3:5: directive"),
+        (
+            SourceFault::Lex(LexFault::Directive(12)),
+            "source 3:5: directive",
+        ),
         (SourceFault::Lex(LexFault::Marker(2)), "source 1:3: marker"),
         (SourceFault::Syntax(23), "source 3:16: syntax"),
         (SourceFault::TooDeep, "limit: nesting"),
@@ -29,7 +41,10 @@ fn lines_tell_the_place(rt: HostRuntime) -> Result<(), Fail> {
             "limit: functions",
         ),
     ] {
-        assert_eq!(rt; fault_line(alloc, source, &fault)?.as_slice(), line.as_bytes());
+        assert_eq!(rt;
+            fault_line(alloc, source, &fault)?.as_slice(),
+            line.as_bytes()
+        );
     }
     Ok(())
 }
