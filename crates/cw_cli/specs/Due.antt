@@ -19,19 +19,26 @@ use Rattle.cw_policies.specs.declared.fault.PolicyFault.{PolicyFault}
 use Rattle.cw_policies.specs.declared.fault.PolicyFault.TheVariants.{Limit, Regex, NoMemory}
 use Rattle.cw_policies.specs.Answer.{Spells, IsFault}
 use Rattle.cw_policies.specs.Lines.{fault_line}
+use Rattle.cw_scope.specs.declared.faults.ScopeFault.TheVariants as scope
+use Rattle.cw_source.specs.declared.fault.SourceFault.{SourceFault}
+use Rattle.cw_source.specs.declared.fault.SourceFault.TheVariants as source
+use Rattle.cw_source.specs.Read.{IsFaultOf, IsOfGrammar}
+use Rattle.cw_source.specs.Lines.{fault_line as source_line}
 use Rattle.cw_echeck.specs.Beating.{IsGameOf}
 use Rattle.cw_text.specs.StrategyText.{strategy_text}
 use Rattle.cw_emit.specs.Cut.{cut}
 use Rattle.cw_emit.specs.Woven.{Stands}
 use Rattle.cw_cli.specs.declared.answer.Answer.{Answer}
-use Rattle.cw_cli.specs.declared.answer.Answer.TheVariants.{PolicyRefused as PolicyRefusedData, PolicyOverLimit as PolicyOverData, SourceNotYet as SourceData, PolicyNotYet as PolicyData, NoLabel as LabelData, Woven as WovenData, Refuted as RefutedData}
+use Rattle.cw_cli.specs.declared.answer.Answer.TheVariants.{PolicyRefused as PolicyRefusedData, PolicyOverLimit as PolicyOverData, SourceRefused as SourceRefusedData, SourceOverLimit as SourceOverData, SourceNotYet as SourceData, PolicyNotYet as PolicyData, NoLabel as LabelData, Woven as WovenData, Refuted as RefutedData}
 use Rattle.cw_cli.specs.Labels.{missing_label}
 
--- What may be due: a refusal of the policy with the line that tells why, of the source, of a label of the policy, a woven text, or the text
--- of a strategy.
+-- What may be due: a refusal of the policy or of the source with the line that tells why, that the source or the policy isn't of the first form,
+-- a label of the policy that the source hasn't, a woven text, or the text of a strategy.
 pub data Due : Type 0 where
   PolicyRefused : (line : List ℕ) → Due
   PolicyOverLimit : (line : List ℕ) → Due
+  SourceRefused : (line : List ℕ) → Due
+  SourceOverLimit : (line : List ℕ) → Due
   SourceNotYet : Due
   PolicyNotYet : Due
   NoLabel : (name : List ℕ) → Due
@@ -41,6 +48,8 @@ pub data Due : Type 0 where
 abbrev pub due_of : Answer → Due
 due_of (PolicyRefusedData line) = PolicyRefused line.items
 due_of (PolicyOverData line) = PolicyOverLimit line.items
+due_of (SourceRefusedData line) = SourceRefused line.items
+due_of (SourceOverData line) = SourceOverLimit line.items
 due_of SourceData = SourceNotYet
 due_of PolicyData = PolicyNotYet
 due_of (LabelData name) = NoLabel name.items
@@ -110,6 +119,24 @@ IsRefusalOf f (PolicyRefused line) = (f ≢ NoMemory) × (is_limit f ≡ false) 
 IsRefusalOf f (PolicyOverLimit line) = (f ≢ NoMemory) × (is_limit f ≡ true) × (line ≡ fault_line f)
 IsRefusalOf f due = ⊥
 
+-- the same of a source's fault
+abbrev pub is_source_limit : SourceFault → Bool
+is_source_limit source.TooDeep = true
+is_source_limit (source.Scope (scope.Limit quantity)) = true
+is_source_limit _ = false
+
+abbrev pub IsSourceRefusal : List ℕ → Bool → List ℕ → Type 0
+IsSourceRefusal text limit line = (f : SourceFault) × IsFaultOf text f × (f ≢ source.NoMemory) × (is_source_limit f ≡ limit) × (line ≡ source_line text f)
+
+abbrev pub IsSourceRefusalOf : List ℕ → SourceFault → Due → Type 0
+IsSourceRefusalOf text f (SourceRefused line) = (f ≢ source.NoMemory) × (is_source_limit f ≡ false) × (line ≡ source_line text f)
+IsSourceRefusalOf text f (SourceOverLimit line) = (f ≢ source.NoMemory) × (is_source_limit f ≡ true) × (line ≡ source_line text f)
+IsSourceRefusalOf text f due = ⊥
+
+-- the policy is spelled as a whole
+abbrev pub IsSpelled : List ℕ → Type 0
+IsSpelled policy = (whole : PlainPolicy) × Spells policy whole
+
 -- The policy is spelled as a whole, and the source has each label that it names.
 abbrev pub HasLabels : List ℕ → List ℕ → File → Type 0
 HasLabels policy source file = (whole : PlainPolicy) × Spells policy whole × (missing_label source file whole.labels ≡ None)
@@ -118,7 +145,9 @@ HasLabels policy source file = (whole : PlainPolicy) × Spells policy whole × (
 abbrev pub IsDue : List ℕ → List ℕ → Due → Type 0
 IsDue policy source (PolicyRefused line) = IsRefusal policy false line
 IsDue policy source (PolicyOverLimit line) = IsRefusal policy true line
-IsDue policy source SourceNotYet = ((whole : PlainPolicy) × Spells policy whole) × ((file : File) → ReadsFirst source file → ⊥)
+IsDue policy source (SourceRefused line) = IsSpelled policy × IsSourceRefusal source false line
+IsDue policy source (SourceOverLimit line) = IsSpelled policy × IsSourceRefusal source true line
+IsDue policy source SourceNotYet = IsSpelled policy × IsOfGrammar source × ((file : File) → ReadsFirst source file → ⊥)
 IsDue policy source (NoLabel name) =
     (file : File) × (whole : PlainPolicy) × ReadsFirst source file × Spells policy whole × (missing_label source file whole.labels ≡ Some name)
 IsDue policy source PolicyNotYet =

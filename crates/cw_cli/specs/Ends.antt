@@ -5,14 +5,16 @@ use Rattle.cw_io.specs.declared.fault.ReadFault.TheVariants.{TooLong}
 use Rattle.cw_io.specs.Files.{FilesByName, IsAnswer}
 use Rattle.cw_io.specs.Pieces.{Grows}
 use Rattle.cw_cli.specs.declared.ending.Ending.{Ending}
-use Rattle.cw_cli.specs.declared.ending.Ending.TheVariants.{Woven as WovenEnd, Refuted as RefutedEnd, PolicyRefused as PolicyRefusedEnd, PolicyOverLimit as PolicyOverEnd, SourceNotYet as SourceEnd, PolicyNotYet as PolicyEnd, NoLabel as LabelEnd, PolicyTooLong, SourceTooLong, PolicyUnread, SourceUnread, Unwritten, Memory}
-use Rattle.cw_cli.specs.Due.{Due, SourceNotYet, PolicyNotYet, NoLabel, PolicyRefused, PolicyOverLimit, Woven, Refuted, IsDue}
+use Rattle.cw_cli.specs.declared.ending.Ending.TheVariants.{Woven as WovenEnd, Refuted as RefutedEnd, PolicyRefused as PolicyRefusedEnd, PolicyOverLimit as PolicyOverEnd, SourceRefused as SourceRefusedEnd, SourceOverLimit as SourceOverEnd, SourceNotYet as SourceEnd, PolicyNotYet as PolicyEnd, NoLabel as LabelEnd, PolicyTooLong, SourceTooLong, PolicyUnread, SourceUnread, Unwritten, Memory}
+use Rattle.cw_cli.specs.Due.{Due, SourceNotYet, PolicyNotYet, NoLabel, PolicyRefused, PolicyOverLimit, SourceRefused, SourceOverLimit, Woven, Refuted, IsDue}
 
 abbrev pub status_of : Ending → ℕ
 status_of WovenEnd = 0
 status_of RefutedEnd = 1
 status_of (PolicyRefusedEnd words) = 4
 status_of (PolicyOverEnd words) = 5
+status_of (SourceRefusedEnd words) = 3
+status_of (SourceOverEnd words) = 5
 status_of SourceEnd = 3
 status_of PolicyEnd = 4
 status_of (LabelEnd name) = 4
@@ -62,6 +64,8 @@ Delivered old new faults faults' PolicyNotYet PolicyEnd = new ≡ old
 Delivered old new faults faults' (NoLabel name) (LabelEnd label) = (label.items ≡ name) × (new ≡ old)
 Delivered old new faults faults' (PolicyRefused line) (PolicyRefusedEnd words) = (words.items ≡ line) × (new ≡ old)
 Delivered old new faults faults' (PolicyOverLimit line) (PolicyOverEnd words) = (words.items ≡ line) × (new ≡ old)
+Delivered old new faults faults' (SourceRefused line) (SourceRefusedEnd words) = (words.items ≡ line) × (new ≡ old)
+Delivered old new faults faults' (SourceOverLimit line) (SourceOverEnd words) = (words.items ≡ line) × (new ≡ old)
 Delivered old new faults faults' (Woven text) WovenEnd = Grows old new text
 Delivered old new faults faults' (Woven text) Unwritten = GrowsByFront old new text × Rose faults faults'
 Delivered old new faults faults' (Woven text) Memory = GrowsByFront old new text

@@ -2,7 +2,7 @@
 use Rattle.std.specs.Prelude.{◌≡◌, ℕ, List, [], ◌∷◌, ◌++◌, Bool, true, false, Option, Some, None, codes, Result}
 use Rattle.cw_io.specs.Pieces.{Puts}
 use Rattle.cw_cli.specs.declared.ending.Ending.{Ending}
-use Rattle.cw_cli.specs.declared.ending.Ending.TheVariants.{Woven, Refuted, PolicyRefused, PolicyOverLimit, SourceNotYet, PolicyNotYet, NoLabel, PolicyTooLong, SourceTooLong, PolicyUnread, SourceUnread, Unwritten, Memory}
+use Rattle.cw_cli.specs.declared.ending.Ending.TheVariants.{Woven, Refuted, PolicyRefused, PolicyOverLimit, SourceRefused, SourceOverLimit, SourceNotYet, PolicyNotYet, NoLabel, PolicyTooLong, SourceTooLong, PolicyUnread, SourceUnread, Unwritten, Memory}
 use Rattle.cw_cli.specs.Ends.{GrowsByFront}
 
 -- a line of some words and a name behind them
@@ -20,6 +20,8 @@ line_of policy source Woven = None
 line_of policy source Refuted = None
 line_of policy source (PolicyRefused words) = Some (line words.items [])
 line_of policy source (PolicyOverLimit words) = Some (line words.items [])
+line_of policy source (SourceRefused words) = Some (line words.items [])
+line_of policy source (SourceOverLimit words) = Some (line words.items [])
 line_of policy source SourceNotYet = Some (line (codes "source: not yet") [])
 line_of policy source PolicyNotYet = Some (line (codes "policy: not yet") [])
 line_of policy source (NoLabel name) = Some (line (codes "policy: no label ") name.items)

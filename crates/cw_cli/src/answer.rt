@@ -7,7 +7,7 @@ ghost use Rattle.cw_certs.specs.Strategies.{strategy_of};
 ghost use Rattle.cw_model.specs.Boards.{problem_of};
 ghost use Rattle.cw_parse.specs.First.{ReadsFirst};
 ghost use Rattle.cw_text.specs.StrategyText.{strategy_text};
-ghost use Rattle.cw_cli.specs.Due.{due_of, HasLabels, IsDue, IsDueOf, IsPlainPolicy, IsRefusalOf};
+ghost use Rattle.cw_cli.specs.Due.{due_of, HasLabels, IsDue, IsDueOf, IsPlainPolicy, IsRefusalOf, IsSourceRefusalOf};
 ghost use Rattle.cw_cli.specs.Verdicts.{IsVerdict};
 
 use crate::labels::missing_label;
@@ -22,6 +22,8 @@ use cw_policies::{PolicyFault, put_fault, read_policy};
 use cw_policy::{ambient_tests, read_first_policy};
 use cw_regex::RegexFault;
 use cw_rights::Policy;
+use cw_scope::ScopeFault;
+use cw_source::{SourceFault, check_text, fault_line};
 use cw_syntax::program::Program;
 use cw_tables::heights::{height_at, heights};
 use cw_tables::strategies::env_table;
@@ -36,6 +38,10 @@ pub enum Answer {
     PolicyRefused(Vec<u8>),
     /// A quantity of the policy is over its limit: the line that tells which.
     PolicyOverLimit(Vec<u8>),
+    /// The source is refused: the line that tells why.
+    SourceRefused(Vec<u8>),
+    /// A quantity of the source is over its limit: the line that tells which.
+    SourceOverLimit(Vec<u8>),
     /// The source isn't of the form that is woven yet.
     SourceNotYet,
     /// The policy isn't of the form that is woven yet.
@@ -142,6 +148,21 @@ fn refusal(alloc: Global, fault: &PolicyFault) -> Result<Answer, NoMemory>
     }
 }
 
+/// The line of a source's first fault.
+fn source_refusal(alloc: Global, source: &[u8], fault: &SourceFault) -> Result<Answer, NoMemory>
+    ensures { IfOk result (λ answer. IsSourceRefusalOf source.now fault.now (due_of answer)) }
+{
+    let line = fault_line(alloc, source, fault)?;
+    match fault {
+        SourceFault::NoMemory => Err(NoMemory),
+        SourceFault::TooDeep => Ok(Answer::SourceOverLimit(line)),
+        SourceFault::Scope(ScopeFault::Limit(_)) => Ok(Answer::SourceOverLimit(line)),
+        SourceFault::Scope(_) | SourceFault::Lex(_) | SourceFault::Syntax(_) => {
+            Ok(Answer::SourceRefused(line))
+        }
+    }
+}
+
 /// What is due for a program and the bytes of a policy, which has no label that the source hasn't.
 fn fitted(
     alloc: Global,
@@ -168,6 +189,9 @@ pub fn due(alloc: Global, policy: &[u8], source: &[u8]) -> Result<Answer, NoMemo
         Ok(whole) => whole,
         Err(fault) => return refusal(alloc, &fault),
     };
+    if let Err(fault) = check_text(alloc, source) {
+        return source_refusal(alloc, source, &fault);
+    }
     let Some(program) = read_first(alloc, source)? else {
         return Ok(Answer::SourceNotYet);
     };

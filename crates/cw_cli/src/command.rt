@@ -33,6 +33,8 @@ fn deliver<O: Sink>(answer: Answer, out: &mut O) -> Ending
         Answer::NoLabel(name) => Ending::NoLabel(name),
         Answer::PolicyRefused(line) => Ending::PolicyRefused(line),
         Answer::PolicyOverLimit(line) => Ending::PolicyOverLimit(line),
+        Answer::SourceRefused(line) => Ending::SourceRefused(line),
+        Answer::SourceOverLimit(line) => Ending::SourceOverLimit(line),
         Answer::Woven(text) => match out.put(&text) {
             Ok(()) => Ending::Woven,
             Err(SinkFault::Failed) => Ending::Unwritten,

@@ -14,6 +14,10 @@ pub enum Ending {
     PolicyRefused(Vec<u8>),
     /// A quantity of the policy is over its limit, by this line.
     PolicyOverLimit(Vec<u8>),
+    /// The source is refused, by this line.
+    SourceRefused(Vec<u8>),
+    /// A quantity of the source is over its limit, by this line.
+    SourceOverLimit(Vec<u8>),
     /// The source isn't of the form that is woven yet.
     SourceNotYet,
     /// The policy isn't of the form that is woven yet.
@@ -43,6 +47,8 @@ pub(crate) fn status(ending: &Ending) -> u8
         Ending::Refuted => 1,
         Ending::PolicyRefused(_) => 4,
         Ending::PolicyOverLimit(_) => 5,
+        Ending::SourceRefused(_) => 3,
+        Ending::SourceOverLimit(_) => 5,
         Ending::SourceNotYet => 3,
         Ending::PolicyNotYet => 4,
         Ending::NoLabel(_) => 4,

@@ -40,6 +40,8 @@ pub(crate) fn put_ending<N: Sink>(
         Ending::Refuted => Ok(()),
         Ending::PolicyRefused(line) => put_line(note, line, b""),
         Ending::PolicyOverLimit(line) => put_line(note, line, b""),
+        Ending::SourceRefused(line) => put_line(note, line, b""),
+        Ending::SourceOverLimit(line) => put_line(note, line, b""),
         Ending::SourceNotYet => put_line(note, b"source: not yet", b""),
         Ending::PolicyNotYet => put_line(note, b"policy: not yet", b""),
         Ending::NoLabel(name) => put_line(note, b"policy: no label ", name),
