@@ -1,5 +1,5 @@
 -- Steps of the machine, as facts of what a stack accepts.
-use Rattle.std.proofs.Common.{◌≡◌, Bool, true, false, List, [], ◌∷◌, ◌++◌, refl, sym, ap, subst, ◌∙◌, append_assoc, Option, Some, None}
+use Rattle.std.proofs.Common.{◌≡◌, Bool, true, false, List, [], ◌∷◌, ◌++◌, refl, sym, ap, subst, ◌∙◌, append_assoc, Some, None}
 use Rattle.std.specs.Prelude.{is_some}
 use Rattle.cw_grammar.specs.declared.words.Word.{Word}
 use Rattle.cw_grammar.specs.declared.words.Lexeme.{Lexeme}

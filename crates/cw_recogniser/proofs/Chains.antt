@@ -4,9 +4,9 @@ use Rattle.cw_syntax.specs.Trees.{Tree}
 use Rattle.cw_syntax.specs.declared.program.Op.TheVariants as op
 use Rattle.cw_grammar.specs.declared.words.Lexeme.{Lexeme}
 use Rattle.cw_grammar.specs.declared.rules.Rule.{Rule}
-use Rattle.cw_grammar.specs.declared.rules.Rule.TheVariants.{Expression, Level, Unary, Postfix}
+use Rattle.cw_grammar.specs.declared.rules.Rule.TheVariants.{Level}
 use Rattle.cw_grammar.specs.Operators as operators
-use Rattle.cw_grammar.specs.Expressions.{loosest, node, IsLevel, IsBinary, IsDerived}
+use Rattle.cw_grammar.specs.Expressions.{node, IsLevel, IsDerived}
 use Rattle.cw_recogniser.proofs.Deeper.{derived_deeper}
 
 -- the tokens derive some tree by this rule

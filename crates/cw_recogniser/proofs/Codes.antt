@@ -1,10 +1,10 @@
 -- What is to come behind a token, as the code puts it together.
-use Rattle.std.proofs.Common.{◌≡◌, Bool, true, false, List, [], ◌∷◌, ◌++◌, reverse, refl, sym, ap, ◌∙◌, append_assoc, Option, Some, None}
+use Rattle.std.proofs.Common.{◌≡◌, Bool, true, false, List, [], ◌∷◌, ◌++◌, reverse, refl, sym, ap, ◌∙◌, append_assoc, Some, None}
 use Rattle.std.proofs.lemmas.List.{append-nil, reverse-append}
 use Rattle.cw_recogniser.specs.declared.kinds.Kind.{Kind}
 use Rattle.cw_recogniser.specs.declared.symbols.Symbol.{Symbol}
 use Rattle.cw_recogniser.specs.declared.symbols.Symbol.TheVariants as s
-use Rattle.cw_recogniser.specs.Machine.{Next, onto, either, after, expression, qualified, specifiers, type_name, declaration, keyword, statement, params_front, semicolon, may_be_empty, fed, feed}
+use Rattle.cw_recogniser.specs.Machine.{Next, onto, either, after, expression, qualified, specifiers, declaration, keyword, statement, params_front, semicolon, may_be_empty, fed, feed}
 
 onto_onto : (next : Next) (a b : List Symbol) → onto (onto next a) b ≡ onto next (a ++ b)
 onto_onto None a b = refl

@@ -1,25 +1,25 @@
 -- The recogniser reads declarations.
-use Rattle.std.proofs.Common.{◌≡◌, ℕ, zero, suc, ◌<◌, Bool, true, false, List, [], ◌∷◌, ◌++◌, length, refl, sym, ap, subst, ◌∙◌, append_assoc, Option, Some, None, arith}
+use Rattle.std.proofs.Common.{◌≡◌, ℕ, ◌<◌, Bool, true, false, List, [], ◌∷◌, ◌++◌, length, refl, sym, ap, subst, append_assoc, Option, Some, None, arith}
 use Rattle.std.proofs.lemmas.List.{append-nil}
 use Rattle.std.specs.Prelude.{is_some}
 use Rattle.cw_syntax.specs.Trees.{Tree, Trees, none, more, Declared, Declaration}
 use Rattle.cw_grammar.specs.declared.words.Word.{Word}
 use Rattle.cw_grammar.specs.declared.words.Word.TheVariants as w
 use Rattle.cw_grammar.specs.declared.words.Lexeme.{Lexeme}
-use Rattle.cw_grammar.specs.Lexemes.{Is, words, IsFlag, IsOptional, AreSeparated, IsBetween, IsEnded}
+use Rattle.cw_grammar.specs.Lexemes.{Is, IsFlag, IsOptional, AreSeparated, IsBetween, IsEnded}
 use Rattle.cw_grammar.specs.Types.{AreStars}
 use Rattle.cw_grammar.specs.Expressions.{IsExpression}
-use Rattle.cw_grammar.specs.Declarations.{IsName, Specifiers, IsArray, AreElements, IsInitialiser, IsItem, IsDeclaration}
+use Rattle.cw_grammar.specs.Declarations.{Specifiers, IsArray, AreElements, IsInitialiser, IsItem, IsDeclaration}
 use Rattle.cw_recogniser.specs.declared.kinds.Kind.{Kind}
 use Rattle.cw_recogniser.specs.declared.kinds.Kind.TheVariants as k
 use Rattle.cw_recogniser.specs.declared.symbols.Symbol.{Symbol}
 use Rattle.cw_recogniser.specs.declared.symbols.Symbol.TheVariants as s
 use Rattle.cw_recogniser.specs.Kinds.{kind_of_word}
 use Rattle.cw_recogniser.specs.Machine.{Next, onto, after, expression}
-use Rattle.cw_recogniser.proofs.Accepting.{Accepts, takes, step, step_kind, skip, pass, instead}
+use Rattle.cw_recogniser.proofs.Accepting.{Accepts, step, skip, pass, instead}
 use Rattle.cw_recogniser.proofs.Heads.{head, head_is, untaken, head_wider, is_end, one_word}
 use Rattle.cw_recogniser.proofs.TypesRead.{EndsType, reads_stars, stars_end, Declares, reads_specifiers}
-use Rattle.cw_recogniser.proofs.ExpressionsRead.{Reads, reads}
+use Rattle.cw_recogniser.proofs.ExpressionsRead.{reads}
 
 pub onto_none : (next : Next) → next ≡ onto next []
 onto_none None = refl
@@ -175,9 +175,9 @@ module _ (n : ℕ) where
   items_first specs [] x ts c rest below d is h = item_first specs x ts (c ∷ rest) below d (head_is is_item_end w.Semicolon c rest is refl) (pass is refl refl h)
   items_first specs (y ∷ ys) x ts c rest below (a, m, b, e, comma, p, q) is h =
       subst (λ (z : List Lexeme). FirstItem z (c ∷ rest) below) (sym e) (
-        joined a (m ∷ b) (c ∷ rest) below (
-          item_first specs x a (m ∷ (b ++ (c ∷ rest))) below p (head_is is_item_end w.Comma m (b ++ (c ∷ rest)) comma refl) (step comma refl (reads_first (items_first specs ys y b c rest below q is h)))
-        )
+      joined a (m ∷ b) (c ∷ rest) below (
+      item_first specs x a (m ∷ (b ++ (c ∷ rest))) below p (head_is is_item_end w.Comma m (b ++ (c ∷ rest)) comma refl) (step comma refl (reads_first (items_first specs ys y b c rest below q is h)))
+      )
       )
 
   pub first_ends : {ts rest : List Lexeme} {below : List Symbol} → FirstItem ts rest below → EndsType (ts ++ rest)

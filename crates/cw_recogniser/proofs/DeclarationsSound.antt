@@ -1,19 +1,18 @@
 -- What the recogniser takes for a declaration is one.
-use Rattle.std.proofs.Common.{◌≡◌, ℕ, zero, suc, ◌≤◌, ◌<◌, max, Bool, true, false, List, [], ◌∷◌, ◌++◌, length, refl, sym, ap, subst, ◌∙◌, append_assoc, inl, inr, ◌⊎◌, Option, Some, None, arith}
+use Rattle.std.proofs.Common.{◌≡◌, ℕ, max, true, false, List, [], ◌∷◌, ◌++◌, refl, sym, ap, subst, ◌∙◌, append_assoc, Some, None, arith}
 use Rattle.std.proofs.lemmas.List.{append-nil}
-use Rattle.cw_syntax.specs.Trees.{Tree, Trees, none, more, Declared, Declaration}
+use Rattle.cw_syntax.specs.Trees.{Tree, Trees, none, more, Declaration}
 use Rattle.cw_grammar.specs.declared.words.Word.TheVariants as w
 use Rattle.cw_grammar.specs.declared.words.Lexeme.{Lexeme}
 use Rattle.cw_grammar.specs.declared.rules.Rule.TheVariants.{Expression}
-use Rattle.cw_grammar.specs.Lexemes.{Is, words, name_of, from_of, to_of, IsOptional, AreSeparated, IsBetween, trees}
+use Rattle.cw_grammar.specs.Lexemes.{Is, name_of, from_of, to_of, IsBetween, trees}
 use Rattle.cw_grammar.specs.Expressions.{IsExpression}
-use Rattle.cw_grammar.specs.Declarations.{Specifiers, pointer, AreElements, IsInitialiser, IsItem, IsDeclaration}
+use Rattle.cw_grammar.specs.Declarations.{pointer, AreElements, IsInitialiser, IsItem, IsDeclaration}
 use Rattle.cw_recogniser.specs.declared.kinds.Kind.{Kind}
 use Rattle.cw_recogniser.specs.declared.kinds.Kind.TheVariants as k
-use Rattle.cw_recogniser.specs.declared.symbols.Symbol.{Symbol}
 use Rattle.cw_recogniser.specs.declared.symbols.Symbol.TheVariants as s
 use Rattle.cw_recogniser.specs.Kinds.{kind_of_word}
-use Rattle.cw_recogniser.specs.Machine.{onto, after, array, initialiser, initial, more_elements, more_items, expression, specifiers, declaration}
+use Rattle.cw_recogniser.specs.Machine.{after, array, initialiser, initial, more_elements, more_items, expression, specifiers, declaration}
 use Rattle.cw_recogniser.proofs.Deeper.{expression_deeper, separated_weaker, array_weaker, initialiser_weaker, item_weaker}
 use Rattle.cw_recogniser.proofs.Chains.{Stands}
 use Rattle.cw_recogniser.proofs.Meanings.{SomeStars, SomeSpecifiers, SomeArray, SomeInitialiser, SomeElements, SomeItem, SomeItems, Means, Follow, Given, split_follow, split_onto, exact}
@@ -35,9 +34,6 @@ initialiser_sound k.Assign t a rest e h = h t (exact t k.Assign w.Assign e refl)
 initialiser_sound _ t a rest e h = absurd h
 
 -- ---- elements
-
-one_element : (b : List Lexeme) (h : Stands Expression b) → AreSeparated (IsExpression h.nesting) b (h.tree ∷ [])
-one_element b h = h.derives
 
 pub more_elements_none : (rest : List Lexeme) → Means s.MoreElements [] rest
 more_elements_none rest b h = (h.nesting, h.tree ∷ [], (b, [], false, refl, omega arith, h.derives, refl))

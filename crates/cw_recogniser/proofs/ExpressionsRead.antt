@@ -1,15 +1,12 @@
 -- The recogniser reads what derives an expression.
-use Rattle.std.proofs.Common.{◌≡◌, ℕ, zero, suc, Bool, true, false, List, [], ◌∷◌, ◌++◌, refl, sym, ap, subst, ◌∙◌, append_assoc, inl, inr, ◌⊎◌, Option, Some, None}
+use Rattle.std.proofs.Common.{◌≡◌, ℕ, zero, suc, true, false, List, [], ◌∷◌, ◌++◌, refl, ap, subst, ◌∙◌, append_assoc, inl, inr, Some, None}
 use Rattle.std.specs.Prelude.{is_some}
-use Rattle.cw_syntax.specs.declared.program.CType.{CType}
 use Rattle.cw_syntax.specs.Trees.{Tree}
 use Rattle.cw_grammar.specs.declared.words.Word.{Word}
 use Rattle.cw_grammar.specs.declared.words.Word.TheVariants as w
 use Rattle.cw_grammar.specs.declared.words.Lexeme.{Lexeme}
 use Rattle.cw_grammar.specs.declared.rules.Rule.TheVariants.{Expression, Level, Unary, Postfix}
-use Rattle.cw_grammar.specs.Lexemes.{Is, AreSeparated, IsBetween}
-use Rattle.cw_grammar.specs.Types.{IsTypeName}
-use Rattle.cw_grammar.specs.Operators as operators
+use Rattle.cw_grammar.specs.Lexemes.{Is, AreSeparated}
 use Rattle.cw_grammar.specs.Expressions.{loosest, AreStrings, IsPrimary, IsPostfix, IsUnary, IsOperand, IsLevel, IsDerived}
 use Rattle.cw_recogniser.specs.declared.kinds.Kind.{Kind}
 use Rattle.cw_recogniser.specs.declared.kinds.Kind.TheVariants as k
@@ -17,7 +14,7 @@ use Rattle.cw_recogniser.specs.declared.symbols.Symbol.{Symbol}
 use Rattle.cw_recogniser.specs.declared.symbols.Symbol.TheVariants as s
 use Rattle.cw_recogniser.specs.Kinds.{kind_of_word}
 use Rattle.cw_recogniser.specs.Machine.{onto, either, after, unary, expression, qualified, type_name}
-use Rattle.cw_recogniser.proofs.Accepting.{Accepts, takes, step, step_kind, skip, pass, instead}
+use Rattle.cw_recogniser.proofs.Accepting.{Accepts, step, step_kind, skip, pass, instead}
 use Rattle.cw_recogniser.proofs.WordKinds.{sign_begins, step_begins, suffix_is, is_between, binary_goes_on, binary_may_assign, binary_between, assign_goes_on, assign_between}
 use Rattle.cw_recogniser.proofs.Heads.{head, head_is, untaken, head_wider, is_end, is_halt, is_follower, end_halts, halt_follows, no_tail, no_suffix, no_call, no_text}
 use Rattle.cw_recogniser.proofs.TypesRead.{reads_type_name}
@@ -238,9 +235,9 @@ module _ (n : ℕ) (r : Reads n) where
   reads_first (suc l) a x rest below (inl d) f g h = reads_first l a x rest below d f g h
   reads_first (suc l) a x rest below (inr (b, t, c, number, y, z, e, op, p, q, _)) f g h =
       rw (e, append_assoc) (
-        r.first (suc l) b y (t ∷ (c ++ rest)) below p (between t (c ++ rest) (binary_between t.word number (suc l) op))
-          (step_kind (binary_may_assign t.word number (suc l) op) (r.chain l c z rest below q f h))
-          (step_kind (binary_goes_on t.word number (suc l) op) (r.chain l c z rest below q f h))
+      r.first (suc l) b y (t ∷ (c ++ rest)) below p (between t (c ++ rest) (binary_between t.word number (suc l) op))
+      (step_kind (binary_may_assign t.word number (suc l) op) (r.chain l c z rest below q f h))
+      (step_kind (binary_goes_on t.word number (suc l) op) (r.chain l c z rest below q f h))
       )
 
   -- ---- expressions

@@ -1,9 +1,8 @@
 -- What the recogniser takes for an expression is one.
-use Rattle.std.proofs.Common.{◌≡◌, ℕ, zero, suc, ◌≤◌, max, Bool, true, false, List, [], ◌∷◌, ◌++◌, refl, sym, ap, subst, ◌∙◌, append_assoc, inl, inr, ◌⊎◌, Some, None, arith}
+use Rattle.std.proofs.Common.{◌≡◌, ℕ, zero, suc, max, Bool, true, false, List, [], ◌∷◌, ◌++◌, refl, sym, ap, subst, ◌∙◌, append_assoc, inl, inr, ◌⊎◌, Some, arith}
 use Rattle.std.proofs.lemmas.List.{append-nil}
 use Rattle.cw_syntax.specs.declared.program.Op.TheVariants as op
 use Rattle.cw_syntax.specs.Trees.{Tree}
-use Rattle.cw_grammar.specs.declared.words.Word.{Word}
 use Rattle.cw_grammar.specs.declared.words.Word.TheVariants as w
 use Rattle.cw_grammar.specs.declared.words.Lexeme.{Lexeme}
 use Rattle.cw_grammar.specs.declared.rules.Rule.{Rule}
@@ -13,14 +12,13 @@ use Rattle.cw_grammar.specs.Operators as operators
 use Rattle.cw_grammar.specs.Expressions.{loosest, node, AreStrings, IsDerived, IsExpression}
 use Rattle.cw_recogniser.specs.declared.kinds.Kind.{Kind}
 use Rattle.cw_recogniser.specs.declared.kinds.Kind.TheVariants as k
-use Rattle.cw_recogniser.specs.declared.symbols.Symbol.{Symbol}
 use Rattle.cw_recogniser.specs.declared.symbols.Symbol.TheVariants as s
 use Rattle.cw_recogniser.specs.Kinds.{kind_of_word}
-use Rattle.cw_recogniser.specs.Machine.{onto, either, unary, expression, operand, plain_unary, measured, call, texts, suffixes, operator, assignment, more_arguments, type_name, after}
+use Rattle.cw_recogniser.specs.Machine.{onto, unary, expression, operand, plain_unary, measured, call, texts, suffixes, operator, assignment, more_arguments, type_name, after}
 use Rattle.cw_recogniser.proofs.WordKinds.{is_constant, is_sign, is_step, is_suffix, is_binary, is_assign}
 use Rattle.cw_recogniser.proofs.Deeper.{derived_deeper, expression_deeper, separated_weaker}
 use Rattle.cw_recogniser.proofs.Chains.{Stands, stands, raise, joined}
-use Rattle.cw_recogniser.proofs.Meanings.{Mark, SomeTypeName, SomeArguments, MoreThanNone, Means, Given, split_onto, split_either, exact}
+use Rattle.cw_recogniser.proofs.Meanings.{Mark, SomeTypeName, SomeArguments, Means, Given, split_onto, split_either, exact}
 use Rattle.cw_recogniser.proofs.TypesSound.{type_name_sound}
 
 abbrev pub along : (rule : Rule) {a b : List Lexeme} → a ≡ b → Stands rule b → Stands rule a
@@ -175,8 +173,8 @@ by_cast : (kind : Kind) (o t : Lexeme) (a rest : List Lexeme) → Is w.Open o �
 by_cast kind o t a rest is e h =
     let x = split_onto (type_name kind) s.Close (s.Operand ∷ []) a rest h in
     cast x.0 x.1 x.2 (type_name_sound kind t x.0 (x.1 ++ rest) e x.3) x.4 where
-  cast : (b c : List Lexeme) → a ≡ b ++ c → SomeTypeName (t ∷ b) → (l : List Lexeme) × (d : List Lexeme) × (c ≡ l ++ d) × Mark w.Close l × Stands (Level 0) d → Stands (Level 0) (o ∷ t ∷ a)
-  cast b c f n (l, d, g, (z, i, q), h) = along (Level 0) (ap (λ (y : List Lexeme). o ∷ t ∷ y) (rw (f, g, i) refl)) (cast_operand o z (t ∷ b) d is q n h)
+      cast : (b c : List Lexeme) → a ≡ b ++ c → SomeTypeName (t ∷ b) → (l : List Lexeme) × (d : List Lexeme) × (c ≡ l ++ d) × Mark w.Close l × Stands (Level 0) d → Stands (Level 0) (o ∷ t ∷ a)
+      cast b c f n (l, d, g, (z, i, q), h) = along (Level 0) (ap (λ (y : List Lexeme). o ∷ t ∷ y) (rw (f, g, i) refl)) (cast_operand o z (t ∷ b) d is q n h)
 
 pub opened_sound : (kind : Kind) (t : Lexeme) (a rest : List Lexeme) → kind_of_word t.word ≡ kind → Given (after s.Opened kind) a rest → Means s.Opened (t ∷ a) rest
 opened_sound kind t a rest e h = λ o is. by_form o is (split_either (onto (type_name kind) (s.Close ∷ s.Operand ∷ s.Tail false ∷ [])) (onto (expression kind) (s.Close ∷ s.Suffixes ∷ s.Tail true ∷ [])) a rest h) where
@@ -185,11 +183,13 @@ opened_sound kind t a rest e h = λ o is. by_form o is (split_either (onto (type
       let first = cast_operand o z (t ∷ b) u is q n h in
       let ok = tail (o ∷ ((t ∷ b) ++ (z ∷ u))) first in
       along Expression (ap (λ (y : List Lexeme). o ∷ t ∷ y) (rw (f, g, i, j) (sym (append_assoc b (z ∷ u) v)))) (chain_expression ((o ∷ ((t ∷ b) ++ (z ∷ u))) ++ v) ok)
+
   paren : (o : Lexeme) → Is w.Open o → (b c : List Lexeme) → a ≡ b ++ c → Stands Expression (t ∷ b) → (l : List Lexeme) × (d : List Lexeme) × (c ≡ l ++ d) × Mark w.Close l × ((u : List Lexeme) × (v : List Lexeme) × (d ≡ u ++ v) × Means s.Suffixes u (v ++ rest) × Means (s.Tail true) v rest) → Stands Expression (o ∷ t ∷ a)
   paren o is b c f h (l, d, g, (z, i, q), (u, v, j, suffixes, tail)) =
       let first = suffixes (o ∷ ((t ∷ b) ++ (z ∷ []))) (paren_postfix o z (t ∷ b) is q h) in
       let ok = tail ((o ∷ ((t ∷ b) ++ (z ∷ []))) ++ u) (postfix_unary ((o ∷ ((t ∷ b) ++ (z ∷ []))) ++ u) first) in
       along Expression (ap (λ (y : List Lexeme). o ∷ t ∷ y) (rw (f, g, i, j) (sym (ap (λ (y : List Lexeme). y ++ v) (append_assoc b (z ∷ []) u) ∙ append_assoc b (z ∷ u) v)))) ok
+
   by_form : (o : Lexeme) → Is w.Open o → Given (onto (type_name kind) (s.Close ∷ s.Operand ∷ s.Tail false ∷ [])) a rest ⊎ Given (onto (expression kind) (s.Close ∷ s.Suffixes ∷ s.Tail true ∷ [])) a rest → Stands Expression (o ∷ t ∷ a)
   by_form o is (inl g) = let x = split_onto (type_name kind) s.Close (s.Operand ∷ s.Tail false ∷ []) a rest g in cast o is x.0 x.1 x.2 (type_name_sound kind t x.0 (x.1 ++ rest) e x.3) x.4
   by_form o is (inr g) = let x = split_onto (expression kind) s.Close (s.Suffixes ∷ s.Tail true ∷ []) a rest g in paren o is x.0 x.1 x.2 (expression_sound kind t x.0 (x.1 ++ rest) e x.3) x.4
@@ -204,6 +204,7 @@ pub opened_measured_sound : (kind : Kind) (t : Lexeme) (a rest : List Lexeme) �
 opened_measured_sound kind t a rest e h = λ z o p is. by_form z o p is (split_either (onto (type_name kind) (s.Close ∷ [])) (onto (expression kind) (s.Close ∷ s.Suffixes ∷ [])) a rest h) where
   sized : (z o : Lexeme) → Is w.SizeOf z → Is w.Open o → (b c : List Lexeme) → a ≡ b ++ c → SomeTypeName (t ∷ b) → Mark w.Close c → Stands Unary (z ∷ o ∷ t ∷ a)
   sized z o p is b c f n (l, g, q) = along Unary (ap (λ (y : List Lexeme). z ∷ o ∷ t ∷ y) (rw (f, g) refl)) (measured_type z o l (t ∷ b) p is q n)
+
   by_form : (z o : Lexeme) → Is w.SizeOf z → Is w.Open o → Given (onto (type_name kind) (s.Close ∷ [])) a rest ⊎ Given (onto (expression kind) (s.Close ∷ s.Suffixes ∷ [])) a rest → Stands Unary (z ∷ o ∷ t ∷ a)
   by_form z o p is (inl g) = let x = split_onto (type_name kind) s.Close [] a rest g in sized z o p is x.0 x.1 x.2 (type_name_sound kind t x.0 (x.1 ++ rest) e x.3) x.4
   by_form z o p is (inr g) = measured_unary z (o ∷ t ∷ a) p (by_parens kind o t a rest is e g)

@@ -1,18 +1,16 @@
 -- The recogniser reads what derives a file.
-use Rattle.std.proofs.Common.{◌≡◌, ◌≢◌, ℕ, zero, suc, Bool, true, false, List, [], ◌∷◌, ◌++◌, refl, sym, ap, subst, ◌∙◌, append_assoc, inl, inr, ◌⊎◌, Option, Some, None}
+use Rattle.std.proofs.Common.{◌≡◌, ◌≢◌, ℕ, Bool, true, false, List, [], ◌∷◌, ◌++◌, refl, sym, subst, append_assoc, inl, inr, Option, Some, None}
 use Rattle.std.specs.Prelude.{is_some, ◌&&◌}
 use Rattle.cw_syntax.specs.declared.program.Name.{Name}
 use Rattle.cw_syntax.specs.declared.program.CType.{CType}
 use Rattle.cw_syntax.specs.declared.program.Param.{Param}
-use Rattle.cw_syntax.specs.Trees.{File, Declaration, Prototype, Definition}
-use Rattle.cw_grammar.specs.declared.words.Word.{Word}
+use Rattle.cw_syntax.specs.Trees.{Declaration}
 use Rattle.cw_grammar.specs.declared.words.Word.TheVariants as w
 use Rattle.cw_grammar.specs.declared.words.Lexeme.{Lexeme}
-use Rattle.cw_grammar.specs.Lexemes.{Is, words, AreAll, IsOptional, AreSeparated, IsBetween}
-use Rattle.cw_grammar.specs.Types.{AreStars}
+use Rattle.cw_grammar.specs.Lexemes.{Is, AreAll, IsOptional, AreSeparated}
 use Rattle.cw_grammar.specs.Expressions.{IsExpression}
 use Rattle.cw_grammar.specs.Declarations.{IsName, IsBrackets, IsParam, AreParams, IsHeader, IsDeclaration}
-use Rattle.cw_grammar.specs.Files.{AreNamed, Part, Declares, Holds, Defines, IsPart, IsFile, IsOfGrammar}
+use Rattle.cw_grammar.specs.Files.{AreNamed, Part, Declares, Holds, Defines, IsPart, IsOfGrammar}
 use Rattle.cw_recogniser.specs.declared.kinds.Kind.{Kind}
 use Rattle.cw_recogniser.specs.declared.kinds.Kind.TheVariants as k
 use Rattle.cw_recogniser.specs.declared.symbols.Symbol.{Symbol}
@@ -20,10 +18,10 @@ use Rattle.cw_recogniser.specs.declared.symbols.Symbol.TheVariants as s
 use Rattle.cw_recogniser.specs.Kinds.{kind_of_word}
 use Rattle.cw_recogniser.specs.Language.{IsText}
 use Rattle.cw_recogniser.specs.Machine.{onto, after, feed, qualified, start}
-use Rattle.cw_recogniser.proofs.Accepting.{then_done, accepts, Accepts, takes, step, step_kind, skip, pass, instead}
+use Rattle.cw_recogniser.proofs.Accepting.{then_done, accepts, Accepts, takes, step, skip, pass, instead}
 use Rattle.cw_recogniser.proofs.Heads.{head, head_is, untaken, one_word, two_words}
 use Rattle.cw_recogniser.proofs.TypesRead.{EndsType, reads_stars, stars_end, reads_type_name, Declares as DeclaresSymbol, reads_specifiers}
-use Rattle.cw_recogniser.proofs.DeclarationsRead.{FirstItem, items_first, first_of_items, first_ends}
+use Rattle.cw_recogniser.proofs.DeclarationsRead.{FirstItem, first_of_items, first_ends}
 use Rattle.cw_recogniser.proofs.StatementsRead.{reads_statements, reads_items}
 
 abbrev pub is_named : Param → Bool
@@ -82,15 +80,15 @@ param_begins named k.Long e = refl
 param_begins named k.Unsigned e = refl
 param_begins named _ e = absurd cc
 
-and_false : (b : Bool) → (b && false) ≡ false
+pub and_false : (b : Bool) → (b && false) ≡ false
 and_false true = refl
 and_false false = refl
 
-and_true : (b : Bool) → (b && true) ≡ b
+pub and_true : (b : Bool) → (b && true) ≡ b
 and_true true = refl
 and_true false = refl
 
-and_assoc : (a b c : Bool) → ((a && b) && c) ≡ (a && (b && c))
+pub and_assoc : (a b c : Bool) → ((a && b) && c) ≡ (a && (b && c))
 and_assoc true b c = refl
 and_assoc false b c = refl
 
@@ -119,7 +117,7 @@ named_stars false None b c rest e d f = rw (e, d) (untaken s.TwoStars is_param_e
 reads_param : (named : Bool) (p : Param) (ts rest : List Lexeme) (below : List Symbol) → IsParam ts p → head is_param_end rest ≡ true → Accepts (s.MoreParams (named && is_named p) ∷ below) rest → Accepts (s.Param named ∷ below) (ts ++ rest)
 reads_param named p ts rest below (a, b, c, e, t, m, d) f h =
     rw (e, append_assoc, append_assoc) (instead {first = s.Qualified} {symbol = s.Param named} (s.TwoStars ∷ s.AfterType named ∷ []) refl (param_begins named) (
-      reads_type_name a (b ++ (c ++ rest)) p.kind (s.AfterType named ∷ below) t (named_ends p.array p.name b c rest m d f) (named_stars p.array p.name b c rest m d f) (reads_named named p.array p.name b c rest below m d f h)
+    reads_type_name a (b ++ (c ++ rest)) p.kind (s.AfterType named ∷ below) t (named_ends p.array p.name b c rest m d f) (named_stars p.array p.name b c rest m d f) (reads_named named p.array p.name b c rest below m d f h)
     ))
 
 reads_list : (named : Bool) (ps : List Param) (p : Param) (ts : List Lexeme) (c : Lexeme) (rest : List Lexeme) (below : List Symbol) → AreSeparated IsParam ts (p ∷ ps) → Is w.Close c → Accepts (s.Ending (named && all_named (p ∷ ps)) ∷ below) rest → Accepts (s.Param named ∷ below) (ts ++ (c ∷ rest))
@@ -127,7 +125,7 @@ reads_list named [] p ts c rest below d is h =
     reads_param named p ts (c ∷ rest) below d (head_is is_param_end w.Close c rest is refl) (step is refl (subst (λ (z : Bool). Accepts (s.Ending (named && z) ∷ below) rest) (and_true (is_named p)) h))
 reads_list named (q ∷ ps) p ts c rest below (a, m, b, e, comma, d, g) is h =
     rw (e, append_assoc) (reads_param named p a (m ∷ (b ++ (c ∷ rest))) below d (head_is is_param_end w.Comma m (b ++ (c ∷ rest)) comma refl) (
-      step comma refl (reads_list (named && is_named p) ps q b c rest below g is (subst (λ (z : Bool). Accepts (s.Ending z ∷ below) rest) (sym (and_assoc named (is_named p) (all_named (q ∷ ps)))) h))
+    step comma refl (reads_list (named && is_named p) ps q b c rest below g is (subst (λ (z : Bool). Accepts (s.Ending z ∷ below) rest) (sym (and_assoc named (is_named p) (all_named (q ∷ ps)))) h))
     ))
 
 -- what may come behind a list with a nameless parameter may come behind any
@@ -182,8 +180,8 @@ reads_header ts rest name result ps below _ (a, b, c, d, specs, stars, e, are, s
     let after_name : Accepts (s.AfterDeclared ∷ s.Parts ∷ below) (o ∷ (inner ++ (l ∷ rest))) = step p refl (reads_params ps inner l rest (s.Parts ∷ below) params q h) in
     let ends : EndsType (b ++ (m ∷ o ∷ (inner ++ (l ∷ rest)))) = stars_end stars b (m ∷ o ∷ (inner ++ (l ∷ rest))) stars_are (rw is refl) in
     rw (e, e2, e3, append_assoc, append_assoc, append_assoc) (
-      reads_specifiers s.Parts (s.TwoStars ∷ s.Name ∷ s.AfterDeclared ∷ s.Parts ∷ []) parts_declare (b ++ (m ∷ o ∷ (inner ++ (l ∷ rest)))) below ends
-        (reads_stars stars b (m ∷ o ∷ (inner ++ (l ∷ rest))) (s.Name ∷ s.AfterDeclared ∷ s.Parts ∷ below) stars_are (rw is refl) (step is refl after_name)) a specs are
+    reads_specifiers s.Parts (s.TwoStars ∷ s.Name ∷ s.AfterDeclared ∷ s.Parts ∷ []) parts_declare (b ++ (m ∷ o ∷ (inner ++ (l ∷ rest)))) below ends
+    (reads_stars stars b (m ∷ o ∷ (inner ++ (l ∷ rest))) (s.Name ∷ s.AfterDeclared ∷ s.Parts ∷ below) stars_are (rw is refl) (step is refl after_name)) a specs are
     )
 
 -- the rest of a declaration behind its first name

@@ -1,24 +1,21 @@
 -- What the recogniser takes for a file is one.
-use Rattle.std.proofs.Common.{◌≡◌, ◌≢◌, ℕ, zero, suc, ◌≤◌, max, Bool, true, false, List, [], ◌∷◌, ◌++◌, refl, sym, ap, subst, ◌∙◌, append_assoc, inl, inr, ◌⊎◌, Option, Some, None, arith}
-use Rattle.std.proofs.lemmas.List.{append-nil}
+use Rattle.std.proofs.Common.{◌≡◌, max, Bool, true, false, List, [], ◌∷◌, ◌++◌, refl, sym, ap, subst, ◌∙◌, append_assoc, inl, inr, Option, arith}
 use Rattle.std.specs.Prelude.{is_some, ◌&&◌}
 use Rattle.cw_syntax.specs.declared.program.Name.{Name}
 use Rattle.cw_syntax.specs.declared.program.Param.{Param}
-use Rattle.cw_syntax.specs.Trees.{Declaration, Prototype, Definition}
 use Rattle.cw_grammar.specs.declared.words.Word.TheVariants as w
 use Rattle.cw_grammar.specs.declared.words.Lexeme.{Lexeme}
-use Rattle.cw_grammar.specs.Lexemes.{Is, name_of, AreAll, statements}
+use Rattle.cw_grammar.specs.Lexemes.{Is, name_of, statements}
 use Rattle.cw_grammar.specs.Declarations.{pointer, AreParams, IsHeader}
-use Rattle.cw_grammar.specs.Files.{AreNamed, Part, Declares, Holds, Defines, IsPart}
+use Rattle.cw_grammar.specs.Files.{AreNamed, Declares, Holds, Defines, IsPart}
 use Rattle.cw_recogniser.specs.declared.kinds.Kind.{Kind}
 use Rattle.cw_recogniser.specs.declared.kinds.Kind.TheVariants as k
-use Rattle.cw_recogniser.specs.declared.symbols.Symbol.{Symbol}
 use Rattle.cw_recogniser.specs.declared.symbols.Symbol.TheVariants as s
 use Rattle.cw_recogniser.specs.Kinds.{kind_of_word}
-use Rattle.cw_recogniser.specs.Machine.{onto, after, after_declared, specifiers}
+use Rattle.cw_recogniser.specs.Machine.{after, after_declared, specifiers}
 use Rattle.cw_recogniser.proofs.Deeper.{part_deeper, all_weaker}
-use Rattle.cw_recogniser.proofs.FilesRead.{is_named, all_named}
-use Rattle.cw_recogniser.proofs.Meanings.{SomeStars, SomeSpecifiers, SomeArray, SomeInitialiser, SomeItems, SomeParams, SomePart, SomeParts, SomeBody, Ends, Mark, Means, Follow, Given, split_follow, split_onto, exact}
+use Rattle.cw_recogniser.proofs.FilesRead.{all_named}
+use Rattle.cw_recogniser.proofs.Meanings.{SomeStars, SomeSpecifiers, SomeArray, SomeInitialiser, SomeItems, SomeParams, SomePart, SomeParts, Ends, Mark, Means, Follow, Given, split_follow, split_onto, exact}
 use Rattle.cw_recogniser.proofs.TypesSound.{specifiers_sound}
 use Rattle.cw_recogniser.proofs.DeclarationsSound.{array_none, array_sound, initialiser_none, initialiser_sound, more_items_none, more_items_sound, item_of, SomeDeclaration, declaration_of}
 

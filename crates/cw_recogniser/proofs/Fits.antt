@@ -1,5 +1,5 @@
 -- What completes each stack, and that what follows a symbol on a stack isn't taken by it.
-use Rattle.std.proofs.Common.{◌≡◌, Bool, true, false, List, [], ◌∷◌, ◌++◌, refl, sym, ap, subst, ◌∙◌, append_assoc, Option, Some, None}
+use Rattle.std.proofs.Common.{◌≡◌, Bool, true, false, List, [], ◌∷◌, ◌++◌, refl, sym, ap, subst, ◌∙◌, append_assoc, Some, None}
 use Rattle.std.specs.Prelude.{is_some, not}
 use Rattle.cw_grammar.specs.declared.words.Word.{Word}
 use Rattle.cw_grammar.specs.declared.words.Word.TheVariants as w
@@ -8,7 +8,6 @@ use Rattle.cw_recogniser.specs.declared.kinds.Kind.{Kind}
 use Rattle.cw_recogniser.specs.declared.kinds.Kind.TheVariants as k
 use Rattle.cw_recogniser.specs.declared.symbols.Symbol.{Symbol}
 use Rattle.cw_recogniser.specs.declared.symbols.Symbol.TheVariants as s
-use Rattle.cw_recogniser.specs.Kinds.{kind_of_word}
 use Rattle.cw_recogniser.specs.Machine.{Next, onto, either, after, may_be_empty, fed, feed, unary, expression, operand, plain_unary, measured, call, texts, suffixes, operator, assignment, more_arguments, bare_type, after_unsigned, after_long, qualified, specifiers, type_name, two_stars, one_star, declaration, array, initialiser, initial, more_elements, more_items, after_declared, param, params, after_type, after_void, brackets, more_params, ending, statement, after_name, maybe_else, for_init, opening, closing, close_bracket, close_brace, semicolon, while_word, name}
 use Rattle.cw_recogniser.proofs.Accepting.{Accepts, takes, step, skip}
 use Rattle.cw_recogniser.proofs.Heads.{head, untaken}

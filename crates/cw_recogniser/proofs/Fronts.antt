@@ -1,13 +1,12 @@
 -- Tokens that are each taken are a front of a text, and others are none.
-use Rattle.std.proofs.Common.{◌≡◌, Bool, true, false, List, [], ◌∷◌, ◌++◌, refl, sym, ap, subst, ◌∙◌, Option, Some, None}
+use Rattle.std.proofs.Common.{◌≡◌, true, false, List, [], ◌∷◌, ◌++◌, refl, sym, ap, subst, ◌∙◌, Some, None}
 use Rattle.std.proofs.lemmas.List.{append-nil}
 use Rattle.cw_grammar.specs.declared.words.Lexeme.{Lexeme}
 use Rattle.cw_recogniser.specs.declared.symbols.Symbol.{Symbol}
-use Rattle.cw_recogniser.specs.declared.symbols.Symbol.TheVariants as s
 use Rattle.cw_recogniser.specs.Kinds.{kind_of_word}
 use Rattle.cw_recogniser.specs.Language.{IsText, IsFront}
 use Rattle.cw_recogniser.specs.Machine.{Next, feed, run, is_done, start}
-use Rattle.cw_recogniser.proofs.Accepting.{then_done, accepts, Accepts}
+use Rattle.cw_recogniser.proofs.Accepting.{then_done, accepts}
 use Rattle.cw_recogniser.proofs.FilesRead.{reads_text}
 use Rattle.cw_recogniser.proofs.Sound.{is_text}
 use Rattle.cw_recogniser.proofs.Fits.{Fit, completed, completes, fed_fits}

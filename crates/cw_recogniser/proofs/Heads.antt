@@ -1,5 +1,5 @@
 -- What may follow, by the kind of the first token.
-use Rattle.std.proofs.Common.{◌≡◌, Bool, true, false, List, [], ◌∷◌, ◌++◌, refl, ap, map}
+use Rattle.std.proofs.Common.{◌≡◌, Bool, true, false, List, [], ◌∷◌, refl}
 use Rattle.std.specs.Prelude.{is_some}
 use Rattle.cw_grammar.specs.declared.words.Word.{Word}
 use Rattle.cw_grammar.specs.declared.words.Lexeme.{Lexeme}

@@ -1,38 +1,25 @@
 -- What the recogniser takes for parameters and what comes behind them is that.
-use Rattle.std.proofs.Common.{◌≡◌, ◌≢◌, ℕ, zero, suc, Bool, true, false, List, [], ◌∷◌, ◌++◌, refl, sym, ap, subst, ◌∙◌, append_assoc, inl, inr, ◌⊎◌, Option, Some, None, arith}
+use Rattle.std.proofs.Common.{◌≡◌, ◌≢◌, suc, Bool, true, false, List, [], ◌∷◌, ◌++◌, refl, sym, ap, subst, ◌∙◌, append_assoc, inl, inr, Option, Some, None, arith}
 use Rattle.std.proofs.lemmas.List.{append-nil}
-use Rattle.std.specs.Prelude.{is_some, ◌&&◌}
+use Rattle.std.specs.Prelude.{◌&&◌}
 use Rattle.cw_syntax.specs.declared.program.Name.{Name}
 use Rattle.cw_syntax.specs.declared.program.CType.{CType}
 use Rattle.cw_syntax.specs.declared.program.Param.{Param}
 use Rattle.cw_grammar.specs.declared.words.Word.{Word}
 use Rattle.cw_grammar.specs.declared.words.Word.TheVariants as w
 use Rattle.cw_grammar.specs.declared.words.Lexeme.{Lexeme}
-use Rattle.cw_grammar.specs.Lexemes.{Is, words, name_of, IsOptional, AreSeparated}
+use Rattle.cw_grammar.specs.Lexemes.{Is, words, name_of}
 use Rattle.cw_grammar.specs.Types.{IsTypeName}
-use Rattle.cw_grammar.specs.Declarations.{IsName, IsBrackets, IsParam, AreParams}
+use Rattle.cw_grammar.specs.Declarations.{IsBrackets, IsParam}
 use Rattle.cw_recogniser.specs.declared.kinds.Kind.{Kind}
 use Rattle.cw_recogniser.specs.declared.kinds.Kind.TheVariants as k
-use Rattle.cw_recogniser.specs.declared.symbols.Symbol.{Symbol}
 use Rattle.cw_recogniser.specs.declared.symbols.Symbol.TheVariants as s
 use Rattle.cw_recogniser.specs.Kinds.{kind_of_word}
-use Rattle.cw_recogniser.specs.Machine.{onto, after, param, params, after_type, after_void, brackets, more_params, ending, type_name}
+use Rattle.cw_recogniser.specs.Machine.{param, params, after_type, after_void, brackets, more_params, ending, type_name}
 use Rattle.cw_recogniser.proofs.Heads.{one_word}
-use Rattle.cw_recogniser.proofs.FilesRead.{is_named, all_named}
-use Rattle.cw_recogniser.proofs.Meanings.{SomeTypeName, SomeList, SomeParams, SomeBody, Ends, Means, Given, split_onto, exact}
+use Rattle.cw_recogniser.proofs.FilesRead.{and_true, and_false, and_assoc, is_named, all_named}
+use Rattle.cw_recogniser.proofs.Meanings.{SomeTypeName, SomeList, SomeParams, Ends, Means, Given, split_onto, exact}
 use Rattle.cw_recogniser.proofs.TypesSound.{type_name_sound}
-
-and_true : (b : Bool) → (b && true) ≡ b
-and_true true = refl
-and_true false = refl
-
-and_false : (b : Bool) → (b && false) ≡ false
-and_false true = refl
-and_false false = refl
-
-and_assoc : (a b c : Bool) → ((a && b) && c) ≡ (a && (b && c))
-and_assoc true b c = refl
-and_assoc false b c = refl
 
 abbrev param_of : CType → Option Name → Bool → Param
 param_of kind name array = record { kind = kind; name = name; array = array }
@@ -43,18 +30,17 @@ last_param : (before named : Bool) (b : List Lexeme) (p : Param) (c : Lexeme) (d
 last_param before named b p c d is e q h = (p, [], b, c, d, refl, is, q, subst (λ (z : Bool). Ends z d) (e ∙ ap (λ (z : Bool). before && z) (sym (and_true (is_named p)))) h)
 
 next_param : (before named : Bool) (b : List Lexeme) (p : Param) (c : Lexeme) (d : List Lexeme) → IsParam b p → named ≡ (before && is_named p) → Is w.Comma c → SomeList named d → SomeList before (b ++ (c ∷ d))
-next_param before named b p c d is e q (x, xs, u, l, v, f, h, close, ends) =
-    (
-      p,
-      x ∷ xs,
-      b ++ (c ∷ u),
-      l,
-      v,
-      ap (λ (z : List Lexeme). b ++ (c ∷ z)) f ∙ sym (append_assoc b (c ∷ u) (l ∷ v)),
-      (b, c, u, refl, q, is, h),
-      close,
-      subst (λ (z : Bool). Ends z v) (ap (λ (z : Bool). z && all_named (x ∷ xs)) e ∙ and_assoc before (is_named p) (all_named (x ∷ xs))) ends,
-    )
+next_param before named b p c d is e q (x, xs, u, l, v, f, h, close, ends) = (
+  p,
+  x ∷ xs,
+  b ++ (c ∷ u),
+  l,
+  v,
+  ap (λ (z : List Lexeme). b ++ (c ∷ z)) f ∙ sym (append_assoc b (c ∷ u) (l ∷ v)),
+  (b, c, u, refl, q, is, h),
+  close,
+  subst (λ (z : Bool). Ends z v) (ap (λ (z : Bool). z && all_named (x ∷ xs)) e ∙ and_assoc before (is_named p) (all_named (x ∷ xs))) ends,
+)
 
 pub more_params_sound : (named : Bool) (kind : Kind) (t : Lexeme) (a rest : List Lexeme) → kind_of_word t.word ≡ kind → Given (more_params named kind) a rest → Means (s.MoreParams named) (t ∷ a) rest
 more_params_sound named k.Comma t a rest e h = λ before b p is f. next_param before named b p t a is f (exact t k.Comma w.Comma e refl) h
@@ -122,8 +108,8 @@ pub after_void_sound : (kind : Kind) (t : Lexeme) (a rest : List Lexeme) → kin
 after_void_sound k.Close t a rest e h = λ v is. ([], v ∷ [], t, a, refl, inl (rw is refl, refl), exact t k.Close w.Close e refl, h)
 after_void_sound k.Star t a rest e h = λ v is.
     listed (v ∷ t ∷ a) (not_void_alone v t a (λ p. let f = kind_of t w.Close p in absurd cc)) (param_sound true k.Void v (t ∷ a) rest (kind_of v w.Void is) (starred h)) where
-  starred : (b : List Lexeme) × (c : List Lexeme) × (a ≡ b ++ c) × Means s.OneStar b (c ++ rest) × Means (s.AfterType true) c rest → Given (param true k.Void) (t ∷ a) rest
-  starred (b, c, f, (stars, le, ws), others) = (t ∷ b, c, ap (λ (z : List Lexeme). t ∷ z) f, (suc stars, (omega arith, rw (exact t k.Star w.Star e refl, ws) refl)), others)
+      starred : (b : List Lexeme) × (c : List Lexeme) × (a ≡ b ++ c) × Means s.OneStar b (c ++ rest) × Means (s.AfterType true) c rest → Given (param true k.Void) (t ∷ a) rest
+      starred (b, c, f, (stars, le, ws), others) = (t ∷ b, c, ap (λ (z : List Lexeme). t ∷ z) f, (suc stars, (omega arith, rw (exact t k.Star w.Star e refl, ws) refl)), others)
 after_void_sound kind t a rest e h = λ v is.
     listed (v ∷ t ∷ a) (not_void_alone v t a (λ p. let f = kind_of t w.Close p in absurd cc)) (after_type_sound true kind t a rest e h (v ∷ []) (void_type v is))
 

@@ -1,24 +1,23 @@
 -- The recogniser reads statements.
-use Rattle.std.proofs.Common.{◌≡◌, ◌≢◌, ℕ, zero, suc, Bool, true, false, List, [], ◌∷◌, ◌++◌, refl, sym, ap, subst, ◌∙◌, append_assoc, Option, Some, None}
+use Rattle.std.proofs.Common.{◌≡◌, ◌≢◌, ℕ, zero, suc, Bool, true, false, List, [], ◌∷◌, ◌++◌, refl, ap, append_assoc, Option, Some, None}
 use Rattle.std.specs.Prelude.{is_some}
 use Rattle.cw_syntax.specs.Trees.{Tree, Statement, Stated, Form, Block, Declares as DeclaresForm, Evaluates, Empties, Labels, Chooses, Whiles, Does, Fors, Breaks, Continues, Returns, Perhaps, nothing, just}
 use Rattle.cw_grammar.specs.declared.words.Word.{Word}
 use Rattle.cw_grammar.specs.declared.words.Word.TheVariants as w
 use Rattle.cw_grammar.specs.declared.words.Lexeme.{Lexeme}
-use Rattle.cw_grammar.specs.Lexemes.{Is, AreAll, IsOptional, IsEnded}
+use Rattle.cw_grammar.specs.Lexemes.{AreAll, IsOptional, IsEnded}
 use Rattle.cw_grammar.specs.Expressions.{IsExpression}
-use Rattle.cw_grammar.specs.Declarations.{IsDeclaration}
 use Rattle.cw_grammar.specs.Statements.{Place, InBlock, BeforeElse, Elsewhere, last, IsTest, IsInit, IsForm, IsStatement}
 use Rattle.cw_recogniser.specs.declared.kinds.Kind.{Kind}
 use Rattle.cw_recogniser.specs.declared.kinds.Kind.TheVariants as k
 use Rattle.cw_recogniser.specs.declared.symbols.Symbol.{Symbol}
 use Rattle.cw_recogniser.specs.declared.symbols.Symbol.TheVariants as s
 use Rattle.cw_recogniser.specs.Kinds.{kind_of_word}
-use Rattle.cw_recogniser.specs.Machine.{Next, onto, either, after, fed, feed, expression, specifiers, declaration, statement}
-use Rattle.cw_recogniser.proofs.Accepting.{then_done, accepts, Accepts, takes, step, step_kind, skip, pass, instead}
-use Rattle.cw_recogniser.proofs.Heads.{head, head_is, is_end, one_word, two_words}
+use Rattle.cw_recogniser.specs.Machine.{onto, either, after, feed, expression, declaration, statement}
+use Rattle.cw_recogniser.proofs.Accepting.{then_done, accepts, Accepts, takes, step, skip, pass, instead}
+use Rattle.cw_recogniser.proofs.Heads.{head_is, is_end, one_word, two_words}
 use Rattle.cw_recogniser.proofs.TypesRead.{Declares}
-use Rattle.cw_recogniser.proofs.ExpressionsRead.{Reads, reads}
+use Rattle.cw_recogniser.proofs.ExpressionsRead.{reads}
 use Rattle.cw_recogniser.proofs.DeclarationsRead.{reads_optional, reads_declaration, behind}
 
 -- ---- an expression in a statement's place
@@ -208,11 +207,11 @@ module _ (limit : ℕ) where
         rw (e, append_assoc, append_assoc) (step p refl (r.inner Elsewhere a body (l ∷ (b ++ (z ∷ rest))) (s.While ∷ s.Open ∷ s.Expression ∷ s.Close ∷ s.Semicolon ∷ below) elsewhere_inner d (rw q refl) (step q refl (reads_test b test (z ∷ rest) (s.Semicolon ∷ below) t (step is refl h)))))
     reads_form place (Fors init test each body) ts rest below u (i, o, a, b, c, l, e, p, q, d, t, g, v) f h =
         rw (e, append_assoc, append_assoc, append_assoc) (
-          step p refl (step q refl (reads_init init a (b ++ (c ++ (l ++ rest))) (s.MaybeExpression ∷ s.Semicolon ∷ s.MaybeExpression ∷ s.Close ∷ s.Statement ∷ below) d (
-            reads_ended test w.Semicolon s.Semicolon b (c ++ (l ++ rest)) (s.MaybeExpression ∷ s.Close ∷ s.Statement ∷ below) t refl refl (
-              reads_ended each w.Close s.Close c (l ++ rest) (s.Statement ∷ below) g refl refl (r.inner (last place) l body rest below (last_inner place) v (follows_last place rest f) h)
-            )
-          )))
+        step p refl (step q refl (reads_init init a (b ++ (c ++ (l ++ rest))) (s.MaybeExpression ∷ s.Semicolon ∷ s.MaybeExpression ∷ s.Close ∷ s.Statement ∷ below) d (
+        reads_ended test w.Semicolon s.Semicolon b (c ++ (l ++ rest)) (s.MaybeExpression ∷ s.Close ∷ s.Statement ∷ below) t refl refl (
+        reads_ended each w.Close s.Close c (l ++ rest) (s.Statement ∷ below) g refl refl (r.inner (last place) l body rest below (last_inner place) v (follows_last place rest f) h)
+        )
+        )))
         )
     reads_form place Breaks ts rest below u d f h = let x = two_words ts w.Break w.Semicolon d in rw x.2 (step x.3 refl (step x.4 refl h))
     reads_form place Continues ts rest below u d f h = let x = two_words ts w.Continue w.Semicolon d in rw x.2 (step x.3 refl (step x.4 refl h))

@@ -1,14 +1,13 @@
 -- What the recogniser takes for a statement is one.
-use Rattle.std.proofs.Common.{◌≡◌, ◌≢◌, ℕ, zero, suc, ◌≤◌, max, Bool, true, false, List, [], ◌∷◌, ◌++◌, refl, sym, ap, subst, ◌∙◌, append_assoc, inl, inr, ◌⊎◌, Option, Some, None, arith}
+use Rattle.std.proofs.Common.{◌≡◌, ◌≢◌, ℕ, suc, ◌≤◌, max, true, false, List, [], ◌∷◌, ◌++◌, refl, sym, ap, subst, ◌∙◌, append_assoc, inl, inr, ◌⊎◌, Option, arith}
 use Rattle.std.proofs.lemmas.List.{append-nil}
 use Rattle.cw_syntax.specs.Trees.{Tree, Statement, Stated, Form, Block, Declares, Evaluates, Empties, Labels, Chooses, Whiles, Does, Fors, Breaks, Continues, Returns, Perhaps, nothing, just}
-use Rattle.cw_grammar.specs.declared.words.Word.{Word}
 use Rattle.cw_grammar.specs.declared.words.Word.TheVariants as w
 use Rattle.cw_grammar.specs.declared.words.Lexeme.{Lexeme}
-use Rattle.cw_grammar.specs.declared.rules.Rule.TheVariants.{Expression, Level, Unary, Postfix}
-use Rattle.cw_grammar.specs.Lexemes.{Is, words, name_of, from_of, to_of, IsOptional, AreAll, statements}
+use Rattle.cw_grammar.specs.declared.rules.Rule.TheVariants.{Expression, Unary, Postfix}
+use Rattle.cw_grammar.specs.Lexemes.{Is, name_of, from_of, to_of, IsOptional, statements}
 use Rattle.cw_grammar.specs.Expressions.{IsExpression}
-use Rattle.cw_grammar.specs.Statements.{Place, InBlock, BeforeElse, Elsewhere, last, IsInit, IsForm, IsStatement}
+use Rattle.cw_grammar.specs.Statements.{Place, InBlock, BeforeElse, Elsewhere, last, IsInit, IsStatement}
 use Rattle.cw_recogniser.specs.declared.kinds.Kind.{Kind}
 use Rattle.cw_recogniser.specs.declared.kinds.Kind.TheVariants as k
 use Rattle.cw_recogniser.specs.declared.symbols.Symbol.{Symbol}
@@ -155,20 +154,20 @@ returns t z a rest p (n, x, d) q = record {
 -- ---- the symbols of statements
 
 test_split : (u : Symbol) (us : List Symbol) (a rest : List Lexeme) → Follow (s.Open ∷ s.Expression ∷ s.Close ∷ u ∷ us) a rest → (b : List Lexeme) × (c : List Lexeme) × (a ≡ b ++ c) × SomeTest b × Follow (u ∷ us) c rest
-test_split u us a rest (b, c, f, (o, g, p), (d, e, j, h, (l, m, v, (z, i, q), others))) =
-    (
-      o ∷ (d ++ (z ∷ [])),
-      m,
-      rw (f, g, j, v, i) (ap (λ (y : List Lexeme). o ∷ y) (sym (append_assoc d (z ∷ []) m))),
-      record { o = o; b = d; c = z; is_whole = refl; is_open = p; is_close = q; inside = h },
-      others,
-    )
+test_split u us a rest (b, c, f, (o, g, p), (d, e, j, h, (l, m, v, (z, i, q), others))) = (
+  o ∷ (d ++ (z ∷ [])),
+  m,
+  rw (f, g, j, v, i) (ap (λ (y : List Lexeme). o ∷ y) (sym (append_assoc d (z ∷ []) m))),
+  record { o = o; b = d; c = z; is_whole = refl; is_open = p; is_close = q; inside = h },
+  others,
+)
 
 if_sound : (t : Lexeme) (a rest : List Lexeme) → Is w.If t → Follow (s.Open ∷ s.Expression ∷ s.Close ∷ s.Statement ∷ s.MaybeElse ∷ []) a rest → OneStatement (t ∷ a) rest
 if_sound t a rest is h = by_test (test_split s.Statement (s.MaybeElse ∷ []) a rest h) where
   by_else : (b c d e : List Lexeme) → a ≡ b ++ c → SomeTest b → c ≡ d ++ e → OneStatement d (e ++ rest) → Means s.MaybeElse e rest → OneStatement (t ∷ a) rest
   by_else b c d e f test g x (inl (j, no_else)) = moved (ap (λ (z : List Lexeme). t ∷ z) (rw (f, g, j) (ap (λ (z : List Lexeme). b ++ z) (append-nil d)))) (chooses t b d rest (e ++ rest) is test x no_else)
   by_else b c d e f test g x (inr (l, m, j, q, y)) = moved (ap (λ (z : List Lexeme). t ∷ z) (rw (f, g, j) refl)) (chooses_else t l b d m rest (e ++ rest) is test x (rw (j, q) refl) q y)
+
   by_test : (b : List Lexeme) × (c : List Lexeme) × (a ≡ b ++ c) × SomeTest b × ((d : List Lexeme) × (e : List Lexeme) × (c ≡ d ++ e) × OneStatement d (e ++ rest) × Means s.MaybeElse e rest) → OneStatement (t ∷ a) rest
   by_test (b, c, f, test, (d, e, g, x, other)) = by_else b c d e f test g x other
 

@@ -1,12 +1,12 @@
 -- The recogniser reads types and what stands before declared names.
-use Rattle.std.proofs.Common.{◌≡◌, ℕ, zero, suc, ◌≤◌, Bool, true, false, List, [], ◌∷◌, ◌++◌, refl, sym, ap, ◌∙◌, append_assoc, inl, inr, ◌⊎◌, Option, Some, None, replicate, arith}
+use Rattle.std.proofs.Common.{◌≡◌, ℕ, zero, suc, Bool, true, false, List, [], ◌∷◌, ◌++◌, refl, ap, ◌∙◌, append_assoc, inl, inr, Some, replicate, arith}
 use Rattle.std.specs.Prelude.{is_some}
 use Rattle.cw_syntax.specs.declared.program.CType.{CType}
 use Rattle.cw_syntax.specs.declared.program.Base.{Base}
 use Rattle.cw_grammar.specs.declared.words.Word.{Word}
 use Rattle.cw_grammar.specs.declared.words.Word.TheVariants as w
 use Rattle.cw_grammar.specs.declared.words.Lexeme.{Lexeme}
-use Rattle.cw_grammar.specs.Lexemes.{Is, words, IsFlag}
+use Rattle.cw_grammar.specs.Lexemes.{words, IsFlag}
 use Rattle.cw_grammar.specs.Types.{IsType, AreStars, IsTypeName}
 use Rattle.cw_grammar.specs.Declarations.{IsStorage, Specifiers, AreSpecifiers}
 use Rattle.cw_recogniser.specs.declared.kinds.Kind.{Kind}
@@ -14,8 +14,8 @@ use Rattle.cw_recogniser.specs.declared.kinds.Kind.TheVariants as k
 use Rattle.cw_recogniser.specs.declared.symbols.Symbol.{Symbol}
 use Rattle.cw_recogniser.specs.declared.symbols.Symbol.TheVariants as s
 use Rattle.cw_recogniser.specs.Kinds.{kind_of_word}
-use Rattle.cw_recogniser.specs.Machine.{onto, after, after_unsigned, after_long, bare_type, qualified, specifiers}
-use Rattle.cw_recogniser.proofs.Accepting.{Accepts, takes, step, step_kind, skip, instead, moved}
+use Rattle.cw_recogniser.specs.Machine.{onto, after, after_unsigned, after_long, qualified, specifiers}
+use Rattle.cw_recogniser.proofs.Accepting.{Accepts, takes, step, skip, instead}
 use Rattle.cw_recogniser.proofs.Heads.{first_word, no_words, one_word, two_words, three_words}
 
 -- behind a type

@@ -1,17 +1,17 @@
 -- What the recogniser takes for a type is one.
-use Rattle.std.proofs.Common.{◌≡◌, ℕ, zero, suc, ◌≤◌, Bool, true, false, List, [], ◌∷◌, ◌++◌, replicate, refl, sym, ap, subst, ◌∙◌, append_assoc, inl, inr, ◌⊎◌, Some, None, arith}
+use Rattle.std.proofs.Common.{◌≡◌, suc, Bool, true, false, List, [], ◌∷◌, ◌++◌, refl, sym, ap, subst, append_assoc, inl, inr, ◌⊎◌, arith}
 use Rattle.cw_syntax.specs.declared.program.Base.{Base}
 use Rattle.cw_syntax.specs.declared.program.Base.TheVariants as base
 use Rattle.cw_grammar.specs.declared.words.Word.{Word}
 use Rattle.cw_grammar.specs.declared.words.Word.TheVariants as w
 use Rattle.cw_grammar.specs.declared.words.Lexeme.{Lexeme}
 use Rattle.cw_grammar.specs.Lexemes.{Is, words}
-use Rattle.cw_grammar.specs.Types.{IsAmong, type_words, IsType}
+use Rattle.cw_grammar.specs.Types.{IsAmong, type_words}
 use Rattle.cw_recogniser.specs.declared.kinds.Kind.{Kind}
 use Rattle.cw_recogniser.specs.declared.kinds.Kind.TheVariants as k
 use Rattle.cw_recogniser.specs.declared.symbols.Symbol.TheVariants as s
 use Rattle.cw_recogniser.specs.Kinds.{kind_of_word}
-use Rattle.cw_recogniser.specs.Machine.{onto, after_long, after_unsigned, bare_type, qualified, specifiers, type_name, two_stars, one_star}
+use Rattle.cw_recogniser.specs.Machine.{after_long, after_unsigned, bare_type, qualified, specifiers, type_name, two_stars, one_star}
 use Rattle.cw_recogniser.proofs.WordKinds.{is_storage}
 use Rattle.cw_recogniser.proofs.Meanings.{SomeType, SomeQualified, SomeStars, SomeTypeName, SomeSpecifiers, Means, Given, split_onto, exact}
 
@@ -42,7 +42,7 @@ unsigned_none t is = type_is (t ∷ []) (w.Unsigned ∷ []) base.Int true (one t
 pub long_sound : (kind : Kind) (t : Lexeme) (a rest : List Lexeme) → kind_of_word t.word ≡ kind → Given (after_long kind) a rest → Means s.AfterLong (t ∷ a) rest
 long_sound k.Int t a rest e h = (
   λ l p. rw h (type_is (l ∷ t ∷ []) (w.Long ∷ w.Int ∷ []) base.Long false (two l t w.Long w.Int p (exact t k.Int w.Int e refl)) (inr (inr (inr (inr (inr (inr (inr (inl refl))))))))),
-  λ u l q p. rw h (type_is (u ∷ l ∷ t ∷ []) (w.Unsigned ∷ w.Long ∷ w.Int ∷ []) base.Long true (three u l t w.Unsigned w.Long w.Int q p (exact t k.Int w.Int e refl)) (inr (inr (inr (inr (inr (inr (inr (inr (inr (inl refl)))))))))))
+  λ u l q p. rw h (type_is (u ∷ l ∷ t ∷ []) (w.Unsigned ∷ w.Long ∷ w.Int ∷ []) base.Long true (three u l t w.Unsigned w.Long w.Int q p (exact t k.Int w.Int e refl)) (inr (inr (inr (inr (inr (inr (inr (inr (inr (inl refl))))))))))),
 )
 long_sound _ t a rest e h = absurd h
 

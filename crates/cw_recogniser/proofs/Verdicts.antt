@@ -1,6 +1,6 @@
 -- What the loop over the tokens finds, and what it says of them.
-use Rattle.std.proofs.Common.{◌≡◌, ℕ, ◌+◌, ◌<◌, ◌≤◌, Bool, true, false, List, [], ◌∷◌, ◌++◌, length, take, drop, get_or, reverse, refl, sym, ap, subst, ◌∙◌, append_assoc, Option, Some, None, arith}
-use Rattle.std.proofs.lemmas.List.{append-nil, reverse-append, take_more, take_all, take-append-drop}
+use Rattle.std.proofs.Common.{◌≡◌, ℕ, ◌+◌, ◌<◌, ◌≤◌, Bool, true, false, List, [], ◌∷◌, ◌++◌, length, take, drop, get_or, reverse, refl, sym, ap, ◌∙◌, Option, Some, None, arith}
+use Rattle.std.proofs.lemmas.List.{reverse-append, take_more, take_all, take-append-drop}
 use Rattle.std.specs.Prelude.{is_some, ◌&&◌, IfOk, IfSome, IfNone, Result, Ok, Err}
 use Rattle.std.specs.List.{list_all}
 use Rattle.cw_grammar.specs.declared.words.Lexeme.{Lexeme}
@@ -8,6 +8,7 @@ use Rattle.cw_recogniser.specs.declared.symbols.Symbol.{Symbol}
 use Rattle.cw_recogniser.specs.Kinds.{kind_of_word}
 use Rattle.cw_recogniser.specs.Language.{IsText, IsFront}
 use Rattle.cw_recogniser.specs.Machine.{Next, may_be_empty, feed, run, is_done, start, accepted, IsVerdict, Steps}
+use Rattle.cw_recogniser.proofs.FilesRead.{and_assoc}
 use Rattle.cw_recogniser.proofs.Fronts.{is_front, no_front, no_text, done_text, open_text}
 
 go_on : Next → List Lexeme → Next
@@ -47,10 +48,7 @@ stopped ts i d stack lt e f =
 
 done_both : (a b : List Symbol) → is_done (a ++ b) ≡ (is_done a && is_done b)
 done_both [] b = refl
-done_both (s ∷ a) b = ap (λ (z : Bool). may_be_empty s && z) (done_both a b) ∙ sym (and_assoc (may_be_empty s) (is_done a) (is_done b)) where
-  and_assoc : (x y z : Bool) → ((x && y) && z) ≡ (x && (y && z))
-  and_assoc true y z = refl
-  and_assoc false y z = refl
+done_both (s ∷ a) b = ap (λ (z : Bool). may_be_empty s && z) (done_both a b) ∙ sym (and_assoc (may_be_empty s) (is_done a) (is_done b))
 
 and_comm : (x y : Bool) → (x && (y && true)) ≡ (y && x)
 and_comm true true = refl

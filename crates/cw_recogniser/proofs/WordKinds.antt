@@ -1,12 +1,11 @@
 -- What the kind of a word says of the word, and the other way round.
-use Rattle.std.proofs.Common.{◌≡◌, ℕ, suc, ◌<◌, ◌≤◌, Bool, true, false, List, [], ◌∷◌, refl, ◌⊎◌, inl, inr, Option, Some, None, arith}
+use Rattle.std.proofs.Common.{◌≡◌, ℕ, suc, ◌<◌, Bool, true, false, [], ◌∷◌, refl, ◌⊎◌, inl, inr, Option, Some, None, arith}
 use Rattle.std.specs.Prelude.{is_some}
 use Rattle.cw_grammar.specs.declared.words.Word.{Word}
 use Rattle.cw_grammar.specs.declared.words.Word.TheVariants as w
 use Rattle.cw_grammar.specs.Operators as operators
 use Rattle.cw_recogniser.specs.declared.kinds.Kind.{Kind}
 use Rattle.cw_recogniser.specs.declared.kinds.Kind.TheVariants as k
-use Rattle.cw_recogniser.specs.declared.symbols.Symbol.{Symbol}
 use Rattle.cw_recogniser.specs.declared.symbols.Symbol.TheVariants as s
 use Rattle.cw_recogniser.specs.Kinds.{kind_of_word}
 use Rattle.cw_recogniser.specs.Machine.{unary, operator, assignment}

@@ -6,13 +6,13 @@ ghost use Rattle.cw_recogniser.specs.declared.symbols.Symbol.TheVariants as s;
 ghost use Rattle.cw_recogniser.specs.Machine.{Next, onto, either, after, expression, qualified, may_be_empty, feed, Steps};
 
 use crate::kinds::Kind;
-use crate::symbols::Symbol;
 use crate::marks::{
     after_long_of, array_of, brackets_of, call_of, close_brace_of, close_bracket_of, closing_of,
     ending_of, initial_of, initialiser_of, maybe_else_of, more_arguments_of, more_elements_of,
     more_items_of, more_named_params_of, more_nameless_params_of, name_of, named_ending_of,
     one_star_of, opening_of, params_front_of, semicolon_of, texts_of, two_stars_of, while_of,
 };
+use crate::symbols::Symbol;
 use crate::tables::{
     after_declared_of, after_name_of, after_named_type_of, after_nameless_type_of,
     after_unsigned_of, after_void_of, assignment_of, expression_of, keyword_of, measured_of,
@@ -49,13 +49,23 @@ fn before(first: Option<&'static [Symbol]>, second: &'static [Symbol]) -> Option
 }
 
 /// Either a type or an expression, with what is to come behind each.
-fn type_or_expression(kind: Kind, behind_type: &'static [Symbol], behind_expression: &'static [Symbol]) -> Option<Coming>
+fn type_or_expression(
+    kind: Kind,
+    behind_type: &'static [Symbol],
+    behind_expression: &'static [Symbol],
+) -> Option<Coming>
     ensures { MatchOption result (either (onto (qualified kind) behind_type.now) (onto (expression kind) behind_expression.now) ≡ None) (λ new. either (onto (qualified kind) behind_type.now) (onto (expression kind) behind_expression.now) ≡ Some (new.first.now ++ new.second.now)) }
 {
     match qualified_of(kind) {
-        Some(first) => Some(Coming { first, second: behind_type }),
+        Some(first) => Some(Coming {
+            first,
+            second: behind_type,
+        }),
         None => match expression_of(kind) {
-            Some(first) => Some(Coming { first, second: behind_expression }),
+            Some(first) => Some(Coming {
+                first,
+                second: behind_expression,
+            }),
             None => None,
         },
     }
@@ -80,9 +90,15 @@ fn items_of(kind: Kind) -> Option<Coming>
             ],
         }),
         None => match keyword_of(kind) {
-            Some(first) => Some(Coming { first, second: &[Symbol::Items] }),
+            Some(first) => Some(Coming {
+                first,
+                second: &[Symbol::Items],
+            }),
             None => match expression_of(kind) {
-                Some(first) => Some(Coming { first, second: &[Symbol::Semicolon, Symbol::Items] }),
+                Some(first) => Some(Coming {
+                    first,
+                    second: &[Symbol::Semicolon, Symbol::Items],
+                }),
                 None => None,
             },
         },
@@ -97,7 +113,10 @@ fn params_of(kind: Kind) -> Option<Coming>
     match params_front_of(kind) {
         Some(first) => Some(Coming { first, second: &[] }),
         None => match qualified_of(kind) {
-            Some(first) => Some(Coming { first, second: &[Symbol::TwoStars, Symbol::AfterType(true)] }),
+            Some(first) => Some(Coming {
+                first,
+                second: &[Symbol::TwoStars, Symbol::AfterType(true)],
+            }),
             None => None,
         },
     }
@@ -123,7 +142,10 @@ fn for_init_of(kind: Kind) -> Option<Coming>
                 ],
             }),
             None => match expression_of(kind) {
-                Some(first) => Some(Coming { first, second: &[Symbol::Semicolon] }),
+                Some(first) => Some(Coming {
+                    first,
+                    second: &[Symbol::Semicolon],
+                }),
                 None => None,
             },
         },
@@ -137,7 +159,10 @@ fn statement_of(kind: Kind) -> Option<Coming>
     match keyword_of(kind) {
         Some(first) => Some(Coming { first, second: &[] }),
         None => match expression_of(kind) {
-            Some(first) => Some(Coming { first, second: &[Symbol::Semicolon] }),
+            Some(first) => Some(Coming {
+                first,
+                second: &[Symbol::Semicolon],
+            }),
             None => None,
         },
     }
@@ -162,7 +187,12 @@ fn after_of(symbol: Symbol, kind: Kind) -> Option<Coming>
         Symbol::Measured => alone(measured_of(kind)),
         Symbol::Opened => type_or_expression(
             kind,
-            &[Symbol::TwoStars, Symbol::Close, Symbol::Operand, Symbol::Tail(false)],
+            &[
+                Symbol::TwoStars,
+                Symbol::Close,
+                Symbol::Operand,
+                Symbol::Tail(false),
+            ],
             &[Symbol::Close, Symbol::Suffixes, Symbol::Tail(true)],
         ),
         Symbol::OpenedOperand => type_or_expression(
@@ -196,13 +226,24 @@ fn after_of(symbol: Symbol, kind: Kind) -> Option<Coming>
         Symbol::MoreItems => alone(more_items_of(kind)),
         Symbol::Parts => before(
             specifiers_of(kind),
-            &[Symbol::TwoStars, Symbol::Name, Symbol::AfterDeclared, Symbol::Parts],
+            &[
+                Symbol::TwoStars,
+                Symbol::Name,
+                Symbol::AfterDeclared,
+                Symbol::Parts,
+            ],
         ),
         Symbol::AfterDeclared => alone(after_declared_of(kind)),
         Symbol::Params => params_of(kind),
         Symbol::AfterVoid => alone(after_void_of(kind)),
-        Symbol::Param(true) => before(qualified_of(kind), &[Symbol::TwoStars, Symbol::AfterType(true)]),
-        Symbol::Param(false) => before(qualified_of(kind), &[Symbol::TwoStars, Symbol::AfterType(false)]),
+        Symbol::Param(true) => before(
+            qualified_of(kind),
+            &[Symbol::TwoStars, Symbol::AfterType(true)],
+        ),
+        Symbol::Param(false) => before(
+            qualified_of(kind),
+            &[Symbol::TwoStars, Symbol::AfterType(false)],
+        ),
         Symbol::AfterType(true) => alone(after_named_type_of(kind)),
         Symbol::AfterType(false) => alone(after_nameless_type_of(kind)),
         Symbol::Brackets => alone(brackets_of(kind)),

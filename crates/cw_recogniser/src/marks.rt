@@ -188,7 +188,13 @@ pub fn more_items_of(kind: Kind) -> Option<&'static [Symbol]>
     ensures { MatchOption result (more_items kind ≡ None) (λ new. more_items kind ≡ Some new.now) }
 {
     match kind {
-        Kind::Comma => Some(&[Symbol::TwoStars, Symbol::Name, Symbol::Array, Symbol::Initialiser, Symbol::MoreItems]),
+        Kind::Comma => Some(&[
+            Symbol::TwoStars,
+            Symbol::Name,
+            Symbol::Array,
+            Symbol::Initialiser,
+            Symbol::MoreItems,
+        ]),
         _ => None,
     }
 }

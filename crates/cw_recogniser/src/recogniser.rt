@@ -30,7 +30,11 @@ fn fault_of(alloc: Global, lexemes: &[Lexeme]) -> Result<Option<usize>, NoMemory
             return Ok(Some(index));
         }
     }
-    if may_end(&stack) { Ok(None) } else { Ok(Some(lexemes.len())) }
+    if may_end(&stack) {
+        Ok(None)
+    } else {
+        Ok(Some(lexemes.len()))
+    }
 }
 
 /// Whether the tokens are of the grammar, at any nesting, and else the number of those that are a front of some text of it:

@@ -235,7 +235,12 @@ pub fn keyword_of(kind: Kind) -> Option<&'static [Symbol]>
             Symbol::Statement,
             Symbol::MaybeElse,
         ]),
-        Kind::While => Some(&[Symbol::Open, Symbol::Expression, Symbol::Close, Symbol::Statement]),
+        Kind::While => Some(&[
+            Symbol::Open,
+            Symbol::Expression,
+            Symbol::Close,
+            Symbol::Statement,
+        ]),
         Kind::Do => Some(&[
             Symbol::Statement,
             Symbol::While,

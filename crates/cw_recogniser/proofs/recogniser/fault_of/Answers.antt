@@ -1,5 +1,4 @@
-use Rattle.std.proofs.Common.{rules, ◌≡◌, ◌+◌, ◌<◌, ◌≤◌, length, take, reverse, ap, sym, subst, ◌∙◌, Some, None, List, ℕ, arith}
-use Rattle.cw_grammar.specs.declared.words.Lexeme.{Lexeme}
+use Rattle.std.proofs.Common.{rules, ◌≡◌, ◌<◌, length, take, reverse, ap, sym, subst, ◌∙◌, Some, ℕ}
 use Rattle.cw_recogniser.specs.Machine.{feed, run, start}
 use Rattle.cw_recogniser.proofs.Verdicts.{run_more, stopped, ended, unended, steps_false, steps_true}
 use Rattle.cw_recogniser.proofs.recogniser.fault_of.Goals as goal
