@@ -55,7 +55,7 @@ ended_sound closes plain ts =
 abbrev pub IsDeclared : List Lexeme → Statement → Type 0
 IsDeclared ts s = (0 < length ts) × IsInit Allowed ts (just s) × ((n : ℕ) → IsStatement nesting_limit (suc n) InBlock ts s)
 
-declaration_some : (ts : List Lexeme) (d : Declaration) → IsDeclaration Allowed ts d → 0 < length ts
+pub declaration_some : (ts : List Lexeme) (d : Declaration) → IsDeclaration Allowed ts d → 0 < length ts
 declaration_some ts d (a, b, specs, parts, hs, e1, e2, e3, some, (inner, s, closed, semi, hitems), from, to) =
     omega (arith, ap length parts, ap length closed, length-append a b, length-append inner (s ∷ []))
 

@@ -167,7 +167,7 @@ read_statement (suc n) in_block ts = statement (read_statement n) in_block ts
 -- whether each parameter has a name
 abbrev pub all_named : List Param → Bool
 all_named [] = true
-all_named (p ∷ ps) = is_some p.name && all_named ps
+all_named (p ∷ ps) = if is_some p.name then all_named ps else false
 
 -- behind the header of a function
 unfoldable pub body : Prototype → List Lexeme → Read Part

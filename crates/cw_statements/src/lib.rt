@@ -1,5 +1,6 @@
 //! Statements, functions and files, read from tokens.
 #![tactic(auto)]
 
-pub mod heads;
-pub mod statements;
+pub mod files;
+mod heads;
+mod statements;

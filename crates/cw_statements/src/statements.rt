@@ -1,6 +1,7 @@
 //! Statements, by recursion on the nesting that is left.
 
-ghost use Rattle.std.specs.Prelude.{◌≡◌, true, false};
+ghost use Rattle.std.specs.Prelude.{◌≡◌, true, false, []};
+ghost use Rattle.cw_grammar.specs.Expressions.{nesting_limit};
 ghost use Rattle.cw_syntax.specs.Trees.{tree_of, statement_of};
 ghost use Rattle.cw_expressions.specs.Cursor.{Gives};
 ghost use Rattle.cw_declarations.specs.Lists.{one_more, many};
@@ -273,4 +274,14 @@ fn counted_at<'t>(
     let what = What::For(head, body);
     let from = word.from;
     Ok((Stmt { what, from, to }, rest))
+}
+
+/// Statements up to a brace.
+pub(crate) fn statements_at<'t>(
+    alloc: Global,
+    tokens: &'t [Lexeme],
+) -> Result<(Vec<Stmt>, &'t [Lexeme]), Refusal>
+    ensures { Gives several result (many (read_statement nesting_limit true) goes_on ([], tokens.now)) }
+{
+    statements_after(alloc, 64, (Vec::new(alloc), tokens))
 }
