@@ -1,6 +1,6 @@
 -- Statements are read as what they are, or nest too deep.
-use Rattle.std.proofs.Common.{◌≡◌, ℕ, zero, suc, ◌<◌, ◌≤◌, Bool, true, false, ◌&&◌, not, cond, List, [], ◌∷◌, ◌++◌, length, Option, Some, None, Result, Ok, Err, refl, sym, ap, subst, ◌∙◌, append_assoc, arith, length-append, inl, inr}
-use Rattle.std.specs.Prelude.{◌⊎◌, ◌≢◌}
+use Rattle.std.proofs.Common.{◌≡◌, ℕ, zero, suc, ◌<◌, Bool, true, false, not, cond, List, [], ◌∷◌, ◌++◌, length, Option, Result, Ok, refl, sym, ap, subst, ◌∙◌, append_assoc, arith, length-append, inl, inr}
+use Rattle.std.specs.Prelude.{◌≢◌}
 use Rattle.std.proofs.lemmas.Bool.{false≢true}
 use Rattle.std.proofs.lemmas.List.{append-nil}
 use Rattle.cw_syntax.specs.Trees.{Tree, Statement, Stated, Form, Block, Declares, Evaluates, Empties, Labels, Chooses, Whiles, Does, Fors, Breaks, Continues, Returns, Perhaps, nothing, just, Declaration}
@@ -9,18 +9,16 @@ use Rattle.cw_grammar.specs.declared.words.Lexeme.{Lexeme}
 use Rattle.cw_grammar.specs.declared.words.Word.{Word}
 use Rattle.cw_grammar.specs.declared.words.Word.TheVariants as w
 use Rattle.cw_grammar.specs.declared.rules.Rule.TheVariants.{Expression, Level}
-use Rattle.cw_grammar.specs.Words.{same}
 use Rattle.cw_grammar.specs.Lexemes.{Is, words, name_of, from_of, to_of, IsFlag, IsOptional, AreAll, IsBetween, IsEnded, statements}
 use Rattle.cw_grammar.specs.Expressions.{IsExpression, IsDerived, node, loosest, nesting_limit}
 use Rattle.cw_grammar.specs.Declarations.{IsDeclaration, IsStorage, Specifiers, AreSpecifiers}
 use Rattle.cw_grammar.specs.Statements.{Place, InBlock, BeforeElse, Elsewhere, last, IsTest, IsInit, IsForm, IsStatement}
 use Rattle.cw_grammar.proofs.SameWord.{is_plain}
 use Rattle.cw_expressions.specs.declared.refusal.Refusal.{Refusal}
-use Rattle.cw_expressions.specs.declared.refusal.Refusal.TheVariants as refusal
 use Rattle.cw_expressions.specs.Cursor.{◌>>=◌, begins, after, first, expect}
 use Rattle.cw_expressions.specs.Reading.{Read as ReadExpression, read_at}
 use Rattle.cw_expressions.specs.Next.{ends, next_expression}
-use Rattle.cw_expressions.proofs.Steps.{begins_again, begins_takes, from_of_append, to_of_cons, to_of_append}
+use Rattle.cw_expressions.proofs.Steps.{begins_again, begins_takes, to_of_cons, to_of_append}
 use Rattle.cw_expressions.proofs.Deeper.{level_above, loosest_expression}
 use Rattle.cw_expressions.proofs.Again.{Again}
 use Rattle.cw_expressions.proofs.Complete.{read_again}
@@ -30,7 +28,7 @@ use Rattle.cw_declarations.specs.Reading.{optional_expression, declaration, star
 use Rattle.cw_declarations.proofs.BothWays.{Reads, reads_bind, reads_then, reads_else, reads_of, reads_expect}
 use Rattle.cw_declarations.proofs.Listed.{Shortening, many_again}
 use Rattle.cw_declarations.proofs.Wording.{one_token, two_tokens, first_again, starts_base, starts_declarator, type_starts}
-use Rattle.cw_declarations.proofs.Complete.{Any, Deep, three, four, next_reads, optional_again, declaration_again, items_start, between_again}
+use Rattle.cw_declarations.proofs.Complete.{Deep, three, four, next_reads, optional_again, declaration_again, items_start, between_again}
 use Rattle.cw_statements.proofs.Sound.{read_shortens}
 use Rattle.cw_statements.specs.Reading.{test, ended, declares, declared, evaluated, start, short, returned, end_of, goes_on, block, labelled, chosen, branched, looped, done, counted, stated, statement, read_statement}
 
@@ -139,7 +137,7 @@ abbrev pair : Tree → List Lexeme → Tree × List Lexeme
 pair e rest = (e, rest)
 
 colon_clash : (D : Type 0) (ts : List Lexeme) (e f : Tree) (s u : Lexeme) (a b : List Lexeme) → next_expression ts ≡ found e (u ∷ a) → Reads D (next_expression ts) (f, s ∷ b) → Is w.Colon u → Is w.Semicolon s → ⊥
-colon_clash D ts e f s u a b p (inl q) colon semi = 
+colon_clash D ts e f s u a b p (inl q) colon semi =
     let r : found e (u ∷ a) ≡ found f (s ∷ b) = sym p ∙ q in
     let pairs : pair e (u ∷ a) ≡ pair f (s ∷ b) = cc in
     let lists : u ∷ a ≡ s ∷ b = ap (λ (z : Tree × List Lexeme). z.1) pairs in

@@ -1,12 +1,11 @@
 -- Files are read as what they are, or nest too deep.
-use Rattle.std.proofs.Common.{◌≡◌, ℕ, zero, suc, ◌<◌, ◌≤◌, Bool, true, false, cond, is_some, List, [], ◌∷◌, ◌++◌, length, Option, Some, None, Result, Ok, Err, refl, sym, ap, subst, ◌∙◌, append_assoc, arith, length-append, inl, inr}
+use Rattle.std.proofs.Common.{◌≡◌, ℕ, ◌<◌, true, false, cond, is_some, List, [], ◌∷◌, ◌++◌, length, Option, Some, None, Result, Ok, Err, refl, sym, ap, subst, ◌∙◌, append_assoc, arith, length-append, inl, inr}
 use Rattle.std.specs.Prelude.{◌⊎◌, ◌≢◌, IfOk}
-use Rattle.std.proofs.lemmas.Bool.{false≢true}
 use Rattle.std.proofs.lemmas.List.{append-nil}
 use Rattle.cw_syntax.specs.declared.program.Name.{Name}
 use Rattle.cw_syntax.specs.declared.program.CType.{CType}
 use Rattle.cw_syntax.specs.declared.program.Param.{Param}
-use Rattle.cw_syntax.specs.Trees.{Statement, Statements, Prototype, Declaration, Definition, File}
+use Rattle.cw_syntax.specs.Trees.{Statement, Statements, Prototype, Definition, File}
 use Rattle.cw_grammar.specs.declared.words.Lexeme.{Lexeme}
 use Rattle.cw_grammar.specs.declared.words.Word.TheVariants as w
 use Rattle.cw_grammar.specs.Lexemes.{Is, AreAll, statements}
@@ -15,17 +14,16 @@ use Rattle.cw_grammar.specs.Files.{AreNamed, Part, Declares, Holds, Defines, IsP
 use Rattle.cw_grammar.specs.Statements.{InBlock, IsStatement}
 use Rattle.cw_expressions.specs.declared.refusal.Refusal.{Refusal}
 use Rattle.cw_expressions.specs.declared.refusal.Refusal.TheVariants as refusal
-use Rattle.cw_expressions.specs.Cursor.{begins, after, expect, repeat}
+use Rattle.cw_expressions.specs.Cursor.{begins, expect}
 use Rattle.cw_expressions.proofs.Steps.{begins_again}
 use Rattle.cw_expressions.proofs.Repeat.{repeat_ends, repeat_fails, repeat_further}
 use Rattle.cw_declarations.specs.Lists.{Read, rest_after, many}
 use Rattle.cw_declarations.specs.Reading.{declaration, header, begins_header}
 use Rattle.cw_declarations.proofs.BothWays.{Reads, reads_bind, reads_then, reads_else, reads_of, reads_expect}
-use Rattle.cw_declarations.proofs.Sound.{HasHeader}
 use Rattle.cw_declarations.proofs.Complete.{declaration_again}
 use Rattle.cw_declarations.proofs.HeadersComplete.{header_again, header_next, declaration_next}
 use Rattle.cw_statements.specs.Reading.{goes_on, read_statement, all_named, body, headed, held, part, some_left, added, one_part, parts, no_parts, file}
-use Rattle.cw_statements.proofs.Sound.{read_shortens, declaration_some}
+use Rattle.cw_statements.proofs.Sound.{read_shortens}
 use Rattle.cw_statements.proofs.Complete.{statements_again, read_statement_again}
 use Rattle.cw_statements.proofs.FilesSound.{file_added, parts_shorten, file_sound}
 

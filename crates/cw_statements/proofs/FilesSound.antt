@@ -1,20 +1,18 @@
 -- What is read as a file is one.
-use Rattle.std.proofs.Common.{◌≡◌, ℕ, zero, suc, ◌<◌, ◌≤◌, Bool, true, false, cond, is_some, List, [], ◌∷◌, ◌++◌, length, Option, Some, None, Result, Ok, Err, refl, sym, ap, subst, ◌∙◌, append_assoc, arith, length-append}
+use Rattle.std.proofs.Common.{◌≡◌, ℕ, zero, suc, ◌<◌, Bool, true, false, cond, is_some, List, [], ◌∷◌, ◌++◌, length, Option, Some, None, Result, Ok, Err, refl, sym, ap, subst, ◌∙◌, arith, length-append}
 use Rattle.std.specs.Prelude.{IfOk, ◌≢◌}
 use Rattle.std.proofs.lemmas.Bool.{false≢true}
-use Rattle.std.proofs.lemmas.Result.{IfOk-weaker, IfOk-at_ok}
+use Rattle.std.proofs.lemmas.Result.{IfOk-at_ok}
 use Rattle.std.proofs.lemmas.List.{append-nil}
 use Rattle.cw_syntax.specs.declared.program.Name.{Name}
 use Rattle.cw_syntax.specs.declared.program.Param.{Param}
-use Rattle.cw_syntax.specs.Trees.{Statement, Prototype, Declaration, Definition, File}
+use Rattle.cw_syntax.specs.Trees.{Prototype, File}
 use Rattle.cw_grammar.specs.declared.words.Lexeme.{Lexeme}
 use Rattle.cw_grammar.specs.declared.words.Word.TheVariants as w
-use Rattle.cw_grammar.specs.Lexemes.{Is, AreAll, statements}
+use Rattle.cw_grammar.specs.Lexemes.{AreAll}
 use Rattle.cw_grammar.specs.Expressions.{nesting_limit}
-use Rattle.cw_grammar.specs.Files.{AreNamed, Part, Declares, Holds, Defines, IsPart, file_of, IsFile, IsProgram}
-use Rattle.cw_grammar.specs.Statements.{InBlock, IsStatement}
+use Rattle.cw_grammar.specs.Files.{AreNamed, Part, Declares, Holds, Defines, IsPart, file_of, IsFile}
 use Rattle.cw_expressions.specs.declared.refusal.Refusal.{Refusal}
-use Rattle.cw_expressions.specs.declared.refusal.Refusal.TheVariants as refusal
 use Rattle.cw_expressions.specs.Cursor.{begins, after, expect, repeat}
 use Rattle.cw_expressions.proofs.Steps.{if_bind, if_cond, expect_takes, begins_takes}
 use Rattle.cw_expressions.proofs.Repeat.{Shortens, repeat_keeps}

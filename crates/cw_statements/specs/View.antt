@@ -4,9 +4,6 @@ use Rattle.std.specs.Borrow.{Bor}
 use Rattle.std.specs.Global.{Vec}
 use Rattle.cw_syntax.specs.declared.program.Expr.{Expr}
 use Rattle.cw_syntax.specs.declared.program.Stmt.{Stmt}
-use Rattle.cw_syntax.specs.declared.program.Decl.{Decl}
-use Rattle.cw_syntax.specs.declared.program.Proto.{Proto}
-use Rattle.cw_syntax.specs.declared.program.Function.{Function}
 use Rattle.cw_syntax.specs.declared.program.Program.{Program}
 use Rattle.cw_syntax.specs.Trees.{Tree, tree_of, Statement, statement_of, Perhaps, nothing, just, File, file_of, declaration_of, prototype_of, definition_of}
 use Rattle.cw_grammar.specs.declared.words.Lexeme.{Lexeme}

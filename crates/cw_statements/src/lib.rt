@@ -4,3 +4,5 @@
 pub mod files;
 mod heads;
 mod statements;
+#[cfg(test)]
+mod tests;

@@ -8,7 +8,9 @@ ghost use Rattle.cw_declarations.specs.Lists.{one_more, many};
 ghost use Rattle.cw_statements.specs.Reading.{goes_on, block, labelled, chosen, branched, looped, done, counted, stated, statement, read_statement};
 ghost use Rattle.cw_statements.specs.View.{one, several};
 
-use crate::heads::{declared_at, declares_next, ended_at, evaluated_at, returned_at, short_at, start_at, test_at};
+use crate::heads::{
+    declared_at, declares_next, ended_at, evaluated_at, returned_at, short_at, start_at, test_at,
+};
 use cw_expressions::cursor::{begins_with, past, take};
 use cw_expressions::refusal::Refusal;
 use cw_grammar::words::{Lexeme, Word};

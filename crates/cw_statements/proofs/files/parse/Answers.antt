@@ -1,8 +1,7 @@
-use Rattle.std.proofs.Common.{◌≡◌, Err}
 use Rattle.cw_syntax.specs.Trees.{File, file_of}
 use Rattle.cw_grammar.specs.Files.{IsProgram}
 use Rattle.cw_expressions.specs.declared.refusal.Refusal.TheVariants as refusal
-use Rattle.cw_expressions.specs.Cursor.{Fails, Gives}
+use Rattle.cw_expressions.specs.Cursor.{Fails}
 use Rattle.cw_declarations.proofs.Whole.{gives_found, gives_as}
 use Rattle.cw_statements.specs.Reading.{file}
 use Rattle.cw_statements.proofs.FilesSound.{file_sound}
