@@ -2,3 +2,5 @@ pub mod Rows
 pub mod Sound
 pub mod Over
 pub mod Complete
+pub mod FilesSound
+pub mod FilesComplete

@@ -4,7 +4,7 @@ use Rattle.std.specs.Global.{Vec}
 use Rattle.cw_syntax.specs.declared.program.Stmt.{Stmt}
 use Rattle.cw_syntax.specs.declared.program.What.{Block as BlockWhat, Row_of-Stmt, end_of-Stmt, more_of-Stmt, items-the_row-Stmt, items_hidden-the_row-Stmt-0}
 use Rattle.cw_syntax.specs.declared.program.What.TheBlock.{hidden-the_row-Stmt-0}
-use Rattle.cw_syntax.specs.Trees.{Statements, Stated, Block, cons, form_of, row_statements, statement_of, statements_of}
+use Rattle.cw_syntax.specs.Trees.{Stated, Block, cons, form_of, row_statements, statement_of, statements_of}
 use Rattle.cw_grammar.specs.Lexemes.{statements}
 
 pub statements_map : (ss : List Stmt) → statements_of ss ≡ statements (map statement_of ss)

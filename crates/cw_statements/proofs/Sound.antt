@@ -1,18 +1,17 @@
 -- What is read as a statement is one.
-use Rattle.std.proofs.Common.{◌≡◌, ℕ, zero, suc, ◌<◌, ◌≤◌, Bool, true, false, ◌&&◌, not, cond, List, [], ◌∷◌, ◌++◌, length, Option, Some, None, Result, Ok, Err, refl, sym, ap, ◌∙◌, append_assoc, arith, length-append, inl, inr}
+use Rattle.std.proofs.Common.{◌≡◌, ℕ, zero, suc, ◌<◌, Bool, true, false, cond, List, [], ◌∷◌, ◌++◌, length, Option, Ok, refl, sym, ap, ◌∙◌, append_assoc, arith, length-append}
 use Rattle.std.specs.Prelude.{IfOk, ◌≢◌}
 use Rattle.std.proofs.lemmas.Bool.{false≢true}
 use Rattle.std.proofs.lemmas.Result.{IfOk-weaker}
-use Rattle.cw_syntax.specs.Trees.{Tree, Statement, Stated, Form, Block, Declares, Evaluates, Empties, Labels, Chooses, Whiles, Does, Fors, Breaks, Continues, Returns, Perhaps, nothing, just, Declaration}
+use Rattle.cw_syntax.specs.Trees.{Tree, Statement, Stated, Form, Empties, Breaks, Continues, just, Declaration}
 use Rattle.cw_grammar.specs.declared.words.Lexeme.{Lexeme}
 use Rattle.cw_grammar.specs.declared.words.Word.{Word}
 use Rattle.cw_grammar.specs.declared.words.Word.TheVariants as w
-use Rattle.cw_grammar.specs.Lexemes.{Is, words, name_of, from_of, to_of, IsOptional, AreAll, IsEnded, statements}
+use Rattle.cw_grammar.specs.Lexemes.{Is, words, from_of, to_of, IsOptional, AreAll, IsEnded}
 use Rattle.cw_grammar.specs.Expressions.{nesting_limit}
 use Rattle.cw_grammar.proofs.SameWord.{is_plain}
 use Rattle.cw_grammar.specs.Declarations.{IsDeclaration}
 use Rattle.cw_grammar.specs.Statements.{Place, InBlock, BeforeElse, Elsewhere, last, IsTest, IsInit, IsForm, IsStatement}
-use Rattle.cw_expressions.specs.declared.refusal.Refusal.TheVariants as refusal
 use Rattle.cw_expressions.specs.Cursor.{begins, after, first, expect}
 use Rattle.cw_expressions.specs.Next.{next_expression}
 use Rattle.cw_expressions.proofs.Steps.{if_bind, if_cond, first_takes, expect_takes, begins_takes, from_of_append, to_of_cons, to_of_append}
@@ -55,7 +54,7 @@ ended_sound closes plain ts =
 abbrev pub IsDeclared : List Lexeme → Statement → Type 0
 IsDeclared ts s = (0 < length ts) × IsInit Allowed ts (just s) × ((n : ℕ) → IsStatement nesting_limit (suc n) InBlock ts s)
 
-declaration_some : (ts : List Lexeme) (d : Declaration) → IsDeclaration Allowed ts d → 0 < length ts
+pub declaration_some : (ts : List Lexeme) (d : Declaration) → IsDeclaration Allowed ts d → 0 < length ts
 declaration_some ts d (a, b, specs, parts, hs, e1, e2, e3, some, (inner, s, closed, semi, hitems), from, to) =
     omega (arith, ap length parts, ap length closed, length-append a b, length-append inner (s ∷ []))
 
@@ -260,7 +259,7 @@ module _ (n : ℕ) (read : Bool → Reader Statement) (h : (flag : Bool) (ts : L
       let some : 0 < length d.0 = d.2 in
       let behind : o.1 ≡ (a.0 ++ inner) ++ s.1 = joined o.1 a.0 i.1 inner s.1 a.1 (joined i.1 b.0 e.1 (c.0 ++ d.0) s.1 b.1 (joined e.1 c.0 p.1 d.0 s.1 c.1 d.1)) in
       let to : end_of s.0 ≡ to_of (t ∷ o.0 ∷ (a.0 ++ inner)) =
-          whole_to c.0 s.0 d.0 s.1 some d.3 ∙ sym (to_of_append b.0 (c.0 ++ d.0) (omega (arith, some, length-append c.0 d.0))) ∙ sym (to_of_append (t ∷ o.0 ∷ a.0) inner (omega (arith, some, length-append c.0 d.0, length-append b.0 (c.0 ++ d.0)))) in (
+      whole_to c.0 s.0 d.0 s.1 some d.3 ∙ sym (to_of_append b.0 (c.0 ++ d.0) (omega (arith, some, length-append c.0 d.0))) ∙ sym (to_of_append (t ∷ o.0 ∷ a.0) inner (omega (arith, some, length-append c.0 d.0, length-append b.0 (c.0 ++ d.0)))) in (
         t ∷ o.0 ∷ (a.0 ++ inner),
         ap (λ (z : List Lexeme). t ∷ z) (q.0 ∙ ap (λ (z : List Lexeme). o.0 ∷ z) behind),
         omega arith,

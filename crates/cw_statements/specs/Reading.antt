@@ -1,11 +1,10 @@
 -- Reading statements and files from left to right, on lists: what proofs compare the code with.
-use Rattle.std.specs.Prelude.{◌≡◌, ℕ, zero, suc, Bool, true, false, ◌&&◌, not, is_some, Option, Some, None, List, [], ◌∷◌, ◌++◌, length, Result, Ok, Err, if◌then◌else◌}
+use Rattle.std.specs.Prelude.{ℕ, zero, suc, Bool, true, false, ◌&&◌, not, is_some, Option, List, [], ◌∷◌, ◌++◌, length, Result, Ok, Err, if◌then◌else◌}
 use Rattle.cw_syntax.specs.declared.program.Param.{Param}
-use Rattle.cw_syntax.specs.Trees.{Tree, Statement, Stated, Form, Block, Declares, Evaluates, Empties, Labels, Chooses, Whiles, Does, Fors, Breaks, Continues, Returns, Perhaps, nothing, just, Statements, Prototype, Declaration, Definition, File}
+use Rattle.cw_syntax.specs.Trees.{Tree, Statement, Stated, Form, Block, Declares, Evaluates, Empties, Labels, Chooses, Whiles, Does, Fors, Breaks, Continues, Returns, Perhaps, nothing, just, Prototype, File}
 use Rattle.cw_grammar.specs.declared.words.Word.{Word}
 use Rattle.cw_grammar.specs.declared.words.Word.TheVariants as w
 use Rattle.cw_grammar.specs.declared.words.Lexeme.{Lexeme}
-use Rattle.cw_grammar.specs.Words.{same}
 use Rattle.cw_grammar.specs.Lexemes.{name_of, statements}
 use Rattle.cw_grammar.specs.Expressions.{nesting_limit}
 use Rattle.cw_grammar.specs.Files.{Part, Declares as DeclaresPart, Holds, Defines}
@@ -167,7 +166,7 @@ read_statement (suc n) in_block ts = statement (read_statement n) in_block ts
 -- whether each parameter has a name
 abbrev pub all_named : List Param → Bool
 all_named [] = true
-all_named (p ∷ ps) = is_some p.name && all_named ps
+all_named (p ∷ ps) = if is_some p.name then all_named ps else false
 
 -- behind the header of a function
 unfoldable pub body : Prototype → List Lexeme → Read Part

@@ -1,5 +1,8 @@
 //! Statements, functions and files, read from tokens.
 #![tactic(auto)]
 
-pub mod heads;
-pub mod statements;
+pub mod files;
+mod heads;
+mod statements;
+#[cfg(test)]
+mod tests;

@@ -1,13 +1,16 @@
 //! Statements, by recursion on the nesting that is left.
 
-ghost use Rattle.std.specs.Prelude.{◌≡◌, true, false};
+ghost use Rattle.std.specs.Prelude.{◌≡◌, true, false, []};
+ghost use Rattle.cw_grammar.specs.Expressions.{nesting_limit};
 ghost use Rattle.cw_syntax.specs.Trees.{tree_of, statement_of};
 ghost use Rattle.cw_expressions.specs.Cursor.{Gives};
 ghost use Rattle.cw_declarations.specs.Lists.{one_more, many};
 ghost use Rattle.cw_statements.specs.Reading.{goes_on, block, labelled, chosen, branched, looped, done, counted, stated, statement, read_statement};
 ghost use Rattle.cw_statements.specs.View.{one, several};
 
-use crate::heads::{declared_at, declares_next, ended_at, evaluated_at, returned_at, short_at, start_at, test_at};
+use crate::heads::{
+    declared_at, declares_next, ended_at, evaluated_at, returned_at, short_at, start_at, test_at,
+};
 use cw_expressions::cursor::{begins_with, past, take};
 use cw_expressions::refusal::Refusal;
 use cw_grammar::words::{Lexeme, Word};
@@ -273,4 +276,14 @@ fn counted_at<'t>(
     let what = What::For(head, body);
     let from = word.from;
     Ok((Stmt { what, from, to }, rest))
+}
+
+/// Statements up to a brace.
+pub(crate) fn statements_at<'t>(
+    alloc: Global,
+    tokens: &'t [Lexeme],
+) -> Result<(Vec<Stmt>, &'t [Lexeme]), Refusal>
+    ensures { Gives several result (many (read_statement nesting_limit true) goes_on ([], tokens.now)) }
+{
+    statements_after(alloc, 64, (Vec::new(alloc), tokens))
 }

@@ -1,0 +1,187 @@
+//! Functions and files.
+
+ghost use Rattle.std.specs.Prelude.{◌≡◌, IfOk, Ok, Err};
+ghost use Rattle.cw_syntax.specs.Trees.{File, file_of, prototype_of};
+ghost use Rattle.cw_grammar.specs.Files.{IsOfGrammar, IsProgram};
+ghost use Rattle.cw_grammar.specs.declared.words.Lexeme.{Lexeme as Token};
+ghost use Rattle.std.specs.Prelude.{List as Items};
+ghost use Rattle.cw_expressions.specs.declared.refusal.Refusal.TheVariants.{Syntax, TooDeep};
+ghost use Rattle.cw_expressions.specs.Cursor.{Gives};
+ghost use Rattle.cw_statements.specs.Reading.{all_named, body, headed, part, some_left, added, one_part, parts, file};
+ghost use Rattle.cw_statements.specs.View.{part_of, piece, filed};
+
+use crate::statements::statements_at;
+use cw_declarations::declarations::read_declaration;
+use cw_declarations::headers::{is_header_next, read_header};
+use cw_expressions::cursor::{begins_with, past, take};
+use cw_expressions::refusal::Refusal;
+use cw_grammar::words::{Lexeme, Word};
+use cw_syntax::program::{Decl, Function, Param, Program, Proto};
+use std::alloc::Global;
+
+/// What a file is made of.
+#[derive(Drop)]
+pub enum Piece {
+    Prototype(Proto),
+    Global(Decl),
+    Function(Function),
+}
+
+/// Whether each parameter has a name.
+fn has_names(params: &[Param]) -> bool
+    ensures { result ≡ all_named params.now }
+{
+    let mut left = params;
+    'params: while let [first, rest @ ..] = left {
+        if first.name.is_none() {
+            return false;
+        }
+        left = rest;
+    }
+    true
+}
+
+/// Behind the header of a function.
+#[tactic(auto, unfolding(crate::specs::Reading::body))]
+fn body_at<'t>(
+    alloc: Global,
+    header: Proto,
+    tokens: &'t [Lexeme],
+) -> Result<(Piece, &'t [Lexeme]), Refusal>
+    ensures { Gives piece result (body (prototype_of header) tokens.now) }
+{
+    if has_names(header.params.as_slice()) {
+        let (brace, rest) = take(tokens, Word::OpenBrace)?;
+        let (body, rest) = statements_at(alloc, rest)?;
+        let (_, rest) = take(rest, Word::CloseBrace)?;
+        let function = Function {
+            name: header.name,
+            result: header.result,
+            params: header.params,
+            brace: brace.to,
+            body,
+        };
+        Ok((Piece::Function(function), rest))
+    } else {
+        Err(Refusal::Syntax)
+    }
+}
+
+/// A prototype or a function.
+#[tactic(auto, unfolding(crate::specs::Reading::headed))]
+fn headed_at<'t>(alloc: Global, tokens: &'t [Lexeme]) -> Result<(Piece, &'t [Lexeme]), Refusal>
+    ensures { Gives piece result (headed tokens.now) }
+{
+    let (header, rest) = read_header(alloc, tokens)?;
+    if begins_with(rest, Word::Semicolon) {
+        Ok((Piece::Prototype(header), past(rest)))
+    } else {
+        body_at(alloc, header, rest)
+    }
+}
+
+#[tactic(auto, unfolding(crate::specs::Reading::part, crate::specs::Reading::held))]
+fn part_at<'t>(alloc: Global, tokens: &'t [Lexeme]) -> Result<(Piece, &'t [Lexeme]), Refusal>
+    ensures { Gives piece result (part tokens.now) }
+{
+    let is_header = is_header_next(tokens)?;
+    if is_header {
+        headed_at(alloc, tokens)
+    } else {
+        let (declaration, rest) = read_declaration(alloc, tokens)?;
+        Ok((Piece::Global(declaration), rest))
+    }
+}
+
+/// A program with one part more, behind those of its kind.
+fn with_part(program: Program, part: Piece) -> Result<Program, Refusal>
+    ensures { Gives file_of result (Ok (added (file_of program) (part_of part))) }
+{
+    let Program {
+        mut protos,
+        mut globals,
+        mut functions,
+    } = program;
+    match part {
+        Piece::Prototype(prototype) => protos.push(prototype)?,
+        Piece::Global(declaration) => globals.push(declaration)?,
+        Piece::Function(function) => functions.push(function)?,
+    }
+    Ok(Program {
+        protos,
+        globals,
+        functions,
+    })
+}
+
+/// One part more.
+#[tactic(auto, unfolding(crate::specs::Reading::one_part))]
+fn part_after<'t>(
+    alloc: Global,
+    before: (Program, &'t [Lexeme]),
+) -> Result<(Program, &'t [Lexeme]), Refusal>
+    ensures { Gives filed result (one_part (filed before.entry)) }
+{
+    let (program, rest) = before;
+    let (part, rest) = part_at(alloc, rest)?;
+    let program = with_part(program, part)?;
+    Ok((program, rest))
+}
+
+fn has_more(tokens: &[Lexeme]) -> bool
+    ensures { result ≡ some_left tokens.now }
+{
+    match tokens {
+        [] => false,
+        [_, ..] => true,
+    }
+}
+
+/// All parts behind those before.
+fn parts_after<'t>(
+    alloc: Global,
+    first: (Program, &'t [Lexeme]),
+) -> Result<(Program, &'t [Lexeme]), Refusal>
+    ensures { Gives filed result (parts (filed first.entry)) }
+{
+    let mut so_far = first;
+    'parts: while has_more(so_far.1) {
+        so_far = part_after(alloc, so_far)?;
+    }
+    Ok(so_far)
+}
+
+#[tactic(auto, unfolding(crate::specs::Reading::file))]
+fn file_at(alloc: Global, lexemes: &[Lexeme]) -> Result<Program, Refusal>
+    ensures { Gives file_of result (file lexemes.now) }
+{
+    let none = Program {
+        protos: Vec::new(alloc),
+        globals: Vec::new(alloc),
+        functions: Vec::new(alloc),
+    };
+    let (program, _) = parts_after(alloc, (none, lexemes))?;
+    Ok(program)
+}
+
+/// The program that the lexemes are, all of them. A span goes from the first byte of a part's tokens to the last; expressions and
+/// statements nest at most 64 deep. Syntax comes only where the lexemes are of the grammar at no nesting; TooDeep where they are of
+/// the grammar and nest deeper than that, and perhaps where they are not of the grammar, but never where they are a program. The
+/// stack that is taken is bounded. Public source: ISO/IEC 9899:2011, 6.5, 6.7, 6.8 and 6.9.
+pub fn parse(alloc: Global, lexemes: &[Lexeme]) -> Result<Program, Refusal>
+    // What is handed over is the program that the lexemes are.
+    ensures found { IfOk result (λ p. IsProgram lexemes.now (file_of p)) }
+    // The program that the lexemes are is handed over, unless memory runs out.
+    ensures only { (f : File) → IsProgram lexemes.now f → Gives file_of result (Ok f) }
+    // What is of the grammar and nests too deep is refused as such, unless memory runs out.
+    ensures deep { (f : File) → IsOfGrammar lexemes.now f → ¬ (IsProgram lexemes.now f) → Gives file_of result (Err TooDeep) }
+    ensures syntax { result ≡ Err Syntax → (f : File) → ¬ (IsOfGrammar lexemes.now f) }
+    ensures nesting { result ≡ Err TooDeep → (f : File) → ¬ (IsProgram lexemes.now f) }
+{
+    file_at(alloc, lexemes)
+}
+
+/// Lexemes are at most one program.
+pub fn one_program()
+    ensures one { (ts : Items Token) (f g : File) → IsProgram ts f → IsProgram ts g → f ≡ g }
+{}
