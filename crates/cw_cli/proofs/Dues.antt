@@ -4,10 +4,8 @@ use Rattle.std.specs.Prelude.{IfOk}
 use Rattle.cw_rights.specs.Policies.{PlainPolicy}
 use Rattle.cw_syntax.specs.Trees.{File}
 use Rattle.cw_points.proofs.Lays.{if_ok}
-use Rattle.cw_policies.specs.declared.fault.PolicyFault.{PolicyFault}
-use Rattle.cw_policies.specs.Answer.{IsFault}
 use Rattle.cw_cli.specs.declared.answer.Answer.{Answer}
-use Rattle.cw_cli.specs.Due.{Due, PolicyRefused, PolicyOverLimit, Woven, Refuted, due_of, AreRead, HasLabels, IsDueOf, IsDue, IsRefusalOf}
+use Rattle.cw_cli.specs.Due.{Due, Woven, Refuted, due_of, AreRead, HasLabels, IsDueOf, IsDue}
 
 due_is : (policy source : List ℕ) (file : File) (plain : PlainPolicy) (due : Due) → AreRead policy source file plain → HasLabels policy source file → IsDueOf plain source file due → IsDue policy source due
 due_is policy source file plain (Woven text) read labels h = (file, plain, read, labels, h)
@@ -16,11 +14,3 @@ due_is policy source file plain _ read labels h = absurd h
 
 pub answer_is_due : {E : Type 0} (policy source : List ℕ) (file : File) (plain : PlainPolicy) (result : Result Answer E) → AreRead policy source file plain → HasLabels policy source file → IfOk result (λ answer. IsDueOf plain source file (due_of answer)) → IfOk result (λ answer. IsDue policy source (due_of answer))
 answer_is_due policy source file plain result read labels h = if_ok result h (λ answer p. due_is policy source file plain (due_of answer) read labels p)
-
-refused : (policy source : List ℕ) (fault : PolicyFault) (due : Due) → IsFault policy fault → IsRefusalOf fault due → IsDue policy source due
-refused policy source fault (PolicyRefused line) is h = (fault, is, h.0, h.1, h.2)
-refused policy source fault (PolicyOverLimit line) is h = (fault, is, h.0, h.1, h.2)
-refused policy source fault _ is h = absurd h
-
-pub refusal_is_due : {E : Type 0} (policy source : List ℕ) (fault : PolicyFault) (result : Result Answer E) → IsFault policy fault → IfOk result (λ answer. IsRefusalOf fault (due_of answer)) → IfOk result (λ answer. IsDue policy source (due_of answer))
-refusal_is_due policy source fault result is h = if_ok result h (λ answer p. refused policy source fault (due_of answer) is p)

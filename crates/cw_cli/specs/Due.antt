@@ -22,7 +22,7 @@ use Rattle.cw_policies.specs.Lines.{fault_line}
 use Rattle.cw_scope.specs.declared.faults.ScopeFault.TheVariants as scope
 use Rattle.cw_source.specs.declared.fault.SourceFault.{SourceFault}
 use Rattle.cw_source.specs.declared.fault.SourceFault.TheVariants as source
-use Rattle.cw_source.specs.Read.{IsFaultOf, IsOfGrammar}
+use Rattle.cw_source.specs.Read.{IsFaultOf, ReadsAs}
 use Rattle.cw_source.specs.Lines.{fault_line as source_line}
 use Rattle.cw_echeck.specs.Beating.{IsGameOf}
 use Rattle.cw_text.specs.StrategyText.{strategy_text}
@@ -137,9 +137,13 @@ IsSourceRefusalOf text f due = ⊥
 abbrev pub IsSpelled : List ℕ → Type 0
 IsSpelled policy = (whole : PlainPolicy) × Spells policy whole
 
--- The policy is spelled as a whole, and the source has each label that it names.
+-- the source is read as a program of the whole subset
+abbrev pub IsRead : List ℕ → Type 0
+IsRead source = (file : File) × ReadsAs source file
+
+-- The source is read, the policy is spelled as a whole, and the source has each label that it names.
 abbrev pub HasLabels : List ℕ → List ℕ → File → Type 0
-HasLabels policy source file = (whole : PlainPolicy) × Spells policy whole × (missing_label source file whole.labels ≡ None)
+HasLabels policy source file = IsRead source × ((whole : PlainPolicy) × Spells policy whole × (missing_label source file whole.labels ≡ None))
 
 -- The policy is judged first, then the source, then the labels, and then whether the policy is of the first form.
 abbrev pub IsDue : List ℕ → List ℕ → Due → Type 0
@@ -147,9 +151,9 @@ IsDue policy source (PolicyRefused line) = IsRefusal policy false line
 IsDue policy source (PolicyOverLimit line) = IsRefusal policy true line
 IsDue policy source (SourceRefused line) = IsSpelled policy × IsSourceRefusal source false line
 IsDue policy source (SourceOverLimit line) = IsSpelled policy × IsSourceRefusal source true line
-IsDue policy source SourceNotYet = IsSpelled policy × IsOfGrammar source × ((file : File) → ReadsFirst source file → ⊥)
+IsDue policy source SourceNotYet = IsSpelled policy × IsRead source × ((file : File) → ReadsFirst source file → ⊥)
 IsDue policy source (NoLabel name) =
-    (file : File) × (whole : PlainPolicy) × ReadsFirst source file × Spells policy whole × (missing_label source file whole.labels ≡ Some name)
+    IsRead source × ((file : File) × (whole : PlainPolicy) × ReadsFirst source file × Spells policy whole × (missing_label source file whole.labels ≡ Some name))
 IsDue policy source PolicyNotYet =
     (file : File) × ReadsFirst source file × HasLabels policy source file × ((plain : PlainPolicy) → SpellsFirst policy plain → ⊥)
 IsDue policy source (Woven text) =

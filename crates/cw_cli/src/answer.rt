@@ -6,8 +6,9 @@ ghost use Rattle.cw_syntax.specs.Trees.{file_of};
 ghost use Rattle.cw_certs.specs.Strategies.{strategy_of};
 ghost use Rattle.cw_model.specs.Boards.{problem_of};
 ghost use Rattle.cw_parse.specs.First.{ReadsFirst};
+ghost use Rattle.cw_policies.specs.Answer.{Spells};
 ghost use Rattle.cw_text.specs.StrategyText.{strategy_text};
-ghost use Rattle.cw_cli.specs.Due.{due_of, HasLabels, IsDue, IsDueOf, IsPlainPolicy, IsRefusalOf, IsSourceRefusalOf};
+ghost use Rattle.cw_cli.specs.Due.{due_of, HasLabels, IsDue, IsDueOf, IsPlainPolicy, IsRefusalOf, IsRead, IsSourceRefusalOf};
 ghost use Rattle.cw_cli.specs.Verdicts.{IsVerdict};
 
 use crate::labels::missing_label;
@@ -23,7 +24,7 @@ use cw_policy::{ambient_tests, read_first_policy};
 use cw_regex::RegexFault;
 use cw_rights::Policy;
 use cw_scope::ScopeFault;
-use cw_source::{SourceFault, check_text, fault_line};
+use cw_source::{SourceFault, fault_line, read_source};
 use cw_syntax::program::Program;
 use cw_tables::heights::{height_at, heights};
 use cw_tables::strategies::env_table;
@@ -180,6 +181,22 @@ fn fitted(
     }
 }
 
+/// What is due for a policy and a source that are read.
+fn read(alloc: Global, whole: &Policy, policy: &[u8], source: &[u8]) -> Result<Answer, NoMemory>
+    requires short { length source.now ≤ 262144 }
+    requires spelled { Spells policy.now (policy_of whole.now) }
+    requires read { IsRead source.now }
+    ensures { IfOk result (λ answer. IsDue policy.now source.now (due_of answer)) }
+{
+    let Some(program) = read_first(alloc, source)? else {
+        return Ok(Answer::SourceNotYet);
+    };
+    match missing_label(source, &program, &whole.labels) {
+        Some(name) => Ok(Answer::NoLabel(copied(alloc, name)?)),
+        None => fitted(alloc, policy, source, &program),
+    }
+}
+
 /// What is due for the bytes of a policy and of a source.
 pub fn due(alloc: Global, policy: &[u8], source: &[u8]) -> Result<Answer, NoMemory>
     requires short { length source.now ≤ 262144 }
@@ -189,14 +206,8 @@ pub fn due(alloc: Global, policy: &[u8], source: &[u8]) -> Result<Answer, NoMemo
         Ok(whole) => whole,
         Err(fault) => return refusal(alloc, &fault),
     };
-    if let Err(fault) = check_text(alloc, source) {
-        return source_refusal(alloc, source, &fault);
-    }
-    let Some(program) = read_first(alloc, source)? else {
-        return Ok(Answer::SourceNotYet);
-    };
-    match missing_label(source, &program, &whole.labels) {
-        Some(name) => Ok(Answer::NoLabel(copied(alloc, name)?)),
-        None => fitted(alloc, policy, source, &program),
+    match read_source(alloc, source) {
+        Ok(_) => read(alloc, &whole, policy, source),
+        Err(fault) => source_refusal(alloc, source, &fault),
     }
 }

@@ -15,10 +15,6 @@ use Rattle.cw_source.specs.declared.fault.SourceFault.TheVariants.{Lex, Syntax, 
 abbrev pub HasLexemes : List ℕ → List Lexeme → Type 0
 HasLexemes source ts = (tokens : List Token) × AreTokens source tokens × (ts ≡ lexemes_of source tokens)
 
--- The tokens of the source derive some program, however deep it nests.
-abbrev pub IsOfGrammar : List ℕ → Type 0
-IsOfGrammar source = (ts : List Lexeme) × HasLexemes source ts × IsText ts
-
 -- The tokens of the source derive the program, nothing nests past the limit, and the scope rules hold.
 pub record ReadsAs (source : List ℕ) (file : File) : Type 0 where
   pub tokens : List Lexeme

@@ -4,10 +4,10 @@
 pub mod fault;
 pub mod line;
 pub mod place;
+pub mod read;
 #[cfg(test)]
 mod tests;
-pub mod text;
 
 pub use fault::SourceFault;
 pub use line::fault_line;
-pub use text::check_text;
+pub use read::read_source;
