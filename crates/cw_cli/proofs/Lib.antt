@@ -1,10 +1,9 @@
+mod Labelled
+mod Listed
 mod Notes
-mod Blocks
-mod Missing
-mod Spelled
-mod FirstForms
 mod Policies
+mod Refused
 mod StartRows
 mod Starts
 mod Weaves
-mod Dues
+mod Withins

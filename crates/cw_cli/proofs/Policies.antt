@@ -7,8 +7,8 @@ use Rattle.toml.specs.Data.{Members, Items, get_member}
 use Rattle.cw_rights.specs.Policies.{PlainPolicy}
 use Rattle.cw_policy.specs.First.{has_form, first_policy, policy_from, policy_with, labels_from, rule_for, tests_of, items_at}
 use Rattle.cw_policy.specs.Answer.{SpellsFirst}
-use Rattle.cw_policy.proofs.Spelled.{is_ambient}
-use Rattle.cw_cli.specs.Due.{IsPlainPolicy}
+use Rattle.cw_policy.proofs.Spelled.{is_ambient, is_valid}
+use Rattle.cw_cli.specs.Verdicts.{IsPlainPolicy}
 
 abbrev IsBare : PlainPolicy → Type 0
 IsBare p = (p.descriptors ≡ []) × (p.limits ≡ []) × (length p.labels < 65536)
@@ -31,4 +31,4 @@ pub is_plain_policy : (text : List ℕ) (p : PlainPolicy) → SpellsFirst text p
 is_plain_policy text p h =
     let bare = tree_bare h.1.0 p h.1.2 in
     let tests = is_ambient text p h in
-    record { descriptors = bare.0; limits = bare.1; labels = bare.2; tests = (tests.0, tests.2) }
+    record { valid = is_valid text p h; descriptors = bare.0; limits = bare.1; labels = bare.2; tests = (tests.0, tests.2) }

@@ -1,11 +1,12 @@
 -- The table of a policy that tests ambient authority is sound and lazy, and the strategy where there is none beats every weaver.
-use Rattle.std.proofs.Common.{◌≡◌, ℕ, ◌+◌, ◌*◌, ◌<◌, ◌≤◌, List, length, true, refl, ap, arith}
+use Rattle.std.proofs.Common.{◌≡◌, ℕ, List, length, true, refl, ap, arith}
 use Rattle.cw_rights.specs.Policies.{PlainPolicy}
 use Rattle.cw_syntax.specs.Plans.{plan_of}
 use Rattle.cw_syntax.specs.Trees.{File}
 use Rattle.cw_certs.specs.Strategies.{Strategy}
 use Rattle.cw_certs.specs.Tables.{Table}
-use Rattle.cw_model.specs.Boards.{names_of, problem_of}
+use Rattle.cw_actions.specs.Scenes.{names_of}
+use Rattle.cw_model.specs.Boards.{problem_of}
 use Rattle.cw_model.specs.Runs.{Sound, Lazy}
 use Rattle.cw_game.specs.declared.ambient.AmbientTest.{AmbientTest}
 use Rattle.cw_game.specs.declared.ambient.Node.{Node}
@@ -20,12 +21,12 @@ use Rattle.cw_wcheck.proofs.Lazies.{lazy}
 use Rattle.cw_wcheck.proofs.Sounds.{sound}
 use Rattle.cw_echeck.proofs.Wins.{closed_beats}
 use Rattle.cw_echeck.specs.Beating.{IsGameOf}
-use Rattle.cw_cli.specs.Due.{BeatsFromStart}
+use Rattle.cw_cli.specs.Verdicts.{BeatsFromStart}
 use Rattle.cw_cli.proofs.StartRows.{first_row}
 
-module _ (policy : PlainPolicy) (source : List ℕ) (file : File) (tests : List AmbientTest) (nodes : List Node) (ambient : IsAmbient policy tests) (laid : IsLaidOut (plan_of (names_of policy) source file) (ambient_game policy tests nodes)) where
+module _ (policy : PlainPolicy) (source : List ℕ) (file : File) (tests : List AmbientTest) (nodes : List Node) (entry exit : ℕ → ℕ) (main : ℕ) (ambient : IsAmbient policy tests) (laid : IsLaidOut (plan_of (names_of policy) source file) (ambient_game policy tests nodes entry exit main)) where
   abbrev game : Game
-  game = ambient_game policy tests nodes
+  game = ambient_game policy tests nodes entry exit main
 
   pub table_is_sound : (table : Table) → is_closed_table game table ≡ true → Sound (problem_of policy source file) table
   table_is_sound table closed = sound (AmbientMeans policy (numbering_of tests nodes)) (problem_of policy source file) game table refl (ambient_are_states policy tests nodes ambient) laid closed (omega (arith, ap length ambient.limits))
@@ -37,10 +38,7 @@ module _ (policy : PlainPolicy) (source : List ℕ) (file : File) (tests : List 
   pub is_game : HasRoutines (plan_of (names_of policy) source file) game → IsGameOf (problem_of policy source file) game
   is_game has = record { policy = refl; laid = laid; routines = has; states = are_reached policy game.spots game.states (AmbientMeans policy (numbering_of tests nodes)) (ambient_are_states policy tests nodes ambient) }
 
-  pub strategy_beats : (s : Strategy) → HasRoutines (plan_of (names_of policy) source file) game → IsClosedStrategy game s → (row : ℕ) × IsAt s row 0 (start_of (numbering_of tests nodes)) 0 → BeatsFromStart (problem_of policy source file) s
+  pub strategy_beats : (s : Strategy) → HasRoutines (plan_of (names_of policy) source file) game → IsClosedStrategy game s → (row : ℕ) × IsAt s row (entry main) (start_of (numbering_of tests nodes)) 0 → BeatsFromStart (problem_of policy source file) s
   strategy_beats s has closed some =
-      let first = first_row s 0 (start_of (numbering_of tests nodes)) 0 some.0 some.1 in
+      let first = first_row s (entry main) (start_of (numbering_of tests nodes)) 0 some.0 some.1 in
       (game, first.0, is_game has, first.1, closed_beats (AmbientMeans policy (numbering_of tests nodes)) game (problem_of policy source file) refl (ambient_are_states policy tests nodes ambient) laid has s first.0 closed first.1.0)
-
-pub few_nodes : (nodes points labels : ℕ) → nodes ≡ points + 2 * (labels + 1) → points ≤ 1024 → labels ≤ points → nodes < 1048576
-few_nodes nodes points labels e p q = omega (arith, e, p, q)

@@ -1,16 +1,18 @@
--- How a run of `weave` over the names of a policy and of a source ends, and what it leaves.
+-- How a run over the names of a policy and of a source, or of a source alone, ends, and what it leaves.
 use Rattle.std.specs.Prelude.{◌≡◌, ◌⊎◌, ℕ, ◌≤◌, List, Option, Ok, Err, length, take}
 use Rattle.cw_io.specs.Causes.{Rose}
 use Rattle.cw_io.specs.declared.fault.ReadFault.TheVariants.{TooLong}
 use Rattle.cw_io.specs.Files.{FilesByName, IsAnswer}
 use Rattle.cw_io.specs.Pieces.{Grows}
 use Rattle.cw_cli.specs.declared.ending.Ending.{Ending}
-use Rattle.cw_cli.specs.declared.ending.Ending.TheVariants.{Woven as WovenEnd, Refuted as RefutedEnd, PolicyRefused as PolicyRefusedEnd, PolicyOverLimit as PolicyOverEnd, SourceRefused as SourceRefusedEnd, SourceOverLimit as SourceOverEnd, SourceNotYet as SourceEnd, PolicyNotYet as PolicyEnd, NoLabel as LabelEnd, PolicyTooLong, SourceTooLong, PolicyUnread, SourceUnread, Unwritten, Memory}
-use Rattle.cw_cli.specs.Due.{Due, SourceNotYet, PolicyNotYet, NoLabel, PolicyRefused, PolicyOverLimit, SourceRefused, SourceOverLimit, Woven, Refuted, IsDue}
+use Rattle.cw_cli.specs.declared.ending.Ending.TheVariants.{Woven as WovenEnd, Refuted as RefutedEnd, Listed as ListedEnd, PolicyRefused as PolicyRefusedEnd, PolicyOverLimit as PolicyOverEnd, SourceRefused as SourceRefusedEnd, SourceOverLimit as SourceOverEnd, SourceNotYet as SourceEnd, PolicyNotYet as PolicyEnd, NoLabel as LabelEnd, PolicyTooLong, SourceTooLong, PolicyUnread, SourceUnread, Unwritten, Memory}
+use Rattle.cw_cli.specs.Due.{Due, SourceNotYet, PolicyNotYet, NoLabel, PolicyRefused, PolicyOverLimit, SourceRefused, SourceOverLimit, Woven, Refuted, Listed, IsDue}
+use Rattle.cw_cli.specs.Listings.{IsListingDue}
 
 abbrev pub status_of : Ending → ℕ
 status_of WovenEnd = 0
 status_of RefutedEnd = 1
+status_of ListedEnd = 0
 status_of (PolicyRefusedEnd words) = 4
 status_of (PolicyOverEnd words) = 5
 status_of (SourceRefusedEnd words) = 3
@@ -52,6 +54,13 @@ Unread files counts counts' policy source SourceUnread =
 Unread files counts counts' policy source Memory = Unit {0}
 Unread files counts counts' policy source _ = ⊥
 
+-- the same where a source alone is read
+abbrev pub UnreadSource : Option FilesByName → (List ℕ → ℕ) → (List ℕ → ℕ) → List ℕ → Ending → Type 0
+UnreadSource files counts counts' source SourceTooLong = IsLonger files source 262144
+UnreadSource files counts counts' source SourceUnread = Rose (counts source) (counts' source)
+UnreadSource files counts counts' source Memory = Unit {0}
+UnreadSource files counts counts' source _ = ⊥
+
 -- a front of these bytes, maybe empty or all of them, was appended
 abbrev pub GrowsByFront : Option (List ℕ) → Option (List ℕ) → List ℕ → Type 0
 GrowsByFront old new bytes = (count : ℕ) × Grows old new (take count bytes)
@@ -72,6 +81,9 @@ Delivered old new faults faults' (Woven text) Memory = GrowsByFront old new text
 Delivered old new faults faults' (Refuted text) RefutedEnd = Grows old new text
 Delivered old new faults faults' (Refuted text) Unwritten = GrowsByFront old new text × Rose faults faults'
 Delivered old new faults faults' (Refuted text) Memory = GrowsByFront old new text
+Delivered old new faults faults' (Listed text) ListedEnd = Grows old new text
+Delivered old new faults faults' (Listed text) Unwritten = GrowsByFront old new text × Rose faults faults'
+Delivered old new faults faults' (Listed text) Memory = GrowsByFront old new text
 Delivered old new faults faults' due ending = ⊥
 
 -- Either the two files weren't read, or there was no memory, and nothing was appended; or they were read, and the ending is that
@@ -80,3 +92,9 @@ abbrev pub Ends : Option FilesByName → (List ℕ → ℕ) → (List ℕ → �
 Ends files counts counts' old new faults faults' policy source ending =
     (Unread files counts counts' policy source ending × (new ≡ old))
     ⊎ ((p : List ℕ) × (s : List ℕ) × (due : Due) × HasPolicy files policy p × HasSource files source s × IsDue p s due × Delivered old new faults faults' due ending)
+
+-- The same of a source whose graph is asked for.
+abbrev pub ListingEnds : Option FilesByName → (List ℕ → ℕ) → (List ℕ → ℕ) → Option (List ℕ) → Option (List ℕ) → ℕ → ℕ → List ℕ → Ending → Type 0
+ListingEnds files counts counts' old new faults faults' source ending =
+    (UnreadSource files counts counts' source ending × (new ≡ old))
+    ⊎ ((s : List ℕ) × (due : Due) × HasSource files source s × IsListingDue s due × Delivered old new faults faults' due ending)

@@ -2,22 +2,26 @@
 use Rattle.std.specs.Prelude.{◌≡◌, ℕ, List, [], ◌∷◌, ◌++◌, Bool, true, false, Option, Some, None, codes, Result}
 use Rattle.cw_io.specs.Pieces.{Puts}
 use Rattle.cw_cli.specs.declared.ending.Ending.{Ending}
-use Rattle.cw_cli.specs.declared.ending.Ending.TheVariants.{Woven, Refuted, PolicyRefused, PolicyOverLimit, SourceRefused, SourceOverLimit, SourceNotYet, PolicyNotYet, NoLabel, PolicyTooLong, SourceTooLong, PolicyUnread, SourceUnread, Unwritten, Memory}
+use Rattle.cw_cli.specs.declared.ending.Ending.TheVariants.{Woven, Refuted, Listed, PolicyRefused, PolicyOverLimit, SourceRefused, SourceOverLimit, SourceNotYet, PolicyNotYet, NoLabel, PolicyTooLong, SourceTooLong, PolicyUnread, SourceUnread, Unwritten, Memory}
+use Rattle.cw_cli.specs.declared.words.First.{First}
+use Rattle.cw_cli.specs.declared.words.First.TheVariants.{Weave as IsWeave, Graph as IsGraph, Other as IsOther}
 use Rattle.cw_cli.specs.Ends.{GrowsByFront}
 
 -- a line of some words and a name behind them
 abbrev pub line : List ℕ → List ℕ → List ℕ
 line words name = words ++ name ++ (10 ∷ [])
 
--- the line of a faulty command line, by whether the first word is `weave`
-abbrev pub usage_line : Bool → List ℕ
-usage_line true = line (codes "usage: capweave weave POLICY SOURCE") []
-usage_line false = line (codes "usage: capweave COMMAND ARGUMENTS") []
+-- the line of a faulty command line, by its first word
+abbrev pub usage_line : First → List ℕ
+usage_line IsWeave = line (codes "usage: capweave weave POLICY SOURCE") []
+usage_line IsGraph = line (codes "usage: capweave graph SOURCE") []
+usage_line IsOther = line (codes "usage: capweave COMMAND ARGUMENTS") []
 
 -- the line of an ending, by the names of the policy and of the source; where a text was put there is none
 abbrev pub line_of : List ℕ → List ℕ → Ending → Option (List ℕ)
 line_of policy source Woven = None
 line_of policy source Refuted = None
+line_of policy source Listed = None
 line_of policy source (PolicyRefused words) = Some (line words.items [])
 line_of policy source (PolicyOverLimit words) = Some (line words.items [])
 line_of policy source (SourceRefused words) = Some (line words.items [])

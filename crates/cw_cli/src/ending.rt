@@ -3,13 +3,15 @@
 ghost use Rattle.std.specs.Prelude.{◌≡◌};
 ghost use Rattle.cw_cli.specs.Ends.{status_of};
 
-/// How a run over a named policy and a named source ends: a text was put, or why none was.
+/// How a run over a named policy and a named source, or a source alone, ends: a text was put, or why none was.
 #[derive(Drop)]
 pub enum Ending {
     /// The woven text was put whole.
     Woven,
     /// The strategy that beats every weaver was put whole.
     Refuted,
+    /// The lines of a graph were put whole.
+    Listed,
     /// The policy is refused, by this line.
     PolicyRefused(Vec<u8>),
     /// A quantity of the policy is over its limit, by this line.
@@ -45,6 +47,7 @@ pub(crate) fn status(ending: &Ending) -> u8
     match ending {
         Ending::Woven => 0,
         Ending::Refuted => 1,
+        Ending::Listed => 0,
         Ending::PolicyRefused(_) => 4,
         Ending::PolicyOverLimit(_) => 5,
         Ending::SourceRefused(_) => 3,

@@ -4,13 +4,16 @@
 mod answer;
 mod command;
 mod ending;
-mod labels;
+mod listing;
 mod note;
+mod refusals;
+mod verdict;
 mod words;
 
 pub use answer::{Answer, due};
 pub use command::capweave;
 pub use ending::Ending;
+pub use listing::listing_due;
 
 #[cfg(test)]
 mod tests;

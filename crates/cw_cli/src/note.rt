@@ -5,6 +5,7 @@ ghost use Rattle.cw_io.specs.Pieces.{Puts};
 ghost use Rattle.cw_cli.specs.Lines.{line, line_of, usage_line, PutsLine};
 
 use crate::ending::Ending;
+use crate::words::First;
 use cw_io::{Sink, SinkFault, put_both};
 
 /// Puts some words, a name behind them and a line feed.
@@ -15,14 +16,14 @@ fn put_line<N: Sink>(note: &mut N, words: &[u8], name: &[u8]) -> Result<(), Sink
     note.put(b"\n")
 }
 
-/// Puts the line of a faulty command line, by whether its first word is `weave`.
-pub(crate) fn put_usage<N: Sink>(note: &mut N, is_weave: bool) -> Result<(), SinkFault>
-    ensures { Puts (N.taken note.old) (N.taken note.new) (usage_line is_weave) result }
+/// Puts the line of a faulty command line, by the command that its first word names.
+pub(crate) fn put_usage<N: Sink>(note: &mut N, first: First) -> Result<(), SinkFault>
+    ensures { Puts (N.taken note.old) (N.taken note.new) (usage_line first) result }
 {
-    if is_weave {
-        put_line(note, b"usage: capweave weave POLICY SOURCE", b"")
-    } else {
-        put_line(note, b"usage: capweave COMMAND ARGUMENTS", b"")
+    match first {
+        First::Weave => put_line(note, b"usage: capweave weave POLICY SOURCE", b""),
+        First::Graph => put_line(note, b"usage: capweave graph SOURCE", b""),
+        First::Other => put_line(note, b"usage: capweave COMMAND ARGUMENTS", b""),
     }
 }
 
@@ -38,6 +39,7 @@ pub(crate) fn put_ending<N: Sink>(
     match ending {
         Ending::Woven => Ok(()),
         Ending::Refuted => Ok(()),
+        Ending::Listed => Ok(()),
         Ending::PolicyRefused(line) => put_line(note, line, b""),
         Ending::PolicyOverLimit(line) => put_line(note, line, b""),
         Ending::SourceRefused(line) => put_line(note, line, b""),

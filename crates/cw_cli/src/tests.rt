@@ -64,6 +64,42 @@ CW_AT(2,0,0)
 CW_DONE
 /*}cw*/int main(void){/*cw{*/CW_ENTRY(0);/*}cw*/while(c){o:/*cw{*/CW_LABEL(1)/*}cw*/;p:/*cw{*/CW_LABEL(2)/*}cw*/;}return 0;}";
 
+const SECOND_OF_TWO: &str = "/*cw{*/
+#include \"capweave.h\"
+#define CW_LIMITS(X)
+CW_TABLE(1,4,0)
+CW_MEM(0,0,0xf)
+CW_MEM(1,1,0xf)
+CW_MEM(2,3,0xf)
+CW_LIVE(7,0)
+CW_LIVE(9,0)
+CW_LIVE(10,0)
+CW_LIVE(11,0)
+CW_LIVE(12,0)
+CW_LIVE(12,2)
+CW_LIVE(13,2)
+CW_LIVE(14,0)
+CW_LIVE(14,2)
+CW_LIVE(15,0)
+CW_LIVE(15,2)
+CW_LIVE(16,0)
+CW_LIVE(16,2)
+CW_LIVE(17,0)
+CW_LIVE(18,1)
+CW_LIVE(18,2)
+CW_LIVE(19,2)
+CW_LIVE(20,0)
+CW_LIVE(20,2)
+CW_LIVE(21,0)
+CW_LIVE(21,2)
+CW_TRY(2,0,0,1,CW_NONE)
+CW_AT(2,1,2)
+CW_AT(2,2,2)
+CW_DONE
+/*}cw*/int g(int x){/*cw{*/CW_ENTRY(0);/*}cw*/do{x--;}while(x);return x;}
+int main(void){/*cw{*/CW_ENTRY(1);/*}cw*/int i;for(i=0;i<3;i++){if(i==2)break;a:/*cw{*/CW_LABEL(2)/*}cw*/g2(i);}return 0;}
+";
+
 const TWO_LABELS: &str = "capweave strategy 1
 states 4
 0 5 0 0x0 bad
@@ -141,6 +177,7 @@ fn weaves_refutes_or_tells_why_not(rt: HostRuntime) -> Result<(), Fail> {
         "format = 1\n[[at]]\nlabel = \"o\"\nmust = [\"amb\"]\n[[at]]\nlabel = \"p\"\nnever = [\"amb\"]\n";
     let refusable =
         "format = 1\nrefusable = [\"enter\"]\n[[at]]\nlabel = \"a\"\nnever = [\"amb\"]\n";
+    let descriptor = "format = 1\n[[descriptor]]\nname = \"fd\"\n";
     let mut limits = String::from_str(
         alloc,
         "format = 1\n[[descriptor]]\nname = \"0\"\nrights = [\"CAP_READ\"]\n",
@@ -202,10 +239,32 @@ fn weaves_refutes_or_tells_why_not(rt: HostRuntime) -> Result<(), Fail> {
         (refusable, two, 4, "", "policy: not yet\n"),
         (
             refusable,
-            "int main(void){;;return 1;}",
+            "void f(void);void f(void){}int main(void){f();return 0;}",
             3,
             "",
             "source: not yet\n",
+        ),
+        (
+            refusable,
+            "int main(void){a:;;return 1;}",
+            4,
+            "",
+            "policy: not yet\n",
+        ),
+        (descriptor, two, 3, "", "source: no variable fd\n"),
+        (
+            descriptor,
+            "int fd;int main(void){fd=1;return 0;}",
+            3,
+            "",
+            "source 1:23: misuse\n",
+        ),
+        (
+            never,
+            "int g(int x){do{x--;}while(x);return x;}\nint main(void){int i;for(i=0;i<3;i++){if(i==2)break;a:g2(i);}return 0;}\n",
+            0,
+            SECOND_OF_TWO,
+            "",
         ),
         (
             "format = 1\n",
@@ -241,6 +300,58 @@ fn weaves_refutes_or_tells_why_not(rt: HostRuntime) -> Result<(), Fail> {
         assert_eq!(rt; out.bytes(), text.as_bytes(), "{source}");
         assert_eq!(rt; note.bytes(), line.as_bytes(), "{source}");
     }
+    Ok(())
+}
+
+#[test]
+fn lists_the_points_or_tells_why_not(rt: HostRuntime) -> Result<(), Fail> {
+    let alloc = rt.alloc();
+    let graph = words(alloc, &["graph", "s.c"])?;
+    let mut many = String::from_str(alloc, "int main(void){")?;
+    for _ in 0..8_189 {
+        many.push_str(";")?;
+    }
+    let mut most = String::from_str(alloc, &many)?;
+    most.push_str("return 0;}")?;
+    many.push_str(";return 0;}")?;
+    for (source, status, text, line) in [
+        (
+            "int main(void){a:;return 0;}",
+            0,
+            "points 5\nfunction main 0 4\n0 main entry -> 1\n1 main label a -> 2\n2 main step -> 3\n3 main step -> 4\n4 main exit\n",
+            "",
+        ),
+        (
+            "int main(void){for(;c;n=n+1){if(d)continue;x:;}return 0;}",
+            0,
+            "points 9\nfunction main 0 8\n0 main entry -> 1\n1 main branch -> 3 7\n2 main step -> 1\n3 main branch -> 4 5\n4 main step -> 2\n5 main label x -> 6\n6 main step -> 2\n7 main step -> 8\n8 main exit\n",
+            "",
+        ),
+        (
+            "void g(void);void f(void){g();}void g(void){f();g();}int main(void){return 0;}",
+            0,
+            "points 10\nfunction f 0 2 calls g\nfunction g 3 6 calls f g\nfunction main 7 9\n0 f entry -> 1\n1 f call g -> 2\n2 f exit\n3 g entry -> 4\n4 g call f -> 5\n5 g call g -> 6\n6 g exit\n7 main entry -> 8\n8 main step -> 9\n9 main exit\n",
+            "",
+        ),
+        ("int main(void){break;}", 3, "", "source 1:16: jump\n"),
+        (&many, 5, "", "limit: points\n"),
+    ] {
+        let mut shelf = SureShelf::make(files(alloc, "", source)?);
+        let mut out = SureSink::make(alloc);
+        let mut note = SureSink::make(alloc);
+        assert_eq!(rt;
+            capweave(alloc, &graph, &mut shelf, &mut out, &mut note),
+            status,
+            "{source}"
+        );
+        assert_eq!(rt; out.bytes(), text.as_bytes(), "{source}");
+        assert_eq!(rt; note.bytes(), line.as_bytes(), "{source}");
+    }
+    let mut shelf = SureShelf::make(files(alloc, "", &most)?);
+    let mut out = SureSink::make(alloc);
+    let mut note = SureSink::make(alloc);
+    assert_eq!(rt; capweave(alloc, &graph, &mut shelf, &mut out, &mut note), 0);
+    assert!(rt; out.bytes().starts_with(b"points 8192\n"));
     Ok(())
 }
 
@@ -302,6 +413,16 @@ fn faults_and_limits(rt: HostRuntime) -> Result<(), Fail> {
             0,
             "usage: capweave weave POLICY SOURCE\n",
         ),
+        (
+            &["graph", "s.c", "t"],
+            9,
+            9,
+            2,
+            0,
+            "usage: capweave graph SOURCE\n",
+        ),
+        (&["graph", "missing"], 9, 9, 6, 0, "read: missing\n"),
+        (&["graph", "long.c"], 9, 9, 5, 0, "limit: source bytes\n"),
         (
             &["weave", "p.toml", "s.c", "t"],
             9,

@@ -11,3 +11,4 @@ pub mod PrimaryComplete
 pub mod Complete
 pub mod Whole
 mod Examples
+pub mod Climb

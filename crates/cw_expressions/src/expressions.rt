@@ -155,28 +155,11 @@ fn level_at<'t>(
     ensures gives { Gives got result (chain (read_at depth) depth level tokens.now) }
     ensures fits { IfOk result (λ x. x.depth ≤ depth + 1) }
 {
-    if level == 0 {
-        operand_at(alloc, depth, tokens)
-    } else {
-        chain_at(alloc, depth, level - 1, tokens)
+    let mut so_far = operand_at(alloc, depth, tokens)?;
+    'levels: for below in 0..level {
+        so_far = joined_all(alloc, depth, below, so_far)?;
     }
-}
-
-#[cycle(parser)]
-#[tactic(auto, unfolding(crate::specs::Reading::chain))]
-fn chain_at<'t>(
-    alloc: Global,
-    depth: u32,
-    below: u32,
-    tokens: &'t [Lexeme],
-) -> Result<Found<'t>, Refusal>
-    requires deep { depth < 64 }
-    requires level { below < 10 }
-    ensures gives { Gives got result (chain (read_at depth) depth (suc below) tokens.now) }
-    ensures fits { IfOk result (λ x. x.depth ≤ depth + 1) }
-{
-    let first = level_at(alloc, depth, below, tokens)?;
-    joined_all(alloc, depth, below, first)
+    Ok(so_far)
 }
 
 #[cycle(parser)]

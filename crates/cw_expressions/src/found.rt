@@ -62,8 +62,7 @@ pub(crate) fn over<'t>(
     requires { part.depth < 65 }
     ensures { Gives got result (Ok (built op (tree_of part.entry.tree ∷ []) unary (part.entry.depth + 1) from part.entry.to part.entry.rest.now)) }
 {
-    let mut parts = Vec::new(alloc);
-    parts.push(part.tree)?;
+    let parts = Vec::from_array(alloc, [part.tree])?;
     Ok(Found {
         tree: Expr {
             op,
@@ -91,9 +90,7 @@ pub(crate) fn join<'t>(
     requires second { second.depth < 65 }
     ensures { Gives got result (Ok (built op (tree_of first.entry.tree ∷ tree_of second.entry.tree ∷ []) unary (max first.entry.depth second.entry.depth + 1) first.entry.from second.entry.to second.entry.rest.now)) }
 {
-    let mut parts = Vec::new(alloc);
-    parts.push(first.tree)?;
-    parts.push(second.tree)?;
+    let parts = Vec::from_array(alloc, [first.tree, second.tree])?;
     Ok(Found {
         tree: Expr {
             op,

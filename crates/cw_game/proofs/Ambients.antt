@@ -119,7 +119,7 @@ never_opens (AskedAt i ∷ nodes) zero j d n e = cc
 never_opens (LabelTo i l m ∷ nodes) zero j d n e = cc
 never_opens (StepTo m ∷ nodes) zero j d n e = cc
 never_opens (BranchTo a b ∷ nodes) zero j d n e = cc
-never_opens (ExitAt ∷ nodes) zero j d n e = cc
+never_opens (ExitAt f ∷ nodes) zero j d n e = cc
 never_opens (o ∷ nodes) (suc p) j d n e = never_opens nodes p j d n e
 
 never_closes : (nodes : List Node) (p j d n : ℕ) → slice_get (map spot_of nodes) p ≡ Some (Close j d n) → ⊥
@@ -129,7 +129,7 @@ never_closes (AskedAt i ∷ nodes) zero j d n e = cc
 never_closes (LabelTo i l m ∷ nodes) zero j d n e = cc
 never_closes (StepTo m ∷ nodes) zero j d n e = cc
 never_closes (BranchTo a b ∷ nodes) zero j d n e = cc
-never_closes (ExitAt ∷ nodes) zero j d n e = cc
+never_closes (ExitAt f ∷ nodes) zero j d n e = cc
 never_closes (o ∷ nodes) (suc p) j d n e = never_closes nodes p j d n e
 
 -- nor does any call
@@ -140,7 +140,7 @@ never_calls (AskedAt i ∷ nodes) zero = refl
 never_calls (LabelTo i l m ∷ nodes) zero = refl
 never_calls (StepTo m ∷ nodes) zero = refl
 never_calls (BranchTo a b ∷ nodes) zero = refl
-never_calls (ExitAt ∷ nodes) zero = refl
+never_calls (ExitAt f ∷ nodes) zero = refl
 never_calls (o ∷ nodes) (suc p) = never_calls nodes p
 
 pub no_call : (nodes : List Node) (p : ℕ) (s : Spot) → slice_get (map spot_of nodes) p ≡ Some s → is_call_in (Some s) ≡ true → ⊥

@@ -1,5 +1,5 @@
--- Programs of one function under a policy that tests ambient authority alone: their positions, the policy's states, the game.
-use Rattle.std.specs.Prelude.{◌≡◌, ℕ, ◌+◌, ◌-◌, ◌%◌, List, [], ◌∷◌, Bool, true, false, cond, not, ◌&&◌, Option, Some, None, nat_eq, length, map}
+-- Programs whose functions aren't called, under a policy that tests ambient authority alone: their positions, the policy's states, the game.
+use Rattle.std.specs.Prelude.{◌≡◌, ℕ, ◌+◌, ◌-◌, ◌%◌, List, [], ◌∷◌, Bool, true, false, cond, not, ◌&&◌, Option, Some, None, nat_eq, map}
 use Rattle.std.specs.List.{list_any}
 use Rattle.cw_rights.specs.declared.capabilities.Caps.{Caps}
 use Rattle.cw_rights.specs.declared.capabilities.Primitive.{Primitive}
@@ -17,14 +17,14 @@ use Rattle.cw_game.specs.declared.ambient.Numbering.{Numbering}
 use Rattle.cw_game.specs.declared.ambient.Numbering.TheVariants.{LettersLast, LettersFirst, NoLetter}
 use Rattle.cw_game.specs.Games.{States, Game}
 
--- Among the spots of the game: enter is the one primitive of each seam, and the one exit is that of the function 0.
+-- Among the spots of the game: enter is the one primitive of each seam.
 abbrev pub spot_of : Node → Spot
 spot_of (TryAt j) = Visit j 0 Enter
 spot_of (AskedAt j) = Asked j 0 Enter
 spot_of (LabelTo j l n) = Label j l n
 spot_of (StepTo n) = Step n
 spot_of (BranchTo m n) = Branch m n
-spot_of ExitAt = Exit 0
+spot_of (ExitAt f) = Exit f
 
 -- the bad words of a test: any letters, and then one of its label with the wanted ambient authority
 abbrev pub bad_words : AmbientTest → Tree
@@ -97,13 +97,13 @@ ambient_states num tests = record {
   with_rights = λ x q. x - x % 2 + q % 2;
 }
 
--- The game of a program of one function: it begins at position 0 and ends at the last one.
-abbrev pub ambient_game : PlainPolicy → List AmbientTest → List Node → Game
-ambient_game policy tests nodes = record {
+-- The game of a program: its functions begin and end at these positions, and `main` is the one with this number.
+abbrev pub ambient_game : PlainPolicy → List AmbientTest → List Node → (entry exit : ℕ → ℕ) → (main : ℕ) → Game
+ambient_game policy tests nodes entry exit main = record {
   spots = map spot_of nodes;
-  entry = λ f. 0;
-  exit = λ f. length nodes - 1;
-  main = 0;
+  entry = entry;
+  exit = exit;
+  main = main;
   policy = policy;
   states = ambient_states (numbering_of tests nodes) tests;
 }

@@ -1,4 +1,4 @@
--- What a table needs of the positions of a program of one function.
+-- What a table needs of the positions of a program that begins at one of them.
 use Rattle.std.specs.Prelude.{◌≡◌, ℕ, ◌+◌, ◌<◌, List, Option, Some, slice_get}
 use Rattle.cw_game.specs.declared.ambient.Node.{Node}
 use Rattle.cw_game.specs.declared.ambient.Node.TheVariants.{TryAt, AskedAt, LabelTo, StepTo, BranchTo, ExitAt}
@@ -11,10 +11,10 @@ IsUnasked nodes p = (j : ℕ) → slice_get nodes p ≡ Some (AskedAt j) → ⊥
 abbrev pub IsEntered : List Node → ℕ → Type 0
 IsEntered nodes p = IsUnasked nodes p × ((o : Node) × (slice_get nodes p ≡ Some o))
 
--- The positions begin with one where nothing is asked, and each leads to such ones; what is asked stands behind its visit; the seams
--- rise with the positions.
-pub record Laid (nodes : List Node) : Type 0 where
-  pub start : IsEntered nodes 0
+-- The program begins at a position where nothing is asked, and each position leads to such ones; what is asked stands behind its visit;
+-- the seams rise with the positions.
+pub record Laid (nodes : List Node) (first : ℕ) : Type 0 where
+  pub start : IsEntered nodes first
   pub visit : (p j : ℕ) → slice_get nodes p ≡ Some (TryAt j) → slice_get nodes (p + 1) ≡ Some (AskedAt j)
   pub after : (p j : ℕ) → slice_get nodes p ≡ Some (AskedAt j) → IsEntered nodes (p + 1)
   pub label : (p j l n : ℕ) → slice_get nodes p ≡ Some (LabelTo j l n) → IsEntered nodes n

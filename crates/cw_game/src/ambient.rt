@@ -1,5 +1,5 @@
-//! Programs of one function under a policy that tests ambient authority alone: what stands at their positions, and how
-//! the policy's states are numbered.
+//! Programs whose functions aren't called, under a policy that tests ambient authority alone: what stands at their
+//! positions, and how the policy's states are numbered.
 
 ghost use Rattle.std.specs.Prelude.{◌≡◌, ◌<◌, ◌++◌, List, [], ◌∷◌, map, true};
 ghost use Rattle.std.specs.List.{list_any};
@@ -11,7 +11,8 @@ ghost use Rattle.cw_game.specs.declared.ambient.AmbientTest.{AmbientTest};
 ghost use Rattle.cw_game.specs.Games.{AreStates};
 ghost use Rattle.cw_game.specs.Ambient.{spot_of, IsAmbient, ambient_states, AmbientMeans, is_bad, is_good_in, numbering_of, start_of, after_of, count_of, flag_of, granted_of, lettered};
 
-/// What stands at a position of a program of one function. A visit at p has what is asked there at p + 1.
+/// What stands at a position of a program, whose functions stand one after the other. A visit at p has what is asked
+/// there at p + 1.
 #[derive(Clone, Copy, Drop, Debug, PartialEq, Eq)]
 pub enum Node {
     /// Enter is skipped or tried at this seam: cap_enter(2).
@@ -24,8 +25,8 @@ pub enum Node {
     StepTo(u32),
     /// A condition: the next position where it holds, and where it doesn't.
     BranchTo(u32, u32),
-    /// The end of the function.
-    ExitAt,
+    /// The end of the function with this number.
+    ExitAt(u16),
 }
 
 /// A test: a word that ends with this label's letter is bad where ambient authority is `wanted`.

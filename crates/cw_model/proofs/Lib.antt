@@ -1,7 +1,4 @@
 pub mod Moving
-pub mod Places
-pub mod Digits
-pub mod Acting
 pub mod Shapes
 pub mod Putting
 pub mod Settled

@@ -1,25 +1,24 @@
 -- What a move changes.
-use Rattle.std.proofs.Common.{◌≡◌, ◌≢◌, ◌⊎◌, inl, inr, ℕ, ◌<◌, ◌≤◌, List, [], ◌∷◌, Bool, true, false, cond, not, ◌||◌, nat_eq, nat_lt, length, unwrap_or, Option, Some, None, option_map, refl, sym, ap, ◌∙◌, subst, arith, eqb-true, eq-eqb}
+use Rattle.std.proofs.Common.{◌≡◌, ◌≢◌, ◌⊎◌, inl, inr, ℕ, ◌<◌, ◌≤◌, List, [], ◌∷◌, Bool, true, false, cond, nat_eq, nat_lt, length, Option, Some, None, option_map, refl, sym, ap, ◌∙◌, subst, arith, eqb-true, eq-eqb}
 use Rattle.std.specs.Prelude.{slice_get}
 use Rattle.std.proofs.lemmas.Option.{none-some, same_Some, unwrap_or-slice_get}
 use Rattle.std.proofs.lemmas.List.{get_or-set_same, get_or-set_other, get_or_past, length-set}
 use Rattle.std.proofs.lemmas.Bool.Decides.{nat_tests}
-use Rattle.cw_rights.specs.declared.capabilities.Hold.{Hold}
-use Rattle.cw_rights.specs.declared.capabilities.Hold.TheVariants.{Closed, Open as OpenHold}
+use Rattle.cw_rights.specs.declared.capabilities.Hold.TheVariants.{Closed}
 use Rattle.cw_rights.specs.declared.capabilities.Caps.{Caps}
 use Rattle.cw_rights.specs.declared.capabilities.Primitive.{Primitive}
 use Rattle.cw_rights.specs.declared.capabilities.Primitive.TheVariants.{Limit, Enter, Split}
 use Rattle.cw_rights.specs.declared.capabilities.Allowed.{Allowed}
 use Rattle.cw_rights.specs.declared.capabilities.Allowed.TheVariants.{Yes, NotCapable, BadDescriptor}
-use Rattle.cw_rights.specs.Capabilities.{allowed, applied, opened, closed, hold_of, is_open_with, HoldsRight, IsAllowed}
+use Rattle.cw_rights.specs.Capabilities.{allowed, applied, closed, hold_of, is_open_with, HoldsRight, IsAllowed}
 use Rattle.cw_rights.specs.Policies.{PlainDescriptor, PlainPolicy}
 use Rattle.cw_rights.proofs.LawProofs.{never_grow}
 use Rattle.cw_certs.specs.declared.moves.Move.{Move}
 use Rattle.cw_certs.specs.declared.moves.Move.TheVariants.{Skip, Try, Grant, Refuse, On, Left, Right, Opened, Failed}
-use Rattle.cw_syntax.specs.Plans.{Stm, Plain, Break, Continue, Return, Open, Close, Call, Group, Label, If, While, Do, For}
-use Rattle.cw_syntax.specs.Frames.{Item, Entry, Todo, Test, After, Mark, End, Frame, Way, pass}
+use Rattle.cw_syntax.specs.Plans.{Plain, Break, Continue, Return, Open, Close, Call, Group, Label, If, While, Do, For}
+use Rattle.cw_syntax.specs.Frames.{Entry, Todo, Test, After, Mark, End, Frame, Way, pass}
 use Rattle.cw_syntax.specs.Frames.{On as OnWay, Left as LeftWay, Right as RightWay, Opened as OpenedWay, Failed as FailedWay}
-use Rattle.cw_model.specs.Boards.{Problem, Phase, Visit, Asked, Free, FreeSplit, Over, Board, onward, is_yes, may_grant, may_refuse, way_of, with_opened, after_open, given_back, caps_after, landed, stepped, granted, passed_by, answered, moved, Moves, Party, Weaver, Environment, turn_of}
+use Rattle.cw_model.specs.Boards.{Problem, Phase, Visit, Asked, Free, FreeSplit, Over, Board, is_yes, may_grant, may_refuse, with_opened, caps_after, landed, stepped, granted, passed_by, moved, turn_of}
 use Rattle.cw_model.specs.Laws.{party_of, OnePartyMoves, OverHasNoMove, RefusedIsSkipped, EndsSplit, CapabilityModeStays, RightsNeverGrow}
 
 pub cond_some : {A : Type 0} (c : Bool) (x y : A) → cond c (Some x) None ≡ Some y → (c ≡ true) × (x ≡ y)

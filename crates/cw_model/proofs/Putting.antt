@@ -3,7 +3,7 @@ use Rattle.std.proofs.Common.{◌≡◌, ◌≤◌, ℕ, ◌+◌, List, drop, le
 use Rattle.cw_syntax.specs.declared.program.Stmt.{Stmt}
 use Rattle.cw_syntax.specs.Plans.{Scene, numbered_all, seams_all}
 use Rattle.cw_syntax.specs.Frames.{Frame, items_of}
-use Rattle.cw_model.specs.Held.{stms_in}
+use Rattle.cw_actions.specs.Scenes.{stms_in}
 
 pub record Puts (s : Scene) (xs : List Stmt) (seam : ℕ) (rest : Frame) (i at : ℕ) (frame : Frame) : Type 0 where
   pub within : i ≤ length xs

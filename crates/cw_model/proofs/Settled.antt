@@ -1,19 +1,19 @@
 -- Rewriting the front of a frame.
-use Rattle.std.proofs.Common.{◌≡◌, ◌<◌, ℕ, ◌+◌, ◌∷◌, Bool, true, false, Option, Some, None, Vec, Box, Global, refl, sym, ap, ap₂, ◌∙◌, arith}
+use Rattle.std.proofs.Common.{◌≡◌, ◌<◌, ℕ, ◌+◌, ◌∷◌, Bool, true, false, Option, Some, None, Vec, Box, Global, refl, sym, ap, ◌∙◌, arith}
 use Rattle.std.specs.Prelude.{option_map, is_some}
-use denote.Hole.Carrier
 use Rattle.std.specs.declared.collections.VecDeque.{VecDeque}
 use Rattle.cw_syntax.specs.declared.program.Expr.{Expr}
 use Rattle.cw_syntax.specs.declared.program.Stmt.{Stmt}
-use Rattle.cw_syntax.specs.declared.program.Head.{Head, Head', out-Head, Head-init-None', Head-init-Some'}
+use Rattle.cw_syntax.specs.declared.program.Head.{Head, out-Head}
 use Rattle.cw_syntax.specs.declared.program.What.TheVariants.{Block, Expr as ExprWhat, While as WhileWhat, Do as DoWhat, For as ForWhat}
-use Rattle.cw_syntax.specs.Trees.{Statement, form_of, for_of, tree_of, statement_of}
-use Rattle.cw_syntax.specs.Plans.{Action, Computes, Opens, Closes, Invokes, action_of, acting, Stm, Group, While, Do, For, Stms, end, then, Scene, numbered, numbered_all, steps_of, steps_of_form}
+use Rattle.cw_syntax.specs.Trees.{form_of, tree_of}
+use Rattle.cw_syntax.specs.Plans.{Action, Computes, Opens, Closes, Invokes, action_of, acting, Stm, Group, While, Do, Stms, end, then, Scene, numbered, numbered_all, steps_of_form}
 use Rattle.cw_syntax.specs.Frames.{Todo, Test, Mark, Frame, items_of, init_if, opened, opened_all, settle}
 use Rattle.cw_model.specs.declared.items.Item.{Item as Held}
 use Rattle.cw_model.specs.declared.frames.Rewritten.TheVariants.{Last, More}
-use Rattle.cw_model.specs.Held.{stm_in, stms_in, frame_in, weights, frame_weight, Rewrites}
-use Rattle.cw_model.proofs.Shapes.{block_steps}
+use Rattle.cw_actions.specs.Scenes.{stm_in, stms_in}
+use Rattle.cw_model.specs.Held.{frame_in, weights, frame_weight, Rewrites}
+use Rattle.cw_actions.proofs.Shapes.{block_steps, for_by, for_steps}
 
 settle_all : (ss : Stms) (rest : Frame) → opened_all ss rest (settle rest) ≡ settle (items_of ss rest)
 settle_all end rest = refl
@@ -52,18 +52,6 @@ module _ (s : Scene) where
   pub a_do : (st : Stmt) (b : Box Stmt Global) (e : Expr) (j : ℕ) (rest : Frame) (d : VecDeque Held Global) → st.what ≡ DoWhat b e → frame_in s d ≡ Todo (numbered (stm_in s b.value) j) ∷ Looped st.from true false b.value j rest → Rewrites s (At st j rest) (More d)
   a_do st b e j rest d q f = more st (Do st.from (stm_in s b.value)) j rest (Todo (numbered (stm_in s b.value) j) ∷ Looped st.from true false b.value j rest) d (ap (λ w. steps_of_form s st.from (form_of w)) q) f refl (omega arith)
 
-  abbrev For_of : ℕ → Head → Stm → Stm
-  For_of at h body = For at (option_map (λ i. i.from) (out-Head h).init) (is_some (out-Head h).test) (is_some (out-Head h).step) body
-
-  some_tree : (e : Option Expr) → is_some (option_map tree_of e) ≡ is_some e
-  some_tree None = refl
-  some_tree (Some e) = refl
-
-  pub for_steps : (at : ℕ) (h : Head) (body : Statement) → steps_of_form s at (for_of h body) ≡ For_of at h (steps_of s body)
-  unfolding out-Head Carrier.out
-  for_steps at (Head' Head-init-None' test step) body = ap₂ (λ t u. For at None t u (steps_of s body)) (some_tree test) (some_tree step)
-  for_steps at (Head' (Head-init-Some' what from to) test step) body = ap₂ (λ t u. For at (Some from) t u (steps_of s body)) (some_tree test) (some_tree step)
-
   init_settles : (init : Option ℕ) (at : ℕ) (decided stepped : Bool) (b : Stm) (rest : Frame) → settle (init_if init (Test at decided stepped b ∷ (Mark ∷ rest))) ≡ init_if init (Test at decided stepped b ∷ (Mark ∷ rest))
   init_settles None at decided stepped b rest = refl
   init_settles (Some i) at decided stepped b rest = refl
@@ -77,8 +65,8 @@ module _ (s : Scene) where
       let o = out-Head h.value in
       let body = numbered (stm_in s b.value) j in
       let init = option_map (λ (i : Stmt). i.from) o.init in
-      more st (For_of st.from h.value (stm_in s b.value)) j rest (init_if init (Looped st.from (is_some o.test) (is_some o.step) b.value j rest)) d
-      (ap (λ w. steps_of_form s st.from (form_of w)) q ∙ for_steps st.from h.value (statement_of b.value)) f
+      more st (for_by s st.from h.value (stm_in s b.value)) j rest (init_if init (Looped st.from (is_some o.test) (is_some o.step) b.value j rest)) d
+      (for_steps s st.from st.what h b q) f
       (init_settles init st.from (is_some o.test) (is_some o.step) body rest)
       (init_weighs init st.from (is_some o.test) (is_some o.step) body rest)
 

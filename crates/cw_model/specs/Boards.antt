@@ -1,31 +1,27 @@
 -- Boards, and the moves of the weaver and of the environment. The game is that of Harris, Jha, Reps, Anderson and Watson (2013) over
 -- stacks of frames, as in the visibly pushdown games of Löding, Madhusudan and Serre (2004); the primitives are those of
 -- capsicum(4), cap_enter(2) and cap_rights_limit(2).
-use Rattle.std.specs.Prelude.{◌≡◌, ◌≢◌, ◌⊎◌, ℕ, zero, suc, List, [], ◌∷◌, ◌++◌, Bool, true, false, cond, not, ◌||◌, Option, Some, None, option_map, option_and_then, map, slice_get}
+use Rattle.std.specs.Prelude.{◌≡◌, ◌≢◌, ◌⊎◌, ℕ, zero, suc, List, [], ◌∷◌, ◌++◌, Bool, true, false, cond, not, ◌||◌, Option, Some, None, option_map, slice_get}
 use Rattle.cw_rights.specs.declared.capabilities.Caps.{Caps}
 use Rattle.cw_rights.specs.declared.capabilities.Primitive.{Primitive}
 use Rattle.cw_rights.specs.declared.capabilities.Primitive.TheVariants.{Limit, Enter, Split}
 use Rattle.cw_rights.specs.declared.capabilities.Allowed.{Allowed}
 use Rattle.cw_rights.specs.declared.capabilities.Allowed.TheVariants.{Yes, NotCapable, BadDescriptor}
-use Rattle.cw_rights.specs.declared.words.Letter.{Letter}
 use Rattle.cw_rights.specs.Capabilities.{allowed, applied, opened, closed}
 use Rattle.cw_rights.specs.Words.{Word}
 use Rattle.cw_rights.specs.Policies.{PlainDescriptor, PlainPolicy, IsBad, is_refusable, primitives, start_caps}
 use Rattle.cw_certs.specs.declared.moves.Move.{Move}
 use Rattle.cw_certs.specs.declared.moves.Move.TheVariants.{Skip, Try, Grant, Refuse, On, Left, Right, Opened, Failed}
-use Rattle.cw_syntax.specs.Names.{Names}
+use Rattle.cw_actions.specs.Scenes.{names_of}
 use Rattle.cw_syntax.specs.Trees.{File}
-use Rattle.cw_syntax.specs.Plans.{Stm, Plain, Break, Continue, Return, Open, Close, Call, Group, Label, If, While, Do, For, Plan, plan_of}
-use Rattle.cw_syntax.specs.Frames.{Item, Entry, Todo, Test, After, Mark, End, Frame, Way, pass, start_stack}
+use Rattle.cw_syntax.specs.Plans.{Open, Close, Call, Label, Plan, plan_of}
+use Rattle.cw_syntax.specs.Frames.{Entry, Todo, End, Frame, Way, pass, start_stack}
 use Rattle.cw_syntax.specs.Frames.{On as OnWay, Left as LeftWay, Right as RightWay, Opened as OpenedWay, Failed as FailedWay}
 
 -- A program and the policy that it is to meet.
 pub record Problem : Type 0 where
   pub plan : Plan
   pub policy : PlainPolicy
-
-abbrev pub names_of : PlainPolicy → Names
-names_of policy = record { descriptors = map (λ d. d.name) policy.descriptors; labels = policy.labels; splits = policy.split }
 
 abbrev pub problem_of : PlainPolicy → List ℕ → File → Problem
 problem_of policy source file = record { plan = plan_of (names_of policy) source file; policy = policy }

@@ -2,29 +2,14 @@
 use Rattle.std.specs.Prelude.{◌≡◌, ◌<◌, suc, ◌+◌, ℕ, List, [], ◌∷◌, map}
 use Rattle.std.specs.declared.collections.VecDeque.{VecDeque}
 use Rattle.std.specs.declared.alloc.Global.{Global}
-use Rattle.cw_rights.specs.Policies.{PlainPolicy}
-use Rattle.cw_syntax.specs.declared.checked.Checked.{Checked}
-use Rattle.cw_syntax.specs.declared.program.Stmt.{Stmt}
 use Rattle.cw_syntax.specs.declared.program.Function.{Function}
-use Rattle.cw_syntax.specs.Trees.{statement_of, statements_of, file_of}
-use Rattle.cw_syntax.specs.Plans.{Stm, Stms, Plain, Group, While, Do, For, end, then, Scene, scene_of, steps_of, steps_of_all, numbered, seams_all, Plan, plan_of}
+use Rattle.cw_syntax.specs.Plans.{Stm, Stms, Plain, Group, While, Do, For, end, then, Scene, numbered, seams_all}
 use Rattle.cw_syntax.specs.Frames.{Item, Entry, Todo, Test, After, Mark, End, Frame, settle}
 use Rattle.cw_model.specs.declared.items.Item.{Item as Held}
 use Rattle.cw_model.specs.declared.items.Item.TheVariants.{Entry as HeldEntry, Todo as HeldTodo, Nothing as HeldNothing, Init as HeldInit, Test as HeldTest, After as HeldAfter, Mark as HeldMark, End as HeldEnd}
 use Rattle.cw_model.specs.declared.frames.Rewritten.{Rewritten}
 use Rattle.cw_model.specs.declared.frames.Rewritten.TheVariants.{Last, More}
-use Rattle.cw_model.specs.Boards.{names_of}
-
--- a source with the names of its functions and of its policy
-abbrev pub scene_in : Checked → PlainPolicy → Scene
-scene_in checked policy = scene_of (names_of policy) checked.source.now (file_of checked.program)
-
--- a statement by its steps, its seams not yet numbered
-abbrev pub stm_in : Scene → Stmt → Stm
-stm_in s statement = steps_of s (statement_of statement)
-
-abbrev pub stms_in : Scene → List Stmt → Stms
-stms_in s statements = steps_of_all s (statements_of statements)
+use Rattle.cw_actions.specs.Scenes.{stm_in, stms_in}
 
 -- a statement that is still to do is held with the number of its first seam
 abbrev pub item_of : Scene → Held → Item
@@ -67,9 +52,6 @@ frame_weight (i ∷ is) = item_weight i + frame_weight is
 abbrev pub Rewrites : Scene → Frame → Rewritten → Type 0
 Rewrites s frame (Last next) = frame_in s next ≡ settle frame
 Rewrites s frame (More next) = (settle (frame_in s next) ≡ settle frame) × (frame_weight (frame_in s next) < frame_weight frame)
-
-abbrev pub plan_in : Checked → PlainPolicy → Plan
-plan_in checked policy = plan_of (names_of policy) checked.source.now (file_of checked.program)
 
 -- how many seams these functions have together
 abbrev pub seams_before : Scene → List Function → ℕ

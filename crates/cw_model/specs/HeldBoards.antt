@@ -16,7 +16,8 @@ use Rattle.cw_model.specs.declared.kinds.Kind.{Kind}
 use Rattle.cw_model.specs.declared.kinds.Kind.TheVariants.{Open, Close, Call, Label, End}
 use Rattle.cw_model.specs.declared.boards.State.{State}
 use Rattle.cw_model.specs.declared.boards.Board.{Board as HeldBoard}
-use Rattle.cw_model.specs.Held.{scene_in, stack_in}
+use Rattle.cw_actions.specs.Scenes.{scene_in}
+use Rattle.cw_model.specs.Held.{stack_in}
 use Rattle.cw_model.specs.Choices.{primitives_at, phase_by}
 use Rattle.cw_model.specs.Boards.{Problem, problem_of, Phase, Free, Board, Violates, Moves, after_open, given_back}
 

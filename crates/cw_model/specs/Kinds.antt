@@ -1,23 +1,17 @@
 -- What a front item does, without what stands in it or behind it.
 use Rattle.std.specs.Prelude.{Option, Some, None, List, [], ◌∷◌}
-use Rattle.cw_syntax.specs.Plans.{Action, Computes, Opens, Closes, Invokes, Stm, Plain, Break, Continue, Return, Open, Close, Call, Group, Label, If, While, Do, For}
+use Rattle.cw_syntax.specs.Plans.{Stm, Plain, Break, Continue, Return, Open, Close, Call, Group, Label, If, While, Do, For}
 use Rattle.cw_syntax.specs.Frames.{Item, Entry, Todo, Test, After, Mark, End, Frame}
-use Rattle.cw_model.specs.declared.actions.Act.{Act}
-use Rattle.cw_model.specs.declared.actions.Act.TheVariants.{Computes as ComputesAct, Opens as OpensAct, Closes as ClosesAct, Invokes as InvokesAct}
+use Rattle.cw_actions.specs.declared.actions.Act.{Act}
+use Rattle.cw_actions.specs.declared.actions.Act.TheVariants.{Computes as ComputesAct, Opens as OpensAct, Closes as ClosesAct, Invokes as InvokesAct}
 use Rattle.cw_model.specs.declared.kinds.Kind.{Kind}
 use Rattle.cw_model.specs.declared.kinds.Kind.TheVariants.{Entry as EntryKind, Plain as PlainKind, Break as BreakKind, Continue as ContinueKind, Return as ReturnKind, Open as OpenKind, Close as CloseKind, Call as CallKind, Group as GroupKind, Label as LabelKind, If as IfKind, Loop as LoopKind, Test as TestKind, Step as StepKind, Mark as MarkKind, End as EndKind}
-
-abbrev pub act_of : Action → Act
-act_of Computes = ComputesAct
-act_of (Opens d) = OpensAct d
-act_of (Closes d) = ClosesAct d
-act_of (Invokes callee) = InvokesAct callee.number callee.split
 
 abbrev pub act_kind : Act → Kind
 act_kind ComputesAct = PlainKind
 act_kind (OpensAct d) = OpenKind d
 act_kind (ClosesAct d) = CloseKind d
-act_kind (InvokesAct number split) = CallKind number split
+act_kind (InvokesAct number split result) = CallKind number split
 
 abbrev pub kind_of : Stm → Kind
 kind_of (Plain at) = PlainKind

@@ -1,10 +1,10 @@
 -- What holds of every board and every move, for all programs and policies.
-use Rattle.std.specs.Prelude.{◌≡◌, ◌⊎◌, ℕ, List, [], ◌∷◌, Bool, true, false, Option, Some, None}
+use Rattle.std.specs.Prelude.{◌≡◌, ◌⊎◌, ℕ, List, ◌∷◌, false, Option, Some}
 use Rattle.cw_rights.specs.declared.capabilities.Caps.{Caps}
 use Rattle.cw_rights.specs.Capabilities.{HoldsRight}
 use Rattle.cw_certs.specs.declared.moves.Move.{Move}
-use Rattle.cw_certs.specs.declared.moves.Move.TheVariants.{Skip, Try, Grant, Refuse, On, Left, Right, Opened, Failed}
-use Rattle.cw_syntax.specs.Frames.{Item, End, Frame}
+use Rattle.cw_certs.specs.declared.moves.Move.TheVariants.{Skip, Try, Refuse, Opened}
+use Rattle.cw_syntax.specs.Frames.{End, Frame}
 use Rattle.cw_model.specs.Boards.{Problem, Over, Board, Moves, Party, Weaver, Environment, turn_of}
 
 -- whose move it is

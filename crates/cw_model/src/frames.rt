@@ -5,7 +5,8 @@ ghost use Rattle.cw_syntax.specs.Plans.{Scene, numbered, numbered_all};
 ghost use Rattle.cw_syntax.specs.Frames.{Todo, Test, Mark, items_of, init_if, settle, broken, continued, ended};
 ghost use Rattle.cw_syntax.specs.declared.program.Head.{out-Head};
 ghost use Rattle.cw_rights.specs.Policies.{policy_of};
-ghost use Rattle.cw_model.specs.Held.{scene_in, stm_in, stms_in, item_of, frame_in, Rewrites};
+ghost use Rattle.cw_actions.specs.Scenes.{scene_in, stm_in, stms_in};
+ghost use Rattle.cw_model.specs.Held.{item_of, frame_in, Rewrites};
 
 use crate::items::Item;
 use crate::seams::{seams, seams_all};

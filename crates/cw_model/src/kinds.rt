@@ -5,12 +5,12 @@ ghost use Rattle.cw_syntax.specs.Plans.{steps_of_form};
 ghost use Rattle.cw_syntax.specs.Trees.{form_of};
 ghost use Rattle.cw_rights.specs.Policies.{policy_of};
 ghost use Rattle.cw_rights.specs.Valid.{IsValid};
-ghost use Rattle.cw_model.specs.Held.{scene_in, item_of, stack_in};
+ghost use Rattle.cw_actions.specs.Scenes.{scene_in};
+ghost use Rattle.cw_model.specs.Held.{item_of, stack_in};
 ghost use Rattle.cw_model.specs.Kinds.{act_kind, kind_of, item_kind, front_kind};
 
-use crate::actions::{Act, action_of};
 use crate::items::Item;
-use crate::names::{label_number, text};
+use cw_actions::{Act, action_of, label_number, text};
 use cw_rights::Policy;
 use cw_syntax::checked::Checked;
 use cw_syntax::program::What;
@@ -44,7 +44,11 @@ fn act_kind(act: Act) -> Kind
         Act::Computes => Kind::Plain,
         Act::Opens(d) => Kind::Open(d),
         Act::Closes(d) => Kind::Close(d),
-        Act::Invokes { function, split } => Kind::Call { function, split },
+        Act::Invokes {
+            function,
+            split,
+            ..
+        } => Kind::Call { function, split },
     }
 }
 

@@ -1,7 +1,6 @@
 //! The model of a program under a policy: boards and their moves, woven runs, strategies.
 #![tactic(auto)]
 
-mod actions;
 mod boards;
 mod changes;
 mod choices;
@@ -10,7 +9,6 @@ mod items;
 mod kinds;
 pub mod laws;
 mod moves;
-mod names;
 mod seams;
 mod steps;
 #[cfg(test)]

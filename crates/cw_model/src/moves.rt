@@ -7,7 +7,8 @@ ghost use Rattle.cw_syntax.specs.Plans.{Scene};
 ghost use Rattle.cw_syntax.specs.Frames.{broken, continued, frame_of, pass, popped};
 ghost use Rattle.cw_model.specs.Boards.{moved, way_of, IsWeavers};
 ghost use Rattle.cw_model.specs.Choices.{primitives_at, phase_by};
-ghost use Rattle.cw_model.specs.Held.{scene_in, plan_in, frame_in, stack_in};
+ghost use Rattle.cw_actions.specs.Scenes.{scene_in, plan_in};
+ghost use Rattle.cw_model.specs.Held.{frame_in, stack_in};
 ghost use Rattle.cw_model.specs.HeldBoards.{board_in, board_of, problem_in, IsBoard, HasMove, may_turn, may_step};
 ghost use Rattle.cw_model.specs.Turns.{way_in};
 

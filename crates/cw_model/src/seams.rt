@@ -4,9 +4,9 @@ ghost use Rattle.std.specs.Prelude.{◌≡◌, IfSome};
 ghost use Rattle.cw_syntax.specs.Plans.{acting, action_of, seams, seams_all};
 ghost use Rattle.cw_syntax.specs.Trees.{tree_of};
 ghost use Rattle.cw_rights.specs.Policies.{policy_of};
-ghost use Rattle.cw_model.specs.Held.{scene_in, stm_in, stms_in};
+ghost use Rattle.cw_actions.specs.Scenes.{scene_in, stm_in, stms_in};
 
-use crate::actions::{Act, action_of};
+use cw_actions::{Act, action_of};
 use cw_rights::Policy;
 use cw_syntax::checked::Checked;
 use cw_syntax::program::{Expr, Stmt, What};

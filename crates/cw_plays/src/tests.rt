@@ -10,8 +10,8 @@ ghost use Rattle.cw_plays.specs.Order.{order};
 use cw_certs::Move;
 use cw_core::NoMemory;
 use cw_model::{Moves, board_move, board_moves, board_start};
-use cw_parse::first::read_first;
 use cw_rights::{Descriptor, Limit, Lit, Policy, Regex, Rights, Rule, Test};
+use cw_source::{SourceFault, read_source};
 use cw_syntax::checked::Checked;
 use cw_syntax::program::{Base, CType, Expr, Function, Name, Op, Program, Stmt, What};
 use std::alloc::{AllocError, Global};
@@ -117,9 +117,10 @@ fn plays(
 fn checked(alloc: Global, source: &'static [u8]) -> Result<Option<Checked<'static>>, NoMemory>
     requires { length source.now ≤ 262144 }
 {
-    match read_first(alloc, source)? {
-        None => Ok(None),
-        Some(program) => Ok(Some(Checked { source, program })),
+    match read_source(alloc, source) {
+        Ok(program) => Ok(Some(Checked { source, program })),
+        Err(SourceFault::NoMemory) => Err(NoMemory),
+        Err(_) => Ok(None),
     }
 }
 

@@ -1,12 +1,16 @@
-pub mod Blocks
-pub mod Lengths
-pub mod Letters
-pub mod Emits
-pub mod Placing
-pub mod Seams
-pub mod LaidGraph
-pub mod Plains
-pub mod Lays
-pub mod Marking
-pub mod Example
-pub mod Rows
+pub mod Placed
+pub mod Held
+pub mod Laying
+pub mod Standing
+pub mod Ways
+pub mod Passing
+pub mod Walking
+mod Shapes
+mod Counting
+mod Drawn
+mod Lengths
+mod Adding
+mod Told
+mod Functions
+mod Marked
+mod Numbers

@@ -1,5 +1,6 @@
-pub mod Example
-pub mod First
-pub mod Layout
-pub mod Marked
-pub mod Order
+pub mod Points
+pub mod Graphs
+pub mod Walks
+pub mod Sizes
+pub mod Drawing
+pub mod Marking

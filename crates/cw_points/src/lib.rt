@@ -1,8 +1,17 @@
-//! The points of a program of the first form: its positions and its marks.
+//! The points of a program, the seams among them, and where each point leads.
 #![tactic(auto)]
 
-pub mod first;
+pub mod build;
+mod count;
+mod draft;
+mod fault;
+mod graph;
+pub mod laws;
+mod lay;
 pub mod marks;
-pub mod positions;
 #[cfg(test)]
 mod tests;
+
+pub use count::MOST_POINTS;
+pub use fault::PointsFault;
+pub use graph::{Graph, Node, Part, Point, Seam};

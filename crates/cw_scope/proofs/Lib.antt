@@ -8,3 +8,5 @@ pub mod Found
 pub mod Acting
 pub mod Once
 pub mod Starting
+pub mod Firsts
+pub mod Seen

@@ -5,9 +5,11 @@ ghost use Rattle.cw_syntax.specs.Trees.{definition_of, file_of};
 ghost use Rattle.cw_scope.specs.Rules.{second_label};
 ghost use Rattle.cw_scope.specs.Faults.{no_main, two_functions, two_labels, arity, call_form, main_called, reserved_name, jump, limit, scope_fault, IsDue};
 ghost use Rattle.cw_scope.specs.Held.{placed_of, whole_of, tree_at};
+ghost use Rattle.cw_scope.specs.Known.{IsKnown};
 
 use crate::faults::ScopeFault;
 use crate::forms::wrong_forms;
+use crate::functions::{Functions, by_names};
 use crate::lists::{body_of, every_node, every_statement, every_whole};
 use crate::names::{every_name, function_names, labels, uses};
 use crate::places;
@@ -77,10 +79,11 @@ fn two_labels(
 }
 
 #[tactic(auto, unfolding(crate::specs::Faults::arity))]
-fn arity(source: &[u8], program: &Program, nodes: &[&Expr]) -> Option<ScopeFault>
-    ensures { result ≡ arity source.now (file_of program.now) (map tree_at nodes.now) }
+fn arity(known: &Functions, nodes: &[&Expr]) -> Option<ScopeFault>
+    requires known { IsKnown known.now }
+    ensures { result ≡ arity known.now.source.now (file_of known.now.program.now) (map tree_at nodes.now) }
 {
-    match places::wrong_arities(source, program, nodes) {
+    match places::wrong_arities(known, nodes) {
         None => None,
         Some(place) => Some(ScopeFault::Arity(place)),
     }
@@ -89,15 +92,15 @@ fn arity(source: &[u8], program: &Program, nodes: &[&Expr]) -> Option<ScopeFault
 #[tactic(auto, unfolding(crate::specs::Faults::call_form))]
 fn call_form(
     alloc: Global,
-    source: &[u8],
-    program: &Program,
+    known: &Functions,
     names: &[Name],
     wholes: &[Whole],
 ) -> Result<Option<ScopeFault>, AllocError>
-    ensures { IfOk result (λ fault. fault ≡ call_form source.now (file_of program.now) names.now (map whole_of wholes.now)) }
+    requires known { IsKnown known.now }
+    ensures { IfOk result (λ fault. fault ≡ call_form known.now.source.now (file_of known.now.program.now) names.now (map whole_of wholes.now)) }
 {
-    let named = places::function_names(source, program, names);
-    let called = wrong_forms(alloc, source, program, wholes)?;
+    let named = places::function_names(known, names);
+    let called = wrong_forms(alloc, known, wholes)?;
     match sooner(named, called) {
         None => Ok(None),
         Some(place) => Ok(Some(ScopeFault::CallForm(place))),
@@ -165,14 +168,15 @@ fn scope_fault(
     let wholes = every_whole(alloc, program, &statements)?;
     let nodes = every_node(alloc, &wholes)?;
     let used = uses(alloc, program, &statements, &nodes)?;
-    let called = call_form(alloc, source, program, &used, &wholes)?;
+    let known = by_names(alloc, source, program)?;
+    let called = call_form(alloc, &known, &used, &wholes)?;
     let names = every_name(program, used, &nodes)?;
     let labels = labels(alloc, &statements)?;
     Ok(
         no_main(source, program)
             .or(two_functions(alloc, source, program)?)
             .or(two_labels(alloc, source, program)?)
-            .or(arity(source, program, &nodes))
+            .or(arity(&known, &nodes))
             .or(called)
             .or(main_called(source, &nodes))
             .or(reserved_name(source, &names))

@@ -7,11 +7,13 @@ ghost use Rattle.cw_syntax.specs.Trees.{Node, none, more, tree_of, trees_of, fil
 ghost use Rattle.cw_scope.specs.Walks.{nodes};
 ghost use Rattle.cw_scope.specs.Rules.{least, is_call, defined_call, external_call, statement_call, standing_call, misplaced, second_external, wrong_form};
 ghost use Rattle.cw_scope.specs.Held.{tree_at, whole_of};
+ghost use Rattle.cw_scope.specs.Known.{IsKnown};
 
+use crate::functions::Functions;
 use crate::places::defined_calls;
 use crate::rules::{defined_call, external_call, is_call, sooner};
 use crate::walks::{Whole, put_nodes, put_parts};
-use cw_syntax::program::{Expr, Op, Program};
+use cw_syntax::program::{Expr, Op};
 use std::alloc::{AllocError, Global};
 
 /// The call of an assignment of these two parts.
@@ -75,11 +77,12 @@ fn has_call(nodes: &[&Expr]) -> bool
 }
 
 /// The place of a statement's call of a defined function, where a call is among these, which are in its arguments.
-fn holding_call(source: &[u8], program: &Program, call: &Expr, inner: &[&Expr]) -> Option<u32>
-    ensures { result ≡ cond (list_any is_call (map tree_at inner.now)) (defined_call source.now (file_of program.now) (tree_of call.now)) None }
+fn holding_call(known: &Functions, call: &Expr, inner: &[&Expr]) -> Option<u32>
+    requires known { IsKnown known.now }
+    ensures { result ≡ cond (list_any is_call (map tree_at inner.now)) (defined_call known.now.source.now (file_of known.now.program.now) (tree_of call.now)) None }
 {
     if has_call(inner) {
-        defined_call(source, program, call)
+        defined_call(known, call)
     } else {
         None
     }
@@ -88,33 +91,34 @@ fn holding_call(source: &[u8], program: &Program, call: &Expr, inner: &[&Expr]) 
 /// The least place of a call of a defined function that may not stand where it does in an expression.
 fn misplaced(
     alloc: Global,
-    source: &[u8],
-    program: &Program,
+    known: &Functions,
     call: Option<&Expr>,
     tree: &Expr,
 ) -> Result<Option<u32>, AllocError>
-    ensures { IfOk result (λ place. place ≡ least (misplaced source.now (file_of program.now) (option_map tree_at call.entry) (tree_of tree.now))) }
+    requires known { IsKnown known.now }
+    ensures { IfOk result (λ place. place ≡ least (misplaced known.now.source.now (file_of known.now.program.now) (option_map tree_at call.entry) (tree_of tree.now))) }
 {
     let mut inner = Vec::new(alloc);
     match call {
         None => {
             put_nodes(tree, &mut inner)?;
-            Ok(defined_calls(source, program, &inner))
+            Ok(defined_calls(known, &inner))
         }
         Some(call) => {
             put_parts(&call.parts, &mut inner)?;
-            let own = holding_call(source, program, call, &inner);
-            Ok(sooner(own, defined_calls(source, program, &inner)))
+            let own = holding_call(known, call, &inner);
+            Ok(sooner(own, defined_calls(known, &inner)))
         }
     }
 }
 
-fn second_call(source: &[u8], program: &Program, nodes: &[&Expr]) -> Option<u32>
-    ensures { result ≡ slice_get (filter_map (external_call source.now (file_of program.now)) (map tree_at nodes.now)) 1 }
+fn second_call(known: &Functions, nodes: &[&Expr]) -> Option<u32>
+    requires known { IsKnown known.now }
+    ensures { result ≡ slice_get (filter_map (external_call known.now.source.now (file_of known.now.program.now)) (map tree_at nodes.now)) 1 }
 {
     let mut seen = false;
     for e in nodes {
-        if let Some(place) = external_call(source, program, e) {
+        if let Some(place) = external_call(known, e) {
             if seen {
                 return Some(place);
             }
@@ -125,30 +129,22 @@ fn second_call(source: &[u8], program: &Program, nodes: &[&Expr]) -> Option<u32>
 }
 
 /// The second external call of an expression.
-fn second_external(
-    alloc: Global,
-    source: &[u8],
-    program: &Program,
-    tree: &Expr,
-) -> Result<Option<u32>, AllocError>
-    ensures { IfOk result (λ place. place ≡ second_external source.now (file_of program.now) (tree_of tree.now)) }
+fn second_external(alloc: Global, known: &Functions, tree: &Expr) -> Result<Option<u32>, AllocError>
+    requires known { IsKnown known.now }
+    ensures { IfOk result (λ place. place ≡ second_external known.now.source.now (file_of known.now.program.now) (tree_of tree.now)) }
 {
     let mut all = Vec::new(alloc);
     put_nodes(tree, &mut all)?;
-    Ok(second_call(source, program, &all))
+    Ok(second_call(known, &all))
 }
 
 /// The least place at which a whole expression breaks the rule on the forms of calls.
-fn wrong_form(
-    alloc: Global,
-    source: &[u8],
-    program: &Program,
-    whole: Whole,
-) -> Result<Option<u32>, AllocError>
-    ensures { IfOk result (λ place. place ≡ wrong_form source.now (file_of program.now) (whole_of whole.entry)) }
+fn wrong_form(alloc: Global, known: &Functions, whole: Whole) -> Result<Option<u32>, AllocError>
+    requires known { IsKnown known.now }
+    ensures { IfOk result (λ place. place ≡ wrong_form known.now.source.now (file_of known.now.program.now) (whole_of whole.entry)) }
 {
-    let own = misplaced(alloc, source, program, standing_call(whole), whole.tree)?;
-    let second = second_external(alloc, source, program, whole.tree)?;
+    let own = misplaced(alloc, known, standing_call(whole), whole.tree)?;
+    let second = second_external(alloc, known, whole.tree)?;
     Ok(sooner(own, second))
 }
 
@@ -156,15 +152,15 @@ fn wrong_form(
 #[tactic(auto, using(crate::proofs::Lesser::sooner_assoc))]
 pub(crate) fn wrong_forms(
     alloc: Global,
-    source: &[u8],
-    program: &Program,
+    known: &Functions,
     wholes: &[Whole],
 ) -> Result<Option<u32>, AllocError>
-    ensures { IfOk result (λ place. place ≡ least (map (wrong_form source.now (file_of program.now)) (map whole_of wholes.now))) }
+    requires known { IsKnown known.now }
+    ensures { IfOk result (λ place. place ≡ least (map (wrong_form known.now.source.now (file_of known.now.program.now)) (map whole_of wholes.now))) }
 {
     let mut place = None;
     for whole in wholes {
-        place = sooner(place, wrong_form(alloc, source, program, *whole)?);
+        place = sooner(place, wrong_form(alloc, known, *whole)?);
     }
     Ok(place)
 }

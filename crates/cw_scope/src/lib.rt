@@ -7,6 +7,7 @@ pub mod descriptors;
 mod entries;
 pub mod faults;
 mod forms;
+mod functions;
 mod lists;
 mod names;
 mod places;

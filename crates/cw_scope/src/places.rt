@@ -4,41 +4,46 @@ ghost use Rattle.std.specs.Prelude.{◌≡◌, map};
 ghost use Rattle.cw_syntax.specs.Trees.{file_of};
 ghost use Rattle.cw_scope.specs.Rules.{least, wrong_arity, function_name, defined_call, main_call, reserved, loose_jump};
 ghost use Rattle.cw_scope.specs.Held.{placed_of, tree_at};
+ghost use Rattle.cw_scope.specs.Known.{IsKnown};
 
+use crate::functions::Functions;
 use crate::rules;
 use crate::rules::sooner;
 use crate::walks::Placed;
-use cw_syntax::program::{Expr, Name, Program};
+use cw_syntax::program::{Expr, Name};
 
 #[tactic(auto, using(crate::proofs::Lesser::sooner_assoc))]
-pub(crate) fn wrong_arities(source: &[u8], program: &Program, nodes: &[&Expr]) -> Option<u32>
-    ensures { result ≡ least (map (wrong_arity source.now (file_of program.now)) (map tree_at nodes.now)) }
+pub(crate) fn wrong_arities(known: &Functions, nodes: &[&Expr]) -> Option<u32>
+    requires known { IsKnown known.now }
+    ensures { result ≡ least (map (wrong_arity known.now.source.now (file_of known.now.program.now)) (map tree_at nodes.now)) }
 {
     let mut place = None;
     for e in nodes {
-        place = sooner(place, rules::wrong_arity(source, program, e));
+        place = sooner(place, rules::wrong_arity(known, e));
     }
     place
 }
 
 #[tactic(auto, using(crate::proofs::Lesser::sooner_assoc))]
-pub(crate) fn function_names(source: &[u8], program: &Program, names: &[Name]) -> Option<u32>
-    ensures { result ≡ least (map (function_name source.now (file_of program.now)) names.now) }
+pub(crate) fn function_names(known: &Functions, names: &[Name]) -> Option<u32>
+    requires known { IsKnown known.now }
+    ensures { result ≡ least (map (function_name known.now.source.now (file_of known.now.program.now)) names.now) }
 {
     let mut place = None;
     for name in names {
-        place = sooner(place, rules::function_name(source, program, *name));
+        place = sooner(place, rules::function_name(known, *name));
     }
     place
 }
 
 #[tactic(auto, using(crate::proofs::Lesser::sooner_assoc))]
-pub(crate) fn defined_calls(source: &[u8], program: &Program, nodes: &[&Expr]) -> Option<u32>
-    ensures { result ≡ least (map (defined_call source.now (file_of program.now)) (map tree_at nodes.now)) }
+pub(crate) fn defined_calls(known: &Functions, nodes: &[&Expr]) -> Option<u32>
+    requires known { IsKnown known.now }
+    ensures { result ≡ least (map (defined_call known.now.source.now (file_of known.now.program.now)) (map tree_at nodes.now)) }
 {
     let mut place = None;
     for e in nodes {
-        place = sooner(place, rules::defined_call(source, program, e));
+        place = sooner(place, rules::defined_call(known, e));
     }
     place
 }

@@ -5,14 +5,17 @@ ghost use Rattle.std.specs.List.{list_any};
 ghost use Rattle.std.specs.Option.{option_map};
 ghost use Rattle.cw_syntax.specs.Names.{text};
 ghost use Rattle.cw_syntax.specs.Trees.{tree_of, definition_of, file_of};
-ghost use Rattle.cw_scope.specs.Rules.{sooner, at_if, repeated, different, is_main, is_reserved, is_call, defined, is_defined, has_main, wrong_arity, function_name, defined_call, external_call, main_call, reserved, loose_jump};
+ghost use Rattle.cw_scope.specs.Rules.{sooner, at_if, repeated, different, is_main, is_reserved, is_call, defined, has_main, wrong_arity, function_name, defined_call, external_call, main_call, reserved, loose_jump};
 ghost use Rattle.cw_scope.specs.Held.{placed_of};
+ghost use Rattle.cw_scope.specs.Known.{IsKnown};
 ghost use Rattle.std.specs.Str.{bytes_eq};
 
+use crate::functions::{Functions, found, is_defined};
 use crate::names::text;
 use crate::walks::Placed;
 use cw_syntax::program::{Expr, Function, Name, Op, Program, What};
 use std::alloc::{AllocError, Global};
+use std::collections::HashSet;
 
 /// The lesser of two places, where there is one.
 pub(crate) fn sooner(place: Option<u32>, other: Option<u32>) -> Option<u32>
@@ -34,17 +37,6 @@ pub(crate) fn at_if(fails: bool, place: u32) -> Option<u32>
     if fails { Some(place) } else { None }
 }
 
-fn is_among(text: &[u8], texts: &[&[u8]]) -> bool
-    ensures { result ≡ list_any (bytes_eq text.now) (map (λ t. t.now) texts.now) }
-{
-    for other in texts {
-        if text == *other {
-            return true;
-        }
-    }
-    false
-}
-
 /// The first name with the text of one before it.
 pub(crate) fn repeated(
     alloc: Global,
@@ -53,13 +45,11 @@ pub(crate) fn repeated(
 ) -> Result<Option<Name>, AllocError>
     ensures { IfOk result (λ found. found ≡ repeated source.now [] names.now) }
 {
-    let mut before = Vec::new(alloc);
+    let mut seen = HashSet::new(alloc);
     for name in names {
-        let spelled = text(source, *name);
-        if is_among(spelled, &before) {
+        if !seen.insert(text(source, *name))? {
             return Ok(Some(*name));
         }
-        before.push(spelled)?;
     }
     Ok(None)
 }
@@ -73,14 +63,11 @@ pub(crate) fn are_more(
 ) -> Result<bool, AllocError>
     ensures { IfOk result (λ more. more ≡ nat_lt most (length (different source.now [] names.now))) }
 {
-    let mut before = Vec::new(alloc);
+    let mut seen = HashSet::new(alloc);
     for name in names {
-        let spelled = text(source, *name);
-        if !is_among(spelled, &before) {
-            if before.len() >= most {
-                return Ok(true);
-            }
-            before.push(spelled)?;
+        seen.insert(text(source, *name))?;
+        if seen.len() > most {
+            return Ok(true);
         }
     }
     Ok(false)
@@ -98,13 +85,6 @@ pub(crate) fn defined<'p>(source: &[u8], program: &'p Program, name: &[u8]) -> O
     None
 }
 
-/// Whether a function with this name is defined.
-pub(crate) fn is_defined(source: &[u8], program: &Program, name: Name) -> bool
-    ensures { result ≡ is_defined source.now (file_of program.now) (text source.now name) }
-{
-    defined(source, program, text(source, name)).is_some()
-}
-
 fn main_text() -> &'static [u8]
     ensures { result.now ≡ codes "main" }
 {
@@ -119,11 +99,12 @@ pub(crate) fn has_main(source: &[u8], program: &Program) -> bool
 }
 
 /// A call of a defined function with another number of arguments than the function has parameters.
-pub(crate) fn wrong_arity(source: &[u8], program: &Program, e: &Expr) -> Option<u32>
-    ensures { result ≡ wrong_arity source.now (file_of program.now) (tree_of e.now) }
+pub(crate) fn wrong_arity(known: &Functions, e: &Expr) -> Option<u32>
+    requires known { IsKnown known.now }
+    ensures { result ≡ wrong_arity known.now.source.now (file_of known.now.program.now) (tree_of e.now) }
 {
     match e.op {
-        Op::Call(name) => match defined(source, program, text(source, name)) {
+        Op::Call(name) => match found(known, text(known.source, name)) {
             None => None,
             Some(function) => at_if(e.parts.len() != function.params.len(), e.from),
         },
@@ -132,10 +113,11 @@ pub(crate) fn wrong_arity(source: &[u8], program: &Program, e: &Expr) -> Option<
 }
 
 /// A name of a defined function.
-pub(crate) fn function_name(source: &[u8], program: &Program, name: Name) -> Option<u32>
-    ensures { result ≡ function_name source.now (file_of program.now) name }
+pub(crate) fn function_name(known: &Functions, name: Name) -> Option<u32>
+    requires known { IsKnown known.now }
+    ensures { result ≡ function_name known.now.source.now (file_of known.now.program.now) name }
 {
-    at_if(is_defined(source, program, name), name.from)
+    at_if(is_defined(known, name), name.from)
 }
 
 pub(crate) fn is_call(e: &Expr) -> bool
@@ -148,21 +130,23 @@ pub(crate) fn is_call(e: &Expr) -> bool
 }
 
 /// A call of a defined function.
-pub(crate) fn defined_call(source: &[u8], program: &Program, e: &Expr) -> Option<u32>
-    ensures { result ≡ defined_call source.now (file_of program.now) (tree_of e.now) }
+pub(crate) fn defined_call(known: &Functions, e: &Expr) -> Option<u32>
+    requires known { IsKnown known.now }
+    ensures { result ≡ defined_call known.now.source.now (file_of known.now.program.now) (tree_of e.now) }
 {
     match e.op {
-        Op::Call(name) => at_if(is_defined(source, program, name), e.from),
+        Op::Call(name) => at_if(is_defined(known, name), e.from),
         _ => None,
     }
 }
 
 /// A call of any other name.
-pub(crate) fn external_call(source: &[u8], program: &Program, e: &Expr) -> Option<u32>
-    ensures { result ≡ external_call source.now (file_of program.now) (tree_of e.now) }
+pub(crate) fn external_call(known: &Functions, e: &Expr) -> Option<u32>
+    requires known { IsKnown known.now }
+    ensures { result ≡ external_call known.now.source.now (file_of known.now.program.now) (tree_of e.now) }
 {
     match e.op {
-        Op::Call(name) => at_if(!is_defined(source, program, name), e.from),
+        Op::Call(name) => at_if(!is_defined(known, name), e.from),
         _ => None,
     }
 }

@@ -2,6 +2,7 @@
 #![tactic(auto)]
 
 pub mod fault;
+pub mod laws;
 pub mod line;
 pub mod place;
 pub mod read;
@@ -9,5 +10,5 @@ pub mod read;
 mod tests;
 
 pub use fault::SourceFault;
-pub use line::fault_line;
+pub use line::{fault_line, place_line};
 pub use read::read_source;

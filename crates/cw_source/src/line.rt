@@ -18,10 +18,11 @@ fn copied(alloc: Global, words: &str) -> Result<Vec<u8>, NoMemory>
     Ok(line)
 }
 
-/// `source LINE:COLUMN: WORDS`.
+/// The line `source LINE:COLUMN: WORDS`, without its line feed, for a place that is counted in bytes from the front of the source. Lines and
+/// columns are counted from 1, columns in bytes.
 #[tactic(auto, unfolding(crate::specs::Lines::at_place))]
-fn placed(alloc: Global, source: &[u8], at: u32, words: &str) -> Result<Vec<u8>, NoMemory>
-    ensures { IfOk result (λ line. line.items ≡ at_place source.now at words.now) }
+pub fn place_line(alloc: Global, source: &[u8], at: u32, words: &str) -> Result<Vec<u8>, NoMemory>
+    ensures line { IfOk result (λ line. line.items ≡ at_place source.now at words.now) }
 {
     let mut line = copied(alloc, "source ")?;
     put_dec(line_of(source, at) as u64, &mut line)?;
@@ -36,12 +37,12 @@ fn of_tokens(alloc: Global, source: &[u8], fault: &LexFault) -> Result<Vec<u8>, 
     ensures { IfOk result (λ line. line.items ≡ lex_line source.now fault.now) }
 {
     match fault {
-        LexFault::BadByte(at) => placed(alloc, source, *at, "bad byte"),
-        LexFault::OpenComment(at) => placed(alloc, source, *at, "open comment"),
-        LexFault::OpenString(at) => placed(alloc, source, *at, "open string"),
-        LexFault::Number(at) => placed(alloc, source, *at, "number"),
-        LexFault::Directive(at) => placed(alloc, source, *at, "directive"),
-        LexFault::Marker(at) => placed(alloc, source, *at, "marker"),
+        LexFault::BadByte(at) => place_line(alloc, source, *at, "bad byte"),
+        LexFault::OpenComment(at) => place_line(alloc, source, *at, "open comment"),
+        LexFault::OpenString(at) => place_line(alloc, source, *at, "open string"),
+        LexFault::Number(at) => place_line(alloc, source, *at, "number"),
+        LexFault::Directive(at) => place_line(alloc, source, *at, "directive"),
+        LexFault::Marker(at) => place_line(alloc, source, *at, "marker"),
         LexFault::NoMemory => copied(alloc, "memory"),
     }
 }
@@ -51,13 +52,13 @@ fn of_scope(alloc: Global, source: &[u8], fault: &ScopeFault) -> Result<Vec<u8>,
 {
     match fault {
         ScopeFault::NoMain => copied(alloc, "source: no main"),
-        ScopeFault::TwoFunctions(name) => placed(alloc, source, name.from, "two functions"),
-        ScopeFault::TwoLabels(name) => placed(alloc, source, name.from, "two labels"),
-        ScopeFault::Arity(at) => placed(alloc, source, *at, "arity"),
-        ScopeFault::CallForm(at) => placed(alloc, source, *at, "call form"),
-        ScopeFault::MainCalled(at) => placed(alloc, source, *at, "main called"),
-        ScopeFault::Reserved(at) => placed(alloc, source, *at, "reserved"),
-        ScopeFault::Jump(at) => placed(alloc, source, *at, "jump"),
+        ScopeFault::TwoFunctions(name) => place_line(alloc, source, name.from, "two functions"),
+        ScopeFault::TwoLabels(name) => place_line(alloc, source, name.from, "two labels"),
+        ScopeFault::Arity(at) => place_line(alloc, source, *at, "arity"),
+        ScopeFault::CallForm(at) => place_line(alloc, source, *at, "call form"),
+        ScopeFault::MainCalled(at) => place_line(alloc, source, *at, "main called"),
+        ScopeFault::Reserved(at) => place_line(alloc, source, *at, "reserved"),
+        ScopeFault::Jump(at) => place_line(alloc, source, *at, "jump"),
         ScopeFault::Limit(quantity) => {
             let mut line = copied(alloc, "limit: ")?;
             line.extend_from_slice(quantity.name().as_bytes())?;
@@ -74,7 +75,7 @@ pub fn fault_line(alloc: Global, source: &[u8], fault: &SourceFault) -> Result<V
 {
     match fault {
         SourceFault::Lex(fault) => of_tokens(alloc, source, fault),
-        SourceFault::Syntax(at) => placed(alloc, source, *at, "syntax"),
+        SourceFault::Syntax(at) => place_line(alloc, source, *at, "syntax"),
         SourceFault::TooDeep => copied(alloc, "limit: nesting"),
         SourceFault::Scope(fault) => of_scope(alloc, source, fault),
         SourceFault::NoMemory => copied(alloc, "memory"),

@@ -14,7 +14,7 @@ is_entered (Some (TryAt j)) = true
 is_entered (Some (LabelTo j l n)) = true
 is_entered (Some (StepTo n)) = true
 is_entered (Some (BranchTo m n)) = true
-is_entered (Some ExitAt) = true
+is_entered (Some (ExitAt f)) = true
 
 abbrev is_asked : ℕ → Option Node → Bool
 is_asked j (Some (AskedAt i)) = nat_eq i j
@@ -26,7 +26,7 @@ is_fine g p (AskedAt j) = is_entered (slice_get g (p + 1))
 is_fine g p (LabelTo j l n) = is_entered (slice_get g n)
 is_fine g p (StepTo n) = is_entered (slice_get g n)
 is_fine g p (BranchTo m n) = is_entered (slice_get g m) && is_entered (slice_get g n)
-is_fine g p ExitAt = true
+is_fine g p (ExitAt f) = true
 
 abbrev are_fine : List Node → ℕ → List Node → Bool
 are_fine g p [] = true
@@ -39,7 +39,7 @@ asks (TryAt j) = None
 asks (LabelTo j l n) = None
 asks (StepTo n) = None
 asks (BranchTo m n) = None
-asks ExitAt = None
+asks (ExitAt f) = None
 
 abbrev names : Node → Option ℕ
 names (LabelTo j l n) = Some j
@@ -47,7 +47,7 @@ names (AskedAt j) = None
 names (TryAt j) = None
 names (StepTo n) = None
 names (BranchTo m n) = None
-names ExitAt = None
+names (ExitAt f) = None
 
 abbrev rise_by : ℕ → Option ℕ → (ℕ → Bool) → Bool
 rise_by least None f = f least
@@ -57,8 +57,8 @@ abbrev rise : (Node → Option ℕ) → ℕ → List Node → Bool
 rise seam least [] = true
 rise seam least (o ∷ os) = rise_by least (seam o) (λ l. rise seam l os)
 
-abbrev pub is_laid : List Node → Bool
-is_laid g = is_entered (slice_get g 0) && (are_fine g 0 g && (rise asks 0 g && rise names 0 g))
+abbrev pub is_laid : List Node → ℕ → Bool
+is_laid g start = is_entered (slice_get g start) && (are_fine g 0 g && (rise asks 0 g && rise names 0 g))
 
 and_parts : (a b : Bool) → (a && b) ≡ true → (a ≡ true) × (b ≡ true)
 and_parts true b e = (refl, e)
@@ -78,7 +78,7 @@ asked_from j (Some (TryAt i)) e = cc
 asked_from j (Some (LabelTo i l n)) e = cc
 asked_from j (Some (StepTo n)) e = cc
 asked_from j (Some (BranchTo m n)) e = cc
-asked_from j (Some ExitAt) e = cc
+asked_from j (Some (ExitAt f)) e = cc
 
 fine_at : (g : List Node) (p : ℕ) (l : List Node) (i : ℕ) (o : Node) → are_fine g p l ≡ true → slice_get l i ≡ Some o → is_fine g (p + i) o ≡ true
 fine_at g p [] i o f e = absurd (none-some o e)
@@ -119,13 +119,13 @@ module _ (seam : Node → Option ℕ) where
 fine_here : (g : List Node) → are_fine g 0 g ≡ true → (p : ℕ) (o : Node) → slice_get g p ≡ Some o → is_fine g p o ≡ true
 fine_here g f p o e = let z : 0 + p ≡ p = omega arith in subst (λ q. is_fine g q o ≡ true) z (fine_at g 0 g p o f e)
 
-pub laid_from : (g : List Node) → is_laid g ≡ true → Laid g
-laid_from g e =
-    let a = and_parts (is_entered (slice_get g 0)) (are_fine g 0 g && (rise asks 0 g && rise names 0 g)) e in
+pub laid_from : (g : List Node) (start : ℕ) → is_laid g start ≡ true → Laid g start
+laid_from g start e =
+    let a = and_parts (is_entered (slice_get g start)) (are_fine g 0 g && (rise asks 0 g && rise names 0 g)) e in
     let b = and_parts (are_fine g 0 g) (rise asks 0 g && rise names 0 g) a.1 in
     let c = and_parts (rise asks 0 g) (rise names 0 g) b.1 in
     record {
-      start = entered_from g 0 a.0;
+      start = entered_from g start a.0;
       visit = λ p j h. asked_from j (slice_get g (p + 1)) (fine_here g b.0 p (TryAt j) h);
       after = λ p j h. entered_from g (p + 1) (fine_here g b.0 p (AskedAt j) h);
       label = λ p j l n h. entered_from g n (fine_here g b.0 p (LabelTo j l n) h);

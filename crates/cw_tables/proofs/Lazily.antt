@@ -10,14 +10,14 @@ use Rattle.cw_tables.specs.declared.closure.Side.TheVariants.{Weaver, Environmen
 use Rattle.cw_certs.specs.declared.moves.Move.TheVariants.{Grant, Refuse, On}
 use Rattle.cw_tables.specs.declared.closure.Key.{Key}
 use Rattle.cw_tables.specs.declared.closure.Way.{Way}
-use Rattle.cw_game.specs.Ambient.{start_of, flag_of, granted_of, lettered, is_bad}
+use Rattle.cw_game.specs.Ambient.{start_of, count_of, flag_of, granted_of, lettered, is_bad}
 use Rattle.cw_tables.specs.Lost.{lost, lost_in}
 use Rattle.cw_tables.specs.Heights.{height_at, AreHeights}
 use Rattle.cw_tables.specs.Least.{first, then}
 use Rattle.cw_tables.specs.Needed.{key_of, is_lost, lazy_in, better, way_to, way_keys, named_in, steps_in, steps, Needed}
 use Rattle.cw_game.specs.Laid.{Laid, IsUnasked}
 use Rattle.cw_tables.proofs.Members.{in_of, Every, every, every_if}
-use Rattle.cw_tables.proofs.Losing.{more_by, lettered_small, start_small}
+use Rattle.cw_tables.proofs.Losing.{more_by, lettered_small, start_small, granted_within, lettered_within, start_within}
 
 -- a key is of its own height, and its state is small
 abbrev pub IsKey : List ℕ → Key → Type 0
@@ -38,7 +38,7 @@ module _ (pol : AmbientPolicy) (hs : List ℕ) where
   lazy_keys p q (Some (LabelTo j a n)) l = ((refl, lettered_small pol.numbering q), tt)
   lazy_keys p q (Some (StepTo n)) l = ((refl, l), tt)
   lazy_keys p q (Some (BranchTo a b)) l = ((refl, l), ((refl, l), tt))
-  lazy_keys p q (Some ExitAt) l = tt
+  lazy_keys p q (Some (ExitAt f)) l = tt
 
   named_keys : (p q : ℕ) (o : Option Node) → q < 4 → Every (IsKey hs) (named_in pol hs p q o)
   named_keys p q None l = tt
@@ -55,16 +55,33 @@ module _ (pol : AmbientPolicy) (hs : List ℕ) where
       by false = ((refl, lettered_small pol.numbering q), tt)
   named_keys p q (Some (StepTo n)) l = ((refl, l), tt)
   named_keys p q (Some (BranchTo a b)) l = (better_key _ _ (refl, l) (refl, l), tt)
-  named_keys p q (Some ExitAt) l = tt
+  named_keys p q (Some (ExitAt f)) l = tt
 
   steps_keys : (side : Side) (p q : ℕ) (o : Option Node) → q < 4 → Every (IsKey hs) (steps_in side pol hs p q o)
   steps_keys Weaver p q o l = lazy_keys p q o l
   steps_keys Environment p q o l = named_keys p q o l
 
+  -- the state of a key of a lazy table is below the count
+  abbrev Within : Key → Type 0
+  Within k = k.state < count_of pol.numbering
+
+  lazy_within : (p q : ℕ) (o : Option Node) → q < count_of pol.numbering → Every Within (lazy_in pol hs p q o)
+  lazy_within p q None l = tt
+  lazy_within p q (Some (TryAt j)) l = (l, tt)
+  lazy_within p q (Some (AskedAt j)) l = (granted_within pol.numbering q l, every_if Within pol.refusable (key_of hs (p + 1) q ∷ []) (l, tt))
+  lazy_within p q (Some (LabelTo j a n)) l = (lettered_within pol.numbering q, tt)
+  lazy_within p q (Some (StepTo n)) l = (l, tt)
+  lazy_within p q (Some (BranchTo a b)) l = (l, (l, tt))
+  lazy_within p q (Some (ExitAt f)) l = tt
+
   module _ (g : List Node) where
-    pub needed_key : (side : Side) (k : Key) → Needed side g pol hs k → IsKey hs k
-    needed_key side k first = (refl, start_small pol.numbering)
-    needed_key side k (then a b n c) = every (IsKey hs) (steps side g pol hs a) k (steps_keys side a.pos a.state (slice_get g a.pos) (needed_key side a n).1) (in_of _ k c)
+    pub needed_key : (start : ℕ) (side : Side) (k : Key) → Needed side g start pol hs k → IsKey hs k
+    needed_key start side k first = (refl, start_small pol.numbering)
+    needed_key start side k (then a b n c) = every (IsKey hs) (steps side g pol hs a) k (steps_keys side a.pos a.state (slice_get g a.pos) (needed_key start side a n).1) (in_of _ k c)
+
+    pub needed_within : (start : ℕ) (k : Key) → Needed Weaver g start pol hs k → k.state < count_of pol.numbering
+    needed_within start k first = start_within pol.numbering
+    needed_within start k (then a b n c) = every Within (steps Weaver g pol hs a) k (lazy_within a.pos a.state (slice_get g a.pos) (needed_within start a n)) (in_of _ k c)
 
     module _ (ok : AreHeights g pol hs) where
       -- a pair that is lost within n has a height of at most n
@@ -130,23 +147,23 @@ module _ (pol : AmbientPolicy) (hs : List ℕ) where
       kept_by p q (Some (LabelTo j a n)) e l z = (no_height n (lettered pol.numbering q) (lettered_small pol.numbering q) (λ m t. follows p q (Some (LabelTo j a n)) e l z m (or_right _ _ t)), tt)
       kept_by p q (Some (StepTo n)) e l z = (no_height n q l (λ m t. follows p q (Some (StepTo n)) e l z m t), tt)
       kept_by p q (Some (BranchTo a b)) e l z = (no_height a q l (λ m t. follows p q (Some (BranchTo a b)) e l z m (or_left _ _ t)), (no_height b q l (λ m t. follows p q (Some (BranchTo a b)) e l z m (or_right _ _ t)), tt))
-      kept_by p q (Some ExitAt) e l z = tt
+      kept_by p q (Some (ExitAt f)) e l z = tt
 
-      module _ (start : height_at hs 0 (start_of pol.numbering) ≡ 0) where
-        pub not_lost : (k : Key) → Needed Weaver g pol hs k → NotLost k
-        not_lost k first = start
-        not_lost k (then a b n c) = every NotLost (steps Weaver g pol hs a) k (kept_by a.pos a.state (slice_get g a.pos) refl (needed_key Weaver a n).1 (not_lost a n)) (in_of _ k c)
+      module _ (start : ℕ) (safe : height_at hs start (start_of pol.numbering) ≡ 0) where
+        pub not_lost : (k : Key) → Needed Weaver g start pol hs k → NotLost k
+        not_lost k first = safe
+        not_lost k (then a b n c) = every NotLost (steps Weaver g pol hs a) k (kept_by a.pos a.state (slice_get g a.pos) refl (needed_key start Weaver a n).1 (not_lost a n)) (in_of _ k c)
 
         -- no letter of a live pair is bad
-        pub not_bad : (k : Key) (j a n : ℕ) → Needed Weaver g pol hs k → slice_get g k.pos ≡ Some (LabelTo j a n) → is_bad pol.tests.items a (flag_of k.state) ≡ false
+        pub not_bad : (k : Key) (j a n : ℕ) → Needed Weaver g start pol hs k → slice_get g k.pos ≡ Some (LabelTo j a n) → is_bad pol.tests.items a (flag_of k.state) ≡ false
         not_bad k j a n d e = by (is_bad pol.tests.items a (flag_of k.state)) refl
           where
             by : (b : Bool) → is_bad pol.tests.items a (flag_of k.state) ≡ b → b ≡ false
             by false t = refl
-            by true t = absurd (follows k.pos k.state (Some (LabelTo j a n)) e (needed_key Weaver k d).1 (not_lost k d) 0 (or_left _ _ t))
+            by true t = absurd (follows k.pos k.state (Some (LabelTo j a n)) e (needed_key start Weaver k d).1 (not_lost k d) 0 (or_left _ _ t))
 
     -- where a key came from that asks
-    module _ (laid : Laid g) where
+    module _ (start : ℕ) (laid : Laid g start) where
       abbrev pub Came : Key → Type 0
       Came k = (p : ℕ) × (k.pos ≡ p + 1) × (is_lost hs (p + 2) k.state ≡ true)
 
@@ -169,9 +186,9 @@ module _ (pol : AmbientPolicy) (hs : List ℕ) where
       came_by p q (Some (LabelTo j a n)) e = (unasked (key_of hs n (lettered pol.numbering q)) ((laid.label p j a n e).0), tt)
       came_by p q (Some (StepTo n)) e = (unasked (key_of hs n q) ((laid.step p n e).0), tt)
       came_by p q (Some (BranchTo a b)) e = (unasked (key_of hs a q) ((laid.left p a b e).0), (unasked (key_of hs b q) ((laid.right p a b e).0), tt))
-      came_by p q (Some ExitAt) e = tt
+      came_by p q (Some (ExitAt f)) e = tt
 
-      pub came : (k : Key) → Needed Weaver g pol hs k → (j : ℕ) → slice_get g k.pos ≡ Some (AskedAt j) → Came k
+      pub came : (k : Key) → Needed Weaver g start pol hs k → (j : ℕ) → slice_get g k.pos ≡ Some (AskedAt j) → Came k
       came k first j e = absurd (laid.start.0 j e)
       came k (then a b n c) j e = every Asks (steps Weaver g pol hs a) k (came_by a.pos a.state (slice_get g a.pos) refl) (in_of _ k c) j e
 
@@ -193,8 +210,8 @@ module _ (pol : AmbientPolicy) (hs : List ℕ) where
       there_by p q (Some (LabelTo j a n)) e = ((laid.label p j a n e).1, tt)
       there_by p q (Some (StepTo n)) e = ((laid.step p n e).1, tt)
       there_by p q (Some (BranchTo a b)) e = ((laid.left p a b e).1, ((laid.right p a b e).1, tt))
-      there_by p q (Some ExitAt) e = tt
+      there_by p q (Some (ExitAt f)) e = tt
 
-      pub there : (k : Key) → Needed Weaver g pol hs k → There k
+      pub there : (k : Key) → Needed Weaver g start pol hs k → There k
       there k first = laid.start.1
       there k (then a b n c) = every There (steps Weaver g pol hs a) k (there_by a.pos a.state (slice_get g a.pos) refl) (in_of _ k c)

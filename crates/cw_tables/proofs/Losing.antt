@@ -9,7 +9,7 @@ use Rattle.cw_game.specs.declared.ambient.Node.{Node}
 use Rattle.cw_game.specs.declared.ambient.Node.TheVariants.{TryAt, AskedAt, LabelTo, StepTo, BranchTo, ExitAt}
 use Rattle.cw_game.specs.declared.ambient.Numbering.{Numbering}
 use Rattle.cw_game.specs.declared.ambient.Numbering.TheVariants.{LettersLast, LettersFirst, NoLetter}
-use Rattle.cw_game.specs.Ambient.{start_of, flag_of, granted_of, lettered, is_bad}
+use Rattle.cw_game.specs.Ambient.{start_of, count_of, flag_of, granted_of, lettered, is_bad}
 use Rattle.cw_tables.specs.Lost.{lost_in, lost}
 use Rattle.cw_tables.specs.Heights.{height_at, AreHeights, is_sooner, sooner, later, after, height_in, next_height, one_if, none_yet, weigh, weight, Upper, Settled}
 
@@ -22,6 +22,27 @@ pub start_small : (num : Numbering) → start_of num < 4
 start_small LettersLast = omega arith
 start_small LettersFirst = omega arith
 start_small NoLetter = omega arith
+
+-- the states below the count lead to such ones
+pub granted_within : (num : Numbering) (q : ℕ) → q < count_of num → granted_of q < count_of num
+granted_within LettersLast q l = omega (arith, l)
+granted_within LettersFirst q l = omega (arith, l)
+granted_within NoLetter q l = omega (arith, l)
+
+pub lettered_within : (num : Numbering) (q : ℕ) → lettered num q < count_of num
+lettered_within LettersLast q = omega arith
+lettered_within LettersFirst q = omega arith
+lettered_within NoLetter q = omega arith
+
+pub start_within : (num : Numbering) → start_of num < count_of num
+start_within LettersLast = omega arith
+start_within LettersFirst = omega arith
+start_within NoLetter = omega arith
+
+pub count_small : (num : Numbering) → count_of num ≤ 4
+count_small LettersLast = omega arith
+count_small LettersFirst = omega arith
+count_small NoLetter = omega arith
 
 both_true : (a b c d : Bool) → (a ≡ true → c ≡ true) → (b ≡ true → d ≡ true) → (a && b) ≡ true → (c && d) ≡ true
 both_true true b c d f g e = ap₂ (λ y z. y && z) (f refl) (g e)
@@ -39,7 +60,7 @@ more_in pol f k h p q (Some (AskedAt j)) e = some_true (f (p + 1) (granted_of q)
 more_in pol f k h p q (Some (LabelTo j a n)) e = some_true (is_bad pol.tests.items a (flag_of q)) (f n (lettered pol.numbering q)) (is_bad pol.tests.items a (flag_of q)) (k n (lettered pol.numbering q)) (λ y. y) (h n (lettered pol.numbering q)) e
 more_in pol f k h p q (Some (StepTo n)) e = h n q e
 more_in pol f k h p q (Some (BranchTo a b)) e = some_true (f a q) (f b q) (k a q) (k b q) (h a q) (h b q) e
-more_in pol f k h p q (Some ExitAt) e = e
+more_in pol f k h p q (Some (ExitAt d)) e = e
 
 -- what is lost within some moves is lost within more
 module _ (g : List Node) (pol : AmbientPolicy) where
@@ -173,7 +194,7 @@ module _ (pol : AmbientPolicy) (f : ℕ → ℕ → Bool) (h : ℕ → ℕ → �
       by false t = after_low n (h m (lettered pol.numbering q)) (⊎_elim (λ x. let w : true ≡ false = sym x ∙ t in cc) (λ x. k m (lettered pol.numbering q) (lettered_small pol.numbering q) x) (or_parts (is_bad pol.tests.items a (flag_of q)) (f m (lettered pol.numbering q)) e))
   lost_low k p q (Some (StepTo m)) l e = after_low n (h m q) (k m q l e)
   lost_low k p q (Some (BranchTo a b)) l e = after_low n (sooner (h a q) (h b q)) (sooner_low (h a q) (h b q) n (⊎_elim (λ x. inl (k a q l x)) (λ x. inr (k b q l x)) (or_parts (f a q) (f b q) e)))
-  lost_low k p q (Some ExitAt) l e = cc
+  lost_low k p q (Some (ExitAt d)) l e = cc
 
   pub low_lost : ((p q : ℕ) → q < 4 → Low n (h p q) → f p q ≡ true) → (p q : ℕ) (o : Option Node) → q < 4 → Low (suc n) (height_in pol h p q o) → lost_in pol f p q o ≡ true
   low_lost k p q None l e = absurd (omega (arith, e.0))
@@ -193,7 +214,7 @@ module _ (pol : AmbientPolicy) (f : ℕ → ℕ → Bool) (h : ℕ → ℕ → �
       by false t z = or_right (is_bad pol.tests.items a (flag_of q)) (f m (lettered pol.numbering q)) (k m (lettered pol.numbering q) (lettered_small pol.numbering q) (after_from n (h m (lettered pol.numbering q)) z))
   low_lost k p q (Some (StepTo m)) l e = k m q l (after_from n (h m q) e)
   low_lost k p q (Some (BranchTo a b)) l e = ⊎_elim (λ x. or_left (f a q) (f b q) (k a q l x)) (λ x. or_right (f a q) (f b q) (k b q l x)) (sooner_from (h a q) (h b q) n (after_from n (sooner (h a q) (h b q)) e))
-  low_lost k p q (Some ExitAt) l e = absurd (omega (arith, e.0))
+  low_lost k p q (Some (ExitAt d)) l e = absurd (omega (arith, e.0))
 
   -- and it is at most one more than the greatest of theirs
   pub most_in : ((p q : ℕ) → h p q ≤ n) → (p q : ℕ) (o : Option Node) → height_in pol h p q o ≤ n + 1
@@ -211,7 +232,7 @@ module _ (pol : AmbientPolicy) (f : ℕ → ℕ → Bool) (h : ℕ → ℕ → �
       by false = after_most n (h m (lettered pol.numbering q)) (k _ _)
   most_in k p q (Some (StepTo m)) = after_most n (h m q) (k _ _)
   most_in k p q (Some (BranchTo a b)) = after_most n (sooner (h a q) (h b q)) (sooner_most (h a q) (h b q) n (k _ _) (k _ _))
-  most_in k p q (Some ExitAt) = omega arith
+  most_in k p q (Some (ExitAt d)) = omega arith
 
 -- some cells were looked at: those of Seen
 pub record Halfway (g : List Node) (pol : AmbientPolicy) (old cur : List ℕ) (Seen : ℕ → Type 0) (changed : Bool) : Type 0 where

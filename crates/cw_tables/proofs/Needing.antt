@@ -1,5 +1,5 @@
 -- The lazy table tries only where skipping is lost.
-use Rattle.std.proofs.Common.{◌≡◌, ℕ, zero, suc, ◌+◌, ◌<◌, List, true, Option, Some, None, option_map, nat_lt, refl, sym, ◌∙◌}
+use Rattle.std.proofs.Common.{◌≡◌, ℕ, zero, suc, ◌+◌, ◌<◌, List, true, Option, Some, None, option_map, nat_lt, refl, sym, ◌∙◌, subst}
 use Rattle.std.specs.Prelude.{slice_get}
 use Rattle.std.proofs.lemmas.Option.{none-some}
 use Rattle.cw_rights.specs.declared.capabilities.Primitive.{Primitive}
@@ -12,20 +12,20 @@ use Rattle.cw_game.specs.declared.ambient.Node.TheVariants.{TryAt, AskedAt, Labe
 use Rattle.cw_game.specs.declared.spots.Spot.TheVariants.{Visit, Call, SplitCall}
 use Rattle.cw_game.specs.Games.{Game, Promise, IsLost}
 use Rattle.cw_game.specs.Conditions.{has}
-use Rattle.cw_game.specs.Ambient.{spot_of, start_of, ambient_game, numbering_of}
+use Rattle.cw_game.specs.Ambient.{spot_of, start_of, count_of, ambient_game, numbering_of}
 use Rattle.cw_game.specs.Laid.{Laid}
 use Rattle.cw_game.specs.Necessity.{TriesOnlyLost}
 use Rattle.cw_game.proofs.Ambients.{no_call}
 use Rattle.cw_tables.specs.declared.closure.Side.TheVariants.{Weaver}
 use Rattle.cw_tables.specs.declared.closure.Key.{Key}
-use Rattle.cw_tables.specs.Heights.{height_at, AreHeights, AreHeightsOf}
+use Rattle.cw_tables.specs.Heights.{height_at, AreHeights, HasAll, AreHeightsOf}
 use Rattle.cw_tables.specs.Least.{Exactly, key_cmp}
 use Rattle.cw_tables.specs.Needed.{Needed}
 use Rattle.cw_tables.specs.Rows.{AreStatesOf, IsTableOf}
-use Rattle.cw_tables.proofs.Tabled.{lost_where_tried}
-use Rattle.cw_tables.proofs.Holding.{spot_by, heights_of}
+use Rattle.cw_tables.proofs.Tabled.{lost_where_tried, full_has}
+use Rattle.cw_tables.proofs.Holding.{spot_by, heights_of_states}
 
--- the spots of a program of one function
+-- a visit among the spots
 visit_of : (o : Option Node) (j i : ℕ) (a : Primitive) → option_map spot_of o ≡ Some (Visit j i a) → o ≡ Some (TryAt j)
 visit_of None j i a e = absurd (none-some (Visit j i a) e)
 visit_of (Some (TryAt k)) j i a e = cc
@@ -33,21 +33,21 @@ visit_of (Some (AskedAt k)) j i a e = cc
 visit_of (Some (LabelTo k l n)) j i a e = cc
 visit_of (Some (StepTo n)) j i a e = cc
 visit_of (Some (BranchTo m n)) j i a e = cc
-visit_of (Some ExitAt) j i a e = cc
+visit_of (Some (ExitAt f)) j i a e = cc
 
--- a pair with a height is lost, under any promise
-with_height : (game : Game) (hs : List ℕ) (p q h : ℕ) (e : Promise) → AreHeightsOf game hs → q < 4 → height_at hs p q ≡ h → nat_lt 0 h ≡ true → IsLost game p q e
-with_height game hs p q zero e heights lt z lost = cc
-with_height game hs p q (suc n) e heights lt z lost = (suc n, (heights.there p q n e lt z).0)
+-- a pair with a height is lost, under any promise of all states
+with_height : (game : Game) (count : ℕ) (hs : List ℕ) (p q h : ℕ) (e : Promise) → AreHeightsOf game count hs → HasAll count e → q < count → height_at hs p q ≡ h → nat_lt 0 h ≡ true → IsLost game p q e
+with_height game count hs p q zero e heights all lt z lost = cc
+with_height game count hs p q (suc n) e heights all lt z lost = (suc n, (heights.there p q n e all lt z).0)
 
-pub tries_only_lost : (g : List Node) (pol : AmbientPolicy) (hs : List ℕ) → AreHeights g pol hs → height_at hs 0 (start_of pol.numbering) ≡ 0 → Laid g → (keys : List Key) → Exactly key_cmp (Needed Weaver g pol hs) keys → (states : List ℕ) → AreStatesOf keys states → (c : WeaverCert) → IsTableOf g pol keys states c → (plain : PlainPolicy) → plain.refuse_enter ≡ pol.refusable → pol.numbering ≡ numbering_of pol.tests.items g → TriesOnlyLost (ambient_game plain pol.tests.items g) (table_of c)
-tries_only_lost g pol hs ok start laid keys x states are c t plain refuses numbered =
-    let game = ambient_game plain pol.tests.items g in
-    let heights = heights_of g pol hs ok numbered plain refuses in
+pub tries_only_lost : (g : List Node) (pol : AmbientPolicy) (hs : List ℕ) → AreHeights g pol hs → (start : ℕ) → height_at hs start (start_of pol.numbering) ≡ 0 → Laid g start → (keys : List Key) → Exactly key_cmp (Needed Weaver g start pol hs) keys → (states : List ℕ) → AreStatesOf keys states → (c : WeaverCert) → IsTableOf g pol keys states c → (plain : PlainPolicy) → plain.refuse_enter ≡ pol.refusable → pol.numbering ≡ numbering_of pol.tests.items g → (entry exit : ℕ → ℕ) (main : ℕ) → TriesOnlyLost (ambient_game plain pol.tests.items g entry exit main) (table_of c)
+tries_only_lost g pol hs ok start safe laid keys x states are c t plain refuses numbered entry exit main =
+    let game = ambient_game plain pol.tests.items g entry exit main in
+    let heights = heights_of_states g pol hs ok numbered plain refuses entry exit main in
     record {
       tries = λ p m q e j i a live meant es tried.
-          let k = lost_where_tried g pol hs ok start laid keys x states are c t plain refuses p m q e j i (visit_of (slice_get g p) j i a (sym (spot_by spot_of g p) ∙ es)) meant tried in
-          with_height game hs (p + 2) q (height_at hs (p + 2) q) (has e) heights k.0 refl k.1;
+          let k = lost_where_tried g pol hs ok start safe laid keys x states are c t plain refuses entry exit main p m q e j i (visit_of (slice_get g p) j i a (sym (spot_by spot_of g p) ∙ es)) meant tried in
+          with_height game (count_of pol.numbering) hs (p + 2) q (height_at hs (p + 2) q) (has e) heights (subst (λ s. HasAll (count_of pol.numbering) (has s)) k.2 (full_has pol)) k.0 refl k.1;
       calls = λ p m q e j f n e2 r live meant es er meant2. absurd (no_call g p (Call j f n) es refl);
       split_calls = λ p m q e j f n e2 r live meant es er meant2. absurd (no_call g p (SplitCall j f n) es refl);
     }

@@ -112,12 +112,12 @@ mems_ascend pol (q ∷ states) s = (below states s.0, mems_ascend pol states s.1
     below [] h = tt
     below (r ∷ rs) h = (ap (λ o. ordering_then o (nat_cmp (full pol) (full pol))) h.0, below rs h.1)
 
-module _ (g : List Node) (pol : AmbientPolicy) (hs : List ℕ) (ok : AreHeights g pol hs) (start : height_at hs 0 (start_of pol.numbering) ≡ 0) (laid : Laid g) (keys : List Key) (x : Exactly key_cmp (Needed Weaver g pol hs) keys) (states : List ℕ) (are : AreStatesOf keys states) (c : WeaverCert) (t : IsTableOf g pol keys states c) where
-  needed : (k : Key) → In keys k → Needed Weaver g pol hs k
+module _ (g : List Node) (pol : AmbientPolicy) (hs : List ℕ) (ok : AreHeights g pol hs) (start : ℕ) (safe : height_at hs start (start_of pol.numbering) ≡ 0) (laid : Laid g start) (keys : List Key) (x : Exactly key_cmp (Needed Weaver g start pol hs) keys) (states : List ℕ) (are : AreStatesOf keys states) (c : WeaverCert) (t : IsTableOf g pol keys states c) where
+  needed : (k : Key) → In keys k → Needed Weaver g start pol hs k
   needed k n = (x.1 k).0 (of_in keys k n)
 
   no_height : (k : Key) → In keys k → k.height ≡ 0
-  no_height k n = ap (λ (k : Key). k.height) (needed_key pol hs g Weaver k (needed k n)).0 ∙ not_lost pol hs g ok start k (needed k n)
+  no_height k n = ap (λ (k : Key). k.height) (needed_key pol hs g start Weaver k (needed k n)).0 ∙ not_lost pol hs g ok start safe k (needed k n)
 
   -- by position, then state
   keys_rise : (a b : Key) → In keys a → In keys b → key_cmp a b ≡ Less → (a.pos < b.pos) ⊎ ((a.pos ≡ b.pos) × (a.state < b.state))

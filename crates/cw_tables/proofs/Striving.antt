@@ -153,7 +153,7 @@ module _ (g : List Node) (pol : AmbientPolicy) (hs : List ℕ) (ok : AreHeights 
       by false t = (⊎_elim (λ x. let w : true ≡ false = sym x ∙ t in cc) (λ x. at_low n m (lettered pol.numbering q) (lettered_small pol.numbering q) x) (either _ _ e), tt)
   named_low n p q (Some (StepTo m)) l e = (at_low n m q l e, tt)
   named_low n p q (Some (BranchTo a b)) l e = (better_low n (way_to ByLeft (key_of hs a q)) (way_to ByRight (key_of hs b q)) (⊎_elim (λ x. inl (at_low n a q l x)) (λ x. inr (at_low n b q l x)) (either _ _ e)), tt)
-  named_low n p q (Some ExitAt) l e = cc
+  named_low n p q (Some (ExitAt d)) l e = cc
 
   -- what the height of a lost pair says
   lost_at : (p q : ℕ) → q < 4 → 0 < height_at hs p q → (n : ℕ) × (height_at hs p q ≡ suc n) × (lost_in pol (lost g pol n) p q (slice_get g p) ≡ true)
@@ -163,24 +163,24 @@ module _ (g : List Node) (pol : AmbientPolicy) (hs : List ℕ) (ok : AreHeights 
       by zero e = absurd (omega arith)
       by (suc n) e = (n, e, (ok.there p q n l e).0)
 
-  module _ (start : 0 < height_at hs 0 (start_of pol.numbering)) (keys : List Key) (x : Exactly key_cmp (Needed Environment g pol hs) keys) where
-    has_height : (k : Key) → Needed Environment g pol hs k → 0 < k.height
-    has_height k first = start
+  module _ (start : ℕ) (won : 0 < height_at hs start (start_of pol.numbering)) (keys : List Key) (x : Exactly key_cmp (Needed Environment g start pol hs) keys) where
+    has_height : (k : Key) → Needed Environment g start pol hs k → 0 < k.height
+    has_height k first = won
     has_height k (then a b n c) =
-        let ik = needed_key pol hs g Environment a n in
+        let ik = needed_key pol hs g start Environment a n in
         let la = lost_at a.pos a.state ik.1 (subst (λ (k : Key). 0 < k.height) ik.0 (has_height a n)) in
         (every (Low la.0) (steps Environment g pol hs a) k (named_low la.0 a.pos a.state (slice_get g a.pos) ik.1 la.2) (in_of _ k c)).0
 
-    needed : (k : Key) → In keys k → Needed Environment g pol hs k
+    needed : (k : Key) → In keys k → Needed Environment g start pol hs k
     needed k n = (x.1 k).0 (of_in keys k n)
 
-    has : (k : Key) → Needed Environment g pol hs k → In keys k
+    has : (k : Key) → Needed Environment g start pol hs k → In keys k
     has k n = in_of keys k ((x.1 k).1 n)
 
     -- the named keys are keys, each of a lesser height
     named : (k : Key) (o : Option Node) → slice_get g k.pos ≡ o → In keys k → (b : Key) → In (named_in pol hs k.pos k.state o) b → In keys b × (b.height < k.height)
     named k o e n b i =
-        let ik = needed_key pol hs g Environment k (needed k n) in
+        let ik = needed_key pol hs g start Environment k (needed k n) in
         let la = lost_at k.pos k.state ik.1 (subst (λ (k : Key). 0 < k.height) ik.0 (has_height k (needed k n))) in
         let i' = subst (λ o. In (named_in pol hs k.pos k.state o) b) (sym e) i in
         let lo = every (Low la.0) (steps Environment g pol hs k) b (named_low la.0 k.pos k.state (slice_get g k.pos) ik.1 la.2) i' in
@@ -190,7 +190,7 @@ module _ (g : List Node) (pol : AmbientPolicy) (hs : List ℕ) (ok : AreHeights 
 
     is_lost_in : (k : Key) (o : Option Node) → slice_get g k.pos ≡ o → In keys k → (n : ℕ) × (lost_in pol (lost g pol n) k.pos k.state o ≡ true)
     is_lost_in k o e n =
-        let ik = needed_key pol hs g Environment k (needed k n) in
+        let ik = needed_key pol hs g start Environment k (needed k n) in
         let la = lost_at k.pos k.state ik.1 (subst (λ (k : Key). 0 < k.height) ik.0 (has_height k (needed k n))) in
         (la.0, ap (lost_in pol (lost g pol la.0) k.pos k.state) (sym e) ∙ la.2)
 
@@ -217,14 +217,14 @@ module _ (g : List Node) (pol : AmbientPolicy) (hs : List ℕ) (ok : AreHeights 
     how_there k (Some (LabelTo j l m)) e n = go_there k (Some (LabelTo j l m)) _ (λ w b. (way_in k (Some (LabelTo j l m)) e n refl w b).0)
     how_there k (Some (StepTo m)) e n = go_there k (Some (StepTo m)) _ (λ w b. (way_in k (Some (StepTo m)) e n refl w b).0)
     how_there k (Some (BranchTo a b)) e n = go_there k (Some (BranchTo a b)) _ (λ w c. (way_in k (Some (BranchTo a b)) e n refl w c).0)
-    how_there k (Some ExitAt) e n = go_there k (Some ExitAt) _ (λ w b. (way_in k (Some ExitAt) e n refl w b).0)
+    how_there k (Some (ExitAt d)) e n = go_there k (Some (ExitAt d)) _ (λ w b. (way_in k (Some (ExitAt d)) e n refl w b).0)
 
     pub row_there : (k : Key) → In keys k → (y : EnvRow) × (env_row g pol hs keys k ≡ Some y)
     row_there k n = let h = how_there k (slice_get g k.pos) refl n in (record { pos = pos_id k.pos; state = state_id k.state; aim = 0; how = h.0 }, ap (option_map (λ how. record { pos = pos_id k.pos; state = state_id k.state; aim = 0; how = how })) h.1)
 
-    module _ (count : ℕ) (rows : List EnvRow) (are : rows ≡ filter_map (env_row g pol hs keys) keys) (plain : PlainPolicy) (refuses : plain.refuse_enter ≡ pol.refusable) where
+    module _ (count : ℕ) (rows : List EnvRow) (are : rows ≡ filter_map (env_row g pol hs keys) keys) (plain : PlainPolicy) (refuses : plain.refuse_enter ≡ pol.refusable) (entry exit : ℕ → ℕ) (main : ℕ) where
       abbrev game : Game
-      game = game_by plain pol.numbering pol g
+      game = game_by plain pol.numbering pol g entry exit main
 
       abbrev strategy : Strategy
       strategy = record { states = count; rows = map row_of rows }
@@ -258,7 +258,7 @@ module _ (g : List Node) (pol : AmbientPolicy) (hs : List ℕ) (ok : AreHeights 
           by false t = absurd (none-some (way_to ByOn (key_of hs m (lettered pol.numbering q))) (sym b ∙ ap (λ t. cond t None (Some (way_to ByOn (key_of hs m (lettered pol.numbering q))))) t))
       best_none n p q (Some (StepTo m)) l b t = absurd (none-some _ (sym b))
       best_none n p q (Some (BranchTo a c)) l b t = absurd (none-some _ (sym b))
-      best_none n p q (Some ExitAt) l b t = cc
+      best_none n p q (Some (ExitAt d)) l b t = cc
 
       -- the move leads to the pair
       abbrev Leads : ℕ → ℕ → Option Node → Way → Type 0
@@ -295,7 +295,7 @@ module _ (g : List Node) (pol : AmbientPolicy) (hs : List ℕ) (ok : AreHeights 
               subst (Leads p q (Some (LabelTo j a m))) s (refl, (refl, t, refl, refl))
       best_leads p q (Some (StepTo m)) w b = subst (Leads p q (Some (StepTo m))) (same_Some _ w b) (refl, (refl, refl, refl, refl))
       best_leads p q (Some (BranchTo a c)) w b = subst (Leads p q (Some (BranchTo a c))) (same_Some _ w b) (better_leads p q (Some (BranchTo a c)) (way_to ByLeft (key_of hs a q)) (way_to ByRight (key_of hs c q)) (refl, (refl, refl, refl, refl)) (refl, (refl, refl, refl, refl)))
-      best_leads p q (Some ExitAt) w b = absurd (none-some w b)
+      best_leads p q (Some (ExitAt d)) w b = absurd (none-some w b)
 
       go_good : (k : Key) (i : ℕ) (o : Option Node) → slice_get g k.pos ≡ o → In keys k → slice_get keys i ≡ Some k → ((j : ℕ) → o ≡ Some (TryAt j) → ⊥) → named_in pol hs k.pos k.state o ≡ way_keys (best_in pol hs k.pos k.state o) → (h : RowHow) → go_how keys (best_in pol hs k.pos k.state o) ≡ Some h → HowOk game strategy i k.pos k.state 0 (how_of h)
       go_good k i o e n f t s h w = by (best_in pol hs k.pos k.state o) refl
@@ -336,7 +336,7 @@ module _ (g : List Node) (pol : AmbientPolicy) (hs : List ℕ) (ok : AreHeights 
       how_good k i (Some (LabelTo j l m)) e n f h w = go_good k i (Some (LabelTo j l m)) e n f (λ j q. cc) refl h w
       how_good k i (Some (StepTo m)) e n f h w = go_good k i (Some (StepTo m)) e n f (λ j q. cc) refl h w
       how_good k i (Some (BranchTo a b)) e n f h w = go_good k i (Some (BranchTo a b)) e n f (λ j q. cc) refl h w
-      how_good k i (Some ExitAt) e n f h w = go_good k i (Some ExitAt) e n f (λ j q. cc) refl h w
+      how_good k i (Some (ExitAt d)) e n f h w = go_good k i (Some (ExitAt d)) e n f (λ j q. cc) refl h w
 
       row_good : (k : Key) (i : ℕ) (y : EnvRow) (r : Row) → In keys k → slice_get keys i ≡ Some k → slice_get rows i ≡ Some y → row_of y ≡ r → HowOk game strategy i r.pos r.state r.aim r.how
       row_good k i y r n at there e =
@@ -352,12 +352,12 @@ module _ (g : List Node) (pol : AmbientPolicy) (hs : List ℕ) (ok : AreHeights 
           let k = rows_none (env_row g pol hs keys) keys row_there i y.0 (sym (ap (λ l. slice_get l i) are) ∙ y.1) in
           row_good k.0 i y.0 r (in_from keys i k.0 k.1) k.1 y.1 y.2
 
-      pub least_closed : pol.numbering ≡ numbering_of pol.tests.items g → IsClosedStrategy (ambient_game plain pol.tests.items g) strategy
-      least_closed e = subst (λ num. IsClosedStrategy (game_by plain num pol g) strategy) e closed_by
+      pub least_closed : pol.numbering ≡ numbering_of pol.tests.items g → IsClosedStrategy (ambient_game plain pol.tests.items g entry exit main) strategy
+      least_closed e = subst (λ num. IsClosedStrategy (game_by plain num pol g entry exit main) strategy) e closed_by
 
-    pub start_row : (count : ℕ) (rows : List EnvRow) → rows ≡ filter_map (env_row g pol hs keys) keys → (s : ℕ) × IsAt (record { states = count; rows = map row_of rows }) s 0 (start_of pol.numbering) 0
+    pub start_row : (count : ℕ) (rows : List EnvRow) → rows ≡ filter_map (env_row g pol hs keys) keys → (s : ℕ) × IsAt (record { states = count; rows = map row_of rows }) s start (start_of pol.numbering) 0
     start_row count rows are =
-        let k = key_of hs 0 (start_of pol.numbering) in
+        let k = key_of hs start (start_of pol.numbering) in
         let n = has k first in
         let u = numbered k n in
         let h = how_there k (slice_get g k.pos) refl n in
@@ -368,5 +368,5 @@ module _ (g : List Node) (pol : AmbientPolicy) (hs : List ℕ) (ok : AreHeights 
     pub least_length : (rows : List EnvRow) → rows ≡ filter_map (env_row g pol hs keys) keys → length rows ≡ length keys
     least_length rows e = ap length e ∙ full_length (env_row g pol hs keys) keys row_there
 
-  pub least_many : 0 < height_at hs 0 (start_of pol.numbering) → ((all : List Key) → Exactly key_cmp (Needed Environment g pol hs) all → 65536 < length all) → (c : EnvCert) → IsLeast g pol hs c → 65536 < length c.rows.items
-  least_many start h c t = let a = h t.keys t.needed in let b = least_length start t.keys t.needed c.rows.items t.rows in omega arith
+  pub least_many : (start : ℕ) → 0 < height_at hs start (start_of pol.numbering) → ((all : List Key) → Exactly key_cmp (Needed Environment g start pol hs) all → 65536 < length all) → (c : EnvCert) → IsLeast g start pol hs c → 65536 < length c.rows.items
+  least_many start won h c t = let a = h t.keys t.needed in let b = least_length start won t.keys t.needed c.rows.items t.rows in omega arith

@@ -1,8 +1,10 @@
 -- The lazy table meets the conditions.
-use Rattle.std.proofs.Common.{◌≡◌, inl, inr, ℕ, zero, suc, ◌+◌, ◌-◌, ◌<◌, List, [], ◌∷◌, Bool, true, false, cond, not, ◌&&◌, ◌||◌, Option, Some, None, is_some, option_map, length, get_or, map, nat_eq, nat_lt, refl, sym, ap, ap₂, ◌∙◌, subst, arith, eqb-true, eq-eqb}
+use Rattle.std.proofs.Common.{◌≡◌, inl, inr, ℕ, zero, suc, ◌+◌, ◌<◌, List, [], ◌∷◌, Bool, true, false, cond, not, ◌&&◌, ◌||◌, Option, Some, None, is_some, option_map, length, get_or, map, nat_eq, nat_lt, refl, sym, ap, ap₂, ◌∙◌, subst, arith, eqb-true, eq-eqb}
 use Rattle.std.specs.Prelude.{slice_get, option_and_then}
 use Rattle.std.specs.Ordering.{nat_cmp}
 use Rattle.std.specs.Cmp.{tied_itself, nat_cmp_total}
+use Rattle.std.specs.Int.{bit_at}
+use Rattle.std.proofs.lemmas.Nat.Bits.{bit_at_ones}
 use Rattle.std.proofs.lemmas.Bool.Decides.{nat_tests}
 use Rattle.std.proofs.lemmas.Option.{none-some, same_Some}
 use Rattle.std.proofs.lemmas.List.{get_or_default}
@@ -19,7 +21,7 @@ use Rattle.cw_game.specs.declared.ambient.Node.TheVariants.{TryAt, AskedAt, Labe
 use Rattle.cw_game.specs.declared.ambient.Numbering.{Numbering}
 use Rattle.cw_game.specs.Games.{Game}
 use Rattle.cw_game.specs.Conditions.{is_live, means_it, leads, leads_if, asked_ok, row_leads, row_ok_in, row_ok_by, row_ok, rows_ok, is_closed_table}
-use Rattle.cw_game.specs.Ambient.{spot_of, start_of, granted_of, lettered, ambient_states, ambient_game, numbering_of}
+use Rattle.cw_game.specs.Ambient.{spot_of, start_of, count_of, granted_of, lettered, ambient_states, ambient_game, numbering_of}
 use Rattle.cw_game.specs.Laid.{Laid}
 use Rattle.cw_tables.specs.declared.closure.Side.TheVariants.{Weaver}
 use Rattle.cw_tables.specs.declared.closure.Key.{Key}
@@ -29,7 +31,7 @@ use Rattle.cw_tables.specs.Needed.{key_of, is_lost, lazy_in, steps, Needed}
 use Rattle.cw_tables.specs.Rows.{seam_id, state_id, mem_id, pos_id, full, mem_of, mem_row, live_row, try_in, try_row, at_in, at_row, AreStatesOf, IsTableOf}
 use Rattle.cw_tables.proofs.Members.{In, in_of, of_in, find_in, find_some, find_is, find_not, kept, kept_from}
 use Rattle.cw_tables.proofs.Places.{placed_at, found_nat}
-use Rattle.cw_tables.proofs.Lazily.{IsKey, needed_key, not_bad, came, there}
+use Rattle.cw_tables.proofs.Lazily.{IsKey, needed_key, needed_within, not_bad, came, there}
 
 pub map_at : {A B : Type 0} (f : A → B) (xs : List A) (i : ℕ) (x : A) → slice_get xs i ≡ Some x → slice_get (map f xs) i ≡ Some (f x)
 map_at f [] i x e = absurd (none-some x e)
@@ -37,8 +39,8 @@ map_at f (y ∷ ys) zero x e = ap Some (ap f (same_Some y x e))
 map_at f (y ∷ ys) (suc i) x e = map_at f ys i x e
 
 -- the game, by the numbering that the policy has
-abbrev pub game_by : PlainPolicy → Numbering → AmbientPolicy → List Node → Game
-game_by plain num pol g = record { spots = map spot_of g; entry = λ f. 0; exit = λ f. length g - 1; main = 0; policy = plain; states = ambient_states num pol.tests.items }
+abbrev pub game_by : PlainPolicy → Numbering → AmbientPolicy → List Node → (entry exit : ℕ → ℕ) → (main : ℕ) → Game
+game_by plain num pol g entry exit main = record { spots = map spot_of g; entry = entry; exit = exit; main = main; policy = plain; states = ambient_states num pol.tests.items }
 
 in_map : {A B : Type 0} (f : A → B) (xs : List A) (x : A) → In xs x → In (map f xs) (f x)
 in_map f [] x n = absurd n
@@ -56,6 +58,14 @@ both a b e f = ap₂ (λ y z. y && z) e f
 pub halves : (a b : Bool) → (a && b) ≡ true → (a ≡ true) × (b ≡ true)
 halves true b e = (refl, e)
 halves false b e = cc
+
+or_right : (a b : Bool) → b ≡ true → (a || b) ≡ true
+or_right true b e = refl
+or_right false b e = e
+
+-- all states are promised
+pub full_has : (pol : AmbientPolicy) (q : ℕ) → q < count_of pol.numbering → nat_eq (bit_at (full pol) q) 1 ≡ true
+full_has pol q l = ap (λ b. nat_eq b 1) (bit_at_ones (count_of pol.numbering) q l)
 
 self : (n : ℕ) → nat_eq n n ≡ true
 self n = eq-eqb n n refl
@@ -76,7 +86,7 @@ try_inv pol states q (Some (AskedAt j)) y e = by (mem_of states q) refl
 try_inv pol states q (Some (LabelTo j l n)) y e = absurd (none-some y e)
 try_inv pol states q (Some (StepTo n)) y e = absurd (none-some y e)
 try_inv pol states q (Some (BranchTo a b)) y e = absurd (none-some y e)
-try_inv pol states q (Some ExitAt) y e = absurd (none-some y e)
+try_inv pol states q (Some (ExitAt f)) y e = absurd (none-some y e)
 
 abbrev met : ℕ → ℕ → ℕ → AtRow
 met j m a = record { seam = seam_id j; mem = mem_id m; after = mem_id a }
@@ -98,7 +108,7 @@ at_inv pol states q (Some (LabelTo j l n)) y e = by (mem_of states q) refl (mem_
         (l, n, ap (λ (r : AtRow). Some (LabelTo r.seam.0 l n)) s, f ∙ ap (λ (r : AtRow). Some r.mem.0) s)
 at_inv pol states q (Some (StepTo n)) y e = absurd (none-some y e)
 at_inv pol states q (Some (BranchTo a b)) y e = absurd (none-some y e)
-at_inv pol states q (Some ExitAt) y e = absurd (none-some y e)
+at_inv pol states q (Some (ExitAt f)) y e = absurd (none-some y e)
 
 same_keys : (hs : List ℕ) (a b : Key) → IsKey hs a → IsKey hs b → a.pos ≡ b.pos → a.state ≡ b.state → a ≡ b
 same_keys hs a b h k e f = h.0 ∙ ap₂ (key_of hs) e f ∙ sym k.0
@@ -111,15 +121,18 @@ same_place p r a b = by (nat_lt p r) refl (nat_lt r p) refl
     by false e true f = absurd (b (grind (arith, nat_tests)))
     by false e false f = grind (arith, nat_tests)
 
-module _ (g : List Node) (pol : AmbientPolicy) (hs : List ℕ) (ok : AreHeights g pol hs) (start : height_at hs 0 (start_of pol.numbering) ≡ 0) (laid : Laid g) (keys : List Key) (x : Exactly key_cmp (Needed Weaver g pol hs) keys) (states : List ℕ) (are : AreStatesOf keys states) where
-  needed : (k : Key) → In keys k → Needed Weaver g pol hs k
+module _ (g : List Node) (pol : AmbientPolicy) (hs : List ℕ) (ok : AreHeights g pol hs) (start : ℕ) (safe : height_at hs start (start_of pol.numbering) ≡ 0) (laid : Laid g start) (keys : List Key) (x : Exactly key_cmp (Needed Weaver g start pol hs) keys) (states : List ℕ) (are : AreStatesOf keys states) where
+  needed : (k : Key) → In keys k → Needed Weaver g start pol hs k
   needed k n = (x.1 k).0 (of_in keys k n)
 
-  has : (k : Key) → Needed Weaver g pol hs k → In keys k
+  has : (k : Key) → Needed Weaver g start pol hs k → In keys k
   has k n = in_of keys k ((x.1 k).1 n)
 
   is_key : (k : Key) → In keys k → IsKey hs k
-  is_key k n = needed_key pol hs g Weaver k (needed k n)
+  is_key k n = needed_key pol hs g start Weaver k (needed k n)
+
+  is_within : (k : Key) → In keys k → k.state < count_of pol.numbering
+  is_within k n = needed_within pol hs g start k (needed k n)
 
   -- the next keys are keys
   follow : (k b : Key) → In keys k → In (steps Weaver g pol hs k) b → In keys b
@@ -136,9 +149,9 @@ module _ (g : List Node) (pol : AmbientPolicy) (hs : List ℕ) (ok : AreHeights 
   same_state : (q r m : ℕ) → mem_of states q ≡ Some m → mem_of states r ≡ Some m → q ≡ r
   same_state q r m e f = same_Some q r (sym (at_mem q m e) ∙ at_mem r m f)
 
-  module _ (c : WeaverCert) (t : IsTableOf g pol keys states c) (plain : PlainPolicy) (refuses : plain.refuse_enter ≡ pol.refusable) where
+  module _ (c : WeaverCert) (t : IsTableOf g pol keys states c) (plain : PlainPolicy) (refuses : plain.refuse_enter ≡ pol.refusable) (entry exit : ℕ → ℕ) (main : ℕ) where
     abbrev game : Game
-    game = game_by plain pol.numbering pol g
+    game = game_by plain pol.numbering pol g entry exit main
 
     means : (q m : ℕ) → mem_of states q ≡ Some m → slice_get c.mems.items m ≡ Some (state_id q, full pol)
     means q m e = ap (λ l. slice_get l m) t.mems ∙ map_at (mem_row pol) states m q (at_mem q m e)
@@ -186,14 +199,14 @@ module _ (g : List Node) (pol : AmbientPolicy) (hs : List ℕ) (ok : AreHeights 
         let here = laid.visit k.pos j e in
         let at : z.0.pos ≡ k.pos + 1 = same_place z.0.pos (k.pos + 1) (λ l. let b = laid.asks z.0.pos (k.pos + 1) j j asks here l in absurd (omega arith)) (λ l. let b = laid.asks (k.pos + 1) z.0.pos j j here asks l in absurd (omega arith)) in
         let st : z.0.state ≡ k.state = same_state z.0.state k.state m (v.1 ∙ ap Some h.1) f in
-        let o = came pol hs g laid z.0 (needed z.0 z.1) j asks in
+        let o = came pol hs g start laid z.0 (needed z.0 z.1) j asks in
         let pp : o.0 ≡ k.pos = omega (arith, o.1, at) in
         let w : true ≡ false = sym o.2 ∙ ap₂ (λ p q. is_lost hs (p + 2) q) pp st ∙ l in
         cc)
 
-    -- a state's memory means this state alone
-    meant_is : (q r m : ℕ) (e : ℕ) → mem_of states r ≡ Some m → means_it (slice_get c.mems.items m) q e ≡ true → r ≡ q
-    meant_is q r m e f h = eqb-true r q (halves (nat_eq r q) (nat_eq (full pol) e) (sym (ap (λ o. means_it o q e) (means r m f)) ∙ h)).0
+    -- a state's memory means this state alone, with all states promised
+    meant_is : (q r m : ℕ) (e : ℕ) → mem_of states r ≡ Some m → means_it (slice_get c.mems.items m) q e ≡ true → (r ≡ q) × (full pol ≡ e)
+    meant_is q r m e f h = let k = halves (nat_eq r q) (nat_eq (full pol) e) (sym (ap (λ o. means_it o q e) (means r m f)) ∙ h) in (eqb-true r q k.0, eqb-true (full pol) e k.1)
 
     tried_row : (j i m : ℕ) (o : Option TryRow) → try_at (table_of c) j i m ≡ o → is_some o ≡ true → (y : TryRow) × In c.tries.items y × (y.seam.0 ≡ j) × (y.mem.0 ≡ m)
     tried_row j i m None f e = cc
@@ -205,8 +218,8 @@ module _ (g : List Node) (pol : AmbientPolicy) (hs : List ℕ) (ok : AreHeights 
     lost_too : (a b q r : ℕ) → a ≡ b → q ≡ r → is_lost hs (a + 2) q ≡ true → is_lost hs (b + 2) r ≡ true
     lost_too a b q r e f h = sym (ap₂ (λ p q. is_lost hs (p + 2) q) e f) ∙ h
 
-    -- where something is tried the skip is lost
-    pub lost_where_tried : (p m q e j i : ℕ) → slice_get g p ≡ Some (TryAt j) → means_it (slice_get c.mems.items m) q e ≡ true → is_some (try_at (table_of c) j i m) ≡ true → (q < 4) × (is_lost hs (p + 2) q ≡ true)
+    -- where something is tried the skip is lost, of one of the states, and all of them are promised
+    pub lost_where_tried : (p m q e j i : ℕ) → slice_get g p ≡ Some (TryAt j) → means_it (slice_get c.mems.items m) q e ≡ true → is_some (try_at (table_of c) j i m) ≡ true → (q < count_of pol.numbering) × (is_lost hs (p + 2) q ≡ true) × (full pol ≡ e)
     lost_where_tried p m q e j i es h tried =
         let y = tried_row j i m (try_at (table_of c) j i m) refl tried in
         let z = kept_from (try_row g pol states) keys y.0 (subst (λ l. In l y.0) t.tries y.1) in
@@ -214,10 +227,10 @@ module _ (g : List Node) (pol : AmbientPolicy) (hs : List ℕ) (ok : AreHeights 
         let asks : slice_get g z.0.pos ≡ Some (AskedAt j) = v.0 ∙ ap (λ s. Some (AskedAt s)) y.2 in
         let here = laid.visit p j es in
         let at : z.0.pos ≡ p + 1 = same_place z.0.pos (p + 1) (λ l. let b = laid.asks z.0.pos (p + 1) j j asks here l in absurd (omega arith)) (λ l. let b = laid.asks (p + 1) z.0.pos j j here asks l in absurd (omega arith)) in
-        let st : z.0.state ≡ q = meant_is q z.0.state m e (v.1 ∙ ap Some y.3) h in
-        let o = came pol hs g laid z.0 (needed z.0 z.1) j asks in
+        let meant = meant_is q z.0.state m e (v.1 ∙ ap Some y.3) h in
+        let o = came pol hs g start laid z.0 (needed z.0 z.1) j asks in
         let pp : o.0 ≡ p = omega (arith, o.1, at) in
-        (subst (λ y. y < 4) st (is_key z.0 z.1).1, lost_too o.0 p z.0.state q pp st o.2)
+        (subst (λ y. y < count_of pol.numbering) meant.0 (is_within z.0 z.1), lost_too o.0 p z.0.state q pp meant.0 o.2, meant.1)
 
     at_is : (k : Key) (j l n m a : ℕ) → In keys k → slice_get g k.pos ≡ Some (LabelTo j l n) → mem_of states k.state ≡ Some m → mem_of states (lettered pol.numbering k.state) ≡ Some a → after_at c.ats.items j m ≡ Some (met j m a)
     at_is k j l n m a i e f ea = find_is (λ (r : AtRow). nat_eq r.seam.0 j && nat_eq r.mem.0 m) c.ats.items (met j m a) (subst (λ l. In l (met j m a)) (sym t.ats) (kept (at_row g pol states) keys k (met j m a) i gives)) (both _ _ (self j) (self m)) only
@@ -262,16 +275,16 @@ module _ (g : List Node) (pol : AmbientPolicy) (hs : List ℕ) (ok : AreHeights 
         let to = key_of hs a (lettered pol.numbering k.state) in
         let i = steps_at k to (Some (LabelTo j l a)) e n (inl refl) in
         let w = mem_there to i in
-        both _ _ (ap not (not_bad pol hs g ok start k j l a (needed k n) e)) (ap (row_leads (table_of c) a (lettered pol.numbering k.state) (full pol)) (at_is k j l a m w.0 n e f w.1) ∙ leads_on to w.0 i w.1)
+        both _ _ (ap not (not_bad pol hs g ok start safe k j l a (needed k n) e)) (ap (row_leads (table_of c) a (lettered pol.numbering k.state) (full pol)) (at_is k j l a m w.0 n e f w.1) ∙ leads_on to w.0 i w.1)
     node_ok k m (StepTo a) e n f = live (key_of hs a k.state) m (steps_at k (key_of hs a k.state) (Some (StepTo a)) e n (inl refl)) f
     node_ok k m (BranchTo a b) e n f = both _ _ (live (key_of hs a k.state) m (steps_at k (key_of hs a k.state) (Some (BranchTo a b)) e n (inl refl)) f) (live (key_of hs b k.state) m (steps_at k (key_of hs b k.state) (Some (BranchTo a b)) e n (inr (inl refl))) f)
-    node_ok k m ExitAt e n f = refl
+    node_ok k m (ExitAt d) e n f = or_right (nat_eq d main) (nat_eq (bit_at (full pol) k.state) 1) (full_has pol k.state (is_within k n))
 
     row_good : (r : PosId × MemId) → In c.live.items r → row_ok game (table_of c) r.0.0 r.1.0 ≡ true
     row_good r i =
         let z = kept_from (live_row states) keys r (subst (λ l. In l r) t.live i) in
         let m = mem_there z.0 z.1 in
-        let o = there pol hs g laid z.0 (needed z.0 z.1) in
+        let o = there pol hs g start laid z.0 (needed z.0 z.1) in
         let e : (pos_id z.0.pos, mem_id m.0) ≡ r = same_Some (pos_id z.0.pos, mem_id m.0) r (sym (ap (option_map (λ m. (pos_id z.0.pos, mem_id m))) m.1) ∙ z.2) in
         subst (λ (r : PosId × MemId). row_ok game (table_of c) r.0.0 r.1.0 ≡ true) e (
         ap (row_ok_by game (table_of c) z.0.pos m.0) (means z.0.state m.0 m.1)
@@ -282,10 +295,10 @@ module _ (g : List Node) (pol : AmbientPolicy) (hs : List ℕ) (ok : AreHeights 
     all_good [] h = refl
     all_good (r ∷ rs) h = both _ _ (h r (inl refl)) (all_good rs (λ r i. h r (inr i)))
 
-    closed_by : is_closed_table game (table_of c) ≡ true
-    closed_by =
-        let s = has (key_of hs 0 (start_of pol.numbering)) first in
-        both _ _ (leads_on (key_of hs 0 (start_of pol.numbering)) c.start.0 s t.start) (all_good c.live.items row_good)
+    closed_by : entry main ≡ start → is_closed_table game (table_of c) ≡ true
+    closed_by e =
+        let s = has (key_of hs start (start_of pol.numbering)) first in
+        both _ _ (subst (λ p. leads (table_of c) p c.start.0 (start_of pol.numbering) (full pol) ≡ true) (sym e) (leads_on (key_of hs start (start_of pol.numbering)) c.start.0 s t.start)) (all_good c.live.items row_good)
 
-    pub lazy_closed : pol.numbering ≡ numbering_of pol.tests.items g → is_closed_table (ambient_game plain pol.tests.items g) (table_of c) ≡ true
-    lazy_closed e = subst (λ num. is_closed_table (game_by plain num pol g) (table_of c) ≡ true) e closed_by
+    pub lazy_closed : pol.numbering ≡ numbering_of pol.tests.items g → entry main ≡ start → is_closed_table (ambient_game plain pol.tests.items g entry exit main) (table_of c) ≡ true
+    lazy_closed e s = subst (λ num. is_closed_table (game_by plain num pol g entry exit main) (table_of c) ≡ true) e (closed_by s)

@@ -57,23 +57,23 @@ full_length f (x ∷ xs) h =
     let y = h x (inl refl) in
     ap (λ o. length (cons_option o (filter_map f xs))) y.1 ∙ ap suc (full_length f xs (λ z n. h z (inr n)))
 
-module _ (g : List Node) (pol : AmbientPolicy) (hs : List ℕ) (ok : AreHeights g pol hs) where
-  module _ (start : height_at hs 0 (start_of pol.numbering) ≡ 0) (laid : Laid g) where
-    pub lazy_many_keys : ((all : List Key) → Exactly key_cmp (Needed Weaver g pol hs) all → 65536 < length all) → (c : WeaverCert) → IsLazy g pol hs c → 65536 < table_rows c
+module _ (g : List Node) (pol : AmbientPolicy) (hs : List ℕ) (ok : AreHeights g pol hs) (start : ℕ) where
+  module _ (safe : height_at hs start (start_of pol.numbering) ≡ 0) (laid : Laid g start) where
+    pub lazy_many_keys : ((all : List Key) → Exactly key_cmp (Needed Weaver g start pol hs) all → 65536 < length all) → (c : WeaverCert) → IsLazy g start pol hs c → 65536 < table_rows c
     lazy_many_keys h c (keys, x, (states, are, t)) =
         let a = h keys x in
-        let l = ap length t.live ∙ full_length (live_row states) keys (λ k n. let m = mem_there g pol hs ok start laid keys x states are k n in ((pos_id k.pos, mem_id m.0), ap (option_map (λ m. (pos_id k.pos, mem_id m))) m.1)) in
+        let l = ap length t.live ∙ full_length (live_row states) keys (λ k n. let m = mem_there g pol hs ok start safe laid keys x states are k n in ((pos_id k.pos, mem_id m.0), ap (option_map (λ m. (pos_id k.pos, mem_id m))) m.1)) in
         omega arith
 
-  pub lazy_many_mems : (keys : List Key) (states : List ℕ) → Exactly key_cmp (Needed Weaver g pol hs) keys → AreStatesOf keys states → 65536 < length states → (c : WeaverCert) → IsLazy g pol hs c → 65536 < table_rows c
+  pub lazy_many_mems : (keys : List Key) (states : List ℕ) → Exactly key_cmp (Needed Weaver g start pol hs) keys → AreStatesOf keys states → 65536 < length states → (c : WeaverCert) → IsLazy g start pol hs c → 65536 < table_rows c
   lazy_many_mems keys states x m l c (ks, y, (more, are, t)) =
-      let e = exactly_same key_total key_exact (Needed Weaver g pol hs) ks keys y x in
+      let e = exactly_same key_total key_exact (Needed Weaver g start pol hs) ks keys y x in
       let s = same_states keys more states (subst (λ ks. AreStatesOf ks more) e are) m in
       let a = ap length t.mems ∙ length_map (mem_row pol) more ∙ ap length s in
       omega arith
 
-  pub lazy_none : (keys : List Key) → Exactly key_cmp (Needed Weaver g pol hs) keys → ((c : WeaverCert) → IsTable g pol keys c → 65536 < table_rows c) → (c : WeaverCert) → IsLazy g pol hs c → 65536 < table_rows c
-  lazy_none keys x h c (ks, y, t) = h c (subst (λ ks. IsTable g pol ks c) (exactly_same key_total key_exact (Needed Weaver g pol hs) ks keys y x) t)
+  pub lazy_none : (keys : List Key) → Exactly key_cmp (Needed Weaver g start pol hs) keys → ((c : WeaverCert) → IsTable g pol keys c → 65536 < table_rows c) → (c : WeaverCert) → IsLazy g start pol hs c → 65536 < table_rows c
+  lazy_none keys x h c (ks, y, t) = h c (subst (λ ks. IsTable g pol ks c) (exactly_same key_total key_exact (Needed Weaver g start pol hs) ks keys y x) t)
 
 pub IfNone_then : {A : Type 0} (o : Option A) {X Y : Type 0} → IfNone o X → (X → Y) → IfNone o Y
 IfNone_then None h f = f h

@@ -24,7 +24,7 @@ try_cmp a b = ordering_then (nat_cmp a.seam.0 b.seam.0) (ordering_then (nat_cmp 
 abbrev pub at_cmp : AtRow → AtRow → Ordering
 at_cmp a b = ordering_then (nat_cmp a.seam.0 b.seam.0) (nat_cmp a.mem.0 b.mem.0)
 
--- The other lists are empty for a program of one function.
+-- The other lists are empty where no function is called.
 pub record Ascends (c : WeaverCert) : Type 0 where
   pub mems : IsStrictlySortedBy mem_cmp c.mems.items
   pub live : IsStrictlySortedBy live_cmp c.live.items

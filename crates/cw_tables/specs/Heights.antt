@@ -15,11 +15,15 @@ pub record AreHeights (g : List Node) (pol : AmbientPolicy) (hs : List ℕ) : Ty
   pub there : (p q n : ℕ) → q < 4 → slice_index hs (p * 4 + q) ≡ suc n → (lost g pol (suc n) p q ≡ true) × (lost g pol n p q ≡ false)
   pub absent : (p q n : ℕ) → q < 4 → slice_index hs (p * 4 + q) ≡ 0 → lost g pol n p q ≡ false
 
--- The same by the game: each height is the least number of moves for which the pair doesn't hold, under any promise of `main`, and a
--- pair without a height holds for every number.
-pub record AreHeightsOf (game : Game) (hs : List ℕ) : Type 0 where
-  pub there : (p q n : ℕ) (e : Promise) → q < 4 → height_at hs p q ≡ suc n → (Holds game (suc n) p q e ≡ false) × (Holds game n p q e ≡ true)
-  pub absent : (p q n : ℕ) (e : Promise) → q < 4 → height_at hs p q ≡ 0 → Holds game n p q e ≡ true
+-- a promise that has every state below the count
+abbrev pub HasAll : ℕ → Promise → Type 0
+HasAll count e = (x : ℕ) → x < count → e x ≡ true
+
+-- The same by the game, for states below a count: each height is the least number of moves for which the pair doesn't hold, under any
+-- promise that has them all, and a pair without a height holds for every number.
+pub record AreHeightsOf (game : Game) (count : ℕ) (hs : List ℕ) : Type 0 where
+  pub there : (p q n : ℕ) (e : Promise) → HasAll count e → q < count → height_at hs p q ≡ suc n → (Holds game (suc n) p q e ≡ false) × (Holds game n p q e ≡ true)
+  pub absent : (p q n : ℕ) (e : Promise) → HasAll count e → q < count → height_at hs p q ≡ 0 → Holds game n p q e ≡ true
 
 -- the lesser of two heights, and the greater, where none is above all
 abbrev pub is_sooner : ℕ → ℕ → Bool

@@ -59,6 +59,6 @@ steps_in Environment pol hs p q o = named_in pol hs p q o
 abbrev pub steps : Side → List Node → AmbientPolicy → List ℕ → Key → List Key
 steps side g pol hs k = steps_in side pol hs k.pos k.state (slice_get g k.pos)
 
--- the keys that a certificate needs
-abbrev pub Needed : Side → List Node → AmbientPolicy → List ℕ → Key → Type 0
-Needed side g pol hs = Least (steps side g pol hs) (key_of hs 0 (start_of pol.numbering))
+-- the keys that a certificate needs of a program that begins at this position
+abbrev pub Needed : Side → List Node → ℕ → AmbientPolicy → List ℕ → Key → Type 0
+Needed side g start pol hs = Least (steps side g pol hs) (key_of hs start (start_of pol.numbering))

@@ -90,8 +90,8 @@ abbrev pub IsTable : List Node → AmbientPolicy → List Key → WeaverCert →
 IsTable g pol keys c = (states : List ℕ) × AreStatesOf keys states × IsTableOf g pol keys states c
 
 -- The lazy table: the least one that is closed under skipping where the skip isn't lost.
-abbrev pub IsLazy : List Node → AmbientPolicy → List ℕ → WeaverCert → Type 0
-IsLazy g pol hs c = (keys : List Key) × Exactly key_cmp (Needed Weaver g pol hs) keys × IsTable g pol keys c
+abbrev pub IsLazy : List Node → ℕ → AmbientPolicy → List ℕ → WeaverCert → Type 0
+IsLazy g start pol hs c = (keys : List Key) × Exactly key_cmp (Needed Weaver g start pol hs) keys × IsTable g pol keys c
 
 -- all entries of all lists
 abbrev pub table_rows : WeaverCert → ℕ
@@ -113,8 +113,8 @@ abbrev pub env_row : List Node → AmbientPolicy → List ℕ → List Key → K
 env_row g pol hs keys k = option_map (λ how. record { pos = pos_id k.pos; state = state_id k.state; aim = 0; how = how }) (how_in pol hs keys k.pos k.state (slice_get g k.pos))
 
 -- The strategy by least heights: its rows by height, position and state, each move to the pair of the least height.
-pub record IsLeast (g : List Node) (pol : AmbientPolicy) (hs : List ℕ) (c : EnvCert) : Type 0 where
+pub record IsLeast (g : List Node) (start : ℕ) (pol : AmbientPolicy) (hs : List ℕ) (c : EnvCert) : Type 0 where
   pub count : c.states ≡ count_of pol.numbering
   pub keys : List Key
-  pub needed : Exactly key_cmp (Needed Environment g pol hs) keys
+  pub needed : Exactly key_cmp (Needed Environment g start pol hs) keys
   pub rows : c.rows.items ≡ filter_map (env_row g pol hs keys) keys

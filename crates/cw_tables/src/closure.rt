@@ -181,7 +181,7 @@ fn lazy_steps(
         Node::LabelTo(_, _, next) => one(alloc, key_of(hs, next, policy.numbering.lettered(q))),
         Node::StepTo(next) => one(alloc, key_of(hs, next, q)),
         Node::BranchTo(left, right) => two(alloc, key_of(hs, left, q), key_of(hs, right, q)),
-        Node::ExitAt => Ok(Vec::new(alloc)),
+        Node::ExitAt(_) => Ok(Vec::new(alloc)),
     }
 }
 
@@ -253,22 +253,28 @@ fn in_order(alloc: Global, set: BTreeSet<Key>) -> Result<Vec<Key>, AllocError>
     set.into_iter().collect(alloc)
 }
 
-/// The keys that a certificate needs, in order, where they are at most 65,536.
+/// The keys that a certificate needs of a program that begins at this position, in order, where they are at most
+/// 65,536.
 pub fn reach(
     alloc: Global,
     side: Side,
     nodes: &[Node],
+    start: u32,
     policy: &AmbientPolicy,
     hs: &[u32],
 ) -> Result<Option<Vec<Key>>, AllocError>
     requires { length nodes.now < 2 ^ 20 }
-    ensures some { IfOk result (λ keys. IfSome keys (λ v. Exactly key_cmp (Needed side nodes.now policy.now hs.now) v.items)) }
+    ensures some { IfOk result (λ keys. IfSome keys (λ v. Exactly key_cmp (Needed side nodes.now start policy.now hs.now) v.items)) }
     ensures few { IfOk result (λ keys. IfSome keys (λ v. length v.items ≤ 65536)) }
-    ensures none { IfOk result (λ keys. IfNone keys ((all : List Key) → Exactly key_cmp (Needed side nodes.now policy.now hs.now) all → 65536 < length all)) }
+    ensures none { IfOk result (λ keys. IfNone keys ((all : List Key) → Exactly key_cmp (Needed side nodes.now start policy.now hs.now) all → 65536 < length all)) }
 {
     let mut seen = Vec::new(alloc);
     let mut set = BTreeSet::new(alloc);
-    see(&mut seen, &mut set, key_of(hs, 0, policy.numbering.start()))?;
+    see(
+        &mut seen,
+        &mut set,
+        key_of(hs, start, policy.numbering.start()),
+    )?;
     for i in 0..65537 {
         match seen.get(i) {
             None => return Ok(Some(in_order(alloc, set)?)),

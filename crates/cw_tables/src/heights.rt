@@ -2,7 +2,7 @@
 
 ghost use Rattle.std.specs.Prelude.{◌≡◌, ℕ, ◌+◌, ◌-◌, ◌*◌, ◌<◌, ◌≤◌, ◌^◌, length, slice_get, slice_index, slice_set, IfOk, IsFalse, IsTrue, true, false};
 ghost use Rattle.cw_rights.specs.Policies.{PlainPolicy};
-ghost use Rattle.cw_game.specs.Ambient.{ambient_game, numbering_of};
+ghost use Rattle.cw_game.specs.Ambient.{ambient_game, numbering_of, count_of};
 ghost use Rattle.cw_tables.specs.Heights.{height_at, AreHeights, AreHeightsOf, is_sooner, sooner, later, after, height_in, next_height, weight, Settled, Upper};
 
 use cw_core::NoMemory;
@@ -71,7 +71,7 @@ fn height_by(policy: &AmbientPolicy, hs: &[u32], pos: u32, q: u16, node: Node) -
             height_at(hs, left, q),
             height_at(hs, right, q),
         )),
-        Node::ExitAt => 0,
+        Node::ExitAt(_) => 0,
     }
 }
 
@@ -157,8 +157,10 @@ pub fn heights(alloc: Global, nodes: &[Node], policy: &AmbientPolicy) -> Result<
     requires small { length nodes.now < 2 ^ 20 }
     requires numbered { policy.now.numbering ≡ numbering_of policy.now.tests.items nodes.now }
     ensures least { IfOk result (λ hs. AreHeights nodes.now policy.now hs.items) }
-    ensures holds { IfOk result (λ hs. (plain : PlainPolicy) → plain.refuse_enter ≡ policy.now.refusable →
-        AreHeightsOf (ambient_game plain policy.now.tests.items nodes.now) hs.items) }
+    ensures holds { IfOk result (λ hs. (plain : PlainPolicy) → plain.refuse_enter ≡ policy.now.refusable → (entry exit : ℕ → ℕ) (main : ℕ) →
+        AreHeightsOf (ambient_game plain policy.now.tests.items nodes.now entry exit main) 4 hs.items) }
+    ensures holds_of_states { IfOk result (λ hs. (plain : PlainPolicy) → plain.refuse_enter ≡ policy.now.refusable → (entry exit : ℕ → ℕ) (main : ℕ) →
+        AreHeightsOf (ambient_game plain policy.now.tests.items nodes.now entry exit main) (count_of policy.now.numbering) hs.items) }
 {
     let mut hs = vec![in alloc; 0u32; nodes.len() * 4]?;
     while lower_all(nodes, policy, &mut hs) {}

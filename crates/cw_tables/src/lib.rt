@@ -1,4 +1,4 @@
-//! Tables and strategies for programs of one function under policies that test ambient authority alone.
+//! Tables and strategies for programs whose functions aren't called, under policies that test ambient authority alone.
 #![tactic(auto)]
 
 pub mod closure;

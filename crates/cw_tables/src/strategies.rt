@@ -115,28 +115,30 @@ fn env_rows(
     Ok(rows)
 }
 
-/// The strategy by least heights, where the start is lost: its rows by height, position and state, each move of the
-/// environment to the pair of the least height, by the first move on a tie. None: it has more than 65,536 rows.
+/// The strategy by least heights of a program that begins at this position, where the start is lost: its rows by height,
+/// position and state, each move of the environment to the pair of the least height, by the first move on a tie. None:
+/// it has more than 65,536 rows.
 ///
 /// Public source: the environment's strategies of Harris, Jha, Reps, Anderson and Watson (2013).
 pub fn env_table(
     alloc: Global,
     nodes: &[Node],
+    start: u32,
     policy: &AmbientPolicy,
     hs: &[u32],
 ) -> Result<Option<EnvCert>, NoMemory>
     requires small { length nodes.now < 2 ^ 20 }
     requires numbered { policy.now.numbering ≡ numbering_of policy.now.tests.items nodes.now }
     requires heights { AreHeights nodes.now policy.now hs.now }
-    requires start { 0 < height_at hs.now 0 (start_of policy.now.numbering) }
-    ensures least { IfOk result (λ o. IfSome o (λ c. IsLeast nodes.now policy.now hs.now c)) }
-    ensures closed { IfOk result (λ o. IfSome o (λ c. (plain : PlainPolicy) → plain.refuse_enter ≡ policy.now.refusable →
-        IsClosedStrategy (ambient_game plain policy.now.tests.items nodes.now) (strategy_of c))) }
-    ensures begins { IfOk result (λ o. IfSome o (λ c. (row : ℕ) × IsAt (strategy_of c) row 0 (start_of policy.now.numbering) 0)) }
+    requires start { 0 < height_at hs.now start (start_of policy.now.numbering) }
+    ensures least { IfOk result (λ o. IfSome o (λ c. IsLeast nodes.now start policy.now hs.now c)) }
+    ensures closed { IfOk result (λ o. IfSome o (λ c. (plain : PlainPolicy) → plain.refuse_enter ≡ policy.now.refusable → (entry exit : ℕ → ℕ) (main : ℕ) →
+        IsClosedStrategy (ambient_game plain policy.now.tests.items nodes.now entry exit main) (strategy_of c))) }
+    ensures begins { IfOk result (λ o. IfSome o (λ c. (row : ℕ) × IsAt (strategy_of c) row start (start_of policy.now.numbering) 0)) }
     ensures few { IfOk result (λ o. IfSome o (λ c. length c.rows.items ≤ 65536)) }
-    ensures many { IfOk result (λ o. IfNone o ((c : EnvCert) → IsLeast nodes.now policy.now hs.now c → 65536 < length c.rows.items)) }
+    ensures many { IfOk result (λ o. IfNone o ((c : EnvCert) → IsLeast nodes.now start policy.now hs.now c → 65536 < length c.rows.items)) }
 {
-    match reach(alloc, Side::Environment, nodes, policy, hs)? {
+    match reach(alloc, Side::Environment, nodes, start, policy, hs)? {
         None => Ok(None),
         Some(keys) => {
             let rows = env_rows(alloc, nodes, policy, hs, &keys)?;

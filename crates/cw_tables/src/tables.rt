@@ -279,30 +279,32 @@ fn table_of_keys(
     }))
 }
 
-/// The lazy table, where the start isn't lost. None: it has more than 65,536 rows, all entries of all its lists together.
+/// The lazy table of a program that begins at this position, where the start isn't lost. None: it has more than 65,536
+/// rows, all entries of all its lists together.
 ///
 /// Public source: the weaver's strategies of Harris, Jha, Reps, Anderson and Watson (2013).
 pub fn weaver_table(
     alloc: Global,
     nodes: &[Node],
+    start: u32,
     policy: &AmbientPolicy,
     hs: &[u32],
 ) -> Result<Option<WeaverCert>, NoMemory>
     requires small { length nodes.now < 2 ^ 20 }
-    requires laid { Laid nodes.now }
+    requires laid { Laid nodes.now start }
     requires numbered { policy.now.numbering ≡ numbering_of policy.now.tests.items nodes.now }
     requires heights { AreHeights nodes.now policy.now hs.now }
-    requires start { height_at hs.now 0 (start_of policy.now.numbering) ≡ 0 }
-    ensures lazy { IfOk result (λ o. IfSome o (λ c. IsLazy nodes.now policy.now hs.now c)) }
-    ensures closed { IfOk result (λ o. IfSome o (λ c. (plain : PlainPolicy) → plain.refuse_enter ≡ policy.now.refusable →
-        IsTrue (is_closed_table (ambient_game plain policy.now.tests.items nodes.now) (table_of c)))) }
-    ensures tries_lost { IfOk result (λ o. IfSome o (λ c. (plain : PlainPolicy) → plain.refuse_enter ≡ policy.now.refusable →
-        TriesOnlyLost (ambient_game plain policy.now.tests.items nodes.now) (table_of c))) }
+    requires start { height_at hs.now start (start_of policy.now.numbering) ≡ 0 }
+    ensures lazy { IfOk result (λ o. IfSome o (λ c. IsLazy nodes.now start policy.now hs.now c)) }
+    ensures closed { IfOk result (λ o. IfSome o (λ c. (plain : PlainPolicy) → plain.refuse_enter ≡ policy.now.refusable → (entry exit : ℕ → ℕ) (main : ℕ) → entry main ≡ start →
+        IsTrue (is_closed_table (ambient_game plain policy.now.tests.items nodes.now entry exit main) (table_of c)))) }
+    ensures tries_lost { IfOk result (λ o. IfSome o (λ c. (plain : PlainPolicy) → plain.refuse_enter ≡ policy.now.refusable → (entry exit : ℕ → ℕ) (main : ℕ) →
+        TriesOnlyLost (ambient_game plain policy.now.tests.items nodes.now entry exit main) (table_of c))) }
     ensures ascends { IfOk result (λ o. IfSome o (λ c. Ascends c)) }
     ensures few { IfOk result (λ o. IfSome o (λ c. table_rows c ≤ 65536)) }
-    ensures many { IfOk result (λ o. IfNone o ((c : WeaverCert) → IsLazy nodes.now policy.now hs.now c → 65536 < table_rows c)) }
+    ensures many { IfOk result (λ o. IfNone o ((c : WeaverCert) → IsLazy nodes.now start policy.now hs.now c → 65536 < table_rows c)) }
 {
-    match reach(alloc, Side::Weaver, nodes, policy, hs)? {
+    match reach(alloc, Side::Weaver, nodes, start, policy, hs)? {
         None => Ok(None),
         Some(keys) => {
             let states = states_of(alloc, &keys)?;

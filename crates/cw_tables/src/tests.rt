@@ -38,7 +38,7 @@ fn a_label_that_is_never_ambient(rt: HostRuntime) -> Result<(), Fail> {
         Node::LabelTo(1, 0, 6),
         Node::StepTo(7),
         Node::StepTo(8),
-        Node::ExitAt,
+        Node::ExitAt(0),
     ];
     let tests = [AmbientTest {
         label: 0,
@@ -48,7 +48,7 @@ fn a_label_that_is_never_ambient(rt: HostRuntime) -> Result<(), Fail> {
     let policy = AmbientPolicy::new(false, tests, &nodes);
     let hs = heights(rt.alloc(), &nodes, &policy)?;
     assert_eq!(rt; height_at(&hs, 0, policy.numbering.start()), 0);
-    let table = weaver_table(rt.alloc(), &nodes, &policy, &hs)?.ok_or("too many rows")?;
+    let table = weaver_table(rt.alloc(), &nodes, 0, &policy, &hs)?.ok_or("too many rows")?;
     assert_eq!(rt; table.states, 4);
     assert_eq!(rt; table.start, MemId(0));
     let mut states = Vec::new(rt.alloc());
@@ -103,12 +103,12 @@ fn a_label_without_rules(rt: HostRuntime) -> Result<(), Fail> {
         Node::TryAt(0),
         Node::AskedAt(0),
         Node::LabelTo(0, 0, 3),
-        Node::ExitAt,
+        Node::ExitAt(0),
     ];
     let policy = AmbientPolicy::new(false, Vec::new(rt.alloc()), &nodes);
     let hs = heights(rt.alloc(), &nodes, &policy)?;
     assert_eq!(rt; height_at(&hs, 0, policy.numbering.start()), 0);
-    let table = weaver_table(rt.alloc(), &nodes, &policy, &hs)?.ok_or("too many rows")?;
+    let table = weaver_table(rt.alloc(), &nodes, 0, &policy, &hs)?.ok_or("too many rows")?;
     assert_eq!(rt; table.states, 4);
     assert_eq!(rt; table.start, MemId(1));
     Ok(())
@@ -129,7 +129,7 @@ fn the_second_label_wants_what_the_first_forbids(rt: HostRuntime) -> Result<(), 
         Node::LabelTo(2, 1, 10),
         Node::StepTo(11),
         Node::StepTo(12),
-        Node::ExitAt,
+        Node::ExitAt(0),
     ];
     let tests = [
         AmbientTest {
@@ -145,7 +145,7 @@ fn the_second_label_wants_what_the_first_forbids(rt: HostRuntime) -> Result<(), 
     let policy = AmbientPolicy::new(false, tests, &nodes);
     let hs = heights(rt.alloc(), &nodes, &policy)?;
     assert!(rt; 0 < height_at(&hs, 0, policy.numbering.start()));
-    let strategy = env_table(rt.alloc(), &nodes, &policy, &hs)?.ok_or("too many rows")?;
+    let strategy = env_table(rt.alloc(), &nodes, 0, &policy, &hs)?.ok_or("too many rows")?;
     let rows = [
         (5, 0, (0, 0, 0)),
         (9, 3, (0, 0, 0)),
@@ -186,7 +186,7 @@ fn a_kernel_that_may_refuse_enter(rt: HostRuntime) -> Result<(), Fail> {
         Node::LabelTo(1, 0, 6),
         Node::StepTo(7),
         Node::StepTo(8),
-        Node::ExitAt,
+        Node::ExitAt(0),
     ];
     let tests = [AmbientTest {
         label: 0,
@@ -196,7 +196,7 @@ fn a_kernel_that_may_refuse_enter(rt: HostRuntime) -> Result<(), Fail> {
     let policy = AmbientPolicy::new(true, tests, &nodes);
     let hs = heights(rt.alloc(), &nodes, &policy)?;
     assert!(rt; 0 < height_at(&hs, 0, policy.numbering.start()));
-    let strategy = env_table(rt.alloc(), &nodes, &policy, &hs)?.ok_or("too many rows")?;
+    let strategy = env_table(rt.alloc(), &nodes, 0, &policy, &hs)?.ok_or("too many rows")?;
     let rows = [
         (5, 0, (0, 0, 0)),
         (4, 0, (3, 0, 0)),
@@ -207,6 +207,81 @@ fn a_kernel_that_may_refuse_enter(rt: HostRuntime) -> Result<(), Fail> {
     ];
     assert_eq!(rt; strategy.rows.len(), rows.len());
     for i in 0..6 {
+        let row = &strategy.rows[i];
+        assert_eq!(rt;
+            (row.pos.0, row.state.0, how_numbers(&row.how)),
+            rows[i],
+            "row {i}"
+        );
+    }
+    Ok(())
+}
+
+#[test]
+fn main_is_the_second_function(rt: HostRuntime) -> Result<(), Fail> {
+    let nodes = [
+        Node::LabelTo(0, 0, 1),
+        Node::ExitAt(0),
+        Node::TryAt(1),
+        Node::AskedAt(1),
+        Node::LabelTo(1, 0, 5),
+        Node::ExitAt(1),
+    ];
+    let tests = [AmbientTest {
+        label: 0,
+        wanted: true,
+    }]
+    .to_vec(rt.alloc())?;
+    let policy = AmbientPolicy::new(false, tests, &nodes);
+    let hs = heights(rt.alloc(), &nodes, &policy)?;
+    // The label of the first function is bad at once, and the second one may enter before its own.
+    assert!(rt; 0 < height_at(&hs, 0, policy.numbering.start()));
+    assert_eq!(rt; height_at(&hs, 2, policy.numbering.start()), 0);
+    let table = weaver_table(rt.alloc(), &nodes, 2, &policy, &hs)?.ok_or("too many rows")?;
+    assert_eq!(rt; table.start, MemId(0));
+    let live = [(2, 0), (3, 0), (4, 1), (5, 2)];
+    assert_eq!(rt; table.live.len(), live.len());
+    for i in 0..4 {
+        assert_eq!(rt;
+            table.live.get(i).copied(),
+            Some((PosId(live[i].0), MemId(live[i].1))),
+            "row {i}"
+        );
+    }
+    let tried = TryRow {
+        seam: SeamId(1),
+        stage: 0,
+        mem: MemId(0),
+        granted: Some(MemId(1)),
+        refused: None,
+    };
+    assert_eq!(rt; table.tries.as_slice(), [tried].as_slice());
+    Ok(())
+}
+
+#[test]
+fn main_is_the_second_function_and_enter_may_be_refused(rt: HostRuntime) -> Result<(), Fail> {
+    let nodes = [
+        Node::StepTo(1),
+        Node::ExitAt(0),
+        Node::TryAt(1),
+        Node::AskedAt(1),
+        Node::LabelTo(1, 0, 5),
+        Node::ExitAt(1),
+    ];
+    let tests = [AmbientTest {
+        label: 0,
+        wanted: true,
+    }]
+    .to_vec(rt.alloc())?;
+    let policy = AmbientPolicy::new(true, tests, &nodes);
+    let hs = heights(rt.alloc(), &nodes, &policy)?;
+    assert_eq!(rt; height_at(&hs, 0, policy.numbering.start()), 0);
+    assert!(rt; 0 < height_at(&hs, 2, policy.numbering.start()));
+    let strategy = env_table(rt.alloc(), &nodes, 2, &policy, &hs)?.ok_or("too many rows")?;
+    let rows = [(4, 0, (0, 0, 0)), (3, 0, (3, 0, 0)), (2, 0, (1, 0, 1))];
+    assert_eq!(rt; strategy.rows.len(), rows.len());
+    for i in 0..3 {
         let row = &strategy.rows[i];
         assert_eq!(rt;
             (row.pos.0, row.state.0, how_numbers(&row.how)),

@@ -2,7 +2,7 @@ use Rattle.std.proofs.Common.{subst}
 use Rattle.cw_rights.specs.Policies.{policy_of}
 use Rattle.cw_syntax.specs.Trees.{file_of}
 use Rattle.cw_policy.specs.Answer.{IsAnswer}
-use Rattle.cw_cli.proofs.Dues.{answer_is_due}
+use Rattle.cw_cli.specs.Verdicts.{IsPlainAnswer}
 use Rattle.cw_cli.proofs.Policies.{is_plain_policy}
 use Rattle.cw_cli.proofs.answer.fitted.Goals as goal
 
@@ -11,7 +11,18 @@ judged-requires-clause-plain c =
     let spells = subst (λ o. IsAnswer c.args.policy.now o) c.in-Some.is c.in_ok-read_first_policy.ensures.policy in
     is_plain_policy c.args.policy.now (policy_of c.in-Some.plain) spells
 
-pub returns-in-Some : goal.returns-in-Some
-returns-in-Some c =
+pub returns-in-Woven : goal.returns-in-Woven
+returns-in-Woven c =
+    let file = file_of c.args.checked.now.program in
+    let plain = policy_of c.in-Some.plain in
     let spells = subst (λ o. IsAnswer c.args.policy.now o) c.in-Some.is c.in_ok-read_first_policy.ensures.policy in
-    answer_is_due c.args.policy.now c.args.source.now (file_of c.args.program.now) (policy_of c.in-Some.plain) c.judged.result (c.requires.reads, spells) c.requires.labels c.judged.ensures
+    let woven = subst (IsPlainAnswer plain c.args.checked.now.source.now file) c.in-Woven.is c.in_ok-text-in-Some.ensures in
+    (policy_of c.args.whole.now, file, c.requires.fit, (plain, spells, woven))
+
+pub returns : goal.returns
+returns c =
+    let file = file_of c.args.checked.now.program in
+    let plain = policy_of c.in-Some.plain in
+    let spells = subst (λ o. IsAnswer c.args.policy.now o) c.in-Some.is c.in_ok-read_first_policy.ensures.policy in
+    let refuted = subst (IsPlainAnswer plain c.args.checked.now.source.now file) c.in-Refuted.is c.in_ok-text-in-Some.ensures in
+    (policy_of c.args.whole.now, file, c.requires.fit, (plain, spells, refuted))

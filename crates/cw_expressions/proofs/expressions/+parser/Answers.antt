@@ -2,10 +2,11 @@ use Rattle.std.proofs.Common.{◌≡◌, suc, true, false, length, arith, sym, r
 use Rattle.std.proofs.lemmas.Result.{err_from_is_err_and}
 use Rattle.cw_grammar.specs.declared.words.Word.TheVariants as w
 use Rattle.cw_expressions.specs.Cursor.{begins}
-use Rattle.cw_expressions.specs.Reading.{rest_of, rest_of_arguments, goes_on_at, is_suffixed, argument, suffixed, joined, chain, read_at}
+use Rattle.cw_expressions.specs.Reading.{rest_of, rest_of_arguments, goes_on_at, is_suffixed, argument, suffixed, joined, operand, read_at}
 use Rattle.cw_expressions.specs.View.{got, got_arguments}
 use Rattle.cw_expressions.proofs.Repeat.{repeat_ends, repeat_fails, repeat_further}
 use Rattle.cw_expressions.proofs.Short.{read_over, read_shortens, joined_shortens, suffixed_shortens, argument_shortens}
+use Rattle.cw_expressions.proofs.Climb.{fails_on, climbs_up, climbs_on, climbs_to, climbs_read, climbs_from}
 use Rattle.cw_expressions.proofs.expressions.+parser.Goals as goal
 
 pub joined_all-returns-in_err-so_far-clause-gives : goal.joined_all-returns-in_err-so_far-clause-gives
@@ -80,9 +81,30 @@ arguments_all-returns-clause-gives t c =
     let stop : begins w.Comma c.arguments.so_far.rest.now ≡ false = sym c.begins_with.ensures.begins ∙ c.arguments-test.false in
     sym c.arguments.invariant.gives ∙ repeat_ends rest_of_arguments (begins w.Comma) (argument (read_at c.args.depth) c.args.depth) (length c.arguments.so_far.rest.now) (got_arguments c.arguments.so_far) stop
 
-pub level_at-returns-then-level-eq0-clause-gives : goal.level_at-returns-then-level-eq0-clause-gives
-unfolding chain
-level_at-returns-then-level-eq0-clause-gives t c = rw c.if-level-eq0.true c.operand_at.ensures.gives
+pub level_at-returns-in_err-so_far-clause-gives : goal.level_at-returns-in_err-so_far-clause-gives
+level_at-returns-in_err-so_far-clause-gives t c =
+    let p = err_from_is_err_and c.from_residual.result c.from_residual.ensures.1 in
+    rw (p.1, p.2, climbs_up (read_at c.args.depth) c.args.depth c.args.level c.args.tokens.now) (fails_on c.in_err-so_far.field-0.0 (operand (read_at c.args.depth) c.args.depth c.args.tokens.now) _ c.in_err-so_far.ensures.gives)
+
+pub level_at-levels-init : goal.level_at-levels-init
+level_at-levels-init t c = record {
+  gives = climbs_from (read_at c.args.depth) c.args.depth c.args.level c.args.tokens.now (got c.in_ok-so_far.so_far) c.in_ok-so_far.ensures.gives;
+  fits = c.in_ok-so_far.ensures.fits;
+}
+
+pub level_at-levels-preserved : goal.level_at-levels-preserved
+level_at-levels-preserved t c = record {
+  gives = c.levels.invariant.gives ∙ climbs_read (read_at c.args.depth) c.args.depth c.args.level c.levels.below (got c.levels.so_far) (got c.in_ok-so_far-2.so_far) c.levels-test.true c.in_ok-so_far-2.ensures.gives;
+  fits = c.in_ok-so_far-2.ensures.fits;
+}
+
+pub level_at-returns-in_err-so_far-2-clause-gives : goal.level_at-returns-in_err-so_far-2-clause-gives
+level_at-returns-in_err-so_far-2-clause-gives t c =
+    let p = err_from_is_err_and c.from_residual-in_err-so_far-2.result c.from_residual-in_err-so_far-2.ensures.1 in
+    rw (p.1, p.2, c.levels.invariant.gives, climbs_on (read_at c.args.depth) c.args.depth c.args.level c.levels.below (got c.levels.so_far) c.levels-test.true) (fails_on c.in_err-so_far-2.field-0.0 _ _ c.in_err-so_far-2.ensures.gives)
+
+pub level_at-returns-clause-gives : goal.level_at-returns-clause-gives
+level_at-returns-clause-gives t c = c.levels.invariant.gives ∙ climbs_to (read_at c.args.depth) c.args.depth c.args.level c.levels.below (got c.levels.so_far) c.levels-test.false
 
 pub read-returns-then-depth-eq0-clause-gives : goal.read-returns-then-depth-eq0-clause-gives
 unfolding read_at

@@ -1,8 +1,9 @@
-use Rattle.std.proofs.Common.{◌≡◌, ◌+◌, ◌*◌, ◌≤◌, suc, length}
+use Rattle.std.proofs.Common.{◌≡◌, ◌+◌, ◌-◌, ◌*◌, ◌≤◌, suc, length}
 use Rattle.cw_grammar.specs.declared.words.Word.TheVariants as w
 use Rattle.cw_expressions.specs.Cursor.{begins, repeat}
-use Rattle.cw_expressions.specs.Reading.{rest_of, rest_of_arguments, goes_on_at, is_suffixed, argument, suffixed, joined, read_at}
+use Rattle.cw_expressions.specs.Reading.{rest_of, rest_of_arguments, goes_on_at, is_suffixed, argument, suffixed, joined, chain, read_at}
 use Rattle.cw_expressions.specs.View.{got, got_arguments}
+use Rattle.cw_expressions.proofs.Climb.{climb}
 use Rattle.cw_expressions.proofs.expressions.+parser.Given as goal
 
 abbrev pub decreases-argument_at : goal.decreases-argument_at
@@ -26,9 +27,6 @@ decreases-by_rule_at l = 40 * l.depth + 39
 abbrev pub decreases-cast_at : goal.decreases-cast_at
 decreases-cast_at l = 40 * l.depth + 1
 
-abbrev pub decreases-chain_at : goal.decreases-chain_at
-decreases-chain_at l = 40 * l.depth + 2 * l.below + 16
-
 abbrev pub decreases-expression_at : goal.decreases-expression_at
 decreases-expression_at l = 40 * l.depth + 37
 
@@ -39,7 +37,7 @@ abbrev pub decreases-joined_at : goal.decreases-joined_at
 decreases-joined_at l = 40 * l.depth + 1
 
 abbrev pub decreases-level_at : goal.decreases-level_at
-decreases-level_at l = 40 * l.depth + 2 * l.level + 15
+decreases-level_at l = 40 * l.depth + 15
 
 abbrev pub decreases-named_at : goal.decreases-named_at
 decreases-named_at l = 40 * l.depth + 10
@@ -97,3 +95,9 @@ invariant-arguments_all-arguments l = record {
 
 abbrev pub decreases-arguments_all-arguments : goal.decreases-arguments_all-arguments
 decreases-arguments_all-arguments l = length l.so_far.rest.now
+
+abbrev pub invariant-level_at-levels : goal.invariant-level_at-levels
+invariant-level_at-levels l = record {
+  gives : chain (read_at l.depth) l.depth l.level l.tokens ≡ climb (read_at l.depth) l.depth (l.level - l.below) l.below (got l.so_far);
+  fits : l.so_far.depth ≤ l.depth + 1;
+}

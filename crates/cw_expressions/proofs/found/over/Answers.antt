@@ -3,4 +3,4 @@ use Rattle.cw_grammar.proofs.TreeRows.{tree_of_roll}
 use Rattle.cw_expressions.proofs.found.over.Goals as goal
 
 pub returns : goal.returns
-returns c = rw (tree_of_roll, c.in_ok-push.ensures.items, c.new-parts.ensures.items) refl
+returns c = rw (tree_of_roll, c.in_ok-parts.ensures.items) refl

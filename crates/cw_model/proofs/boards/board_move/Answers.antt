@@ -2,7 +2,7 @@ use Rattle.std.proofs.Common.{◌≡◌, Some, true, false, ap, sym, ◌∙◌}
 use Rattle.std.specs.Prelude.{option_map}
 use Rattle.std.proofs.lemmas.Option.{none-some}
 use Rattle.cw_rights.specs.Policies.{policy_of}
-use Rattle.cw_model.specs.Held.{scene_in}
+use Rattle.cw_actions.specs.Scenes.{scene_in}
 use Rattle.cw_model.specs.HeldBoards.{board_in, problem_in}
 use Rattle.cw_model.proofs.Chosen.{moved_by_kind}
 use Rattle.cw_model.proofs.boards.board_move.Goals as goal

@@ -1,6 +1,6 @@
 use Rattle.std.proofs.Common.{◌∷◌, [], ◌++◌, Some, None, refl, sym, subst}
 use Rattle.cw_rights.specs.Policies.{policy_of, IsBad}
-use Rattle.cw_model.specs.Held.{scene_in}
+use Rattle.cw_actions.specs.Scenes.{scene_in}
 use Rattle.cw_model.specs.HeldBoards.{board_in, problem_in}
 use Rattle.cw_model.proofs.Chosen.{letter_by_kind, violates_not, violates_where}
 use Rattle.cw_model.proofs.boards.judged.Goals as goal

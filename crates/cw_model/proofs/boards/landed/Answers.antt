@@ -3,7 +3,8 @@ use Rattle.std.specs.Prelude.{option_map}
 use Rattle.cw_rights.specs.Policies.{policy_of}
 use Rattle.cw_model.specs.Boards.{landed}
 use Rattle.cw_model.specs.Choices.{mode_of}
-use Rattle.cw_model.specs.Held.{scene_in, stack_in}
+use Rattle.cw_actions.specs.Scenes.{scene_in}
+use Rattle.cw_model.specs.Held.{stack_in}
 use Rattle.cw_model.specs.HeldBoards.{board_in, problem_in, kept_by}
 use Rattle.cw_model.specs.Turns.{way_in}
 use Rattle.cw_model.proofs.Chosen.{landed_is, changed_by}

@@ -1,5 +1,6 @@
 use Rattle.cw_rights.specs.Policies.{policy_of}
-use Rattle.cw_model.specs.Held.{scene_in, frame_in}
+use Rattle.cw_actions.specs.Scenes.{scene_in}
+use Rattle.cw_model.specs.Held.{frame_in}
 use Rattle.cw_model.proofs.Putting.{Puts}
 use Rattle.cw_model.proofs.frames.put_all.Given as goal
 

@@ -5,7 +5,8 @@ use Rattle.cw_syntax.specs.declared.program.Stmt.{Stmt}
 use Rattle.cw_rights.specs.Policies.{policy_of}
 use Rattle.cw_syntax.specs.Plans.{numbered, numbered_all}
 use Rattle.cw_syntax.specs.Frames.{Test, Mark, items_of, init_if}
-use Rattle.cw_model.specs.Held.{scene_in, stm_in, stms_in, frame_in}
+use Rattle.cw_actions.specs.Scenes.{scene_in, stm_in, stms_in}
+use Rattle.cw_model.specs.Held.{frame_in}
 use Rattle.cw_model.proofs.Settled.{a_block, a_for}
 use Rattle.cw_model.proofs.frames.rewrite_statement.Goals as goal
 

@@ -1,7 +1,8 @@
 use Rattle.std.proofs.Common.{◌≡◌}
 use Rattle.cw_syntax.specs.Frames.{settle}
 use Rattle.cw_rights.specs.Policies.{policy_of}
-use Rattle.cw_model.specs.Held.{scene_in, frame_in, frame_weight}
+use Rattle.cw_actions.specs.Scenes.{scene_in}
+use Rattle.cw_model.specs.Held.{frame_in, frame_weight}
 use Rattle.cw_model.proofs.frames.settle.Given as goal
 
 abbrev pub invariant-loop-item : goal.invariant-loop-item

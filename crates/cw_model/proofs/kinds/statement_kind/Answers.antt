@@ -1,5 +1,5 @@
 use Rattle.cw_rights.specs.Policies.{policy_of}
-use Rattle.cw_model.specs.Held.{scene_in}
+use Rattle.cw_actions.specs.Scenes.{scene_in}
 use Rattle.cw_model.proofs.Shapes.{for_kind}
 use Rattle.cw_model.proofs.kinds.statement_kind.Goals as goal
 

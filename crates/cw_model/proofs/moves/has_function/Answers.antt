@@ -1,6 +1,6 @@
 use Rattle.std.proofs.Common.{◌≡◌, length, nat_lt, ap, ◌∙◌, rules}
 use Rattle.cw_rights.specs.Policies.{policy_of}
-use Rattle.cw_model.specs.Held.{scene_in}
+use Rattle.cw_actions.specs.Scenes.{scene_in}
 use Rattle.cw_model.proofs.Having.{function_is}
 use Rattle.cw_model.proofs.moves.has_function.Goals as goal
 

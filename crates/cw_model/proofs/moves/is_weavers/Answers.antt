@@ -1,7 +1,8 @@
 use Rattle.std.proofs.Common.{ap, ◌∙◌, refl}
 use Rattle.cw_rights.specs.Policies.{policy_of}
 use Rattle.cw_model.specs.Choices.{primitives_by, phase_by}
-use Rattle.cw_model.specs.Held.{scene_in, stack_in}
+use Rattle.cw_actions.specs.Scenes.{scene_in}
+use Rattle.cw_model.specs.Held.{stack_in}
 use Rattle.cw_model.proofs.Having.{phase_by_kind, weavers_not, weavers_are}
 use Rattle.cw_model.proofs.moves.is_weavers.Goals as goal
 

@@ -4,7 +4,7 @@ use Rattle.cw_rights.specs.Policies.{policy_of}
 use Rattle.cw_model.specs.declared.choices.Choice.TheVariants.{Refused, To, Grants, Steps}
 use Rattle.cw_model.specs.Boards.{way_of}
 use Rattle.cw_model.specs.Choices.{mode_of}
-use Rattle.cw_model.specs.Held.{scene_in}
+use Rattle.cw_actions.specs.Scenes.{scene_in}
 use Rattle.cw_model.specs.HeldBoards.{board_in, problem_in}
 use Rattle.cw_model.proofs.Chosen.{moved_by_kind}
 use Rattle.cw_model.proofs.Having.{stepped_may}

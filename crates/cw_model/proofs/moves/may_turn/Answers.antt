@@ -1,6 +1,7 @@
 use Rattle.std.proofs.Common.{ap, sym, map, drop, ◌∙◌}
 use Rattle.cw_rights.specs.Policies.{policy_of}
-use Rattle.cw_model.specs.Held.{scene_in, plan_in, frame_in}
+use Rattle.cw_actions.specs.Scenes.{scene_in, plan_in}
+use Rattle.cw_model.specs.Held.{frame_in}
 use Rattle.cw_model.specs.HeldBoards.{may_turn}
 use Rattle.cw_model.proofs.moves.may_turn.Goals as goal
 

@@ -2,8 +2,8 @@ use Rattle.std.proofs.Common.{◌≡◌, ap, sym, ◌∙◌, subst}
 use Rattle.std.specs.Option.{IfSome}
 use Rattle.cw_rights.specs.Policies.{policy_of}
 use Rattle.cw_syntax.specs.Plans.{seams, seams_all}
-use Rattle.cw_model.specs.Held.{scene_in, stms_in}
-use Rattle.cw_model.proofs.Shapes.{block_steps}
+use Rattle.cw_actions.specs.Scenes.{scene_in, stms_in}
+use Rattle.cw_actions.proofs.Shapes.{block_steps}
 use Rattle.cw_model.proofs.seams.+seams.Goals as goal
 
 pub seams-returns-in-Block : goal.seams-returns-in-Block

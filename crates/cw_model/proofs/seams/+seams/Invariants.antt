@@ -1,7 +1,7 @@
 use Rattle.std.proofs.Common.{◌≡◌, ◌+◌, drop}
 use Rattle.cw_syntax.specs.Plans.{seams_all}
 use Rattle.cw_rights.specs.Policies.{policy_of}
-use Rattle.cw_model.specs.Held.{scene_in, stms_in}
+use Rattle.cw_actions.specs.Scenes.{scene_in, stms_in}
 use Rattle.cw_model.proofs.seams.+seams.Given as goal
 
 abbrev pub invariant-seams_all-loop-s : goal.invariant-seams_all-loop-s

@@ -1,6 +1,7 @@
 use Rattle.std.proofs.Common.{Some, ap, sym, ◌∙◌}
 use Rattle.cw_rights.specs.Policies.{policy_of}
-use Rattle.cw_model.specs.Held.{scene_in, item_of, frame_in}
+use Rattle.cw_actions.specs.Scenes.{scene_in}
+use Rattle.cw_model.specs.Held.{item_of, frame_in}
 use Rattle.cw_model.specs.Turns.{way_in, taken}
 use Rattle.cw_model.proofs.steps.after.Goals as goal
 

@@ -5,7 +5,7 @@ use Rattle.std.proofs.lemmas.List.{length-map}
 use Rattle.cw_syntax.specs.Names.{text}
 use Rattle.cw_syntax.specs.Trees.{definition_of, Definition, file_of}
 use Rattle.cw_syntax.specs.Plans.{function_names}
-use Rattle.cw_model.proofs.Places.{no_place}
+use Rattle.cw_actions.proofs.Places.{no_place}
 use Rattle.cw_model.proofs.steps.main_number.Goals as goal
 
 pub returns-in-None : goal.returns-in-None
@@ -15,4 +15,4 @@ returns-in-None c =
     let names = function_names source (file_of c.args.checked.now.program) in
     let l : c.len.result ≡ length fs = search rules in
     l ∙ sym (length-map fs definition_of) ∙ sym (length-map (map definition_of fs) (λ (f : Definition). text source f.name))
-    ∙ no_place (bytes_eq (codes "main")) names (c.in-None.ensures ∙ ap (λ m. position (bytes_eq m) names) c.main_text.ensures)
+    ∙ no_place (bytes_eq (codes "main")) names (c.in-None.ensures.number ∙ ap (λ m. position (bytes_eq m) names) c.main_text.ensures)

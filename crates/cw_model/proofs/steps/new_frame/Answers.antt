@@ -2,7 +2,8 @@ use Rattle.std.proofs.Common.{◌≡◌, ◌<◌, ◌≤◌, length, get_or, ap,
 use Rattle.std.specs.Prelude.{option_map}
 use Rattle.cw_rights.specs.Policies.{policy_of}
 use Rattle.cw_syntax.specs.Frames.{new_frame}
-use Rattle.cw_model.specs.Held.{scene_in, frame_in}
+use Rattle.cw_actions.specs.Scenes.{scene_in}
+use Rattle.cw_model.specs.Held.{frame_in}
 use Rattle.cw_model.proofs.Routines.{routine_none, frame_at}
 use Rattle.cw_model.proofs.steps.new_frame.Goals as goal
 

@@ -1,11 +1,7 @@
-use Rattle.std.proofs.Common.{◌≡◌, ◌+◌, ◌≤◌, ◌++◌, drop, map}
-use Rattle.cw_syntax.specs.Trees.{definition_of, file_of}
-use Rattle.cw_points.specs.First.{points_from, points}
-use Rattle.cw_points.specs.Marked.{marks_from}
+use Rattle.std.proofs.Common.{◌≡◌, ◌++◌, map, drop}
+use Rattle.cw_syntax.specs.Marks.{mark_of}
+use Rattle.cw_points.specs.Marking.{marks_by}
 use Rattle.cw_points.proofs.marks.marks.Given as goal
 
-abbrev pub invariant-loop-f : goal.invariant-loop-f
-invariant-loop-f l = record {
-  seams : l.seam + points_from (map definition_of (drop l.f-index l.f-items)) ≤ points (file_of l.program);
-  marks : l.marks.items ++ marks_from (map definition_of (drop l.f-index l.f-items)) l.seam ≡ marks_from (file_of l.program).functions 0;
-}
+abbrev pub invariant-loop-seam : goal.invariant-loop-seam
+invariant-loop-seam l = map mark_of l.marks.items ++ marks_by l.graph.nodes.items (drop l.seam-index l.graph.seams.items) ≡ marks_by l.graph.nodes.items l.graph.seams.items

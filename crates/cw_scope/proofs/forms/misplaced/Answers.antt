@@ -11,8 +11,8 @@ use Rattle.cw_scope.proofs.forms.misplaced.Goals as goal
 
 pub returns : goal.returns
 returns c =
-    let source = c.args.source.now in
-    let file = file_of c.args.program.now in
+    let source = c.args.known.now.source.now in
+    let file = file_of c.args.known.now.program.now in
     let call = c.in-Some.call.now in
     let parts = (out-Expr call).parts.items in
     let own = λ (l : List Tree). cond (list_any is_call l) (defined_call source file (tree_of call)) None in

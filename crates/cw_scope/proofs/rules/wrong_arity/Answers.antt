@@ -8,8 +8,8 @@ use Rattle.cw_scope.proofs.rules.wrong_arity.Goals as goal
 
 pub returns-in-None : goal.returns-in-None
 returns-in-None c =
-    let source = c.args.source.now in
-    let file = file_of c.args.program.now in
+    let source = c.args.known.now.source.now in
+    let file = file_of c.args.known.now.program.now in
     let e = c.args.e.now in
     let o = out-Expr e in
     let is = c.in-None.ensures ∙ ap (defined source file) c.text.ensures in
@@ -17,8 +17,8 @@ returns-in-None c =
 
 pub returns-in-Some : goal.returns-in-Some
 returns-in-Some c =
-    let source = c.args.source.now in
-    let file = file_of c.args.program.now in
+    let source = c.args.known.now.source.now in
+    let file = file_of c.args.known.now.program.now in
     let e = c.args.e.now in
     let o = out-Expr e in
     let params = c.in-Some.function.now.params in
@@ -31,4 +31,4 @@ returns-in-Some c =
     ∙ sym (at_operator (wrong_arity source file) e (CallOp c.in-Call.name) c.in-Call.is)
 
 pub returns-in_default : goal.returns-in_default
-returns-in_default c = sym (isnt_wrong c.args.source.now (file_of c.args.program.now) c.args.e.now c.in_default.not-Call)
+returns-in_default c = sym (isnt_wrong c.args.known.now.source.now (file_of c.args.known.now.program.now) c.args.e.now c.in_default.not-Call)

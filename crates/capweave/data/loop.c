@@ -1,0 +1,1 @@
+int main(void){for(;c;n=n+1){if(d)continue;x:;}return 0;}

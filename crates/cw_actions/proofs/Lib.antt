@@ -1,0 +1,5 @@
+-- What expressions do, the forms of statements, names by their places.
+pub mod Acting
+pub mod Shapes
+pub mod Places
+mod Digits

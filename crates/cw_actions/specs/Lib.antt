@@ -1,0 +1,3 @@
+-- What a statement does that is an expression.
+pub mod Scenes
+pub mod Acts

@@ -1,0 +1,106 @@
+//! Names by their bytes, and the numbers that stand for them.
+
+ghost use Rattle.std.specs.Prelude.{◌≡◌, map, is_some, ◌≤◌, length};
+ghost use Rattle.std.specs.Fmt.{decimal};
+ghost use Rattle.std.specs.Str.{bytes_eq};
+ghost use Rattle.cw_syntax.specs.Names.{slice, number_in, number_or_other};
+ghost use Rattle.cw_syntax.specs.Plans.{function_names};
+ghost use Rattle.cw_syntax.specs.Trees.{file_of};
+ghost use Rattle.cw_rights.specs.Policies.{policy_of};
+ghost use Rattle.cw_actions.specs.Scenes.{names_of};
+
+use cw_core::read_dec;
+use cw_rights::Policy;
+use cw_syntax::checked::Checked;
+use cw_syntax::program::Name;
+
+/// The bytes of the source from one place up to another, as far as the source goes.
+pub fn slice(source: &[u8], from: u32, to: u32) -> &[u8]
+    ensures bytes { result.now ≡ slice source.now from to }
+{
+    let start = source.len().min(from as usize);
+    let end = source.len().min(to as usize).max(start);
+    &source[start..end]
+}
+
+/// The number of the descriptor with this name.
+pub fn descriptor_named(policy: &Policy, name: &[u8]) -> Option<usize>
+    ensures number { result ≡ number_in (names_of (policy_of policy.now)).descriptors name.now }
+{
+    for (i, d) in policy.descriptors.iter().enumerate() {
+        if name == d.name.as_slice() {
+            return Some(i);
+        }
+    }
+    None
+}
+
+fn is_decimal(text: &[u8], n: u64) -> bool
+    ensures { result ≡ bytes_eq (decimal n) text.now }
+{
+    match read_dec(text, 0) {
+        Some((number, end)) => number == n && end == text.len(),
+        None => false,
+    }
+}
+
+/// The number of the descriptor whose name is the decimal of this number.
+pub fn descriptor_numbered(policy: &Policy, n: u64) -> Option<usize>
+    ensures number { result ≡ number_in (names_of (policy_of policy.now)).descriptors (decimal n) }
+{
+    for (i, d) in policy.descriptors.iter().enumerate() {
+        if is_decimal(&d.name, n) {
+            return Some(i);
+        }
+    }
+    None
+}
+
+/// The place of a name in a list of names.
+fn place_of(names: &[Vec<u8>], name: &[u8]) -> Option<usize>
+    ensures { result ≡ number_in (map (λ n. n.items) names.now) name.now }
+{
+    for (i, n) in names.iter().enumerate() {
+        if name == n.as_slice() {
+            return Some(i);
+        }
+    }
+    None
+}
+
+/// Whether the policy lets calls of the function with this name be split off.
+pub fn is_split(policy: &Policy, name: &[u8]) -> bool
+    ensures split { result ≡ is_some (number_in (names_of (policy_of policy.now)).splits name.now) }
+{
+    place_of(&policy.split, name).is_some()
+}
+
+/// The number of the label with this name, or the number of the policy's labels for any other.
+pub fn label_number(policy: &Policy, name: &[u8]) -> u16
+    requires labels { length (policy_of policy.now).labels ≤ 65535 }
+    ensures number { result ≡ number_or_other (names_of (policy_of policy.now)).labels name.now }
+{
+    match place_of(&policy.labels, name) {
+        Some(i) => i as u16,
+        None => policy.labels.len() as u16,
+    }
+}
+
+/// The bytes of a name.
+pub fn text<'s>(checked: &Checked<'s>, name: Name) -> &'s [u8]
+    ensures bytes { result.now ≡ slice checked.now.source.now name.from name.to }
+{
+    slice(checked.source, name.from, name.to)
+}
+
+/// The number of the defined function with this name, in the order of definition.
+pub fn function_named(checked: &Checked, name: &[u8]) -> Option<usize>
+    ensures number { result ≡ number_in (function_names checked.now.source.now (file_of checked.now.program)) name.now }
+{
+    for (i, f) in checked.program.functions.iter().enumerate() {
+        if name == text(checked, f.name) {
+            return Some(i);
+        }
+    }
+    None
+}

@@ -1,0 +1,4 @@
+-- The proofs.
+pub mod Kept
+pub mod Passing
+pub mod Calling

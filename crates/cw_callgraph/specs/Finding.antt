@@ -1,0 +1,70 @@
+-- Numbers that are found one after the other, each kept once; and what is found along the rows of a table.
+use Rattle.std.specs.Prelude.{◌≡◌, ◌<◌, ◌≤◌, ◌==◌, ℕ, List, [], ◌∷◌, ◌++◌, Bool, true, false, cond, length, map, Vec, slice_index_or}
+use Rattle.std.specs.List.{Contains, list_any, IsDistinct}
+use Rattle.std.specs.List.Sorted.{IsStrictlyIncreasing}
+use Rattle.std.specs.declared.alloc.Global.{Global}
+use Rattle.cw_syntax.specs.declared.program.Function.{Function}
+use Rattle.cw_syntax.specs.Plans.{Scene}
+use Rattle.cw_actions.specs.Scenes.{stms_in}
+use Rattle.cw_callgraph.specs.declared.found.Found.{Found}
+use Rattle.cw_callgraph.specs.declared.table.Effect.{Effect}
+use Rattle.cw_callgraph.specs.Effects.{callees_all, firsts, Each}
+
+abbrev pub has : List ℕ → ℕ → Bool
+has found g = list_any (λ h. g == h) found
+
+abbrev pub with_one : List ℕ → ℕ → List ℕ
+with_one found g = cond (has found g) found (found ++ g ∷ [])
+
+abbrev pub with_all : List ℕ → List ℕ → List ℕ
+with_all found [] = found
+with_all found (g ∷ gs) = with_all (with_one found g) gs
+
+-- the marks are those of the numbers, and each number stands there once
+pub record IsFound (found : Found) : Type 0 where
+  pub marked : (g : ℕ) → slice_index_or found.marks.items g false ≡ has found.numbers.items g
+  pub apart : IsDistinct (λ g h. g == h) found.numbers.items
+
+-- these numbers were found, one after the other
+pub record Finds (gs : List ℕ) (before after : Found) : Type 0 where
+  pub numbers : after.numbers.items ≡ with_all before.numbers.items gs
+  pub sound : IsFound after
+  pub wide : length after.marks.items ≡ length before.marks.items
+
+abbrev pub AreBelow : ℕ → List ℕ → Type 0
+AreBelow n found = (g : ℕ) → has found g ≡ true → g < n
+
+-- the lists of a table, and the one with this number
+abbrev pub lists_of : List (Vec ℕ Global) → List (List ℕ)
+lists_of rows = map (λ row. row.items) rows
+
+abbrev pub next_in : List (Vec ℕ Global) → ℕ → List ℕ
+next_in rows f = slice_index_or (lists_of rows) f []
+
+-- what is in the row of f, and in the rows of what is found
+pub data Leads (next : ℕ → List ℕ) (f : ℕ) : ℕ → Type 0 where
+  once : (g : ℕ) → Contains (next f) g → Leads next f g
+  again : (h g : ℕ) → Leads next f h → Contains (next h) g → Leads next f g
+
+-- Of what is found from f on, the rows of the first n numbers were passed.
+pub record IsPassed (next : ℕ → List ℕ) (f n : ℕ) (found : List ℕ) : Type 0 where
+  pub leads : (g : ℕ) → has found g ≡ true → Leads next f g
+  pub begun : (g : ℕ) → has (next f) g ≡ true → has found g ≡ true
+  pub passed : (k g : ℕ) → k < n → has (next (slice_index_or found k 0)) g ≡ true → has found g ≡ true
+  pub within : n ≤ length found
+
+-- strictly ascending, and just what f leads to
+pub record IsReach (next : ℕ → List ℕ) (f : ℕ) (reach : List ℕ) : Type 0 where
+  pub ascends : IsStrictlyIncreasing reach
+  pub led : (g : ℕ) → Contains reach g → Leads next f g
+  pub leads : (g : ℕ) → Leads next f g → Contains reach g
+
+-- what a function calls, by its statements
+abbrev pub direct : Scene → Function → List ℕ
+direct s f = firsts (callees_all (stms_in s f.body.items))
+
+-- the effects of the first functions of a table of calls
+pub record AreEffects (rows : List (Vec ℕ Global)) (n : ℕ) (effects : List Effect) : Type 0 where
+  pub count : length effects ≡ n
+  pub calls : Each (λ f effect. effect.calls.items ≡ next_in rows f) effects
+  pub reaches : Each (λ f effect. IsReach (next_in rows) f effect.reaches.items) effects

@@ -1,0 +1,67 @@
+-- The lines of a program's graph are due for its source.
+use Rattle.std.proofs.Common.{◌≡◌, ℕ, suc, ◌+◌, ◌≤◌, ◌<◌, List, [], ◌∷◌, length, map, Some, refl, sym, ap, ap₂, ◌∙◌, subst, arith, Result, inr}
+use Rattle.std.specs.Prelude.{IfOk, slice_get}
+use Rattle.std.specs.List.{range_with_len}
+use Rattle.std.proofs.lemmas.List.{length-map}
+use Rattle.cw_syntax.specs.declared.program.Program.{Program}
+use Rattle.cw_syntax.specs.Names.{Names}
+use Rattle.cw_syntax.specs.Plans.{Plan, plan_of, function_names}
+use Rattle.cw_syntax.specs.Trees.{File, definition_of, file_of}
+use Rattle.cw_points.specs.declared.graph.Graph.{Graph}
+use Rattle.cw_points.specs.Graphs.{IsGraph, splits_of}
+use Rattle.cw_points.specs.Points.{point_count}
+use Rattle.cw_points.proofs.Laying.{splits_length}
+use Rattle.cw_callgraph.specs.declared.table.Effect.{Effect}
+use Rattle.cw_callgraph.specs.Effects.{calls, Each}
+use Rattle.cw_listing.specs.Labels.{label_names}
+use Rattle.cw_listing.specs.Listing.{graph_text}
+use Rattle.cw_source.proofs.Starting.{functions_few}
+use Rattle.cw_source.specs.Read.{ReadsAs}
+use Rattle.cw_cli.specs.declared.answer.Answer.{Answer}
+use Rattle.cw_cli.specs.Due.{Due, SourceOverLimit, due_of}
+use Rattle.cw_cli.specs.Listings.{call_lists, own_names, too_many, IsListing, IsListingDue}
+use Rattle.cw_cli.proofs.Refused.{if_ok}
+
+rows_from : (plan : Plan) (k : ℕ) (es : List Effect) → ((f : ℕ) (e : Effect) → slice_get es f ≡ Some e → e.calls.items ≡ calls plan (k + f)) → map (λ e. e.calls.items) es ≡ map (calls plan) (range_with_len k (length es))
+rows_from plan k [] h = refl
+rows_from plan k (e ∷ es) h =
+    let same : k + 0 ≡ k = omega arith in
+    let first = h 0 e refl ∙ ap (calls plan) same in
+    let next : (f : ℕ) → k + suc f ≡ k + 1 + f = λ f. omega arith in
+    ap₂ (λ a b. a ∷ b) first (rows_from plan (k + 1) es (λ f d s. h (suc f) d s ∙ ap (calls plan) (next f)))
+
+-- the rows of a table of effects are what the functions call
+pub rows_are : (plan : Plan) (n : ℕ) (es : List Effect) → length es ≡ n → Each (λ f e. e.calls.items ≡ calls plan f) es → map (λ e. e.calls.items) es ≡ call_lists plan n
+rows_are plan n es count h =
+    let none : (f : ℕ) → f ≡ 0 + f = λ f. omega arith in
+    rows_from plan 0 es (λ f e s. h f e s ∙ ap (calls plan) (none f)) ∙ ap (λ k. map (calls plan) (range_with_len 0 k)) count
+
+module _ (names : Names) (source : List ℕ) where
+  -- a program that is read has few functions
+  pub few_functions : (p : Program) → ReadsAs source (file_of p) → length p.functions.items ≤ 65535
+  few_functions p reads =
+      omega (
+        arith,
+        functions_few names source (file_of p) reads,
+        splits_length names source (file_of p),
+        splits_many p,
+      )
+    where
+      splits_many : (q : Program) → length (splits_of names source (file_of q)) ≡ length q.functions.items
+      splits_many q = length-map (file_of q).functions _ ∙ length-map q.functions.items definition_of
+
+  pub is_listing : (p : Program) (g : Graph) (bytes : List ℕ) → names ≡ own_names source (file_of p) → IsGraph names source (file_of p) g
+      → bytes ≡ graph_text (function_names source (file_of p)) names.labels [] (call_lists (plan_of names source (file_of p)) (length p.functions.items)) g
+      → IsListing source (file_of p) bytes
+  is_listing p g bytes e is t =
+      let file = file_of p in
+      let both = subst (λ (x : Names). IsGraph x source file g × (bytes ≡ graph_text (function_names source file) x.labels [] (call_lists (plan_of x source file) (length p.functions.items)) g)) e (is, t) in
+      let many = sym (length-map p.functions.items definition_of) in
+      (g, both.0, both.1 ∙ ap (λ k. graph_text (function_names source file) (label_names source file) [] (call_lists (plan_of (own_names source file) source file) k) g) many)
+
+-- too many points are due as a limit of the source
+over_is_due : (source : List ℕ) (file : File) → ReadsAs source file → 8192 < point_count (plan_of (own_names source file) source file) → (due : Due) → due ≡ SourceOverLimit too_many → IsListingDue source due
+over_is_due source file reads h due e = subst (IsListingDue source) (sym e) (inr (file, reads, h, refl))
+
+pub over : {E : Type 0} (source : List ℕ) (file : File) → ReadsAs source file → 8192 < point_count (plan_of (own_names source file) source file) → (result : Result Answer E) → IfOk result (λ answer. due_of answer ≡ SourceOverLimit too_many) → IfOk result (λ answer. IsListingDue source (due_of answer))
+over source file reads h result o = if_ok result o (λ answer e. over_is_due source file reads h (due_of answer) e)

@@ -1,0 +1,15 @@
+use Rattle.cw_rights.specs.Policies.{policy_of}
+use Rattle.cw_syntax.specs.Trees.{file_of}
+use Rattle.cw_actions.specs.Scenes.{names_of}
+use Rattle.cw_cli.proofs.Listed.{few_functions, is_listing}
+use Rattle.cw_cli.proofs.listing.drawn.Goals as goal
+
+pub listed-requires : goal.listed-requires
+listed-requires c = record { few = few_functions (names_of (policy_of c.args.policy.now)) c.args.checked.now.source.now c.args.checked.now.program c.requires.reads }
+
+pub returns-in_ok-listed-in-Ok : goal.returns-in_ok-listed-in-Ok
+returns-in_ok-listed-in-Ok c = (
+  file_of c.args.checked.now.program,
+  c.requires.reads,
+  is_listing (names_of (policy_of c.args.policy.now)) c.args.checked.now.source.now c.args.checked.now.program c.in-Ok.graph c.in_ok-listed-in-Ok.field-0.items c.requires.names c.in-Ok.ensures.graph c.in_ok-listed-in-Ok.ensures,
+)

@@ -1,0 +1,15 @@
+use Rattle.std.proofs.Common.{ℕ, length, map, ap, sym, ◌∙◌, arith}
+use Rattle.std.proofs.lemmas.List.{length-map}
+use Rattle.cw_syntax.specs.Trees.{file_of}
+use Rattle.cw_cli.specs.Listings.{own_names}
+use Rattle.cw_cli.proofs.Labelled.{many_labels}
+use Rattle.cw_cli.proofs.Listed.{over}
+use Rattle.cw_cli.proofs.listing.of_program.Goals as goal
+
+pub returns-then-len-gt-LABELS : goal.returns-then-len-gt-LABELS
+returns-then-len-gt-LABELS c =
+    let source = c.args.checked.now.source.now in
+    let file = file_of c.args.checked.now.program in
+    let labels = c.in_ok-labels.labels.items in
+    let many = sym (length-map labels (λ l. l.items)) ∙ ap length c.in_ok-labels.ensures.names in
+    over source file c.requires.reads (many_labels (own_names source file) source file (length labels) many (omega (arith, c.len.ensures, c.if-len-gt-LABELS.true))) c.too_many_points.result c.too_many_points.ensures

@@ -1,0 +1,45 @@
+-- What is due for the bytes of a source whose graph is asked for.
+use Rattle.std.specs.Prelude.{◌≡◌, ◌⊎◌, ℕ, ◌<◌, List, [], ◌++◌, true, false, length, codes, map}
+use Rattle.std.specs.List.{range_with_len}
+use Rattle.cw_core.specs.Quantities.{name_of}
+use Rattle.cw_core.specs.declared.quantity.Quantity.TheVariants.{Points}
+use Rattle.cw_syntax.specs.Names.{Names}
+use Rattle.cw_syntax.specs.Trees.{File}
+use Rattle.cw_syntax.specs.Plans.{Plan, plan_of, function_names}
+use Rattle.cw_points.specs.declared.graph.Graph.{Graph}
+use Rattle.cw_points.specs.Points.{point_count}
+use Rattle.cw_points.specs.Graphs.{IsGraph}
+use Rattle.cw_callgraph.specs.Effects.{calls}
+use Rattle.cw_listing.specs.Labels.{label_names}
+use Rattle.cw_listing.specs.Listing.{graph_text}
+use Rattle.cw_source.specs.Read.{ReadsAs}
+use Rattle.cw_cli.specs.Due.{Due, SourceRefused, SourceOverLimit, Listed}
+use Rattle.cw_cli.specs.Refusals.{IsSourceRefusal}
+
+-- no descriptors and no functions in processes of their own; a label's number is that of its name among the source's
+abbrev pub own_names : List ℕ → File → Names
+own_names source file = record { descriptors = []; labels = label_names source file; splits = [] }
+
+-- the functions that each function of a plan calls, of so many
+abbrev pub call_lists : Plan → ℕ → List (List ℕ)
+call_lists plan count = map (calls plan) (range_with_len 0 count)
+
+-- The lines of the graph of the program's points.
+abbrev pub IsListing : List ℕ → File → List ℕ → Type 0
+IsListing source file text =
+    (g : Graph)
+    × IsGraph (own_names source file) source file g
+    × (text ≡ graph_text (function_names source file) (label_names source file) [] (call_lists (plan_of (own_names source file) source file) (length file.functions)) g)
+
+-- the line that there are too many points
+abbrev pub too_many : List ℕ
+too_many = codes "limit: " ++ name_of Points
+
+-- A refusal of the source, that it has too many points, or the lines of its graph.
+abbrev pub IsListingDue : List ℕ → Due → Type 0
+IsListingDue source (SourceRefused line) = IsSourceRefusal source false line
+IsListingDue source (SourceOverLimit line) =
+    IsSourceRefusal source true line
+    ⊎ ((file : File) × ReadsAs source file × (8192 < point_count (plan_of (own_names source file) source file)) × (line ≡ too_many))
+IsListingDue source (Listed text) = (file : File) × ReadsAs source file × IsListing source file text
+IsListingDue source due = ⊥

@@ -1,0 +1,127 @@
+//! Who wins, and the text that says so.
+
+ghost use Rattle.std.specs.Prelude.{◌≡◌, IfOk};
+ghost use Rattle.cw_rights.specs.Policies.{policy_of};
+ghost use Rattle.cw_syntax.specs.Trees.{file_of};
+ghost use Rattle.cw_certs.specs.Strategies.{strategy_of};
+ghost use Rattle.cw_model.specs.Boards.{problem_of};
+ghost use Rattle.cw_actions.specs.Scenes.{names_of};
+ghost use Rattle.cw_layout.specs.Positions.{has_call};
+ghost use Rattle.cw_points.specs.Graphs.{IsGraph};
+ghost use Rattle.cw_source.specs.Read.{ReadsAs};
+ghost use Rattle.cw_text.specs.StrategyText.{strategy_text};
+ghost use Rattle.cw_cli.specs.Due.{IsWithin};
+ghost use Rattle.cw_cli.specs.Verdicts.{IsPlainAnswer, IsPlainPolicy, IsVerdict};
+
+use cw_certs::{EnvCert, WeaverCert};
+use cw_core::NoMemory;
+use cw_emit::weave_text;
+use cw_game::ambient::AmbientPolicy;
+use cw_layout::positions::positions;
+use cw_points::Graph;
+use cw_points::build::build;
+use cw_points::marks::marks;
+use cw_policy::ambient_tests;
+use cw_rights::Policy;
+use cw_syntax::checked::Checked;
+use cw_tables::heights::{height_at, heights};
+use cw_tables::strategies::env_table;
+use cw_tables::tables::weaver_table;
+use cw_text::put_strategy;
+use std::alloc::Global;
+
+/// Who wins: the weaver by a sound table, or the environment by a strategy that beats every weaver.
+#[derive(Drop)]
+pub(crate) enum Verdict {
+    Sound(WeaverCert),
+    Beaten(EnvCert),
+}
+
+/// The text of the one or of the other.
+#[derive(Drop)]
+pub(crate) enum PlainAnswer {
+    Woven(Vec<u8>),
+    Refuted(Vec<u8>),
+}
+
+/// The lazy table of the program where its start isn't lost, and else the strategy by least heights. One of more than
+/// 65,536 rows, which a program of at most 1,024 points hasn't, would be want of memory.
+fn solved(
+    alloc: Global,
+    checked: &Checked,
+    graph: &Graph,
+    policy: &Policy,
+) -> Result<Verdict, NoMemory>
+    requires reads { ReadsAs checked.now.source.now (file_of checked.now.program) }
+    requires within { IsWithin checked.now.source.now (file_of checked.now.program) }
+    requires graph { IsGraph (names_of (policy_of policy.now)) checked.now.source.now (file_of checked.now.program) graph.now }
+    requires plain { IsPlainPolicy (policy_of policy.now) }
+    ensures { IfOk result (IsVerdict (problem_of (policy_of policy.now) checked.now.source.now (file_of checked.now.program))) }
+{
+    let laid = positions(alloc, graph)?;
+    let Some(tests) = ambient_tests(alloc, policy)? else {
+        return Err(NoMemory);
+    };
+    let ambient = AmbientPolicy::new(policy.refuse_enter, tests, &laid.nodes);
+    let hs = heights(alloc, &laid.nodes, &ambient)?;
+    if height_at(&hs, laid.start, ambient.numbering.start()) > 0 {
+        match env_table(alloc, &laid.nodes, laid.start, &ambient, &hs)? {
+            Some(strategy) => Ok(Verdict::Beaten(strategy)),
+            None => Err(NoMemory),
+        }
+    } else {
+        match weaver_table(alloc, &laid.nodes, laid.start, &ambient, &hs)? {
+            Some(table) => Ok(Verdict::Sound(table)),
+            None => Err(NoMemory),
+        }
+    }
+}
+
+/// The text of a strategy.
+fn spelled(alloc: Global, strategy: &EnvCert) -> Result<Vec<u8>, NoMemory>
+    ensures { IfOk result (λ text. text.items ≡ strategy_text (strategy_of strategy.now)) }
+{
+    let mut text = Vec::new(alloc);
+    put_strategy(strategy, &mut text)?;
+    Ok(text)
+}
+
+/// What is due for the graph of a program and a policy.
+fn told(
+    alloc: Global,
+    checked: &Checked,
+    graph: &Graph,
+    policy: &Policy,
+) -> Result<PlainAnswer, NoMemory>
+    requires reads { ReadsAs checked.now.source.now (file_of checked.now.program) }
+    requires within { IsWithin checked.now.source.now (file_of checked.now.program) }
+    requires graph { IsGraph (names_of (policy_of policy.now)) checked.now.source.now (file_of checked.now.program) graph.now }
+    requires plain { IsPlainPolicy (policy_of policy.now) }
+    ensures { IfOk result (IsPlainAnswer (policy_of policy.now) checked.now.source.now (file_of checked.now.program)) }
+{
+    match solved(alloc, checked, graph, policy)? {
+        Verdict::Sound(table) => {
+            let marks = marks(alloc, graph)?;
+            Ok(PlainAnswer::Woven(weave_text(alloc, checked.source, &marks, policy, &table)?))
+        }
+        Verdict::Beaten(strategy) => Ok(PlainAnswer::Refuted(spelled(alloc, &strategy)?)),
+    }
+}
+
+/// What is due for a program and a policy that has no label that the source hasn't. The program has at most 1,024 points, so
+/// its graph is built but for want of memory.
+pub(crate) fn judged(
+    alloc: Global,
+    checked: &Checked,
+    policy: &Policy,
+) -> Result<PlainAnswer, NoMemory>
+    requires reads { ReadsAs checked.now.source.now (file_of checked.now.program) }
+    requires within { IsWithin checked.now.source.now (file_of checked.now.program) }
+    requires plain { IsPlainPolicy (policy_of policy.now) }
+    ensures { IfOk result (IsPlainAnswer (policy_of policy.now) checked.now.source.now (file_of checked.now.program)) }
+{
+    match build(alloc, checked, policy) {
+        Ok(graph) => told(alloc, checked, &graph, policy),
+        Err(_) => Err(NoMemory),
+    }
+}

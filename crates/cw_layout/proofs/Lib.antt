@@ -1,0 +1,9 @@
+pub mod Begins
+pub mod Standing
+pub mod Placing
+pub mod Leading
+pub mod Seams
+pub mod LaidGraph
+pub mod Naming
+pub mod Calling
+pub mod Laying

@@ -1,0 +1,3 @@
+mod Shapes
+mod Joined
+mod Arrows

@@ -1,0 +1,80 @@
+//! Names that no label of a program has.
+
+ghost use Rattle.std.specs.Prelude.{◌≡◌, map, option_map};
+ghost use Rattle.std.specs.List.{list_any, flat_map};
+ghost use Rattle.std.specs.Str.{bytes_eq};
+ghost use Rattle.cw_syntax.specs.Names.{text};
+ghost use Rattle.cw_syntax.specs.Trees.{statement_of, statements_of, definition_of, file_of};
+ghost use Rattle.cw_listing.specs.Held.{lists};
+ghost use Rattle.cw_listing.specs.Labels.{labels_of, labels_of_all, label_names, missing_label};
+
+use crate::names::text;
+use cw_syntax::program::{Function, Program, Stmt, What};
+
+/// Whether a label of a statement has this name.
+#[cycle(has_label)]
+#[tactic(auto, using(crate::proofs::Joined::any_join, crate::proofs::Shapes::block_labels, crate::proofs::Shapes::for_labels))]
+fn has_label(source: &[u8], name: &[u8], statement: &Stmt) -> bool
+    ensures { result ≡ list_any (bytes_eq name.now) (map (text source.now) (labels_of (statement_of statement.now))) }
+{
+    match &statement.what {
+        What::Block(statements) => has_label_in(source, name, statements),
+        What::Label(label, _, body) => {
+            name == text(source, *label) || has_label(source, name, body)
+        }
+        What::If(_, arm, other) => match other {
+            None => has_label(source, name, arm),
+            Some(other) => has_label(source, name, arm) || has_label(source, name, other),
+        },
+        What::While(_, body) => has_label(source, name, body),
+        What::Do(body, _) => has_label(source, name, body),
+        What::For(_, body) => has_label(source, name, body),
+        What::Decl(_) | What::Expr(_) | What::Empty => false,
+        What::Break | What::Continue | What::Return(_) => false,
+    }
+}
+
+#[cycle(has_label)]
+#[tactic(auto, using(crate::proofs::Joined::any_join))]
+fn has_label_in(source: &[u8], name: &[u8], statements: &[Stmt]) -> bool
+    ensures { result ≡ list_any (bytes_eq name.now) (map (text source.now) (labels_of_all (statements_of statements.now))) }
+{
+    for statement in statements {
+        if has_label(source, name, statement) {
+            return true;
+        }
+    }
+    false
+}
+
+/// Whether a label of some of these functions has this name.
+#[tactic(auto, using(crate::proofs::Joined::any_join))]
+fn some_has_label(source: &[u8], name: &[u8], functions: &[Function]) -> bool
+    ensures { result ≡ list_any (bytes_eq name.now) (map (text source.now) (flat_map (λ f. labels_of_all f.body) (map definition_of functions.now))) }
+{
+    for function in functions {
+        if has_label_in(source, name, &function.body) {
+            return true;
+        }
+    }
+    false
+}
+
+/// Whether a label of the program has this name.
+fn is_label(source: &[u8], name: &[u8], program: &Program) -> bool
+    ensures { result ≡ list_any (bytes_eq name.now) (label_names source.now (file_of program.now)) }
+{
+    some_has_label(source, name, &program.functions)
+}
+
+/// The first of these names that no label of the program has.
+pub fn missing_label<'a>(source: &[u8], program: &Program, names: &'a [Vec<u8>]) -> Option<&'a [u8]>
+    ensures first { option_map (λ name. name.now) result ≡ missing_label source.now (file_of program.now) (lists names.now) }
+{
+    for name in names {
+        if !is_label(source, name, program) {
+            return Some(name);
+        }
+    }
+    None
+}

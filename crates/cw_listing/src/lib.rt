@@ -1,0 +1,12 @@
+//! The graph of a program's points as text, and the names of a program's functions and labels.
+#![tactic(auto)]
+
+mod labels;
+mod listing;
+mod names;
+#[cfg(test)]
+mod tests;
+
+pub use labels::missing_label;
+pub use listing::{Names, graph_text};
+pub use names::{function_names, label_names};

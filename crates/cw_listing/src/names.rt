@@ -1,0 +1,116 @@
+//! The names of a program's functions and labels.
+
+ghost use Rattle.std.specs.Prelude.{◌≡◌, ◌++◌, map, IfOk};
+ghost use Rattle.std.specs.List.{flat_map};
+ghost use Rattle.cw_syntax.specs.Names.{text};
+ghost use Rattle.cw_syntax.specs.Plans.{function_names};
+ghost use Rattle.cw_syntax.specs.Trees.{statement_of, statements_of, definition_of, file_of};
+ghost use Rattle.cw_listing.specs.Held.{lists};
+ghost use Rattle.cw_listing.specs.Labels.{labels_of, labels_of_all, label_names};
+
+use cw_core::NoMemory;
+use cw_syntax::program::{Function, Name, Program, Stmt, What};
+use std::alloc::Global;
+
+/// The bytes of a name.
+pub(crate) fn text(source: &[u8], name: Name) -> &[u8]
+    ensures { result.now ≡ text source.now name }
+{
+    let to = source.len().min(name.to as usize);
+    let from = to.min(name.from as usize);
+    &source[from..to]
+}
+
+/// The bytes of each name.
+fn texts(alloc: Global, source: &[u8], names: &[Name]) -> Result<Vec<Vec<u8>>, NoMemory>
+    ensures { IfOk result (λ texts. lists texts.items ≡ map (text source.now) names.now) }
+{
+    let mut texts = Vec::new(alloc);
+    for name in names {
+        let copied = text(source, *name).to_vec(alloc)?;
+        texts.push(copied)?;
+    }
+    Ok(texts)
+}
+
+/// Appends the labels of a statement.
+#[cycle(labels)]
+#[tactic(auto, using(crate::proofs::Shapes::block_labels, crate::proofs::Shapes::for_labels))]
+fn put_labels(statement: &Stmt, out: &mut Vec<Name>) -> Result<(), NoMemory>
+    ensures { IfOk result (λ _. out.new.items ≡ out.old.items ++ labels_of (statement_of statement.now)) }
+{
+    match &statement.what {
+        What::Block(statements) => put_all_labels(statements, out),
+        What::Label(name, _, body) => {
+            out.push(*name)?;
+            put_labels(body, out)
+        }
+        What::If(_, arm, other) => {
+            put_labels(arm, out)?;
+            match other {
+                None => Ok(()),
+                Some(other) => put_labels(other, out),
+            }
+        }
+        What::While(_, body) => put_labels(body, out),
+        What::Do(body, _) => put_labels(body, out),
+        What::For(_, body) => put_labels(body, out),
+        What::Decl(_) | What::Expr(_) | What::Empty => Ok(()),
+        What::Break | What::Continue | What::Return(_) => Ok(()),
+    }
+}
+
+/// Appends the labels of these statements.
+#[cycle(labels)]
+fn put_all_labels(statements: &[Stmt], out: &mut Vec<Name>) -> Result<(), NoMemory>
+    ensures { IfOk result (λ _. out.new.items ≡ out.old.items ++ labels_of_all (statements_of statements.now)) }
+{
+    for statement in statements {
+        put_labels(statement, out)?;
+    }
+    Ok(())
+}
+
+fn put_function_labels(functions: &[Function], out: &mut Vec<Name>) -> Result<(), NoMemory>
+    ensures { IfOk result (λ _. out.new.items ≡ out.old.items ++ flat_map (λ f. labels_of_all f.body) (map definition_of functions.now)) }
+{
+    for function in functions {
+        put_all_labels(&function.body, out)?;
+    }
+    Ok(())
+}
+
+fn names_of(alloc: Global, source: &[u8], functions: &[Function]) -> Result<Vec<Vec<u8>>, NoMemory>
+    ensures { IfOk result (λ names. lists names.items ≡ map (λ f. text source.now f.name) (map definition_of functions.now)) }
+{
+    let mut names = Vec::new(alloc);
+    for function in functions {
+        let name = text(source, function.name).to_vec(alloc)?;
+        names.push(name)?;
+    }
+    Ok(names)
+}
+
+/// The names of a program's functions, in the order of definition.
+pub fn function_names(
+    alloc: Global,
+    source: &[u8],
+    program: &Program,
+) -> Result<Vec<Vec<u8>>, NoMemory>
+    ensures names { IfOk result (λ names. lists names.items ≡ function_names source.now (file_of program.now)) }
+{
+    names_of(alloc, source, &program.functions)
+}
+
+/// The names of a program's labels in the order of the text, a name that stands in several functions as often as it stands.
+pub fn label_names(
+    alloc: Global,
+    source: &[u8],
+    program: &Program,
+) -> Result<Vec<Vec<u8>>, NoMemory>
+    ensures names { IfOk result (λ names. lists names.items ≡ label_names source.now (file_of program.now)) }
+{
+    let mut names = Vec::new(alloc);
+    put_function_labels(&program.functions, &mut names)?;
+    texts(alloc, source, &names)
+}

@@ -1,5 +1,0 @@
-pub mod FirstTokens
-pub mod FirstGrammar
-pub mod FirstReading
-pub mod First
-pub mod Spans

@@ -1,7 +1,0 @@
-use Rattle.std.proofs.Common.{◌≡◌, ◌+◌, drop, map}
-use Rattle.cw_syntax.specs.Trees.{definition_of, file_of}
-use Rattle.cw_points.specs.First.{points_from, points}
-use Rattle.cw_points.proofs.first.points.Given as goal
-
-abbrev pub invariant-loop-f : goal.invariant-loop-f
-invariant-loop-f l = l.total + points_from (map definition_of (drop l.f-index l.f-items)) ≡ points (file_of l.program)

@@ -1,0 +1,101 @@
+//! The graph of a program's points.
+
+ghost use Rattle.std.specs.Prelude.{◌≡◌, ◌+◌, ◌≤◌, ◌<◌, [], suc, length, map, codes, Some, IfOk, IfErr, OnOk};
+ghost use Rattle.cw_syntax.specs.Names.{number_or_other};
+ghost use Rattle.cw_syntax.specs.Trees.{definition_of, file_of};
+ghost use Rattle.cw_syntax.specs.Plans.{function_names, plan_of};
+ghost use Rattle.cw_rights.specs.Policies.{policy_of};
+ghost use Rattle.cw_actions.specs.Scenes.{names_of, scene_in};
+ghost use Rattle.cw_points.specs.Points.{point_count};
+ghost use Rattle.cw_points.specs.Sizes.{size_all};
+ghost use Rattle.cw_points.specs.Graphs.{IsGraph, part};
+ghost use Rattle.cw_points.specs.Drawing.{drawn_of, laid_one, split_of};
+
+use crate::count::{MOST_POINTS, count_functions};
+use crate::draft::{Draft, Ways, first};
+use crate::fault::PointsFault;
+use crate::graph::{Graph, Part, Point};
+use crate::lay::{function_number, lay_all, size_all};
+use cw_actions::{function_named, is_split, text};
+use cw_core::PointId;
+use cw_rights::Policy;
+use cw_syntax::checked::Checked;
+use cw_syntax::program::Function;
+use std::alloc::{AllocError, Global};
+
+/// A function: its entry, its statements and its exit.
+fn lay_function(
+    draft: &mut Draft,
+    checked: &Checked,
+    policy: &Policy,
+    number: u16,
+    function: &Function,
+) -> Result<Part, AllocError>
+    requires labels { length (policy_of policy.now).labels ≤ 65535 }
+    ensures drawn { OnOk result (drawn_of draft.new ≡ laid_one (scene_in checked.now (policy_of policy.now)) number (definition_of function.now) (drawn_of draft.old)) }
+    ensures part { IfOk result (λ p. p ≡ part (length draft.old.nodes.items) (length draft.old.nodes.items + 1 + size_all (definition_of function.now).body) (split_of (scene_in checked.now (policy_of policy.now)) (definition_of function.now))) }
+{
+    let entry = draft.next_point()?;
+    let size = size_all(&function.body)?;
+    let exit = entry + 1 + size;
+    let ways = Ways {
+        next: exit,
+        exit,
+        broken: None,
+        continued: None,
+    };
+    let start = first(size, entry + 1, exit);
+    draft.put_seam(Point::Entry, number, start, function.brace, None)?;
+    lay_all(draft, checked, policy, number, &function.body, ways)?;
+    draft.put_exit(number)?;
+    let split = is_split(policy, text(checked, function.name));
+    Ok(Part {
+        entry: PointId(entry),
+        exit: PointId(exit),
+        split,
+    })
+}
+
+/// The number of `main` among the functions, or their number.
+fn main_number(checked: &Checked) -> Result<u16, AllocError>
+    ensures { IfOk result (λ n. n ≡ number_or_other (function_names checked.now.source.now (file_of checked.now.program)) (codes "main")) }
+{
+    let number = function_named(checked, b"main".as_slice());
+    function_number(number.unwrap_or(checked.program.functions.len()))
+}
+
+/// The graph of a program of few points.
+fn draw(alloc: Global, checked: &Checked, policy: &Policy) -> Result<Graph, AllocError>
+    requires labels { length (policy_of policy.now).labels ≤ 65535 }
+    ensures { IfOk result (λ g. IsGraph (names_of (policy_of policy.now)) checked.now.source.now (file_of checked.now.program) g) }
+{
+    let mut draft = Draft::new(alloc);
+    let mut parts = Vec::new(alloc);
+    for (number, function) in checked.program.functions.iter().enumerate() {
+        let number = function_number(number)?;
+        let part = lay_function(&mut draft, checked, policy, number, function)?;
+        parts.push(part)?;
+    }
+    let main = main_number(checked)?;
+    let Draft { nodes, seams } = draft;
+    Ok(Graph {
+        nodes,
+        parts,
+        main,
+        seams,
+    })
+}
+
+/// The graph of a program's points under a policy's names. A program has at most 8,192 points.
+pub fn build(alloc: Global, checked: &Checked, policy: &Policy) -> Result<Graph, PointsFault>
+    requires labels { length (policy_of policy.now).labels ≤ 65535 }
+    ensures graph { IfOk result (λ g. IsGraph (names_of (policy_of policy.now)) checked.now.source.now (file_of checked.now.program) g) }
+    ensures few { IfOk result (λ g. point_count (plan_of (names_of (policy_of policy.now)) checked.now.source.now (file_of checked.now.program)) ≤ 8192) }
+    ensures many { IfErr result (λ fault. fault ≡ PointsFault.TooManyPoints → 8192 < point_count (plan_of (names_of (policy_of policy.now)) checked.now.source.now (file_of checked.now.program))) }
+{
+    if count_functions(&checked.program.functions) > MOST_POINTS {
+        return Err(PointsFault::TooManyPoints);
+    }
+    let graph = draw(alloc, checked, policy)?;
+    Ok(graph)
+}

@@ -1,0 +1,240 @@
+//! The points and seams of statements.
+
+ghost use Rattle.std.specs.Prelude.{◌≡◌, ◌+◌, ◌≤◌, ℕ, length, is_some, Some, None, IfOk, OnOk};
+ghost use Rattle.cw_syntax.specs.Trees.{Stated, Evaluates, tree_of, statement_of, statements_of};
+ghost use Rattle.cw_syntax.specs.declared.program.Head.{out-Head};
+ghost use Rattle.cw_rights.specs.Policies.{policy_of};
+ghost use Rattle.cw_actions.specs.Scenes.{scene_in};
+ghost use Rattle.cw_points.specs.Points.{one_if};
+ghost use Rattle.cw_points.specs.Sizes.{size, size_all};
+ghost use Rattle.cw_points.specs.Graphs.{first, step_nodes, test_node};
+ghost use Rattle.cw_points.specs.Drawing.{drawn_of, looped, before, with_nodes, with_node, laid, laid_all};
+
+use crate::count::{MOST_POINTS, count, count_all};
+use crate::draft::{Draft, Ways, first};
+use crate::graph::Point;
+use cw_actions::{Act, action_of, label_number, text};
+use cw_rights::Policy;
+use cw_syntax::checked::Checked;
+use cw_syntax::program::{Expr, Head, Stmt, What};
+use std::alloc::AllocError;
+
+/// How many points a statement has. There is no answer behind the most that there may be.
+fn size(statement: &Stmt) -> Result<u32, AllocError>
+    ensures size { IfOk result (λ n. n ≡ size (statement_of statement.now)) }
+    ensures few { IfOk result (λ n. n ≤ 8192) }
+{
+    let n = count(statement);
+    if n > MOST_POINTS {
+        return Err(AllocError);
+    }
+    Ok(n)
+}
+
+/// How many points these statements have together. There is no answer behind the most that there may be.
+pub(crate) fn size_all(statements: &[Stmt]) -> Result<u32, AllocError>
+    ensures size { IfOk result (λ n. n ≡ size_all (statements_of statements.now)) }
+    ensures few { IfOk result (λ n. n ≤ 8192) }
+{
+    let n = count_all(statements);
+    if n > MOST_POINTS {
+        return Err(AllocError);
+    }
+    Ok(n)
+}
+
+/// The ways in a loop whose body goes on at this point.
+fn looped(ways: Ways, turn: u32) -> Ways
+    ensures { result ≡ looped ways turn }
+{
+    Ways {
+        next: turn,
+        exit: ways.exit,
+        broken: Some(ways.next),
+        continued: Some(turn),
+    }
+}
+
+/// The ways of a statement that goes on at this point.
+fn before(ways: Ways, next: u32) -> Ways
+    ensures { result ≡ before ways next }
+{
+    Ways { next, ..ways }
+}
+
+/// The number of a descriptor. A valid policy has few.
+fn descriptor_number(number: usize) -> Result<u8, AllocError>
+    ensures { IfOk result (λ n. n ≡ number) }
+{
+    if number > u8::MAX as usize {
+        return Err(AllocError);
+    }
+    Ok(number as u8)
+}
+
+/// The number of a function. A program of few points has few.
+pub(crate) fn function_number(number: usize) -> Result<u16, AllocError>
+    ensures { IfOk result (λ n. n ≡ number) }
+{
+    if number > u16::MAX as usize {
+        return Err(AllocError);
+    }
+    Ok(number as u16)
+}
+
+/// An expression that stands at this place.
+fn lay_expression(
+    draft: &mut Draft,
+    checked: &Checked,
+    policy: &Policy,
+    function: u16,
+    e: &Expr,
+    place: u32,
+    ways: Ways,
+) -> Result<(), AllocError>
+    ensures { OnOk result ((to : ℕ) → drawn_of draft.new ≡ laid (scene_in checked.now (policy_of policy.now)) function (Stated (Evaluates (tree_of e.now)) place to) ways (drawn_of draft.old)) }
+{
+    match action_of(checked, policy, e) {
+        Act::Computes => draft.put_step(function, Some(ways.next)),
+        Act::Opens(d) => {
+            let d = descriptor_number(d)?;
+            draft.put_seam(Point::Open(d), function, ways.next, place, None)
+        }
+        Act::Closes(d) => {
+            let d = descriptor_number(d)?;
+            draft.put_seam(Point::Close(d), function, ways.next, place, None)
+        }
+        Act::Invokes {
+            function: callee,
+            split: _,
+            result: taken,
+        } => {
+            let callee = function_number(callee)?;
+            draft.put_seam(Point::Call(callee), function, ways.next, place, taken)
+        }
+    }
+}
+
+/// The init, the test and the step of a `for` whose body has so many points; it answers where the body goes on.
+fn put_head(
+    draft: &mut Draft,
+    function: u16,
+    head: &Head,
+    body: u32,
+    next: u32,
+) -> Result<u32, AllocError>
+    requires { body ≤ 8192 }
+    ensures turn { IfOk result (λ turn. turn ≡ length draft.old.nodes.items + one_if (is_some (out-Head head.now).init) + one_if (is_some (out-Head head.now).step)) }
+    ensures drawn { IfOk result (λ turn. (test : ℕ) → test ≡ length draft.old.nodes.items + one_if (is_some (out-Head head.now).init) →
+        drawn_of draft.new ≡ with_nodes (step_nodes function (is_some (out-Head head.now).step) test) (with_node (test_node function (is_some (out-Head head.now).test) (first body (turn + 1) turn) next) (with_nodes (step_nodes function (is_some (out-Head head.now).init) test) (drawn_of draft.old)))) }
+{
+    let at = draft.next_point()?;
+    let begun = head.init.is_some();
+    let stepped = head.step.is_some();
+    let test = at + u32::from(begun);
+    let turn = test + u32::from(stepped);
+    draft.put_step_if(begun, function, test)?;
+    draft.put_test(
+        head.test.is_some(),
+        function,
+        first(body, turn + 1, turn),
+        next,
+    )?;
+    draft.put_step_if(stepped, function, test)?;
+    Ok(turn)
+}
+
+/// A statement.
+#[cycle(lay)]
+fn lay(
+    draft: &mut Draft,
+    checked: &Checked,
+    policy: &Policy,
+    function: u16,
+    statement: &Stmt,
+    ways: Ways,
+) -> Result<(), AllocError>
+    requires labels { length (policy_of policy.now).labels ≤ 65535 }
+    ensures { OnOk result (drawn_of draft.new ≡ laid (scene_in checked.now (policy_of policy.now)) function (statement_of statement.now) ways (drawn_of draft.old)) }
+{
+    match &statement.what {
+        What::Decl(_) => draft.put_step(function, Some(ways.next)),
+        What::Empty => draft.put_step(function, Some(ways.next)),
+        What::Break => draft.put_step(function, ways.broken),
+        What::Continue => draft.put_step(function, ways.continued),
+        What::Return(_) => draft.put_step(function, Some(ways.exit)),
+        What::Expr(e) => lay_expression(draft, checked, policy, function, e, statement.from, ways),
+        What::Block(statements) => lay_all(draft, checked, policy, function, statements, ways),
+        What::Label(name, mark, body) => {
+            let label = label_number(policy, text(checked, *name));
+            let at = draft.next_point()?;
+            let next = first(size(body)?, at + 1, ways.next);
+            draft.put_seam(Point::Label(label), function, next, *mark, None)?;
+            lay(draft, checked, policy, function, body, ways)
+        }
+        What::If(_, arm, other) => match other {
+            None => {
+                let at = draft.next_point()?;
+                let holds = first(size(arm)?, at + 1, ways.next);
+                draft.put_branch(function, holds, ways.next)?;
+                lay(draft, checked, policy, function, arm, ways)
+            }
+            Some(other) => {
+                let at = draft.next_point()?;
+                let own = size(arm)?;
+                let holds = first(own, at + 1, ways.next);
+                let fails = first(size(other)?, at + 1 + own, ways.next);
+                draft.put_branch(function, holds, fails)?;
+                lay(draft, checked, policy, function, arm, ways)?;
+                lay(draft, checked, policy, function, other, ways)
+            }
+        },
+        What::While(_, body) => {
+            let at = draft.next_point()?;
+            let holds = first(size(body)?, at + 1, at);
+            draft.put_branch(function, holds, ways.next)?;
+            lay(draft, checked, policy, function, body, looped(ways, at))
+        }
+        What::Do(body, _) => {
+            let at = draft.next_point()?;
+            let test = at + size(body)?;
+            lay(draft, checked, policy, function, body, looped(ways, test))?;
+            draft.put_branch(function, at, ways.next)
+        }
+        What::For(head, body) => {
+            let turn = put_head(draft, function, head, size(body)?, ways.next)?;
+            lay(draft, checked, policy, function, body, looped(ways, turn))
+        }
+    }
+}
+
+/// These statements, one after the other.
+#[cycle(lay)]
+pub(crate) fn lay_all(
+    draft: &mut Draft,
+    checked: &Checked,
+    policy: &Policy,
+    function: u16,
+    statements: &[Stmt],
+    ways: Ways,
+) -> Result<(), AllocError>
+    requires labels { length (policy_of policy.now).labels ≤ 65535 }
+    ensures { OnOk result (drawn_of draft.new ≡ laid_all (scene_in checked.now (policy_of policy.now)) function (statements_of statements.now) ways (drawn_of draft.old)) }
+{
+    let mut left = size_all(statements)?;
+    for statement in statements {
+        let own = size(statement)?;
+        left -= own;
+        let at = draft.next_point()?;
+        let next = first(left, at + own, ways.next);
+        lay(
+            draft,
+            checked,
+            policy,
+            function,
+            statement,
+            before(ways, next),
+        )?;
+    }
+    Ok(())
+}

@@ -1,0 +1,76 @@
+//! The functions of a program by their names.
+
+ghost use Rattle.std.specs.Prelude.{◌≡◌, [], map, IfOk};
+ghost use Rattle.std.specs.Option.{option_map};
+ghost use Rattle.cw_syntax.specs.Trees.{definition_of, file_of};
+ghost use Rattle.cw_scope.specs.Rules.{defined, is_defined};
+ghost use Rattle.cw_scope.specs.Known.{AreFirst, IsKnown};
+ghost use Rattle.cw_syntax.specs.Names.{text};
+
+use crate::names::text;
+use cw_syntax::program::{Function, Name, Program};
+use std::alloc::{AllocError, Global};
+use std::collections::HashMap;
+
+/// A program with its source, and its functions by their names.
+#[derive(Drop)]
+pub(crate) struct Functions<'p> {
+    pub source: &'p [u8],
+    pub program: &'p Program,
+    pub by_name: HashMap<&'p [u8], &'p Function>,
+}
+
+/// Of the functions with one name the first.
+fn by_name<'p>(
+    alloc: Global,
+    source: &'p [u8],
+    functions: &'p [Function],
+) -> Result<HashMap<&'p [u8], &'p Function>, AllocError>
+    ensures { IfOk result (λ held. AreFirst source.now (map definition_of functions.now) held.entries) }
+{
+    let mut held = HashMap::new(alloc);
+    let mut at = functions.len();
+    while at > 0 {
+        at -= 1;
+        let function = &functions[at];
+        held.insert(text(source, function.name), function)?;
+    }
+    Ok(held)
+}
+
+/// The functions of a program by their names.
+pub(crate) fn by_names<'p>(
+    alloc: Global,
+    source: &'p [u8],
+    program: &'p Program,
+) -> Result<Functions<'p>, AllocError>
+    ensures known { IfOk result IsKnown }
+    ensures source { IfOk result (λ known. known.source.now ≡ source.now) }
+    ensures program { IfOk result (λ known. known.program.now ≡ program.now) }
+{
+    let by_name = by_name(alloc, source, &program.functions)?;
+    Ok(Functions {
+        source,
+        program,
+        by_name,
+    })
+}
+
+/// The definition of the function with this name.
+pub(crate) fn found<'p>(known: &Functions<'p>, name: &[u8]) -> Option<&'p Function>
+    requires known { IsKnown known.now }
+    ensures { option_map (λ f. definition_of f.now) result ≡ defined known.now.source.now (file_of known.now.program.now) name.now }
+{
+    match known.by_name.get(name) {
+        Some(function) => Some(*function),
+        None => None,
+    }
+}
+
+/// Whether a function with this name is defined.
+pub(crate) fn is_defined(known: &Functions, name: Name) -> bool
+    requires known { IsKnown known.now }
+    ensures { result ≡ is_defined known.now.source.now (file_of known.now.program.now) (text known.now.source.now name) }
+{
+    found(known, text(known.source, name)).is_some()
+}

@@ -1,0 +1,6 @@
+mod Kept
+mod Ordered
+pub mod Marking
+pub mod Unmarked
+pub mod Landing
+pub mod Starting
