@@ -8,7 +8,14 @@ use crate::bytes::tail;
 fn begins_three(bytes: &[u8]) -> bool
     ensures { result ≡ begins three_byte_marks bytes.now }
 {
-    bytes.starts_with(b"<<=") || bytes.starts_with(b">>=")
+    let [first, ..] = bytes else {
+        return false;
+    };
+    match *first {
+        b'<' => bytes.starts_with(b"<<="),
+        b'>' => bytes.starts_with(b">>="),
+        _ => false,
+    }
 }
 
 fn begins_two(bytes: &[u8]) -> bool
@@ -86,7 +93,14 @@ pub(crate) fn mark_length(bytes: &[u8]) -> usize
 fn is_marker(bytes: &[u8]) -> bool
     ensures { result ≡ is_marker bytes.now }
 {
-    bytes.starts_with(b"cw{*") || bytes.starts_with(b"*}cw")
+    let [first, ..] = bytes else {
+        return false;
+    };
+    match *first {
+        b'c' => bytes.starts_with(b"cw{*"),
+        b'*' => bytes.starts_with(b"*}cw"),
+        _ => false,
+    }
 }
 
 fn is_marker_from(source: &[u8], at: usize) -> bool
