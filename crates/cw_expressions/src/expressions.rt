@@ -8,12 +8,14 @@ ghost use Rattle.cw_expressions.specs.Next.{IsNext, IsEnd, answer, refused, next
 ghost use Rattle.cw_grammar.specs.Expressions.{nesting_limit};
 ghost use Rattle.cw_grammar.specs.declared.words.Word.TheVariants.{Comma};
 ghost use Rattle.cw_expressions.specs.Cursor.{Gives, repeat, begins};
-ghost use Rattle.cw_expressions.specs.Reading.{rest_of, rest_of_arguments, begins_cast, past_strings, goes_on_at, is_suffixed, argument, arguments, named, between, primary, suffixed, postfix, size_of, prefixed, unary, cast, operand, joined, chain, assigned, expression, by_rule, read_at};
+ghost use Rattle.cw_expressions.specs.Reading.{rest_of, rest_of_arguments, begins_cast, past_strings, is_suffixed, argument, arguments, named, between, primary, suffixed, postfix, size_of, prefixed, unary, cast, operand, joined, chain, assigned, expression, by_rule, read_at};
 ghost use Rattle.cw_expressions.specs.View.{got, got_arguments, seen, IsInRange};
 
 use crate::cursor::{begins_with, first_of, past, take};
 use crate::found::{Found, FoundList, call, join, leaf, over};
-use crate::operators::{assign_next, binary_next_at, sign_of, step_of, suffix_next, suffix_of};
+use crate::operators::{
+    assign_next, binary_next_at, operator_next, sign_of, step_of, suffix_next, suffix_of,
+};
 use crate::refusal::Refusal;
 use crate::types::{begins_type, type_between_at};
 use cw_grammar::rules::Rule;
@@ -46,13 +48,6 @@ fn strings_end(to: u32, tokens: &[Lexeme]) -> (u32, &[Lexeme])
         rest = after;
     }
     (end, rest)
-}
-
-/// Whether a binary operator of this level is next.
-fn goes_on(level: u32, tokens: &[Lexeme]) -> bool
-    ensures { result ≡ goes_on_at level tokens.now }
-{
-    binary_next_at(level, tokens).is_some()
 }
 
 /// Whether `[`, `++` or `--` is next.
@@ -142,7 +137,7 @@ fn assigned_at<'t>(
     join(alloc, Op::Assign(number), false, target, value)
 }
 
-/// A chain of binary operators of this level.
+/// A chain of binary operators of this level. Behind what was read so far is no operator that binds tighter than the last.
 #[cycle(parser)]
 fn level_at<'t>(
     alloc: Global,
@@ -156,28 +151,10 @@ fn level_at<'t>(
     ensures fits { IfOk result (λ x. x.depth ≤ depth + 1) }
 {
     let mut so_far = operand_at(alloc, depth, tokens)?;
-    'levels: for below in 0..level {
-        so_far = joined_all(alloc, depth, below, so_far)?;
-    }
-    Ok(so_far)
-}
-
-#[cycle(parser)]
-fn joined_all<'t>(
-    alloc: Global,
-    depth: u32,
-    below: u32,
-    first: Found<'t>,
-) -> Result<Found<'t>, Refusal>
-    requires deep { depth < 64 }
-    requires level { below < 10 }
-    requires first { first.depth ≤ depth + 1 }
-    ensures gives { Gives got result (repeat rest_of (goes_on_at (suc below)) (joined (read_at depth) depth below) (suc (length first.entry.rest.now)) (got first.entry)) }
-    ensures fits { IfOk result (λ x. x.depth ≤ depth + 1) }
-{
-    let mut so_far = first;
-    'operators: while goes_on(below + 1, so_far.rest) {
-        so_far = joined_at(alloc, depth, below, so_far)?;
+    let mut below = 0;
+    'operators: while let Some(next) = operator_next(below, level, so_far.rest) {
+        below = next;
+        so_far = joined_at(alloc, depth, next, so_far)?;
     }
     Ok(so_far)
 }
