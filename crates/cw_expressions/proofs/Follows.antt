@@ -204,7 +204,7 @@ assign_alone _ number e = refl
 pub assign_stops : (l : ℕ) (t : Lexeme) (ts : List Lexeme) (number : ℕ) → operators.assign t.word ≡ Some number → Stops l (t ∷ ts)
 assign_stops l t ts number is = stops_all l t ts (assign_binary t.word number is) (assign_alone t.word number is)
 
-ends_binary : (word : Word) → ends word ≡ true → operators.binary word ≡ None
+pub ends_binary : (word : Word) → ends word ≡ true → operators.binary word ≡ None
 ends_binary w.Close h = refl
 ends_binary w.CloseBracket h = refl
 ends_binary w.CloseBrace h = refl

@@ -1,10 +1,11 @@
 //! Expressions, by recursion on the nesting that is left.
 
-ghost use Rattle.std.specs.Prelude.{◌≡◌, ◌+◌, ◌<◌, ◌≤◌, ℕ, suc, List, length, IfOk, Err};
+ghost use Rattle.std.specs.Prelude.{◌≡◌, ◌+◌, ◌<◌, ◌≤◌, ℕ, suc, List, length, IfOk, IfSome, Ok, Err};
 ghost use Rattle.cw_syntax.specs.Trees.{Tree, tree_of};
 ghost use Rattle.cw_grammar.specs.declared.words.Lexeme.{Lexeme};
 ghost use Rattle.cw_expressions.specs.declared.refusal.Refusal.TheVariants.{Syntax, TooDeep};
-ghost use Rattle.cw_expressions.specs.Next.{IsNext, IsEnd, answer, refused, next_expression};
+ghost use Rattle.cw_grammar.specs.declared.rules.Rule.{Rule};
+ghost use Rattle.cw_expressions.specs.Next.{IsNext, IsEnd, ends, answer, refused, next_expression};
 ghost use Rattle.cw_grammar.specs.Expressions.{nesting_limit};
 ghost use Rattle.cw_grammar.specs.declared.words.Word.TheVariants.{Comma};
 ghost use Rattle.cw_expressions.specs.Cursor.{Gives, repeat, begins};
@@ -50,11 +51,48 @@ fn strings_end(to: u32, tokens: &[Lexeme]) -> (u32, &[Lexeme])
     (end, rest)
 }
 
+/// Whether a word is one of the marks that follow an expression.
+fn is_end(word: Word) -> bool
+    ensures { result ≡ ends word }
+{
+    match word {
+        Word::Close | Word::CloseBracket | Word::CloseBrace | Word::Comma | Word::Semicolon => true,
+        _ => false,
+    }
+}
+
 /// Whether `[`, `++` or `--` is next.
 fn has_suffix(tokens: &[Lexeme]) -> bool
     ensures { result ≡ is_suffixed tokens.now }
 {
     begins_with(tokens, Word::OpenBracket) || suffix_next(tokens).is_some()
+}
+
+/// A token that is an expression by each rule, since one of the marks that follow expressions is next behind it. Most
+/// expressions are read so: the rules lead to the same, but by a way through all of them.
+fn alone_next<'t>(alloc: Global, tokens: &'t [Lexeme]) -> Option<Found<'t>>
+    ensures gives { IfSome result (λ x. (n : ℕ) (rule : Rule) → by_rule (read_at n) n rule tokens.now ≡ Ok (got x)) }
+    ensures fits { IfSome result (λ x. x.depth ≡ 1) }
+{
+    let [first, next, ..] = tokens else {
+        return None;
+    };
+    if !is_end(next.word) {
+        return None;
+    }
+    let rest = past(tokens);
+    match first.word {
+        Word::Name => Some(leaf(alloc, Op::Name, first.from, first.to, rest)),
+        Word::Number(value) => {
+            let op = Op::Number(value);
+            Some(leaf(alloc, op, first.from, first.to, rest))
+        }
+        Word::Character(value) => {
+            let op = Op::Char(value);
+            Some(leaf(alloc, op, first.from, first.to, rest))
+        }
+        _ => None,
+    }
 }
 
 /// What stands at the front by this rule, with at most this nesting.
@@ -73,7 +111,10 @@ fn read<'t>(
     if depth == 0 {
         return Err(Refusal::TooDeep);
     }
-    by_rule_at(alloc, depth - 1, rule, tokens)
+    match alone_next(alloc, tokens) {
+        Some(found) => Ok(found),
+        None => by_rule_at(alloc, depth - 1, rule, tokens),
+    }
 }
 
 #[cycle(parser)]

@@ -1,4 +1,4 @@
-use Rattle.std.proofs.Common.{◌≡◌, suc, true, false, length, arith, sym, refl, ◌∙◌}
+use Rattle.std.proofs.Common.{◌≡◌, ◌-◌, suc, true, false, length, arith, sym, refl, ◌∙◌}
 use Rattle.std.proofs.lemmas.Result.{err_from_is_err_and}
 use Rattle.cw_grammar.specs.declared.words.Word.TheVariants as w
 use Rattle.cw_expressions.specs.Cursor.{begins}
@@ -96,5 +96,8 @@ pub read-returns-then-depth-eq0-clause-gives : goal.read-returns-then-depth-eq0-
 unfolding read_at
 read-returns-then-depth-eq0-clause-gives t c = rw c.if-depth-eq0.true refl
 
-pub read-returns-clause-gives : goal.read-returns-clause-gives
-read-returns-clause-gives t c = rw (read_over c.args.depth (omega (arith, c.if-depth-eq0.false)) c.args.rule c.args.tokens.now) c.by_rule_at.ensures.gives
+pub read-returns-in-None-clause-gives : goal.read-returns-in-None-clause-gives
+read-returns-in-None-clause-gives t c = rw (read_over c.args.depth (omega (arith, c.if-depth-eq0.false)) c.args.rule c.args.tokens.now) c.by_rule_at.ensures.gives
+
+pub read-returns-in-Some-clause-gives : goal.read-returns-in-Some-clause-gives
+read-returns-in-Some-clause-gives t c = rw (read_over c.args.depth (omega (arith, c.if-depth-eq0.false)) c.args.rule c.args.tokens.now) (c.in-Some.ensures.gives (c.args.depth - 1) c.args.rule)
