@@ -477,8 +477,7 @@ fn arguments_at<'t>(
         });
     }
     let first = read(alloc, depth, Rule::Expression, tokens)?;
-    let mut list = Vec::new(alloc);
-    list.push(first.tree)?;
+    let list = Vec::from_array(alloc, [first.tree])?;
     let first = FoundList {
         list,
         depth: first.depth,
@@ -502,6 +501,7 @@ fn arguments_all<'t>(
     'arguments: while begins_with(so_far.rest, Word::Comma) {
         so_far = argument_at(alloc, depth, so_far)?;
     }
+    so_far.list.shrink_to_fit();
     Ok(so_far)
 }
 

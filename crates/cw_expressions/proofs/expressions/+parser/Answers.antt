@@ -55,7 +55,7 @@ arguments_all-arguments-preserved t c =
 pub arguments_all-returns-clause-gives : goal.arguments_all-returns-clause-gives
 arguments_all-returns-clause-gives t c =
     let stop : begins w.Comma c.arguments.so_far.rest.now ≡ false = sym c.begins_with.ensures.begins ∙ c.arguments-test.false in
-    sym c.arguments.invariant.gives ∙ repeat_ends rest_of_arguments (begins w.Comma) (argument (read_at c.args.depth) c.args.depth) (length c.arguments.so_far.rest.now) (got_arguments c.arguments.so_far) stop
+    rw c.shrink_to_fit.ensures.items (sym c.arguments.invariant.gives ∙ repeat_ends rest_of_arguments (begins w.Comma) (argument (read_at c.args.depth) c.args.depth) (length c.arguments.so_far.rest.now) (got_arguments c.arguments.so_far) stop)
 
 pub level_at-returns-in_err-so_far-clause-gives : goal.level_at-returns-in_err-so_far-clause-gives
 level_at-returns-in_err-so_far-clause-gives t c =
