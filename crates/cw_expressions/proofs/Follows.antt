@@ -220,7 +220,7 @@ ends_assign w.Comma h = refl
 ends_assign w.Semicolon h = refl
 ends_assign _ h = absurd (false≢true h)
 
-ends_alone : (word : Word) → ends word ≡ true → extends word ≡ false
+pub ends_alone : (word : Word) → ends word ≡ true → extends word ≡ false
 ends_alone w.Close h = refl
 ends_alone w.CloseBracket h = refl
 ends_alone w.CloseBrace h = refl

@@ -4,7 +4,7 @@ ghost use Rattle.std.specs.Prelude.{◌≡◌, ◌+◌, ◌<◌, ◌≤◌, ℕ,
 ghost use Rattle.cw_syntax.specs.Trees.{Tree, tree_of};
 ghost use Rattle.cw_grammar.specs.declared.words.Lexeme.{Lexeme};
 ghost use Rattle.cw_expressions.specs.declared.refusal.Refusal.TheVariants.{Syntax, TooDeep};
-ghost use Rattle.cw_grammar.specs.declared.rules.Rule.{Rule};
+ghost use Rattle.cw_expressions.specs.Behind.{is_behind};
 ghost use Rattle.cw_expressions.specs.Next.{IsNext, IsEnd, ends, answer, refused, next_expression};
 ghost use Rattle.cw_grammar.specs.Expressions.{nesting_limit};
 ghost use Rattle.cw_grammar.specs.declared.words.Word.TheVariants.{Comma};
@@ -15,7 +15,7 @@ ghost use Rattle.cw_expressions.specs.View.{got, got_arguments, seen, IsInRange}
 use crate::cursor::{begins_with, first_of, past, take};
 use crate::found::{Found, FoundList, call, join, leaf, over};
 use crate::operators::{
-    assign_next, binary_next_at, operator_next, sign_of, step_of, suffix_next, suffix_of,
+    assign_next, binary_next_at, is_looser, operator_next, sign_of, step_of, suffix_next, suffix_of,
 };
 use crate::refusal::Refusal;
 use crate::types::{begins_type, type_between_at};
@@ -68,16 +68,29 @@ fn has_suffix(tokens: &[Lexeme]) -> bool
     begins_with(tokens, Word::OpenBracket) || suffix_next(tokens).is_some()
 }
 
-/// A token that is an expression by each rule, since one of the marks that follow expressions is next behind it. Most
-/// expressions are read so: the rules lead to the same, but by a way through all of them.
-fn alone_next<'t>(alloc: Global, tokens: &'t [Lexeme]) -> Option<Found<'t>>
-    ensures gives { IfSome result (λ x. (n : ℕ) (rule : Rule) → by_rule (read_at n) n rule tokens.now ≡ Ok (got x)) }
+/// Whether a word ends what this rule reads, if an operand stands before it.
+fn is_behind(rule: Rule, word: Word) -> bool
+    ensures { result ≡ is_behind rule word }
+{
+    if is_end(word) {
+        return true;
+    }
+    match rule {
+        Rule::Level(level) => is_looser(level, word),
+        _ => false,
+    }
+}
+
+/// A token that is all of what the rule reads, by the word behind it. Most expressions are read so: the rules lead to the
+/// same, but by a way through all of them.
+fn alone_next<'t>(alloc: Global, rule: Rule, tokens: &'t [Lexeme]) -> Option<Found<'t>>
+    ensures gives { IfSome result (λ x. (n : ℕ) → by_rule (read_at n) n rule tokens.now ≡ Ok (got x)) }
     ensures fits { IfSome result (λ x. x.depth ≡ 1) }
 {
     let [first, next, ..] = tokens else {
         return None;
     };
-    if !is_end(next.word) {
+    if !is_behind(rule, next.word) {
         return None;
     }
     let rest = past(tokens);
@@ -111,7 +124,7 @@ fn read<'t>(
     if depth == 0 {
         return Err(Refusal::TooDeep);
     }
-    match alone_next(alloc, tokens) {
+    match alone_next(alloc, rule, tokens) {
         Some(found) => Ok(found),
         None => by_rule_at(alloc, depth - 1, rule, tokens),
     }

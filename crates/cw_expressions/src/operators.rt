@@ -2,6 +2,7 @@
 
 ghost use Rattle.std.specs.Prelude.{◌≡◌, ◌<◌, ◌≤◌, ℕ, suc, true, false, MatchOption};
 ghost use Rattle.cw_grammar.specs.Operators.{sign, step, suffix, binary, assign};
+ghost use Rattle.cw_expressions.specs.Behind.{is_looser};
 ghost use Rattle.cw_expressions.specs.Reading.{next_of, at_level, binary_at, goes_on_at};
 
 use cw_grammar::words::{Lexeme, Word};
@@ -82,6 +83,16 @@ fn assign_of(word: Word) -> Option<u8>
         Word::LeftShiftAssign => Some(9),
         Word::RightShiftAssign => Some(10),
         _ => None,
+    }
+}
+
+/// Whether a word is a binary operator of a looser level than this one.
+pub(crate) fn is_looser(level: u32, word: Word) -> bool
+    ensures { result ≡ is_looser level (binary word) }
+{
+    match binary_of(word) {
+        None => false,
+        Some((_, found)) => level < found,
     }
 }
 

@@ -100,4 +100,4 @@ pub read-returns-in-None-clause-gives : goal.read-returns-in-None-clause-gives
 read-returns-in-None-clause-gives t c = rw (read_over c.args.depth (omega (arith, c.if-depth-eq0.false)) c.args.rule c.args.tokens.now) c.by_rule_at.ensures.gives
 
 pub read-returns-in-Some-clause-gives : goal.read-returns-in-Some-clause-gives
-read-returns-in-Some-clause-gives t c = rw (read_over c.args.depth (omega (arith, c.if-depth-eq0.false)) c.args.rule c.args.tokens.now) (c.in-Some.ensures.gives (c.args.depth - 1) c.args.rule)
+read-returns-in-Some-clause-gives t c = rw (read_over c.args.depth (omega (arith, c.if-depth-eq0.false)) c.args.rule c.args.tokens.now) (c.in-Some.ensures.gives (c.args.depth - 1))
