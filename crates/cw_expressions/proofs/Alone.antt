@@ -1,5 +1,5 @@
 -- A token that is all of what a rule reads, by the word behind it.
-use Rattle.std.proofs.Common.{◌≡◌, ℕ, zero, suc, ◌≤◌, Bool, true, false, cond, Option, Some, None, List, [], ◌∷◌, length, get_or, Ok, refl, ap, ◌∙◌, arith}
+use Rattle.std.proofs.Common.{◌≡◌, ℕ, zero, suc, ◌≤◌, Bool, true, false, cond, Option, Some, None, is_some, List, [], ◌∷◌, length, get_or, Ok, refl, ap, ◌∙◌, arith}
 use Rattle.std.proofs.lemmas.Bool.{ltb-true, false≢true}
 use Rattle.cw_syntax.specs.declared.program.Op.{Op}
 use Rattle.cw_syntax.specs.declared.program.Op.TheVariants as op
@@ -17,7 +17,7 @@ use Rattle.cw_expressions.specs.Next.{ends}
 use Rattle.cw_expressions.specs.Behind.{is_looser, is_behind}
 use Rattle.cw_expressions.specs.Reading.{Got, Read, rest_of, built, begins_cast, next_of, goes_on_at, is_suffixed, primary, suffixed, postfix, size_of, prefixed, unary, operand, joined, chain, named, assigned, expression, by_rule}
 use Rattle.cw_expressions.proofs.Repeat.{repeat_ends}
-use Rattle.cw_expressions.proofs.Follows.{Stops, StopsAt, stops_zero, stops_all, stops_below, ends_binary, ends_alone, ended_at, no_suffix, unextended}
+use Rattle.cw_expressions.proofs.Follows.{Stops, StopsAt, stops_zero, stops_all, stops_below, assign_stops, ends_binary, ends_alone, ended_at, no_suffix, unextended}
 
 -- a word that is an operand by itself
 abbrev pub is_leaf : Word → Bool
@@ -42,13 +42,18 @@ looser_stops l u ts None is h = absurd (false≢true h)
 looser_stops l u ts (Some (number, zero)) is h = let lt = ltb-true l 0 h in absurd (omega arith)
 looser_stops l u ts (Some (number, suc found)) is h = let lt = ltb-true l (suc found) h in stops_below found l u ts number is (omega arith)
 
-level_stops : (l : ℕ) (u : Lexeme) (ts : List Lexeme) (b : Bool) → ends u.word ≡ b → cond b true (is_looser l (operators.binary u.word)) ≡ true → Stops l (u ∷ ts)
-level_stops l u ts true e h = ended_stops l u ts e
-level_stops l u ts false e h = looser_stops l u ts (operators.binary u.word) refl h
+assign_stops_by : (l : ℕ) (u : Lexeme) (ts : List Lexeme) (x : Option ℕ) → operators.assign u.word ≡ x → is_some x ≡ true → Stops l (u ∷ ts)
+assign_stops_by l u ts None is h = absurd (false≢true h)
+assign_stops_by l u ts (Some number) is h = assign_stops l u ts number is
+
+level_stops : (l : ℕ) (u : Lexeme) (ts : List Lexeme) (b : Bool) → ends u.word ≡ b → (c : Bool) → is_some (operators.assign u.word) ≡ c → cond b true (cond c true (is_looser l (operators.binary u.word))) ≡ true → Stops l (u ∷ ts)
+level_stops l u ts true e c f h = ended_stops l u ts e
+level_stops l u ts false e true f h = assign_stops_by l u ts (operators.assign u.word) refl f
+level_stops l u ts false e false f h = looser_stops l u ts (operators.binary u.word) refl h
 
 behind_stops : (rule : Rule) (u : Lexeme) (ts : List Lexeme) → is_behind rule u.word ≡ true → StopsAt rule (u ∷ ts)
 behind_stops Expression u ts h = ended_at u ts h
-behind_stops (Level l) u ts h = level_stops l u ts (ends u.word) refl h
+behind_stops (Level l) u ts h = level_stops l u ts (ends u.word) refl (is_some (operators.assign u.word)) refl h
 behind_stops Unary u ts h = ended_stops 0 u ts h
 behind_stops Postfix u ts h = ended_stops 0 u ts h
 

@@ -15,7 +15,8 @@ ghost use Rattle.cw_expressions.specs.View.{got, got_arguments, seen, IsInRange}
 use crate::cursor::{begins_with, first_of, past, take};
 use crate::found::{Found, FoundList, call, join, leaf, over};
 use crate::operators::{
-    assign_next, binary_next_at, is_looser, operator_next, sign_of, step_of, suffix_next, suffix_of,
+    assign_next, binary_next_at, is_assign, is_looser, operator_next, sign_of, step_of,
+    suffix_next, suffix_of,
 };
 use crate::refusal::Refusal;
 use crate::types::{begins_type, type_between_at};
@@ -76,7 +77,7 @@ fn is_behind(rule: Rule, word: Word) -> bool
         return true;
     }
     match rule {
-        Rule::Level(level) => is_looser(level, word),
+        Rule::Level(level) => is_assign(word) || is_looser(level, word),
         _ => false,
     }
 }
@@ -245,6 +246,9 @@ fn operand_at<'t>(alloc: Global, depth: u32, tokens: &'t [Lexeme]) -> Result<Fou
     ensures gives { Gives got result (operand (read_at depth) depth tokens.now) }
     ensures fits { IfOk result (λ x. x.depth ≤ depth + 1) }
 {
+    if let Some(found) = alone_next(alloc, Rule::Level(0), tokens) {
+        return Ok(found);
+    }
     if is_cast_next(tokens) {
         cast_at(alloc, depth, tokens)
     } else {

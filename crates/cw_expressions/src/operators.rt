@@ -1,6 +1,6 @@
 //! The operators by their numbers.
 
-ghost use Rattle.std.specs.Prelude.{◌≡◌, ◌<◌, ◌≤◌, ℕ, suc, true, false, MatchOption};
+ghost use Rattle.std.specs.Prelude.{◌≡◌, ◌<◌, ◌≤◌, ℕ, suc, true, false, is_some, MatchOption};
 ghost use Rattle.cw_grammar.specs.Operators.{sign, step, suffix, binary, assign};
 ghost use Rattle.cw_expressions.specs.Behind.{is_looser};
 ghost use Rattle.cw_expressions.specs.Reading.{next_of, at_level, binary_at, goes_on_at};
@@ -84,6 +84,13 @@ fn assign_of(word: Word) -> Option<u8>
         Word::RightShiftAssign => Some(10),
         _ => None,
     }
+}
+
+/// Whether a word is an assignment's operator.
+pub(crate) fn is_assign(word: Word) -> bool
+    ensures { result ≡ is_some (assign word) }
+{
+    assign_of(word).is_some()
 }
 
 /// Whether a word is a binary operator of a looser level than this one.

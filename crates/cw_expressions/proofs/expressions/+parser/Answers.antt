@@ -2,7 +2,7 @@ use Rattle.std.proofs.Common.{◌≡◌, ◌-◌, suc, true, false, length, arit
 use Rattle.std.proofs.lemmas.Result.{err_from_is_err_and}
 use Rattle.cw_grammar.specs.declared.words.Word.TheVariants as w
 use Rattle.cw_expressions.specs.Cursor.{begins}
-use Rattle.cw_expressions.specs.Reading.{rest_of, rest_of_arguments, goes_on_at, is_suffixed, argument, suffixed, joined, operand, read_at}
+use Rattle.cw_expressions.specs.Reading.{rest_of, rest_of_arguments, goes_on_at, is_suffixed, argument, suffixed, joined, operand, chain, read_at}
 use Rattle.cw_expressions.specs.View.{got, got_arguments}
 use Rattle.cw_expressions.proofs.Repeat.{repeat_ends, repeat_fails, repeat_further}
 use Rattle.cw_expressions.proofs.Short.{read_over, read_shortens, joined_shortens, suffixed_shortens, argument_shortens}
@@ -101,3 +101,7 @@ read-returns-in-None-clause-gives t c = rw (read_over c.args.depth (omega (arith
 
 pub read-returns-in-Some-clause-gives : goal.read-returns-in-Some-clause-gives
 read-returns-in-Some-clause-gives t c = rw (read_over c.args.depth (omega (arith, c.if-depth-eq0.false)) c.args.rule c.args.tokens.now) (c.in-Some.ensures.gives (c.args.depth - 1))
+
+pub operand_at-returns-in-Some-clause-gives : goal.operand_at-returns-in-Some-clause-gives
+unfolding chain
+operand_at-returns-in-Some-clause-gives t c = c.in-Some.ensures.gives c.args.depth
