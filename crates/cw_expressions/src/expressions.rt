@@ -84,6 +84,7 @@ fn is_behind(rule: Rule, word: Word) -> bool
 
 /// A token that is all of what the rule reads, by the word behind it. Most expressions are read so: the rules lead to the
 /// same, but by a way through all of them.
+#[inline(always)]
 fn alone_next<'t>(alloc: Global, rule: Rule, tokens: &'t [Lexeme]) -> Option<Found<'t>>
     ensures gives { IfSome result (λ x. (n : ℕ) → by_rule (read_at n) n rule tokens.now ≡ Ok (got x)) }
     ensures fits { IfSome result (λ x. x.depth ≡ 1) }
