@@ -1,11 +1,12 @@
 -- Reading on from a level to looser ones.
-use Rattle.std.proofs.Common.{◌≡◌, ℕ, zero, suc, ◌+◌, ◌-◌, ◌<◌, ◌≤◌, List, length, Ok, Err, refl, sym, ap, ◌∙◌, arith}
+use Rattle.std.proofs.Common.{◌≡◌, ℕ, zero, suc, ◌+◌, ◌-◌, ◌<◌, ◌≤◌, false, List, length, Ok, Err, refl, sym, ap, ◌∙◌, arith}
 use Rattle.cw_grammar.specs.declared.words.Lexeme.{Lexeme}
 use Rattle.cw_grammar.specs.declared.rules.Rule.{Rule}
 use Rattle.cw_expressions.specs.declared.refusal.Refusal.{Refusal}
 use Rattle.cw_expressions.specs.declared.refusal.Refusal.TheVariants as refusal
 use Rattle.cw_expressions.specs.Cursor.{◌>>=◌, Fails, repeat}
 use Rattle.cw_expressions.specs.Reading.{Got, Read, rest_of, goes_on_at, joined, operand, chain}
+use Rattle.cw_expressions.proofs.Repeat.{repeat_ends}
 
 bound_ok : (r : Read) → (r >>= λ x. Ok x) ≡ r
 bound_ok (Ok x) = refl
@@ -22,6 +23,10 @@ fails_on refusal.TooDeep r f h = rw h refl
 
 pub fails_as : (e : Refusal) (r s : Read) → r ≡ s → Fails e s → Fails e r
 fails_as e r s same h = rw same h
+
+-- no operator of the levels past below and up to level is next
+abbrev pub Quiet : (below level : ℕ) → List Lexeme → Type 0
+Quiet below level ts = (l : ℕ) → below < l → l ≤ level → goes_on_at l ts ≡ false
 
 module _ (read : Rule → List Lexeme → Read) (limit : ℕ) where
   -- the operators of the level above this one, behind what was read
@@ -50,20 +55,37 @@ module _ (read : Rule → List Lexeme → Read) (limit : ℕ) where
       let e : level ≡ level + 0 = omega arith in
       ap (λ n. chain read limit n ts) e ∙ chain_climbs level 0 ts
 
-  pub climbs_on : (level below : ℕ) (x : Got) → below < level → climb (level - below) below x ≡ (joined_on below x >>= λ y. climb (level - (below + 1)) (below + 1) y)
+  -- over levels of which no operator is next
+  climbs_over : (k more total below next : ℕ) (x : Got) → Quiet below next x.rest → next ≡ k + below → total ≡ k + more → climb total below x ≡ climb more next x
   unfolding climb
-  climbs_on level below x short =
-      let e : level - below ≡ suc (level - (below + 1)) = omega (arith, short) in
-      let f : below + 1 ≡ suc below = omega arith in
-      rw (e, f) refl
+  climbs_over zero more total below next x quiet there all =
+      let e : next ≡ below = omega arith in
+      let f : total ≡ more = omega arith in
+      cc
+  climbs_over (suc k) more total below next x quiet there all =
+      let f : total ≡ suc (k + more) = omega arith in
+      let here : joined_on below x ≡ Ok x = repeat_ends rest_of (goes_on_at (suc below)) (joined read limit below) (length x.rest) x (quiet (suc below) (omega arith) (omega arith)) in
+      rw f (ap (λ r. r >>= λ y. climb (k + more) (suc below) y) here
+      ∙ climbs_over k more (k + more) (suc below) next x (λ l lower upper. quiet l (omega arith) upper) (omega arith) refl)
 
-  pub climbs_to : (level below : ℕ) (x : Got) → level ≤ below → climb (level - below) below x ≡ Ok x
+  pub climbs_to : (level below : ℕ) (x : Got) → Quiet below level x.rest → climb (level - below) below x ≡ Ok x
   unfolding climb
-  climbs_to level below x past = let e : level - below ≡ 0 = omega (arith, past) in rw e refl
+  climbs_to level below x quiet =
+      climbs_over (level - below) 0 (level - below) below ((level - below) + below) x (λ l lower upper. quiet l lower (omega arith)) refl (omega arith)
 
-  -- where the operators of the next level are read
-  pub climbs_read : (level below : ℕ) (x y : Got) → below < level → joined_on below x ≡ Ok y → climb (level - below) below x ≡ climb (level - (below + 1)) (below + 1) y
-  climbs_read level below x y short is = climbs_on level below x short ∙ ap (λ r. r >>= λ y. climb (level - (below + 1)) (below + 1) y) is
+  pub climbs_on : (level below next : ℕ) (x : Got) → below ≤ next → next < level → Quiet below next x.rest → climb (level - below) below x ≡ (joined_on next x >>= λ y. climb (level - (next + 1)) (next + 1) y)
+  unfolding climb
+  climbs_on level below next x past short quiet =
+      let e : level - next ≡ suc (level - (next + 1)) = omega (arith, short) in
+      let f : next + 1 ≡ suc next = omega arith in
+      climbs_over (next - below) (level - next) (level - below) below next x quiet (omega arith) (omega arith) ∙ rw (e, f) refl
+
+  -- where an operator is read, and the operand behind it
+  pub climbs_read : (level below next : ℕ) (x y : Got) → below ≤ next → next < level → Quiet below next x.rest → joined_on next y ≡ joined_on next x → climb (level - below) below x ≡ climb (level - next) next y
+  climbs_read level below next x y past short quiet same =
+      climbs_on level below next x past short quiet
+      ∙ ap (λ r. r >>= λ z. climb (level - (next + 1)) (next + 1) z) (sym same)
+      ∙ sym (climbs_on level next next y (omega arith) short (λ l lower upper. absurd (omega arith)))
 
   pub climbs_from : (level : ℕ) (ts : List Lexeme) (x : Got) → operand read limit ts ≡ Ok x → chain read limit level ts ≡ climb (level - 0) 0 x
   climbs_from level ts x is =

@@ -204,7 +204,7 @@ assign_alone _ number e = refl
 pub assign_stops : (l : ℕ) (t : Lexeme) (ts : List Lexeme) (number : ℕ) → operators.assign t.word ≡ Some number → Stops l (t ∷ ts)
 assign_stops l t ts number is = stops_all l t ts (assign_binary t.word number is) (assign_alone t.word number is)
 
-ends_binary : (word : Word) → ends word ≡ true → operators.binary word ≡ None
+pub ends_binary : (word : Word) → ends word ≡ true → operators.binary word ≡ None
 ends_binary w.Close h = refl
 ends_binary w.CloseBracket h = refl
 ends_binary w.CloseBrace h = refl
@@ -220,7 +220,7 @@ ends_assign w.Comma h = refl
 ends_assign w.Semicolon h = refl
 ends_assign _ h = absurd (false≢true h)
 
-ends_alone : (word : Word) → ends word ≡ true → extends word ≡ false
+pub ends_alone : (word : Word) → ends word ≡ true → extends word ≡ false
 ends_alone w.Close h = refl
 ends_alone w.CloseBracket h = refl
 ends_alone w.CloseBrace h = refl

@@ -12,3 +12,4 @@ pub mod Complete
 pub mod Whole
 mod Examples
 pub mod Climb
+pub mod Alone

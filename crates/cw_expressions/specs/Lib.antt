@@ -3,3 +3,4 @@ pub mod TypeReading
 pub mod Reading
 pub mod View
 pub mod Next
+pub mod Behind

@@ -1,19 +1,23 @@
 //! Expressions, by recursion on the nesting that is left.
 
-ghost use Rattle.std.specs.Prelude.{◌≡◌, ◌+◌, ◌<◌, ◌≤◌, ℕ, suc, List, length, IfOk, Err};
+ghost use Rattle.std.specs.Prelude.{◌≡◌, ◌+◌, ◌<◌, ◌≤◌, ℕ, suc, List, length, IfOk, IfSome, Ok, Err};
 ghost use Rattle.cw_syntax.specs.Trees.{Tree, tree_of};
 ghost use Rattle.cw_grammar.specs.declared.words.Lexeme.{Lexeme};
 ghost use Rattle.cw_expressions.specs.declared.refusal.Refusal.TheVariants.{Syntax, TooDeep};
-ghost use Rattle.cw_expressions.specs.Next.{IsNext, IsEnd, answer, refused, next_expression};
+ghost use Rattle.cw_expressions.specs.Behind.{is_behind};
+ghost use Rattle.cw_expressions.specs.Next.{IsNext, IsEnd, ends, answer, refused, next_expression};
 ghost use Rattle.cw_grammar.specs.Expressions.{nesting_limit};
 ghost use Rattle.cw_grammar.specs.declared.words.Word.TheVariants.{Comma};
 ghost use Rattle.cw_expressions.specs.Cursor.{Gives, repeat, begins};
-ghost use Rattle.cw_expressions.specs.Reading.{rest_of, rest_of_arguments, begins_cast, past_strings, goes_on_at, is_suffixed, argument, arguments, named, between, primary, suffixed, postfix, size_of, prefixed, unary, cast, operand, joined, chain, assigned, expression, by_rule, read_at};
+ghost use Rattle.cw_expressions.specs.Reading.{rest_of, rest_of_arguments, begins_cast, past_strings, is_suffixed, argument, arguments, named, between, primary, suffixed, postfix, size_of, prefixed, unary, cast, operand, joined, chain, assigned, expression, by_rule, read_at};
 ghost use Rattle.cw_expressions.specs.View.{got, got_arguments, seen, IsInRange};
 
 use crate::cursor::{begins_with, first_of, past, take};
 use crate::found::{Found, FoundList, call, join, leaf, over};
-use crate::operators::{assign_next, binary_next_at, sign_of, step_of, suffix_next, suffix_of};
+use crate::operators::{
+    assign_next, binary_next_at, is_assign, is_looser, operator_next, sign_of, step_of,
+    suffix_next, suffix_of,
+};
 use crate::refusal::Refusal;
 use crate::types::{begins_type, type_between_at};
 use cw_grammar::rules::Rule;
@@ -48,11 +52,14 @@ fn strings_end(to: u32, tokens: &[Lexeme]) -> (u32, &[Lexeme])
     (end, rest)
 }
 
-/// Whether a binary operator of this level is next.
-fn goes_on(level: u32, tokens: &[Lexeme]) -> bool
-    ensures { result ≡ goes_on_at level tokens.now }
+/// Whether a word is one of the marks that follow an expression.
+fn is_end(word: Word) -> bool
+    ensures { result ≡ ends word }
 {
-    binary_next_at(level, tokens).is_some()
+    match word {
+        Word::Close | Word::CloseBracket | Word::CloseBrace | Word::Comma | Word::Semicolon => true,
+        _ => false,
+    }
 }
 
 /// Whether `[`, `++` or `--` is next.
@@ -60,6 +67,47 @@ fn has_suffix(tokens: &[Lexeme]) -> bool
     ensures { result ≡ is_suffixed tokens.now }
 {
     begins_with(tokens, Word::OpenBracket) || suffix_next(tokens).is_some()
+}
+
+/// Whether a word ends what this rule reads, if an operand stands before it.
+fn is_behind(rule: Rule, word: Word) -> bool
+    ensures { result ≡ is_behind rule word }
+{
+    if is_end(word) {
+        return true;
+    }
+    match rule {
+        Rule::Level(level) => is_assign(word) || is_looser(level, word),
+        _ => false,
+    }
+}
+
+/// A token that is all of what the rule reads, by the word behind it. Most expressions are read so: the rules lead to the
+/// same, but by a way through all of them.
+#[inline(always)]
+fn alone_next<'t>(alloc: Global, rule: Rule, tokens: &'t [Lexeme]) -> Option<Found<'t>>
+    ensures gives { IfSome result (λ x. (n : ℕ) → by_rule (read_at n) n rule tokens.now ≡ Ok (got x)) }
+    ensures fits { IfSome result (λ x. x.depth ≡ 1) }
+{
+    let [first, next, ..] = tokens else {
+        return None;
+    };
+    if !is_behind(rule, next.word) {
+        return None;
+    }
+    let rest = past(tokens);
+    match first.word {
+        Word::Name => Some(leaf(alloc, Op::Name, first.from, first.to, rest)),
+        Word::Number(value) => {
+            let op = Op::Number(value);
+            Some(leaf(alloc, op, first.from, first.to, rest))
+        }
+        Word::Character(value) => {
+            let op = Op::Char(value);
+            Some(leaf(alloc, op, first.from, first.to, rest))
+        }
+        _ => None,
+    }
 }
 
 /// What stands at the front by this rule, with at most this nesting.
@@ -78,7 +126,10 @@ fn read<'t>(
     if depth == 0 {
         return Err(Refusal::TooDeep);
     }
-    by_rule_at(alloc, depth - 1, rule, tokens)
+    match alone_next(alloc, rule, tokens) {
+        Some(found) => Ok(found),
+        None => by_rule_at(alloc, depth - 1, rule, tokens),
+    }
 }
 
 #[cycle(parser)]
@@ -142,7 +193,7 @@ fn assigned_at<'t>(
     join(alloc, Op::Assign(number), false, target, value)
 }
 
-/// A chain of binary operators of this level.
+/// A chain of binary operators of this level. Behind what was read so far is no operator that binds tighter than the last.
 #[cycle(parser)]
 fn level_at<'t>(
     alloc: Global,
@@ -156,28 +207,10 @@ fn level_at<'t>(
     ensures fits { IfOk result (λ x. x.depth ≤ depth + 1) }
 {
     let mut so_far = operand_at(alloc, depth, tokens)?;
-    'levels: for below in 0..level {
-        so_far = joined_all(alloc, depth, below, so_far)?;
-    }
-    Ok(so_far)
-}
-
-#[cycle(parser)]
-fn joined_all<'t>(
-    alloc: Global,
-    depth: u32,
-    below: u32,
-    first: Found<'t>,
-) -> Result<Found<'t>, Refusal>
-    requires deep { depth < 64 }
-    requires level { below < 10 }
-    requires first { first.depth ≤ depth + 1 }
-    ensures gives { Gives got result (repeat rest_of (goes_on_at (suc below)) (joined (read_at depth) depth below) (suc (length first.entry.rest.now)) (got first.entry)) }
-    ensures fits { IfOk result (λ x. x.depth ≤ depth + 1) }
-{
-    let mut so_far = first;
-    'operators: while goes_on(below + 1, so_far.rest) {
-        so_far = joined_at(alloc, depth, below, so_far)?;
+    let mut below = 0;
+    'operators: while let Some(next) = operator_next(below, level, so_far.rest) {
+        below = next;
+        so_far = joined_at(alloc, depth, next, so_far)?;
     }
     Ok(so_far)
 }
@@ -214,6 +247,9 @@ fn operand_at<'t>(alloc: Global, depth: u32, tokens: &'t [Lexeme]) -> Result<Fou
     ensures gives { Gives got result (operand (read_at depth) depth tokens.now) }
     ensures fits { IfOk result (λ x. x.depth ≤ depth + 1) }
 {
+    if let Some(found) = alone_next(alloc, Rule::Level(0), tokens) {
+        return Ok(found);
+    }
     if is_cast_next(tokens) {
         cast_at(alloc, depth, tokens)
     } else {
@@ -459,8 +495,7 @@ fn arguments_at<'t>(
         });
     }
     let first = read(alloc, depth, Rule::Expression, tokens)?;
-    let mut list = Vec::new(alloc);
-    list.push(first.tree)?;
+    let list = Vec::from_array(alloc, [first.tree])?;
     let first = FoundList {
         list,
         depth: first.depth,
@@ -484,6 +519,7 @@ fn arguments_all<'t>(
     'arguments: while begins_with(so_far.rest, Word::Comma) {
         so_far = argument_at(alloc, depth, so_far)?;
     }
+    so_far.list.shrink_to_fit();
     Ok(so_far)
 }
 

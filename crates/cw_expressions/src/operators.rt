@@ -1,8 +1,9 @@
 //! The operators by their numbers.
 
-ghost use Rattle.std.specs.Prelude.{◌≡◌};
+ghost use Rattle.std.specs.Prelude.{◌≡◌, ◌<◌, ◌≤◌, ℕ, suc, true, false, is_some, MatchOption};
 ghost use Rattle.cw_grammar.specs.Operators.{sign, step, suffix, binary, assign};
-ghost use Rattle.cw_expressions.specs.Reading.{next_of, at_level, binary_at};
+ghost use Rattle.cw_expressions.specs.Behind.{is_looser};
+ghost use Rattle.cw_expressions.specs.Reading.{next_of, at_level, binary_at, goes_on_at};
 
 use cw_grammar::words::{Lexeme, Word};
 
@@ -85,6 +86,23 @@ fn assign_of(word: Word) -> Option<u8>
     }
 }
 
+/// Whether a word is an assignment's operator.
+pub(crate) fn is_assign(word: Word) -> bool
+    ensures { result ≡ is_some (assign word) }
+{
+    assign_of(word).is_some()
+}
+
+/// Whether a word is a binary operator of a looser level than this one.
+pub(crate) fn is_looser(level: u32, word: Word) -> bool
+    ensures { result ≡ is_looser level (binary word) }
+{
+    match binary_of(word) {
+        None => false,
+        Some((_, found)) => level < found,
+    }
+}
+
 pub(crate) fn suffix_next(tokens: &[Lexeme]) -> Option<u8>
     ensures { result ≡ next_of suffix tokens.now }
 {
@@ -119,5 +137,19 @@ pub(crate) fn binary_next_at(level: u32, tokens: &[Lexeme]) -> Option<u8>
     match binary_next(tokens) {
         None => None,
         Some((number, found)) => { if found == level { Some(number) } else { None } }
+    }
+}
+
+/// The level below that of the binary operator that is next, if that is a level past `below` and up to `level`.
+pub(crate) fn operator_next(below: u32, level: u32, tokens: &[Lexeme]) -> Option<u32>
+    ensures { MatchOption result ((l : ℕ) → below < l → l ≤ level → goes_on_at l tokens.now ≡ false)
+        (λ next. (below ≤ next) × (next < level) × (goes_on_at (suc next) tokens.now ≡ true)
+        × ((l : ℕ) → below < l → l ≤ next → goes_on_at l tokens.now ≡ false)) }
+{
+    let (_, found) = binary_next(tokens)?;
+    if below < found && found <= level {
+        Some(found - 1)
+    } else {
+        None
     }
 }

@@ -1,7 +1,7 @@
 use Rattle.std.proofs.Common.{◌≡◌, ◌+◌, ◌-◌, ◌*◌, ◌≤◌, suc, length}
 use Rattle.cw_grammar.specs.declared.words.Word.TheVariants as w
 use Rattle.cw_expressions.specs.Cursor.{begins, repeat}
-use Rattle.cw_expressions.specs.Reading.{rest_of, rest_of_arguments, goes_on_at, is_suffixed, argument, suffixed, joined, chain, read_at}
+use Rattle.cw_expressions.specs.Reading.{rest_of, rest_of_arguments, is_suffixed, argument, suffixed, chain, read_at}
 use Rattle.cw_expressions.specs.View.{got, got_arguments}
 use Rattle.cw_expressions.proofs.Climb.{climb}
 use Rattle.cw_expressions.proofs.expressions.+parser.Given as goal
@@ -29,9 +29,6 @@ decreases-cast_at l = 40 * l.depth + 1
 
 abbrev pub decreases-expression_at : goal.decreases-expression_at
 decreases-expression_at l = 40 * l.depth + 37
-
-abbrev pub decreases-joined_all : goal.decreases-joined_all
-decreases-joined_all l = 40 * l.depth + 2
 
 abbrev pub decreases-joined_at : goal.decreases-joined_at
 decreases-joined_at l = 40 * l.depth + 1
@@ -69,15 +66,6 @@ decreases-suffixed_at l = 40 * l.depth + 1
 abbrev pub decreases-unary_at : goal.decreases-unary_at
 decreases-unary_at l = 40 * l.depth + 13
 
-abbrev pub invariant-joined_all-operators : goal.invariant-joined_all-operators
-invariant-joined_all-operators l = record {
-  gives : repeat rest_of (goes_on_at (suc l.below)) (joined (read_at l.depth) l.depth l.below) (suc (length l.so_far.rest.now)) (got l.so_far) ≡ repeat rest_of (goes_on_at (suc l.below)) (joined (read_at l.depth) l.depth l.below) (suc (length l.fn.first.rest.now)) (got l.fn.first);
-  fits : l.so_far.depth ≤ l.depth + 1;
-}
-
-abbrev pub decreases-joined_all-operators : goal.decreases-joined_all-operators
-decreases-joined_all-operators l = length l.so_far.rest.now
-
 abbrev pub invariant-suffixed_all-suffixes : goal.invariant-suffixed_all-suffixes
 invariant-suffixed_all-suffixes l = record {
   gives : repeat rest_of is_suffixed (suffixed (read_at l.depth) l.depth) (suc (length l.so_far.rest.now)) (got l.so_far) ≡ repeat rest_of is_suffixed (suffixed (read_at l.depth) l.depth) (suc (length l.fn.first.rest.now)) (got l.fn.first);
@@ -96,8 +84,11 @@ invariant-arguments_all-arguments l = record {
 abbrev pub decreases-arguments_all-arguments : goal.decreases-arguments_all-arguments
 decreases-arguments_all-arguments l = length l.so_far.rest.now
 
-abbrev pub invariant-level_at-levels : goal.invariant-level_at-levels
-invariant-level_at-levels l = record {
+abbrev pub invariant-level_at-operators : goal.invariant-level_at-operators
+invariant-level_at-operators l = record {
   gives : chain (read_at l.depth) l.depth l.level l.tokens ≡ climb (read_at l.depth) l.depth (l.level - l.below) l.below (got l.so_far);
   fits : l.so_far.depth ≤ l.depth + 1;
 }
+
+abbrev pub decreases-level_at-operators : goal.decreases-level_at-operators
+decreases-level_at-operators l = length l.so_far.rest.now
