@@ -89,9 +89,10 @@ fn items_at<'t>(
     ensures { Gives items result (separated (item (specifiers_of specifiers)) (begins Comma) tokens.now) }
 {
     let (first, rest) = item_at(alloc, specifiers, tokens)?;
-    let mut list = Vec::new(alloc);
-    list.push(first)?;
-    items_after(alloc, specifiers, (list, rest))
+    let list = Vec::from_array(alloc, [first])?;
+    let (mut list, rest) = items_after(alloc, specifiers, (list, rest))?;
+    list.shrink_to_fit();
+    Ok((list, rest))
 }
 
 #[tactic(auto, unfolding(crate::specs::Reading::declaration))]

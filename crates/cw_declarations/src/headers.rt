@@ -76,9 +76,10 @@ fn separated_params_at<'t>(
     ensures { Gives parameters result (separated param (begins Comma) tokens.now) }
 {
     let (first, rest) = param_at(tokens)?;
-    let mut list = Vec::new(alloc);
-    list.push(first)?;
-    params_after((list, rest))
+    let list = Vec::from_array(alloc, [first])?;
+    let (mut list, rest) = params_after((list, rest))?;
+    list.shrink_to_fit();
+    Ok((list, rest))
 }
 
 /// Whether `void` stands alone before a parenthesis.

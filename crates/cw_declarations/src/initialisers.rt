@@ -90,9 +90,10 @@ fn separated_elements_at<'t>(
     ensures { Gives expressions result (separated next_expression more_elements tokens.now) }
 {
     let (first, rest) = read_expression(alloc, tokens)?;
-    let mut list = Vec::new(alloc);
-    list.push(first)?;
-    elements_after(alloc, (list, rest))
+    let list = Vec::from_array(alloc, [first])?;
+    let (mut list, rest) = elements_after(alloc, (list, rest))?;
+    list.shrink_to_fit();
+    Ok((list, rest))
 }
 
 /// What stands in the braces of an initialiser.
@@ -122,8 +123,7 @@ fn value_at<'t>(
         return Ok(((list, true), rest));
     }
     let (expression, rest) = read_expression(alloc, tokens)?;
-    let mut list = Vec::new(alloc);
-    list.push(expression)?;
+    let list = Vec::from_array(alloc, [expression])?;
     Ok(((list, false), rest))
 }
 

@@ -151,6 +151,25 @@ fn parts_after<'t>(
     Ok(so_far)
 }
 
+/// The same program, in lists with no room to spare.
+fn fitted(program: Program) -> Program
+    ensures { file_of result ≡ file_of program }
+{
+    let Program {
+        mut protos,
+        mut globals,
+        mut functions,
+    } = program;
+    protos.shrink_to_fit();
+    globals.shrink_to_fit();
+    functions.shrink_to_fit();
+    Program {
+        protos,
+        globals,
+        functions,
+    }
+}
+
 #[tactic(auto, unfolding(crate::specs::Reading::file))]
 fn file_at(alloc: Global, lexemes: &[Lexeme]) -> Result<Program, Refusal>
     ensures { Gives file_of result (file lexemes.now) }
@@ -161,7 +180,7 @@ fn file_at(alloc: Global, lexemes: &[Lexeme]) -> Result<Program, Refusal>
         functions: Vec::new(alloc),
     };
     let (program, _) = parts_after(alloc, (none, lexemes))?;
-    Ok(program)
+    Ok(fitted(program))
 }
 
 /// The program that the lexemes are, all of them. A span goes from the first byte of a part's tokens to the last; expressions and

@@ -4,7 +4,7 @@ ghost use Rattle.std.specs.Prelude.{◌≡◌, true, false, []};
 ghost use Rattle.cw_grammar.specs.Expressions.{nesting_limit};
 ghost use Rattle.cw_syntax.specs.Trees.{tree_of, statement_of};
 ghost use Rattle.cw_expressions.specs.Cursor.{Gives};
-ghost use Rattle.cw_declarations.specs.Lists.{one_more, many};
+ghost use Rattle.cw_declarations.specs.Lists.{many};
 ghost use Rattle.cw_statements.specs.Reading.{goes_on, block, labelled, chosen, branched, looped, done, counted, stated, statement, read_statement};
 ghost use Rattle.cw_statements.specs.View.{one, several};
 
@@ -102,7 +102,7 @@ fn block_at<'t>(
 ) -> Result<(Stmt, &'t [Lexeme]), Refusal>
     ensures { Gives one result (block (read_statement depth) brace tokens.now) }
 {
-    let (kids, rest) = statements_after(alloc, depth, (Vec::new(alloc), tokens))?;
+    let (kids, rest) = listed_at(alloc, depth, tokens)?;
     let (close, rest) = take(rest, Word::CloseBrace)?;
     Ok((
         Stmt {
@@ -114,35 +114,23 @@ fn block_at<'t>(
     ))
 }
 
-/// Statements up to a brace, behind those before.
+/// Statements up to a brace, in a list with no room to spare.
 #[cycle(parser)]
-fn statements_after<'t>(
+fn listed_at<'t>(
     alloc: Global,
     depth: u32,
-    first: (Vec<Stmt>, &'t [Lexeme]),
+    tokens: &'t [Lexeme],
 ) -> Result<(Vec<Stmt>, &'t [Lexeme]), Refusal>
-    ensures { Gives several result (many (read_statement depth true) goes_on (several first.entry)) }
+    ensures { Gives several result (many (read_statement depth true) goes_on ([], tokens.now)) }
 {
-    let mut so_far = first;
-    'statements: while !begins_with(so_far.1, Word::CloseBrace) {
-        so_far = statement_after(alloc, depth, so_far)?;
+    let mut list = Vec::new(alloc);
+    let mut rest = tokens;
+    'statements: while !begins_with(rest, Word::CloseBrace) {
+        let (statement, behind) = read(alloc, depth, true, rest)?;
+        list.push(statement)?;
+        rest = behind;
     }
-    Ok(so_far)
-}
-
-/// One statement more.
-#[cycle(parser)]
-#[tactic(auto, unfolding(cw_declarations::specs::Lists::one_more))]
-fn statement_after<'t>(
-    alloc: Global,
-    depth: u32,
-    before: (Vec<Stmt>, &'t [Lexeme]),
-) -> Result<(Vec<Stmt>, &'t [Lexeme]), Refusal>
-    ensures { Gives several result (one_more (read_statement depth true) (several before.entry)) }
-{
-    let (mut list, rest) = before;
-    let (statement, rest) = read(alloc, depth, true, rest)?;
-    list.push(statement)?;
+    list.shrink_to_fit();
     Ok((list, rest))
 }
 
@@ -285,5 +273,5 @@ pub(crate) fn statements_at<'t>(
 ) -> Result<(Vec<Stmt>, &'t [Lexeme]), Refusal>
     ensures { Gives several result (many (read_statement nesting_limit true) goes_on ([], tokens.now)) }
 {
-    statements_after(alloc, 64, (Vec::new(alloc), tokens))
+    listed_at(alloc, 64, tokens)
 }

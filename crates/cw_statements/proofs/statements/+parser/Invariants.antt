@@ -1,7 +1,7 @@
-use Rattle.std.proofs.Common.{◌≡◌, true, length, ◌+◌, ◌*◌}
+use Rattle.std.proofs.Common.{◌≡◌, true, [], map, length, ◌+◌, ◌*◌}
+use Rattle.cw_syntax.specs.Trees.{statement_of}
 use Rattle.cw_declarations.specs.Lists.{many}
 use Rattle.cw_statements.specs.Reading.{goes_on, read_statement}
-use Rattle.cw_statements.specs.View.{several}
 use Rattle.cw_statements.proofs.statements.+parser.Given as goal
 
 abbrev pub decreases-read : goal.decreases-read
@@ -16,11 +16,8 @@ decreases-stated_at l = 8 * l.depth + 6
 abbrev pub decreases-block_at : goal.decreases-block_at
 decreases-block_at l = 8 * l.depth + 5
 
-abbrev pub decreases-statements_after : goal.decreases-statements_after
-decreases-statements_after l = 8 * l.depth + 2
-
-abbrev pub decreases-statement_after : goal.decreases-statement_after
-decreases-statement_after l = 8 * l.depth + 1
+abbrev pub decreases-listed_at : goal.decreases-listed_at
+decreases-listed_at l = 8 * l.depth + 1
 
 abbrev pub decreases-labelled_at : goal.decreases-labelled_at
 decreases-labelled_at l = 8 * l.depth + 5
@@ -40,8 +37,8 @@ decreases-done_at l = 8 * l.depth + 5
 abbrev pub decreases-counted_at : goal.decreases-counted_at
 decreases-counted_at l = 8 * l.depth + 5
 
-abbrev pub invariant-statements_after-statements : goal.invariant-statements_after-statements
-invariant-statements_after-statements l = many (read_statement l.depth true) goes_on (several l.so_far) ≡ many (read_statement l.depth true) goes_on (several l.fn.first)
+abbrev pub invariant-listed_at-statements : goal.invariant-listed_at-statements
+invariant-listed_at-statements l = many (read_statement l.depth true) goes_on (map statement_of l.list.items, l.rest) ≡ many (read_statement l.depth true) goes_on ([], l.fn.tokens)
 
-abbrev pub decreases-statements_after-statements : goal.decreases-statements_after-statements
-decreases-statements_after-statements l = length l.so_far.1.now
+abbrev pub decreases-listed_at-statements : goal.decreases-listed_at-statements
+decreases-listed_at-statements l = length l.rest

@@ -3,4 +3,4 @@ use Rattle.cw_statements.proofs.statements.statements_at.Goals as goal
 
 pub returns : goal.returns
 unfolding nesting_limit
-returns c = rw c.new.ensures.items at c.statements_after.ensures
+returns c = c.listed_at.ensures
