@@ -13,19 +13,20 @@ fn is_hexadecimal(text: &[u8]) -> bool
     ensures value { result ≡ is_hexadecimal text.now }
     ensures long { result ≡ true → 2 ≤ length text.now }
 {
-    text.starts_with(b"0x")
+    match text {
+        [b'0', b'x', ..] => true,
+        _ => false,
+    }
 }
 
 fn base(text: &[u8]) -> u64
     ensures value { result ≡ base_of text.now }
     ensures within { (2 ≤ result) × (result ≤ 16) }
 {
-    if is_hexadecimal(text) {
-        16
-    } else if text.starts_with(b"0") {
-        8
-    } else {
-        10
+    match text {
+        [b'0', b'x', ..] => 16,
+        [b'0', ..] => 8,
+        _ => 10,
     }
 }
 

@@ -212,9 +212,9 @@ pub(crate) fn front_piece(fresh: bool, bytes: &[u8]) -> Piece
         text(rest)
     } else if *first == b'#' {
         directive(fresh, bytes)
-    } else if bytes.starts_with(b"/*") {
+    } else if *first == b'/' && bytes.starts_with(b"/*") {
         comment(tail(bytes, 2))
-    } else if bytes.starts_with(b"//") {
+    } else if *first == b'/' && bytes.starts_with(b"//") {
         line(bytes)
     } else {
         mark(bytes)
