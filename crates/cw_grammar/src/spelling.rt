@@ -1,6 +1,6 @@
 //! The words of a source's tokens.
 
-ghost use Rattle.std.specs.Prelude.{◌≡◌, ◌^◌, ◌<◌, ◌≤◌, length, IfOk};
+ghost use Rattle.std.specs.Prelude.{◌≡◌, ◌^◌, ◌<◌, ◌≤◌, ◌∷◌, [], length, IfOk};
 ghost use Rattle.cw_lex.specs.declared.tokens.TokenKind.TheVariants.{Number};
 ghost use Rattle.cw_syntax.specs.Names.{slice};
 ghost use Rattle.cw_lex.specs.Numbers.{number_of};
@@ -59,110 +59,107 @@ fn keyword(text: &[u8]) -> Option<Word>
 fn long_mark(text: &[u8]) -> Option<Word>
     ensures { result ≡ spelled long_marks text.now }
 {
-    if text == b"<<=".as_slice() {
-        Some(Word::LeftShiftAssign)
-    } else if text == b">>=".as_slice() {
-        Some(Word::RightShiftAssign)
-    } else if text == b"<<".as_slice() {
-        Some(Word::LeftShift)
-    } else if text == b">>".as_slice() {
-        Some(Word::RightShift)
-    } else if text == b"<=".as_slice() {
-        Some(Word::LessEqual)
-    } else if text == b">=".as_slice() {
-        Some(Word::GreaterEqual)
-    } else if text == b"==".as_slice() {
-        Some(Word::Equal)
-    } else if text == b"!=".as_slice() {
-        Some(Word::NotEqual)
-    } else if text == b"&&".as_slice() {
-        Some(Word::AmpersandAmpersand)
-    } else if text == b"||".as_slice() {
-        Some(Word::BarBar)
-    } else if text == b"++".as_slice() {
-        Some(Word::PlusPlus)
-    } else if text == b"--".as_slice() {
-        Some(Word::MinusMinus)
-    } else if text == b"+=".as_slice() {
-        Some(Word::AddAssign)
-    } else if text == b"-=".as_slice() {
-        Some(Word::SubtractAssign)
-    } else if text == b"*=".as_slice() {
-        Some(Word::MultiplyAssign)
-    } else if text == b"/=".as_slice() {
-        Some(Word::DivideAssign)
-    } else if text == b"%=".as_slice() {
-        Some(Word::RemainderAssign)
-    } else if text == b"&=".as_slice() {
-        Some(Word::AndAssign)
-    } else if text == b"|=".as_slice() {
-        Some(Word::OrAssign)
-    } else if text == b"^=".as_slice() {
-        Some(Word::XorAssign)
-    } else {
-        None
+    let [first, rest @ ..] = text else {
+        return None;
+    };
+    match *first {
+        b'<' => match rest {
+            [b'<', b'='] => Some(Word::LeftShiftAssign),
+            [b'<'] => Some(Word::LeftShift),
+            [b'='] => Some(Word::LessEqual),
+            _ => None,
+        },
+        b'>' => match rest {
+            [b'>', b'='] => Some(Word::RightShiftAssign),
+            [b'>'] => Some(Word::RightShift),
+            [b'='] => Some(Word::GreaterEqual),
+            _ => None,
+        },
+        b'=' => match rest {
+            [b'='] => Some(Word::Equal),
+            _ => None,
+        },
+        b'!' => match rest {
+            [b'='] => Some(Word::NotEqual),
+            _ => None,
+        },
+        b'&' => match rest {
+            [b'&'] => Some(Word::AmpersandAmpersand),
+            [b'='] => Some(Word::AndAssign),
+            _ => None,
+        },
+        b'|' => match rest {
+            [b'|'] => Some(Word::BarBar),
+            [b'='] => Some(Word::OrAssign),
+            _ => None,
+        },
+        b'+' => match rest {
+            [b'+'] => Some(Word::PlusPlus),
+            [b'='] => Some(Word::AddAssign),
+            _ => None,
+        },
+        b'-' => match rest {
+            [b'-'] => Some(Word::MinusMinus),
+            [b'='] => Some(Word::SubtractAssign),
+            _ => None,
+        },
+        b'*' => match rest {
+            [b'='] => Some(Word::MultiplyAssign),
+            _ => None,
+        },
+        b'/' => match rest {
+            [b'='] => Some(Word::DivideAssign),
+            _ => None,
+        },
+        b'%' => match rest {
+            [b'='] => Some(Word::RemainderAssign),
+            _ => None,
+        },
+        b'^' => match rest {
+            [b'='] => Some(Word::XorAssign),
+            _ => None,
+        },
+        _ => None,
     }
 }
 
-/// The mark of one byte that this text is.
-fn short_mark(text: &[u8]) -> Option<Word>
-    ensures { result ≡ spelled short_marks text.now }
+/// The mark of one byte that this is.
+fn short_mark(byte: u8) -> Option<Word>
+    ensures { result ≡ spelled short_marks (byte ∷ []) }
 {
-    if text == b"(".as_slice() {
-        Some(Word::Open)
-    } else if text == b")".as_slice() {
-        Some(Word::Close)
-    } else if text == b"[".as_slice() {
-        Some(Word::OpenBracket)
-    } else if text == b"]".as_slice() {
-        Some(Word::CloseBracket)
-    } else if text == b"{".as_slice() {
-        Some(Word::OpenBrace)
-    } else if text == b"}".as_slice() {
-        Some(Word::CloseBrace)
-    } else if text == b";".as_slice() {
-        Some(Word::Semicolon)
-    } else if text == b",".as_slice() {
-        Some(Word::Comma)
-    } else if text == b":".as_slice() {
-        Some(Word::Colon)
-    } else if text == b"=".as_slice() {
-        Some(Word::Assign)
-    } else if text == b"+".as_slice() {
-        Some(Word::Plus)
-    } else if text == b"-".as_slice() {
-        Some(Word::Minus)
-    } else if text == b"*".as_slice() {
-        Some(Word::Star)
-    } else if text == b"/".as_slice() {
-        Some(Word::Slash)
-    } else if text == b"%".as_slice() {
-        Some(Word::Percent)
-    } else if text == b"&".as_slice() {
-        Some(Word::Ampersand)
-    } else if text == b"|".as_slice() {
-        Some(Word::Bar)
-    } else if text == b"^".as_slice() {
-        Some(Word::Caret)
-    } else if text == b"~".as_slice() {
-        Some(Word::Tilde)
-    } else if text == b"!".as_slice() {
-        Some(Word::Exclamation)
-    } else if text == b"<".as_slice() {
-        Some(Word::Less)
-    } else if text == b">".as_slice() {
-        Some(Word::Greater)
-    } else {
-        None
+    match byte {
+        b'(' => Some(Word::Open),
+        b')' => Some(Word::Close),
+        b'[' => Some(Word::OpenBracket),
+        b']' => Some(Word::CloseBracket),
+        b'{' => Some(Word::OpenBrace),
+        b'}' => Some(Word::CloseBrace),
+        b';' => Some(Word::Semicolon),
+        b',' => Some(Word::Comma),
+        b':' => Some(Word::Colon),
+        b'=' => Some(Word::Assign),
+        b'+' => Some(Word::Plus),
+        b'-' => Some(Word::Minus),
+        b'*' => Some(Word::Star),
+        b'/' => Some(Word::Slash),
+        b'%' => Some(Word::Percent),
+        b'&' => Some(Word::Ampersand),
+        b'|' => Some(Word::Bar),
+        b'^' => Some(Word::Caret),
+        b'~' => Some(Word::Tilde),
+        b'!' => Some(Word::Exclamation),
+        b'<' => Some(Word::Less),
+        b'>' => Some(Word::Greater),
+        _ => None,
     }
 }
 
 fn mark_of(text: &[u8]) -> Option<Word>
     ensures { result ≡ mark text.now }
 {
-    match long_mark(text) {
-        Some(word) => Some(word),
-        None => short_mark(text),
+    match text {
+        [byte] => short_mark(*byte),
+        _ => long_mark(text),
     }
 }
 
