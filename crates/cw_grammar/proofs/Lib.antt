@@ -2,3 +2,4 @@ pub mod SameWord
 pub mod TreeRows
 mod Placed
 mod Examples
+mod Spelled

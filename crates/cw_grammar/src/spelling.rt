@@ -16,42 +16,25 @@ use std::alloc::Global;
 fn keyword(text: &[u8]) -> Option<Word>
     ensures { result ≡ spelled keywords text.now }
 {
-    if text == b"extern".as_slice() {
-        Some(Word::Extern)
-    } else if text == b"static".as_slice() {
-        Some(Word::Static)
-    } else if text == b"const".as_slice() {
-        Some(Word::Const)
-    } else if text == b"void".as_slice() {
-        Some(Word::Void)
-    } else if text == b"unsigned".as_slice() {
-        Some(Word::Unsigned)
-    } else if text == b"char".as_slice() {
-        Some(Word::Char)
-    } else if text == b"int".as_slice() {
-        Some(Word::Int)
-    } else if text == b"long".as_slice() {
-        Some(Word::Long)
-    } else if text == b"if".as_slice() {
-        Some(Word::If)
-    } else if text == b"else".as_slice() {
-        Some(Word::Else)
-    } else if text == b"while".as_slice() {
-        Some(Word::While)
-    } else if text == b"do".as_slice() {
-        Some(Word::Do)
-    } else if text == b"for".as_slice() {
-        Some(Word::For)
-    } else if text == b"break".as_slice() {
-        Some(Word::Break)
-    } else if text == b"continue".as_slice() {
-        Some(Word::Continue)
-    } else if text == b"return".as_slice() {
-        Some(Word::Return)
-    } else if text == b"sizeof".as_slice() {
-        Some(Word::SizeOf)
-    } else {
-        None
+    match text {
+        b"extern" => Some(Word::Extern),
+        b"static" => Some(Word::Static),
+        b"const" => Some(Word::Const),
+        b"void" => Some(Word::Void),
+        b"unsigned" => Some(Word::Unsigned),
+        b"char" => Some(Word::Char),
+        b"int" => Some(Word::Int),
+        b"long" => Some(Word::Long),
+        b"if" => Some(Word::If),
+        b"else" => Some(Word::Else),
+        b"while" => Some(Word::While),
+        b"do" => Some(Word::Do),
+        b"for" => Some(Word::For),
+        b"break" => Some(Word::Break),
+        b"continue" => Some(Word::Continue),
+        b"return" => Some(Word::Return),
+        b"sizeof" => Some(Word::SizeOf),
+        _ => None,
     }
 }
 
