@@ -81,29 +81,10 @@ fn parts(text: &[u8]) -> (&[u8], &[u8])
 fn is_suffix(text: &[u8]) -> bool
     ensures { result ≡ is_suffix text.now }
 {
-    text == b"".as_slice()
-        || text == b"u".as_slice()
-        || text == b"U".as_slice()
-        || text == b"l".as_slice()
-        || text == b"L".as_slice()
-        || text == b"ll".as_slice()
-        || text == b"LL".as_slice()
-        || text == b"ul".as_slice()
-        || text == b"uL".as_slice()
-        || text == b"ull".as_slice()
-        || text == b"uLL".as_slice()
-        || text == b"Ul".as_slice()
-        || text == b"UL".as_slice()
-        || text == b"Ull".as_slice()
-        || text == b"ULL".as_slice()
-        || text == b"lu".as_slice()
-        || text == b"lU".as_slice()
-        || text == b"llu".as_slice()
-        || text == b"llU".as_slice()
-        || text == b"Lu".as_slice()
-        || text == b"LU".as_slice()
-        || text == b"LLu".as_slice()
-        || text == b"LLU".as_slice()
+    match text {
+        b"" | b"u" | b"U" | b"l" | b"L" | b"ll" | b"LL" | b"ul" | b"uL" | b"ull" | b"uLL" | b"Ul" | b"UL" | b"Ull" | b"ULL" | b"lu" | b"lU" | b"llu" | b"llU" | b"Lu" | b"LU" | b"LLu" | b"LLU" => true,
+        _ => false,
+    }
 }
 
 /// The value of a digit, and 36 of a byte that is none.
