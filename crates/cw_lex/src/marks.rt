@@ -8,12 +8,8 @@ use crate::bytes::tail;
 fn begins_three(bytes: &[u8]) -> bool
     ensures { result ≡ begins three_byte_marks bytes.now }
 {
-    let [first, ..] = bytes else {
-        return false;
-    };
-    match *first {
-        b'<' => bytes.starts_with(b"<<="),
-        b'>' => bytes.starts_with(b">>="),
+    match bytes {
+        [b'<', b'<', b'=', ..] | [b'>', b'>', b'=', ..] => true,
         _ => false,
     }
 }
@@ -21,22 +17,22 @@ fn begins_three(bytes: &[u8]) -> bool
 fn begins_two(bytes: &[u8]) -> bool
     ensures { result ≡ begins two_byte_marks bytes.now }
 {
-    let [first, ..] = bytes else {
+    let [first, second, ..] = bytes else {
         return false;
     };
     match *first {
-        b'<' => bytes.starts_with(b"<<") || bytes.starts_with(b"<="),
-        b'>' => bytes.starts_with(b">>") || bytes.starts_with(b">="),
-        b'=' => bytes.starts_with(b"=="),
-        b'!' => bytes.starts_with(b"!="),
-        b'&' => bytes.starts_with(b"&&") || bytes.starts_with(b"&="),
-        b'|' => bytes.starts_with(b"||") || bytes.starts_with(b"|="),
-        b'+' => bytes.starts_with(b"++") || bytes.starts_with(b"+="),
-        b'-' => bytes.starts_with(b"--") || bytes.starts_with(b"-="),
-        b'*' => bytes.starts_with(b"*="),
-        b'/' => bytes.starts_with(b"/="),
-        b'%' => bytes.starts_with(b"%="),
-        b'^' => bytes.starts_with(b"^="),
+        b'<' => *second == b'<' || *second == b'=',
+        b'>' => *second == b'>' || *second == b'=',
+        b'=' => *second == b'=',
+        b'!' => *second == b'=',
+        b'&' => *second == b'&' || *second == b'=',
+        b'|' => *second == b'|' || *second == b'=',
+        b'+' => *second == b'+' || *second == b'=',
+        b'-' => *second == b'-' || *second == b'=',
+        b'*' => *second == b'=',
+        b'/' => *second == b'=',
+        b'%' => *second == b'=',
+        b'^' => *second == b'=',
         _ => false,
     }
 }
@@ -93,12 +89,8 @@ pub(crate) fn mark_length(bytes: &[u8]) -> usize
 fn is_marker(bytes: &[u8]) -> bool
     ensures { result ≡ is_marker bytes.now }
 {
-    let [first, ..] = bytes else {
-        return false;
-    };
-    match *first {
-        b'c' => bytes.starts_with(b"cw{*"),
-        b'*' => bytes.starts_with(b"*}cw"),
+    match bytes {
+        [b'c', b'w', b'{', b'*', ..] | [b'*', b'}', b'c', b'w', ..] => true,
         _ => false,
     }
 }

@@ -130,7 +130,10 @@ fn closes_from(bytes: &[u8], at: usize) -> bool
     ensures value { result ≡ starts_with nat_eq (drop at bytes.now) (codes "*/") }
     ensures within { result ≡ true → at + 2 ≤ length bytes.now }
 {
-    tail(bytes, at).starts_with(b"*/")
+    match tail(bytes, at) {
+        [b'*', b'/', ..] => true,
+        _ => false,
+    }
 }
 
 /// How many bytes there are up to and with the first `*/`.
