@@ -23,16 +23,11 @@ fn begins_two(bytes: &[u8]) -> bool
     match *first {
         b'<' => *second == b'<' || *second == b'=',
         b'>' => *second == b'>' || *second == b'=',
-        b'=' => *second == b'=',
-        b'!' => *second == b'=',
         b'&' => *second == b'&' || *second == b'=',
         b'|' => *second == b'|' || *second == b'=',
         b'+' => *second == b'+' || *second == b'=',
         b'-' => *second == b'-' || *second == b'=',
-        b'*' => *second == b'=',
-        b'/' => *second == b'=',
-        b'%' => *second == b'=',
-        b'^' => *second == b'=',
+        b'=' | b'!' | b'*' | b'/' | b'%' | b'^' => *second == b'=',
         _ => false,
     }
 }
