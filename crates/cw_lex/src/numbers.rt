@@ -82,7 +82,29 @@ fn is_suffix(text: &[u8]) -> bool
     ensures { result ≡ is_suffix text.now }
 {
     match text {
-        b"" | b"u" | b"U" | b"l" | b"L" | b"ll" | b"LL" | b"ul" | b"uL" | b"ull" | b"uLL" | b"Ul" | b"UL" | b"Ull" | b"ULL" | b"lu" | b"lU" | b"llu" | b"llU" | b"Lu" | b"LU" | b"LLu" | b"LLU" => true,
+        b""
+        | b"u"
+        | b"U"
+        | b"l"
+        | b"L"
+        | b"ll"
+        | b"LL"
+        | b"ul"
+        | b"uL"
+        | b"ull"
+        | b"uLL"
+        | b"Ul"
+        | b"UL"
+        | b"Ull"
+        | b"ULL"
+        | b"lu"
+        | b"lU"
+        | b"llu"
+        | b"llU"
+        | b"Lu"
+        | b"LU"
+        | b"LLu"
+        | b"LLU" => true,
         _ => false,
     }
 }
