@@ -94,7 +94,10 @@ fn is_marker_from(source: &[u8], at: usize) -> bool
     requires { at ≤ length source.now }
     ensures { result ≡ is_marker (drop at source.now) }
 {
-    is_marker(tail(source, at))
+    match source.get(at) {
+        Some(b'c' | b'*') => is_marker(tail(source, at)),
+        _ => false,
+    }
 }
 
 /// The least place where a marker begins.
