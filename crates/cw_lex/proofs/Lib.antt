@@ -1,4 +1,5 @@
 mod Digits
+mod OneDigit
 mod Close
 mod Texts
 mod Within

@@ -157,9 +157,9 @@ fn are_of_base(base: u64, digits: &[u8]) -> bool
     digits.iter().all(|b| digit(*b) < base)
 }
 
-/// Whether a text is a number: digits, one at least, of its base, and a suffix, of a value that 64 bits hold.
+/// Whether a text is digits, one at least, of its base, and a suffix, of a value that 64 bits hold.
 #[tactic(auto, unfolding(crate::specs::Numbers::is_number, crate::specs::Numbers::number_of))]
-pub(crate) fn is_number(text: &[u8]) -> bool
+fn has_parts(text: &[u8]) -> bool
     ensures { result ≡ is_number text.now }
 {
     let base = base(text);
@@ -170,15 +170,36 @@ pub(crate) fn is_number(text: &[u8]) -> bool
         && value(base, digits).is_some()
 }
 
-/// The value of a number's text, its suffix left out. The text begins with `0x` and is hexadecimal, or with another zero and is
-/// octal, or is decimal.
-///
-/// Public source: ISO/IEC 9899:2011, 6.4.4.1.
+/// Whether a text is a number: digits, one at least, of its base, and a suffix, of a value that 64 bits hold. Most are one digit.
+pub(crate) fn is_number(text: &[u8]) -> bool
+    ensures { result ≡ is_number text.now }
+{
+    match text {
+        [b'0'..=b'9'] => true,
+        _ => has_parts(text),
+    }
+}
+
+/// The value of the digits of a text.
 #[tactic(auto, unfolding(crate::specs::Numbers::number_of))]
-pub fn number_value(text: &[u8]) -> u64
+fn value_of_parts(text: &[u8]) -> u64
     requires small { number_of text.now < 2 ^ 64 }
     ensures { result ≡ number_of text.now }
 {
     let (digits, _) = parts(text);
     value(base(text), digits).unwrap_or(0)
+}
+
+/// The value of a number's text, its suffix left out. The text begins with `0x` and is hexadecimal, or with another zero and is
+/// octal, or is decimal.
+///
+/// Public source: ISO/IEC 9899:2011, 6.4.4.1.
+pub fn number_value(text: &[u8]) -> u64
+    requires small { number_of text.now < 2 ^ 64 }
+    ensures { result ≡ number_of text.now }
+{
+    match text {
+        [digit @ b'0'..=b'9'] => u64::from(*digit - b'0'),
+        _ => value_of_parts(text),
+    }
 }
