@@ -492,11 +492,7 @@ fn trees_of_casts_and_sizes(rt: HostRuntime) -> Result<(), Fail> {
         "(char)a[1];}",
         "(expression 0-11(cast:char 0-10(index 6-10(name 6-7)(number:1 8-9))))",
     )?;
-    expect_trees(
-        alloc,
-        "sizeof(int);}",
-        "(expression 0-12(sizeof:int 0-11))",
-    )
+    expect_trees(alloc, "sizeof(int);}", "(expression 0-12(sizeof:int 0-11))")
 }
 
 #[test]
