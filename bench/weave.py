@@ -3,8 +3,9 @@
 
     python3 bench/weave.py crates/capweave/out/capweave [--command graph] [--against "COMMAND"]
 
-With `weave`, the default: random sources of the whole C subset and one with long names, of three lengths; sources of the first form with
-branches and loops, of three numbers of points; and policies of three lengths. With `graph`: random sources, and ones of 512 functions of
+With `weave`, the default: random sources of the whole C subset and one with long names, of three lengths; random sources and dense ones
+that are refused at their last byte, so that their tokens and their program are read and nothing else is done; sources of the first form
+with branches and loops, of three numbers of points; and policies of three lengths. With `graph`: random sources, and ones of 512 functions of
 up to 8,192 points in all. The other command gets a source's name behind its words and is run in turn with the program, as
 --against "gcc -fsyntax-only -std=c11 -w".
 
@@ -45,6 +46,17 @@ def long_names(size):
     return head + "".join(f"f{number:0{width - 1}d}();" for number in range(calls)) + tail
 
 
+def refused(size):
+    """A random source whose last brace no program goes on with."""
+    return subset(size - 1) + "}"
+
+
+def dense(size):
+    """Statements of two bytes, and a last brace that no program goes on with."""
+    head, tail = "int main(void){", "}}"
+    return head + "1;" * ((size - len(head) - len(tail)) // 2) + tail
+
+
 def first_form(points):
     """Branches and loops around calls, of about so many points."""
     parts = [f"if(c{number}){{while(d{number})f{number}();}}else g{number}();h{number}();" for number in range(points // 5)]
@@ -66,7 +78,7 @@ def long_policy(size):
 
 
 TABLES = {
-    "weave": (("source", subset, BYTES), ("names", long_names, BYTES), ("points", first_form, (250, 500, 1_000)), ("policy", long_policy, (16_384, 32_768, 65_536))),
+    "weave": (("source", subset, BYTES), ("names", long_names, BYTES), ("refused", refused, BYTES), ("dense", dense, BYTES), ("points", first_form, (250, 500, 1_000)), ("policy", long_policy, (16_384, 32_768, 65_536))),
     "graph": (("source", subset, (16_384, 32_768, 65_536)), ("points", many_functions, (2_048, 4_096, 8_192))),
 }
 

@@ -15,6 +15,10 @@ use Rattle.cw_source.specs.declared.fault.SourceFault.TheVariants.{Lex, Syntax, 
 abbrev pub HasLexemes : List ℕ → List Lexeme → Type 0
 HasLexemes source ts = (tokens : List Token) × AreTokens source tokens × (ts ≡ lexemes_of source tokens)
 
+-- the tokens of the source derive the program, and nothing nests past the limit
+abbrev pub Derives : List ℕ → File → Type 0
+Derives source file = (ts : List Lexeme) × HasLexemes source ts × IsProgram ts file
+
 -- The tokens of the source derive the program, nothing nests past the limit, and the scope rules hold.
 pub record ReadsAs (source : List ℕ) (file : File) : Type 0 where
   pub tokens : List Lexeme

@@ -1,11 +1,12 @@
 //! Sources read.
 
-ghost use Rattle.std.specs.Prelude.{◌≡◌, ◌≤◌, length, slice_get, IfErr, IfOk};
-ghost use Rattle.cw_syntax.specs.Trees.{file_of};
+ghost use Rattle.std.specs.Prelude.{◌≡◌, ◌≤◌, length, slice_get, IfErr, IfOk, ¬_};
+ghost use Rattle.cw_syntax.specs.Trees.{File, file_of};
 ghost use Rattle.cw_lex.specs.Tokens.{AreTokens};
 ghost use Rattle.cw_grammar.specs.Files.{IsProgram};
 ghost use Rattle.cw_recogniser.specs.Language.{IsText};
-ghost use Rattle.cw_source.specs.Read.{HasLexemes, IsFaultOf, ReadsAs, place_of};
+ghost use Rattle.cw_expressions.specs.declared.refusal.Refusal.TheVariants.{TooDeep as Deep};
+ghost use Rattle.cw_source.specs.Read.{Derives, HasLexemes, IsFaultOf, ReadsAs, place_of};
 
 use crate::fault::SourceFault;
 use cw_expressions::refusal::Refusal;
@@ -67,18 +68,45 @@ fn judge(alloc: Global, source: &[u8], tokens: &[Lexeme]) -> Result<(), SourceFa
     }
 }
 
-/// The program of tokens that are of the grammar, so `Syntax` doesn't come.
-fn program_of(alloc: Global, source: &[u8], tokens: &[Lexeme]) -> Result<Program, SourceFault>
+/// Why tokens that aren't read as a program are refused: by the place where they leave the grammar, however deep they nest, and
+/// by the nesting only where they don't leave it.
+fn refused(alloc: Global, source: &[u8], tokens: &[Lexeme], refusal: Refusal) -> SourceFault
+    requires short { length source.now ≤ 262144 }
     requires lexed { HasLexemes source.now tokens.now }
-    requires text { IsText tokens.now }
+    requires nests { refusal ≡ Deep → (file : File) → ¬ (IsProgram tokens.now file) }
+    ensures fault { IsFaultOf source.now result }
+{
+    match judge(alloc, source, tokens) {
+        Err(fault) => fault,
+        Ok(()) => match refusal {
+            Refusal::TooDeep => SourceFault::TooDeep,
+            Refusal::Syntax | Refusal::NoMemory => SourceFault::NoMemory,
+        },
+    }
+}
+
+/// The program of these tokens. Whether they leave the grammar, and where, is only asked where no program is read.
+fn program_of(alloc: Global, source: &[u8], tokens: &[Lexeme]) -> Result<Program, SourceFault>
+    requires short { length source.now ≤ 262144 }
+    requires lexed { HasLexemes source.now tokens.now }
     ensures program { IfOk result (λ p. IsProgram tokens.now (file_of p)) }
     ensures fault { IfErr result (IsFaultOf source.now) }
 {
     match parse(alloc, tokens) {
         Ok(program) => Ok(program),
-        Err(Refusal::TooDeep) => Err(SourceFault::TooDeep),
-        Err(Refusal::Syntax) | Err(Refusal::NoMemory) => Err(SourceFault::NoMemory),
+        Err(Refusal::NoMemory) => Err(SourceFault::NoMemory),
+        Err(refusal) => Err(refused(alloc, source, tokens, refusal)),
     }
+}
+
+/// The program that the tokens of a source derive; they are given back before the scope rules are tested.
+fn derived_program(alloc: Global, source: &[u8]) -> Result<Program, SourceFault>
+    requires short { length source.now ≤ 262144 }
+    ensures program { IfOk result (λ p. Derives source.now (file_of p)) }
+    ensures fault { IfErr result (IsFaultOf source.now) }
+{
+    let tokens = lexemes_of(alloc, source)?;
+    program_of(alloc, source, &tokens)
 }
 
 /// The program of a source of at most 262,144 bytes.
@@ -93,9 +121,7 @@ pub fn read_source(alloc: Global, source: &[u8]) -> Result<Program, SourceFault>
     ensures program { IfOk result (λ p. ReadsAs source.now (file_of p)) }
     ensures fault { IfErr result (IsFaultOf source.now) }
 {
-    let tokens = lexemes_of(alloc, source)?;
-    judge(alloc, source, &tokens)?;
-    let program = program_of(alloc, source, &tokens)?;
+    let program = derived_program(alloc, source)?;
     match check_scope(alloc, source, program) {
         Ok(checked) => Ok(checked.program),
         Err(ScopeFault::NoMemory) => Err(SourceFault::NoMemory),
