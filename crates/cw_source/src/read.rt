@@ -1,6 +1,6 @@
 //! Sources read.
 
-ghost use Rattle.std.specs.Prelude.{◌≡◌, ◌≤◌, length, slice_get, IfErr, IfOk, ¬_};
+ghost use Rattle.std.specs.Prelude.{◌≡◌, ◌≤◌, length, slice_get, IfErr, IfOk};
 ghost use Rattle.cw_syntax.specs.Trees.{File, file_of};
 ghost use Rattle.cw_lex.specs.Tokens.{AreTokens};
 ghost use Rattle.cw_grammar.specs.Files.{IsProgram};
