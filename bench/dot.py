@@ -11,6 +11,7 @@ import sys
 from collections import namedtuple
 
 Point = namedtuple("Point", "number function kind successors")
+Form = namedtuple("Form", "head box point box_end edge tail")
 
 
 def read_graph(lines):
@@ -37,33 +38,39 @@ def edges(entries, points):
             yield point.number, entries[point.kind[len("call "):]], "", True
 
 
-def dot(entries, points):
-    yield "digraph points {"
-    yield '  node [shape=box, fontname="monospace"];'
-    for index, (name, own) in enumerate(points.items()):
-        yield f'  subgraph cluster_{index} {{'
-        yield f'    label="{name}";'
-        for point in own:
-            yield f'    {point.number} [label="{point.number} {point.kind}"];'
-        yield "  }"
-    for own in points.values():
-        for begin, end, label, call in edges(entries, own):
-            style = " [style=dashed]" if call else f' [label="{label}"]' if label else ""
-            yield f"  {begin} -> {end}{style};"
-    yield "}"
+def dot_edge(begin, end, label, call):
+    style = " [style=dashed]" if call else f' [label="{label}"]' if label else ""
+    return f"  {begin} -> {end}{style};"
 
 
-def mermaid(entries, points):
-    yield "flowchart TD"
+def mermaid_edge(begin, end, label, call):
+    arrow = "-.->" if call else f"-->|{label}|" if label else "-->"
+    return f"  p{begin} {arrow} p{end}"
+
+
+# What stands before all, at the begin of a function's box, for a point, at a box's end, for an edge, and behind all.
+DOT = Form(
+    'digraph points {\n  node [shape=box, fontname="monospace"];',
+    '  subgraph cluster_{index} {{\n    label="{name}";',
+    '    {number} [label="{number} {kind}"];',
+    "  }",
+    dot_edge,
+    ["}"],
+)
+MERMAID = Form("flowchart TD", '  subgraph f{index}["{name}"]', '    p{number}["{number} {kind}"]', "  end", mermaid_edge, [])
+
+
+def drawn(form, entries, points):
+    yield form.head
     for index, (name, own) in enumerate(points.items()):
-        yield f'  subgraph f{index}["{name}"]'
+        yield form.box.format(index=index, name=name)
         for point in own:
-            yield f'    p{point.number}["{point.number} {point.kind}"]'
-        yield "  end"
+            yield form.point.format(number=point.number, kind=point.kind)
+        yield form.box_end
     for own in points.values():
-        for begin, end, label, call in edges(entries, own):
-            arrow = "-.->" if call else f"-->|{label}|" if label else "-->"
-            yield f"  p{begin} {arrow} p{end}"
+        for edge in edges(entries, own):
+            yield form.edge(*edge)
+    yield from form.tail
 
 
 def main():
@@ -72,8 +79,8 @@ def main():
     lines = sys.stdin.read().splitlines()
     if not lines or not lines[0].startswith("points "):
         sys.exit("dot.py: standard input isn't what `graph SOURCE` prints")
-    draw = mermaid if sys.argv[1:] else dot
-    print("\n".join(draw(*read_graph(lines))))
+    form = MERMAID if sys.argv[1:] else DOT
+    print("\n".join(drawn(form, *read_graph(lines))))
 
 
 if __name__ == "__main__":
