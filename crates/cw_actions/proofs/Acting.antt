@@ -3,25 +3,15 @@ use Rattle.std.proofs.Common.{◌≡◌, ◌≢◌, ℕ, zero, suc, List, [], �
 use Rattle.cw_syntax.specs.declared.program.Name.{Name}
 use Rattle.cw_syntax.specs.declared.program.Op.{Op}
 use Rattle.cw_syntax.specs.declared.program.Op.TheVariants.{Name as NameOp, Number, Call as CallOp, Assign}
-use Rattle.cw_syntax.specs.declared.program.Expr.{Expr, out-Expr, Row_of-Expr, end_of-Expr, more_of-Expr, items-the_row-Expr, is-Expr', items_hidden-the_row-Expr-0}
-use Rattle.cw_syntax.specs.declared.program.Expr.TheBlock.{hidden-the_row-Expr-0}
+use Rattle.cw_syntax.specs.declared.program.Expr.{Expr, out-Expr}
 use Rattle.std.specs.Fmt.{decimal}
 use Rattle.cw_syntax.specs.Names.{slice, text, number_in}
-use Rattle.cw_syntax.specs.Trees.{Tree, Node, Trees, none, more, tree_of, row_trees, trees_of}
+use Rattle.cw_syntax.specs.Trees.{Tree, Node, Trees, none, more, tree_of, trees_of}
 use Rattle.cw_syntax.specs.Plans.{Scene, Action, Computes, Opens, Closes, Invokes, action_of, call_action, assigned_action, descriptor_of, closed_by}
 use Rattle.cw_actions.specs.declared.actions.Act.{Act}
 use Rattle.cw_actions.specs.declared.actions.Act.TheVariants.{Computes as ComputesAct, Opens as OpensAct, Closes as ClosesAct, Invokes as InvokesAct}
+use Rattle.cw_syntax.proofs.Shapes.{node_is}
 use Rattle.cw_actions.specs.Acts.{act_of}
-
-row_is : (n : _) (row : Row_of-Expr n) → row_trees row ≡ trees_of (items-the_row-Expr n row)
-row_is n end_of-Expr = refl
-row_is n (more_of-Expr e rest) = ap (more (tree_of e)) (row_is _ rest)
-
--- an expression's tree, by what its fields hold
-pub node_is : (e : Expr) → tree_of e ≡ Node (out-Expr e).op (trees_of (out-Expr e).parts.items) (out-Expr e).from (out-Expr e).to
-node_is e =
-    let o = out-Expr e in
-    ap tree_of (is-Expr' e) ∙ ap (λ ts. Node o.op ts o.from o.to) (row_is _ (hidden-the_row-Expr-0 o.parts) ∙ ap trees_of (items_hidden-the_row-Expr-0 o.parts))
 
 module _ (s : Scene) where
   pub names_one : (op : Op) (ts : Trees) (a b : ℕ) → op ≡ NameOp → descriptor_of s (Node op ts a b) ≡ number_in s.names.descriptors (slice s.source a b)
@@ -58,18 +48,21 @@ module _ (s : Scene) where
   other_first (CallOp f) qs c d rest a b h = refl
   other_first _ qs c d rest a b h = refl
 
-  other_second : (qs : Trees) (c d : ℕ) (op : Op) (rs : Trees) (e f : ℕ) (a b : ℕ) → ((g : Name) → op ≢ CallOp g) → action_of s (Node (Assign 0) (more (Node NameOp qs c d) (more (Node op rs e f) none)) a b) ≡ Computes
+  other_second : (qs : Trees) (c d : ℕ) (op : Op) (rs : Trees) (e f : ℕ) (a b : ℕ) → ((g : Name) → op ≢ CallOp g)
+      → action_of s (Node (Assign 0) (more (Node NameOp qs c d) (more (Node op rs e f) none)) a b) ≡ Computes
   other_second qs c d (CallOp g) rs e f a b h = absurd (h g refl)
   other_second qs c d _ rs e f a b h = refl
 
   pub first_is_other : (t : Tree) (op : Op) (qs : Trees) (c d : ℕ) (rest : Trees) (a b : ℕ) → t ≡ Node op qs c d → (op ≢ NameOp) → action_of s (Node (Assign 0) (more t rest) a b) ≡ Computes
   first_is_other t op qs c d rest a b e h = ap (λ u. action_of s (Node (Assign 0) (more u rest) a b)) e ∙ other_first op qs c d rest a b h
 
-  pub second_is_other : (t u : Tree) (op op' : Op) (qs rs : Trees) (c d e f : ℕ) (a b : ℕ) → t ≡ Node op qs c d → u ≡ Node op' rs e f → op ≡ NameOp → ((g : Name) → op' ≢ CallOp g) → action_of s (Node (Assign 0) (more t (more u none)) a b) ≡ Computes
+  pub second_is_other : (t u : Tree) (op op' : Op) (qs rs : Trees) (c d e f : ℕ) (a b : ℕ) → t ≡ Node op qs c d → u ≡ Node op' rs e f → op ≡ NameOp → ((g : Name) → op' ≢ CallOp g)
+      → action_of s (Node (Assign 0) (more t (more u none)) a b) ≡ Computes
   second_is_other t u op op' qs rs c d e f a b p q o h =
       ap₂ (λ x y. action_of s (Node (Assign 0) (more x (more y none)) a b)) (p ∙ ap (λ o. Node o qs c d) o) q ∙ other_second qs c d op' rs e f a b h
 
-  pub assigns : (t u : Tree) (op op' : Op) (qs rs : Trees) (c d e f : ℕ) (a b : ℕ) (g : Name) → t ≡ Node op qs c d → u ≡ Node op' rs e f → op ≡ NameOp → op' ≡ CallOp g → action_of s (Node (Assign 0) (more t (more u none)) a b) ≡ assigned_action s (record { from = c; to = d }) (text s.source g) (number_in s.functions (text s.source g))
+  pub assigns : (t u : Tree) (op op' : Op) (qs rs : Trees) (c d e f : ℕ) (a b : ℕ) (g : Name) → t ≡ Node op qs c d → u ≡ Node op' rs e f → op ≡ NameOp → op' ≡ CallOp g
+      → action_of s (Node (Assign 0) (more t (more u none)) a b) ≡ assigned_action s (record { from = c; to = d }) (text s.source g) (number_in s.functions (text s.source g))
   assigns t u op op' qs rs c d e f a b g p q o o' =
       ap₂ (λ x y. action_of s (Node (Assign 0) (more x (more y none)) a b)) (p ∙ ap (λ o. Node o qs c d) o) (q ∙ ap (λ o. Node o rs e f) o')
 
@@ -77,7 +70,8 @@ module _ (s : Scene) where
   one_part NameOp qs c d a b = refl
   one_part _ qs c d a b = refl
 
-  three_parts : (op op' : Op) (qs rs : Trees) (c d e f : ℕ) (v : Tree) (rest : Trees) (a b : ℕ) → action_of s (Node (Assign 0) (more (Node op qs c d) (more (Node op' rs e f) (more v rest))) a b) ≡ Computes
+  three_parts : (op op' : Op) (qs rs : Trees) (c d e f : ℕ) (v : Tree) (rest : Trees) (a b : ℕ)
+      → action_of s (Node (Assign 0) (more (Node op qs c d) (more (Node op' rs e f) (more v rest))) a b) ≡ Computes
   three_parts NameOp (CallOp g) qs rs c d e f v rest a b = refl
   three_parts NameOp _ qs rs c d e f v rest a b = refl
   three_parts _ op' qs rs c d e f v rest a b = refl
@@ -88,7 +82,8 @@ module _ (s : Scene) where
   not_two (e ∷ (f ∷ [])) a b h = absurd (h refl)
   not_two (e ∷ (f ∷ (g ∷ es))) a b h =
       ap₂ (λ t u. action_of s (Node (Assign 0) (more t (more u (more (tree_of g) (trees_of es)))) a b)) (node_is e) (node_is f)
-      ∙ three_parts (out-Expr e).op (out-Expr f).op (trees_of (out-Expr e).parts.items) (trees_of (out-Expr f).parts.items) (out-Expr e).from (out-Expr e).to (out-Expr f).from (out-Expr f).to (tree_of g) (trees_of es) a b
+      ∙ three_parts (out-Expr e).op (out-Expr f).op (trees_of (out-Expr e).parts.items) (trees_of (out-Expr f).parts.items) (out-Expr e).from (out-Expr e).to (out-Expr f).from (out-Expr f).to
+      (tree_of g) (trees_of es) a b
 
   -- two parts that were read one by one
   two_trees : (es : List Expr) (x y : Expr) → length es ≡ 2 → x ≡ get_or es 0 x → y ≡ get_or es 1 y → trees_of es ≡ more (tree_of x) (more (tree_of y) none)
@@ -97,7 +92,8 @@ module _ (s : Scene) where
   two_trees (u ∷ (v ∷ [])) x y l e f = ap₂ (λ a b. more (tree_of a) (more (tree_of b) none)) (sym e) (sym f)
   two_trees (u ∷ (v ∷ (w ∷ es))) x y l e f = absurd (cc)
 
-  pub two_parts : (es : List Expr) (x y : Expr) (a b : ℕ) → length es ≡ 2 → x ≡ get_or es 0 x → y ≡ get_or es 1 y → action_of s (Node (Assign 0) (trees_of es) a b) ≡ action_of s (Node (Assign 0) (more (tree_of x) (more (tree_of y) none)) a b)
+  pub two_parts : (es : List Expr) (x y : Expr) (a b : ℕ) → length es ≡ 2 → x ≡ get_or es 0 x → y ≡ get_or es 1 y
+      → action_of s (Node (Assign 0) (trees_of es) a b) ≡ action_of s (Node (Assign 0) (more (tree_of x) (more (tree_of y) none)) a b)
   two_parts es x y a b l e f = ap (λ t. action_of s (Node (Assign 0) t a b)) (two_trees es x y l e f)
 
 -- the action that an act stands for

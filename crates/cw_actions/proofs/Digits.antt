@@ -29,7 +29,8 @@ all_more p (x ∷ ds) d h k = by (p x) refl (λ z. all_more p ds d z k)
     by false e r = let z : false ≡ true = rw e at h in absurd (cc)
 
 all_digits : (n : ℕ) → n < 2 ^ 64 → list_all is_ascii_digit (decimal n) ≡ true
-all_digits n small = decimal_by_steps (λ n ds. list_all is_ascii_digit ds ≡ true) (λ n l. rw (digit_test n l) refl) (λ n ds l h. let m : n % 10 < 10 = omega arith in all_more is_ascii_digit ds (48 + n % 10) h (digit_test (n % 10) m)) n small
+all_digits n small = decimal_by_steps (λ n ds. list_all is_ascii_digit ds ≡ true) (λ n l. rw (digit_test n l) refl)
+    (λ n ds l h. let m : n % 10 < 10 = omega arith in all_more is_ascii_digit ds (48 + n % 10) h (digit_test (n % 10) m)) n small
 
 while_all : (p : ℕ → Bool) (xs : List ℕ) → list_all p xs ≡ true → take_while p xs ≡ xs
 while_all p [] h = refl

@@ -1,28 +1,16 @@
--- The forms of blocks and of `for` loops, by the statements that they hold; and their steps.
+-- The steps of blocks and of `for` loops, by the statements that they hold.
 use Rattle.std.proofs.Common.{◌≡◌, ℕ, Vec, Box, Option, Some, None, Global, refl, ap, ap₂, ◌∙◌}
 use Rattle.std.specs.Prelude.{option_map, is_some}
 use denote.Hole.Carrier
-use mathlib.Core.Former.{Count}
 use Rattle.cw_syntax.specs.declared.program.Expr.{Expr}
 use Rattle.cw_syntax.specs.declared.program.Stmt.{Stmt}
-use Rattle.cw_syntax.specs.declared.program.What.{What, Block', Row_of-Stmt, end_of-Stmt, more_of-Stmt, items-the_row-Stmt, items_hidden-the_row-Stmt-0}
+use Rattle.cw_syntax.specs.declared.program.What.{What}
 use Rattle.cw_syntax.specs.declared.program.Head.{Head, Head', out-Head, Head-init-None', Head-init-Some'}
 use Rattle.cw_syntax.specs.declared.program.What.TheVariants.{Block, For as ForWhat}
-use Rattle.cw_syntax.specs.Trees.{Statement, Block as BlockForm, form_of, for_of, tree_of, row_statements, statement_of, statements_of, Stated, cons}
+use Rattle.cw_syntax.specs.Trees.{Statement, form_of, for_of, tree_of, statement_of}
 use Rattle.cw_syntax.specs.Plans.{Stm, Group, For, Scene, steps_of, steps_of_form}
+use Rattle.cw_syntax.proofs.Shapes.{block_form}
 use Rattle.cw_actions.specs.Scenes.{stm_in, stms_in}
-
-row_is : (n : _) (row : Row_of-Stmt n) → row_statements row ≡ statements_of (items-the_row-Stmt n row)
-row_is n end_of-Stmt = refl
-row_is n (more_of-Stmt what from to rest) = ap (cons (Stated (form_of what) from to)) (row_is _ rest)
-
-abbrev row_in : What → (n : Count) × Row_of-Stmt n
-row_in (Block' shape row) = (_, row)
-row_in _ = (_, end_of-Stmt)
-
--- the form of a block
-pub block_form : (w : What) (v : Vec Stmt Global) → w ≡ Block v → form_of w ≡ BlockForm (statements_of v.items)
-block_form w v e = let q = row_in (Block v) in ap form_of e ∙ ap BlockForm (row_is q.0 q.1 ∙ ap statements_of (items_hidden-the_row-Stmt-0 v))
 
 some_tree : (e : Option Expr) → is_some (option_map tree_of e) ≡ is_some e
 some_tree None = refl

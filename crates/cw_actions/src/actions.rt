@@ -4,14 +4,15 @@ ghost use Rattle.std.specs.Prelude.{◌≡◌, ℕ, codes};
 ghost use Rattle.std.specs.Str.{bytes_eq};
 ghost use Rattle.cw_syntax.specs.Plans.{action_of, call_action, closed_by, closes_if, opens_if, assigned_action, descriptor_of};
 ghost use Rattle.cw_syntax.specs.Trees.{Node, none, more, tree_of, trees_of};
-ghost use Rattle.cw_syntax.specs.Names.{slice, number_in};
+ghost use Rattle.cw_syntax.specs.Names.{number_in};
 ghost use Rattle.cw_rights.specs.Policies.{policy_of};
 ghost use Rattle.cw_actions.specs.Scenes.{scene_in};
 ghost use Rattle.cw_actions.specs.Acts.{act_of};
 
-use crate::names::{descriptor_named, descriptor_numbered, function_named, is_split, slice, text};
+use crate::names::{descriptor_named, descriptor_numbered, function_named, is_split, text};
 use cw_rights::Policy;
 use cw_syntax::checked::Checked;
+use cw_syntax::names::slice;
 use cw_syntax::program::{Expr, Name, Op};
 
 /// What an expression statement does: an open or a close of a descriptor of the policy, the call of a defined
@@ -29,8 +30,8 @@ pub enum Act {
 }
 
 /// The number of the descriptor that an expression names: a variable by its name, a number by its value.
-fn descriptor_of(checked: &Checked, policy: &Policy, e: &Expr) -> Option<usize>
-    ensures { result ≡ descriptor_of (scene_in checked.now (policy_of policy.now)) (tree_of e.now) }
+pub fn descriptor_of(checked: &Checked, policy: &Policy, e: &Expr) -> Option<usize>
+    ensures number { result ≡ descriptor_of (scene_in checked.now (policy_of policy.now)) (tree_of e.now) }
 {
     match e.op {
         Op::Name => descriptor_named(policy, slice(checked.source, e.from, e.to)),

@@ -5,7 +5,7 @@
 mod actions;
 mod names;
 
-pub use actions::{Act, action_of};
+pub use actions::{Act, action_of, descriptor_of};
 pub use names::{
-    descriptor_named, descriptor_numbered, function_named, is_split, label_number, slice, text,
+    descriptor_named, descriptor_numbered, function_named, is_split, label_number, text,
 };

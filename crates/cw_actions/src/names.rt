@@ -3,7 +3,7 @@
 ghost use Rattle.std.specs.Prelude.{◌≡◌, map, is_some, ◌≤◌, length};
 ghost use Rattle.std.specs.Fmt.{decimal};
 ghost use Rattle.std.specs.Str.{bytes_eq};
-ghost use Rattle.cw_syntax.specs.Names.{slice, number_in, number_or_other};
+ghost use Rattle.cw_syntax.specs.Names.{text, number_in, number_or_other};
 ghost use Rattle.cw_syntax.specs.Plans.{function_names};
 ghost use Rattle.cw_syntax.specs.Trees.{file_of};
 ghost use Rattle.cw_rights.specs.Policies.{policy_of};
@@ -12,16 +12,8 @@ ghost use Rattle.cw_actions.specs.Scenes.{names_of};
 use cw_core::read_dec;
 use cw_rights::Policy;
 use cw_syntax::checked::Checked;
+use cw_syntax::names;
 use cw_syntax::program::Name;
-
-/// The bytes of the source from one place up to another, as far as the source goes.
-pub fn slice(source: &[u8], from: u32, to: u32) -> &[u8]
-    ensures bytes { result.now ≡ slice source.now from to }
-{
-    let start = source.len().min(from as usize);
-    let end = source.len().min(to as usize).max(start);
-    &source[start..end]
-}
 
 /// The number of the descriptor with this name.
 pub fn descriptor_named(policy: &Policy, name: &[u8]) -> Option<usize>
@@ -88,9 +80,9 @@ pub fn label_number(policy: &Policy, name: &[u8]) -> u16
 
 /// The bytes of a name.
 pub fn text<'s>(checked: &Checked<'s>, name: Name) -> &'s [u8]
-    ensures bytes { result.now ≡ slice checked.now.source.now name.from name.to }
+    ensures bytes { result.now ≡ text checked.now.source.now name }
 {
-    slice(checked.source, name.from, name.to)
+    names::text(checked.source, name)
 }
 
 /// The number of the defined function with this name, in the order of definition.

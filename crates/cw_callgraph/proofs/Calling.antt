@@ -1,16 +1,14 @@
 -- What the functions of a plan call, by the rows of their statements; and the tables of effects.
-use Rattle.std.proofs.Common.{◌≡◌, ◌<◌, ℕ, zero, suc, ◌+◌, List, [], ◌∷◌, ◌++◌, map, length, get_or, Vec, Global, refl, sym, length-append, ap, ap₂, ◌∙◌, subst, arith}
+use Rattle.std.proofs.Common.{◌≡◌, ℕ, zero, suc, ◌+◌, List, [], ◌∷◌, ◌++◌, map, length, get_or, Vec, Global, refl, sym, length-append, ap, ap₂, ◌∙◌, subst, arith}
 use Rattle.std.specs.Prelude.{slice_get}
-use Rattle.std.specs.List.{All, Contains}
 use Rattle.std.proofs.lemmas.Option.{none-some, same_Some}
-use Rattle.std.proofs.lemmas.List.{length-map}
 use Rattle.cw_syntax.specs.declared.program.Function.{Function}
 use Rattle.cw_syntax.specs.Trees.{definition_of}
-use Rattle.cw_syntax.specs.Plans.{Stm, Plain, Break, Continue, Return, Open, Close, Call, Group, Label, If, While, Do, For, Stms, end, then, Scene, Plan, routines_from, numbered, numbered_all, seams, seams_all}
+use Rattle.cw_syntax.specs.Plans.{Stm, Plain, Break, Continue, Return, Open, Close, Call, Group, Label, If, While, Do, For, Stms, end, then, Scene, routines_from, numbered, numbered_all, seams, seams_all}
 use Rattle.cw_actions.specs.Scenes.{stms_in}
 use Rattle.cw_callgraph.specs.declared.table.Effect.{Effect}
-use Rattle.cw_callgraph.specs.Effects.{callees, callees_all, firsts, calls_of, calls, Reaches, directly, further, Each}
-use Rattle.cw_callgraph.specs.Finding.{direct, next_in, Leads, once, again, IsReach, AreEffects, AreBelow, lists_of}
+use Rattle.cw_callgraph.specs.Effects.{callees, callees_all, firsts, calls_of, calls, Each}
+use Rattle.cw_callgraph.specs.Finding.{direct, next_in, IsReach, AreEffects, lists_of}
 
 mutual
   numbered_callees : (s : Stm) (j : ℕ) → callees (numbered s j) ≡ callees s
@@ -41,16 +39,6 @@ calls_at s (x ∷ fs) j (suc f) = calls_at s fs (j + 1 + seams_all (stms_in s x.
 pub same_calls : (s : Scene) (fs : List Function) (main : ℕ) (rows : List (Vec ℕ Global)) → lists_of rows ≡ map (direct s) fs → (h : ℕ) → next_in rows h ≡ calls (record { routines = routines_from s 0 (map definition_of fs); main = main }) h
 same_calls s fs main rows e h = ap (λ l. get_or l h []) e ∙ sym (calls_at s fs 0 h)
 
--- what a function reaches, by such rows
-module _ (plan : Plan) (next : ℕ → List ℕ) (same : (h : ℕ) → next h ≡ calls plan h) where
-  pub reached : (f g : ℕ) → Leads next f g → Reaches plan f g
-  reached f g (once i c) = directly i (subst (λ l. Contains l i) (same f) c)
-  reached f g (again h i l c) = further h i (reached f h l) (subst (λ l. Contains l i) (same h) c)
-
-  pub led : (f g : ℕ) → Reaches plan f g → Leads next f g
-  led f g (directly i c) = once i (subst (λ l. Contains l i) (sym (same f)) c)
-  led f g (further h i r c) = again h i (led f h r) (subst (λ l. Contains l i) (sym (same h)) c)
-
 -- a table with one entry more
 each_cons : {A : Type 0} (P : ℕ → A → Type 0) (x : A) (xs : List A) → P 0 x → Each (λ f y. P (suc f) y) xs → Each P (x ∷ xs)
 each_cons P x xs p h zero y e = subst (P 0) (same_Some x y e) p
@@ -70,12 +58,3 @@ effects_more rows n effects effect a c r = record {
   calls = each_more (λ f e. e.calls.items ≡ next_in rows f) effects effect n a.count a.calls c;
   reaches = each_more (λ f e. IsReach (next_in rows) f e.reaches.items) effects effect n a.count a.reaches r;
 }
-
--- a row of a table
-pub row_is : (rows : List (Vec ℕ Global)) (i : ℕ) (row : Vec ℕ Global) (l : List ℕ) → i < length rows → row ≡ get_or rows i row → l ≡ row.items → l ≡ next_in rows i
-row_is [] i row l m e f = absurd (omega arith)
-row_is (r ∷ rows) zero row l m e f = f ∙ ap (λ (v : Vec ℕ Global). v.items) e
-row_is (r ∷ rows) (suc i) row l m e f = row_is rows i row l (omega arith) e f
-
-pub row_below : (n : ℕ) (rows : List (Vec ℕ Global)) (i : ℕ) (l : List ℕ) → All (AreBelow n) (lists_of rows) → i < length rows → l ≡ next_in rows i → AreBelow n l
-row_below n rows i l a m e = subst (AreBelow n) (sym e) (a i [] (let z = length-map rows (λ (v : Vec ℕ Global). v.items) in omega arith))

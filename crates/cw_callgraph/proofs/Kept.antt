@@ -1,13 +1,11 @@
 -- Numbers that are found one after the other.
-use Rattle.std.proofs.Common.{◌≡◌, ◌≢◌, ◌<◌, ◌≤◌, ℕ, zero, suc, ◌+◌, List, [], ◌∷◌, ◌++◌, Bool, true, false, cond, not, ◌||◌, ◌&&◌, nat_eq, eqb-true, eq-eqb, length, get_or, set, replicate, nat_lt, refl, sym, ap, ap₂, ◌∙◌, subst, arith, append_assoc}
+use Rattle.std.proofs.Common.{◌≡◌, ◌≢◌, ◌<◌, ◌≤◌, ℕ, zero, suc, List, [], ◌∷◌, ◌++◌, Bool, true, false, cond, not, ◌||◌, ◌&&◌, nat_eq, eqb-true, eq-eqb, length, get_or, set, replicate, nat_lt, refl, sym, ap, ap₂, ◌∙◌, subst, append_assoc}
 use Rattle.std.specs.Prelude.{Result, Ok, Err}
 use Rattle.std.specs.Result.{IfOk}
 use Rattle.std.specs.List.{filter, Contains, IsDistinct}
-use Rattle.std.proofs.lemmas.List.{append-nil, map-id, get_or-set_same, get_or-set_other, get_or_past, length-set}
+use Rattle.std.proofs.lemmas.List.{append-nil, get_or-set_same, get_or-set_other, get_or_past, length-set}
 use Rattle.std.proofs.lemmas.Bool.{ltb-true, ltb-false}
-use Rattle.std.proofs.lemmas.List.FromFn.{filter_of_map_range_with_len_more}
 use Rattle.std.proofs.lemmas.List.Folds.{list_any-append, list_any_at}
-use Rattle.std.specs.List.{range_with_len}
 use Rattle.std.proofs.lemmas.Map.Views.{Contains-from_any, list_any-from_Contains}
 use Rattle.std.proofs.lemmas.Map.Keys.{IsDistinct-push}
 use Rattle.std.proofs.lemmas.Cmp.{nat_eq_equiv}
@@ -214,10 +212,3 @@ found_below found s g h = by (nat_lt g (length found.marks.items)) refl
         let z : get_or found.marks.items g false ≡ false = get_or_past found.marks.items g false k in
         let y : false ≡ true = sym z ∙ s.marked g ∙ h in
         absurd (cc)
-
-pub marked_more : (p : ℕ → Bool) (n : ℕ) → filter p (range_with_len 0 (n + 1)) ≡ filter p (range_with_len 0 n) ++ cond (p n) (n ∷ []) []
-marked_more p n =
-    let z : 0 + n ≡ n = omega arith in
-    sym (ap (filter p) (map-id (range_with_len 0 (n + 1))))
-    ∙ filter_of_map_range_with_len_more p (λ x. x) 0 n n z
-    ∙ ap (λ l. filter p l ++ cond (p n) (n ∷ []) []) (map-id (range_with_len 0 n))

@@ -1,4 +1,5 @@
 -- The proofs.
 pub mod Kept
-pub mod Passing
 pub mod Calling
+mod Reaching
+pub mod Rows

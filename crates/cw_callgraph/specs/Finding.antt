@@ -1,7 +1,9 @@
--- Numbers that are found one after the other, each kept once; and what is found along the rows of a table.
-use Rattle.std.specs.Prelude.{◌≡◌, ◌<◌, ◌≤◌, ◌==◌, ℕ, List, [], ◌∷◌, ◌++◌, Bool, true, false, cond, length, map, Vec, slice_index_or}
+-- Working definitions: numbers that are found one after the other, each kept once; and what is reached along the rows of a
+-- table.
+use Rattle.std.specs.Prelude.{◌≡◌, ◌<◌, ◌==◌, ℕ, List, [], ◌∷◌, ◌++◌, Bool, true, false, cond, length, map, Vec, slice_index_or}
 use Rattle.std.specs.List.{Contains, list_any, IsDistinct}
-use Rattle.std.specs.List.Sorted.{IsStrictlyIncreasing}
+use Rattle.std.specs.Ordering.{nat_cmp}
+use Rattle.cw_closure.specs.Closures.{Exactly, Reached}
 use Rattle.std.specs.declared.alloc.Global.{Global}
 use Rattle.cw_syntax.specs.declared.program.Function.{Function}
 use Rattle.cw_syntax.specs.Plans.{Scene}
@@ -41,23 +43,13 @@ lists_of rows = map (λ row. row.items) rows
 abbrev pub next_in : List (Vec ℕ Global) → ℕ → List ℕ
 next_in rows f = slice_index_or (lists_of rows) f []
 
--- what is in the row of f, and in the rows of what is found
-pub data Leads (next : ℕ → List ℕ) (f : ℕ) : ℕ → Type 0 where
-  once : (g : ℕ) → Contains (next f) g → Leads next f g
-  again : (h g : ℕ) → Leads next f h → Contains (next h) g → Leads next f g
+-- f has a row, and every row has numbers of rows alone
+abbrev pub IsRow : List (Vec ℕ Global) → ℕ → Type 0
+IsRow rows f = (f < length rows) × ((h g : ℕ) → Contains (next_in rows h) g → g < length rows)
 
--- Of what is found from f on, the rows of the first n numbers were passed.
-pub record IsPassed (next : ℕ → List ℕ) (f n : ℕ) (found : List ℕ) : Type 0 where
-  pub leads : (g : ℕ) → has found g ≡ true → Leads next f g
-  pub begun : (g : ℕ) → has (next f) g ≡ true → has found g ≡ true
-  pub passed : (k g : ℕ) → k < n → has (next (slice_index_or found k 0)) g ≡ true → has found g ≡ true
-  pub within : n ≤ length found
-
--- strictly ascending, and just what f leads to
-pub record IsReach (next : ℕ → List ℕ) (f : ℕ) (reach : List ℕ) : Type 0 where
-  pub ascends : IsStrictlyIncreasing reach
-  pub led : (g : ℕ) → Contains reach g → Leads next f g
-  pub leads : (g : ℕ) → Leads next f g → Contains reach g
+-- ascending, each once, and just what f leads to
+abbrev pub IsReach : (ℕ → List ℕ) → ℕ → List ℕ → Type 0
+IsReach next f reach = Exactly nat_cmp (Reached next (next f)) reach
 
 -- what a function calls, by its statements
 abbrev pub direct : Scene → Function → List ℕ

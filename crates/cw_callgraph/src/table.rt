@@ -9,7 +9,7 @@ ghost use Rattle.cw_callgraph.specs.Effects.{calls, Reaches, Each};
 ghost use Rattle.cw_callgraph.specs.Finding.{AreBelow, lists_of, next_in, IsReach, AreEffects};
 
 use crate::callees::all_calls;
-use crate::reach::reach;
+use crate::reach::{Calls, reach};
 use cw_core::NoMemory;
 use cw_rights::Policy;
 use cw_syntax::checked::Checked;
@@ -38,27 +38,25 @@ fn copied(alloc: Global, numbers: &[u16]) -> Result<Vec<u16>, NoMemory>
 }
 
 /// The effect of one function, by what each function calls.
-fn effect_of(alloc: Global, rows: &[Vec<u16>], function: usize) -> Result<Effect, NoMemory>
-    requires few { length rows.now ≤ 65535 }
-    requires within { function < length rows.now }
-    requires below { All (AreBelow (length rows.now)) (lists_of rows.now) }
-    ensures calls { IfOk result (λ effect. effect.calls.items ≡ next_in rows.now function) }
-    ensures reaches { IfOk result (λ effect. IsReach (next_in rows.now) function effect.reaches.items) }
+fn effect_of(alloc: Global, table: &Calls, function: usize) -> Result<Effect, NoMemory>
+    requires within { function < length table.now.rows.items }
+    requires below { All (AreBelow (length table.now.rows.items)) (lists_of table.now.rows.items) }
+    ensures calls { IfOk result (λ effect. effect.calls.items ≡ next_in table.now.rows.items function) }
+    ensures reaches { IfOk result (λ effect. IsReach (next_in table.now.rows.items) function effect.reaches.items) }
 {
-    let reaches = reach(alloc, rows, function)?;
-    let calls = copied(alloc, &rows[function])?;
+    let reaches = reach(alloc, table, function)?;
+    let calls = copied(alloc, &table.rows[function])?;
     Ok(Effect { calls, reaches })
 }
 
 /// The effects of all functions, by what each function calls.
-fn effects_of(alloc: Global, rows: &[Vec<u16>]) -> Result<Vec<Effect>, NoMemory>
-    requires few { length rows.now ≤ 65535 }
-    requires below { All (AreBelow (length rows.now)) (lists_of rows.now) }
-    ensures { IfOk result (λ effects. AreEffects rows.now (length rows.now) effects.items) }
+fn effects_of(alloc: Global, table: &Calls) -> Result<Vec<Effect>, NoMemory>
+    requires below { All (AreBelow (length table.now.rows.items)) (lists_of table.now.rows.items) }
+    ensures { IfOk result (λ effects. AreEffects table.now.rows.items (length table.now.rows.items) effects.items) }
 {
     let mut effects = Vec::new(alloc);
-    for function in 0..rows.len() {
-        effects.push(effect_of(alloc, rows, function)?)?;
+    for function in 0..table.rows.len() {
+        effects.push(effect_of(alloc, table, function)?)?;
     }
     Ok(effects)
 }
@@ -74,7 +72,8 @@ pub fn effects(alloc: Global, checked: &Checked, policy: &Policy) -> Result<Effe
     ensures reaches { IfOk result (λ table. Each (λ f effect. (g : ℕ) → Contains effect.reaches.items g ↔ Reaches (plan_in checked.now (policy_of policy.now)) f g) table.of.items) }
 {
     let rows = all_calls(alloc, checked, policy)?;
+    let table = Calls { rows };
     Ok(EffectTable {
-        of: effects_of(alloc, &rows)?,
+        of: effects_of(alloc, &table)?,
     })
 }

@@ -32,6 +32,9 @@ fn plain(alloc: Global) -> Policy {
         split: Vec::new(alloc),
         labels: Vec::new(alloc),
         rules: Vec::new(alloc),
+        stop: false,
+        format: 1,
+        detached: Vec::new(alloc),
     }
 }
 

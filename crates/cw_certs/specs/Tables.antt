@@ -1,7 +1,6 @@
 -- The table of a woven program. It tells, by seam and by the number of what the program remembers, what is tried and
 -- what is remembered next.
-use Rattle.std.specs.Prelude.{◌≡◌, ℕ, List, [], ◌∷◌, Bool, true, false, cond, ◌&&◌, Option, Some, None, option_map, find, nat_eq, slice_get}
-use Rattle.cw_core.specs.declared.ids.SeamId.{SeamId}
+use Rattle.std.specs.Prelude.{ℕ, List, Bool, true, false, ◌&&◌, Option, option_map, find, nat_eq, slice_get}
 use Rattle.cw_core.specs.declared.ids.StateId.{StateId}
 use Rattle.cw_core.specs.declared.ids.MemId.{MemId}
 use Rattle.cw_core.specs.declared.ids.PosId.{PosId}
@@ -10,7 +9,6 @@ use Rattle.cw_certs.specs.declared.rows.AtRow.{AtRow}
 use Rattle.cw_certs.specs.declared.rows.OpenRow.{OpenRow}
 use Rattle.cw_certs.specs.declared.rows.IntoRow.{IntoRow}
 use Rattle.cw_certs.specs.declared.rows.BackRow.{BackRow}
-use Rattle.cw_certs.specs.declared.table.WeaverCert.{WeaverCert}
 
 -- `mems` has the state and the promise of each memory, by its number. A promise is the set of the states in which the function may end.
 -- `live` has the positions and memories that a run may come to.
@@ -26,19 +24,19 @@ pub record Table : Type 0 where
   pub into : List IntoRow
   pub back : List BackRow
 
--- what the program's data stand for
-abbrev pub table_of : WeaverCert → Table
-table_of c = record {
-  states = c.states;
-  start = c.start;
-  mems = c.mems.items;
-  live = c.live.items;
-  tries = c.tries.items;
-  ats = c.ats.items;
-  opened = c.opened.items;
-  closed = c.closed.items;
-  into = c.into.items;
-  back = c.back.items;
+-- the table of these lists
+abbrev pub table_with : ℕ → MemId → List (StateId × ℕ) → List (PosId × MemId) → List TryRow → List AtRow → List OpenRow → List AtRow → List IntoRow → List BackRow → Table
+table_with states start mems live tries ats opened closed into back = record {
+  states = states;
+  start = start;
+  mems = mems;
+  live = live;
+  tries = tries;
+  ats = ats;
+  opened = opened;
+  closed = closed;
+  into = into;
+  back = back;
 }
 
 abbrev pub same : Bool → Bool → Bool

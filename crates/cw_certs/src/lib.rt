@@ -2,6 +2,7 @@
 #![tactic(auto)]
 
 mod moves;
+mod order;
 mod rows;
 mod strategy;
 mod table;

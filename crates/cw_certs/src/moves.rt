@@ -1,6 +1,6 @@
 //! The moves of both parties.
 
-/// One move: the weaver's first two, and the environment's.
+/// One move: the weaver's first two and its last, and the environment's.
 #[derive(Clone, Copy, Drop, Debug, PartialEq, Eq)]
 pub enum Move {
     /// The weaver passes a primitive by.
@@ -21,4 +21,6 @@ pub enum Move {
     Opened,
     /// An open gives none.
     Failed,
+    /// The weaver ends the program, right after a refusal.
+    Stop,
 }

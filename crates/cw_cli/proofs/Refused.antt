@@ -1,5 +1,5 @@
 -- A broken rule of the descriptors is due as a refusal of the source.
-use Rattle.std.proofs.Common.{◌≡◌, ◌≢◌, ◌⊎◌, ℕ, List, Result, Ok, Err, Option, Some, ⊎_elim, inr}
+use Rattle.std.proofs.Common.{◌≡◌, ◌≢◌, ℕ, List, Result, Ok, Err, Some, ⊎_elim, inr}
 use Rattle.std.specs.Prelude.{IfOk}
 use Rattle.cw_rights.specs.Policies.{PlainPolicy}
 use Rattle.cw_syntax.specs.Trees.{File}

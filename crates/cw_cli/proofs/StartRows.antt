@@ -4,7 +4,7 @@ use Rattle.std.specs.Prelude.{slice_get}
 use Rattle.std.proofs.lemmas.Bool.{false≢true}
 use Rattle.std.proofs.lemmas.Option.{none-some, same_Some}
 use Rattle.cw_certs.specs.Strategies.{Row, Strategy}
-use Rattle.cw_game.specs.Conditions.{IsAt}
+use Rattle.cw_game.specs.Pairs.{IsAt}
 
 below_or : (i k : ℕ) → i < suc k → (i < k) ⊎ (i ≡ k)
 below_or zero zero lt = inr refl

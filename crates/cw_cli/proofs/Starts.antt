@@ -13,14 +13,15 @@ use Rattle.cw_game.specs.declared.ambient.Node.{Node}
 use Rattle.cw_game.specs.Ambient.{IsAmbient, AmbientMeans, ambient_game, numbering_of, start_of}
 use Rattle.cw_game.specs.Games.{Game}
 use Rattle.cw_game.specs.Places.{HasRoutines, IsLaidOut}
-use Rattle.cw_game.specs.Conditions.{is_closed_table, IsAt, IsClosedStrategy}
+use Rattle.cw_game.specs.Pairs.{IsAt}
+use Rattle.cw_game.specs.Closed.{is_closed_table, IsClosedStrategy}
 use Rattle.cw_game.proofs.Ambients.{ambient_are_states}
 use Rattle.cw_game.proofs.Reached.{are_reached}
 use Rattle.cw_game.specs.Necessity.{TriesOnlyLost}
 use Rattle.cw_wcheck.proofs.Lazies.{lazy}
 use Rattle.cw_wcheck.proofs.Sounds.{sound}
 use Rattle.cw_echeck.proofs.Wins.{closed_beats}
-use Rattle.cw_echeck.specs.Beating.{IsGameOf}
+use Rattle.cw_game.specs.Standing.{IsGameOf}
 use Rattle.cw_cli.specs.Verdicts.{BeatsFromStart}
 use Rattle.cw_cli.proofs.StartRows.{first_row}
 
@@ -41,4 +42,4 @@ module _ (policy : PlainPolicy) (source : List ℕ) (file : File) (tests : List 
   pub strategy_beats : (s : Strategy) → HasRoutines (plan_of (names_of policy) source file) game → IsClosedStrategy game s → (row : ℕ) × IsAt s row (entry main) (start_of (numbering_of tests nodes)) 0 → BeatsFromStart (problem_of policy source file) s
   strategy_beats s has closed some =
       let first = first_row s (entry main) (start_of (numbering_of tests nodes)) 0 some.0 some.1 in
-      (game, first.0, is_game has, first.1, closed_beats (AmbientMeans policy (numbering_of tests nodes)) game (problem_of policy source file) refl (ambient_are_states policy tests nodes ambient) laid has s first.0 closed first.1.0)
+      (game, first.0, is_game has, first.1, closed_beats (problem_of policy source file) game (is_game has) s first.0 closed first.1.0)

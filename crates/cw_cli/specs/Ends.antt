@@ -1,5 +1,7 @@
 -- How a run over the names of a policy and of a source, or of a source alone, ends, and what it leaves.
 use Rattle.std.specs.Prelude.{◌≡◌, ◌⊎◌, ℕ, ◌≤◌, List, Option, Ok, Err, length, take}
+use Rattle.cw_core.specs.declared.quantity.Quantity.TheVariants.{PolicyBytes, SourceBytes}
+use Rattle.cw_core.specs.Quantities.{limit_of}
 use Rattle.cw_io.specs.Causes.{Rose}
 use Rattle.cw_io.specs.declared.fault.ReadFault.TheVariants.{TooLong}
 use Rattle.cw_io.specs.Files.{FilesByName, IsAnswer}
@@ -37,18 +39,18 @@ IsLonger files name max = IsAnswer files name max (Err TooLong)
 
 -- a policy of at most 65,536 bytes, and a source of at most 262,144
 abbrev pub HasPolicy : Option FilesByName → List ℕ → List ℕ → Type 0
-HasPolicy files policy bytes = HasBytes files policy 65536 bytes
+HasPolicy files policy bytes = HasBytes files policy (limit_of PolicyBytes) bytes
 
 abbrev pub HasSource : Option FilesByName → List ℕ → List ℕ → Type 0
-HasSource files source bytes = HasBytes files source 262144 bytes
+HasSource files source bytes = HasBytes files source (limit_of SourceBytes) bytes
 
 -- The policy is read first and then the source: why the two weren't read, by the shelf's files and its counts before
 -- and after. Want of memory may stand in place of any other ending.
 abbrev pub Unread : Option FilesByName → (List ℕ → ℕ) → (List ℕ → ℕ) → List ℕ → List ℕ → Ending → Type 0
-Unread files counts counts' policy source PolicyTooLong = IsLonger files policy 65536
+Unread files counts counts' policy source PolicyTooLong = IsLonger files policy (limit_of PolicyBytes)
 Unread files counts counts' policy source PolicyUnread = Rose (counts policy) (counts' policy)
 Unread files counts counts' policy source SourceTooLong =
-    ((p : List ℕ) × HasPolicy files policy p) × IsLonger files source 262144
+    ((p : List ℕ) × HasPolicy files policy p) × IsLonger files source (limit_of SourceBytes)
 Unread files counts counts' policy source SourceUnread =
     ((p : List ℕ) × HasPolicy files policy p) × Rose (counts source) (counts' source)
 Unread files counts counts' policy source Memory = Unit {0}
@@ -56,7 +58,7 @@ Unread files counts counts' policy source _ = ⊥
 
 -- the same where a source alone is read
 abbrev pub UnreadSource : Option FilesByName → (List ℕ → ℕ) → (List ℕ → ℕ) → List ℕ → Ending → Type 0
-UnreadSource files counts counts' source SourceTooLong = IsLonger files source 262144
+UnreadSource files counts counts' source SourceTooLong = IsLonger files source (limit_of SourceBytes)
 UnreadSource files counts counts' source SourceUnread = Rose (counts source) (counts' source)
 UnreadSource files counts counts' source Memory = Unit {0}
 UnreadSource files counts counts' source _ = ⊥

@@ -1,5 +1,5 @@
 -- The one line on the note, with its line feed.
-use Rattle.std.specs.Prelude.{◌≡◌, ℕ, List, [], ◌∷◌, ◌++◌, Bool, true, false, Option, Some, None, codes, Result}
+use Rattle.std.specs.Prelude.{◌≡◌, ℕ, List, [], ◌∷◌, ◌++◌, Option, Some, None, codes, Result}
 use Rattle.cw_io.specs.Pieces.{Puts}
 use Rattle.cw_cli.specs.declared.ending.Ending.{Ending}
 use Rattle.cw_cli.specs.declared.ending.Ending.TheVariants.{Woven, Refuted, Listed, PolicyRefused, PolicyOverLimit, SourceRefused, SourceOverLimit, SourceNotYet, PolicyNotYet, NoLabel, PolicyTooLong, SourceTooLong, PolicyUnread, SourceUnread, Unwritten, Memory}

@@ -1,7 +1,7 @@
 -- What is due for the bytes of a source whose graph is asked for.
 use Rattle.std.specs.Prelude.{◌≡◌, ◌⊎◌, ℕ, ◌<◌, List, [], ◌++◌, true, false, length, codes, map}
 use Rattle.std.specs.List.{range_with_len}
-use Rattle.cw_core.specs.Quantities.{name_of}
+use Rattle.cw_core.specs.Quantities.{limit_of, name_of}
 use Rattle.cw_core.specs.declared.quantity.Quantity.TheVariants.{Points}
 use Rattle.cw_syntax.specs.Names.{Names}
 use Rattle.cw_syntax.specs.Trees.{File}
@@ -40,6 +40,6 @@ abbrev pub IsListingDue : List ℕ → Due → Type 0
 IsListingDue source (SourceRefused line) = IsSourceRefusal source false line
 IsListingDue source (SourceOverLimit line) =
     IsSourceRefusal source true line
-    ⊎ ((file : File) × ReadsAs source file × (8192 < point_count (plan_of (own_names source file) source file)) × (line ≡ too_many))
+    ⊎ ((file : File) × ReadsAs source file × (limit_of Points < point_count (plan_of (own_names source file) source file)) × (line ≡ too_many))
 IsListingDue source (Listed text) = (file : File) × ReadsAs source file × IsListing source file text
 IsListingDue source due = ⊥

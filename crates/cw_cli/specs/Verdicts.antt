@@ -4,7 +4,7 @@ use Rattle.cw_rights.specs.Policies.{PlainPolicy}
 use Rattle.cw_rights.specs.Valid.{IsValid}
 use Rattle.cw_syntax.specs.Trees.{File}
 use Rattle.cw_syntax.specs.Marks.{marks_of}
-use Rattle.cw_certs.specs.Tables.{Table, table_of}
+use Rattle.cw_certs.specs.Tables.{Table}
 use Rattle.cw_certs.specs.Strategies.{Strategy, strategy_of}
 use Rattle.cw_model.specs.Boards.{Problem, problem_of, start_board, Forced}
 use Rattle.cw_model.specs.Runs.{Sound, Lazy}
@@ -12,8 +12,8 @@ use Rattle.cw_model.specs.Plays.{Beats}
 use Rattle.cw_game.specs.declared.ambient.AmbientTest.{AmbientTest}
 use Rattle.cw_game.specs.Ambient.{IsAmbient}
 use Rattle.cw_game.specs.Games.{Game}
-use Rattle.cw_game.specs.Conditions.{IsAt}
-use Rattle.cw_echeck.specs.Beating.{IsGameOf}
+use Rattle.cw_game.specs.Pairs.{IsAt}
+use Rattle.cw_game.specs.Standing.{IsGameOf}
 use Rattle.cw_text.specs.StrategyText.{strategy_text}
 use Rattle.cw_emit.specs.Cut.{cut}
 use Rattle.cw_emit.specs.Woven.{Stands}
@@ -62,7 +62,7 @@ IsRefuted plain source file text =
 
 -- the table is sound and lazy, or the strategy beats every weaver from its start row
 abbrev pub IsVerdict : Problem → Verdict → Type 0
-IsVerdict p (SoundData table) = Sound p (table_of table) × Lazy p (table_of table)
+IsVerdict p (SoundData table) = Sound p table × Lazy p table
 IsVerdict p (BeatenData strategy) = BeatsFromStart p (strategy_of strategy)
 
 -- and the text of the one or of the other

@@ -171,7 +171,7 @@ pub fn due(alloc: Global, policy: &[u8], source: &[u8]) -> Result<Answer, NoMemo
         Err(fault) => return refusal(alloc, &fault),
     };
     match read_source(alloc, source) {
-        Ok(program) => with_descriptors(alloc, &whole, policy, &Checked { source, program }),
+        Ok(checked) => with_descriptors(alloc, &whole, policy, &checked),
         Err(fault) => source_refusal(alloc, source, &fault),
     }
 }

@@ -12,14 +12,9 @@ use crate::listing::listing_due;
 use crate::note::{put_ending, put_usage};
 use crate::words::{files_named, first_word, source_named};
 use cw_core::NoMemory;
+use cw_core::limits::{POLICY_BYTES, SOURCE_BYTES};
 use cw_io::{ReadFault, Shelf, Sink, SinkFault};
 use std::alloc::Global;
-
-/// At most so many bytes of a policy are read.
-const POLICY_BYTES: usize = 65_536;
-
-/// At most so many bytes of a source are read.
-const SOURCE_BYTES: usize = 262_144;
 
 /// The status of words that don't fit.
 const USAGE: u8 = 2;

@@ -41,6 +41,9 @@ fn with_labels(alloc: Global, labels: Vec<Vec<u8>>) -> Policy
         split: Vec::new(alloc),
         labels,
         rules: Vec::new(alloc),
+        stop: false,
+        format: 1,
+        detached: Vec::new(alloc),
     }
 }
 
@@ -128,7 +131,7 @@ pub fn listing_due(alloc: Global, source: &[u8]) -> Result<Answer, NoMemory>
     ensures due { IfOk result (λ answer. IsListingDue source.now (due_of answer)) }
 {
     match read_source(alloc, source) {
-        Ok(program) => of_program(alloc, &Checked { source, program }),
+        Ok(checked) => of_program(alloc, &checked),
         Err(fault) => source_refusal(alloc, source, &fault),
     }
 }

@@ -205,8 +205,9 @@ fn weaves_refutes_or_tells_why_not(rt: HostRuntime) -> Result<(), Fail> {
             TWO_LABELS_IN_A_LOOP,
             "",
         ),
-        ("format = 2\n", two, 4, "", "policy: kind format\n"),
-        ("format = 2\n", "", 4, "", "policy: kind format\n"),
+        ("format = 2\n", two, 4, "", "policy: not yet\n"),
+        ("format = 3\n", two, 4, "", "policy: kind format\n"),
+        ("format = 3\n", "", 4, "", "policy: kind format\n"),
         ("format = 1\n", "", 3, "", "source: no main\n"),
         (
             "format = 1\n",

@@ -9,7 +9,7 @@ use Rattle.std.specs.Prelude.{IsTrue}
 use Rattle.std.specs.Int.Bits.{and_lt}
 use Rattle.std.proofs.lemmas.List.{get_or-set_same, get_or-set_other, get_or_past}
 use Rattle.cw_core.specs.StateSet.{has}
-use Rattle.cw_core.specs.Words.{number_of, AreWords, AreEightWords}
+use Rattle.cw_core.specs.Words.{number_of, AreWords, AreSixteenWords}
 use Rattle.cw_core.proofs.Words.{AreWords-set, AreWords-at}
 
 -- bit j of the number is bit j % 64 of word j / 64
@@ -116,10 +116,10 @@ bit_at_other_bits n from w j fit small =
     none : (b : ℕ) → eqb (min b 0) 1 ≡ false
     none b = ne_eqb (min b 0) 1 (λ e. omega (arith, e))
 
-pub has-complement : (n : ℕ) (ws vs : List ℕ) → n ≤ 512 → AreEightWords ws → AreEightWords vs → ((k : ℕ) → k < 8 → get_or vs k 0 ≡ other_bits n (64 * k) (get_or ws k 0)) → (i : ℕ) → has (number_of vs) i ≡ (nat_lt i n && not (has (number_of ws) i))
+pub has-complement : (n : ℕ) (ws vs : List ℕ) → n ≤ 1024 → AreSixteenWords ws → AreSixteenWords vs → ((k : ℕ) → k < 16 → get_or vs k 0 ≡ other_bits n (64 * k) (get_or ws k 0)) → (i : ℕ) → has (number_of vs) i ≡ (nat_lt i n && not (has (number_of ws) i))
 has-complement n ws vs top p q each i =
     rw (has-number_of vs i q.0, has-number_of ws i p.0)
-    (elim (cases_lt (i / 64) 8) [
+    (elim (cases_lt (i / 64) 16) [
       | inl lt ↦
           let place : 64 * (i / 64) + i % 64 ≡ i = omega arith in
           rw (each (i / 64) lt) (rw place at (bit_at_other_bits n (64 * (i / 64)) (get_or ws (i / 64) 0) (i % 64) (AreWords-at ws (i / 64) p.0) (omega arith)))

@@ -129,7 +129,7 @@ pow-sixteen (suc k) =
     let e : 4 * suc k ≡ 4 * k + 4 = omega arith in
     pow-suc 16 k ∙ ap (λ (z : ℕ). z * 16) (pow-sixteen k) ∙ sym (ap (λ (z : ℕ). 2 ^ z) e ∙ pow-add 2 (4 * k) 4)
 
-length-hexadecimal_digits : (k n : ℕ) → 0 < k → n < 2 ^ (4 * k) → length (hexadecimal_digits n) ≤ k
+pub length-hexadecimal_digits : (k n : ℕ) → 0 < k → n < 2 ^ (4 * k) → length (hexadecimal_digits n) ≤ k
 unfolding hexadecimal_digits
 length-hexadecimal_digits k zero pos lt = omega (arith, pos)
 length-hexadecimal_digits k (suc n) pos lt =
@@ -137,8 +137,8 @@ length-hexadecimal_digits k (suc n) pos lt =
     let e = ap length (hexadecimal_digits_positive (suc n) (omega arith)) ∙ length-map (digits_of 16 (suc n)) digit_char in
     omega (arith, p, e)
 
-pub not_long : (ds : List ℕ) (set : ℕ) → IsBelow 512 set → 128 < length ds → hexadecimal_digits set ≢ ds
-not_long ds set below long e = let p = length-hexadecimal_digits 128 set (omega arith) (IsBelow-lt 512 set below) in omega (arith, p, long, ap length e)
+pub not_long : (ds : List ℕ) (set : ℕ) → IsBelow 1024 set → 256 < length ds → hexadecimal_digits set ≢ ds
+not_long ds set below long e = let p = length-hexadecimal_digits 256 set (omega arith) (IsBelow-lt 1024 set below) in omega (arith, p, long, ap length e)
 
 -- ---- the sum, from the last digit on
 

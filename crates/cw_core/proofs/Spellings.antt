@@ -43,10 +43,10 @@ take_while-past p (x ∷ xs) = rw (take_while-cons p x xs) (by_test (take_while 
     by_test run e false is = rw (take_while-cons p x xs, is) refl
 
 -- what a spelling with the front and the run of digits leaves
-run-append : (p : ℕ → Bool) (ds rest : List ℕ) → list_all p ds ≡ true → take_while p rest ≡ [] → ds ≡ take_while p (ds ++ rest)
+pub run-append : (p : ℕ → Bool) (ds rest : List ℕ) → list_all p ds ≡ true → take_while p rest ≡ [] → ds ≡ take_while p (ds ++ rest)
 run-append p ds rest all stops = sym (take_while-append p ds rest all ∙ ap (λ (zs : List ℕ). ds ++ zs) stops ∙ append-nil ds)
 
-decimal_has_digits : (n : ℕ) → n < 2 ^ 64 → list_all is_ascii_digit (decimal n) ≡ true
+pub decimal_has_digits : (n : ℕ) → n < 2 ^ 64 → list_all is_ascii_digit (decimal n) ≡ true
 decimal_has_digits n small = from_all (decimal n) (digits_decimal own n small)
   where
     from_all : (ds : List ℕ) → AllDigits 10 ds → list_all is_ascii_digit ds ≡ true
@@ -83,7 +83,7 @@ decimal_within before after number small stops = decimal_at (before ++ (decimal 
 
 -- ---- sets
 
-pub set_at_text : (text : List ℕ) (at set : ℕ) (rest : List ℕ) → IsBelow 512 set → drop at text ≡ hexadecimal set ++ rest → take_while is_hexadecimal_digit rest ≡ [] → IsSetAt text at set
+pub set_at_text : (text : List ℕ) (at set : ℕ) (rest : List ℕ) → IsBelow 1024 set → drop at text ≡ hexadecimal set ++ rest → take_while is_hexadecimal_digit rest ≡ [] → IsSetAt text at set
 unfolding hexadecimal
 set_at_text text at set rest small e stops =
     let later : drop (at + 2) text ≡ hexadecimal_digits set ++ rest = sym (drop-drop 2 at text) ∙ ap (drop 2) e in
@@ -116,5 +116,5 @@ hexadecimal_stops text at set h =
 pub one_set : (text : List ℕ) (at m n : ℕ) → IsSetAt text at m → IsSetAt text at n → m ≡ n
 one_set text at m n p q = same_from_digits m n ((mark_and_run text at m p).1 ∙ sym (mark_and_run text at n q).1)
 
-pub set_within : (before after : List ℕ) (set : ℕ) → IsBelow 512 set → take_while is_hexadecimal_digit after ≡ [] → IsSetAt (before ++ (hexadecimal set ++ after)) (length before) set
+pub set_within : (before after : List ℕ) (set : ℕ) → IsBelow 1024 set → take_while is_hexadecimal_digit after ≡ [] → IsSetAt (before ++ (hexadecimal set ++ after)) (length before) set
 set_within before after set small stops = set_at_text (before ++ (hexadecimal set ++ after)) (length before) set after small (drop-append_seam before (hexadecimal set ++ after)) stops

@@ -10,15 +10,15 @@ use Rattle.cw_core.proofs.Bits.{has-number_of}
 use Rattle.cw_core.proofs.Words.{AreWords-at}
 
 abbrev Within : List ℕ → List ℕ → Type 0
-Within a b = (k : ℕ) → k < 8 → bit_and (get_or a k 0) (get_or b k 0) ≡ get_or a k 0
+Within a b = (k : ℕ) → k < 16 → bit_and (get_or a k 0) (get_or b k 0) ≡ get_or a k 0
 
 one_from_min : (x y : ℕ) → min x y ≡ x → x ≡ 1 → y < 2 → y ≡ 1
 one_from_min x y e f lt = omega arith
 
-pub subset_from_words : (a b : List ℕ) → AreWords a → AreWords b → length a ≡ 8 → Within a b → IsSubset (number_of a) (number_of b)
+pub subset_from_words : (a b : List ℕ) → AreWords a → AreWords b → length a ≡ 16 → Within a b → IsSubset (number_of a) (number_of b)
 subset_from_words a b p q len w i h =
     let here : bit_at (get_or a (i / 64) 0) (i % 64) ≡ 1 = eqb-true _ 1 (sym (has-number_of a i p) ∙ h) in
-    elim (cases_lt (i / 64) 8) [
+    elim (cases_lt (i / 64) 16) [
       | inl lt ↦
           let e : min (bit_at (get_or a (i / 64) 0) (i % 64)) (bit_at (get_or b (i / 64) 0) (i % 64)) ≡ bit_at (get_or a (i / 64) 0) (i % 64) = sym (bit_at_and (get_or a (i / 64) 0) (get_or b (i / 64) 0) (i % 64)) ∙ ap (λ (z : ℕ). bit_at z (i % 64)) (w (i / 64) lt) in
           let there : bit_at (get_or b (i / 64) 0) (i % 64) ≡ 1 = one_from_min _ _ e here (bit_at-lt (get_or b (i / 64) 0) (i % 64)) in

@@ -33,7 +33,7 @@ mark_and_run text at set h =
     let p = two_bytes is_hexadecimal_digit (drop at text) (hexadecimal_digits set) (rw two h.spelled) in
     (p.0, p.1 ∙ ap (take_while is_hexadecimal_digit) two)
 
-pub set_at : (text : List ℕ) (at set : ℕ) (run : List ℕ) → take 2 (drop at text) ≡ codes "0x" → run ≡ take_while is_hexadecimal_digit (drop (at + 2) text) → hexadecimal_digits set ≡ run → IsBelow 512 set → IsSetAt text at set
+pub set_at : (text : List ℕ) (at set : ℕ) (run : List ℕ) → take 2 (drop at text) ≡ codes "0x" → run ≡ take_while is_hexadecimal_digit (drop (at + 2) text) → hexadecimal_digits set ≡ run → IsBelow 1024 set → IsSetAt text at set
 unfolding hexadecimal
 set_at text at set run mark is e small = record {
   small = small;
@@ -58,5 +58,5 @@ same_set text at read set run is e h = same_from_digits read set (e ∙ is ∙ s
 pub no_mark : (text : List ℕ) (at : ℕ) → take 2 (drop at text) ≢ codes "0x" → (set : ℕ) → IsSetAt text at set → ⊥
 no_mark text at differs set h = differs (mark_and_run text at set h).0
 
-pub no_set : (text : List ℕ) (at : ℕ) (run : List ℕ) → run ≡ take_while is_hexadecimal_digit (drop (at + 2) text) → ((set : ℕ) → IsBelow 512 set → hexadecimal_digits set ≢ run) → (set : ℕ) → IsSetAt text at set → ⊥
+pub no_set : (text : List ℕ) (at : ℕ) (run : List ℕ) → run ≡ take_while is_hexadecimal_digit (drop (at + 2) text) → ((set : ℕ) → IsBelow 1024 set → hexadecimal_digits set ≢ run) → (set : ℕ) → IsSetAt text at set → ⊥
 no_set text at run is differs set h = differs set h.small ((mark_and_run text at set h).1 ∙ sym is)

@@ -6,15 +6,15 @@ use Rattle.std.specs.Cmp.Lexicographic.{same_text}
 use lib.Pointwise.{pointwise}
 use Rattle.std.proofs.Math.ListN.{set}
 use Rattle.std.proofs.lemmas.List.{length-set, ext_get_or}
-use Rattle.cw_core.specs.Words.{number_of, words_of, AreWords, AreEightWords, words_of-number_of}
+use Rattle.cw_core.specs.Words.{number_of, words_of, AreWords, AreSixteenWords, words_of-number_of}
 
 pub AreWords-set : (ws : List ℕ) (i w : ℕ) → AreWords ws → w < 2 ^ 64 → AreWords (set ws i w)
 AreWords-set [] i w fit lt = tt
 AreWords-set (x ∷ ws) zero w fit lt = (lt, fit.1)
 AreWords-set (x ∷ ws) (suc i) w fit lt = (fit.0, AreWords-set ws i w fit.1 lt)
 
-pub AreEightWords-set : (ws : List ℕ) (i w : ℕ) → AreEightWords ws → w < 2 ^ 64 → AreEightWords (set ws i w)
-AreEightWords-set ws i w fit lt = (AreWords-set ws i w fit.0 lt, length-set ws i w ∙ fit.1)
+pub AreSixteenWords-set : (ws : List ℕ) (i w : ℕ) → AreSixteenWords ws → w < 2 ^ 64 → AreSixteenWords (set ws i w)
+AreSixteenWords-set ws i w fit lt = (AreWords-set ws i w fit.0 lt, length-set ws i w ∙ fit.1)
 
 pub AreWords-at : (ws : List ℕ) (i : ℕ) → AreWords ws → get_or ws i 0 < 2 ^ 64
 AreWords-at [] i fit = omega arith

@@ -1,4 +1,5 @@
 pub mod Numerals
 pub mod Quantities
+pub mod Ranges
 pub mod StateSet
 pub mod Words

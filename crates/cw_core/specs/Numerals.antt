@@ -26,7 +26,7 @@ pub record IsDecimalAt (text : List ℕ) (at number : ℕ) : Type 0 where
   pub spelled : decimal number ≡ take_while is_ascii_digit (drop at text)
 
 -- two bytes at a place of a text and the longest run of hexadecimal digits after them are the spelling
--- of a set of numbers below 512
+-- of a set of numbers below 1,024
 pub record IsSetAt (text : List ℕ) (at set : ℕ) : Type 0 where
-  pub small : IsBelow 512 set
+  pub small : IsBelow 1024 set
   pub spelled : hexadecimal set ≡ take 2 (drop at text) ++ take_while is_hexadecimal_digit (drop (at + 2) text)

@@ -18,8 +18,8 @@ abbrev pub AreWords : List ℕ → Type 0
 AreWords [] = Unit {0}
 AreWords (w ∷ ws) = (w < 2 ^ 64) × AreWords ws
 
-abbrev pub AreEightWords : List ℕ → Type 0
-AreEightWords ws = AreWords ws × (length ws ≡ 8)
+abbrev pub AreSixteenWords : List ℕ → Type 0
+AreSixteenWords ws = AreWords ws × (length ws ≡ 16)
 
 pub words_of-number_of : (count : ℕ) (ws : List ℕ) → AreWords ws → length ws ≡ count → words_of count (number_of ws) ≡ ws
 unfolding number_of words_of

@@ -8,9 +8,9 @@ ghost use Rattle.cw_core.specs.Numerals.{hexadecimal, hexadecimal_digits, is_hex
 ghost use Rattle.cw_core.specs.StateSet.{IsBelow};
 
 use crate::decimal::text_from;
+use crate::line::Line;
 use crate::memory::NoMemory;
 use crate::state_set::StateSet;
-use std::alloc::{AllocError, Global};
 
 /// Appends `0x` and the shortest lower-case hexadecimal of a set's number. Where the text can't grow, it is
 /// as before.
@@ -18,14 +18,15 @@ pub fn put_hex(set: &StateSet, text: &mut Vec<u8>) -> Result<(), NoMemory>
     ensures ok { OnOk result (text.new.items ≡ text.old.items ++ hexadecimal set.now) }
     ensures err { OnErr result (text.new.items ≡ text.old.items) }
 {
-    let spelling = spelling_of(*text.allocator(), set)?;
-    text.extend_from_slice(&spelling)?;
+    let mut mask = Line::new();
+    mask.put_mask(set);
+    text.extend_from_slice(mask.bytes())?;
     Ok(())
 }
 
 /// The set that is spelled at a place, `0x` and the longest run of lower-case hexadecimal digits after it,
 /// and the index after the spelling. There is none where no `0x` stands there, and where that run is empty,
-/// begins with a needless zero or has a number of 512 or more.
+/// begins with a needless zero or has a number of 1,024 or more.
 pub fn read_hex(text: &[u8], at: usize) -> Option<(StateSet, usize)>
     requires in_range { at ≤ length text.now }
     ensures some { IfSome result (λ (set, end).
@@ -38,47 +39,6 @@ pub fn read_hex(text: &[u8], at: usize) -> Option<(StateSet, usize)>
     let digits = digits_at(text, at)?;
     let set = set_of(digits)?;
     Some((set, at + 2 + digits.len()))
-}
-
-/// The spelling of a set.
-#[tactic(auto, unfolding(crate::specs::Numerals::hexadecimal, crate::specs::Numerals::hexadecimal_digits))]
-fn spelling_of(alloc: Global, set: &StateSet) -> Result<Vec<u8>, AllocError>
-    ensures spelling { IfOk result (λ v. v.items ≡ hexadecimal set.now) }
-{
-    let mut text = Vec::new(alloc);
-    text.push(b'0')?;
-    text.push(b'x')?;
-    set.members_are_below_512();
-    let mut some = false;
-    let mut place: usize = 128;
-    'nibbles: while place > 0 {
-        let digit = set.nibble(place - 1);
-        some = put_digit(&mut text, some, digit)?;
-        place -= 1;
-    }
-    if !some {
-        text.push(b'0')?;
-    }
-    Ok(text)
-}
-
-/// Appends a digit, but for a zero with none before it, and says whether there is one now.
-fn put_digit(text: &mut Vec<u8>, some: bool, digit: u8) -> Result<bool, AllocError>
-    requires digit { digit < 16 }
-    ensures answer { IfOk result (λ r. r ≡ (some || not (digit == 0))) }
-    ensures text { IfOk result (λ r.
-        text.new.items ≡ (if r then text.old.items ++ digit_char digit ∷ [] else text.old.items)) }
-{
-    if !some && digit == 0 {
-        return Ok(false);
-    }
-    let glyph = if digit < 10 {
-        b'0' + digit
-    } else {
-        b'a' + (digit - 10)
-    };
-    text.push(glyph)?;
-    Ok(true)
 }
 
 /// The longest run of hexadecimal digits after `0x` at a place.
@@ -97,7 +57,7 @@ fn digits_at(text: &[u8], at: usize) -> Option<&[u8]>
 }
 
 /// Whether the text begins with `0x`.
-fn has_mark(text: &[u8]) -> bool
+pub(crate) fn has_mark(text: &[u8]) -> bool
     ensures mark { IsTrue result ↔ (take 2 text.now ≡ codes "0x") }
     ensures within { IsTrue result → 2 ≤ length text.now }
 {
@@ -130,27 +90,27 @@ fn is_digit(byte: u8) -> bool
 /// The set of which these digits are the shortest hexadecimal.
 fn set_of(digits: &[u8]) -> Option<StateSet>
     requires digits { IsTrue (list_all is_hexadecimal_digit digits.now) }
-    ensures some { IfSome result (λ set. (hexadecimal_digits set ≡ digits.now) × IsBelow 512 set) }
-    ensures none { IfNone result ((set : ℕ) → IsBelow 512 set → hexadecimal_digits set ≢ digits.now) }
+    ensures some { IfSome result (λ set. (hexadecimal_digits set ≡ digits.now) × IsBelow 1024 set) }
+    ensures none { IfNone result ((set : ℕ) → IsBelow 1024 set → hexadecimal_digits set ≢ digits.now) }
 {
     if digits.is_empty() {
         return None;
     }
-    if digits.len() > 128 {
+    if digits.len() > 256 {
         return None;
     }
     if digits[0] == b'0' && digits.len() > 1 {
         return None;
     }
     let set = sum_of(digits);
-    set.members_are_below_512();
+    set.members_are_below_1024();
     Some(set)
 }
 
 /// The set whose number these digits are.
 fn sum_of(digits: &[u8]) -> StateSet
     requires digits { IsTrue (list_all is_hexadecimal_digit digits.now) }
-    requires few { length digits.now ≤ 128 }
+    requires few { length digits.now ≤ 256 }
     ensures sum { result ≡ digits_value 16 digits.now }
 {
     let mut set = StateSet::empty();

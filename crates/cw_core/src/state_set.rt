@@ -13,27 +13,27 @@ use std::cmp::Ordering;
 use std::hash::{Hash, Hasher};
 use std::marker::Model;
 
-/// A set of numbers below 512. A contract sees it as a number, the sum of 2 to the power s over its
+/// A set of numbers below 1,024. A contract sees it as a number, the sum of 2 to the power s over its
 /// members s. Sets are compared as these numbers.
 #[derive(Clone, Copy, Debug)]
 pub struct StateSet {
     /// The members 64 * i to 64 * i + 63 are the bits of word i.
-    words: [u64; 8],
+    words: [u64; 16],
 }
 
 impl Model for StateSet {
     ghost use Rattle.std.specs.Prelude.{ℕ};
-    ghost use Rattle.cw_core.specs.Words.{number_of, words_of, AreEightWords, words_of-number_of};
+    ghost use Rattle.cw_core.specs.Words.{number_of, words_of, AreSixteenWords, words_of-number_of};
 
     ghost Value = { ℕ };
 
     ghost view = { λ s. number_of s.words };
 
-    ghost invariant = { λ s. AreEightWords s.words };
+    ghost invariant = { λ s. AreSixteenWords s.words };
 
-    ghost inverse = { λ n. record { words = words_of 8 n } };
+    ghost inverse = { λ n. record { words = words_of 16 n } };
 
-    ghost inverse_ok = { λ s h i. record { words = words_of-number_of 8 s.words h.0 h.1 i } };
+    ghost inverse_ok = { λ s h i. record { words = words_of-number_of 16 s.words h.0 h.1 i } };
 }
 
 impl PartialEq for StateSet {
@@ -53,7 +53,7 @@ impl Eq for StateSet {
 impl Hash for StateSet {
     ghost use Rattle.cw_core.specs.Words.{words_of};
 
-    ghost hash_input = { λ a. fed.slice fed.u64 (words_of 8 a) };
+    ghost hash_input = { λ a. fed.slice fed.u64 (words_of 16 a) };
 
     ghost respects_eq = { Prim.search (hashing, rules) };
 
@@ -72,7 +72,7 @@ impl Ord for StateSet {
     ghost matches_eq = { Prim.search (comparing, rules) };
 
     fn cmp(&self, other: &StateSet) -> Ordering {
-        for i in (0..8).rev() {
+        for i in (0..16).rev() {
             if self.words[i] != other.words[i] {
                 return self.words[i].cmp(&other.words[i]);
             }
@@ -97,7 +97,7 @@ impl StateSet {
         ensures zero { result ≡ 0 }
         ensures members { (i : ℕ) → has result i ≡ false }
     {
-        StateSet { words: [0; 8] }
+        StateSet { words: [0; 16] }
     }
 
     /// The set of the numbers whose bits are 1: s where bit s is.
@@ -106,13 +106,13 @@ impl StateSet {
         ensures { result ≡ bits }
     {
         StateSet {
-            words: [bits, 0, 0, 0, 0, 0, 0, 0],
+            words: [bits, 0, 0, 0, 0, 0, 0, 0, 0, 0, 0, 0, 0, 0, 0, 0],
         }
     }
 
     /// Whether the set has a number.
     pub fn contains(&self, s: StateId) -> bool
-        requires in_range { s.0 < 512 }
+        requires in_range { s.0 < 1024 }
         ensures member { result ≡ has self.now s.0 }
     {
         let word = self.words[(s.0 / 64) as usize];
@@ -121,7 +121,7 @@ impl StateSet {
 
     /// Adds a number; every other number stays in or out.
     pub fn insert(&mut self, s: StateId)
-        requires in_range { s.0 < 512 }
+        requires in_range { s.0 < 1024 }
         ensures members { (i : ℕ) → has self.new i ≡ (i == s.0 || has self.old i) }
     {
         let at = (s.0 / 64) as usize;
@@ -130,7 +130,7 @@ impl StateSet {
 
     /// Takes a number out; every other number stays in or out.
     pub fn remove(&mut self, s: StateId)
-        requires in_range { s.0 < 512 }
+        requires in_range { s.0 < 1024 }
         ensures members { (i : ℕ) → has self.new i ≡ (not (i == s.0) && has self.old i) }
     {
         let at = (s.0 / 64) as usize;
@@ -146,11 +146,11 @@ impl StateSet {
 
     /// The numbers below n that aren't in the set.
     pub fn complement_in(&self, n: u16) -> StateSet
-        requires in_range { n ≤ 512 }
+        requires in_range { n ≤ 1024 }
         ensures members { (i : ℕ) → has result i ≡ (nat_lt i n && not (has self.now i)) }
     {
-        let mut words = [0; 8];
-        for i in 0..8 {
+        let mut words = [0; 16];
+        for i in 0..16 {
             words[i] = !self.words[i] & ones_below(n.saturating_sub(64 * i as u16));
         }
         StateSet { words }
@@ -158,7 +158,7 @@ impl StateSet {
 
     /// The four bits from 4 times a place on.
     pub(crate) fn nibble(&self, place: usize) -> u8
-        requires in_range { place < 128 }
+        requires in_range { place < 256 }
         ensures value { result ≡ self.now / 2 ^ (4 * place) % 2 ^ 4 }
         ensures small { result < 16 }
     {
@@ -167,7 +167,7 @@ impl StateSet {
 
     /// Puts four bits from 4 times a place on, above all that the set has.
     pub(crate) fn add_nibble(&mut self, place: usize, digit: u8)
-        requires in_range { place < 128 }
+        requires in_range { place < 256 }
         requires digit { digit < 16 }
         requires above { self.old < 2 ^ (4 * place) }
         ensures sum { self.new ≡ self.old + digit * 2 ^ (4 * place) }
@@ -175,18 +175,18 @@ impl StateSet {
         self.words[place / 16] |= u64::from(digit) << (4 * (place % 16));
     }
 
-    /// A law: the members are below 512.
-    pub fn members_are_below_512(&self)
-        ensures below { IsBelow 512 self.now }
+    /// A law: the members are below 1,024.
+    pub fn members_are_below_1024(&self)
+        ensures below { IsBelow 1024 self.now }
     {
         let _ = &self.words;
     }
 
     /// A law: the number that a contract sees is the sum of 2 to the power s over the members s.
     pub fn number_is_sum(&self)
-        ensures sum { self.now ≡ sum_of_powers 512 self.now }
+        ensures sum { self.now ≡ sum_of_powers 1024 self.now }
     {
-        self.members_are_below_512();
+        self.members_are_below_1024();
     }
 
     /// A law: sets with the same members are the same number, and the other way round.
@@ -196,14 +196,14 @@ impl StateSet {
 }
 
 /// Whether every bit of the words a is one of the words b.
-fn are_within(a: &[u64; 8], b: &[u64; 8]) -> bool
-    ensures yes { IsTrue result → (k : ℕ) → k < 8
+fn are_within(a: &[u64; 16], b: &[u64; 16]) -> bool
+    ensures yes { IsTrue result → (k : ℕ) → k < 16
         → bit_and (slice_index a.now k) (slice_index b.now k) ≡ slice_index a.now k }
-    ensures all { ((k : ℕ) → k < 8
+    ensures all { ((k : ℕ) → k < 16
         → bit_and (slice_index a.now k) (slice_index b.now k) ≡ slice_index a.now k)
         → IsTrue result }
 {
-    for i in 0..8 {
+    for i in 0..16 {
         if a[i] & b[i] != a[i] {
             return false;
         }

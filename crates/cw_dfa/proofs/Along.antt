@@ -1,5 +1,6 @@
 -- What the loops over parts and over rules keep.
-use Rattle.std.proofs.Common.{◌≡◌, ℕ, zero, suc, ◌+◌, ◌<◌, ◌≤◌, length, take, drop, drop-cons, add-one, get_or, ap, ap₂, arith, List, [], ◌∷◌, refl, sym, ◌∙◌, subst, ◌++◌, slice_index, slice_set, append_assoc, append-nil}
+use Rattle.std.proofs.Common.{◌≡◌, ℕ, ◌+◌, ◌<◌, length, take, add-one, ap, ap₂, List, [], ◌∷◌, sym, ◌∙◌, subst, ◌++◌, slice_index}
+use Rattle.std.proofs.Common.{slice_set, append_assoc, append-nil}
 use Rattle.std.proofs.Math.Seq.{take-suc-set}
 use Rattle.std.specs.Int.RustNames.{bit_or}
 use Rattle.cw_rights.specs.declared.words.Letter.{Letter}
@@ -9,7 +10,8 @@ use Rattle.cw_dfa.specs.Tables.{matching, firsts, lasts, followers, lasts_of}
 use Rattle.cw_dfa.proofs.Sums.{or_assoc, or_zero}
 
 -- over trees: the rest, after one part more
-pub matching_step : (whole part rest : Tree) (set at : ℕ) (c : Letter) (total s a : ℕ) → whole ≡ seq part rest → s ≡ matching part at c → a ≡ at + count part → bit_or set (matching whole at c) ≡ total → bit_or (bit_or set s) (matching rest a c) ≡ total
+pub matching_step : (whole part rest : Tree) (set at : ℕ) (c : Letter) (total s a : ℕ) → whole ≡ seq part rest → s ≡ matching part at c → a ≡ at + count part →
+    bit_or set (matching whole at c) ≡ total → bit_or (bit_or set s) (matching rest a c) ≡ total
 matching_step whole part rest set at c total s a e f h t =
     let u : bit_or set (matching (seq part rest) at c) ≡ total = subst (λ l. bit_or set (matching l at c) ≡ total) e t in
     rw (f, h) (or_assoc set (matching part at c) (matching rest (at + count part) c) ∙ u)
@@ -18,7 +20,8 @@ pub matching_end : (whole : Tree) (set at : ℕ) (c : Letter) (total : ℕ) → 
 matching_end whole set at c total e t = sym (or_zero set) ∙ subst (λ l. bit_or set (matching l at c) ≡ total) e t
 
 -- over rules
-pub rules_step : (whole part rest : Tree) (set at : ℕ) (c : Letter) (total s a : ℕ) → whole ≡ alt part rest → s ≡ matching part at c → a ≡ at + count part → bit_or set (matching whole at c) ≡ total → bit_or (bit_or set s) (matching rest a c) ≡ total
+pub rules_step : (whole part rest : Tree) (set at : ℕ) (c : Letter) (total s a : ℕ) → whole ≡ alt part rest → s ≡ matching part at c → a ≡ at + count part →
+    bit_or set (matching whole at c) ≡ total → bit_or (bit_or set s) (matching rest a c) ≡ total
 rules_step whole part rest set at c total s a e f h t =
     let u : bit_or set (matching (alt part rest) at c) ≡ total = subst (λ l. bit_or set (matching l at c) ≡ total) e t in
     rw (f, h) (or_assoc set (matching part at c) (matching rest (at + count part) c) ∙ u)
@@ -26,7 +29,8 @@ rules_step whole part rest set at c total s a e f h t =
 pub rules_end : (whole : Tree) (set at : ℕ) (c : Letter) (total : ℕ) → whole ≡ never → bit_or set (matching whole at c) ≡ total → set ≡ total
 rules_end whole set at c total e t = sym (or_zero set) ∙ subst (λ l. bit_or set (matching l at c) ≡ total) e t
 
-pub first_step : (whole part rest : Tree) (first at total f a : ℕ) → whole ≡ alt part rest → f ≡ firsts part at → a ≡ at + count part → bit_or first (firsts whole at) ≡ total → bit_or (bit_or first f) (firsts rest a) ≡ total
+pub first_step : (whole part rest : Tree) (first at total f a : ℕ) → whole ≡ alt part rest → f ≡ firsts part at → a ≡ at + count part → bit_or first (firsts whole at) ≡ total →
+    bit_or (bit_or first f) (firsts rest a) ≡ total
 first_step whole part rest first at total f a e h g t =
     let u : bit_or first (firsts (alt part rest) at) ≡ total = subst (λ l. bit_or first (firsts l at) ≡ total) e t in
     rw (h, g) (or_assoc first (firsts part at) (firsts rest (at + count part)) ∙ u)
@@ -34,7 +38,8 @@ first_step whole part rest first at total f a e h g t =
 pub first_end : (whole : Tree) (first at total : ℕ) → whole ≡ never → bit_or first (firsts whole at) ≡ total → first ≡ total
 first_end whole first at total e t = sym (or_zero first) ∙ subst (λ l. bit_or first (firsts l at) ≡ total) e t
 
-pub follow_step : (whole part rest : Tree) (old new : List ℕ) (at a p : ℕ) (total : ℕ) → whole ≡ alt part rest → slice_index new p ≡ bit_or (slice_index old p) (followers part at p) → a ≡ at + count part → bit_or (slice_index old p) (followers whole at p) ≡ total → bit_or (slice_index new p) (followers rest a p) ≡ total
+pub follow_step : (whole part rest : Tree) (old new : List ℕ) (at a p : ℕ) (total : ℕ) → whole ≡ alt part rest → slice_index new p ≡ bit_or (slice_index old p) (followers part at p) →
+    a ≡ at + count part → bit_or (slice_index old p) (followers whole at p) ≡ total → bit_or (slice_index new p) (followers rest a p) ≡ total
 follow_step whole part rest old new at a p total e h g t =
     let u : bit_or (slice_index old p) (followers (alt part rest) at p) ≡ total = subst (λ l. bit_or (slice_index old p) (followers l at p) ≡ total) e t in
     rw (h, g) (or_assoc (slice_index old p) (followers part at p) (followers rest (at + count part) p) ∙ u)
@@ -45,26 +50,13 @@ follow_end whole row at p total e t = sym (or_zero (slice_index row p)) ∙ subs
 pub take_set : (l : List ℕ) (i x : ℕ) → i < length l → take (i + 1) (slice_set l i x) ≡ take i l ++ x ∷ []
 take_set l i x h = rw (add-one i) (take-suc-set l i x h)
 
-pub last_step : (rules rest : List PlainRule) (r : PlainRule) (last : List ℕ) (i at l a : ℕ) (total : List ℕ) → i < length last → rules ≡ r ∷ rest → l ≡ lasts r.bad at → a ≡ at + count r.bad → take i last ++ lasts_of rules at ≡ total → take (i + 1) (slice_set last i l) ++ lasts_of rest a ≡ total
+pub last_step : (rules rest : List PlainRule) (r : PlainRule) (last : List ℕ) (i at l a : ℕ) (total : List ℕ) → i < length last → rules ≡ r ∷ rest → l ≡ lasts r.bad at →
+    a ≡ at + count r.bad → take i last ++ lasts_of rules at ≡ total → take (i + 1) (slice_set last i l) ++ lasts_of rest a ≡ total
 last_step rules rest r last i at l a total h e f g t =
     let u : take i last ++ lasts_of (r ∷ rest) at ≡ total = subst (λ x. take i last ++ lasts_of x at ≡ total) e t in
-    let v : take (i + 1) (slice_set last i l) ++ lasts_of rest a ≡ (take i last ++ lasts r.bad at ∷ []) ++ lasts_of rest (at + count r.bad) = ap₂ (λ x y. x ++ lasts_of rest y) (take_set last i l h ∙ ap (λ x. take i last ++ x ∷ []) f) g in
+    let v : take (i + 1) (slice_set last i l) ++ lasts_of rest a ≡ (take i last ++ lasts r.bad at ∷ []) ++ lasts_of rest (at + count r.bad) =
+    ap₂ (λ x y. x ++ lasts_of rest y) (take_set last i l h ∙ ap (λ x. take i last ++ x ∷ []) f) g in
     v ∙ append_assoc (take i last) (lasts r.bad at ∷ []) (lasts_of rest (at + count r.bad)) ∙ u
 
 pub last_end : (rules : List PlainRule) (last : List ℕ) (n at : ℕ) (total : List ℕ) → rules ≡ [] → take n last ++ lasts_of rules at ≡ total → take n last ≡ total
 last_end rules last n at total e t = sym (append-nil (take n last)) ∙ subst (λ x. take n last ++ lasts_of x at ≡ total) e t
-
-pub drop_all : {A : Type 0} (l : List A) (n : ℕ) → length l ≤ n → drop n l ≡ []
-drop_all [] zero h = refl
-drop_all [] (suc n) h = refl
-drop_all (x ∷ l) zero h = absurd (omega arith)
-drop_all (x ∷ l) (suc n) h = drop_all l n (omega arith)
-
-pub drop_item : {A : Type 0} (l : List A) (i : ℕ) (x : A) → i < length l → get_or l i x ≡ x → drop i l ≡ x ∷ drop (i + 1) l
-drop_item l i x lt is = drop-cons l i x lt ∙ ap₂ (λ y z. y ∷ drop z l) is (sym (add-one i))
-
-pub take_all : {A : Type 0} (l : List A) (n : ℕ) → length l ≤ n → take n l ≡ l
-take_all [] zero h = refl
-take_all [] (suc n) h = refl
-take_all (x ∷ l) zero h = absurd (omega arith)
-take_all (x ∷ l) (suc n) h = ap (λ y. x ∷ y) (take_all l n (omega arith))

@@ -1,5 +1,6 @@
 -- What follows a set, by tables made once.
-use Rattle.std.proofs.Common.{◌≡◌, ◌≢◌, ◌⊎◌, inl, inr, ℕ, zero, suc, ◌+◌, ◌<◌, ◌≤◌, ◌^◌, List, Bool, true, false, cond, ◌||◌, max, nat_eq, nat_lt, refl, sym, ap, ap₂, ◌∙◌, subst, arith, eqb-true, eq-eqb}
+use Rattle.std.proofs.Common.{◌≡◌, ◌≢◌, ◌⊎◌, inl, inr, ℕ, zero, suc, ◌+◌, ◌<◌, ◌≤◌, ◌^◌, List, Bool, true, false, cond, ◌||◌, max, nat_eq, nat_lt, refl, sym, ap, ap₂, ◌∙◌, subst, arith}
+use Rattle.std.proofs.Common.{eqb-true, eq-eqb}
 use Rattle.std.specs.Int.{bit_at}
 use Rattle.std.specs.Int.RustNames.{bit_or, bit_and}
 use Rattle.std.proofs.lemmas.Nat.Bits.{bit_at_or, bit_at-lt, bit_at-pow_same, bit_at-pow_other, bit_at_above, same_from_bits, bit_at-zero}
@@ -12,7 +13,8 @@ use Rattle.cw_dfa.specs.Sets.{has, skips, ends}
 use Rattle.cw_dfa.specs.Positions.{bad_of}
 use Rattle.cw_dfa.specs.Verdicts.{next_of}
 use Rattle.cw_dfa.specs.Tables.{goes, firsts, lasts, linked, followers, matching, unite}
-use Rattle.cw_dfa.proofs.Bools.{has_none, has_pow, has_pow_only, or_cases}
+use Rattle.cw_rights.proofs.Bools.{or_cases}
+use Rattle.cw_dfa.proofs.Bools.{has_none, has_pow, has_pow_only}
 use Rattle.cw_dfa.proofs.Sums.{or_assoc}
 use Rattle.cw_dfa.proofs.Linear.{goes_none, goes_apart, goes_united, ends_none, below, Marks, reads_masked, has_or}
 use Rattle.cw_dfa.proofs.Meeting.{ends_pow}
@@ -43,7 +45,8 @@ pub goes_pow : (r : Tree) (k p : ℕ) → goes r k false (2 ^ p) ≡ followers r
 goes_pow nothing k p = refl
 goes_pow never k p = refl
 goes_pow (one l) k p = refl
-goes_pow (seq r s) k p = ap₂ bit_or (goes_pow r k p) (again r s k (k + count r) p (goes_pow s (k + count r) p)) ∙ sym (or_assoc (followers r k p) (followers s (k + count r) p) (linked (lasts r k) (firsts s (k + count r)) p))
+goes_pow (seq r s) k p = ap₂ bit_or (goes_pow r k p) (again r s k (k + count r) p (goes_pow s (k + count r) p))
+    ∙ sym (or_assoc (followers r k p) (followers s (k + count r) p) (linked (lasts r k) (firsts s (k + count r)) p))
 goes_pow (alt r s) k p = ap₂ bit_or (goes_pow r k p) (goes_pow s (k + count r) p)
 goes_pow (star r) k p = again r r k k p (goes_pow r k p)
 goes_pow (plus r) k p = again r r k k p (goes_pow r k p)
@@ -96,7 +99,8 @@ unite_same f g zero set h = refl
 unite_same f g (suc n) set h = ap₂ bit_or (unite_same f g n set (λ p l. h p (omega arith))) (ap (λ x. cond (has set n) x 0) (h n (omega arith)))
 
 -- the tables tell all that may follow a set
-pub goes_tabled : (r : Tree) (k : ℕ) (e : Bool) (set : ℕ) (table : ℕ → ℕ) → set < 2 ^ 64 → ((p : ℕ) → p < 64 → table p ≡ followers r k p) → bit_or (cond e (firsts r k) 0) (unite table 64 set) ≡ goes r k e set
+pub goes_tabled : (r : Tree) (k : ℕ) (e : Bool) (set : ℕ) (table : ℕ → ℕ) → set < 2 ^ 64 → ((p : ℕ) → p < 64 → table p ≡ followers r k p) →
+    bit_or (cond e (firsts r k) 0) (unite table 64 set) ≡ goes r k e set
 goes_tabled r k e set table l h =
     let u : unite table 64 set ≡ unite (λ p. goes r k false (2 ^ p)) 64 set = unite_same table (λ p. goes r k false (2 ^ p)) 64 set (λ p m. h p m ∙ sym (goes_pow r k p)) in
     let b : goes r k false set ≡ unite (λ p. goes r k false (2 ^ p)) 64 set = ap (goes r k false) (sym (below_all set l)) ∙ goes_united r k 64 set in
@@ -114,14 +118,18 @@ matching_within (one l) k c p e = by (fits l c) e
     by : (t : Bool) → has (cond t (2 ^ k) 0) p ≡ true → (k ≤ p) × (p < k + 1)
     by true h = let z = has_pow_only k p h in (omega arith, omega arith)
     by false h = absurd (has_none p h)
-matching_within (seq r s) k c p e = by (or_cases (has (matching r k c) p) (has (matching s (k + count r) c) p) (sym (has_or (matching r k c) (matching s (k + count r) c) p) ∙ e)) (matching_within r k c p) (matching_within s (k + count r) c p)
+matching_within (seq r s) k c p e = by (or_cases (has (matching r k c) p) (has (matching s (k + count r) c) p) (sym (has_or (matching r k c) (matching s (k + count r) c) p) ∙ e))
+    (matching_within r k c p) (matching_within s (k + count r) c p)
   where
-    by : (has (matching r k c) p ≡ true) ⊎ (has (matching s (k + count r) c) p ≡ true) → (has (matching r k c) p ≡ true → (k ≤ p) × (p < k + count r)) → (has (matching s (k + count r) c) p ≡ true → (k + count r ≤ p) × (p < (k + count r) + count s)) → (k ≤ p) × (p < k + (count r + count s))
+    by : (has (matching r k c) p ≡ true) ⊎ (has (matching s (k + count r) c) p ≡ true) → (has (matching r k c) p ≡ true → (k ≤ p) × (p < k + count r)) →
+        (has (matching s (k + count r) c) p ≡ true → (k + count r ≤ p) × (p < (k + count r) + count s)) → (k ≤ p) × (p < k + (count r + count s))
     by (inl h) f g = let z = f h in (omega arith, omega arith)
     by (inr h) f g = let z = g h in (omega arith, omega arith)
-matching_within (alt r s) k c p e = by (or_cases (has (matching r k c) p) (has (matching s (k + count r) c) p) (sym (has_or (matching r k c) (matching s (k + count r) c) p) ∙ e)) (matching_within r k c p) (matching_within s (k + count r) c p)
+matching_within (alt r s) k c p e = by (or_cases (has (matching r k c) p) (has (matching s (k + count r) c) p) (sym (has_or (matching r k c) (matching s (k + count r) c) p) ∙ e))
+    (matching_within r k c p) (matching_within s (k + count r) c p)
   where
-    by : (has (matching r k c) p ≡ true) ⊎ (has (matching s (k + count r) c) p ≡ true) → (has (matching r k c) p ≡ true → (k ≤ p) × (p < k + count r)) → (has (matching s (k + count r) c) p ≡ true → (k + count r ≤ p) × (p < (k + count r) + count s)) → (k ≤ p) × (p < k + (count r + count s))
+    by : (has (matching r k c) p ≡ true) ⊎ (has (matching s (k + count r) c) p ≡ true) → (has (matching r k c) p ≡ true → (k ≤ p) × (p < k + count r)) →
+        (has (matching s (k + count r) c) p ≡ true → (k + count r ≤ p) × (p < (k + count r) + count s)) → (k ≤ p) × (p < k + (count r + count s))
     by (inl h) f g = let z = f h in (omega arith, omega arith)
     by (inr h) f g = let z = g h in (omega arith, omega arith)
 matching_within (star r) k c p e = matching_within r k c p e
@@ -139,10 +147,13 @@ not_here r k c p f = by (has (matching r k c) p) refl
     by false e = e
 
 agree_left : (r s : Tree) (k : ℕ) (c : Letter) (m : ℕ) → ((p : ℕ) → k ≤ p → p < k + (count r + count s) → has m p ≡ has (bit_or (matching r k c) (matching s (k + count r) c)) p) → Agrees r k c m
-agree_left r s k c m h p l u = h p l (omega arith) ∙ has_or (matching r k c) (matching s (k + count r) c) p ∙ ap (λ t. has (matching r k c) p || t) (not_here s (k + count r) c p (λ x. omega (arith, x.0))) ∙ or_false (has (matching r k c) p)
+agree_left r s k c m h p l u = h p l (omega arith) ∙ has_or (matching r k c) (matching s (k + count r) c) p
+    ∙ ap (λ t. has (matching r k c) p || t) (not_here s (k + count r) c p (λ x. omega (arith, x.0))) ∙ or_false (has (matching r k c) p)
 
-agree_right : (r s : Tree) (k : ℕ) (c : Letter) (m : ℕ) → ((p : ℕ) → k ≤ p → p < k + (count r + count s) → has m p ≡ has (bit_or (matching r k c) (matching s (k + count r) c)) p) → Agrees s (k + count r) c m
-agree_right r s k c m h p l u = h p (omega arith) (omega arith) ∙ has_or (matching r k c) (matching s (k + count r) c) p ∙ ap (λ t. t || has (matching s (k + count r) c) p) (not_here r k c p (λ x. omega (arith, x.1)))
+agree_right : (r s : Tree) (k : ℕ) (c : Letter) (m : ℕ) → ((p : ℕ) → k ≤ p → p < k + (count r + count s) → has m p ≡ has (bit_or (matching r k c) (matching s (k + count r) c)) p) →
+    Agrees s (k + count r) c m
+agree_right r s k c m h p l u = h p (omega arith) (omega arith) ∙ has_or (matching r k c) (matching s (k + count r) c) p
+    ∙ ap (λ t. t || has (matching s (k + count r) c) p) (not_here r k c p (λ x. omega (arith, x.1)))
 
 marks_by : (r : Tree) (k : ℕ) (c : Letter) (m : ℕ) → Agrees r k c m → Marks r k c m
 marks_by nothing k c m h = tt

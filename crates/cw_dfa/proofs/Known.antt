@@ -5,8 +5,9 @@ use Rattle.cw_rights.specs.Trees.{Tree, nothing, never, one, seq, alt, star, plu
 use Rattle.cw_rights.specs.Words.{Word, Matches, fits}
 use Rattle.cw_dfa.specs.Positions.{Reads}
 use Rattle.cw_dfa.specs.Sets.{has, skips, ends, reads}
-use Rattle.cw_dfa.proofs.Bools.{or_cases, or_left, or_right, and_left, and_right, and_both, has_or_cases, has_or_left, has_or_right, has_none, has_pow, has_pow_only}
-use Rattle.cw_dfa.proofs.Pieces.{NotNil, nil_or_not, not_nil_right, not_nil, cut_again, cut_before, last_cut, plus_of, star_of, last_of}
+use Rattle.cw_rights.proofs.Bools.{or_cases, or_left, or_right, and_left, and_right, and_both}
+use Rattle.cw_dfa.proofs.Bools.{has_or_cases, has_or_left, has_or_right, has_none, has_pow, has_pow_only}
+use Rattle.cw_rights.proofs.Pieces.{NotNil, nil_or_not, not_nil_right, not_nil, cut_again, cut_before, last_cut, plus_of, star_of, last_of}
 
 -- a way into the expression at E, and on through it
 abbrev pub Within : (Word → Type 0) → Tree → ℕ → Word → ℕ → Type 0
@@ -133,7 +134,8 @@ ends_sound (one l) E k w set h e =
     let m = i.4.1 in
     (i.0, i.1, i.2, i.3, subst NotNil (sym m.1) tt, m)
 ends_sound (seq r s) E k w set h e =
-    ⊎_elim (λ t. in_first (and_right (ends r k set) (skips s) t) (ends_sound r E k w set (seq_left E r s k w set h) (and_left _ _ t))) (λ t. in_second (ends_sound s (After E r) (k + count r) w set (seq_right E r s k w set h) t)) (or_cases (ends r k set && skips s) (ends s (k + count r) set) e)
+    ⊎_elim (λ t. in_first (and_right (ends r k set) (skips s) t) (ends_sound r E k w set (seq_left E r s k w set h) (and_left _ _ t)))
+    (λ t. in_second (ends_sound s (After E r) (k + count r) w set (seq_right E r s k w set h) t)) (or_cases (ends r k set && skips s) (ends s (k + count r) set) e)
   where
     in_first : skips s ≡ true → Ended E r w → Ended E (seq r s) w
     in_first t i = (i.0, i.1, i.2, i.3, i.4, (i.1, [], sym (append-nil i.1), i.5, skips_sound s t))
@@ -142,7 +144,9 @@ ends_sound (seq r s) E k w set h e =
     in_second i =
         let a = i.3 in
         (a.0, a.1 ++ i.1, cut_again w i.0 i.1 a.0 a.1 i.2 a.2, a.3, not_nil_right a.1 i.1 i.4, (a.1, i.1, refl, a.4, i.5))
-ends_sound (alt r s) E k w set h e = ⊎_elim (λ t. let i = ends_sound r E k w set (alt_left E r s k w set h) t in (i.0, i.1, i.2, i.3, i.4, inl i.5)) (λ t. let i = ends_sound s E (k + count r) w set (alt_right E r s k w set h) t in (i.0, i.1, i.2, i.3, i.4, inr i.5)) (or_cases (ends r k set) (ends s (k + count r) set) e)
+ends_sound (alt r s) E k w set h e = ⊎_elim (λ t. let i = ends_sound r E k w set (alt_left E r s k w set h) t in
+    (i.0, i.1, i.2, i.3, i.4, inl i.5)) (λ t. let i = ends_sound s E (k + count r) w set (alt_right E r s k w set h) t in
+    (i.0, i.1, i.2, i.3, i.4, inr i.5)) (or_cases (ends r k set) (ends s (k + count r) set) e)
 ends_sound (star r) E k w set h e =
     let i = ends_sound r (After E (star r)) k w set (loop_known E r k w set h) e in
     let a = i.3 in
@@ -179,7 +183,8 @@ ends_complete (seq r s) E k w set h i = by (ends_complete r E k w set (seq_left 
         let f : i.1 ≡ m.0 = m.2 ∙ ap (λ z. m.0 ++ z) e ∙ append-nil m.0 in
         or_left _ _ (and_both _ _ (here (i.0, i.1, i.2, i.3, i.4, subst (Matches r) (sym f) m.3)) (skips_complete s (subst (Matches s) e m.4)))
     by here there m (inr n) = or_right _ _ (there (i.0 ++ m.0, m.1, cut_before w i.0 i.1 m.0 m.1 i.2 m.2, (i.0, m.0, refl, i.3, m.3), n, m.4))
-ends_complete (alt r s) E k w set h i = ⊎_elim (λ m. or_left _ _ (ends_complete r E k w set (alt_left E r s k w set h) (i.0, i.1, i.2, i.3, i.4, m))) (λ m. or_right _ _ (ends_complete s E (k + count r) w set (alt_right E r s k w set h) (i.0, i.1, i.2, i.3, i.4, m))) i.5
+ends_complete (alt r s) E k w set h i = ⊎_elim (λ m. or_left _ _ (ends_complete r E k w set (alt_left E r s k w set h) (i.0, i.1, i.2, i.3, i.4, m)))
+    (λ m. or_right _ _ (ends_complete s E (k + count r) w set (alt_right E r s k w set h) (i.0, i.1, i.2, i.3, i.4, m))) i.5
 ends_complete (star r) E k w set h i = ends_complete r (After E (star r)) k w set (loop_known E r k w set h) (ended_star E r w i)
 ends_complete (plus r) E k w set h i = ends_complete r (After E (star r)) k w set (loop_known E r k w set h) (ended_star E r w (i.0, i.1, i.2, i.3, i.4, (i.5.0 ∷ i.5.1, i.5.2)))
 ends_complete (maybe r) E k w set h i = ⊎_elim (λ e. absurd (not_nil i.1 i.4 e)) (λ m. ends_complete r E k w set h (i.0, i.1, i.2, i.3, i.4, m)) i.5
@@ -203,7 +208,11 @@ enter_next E r k w set enter h d = (λ e. ⊎_elim first ended (or_cases (enter 
     by a (inr n) = or_right _ _ (ends_complete r E k w set h (a.0, a.1, a.2, a.3, n, a.4))
 
 enter_again : (E : Word → Type 0) (r : Tree) (k : ℕ) (w : Word) (set : ℕ) (enter : Bool) → Known E (star r) k w set → Decides enter (E w) → Decides (enter || ends r k set) (After E (star r) w)
-enter_again E r k w set enter h d = (λ e. ⊎_elim first ended (or_cases enter (ends r k set) e), λ a. ⊎_elim (λ x. or_left _ _ (d.1 x)) (λ i. or_right _ _ (ends_complete r (After E (star r)) k w set (loop_known E r k w set h) i)) (after_star E r w a))
+enter_again E r k w set enter h d = (
+  λ e. ⊎_elim first ended (or_cases enter (ends r k set) e),
+  λ a.
+      ⊎_elim (λ x. or_left _ _ (d.1 x)) (λ i. or_right _ _ (ends_complete r (After E (star r)) k w set (loop_known E r k w set h) i)) (after_star E r w a),
+)
   where
     first : enter ≡ true → After E (star r) w
     first t = (w, [], sym (append-nil w), d.0 t, ([], refl))
@@ -212,7 +221,8 @@ enter_again E r k w set enter h d = (λ e. ⊎_elim first ended (or_cases enter 
     ended t = let i = ends_sound (star r) E k w set h t in (i.0, i.1, i.2, i.3, i.5)
 
 -- one letter more
-pub reads_exact : (r : Tree) (E : Word → Type 0) (k : ℕ) (w : Word) (set : ℕ) (c : Letter) (enter : Bool) → Known E r k w set → Decides enter (E w) → Exactly E r k (w ++ c ∷ []) (reads r k enter set c)
+pub reads_exact : (r : Tree) (E : Word → Type 0) (k : ℕ) (w : Word) (set : ℕ) (c : Letter) (enter : Bool) → Known E r k w set → Decides enter (E w) →
+    Exactly E r k (w ++ c ∷ []) (reads r k enter set c)
 reads_exact nothing E k w set c enter h d p = (λ e. absurd (has_none p e), λ i. absurd i.4)
 reads_exact never E k w set c enter h d p = (λ e. absurd (has_none p e), λ i. absurd i.4)
 reads_exact (one l) E k w set c enter h d p = (to (enter && fits l c) refl, back)
@@ -231,7 +241,13 @@ reads_exact (seq r s) E k w set c enter h d p =
     let f = reads_exact r E k w set c enter (seq_left E r s k w set h) d p in
     let g = reads_exact s (After E r) (k + count r) w set c ((enter && skips r) || ends r k set) (seq_right E r s k w set h) (enter_next E r k w set enter (seq_left E r s k w set h) d) p in (
       λ e. ⊎_elim (λ x. let i = f.0 x in (i.0, i.1, i.2, i.3, inl i.4)) (λ x. through (g.0 x)) (has_or_cases _ _ p e),
-      λ i. ⊎_elim (λ x. has_or_left _ _ p (f.1 (i.0, i.1, i.2, i.3, x))) (λ b. has_or_right _ _ p (g.1 (i.0 ++ b.0, b.1, cut_before (w ++ c ∷ []) i.0 i.1 b.0 b.1 i.2 b.2, (i.0, b.0, refl, i.3, b.3), b.4))) i.4,
+      λ i. ⊎_elim (λ x. has_or_left _ _ p (f.1 (i.0, i.1, i.2, i.3, x))) (λ b. has_or_right _ _ p (g.1 (
+        i.0 ++ b.0,
+        b.1,
+        cut_before (w ++ c ∷ []) i.0 i.1 b.0 b.1 i.2 b.2,
+        (i.0, b.0, refl, i.3, b.3),
+        b.4,
+      ))) i.4,
     )
   where
     through : Within (After E r) s (k + count r) (w ++ c ∷ []) p → Within E (seq r s) k (w ++ c ∷ []) p

@@ -3,12 +3,11 @@ pub mod Along
 pub mod Bools
 pub mod Following
 pub mod Gaining
-pub mod Keys
+pub mod Kept
 pub mod Known
 pub mod Linear
 pub mod Masked
 pub mod Meeting
-pub mod Pieces
 pub mod Reach
 pub mod Rows
 pub mod Sums

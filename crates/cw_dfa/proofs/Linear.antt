@@ -10,7 +10,8 @@ use Rattle.cw_rights.specs.Trees.{Tree, nothing, never, one, seq, alt, star, plu
 use Rattle.cw_dfa.specs.Sets.{has, skips, ends, reads}
 use Rattle.cw_dfa.proofs.Sums.{or_zero}
 use Rattle.cw_dfa.specs.Tables.{goes, unite}
-use Rattle.cw_dfa.proofs.Bools.{or_cases, or_left, or_right, has_or_cases, has_or_left, has_or_right, has_none}
+use Rattle.cw_rights.proofs.Bools.{or_cases, or_left, or_right}
+use Rattle.cw_dfa.proofs.Bools.{has_or_cases, has_or_left, has_or_right, has_none}
 
 -- two truth values that say the same
 same_bool : (a b : Bool) → (a ≡ true → b ≡ true) → (b ≡ true → a ≡ true) → a ≡ b
@@ -19,7 +20,8 @@ same_bool false true f g = g refl
 same_bool false false f g = refl
 
 pub has_or : (a b i : ℕ) → has (bit_or a b) i ≡ (has a i || has b i)
-has_or a b i = same_bool _ _ (λ e. ⊎_elim (λ x. or_left _ _ x) (λ x. or_right _ _ x) (has_or_cases a b i e)) (λ e. ⊎_elim (λ x. has_or_left a b i x) (λ x. has_or_right a b i x) (or_cases (has a i) (has b i) e))
+has_or a b i = same_bool _ _ (λ e. ⊎_elim (λ x. or_left _ _ x) (λ x. or_right _ _ x) (has_or_cases a b i e))
+    (λ e. ⊎_elim (λ x. has_or_left a b i x) (λ x. has_or_right a b i x) (or_cases (has a i) (has b i) e))
 
 mix : (a b s c d : Bool) → (((a || b) && s) || (c || d)) ≡ (((a && s) || c) || ((b && s) || d))
 mix true true true c d = refl
@@ -76,8 +78,10 @@ goes_or nothing k d e s t = refl
 goes_or never k d e s t = refl
 goes_or (one l) k d e s t = cond_or d e (2 ^ k)
 goes_or (seq a b) k d e s t =
-    let f : (((d || e) && skips a) || ends a k (bit_or s t)) ≡ (((d && skips a) || ends a k s) || ((e && skips a) || ends a k t)) = rw (ends_or a k s t) (mix d e (skips a) (ends a k s) (ends a k t)) in
-    ap₂ bit_or (goes_or a k d e s t) (ap (λ x. goes b (k + count a) x (bit_or s t)) f ∙ goes_or b (k + count a) ((d && skips a) || ends a k s) ((e && skips a) || ends a k t) s t) ∙ swap_or (goes a k d s) (goes a k e t) (goes b (k + count a) ((d && skips a) || ends a k s) s) (goes b (k + count a) ((e && skips a) || ends a k t) t)
+    let f : (((d || e) && skips a) || ends a k (bit_or s t)) ≡ (((d && skips a) || ends a k s) || ((e && skips a) || ends a k t)) =
+    rw (ends_or a k s t) (mix d e (skips a) (ends a k s) (ends a k t)) in
+    ap₂ bit_or (goes_or a k d e s t) (ap (λ x. goes b (k + count a) x (bit_or s t)) f ∙ goes_or b (k + count a) ((d && skips a) || ends a k s) ((e && skips a) || ends a k t) s t)
+    ∙ swap_or (goes a k d s) (goes a k e t) (goes b (k + count a) ((d && skips a) || ends a k s) s) (goes b (k + count a) ((e && skips a) || ends a k t) t)
 goes_or (alt a b) k d e s t = ap₂ bit_or (goes_or a k d e s t) (goes_or b (k + count a) d e s t) ∙ swap_or (goes a k d s) (goes a k e t) (goes b (k + count a) d s) (goes b (k + count a) e t)
 goes_or (star a) k d e s t =
     let f : ((d || e) || ends a k (bit_or s t)) ≡ ((d || ends a k s) || (e || ends a k t)) = rw (ends_or a k s t) (swap d e (ends a k s) (ends a k t)) in

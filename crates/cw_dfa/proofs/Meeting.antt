@@ -87,7 +87,8 @@ pub ends_lasts : (r : Tree) (k set : ℕ) → ends r k set ≡ meets set (lasts 
 ends_lasts nothing k set = sym (meets_none set)
 ends_lasts never k set = sym (meets_none set)
 ends_lasts (one l) k set = sym (meets_pow set k)
-ends_lasts (seq r s) k set = ap₂ (λ a b. (a && skips s) || b) (ends_lasts r k set) (ends_lasts s (k + count r) set) ∙ ap (λ a. a || meets set (lasts s (k + count r))) (by (skips s)) ∙ sym (meets_or set (cond (skips s) (lasts r k) 0) (lasts s (k + count r)))
+ends_lasts (seq r s) k set = ap₂ (λ a b. (a && skips s) || b) (ends_lasts r k set) (ends_lasts s (k + count r) set) ∙ ap (λ a. a || meets set (lasts s (k + count r))) (by (skips s))
+    ∙ sym (meets_or set (cond (skips s) (lasts r k) 0) (lasts s (k + count r)))
   where
     and_true : (a : Bool) → (a && true) ≡ a
     and_true true = refl

@@ -1,31 +1,12 @@
 -- The trees of sequences and of alternatives.
 use Rattle.std.proofs.Common.{◌≡◌, ◌⊎◌, inl, inr, ℕ, ◌+◌, List, [], ◌∷◌, Vec, Global, refl, sym, ap, ◌∙◌}
 use Rattle.std.specs.Int.RustNames.{bit_or}
-use mathlib.Core.Former.{Count}
 use Rattle.cw_rights.specs.declared.words.Letter.{Letter}
-use Rattle.cw_rights.specs.declared.words.Regex.{Regex, Cat', Or', Row_of-Regex, end_of-Regex, more_of-Regex, items-the_row-Regex, items_hidden-the_row-Regex-0}
+use Rattle.cw_rights.specs.declared.words.Regex.{Regex}
 use Rattle.cw_rights.specs.declared.words.Regex.TheVariants.{Cat, Or}
-use Rattle.cw_rights.specs.Trees.{seq, alt, count, tree_of, seq_row, alt_row, seq_of, alt_of}
+use Rattle.cw_rights.specs.Trees.{count, tree_of, seq_of, alt_of}
+use Rattle.cw_rights.proofs.Rows.{cat_tree, or_tree}
 use Rattle.cw_dfa.specs.Tables.{matching}
-
-row_seq : (n : _) (row : Row_of-Regex n) → seq_row row ≡ seq_of (items-the_row-Regex n row)
-row_seq n end_of-Regex = refl
-row_seq n (more_of-Regex r rest) = ap (seq (tree_of r)) (row_seq _ rest)
-
-row_alt : (n : _) (row : Row_of-Regex n) → alt_row row ≡ alt_of (items-the_row-Regex n row)
-row_alt n end_of-Regex = refl
-row_alt n (more_of-Regex r rest) = ap (alt (tree_of r)) (row_alt _ rest)
-
-abbrev row_in : Regex → (n : Count) × Row_of-Regex n
-row_in (Cat' shape row) = (_, row)
-row_in (Or' shape row) = (_, row)
-row_in _ = (_, end_of-Regex)
-
-pub cat_tree : (r : Regex) (v : Vec Regex Global) → r ≡ Cat v → tree_of r ≡ seq_of v.items
-cat_tree r v e = let q = row_in (Cat v) in ap tree_of e ∙ row_seq q.0 q.1 ∙ ap seq_of (items_hidden-the_row-Regex-0 v)
-
-pub or_tree : (r : Regex) (v : Vec Regex Global) → r ≡ Or v → tree_of r ≡ alt_of v.items
-or_tree r v e = let q = row_in (Or v) in ap tree_of e ∙ row_alt q.0 q.1 ∙ ap alt_of (items_hidden-the_row-Regex-0 v)
 
 pub cat_is : (r : Regex) (v : Vec Regex Global) (items : List Regex) → r ≡ Cat v → items ≡ v.items → tree_of r ≡ seq_of items
 cat_is r v items e f = cat_tree r v e ∙ sym (ap seq_of f)

@@ -1,5 +1,6 @@
 -- The set of a word tells the least rule that it breaks.
-use Rattle.std.proofs.Common.{◌≡◌, inl, inr, ℕ, zero, suc, ◌+◌, ◌≤◌, List, [], ◌∷◌, ◌++◌, Bool, true, false, cond, Option, Some, None, refl, sym, ap, ◌∙◌, subst, arith, append_assoc, append-nil, ⊎_elim}
+use Rattle.std.proofs.Common.{◌≡◌, inl, inr, ℕ, zero, suc, ◌+◌, ◌≤◌, List, [], ◌∷◌, ◌++◌, Bool, true, false, cond, Option, Some, None, refl, sym, ap, ◌∙◌, subst, arith, append_assoc}
+use Rattle.std.proofs.Common.{append-nil, ⊎_elim}
 use Rattle.cw_rights.specs.declared.words.Letter.{Letter}
 use Rattle.cw_rights.specs.Policies.{PlainRule, Breaks}
 use Rattle.cw_rights.specs.Trees.{Tree, nothing, never, one, seq, alt, star, plus, maybe, count}
@@ -8,7 +9,7 @@ use Rattle.cw_dfa.specs.Positions.{Reads, bad_of, IsSetOf}
 use Rattle.cw_dfa.specs.Sets.{has, ends}
 use Rattle.cw_dfa.specs.Verdicts.{IsVerdict, verdict, next_of, walk}
 use Rattle.cw_dfa.proofs.Bools.{has_pow_only}
-use Rattle.cw_dfa.proofs.Pieces.{NotNil, nil_or_not, not_nil_right, not_nil}
+use Rattle.cw_rights.proofs.Pieces.{NotNil, nil_or_not, not_nil_right, not_nil}
 use Rattle.cw_dfa.proofs.Known.{Within, Known, Decides, reads_low, reads_exact, ends_sound, ends_complete, alt_left, alt_right}
 
 abbrev AtStart : Word → Type 0
@@ -64,7 +65,8 @@ first_is (r ∷ rs) n k w set h = by (ends r.bad k set) refl (first_is rs (n + 1
     here = alt_left AtStart r.bad (bad_of rs) k w set h
 
     not_first : ends r.bad k set ≡ false → Breaks (r ∷ rs) w 0 → ⊥
-    not_first t b = ⊎_elim (λ e. b.0 e) (λ m. let same : r ≡ b.1 = cc in let e = ends_complete r.bad AtStart k w set here ([], w, refl, refl, m, subst (λ x. Matches x.bad w) (sym same) b.3) in let z : true ≡ false = sym e ∙ t in absurd (cc)) (nil_or_not w)
+    not_first t b = ⊎_elim (λ e. b.0 e) (λ m. let same : r ≡ b.1 = cc in let e = ends_complete r.bad AtStart k w set here ([], w, refl, refl, m, subst (λ x. Matches x.bad w) (sym same) b.3)
+        in let z : true ≡ false = sym e ∙ t in absurd (cc)) (nil_or_not w)
 
     pass : (o : Option ℕ) → ends r.bad k set ≡ false → FirstFrom rs w (n + 1) o → FirstFrom (r ∷ rs) w n o
     pass None t f = nowhere
@@ -92,9 +94,10 @@ verdict_is rules w set h = by (verdict rules 0 1 set) (first_is rules 0 1 w set 
     by None f = f
     by (Some m) f = let e = f.1 in let z : f.0 ≡ m = omega arith in (subst (Breaks rules w) z f.2, λ j b. let y = f.3 j b in omega arith)
 
-walk_set : (rules : List PlainRule) (v w : Word) (set : ℕ) → IsSetOf rules v set → IsSetOf rules (v ++ w) (walk rules set w)
+pub walk_set : (rules : List PlainRule) (v w : Word) (set : ℕ) → IsSetOf rules v set → IsSetOf rules (v ++ w) (walk rules set w)
 walk_set rules v [] set h = subst (λ x. IsSetOf rules x set) (sym (append-nil v)) h
-walk_set rules v (c ∷ w) set h = subst (λ x. IsSetOf rules x (walk rules (next_of rules set c) w)) (append_assoc v (c ∷ []) w) (walk_set rules (v ++ c ∷ []) w (next_of rules set c) (next_set rules v set c h))
+walk_set rules v (c ∷ w) set h = subst (λ x. IsSetOf rules x (walk rules (next_of rules set c) w)) (append_assoc v (c ∷ []) w)
+    (walk_set rules (v ++ c ∷ []) w (next_of rules set c) (next_set rules v set c h))
 
 pub judged : (rules : List PlainRule) (w : Word) → IsVerdict rules w (verdict rules 0 1 (walk rules 1 w))
 judged rules w = verdict_is rules w (walk rules 1 w) (walk_set rules [] w 1 (start_set rules))

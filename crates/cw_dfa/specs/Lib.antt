@@ -1,4 +1,5 @@
 -- The definitions.
+pub mod Kept
 pub mod Parts
 pub mod Positions
 pub mod Sets

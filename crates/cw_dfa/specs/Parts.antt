@@ -1,4 +1,4 @@
--- What is read off an expression and off all rules in one pass.
+-- Working definitions: what is read off an expression and off all rules in one pass.
 use Rattle.std.specs.Prelude.{◌≡◌, ℕ, ◌+◌, ◌<◌, ◌≤◌, List, length, take, slice_index}
 use Rattle.cw_rights.specs.declared.policy.Rule.{Rule}
 use Rattle.cw_rights.specs.Trees.{Tree, count}

@@ -1,11 +1,14 @@
 -- The policy states: the least set that has the start and is closed under letters that break no rule.
-use Rattle.std.specs.Prelude.{◌≡◌, ℕ, List, ◌++◌, Option, Some, None, length, ◌<◌}
+use Rattle.std.specs.Prelude.{ℕ, List, Option, Some, None, length, ◌<◌}
 use Rattle.std.specs.Int.RustNames.{bit_and}
 use Rattle.std.specs.List.{Contains, filter_map}
 use Rattle.std.specs.List.Sorted.{IsStrictlySortedBy}
 use Rattle.std.specs.Ordering.{nat_cmp}
 use Rattle.cw_rights.specs.Policies.{PlainRule}
 use Rattle.cw_rights.specs.declared.words.Letter.{Letter}
+use Rattle.cw_dfa.specs.Positions.{bad_of}
+use Rattle.cw_dfa.specs.Sets.{has}
+use Rattle.cw_dfa.specs.Tables.{goes}
 use Rattle.cw_dfa.specs.Verdicts.{verdict, next_of}
 
 pub data Least {A : Type 0} (step : A → List A) (start : A) : A → Type 0 where
@@ -34,19 +37,12 @@ steps rules letters set = filter_map (after rules set) letters
 abbrev pub Reached : List PlainRule → List Letter → ℕ → Type 0
 Reached rules letters = Least (steps rules letters) 1
 
+-- ---- Working definitions: what the program keeps of its search
+
 -- the same by what may follow the set, and a mask of what matches the letter
 abbrev pub after_mask : List PlainRule → ℕ → ℕ → Option ℕ
 after_mask rules ahead mask = unless_bad (verdict rules 0 1 (bit_and ahead mask)) (bit_and ahead mask)
 
--- the set has the numbers that were seen, each once
-pub record SeenIs (seen set : List ℕ) : Type 0 where
-  pub same : (k : ℕ) → (Contains seen k → Contains set k) × (Contains set k → Contains seen k)
-  pub once : length set ≡ length seen
-  pub order : IsStrictlySortedBy nat_cmp set
-
--- what was seen grows by some of these numbers, and has all of them then
-pub record Adds (old new keys : List ℕ) : Type 0 where
-  pub more : List ℕ
-  pub is : new ≡ old ++ more
-  pub from : (k : ℕ) → Contains more k → Contains keys k
-  pub has : (k : ℕ) → Contains keys k → Contains new k
+-- the sets after a set, by the masks of the letters
+abbrev pub after_masks : List PlainRule → List ℕ → ℕ → List ℕ
+after_masks rules masks set = filter_map (after_mask rules (goes (bad_of rules) 1 (has set 0) set)) masks

@@ -1,4 +1,4 @@
--- What may follow, whatever the letter is, and what reads a letter.
+-- Working definitions: what may follow, whatever the letter is, and what reads a letter.
 use Rattle.std.specs.Prelude.{◌≡◌, ℕ, ◌+◌, ◌^◌, List, [], ◌∷◌, Bool, true, false, ◌&&◌, ◌||◌, cond, ◌<◌, slice_index, nat_eq, zero, suc, Option, Some, None}
 use Rattle.std.specs.Int.RustNames.{bit_or, bit_and}
 use Rattle.cw_rights.specs.declared.words.Letter.{Letter}

@@ -2,12 +2,11 @@
 //! the word through its rule reads last.
 #![tactic(auto)]
 
+pub mod laws;
 mod matching;
 pub mod rules;
 pub mod states;
 mod tables;
-#[cfg(test)]
-mod tests;
 
 pub use rules::{DfaFault, Rules, start, step, violated};
 pub use states::all_states;

@@ -51,6 +51,10 @@ impl<'r> Model for Rules<'r> {
 
 impl<'r> Rules<'r> {
     /// Makes the tables of rules: they keep the reference and take no memory.
+    ///
+    /// The contract asks nothing of how deep the expressions nest, nor of the numbers and rights in their tests. The
+    /// calls here and in `step` go as deep as the expressions do; in a valid policy at most 64 parts that need
+    /// parentheses stand each within the one before.
     pub fn make(rules: &'r [Rule]) -> Result<Rules<'r>, DfaFault>
         requires { length rules.now ≤ 32 }
         ensures kept { IfOk result (λ r. r ≡ rules.now) }

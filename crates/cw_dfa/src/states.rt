@@ -1,18 +1,17 @@
-//! The policy states: the sets of positions of the words that break no rule.
+//! The policy states: the sets of positions of the words that keep the rules all along.
 
 ghost use Rattle.std.specs.Prelude.{◌≡◌, ◌+◌, ◌<◌, ◌≤◌, ◌^◌, ◌++◌, [], ◌∷◌, ℕ, List, Some, Ok, Err, length, map, IfOk, OnOk, IfSome, IfNone};
 ghost use Rattle.std.specs.List.{filter_map};
-ghost use Rattle.std.specs.List.Sorted.{IsStrictlySortedBy};
-ghost use Rattle.std.specs.Ordering.{nat_cmp};
+ghost use Rattle.std.specs.Option.{option_to_list};
 ghost use Rattle.cw_dfa.specs.Positions.{bad_of};
 ghost use Rattle.cw_dfa.specs.Tables.{matching};
 ghost use Rattle.cw_dfa.specs.Verdicts.{rules_of};
-ghost use Rattle.cw_dfa.specs.States.{Exactly, HasMore, after_mask, Reached, SeenIs, Adds};
+ghost use Rattle.cw_dfa.specs.States.{Exactly, HasMore, after_mask, Reached};
 
 use crate::rules::{DfaFault, Rules, start};
+use cw_closure::{Steps, closed_up_to};
 use cw_rights::Letter;
 use std::alloc::{AllocError, Global};
-use std::collections::BTreeSet;
 
 fn masks(alloc: Global, rules: &Rules, letters: &[Letter]) -> Result<Vec<u64>, AllocError>
     ensures { IfOk result (λ v. v.items ≡ map (matching (bad_of (rules_of rules.now)) 1) letters.now) }
@@ -34,61 +33,51 @@ fn after_mask(rules: &Rules, ahead: u64, mask: u64) -> Option<u64>
     }
 }
 
-// Sees a number, where it is new.
-fn see(seen: &mut Vec<u64>, set: &mut BTreeSet<u64>, key: u64) -> Result<(), AllocError>
-    requires { SeenIs seen.old.items set.old.keys }
-    ensures more { OnOk result (Adds seen.old.items seen.new.items (key ∷ [])) }
-    ensures same { OnOk result (SeenIs seen.new.items set.new.keys) }
-{
-    if set.insert(key)? {
-        seen.push(key)?;
-    }
-    Ok(())
+// What may follow a set: the rules, and a mask for each letter.
+#[derive(Drop)]
+struct Following<'a, 'r> {
+    rules: &'a Rules<'r>,
+    masks: Vec<u64>,
 }
 
-// Sees the set after a letter, where it breaks no rule and is new.
-fn see_masked(
-    rules: &Rules,
-    ahead: u64,
-    mask: u64,
-    seen: &mut Vec<u64>,
-    set: &mut BTreeSet<u64>,
-) -> Result<(), AllocError>
-    requires { SeenIs seen.old.items set.old.keys }
-    ensures more { OnOk result
-        (Adds seen.old.items seen.new.items (filter_map (after_mask (rules_of rules.now) ahead) (mask ∷ []))) }
-    ensures same { OnOk result (SeenIs seen.new.items set.new.keys) }
-{
-    match after_mask(rules, ahead, mask) {
-        None => Ok(()),
-        Some(next) => see(seen, set, next),
+impl<'a, 'r> Steps<u64> for Following<'a, 'r> {
+    ghost use Rattle.cw_dfa.specs.Verdicts.{rules_of};
+    ghost use Rattle.cw_dfa.specs.States.{after_masks};
+
+    ghost after = { λ following set. after_masks (rules_of following.rules.now) following.masks.items set };
+
+    ghost can_follow = { λ following set. Unit {0} };
+
+    fn put_after(&self, key: u64, keys: &mut Vec<u64>) -> Result<(), AllocError> {
+        put_after_all(self.rules, self.rules.ahead(key), &self.masks, keys)
     }
+
+    ghost keeps = { λ following set next can follows. tt };
 }
 
-// The same of each letter.
-fn see_after(
+// Appends the set after each letter, where it breaks no rule.
+fn put_after_all(
     rules: &Rules,
     ahead: u64,
     masks: &[u64],
-    seen: &mut Vec<u64>,
-    set: &mut BTreeSet<u64>,
+    keys: &mut Vec<u64>,
 ) -> Result<(), AllocError>
-    requires { SeenIs seen.old.items set.old.keys }
-    ensures more { OnOk result
-        (Adds seen.old.items seen.new.items (filter_map (after_mask (rules_of rules.now) ahead) masks.now)) }
-    ensures same { OnOk result (SeenIs seen.new.items set.new.keys) }
+    ensures { OnOk result
+        (keys.new.items ≡ keys.old.items ++ filter_map (after_mask (rules_of rules.now) ahead) masks.now) }
 {
     for mask in masks {
-        see_masked(rules, ahead, *mask, seen, set)?;
+        put_some(keys, after_mask(rules, ahead, *mask))?;
     }
     Ok(())
 }
 
-fn in_order(alloc: Global, set: BTreeSet<u64>) -> Result<Vec<u64>, AllocError>
-    ensures items { IfOk result (λ v. v.items ≡ set.keys) }
-    ensures order { IfOk result (λ v. IsStrictlySortedBy nat_cmp v.items) }
+fn put_some(keys: &mut Vec<u64>, next: Option<u64>) -> Result<(), AllocError>
+    ensures { OnOk result (keys.new.items ≡ keys.old.items ++ option_to_list next) }
 {
-    set.into_iter().collect(alloc)
+    if let Some(next) = next {
+        keys.push(next)?;
+    }
+    Ok(())
 }
 
 // The policy states in order, where they are at most 64.
@@ -99,16 +88,9 @@ fn reach(alloc: Global, rules: &Rules, letters: &[Letter]) -> Result<Option<Vec<
     ensures none { IfOk result (λ keys. IfNone keys (HasMore (Reached (rules_of rules.now) letters.now) 64)) }
 {
     let masks = masks(alloc, rules, letters)?;
-    let mut seen = Vec::new(alloc);
-    let mut set = BTreeSet::new(alloc);
-    see(&mut seen, &mut set, start(rules))?;
-    for i in 0..65 {
-        match seen.get(i) {
-            None => return Ok(Some(in_order(alloc, set)?)),
-            Some(&key) => see_after(rules, rules.ahead(key), &masks, &mut seen, &mut set)?,
-        }
-    }
-    Ok(None)
+    let following = Following { rules, masks };
+    let keys = closed_up_to(alloc, &following, &[start(rules)], 64)?;
+    Ok(keys)
 }
 
 /// The policy states: the sets without violation that are reached from the start over letters, through sets without

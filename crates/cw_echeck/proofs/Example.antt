@@ -1,6 +1,6 @@
 -- A program with a call that may be split, its game, and a strategy that meets the conditions: the laws aren't empty. The policy wants a
 -- label never to be reached with ambient authority, and entering may be refused.
-use Rattle.std.proofs.Common.{◌≡◌, ℕ, zero, suc, ◌<◌, List, [], ◌∷◌, Contains, Bool, true, false, ◌&&◌, Option, Some, None, nat_eq, eqb-true, refl, sym, ap, ◌∙◌, subst, ⊎_elim, arith}
+use Rattle.std.proofs.Common.{◌≡◌, ℕ, zero, suc, ◌<◌, List, [], ◌∷◌, Contains, Bool, true, false, ◌&&◌, Some, None, nat_eq, eqb-true, refl, sym, ap, ◌∙◌, subst, ⊎_elim, arith}
 use Rattle.std.specs.Prelude.{slice_get}
 use Rattle.std.specs.List.{list_all}
 use Rattle.std.proofs.lemmas.Option.{none-some, same_Some}
@@ -11,7 +11,7 @@ use Rattle.cw_rights.specs.Capabilities.{applied}
 use Rattle.cw_rights.specs.Words.{Word}
 use Rattle.cw_rights.specs.Policies.{PlainPolicy, primitives}
 use Rattle.cw_certs.specs.declared.moves.Move.TheVariants.{Grant, Refuse, On}
-use Rattle.cw_certs.specs.Strategies.{How, Bad, Out, Both, Go, Into, Row, Strategy, back_of}
+use Rattle.cw_certs.specs.Strategies.{How, Bad, Out, Both, Go, Into, Row, Strategy}
 use Rattle.cw_syntax.specs.Frames.{new_frame}
 use Rattle.cw_syntax.specs.Plans.{Plain, Call, Label, Stms, end, then, Routine, Plan}
 use Rattle.cw_model.specs.Boards.{Problem, may_grant}
@@ -20,24 +20,24 @@ use Rattle.cw_game.specs.declared.ambient.AmbientTest.{AmbientTest}
 use Rattle.cw_game.specs.declared.spots.Spot.{Spot}
 use Rattle.cw_game.specs.declared.spots.Spot.TheVariants.{Step, Exit, Visit as VisitSpot, Asked as AskedSpot, Label as LabelSpot, Call as CallSpot, SplitCall}
 use Rattle.cw_game.specs.Ambient.{bad_words, IsAmbient, is_bad, is_granted}
-use Rattle.cw_game.specs.Games.{States, AreStates, letter_of, Game, returned, IsLost}
+use Rattle.cw_game.specs.Games.{States, AreStates, letter_of, Game, IsLost}
 use Rattle.cw_game.specs.Places.{At, IsLaidOut, HasRoutines}
-use Rattle.cw_game.specs.Conditions.{has, IsAt, HowOk, IsClosedStrategy}
+use Rattle.cw_game.specs.Conditions.{fault_in, strategy_fault, IsGoodStrategy}
+use Rattle.cw_game.specs.Standing.{IsGameOf}
 use Rattle.cw_game.proofs.Ambients.{bad_last, last_bad}
 use Rattle.cw_game.proofs.Reached.{are_reached}
-use Rattle.cw_echeck.specs.Beating.{IsGameOf, StartsAt}
-use Rattle.cw_echeck.proofs.Wins.{closed_beats}
-use Rattle.cw_echeck.proofs.Rows.{closed_loses}
+use Rattle.cw_echeck.specs.Beating.{IsStartRow}
+use Rattle.cw_echeck.proofs.Laws.{good_starts, good_beat, good_lose}
 
 abbrev tests : List AmbientTest
 tests = record { label = 0; wanted = true } ∷ []
 
 -- the label `a`, and the function `f`, which may be called in a process of its own
 abbrev policy : PlainPolicy
-policy = record { descriptors = []; limits = []; refuse_limit = false; refuse_enter = true; refuse_split = false; split = (102 ∷ []) ∷ []; labels = (97 ∷ []) ∷ []; rules = record { name = []; bad = bad_words (record { label = 0; wanted = true }) } ∷ [] }
+policy = record { descriptors = []; limits = []; refuse_limit = false; refuse_enter = true; refuse_split = false; split = (102 ∷ []) ∷ []; labels = (97 ∷ []) ∷ []; rules = record { name = []; bad = bad_words (record { label = 0; wanted = true }) } ∷ []; stop = false; format = 1; detached = [] }
 
 is_ambient : IsAmbient policy tests
-is_ambient = record { limits = refl; rules = refl }
+is_ambient = record { limits = refl; rules = refl; stop = refl }
 
 -- state 0 has ambient authority, state 1 has none
 abbrev state_with : Bool → ℕ
@@ -171,54 +171,40 @@ rows = row 11 0 Bad ∷ row 10 0 (Go Refuse 0) ∷ row 9 0 (Both 0 1)
 abbrev strategy : Strategy
 strategy = record { states = 2; rows = rows }
 
-abbrev Meets : ℕ → Row → Type 0
-Meets i r = HowOk game strategy i r.pos r.state r.aim r.how
+-- it meets the eight conditions
+good : IsGoodStrategy game strategy
+good = refl
 
--- each exit state of the aim 1 has the row 2 after the return
-backs : (i : ℕ) → 2 < i → (kept : Option ℕ) → returned states kept 0 ≡ 0 → (x : ℕ) → x < 2 → has 1 x ≡ true → (b : ℕ) × (back_of ((0, 2) ∷ []) x ≡ Some b) × (b < i) × IsAt strategy b 9 (returned states kept x) 0
-backs i lt kept e zero le h = (2, refl, lt, subst (λ q. IsAt strategy 2 9 q 0) (sym e) (Both 0 1, refl))
-backs i lt kept e (suc zero) le h = cc
-backs i lt kept e (suc (suc x)) le h = absurd (omega (arith, le))
+-- so it beats every weaver of this program from its start row
+start : (row : ℕ) × IsStartRow game strategy row
+start = good_starts game strategy good
 
-meets : (i : ℕ) (r : Row) → slice_get rows i ≡ Some r → Meets i r
-meets zero r e = subst (Meets 0) (same_Some _ r e) refl
-meets (suc zero) r e = subst (Meets 1) (same_Some _ r e) (omega arith, (refl, refl, refl, refl), (11, 0, refl, (Bad, refl)))
-meets (suc (suc zero)) r e = subst (Meets 2) (same_Some _ r e) (omega arith, omega arith, refl, (Bad, refl), (Go Refuse 0, refl))
-meets (suc (suc (suc zero))) r e = subst (Meets 3) (same_Some _ r e) (1, refl, (λ y. cc), refl)
-meets (suc (suc (suc (suc zero)))) r e = subst (Meets 4) (same_Some _ r e) (omega arith, (refl, refl, refl, refl), (17, 0, refl, (Out, refl)))
-meets (suc (suc (suc (suc (suc zero))))) r e = subst (Meets 5) (same_Some _ r e) (omega arith, (refl, refl, refl, refl), (16, 0, refl, (Go On 3, refl)))
-meets (suc (suc (suc (suc (suc (suc zero)))))) r e = subst (Meets 6) (same_Some _ r e) (omega arith, omega arith, refl, (Go On 3, refl), (Go Refuse 4, refl))
-meets (suc (suc (suc (suc (suc (suc (suc zero))))))) r e = subst (Meets 7) (same_Some _ r e) (omega arith, (1, 9, Some 0, 1, (refl, refl, refl), (Both 4 5, refl), backs 7 (omega arith) (Some 0) refl))
-meets (suc (suc (suc (suc (suc (suc (suc (suc zero)))))))) r e = subst (Meets 8) (same_Some _ r e) (omega arith, (1, 9, None, 1, (refl, refl, refl), (Both 4 5, refl), backs 8 (omega arith) None refl))
-meets (suc (suc (suc (suc (suc (suc (suc (suc (suc zero))))))))) r e = subst (Meets 9) (same_Some _ r e) (omega arith, (refl, refl, refl, refl), (8, 0, refl, (Into 6 ((0, 2) ∷ []), refl)))
-meets (suc (suc (suc (suc (suc (suc (suc (suc (suc (suc zero)))))))))) r e = subst (Meets 10) (same_Some _ r e) (omega arith, omega arith, refl, (Into 6 ((0, 2) ∷ []), refl), (Go Grant 7, refl))
-meets (suc (suc (suc (suc (suc (suc (suc (suc (suc (suc (suc zero))))))))))) r e = subst (Meets 11) (same_Some _ r e) (omega arith, (refl, refl, refl, refl), (5, 0, refl, (Both 8 9, refl)))
-meets (suc (suc (suc (suc (suc (suc (suc (suc (suc (suc (suc (suc zero)))))))))))) r e = subst (Meets 12) (same_Some _ r e) (omega arith, omega arith, refl, (Both 8 9, refl), (Go Refuse 10, refl))
-meets (suc (suc (suc (suc (suc (suc (suc (suc (suc (suc (suc (suc (suc zero))))))))))))) r e = subst (Meets 13) (same_Some _ r e) (omega arith, (refl, refl, refl, refl), (3, 0, refl, (Both 10 11, refl)))
-meets (suc (suc (suc (suc (suc (suc (suc (suc (suc (suc (suc (suc (suc (suc zero)))))))))))))) r e = subst (Meets 14) (same_Some _ r e) (omega arith, (refl, refl, refl, refl), (2, 0, refl, (Go On 12, refl)))
-meets (suc (suc (suc (suc (suc (suc (suc (suc (suc (suc (suc (suc (suc (suc (suc zero))))))))))))))) r e = subst (Meets 15) (same_Some _ r e) (omega arith, omega arith, refl, (Go On 12, refl), (Go Refuse 13, refl))
-meets (suc (suc (suc (suc (suc (suc (suc (suc (suc (suc (suc (suc (suc (suc (suc (suc i)))))))))))))))) r e = absurd (none-some r e)
-
-starts : StartsAt game strategy 15
-starts = record { closed = meets; start = (Both 13 14, refl) }
-
--- so it beats every weaver of this program
-beats : Beats problem strategy 15
-beats = closed_beats Means game problem refl right laid has_routines strategy 15 meets (Both 13 14, refl)
+beats : Beats problem strategy start.0
+beats = good_beat problem game strategy start.0 is_game good start.1
 
 loses : IsLost game 0 0 (λ x. true)
-loses = closed_loses Means game problem refl right laid has_routines strategy meets 15 (Both 13 14, refl)
+loses = good_lose problem game strategy is_game good
 
--- A row that names itself, a call without a row after its return, a label that isn't bad: none of these meets the conditions.
-needs_smaller : IsClosedStrategy game (record { states = 2; rows = row 10 0 (Go Refuse 0) ∷ [] }) → ⊥
-needs_smaller h = let k = h 0 (row 10 0 (Go Refuse 0)) refl in let lt = k.0 in omega (arith, lt)
+-- Where the weaver may stop after a refusal it answers the first refusal so, and the strategy fails.
+abbrev stopping : Game
+stopping = record game { policy = record policy { stop = true } }
 
-needs_backs : IsClosedStrategy game (record { states = 2; rows = row 17 1 Out ∷ row 16 1 (Go On 0) ∷ row 15 1 (Go Refuse 1) ∷ row 14 1 (Both 1 2) ∷ row 7 0 (Into 3 []) ∷ [] }) → ⊥
-needs_backs h =
-    let k = (h 4 (row 7 0 (Into 3 [])) refl).1 in
-    let aim : k.3 ≡ 1 = sym (ap (λ (r : Row). r.aim) (same_Some _ _ k.5.1)) in
-    let b = k.6 0 (omega arith) (subst (λ e. has e 0 ≡ true) (sym aim) refl) in
-    none-some b.0 b.1
+needs_another_move : strategy_fault stopping strategy ≡ Some (fault_in 1 5)
+needs_another_move = refl
 
-needs_bad : IsClosedStrategy game (record { states = 2; rows = record { pos = 11; state = 1; aim = 0; how = Bad } ∷ [] }) → ⊥
-needs_bad h = let k = h 0 (record { pos = 11; state = 1; aim = 0; how = Bad }) refl in cc
+-- A row that names itself, a call without a row after its return, a row for another exit state, a label that isn't bad, a state that is none:
+-- none of these meets the conditions.
+names_itself : strategy_fault game (record { states = 2; rows = row 10 0 (Go Refuse 0) ∷ [] }) ≡ Some (fault_in 0 1)
+names_itself = refl
+
+needs_backs : strategy_fault game (record { states = 2; rows = row 17 1 Out ∷ row 16 1 (Go On 0) ∷ row 15 1 (Go Refuse 1) ∷ row 14 1 (Both 1 2) ∷ row 7 0 (Into 3 []) ∷ [] }) ≡ Some (fault_in 4 7)
+needs_backs = refl
+
+needs_bad : strategy_fault game (record { states = 2; rows = record { pos = 11; state = 1; aim = 0; how = Bad } ∷ [] }) ≡ Some (fault_in 0 2)
+needs_bad = refl
+
+needs_states : strategy_fault game (record { states = 2; rows = record { pos = 11; state = 2; aim = 0; how = Bad } ∷ [] }) ≡ Some (fault_in 0 1)
+needs_states = refl
+
+needs_a_start : strategy_fault game (record { states = 2; rows = row 11 0 Bad ∷ [] }) ≡ Some (fault_in 1 8)
+needs_a_start = refl

@@ -4,11 +4,12 @@ use Rattle.std.proofs.lemmas.Nat.Bits.{bit_at-zero}
 use Rattle.cw_rights.specs.declared.capabilities.Primitive.{Primitive}
 use Rattle.cw_rights.specs.declared.capabilities.Primitive.TheVariants.{Split}
 use Rattle.cw_certs.specs.declared.moves.Move.{Move}
-use Rattle.cw_certs.specs.declared.moves.Move.TheVariants.{Skip, Try, Grant, Refuse, On, Left, Right, Opened, Failed}
+use Rattle.cw_certs.specs.declared.moves.Move.TheVariants.{Skip, Try, Grant, Refuse, On, Left, Right, Opened, Failed, Stop}
 use Rattle.cw_game.specs.declared.spots.Spot.{Spot}
 use Rattle.cw_game.specs.declared.spots.Spot.TheVariants.{Visit as VisitSpot, Asked as AskedSpot, Call as CallSpot, SplitCall, Exit}
-use Rattle.cw_game.specs.Games.{Game, may_refuse_in, Ret, Config, at_pair, past_asked, leads_in, bad_in, weavers_in}
-use Rattle.cw_game.specs.Conditions.{has, CallsIn, is_call_in, is_exit_in}
+use Rattle.cw_game.specs.Games.{Game, refuses_in, Ret, Config, at_pair, past_asked, leads_in, bad_in, weavers_in}
+use Rattle.cw_game.specs.Pairs.{has, is_call_in, is_exit_in}
+use Rattle.cw_game.specs.Closed.{CallsIn}
 
 -- a set without members
 pub empty : (q : ℕ) → has 0 q ≡ false
@@ -26,7 +27,7 @@ module _ (g : Game) where
 
   pub local_over : (p q : ℕ) (rets : List Ret) (spot : Option Spot) (by : Move) → is_call_in spot ≡ false → is_exit_in spot ≡ false → option_map (λ (c : Config). at_pair c.pos c.state rets) (leads_in g p q [] spot by) ≡ leads_in g p q rets spot by
   local_over p q rets (Some (AskedSpot j i a)) Grant c e = granted_over p q rets a
-  local_over p q rets (Some (AskedSpot j i a)) Refuse c e = if_over (may_refuse_in g q a) (at_pair (p + 1) q []) rets
+  local_over p q rets (Some (AskedSpot j i a)) Refuse c e = if_over (refuses_in g q a) (at_pair (p + 1) q []) rets
   local_over p q rets (Some (CallSpot j f n)) by c e = cc
   local_over p q rets (Some (SplitCall j f n)) by c e = cc
   local_over p q rets (Some (Exit f)) by c e = cc
@@ -39,6 +40,7 @@ module _ (g : Game) where
   local_over p q rets _ Try c e = refl
   local_over p q rets _ Grant c e = refl
   local_over p q rets _ Refuse c e = refl
+  local_over p q rets _ Stop c e = refl
 
   -- a call leads to its callee
   pub calls_to : (p q f n : ℕ) (kept : Option ℕ) (rets : List Ret) (spot : Option Spot) → CallsIn q spot f n kept → (leads_in g p q rets spot On ≡ Some (at_pair (g.entry f) q (record { back = n; kept = kept } ∷ rets))) × (is_call_in spot ≡ true) × (bad_in g q spot ≡ false)

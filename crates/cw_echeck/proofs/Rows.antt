@@ -8,16 +8,16 @@ use Rattle.cw_rights.specs.declared.capabilities.Primitive.TheVariants.{Split}
 use Rattle.cw_certs.specs.declared.moves.Move.{Move}
 use Rattle.cw_certs.specs.declared.moves.Move.TheVariants.{Skip, Try, Grant, Refuse, On, Left, Right, Opened, Failed}
 use Rattle.cw_certs.specs.Strategies.{How, Bad, Out, Both, Go, Into, Strategy}
-use Rattle.cw_model.specs.Boards.{Problem, start_board}
+use Rattle.cw_model.specs.Boards.{Board, start_board}
 use Rattle.cw_game.specs.declared.spots.Spot.{Spot}
 use Rattle.cw_game.specs.declared.spots.Spot.TheVariants.{Visit, Asked, Step, Branch, Label, Open, Close, Call, SplitCall, Exit}
-use Rattle.cw_game.specs.Games.{AreStates, Game, may_refuse_in, returned, Ret, Config, at_pair, leads_in, bad_in, weavers_in, Promise, holds_in, Holds, IsLost, leads_to}
-use Rattle.cw_game.specs.Places.{IsLaidOut, HasRoutines}
-use Rattle.cw_game.specs.Conditions.{has, IsAt, CallsIn, is_call_in, is_exit_in, HowOk, IsClosedStrategy}
-use Rattle.cw_game.proofs.Stands.{Meaning}
-use Rattle.cw_game.proofs.Link.{not_both, start_stands}
-use Rattle.cw_game.proofs.Necessity.{EndsIn}
-use Rattle.cw_game.proofs.Standing.{IsStanding, standing_on, state_below}
+use Rattle.cw_game.specs.Games.{Game, refuses_in, returned, Ret, Config, at_pair, leads_in, bad_in, weavers_in, Promise, holds_in, Holds, IsLost, leads_to}
+use Rattle.cw_game.specs.Pairs.{has, IsAt, is_call_in, is_exit_in}
+use Rattle.cw_game.specs.Closed.{CallsIn, HowOk, IsClosedStrategy}
+use Rattle.cw_game.specs.Standing.{IsGameOf}
+use Rattle.cw_echeck.proofs.Boards.{problem_in, Rests, moves_to, state_within, starts}
+use Rattle.cw_syntax.specs.Plans.{Plan}
+use Rattle.cw_game.proofs.Link.{not_both}
 use Rattle.cw_echeck.proofs.Leads.{empty, local_over, calls_to, weavers_to}
 
 fails_left : (a b : Bool) → a ≡ false → (a && b) ≡ false
@@ -60,8 +60,8 @@ module _ (g : Game) (h : ℕ → ℕ → Promise → Bool) where
   asked_lost : (p q j i : ℕ) (a : Primitive) (e : Promise) (by : Move) (p2 q2 : ℕ) → leads_in g p q [] (Some (Asked j i a)) by ≡ Some (at_pair p2 q2 []) → h p2 q2 e ≡ false → holds_in g h p q e (Some (Asked j i a)) ≡ false
   asked_lost p q j i Split e Grant p2 q2 s k = fails_left _ _ (chosen_lost (g.states.may_grant q Split) e (p + 2) q p2 q2 s k)
   asked_lost p q j i a e Grant p2 q2 s k = fails_left _ _ (chosen_lost (g.states.may_grant q a) e (p + 1) (g.states.granted q a) p2 q2 s k)
-  asked_lost p q j i Split e Refuse p2 q2 s k = fails_right (not (g.states.may_grant q Split) || h (p + 2) q e) _ (chosen_lost (may_refuse_in g q Split) e (p + 1) q p2 q2 s k)
-  asked_lost p q j i a e Refuse p2 q2 s k = fails_right (not (g.states.may_grant q a) || h (p + 1) (g.states.granted q a) e) _ (chosen_lost (may_refuse_in g q a) e (p + 1) q p2 q2 s k)
+  asked_lost p q j i Split e Refuse p2 q2 s k = fails_right (not (g.states.may_grant q Split) || h (p + 2) q e) _ (chosen_lost (refuses_in g q Split) e (p + 1) q p2 q2 s k)
+  asked_lost p q j i a e Refuse p2 q2 s k = fails_right (not (g.states.may_grant q a) || h (p + 1) (g.states.granted q a) e) _ (chosen_lost (refuses_in g q a) e (p + 1) q p2 q2 s k)
   asked_lost p q j i a e _ p2 q2 s k = absurd (none-some (at_pair p2 q2 []) s)
 
   -- a move of the environment that leads to what is lost
@@ -80,22 +80,27 @@ module _ (g : Game) (h : ℕ → ℕ → Promise → Bool) where
   move_lost p q e (Some (Close j d n)) On p2 q2 w c x s k = led e n (g.states.closed q d) p2 q2 s k
   move_lost p q e _ _ p2 q2 w c x s k = absurd (none-some (at_pair p2 q2 []) s)
 
-module _ (Means : Meaning) (g : Game) (p : Problem) (e : g.policy ≡ p.policy) (right : AreStates g.policy g.spots g.states Means) (laid : IsLaidOut p.plan g) (routines : HasRoutines p.plan g) (s : Strategy) (closed : IsClosedStrategy g s) where
+module _ (plan : Plan) (g : Game) (game : IsGameOf (problem_in plan g) g) (s : Strategy) (closed : IsClosedStrategy g s) where
+  -- some board stands there
   abbrev IsSuch : Config → Type 0
-  IsSuch c = IsStanding Means g c
+  IsSuch c = (b : Board) × Rests plan g game b c
+
+  -- the frame above these returns may end in this state
+  abbrev EndsIn : List Ret → ℕ → Type 0
+  EndsIn rets x = (pos : ℕ) × (f : ℕ) × (slice_get g.spots pos ≡ Some (Exit f)) × IsSuch (at_pair pos x rets)
 
   goes : (c next : Config) (by : Move) → IsSuch c → bad_in g c.state (slice_get g.spots c.pos) ≡ false → leads_to g c by ≡ Some next → IsSuch next
-  goes c next by h good l = standing_on Means g p e right laid routines c next by h good l
+  goes c next by h good l = let to = moves_to plan g game h.0 c next by h.1 good l in (to.0, to.2)
 
   -- the promise leaves out those exit states of the aim in which the frame above these returns may end
   abbrev LeavesOut : ℕ → List Ret → Promise → Type 0
-  LeavesOut aim rets promised = (x : ℕ) → EndsIn g IsSuch rets x → has aim x ≡ true → promised x ≡ false
+  LeavesOut aim rets promised = (x : ℕ) → EndsIn rets x → has aim x ≡ true → promised x ≡ false
 
   abbrev IsLostFor : ℕ → ℕ → Type 0
   IsLostFor n i = (pos q aim : ℕ) (rets : List Ret) (promised : Promise) → IsSuch (at_pair pos q rets) → IsAt s i pos q aim → LeavesOut aim rets promised → Holds g n pos q promised ≡ false
 
   -- where the frame ended the return stands
-  returns : (n x : ℕ) (kept : Option ℕ) (rets : List Ret) → EndsIn g IsSuch (record { back = n; kept = kept } ∷ rets) x → IsSuch (at_pair n (returned g.states kept x) rets)
+  returns : (n x : ℕ) (kept : Option ℕ) (rets : List Ret) → EndsIn (record { back = n; kept = kept } ∷ rets) x → IsSuch (at_pair n (returned g.states kept x) rets)
   returns n x kept rets ends =
       let c = at_pair ends.0 x (record { back = n; kept = kept } ∷ rets) in
       goes c (at_pair n (returned g.states kept x) rets) On ends.3 (ap (bad_in g x) ends.2) (ap (λ o. leads_in g ends.0 x c.rets o On) ends.2)
@@ -125,7 +130,7 @@ module _ (Means : Meaning) (g : Game) (p : Problem) (e : g.policy ≡ p.policy) 
       let l = calls_to g pos q t.0 t.1 t.2 rets (slice_get g.spots pos) t.4 in
       let to = goes (at_pair pos q rets) (at_pair (g.entry t.0) q (ret ∷ rets)) On h l.2 l.0 in
       let inner : LeavesOut t.3 (ret ∷ rets) (λ x. Holds g n t.1 (returned g.states t.2 x) promised) = λ x ends y.
-      let z = t.6 x (state_below Means g p e right laid routines (at_pair ends.0 x (ret ∷ rets)) ends.3) y in
+      let z = t.6 x (state_within plan g game ends.3.0 (at_pair ends.0 x (ret ∷ rets)) ends.3.1) y in
       below z.0 z.2 t.1 (returned g.states t.2 x) aim rets promised (returns t.1 x t.2 rets ends) z.3 out in
       call_lost g (Holds g n) pos q t.0 t.1 t.2 promised (slice_get g.spots pos) t.4
       (below callee ok.0 (g.entry t.0) q t.3 (ret ∷ rets) (λ x. Holds g n t.1 (returned g.states t.2 x) promised) to t.5 inner)
@@ -138,5 +143,5 @@ module _ (Means : Meaning) (g : Game) (p : Problem) (e : g.policy ≡ p.policy) 
 
   pub closed_loses : (row : ℕ) → IsAt s row (g.entry g.main) g.states.start 0 → IsLost g (g.entry g.main) g.states.start (λ x. true)
   closed_loses row at =
-      let such : IsSuch (at_pair (g.entry g.main) g.states.start []) = (start_board p, start_stands Means g p e right laid routines) in
+      let such : IsSuch (at_pair (g.entry g.main) g.states.start []) = (start_board (problem_in plan g), starts plan g game) in
       (suc row, row_lost (suc row) row (omega arith) (g.entry g.main) g.states.start 0 [] (λ x. true) such at (λ x ends y. absurd (not_both (has 0 x) y (empty x))))

@@ -3,7 +3,6 @@
 ghost use Rattle.std.specs.Prelude.{◌≡◌, ◌≤◌, ◌++◌, IfOk, OnOk, codes, drop, length, map, take, ◌-◌};
 ghost use Rattle.cw_rights.specs.Policies.{policy_of};
 ghost use Rattle.cw_syntax.specs.Marks.{mark_of, AreInOrder};
-ghost use Rattle.cw_certs.specs.Tables.{table_of};
 ghost use Rattle.cw_emit.specs.Cut.{HasNone, cut};
 ghost use Rattle.cw_emit.specs.Woven.{ArePlainMarks, ArePlainNames, Stands, prologue, woven};
 
@@ -26,7 +25,7 @@ pub fn weave_text(
     cert: &WeaverCert,
 ) -> Result<Vec<u8>, NoMemory>
     requires { AreInOrder 0 (length source.now) (map mark_of marks.now) }
-    ensures stands { IfOk result (λ text. Stands text.items source.now (map mark_of marks.now) (table_of cert.now) (policy_of policy.now)) }
+    ensures stands { IfOk result (λ text. Stands text.items source.now (map mark_of marks.now) cert.now (policy_of policy.now)) }
     ensures cut { HasNone (codes "cw{*") source.now → ArePlainNames (policy_of policy.now) → ArePlainMarks source.now (map mark_of marks.now) → IfOk result (λ text. cut text.items ≡ source.now) }
 {
     let mut text = Vec::new(alloc);
@@ -36,7 +35,7 @@ pub fn weave_text(
 }
 
 fn put_prologue(policy: &Policy, cert: &WeaverCert, text: &mut Vec<u8>) -> Result<(), NoMemory>
-    ensures { OnOk result (text.new.items ≡ text.old.items ++ prologue (policy_of policy.now) (table_of cert.now)) }
+    ensures { OnOk result (text.new.items ≡ text.old.items ++ prologue (policy_of policy.now) cert.now) }
 {
     put_bytes(b"/*cw{*/\n#include \"capweave.h\"\n", text)?;
     put_limits(policy, text)?;

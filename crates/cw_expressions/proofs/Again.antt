@@ -47,11 +47,13 @@ unwanted limit m wanted r ts e rest (inr h) = inr h
 abbrev ok : Got → Read
 ok x = Ok x
 
-pub built_is : (o : Op) (parts : List Tree) (flag : Bool) (depth from to : ℕ) (ts rest : List Lexeme) (e : Tree) → from ≡ from_of ts → to ≡ to_of ts → e ≡ node o parts ts → ok (built o parts flag depth from to rest) ≡ ok (state e flag depth ts rest)
+pub built_is : (o : Op) (parts : List Tree) (flag : Bool) (depth from to : ℕ) (ts rest : List Lexeme) (e : Tree) → from ≡ from_of ts → to ≡ to_of ts → e ≡ node o parts ts
+    → ok (built o parts flag depth from to rest) ≡ ok (state e flag depth ts rest)
 built_is o parts flag depth from to ts rest e p q s = rw (p, q, s) refl
 
 -- one part, behind other tokens
-pub over_again : (n m : ℕ) (r : Read) (o : Op) (flag wanted : Bool) (a b rest : List Lexeme) (x : Tree) (from : ℕ) → 0 < length b → from ≡ from_of (a ++ b) → Again n m wanted r b x rest → (e : Tree) → e ≡ node o (x ∷ []) (a ++ b)
+pub over_again : (n m : ℕ) (r : Read) (o : Op) (flag wanted : Bool) (a b rest : List Lexeme) (x : Tree) (from : ℕ) → 0 < length b → from ≡ from_of (a ++ b)
+    → Again n m wanted r b x rest → (e : Tree) → e ≡ node o (x ∷ []) (a ++ b)
     → Again (suc n) (suc m) flag (r >>= λ y. Ok (built o (y.tree ∷ []) flag (y.depth + 1) from y.to y.rest)) (a ++ b) e rest
 over_again n m r o flag wanted a b rest x from some begin (inl h) e same =
     let p = h.fits in
@@ -65,11 +67,13 @@ over_again n m r o flag wanted a b rest x from some begin (inl h) e same =
 over_again n m r o flag wanted a b rest x from some begin (inr h) e same = let p = h.0 in inr (omega arith, rw h.1 refl)
 
 -- two parts with a token between them
-pub pair_again : (n m d : ℕ) (r : Read) (o : Op) (wanted : Bool) (a : List Lexeme) (t : Lexeme) (b rest : List Lexeme) (x y : Tree) → 0 < length a → 0 < length b → d ≤ m → Again n m wanted r b y rest → (e : Tree) → e ≡ node o (x ∷ y ∷ []) (a ++ t ∷ b)
+pub pair_again : (n m d : ℕ) (r : Read) (o : Op) (wanted : Bool) (a : List Lexeme) (t : Lexeme) (b rest : List Lexeme) (x y : Tree) → 0 < length a → 0 < length b → d ≤ m
+    → Again n m wanted r b y rest → (e : Tree) → e ≡ node o (x ∷ y ∷ []) (a ++ t ∷ b)
     → Again (suc n) (suc m) false (r >>= λ z. above n (max d z.depth) (built o (x ∷ z.tree ∷ []) false (max d z.depth + 1) (from_of a) z.to z.rest)) (a ++ t ∷ b) e rest
 pair_again n m d r o wanted a t b rest x y first second le (inr h) e same = let p = h.0 in inr (omega arith, rw h.1 refl)
 pair_again n m d r o wanted a t b rest x y first second le (inl h) e same = by_test (ltb n (max d h.depth)) refl where
-  by_test : (deep : Bool) → ltb n (max d h.depth) ≡ deep → Again (suc n) (suc m) false (r >>= λ z. above n (max d z.depth) (built o (x ∷ z.tree ∷ []) false (max d z.depth + 1) (from_of a) z.to z.rest)) (a ++ t ∷ b) e rest
+  by_test : (deep : Bool) → ltb n (max d h.depth) ≡ deep
+      → Again (suc n) (suc m) false (r >>= λ z. above n (max d z.depth) (built o (x ∷ z.tree ∷ []) false (max d z.depth + 1) (from_of a) z.to z.rest)) (a ++ t ∷ b) e rest
   by_test true test =
       let p = h.fits in
       let q = ltb-true n (max d h.depth) test in
@@ -81,7 +85,8 @@ pair_again n m d r o wanted a t b rest x y first second le (inl h) e same = by_t
         flag = false;
         fits = omega arith;
         unary = λ u. u;
-        is = rw (h.is, test) (built_is o (x ∷ y ∷ []) false (max d h.depth + 1) (from_of a) (to_of b) (a ++ t ∷ b) rest e (sym (from_of_append a (t ∷ b) first)) (sym (to_of_append a (t ∷ b) (omega arith) ∙ to_of_cons t b second)) same);
+        is = rw (h.is, test) (built_is o (x ∷ y ∷ []) false (max d h.depth + 1) (from_of a) (to_of b) (a ++ t ∷ b) rest e (sym (from_of_append a (t ∷ b) first))
+            (sym (to_of_append a (t ∷ b) (omega arith) ∙ to_of_cons t b second)) same);
       })
 
 -- ---- loops
@@ -100,7 +105,8 @@ abbrev pub Arrives : (limit m : ℕ) → Bool → (List Lexeme → Bool) → (Go
 Arrives limit m wanted goes step r ts e rest = Arrived m wanted goes step r ts e rest ⊎ NestsTooDeep limit m r
 
 module _ (limit : ℕ) (wanted : Bool) (goes : List Lexeme → Bool) (step : Got → Read) where
-  pub loop_starts : (m : ℕ) (r : Read) (ts : List Lexeme) (e : Tree) (rest : List Lexeme) → Again limit m wanted r ts e rest → Arrives limit m wanted goes step (r >>= λ x. repeat rest_of goes step (suc (length x.rest)) x) ts e rest
+  pub loop_starts : (m : ℕ) (r : Read) (ts : List Lexeme) (e : Tree) (rest : List Lexeme) → Again limit m wanted r ts e rest
+      → Arrives limit m wanted goes step (r >>= λ x. repeat rest_of goes step (suc (length x.rest)) x) ts e rest
   loop_starts m r ts e rest (inl h) = inl (record { depth = h.depth; flag = h.flag; fuel = suc (length rest); fits = h.fits; enough = omega arith; unary = h.unary; is = rw h.is refl })
   loop_starts m r ts e rest (inr h) = inr (h.0, rw h.1 refl)
 
@@ -117,7 +123,8 @@ module _ (limit : ℕ) (wanted : Bool) (goes : List Lexeme → Bool) (step : Got
       → Arrives limit (suc m) wanted goes step r ts e rest
   loop_steps m r a x mid ts e rest (inr h) go shorter f = let p = h.0 in inr (omega arith, h.1)
   loop_steps m r a x mid ts e rest (inl h) go shorter f = by_fuel h.fuel h.enough h.is where
-    by_step : (k : ℕ) → length rest < k → r ≡ (step (state x h.flag h.depth a mid) >>= λ y. repeat rest_of goes step k y) → Again limit (suc m) wanted (step (state x h.flag h.depth a mid)) ts e rest → Arrives limit (suc m) wanted goes step r ts e rest
+    by_step : (k : ℕ) → length rest < k → r ≡ (step (state x h.flag h.depth a mid) >>= λ y. repeat rest_of goes step k y)
+        → Again limit (suc m) wanted (step (state x h.flag h.depth a mid)) ts e rest → Arrives limit (suc m) wanted goes step r ts e rest
     by_step k lt is (inl s) = inl (record { depth = s.depth; flag = s.flag; fuel = k; fits = s.fits; enough = lt; unary = s.unary; is = is ∙ rw s.is refl })
     by_step k lt is (inr s) = inr (s.0, is ∙ rw s.1 refl)
 

@@ -15,7 +15,8 @@ use Rattle.cw_grammar.specs.Expressions.{loosest}
 use Rattle.cw_expressions.specs.Cursor.{after}
 use Rattle.cw_expressions.specs.Next.{ends}
 use Rattle.cw_expressions.specs.Behind.{is_looser, is_behind}
-use Rattle.cw_expressions.specs.Reading.{Got, Read, rest_of, built, begins_cast, next_of, goes_on_at, is_suffixed, primary, suffixed, postfix, size_of, prefixed, unary, operand, joined, chain, named, assigned, expression, by_rule}
+use Rattle.cw_expressions.specs.Reading.{Got, Read, rest_of, built, begins_cast, next_of, goes_on_at, is_suffixed, primary, suffixed, postfix, size_of, prefixed, unary, operand}
+use Rattle.cw_expressions.specs.Reading.{joined, chain, named, assigned, expression, by_rule}
 use Rattle.cw_expressions.proofs.Repeat.{repeat_ends}
 use Rattle.cw_expressions.proofs.Follows.{Stops, StopsAt, stops_zero, stops_all, stops_below, assign_stops, ends_binary, ends_alone, ended_at, no_suffix, unextended}
 
@@ -46,7 +47,8 @@ assign_stops_by : (l : ℕ) (u : Lexeme) (ts : List Lexeme) (x : Option ℕ) →
 assign_stops_by l u ts None is h = absurd (false≢true h)
 assign_stops_by l u ts (Some number) is h = assign_stops l u ts number is
 
-level_stops : (l : ℕ) (u : Lexeme) (ts : List Lexeme) (b : Bool) → ends u.word ≡ b → (c : Bool) → is_some (operators.assign u.word) ≡ c → cond b true (cond c true (is_looser l (operators.binary u.word))) ≡ true → Stops l (u ∷ ts)
+level_stops : (l : ℕ) (u : Lexeme) (ts : List Lexeme) (b : Bool) → ends u.word ≡ b → (c : Bool) → is_some (operators.assign u.word) ≡ c
+    → cond b true (cond c true (is_looser l (operators.binary u.word))) ≡ true → Stops l (u ∷ ts)
 level_stops l u ts true e c f h = ended_stops l u ts e
 level_stops l u ts false e true f h = assign_stops_by l u ts (operators.assign u.word) refl f
 level_stops l u ts false e false f h = looser_stops l u ts (operators.binary u.word) refl h
@@ -93,7 +95,12 @@ module _ (read : Rule → List Lexeme → Read) (n : ℕ) (t : Lexeme) (us : Lis
     unary_alone : Stops 0 us → unary read n (t ∷ us) ≡ Ok (alone o)
     unfolding unary
     unary_alone stops = by_word t.word leaf where
-      by_word : (word : Word) → is_leaf word ≡ true → elim (operators.sign word) as (λ z. Read) [ Some number ↦ prefixed read n number (Level 0) t us | None ↦ elim (operators.step word) as (λ z. Read) [ Some number ↦ prefixed read n number Unary t us | None ↦ cond (same word w.SizeOf) (size_of read n t us) (postfix read n (t ∷ us)) ] ] ≡ Ok (alone o)
+      by_word : (word : Word) → is_leaf word ≡ true → elim (operators.sign word) as
+          (λ z. Read) [
+            | Some number ↦ prefixed read n number (Level 0) t us
+            | None ↦ elim (operators.step word) as
+                (λ z. Read) [ Some number ↦ prefixed read n number Unary t us | None ↦ cond (same word w.SizeOf) (size_of read n t us) (postfix read n (t ∷ us)) ]
+          ] ≡ Ok (alone o)
       by_word w.Name h = postfix_alone stops
       by_word (w.Number value) h = postfix_alone stops
       by_word (w.Character value) h = postfix_alone stops
@@ -126,19 +133,22 @@ abbrev none : Lexeme
 none = record { word = w.Extern; from = 0; to = 0 }
 
 module _ (read : Rule → List Lexeme → Read) (n : ℕ) (rule : Rule) where
-  pub name_next : (ts : List Lexeme) → 2 ≤ length ts → is_behind rule (get_or ts 1 none).word ≡ true → Is w.Name (get_or ts 0 none) → by_rule read n rule ts ≡ Ok (built op.Name [] true 1 (get_or ts 0 none).from (get_or ts 0 none).to (after ts))
+  pub name_next : (ts : List Lexeme) → 2 ≤ length ts → is_behind rule (get_or ts 1 none).word ≡ true → Is w.Name (get_or ts 0 none)
+      → by_rule read n rule ts ≡ Ok (built op.Name [] true 1 (get_or ts 0 none).from (get_or ts 0 none).to (after ts))
   name_next [] some ended is = absurd (omega arith)
   name_next (t ∷ []) some ended is = absurd (omega arith)
   name_next (t ∷ u ∷ ts) some ended is =
       let stops = behind_stops rule u ts ended in
       rule_alone read n t (u ∷ ts) op.Name (ap is_leaf is) (name_alone read n t (u ∷ ts) is (stops_alone rule (u ∷ ts) stops)) rule stops
 
-  pub number_next : (ts : List Lexeme) → 2 ≤ length ts → is_behind rule (get_or ts 1 none).word ≡ true → (value : ℕ) → Is (w.Number value) (get_or ts 0 none) → by_rule read n rule ts ≡ Ok (built (op.Number value) [] true 1 (get_or ts 0 none).from (get_or ts 0 none).to (after ts))
+  pub number_next : (ts : List Lexeme) → 2 ≤ length ts → is_behind rule (get_or ts 1 none).word ≡ true → (value : ℕ) → Is (w.Number value) (get_or ts 0 none)
+      → by_rule read n rule ts ≡ Ok (built (op.Number value) [] true 1 (get_or ts 0 none).from (get_or ts 0 none).to (after ts))
   number_next [] some ended value is = absurd (omega arith)
   number_next (t ∷ []) some ended value is = absurd (omega arith)
   number_next (t ∷ u ∷ ts) some ended value is = rule_alone read n t (u ∷ ts) (op.Number value) (ap is_leaf is) (number_alone read n t (u ∷ ts) value is) rule (behind_stops rule u ts ended)
 
-  pub character_next : (ts : List Lexeme) → 2 ≤ length ts → is_behind rule (get_or ts 1 none).word ≡ true → (value : ℕ) → Is (w.Character value) (get_or ts 0 none) → by_rule read n rule ts ≡ Ok (built (op.Char value) [] true 1 (get_or ts 0 none).from (get_or ts 0 none).to (after ts))
+  pub character_next : (ts : List Lexeme) → 2 ≤ length ts → is_behind rule (get_or ts 1 none).word ≡ true → (value : ℕ) → Is (w.Character value) (get_or ts 0 none)
+      → by_rule read n rule ts ≡ Ok (built (op.Char value) [] true 1 (get_or ts 0 none).from (get_or ts 0 none).to (after ts))
   character_next [] some ended value is = absurd (omega arith)
   character_next (t ∷ []) some ended value is = absurd (omega arith)
   character_next (t ∷ u ∷ ts) some ended value is = rule_alone read n t (u ∷ ts) (op.Char value) (ap is_leaf is) (character_alone read n t (u ∷ ts) value is) rule (behind_stops rule u ts ended)

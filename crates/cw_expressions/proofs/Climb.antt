@@ -73,7 +73,8 @@ module _ (read : Rule → List Lexeme → Read) (limit : ℕ) where
   climbs_to level below x quiet =
       climbs_over (level - below) 0 (level - below) below ((level - below) + below) x (λ l lower upper. quiet l lower (omega arith)) refl (omega arith)
 
-  pub climbs_on : (level below next : ℕ) (x : Got) → below ≤ next → next < level → Quiet below next x.rest → climb (level - below) below x ≡ (joined_on next x >>= λ y. climb (level - (next + 1)) (next + 1) y)
+  pub climbs_on : (level below next : ℕ) (x : Got) → below ≤ next → next < level → Quiet below next x.rest
+      → climb (level - below) below x ≡ (joined_on next x >>= λ y. climb (level - (next + 1)) (next + 1) y)
   unfolding climb
   climbs_on level below next x past short quiet =
       let e : level - next ≡ suc (level - (next + 1)) = omega (arith, short) in
@@ -81,7 +82,8 @@ module _ (read : Rule → List Lexeme → Read) (limit : ℕ) where
       climbs_over (next - below) (level - next) (level - below) below next x quiet (omega arith) (omega arith) ∙ rw (e, f) refl
 
   -- where an operator is read, and the operand behind it
-  pub climbs_read : (level below next : ℕ) (x y : Got) → below ≤ next → next < level → Quiet below next x.rest → joined_on next y ≡ joined_on next x → climb (level - below) below x ≡ climb (level - next) next y
+  pub climbs_read : (level below next : ℕ) (x y : Got) → below ≤ next → next < level → Quiet below next x.rest → joined_on next y ≡ joined_on next x
+      → climb (level - below) below x ≡ climb (level - next) next y
   climbs_read level below next x y past short quiet same =
       climbs_on level below next x past short quiet
       ∙ ap (λ r. r >>= λ z. climb (level - (next + 1)) (next + 1) z) (sym same)

@@ -19,7 +19,15 @@ module _ (P Q : Derives) (f : (rule : Rule) (ts : List Lexeme) (e : Tree) → P 
 
   primary_weaker : (ts : List Lexeme) (e : Tree) → IsPrimary P ts e → IsPrimary Q ts e
   primary_weaker ts e (inl h) = inl h
-  primary_weaker ts e (inr (inl h)) = inr (inl (h.0, h.1, h.2, h.3, h.4, (h.5.0, h.5.1, h.5.2, h.5.3, h.5.4, h.5.5, separated_weaker (P Expression) (Q Expression) (f Expression) h.2 h.5.1 h.5.6), h.6))
+  primary_weaker ts e (inr (inl h)) = inr (inl (
+    h.0,
+    h.1,
+    h.2,
+    h.3,
+    h.4,
+    (h.5.0, h.5.1, h.5.2, h.5.3, h.5.4, h.5.5, separated_weaker (P Expression) (Q Expression) (f Expression) h.2 h.5.1 h.5.6),
+    h.6,
+  ))
   primary_weaker ts e (inr (inr (inl h))) = inr (inr (inl h))
   primary_weaker ts e (inr (inr (inr (inl h)))) = inr (inr (inr (inl h)))
   primary_weaker ts e (inr (inr (inr (inr (inl h))))) = inr (inr (inr (inr (inl h))))

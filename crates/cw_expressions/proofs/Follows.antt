@@ -1,5 +1,6 @@
 -- What may begin an expression, and what may follow one.
-use Rattle.std.proofs.Common.{◌≡◌, ℕ, zero, suc, ◌<◌, ◌≤◌, Bool, true, false, ◌&&◌, cond, eqb, List, [], ◌∷◌, ◌++◌, length, Some, None, is_some, refl, sym, ap, subst, ◌∙◌, append_assoc, arith, inl, inr}
+use Rattle.std.proofs.Common.{◌≡◌, ℕ, zero, suc, ◌<◌, ◌≤◌, Bool, true, false, ◌&&◌, cond, eqb, List, [], ◌∷◌, ◌++◌, length, Some, None, is_some, refl, sym, ap, subst, ◌∙◌}
+use Rattle.std.proofs.Common.{append_assoc, arith, inl, inr}
 use Rattle.std.proofs.lemmas.Bool.{false≢true, eqb-true}
 use Rattle.cw_syntax.specs.Trees.{Tree}
 use Rattle.cw_grammar.specs.declared.words.Lexeme.{Lexeme}
@@ -259,7 +260,8 @@ unextended word plain yes_word (t ∷ ts) e = is_false (same t.word word) (λ s.
 
 -- ---- first tokens
 
-level_starts : (n l : ℕ) → ((rule : Rule) (ts : List Lexeme) (e : Tree) → IsDerived n rule ts e → Starts starts_expression ts) → (ts : List Lexeme) (e : Tree) → IsLevel (IsDerived n) l ts e → Starts starts_expression ts
+level_starts : (n l : ℕ) → ((rule : Rule) (ts : List Lexeme) (e : Tree) → IsDerived n rule ts e → Starts starts_expression ts) → (ts : List Lexeme) (e : Tree)
+    → IsLevel (IsDerived n) l ts e → Starts starts_expression ts
 level_starts n zero rec ts e (inl h) = rw (h.4, h.5.3) (starts_with starts_expression w.Open h.5.0 h.5.4 refl)
 level_starts n zero rec ts e (inr h) = unary_starts n ts e h
 level_starts n (suc l) rec ts e (inl h) = level_starts n l rec ts e h

@@ -1,5 +1,6 @@
 -- What derives a primary is read as that tree, or nests too deep.
-use Rattle.std.proofs.Common.{◌≡◌, ℕ, zero, suc, ◌+◌, ◌<◌, ◌≤◌, max, Bool, true, false, List, [], ◌∷◌, ◌++◌, length, Result, Ok, Err, Some, None, refl, sym, ap, subst, ◌∙◌, append_assoc, arith, length-append, inl, inr}
+use Rattle.std.proofs.Common.{◌≡◌, ℕ, zero, suc, ◌+◌, ◌<◌, ◌≤◌, max, Bool, true, false, List, [], ◌∷◌, ◌++◌, length, Result, Ok, Err, Some, None, refl, sym, ap, subst, ◌∙◌}
+use Rattle.std.proofs.Common.{append_assoc, arith, length-append, inl, inr}
 use Rattle.std.specs.Prelude.{◌⊎◌}
 use Rattle.std.proofs.lemmas.Bool.{eq-eqb}
 use Rattle.cw_syntax.specs.declared.program.Op.{Op}
@@ -52,7 +53,8 @@ arguments_of list depth rest = Ok (record { list = list; depth = depth; rest = r
 abbrev ArgumentsAgain : (n m : ℕ) → Result Arguments Refusal → List Tree → List Lexeme → Type 0
 ArgumentsAgain n m r list rest = ((d : ℕ) × (d ≤ m) × (r ≡ arguments_of list d rest)) ⊎ NestsTooDeep n m r
 
-module _ (n : ℕ) (read : Rule → List Lexeme → Read) (again : (m : ℕ) (rule : Rule) (ts : List Lexeme) (e : Tree) (rest : List Lexeme) → IsDerived m rule ts e → StopsAt rule rest → Again n m (wants_unary rule) (read rule (ts ++ rest)) ts e rest) where
+module _ (n : ℕ) (read : Rule → List Lexeme → Read) (again : (m : ℕ) (rule : Rule) (ts : List Lexeme) (e : Tree) (rest : List Lexeme) → IsDerived m rule ts e → StopsAt rule rest
+    → Again n m (wants_unary rule) (read rule (ts ++ rest)) ts e rest) where
   -- ---- arguments
 
   abbrev all_arguments : ℕ → List Tree → ℕ → List Lexeme → Result Arguments Refusal
@@ -74,10 +76,12 @@ module _ (n : ℕ) (read : Rule → List Lexeme → Read) (again : (m : ℕ) (ru
   arguments_end (suc k) list d rest e lt = repeat_ends rest_of_arguments (begins w.Comma) (argument read n) k (record { list = list; depth = d; rest = rest }) e
 
   -- the arguments behind a comma
-  arguments_more : (m : ℕ) (y : Tree) (ys : List Tree) (k : ℕ) (before : List Tree) (d : ℕ) (c : Lexeme) (b rest : List Lexeme) → d ≤ m → Is w.Comma c → AreSeparated (IsDerived m Expression) b (y ∷ ys) → StopsAt Expression rest → begins w.Comma rest ≡ false → length b + length rest < k
+  arguments_more : (m : ℕ) (y : Tree) (ys : List Tree) (k : ℕ) (before : List Tree) (d : ℕ) (c : Lexeme) (b rest : List Lexeme) → d ≤ m → Is w.Comma c
+      → AreSeparated (IsDerived m Expression) b (y ∷ ys) → StopsAt Expression rest → begins w.Comma rest ≡ false → length b + length rest < k
       → ArgumentsAgain n m (all_arguments (suc k) before d (c ∷ b ++ rest)) (before ++ y ∷ ys) rest
   arguments_more m y [] k before d c b rest le comma h stops close lt = by_step (argument_step m k before d c b y rest le comma (again m Expression b y rest h stops)) where
-    by_step : ((d2 : ℕ) × (d2 ≤ m) × (all_arguments (suc k) before d (c ∷ b ++ rest) ≡ all_arguments k (before ++ y ∷ []) d2 rest)) ⊎ NestsTooDeep n m (all_arguments (suc k) before d (c ∷ b ++ rest)) → ArgumentsAgain n m (all_arguments (suc k) before d (c ∷ b ++ rest)) (before ++ y ∷ []) rest
+    by_step : ((d2 : ℕ) × (d2 ≤ m) × (all_arguments (suc k) before d (c ∷ b ++ rest) ≡ all_arguments k (before ++ y ∷ []) d2 rest))
+        ⊎ NestsTooDeep n m (all_arguments (suc k) before d (c ∷ b ++ rest)) → ArgumentsAgain n m (all_arguments (suc k) before d (c ∷ b ++ rest)) (before ++ y ∷ []) rest
     by_step (inl s) = inl (s.0, s.1, s.2 ∙ arguments_end k (before ++ y ∷ []) s.0 rest close (omega arith))
     by_step (inr s) = inr s
   arguments_more m y (z ∷ zs) zero before d c b rest le comma h stops close lt = absurd (omega arith)
@@ -88,11 +92,21 @@ module _ (n : ℕ) (read : Rule → List Lexeme → Read) (again : (m : ℕ) (ru
       let shorter : length h.2 + length rest < k = omega (arith, lt, some, ap length h.3, length-append h.0 (h.1 ∷ h.2)) in
       by_step tail regrouped (argument_step m (suc k) before d c h.0 y tail le comma (again m Expression h.0 y tail h.5 (ended_by w.Comma h.1 (h.2 ++ rest) h.4 refl)))
       (λ d2 le2. arguments_more m z zs k (before ++ y ∷ []) d2 h.1 h.2 rest le2 h.4 h.6 stops close shorter) where
-        by_rest : (tail : List Lexeme) → b ++ rest ≡ h.0 ++ tail → (d2 : ℕ) → all_arguments (suc (suc k)) before d (c ∷ h.0 ++ tail) ≡ all_arguments (suc k) (before ++ y ∷ []) d2 tail → ArgumentsAgain n m (all_arguments (suc k) (before ++ y ∷ []) d2 tail) ((before ++ y ∷ []) ++ z ∷ zs) rest → ArgumentsAgain n m (all_arguments (suc (suc k)) before d (c ∷ b ++ rest)) (before ++ y ∷ z ∷ zs) rest
-        by_rest tail regrouped d2 e (inl s) = inl (s.0, s.1, ap (λ (q : List Lexeme). all_arguments (suc (suc k)) before d (c ∷ q)) regrouped ∙ e ∙ s.2 ∙ ap (λ (q : List Tree). arguments_of q s.0 rest) (append_assoc before (y ∷ []) (z ∷ zs)))
+        by_rest : (tail : List Lexeme) → b ++ rest ≡ h.0 ++ tail → (d2 : ℕ)
+            → all_arguments (suc (suc k)) before d (c ∷ h.0 ++ tail) ≡ all_arguments (suc k) (before ++ y ∷ []) d2 tail
+            → ArgumentsAgain n m (all_arguments (suc k) (before ++ y ∷ []) d2 tail) ((before ++ y ∷ []) ++ z ∷ zs) rest
+            → ArgumentsAgain n m (all_arguments (suc (suc k)) before d (c ∷ b ++ rest)) (before ++ y ∷ z ∷ zs) rest
+        by_rest tail regrouped d2 e (inl s) = inl (
+          s.0,
+          s.1,
+          ap (λ (q : List Lexeme). all_arguments (suc (suc k)) before d (c ∷ q)) regrouped ∙ e ∙ s.2
+              ∙ ap (λ (q : List Tree). arguments_of q s.0 rest) (append_assoc before (y ∷ []) (z ∷ zs)),
+        )
         by_rest tail regrouped d2 e (inr s) = inr (s.0, ap (λ (q : List Lexeme). all_arguments (suc (suc k)) before d (c ∷ q)) regrouped ∙ e ∙ s.1)
 
-        by_step : (tail : List Lexeme) → b ++ rest ≡ h.0 ++ tail → ((d2 : ℕ) × (d2 ≤ m) × (all_arguments (suc (suc k)) before d (c ∷ h.0 ++ tail) ≡ all_arguments (suc k) (before ++ y ∷ []) d2 tail)) ⊎ NestsTooDeep n m (all_arguments (suc (suc k)) before d (c ∷ h.0 ++ tail))
+        by_step : (tail : List Lexeme) → b ++ rest ≡ h.0 ++ tail
+            → ((d2 : ℕ) × (d2 ≤ m) × (all_arguments (suc (suc k)) before d (c ∷ h.0 ++ tail) ≡ all_arguments (suc k) (before ++ y ∷ []) d2 tail))
+            ⊎ NestsTooDeep n m (all_arguments (suc (suc k)) before d (c ∷ h.0 ++ tail))
             → ((d2 : ℕ) → d2 ≤ m → ArgumentsAgain n m (all_arguments (suc k) (before ++ y ∷ []) d2 tail) ((before ++ y ∷ []) ++ z ∷ zs) rest)
             → ArgumentsAgain n m (all_arguments (suc (suc k)) before d (c ∷ b ++ rest)) (before ++ y ∷ z ∷ zs) rest
         by_step tail regrouped (inl s) rec = by_rest tail regrouped s.0 s.2 (rec s.0 s.1)
@@ -112,22 +126,27 @@ module _ (n : ℕ) (read : Rule → List Lexeme → Read) (again : (m : ℕ) (ru
   unfolding arguments
   no_arguments rest close = rw close refl
 
-  arguments_again : (m : ℕ) (es : List Tree) (b : List Lexeme) (c : Lexeme) (rest : List Lexeme) → AreSeparated (IsDerived m Expression) b es → Is w.Close c → ArgumentsAgain n m (arguments read n (b ++ c ∷ rest)) es (c ∷ rest)
+  arguments_again : (m : ℕ) (es : List Tree) (b : List Lexeme) (c : Lexeme) (rest : List Lexeme) → AreSeparated (IsDerived m Expression) b es → Is w.Close c
+      → ArgumentsAgain n m (arguments read n (b ++ c ∷ rest)) es (c ∷ rest)
   arguments_again m [] b c rest h close = inl (0, omega arith, rw h (no_arguments (c ∷ rest) (begins_again w.Close c rest close)))
-  arguments_again m (x ∷ []) b c rest h close = by_first (arguments_first x (c ∷ rest) b (no_close m b x (c ∷ rest) h) m (again m Expression b x (c ∷ rest) h (ended_by w.Close c rest close refl))) where
-    by_first : ((d : ℕ) × (d ≤ m) × (arguments read n (b ++ c ∷ rest) ≡ all_arguments (suc (length (c ∷ rest))) (x ∷ []) d (c ∷ rest))) ⊎ NestsTooDeep n m (arguments read n (b ++ c ∷ rest)) → ArgumentsAgain n m (arguments read n (b ++ c ∷ rest)) (x ∷ []) (c ∷ rest)
-    by_first (inl s) = inl (s.0, s.1, s.2 ∙ arguments_end (suc (length (c ∷ rest))) (x ∷ []) s.0 (c ∷ rest) (rw close refl) (omega arith))
-    by_first (inr s) = inr s
+  arguments_again m (x ∷ []) b c rest h close = by_first
+      (arguments_first x (c ∷ rest) b (no_close m b x (c ∷ rest) h) m (again m Expression b x (c ∷ rest) h (ended_by w.Close c rest close refl))) where
+        by_first : ((d : ℕ) × (d ≤ m) × (arguments read n (b ++ c ∷ rest) ≡ all_arguments (suc (length (c ∷ rest))) (x ∷ []) d (c ∷ rest)))
+            ⊎ NestsTooDeep n m (arguments read n (b ++ c ∷ rest)) → ArgumentsAgain n m (arguments read n (b ++ c ∷ rest)) (x ∷ []) (c ∷ rest)
+        by_first (inl s) = inl (s.0, s.1, s.2 ∙ arguments_end (suc (length (c ∷ rest))) (x ∷ []) s.0 (c ∷ rest) (rw close refl) (omega arith))
+        by_first (inr s) = inr s
   arguments_again m (x ∷ y ∷ ys) b c rest h close =
       let tail : List Lexeme = h.1 ∷ h.2 ++ c ∷ rest in
       let regrouped : b ++ c ∷ rest ≡ h.0 ++ tail = rw h.3 (append_assoc h.0 (h.1 ∷ h.2) (c ∷ rest)) in
       by_first tail regrouped (arguments_first x tail h.0 (no_close m h.0 x tail h.5) m (again m Expression h.0 x tail h.5 (ended_by w.Comma h.1 (h.2 ++ c ∷ rest) h.4 refl)))
       (λ d le. arguments_more m y ys (length tail) (x ∷ []) d h.1 h.2 (c ∷ rest) le h.4 h.6 (ended_by w.Close c rest close refl) (rw close refl) (omega (arith, length-append h.2 (c ∷ rest)))) where
-        by_rest : (tail : List Lexeme) → b ++ c ∷ rest ≡ h.0 ++ tail → (d : ℕ) → arguments read n (h.0 ++ tail) ≡ all_arguments (suc (length tail)) (x ∷ []) d tail → ArgumentsAgain n m (all_arguments (suc (length tail)) (x ∷ []) d tail) (x ∷ y ∷ ys) (c ∷ rest) → ArgumentsAgain n m (arguments read n (b ++ c ∷ rest)) (x ∷ y ∷ ys) (c ∷ rest)
+        by_rest : (tail : List Lexeme) → b ++ c ∷ rest ≡ h.0 ++ tail → (d : ℕ) → arguments read n (h.0 ++ tail) ≡ all_arguments (suc (length tail)) (x ∷ []) d tail
+            → ArgumentsAgain n m (all_arguments (suc (length tail)) (x ∷ []) d tail) (x ∷ y ∷ ys) (c ∷ rest) → ArgumentsAgain n m (arguments read n (b ++ c ∷ rest)) (x ∷ y ∷ ys) (c ∷ rest)
         by_rest tail regrouped d e (inl s) = inl (s.0, s.1, ap (arguments read n) regrouped ∙ e ∙ s.2)
         by_rest tail regrouped d e (inr s) = inr (s.0, ap (arguments read n) regrouped ∙ e ∙ s.1)
 
-        by_first : (tail : List Lexeme) → b ++ c ∷ rest ≡ h.0 ++ tail → ((d : ℕ) × (d ≤ m) × (arguments read n (h.0 ++ tail) ≡ all_arguments (suc (length tail)) (x ∷ []) d tail)) ⊎ NestsTooDeep n m (arguments read n (h.0 ++ tail))
+        by_first : (tail : List Lexeme) → b ++ c ∷ rest ≡ h.0 ++ tail → ((d : ℕ) × (d ≤ m) × (arguments read n (h.0 ++ tail) ≡ all_arguments (suc (length tail)) (x ∷ []) d tail))
+            ⊎ NestsTooDeep n m (arguments read n (h.0 ++ tail))
             → ((d : ℕ) → d ≤ m → ArgumentsAgain n m (all_arguments (suc (length tail)) (x ∷ []) d tail) (x ∷ y ∷ ys) (c ∷ rest))
             → ArgumentsAgain n m (arguments read n (b ++ c ∷ rest)) (x ∷ y ∷ ys) (c ∷ rest)
         by_first tail regrouped (inl s) rec = by_rest tail regrouped s.0 s.2 (rec s.0 s.1)
@@ -139,9 +158,17 @@ module _ (n : ℕ) (read : Rule → List Lexeme → Read) (again : (m : ℕ) (ru
   PrimaryAgain m ts e rest = Again (suc n) (suc m) true (primary read n (ts ++ rest)) ts e rest
 
   -- a token without parts
-  alone : (m : ℕ) (t : Lexeme) (ts rest : List Lexeme) (o : Op) (e : Tree) → ts ≡ t ∷ [] → e ≡ node o [] ts → primary read n (t ∷ rest) ≡ Ok (built o [] true 1 t.from t.to rest) → PrimaryAgain m ts e rest
+  alone : (m : ℕ) (t : Lexeme) (ts rest : List Lexeme) (o : Op) (e : Tree) → ts ≡ t ∷ [] → e ≡ node o [] ts → primary read n (t ∷ rest) ≡ Ok (built o [] true 1 t.from t.to rest)
+      → PrimaryAgain m ts e rest
   alone m t ts rest o e parts same is =
-      inl (record { depth = 1; flag = true; fits = omega arith; unary = λ u. refl; is = ap (λ (z : List Lexeme). primary read n (z ++ rest)) parts ∙ is ∙ built_is o [] true 1 t.from t.to ts rest e (sym (ap from_of parts)) (sym (ap to_of parts)) same })
+      inl (record {
+        depth = 1;
+        flag = true;
+        fits = omega arith;
+        unary = λ u. refl;
+        is = ap (λ (z : List Lexeme). primary read n (z ++ rest)) parts ∙ is
+            ∙ built_is o [] true 1 t.from t.to ts rest e (sym (ap from_of parts)) (sym (ap to_of parts)) same;
+      })
 
   name_at : (t : Lexeme) (rest : List Lexeme) → Is w.Name t → begins w.Open rest ≡ false → primary read n (t ∷ rest) ≡ Ok (built op.Name [] true 1 t.from t.to rest)
   unfolding primary named
@@ -155,15 +182,25 @@ module _ (n : ℕ) (read : Rule → List Lexeme → Read) (again : (m : ℕ) (ru
   unfolding primary
   character_at t value rest is = rw is refl
 
-  text_at : (t : Lexeme) (a rest : List Lexeme) → Is w.Text t → past_strings t.to (a ++ rest) ≡ (to_of (t ∷ a), rest) → primary read n (t ∷ a ++ rest) ≡ Ok (built op.Text [] true 1 t.from (to_of (t ∷ a)) rest)
+  text_at : (t : Lexeme) (a rest : List Lexeme) → Is w.Text t → past_strings t.to (a ++ rest) ≡ (to_of (t ∷ a), rest)
+      → primary read n (t ∷ a ++ rest) ≡ Ok (built op.Text [] true 1 t.from (to_of (t ∷ a)) rest)
   unfolding primary
   text_at t a rest is strings = rw (is, strings) refl
 
-  text_again : (m : ℕ) (ts : List Lexeme) (e : Tree) (rest : List Lexeme) (t : Lexeme) (a : List Lexeme) → ts ≡ t ∷ a → AreStrings (t ∷ a) → e ≡ node op.Text [] ts → begins w.Text rest ≡ false → PrimaryAgain m ts e rest
+  text_again : (m : ℕ) (ts : List Lexeme) (e : Tree) (rest : List Lexeme) (t : Lexeme) (a : List Lexeme) → ts ≡ t ∷ a → AreStrings (t ∷ a) → e ≡ node op.Text [] ts
+      → begins w.Text rest ≡ false → PrimaryAgain m ts e rest
   text_again m ts e rest t a parts strings same stop =
-      inl (record { depth = 1; flag = true; fits = omega arith; unary = λ u. refl; is = ap (λ (z : List Lexeme). primary read n (z ++ rest)) parts ∙ text_at t a rest strings.0 (strings_again t a rest strings stop) ∙ built_is op.Text [] true 1 t.from (to_of (t ∷ a)) ts rest e (sym (ap from_of parts)) (sym (ap to_of parts)) same })
+      inl (record {
+        depth = 1;
+        flag = true;
+        fits = omega arith;
+        unary = λ u. refl;
+        is = ap (λ (z : List Lexeme). primary read n (z ++ rest)) parts
+            ∙ text_at t a rest strings.0 (strings_again t a rest strings stop) ∙ built_is op.Text [] true 1 t.from (to_of (t ∷ a)) ts rest e (sym (ap from_of parts)) (sym (ap to_of parts)) same;
+      })
 
-  call_at : (t o : Lexeme) (inner : List Lexeme) (c : Lexeme) (rest : List Lexeme) (es : List Tree) (d : ℕ) → Is w.Name t → Is w.Open o → Is w.Close c → arguments read n (inner ++ c ∷ rest) ≡ arguments_of es d (c ∷ rest) → primary read n (t ∷ o ∷ inner ++ c ∷ rest) ≡ Ok (built (op.Call (name_of t)) es true (d + 1) t.from c.to rest)
+  call_at : (t o : Lexeme) (inner : List Lexeme) (c : Lexeme) (rest : List Lexeme) (es : List Tree) (d : ℕ) → Is w.Name t → Is w.Open o → Is w.Close c
+      → arguments read n (inner ++ c ∷ rest) ≡ arguments_of es d (c ∷ rest) → primary read n (t ∷ o ∷ inner ++ c ∷ rest) ≡ Ok (built (op.Call (name_of t)) es true (d + 1) t.from c.to rest)
   unfolding primary named
   call_at t o inner c rest es d p q r is = rw (p, begins_again w.Open o (inner ++ c ∷ rest) q, is, expect_again w.Close c rest r) refl
 
@@ -177,13 +214,23 @@ module _ (n : ℕ) (read : Rule → List Lexeme → Read) (again : (m : ℕ) (ru
       let regrouped : ts ++ rest ≡ t ∷ o ∷ inner ++ c ∷ rest = rw whole (ap (λ (z : List Lexeme). t ∷ o ∷ z) (append_assoc inner (c ∷ []) rest)) in
       let ends : c.to ≡ to_of ts = sym (ap to_of whole ∙ to_of_append (t ∷ o ∷ inner) (c ∷ []) (omega arith)) in
       by_arguments regrouped (sym (ap from_of whole)) ends (arguments_again m es inner c rest each closes) where
-        by_arguments : ts ++ rest ≡ t ∷ o ∷ inner ++ c ∷ rest → t.from ≡ from_of ts → c.to ≡ to_of ts → ArgumentsAgain n m (arguments read n (inner ++ c ∷ rest)) es (c ∷ rest) → PrimaryAgain m ts e rest
+        by_arguments : ts ++ rest ≡ t ∷ o ∷ inner ++ c ∷ rest → t.from ≡ from_of ts → c.to ≡ to_of ts → ArgumentsAgain n m (arguments read n (inner ++ c ∷ rest)) es (c ∷ rest)
+            → PrimaryAgain m ts e rest
         by_arguments regrouped begin ends (inl s) =
             let p = s.1 in
-            inl (record { depth = s.0 + 1; flag = true; fits = omega arith; unary = λ u. refl; is = ap (primary read n) regrouped ∙ call_at t o inner c rest es s.0 name opens closes s.2 ∙ built_is (op.Call (name_of t)) es true (s.0 + 1) t.from c.to ts rest e begin ends same })
+            inl (record {
+              depth = s.0 + 1;
+              flag = true;
+              fits = omega arith;
+              unary = λ u. refl;
+              is = ap (primary read n) regrouped
+                  ∙ call_at t o inner c rest es s.0 name opens closes s.2 ∙ built_is (op.Call (name_of t)) es true (s.0 + 1) t.from c.to ts rest e begin ends same;
+            })
         by_arguments regrouped begin ends (inr s) = let p = s.0 in inr (omega arith, ap (primary read n) regrouped ∙ call_deep t o (inner ++ c ∷ rest) name opens s.1)
 
-  between_at : (o : Lexeme) (inner : List Lexeme) (c : Lexeme) (rest : List Lexeme) (e : Tree) (d : ℕ) (flag : Bool) → Is w.Open o → Is w.Close c → read Expression (inner ++ c ∷ rest) ≡ Ok (state e flag d inner (c ∷ rest)) → primary read n (o ∷ inner ++ c ∷ rest) ≡ Ok (record { tree = e; unary = true; depth = d + 1; from = o.from; to = c.to; rest = rest })
+  between_at : (o : Lexeme) (inner : List Lexeme) (c : Lexeme) (rest : List Lexeme) (e : Tree) (d : ℕ) (flag : Bool) → Is w.Open o → Is w.Close c
+      → read Expression (inner ++ c ∷ rest) ≡ Ok (state e flag d inner (c ∷ rest))
+      → primary read n (o ∷ inner ++ c ∷ rest) ≡ Ok (record { tree = e; unary = true; depth = d + 1; from = o.from; to = c.to; rest = rest })
   unfolding primary between
   between_at o inner c rest e d flag p q is = rw (p, is, expect_again w.Close c rest q) refl
 
@@ -197,14 +244,23 @@ module _ (n : ℕ) (read : Rule → List Lexeme → Read) (again : (m : ℕ) (ru
   same_places : (e : Tree) (d from to : ℕ) (ts rest : List Lexeme) → from ≡ from_of ts → to ≡ to_of ts → whole_state e d from to rest ≡ whole_state e d (from_of ts) (to_of ts) rest
   same_places e d from to ts rest p q = rw (p, q) refl
 
-  between_again : (m : ℕ) (ts : List Lexeme) (e : Tree) (rest : List Lexeme) (o : Lexeme) (inner : List Lexeme) (c : Lexeme) → ts ≡ o ∷ inner ++ c ∷ [] → Is w.Open o → Is w.Close c → IsDerived m Expression inner e → PrimaryAgain m ts e rest
+  between_again : (m : ℕ) (ts : List Lexeme) (e : Tree) (rest : List Lexeme) (o : Lexeme) (inner : List Lexeme) (c : Lexeme) → ts ≡ o ∷ inner ++ c ∷ [] → Is w.Open o → Is w.Close c
+      → IsDerived m Expression inner e → PrimaryAgain m ts e rest
   between_again m ts e rest o inner c parts opens closes h =
       let regrouped : ts ++ rest ≡ o ∷ inner ++ c ∷ rest = rw parts (ap (λ (z : List Lexeme). o ∷ z) (append_assoc inner (c ∷ []) rest)) in
       by_inner regrouped (again m Expression inner e (c ∷ rest) h (ended_by w.Close c rest closes refl)) where
         by_inner : ts ++ rest ≡ o ∷ inner ++ c ∷ rest → Again n m false (read Expression (inner ++ c ∷ rest)) inner e (c ∷ rest) → PrimaryAgain m ts e rest
         by_inner regrouped (inl s) =
             let p = s.fits in
-            inl (record { depth = s.depth + 1; flag = true; fits = omega arith; unary = λ u. refl; is = ap (primary read n) regrouped ∙ between_at o inner c rest e s.depth s.flag opens closes s.is ∙ same_places e (s.depth + 1) o.from c.to ts rest (sym (ap from_of parts)) (sym (ap to_of parts ∙ to_of_append (o ∷ inner) (c ∷ []) (omega arith))) })
+            inl (record {
+              depth = s.depth + 1;
+              flag = true;
+              fits = omega arith;
+              unary = λ u. refl;
+              is = ap (primary read n) regrouped
+                  ∙ between_at o inner c rest e s.depth s.flag opens closes s.is
+                  ∙ same_places e (s.depth + 1) o.from c.to ts rest (sym (ap from_of parts)) (sym (ap to_of parts ∙ to_of_append (o ∷ inner) (c ∷ []) (omega arith)));
+            })
         by_inner regrouped (inr s) = let p = s.0 in inr (omega arith, ap (primary read n) regrouped ∙ between_deep o (inner ++ c ∷ rest) opens s.1)
 
   pub primary_again : (m : ℕ) (ts : List Lexeme) (e : Tree) (rest : List Lexeme) → IsPrimary (IsDerived m) ts e → EndsPrimary rest → PrimaryAgain m ts e rest

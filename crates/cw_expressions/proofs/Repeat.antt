@@ -33,11 +33,13 @@ module _ {S : Type 0} (rest : S → List Lexeme) (goes : List Lexeme → Bool) (
   abbrev pub Shortens : Type 0
   Shortens = (x y : S) → goes (rest x) ≡ true → step x ≡ Ok y → length (rest y) < length (rest x)
 
-  fuel_by_step : (j k : ℕ) (r : Result S Refusal) → ((y : S) → r ≡ Ok y → repeat rest goes step j y ≡ repeat rest goes step k y) → (r >>= λ y. repeat rest goes step j y) ≡ (r >>= λ y. repeat rest goes step k y)
+  fuel_by_step : (j k : ℕ) (r : Result S Refusal) → ((y : S) → r ≡ Ok y → repeat rest goes step j y ≡ repeat rest goes step k y)
+      → (r >>= λ y. repeat rest goes step j y) ≡ (r >>= λ y. repeat rest goes step k y)
   fuel_by_step j k (Err e) rec = refl
   fuel_by_step j k (Ok y) rec = rec y refl
 
-  fuel_by_test : (j k : ℕ) (x : S) → ((y : S) → goes (rest x) ≡ true → step x ≡ Ok y → repeat rest goes step j y ≡ repeat rest goes step k y) → (b : Bool) → goes (rest x) ≡ b → repeat rest goes step (suc j) x ≡ repeat rest goes step (suc k) x
+  fuel_by_test : (j k : ℕ) (x : S) → ((y : S) → goes (rest x) ≡ true → step x ≡ Ok y → repeat rest goes step j y ≡ repeat rest goes step k y) → (b : Bool) → goes (rest x) ≡ b
+      → repeat rest goes step (suc j) x ≡ repeat rest goes step (suc k) x
   fuel_by_test j k x rec true e = repeat_goes j x e ∙ fuel_by_step j k (step x) (λ y h. rec y e h) ∙ sym (repeat_goes k x e)
   fuel_by_test j k x rec false e = repeat_ends j x e ∙ sym (repeat_ends k x e)
 

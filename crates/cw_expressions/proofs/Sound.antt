@@ -1,5 +1,6 @@
 -- What is read derives its tree.
-use Rattle.std.proofs.Common.{◌≡◌, ℕ, zero, suc, ◌+◌, ◌<◌, ◌≤◌, max, Bool, true, false, cond, ltb, eqb, List, [], ◌∷◌, ◌++◌, length, Ok, Err, Option, Some, None, refl, sym, ap, ◌∙◌, append_assoc, arith, length-append, inl, inr}
+use Rattle.std.proofs.Common.{◌≡◌, ℕ, zero, suc, ◌+◌, ◌<◌, ◌≤◌, max, Bool, true, false, cond, ltb, eqb, List, [], ◌∷◌, ◌++◌, length, Ok, Err, Option, Some, None, refl, sym, ap}
+use Rattle.std.proofs.Common.{◌∙◌, append_assoc, arith, length-append, inl, inr}
 use Rattle.std.specs.Prelude.{IfOk}
 use Rattle.std.proofs.lemmas.Bool.{ltb-false, false≢true, eqb-true}
 use Rattle.std.proofs.lemmas.Result.{IfOk-weaker}
@@ -19,7 +20,9 @@ use Rattle.cw_grammar.proofs.SameWord.{same-true}
 use Rattle.cw_expressions.specs.declared.refusal.Refusal.TheVariants as refusal
 use Rattle.cw_expressions.specs.Cursor.{begins, after, first, known, expect, repeat}
 use Rattle.cw_expressions.specs.TypeReading.{type_between}
-use Rattle.cw_expressions.specs.Reading.{Got, Read, Arguments, rest_of, rest_of_arguments, built, begins_cast, past_strings, next_of, at_level, binary_at, goes_on_at, is_suffixed, argument, arguments, named, between, primary, suffixed, postfix, size_of, prefixed, unary, cast, operand, joined, chain, assigned, expression, by_rule, read_at}
+use Rattle.cw_expressions.specs.Reading.{Got, Read, Arguments, rest_of, rest_of_arguments, built, begins_cast, past_strings, next_of, at_level, binary_at, goes_on_at, is_suffixed}
+use Rattle.cw_expressions.specs.Reading.{argument, arguments, named, between, primary, suffixed, postfix, size_of, prefixed, unary, cast, operand, joined, chain, assigned}
+use Rattle.cw_expressions.specs.Reading.{expression, by_rule, read_at}
 use Rattle.cw_expressions.proofs.Steps.{if_bind, if_cond, known_is, first_takes, expect_takes, begins_takes, from_of_append, to_of_cons, to_of_append}
 use Rattle.cw_expressions.proofs.Repeat.{repeat_keeps}
 use Rattle.cw_expressions.proofs.TypesSound.{type_between_takes}
@@ -40,7 +43,8 @@ one_deeper : (d : ℕ) → d + 1 ≡ suc d
 one_deeper d = omega arith
 
 -- read by one rule, and so by another
-pub read_as : (n : ℕ) (rule wider : Rule) (ts : List Lexeme) (x : Got) → ((front : List Lexeme) → IsDerived x.depth rule front x.tree → IsDerived x.depth wider front x.tree) → IsRead n rule ts x → IsRead n wider ts x
+pub read_as : (n : ℕ) (rule wider : Rule) (ts : List Lexeme) (x : Got) → ((front : List Lexeme) → IsDerived x.depth rule front x.tree → IsDerived x.depth wider front x.tree)
+    → IsRead n rule ts x → IsRead n wider ts x
 read_as n rule wider ts x f r = record { front = r.front; parts = r.parts; some = r.some; fits = r.fits; from = r.from; to = r.to; derived = f r.front r.derived; unary = r.unary }
 
 -- a node by its places
@@ -52,7 +56,8 @@ abbrev pub AreRead : ℕ → List Lexeme → Arguments → Type 0
 AreRead n ts x = (front : List Lexeme) × (ts ≡ front ++ x.rest) × (x.depth ≤ n) × AreSeparated (IsDerived x.depth Expression) front x.list
 
 -- one more behind a comma
-separated_more : (P : List Lexeme → Tree → Type 0) (es : List Tree) (ts : List Lexeme) (c : Lexeme) (b : List Lexeme) (y : Tree) → 0 < length es → AreSeparated P ts es → Is w.Comma c → P b y → AreSeparated P (ts ++ c ∷ b) (es ++ y ∷ [])
+separated_more : (P : List Lexeme → Tree → Type 0) (es : List Tree) (ts : List Lexeme) (c : Lexeme) (b : List Lexeme) (y : Tree) → 0 < length es → AreSeparated P ts es
+    → Is w.Comma c → P b y → AreSeparated P (ts ++ c ∷ b) (es ++ y ∷ [])
 separated_more P [] ts c b y some h comma p = absurd (omega arith)
 separated_more P (x ∷ []) ts c b y some h comma p = (ts, c, b, refl, comma, h, p)
 separated_more P (x ∷ z ∷ es) ts c b y some h comma p =
@@ -61,7 +66,8 @@ separated_more P (x ∷ z ∷ es) ts c b y some h comma p =
 binary_found : (level number : ℕ) (ts : List Lexeme) → binary_at level ts ≡ Some number → (t : Lexeme) × (ts ≡ t ∷ after ts) × (operators.binary t.word ≡ Some (number, level))
 binary_found level number [] e = absurd (cc)
 binary_found level number (t ∷ ts) e = by_option (operators.binary t.word) refl e where
-  by_test : (m k : ℕ) (b : Bool) → operators.binary t.word ≡ Some (m, k) → eqb k level ≡ b → cond b (Some m) None ≡ Some number → (u : Lexeme) × (t ∷ ts ≡ u ∷ ts) × (operators.binary u.word ≡ Some (number, level))
+  by_test : (m k : ℕ) (b : Bool) → operators.binary t.word ≡ Some (m, k) → eqb k level ≡ b → cond b (Some m) None ≡ Some number → (u : Lexeme) × (t ∷ ts ≡ u ∷ ts)
+      × (operators.binary u.word ≡ Some (number, level))
   by_test m k true is f g = let l : k ≡ level = eqb-true k level f in (t, refl, cc)
   by_test m k false is f g = absurd (cc)
 
@@ -77,7 +83,8 @@ next_found table x (t ∷ ts) e = (t, refl, e)
 abbrev Strings : Lexeme → List Lexeme → ℕ × List Lexeme → Type 0
 Strings t ts x = (a : List Lexeme) × (ts ≡ a ++ x.1) × AreStrings (t ∷ a) × (x.0 ≡ to_of (t ∷ a))
 
-strings_by : (t u : Lexeme) (ts : List Lexeme) → Is w.Text t → (Is w.Text u → Strings u ts (past_strings u.to ts)) → (b : Bool) → same u.word w.Text ≡ b → Strings t (u ∷ ts) (cond b (past_strings u.to ts) (t.to, u ∷ ts))
+strings_by : (t u : Lexeme) (ts : List Lexeme) → Is w.Text t → (Is w.Text u → Strings u ts (past_strings u.to ts)) → (b : Bool) → same u.word w.Text ≡ b
+    → Strings t (u ∷ ts) (cond b (past_strings u.to ts) (t.to, u ∷ ts))
 strings_by t u ts is rec true e =
     let p = rec (same-true u.word w.Text refl e) in
     (u ∷ p.0, ap (λ (z : List Lexeme). u ∷ z) p.1, (is, p.2), p.3)
@@ -96,7 +103,8 @@ module _ (n : ℕ) (read : Rule → List Lexeme → Read) (h : (rule : Rule) (ts
       let c = begins_takes w.Comma refl x.rest go in
       if_bind (read Expression (after x.rest)) _ _ _ (h Expression (after x.rest)) (λ y r.
       let deep = max x.depth y.depth in
-      let wider : AreSeparated (IsDerived deep Expression) f.0 x.list = separated_weaker (IsDerived x.depth Expression) (IsDerived deep Expression) (derived_deeper x.depth deep (omega arith) Expression) x.list f.0 f.3 in
+      let wider : AreSeparated (IsDerived deep Expression) f.0 x.list =
+      separated_weaker (IsDerived x.depth Expression) (IsDerived deep Expression) (derived_deeper x.depth deep (omega arith) Expression) x.list f.0 f.3 in
       let one : IsDerived deep Expression r.front y.tree = derived_deeper y.depth deep (omega arith) Expression r.front y.tree r.derived in (
         omega (arith, length-append x.list (y.tree ∷ [])),
         (
@@ -121,7 +129,17 @@ module _ (n : ℕ) (read : Rule → List Lexeme → Read) (h : (rule : Rule) (ts
 
   -- a leaf of one token
   leaf_sound : (t : Lexeme) (ts : List Lexeme) (o : Op) → IsDerived 1 Postfix (t ∷ []) (node o [] (t ∷ [])) → IsRead (suc n) Postfix (t ∷ ts) (built o [] true 1 t.from t.to ts)
-  leaf_sound t ts o d = record { front = t ∷ []; parts = refl; some = omega arith; fits = omega arith; from = refl; to = refl; derived = d; unary = λ e. postfix_unary 1 (t ∷ []) (node o [] (t ∷ [])) d }
+  leaf_sound t ts o d = record {
+    front = t ∷ [];
+    parts = refl;
+    some = omega arith;
+    fits = omega arith;
+    from = refl;
+    to = refl;
+    derived = d;
+    unary =
+        λ e. postfix_unary 1 (t ∷ []) (node o [] (t ∷ [])) d;
+  }
 
   named_sound : (t : Lexeme) (ts : List Lexeme) → Is w.Name t → IfOk (named read n t ts) (IsRead (suc n) Postfix (t ∷ ts))
   unfolding named
@@ -168,10 +186,31 @@ module _ (n : ℕ) (read : Rule → List Lexeme → Read) (h : (rule : Rule) (ts
   text_sound : (t : Lexeme) (ts : List Lexeme) → Is w.Text t → IsRead (suc n) Postfix (t ∷ ts) (built op.Text [] true 1 t.from (past_strings t.to ts).0 (past_strings t.to ts).1)
   text_sound t ts is =
       let p = strings_take t ts is in
-      let d : IsDerived 1 Postfix (t ∷ p.0) (Node op.Text (trees []) t.from (past_strings t.to ts).0) = inl (inr (inr (inr (inr (inl (t, p.0, refl, p.2, placed op.Text [] t.from (past_strings t.to ts).0 (t ∷ p.0) refl p.3)))))) in
-      record { front = t ∷ p.0; parts = ap (λ (z : List Lexeme). t ∷ z) p.1; some = omega arith; fits = omega arith; from = refl; to = p.3; derived = d; unary = λ u. postfix_unary 1 (t ∷ p.0) (Node op.Text (trees []) t.from (past_strings t.to ts).0) d }
+      let d : IsDerived 1 Postfix (t ∷ p.0) (Node op.Text (trees []) t.from (past_strings t.to ts).0) =
+      inl (inr (inr (inr (inr (inl (t, p.0, refl, p.2, placed op.Text [] t.from (past_strings t.to ts).0 (t ∷ p.0) refl p.3)))))) in
+      record {
+        front = t ∷ p.0;
+        parts = ap (λ (z : List Lexeme). t ∷ z) p.1;
+        some = omega arith;
+        fits = omega arith;
+        from = refl;
+        to = p.3;
+        derived = d;
+        unary =
+            λ u. postfix_unary 1 (t ∷ p.0) (Node op.Text (trees []) t.from (past_strings t.to ts).0) d;
+      }
 
-  primary_by_word : (t : Lexeme) (ts : List Lexeme) (word : Word) → Is word t → IfOk (elim word [ w.Name ↦ named read n t ts | w.Number value ↦ Ok (built (op.Number value) [] true 1 t.from t.to ts) | w.Character value ↦ Ok (built (op.Char value) [] true 1 t.from t.to ts) | w.Text ↦ (let s = past_strings t.to ts in Ok (built op.Text [] true 1 t.from s.0 s.1)) | w.Open ↦ between read n t ts | _ ↦ Err refusal.Syntax ]) (IsRead (suc n) Postfix (t ∷ ts))
+  primary_by_word : (t : Lexeme) (ts : List Lexeme) (word : Word) → Is word t
+      → IfOk (elim word [
+        | w.Name ↦ named read n t ts
+        | w.Number value ↦ Ok (built (op.Number value) [] true 1 t.from t.to ts)
+        | w.Character value ↦ Ok
+            (built (op.Char value) [] true 1 t.from t.to ts)
+        | w.Text ↦
+            (let s = past_strings t.to ts in Ok (built op.Text [] true 1 t.from s.0 s.1))
+        | w.Open ↦ between read n t ts
+        | _ ↦ Err refusal.Syntax
+      ]) (IsRead (suc n) Postfix (t ∷ ts))
   primary_by_word t ts w.Name is = named_sound t ts is
   primary_by_word t ts (w.Number value) is = leaf_sound t ts (op.Number value) (inl (inr (inr (inl (t, value, refl, is, refl)))))
   primary_by_word t ts (w.Character value) is = leaf_sound t ts (op.Char value) (inl (inr (inr (inr (inl (t, value, refl, is, refl))))))
@@ -187,7 +226,8 @@ module _ (n : ℕ) (read : Rule → List Lexeme → Read) (h : (rule : Rule) (ts
   -- ---- postfix
 
   -- two parts that were read
-  index_sound : (ts : List Lexeme) (x : Got) → begins w.OpenBracket x.rest ≡ true → IsRead (suc n) Postfix ts x → (y : Got) → IsRead n Expression (after x.rest) y → (c : Lexeme × List Lexeme) → (y.rest ≡ c.0 ∷ c.1) × Is w.CloseBracket c.0 → max x.depth y.depth ≤ n
+  index_sound : (ts : List Lexeme) (x : Got) → begins w.OpenBracket x.rest ≡ true → IsRead (suc n) Postfix ts x → (y : Got) → IsRead n Expression (after x.rest) y
+      → (c : Lexeme × List Lexeme) → (y.rest ≡ c.0 ∷ c.1) × Is w.CloseBracket c.0 → max x.depth y.depth ≤ n
       → IsRead (suc n) Postfix ts (built op.Index (x.tree ∷ y.tree ∷ []) true (max x.depth y.depth + 1) x.from c.0.to c.1)
   index_sound ts x go f y g c q le =
       let o = begins_takes w.OpenBracket refl x.rest go in
@@ -197,10 +237,21 @@ module _ (n : ℕ) (read : Rule → List Lexeme → Read) (h : (rule : Rule) (ts
       let begin : x.from ≡ from_of front = f.from ∙ sym (from_of_append f.front b f.some) in
       let ends : c.0.to ≡ to_of front = sym (to_of_append f.front b (omega arith) ∙ to_of_append (o.0 ∷ g.front) (c.0 ∷ []) (omega arith)) in
       let d : IsDerived (deep + 1) Postfix front (Node op.Index (trees (x.tree ∷ y.tree ∷ [])) x.from c.0.to) =
-      rw one_deeper (inr (inl (f.front, b, x.tree, y.tree, refl, derived_deeper x.depth deep (omega arith) Postfix f.front x.tree f.derived, (o.0, g.front, c.0, refl, o.2, q.1, derived_deeper y.depth deep (omega arith) Expression g.front y.tree g.derived), placed op.Index (x.tree ∷ y.tree ∷ []) x.from c.0.to front begin ends))) in
+      rw one_deeper (inr (inl (
+        f.front,
+        b,
+        x.tree,
+        y.tree,
+        refl,
+        derived_deeper x.depth deep (omega arith) Postfix f.front x.tree f.derived,
+        (o.0, g.front, c.0, refl, o.2, q.1, derived_deeper y.depth deep (omega arith) Expression g.front y.tree g.derived),
+        placed op.Index
+            (x.tree ∷ y.tree ∷ []) x.from c.0.to front begin ends,
+      ))) in
       record {
         front = front;
-        parts = f.parts ∙ ap (λ (z : List Lexeme). f.front ++ z) (o.1 ∙ ap (λ (z : List Lexeme). o.0 ∷ z) (g.parts ∙ ap (λ (z : List Lexeme). g.front ++ z) q.0 ∙ sym (append_assoc g.front (c.0 ∷ []) c.1))) ∙ sym (append_assoc f.front b c.1);
+        parts = f.parts ∙ ap (λ (z : List Lexeme). f.front ++ z)
+            (o.1 ∙ ap (λ (z : List Lexeme). o.0 ∷ z) (g.parts ∙ ap (λ (z : List Lexeme). g.front ++ z) q.0 ∙ sym (append_assoc g.front (c.0 ∷ []) c.1))) ∙ sym (append_assoc f.front b c.1);
         some = let s = f.some in omega (arith, length-append f.front b);
         fits = omega arith;
         from = begin;
@@ -289,7 +340,8 @@ module _ (n : ℕ) (read : Rule → List Lexeme → Read) (h : (rule : Rule) (ts
       (λ e.
       if_bind (type_between ts) _ _ _ (type_between_takes ts) (λ k p.
       let ends : k.0.1.1 ≡ to_of (t ∷ p.0) = p.5 ∙ sym (to_of_cons t p.0 p.2) in
-      let d : IsDerived 1 Unary (t ∷ p.0) (Node (op.SizeOfType k.0.0) (trees []) t.from k.0.1.1) = inr (inr (inr (inl (t, p.0, k.0.0, refl, is, p.3, placed (op.SizeOfType k.0.0) [] t.from k.0.1.1 (t ∷ p.0) refl ends)))) in
+      let d : IsDerived 1 Unary (t ∷ p.0) (Node (op.SizeOfType k.0.0) (trees []) t.from k.0.1.1) =
+      inr (inr (inr (inl (t, p.0, k.0.0, refl, is, p.3, placed (op.SizeOfType k.0.0) [] t.from k.0.1.1 (t ∷ p.0) refl ends)))) in
       record {
         front = t ∷ p.0;
         parts = ap (λ (z : List Lexeme). t ∷ z) p.1;
@@ -305,7 +357,12 @@ module _ (n : ℕ) (read : Rule → List Lexeme → Read) (h : (rule : Rule) (ts
       before_sound Unary t ts op.SizeOf x Unary f (λ front d tree same. inr (inr (inl (t, front, x.tree, refl, is, d, same))))))
 
   unary_by : (t : Lexeme) (ts : List Lexeme) (a b : Option ℕ) → operators.sign t.word ≡ a → operators.step t.word ≡ b
-      → IfOk (elim a [ Some number ↦ prefixed read n number (Level 0) t ts | None ↦ elim b [ Some number ↦ prefixed read n number Unary t ts | None ↦ cond (same t.word w.SizeOf) (size_of read n t ts) (postfix read n (t ∷ ts)) ] ]) (IsRead (suc n) Unary (t ∷ ts))
+      → IfOk (elim a [
+        | Some number ↦ prefixed read n number
+            (Level 0) t ts
+        | None ↦ elim b [ Some number ↦ prefixed read n number Unary t ts | None ↦ cond (same t.word w.SizeOf) (size_of read n t ts) (postfix read n (t ∷ ts)) ]
+      ])
+      (IsRead (suc n) Unary (t ∷ ts))
   unary_by t ts (Some number) b p q = signed_sound t ts number p
   unary_by t ts None (Some number) p q = stepped_sound t ts number q
   unary_by t ts None None p q =
@@ -347,8 +404,10 @@ module _ (n : ℕ) (read : Rule → List Lexeme → Read) (h : (rule : Rule) (ts
       (λ e. IfOk-weaker (unary read n ts) _ _ (λ x f. read_as (suc n) Unary (Level 0) ts x (λ front d. unary_operand x.depth front x.tree d) f) (unary_sound ts))
 
   -- two parts with a token between them
-  pair_sound : (ts : List Lexeme) (o : Op) (left right whole : Rule) (x y : Got) (t : Lexeme) → x.rest ≡ t ∷ after x.rest → IsRead (suc n) left ts x → IsRead n right (after x.rest) y → max x.depth y.depth ≤ n
-      → ((a b : List Lexeme) → IsDerived (max x.depth y.depth) left a x.tree → IsDerived (max x.depth y.depth) right b y.tree → (e : Tree) → e ≡ node o (x.tree ∷ y.tree ∷ []) (a ++ t ∷ b) → IsDerived (suc (max x.depth y.depth)) whole (a ++ t ∷ b) e)
+  pair_sound : (ts : List Lexeme) (o : Op) (left right whole : Rule) (x y : Got) (t : Lexeme) → x.rest ≡ t ∷ after x.rest → IsRead (suc n) left ts x
+      → IsRead n right (after x.rest) y → max x.depth y.depth ≤ n
+      → ((a b : List Lexeme) → IsDerived (max x.depth y.depth) left a x.tree → IsDerived (max x.depth y.depth) right b y.tree → (e : Tree)
+      → e ≡ node o (x.tree ∷ y.tree ∷ []) (a ++ t ∷ b) → IsDerived (suc (max x.depth y.depth)) whole (a ++ t ∷ b) e)
       → IsRead (suc n) whole ts (built o (x.tree ∷ y.tree ∷ []) false (max x.depth y.depth + 1) x.from y.to y.rest)
   pair_sound ts o left right whole x y t is f g le derive =
       let deep = max x.depth y.depth in
@@ -362,7 +421,9 @@ module _ (n : ℕ) (read : Rule → List Lexeme → Read) (h : (rule : Rule) (ts
         fits = omega arith;
         from = begin;
         to = ends;
-        derived = rw one_deeper (derive f.front g.front (derived_deeper x.depth deep (omega arith) left f.front x.tree f.derived) (derived_deeper y.depth deep (omega arith) right g.front y.tree g.derived) (Node o (trees (x.tree ∷ y.tree ∷ [])) x.from y.to) (placed o (x.tree ∷ y.tree ∷ []) x.from y.to front begin ends));
+        derived = rw one_deeper (derive f.front g.front (derived_deeper x.depth deep (omega arith) left f.front x.tree f.derived)
+            (derived_deeper y.depth deep (omega arith) right g.front y.tree g.derived) (Node o (trees (x.tree ∷ y.tree ∷ [])) x.from y.to)
+            (placed o (x.tree ∷ y.tree ∷ []) x.from y.to front begin ends));
         unary = λ u. absurd (false≢true u);
       }
 
@@ -386,7 +447,8 @@ module _ (n : ℕ) (read : Rule → List Lexeme → Read) (h : (rule : Rule) (ts
 
   -- ---- expressions
 
-  assigned_sound : (ts : List Lexeme) (x : Got) (number : ℕ) → next_of operators.assign x.rest ≡ Some number → x.unary ≡ true → IsRead (suc n) (Level loosest) ts x → IfOk (assigned read n number x) (IsRead (suc n) Expression ts)
+  assigned_sound : (ts : List Lexeme) (x : Got) (number : ℕ) → next_of operators.assign x.rest ≡ Some number → x.unary ≡ true → IsRead (suc n) (Level loosest) ts x
+      → IfOk (assigned read n number x) (IsRead (suc n) Expression ts)
   unfolding assigned
   assigned_sound ts x number is u f =
       let t = next_found operators.assign number x.rest is in
@@ -396,7 +458,8 @@ module _ (n : ℕ) (read : Rule → List Lexeme → Read) (h : (rule : Rule) (ts
       pair_sound ts (op.Assign number) Unary Expression Expression x y t.0 t.1 target g (ltb-false n (max x.depth y.depth) e)
       (λ a b p q tree same. inr (a, t.0, b, number, x.tree, y.tree, refl, t.2, p, q, same))))
 
-  expression_by : (ts : List Lexeme) (x : Got) → IsRead (suc n) (Level loosest) ts x → (o : Option ℕ) → next_of operators.assign x.rest ≡ o → IfOk (elim o [ Some number ↦ cond x.unary (assigned read n number x) (Ok x) | None ↦ Ok x ]) (IsRead (suc n) Expression ts)
+  expression_by : (ts : List Lexeme) (x : Got) → IsRead (suc n) (Level loosest) ts x → (o : Option ℕ) → next_of operators.assign x.rest ≡ o
+      → IfOk (elim o [ Some number ↦ cond x.unary (assigned read n number x) (Ok x) | None ↦ Ok x ]) (IsRead (suc n) Expression ts)
   expression_by ts x f (Some number) e =
       if_cond x.unary _ _ _
       (λ u. assigned_sound ts x number e u f)

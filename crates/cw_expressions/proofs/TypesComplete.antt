@@ -79,7 +79,9 @@ unsigned_default : (rest : List Lexeme) → next_is continues_base rest ≡ fals
 unfolding unsigned_base
 unsigned_default [] e = refl
 unsigned_default (t ∷ ts) e = by_word t.word e where
-  by_word : (word : Word) → continues_base word ≡ false → elim word as (λ z. Based) [ w.Char ↦ based base.Char true ts | w.Int ↦ based base.Int true ts | w.Long ↦ based base.Long true (skip w.Int ts) | _ ↦ based base.Int true (t ∷ ts) ] ≡ based base.Int true (t ∷ ts)
+  by_word : (word : Word) → continues_base word ≡ false → elim word as
+      (λ z. Based) [ w.Char ↦ based base.Char true ts | w.Int ↦ based base.Int true ts | w.Long ↦ based base.Long true (skip w.Int ts) | _ ↦ based base.Int true (t ∷ ts) ] ≡ based
+      base.Int true (t ∷ ts)
   by_word w.Char f = absurd (false≢true (sym f))
   by_word w.Int f = absurd (false≢true (sym f))
   by_word w.Long f = absurd (false≢true (sym f))
@@ -104,7 +106,8 @@ same_base : {a b : Base} {u v : Bool} (rest : List Lexeme) → a ≡ b → u ≡
 same_base rest p q = cc
 
 module _ (a rest : List Lexeme) (b : Base) (unsigned : Bool) (stop : next_is continues_base rest ≡ false) where
-  alone : (word : Word) (c : Base) → entry (words a) b unsigned ≡ entry (word ∷ []) c false → ((t : Lexeme) → Is word t → (base_of (t ∷ rest) ≡ based c false rest) × (starts_base t.word ≡ true)) → BaseAgain a b unsigned rest
+  alone : (word : Word) (c : Base) → entry (words a) b unsigned ≡ entry (word ∷ []) c false
+      → ((t : Lexeme) → Is word t → (base_of (t ∷ rest) ≡ based c false rest) × (starts_base t.word ≡ true)) → BaseAgain a b unsigned rest
   alone word c e f =
       let p = one_word a word (ap (λ (z : List Word × (Base × Bool)). z.0) e) in
       let q = f p.0 p.2 in
@@ -161,7 +164,8 @@ module _ (a rest : List Lexeme) (b : Base) (unsigned : Bool) (stop : next_is con
   unfolding unsigned_base
   unsigned_long_int_at t i is next = rw (is, skip_one w.Int i rest next) refl
 
-  unsigned_word : (word : Word) (k : Base) → entry (words a) b unsigned ≡ entry (w.Unsigned ∷ word ∷ []) k true → ((t : Lexeme) → Is word t → unsigned_base (t ∷ rest) ≡ based k true rest) → BaseAgain a b unsigned rest
+  unsigned_word : (word : Word) (k : Base) → entry (words a) b unsigned ≡ entry (w.Unsigned ∷ word ∷ []) k true
+      → ((t : Lexeme) → Is word t → unsigned_base (t ∷ rest) ≡ based k true rest) → BaseAgain a b unsigned rest
   unsigned_word word k e f =
       let p = two_words a w.Unsigned word (ap (λ (z : List Word × (Base × Bool)). z.0) e) in
       unsigned_then (p.1 ∷ []) k p.0 p.2 p.3 (f p.1 p.4) (ap (λ (z : List Word × (Base × Bool)). z.1.0) e) (ap (λ (z : List Word × (Base × Bool)). z.1.1) e)
@@ -232,7 +236,8 @@ pub type_name_again : (a : List Lexeme) (kind : CType) (rest : List Lexeme) → 
 unfolding type_name
 type_name_again a kind rest (flag, c, t, s, parts, f, base, stars) e =
     let regrouped : a ++ rest ≡ c ++ (t ++ (s ++ rest)) = rw parts (append_assoc c (t ++ s) rest ∙ ap (λ (z : List Lexeme). c ++ z) (append_assoc t s rest)) in
-    let first : begins w.Const (t ++ (s ++ rest)) ≡ false = starts_never starts_base w.Const refl refl (t ++ (s ++ rest)) (starts_append starts_base t (s ++ rest) (type_begins t kind.base kind.unsigned base)) in
+    let first : begins w.Const (t ++ (s ++ rest)) ≡ false =
+    starts_never starts_base w.Const refl refl (t ++ (s ++ rest)) (starts_append starts_base t (s ++ rest) (type_begins t kind.base kind.unsigned base)) in
     let skipped : skip w.Const (c ++ (t ++ (s ++ rest))) ≡ t ++ (s ++ rest) = skip_flag w.Const flag c (t ++ (s ++ rest)) f first in
     let based_on : base_of (t ++ (s ++ rest)) ≡ based kind.base kind.unsigned (s ++ rest) = base_is t (s ++ rest) kind.base kind.unsigned (after_base kind.stars s rest stars e) base in
     let starred : stars_of (s ++ rest) ≡ (kind.stars, rest) = stars_again kind.stars s rest stars (not_next continues_type w.Star refl refl rest e) in

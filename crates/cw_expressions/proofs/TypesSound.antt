@@ -49,20 +49,46 @@ long_takes : (t : Lexeme) (ts : List Lexeme) → Is w.Long t → TakesBase (t �
 long_takes t ts is = by_flag (skips w.Int refl ts) where
   by_flag : Skips w.Int ts (skip w.Int ts) → TakesBase (t ∷ ts) ((base.Long, false), skip w.Int ts)
   by_flag (true, a, e, f) = (t ∷ a, ap (λ (z : List Lexeme). t ∷ z) e, omega arith, inr (inr (inr (inr (inr (inr (inr (inl (is_entry (t ∷ a) (w.Long ∷ w.Int ∷ []) base.Long false (cc))))))))))
-  by_flag (false, a, e, f) = (t ∷ a, ap (λ (z : List Lexeme). t ∷ z) e, omega arith, inr (inr (inr (inr (inr (inr (inl (is_entry (t ∷ a) (w.Long ∷ []) base.Long false (rw f (alone t w.Long is))))))))))
+  by_flag (false, a, e, f) = (
+    t ∷ a,
+    ap (λ (z : List Lexeme). t ∷ z) e,
+    omega arith,
+    inr
+        (inr (inr (inr (inr (inr (inl (is_entry (t ∷ a) (w.Long ∷ []) base.Long false (rw f (alone t w.Long is))))))))),
+  )
 
 unsigned_long_takes : (u t : Lexeme) (ts : List Lexeme) → Is w.Unsigned u → Is w.Long t → TakesBase (u ∷ t ∷ ts) ((base.Long, true), skip w.Int ts)
 unsigned_long_takes u t ts first is = by_flag (skips w.Int refl ts) where
   by_flag : Skips w.Int ts (skip w.Int ts) → TakesBase (u ∷ t ∷ ts) ((base.Long, true), skip w.Int ts)
-  by_flag (true, a, e, f) = (u ∷ t ∷ a, ap (λ (z : List Lexeme). u ∷ t ∷ z) e, omega arith, inr (inr (inr (inr (inr (inr (inr (inr (inr (inl (is_entry (u ∷ t ∷ a) (w.Unsigned ∷ w.Long ∷ w.Int ∷ []) base.Long true (cc))))))))))))
-  by_flag (false, a, e, f) = (u ∷ t ∷ a, ap (λ (z : List Lexeme). u ∷ t ∷ z) e, omega arith, inr (inr (inr (inr (inr (inr (inr (inr (inl (is_entry (u ∷ t ∷ a) (w.Unsigned ∷ w.Long ∷ []) base.Long true (rw f (paired u t w.Unsigned w.Long first is))))))))))))
+  by_flag (true, a, e, f) = (
+    u ∷ t ∷ a,
+    ap (λ (z : List Lexeme). u ∷ t ∷ z) e,
+    omega arith,
+    inr
+        (inr (inr (inr (inr (inr (inr (inr (inr (inl (is_entry (u ∷ t ∷ a) (w.Unsigned ∷ w.Long ∷ w.Int ∷ []) base.Long true (cc))))))))))),
+  )
+  by_flag (false, a, e, f) = (
+    u ∷ t ∷ a,
+    ap (λ (z : List Lexeme). u ∷ t ∷ z) e,
+    omega arith,
+    inr
+        (inr (inr (inr (inr (inr (inr (inr (inl (is_entry (u ∷ t ∷ a) (w.Unsigned ∷ w.Long ∷ []) base.Long true (rw f (paired u t w.Unsigned w.Long first is))))))))))),
+  )
 
 unsigned_alone : (u : Lexeme) (ts : List Lexeme) → Is w.Unsigned u → TakesBase (u ∷ ts) ((base.Int, true), ts)
 unsigned_alone u ts is = (u ∷ [], refl, omega arith, inr (inr (inr (inr (inr (inl (is_entry (u ∷ []) (w.Unsigned ∷ []) base.Int true (alone u w.Unsigned is))))))))
 
-unsigned_by_word : (u t : Lexeme) (ts : List Lexeme) → Is w.Unsigned u → (word : Word) → Is word t → IfOk (elim word [ w.Char ↦ based base.Char true ts | w.Int ↦ based base.Int true ts | w.Long ↦ based base.Long true (skip w.Int ts) | _ ↦ based base.Int true (t ∷ ts) ]) (TakesBase (u ∷ t ∷ ts))
+unsigned_by_word : (u t : Lexeme) (ts : List Lexeme) → Is w.Unsigned u → (word : Word) → Is word t
+    → IfOk (elim word [ w.Char ↦ based base.Char true ts | w.Int ↦ based base.Int true ts | w.Long ↦ based base.Long true (skip w.Int ts) | _ ↦ based base.Int true (t ∷ ts) ])
+    (TakesBase (u ∷ t ∷ ts))
 unsigned_by_word u t ts first w.Char is = (u ∷ t ∷ [], refl, omega arith, inr (inr (inl (is_entry (u ∷ t ∷ []) (w.Unsigned ∷ w.Char ∷ []) base.Char true (paired u t w.Unsigned w.Char first is)))))
-unsigned_by_word u t ts first w.Int is = (u ∷ t ∷ [], refl, omega arith, inr (inr (inr (inr (inl (is_entry (u ∷ t ∷ []) (w.Unsigned ∷ w.Int ∷ []) base.Int true (paired u t w.Unsigned w.Int first is)))))))
+unsigned_by_word u t ts first w.Int is = (
+  u ∷ t ∷ [],
+  refl,
+  omega arith,
+  inr
+      (inr (inr (inr (inl (is_entry (u ∷ t ∷ []) (w.Unsigned ∷ w.Int ∷ []) base.Int true (paired u t w.Unsigned w.Int first is)))))),
+)
 unsigned_by_word u t ts first w.Long is = unsigned_long_takes u t ts first is
 unsigned_by_word u t ts first _ is = unsigned_alone u (t ∷ ts) first
 
@@ -71,7 +97,16 @@ unfolding unsigned_base
 unsigned_takes u [] is = unsigned_alone u [] is
 unsigned_takes u (t ∷ ts) is = unsigned_by_word u t ts is t.word refl
 
-base_by_word : (t : Lexeme) (ts : List Lexeme) (word : Word) → Is word t → IfOk (elim word [ w.Void ↦ based base.Void false ts | w.Char ↦ based base.Char false ts | w.Int ↦ based base.Int false ts | w.Long ↦ based base.Long false (skip w.Int ts) | w.Unsigned ↦ unsigned_base ts | _ ↦ Err refusal.Syntax ]) (TakesBase (t ∷ ts))
+base_by_word : (t : Lexeme) (ts : List Lexeme) (word : Word) → Is word t
+    → IfOk (elim word [
+      | w.Void ↦ based base.Void false ts
+      | w.Char ↦ based base.Char false ts
+      | w.Int ↦ based base.Int false ts
+      | w.Long ↦ based base.Long false
+          (skip w.Int ts)
+      | w.Unsigned ↦ unsigned_base ts
+      | _ ↦ Err refusal.Syntax
+    ]) (TakesBase (t ∷ ts))
 base_by_word t ts w.Void is = (t ∷ [], refl, omega arith, inl (is_entry (t ∷ []) (w.Void ∷ []) base.Void false (alone t w.Void is)))
 base_by_word t ts w.Char is = (t ∷ [], refl, omega arith, inr (inl (is_entry (t ∷ []) (w.Char ∷ []) base.Char false (alone t w.Char is))))
 base_by_word t ts w.Int is = (t ∷ [], refl, omega arith, inr (inr (inr (inl (is_entry (t ∷ []) (w.Int ∷ []) base.Int false (alone t w.Int is))))))

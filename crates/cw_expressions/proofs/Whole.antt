@@ -30,12 +30,14 @@ next_sound ts =
     if_bind (read_at nesting_limit Expression ts) _ _ _ (read_sound nesting_limit Expression ts) (λ x f.
     (f.front, f.parts, derived_deeper x.depth nesting_limit f.fits Expression f.front x.tree f.derived))
 
-by_outcome : (limit n : ℕ) (r : Read) (front : List Lexeme) (e : Tree) (rest : List Lexeme) → Again limit n false r front e rest → ((r >>= λ x. answer x.tree x.rest) ≡ answer e rest) ⊎ ((limit < n) × ((r >>= λ x. answer x.tree x.rest) ≡ Err refusal.TooDeep))
+by_outcome : (limit n : ℕ) (r : Read) (front : List Lexeme) (e : Tree) (rest : List Lexeme) → Again limit n false r front e rest
+    → ((r >>= λ x. answer x.tree x.rest) ≡ answer e rest) ⊎ ((limit < n) × ((r >>= λ x. answer x.tree x.rest) ≡ Err refusal.TooDeep))
 by_outcome limit n r front e rest (inl h) = inl (rw h.is refl)
 by_outcome limit n r front e rest (inr h) = inr (h.0, rw h.1 refl)
 
 -- what is next is read, unless it nests too deep
-pub next_again : (n : ℕ) (ts : List Lexeme) (e : Tree) (rest : List Lexeme) → IsNext n ts e rest → IsEnd rest → (next_expression ts ≡ answer e rest) ⊎ ((nesting_limit < n) × (next_expression ts ≡ Err refusal.TooDeep))
+pub next_again : (n : ℕ) (ts : List Lexeme) (e : Tree) (rest : List Lexeme) → IsNext n ts e rest → IsEnd rest → (next_expression ts ≡ answer e rest)
+    ⊎ ((nesting_limit < n) × (next_expression ts ≡ Err refusal.TooDeep))
 unfolding next_expression
 next_again n ts e rest (front, parts, h) stop =
     rw parts (by_outcome nesting_limit n (read_at nesting_limit Expression (front ++ rest)) front e rest (read_again nesting_limit n Expression front e rest h (end_stops rest stop)))
@@ -76,10 +78,13 @@ module _ (ts : List Lexeme) (r : Result (Expr × Bor (List Lexeme)) Refusal) (gi
 -- ---- one tree
 
 read_is : (n : ℕ) (ts : List Lexeme) (e : Tree) (rest : List Lexeme) → IsNext n ts e rest → IsEnd rest → (k : ℕ) → n ≤ k → (read_at k Expression ts >>= λ x. answer x.tree x.rest) ≡ answer e rest
-read_is n ts e rest (front, parts, h) stop k le = rw parts (by_case (by_outcome k n (read_at k Expression (front ++ rest)) front e rest (read_again k n Expression front e rest h (end_stops rest stop)))) where
-  by_case : ((read_at k Expression (front ++ rest) >>= λ x. answer x.tree x.rest) ≡ answer e rest) ⊎ ((k < n) × ((read_at k Expression (front ++ rest) >>= λ x. answer x.tree x.rest) ≡ Err refusal.TooDeep)) → (read_at k Expression (front ++ rest) >>= λ x. answer x.tree x.rest) ≡ answer e rest
-  by_case (inl p) = p
-  by_case (inr p) = let lt = p.0 in absurd (omega arith)
+read_is n ts e rest (front, parts, h) stop k le = rw parts
+    (by_case (by_outcome k n (read_at k Expression (front ++ rest)) front e rest (read_again k n Expression front e rest h (end_stops rest stop)))) where
+      by_case : ((read_at k Expression (front ++ rest) >>= λ x. answer x.tree x.rest) ≡ answer e rest)
+          ⊎ ((k < n) × ((read_at k Expression (front ++ rest) >>= λ x. answer x.tree x.rest) ≡ Err refusal.TooDeep))
+          → (read_at k Expression (front ++ rest) >>= λ x. answer x.tree x.rest) ≡ answer e rest
+      by_case (inl p) = p
+      by_case (inr p) = let lt = p.0 in absurd (omega arith)
 
 abbrev pair : Tree → List Lexeme → Tree × List Lexeme
 pair e rest = (e, rest)

@@ -1,4 +1,4 @@
--- What may stand behind an operand that is all of what a rule reads.
+-- Working definitions: what may stand behind an operand that is all of what a rule reads.
 use Rattle.std.specs.Prelude.{ℕ, nat_lt, Bool, true, false, Option, Some, None, is_some, if◌then◌else◌}
 use Rattle.cw_grammar.specs.declared.words.Word.{Word}
 use Rattle.cw_grammar.specs.declared.rules.Rule.{Rule}

@@ -1,4 +1,4 @@
--- Reading tokens from left to right, on lists: the steps that all readers take.
+-- Working definitions: reading tokens from left to right, on lists, by the steps that all readers take.
 use Rattle.std.specs.Prelude.{◌≡◌, ℕ, zero, suc, Bool, false, Option, Some, None, List, [], ◌∷◌, Result, Ok, Err, if◌then◌else◌}
 use Rattle.cw_grammar.specs.declared.words.Word.{Word}
 use Rattle.cw_grammar.specs.declared.words.Lexeme.{Lexeme}

@@ -1,4 +1,4 @@
--- Reading expressions from left to right, on lists: what proofs compare the code with.
+-- Working definitions: reading expressions from left to right, on lists. Proofs compare the code with this, and this with the grammar.
 use Rattle.std.specs.Prelude.{ℕ, zero, suc, ◌+◌, max, nat_lt, nat_eq, Bool, true, false, ◌&&◌, Option, Some, None, is_some, List, [], ◌∷◌, ◌++◌, length, Result, Ok, Err, if◌then◌else◌}
 use Rattle.cw_syntax.specs.declared.program.Op.{Op}
 use Rattle.cw_syntax.specs.declared.program.Op.TheVariants as op

@@ -1,4 +1,4 @@
--- What a function of the parser returned, without where it lies in memory.
+-- Working definitions: what a function of the parser returned, without where it lies in memory.
 use Rattle.std.specs.Prelude.{◌≤◌, List, map}
 use Rattle.std.specs.Borrow.{Bor}
 use Rattle.cw_syntax.specs.declared.program.Expr.{Expr}

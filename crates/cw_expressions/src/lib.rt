@@ -6,6 +6,4 @@ pub mod expressions;
 mod found;
 mod operators;
 pub mod refusal;
-#[cfg(test)]
-mod tests;
 pub mod types;

@@ -10,7 +10,7 @@ use cw_grammar::words::{Lexeme, Word};
 use cw_syntax::program::{Base, CType};
 
 /// Whether a word begins a type, or a type with `const`.
-pub fn begins_type(word: Word) -> bool
+pub(crate) fn begins_type(word: Word) -> bool
     ensures starts { result ≡ starts_type word }
 {
     match word {
@@ -98,7 +98,9 @@ pub fn type_name_at(tokens: &[Lexeme]) -> Result<(CType, &[Lexeme]), Refusal>
 
 /// A type in parentheses that is next, where it begins and ends, and the tokens after it.
 #[tactic(auto, unfolding(crate::specs::TypeReading::type_between))]
-pub fn type_between_at(tokens: &[Lexeme]) -> Result<((CType, (u32, u32)), &[Lexeme]), Refusal>
+pub(crate) fn type_between_at(
+    tokens: &[Lexeme],
+) -> Result<((CType, (u32, u32)), &[Lexeme]), Refusal>
     ensures kind { Gives (λ x. (x.0, x.1.now)) result (type_between tokens.now) }
 {
     let (open, rest) = take(tokens, Word::Open)?;

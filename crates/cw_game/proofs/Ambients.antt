@@ -1,18 +1,17 @@
 -- The ambient states are the policy's.
-use Rattle.std.proofs.Common.{◌≡◌, ◌⊎◌, inl, inr, ℕ, zero, suc, ◌+◌, ◌-◌, ◌%◌, ◌<◌, List, [], ◌∷◌, ◌++◌, Bool, true, false, cond, not, ◌&&◌, ◌||◌, Option, Some, None, map, length, Contains, nat_eq, refl, sym, ap, ap₂, ◌∙◌, subst, arith, ⊎_elim, eq-eqb, eqb-true}
+use Rattle.std.proofs.Common.{◌≡◌, ◌⊎◌, inl, inr, ℕ, zero, suc, ◌+◌, ◌-◌, ◌%◌, ◌<◌, List, [], ◌∷◌, ◌++◌, Bool, true, false, ◌&&◌, ◌||◌, Some, None, map}
+use Rattle.std.proofs.Common.{Contains, nat_eq, refl, sym, ap, ap₂, ◌∙◌, subst, arith, ⊎_elim, eq-eqb}
 use Rattle.std.specs.Prelude.{slice_get, IsTrue}
-use Rattle.std.specs.List.{list_any}
 use Rattle.std.proofs.lemmas.Option.{none-some, same_Some}
 use Rattle.cw_rights.specs.declared.capabilities.Caps.{Caps}
 use Rattle.cw_rights.specs.declared.capabilities.Primitive.{Primitive}
 use Rattle.cw_rights.specs.declared.capabilities.Primitive.TheVariants.{Limit, Enter, Split}
 use Rattle.cw_rights.specs.declared.words.Letter.{Letter}
-use Rattle.cw_rights.specs.declared.words.Test.TheVariants.{Amb}
-use Rattle.cw_rights.specs.Capabilities.{applied, closed}
-use Rattle.cw_rights.specs.Trees.{Tree, nothing, one, seq, star}
-use Rattle.cw_rights.specs.Words.{Word, same, fits, Matches}
-use Rattle.cw_rights.specs.Policies.{PlainPolicy, PlainRule, IsBad, primitives, start_caps}
-use Rattle.cw_model.specs.Boards.{may_grant, with_opened}
+use Rattle.cw_rights.specs.Capabilities.{applied}
+use Rattle.cw_rights.specs.Trees.{Tree, one, star}
+use Rattle.cw_rights.specs.Words.{Word, same, Matches}
+use Rattle.cw_rights.specs.Policies.{PlainPolicy, PlainRule, IsBad, primitives}
+use Rattle.cw_model.specs.Boards.{may_grant}
 use Rattle.cw_game.specs.declared.spots.Spot.{Spot}
 use Rattle.cw_game.specs.declared.spots.Spot.TheVariants.{Open, Close}
 use Rattle.cw_game.specs.declared.ambient.Node.{Node}
@@ -20,9 +19,10 @@ use Rattle.cw_game.specs.declared.ambient.Node.TheVariants.{TryAt, AskedAt, Labe
 use Rattle.cw_game.specs.declared.ambient.AmbientTest.{AmbientTest}
 use Rattle.cw_game.specs.declared.ambient.Numbering.{Numbering}
 use Rattle.cw_game.specs.declared.ambient.Numbering.TheVariants.{LettersLast, LettersFirst, NoLetter}
-use Rattle.cw_game.specs.Games.{States, AreStates, letter_of, IsOpenedIn, IsClosedIn, IsLabelIn}
-use Rattle.cw_game.specs.Conditions.{is_call_in}
-use Rattle.cw_game.specs.Ambient.{spot_of, bad_words, IsAmbient, is_bad, count_of, start_of, after_of, flag_of, granted_of, lettered, after_grant, is_granted, ambient_states, numbering_of, with_flag, number_of, AmbientMeans}
+use Rattle.cw_game.specs.Games.{AreStates, letter_of}
+use Rattle.cw_game.specs.Pairs.{is_call_in}
+use Rattle.cw_game.specs.Ambient.{spot_of, bad_words, IsAmbient, is_bad, count_of, start_of, after_of, flag_of, granted_of, after_grant, is_granted, ambient_states, numbering_of}
+use Rattle.cw_game.specs.Ambient.{with_flag, number_of, AmbientMeans}
 
 -- A word is bad exactly by its last letter.
 last : Letter → Word → Letter
@@ -77,7 +77,8 @@ or_of true b h = refl
 or_of false b (inl e) = cc
 or_of false b (inr e) = e
 
-hit_some : (rules : List PlainRule) (tests : List AmbientTest) → map (λ r. r.bad) rules ≡ map bad_words tests → (i : ℕ) (r : PlainRule) → slice_get rules i ≡ Some r → (a : Letter) (w : Word) → Matches r.bad (w ++ a ∷ []) → is_bad tests a.label a.caps.amb ≡ true
+hit_some : (rules : List PlainRule) (tests : List AmbientTest) → map (λ r. r.bad) rules ≡ map bad_words tests → (i : ℕ) (r : PlainRule) → slice_get rules i ≡ Some r → (a : Letter) (w : Word)
+    → Matches r.bad (w ++ a ∷ []) → is_bad tests a.label a.caps.amb ≡ true
 hit_some [] tests e i r at a w m = absurd (none-some r at)
 hit_some (q ∷ rules) [] e i r at a w m = cc
 hit_some (q ∷ rules) (t ∷ tests) e zero r at a w m =
@@ -88,12 +89,14 @@ hit_some (q ∷ rules) (t ∷ tests) e (suc i) r at a w m =
     let h : map (λ r. r.bad) rules ≡ map bad_words tests = cc in
     or_of (hits a.label a.caps.amb t) (is_bad tests a.label a.caps.amb) (inr (hit_some rules tests h i r at a w m))
 
-some_hit : (rules : List PlainRule) (tests : List AmbientTest) → map (λ r. r.bad) rules ≡ map bad_words tests → (a : Letter) (w : Word) → is_bad tests a.label a.caps.amb ≡ true → (i : ℕ) × (r : PlainRule) × (slice_get rules i ≡ Some r) × Matches r.bad (w ++ a ∷ [])
+some_hit : (rules : List PlainRule) (tests : List AmbientTest) → map (λ r. r.bad) rules ≡ map bad_words tests → (a : Letter) (w : Word) → is_bad tests a.label a.caps.amb ≡ true
+    → (i : ℕ) × (r : PlainRule) × (slice_get rules i ≡ Some r) × Matches r.bad (w ++ a ∷ [])
 some_hit rules [] e a w b = cc
 some_hit [] (t ∷ tests) e a w b = cc
 some_hit (q ∷ rules) (t ∷ tests) e a w b = let more : map (λ r. r.bad) rules ≡ map bad_words tests = cc in by (hits a.label a.caps.amb t) refl (some_hit rules tests more a w)
   where
-    by : (h : Bool) → hits a.label a.caps.amb t ≡ h → (is_bad tests a.label a.caps.amb ≡ true → (i : ℕ) × (r : PlainRule) × (slice_get rules i ≡ Some r) × Matches r.bad (w ++ a ∷ [])) → (i : ℕ) × (r : PlainRule) × (slice_get (q ∷ rules) i ≡ Some r) × Matches r.bad (w ++ a ∷ [])
+    by : (h : Bool) → hits a.label a.caps.amb t ≡ h → (is_bad tests a.label a.caps.amb ≡ true → (i : ℕ) × (r : PlainRule) × (slice_get rules i ≡ Some r) × Matches r.bad (w ++ a ∷ []))
+        → (i : ℕ) × (r : PlainRule) × (slice_get (q ∷ rules) i ≡ Some r) × Matches r.bad (w ++ a ∷ [])
     by true h rec =
         let z : q.bad ≡ bad_words t = cc in
         (0, q, refl, subst (λ (x : Tree). Matches x (w ++ a ∷ [])) (sym z) (matched t a w h))
@@ -214,9 +217,11 @@ module _ (policy : PlainPolicy) (tests : List AmbientTest) (nodes : List Node) (
   grants : (q : ℕ) (w : Word) (c : Caps) (a : Primitive) → Contains (primitives policy true) a → AmbientMeans policy num q w c → is_granted a ≡ may_grant c a
   grants q w c a at m = ⊎_elim (λ e. subst (λ a. is_granted a ≡ may_grant c a) (sym e) refl) (λ e. subst (λ a. is_granted a ≡ may_grant c a) (sym e) refl) (only_two a at)
 
-  granted : (q : ℕ) (w : Word) (c : Caps) (a : Primitive) → Contains (primitives policy true) a → AmbientMeans policy num q w c → may_grant c a ≡ true → AmbientMeans policy num (after_grant q a) w (applied c a)
+  granted : (q : ℕ) (w : Word) (c : Caps) (a : Primitive) → Contains (primitives policy true) a → AmbientMeans policy num q w c → may_grant c a ≡ true
+      → AmbientMeans policy num (after_grant q a) w (applied c a)
   granted q w c a at m may = ⊎_elim
-      (λ e. subst (λ a. AmbientMeans policy num (after_grant q a) w (applied c a)) (sym e) (ap granted_of (m.0 ∙ number_is num w c.amb) ∙ granted_is (first_of num w) c.amb (first_fits num w).0 ∙ sym (number_is num w false), m.1))
+      (λ e. subst (λ a. AmbientMeans policy num (after_grant q a) w (applied c a)) (sym e)
+      (ap granted_of (m.0 ∙ number_is num w c.amb) ∙ granted_is (first_of num w) c.amb (first_fits num w).0 ∙ sym (number_is num w false), m.1))
       (λ e. subst (λ a. AmbientMeans policy num (after_grant q a) w (applied c a)) (sym e) m)
       (only_two a at)
 
@@ -247,5 +252,6 @@ module _ (policy : PlainPolicy) (tests : List AmbientTest) (nodes : List Node) (
   }
 
 -- The states of the game are the policy's for what stands at its positions.
-pub ambient_are_states : (policy : PlainPolicy) (tests : List AmbientTest) (nodes : List Node) → IsAmbient policy tests → AreStates policy (map spot_of nodes) (ambient_states (numbering_of tests nodes) tests) (AmbientMeans policy (numbering_of tests nodes))
+pub ambient_are_states : (policy : PlainPolicy) (tests : List AmbientTest) (nodes : List Node) → IsAmbient policy tests
+    → AreStates policy (map spot_of nodes) (ambient_states (numbering_of tests nodes) tests) (AmbientMeans policy (numbering_of tests nodes))
 ambient_are_states policy tests nodes is = are_states policy tests nodes is (numbering_of tests nodes)

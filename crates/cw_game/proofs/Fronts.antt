@@ -16,18 +16,11 @@ use Rattle.cw_model.specs.Boards.{seam_in, primitives_in, letters_in, kept_after
 use Rattle.cw_model.specs.Runs.{step_memories}
 use Rattle.cw_game.specs.declared.spots.Spot.{Spot}
 use Rattle.cw_game.specs.declared.spots.Spot.TheVariants.{Step, Branch, Exit, Label as LabelSpot, Open as OpenSpot, Close as CloseSpot}
-use Rattle.cw_game.specs.Places.{Visits, CallsAt, Placed, AtIn, At}
+use Rattle.cw_game.specs.Places.{Visits, CallsAt, AtIn, At}
+use Rattle.cw_game.specs.Standing.{settled, FreeAt, IsSplitCall, Within, Stage}
 use Rattle.cw_game.proofs.Places.{at_broken, at_continued, at_ended, at_body}
 
--- nothing is left to rewrite at the front
-abbrev pub settled : Frame → Bool
-settled (Todo (Group ss) ∷ is) = false
-settled (Todo (While at s) ∷ is) = false
-settled (Todo (Do at s) ∷ is) = false
-settled (Todo (For at init decided stepped s) ∷ is) = false
-settled (Mark ∷ is) = false
-settled _ = true
-
+-- Nothing is left to rewrite at the front.
 settled_init : (init : Option ℕ) (at : ℕ) (decided stepped : Bool) (s : Stm) (rest : Frame) → settled (init_if init (Test at decided stepped s ∷ rest)) ≡ true
 settled_init None at decided stepped s rest = refl
 settled_init (Some place) at decided stepped s rest = refl
@@ -70,21 +63,6 @@ seam_settled (Todo (Open at k d) ∷ is) j e = refl
 seam_settled (Todo (Close at k d) ∷ is) j e = refl
 seam_settled (Todo (Call at k callee) ∷ is) j e = refl
 seam_settled _ j e = absurd (none-some j e)
-
--- where z is the free position of a front, the one after its visit
-abbrev pub FreeIn : List Spot → PlainPolicy → ℕ → Option ℕ → Option ℕ → Frame → ℕ → Type 0
-FreeIn g pol x b c (Entry f j ∷ is) z = (m : ℕ) × (slice_get g z ≡ Some (Step m)) × AtIn g pol x b c is m
-FreeIn g pol x b c (Todo (Label at mark j l s) ∷ is) z = (k : ℕ) × ((m : ℕ) × (slice_get g z ≡ Some (LabelSpot j l m)) × Placed g pol x b c s m k) × AtIn g pol x b c is k
-FreeIn g pol x b c (Todo (Call at j callee) ∷ is) z = (k : ℕ) × CallsAt g j callee z k × AtIn g pol x b c is k
-FreeIn g pol x b c frame z = AtIn g pol x b c frame z
-
-abbrev pub FreeAt : List Spot → PlainPolicy → ℕ → Frame → ℕ → Type 0
-FreeAt g pol x frame z = (b : Option ℕ) × (c : Option ℕ) × FreeIn g pol x b c frame z
-
--- the front is a call that may be split
-abbrev pub IsSplitCall : Frame → Type 0
-IsSplitCall (Todo (Call at j callee) ∷ is) = callee.split ≡ true
-IsSplitCall _ = ⊥
 
 -- The primitives of a front.
 no_limit_splits : (limits : List ALimit) → Contains (map (λ limit. Limit limit) limits) Split → ⊥
@@ -133,21 +111,14 @@ split_is_call pol (Todo (Label at mark j l s) ∷ is) h = unsplit pol h
 split_is_call pol (Todo (Call at j callee) ∷ is) h = splits_only pol callee.split h
 split_is_call pol _ h = absurd (none_in Split h)
 
--- these are of the front's primitives
-abbrev pub Within : PlainPolicy → Frame → List Primitive → Type 0
-Within pol frame later = (a : Primitive) → Contains later a → Contains (primitives_in pol frame) a
-
 pub within_first : (pol : PlainPolicy) (frame : Frame) (a : Primitive) (later : List Primitive) → Within pol frame (a ∷ later) → Contains (primitives_in pol frame) a
 within_first pol frame a later h = h a (0, omega arith, refl)
 
 pub within_rest : (pol : PlainPolicy) (frame : Frame) (a : Primitive) (later : List Primitive) → Within pol frame (a ∷ later) → Within pol frame later
 within_rest pol frame a later h = λ b at. let lt = at.1 in h b (suc at.0, omega (arith, lt), at.2)
 
--- the frame stands in its visit at p, before the primitive of this stage
-abbrev pub Stage : List Spot → PlainPolicy → ℕ → Frame → ℕ → List Primitive → ℕ → Type 0
-Stage g pol x frame i later p = (z : ℕ) × (j : ℕ) × (seam_in frame ≡ Some j) × FreeAt g pol x frame z × Visits g j i later p z × Within pol frame later
-
-pub next_stage : (g : List Spot) (pol : PlainPolicy) (x : ℕ) (frame : Frame) (i : ℕ) (a : Primitive) (later : List Primitive) (p : ℕ) → Stage g pol x frame i (a ∷ later) p → Stage g pol x frame (suc i) later (p + 2)
+pub next_stage : (g : List Spot) (pol : PlainPolicy) (x : ℕ) (frame : Frame) (i : ℕ) (a : Primitive) (later : List Primitive) (p : ℕ) → Stage g pol x frame i (a ∷ later) p
+    → Stage g pol x frame (suc i) later (p + 2)
 next_stage g pol x frame i a later p s = (s.0, s.1, s.2, s.3, s.4.3, within_rest pol frame a later s.5)
 
 last_at : (g : List Spot) (i j p z : ℕ) (later : List Primitive) → later ≡ [] → Visits g j i later p z → p ≡ z
@@ -180,7 +151,8 @@ quiet (Todo (Open at j d)) is e = cc
 quiet (Todo (Close at j d)) is e = cc
 quiet (Todo (Call at j callee)) is e = cc
 quiet (End f) is e = cc
-quiet i is e = record { passes = λ plan frames way. refl; says = λ caps. refl; keeps = λ mode frames kept. refl; holds = λ policy frames kept way caps. refl; remembers = λ t split by frames kept ms. refl }
+quiet i is e =
+    record { passes = λ plan frames way. refl; says = λ caps. refl; keeps = λ mode frames kept. refl; holds = λ policy frames kept way caps. refl; remembers = λ t split by frames kept ms. refl }
 
 -- the ways on of a front with one, and of one with two
 abbrev pub on_only : Frame → Way → Option Frame
@@ -201,8 +173,10 @@ by_ways f h e0 e1 e2 e3 e4 Failed = e4
 
 -- What a free front is, with its spot at p.
 pub data Front (g : List Spot) (pol : PlainPolicy) (x p : ℕ) : Frame → Type 0 where
-  is_step : {i : Item} {is : Frame} (next : Frame) {n : ℕ} → IsQuiet i is → ((way : Way) → after i way is ≡ on_only next way) → slice_get g p ≡ Some (Step n) → At g pol x next n → Front g pol x p (i ∷ is)
-  is_branch : {i : Item} {is : Frame} (left right : Frame) {m n : ℕ} → IsQuiet i is → ((way : Way) → after i way is ≡ either left right way) → slice_get g p ≡ Some (Branch m n) → At g pol x left m → At g pol x right n → Front g pol x p (i ∷ is)
+  is_step : {i : Item} {is : Frame} (next : Frame) {n : ℕ} → IsQuiet i is → ((way : Way) → after i way is ≡ on_only next way) → slice_get g p ≡ Some (Step n) → At g pol x next n
+      → Front g pol x p (i ∷ is)
+  is_branch : {i : Item} {is : Frame} (left right : Frame) {m n : ℕ} → IsQuiet i is → ((way : Way) → after i way is ≡ either left right way) → slice_get g p ≡ Some (Branch m n)
+      → At g pol x left m → At g pol x right n → Front g pol x p (i ∷ is)
   is_label : {at mark j l : ℕ} {s : Stm} {is : Frame} {n : ℕ} → slice_get g p ≡ Some (LabelSpot j l n) → At g pol x (Todo s ∷ is) n → Front g pol x p (Todo (Label at mark j l s) ∷ is)
   is_open : {at j d : ℕ} {is : Frame} {n : ℕ} → d < length pol.descriptors → slice_get g p ≡ Some (OpenSpot j d n) → At g pol x is n → Front g pol x p (Todo (Open at j d) ∷ is)
   is_close : {at j d : ℕ} {is : Frame} {n : ℕ} → d < length pol.descriptors → slice_get g p ≡ Some (CloseSpot j d n) → At g pol x is n → Front g pol x p (Todo (Close at j d) ∷ is)
@@ -210,7 +184,8 @@ pub data Front (g : List Spot) (pol : PlainPolicy) (x p : ℕ) : Frame → Type 
   is_end : {f : ℕ} {is : Frame} → slice_get g p ≡ Some (Exit f) → p ≡ x → Front g pol x p (End f ∷ is)
 
 module _ (g : List Spot) (pol : PlainPolicy) (x : ℕ) where
-  front_test : (b c : Option ℕ) (at : ℕ) (decided stepped : Bool) (s : Stm) (is : Frame) (p : ℕ) → AtIn g pol x b c (Test at decided stepped s ∷ is) p → Front g pol x p (Test at decided stepped s ∷ is)
+  front_test : (b c : Option ℕ) (at : ℕ) (decided stepped : Bool) (s : Stm) (is : Frame) (p : ℕ) → AtIn g pol x b c (Test at decided stepped s ∷ is) p
+      → Front g pol x p (Test at decided stepped s ∷ is)
   front_test b c at true stepped s is p h =
       let w = h.1 in
       let r : AtIn g pol x (Some w.2) None is w.2 = subst (λ z. AtIn g pol x z None is w.2) w.6 w.7 in

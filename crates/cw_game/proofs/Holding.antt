@@ -5,7 +5,7 @@ use Rattle.cw_rights.specs.declared.capabilities.Primitive.{Primitive}
 use Rattle.cw_rights.specs.declared.capabilities.Primitive.TheVariants.{Split}
 use Rattle.cw_game.specs.declared.spots.Spot.{Spot}
 use Rattle.cw_game.specs.declared.spots.Spot.TheVariants.{Visit, Asked, Step, Branch, Label, Open, Close, Call, SplitCall, Exit}
-use Rattle.cw_game.specs.Games.{Game, may_refuse_in, Promise, holds_in, Holds, IsLost}
+use Rattle.cw_game.specs.Games.{Game, refuses_in, Promise, holds_in, Holds, IsLost}
 
 -- if the one is true so is the other
 abbrev pub Gives : Bool → Bool → Type 0
@@ -48,24 +48,30 @@ module _ (g : Game) (IsState : ℕ → Type 0) (closed : AreClosed g IsState) wh
   abbrev Rises : (ℕ → ℕ → Promise → Bool) → (ℕ → ℕ → Promise → Bool) → Type 0
   Rises h h' = (p q : ℕ) (e e' : Promise) → IsState q → IsWithin e e' → Gives (h p q e) (h' p q e')
 
-  rises_in : (h h' : ℕ → ℕ → Promise → Bool) → Rises h h' → (p q : ℕ) (e e' : Promise) → IsState q → IsWithin e e' → (o : Option Spot) → slice_get g.spots p ≡ o → Gives (holds_in g h p q e o) (holds_in g h' p q e' o)
+  rises_in : (h h' : ℕ → ℕ → Promise → Bool) → Rises h h' → (p q : ℕ) (e e' : Promise) → IsState q → IsWithin e e' → (o : Option Spot) → slice_get g.spots p ≡ o
+      → Gives (holds_in g h p q e o) (holds_in g h' p q e' o)
   rises_in h h' to p q e e' s w None es k = refl
   rises_in h h' to p q e e' s w (Some (Visit j i a)) es k = gives_or (h (p + 2) q e) (h (p + 1) q e) (h' (p + 2) q e') (h' (p + 1) q e') (to (p + 2) q e e' s w) (to (p + 1) q e e' s w) k
   rises_in h h' to p q e e' s w (Some (Asked j i Split)) es k =
       gives_and _ _ _ _
       (gives_where (g.states.may_grant q Split) (h (p + 2) q e) (h' (p + 2) q e') (λ y. to (p + 2) q e e' s w))
-      (gives_where (may_refuse_in g q Split) (h (p + 1) q e) (h' (p + 1) q e') (λ y. to (p + 1) q e e' s w)) k
+      (gives_where (refuses_in g q Split) (h (p + 1) q e) (h' (p + 1) q e') (λ y. to (p + 1) q e e' s w)) k
   rises_in h h' to p q e e' s w (Some (Asked j i a)) es k =
       gives_and _ _ _ _
-      (gives_where (g.states.may_grant q a) (h (p + 1) (g.states.granted q a) e) (h' (p + 1) (g.states.granted q a) e') (λ y. to (p + 1) (g.states.granted q a) e e' (closed.granted p j i q a es y s) w))
-      (gives_where (may_refuse_in g q a) (h (p + 1) q e) (h' (p + 1) q e') (λ y. to (p + 1) q e e' s w)) k
+      (gives_where (g.states.may_grant q a) (h (p + 1) (g.states.granted q a) e) (h' (p + 1) (g.states.granted q a) e')
+      (λ y. to (p + 1) (g.states.granted q a) e e' (closed.granted p j i q a es y s) w))
+      (gives_where (refuses_in g q a) (h (p + 1) q e) (h' (p + 1) q e') (λ y. to (p + 1) q e e' s w)) k
   rises_in h h' to p q e e' s w (Some (Step n)) es k = to n q e e' s w k
   rises_in h h' to p q e e' s w (Some (Branch m n)) es k = gives_and (h m q e) (h n q e) (h' m q e') (h' n q e') (to m q e e' s w) (to n q e e' s w) k
-  rises_in h h' to p q e e' s w (Some (Label j l n)) es k = gives_unless (g.states.bad q l) (h n (g.states.lettered q l) e) (h' n (g.states.lettered q l) e') (λ y. to n (g.states.lettered q l) e e' (closed.lettered p j l n q es y s) w) k
-  rises_in h h' to p q e e' s w (Some (Open j d n)) es k = gives_and (h n (g.states.opened q d) e) (h n (g.states.closed q d) e) (h' n (g.states.opened q d) e') (h' n (g.states.closed q d) e') (to n (g.states.opened q d) e e' (closed.opened p j d n q es s) w) (to n (g.states.closed q d) e e' (closed.failed p j d n q es s) w) k
+  rises_in h h' to p q e e' s w (Some (Label j l n)) es k =
+      gives_unless (g.states.bad q l) (h n (g.states.lettered q l) e) (h' n (g.states.lettered q l) e') (λ y. to n (g.states.lettered q l) e e' (closed.lettered p j l n q es y s) w) k
+  rises_in h h' to p q e e' s w (Some (Open j d n)) es k =
+      gives_and (h n (g.states.opened q d) e) (h n (g.states.closed q d) e) (h' n (g.states.opened q d) e') (h' n (g.states.closed q d) e')
+      (to n (g.states.opened q d) e e' (closed.opened p j d n q es s) w) (to n (g.states.closed q d) e e' (closed.failed p j d n q es s) w) k
   rises_in h h' to p q e e' s w (Some (Close j d n)) es k = to n (g.states.closed q d) e e' (closed.closed p j d n q es s) w k
   rises_in h h' to p q e e' s w (Some (Call j f n)) es k = to (g.entry f) q (λ x. h n x e) (λ x. h' n x e') s (λ x t. to n x e e' t w) k
-  rises_in h h' to p q e e' s w (Some (SplitCall j f n)) es k = to (g.entry f) q (λ x. h n (g.states.with_rights x q) e) (λ x. h' n (g.states.with_rights x q) e') s (λ x t. to n (g.states.with_rights x q) e e' (closed.returned p j f n x q es t s) w) k
+  rises_in h h' to p q e e' s w (Some (SplitCall j f n)) es k =
+      to (g.entry f) q (λ x. h n (g.states.with_rights x q) e) (λ x. h' n (g.states.with_rights x q) e') s (λ x t. to n (g.states.with_rights x q) e e' (closed.returned p j f n x q es t s) w) k
   rises_in h h' to p q e e' s w (Some (Exit f)) es k = gives_or (nat_eq f g.main) (e q) (nat_eq f g.main) (e' q) (λ y. y) (w q s) k
 
   -- both at once

@@ -8,3 +8,6 @@ pub mod Ambients
 pub mod Holding
 pub mod Necessity
 pub mod Standing
+pub mod Linking
+pub mod Truths
+pub mod Goods

@@ -32,10 +32,12 @@ move_is Failed way e = ap move_of (sym (same_Some FailedWay way e))
 move_is _ way e = absurd (none-some way e)
 
 -- a step of the program passes some way
-pub step_of : (p : Problem) (mode : Option Caps) (b next : Board) (by : Move) (o : Option Way) → way_of by ≡ o → stepped p mode b o ≡ Some next → (way : Way) × (move_of way ≡ by) × ((stack : List Frame) × (pass p.plan b.stack way ≡ Some stack) × (landed p mode b way stack ≡ next))
+pub step_of : (p : Problem) (mode : Option Caps) (b next : Board) (by : Move) (o : Option Way) → way_of by ≡ o → stepped p mode b o ≡ Some next
+    → (way : Way) × (move_of way ≡ by) × ((stack : List Frame) × (pass p.plan b.stack way ≡ Some stack) × (landed p mode b way stack ≡ next))
 step_of p mode b next by None eo e = absurd (none-some next e)
 step_of p mode b next by (Some way) eo e = (way, move_is by way eo, passed (pass p.plan b.stack way) refl e)
   where
-    passed : (o : Option (List Frame)) → pass p.plan b.stack way ≡ o → option_map (landed p mode b way) o ≡ Some next → (stack : List Frame) × (pass p.plan b.stack way ≡ Some stack) × (landed p mode b way stack ≡ next)
+    passed : (o : Option (List Frame)) → pass p.plan b.stack way ≡ o → option_map (landed p mode b way) o ≡ Some next
+        → (stack : List Frame) × (pass p.plan b.stack way ≡ Some stack) × (landed p mode b way stack ≡ next)
     passed None ep e = absurd (none-some next e)
     passed (Some stack) ep e = (stack, ep, same_Some (landed p mode b way stack) next e)

@@ -8,7 +8,7 @@ use Rattle.cw_certs.specs.declared.moves.Move.{Move}
 use Rattle.cw_certs.specs.declared.moves.Move.TheVariants.{Skip, Try, Grant, Refuse, On, Left, Right, Opened, Failed}
 use Rattle.cw_game.specs.declared.spots.Spot.{Spot}
 use Rattle.cw_game.specs.declared.spots.Spot.TheVariants.{Visit, Asked, Step, Branch, Label, Open, Close, Call, SplitCall, Exit}
-use Rattle.cw_game.specs.Games.{Game, may_refuse_in, returned, Ret, Config, at_pair, leads_in, bad_in, weavers_in, Promise, holds_in, Holds, IsLost, leads_to, ForcedAt}
+use Rattle.cw_game.specs.Games.{Game, refuses_in, returned, Ret, Config, at_pair, leads_in, bad_in, weavers_in, Promise, holds_in, Holds, IsLost, leads_to, ForcedAt}
 use Rattle.cw_game.specs.Necessity.{LeavesOutLost}
 
 either_false : (a b : Bool) → (a && b) ≡ false → (a ≡ false) ⊎ (b ≡ false)
@@ -65,17 +65,20 @@ module _ (g : Game) (IsSuch : Config → Type 0) where
   Owed e rets = (x : ℕ) → EndsIn rets x → e x ≡ false → After rets x
 
 module _ (g : Game) (IsSuch : Config → Type 0) (onward : GoesOn g IsSuch) where
-  goes : (p q : ℕ) (rets : List Ret) (o : Option Spot) (by : Move) (next : Config) → slice_get g.spots p ≡ o → bad_in g q o ≡ false → leads_in g p q rets o by ≡ Some next → IsSuch (at_pair p q rets) → IsSuch next
+  goes : (p q : ℕ) (rets : List Ret) (o : Option Spot) (by : Move) (next : Config) → slice_get g.spots p ≡ o → bad_in g q o ≡ false → leads_in g p q rets o by ≡ Some next
+      → IsSuch (at_pair p q rets) → IsSuch next
   goes p q rets o by next es fine e such = onward (at_pair p q rets) next by such (ap (bad_in g q) es ∙ fine) (ap (λ s. leads_in g p q rets s by) es ∙ e)
 
   -- the environment moves
-  moves : (p q : ℕ) (rets : List Ret) (o : Option Spot) (by : Move) (next : Config) → slice_get g.spots p ≡ o → bad_in g q o ≡ false → weavers_in o ≡ false → leads_in g p q rets o by ≡ Some next → IsSuch (at_pair p q rets) → (IsSuch next → Eventually g next) → Eventually g (at_pair p q rets)
+  moves : (p q : ℕ) (rets : List Ret) (o : Option Spot) (by : Move) (next : Config) → slice_get g.spots p ≡ o → bad_in g q o ≡ false → weavers_in o ≡ false
+      → leads_in g p q rets o by ≡ Some next → IsSuch (at_pair p q rets) → (IsSuch next → Eventually g next) → Eventually g (at_pair p q rets)
   moves p q rets o by next es fine turn e such then =
       let k = then (goes p q rets o by next es fine e such) in
       (suc k.0, inr (inr (ap weavers_in es ∙ turn, (by, next, ap (λ s. leads_in g p q rets s by) es ∙ e, k.1))))
 
   -- both moves of the weaver
-  two_ways : (p q j i : ℕ) (a : Primitive) (rets : List Ret) → slice_get g.spots p ≡ Some (Visit j i a) → Eventually g (at_pair (p + 2) q rets) → Eventually g (at_pair (p + 1) q rets) → Eventually g (at_pair p q rets)
+  two_ways : (p q j i : ℕ) (a : Primitive) (rets : List Ret) → slice_get g.spots p ≡ Some (Visit j i a) → Eventually g (at_pair (p + 2) q rets) → Eventually g (at_pair (p + 1) q rets)
+      → Eventually g (at_pair p q rets)
   two_ways p q j i a rets es s t = (suc (t.0 + s.0), inr (inl (ap weavers_in es, λ by next e. case by next (sym (ap (λ o. leads_in g p q rets o by) es) ∙ e))))
     where
       skip : ForcedAt g (t.0 + s.0) (at_pair (p + 2) q rets)
@@ -97,11 +100,14 @@ module _ (g : Game) (IsSuch : Config → Type 0) (onward : GoesOn g IsSuch) wher
   Here h = (p q : ℕ) (e : Promise) (rets : List Ret) → IsSuch (at_pair p q rets) → Owed g IsSuch e rets → h p q e ≡ false → Eventually g (at_pair p q rets)
 
   -- what is owed below a call
-  returns : (h : ℕ → ℕ → Promise → Bool) → Here h → (n : ℕ) (kept : Option ℕ) (e : Promise) (rets : List Ret) → Owed g IsSuch e rets → Owed g IsSuch (λ x. h n (returned g.states kept x) e) (record { back = n; kept = kept } ∷ rets)
+  returns : (h : ℕ → ℕ → Promise → Bool) → Here h → (n : ℕ) (kept : Option ℕ) (e : Promise) (rets : List Ret) → Owed g IsSuch e rets
+      → Owed g IsSuch (λ x. h n (returned g.states kept x) e) (record { back = n; kept = kept } ∷ rets)
   returns h to n kept e rets owed x ends k =
-      to n (returned g.states kept x) e rets (goes ends.0 x (record { back = n; kept = kept } ∷ rets) (Some (Exit ends.1)) On (at_pair n (returned g.states kept x) rets) ends.2 refl refl ends.3) owed k
+      to n (returned g.states kept x) e rets (goes ends.0 x (record { back = n; kept = kept } ∷ rets) (Some (Exit ends.1)) On (at_pair n (returned g.states kept x) rets) ends.2 refl refl
+      ends.3) owed k
 
-  forced_in : (h : ℕ → ℕ → Promise → Bool) → Here h → (p q : ℕ) (e : Promise) (rets : List Ret) → IsSuch (at_pair p q rets) → Owed g IsSuch e rets → (o : Option Spot) → slice_get g.spots p ≡ o → holds_in g h p q e o ≡ false → Eventually g (at_pair p q rets)
+  forced_in : (h : ℕ → ℕ → Promise → Bool) → Here h → (p q : ℕ) (e : Promise) (rets : List Ret) → IsSuch (at_pair p q rets) → Owed g IsSuch e rets → (o : Option Spot)
+      → slice_get g.spots p ≡ o → holds_in g h p q e o ≡ false → Eventually g (at_pair p q rets)
   forced_in h to p q e rets such owed None es k = cc
   forced_in h to p q e rets such owed (Some (Visit j i a)) es k =
       let z = both_false (h (p + 2) q e) (h (p + 1) q e) k in
@@ -114,18 +120,19 @@ module _ (g : Game) (IsSuch : Config → Type 0) (onward : GoesOn g IsSuch) wher
       let y = chosen (g.states.may_grant q Split) (h (p + 2) q e) z in
       moves p q rets (Some (Asked j i Split)) Grant (at_pair (p + 2) q rets) es refl refl (ap (λ t. cond t (Some (at_pair (p + 2) q rets)) None) y.0) such (λ s. to (p + 2) q e rets s owed y.1))
       (λ z.
-      let y = chosen (may_refuse_in g q Split) (h (p + 1) q e) z in
+      let y = chosen (refuses_in g q Split) (h (p + 1) q e) z in
       moves p q rets (Some (Asked j i Split)) Refuse (at_pair (p + 1) q rets) es refl refl (ap (λ t. cond t (Some (at_pair (p + 1) q rets)) None) y.0) such (λ s. to (p + 1) q e rets s owed y.1))
-      (either_false (not (g.states.may_grant q Split) || h (p + 2) q e) (not (may_refuse_in g q Split) || h (p + 1) q e) k)
+      (either_false (not (g.states.may_grant q Split) || h (p + 2) q e) (not (refuses_in g q Split) || h (p + 1) q e) k)
   forced_in h to p q e rets such owed (Some (Asked j i a)) es k =
       ⊎_elim
       (λ z.
       let y = chosen (g.states.may_grant q a) (h (p + 1) (g.states.granted q a) e) z in
-      moves p q rets (Some (Asked j i a)) Grant (at_pair (p + 1) (g.states.granted q a) rets) es refl refl (ap (λ t. cond t (Some (at_pair (p + 1) (g.states.granted q a) rets)) None) y.0) such (λ s. to (p + 1) (g.states.granted q a) e rets s owed y.1))
+      moves p q rets (Some (Asked j i a)) Grant (at_pair (p + 1) (g.states.granted q a) rets) es refl refl (ap (λ t. cond t (Some (at_pair (p + 1) (g.states.granted q a) rets)) None) y.0)
+      such (λ s. to (p + 1) (g.states.granted q a) e rets s owed y.1))
       (λ z.
-      let y = chosen (may_refuse_in g q a) (h (p + 1) q e) z in
+      let y = chosen (refuses_in g q a) (h (p + 1) q e) z in
       moves p q rets (Some (Asked j i a)) Refuse (at_pair (p + 1) q rets) es refl refl (ap (λ t. cond t (Some (at_pair (p + 1) q rets)) None) y.0) such (λ s. to (p + 1) q e rets s owed y.1))
-      (either_false (not (g.states.may_grant q a) || h (p + 1) (g.states.granted q a) e) (not (may_refuse_in g q a) || h (p + 1) q e) k)
+      (either_false (not (g.states.may_grant q a) || h (p + 1) (g.states.granted q a) e) (not (refuses_in g q a) || h (p + 1) q e) k)
   forced_in h to p q e rets such owed (Some (Step n)) es k =
       moves p q rets (Some (Step n)) On (at_pair n q rets) es refl refl refl such (λ s. to n q e rets s owed k)
   forced_in h to p q e rets such owed (Some (Branch m n)) es k =
@@ -150,7 +157,8 @@ module _ (g : Game) (IsSuch : Config → Type 0) (onward : GoesOn g IsSuch) wher
       moves p q rets (Some (Call j f n)) On (at_pair (g.entry f) q (r ∷ rets)) es refl refl refl such (λ s. to (g.entry f) q (λ x. h n x e) (r ∷ rets) s (returns h to n None e rets owed) k)
   forced_in h to p q e rets such owed (Some (SplitCall j f n)) es k =
       let r : Ret = record { back = n; kept = Some q } in
-      moves p q rets (Some (SplitCall j f n)) On (at_pair (g.entry f) q (r ∷ rets)) es refl refl refl such (λ s. to (g.entry f) q (λ x. h n (g.states.with_rights x q) e) (r ∷ rets) s (returns h to n (Some q) e rets owed) k)
+      moves p q rets (Some (SplitCall j f n)) On (at_pair (g.entry f) q (r ∷ rets)) es refl refl refl such
+      (λ s. to (g.entry f) q (λ x. h n (g.states.with_rights x q) e) (r ∷ rets) s (returns h to n (Some q) e rets owed) k)
   forced_in h to p q e rets such owed (Some (Exit f)) es k =
       exits p q f rets es such (owed q (p, f, es, such) (both_false (nat_eq f g.main) (e q) k).1)
 
@@ -164,7 +172,8 @@ module _ (g : Game) (IsSuch : Config → Type 0) (onward : GoesOn g IsSuch) wher
   is_forced p q e rets such owed l = lost_forced l.0 p q e rets such owed l.1
 
   -- A call hands down what is owed, where the callee's promise leaves out only states from which the return is lost.
-  pub call_owed : ((c : Config) → IsSuch c → c.state < g.states.count) → (n : ℕ) (kept : Option ℕ) (e promised : Promise) (rets : List Ret) → Owed g IsSuch e rets → LeavesOutLost g promised n kept e → Owed g IsSuch promised (record { back = n; kept = kept } ∷ rets)
+  pub call_owed : ((c : Config) → IsSuch c → c.state < g.states.count) → (n : ℕ) (kept : Option ℕ) (e promised : Promise) (rets : List Ret) → Owed g IsSuch e rets
+      → LeavesOutLost g promised n kept e → Owed g IsSuch promised (record { back = n; kept = kept } ∷ rets)
   call_owed below n kept e promised rets owed full x ends z =
       let ret : Ret = record { back = n; kept = kept } in
       let l = full x (below (at_pair ends.0 x (ret ∷ rets)) ends.3) z in

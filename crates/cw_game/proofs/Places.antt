@@ -13,7 +13,8 @@ module _ (g : List Spot) (pol : PlainPolicy) (x : ℕ) where
   at_items b c (then s ss) rest p k h r = (h.0, h.1, at_items b c ss rest h.0 k h.2 r)
 
   -- the test and the mark of a loop whose parts are placed
-  pub at_loop : (b c : Option ℕ) (at : ℕ) (decided stepped : Bool) (s : Stm) (rest : Frame) (t m a k : ℕ) → TestAt g decided t m k → StepAt g stepped a t → Placed g pol x (Some k) (Some a) s m a → AtIn g pol x b c rest k → AtIn g pol x (Some k) (Some t) (Test at decided stepped s ∷ (Mark ∷ rest)) t
+  pub at_loop : (b c : Option ℕ) (at : ℕ) (decided stepped : Bool) (s : Stm) (rest : Frame) (t m a k : ℕ) → TestAt g decided t m k → StepAt g stepped a t
+      → Placed g pol x (Some k) (Some a) s m a → AtIn g pol x b c rest k → AtIn g pol x (Some k) (Some t) (Test at decided stepped s ∷ (Mark ∷ rest)) t
   at_loop b c at decided stepped s rest t m a k e1 e2 h r = (refl, (m, a, k, e1, e2, h, refl, (refl, refl, (b, c, r))))
 
   mutual
@@ -37,7 +38,8 @@ module _ (g : List Spot) (pol : PlainPolicy) (x : ℕ) where
     at_opened (For at None decided stepped s) b c b' c' rest next p k h r t =
         (Some k, Some h.0, subst (λ n. AtIn g pol x (Some k) (Some h.0) (Test at decided stepped s ∷ (Mark ∷ rest)) n) (sym h.3) (at_loop b c at decided stepped s rest h.0 h.1 h.2 k h.4 h.5 h.6 r))
 
-    pub at_opened_all : (ss : Stms) (b c b' c' : Option ℕ) (rest next : Frame) (p k : ℕ) → PlacedAll g pol x b c ss p k → AtIn g pol x b c rest k → AtIn g pol x b' c' next k → At g pol x (opened_all ss rest next) p
+    pub at_opened_all : (ss : Stms) (b c b' c' : Option ℕ) (rest next : Frame) (p k : ℕ) → PlacedAll g pol x b c ss p k → AtIn g pol x b c rest k → AtIn g pol x b' c' next k
+        → At g pol x (opened_all ss rest next) p
     at_opened_all end b c b' c' rest next p k e r t = (b', c', subst (λ n. AtIn g pol x b' c' next n) (sym e) t)
     at_opened_all (then s ss) b c b' c' rest next p k h r t =
         let i = at_opened_all ss b c b' c' rest next h.0 k h.2 r t in
@@ -88,7 +90,8 @@ module _ (g : List Spot) (pol : PlainPolicy) (x : ℕ) where
   at_ended (End f ∷ is) b c p h = (None, None, (refl, refl, refl, h.3, ap ended h.4))
 
   -- the body of a test that holds, and what follows it
-  pub at_body : (b c : Option ℕ) (at : ℕ) (decided stepped : Bool) (s : Stm) (is : Frame) (p m a k : ℕ) → TestAt g decided p m k → StepAt g stepped a p → Placed g pol x (Some k) (Some a) s m a → AtIn g pol x (Some k) None is k → At g pol x (Todo s ∷ after_if stepped at (Test at decided stepped s ∷ is)) m
+  pub at_body : (b c : Option ℕ) (at : ℕ) (decided stepped : Bool) (s : Stm) (is : Frame) (p m a k : ℕ) → TestAt g decided p m k → StepAt g stepped a p
+      → Placed g pol x (Some k) (Some a) s m a → AtIn g pol x (Some k) None is k → At g pol x (Todo s ∷ after_if stepped at (Test at decided stepped s ∷ is)) m
   at_body b c at decided true s is p m a k e1 e2 h r = (Some k, Some a, (a, h, (refl, (p, e2, (refl, (m, a, k, e1, e2, h, refl, r))))))
   at_body b c at decided false s is p m a k e1 e2 h r =
       let t : AtIn g pol x (Some k) (Some p) (Test at decided false s ∷ is) p = (refl, (m, a, k, e1, e2, h, refl, r)) in

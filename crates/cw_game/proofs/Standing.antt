@@ -3,7 +3,7 @@ use Rattle.std.proofs.Common.{◌≡◌, ℕ, ◌<◌, List, [], true, refl}
 use Rattle.cw_model.specs.Boards.{Problem, Board, start_board, Forced}
 use Rattle.cw_game.specs.Games.{AreStates, Game, Ret, Config, at_pair, Promise, IsLost}
 use Rattle.cw_game.specs.Places.{IsLaidOut, HasRoutines}
-use Rattle.cw_game.proofs.Stands.{Meaning}
+use Rattle.cw_game.specs.Standing.{Meaning}
 use Rattle.cw_game.proofs.Link.{Stands, state_within, board_moves, forced_board, start_stands}
 use Rattle.cw_game.proofs.Necessity.{GoesOn, Owed, is_forced, all_owed}
 
@@ -18,7 +18,8 @@ module _ (Means : Meaning) (g : Game) (p : Problem) (e : g.policy ≡ p.policy) 
   pub state_below : (c : Config) → IsStanding Means g c → c.state < g.states.count
   state_below c s = state_within Means g p.plan right laid has s.0 c s.1
 
-  pub lost_board : (b : Board) (pos q : ℕ) (promised : Promise) (rets : List Ret) → Stands Means g b (at_pair pos q rets) → Owed g (IsStanding Means g) promised rets → IsLost g pos q promised → (n : ℕ) × Forced p n b
+  pub lost_board : (b : Board) (pos q : ℕ) (promised : Promise) (rets : List Ret) → Stands Means g b (at_pair pos q rets) → Owed g (IsStanding Means g) promised rets
+      → IsLost g pos q promised → (n : ℕ) × Forced p n b
   lost_board b pos q promised rets h owed lost =
       let k = is_forced g (IsStanding Means g) standing_on pos q promised rets (b, h) owed lost in
       (k.0, forced_board Means g p e right laid has k.0 b (at_pair pos q rets) h k.1)
@@ -26,4 +27,5 @@ module _ (Means : Meaning) (g : Game) (p : Problem) (e : g.policy ≡ p.policy) 
   -- where the start is lost under all states the start is forced
   pub lost_start : IsLost g (g.entry g.main) g.states.start (λ x. true) → (n : ℕ) × Forced p n (start_board p)
   lost_start lost =
-      lost_board (start_board p) (g.entry g.main) g.states.start (λ x. true) [] (start_stands Means g p e right laid has) (all_owed g (IsStanding Means g) standing_on state_below (λ x. true) (λ x lt. refl) []) lost
+      lost_board (start_board p) (g.entry g.main) g.states.start (λ x. true) [] (start_stands Means g p e right laid has)
+      (all_owed g (IsStanding Means g) standing_on state_below (λ x. true) (λ x lt. refl) []) lost

@@ -1,9 +1,9 @@
 -- Programs whose functions aren't called, under a policy that tests ambient authority alone: their positions, the policy's states, the game.
-use Rattle.std.specs.Prelude.{◌≡◌, ℕ, ◌+◌, ◌-◌, ◌%◌, List, [], ◌∷◌, Bool, true, false, cond, not, ◌&&◌, Option, Some, None, nat_eq, map}
+use Rattle.std.specs.Prelude.{◌≡◌, ℕ, ◌+◌, ◌-◌, ◌%◌, List, [], ◌∷◌, Bool, true, false, cond, not, ◌&&◌, Some, None, nat_eq, map}
 use Rattle.std.specs.List.{list_any}
 use Rattle.cw_rights.specs.declared.capabilities.Caps.{Caps}
 use Rattle.cw_rights.specs.declared.capabilities.Primitive.{Primitive}
-use Rattle.cw_rights.specs.declared.capabilities.Primitive.TheVariants.{Limit, Enter, Split}
+use Rattle.cw_rights.specs.declared.capabilities.Primitive.TheVariants.{Limit, Enter}
 use Rattle.cw_rights.specs.declared.words.Test.TheVariants.{Amb}
 use Rattle.cw_rights.specs.Trees.{Tree, nothing, one, seq, star}
 use Rattle.cw_rights.specs.Words.{Word, same}
@@ -30,10 +30,11 @@ spot_of (ExitAt f) = Exit f
 abbrev pub bad_words : AmbientTest → Tree
 bad_words t = seq (star (one (record { label = None; tests = [] }))) (seq (one (record { label = Some t.label; tests = (t.wanted, Amb) ∷ [] })) nothing)
 
--- The policy has no limits, and its rules are those of these tests.
+-- The policy has no limits, its rules are those of these tests, and the weaver doesn't stop after a refusal.
 pub record IsAmbient (policy : PlainPolicy) (tests : List AmbientTest) : Type 0 where
   pub limits : policy.limits ≡ []
   pub rules : map (λ r. r.bad) policy.rules ≡ map bad_words tests
+  pub stop : policy.stop ≡ false
 
 -- some test is of this label and this ambient authority
 abbrev pub is_bad : List AmbientTest → ℕ → Bool → Bool

@@ -50,7 +50,8 @@ pub record AreStates (policy : PlainPolicy) (spots : List Spot) (states : States
   pub granted : (q : ℕ) (w : Word) (c : Caps) (a : Primitive) → Contains (primitives policy true) a → Means q w c → may_grant c a ≡ true → Means (states.granted q a) w (applied c a)
   pub opened : (q : ℕ) (w : Word) (c : Caps) (d : ℕ) → IsOpenedIn spots d → d < length policy.descriptors → Means q w c → Means (states.opened q d) w (with_opened c d (slice_get policy.descriptors d))
   pub closed : (q : ℕ) (w : Word) (c : Caps) (d : ℕ) → IsClosedIn spots d → d < length policy.descriptors → Means q w c → Means (states.closed q d) w (closed c d)
-  pub bad : (q : ℕ) (w : Word) (c : Caps) (l : ℕ) → IsLabelIn spots l → Means q w c → (states.bad q l ≡ true → IsBad policy (w ++ letter_of l c ∷ [])) × (IsBad policy (w ++ letter_of l c ∷ []) → states.bad q l ≡ true)
+  pub bad : (q : ℕ) (w : Word) (c : Caps) (l : ℕ) → IsLabelIn spots l → Means q w c
+      → (states.bad q l ≡ true → IsBad policy (w ++ letter_of l c ∷ [])) × (IsBad policy (w ++ letter_of l c ∷ []) → states.bad q l ≡ true)
   pub lettered : (q : ℕ) (w : Word) (c : Caps) (l : ℕ) → IsLabelIn spots l → Means q w c → (IsBad policy (w ++ letter_of l c ∷ []) → ⊥) → Means (states.lettered q l) (w ++ letter_of l c ∷ []) c
   pub returned : (x q : ℕ) (w v : Word) (c k : Caps) → Means x w c → Means q v k → Means (states.with_rights x q) w k
 
@@ -66,6 +67,14 @@ pub record Game : Type 0 where
 -- whether a primitive that is tried may be refused
 abbrev pub may_refuse_in : Game → ℕ → Primitive → Bool
 may_refuse_in g q a = not (g.states.may_grant q a) || is_refusable g.policy a
+
+-- whether the weaver can stop when it is refused: what `can_stop` is of boards
+abbrev pub can_stop_in : Game → ℕ → Primitive → Bool
+can_stop_in g q a = g.policy.stop && (is_refusable g.policy a && g.states.may_grant q a)
+
+-- whether a refusal is a move of the game: the environment may refuse, and no stop answers it
+abbrev pub refuses_in : Game → ℕ → Primitive → Bool
+refuses_in g q a = may_refuse_in g q a && not (can_stop_in g q a)
 
 -- the state after a return at x: of a plain call, of a split call that was made at q
 abbrev pub returned : States → Option ℕ → ℕ → ℕ
@@ -90,12 +99,12 @@ abbrev pub past_asked : Game → ℕ → ℕ → Primitive → List Ret → Conf
 past_asked g p q Split rets = at_pair (p + 2) q rets
 past_asked g p q a rets = at_pair (p + 1) (g.states.granted q a) rets
 
--- where a move leads from a pair that isn't bad
+-- Where a move leads from a pair that isn't bad. A refusal that a stop can answer is no move of the game.
 abbrev pub leads_in : Game → ℕ → ℕ → List Ret → Option Spot → Move → Option Config
 leads_in g p q rets (Some (Visit j i a)) Skip = Some (at_pair (p + 2) q rets)
 leads_in g p q rets (Some (Visit j i a)) Try = Some (at_pair (p + 1) q rets)
 leads_in g p q rets (Some (Asked j i a)) Grant = cond (g.states.may_grant q a) (Some (past_asked g p q a rets)) None
-leads_in g p q rets (Some (Asked j i a)) Refuse = cond (may_refuse_in g q a) (Some (at_pair (p + 1) q rets)) None
+leads_in g p q rets (Some (Asked j i a)) Refuse = cond (refuses_in g q a) (Some (at_pair (p + 1) q rets)) None
 leads_in g p q rets (Some (Step n)) On = Some (at_pair n q rets)
 leads_in g p q rets (Some (Branch m n)) Left = Some (at_pair m q rets)
 leads_in g p q rets (Some (Branch m n)) Right = Some (at_pair n q rets)
@@ -107,6 +116,14 @@ leads_in g p q rets (Some (Call j f k)) On = Some (at_pair (g.entry f) q (record
 leads_in g p q rets (Some (SplitCall j f k)) On = Some (at_pair (g.entry f) q (record { back = k; kept = Some q } ∷ rets))
 leads_in g p q (r ∷ rets) (Some (Exit f)) On = Some (at_pair r.back (returned g.states r.kept q) rets)
 leads_in _ _ _ _ _ _ = None
+
+-- The pair at which going on arrives after a refusal that a stop can answer: the next stage of the visit or its free position, with the same state.
+abbrev pub resumed_in : Game → ℕ → ℕ → Option Spot → Option (ℕ × ℕ)
+resumed_in g p q (Some (Asked j i a)) = cond (can_stop_in g q a) (Some (p + 1, q)) None
+resumed_in g p q _ = None
+
+abbrev pub resumed : Game → ℕ → ℕ → Option (ℕ × ℕ)
+resumed g p q = resumed_in g p q (slice_get g.spots p)
 
 -- a label whose letter makes the word bad
 abbrev pub bad_in : Game → ℕ → Option Spot → Bool
@@ -124,8 +141,8 @@ Promise = ℕ → Bool
 -- The body of holding, over what holds one move later. At a call the callee has to hold under the promise of those exit states from which the return holds.
 abbrev pub holds_in : Game → (ℕ → ℕ → Promise → Bool) → ℕ → ℕ → Promise → Option Spot → Bool
 holds_in g h p q e (Some (Visit j i a)) = h (p + 2) q e || h (p + 1) q e
-holds_in g h p q e (Some (Asked j i Split)) = (not (g.states.may_grant q Split) || h (p + 2) q e) && (not (may_refuse_in g q Split) || h (p + 1) q e)
-holds_in g h p q e (Some (Asked j i a)) = (not (g.states.may_grant q a) || h (p + 1) (g.states.granted q a) e) && (not (may_refuse_in g q a) || h (p + 1) q e)
+holds_in g h p q e (Some (Asked j i Split)) = (not (g.states.may_grant q Split) || h (p + 2) q e) && (not (refuses_in g q Split) || h (p + 1) q e)
+holds_in g h p q e (Some (Asked j i a)) = (not (g.states.may_grant q a) || h (p + 1) (g.states.granted q a) e) && (not (refuses_in g q a) || h (p + 1) q e)
 holds_in g h p q e (Some (Step n)) = h n q e
 holds_in g h p q e (Some (Branch m n)) = h m q e && h n q e
 holds_in g h p q e (Some (Label j l n)) = not (g.states.bad q l) && h n (g.states.lettered q l) e

@@ -1,7 +1,11 @@
 pub mod Games
 pub mod Reached
 pub mod Places
+pub mod Pairs
+pub mod Closed
 pub mod Conditions
 pub mod Ambient
 pub mod Laid
 pub mod Necessity
+pub mod Standing
+pub mod Laws

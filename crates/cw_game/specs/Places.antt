@@ -65,7 +65,8 @@ abbrev pub AtIn : List Spot → PlainPolicy → ℕ → Option ℕ → Option �
 AtIn g pol x b c [] p = ⊥
 AtIn g pol x b c (Entry f j ∷ is) p = (z : ℕ) × Visits g j 0 (primitives pol false) p z × ((m : ℕ) × (slice_get g z ≡ Some (Step m)) × AtIn g pol x b c is m)
 AtIn g pol x b c (Todo s ∷ is) p = (k : ℕ) × Placed g pol x b c s p k × AtIn g pol x b c is k
-AtIn g pol x b c (Test at decided stepped s ∷ is) p = (c ≡ Some p) × ((m : ℕ) × (a : ℕ) × (k : ℕ) × TestAt g decided p m k × StepAt g stepped a p × Placed g pol x (Some k) (Some a) s m a × (b ≡ Some k) × AtIn g pol x b None is k)
+AtIn g pol x b c (Test at decided stepped s ∷ is) p =
+    (c ≡ Some p) × ((m : ℕ) × (a : ℕ) × (k : ℕ) × TestAt g decided p m k × StepAt g stepped a p × Placed g pol x (Some k) (Some a) s m a × (b ≡ Some k) × AtIn g pol x b None is k)
 AtIn g pol x b c (After at ∷ is) p = (c ≡ Some p) × ((t : ℕ) × (slice_get g p ≡ Some (Step t)) × AtIn g pol x b (Some t) is t)
 AtIn g pol x b c (Mark ∷ is) p = (b ≡ Some p) × (c ≡ None) × ((b' : Option ℕ) × (c' : Option ℕ) × AtIn g pol x b' c' is p)
 AtIn g pol x b c (End f ∷ is) p = (b ≡ None) × (c ≡ None) × (p ≡ x) × (slice_get g x ≡ Some (Exit f)) × (is ≡ [])

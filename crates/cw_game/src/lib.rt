@@ -2,6 +2,7 @@
 #![tactic(auto)]
 
 pub mod ambient;
+pub mod laws;
 mod spots;
 
 pub use spots::Spot;

@@ -36,7 +36,8 @@ token_placed source t p q is = record {
   small = λ k. small_at (slice source t.from t.to) (t.to - t.from) (slice_length source t.from t.to p q) (is ∙ ap (λ (z : TokenKind). piece.Token z (t.to - t.from)) k);
 }
 
-all_placed : (source : List ℕ) (from : ℕ) (ts : List Token) → AreInOrder from (length source) ts → AreOfTheirKind source ts → (i : ℕ) (d : Token) → i < length ts → IsPlaced source (slice_index_or ts i d)
+all_placed : (source : List ℕ) (from : ℕ) (ts : List Token) → AreInOrder from (length source) ts → AreOfTheirKind source ts → (i : ℕ) (d : Token) → i < length ts
+    → IsPlaced source (slice_index_or ts i d)
 all_placed source from [] h k i d lt = absurd (omega arith)
 all_placed source from (t ∷ ts) h k zero d lt = let a = h.1 in token_placed source t (omega arith) (order_le t.to (length source) ts h.2) k.0
 all_placed source from (t ∷ ts) h k (suc i) d lt = all_placed source t.to ts h.2 k.1 i d (omega arith)

@@ -13,7 +13,22 @@ is_plain (w.Character value) = false
 is_plain _ = true
 
 word_at : ℕ → Word
-word_at n = if n == 0 then w.Extern else if n == 1 then w.Static else if n == 2 then w.Const else if n == 3 then w.Void else if n == 4 then w.Unsigned else if n == 5 then w.Char else if n == 6 then w.Int else if n == 7 then w.Long else if n == 8 then w.If else if n == 9 then w.Else else if n == 10 then w.While else if n == 11 then w.Do else if n == 12 then w.For else if n == 13 then w.Break else if n == 14 then w.Continue else if n == 15 then w.Return else if n == 16 then w.SizeOf else if n == 17 then w.OtherKeyword else if n == 18 then w.Name else if n == 19 then w.Text else if n == 20 then w.Open else if n == 21 then w.Close else if n == 22 then w.OpenBracket else if n == 23 then w.CloseBracket else if n == 24 then w.OpenBrace else if n == 25 then w.CloseBrace else if n == 26 then w.Semicolon else if n == 27 then w.Comma else if n == 28 then w.Colon else if n == 29 then w.Assign else if n == 30 then w.AddAssign else if n == 31 then w.SubtractAssign else if n == 32 then w.MultiplyAssign else if n == 33 then w.DivideAssign else if n == 34 then w.RemainderAssign else if n == 35 then w.AndAssign else if n == 36 then w.XorAssign else if n == 37 then w.OrAssign else if n == 38 then w.LeftShiftAssign else if n == 39 then w.RightShiftAssign else if n == 40 then w.BarBar else if n == 41 then w.AmpersandAmpersand else if n == 42 then w.Bar else if n == 43 then w.Caret else if n == 44 then w.Ampersand else if n == 45 then w.Equal else if n == 46 then w.NotEqual else if n == 47 then w.Less else if n == 48 then w.LessEqual else if n == 49 then w.Greater else if n == 50 then w.GreaterEqual else if n == 51 then w.LeftShift else if n == 52 then w.RightShift else if n == 53 then w.Plus else if n == 54 then w.Minus else if n == 55 then w.Star else if n == 56 then w.Slash else if n == 57 then w.Percent else if n == 58 then w.Exclamation else if n == 59 then w.Tilde else if n == 60 then w.PlusPlus else w.MinusMinus
+word_at n =
+    if n == 0 then w.Extern else if n == 1 then w.Static else if n == 2 then w.Const else if n == 3 then w.Void else if n == 4 then w.Unsigned
+    else if n == 5 then w.Char else if n == 6 then w.Int else if n == 7 then w.Long else if n == 8 then w.If else if n == 9 then w.Else
+    else if n == 10 then w.While else if n == 11 then w.Do else if n == 12 then w.For else if n == 13 then w.Break else if n == 14 then w.Continue
+    else if n == 15 then w.Return else if n == 16 then w.SizeOf else if n == 17 then w.OtherKeyword else if n == 18 then w.Name
+    else if n == 19 then w.Text else if n == 20 then w.Open else if n == 21 then w.Close else if n == 22 then w.OpenBracket
+    else if n == 23 then w.CloseBracket else if n == 24 then w.OpenBrace else if n == 25 then w.CloseBrace else if n == 26 then w.Semicolon
+    else if n == 27 then w.Comma else if n == 28 then w.Colon else if n == 29 then w.Assign else if n == 30 then w.AddAssign
+    else if n == 31 then w.SubtractAssign else if n == 32 then w.MultiplyAssign else if n == 33 then w.DivideAssign
+    else if n == 34 then w.RemainderAssign else if n == 35 then w.AndAssign else if n == 36 then w.XorAssign else if n == 37 then w.OrAssign
+    else if n == 38 then w.LeftShiftAssign else if n == 39 then w.RightShiftAssign else if n == 40 then w.BarBar
+    else if n == 41 then w.AmpersandAmpersand else if n == 42 then w.Bar else if n == 43 then w.Caret else if n == 44 then w.Ampersand
+    else if n == 45 then w.Equal else if n == 46 then w.NotEqual else if n == 47 then w.Less else if n == 48 then w.LessEqual
+    else if n == 49 then w.Greater else if n == 50 then w.GreaterEqual else if n == 51 then w.LeftShift else if n == 52 then w.RightShift
+    else if n == 53 then w.Plus else if n == 54 then w.Minus else if n == 55 then w.Star else if n == 56 then w.Slash else if n == 57 then w.Percent
+    else if n == 58 then w.Exclamation else if n == 59 then w.Tilde else if n == 60 then w.PlusPlus else w.MinusMinus
 
 word_at-code : (a : Word) → is_plain a ≡ true → word_at (code a) ≡ a
 unfolding word_at

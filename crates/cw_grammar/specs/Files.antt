@@ -16,9 +16,9 @@ AreNamed (p ∷ ps) = (p.name ≢ None) × AreNamed ps
 -- `specs stars name "(" params ")" "{" { decl | stmt } "}"`, each parameter with a name
 abbrev pub IsFunction : ℕ → List Lexeme → Definition → Type 0
 IsFunction n ts f =
-    (a : List Lexeme) × (o : Lexeme) × (b : List Lexeme) × (c : Lexeme) × (body : List Statement)
-    × (ts ≡ a ++ (o ∷ b ++ c ∷ [])) × IsHeader a f.name f.result f.params × AreNamed f.params
-    × Is w.OpenBrace o × (f.brace ≡ o.to) × AreAll (IsStatement n n InBlock) b body × (f.body ≡ statements body) × Is w.CloseBrace c
+    (header : List Lexeme) × (opens : Lexeme) × (inner : List Lexeme) × (closes : Lexeme) × (body : List Statement)
+    × (ts ≡ header ++ (opens ∷ inner ++ closes ∷ [])) × IsHeader header f.name f.result f.params × AreNamed f.params
+    × Is w.OpenBrace opens × (f.brace ≡ opens.to) × AreAll (IsStatement n n InBlock) inner body × (f.body ≡ statements body) × Is w.CloseBrace closes
 
 -- what a file is made of
 pub data Part : Type 0 where

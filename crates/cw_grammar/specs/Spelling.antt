@@ -25,9 +25,9 @@ keywords =
     ∷ (codes "break", w.Break) ∷ (codes "continue", w.Continue) ∷ (codes "return", w.Return) ∷ (codes "sizeof", w.SizeOf)
     ∷ []
 
--- the marks of two and three bytes
-abbrev pub long_marks : Spellings
-long_marks =
+-- the punctuators of two and three bytes
+abbrev pub long_punctuators : Spellings
+long_punctuators =
     (codes "<<=", w.LeftShiftAssign) ∷ (codes ">>=", w.RightShiftAssign)
     ∷ (codes "<<", w.LeftShift) ∷ (codes ">>", w.RightShift) ∷ (codes "<=", w.LessEqual) ∷ (codes ">=", w.GreaterEqual)
     ∷ (codes "==", w.Equal) ∷ (codes "!=", w.NotEqual) ∷ (codes "&&", w.AmpersandAmpersand) ∷ (codes "||", w.BarBar)
@@ -36,9 +36,9 @@ long_marks =
     ∷ (codes "&=", w.AndAssign) ∷ (codes "|=", w.OrAssign) ∷ (codes "^=", w.XorAssign)
     ∷ []
 
--- the marks of one byte
-abbrev pub short_marks : Spellings
-short_marks =
+-- the punctuators of one byte
+abbrev pub short_punctuators : Spellings
+short_punctuators =
     (codes "(", w.Open) ∷ (codes ")", w.Close) ∷ (codes "[", w.OpenBracket) ∷ (codes "]", w.CloseBracket)
     ∷ (codes "{", w.OpenBrace) ∷ (codes "}", w.CloseBrace) ∷ (codes ";", w.Semicolon) ∷ (codes ",", w.Comma) ∷ (codes ":", w.Colon)
     ∷ (codes "=", w.Assign) ∷ (codes "+", w.Plus) ∷ (codes "-", w.Minus) ∷ (codes "*", w.Star) ∷ (codes "/", w.Slash)
@@ -51,8 +51,8 @@ abbrev pub spelled : Spellings → List ℕ → Option Word
 spelled [] text = None
 spelled (s ∷ ss) text = if bytes_eq text s.0 then Some s.1 else spelled ss text
 
-abbrev pub mark : List ℕ → Option Word
-mark text = elim (spelled long_marks text) [ Some word ↦ Some word | None ↦ spelled short_marks text ]
+abbrev pub punctuator : List ℕ → Option Word
+punctuator text = elim (spelled long_punctuators text) [ Some word ↦ Some word | None ↦ spelled short_punctuators text ]
 
 -- What no rule uses is `OtherKeyword`.
 unfoldable pub word_of : TokenKind → List ℕ → Word
@@ -61,7 +61,7 @@ word_of kind.Keyword text = unwrap_or (spelled keywords text) w.OtherKeyword
 word_of kind.Number text = w.Number (number_of text)
 word_of kind.Character text = w.Character (character_of text)
 word_of kind.Text text = w.Text
-word_of kind.Punctuation text = unwrap_or (mark text) w.OtherKeyword
+word_of kind.Punctuation text = unwrap_or (punctuator text) w.OtherKeyword
 
 -- a token of a source, by its word
 abbrev pub lexeme_of : List ℕ → Token → Lexeme

@@ -38,15 +38,31 @@ IsForm E P place ts (Block kids) = (inner : List Statement) × (kids ≡ stateme
 IsForm E P place ts (Declares d) = (place ≡ InBlock) × IsDeclaration E ts d
 IsForm E P place ts (Evaluates e) = IsEnded w.Semicolon E ts e
 IsForm E P place ts Empties = words ts ≡ w.Semicolon ∷ []
-IsForm E P place ts (Labels name mark body) = (n : Lexeme) × (k : Lexeme) × (b : List Lexeme) × (ts ≡ n ∷ k ∷ b) × Is w.Name n × Is w.Colon k × (name ≡ name_of n) × (mark ≡ k.to) × P (last place) b body
-IsForm E P place ts (Chooses test body nothing) = (i : Lexeme) × (a : List Lexeme) × (b : List Lexeme) × (ts ≡ i ∷ a ++ b) × (place ≢ BeforeElse) × Is w.If i × IsTest E a test × P Elsewhere b body
-IsForm E P place ts (Chooses test body (just other)) = (i : Lexeme) × (a : List Lexeme) × (b : List Lexeme) × (e : Lexeme) × (c : List Lexeme) × (ts ≡ i ∷ a ++ (b ++ e ∷ c)) × Is w.If i × IsTest E a test × P BeforeElse b body × Is w.Else e × P (last place) c other
-IsForm E P place ts (Whiles test body) = (h : Lexeme) × (a : List Lexeme) × (b : List Lexeme) × (ts ≡ h ∷ a ++ b) × Is w.While h × IsTest E a test × P (last place) b body
-IsForm E P place ts (Does body test) = (d : Lexeme) × (a : List Lexeme) × (h : Lexeme) × (b : List Lexeme) × (s : Lexeme) × (ts ≡ d ∷ a ++ (h ∷ b ++ s ∷ [])) × Is w.Do d × P Elsewhere a body × Is w.While h × IsTest E b test × Is w.Semicolon s
-IsForm E P place ts (Fors init test step body) = (f : Lexeme) × (o : Lexeme) × (a : List Lexeme) × (b : List Lexeme) × (c : List Lexeme) × (d : List Lexeme) × (ts ≡ f ∷ o ∷ a ++ (b ++ (c ++ d))) × Is w.For f × Is w.Open o × IsInit E a init × IsEnded w.Semicolon (IsOptional E) b test × IsEnded w.Close (IsOptional E) c step × P (last place) d body
+IsForm E P place ts (Labels name mark body) =
+    (label : Lexeme) × (colon : Lexeme) × (rest : List Lexeme) × (ts ≡ label ∷ colon ∷ rest)
+    × Is w.Name label × Is w.Colon colon × (name ≡ name_of label) × (mark ≡ colon.to) × P (last place) rest body
+IsForm E P place ts (Chooses test body nothing) =
+    (if_word : Lexeme) × (condition : List Lexeme) × (arm : List Lexeme) × (ts ≡ if_word ∷ condition ++ arm)
+    × (place ≢ BeforeElse) × Is w.If if_word × IsTest E condition test × P Elsewhere arm body
+IsForm E P place ts (Chooses test body (just other)) =
+    (if_word : Lexeme) × (condition : List Lexeme) × (arm : List Lexeme) × (else_word : Lexeme) × (second_arm : List Lexeme)
+    × (ts ≡ if_word ∷ condition ++ (arm ++ else_word ∷ second_arm))
+    × Is w.If if_word × IsTest E condition test × P BeforeElse arm body × Is w.Else else_word × P (last place) second_arm other
+IsForm E P place ts (Whiles test body) =
+    (while_word : Lexeme) × (condition : List Lexeme) × (inner : List Lexeme) × (ts ≡ while_word ∷ condition ++ inner)
+    × Is w.While while_word × IsTest E condition test × P (last place) inner body
+IsForm E P place ts (Does body test) =
+    (do_word : Lexeme) × (inner : List Lexeme) × (while_word : Lexeme) × (condition : List Lexeme) × (semicolon : Lexeme)
+    × (ts ≡ do_word ∷ inner ++ (while_word ∷ condition ++ semicolon ∷ []))
+    × Is w.Do do_word × P Elsewhere inner body × Is w.While while_word × IsTest E condition test × Is w.Semicolon semicolon
+IsForm E P place ts (Fors init test step body) =
+    (for_word : Lexeme) × (opens : Lexeme) × (start : List Lexeme) × (condition : List Lexeme) × (turn : List Lexeme) × (inner : List Lexeme)
+    × (ts ≡ for_word ∷ opens ∷ start ++ (condition ++ (turn ++ inner))) × Is w.For for_word × Is w.Open opens × IsInit E start init
+    × IsEnded w.Semicolon (IsOptional E) condition test × IsEnded w.Close (IsOptional E) turn step × P (last place) inner body
 IsForm E P place ts Breaks = words ts ≡ w.Break ∷ w.Semicolon ∷ []
 IsForm E P place ts Continues = words ts ≡ w.Continue ∷ w.Semicolon ∷ []
-IsForm E P place ts (Returns value) = (r : Lexeme) × (b : List Lexeme) × (ts ≡ r ∷ b) × Is w.Return r × IsEnded w.Semicolon (IsOptional E) b value
+IsForm E P place ts (Returns value) =
+    (return_word : Lexeme) × (rest : List Lexeme) × (ts ≡ return_word ∷ rest) × Is w.Return return_word × IsEnded w.Semicolon (IsOptional E) rest value
 
 -- The tokens derive the statement, with at most these nestings of expressions and of statements.
 abbrev pub IsStatement : (limit n : ℕ) → Place → List Lexeme → Statement → Type 0

@@ -1,4 +1,4 @@
--- Whether two words are of one kind, by a number for each kind.
+-- Working definitions: whether two words are of one kind, by a number for each kind.
 use Rattle.std.specs.Prelude.{ℕ, Bool, nat_eq}
 use Rattle.cw_grammar.specs.declared.words.Word.{Word}
 use Rattle.cw_grammar.specs.declared.words.Word.TheVariants as w

@@ -3,6 +3,4 @@
 
 pub mod rules;
 pub mod spelling;
-#[cfg(test)]
-mod tests;
 pub mod words;

@@ -5,7 +5,7 @@ ghost use Rattle.cw_lex.specs.declared.tokens.TokenKind.TheVariants.{Number};
 ghost use Rattle.cw_syntax.specs.Names.{slice};
 ghost use Rattle.cw_lex.specs.Numbers.{number_of};
 ghost use Rattle.cw_lex.specs.Tokens.{AreTokens};
-ghost use Rattle.cw_grammar.specs.Spelling.{keywords, long_marks, short_marks, spelled, mark, word_of, lexeme_of, lexemes_of};
+ghost use Rattle.cw_grammar.specs.Spelling.{keywords, long_punctuators, short_punctuators, spelled, punctuator, word_of, lexeme_of, lexemes_of};
 
 use crate::words::{Lexeme, Word};
 use cw_core::NoMemory;
@@ -38,9 +38,9 @@ fn keyword(text: &[u8]) -> Option<Word>
     }
 }
 
-/// The mark of two or three bytes that this text is.
-fn long_mark(text: &[u8]) -> Option<Word>
-    ensures { result ≡ spelled long_marks text.now }
+/// The punctuator of two or three bytes that this text is.
+fn long_punctuator(text: &[u8]) -> Option<Word>
+    ensures { result ≡ spelled long_punctuators text.now }
 {
     let [first, rest @ ..] = text else {
         return None;
@@ -106,9 +106,9 @@ fn long_mark(text: &[u8]) -> Option<Word>
     }
 }
 
-/// The mark of one byte that this is.
-fn short_mark(byte: u8) -> Option<Word>
-    ensures { result ≡ spelled short_marks (byte ∷ []) }
+/// The punctuator of one byte that this is.
+fn short_punctuator(byte: u8) -> Option<Word>
+    ensures { result ≡ spelled short_punctuators (byte ∷ []) }
 {
     match byte {
         b'(' => Some(Word::Open),
@@ -137,12 +137,12 @@ fn short_mark(byte: u8) -> Option<Word>
     }
 }
 
-fn mark_of(text: &[u8]) -> Option<Word>
-    ensures { result ≡ mark text.now }
+fn punctuator_of(text: &[u8]) -> Option<Word>
+    ensures { result ≡ punctuator text.now }
 {
     match text {
-        [byte] => short_mark(*byte),
-        _ => long_mark(text),
+        [byte] => short_punctuator(*byte),
+        _ => long_punctuator(text),
     }
 }
 
@@ -158,7 +158,7 @@ fn word_at(kind: TokenKind, text: &[u8]) -> Word
         TokenKind::Number => Word::Number(number_value(text)),
         TokenKind::Character => Word::Character(character_value(text)),
         TokenKind::Text => Word::Text,
-        TokenKind::Punctuation => mark_of(text).unwrap_or(Word::OtherKeyword),
+        TokenKind::Punctuation => punctuator_of(text).unwrap_or(Word::OtherKeyword),
     }
 }
 

@@ -27,6 +27,3 @@ pub use sink::{Sink, put_both};
 pub use stream_sink::StreamSink;
 pub use sure_shelf::SureShelf;
 pub use sure_sink::SureSink;
-
-#[cfg(test)]
-mod tests;

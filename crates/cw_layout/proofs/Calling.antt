@@ -54,7 +54,8 @@ mutual
       let a = turn_of n init stepped in
       let m = first (count s) (a + 1) a in
       let body = nodes_in f s (a + 1) a x (Some k) (Some a) in
-      two (init_nodes f init t) (turns f decided stepped m k t body) ∙ ap (λ y. y || has_call (turns f decided stepped m k t body)) (init_calls f init t) ∙ turns_calls f decided stepped m k t body ∙ called s f (a + 1) a x (Some k) (Some a)
+      two (init_nodes f init t) (turns f decided stepped m k t body) ∙ ap (λ y. y || has_call (turns f decided stepped m k t body)) (init_calls f init t)
+      ∙ turns_calls f decided stepped m k t body ∙ called s f (a + 1) a x (Some k) (Some a)
 
   called_all : (ss : Stms) (f n k x : ℕ) (b c : Option ℕ) → has_call (nodes_in_all f ss n k x b c) ≡ calls_all ss
   called_all end f n k x b c = refl
@@ -109,7 +110,8 @@ mutual
 unmarked_from : (rs : List Routine) → calls_from rs ≡ false → All IsNoCall (marks_from rs)
 unmarked_from [] h = All-nil IsNoCall
 unmarked_from (r ∷ rs) h =
-    let rest = All-append IsNoCall (marks_in_all r.body) (marks_from rs) (unmarked_all r.body (no_left (calls_all r.body) (calls_from rs) h)) (unmarked_from rs (no_right (calls_all r.body) (calls_from rs) h)) in
+    let rest = All-append IsNoCall (marks_in_all r.body) (marks_from rs) (unmarked_all r.body (no_left (calls_all r.body) (calls_from rs) h))
+    (unmarked_from rs (no_right (calls_all r.body) (calls_from rs) h)) in
     All-cons IsNoCall (record { place = r.mark; seam = r.seam; kind = EntryMark }) (marks_in_all r.body ++ marks_from rs) (λ result e. cc) rest
 
 pub uncalled_marks : (plan : Plan) → has_call (nodes plan) ≡ false → All IsNoCall (marks_of plan)

@@ -73,7 +73,8 @@ fine_point g b (point.Call m) f j l r h el er = (el, tt)
 fine_point g b point.Exit f j l r h el er = (tt, tt)
 
 -- all are fine, if those of each point are
-fine_all : (g : List Position) (at : ℕ → ℕ) (p : ℕ) (ns : List Node) → ((i : ℕ) (n : Node) → slice_get ns i ≡ Some n → FineFrom g (p + base ns i) (positions_at at n)) → FineFrom g p (flat_map (positions_at at) ns)
+fine_all : (g : List Position) (at : ℕ → ℕ) (p : ℕ) (ns : List Node) → ((i : ℕ) (n : Node) → slice_get ns i ≡ Some n → FineFrom g (p + base ns i) (positions_at at n))
+    → FineFrom g p (flat_map (positions_at at) ns)
 fine_all g at p [] h = tt
 fine_all g at p (n ∷ ns) h =
     let a = positions_at at n in
@@ -102,7 +103,8 @@ module _ (ns : List Node) (lead : EachLeads (length ns) ns) (some : 0 < length n
       let each : (i : ℕ) (n : Node) → slice_get ns i ≡ Some n → FineFrom (positions ns) (0 + base ns i) (positions_at (base ns) n) = λ i n s.
       let l = leads_at (length ns) ns i n lead s in
       let z : base ns i ≡ 0 + base ns i = omega arith in
-      subst (λ q. FineFrom (positions ns) q (positions_at (base ns) n)) z (fine_point (positions ns) (base ns i) n.point _ _ _ _ (stands (base ns) ns i n s) (entered_to (first_of n.next) l.0) (entered_to (second_of n.next) l.1)) in
+      subst (λ q. FineFrom (positions ns) q (positions_at (base ns) n)) z (fine_point (positions ns) (base ns i) n.point _ _ _ _ (stands (base ns) ns i n s) (entered_to (first_of n.next) l.0)
+      (entered_to (second_of n.next) l.1)) in
       subst (λ q. IsFine (positions ns) q o) (zero-add p) (fine_at (positions ns) 0 (positions ns) p o (fine_all (positions ns) (base ns) 0 ns each) e)
 
   pub laid_graph : (m : ℕ) → RiseIn 0 m (asks (positions ns)) → (start : ℕ) → IsEntered (positions ns) start → Laid (positions ns) start

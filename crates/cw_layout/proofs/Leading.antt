@@ -8,7 +8,7 @@ use Rattle.cw_points.specs.declared.graph.Node.{Node}
 use Rattle.cw_points.specs.Points.{count, count_all, one_if, one_if_some, count_from, point_count}
 use Rattle.cw_points.specs.Graphs.{node, step, branch, first, init_nodes, test_node, step_nodes, turns, test_of, turn_of, nodes_in, nodes_in_all, exit_of, nodes_of, nodes_from, nodes}
 use Rattle.cw_points.specs.Walks.{first_of, second_of}
-use Rattle.cw_points.proofs.Held.{nodes_length_all}
+use Rattle.cw_points.proofs.Lengths.{nodes_length_all}
 
 -- no point, or one of so many
 abbrev pub IsBelow : ℕ → Option ℕ → Type 0
@@ -60,7 +60,8 @@ module _ (size f : ℕ) where
     leads (Label at mark j l s) n k x b c h hk hx hb hc = ((first_below size (count s) (n + 1) k (omega arith) hk, tt), leads s (n + 1) k x b c (omega arith) hk hx hb hc)
     leads (If at s t) n k x b c h hk hx hb hc = (
       (first_below size (count s) (n + 1) k (omega arith) hk, first_below size (count t) (n + 1 + count s) k (omega arith) hk),
-      each_two size (nodes_in f s (n + 1) k x b c) (nodes_in f t (n + 1 + count s) k x b c) (leads s (n + 1) k x b c (omega arith) hk hx hb hc) (leads t (n + 1 + count s) k x b c (omega arith) hk hx hb hc),
+      each_two size (nodes_in f s (n + 1) k x b c) (nodes_in f t (n + 1 + count s) k x b c) (leads s (n + 1) k x b c (omega arith) hk hx hb hc)
+          (leads t (n + 1 + count s) k x b c (omega arith) hk hx hb hc),
     )
     leads (While at s) n k x b c h hk hx hb hc =
         let hn : n < size = omega arith in
@@ -68,7 +69,8 @@ module _ (size f : ℕ) where
     leads (Do at s) n k x b c h hk hx hb hc =
         let ht : n + count s < size = omega arith in
         let hn : n < size = omega arith in
-        each_two size (nodes_in f s n (n + count s) x (Some k) (Some (n + count s))) (branch f n k ∷ []) (leads s n (n + count s) x (Some k) (Some (n + count s)) (omega arith) ht hx hk ht) ((hn, hk), tt)
+        each_two size (nodes_in f s n (n + count s) x (Some k) (Some (n + count s))) (branch f n k ∷ []) (leads s n (n + count s) x (Some k) (Some (n + count s)) (omega arith) ht hx hk ht)
+        ((hn, hk), tt)
     leads (For at init decided stepped s) n k x b c h hk hx hb hc =
         let t = test_of n init in
         let a = turn_of n init stepped in

@@ -7,8 +7,11 @@ use Rattle.std.specs.Fmt.{decimal}
 use Rattle.cw_syntax.specs.declared.program.Name.{Name}
 use Rattle.cw_syntax.specs.declared.program.Op.TheVariants.{Name as NameOp, Number, Call as CallOp, Assign}
 use Rattle.cw_syntax.specs.Names.{Names, slice, text, number_in}
-use Rattle.cw_syntax.specs.Trees.{Tree, Node, Trees, none, more, Statement, Stated, Form, Block, Declares, Evaluates, Empties, Labels, Chooses, Whiles, Does, Fors, Breaks, Continues, Returns, Perhaps, nothing, just, Statements, nil, cons, Definition, File}
-use Rattle.cw_syntax.specs.Plans.{Action, Computes, Opens, Closes, Invokes, Scene, opens_if, closes_if, place_if, descriptor_of, closed_by, call_action, assigned_action, action_of, acting, steps_of, steps_of_form, steps_of_arm, steps_of_all, Stm, Plain, Break, Continue, Return, Open, Close, Call, Group, Label, If, While, Do, For, Stms, end, then, seams, seams_all, numbered, numbered_all, Routine, routines_from, function_names, scene_of, plan_of}
+use Rattle.cw_syntax.specs.Trees.{Tree, Node, Trees, none, more, Statement, Stated, Form, Block, Declares, Evaluates, Empties, Labels, Chooses, Whiles, Does, Fors, Breaks, Continues, Returns}
+use Rattle.cw_syntax.specs.Trees.{Perhaps, nothing, just, Statements, nil, cons, Definition, File}
+use Rattle.cw_syntax.specs.Plans.{Action, Computes, Opens, Closes, Invokes, Scene, opens_if, closes_if, place_if, descriptor_of, closed_by, call_action, assigned_action, action_of, acting}
+use Rattle.cw_syntax.specs.Plans.{steps_of, steps_of_form, steps_of_arm, steps_of_all, Stm, Plain, Break, Continue, Return, Open, Close, Call, Group, Label, If, While, Do, For, Stms, end}
+use Rattle.cw_syntax.specs.Plans.{then, seams, seams_all, numbered, numbered_all, Routine, routines_from, function_names, scene_of, plan_of}
 use Rattle.cw_points.specs.Points.{count, count_all, one_if, one_if_some, count_from, point_count}
 use Rattle.cw_layout.proofs.Placing.{IsQuiet, AreQuiet}
 
@@ -236,7 +239,8 @@ module _ (names others : Names) (source : List ℕ) (functions : List (List ℕ)
     alike : (s : Statement) → (count (steps_of (under names) s) ≡ count (steps_of (under others) s)) × (calls (steps_of (under names) s) ≡ calls (steps_of (under others) s))
     alike (Stated form from to) = alike_form form from
 
-    alike_form : (f : Form) (at : ℕ) → (count (steps_of_form (under names) at f) ≡ count (steps_of_form (under others) at f)) × (calls (steps_of_form (under names) at f) ≡ calls (steps_of_form (under others) at f))
+    alike_form : (f : Form) (at : ℕ) → (count (steps_of_form (under names) at f) ≡ count (steps_of_form (under others) at f))
+        × (calls (steps_of_form (under names) at f) ≡ calls (steps_of_form (under others) at f))
     alike_form (Block ss) at = alike_all ss
     alike_form (Declares d) at = (refl, refl)
     alike_form (Evaluates e) at =
@@ -257,12 +261,14 @@ module _ (names others : Names) (source : List ℕ) (functions : List (List ℕ)
     alike_arm nothing = (refl, refl)
     alike_arm (just s) = alike s
 
-    alike_all : (ss : Statements) → (count_all (steps_of_all (under names) ss) ≡ count_all (steps_of_all (under others) ss)) × (calls_all (steps_of_all (under names) ss) ≡ calls_all (steps_of_all (under others) ss))
+    alike_all : (ss : Statements) → (count_all (steps_of_all (under names) ss) ≡ count_all (steps_of_all (under others) ss))
+        × (calls_all (steps_of_all (under names) ss) ≡ calls_all (steps_of_all (under others) ss))
     alike_all nil = (refl, refl)
     alike_all (cons s ss) = (ap₂ (λ a b. a + b) (alike s).0 (alike_all ss).0, ap₂ (λ a b. a || b) (alike s).1 (alike_all ss).1)
 
   alike_from : (fs : List Definition) (i j : ℕ)
-      → (count_from (routines_from (under names) i fs) ≡ count_from (routines_from (under others) j fs)) × (calls_from (routines_from (under names) i fs) ≡ calls_from (routines_from (under others) j fs))
+      → (count_from (routines_from (under names) i fs) ≡ count_from (routines_from (under others) j fs))
+      × (calls_from (routines_from (under names) i fs) ≡ calls_from (routines_from (under others) j fs))
   alike_from [] i j = (refl, refl)
   alike_from (d ∷ fs) i j =
       let a = steps_of_all (under names) d.body in

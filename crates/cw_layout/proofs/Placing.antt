@@ -16,7 +16,7 @@ use Rattle.cw_points.specs.declared.graph.Node.{Node}
 use Rattle.cw_points.specs.Graphs.{node, step, branch, test_node}
 use Rattle.cw_points.proofs.Held.{HasAt}
 use Rattle.cw_points.proofs.Placed.{Placed as PlacedIn, PlacedAll as PlacedAllIn, StepAt as StepIn, InitAt as InitIn, IsPlaced}
-use Rattle.cw_source.specs.Jumps.{Lands, LandsAll}
+use Rattle.cw_syntax.specs.Runnable.{Lands, LandsAll}
 use Rattle.cw_layout.specs.Positions.{base, positions_at, positions, is_call, has_call}
 use Rattle.cw_layout.proofs.Standing.{stands, spot_at}
 
@@ -83,7 +83,8 @@ module _ (ns : List Node) (its : List Item) (f x : ℕ) (pol : PlainPolicy) (one
   step_at : (p k : ℕ) → slice_get ns p ≡ Some (step f (Some k)) → slice_get (map spot_of (positions ns)) (base ns p) ≡ Some (spot_of (StepTo (base ns k)))
   step_at p k e = spot_at (positions ns) (at p) (StepTo (at k)) (here p (step f (Some k)) e).0
 
-  jump_at : (looped : Bool) (o : Option ℕ) (p : ℕ) → IsThere looped o → looped ≡ true → slice_get ns p ≡ Some (step f o) → (n : ℕ) × (option_map (base ns) o ≡ Some n) × (slice_get (map spot_of (positions ns)) (base ns p) ≡ Some (spot_of (StepTo n)))
+  jump_at : (looped : Bool) (o : Option ℕ) (p : ℕ) → IsThere looped o → looped ≡ true → slice_get ns p ≡ Some (step f o) → (n : ℕ) × (option_map (base ns) o ≡ Some n)
+      × (slice_get (map spot_of (positions ns)) (base ns p) ≡ Some (spot_of (StepTo n)))
   jump_at looped None p h l e = absurd (none-some (there looped None h l).0 (there looped None h l).1)
   jump_at looped (Some n) p h l e = (at n, refl, step_at p n e)
 
@@ -115,8 +116,16 @@ module _ (ns : List Node) (its : List Item) (f x : ℕ) (pol : PlainPolicy) (one
     placed (Group ss) looped b c p k q l tb tc h = placed_all ss looped b c p k q l tb tc h
     placed (Label y mark j letter s) looped b c p k q l tb tc h =
         let e = here p (node (point.Label letter) f (Some h.0) (Some j)) h.1.0 in
-        let z : at p + 1 + 1 ≡ at p + 2 = omega arith in
-        (at p + 2, visit_at j (at p) e.0 e.1.0, (at h.0, spot_at (positions ns) (at p + 2) (LabelTo j letter (at h.0)) (subst (λ n. slice_get (positions ns) n ≡ Some (LabelTo j letter (at h.0))) z e.1.1.0), placed s looped b c h.0 k q l tb tc h.2))
+        let z : at p + 1 + 1 ≡ at p + 2 = omega arith in (
+          at p + 2,
+          visit_at j (at p) e.0 e.1.0,
+          (
+            at h.0,
+            spot_at (positions ns) (at p + 2) (LabelTo j letter (at h.0))
+                (subst (λ n. slice_get (positions ns) n ≡ Some (LabelTo j letter (at h.0))) z e.1.1.0),
+            placed s looped b c h.0 k q l tb tc h.2,
+          ),
+        )
     placed (If y s t) looped b c p k q l tb tc h = (at h.0, at h.1, branch_at p h.0 h.1 h.2.0, placed s looped b c h.0 k q.0 l.0 tb tc h.3, placed t looped b c h.1 k q.1 l.1 tb tc h.4)
     placed (While y s) looped b c p k q l tb tc h = (at h.0, branch_at p h.0 k h.1.0, placed s true (Some k) (Some p) h.0 p q l tt tt h.2)
     placed (Do y s) looped b c p k q l tb tc h = (at h.0, branch_at h.0 p k h.1.0, placed s true (Some k) (Some h.0) p h.0 q l tt tt h.2)

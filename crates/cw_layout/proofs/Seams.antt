@@ -4,7 +4,8 @@ use Rattle.std.specs.Prelude.{slice_get}
 use Rattle.std.specs.List.{flat_map}
 use Rattle.std.proofs.lemmas.Option.{none-some, same_Some}
 use Rattle.std.proofs.lemmas.Grind.{flat_map-append}
-use Rattle.cw_syntax.specs.Plans.{Scene, Stm, Plain, Break, Continue, Return, Open, Close, Call, Group, Label, If, While, Do, For, Stms, end, then, Routine, seams, seams_all, numbered, numbered_all, steps_of_all, routines_from}
+use Rattle.cw_syntax.specs.Plans.{Scene, Stm, Plain, Break, Continue, Return, Open, Close, Call, Group, Label, If, While, Do, For, Stms, end, then, Routine, seams, seams_all, numbered}
+use Rattle.cw_syntax.specs.Plans.{numbered_all, steps_of_all, routines_from}
 use Rattle.cw_syntax.specs.Trees.{Definition}
 use Rattle.cw_game.specs.declared.ambient.Node.{Node as Position}
 use Rattle.cw_game.specs.declared.ambient.Node.TheVariants.{TryAt, AskedAt, LabelTo, StepTo, BranchTo, ExitAt}

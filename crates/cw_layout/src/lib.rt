@@ -4,5 +4,3 @@
 mod bases;
 pub mod laws;
 pub mod positions;
-#[cfg(test)]
-mod tests;

@@ -5,12 +5,12 @@ ghost use Rattle.cw_rights.specs.Policies.{PlainPolicy};
 ghost use Rattle.cw_syntax.specs.Names.{Names};
 ghost use Rattle.cw_syntax.specs.Trees.{File};
 ghost use Rattle.cw_syntax.specs.Plans.{plan_of};
+ghost use Rattle.cw_syntax.specs.Runnable.{IsRunnable};
 ghost use Rattle.cw_actions.specs.Scenes.{names_of};
 ghost use Rattle.cw_game.specs.declared.ambient.AmbientTest.{AmbientTest};
 ghost use Rattle.cw_game.specs.Laid.{Laid};
 ghost use Rattle.cw_game.specs.Places.{IsLaidOut, HasRoutines};
 ghost use Rattle.cw_points.specs.Graphs.{IsGraph};
-ghost use Rattle.cw_source.specs.Read.{ReadsAs};
 ghost use Rattle.cw_layout.specs.Positions.{bases, number, positions_of, positions_at, positions, base, entry_of, game_of, is_call, has_call};
 
 use crate::bases::{base, bases, to};
@@ -118,7 +118,7 @@ fn entry(graph: &Graph) -> Option<PointId>
 
 /// The positions of a program's points, in their order.
 ///
-/// Of a program that is read they are laid as a table needs them. Under a policy without limits and descriptors each
+/// Of a program that can be run (its jumps stand in loops, it has a `main`) they are laid as a table needs them. Under a policy without limits and descriptors each
 /// function of a program that calls none of its own stands among them, and the game has each function that it needs.
 pub fn positions(alloc: Global, graph: &Graph) -> Result<Layout, NoMemory>
     requires few { length graph.now.nodes.items ≤ 8192 }
@@ -126,18 +126,18 @@ pub fn positions(alloc: Global, graph: &Graph) -> Result<Layout, NoMemory>
     ensures narrow { IfOk result (λ r. length r.nodes.items ≤ 3 * length graph.now.nodes.items) }
     ensures start { IfOk result (λ r. r.start ≡ entry_of graph.now graph.now.main) }
     ensures laid { IfOk result (λ r. (names : Names) (source : List ℕ) (file : File)
-        → ReadsAs source file
+        → IsRunnable (plan_of names source file)
         → IsGraph names source file graph.now
         → Laid r.nodes.items r.start) }
     ensures laid_out { IfOk result (λ r. (policy : PlainPolicy) (tests : List AmbientTest) (source : List ℕ) (file : File)
-        → ReadsAs source file
+        → IsRunnable (plan_of (names_of policy) source file)
         → IsGraph (names_of policy) source file graph.now
         → policy.limits ≡ []
         → policy.descriptors ≡ []
         → has_call graph.now.nodes.items ≡ false
         → IsLaidOut (plan_of (names_of policy) source file) (game_of policy tests graph.now r.nodes.items)) }
     ensures routines { IfOk result (λ r. (policy : PlainPolicy) (tests : List AmbientTest) (source : List ℕ) (file : File)
-        → ReadsAs source file
+        → IsRunnable (plan_of (names_of policy) source file)
         → IsGraph (names_of policy) source file graph.now
         → policy.limits ≡ []
         → policy.descriptors ≡ []

@@ -68,7 +68,8 @@ escape_some [] x e = absurd cc
 escape_some (b ∷ bs) x e = chosen (is_octal_digit b) _ _ (Some x) _ (λ t h. (spelled_is 8 (take_while is_octal_digit (take 3 (b ∷ bs))) x h).1) (λ t h.
     chosen (eqb b 120) _ _ (Some x) _ (λ u g. longer_some (spelled 16 (take_while is_hexadecimal_digit (take 2 bs))) x g) (λ u g. simple_is (simple_escape b) x g) h) e
 
-spelled_cut : (base : ℕ) (p : ℕ → Bool) (m : ℕ) (bs : List ℕ) (k : ℕ) (x : Spelled) → spelled base (take_while p (take m bs)) ≡ Some x → x.1 ≤ k → spelled base (take_while p (take m (take k bs))) ≡ Some x
+spelled_cut : (base : ℕ) (p : ℕ → Bool) (m : ℕ) (bs : List ℕ) (k : ℕ) (x : Spelled) → spelled base (take_while p (take m bs)) ≡ Some x → x.1 ≤ k
+    → spelled base (take_while p (take m (take k bs))) ≡ Some x
 spelled_cut base p m bs k x e le =
     let long = (spelled_is base (take_while p (take m bs)) x e).0 in
     rw (few_cut p m bs k (omega arith)) e
@@ -84,7 +85,8 @@ unfolding escape_at
 escape_cut [] k x e le = absurd cc
 escape_cut (b ∷ bs) zero x e le = absurd (let some = escape_some (b ∷ bs) x e in omega arith)
 escape_cut (b ∷ bs) (suc k) x e le = both (is_octal_digit b) _ _ _ _ (Some x) (λ h. spelled_cut 8 is_octal_digit 3 (b ∷ bs) (suc k) x h le) (λ h.
-    both (eqb b 120) _ _ _ _ (Some x) (λ g. longer_cut (spelled 16 (take_while is_hexadecimal_digit (take 2 bs))) (spelled 16 (take_while is_hexadecimal_digit (take 2 (take k bs)))) x (λ y is long. spelled_cut 16 is_hexadecimal_digit 2 bs k y is (omega arith)) g) (λ g. g) h) e
+    both (eqb b 120) _ _ _ _ (Some x) (λ g. longer_cut (spelled 16 (take_while is_hexadecimal_digit (take 2 bs)))
+    (spelled 16 (take_while is_hexadecimal_digit (take 2 (take k bs)))) x (λ y is long. spelled_cut 16 is_hexadecimal_digit 2 bs k y is (omega arith)) g) (λ g. g) h) e
 
 pub item_some : (q : ℕ) (bs : List ℕ) (x : Spelled) → item_at q bs ≡ Some x → 0 < x.1
 unfolding item_at
@@ -110,7 +112,8 @@ closed_cut bs k n (Some x) is e le = chosen (starts_with nat_eq (drop x.1 bs) (c
     let count : x.1 + 1 ≡ n = cc in
     let whole : x.1 + (k - x.1) ≡ k = omega arith in
     let behind : drop x.1 (take k bs) ≡ take (k - x.1) (drop x.1 bs) = subst (λ (j : ℕ). drop x.1 (take j bs) ≡ take (k - x.1) (drop x.1 bs)) whole (drop-take x.1 (k - x.1) bs) in
-    let quote : starts_with nat_eq (drop x.1 (take k bs)) (codes "'") ≡ true = ap (λ (z : List ℕ). starts_with nat_eq z (codes "'")) behind ∙ starts_cut (drop x.1 bs) (codes "'") (k - x.1) (omega arith) ∙ t in
+    let quote : starts_with nat_eq (drop x.1 (take k bs)) (codes "'") ≡ true = ap (λ (z : List ℕ). starts_with nat_eq z (codes "'")) behind
+    ∙ starts_cut (drop x.1 bs) (codes "'") (k - x.1) (omega arith) ∙ t in
     rw (item_cut 39 bs k x is (omega arith), quote) h)) (λ t h. absurd cc) e
 
 pub character_cut : (bs : List ℕ) (k n : ℕ) → character_len bs ≡ Some n → n ≤ k → character_len (take k bs) ≡ Some n
@@ -137,7 +140,8 @@ text_long (suc skip) (b ∷ bs) n e =
     let same = m.2 in omega arith
 text_long zero (b ∷ bs) n e = chosen (eqb b 34) _ _ (Some n) _ (λ t h. (let same : 1 ≡ n = cc in omega arith)) (λ t h. item_long (item_at 34 (b ∷ bs)) bs n h) e
 
-by_item_cut : (b : ℕ) (bs : List ℕ) (k n : ℕ) (o : Option Spelled) → item_at 34 (b ∷ bs) ≡ o → by_item bs o ≡ Some n → n ≤ suc k → ((skip m : ℕ) → text_len skip bs ≡ Some m → m ≤ k → text_len skip (take k bs) ≡ Some m) → by_item (take k bs) (item_at 34 (b ∷ take k bs)) ≡ Some n
+by_item_cut : (b : ℕ) (bs : List ℕ) (k n : ℕ) (o : Option Spelled) → item_at 34 (b ∷ bs) ≡ o → by_item bs o ≡ Some n → n ≤ suc k
+    → ((skip m : ℕ) → text_len skip bs ≡ Some m → m ≤ k → text_len skip (take k bs) ≡ Some m) → by_item (take k bs) (item_at 34 (b ∷ take k bs)) ≡ Some n
 by_item_cut b bs k n None is e le rec = absurd cc
 by_item_cut b bs k n (Some x) is e le rec =
     let m = more_is 1 (text_len (x.1 - 1) bs) n e in

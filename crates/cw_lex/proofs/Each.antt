@@ -44,7 +44,8 @@ whole source t h = subst (λ (n : ℕ). piece_at true (slice source t.from t.to)
 
 -- 64 bits hold a number's value
 pub number_fits : (source : List ℕ) (t : Token) → IsTokenOf source t → t.kind ≡ kind.Number → number_of (slice source t.from t.to) < 2 ^ 64
-number_fits source t h is = number_is_small (slice source t.from t.to) (numbers (slice source t.from t.to) (subst (λ k. piece_at true (slice source t.from t.to) ≡ piece.Token k (length (slice source t.from t.to))) is (whole source t h)))
+number_fits source t h is = number_is_small (slice source t.from t.to)
+    (numbers (slice source t.from t.to) (subst (λ k. piece_at true (slice source t.from t.to) ≡ piece.Token k (length (slice source t.from t.to))) is (whole source t h)))
 
 -- a token is a keyword where its bytes are one
 pub keyword_is : (source : List ℕ) (t : Token) → IsTokenOf source t → (t.kind ≡ kind.Keyword) ↔ (is_keyword (slice source t.from t.to) ≡ true)

@@ -21,7 +21,8 @@ record OneEnd (ps qs : List Piece) (g h : Bool) (rest other : List ℕ) : Type 0
 no_more : (f : Bool) (bs : List ℕ) (p : Piece) → size (piece_at f bs) ≡ 0 → piece_at f bs ≡ p → 0 < size p → ⊥
 no_more f bs p none is some = let e : size p ≡ 0 = rw is at none in absurd (omega arith)
 
-one_end : (f : Bool) (bs : List ℕ) (ps qs : List Piece) (g h : Bool) (rest other : List ℕ) → Stand f bs ps g rest → size (piece_at g rest) ≡ 0 → Stand f bs qs h other → size (piece_at h other) ≡ 0 → OneEnd ps qs g h rest other
+one_end : (f : Bool) (bs : List ℕ) (ps qs : List Piece) (g h : Bool) (rest other : List ℕ) → Stand f bs ps g rest → size (piece_at g rest) ≡ 0 → Stand f bs qs h other
+    → size (piece_at h other) ≡ 0 → OneEnd ps qs g h rest other
 one_end f bs [] [] g h rest other s none t nothing = record { pieces = refl; fresh = s.0 ∙ sym t.0; left = s.1 ∙ sym t.1 }
 one_end f bs [] (q ∷ qs) g h rest other s none t nothing = absurd (no_more f bs q (rw (s.0, s.1) at none) t.0 t.1)
 one_end f bs (p ∷ ps) [] g h rest other s none t nothing = absurd (no_more f bs p (rw (t.0, t.1) at nothing) s.0 s.1)

@@ -36,7 +36,8 @@ module _ (source : List ℕ) where
 
   in_order : (ps : List Piece) (f g : Bool) (at : ℕ) → at ≤ length source → Stand f (drop at source) ps g [] → AreInOrder at (length source) (tokens_of at ps)
   in_order [] f g at le h = le
-  in_order (piece.Gap n ∷ ps) f g at le h = earlier at (at + n) (length source) (tokens_of (at + n) ps) (omega arith) (in_order ps (fresh_behind f (piece.Gap n) (drop at source)) g (at + n) (further f at (piece.Gap n) le h.0 h.1) (behind _ g at n ps h.2))
+  in_order (piece.Gap n ∷ ps) f g at le h = earlier at (at + n) (length source) (tokens_of (at + n) ps) (omega arith)
+      (in_order ps (fresh_behind f (piece.Gap n) (drop at source)) g (at + n) (further f at (piece.Gap n) le h.0 h.1) (behind _ g at n ps h.2))
   in_order (piece.Token k n ∷ ps) f g at le h = (omega arith, (let some = h.1 in omega arith), in_order ps false g (at + n) (further f at (piece.Token k n) le h.0 h.1) (behind _ g at n ps h.2))
   in_order (piece.Fault d ∷ ps) f g at le h = absurd (let some = h.1 in omega arith)
 

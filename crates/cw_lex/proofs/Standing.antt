@@ -16,7 +16,8 @@ use Rattle.cw_lex.specs.Pieces.{piece_at, size}
 use Rattle.cw_lex.specs.Tokens.{fresh_behind, Stand, tokens_of, AreTokens, fault_at, IsFirstDefect, IsFault}
 
 -- one piece more behind them
-stand_more : (f : Bool) (bs : List ℕ) (ps : List Piece) (g : Bool) (rest : List ℕ) (p : Piece) → Stand f bs ps g rest → piece_at g rest ≡ p → 0 < size p → Stand f bs (ps ++ p ∷ []) (fresh_behind g p rest) (drop (size p) rest)
+stand_more : (f : Bool) (bs : List ℕ) (ps : List Piece) (g : Bool) (rest : List ℕ) (p : Piece) → Stand f bs ps g rest → piece_at g rest ≡ p → 0 < size p
+    → Stand f bs (ps ++ p ∷ []) (fresh_behind g p rest) (drop (size p) rest)
 stand_more f bs [] g rest p h is some = rw (sym h.0, sym h.1) (is, some, (refl, refl))
 stand_more f bs (q ∷ ps) g rest p h is some = (h.0, h.1, stand_more (fresh_behind f q bs) (drop (size q) bs) ps g rest p h.2 is some)
 
@@ -44,25 +45,30 @@ pub record Reached (source : List ℕ) (at : ℕ) (fresh : Bool) (ts : List Toke
 pub at_first : (source : List ℕ) → Reached source 0 true []
 at_first source = record { pieces = []; stand = (refl, refl); place = refl; tokens = refl }
 
-behind : (source : List ℕ) (at : ℕ) (fresh : Bool) (ts us : List Token) (p : Piece) → Reached source at fresh ts → piece_at fresh (drop at source) ≡ p → 0 < size p → us ≡ ts ++ tokens_of at (p ∷ []) → Reached source (at + size p) (fresh_behind fresh p (drop at source)) us
+behind : (source : List ℕ) (at : ℕ) (fresh : Bool) (ts us : List Token) (p : Piece) → Reached source at fresh ts → piece_at fresh (drop at source) ≡ p → 0 < size p
+    → us ≡ ts ++ tokens_of at (p ∷ []) → Reached source (at + size p) (fresh_behind fresh p (drop at source)) us
 behind source at fresh ts us p r is some e = record {
   pieces = r.pieces ++ p ∷ [];
   stand = rw (← drop-drop (size p) at source) (stand_more true source r.pieces fresh (drop at source) p r.stand is some);
   place = rw sum_by-append (let h = r.place in omega (arith, h));
-  tokens = e ∙ ap (λ (z : List Token). z ++ tokens_of at (p ∷ [])) r.tokens ∙ ap (λ (k : ℕ). tokens_of 0 r.pieces ++ tokens_of k (p ∷ [])) (rw zero-add r.place) ∙ sym (tokens_more 0 r.pieces (p ∷ []));
+  tokens = e ∙ ap (λ (z : List Token). z ++ tokens_of at (p ∷ [])) r.tokens ∙ ap (λ (k : ℕ). tokens_of 0 r.pieces ++ tokens_of k (p ∷ [])) (rw zero-add r.place)
+      ∙ sym (tokens_more 0 r.pieces (p ∷ []));
 }
 
-pub gap_behind : (source : List ℕ) (at : ℕ) (fresh : Bool) (ts : List Token) (n : ℕ) → Reached source at fresh ts → piece_at fresh (drop at source) ≡ piece.Gap n → 0 < n → Reached source (at + n) (fresh_behind fresh (piece.Gap n) (drop at source)) ts
+pub gap_behind : (source : List ℕ) (at : ℕ) (fresh : Bool) (ts : List Token) (n : ℕ) → Reached source at fresh ts → piece_at fresh (drop at source) ≡ piece.Gap n → 0 < n
+    → Reached source (at + n) (fresh_behind fresh (piece.Gap n) (drop at source)) ts
 gap_behind source at fresh ts n r is some = behind source at fresh ts ts (piece.Gap n) r is some (sym (append-nil ts))
 
-pub token_behind : (source : List ℕ) (at : ℕ) (fresh : Bool) (ts : List Token) (kind : TokenKind) (n : ℕ) → Reached source at fresh ts → piece_at fresh (drop at source) ≡ piece.Token kind n → 0 < n → Reached source (at + n) false (ts ++ record { kind = kind; from = at; to = at + n } ∷ [])
+pub token_behind : (source : List ℕ) (at : ℕ) (fresh : Bool) (ts : List Token) (kind : TokenKind) (n : ℕ) → Reached source at fresh ts
+    → piece_at fresh (drop at source) ≡ piece.Token kind n → 0 < n → Reached source (at + n) false (ts ++ record { kind = kind; from = at; to = at + n } ∷ [])
 token_behind source at fresh ts kind n r is some = behind source at fresh ts (ts ++ record { kind = kind; from = at; to = at + n } ∷ []) (piece.Token kind n) r is some refl
 
 pub at_end : (source : List ℕ) (at : ℕ) (fresh : Bool) (ts : List Token) → Reached source at fresh ts → length source ≤ at → HasNoMarker source → AreTokens source ts
 unfolding AreTokens
 at_end source at fresh ts r le unmarked = let e : drop at source ≡ [] = drop_of_length-le source le in (unmarked, (r.pieces, fresh, rw (← e) r.stand, r.tokens))
 
-pub at_defect : (source : List ℕ) (at : ℕ) (fresh : Bool) (ts : List Token) (d : Defect) → Reached source at fresh ts → piece_at fresh (drop at source) ≡ piece.Fault d → IsFirstDefect source (fault_at d at)
+pub at_defect : (source : List ℕ) (at : ℕ) (fresh : Bool) (ts : List Token) (d : Defect) → Reached source at fresh ts → piece_at fresh (drop at source) ≡ piece.Fault d
+    → IsFirstDefect source (fault_at d at)
 at_defect source at fresh ts d r is = (r.pieces, fresh, drop at source, d, r.stand, is, ap (fault_at d) r.place)
 
 pub is_fault : (source : List ℕ) (d : Defect) (at : ℕ) → HasNoMarker source → IsFirstDefect source (fault_at d at) → IsFault source (fault_at d at)

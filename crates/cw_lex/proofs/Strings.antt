@@ -1,5 +1,6 @@
 -- Characters and strings are what their forms say.
-use Rattle.std.proofs.Common.{◌≡◌, ℕ, zero, suc, ◌+◌, ◌-◌, ◌≤◌, ◌↔◌, true, eqb, List, [], ◌∷◌, ◌++◌, length, drop, take, Option, Some, None, refl, sym, ap, subst, ◌∙◌, append_assoc, arith, length-append, length-drop, inl, inr}
+use Rattle.std.proofs.Common.{◌≡◌, ℕ, zero, suc, ◌+◌, ◌-◌, ◌≤◌, ◌↔◌, true, eqb, List, [], ◌∷◌, ◌++◌, length, drop, take, Option, Some, None, refl, sym, ap, subst, ◌∙◌}
+use Rattle.std.proofs.Common.{append_assoc, arith, length-append, length-drop, inl, inr}
 use Rattle.std.specs.Prelude.{nat_eq, codes}
 use Rattle.std.specs.List.{concat, starts_with}
 use Rattle.std.proofs.lemmas.List.{take-append-drop, drop_at, length-take-le}
@@ -94,7 +95,8 @@ item_behind (b ∷ w) rest value n is e = elim (cases_Bool (eqb b 34)) [
       let first = item_first b (w ++ rest) (value, suc (length w)) t is in
       let less : suc (length w) - 1 ≡ length w = omega arith in
       let behind : drop (length w) (w ++ rest) ≡ rest = drop_at w rest (length w) refl in
-      let passed : text_len (length w) (w ++ rest) ≡ more_by (length w) (Some n) = skipped (length w) (w ++ rest) (omega (arith, length-append w rest)) ∙ ap (λ (z : List ℕ). more_by (length w) (text_len 0 z)) behind ∙ ap (more_by (length w)) e in
+      let passed : text_len (length w) (w ++ rest) ≡ more_by (length w) (Some n) = skipped (length w) (w ++ rest) (omega (arith, length-append w rest))
+      ∙ ap (λ (z : List ℕ). more_by (length w) (text_len 0 z)) behind ∙ ap (more_by (length w)) e in
       let count : n + length w + 1 ≡ suc (length w) + n = omega arith in
       first ∙ ap (λ (j : ℕ). more_by 1 (text_len j (w ++ rest))) less ∙ ap (more_by 1) passed ∙ ap (λ (j : ℕ). Some j) count
 ]
@@ -126,7 +128,8 @@ first_part b bs x is le h =
     let same : Some x ≡ Some (x.0, length w) = pair_is x.0 x.1 x.0 (length w) refl (sym long) in
     (w ∷ h.0, all ∙ sym (append_assoc w (concat h.0) (34 ∷ [])), ((x.0, ap (item_at 34) (sym all) ∙ is ∙ same), h.2))
 
-item_parts : (b : ℕ) (bs : List ℕ) (o : Option Spelled) → item_at 34 (b ∷ bs) ≡ o → by_item bs o ≡ Some (suc (length bs)) → ((rest : List ℕ) → length rest ≤ length bs → text_len 0 rest ≡ Some (length rest) → Parts rest) → Parts (b ∷ bs)
+item_parts : (b : ℕ) (bs : List ℕ) (o : Option Spelled) → item_at 34 (b ∷ bs) ≡ o → by_item bs o ≡ Some (suc (length bs))
+    → ((rest : List ℕ) → length rest ≤ length bs → text_len 0 rest ≡ Some (length rest) → Parts rest) → Parts (b ∷ bs)
 item_parts b bs None is e rec = absurd cc
 item_parts b bs (Some x) is e rec =
     let m = more_is 1 (text_len (x.1 - 1) bs) (suc (length bs)) e in

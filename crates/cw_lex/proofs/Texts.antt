@@ -25,11 +25,13 @@ pub quote_first : (b : ℕ) (bs : List ℕ) → eqb b 34 ≡ true → text_len 0
 unfolding text_len
 quote_first b bs e = rw e refl
 
-pub text_step : (bs : List ℕ) (at : ℕ) (x : Spelled) → at < length bs → eqb (get_or bs at 0) 34 ≡ false → item_at 34 (drop at bs) ≡ Some x → 0 < x.1 → at + x.1 ≤ length bs → more_by (at + x.1) (text_len 0 (drop (at + x.1) bs)) ≡ more_by at (text_len 0 (drop at bs))
+pub text_step : (bs : List ℕ) (at : ℕ) (x : Spelled) → at < length bs → eqb (get_or bs at 0) 34 ≡ false → item_at 34 (drop at bs) ≡ Some x → 0 < x.1 → at + x.1 ≤ length bs
+    → more_by (at + x.1) (text_len 0 (drop (at + x.1) bs)) ≡ more_by at (text_len 0 (drop at bs))
 text_step bs at x lt e is some le =
     let d : drop at bs ≡ get_or bs at 0 ∷ drop (at + 1) bs = drop_here bs at lt in
     let first = item_first (get_or bs at 0) (drop (at + 1) bs) x e (rw d at is) in
-    let behind : text_len (x.1 - 1) (drop (at + 1) bs) ≡ more_by (x.1 - 1) (text_len 0 (drop (x.1 - 1) (drop (at + 1) bs))) = skipped (x.1 - 1) (drop (at + 1) bs) (omega (arith, length-drop (at + 1) bs)) in
+    let behind : text_len (x.1 - 1) (drop (at + 1) bs) ≡ more_by (x.1 - 1) (text_len 0 (drop (x.1 - 1) (drop (at + 1) bs))) =
+    skipped (x.1 - 1) (drop (at + 1) bs) (omega (arith, length-drop (at + 1) bs)) in
     let place : at + 1 + (x.1 - 1) ≡ at + x.1 = omega arith in
     let same : drop (x.1 - 1) (drop (at + 1) bs) ≡ drop (at + x.1) bs = drop-drop (x.1 - 1) (at + 1) bs ∙ ap (λ (j : ℕ). drop j bs) place in
     let count : x.1 - 1 + 1 + at ≡ at + x.1 = omega arith in

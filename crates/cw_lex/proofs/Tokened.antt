@@ -65,7 +65,12 @@ mark_cut bs n e some = chosen (begins three_byte_marks bs) _ _ n _ (λ t h. (
     rw (stays_false (begins three_byte_marks bs) (begins three_byte_marks (take n bs)) (begins_whole three_byte_marks bs n) t, two) g)) (λ u g.
     chosen (begins one_byte_marks bs) 1 0 n _ (λ v f. (
     let one : begins one_byte_marks (take n bs) ≡ true = subst (λ (j : ℕ). begins one_byte_marks (take j bs) ≡ true) f (begins_cut one_byte_marks bs 1 one_short ∙ v) in
-    rw (stays_false (begins three_byte_marks bs) (begins three_byte_marks (take n bs)) (begins_whole three_byte_marks bs n) t, stays_false (begins two_byte_marks bs) (begins two_byte_marks (take n bs)) (begins_whole two_byte_marks bs n) u, one) f)) (λ v f. absurd (omega arith)) g) h) e
+    rw (
+      stays_false (begins three_byte_marks bs) (begins three_byte_marks (take n bs)) (begins_whole three_byte_marks bs n) t,
+      stays_false (begins two_byte_marks bs)
+          (begins two_byte_marks (take n bs)) (begins_whole two_byte_marks bs n) u,
+      one,
+    ) f)) (λ v f. absurd (omega arith)) g) h) e
 
 -- ---- pieces
 
@@ -110,6 +115,7 @@ alone fresh (b ∷ bs) k (suc m) e =
     both (eqb b 39) _ _ _ _ v (λ h. quoted_cut kind.Character (character_len bs) (character_len (take m bs)) k (suc m) (λ j is count. character_cut bs m j is (omega arith)) h) (λ h4.
     both (eqb b 34) _ _ _ _ v (λ h. quoted_cut kind.Text (text_len 0 bs) (text_len 0 (take m bs)) k (suc m) (λ j is count. text_cut 0 bs m j is (omega arith)) h) (λ h5.
     both (eqb b 35) _ _ _ _ v (λ h. absurd (no_directive fresh (b ∷ bs) k (suc m) h)) (λ h6.
-    left_out (starts_with nat_eq (b ∷ bs) (codes "/*")) (starts_with nat_eq (b ∷ take m bs) (codes "/*")) _ _ _ _ v (no_comment (to_close (drop 2 (b ∷ bs))) k (suc m)) (starts_whole (b ∷ bs) (codes "/*") (suc m)) (λ h7.
+    left_out (starts_with nat_eq (b ∷ bs) (codes "/*")) (starts_with nat_eq (b ∷ take m bs) (codes "/*")) _ _ _ _ v (no_comment (to_close (drop 2 (b ∷ bs))) k (suc m))
+    (starts_whole (b ∷ bs) (codes "/*") (suc m)) (λ h7.
     left_out (starts_with nat_eq (b ∷ bs) (codes "//")) (starts_with nat_eq (b ∷ take m bs) (codes "//")) _ _ _ _ v (no_line (b ∷ bs) k (suc m)) (starts_whole (b ∷ bs) (codes "//") (suc m)) (λ h8.
     (let len = mark_is (mark_len (b ∷ bs)) k (suc m) h8 in rw (mark_cut (b ∷ bs) (suc m) len (omega arith)) (rw len at h8))) h7) h6) h5) h4) h3) h2) h1) e

@@ -46,8 +46,10 @@ module _ (b : ℕ) (bs : List ℕ) (k : TokenKind) (P : Type 0)
   by_kind e =
       let v = piece.Token k (suc (length bs)) in
       chosen (is_white b) _ _ v P (λ t h. absurd cc) (λ t1 h1.
-      chosen (is_letter b) _ _ v P (λ t h. a_word t (subst (λ (z : List ℕ). word z ≡ v) (whole_run is_name_byte (b ∷ bs) (word_length (take_while is_name_byte (b ∷ bs)) k (suc (length bs)) h)) h)) (λ t2 h2.
-      chosen (is_digit b) _ _ v P (λ t h. a_number t2 (subst (λ (z : List ℕ). number z ≡ v) (whole_run is_number_byte (b ∷ bs) (number_length (take_while is_number_byte (b ∷ bs)) k (suc (length bs)) h)) h)) (λ t3 h3.
+      chosen (is_letter b) _ _ v P (λ t h. a_word t (subst (λ (z : List ℕ). word z ≡ v)
+      (whole_run is_name_byte (b ∷ bs) (word_length (take_while is_name_byte (b ∷ bs)) k (suc (length bs)) h)) h)) (λ t2 h2.
+      chosen (is_digit b) _ _ v P (λ t h. a_number t2 (subst (λ (z : List ℕ). number z ≡ v)
+      (whole_run is_number_byte (b ∷ bs) (number_length (take_while is_number_byte (b ∷ bs)) k (suc (length bs)) h)) h)) (λ t3 h3.
       chosen (eqb b 39) _ _ v P (λ t h. a_character t2 (eqb-true b 39 t) h) (λ t4 h4.
       chosen (eqb b 34) _ _ v P (λ t h. a_text t2 (eqb-true b 34 t) h) (λ t5 h5.
       chosen (eqb b 35) _ _ v P (λ t h. absurd (no_directive true (b ∷ bs) k (suc (length bs)) h)) (λ t6 h6.

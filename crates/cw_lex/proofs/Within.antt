@@ -30,9 +30,11 @@ one_more (Some n) k h = omega arith
 
 pub close_le : (bs : List ℕ) → IfSome (to_close bs) (λ n. n ≤ length bs)
 close_le [] = tt
-close_le (b ∷ bs) = cond_both (starts_with nat_eq (b ∷ bs) (codes "*/")) (Some 2) (more_by 1 (to_close bs)) (λ o. IfSome o (λ n. n ≤ length (b ∷ bs))) (λ e. starts_le (b ∷ bs) (codes "*/") e) (λ e. one_more (to_close bs) (length bs) (close_le bs))
+close_le (b ∷ bs) = cond_both (starts_with nat_eq (b ∷ bs) (codes "*/")) (Some 2) (more_by 1 (to_close bs)) (λ o. IfSome o (λ n. n ≤ length (b ∷ bs)))
+    (λ e. starts_le (b ∷ bs) (codes "*/") e) (λ e. one_more (to_close bs) (length bs) (close_le bs))
 
-item_le : (o : Option Spelled) (bs : List ℕ) → ((k : ℕ) → IfSome (text_len k bs) (λ n. n ≤ length bs)) → IfSome (elim o as (λ x. Option ℕ) [ None ↦ None | Some item ↦ more_by 1 (text_len (item.1 - 1) bs) ]) (λ n. n ≤ suc (length bs))
+item_le : (o : Option Spelled) (bs : List ℕ) → ((k : ℕ) → IfSome (text_len k bs) (λ n. n ≤ length bs))
+    → IfSome (elim o as (λ x. Option ℕ) [ None ↦ None | Some item ↦ more_by 1 (text_len (item.1 - 1) bs) ]) (λ n. n ≤ suc (length bs))
 item_le None bs rec = tt
 item_le (Some x) bs rec = one_more (text_len (x.1 - 1) bs) (length bs) (rec (x.1 - 1))
 
@@ -44,7 +46,8 @@ text_le zero (b ∷ bs) = cond_both (eqb b 34) _ _ (λ o. IfSome o (λ n. n ≤ 
 
 closed_le : (bs : List ℕ) (o : Option Spelled) → IfSome (closed bs o) (λ n. n ≤ length bs)
 closed_le bs None = tt
-closed_le bs (Some x) = cond_both (starts_with nat_eq (drop x.1 bs) (codes "'")) (Some (x.1 + 1)) None (λ o. IfSome o (λ n. n ≤ length bs)) (λ e. (let p = starts_le (drop x.1 bs) (codes "'") e in omega (arith, p, length-drop x.1 bs))) (λ e. tt)
+closed_le bs (Some x) = cond_both (starts_with nat_eq (drop x.1 bs) (codes "'")) (Some (x.1 + 1)) None (λ o. IfSome o (λ n. n ≤ length bs))
+    (λ e. (let p = starts_le (drop x.1 bs) (codes "'") e in omega (arith, p, length-drop x.1 bs))) (λ e. tt)
 
 character_le : (bs : List ℕ) → IfSome (character_len bs) (λ n. n ≤ length bs)
 unfolding character_len
@@ -129,10 +132,12 @@ piece_within fresh (b ∷ bs) some =
     let len = length (b ∷ bs) in
     choose len (is_white b) _ _ (λ e. (some_prefix is_white b bs e, prefix_len-le-length is_white (b ∷ bs))) (λ e1.
     choose len (is_letter b) _ _ (λ e. (let r = run_within is_name_byte b bs (or_left (is_letter b) (is_digit b) e) in word_within len (take_while is_name_byte (b ∷ bs)) r.0 r.1)) (λ e2.
-    choose len (is_digit b) _ _ (λ e. (let r = run_within is_number_byte b bs (or_left (is_name_byte b) (eqb b 46) (or_right (is_letter b) (is_digit b) e)) in number_within len (take_while is_number_byte (b ∷ bs)) r.0 r.1)) (λ e3.
+    choose len (is_digit b) _ _ (λ e. (let r = run_within is_number_byte b bs (or_left (is_name_byte b) (eqb b 46) (or_right (is_letter b) (is_digit b) e)) in
+    number_within len (take_while is_number_byte (b ∷ bs)) r.0 r.1)) (λ e3.
     choose len (eqb b 39) _ _ (λ e. quoted_within kind.Character (character_len bs) (length bs) (character_le bs)) (λ e4.
     choose len (eqb b 34) _ _ (λ e. quoted_within kind.Text (text_len 0 bs) (length bs) (text_le 0 bs)) (λ e5.
     choose len (eqb b 35) _ _ (λ e. directive_within fresh b bs (rw (eqb-true b 35 e) refl)) (λ e6.
-    choose len (starts_with nat_eq (b ∷ bs) (codes "/*")) _ _ (λ e. comment_within (to_close (drop 2 (b ∷ bs))) len (rw (← length-drop 2 (b ∷ bs)) (close_le (drop 2 (b ∷ bs)))) (starts_le (b ∷ bs) (codes "/*") e)) (λ e7.
+    choose len (starts_with nat_eq (b ∷ bs) (codes "/*")) _ _
+    (λ e. comment_within (to_close (drop 2 (b ∷ bs))) len (rw (← length-drop 2 (b ∷ bs)) (close_le (drop 2 (b ∷ bs)))) (starts_le (b ∷ bs) (codes "/*") e)) (λ e7.
     choose len (starts_with nat_eq (b ∷ bs) (codes "//")) _ _ (λ e. line_within b bs (slash_is_line b bs e)) (λ e8.
     mark_choice len (mark_len (b ∷ bs)) (mark_le (b ∷ bs))))))))))

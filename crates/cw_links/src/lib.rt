@@ -4,8 +4,6 @@
 mod buckets;
 mod chains;
 mod links;
-#[cfg(test)]
-mod tests;
 
 pub use buckets::Buckets;
 pub use chains::Chains;

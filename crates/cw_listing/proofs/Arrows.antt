@@ -10,7 +10,8 @@ marked_where mark [] = refl
 marked_where mark (Some p ∷ next) = refl
 marked_where mark (None ∷ next) = marked_where mark next
 
-pub put_behind : (mark : List ℕ) (next : List (Option PointId)) (old with_mark new : List ℕ) → true ≡ list_any is_some next → with_mark ≡ old ++ mark → new ≡ with_mark ++ spaced (map decimal (successors next)) → new ≡ old ++ marked mark (map decimal (successors next))
+pub put_behind : (mark : List ℕ) (next : List (Option PointId)) (old with_mark new : List ℕ) → true ≡ list_any is_some next → with_mark ≡ old ++ mark
+    → new ≡ with_mark ++ spaced (map decimal (successors next)) → new ≡ old ++ marked mark (map decimal (successors next))
 put_behind mark next old with_mark new some first then =
     let all = mark ++ spaced (map decimal (successors next)) in
     then

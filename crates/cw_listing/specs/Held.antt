@@ -1,4 +1,4 @@
--- What the program holds of names and numbers, as lists.
+-- Working definitions: what the program holds of names and numbers, as lists.
 use Rattle.std.specs.Prelude.{ℕ, List, map}
 use Rattle.std.specs.Global.{Vec}
 

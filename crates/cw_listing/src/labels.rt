@@ -8,7 +8,7 @@ ghost use Rattle.cw_syntax.specs.Trees.{statement_of, statements_of, definition_
 ghost use Rattle.cw_listing.specs.Held.{lists};
 ghost use Rattle.cw_listing.specs.Labels.{labels_of, labels_of_all, label_names, missing_label};
 
-use crate::names::text;
+use cw_syntax::names::text;
 use cw_syntax::program::{Function, Program, Stmt, What};
 
 /// Whether a label of a statement has this name.

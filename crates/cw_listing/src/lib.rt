@@ -4,8 +4,6 @@
 mod labels;
 mod listing;
 mod names;
-#[cfg(test)]
-mod tests;
 
 pub use labels::missing_label;
 pub use listing::{Names, graph_text};

@@ -9,17 +9,9 @@ ghost use Rattle.cw_listing.specs.Held.{lists};
 ghost use Rattle.cw_listing.specs.Labels.{labels_of, labels_of_all, label_names};
 
 use cw_core::NoMemory;
+use cw_syntax::names::text;
 use cw_syntax::program::{Function, Name, Program, Stmt, What};
 use std::alloc::Global;
-
-/// The bytes of a name.
-pub(crate) fn text(source: &[u8], name: Name) -> &[u8]
-    ensures { result.now ≡ text source.now name }
-{
-    let to = source.len().min(name.to as usize);
-    let from = to.min(name.from as usize);
-    &source[from..to]
-}
 
 /// The bytes of each name.
 fn texts(alloc: Global, source: &[u8], names: &[Name]) -> Result<Vec<Vec<u8>>, NoMemory>

@@ -1,9 +1,1 @@
 pub mod Moving
-pub mod Shapes
-pub mod Putting
-pub mod Settled
-pub mod Dropped
-pub mod Routines
-pub mod Gets
-pub mod Chosen
-pub mod Having

@@ -1,7 +1,7 @@
 -- Boards, and the moves of the weaver and of the environment. The game is that of Harris, Jha, Reps, Anderson and Watson (2013) over
 -- stacks of frames, as in the visibly pushdown games of Löding, Madhusudan and Serre (2004); the primitives are those of
 -- capsicum(4), cap_enter(2) and cap_rights_limit(2).
-use Rattle.std.specs.Prelude.{◌≡◌, ◌≢◌, ◌⊎◌, ℕ, zero, suc, List, [], ◌∷◌, ◌++◌, Bool, true, false, cond, not, ◌||◌, Option, Some, None, option_map, slice_get}
+use Rattle.std.specs.Prelude.{◌≡◌, ◌≢◌, ◌⊎◌, ℕ, zero, suc, List, [], ◌∷◌, ◌++◌, Bool, true, false, cond, not, ◌||◌, ◌&&◌, Option, Some, None, option_map, slice_get}
 use Rattle.cw_rights.specs.declared.capabilities.Caps.{Caps}
 use Rattle.cw_rights.specs.declared.capabilities.Primitive.{Primitive}
 use Rattle.cw_rights.specs.declared.capabilities.Primitive.TheVariants.{Limit, Enter, Split}
@@ -11,7 +11,7 @@ use Rattle.cw_rights.specs.Capabilities.{allowed, applied, opened, closed}
 use Rattle.cw_rights.specs.Words.{Word}
 use Rattle.cw_rights.specs.Policies.{PlainDescriptor, PlainPolicy, IsBad, is_refusable, primitives, start_caps}
 use Rattle.cw_certs.specs.declared.moves.Move.{Move}
-use Rattle.cw_certs.specs.declared.moves.Move.TheVariants.{Skip, Try, Grant, Refuse, On, Left, Right, Opened, Failed}
+use Rattle.cw_certs.specs.declared.moves.Move.TheVariants.{Skip, Try, Grant, Refuse, On, Left, Right, Opened, Failed, Stop}
 use Rattle.cw_actions.specs.Scenes.{names_of}
 use Rattle.cw_syntax.specs.Trees.{File}
 use Rattle.cw_syntax.specs.Plans.{Open, Close, Call, Label, Plan, plan_of}
@@ -27,10 +27,12 @@ abbrev pub problem_of : PlainPolicy → List ℕ → File → Problem
 problem_of policy source file = record { plan = plan_of (names_of policy) source file; policy = policy }
 
 -- A phase of the front item of the top frame. In a visit the weaver skips or tries the primitive of this stage; then come those after it.
--- Asked, the environment grants or refuses it. Free, the item is passed; after a granted split as a call in a process of its own.
+-- Asked, the environment grants or refuses it. Refused, where it can stop, the weaver goes on as a skip does or ends the program.
+-- Free, the item is passed; after a granted split as a call in a process of its own. Over, the program has ended, with all that it called.
 pub data Phase : Type 0 where
   Visit : (stage : ℕ) → Primitive → List Primitive → Phase
   Asked : (stage : ℕ) → Primitive → List Primitive → Phase
+  Refused : (stage : ℕ) → Primitive → List Primitive → Phase
   Free : Phase
   FreeSplit : Phase
   Over : Phase
@@ -99,6 +101,10 @@ may_grant caps Split = true
 abbrev pub may_refuse : PlainPolicy → Caps → Primitive → Bool
 may_refuse policy caps a = not (may_grant caps a) || is_refusable policy a
 
+-- and whether the weaver can stop when it is refused: the policy lets it, and lets the kind be refused, and it could have been granted too
+abbrev pub can_stop : PlainPolicy → Caps → Primitive → Bool
+can_stop policy caps a = policy.stop && (is_refusable policy a && may_grant caps a)
+
 -- the ways on that are moves of the environment
 abbrev pub way_of : Move → Option Way
 way_of On = Some OnWay
@@ -156,9 +162,12 @@ granted b stage a later = record b { caps = applied b.caps a; phase = onward (su
 abbrev pub passed_by : Board → ℕ → List Primitive → Board
 passed_by b stage later = record b { phase = onward (suc stage) later }
 
+abbrev pub refused : Problem → Board → ℕ → Primitive → List Primitive → Board
+refused p b stage a later = record b { phase = cond (can_stop p.policy b.caps a) (Refused stage a later) (onward (suc stage) later) }
+
 abbrev pub answered : Problem → Board → ℕ → Primitive → List Primitive → Move → Option Board
 answered p b stage a later Grant = cond (may_grant b.caps a) (Some (granted b stage a later)) None
-answered p b stage a later Refuse = cond (may_refuse p.policy b.caps a) (Some (passed_by b stage later)) None
+answered p b stage a later Refuse = cond (may_refuse p.policy b.caps a) (Some (refused p b stage a later)) None
 answered p b stage a later _ = None
 
 -- The board after a move, where the phase gives it.
@@ -166,9 +175,20 @@ abbrev pub moved : Problem → Board → Phase → Move → Option Board
 moved p b (Visit stage a later) Skip = Some (passed_by b stage later)
 moved p b (Visit stage a later) Try = Some (record b { phase = Asked stage a later })
 moved p b (Asked stage a later) m = answered p b stage a later m
+moved p b (Refused stage a later) Skip = Some (passed_by b stage later)
+moved p b (Refused stage a later) Stop = Some (record b { phase = Over })
 moved p b Free m = stepped p None b (way_of m)
 moved p b FreeSplit m = stepped p (Some b.caps) b (way_of m)
 moved p b _ _ = None
+
+-- whether a move in this phase is a refusal that can be answered with a stop
+abbrev pub stop_answers : PlainPolicy → Caps → Phase → Move → Bool
+stop_answers policy caps (Asked stage a later) Refuse = can_stop policy caps a
+stop_answers policy caps _ _ = false
+
+abbrev pub is_refused : Phase → Bool
+is_refused (Refused stage a later) = true
+is_refused _ = false
 
 -- A board that violates has no move.
 abbrev pub Moves : Problem → Board → Move → Board → Type 0
@@ -181,6 +201,7 @@ pub data Party : Type 0 where
 abbrev pub turn_of : Phase → Option Party
 turn_of (Visit stage a later) = Some Weaver
 turn_of (Asked stage a later) = Some Environment
+turn_of (Refused stage a later) = Some Weaver
 turn_of Free = Some Environment
 turn_of FreeSplit = Some Environment
 turn_of Over = None

@@ -2,8 +2,3 @@ pub mod Boards
 pub mod Runs
 pub mod Plays
 pub mod Laws
-pub mod Kinds
-pub mod Turns
-pub mod Held
-pub mod Choices
-pub mod HeldBoards

@@ -2,10 +2,13 @@
 
 ghost use Rattle.cw_model.specs.Laws.{
   CapabilityModeStays,
+  GoingOnIsSkipping,
   OnePartyMoves,
   OverHasNoMove,
   RefusedIsSkipped,
   RightsNeverGrow,
+  StopsAfterRefusal,
+  WithoutStop,
 };
 
 /// A board has moves of the one party whose turn it is, or none.
@@ -20,10 +23,28 @@ pub fn over_has_no_move()
     ensures none { OverHasNoMove }
 {}
 
-/// A try that is refused leads where skipping leads.
+/// Where the policy has no stop, no board of a play is in Refused and none has a stop, and every definition says what it
+/// says without one.
+#[tactic(auto, using(crate::proofs::Moving::without_stop))]
+pub fn without_stop()
+    ensures same { WithoutStop }
+{}
+
+/// Where the policy has no stop, a try that is refused leads where skipping leads.
 #[tactic(auto, using(crate::proofs::Moving::refused_is_skipped))]
 pub fn refused_is_skipped()
     ensures skipped { RefusedIsSkipped }
+{}
+
+/// After a refusal at which the weaver can stop, going on leads where skipping leads.
+#[tactic(auto, using(crate::proofs::Moving::going_on_is_skipping))]
+pub fn going_on_is_skipping()
+    ensures skipped { GoingOnIsSkipping }
+{}
+
+/// Whatever the table, each stop of a woven run comes right after a refusal at a board where the grant was a move too.
+pub fn stops_after_refusal()
+    ensures refused { StopsAfterRefusal }
 {}
 
 /// Nothing leads out of capability mode but the return of a split call, after which the caller holds what it held:

@@ -1,19 +1,4 @@
-//! The model of a program under a policy: boards and their moves, woven runs, strategies.
+//! The model of a program under a policy: boards and their moves, woven runs, strategies. It has definitions and laws alone.
 #![tactic(auto)]
 
-mod boards;
-mod changes;
-mod choices;
-mod frames;
-mod items;
-mod kinds;
 pub mod laws;
-mod moves;
-mod seams;
-mod steps;
-#[cfg(test)]
-mod tests;
-mod turns;
-
-pub use boards::{Board, board_move, board_start};
-pub use moves::{Moves, board_moves};

@@ -3,7 +3,8 @@ use Rattle.std.proofs.Common.{◌≡◌, ℕ, suc, ◌+◌, List, [], ◌∷◌,
 use Rattle.std.specs.Prelude.{is_some}
 use Rattle.cw_syntax.specs.declared.program.Name.{Name}
 use Rattle.cw_syntax.specs.Names.{text, number_or_other}
-use Rattle.cw_syntax.specs.Trees.{Tree, Statement, Stated, Block, Declares, Declaration, Evaluates, Empties, Labels, Chooses, Whiles, Does, Fors, Breaks, Continues, Returns, Perhaps, nothing, just, Statements, nil, cons}
+use Rattle.cw_syntax.specs.Trees.{Tree, Statement, Stated, Block, Declares, Declaration, Evaluates, Empties, Labels, Chooses, Whiles, Does, Fors, Breaks, Continues, Returns, Perhaps, nothing}
+use Rattle.cw_syntax.specs.Trees.{just, Statements, nil, cons}
 use Rattle.cw_syntax.specs.Plans.{Scene, Computes, Opens, Closes, Invokes, Callee, action_of, place_if, steps_of, steps_of_all, seams, numbered, numbered_all}
 use Rattle.cw_points.specs.declared.graph.Point.TheVariants as point
 use Rattle.cw_points.specs.declared.graph.Node.{Node}
@@ -17,7 +18,8 @@ use Rattle.cw_points.proofs.Drawn.{same_drawn, twice}
 use Rattle.cw_points.proofs.Lengths.{size_is, size_all_is, nodes_length, seams_length, step_length}
 
 -- the same, whatever stands before it
-same_more : (p p' : ℕ → ℕ → List Node) (q q' : ℕ → ℕ → List Seam) (d : Drawn) → p (length d.nodes) (length d.seams) ≡ p' (length d.nodes) (length d.seams) → q (length d.nodes) (length d.seams) ≡ q' (length d.nodes) (length d.seams) → more p q d ≡ more p' q' d
+same_more : (p p' : ℕ → ℕ → List Node) (q q' : ℕ → ℕ → List Seam) (d : Drawn) → p (length d.nodes) (length d.seams) ≡ p' (length d.nodes) (length d.seams)
+    → q (length d.nodes) (length d.seams) ≡ q' (length d.nodes) (length d.seams) → more p q d ≡ more p' q' d
 same_more p p' q q' d e f = same_drawn (ap (λ l. d.nodes ++ l) e) (ap (λ l. d.seams ++ l) f)
 
 module _ (c : Scene) (f : ℕ) where
@@ -64,7 +66,8 @@ module _ (c : Scene) (f : ℕ) where
   unfolding with_seam laid
   laid_closes e a b w d i h = rw h refl
 
-  pub laid_invokes : (e : Tree) (a b : ℕ) (w : Ways) (d : Drawn) (callee : Callee) → action_of c e ≡ Invokes callee → with_seam (point.Call callee.number) f w.next a callee.result d ≡ laid c f (Stated (Evaluates e) a b) w d
+  pub laid_invokes : (e : Tree) (a b : ℕ) (w : Ways) (d : Drawn) (callee : Callee) → action_of c e ≡ Invokes callee
+      → with_seam (point.Call callee.number) f w.next a callee.result d ≡ laid c f (Stated (Evaluates e) a b) w d
   unfolding with_seam laid
   laid_invokes e a b w d callee h = rw h refl
 
@@ -112,10 +115,13 @@ module _ (c : Scene) (f : ℕ) where
       let z : j + 0 ≡ j = omega arith in
       ap (laid c f t w) (twice (λ n j. head ∷ []) (λ n j. []) (nodes_at s w) (seams_at s) 1 0 d refl refl
       ∙ same_drawn (ap (λ y. d.nodes ++ (head ∷ nodes_at s w (n + 1) y)) z) (ap (λ y. d.seams ++ seams_at s (n + 1) y) z))
-      ∙ twice (λ n' j'. head ∷ nodes_at s w (n + 1) j) (λ n' j'. seams_at s (n + 1) j) (nodes_at t w) (seams_at t) (suc (size s)) (seams (steps_of c s)) d (ap suc (sized s w (n + 1) j)) (seams_length (steps_of c s) j (n + 1))
+      ∙ twice (λ n' j'. head ∷ nodes_at s w (n + 1) j) (λ n' j'. seams_at s (n + 1) j) (nodes_at t w) (seams_at t) (suc (size s)) (seams (steps_of c s)) d (ap suc (sized s w (n + 1) j))
+      (seams_length (steps_of c s) j (n + 1))
       ∙ same_drawn
       (ap₂ (λ y z. d.nodes ++ (branch f (first y (n + 1) k) (first z (n + 1 + y) k) ∷ (nodes_at s w (n + 1) j ++ nodes_at t w (n + suc (size s)) (j + seams (steps_of c s))))) (sym e) (sym e')
-      ∙ ap (λ m. d.nodes ++ (branch f (first (count (numbered (steps_of c s) j)) (n + 1) k) (first (count (numbered (steps_of c t) (j + seams (steps_of c s)))) (n + 1 + count (numbered (steps_of c s) j)) k) ∷ (nodes_at s w (n + 1) j ++ nodes_at t w m (j + seams (steps_of c s))))) (place n (size s) (count (numbered (steps_of c s) j)) e))
+      ∙ ap (λ m. d.nodes ++ (branch f (first (count (numbered (steps_of c s) j)) (n + 1) k)
+      (first (count (numbered (steps_of c t) (j + seams (steps_of c s)))) (n + 1 + count (numbered (steps_of c s) j)) k) ∷
+      (nodes_at s w (n + 1) j ++ nodes_at t w m (j + seams (steps_of c s))))) (place n (size s) (count (numbered (steps_of c s) j)) e))
       (ap (λ m. d.seams ++ (seams_at s (n + 1) j ++ seams_at t m (j + seams (steps_of c s)))) (place n (size s) (count (numbered (steps_of c s) j)) e))
     where
       place : (n a b : ℕ) → b ≡ a → n + suc a ≡ n + 1 + b
@@ -159,7 +165,8 @@ module _ (c : Scene) (f : ℕ) where
   unfolding with_nodes
   headed ms ns d = twice (λ n j. ms) (λ n j. []) (λ n j. ns) (λ n j. []) (length ms) 0 d refl refl
 
-  behind_head : (ms : List Node) (m : ℕ) (s : Statement) (w : Ways) (d : Drawn) → length ms ≡ m → laid c f s w (with_nodes ms d) ≡ more (λ n j. ms ++ nodes_at s w (n + m) j) (λ n j. seams_at s (n + m) j) d
+  behind_head : (ms : List Node) (m : ℕ) (s : Statement) (w : Ways) (d : Drawn) → length ms ≡ m
+      → laid c f s w (with_nodes ms d) ≡ more (λ n j. ms ++ nodes_at s w (n + m) j) (λ n j. seams_at s (n + m) j) d
   unfolding with_nodes laid
   behind_head ms m s w d e =
       let n = length d.nodes in
@@ -211,9 +218,11 @@ module _ (c : Scene) (f : ℕ) where
       let j = length d.seams in
       let i = seams (steps_of c s) in
       let v = before w (first (size_all ss) (n + size s) w.next) in
-      twice (nodes_at s v) (seams_at s) (λ n j. nodes_in_all f (numbered_all (steps_of_all c ss) j) n w.next w.exit w.broken w.continued) (λ n j. seams_in_all (numbered_all (steps_of_all c ss) j) n) (size s) i d (sized s v n j) (seams_length (steps_of c s) j n)
+      twice (nodes_at s v) (seams_at s) (λ n j. nodes_in_all f (numbered_all (steps_of_all c ss) j) n w.next w.exit w.broken w.continued)
+      (λ n j. seams_in_all (numbered_all (steps_of_all c ss) j) n) (size s) i d (sized s v n j) (seams_length (steps_of c s) j n)
       ∙ same_drawn
-      (ap₂ (λ x y. d.nodes ++ (nodes_at s (before w (first y (n + x) w.next)) n j ++ nodes_in_all f (numbered_all (steps_of_all c ss) (j + i)) (n + x) w.next w.exit w.broken w.continued)) (sym (size_is c s j)) (sym (size_all_is c ss (j + i))))
+      (ap₂ (λ x y. d.nodes ++ (nodes_at s (before w (first y (n + x) w.next)) n j ++ nodes_in_all f (numbered_all (steps_of_all c ss) (j + i)) (n + x) w.next w.exit w.broken w.continued))
+      (sym (size_is c s j)) (sym (size_all_is c ss (j + i))))
       (ap (λ x. d.seams ++ (seams_at s n j ++ seams_in_all (numbered_all (steps_of_all c ss) (j + i)) (n + x))) (sym (size_is c s j)))
 
   pub laid_no_more : (w : Ways) (d : Drawn) → laid_all c f nil w d ≡ d

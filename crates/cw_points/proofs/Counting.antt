@@ -1,15 +1,18 @@
 -- Counting points up to a cap.
-use Rattle.std.proofs.Common.{◌≡◌, ◌+◌, ◌<◌, ◌≤◌, ℕ, List, ◌∷◌, Option, None, Some, Vec, Box, Global, length, drop, get_or, refl, sym, ap, ap₂, ◌∙◌, arith, drop-cons, add-one}
+use Rattle.std.proofs.Common.{◌≡◌, ◌+◌, ◌<◌, ◌≤◌, ℕ, List, [], ◌∷◌, map, Option, None, Some, Vec, Box, Global, length, drop, get_or, refl, sym, ap, ap₂, ◌∙◌, arith, drop-cons, add-one}
 use Rattle.std.specs.Prelude.{is_some}
+use Rattle.std.proofs.lemmas.List.{length-map}
+use Rattle.cw_syntax.specs.declared.program.Function.{Function}
 use Rattle.cw_syntax.specs.declared.program.Head.{Head, out-Head}
 use Rattle.cw_syntax.specs.declared.program.Stmt.{Stmt}
 use Rattle.cw_syntax.specs.declared.program.What.TheVariants.{Block, For}
 use Rattle.cw_syntax.specs.Plans.{Scene, routines_from}
-use Rattle.cw_syntax.specs.Trees.{Definition, cons, form_of, statement_of, statements_of}
+use Rattle.cw_syntax.specs.Trees.{Definition, cons, definition_of, form_of, statement_of, statements_of}
 use Rattle.cw_points.specs.Points.{one_if, one_if_some, count_from}
 use Rattle.cw_points.specs.Sizes.{size, size_of, size_all, size_from, capped}
 use Rattle.cw_points.proofs.Lengths.{size_from_is}
-use Rattle.cw_points.proofs.Shapes.{block_form, for_form, IsFor}
+use Rattle.cw_syntax.proofs.Shapes.{block_form}
+use Rattle.cw_points.proofs.Shapes.{for_form, IsFor}
 
 pub capped_add : (a b : ℕ) → capped (capped a + capped b) ≡ capped (a + b)
 capped_add a b = omega arith
@@ -43,3 +46,10 @@ few_points c fs n e h = omega (arith, e, h, size_from_is c fs 0)
 
 pub many_points : (c : Scene) (fs : List Definition) (n : ℕ) → n ≡ capped (size_from fs) → 8192 < n → 8192 < count_from (routines_from c 0 fs)
 many_points c fs n e h = omega (arith, e, h, size_from_is c fs 0)
+
+functions_counted : (fs : List Definition) → length fs ≤ size_from fs
+functions_counted [] = omega arith
+functions_counted (f ∷ fs) = omega (arith, functions_counted fs)
+
+pub few_functions : (fs : List Function) (n : ℕ) → n ≡ capped (size_from (map definition_of fs)) → n ≤ 8192 → length fs ≤ 65535
+few_functions fs n e h = omega (arith, e, h, functions_counted (map definition_of fs), length-map fs definition_of)

@@ -14,7 +14,8 @@ behind : {A : Type 0} (a b : List A) (F : ℕ → List A) (m : ℕ) → length b
 behind a b F m e = append_assoc a b (F (length (a ++ b))) ∙ ap (λ n. a ++ (b ++ F n)) (length-append a b ∙ ap (λ n. length a + n) e)
 
 -- two after each other
-pub twice : (p : ℕ → ℕ → List Node) (q : ℕ → ℕ → List Seam) (p' : ℕ → ℕ → List Node) (q' : ℕ → ℕ → List Seam) (a b : ℕ) (d : Drawn) → length (p (length d.nodes) (length d.seams)) ≡ a → length (q (length d.nodes) (length d.seams)) ≡ b → more p' q' (more p q d) ≡ more (λ n j. p n j ++ p' (n + a) (j + b)) (λ n j. q n j ++ q' (n + a) (j + b)) d
+pub twice : (p : ℕ → ℕ → List Node) (q : ℕ → ℕ → List Seam) (p' : ℕ → ℕ → List Node) (q' : ℕ → ℕ → List Seam) (a b : ℕ) (d : Drawn) → length (p (length d.nodes) (length d.seams)) ≡ a
+    → length (q (length d.nodes) (length d.seams)) ≡ b → more p' q' (more p q d) ≡ more (λ n j. p n j ++ p' (n + a) (j + b)) (λ n j. q n j ++ q' (n + a) (j + b)) d
 twice p q p' q' a b d e f =
     let n = length d.nodes in
     let j = length d.seams in
@@ -34,7 +35,8 @@ pub nothing_more : (d : Drawn) → d ≡ with_nodes [] d
 unfolding with_nodes
 nothing_more d = same_drawn (sym (append-nil d.nodes)) (sym (append-nil d.seams))
 
-pub seam_more : (what : Point) (f next place : ℕ) (taken : Option Name) (at j : ℕ) (ns ns' : List Node) (ss ss' : List Seam) → at ≡ length ns → j ≡ length ss → ns' ≡ ns ++ node what f (Some next) (Some j) ∷ [] → ss' ≡ ss ++ seam at place taken ∷ [] →
+pub seam_more : (what : Point) (f next place : ℕ) (taken : Option Name) (at j : ℕ) (ns ns' : List Node) (ss ss' : List Seam) → at ≡ length ns → j ≡ length ss
+    → ns' ≡ ns ++ node what f (Some next) (Some j) ∷ [] → ss' ≡ ss ++ seam at place taken ∷ [] →
     let a : Drawn = record { nodes = ns'; seams = ss' } in let b : Drawn = record { nodes = ns; seams = ss } in a ≡ with_seam what f next place taken b
 unfolding with_seam
 seam_more what f next place taken at j ns ns' ss ss' n l e g =

@@ -1,5 +1,6 @@
 -- What a function adds to a graph.
-use Rattle.std.proofs.Common.{◌≡◌, ◌<◌, ℕ, suc, ◌+◌, List, [], ◌∷◌, ◌++◌, None, Some, length, map, drop, get_or, refl, sym, ap, ap₂, ◌∙◌, arith, length-append, append-nil, append_assoc, drop-cons, add-one}
+use Rattle.std.proofs.Common.{◌≡◌, ◌<◌, ℕ, suc, ◌+◌, List, [], ◌∷◌, ◌++◌, None, Some, length, map, drop, get_or, refl, sym, ap, ap₂, ◌∙◌, arith, length-append, append-nil, append_assoc}
+use Rattle.std.proofs.Common.{drop-cons, add-one}
 use Rattle.cw_syntax.specs.declared.program.Function.{Function}
 use Rattle.cw_syntax.specs.Trees.{Definition, definition_of}
 use Rattle.cw_syntax.specs.Plans.{Scene, steps_of_all, seams_all, numbered_all, routines_from}
@@ -27,7 +28,8 @@ module _ (c : Scene) (f : ℕ) (def : Definition) where
   body_length : (x n j : ℕ) → length (body_nodes x n j) ≡ size_all def.body
   body_length x n j = nodes_length_all f (numbered_all (steps_of_all c def.body) j) n x x None None ∙ size_all_is c def.body j
 
-  pub laid_function : (d : Drawn) (at size exit start : ℕ) (w : Ways) (begun done new : Drawn) → at ≡ length d.nodes → size ≡ size_all def.body → exit ≡ at + 1 + size → start ≡ first size (at + 1) exit → w ≡ function_ways exit →
+  pub laid_function : (d : Drawn) (at size exit start : ℕ) (w : Ways) (begun done new : Drawn) → at ≡ length d.nodes → size ≡ size_all def.body → exit ≡ at + 1 + size
+      → start ≡ first size (at + 1) exit → w ≡ function_ways exit →
       begun ≡ with_seam point.Entry f start def.brace None d → done ≡ laid_all c f def.body w begun → new ≡ with_node (node point.Exit f None None) done → new ≡ laid_one c f def d
   unfolding with_nodes with_seam laid_all laid_one
   laid_function d at size exit start w begun done new ea es ex et ew eb ed en =
@@ -42,8 +44,10 @@ module _ (c : Scene) (f : ℕ) (def : Definition) where
       let entry = node point.Entry f (Some (first (size_all def.body) (n + 1) x)) (Some j) in
       en
       ∙ ap (with_node (node point.Exit f None None)) (ed ∙ ap₂ (laid_all c f def.body) (ew ∙ ap function_ways ee) (eb ∙ ap (λ s. with_seam point.Entry f s def.brace None d) ss))
-      ∙ ap (with_node (node point.Exit f None None)) (twice (λ n' j. node point.Entry f (Some (first (size_all def.body) (n + 1) x)) (Some j) ∷ []) (λ n j. seam n def.brace None ∷ []) (λ n j. body_nodes x n j) body_seams 1 1 d refl refl)
-      ∙ twice (λ n' j'. entry ∷ body_nodes x (n + 1) (j + 1)) (λ n' j'. seam n def.brace None ∷ body_seams (n + 1) (j + 1)) (λ n j. node point.Exit f None None ∷ []) (λ n j. []) (suc (size_all def.body)) (suc (seams_all (steps_of_all c def.body))) d
+      ∙ ap (with_node (node point.Exit f None None)) (twice (λ n' j. node point.Entry f (Some (first (size_all def.body) (n + 1) x)) (Some j) ∷ []) (λ n j. seam n def.brace None ∷ [])
+      (λ n j. body_nodes x n j) body_seams 1 1 d refl refl)
+      ∙ twice (λ n' j'. entry ∷ body_nodes x (n + 1) (j + 1)) (λ n' j'. seam n def.brace None ∷ body_seams (n + 1) (j + 1)) (λ n j. node point.Exit f None None ∷ []) (λ n j. [])
+      (suc (size_all def.body)) (suc (seams_all (steps_of_all c def.body))) d
       (ap suc (body_length x (n + 1) (j + 1))) (ap suc (seams_length_all (steps_of_all c def.body) (j + 1) (n + 1)))
       ∙ same_drawn
       (ap₂ (λ s x. d.nodes ++ (node point.Entry f (Some (first s (n + 1) x)) (Some j) ∷ (body_nodes x (n + 1) (j + 1) ++ node point.Exit f None None ∷ []))) (sym z) xx)
@@ -70,12 +74,14 @@ module _ (c : Scene) (f : ℕ) (def : Definition) where
       let j = length d.seams in
       let own = nodes_of f (routine_of c j def) n in
       let seams = seam n def.brace None ∷ body_seams (n + 1) (j + 1) in
-      twice (λ n j. nodes_of f (routine_of c j def) n) (λ n j. seam n def.brace None ∷ body_seams (n + 1) (j + 1)) (λ n j. nodes_from (f + 1) (routines_from c j fs) n) (λ n j. seams_from (routines_from c j fs) n) (suc (suc (size_all def.body))) (suc (seams_all (steps_of_all c def.body))) d (one_nodes n j) (one_seams n j)
+      twice (λ n j. nodes_of f (routine_of c j def) n) (λ n j. seam n def.brace None ∷ body_seams (n + 1) (j + 1)) (λ n j. nodes_from (f + 1) (routines_from c j fs) n)
+      (λ n j. seams_from (routines_from c j fs) n) (suc (suc (size_all def.body))) (suc (seams_all (steps_of_all c def.body))) d (one_nodes n j) (one_seams n j)
       ∙ same_drawn
       (ap₂ (λ m i. d.nodes ++ (own ++ nodes_from (f + 1) (routines_from c i fs) m)) (next_point n j) (next_seam j))
       (ap₂ (λ m i. d.seams ++ (seams ++ seams_from (routines_from c i fs) m)) (next_point n j) (next_seam j))
 
-  pub one_part : (fs : List Definition) (d : Drawn) (ps : List Part) → parted c fs (laid_one c f def d) (ps ++ part (length d.nodes) (length d.nodes + 1 + size_all def.body) (split_of c def) ∷ []) ≡ parted c (def ∷ fs) d ps
+  pub one_part : (fs : List Definition) (d : Drawn) (ps : List Part) → parted c fs (laid_one c f def d)
+      (ps ++ part (length d.nodes) (length d.nodes + 1 + size_all def.body) (split_of c def) ∷ []) ≡ parted c (def ∷ fs) d ps
   unfolding laid_one parted
   one_part fs d ps =
       let n = length d.nodes in

@@ -1,12 +1,13 @@
--- Lists that stand within others at a place, and how many points a statement has.
-use Rattle.std.proofs.Common.{◌≡◌, ℕ, zero, suc, ◌+◌, ◌<◌, List, [], ◌∷◌, ◌++◌, length, Bool, true, false, Option, Some, None, refl, sym, ap, ap₂, ◌∙◌, subst, append_assoc, length-append, arith, zero-add, add-zero}
+-- Lists that stand within others at a place, and how many items a statement has.
+use Rattle.std.proofs.Common.{◌≡◌, ℕ, zero, suc, ◌+◌, ◌<◌, List, [], ◌∷◌, ◌++◌, length, Bool, true, false, Option, Some, None, refl, sym, ap, ap₂, ◌∙◌, subst, append_assoc, length-append}
+use Rattle.std.proofs.Common.{arith, zero-add, add-zero}
 use Rattle.std.specs.Prelude.{slice_get}
 use Rattle.std.proofs.Math.Seq.{get_or-append_seam}
 use Rattle.std.proofs.lemmas.Option.{slice_get-get_or}
 use Rattle.cw_syntax.specs.Plans.{Stm, Plain, Break, Continue, Return, Open, Close, Call, Group, Label, If, While, Do, For, Stms, end, then}
 use Rattle.cw_syntax.specs.Frames.{Item, Test, init_if, after_if}
 use Rattle.cw_points.specs.Points.{points_in, points_in_all, one_if, one_if_some, count, count_all}
-use Rattle.cw_points.specs.Graphs.{branch, first, init_nodes, step_nodes, turns, test_of, turn_of, nodes_in, nodes_in_all}
+use Rattle.cw_points.specs.Graphs.{first}
 
 -- these stand at this place
 abbrev pub HasAt : {A : Type 0} → List A → ℕ → List A → Type 0
@@ -55,45 +56,6 @@ length_two a b m n e h = length-append a b ∙ ap₂ (λ u v. u + v) e h
 
 one_up : (n : ℕ) → n + 1 ≡ suc n
 one_up n = omega arith
-
-length_init : (f : ℕ) (init : Option ℕ) (t : ℕ) → length (init_nodes f init t) ≡ one_if_some init
-length_init f None t = refl
-length_init f (Some at) t = refl
-
-length_step : (f : ℕ) (stepped : Bool) (t : ℕ) → length (step_nodes f stepped t) ≡ one_if stepped
-length_step f true t = refl
-length_step f false t = refl
-
-mutual
-  pub nodes_length : (f : ℕ) (s : Stm) (n k x : ℕ) (b c : Option ℕ) → length (nodes_in f s n k x b c) ≡ count s
-  nodes_length f (Group ss) n k x b c = nodes_length_all f ss n k x b c
-  nodes_length f (Label at mark j l s) n k x b c = ap suc (nodes_length f s (n + 1) k x b c)
-  nodes_length f (If at s t) n k x b c =
-      ap suc (length_two (nodes_in f s (n + 1) k x b c) (nodes_in f t (n + 1 + count s) k x b c) (count s) (count t) (nodes_length f s (n + 1) k x b c) (nodes_length f t (n + 1 + count s) k x b c))
-  nodes_length f (While at s) n k x b c = ap suc (nodes_length f s (n + 1) n x (Some k) (Some n))
-  nodes_length f (Do at s) n k x b c =
-      let t = n + count s in
-      let e = length_two (nodes_in f s n t x (Some k) (Some t)) (branch f n k ∷ []) (count s) 1 (nodes_length f s n t x (Some k) (Some t)) refl in
-      e ∙ one_up (count s)
-  nodes_length f (For at init decided stepped s) n k x b c =
-      let t = test_of n init in
-      let u = turn_of n init stepped in
-      let body = nodes_in f s (u + 1) u x (Some k) (Some u) in
-      length_two (init_nodes f init t) (turns f decided stepped (first (count s) (u + 1) u) k t body) (one_if_some init) (suc (one_if stepped + count s)) (length_init f init t)
-      (ap suc (length_two (step_nodes f stepped t) body (one_if stepped) (count s) (length_step f stepped t) (nodes_length f s (u + 1) u x (Some k) (Some u))))
-  nodes_length f (Plain at) n k x b c = refl
-  nodes_length f (Break at) n k x b c = refl
-  nodes_length f (Continue at) n k x b c = refl
-  nodes_length f (Return at) n k x b c = refl
-  nodes_length f (Open at j d) n k x b c = refl
-  nodes_length f (Close at j d) n k x b c = refl
-  nodes_length f (Call at j callee) n k x b c = refl
-
-  pub nodes_length_all : (f : ℕ) (ss : Stms) (n k x : ℕ) (b c : Option ℕ) → length (nodes_in_all f ss n k x b c) ≡ count_all ss
-  nodes_length_all f end n k x b c = refl
-  nodes_length_all f (then s ss) n k x b c =
-      let m = first (count_all ss) (n + count s) k in
-      length_two (nodes_in f s n m x b c) (nodes_in_all f ss (n + count s) k x b c) (count s) (count_all ss) (nodes_length f s n m x b c) (nodes_length_all f ss (n + count s) k x b c)
 
 length_init_if : (init : Option ℕ) (is : List Item) (n : ℕ) → length is ≡ n → length (init_if init is) ≡ one_if_some init + n
 length_init_if None is n e = e ∙ sym (zero-add n)

@@ -4,7 +4,8 @@ use Rattle.std.specs.Prelude.{slice_get}
 use Rattle.std.proofs.lemmas.List.{length-map}
 use Rattle.cw_syntax.specs.Names.{Names}
 use Rattle.cw_syntax.specs.Trees.{Definition, File}
-use Rattle.cw_syntax.specs.Plans.{Scene, Stm, Plain, Break, Continue, Return, Open, Close, Call, Group, Label, If, While, Do, For, Stms, end, then, Routine, Plan, scene_of, plan_of, steps_of_all, seams_all, routines_from}
+use Rattle.cw_syntax.specs.Plans.{Scene, Stm, Plain, Break, Continue, Return, Open, Close, Call, Group, Label, If, While, Do, For, Stms, end, then, Routine, Plan, scene_of, plan_of}
+use Rattle.cw_syntax.specs.Plans.{steps_of_all, seams_all, routines_from}
 use Rattle.cw_syntax.specs.Frames.{Item, Entry, Test, End, init_if, after_if}
 use Rattle.cw_points.specs.declared.graph.Point.TheVariants as point
 use Rattle.cw_points.specs.declared.graph.Node.{Node}
@@ -12,7 +13,8 @@ use Rattle.cw_points.specs.Points.{points_in, points_in_all, points_of, points_f
 use Rattle.cw_points.specs.Graphs.{node, branch, first, init_nodes, step_nodes, turns, test_of, turn_of, nodes_in, nodes_in_all, exit_of, nodes_of, nodes_from, nodes, parts_from, splits_of}
 use Rattle.cw_points.specs.Walks.{parts_of}
 use Rattle.cw_points.proofs.Placed.{StepAt, InitAt, Placed, PlacedAll, IsPlaced, IsPart}
-use Rattle.cw_points.proofs.Held.{HasAt, has_front, has_all, has_behind, first_own, first_two, first_last, nodes_length, nodes_length_all, points_length, points_length_all}
+use Rattle.cw_points.proofs.Held.{HasAt, has_front, has_all, has_behind, first_own, first_two, first_last, points_length, points_length_all}
+use Rattle.cw_points.proofs.Lengths.{nodes_length, nodes_length_all}
 
 module _ (ns : List Node) (its : List Item) (f : ℕ) where
   -- the parts of a `for`
@@ -28,7 +30,8 @@ module _ (ns : List Node) (its : List Item) (f : ℕ) where
   past_init_item None n is i = subst (λ z. HasAt its z is) (sym (add-zero n)) i
   past_init_item (Some place) n is i = i.1
 
-  step_at : (stepped : Bool) (at t : ℕ) (l : List Node) (is : List Item) → HasAt ns (t + 1) (step_nodes f stepped t ++ l) → HasAt its (t + 1) (after_if stepped at is) → StepAt ns its f at stepped (t + one_if stepped) t
+  step_at : (stepped : Bool) (at t : ℕ) (l : List Node) (is : List Item) → HasAt ns (t + 1) (step_nodes f stepped t ++ l) → HasAt its (t + 1) (after_if stepped at is)
+      → StepAt ns its f at stepped (t + one_if stepped) t
   step_at true at t l is h i = (h.0, i.0)
   step_at false at t l is h i = add-zero t
 
@@ -124,7 +127,8 @@ one_more a b l c n e = omega (arith, e, length-append l (b ∷ []))
 
 module _ (ns : List Node) (its : List Item) where
   -- the functions from one on, each with its part
-  pub placed_from : (rs : List Routine) (splits : List Bool) (f n i : ℕ) → length rs ≡ length splits → HasAt ns n (nodes_from f rs n) → HasAt its n (points_from f rs) → IsPart ns its (f + i) (slice_get rs i) (slice_get (parts_from rs splits n) i)
+  pub placed_from : (rs : List Routine) (splits : List Bool) (f n i : ℕ) → length rs ≡ length splits → HasAt ns n (nodes_from f rs n) → HasAt its n (points_from f rs)
+      → IsPart ns its (f + i) (slice_get rs i) (slice_get (parts_from rs splits n) i)
   placed_from [] splits f n i e h g = tt
   placed_from (r ∷ rs) [] f n i e h g = absurd (omega (arith, e))
   placed_from (r ∷ rs) (split ∷ splits) f n zero e h g =
@@ -136,14 +140,16 @@ module _ (ns : List Node) (its : List Item) where
       let d : length rs ≡ length splits = omega (arith, e) in
       let hr = has_behind ns n (length (nodes_of f r n)) (nodes_of f r n) (nodes_from (f + 1) rs (x + 1)) refl h in
       let ir = has_behind its n (length (points_of f r)) (points_of f r) (points_from (f + 1) rs) refl g in
-      let eh = one_more (node point.Entry f (Some (first (count_all r.body) (n + 1) x)) (Some r.seam)) (node point.Exit f None None) (nodes_in_all f r.body (n + 1) x x None None) (count_all r.body) n (nodes_length_all f r.body (n + 1) x x None None) in
+      let eh = one_more (node point.Entry f (Some (first (count_all r.body) (n + 1) x)) (Some r.seam)) (node point.Exit f None None) (nodes_in_all f r.body (n + 1) x x None None)
+      (count_all r.body) n (nodes_length_all f r.body (n + 1) x x None None) in
       let ei = one_more (Entry f r.seam) (End f) (points_in_all r.body) (count_all r.body) n (points_length_all r.body) in
       let hs = subst (λ p. HasAt ns p (nodes_from (f + 1) rs (x + 1))) eh hr in
       let is = subst (λ p. HasAt its p (points_from (f + 1) rs)) ei ir in
       subst (λ w. IsPart ns its w (slice_get rs i) (slice_get (parts_from rs splits (x + 1)) i)) z (placed_from rs splits (f + 1) (x + 1) i d hs is)
 
 -- each function of a plan stands among its points, and none else has a part
-pub placed_plan : (plan : Plan) (splits : List Bool) → length plan.routines ≡ length splits → (f : ℕ) → IsPart (nodes plan) (points plan) f (slice_get plan.routines f) (slice_get (parts_from plan.routines splits 0) f)
+pub placed_plan : (plan : Plan) (splits : List Bool) → length plan.routines ≡ length splits → (f : ℕ)
+    → IsPart (nodes plan) (points plan) f (slice_get plan.routines f) (slice_get (parts_from plan.routines splits 0) f)
 placed_plan plan splits e f =
     subst (λ z. IsPart (nodes plan) (points plan) z (slice_get plan.routines f) (slice_get (parts_from plan.routines splits 0) f)) (zero-add f)
     (placed_from (nodes plan) (points plan) plan.routines splits 0 0 f e (has_all (nodes plan) []) (has_all (points plan) []))
@@ -156,5 +162,6 @@ pub splits_length : (names : Names) (source : List ℕ) (file : File) → length
 splits_length names source file = routines_length (scene_of names source file) 0 file.functions ∙ sym (length-map file.functions _)
 
 -- each function of a program stands where its part says, and none else has a part
-pub placed_program : (names : Names) (source : List ℕ) (file : File) (f : ℕ) → IsPart (nodes (plan_of names source file)) (points (plan_of names source file)) f (slice_get (plan_of names source file).routines f) (slice_get (parts_of names source file) f)
+pub placed_program : (names : Names) (source : List ℕ) (file : File) (f : ℕ) → IsPart (nodes (plan_of names source file)) (points (plan_of names source file)) f
+    (slice_get (plan_of names source file).routines f) (slice_get (parts_of names source file) f)
 placed_program names source file f = placed_plan (plan_of names source file) (splits_of names source file) (splits_length names source file) f

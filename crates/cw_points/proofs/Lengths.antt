@@ -1,8 +1,10 @@
 -- How many points and seams a statement has.
 use Rattle.std.proofs.Common.{◌≡◌, ℕ, suc, ◌+◌, List, [], ◌∷◌, Bool, true, false, Option, None, Some, length, refl, ap, ap₂, ◌∙◌, arith, length-append}
 use Rattle.std.specs.Prelude.{is_some}
-use Rattle.cw_syntax.specs.Trees.{Statement, Stated, Form, Block, Declares, Evaluates, Empties, Labels, Chooses, Whiles, Does, Fors, Breaks, Continues, Returns, Perhaps, nothing, just, Statements, nil, cons, Definition}
-use Rattle.cw_syntax.specs.Plans.{Stm, Plain, Break, Continue, Return, Open, Close, Call, Group, Label, If, While, Do, For, Stms, end, then, Scene, Action, Computes, Opens, Closes, Invokes, acting, action_of, steps_of, steps_of_form, steps_of_arm, steps_of_all, seams, seams_all, numbered, numbered_all, routines_from, place_if}
+use Rattle.cw_syntax.specs.Trees.{Statement, Stated, Form, Block, Declares, Evaluates, Empties, Labels, Chooses, Whiles, Does, Fors, Breaks, Continues, Returns, Perhaps, nothing, just}
+use Rattle.cw_syntax.specs.Trees.{Statements, nil, cons, Definition}
+use Rattle.cw_syntax.specs.Plans.{Stm, Plain, Break, Continue, Return, Open, Close, Call, Group, Label, If, While, Do, For, Stms, end, then, Scene, Action, Computes, Opens, Closes, Invokes}
+use Rattle.cw_syntax.specs.Plans.{acting, action_of, steps_of, steps_of_form, steps_of_arm, steps_of_all, seams, seams_all, numbered, numbered_all, routines_from, place_if}
 use Rattle.cw_points.specs.Points.{one_if, one_if_some, count, count_all, count_from}
 use Rattle.cw_points.specs.Graphs.{branch, first, init_nodes, step_nodes, turns, test_of, turn_of, nodes_in, nodes_in_all, seams_in, seams_in_all}
 use Rattle.cw_points.specs.Sizes.{size, size_of, size_arm, size_all, size_from}
@@ -103,7 +105,15 @@ mutual
       let body = nodes_in f s (u + 1) u x (Some k) (Some u) in
       let i = init_nodes f init t in
       let st = step_nodes f stepped t in
-      omega (arith, length-append i (turns f decided stepped (first (count s) (u + 1) u) k t body), init_length f init t, length-append st body, step_length f stepped t, nodes_length f s (u + 1) u x (Some k) (Some u))
+      omega (
+        arith,
+        length-append i (turns f decided stepped (first (count s) (u + 1) u) k t body),
+        init_length f init t,
+        length-append st body,
+        step_length f stepped t,
+        nodes_length f s
+            (u + 1) u x (Some k) (Some u),
+      )
 
   pub nodes_length_all : (f : ℕ) (ss : Stms) (n k x : ℕ) (b c : Option ℕ) → length (nodes_in_all f ss n k x b c) ≡ count_all ss
   nodes_length_all f end n k x b c = refl

@@ -8,7 +8,7 @@ pub mod Walking
 mod Shapes
 mod Counting
 mod Drawn
-mod Lengths
+pub mod Lengths
 mod Adding
 mod Told
 mod Functions

@@ -1,11 +1,10 @@
 -- The marks that a graph's seams give are those of its plan.
-use Rattle.std.proofs.Common.{◌≡◌, ℕ, ◌+◌, ◌<◌, ◌≤◌, List, [], ◌∷◌, ◌++◌, length, map, Option, Some, None, refl, sym, ap, ap₂, ◌∙◌, subst, append_assoc, append-nil, length-append, drop, get_or, drop-cons, add-one, arith}
+use Rattle.std.proofs.Common.{◌≡◌, ℕ, ◌+◌, ◌<◌, ◌≤◌, List, [], ◌∷◌, ◌++◌, length, map, Option, Some, None, refl, sym, ap, ap₂, ◌∙◌, subst, append_assoc, append-nil, length-append, drop}
+use Rattle.std.proofs.Common.{get_or, drop-cons, add-one, arith}
 use Rattle.std.specs.Prelude.{slice_get, option_and_then, option_map}
 use Rattle.std.proofs.lemmas.List.{drop_all}
 use Rattle.cw_syntax.specs.declared.marks.SeamMark.{SeamMark as MarkData}
 use Rattle.std.specs.List.{filter_map, cons_option}
-use Rattle.std.proofs.Math.Seq.{get_or-append_seam}
-use Rattle.std.proofs.lemmas.Option.{slice_get-get_or}
 use Rattle.cw_syntax.specs.Names.{Names}
 use Rattle.cw_syntax.specs.Trees.{File}
 use Rattle.cw_syntax.specs.Plans.{Stm, Plain, Break, Continue, Return, Open, Close, Call, Group, Label, If, While, Do, For, Stms, end, then, Routine, plan_of}
@@ -15,34 +14,11 @@ use Rattle.cw_points.specs.declared.graph.Node.{Node}
 use Rattle.cw_points.specs.declared.graph.Seam.{Seam}
 use Rattle.cw_points.specs.declared.graph.Graph.{Graph}
 use Rattle.cw_points.specs.Points.{one_if, one_if_some, count, count_all}
-use Rattle.cw_points.specs.Graphs.{node, branch, first, init_nodes, step_nodes, turns, test_of, turn_of, nodes_in, nodes_in_all, exit_of, nodes_of, nodes_from, nodes, seam, seams_in, seams_in_all, seams_from, IsGraph}
+use Rattle.cw_points.specs.Graphs.{node, branch, first, init_nodes, step_nodes, turns, test_of, turn_of, nodes_in, nodes_in_all, exit_of, nodes_of, nodes_from, nodes, seam, seams_in}
+use Rattle.cw_points.specs.Graphs.{seams_in_all, seams_from, IsGraph}
 use Rattle.cw_points.specs.Marking.{mark, mark_at, mark_in, marks_by}
+use Rattle.cw_points.proofs.Held.{HasAt, has_front, has_behind, has_all}
 use Rattle.cw_points.proofs.Lengths.{nodes_length, nodes_length_all, init_length, step_length}
-
--- these nodes stand from this number on
-abbrev HasAt : List Node → ℕ → List Node → Type 0
-HasAt g n [] = Unit {0}
-HasAt g n (i ∷ is) = (slice_get g n ≡ Some i) × HasAt g (n + 1) is
-
-has_front : (g : List Node) (n : ℕ) (a b : List Node) → HasAt g n (a ++ b) → HasAt g n a
-has_front g n [] b h = tt
-has_front g n (i ∷ a) b h = (h.0, has_front g (n + 1) a b h.1)
-
-has_back : (g : List Node) (n m : ℕ) (a b : List Node) → length a ≡ m → HasAt g n (a ++ b) → HasAt g (n + m) b
-has_back g n m [] b l h = let e : n ≡ n + m = omega (arith, l) in subst (λ p. HasAt g p b) e h
-has_back g n m (i ∷ a) b l h =
-    let e : n + 1 + length a ≡ n + m = omega (arith, l) in
-    subst (λ p. HasAt g p b) e (has_back g (n + 1) (length a) a b refl h.1)
-
-has_all : (is pre : List Node) → HasAt (pre ++ is) (length pre) is
-has_all [] pre = tt
-has_all (i ∷ is) pre =
-    let within : length pre < length (pre ++ i ∷ is) = omega (arith, length-append pre (i ∷ is)) in
-    let here = slice_get-get_or (pre ++ i ∷ is) (length pre) i within ∙ ap Some (get_or-append_seam pre i is i) in
-    let n : length (pre ++ i ∷ []) ≡ length pre + 1 = omega (arith, length-append pre (i ∷ [])) in
-    let rest = has_all is (pre ++ i ∷ []) in
-    let rest' = subst (λ l. HasAt l (length (pre ++ i ∷ [])) is) (append_assoc pre (i ∷ []) is) rest in
-    (here, subst (λ m. HasAt (pre ++ i ∷ is) m is) n rest')
 
 joined : {A B : Type 0} (h : A → Option B) (xs ys : List A) → filter_map h (xs ++ ys) ≡ filter_map h xs ++ filter_map h ys
 joined h [] ys = refl
@@ -75,7 +51,7 @@ module _ (g : List Node) where
         let r = nodes_in f t (n + 1 + count s) k x b c in
         joined (mark_in g) (seams_in s (n + 1)) (seams_in t (n + 1 + count s))
         ∙ ap₂ (λ a b. a ++ b) (marks_are f s (n + 1) k x b c (has_front g (n + 1) l r h.1))
-        (marks_are f t (n + 1 + count s) k x b c (has_back g (n + 1) (count s) l r (nodes_length f s (n + 1) k x b c) h.1))
+        (marks_are f t (n + 1 + count s) k x b c (has_behind g (n + 1) (count s) l r (nodes_length f s (n + 1) k x b c) h.1))
     marks_are f (While at s) n k x b c h = marks_are f s (n + 1) n x (Some k) (Some n) h.1
     marks_are f (Do at s) n k x b c h =
         let t = n + count s in
@@ -85,8 +61,8 @@ module _ (g : List Node) where
         let u = turn_of n init stepped in
         let body = nodes_in f s (u + 1) u x (Some k) (Some u) in
         let st = step_nodes f stepped t in
-        let test = has_back g n (one_if_some init) (init_nodes f init t) (turns f decided stepped (first (count s) (u + 1) u) k t body) (init_length f init t) h in
-        let behind = has_back g (t + 1) (one_if stepped) st body (step_length f stepped t) test.1 in
+        let test = has_behind g n (one_if_some init) (init_nodes f init t) (turns f decided stepped (first (count s) (u + 1) u) k t body) (init_length f init t) h in
+        let behind = has_behind g (t + 1) (one_if stepped) st body (step_length f stepped t) test.1 in
         let e : t + 1 + one_if stepped ≡ u + 1 = omega arith in
         marks_are f s (u + 1) u x (Some k) (Some u) (subst (λ p. HasAt g p body) e behind)
 
@@ -98,7 +74,7 @@ module _ (g : List Node) where
         let r = nodes_in_all f ss (n + count s) k x b c in
         joined (mark_in g) (seams_in s n) (seams_in_all ss (n + count s))
         ∙ ap₂ (λ a b. a ++ b) (marks_are f s n m x b c (has_front g n l r h))
-        (marks_are_all f ss (n + count s) k x b c (has_back g n (count s) l r (nodes_length f s n m x b c) h))
+        (marks_are_all f ss (n + count s) k x b c (has_behind g n (count s) l r (nodes_length f s n m x b c) h))
 
   marks_from_are : (f : ℕ) (rs : List Routine) (n : ℕ) → HasAt g n (nodes_from f rs n) → filter_map (mark_in g) (seams_from rs n) ≡ marks_from rs
   marks_from_are f [] n h = refl
@@ -111,8 +87,9 @@ module _ (g : List Node) where
       let mine = has_front g n own rest h in
       let long : length own ≡ 1 + (count_all r.body + 1) = omega (arith, length-append body exit, nodes_length_all f r.body (n + 1) x x None None) in
       let e : n + (1 + (count_all r.body + 1)) ≡ x + 1 = omega arith in
-      let others = subst (λ p. HasAt g p rest) e (has_back g n (1 + (count_all r.body + 1)) own rest long h) in
-      marked (seam n r.mark None) (node point.Entry f (Some (first (count_all r.body) (n + 1) x)) (Some r.seam)) (mark r.mark r.seam EntryMark) (seams_in_all r.body (n + 1) ++ seams_from rs (x + 1)) mine.0 refl
+      let others = subst (λ p. HasAt g p rest) e (has_behind g n (1 + (count_all r.body + 1)) own rest long h) in
+      marked (seam n r.mark None) (node point.Entry f (Some (first (count_all r.body) (n + 1) x)) (Some r.seam)) (mark r.mark r.seam EntryMark)
+      (seams_in_all r.body (n + 1) ++ seams_from rs (x + 1)) mine.0 refl
       ∙ ap (λ ms. mark r.mark r.seam EntryMark ∷ ms)
       (joined (mark_in g) (seams_in_all r.body (n + 1)) (seams_from rs (x + 1))
       ∙ ap₂ (λ a b. a ++ b) (marks_are_all f r.body (n + 1) x x None None (has_front g (n + 1) body exit mine.1)) (marks_from_are (f + 1) rs (x + 1) others))

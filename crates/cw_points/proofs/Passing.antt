@@ -70,16 +70,19 @@ module _ (ns : List Node) (its : List Item) (plan : Plan) (parts : List Part) (h
     if_ways at m n s t is h i Right = lands ns its f x (Todo t ∷ is) n frames returns i w
     if_ways at m n s t is h i _ = tt
 
-    decided_ways : (at m k : ℕ) (stepped : Bool) (s : Stm) (is : Frame) → At ns its f x (Todo s ∷ after_if stepped at (Test at true stepped s ∷ is)) m → At ns its f x is k → (way : Way) → Both (Test at true stepped s) is (branch f m k) way
+    decided_ways : (at m k : ℕ) (stepped : Bool) (s : Stm) (is : Frame) → At ns its f x (Todo s ∷ after_if stepped at (Test at true stepped s ∷ is)) m → At ns its f x is k → (way : Way)
+        → Both (Test at true stepped s) is (branch f m k) way
     decided_ways at m k stepped s is h i Left = lands ns its f x (Todo s ∷ after_if stepped at (Test at true stepped s ∷ is)) m frames returns h w
     decided_ways at m k stepped s is h i Right = lands ns its f x is k frames returns i w
     decided_ways at m k stepped s is h i _ = tt
 
-    endless_ways : (at m : ℕ) (stepped : Bool) (s : Stm) (is : Frame) → At ns its f x (Todo s ∷ after_if stepped at (Test at false stepped s ∷ is)) m → (way : Way) → Both (Test at false stepped s) is (step f (Some m)) way
+    endless_ways : (at m : ℕ) (stepped : Bool) (s : Stm) (is : Frame) → At ns its f x (Todo s ∷ after_if stepped at (Test at false stepped s ∷ is)) m → (way : Way)
+        → Both (Test at false stepped s) is (step f (Some m)) way
     endless_ways at m stepped s is h On = lands ns its f x (Todo s ∷ after_if stepped at (Test at false stepped s ∷ is)) m frames returns h w
     endless_ways at m stepped s is h _ = tt
 
-    test_ways : (at m k : ℕ) (decided stepped : Bool) (s : Stm) (is : Frame) → At ns its f x (Todo s ∷ after_if stepped at (Test at decided stepped s ∷ is)) m → At ns its f x is k → (way : Way) → Both (Test at decided stepped s) is (test_node f decided m k) way
+    test_ways : (at m k : ℕ) (decided stepped : Bool) (s : Stm) (is : Frame) → At ns its f x (Todo s ∷ after_if stepped at (Test at decided stepped s ∷ is)) m → At ns its f x is k → (way : Way)
+        → Both (Test at decided stepped s) is (test_node f decided m k) way
     test_ways at m k true stepped s is h i way = decided_ways at m k stepped s is h i way
     test_ways at m k false stepped s is h i way = endless_ways at m stepped s is h way
 

@@ -1,30 +1,14 @@
--- The form of a block, by its statements, and of a `for`, by its head and its body.
-use Rattle.std.proofs.Common.{◌≡◌, Option, None, Some, Vec, Box, Global, refl, ap, ◌∙◌}
+-- The form of a `for`, by its head and its body.
+use Rattle.std.proofs.Common.{◌≡◌, Option, None, Some, Box, Global, refl, ap, ◌∙◌}
 use Rattle.std.specs.Prelude.{option_map, is_some}
-use mathlib.Core.Former.{Count}
 use denote.Hole.Carrier
 use Rattle.cw_syntax.specs.declared.program.Expr.{Expr}
 use Rattle.cw_syntax.specs.declared.program.Stmt.{Stmt}
 use Rattle.cw_syntax.specs.declared.program.Head.{Head, Head', out-Head, Head-init-None', Head-init-Some'}
-use Rattle.cw_syntax.specs.declared.program.What.{What, Block', Row_of-Stmt, end_of-Stmt, more_of-Stmt, items-the_row-Stmt, items_hidden-the_row-Stmt-0}
-use Rattle.cw_syntax.specs.declared.program.What.TheVariants.{Block, For}
-use Rattle.cw_syntax.specs.Trees.{Tree, Statement, Stated, Form, Block as BlockForm, Fors, Perhaps, cons, tree_of, form_of, for_of, init_of, row_statements, statement_of, statements_of}
+use Rattle.cw_syntax.specs.declared.program.What.{What}
+use Rattle.cw_syntax.specs.declared.program.What.TheVariants.{For}
+use Rattle.cw_syntax.specs.Trees.{Tree, Statement, Form, Fors, Perhaps, tree_of, form_of, for_of, init_of, statement_of}
 use Rattle.cw_syntax.specs.Plans.{place_if}
-
-row_is : (n : _) (row : Row_of-Stmt n) → row_statements row ≡ statements_of (items-the_row-Stmt n row)
-row_is n end_of-Stmt = refl
-row_is n (more_of-Stmt what from to rest) = ap (cons (Stated (form_of what) from to)) (row_is _ rest)
-
-abbrev row_in : What → (n : Count) × Row_of-Stmt n
-row_in (Block' shape row) = (_, row)
-row_in _ = (_, end_of-Stmt)
-
-pub block_form : (w : What) (v : Vec Stmt Global) → w ≡ Block v → form_of w ≡ BlockForm (statements_of v.items)
-block_form w v e = let q = row_in (Block v) in ap form_of e ∙ ap BlockForm (row_is q.0 q.1 ∙ ap statements_of (items_hidden-the_row-Stmt-0 v))
-
--- a block whose statements were read as these
-pub block_of : (s : Stmt) (v : Vec Stmt Global) → s.what ≡ Block v → statement_of s ≡ Stated (BlockForm (statements_of v.items)) s.from s.to
-block_of s v e = ap (λ f. Stated f s.from s.to) (block_form s.what v e)
 
 -- a head, as it is held
 pub record IsHead (h : Head) (init : Perhaps) (test step : Option Tree) : Type 0 where

@@ -18,11 +18,13 @@ module _ (ns : List Node) (its : List Item) (f x : ℕ) where
   at_items b c (then s ss) rest p k h r = (h.0, h.1, at_items b c ss rest h.0 k h.2 r)
 
   -- the test and the mark of a loop whose parts are placed
-  pub at_loop : (b c : Option ℕ) (at : ℕ) (decided stepped : Bool) (s : Stm) (rest : Frame) (t m a k : ℕ) → Here ns its t (test_node f decided m k) (Test at decided stepped s) → StepAt ns its f at stepped a t → Placed ns its f x (Some k) (Some a) s m a → AtIn ns its f x b c rest k → AtIn ns its f x (Some k) (Some t) (Test at decided stepped s ∷ (Mark ∷ rest)) t
+  pub at_loop : (b c : Option ℕ) (at : ℕ) (decided stepped : Bool) (s : Stm) (rest : Frame) (t m a k : ℕ) → Here ns its t (test_node f decided m k) (Test at decided stepped s)
+      → StepAt ns its f at stepped a t → Placed ns its f x (Some k) (Some a) s m a → AtIn ns its f x b c rest k → AtIn ns its f x (Some k) (Some t) (Test at decided stepped s ∷ (Mark ∷ rest)) t
   at_loop b c at decided stepped s rest t m a k e1 e2 h r = (refl, (m, a, k, c, e1, e2, h, refl, (refl, (b, r))))
 
   mutual
-    pub at_opened : (s : Stm) (b c b' c' : Option ℕ) (rest next : Frame) (p k : ℕ) → Placed ns its f x b c s p k → AtIn ns its f x b c rest k → AtIn ns its f x b' c' next k → At ns its f x (opened s rest next) p
+    pub at_opened : (s : Stm) (b c b' c' : Option ℕ) (rest next : Frame) (p k : ℕ) → Placed ns its f x b c s p k → AtIn ns its f x b c rest k → AtIn ns its f x b' c' next k
+        → At ns its f x (opened s rest next) p
     at_opened (Plain at) b c b' c' rest next p k h r t = (b, c, (k, h, r))
     at_opened (Break at) b c b' c' rest next p k h r t = (b, c, (k, h, r))
     at_opened (Continue at) b c b' c' rest next p k h r t = (b, c, (k, h, r))
@@ -42,7 +44,8 @@ module _ (ns : List Node) (its : List Item) (f x : ℕ) where
     at_opened (For at None decided stepped s) b c b' c' rest next p k h r t =
         (Some k, Some h.0, subst (λ n. AtIn ns its f x (Some k) (Some h.0) (Test at decided stepped s ∷ (Mark ∷ rest)) n) (sym h.3) (at_loop b c at decided stepped s rest h.0 h.1 h.2 k h.4 h.5 h.6 r))
 
-    pub at_opened_all : (ss : Stms) (b c b' c' : Option ℕ) (rest next : Frame) (p k : ℕ) → PlacedAll ns its f x b c ss p k → AtIn ns its f x b c rest k → AtIn ns its f x b' c' next k → At ns its f x (opened_all ss rest next) p
+    pub at_opened_all : (ss : Stms) (b c b' c' : Option ℕ) (rest next : Frame) (p k : ℕ) → PlacedAll ns its f x b c ss p k → AtIn ns its f x b c rest k → AtIn ns its f x b' c' next k
+        → At ns its f x (opened_all ss rest next) p
     at_opened_all end b c b' c' rest next p k e r t = (b', c', subst (λ n. AtIn ns its f x b' c' next n) (sym e) t)
     at_opened_all (then s ss) b c b' c' rest next p k h r t =
         let i = at_opened_all ss b c b' c' rest next h.0 k h.2 r t in
@@ -93,7 +96,8 @@ module _ (ns : List Node) (its : List Item) (f x : ℕ) where
   at_ended (End g ∷ is) b c p h = (None, None, (refl, refl, refl, h.3, ap ended h.4))
 
   -- the body of a test that holds, and what follows it
-  pub at_body : (d : Option ℕ) (at : ℕ) (decided stepped : Bool) (s : Stm) (is : Frame) (p m a k : ℕ) → Here ns its p (test_node f decided m k) (Test at decided stepped s) → StepAt ns its f at stepped a p → Placed ns its f x (Some k) (Some a) s m a → AtIn ns its f x (Some k) d is k → At ns its f x (Todo s ∷ after_if stepped at (Test at decided stepped s ∷ is)) m
+  pub at_body : (d : Option ℕ) (at : ℕ) (decided stepped : Bool) (s : Stm) (is : Frame) (p m a k : ℕ) → Here ns its p (test_node f decided m k) (Test at decided stepped s)
+      → StepAt ns its f at stepped a p → Placed ns its f x (Some k) (Some a) s m a → AtIn ns its f x (Some k) d is k → At ns its f x (Todo s ∷ after_if stepped at (Test at decided stepped s ∷ is)) m
   at_body d at decided true s is p m a k e1 e2 h r = (Some k, Some a, (a, h, (refl, (p, Some p, e2, (refl, (m, a, k, d, e1, e2, h, refl, r))))))
   at_body d at decided false s is p m a k e1 e2 h r =
       let t : AtIn ns its f x (Some k) (Some p) (Test at decided false s ∷ is) p = (refl, (m, a, k, d, e1, e2, h, refl, r)) in

@@ -73,7 +73,8 @@ module _ (c : Scene) (f : ℕ) where
   for_told init test step body body' a b n u begun decided stepped v w d mid new eg ed es eb en eu ev em eh =
       let t = length d.nodes + one_if begun in
       eh ∙ ap₂ (λ s v. laid c f s v mid) eb ev
-      ∙ ap (laid c f body (looped w u)) (em t refl ∙ ap (λ n. with_nodes (step_nodes f stepped t) (with_node (test_node f decided (first n (u + 1) u) w.next) (with_nodes (step_nodes f begun t) d))) en)
+      ∙ ap (laid c f body (looped w u)) (em t refl ∙ ap (λ n. with_nodes (step_nodes f stepped t)
+      (with_node (test_node f decided (first n (u + 1) u) w.next) (with_nodes (step_nodes f begun t) d))) en)
       ∙ laid_for c f init test step body a b w d begun decided stepped t u eg ed es refl eu
 
   pub more_told : (s : Statement) (rest all : Statements) (at own left left' next : ℕ) (v w : Ways) (d new : Drawn) →

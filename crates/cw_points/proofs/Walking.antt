@@ -10,7 +10,7 @@ use Rattle.cw_points.specs.declared.graph.Node.{Node}
 use Rattle.cw_points.specs.declared.graph.Part.{Part}
 use Rattle.cw_points.specs.Points.{points}
 use Rattle.cw_points.specs.Graphs.{nodes}
-use Rattle.cw_points.specs.Walks.{Stand, stand, leads, goes, WalkFrom, parts_of, PathsAreTheWalks}
+use Rattle.cw_points.specs.Walks.{Stand, stand, leads, goes, WalkFrom, PathByFrom, parts_of, PathsAreTheWalks, PathsTakeWays}
 use Rattle.cw_points.proofs.Placed.{IsPart}
 use Rattle.cw_points.proofs.Standing.{at_new_frame}
 use Rattle.cw_points.proofs.Laying.{placed_program}
@@ -39,34 +39,36 @@ module _ (ns : List Node) (its : List Item) (plan : Plan) (parts : List Part) (h
       let k = front_of frame frames s h in
       subst (λ o. Tied ns its (pass plan (frame ∷ frames) way) (option_and_then (λ n. leads parts s.returns n.point n.next way) o)) (sym k.here.0) (k.ways way)
 
-  abbrev Numbered : List Item → List ℕ → Type 0
-  Numbered items ps = map (λ i. Some i) items ≡ map (slice_get its) ps
+  abbrev Numbered : List (Item × Way) → List (ℕ × Way) → Type 0
+  Numbered is ps = (map (λ i. Some i.0) is ≡ map (λ p. slice_get its p.0) ps) × (map (λ i. i.1) is ≡ map (λ p. p.1) ps)
 
-  pub walked : (items : List Item) (stack : List Frame) (here : Option Stand) → StackAt ns its stack here → PathFrom plan stack items → (ps : List ℕ) × WalkFrom ns parts here ps × Numbered items ps
-  walked [] stack here h path = ([], tt, refl)
-  walked (i ∷ items) [] None h path = absurd (none-some path.1 path.3)
-  walked (i ∷ items) [] (Some s) h path = absurd h
-  walked (i ∷ items) (frame ∷ frames) None h path = absurd h
-  walked (i ∷ items) (frame ∷ frames) (Some s) h path =
+  pub walked : (is : List (Item × Way)) (stack : List Frame) (here : Option Stand) → StackAt ns its stack here → PathByFrom plan stack is
+      → (ps : List (ℕ × Way)) × WalkFrom ns parts here ps × Numbered is ps
+  walked [] stack here h path = ([], tt, (refl, refl))
+  walked (i ∷ is) [] None h path = absurd (none-some path.0 path.2)
+  walked (i ∷ is) [] (Some s) h path = absurd h
+  walked (i ∷ is) (frame ∷ frames) None h path = absurd h
+  walked (i ∷ is) (frame ∷ frames) (Some s) h path =
       let k = front_of frame frames s h in
-      let t = subst (λ o. Tied ns its o (goes ns parts s path.0)) path.3 (tied frame frames s path.0 h) in
-      let to = of_stack ns its path.1 (goes ns parts s path.0) t in
-      let rest = walked items path.1 to.0 to.2 path.4 in
-      let e : Some i ≡ slice_get its s.point = ap (λ n. Some n) (first_is i k.item (sym path.2 ∙ k.is_front)) ∙ sym k.here.1 in
-      (s.point ∷ rest.0, (refl, (path.0, to.0, to.1, rest.1)), ap₂ (λ a l. a ∷ l) e rest.2)
+      let t = subst (λ o. Tied ns its o (goes ns parts s i.1)) path.2 (tied frame frames s i.1 h) in
+      let to = of_stack ns its path.0 (goes ns parts s i.1) t in
+      let rest = walked is path.0 to.0 to.2 path.3 in
+      let e : Some i.0 ≡ slice_get its s.point = ap (λ n. Some n) (first_is i.0 k.item (sym path.1 ∙ k.is_front)) ∙ sym k.here.1 in
+      ((s.point, i.1) ∷ rest.0, (refl, (to.0, to.1, rest.1)), (ap₂ (λ a l. a ∷ l) e rest.2.0, ap (λ l. i.1 ∷ l) rest.2.1))
 
-  pub stepped : (ps : List ℕ) (stack : List Frame) (here : Option Stand) → StackAt ns its stack here → WalkFrom ns parts here ps → (items : List Item) × PathFrom plan stack items × Numbered items ps
-  stepped [] stack here h walk = ([], tt, refl)
+  pub stepped : (ps : List (ℕ × Way)) (stack : List Frame) (here : Option Stand) → StackAt ns its stack here → WalkFrom ns parts here ps
+      → (is : List (Item × Way)) × PathByFrom plan stack is × Numbered is ps
+  stepped [] stack here h walk = ([], tt, (refl, refl))
   stepped (p ∷ ps) stack None h walk = absurd walk
   stepped (p ∷ ps) [] (Some s) h walk = absurd h
   stepped (p ∷ ps) (frame ∷ frames) (Some s) h walk =
       let k = front_of frame frames s h in
       let step = walk.1 in
-      let t = subst (λ o. Tied ns its (pass plan (frame ∷ frames) step.0) o) step.2 (tied frame frames s step.0 h) in
-      let to = of_stand ns its (pass plan (frame ∷ frames) step.0) step.1 t in
-      let rest = stepped ps to.0 step.1 to.2 step.3 in
-      let e : Some k.item ≡ slice_get its p = sym k.here.1 ∙ ap (slice_get its) walk.0 in
-      (k.item ∷ rest.0, (step.0, to.0, k.is_front, to.1, rest.1), ap₂ (λ a l. a ∷ l) e rest.2)
+      let t = subst (λ o. Tied ns its (pass plan (frame ∷ frames) p.1) o) step.1 (tied frame frames s p.1 h) in
+      let to = of_stand ns its (pass plan (frame ∷ frames) p.1) step.0 t in
+      let rest = stepped ps to.0 step.0 to.2 step.2 in
+      let e : Some k.item ≡ slice_get its p.0 = sym k.here.1 ∙ ap (slice_get its) walk.0 in
+      ((k.item, p.1) ∷ rest.0, (to.0, k.is_front, to.1, rest.1), (ap₂ (λ a l. a ∷ l) e rest.2.0, ap (λ l. p.1 ∷ l) rest.2.1))
 
   started : (main : ℕ) (o : Option Routine) (q : Option Part) → IsPart ns its main o q → StackAt ns its (stack_of (option_map (new_frame main) o)) (option_map (λ part. stand [] part.entry.0) q)
   started main None None h = tt
@@ -85,6 +87,23 @@ paths_are_the_walks names source file =
     let start = starts (nodes plan) (points plan) plan parts has in
     let here = option_map (λ (part : Part). stand [] part.entry.0) (slice_get parts plan.main) in
     record {
-      walked = λ items path. walked (nodes plan) (points plan) plan parts has items (start_stack plan) here start path;
-      paths = λ ps walk. stepped (nodes plan) (points plan) plan parts has ps (start_stack plan) here start walk;
+      walked = λ is path. let w = walked (nodes plan) (points plan) plan parts has is (start_stack plan) here start path in (w.0, w.1, record { items = w.2.0; ways = w.2.1 });
+      paths = λ ps walk. let w = stepped (nodes plan) (points plan) plan parts has ps (start_stack plan) here start walk in (w.0, w.1, record { items = w.2.0; ways = w.2.1 });
     }
+
+-- the ways of a path, and a path without them
+ways_taken : (plan : Plan) (items : List Item) (stack : List Frame) → PathFrom plan stack items → (is : List (Item × Way)) × PathByFrom plan stack is × (map (λ i. i.0) is ≡ items)
+ways_taken plan [] stack path = ([], tt, refl)
+ways_taken plan (i ∷ items) stack path =
+    let rest = ways_taken plan items path.1 path.4 in
+    ((i, path.0) ∷ rest.0, (path.1, path.2, path.3, rest.1), ap (λ l. i ∷ l) rest.2)
+
+ways_left_out : (plan : Plan) (is : List (Item × Way)) (stack : List Frame) → PathByFrom plan stack is → PathFrom plan stack (map (λ i. i.0) is)
+ways_left_out plan [] stack path = tt
+ways_left_out plan (i ∷ is) stack path = (i.1, path.0, path.1, path.2, ways_left_out plan is path.0 path.3)
+
+pub paths_take_ways : (plan : Plan) → PathsTakeWays plan
+paths_take_ways plan = record {
+  taken = λ items path. ways_taken plan items (start_stack plan) path;
+  left_out = λ is path. ways_left_out plan is (start_stack plan) path;
+}

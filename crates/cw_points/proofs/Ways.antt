@@ -74,17 +74,20 @@ Tied ns its (Some stack) (Some here) = StackAt ns its stack here
 Tied ns its _ _ = ⊥
 
 module _ (ns : List Node) (its : List Item) where
-  pub lands : (f x : ℕ) (raw : Frame) (q : ℕ) (frames : List Frame) (returns : List ℕ) → At ns its f x raw q → Below ns its frames returns → StackAt ns its (settle raw ∷ frames) (Some (stand returns q))
+  pub lands : (f x : ℕ) (raw : Frame) (q : ℕ) (frames : List Frame) (returns : List ℕ) → At ns its f x raw q → Below ns its frames returns
+      → StackAt ns its (settle raw ∷ frames) (Some (stand returns q))
   lands f x raw q frames returns h b = (f, x, at_settle ns its f x raw q h, settle_settled raw, b)
 
-  pub jumped : (f x : ℕ) (o : Option Frame) (b : Option ℕ) (frames : List Frame) (returns : List ℕ) → Jumps ns its f x o b → Below ns its frames returns → Tied ns its (option_map (λ next. settle next ∷ frames) o) (option_map (λ p. Some (stand returns p)) (first_of (successors b None)))
+  pub jumped : (f x : ℕ) (o : Option Frame) (b : Option ℕ) (frames : List Frame) (returns : List ℕ) → Jumps ns its f x o b → Below ns its frames returns
+      → Tied ns its (option_map (λ next. settle next ∷ frames) o) (option_map (λ p. Some (stand returns p)) (first_of (successors b None)))
   jumped f x None None frames returns h w = tt
   jumped f x (Some raw) (Some q) frames returns h w = lands f x raw q frames returns h w
   jumped f x None (Some q) frames returns h w = absurd h
   jumped f x (Some raw) None frames returns h w = absurd h
 
   -- a function that is called, or that the program begins with
-  pub begun : (f : ℕ) (o : Option Routine) (q : Option Part) (frames : List Frame) (returns : List ℕ) → IsPart ns its f o q → Below ns its frames returns → Tied ns its (option_map (λ frame. frame ∷ frames) (option_map (new_frame f) o)) (option_map (λ s. Some s) (option_map (λ part. stand returns part.entry.0) q))
+  pub begun : (f : ℕ) (o : Option Routine) (q : Option Part) (frames : List Frame) (returns : List ℕ) → IsPart ns its f o q → Below ns its frames returns
+      → Tied ns its (option_map (λ frame. frame ∷ frames) (option_map (new_frame f) o)) (option_map (λ s. Some s) (option_map (λ part. stand returns part.entry.0) q))
   begun f None None frames returns h w = tt
   begun f (Some r) (Some part) frames returns h w = (f, part.exit.0, at_new_frame ns its f r part.entry.0 part.exit.0 h, refl, w)
   begun f None (Some part) frames returns h w = absurd h

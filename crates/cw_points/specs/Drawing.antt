@@ -1,4 +1,4 @@
--- A graph that is drawn front first, and what a statement adds to it.
+-- Working definitions: a graph that is drawn front first, and what a statement adds to it.
 use Rattle.std.specs.Prelude.{ℕ, ◌+◌, List, [], ◌∷◌, ◌++◌, length, Bool, Option, None, Some, map, is_some}
 use Rattle.cw_syntax.specs.declared.program.Name.{Name}
 use Rattle.cw_syntax.specs.Names.{text, number_in}

@@ -1,4 +1,4 @@
--- The mark of a seam, by what stands at its point.
+-- Working definitions: the mark of a seam, by what stands at its point.
 use Rattle.std.specs.Prelude.{ℕ, List, Option, Some, None, option_map, option_and_then, slice_get}
 use Rattle.std.specs.List.{filter_map}
 use Rattle.cw_syntax.specs.declared.program.Name.{Name}

@@ -1,6 +1,7 @@
--- How many points a statement of a source has. What its expressions do doesn't matter: each is one point.
+-- Working definitions: how many points a statement of a source has. What its expressions do doesn't matter: each is one point.
 use Rattle.std.specs.Prelude.{ℕ, suc, ◌+◌, List, [], ◌∷◌, min, is_some}
-use Rattle.cw_syntax.specs.Trees.{Statement, Stated, Form, Block, Declares, Evaluates, Empties, Labels, Chooses, Whiles, Does, Fors, Breaks, Continues, Returns, Perhaps, nothing, just, Statements, nil, cons, Definition}
+use Rattle.cw_syntax.specs.Trees.{Statement, Stated, Form, Block, Declares, Evaluates, Empties, Labels, Chooses, Whiles, Does, Fors, Breaks, Continues, Returns}
+use Rattle.cw_syntax.specs.Trees.{Perhaps, nothing, just, Statements, nil, cons, Definition}
 use Rattle.cw_syntax.specs.Plans.{place_if}
 use Rattle.cw_points.specs.Points.{one_if, one_if_some}
 

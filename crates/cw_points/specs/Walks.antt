@@ -5,7 +5,7 @@ use Rattle.cw_core.specs.declared.ids.PointId.{PointId}
 use Rattle.cw_syntax.specs.Names.{Names}
 use Rattle.cw_syntax.specs.Trees.{File}
 use Rattle.cw_syntax.specs.Plans.{Plan, plan_of}
-use Rattle.cw_syntax.specs.Frames.{Way, On, Left, Right, Opened, Failed, Item, Path}
+use Rattle.cw_syntax.specs.Frames.{Way, On, Left, Right, Opened, Failed, Item, Frame, front, pass, start_stack, Path}
 use Rattle.cw_points.specs.declared.graph.Point.{Point}
 use Rattle.cw_points.specs.declared.graph.Point.TheVariants.{Entry, Step, Branch, Label, Open, Close, Call, Exit}
 use Rattle.cw_points.specs.declared.graph.Node.{Node}
@@ -60,24 +60,45 @@ leads _ _ _ _ _ = None
 abbrev pub goes : List Node → List Part → Stand → Way → Option (Option Stand)
 goes ns parts s way = option_and_then (λ n. leads parts s.returns n.point n.next way) (slice_get ns s.point)
 
--- these points are passed, in order, by some steps from here
-abbrev pub WalkFrom : List Node → List Part → Option Stand → List ℕ → Type 0
+-- these points are passed from here, in order, each by its way
+abbrev pub WalkFrom : List Node → List Part → Option Stand → List (ℕ × Way) → Type 0
 WalkFrom ns parts here [] = Unit {0}
 WalkFrom ns parts None (p ∷ ps) = ⊥
-WalkFrom ns parts (Some s) (p ∷ ps) = (s.point ≡ p) × ((way : Way) × (next : Option Stand) × (goes ns parts s way ≡ Some next) × WalkFrom ns parts next ps)
+WalkFrom ns parts (Some s) (p ∷ ps) = (s.point ≡ p.0) × ((next : Option Stand) × (goes ns parts s p.1 ≡ Some next) × WalkFrom ns parts next ps)
 
 -- a program starts at the entry of `main`
-abbrev pub Walk : List Node → List Part → ℕ → List ℕ → Type 0
+abbrev pub Walk : List Node → List Part → ℕ → List (ℕ × Way) → Type 0
 Walk ns parts main ps = WalkFrom ns parts (option_map (λ part. stand [] part.entry.0) (slice_get parts main)) ps
 
--- these items have these numbers
-abbrev pub AreNumbered : Plan → List Item → List ℕ → Type 0
-AreNumbered plan items ps = map (λ i. Some i) items ≡ map (slice_get (points plan)) ps
+-- these items are passed from this stack of frames, in order, each by its way
+abbrev pub PathByFrom : Plan → List Frame → List (Item × Way) → Type 0
+PathByFrom plan stack [] = Unit {0}
+PathByFrom plan stack (i ∷ is) = (next : List Frame) × (front stack ≡ i.0 ∷ []) × (pass plan stack i.1 ≡ Some next) × PathByFrom plan next is
+
+-- a path of a program by these ways
+abbrev pub PathBy : Plan → List (Item × Way) → Type 0
+PathBy plan is = PathByFrom plan (start_stack plan) is
+
+-- these items have these numbers, and are passed by the same ways
+pub record AreNumbered (plan : Plan) (is : List (Item × Way)) (ps : List (ℕ × Way)) : Type 0 where
+  pub items : map (λ i. Some i.0) is ≡ map (λ p. slice_get (points plan) p.0) ps
+  pub ways : map (λ i. i.1) is ≡ map (λ p. p.1) ps
 
 abbrev pub parts_of : Names → List ℕ → File → List Part
 parts_of names source file = parts_from (plan_of names source file).routines (splits_of names source file) 0
 
--- With the number of each item, the paths of the graph are the paths of the program, and no others.
+-- the walks of a program's graph
+abbrev pub WalkOf : Names → List ℕ → File → List (ℕ × Way) → Type 0
+WalkOf names source file ps = Walk (nodes (plan_of names source file)) (parts_of names source file) (plan_of names source file).main ps
+
+-- With the number of each item and the way by which it is passed, the paths of the program are the walks of the graph, and no others.
 pub record PathsAreTheWalks (names : Names) (source : List ℕ) (file : File) : Type 0 where
-  pub walked : (items : List Item) → Path (plan_of names source file) items → (ps : List ℕ) × Walk (nodes (plan_of names source file)) (parts_of names source file) (plan_of names source file).main ps × AreNumbered (plan_of names source file) items ps
-  pub paths : (ps : List ℕ) → Walk (nodes (plan_of names source file)) (parts_of names source file) (plan_of names source file).main ps → (items : List Item) × Path (plan_of names source file) items × AreNumbered (plan_of names source file) items ps
+  pub walked : (is : List (Item × Way)) → PathBy (plan_of names source file) is
+      → (ps : List (ℕ × Way)) × WalkOf names source file ps × AreNumbered (plan_of names source file) is ps
+  pub paths : (ps : List (ℕ × Way)) → WalkOf names source file ps
+      → (is : List (Item × Way)) × PathBy (plan_of names source file) is × AreNumbered (plan_of names source file) is ps
+
+-- A path of a program is a path by some ways, these left out.
+pub record PathsTakeWays (plan : Plan) : Type 0 where
+  pub taken : (items : List Item) → Path plan items → (is : List (Item × Way)) × PathBy plan is × (map (λ i. i.0) is ≡ items)
+  pub left_out : (is : List (Item × Way)) → PathBy plan is → Path plan (map (λ i. i.0) is)

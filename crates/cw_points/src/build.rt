@@ -1,6 +1,8 @@
 //! The graph of a program's points.
 
 ghost use Rattle.std.specs.Prelude.{◌≡◌, ◌+◌, ◌≤◌, ◌<◌, [], suc, length, map, codes, Some, IfOk, IfErr, OnOk};
+ghost use Rattle.cw_core.specs.Quantities.{limit_of};
+ghost use Rattle.cw_core.specs.declared.quantity.Quantity.TheVariants.{Points};
 ghost use Rattle.cw_syntax.specs.Names.{number_or_other};
 ghost use Rattle.cw_syntax.specs.Trees.{definition_of, file_of};
 ghost use Rattle.cw_syntax.specs.Plans.{function_names, plan_of};
@@ -32,6 +34,8 @@ fn lay_function(
     function: &Function,
 ) -> Result<Part, AllocError>
     requires labels { length (policy_of policy.now).labels ≤ 65535 }
+    requires descriptors { length (policy_of policy.now).descriptors ≤ 255 }
+    requires functions { length checked.now.program.functions.items ≤ 65535 }
     ensures drawn { OnOk result (drawn_of draft.new ≡ laid_one (scene_in checked.now (policy_of policy.now)) number (definition_of function.now) (drawn_of draft.old)) }
     ensures part { IfOk result (λ p. p ≡ part (length draft.old.nodes.items) (length draft.old.nodes.items + 1 + size_all (definition_of function.now).body) (split_of (scene_in checked.now (policy_of policy.now)) (definition_of function.now))) }
 {
@@ -57,8 +61,9 @@ fn lay_function(
 }
 
 /// The number of `main` among the functions, or their number.
-fn main_number(checked: &Checked) -> Result<u16, AllocError>
-    ensures { IfOk result (λ n. n ≡ number_or_other (function_names checked.now.source.now (file_of checked.now.program)) (codes "main")) }
+fn main_number(checked: &Checked) -> u16
+    requires functions { length checked.now.program.functions.items ≤ 65535 }
+    ensures { result ≡ number_or_other (function_names checked.now.source.now (file_of checked.now.program)) (codes "main") }
 {
     let number = function_named(checked, b"main".as_slice());
     function_number(number.unwrap_or(checked.program.functions.len()))
@@ -67,16 +72,18 @@ fn main_number(checked: &Checked) -> Result<u16, AllocError>
 /// The graph of a program of few points.
 fn draw(alloc: Global, checked: &Checked, policy: &Policy) -> Result<Graph, AllocError>
     requires labels { length (policy_of policy.now).labels ≤ 65535 }
+    requires descriptors { length (policy_of policy.now).descriptors ≤ 255 }
+    requires functions { length checked.now.program.functions.items ≤ 65535 }
     ensures { IfOk result (λ g. IsGraph (names_of (policy_of policy.now)) checked.now.source.now (file_of checked.now.program) g) }
 {
     let mut draft = Draft::new(alloc);
     let mut parts = Vec::new(alloc);
     for (number, function) in checked.program.functions.iter().enumerate() {
-        let number = function_number(number)?;
+        let number = function_number(number);
         let part = lay_function(&mut draft, checked, policy, number, function)?;
         parts.push(part)?;
     }
-    let main = main_number(checked)?;
+    let main = main_number(checked);
     let Draft { nodes, seams } = draft;
     Ok(Graph {
         nodes,
@@ -86,12 +93,14 @@ fn draw(alloc: Global, checked: &Checked, policy: &Policy) -> Result<Graph, Allo
     })
 }
 
-/// The graph of a program's points under a policy's names. A program has at most 8,192 points.
+/// The graph of a program's points under a policy's names. A program has at most 8,192 points
+/// (`cw_core`'s limit of points); of one that has more the answer is `TooManyPoints`, and nothing is drawn.
 pub fn build(alloc: Global, checked: &Checked, policy: &Policy) -> Result<Graph, PointsFault>
     requires labels { length (policy_of policy.now).labels ≤ 65535 }
+    requires descriptors { length (policy_of policy.now).descriptors ≤ 255 }
     ensures graph { IfOk result (λ g. IsGraph (names_of (policy_of policy.now)) checked.now.source.now (file_of checked.now.program) g) }
-    ensures few { IfOk result (λ g. point_count (plan_of (names_of (policy_of policy.now)) checked.now.source.now (file_of checked.now.program)) ≤ 8192) }
-    ensures many { IfErr result (λ fault. fault ≡ PointsFault.TooManyPoints → 8192 < point_count (plan_of (names_of (policy_of policy.now)) checked.now.source.now (file_of checked.now.program))) }
+    ensures few { IfOk result (λ g. point_count (plan_of (names_of (policy_of policy.now)) checked.now.source.now (file_of checked.now.program)) ≤ limit_of Points) }
+    ensures many { IfErr result (λ fault. fault ≡ PointsFault.TooManyPoints → limit_of Points < point_count (plan_of (names_of (policy_of policy.now)) checked.now.source.now (file_of checked.now.program))) }
 {
     if count_functions(&checked.program.functions) > MOST_POINTS {
         return Err(PointsFault::TooManyPoints);

@@ -6,10 +6,11 @@ ghost use Rattle.cw_syntax.specs.declared.program.Head.{out-Head};
 ghost use Rattle.cw_points.specs.Points.{one_if};
 ghost use Rattle.cw_points.specs.Sizes.{size, size_all, size_from, capped};
 
+use cw_core::limits;
 use cw_syntax::program::{Function, Head, Stmt, What};
 
 /// The most points that a program may have.
-pub const MOST_POINTS: u32 = 8192;
+pub(crate) const MOST_POINTS: u32 = limits::POINTS as u32;
 
 /// The count of two parts together.
 fn add(a: u32, b: u32) -> u32

@@ -62,24 +62,20 @@ fn before(ways: Ways, next: u32) -> Ways
     Ways { next, ..ways }
 }
 
-/// The number of a descriptor. A valid policy has few.
-fn descriptor_number(number: usize) -> Result<u8, AllocError>
-    ensures { IfOk result (λ n. n ≡ number) }
+/// The number of a descriptor, as a point holds it.
+fn descriptor_number(number: usize) -> u8
+    requires few { number ≤ 255 }
+    ensures { result ≡ number }
 {
-    if number > u8::MAX as usize {
-        return Err(AllocError);
-    }
-    Ok(number as u8)
+    number as u8
 }
 
-/// The number of a function. A program of few points has few.
-pub(crate) fn function_number(number: usize) -> Result<u16, AllocError>
-    ensures { IfOk result (λ n. n ≡ number) }
+/// The number of a function, as a point holds it.
+pub(crate) fn function_number(number: usize) -> u16
+    requires few { number ≤ 65535 }
+    ensures { result ≡ number }
 {
-    if number > u16::MAX as usize {
-        return Err(AllocError);
-    }
-    Ok(number as u16)
+    number as u16
 }
 
 /// An expression that stands at this place.
@@ -92,16 +88,18 @@ fn lay_expression(
     place: u32,
     ways: Ways,
 ) -> Result<(), AllocError>
+    requires descriptors { length (policy_of policy.now).descriptors ≤ 255 }
+    requires functions { length checked.now.program.functions.items ≤ 65535 }
     ensures { OnOk result ((to : ℕ) → drawn_of draft.new ≡ laid (scene_in checked.now (policy_of policy.now)) function (Stated (Evaluates (tree_of e.now)) place to) ways (drawn_of draft.old)) }
 {
     match action_of(checked, policy, e) {
         Act::Computes => draft.put_step(function, Some(ways.next)),
         Act::Opens(d) => {
-            let d = descriptor_number(d)?;
+            let d = descriptor_number(d);
             draft.put_seam(Point::Open(d), function, ways.next, place, None)
         }
         Act::Closes(d) => {
-            let d = descriptor_number(d)?;
+            let d = descriptor_number(d);
             draft.put_seam(Point::Close(d), function, ways.next, place, None)
         }
         Act::Invokes {
@@ -109,7 +107,7 @@ fn lay_expression(
             split: _,
             result: taken,
         } => {
-            let callee = function_number(callee)?;
+            let callee = function_number(callee);
             draft.put_seam(Point::Call(callee), function, ways.next, place, taken)
         }
     }
@@ -155,6 +153,8 @@ fn lay(
     ways: Ways,
 ) -> Result<(), AllocError>
     requires labels { length (policy_of policy.now).labels ≤ 65535 }
+    requires descriptors { length (policy_of policy.now).descriptors ≤ 255 }
+    requires functions { length checked.now.program.functions.items ≤ 65535 }
     ensures { OnOk result (drawn_of draft.new ≡ laid (scene_in checked.now (policy_of policy.now)) function (statement_of statement.now) ways (drawn_of draft.old)) }
 {
     match &statement.what {
@@ -219,6 +219,8 @@ pub(crate) fn lay_all(
     ways: Ways,
 ) -> Result<(), AllocError>
     requires labels { length (policy_of policy.now).labels ≤ 65535 }
+    requires descriptors { length (policy_of policy.now).descriptors ≤ 255 }
+    requires functions { length checked.now.program.functions.items ≤ 65535 }
     ensures { OnOk result (drawn_of draft.new ≡ laid_all (scene_in checked.now (policy_of policy.now)) function (statements_of statements.now) ways (drawn_of draft.old)) }
 {
     let mut left = size_all(statements)?;

@@ -9,9 +9,6 @@ mod graph;
 pub mod laws;
 mod lay;
 pub mod marks;
-#[cfg(test)]
-mod tests;
 
-pub use count::MOST_POINTS;
 pub use fault::PointsFault;
 pub use graph::{Graph, Node, Part, Point, Seam};

@@ -11,7 +11,8 @@ use Rattle.cw_policies.specs.declared.keys.Section.TheVariants.{Root, Descriptor
 use Rattle.cw_policies.specs.declared.keys.Key.{Key}
 use Rattle.cw_policies.specs.declared.keys.Key.TheVariants.{Descriptors, Limits, Ats, Rules, Name, Label}
 use Rattle.cw_policies.specs.Keys.{keys_of, key_text, is_required}
-use Rattle.cw_policies.specs.Form.{or_else, first_in, items_at, text_at, array_at, is_item, is_single, is_value, wrong_item, wrong_array, wrong_at, or_wrong, wrong_key, is_missing, missing_key, has_only, fault_of, table_fault, element_fault, array_fault, form_fault}
+use Rattle.cw_policies.specs.Form.{or_else, first_in, items_at, text_at, array_at, format_of}
+use Rattle.cw_policies.specs.Form.{is_item, is_single, is_value, wrong_item, wrong_array, wrong_at, or_wrong, wrong_key, is_missing, missing_key, has_only, fault_of, table_fault, element_fault, array_fault, form_fault}
 use Rattle.cw_policies.specs.Names.{name_of}
 use Rattle.cw_policies.proofs.Whole.{both_none}
 
@@ -45,11 +46,11 @@ ElementFits s _ = Unit {0}
 
 -- ---- one table
 
-parts : (s : Section) (i : ℕ) (m : Option Key) (o : Bool) (w : Option (Key × ℕ)) → fault_of s i m o w ≡ None → (m ≡ None) × (w ≡ None)
+parts : (s : Section) (i : ℕ) (m : Option Key) (o : Bool) (w : Option (Key × ℕ)) → fault_of s i m o w ≡ None → (m ≡ None) × (o ≡ true) × (w ≡ None)
 parts s i (Some k) o w e = absurd (none-some _ (sym e))
 parts s i None false w e = absurd (none-some _ (sym e))
 parts s i None true (Some x) e = absurd (none-some _ (sym e))
-parts s i None true None e = (refl, refl)
+parts s i None true None e = (refl, refl, refl)
 
 fits_item : (b : Bool) (n : ℕ) → cond b None (Some n) ≡ None → b ≡ true
 fits_item true n e = refl
@@ -97,26 +98,26 @@ keys_fit (k ∷ ks) ms m w = by (keys_fit ks ms) (is_missing k ms) refl (wrong_a
     by more false t (Some n) u m w = absurd (none-some _ (sym w))
     by more false t None u m w = (key_fits k (get_member (key_text k) ms) t u, more m w)
 
-table_fits : (s : Section) (i : ℕ) (ms : Members) → table_fault s i ms ≡ None → TableFits s ms
+table_fits : (format : ℕ) (s : Section) (i : ℕ) (ms : Members) → table_fault format s i ms ≡ None → (has_only format (keys_of s) ms ≡ true) × TableFits s ms
 unfolding table_fault
-table_fits s i ms e =
-    let (m, w) = parts s i (missing_key (keys_of s) ms) (has_only (keys_of s) ms) (wrong_key (keys_of s) ms) e in
-    keys_fit (keys_of s) ms m w
+table_fits format s i ms e =
+    let (m, o, w) = parts s i (missing_key (keys_of s) ms) (has_only format (keys_of s) ms) (wrong_key (keys_of s) ms) e in
+    (o, keys_fit (keys_of s) ms m w)
 
-element_fits : (s : Section) (i : ℕ) (d : Data) → element_fault s i d ≡ None → ElementFits s d
-element_fits s i (table ms) e = table_fits s i ms e
-element_fits s i (string x) e = tt
-element_fits s i (integer x) e = tt
-element_fits s i (float x) e = tt
-element_fits s i (boolean x) e = tt
-element_fits s i (datetime x) e = tt
-element_fits s i (array x) e = tt
+element_fits : (format : ℕ) (s : Section) (i : ℕ) (d : Data) → element_fault format s i d ≡ None → ElementFits s d
+element_fits format s i (table ms) e = (table_fits format s i ms e).1
+element_fits format s i (string x) e = tt
+element_fits format s i (integer x) e = tt
+element_fits format s i (float x) e = tt
+element_fits format s i (boolean x) e = tt
+element_fits format s i (datetime x) e = tt
+element_fits format s i (array x) e = tt
 
-elements_fit : (s : Section) (i : ℕ) (ds : Items) → first_in (element_fault s) i ds ≡ None → EachItem (ElementFits s) ds
-elements_fit s i no_items e = tt
-elements_fit s i (item d ds) e =
-    let (here, more) = both_none (element_fault s i d) (first_in (element_fault s) (suc i) ds) e in
-    (element_fits s i d here, elements_fit s (suc i) ds more)
+elements_fit : (format : ℕ) (s : Section) (i : ℕ) (ds : Items) → first_in (element_fault format s) i ds ≡ None → EachItem (ElementFits s) ds
+elements_fit format s i no_items e = tt
+elements_fit format s i (item d ds) e =
+    let (here, more) = both_none (element_fault format s i d) (first_in (element_fault format s) (suc i) ds) e in
+    (element_fits format s i d here, elements_fit format s (suc i) ds more)
 
 -- ---- names of descriptors, and labels
 
@@ -192,22 +193,27 @@ at_tables (Some (datetime s)) h = absurd h
 at_tables (Some (table s)) h = absurd h
 
 pub record Formed (ms : Members) : Type 0 where
+  pub only : has_only (format_of ms) (keys_of Root) ms ≡ true
   pub descriptors : EachItem IsNamed (array_at Descriptors ms)
   pub labels : EachItem IsLabelled (array_at Ats ms)
 
 pub formed : (ms : Members) → form_fault ms ≡ None → Formed ms
 unfolding form_fault
 formed ms e =
-    let at = array_fault At (array_at Ats ms) in
-    let rule = array_fault Rule (array_at Rules ms) in
-    let limit = array_fault Limit (array_at Limits ms) in
-    let descriptor = array_fault Descriptor (array_at Descriptors ms) in
-    let (root, a) = both_none (table_fault Root 0 ms) (or_else descriptor (or_else limit (or_else at rule))) e in
+    let format = format_of ms in
+    let at = array_fault format At (array_at Ats ms) in
+    let rule = array_fault format Rule (array_at Rules ms) in
+    let limit = array_fault format Limit (array_at Limits ms) in
+    let descriptor = array_fault format Descriptor (array_at Descriptors ms) in
+    let (root, a) = both_none (table_fault format Root 0 ms) (or_else descriptor (or_else limit (or_else at rule))) e in
     let (d, b) = both_none descriptor (or_else limit (or_else at rule)) a in
     let (l, c) = both_none limit (or_else at rule) b in
     let (t, r) = both_none at rule c in
-    let keys = table_fits Root 0 ms root in
+    let (only, keys) = table_fits format Root 0 ms root in
     record {
-      descriptors = each (λ d. is_item Descriptors d ≡ true) (ElementFits Descriptor) IsNamed named (array_at Descriptors ms) (descriptor_tables (get_member (codes "descriptor") ms) keys.1.1.1.0) (elements_fit Descriptor 0 (array_at Descriptors ms) d);
-      labels = each (λ d. is_item Ats d ≡ true) (ElementFits At) IsLabelled labelled (array_at Ats ms) (at_tables (get_member (codes "at") ms) keys.1.1.1.1.1.0) (elements_fit At 0 (array_at Ats ms) t);
+      only = only;
+      descriptors = each (λ d. is_item Descriptors d ≡ true) (ElementFits Descriptor) IsNamed named (array_at Descriptors ms)
+          (descriptor_tables (get_member (codes "descriptor") ms) keys.1.1.1.1.1.0) (elements_fit format Descriptor 0 (array_at Descriptors ms) d);
+      labels = each (λ d. is_item Ats d ≡ true) (ElementFits At) IsLabelled labelled (array_at Ats ms)
+          (at_tables (get_member (codes "at") ms) keys.1.1.1.1.1.1.1.0) (elements_fit format At 0 (array_at Ats ms) t);
     }

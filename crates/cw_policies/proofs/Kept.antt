@@ -1,12 +1,12 @@
 -- Each policy that is spelled is valid: its rules and labels, and the whole.
-use Rattle.std.proofs.Common.{◌≡◌, ◌<◌, ◌≤◌, ℕ, suc, List, [], ◌∷◌, ◌++◌, Bool, true, false, cond, Option, Some, None, length, length-append, All, refl, sym, ap, ◌∙◌, subst, arith}
-use Rattle.std.specs.Prelude.{codes, nat_lt}
+use Rattle.std.proofs.Common.{◌≡◌, ◌⊎◌, inl, inr, ◌<◌, ◌≤◌, ℕ, suc, List, [], ◌∷◌, ◌++◌, Bool, true, false, cond, Option, Some, None, length, length-append, All, refl, sym, ap, ◌∙◌, subst, arith}
+use Rattle.std.specs.Prelude.{codes, nat_lt, nat_eq, pos, negsuc}
 use Rattle.std.specs.List.{list_any}
 use Rattle.std.specs.Str.{bytes_eq}
 use Rattle.std.proofs.lemmas.Bool.Decides.{nat_tests}
 use Rattle.std.proofs.lemmas.List.Elements.{All-nil, All-cons}
 use Rattle.std.proofs.lemmas.Option.{none-some}
-use Rattle.toml.specs.Data.{Items, no_items, item, Members, get}
+use Rattle.toml.specs.Data.{Data, string, integer, float, boolean, datetime, array, table, Items, no_items, item, Members, get, get_member}
 use Rattle.cw_rights.specs.declared.words.Test.{Test}
 use Rattle.cw_rights.specs.Trees.{Tree, nothing, never, one, seq, alt, star, plus, maybe, nesting}
 use Rattle.cw_rights.specs.Policies.{PlainRule, PlainPolicy}
@@ -20,11 +20,13 @@ use Rattle.cw_regex.proofs.Within.{Known, known_parts, within_test, tree_within}
 use Rattle.cw_policies.specs.declared.fault.PolicyFault.{PolicyFault}
 use Rattle.cw_policies.specs.declared.keys.Section.{Section}
 use Rattle.cw_policies.specs.declared.keys.Section.TheVariants.{Descriptor, Rule}
-use Rattle.cw_policies.specs.declared.keys.Key.TheVariants.{Split, Descriptors, Limits, Ats, Rules}
-use Rattle.cw_policies.specs.Form.{or_else, first_in, array_at, items_at}
-use Rattle.cw_policies.specs.Names.{names_of, count, descriptor_unknown, limit_unknown, unknown_fault, repeated, twice_table, twice_split, twice_fault}
+use Rattle.cw_policies.specs.declared.keys.Key.{Key}
+use Rattle.cw_policies.specs.declared.keys.Key.TheVariants.{Split, Detached, Descriptors, Limits, Ats, Rules}
+use Rattle.cw_policies.specs.Form.{or_else, first_in, array_at, items_at, format_in, format_of}
+use Rattle.cw_policies.specs.Names.{names_of, count, descriptor_unknown, limit_unknown, unknown_fault, repeated, twice_table, twice_item, twice_fault}
 use Rattle.cw_policies.specs.Parts.{descriptors_in, limits_in, labels_from}
-use Rattle.cw_policies.specs.Rules.{TestText, ExpressionText, RuleText, tested, written, tests_in, tests_of_table, test_texts, expression_texts, rule_texts, bad_words, turned, HasTest, HasExpression, HasRule, HaveRules}
+use Rattle.cw_policies.specs.Rules.{TestText, ExpressionText, RuleText, tested, written, tests_in, tests_of_table, test_texts, expression_texts, rule_texts}
+use Rattle.cw_policies.specs.Rules.{bad_words, turned, HasTest, HasExpression, HasRule, HaveRules}
 use Rattle.cw_policies.specs.Answer.{at_labels, positions, quantity_fault, policy_with, HasPolicy, SpelledAreValid}
 use Rattle.cw_policies.proofs.Formed.{label_in, formed}
 use Rattle.cw_policies.proofs.Valid.{valid_descriptors, not_twice, labels_named, labels_apart, number_below, limits_within}
@@ -76,7 +78,8 @@ labelled_tables n index (item d ds) l =
     let must = items_at (get (codes "must") d) in
     let never = items_at (get (codes "never") d) in
     labelled_append n (tests_of_table index d) (test_texts (suc index) ds)
-    (labelled_append n (tests_in index (label_in d) true 1 must) (tests_in index (label_in d) false 1 never) (labelled_tests n index (label_in d) true 1 must l) (labelled_tests n index (label_in d) false 1 never l))
+    (labelled_append n (tests_in index (label_in d) true 1 must) (tests_in index (label_in d) false 1 never)
+    (labelled_tests n index (label_in d) true 1 must l) (labelled_tests n index (label_in d) false 1 never l))
     (labelled_tables n (suc index) ds l)
 
 labelled_expressions : (n index : ℕ) (ds : Items) → AllLabelled n (expression_texts index ds)
@@ -123,37 +126,39 @@ words_within d n label must t l w =
 words_nest : (label : ℕ) (t : Bool × Test) → nesting (bad_words label t) ≤ 64
 words_nest label t = omega arith
 
-test_kept : (d labels : List (List ℕ)) (t : TestText) (rule : PlainRule) → 0 < length labels → HasTest d labels t rule → OneKept d labels rule labels
-test_kept d labels t rule l h = by h.is
+test_kept : (format : ℕ) (d labels : List (List ℕ)) (t : TestText) (rule : PlainRule) → 0 < length labels → HasTest format d labels t rule → OneKept d labels rule labels
+test_kept format d labels t rule l h = by h.is
   where
     by : (form : TestForm) × SpellsTest t.text form → OneKept d labels rule labels
     by (form, s) =
-        let known = subst (Known d false) s.parts (known_parts d t.text h.known) in
-        let w : IsTestWithin (length d) (test_meaning d form).1 = (within_test d form [] known).0 in
+        let known = subst (Known format d false) s.parts (known_parts format d t.text h.known) in
+        let w : IsTestWithin (length d) (test_meaning format d form).1 = (within_test format d form [] known).0 in
         let is = h.means form s in
         record {
           names = λ a. a;
           distinct = λ a. a;
           grown = omega arith;
-          within = subst (IsTreeWithin (length d) (length labels)) (sym is) (words_within (length d) (length labels) (number_in labels t.label) t.must (test_meaning d form) (number_below t.label labels l) w);
-          shallow = subst (λ (r : Tree). nesting r ≤ 64) (sym is) (words_nest (number_in labels t.label) (turned t.must (test_meaning d form)));
+          within = subst (IsTreeWithin (length d) (length labels)) (sym is)
+              (words_within (length d) (length labels) (number_in labels t.label) t.must (test_meaning format d form) (number_below t.label labels l) w);
+          shallow = subst (λ (r : Tree). nesting r ≤ 64) (sym is) (words_nest (number_in labels t.label) (turned t.must (test_meaning format d form)));
         }
 
-expression_kept : (d labels : List (List ℕ)) (r : ExpressionText) (rule : PlainRule) (next : List (List ℕ)) → HasExpression d labels r rule next → OneKept d labels rule next
-expression_kept d labels r rule next h = record {
+expression_kept : (format : ℕ) (d labels : List (List ℕ)) (r : ExpressionText) (rule : PlainRule) (next : List (List ℕ)) → HasExpression format d labels r rule next → OneKept d labels rule next
+expression_kept format d labels r rule next h = record {
   names = expression_named r.text labels next h.is h.grown;
   distinct = expression_distinct r.text labels next h.is h.grown;
   grown = by h.is;
-  within = tree_within d labels next r.text rule.bad h.is h.known h.grown h.means;
-  shallow = nests next d r.text rule.bad h.is h.shallow h.means;
+  within = tree_within format d labels next r.text rule.bad h.is h.known h.grown h.means;
+  shallow = nests format next d r.text rule.bad h.is h.shallow h.means;
 }
   where
     by : IsExpression r.text → length labels ≤ length next
     by (e, s) = subst (λ (n : List (List ℕ)). length labels ≤ length n) (sym (h.grown e s)) (names_grow (labels_of e []) labels)
 
-rule_kept : (d labels : List (List ℕ)) (t : RuleText) (rule : PlainRule) (next : List (List ℕ)) → Labelled (length labels) t → HasRule d labels t rule next → OneKept d labels rule next
-rule_kept d labels (tested t) rule next l (h, same) = subst (λ (n : List (List ℕ)). OneKept d labels rule n) (sym same) (test_kept d labels t rule l h)
-rule_kept d labels (written r) rule next l h = expression_kept d labels r rule next h
+rule_kept : (format : ℕ) (d labels : List (List ℕ)) (t : RuleText) (rule : PlainRule) (next : List (List ℕ)) → Labelled (length labels) t
+    → HasRule format d labels t rule next → OneKept d labels rule next
+rule_kept format d labels (tested t) rule next l (h, same) = subst (λ (n : List (List ℕ)). OneKept d labels rule n) (sym same) (test_kept format d labels t rule l h)
+rule_kept format d labels (written r) rule next l h = expression_kept format d labels r rule next h
 
 -- ---- all rules
 
@@ -164,8 +169,9 @@ record AllKept (d labels : List (List ℕ)) (rules : List PlainRule) (after : Li
   within : All (λ (r : PlainRule). IsTreeWithin (length d) (length after) r.bad) rules
   shallow : All (λ (r : PlainRule). nesting r.bad ≤ 64) rules
 
-rules_kept : (d labels : List (List ℕ)) (ts : List RuleText) (rules : List PlainRule) (after : List (List ℕ)) → AllLabelled (length labels) ts → HaveRules d labels ts rules after → AllKept d labels rules after
-rules_kept d labels [] rules after l (r, a) =
+rules_kept : (format : ℕ) (d labels : List (List ℕ)) (ts : List RuleText) (rules : List PlainRule) (after : List (List ℕ)) → AllLabelled (length labels) ts
+    → HaveRules format d labels ts rules after → AllKept d labels rules after
+rules_kept format d labels [] rules after l (r, a) =
     let none : AllKept d labels [] labels = record {
       names = λ a. a;
       distinct = λ a. a;
@@ -174,9 +180,9 @@ rules_kept d labels [] rules after l (r, a) =
       shallow = All-nil (λ (r : PlainRule). nesting r.bad ≤ 64);
     } in
     subst (λ (rs : List PlainRule). AllKept d labels rs after) (sym r) (subst (λ (n : List (List ℕ)). AllKept d labels [] n) (sym a) none)
-rules_kept d labels (t ∷ ts) rules after l (rule, rest, next, e, h, more) =
-    let one = rule_kept d labels t rule next l.0 h in
-    let k = rules_kept d next ts rest after (labelled_more (length labels) (length next) ts one.grown l.1) more in
+rules_kept format d labels (t ∷ ts) rules after l (rule, rest, next, e, h, more) =
+    let one = rule_kept format d labels t rule next l.0 h in
+    let k = rules_kept format d next ts rest after (labelled_more (length labels) (length next) ts one.grown l.1) more in
     let a = one.grown in
     let b = k.grown in
     let whole : AllKept d labels (rule ∷ rest) after = record {
@@ -213,61 +219,92 @@ no_table : (s : Section) (o : Option ℕ) → twice_table s o ≡ None → o ≡
 no_table s None e = refl
 no_table s (Some n) e = absurd (none-some _ (sym e))
 
-no_split : (o : Option ℕ) → twice_split o ≡ None → o ≡ None
-no_split None e = refl
-no_split (Some n) e = absurd (none-some _ (sym e))
+no_item : (key : Key) (o : Option ℕ) → twice_item key o ≡ None → o ≡ None
+no_item key None e = refl
+no_item key (Some n) e = absurd (none-some _ (sym e))
 
 record Apart (ms : Members) : Type 0 where
   descriptors : repeated [] 0 (names_of (array_at Descriptors ms)) ≡ None
   splits : repeated [] 0 (names_of (array_at Split ms)) ≡ None
+  detached : repeated [] 0 (names_of (array_at Detached ms)) ≡ None
 
 apart : (ms : Members) → twice_fault ms ≡ None → Apart ms
 unfolding twice_fault
 apart ms e =
     let d = repeated [] 0 (names_of (array_at Descriptors ms)) in
     let s = repeated [] 0 (names_of (array_at Split ms)) in
+    let t = repeated [] 0 (names_of (array_at Detached ms)) in
     let r = repeated [] 0 (names_of (array_at Rules ms)) in
-    let (a, b) = both_none (twice_table Descriptor d) (or_else (twice_split s) (twice_table Rule r)) e in
-    let (c, f) = both_none (twice_split s) (twice_table Rule r) b in
-    record { descriptors = no_table Descriptor d a; splits = no_split s c }
+    let (a, b) = both_none (twice_table Descriptor d) (or_else (twice_item Split s) (or_else (twice_item Detached t) (twice_table Rule r))) e in
+    let (c, f) = both_none (twice_item Split s) (or_else (twice_item Detached t) (twice_table Rule r)) b in
+    let (g, h) = both_none (twice_item Detached t) (twice_table Rule r) f in
+    record { descriptors = no_table Descriptor d a; splits = no_item Split s c; detached = no_item Detached t g }
 
-limits_known : (ms : Members) → unknown_fault ms ≡ None → first_in (limit_unknown (names_of (array_at Descriptors ms))) 0 (array_at Limits ms) ≡ None
+limits_known : (ms : Members) → unknown_fault ms ≡ None → first_in (limit_unknown (format_of ms) (names_of (array_at Descriptors ms))) 0 (array_at Limits ms) ≡ None
 unfolding unknown_fault
-limits_known ms e = (both_none (first_in descriptor_unknown 0 (array_at Descriptors ms)) (first_in (limit_unknown (names_of (array_at Descriptors ms))) 0 (array_at Limits ms)) e).1
+limits_known ms e =
+    let format = format_of ms in
+    let ds = array_at Descriptors ms in
+    (both_none (first_in (descriptor_unknown format) 0 ds) (first_in (limit_unknown format (names_of ds)) 0 (array_at Limits ms)) e).1
+
+abbrev numbered : Bool → ℕ
+numbered b = cond b 2 1
+
+either_of : (b : Bool) → (numbered b ≡ 1) ⊎ (numbered b ≡ 2)
+either_of true = inr refl
+either_of false = inl refl
+
+either_in : (o : Option Data) → (format_in o ≡ 1) ⊎ (format_in o ≡ 2)
+either_in None = inl refl
+either_in (Some (integer (pos n))) = either_of (nat_eq n 2)
+either_in (Some (integer (negsuc n))) = inl refl
+either_in (Some (string s)) = inl refl
+either_in (Some (float s)) = inl refl
+either_in (Some (boolean s)) = inl refl
+either_in (Some (datetime s)) = inl refl
+either_in (Some (array s)) = inl refl
+either_in (Some (table s)) = inl refl
+
+format_either : (ms : Members) → (format_of ms ≡ 1) ⊎ (format_of ms ≡ 2)
+format_either ms = either_in (get_member (codes "format") ms)
 
 count_names : (ds : Items) → length (names_of ds) ≡ count ds
 count_names no_items = refl
 count_names (item d ds) = ap suc (count_names ds)
 
-count_limits : (names : List (List ℕ)) (ds : Items) → length (limits_in names ds) ≡ count ds
-count_limits names no_items = refl
-count_limits names (item d ds) = ap suc (count_limits names ds)
+count_limits : (format : ℕ) (names : List (List ℕ)) (ds : Items) → length (limits_in format names ds) ≡ count ds
+count_limits format names no_items = refl
+count_limits format names (item d ds) = ap suc (count_limits format names ds)
 
 none_apart : IsDistinct []
 none_apart = λ i j d lt w. absurd (omega (arith, lt, w))
 
-valid_with : (ms : Members) (p : PlainPolicy) → HasPolicy ms p → length p.split ≤ 65535 → length p.labels ≤ 65535 → IsValid (policy_with ms p.labels p.rules)
-valid_with ms p h splits labels =
+valid_with : (ms : Members) (p : PlainPolicy) → HasPolicy ms p → length p.split ≤ 65535 → length p.detached ≤ 65535 → length p.labels ≤ 65535
+    → IsValid (policy_with ms p.labels p.rules)
+valid_with ms p h splits detached labels =
+    let format = format_of ms in
     let ds = array_at Descriptors ms in
     let ls = array_at Limits ms in
     let names = names_of ds in
     let parts = early_parts ms h.early in
-    let form = formed ms parts.form in
+    let fits = formed ms parts.form in
     let twice = apart ms parts.twice in
-    let kept = rules_kept names (at_labels ms) (rule_texts ms) p.rules p.labels (labelled_texts (array_at Ats ms) (array_at Rules ms)) h.rules in
+    let kept = rules_kept format names (at_labels ms) (rule_texts ms) p.rules p.labels (labelled_texts (array_at Ats ms) (array_at Rules ms)) h.rules in
     let q = few (count ls) p.rules h.quantities in
-    let n : length names ≡ length (descriptors_in ds) = count_names ds ∙ sym (count_in ds) in
+    let n : length names ≡ length (descriptors_in format ds) = count_names ds ∙ sym (count_in format ds) in
     let d8 = few_descriptors ms h.early in
-    let dc = count_in ds in
-    let lc = count_limits names ls in
+    let dc = count_in format ds in
+    let lc = count_limits format names ls in
     let l12 = q.few_limits in
     let same : length p.split ≡ length (names_of (array_at Split ms)) = ap (λ (x : PlainPolicy). length x.split) h.is in
+    let same_detached : length p.detached ≡ length (names_of (array_at Detached ms)) = ap (λ (x : PlainPolicy). length x.detached) h.is in
     record {
-      descriptors = valid_descriptors ds form.descriptors;
-      labels = kept.names (labels_named [] (array_at Ats ms) (All-nil _) form.labels);
-      distinct_descriptors = subst IsDistinct (sym (table_names ds)) (not_twice [] 0 names twice.descriptors none_apart);
+      descriptors = valid_descriptors format ds fits.descriptors;
+      labels = kept.names (labels_named [] (array_at Ats ms) (All-nil _) fits.labels);
+      distinct_descriptors = subst IsDistinct (sym (table_names format ds)) (not_twice [] 0 names twice.descriptors none_apart);
       distinct_labels = kept.distinct (labels_apart [] (array_at Ats ms) none_apart);
       distinct_splits = not_twice [] 0 (names_of (array_at Split ms)) twice.splits none_apart;
+      distinct_detached = not_twice [] 0 (names_of (array_at Detached ms)) twice.detached none_apart;
       few_descriptors = omega (arith, d8, dc);
       few_limits = omega (arith, lc, l12);
       few_rules = q.few_rules;
@@ -275,9 +312,11 @@ valid_with ms p h splits labels =
       shallow = kept.shallow;
       few_splits = omega (arith, same, splits);
       few_labels = labels;
-      limits = subst (λ k. All (IsLimitWithin k) (limits_in names ls)) n (limits_within names 0 ls (limits_known ms parts.unknown));
+      few_detached = omega (arith, same_detached, detached);
+      format = format_either ms;
+      limits = subst (λ k. All (IsLimitWithin k) (limits_in format names ls)) n (limits_within format names 0 ls (limits_known ms parts.unknown));
       rules = subst (λ k. All (λ (r : PlainRule). IsTreeWithin k (length p.labels) r.bad) p.rules) n kept.within;
     }
 
 pub is_valid : SpelledAreValid
-is_valid text p s = subst IsValid (sym s.has.is) (valid_with s.tree p s.has s.few_splits s.few_labels)
+is_valid text p s = subst IsValid (sym s.has.is) (valid_with s.tree p s.has s.few_splits s.few_detached s.few_labels)

@@ -8,3 +8,4 @@ pub mod Formed
 pub mod Valid
 pub mod Kept
 pub mod Same
+pub mod Formats

@@ -28,7 +28,7 @@ or_some P (Twice x) p = p
 or_some P NoMemory p = tt
 
 -- the text at this place is refused
-pub refused_at : (d labels : List (List ℕ)) (xs : List Source) (i : ℕ) (x : Source) (f : PolicyFault) → i < length xs
-    → OrMemory (IsRuleFault d (text_of (get_or xs i x))) f → OrMemory (FirstRefused d labels (map text_of (drop i xs))) f
-refused_at d labels xs i x f lt = or_more (IsRuleFault d (text_of (get_or xs i x))) (FirstRefused d labels (map text_of (drop i xs))) f
-    (λ g h. subst (λ (ss : List Source). FirstRefused d labels (map text_of ss) g) (sym (drop-cons xs i x lt)) (inl h))
+pub refused_at : (format : ℕ) (d labels : List (List ℕ)) (xs : List Source) (i : ℕ) (x : Source) (f : PolicyFault) → i < length xs
+    → OrMemory (IsRuleFault format d (text_of (get_or xs i x))) f → OrMemory (FirstRefused format d labels (map text_of (drop i xs))) f
+refused_at format d labels xs i x f lt = or_more (IsRuleFault format d (text_of (get_or xs i x))) (FirstRefused format d labels (map text_of (drop i xs))) f
+    (λ g h. subst (λ (ss : List Source). FirstRefused format d labels (map text_of ss) g) (sym (drop-cons xs i x lt)) (inl h))

@@ -13,7 +13,7 @@ use Rattle.cw_regex.specs.Causes.{IsTestFault, IsRegexFault, IsShallow, IsDeep}
 use Rattle.cw_policies.specs.declared.fault.PolicyFault.{PolicyFault}
 use Rattle.cw_policies.specs.declared.fault.PolicyFault.TheVariants.{Toml, Missing, Unknown, Kind, Regex, Limit as TooMany, Twice, NoMemory}
 use Rattle.cw_policies.specs.declared.keys.Key.TheVariants.{Limits}
-use Rattle.cw_policies.specs.Form.{array_at}
+use Rattle.cw_policies.specs.Form.{array_at, format_of}
 use Rattle.cw_policies.specs.Names.{count}
 use Rattle.cw_policies.specs.Rules.{TestText, ExpressionText, RuleText, tested, written, regex_fault, HasTest, HasExpression, HasRule, HaveRules, IsRuleFault, FirstRefused, rule_texts}
 use Rattle.cw_policies.specs.Answer.{descriptor_names, at_labels, quantity_fault, policy_with, HasPolicy, Spells, IsFaultOf, SpellsOnePolicy, RefusedSpellsNone}
@@ -30,35 +30,37 @@ record Same (r s : PlainRule) (a b : List (List ℕ)) : Type 0 where
   rule : r ≡ s
   after : a ≡ b
 
-one_test : (d labels : List (List ℕ)) (t : TestText) (r s : PlainRule) → HasTest d labels t r → HasTest d labels t s → r ≡ s
-one_test d labels t r s h k = by h.is
+one_test : (format : ℕ) (d labels : List (List ℕ)) (t : TestText) (r s : PlainRule) → HasTest format d labels t r → HasTest format d labels t s → r ≡ s
+one_test format d labels t r s h k = by h.is
   where
     by : IsTest t.text → r ≡ s
     by (form, spelled) = same_rule r s (h.name ∙ sym k.name) (h.means form spelled ∙ sym (k.means form spelled))
 
-one_expression : (d labels : List (List ℕ)) (x : ExpressionText) (r s : PlainRule) (a b : List (List ℕ)) → HasExpression d labels x r a → HasExpression d labels x s b → Same r s a b
-one_expression d labels x r s a b h k = by h.is
+one_expression : (format : ℕ) (d labels : List (List ℕ)) (x : ExpressionText) (r s : PlainRule) (a b : List (List ℕ))
+    → HasExpression format d labels x r a → HasExpression format d labels x s b → Same r s a b
+one_expression format d labels x r s a b h k = by h.is
   where
     by : IsExpression x.text → Same r s a b
     by (e, spelled) =
         let after : a ≡ b = h.grown e spelled ∙ sym (k.grown e spelled) in
-        let bad : r.bad ≡ s.bad = h.means e spelled ∙ ap (λ (l : List (List ℕ)). meaning l d e) after ∙ sym (k.means e spelled) in
+        let bad : r.bad ≡ s.bad = h.means e spelled ∙ ap (λ (l : List (List ℕ)). meaning format l d e) after ∙ sym (k.means e spelled) in
         record { rule = same_rule r s (h.name ∙ sym k.name) bad; after = after }
 
-one_rule : (d labels : List (List ℕ)) (t : RuleText) (r s : PlainRule) (a b : List (List ℕ)) → HasRule d labels t r a → HasRule d labels t s b → Same r s a b
-one_rule d labels (tested t) r s a b (h, f) (k, g) = record { rule = one_test d labels t r s h k; after = f ∙ sym g }
-one_rule d labels (written x) r s a b h k = one_expression d labels x r s a b h k
+one_rule : (format : ℕ) (d labels : List (List ℕ)) (t : RuleText) (r s : PlainRule) (a b : List (List ℕ)) → HasRule format d labels t r a → HasRule format d labels t s b → Same r s a b
+one_rule format d labels (tested t) r s a b (h, f) (k, g) = record { rule = one_test format d labels t r s h k; after = f ∙ sym g }
+one_rule format d labels (written x) r s a b h k = one_expression format d labels x r s a b h k
 
 record SameRules (rs ss : List PlainRule) (a b : List (List ℕ)) : Type 0 where
   same : rs ≡ ss
   after : a ≡ b
 
-one_list : (d labels : List (List ℕ)) (ts : List RuleText) (rs ss : List PlainRule) (a b : List (List ℕ)) → HaveRules d labels ts rs a → HaveRules d labels ts ss b → SameRules rs ss a b
-one_list d labels [] rs ss a b (e, f) (g, h) = record { same = e ∙ sym g; after = f ∙ sym h }
-one_list d labels (t ∷ ts) rs ss a b (r, more, next, e, h, hs) (s, rest, last, f, k, ks) =
-    let one = one_rule d labels t r s next last h k in
-    let moved : HaveRules d next ts rest b = subst (λ (l : List (List ℕ)). HaveRules d l ts rest b) (sym one.after) ks in
-    let all = one_list d next ts more rest a b hs moved in
+one_list : (format : ℕ) (d labels : List (List ℕ)) (ts : List RuleText) (rs ss : List PlainRule) (a b : List (List ℕ))
+    → HaveRules format d labels ts rs a → HaveRules format d labels ts ss b → SameRules rs ss a b
+one_list format d labels [] rs ss a b (e, f) (g, h) = record { same = e ∙ sym g; after = f ∙ sym h }
+one_list format d labels (t ∷ ts) rs ss a b (r, more, next, e, h, hs) (s, rest, last, f, k, ks) =
+    let one = one_rule format d labels t r s next last h k in
+    let moved : HaveRules format d next ts rest b = subst (λ (l : List (List ℕ)). HaveRules format d l ts rest b) (sym one.after) ks in
+    let all = one_list format d next ts more rest a b hs moved in
     record { same = e ∙ ap₂ (λ x xs. x ∷ xs) one.rule all.same ∙ sym f; after = all.after }
 
 -- ---- one policy
@@ -67,7 +69,7 @@ pub one_policy : SpellsOnePolicy
 one_policy text p q s k =
     let trees : s.tree ≡ k.tree = same_Some s.tree k.tree (sym s.parsed ∙ k.parsed) in
     let other : HasPolicy s.tree q = subst (λ (t : Members). HasPolicy t q) (sym trees) k.has in
-    let same = one_list (descriptor_names s.tree) (at_labels s.tree) (rule_texts s.tree) p.rules q.rules p.labels q.labels s.has.rules other.rules in
+    let same = one_list (format_of s.tree) (descriptor_names s.tree) (at_labels s.tree) (rule_texts s.tree) p.rules q.rules p.labels q.labels s.has.rules other.rules in
     s.has.is ∙ ap₂ (policy_with s.tree) same.after same.same ∙ sym other.is
 
 -- ---- no policy where there is a fault
@@ -75,39 +77,41 @@ one_policy text p q s k =
 none_found : {A : Type 0} {P : Type 0} (o : Option A) (x : A) → o ≡ None → o ≡ Some x → P
 none_found o x e f = absurd (none-some x (sym e ∙ f))
 
-good_test : (d labels : List (List ℕ)) (t : TestText) (r : PlainRule) (e : RegexFault) → HasTest d labels t r → IsTestFault d t.text e → ⊥
-good_test d labels t r (At' n) h f = f.outside h.is
-good_test d labels t r (UnknownDescriptor n) h f = none_found _ _ h.known f.1
-good_test d labels t r (UnknownRight n) h f = none_found _ _ h.known f.1
-good_test d labels t r TooDeep h f = f
-good_test d labels t r NoMemory' h f = f
+good_test : (format : ℕ) (d labels : List (List ℕ)) (t : TestText) (r : PlainRule) (e : RegexFault) → HasTest format d labels t r → IsTestFault format d t.text e → ⊥
+good_test format d labels t r (At' n) h f = f.outside h.is
+good_test format d labels t r (UnknownDescriptor n) h f = none_found _ _ h.known f.1
+good_test format d labels t r (UnknownRight n) h f = none_found _ _ h.known f.1
+good_test format d labels t r TooDeep h f = f
+good_test format d labels t r NoMemory' h f = f
 
 too_deep : (text : List ℕ) → IsExpression text → IsShallow text → IsDeep text → ⊥
 too_deep text (e, s) l m = let a : depth e ≤ 64 = l e s in let b : 64 < depth e = m e s in absurd (omega (arith, a, b))
 
-good_expression : (d labels : List (List ℕ)) (x : ExpressionText) (r : PlainRule) (a : List (List ℕ)) (e : RegexFault) (f : PolicyFault) → HasExpression d labels x r a → IsRegexFault d x.text e → f ≡ regex_fault x.index e → f ≡ NoMemory
-good_expression d labels x r a (At' n) f h k is = absurd (k.outside h.is)
-good_expression d labels x r a (UnknownDescriptor n) f h k is = none_found _ _ h.known k.2
-good_expression d labels x r a (UnknownRight n) f h k is = none_found _ _ h.known k.2
-good_expression d labels x r a TooDeep f h k is = absurd (too_deep x.text h.is h.shallow k.1)
-good_expression d labels x r a NoMemory' f h k is = is
+good_expression : (format : ℕ) (d labels : List (List ℕ)) (x : ExpressionText) (r : PlainRule) (a : List (List ℕ)) (e : RegexFault) (f : PolicyFault)
+    → HasExpression format d labels x r a → IsRegexFault format d x.text e → f ≡ regex_fault x.index e → f ≡ NoMemory
+good_expression format d labels x r a (At' n) f h k is = absurd (k.outside h.is)
+good_expression format d labels x r a (UnknownDescriptor n) f h k is = none_found _ _ h.known k.2
+good_expression format d labels x r a (UnknownRight n) f h k is = none_found _ _ h.known k.2
+good_expression format d labels x r a TooDeep f h k is = absurd (too_deep x.text h.is h.shallow k.1)
+good_expression format d labels x r a NoMemory' f h k is = is
 
-good_rule : (d labels : List (List ℕ)) (t : RuleText) (r : PlainRule) (a : List (List ℕ)) (f : PolicyFault) → HasRule d labels t r a → IsRuleFault d t f → f ≡ NoMemory
-good_rule d labels (tested t) r a f (h, same) (e, k, is) = absurd (good_test d labels t r e h k)
-good_rule d labels (written x) r a f h (e, k, is) = good_expression d labels x r a e f h k is
+good_rule : (format : ℕ) (d labels : List (List ℕ)) (t : RuleText) (r : PlainRule) (a : List (List ℕ)) (f : PolicyFault) → HasRule format d labels t r a → IsRuleFault format d t f → f ≡ NoMemory
+good_rule format d labels (tested t) r a f (h, same) (e, k, is) = absurd (good_test format d labels t r e h k)
+good_rule format d labels (written x) r a f h (e, k, is) = good_expression format d labels x r a e f h k is
 
-not_refused : (d labels : List (List ℕ)) (ts : List RuleText) (rs : List PlainRule) (a : List (List ℕ)) (f : PolicyFault) → HaveRules d labels ts rs a → FirstRefused d labels ts f → f ≡ NoMemory
-not_refused d labels [] rs a f h k = absurd k
-not_refused d labels (t ∷ ts) rs a f (r, more, next, e, h, hs) (inl k) = good_rule d labels t r next f h k
-not_refused d labels (t ∷ ts) rs a f (r, more, next, e, h, hs) (inr (s, last, k, ks)) =
-    let one = one_rule d labels t r s next last h k in
-    not_refused d next ts more a f hs (subst (λ (l : List (List ℕ)). FirstRefused d l ts f) (sym one.after) ks)
+not_refused : (format : ℕ) (d labels : List (List ℕ)) (ts : List RuleText) (rs : List PlainRule) (a : List (List ℕ)) (f : PolicyFault)
+    → HaveRules format d labels ts rs a → FirstRefused format d labels ts f → f ≡ NoMemory
+not_refused format d labels [] rs a f h k = absurd k
+not_refused format d labels (t ∷ ts) rs a f (r, more, next, e, h, hs) (inl k) = good_rule format d labels t r next f h k
+not_refused format d labels (t ∷ ts) rs a f (r, more, next, e, h, hs) (inr (s, last, k, ks)) =
+    let one = one_rule format d labels t r s next last h k in
+    not_refused format d next ts more a f hs (subst (λ (l : List (List ℕ)). FirstRefused format d l ts f) (sym one.after) ks)
 
 no_fault : (ms : Members) (p : PlainPolicy) (f : PolicyFault) → HasPolicy ms p → IsFaultOf ms f → f ≡ NoMemory
 no_fault ms p f h (inl e) = none_found _ _ h.early e
-no_fault ms p f h (inr (e, inl k)) = not_refused (descriptor_names ms) (at_labels ms) (rule_texts ms) p.rules p.labels f h.rules k
+no_fault ms p f h (inr (e, inl k)) = not_refused (format_of ms) (descriptor_names ms) (at_labels ms) (rule_texts ms) p.rules p.labels f h.rules k
 no_fault ms p f h (inr (e, inr (rules, labels, k, q))) =
-    let same = one_list (descriptor_names ms) (at_labels ms) (rule_texts ms) rules p.rules labels p.labels k h.rules in
+    let same = one_list (format_of ms) (descriptor_names ms) (at_labels ms) (rule_texts ms) rules p.rules labels p.labels k h.rules in
     let none = subst (λ (rs : List PlainRule). quantity_fault (count (array_at Limits ms)) rs ≡ None) (sym same.same) h.quantities in
     none_found _ _ none q
 

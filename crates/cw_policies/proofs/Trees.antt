@@ -13,10 +13,11 @@ use Rattle.cw_policies.specs.declared.fault.PolicyFault.TheVariants.{Toml, Missi
 use Rattle.cw_policies.specs.declared.keys.Section.{Section}
 use Rattle.cw_policies.specs.declared.keys.Section.TheVariants.{Root, Descriptor, Limit, At, Rule}
 use Rattle.cw_policies.specs.declared.keys.Key.{Key}
-use Rattle.cw_policies.specs.declared.keys.Key.TheVariants.{Split, Descriptors, Limits, Ats, Rules}
+use Rattle.cw_policies.specs.declared.keys.Key.TheVariants.{Split, Detached, Descriptors, Limits, Ats, Rules}
 use Rattle.cw_policies.specs.Keys.{keys_of, place}
-use Rattle.cw_policies.specs.Form.{or_else, first_in, items_at, text_at, array_at, missing_key, has_only, wrong_key, fault_of, table_fault, element_fault, array_fault, form_fault}
-use Rattle.cw_policies.specs.Names.{is_among, names_of, count, unknown_right, unknown_item, rights_fault, descriptor_unknown, limit_unknown, unknown_fault, repeated, twice_table, twice_split, twice_fault, count_fault, early_fault}
+use Rattle.cw_policies.specs.Form.{or_else, first_in, items_at, text_at, array_at, format_of, missing_key, has_only, wrong_key, fault_of, table_fault, element_fault, array_fault, form_fault}
+use Rattle.cw_policies.specs.Names.{is_among, names_of, count, unknown_right, unknown_item, rights_fault, descriptor_unknown, limit_unknown, unknown_fault}
+use Rattle.cw_policies.specs.Names.{repeated, twice_table, twice_item, twice_fault, count_fault, early_fault}
 use Rattle.cw_policies.specs.Rules.{RuleText, tested, written, OrMemory, regex_fault, IsRuleFault, FirstRefused, rule_texts}
 use Rattle.cw_policies.specs.Answer.{positions, quantity_fault, IsFaultOf, IsFault}
 
@@ -44,68 +45,74 @@ never_fault s i None false w e = cc
 never_fault s i None true (Some x) e = cc
 never_fault s i None true None e = none-some Toml e
 
-never_table : (s : Section) (i : ℕ) (ms : Members) → Never (table_fault s i ms)
+never_table : (format : ℕ) (s : Section) (i : ℕ) (ms : Members) → Never (table_fault format s i ms)
 unfolding table_fault
-never_table s i ms = never_fault s i (missing_key (keys_of s) ms) (has_only (keys_of s) ms) (wrong_key (keys_of s) ms)
+never_table format s i ms = never_fault s i (missing_key (keys_of s) ms) (has_only format (keys_of s) ms) (wrong_key (keys_of s) ms)
 
-never_element : (s : Section) (i : ℕ) (d : Data) → Never (element_fault s i d)
-never_element s i (table ms) = never_table s i ms
-never_element s i (string x) = never_none
-never_element s i (integer x) = never_none
-never_element s i (float x) = never_none
-never_element s i (boolean x) = never_none
-never_element s i (datetime x) = never_none
-never_element s i (array x) = never_none
+never_element : (format : ℕ) (s : Section) (i : ℕ) (d : Data) → Never (element_fault format s i d)
+never_element format s i (table ms) = never_table format s i ms
+never_element format s i (string x) = never_none
+never_element format s i (integer x) = never_none
+never_element format s i (float x) = never_none
+never_element format s i (boolean x) = never_none
+never_element format s i (datetime x) = never_none
+never_element format s i (array x) = never_none
 
-never_array : (s : Section) (ds : Items) → Never (array_fault s ds)
-never_array s ds = never_in (element_fault s) 0 ds (never_element s)
+never_array : (format : ℕ) (s : Section) (ds : Items) → Never (array_fault format s ds)
+never_array format s ds = never_in (element_fault format s) 0 ds (never_element format s)
 
 never_form : (ms : Members) → Never (form_fault ms)
 unfolding form_fault
 never_form ms =
-    let at = array_fault At (array_at Ats ms) in
-    let rule = array_fault Rule (array_at Rules ms) in
-    let limit = array_fault Limit (array_at Limits ms) in
-    let descriptor = array_fault Descriptor (array_at Descriptors ms) in
-    never_or (table_fault Root 0 ms) (or_else descriptor (or_else limit (or_else at rule))) (never_table Root 0 ms)
-    (never_or descriptor (or_else limit (or_else at rule)) (never_array Descriptor (array_at Descriptors ms))
-    (never_or limit (or_else at rule) (never_array Limit (array_at Limits ms))
-    (never_or at rule (never_array At (array_at Ats ms)) (never_array Rule (array_at Rules ms)))))
+    let format = format_of ms in
+    let at = array_fault format At (array_at Ats ms) in
+    let rule = array_fault format Rule (array_at Rules ms) in
+    let limit = array_fault format Limit (array_at Limits ms) in
+    let descriptor = array_fault format Descriptor (array_at Descriptors ms) in
+    never_or (table_fault format Root 0 ms) (or_else descriptor (or_else limit (or_else at rule))) (never_table format Root 0 ms)
+    (never_or descriptor (or_else limit (or_else at rule)) (never_array format Descriptor (array_at Descriptors ms))
+    (never_or limit (or_else at rule) (never_array format Limit (array_at Limits ms))
+    (never_or at rule (never_array format At (array_at Ats ms)) (never_array format Rule (array_at Rules ms)))))
 
 never_item : (s : Section) (i k : ℕ) (o : Option ℕ) → Never (unknown_item s i k o)
 never_item s i k None e = none-some Toml e
 never_item s i k (Some n) e = cc
 
-never_rights : (s : Section) (i k : ℕ) (o : Option Data) → Never (rights_fault s i k o)
-never_rights s i k o = never_item s i k (first_in unknown_right 1 (items_at o))
+never_rights : (format : ℕ) (s : Section) (i k : ℕ) (o : Option Data) → Never (rights_fault format s i k o)
+never_rights format s i k o = never_item s i k (first_in (unknown_right format) 1 (items_at o))
 
-never_limit : (names : List (List ℕ)) (i : ℕ) (d : Data) → Never (limit_unknown names i d)
-never_limit names i d = never_cond (is_among names (text_at (get (codes "descriptor") d))) (rights_fault Limit i 2 (get (codes "keep") d)) (Some (Unknown (place Limit i 1 0))) (never_rights Limit i 2 (get (codes "keep") d)) (λ e. cc)
+never_limit : (format : ℕ) (names : List (List ℕ)) (i : ℕ) (d : Data) → Never (limit_unknown format names i d)
+never_limit format names i d =
+    never_cond (is_among names (text_at (get (codes "descriptor") d))) (rights_fault format Limit i 2 (get (codes "keep") d)) (Some (Unknown (place Limit i 1 0)))
+    (never_rights format Limit i 2 (get (codes "keep") d)) (λ e. cc)
 
 never_unknown : (ms : Members) → Never (unknown_fault ms)
 unfolding unknown_fault
 never_unknown ms =
+    let format = format_of ms in
     let ds = array_at Descriptors ms in
-    never_or (first_in descriptor_unknown 0 ds) (first_in (limit_unknown (names_of ds)) 0 (array_at Limits ms))
-    (never_in descriptor_unknown 0 ds (λ i d. never_rights Descriptor i 2 (get (codes "rights") d)))
-    (never_in (limit_unknown (names_of ds)) 0 (array_at Limits ms) (never_limit (names_of ds)))
+    never_or (first_in (descriptor_unknown format) 0 ds) (first_in (limit_unknown format (names_of ds)) 0 (array_at Limits ms))
+    (never_in (descriptor_unknown format) 0 ds (λ i d. never_rights format Descriptor i 2 (get (codes "rights") d)))
+    (never_in (limit_unknown format (names_of ds)) 0 (array_at Limits ms) (never_limit format (names_of ds)))
 
 never_twice_table : (s : Section) (o : Option ℕ) → Never (twice_table s o)
 never_twice_table s None e = none-some Toml e
 never_twice_table s (Some n) e = cc
 
-never_twice_split : (o : Option ℕ) → Never (twice_split o)
-never_twice_split None e = none-some Toml e
-never_twice_split (Some n) e = cc
+never_twice_item : (key : Key) (o : Option ℕ) → Never (twice_item key o)
+never_twice_item key None e = none-some Toml e
+never_twice_item key (Some n) e = cc
 
 never_twice : (ms : Members) → Never (twice_fault ms)
 unfolding twice_fault
 never_twice ms =
     let d = repeated [] 0 (names_of (array_at Descriptors ms)) in
     let s = repeated [] 0 (names_of (array_at Split ms)) in
+    let t = repeated [] 0 (names_of (array_at Detached ms)) in
     let r = repeated [] 0 (names_of (array_at Rules ms)) in
-    never_or (twice_table Descriptor d) (or_else (twice_split s) (twice_table Rule r)) (never_twice_table Descriptor d)
-    (never_or (twice_split s) (twice_table Rule r) (never_twice_split s) (never_twice_table Rule r))
+    never_or (twice_table Descriptor d) (or_else (twice_item Split s) (or_else (twice_item Detached t) (twice_table Rule r))) (never_twice_table Descriptor d)
+    (never_or (twice_item Split s) (or_else (twice_item Detached t) (twice_table Rule r)) (never_twice_item Split s)
+    (never_or (twice_item Detached t) (twice_table Rule r) (never_twice_item Detached t) (never_twice_table Rule r)))
 
 never_count : (ms : Members) → Never (count_fault ms)
 never_count ms = never_cond (nat_lt 8 (count (array_at Descriptors ms))) _ None (λ e. cc) never_none
@@ -124,14 +131,14 @@ never_regex i (At' n) e = cc
 never_regex i (UnknownDescriptor n) e = cc
 never_regex i (UnknownRight n) e = cc
 
-never_rule : (d : List (List ℕ)) (t : RuleText) → IsRuleFault d t Toml → ⊥
-never_rule d (tested t) (e, h, is) = cc
-never_rule d (written r) (e, h, is) = never_regex r.index e is
+never_rule : (format : ℕ) (d : List (List ℕ)) (t : RuleText) → IsRuleFault format d t Toml → ⊥
+never_rule format d (tested t) (e, h, is) = cc
+never_rule format d (written r) (e, h, is) = never_regex r.index e is
 
-never_refused : (d labels : List (List ℕ)) (ts : List RuleText) → FirstRefused d labels ts Toml → ⊥
-never_refused d labels [] h = absurd h
-never_refused d labels (t ∷ ts) (inl h) = never_rule d t h
-never_refused d labels (t ∷ ts) (inr (r, next, has, more)) = never_refused d next ts more
+never_refused : (format : ℕ) (d labels : List (List ℕ)) (ts : List RuleText) → FirstRefused format d labels ts Toml → ⊥
+never_refused format d labels [] h = absurd h
+never_refused format d labels (t ∷ ts) (inl h) = never_rule format d t h
+never_refused format d labels (t ∷ ts) (inr (r, next, has, more)) = never_refused format d next ts more
 
 never_quantity : (n : ℕ) (rules : List PlainRule) → Never (quantity_fault n rules)
 never_quantity n rules =
@@ -141,7 +148,7 @@ never_quantity n rules =
 
 never_tree : (ms : Members) → IsFaultOf ms Toml → ⊥
 never_tree ms (inl e) = never_early ms e
-never_tree ms (inr (e, inl h)) = never_refused _ _ (rule_texts ms) h
+never_tree ms (inr (e, inl h)) = never_refused (format_of ms) _ _ (rule_texts ms) h
 never_tree ms (inr (e, inr (rules, labels, h, q))) = never_quantity _ rules q
 
 -- the fault of a text whose tree has it

@@ -1,70 +1,45 @@
 -- Each policy that is spelled is valid: its descriptors, names and limits.
-use Rattle.std.proofs.Common.{◌≡◌, ◌≢◌, ◌<◌, ◌≤◌, ◌⊎◌, inl, inr, ℕ, suc, ◌+◌, ◌^◌, List, [], ◌∷◌, ◌++◌, Bool, true, false, ◌||◌, cond, Option, Some, None, unwrap_or, length, All, IsTrue, refl, sym, ap, ◌∙◌, subst, arith, eqb-true, append-nil, append_assoc}
-use Rattle.std.specs.Prelude.{codes, nat_eq, nat_lt, bit_or}
+use Rattle.std.proofs.Common.{◌≡◌, ◌≢◌, ◌<◌, ◌≤◌, ◌⊎◌, inl, inr, ℕ, suc, ◌+◌, List, [], ◌∷◌, ◌++◌}
+use Rattle.std.proofs.Common.{Bool, true, false, ◌||◌, cond, Option, Some, None, unwrap_or, length, All, IsTrue, refl, sym, ap, ◌∙◌, subst, arith, eqb-true, append-nil, append_assoc}
+use Rattle.std.specs.Prelude.{codes, nat_eq, nat_lt, IfSome}
 use Rattle.std.specs.List.{list_any, position_or_len}
 use Rattle.std.specs.Str.{bytes_eq}
 use Rattle.std.proofs.lemmas.Bool.{true≢false}
 use Rattle.std.proofs.lemmas.Bool.Decides.{nat_tests}
-use Rattle.std.proofs.lemmas.Nat.{or_lt}
-use Rattle.std.proofs.Math.Pow.{pow-lt}
 use Rattle.std.proofs.lemmas.List.Elements.{All-nil, All-cons, All-push}
 use Rattle.std.proofs.lemmas.List.Quantifiers.{all_pairs_push}
 use Rattle.std.proofs.lemmas.Option.{none-some}
 use Rattle.std.proofs.lemmas.Slice.Eq.{bytes_eq-Decides}
 use Rattle.toml.specs.Data.{Data, Items, no_items, item, get}
+use Rattle.cw_rights.specs.Names.{right_mask}
+use Rattle.cw_rights.proofs.Named.{mask_within}
 use Rattle.cw_rights.specs.Valid.{is_name, IsDigit, IsNumberOf, IsDescriptorName, IsDistinct, IsLimitWithin, IsValidDescriptor}
 use Rattle.cw_regex.specs.Grammar.{is_digit, is_descriptor}
 use Rattle.cw_regex.specs.Labels.{AreNames}
-use Rattle.cw_regex.specs.Meaning.{later_right_number, right_number, number_in, with_name}
+use Rattle.cw_regex.specs.Meaning.{number_in, with_name}
 use Rattle.cw_policies.specs.declared.fault.PolicyFault.{PolicyFault}
 use Rattle.cw_policies.specs.Form.{first_in, items_at, text_at}
 use Rattle.cw_policies.specs.Names.{name_of, is_among, limit_unknown, repeated}
-use Rattle.cw_policies.specs.Parts.{with_right, rights_of, rights_at, digit_of, descriptor_in, descriptors_in, limit_in, limits_in, labels_from}
+use Rattle.cw_policies.specs.Parts.{with_rights, rights_of, rights_at, digit_of, descriptor_in, descriptors_in, limit_in, limits_in, labels_from}
 use Rattle.cw_policies.proofs.Formed.{EachItem, IsNamed, IsLabelled, label_in}
+use Rattle.cw_policies.proofs.Rights.{within_both}
 use Rattle.cw_policies.proofs.Whole.{both_none}
 
 -- ---- sets of rights
 
-abbrev Small : Option ℕ → Type 0
-Small None = Unit {0}
-Small (Some n) = n < 12
-
-small_cond : (b : Bool) (n : ℕ) (o : Option ℕ) → n < 12 → Small o → Small (cond b (Some n) o)
-small_cond true n o l m = l
-small_cond false n o l m = m
-
-small_later : (w : List ℕ) → Small (later_right_number w)
-small_later w =
-    small_cond (bytes_eq w (codes "CAP_FCNTL")) 6 _ (omega arith) (
-    small_cond (bytes_eq w (codes "CAP_IOCTL")) 7 _ (omega arith) (
-    small_cond (bytes_eq w (codes "CAP_EVENT")) 8 _ (omega arith) (
-    small_cond (bytes_eq w (codes "CAP_ACCEPT")) 9 _ (omega arith) (
-    small_cond (bytes_eq w (codes "CAP_LISTEN")) 10 _ (omega arith) (
-    small_cond (bytes_eq w (codes "CAP_LOOKUP")) 11 None (omega arith) tt)))))
-
-small_right : (w : List ℕ) → Small (right_number w)
-small_right w =
-    small_cond (bytes_eq w (codes "CAP_READ")) 0 _ (omega arith) (
-    small_cond (bytes_eq w (codes "CAP_WRITE")) 1 _ (omega arith) (
-    small_cond (bytes_eq w (codes "CAP_SEEK")) 2 _ (omega arith) (
-    small_cond (bytes_eq w (codes "CAP_FSTAT")) 3 _ (omega arith) (
-    small_cond (bytes_eq w (codes "CAP_FTRUNCATE")) 4 _ (omega arith) (
-    small_cond (bytes_eq w (codes "CAP_FSYNC")) 5 _ (omega arith) (small_later w))))))
-
-with_small : (r : ℕ) (o : Option ℕ) → r ≤ 4095 → Small o → with_right r o ≤ 4095
+with_small : (r : ℕ) (o : Option ℕ) → r ≤ 4095 → IfSome o (λ n. n ≤ 4095) → with_rights r o ≤ 4095
 with_small r None h s = h
-with_small r (Some n) h s =
-    let bit : 2 ^ n < 2 ^ 12 = pow-lt s in
-    let both : bit_or r (2 ^ n) < 2 ^ 12 = or_lt 12 r (2 ^ n) (omega (arith, h)) bit in
-    omega (arith, both)
+with_small r (Some more) h s = within_both r more h s
 
-rights_small : (r : ℕ) (ds : Items) → r ≤ 4095 → rights_of r ds ≤ 4095
-rights_small r no_items h = h
-rights_small r (item d ds) h = rights_small (with_right r (right_number (name_of d))) ds (with_small r (right_number (name_of d)) h (small_right (name_of d)))
+rights_small : (format r : ℕ) (ds : Items) → r ≤ 4095 → rights_of format r ds ≤ 4095
+rights_small format r no_items h = h
+rights_small format r (item d ds) h =
+    let more = right_mask format (name_of d) in
+    rights_small format (with_rights r more) ds (with_small r more h (mask_within format (name_of d)))
 
-rights_at_small : (o : Option Data) → (rights_at o).0 ≤ 4095
-rights_at_small None = omega arith
-rights_at_small (Some d) = rights_small 0 (items_at (Some d)) (omega arith)
+rights_at_small : (format : ℕ) (o : Option Data) → (rights_at format o).0 ≤ 4095
+rights_at_small format None = omega arith
+rights_at_small format (Some d) = rights_small format 0 (items_at (Some d)) (omega arith)
 
 -- ---- descriptors
 
@@ -118,12 +93,13 @@ number_of_name w = by (bytes_eq w (codes "0")) refl (bytes_eq w (codes "1")) ref
     by false e false f true g = (omega arith, same_text w (codes "2") g)
     by false e false f false g = no_digit w e f g
 
-valid_descriptor : (d : Data) → IsNamed d → IsValidDescriptor (descriptor_in d)
-valid_descriptor d h = record { name = descriptor_name (name_of d) h; number = number_of_name (name_of d); rights = rights_at_small (get (codes "rights") d) }
+valid_descriptor : (format : ℕ) (d : Data) → IsNamed d → IsValidDescriptor (descriptor_in format d)
+valid_descriptor format d h = record { name = descriptor_name (name_of d) h; number = number_of_name (name_of d); rights = rights_at_small format (get (codes "rights") d) }
 
-pub valid_descriptors : (ds : Items) → EachItem IsNamed ds → All IsValidDescriptor (descriptors_in ds)
-valid_descriptors no_items h = All-nil IsValidDescriptor
-valid_descriptors (item d ds) h = All-cons IsValidDescriptor (descriptor_in d) (descriptors_in ds) (valid_descriptor d h.0) (valid_descriptors ds h.1)
+pub valid_descriptors : (format : ℕ) (ds : Items) → EachItem IsNamed ds → All IsValidDescriptor (descriptors_in format ds)
+valid_descriptors format no_items h = All-nil IsValidDescriptor
+valid_descriptors format (item d ds) h =
+    All-cons IsValidDescriptor (descriptor_in format d) (descriptors_in format ds) (valid_descriptor format d h.0) (valid_descriptors format ds h.1)
 
 -- ---- names that don't stand twice
 
@@ -190,14 +166,15 @@ known_limit : (b : Bool) (x : Option PolicyFault) (f : PolicyFault) → cond b x
 known_limit true x f e = refl
 known_limit false x f e = absurd (none-some _ (sym e))
 
-limit_within : (names : List (List ℕ)) (i : ℕ) (d : Data) → limit_unknown names i d ≡ None → IsLimitWithin (length names) (limit_in names d)
-limit_within names i d e =
+limit_within : (format : ℕ) (names : List (List ℕ)) (i : ℕ) (d : Data) → limit_unknown format names i d ≡ None → IsLimitWithin (length names) (limit_in format names d)
+limit_within format names i d e =
     let w = text_at (get (codes "descriptor") d) in
     let known : is_among names w ≡ true = known_limit (is_among names w) _ _ e in
-    (number_below w names (not_empty w names known), rights_small 0 (items_at (get (codes "keep") d)) (omega arith))
+    (number_below w names (not_empty w names known), rights_small format 0 (items_at (get (codes "keep") d)) (omega arith))
 
-pub limits_within : (names : List (List ℕ)) (i : ℕ) (ds : Items) → first_in (limit_unknown names) i ds ≡ None → All (IsLimitWithin (length names)) (limits_in names ds)
-limits_within names i no_items e = All-nil (IsLimitWithin (length names))
-limits_within names i (item d ds) e =
-    let (here, more) = both_none (limit_unknown names i d) (first_in (limit_unknown names) (suc i) ds) e in
-    All-cons (IsLimitWithin (length names)) (limit_in names d) (limits_in names ds) (limit_within names i d here) (limits_within names (suc i) ds more)
+pub limits_within : (format : ℕ) (names : List (List ℕ)) (i : ℕ) (ds : Items) → first_in (limit_unknown format names) i ds ≡ None
+    → All (IsLimitWithin (length names)) (limits_in format names ds)
+limits_within format names i no_items e = All-nil (IsLimitWithin (length names))
+limits_within format names i (item d ds) e =
+    let (here, more) = both_none (limit_unknown format names i d) (first_in (limit_unknown format names) (suc i) ds) e in
+    All-cons (IsLimitWithin (length names)) (limit_in format names d) (limits_in format names ds) (limit_within format names i d here) (limits_within format names (suc i) ds more)

@@ -14,7 +14,7 @@ use Rattle.cw_regex.specs.Meaning.{names_of as names}
 use Rattle.cw_dfa.specs.Positions.{bad_of}
 use Rattle.cw_policies.specs.declared.fault.PolicyFault.{PolicyFault}
 use Rattle.cw_policies.specs.declared.keys.Key.TheVariants.{Descriptors, Limits}
-use Rattle.cw_policies.specs.Form.{or_else, array_at, form_fault}
+use Rattle.cw_policies.specs.Form.{or_else, array_at, format_of, form_fault}
 use Rattle.cw_policies.specs.Names.{names_of, count, unknown_fault, twice_fault, count_fault, early_fault}
 use Rattle.cw_policies.specs.Parts.{descriptors_in}
 use Rattle.cw_policies.specs.Rules.{OrMemory, HaveRules, FirstRefused, rule_texts}
@@ -37,12 +37,12 @@ plain_names : (ds : List Descriptor) → map (λ (d : PlainDescriptor). d.name) 
 plain_names [] = refl
 plain_names (d ∷ ds) = ap (λ ns. d.name.items ∷ ns) (plain_names ds)
 
-pub table_names : (ds : Items) → map (λ (d : PlainDescriptor). d.name) (descriptors_in ds) ≡ names_of ds
-table_names no_items = refl
-table_names (item d ds) = rw (table_names ds) refl
+pub table_names : (format : ℕ) (ds : Items) → map (λ (d : PlainDescriptor). d.name) (descriptors_in format ds) ≡ names_of ds
+table_names format no_items = refl
+table_names format (item d ds) = rw (table_names format ds) refl
 
-pub names_are : (ds : List Descriptor) (items : Items) → map descriptor_of ds ≡ descriptors_in items → names ds ≡ names_of items
-names_are ds items e = sym (plain_names ds) ∙ ap (map (λ (d : PlainDescriptor). d.name)) e ∙ table_names items
+pub names_are : (format : ℕ) (ds : List Descriptor) (items : Items) → map descriptor_of ds ≡ descriptors_in format items → names ds ≡ names_of items
+names_are format ds items e = sym (plain_names ds) ∙ ap (map (λ (d : PlainDescriptor). d.name)) e ∙ table_names format items
 
 -- no fault in a list of faults
 pub both_none : {A : Type 0} (a b : Option A) → or_else a b ≡ None → (a ≡ None) × (b ≡ None)
@@ -74,37 +74,41 @@ few_from n f e = by (nat_lt 8 n) refl e
 pub few_descriptors : (ms : Members) → early_fault ms ≡ None → count (array_at Descriptors ms) ≤ 8
 few_descriptors ms e = few_from (count (array_at Descriptors ms)) _ (early_parts ms e).count
 
-pub count_in : (ds : Items) → length (descriptors_in ds) ≡ count ds
-count_in no_items = refl
-count_in (item d ds) = ap suc (count_in ds)
+pub count_in : (format : ℕ) (ds : Items) → length (descriptors_in format ds) ≡ count ds
+count_in format no_items = refl
+count_in format (item d ds) = ap suc (count_in format ds)
 
-pub few_read : (ds : List Descriptor) (ms : Members) → map descriptor_of ds ≡ descriptors_in (array_at Descriptors ms) → early_fault ms ≡ None → length ds ≤ 8
+pub few_read : (ds : List Descriptor) (ms : Members) → map descriptor_of ds ≡ descriptors_in (format_of ms) (array_at Descriptors ms) → early_fault ms ≡ None → length ds ≤ 8
 few_read ds ms e early =
-    let same : length (map descriptor_of ds) ≡ count (array_at Descriptors ms) = ap length e ∙ count_in (array_at Descriptors ms) in
+    let same : length (map descriptor_of ds) ≡ count (array_at Descriptors ms) = ap length e ∙ count_in (format_of ms) (array_at Descriptors ms) in
     let mapped : length (map descriptor_of ds) ≡ length ds = length-map ds descriptor_of in
     let few = few_descriptors ms early in
     omega (arith, same, mapped, few)
 
 -- a rule that is refused, and a quantity that is over its limit
 pub late_refused : (ms : Members) (d labels : List (List ℕ)) (f : PolicyFault) → d ≡ descriptor_names ms → labels ≡ at_labels ms
-    → OrMemory (FirstRefused d labels (rule_texts ms)) f → OrMemory (IsLateFault ms) f
-late_refused ms d labels f e g = or_more (FirstRefused d labels (rule_texts ms)) (IsLateFault ms) f
-    (λ h r. inl (subst (λ (d : List (List ℕ)). FirstRefused d (at_labels ms) (rule_texts ms) h) e (subst (λ (l : List (List ℕ)). FirstRefused d l (rule_texts ms) h) g r)))
+    → OrMemory (FirstRefused (format_of ms) d labels (rule_texts ms)) f → OrMemory (IsLateFault ms) f
+late_refused ms d labels f e g = or_more (FirstRefused (format_of ms) d labels (rule_texts ms)) (IsLateFault ms) f
+    (λ h r. inl (subst (λ (d : List (List ℕ)). FirstRefused (format_of ms) d (at_labels ms) (rule_texts ms) h) e
+    (subst (λ (l : List (List ℕ)). FirstRefused (format_of ms) d l (rule_texts ms) h) g r)))
 
-pub late_quantity : (ms : Members) (rules : List PlainRule) (labels : List (List ℕ)) (f : PolicyFault) → HaveRules (descriptor_names ms) (at_labels ms) (rule_texts ms) rules labels
+pub late_quantity : (ms : Members) (rules : List PlainRule) (labels : List (List ℕ)) (f : PolicyFault) → HaveRules (format_of ms) (descriptor_names ms) (at_labels ms) (rule_texts ms) rules labels
     → quantity_fault (count (array_at Limits ms)) rules ≡ Some f → OrMemory (IsLateFault ms) f
 late_quantity ms rules labels f h e = or_some (IsLateFault ms) f (inr (rules, labels, h, e))
 
 -- the whole policy, from its parts
-pub has_policy : (ms : Members) (rules : List PlainRule) (labels : List (List ℕ)) (policy : PlainPolicy) → early_fault ms ≡ None → HaveRules (descriptor_names ms) (at_labels ms) (rule_texts ms) rules labels
+pub has_policy : (ms : Members) (rules : List PlainRule) (labels : List (List ℕ)) (policy : PlainPolicy) → early_fault ms ≡ None
+    → HaveRules (format_of ms) (descriptor_names ms) (at_labels ms) (rule_texts ms) rules labels
     → quantity_fault (count (array_at Limits ms)) rules ≡ None → policy ≡ policy_with ms labels rules → HasPolicy ms policy
 has_policy ms rules labels policy early h q e =
     let whole : HasPolicy ms (policy_with ms labels rules) = record { early = early; is = refl; rules = h; quantities = q } in
     subst (λ (p : PlainPolicy). HasPolicy ms p) (sym e) whole
 
 pub have_rules : (ms : Members) (d labels after : List (List ℕ)) (rules : List PlainRule) → d ≡ descriptor_names ms → labels ≡ at_labels ms
-    → HaveRules d labels (rule_texts ms) rules after → HaveRules (descriptor_names ms) (at_labels ms) (rule_texts ms) rules after
-have_rules ms d labels after rules e g h = subst (λ (d : List (List ℕ)). HaveRules d (at_labels ms) (rule_texts ms) rules after) e (subst (λ (l : List (List ℕ)). HaveRules d l (rule_texts ms) rules after) g h)
+    → HaveRules (format_of ms) d labels (rule_texts ms) rules after → HaveRules (format_of ms) (descriptor_names ms) (at_labels ms) (rule_texts ms) rules after
+have_rules ms d labels after rules e g h =
+    subst (λ (d : List (List ℕ)). HaveRules (format_of ms) d (at_labels ms) (rule_texts ms) rules after) e
+    (subst (λ (l : List (List ℕ)). HaveRules (format_of ms) d l (rule_texts ms) rules after) g h)
 
 -- as many names as keys
 pub few_names : (list keys : List (Vec ℕ Global)) → names_in list ≡ names_in keys → length keys ≤ 65535 → length list ≤ 65535

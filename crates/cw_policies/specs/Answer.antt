@@ -4,15 +4,16 @@ use Rattle.std.specs.Str.{IsUtf8}
 use Rattle.toml.specs.Data.{Members}
 use Rattle.toml.specs.Parse.{parse_document}
 use Rattle.cw_core.specs.declared.quantity.Quantity.TheVariants.{Limits as LimitCount, Rules as RuleCount, RulePositions}
+use Rattle.cw_core.specs.Quantities.{limit_of}
 use Rattle.cw_rights.specs.Trees.{count}
 use Rattle.cw_rights.specs.Policies.{PlainRule, PlainPolicy}
 use Rattle.cw_rights.specs.Valid.{IsValid}
 use Rattle.cw_policies.specs.declared.fault.PolicyFault.{PolicyFault}
 use Rattle.cw_policies.specs.declared.fault.PolicyFault.TheVariants.{Toml, Limit as TooMany, NoMemory}
-use Rattle.cw_policies.specs.declared.keys.Key.TheVariants.{Split, Descriptors, Limits, Ats}
-use Rattle.cw_policies.specs.Form.{array_at}
+use Rattle.cw_policies.specs.declared.keys.Key.TheVariants.{Split, Detached, Descriptors, Limits, Ats}
+use Rattle.cw_policies.specs.Form.{array_at, format_of}
 use Rattle.cw_policies.specs.Names.{names_of, count as count_items, early_fault}
-use Rattle.cw_policies.specs.Parts.{descriptors_in, limits_in, refuses, labels_from}
+use Rattle.cw_policies.specs.Parts.{descriptors_in, limits_in, refuses, stops, labels_from}
 use Rattle.cw_policies.specs.Rules.{rule_texts, HaveRules, FirstRefused}
 
 -- the names of a tree's descriptors, and the labels of its tables `at`
@@ -26,39 +27,43 @@ at_labels ms = labels_from [] (array_at Ats ms)
 abbrev pub positions : List PlainRule → ℕ
 positions rules = 1 + sum_by (λ r. count r.bad) rules
 
--- at most 12 limits, 32 rules and 64 positions
+-- too many limits, rules or positions
 abbrev pub quantity_fault : ℕ → List PlainRule → Option PolicyFault
 quantity_fault limits rules =
-    if nat_lt 12 limits then Some (TooMany LimitCount)
-    else if nat_lt 32 (length rules) then Some (TooMany RuleCount)
-    else if nat_lt 64 (positions rules) then Some (TooMany RulePositions)
+    if nat_lt (limit_of LimitCount) limits then Some (TooMany LimitCount)
+    else if nat_lt (limit_of RuleCount) (length rules) then Some (TooMany RuleCount)
+    else if nat_lt (limit_of RulePositions) (positions rules) then Some (TooMany RulePositions)
     else None
 
 -- the policy of a tree with these labels and rules
 abbrev pub policy_with : Members → List (List ℕ) → List PlainRule → PlainPolicy
 policy_with ms labels rules = record {
-  descriptors = descriptors_in (array_at Descriptors ms);
-  limits = limits_in (descriptor_names ms) (array_at Limits ms);
+  descriptors = descriptors_in (format_of ms) (array_at Descriptors ms);
+  limits = limits_in (format_of ms) (descriptor_names ms) (array_at Limits ms);
   refuse_limit = refuses (codes "limit") ms;
   refuse_enter = refuses (codes "enter") ms;
   refuse_split = refuses (codes "split") ms;
   split = names_of (array_at Split ms);
   labels = labels;
   rules = rules;
+  stop = stops ms;
+  format = format_of ms;
+  detached = names_of (array_at Detached ms);
 }
 
 -- The tree is of the form and has this policy.
 pub record HasPolicy (ms : Members) (policy : PlainPolicy) : Type 0 where
   pub early : early_fault ms ≡ None
   pub is : policy ≡ policy_with ms policy.labels policy.rules
-  pub rules : HaveRules (descriptor_names ms) (at_labels ms) (rule_texts ms) policy.rules policy.labels
+  pub rules : HaveRules (format_of ms) (descriptor_names ms) (at_labels ms) (rule_texts ms) policy.rules policy.labels
   pub quantities : quantity_fault (count_items (array_at Limits ms)) policy.rules ≡ None
 
 -- The first fault of a tree: before its rules are read, of the first rule that is refused, or of quantities.
 abbrev pub IsLateFault : Members → PolicyFault → Type 0
 IsLateFault ms f =
-    FirstRefused (descriptor_names ms) (at_labels ms) (rule_texts ms) f ⊎
-    ((rules : List PlainRule) × (labels : List (List ℕ)) × HaveRules (descriptor_names ms) (at_labels ms) (rule_texts ms) rules labels ×
+    FirstRefused (format_of ms) (descriptor_names ms) (at_labels ms) (rule_texts ms) f ⊎
+    ((rules : List PlainRule) × (labels : List (List ℕ)) ×
+    HaveRules (format_of ms) (descriptor_names ms) (at_labels ms) (rule_texts ms) rules labels ×
     (quantity_fault (count_items (array_at Limits ms)) rules ≡ Some f))
 
 abbrev pub IsFaultOf : Members → PolicyFault → Type 0
@@ -72,6 +77,7 @@ pub record Spells (text : List ℕ) (policy : PlainPolicy) : Type 0 where
   pub parsed : parse_document text ≡ Some tree
   pub has : HasPolicy tree policy
   pub few_splits : length policy.split ≤ 65535
+  pub few_detached : length policy.detached ≤ 65535
   pub few_labels : length policy.labels ≤ 65535
 
 -- why a text spells no policy; want of memory may come at any time
@@ -89,6 +95,10 @@ SpellsOnePolicy = (text : List ℕ) (policy other : PlainPolicy) → Spells text
 -- a text that is refused, for another cause than want of memory, spells none
 abbrev pub RefusedSpellsNone : Type 0
 RefusedSpellsNone = (text : List ℕ) (policy : PlainPolicy) (f : PolicyFault) → Spells text policy → IsFault text f → f ≡ NoMemory
+
+-- a policy of format 1 detaches no function
+abbrev pub FormatOneDetachesNone : Type 0
+FormatOneDetachesNone = (text : List ℕ) (policy : PlainPolicy) → Spells text policy → policy.format ≡ 1 → policy.detached ≡ []
 
 -- each policy that is spelled is valid
 abbrev pub SpelledAreValid : Type 0

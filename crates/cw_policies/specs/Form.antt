@@ -10,8 +10,8 @@ use Rattle.cw_policies.specs.declared.fault.PolicyFault.TheVariants.{Missing, Un
 use Rattle.cw_policies.specs.declared.keys.Section.{Section}
 use Rattle.cw_policies.specs.declared.keys.Section.TheVariants.{Root, Descriptor, Limit, At, Rule}
 use Rattle.cw_policies.specs.declared.keys.Key.{Key}
-use Rattle.cw_policies.specs.declared.keys.Key.TheVariants.{Format, Refusable, Split, Descriptors, Limits, Ats, Rules, Name, Rights, Of, Keep, Label, Must, Never, RuleName, Bad}
-use Rattle.cw_policies.specs.Keys.{keys_of, key_number, key_text, is_required, place}
+use Rattle.cw_policies.specs.declared.keys.Key.TheVariants.{Format, Refusable, Split, OnRefusal, Detached, Descriptors, Limits, Ats, Rules, Name, Rights, Of, Keep, Label, Must, Never, RuleName, Bad}
+use Rattle.cw_policies.specs.Keys.{keys_of, is_known, key_number, key_text, is_required, place}
 
 -- the first of two faults
 abbrev pub or_else : {A : Type 0} → Option A → Option A → Option A
@@ -36,6 +36,14 @@ text_at _ = []
 abbrev pub array_at : Key → Members → Items
 array_at key ms = items_at (get_member (key_text key) ms)
 
+-- The format of a tree: 2 where its `format` is the integer 2, and else 1. A tree of the form has the integer 1 or 2 there.
+abbrev pub format_in : Option Data → ℕ
+format_in (Some (integer (pos n))) = if nat_eq n 2 then 2 else 1
+format_in _ = 1
+
+abbrev pub format_of : Members → ℕ
+format_of ms = format_in (get_member (key_text Format) ms)
+
 -- ---- the forms of values
 
 -- the name of a rule: letters, digits, `_` and `-`, the first a letter or `_`
@@ -50,10 +58,15 @@ is_rule_name (b ∷ rest) = is_name_start b && list_all is_rule_byte rest
 abbrev pub is_kind : List ℕ → Bool
 is_kind s = (bytes_eq s (codes "limit") || bytes_eq s (codes "enter")) || bytes_eq s (codes "split")
 
+-- what follows a refusal
+abbrev pub is_answer : List ℕ → Bool
+is_answer s = bytes_eq s (codes "go") || bytes_eq s (codes "stop")
+
 -- what an item of a key's array is: whether a right or a test is known comes later
 abbrev pub is_item : Key → Data → Bool
 is_item Refusable (string s) = is_kind s
 is_item Split (string s) = is_name s
+is_item Detached (string s) = is_name s
 is_item Descriptors (table ms) = true
 is_item Limits (table ms) = true
 is_item Ats (table ms) = true
@@ -67,6 +80,7 @@ is_item _ _ = false
 -- the keys whose value is no array, and what it is
 abbrev pub is_single : Key → Bool
 is_single Format = true
+is_single OnRefusal = true
 is_single Name = true
 is_single Of = true
 is_single Label = true
@@ -75,7 +89,8 @@ is_single Bad = true
 is_single _ = false
 
 abbrev pub is_value : Key → Data → Bool
-is_value Format (integer (pos n)) = nat_eq n 1
+is_value Format (integer (pos n)) = nat_eq n 1 || nat_eq n 2
+is_value OnRefusal (string s) = is_answer s
 is_value Name (string s) = is_descriptor s
 is_value Of (string s) = true
 is_value Label (string s) = is_name s
@@ -104,13 +119,14 @@ abbrev pub missing_key : List Key → Members → Option Key
 missing_key [] ms = None
 missing_key (key ∷ keys) ms = if is_missing key ms then Some key else missing_key keys ms
 
-abbrev pub is_listed : List Key → List ℕ → Bool
-is_listed [] text = false
-is_listed (key ∷ keys) text = bytes_eq text (key_text key) || is_listed keys text
+-- the text is that of a key that the format knows
+abbrev pub is_listed : ℕ → List Key → List ℕ → Bool
+is_listed format [] text = false
+is_listed format (key ∷ keys) text = (is_known format key && bytes_eq text (key_text key)) || is_listed format keys text
 
-abbrev pub has_only : List Key → Members → Bool
-has_only keys no_members = true
-has_only keys (member text d rest) = is_listed keys text && has_only keys rest
+abbrev pub has_only : ℕ → List Key → Members → Bool
+has_only format keys no_members = true
+has_only format keys (member text d rest) = is_listed format keys text && has_only format keys rest
 
 abbrev pub wrong_at : Key → Option Data → Option ℕ
 wrong_at key None = None
@@ -131,23 +147,24 @@ fault_of section index None false later = Some (Unknown (place section index 0 0
 fault_of section index None true (Some w) = Some (Kind (place section index (key_number w.0) w.1))
 fault_of section index None true None = None
 
-unfoldable pub table_fault : Section → ℕ → Members → Option PolicyFault
-table_fault section index ms = fault_of section index (missing_key (keys_of section) ms) (has_only (keys_of section) ms) (wrong_key (keys_of section) ms)
+unfoldable pub table_fault : ℕ → Section → ℕ → Members → Option PolicyFault
+table_fault format section index ms = fault_of section index (missing_key (keys_of section) ms) (has_only format (keys_of section) ms) (wrong_key (keys_of section) ms)
 
 -- ---- table by table
 
-abbrev pub element_fault : Section → ℕ → Data → Option PolicyFault
-element_fault section index (table ms) = table_fault section index ms
-element_fault section index _ = None
+abbrev pub element_fault : ℕ → Section → ℕ → Data → Option PolicyFault
+element_fault format section index (table ms) = table_fault format section index ms
+element_fault format section index _ = None
 
-abbrev pub array_fault : Section → Items → Option PolicyFault
-array_fault section ds = first_in (element_fault section) 0 ds
+abbrev pub array_fault : ℕ → Section → Items → Option PolicyFault
+array_fault format section ds = first_in (element_fault format section) 0 ds
 
 -- the root first, then the arrays in their order
 unfoldable pub form_fault : Members → Option PolicyFault
 form_fault ms =
-    or_else (table_fault Root 0 ms)
-    (or_else (array_fault Descriptor (array_at Descriptors ms))
-    (or_else (array_fault Limit (array_at Limits ms))
-    (or_else (array_fault At (array_at Ats ms))
-    (array_fault Rule (array_at Rules ms)))))
+    let format = format_of ms in
+    or_else (table_fault format Root 0 ms)
+    (or_else (array_fault format Descriptor (array_at Descriptors ms))
+    (or_else (array_fault format Limit (array_at Limits ms))
+    (or_else (array_fault format At (array_at Ats ms))
+    (array_fault format Rule (array_at Rules ms)))))

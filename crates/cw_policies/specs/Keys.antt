@@ -1,10 +1,10 @@
 -- The tables of a policy and their keys.
-use Rattle.std.specs.Prelude.{ℕ, min, List, [], ◌∷◌, codes, Bool, true, false}
+use Rattle.std.specs.Prelude.{ℕ, min, List, [], ◌∷◌, codes, Bool, true, false, nat_eq}
 use Rattle.cw_policies.specs.declared.fault.Path.{Path}
 use Rattle.cw_policies.specs.declared.keys.Section.{Section}
 use Rattle.cw_policies.specs.declared.keys.Section.TheVariants.{Root, Descriptor, Limit, At, Rule}
 use Rattle.cw_policies.specs.declared.keys.Key.{Key}
-use Rattle.cw_policies.specs.declared.keys.Key.TheVariants.{Format, Refusable, Split, Descriptors, Limits, Ats, Rules, Name, Rights, Of, Keep, Label, Must, Never, RuleName, Bad}
+use Rattle.cw_policies.specs.declared.keys.Key.TheVariants.{Format, Refusable, Split, OnRefusal, Detached, Descriptors, Limits, Ats, Rules, Name, Rights, Of, Keep, Label, Must, Never, RuleName, Bad}
 
 -- the root, and the arrays of tables from 1 in their order
 abbrev pub section_number : Section → ℕ
@@ -16,21 +16,28 @@ section_number Rule = 4
 
 -- the keys of each kind of table in their order; the required ones come first
 abbrev pub keys_of : Section → List Key
-keys_of Root = Format ∷ Refusable ∷ Split ∷ Descriptors ∷ Limits ∷ Ats ∷ Rules ∷ []
+keys_of Root = Format ∷ Refusable ∷ Split ∷ OnRefusal ∷ Detached ∷ Descriptors ∷ Limits ∷ Ats ∷ Rules ∷ []
 keys_of Descriptor = Name ∷ Rights ∷ []
 keys_of Limit = Of ∷ Keep ∷ []
 keys_of At = Label ∷ Must ∷ Never ∷ []
 keys_of Rule = RuleName ∷ Bad ∷ []
 
--- a key's place in its table's list, from 1
+-- the keys that a format knows: `detached` is known in format 2 alone, all others in both
+abbrev pub is_known : ℕ → Key → Bool
+is_known format Detached = nat_eq format 2
+is_known format _ = true
+
+-- a key's place in its table's list, from 1; in format 1 no key has the place of `detached`
 abbrev pub key_number : Key → ℕ
 key_number Format = 1
 key_number Refusable = 2
 key_number Split = 3
-key_number Descriptors = 4
-key_number Limits = 5
-key_number Ats = 6
-key_number Rules = 7
+key_number OnRefusal = 4
+key_number Detached = 5
+key_number Descriptors = 6
+key_number Limits = 7
+key_number Ats = 8
+key_number Rules = 9
 key_number Name = 1
 key_number Rights = 2
 key_number Of = 1
@@ -45,6 +52,8 @@ abbrev pub key_text : Key → List ℕ
 key_text Format = codes "format"
 key_text Refusable = codes "refusable"
 key_text Split = codes "split"
+key_text OnRefusal = codes "on_refusal"
+key_text Detached = codes "detached"
 key_text Descriptors = codes "descriptor"
 key_text Limits = codes "limit"
 key_text Ats = codes "at"

@@ -1,17 +1,19 @@
 -- Names that aren't known, names that stand twice, and too many descriptors.
-use Rattle.std.specs.Prelude.{ℕ, suc, List, [], ◌∷◌, ◌++◌, codes, Bool, if◌then◌else◌, Option, Some, None, nat_lt}
+use Rattle.std.specs.Prelude.{ℕ, suc, List, [], ◌∷◌, ◌++◌, codes, Bool, if◌then◌else◌, Option, Some, None, nat_lt, is_some}
 use Rattle.std.specs.List.{list_any}
 use Rattle.std.specs.Str.{bytes_eq}
 use Rattle.toml.specs.Data.{Data, string, table, Items, no_items, item, Members, get, get_member}
 use Rattle.cw_core.specs.declared.quantity.Quantity.TheVariants.{Descriptors as DescriptorCount}
-use Rattle.cw_regex.specs.Meaning.{is_right}
+use Rattle.cw_core.specs.Quantities.{limit_of}
+use Rattle.cw_rights.specs.Names.{right_mask}
 use Rattle.cw_policies.specs.declared.fault.PolicyFault.{PolicyFault}
 use Rattle.cw_policies.specs.declared.fault.PolicyFault.TheVariants.{Unknown, Twice, Limit as TooMany}
 use Rattle.cw_policies.specs.declared.keys.Section.{Section}
 use Rattle.cw_policies.specs.declared.keys.Section.TheVariants.{Root, Descriptor, Limit, Rule}
-use Rattle.cw_policies.specs.declared.keys.Key.TheVariants.{Split, Descriptors, Limits, Rules}
-use Rattle.cw_policies.specs.Keys.{place}
-use Rattle.cw_policies.specs.Form.{or_else, first_in, items_at, text_at, array_at, form_fault}
+use Rattle.cw_policies.specs.declared.keys.Key.{Key}
+use Rattle.cw_policies.specs.declared.keys.Key.TheVariants.{Split, Detached, Descriptors, Limits, Rules}
+use Rattle.cw_policies.specs.Keys.{key_number, place}
+use Rattle.cw_policies.specs.Form.{or_else, first_in, items_at, text_at, array_at, format_of, form_fault}
 
 -- the bytes of a string, or of the name of a table
 abbrev pub name_of : Data → List ℕ
@@ -32,30 +34,32 @@ count (item d ds) = suc (count ds)
 
 -- ---- names that aren't known
 
--- the number of an item that names no right
-abbrev pub unknown_right : ℕ → Data → Option ℕ
-unknown_right n d = if is_right (name_of d) then None else Some n
+-- the number of an item that names no right of the format
+abbrev pub unknown_right : ℕ → ℕ → Data → Option ℕ
+unknown_right format n d = if is_some (right_mask format (name_of d)) then None else Some n
 
 abbrev pub unknown_item : Section → ℕ → ℕ → Option ℕ → Option PolicyFault
 unknown_item section index key None = None
 unknown_item section index key (Some n) = Some (Unknown (place section index key n))
 
 -- the first unknown right of an array at a key
-abbrev pub rights_fault : Section → ℕ → ℕ → Option Data → Option PolicyFault
-rights_fault section index key value = unknown_item section index key (first_in unknown_right 1 (items_at value))
+abbrev pub rights_fault : ℕ → Section → ℕ → ℕ → Option Data → Option PolicyFault
+rights_fault format section index key value = unknown_item section index key (first_in (unknown_right format) 1 (items_at value))
 
-abbrev pub descriptor_unknown : ℕ → Data → Option PolicyFault
-descriptor_unknown index d = rights_fault Descriptor index 2 (get (codes "rights") d)
+abbrev pub descriptor_unknown : ℕ → ℕ → Data → Option PolicyFault
+descriptor_unknown format index d = rights_fault format Descriptor index 2 (get (codes "rights") d)
 
 -- a limit's descriptor, and then its rights
-abbrev pub limit_unknown : List (List ℕ) → ℕ → Data → Option PolicyFault
-limit_unknown names index d =
+abbrev pub limit_unknown : ℕ → List (List ℕ) → ℕ → Data → Option PolicyFault
+limit_unknown format names index d =
     if is_among names (text_at (get (codes "descriptor") d))
-    then rights_fault Limit index 2 (get (codes "keep") d)
+    then rights_fault format Limit index 2 (get (codes "keep") d)
     else Some (Unknown (place Limit index 1 0))
 
 unfoldable pub unknown_fault : Members → Option PolicyFault
-unknown_fault ms = or_else (first_in descriptor_unknown 0 (array_at Descriptors ms)) (first_in (limit_unknown (names_of (array_at Descriptors ms))) 0 (array_at Limits ms))
+unknown_fault ms =
+    or_else (first_in (descriptor_unknown (format_of ms)) 0 (array_at Descriptors ms))
+    (first_in (limit_unknown (format_of ms) (names_of (array_at Descriptors ms))) 0 (array_at Limits ms))
 
 -- ---- names that stand twice
 
@@ -68,20 +72,22 @@ abbrev pub twice_table : Section → Option ℕ → Option PolicyFault
 twice_table section None = None
 twice_table section (Some n) = Some (Twice (place section n 1 0))
 
-abbrev pub twice_split : Option ℕ → Option PolicyFault
-twice_split None = None
-twice_split (Some n) = Some (Twice (place Root 0 3 (suc n)))
+-- an item of an array of the root
+abbrev pub twice_item : Key → Option ℕ → Option PolicyFault
+twice_item key None = None
+twice_item key (Some n) = Some (Twice (place Root 0 (key_number key) (suc n)))
 
--- descriptors, then split functions, then the names of rules
+-- descriptors, then split functions, then detached functions, then the names of rules
 unfoldable pub twice_fault : Members → Option PolicyFault
 twice_fault ms =
     or_else (twice_table Descriptor (repeated [] 0 (names_of (array_at Descriptors ms))))
-    (or_else (twice_split (repeated [] 0 (names_of (array_at Split ms))))
-    (twice_table Rule (repeated [] 0 (names_of (array_at Rules ms)))))
+    (or_else (twice_item Split (repeated [] 0 (names_of (array_at Split ms))))
+    (or_else (twice_item Detached (repeated [] 0 (names_of (array_at Detached ms))))
+    (twice_table Rule (repeated [] 0 (names_of (array_at Rules ms))))))
 
--- at most 8 descriptors
+-- too many descriptors
 abbrev pub count_fault : Members → Option PolicyFault
-count_fault ms = if nat_lt 8 (count (array_at Descriptors ms)) then Some (TooMany DescriptorCount) else None
+count_fault ms = if nat_lt (limit_of DescriptorCount) (count (array_at Descriptors ms)) then Some (TooMany DescriptorCount) else None
 
 -- The first fault of a tree before its tests and expressions are read.
 unfoldable pub early_fault : Members → Option PolicyFault

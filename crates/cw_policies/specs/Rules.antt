@@ -66,9 +66,9 @@ rule_texts ms = test_texts 0 (array_at Ats ms) ++ expression_texts 0 (array_at R
 
 -- ---- what they spell
 
--- each name of the text is known
-abbrev pub AreKnown : List (List ℕ) → List ℕ → Type 0
-AreKnown descriptors text = first_unknown descriptors false (placed 0 text) ≡ None
+-- each name of the text is known in the format
+abbrev pub AreKnown : ℕ → List (List ℕ) → List ℕ → Type 0
+AreKnown format descriptors text = first_unknown format descriptors false (placed 0 text) ≡ None
 
 -- `.* L[t]`
 abbrev pub bad_words : ℕ → Bool × Test → Tree
@@ -81,36 +81,36 @@ turned must t = (cond must (not t.0) t.0, t.1)
 abbrev pub test_name : TestText → List ℕ
 test_name t = t.label ++ cond t.must (codes " must ") (codes " never ") ++ t.text
 
-abbrev pub test_words : List (List ℕ) → List (List ℕ) → TestText → TestForm → Tree
-test_words descriptors labels t form = bad_words (number_in labels t.label) (turned t.must (test_meaning descriptors form))
+abbrev pub test_words : ℕ → List (List ℕ) → List (List ℕ) → TestText → TestForm → Tree
+test_words format descriptors labels t form = bad_words (number_in labels t.label) (turned t.must (test_meaning format descriptors form))
 
 -- With the labels so far the text is a test with this rule.
-pub record HasTest (descriptors labels : List (List ℕ)) (t : TestText) (rule : PlainRule) : Type 0 where
+pub record HasTest (format : ℕ) (descriptors labels : List (List ℕ)) (t : TestText) (rule : PlainRule) : Type 0 where
   pub is : IsTest t.text
-  pub known : AreKnown descriptors t.text
+  pub known : AreKnown format descriptors t.text
   pub name : rule.name ≡ test_name t
-  pub means : (form : TestForm) → SpellsTest t.text form → rule.bad ≡ test_words descriptors labels t form
+  pub means : (form : TestForm) → SpellsTest t.text form → rule.bad ≡ test_words format descriptors labels t form
 
 -- With the labels so far the text is an expression with this rule, and the labels after it are these: those that the
 -- expression names first go to their end, from left to right.
-pub record HasExpression (descriptors labels : List (List ℕ)) (r : ExpressionText) (rule : PlainRule) (after : List (List ℕ)) : Type 0 where
+pub record HasExpression (format : ℕ) (descriptors labels : List (List ℕ)) (r : ExpressionText) (rule : PlainRule) (after : List (List ℕ)) : Type 0 where
   pub is : IsExpression r.text
   pub shallow : IsShallow r.text
-  pub known : AreKnown descriptors r.text
+  pub known : AreKnown format descriptors r.text
   pub name : rule.name ≡ r.name
-  pub means : (e : Expression) → Spells r.text e → rule.bad ≡ meaning after descriptors e
+  pub means : (e : Expression) → Spells r.text e → rule.bad ≡ meaning format after descriptors e
   pub grown : (e : Expression) → Spells r.text e → after ≡ with_names labels (labels_of e [])
 
-abbrev pub HasRule : List (List ℕ) → List (List ℕ) → RuleText → PlainRule → List (List ℕ) → Type 0
-HasRule descriptors labels (tested t) rule after = HasTest descriptors labels t rule × (after ≡ labels)
-HasRule descriptors labels (written r) rule after = HasExpression descriptors labels r rule after
+abbrev pub HasRule : ℕ → List (List ℕ) → List (List ℕ) → RuleText → PlainRule → List (List ℕ) → Type 0
+HasRule format descriptors labels (tested t) rule after = HasTest format descriptors labels t rule × (after ≡ labels)
+HasRule format descriptors labels (written r) rule after = HasExpression format descriptors labels r rule after
 
 -- rule by rule
-abbrev pub HaveRules : List (List ℕ) → List (List ℕ) → List RuleText → List PlainRule → List (List ℕ) → Type 0
-HaveRules descriptors labels [] rules after = (rules ≡ []) × (after ≡ labels)
-HaveRules descriptors labels (t ∷ ts) rules after =
+abbrev pub HaveRules : ℕ → List (List ℕ) → List (List ℕ) → List RuleText → List PlainRule → List (List ℕ) → Type 0
+HaveRules format descriptors labels [] rules after = (rules ≡ []) × (after ≡ labels)
+HaveRules format descriptors labels (t ∷ ts) rules after =
     (rule : PlainRule) × (rest : List PlainRule) × (next : List (List ℕ)) ×
-    (rules ≡ rule ∷ rest) × HasRule descriptors labels t rule next × HaveRules descriptors next ts rest after
+    (rules ≡ rule ∷ rest) × HasRule format descriptors labels t rule next × HaveRules format descriptors next ts rest after
 
 -- ---- why one is refused
 
@@ -125,13 +125,13 @@ regex_fault index TooDeep = TooMany Nesting
 regex_fault index NoMemory' = NoMemory
 regex_fault index e = Regex index e
 
-abbrev pub IsRuleFault : List (List ℕ) → RuleText → PolicyFault → Type 0
-IsRuleFault descriptors (tested t) f = (e : RegexFault) × IsTestFault descriptors t.text e × (f ≡ Kind t.place)
-IsRuleFault descriptors (written r) f = (e : RegexFault) × IsRegexFault descriptors r.text e × (f ≡ regex_fault r.index e)
+abbrev pub IsRuleFault : ℕ → List (List ℕ) → RuleText → PolicyFault → Type 0
+IsRuleFault format descriptors (tested t) f = (e : RegexFault) × IsTestFault format descriptors t.text e × (f ≡ Kind t.place)
+IsRuleFault format descriptors (written r) f = (e : RegexFault) × IsRegexFault format descriptors r.text e × (f ≡ regex_fault r.index e)
 
 -- the first text that is refused
-abbrev pub FirstRefused : List (List ℕ) → List (List ℕ) → List RuleText → PolicyFault → Type 0
-FirstRefused descriptors labels [] f = ⊥
-FirstRefused descriptors labels (t ∷ ts) f =
-    IsRuleFault descriptors t f ⊎
-    ((rule : PlainRule) × (next : List (List ℕ)) × HasRule descriptors labels t rule next × FirstRefused descriptors next ts f)
+abbrev pub FirstRefused : ℕ → List (List ℕ) → List (List ℕ) → List RuleText → PolicyFault → Type 0
+FirstRefused format descriptors labels [] f = ⊥
+FirstRefused format descriptors labels (t ∷ ts) f =
+    IsRuleFault format descriptors t f ⊎
+    ((rule : PlainRule) × (next : List (List ℕ)) × HasRule format descriptors labels t rule next × FirstRefused format descriptors next ts f)

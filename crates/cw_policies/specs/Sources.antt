@@ -1,4 +1,4 @@
--- What the program's texts of rules stand for.
+-- Working definitions: what the texts that the program reads rules from stand for.
 use Rattle.cw_policies.specs.declared.sources.TestSource.{TestSource}
 use Rattle.cw_policies.specs.declared.sources.ExpressionSource.{ExpressionSource}
 use Rattle.cw_policies.specs.declared.sources.Source.{Source}

@@ -8,7 +8,9 @@ use thiserror::Error;
 ///
 /// `array` is 0 for the root and 1 to 4 for the arrays `descriptor`, `limit`, `at` and `rule`, `index` the number of the
 /// table in its array, from 0. `key` is the key's place in the list of its table's keys, from 1, and 0 for the table
-/// itself. `item` is the number of the item of the key's array, from 1, and 0 for the value itself.
+/// itself. The root's list is `format`, `refusable`, `split`, `on_refusal`, `detached`, and then the arrays in their
+/// order; it is one list for both formats. `item` is the number of the item of the key's array, from 1, and 0 for the
+/// value itself.
 #[derive(Clone, Copy, Debug, Drop, PartialEq, Eq)]
 pub struct Path {
     pub array: u8,

@@ -1,29 +1,17 @@
 //! Whether a policy's tree has the form.
 
-ghost use Rattle.std.specs.Prelude.{◌≡◌, option_map};
+ghost use Rattle.std.specs.Prelude.{◌≡◌, ◌⊎◌, option_map};
 ghost use Rattle.std.specs.List.{list_all};
 ghost use Rattle.toml.specs.Data.{get, get_member};
 ghost use Rattle.toml.specs.View.{view, items_view, array_view, table_view};
-ghost use Rattle.cw_rights.specs.Valid as names;
 ghost use Rattle.cw_regex.specs.Grammar as grammar;
 ghost use Rattle.cw_policies.specs.Form as spec;
 
 use crate::fault::PolicyFault;
-use crate::keys::{Key, Section, is_required, key_number, key_text, keys_of, place};
+use crate::keys::{Key, Section, is_known, is_required, key_number, key_text, keys_of, place};
+use cw_rights::{is_name, is_name_byte, is_name_start};
 use toml::value::Array;
 use toml::{Table, Value};
-
-fn is_name_start(byte: u8) -> bool
-    ensures { result ≡ names.is_name_start byte }
-{
-    byte >= 65 && byte <= 90 || byte >= 97 && byte <= 122 || byte == 95
-}
-
-fn is_name_byte(byte: u8) -> bool
-    ensures { result ≡ names.is_name_byte byte }
-{
-    is_name_start(byte) || byte >= 48 && byte <= 57
-}
 
 fn is_rule_byte(byte: u8) -> bool
     ensures { result ≡ spec.is_rule_byte byte }
@@ -31,25 +19,10 @@ fn is_rule_byte(byte: u8) -> bool
     is_name_byte(byte) || byte == 45
 }
 
-fn are_name_bytes(bytes: &[u8]) -> bool
-    ensures { result ≡ list_all names.is_name_byte bytes.now }
-{
-    bytes.iter().all(|byte| is_name_byte(*byte))
-}
-
 fn are_rule_bytes(bytes: &[u8]) -> bool
     ensures { result ≡ list_all spec.is_rule_byte bytes.now }
 {
     bytes.iter().all(|byte| is_rule_byte(*byte))
-}
-
-fn is_name(text: &str) -> bool
-    ensures { result ≡ names.is_name text.now }
-{
-    match text.as_bytes().split_first() {
-        Some((first, rest)) => is_name_start(*first) && are_name_bytes(rest),
-        None => false,
-    }
 }
 
 fn is_rule_name(text: &str) -> bool
@@ -70,13 +43,28 @@ fn is_digit(text: &[u8]) -> bool
 fn is_descriptor(text: &str) -> bool
     ensures { result ≡ grammar.is_descriptor text.now }
 {
-    is_name(text) || is_digit(text.as_bytes())
+    is_name(text.as_bytes()) || is_digit(text.as_bytes())
 }
 
 fn is_kind(text: &str) -> bool
     ensures { result ≡ spec.is_kind text.now }
 {
     text == "limit" || text == "enter" || text == "split"
+}
+
+fn is_answer(text: &str) -> bool
+    ensures { result ≡ spec.is_answer text.now }
+{
+    text == "go" || text == "stop"
+}
+
+fn is_function(value: &Value) -> bool
+    ensures { result ≡ spec.is_item Key.Split (view value.now) }
+{
+    match value {
+        Value::String(text) => is_name(text.as_bytes()),
+        _ => false,
+    }
 }
 
 fn is_item(key: Key, value: &Value) -> bool
@@ -87,10 +75,8 @@ fn is_item(key: Key, value: &Value) -> bool
             Value::String(text) => is_kind(text.as_str()),
             _ => false,
         },
-        Key::Split => match value {
-            Value::String(text) => is_name(text.as_str()),
-            _ => false,
-        },
+        Key::Split => is_function(value),
+        Key::Detached => is_function(value),
         Key::Descriptors => value.is_table(),
         Key::Limits => value.is_table(),
         Key::Ats => value.is_table(),
@@ -108,6 +94,7 @@ fn is_single(key: Key) -> bool
 {
     match key {
         Key::Format => true,
+        Key::OnRefusal => true,
         Key::Name => true,
         Key::Of => true,
         Key::Label => true,
@@ -122,7 +109,11 @@ fn is_value(key: Key, value: &Value) -> bool
 {
     match key {
         Key::Format => match value {
-            Value::Integer(number) => *number == 1,
+            Value::Integer(number) => *number == 1 || *number == 2,
+            _ => false,
+        },
+        Key::OnRefusal => match value {
+            Value::String(text) => is_answer(text.as_str()),
             _ => false,
         },
         Key::Name => match value {
@@ -131,7 +122,7 @@ fn is_value(key: Key, value: &Value) -> bool
         },
         Key::Of => value.is_str(),
         Key::Label => match value {
-            Value::String(text) => is_name(text.as_str()),
+            Value::String(text) => is_name(text.as_bytes()),
             _ => false,
         },
         Key::RuleName => match value {
@@ -202,6 +193,26 @@ pub fn array_at<'a>(table: &'a Table, key: Key) -> &'a [Value]
     items_at(member(table, key_text(key)))
 }
 
+fn format_in(value: Option<&Value>) -> u8
+    ensures { result ≡ spec.format_in (option_map (λ x. view x.now) value.entry) }
+{
+    match value {
+        Some(found) => match found {
+            Value::Integer(number) => { if *number == 2 { 2 } else { 1 } }
+            _ => 1,
+        },
+        None => 1,
+    }
+}
+
+/// The format of a tree: 2 where its `format` is the integer 2, and else 1.
+pub fn format_of(table: &Table) -> u8
+    ensures format { result ≡ spec.format_of (table_view table.now) }
+    ensures either { (result ≡ 1) ⊎ (result ≡ 2) }
+{
+    format_in(member(table, key_text(Key::Format)))
+}
+
 fn is_missing(key: Key, table: &Table) -> bool
     ensures { result ≡ spec.is_missing key (table_view table.now) }
 {
@@ -219,22 +230,22 @@ fn missing_key(keys: &[Key], table: &Table) -> Option<Key>
     None
 }
 
-fn is_listed(keys: &[Key], text: &str) -> bool
-    ensures { result ≡ spec.is_listed keys.now text.now }
+fn is_listed(format: u8, keys: &[Key], text: &str) -> bool
+    ensures { result ≡ spec.is_listed format keys.now text.now }
 {
     'keys: for key in keys {
-        if text == key_text(*key) {
+        if is_known(format, *key) && text == key_text(*key) {
             return true;
         }
     }
     false
 }
 
-fn has_only(keys: &[Key], table: &Table) -> bool
-    ensures { result ≡ spec.has_only keys.now (table_view table.now) }
+fn has_only(format: u8, keys: &[Key], table: &Table) -> bool
+    ensures { result ≡ spec.has_only format keys.now (table_view table.now) }
 {
     'members: for (text, _value) in table.iter() {
-        if !is_listed(keys, text.as_str()) {
+        if !is_listed(format, keys, text.as_str()) {
             return false;
         }
     }
@@ -264,14 +275,14 @@ fn wrong_key(keys: &[Key], table: &Table) -> Option<(Key, usize)>
 
 /// The first fault of one table.
 #[tactic(auto, unfolding(crate::specs::Form::table_fault))]
-fn table_fault(section: Section, index: usize, table: &Table) -> Option<PolicyFault>
-    ensures { result ≡ spec.table_fault section index (table_view table.now) }
+fn table_fault(format: u8, section: Section, index: usize, table: &Table) -> Option<PolicyFault>
+    ensures { result ≡ spec.table_fault format section index (table_view table.now) }
 {
     let keys = keys_of(section);
     if let Some(key) = missing_key(keys, table) {
         return Some(PolicyFault::Missing(place(section, index, key_number(key), 0)));
     }
-    if !has_only(keys, table) {
+    if !has_only(format, keys, table) {
         return Some(PolicyFault::Unknown(place(section, index, 0, 0)));
     }
     match wrong_key(keys, table) {
@@ -280,21 +291,21 @@ fn table_fault(section: Section, index: usize, table: &Table) -> Option<PolicyFa
     }
 }
 
-fn element_fault(section: Section, index: usize, value: &Value) -> Option<PolicyFault>
-    ensures { result ≡ spec.element_fault section index (view value.now) }
+fn element_fault(format: u8, section: Section, index: usize, value: &Value) -> Option<PolicyFault>
+    ensures { result ≡ spec.element_fault format section index (view value.now) }
 {
     match value {
-        Value::Table(table) => table_fault(section, index, table),
+        Value::Table(table) => table_fault(format, section, index, table),
         _ => None,
     }
 }
 
-fn array_fault(section: Section, items: &[Value]) -> Option<PolicyFault>
-    ensures { result ≡ spec.array_fault section (items_view items.now) }
+fn array_fault(format: u8, section: Section, items: &[Value]) -> Option<PolicyFault>
+    ensures { result ≡ spec.array_fault format section (items_view items.now) }
 {
     let mut index = 0;
     'items: for item in items {
-        match element_fault(section, index, item) {
+        match element_fault(format, section, index, item) {
             Some(fault) => return Some(fault),
             None => {}
         }
@@ -308,21 +319,26 @@ fn array_fault(section: Section, items: &[Value]) -> Option<PolicyFault>
 pub fn form_fault(table: &Table) -> Option<PolicyFault>
     ensures { result ≡ spec.form_fault (table_view table.now) }
 {
-    match table_fault(Section::Root, 0, table) {
+    let format = format_of(table);
+    match table_fault(format, Section::Root, 0, table) {
         Some(fault) => return Some(fault),
         None => {}
     }
-    match array_fault(Section::Descriptor, array_at(table, Key::Descriptors)) {
+    match array_fault(
+        format,
+        Section::Descriptor,
+        array_at(table, Key::Descriptors),
+    ) {
         Some(fault) => return Some(fault),
         None => {}
     }
-    match array_fault(Section::Limit, array_at(table, Key::Limits)) {
+    match array_fault(format, Section::Limit, array_at(table, Key::Limits)) {
         Some(fault) => return Some(fault),
         None => {}
     }
-    match array_fault(Section::At, array_at(table, Key::Ats)) {
+    match array_fault(format, Section::At, array_at(table, Key::Ats)) {
         Some(fault) => return Some(fault),
         None => {}
     }
-    array_fault(Section::Rule, array_at(table, Key::Rules))
+    array_fault(format, Section::Rule, array_at(table, Key::Rules))
 }

@@ -21,6 +21,8 @@ pub enum Key {
     Format,
     Refusable,
     Split,
+    OnRefusal,
+    Detached,
     Descriptors,
     Limits,
     Ats,
@@ -36,10 +38,12 @@ pub enum Key {
     Bad,
 }
 
-const ROOT: [Key; 7] = [
+const ROOT: [Key; 9] = [
     Key::Format,
     Key::Refusable,
     Key::Split,
+    Key::OnRefusal,
+    Key::Detached,
     Key::Descriptors,
     Key::Limits,
     Key::Ats,
@@ -79,6 +83,16 @@ pub(crate) fn keys_of(section: Section) -> &'static [Key]
     }
 }
 
+/// Whether a format knows the key: `detached` is known in format 2 alone.
+pub(crate) fn is_known(format: u8, key: Key) -> bool
+    ensures { result ≡ spec.is_known format key }
+{
+    match key {
+        Key::Detached => format == 2,
+        _ => true,
+    }
+}
+
 /// A key's place in the list of its table's keys, from 1.
 pub(crate) fn key_number(key: Key) -> u8
     ensures { result ≡ spec.key_number key }
@@ -87,10 +101,12 @@ pub(crate) fn key_number(key: Key) -> u8
         Key::Format => 1,
         Key::Refusable => 2,
         Key::Split => 3,
-        Key::Descriptors => 4,
-        Key::Limits => 5,
-        Key::Ats => 6,
-        Key::Rules => 7,
+        Key::OnRefusal => 4,
+        Key::Detached => 5,
+        Key::Descriptors => 6,
+        Key::Limits => 7,
+        Key::Ats => 8,
+        Key::Rules => 9,
         Key::Name => 1,
         Key::Rights => 2,
         Key::Of => 1,
@@ -111,6 +127,8 @@ pub(crate) fn key_text(key: Key) -> &'static str
         Key::Format => "format",
         Key::Refusable => "refusable",
         Key::Split => "split",
+        Key::OnRefusal => "on_refusal",
+        Key::Detached => "detached",
         Key::Descriptors => "descriptor",
         Key::Limits => "limit",
         Key::Ats => "at",

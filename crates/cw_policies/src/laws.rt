@@ -1,6 +1,6 @@
 //! Laws of the policies that texts spell: functions that do nothing, and whose contracts hold of every text.
 
-ghost use Rattle.cw_policies.specs.Answer.{SpellsOnePolicy, RefusedSpellsNone, SpelledAreValid};
+ghost use Rattle.cw_policies.specs.Answer.{SpellsOnePolicy, RefusedSpellsNone, SpelledAreValid, FormatOneDetachesNone};
 
 /// A text spells at most one policy.
 pub fn text_spells_one_policy()
@@ -15,4 +15,9 @@ pub fn refused_texts_spell_none()
 /// Each policy that a text spells is valid.
 pub fn spelled_policies_are_valid()
     ensures { SpelledAreValid }
+{}
+
+/// A policy of format 1 detaches no function.
+pub fn format_1_detaches_no_function()
+    ensures { FormatOneDetachesNone }
 {}

@@ -1,6 +1,6 @@
 //! The lines of refusals.
 
-ghost use Rattle.std.specs.Prelude.{◌≡◌, ◌++◌, option_map, IfOk, OnOk};
+ghost use Rattle.std.specs.Prelude.{◌≡◌, ◌++◌, OnOk, OnErr};
 ghost use Rattle.std.specs.Option.{option_copied};
 ghost use Rattle.cw_policies.specs.Lines as spec;
 
@@ -8,7 +8,6 @@ use crate::fault::{Path, PolicyFault};
 use crate::keys::{Key, Section, key_text, keys_of};
 use cw_core::{NoMemory, put_dec};
 use cw_regex::RegexFault;
-use std::alloc::Global;
 
 fn put(text: &mut Vec<u8>, piece: &str) -> Result<(), NoMemory>
     ensures put { OnOk result (text.new.items ≡ text.old.items ++ piece.now) }
@@ -109,14 +108,23 @@ fn put_key(text: &mut Vec<u8>, section: Section, index: u32, key: u8) -> Result<
     }
 }
 
-/// Appends a path, as `root`, `format`, `split[2]`, `limit[1]`, `limit[1].keep` or `limit[1].keep[0]`.
-///
-/// Where memory is wanted, the text may have gained a front of it.
-pub fn put_path(path: Path, text: &mut Vec<u8>) -> Result<(), NoMemory>
+fn put_place(text: &mut Vec<u8>, path: Path) -> Result<(), NoMemory>
     ensures put { OnOk result (text.new.items ≡ text.old.items ++ spec.path_text path) }
 {
     put_key(text, section_of(path.array), path.index, path.key)?;
     put_item(text, path.item)
+}
+
+/// Appends a path, as `root`, `format`, `split[2]`, `limit[1]`, `limit[1].keep` or `limit[1].keep[0]`. Where memory is
+/// wanted, the text is as before.
+pub fn put_path(path: Path, text: &mut Vec<u8>) -> Result<(), NoMemory>
+    ensures put { OnOk result (text.new.items ≡ text.old.items ++ spec.path_text path) }
+    ensures same { OnErr result (text.new.items ≡ text.old.items) }
+{
+    let mut path_text = Vec::new(*text.allocator());
+    put_place(&mut path_text, path)?;
+    text.extend_from_slice(&path_text)?;
+    Ok(())
 }
 
 #[tactic(auto, unfolding(crate::specs::Lines::rule_text))]
@@ -152,13 +160,10 @@ fn put_at(text: &mut Vec<u8>, word: &str, path: Path) -> Result<(), NoMemory>
     ensures put { OnOk result (text.new.items ≡ text.old.items ++ spec.at_path word.now path) }
 {
     put(text, word)?;
-    put_path(path, text)
+    put_place(text, path)
 }
 
-/// Appends the line of a refusal, without its end, as `policy: missing limit[1].keep` or `limit: rules`.
-///
-/// Where memory is wanted, the text may have gained a front of it.
-pub fn put_fault(fault: &PolicyFault, text: &mut Vec<u8>) -> Result<(), NoMemory>
+fn put_line(text: &mut Vec<u8>, fault: &PolicyFault) -> Result<(), NoMemory>
     ensures put { OnOk result (text.new.items ≡ text.old.items ++ spec.fault_line fault.now) }
 {
     match fault {
@@ -174,4 +179,16 @@ pub fn put_fault(fault: &PolicyFault, text: &mut Vec<u8>) -> Result<(), NoMemory
         PolicyFault::Twice(path) => put_at(text, "policy: twice ", *path),
         PolicyFault::NoMemory => put(text, "memory"),
     }
+}
+
+/// Appends the line of a refusal, without its end, as `policy: missing limit[1].keep` or `limit: rules`. Where memory is
+/// wanted, the text is as before.
+pub fn put_fault(fault: &PolicyFault, text: &mut Vec<u8>) -> Result<(), NoMemory>
+    ensures put { OnOk result (text.new.items ≡ text.old.items ++ spec.fault_line fault.now) }
+    ensures same { OnErr result (text.new.items ≡ text.old.items) }
+{
+    let mut line = Vec::new(*text.allocator());
+    put_line(&mut line, fault)?;
+    text.extend_from_slice(&line)?;
+    Ok(())
 }

@@ -1,16 +1,17 @@
 //! Names that aren't known, names that stand twice, and too many descriptors.
 
-ghost use Rattle.std.specs.Prelude.{◌≡◌, ◌<◌, [], option_map, is_some, IfSome};
+ghost use Rattle.std.specs.Prelude.{◌≡◌, [], option_map, is_some};
 ghost use Rattle.toml.specs.Data.{get};
 ghost use Rattle.toml.specs.View.{view, items_view, table_view};
-ghost use Rattle.cw_regex.specs.Meaning as meaning;
+ghost use Rattle.cw_rights.specs.Names.{right_mask};
 ghost use Rattle.cw_policies.specs.Form as form;
 ghost use Rattle.cw_policies.specs.Names as spec;
 
 use crate::fault::PolicyFault;
-use crate::form::{array_at, form_fault, items_at, member};
-use crate::keys::{Key, Section, place};
-use cw_core::Quantity;
+use crate::form::{array_at, form_fault, format_of, items_at, member};
+use crate::keys::{Key, Section, key_number, place};
+use cw_core::{Quantity, limits};
+use cw_rights::right_named;
 use toml::{Table, Value};
 
 /// The value at a key of a table, and None where the value is no table.
@@ -59,69 +60,18 @@ pub fn is_among(items: &[Value], name: &str) -> bool
     false
 }
 
-/// The number of a right.
-pub fn right_number(name: &str) -> Option<u8>
-    ensures number { result ≡ meaning.right_number name.now }
-    ensures within { IfSome result (λ n. n < 12) }
+fn is_right(format: u8, name: &str) -> bool
+    ensures { result ≡ is_some (right_mask format name.now) }
 {
-    if name == "CAP_READ" {
-        return Some(0);
-    }
-    if name == "CAP_WRITE" {
-        return Some(1);
-    }
-    if name == "CAP_SEEK" {
-        return Some(2);
-    }
-    if name == "CAP_FSTAT" {
-        return Some(3);
-    }
-    if name == "CAP_FTRUNCATE" {
-        return Some(4);
-    }
-    if name == "CAP_FSYNC" {
-        return Some(5);
-    }
-    later_right_number(name)
+    right_named(name.as_bytes(), format).is_some()
 }
 
-fn later_right_number(name: &str) -> Option<u8>
-    ensures number { result ≡ meaning.later_right_number name.now }
-    ensures within { IfSome result (λ n. n < 12) }
-{
-    if name == "CAP_FCNTL" {
-        return Some(6);
-    }
-    if name == "CAP_IOCTL" {
-        return Some(7);
-    }
-    if name == "CAP_EVENT" {
-        return Some(8);
-    }
-    if name == "CAP_ACCEPT" {
-        return Some(9);
-    }
-    if name == "CAP_LISTEN" {
-        return Some(10);
-    }
-    if name == "CAP_LOOKUP" {
-        return Some(11);
-    }
-    None
-}
-
-fn is_right(name: &str) -> bool
-    ensures { result ≡ meaning.is_right name.now }
-{
-    right_number(name).is_some()
-}
-
-fn unknown_right(items: &[Value]) -> Option<usize>
-    ensures { result ≡ form.first_in spec.unknown_right 1 (items_view items.now) }
+fn unknown_right(format: u8, items: &[Value]) -> Option<usize>
+    ensures { result ≡ form.first_in (spec.unknown_right format) 1 (items_view items.now) }
 {
     let mut number = 1;
     'items: for item in items {
-        if !is_right(name_of(item)) {
+        if !is_right(format, name_of(item)) {
             return Some(number);
         }
         number += 1;
@@ -139,28 +89,35 @@ fn unknown_item(section: Section, index: usize, key: u8, item: Option<usize>) ->
 }
 
 fn rights_fault(
+    format: u8,
     section: Section,
     index: usize,
     key: u8,
     value: Option<&Value>,
 ) -> Option<PolicyFault>
-    ensures { result ≡ spec.rights_fault section index key (option_map (λ x. view x.now) value.entry) }
+    ensures { result ≡ spec.rights_fault format section index key (option_map (λ x. view x.now) value.entry) }
 {
-    unknown_item(section, index, key, unknown_right(items_at(value)))
+    unknown_item(section, index, key, unknown_right(format, items_at(value)))
 }
 
-fn descriptor_unknown(index: usize, value: &Value) -> Option<PolicyFault>
-    ensures { result ≡ spec.descriptor_unknown index (view value.now) }
+fn descriptor_unknown(format: u8, index: usize, value: &Value) -> Option<PolicyFault>
+    ensures { result ≡ spec.descriptor_unknown format index (view value.now) }
 {
-    rights_fault(Section::Descriptor, index, 2, field(value, "rights"))
+    rights_fault(
+        format,
+        Section::Descriptor,
+        index,
+        2,
+        field(value, "rights"),
+    )
 }
 
-fn descriptors_unknown(items: &[Value]) -> Option<PolicyFault>
-    ensures { result ≡ form.first_in spec.descriptor_unknown 0 (items_view items.now) }
+fn descriptors_unknown(format: u8, items: &[Value]) -> Option<PolicyFault>
+    ensures { result ≡ form.first_in (spec.descriptor_unknown format) 0 (items_view items.now) }
 {
     let mut index = 0;
     'items: for item in items {
-        match descriptor_unknown(index, item) {
+        match descriptor_unknown(format, index, item) {
             Some(fault) => return Some(fault),
             None => {}
         }
@@ -169,21 +126,26 @@ fn descriptors_unknown(items: &[Value]) -> Option<PolicyFault>
     None
 }
 
-fn limit_unknown(descriptors: &[Value], index: usize, value: &Value) -> Option<PolicyFault>
-    ensures { result ≡ spec.limit_unknown (spec.names_of (items_view descriptors.now)) index (view value.now) }
+fn limit_unknown(
+    format: u8,
+    descriptors: &[Value],
+    index: usize,
+    value: &Value,
+) -> Option<PolicyFault>
+    ensures { result ≡ spec.limit_unknown format (spec.names_of (items_view descriptors.now)) index (view value.now) }
 {
     if !is_among(descriptors, text_at(field(value, "descriptor"))) {
         return Some(PolicyFault::Unknown(place(Section::Limit, index, 1, 0)));
     }
-    rights_fault(Section::Limit, index, 2, field(value, "keep"))
+    rights_fault(format, Section::Limit, index, 2, field(value, "keep"))
 }
 
-fn limits_unknown(descriptors: &[Value], items: &[Value]) -> Option<PolicyFault>
-    ensures { result ≡ form.first_in (spec.limit_unknown (spec.names_of (items_view descriptors.now))) 0 (items_view items.now) }
+fn limits_unknown(format: u8, descriptors: &[Value], items: &[Value]) -> Option<PolicyFault>
+    ensures { result ≡ form.first_in (spec.limit_unknown format (spec.names_of (items_view descriptors.now))) 0 (items_view items.now) }
 {
     let mut index = 0;
     'items: for item in items {
-        match limit_unknown(descriptors, index, item) {
+        match limit_unknown(format, descriptors, index, item) {
             Some(fault) => return Some(fault),
             None => {}
         }
@@ -196,10 +158,11 @@ fn limits_unknown(descriptors: &[Value], items: &[Value]) -> Option<PolicyFault>
 fn unknown_fault(table: &Table) -> Option<PolicyFault>
     ensures { result ≡ spec.unknown_fault (table_view table.now) }
 {
+    let format = format_of(table);
     let descriptors = array_at(table, Key::Descriptors);
-    match descriptors_unknown(descriptors) {
+    match descriptors_unknown(format, descriptors) {
         Some(fault) => Some(fault),
-        None => limits_unknown(descriptors, array_at(table, Key::Limits)),
+        None => limits_unknown(format, descriptors, array_at(table, Key::Limits)),
     }
 }
 
@@ -226,14 +189,14 @@ fn twice_table(section: Section, index: Option<usize>) -> Option<PolicyFault>
     }
 }
 
-fn twice_split(index: Option<usize>) -> Option<PolicyFault>
-    ensures { result ≡ spec.twice_split index }
+fn twice_item(key: Key, index: Option<usize>) -> Option<PolicyFault>
+    ensures { result ≡ spec.twice_item key index }
 {
     match index {
         Some(number) => Some(PolicyFault::Twice(place(
             Section::Root,
             0,
-            3,
+            key_number(key),
             number.saturating_add(1),
         ))),
         None => None,
@@ -251,7 +214,11 @@ fn twice_fault(table: &Table) -> Option<PolicyFault>
         Some(fault) => return Some(fault),
         None => {}
     }
-    match twice_split(repeated(array_at(table, Key::Split))) {
+    match twice_item(Key::Split, repeated(array_at(table, Key::Split))) {
+        Some(fault) => return Some(fault),
+        None => {}
+    }
+    match twice_item(Key::Detached, repeated(array_at(table, Key::Detached))) {
         Some(fault) => return Some(fault),
         None => {}
     }
@@ -268,7 +235,7 @@ pub fn count(items: &[Value]) -> usize
 fn count_fault(table: &Table) -> Option<PolicyFault>
     ensures { result ≡ spec.count_fault (table_view table.now) }
 {
-    if count(array_at(table, Key::Descriptors)) > 8 {
+    if count(array_at(table, Key::Descriptors)) > limits::DESCRIPTORS {
         Some(PolicyFault::Limit(Quantity::Descriptors))
     } else {
         None

@@ -1,51 +1,53 @@
 //! The parts of the policy that a tree of the form has, but for its rules.
 
-ghost use Rattle.std.specs.Prelude.{◌≡◌, ◌<◌, ◌≤◌, [], length, map, option_map, IfOk, OnOk};
+ghost use Rattle.std.specs.Prelude.{◌≡◌, ◌≤◌, [], length, map, option_map, IfOk, OnOk};
 ghost use Rattle.toml.specs.Data.{get};
+ghost use Rattle.cw_core.specs.Quantities.{limit_of};
 ghost use Rattle.toml.specs.View.{view, items_view, table_view};
 ghost use Rattle.cw_rights.specs.Policies.{descriptor_of};
+ghost use Rattle.cw_rights.specs.Names.{right_mask};
 ghost use Rattle.cw_regex.specs.Labels.{names_in};
 ghost use Rattle.cw_regex.specs.Meaning as meaning;
 ghost use Rattle.cw_policies.specs.Names as names;
 ghost use Rattle.cw_policies.specs.Parts as spec;
 
-use crate::form::{array_at, items_at};
-use crate::keys::Key;
-use crate::names::{field, is_among, name_of, right_number, text_at};
-use cw_core::NoMemory;
-use cw_rights::{Descriptor, Limit, Rights};
+use crate::form::{array_at, items_at, member};
+use crate::keys::{Key, key_text};
+use crate::names::{field, is_among, name_of, text_at};
+use cw_core::{NoMemory, Quantity};
+use cw_rights::{Descriptor, Limit, Rights, right_named};
 use indexmap::IndexSet;
 use std::alloc::Global;
 use toml::{Table, Value};
 
-fn with_right(rights: u16, name: &str) -> u16
+fn with_rights(format: u8, rights: u16, name: &str) -> u16
     requires within { rights ≤ 0xfff }
-    ensures rights { result ≡ spec.with_right rights (meaning.right_number name.now) }
+    ensures rights { result ≡ spec.with_rights rights (right_mask format name.now) }
     ensures within { result ≤ 0xfff }
 {
-    match right_number(name) {
+    match right_named(name.as_bytes(), format) {
         None => rights,
-        Some(number) => rights | 1 << number,
+        Some(more) => rights | more.0,
     }
 }
 
-fn rights_of(items: &[Value]) -> u16
-    ensures rights { result ≡ spec.rights_of 0 (items_view items.now) }
+fn rights_of(format: u8, items: &[Value]) -> u16
+    ensures rights { result ≡ spec.rights_of format 0 (items_view items.now) }
     ensures within { result ≤ 0xfff }
 {
     let mut rights = 0;
     'items: for item in items {
-        rights = with_right(rights, name_of(item));
+        rights = with_rights(format, rights, name_of(item));
     }
     rights
 }
 
-fn rights_at(value: Option<&Value>) -> Rights
-    ensures rights { result ≡ spec.rights_at (option_map (λ x. view x.now) value.entry) }
+fn rights_at(format: u8, value: Option<&Value>) -> Rights
+    ensures rights { result ≡ spec.rights_at format (option_map (λ x. view x.now) value.entry) }
     ensures within { result.0 ≤ 0xfff }
 {
     match value {
-        Some(_) => Rights(rights_of(items_at(value))),
+        Some(_) => Rights(rights_of(format, items_at(value))),
         None => Rights(0xfff),
     }
 }
@@ -72,30 +74,34 @@ fn copied(alloc: Global, text: &str) -> Result<Vec<u8>, NoMemory>
     Ok(copy)
 }
 
-fn descriptor_in(alloc: Global, value: &Value) -> Result<Descriptor, NoMemory>
-    ensures descriptor { IfOk result (λ d. descriptor_of d ≡ spec.descriptor_in (view value.now)) }
+fn descriptor_in(alloc: Global, format: u8, value: &Value) -> Result<Descriptor, NoMemory>
+    ensures descriptor { IfOk result (λ d. descriptor_of d ≡ spec.descriptor_in format (view value.now)) }
 {
     let name = name_of(value);
     Ok(Descriptor {
         name: copied(alloc, name)?,
         number: digit_of(name),
-        rights: rights_at(field(value, "rights")),
+        rights: rights_at(format, field(value, "rights")),
     })
 }
 
 /// The descriptors of a policy.
-pub fn descriptors_in(alloc: Global, items: &[Value]) -> Result<Vec<Descriptor>, NoMemory>
-    ensures descriptors { IfOk result (λ list. map descriptor_of list.items ≡ spec.descriptors_in (items_view items.now)) }
+pub fn descriptors_in(
+    alloc: Global,
+    format: u8,
+    items: &[Value],
+) -> Result<Vec<Descriptor>, NoMemory>
+    ensures descriptors { IfOk result (λ list. map descriptor_of list.items ≡ spec.descriptors_in format (items_view items.now)) }
 {
     let mut list = Vec::new(alloc);
     'items: for item in items {
-        list.push(descriptor_in(alloc, item)?)?;
+        list.push(descriptor_in(alloc, format, item)?)?;
     }
     Ok(list)
 }
 
 fn descriptor_number(descriptors: &[Descriptor], name: &str) -> u8
-    requires { length descriptors.now ≤ 8 }
+    requires { length descriptors.now ≤ limit_of Quantity.Descriptors }
     ensures { result ≡ meaning.number_in (meaning.names_of descriptors.now) name.now }
 {
     for (i, descriptor) in descriptors.iter().enumerate() {
@@ -106,28 +112,29 @@ fn descriptor_number(descriptors: &[Descriptor], name: &str) -> u8
     0
 }
 
-fn limit_in(descriptors: &[Descriptor], value: &Value) -> Limit
-    requires { length descriptors.now ≤ 8 }
-    ensures { result ≡ spec.limit_in (meaning.names_of descriptors.now) (view value.now) }
+fn limit_in(format: u8, descriptors: &[Descriptor], value: &Value) -> Limit
+    requires { length descriptors.now ≤ limit_of Quantity.Descriptors }
+    ensures { result ≡ spec.limit_in format (meaning.names_of descriptors.now) (view value.now) }
 {
     Limit {
         descriptor: descriptor_number(descriptors, text_at(field(value, "descriptor"))),
-        keep: Rights(rights_of(items_at(field(value, "keep")))),
+        keep: Rights(rights_of(format, items_at(field(value, "keep")))),
     }
 }
 
 /// The limits of a policy.
 pub fn limits_in(
     alloc: Global,
+    format: u8,
     descriptors: &[Descriptor],
     items: &[Value],
 ) -> Result<Vec<Limit>, NoMemory>
-    requires { length descriptors.now ≤ 8 }
-    ensures limits { IfOk result (λ list. list.items ≡ spec.limits_in (meaning.names_of descriptors.now) (items_view items.now)) }
+    requires { length descriptors.now ≤ limit_of Quantity.Descriptors }
+    ensures limits { IfOk result (λ list. list.items ≡ spec.limits_in format (meaning.names_of descriptors.now) (items_view items.now)) }
 {
     let mut list = Vec::new(alloc);
     'items: for item in items {
-        list.push(limit_in(descriptors, item))?;
+        list.push(limit_in(format, descriptors, item))?;
     }
     Ok(list)
 }
@@ -137,6 +144,13 @@ pub fn refuses(table: &Table, kind: &str) -> bool
     ensures { result ≡ spec.refuses kind.now (table_view table.now) }
 {
     is_among(array_at(table, Key::Refusable), kind)
+}
+
+/// Whether the weaver may end the program after a refusal.
+pub fn stops(table: &Table) -> bool
+    ensures { result ≡ spec.stops (table_view table.now) }
+{
+    text_at(member(table, key_text(Key::OnRefusal))) == "stop"
 }
 
 /// The names of some items.

@@ -1,7 +1,8 @@
 //! The rules of a policy, read from their texts.
 
-ghost use Rattle.std.specs.Prelude.{◌≡◌, ◌+◌, ◌≤◌, List, [], ◌∷◌, ◌++◌, length, map, IfOk, IfErr, OnOk};
+ghost use Rattle.std.specs.Prelude.{◌≡◌, ◌⊎◌, ◌+◌, ◌≤◌, List, [], ◌∷◌, ◌++◌, length, map, IfOk, IfErr, OnOk};
 ghost use Rattle.indexmap.specs.IndexSet.{index_set_len};
+ghost use Rattle.cw_core.specs.Quantities.{limit_of};
 ghost use Rattle.cw_rights.specs.Policies.{rule_of};
 ghost use Rattle.cw_rights.specs.Trees.{tree_of};
 ghost use Rattle.cw_regex.specs.Causes.{IsRegexFault};
@@ -77,19 +78,21 @@ fn test_rule(
 
 fn read_test_rule(
     alloc: Global,
+    format: u8,
     test: &TestSource,
     descriptors: &[Descriptor],
     labels: &IndexSet<Vec<u8>>,
 ) -> Result<Rule, PolicyFault>
-    requires few { length descriptors.now ≤ 8 }
+    requires format { (format ≡ 1) ⊎ (format ≡ 2) }
+    requires few { length descriptors.now ≤ limit_of Quantity.Descriptors }
     requires names { index_set_len labels.now ≤ 65535 }
-    ensures rule { IfOk result (λ r. spec.HasTest (names_of descriptors.now) (names_in labels.now.keys) (test_text test.now) (rule_of r)) }
-    ensures fault { IfErr result (spec.OrMemory (spec.IsRuleFault (names_of descriptors.now) (spec.tested (test_text test.now)))) }
+    ensures rule { IfOk result (λ r. spec.HasTest format (names_of descriptors.now) (names_in labels.now.keys) (test_text test.now) (rule_of r)) }
+    ensures fault { IfErr result (spec.OrMemory (spec.IsRuleFault format (names_of descriptors.now) (spec.tested (test_text test.now)))) }
 {
     if test.text.len() > 65535 {
         return Err(PolicyFault::NoMemory);
     }
-    match read_test(test.text, descriptors) {
+    match read_test(test.text, descriptors, format) {
         Err(_) => Err(PolicyFault::Kind(test.place)),
         Ok(read) => match test_rule(alloc, test, label_number(labels, test.label), read) {
             Ok(rule) => Ok(rule),
@@ -120,20 +123,22 @@ fn copied(alloc: Global, text: &str) -> Result<Vec<u8>, PolicyFault>
 
 fn read_expression(
     alloc: Global,
+    format: u8,
     source: &ExpressionSource,
     descriptors: &[Descriptor],
     labels: &mut IndexSet<Vec<u8>>,
 ) -> Result<Rule, PolicyFault>
-    requires few { length descriptors.now ≤ 8 }
-    ensures rule { IfOk result (λ r. spec.HasExpression (names_of descriptors.now) (names_in labels.old.keys) (expression_text source.now) (rule_of r) (names_in labels.new.keys)) }
+    requires format { (format ≡ 1) ⊎ (format ≡ 2) }
+    requires few { length descriptors.now ≤ limit_of Quantity.Descriptors }
+    ensures rule { IfOk result (λ r. spec.HasExpression format (names_of descriptors.now) (names_in labels.old.keys) (expression_text source.now) (rule_of r) (names_in labels.new.keys)) }
     ensures names { OnOk result (index_set_len labels.new ≤ 65535) }
-    ensures fault { IfErr result (spec.OrMemory (spec.IsRuleFault (names_of descriptors.now) (spec.written (expression_text source.now)))) }
+    ensures fault { IfErr result (spec.OrMemory (spec.IsRuleFault format (names_of descriptors.now) (spec.written (expression_text source.now)))) }
 {
     if labels.len() > 65535 || source.text.len() > 65535 - labels.len() {
         return Err(PolicyFault::NoMemory);
     }
     let name = copied(alloc, source.name)?;
-    match read_regex(alloc, source.text, descriptors, labels) {
+    match read_regex(alloc, source.text, descriptors, labels, format) {
         Ok(bad) => Ok(Rule { name, bad }),
         Err(fault) => Err(regex_fault(source.index, fault)),
     }
@@ -141,19 +146,23 @@ fn read_expression(
 
 fn read_rule(
     alloc: Global,
+    format: u8,
     source: &Source,
     descriptors: &[Descriptor],
     labels: &mut IndexSet<Vec<u8>>,
 ) -> Result<Rule, PolicyFault>
-    requires few { length descriptors.now ≤ 8 }
+    requires format { (format ≡ 1) ⊎ (format ≡ 2) }
+    requires few { length descriptors.now ≤ limit_of Quantity.Descriptors }
     requires names { index_set_len labels.old ≤ 65535 }
-    ensures rule { IfOk result (λ r. spec.HasRule (names_of descriptors.now) (names_in labels.old.keys) (text_of source.now) (rule_of r) (names_in labels.new.keys)) }
+    ensures rule { IfOk result (λ r. spec.HasRule format (names_of descriptors.now) (names_in labels.old.keys) (text_of source.now) (rule_of r) (names_in labels.new.keys)) }
     ensures names { OnOk result (index_set_len labels.new ≤ 65535) }
-    ensures fault { IfErr result (spec.OrMemory (spec.IsRuleFault (names_of descriptors.now) (text_of source.now))) }
+    ensures fault { IfErr result (spec.OrMemory (spec.IsRuleFault format (names_of descriptors.now) (text_of source.now))) }
 {
     match source {
-        Source::Test(test) => read_test_rule(alloc, test, descriptors, labels),
-        Source::Expression(expression) => read_expression(alloc, expression, descriptors, labels),
+        Source::Test(test) => read_test_rule(alloc, format, test, descriptors, labels),
+        Source::Expression(expression) => {
+            read_expression(alloc, format, expression, descriptors, labels)
+        }
     }
 }
 
@@ -161,19 +170,21 @@ fn read_rule(
 /// of the first text that is refused.
 pub fn read_rules(
     alloc: Global,
+    format: u8,
     sources: &[Source],
     descriptors: &[Descriptor],
     labels: &mut IndexSet<Vec<u8>>,
 ) -> Result<Vec<Rule>, PolicyFault>
-    requires few { length descriptors.now ≤ 8 }
+    requires format { (format ≡ 1) ⊎ (format ≡ 2) }
+    requires few { length descriptors.now ≤ limit_of Quantity.Descriptors }
     requires names { index_set_len labels.old ≤ 65535 }
-    ensures rules { IfOk result (λ rules. spec.HaveRules (names_of descriptors.now) (names_in labels.old.keys) (map text_of sources.now) (map rule_of rules.items) (names_in labels.new.keys)) }
+    ensures rules { IfOk result (λ rules. spec.HaveRules format (names_of descriptors.now) (names_in labels.old.keys) (map text_of sources.now) (map rule_of rules.items) (names_in labels.new.keys)) }
     ensures names { OnOk result (index_set_len labels.new ≤ 65535) }
-    ensures fault { IfErr result (spec.OrMemory (spec.FirstRefused (names_of descriptors.now) (names_in labels.old.keys) (map text_of sources.now))) }
+    ensures fault { IfErr result (spec.OrMemory (spec.FirstRefused format (names_of descriptors.now) (names_in labels.old.keys) (map text_of sources.now))) }
 {
     let mut rules = Vec::new(alloc);
     'sources: for source in sources {
-        match read_rule(alloc, source, descriptors, labels) {
+        match read_rule(alloc, format, source, descriptors, labels) {
             Ok(rule) => {
                 if rules.push(rule).is_err() {
                     return Err(PolicyFault::NoMemory);

@@ -42,7 +42,50 @@ fn the_first_fault_is_told(rt: HostRuntime) -> Result<(), Fail> {
         ("", "policy: missing format"),
         ("strange = 1\n", "policy: missing format"),
         ("format = 2\nstrange = 1\n", "policy: unknown root"),
-        ("format = 2\n", "policy: kind format"),
+        ("format = 2\n", "ok"),
+        ("format = 3\n", "policy: kind format"),
+        ("format = 3\ndetached = []\n", "policy: unknown root"),
+        ("format = 1\ndetached = []\n", "policy: unknown root"),
+        (
+            "format = 1\non_refusal = \"halt\"\n",
+            "policy: kind on_refusal",
+        ),
+        (
+            "format = 1\non_refusal = [\"stop\"]\n",
+            "policy: kind on_refusal",
+        ),
+        (
+            "format = 2\non_refusal = \"\"\ndetached = [\"9\"]\n",
+            "policy: kind on_refusal",
+        ),
+        (
+            "format = 2\nsplit = [\"f\"]\ndetached = [\"f\", \"9\"]\n",
+            "policy: kind detached[1]",
+        ),
+        (
+            "format = 2\ndetached = [\"f\", \"g\", \"f\"]\nrule = [{ name = \"r\", bad = \"\" }, { name = \"r\", bad = \"\" }]\n",
+            "policy: twice detached[2]",
+        ),
+        (
+            "format = 2\nsplit = [\"f\", \"f\"]\ndetached = [\"f\", \"f\"]\n",
+            "policy: twice split[1]",
+        ),
+        (
+            "format = 1\ndescriptor = [{ name = \"0\" }]\nlimit = [{ descriptor = \"0\", keep = [\"CAP_PREAD\"] }]\n",
+            "policy: unknown limit[0].keep[0]",
+        ),
+        (
+            "format = 2\ndescriptor = [{ name = \"0\", rights = [\"CAP_PREAD\"] }]\nat = [{ label = \"a\", never = [\"0:CAP_PWRITE\"] }]\n",
+            "ok",
+        ),
+        (
+            "format = 1\ndescriptor = [{ name = \"0\" }]\nat = [{ label = \"a\", never = [\"0:CAP_PWRITE\"] }]\n",
+            "policy: kind at[0].never[0]",
+        ),
+        (
+            "format = 1\ndescriptor = [{ name = \"0\" }]\nrule = [{ name = \"r\", bad = \"a[0:CAP_PREAD]\" }]\n",
+            "policy: regex rule[0] right 4",
+        ),
         ("format = \"1\"\n", "policy: kind format"),
         (
             "format = 1\nrefusable = [\"enter\", \"leave\"]\n",
@@ -199,10 +242,10 @@ fn put_test(text: &mut Vec<u8>, test: (bool, Test)) -> Result<(), NoMemory> {
     put(text, if test.0 { b"" } else { b"!" })?;
     match test.1 {
         Test::Amb => put(text, b"amb"),
-        Test::Holds { descriptor, right } => {
+        Test::Holds { descriptor, need } => {
             put_dec(u64::from(descriptor), text)?;
             put(text, b":")?;
-            put_dec(u64::from(right), text)
+            put_dec(u64::from(need.0), text)
         }
     }
 }
@@ -296,17 +339,45 @@ parse
 done
 start must amb: .* 0[!amb]
 parse never amb: .* 1[amb]
-parse never in:CAP_WRITE: .* 1[0:1]
-parse never logfd:CAP_READ: .* 1[1:0]
-parse never 1:CAP_READ: .* 1[2:0]
-done never in:CAP_READ: .* 2[0:0]
+parse never in:CAP_WRITE: .* 1[0:2]
+parse never logfd:CAP_READ: .* 1[1:1]
+parse never 1:CAP_READ: .* 1[2:1]
+done never in:CAP_READ: .* 2[0:1]
 ";
     match read_policy(rt.alloc(), text) {
         Err(_) => assert!(rt; false, "the text spells a policy"),
         Ok(policy) => {
             assert_eq!(rt; printed(rt.alloc(), &policy)?.as_slice(), want.as_slice());
             assert!(rt; !policy.refuse_limit && !policy.refuse_enter && !policy.refuse_split);
-            assert!(rt; policy.split.is_empty());
+            assert!(rt; policy.split.is_empty() && policy.detached.is_empty());
+            assert!(rt; policy.format == 1 && !policy.stop);
+        }
+    }
+    Ok(())
+}
+
+#[test]
+fn format_2_has_further_rights(rt: HostRuntime) -> Result<(), Fail> {
+    let text = b"format = 2
+on_refusal = \"stop\"
+detached = [\"f\", \"g\"]
+descriptor = [{ name = \"0\", rights = [\"CAP_PREAD\", \"CAP_WRITE\"] }]
+limit = [{ descriptor = \"0\", keep = [\"CAP_PREAD\"] }, { descriptor = \"0\", keep = [\"CAP_PWRITE\"] }]
+at = [{ label = \"a\", never = [\"0:CAP_PREAD\"] }]
+";
+    let want = b"0 is 0 with 7
+0 keeps 5
+0 keeps 6
+a
+a never 0:CAP_PREAD: .* 0[0:5]
+";
+    match read_policy(rt.alloc(), text) {
+        Err(_) => assert!(rt; false, "the text spells a policy"),
+        Ok(policy) => {
+            assert_eq!(rt; printed(rt.alloc(), &policy)?.as_slice(), want.as_slice());
+            assert!(rt; policy.format == 2 && policy.stop && policy.split.is_empty());
+            assert!(rt; policy.detached.len() == 2);
+            assert_eq!(rt; policy.detached[1].as_slice(), b"g".as_slice());
         }
     }
     Ok(())

@@ -1,5 +1,5 @@
 -- What is known of each policy of the first form.
-use Rattle.std.proofs.Common.{◌≡◌, ◌≢◌, ◌<◌, ◌≤◌, le-leb, ℕ, zero, suc, ◌+◌, ◌*◌, List, [], ◌∷◌, ◌++◌, Bool, true, false, not, cond, ◌&&◌, ◌||◌, Option, Some, None, map, length, length-append, replicate, All, AllPairs, IsTrue, refl, sym, ap, ap₂, ◌∙◌, subst, arith}
+use Rattle.std.proofs.Common.{◌≡◌, inl, ◌≢◌, ◌<◌, ◌≤◌, le-leb, ℕ, zero, suc, ◌+◌, ◌*◌, List, [], ◌∷◌, ◌++◌, Bool, true, false, not, cond, ◌&&◌, ◌||◌, Option, Some, None, map, length, length-append, replicate, All, AllPairs, IsTrue, refl, sym, ap, ap₂, ◌∙◌, subst, arith}
 use Rattle.std.specs.Prelude.{if◌then◌else◌, nat_le, sum_by, codes}
 use Rattle.std.specs.List.{list_any, position_or_len}
 use Rattle.std.specs.Str.{bytes_eq}
@@ -182,6 +182,7 @@ valid_with labels tests ns dist few_labels few_tests within =
       distinct_descriptors = λ i j d lt w. absurd (omega (arith, lt, w));
       distinct_labels = dist;
       distinct_splits = λ i j d lt w. absurd (omega (arith, lt, w));
+      distinct_detached = λ i j d lt w. absurd (omega (arith, lt, w));
       few_descriptors = omega arith;
       few_limits = omega arith;
       few_rules = omega (arith, long, few_tests);
@@ -189,6 +190,8 @@ valid_with labels tests ns dist few_labels few_tests within =
       shallow = All-map (λ (r : PlainRule). nesting r.bad ≤ 64) (rule_for labels) tests (λ k d lt. omega arith);
       few_splits = omega arith;
       few_labels = few_labels;
+      few_detached = omega arith;
+      format = inl refl;
       limits = All-nil (IsLimitWithin 0);
       rules = All-map (λ (r : PlainRule). IsTreeWithin 0 (length labels) r.bad) (rule_for labels) tests (λ k d lt. tree_within labels _ (within k d lt));
     }
@@ -255,5 +258,5 @@ is_ambient text policy (u, (t, parsed, first)) =
     let h = has t policy first in
     let labels = labels_from [] h.items in
     let few : length (tests_of labels h.items) ≤ 31 = subst (λ n. n ≤ 31) (sym (tests_counted labels h.items)) h.tests in
-    let ambient : IsAmbient (policy_with labels (map (rule_for labels) (tests_of labels h.items))) (tests_of labels h.items) = record { limits = refl; rules = bad_of_rules labels (tests_of labels h.items) } in
+    let ambient : IsAmbient (policy_with labels (map (rule_for labels) (tests_of labels h.items))) (tests_of labels h.items) = record { limits = refl; stop = refl; rules = bad_of_rules labels (tests_of labels h.items) } in
     (tests_of labels h.items, few, subst (λ (p : PlainPolicy). IsAmbient p (tests_of labels h.items)) (sym h.is) ambient)

@@ -32,7 +32,7 @@ abbrev pub test_of : Tree → Option AmbientTest
 test_of (seq r (seq s nothing)) = if is_any_letters r then last_test s else None
 test_of _ = None
 
--- the policy's rules are those of these tests, or those of no tests
+-- the policy is one of these tests, or of no tests
 abbrev pub IsView : PlainPolicy → Option (Vec AmbientTest Global) → Type 0
 IsView policy (Some tests) = IsAmbient policy tests.items
 IsView policy None = (tests : List AmbientTest) → IsAmbient policy tests → ⊥

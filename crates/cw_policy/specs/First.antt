@@ -129,7 +129,7 @@ name_of labels test = label_named labels test.label ++ kind_of test.wanted
 abbrev pub rule_for : List (List ℕ) → AmbientTest → PlainRule
 rule_for labels test = record { name = name_of labels test; bad = bad_words test }
 
--- no descriptors, limits and splits, and nothing is refused
+-- no descriptors, limits, splits and detached functions, nothing is refused, and the format is 1
 abbrev pub policy_with : List (List ℕ) → List PlainRule → PlainPolicy
 policy_with labels rules = record {
   descriptors = [];
@@ -140,6 +140,9 @@ policy_with labels rules = record {
   split = [];
   labels = labels;
   rules = rules;
+  stop = false;
+  format = 1;
+  detached = [];
 }
 
 -- The policy of these tables, where they have at most 65,535 labels, as many as have numbers.

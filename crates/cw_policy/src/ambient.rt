@@ -77,14 +77,17 @@ fn test_of(bad: &Regex) -> Option<AmbientTest>
     }
 }
 
-/// The tests of ambient authority that are the rules of a policy, in order, or None where a rule isn't one or the
-/// policy has limits.
+/// The tests of ambient authority that are the rules of a policy, in order, or None where a rule isn't one, the policy
+/// has limits, or the weaver may stop after a refusal.
 ///
 /// Under such rules a word that isn't empty is bad exactly where its last letter has the label of one of the tests
 /// and its wanted ambient authority.
 pub fn ambient_tests(alloc: Global, policy: &Policy) -> Result<Option<Vec<AmbientTest>>, NoMemory>
     ensures tests { IfOk result (IsView (policy_of policy.now)) }
 {
+    if policy.stop {
+        return Ok(None);
+    }
     if !policy.limits.is_empty() {
         return Ok(None);
     }

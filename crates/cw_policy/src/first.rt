@@ -430,6 +430,9 @@ fn policy_with(alloc: Global, labels: Vec<Vec<u8>>, rules: Vec<Rule>) -> Policy
         split: Vec::new(alloc),
         labels,
         rules,
+        stop: false,
+        format: 1,
+        detached: Vec::new(alloc),
     }
 }
 

@@ -26,18 +26,23 @@ abbrev pub takes : Symbol → List Lexeme → Bool
 takes symbol [] = false
 takes symbol (t ∷ ts) = is_some (after symbol (kind_of_word t.word))
 
-pub fed_some : (next : Next) (new : List Symbol) (empty : Bool) (below : List Symbol) (passed : Next) (go : List Symbol → Bool) → next ≡ Some new → go (new ++ below) ≡ true → then_done (fed next empty below passed) go ≡ true
+pub fed_some : (next : Next) (new : List Symbol) (empty : Bool) (below : List Symbol) (passed : Next) (go : List Symbol → Bool) → next ≡ Some new → go (new ++ below) ≡ true
+    → then_done (fed next empty below passed) go ≡ true
 fed_some next new empty below passed go e h = rw e h
 
-fed_none : (next : Next) (empty : Bool) (below : List Symbol) (passed : Next) (go : List Symbol → Bool) → is_some next ≡ false → empty ≡ true → then_done passed go ≡ true → then_done (fed next empty below passed) go ≡ true
+fed_none : (next : Next) (empty : Bool) (below : List Symbol) (passed : Next) (go : List Symbol → Bool) → is_some next ≡ false → empty ≡ true → then_done passed go ≡ true
+    → then_done (fed next empty below passed) go ≡ true
 fed_none None empty below passed go n e h = rw e h
 fed_none (Some new) empty below passed go n e h = absurd cc
 
 -- a token that the symbol on top begins with
-pub step_kind : {symbol : Symbol} {t : Lexeme} {new below : List Symbol} {ts : List Lexeme} → after symbol (kind_of_word t.word) ≡ Some new → Accepts (new ++ below) ts → Accepts (symbol ∷ below) (t ∷ ts)
-step_kind {symbol} {t} {new} {below} {ts} e h = record { ok = fed_some (after symbol (kind_of_word t.word)) new (may_be_empty symbol) below (feed below (kind_of_word t.word)) (λ next. accepts next ts) e h.ok }
+pub step_kind : {symbol : Symbol} {t : Lexeme} {new below : List Symbol} {ts : List Lexeme} → after symbol (kind_of_word t.word) ≡ Some new → Accepts (new ++ below) ts
+    → Accepts (symbol ∷ below) (t ∷ ts)
+step_kind {symbol} {t} {new} {below} {ts} e h = record
+    { ok = fed_some (after symbol (kind_of_word t.word)) new (may_be_empty symbol) below (feed below (kind_of_word t.word)) (λ next. accepts next ts) e h.ok }
 
-pub step : {symbol : Symbol} {word : Word} {t : Lexeme} {new below : List Symbol} {ts : List Lexeme} → Is word t → after symbol (kind_of_word word) ≡ Some new → Accepts (new ++ below) ts → Accepts (symbol ∷ below) (t ∷ ts)
+pub step : {symbol : Symbol} {word : Word} {t : Lexeme} {new below : List Symbol} {ts : List Lexeme} → Is word t → after symbol (kind_of_word word) ≡ Some new
+    → Accepts (new ++ below) ts → Accepts (symbol ∷ below) (t ∷ ts)
 step {symbol} {word} {t} {new} {below} {ts} is e h = step_kind {symbol = symbol} {t = t} {new = new} {below = below} {ts = ts} (ap (λ (v : Word). after symbol (kind_of_word v)) is ∙ e) h
 
 skipped : (symbol : Symbol) (below : List Symbol) (ts : List Lexeme) → may_be_empty symbol ≡ true → takes symbol ts ≡ false → Accepts below ts → Accepts (symbol ∷ below) ts
@@ -48,22 +53,28 @@ skipped symbol below (t ∷ ts) e n h = record { ok = fed_none (after symbol (ki
 pub skip : {symbol : Symbol} {below : List Symbol} {ts : List Lexeme} → may_be_empty symbol ≡ true → takes symbol ts ≡ false → Accepts below ts → Accepts (symbol ∷ below) ts
 skip {symbol} {below} {ts} e n h = skipped symbol below ts e n h
 
-pub pass : {symbol : Symbol} {word : Word} {t : Lexeme} {below : List Symbol} {ts : List Lexeme} → Is word t → may_be_empty symbol ≡ true → is_some (after symbol (kind_of_word word)) ≡ false → Accepts below (t ∷ ts) → Accepts (symbol ∷ below) (t ∷ ts)
+pub pass : {symbol : Symbol} {word : Word} {t : Lexeme} {below : List Symbol} {ts : List Lexeme} → Is word t → may_be_empty symbol ≡ true
+    → is_some (after symbol (kind_of_word word)) ≡ false → Accepts below (t ∷ ts) → Accepts (symbol ∷ below) (t ∷ ts)
 pass {symbol} {word} {t} {below} {ts} is e n h = skip {symbol = symbol} {below = below} {ts = t ∷ ts} e (ap (λ (v : Word). is_some (after symbol (kind_of_word v))) is ∙ n) h
 
 pub moved : {stack : List Symbol} {ts us : List Lexeme} → ts ≡ us → Accepts stack us → Accepts stack ts
 moved {stack} e h = subst (λ (z : List Lexeme). Accepts stack z) (sym e) h
 
-by_next : (next other : Next) (new_below below : List Symbol) (more : List Symbol) (p q : Next) (b : Bool) (go : List Symbol → Bool) → (is_some next ≡ true → other ≡ onto next more) → then_done (fed next false new_below p) go ≡ true → ((new : List Symbol) → go (new ++ new_below) ≡ true → go ((new ++ more) ++ below) ≡ true) → then_done (fed other b below q) go ≡ true
+by_next : (next other : Next) (new_below below : List Symbol) (more : List Symbol) (p q : Next) (b : Bool) (go : List Symbol → Bool)
+    → (is_some next ≡ true → other ≡ onto next more) → then_done (fed next false new_below p) go ≡ true
+    → ((new : List Symbol) → go (new ++ new_below) ≡ true → go ((new ++ more) ++ below) ≡ true) → then_done (fed other b below q) go ≡ true
 by_next None other new_below below more p q b go f h m = absurd cc
 by_next (Some new) other new_below below more p q b go f h m = rw (f refl) (m new h)
 
-put_instead : (first symbol : Symbol) (below : List Symbol) (ts : List Lexeme) (more : List Symbol) → may_be_empty first ≡ false → ((kind : Kind) → is_some (after first kind) ≡ true → after symbol kind ≡ onto (after first kind) more) → Accepts (first ∷ (more ++ below)) ts → Accepts (symbol ∷ below) ts
+put_instead : (first symbol : Symbol) (below : List Symbol) (ts : List Lexeme) (more : List Symbol) → may_be_empty first ≡ false
+    → ((kind : Kind) → is_some (after first kind) ≡ true → after symbol kind ≡ onto (after first kind) more) → Accepts (first ∷ (more ++ below)) ts → Accepts (symbol ∷ below) ts
 put_instead first symbol below [] more n f h = absurd (let g = rw n at h.ok in cc)
 put_instead first symbol below (t ∷ ts) more n f h = record {
-  ok = by_next (after first (kind_of_word t.word)) (after symbol (kind_of_word t.word)) (more ++ below) below more (feed (more ++ below) (kind_of_word t.word)) (feed below (kind_of_word t.word)) (may_be_empty symbol) (λ next. accepts next ts) (f (kind_of_word t.word)) (rw n at h.ok) (λ new g. rw append_assoc g);
+  ok = by_next (after first (kind_of_word t.word)) (after symbol (kind_of_word t.word)) (more ++ below) below more (feed (more ++ below) (kind_of_word t.word))
+      (feed below (kind_of_word t.word)) (may_be_empty symbol) (λ next. accepts next ts) (f (kind_of_word t.word)) (rw n at h.ok) (λ new g. rw append_assoc g);
 }
 
 -- a symbol that begins as another one does, with more behind it
-pub instead : {first symbol : Symbol} {below : List Symbol} {ts : List Lexeme} (more : List Symbol) → may_be_empty first ≡ false → ((kind : Kind) → is_some (after first kind) ≡ true → after symbol kind ≡ onto (after first kind) more) → Accepts (first ∷ (more ++ below)) ts → Accepts (symbol ∷ below) ts
+pub instead : {first symbol : Symbol} {below : List Symbol} {ts : List Lexeme} (more : List Symbol) → may_be_empty first ≡ false
+    → ((kind : Kind) → is_some (after first kind) ≡ true → after symbol kind ≡ onto (after first kind) more) → Accepts (first ∷ (more ++ below)) ts → Accepts (symbol ∷ below) ts
 instead {first} {symbol} {below} {ts} more n f h = put_instead first symbol below ts more n f h

@@ -33,7 +33,8 @@ pub raise : (n l m : ℕ) → l ≤ m → (ts : List Lexeme) (x : Tree) → IsDe
 raise zero l m le ts x h = absurd h
 raise (suc n) l m le ts x h = let e : m ≡ (m - l) + l = omega arith in rw e (raise_by n l (m - l) ts x h)
 
-binary : (n below number : ℕ) (a b : List Lexeme) (t : Lexeme) (x y : Tree) → operators.binary t.word ≡ Some (number, suc below) → IsDerived n (Level (suc below)) a x → IsDerived n (Level below) b y → Stands (Level (suc below)) (a ++ (t ∷ b))
+binary : (n below number : ℕ) (a b : List Lexeme) (t : Lexeme) (x y : Tree) → operators.binary t.word ≡ Some (number, suc below) → IsDerived n (Level (suc below)) a x
+    → IsDerived n (Level below) b y → Stands (Level (suc below)) (a ++ (t ∷ b))
 binary n below number a b t x y e p q = record {
   nesting = suc n;
   tree = node (op.Binary number) (x ∷ y ∷ []) (a ++ (t ∷ b));
@@ -45,24 +46,28 @@ module _ (a : List Lexeme) (t : Lexeme) (number below : ℕ) (e : operators.bina
   outermost : (n : ℕ) (b : List Lexeme) (y : Tree) → IsDerived n (Level below) b y → Stands (Level (suc below)) (a ++ (t ∷ b))
   outermost n b y h =
       let d = max first.nesting n in
-      binary d below number a b t first.tree y e (raise d 0 (suc below) (omega arith) a first.tree (derived_deeper first.nesting d (omega arith) (Level 0) a first.tree first.derives)) (derived_deeper n d (omega arith) (Level below) b y h)
+      binary d below number a b t first.tree y e (raise d 0 (suc below) (omega arith) a first.tree
+      (derived_deeper first.nesting d (omega arith) (Level 0) a first.tree first.derives)) (derived_deeper n d (omega arith) (Level below) b y h)
 
   looser : {ts : List Lexeme} (l m : ℕ) → l ≤ m → Stands (Level l) ts → Stands (Level m) ts
   looser {ts} l m le h = record { nesting = h.nesting; tree = h.tree; derives = raise h.nesting l m le ts h.tree h.derives }
 
-  by_order : (n l : ℕ) (b : List Lexeme) (y : Tree) → (l ≡ below) ⊎ ((below < l) ⊎ (l < below)) → (below < l → Stands (Level l) (a ++ (t ∷ b))) → below < suc l → IsLevel (IsDerived n) l b y → Stands (Level (suc l)) (a ++ (t ∷ b))
+  by_order : (n l : ℕ) (b : List Lexeme) (y : Tree) → (l ≡ below) ⊎ ((below < l) ⊎ (l < below)) → (below < l → Stands (Level l) (a ++ (t ∷ b))) → below < suc l
+      → IsLevel (IsDerived n) l b y → Stands (Level (suc l)) (a ++ (t ∷ b))
   by_order n l b y (inl s) rec lt h =
       let g : IsDerived (suc n) (Level below) b y = subst (λ (z : ℕ). IsDerived (suc n) (Level z) b y) s h in
       subst (λ (z : ℕ). Stands (Level (suc z)) (a ++ (t ∷ b))) (sym s) (outermost (suc n) b y g)
   by_order n l b y (inr (inl s)) rec lt h = looser l (suc l) (omega arith) (rec s)
   by_order n l b y (inr (inr s)) rec lt h = absurd (omega arith)
 
-  at_level : (n : ℕ) → ((l : ℕ) → below < l → (b : List Lexeme) (y : Tree) → IsDerived n (Level l) b y → Stands (Level l) (a ++ (t ∷ b))) → (l : ℕ) → below < l → (b : List Lexeme) (y : Tree) → IsLevel (IsDerived n) l b y → Stands (Level l) (a ++ (t ∷ b))
+  at_level : (n : ℕ) → ((l : ℕ) → below < l → (b : List Lexeme) (y : Tree) → IsDerived n (Level l) b y → Stands (Level l) (a ++ (t ∷ b))) → (l : ℕ) → below < l
+      → (b : List Lexeme) (y : Tree) → IsLevel (IsDerived n) l b y → Stands (Level l) (a ++ (t ∷ b))
   at_level n again zero lt b y h = absurd (omega arith)
   at_level n again (suc l) lt b y (inr (c, u, d, other, v, w, f, g, p, q, _)) =
       let x = again (suc l) lt c v p in
       let k = max x.nesting n in
-      let ok = binary k l other (a ++ (t ∷ c)) d u x.tree w g (derived_deeper x.nesting k (omega arith) (Level (suc l)) (a ++ (t ∷ c)) x.tree x.derives) (derived_deeper n k (omega arith) (Level l) d w q) in
+      let ok = binary k l other (a ++ (t ∷ c)) d u x.tree w g (derived_deeper x.nesting k (omega arith) (Level (suc l)) (a ++ (t ∷ c)) x.tree x.derives)
+      (derived_deeper n k (omega arith) (Level l) d w q) in
       subst (λ (z : List Lexeme). Stands (Level (suc l)) z) (append_assoc a (t ∷ c) (u ∷ d) ∙ ap (λ (z : List Lexeme). a ++ (t ∷ z)) (sym f)) ok
   at_level n again (suc l) lt b y (inl h) = by_order n l b y (order l below) (λ lt. at_level n again l lt b y h) lt h
 
@@ -71,5 +76,6 @@ module _ (a : List Lexeme) (t : Lexeme) (number below : ℕ) (e : operators.bina
   before (suc n) l lt b y h = at_level n (before n) l lt b y h
 
 -- an operand, an operator, and an expression without assignment
-pub joined : (a b : List Lexeme) (t : Lexeme) (number below : ℕ) → below < 10 → operators.binary t.word ≡ Some (number, suc below) → Stands (Level 0) a → Stands (Level 10) b → Stands (Level 10) (a ++ (t ∷ b))
+pub joined : (a b : List Lexeme) (t : Lexeme) (number below : ℕ) → below < 10 → operators.binary t.word ≡ Some (number, suc below) → Stands (Level 0) a → Stands (Level 10) b
+    → Stands (Level 10) (a ++ (t ∷ b))
 joined a b t number below lt e first h = before a t number below e first h.nesting 10 lt b h.tree h.derives

@@ -14,8 +14,10 @@ onto_either : (x y : Next) (a : List Symbol) → onto (either x y) a ≡ either 
 onto_either None y a = refl
 onto_either (Some new) y a = refl
 
-pub opened_is : (kind : Kind) → after s.Opened kind ≡ either (onto (qualified kind) (s.TwoStars ∷ s.Close ∷ s.Operand ∷ s.Tail false ∷ [])) (onto (expression kind) (s.Close ∷ s.Suffixes ∷ s.Tail true ∷ []))
-opened_is kind = ap (λ (z : Next). either z (onto (expression kind) (s.Close ∷ s.Suffixes ∷ s.Tail true ∷ []))) (onto_onto (qualified kind) (s.TwoStars ∷ []) (s.Close ∷ s.Operand ∷ s.Tail false ∷ []))
+pub opened_is : (kind : Kind) → after s.Opened kind ≡ either (onto (qualified kind) (s.TwoStars ∷ s.Close ∷ s.Operand ∷ s.Tail false ∷ []))
+    (onto (expression kind) (s.Close ∷ s.Suffixes ∷ s.Tail true ∷ []))
+opened_is kind = ap (λ (z : Next). either z (onto (expression kind) (s.Close ∷ s.Suffixes ∷ s.Tail true ∷ [])))
+    (onto_onto (qualified kind) (s.TwoStars ∷ []) (s.Close ∷ s.Operand ∷ s.Tail false ∷ []))
 
 pub opened_operand_is : (kind : Kind) → after s.OpenedOperand kind ≡ either (onto (qualified kind) (s.TwoStars ∷ s.Close ∷ s.Operand ∷ [])) (onto (expression kind) (s.Close ∷ s.Suffixes ∷ []))
 opened_operand_is kind = ap (λ (z : Next). either z (onto (expression kind) (s.Close ∷ s.Suffixes ∷ []))) (onto_onto (qualified kind) (s.TwoStars ∷ []) (s.Close ∷ s.Operand ∷ []))
@@ -26,16 +28,20 @@ opened_measured_is kind = ap (λ (z : Next). either z (onto (expression kind) (s
 pub param_is : (named : Bool) (kind : Kind) → after (s.Param named) kind ≡ onto (qualified kind) (s.TwoStars ∷ s.AfterType named ∷ [])
 param_is named kind = onto_onto (qualified kind) (s.TwoStars ∷ []) (s.AfterType named ∷ [])
 
-pub items_are : (kind : Kind) → after s.Items kind ≡ either (onto (specifiers kind) (s.TwoStars ∷ s.Name ∷ s.Array ∷ s.Initialiser ∷ s.MoreItems ∷ s.Semicolon ∷ s.Items ∷ [])) (either (onto (keyword kind) (s.Items ∷ [])) (onto (expression kind) (s.Semicolon ∷ s.Items ∷ [])))
+pub items_are : (kind : Kind) → after s.Items kind ≡ either (onto (specifiers kind) (s.TwoStars ∷ s.Name ∷ s.Array ∷ s.Initialiser ∷ s.MoreItems ∷ s.Semicolon ∷ s.Items ∷ []))
+    (either (onto (keyword kind) (s.Items ∷ [])) (onto (expression kind) (s.Semicolon ∷ s.Items ∷ [])))
 items_are kind =
     onto_either (declaration kind) (statement kind) (s.Items ∷ [])
     ∙ ap (λ (z : Next). either z (onto (statement kind) (s.Items ∷ []))) (onto_onto (specifiers kind) (s.TwoStars ∷ s.Name ∷ s.Array ∷ s.Initialiser ∷ s.MoreItems ∷ s.Semicolon ∷ []) (s.Items ∷ []))
-    ∙ ap (λ (z : Next). either (onto (specifiers kind) (s.TwoStars ∷ s.Name ∷ s.Array ∷ s.Initialiser ∷ s.MoreItems ∷ s.Semicolon ∷ s.Items ∷ [])) z) (onto_either (keyword kind) (onto (expression kind) (s.Semicolon ∷ [])) (s.Items ∷ []) ∙ ap (λ (z : Next). either (onto (keyword kind) (s.Items ∷ [])) z) (onto_onto (expression kind) (s.Semicolon ∷ []) (s.Items ∷ [])))
+    ∙ ap (λ (z : Next). either (onto (specifiers kind) (s.TwoStars ∷ s.Name ∷ s.Array ∷ s.Initialiser ∷ s.MoreItems ∷ s.Semicolon ∷ s.Items ∷ [])) z)
+    (onto_either (keyword kind) (onto (expression kind) (s.Semicolon ∷ [])) (s.Items ∷ [])
+    ∙ ap (λ (z : Next). either (onto (keyword kind) (s.Items ∷ [])) z) (onto_onto (expression kind) (s.Semicolon ∷ []) (s.Items ∷ [])))
 
 pub params_are : (kind : Kind) → after s.Params kind ≡ either (params_front kind) (onto (qualified kind) (s.TwoStars ∷ s.AfterType true ∷ []))
 params_are kind = ap (λ (z : Next). either (params_front kind) z) (onto_onto (qualified kind) (s.TwoStars ∷ []) (s.AfterType true ∷ []))
 
-pub init_is : (kind : Kind) → after s.ForInit kind ≡ either (semicolon kind) (either (onto (specifiers kind) (s.TwoStars ∷ s.Name ∷ s.Array ∷ s.Initialiser ∷ s.MoreItems ∷ s.Semicolon ∷ [])) (onto (expression kind) (s.Semicolon ∷ [])))
+pub init_is : (kind : Kind) → after s.ForInit kind ≡ either (semicolon kind)
+    (either (onto (specifiers kind) (s.TwoStars ∷ s.Name ∷ s.Array ∷ s.Initialiser ∷ s.MoreItems ∷ s.Semicolon ∷ [])) (onto (expression kind) (s.Semicolon ∷ [])))
 init_is kind = refl
 
 pub either_first : (x y : Next) (more others new : List Symbol) → x ≡ Some new → either (onto x more) (onto y others) ≡ Some (new ++ more)
@@ -55,17 +61,22 @@ reverse_push below s = rw (reverse-append below (s ∷ [])) refl
 
 -- ---- one step
 
-pub feed_some : (stack below : List Symbol) (symbol : Symbol) (kind : Kind) (new : List Symbol) → stack ≡ below ++ symbol ∷ [] → after symbol kind ≡ Some new → feed (reverse stack) kind ≡ Some (new ++ reverse below)
+pub feed_some : (stack below : List Symbol) (symbol : Symbol) (kind : Kind) (new : List Symbol) → stack ≡ below ++ symbol ∷ [] → after symbol kind ≡ Some new
+    → feed (reverse stack) kind ≡ Some (new ++ reverse below)
 feed_some stack below symbol kind new e f = rw (e, reverse_push below symbol) (ap (λ (z : Next). fed z (may_be_empty symbol) (reverse below) (feed (reverse below) kind)) f)
 
-pub feed_pass : (stack below : List Symbol) (symbol : Symbol) (kind : Kind) → stack ≡ below ++ symbol ∷ [] → after symbol kind ≡ None → may_be_empty symbol ≡ true → feed (reverse stack) kind ≡ feed (reverse below) kind
-feed_pass stack below symbol kind e f g = rw (e, reverse_push below symbol) (ap (λ (z : Next). fed z (may_be_empty symbol) (reverse below) (feed (reverse below) kind)) f ∙ ap (λ (z : Bool). fed None z (reverse below) (feed (reverse below) kind)) g)
+pub feed_pass : (stack below : List Symbol) (symbol : Symbol) (kind : Kind) → stack ≡ below ++ symbol ∷ [] → after symbol kind ≡ None → may_be_empty symbol ≡ true
+    → feed (reverse stack) kind ≡ feed (reverse below) kind
+feed_pass stack below symbol kind e f g = rw (e, reverse_push below symbol)
+    (ap (λ (z : Next). fed z (may_be_empty symbol) (reverse below) (feed (reverse below) kind)) f ∙ ap (λ (z : Bool). fed None z (reverse below) (feed (reverse below) kind)) g)
 
 pub feed_none : (stack below : List Symbol) (symbol : Symbol) (kind : Kind) → stack ≡ below ++ symbol ∷ [] → after symbol kind ≡ None → may_be_empty symbol ≡ false → feed (reverse stack) kind ≡ None
-feed_none stack below symbol kind e f g = rw (e, reverse_push below symbol) (ap (λ (z : Next). fed z (may_be_empty symbol) (reverse below) (feed (reverse below) kind)) f ∙ ap (λ (z : Bool). fed None z (reverse below) (feed (reverse below) kind)) g)
+feed_none stack below symbol kind e f g = rw (e, reverse_push below symbol)
+    (ap (λ (z : Next). fed z (may_be_empty symbol) (reverse below) (feed (reverse below) kind)) f ∙ ap (λ (z : Bool). fed None z (reverse below) (feed (reverse below) kind)) g)
 
 pub feed_empty : (stack : List Symbol) (kind : Kind) → stack ≡ [] → feed (reverse stack) kind ≡ None
 feed_empty stack kind e = rw e refl
 
-pub put_both : (first second below middle stack : List Symbol) → reverse middle ≡ second ++ reverse below → reverse stack ≡ first ++ reverse middle → reverse stack ≡ (first ++ second) ++ reverse below
+pub put_both : (first second below middle stack : List Symbol) → reverse middle ≡ second ++ reverse below → reverse stack ≡ first ++ reverse middle
+    → reverse stack ≡ (first ++ second) ++ reverse below
 put_both first second below middle stack e f = f ∙ ap (λ (z : List Symbol). first ++ z) e ∙ sym (append_assoc first second (reverse below))

@@ -84,20 +84,27 @@ no_initialiser _ e = refl
 
 module _ (n : ℕ) where
   -- an expression that may be absent, before a mark
-  pub reads_optional : (x : Option Tree) (ts : List Lexeme) (word : Word) (c : Lexeme) (rest : List Lexeme) (below : List Symbol) → IsOptional (IsExpression n) ts x → Is word c → is_end (kind_of_word word) ≡ true → Accepts below (c ∷ rest) → Accepts (s.MaybeExpression ∷ below) (ts ++ (c ∷ rest))
+  pub reads_optional : (x : Option Tree) (ts : List Lexeme) (word : Word) (c : Lexeme) (rest : List Lexeme) (below : List Symbol) → IsOptional (IsExpression n) ts x → Is word c
+      → is_end (kind_of_word word) ≡ true → Accepts below (c ∷ rest) → Accepts (s.MaybeExpression ∷ below) (ts ++ (c ∷ rest))
   reads_optional None ts word c rest below d is e h = rw d (skip refl (untaken s.MaybeExpression is_end no_begin (c ∷ rest) (head_is is_end word c rest is e)) h)
-  reads_optional (Some x) ts word c rest below d is e h = instead {first = s.Expression} {symbol = s.MaybeExpression} [] refl maybe_begins ((reads n).expression ts x (c ∷ rest) below d (head_is is_end word c rest is e) h)
+  reads_optional (Some x) ts word c rest below d is e h =
+      instead {first = s.Expression} {symbol = s.MaybeExpression} [] refl maybe_begins ((reads n).expression ts x (c ∷ rest) below d (head_is is_end word c rest is e) h)
 
-  reads_array : (array : Option (Option Tree)) (ts rest : List Lexeme) (below : List Symbol) → IsArray (IsExpression n) ts array → head is_value_end rest ≡ true → Accepts below rest → Accepts (s.Array ∷ below) (ts ++ rest)
+  reads_array : (array : Option (Option Tree)) (ts rest : List Lexeme) (below : List Symbol) → IsArray (IsExpression n) ts array → head is_value_end rest ≡ true
+      → Accepts below rest → Accepts (s.Array ∷ below) (ts ++ rest)
   reads_array None ts rest below d f h = rw d (skip refl (untaken s.Array is_value_end no_array rest f) h)
-  reads_array (Some x) ts rest below (o, inner, c, e, p, q, d) f h = rw (e, append_assoc) (step p refl (reads_optional x inner w.CloseBracket c rest (s.CloseBracket ∷ below) d q refl (step q refl h)))
+  reads_array (Some x) ts rest below (o, inner, c, e, p, q, d) f h =
+      rw (e, append_assoc) (step p refl (reads_optional x inner w.CloseBracket c rest (s.CloseBracket ∷ below) d q refl (step q refl h)))
 
-  reads_listed : (xs : List Tree) (x : Tree) (ts rest : List Lexeme) (below : List Symbol) → AreSeparated (IsExpression n) ts (x ∷ xs) → head is_end rest ≡ true → Accepts (s.MoreElements ∷ below) rest → Accepts (s.Expression ∷ s.MoreElements ∷ below) (ts ++ rest)
+  reads_listed : (xs : List Tree) (x : Tree) (ts rest : List Lexeme) (below : List Symbol) → AreSeparated (IsExpression n) ts (x ∷ xs) → head is_end rest ≡ true
+      → Accepts (s.MoreElements ∷ below) rest → Accepts (s.Expression ∷ s.MoreElements ∷ below) (ts ++ rest)
   reads_listed [] x ts rest below d f h = (reads n).expression ts x rest (s.MoreElements ∷ below) d f h
   reads_listed (y ∷ ys) x ts rest below (a, m, b, e, comma, p, q) f h =
-      rw (e, append_assoc) ((reads n).expression a x (m ∷ (b ++ rest)) (s.MoreElements ∷ below) p (head_is is_end w.Comma m (b ++ rest) comma refl) (step comma refl (instead {first = s.Expression} {symbol = s.Elements} (s.MoreElements ∷ []) refl elements_begin (reads_listed ys y b rest below q f h))))
+      rw (e, append_assoc) ((reads n).expression a x (m ∷ (b ++ rest)) (s.MoreElements ∷ below) p (head_is is_end w.Comma m (b ++ rest) comma refl)
+      (step comma refl (instead {first = s.Expression} {symbol = s.Elements} (s.MoreElements ∷ []) refl elements_begin (reads_listed ys y b rest below q f h))))
 
-  reads_trailing : (trailing : Bool) (b : List Lexeme) (c : Lexeme) (rest : List Lexeme) (below : List Symbol) → IsFlag w.Comma b trailing → Is w.CloseBrace c → Accepts below rest → Accepts (s.MoreElements ∷ s.CloseBrace ∷ below) (b ++ (c ∷ rest))
+  reads_trailing : (trailing : Bool) (b : List Lexeme) (c : Lexeme) (rest : List Lexeme) (below : List Symbol) → IsFlag w.Comma b trailing → Is w.CloseBrace c → Accepts below rest
+      → Accepts (s.MoreElements ∷ s.CloseBrace ∷ below) (b ++ (c ∷ rest))
   reads_trailing true b c rest below g is h = let x = one_word b w.Comma g in rw x.1 (step x.2 refl (pass is refl refl (step is refl h)))
   reads_trailing false b c rest below g is h = rw g (pass is refl refl (step is refl h))
 
@@ -105,9 +112,11 @@ module _ (n : ℕ) where
   trailing_ends true b c rest g is = let x = one_word b w.Comma g in rw (x.1, x.2) refl
   trailing_ends false b c rest g is = rw (g, is) refl
 
-  reads_elements : (es : List Tree) (ts : List Lexeme) (c : Lexeme) (rest : List Lexeme) (below : List Symbol) → AreElements (IsExpression n) ts es → Is w.CloseBrace c → Accepts below rest → Accepts (s.Expression ∷ s.MoreElements ∷ s.CloseBrace ∷ below) (ts ++ (c ∷ rest))
+  reads_elements : (es : List Tree) (ts : List Lexeme) (c : Lexeme) (rest : List Lexeme) (below : List Symbol) → AreElements (IsExpression n) ts es → Is w.CloseBrace c
+      → Accepts below rest → Accepts (s.Expression ∷ s.MoreElements ∷ s.CloseBrace ∷ below) (ts ++ (c ∷ rest))
   reads_elements [] ts c rest below (a, b, trailing, e, some, d, g) is h = absurd (omega arith)
-  reads_elements (x ∷ xs) ts c rest below (a, b, trailing, e, some, d, g) is h = rw (e, append_assoc) (reads_listed xs x a (b ++ (c ∷ rest)) (s.CloseBrace ∷ below) d (trailing_ends trailing b c rest g is) (reads_trailing trailing b c rest below g is h))
+  reads_elements (x ∷ xs) ts c rest below (a, b, trailing, e, some, d, g) is h =
+      rw (e, append_assoc) (reads_listed xs x a (b ++ (c ∷ rest)) (s.CloseBrace ∷ below) d (trailing_ends trailing b c rest g is) (reads_trailing trailing b c rest below g is h))
 
   -- `=` and a value
   abbrev IsBraced : List Lexeme → Type 0
@@ -116,9 +125,12 @@ module _ (n : ℕ) where
   reads_braced : (ts rest : List Lexeme) (below : List Symbol) → IsBraced ts → Accepts below rest → Accepts (s.Initialiser ∷ below) (ts ++ rest)
   reads_braced ts rest below (t, b, elements, e, p, (o, inner, c, e2, q, z, d)) h = rw (e, e2, append_assoc) (step p refl (step q refl (reads_elements elements inner c rest below d z h)))
 
-  reads_initialiser : (init : Trees) (braces : Bool) (ts rest : List Lexeme) (below : List Symbol) → IsInitialiser (IsExpression n) ts init braces → head is_item_end rest ≡ true → Accepts below rest → Accepts (s.Initialiser ∷ below) (ts ++ rest)
+  reads_initialiser : (init : Trees) (braces : Bool) (ts rest : List Lexeme) (below : List Symbol) → IsInitialiser (IsExpression n) ts init braces → head is_item_end rest ≡ true
+      → Accepts below rest → Accepts (s.Initialiser ∷ below) (ts ++ rest)
   reads_initialiser none false ts rest below d f h = rw d (skip refl (untaken s.Initialiser is_item_end no_initialiser rest f) h)
-  reads_initialiser (more x none) false ts rest below (t, b, e, p, d) f h = rw e (step p refl (instead {first = s.Expression} {symbol = s.Initial} [] refl initial_begins ((reads n).expression b x rest below d (head_wider is_item_end is_end item_end_ends rest f) h)))
+  reads_initialiser (more x none) false ts rest below (t, b, e, p, d) f h =
+      rw e (step p refl (instead {first = s.Expression} {symbol = s.Initial} [] refl initial_begins
+      ((reads n).expression b x rest below d (head_wider is_item_end is_end item_end_ends rest f) h)))
   reads_initialiser (more x (more y z)) false ts rest below d f h = absurd d
   reads_initialiser none true ts rest below (t, b, es, e, p, d, _) f h = reads_braced ts rest below (t, b, es, e, p, d) h
   reads_initialiser (more x none) true ts rest below (t, b, es, e, p, d, _) f h = reads_braced ts rest below (t, b, es, e, p, d) h
@@ -145,9 +157,11 @@ module _ (n : ℕ) where
     pub ok : Accepts (s.Array ∷ s.Initialiser ∷ s.MoreItems ∷ below) (others ++ rest)
 
   pub reads_first : {ts rest : List Lexeme} {below : List Symbol} → FirstItem ts rest below → Accepts (s.TwoStars ∷ s.Name ∷ s.Array ∷ s.Initialiser ∷ s.MoreItems ∷ below) (ts ++ rest)
-  reads_first {ts} {rest} {below} i = rw (i.split, append_assoc) (reads_stars i.stars i.a (i.name ∷ (i.others ++ rest)) (s.Name ∷ s.Array ∷ s.Initialiser ∷ s.MoreItems ∷ below) i.are_stars (rw i.is_name refl) (step i.is_name refl i.ok))
+  reads_first {ts} {rest} {below} i = rw (i.split, append_assoc)
+      (reads_stars i.stars i.a (i.name ∷ (i.others ++ rest)) (s.Name ∷ s.Array ∷ s.Initialiser ∷ s.MoreItems ∷ below) i.are_stars (rw i.is_name refl) (step i.is_name refl i.ok))
 
-  item_first : (specs : Specifiers) (x : Declared) (ts rest : List Lexeme) (below : List Symbol) → IsItem (IsExpression n) specs ts x → head is_item_end rest ≡ true → Accepts (s.MoreItems ∷ below) rest → FirstItem ts rest below
+  item_first : (specs : Specifiers) (x : Declared) (ts rest : List Lexeme) (below : List Symbol) → IsItem (IsExpression n) specs ts x → head is_item_end rest ≡ true
+      → Accepts (s.MoreItems ∷ below) rest → FirstItem ts rest below
   item_first specs x ts rest below (a, b, c, d, stars, e, are, kind, (m, e2, name, _), array, init) f h = record {
     a = a;
     name = m;
@@ -156,7 +170,8 @@ module _ (n : ℕ) where
     split = rw (e, e2) refl;
     are_stars = are;
     is_name = name;
-    ok = rw append_assoc (reads_array x.array c (d ++ rest) (s.Initialiser ∷ s.MoreItems ∷ below) array (initialiser_head x.init x.braces d rest init f) (reads_initialiser x.init x.braces d rest (s.MoreItems ∷ below) init f h));
+    ok = rw append_assoc (reads_array x.array c (d ++ rest) (s.Initialiser ∷ s.MoreItems ∷ below) array (initialiser_head x.init x.braces d rest init f)
+        (reads_initialiser x.init x.braces d rest (s.MoreItems ∷ below) init f h));
   }
 
   joined : (a b rest : List Lexeme) (below : List Symbol) → FirstItem a (b ++ rest) below → FirstItem (a ++ b) rest below
@@ -171,7 +186,8 @@ module _ (n : ℕ) where
     ok = rw append_assoc i.ok;
   }
 
-  pub items_first : (specs : Specifiers) (xs : List Declared) (x : Declared) (ts : List Lexeme) (c : Lexeme) (rest : List Lexeme) (below : List Symbol) → AreSeparated (IsItem (IsExpression n) specs) ts (x ∷ xs) → Is w.Semicolon c → Accepts below (c ∷ rest) → FirstItem ts (c ∷ rest) below
+  pub items_first : (specs : Specifiers) (xs : List Declared) (x : Declared) (ts : List Lexeme) (c : Lexeme) (rest : List Lexeme) (below : List Symbol)
+      → AreSeparated (IsItem (IsExpression n) specs) ts (x ∷ xs) → Is w.Semicolon c → Accepts below (c ∷ rest) → FirstItem ts (c ∷ rest) below
   items_first specs [] x ts c rest below d is h = item_first specs x ts (c ∷ rest) below d (head_is is_item_end w.Semicolon c rest is refl) (pass is refl refl h)
   items_first specs (y ∷ ys) x ts c rest below (a, m, b, e, comma, p, q) is h =
       subst (λ (z : List Lexeme). FirstItem z (c ∷ rest) below) (sym e) (
@@ -186,13 +202,16 @@ module _ (n : ℕ) where
   abbrev pub behind : List Symbol → List Symbol
   behind others = s.TwoStars ∷ s.Name ∷ s.Array ∷ s.Initialiser ∷ s.MoreItems ∷ s.Semicolon ∷ others
 
-  pub first_of_items : (items : List Declared) (specs : Specifiers) (b rest : List Lexeme) (below : List Symbol) → 0 < length items → IsEnded w.Semicolon (AreSeparated (IsItem (IsExpression n) specs)) b items → Accepts below rest → FirstItem b rest (s.Semicolon ∷ below)
+  pub first_of_items : (items : List Declared) (specs : Specifiers) (b rest : List Lexeme) (below : List Symbol) → 0 < length items
+      → IsEnded w.Semicolon (AreSeparated (IsItem (IsExpression n) specs)) b items → Accepts below rest → FirstItem b rest (s.Semicolon ∷ below)
   first_of_items [] specs b rest below some d h = absurd (omega arith)
   first_of_items (x ∷ xs) specs b rest below some (inner, c, e, is, d) h =
-      subst (λ (z : List Lexeme). FirstItem z rest (s.Semicolon ∷ below)) (sym e) (joined inner (c ∷ []) rest (s.Semicolon ∷ below) (items_first specs xs x inner c rest (s.Semicolon ∷ below) d is (step is refl h)))
+      subst (λ (z : List Lexeme). FirstItem z rest (s.Semicolon ∷ below)) (sym e)
+      (joined inner (c ∷ []) rest (s.Semicolon ∷ below) (items_first specs xs x inner c rest (s.Semicolon ∷ below) d is (step is refl h)))
 
   -- a symbol that begins as declarations do
-  pub reads_declaration : (symbol : Symbol) (others : List Symbol) → Declares symbol (behind others) → (x : Declaration) (ts rest : List Lexeme) (below : List Symbol) → IsDeclaration (IsExpression n) ts x → Accepts (others ++ below) rest → Accepts (symbol ∷ below) (ts ++ rest)
+  pub reads_declaration : (symbol : Symbol) (others : List Symbol) → Declares symbol (behind others) → (x : Declaration) (ts rest : List Lexeme) (below : List Symbol)
+      → IsDeclaration (IsExpression n) ts x → Accepts (others ++ below) rest → Accepts (symbol ∷ below) (ts ++ rest)
   reads_declaration symbol others begins x ts rest below (a, b, specs, e, are, _, _, _, some, d, _, _) h =
       let i : FirstItem b rest (s.Semicolon ∷ (others ++ below)) = first_of_items x.items specs b rest (others ++ below) some d h in
       rw (e, append_assoc) (reads_specifiers symbol (behind others) begins (b ++ rest) below (first_ends i) (reads_first i) a specs are)

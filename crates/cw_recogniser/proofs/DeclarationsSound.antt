@@ -71,7 +71,8 @@ elements_sound kind t a rest e h = λ b c p is.
 -- ---- what stands behind `=`
 
 abbrev IsBraced : ℕ → List Lexeme → Trees → Type 0
-IsBraced n ts es = (t : Lexeme) × (b : List Lexeme) × (elements : List Tree) × (ts ≡ t ∷ b) × Is w.Assign t × IsBetween w.OpenBrace w.CloseBrace (AreElements (IsExpression n)) b elements × (es ≡ trees elements)
+IsBraced n ts es = (t : Lexeme) × (b : List Lexeme) × (elements : List Tree) × (ts ≡ t ∷ b) × Is w.Assign t
+    × IsBetween w.OpenBrace w.CloseBrace (AreElements (IsExpression n)) b elements × (es ≡ trees elements)
 
 braced : (n : ℕ) (ts : List Lexeme) (es : Trees) → IsBraced n ts es → IsInitialiser (IsExpression n) ts es true
 braced n ts none h = h
@@ -80,8 +81,13 @@ braced n ts (more x (more y z)) h = h
 
 pub initial_sound : (kind : Kind) (t : Lexeme) (a rest : List Lexeme) → kind_of_word t.word ≡ kind → Given (initial kind) a rest → Means s.Initial (t ∷ a) rest
 initial_sound k.OpenBrace t a rest e (b, c, f, h, (u, v, g, elements, (z, i, q))) = λ m is.
-    let x = elements b h in
-    (x.0, trees x.1, true, braced x.0 (m ∷ t ∷ a) (trees x.1) (m, t ∷ a, x.1, refl, is, (t, b ++ u, z, rw (f, g, i) (ap (λ (y : List Lexeme). t ∷ y) (sym (append_assoc b u (z ∷ [])))), exact t k.OpenBrace w.OpenBrace e refl, q, x.2), refl))
+    let x = elements b h in (
+      x.0,
+      trees x.1,
+      true,
+      braced x.0 (m ∷ t ∷ a) (trees x.1)
+          (m, t ∷ a, x.1, refl, is, (t, b ++ u, z, rw (f, g, i) (ap (λ (y : List Lexeme). t ∷ y) (sym (append_assoc b u (z ∷ [])))), exact t k.OpenBrace w.OpenBrace e refl, q, x.2), refl),
+    )
 initial_sound kind t a rest e h = λ m is. let x = expression_sound kind t a rest e h in (x.nesting, more x.tree none, false, (m, t ∷ a, refl, is, x.derives))
 
 -- ---- items
@@ -91,7 +97,20 @@ item_of a m c d (stars, are) is (n, x, p) (l, init, braces, q) specs =
     let k = max n l in (
       k,
       record { kind = pointer specs stars; name = name_of m; array = x; init = init; braces = braces },
-      (a, m ∷ [], c, d, stars, refl, are, refl, (m, refl, is, refl), array_weaker (IsExpression n) (IsExpression k) (expression_deeper n k (omega arith)) x c p, initialiser_weaker (IsExpression l) (IsExpression k) (expression_deeper l k (omega arith)) init braces d q),
+      (
+        a,
+        m ∷ [],
+        c,
+        d,
+        stars,
+        refl,
+        are,
+        refl,
+        (m, refl, is, refl),
+        array_weaker (IsExpression n) (IsExpression k) (expression_deeper n k (omega arith)) x c p,
+        initialiser_weaker
+            (IsExpression l) (IsExpression k) (expression_deeper l k (omega arith)) init braces d q,
+      ),
     )
 
 pub more_items_none : (rest : List Lexeme) → Means s.MoreItems [] rest
@@ -101,13 +120,27 @@ before_items : (b : List Lexeme) (c : Lexeme) (ts : List Lexeme) → SomeItem b 
 before_items b c ts i is others specs =
     let x = i specs in
     let y = others specs in
-    let k = max x.0 y.0 in
-    (k, x.1, y.1 ∷ y.2, (b, c, ts, refl, is, item_weaker (IsExpression x.0) (IsExpression k) (expression_deeper x.0 k (omega arith)) specs b x.1 x.2, separated_weaker (IsItem (IsExpression y.0) specs) (IsItem (IsExpression k) specs) (item_weaker (IsExpression y.0) (IsExpression k) (expression_deeper y.0 k (omega arith)) specs) (y.1 ∷ y.2) ts y.3))
+    let k = max x.0 y.0 in (
+      k,
+      x.1,
+      y.1 ∷ y.2,
+      (
+        b,
+        c,
+        ts,
+        refl,
+        is,
+        item_weaker (IsExpression x.0) (IsExpression k) (expression_deeper x.0 k (omega arith)) specs b x.1 x.2,
+        separated_weaker
+            (IsItem (IsExpression y.0) specs) (IsItem (IsExpression k) specs) (item_weaker (IsExpression y.0) (IsExpression k) (expression_deeper y.0 k (omega arith)) specs) (y.1 ∷ y.2) ts y.3,
+      ),
+    )
 
 -- stars, a name, brackets, a value, and further items
 pub items_of : (a rest : List Lexeme) → Follow (s.TwoStars ∷ s.Name ∷ s.Array ∷ s.Initialiser ∷ s.MoreItems ∷ []) a rest → SomeItems a
 items_of a rest (b, c, f, stars, (m, d, g, (z, i, q), (u, v, j, p, (x, y, l, o, others)))) =
-    subst (λ (e : List Lexeme). SomeItems e) (sym (rw (f, g, i, j, l) (sym (append_assoc b (z ∷ (u ++ x)) y ∙ ap (λ (e : List Lexeme). b ++ (z ∷ e)) (append_assoc u x y))))) (others (b ++ (z ∷ (u ++ x))) (item_of b z u x stars q p o))
+    subst (λ (e : List Lexeme). SomeItems e) (sym (rw (f, g, i, j, l) (sym (append_assoc b (z ∷ (u ++ x)) y ∙ ap (λ (e : List Lexeme). b ++ (z ∷ e)) (append_assoc u x y)))))
+    (others (b ++ (z ∷ (u ++ x))) (item_of b z u x stars q p o))
 
 pub more_items_sound : (kind : Kind) (t : Lexeme) (a rest : List Lexeme) → kind_of_word t.word ≡ kind → Given (more_items kind) a rest → Means s.MoreItems (t ∷ a) rest
 more_items_sound k.Comma t a rest e h = λ b i. before_items b t a i (exact t k.Comma w.Comma e refl) (items_of a rest h)
@@ -131,4 +164,5 @@ pub declaration_sound : (kind : Kind) (t : Lexeme) (a rest : List Lexeme) → ki
 declaration_sound kind t a rest e h =
     let x = split_onto (specifiers kind) s.TwoStars (s.Name ∷ s.Array ∷ s.Initialiser ∷ s.MoreItems ∷ s.Semicolon ∷ []) a rest h in
     let y = split_follow (s.TwoStars ∷ s.Name ∷ s.Array ∷ s.Initialiser ∷ s.MoreItems ∷ []) s.Semicolon [] x.1 rest x.4 in
-    subst (λ (z : List Lexeme). SomeDeclaration (t ∷ z)) (sym (x.2 ∙ ap (λ (z : List Lexeme). x.0 ++ z) (y.2 ∙ ap (λ (z : List Lexeme). y.0 ++ z) y.4.1))) (declaration_of (t ∷ x.0) y.0 y.4.0 (specifiers_sound kind t x.0 (x.1 ++ rest) e x.3) (items_of y.0 (y.1 ++ rest) y.3) y.4.2)
+    subst (λ (z : List Lexeme). SomeDeclaration (t ∷ z)) (sym (x.2 ∙ ap (λ (z : List Lexeme). x.0 ++ z) (y.2 ∙ ap (λ (z : List Lexeme). y.0 ++ z) y.4.1)))
+    (declaration_of (t ∷ x.0) y.0 y.4.0 (specifiers_sound kind t x.0 (x.1 ++ rest) e x.3) (items_of y.0 (y.1 ++ rest) y.3) y.4.2)

@@ -1,6 +1,7 @@
 -- What nests at most so deep nests at most deeper.
 use Rattle.std.proofs.Common.{ℕ, zero, suc, ◌≤◌, Bool, true, false, List, [], ◌∷◌, inl, inr, Option, Some, None, arith}
-use Rattle.cw_syntax.specs.Trees.{Tree, Trees, none, more, Declared, Declaration, Statement, Stated, Form, Block, Declares, Evaluates, Empties, Labels, Chooses, Whiles, Does, Fors, Breaks, Continues, Returns, Perhaps, nothing, just}
+use Rattle.cw_syntax.specs.Trees.{Tree, Trees, none, more, Declared, Declaration, Statement, Stated, Form, Block, Declares, Evaluates, Empties, Labels, Chooses, Whiles, Does, Fors}
+use Rattle.cw_syntax.specs.Trees.{Breaks, Continues, Returns, Perhaps, nothing, just}
 use Rattle.cw_grammar.specs.declared.words.Lexeme.{Lexeme}
 use Rattle.cw_grammar.specs.declared.rules.Rule.{Rule}
 use Rattle.cw_grammar.specs.declared.rules.Rule.TheVariants.{Expression, Level, Unary, Postfix}
@@ -26,7 +27,8 @@ optional_weaker P Q f (Some x) ts h = f ts x h
 module _ (P Q : Derives) (f : (rule : Rule) (ts : List Lexeme) (x : Tree) → P rule ts x → Q rule ts x) where
   primary_weaker : (ts : List Lexeme) (x : Tree) → IsPrimary P ts x → IsPrimary Q ts x
   primary_weaker ts x (inl h) = inl h
-  primary_weaker ts x (inr (inl (n, b, xs, e, is, (o, inner, c, e2, p, q, d), t))) = inr (inl (n, b, xs, e, is, (o, inner, c, e2, p, q, separated_weaker (P Expression) (Q Expression) (f Expression) xs inner d), t))
+  primary_weaker ts x (inr (inl (n, b, xs, e, is, (o, inner, c, e2, p, q, d), t))) =
+      inr (inl (n, b, xs, e, is, (o, inner, c, e2, p, q, separated_weaker (P Expression) (Q Expression) (f Expression) xs inner d), t))
   primary_weaker ts x (inr (inr (inl h))) = inr (inr (inl h))
   primary_weaker ts x (inr (inr (inr (inl h)))) = inr (inr (inr (inl h)))
   primary_weaker ts x (inr (inr (inr (inr (inl h))))) = inr (inr (inr (inr (inl h))))
@@ -90,7 +92,8 @@ module _ (E F : Expressions) (f : (ts : List Lexeme) (x : Tree) → E ts x → F
   item_weaker specs ts x (a, b, c, d, stars, e, are, kind, name, array, init) = (a, b, c, d, stars, e, are, kind, name, array_weaker x.array c array, initialiser_weaker x.init x.braces d init)
 
   pub declaration_weaker : (x : Declaration) (ts : List Lexeme) → IsDeclaration E ts x → IsDeclaration F ts x
-  declaration_weaker x ts (a, b, specs, e, are, p, q, r, some, (inner, c, e2, is, d), from, to) = (a, b, specs, e, are, p, q, r, some, (inner, c, e2, is, separated_weaker (IsItem E specs) (IsItem F specs) (item_weaker specs) x.items inner d), from, to)
+  declaration_weaker x ts (a, b, specs, e, are, p, q, r, some, (inner, c, e2, is, d), from, to) =
+      (a, b, specs, e, are, p, q, r, some, (inner, c, e2, is, separated_weaker (IsItem E specs) (IsItem F specs) (item_weaker specs) x.items inner d), from, to)
 
   pub init_weaker : (init : Perhaps) (ts : List Lexeme) → IsInit E ts init → IsInit F ts init
   init_weaker nothing ts h = h
@@ -115,7 +118,8 @@ module _ (E F : Expressions) (f : (ts : List Lexeme) (x : Tree) → E ts x → F
     form_weaker place Empties ts h = h
     form_weaker place (Labels name mark body) ts (n, k, b, e, p, q, r, t, d) = (n, k, b, e, p, q, r, t, g (last place) b body d)
     form_weaker place (Chooses test body nothing) ts (i, a, b, e, ne, p, (o, inner, c, e2, q, r, t), d) = (i, a, b, e, ne, p, (o, inner, c, e2, q, r, f inner test t), g Elsewhere b body d)
-    form_weaker place (Chooses test body (just other)) ts (i, a, b, l, z, e, p, (o, inner, c, e2, q, r, t), d, is, h) = (i, a, b, l, z, e, p, (o, inner, c, e2, q, r, f inner test t), g BeforeElse b body d, is, g (last place) z other h)
+    form_weaker place (Chooses test body (just other)) ts (i, a, b, l, z, e, p, (o, inner, c, e2, q, r, t), d, is, h) =
+        (i, a, b, l, z, e, p, (o, inner, c, e2, q, r, f inner test t), g BeforeElse b body d, is, g (last place) z other h)
     form_weaker place (Whiles test body) ts (i, a, b, e, p, (o, inner, c, e2, q, r, t), d) = (i, a, b, e, p, (o, inner, c, e2, q, r, f inner test t), g (last place) b body d)
     form_weaker place (Does body test) ts (i, a, h, b, s, e, p, d, is, (o, inner, c, e2, q, r, t), z) = (i, a, h, b, s, e, p, g Elsewhere a body d, is, (o, inner, c, e2, q, r, f inner test t), z)
     form_weaker place (Fors init test each body) ts (i, o, a, b, c, d, e, p, q, h, (u, m, e2, is, t), (v, n, e3, is2, r), k) =
@@ -133,4 +137,5 @@ statement_deeper l k (suc m) (suc n) lk le place ts (Stated form from to) h =
 pub part_deeper : (m n : ℕ) → m ≤ n → (ts : List Lexeme) (x : Part) → IsPart m ts x → IsPart n ts x
 part_deeper m n le ts (DeclaresPart p) h = h
 part_deeper m n le ts (Holds x) h = declaration_weaker (IsExpression m) (IsExpression n) (expression_deeper m n le) x ts h
-part_deeper m n le ts (Defines x) (a, o, b, c, body, e, d, named, p, brace, all, t, q) = (a, o, b, c, body, e, d, named, p, brace, all_weaker (IsStatement m m InBlock) (IsStatement n n InBlock) (statement_deeper m n m n le le InBlock) body b all, t, q)
+part_deeper m n le ts (Defines x) (a, o, b, c, body, e, d, named, p, brace, all, t, q) =
+    (a, o, b, c, body, e, d, named, p, brace, all_weaker (IsStatement m m InBlock) (IsStatement n n InBlock) (statement_deeper m n m n le le InBlock) body b all, t, q)

@@ -133,12 +133,18 @@ measured_starts = record {
 -- ---- what is read of what nests at most n deep
 
 pub record Reads (n : ℕ) : Type 0 where
-  pub expression : (a : List Lexeme) (x : Tree) (rest : List Lexeme) (below : List Symbol) → IsDerived n Expression a x → head is_end rest ≡ true → Accepts below rest → Accepts (s.Expression ∷ below) (a ++ rest)
-  pub first : (l : ℕ) (a : List Lexeme) (x : Tree) (rest : List Lexeme) (below : List Symbol) → IsDerived n (Level l) a x → head is_halt rest ≡ true → Accepts (s.Tail true ∷ below) rest → Accepts (s.Tail false ∷ below) rest → Accepts (s.Expression ∷ below) (a ++ rest)
-  pub chain : (l : ℕ) (a : List Lexeme) (x : Tree) (rest : List Lexeme) (below : List Symbol) → IsDerived n (Level l) a x → head is_halt rest ≡ true → Accepts (s.Tail false ∷ below) rest → Accepts (s.Operand ∷ s.Tail false ∷ below) (a ++ rest)
-  pub operand : (a : List Lexeme) (x : Tree) (rest : List Lexeme) (below : List Symbol) → IsDerived n (Level 0) a x → head is_halt rest ≡ true → Accepts below rest → Accepts (s.Operand ∷ below) (a ++ rest)
-  pub unary : (symbol : Symbol) (more : List Symbol) → Starts symbol more → (a : List Lexeme) (x : Tree) (rest : List Lexeme) (below : List Symbol) → IsDerived n Unary a x → head is_halt rest ≡ true → Accepts (more ++ below) rest → Accepts (symbol ∷ below) (a ++ rest)
-  pub postfix : (symbol : Symbol) (more : List Symbol) → Starts symbol more → (a : List Lexeme) (x : Tree) (rest : List Lexeme) (below : List Symbol) → IsDerived n Postfix a x → head is_follower rest ≡ true → Accepts (s.Suffixes ∷ (more ++ below)) rest → Accepts (symbol ∷ below) (a ++ rest)
+  pub expression : (a : List Lexeme) (x : Tree) (rest : List Lexeme) (below : List Symbol) → IsDerived n Expression a x → head is_end rest ≡ true → Accepts below rest
+      → Accepts (s.Expression ∷ below) (a ++ rest)
+  pub first : (l : ℕ) (a : List Lexeme) (x : Tree) (rest : List Lexeme) (below : List Symbol) → IsDerived n (Level l) a x → head is_halt rest ≡ true
+      → Accepts (s.Tail true ∷ below) rest → Accepts (s.Tail false ∷ below) rest → Accepts (s.Expression ∷ below) (a ++ rest)
+  pub chain : (l : ℕ) (a : List Lexeme) (x : Tree) (rest : List Lexeme) (below : List Symbol) → IsDerived n (Level l) a x → head is_halt rest ≡ true
+      → Accepts (s.Tail false ∷ below) rest → Accepts (s.Operand ∷ s.Tail false ∷ below) (a ++ rest)
+  pub operand : (a : List Lexeme) (x : Tree) (rest : List Lexeme) (below : List Symbol) → IsDerived n (Level 0) a x → head is_halt rest ≡ true → Accepts below rest
+      → Accepts (s.Operand ∷ below) (a ++ rest)
+  pub unary : (symbol : Symbol) (more : List Symbol) → Starts symbol more → (a : List Lexeme) (x : Tree) (rest : List Lexeme) (below : List Symbol) → IsDerived n Unary a x
+      → head is_halt rest ≡ true → Accepts (more ++ below) rest → Accepts (symbol ∷ below) (a ++ rest)
+  pub postfix : (symbol : Symbol) (more : List Symbol) → Starts symbol more → (a : List Lexeme) (x : Tree) (rest : List Lexeme) (below : List Symbol) → IsDerived n Postfix a x
+      → head is_follower rest ≡ true → Accepts (s.Suffixes ∷ (more ++ below)) rest → Accepts (symbol ∷ below) (a ++ rest)
 
 between_halts : (kind : Kind) → is_between kind ≡ true → is_halt kind ≡ true
 between_halts k.Star e = refl
@@ -154,12 +160,15 @@ arguments_begin kind e = refl
 module _ (n : ℕ) (r : Reads n) where
   -- ---- arguments
 
-  reads_listed : (xs : List Tree) (x : Tree) (ts : List Lexeme) (c : Lexeme) (rest : List Lexeme) (below : List Symbol) → AreSeparated (IsDerived n Expression) ts (x ∷ xs) → Is w.Close c → Accepts below (c ∷ rest) → Accepts (s.Expression ∷ s.MoreArguments ∷ below) (ts ++ (c ∷ rest))
+  reads_listed : (xs : List Tree) (x : Tree) (ts : List Lexeme) (c : Lexeme) (rest : List Lexeme) (below : List Symbol) → AreSeparated (IsDerived n Expression) ts (x ∷ xs)
+      → Is w.Close c → Accepts below (c ∷ rest) → Accepts (s.Expression ∷ s.MoreArguments ∷ below) (ts ++ (c ∷ rest))
   reads_listed [] x ts c rest below d is h = r.expression ts x (c ∷ rest) (s.MoreArguments ∷ below) d (head_is is_end w.Close c rest is refl) (pass is refl refl h)
   reads_listed (y ∷ ys) x ts c rest below (a, m, b, e, comma, p, q) is h =
-      rw (e, append_assoc) (r.expression a x (m ∷ (b ++ (c ∷ rest))) (s.MoreArguments ∷ below) p (head_is is_end w.Comma m (b ++ (c ∷ rest)) comma refl) (step comma refl (reads_listed ys y b c rest below q is h)))
+      rw (e, append_assoc) (r.expression a x (m ∷ (b ++ (c ∷ rest))) (s.MoreArguments ∷ below) p (head_is is_end w.Comma m (b ++ (c ∷ rest)) comma refl)
+      (step comma refl (reads_listed ys y b c rest below q is h)))
 
-  pub reads_arguments : (xs : List Tree) (ts : List Lexeme) (c : Lexeme) (rest : List Lexeme) (below : List Symbol) → AreSeparated (IsDerived n Expression) ts xs → Is w.Close c → Accepts below (c ∷ rest) → Accepts (s.Arguments ∷ below) (ts ++ (c ∷ rest))
+  pub reads_arguments : (xs : List Tree) (ts : List Lexeme) (c : Lexeme) (rest : List Lexeme) (below : List Symbol) → AreSeparated (IsDerived n Expression) ts xs → Is w.Close c
+      → Accepts below (c ∷ rest) → Accepts (s.Arguments ∷ below) (ts ++ (c ∷ rest))
   reads_arguments [] ts c rest below d is h = rw d (pass is refl refl h)
   reads_arguments (x ∷ xs) ts c rest below d is h = instead {first = s.Expression} {symbol = s.Arguments} (s.MoreArguments ∷ []) refl arguments_begin (reads_listed xs x ts c rest below d is h)
 
@@ -169,11 +178,13 @@ module _ (n : ℕ) (r : Reads n) where
   reads_strings [] rest below d f h = skip refl (untaken s.Texts is_follower no_text rest f) h
   reads_strings (t ∷ ts) rest below d f h = step d.0 refl (reads_strings ts rest below d.1 f h)
 
-  module _ (symbol : Symbol) (more : List Symbol) (starts : Starts symbol more) (rest : List Lexeme) (below : List Symbol) (f : head is_follower rest ≡ true) (h : Accepts (s.Suffixes ∷ (more ++ below)) rest) where
+  module _ (symbol : Symbol) (more : List Symbol) (starts : Starts symbol more) (rest : List Lexeme) (below : List Symbol) (f : head is_follower rest ≡ true)
+      (h : Accepts (s.Suffixes ∷ (more ++ below)) rest) where
     begun : (word : Word) (t : Lexeme) → Is word t → is_some (unary (kind_of_word word)) ≡ true → after symbol (kind_of_word t.word) ≡ onto (unary (kind_of_word word)) more
     begun word t is e = ap (λ (v : Word). after symbol (kind_of_word v)) is ∙ starts.begins (kind_of_word word) e
 
-    reads_call : (m t c : Lexeme) (inner : List Lexeme) (xs : List Tree) → Is w.Name m → Is w.Open t → Is w.Close c → AreSeparated (IsDerived n Expression) inner xs → Accepts (symbol ∷ below) (m ∷ t ∷ (inner ++ (c ∷ rest)))
+    reads_call : (m t c : Lexeme) (inner : List Lexeme) (xs : List Tree) → Is w.Name m → Is w.Open t → Is w.Close c → AreSeparated (IsDerived n Expression) inner xs
+        → Accepts (symbol ∷ below) (m ∷ t ∷ (inner ++ (c ∷ rest)))
     reads_call m t c inner xs p q z d = step_kind (begun w.Name m p refl) (step q refl (reads_arguments xs inner c rest (s.Close ∷ s.Suffixes ∷ (more ++ below)) d z (step z refl h)))
 
     reads_primary : (a : List Lexeme) (x : Tree) → IsPrimary (IsDerived n) a x → Accepts (symbol ∷ below) (a ++ rest)
@@ -181,14 +192,18 @@ module _ (n : ℕ) (r : Reads n) where
     reads_primary a x (inr (inl (m, b, xs, e, is, (o, inner, c, e2, p, q, d), _))) = rw (e, e2, append_assoc) (reads_call m o c inner xs is p q d)
     reads_primary a x (inr (inr (inl (t, value, e, is, _)))) = rw e (step_kind (begun (w.Number value) t is refl) h)
     reads_primary a x (inr (inr (inr (inl (t, value, e, is, _))))) = rw e (step_kind (begun (w.Character value) t is refl) h)
-    reads_primary a x (inr (inr (inr (inr (inl (t, others, e, d, _)))))) = let q : AreStrings (t ∷ others) = subst (λ (z : List Lexeme). AreStrings z) e d in rw e (step_kind (begun w.Text t q.0 refl) (reads_strings others rest (s.Suffixes ∷ (more ++ below)) q.1 f h))
+    reads_primary a x (inr (inr (inr (inr (inl (t, others, e, d, _)))))) = let q : AreStrings (t ∷ others) = subst (λ (z : List Lexeme). AreStrings z) e d in
+        rw e (step_kind (begun w.Text t q.0 refl) (reads_strings others rest (s.Suffixes ∷ (more ++ below)) q.1 f h))
     reads_primary a x (inr (inr (inr (inr (inr (o, inner, c, e, p, q, d)))))) =
-        rw (e, append_assoc) (starts.opens o (inner ++ (c ∷ rest)) below p (r.expression inner x (c ∷ rest) (s.Close ∷ s.Suffixes ∷ (more ++ below)) d (head_is is_end w.Close c rest q refl) (step q refl h)))
+        rw (e, append_assoc) (starts.opens o (inner ++ (c ∷ rest)) below p
+        (r.expression inner x (c ∷ rest) (s.Close ∷ s.Suffixes ∷ (more ++ below)) d (head_is is_end w.Close c rest q refl) (step q refl h)))
 
     reads_postfix : (a : List Lexeme) (x : Tree) → IsPostfix (IsDerived n) a x → Accepts (symbol ∷ below) (a ++ rest)
     reads_postfix a x (inl d) = reads_primary a x d
     reads_postfix a x (inr (inl (b, c, y, z, e, d, (o, inner, l, e2, p, q, i), _))) =
-        rw (e, e2, append_assoc, append_assoc) (r.postfix symbol more starts b y (o ∷ (inner ++ (l ∷ rest))) below d (head_is is_follower w.OpenBracket o (inner ++ (l ∷ rest)) p refl) (step p refl (r.expression inner z (l ∷ rest) (s.CloseBracket ∷ s.Suffixes ∷ (more ++ below)) i (head_is is_end w.CloseBracket l rest q refl) (step q refl h))))
+        rw (e, e2, append_assoc, append_assoc) (r.postfix symbol more starts b y (o ∷ (inner ++ (l ∷ rest))) below d
+        (head_is is_follower w.OpenBracket o (inner ++ (l ∷ rest)) p refl)
+        (step p refl (r.expression inner z (l ∷ rest) (s.CloseBracket ∷ s.Suffixes ∷ (more ++ below)) i (head_is is_end w.CloseBracket l rest q refl) (step q refl h))))
     reads_postfix a x (inr (inr (b, t, number, y, e, op, d, _))) =
         let kind = suffix_is t.word number op in
         rw (e, append_assoc) (r.postfix symbol more starts b y (t ∷ rest) below d (rw kind refl) (step_kind (ap (after s.Suffixes) kind) h))
@@ -201,22 +216,31 @@ module _ (n : ℕ) (r : Reads n) where
 
     reads_unary : (a : List Lexeme) (x : Tree) → IsUnary (IsDerived n) a x → Accepts (symbol ∷ below) (a ++ rest)
     reads_unary a x (inl (t, b, number, y, e, op, d, _)) = rw e (step_kind (begun_as t (s.Operand ∷ []) (sign_begins t.word number op)) (r.operand b y rest (more ++ below) d f h))
-    reads_unary a x (inr (inl (t, b, number, y, e, op, d, _))) = rw e (step_kind (begun_as t (s.Unary ∷ []) (step_begins t.word number op)) (r.unary s.Unary [] unary_starts b y rest (more ++ below) d f h))
-    reads_unary a x (inr (inr (inl (t, b, y, e, is, d, _)))) = rw e (step_kind (begun_as t (s.Measured ∷ []) (ap (λ (v : Word). unary (kind_of_word v)) is)) (r.unary s.Measured [] measured_starts b y rest (more ++ below) d f h))
+    reads_unary a x (inr (inl (t, b, number, y, e, op, d, _))) =
+        rw e (step_kind (begun_as t (s.Unary ∷ []) (step_begins t.word number op)) (r.unary s.Unary [] unary_starts b y rest (more ++ below) d f h))
+    reads_unary a x (inr (inr (inl (t, b, y, e, is, d, _)))) =
+        rw e (step_kind (begun_as t (s.Measured ∷ []) (ap (λ (v : Word). unary (kind_of_word v)) is)) (r.unary s.Measured [] measured_starts b y rest (more ++ below) d f h))
     reads_unary a x (inr (inr (inr (inl (t, b, kind, e, is, (o, inner, c, e2, p, q, d), _))))) =
-        rw (e, e2, append_assoc) (step_kind (begun_as t (s.Measured ∷ []) (ap (λ (v : Word). unary (kind_of_word v)) is)) (step p refl (instead {first = s.Qualified} {symbol = s.OpenedMeasured} (s.TwoStars ∷ s.Close ∷ []) refl opened_measured_type (reads_type_name inner (c ∷ rest) kind (s.Close ∷ (more ++ below)) d (rw q refl) (rw q refl) (step q refl h)))))
-    reads_unary a x (inr (inr (inr (inr d)))) = reads_postfix symbol more starts rest below (head_wider is_halt is_follower halt_follows rest f) (skip refl (untaken s.Suffixes is_halt no_suffix rest f) h) a x d
+        rw (e, e2, append_assoc) (step_kind (begun_as t (s.Measured ∷ []) (ap (λ (v : Word). unary (kind_of_word v)) is))
+        (step p refl (instead {first = s.Qualified} {symbol = s.OpenedMeasured} (s.TwoStars ∷ s.Close ∷ []) refl opened_measured_type
+        (reads_type_name inner (c ∷ rest) kind (s.Close ∷ (more ++ below)) d (rw q refl) (rw q refl) (step q refl h)))))
+    reads_unary a x (inr (inr (inr (inr d)))) = reads_postfix symbol more starts rest below (head_wider is_halt is_follower halt_follows rest f)
+        (skip refl (untaken s.Suffixes is_halt no_suffix rest f) h) a x d
 
   -- ---- operands
 
-  reads_operand : (a : List Lexeme) (x : Tree) (rest : List Lexeme) (below : List Symbol) → IsOperand (IsDerived n) a x → head is_halt rest ≡ true → Accepts below rest → Accepts (s.Operand ∷ below) (a ++ rest)
+  reads_operand : (a : List Lexeme) (x : Tree) (rest : List Lexeme) (below : List Symbol) → IsOperand (IsDerived n) a x → head is_halt rest ≡ true → Accepts below rest
+      → Accepts (s.Operand ∷ below) (a ++ rest)
   reads_operand a x rest below (inl (b, c, kind, y, e, (o, inner, l, e2, p, q, t), d, _)) f h =
-      rw (e, e2, append_assoc, append_assoc) (step p refl (instead {first = s.Qualified} {symbol = s.OpenedOperand} (s.TwoStars ∷ s.Close ∷ s.Operand ∷ []) refl opened_operand_type (reads_type_name inner (l ∷ (c ++ rest)) kind (s.Close ∷ s.Operand ∷ below) t (rw q refl) (rw q refl) (step q refl (r.operand c y rest below d f h)))))
+      rw (e, e2, append_assoc, append_assoc) (step p refl (instead {first = s.Qualified} {symbol = s.OpenedOperand} (s.TwoStars ∷ s.Close ∷ s.Operand ∷ []) refl opened_operand_type
+      (reads_type_name inner (l ∷ (c ++ rest)) kind (s.Close ∷ s.Operand ∷ below) t (rw q refl) (rw q refl) (step q refl (r.operand c y rest below d f h)))))
   reads_operand a x rest below (inr d) f h = reads_unary s.Operand [] operand_starts rest below f h a x d
 
-  first_operand : (a : List Lexeme) (x : Tree) (rest : List Lexeme) (below : List Symbol) → IsOperand (IsDerived n) a x → head is_halt rest ≡ true → Accepts (s.Tail true ∷ below) rest → Accepts (s.Tail false ∷ below) rest → Accepts (s.Expression ∷ below) (a ++ rest)
+  first_operand : (a : List Lexeme) (x : Tree) (rest : List Lexeme) (below : List Symbol) → IsOperand (IsDerived n) a x → head is_halt rest ≡ true
+      → Accepts (s.Tail true ∷ below) rest → Accepts (s.Tail false ∷ below) rest → Accepts (s.Expression ∷ below) (a ++ rest)
   first_operand a x rest below (inl (b, c, kind, y, e, (o, inner, l, e2, p, q, t), d, _)) f g h =
-      rw (e, e2, append_assoc, append_assoc) (step p refl (instead {first = s.Qualified} {symbol = s.Opened} (s.TwoStars ∷ s.Close ∷ s.Operand ∷ s.Tail false ∷ []) refl opened_type (reads_type_name inner (l ∷ (c ++ rest)) kind (s.Close ∷ s.Operand ∷ s.Tail false ∷ below) t (rw q refl) (rw q refl) (step q refl (r.operand c y rest (s.Tail false ∷ below) d f h)))))
+      rw (e, e2, append_assoc, append_assoc) (step p refl (instead {first = s.Qualified} {symbol = s.Opened} (s.TwoStars ∷ s.Close ∷ s.Operand ∷ s.Tail false ∷ []) refl opened_type
+      (reads_type_name inner (l ∷ (c ++ rest)) kind (s.Close ∷ s.Operand ∷ s.Tail false ∷ below) t (rw q refl) (rw q refl) (step q refl (r.operand c y rest (s.Tail false ∷ below) d f h)))))
   first_operand a x rest below (inr d) f g h = reads_unary s.Expression (s.Tail true ∷ []) expression_starts rest below f g a x d
 
   -- ---- levels
@@ -224,13 +248,16 @@ module _ (n : ℕ) (r : Reads n) where
   between : (t : Lexeme) (ts : List Lexeme) → is_between (kind_of_word t.word) ≡ true → head is_halt (t ∷ ts) ≡ true
   between t ts e = between_halts (kind_of_word t.word) e
 
-  reads_chain : (l : ℕ) (a : List Lexeme) (x : Tree) (rest : List Lexeme) (below : List Symbol) → IsLevel (IsDerived n) l a x → head is_halt rest ≡ true → Accepts (s.Tail false ∷ below) rest → Accepts (s.Operand ∷ s.Tail false ∷ below) (a ++ rest)
+  reads_chain : (l : ℕ) (a : List Lexeme) (x : Tree) (rest : List Lexeme) (below : List Symbol) → IsLevel (IsDerived n) l a x → head is_halt rest ≡ true
+      → Accepts (s.Tail false ∷ below) rest → Accepts (s.Operand ∷ s.Tail false ∷ below) (a ++ rest)
   reads_chain zero a x rest below d f h = reads_operand a x rest (s.Tail false ∷ below) d f h
   reads_chain (suc l) a x rest below (inl d) f h = reads_chain l a x rest below d f h
   reads_chain (suc l) a x rest below (inr (b, t, c, number, y, z, e, op, p, q, _)) f h =
-      rw (e, append_assoc) (r.chain (suc l) b y (t ∷ (c ++ rest)) below p (between t (c ++ rest) (binary_between t.word number (suc l) op)) (step_kind (binary_goes_on t.word number (suc l) op) (r.chain l c z rest below q f h)))
+      rw (e, append_assoc) (r.chain (suc l) b y (t ∷ (c ++ rest)) below p (between t (c ++ rest) (binary_between t.word number (suc l) op))
+      (step_kind (binary_goes_on t.word number (suc l) op) (r.chain l c z rest below q f h)))
 
-  reads_first : (l : ℕ) (a : List Lexeme) (x : Tree) (rest : List Lexeme) (below : List Symbol) → IsLevel (IsDerived n) l a x → head is_halt rest ≡ true → Accepts (s.Tail true ∷ below) rest → Accepts (s.Tail false ∷ below) rest → Accepts (s.Expression ∷ below) (a ++ rest)
+  reads_first : (l : ℕ) (a : List Lexeme) (x : Tree) (rest : List Lexeme) (below : List Symbol) → IsLevel (IsDerived n) l a x → head is_halt rest ≡ true
+      → Accepts (s.Tail true ∷ below) rest → Accepts (s.Tail false ∷ below) rest → Accepts (s.Expression ∷ below) (a ++ rest)
   reads_first zero a x rest below d f g h = first_operand a x rest below d f g h
   reads_first (suc l) a x rest below (inl d) f g h = reads_first l a x rest below d f g h
   reads_first (suc l) a x rest below (inr (b, t, c, number, y, z, e, op, p, q, _)) f g h =
@@ -242,11 +269,14 @@ module _ (n : ℕ) (r : Reads n) where
 
   -- ---- expressions
 
-  reads_rule : (a : List Lexeme) (x : Tree) (rest : List Lexeme) (below : List Symbol) → IsDerived (suc n) Expression a x → head is_end rest ≡ true → Accepts below rest → Accepts (s.Expression ∷ below) (a ++ rest)
+  reads_rule : (a : List Lexeme) (x : Tree) (rest : List Lexeme) (below : List Symbol) → IsDerived (suc n) Expression a x → head is_end rest ≡ true → Accepts below rest
+      → Accepts (s.Expression ∷ below) (a ++ rest)
   reads_rule a x rest below (inl d) f h =
-      reads_first loosest a x rest below d (head_wider is_end is_halt end_halts rest f) (skip refl (untaken (s.Tail true) is_end (no_tail true) rest f) h) (skip refl (untaken (s.Tail false) is_end (no_tail false) rest f) h)
+      reads_first loosest a x rest below d (head_wider is_end is_halt end_halts rest f) (skip refl (untaken (s.Tail true) is_end (no_tail true) rest f) h)
+      (skip refl (untaken (s.Tail false) is_end (no_tail false) rest f) h)
   reads_rule a x rest below (inr (b, t, c, number, y, z, e, op, p, q, _)) f h =
-      rw (e, append_assoc) (r.unary s.Expression (s.Tail true ∷ []) expression_starts b y (t ∷ (c ++ rest)) below p (between t (c ++ rest) (assign_between t.word number op)) (step_kind (assign_goes_on t.word number op) (r.expression c z rest below q f h)))
+      rw (e, append_assoc) (r.unary s.Expression (s.Tail true ∷ []) expression_starts b y (t ∷ (c ++ rest)) below p (between t (c ++ rest) (assign_between t.word number op))
+      (step_kind (assign_goes_on t.word number op) (r.expression c z rest below q f h)))
 
   deeper : Reads (suc n)
   deeper = record {

@@ -72,7 +72,8 @@ text_postfix : (t : Lexeme) (a : List Lexeme) → Is w.Text t → AreStrings a �
 text_postfix t a is d = stands 1 Postfix (t ∷ a) (node op.Text [] (t ∷ a)) (inl (inr (inr (inr (inr (inl (t, a, refl, (is, d), refl)))))))
 
 pub call_postfix : (t o c : Lexeme) (a : List Lexeme) → Is w.Name t → Is w.Open o → Is w.Close c → SomeArguments a → Stands Postfix (t ∷ o ∷ (a ++ (c ∷ [])))
-call_postfix t o c a is p q (n, xs, d) = stands (suc n) Postfix (t ∷ o ∷ (a ++ (c ∷ []))) (node (op.Call (name_of t)) xs (t ∷ o ∷ (a ++ (c ∷ [])))) (inl (inr (inl (t, o ∷ (a ++ (c ∷ [])), xs, refl, is, (o, a, c, refl, p, q, d), refl))))
+call_postfix t o c a is p q (n, xs, d) = stands (suc n) Postfix (t ∷ o ∷ (a ++ (c ∷ []))) (node (op.Call (name_of t)) xs (t ∷ o ∷ (a ++ (c ∷ []))))
+    (inl (inr (inl (t, o ∷ (a ++ (c ∷ [])), xs, refl, is, (o, a, c, refl, p, q, d), refl))))
 
 paren_postfix : (o c : Lexeme) (a : List Lexeme) → Is w.Open o → Is w.Close c → Stands Expression a → Stands Postfix (o ∷ (a ++ (c ∷ [])))
 paren_postfix o c a p q h = stands (suc h.nesting) Postfix (o ∷ (a ++ (c ∷ []))) h.tree (inl (inr (inr (inr (inr (inr (o, a, c, refl, p, q, h.derives)))))))
@@ -81,7 +82,17 @@ index_postfix : (b a : List Lexeme) (o c : Lexeme) → Is w.OpenBracket o → Is
 index_postfix b a o c p q h i =
     let n = max h.nesting i.nesting in
     let whole = b ++ (o ∷ (a ++ (c ∷ []))) in
-    stands (suc n) Postfix whole (node op.Index (h.tree ∷ i.tree ∷ []) whole) (inr (inl (b, o ∷ (a ++ (c ∷ [])), h.tree, i.tree, refl, derived_deeper h.nesting n (omega arith) Postfix b h.tree h.derives, (o, a, c, refl, p, q, derived_deeper i.nesting n (omega arith) Expression a i.tree i.derives), refl)))
+    stands (suc n) Postfix whole (node op.Index (h.tree ∷ i.tree ∷ []) whole)
+    (inr (inl (
+      b,
+      o ∷ (a ++ (c ∷ [])),
+      h.tree,
+      i.tree,
+      refl,
+      derived_deeper h.nesting n (omega arith) Postfix b h.tree h.derives,
+      (o, a, c, refl, p, q, derived_deeper i.nesting n (omega arith) Expression a i.tree i.derives),
+      refl,
+    )))
 
 suffix_postfix : (b : List Lexeme) (t : Lexeme) (number : ℕ) → operators.suffix t.word ≡ Some number → Stands Postfix b → Stands Postfix (b ++ (t ∷ []))
 suffix_postfix b t number e h = stands (suc h.nesting) Postfix (b ++ (t ∷ [])) (node (op.Suffix number) (h.tree ∷ []) (b ++ (t ∷ []))) (inr (inr (b, t, number, h.tree, refl, e, h.derives, refl)))
@@ -96,17 +107,33 @@ measured_unary : (t : Lexeme) (a : List Lexeme) → Is w.SizeOf t → Stands Una
 measured_unary t a is h = stands (suc h.nesting) Unary (t ∷ a) (node op.SizeOf (h.tree ∷ []) (t ∷ a)) (inr (inr (inl (t, a, h.tree, refl, is, h.derives, refl))))
 
 measured_type : (t o c : Lexeme) (a : List Lexeme) → Is w.SizeOf t → Is w.Open o → Is w.Close c → SomeTypeName a → Stands Unary (t ∷ o ∷ (a ++ (c ∷ [])))
-measured_type t o c a is p q (kind, d) = let whole = t ∷ o ∷ (a ++ (c ∷ [])) in stands 1 Unary whole (node (op.SizeOfType kind) [] whole) (inr (inr (inr (inl (t, o ∷ (a ++ (c ∷ [])), kind, refl, is, (o, a, c, refl, p, q, d), refl)))))
+measured_type t o c a is p q (kind, d) = let whole = t ∷ o ∷ (a ++ (c ∷ [])) in
+    stands 1 Unary whole (node (op.SizeOfType kind) [] whole) (inr (inr (inr (inl (t, o ∷ (a ++ (c ∷ [])), kind, refl, is, (o, a, c, refl, p, q, d), refl)))))
 
 cast_operand : (o c : Lexeme) (a b : List Lexeme) → Is w.Open o → Is w.Close c → SomeTypeName a → Stands (Level 0) b → Stands (Level 0) (o ∷ (a ++ (c ∷ b)))
 cast_operand o c a b p q (kind, d) h =
     let whole = (o ∷ (a ++ (c ∷ []))) ++ b in
-    along (Level 0) (ap (λ (z : List Lexeme). o ∷ z) (sym (append_assoc a (c ∷ []) b))) (stands (suc h.nesting) (Level 0) whole (node (op.Cast kind) (h.tree ∷ []) whole) (inl (o ∷ (a ++ (c ∷ [])), b, kind, h.tree, refl, (o, a, c, refl, p, q, d), h.derives, refl)))
+    along (Level 0) (ap (λ (z : List Lexeme). o ∷ z) (sym (append_assoc a (c ∷ []) b)))
+    (stands (suc h.nesting) (Level 0) whole (node (op.Cast kind) (h.tree ∷ []) whole) (inl (o ∷ (a ++ (c ∷ [])), b, kind, h.tree, refl, (o, a, c, refl, p, q, d), h.derives, refl)))
 
 assigned : (a b : List Lexeme) (t : Lexeme) (number : ℕ) → operators.assign t.word ≡ Some number → Stands Unary a → Stands Expression b → Stands Expression (a ++ (t ∷ b))
 assigned a b t number e h i =
     let n = max h.nesting i.nesting in
-    stands (suc n) Expression (a ++ (t ∷ b)) (node (op.Assign number) (h.tree ∷ i.tree ∷ []) (a ++ (t ∷ b))) (inr (a, t, b, number, h.tree, i.tree, refl, e, derived_deeper h.nesting n (omega arith) Unary a h.tree h.derives, derived_deeper i.nesting n (omega arith) Expression b i.tree i.derives, refl))
+    stands (suc n) Expression (a ++ (t ∷ b)) (node (op.Assign number) (h.tree ∷ i.tree ∷ []) (a ++ (t ∷ b)))
+    (inr (
+      a,
+      t,
+      b,
+      number,
+      h.tree,
+      i.tree,
+      refl,
+      e,
+      derived_deeper h.nesting n (omega arith) Unary a h.tree h.derives,
+      derived_deeper i.nesting n
+          (omega arith) Expression b i.tree i.derives,
+      refl,
+    ))
 
 -- ---- what may be empty
 
@@ -126,7 +153,8 @@ more_arguments_none rest b h = (h.nesting, h.tree, [], subst (λ (z : List Lexem
 -- ---- the symbols of expressions
 
 -- parentheses, and what makes a larger postfix of them
-parens : (o : Lexeme) (a rest : List Lexeme) → Is w.Open o → (b : List Lexeme) × (c : List Lexeme) × (a ≡ b ++ c) × Stands Expression b × ((l : List Lexeme) × (d : List Lexeme) × (c ≡ l ++ d) × Mark w.Close l × Means s.Suffixes d rest) → Stands Unary (o ∷ a)
+parens : (o : Lexeme) (a rest : List Lexeme) → Is w.Open o → (b : List Lexeme) × (c : List Lexeme) × (a ≡ b ++ c) × Stands Expression b
+    × ((l : List Lexeme) × (d : List Lexeme) × (c ≡ l ++ d) × Mark w.Close l × Means s.Suffixes d rest) → Stands Unary (o ∷ a)
 parens o a rest is (b, c, e, h, (l, d, f, (z, g, q), suffixes)) =
     let ok = suffixes (o ∷ (b ++ (z ∷ []))) (paren_postfix o z b is q h) in
     along Unary (ap (λ (y : List Lexeme). o ∷ y) (rw (e, f, g) (sym (append_assoc b (z ∷ []) d)))) (postfix_unary ((o ∷ (b ++ (z ∷ []))) ++ d) ok)
@@ -164,12 +192,14 @@ pub measured_sound : (kind : Kind) (t : Lexeme) (a rest : List Lexeme) → kind_
 measured_sound k.Open t a rest e h = λ z is. h z t is (exact t k.Open w.Open e refl)
 measured_sound kind t a rest e h = λ z is. measured_unary z (t ∷ a) is (unary_sound kind t a rest e h)
 
-by_parens : (kind : Kind) (o t : Lexeme) (a rest : List Lexeme) → Is w.Open o → kind_of_word t.word ≡ kind → Given (onto (expression kind) (s.Close ∷ s.Suffixes ∷ [])) a rest → Stands Unary (o ∷ t ∷ a)
+by_parens : (kind : Kind) (o t : Lexeme) (a rest : List Lexeme) → Is w.Open o → kind_of_word t.word ≡ kind → Given (onto (expression kind) (s.Close ∷ s.Suffixes ∷ [])) a rest
+    → Stands Unary (o ∷ t ∷ a)
 by_parens kind o t a rest is e h =
     let x = split_onto (expression kind) s.Close (s.Suffixes ∷ []) a rest h in
     parens o (t ∷ a) rest is (t ∷ x.0, x.1, ap (λ (z : List Lexeme). t ∷ z) x.2, expression_sound kind t x.0 (x.1 ++ rest) e x.3, x.4)
 
-by_cast : (kind : Kind) (o t : Lexeme) (a rest : List Lexeme) → Is w.Open o → kind_of_word t.word ≡ kind → Given (onto (type_name kind) (s.Close ∷ s.Operand ∷ [])) a rest → Stands (Level 0) (o ∷ t ∷ a)
+by_cast : (kind : Kind) (o t : Lexeme) (a rest : List Lexeme) → Is w.Open o → kind_of_word t.word ≡ kind → Given (onto (type_name kind) (s.Close ∷ s.Operand ∷ [])) a rest
+    → Stands (Level 0) (o ∷ t ∷ a)
 by_cast kind o t a rest is e h =
     let x = split_onto (type_name kind) s.Close (s.Operand ∷ []) a rest h in
     cast x.0 x.1 x.2 (type_name_sound kind t x.0 (x.1 ++ rest) e x.3) x.4 where
@@ -177,26 +207,31 @@ by_cast kind o t a rest is e h =
       cast b c f n (l, d, g, (z, i, q), h) = along (Level 0) (ap (λ (y : List Lexeme). o ∷ t ∷ y) (rw (f, g, i) refl)) (cast_operand o z (t ∷ b) d is q n h)
 
 pub opened_sound : (kind : Kind) (t : Lexeme) (a rest : List Lexeme) → kind_of_word t.word ≡ kind → Given (after s.Opened kind) a rest → Means s.Opened (t ∷ a) rest
-opened_sound kind t a rest e h = λ o is. by_form o is (split_either (onto (type_name kind) (s.Close ∷ s.Operand ∷ s.Tail false ∷ [])) (onto (expression kind) (s.Close ∷ s.Suffixes ∷ s.Tail true ∷ [])) a rest h) where
-  cast : (o : Lexeme) → Is w.Open o → (b c : List Lexeme) → a ≡ b ++ c → SomeTypeName (t ∷ b) → (l : List Lexeme) × (d : List Lexeme) × (c ≡ l ++ d) × Mark w.Close l × ((u : List Lexeme) × (v : List Lexeme) × (d ≡ u ++ v) × Stands (Level 0) u × Means (s.Tail false) v rest) → Stands Expression (o ∷ t ∷ a)
-  cast o is b c f n (l, d, g, (z, i, q), (u, v, j, h, tail)) =
-      let first = cast_operand o z (t ∷ b) u is q n h in
-      let ok = tail (o ∷ ((t ∷ b) ++ (z ∷ u))) first in
-      along Expression (ap (λ (y : List Lexeme). o ∷ t ∷ y) (rw (f, g, i, j) (sym (append_assoc b (z ∷ u) v)))) (chain_expression ((o ∷ ((t ∷ b) ++ (z ∷ u))) ++ v) ok)
+opened_sound kind t a rest e h = λ o is. by_form o is (split_either (onto (type_name kind) (s.Close ∷ s.Operand ∷ s.Tail false ∷ []))
+    (onto (expression kind) (s.Close ∷ s.Suffixes ∷ s.Tail true ∷ [])) a rest h) where
+      cast : (o : Lexeme) → Is w.Open o → (b c : List Lexeme) → a ≡ b ++ c → SomeTypeName (t ∷ b) → (l : List Lexeme) × (d : List Lexeme) × (c ≡ l ++ d) × Mark w.Close l
+          × ((u : List Lexeme) × (v : List Lexeme) × (d ≡ u ++ v) × Stands (Level 0) u × Means (s.Tail false) v rest) → Stands Expression (o ∷ t ∷ a)
+      cast o is b c f n (l, d, g, (z, i, q), (u, v, j, h, tail)) =
+          let first = cast_operand o z (t ∷ b) u is q n h in
+          let ok = tail (o ∷ ((t ∷ b) ++ (z ∷ u))) first in
+          along Expression (ap (λ (y : List Lexeme). o ∷ t ∷ y) (rw (f, g, i, j) (sym (append_assoc b (z ∷ u) v)))) (chain_expression ((o ∷ ((t ∷ b) ++ (z ∷ u))) ++ v) ok)
 
-  paren : (o : Lexeme) → Is w.Open o → (b c : List Lexeme) → a ≡ b ++ c → Stands Expression (t ∷ b) → (l : List Lexeme) × (d : List Lexeme) × (c ≡ l ++ d) × Mark w.Close l × ((u : List Lexeme) × (v : List Lexeme) × (d ≡ u ++ v) × Means s.Suffixes u (v ++ rest) × Means (s.Tail true) v rest) → Stands Expression (o ∷ t ∷ a)
-  paren o is b c f h (l, d, g, (z, i, q), (u, v, j, suffixes, tail)) =
-      let first = suffixes (o ∷ ((t ∷ b) ++ (z ∷ []))) (paren_postfix o z (t ∷ b) is q h) in
-      let ok = tail ((o ∷ ((t ∷ b) ++ (z ∷ []))) ++ u) (postfix_unary ((o ∷ ((t ∷ b) ++ (z ∷ []))) ++ u) first) in
-      along Expression (ap (λ (y : List Lexeme). o ∷ t ∷ y) (rw (f, g, i, j) (sym (ap (λ (y : List Lexeme). y ++ v) (append_assoc b (z ∷ []) u) ∙ append_assoc b (z ∷ u) v)))) ok
+      paren : (o : Lexeme) → Is w.Open o → (b c : List Lexeme) → a ≡ b ++ c → Stands Expression (t ∷ b) → (l : List Lexeme) × (d : List Lexeme) × (c ≡ l ++ d) × Mark w.Close l
+          × ((u : List Lexeme) × (v : List Lexeme) × (d ≡ u ++ v) × Means s.Suffixes u (v ++ rest) × Means (s.Tail true) v rest) → Stands Expression (o ∷ t ∷ a)
+      paren o is b c f h (l, d, g, (z, i, q), (u, v, j, suffixes, tail)) =
+          let first = suffixes (o ∷ ((t ∷ b) ++ (z ∷ []))) (paren_postfix o z (t ∷ b) is q h) in
+          let ok = tail ((o ∷ ((t ∷ b) ++ (z ∷ []))) ++ u) (postfix_unary ((o ∷ ((t ∷ b) ++ (z ∷ []))) ++ u) first) in
+          along Expression (ap (λ (y : List Lexeme). o ∷ t ∷ y) (rw (f, g, i, j) (sym (ap (λ (y : List Lexeme). y ++ v) (append_assoc b (z ∷ []) u) ∙ append_assoc b (z ∷ u) v)))) ok
 
-  by_form : (o : Lexeme) → Is w.Open o → Given (onto (type_name kind) (s.Close ∷ s.Operand ∷ s.Tail false ∷ [])) a rest ⊎ Given (onto (expression kind) (s.Close ∷ s.Suffixes ∷ s.Tail true ∷ [])) a rest → Stands Expression (o ∷ t ∷ a)
-  by_form o is (inl g) = let x = split_onto (type_name kind) s.Close (s.Operand ∷ s.Tail false ∷ []) a rest g in cast o is x.0 x.1 x.2 (type_name_sound kind t x.0 (x.1 ++ rest) e x.3) x.4
-  by_form o is (inr g) = let x = split_onto (expression kind) s.Close (s.Suffixes ∷ s.Tail true ∷ []) a rest g in paren o is x.0 x.1 x.2 (expression_sound kind t x.0 (x.1 ++ rest) e x.3) x.4
+      by_form : (o : Lexeme) → Is w.Open o → Given (onto (type_name kind) (s.Close ∷ s.Operand ∷ s.Tail false ∷ [])) a rest
+          ⊎ Given (onto (expression kind) (s.Close ∷ s.Suffixes ∷ s.Tail true ∷ [])) a rest → Stands Expression (o ∷ t ∷ a)
+      by_form o is (inl g) = let x = split_onto (type_name kind) s.Close (s.Operand ∷ s.Tail false ∷ []) a rest g in cast o is x.0 x.1 x.2 (type_name_sound kind t x.0 (x.1 ++ rest) e x.3) x.4
+      by_form o is (inr g) = let x = split_onto (expression kind) s.Close (s.Suffixes ∷ s.Tail true ∷ []) a rest g in paren o is x.0 x.1 x.2 (expression_sound kind t x.0 (x.1 ++ rest) e x.3) x.4
 
 pub opened_operand_sound : (kind : Kind) (t : Lexeme) (a rest : List Lexeme) → kind_of_word t.word ≡ kind → Given (after s.OpenedOperand kind) a rest → Means s.OpenedOperand (t ∷ a) rest
 opened_operand_sound kind t a rest e h = λ o is. by_form o is (split_either (onto (type_name kind) (s.Close ∷ s.Operand ∷ [])) (onto (expression kind) (s.Close ∷ s.Suffixes ∷ [])) a rest h) where
-  by_form : (o : Lexeme) → Is w.Open o → Given (onto (type_name kind) (s.Close ∷ s.Operand ∷ [])) a rest ⊎ Given (onto (expression kind) (s.Close ∷ s.Suffixes ∷ [])) a rest → Stands (Level 0) (o ∷ t ∷ a)
+  by_form : (o : Lexeme) → Is w.Open o → Given (onto (type_name kind) (s.Close ∷ s.Operand ∷ [])) a rest ⊎ Given (onto (expression kind) (s.Close ∷ s.Suffixes ∷ [])) a rest
+      → Stands (Level 0) (o ∷ t ∷ a)
   by_form o is (inl g) = by_cast kind o t a rest is e g
   by_form o is (inr g) = unary_operand (o ∷ t ∷ a) (by_parens kind o t a rest is e g)
 
@@ -205,7 +240,8 @@ opened_measured_sound kind t a rest e h = λ z o p is. by_form z o p is (split_e
   sized : (z o : Lexeme) → Is w.SizeOf z → Is w.Open o → (b c : List Lexeme) → a ≡ b ++ c → SomeTypeName (t ∷ b) → Mark w.Close c → Stands Unary (z ∷ o ∷ t ∷ a)
   sized z o p is b c f n (l, g, q) = along Unary (ap (λ (y : List Lexeme). z ∷ o ∷ t ∷ y) (rw (f, g) refl)) (measured_type z o l (t ∷ b) p is q n)
 
-  by_form : (z o : Lexeme) → Is w.SizeOf z → Is w.Open o → Given (onto (type_name kind) (s.Close ∷ [])) a rest ⊎ Given (onto (expression kind) (s.Close ∷ s.Suffixes ∷ [])) a rest → Stands Unary (z ∷ o ∷ t ∷ a)
+  by_form : (z o : Lexeme) → Is w.SizeOf z → Is w.Open o → Given (onto (type_name kind) (s.Close ∷ [])) a rest ⊎ Given (onto (expression kind) (s.Close ∷ s.Suffixes ∷ [])) a rest
+      → Stands Unary (z ∷ o ∷ t ∷ a)
   by_form z o p is (inl g) = let x = split_onto (type_name kind) s.Close [] a rest g in sized z o p is x.0 x.1 x.2 (type_name_sound kind t x.0 (x.1 ++ rest) e x.3) x.4
   by_form z o p is (inr g) = measured_unary z (o ∷ t ∷ a) p (by_parens kind o t a rest is e g)
 
@@ -226,7 +262,8 @@ suffixes_sound k.Step t a rest e others = λ m p.
     along Postfix (sym (append_assoc m (t ∷ []) a)) (others (m ++ (t ∷ [])) (suffix_postfix m t x.0 x.1 p))
 suffixes_sound _ t a rest e h = absurd h
 
-by_operator : (t : Lexeme) (a rest : List Lexeme) → operator (kind_of_word t.word) ≡ Some (s.Operand ∷ s.Tail false ∷ []) → (b : List Lexeme) × (c : List Lexeme) × (a ≡ b ++ c) × Stands (Level 0) b × Means (s.Tail false) c rest → Means (s.Tail false) (t ∷ a) rest
+by_operator : (t : Lexeme) (a rest : List Lexeme) → operator (kind_of_word t.word) ≡ Some (s.Operand ∷ s.Tail false ∷ []) → (b : List Lexeme) × (c : List Lexeme) × (a ≡ b ++ c)
+    × Stands (Level 0) b × Means (s.Tail false) c rest → Means (s.Tail false) (t ∷ a) rest
 by_operator t a rest e (b, c, f, h, tail) m first =
     let x = is_binary t.word e in
     let ok = joined m (b ++ c) t x.0 x.1 x.2 x.3 first (tail b h) in
@@ -248,8 +285,21 @@ assignment_sound kind t a rest e h = λ m p. chain_expression (m ++ (t ∷ a)) (
 pub more_arguments_sound : (kind : Kind) (t : Lexeme) (a rest : List Lexeme) → kind_of_word t.word ≡ kind → Given (more_arguments kind) a rest → Means s.MoreArguments (t ∷ a) rest
 more_arguments_sound k.Comma t a rest e (b, c, f, h, others) = λ m p.
     let x = others b h in
-    let n = max p.nesting x.0 in
-    (n, p.tree, x.1 ∷ x.2, (m, t, b ++ c, rw f refl, exact t k.Comma w.Comma e refl, derived_deeper p.nesting n (omega arith) Expression m p.tree p.derives, separated_weaker (IsExpression x.0) (IsExpression n) (expression_deeper x.0 n (omega arith)) (x.1 ∷ x.2) (b ++ c) x.3))
+    let n = max p.nesting x.0 in (
+      n,
+      p.tree,
+      x.1 ∷ x.2,
+      (
+        m,
+        t,
+        b ++ c,
+        rw f refl,
+        exact t k.Comma w.Comma e refl,
+        derived_deeper p.nesting n (omega arith) Expression m p.tree p.derives,
+        separated_weaker
+            (IsExpression x.0) (IsExpression n) (expression_deeper x.0 n (omega arith)) (x.1 ∷ x.2) (b ++ c) x.3,
+      ),
+    )
 more_arguments_sound _ t a rest e h = absurd h
 
 pub arguments_sound : (kind : Kind) (t : Lexeme) (a rest : List Lexeme) → kind_of_word t.word ≡ kind → Given (after s.Arguments kind) a rest → SomeArguments (t ∷ a)

@@ -8,7 +8,10 @@ use Rattle.cw_recogniser.specs.declared.kinds.Kind.{Kind}
 use Rattle.cw_recogniser.specs.declared.kinds.Kind.TheVariants as k
 use Rattle.cw_recogniser.specs.declared.symbols.Symbol.{Symbol}
 use Rattle.cw_recogniser.specs.declared.symbols.Symbol.TheVariants as s
-use Rattle.cw_recogniser.specs.Machine.{Next, onto, either, after, may_be_empty, fed, feed, unary, expression, operand, plain_unary, measured, call, texts, suffixes, operator, assignment, more_arguments, bare_type, after_unsigned, after_long, qualified, specifiers, type_name, two_stars, one_star, declaration, array, initialiser, initial, more_elements, more_items, after_declared, param, params, after_type, after_void, brackets, more_params, ending, statement, after_name, maybe_else, for_init, opening, closing, close_bracket, close_brace, semicolon, while_word, name}
+use Rattle.cw_recogniser.specs.Machine.{Next, onto, either, after, may_be_empty, fed, feed, unary, expression, operand, plain_unary, measured, call, texts, suffixes, operator}
+use Rattle.cw_recogniser.specs.Machine.{assignment, more_arguments, bare_type, after_unsigned, after_long, qualified, specifiers, type_name, two_stars, one_star, declaration}
+use Rattle.cw_recogniser.specs.Machine.{array, initialiser, initial, more_elements, more_items, after_declared, param, params, after_type, after_void, brackets, more_params}
+use Rattle.cw_recogniser.specs.Machine.{ending, statement, after_name, maybe_else, for_init, opening, closing, close_bracket, close_brace, semicolon, while_word, name}
 use Rattle.cw_recogniser.proofs.Accepting.{Accepts, takes, step, skip}
 use Rattle.cw_recogniser.proofs.Heads.{head, untaken}
 
@@ -332,7 +335,11 @@ FitNext (Some new) rest = FitAll new rest
 
 fit_both : (new more : List Symbol) (rest : List Lexeme) → FitAll new (completed more ++ rest) → FitAll more rest → FitAll (new ++ more) rest
 fit_both [] more rest f g = g
-fit_both (s ∷ new) more rest f g = (subst (λ (z : List Lexeme). fits s z ≡ true) (sym (append_assoc (completed new) (completed more) rest) ∙ ap (λ (z : List Lexeme). z ++ rest) (sym (completed_both new more))) f.0, fit_both new more rest f.1 g)
+fit_both (s ∷ new) more rest f g = (
+  subst (λ (z : List Lexeme). fits s z ≡ true)
+      (sym (append_assoc (completed new) (completed more) rest) ∙ ap (λ (z : List Lexeme). z ++ rest) (sym (completed_both new more))) f.0,
+  fit_both new more rest f.1 g,
+)
 
 fit_onto : (next : Next) (more : List Symbol) (rest : List Lexeme) → FitNext next (completed more ++ rest) → FitAll more rest → FitNext (onto next more) rest
 fit_onto None more rest f g = tt
@@ -442,7 +449,8 @@ fit_one_star k.Star rest = tt
 fit_one_star _ rest = tt
 
 fit_declaration : (kind : Kind) (rest : List Lexeme) → FitNext (declaration kind) rest
-fit_declaration kind rest = fit_onto (specifiers kind) (s.TwoStars ∷ s.Name ∷ s.Array ∷ s.Initialiser ∷ s.MoreItems ∷ s.Semicolon ∷ []) rest (fit_specifiers kind (plain w.Name ∷ plain w.Semicolon ∷ rest) refl) (refl, (refl, (refl, (refl, (refl, (refl, tt))))))
+fit_declaration kind rest = fit_onto (specifiers kind) (s.TwoStars ∷ s.Name ∷ s.Array ∷ s.Initialiser ∷ s.MoreItems ∷ s.Semicolon ∷ []) rest
+    (fit_specifiers kind (plain w.Name ∷ plain w.Semicolon ∷ rest) refl) (refl, (refl, (refl, (refl, (refl, (refl, tt))))))
 
 fit_array : (kind : Kind) (rest : List Lexeme) → FitNext (array kind) rest
 fit_array k.OpenBracket rest = (refl, (refl, tt))
@@ -534,7 +542,8 @@ fit_else _ rest f = tt
 
 fit_init : (kind : Kind) (rest : List Lexeme) → FitNext (for_init kind) rest
 fit_init k.Semicolon rest = tt
-fit_init kind rest = fit_either (declaration kind) (onto (expression kind) (s.Semicolon ∷ [])) rest (fit_declaration kind rest) (fit_onto (expression kind) (s.Semicolon ∷ []) rest (fit_expression kind (plain w.Semicolon ∷ rest) refl) (refl, tt))
+fit_init kind rest = fit_either (declaration kind) (onto (expression kind) (s.Semicolon ∷ [])) rest (fit_declaration kind rest)
+    (fit_onto (expression kind) (s.Semicolon ∷ []) rest (fit_expression kind (plain w.Semicolon ∷ rest) refl) (refl, tt))
 
 fit_opening : (kind : Kind) (rest : List Lexeme) → FitNext (opening kind) rest
 fit_opening k.Open rest = tt
@@ -576,9 +585,15 @@ kept s.Expression kind rest f = fit_expression kind rest f
 kept s.Operand kind rest f = fit_operand kind rest f
 kept s.Unary kind rest f = fit_plain_unary kind rest f
 kept s.Measured kind rest f = fit_measured kind rest f
-kept s.Opened kind rest f = fit_either (onto (type_name kind) (s.Close ∷ s.Operand ∷ s.Tail false ∷ [])) (onto (expression kind) (s.Close ∷ s.Suffixes ∷ s.Tail true ∷ [])) rest (fit_onto (type_name kind) (s.Close ∷ s.Operand ∷ s.Tail false ∷ []) rest (fit_type_name kind (plain w.Close ∷ plain w.Name ∷ rest) refl) (refl, (f, (f, tt)))) (fit_onto (expression kind) (s.Close ∷ s.Suffixes ∷ s.Tail true ∷ []) rest (fit_expression kind (plain w.Close ∷ rest) refl) (refl, (f, (f, tt))))
-kept s.OpenedOperand kind rest f = fit_either (onto (type_name kind) (s.Close ∷ s.Operand ∷ [])) (onto (expression kind) (s.Close ∷ s.Suffixes ∷ [])) rest (fit_onto (type_name kind) (s.Close ∷ s.Operand ∷ []) rest (fit_type_name kind (plain w.Close ∷ plain w.Name ∷ rest) refl) (refl, (f, tt))) (fit_onto (expression kind) (s.Close ∷ s.Suffixes ∷ []) rest (fit_expression kind (plain w.Close ∷ rest) refl) (refl, (f, tt)))
-kept s.OpenedMeasured kind rest f = fit_either (onto (type_name kind) (s.Close ∷ [])) (onto (expression kind) (s.Close ∷ s.Suffixes ∷ [])) rest (fit_onto (type_name kind) (s.Close ∷ []) rest (fit_type_name kind (plain w.Close ∷ rest) refl) (refl, tt)) (fit_onto (expression kind) (s.Close ∷ s.Suffixes ∷ []) rest (fit_expression kind (plain w.Close ∷ rest) refl) (refl, (f, tt)))
+kept s.Opened kind rest f = fit_either (onto (type_name kind) (s.Close ∷ s.Operand ∷ s.Tail false ∷ [])) (onto (expression kind) (s.Close ∷ s.Suffixes ∷ s.Tail true ∷ [])) rest
+    (fit_onto (type_name kind) (s.Close ∷ s.Operand ∷ s.Tail false ∷ []) rest (fit_type_name kind (plain w.Close ∷ plain w.Name ∷ rest) refl) (refl, (f, (f, tt))))
+    (fit_onto (expression kind) (s.Close ∷ s.Suffixes ∷ s.Tail true ∷ []) rest (fit_expression kind (plain w.Close ∷ rest) refl) (refl, (f, (f, tt))))
+kept s.OpenedOperand kind rest f = fit_either (onto (type_name kind) (s.Close ∷ s.Operand ∷ [])) (onto (expression kind) (s.Close ∷ s.Suffixes ∷ [])) rest
+    (fit_onto (type_name kind) (s.Close ∷ s.Operand ∷ []) rest (fit_type_name kind (plain w.Close ∷ plain w.Name ∷ rest) refl) (refl, (f, tt)))
+    (fit_onto (expression kind) (s.Close ∷ s.Suffixes ∷ []) rest (fit_expression kind (plain w.Close ∷ rest) refl) (refl, (f, tt)))
+kept s.OpenedMeasured kind rest f = fit_either (onto (type_name kind) (s.Close ∷ [])) (onto (expression kind) (s.Close ∷ s.Suffixes ∷ [])) rest
+    (fit_onto (type_name kind) (s.Close ∷ []) rest (fit_type_name kind (plain w.Close ∷ rest) refl) (refl, tt))
+    (fit_onto (expression kind) (s.Close ∷ s.Suffixes ∷ []) rest (fit_expression kind (plain w.Close ∷ rest) refl) (refl, (f, tt)))
 kept s.Call kind rest f = fit_call kind rest
 kept s.Texts kind rest f = fit_texts kind rest f
 kept s.Suffixes kind rest f = fit_suffixes kind rest f
@@ -599,7 +614,8 @@ kept s.Initial kind rest f = fit_initial kind rest f
 kept s.MoreElements kind rest f = fit_more_elements kind rest f
 kept s.Elements kind rest f = fit_onto (expression kind) (s.MoreElements ∷ []) rest (fit_expression kind rest f) (f, tt)
 kept s.MoreItems kind rest f = fit_more_items kind rest f
-kept s.Parts kind rest f = fit_onto (specifiers kind) (s.TwoStars ∷ s.Name ∷ s.AfterDeclared ∷ s.Parts ∷ []) rest (fit_specifiers kind (plain w.Name ∷ plain w.Semicolon ∷ rest) refl) (refl, (refl, (refl, (f, tt))))
+kept s.Parts kind rest f = fit_onto (specifiers kind) (s.TwoStars ∷ s.Name ∷ s.AfterDeclared ∷ s.Parts ∷ []) rest
+    (fit_specifiers kind (plain w.Name ∷ plain w.Semicolon ∷ rest) refl) (refl, (refl, (refl, (f, tt))))
 kept s.AfterDeclared kind rest f = fit_after_declared kind rest
 kept s.Params kind rest f = fit_params kind rest
 kept s.AfterVoid kind rest f = fit_after_void kind rest
@@ -608,7 +624,8 @@ kept (s.AfterType named) kind rest f = fit_after_type named kind rest
 kept s.Brackets kind rest f = fit_brackets kind rest
 kept (s.MoreParams named) kind rest f = fit_more_params named kind rest
 kept (s.Ending named) kind rest f = fit_ending named kind rest
-kept s.Items kind rest f = fit_onto (either (declaration kind) (statement kind)) (s.Items ∷ []) rest (fit_either (declaration kind) (statement kind) rest (fit_declaration kind rest) (fit_statement kind rest (brace_else rest f))) (f, tt)
+kept s.Items kind rest f = fit_onto (either (declaration kind) (statement kind)) (s.Items ∷ []) rest
+    (fit_either (declaration kind) (statement kind) rest (fit_declaration kind rest) (fit_statement kind rest (brace_else rest f))) (f, tt)
 kept s.Statement kind rest f = fit_statement kind rest f
 kept s.AfterName kind rest f = fit_after_name kind rest f
 kept s.MaybeElse kind rest f = fit_else kind rest f
@@ -620,7 +637,8 @@ fit_below : (new below : List Symbol) → FitAll new (completed below) → Fit b
 fit_below [] below f g = g
 fit_below (s ∷ new) below f g = (subst (λ (z : List Lexeme). fits s z ≡ true) (sym (completed_both new below)) f.0, fit_below new below f.1 g)
 
-by_next : (symbol : Symbol) (below : List Symbol) (kind : Kind) (passed next : Next) (b : Bool) → after symbol kind ≡ next → Fit (symbol ∷ below) → ((stack : List Symbol) → passed ≡ Some stack → Fit stack) → (stack : List Symbol) → fed next b below passed ≡ Some stack → Fit stack
+by_next : (symbol : Symbol) (below : List Symbol) (kind : Kind) (passed next : Next) (b : Bool) → after symbol kind ≡ next → Fit (symbol ∷ below)
+    → ((stack : List Symbol) → passed ≡ Some stack → Fit stack) → (stack : List Symbol) → fed next b below passed ≡ Some stack → Fit stack
 by_next symbol below kind passed (Some new) b e f rec stack h =
     let g : FitAll new (completed below) = subst (λ (z : Next). FitNext z (completed below)) e (kept symbol kind (completed below) f.0) in
     let same : new ++ below ≡ stack = cc in

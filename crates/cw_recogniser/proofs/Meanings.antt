@@ -92,7 +92,8 @@ abbrev pub Ends : (named : Bool) → List Lexeme → Type 0
 Ends named d = Mark w.Semicolon d ⊎ ((named ≡ true) × SomeBody d)
 
 abbrev pub SomeList : (named : Bool) → List Lexeme → Type 0
-SomeList named a = (p : Param) × (ps : List Param) × (b : List Lexeme) × (c : Lexeme) × (d : List Lexeme) × (a ≡ b ++ (c ∷ d)) × AreSeparated IsParam b (p ∷ ps) × Is w.Close c × Ends (named && all_named (p ∷ ps)) d
+SomeList named a = (p : Param) × (ps : List Param) × (b : List Lexeme) × (c : Lexeme) × (d : List Lexeme) × (a ≡ b ++ (c ∷ d)) × AreSeparated IsParam b (p ∷ ps) × Is w.Close c
+    × Ends (named && all_named (p ∷ ps)) d
 
 abbrev pub SomeParams : List Lexeme → Type 0
 SomeParams a = (ps : List Param) × (b : List Lexeme) × (c : Lexeme) × (d : List Lexeme) × (a ≡ b ++ (c ∷ d)) × AreParams b ps × Is w.Close c × Ends (all_named ps) d
@@ -166,7 +167,8 @@ abbrev pub Given : Next → List Lexeme → (rest : List Lexeme) → Type 0
 Given None a rest = ⊥
 Given (Some new) a rest = Follow new a rest
 
-pub split_follow : (new : List Symbol) (m : Symbol) (more : List Symbol) (a rest : List Lexeme) → Follow (new ++ (m ∷ more)) a rest → (b : List Lexeme) × (c : List Lexeme) × (a ≡ b ++ c) × Follow new b (c ++ rest) × Follow (m ∷ more) c rest
+pub split_follow : (new : List Symbol) (m : Symbol) (more : List Symbol) (a rest : List Lexeme) → Follow (new ++ (m ∷ more)) a rest → (b : List Lexeme) × (c : List Lexeme)
+    × (a ≡ b ++ c) × Follow new b (c ++ rest) × Follow (m ∷ more) c rest
 split_follow [] m more a rest h = ([], a, refl, refl, h)
 split_follow (s ∷ []) m more a rest h = h
 split_follow (s ∷ u ∷ us) m more a rest (b, c, e, l, q) =
@@ -178,7 +180,8 @@ split_follow (s ∷ u ∷ us) m more a rest (b, c, e, l, q) =
       i.4,
     )
 
-pub split_onto : (next : Next) (m : Symbol) (more : List Symbol) (a rest : List Lexeme) → Given (onto next (m ∷ more)) a rest → (b : List Lexeme) × (c : List Lexeme) × (a ≡ b ++ c) × Given next b (c ++ rest) × Follow (m ∷ more) c rest
+pub split_onto : (next : Next) (m : Symbol) (more : List Symbol) (a rest : List Lexeme) → Given (onto next (m ∷ more)) a rest → (b : List Lexeme) × (c : List Lexeme) × (a ≡ b ++ c)
+    × Given next b (c ++ rest) × Follow (m ∷ more) c rest
 split_onto None m more a rest h = absurd h
 split_onto (Some new) m more a rest h = split_follow new m more a rest h
 

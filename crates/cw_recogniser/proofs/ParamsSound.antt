@@ -26,10 +26,12 @@ param_of kind name array = record { kind = kind; name = name; array = array }
 
 -- ---- behind a parameter
 
-last_param : (before named : Bool) (b : List Lexeme) (p : Param) (c : Lexeme) (d : List Lexeme) → IsParam b p → named ≡ (before && is_named p) → Is w.Close c → Ends named d → SomeList before (b ++ (c ∷ d))
+last_param : (before named : Bool) (b : List Lexeme) (p : Param) (c : Lexeme) (d : List Lexeme) → IsParam b p → named ≡ (before && is_named p) → Is w.Close c → Ends named d
+    → SomeList before (b ++ (c ∷ d))
 last_param before named b p c d is e q h = (p, [], b, c, d, refl, is, q, subst (λ (z : Bool). Ends z d) (e ∙ ap (λ (z : Bool). before && z) (sym (and_true (is_named p)))) h)
 
-next_param : (before named : Bool) (b : List Lexeme) (p : Param) (c : Lexeme) (d : List Lexeme) → IsParam b p → named ≡ (before && is_named p) → Is w.Comma c → SomeList named d → SomeList before (b ++ (c ∷ d))
+next_param : (before named : Bool) (b : List Lexeme) (p : Param) (c : Lexeme) (d : List Lexeme) → IsParam b p → named ≡ (before && is_named p) → Is w.Comma c → SomeList named d
+    → SomeList before (b ++ (c ∷ d))
 next_param before named b p c d is e q (x, xs, u, l, v, f, h, close, ends) = (
   p,
   x ∷ xs,
@@ -65,10 +67,12 @@ nameless b kind h = (b, [], [], sym (append-nil b), h, refl, refl)
 pub after_type_sound : (named : Bool) (kind : Kind) (t : Lexeme) (a rest : List Lexeme) → kind_of_word t.word ≡ kind → Given (after_type named kind) a rest → Means (s.AfterType named) (t ∷ a) rest
 after_type_sound named k.Name t a rest e (b, c, f, (array, d), others) = λ m n.
     let is : IsParam (m ++ (t ∷ b)) (param_of n.0 (Some (name_of t)) array) = (m, t ∷ [], b, refl, n.1, (t, refl, exact t k.Name w.Name e refl, refl), d) in
-    subst (λ (z : List Lexeme). SomeList named z) (append_assoc m (t ∷ b) c ∙ ap (λ (z : List Lexeme). m ++ (t ∷ z)) (sym f)) (others named (m ++ (t ∷ b)) (param_of n.0 (Some (name_of t)) array) is (sym (and_true named)))
+    subst (λ (z : List Lexeme). SomeList named z) (append_assoc m (t ∷ b) c ∙ ap (λ (z : List Lexeme). m ++ (t ∷ z)) (sym f))
+    (others named (m ++ (t ∷ b)) (param_of n.0 (Some (name_of t)) array) is (sym (and_true named)))
 after_type_sound named k.OpenBracket t a rest e (b, c, f, (z, g, q), others) = λ m n.
     let is : IsParam (m ++ (t ∷ z ∷ [])) (param_of n.0 None true) = (m, [], t ∷ z ∷ [], refl, n.1, refl, brackets_are t z (exact t k.OpenBracket w.OpenBracket e refl) q) in
-    subst (λ (y : List Lexeme). SomeList named y) (append_assoc m (t ∷ z ∷ []) c ∙ ap (λ (y : List Lexeme). m ++ (t ∷ y)) (sym (f ∙ ap (λ (y : List Lexeme). y ++ c) g))) (others named (m ++ (t ∷ z ∷ [])) (param_of n.0 None true) is (sym (and_false named)))
+    subst (λ (y : List Lexeme). SomeList named y) (append_assoc m (t ∷ z ∷ []) c ∙ ap (λ (y : List Lexeme). m ++ (t ∷ y)) (sym (f ∙ ap (λ (y : List Lexeme). y ++ c) g)))
+    (others named (m ++ (t ∷ z ∷ [])) (param_of n.0 None true) is (sym (and_false named)))
 after_type_sound named k.Comma t a rest e h = λ m n. next_param named false m (param_of n.0 None false) t a (nameless m n.0 n.1) (sym (and_false named)) (exact t k.Comma w.Comma e refl) h
 after_type_sound named k.Close t a rest e h = λ m n. last_param named false m (param_of n.0 None false) t a (nameless m n.0 n.1) (sym (and_false named)) (exact t k.Close w.Close e refl) h
 after_type_sound named _ t a rest e h = absurd h

@@ -11,14 +11,17 @@ use Rattle.cw_recogniser.specs.declared.kinds.Kind.TheVariants as k
 use Rattle.cw_recogniser.specs.declared.symbols.Symbol.{Symbol}
 use Rattle.cw_recogniser.specs.declared.symbols.Symbol.TheVariants as s
 use Rattle.cw_recogniser.specs.Kinds.{kind_of_word}
-use Rattle.cw_recogniser.specs.Language.{IsText}
+use Rattle.cw_recogniser.specs.Language.{AreOfGrammar}
 use Rattle.cw_recogniser.specs.Machine.{Next, after, may_be_empty, fed, feed, start, opening, closing, close_bracket, close_brace, semicolon, while_word, name}
 use Rattle.cw_recogniser.proofs.Accepting.{then_done, accepts, Accepts, takes}
 use Rattle.cw_recogniser.proofs.WordKinds.{word_of}
 use Rattle.cw_recogniser.proofs.Meanings.{Mark, Means, Follow, Given, exact}
 use Rattle.cw_recogniser.proofs.TypesSound.{long_none, unsigned_none, long_sound, unsigned_sound, type_sound, qualified_sound, stars_none, star_none, two_stars_sound, one_star_sound}
-use Rattle.cw_recogniser.proofs.ExpressionsSound.{suffixes_none, call_none, tail_none, more_arguments_none, expression_sound, operand_sound, plain_unary_sound, measured_sound, opened_sound, opened_operand_sound, opened_measured_sound, call_sound, texts_sound, suffixes_sound, operator_sound, assignment_sound, more_arguments_sound, arguments_sound, maybe_sound}
-use Rattle.cw_recogniser.proofs.DeclarationsSound.{array_none, array_sound, initialiser_none, initialiser_sound, more_elements_none, more_elements_sound, elements_none, elements_sound, initial_sound, more_items_none, more_items_sound}
+use Rattle.cw_recogniser.proofs.ExpressionsSound.{suffixes_none, call_none, tail_none, more_arguments_none, expression_sound, operand_sound, plain_unary_sound, measured_sound}
+use Rattle.cw_recogniser.proofs.ExpressionsSound.{opened_sound, opened_operand_sound, opened_measured_sound, call_sound, texts_sound, suffixes_sound, operator_sound}
+use Rattle.cw_recogniser.proofs.ExpressionsSound.{assignment_sound, more_arguments_sound, arguments_sound, maybe_sound}
+use Rattle.cw_recogniser.proofs.DeclarationsSound.{array_none, array_sound, initialiser_none, initialiser_sound, more_elements_none, more_elements_sound, elements_none}
+use Rattle.cw_recogniser.proofs.DeclarationsSound.{elements_sound, initial_sound, more_items_none, more_items_sound}
 use Rattle.cw_recogniser.proofs.ParamsSound.{more_params_sound, brackets_none, brackets_sound, after_type_sound, param_sound, after_void_sound, params_sound, ending_sound}
 use Rattle.cw_recogniser.proofs.StatementsSound.{statement_sound, after_name_sound, else_sound, items_sound, init_sound}
 use Rattle.cw_recogniser.proofs.FilesSound.{after_declared_sound, parts_sound}
@@ -158,7 +161,8 @@ ended (s ∷ below) h = by_empty (may_be_empty s) refl h (ended below) where
   by_empty false e h rec = absurd cc
 
 module _ (t : Lexeme) (ts : List Lexeme) (again : (next : List Symbol) → accepts next ts ≡ true → Whole next ts) where
-  by_next : (s : Symbol) (below : List Symbol) (next : Next) (b : Bool) (passed : Next) → after s (kind_of_word t.word) ≡ next → may_be_empty s ≡ b → then_done (fed next b below passed) (λ z. accepts z ts) ≡ true → (then_done passed (λ z. accepts z ts) ≡ true → Whole below (t ∷ ts)) → Whole (s ∷ below) (t ∷ ts)
+  by_next : (s : Symbol) (below : List Symbol) (next : Next) (b : Bool) (passed : Next) → after s (kind_of_word t.word) ≡ next → may_be_empty s ≡ b
+      → then_done (fed next b below passed) (λ z. accepts z ts) ≡ true → (then_done passed (λ z. accepts z ts) ≡ true → Whole below (t ∷ ts)) → Whole (s ∷ below) (t ∷ ts)
   by_next s below (Some new) b passed e f h rec =
       let x = split_whole new below ts (again (new ++ below) h) in
       let given : Given (after s (kind_of_word t.word)) x.0 x.1 = subst (λ (z : Next). Given z x.0 x.1) (sym e) x.3 in
@@ -174,10 +178,10 @@ whole : (ts : List Lexeme) (stack : List Symbol) → accepts stack ts ≡ true �
 whole [] stack h = ended stack h
 whole (t ∷ ts) stack h = one_more t ts (whole ts) stack h
 
-pub is_text : (ts : List Lexeme) → Accepts start ts → IsText ts
-unfolding IsText IsOfGrammar
+pub is_text : (ts : List Lexeme) → Accepts start ts → AreOfGrammar ts
+unfolding AreOfGrammar IsOfGrammar
 is_text ts h = by_parts (whole ts start h.ok) where
-  by_parts : (a : List Lexeme) × (rest : List Lexeme) × (ts ≡ a ++ rest) × Means s.Parts a rest × (rest ≡ []) → IsText ts
+  by_parts : (a : List Lexeme) × (rest : List Lexeme) × (ts ≡ a ++ rest) × Means s.Parts a rest × (rest ≡ []) → AreOfGrammar ts
   by_parts (a, rest, e, (n, xs, d), f) =
       let g : ts ≡ a = e ∙ ap (λ (z : List Lexeme). a ++ z) f ∙ append-nil a in
-      subst (λ (z : List Lexeme). IsText z) (sym g) (file_of xs, (n, (xs, d, refl)))
+      subst (λ (z : List Lexeme). AreOfGrammar z) (sym g) (file_of xs, (n, (xs, d, refl)))

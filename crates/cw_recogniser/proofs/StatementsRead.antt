@@ -1,7 +1,8 @@
 -- The recogniser reads statements.
 use Rattle.std.proofs.Common.{◌≡◌, ◌≢◌, ℕ, zero, suc, Bool, true, false, List, [], ◌∷◌, ◌++◌, refl, ap, append_assoc, Option, Some, None}
 use Rattle.std.specs.Prelude.{is_some}
-use Rattle.cw_syntax.specs.Trees.{Tree, Statement, Stated, Form, Block, Declares as DeclaresForm, Evaluates, Empties, Labels, Chooses, Whiles, Does, Fors, Breaks, Continues, Returns, Perhaps, nothing, just}
+use Rattle.cw_syntax.specs.Trees.{Tree, Statement, Stated, Form, Block, Declares as DeclaresForm, Evaluates, Empties, Labels, Chooses, Whiles, Does, Fors, Breaks, Continues}
+use Rattle.cw_syntax.specs.Trees.{Returns, Perhaps, nothing, just}
 use Rattle.cw_grammar.specs.declared.words.Word.{Word}
 use Rattle.cw_grammar.specs.declared.words.Word.TheVariants as w
 use Rattle.cw_grammar.specs.declared.words.Lexeme.{Lexeme}
@@ -23,7 +24,8 @@ use Rattle.cw_recogniser.proofs.DeclarationsRead.{reads_optional, reads_declarat
 -- ---- an expression in a statement's place
 
 -- behind a name at a statement's front
-after_call : (below : List Symbol) (kind : Kind) (go : List Symbol → Bool) → then_done (feed (s.Call ∷ s.Suffixes ∷ s.Tail true ∷ s.Semicolon ∷ below) kind) go ≡ true → then_done (feed (s.AfterName ∷ below) kind) go ≡ true
+after_call : (below : List Symbol) (kind : Kind) (go : List Symbol → Bool) → then_done (feed (s.Call ∷ s.Suffixes ∷ s.Tail true ∷ s.Semicolon ∷ below) kind) go ≡ true
+    → then_done (feed (s.AfterName ∷ below) kind) go ≡ true
 after_call below k.Semicolon go h = h
 after_call below k.Open go h = h
 after_call below k.OpenBracket go h = h
@@ -39,7 +41,8 @@ after_call_at : (ts : List Lexeme) (below : List Symbol) → accepts (s.Call ∷
 after_call_at [] below h = absurd cc
 after_call_at (t ∷ ts) below h = after_call below (kind_of_word t.word) (λ next. accepts next ts) h
 
-by_kind : (below : List Symbol) (kind : Kind) (ts : List Lexeme) → then_done (feed (s.Expression ∷ s.Semicolon ∷ below) kind) (λ next. accepts next ts) ≡ true → then_done (feed (s.Statement ∷ below) kind) (λ next. accepts next ts) ≡ true
+by_kind : (below : List Symbol) (kind : Kind) (ts : List Lexeme) → then_done (feed (s.Expression ∷ s.Semicolon ∷ below) kind) (λ next. accepts next ts) ≡ true
+    → then_done (feed (s.Statement ∷ below) kind) (λ next. accepts next ts) ≡ true
 by_kind below k.Name ts h = after_call_at ts below h
 by_kind below k.Open ts h = h
 by_kind below k.Constant ts h = h
@@ -132,7 +135,8 @@ abbrev is_declared : Form → Bool
 is_declared (DeclaresForm d) = true
 is_declared _ = false
 
-undeclared : (E : List Lexeme → Tree → Type 0) (P : Place → List Lexeme → Statement → Type 0) (place : Place) (ts : List Lexeme) (form : Form) → place ≢ InBlock → IsForm E P place ts form → is_declared form ≡ false
+undeclared : (E : List Lexeme → Tree → Type 0) (P : Place → List Lexeme → Statement → Type 0) (place : Place) (ts : List Lexeme) (form : Form) → place ≢ InBlock
+    → IsForm E P place ts form → is_declared form ≡ false
 undeclared E P place ts (DeclaresForm d) ne f = absurd (ne f.0)
 undeclared E P place ts (Block kids) ne f = refl
 undeclared E P place ts (Evaluates e) ne f = refl
@@ -150,8 +154,10 @@ undeclared E P place ts (Returns value) ne f = refl
 
 module _ (limit : ℕ) where
   pub record ReadsStatements (n : ℕ) : Type 0 where
-    pub inner : (place : Place) (a : List Lexeme) (x : Statement) (rest : List Lexeme) (below : List Symbol) → place ≢ InBlock → IsStatement limit n place a x → Follows place rest → Accepts below rest → Accepts (s.Statement ∷ below) (a ++ rest)
-    pub item : (a : List Lexeme) (x : Statement) (rest : List Lexeme) (below : List Symbol) → IsStatement limit n InBlock a x → Accepts (s.Items ∷ s.CloseBrace ∷ below) rest → Accepts (s.Items ∷ s.CloseBrace ∷ below) (a ++ rest)
+    pub inner : (place : Place) (a : List Lexeme) (x : Statement) (rest : List Lexeme) (below : List Symbol) → place ≢ InBlock → IsStatement limit n place a x → Follows place rest
+        → Accepts below rest → Accepts (s.Statement ∷ below) (a ++ rest)
+    pub item : (a : List Lexeme) (x : Statement) (rest : List Lexeme) (below : List Symbol) → IsStatement limit n InBlock a x → Accepts (s.Items ∷ s.CloseBrace ∷ below) rest
+        → Accepts (s.Items ∷ s.CloseBrace ∷ below) (a ++ rest)
 
   last_inner : (place : Place) → last place ≢ InBlock
   last_inner InBlock e = absurd cc
@@ -164,16 +170,20 @@ module _ (limit : ℕ) where
   before_inner : BeforeElse ≢ InBlock
   before_inner e = absurd cc
 
-  reads_test : (a : List Lexeme) (x : Tree) (rest : List Lexeme) (below : List Symbol) → IsTest (IsExpression limit) a x → Accepts below rest → Accepts (s.Open ∷ s.Expression ∷ s.Close ∷ below) (a ++ rest)
-  reads_test a x rest below (o, inner, c, e, p, q, d) h = rw (e, append_assoc) (step p refl ((reads limit).expression inner x (c ∷ rest) (s.Close ∷ below) d (head_is is_end w.Close c rest q refl) (step q refl h)))
+  reads_test : (a : List Lexeme) (x : Tree) (rest : List Lexeme) (below : List Symbol) → IsTest (IsExpression limit) a x → Accepts below rest
+      → Accepts (s.Open ∷ s.Expression ∷ s.Close ∷ below) (a ++ rest)
+  reads_test a x rest below (o, inner, c, e, p, q, d) h =
+      rw (e, append_assoc) (step p refl ((reads limit).expression inner x (c ∷ rest) (s.Close ∷ below) d (head_is is_end w.Close c rest q refl) (step q refl h)))
 
-  reads_ended : (x : Option Tree) (word : Word) (closes : Symbol) (a rest : List Lexeme) (below : List Symbol) → IsEnded word (IsOptional (IsExpression limit)) a x → is_end (kind_of_word word) ≡ true → after closes (kind_of_word word) ≡ Some [] → Accepts below rest → Accepts (s.MaybeExpression ∷ closes ∷ below) (a ++ rest)
+  reads_ended : (x : Option Tree) (word : Word) (closes : Symbol) (a rest : List Lexeme) (below : List Symbol) → IsEnded word (IsOptional (IsExpression limit)) a x
+      → is_end (kind_of_word word) ≡ true → after closes (kind_of_word word) ≡ Some [] → Accepts below rest → Accepts (s.MaybeExpression ∷ closes ∷ below) (a ++ rest)
   reads_ended x word closes a rest below (inner, c, e, is, d) ends e2 h = rw (e, append_assoc) (reads_optional limit x inner word c rest (closes ∷ below) d is ends (step is e2 h))
 
   reads_init : (init : Perhaps) (a rest : List Lexeme) (below : List Symbol) → IsInit (IsExpression limit) a init → Accepts below rest → Accepts (s.ForInit ∷ below) (a ++ rest)
   reads_init nothing a rest below d h = let x = one_word a w.Semicolon d in rw x.1 (step x.2 refl h)
   reads_init (just (Stated (Evaluates x) from to)) a rest below (_, _, (inner, c, e, is, d)) h =
-      rw (e, append_assoc) (instead {first = s.Expression} {symbol = s.ForInit} (s.Semicolon ∷ []) refl init_expression ((reads limit).expression inner x (c ∷ rest) (s.Semicolon ∷ below) d (head_is is_end w.Semicolon c rest is refl) (step is refl h)))
+      rw (e, append_assoc) (instead {first = s.Expression} {symbol = s.ForInit} (s.Semicolon ∷ []) refl init_expression
+      ((reads limit).expression inner x (c ∷ rest) (s.Semicolon ∷ below) d (head_is is_end w.Semicolon c rest is refl) (step is refl h)))
   reads_init (just (Stated (DeclaresForm x) from to)) a rest below (_, _, d) h = reads_declaration limit s.ForInit [] init_declares x a rest below d h
   reads_init (just (Stated (Block kids) from to)) a rest below d h = absurd d
   reads_init (just (Stated Empties from to)) a rest below d h = absurd d
@@ -187,24 +197,34 @@ module _ (limit : ℕ) where
   reads_init (just (Stated (Returns value) from to)) a rest below d h = absurd d
 
   module _ (n : ℕ) (r : ReadsStatements n) where
-    pub reads_items : (xs : List Statement) (ts rest : List Lexeme) (below : List Symbol) → AreAll (IsStatement limit n InBlock) ts xs → Accepts (s.Items ∷ s.CloseBrace ∷ below) rest → Accepts (s.Items ∷ s.CloseBrace ∷ below) (ts ++ rest)
+    pub reads_items : (xs : List Statement) (ts rest : List Lexeme) (below : List Symbol) → AreAll (IsStatement limit n InBlock) ts xs
+        → Accepts (s.Items ∷ s.CloseBrace ∷ below) rest → Accepts (s.Items ∷ s.CloseBrace ∷ below) (ts ++ rest)
     reads_items [] ts rest below d h = rw d h
     reads_items (x ∷ xs) ts rest below (a, b, e, p, q) h = rw (e, append_assoc) (r.item a x (b ++ rest) below p (reads_items xs b rest below q h))
 
-    reads_form : (place : Place) (form : Form) (ts rest : List Lexeme) (below : List Symbol) → is_declared form ≡ false → IsForm (IsExpression limit) (IsStatement limit n) place ts form → Follows place rest → Accepts below rest → Accepts (s.Statement ∷ below) (ts ++ rest)
+    reads_form : (place : Place) (form : Form) (ts rest : List Lexeme) (below : List Symbol) → is_declared form ≡ false
+        → IsForm (IsExpression limit) (IsStatement limit n) place ts form → Follows place rest → Accepts below rest → Accepts (s.Statement ∷ below) (ts ++ rest)
     reads_form place (DeclaresForm x) ts rest below u d f h = absurd cc
-    reads_form place (Block kids) ts rest below u (inner, _, (o, body, c, e, p, q, d)) f h = rw (e, append_assoc) (step p refl (reads_items inner body (c ∷ rest) below d (pass q refl refl (step q refl h))))
-    reads_form place (Evaluates x) ts rest below u (inner, c, e, is, d) f h = rw (e, append_assoc) (as_statement (inner ++ (c ∷ rest)) below ((reads limit).expression inner x (c ∷ rest) (s.Semicolon ∷ below) d (head_is is_end w.Semicolon c rest is refl) (step is refl h)))
+    reads_form place (Block kids) ts rest below u (inner, _, (o, body, c, e, p, q, d)) f h =
+        rw (e, append_assoc) (step p refl (reads_items inner body (c ∷ rest) below d (pass q refl refl (step q refl h))))
+    reads_form place (Evaluates x) ts rest below u (inner, c, e, is, d) f h =
+        rw (e, append_assoc) (as_statement (inner ++ (c ∷ rest)) below
+        ((reads limit).expression inner x (c ∷ rest) (s.Semicolon ∷ below) d (head_is is_end w.Semicolon c rest is refl) (step is refl h)))
     reads_form place Empties ts rest below u d f h = let x = one_word ts w.Semicolon d in rw x.1 (step x.2 refl h)
-    reads_form place (Labels name mark body) ts rest below u (m, l, b, e, p, q, _, _, d) f h = rw e (step p refl (step q refl (r.inner (last place) b body rest below (last_inner place) d (follows_last place rest f) h)))
+    reads_form place (Labels name mark body) ts rest below u (m, l, b, e, p, q, _, _, d) f h =
+        rw e (step p refl (step q refl (r.inner (last place) b body rest below (last_inner place) d (follows_last place rest f) h)))
     reads_form place (Chooses test body nothing) ts rest below u (i, a, b, e, ne, p, t, d) f h =
-        rw (e, append_assoc) (step p refl (reads_test a test (b ++ rest) (s.Statement ∷ s.MaybeElse ∷ below) t (r.inner Elsewhere b body rest (s.MaybeElse ∷ below) elsewhere_inner d (follows_if place rest ne f) (skip refl (follows_if place rest ne f) h))))
+        rw (e, append_assoc) (step p refl (reads_test a test (b ++ rest) (s.Statement ∷ s.MaybeElse ∷ below) t
+        (r.inner Elsewhere b body rest (s.MaybeElse ∷ below) elsewhere_inner d (follows_if place rest ne f) (skip refl (follows_if place rest ne f) h))))
     reads_form place (Chooses test body (just other)) ts rest below u (i, a, b, l, c, e, p, t, d, q, g) f h =
-        rw (e, append_assoc, append_assoc) (step p refl (reads_test a test (b ++ (l ∷ (c ++ rest))) (s.Statement ∷ s.MaybeElse ∷ below) t (r.inner BeforeElse b body (l ∷ (c ++ rest)) (s.MaybeElse ∷ below) before_inner d tt (step q refl (r.inner (last place) c other rest below (last_inner place) g (follows_last place rest f) h)))))
+        rw (e, append_assoc, append_assoc) (step p refl (reads_test a test (b ++ (l ∷ (c ++ rest))) (s.Statement ∷ s.MaybeElse ∷ below) t
+        (r.inner BeforeElse b body (l ∷ (c ++ rest)) (s.MaybeElse ∷ below) before_inner d tt
+        (step q refl (r.inner (last place) c other rest below (last_inner place) g (follows_last place rest f) h)))))
     reads_form place (Whiles test body) ts rest below u (i, a, b, e, p, t, d) f h =
         rw (e, append_assoc) (step p refl (reads_test a test (b ++ rest) (s.Statement ∷ below) t (r.inner (last place) b body rest below (last_inner place) d (follows_last place rest f) h)))
     reads_form place (Does body test) ts rest below u (i, a, l, b, z, e, p, d, q, t, is) f h =
-        rw (e, append_assoc, append_assoc) (step p refl (r.inner Elsewhere a body (l ∷ (b ++ (z ∷ rest))) (s.While ∷ s.Open ∷ s.Expression ∷ s.Close ∷ s.Semicolon ∷ below) elsewhere_inner d (rw q refl) (step q refl (reads_test b test (z ∷ rest) (s.Semicolon ∷ below) t (step is refl h)))))
+        rw (e, append_assoc, append_assoc) (step p refl (r.inner Elsewhere a body (l ∷ (b ++ (z ∷ rest)))
+        (s.While ∷ s.Open ∷ s.Expression ∷ s.Close ∷ s.Semicolon ∷ below) elsewhere_inner d (rw q refl) (step q refl (reads_test b test (z ∷ rest) (s.Semicolon ∷ below) t (step is refl h)))))
     reads_form place (Fors init test each body) ts rest below u (i, o, a, b, c, l, e, p, q, d, t, g, v) f h =
         rw (e, append_assoc, append_assoc, append_assoc) (
         step p refl (step q refl (reads_init init a (b ++ (c ++ (l ++ rest))) (s.MaybeExpression ∷ s.Semicolon ∷ s.MaybeExpression ∷ s.Close ∷ s.Statement ∷ below) d (
@@ -217,15 +237,19 @@ module _ (limit : ℕ) where
     reads_form place Continues ts rest below u d f h = let x = two_words ts w.Continue w.Semicolon d in rw x.2 (step x.3 refl (step x.4 refl h))
     reads_form place (Returns value) ts rest below u (l, b, e, p, d) f h = rw e (step p refl (reads_ended value w.Semicolon s.Semicolon b rest below d refl refl h))
 
-    reads_inner : (place : Place) (a : List Lexeme) (x : Statement) (rest : List Lexeme) (below : List Symbol) → place ≢ InBlock → IsStatement limit (suc n) place a x → Follows place rest → Accepts below rest → Accepts (s.Statement ∷ below) (a ++ rest)
+    reads_inner : (place : Place) (a : List Lexeme) (x : Statement) (rest : List Lexeme) (below : List Symbol) → place ≢ InBlock → IsStatement limit (suc n) place a x
+        → Follows place rest → Accepts below rest → Accepts (s.Statement ∷ below) (a ++ rest)
     reads_inner place a (Stated form from to) rest below ne d f h = reads_form place form a rest below (undeclared (IsExpression limit) (IsStatement limit n) place a form ne d.2) d.2 f h
 
-    in_block : (form : Form) (declared : Bool) (a rest : List Lexeme) (below : List Symbol) → is_declared form ≡ declared → IsForm (IsExpression limit) (IsStatement limit n) InBlock a form → Accepts (s.Items ∷ s.CloseBrace ∷ below) rest → Accepts (s.Items ∷ s.CloseBrace ∷ below) (a ++ rest)
+    in_block : (form : Form) (declared : Bool) (a rest : List Lexeme) (below : List Symbol) → is_declared form ≡ declared
+        → IsForm (IsExpression limit) (IsStatement limit n) InBlock a form → Accepts (s.Items ∷ s.CloseBrace ∷ below) rest → Accepts (s.Items ∷ s.CloseBrace ∷ below) (a ++ rest)
     in_block (DeclaresForm x) declared a rest below u d h = reads_declaration limit s.Items (s.Items ∷ []) items_declare x a rest (s.CloseBrace ∷ below) d.1 h
-    in_block form false a rest below u d h = instead {first = s.Statement} {symbol = s.Items} (s.Items ∷ []) refl items_statement (reads_form InBlock form a rest (s.Items ∷ s.CloseBrace ∷ below) u d (no_else rest below h) h)
+    in_block form false a rest below u d h = instead {first = s.Statement} {symbol = s.Items} (s.Items ∷ []) refl items_statement
+        (reads_form InBlock form a rest (s.Items ∷ s.CloseBrace ∷ below) u d (no_else rest below h) h)
     in_block form true a rest below u d h = absurd cc
 
-    reads_item : (a : List Lexeme) (x : Statement) (rest : List Lexeme) (below : List Symbol) → IsStatement limit (suc n) InBlock a x → Accepts (s.Items ∷ s.CloseBrace ∷ below) rest → Accepts (s.Items ∷ s.CloseBrace ∷ below) (a ++ rest)
+    reads_item : (a : List Lexeme) (x : Statement) (rest : List Lexeme) (below : List Symbol) → IsStatement limit (suc n) InBlock a x
+        → Accepts (s.Items ∷ s.CloseBrace ∷ below) rest → Accepts (s.Items ∷ s.CloseBrace ∷ below) (a ++ rest)
     reads_item a (Stated form from to) rest below d h = in_block form (is_declared form) a rest below refl d.2 h
 
     deeper : ReadsStatements (suc n)

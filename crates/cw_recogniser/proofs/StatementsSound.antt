@@ -61,7 +61,24 @@ block : (o c : Lexeme) (a rest : List Lexeme) → Is w.OpenBrace o → Is w.Clos
 block o c a rest p q (n, xs, d) = record {
   nesting = suc n;
   tree = made (Block (statements xs)) (o ∷ (a ++ (c ∷ [])));
-  derives = λ place f. (refl, refl, (xs, refl, (o, a, c, refl, p, q, all_weaker (IsStatement n n InBlock) (IsStatement (suc n) n InBlock) (statement_deeper n (suc n) n n (omega arith) (omega arith) InBlock) xs a d)));
+  derives = λ place f. (
+    refl,
+    refl,
+    (
+      xs,
+      refl,
+      (
+        o,
+        a,
+        c,
+        refl,
+        p,
+        q,
+        all_weaker (IsStatement n n InBlock) (IsStatement (suc n) n InBlock)
+            (statement_deeper n (suc n) n n (omega arith) (omega arith) InBlock) xs a d,
+      ),
+    ),
+  );
 }
 
 labels : (m c : Lexeme) (a rest : List Lexeme) → Is w.Name m → Is w.Colon c → OneStatement a rest → OneStatement (m ∷ c ∷ a) rest
@@ -85,28 +102,88 @@ chooses : (i : Lexeme) (a b rest others : List Lexeme) → Is w.If i → SomeTes
 chooses i a b rest others p t x no_else = let n = max t.inside.nesting x.nesting in record {
   nesting = suc n;
   tree = made (Chooses t.inside.tree x.tree nothing) (i ∷ (a ++ b));
-  derives = λ place f. (refl, refl, (i, a, b, refl, not_before_else place rest no_else f, p, (t.o, t.b, t.c, t.is_whole, t.is_open, t.is_close, expression_at t.b t.inside n (omega arith)), inner_at x n (omega arith) Elsewhere tt));
+  derives = λ place f. (
+    refl,
+    refl,
+    (
+      i,
+      a,
+      b,
+      refl,
+      not_before_else place rest no_else f,
+      p,
+      (t.o, t.b, t.c, t.is_whole, t.is_open, t.is_close, expression_at t.b t.inside n (omega arith)),
+      inner_at x n (omega arith) Elsewhere tt,
+    ),
+  );
 }
 
-chooses_else : (i e : Lexeme) (a b c rest others : List Lexeme) → Is w.If i → SomeTest a → OneStatement b others → takes s.MaybeElse others ≡ true → Is w.Else e → OneStatement c rest → OneStatement (i ∷ (a ++ (b ++ (e ∷ c)))) rest
+chooses_else : (i e : Lexeme) (a b c rest others : List Lexeme) → Is w.If i → SomeTest a → OneStatement b others → takes s.MaybeElse others ≡ true → Is w.Else e
+    → OneStatement c rest → OneStatement (i ∷ (a ++ (b ++ (e ∷ c)))) rest
 chooses_else i e a b c rest others p t x comes q y = let n = max t.inside.nesting (max x.nesting y.nesting) in record {
   nesting = suc n;
   tree = made (Chooses t.inside.tree x.tree (just y.tree)) (i ∷ (a ++ (b ++ (e ∷ c))));
-  derives = λ place f. (refl, refl, (i, a, b, e, c, refl, p, (t.o, t.b, t.c, t.is_whole, t.is_open, t.is_close, expression_at t.b t.inside n (omega arith)), inner_at x n (omega arith) BeforeElse comes, q, inner_at y n (omega arith) (last place) (allows_last place rest f)));
+  derives = λ place f. (
+    refl,
+    refl,
+    (
+      i,
+      a,
+      b,
+      e,
+      c,
+      refl,
+      p,
+      (t.o, t.b, t.c, t.is_whole, t.is_open, t.is_close, expression_at t.b t.inside n (omega arith)),
+      inner_at x n
+          (omega arith) BeforeElse comes,
+      q,
+      inner_at y n (omega arith) (last place) (allows_last place rest f),
+    ),
+  );
 }
 
 whiles : (i : Lexeme) (a b rest : List Lexeme) → Is w.While i → SomeTest a → OneStatement b rest → OneStatement (i ∷ (a ++ b)) rest
 whiles i a b rest p t x = let n = max t.inside.nesting x.nesting in record {
   nesting = suc n;
   tree = made (Whiles t.inside.tree x.tree) (i ∷ (a ++ b));
-  derives = λ place f. (refl, refl, (i, a, b, refl, p, (t.o, t.b, t.c, t.is_whole, t.is_open, t.is_close, expression_at t.b t.inside n (omega arith)), inner_at x n (omega arith) (last place) (allows_last place rest f)));
+  derives = λ place f. (
+    refl,
+    refl,
+    (
+      i,
+      a,
+      b,
+      refl,
+      p,
+      (t.o, t.b, t.c, t.is_whole, t.is_open, t.is_close, expression_at t.b t.inside n (omega arith)),
+      inner_at x n (omega arith)
+          (last place) (allows_last place rest f),
+    ),
+  );
 }
 
 does : (i h z : Lexeme) (a b rest others : List Lexeme) → Is w.Do i → OneStatement a others → Is w.While h → SomeTest b → Is w.Semicolon z → OneStatement (i ∷ (a ++ (h ∷ (b ++ (z ∷ []))))) rest
 does i h z a b rest others p x q t is = let n = max t.inside.nesting x.nesting in record {
   nesting = suc n;
   tree = made (Does x.tree t.inside.tree) (i ∷ (a ++ (h ∷ (b ++ (z ∷ [])))));
-  derives = λ place f. (refl, refl, (i, a, h, b, z, refl, p, inner_at x n (omega arith) Elsewhere tt, q, (t.o, t.b, t.c, t.is_whole, t.is_open, t.is_close, expression_at t.b t.inside n (omega arith)), is));
+  derives = λ place f. (
+    refl,
+    refl,
+    (
+      i,
+      a,
+      h,
+      b,
+      z,
+      refl,
+      p,
+      inner_at x n (omega arith) Elsewhere tt,
+      q,
+      (t.o, t.b, t.c, t.is_whole, t.is_open, t.is_close, expression_at t.b t.inside n (omega arith)),
+      is,
+    ),
+  );
 }
 
 abbrev SomeOptional : List Lexeme → Type 0
@@ -115,7 +192,8 @@ SomeOptional a = (n : ℕ) × (x : Option Tree) × IsOptional (IsExpression n) a
 abbrev SomeInit : List Lexeme → Type 0
 SomeInit a = (n : ℕ) × (init : Perhaps) × IsInit (IsExpression n) a init
 
-fors : (i o y z : Lexeme) (a b c d rest : List Lexeme) → Is w.For i → Is w.Open o → SomeInit a → SomeOptional b → Is w.Semicolon y → SomeOptional c → Is w.Close z → OneStatement d rest → OneStatement (i ∷ o ∷ (a ++ ((b ++ (y ∷ [])) ++ ((c ++ (z ∷ [])) ++ d)))) rest
+fors : (i o y z : Lexeme) (a b c d rest : List Lexeme) → Is w.For i → Is w.Open o → SomeInit a → SomeOptional b → Is w.Semicolon y → SomeOptional c → Is w.Close z
+    → OneStatement d rest → OneStatement (i ∷ o ∷ (a ++ ((b ++ (y ∷ [])) ++ ((c ++ (z ∷ [])) ++ d)))) rest
 fors i o y z a b c d rest p q (l, init, h) (m, test, t) is (k, each, g) ends x = let n = max (max l m) (max k x.nesting) in record {
   nesting = suc n;
   tree = made (Fors init test each x.tree) (i ∷ o ∷ (a ++ ((b ++ (y ∷ [])) ++ ((c ++ (z ∷ [])) ++ d))));
@@ -153,7 +231,8 @@ returns t z a rest p (n, x, d) q = record {
 
 -- ---- the symbols of statements
 
-test_split : (u : Symbol) (us : List Symbol) (a rest : List Lexeme) → Follow (s.Open ∷ s.Expression ∷ s.Close ∷ u ∷ us) a rest → (b : List Lexeme) × (c : List Lexeme) × (a ≡ b ++ c) × SomeTest b × Follow (u ∷ us) c rest
+test_split : (u : Symbol) (us : List Symbol) (a rest : List Lexeme) → Follow (s.Open ∷ s.Expression ∷ s.Close ∷ u ∷ us) a rest → (b : List Lexeme) × (c : List Lexeme)
+    × (a ≡ b ++ c) × SomeTest b × Follow (u ∷ us) c rest
 test_split u us a rest (b, c, f, (o, g, p), (d, e, j, h, (l, m, v, (z, i, q), others))) = (
   o ∷ (d ++ (z ∷ [])),
   m,
@@ -165,10 +244,12 @@ test_split u us a rest (b, c, f, (o, g, p), (d, e, j, h, (l, m, v, (z, i, q), ot
 if_sound : (t : Lexeme) (a rest : List Lexeme) → Is w.If t → Follow (s.Open ∷ s.Expression ∷ s.Close ∷ s.Statement ∷ s.MaybeElse ∷ []) a rest → OneStatement (t ∷ a) rest
 if_sound t a rest is h = by_test (test_split s.Statement (s.MaybeElse ∷ []) a rest h) where
   by_else : (b c d e : List Lexeme) → a ≡ b ++ c → SomeTest b → c ≡ d ++ e → OneStatement d (e ++ rest) → Means s.MaybeElse e rest → OneStatement (t ∷ a) rest
-  by_else b c d e f test g x (inl (j, no_else)) = moved (ap (λ (z : List Lexeme). t ∷ z) (rw (f, g, j) (ap (λ (z : List Lexeme). b ++ z) (append-nil d)))) (chooses t b d rest (e ++ rest) is test x no_else)
+  by_else b c d e f test g x (inl (j, no_else)) = moved (ap (λ (z : List Lexeme). t ∷ z) (rw (f, g, j) (ap (λ (z : List Lexeme). b ++ z) (append-nil d))))
+      (chooses t b d rest (e ++ rest) is test x no_else)
   by_else b c d e f test g x (inr (l, m, j, q, y)) = moved (ap (λ (z : List Lexeme). t ∷ z) (rw (f, g, j) refl)) (chooses_else t l b d m rest (e ++ rest) is test x (rw (j, q) refl) q y)
 
-  by_test : (b : List Lexeme) × (c : List Lexeme) × (a ≡ b ++ c) × SomeTest b × ((d : List Lexeme) × (e : List Lexeme) × (c ≡ d ++ e) × OneStatement d (e ++ rest) × Means s.MaybeElse e rest) → OneStatement (t ∷ a) rest
+  by_test : (b : List Lexeme) × (c : List Lexeme) × (a ≡ b ++ c) × SomeTest b
+      × ((d : List Lexeme) × (e : List Lexeme) × (c ≡ d ++ e) × OneStatement d (e ++ rest) × Means s.MaybeElse e rest) → OneStatement (t ∷ a) rest
   by_test (b, c, f, test, (d, e, g, x, other)) = by_else b c d e f test g x other
 
 while_sound : (t : Lexeme) (a rest : List Lexeme) → Is w.While t → Follow (s.Open ∷ s.Expression ∷ s.Close ∷ s.Statement ∷ []) a rest → OneStatement (t ∷ a) rest
@@ -179,9 +260,12 @@ do_sound t a rest is (b, c, f, x, (d, e, g, (m, j, q), h)) = by_test (test_split
   by_test : (u : List Lexeme) × (v : List Lexeme) × (e ≡ u ++ v) × SomeTest u × Mark w.Semicolon v → OneStatement (t ∷ a) rest
   by_test (u, v, l, test, (z, i, p)) = moved (ap (λ (y : List Lexeme). t ∷ y) (rw (f, g, j, l, i) refl)) (does t m z b u rest (c ++ rest) is x q test p)
 
-for_sound : (t : Lexeme) (a rest : List Lexeme) → Is w.For t → Follow (s.Open ∷ s.ForInit ∷ s.MaybeExpression ∷ s.Semicolon ∷ s.MaybeExpression ∷ s.Close ∷ s.Statement ∷ []) a rest → OneStatement (t ∷ a) rest
+for_sound : (t : Lexeme) (a rest : List Lexeme) → Is w.For t → Follow (s.Open ∷ s.ForInit ∷ s.MaybeExpression ∷ s.Semicolon ∷ s.MaybeExpression ∷ s.Close ∷ s.Statement ∷ []) a rest
+    → OneStatement (t ∷ a) rest
 for_sound t a rest is (b0, c0, f0, (o, g0, p0), (b1, c1, f1, init, (b2, c2, f2, test, (b3, c3, f3, (y, g3, p3), (b4, c4, f4, each, (b5, c5, f5, (z, g5, p5), x)))))) =
-    moved (ap (λ (e : List Lexeme). t ∷ e) (rw (f0, g0, f1, f2, f3, g3, f4, f5, g5) (sym (ap (λ (e : List Lexeme). o ∷ (b1 ++ e)) (append_assoc b2 (y ∷ []) ((b4 ++ (z ∷ [])) ++ c5) ∙ ap (λ (e : List Lexeme). b2 ++ (y ∷ e)) (append_assoc b4 (z ∷ []) c5)))))) (fors t o y z b1 b2 b4 c5 rest is p0 init test p3 each p5 x)
+    moved (ap (λ (e : List Lexeme). t ∷ e) (rw (f0, g0, f1, f2, f3, g3, f4, f5, g5)
+    (sym (ap (λ (e : List Lexeme). o ∷ (b1 ++ e)) (append_assoc b2 (y ∷ []) ((b4 ++ (z ∷ [])) ++ c5)
+    ∙ ap (λ (e : List Lexeme). b2 ++ (y ∷ e)) (append_assoc b4 (z ∷ []) c5)))))) (fors t o y z b1 b2 b4 c5 rest is p0 init test p3 each p5 x)
 
 pub statement_sound : (kind : Kind) (t : Lexeme) (a rest : List Lexeme) → kind_of_word t.word ≡ kind → Given (statement kind) a rest → OneStatement (t ∷ a) rest
 statement_sound k.Semicolon t a rest e h = moved (ap (λ (z : List Lexeme). t ∷ z) h) (empty t rest (exact t k.Semicolon w.Semicolon e refl))
@@ -211,17 +295,20 @@ named_unary m is = postfix_unary (m ∷ []) (name_postfix m is)
 by_assignment : (kind : Kind) (t : Lexeme) (a rest : List Lexeme) → kind_of_word t.word ≡ kind → Given (onto (assignment kind) (s.Semicolon ∷ [])) a rest → Means s.AfterName (t ∷ a) rest
 by_assignment kind t a rest e h m is =
     let x = split_onto (assignment kind) s.Semicolon [] a rest h in
-    moved (ap (λ (z : List Lexeme). m ∷ t ∷ z) (x.2 ∙ ap (λ (z : List Lexeme). x.0 ++ z) x.4.1)) (evaluates (m ∷ t ∷ x.0) x.4.0 rest (assignment_sound kind t x.0 (x.1 ++ rest) e x.3 (m ∷ []) (named_unary m is)) x.4.2)
+    moved (ap (λ (z : List Lexeme). m ∷ t ∷ z) (x.2 ∙ ap (λ (z : List Lexeme). x.0 ++ z) x.4.1))
+    (evaluates (m ∷ t ∷ x.0) x.4.0 rest (assignment_sound kind t x.0 (x.1 ++ rest) e x.3 (m ∷ []) (named_unary m is)) x.4.2)
 
 pub after_name_sound : (kind : Kind) (t : Lexeme) (a rest : List Lexeme) → kind_of_word t.word ≡ kind → Given (after_name kind) a rest → Means s.AfterName (t ∷ a) rest
 after_name_sound k.Colon t a rest e h = λ m is. labels m t a rest is (exact t k.Colon w.Colon e refl) h
-after_name_sound k.Semicolon t a rest e h = λ m is. moved (ap (λ (z : List Lexeme). m ∷ t ∷ z) h) (evaluates (m ∷ []) t rest (chain_expression (m ∷ []) (operand_chain (m ∷ []) (unary_operand (m ∷ []) (named_unary m is)))) (exact t k.Semicolon w.Semicolon e refl))
+after_name_sound k.Semicolon t a rest e h = λ m is. moved (ap (λ (z : List Lexeme). m ∷ t ∷ z) h)
+    (evaluates (m ∷ []) t rest (chain_expression (m ∷ []) (operand_chain (m ∷ []) (unary_operand (m ∷ []) (named_unary m is)))) (exact t k.Semicolon w.Semicolon e refl))
 after_name_sound k.Open t a rest e h = λ m is.
     let x = split_follow (s.Arguments ∷ s.Close ∷ []) s.Suffixes (s.Tail true ∷ s.Semicolon ∷ []) a rest h in
     moved (ap (λ (z : List Lexeme). m ∷ t ∷ z) x.2) (suffixed (m ∷ t ∷ x.0) x.1 rest (call_sound k.Open t x.0 (x.1 ++ rest) e x.3 m is) x.4)
 after_name_sound k.OpenBracket t a rest e h = λ m is.
     let x = split_follow (s.Expression ∷ s.CloseBracket ∷ s.Suffixes ∷ []) (s.Tail true) (s.Semicolon ∷ []) a rest h in
-    moved (ap (λ (z : List Lexeme). m ∷ t ∷ z) x.2) (ended (m ∷ t ∷ x.0) x.1 rest (postfix_unary (m ∷ t ∷ x.0) (suffixes_sound k.OpenBracket t x.0 (x.1 ++ rest) e x.3 (m ∷ []) (name_postfix m is))) x.4)
+    moved (ap (λ (z : List Lexeme). m ∷ t ∷ z) x.2) (ended (m ∷ t ∷ x.0) x.1 rest
+    (postfix_unary (m ∷ t ∷ x.0) (suffixes_sound k.OpenBracket t x.0 (x.1 ++ rest) e x.3 (m ∷ []) (name_postfix m is))) x.4)
 after_name_sound k.Step t a rest e h = λ m is.
     let x = split_follow (s.Suffixes ∷ []) (s.Tail true) (s.Semicolon ∷ []) a rest h in
     moved (ap (λ (z : List Lexeme). m ∷ t ∷ z) x.2) (ended (m ∷ t ∷ x.0) x.1 rest (postfix_unary (m ∷ t ∷ x.0) (suffixes_sound k.Step t x.0 (x.1 ++ rest) e x.3 (m ∷ []) (name_postfix m is))) x.4)
@@ -238,21 +325,34 @@ declared a rest (n, x, d) = (suc n, made (Declares x) a, (refl, refl, (refl, dec
 
 pub one_more : (a b : List Lexeme) → (n : ℕ) × (x : Statement) × IsStatement n n InBlock a x → SomeStatements b → SomeStatements (a ++ b)
 one_more a b (m, x, h) (n, xs, d) =
-    let k = max m n in
-    (k, x ∷ xs, (a, b, refl, statement_deeper m k m k (omega arith) (omega arith) InBlock a x h, all_weaker (IsStatement n n InBlock) (IsStatement k k InBlock) (statement_deeper n k n k (omega arith) (omega arith) InBlock) xs b d))
+    let k = max m n in (
+      k,
+      x ∷ xs,
+      (
+        a,
+        b,
+        refl,
+        statement_deeper m k m k (omega arith) (omega arith) InBlock a x h,
+        all_weaker (IsStatement n n InBlock) (IsStatement k k InBlock)
+            (statement_deeper n k n k (omega arith) (omega arith) InBlock) xs b d,
+      ),
+    )
 
-by_form : (kind : Kind) (t : Lexeme) (a rest : List Lexeme) → kind_of_word t.word ≡ kind → Given (declaration kind) a rest ⊎ Given (statement kind) a rest → (n : ℕ) × (x : Statement) × IsStatement n n InBlock (t ∷ a) x
+by_form : (kind : Kind) (t : Lexeme) (a rest : List Lexeme) → kind_of_word t.word ≡ kind → Given (declaration kind) a rest ⊎ Given (statement kind) a rest → (n : ℕ)
+    × (x : Statement) × IsStatement n n InBlock (t ∷ a) x
 by_form kind t a rest e (inl h) = declared (t ∷ a) rest (declaration_sound kind t a rest e h)
 by_form kind t a rest e (inr h) = let x = statement_sound kind t a rest e h in (x.nesting, x.tree, x.derives InBlock tt)
 
 pub items_sound : (kind : Kind) (t : Lexeme) (a rest : List Lexeme) → kind_of_word t.word ≡ kind → Given (after s.Items kind) a rest → SomeStatements (t ∷ a)
 items_sound kind t a rest e h =
     let x = split_onto (either (declaration kind) (statement kind)) s.Items [] a rest h in
-    subst (λ (z : List Lexeme). SomeStatements (t ∷ z)) (sym x.2) (one_more (t ∷ x.0) x.1 (by_form kind t x.0 (x.1 ++ rest) e (split_either (declaration kind) (statement kind) x.0 (x.1 ++ rest) x.3)) x.4)
+    subst (λ (z : List Lexeme). SomeStatements (t ∷ z)) (sym x.2)
+    (one_more (t ∷ x.0) x.1 (by_form kind t x.0 (x.1 ++ rest) e (split_either (declaration kind) (statement kind) x.0 (x.1 ++ rest) x.3)) x.4)
 
 -- ---- the front of a `for`
 
-by_init : (kind : Kind) (t : Lexeme) (a rest : List Lexeme) → kind_of_word t.word ≡ kind → Given (declaration kind) a rest ⊎ Given (onto (expression kind) (s.Semicolon ∷ [])) a rest → SomeInit (t ∷ a)
+by_init : (kind : Kind) (t : Lexeme) (a rest : List Lexeme) → kind_of_word t.word ≡ kind → Given (declaration kind) a rest
+    ⊎ Given (onto (expression kind) (s.Semicolon ∷ [])) a rest → SomeInit (t ∷ a)
 by_init kind t a rest e (inl h) = let x = declaration_sound kind t a rest e h in (x.0, just (made (Declares x.1) (t ∷ a)), (refl, refl, x.2))
 by_init kind t a rest e (inr h) =
     let x = split_onto (expression kind) s.Semicolon [] a rest h in

@@ -97,13 +97,16 @@ not_const k.Long e = refl
 not_const k.Unsigned e = refl
 not_const _ e = absurd cc
 
-pub reads_qualified : (constant : Bool) (c ts rest : List Lexeme) (base : Base) (unsigned : Bool) (below : List Symbol) → IsFlag w.Const c constant → IsType ts base unsigned → EndsType rest → Accepts below rest → Accepts (s.Qualified ∷ below) (c ++ (ts ++ rest))
+pub reads_qualified : (constant : Bool) (c ts rest : List Lexeme) (base : Base) (unsigned : Bool) (below : List Symbol) → IsFlag w.Const c constant → IsType ts base unsigned
+    → EndsType rest → Accepts below rest → Accepts (s.Qualified ∷ below) (c ++ (ts ++ rest))
 reads_qualified true c ts rest base unsigned below f t e h = let x = one_word c w.Const f in rw x.1 (step x.2 refl (reads_type rest below e h ts base unsigned t))
 reads_qualified false c ts rest base unsigned below f t e h = rw f (instead {first = s.Type} [] refl not_const (reads_type rest below e h ts base unsigned t))
 
-pub reads_type_name : (ts rest : List Lexeme) (kind : CType) (below : List Symbol) → IsTypeName ts kind → EndsType rest → takes s.TwoStars rest ≡ false → Accepts below rest → Accepts (s.Qualified ∷ s.TwoStars ∷ below) (ts ++ rest)
+pub reads_type_name : (ts rest : List Lexeme) (kind : CType) (below : List Symbol) → IsTypeName ts kind → EndsType rest → takes s.TwoStars rest ≡ false → Accepts below rest
+    → Accepts (s.Qualified ∷ s.TwoStars ∷ below) (ts ++ rest)
 reads_type_name ts rest kind below (constant, c, t, stars, e, f, is, a) ends none h =
-    rw (e, append_assoc, append_assoc) (reads_qualified constant c t (stars ++ rest) kind.base kind.unsigned (s.TwoStars ∷ below) f is (stars_end kind.stars stars rest a ends) (reads_stars kind.stars stars rest below a none h))
+    rw (e, append_assoc, append_assoc) (reads_qualified constant c t (stars ++ rest) kind.base kind.unsigned (s.TwoStars ∷ below) f is (stars_end kind.stars stars rest a ends)
+    (reads_stars kind.stars stars rest below a none h))
 
 plain_specifiers : (kind : Kind) → is_some (qualified kind) ≡ true → specifiers kind ≡ qualified kind
 plain_specifiers k.Const e = refl
@@ -122,13 +125,16 @@ as_qualified : (symbol : Symbol) (more : List Symbol) → Declares symbol more �
 as_qualified symbol more d kind e = let p = plain_specifiers kind e in d kind (rw p e) ∙ ap (λ z. onto z more) p
 
 module _ (symbol : Symbol) (more : List Symbol) (d : Declares symbol more) (rest : List Lexeme) (below : List Symbol) (ends : EndsType rest) (h : Accepts (more ++ below) rest) where
-  stored : (word : Word) (a b c : List Lexeme) (constant : Bool) (base : Base) (unsigned : Bool) → words a ≡ word ∷ [] → kind_of_word word ≡ k.Storage → IsFlag w.Const b constant → IsType c base unsigned → Accepts (symbol ∷ below) (a ++ (b ++ (c ++ rest)))
+  stored : (word : Word) (a b c : List Lexeme) (constant : Bool) (base : Base) (unsigned : Bool) → words a ≡ word ∷ [] → kind_of_word word ≡ k.Storage → IsFlag w.Const b constant
+      → IsType c base unsigned → Accepts (symbol ∷ below) (a ++ (b ++ (c ++ rest)))
   stored word a b c constant base unsigned ws e f t =
       let x = one_word a word ws in
       rw x.1 (step x.2 (ap (after symbol) e ∙ d k.Storage refl) (reads_qualified constant b c rest base unsigned (more ++ below) f t ends h))
 
-  by_storage : (external fixed : Bool) (a b c : List Lexeme) (constant : Bool) (base : Base) (unsigned : Bool) → IsStorage a external fixed → IsFlag w.Const b constant → IsType c base unsigned → Accepts (symbol ∷ below) (a ++ (b ++ (c ++ rest)))
-  by_storage false false a b c constant base unsigned i f t = rw i (instead {first = s.Qualified} more refl (as_qualified symbol more d) (reads_qualified constant b c rest base unsigned (more ++ below) f t ends h))
+  by_storage : (external fixed : Bool) (a b c : List Lexeme) (constant : Bool) (base : Base) (unsigned : Bool) → IsStorage a external fixed → IsFlag w.Const b constant
+      → IsType c base unsigned → Accepts (symbol ∷ below) (a ++ (b ++ (c ++ rest)))
+  by_storage false false a b c constant base unsigned i f t =
+      rw i (instead {first = s.Qualified} more refl (as_qualified symbol more d) (reads_qualified constant b c rest base unsigned (more ++ below) f t ends h))
   by_storage true false a b c constant base unsigned i f t = stored w.Extern a b c constant base unsigned i refl f t
   by_storage false true a b c constant base unsigned i f t = stored w.Static a b c constant base unsigned i refl f t
   by_storage true true a b c constant base unsigned i f t = absurd i

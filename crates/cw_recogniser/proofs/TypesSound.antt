@@ -42,13 +42,15 @@ unsigned_none t is = type_is (t ∷ []) (w.Unsigned ∷ []) base.Int true (one t
 pub long_sound : (kind : Kind) (t : Lexeme) (a rest : List Lexeme) → kind_of_word t.word ≡ kind → Given (after_long kind) a rest → Means s.AfterLong (t ∷ a) rest
 long_sound k.Int t a rest e h = (
   λ l p. rw h (type_is (l ∷ t ∷ []) (w.Long ∷ w.Int ∷ []) base.Long false (two l t w.Long w.Int p (exact t k.Int w.Int e refl)) (inr (inr (inr (inr (inr (inr (inr (inl refl))))))))),
-  λ u l q p. rw h (type_is (u ∷ l ∷ t ∷ []) (w.Unsigned ∷ w.Long ∷ w.Int ∷ []) base.Long true (three u l t w.Unsigned w.Long w.Int q p (exact t k.Int w.Int e refl)) (inr (inr (inr (inr (inr (inr (inr (inr (inr (inl refl))))))))))),
+  λ u l q p. rw h (type_is (u ∷ l ∷ t ∷ []) (w.Unsigned ∷ w.Long ∷ w.Int ∷ []) base.Long true (three u l t w.Unsigned w.Long w.Int q p (exact t k.Int w.Int e refl))
+      (inr (inr (inr (inr (inr (inr (inr (inr (inr (inl refl))))))))))),
 )
 long_sound _ t a rest e h = absurd h
 
 pub unsigned_sound : (kind : Kind) (t : Lexeme) (a rest : List Lexeme) → kind_of_word t.word ≡ kind → Given (after_unsigned kind) a rest → Means s.AfterUnsigned (t ∷ a) rest
 unsigned_sound k.Char t a rest e h = λ u p. rw h (type_is (u ∷ t ∷ []) (w.Unsigned ∷ w.Char ∷ []) base.Char true (two u t w.Unsigned w.Char p (exact t k.Char w.Char e refl)) (inr (inr (inl refl))))
-unsigned_sound k.Int t a rest e h = λ u p. rw h (type_is (u ∷ t ∷ []) (w.Unsigned ∷ w.Int ∷ []) base.Int true (two u t w.Unsigned w.Int p (exact t k.Int w.Int e refl)) (inr (inr (inr (inr (inl refl))))))
+unsigned_sound k.Int t a rest e h = λ u p. rw h (type_is (u ∷ t ∷ []) (w.Unsigned ∷ w.Int ∷ []) base.Int true (two u t w.Unsigned w.Int p (exact t k.Int w.Int e refl))
+    (inr (inr (inr (inr (inl refl))))))
 unsigned_sound k.Long t a rest e h = λ u p. h.1 u t p (exact t k.Long w.Long e refl)
 unsigned_sound _ t a rest e h = absurd h
 

@@ -6,7 +6,7 @@ use Rattle.std.specs.List.{list_all}
 use Rattle.cw_grammar.specs.declared.words.Lexeme.{Lexeme}
 use Rattle.cw_recogniser.specs.declared.symbols.Symbol.{Symbol}
 use Rattle.cw_recogniser.specs.Kinds.{kind_of_word}
-use Rattle.cw_recogniser.specs.Language.{IsText, IsFront}
+use Rattle.cw_recogniser.specs.Language.{AreOfGrammar, IsFront}
 use Rattle.cw_recogniser.specs.Machine.{Next, may_be_empty, feed, run, is_done, start, accepted, IsVerdict, Steps}
 use Rattle.cw_recogniser.proofs.FilesRead.{and_assoc}
 use Rattle.cw_recogniser.proofs.Fronts.{is_front, no_front, no_text, done_text, open_text}
@@ -15,7 +15,8 @@ go_on : Next → List Lexeme → Next
 go_on None ts = None
 go_on (Some stack) ts = run stack ts
 
-run_step : (o : Next) (a b : List Lexeme) → ((next : List Symbol) → run next (a ++ b) ≡ go_on (run next a) b) → (elim o as (λ x. Next) [ None ↦ None | Some next ↦ run next (a ++ b) ]) ≡ go_on (elim o as (λ x. Next) [ None ↦ None | Some next ↦ run next a ]) b
+run_step : (o : Next) (a b : List Lexeme) → ((next : List Symbol) → run next (a ++ b) ≡ go_on (run next a) b)
+    → (elim o as (λ x. Next) [ None ↦ None | Some next ↦ run next (a ++ b) ]) ≡ go_on (elim o as (λ x. Next) [ None ↦ None | Some next ↦ run next a ]) b
 unfolding go_on
 run_step None a b rec = refl
 run_step (Some next) a b rec = rec next
@@ -29,7 +30,8 @@ one_token : (o : Next) → (elim o as (λ x. Next) [ None ↦ None | Some next �
 one_token None = refl
 one_token (Some next) = refl
 
-pub run_more : (ts : List Lexeme) (i : ℕ) (d : Lexeme) (stack : List Symbol) → i < length ts → run start (take i ts) ≡ Some stack → run start (take (i + 1) ts) ≡ feed stack (kind_of_word (get_or ts i d).word)
+pub run_more : (ts : List Lexeme) (i : ℕ) (d : Lexeme) (stack : List Symbol) → i < length ts → run start (take i ts) ≡ Some stack
+    → run start (take (i + 1) ts) ≡ feed stack (kind_of_word (get_or ts i d).word)
 unfolding go_on
 run_more ts i d stack lt e =
     ap (run start) (take_more ts i d lt)
@@ -41,7 +43,8 @@ run_none : (ts : List Lexeme) (i : ℕ) → run start (take i ts) ≡ None → r
 unfolding go_on
 run_none ts i e = ap (run start) (sym (take-append-drop i ts)) ∙ run_both (take i ts) (drop i ts) start ∙ ap (λ (z : Next). go_on z (drop i ts)) e
 
-pub stopped : (ts : List Lexeme) (i : ℕ) (d : Lexeme) (stack : List Symbol) → i < length ts → run start (take i ts) ≡ Some stack → feed stack (kind_of_word (get_or ts i d).word) ≡ None → IsVerdict ts (Some i)
+pub stopped : (ts : List Lexeme) (i : ℕ) (d : Lexeme) (stack : List Symbol) → i < length ts → run start (take i ts) ≡ Some stack
+    → feed stack (kind_of_word (get_or ts i d).word) ≡ None → IsVerdict ts (Some i)
 stopped ts i d stack lt e f =
     let g : run start (take (i + 1) ts) ≡ None = run_more ts i d stack lt e ∙ f in
     (omega arith, ap accepted (run_none ts (i + 1) g), ap (λ (z : Next). is_some z) e, λ h. ap (λ (z : Next). is_some z) g)
@@ -76,11 +79,11 @@ unended ts stack e h =
 
 -- ---- what a verdict says
 
-accepted_text : (ts : List Lexeme) (next : Next) → run start ts ≡ next → accepted next ≡ true → IsText ts
+accepted_text : (ts : List Lexeme) (next : Next) → run start ts ≡ next → accepted next ≡ true → AreOfGrammar ts
 accepted_text ts None e h = absurd cc
 accepted_text ts (Some stack) e h = done_text ts stack e h
 
-refused_text : (ts : List Lexeme) (next : Next) → run start ts ≡ next → accepted next ≡ false → ¬ (IsText ts)
+refused_text : (ts : List Lexeme) (next : Next) → run start ts ≡ next → accepted next ≡ false → ¬ (AreOfGrammar ts)
 refused_text ts None e h text = no_text ts e text
 refused_text ts (Some stack) e h text = open_text ts stack e h text
 
@@ -93,12 +96,12 @@ untaken_front ts None e h = no_front ts e
 untaken_front ts (Some stack) e h = absurd cc
 
 module _ {E : Type 0} (ts : List Lexeme) where
-  pub says_text : (r : Result (Option ℕ) E) → IfOk r (λ fault. IsVerdict ts fault) → IfOk r (λ fault. IfNone fault (IsText ts))
+  pub says_text : (r : Result (Option ℕ) E) → IfOk r (λ fault. IsVerdict ts fault) → IfOk r (λ fault. IfNone fault (AreOfGrammar ts))
   says_text (Ok None) v = accepted_text ts (run start ts) refl v
   says_text (Ok (Some at)) v = tt
   says_text (Err e) v = tt
 
-  pub says_no_text : (r : Result (Option ℕ) E) → IfOk r (λ fault. IsVerdict ts fault) → IfOk r (λ fault. IfSome fault (λ at. ¬ (IsText ts)))
+  pub says_no_text : (r : Result (Option ℕ) E) → IfOk r (λ fault. IsVerdict ts fault) → IfOk r (λ fault. IfSome fault (λ at. ¬ (AreOfGrammar ts)))
   says_no_text (Ok None) v = tt
   says_no_text (Ok (Some at)) v = refused_text ts (run start ts) refl v.1
   says_no_text (Err e) v = tt

@@ -1,4 +1,4 @@
--- The kind of each word.
+-- Working definitions: the kind of each word.
 use Rattle.cw_grammar.specs.declared.words.Word.{Word}
 use Rattle.cw_grammar.specs.declared.words.Word.TheVariants as w
 use Rattle.cw_recogniser.specs.declared.kinds.Kind.{Kind}

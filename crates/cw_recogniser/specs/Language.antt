@@ -6,9 +6,9 @@ use Rattle.cw_grammar.specs.declared.words.Lexeme.{Lexeme}
 use Rattle.cw_grammar.specs.Files.{IsOfGrammar}
 
 -- The tokens derive some file, however deep they nest.
-unfoldable pub IsText : List Lexeme → Type 0
-IsText ts = (file : File) × IsOfGrammar ts file
+unfoldable pub AreOfGrammar : List Lexeme → Type 0
+AreOfGrammar ts = (file : File) × IsOfGrammar ts file
 
 -- Some tokens behind these make a text.
 unfoldable pub IsFront : List Lexeme → Type 0
-IsFront ts = (more : List Lexeme) × IsText (ts ++ more)
+IsFront ts = (more : List Lexeme) × AreOfGrammar (ts ++ more)

@@ -1,4 +1,4 @@
--- The recogniser: a stack of what is still to come.
+-- Working definitions: the recogniser, a stack of what is still to come.
 use Rattle.std.specs.Prelude.{◌≡◌, ℕ, ◌+◌, ◌<◌, ◌≤◌, length, take, is_some, Bool, true, false, ◌&&◌, List, [], ◌∷◌, ◌++◌, reverse, Option, Some, None}
 use Rattle.cw_grammar.specs.declared.words.Lexeme.{Lexeme}
 use Rattle.cw_recogniser.specs.declared.kinds.Kind.{Kind}

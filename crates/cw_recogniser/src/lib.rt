@@ -7,7 +7,5 @@ mod marks;
 mod recogniser;
 mod symbols;
 mod tables;
-#[cfg(test)]
-mod tests;
 
 pub use recogniser::recognise;

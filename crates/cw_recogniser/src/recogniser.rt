@@ -2,7 +2,7 @@
 
 ghost use Rattle.std.specs.Prelude.{◌≡◌, ◌+◌, ◌<◌, ◌≤◌, length, take, reverse, IfOk, IfSome, IfNone};
 ghost use Rattle.std.specs.List.{list_all};
-ghost use Rattle.cw_recogniser.specs.Language.{IsText, IsFront};
+ghost use Rattle.cw_recogniser.specs.Language.{AreOfGrammar, IsFront};
 ghost use Rattle.cw_recogniser.specs.Machine.{may_be_empty, IsVerdict};
 
 use crate::kinds::kind_of;
@@ -42,8 +42,8 @@ fn fault_of(alloc: Global, lexemes: &[Lexeme]) -> Result<Option<usize>, NoMemory
 /// tokens are wanting. Tokens are counted from 0; their places and values aren't looked at. Public source: ISO/IEC 9899:2011,
 /// 6.9 (a translation unit is what the rules of the grammar derive).
 pub fn recognise(alloc: Global, lexemes: &[Lexeme]) -> Result<Option<usize>, NoMemory>
-    ensures text { IfOk result (λ fault. IfNone fault (IsText lexemes.now)) }
-    ensures no_text { IfOk result (λ fault. IfSome fault (λ at. ¬ (IsText lexemes.now))) }
+    ensures text { IfOk result (λ fault. IfNone fault (AreOfGrammar lexemes.now)) }
+    ensures no_text { IfOk result (λ fault. IfSome fault (λ at. ¬ (AreOfGrammar lexemes.now))) }
     ensures within { IfOk result (λ fault. IfSome fault (λ at. at ≤ length lexemes.now)) }
     ensures front { IfOk result (λ fault. IfSome fault (λ at. IsFront (take at lexemes.now))) }
     ensures first { IfOk result (λ fault. IfSome fault (λ at. at < length lexemes.now → ¬ (IsFront (take (at + 1) lexemes.now)))) }

@@ -23,7 +23,8 @@ skips_one text at from s p = record {
 pub word_comes : (text : List ℕ) (at from to : ℕ) → at ≤ from → Skips text at from → IsWordAt text from to → Comes text at from to (word (take (to - from) (drop from text)))
 word_comes text at from to l s p = record {
   first = sym s.same ∙ ap parts p.cut ∙ parts_word p.first p.more (drop to text) p.bytes p.stop ∙ ap (λ w. word w ∷ parts (drop to text)) (sym p.word);
-  placed_first = sym s.same_placed ∙ ap (placed from) p.cut ∙ placed_word from p.first p.more (drop to text) p.bytes p.stop ∙ ap₂ (λ w n. record { at = from; part = word w } ∷ placed n (drop to text)) (sym p.word) (sym p.far);
+  placed_first = sym s.same_placed ∙ ap (placed from) p.cut ∙ placed_word from p.first p.more (drop to text) p.bytes p.stop
+      ∙ ap₂ (λ w n. record { at = from; part = word w } ∷ placed n (drop to text)) (sym p.word) (sym p.far);
   starts = l;
   goes = let f = p.far in omega arith;
   within = p.within;
@@ -32,7 +33,8 @@ word_comes text at from to l s p = record {
 pub mark_comes : (text : List ℕ) (at from : ℕ) (m : Mark) → at ≤ from → from < length text → Skips text at from → IsMarkAt text from m → Comes text at from (from + 1) (mark m)
 mark_comes text at from m l k s p = record {
   first = sym s.same ∙ ap parts p.cut ∙ parts_mark p.byte (drop (from + 1) text) p.no_blank p.no_word ∙ ap (λ x. mark x ∷ parts (drop (from + 1) text)) (sym p.is);
-  placed_first = sym s.same_placed ∙ ap (placed from) p.cut ∙ placed_mark from p.byte (drop (from + 1) text) p.no_blank p.no_word ∙ ap (λ x. record { at = from; part = mark x } ∷ placed (from + 1) (drop (from + 1) text)) (sym p.is);
+  placed_first = sym s.same_placed ∙ ap (placed from) p.cut ∙ placed_mark from p.byte (drop (from + 1) text) p.no_blank p.no_word
+      ∙ ap (λ x. record { at = from; part = mark x } ∷ placed (from + 1) (drop (from + 1) text)) (sym p.is);
   starts = l;
   goes = omega arith;
   within = omega arith;

@@ -4,7 +4,8 @@ use Rattle.std.specs.List.{list_all}
 use Rattle.cw_rights.specs.Valid.{is_name_byte}
 use Rattle.cw_regex.specs.Parts.{Part, word, mark, is_blank, mark_of, begins_word, grown, parts, grown_at, placed}
 use Rattle.cw_regex.specs.Scans.{Apart}
-use Rattle.cw_regex.proofs.Bools.{or_cases, and_left, and_right, which}
+use Rattle.cw_rights.proofs.Bools.{or_cases, and_left, and_right}
+use Rattle.cw_regex.proofs.Bools.{which}
 
 -- a byte of a word is no blank
 pub word_no_blank : (b : ℕ) → is_name_byte b ≡ true → is_blank b ≡ false
@@ -12,7 +13,8 @@ word_no_blank b e = by (which (is_blank b))
   where
     by : (is_blank b ≡ true) ⊎ (is_blank b ≡ false) → is_blank b ≡ false
     by (inr f) = f
-    by (inl f) = ⊎_elim (λ x. let z : is_name_byte 32 ≡ true = subst (λ n. is_name_byte n ≡ true) (eqb-true b 32 x) e in absurd (cc)) (λ x. let z : is_name_byte 9 ≡ true = subst (λ n. is_name_byte n ≡ true) (eqb-true b 9 x) e in absurd (cc)) (or_cases (nat_eq b 32) (nat_eq b 9) f)
+    by (inl f) = ⊎_elim (λ x. let z : is_name_byte 32 ≡ true = subst (λ n. is_name_byte n ≡ true) (eqb-true b 32 x) e in
+        absurd (cc)) (λ x. let z : is_name_byte 9 ≡ true = subst (λ n. is_name_byte n ≡ true) (eqb-true b 9 x) e in absurd (cc)) (or_cases (nat_eq b 32) (nat_eq b 9) f)
 
 pub parts_blank : (b : ℕ) (t : List ℕ) → is_blank b ≡ true → parts (b ∷ t) ≡ parts t
 parts_blank b t e = rw e refl
@@ -40,13 +42,15 @@ placed_mark n b t e f = rw (e, f) refl
 placed_byte : (n b : ℕ) (t : List ℕ) → is_name_byte b ≡ true → placed n (b ∷ t) ≡ grown_at n b (begins_word t) (placed (n + 1) t)
 placed_byte n b t e = let f = word_no_blank b e in rw (f, e) refl
 
-pub placed_word : (n b : ℕ) (w t : List ℕ) → list_all is_name_byte (b ∷ w) ≡ true → begins_word t ≡ false → placed n ((b ∷ w) ++ t) ≡ record { at = n; part = word (b ∷ w) } ∷ placed (n + length (b ∷ w)) t
+pub placed_word : (n b : ℕ) (w t : List ℕ) → list_all is_name_byte (b ∷ w) ≡ true → begins_word t ≡ false →
+    placed n ((b ∷ w) ++ t) ≡ record { at = n; part = word (b ∷ w) } ∷ placed (n + length (b ∷ w)) t
 placed_word n b [] t a e = placed_byte n b t (and_left (is_name_byte b) true a) ∙ rw e refl
 placed_word n b (c ∷ w) t a e =
     let more : list_all is_name_byte (c ∷ w) ≡ true = and_right (is_name_byte b) (list_all is_name_byte (c ∷ w)) a in
     let first : is_name_byte c ≡ true = and_left (is_name_byte c) (list_all is_name_byte w) more in
     let far : (n + 1) + length (c ∷ w) ≡ n + length (b ∷ (c ∷ w)) = omega arith in
-    placed_byte n b ((c ∷ w) ++ t) (and_left (is_name_byte b) (list_all is_name_byte (c ∷ w)) a) ∙ ap₂ (grown_at n b) first (placed_word (n + 1) c w t more e ∙ ap (λ m. record { at = n + 1; part = word (c ∷ w) } ∷ placed m t) far)
+    placed_byte n b ((c ∷ w) ++ t) (and_left (is_name_byte b) (list_all is_name_byte (c ∷ w)) a) ∙ ap₂ (grown_at n b) first (placed_word (n + 1) c w t more e
+    ∙ ap (λ m. record { at = n + 1; part = word (c ∷ w) } ∷ placed m t) far)
 
 -- a text that begins with a word byte has a word first
 begins_is : (c : ℕ) (s : List ℕ) → is_name_byte c ≡ true → (w : List ℕ) × (ps : List Part) × (parts (c ∷ s) ≡ word w ∷ ps)
@@ -66,7 +70,8 @@ pub parts_cut : (s t : List ℕ) → Apart s t → parts (s ++ t) ≡ parts s ++
 parts_cut [] t a = refl
 parts_cut (b ∷ s) t a = by (which (is_blank b)) (which (is_name_byte b)) s a (parts_cut s t)
   where
-    by : (is_blank b ≡ true) ⊎ (is_blank b ≡ false) → (is_name_byte b ≡ true) ⊎ (is_name_byte b ≡ false) → (s : List ℕ) → Apart (b ∷ s) t → (Apart s t → parts (s ++ t) ≡ parts s ++ parts t) → parts (b ∷ (s ++ t)) ≡ parts (b ∷ s) ++ parts t
+    by : (is_blank b ≡ true) ⊎ (is_blank b ≡ false) → (is_name_byte b ≡ true) ⊎ (is_name_byte b ≡ false) → (s : List ℕ) → Apart (b ∷ s) t →
+        (Apart s t → parts (s ++ t) ≡ parts s ++ parts t) → parts (b ∷ (s ++ t)) ≡ parts (b ∷ s) ++ parts t
     by (inl e) m [] a rec = parts_blank b t e ∙ ap (λ ps. ps ++ parts t) (sym (parts_blank b [] e))
     by (inl e) m (c ∷ s) a rec = parts_blank b ((c ∷ s) ++ t) e ∙ rec a ∙ ap (λ ps. ps ++ parts t) (sym (parts_blank b (c ∷ s) e))
     by (inr e) (inr f) [] a rec = parts_mark b t e f ∙ ap (λ ps. ps ++ parts t) (sym (parts_mark b [] e f))

@@ -2,7 +2,9 @@
 use Rattle.std.proofs.Common.{◌≡◌, ℕ, ◌+◌, ◌-◌, ◌≤◌, ◌<◌, max, List, [], ◌∷◌, Bool, true, false, Option, Some, None, refl, ap, ◌∙◌, arith}
 use Rattle.cw_regex.specs.declared.text.Mark.TheVariants.{ParenClose, Bar, Star, Plus, Question}
 use Rattle.cw_regex.specs.Parts.{Part, mark, parts}
-use Rattle.cw_regex.specs.Grammar.{Name, Subject, ambient, holds, TestForm, Expression, only, either, Term, single, then, Factor, plain, star, plus, maybe, Atom, literal, group, spelled_subject, spelled_if, spelled_test, spelled_more, spelled_tests, spelled_label, spelled, spelled_term, spelled_factor, spelled_atom, depth, depth_term, depth_factor, depth_atom, Spells, IsExpression}
+use Rattle.cw_regex.specs.Grammar.{Name, Subject, ambient, holds, TestForm, Expression, only, either, Term, single, then, Factor, plain, star, plus, maybe, Atom, literal, group}
+use Rattle.cw_regex.specs.Grammar.{spelled_subject, spelled_if, spelled_test, spelled_more, spelled_tests, spelled_label, spelled, spelled_term, spelled_factor, spelled_atom, depth}
+use Rattle.cw_regex.specs.Grammar.{depth_term, depth_factor, depth_atom, Spells, IsExpression}
 use Rattle.cw_regex.specs.Machine.{deepest}
 use Rattle.cw_regex.specs.Causes.{IsShallow, IsDeep, IsUnknown, IsRegexFault, fault_of}
 use Rattle.cw_regex.specs.declared.unknown.Unknown.{Unknown}
@@ -44,11 +46,13 @@ flat d x z a b = omega arith
 mutual
   pub in_expression : (d : ℕ) (e : Expression) (rest : List Part) → deepest d (spelled e rest) ≡ max (d + depth e) (deepest d rest)
   in_expression d (only t) rest = in_term d t rest
-  in_expression d (either t e) rest = joined d (depth_term t) (depth e) (deepest d (spelled_term t (mark Bar ∷ spelled e rest))) (deepest d (spelled e rest)) (deepest d rest) (in_term d t (mark Bar ∷ spelled e rest)) (in_expression d e rest)
+  in_expression d (either t e) rest = joined d (depth_term t) (depth e) (deepest d (spelled_term t (mark Bar ∷ spelled e rest))) (deepest d (spelled e rest)) (deepest d rest)
+      (in_term d t (mark Bar ∷ spelled e rest)) (in_expression d e rest)
 
   in_term : (d : ℕ) (t : Term) (rest : List Part) → deepest d (spelled_term t rest) ≡ max (d + depth_term t) (deepest d rest)
   in_term d (single f) rest = in_factor d f rest
-  in_term d (then f t) rest = joined d (depth_factor f) (depth_term t) (deepest d (spelled_factor f (spelled_term t rest))) (deepest d (spelled_term t rest)) (deepest d rest) (in_factor d f (spelled_term t rest)) (in_term d t rest)
+  in_term d (then f t) rest = joined d (depth_factor f) (depth_term t) (deepest d (spelled_factor f (spelled_term t rest))) (deepest d (spelled_term t rest)) (deepest d rest)
+      (in_factor d f (spelled_term t rest)) (in_term d t rest)
 
   in_factor : (d : ℕ) (f : Factor) (rest : List Part) → deepest d (spelled_factor f rest) ≡ max (d + depth_factor f) (deepest d rest)
   in_factor d (plain a) rest = in_atom d a rest
@@ -57,7 +61,8 @@ mutual
   in_factor d (maybe a) rest = in_atom d a (mark Question ∷ rest)
 
   in_atom : (d : ℕ) (a : Atom) (rest : List Part) → deepest d (spelled_atom a rest) ≡ max (d + depth_atom a) (deepest d rest)
-  in_atom d (literal label ts) rest = flat d (deepest d (spelled_label label (spelled_tests ts rest))) (deepest d rest) (in_label d label (spelled_tests ts rest) ∙ in_tests d ts rest) (deepest_least rest d)
+  in_atom d (literal label ts) rest = flat d (deepest d (spelled_label label (spelled_tests ts rest))) (deepest d rest) (in_label d label (spelled_tests ts rest)
+      ∙ in_tests d ts rest) (deepest_least rest d)
   in_atom d (group e) rest =
       let k : d + 1 - 1 ≡ d = omega arith in
       let m = in_expression (d + 1) e (mark ParenClose ∷ rest) ∙ ap (λ n. max (d + 1 + depth e) (max (d + 1) (deepest n rest))) k in
@@ -72,6 +77,6 @@ shallow text n h l e s = let k = depth_is text e s in omega arith
 pub deep : (text : List ℕ) (n : ℕ) → deepest 0 (parts text) ≡ n → 64 < n → IsDeep text
 deep text n h l e s = let k = depth_is text e s in omega arith
 
-pub unknown_is : (names : List (List ℕ)) (text : List ℕ) (u : Unknown) → IsExpression text → IsShallow text → IsUnknown names text u → IsRegexFault names text (fault_of u)
-unknown_is names text (Descriptor n) e s u = (e, s, u)
-unknown_is names text (Right n) e s u = (e, s, u)
+pub unknown_is : (format : ℕ) (names : List (List ℕ)) (text : List ℕ) (u : Unknown) → IsExpression text → IsShallow text → IsUnknown format names text u → IsRegexFault format names text (fault_of u)
+unknown_is format names text (Descriptor n) e s u = (e, s, u)
+unknown_is format names text (Right n) e s u = (e, s, u)

@@ -1,5 +1,6 @@
 -- A front that runs goes on to a whole text.
-use Rattle.std.proofs.Common.{◌≡◌, ◌⊎◌, inl, inr, ℕ, zero, suc, List, [], ◌∷◌, ◌++◌, Bool, true, false, ◌&&◌, Option, Some, None, option_and_then, refl, sym, ap, ap₂, ◌∙◌, subst, add-one, append-nil, nat_eq, eqb-true}
+use Rattle.std.proofs.Common.{◌≡◌, ◌⊎◌, inl, inr, ℕ, zero, suc, List, [], ◌∷◌, ◌++◌, Bool, true, false, ◌&&◌, Option, Some, None, option_and_then, refl, sym, ap, ap₂, ◌∙◌, subst, add-one}
+use Rattle.std.proofs.Common.{append-nil, nat_eq, eqb-true}
 use Rattle.std.specs.Option.{option_map}
 use Rattle.std.specs.Str.{bytes_eq}
 use Rattle.std.proofs.lemmas.Slice.Eq.{bytes_eq-Decides}
@@ -11,7 +12,8 @@ use Rattle.cw_regex.specs.declared.phase.Phase.TheVariants.{Begin, Label, Whole,
 use Rattle.cw_regex.specs.Parts.{Part, word, mark, begins_word, parts, starts_blank, ends_blank}
 use Rattle.cw_regex.specs.Grammar.{is_descriptor, amb, Name, DescriptorName, Subject, ambient, holds, TestForm, spelled_subject, spelled_test, IsExpression, IsTest}
 use Rattle.cw_regex.specs.Machine.{in_test, step_word, is_end, is_test_end, step, run, start, ends_here, In}
-use Rattle.cw_regex.proofs.Bools.{which, and_left, and_right, and_both}
+use Rattle.cw_rights.proofs.Bools.{and_left, and_right, and_both}
+use Rattle.cw_regex.proofs.Bools.{which}
 use Rattle.cw_regex.proofs.Cutting.{parts_cut}
 use Rattle.cw_regex.specs.Scans.{ends_word, Apart, May}
 use Rattle.cw_regex.proofs.Running.{after_subject, after, expression_end, run_word, run_expression, run_test, run_close}
@@ -29,7 +31,8 @@ run_append alone [] ys q r d e h =
     ap (λ (a : At). run alone a.0 a.1 ys) p
 run_append alone (p ∷ xs) ys q r d e h = by (step alone q d p) (λ a. run_append alone xs ys a.0 r a.1 e) h
   where
-    by : (o : Option At) → ((a : At) → run alone a.0 a.1 xs ≡ Some (r, e) → run alone a.0 a.1 (xs ++ ys) ≡ run alone r e ys) → option_and_then (λ (a : At). run alone a.0 a.1 xs) o ≡ Some (r, e) → option_and_then (λ (a : At). run alone a.0 a.1 (xs ++ ys)) o ≡ run alone r e ys
+    by : (o : Option At) → ((a : At) → run alone a.0 a.1 xs ≡ Some (r, e) → run alone a.0 a.1 (xs ++ ys) ≡ run alone r e ys) →
+        option_and_then (λ (a : At). run alone a.0 a.1 xs) o ≡ Some (r, e) → option_and_then (λ (a : At). run alone a.0 a.1 (xs ++ ys)) o ≡ run alone r e ys
     by None rec h = absurd (cc)
     by (Some a) rec h = rec a h
 
@@ -178,7 +181,8 @@ front_expression s q d b h =
     let cut = parts_cut s more (apart_begins s more (tail_begins q (closing d))) in
     let within = parts_cut (tail q) (closing d) (apart_ends (tail q) (closing d) (tail_apart q)) in
     let x = closing_runs (closed_by q) d (closed_end q) in
-    let goes : run false Begin 0 (parts (s ++ more)) ≡ Some (x.0, 0) = ap (run false Begin 0) cut ∙ run_append false (parts s) (parts more) Begin q 0 d h ∙ ap (run false q d) within ∙ run_append false (parts (tail q)) (parts (closing d)) q (closed_by q) d d (tail_runs q d) ∙ x.1 in
+    let goes : run false Begin 0 (parts (s ++ more)) ≡ Some (x.0, 0) = ap (run false Begin 0) cut ∙ run_append false (parts s) (parts more) Begin q 0 d h ∙ ap (run false q d) within
+    ∙ run_append false (parts (tail q)) (parts (closing d)) q (closed_by q) d d (tail_runs q d) ∙ x.1 in
     let e = parsed (parts (s ++ more)) (x.0, goes, x.2) in
     let t = some_tail q (closing d) in (
       more,
@@ -186,7 +190,8 @@ front_expression s q d b h =
         e.0,
         record {
           parts = e.1;
-          front = starts_append s more b (λ n. let z : Begin ≡ q = (same_end Begin q 0 d (run false Begin 0 (parts [])) refl (subst (λ l. run false Begin 0 (parts l) ≡ Some (q, d)) n h)).0 in subst (λ p. starts_blank (tail p ++ closing d) ≡ false) z refl);
+          front = starts_append s more b (λ n. let z : Begin ≡ q = (same_end Begin q 0 d (run false Begin 0 (parts [])) refl (subst (λ l. run false Begin 0 (parts l) ≡ Some (q, d)) n h)).0
+              in subst (λ p. starts_blank (tail p ++ closing d) ≡ false) z refl);
           back = ap (λ l. ends_blank (s ++ l)) t.2 ∙ ends_append s t.0 t.1 ∙ ap ends_blank (sym t.2) ∙ both_end q d;
         },
       ),
@@ -231,7 +236,8 @@ alone_right d [] h = let z = alone_nil Colon d h in absurd (cc)
 alone_right d (word w ∷ rest) h = by (which (is_name w))
   where
     by : (is_name w ≡ true) ⊎ (is_name w ≡ false) → (r : Name) × (word w ∷ rest ≡ word r.bytes ∷ [])
-    by (inl e) = let name : Name = record { bytes = w; ok = e } in (name, ap (λ l. word w ∷ l) (last_right d rest (alone_by Colon Right d d (word w ∷ rest) rest (run_word true Colon Right d w rest (rw e refl)) h)))
+    by (inl e) = let name : Name = record { bytes = w; ok = e } in
+        (name, ap (λ l. word w ∷ l) (last_right d rest (alone_by Colon Right d d (word w ∷ rest) rest (run_word true Colon Right d w rest (rw e refl)) h)))
     by (inr e) = let dead : run true Colon d (word w ∷ rest) ≡ None = rw e refl in absurd (none_alone Colon d (word w ∷ rest) dead h)
 alone_right d (mark Dot ∷ rest) h = absurd (let e = h.2 in cc)
 alone_right d (mark ParenOpen ∷ rest) h = absurd (let e = h.2 in cc)
@@ -361,7 +367,8 @@ in_stays r w h = by (which (bytes_eq w amb)) (which (is_descriptor w)) h
   where
     by : (bytes_eq w amb ≡ true) ⊎ (bytes_eq w amb ≡ false) → (is_descriptor w ≡ true) ⊎ (is_descriptor w ≡ false) → in_test w ≡ Some r → is_in_test r ≡ true
     by (inl e) f k = let x : in_test w ≡ Some Ambient = rw e refl in let y : Some Ambient ≡ Some r = sym x ∙ k in let z : Ambient ≡ r = cc in subst (λ x. is_in_test x ≡ true) z refl
-    by (inr e) (inl f) k = let x : in_test w ≡ Some Descriptor = rw (e, f) refl in let y : Some Descriptor ≡ Some r = sym x ∙ k in let z : Descriptor ≡ r = cc in subst (λ x. is_in_test x ≡ true) z refl
+    by (inr e) (inl f) k = let x : in_test w ≡ Some Descriptor = rw (e, f) refl in let y : Some Descriptor ≡ Some r = sym x ∙ k in let z : Descriptor ≡ r = cc in
+        subst (λ x. is_in_test x ≡ true) z refl
     by (inr e) (inr f) k = let x : in_test w ≡ None = rw (e, f) refl in absurd (cc)
 
 word_stays : (q r : Phase) (w : List ℕ) → is_in_test q ≡ true → step_word q w ≡ Some r → is_in_test r ≡ true
@@ -476,7 +483,8 @@ pub stays : (ps : List Part) (q r : Phase) (d e : ℕ) → is_in_test q ≡ true
 stays [] q r d e t h = subst (λ x. is_in_test x ≡ true) (same_end q r d e (Some (q, d)) refl h).0 t
 stays (p ∷ ps) q r d e t h = by (step true q d p) refl (λ (a : At) k. stays ps a.0 r a.1 e k) h
   where
-    by : (o : Option At) → step true q d p ≡ o → ((a : At) → is_in_test a.0 ≡ true → run true a.0 a.1 ps ≡ Some (r, e) → is_in_test r ≡ true) → option_and_then (λ (a : At). run true a.0 a.1 ps) o ≡ Some (r, e) → is_in_test r ≡ true
+    by : (o : Option At) → step true q d p ≡ o → ((a : At) → is_in_test a.0 ≡ true → run true a.0 a.1 ps ≡ Some (r, e) → is_in_test r ≡ true) →
+        option_and_then (λ (a : At). run true a.0 a.1 ps) o ≡ Some (r, e) → is_in_test r ≡ true
     by None f rec k = absurd (cc)
     by (Some a) f rec k = rec a (part_stays q d p a t f) k
 
@@ -540,12 +548,14 @@ pub front_of : (alone : Bool) (s : List ℕ) (q : Phase) (d : ℕ) → starts_bl
 front_of true s q d b h m = front_test s q d b h (m refl)
 front_of false s q d b h m = front_expression s q d b h
 
-pub runs : (alone : Bool) (text : List ℕ) → In alone text → (z : Phase) × (run alone (start alone) 0 (parts text) ≡ Some (z, 0)) × (ends_here alone z 0 ≡ true) × (starts_blank text ≡ false) × (ends_blank text ≡ false)
+pub runs : (alone : Bool) (text : List ℕ) → In alone text → (z : Phase) × (run alone (start alone) 0 (parts text) ≡ Some (z, 0)) × (ends_here alone z 0 ≡ true) × (starts_blank text ≡ false)
+    × (ends_blank text ≡ false)
 runs true text x = let y = test_runs text x in (y.0, y.1, y.2, x.1.front, x.1.back)
 runs false text x = let y = expression_runs text x in (y.0, y.1, and_both (is_end y.0) true y.2 refl, x.1.front, x.1.back)
 
 -- a text that runs to an end is in the language
-pub accepted : (alone : Bool) (text : List ℕ) (q : Phase) (d : ℕ) → run alone (start alone) 0 (parts text) ≡ Some (q, d) → ends_here alone q d ≡ true → starts_blank text ≡ false → ends_blank text ≡ false → In alone text
+pub accepted : (alone : Bool) (text : List ℕ) (q : Phase) (d : ℕ) → run alone (start alone) 0 (parts text) ≡ Some (q, d) → ends_here alone q d ≡ true → starts_blank text ≡ false →
+    ends_blank text ≡ false → In alone text
 accepted true text q d h e f b = let x = alone_test 0 (parts text) (q, d, h, e) in (x.0, record { parts = x.1; front = f; back = b })
 accepted false text q d h e f b =
     let zero' : d ≡ 0 = eqb-true d 0 (and_right (is_end q) (nat_eq d 0) e) in
@@ -561,10 +571,12 @@ rejected alone text q d h e x =
     absurd (cc)
 
 -- where a part doesn't go on, nothing does
-pub stuck_part : (alone : Bool) (s t : List ℕ) (q : Phase) (d : ℕ) (p : Part) (ps : List Part) → Apart s t → run alone (start alone) 0 (parts s) ≡ Some (q, d) → parts t ≡ p ∷ ps → step alone q d p ≡ None → In alone (s ++ t) → ⊥
+pub stuck_part : (alone : Bool) (s t : List ℕ) (q : Phase) (d : ℕ) (p : Part) (ps : List Part) → Apart s t → run alone (start alone) 0 (parts s) ≡ Some (q, d) → parts t ≡ p ∷ ps →
+    step alone q d p ≡ None → In alone (s ++ t) → ⊥
 stuck_part alone s t q d p ps a h e n x =
     let y = runs alone (s ++ t) x in
-    let goes : run alone (start alone) 0 (parts (s ++ t)) ≡ run alone q d (p ∷ ps) = ap (run alone (start alone) 0) (parts_cut s t a ∙ ap (λ l. parts s ++ l) e) ∙ run_append alone (parts s) (p ∷ ps) (start alone) q 0 d h in
+    let goes : run alone (start alone) 0 (parts (s ++ t)) ≡ run alone q d (p ∷ ps) = ap (run alone (start alone) 0) (parts_cut s t a ∙ ap (λ l. parts s ++ l) e)
+    ∙ run_append alone (parts s) (p ∷ ps) (start alone) q 0 d h in
     let stops : run alone q d (p ∷ ps) ≡ None = ap (λ (o : Option At). option_and_then (λ (a : At). run alone a.0 a.1 ps) o) n in
     let a' : At = (y.0, 0) in
     let z : None ≡ Some a' = sym (goes ∙ stops) ∙ y.1 in

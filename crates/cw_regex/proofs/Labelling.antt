@@ -2,7 +2,8 @@
 use Rattle.std.proofs.Common.{◌≡◌, List, [], ◌∷◌, Bool, true, false, Option, Some, None, refl, ap, ◌∙◌}
 use Rattle.cw_regex.specs.declared.text.Mark.TheVariants.{ParenClose, Bar, Star, Plus, Question}
 use Rattle.cw_regex.specs.Parts.{Part, mark}
-use Rattle.cw_regex.specs.Grammar.{Name, Subject, ambient, holds, TestForm, Expression, only, either, Term, single, then, Factor, plain, star, plus, maybe, Atom, literal, group, spelled_subject, spelled_if, spelled_test, spelled_more, spelled_tests, spelled_label, spelled, spelled_term, spelled_factor, spelled_atom}
+use Rattle.cw_regex.specs.Grammar.{Name, Subject, ambient, holds, TestForm, Expression, only, either, Term, single, then, Factor, plain, star, plus, maybe, Atom, literal, group}
+use Rattle.cw_regex.specs.Grammar.{spelled_subject, spelled_if, spelled_test, spelled_more, spelled_tests, spelled_label, spelled, spelled_term, spelled_factor, spelled_atom}
 use Rattle.cw_regex.specs.Meaning.{named_label, labels_of, labels_of_term, labels_of_factor, labels_of_atom, labels_in}
 
 in_subject : (s : Subject) (rest : List Part) → labels_in true (spelled_subject s rest) ≡ labels_in true rest

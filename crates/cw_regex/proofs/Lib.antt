@@ -1,4 +1,5 @@
 -- The proofs.
+pub mod Adding
 pub mod Bools
 pub mod Built
 pub mod Comings

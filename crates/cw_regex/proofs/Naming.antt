@@ -17,7 +17,8 @@ names_append (x ∷ keys) k = ap (λ l. x.items ∷ l) (names_append keys k)
 pub known_name : (keys : List (Vec ℕ Global)) (w : List ℕ) → list_any (λ k. bytes_eq w k.items) keys ≡ true → names_in keys ≡ with_name (names_in keys) w
 known_name keys w e = let f = sym (any_name keys w) ∙ e in rw f refl
 
-pub new_name : (keys new : List (Vec ℕ Global)) (k : Vec ℕ Global) (w : List ℕ) → new ≡ cond (list_any (λ x. bytes_eq k.items x.items) keys) keys (keys ++ k ∷ []) → k.items ≡ w → names_in new ≡ with_name (names_in keys) w
+pub new_name : (keys new : List (Vec ℕ Global)) (k : Vec ℕ Global) (w : List ℕ) → new ≡ cond (list_any (λ x. bytes_eq k.items x.items) keys) keys (keys ++ k ∷ []) → k.items ≡ w →
+    names_in new ≡ with_name (names_in keys) w
 new_name keys new k w e f = ap names_in e ∙ by (list_any (λ x. bytes_eq k.items x.items) keys) refl
   where
     by : (b : Bool) → list_any (λ x. bytes_eq k.items x.items) keys ≡ b → names_in (cond b keys (keys ++ k ∷ [])) ≡ with_name (names_in keys) w

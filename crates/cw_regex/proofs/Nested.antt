@@ -1,7 +1,8 @@
 -- The tree of an expression nests no deeper than its parentheses do.
 use Rattle.std.proofs.Common.{◌≡◌, ℕ, ◌+◌, ◌≤◌, max, List, [], ◌∷◌, ap, arith}
 use Rattle.cw_rights.specs.Trees.{Tree, nothing, never, one, seq, alt, star as star_of, plus as plus_of, maybe as maybe_of, in_seq, in_alt, in_body, nesting}
-use Rattle.cw_regex.specs.Grammar.{Expression, only, either, Term, single, then, Factor, plain, star, plus, maybe, Atom, literal, group, depth, depth_term, depth_factor, depth_atom, Spells, IsExpression}
+use Rattle.cw_regex.specs.Grammar.{Expression, only, either, Term, single, then, Factor, plain, star, plus, maybe, Atom, literal, group, depth, depth_term, depth_factor, depth_atom, Spells}
+use Rattle.cw_regex.specs.Grammar.{IsExpression}
 use Rattle.cw_regex.specs.Meaning.{chain_seq, chain_alt, joined_seq, joined_alt, terms, factors, factor_meaning, atom_meaning, meaning}
 use Rattle.cw_regex.specs.Causes.{IsShallow}
 
@@ -52,30 +53,33 @@ more_terms : (t : Tree) (ts : List Tree) (m n : ℕ) → in_alt t + nesting t �
 more_terms t [] m n a f = record { chain = omega arith; alone = omega arith }
 more_terms t (u ∷ ts) m n a f = let c : nesting (chain_alt (u ∷ ts)) ≤ n = f.chain in record { chain = omega arith; alone = omega arith }
 
-module _ (labels descriptors : List (List ℕ)) where
+module _ (format : ℕ) (labels descriptors : List (List ℕ)) where
   mutual
-    nested : (e : Expression) → Terms (terms labels descriptors e) (depth e)
-    nested (only t) = last_term (joined_seq (factors labels descriptors t)) (depth_term t) (nested_term t).alone
-    nested (either t e) = more_terms (joined_seq (factors labels descriptors t)) (terms labels descriptors e) (depth_term t) (depth e) (nested_term t).alone (nested e)
+    nested : (e : Expression) → Terms (terms format labels descriptors e) (depth e)
+    nested (only t) = last_term (joined_seq (factors format labels descriptors t)) (depth_term t) (nested_term t).alone
+    nested (either t e) = more_terms (joined_seq (factors format labels descriptors t)) (terms format labels descriptors e) (depth_term t) (depth e) (nested_term t).alone (nested e)
 
-    nested_term : (t : Term) → Factors (factors labels descriptors t) (depth_term t)
-    nested_term (single f) = last_factor (factor_meaning labels descriptors f) (depth_factor f) (nested_factor f)
-    nested_term (then f t) = more_factors (factor_meaning labels descriptors f) (factors labels descriptors t) (depth_factor f) (depth_term t) (nested_factor f) (nested_term t)
+    nested_term : (t : Term) → Factors (factors format labels descriptors t) (depth_term t)
+    nested_term (single f) = last_factor (factor_meaning format labels descriptors f) (depth_factor f) (nested_factor f)
+    nested_term (then f t) = more_factors (factor_meaning format labels descriptors f) (factors format labels descriptors t) (depth_factor f) (depth_term t) (nested_factor f) (nested_term t)
 
-    nested_factor : (f : Factor) → Part (factor_meaning labels descriptors f) (depth_factor f)
+    nested_factor : (f : Factor) → Part (factor_meaning format labels descriptors f) (depth_factor f)
     nested_factor (plain a) = let x = nested_atom a in record { sequence = x.sequence; alternative = x.alternative }
-    nested_factor (star a) = let x = bare (in_body (atom_meaning labels descriptors a) + nesting (atom_meaning labels descriptors a)) (depth_atom a) (nested_atom a).body in record { sequence = x; alternative = x }
-    nested_factor (plus a) = let x = bare (in_body (atom_meaning labels descriptors a) + nesting (atom_meaning labels descriptors a)) (depth_atom a) (nested_atom a).body in record { sequence = x; alternative = x }
-    nested_factor (maybe a) = let x = bare (in_body (atom_meaning labels descriptors a) + nesting (atom_meaning labels descriptors a)) (depth_atom a) (nested_atom a).body in record { sequence = x; alternative = x }
+    nested_factor (star a) = let x = bare (in_body (atom_meaning format labels descriptors a) + nesting (atom_meaning format labels descriptors a)) (depth_atom a) (nested_atom a).body in
+        record { sequence = x; alternative = x }
+    nested_factor (plus a) = let x = bare (in_body (atom_meaning format labels descriptors a) + nesting (atom_meaning format labels descriptors a)) (depth_atom a) (nested_atom a).body in
+        record { sequence = x; alternative = x }
+    nested_factor (maybe a) = let x = bare (in_body (atom_meaning format labels descriptors a) + nesting (atom_meaning format labels descriptors a)) (depth_atom a) (nested_atom a).body in
+        record { sequence = x; alternative = x }
 
-    nested_atom : (a : Atom) → Fits (atom_meaning labels descriptors a) (depth_atom a)
+    nested_atom : (a : Atom) → Fits (atom_meaning format labels descriptors a) (depth_atom a)
     nested_atom (literal label tests) = record { sequence = omega arith; alternative = omega arith; body = omega arith }
-    nested_atom (group e) = one_more (joined_alt (terms labels descriptors e)) (depth e) (nested e).alone
+    nested_atom (group e) = one_more (joined_alt (terms format labels descriptors e)) (depth e) (nested e).alone
 
   -- and the tree of a shallow text at most 64 deep
-  pub nests : (text : List ℕ) (t : Tree) → IsExpression text → IsShallow text → ((e : Expression) → Spells text e → t ≡ meaning labels descriptors e) → nesting t ≤ 64
+  pub nests : (text : List ℕ) (t : Tree) → IsExpression text → IsShallow text → ((e : Expression) → Spells text e → t ≡ meaning format labels descriptors e) → nesting t ≤ 64
   nests text t (e, s) l means =
-      let m : nesting t ≡ nesting (meaning labels descriptors e) = ap nesting (means e s) in
-      let n : nesting (meaning labels descriptors e) ≤ depth e = (nested e).alone in
+      let m : nesting t ≡ nesting (meaning format labels descriptors e) = ap nesting (means e s) in
+      let n : nesting (meaning format labels descriptors e) ≤ depth e = (nested e).alone in
       let k : depth e ≤ 64 = l e s in
       omega arith

@@ -19,7 +19,8 @@ drop_end (x ∷ l) zero h = absurd (omega arith)
 drop_end (x ∷ l) (suc n) h = drop_end l n (omega arith)
 
 -- the search ends at a name, or at the end of the list
-pub found_here : (ds : List Descriptor) (d : Descriptor) (rest : List Descriptor) (w : List ℕ) (i : ℕ) → ds ≡ d ∷ rest → bytes_eq w d.name.items ≡ true → (o : Option ℕ) → position_from (bytes_eq w) i (names_of ds) ≡ o → i ≡ unwrap_or o 0
+pub found_here : (ds : List Descriptor) (d : Descriptor) (rest : List Descriptor) (w : List ℕ) (i : ℕ) → ds ≡ d ∷ rest → bytes_eq w d.name.items ≡ true → (o : Option ℕ) →
+    position_from (bytes_eq w) i (names_of ds) ≡ o → i ≡ unwrap_or o 0
 found_here ds d rest w i e f o h =
     let z : position_from (bytes_eq w) i (names_of ds) ≡ Some i = ap (λ l. position_from (bytes_eq w) i (names_of l)) e ∙ rw f refl in
     ap (λ x. unwrap_or x 0) (sym z ∙ h)

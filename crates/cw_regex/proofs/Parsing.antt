@@ -8,7 +8,9 @@ use Rattle.cw_regex.specs.declared.text.Mark.TheVariants.{Dot, ParenOpen, ParenC
 use Rattle.cw_regex.specs.declared.phase.Phase.{Phase}
 use Rattle.cw_regex.specs.declared.phase.Phase.TheVariants.{Begin, Label, Whole, Repeated, Test, Negated, Ambient, Descriptor, Colon, Right}
 use Rattle.cw_regex.specs.Parts.{Part, word, mark}
-use Rattle.cw_regex.specs.Grammar.{is_descriptor, amb, Name, DescriptorName, Subject, ambient, holds, TestForm, Expression, only, either, Term, single, then, Factor, plain, star, plus, maybe, Atom, literal, group, spelled_subject, spelled_if, spelled_test, spelled_more, spelled_tests, spelled_label, spelled, spelled_term, spelled_factor, spelled_atom}
+use Rattle.cw_regex.specs.Grammar.{is_descriptor, amb, Name, DescriptorName, Subject, ambient, holds, TestForm, Expression, only, either, Term, single, then, Factor, plain, star, plus}
+use Rattle.cw_regex.specs.Grammar.{maybe, Atom, literal, group, spelled_subject, spelled_if, spelled_test, spelled_more, spelled_tests, spelled_label, spelled, spelled_term, spelled_factor}
+use Rattle.cw_regex.specs.Grammar.{spelled_atom}
 use Rattle.cw_regex.specs.Machine.{is_test_start, in_test, step_word, takes_atom, is_end, run}
 use Rattle.cw_regex.specs.Tokens.{begins_bracket, Settled}
 use Rattle.cw_regex.proofs.Bools.{which}
@@ -254,7 +256,8 @@ abbrev AtomRead : ℕ → List Part → Type 0
 AtomRead d ps = (a : Atom) × (rest : List Part) × (ps ≡ spelled_atom a rest) × Good (after_atom a) d rest × ((is_label (after_atom a) && begins_bracket rest) ≡ false)
 
 abbrev TestsRead : Option Name → ℕ → List Part → Type 0
-TestsRead label d ps = (ts : List TestForm) × (rest : List Part) × (ps ≡ spelled_tests ts rest) × Good (after_atom (literal label ts)) d rest × ((is_label (after_atom (literal label ts)) && begins_bracket rest) ≡ false)
+TestsRead label d ps = (ts : List TestForm) × (rest : List Part) × (ps ≡ spelled_tests ts rest) × Good (after_atom (literal label ts)) d rest ×
+    ((is_label (after_atom (literal label ts)) && begins_bracket rest) ≡ false)
 
 read_tests : (label : Option Name) (d : ℕ) (ps : List Part) → Good Label d ps → TestsRead label d ps
 read_tests label d [] h = ([], [], refl, h, refl)
@@ -360,7 +363,8 @@ next_of Right d (mark m ∷ rest) e h r b = absurd (cc)
 
 -- a factor, and that no repetition and no bracket follows
 abbrev FactorRead : ℕ → List Part → Type 0
-FactorRead d ps = (f : Factor) × (rest : List Part) × (ps ≡ spelled_factor f rest) × Good (after_factor f) d rest × ((is_atom_end (after_factor f) && begins_repeat rest) ≡ false) × ((is_label (after_factor f) && begins_bracket rest) ≡ false)
+FactorRead d ps = (f : Factor) × (rest : List Part) × (ps ≡ spelled_factor f rest) × Good (after_factor f) d rest × ((is_atom_end (after_factor f) && begins_repeat rest) ≡ false) ×
+    ((is_label (after_factor f) && begins_bracket rest) ≡ false)
 
 again_good : (q : Phase) (d : ℕ) (m : Mark) (rest : List Part) → is_atom_end q ≡ true → (run false q d (mark m ∷ rest) ≡ run false Repeated d rest) → Good q d (mark m ∷ rest) → Good Repeated d rest
 again_good q d m rest e same h = good_by q Repeated d d (mark m ∷ rest) rest same h
@@ -438,7 +442,8 @@ abbrev Parsed : ℕ → List Part → Type 0
 Parsed d ps = (e : Expression) × (rest : List Part) × (ps ≡ spelled e rest) × Ends d rest
 
 -- after a factor
-after_one : (n d : ℕ) (ps : List Part) → length ps ≤ suc n → ((q : Phase) (ps' : List Part) → takes_atom q ≡ true → length ps' ≤ n → AtomFirst ps' → Good q d ps' → Parsed d ps') → FactorRead d ps → Parsed d ps
+after_one : (n d : ℕ) (ps : List Part) → length ps ≤ suc n → ((q : Phase) (ps' : List Part) → takes_atom q ≡ true → length ps' ≤ n → AtomFirst ps' → Good q d ps' → Parsed d ps') →
+    FactorRead d ps → Parsed d ps
 after_one n d ps l rec x = by x.1 x.2 (next_of (after_factor x.0) d x.1 (factor_end x.0) x.3 x.4 x.5)
   where
     by : (rest : List Part) → ps ≡ spelled_factor x.0 rest → Next (after_factor x.0) d rest → Parsed d ps
@@ -491,10 +496,12 @@ pub parse : (n : ℕ) (q : Phase) (d : ℕ) (ps : List Part) → takes_atom q �
 parse n q d [] t l f h = absurd f
 parse zero q d (p ∷ rest) t l f h = absurd (omega arith)
 parse (suc n) q d (word w ∷ rest) t l f h = after_one n d (word w ∷ rest) l (λ r ps' t' l' f' h'. parse n r d ps' t' l' f' h') (read_factor d (word w ∷ rest) (word_atom q d w rest t h))
-parse (suc n) q d (mark Dot ∷ rest) t l f h = after_one n d (mark Dot ∷ rest) l (λ r ps' t' l' f' h'. parse n r d ps' t' l' f' h') (read_factor d (mark Dot ∷ rest) (read_literal None d rest (good_by q Label d d (mark Dot ∷ rest) rest (dot_good q d rest t) h)))
+parse (suc n) q d (mark Dot ∷ rest) t l f h = after_one n d (mark Dot ∷ rest) l (λ r ps' t' l' f' h'. parse n r d ps' t' l' f' h')
+    (read_factor d (mark Dot ∷ rest) (read_literal None d rest (good_by q Label d d (mark Dot ∷ rest) rest (dot_good q d rest t) h)))
 parse (suc n) q d (mark ParenOpen ∷ rest) t l f h =
     let g = good_by q Begin d (d + 1) (mark ParenOpen ∷ rest) rest (run_open q d rest t) h in
-    after_one n d (mark ParenOpen ∷ rest) l (λ r ps' t' l' f' h'. parse n r d ps' t' l' f' h') (read_factor d (mark ParenOpen ∷ rest) (group_atom d rest (parse n Begin (d + 1) rest refl (omega arith) (begin_first (d + 1) rest g) g)))
+    after_one n d (mark ParenOpen ∷ rest) l (λ r ps' t' l' f' h'. parse n r d ps' t' l' f' h') (read_factor d (mark ParenOpen ∷ rest)
+    (group_atom d rest (parse n Begin (d + 1) rest refl (omega arith) (begin_first (d + 1) rest g) g)))
 parse (suc n) q d (mark ParenClose ∷ rest) t l f h = absurd f
 parse (suc n) q d (mark Bar ∷ rest) t l f h = absurd f
 parse (suc n) q d (mark Star ∷ rest) t l f h = absurd f

@@ -1,5 +1,6 @@
 -- A scan at a place of a text.
-use Rattle.std.proofs.Common.{◌≡◌, ℕ, zero, suc, ◌+◌, ◌-◌, ◌<◌, ◌≤◌, max, List, [], ◌∷◌, ◌++◌, Bool, true, false, cond, ◌&&◌, Some, None, length, take, drop, refl, sym, ap, ap₂, ◌∙◌, subst, arith, append-nil, append_assoc, length-append, length-take, length-drop}
+use Rattle.std.proofs.Common.{◌≡◌, ℕ, zero, suc, ◌+◌, ◌-◌, ◌<◌, ◌≤◌, max, List, [], ◌∷◌, ◌++◌, Bool, true, false, cond, ◌&&◌, Some, None, length, take, drop, refl, sym, ap, ap₂, ◌∙◌, subst}
+use Rattle.std.proofs.Common.{arith, append-nil, append_assoc, length-append, length-take, length-drop}
 use Rattle.cw_regex.specs.declared.text.Mark.{Mark}
 use Rattle.cw_regex.specs.declared.phase.Phase.{Phase}
 use Rattle.cw_regex.specs.declared.phase.Phase.TheVariants.{Begin, Label, Whole, Repeated, Test, Negated, Ambient, Descriptor, Colon, Right}
@@ -9,7 +10,7 @@ use Rattle.cw_regex.specs.Grammar.{IsFaultAt}
 use Rattle.cw_regex.specs.Machine.{step_word, step, kept, start, ends_here, In, deepest}
 use Rattle.cw_regex.specs.Pieces.{IsBlankAt, IsMarkAt, IsWordAt}
 use Rattle.cw_regex.specs.Scans.{is_held, Scan, ScanAt}
-use Rattle.cw_regex.proofs.Bools.{and_left, and_right}
+use Rattle.cw_rights.proofs.Bools.{and_left, and_right}
 use Rattle.cw_regex.proofs.Runs.{take_drop, take_on}
 use Rattle.cw_regex.proofs.Scanned.{scan_start, scan_blank, scan_mark, scan_word, Stuck, fault_by, front_scan, stuck_front, stuck_held, stuck_mark, stuck_word, later_word, scan_ends, stuck_end}
 
@@ -51,19 +52,23 @@ module _ (alone : Bool) (text : List ℕ) (x : Scanned) (h : ScanAt alone text x
       let more : 0 < length (take x.at text) = omega arith in
       record {
         far = omega arith;
-        is = subst (λ s. Scan alone s (drop (x.at + 1) text) x.phase x.depth x.most) (sym (take_on text (p.byte ∷ []) x.at (x.at + 1) p.cut (omega arith))) (scan_blank alone (take x.at text) p.byte (drop (x.at + 1) text) x.phase x.depth x.most was p.blank more (not_held alone x.phase f));
+        is = subst (λ s. Scan alone s (drop (x.at + 1) text) x.phase x.depth x.most) (sym (take_on text (p.byte ∷ []) x.at (x.at + 1) p.cut (omega arith)))
+            (scan_blank alone (take x.at text) p.byte (drop (x.at + 1) text) x.phase x.depth x.most was p.blank more (not_held alone x.phase f));
       }
 
-  pub word_ok : (end : ℕ) (r : Phase) → (p : IsWordAt text x.at end) → step_word x.phase (take (end - x.at) (drop x.at text)) ≡ Some r → ScanAt alone text (record { at = end; phase = r; depth = x.depth; most = x.most })
+  pub word_ok : (end : ℕ) (r : Phase) → (p : IsWordAt text x.at end) → step_word x.phase (take (end - x.at) (drop x.at text)) ≡ Some r →
+      ScanAt alone text (record { at = end; phase = r; depth = x.depth; most = x.most })
   word_ok end r p e =
       let was = subst (λ t. Scan alone (take x.at text) t x.phase x.depth x.most) p.cut h.is in
       let goes = subst (λ w. step_word x.phase w ≡ Some r) p.word e in
       record {
         far = p.within;
-        is = subst (λ s. Scan alone s (drop end text) r x.depth x.most) (sym (take_on text (p.first ∷ p.more) x.at end p.cut p.far)) (scan_word alone (take x.at text) p.first p.more (drop end text) x.phase r x.depth x.most was p.bytes p.stop goes);
+        is = subst (λ s. Scan alone s (drop end text) r x.depth x.most) (sym (take_on text (p.first ∷ p.more) x.at end p.cut p.far))
+            (scan_word alone (take x.at text) p.first p.more (drop end text) x.phase r x.depth x.most was p.bytes p.stop goes);
       }
 
-  pub mark_ok : (m : Mark) (r : Phase) (e : ℕ) → IsMarkAt text x.at m → step alone x.phase x.depth (mark m) ≡ Some (r, e) → ScanAt alone text (record { at = x.at + 1; phase = r; depth = e; most = max x.most e })
+  pub mark_ok : (m : Mark) (r : Phase) (e : ℕ) → IsMarkAt text x.at m → step alone x.phase x.depth (mark m) ≡ Some (r, e) →
+      ScanAt alone text (record { at = x.at + 1; phase = r; depth = e; most = max x.most e })
   mark_ok m r e p goes =
       let was = subst (λ t. Scan alone (take x.at text) t x.phase x.depth x.most) p.cut h.is in
       let k = length-drop x.at text in
@@ -71,14 +76,18 @@ module _ (alone : Bool) (text : List ℕ) (x : Scanned) (h : ScanAt alone text x
       let far = h.far in
       record {
         far = omega arith;
-        is = subst (λ s. Scan alone s (drop (x.at + 1) text) r e (max x.most e)) (sym (take_on text (p.byte ∷ []) x.at (x.at + 1) p.cut (omega arith))) (scan_mark alone (take x.at text) p.byte (drop (x.at + 1) text) x.phase r x.depth e x.most was p.no_blank p.no_word (subst (λ y. step alone x.phase x.depth (mark y) ≡ Some (r, e)) p.is goes));
+        is = subst (λ s. Scan alone s (drop (x.at + 1) text) r e (max x.most e)) (sym (take_on text (p.byte ∷ []) x.at (x.at + 1) p.cut (omega arith)))
+            (scan_mark alone (take x.at text) p.byte (drop (x.at + 1) text) x.phase r x.depth e x.most was p.no_blank p.no_word
+            (subst (λ y. step alone x.phase x.depth (mark y) ≡ Some (r, e)) p.is goes));
       }
 
   fault_here : Stuck alone (take x.at text) (drop x.at text) → IsFaultAt (In alone) text x.at
-  fault_here k = subst (λ t. IsFaultAt (In alone) t x.at) (sym (take_drop text x.at)) (subst (λ n. IsFaultAt (In alone) (take x.at text ++ drop x.at text) n) (long text x.at h.far) (fault_by alone (take x.at text) (drop x.at text) (front_scan alone (take x.at text) (drop x.at text) x.phase x.depth x.most h.is) k))
+  fault_here k = subst (λ t. IsFaultAt (In alone) t x.at) (sym (take_drop text x.at)) (subst (λ n. IsFaultAt (In alone) (take x.at text ++ drop x.at text) n) (long text x.at h.far)
+      (fault_by alone (take x.at text) (drop x.at text) (front_scan alone (take x.at text) (drop x.at text) x.phase x.depth x.most h.is) k))
 
   pub front_fault : IsBlankAt text x.at → x.at ≡ 0 → IsFaultAt (In alone) text x.at
-  front_fault p e = fault_here (subst (Stuck alone (take x.at text)) (sym p.cut) (subst (λ s. Stuck alone s (p.byte ∷ drop (x.at + 1) text)) (sym (ap (λ n. take n text) e)) (stuck_front alone p.byte (drop (x.at + 1) text) p.blank)))
+  front_fault p e = fault_here (subst (Stuck alone (take x.at text)) (sym p.cut) (subst (λ s. Stuck alone s (p.byte ∷ drop (x.at + 1) text))
+      (sym (ap (λ n. take n text) e)) (stuck_front alone p.byte (drop (x.at + 1) text) p.blank)))
 
   pub held_fault : IsBlankAt text x.at → is_held alone x.phase ≡ true → IsFaultAt (In alone) text x.at
   held_fault p e = fault_here (subst (Stuck alone (take x.at text)) (sym p.cut) (by alone (held_is alone x.phase e).0 was))
@@ -91,16 +100,20 @@ module _ (alone : Bool) (text : List ℕ) (x : Scanned) (h : ScanAt alone text x
       by false f w = absurd (cc)
 
   pub mark_fault : (m : Mark) → IsMarkAt text x.at m → step alone x.phase x.depth (mark m) ≡ None → IsFaultAt (In alone) text x.at
-  mark_fault m p e = fault_here (subst (Stuck alone (take x.at text)) (sym p.cut) (stuck_mark alone (take x.at text) p.byte (drop (x.at + 1) text) x.phase x.depth x.most (subst (λ t. Scan alone (take x.at text) t x.phase x.depth x.most) p.cut h.is) p.no_blank p.no_word (subst (λ y. step alone x.phase x.depth (mark y) ≡ None) p.is e)))
+  mark_fault m p e = fault_here (subst (Stuck alone (take x.at text)) (sym p.cut) (stuck_mark alone (take x.at text) p.byte (drop (x.at + 1) text) x.phase x.depth x.most
+      (subst (λ t. Scan alone (take x.at text) t x.phase x.depth x.most) p.cut h.is) p.no_blank p.no_word (subst (λ y. step alone x.phase x.depth (mark y) ≡ None) p.is e)))
 
   pub word_fault : (end : ℕ) (p : IsWordAt text x.at end) → step_word x.phase (take (end - x.at) (drop x.at text)) ≡ None → kept x.phase p.first ≡ false → IsFaultAt (In alone) text x.at
-  word_fault end p e k = fault_here (subst (Stuck alone (take x.at text)) (sym p.cut) (stuck_word alone (take x.at text) p.first p.more (drop end text) x.phase x.depth x.most (subst (λ t. Scan alone (take x.at text) t x.phase x.depth x.most) p.cut h.is) p.bytes (subst (λ w. step_word x.phase w ≡ None) p.word e) k))
+  word_fault end p e k =
+      fault_here (subst (Stuck alone (take x.at text)) (sym p.cut) (stuck_word alone (take x.at text) p.first p.more (drop end text) x.phase x.depth x.most
+      (subst (λ t. Scan alone (take x.at text) t x.phase x.depth x.most) p.cut h.is) p.bytes (subst (λ w. step_word x.phase w ≡ None) p.word e) k))
 
   pub later_fault : (end : ℕ) (p : IsWordAt text x.at end) → step_word x.phase (take (end - x.at) (drop x.at text)) ≡ None → kept x.phase p.first ≡ true → IsFaultAt (In alone) text (x.at + 1)
   later_fault end p e k =
       let s = take x.at text in
       let u = p.more ++ drop end text in
-      let later = later_word alone s p.first p.more (drop end text) x.phase x.depth x.most (subst (λ t. Scan alone s t x.phase x.depth x.most) p.cut h.is) p.bytes (subst (λ w. step_word x.phase w ≡ None) p.word e) k in
+      let later = later_word alone s p.first p.more (drop end text) x.phase x.depth x.most (subst (λ t. Scan alone s t x.phase x.depth x.most) p.cut h.is) p.bytes
+      (subst (λ w. step_word x.phase w ≡ None) p.word e) k in
       let whole : (s ++ p.first ∷ []) ++ u ≡ text = append_assoc s (p.first ∷ []) u ∙ ap (λ t. s ++ t) (sym p.cut) ∙ sym (take_drop text x.at) in
       let l = long text x.at h.far in
       let n = length-append s (p.first ∷ []) in
@@ -127,7 +140,8 @@ module _ (alone : Bool) (text : List ℕ) (x : Scanned) (h : ScanAt alone text x
 
   -- the whole text was scanned
   pub end_both : length text ≤ x.at → (ends_here alone x.phase x.depth && cond (ends_blank text) false true) ≡ true → In alone text × (deepest 0 (parts text) ≡ x.most)
-  end_both l e = end_ok' (and_left (ends_here alone x.phase x.depth) (cond (ends_blank text) false true) e) (by (ends_blank text) (and_right (ends_here alone x.phase x.depth) (cond (ends_blank text) false true) e))
+  end_both l e = end_ok' (and_left (ends_here alone x.phase x.depth) (cond (ends_blank text) false true) e)
+      (by (ends_blank text) (and_right (ends_here alone x.phase x.depth) (cond (ends_blank text) false true) e))
     where
       by : (b : Bool) → cond b false true ≡ true → b ≡ false
       by true f = absurd (cc)
@@ -139,7 +153,8 @@ module _ (alone : Bool) (text : List ℕ) (x : Scanned) (h : ScanAt alone text x
   pub end_fault : length text ≤ x.at → (ends_here alone x.phase x.depth && cond (ends_blank text) false true) ≡ false → IsFaultAt (In alone) text (length text)
   end_fault l e =
       let was = at_end l in
-      subst (λ t. IsFaultAt (In alone) t (length text)) (append-nil text) (fault_by alone text [] (front_scan alone text [] x.phase x.depth x.most was) (stuck_end alone text x.phase x.depth x.most was e))
+      subst (λ t. IsFaultAt (In alone) t (length text)) (append-nil text) (fault_by alone text [] (front_scan alone text [] x.phase x.depth x.most was)
+      (stuck_end alone text x.phase x.depth x.most was e))
 
 pub at_start : (alone : Bool) (text : List ℕ) → ScanAt alone text (record { at = 0; phase = start alone; depth = 0; most = 0 })
 at_start alone text = record { far = omega arith; is = scan_start alone text }

@@ -6,7 +6,8 @@ use Rattle.cw_regex.specs.declared.text.Mark.TheVariants.{ParenOpen, ParenClose,
 use Rattle.cw_regex.specs.declared.phase.Phase.{Phase}
 use Rattle.cw_regex.specs.declared.phase.Phase.TheVariants.{Begin, Label, Whole, Repeated, Test, Negated, Ambient, Descriptor, Colon, Right}
 use Rattle.cw_regex.specs.Parts.{Part, word, mark}
-use Rattle.cw_regex.specs.Grammar.{is_descriptor, amb, Name, Subject, ambient, holds, TestForm, Expression, only, either, Term, single, then, Factor, plain, star, plus, maybe, Atom, literal, group, spelled_subject, spelled_if, spelled_test, spelled_more, spelled_tests, spelled_label, spelled, spelled_term, spelled_factor, spelled_atom}
+use Rattle.cw_regex.specs.Grammar.{is_descriptor, amb, Name, Subject, ambient, holds, TestForm, Expression, only, either, Term, single, then, Factor, plain, star, plus, maybe, Atom, literal}
+use Rattle.cw_regex.specs.Grammar.{group, spelled_subject, spelled_if, spelled_test, spelled_more, spelled_tests, spelled_label, spelled, spelled_term, spelled_factor, spelled_atom}
 use Rattle.cw_regex.specs.Machine.{is_test_start, in_test, step_word, takes_atom, is_end, run}
 use Rattle.cw_regex.proofs.Bools.{which}
 
@@ -157,7 +158,8 @@ run_open q d rest e = rw e refl
 pub run_close : (q : Phase) (d : ℕ) (rest : List Part) → is_end q ≡ true → run false q (d + 1) (mark ParenClose ∷ rest) ≡ run false Whole d rest
 run_close q d rest e = rw (e, add-one d) refl
 
-pub run_again : (q : Phase) (d : ℕ) (rest : List Part) → is_atom_end q ≡ true → (run false q d (mark Star ∷ rest) ≡ run false Repeated d rest) × (run false q d (mark Plus ∷ rest) ≡ run false Repeated d rest) × (run false q d (mark Question ∷ rest) ≡ run false Repeated d rest)
+pub run_again : (q : Phase) (d : ℕ) (rest : List Part) → is_atom_end q ≡ true → (run false q d (mark Star ∷ rest) ≡ run false Repeated d rest) ×
+    (run false q d (mark Plus ∷ rest) ≡ run false Repeated d rest) × (run false q d (mark Question ∷ rest) ≡ run false Repeated d rest)
 run_again Label d rest e = (refl, refl, refl)
 run_again Whole d rest e = (refl, refl, refl)
 run_again Begin d rest e = absurd (cc)

@@ -1,5 +1,6 @@
 -- Runs of bytes of words, and what stands at a place.
-use Rattle.std.proofs.Common.{◌≡◌, ℕ, zero, suc, ◌+◌, ◌-◌, ◌<◌, ◌≤◌, List, [], ◌∷◌, ◌++◌, Bool, true, false, ◌&&◌, length, take, drop, get_or, slice_index, refl, sym, ap, ap₂, ◌∙◌, subst, arith, add-one, drop-cons, length-drop, length-take}
+use Rattle.std.proofs.Common.{◌≡◌, ℕ, zero, suc, ◌+◌, ◌-◌, ◌<◌, ◌≤◌, List, [], ◌∷◌, ◌++◌, Bool, true, false, ◌&&◌, length, take, drop, get_or, slice_index, refl, sym, ap, ap₂, ◌∙◌, subst}
+use Rattle.std.proofs.Common.{arith, add-one, drop-cons, length-drop, length-take}
 use Rattle.std.specs.List.{list_all}
 use Rattle.std.proofs.lemmas.List.{take_more, get_or-drop}
 use Rattle.cw_rights.specs.Valid.{is_name_byte}
@@ -19,7 +20,8 @@ all_append p (x ∷ xs) ys a b = by (p x) a (λ h. all_append p xs ys h b)
     by true h rec = rec h
     by false h rec = absurd (cc)
 
-pub all_one_more : (text : List ℕ) (at end : ℕ) → at ≤ end → end < length text → list_all is_name_byte (take (end - at) (drop at text)) ≡ true → is_name_byte (slice_index text end) ≡ true → list_all is_name_byte (take (end + 1 - at) (drop at text)) ≡ true
+pub all_one_more : (text : List ℕ) (at end : ℕ) → at ≤ end → end < length text → list_all is_name_byte (take (end - at) (drop at text)) ≡ true → is_name_byte (slice_index text end) ≡ true →
+    list_all is_name_byte (take (end + 1 - at) (drop at text)) ≡ true
 all_one_more text at end l m a b =
     let n : end + 1 - at ≡ (end - at) + 1 = omega arith in
     let far : end - at < length (drop at text) = omega (arith, length-drop at text) in
@@ -27,7 +29,8 @@ all_one_more text at end l m a b =
     let k : at + (end - at) ≡ end = omega arith in
     let g : get_or (drop at text) (end - at) 0 ≡ get_or text end 0 = get_or-drop at text (end - at) 0 ∙ ap (λ i. get_or text i 0) k in
     let one : list_all is_name_byte (get_or text end 0 ∷ []) ≡ true = rw b refl in
-    ap (λ i. list_all is_name_byte (take i (drop at text))) n ∙ ap (list_all is_name_byte) (t ∙ ap (λ x. take (end - at) (drop at text) ++ x ∷ []) g) ∙ all_append is_name_byte (take (end - at) (drop at text)) (get_or text end 0 ∷ []) a one
+    ap (λ i. list_all is_name_byte (take i (drop at text))) n ∙ ap (list_all is_name_byte) (t ∙ ap (λ x. take (end - at) (drop at text) ++ x ∷ []) g)
+    ∙ all_append is_name_byte (take (end - at) (drop at text)) (get_or text end 0 ∷ []) a one
 
 pub all_first : (text : List ℕ) (at : ℕ) → at < length text → is_name_byte (slice_index text at) ≡ true → list_all is_name_byte (take (at + 1 - at) (drop at text)) ≡ true
 all_first text at l b =
@@ -40,7 +43,8 @@ cut_at text at l = drop-cons text at 0 l ∙ ap (λ i. slice_index text at ∷ d
 pub blank_at : (text : List ℕ) (at : ℕ) → at < length text → is_blank (slice_index text at) ≡ true → IsBlankAt text at
 blank_at text at l e = record { byte = slice_index text at; cut = cut_at text at l; blank = e }
 
-pub mark_at : (text : List ℕ) (at : ℕ) (m : Mark) → at < length text → is_blank (slice_index text at) ≡ false → is_name_byte (slice_index text at) ≡ false → m ≡ mark_of (slice_index text at) → IsMarkAt text at m
+pub mark_at : (text : List ℕ) (at : ℕ) (m : Mark) → at < length text → is_blank (slice_index text at) ≡ false → is_name_byte (slice_index text at) ≡ false →
+    m ≡ mark_of (slice_index text at) → IsMarkAt text at m
 mark_at text at m l e f g = record { byte = slice_index text at; cut = cut_at text at l; no_blank = e; no_word = f; is = g }
 
 pub take_drop : (l : List ℕ) (n : ℕ) → l ≡ take n l ++ drop n l

@@ -1,5 +1,6 @@
 -- What a scan keeps, part by part, and where it stops.
-use Rattle.std.proofs.Common.{◌≡◌, ◌⊎◌, inl, inr, ⊎_elim, ℕ, zero, suc, ◌+◌, ◌-◌, ◌<◌, ◌≤◌, max, List, [], ◌∷◌, ◌++◌, Bool, true, false, cond, ◌&&◌, ◌||◌, nat_eq, eqb-true, Option, Some, None, option_and_then, length, take, refl, sym, ap, ap₂, ◌∙◌, subst, arith, append-nil, append_assoc, length-append}
+use Rattle.std.proofs.Common.{◌≡◌, ◌⊎◌, inl, inr, ⊎_elim, ℕ, zero, suc, ◌+◌, ◌-◌, ◌<◌, ◌≤◌, max, List, [], ◌∷◌, ◌++◌, Bool, true, false, cond, ◌&&◌, ◌||◌, nat_eq, eqb-true, Option, Some}
+use Rattle.std.proofs.Common.{None, option_and_then, length, take, refl, sym, ap, ap₂, ◌∙◌, subst, arith, append-nil, append_assoc, length-append}
 use Rattle.std.specs.Option.{option_map}
 use Rattle.std.specs.List.{list_all}
 use Rattle.std.specs.Str.{bytes_eq}
@@ -11,7 +12,8 @@ use Rattle.cw_regex.specs.declared.phase.Phase.TheVariants.{Begin, Label, Whole,
 use Rattle.cw_regex.specs.Parts.{Part, word, mark, is_blank, mark_of, begins_word, grown, parts, ends_blank}
 use Rattle.cw_regex.specs.Grammar.{is_digit, amb, IsFaultAt}
 use Rattle.cw_regex.specs.Machine.{is_test_start, kept, in_test, step_word, step_mark, closed_one, takes_atom, is_end, step, run, start, ends_here, In, deepest}
-use Rattle.cw_regex.proofs.Bools.{which, or_cases, and_left, and_right}
+use Rattle.cw_rights.proofs.Bools.{or_cases, and_left, and_right}
+use Rattle.cw_regex.proofs.Bools.{which}
 use Rattle.cw_regex.proofs.Cutting.{word_no_blank, parts_blank, parts_mark, parts_byte, parts_word, parts_cut}
 use Rattle.cw_regex.specs.Scans.{ends_word, Apart, Scan}
 use Rattle.cw_regex.proofs.Runs.{take_front}
@@ -46,7 +48,8 @@ one_more s b t = append_assoc s (b ∷ []) t
 apart_last : (s : List ℕ) (b : ℕ) (t : List ℕ) → is_name_byte b ≡ false → Apart (s ++ b ∷ []) t
 apart_last s b t e = rw (last_byte s b, e) refl
 
-pub scan_blank : (alone : Bool) (s : List ℕ) (b : ℕ) (t : List ℕ) (q : Phase) (d most : ℕ) → Scan alone s (b ∷ t) q d most → is_blank b ≡ true → 0 < length s → (alone ≡ true → q ≡ Right → ⊥) → Scan alone (s ++ b ∷ []) t q d most
+pub scan_blank : (alone : Bool) (s : List ℕ) (b : ℕ) (t : List ℕ) (q : Phase) (d most : ℕ) → Scan alone s (b ∷ t) q d most → is_blank b ≡ true → 0 < length s →
+    (alone ≡ true → q ≡ Right → ⊥) → Scan alone (s ++ b ∷ []) t q d most
 scan_blank alone s b t q d most h e l other =
     let nb = blank_no_word b e in
     let same : parts (s ++ b ∷ []) ≡ parts s = parts_cut s (b ∷ []) (apart_begins s (b ∷ []) nb) ∙ ap (λ ps. parts s ++ ps) (parts_blank b [] e) ∙ append-nil (parts s) in
@@ -109,7 +112,8 @@ close_depth (suc d) e r true h =
     let f : d ≡ e = ap (λ (a : At). a.1) p in
     omega arith
 
-deepest_step : (alone : Bool) (q r : Phase) (d e most : ℕ) (m : Mark) (ps : List Part) → step alone q d (mark m) ≡ Some (r, e) → d ≤ most → (max (max most e) (deepest e ps) ≡ max most (deepest d (mark m ∷ ps))) × (e ≤ d + 1)
+deepest_step : (alone : Bool) (q r : Phase) (d e most : ℕ) (m : Mark) (ps : List Part) → step alone q d (mark m) ≡ Some (r, e) → d ≤ most →
+    (max (max most e) (deepest e ps) ≡ max most (deepest d (mark m ∷ ps))) × (e ≤ d + 1)
 deepest_step alone q r d e most ParenOpen ps h l =
     let f = open_depth d e r (takes_atom q) h in
     let g = deepest_least ps (d + 1) in
@@ -165,7 +169,8 @@ deepest_step alone q r d e most Other ps h l =
     let g : deepest e ps ≡ deepest d ps = ap (λ n. deepest n ps) f in
     (omega arith, omega arith)
 
-pub scan_mark : (alone : Bool) (s : List ℕ) (b : ℕ) (t : List ℕ) (q r : Phase) (d e most : ℕ) → Scan alone s (b ∷ t) q d most → is_blank b ≡ false → is_name_byte b ≡ false → step alone q d (mark (mark_of b)) ≡ Some (r, e) → Scan alone (s ++ b ∷ []) t r e (max most e)
+pub scan_mark : (alone : Bool) (s : List ℕ) (b : ℕ) (t : List ℕ) (q r : Phase) (d e most : ℕ) → Scan alone s (b ∷ t) q d most → is_blank b ≡ false → is_name_byte b ≡ false →
+    step alone q d (mark (mark_of b)) ≡ Some (r, e) → Scan alone (s ++ b ∷ []) t r e (max most e)
 scan_mark alone s b t q r d e most h nb nw goes =
     let same : parts (s ++ b ∷ []) ≡ parts s ++ mark (mark_of b) ∷ [] = parts_cut s (b ∷ []) (apart_begins s (b ∷ []) nw) ∙ ap (λ ps. parts s ++ ps) (parts_mark b [] nb nw) in
     let n = length-append s (b ∷ []) in
@@ -174,7 +179,8 @@ scan_mark alone s b t q r d e most h nb nw goes =
     let u = h.within in
     let v = k.1 in
     record {
-      runs = ap (run alone (start alone) 0) same ∙ run_append alone (parts s) (mark (mark_of b) ∷ []) (start alone) q 0 d h.runs ∙ ap (λ (o : Option At). option_and_then (λ (a : At). run alone a.0 a.1 []) o) goes;
+      runs = ap (run alone (start alone) 0) same ∙ run_append alone (parts s) (mark (mark_of b) ∷ []) (start alone) q 0 d h.runs
+          ∙ ap (λ (o : Option At). option_and_then (λ (a : At). run alone a.0 a.1 []) o) goes;
       apart = apart_last s b t nw;
       front = starts_append s (b ∷ []) h.front (λ z. nb);
       may = λ a x. ends_append s b [] ∙ nb;
@@ -201,7 +207,8 @@ apart_of s c t e a = by (ends_word s) (subst (λ x. (ends_word s && x) ≡ false
 apart_before : (s t : List ℕ) → ends_word s ≡ false → Apart s t
 apart_before s t e = rw e refl
 
-pub scan_word : (alone : Bool) (s : List ℕ) (c : ℕ) (w t : List ℕ) (q r : Phase) (d most : ℕ) → Scan alone s ((c ∷ w) ++ t) q d most → list_all is_name_byte (c ∷ w) ≡ true → begins_word t ≡ false → step_word q (c ∷ w) ≡ Some r → Scan alone (s ++ c ∷ w) t r d most
+pub scan_word : (alone : Bool) (s : List ℕ) (c : ℕ) (w t : List ℕ) (q r : Phase) (d most : ℕ) → Scan alone s ((c ∷ w) ++ t) q d most → list_all is_name_byte (c ∷ w) ≡ true →
+    begins_word t ≡ false → step_word q (c ∷ w) ≡ Some r → Scan alone (s ++ c ∷ w) t r d most
 scan_word alone s c w t q r d most h a n goes =
     let first : is_name_byte c ≡ true = and_left (is_name_byte c) (list_all is_name_byte w) a in
     let free = apart_of s c (w ++ t) first h.apart in
@@ -210,7 +217,8 @@ scan_word alone s c w t q r d most h a n goes =
     let m = length-append s (c ∷ w) in
     let f = h.few in
     record {
-      runs = ap (run alone (start alone) 0) same ∙ run_append alone (parts s) (word (c ∷ w) ∷ []) (start alone) q 0 d h.runs ∙ ap (λ (o : Option At). option_and_then (λ (a : At). run alone a.0 a.1 []) o) one;
+      runs = ap (run alone (start alone) 0) same ∙ run_append alone (parts s) (word (c ∷ w) ∷ []) (start alone) q 0 d h.runs
+          ∙ ap (λ (o : Option At). option_and_then (λ (a : At). run alone a.0 a.1 []) o) one;
       apart = apart_begins (s ++ c ∷ w) t n;
       front = starts_append s (c ∷ w) h.front (λ z. word_no_blank c first);
       may = λ x y. ends_append s c w ∙ word_ends c w a;
@@ -253,7 +261,8 @@ blanks_end : (rest : List ℕ) (b : ℕ) → is_blank b ≡ true → parts rest 
 blanks_end [] b e h = e
 blanks_end (c ∷ rest) b e h = by (which (is_blank c)) (which (is_name_byte c)) (λ f g. blanks_end rest c f g)
   where
-    by : (is_blank c ≡ true) ⊎ (is_blank c ≡ false) → (is_name_byte c ≡ true) ⊎ (is_name_byte c ≡ false) → (is_blank c ≡ true → parts rest ≡ [] → ends_blank (c ∷ rest) ≡ true) → ends_blank (b ∷ (c ∷ rest)) ≡ true
+    by : (is_blank c ≡ true) ⊎ (is_blank c ≡ false) → (is_name_byte c ≡ true) ⊎ (is_name_byte c ≡ false) → (is_blank c ≡ true → parts rest ≡ [] → ends_blank (c ∷ rest) ≡ true) →
+        ends_blank (b ∷ (c ∷ rest)) ≡ true
     by (inl f) g rec = rec f (sym (parts_blank c rest f) ∙ h)
     by (inr f) (inr g) rec = let z = sym (parts_mark c rest f g) ∙ h in absurd (cc)
     by (inr f) (inl g) rec = none (begins_word rest) (parts rest) (sym (parts_byte c rest g) ∙ h)
@@ -290,7 +299,8 @@ stuck_held s b t q d most h e r rest x = by (parts rest) refl
     by [] f = let y = (runs true (s ++ b ∷ rest) x).4 in let z = sym (ends_append s b rest ∙ blanks_end rest b e f) ∙ y in absurd (cc)
     by (p ∷ ps) f = stuck_part true s (b ∷ rest) Right d p ps (apart_begins s (b ∷ rest) (blank_no_word b e)) at (parts_blank b rest e ∙ f) (right_dead d p) x
 
-pub stuck_mark : (alone : Bool) (s : List ℕ) (b : ℕ) (t : List ℕ) (q : Phase) (d most : ℕ) → Scan alone s (b ∷ t) q d most → is_blank b ≡ false → is_name_byte b ≡ false → step alone q d (mark (mark_of b)) ≡ None → Stuck alone s (b ∷ t)
+pub stuck_mark : (alone : Bool) (s : List ℕ) (b : ℕ) (t : List ℕ) (q : Phase) (d most : ℕ) → Scan alone s (b ∷ t) q d most → is_blank b ≡ false → is_name_byte b ≡ false →
+    step alone q d (mark (mark_of b)) ≡ None → Stuck alone s (b ∷ t)
 stuck_mark alone s b t q d most h nb nw e rest x = stuck_part alone s (b ∷ rest) q d (mark (mark_of b)) (parts rest) (apart_begins s (b ∷ rest) nw) h.runs (parts_mark b rest nb nw) e x
 
 -- the first part of a text that begins with a word byte, or with two
@@ -340,7 +350,8 @@ name_none w r h = by (which (is_name w))
 test_none : (w : List ℕ) → in_test w ≡ None → (bytes_eq w amb ≡ false) × (is_name w ≡ false) × (is_digit w ≡ false)
 test_none w h = by (which (bytes_eq w amb)) (which (is_name w)) (which (is_digit w))
   where
-    by : (bytes_eq w amb ≡ true) ⊎ (bytes_eq w amb ≡ false) → (is_name w ≡ true) ⊎ (is_name w ≡ false) → (is_digit w ≡ true) ⊎ (is_digit w ≡ false) → (bytes_eq w amb ≡ false) × (is_name w ≡ false) × (is_digit w ≡ false)
+    by : (bytes_eq w amb ≡ true) ⊎ (bytes_eq w amb ≡ false) → (is_name w ≡ true) ⊎ (is_name w ≡ false) → (is_digit w ≡ true) ⊎ (is_digit w ≡ false) →
+        (bytes_eq w amb ≡ false) × (is_name w ≡ false) × (is_digit w ≡ false)
     by (inl e) f g = let z : in_test w ≡ Some Ambient = rw e refl in absurd (cc)
     by (inr e) (inl f) g = let z : in_test w ≡ Some Descriptor = rw (e, f) refl in absurd (cc)
     by (inr e) (inr f) (inl g) = let z : in_test w ≡ Some Descriptor = rw (e, f, g) refl in absurd (cc)
@@ -358,7 +369,8 @@ word_dead Descriptor c w a h k v = refl
 word_dead Colon c w a h k v = let z = no_name c v (no_start c w a (name_none (c ∷ w) Right h)) in rw z refl
 word_dead Right c w a h k v = refl
 
-pub stuck_word : (alone : Bool) (s : List ℕ) (c : ℕ) (w t : List ℕ) (q : Phase) (d most : ℕ) → Scan alone s ((c ∷ w) ++ t) q d most → list_all is_name_byte (c ∷ w) ≡ true → step_word q (c ∷ w) ≡ None → kept q c ≡ false → Stuck alone s ((c ∷ w) ++ t)
+pub stuck_word : (alone : Bool) (s : List ℕ) (c : ℕ) (w t : List ℕ) (q : Phase) (d most : ℕ) → Scan alone s ((c ∷ w) ++ t) q d most → list_all is_name_byte (c ∷ w) ≡ true →
+    step_word q (c ∷ w) ≡ None → kept q c ≡ false → Stuck alone s ((c ∷ w) ++ t)
 stuck_word alone s c w t q d most h a e k rest x =
     let first : is_name_byte c ≡ true = and_left (is_name_byte c) (list_all is_name_byte w) a in
     let free = apart_of s c (w ++ t) first h.apart in
@@ -369,7 +381,8 @@ stuck_word alone s c w t q d most h a e k rest x =
 
 -- the digit goes on, and what stands right behind it doesn't
 digit_start : (c : ℕ) → is_digit (c ∷ []) ≡ true → is_name_start c ≡ false
-digit_start c e = ⊎_elim (λ y. ⊎_elim (λ z. zero' (eqb-true c 48 z)) (λ z. one' (eqb-true c 49 z)) (or_cases (nat_eq c 48) (nat_eq c 49) y)) (λ z. two' (eqb-true c 50 z)) (or_cases (nat_eq c 48 || nat_eq c 49) (nat_eq c 50) e)
+digit_start c e = ⊎_elim (λ y. ⊎_elim (λ z. zero' (eqb-true c 48 z)) (λ z. one' (eqb-true c 49 z)) (or_cases (nat_eq c 48) (nat_eq c 49) y))
+    (λ z. two' (eqb-true c 50 z)) (or_cases (nat_eq c 48 || nat_eq c 49) (nat_eq c 50) e)
   where
     zero' : c ≡ 48 → is_name_start c ≡ false
     zero' f = subst (λ x. is_name_start x ≡ false) (sym f) refl
@@ -400,7 +413,8 @@ pub record Later (alone : Bool) (s : List ℕ) (c : ℕ) (w t : List ℕ) : Type
   pub front : (rest : List ℕ) × In alone ((s ++ c ∷ []) ++ rest)
   pub stuck : Stuck alone (s ++ c ∷ []) (w ++ t)
 
-pub later_word : (alone : Bool) (s : List ℕ) (c : ℕ) (w t : List ℕ) (q : Phase) (d most : ℕ) → Scan alone s ((c ∷ w) ++ t) q d most → list_all is_name_byte (c ∷ w) ≡ true → step_word q (c ∷ w) ≡ None → kept q c ≡ true → Later alone s c w t
+pub later_word : (alone : Bool) (s : List ℕ) (c : ℕ) (w t : List ℕ) (q : Phase) (d most : ℕ) → Scan alone s ((c ∷ w) ++ t) q d most → list_all is_name_byte (c ∷ w) ≡ true →
+    step_word q (c ∷ w) ≡ None → kept q c ≡ true → Later alone s c w t
 later_word alone s c [] t q d most h a e k =
     let f = and_left (is_test_start q) (is_digit (c ∷ [])) k in
     let g = and_right (is_test_start q) (is_digit (c ∷ [])) k in
@@ -416,7 +430,8 @@ later_word alone s c (b ∷ w) t q d most h a e k =
     let same : parts (s ++ c ∷ []) ≡ parts s ++ word (c ∷ []) ∷ [] = parts_cut s (c ∷ []) (apart_before s (c ∷ []) free) ∙ ap (λ ps. parts s ++ ps) (whole_word c [] only) in
     let goes : step_word q (c ∷ []) ≡ Some Descriptor = test_word q (c ∷ []) f ∙ digit_goes c g in
     let one : step alone q d (word (c ∷ [])) ≡ Some (Descriptor, d) = ap (λ (o : Option Phase). option_map (λ (y : Phase). let z : At = (y, d) in z) o) goes in
-    let runs' : run alone (start alone) 0 (parts (s ++ c ∷ [])) ≡ Some (Descriptor, d) = ap (run alone (start alone) 0) same ∙ run_append alone (parts s) (word (c ∷ []) ∷ []) (start alone) q 0 d h.runs ∙ ap (λ (o : Option At). option_and_then (λ (y : At). run alone y.0 y.1 []) o) one in
+    let runs' : run alone (start alone) 0 (parts (s ++ c ∷ [])) ≡ Some (Descriptor, d) = ap (run alone (start alone) 0) same
+    ∙ run_append alone (parts s) (word (c ∷ []) ∷ []) (start alone) q 0 d h.runs ∙ ap (λ (o : Option At). option_and_then (λ (y : At). run alone y.0 y.1 []) o) one in
     record {
       front = front_of alone (s ++ c ∷ []) Descriptor d (starts_append s (c ∷ []) h.front (λ z. word_no_blank c first)) runs' (λ x y. absurd (cc));
       stuck = λ rest x.

@@ -64,12 +64,12 @@ dot_item many rest ps e = absurd (cc)
 dot_item some rest ps e = absurd (cc)
 dot_item optional rest ps e = absurd (cc)
 
-module _ (labels descriptors : List (List ℕ)) where
+module _ (format : ℕ) (labels descriptors : List (List ℕ)) where
   same_mark : (s : Levels) (m n : Mark) → n ≡ m → with_mark s m ≡ with_mark s n
   same_mark s m n e = ap (with_mark s) (sym e)
 
   -- any other mark is an item of its own
-  pub mark_item : (s : Levels) (m : Mark) (i : Item) (rest ps : List Part) → m ≢ Dot → mark m ∷ ps ≡ spelled_item i rest → (with_mark s m ≡ put labels descriptors s i) × (ps ≡ rest)
+  pub mark_item : (s : Levels) (m : Mark) (i : Item) (rest ps : List Part) → m ≢ Dot → mark m ∷ ps ≡ spelled_item i rest → (with_mark s m ≡ put format labels descriptors s i) × (ps ≡ rest)
   mark_item s m (lit None ts) rest ps n e = let z : m ≡ Dot = cc in absurd (n z)
   mark_item s m (lit (Some x) ts) rest ps n e = absurd (cc)
   mark_item s m begin rest ps n e = let z : ParenOpen ≡ m = cc in (same_mark s m ParenOpen z, cc)
@@ -80,25 +80,28 @@ module _ (labels descriptors : List (List ℕ)) where
   mark_item s m optional rest ps n e = let z : Question ≡ m = cc in (same_mark s m Question z, cc)
 
   abbrev Reads : List Part → Levels → Levels → Option ℕ → Type 0
-  Reads ps s t l = (ts : List TestForm) (rest : List Part) → ps ≡ spelled_tests ts rest → begins_bracket rest ≡ false → t ≡ with_literal s (record { label = l; tests = map (test_meaning descriptors) ts })
+  Reads ps s t l = (ts : List TestForm) (rest : List Part) → ps ≡ spelled_tests ts rest → begins_bracket rest ≡ false →
+      t ≡ with_literal s (record { label = l; tests = map (test_meaning format descriptors) ts })
 
   abbrev Rests : List Part → List Part → Type 0
   Rests ps qs = (ts : List TestForm) (rest : List Part) → ps ≡ spelled_tests ts rest → begins_bracket rest ≡ false → qs ≡ rest
 
-  pub word_read : (s t : Levels) (n : ℕ) (w : List ℕ) (ps : List Part) → n ≡ number_in labels w → Reads ps s t (Some n) → (i : Item) (rest : List Item) → word w ∷ ps ≡ spelled_item i (spelled_items rest) → t ≡ put labels descriptors s i
+  pub word_read : (s t : Levels) (n : ℕ) (w : List ℕ) (ps : List Part) → n ≡ number_in labels w → Reads ps s t (Some n) → (i : Item) (rest : List Item) →
+      word w ∷ ps ≡ spelled_item i (spelled_items rest) → t ≡ put format labels descriptors s i
   word_read s t n w ps number reads i rest h =
       let x = word_item i (spelled_items rest) ps w h in
       let k : n ≡ number_in labels x.name.bytes = number ∙ ap (number_in labels) x.bytes in
-      let z : t ≡ with_literal s (record { label = Some n; tests = map (test_meaning descriptors) x.tests }) = reads x.tests (spelled_items rest) x.after (no_bracket rest) in
-      z ∙ ap (λ m. with_literal s (record { label = Some m; tests = map (test_meaning descriptors) x.tests })) k ∙ sym (ap (put labels descriptors s) x.is)
+      let z : t ≡ with_literal s (record { label = Some n; tests = map (test_meaning format descriptors) x.tests }) = reads x.tests (spelled_items rest) x.after (no_bracket rest) in
+      z ∙ ap (λ m. with_literal s (record { label = Some m; tests = map (test_meaning format descriptors) x.tests })) k ∙ sym (ap (put format labels descriptors s) x.is)
 
   pub word_rest : (w : List ℕ) (ps qs : List Part) → Rests ps qs → (i : Item) (rest : List Item) → word w ∷ ps ≡ spelled_item i (spelled_items rest) → qs ≡ spelled_items rest
   word_rest w ps qs rests i rest h = let x = word_item i (spelled_items rest) ps w h in rests x.tests (spelled_items rest) x.after (no_bracket rest)
 
-  pub dot_read : (s t : Levels) (m : Mark) (ps : List Part) → m ≡ Dot → Reads ps s t None → (i : Item) (rest : List Item) → mark m ∷ ps ≡ spelled_item i (spelled_items rest) → t ≡ put labels descriptors s i
+  pub dot_read : (s t : Levels) (m : Mark) (ps : List Part) → m ≡ Dot → Reads ps s t None → (i : Item) (rest : List Item) → mark m ∷ ps ≡ spelled_item i (spelled_items rest) →
+      t ≡ put format labels descriptors s i
   dot_read s t m ps dot reads i rest h =
       let x = dot_item i (spelled_items rest) ps (ap (λ y. mark y ∷ ps) (sym dot) ∙ h) in
-      reads x.tests (spelled_items rest) x.after (no_bracket rest) ∙ sym (ap (put labels descriptors s) x.is)
+      reads x.tests (spelled_items rest) x.after (no_bracket rest) ∙ sym (ap (put format labels descriptors s) x.is)
 
   pub dot_rest : (m : Mark) (ps qs : List Part) → m ≡ Dot → Rests ps qs → (i : Item) (rest : List Item) → mark m ∷ ps ≡ spelled_item i (spelled_items rest) → qs ≡ spelled_items rest
   dot_rest m ps qs dot rests i rest h = let x = dot_item i (spelled_items rest) ps (ap (λ y. mark y ∷ ps) (sym dot) ∙ h) in rests x.tests (spelled_items rest) x.after (no_bracket rest)
@@ -108,21 +111,26 @@ module _ (labels descriptors : List (List ℕ)) where
 
   -- what was put, and what is left to put
   pub record PutSoFar (text : List ℕ) (at : ℕ) (s : Levels) : Type 0 where
-    pub left : (e : Expression) → parts text ≡ spelled e [] → (is : List Item) × (parts (drop at text) ≡ spelled_items is) × (put_all labels descriptors s is ≡ put_all labels descriptors start (items e []))
+    pub left : (e : Expression) → parts text ≡ spelled e [] → (is : List Item) × (parts (drop at text) ≡ spelled_items is) ×
+        (put_all format labels descriptors s is ≡ put_all format labels descriptors start (items e []))
 
   pub put_start : (text : List ℕ) (s : Levels) → s ≡ start → PutSoFar text 0 s
-  put_start text s k = record { left = λ e h. (items e [], h ∙ sym (items_spelled e []), ap (λ x. put_all labels descriptors x (items e [])) k) }
+  put_start text s k = record { left = λ e h. (items e [], h ∙ sym (items_spelled e []), ap (λ x. put_all format labels descriptors x (items e [])) k) }
 
-  pub put_step : (text : List ℕ) (at to : ℕ) (s t : Levels) → PutSoFar text at s → parts (drop at text) ≢ [] → ((i : Item) (rest : List Item) → parts (drop at text) ≡ spelled_item i (spelled_items rest) → t ≡ put labels descriptors s i) → ((i : Item) (rest : List Item) → parts (drop at text) ≡ spelled_item i (spelled_items rest) → parts (drop to text) ≡ spelled_items rest) → PutSoFar text to t
+  pub put_step : (text : List ℕ) (at to : ℕ) (s t : Levels) → PutSoFar text at s → parts (drop at text) ≢ [] →
+      ((i : Item) (rest : List Item) → parts (drop at text) ≡ spelled_item i (spelled_items rest) → t ≡ put format labels descriptors s i) →
+      ((i : Item) (rest : List Item) → parts (drop at text) ≡ spelled_item i (spelled_items rest) → parts (drop to text) ≡ spelled_items rest) → PutSoFar text to t
   put_step text at to s t was some' read after = record { left = λ e h. let x = was.left e h in by (items e []) x.0 x.1 x.2 }
     where
-      by : (all : List Item) (is : List Item) → parts (drop at text) ≡ spelled_items is → put_all labels descriptors s is ≡ put_all labels descriptors start all → (js : List Item) × (parts (drop to text) ≡ spelled_items js) × (put_all labels descriptors t js ≡ put_all labels descriptors start all)
+      by : (all : List Item) (is : List Item) → parts (drop at text) ≡ spelled_items is → put_all format labels descriptors s is ≡ put_all format labels descriptors start all →
+          (js : List Item) × (parts (drop to text) ≡ spelled_items js) × (put_all format labels descriptors t js ≡ put_all format labels descriptors start all)
       by all [] p q = absurd (some' p)
-      by all (i ∷ rest) p q = (rest, after i rest p, ap (λ x. put_all labels descriptors x rest) (read i rest p) ∙ q)
+      by all (i ∷ rest) p q = (rest, after i rest p, ap (λ x. put_all format labels descriptors x rest) (read i rest p) ∙ q)
 
-  pub put_end : (text : List ℕ) (at : ℕ) (s : Levels) → PutSoFar text at s → parts (drop at text) ≡ [] → (e : Expression) → parts text ≡ spelled e [] → finished s.inner ≡ meaning labels descriptors e
+  pub put_end : (text : List ℕ) (at : ℕ) (s : Levels) → PutSoFar text at s → parts (drop at text) ≡ [] → (e : Expression) → parts text ≡ spelled e [] →
+      finished s.inner ≡ meaning format labels descriptors e
   put_end text at s was none e h =
       let x = was.left e h in
       let z = no_item x.0 (sym x.1 ∙ none) in
-      let y : s ≡ put_all labels descriptors start (items e []) = ap (put_all labels descriptors s) (sym z) ∙ x.2 in
-      ap (λ l. finished l.inner) y ∙ built labels descriptors e
+      let y : s ≡ put_all format labels descriptors start (items e []) = ap (put_all format labels descriptors s) (sym z) ∙ x.2 in
+      ap (λ l. finished l.inner) y ∙ built format labels descriptors e

@@ -1,5 +1,6 @@
 -- The numbers of a tree are those of names that there are.
-use Rattle.std.proofs.Common.{◌≡◌, ℕ, ◌+◌, ◌<◌, List, [], ◌∷◌, ◌++◌, Bool, true, false, not, ◌&&◌, ◌||◌, cond, Vec, Global, Option, Some, None, map, length, unwrap_or, nat_lt, codes, refl, sym, subst, ap, ◌∙◌, arith}
+use Rattle.std.proofs.Common.{◌≡◌, ℕ, ◌+◌, ◌<◌, ◌≤◌, IfSome, List, [], ◌∷◌, ◌++◌, Bool, true, false, not, ◌&&◌, ◌||◌, cond, Vec, Global, Option, Some, None, map, length, unwrap_or, nat_lt}
+use Rattle.std.proofs.Common.{refl, sym, subst, ap, ◌∙◌, arith}
 use Rattle.std.specs.Option.{option_map}
 use Rattle.std.specs.List.{All, list_any, position_or_len}
 use Rattle.std.specs.Str.{bytes_eq}
@@ -9,6 +10,8 @@ use Rattle.std.proofs.lemmas.List.{length-map}
 use Rattle.std.proofs.lemmas.List.Folds.{list_any-append}
 use Rattle.std.proofs.lemmas.Slice.Eq.{bytes_eq-Decides}
 use Rattle.cw_rights.specs.declared.words.Test.{Test}
+use Rattle.cw_rights.specs.Names.{right_mask}
+use Rattle.cw_rights.proofs.Named.{mask_within}
 use Rattle.cw_rights.specs.Trees.{Literal, Tree, AllLiterals}
 use Rattle.cw_rights.specs.Valid.{IsTestWithin, IsLabelWithin, IsLiteralWithin, IsTreeWithin}
 use Rattle.cw_regex.specs.declared.text.Mark.TheVariants.{ParenClose, Bar, Star, Plus, Question}
@@ -16,37 +19,23 @@ use Rattle.cw_regex.specs.declared.unknown.Unknown.{Unknown}
 use Rattle.cw_regex.specs.declared.unknown.Unknown.TheVariants.{Descriptor, Right}
 use Rattle.cw_rights.specs.Valid.{is_name_byte}
 use Rattle.cw_regex.specs.Parts.{Part, word, mark, is_blank, mark_of, begins_word, grown, parts, Placed, grown_at, placed}
-use Rattle.cw_regex.specs.Grammar.{Name, Subject, ambient, holds, TestForm, Expression, only, either, Term, single, then, Factor, plain, star, plus, maybe, Atom, literal, group, spelled_subject, spelled_if, spelled_test, spelled_more, spelled_tests, spelled_label, spelled, spelled_term, spelled_factor, spelled_atom, Spells, SpellsTest, IsExpression, IsTest}
-use Rattle.cw_regex.specs.Meaning.{later_right_number, right_number, is_right, number_in, subject_meaning, test_meaning, chain_seq, chain_alt, joined_seq, joined_alt, terms, factors, factor_meaning, atom_meaning, meaning, named_label, labels_of, labels_of_term, labels_of_factor, labels_of_atom, with_name, with_names, names_of}
+use Rattle.cw_regex.specs.Grammar.{Name, Subject, ambient, holds, TestForm, Expression, only, either, Term, single, then, Factor, plain, star, plus, maybe, Atom, literal, group}
+use Rattle.cw_regex.specs.Grammar.{spelled_subject, spelled_if, spelled_test, spelled_more, spelled_tests, spelled_label, spelled, spelled_term, spelled_factor, spelled_atom, Spells}
+use Rattle.cw_regex.specs.Grammar.{SpellsTest, IsExpression, IsTest}
+use Rattle.cw_regex.specs.Meaning.{need_of, is_right, number_in, subject_meaning, test_meaning, chain_seq, chain_alt, joined_seq, joined_alt, terms, factors, factor_meaning, atom_meaning}
+use Rattle.cw_regex.specs.Meaning.{meaning, named_label, labels_of, labels_of_term, labels_of_factor, labels_of_atom, with_name, with_names, names_of}
 use Rattle.cw_rights.specs.declared.policy.Descriptor.{Descriptor as AnyDescriptor}
 use Rattle.cw_regex.specs.Labels.{names_in}
 use Rattle.cw_regex.specs.Tokens.{Settled}
 use Rattle.cw_regex.specs.Faults.{is_known, is_colon_part, colon_next, unknown_word, unknown_part, or_else, first_unknown}
 
--- the number of a right is below 12
-one_right : (b : Bool) (n : ℕ) (o : Option ℕ) → n < 12 → unwrap_or o 0 < 12 → unwrap_or (cond b (Some n) o) 0 < 12
-one_right true n o l m = l
-one_right false n o l m = m
-
-later_below : (w : List ℕ) → unwrap_or (later_right_number w) 0 < 12
-later_below w =
-    let b11 : unwrap_or (cond (bytes_eq w (codes "CAP_LOOKUP")) (Some 11) None) 0 < 12 = one_right (bytes_eq w (codes "CAP_LOOKUP")) 11 None (omega arith) (omega arith) in
-    let b10 : unwrap_or (cond (bytes_eq w (codes "CAP_LISTEN")) (Some 10) (cond (bytes_eq w (codes "CAP_LOOKUP")) (Some 11) None)) 0 < 12 = one_right (bytes_eq w (codes "CAP_LISTEN")) 10 (cond (bytes_eq w (codes "CAP_LOOKUP")) (Some 11) None) (omega arith) b11 in
-    let b9 : unwrap_or (cond (bytes_eq w (codes "CAP_ACCEPT")) (Some 9) (cond (bytes_eq w (codes "CAP_LISTEN")) (Some 10) (cond (bytes_eq w (codes "CAP_LOOKUP")) (Some 11) None))) 0 < 12 = one_right (bytes_eq w (codes "CAP_ACCEPT")) 9 (cond (bytes_eq w (codes "CAP_LISTEN")) (Some 10) (cond (bytes_eq w (codes "CAP_LOOKUP")) (Some 11) None)) (omega arith) b10 in
-    let b8 : unwrap_or (cond (bytes_eq w (codes "CAP_EVENT")) (Some 8) (cond (bytes_eq w (codes "CAP_ACCEPT")) (Some 9) (cond (bytes_eq w (codes "CAP_LISTEN")) (Some 10) (cond (bytes_eq w (codes "CAP_LOOKUP")) (Some 11) None)))) 0 < 12 = one_right (bytes_eq w (codes "CAP_EVENT")) 8 (cond (bytes_eq w (codes "CAP_ACCEPT")) (Some 9) (cond (bytes_eq w (codes "CAP_LISTEN")) (Some 10) (cond (bytes_eq w (codes "CAP_LOOKUP")) (Some 11) None))) (omega arith) b9 in
-    let b7 : unwrap_or (cond (bytes_eq w (codes "CAP_IOCTL")) (Some 7) (cond (bytes_eq w (codes "CAP_EVENT")) (Some 8) (cond (bytes_eq w (codes "CAP_ACCEPT")) (Some 9) (cond (bytes_eq w (codes "CAP_LISTEN")) (Some 10) (cond (bytes_eq w (codes "CAP_LOOKUP")) (Some 11) None))))) 0 < 12 = one_right (bytes_eq w (codes "CAP_IOCTL")) 7 (cond (bytes_eq w (codes "CAP_EVENT")) (Some 8) (cond (bytes_eq w (codes "CAP_ACCEPT")) (Some 9) (cond (bytes_eq w (codes "CAP_LISTEN")) (Some 10) (cond (bytes_eq w (codes "CAP_LOOKUP")) (Some 11) None)))) (omega arith) b8 in
-    let b6 : unwrap_or (cond (bytes_eq w (codes "CAP_FCNTL")) (Some 6) (cond (bytes_eq w (codes "CAP_IOCTL")) (Some 7) (cond (bytes_eq w (codes "CAP_EVENT")) (Some 8) (cond (bytes_eq w (codes "CAP_ACCEPT")) (Some 9) (cond (bytes_eq w (codes "CAP_LISTEN")) (Some 10) (cond (bytes_eq w (codes "CAP_LOOKUP")) (Some 11) None)))))) 0 < 12 = one_right (bytes_eq w (codes "CAP_FCNTL")) 6 (cond (bytes_eq w (codes "CAP_IOCTL")) (Some 7) (cond (bytes_eq w (codes "CAP_EVENT")) (Some 8) (cond (bytes_eq w (codes "CAP_ACCEPT")) (Some 9) (cond (bytes_eq w (codes "CAP_LISTEN")) (Some 10) (cond (bytes_eq w (codes "CAP_LOOKUP")) (Some 11) None))))) (omega arith) b7 in
-    b6
-
-right_below : (w : List ℕ) → unwrap_or (right_number w) 0 < 12
-right_below w =
-    let b5 : unwrap_or (cond (bytes_eq w (codes "CAP_FSYNC")) (Some 5) (later_right_number w)) 0 < 12 = one_right (bytes_eq w (codes "CAP_FSYNC")) 5 (later_right_number w) (omega arith) (later_below w) in
-    let b4 : unwrap_or (cond (bytes_eq w (codes "CAP_FTRUNCATE")) (Some 4) (cond (bytes_eq w (codes "CAP_FSYNC")) (Some 5) (later_right_number w))) 0 < 12 = one_right (bytes_eq w (codes "CAP_FTRUNCATE")) 4 (cond (bytes_eq w (codes "CAP_FSYNC")) (Some 5) (later_right_number w)) (omega arith) b5 in
-    let b3 : unwrap_or (cond (bytes_eq w (codes "CAP_FSTAT")) (Some 3) (cond (bytes_eq w (codes "CAP_FTRUNCATE")) (Some 4) (cond (bytes_eq w (codes "CAP_FSYNC")) (Some 5) (later_right_number w)))) 0 < 12 = one_right (bytes_eq w (codes "CAP_FSTAT")) 3 (cond (bytes_eq w (codes "CAP_FTRUNCATE")) (Some 4) (cond (bytes_eq w (codes "CAP_FSYNC")) (Some 5) (later_right_number w))) (omega arith) b4 in
-    let b2 : unwrap_or (cond (bytes_eq w (codes "CAP_SEEK")) (Some 2) (cond (bytes_eq w (codes "CAP_FSTAT")) (Some 3) (cond (bytes_eq w (codes "CAP_FTRUNCATE")) (Some 4) (cond (bytes_eq w (codes "CAP_FSYNC")) (Some 5) (later_right_number w))))) 0 < 12 = one_right (bytes_eq w (codes "CAP_SEEK")) 2 (cond (bytes_eq w (codes "CAP_FSTAT")) (Some 3) (cond (bytes_eq w (codes "CAP_FTRUNCATE")) (Some 4) (cond (bytes_eq w (codes "CAP_FSYNC")) (Some 5) (later_right_number w)))) (omega arith) b3 in
-    let b1 : unwrap_or (cond (bytes_eq w (codes "CAP_WRITE")) (Some 1) (cond (bytes_eq w (codes "CAP_SEEK")) (Some 2) (cond (bytes_eq w (codes "CAP_FSTAT")) (Some 3) (cond (bytes_eq w (codes "CAP_FTRUNCATE")) (Some 4) (cond (bytes_eq w (codes "CAP_FSYNC")) (Some 5) (later_right_number w)))))) 0 < 12 = one_right (bytes_eq w (codes "CAP_WRITE")) 1 (cond (bytes_eq w (codes "CAP_SEEK")) (Some 2) (cond (bytes_eq w (codes "CAP_FSTAT")) (Some 3) (cond (bytes_eq w (codes "CAP_FTRUNCATE")) (Some 4) (cond (bytes_eq w (codes "CAP_FSYNC")) (Some 5) (later_right_number w))))) (omega arith) b2 in
-    let b0 : unwrap_or (cond (bytes_eq w (codes "CAP_READ")) (Some 0) (cond (bytes_eq w (codes "CAP_WRITE")) (Some 1) (cond (bytes_eq w (codes "CAP_SEEK")) (Some 2) (cond (bytes_eq w (codes "CAP_FSTAT")) (Some 3) (cond (bytes_eq w (codes "CAP_FTRUNCATE")) (Some 4) (cond (bytes_eq w (codes "CAP_FSYNC")) (Some 5) (later_right_number w))))))) 0 < 12 = one_right (bytes_eq w (codes "CAP_READ")) 0 (cond (bytes_eq w (codes "CAP_WRITE")) (Some 1) (cond (bytes_eq w (codes "CAP_SEEK")) (Some 2) (cond (bytes_eq w (codes "CAP_FSTAT")) (Some 3) (cond (bytes_eq w (codes "CAP_FTRUNCATE")) (Some 4) (cond (bytes_eq w (codes "CAP_FSYNC")) (Some 5) (later_right_number w)))))) (omega arith) b1 in
-    b0
+-- a name's rights are some of the twelve
+need_within : (format : ℕ) (w : List ℕ) → (need_of format w).0 ≤ 0xfff
+need_within format w = by (right_mask format w) (mask_within format w)
+  where
+    by : (o : Option ℕ) → IfSome o (λ n. n ≤ 0xfff) → unwrap_or o 0 ≤ 0xfff
+    by None h = omega arith
+    by (Some n) h = h
 
 -- the number of a name is that of one of the list, if it isn't empty
 some_below : (b : Bool) (n m : ℕ) → nat_lt n m ≡ b → 0 < m → unwrap_or (cond b (Some n) None) 0 < m
@@ -138,19 +127,21 @@ parts_placed : (text : List ℕ) (n : ℕ) → map (λ p. p.part) (placed n text
 parts_placed [] n = refl
 parts_placed (b ∷ rest) n = by (parts_placed rest (n + 1)) (is_blank b) (is_name_byte b)
   where
-    by : map (λ p. p.part) (placed (n + 1) rest) ≡ parts rest → (s w : Bool) → map (λ p. p.part) (cond s (placed (n + 1) rest) (cond w (grown_at n b (begins_word rest) (placed (n + 1) rest)) (record { at = n; part = mark (mark_of b) } ∷ placed (n + 1) rest))) ≡ cond s (parts rest) (cond w (grown b (begins_word rest) (parts rest)) (mark (mark_of b) ∷ parts rest))
+    by : map (λ p. p.part) (placed (n + 1) rest) ≡ parts rest → (s w : Bool) →
+        map (λ p. p.part) (cond s (placed (n + 1) rest) (cond w (grown_at n b (begins_word rest) (placed (n + 1) rest)) (record { at = n; part = mark (mark_of b) } ∷ placed (n + 1) rest))) ≡
+        cond s (parts rest) (cond w (grown b (begins_word rest) (parts rest)) (mark (mark_of b) ∷ parts rest))
     by tail true w = tail
     by tail false true = all_grown n b (begins_word rest) (placed (n + 1) rest) ∙ ap (grown b (begins_word rest)) tail
     by tail false false = ap (λ ps. mark (mark_of b) ∷ ps) tail
 
-module _ (names : List (List ℕ)) where
+module _ (format : ℕ) (names : List (List ℕ)) where
   -- no name of these parts is unknown
   abbrev pub Known : Bool → List Part → Type 0
   Known after [] = Unit {0}
-  Known after (p ∷ rest) = (unknown_part names after (next_colon rest) 0 p ≡ None) × Known (is_colon_part p) rest
+  Known after (p ∷ rest) = (unknown_part format names after (next_colon rest) 0 p ≡ None) × Known (is_colon_part p) rest
 
-  any_word : (after before : Bool) (n : ℕ) (w : List ℕ) → unknown_word names after before n w ≡ None → unknown_word names after before 0 w ≡ None
-  any_word true before n w e = by (is_right w) e
+  any_word : (after before : Bool) (n : ℕ) (w : List ℕ) → unknown_word format names after before n w ≡ None → unknown_word format names after before 0 w ≡ None
+  any_word true before n w e = by (is_right format w) e
     where
       by : (b : Bool) → cond b None (Some (Right n)) ≡ None → cond b None (Some (Right 0)) ≡ None
       by true e = refl
@@ -161,7 +152,7 @@ module _ (names : List (List ℕ)) where
       by false e = refl
       by true e = absurd (cc)
 
-  any_place : (after before : Bool) (n : ℕ) (p : Part) → unknown_part names after before n p ≡ None → unknown_part names after before 0 p ≡ None
+  any_place : (after before : Bool) (n : ℕ) (p : Part) → unknown_part format names after before n p ≡ None → unknown_part format names after before 0 p ≡ None
   any_place after before n (word w) e = any_word after before n w e
   any_place after before n (mark m) e = refl
 
@@ -173,111 +164,124 @@ module _ (names : List (List ℕ)) where
   same_next [] = refl
   same_next (p ∷ rest) = refl
 
-  known_of : (pl : List Placed) (after : Bool) → first_unknown names after pl ≡ None → Known after (map (λ p. p.part) pl)
+  known_of : (pl : List Placed) (after : Bool) → first_unknown format names after pl ≡ None → Known after (map (λ p. p.part) pl)
   known_of [] after e = tt
   known_of (p ∷ rest) after e =
-      let b = both_none (unknown_part names after (colon_next rest) p.at p.part) (first_unknown names (is_colon_part p.part) rest) e in
-      (ap (λ c. unknown_part names after c 0 p.part) (sym (same_next rest)) ∙ any_place after (colon_next rest) p.at p.part b.0, known_of rest (is_colon_part p.part) b.1)
+      let b = both_none (unknown_part format names after (colon_next rest) p.at p.part) (first_unknown format names (is_colon_part p.part) rest) e in
+      (ap (λ c. unknown_part format names after c 0 p.part) (sym (same_next rest)) ∙ any_place after (colon_next rest) p.at p.part b.0, known_of rest (is_colon_part p.part) b.1)
 
-  pub known_parts : (text : List ℕ) → first_unknown names false (placed 0 text) ≡ None → Known false (parts text)
+  pub known_parts : (text : List ℕ) → first_unknown format names false (placed 0 text) ≡ None → Known false (parts text)
   known_parts text e = subst (Known false) (parts_placed text 0) (known_of (placed 0 text) false e)
 
-  is_there : (w : List ℕ) → unknown_word names false true 0 w ≡ None → list_any (bytes_eq w) names ≡ true
+  is_there : (w : List ℕ) → unknown_word format names false true 0 w ≡ None → list_any (bytes_eq w) names ≡ true
   is_there w e = by (list_any (bytes_eq w) names) e
     where
       by : (b : Bool) → cond (true && not b) (Some (Descriptor 0)) None ≡ None → b ≡ true
       by true e = refl
       by false e = absurd (cc)
 
-  within_subject : (s : Subject) (ps : List Part) → Known false (spelled_subject s ps) → IsTestWithin (length names) (subject_meaning names s) × Known false ps
+  within_subject : (s : Subject) (ps : List Part) → Known false (spelled_subject s ps) → IsTestWithin (length names) (subject_meaning format names s) × Known false ps
   within_subject ambient ps k = (tt, k.1)
-  within_subject (holds d r) ps k = ((number_below d.bytes names (not_empty d.bytes names (is_there d.bytes k.0)), right_below r.bytes), k.1.1.1)
+  within_subject (holds d r) ps k = ((number_below d.bytes names (not_empty d.bytes names (is_there d.bytes k.0)), need_within format r.bytes), k.1.1.1)
 
-  pub within_test : (t : TestForm) (ps : List Part) → Known false (spelled_test t ps) → IsTestWithin (length names) (test_meaning names t).1 × Known false ps
+  pub within_test : (t : TestForm) (ps : List Part) → Known false (spelled_test t ps) → IsTestWithin (length names) (test_meaning format names t).1 × Known false ps
   within_test t ps k = by t.negated k
     where
-      by : (n : Bool) → Known false (spelled_if n t.what ps) → IsTestWithin (length names) (subject_meaning names t.what) × Known false ps
+      by : (n : Bool) → Known false (spelled_if n t.what ps) → IsTestWithin (length names) (subject_meaning format names t.what) × Known false ps
       by true k = within_subject t.what ps k.1
       by false k = within_subject t.what ps k
 
   abbrev AllWithin : List TestForm → Type 0
-  AllWithin ts = All (λ t. IsTestWithin (length names) t.1) (map (test_meaning names) ts)
+  AllWithin ts = All (λ t. IsTestWithin (length names) t.1) (map (test_meaning format names) ts)
 
   within_more : (ts : List TestForm) (ps : List Part) → Known false (spelled_more ts ps) → AllWithin ts × Known false ps
   within_more [] ps k = (All-nil (λ t. IsTestWithin (length names) t.1), k.1)
   within_more (t ∷ ts) ps k =
       let x = within_test t (spelled_more ts ps) k.1 in
       let y = within_more ts ps x.1 in
-      (All-cons (λ t. IsTestWithin (length names) t.1) (test_meaning names t) (map (test_meaning names) ts) x.0 y.0, y.1)
+      (All-cons (λ t. IsTestWithin (length names) t.1) (test_meaning format names t) (map (test_meaning format names) ts) x.0 y.0, y.1)
 
   within_tests : (ts : List TestForm) (ps : List Part) → Known false (spelled_tests ts ps) → AllWithin ts × Known false ps
   within_tests [] ps k = (All-nil (λ t. IsTestWithin (length names) t.1), k)
   within_tests (t ∷ ts) ps k =
       let x = within_test t (spelled_more ts ps) k.1 in
       let y = within_more ts ps x.1 in
-      (All-cons (λ t. IsTestWithin (length names) t.1) (test_meaning names t) (map (test_meaning names) ts) x.0 y.0, y.1)
+      (All-cons (λ t. IsTestWithin (length names) t.1) (test_meaning format names t) (map (test_meaning format names) ts) x.0 y.0, y.1)
 
   module _ (labels : List (List ℕ)) where
     abbrev Ok : Literal → Type 0
     Ok = IsLiteralWithin (length names) (length labels)
 
-    within_label : (label : Option Name) (ws : List (List ℕ)) (ps : List Part) → AllIn labels (named_label label ws) → Known false (spelled_label label ps) → IsLabelWithin (length labels) (option_map (λ name. number_in labels name.bytes) label) × AllIn labels ws × Known false ps
+    within_label : (label : Option Name) (ws : List (List ℕ)) (ps : List Part) → AllIn labels (named_label label ws) → Known false (spelled_label label ps) →
+        IsLabelWithin (length labels) (option_map (λ name. number_in labels name.bytes) label) × AllIn labels ws × Known false ps
     within_label None ws ps a k = (tt, a, k.1)
     within_label (Some name) ws ps a k = (number_below name.bytes labels (not_empty name.bytes labels a.0), a.1, k.1)
 
     mutual
-      within : (e : Expression) (ws : List (List ℕ)) (ps : List Part) → AllIn labels (labels_of e ws) → Known false (spelled e ps) → AllTrees Ok (terms labels names e) × AllIn labels ws × Known false ps
-      within (only t) ws ps a k = let x = within_term t ws ps a k in ((all_seq Ok (factors labels names t) x.0, tt), x.1, x.2)
+      within : (e : Expression) (ws : List (List ℕ)) (ps : List Part) → AllIn labels (labels_of e ws) → Known false (spelled e ps) →
+          AllTrees Ok (terms format labels names e) × AllIn labels ws × Known false ps
+      within (only t) ws ps a k = let x = within_term t ws ps a k in ((all_seq Ok (factors format labels names t) x.0, tt), x.1, x.2)
       within (either t e) ws ps a k =
           let x = within_term t (labels_of e ws) (mark Bar ∷ spelled e ps) a k in
           let y = within e ws ps x.1 x.2.1 in
-          ((all_seq Ok (factors labels names t) x.0, y.0), y.1, y.2)
+          ((all_seq Ok (factors format labels names t) x.0, y.0), y.1, y.2)
 
-      within_term : (t : Term) (ws : List (List ℕ)) (ps : List Part) → AllIn labels (labels_of_term t ws) → Known false (spelled_term t ps) → AllTrees Ok (factors labels names t) × AllIn labels ws × Known false ps
+      within_term : (t : Term) (ws : List (List ℕ)) (ps : List Part) → AllIn labels (labels_of_term t ws) → Known false (spelled_term t ps) →
+          AllTrees Ok (factors format labels names t) × AllIn labels ws × Known false ps
       within_term (single f) ws ps a k = let x = within_factor f ws ps a k in ((x.0, tt), x.1, x.2)
       within_term (then f t) ws ps a k =
           let x = within_factor f (labels_of_term t ws) (spelled_term t ps) a k in
           let y = within_term t ws ps x.1 x.2 in
           ((x.0, y.0), y.1, y.2)
 
-      within_factor : (f : Factor) (ws : List (List ℕ)) (ps : List Part) → AllIn labels (labels_of_factor f ws) → Known false (spelled_factor f ps) → AllLiterals Ok (factor_meaning labels names f) × AllIn labels ws × Known false ps
+      within_factor : (f : Factor) (ws : List (List ℕ)) (ps : List Part) → AllIn labels (labels_of_factor f ws) → Known false (spelled_factor f ps) →
+          AllLiterals Ok (factor_meaning format labels names f) × AllIn labels ws × Known false ps
       within_factor (plain a) ws ps i k = within_atom a ws ps i k
       within_factor (star a) ws ps i k = let x = within_atom a ws (mark Star ∷ ps) i k in (x.0, x.1, x.2.1)
       within_factor (plus a) ws ps i k = let x = within_atom a ws (mark Plus ∷ ps) i k in (x.0, x.1, x.2.1)
       within_factor (maybe a) ws ps i k = let x = within_atom a ws (mark Question ∷ ps) i k in (x.0, x.1, x.2.1)
 
-      within_atom : (a : Atom) (ws : List (List ℕ)) (ps : List Part) → AllIn labels (labels_of_atom a ws) → Known false (spelled_atom a ps) → AllLiterals Ok (atom_meaning labels names a) × AllIn labels ws × Known false ps
+      within_atom : (a : Atom) (ws : List (List ℕ)) (ps : List Part) → AllIn labels (labels_of_atom a ws) → Known false (spelled_atom a ps) →
+          AllLiterals Ok (atom_meaning format labels names a) × AllIn labels ws × Known false ps
       within_atom (literal label ts) ws ps i k =
           let x = within_label label ws (spelled_tests ts ps) i k in
           let y = within_tests ts ps x.2 in
           (record { label = x.0; tests = y.0 }, x.1, y.1)
       within_atom (group e) ws ps i k =
           let x = within e ws (mark ParenClose ∷ ps) i k.1 in
-          (all_alt Ok (terms labels names e) x.0, x.1, x.2.1)
+          (all_alt Ok (terms format labels names e) x.0, x.1, x.2.1)
 
   -- of a text whose names are known, after its labels were added to others
-  pub tree_within : (old labels : List (List ℕ)) (text : List ℕ) (t : Tree) → IsExpression text → first_unknown names false (placed 0 text) ≡ None → ((e : Expression) → Spells text e → labels ≡ with_names old (labels_of e [])) → ((e : Expression) → Spells text e → t ≡ meaning labels names e) → IsTreeWithin (length names) (length labels) t
+  pub tree_within : (old labels : List (List ℕ)) (text : List ℕ) (t : Tree) → IsExpression text → first_unknown format names false (placed 0 text) ≡ None →
+      ((e : Expression) → Spells text e → labels ≡ with_names old (labels_of e [])) → ((e : Expression) → Spells text e → t ≡ meaning format labels names e) →
+      IsTreeWithin (length names) (length labels) t
   tree_within old labels text t (e, s) k l m =
       let known = subst (Known false) s.parts (known_parts text k) in
       let there = subst (λ x. AllIn x (labels_of e [])) (sym (l e s)) (all_in (labels_of e []) old) in
       let x = within labels e [] [] there known in
-      subst (IsTreeWithin (length names) (length labels)) (sym (m e s)) (all_alt (IsLiteralWithin (length names) (length labels)) (terms labels names e) x.0)
+      subst (IsTreeWithin (length names) (length labels)) (sym (m e s)) (all_alt (IsLiteralWithin (length names) (length labels)) (terms format labels names e) x.0)
 
-  pub one_within : (text : List ℕ) (wanted : Bool) (t : Test) → IsTest text → first_unknown names false (placed 0 text) ≡ None → ((x : TestForm) → SpellsTest text x → let y : Bool × Test = (wanted, t) in y ≡ test_meaning names x) → IsTestWithin (length names) t
+  pub one_within : (text : List ℕ) (wanted : Bool) (t : Test) → IsTest text → first_unknown format names false (placed 0 text) ≡ None →
+      ((x : TestForm) → SpellsTest text x → let y : Bool × Test = (wanted, t) in y ≡ test_meaning format names x) → IsTestWithin (length names) t
   one_within text wanted t (x, s) k m =
       let known = subst (Known false) s.parts (known_parts text k) in
       subst (λ y. IsTestWithin (length names) y.1) (sym (m x s)) (within_test x [] known).0
 
-pub regex_within : (descriptors : List AnyDescriptor) (old new : List (Vec ℕ Global)) (text : List ℕ) (t : Tree) → IsExpression text → first_unknown (names_of descriptors) false (placed 0 text) ≡ None → ((e : Expression) → Spells text e → names_in new ≡ with_names (names_in old) (labels_of e [])) → ((e : Expression) → Spells text e → t ≡ meaning (names_in new) (names_of descriptors) e) → IsTreeWithin (length descriptors) (length new) t
-regex_within descriptors old new text t i k l m =
+pub regex_within : (format : ℕ) (descriptors : List AnyDescriptor) (old new : List (Vec ℕ Global)) (text : List ℕ) (t : Tree) → IsExpression text →
+    first_unknown format (names_of descriptors) false (placed 0 text) ≡ None → ((e : Expression) → Spells text e → names_in new ≡ with_names (names_in old) (labels_of e [])) →
+    ((e : Expression) → Spells text e → t ≡ meaning format (names_in new) (names_of descriptors) e) → IsTreeWithin (length descriptors) (length new) t
+regex_within format descriptors old new text t i k l m =
     let d = length-map descriptors (λ (d : AnyDescriptor). d.name.items) in
     let n = length-map new (λ (v : Vec ℕ Global). v.items) in
-    subst (λ x. IsTreeWithin (length descriptors) x t) n (subst (λ x. IsTreeWithin x (length (names_in new)) t) d (tree_within (names_of descriptors) (names_in old) (names_in new) text t i k l m))
+    subst (λ x. IsTreeWithin (length descriptors) x t) n (subst (λ x. IsTreeWithin x (length (names_in new)) t) d
+    (tree_within format (names_of descriptors) (names_in old) (names_in new) text t i k l m))
 
-pub test_within : (descriptors : List AnyDescriptor) (text : List ℕ) (wanted : Bool) (t : Test) → IsTest text → first_unknown (names_of descriptors) false (placed 0 text) ≡ None → ((x : TestForm) → SpellsTest text x → let y : Bool × Test = (wanted, t) in y ≡ test_meaning (names_of descriptors) x) → IsTestWithin (length descriptors) t
-test_within descriptors text wanted t i k m =
+pub test_within : (format : ℕ) (descriptors : List AnyDescriptor) (text : List ℕ) (wanted : Bool) (t : Test) → IsTest text →
+    first_unknown format (names_of descriptors) false (placed 0 text) ≡ None → ((x : TestForm) → SpellsTest text x → let y : Bool × Test = (wanted, t) in
+    y ≡ test_meaning format (names_of descriptors) x) → IsTestWithin (length descriptors) t
+test_within format descriptors text wanted t i k m =
     let d = length-map descriptors (λ (d : AnyDescriptor). d.name.items) in
-    subst (λ x. IsTestWithin x t) d (one_within (names_of descriptors) text wanted t i k m)
+    subst (λ x. IsTestWithin x t) d (one_within format (names_of descriptors) text wanted t i k m)
 
 pub settled_end : (s : Subject) → Settled s []
 settled_end ambient = refl

@@ -25,21 +25,22 @@ colon_next [] = false
 colon_next (p ∷ rest) = is_colon_part p.part
 
 -- `after`: the part before was `:`
-abbrev pub unknown_word : List (List ℕ) → Bool → Bool → ℕ → List ℕ → Option Unknown
-unknown_word descriptors true before n w = cond (is_right w) None (Some (Right n))
-unknown_word descriptors false before n w = cond (before && not (is_known descriptors w)) (Some (Descriptor n)) None
+abbrev pub unknown_word : ℕ → List (List ℕ) → Bool → Bool → ℕ → List ℕ → Option Unknown
+unknown_word format descriptors true before n w = cond (is_right format w) None (Some (Right n))
+unknown_word format descriptors false before n w = cond (before && not (is_known descriptors w)) (Some (Descriptor n)) None
 
-abbrev pub unknown_part : List (List ℕ) → Bool → Bool → ℕ → Part → Option Unknown
-unknown_part descriptors after before n (word w) = unknown_word descriptors after before n w
-unknown_part descriptors after before n (mark m) = None
+abbrev pub unknown_part : ℕ → List (List ℕ) → Bool → Bool → ℕ → Part → Option Unknown
+unknown_part format descriptors after before n (word w) = unknown_word format descriptors after before n w
+unknown_part format descriptors after before n (mark m) = None
 
 abbrev pub or_else : Option Unknown → Option Unknown → Option Unknown
 or_else None o = o
 or_else (Some u) o = Some u
 
-abbrev pub first_unknown : List (List ℕ) → Bool → List Placed → Option Unknown
-first_unknown descriptors after [] = None
-first_unknown descriptors after (p ∷ rest) = or_else (unknown_part descriptors after (colon_next rest) p.at p.part) (first_unknown descriptors (is_colon_part p.part) rest)
+abbrev pub first_unknown : ℕ → List (List ℕ) → Bool → List Placed → Option Unknown
+first_unknown format descriptors after [] = None
+first_unknown format descriptors after (p ∷ rest) =
+    or_else (unknown_part format descriptors after (colon_next rest) p.at p.part) (first_unknown format descriptors (is_colon_part p.part) rest)
 
 abbrev pub place_of : Unknown → ℕ
 place_of (Descriptor n) = n

@@ -1,4 +1,4 @@
--- An expression as a list of items, and the tree that is built of them from left to right.
+-- Working definitions: an expression as a list of items, and the tree that is built of them from left to right.
 use Rattle.std.specs.Prelude.{ℕ, List, [], ◌∷◌, ◌++◌, Option, map, fold, reverse}
 use Rattle.cw_rights.specs.Trees.{Literal, Tree, tree_of, one, star as star_of, plus as plus_of, maybe as maybe_of}
 use Rattle.cw_regex.specs.declared.text.Mark.{Mark}
@@ -93,14 +93,14 @@ with_close s = closed_into s.outer (finished s.inner)
 abbrev pub with_bar : Levels → Levels
 with_bar s = record { inner = record { terms = s.inner.terms ++ joined_seq s.inner.factors ∷ []; factors = [] }; outer = s.outer }
 
-abbrev pub put : List (List ℕ) → List (List ℕ) → Levels → Item → Levels
-put labels descriptors s (lit label tests) = with_literal s (literal_meaning labels descriptors label tests)
-put labels descriptors s begin = with_begin s
-put labels descriptors s close = with_close s
-put labels descriptors s bar = with_bar s
-put labels descriptors s many = repeated star_of s
-put labels descriptors s some = repeated plus_of s
-put labels descriptors s optional = repeated maybe_of s
+abbrev pub put : ℕ → List (List ℕ) → List (List ℕ) → Levels → Item → Levels
+put format labels descriptors s (lit label tests) = with_literal s (literal_meaning format labels descriptors label tests)
+put format labels descriptors s begin = with_begin s
+put format labels descriptors s close = with_close s
+put format labels descriptors s bar = with_bar s
+put format labels descriptors s many = repeated star_of s
+put format labels descriptors s some = repeated plus_of s
+put format labels descriptors s optional = repeated maybe_of s
 
 -- the same by the mark that stands in the text
 abbrev pub repeated_by : Mark → Tree → Tree
@@ -114,8 +114,8 @@ with_mark s ParenClose = with_close s
 with_mark s Bar = with_bar s
 with_mark s m = repeated (repeated_by m) s
 
-abbrev pub put_all : List (List ℕ) → List (List ℕ) → Levels → List Item → Levels
-put_all labels descriptors s is = fold (put labels descriptors) s is
+abbrev pub put_all : ℕ → List (List ℕ) → List (List ℕ) → Levels → List Item → Levels
+put_all format labels descriptors s is = fold (put format labels descriptors) s is
 
 -- the levels that the program's frames stand for
 abbrev pub level_of : Frame → Level

@@ -1,4 +1,5 @@
 -- The definitions.
+pub mod Adding
 pub mod Causes
 pub mod Faults
 pub mod Grammar

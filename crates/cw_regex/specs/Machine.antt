@@ -1,4 +1,4 @@
--- What may come after what was read: the phase, and how many parentheses are open.
+-- Working definitions: what may come after what was read: the phase, and how many parentheses are open.
 use Rattle.std.specs.Prelude.{ℕ, zero, suc, ◌+◌, ◌-◌, max, List, [], ◌∷◌, Bool, true, false, ◌&&◌, cond, nat_eq, Option, Some, None, option_and_then}
 use Rattle.std.specs.Option.{option_map}
 use Rattle.std.specs.Str.{bytes_eq}

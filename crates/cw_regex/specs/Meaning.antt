@@ -1,39 +1,21 @@
 -- What an expression and a test mean: the tree, with numbers for names.
-use Rattle.std.specs.Prelude.{ℕ, List, [], ◌∷◌, ◌++◌, map, Bool, true, false, cond, not, Option, Some, None, codes, fold, position, unwrap_or, is_some}
+use Rattle.std.specs.Prelude.{ℕ, List, [], ◌∷◌, ◌++◌, map, Bool, true, false, cond, not, Option, Some, None, fold, position, unwrap_or, is_some}
 use Rattle.std.specs.Option.{option_map}
 use Rattle.std.specs.List.{list_any}
 use Rattle.std.specs.Str.{bytes_eq}
 use Rattle.cw_rights.specs.declared.words.Test.{Test}
 use Rattle.cw_rights.specs.declared.words.Test.TheVariants.{Amb, Holds}
 use Rattle.cw_rights.specs.declared.policy.Descriptor.{Descriptor}
+use Rattle.cw_rights.specs.declared.capabilities.Rights.{Rights}
+use Rattle.cw_rights.specs.Names.{right_mask}
 use Rattle.cw_rights.specs.Trees.{Literal, Tree, nothing, never, one, seq, alt, star as star_of, plus as plus_of, maybe as maybe_of}
 use Rattle.cw_regex.specs.declared.text.Mark.TheVariants.{BracketOpen, BracketClose}
 use Rattle.cw_regex.specs.Parts.{Part, word, mark}
 use Rattle.cw_regex.specs.Grammar.{Name, Subject, ambient, holds, TestForm, Expression, only, either, Term, single, then, Factor, plain, star, plus, maybe, Atom, literal, group}
 
--- the number of a right: rights(4), in this project's order
-abbrev pub later_right_number : List ℕ → Option ℕ
-later_right_number w =
-    cond (bytes_eq w (codes "CAP_FCNTL")) (Some 6) (
-    cond (bytes_eq w (codes "CAP_IOCTL")) (Some 7) (
-    cond (bytes_eq w (codes "CAP_EVENT")) (Some 8) (
-    cond (bytes_eq w (codes "CAP_ACCEPT")) (Some 9) (
-    cond (bytes_eq w (codes "CAP_LISTEN")) (Some 10) (
-    cond (bytes_eq w (codes "CAP_LOOKUP")) (Some 11) (
-    None))))))
-
-abbrev pub right_number : List ℕ → Option ℕ
-right_number w =
-    cond (bytes_eq w (codes "CAP_READ")) (Some 0) (
-    cond (bytes_eq w (codes "CAP_WRITE")) (Some 1) (
-    cond (bytes_eq w (codes "CAP_SEEK")) (Some 2) (
-    cond (bytes_eq w (codes "CAP_FSTAT")) (Some 3) (
-    cond (bytes_eq w (codes "CAP_FTRUNCATE")) (Some 4) (
-    cond (bytes_eq w (codes "CAP_FSYNC")) (Some 5) (
-    later_right_number w))))))
-
-abbrev pub is_right : List ℕ → Bool
-is_right w = is_some (right_number w)
+-- the word is the name of a right in this format
+abbrev pub is_right : ℕ → List ℕ → Bool
+is_right format w = is_some (right_mask format w)
 
 -- the place of a name in a list, and 0 where it isn't there
 abbrev pub number_in : List (List ℕ) → List ℕ → ℕ
@@ -42,18 +24,22 @@ number_in names w = unwrap_or (position (bytes_eq w) names) 0
 abbrev pub names_of : List Descriptor → List (List ℕ)
 names_of descriptors = map (λ d. d.name.items) descriptors
 
-abbrev pub subject_meaning : List (List ℕ) → Subject → Test
-subject_meaning descriptors ambient = Amb
-subject_meaning descriptors (holds d r) = Holds (number_in descriptors d.bytes) (unwrap_or (right_number r.bytes) 0)
+-- a right's name asks for the set that it stands for
+abbrev pub need_of : ℕ → List ℕ → Rights
+need_of format w = record { 0 = unwrap_or (right_mask format w) 0 }
+
+abbrev pub subject_meaning : ℕ → List (List ℕ) → Subject → Test
+subject_meaning format descriptors ambient = Amb
+subject_meaning format descriptors (holds d r) = Holds (number_in descriptors d.bytes) (need_of format r.bytes)
 
 -- the wanted truth and the test
-abbrev pub test_meaning : List (List ℕ) → TestForm → Bool × Test
-test_meaning descriptors t = (not t.negated, subject_meaning descriptors t.what)
+abbrev pub test_meaning : ℕ → List (List ℕ) → TestForm → Bool × Test
+test_meaning format descriptors t = (not t.negated, subject_meaning format descriptors t.what)
 
-abbrev pub literal_meaning : List (List ℕ) → List (List ℕ) → Option Name → List TestForm → Literal
-literal_meaning labels descriptors label tests = record {
+abbrev pub literal_meaning : ℕ → List (List ℕ) → List (List ℕ) → Option Name → List TestForm → Literal
+literal_meaning format labels descriptors label tests = record {
   label = option_map (λ name. number_in labels name.bytes) label;
-  tests = map (test_meaning descriptors) tests;
+  tests = map (test_meaning format descriptors) tests;
 }
 
 -- several parts are a sequence or an alternative, one is itself
@@ -75,7 +61,7 @@ joined_alt [] = never
 joined_alt (t ∷ []) = t
 joined_alt (t ∷ (u ∷ rest)) = alt t (alt u (chain_alt rest))
 
-module _ (labels descriptors : List (List ℕ)) where
+module _ (format : ℕ) (labels descriptors : List (List ℕ)) where
   abbrev mutual
     pub terms : Expression → List Tree
     terms (only t) = joined_seq (factors t) ∷ []
@@ -92,7 +78,7 @@ module _ (labels descriptors : List (List ℕ)) where
     factor_meaning (maybe a) = maybe_of (atom_meaning a)
 
     pub atom_meaning : Atom → Tree
-    atom_meaning (literal label tests) = one (literal_meaning labels descriptors label tests)
+    atom_meaning (literal label tests) = one (literal_meaning format labels descriptors label tests)
     atom_meaning (group e) = joined_alt (terms e)
 
   abbrev pub meaning : Expression → Tree

@@ -49,7 +49,8 @@ grown_at n b true (p ∷ rest) = joined p.part
 
 abbrev pub placed : ℕ → List ℕ → List Placed
 placed n [] = []
-placed n (b ∷ rest) = cond (is_blank b) (placed (n + 1) rest) (cond (is_name_byte b) (grown_at n b (begins_word rest) (placed (n + 1) rest)) (record { at = n; part = mark (mark_of b) } ∷ placed (n + 1) rest))
+placed n (b ∷ rest) = cond (is_blank b) (placed (n + 1) rest) (cond (is_name_byte b) (grown_at n b (begins_word rest) (placed (n + 1) rest))
+    (record { at = n; part = mark (mark_of b) } ∷ placed (n + 1) rest))
 
 -- blanks stand between parts, neither before the first nor after the last
 abbrev pub starts_blank : List ℕ → Bool

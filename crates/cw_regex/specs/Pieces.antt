@@ -1,4 +1,4 @@
--- What stands at a place of a text.
+-- Working definitions: what stands at a place of a text.
 use Rattle.std.specs.Prelude.{◌≡◌, ℕ, ◌+◌, ◌-◌, ◌≤◌, List, ◌∷◌, ◌++◌, true, false, take, drop, length}
 use Rattle.std.specs.List.{list_all}
 use Rattle.cw_rights.specs.Valid.{is_name_byte}

@@ -1,4 +1,4 @@
--- How far a scan of a text has come.
+-- Working definitions: how far a scan of a text has come.
 use Rattle.std.specs.Prelude.{◌≡◌, ℕ, ◌≤◌, max, List, [], ◌∷◌, ◌++◌, Bool, true, false, ◌&&◌, Some, take, drop, length}
 use Rattle.cw_regex.specs.declared.phase.Phase.{Phase}
 use Rattle.cw_regex.specs.declared.phase.Phase.TheVariants.{Right}

@@ -1,4 +1,4 @@
--- The next part from a place of a text on.
+-- Working definitions: the next part from a place of a text on.
 use Rattle.std.specs.Prelude.{◌≡◌, ℕ, Bool, true, false, ◌-◌, ◌<◌, ◌≤◌, List, [], ◌∷◌, take, drop, length}
 use Rattle.cw_regex.specs.declared.text.Token.{Token}
 use Rattle.cw_regex.specs.declared.text.Token.TheVariants.{End, Word, Mark as MarkToken}

@@ -33,6 +33,7 @@ fn literal(
     at: usize,
     label: Option<u16>,
     descriptors: &[Descriptor],
+    format: u8,
 ) -> Result<(Lit, usize), AllocError>
     requires inside { at ≤ length text.now }
     requires few { length descriptors.now ≤ 8 }
@@ -41,12 +42,12 @@ fn literal(
     ensures label { IfOk result (λ r. r.0.label ≡ label) }
     ensures read { IfOk result (λ r. (ts : List TestForm) (rest : List Part) →
         parts (drop at text.now) ≡ spelled_tests ts rest → begins_bracket rest ≡ false →
-        r.0.tests.items ≡ map (test_meaning (names_of descriptors.now)) ts) }
+        r.0.tests.items ≡ map (test_meaning format (names_of descriptors.now)) ts) }
     ensures rest { IfOk result (λ r. (ts : List TestForm) (rest : List Part) →
         parts (drop at text.now) ≡ spelled_tests ts rest → begins_bracket rest ≡ false →
         parts (drop r.1 text.now) ≡ rest) }
 {
-    let (tests, to) = tests_in_brackets(alloc, text, at, descriptors)?;
+    let (tests, to) = tests_in_brackets(alloc, text, at, descriptors, format)?;
     Ok((Lit { label, tests }, to))
 }
 
@@ -56,6 +57,7 @@ fn put_label(
     at: usize,
     label: Option<u16>,
     descriptors: &[Descriptor],
+    format: u8,
     building: Building,
 ) -> Result<(Building, usize), AllocError>
     requires inside { at ≤ length text.now }
@@ -65,12 +67,12 @@ fn put_label(
     ensures read { IfOk result (λ r. (ts : List TestForm) (rest : List Part) →
         parts (drop at text.now) ≡ spelled_tests ts rest → begins_bracket rest ≡ false →
         levels_of r.0 ≡ with_literal (levels_of building)
-        (record { label = label; tests = map (test_meaning (names_of descriptors.now)) ts })) }
+        (record { label = label; tests = map (test_meaning format (names_of descriptors.now)) ts })) }
     ensures rest { IfOk result (λ r. (ts : List TestForm) (rest : List Part) →
         parts (drop at text.now) ≡ spelled_tests ts rest → begins_bracket rest ≡ false →
         parts (drop r.1 text.now) ≡ rest) }
 {
-    let (lit, to) = literal(alloc, text, at, label, descriptors)?;
+    let (lit, to) = literal(alloc, text, at, label, descriptors, format)?;
     Ok((put_literal(building, lit)?, to))
 }
 
@@ -86,6 +88,7 @@ fn step(
     at: usize,
     labels: &IndexSet<Vec<u8>>,
     descriptors: &[Descriptor],
+    format: u8,
     building: Building,
 ) -> Result<(Building, usize), AllocError>
     requires inside { at ≤ length text.now }
@@ -95,7 +98,7 @@ fn step(
     ensures on { IfOk result (λ r. parts (drop at text.now) ≢ [] → at < r.1) }
     ensures read { IfOk result (λ r. (i : Item) (rest : List Item) →
         parts (drop at text.now) ≡ spelled_item i (spelled_items rest) →
-        levels_of r.0 ≡ put (names_in labels.now.keys) (names_of descriptors.now) (levels_of building) i) }
+        levels_of r.0 ≡ put format (names_in labels.now.keys) (names_of descriptors.now) (levels_of building) i) }
     ensures rest { IfOk result (λ r. (i : Item) (rest : List Item) →
         parts (drop at text.now) ≡ spelled_item i (spelled_items rest) →
         parts (drop r.1 text.now) ≡ spelled_items rest) }
@@ -104,12 +107,20 @@ fn step(
         Token::End => Ok((building, at)),
         Token::Word { from, to } => {
             let number = label_number(labels, &text[from..to]);
-            let (next, end) = put_label(alloc, text, to, Some(number), descriptors, building)?;
+            let (next, end) = put_label(
+                alloc,
+                text,
+                to,
+                Some(number),
+                descriptors,
+                format,
+                building,
+            )?;
             Ok((next, end))
         }
         Token::Mark { mark, to } => {
             if is_dot(mark) {
-                let (next, end) = put_label(alloc, text, to, None, descriptors, building)?;
+                let (next, end) = put_label(alloc, text, to, None, descriptors, format, building)?;
                 Ok((next, end))
             } else {
                 Ok((put_mark(alloc, building, mark)?, to))
@@ -138,11 +149,12 @@ pub fn build(
     text: &[u8],
     labels: &IndexSet<Vec<u8>>,
     descriptors: &[Descriptor],
+    format: u8,
 ) -> Result<Regex, AllocError>
     requires few { length descriptors.now ≤ 8 }
     requires names { index_set_len labels.now ≤ 65535 }
     ensures { IfOk result (λ r. (e : Expression) → parts text.now ≡ spelled e [] →
-        tree_of r ≡ meaning (names_in labels.now.keys) (names_of descriptors.now) e) }
+        tree_of r ≡ meaning format (names_in labels.now.keys) (names_of descriptors.now) e) }
 {
     let mut building = nothing(alloc);
     let mut at = 0;
@@ -151,7 +163,7 @@ pub fn build(
             let tree = done(building)?;
             return Ok(tree);
         }
-        let (next, to) = step(alloc, text, at, labels, descriptors, building)?;
+        let (next, to) = step(alloc, text, at, labels, descriptors, format, building)?;
         building = next;
         at = to;
     }

@@ -1,10 +1,11 @@
 //! The labels that a text names.
 
-ghost use Rattle.std.specs.Prelude.{◌≡◌, ◌+◌, ◌<◌, ◌≤◌, false, length, drop, map, OnOk, IfOk, IfSome, IfNone};
+ghost use Rattle.std.specs.Prelude.{◌≡◌, ◌+◌, ◌<◌, ◌≤◌, false, length, drop, map, OnOk, OnErr, IfOk, IfSome, IfNone};
 ghost use Rattle.indexmap.specs.IndexSet.{index_set_len};
 ghost use Rattle.cw_regex.specs.Parts.{parts};
 ghost use Rattle.cw_regex.specs.Meaning.{with_name, with_names, labels_in};
-ghost use Rattle.cw_regex.specs.Labels.{names_in};
+ghost use Rattle.cw_regex.specs.Adding.{Adds};
+ghost use Rattle.cw_regex.specs.Labels.{names_in, Gains};
 
 use crate::text::{Mark, Token, token_at};
 use indexmap::IndexSet;
@@ -13,6 +14,7 @@ use std::alloc::{AllocError, Global};
 fn add_label(alloc: Global, labels: &mut IndexSet<Vec<u8>>, name: &[u8]) -> Result<(), AllocError>
     ensures added { OnOk result (names_in labels.new.keys ≡ with_name (names_in labels.old.keys) name.now) }
     ensures one { OnOk result (index_set_len labels.new ≤ index_set_len labels.old + 1) }
+    ensures kept { OnErr result (names_in labels.new.keys ≡ names_in labels.old.keys) }
 {
     if labels.contains(name) {
         return Ok(());
@@ -37,14 +39,16 @@ fn label_token(
 ) -> Result<Option<Labelled>, AllocError>
     requires { so_far.at ≤ length text.now }
     ensures next { IfOk result (λ o. IfSome o (λ next.
-        with_names (names_in labels.new.keys) (labels_in next.inside (parts (drop next.at text.now)))
-        ≡ with_names (names_in labels.old.keys) (labels_in so_far.inside (parts (drop so_far.at text.now))))) }
+        Adds (names_in labels.old.keys) (names_in labels.new.keys)
+        (labels_in so_far.inside (parts (drop so_far.at text.now)))
+        (labels_in next.inside (parts (drop next.at text.now))))) }
     ensures on { IfOk result (λ o. IfSome o (λ next. so_far.at < next.at)) }
     ensures within { IfOk result (λ o. IfSome o (λ next. next.at ≤ length text.now)) }
     ensures end { IfOk result (λ o. IfNone o (names_in labels.new.keys
         ≡ with_names (names_in labels.old.keys) (labels_in so_far.inside (parts (drop so_far.at text.now))))) }
     ensures one { OnOk result (index_set_len labels.new ≤ index_set_len labels.old + 1) }
     ensures same { IfOk result (λ o. IfNone o (index_set_len labels.new ≡ index_set_len labels.old)) }
+    ensures kept { OnErr result (names_in labels.new.keys ≡ names_in labels.old.keys) }
 {
     match token_at(text, so_far.at) {
         Token::End => Ok(None),
@@ -74,6 +78,7 @@ pub fn add_labels(
     ensures added { OnOk result (names_in labels.new.keys
         ≡ with_names (names_in labels.old.keys) (labels_in false (parts text.now))) }
     ensures few { OnOk result (index_set_len labels.new ≤ index_set_len labels.old + length text.now) }
+    ensures gains { Gains text.now (names_in labels.old.keys) (names_in labels.new.keys) }
 {
     let mut so_far = Labelled {
         at: 0,

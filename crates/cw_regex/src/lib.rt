@@ -8,8 +8,6 @@ mod phase;
 mod read;
 mod scan;
 mod test;
-#[cfg(test)]
-mod tests;
 mod text;
 mod unknown;
 

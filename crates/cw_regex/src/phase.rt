@@ -9,7 +9,8 @@ ghost use Rattle.cw_regex.specs.Grammar.{is_digit, is_descriptor, amb};
 ghost use Rattle.cw_regex.specs.Scans.{is_held};
 ghost use Rattle.cw_regex.specs.Machine.{kept, step, in_test, step_word, step_mark, takes_atom, is_end, is_test_end, start, ends_here};
 
-use crate::text::{Mark, is_name};
+use crate::text::Mark;
+use cw_rights::is_name;
 
 /// What was read last, as far as it tells what may come.
 #[derive(Clone, Copy, Drop, PartialEq, Eq)]

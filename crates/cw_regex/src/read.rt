@@ -1,12 +1,12 @@
 //! Tests and expressions, read from their texts.
 
-ghost use Rattle.std.specs.Prelude.{◌≡◌, ◌+◌, ◌<◌, ◌≤◌, ◌^◌, List, ℕ, [], None, false, length, OnOk, IfOk, IfErr};
+ghost use Rattle.std.specs.Prelude.{◌≡◌, ◌+◌, ◌<◌, ◌≤◌, ◌^◌, List, ℕ, [], None, false, length, ◌⊎◌, OnOk, IfOk, IfErr};
 ghost use Rattle.indexmap.specs.IndexSet.{index_set_len};
 ghost use Rattle.cw_rights.specs.Trees.{tree_of, nesting};
 ghost use Rattle.cw_rights.specs.Valid.{IsTreeWithin, IsTestWithin, IsDistinct};
 ghost use Rattle.cw_regex.specs.Parts.{parts, placed};
 ghost use Rattle.cw_regex.specs.Grammar.{Expression, TestForm, Spells, SpellsTest, IsExpression, IsTest, spelled};
-ghost use Rattle.cw_regex.specs.Labels.{names_in, AreNames};
+ghost use Rattle.cw_regex.specs.Labels.{names_in, AreNames, Gains};
 ghost use Rattle.cw_regex.specs.Meaning.{names_of, test_meaning, meaning, labels_of, with_names};
 ghost use Rattle.cw_regex.specs.Faults.{first_unknown, place_of};
 ghost use Rattle.cw_regex.specs.Causes.{IsTestFault, IsRegexFault, IsShallow, IsUnknown, fault_of};
@@ -51,12 +51,12 @@ fn unknown_fault(unknown: Unknown) -> RegexFault
     }
 }
 
-fn known(text: &[u8], descriptors: &[Descriptor]) -> Result<(), RegexFault>
+fn known(text: &[u8], descriptors: &[Descriptor], format: u8) -> Result<(), RegexFault>
     requires { length text.now ≤ 65535 }
-    ensures ok { OnOk result (first_unknown (names_of descriptors.now) false (placed 0 text.now) ≡ None) }
-    ensures err { IfErr result (λ e. (u : Unknown) × IsUnknown (names_of descriptors.now) text.now u × (e ≡ fault_of u)) }
+    ensures ok { OnOk result (first_unknown format (names_of descriptors.now) false (placed 0 text.now) ≡ None) }
+    ensures err { IfErr result (λ e. (u : Unknown) × IsUnknown format (names_of descriptors.now) text.now u × (e ≡ fault_of u)) }
 {
-    match first_unknown(text, descriptors) {
+    match first_unknown(text, descriptors, format) {
         None => Ok(()),
         Some(unknown) => Err(unknown_fault(unknown)),
     }
@@ -65,47 +65,53 @@ fn known(text: &[u8], descriptors: &[Descriptor]) -> Result<(), RegexFault>
 /// Reads a test of a policy: its wanted truth and the test.
 ///
 /// A test is `[ "!" ] ( "amb" | descriptor ":" right )`, with blanks between its parts alone. It takes no memory.
-pub fn read_test(text: &str, descriptors: &[Descriptor]) -> Result<(bool, Test), RegexFault>
+/// `format` is the policy's; in format 2 two further names of rights are known.
+pub fn read_test(
+    text: &str,
+    descriptors: &[Descriptor],
+    format: u8,
+) -> Result<(bool, Test), RegexFault>
     requires few { length descriptors.now ≤ 8 }
     requires short { length text.now ≤ 65535 }
+    requires format { (format ≡ 1) ⊎ (format ≡ 2) }
     ensures is { OnOk result (IsTest text.now) }
-    ensures known { OnOk result (first_unknown (names_of descriptors.now) false (placed 0 text.now) ≡ None) }
+    ensures known { OnOk result (first_unknown format (names_of descriptors.now) false (placed 0 text.now) ≡ None) }
     ensures means { IfOk result (λ r. (t : TestForm) → SpellsTest text.now t →
-        r ≡ test_meaning (names_of descriptors.now) t) }
+        r ≡ test_meaning format (names_of descriptors.now) t) }
     ensures within { IfOk result (λ r. IsTestWithin (length descriptors.now) r.1) }
-    ensures fault { IfErr result (λ e. IsTestFault (names_of descriptors.now) text.now e) }
+    ensures fault { IfErr result (λ e. IsTestFault format (names_of descriptors.now) text.now e) }
 {
     let text = text.as_bytes();
     match scan(text, true) {
         Err(at) => Err(RegexFault::At(at as u32)),
         Ok(_) => {
-            known(text, descriptors)?;
-            let (read, _) = test(text, 0, descriptors);
+            known(text, descriptors, format)?;
+            let (read, _) = test(text, 0, descriptors, format);
             Ok(read)
         }
     }
 }
 
-fn all_known(text: &[u8], descriptors: &[Descriptor]) -> Result<(), RegexFault>
+fn all_known(text: &[u8], descriptors: &[Descriptor], format: u8) -> Result<(), RegexFault>
     requires short { length text.now ≤ 65535 }
     requires is { IsExpression text.now }
     requires shallow { IsShallow text.now }
     ensures shallow { OnOk result (IsShallow text.now) }
-    ensures known { OnOk result (first_unknown (names_of descriptors.now) false (placed 0 text.now) ≡ None) }
-    ensures fault { IfErr result (λ e. IsRegexFault (names_of descriptors.now) text.now e) }
+    ensures known { OnOk result (first_unknown format (names_of descriptors.now) false (placed 0 text.now) ≡ None) }
+    ensures fault { IfErr result (λ e. IsRegexFault format (names_of descriptors.now) text.now e) }
 {
-    match first_unknown(text, descriptors) {
+    match first_unknown(text, descriptors, format) {
         None => Ok(()),
         Some(unknown) => Err(unknown_fault(unknown)),
     }
 }
 
-fn sound(text: &[u8], descriptors: &[Descriptor]) -> Result<(), RegexFault>
+fn sound(text: &[u8], descriptors: &[Descriptor], format: u8) -> Result<(), RegexFault>
     requires { length text.now ≤ 65535 }
     ensures is { OnOk result (IsExpression text.now) }
     ensures shallow { OnOk result (IsShallow text.now) }
-    ensures known { OnOk result (first_unknown (names_of descriptors.now) false (placed 0 text.now) ≡ None) }
-    ensures fault { IfErr result (λ e. IsRegexFault (names_of descriptors.now) text.now e) }
+    ensures known { OnOk result (first_unknown format (names_of descriptors.now) false (placed 0 text.now) ≡ None) }
+    ensures fault { IfErr result (λ e. IsRegexFault format (names_of descriptors.now) text.now e) }
 {
     match scan(text, false) {
         Err(at) => Err(RegexFault::At(at as u32)),
@@ -113,7 +119,7 @@ fn sound(text: &[u8], descriptors: &[Descriptor]) -> Result<(), RegexFault>
             if most > 64 {
                 return Err(RegexFault::TooDeep);
             }
-            all_known(text, descriptors)
+            all_known(text, descriptors, format)
         }
     }
 }
@@ -122,6 +128,7 @@ fn named(alloc: Global, text: &[u8], labels: &mut IndexSet<Vec<u8>>) -> Result<(
     ensures labels { OnOk result ((e : Expression) → parts text.now ≡ spelled e [] →
         names_in labels.new.keys ≡ with_names (names_in labels.old.keys) (labels_of e [])) }
     ensures few { OnOk result (index_set_len labels.new ≤ index_set_len labels.old + length text.now) }
+    ensures gains { Gains text.now (names_in labels.old.keys) (names_in labels.new.keys) }
     ensures fault { IfErr result (λ e. e ≡ RegexFault.NoMemory) }
 {
     match add_labels(alloc, text, labels) {
@@ -134,15 +141,16 @@ fn built(
     alloc: Global,
     text: &[u8],
     descriptors: &[Descriptor],
+    format: u8,
     labels: &IndexSet<Vec<u8>>,
 ) -> Result<Regex, RegexFault>
     requires few { length descriptors.now ≤ 8 }
     requires names { index_set_len labels.now ≤ 65535 }
     ensures means { IfOk result (λ r. (e : Expression) → parts text.now ≡ spelled e [] →
-        tree_of r ≡ meaning (names_in labels.now.keys) (names_of descriptors.now) e) }
+        tree_of r ≡ meaning format (names_in labels.now.keys) (names_of descriptors.now) e) }
     ensures fault { IfErr result (λ e. e ≡ RegexFault.NoMemory) }
 {
-    match build(alloc, text, labels, descriptors) {
+    match build(alloc, text, labels, descriptors, format) {
         Ok(regex) => Ok(regex),
         Err(_) => Err(RegexFault::NoMemory),
     }
@@ -153,54 +161,60 @@ fn read_bytes(
     text: &[u8],
     descriptors: &[Descriptor],
     labels: &mut IndexSet<Vec<u8>>,
+    format: u8,
 ) -> Result<Regex, RegexFault>
     requires few { length descriptors.now ≤ 8 }
     requires names { index_set_len labels.old + length text.now ≤ 65535 }
     ensures is { OnOk result (IsExpression text.now) }
     ensures shallow { OnOk result (IsShallow text.now) }
-    ensures known { OnOk result (first_unknown (names_of descriptors.now) false (placed 0 text.now) ≡ None) }
+    ensures known { OnOk result (first_unknown format (names_of descriptors.now) false (placed 0 text.now) ≡ None) }
     ensures labels { OnOk result ((e : Expression) → Spells text.now e →
         names_in labels.new.keys ≡ with_names (names_in labels.old.keys) (labels_of e [])) }
     ensures few { OnOk result (index_set_len labels.new ≤ index_set_len labels.old + length text.now) }
     ensures names { OnOk result (AreNames (names_in labels.old.keys) → AreNames (names_in labels.new.keys)) }
     ensures distinct { OnOk result (IsDistinct (names_in labels.old.keys) → IsDistinct (names_in labels.new.keys)) }
     ensures means { IfOk result (λ r. (e : Expression) → Spells text.now e →
-        tree_of r ≡ meaning (names_in labels.new.keys) (names_of descriptors.now) e) }
+        tree_of r ≡ meaning format (names_in labels.new.keys) (names_of descriptors.now) e) }
     ensures within { IfOk result (λ r. IsTreeWithin (length descriptors.now) (length labels.new.keys) (tree_of r)) }
     ensures nesting { IfOk result (λ r. nesting (tree_of r) ≤ 64) }
-    ensures fault { IfErr result (λ e. IsRegexFault (names_of descriptors.now) text.now e) }
+    ensures gains { Gains text.now (names_in labels.old.keys) (names_in labels.new.keys) }
+    ensures fault { IfErr result (λ e. IsRegexFault format (names_of descriptors.now) text.now e) }
 {
-    sound(text, descriptors)?;
+    sound(text, descriptors, format)?;
     named(alloc, text, labels)?;
-    let regex = built(alloc, text, descriptors, labels)?;
+    let regex = built(alloc, text, descriptors, format, labels)?;
     Ok(regex)
 }
 
 /// Reads an expression of a policy, with its labels: a label's number is its place in `labels`, and new ones go to their end.
 ///
-/// After a refusal `labels` may have gained names of this text.
+/// After a refusal too the old labels stand in front of `labels` as they were, and those after them are labels of this text.
+/// `format` is the policy's; in format 2 two further names of rights are known.
 pub fn read_regex(
     alloc: Global,
     text: &str,
     descriptors: &[Descriptor],
     labels: &mut IndexSet<Vec<u8>>,
+    format: u8,
 ) -> Result<Regex, RegexFault>
     requires few { length descriptors.now ≤ 8 }
     requires names { index_set_len labels.old + length text.now ≤ 65535 }
+    requires format { (format ≡ 1) ⊎ (format ≡ 2) }
     ensures is { OnOk result (IsExpression text.now) }
     ensures shallow { OnOk result (IsShallow text.now) }
-    ensures known { OnOk result (first_unknown (names_of descriptors.now) false (placed 0 text.now) ≡ None) }
+    ensures known { OnOk result (first_unknown format (names_of descriptors.now) false (placed 0 text.now) ≡ None) }
     ensures labels { OnOk result ((e : Expression) → Spells text.now e →
         names_in labels.new.keys ≡ with_names (names_in labels.old.keys) (labels_of e [])) }
     ensures few { OnOk result (index_set_len labels.new ≤ index_set_len labels.old + length text.now) }
     ensures names { OnOk result (AreNames (names_in labels.old.keys) → AreNames (names_in labels.new.keys)) }
     ensures distinct { OnOk result (IsDistinct (names_in labels.old.keys) → IsDistinct (names_in labels.new.keys)) }
     ensures means { IfOk result (λ r. (e : Expression) → Spells text.now e →
-        tree_of r ≡ meaning (names_in labels.new.keys) (names_of descriptors.now) e) }
+        tree_of r ≡ meaning format (names_in labels.new.keys) (names_of descriptors.now) e) }
     ensures within { IfOk result (λ r. IsTreeWithin (length descriptors.now) (length labels.new.keys) (tree_of r)) }
     ensures nesting { IfOk result (λ r. nesting (tree_of r) ≤ 64) }
-    ensures fault { IfErr result (λ e. IsRegexFault (names_of descriptors.now) text.now e) }
+    ensures gains { Gains text.now (names_in labels.old.keys) (names_in labels.new.keys) }
+    ensures fault { IfErr result (λ e. IsRegexFault format (names_of descriptors.now) text.now e) }
 {
-    let regex = read_bytes(alloc, text.as_bytes(), descriptors, labels)?;
+    let regex = read_bytes(alloc, text.as_bytes(), descriptors, labels, format)?;
     Ok(regex)
 }

@@ -1,62 +1,71 @@
 //! The tests of literals.
 
-ghost use Rattle.std.specs.Prelude.{◌≡◌, ◌<◌, ◌≤◌, [], ◌∷◌, List, true, false, length, drop, map, unwrap_or, IsTrue, IfOk, IfSome, IfNone};
+ghost use Rattle.std.specs.Prelude.{◌≡◌, ◌<◌, ◌≤◌, [], ◌∷◌, List, true, false, length, drop, map, IsTrue, IfOk, IfSome, IfNone};
 ghost use Rattle.cw_regex.specs.Parts.{Part, word, mark, parts};
 ghost use Rattle.cw_regex.specs.Grammar.{Name, Subject, TestForm, spelled_subject, spelled_test, spelled_more, spelled_tests};
-ghost use Rattle.cw_regex.specs.Meaning.{names_of, right_number, subject_meaning, test_meaning};
+ghost use Rattle.cw_regex.specs.Meaning.{names_of, need_of, subject_meaning, test_meaning};
 ghost use Rattle.cw_regex.specs.Tokens.{Settled, begins_bracket};
 
 use crate::text::{Mark, Token, colon_next, token_at};
-use crate::unknown::{descriptor_number, right_number};
-use cw_rights::{Descriptor, Test};
+use crate::unknown::descriptor_number;
+use cw_rights::{Descriptor, Rights, Test, right_named};
 use std::alloc::{AllocError, Global};
 
-fn right_here(text: &[u8], at: usize) -> (u8, usize)
+fn right_or_none(name: &[u8], format: u8) -> Rights
+    ensures { result ≡ need_of format name.now }
+{
+    match right_named(name, format) {
+        Some(need) => need,
+        None => Rights(0),
+    }
+}
+
+fn right_here(text: &[u8], at: usize, format: u8) -> (Rights, usize)
     requires { at ≤ length text.now }
     ensures within { result.1 ≤ length text.now }
     ensures on { at ≤ result.1 }
     ensures read { (r : Name) (rest : List Part) → parts (drop at text.now) ≡ word r.bytes ∷ rest →
-        result.0 ≡ unwrap_or (right_number r.bytes) 0 }
+        result.0 ≡ need_of format r.bytes }
     ensures rest { (r : Name) (rest : List Part) → parts (drop at text.now) ≡ word r.bytes ∷ rest →
         parts (drop result.1 text.now) ≡ rest }
 {
     match token_at(text, at) {
-        Token::Word { from, to } => (right_number(&text[from..to]).unwrap_or(0), to),
-        _ => (0, at),
+        Token::Word { from, to } => (right_or_none(&text[from..to], format), to),
+        _ => (Rights(0), at),
     }
 }
 
-fn right_after_colon(text: &[u8], at: usize) -> (u8, usize)
+fn right_after_colon(text: &[u8], at: usize, format: u8) -> (Rights, usize)
     requires { at ≤ length text.now }
     ensures within { result.1 ≤ length text.now }
     ensures on { at ≤ result.1 }
     ensures read { (r : Name) (rest : List Part) → parts (drop at text.now) ≡ mark Mark.Colon ∷ word r.bytes ∷ rest →
-        result.0 ≡ unwrap_or (right_number r.bytes) 0 }
+        result.0 ≡ need_of format r.bytes }
     ensures rest { (r : Name) (rest : List Part) → parts (drop at text.now) ≡ mark Mark.Colon ∷ word r.bytes ∷ rest →
         parts (drop result.1 text.now) ≡ rest }
 {
     match token_at(text, at) {
-        Token::Mark { to, .. } => right_here(text, to),
-        _ => (0, at),
+        Token::Mark { to, .. } => right_here(text, to, format),
+        _ => (Rights(0), at),
     }
 }
 
-fn subject(text: &[u8], at: usize, descriptors: &[Descriptor]) -> (Test, usize)
+fn subject(text: &[u8], at: usize, descriptors: &[Descriptor], format: u8) -> (Test, usize)
     requires inside { at ≤ length text.now }
     requires few { length descriptors.now ≤ 8 }
     ensures within { result.1 ≤ length text.now }
     ensures on { at ≤ result.1 }
     ensures read { (s : Subject) (rest : List Part) → parts (drop at text.now) ≡ spelled_subject s rest →
-        Settled s rest → result.0 ≡ subject_meaning (names_of descriptors.now) s }
+        Settled s rest → result.0 ≡ subject_meaning format (names_of descriptors.now) s }
     ensures rest { (s : Subject) (rest : List Part) → parts (drop at text.now) ≡ spelled_subject s rest →
         Settled s rest → parts (drop result.1 text.now) ≡ rest }
 {
     match token_at(text, at) {
         Token::Word { from, to } => {
             if colon_next(text, to) {
-                let (right, end) = right_after_colon(text, to);
+                let (need, end) = right_after_colon(text, to, format);
                 let descriptor = descriptor_number(descriptors, &text[from..to]);
-                (Test::Holds { descriptor, right }, end)
+                (Test::Holds { descriptor, need }, end)
             } else {
                 (Test::Amb, to)
             }
@@ -66,13 +75,13 @@ fn subject(text: &[u8], at: usize, descriptors: &[Descriptor]) -> (Test, usize)
 }
 
 /// Reads a test from a place on: its wanted truth and the test, and the place after it.
-pub fn test(text: &[u8], at: usize, descriptors: &[Descriptor]) -> ((bool, Test), usize)
+pub fn test(text: &[u8], at: usize, descriptors: &[Descriptor], format: u8) -> ((bool, Test), usize)
     requires inside { at ≤ length text.now }
     requires few { length descriptors.now ≤ 8 }
     ensures within { result.1 ≤ length text.now }
     ensures on { at ≤ result.1 }
     ensures read { (t : TestForm) (rest : List Part) → parts (drop at text.now) ≡ spelled_test t rest →
-        Settled t.what rest → result.0 ≡ test_meaning (names_of descriptors.now) t }
+        Settled t.what rest → result.0 ≡ test_meaning format (names_of descriptors.now) t }
     ensures rest { (t : TestForm) (rest : List Part) → parts (drop at text.now) ≡ spelled_test t rest →
         Settled t.what rest → parts (drop result.1 text.now) ≡ rest }
 {
@@ -81,11 +90,11 @@ pub fn test(text: &[u8], at: usize, descriptors: &[Descriptor]) -> ((bool, Test)
             mark: Mark::Bang,
             to,
         } => {
-            let (read, end) = subject(text, to, descriptors);
+            let (read, end) = subject(text, to, descriptors, format);
             ((false, read), end)
         }
         _ => {
-            let (read, end) = subject(text, at, descriptors);
+            let (read, end) = subject(text, at, descriptors, format);
             ((true, read), end)
         }
     }
@@ -136,6 +145,7 @@ fn tests(
     text: &[u8],
     at: usize,
     descriptors: &[Descriptor],
+    format: u8,
 ) -> Result<(Vec<(bool, Test)>, usize), AllocError>
     requires inside { at ≤ length text.now }
     requires few { length descriptors.now ≤ 8 }
@@ -143,7 +153,7 @@ fn tests(
     ensures on { IfOk result (λ r. at ≤ r.1) }
     ensures read { IfOk result (λ r. (t : TestForm) (ts : List TestForm) (rest : List Part) →
         parts (drop at text.now) ≡ spelled_test t (spelled_more ts rest) →
-        r.0.items ≡ map (test_meaning (names_of descriptors.now)) (t ∷ ts)) }
+        r.0.items ≡ map (test_meaning format (names_of descriptors.now)) (t ∷ ts)) }
     ensures rest { IfOk result (λ r. (t : TestForm) (ts : List TestForm) (rest : List Part) →
         parts (drop at text.now) ≡ spelled_test t (spelled_more ts rest) →
         parts (drop r.1 text.now) ≡ rest) }
@@ -151,7 +161,7 @@ fn tests(
     let mut read = Vec::new(alloc);
     let mut from = at;
     for _ in 0..=text.len() {
-        let (one, end) = test(text, from, descriptors);
+        let (one, end) = test(text, from, descriptors, format);
         read.push(one)?;
         let (more, to) = after_test(text, end);
         if !more {
@@ -168,6 +178,7 @@ pub fn tests_in_brackets(
     text: &[u8],
     at: usize,
     descriptors: &[Descriptor],
+    format: u8,
 ) -> Result<(Vec<(bool, Test)>, usize), AllocError>
     requires inside { at ≤ length text.now }
     requires few { length descriptors.now ≤ 8 }
@@ -175,13 +186,13 @@ pub fn tests_in_brackets(
     ensures on { IfOk result (λ r. at ≤ r.1) }
     ensures read { IfOk result (λ r. (ts : List TestForm) (rest : List Part) →
         parts (drop at text.now) ≡ spelled_tests ts rest → begins_bracket rest ≡ false →
-        r.0.items ≡ map (test_meaning (names_of descriptors.now)) ts) }
+        r.0.items ≡ map (test_meaning format (names_of descriptors.now)) ts) }
     ensures rest { IfOk result (λ r. (ts : List TestForm) (rest : List Part) →
         parts (drop at text.now) ≡ spelled_tests ts rest → begins_bracket rest ≡ false →
         parts (drop r.1 text.now) ≡ rest) }
 {
     match bracket_at(text, at) {
         None => Ok((Vec::new(alloc), at)),
-        Some(to) => tests(alloc, text, to, descriptors),
+        Some(to) => tests(alloc, text, to, descriptors, format),
     }
 }

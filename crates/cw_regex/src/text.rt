@@ -2,11 +2,13 @@
 
 ghost use Rattle.std.specs.Prelude.{◌≡◌, ◌+◌, ◌-◌, ◌<◌, ◌≤◌, true, false, length, take, drop, slice_index};
 ghost use Rattle.std.specs.List.{list_all};
-ghost use Rattle.cw_rights.specs.Valid.{is_name_start, is_name_byte, is_name};
+ghost use Rattle.cw_rights.specs.Valid.{is_name_byte};
 ghost use Rattle.cw_regex.specs.Parts.{is_blank, mark_of, begins_word, ends_blank, parts, placed};
 ghost use Rattle.cw_regex.specs.Faults.{colon_next};
 ghost use Rattle.cw_regex.specs.Tokens.{IsToken, begins_colon};
 ghost use Rattle.cw_regex.specs.Pieces.{IsPiece};
+
+use cw_rights::is_name_byte;
 
 /// A byte that is no blank and in no word.
 #[derive(Clone, Copy, Drop, PartialEq, Eq)]
@@ -30,34 +32,6 @@ fn is_blank(byte: u8) -> bool
     ensures { result ≡ is_blank byte }
 {
     byte == b' ' || byte == b'\t'
-}
-
-fn is_name_start(byte: u8) -> bool
-    ensures { result ≡ is_name_start byte }
-{
-    byte >= b'A' && byte <= b'Z' || byte >= b'a' && byte <= b'z' || byte == b'_'
-}
-
-fn is_name_byte(byte: u8) -> bool
-    ensures { result ≡ is_name_byte byte }
-{
-    is_name_start(byte) || byte >= b'0' && byte <= b'9'
-}
-
-/// Whether a word has the form of a C name.
-pub fn is_name(word: &[u8]) -> bool
-    ensures { result ≡ is_name word.now }
-{
-    match word {
-        [] => false,
-        [first, rest @ ..] => is_name_start(*first) && all_name_bytes(rest),
-    }
-}
-
-fn all_name_bytes(bytes: &[u8]) -> bool
-    ensures { result ≡ list_all is_name_byte bytes.now }
-{
-    bytes.iter().all(|b| is_name_byte(*b))
 }
 
 fn mark_of(byte: u8) -> Mark

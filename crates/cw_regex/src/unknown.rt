@@ -2,66 +2,17 @@
 
 ghost use Rattle.std.specs.Prelude.{◌≡◌, ◌<◌, ◌≤◌, false, Some, length, drop, unwrap_or, None, IfOk, IfErr, IfSome, IfNone};
 ghost use Rattle.cw_regex.specs.Parts.{placed};
-ghost use Rattle.cw_regex.specs.Meaning.{right_number, later_right_number, is_right, names_of, number_in};
+ghost use Rattle.cw_regex.specs.Meaning.{is_right, names_of, number_in};
 ghost use Rattle.cw_regex.specs.Faults.{is_known, unknown_word, first_unknown, place_of};
 
 use crate::text::{Mark, Token, colon_next, token_at};
-use cw_rights::Descriptor;
+use cw_rights::{Descriptor, right_named};
 
 /// A name that isn't known, by its place.
 #[derive(Clone, Copy, Drop)]
 pub enum Unknown {
     Descriptor(usize),
     Right(usize),
-}
-
-/// The number of a right.
-pub fn right_number(word: &[u8]) -> Option<u8>
-    ensures { result ≡ right_number word.now }
-{
-    if word == b"CAP_READ".as_slice() {
-        return Some(0);
-    }
-    if word == b"CAP_WRITE".as_slice() {
-        return Some(1);
-    }
-    if word == b"CAP_SEEK".as_slice() {
-        return Some(2);
-    }
-    if word == b"CAP_FSTAT".as_slice() {
-        return Some(3);
-    }
-    if word == b"CAP_FTRUNCATE".as_slice() {
-        return Some(4);
-    }
-    if word == b"CAP_FSYNC".as_slice() {
-        return Some(5);
-    }
-    later_right_number(word)
-}
-
-fn later_right_number(word: &[u8]) -> Option<u8>
-    ensures { result ≡ later_right_number word.now }
-{
-    if word == b"CAP_FCNTL".as_slice() {
-        return Some(6);
-    }
-    if word == b"CAP_IOCTL".as_slice() {
-        return Some(7);
-    }
-    if word == b"CAP_EVENT".as_slice() {
-        return Some(8);
-    }
-    if word == b"CAP_ACCEPT".as_slice() {
-        return Some(9);
-    }
-    if word == b"CAP_LISTEN".as_slice() {
-        return Some(10);
-    }
-    if word == b"CAP_LOOKUP".as_slice() {
-        return Some(11);
-    }
-    None
 }
 
 /// The number of a descriptor's name, and 0 where it isn't known.
@@ -90,16 +41,17 @@ fn is_known(descriptors: &[Descriptor], word: &[u8]) -> bool
 
 fn unknown_word(
     descriptors: &[Descriptor],
+    format: u8,
     after: bool,
     before: bool,
     from: usize,
     word: &[u8],
 ) -> Option<Unknown>
-    ensures is { result ≡ unknown_word (names_of descriptors.now) after before from word.now }
+    ensures is { result ≡ unknown_word format (names_of descriptors.now) after before from word.now }
     ensures place { IfSome result (λ u. place_of u ≡ from) }
 {
     if after {
-        return match right_number(word) {
+        return match right_named(word, format) {
             None => Some(Unknown::Right(from)),
             Some(_) => None,
         };
@@ -120,18 +72,19 @@ struct Searched {
 fn search_token(
     text: &[u8],
     descriptors: &[Descriptor],
+    format: u8,
     so_far: Searched,
 ) -> Result<Option<Searched>, Unknown>
     requires { so_far.at ≤ length text.now }
     ensures next { IfOk result (λ o. IfSome o (λ next.
-        first_unknown (names_of descriptors.now) so_far.after (placed so_far.at (drop so_far.at text.now))
-        ≡ first_unknown (names_of descriptors.now) next.after (placed next.at (drop next.at text.now)))) }
+        first_unknown format (names_of descriptors.now) so_far.after (placed so_far.at (drop so_far.at text.now))
+        ≡ first_unknown format (names_of descriptors.now) next.after (placed next.at (drop next.at text.now)))) }
     ensures on { IfOk result (λ o. IfSome o (λ next. so_far.at < next.at)) }
     ensures within { IfOk result (λ o. IfSome o (λ next. next.at ≤ length text.now)) }
     ensures end { IfOk result (λ o. IfNone o
-        (first_unknown (names_of descriptors.now) so_far.after (placed so_far.at (drop so_far.at text.now)) ≡ None)) }
+        (first_unknown format (names_of descriptors.now) so_far.after (placed so_far.at (drop so_far.at text.now)) ≡ None)) }
     ensures unknown { IfErr result (λ u.
-        first_unknown (names_of descriptors.now) so_far.after (placed so_far.at (drop so_far.at text.now)) ≡ Some u) }
+        first_unknown format (names_of descriptors.now) so_far.after (placed so_far.at (drop so_far.at text.now)) ≡ Some u) }
     ensures place { IfErr result (λ u. place_of u < length text.now) }
 {
     match token_at(text, so_far.at) {
@@ -142,7 +95,14 @@ fn search_token(
         })),
         Token::Word { from, to } => {
             let before = colon_next(text, to);
-            match unknown_word(descriptors, so_far.after, before, from, &text[from..to]) {
+            match unknown_word(
+                descriptors,
+                format,
+                so_far.after,
+                before,
+                from,
+                &text[from..to],
+            ) {
                 Some(unknown) => Err(unknown),
                 None => Ok(Some(Searched {
                     at: to,
@@ -154,8 +114,8 @@ fn search_token(
 }
 
 /// The first name of a text, from the left, that isn't known.
-pub fn first_unknown(text: &[u8], descriptors: &[Descriptor]) -> Option<Unknown>
-    ensures is { result ≡ first_unknown (names_of descriptors.now) false (placed 0 text.now) }
+pub fn first_unknown(text: &[u8], descriptors: &[Descriptor], format: u8) -> Option<Unknown>
+    ensures is { result ≡ first_unknown format (names_of descriptors.now) false (placed 0 text.now) }
     ensures place { IfSome result (λ u. place_of u < length text.now) }
 {
     let mut so_far = Searched {
@@ -163,7 +123,7 @@ pub fn first_unknown(text: &[u8], descriptors: &[Descriptor]) -> Option<Unknown>
         after: false,
     };
     for _ in 0..=text.len() {
-        match search_token(text, descriptors, so_far) {
+        match search_token(text, descriptors, format, so_far) {
             Err(unknown) => return Some(unknown),
             Ok(None) => return None,
             Ok(Some(next)) => so_far = next,

@@ -10,7 +10,7 @@ use Rattle.cw_rights.specs.declared.capabilities.Caps.{Caps}
 use Rattle.cw_rights.specs.declared.capabilities.Limit.{Limit as ALimit}
 use Rattle.cw_rights.specs.declared.capabilities.Primitive.{Primitive}
 use Rattle.cw_rights.specs.declared.capabilities.Primitive.TheVariants.{Limit, Enter, Split}
-use Rattle.cw_rights.specs.Capabilities.{IsContained, is_contained, hold_of, is_open_with, HoldsRight, IsAllowed, applied, opened, KeepsHeld, allowed}
+use Rattle.cw_rights.specs.Capabilities.{IsContained, is_contained, hold_of, HasRightIn, HoldsRight, IsAllowed, applied, opened, KeepsHeld, allowed}
 use Rattle.cw_rights.specs.Words.{Word, Matches}
 use Rattle.cw_rights.specs.Policies.{PlainPolicy, PlainRule, IsBad}
 use Rattle.cw_rights.proofs.Limits.{IsContained-of, is_contained-by, yes_is}
@@ -29,7 +29,8 @@ open_within caps d r e = by (nat_lt d (length caps.holds)) refl
   where
     by : (t : Bool) → nat_lt d (length caps.holds) ≡ t → d < length caps.holds
     by true q = grind (arith, nat_tests)
-    by false q = let le : length caps.holds ≤ d = grind (arith, nat_tests) in let z = slice_get_past caps.holds d le in let y : Closed ≡ Open r = sym (ap (λ (o : Option Hold). unwrap_or o Closed) z) ∙ e in absurd (cc)
+    by false q = let le : length caps.holds ≤ d = grind (arith, nat_tests) in let z = slice_get_past caps.holds d le in
+        let y : Closed ≡ Open r = sym (ap (λ (o : Option Hold). unwrap_or o Closed) z) ∙ e in absurd (cc)
 
 hold_same : (caps : Caps) (d : ℕ) (r : Rights) → d < length caps.holds → hold_of (opened caps d r) d ≡ Open r
 hold_same caps d r l = unwrap_or-slice_get (opened caps d r).holds d Closed ∙ get_or-set_same caps.holds d (Open r) Closed l
@@ -43,13 +44,14 @@ limited caps limit k d right h = by (nat_eq d limit.descriptor) refl
     by : (t : Bool) → nat_eq d limit.descriptor ≡ t → HoldsRight caps d right
     by true q =
         let same : d ≡ limit.descriptor = eqb-true d limit.descriptor q in
-        let now : hold_of (opened caps limit.descriptor limit.keep) d ≡ Open limit.keep = ap (hold_of (opened caps limit.descriptor limit.keep)) same ∙ hold_same caps limit.descriptor limit.keep (open_within caps limit.descriptor k.0 k.1) in
-        let kept : is_open_with (Open limit.keep) right ≡ true = subst (λ x. is_open_with x right ≡ true) now h in
-        let held : is_open_with (Open k.0) right ≡ true = eq-eqb _ 1 (k.2 right (eqb-true _ 1 kept)) in
-        subst (λ x. is_open_with x right ≡ true) (sym (ap (hold_of caps) same ∙ k.1)) held
+        let now : hold_of (opened caps limit.descriptor limit.keep) d ≡ Open limit.keep = ap (hold_of (opened caps limit.descriptor limit.keep)) same
+        ∙ hold_same caps limit.descriptor limit.keep (open_within caps limit.descriptor k.0 k.1) in
+        let kept : HasRightIn (Open limit.keep) right = subst (λ x. HasRightIn x right) now h in
+        let held : HasRightIn (Open k.0) right = k.2 right kept in
+        subst (λ x. HasRightIn x right) (sym (ap (hold_of caps) same ∙ k.1)) held
     by false q =
         let other : d ≢ limit.descriptor = λ r. let z = eq-eqb d limit.descriptor r in cc in
-        subst (λ x. is_open_with x right ≡ true) (hold_other caps limit.descriptor d limit.keep other) h
+        subst (λ x. HasRightIn x right) (hold_other caps limit.descriptor d limit.keep other) h
 
 pub never_grow : (caps : Caps) (prim : Primitive) → IsAllowed caps prim → (d right : ℕ) → HoldsRight (applied caps prim) d right → HoldsRight caps d right
 never_grow caps (Limit limit) a d right h = limited caps limit ((yes_is caps limit (allowed caps limit) refl).0 a) d right h

@@ -3,6 +3,7 @@ pub mod Along
 pub mod Bools
 pub mod LawProofs
 pub mod Limits
+pub mod Named
 pub mod Pieces
 pub mod Plainly
 pub mod Rows

@@ -43,7 +43,8 @@ below_or : (keep held n : ℕ) → ((i : ℕ) → i < n → HasRight keep i → 
 below_or keep held zero = inl (λ i l h. absurd (omega arith))
 below_or keep held (suc n) = by (below_or keep held n) (nat_eq (bit_at keep n) 1) (nat_eq (bit_at held n) 1) refl refl
   where
-    by : (((i : ℕ) → i < n → HasRight keep i → HasRight held i) ⊎ HasMore keep held) → (s t : Bool) → nat_eq (bit_at keep n) 1 ≡ s → nat_eq (bit_at held n) 1 ≡ t → ((i : ℕ) → i < suc n → HasRight keep i → HasRight held i) ⊎ HasMore keep held
+    by : (((i : ℕ) → i < n → HasRight keep i → HasRight held i) ⊎ HasMore keep held) → (s t : Bool) → nat_eq (bit_at keep n) 1 ≡ s → nat_eq (bit_at held n) 1 ≡ t →
+        ((i : ℕ) → i < suc n → HasRight keep i → HasRight held i) ⊎ HasMore keep held
     by (inr m) s t p q = inr m
     by (inl f) true false p q = inr (n, eqb-true _ 1 p, λ r. let z = eq-eqb (bit_at held n) 1 r in cc)
     by (inl f) s true p q = inl (λ i l h. last i (nat_eq i n) refl l h)

@@ -49,7 +49,8 @@ pub pieces_last : (P : Word → Type 0) (us : List Word) (w : Word) → Pieces P
 pieces_last P [] w h n = absurd (not_nil w n h)
 pieces_last P (u ∷ us) w h n = by (pieces_last P us h.0 h.3) (nil_or_not h.0)
   where
-    by : (NotNil h.0 → (v : Word) × (y : Word) × (vs : List Word) × (h.0 ≡ v ++ y) × Pieces P vs v × NotNil y × P y) → (h.0 ≡ []) ⊎ NotNil h.0 → (v : Word) × (y : Word) × (vs : List Word) × (w ≡ v ++ y) × Pieces P vs v × NotNil y × P y
+    by : (NotNil h.0 → (v : Word) × (y : Word) × (vs : List Word) × (h.0 ≡ v ++ y) × Pieces P vs v × NotNil y × P y) → (h.0 ≡ []) ⊎ NotNil h.0 →
+        (v : Word) × (y : Word) × (vs : List Word) × (w ≡ v ++ y) × Pieces P vs v × NotNil y × P y
     by rec (inl e) = let f : w ≡ u = h.1 ∙ ap (λ z. u ++ z) e ∙ append-nil u in ([], u, [], f, refl, subst NotNil f n, h.2)
     by rec (inr m) =
         let r = rec m in

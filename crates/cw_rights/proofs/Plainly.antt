@@ -1,5 +1,6 @@
 -- The slow way is exact.
-use Rattle.std.proofs.Common.{◌≡◌, ◌⊎◌, inl, inr, ℕ, zero, suc, ◌+◌, ◌*◌, ◌<◌, ◌≤◌, List, [], ◌∷◌, ◌++◌, Bool, true, false, ◌&&◌, ◌||◌, take, drop, length, refl, sym, ap, ◌∙◌, subst, arith, ⊎_elim, length-append, length-drop, add-one, nat_eq, eqb-true}
+use Rattle.std.proofs.Common.{◌≡◌, ◌⊎◌, inl, inr, ℕ, zero, suc, ◌+◌, ◌*◌, ◌<◌, ◌≤◌, List, [], ◌∷◌, ◌++◌, Bool, true, false, ◌&&◌, ◌||◌, take, drop, length, refl, sym, ap, ◌∙◌, subst, arith}
+use Rattle.std.proofs.Common.{⊎_elim, length-append, length-drop, add-one, nat_eq, eqb-true}
 use Rattle.std.proofs.lemmas.Bool.Decides.{nat_tests}
 use Rattle.std.proofs.Math.Nat.{mul-le-mul_left, mul-le-mul_right}
 use Rattle.cw_rights.specs.Trees.{Literal, Tree, nothing, never, one, seq, alt, star, plus, maybe}
@@ -51,7 +52,8 @@ module _ (p : Word → Bool) (P : Word → Type 0) (sound : (w : Word) → p w �
   chain_sound zero w e = ([], nil_of w e)
   chain_sound (suc n) w e = by (λ v. chain_sound n v) (or_cases (is_nil w) _ e)
     where
-      by : ((v : Word) → chain p n v ≡ true → (us : List Word) × Pieces P us v) → (is_nil w ≡ true) ⊎ (some_below (length w) (λ i. p (take (i + 1) w) && chain p n (drop (i + 1) w)) ≡ true) → (us : List Word) × Pieces P us w
+      by : ((v : Word) → chain p n v ≡ true → (us : List Word) × Pieces P us v) → (is_nil w ≡ true) ⊎ (some_below (length w) (λ i. p (take (i + 1) w) && chain p n (drop (i + 1) w)) ≡ true) →
+          (us : List Word) × Pieces P us w
       by rec (inl x) = ([], nil_of w x)
       by rec (inr x) =
           let f = below_found (length w) (λ i. p (take (i + 1) w) && chain p n (drop (i + 1) w)) x in
@@ -71,7 +73,8 @@ module _ (p : Word → Bool) (P : Word → Type 0) (sound : (w : Word) → p w �
           let y = length-append (c ∷ u) h.0 in
           let t : take (length u + 1) w ≡ c ∷ u = rw (add-one (length u), e) (ap (λ x. c ∷ x) (take_cut u h.0)) in
           let d : drop (length u + 1) w ≡ h.0 = rw (add-one (length u), e) (drop_cut u h.0) in
-          or_right _ _ (below_has (length w) _ (length u) (omega arith) (and_both _ _ (subst (λ x. p x ≡ true) (sym t) (complete (c ∷ u) q)) (subst (λ x. chain p n x ≡ true) (sym d) (rec n (omega arith)))))
+          or_right _ _ (below_has (length w) _ (length u) (omega arith) (and_both _ _ (subst (λ x. p x ≡ true) (sym t) (complete (c ∷ u) q))
+          (subst (λ x. chain p n x ≡ true) (sym d) (rec n (omega arith)))))
 
 pub chain_fuel : (r : Tree) (p : Word → Bool) (n : ℕ) (w : Word) → length w ≤ n → chain p n w ≡ chain p (length w) w
 chain_fuel r p n w l = by (chain p n w) (chain p (length w) w) refl refl
@@ -127,9 +130,18 @@ plain_is (seq r s) w = (to (λ v. (plain_is r v).0) (λ v. (plain_is s v).0), ba
         let t : take (length m.0) w ≡ m.0 = ap (take (length m.0)) m.2 ∙ take_cut m.0 m.1 in
         let d : drop (length m.0) w ≡ m.1 = ap (drop (length m.0)) m.2 ∙ drop_cut m.0 m.1 in
         below_has (length w + 1) _ (length m.0) (omega arith) (and_both _ _ (subst (λ x. plain r x ≡ true) (sym t) (f m.0 m.3)) (subst (λ x. plain s x ≡ true) (sym d) (g m.1 m.4)))
-plain_is (alt r s) w = (λ e. ⊎_elim (λ x. inl ((plain_is r w).0 x)) (λ x. inr ((plain_is s w).0 x)) (or_cases (plain r w) (plain s w) e), λ m. ⊎_elim (λ x. or_left _ _ ((plain_is r w).1 x)) (λ x. or_right _ _ ((plain_is s w).1 x)) m)
-plain_is (star r) w = (chain_sound (plain r) (Matches r) (λ v. (plain_is r v).0) (λ v. (plain_is r v).1) (length w) w, λ m. chain_complete (plain r) (Matches r) (λ v. (plain_is r v).0) (λ v. (plain_is r v).1) m.0 (length w) w (omega arith) m.1)
-plain_is (plus r) w = (to w (plain_is r w).0 (chain_sound (plain r) (Matches r) (λ v. (plain_is r v).0) (λ v. (plain_is r v).1) (length w) w), back w (plain_is r w).1 (λ us. chain_complete (plain r) (Matches r) (λ v. (plain_is r v).0) (λ v. (plain_is r v).1) us (length w) w (omega arith)))
+plain_is (alt r s) w = (
+  λ e. ⊎_elim (λ x. inl ((plain_is r w).0 x)) (λ x. inr ((plain_is s w).0 x)) (or_cases (plain r w) (plain s w) e),
+  λ m. ⊎_elim (λ x. or_left _ _ ((plain_is r w).1 x)) (λ x. or_right _ _ ((plain_is s w).1 x)) m,
+)
+plain_is (star r) w = (
+  chain_sound (plain r) (Matches r) (λ v. (plain_is r v).0) (λ v. (plain_is r v).1) (length w) w,
+  λ m. chain_complete (plain r) (Matches r) (λ v. (plain_is r v).0) (λ v. (plain_is r v).1) m.0 (length w) w (omega arith) m.1,
+)
+plain_is (plus r) w = (
+  to w (plain_is r w).0 (chain_sound (plain r) (Matches r) (λ v. (plain_is r v).0) (λ v. (plain_is r v).1) (length w) w),
+  back w (plain_is r w).1 (λ us. chain_complete (plain r) (Matches r) (λ v. (plain_is r v).0) (λ v. (plain_is r v).1) us (length w) w (omega arith)),
+)
   where
     to : (w : Word) → (plain r w ≡ true → Matches r w) → (chain (plain r) (length w) w ≡ true → (us : List Word) × Pieces (Matches r) us w) → plain (plus r) w ≡ true → Matches (plus r) w
     to [] f g e = ([], [], ([], refl, f e, refl))
@@ -138,7 +150,10 @@ plain_is (plus r) w = (to w (plain_is r w).0 (chain_sound (plain r) (Matches r) 
     back : (w : Word) → (Matches r w → plain r w ≡ true) → ((us : List Word) → Pieces (Matches r) us w → chain (plain r) (length w) w ≡ true) → Matches (plus r) w → plain (plus r) w ≡ true
     back [] f g m = let q = m.2 in f (subst (Matches r) (first_nil m.0 q.0 q.1) q.2)
     back (c ∷ w) f g m = g (m.0 ∷ m.1) m.2
-plain_is (maybe r) w = (λ e. ⊎_elim (λ x. inl (nil_of w x)) (λ x. inr ((plain_is r w).0 x)) (or_cases (is_nil w) (plain r w) e), λ m. ⊎_elim (λ x. or_left _ _ (is_of w x)) (λ x. or_right _ _ ((plain_is r w).1 x)) m)
+plain_is (maybe r) w = (
+  λ e. ⊎_elim (λ x. inl (nil_of w x)) (λ x. inr ((plain_is r w).0 x)) (or_cases (is_nil w) (plain r w) e),
+  λ m. ⊎_elim (λ x. or_left _ _ (is_of w x)) (λ x. or_right _ _ ((plain_is r w).1 x)) m,
+)
 
 -- what the slow way takes
 mul_le : (a b c d : ℕ) → a ≤ c → b ≤ d → a * b ≤ c * d
@@ -178,7 +193,8 @@ below_same (suc n) f g h = rw (below_same n f g h, h n) refl
 -- a star, its first piece taken off
 chain_step : (p : Word → Bool) (w : Word) → 0 < length w → chain p (length w) w ≡ some_below (length w) (λ i. p (take (i + 1) w) && chain p (length (drop (i + 1) w)) (drop (i + 1) w))
 chain_step p [] l = absurd (omega arith)
-chain_step p (c ∷ w) l = below_same (suc (length w)) (λ i. p (take (i + 1) (c ∷ w)) && chain p (length w) (drop (i + 1) (c ∷ w))) (λ i. p (take (i + 1) (c ∷ w)) && chain p (length (drop (i + 1) (c ∷ w))) (drop (i + 1) (c ∷ w))) each
+chain_step p (c ∷ w) l = below_same (suc (length w)) (λ i. p (take (i + 1) (c ∷ w)) && chain p (length w) (drop (i + 1) (c ∷ w)))
+    (λ i. p (take (i + 1) (c ∷ w)) && chain p (length (drop (i + 1) (c ∷ w))) (drop (i + 1) (c ∷ w))) each
   where
     each : (i : ℕ) → (p (take (i + 1) (c ∷ w)) && chain p (length w) (drop (i + 1) (c ∷ w))) ≡ (p (take (i + 1) (c ∷ w)) && chain p (length (drop (i + 1) (c ∷ w))) (drop (i + 1) (c ∷ w)))
     each i =
@@ -186,7 +202,8 @@ chain_step p (c ∷ w) l = below_same (suc (length w)) (λ i. p (take (i + 1) (c
         let m : length (c ∷ w) ≡ suc (length w) = refl in
         ap (λ b. p (take (i + 1) (c ∷ w)) && b) (chain_fuel nothing p (length w) (drop (i + 1) (c ∷ w)) (omega arith))
 
-pub star_ends : (p : Word → Bool) (w : Word) → 0 < length w → some_below (length w) (λ i. p (take (i + 1) w) && chain p (length (drop (i + 1) w)) (drop (i + 1) w)) ≡ false → false ≡ chain p (length w) w
+pub star_ends : (p : Word → Bool) (w : Word) → 0 < length w → some_below (length w) (λ i. p (take (i + 1) w) && chain p (length (drop (i + 1) w)) (drop (i + 1) w)) ≡ false →
+    false ≡ chain p (length w) w
 star_ends p w l e = sym (chain_step p w l ∙ e)
 
 pub star_finds : (p : Word → Bool) (w : Word) (i : ℕ) → i < length w → p (take (i + 1) w) ≡ true → chain p (length (drop (i + 1) w)) (drop (i + 1) w) ≡ true → true ≡ chain p (length w) w

@@ -1,6 +1,6 @@
 -- Capabilities, and what a primitive does to them: capsicum(4), cap_enter(2), cap_rights_limit(2), rights(4).
 -- `Caps`, `Hold`, `Limit`, `Primitive` and `Allowed` are the program's own types: they hold no memory.
-use Rattle.std.specs.Prelude.{◌≡◌, ◌<◌, ℕ, Bool, false, cond, nat_eq, slice_get, slice_set, unwrap_or, bit_and, IsTrue}
+use Rattle.std.specs.Prelude.{◌≡◌, ◌<◌, ℕ, Bool, false, cond, nat_eq, slice_get, slice_set, unwrap_or, bit_and}
 use Rattle.std.specs.Int.{bit_at}
 use Rattle.cw_rights.specs.declared.capabilities.Rights.{Rights}
 use Rattle.cw_rights.specs.declared.capabilities.Hold.{Hold}
@@ -28,13 +28,18 @@ is_contained keep held = nat_eq (bit_and keep held) keep
 abbrev pub hold_of : Caps → ℕ → Hold
 hold_of caps descriptor = unwrap_or (slice_get caps.holds descriptor) Closed
 
--- the descriptor is open with this right
+-- the descriptor is open with each right that is needed
 abbrev pub is_open_with : Hold → ℕ → Bool
-is_open_with Closed right = false
-is_open_with (Open held) right = nat_eq (bit_at held.0 right) 1
+is_open_with Closed need = false
+is_open_with (Open held) need = is_contained need held.0
+
+-- the descriptor is open with this right
+abbrev pub HasRightIn : Hold → ℕ → Type 0
+HasRightIn Closed right = ⊥
+HasRightIn (Open held) right = HasRight held.0 right
 
 abbrev pub HoldsRight : Caps → ℕ → ℕ → Type 0
-HoldsRight caps descriptor right = IsTrue (is_open_with (hold_of caps descriptor) right)
+HoldsRight caps descriptor right = HasRightIn (hold_of caps descriptor) right
 
 -- a limit on a closed descriptor is EBADF, one that isn't contained in the rights held is ENOTCAPABLE
 abbrev pub allowed_on : Hold → ℕ → Allowed

@@ -1,5 +1,6 @@
 -- The definitions.
 pub mod Capabilities
+pub mod Names
 pub mod Trees
 pub mod Words
 pub mod Policies

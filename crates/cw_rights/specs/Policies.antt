@@ -31,6 +31,9 @@ pub record PlainPolicy : Type 0 where
   pub split : List (List ℕ)
   pub labels : List (List ℕ)
   pub rules : List PlainRule
+  pub stop : Bool
+  pub format : ℕ
+  pub detached : List (List ℕ)
 
 -- what the program's data stand for
 abbrev pub descriptor_of : Descriptor → PlainDescriptor
@@ -49,6 +52,9 @@ policy_of p = record {
   split = map (λ name. name.items) p.split.items;
   labels = map (λ name. name.items) p.labels.items;
   rules = map rule_of p.rules.items;
+  stop = p.stop;
+  format = p.format;
+  detached = map (λ name. name.items) p.detached.items;
 }
 
 -- the word isn't empty, and the rule with this number matches it whole

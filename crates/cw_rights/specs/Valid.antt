@@ -34,10 +34,10 @@ IsDescriptorName name = IsTrue (is_name name) ⊎ ((n : ℕ) × IsDigit name n)
 abbrev pub IsDistinct : List (List ℕ) → Type 0
 IsDistinct names = AllPairs (λ a b. a ≢ b) names
 
--- the numbers of a test, a literal and a limit are those of descriptors, labels and rights that there are
+-- the numbers of a test, a literal and a limit are those of descriptors and labels that there are, and the rights are some of the twelve
 abbrev pub IsTestWithin : ℕ → Test → Type 0
 IsTestWithin descriptors Amb = Unit {0}
-IsTestWithin descriptors (Holds descriptor right) = (descriptor < descriptors) × (right < 12)
+IsTestWithin descriptors (Holds descriptor need) = (descriptor < descriptors) × (need.0 ≤ 0xfff)
 
 abbrev pub IsLabelWithin : ℕ → Option ℕ → Type 0
 IsLabelWithin labels None = Unit {0}
@@ -65,6 +65,7 @@ pub record IsValid (p : PlainPolicy) : Type 0 where
   pub distinct_descriptors : IsDistinct (map (λ d. d.name) p.descriptors)
   pub distinct_labels : IsDistinct p.labels
   pub distinct_splits : IsDistinct p.split
+  pub distinct_detached : IsDistinct p.detached
   pub few_descriptors : length p.descriptors ≤ 8
   pub few_limits : length p.limits ≤ 12
   pub few_rules : length p.rules ≤ 32
@@ -73,5 +74,7 @@ pub record IsValid (p : PlainPolicy) : Type 0 where
   pub shallow : All (λ r. nesting r.bad ≤ 64) p.rules
   pub few_splits : length p.split ≤ 65535
   pub few_labels : length p.labels ≤ 65535
+  pub few_detached : length p.detached ≤ 65535
+  pub format : (p.format ≡ 1) ⊎ (p.format ≡ 2)
   pub limits : All (IsLimitWithin (length p.descriptors)) p.limits
   pub rules : All (λ r. IsTreeWithin (length p.descriptors) (length p.labels) r.bad) p.rules

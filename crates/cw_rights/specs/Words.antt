@@ -11,7 +11,7 @@ use Rattle.cw_rights.specs.Trees.{Literal, Tree, nothing, never, one, seq, alt, 
 -- the truth of a test
 abbrev pub truth : Caps → Test → Bool
 truth caps Amb = caps.amb
-truth caps (Holds descriptor right) = is_open_with (hold_of caps descriptor) right
+truth caps (Holds descriptor need) = is_open_with (hold_of caps descriptor) need.0
 
 abbrev pub same : Bool → Bool → Bool
 same true b = b

@@ -6,15 +6,15 @@
 
 pub mod capabilities;
 pub mod laws;
+pub mod names;
 pub mod plain;
 pub mod policy;
-#[cfg(test)]
-mod tests;
 pub mod words;
 
 pub use capabilities::{
     Allowed, Caps, Hold, Limit, Primitive, Rights, apply, close_hold, limit_allowed, open_hold,
 };
+pub use names::{is_name, is_name_byte, is_name_start, right_named};
 pub use plain::matches_plain;
 pub use policy::{Descriptor, Policy, Rule};
 pub use words::{Letter, Lit, Regex, Test, lit_matches};

@@ -26,7 +26,9 @@ pub struct Rule {
 }
 
 /// A policy. `refuse_limit`, `refuse_enter` and `refuse_split` say which kinds of primitives may be refused;
-/// `split` has the names of the functions whose calls may be split off.
+/// `split` has the names of the functions whose calls may be split off. `stop` says that the weaver may end the
+/// program after a refusal where a grant was possible too. `format` is 1 or 2, the format of the policy's text;
+/// `detached` has the names of the functions whose calls aren't waited for (none in format 1).
 #[derive(Drop)]
 pub struct Policy {
     pub descriptors: Vec<Descriptor>,
@@ -37,6 +39,9 @@ pub struct Policy {
     pub split: Vec<Vec<u8>>,
     pub labels: Vec<Vec<u8>>,
     pub rules: Vec<Rule>,
+    pub stop: bool,
+    pub format: u8,
+    pub detached: Vec<Vec<u8>>,
 }
 
 fn start_hold(descriptor: Option<&Descriptor>) -> Hold

@@ -1,12 +1,11 @@
 //! Letters, literals and regular expressions over words.
 
-ghost use Rattle.std.specs.Prelude.{◌≡◌, nat_eq};
-ghost use Rattle.std.specs.Int.{bit_at};
+ghost use Rattle.std.specs.Prelude.{◌≡◌};
 ghost use Rattle.cw_rights.specs.Capabilities.{is_open_with};
 ghost use Rattle.cw_rights.specs.Trees.{literal_of};
 ghost use Rattle.cw_rights.specs.Words.{truth, tests_hold, fits};
 
-use crate::capabilities::{Caps, Hold};
+use crate::capabilities::{Caps, Hold, Rights};
 
 /// A label with the capabilities that are held when it is reached.
 ///
@@ -17,11 +16,11 @@ pub struct Letter {
     pub caps: Caps,
 }
 
-/// A test of capabilities: ambient authority, or that a descriptor is open with a right.
+/// A test of capabilities: ambient authority, or that a descriptor is open with every right of a set.
 #[derive(Clone, Copy, Drop, PartialEq, Eq)]
 pub enum Test {
     Amb,
-    Holds { descriptor: u8, right: u8 },
+    Holds { descriptor: u8, need: Rights },
 }
 
 /// A literal: a label, or any label, and tests with their wanted truths.
@@ -43,18 +42,12 @@ pub enum Regex {
     Maybe(Box<Regex>),
 }
 
-fn has_right(rights: u16, right: u8) -> bool
-    ensures { result ≡ nat_eq (bit_at rights right) 1 }
-{
-    right < 16 && rights >> right & 1 == 1
-}
-
-fn is_open_with(hold: Hold, right: u8) -> bool
-    ensures { result ≡ is_open_with hold right }
+fn is_open_with(hold: Hold, need: Rights) -> bool
+    ensures { result ≡ is_open_with hold need.0 }
 {
     match hold {
         Hold::Closed => false,
-        Hold::Open(held) => has_right(held.0, right),
+        Hold::Open(held) => need.0 & held.0 == need.0,
     }
 }
 
@@ -63,9 +56,9 @@ fn truth(test: Test, caps: &Caps) -> bool
 {
     match test {
         Test::Amb => caps.amb,
-        Test::Holds { descriptor, right } => match caps.holds.get(descriptor as usize) {
+        Test::Holds { descriptor, need } => match caps.holds.get(descriptor as usize) {
             None => false,
-            Some(hold) => is_open_with(*hold, right),
+            Some(hold) => is_open_with(*hold, need),
         },
     }
 }
@@ -77,7 +70,7 @@ fn tests_hold(tests: &[(bool, Test)], caps: &Caps) -> bool
 }
 
 /// Whether a literal matches the word of this one letter: its label is the letter's or any, and each test has the
-/// wanted truth. A number that no descriptor or no right has names one that isn't held.
+/// wanted truth. A number that no descriptor has names one that is closed.
 pub fn lit_matches(lit: &Lit, letter: &Letter) -> bool
     ensures { result ≡ fits (literal_of lit.now) letter.now }
 {

@@ -26,7 +26,8 @@ pub one_before : (source : List ℕ) (f : Bor Function) (fs : List Function) (ke
 one_before source f fs key old new at updates rest name =
     let same : bytes_eq key.now name.now ≡ bytes_eq name.now (text source (f.now).name) = nat_list_eq_equiv.symm key.now name.now ∙ ap (bytes_eq name.now) at in
     ap (option_map (λ (g : Bor Function). definition_of g.now)) (updates name)
-    ∙ by_test (λ (g : Bor Function). definition_of g.now) f (lookup (λ k. bytes_eq name.now k.now) old) (find (λ g. bytes_eq name.now (text source g.name)) (map definition_of fs)) (bytes_eq key.now name.now) (rest name)
+    ∙ by_test (λ (g : Bor Function). definition_of g.now) f (lookup (λ k. bytes_eq name.now k.now) old) (find (λ g. bytes_eq name.now (text source g.name)) (map definition_of fs))
+    (bytes_eq key.now name.now) (rest name)
     ∙ ap (λ b. cond b (Some (definition_of f.now)) (find (λ g. bytes_eq name.now (text source g.name)) (map definition_of fs))) same
 
 -- from an index on, where the next index's functions are held

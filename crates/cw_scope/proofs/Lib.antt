@@ -4,8 +4,6 @@ pub mod Pushed
 pub mod Operators
 pub mod Lesser
 pub mod Standing
-pub mod Found
-pub mod Acting
 pub mod Once
 pub mod Starting
 pub mod Firsts

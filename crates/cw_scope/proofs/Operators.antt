@@ -1,16 +1,16 @@
 -- What an expression is, by its operator.
-use Rattle.std.proofs.Common.{◌≡◌, ◌≢◌, ℕ, ◌+◌, List, [], ◌∷◌, length, Bool, false, None, is_some, refl, ap, ◌∙◌, add-one}
+use Rattle.std.proofs.Common.{◌≡◌, ◌≢◌, ℕ, ◌+◌, List, [], ◌∷◌, length, Bool, false, None, refl, ap, ◌∙◌, add-one}
 use Rattle.cw_syntax.specs.declared.program.Name.{Name}
 use Rattle.cw_syntax.specs.declared.program.Op.{Op}
-use Rattle.cw_syntax.specs.declared.program.Op.TheVariants.{Name as NameOp, Number, Call as CallOp, Prefix, Suffix, Assign}
+use Rattle.cw_syntax.specs.declared.program.Op.TheVariants.{Name as NameOp, Call as CallOp, Prefix, Suffix, Assign}
 use Rattle.cw_syntax.specs.declared.program.Expr.{Expr, out-Expr}
 use Rattle.cw_syntax.specs.Trees.{Tree, Node, Trees, tree_of, trees_of}
 use Rattle.cw_scope.specs.Names.{plain_name, called_name}
 use Rattle.cw_syntax.specs.Trees.{File}
 use Rattle.cw_scope.specs.Rules.{call_if, is_call, wrong_arity, count, parts_of}
-use Rattle.cw_syntax.specs.Plans.{Scene, descriptor_of}
+use Rattle.cw_syntax.specs.Plans.{Scene}
 use Rattle.cw_scope.specs.Descriptors.{names_variable, misuse}
-use Rattle.cw_scope.proofs.Shapes.{node_is}
+use Rattle.cw_syntax.proofs.Shapes.{node_is}
 
 -- a function of an expression, at the operator that it has
 pub at_operator : {A : Type 0} (f : Tree → A) (e : Expr) (op : Op) → (out-Expr e).op ≡ op → f (tree_of e) ≡ f (Node op (trees_of (out-Expr e).parts.items) (out-Expr e).from (out-Expr e).to)
@@ -61,7 +61,7 @@ counted (e ∷ es) = ap (λ n. n + 1) (counted es) ∙ add-one (length es)
 pub parts_are : (e : Expr) → parts_of (tree_of e) ≡ trees_of (out-Expr e).parts.items
 parts_are e = ap parts_of (node_is e)
 
--- an expression that is no name, and one that is no number either
+-- an expression that is no name
 not_variable : (s : Scene) (op : Op) (ts : Trees) (from to : ℕ) → (op ≢ NameOp) → names_variable s (Node op ts from to) ≡ false
 not_variable s NameOp ts from to n = absurd (n refl)
 not_variable s _ ts from to n = refl
@@ -69,20 +69,14 @@ not_variable s _ ts from to n = refl
 pub isnt_variable : (s : Scene) (e : Expr) → ((out-Expr e).op ≢ NameOp) → names_variable s (tree_of e) ≡ false
 isnt_variable s e n = let o = out-Expr e in ap (names_variable s) (node_is e) ∙ not_variable s o.op (trees_of o.parts.items) o.from o.to n
 
-not_descriptor : (s : Scene) (op : Op) (ts : Trees) (from to : ℕ) → (op ≢ NameOp) → ((n : ℕ) → op ≢ Number n) → is_some (descriptor_of s (Node op ts from to)) ≡ false
-not_descriptor s NameOp ts from to n m = absurd (n refl)
-not_descriptor s (Number k) ts from to n m = absurd (m k refl)
-not_descriptor s _ ts from to n m = refl
-
-pub isnt_descriptor : (s : Scene) (e : Expr) → ((out-Expr e).op ≢ NameOp) → ((n : ℕ) → (out-Expr e).op ≢ Number n) → is_some (descriptor_of s (tree_of e)) ≡ false
-isnt_descriptor s e n m = let o = out-Expr e in ap (λ t. is_some (descriptor_of s t)) (node_is e) ∙ not_descriptor s o.op (trees_of o.parts.items) o.from o.to n m
-
-not_misuse : (s : Scene) (op : Op) (ts : Trees) (from to : ℕ) → ((n : ℕ) → op ≢ Assign n) → ((n : ℕ) → op ≢ Prefix n) → ((n : ℕ) → op ≢ Suffix n) → ((f : Name) → op ≢ CallOp f) → misuse s (Node op ts from to) ≡ None
+not_misuse : (s : Scene) (op : Op) (ts : Trees) (from to : ℕ) → ((n : ℕ) → op ≢ Assign n) → ((n : ℕ) → op ≢ Prefix n) → ((n : ℕ) → op ≢ Suffix n) → ((f : Name) → op ≢ CallOp f)
+    → misuse s (Node op ts from to) ≡ None
 not_misuse s (Assign n) ts from to a p u c = absurd (a n refl)
 not_misuse s (Prefix n) ts from to a p u c = absurd (p n refl)
 not_misuse s (Suffix n) ts from to a p u c = absurd (u n refl)
 not_misuse s (CallOp f) ts from to a p u c = absurd (c f refl)
 not_misuse s _ ts from to a p u c = refl
 
-pub isnt_misuse : (s : Scene) (e : Expr) → ((n : ℕ) → (out-Expr e).op ≢ Assign n) → ((n : ℕ) → (out-Expr e).op ≢ Prefix n) → ((n : ℕ) → (out-Expr e).op ≢ Suffix n) → ((f : Name) → (out-Expr e).op ≢ CallOp f) → misuse s (tree_of e) ≡ None
+pub isnt_misuse : (s : Scene) (e : Expr) → ((n : ℕ) → (out-Expr e).op ≢ Assign n) → ((n : ℕ) → (out-Expr e).op ≢ Prefix n) → ((n : ℕ) → (out-Expr e).op ≢ Suffix n)
+    → ((f : Name) → (out-Expr e).op ≢ CallOp f) → misuse s (tree_of e) ≡ None
 isnt_misuse s e a p u c = let o = out-Expr e in ap (misuse s) (node_is e) ∙ not_misuse s o.op (trees_of o.parts.items) o.from o.to a p u c

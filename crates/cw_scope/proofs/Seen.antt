@@ -34,7 +34,8 @@ different_alike source [] before other same = refl
 different_alike source (name ∷ names) before other same =
     let t = text source name in
     ap (λ b. cond b (different source before names) (t ∷ different source (before ++ t ∷ []) names)) (same t)
-    ∙ ap₂ (λ known new. cond (list_any (bytes_eq t) other) known (t ∷ new)) (different_alike source names before other same) (different_alike source names (before ++ t ∷ []) (other ++ t ∷ []) (alike_behind before other t same))
+    ∙ ap₂ (λ known new. cond (list_any (bytes_eq t) other) known (t ∷ new)) (different_alike source names before other same)
+    (different_alike source names (before ++ t ∷ []) (other ++ t ∷ []) (alike_behind before other t same))
 
 held : (t : List ℕ) (keys : List (Bor (List ℕ))) → list_any (bytes_eq t) (texts keys) ≡ list_any (λ k. bytes_eq t k.now) keys
 held t [] = refl
@@ -74,7 +75,8 @@ pub repeated_on : (source : List ℕ) (name : Name) (names : List Name) (key : B
     → true ≡ not (list_any (λ k. bytes_eq key.now k.now) old)
     → repeated source (texts new) names ≡ repeated source (texts old) (name ∷ names)
 repeated_on source name names key old new at updates absent =
-    let unseen : list_any (bytes_eq (text source name)) (texts old) ≡ false = ap (λ t. list_any (bytes_eq t) (texts old)) (sym at) ∙ held key.now old ∙ isnt_there (list_any (λ k. bytes_eq key.now k.now) old) absent in
+    let unseen : list_any (bytes_eq (text source name)) (texts old) ≡ false = ap (λ t. list_any (bytes_eq t) (texts old)) (sym at) ∙ held key.now old
+    ∙ isnt_there (list_any (λ k. bytes_eq key.now k.now) old) absent in
     repeated_alike source names (texts new) (texts old ++ key.now ∷ []) (put_in key old new updates)
     ∙ ap (λ t. repeated source (texts old ++ t ∷ []) names) at
     ∙ ap (λ b. cond b (Some name) (repeated source (texts old ++ text source name ∷ []) names)) (sym unseen)
@@ -85,7 +87,8 @@ pub repeated_at : (source : List ℕ) (name : Name) (names : List Name) (key : B
     → false ≡ not (list_any (λ k. bytes_eq key.now k.now) old)
     → repeated source (texts old) (name ∷ names) ≡ Some name
 repeated_at source name names key old at present =
-    let seen : list_any (bytes_eq (text source name)) (texts old) ≡ true = ap (λ t. list_any (bytes_eq t) (texts old)) (sym at) ∙ held key.now old ∙ is_there (list_any (λ k. bytes_eq key.now k.now) old) present in
+    let seen : list_any (bytes_eq (text source name)) (texts old) ≡ true = ap (λ t. list_any (bytes_eq t) (texts old)) (sym at) ∙ held key.now old
+    ∙ is_there (list_any (λ k. bytes_eq key.now k.now) old) present in
     ap (λ b. cond b (Some name) (repeated source (texts old ++ text source name ∷ []) names)) seen
 
 or_false : (b : Bool) → (b || false) ≡ b

@@ -7,7 +7,7 @@ use Rattle.cw_syntax.specs.declared.program.Expr.{Expr, out-Expr}
 use Rattle.cw_syntax.specs.Trees.{Tree, Node, Trees, none, more, tree_of, trees_of}
 use Rattle.cw_scope.specs.Rules.{statement_call}
 use Rattle.cw_scope.proofs.Operators.{at_operator}
-use Rattle.cw_scope.proofs.Shapes.{node_is}
+use Rattle.cw_syntax.proofs.Shapes.{node_is}
 
 pub calls_itself : (e : Expr) (f : Name) → (out-Expr e).op ≡ CallOp f → statement_call (tree_of e) ≡ Some (tree_of e)
 calls_itself e f is =
@@ -37,18 +37,21 @@ first_is_other x rest a b h =
     let o = out-Expr x in
     ap (λ t. statement_call (Node (Assign 0) (more t rest) a b)) (node_is x) ∙ other_first o.op (trees_of o.parts.items) o.from o.to rest a b h
 
-other_second : (qs : Trees) (c d : ℕ) (op : Op) (rs : Trees) (e f : ℕ) (a b : ℕ) → ((g : Name) → op ≢ CallOp g) → statement_call (Node (Assign 0) (more (Node NameOp qs c d) (more (Node op rs e f) none)) a b) ≡ None
+other_second : (qs : Trees) (c d : ℕ) (op : Op) (rs : Trees) (e f : ℕ) (a b : ℕ) → ((g : Name) → op ≢ CallOp g)
+    → statement_call (Node (Assign 0) (more (Node NameOp qs c d) (more (Node op rs e f) none)) a b) ≡ None
 other_second qs c d (CallOp g) rs e f a b h = absurd (h g refl)
 other_second qs c d _ rs e f a b h = refl
 
-pub second_is_other : (x value : Expr) (a b : ℕ) → (out-Expr x).op ≡ NameOp → ((g : Name) → (out-Expr value).op ≢ CallOp g) → statement_call (Node (Assign 0) (more (tree_of x) (more (tree_of value) none)) a b) ≡ None
+pub second_is_other : (x value : Expr) (a b : ℕ) → (out-Expr x).op ≡ NameOp → ((g : Name) → (out-Expr value).op ≢ CallOp g)
+    → statement_call (Node (Assign 0) (more (tree_of x) (more (tree_of value) none)) a b) ≡ None
 second_is_other x value a b is h =
     let o = out-Expr x in
     let u = out-Expr value in
     ap₂ (λ t v. statement_call (Node (Assign 0) (more t (more v none)) a b)) (at_operator (λ t. t) x NameOp is) (node_is value)
     ∙ other_second (trees_of o.parts.items) o.from o.to u.op (trees_of u.parts.items) u.from u.to a b h
 
-pub assigns : (x value : Expr) (f : Name) (a b : ℕ) → (out-Expr x).op ≡ NameOp → (out-Expr value).op ≡ CallOp f → statement_call (Node (Assign 0) (more (tree_of x) (more (tree_of value) none)) a b) ≡ Some (tree_of value)
+pub assigns : (x value : Expr) (f : Name) (a b : ℕ) → (out-Expr x).op ≡ NameOp → (out-Expr value).op ≡ CallOp f
+    → statement_call (Node (Assign 0) (more (tree_of x) (more (tree_of value) none)) a b) ≡ Some (tree_of value)
 assigns x value f a b is calls =
     ap₂ (λ t v. statement_call (Node (Assign 0) (more t (more v none)) a b)) (at_operator (λ t. t) x NameOp is) (at_operator (λ t. t) value (CallOp f) calls)
     ∙ sym (ap Some (at_operator (λ t. t) value (CallOp f) calls))
@@ -57,7 +60,8 @@ one_part : (op : Op) (qs : Trees) (c d a b : ℕ) → statement_call (Node (Assi
 one_part NameOp qs c d a b = refl
 one_part _ qs c d a b = refl
 
-three_parts : (op op' : Op) (qs rs : Trees) (c d e f : ℕ) (v : Tree) (rest : Trees) (a b : ℕ) → statement_call (Node (Assign 0) (more (Node op qs c d) (more (Node op' rs e f) (more v rest))) a b) ≡ None
+three_parts : (op op' : Op) (qs rs : Trees) (c d e f : ℕ) (v : Tree) (rest : Trees) (a b : ℕ)
+    → statement_call (Node (Assign 0) (more (Node op qs c d) (more (Node op' rs e f) (more v rest))) a b) ≡ None
 three_parts NameOp (CallOp g) qs rs c d e f v rest a b = refl
 three_parts NameOp _ qs rs c d e f v rest a b = refl
 three_parts _ op' qs rs c d e f v rest a b = refl

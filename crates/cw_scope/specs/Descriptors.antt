@@ -10,20 +10,18 @@ use Rattle.cw_syntax.specs.declared.program.CType.{CType}
 use Rattle.cw_syntax.specs.declared.program.Name.{Name}
 use Rattle.cw_syntax.specs.declared.program.Op.{Op}
 use Rattle.cw_syntax.specs.declared.program.Op.TheVariants.{Name as NameOp, Number, Call as CallOp, Prefix, Suffix, Assign}
-use Rattle.cw_syntax.specs.Names.{Names, slice, text, number_in}
+use Rattle.cw_syntax.specs.Names.{slice, text, number_in}
 use Rattle.cw_syntax.specs.Trees.{Tree, Node, Trees, none, more, Declared, Declaration, Definition, File}
 use Rattle.cw_syntax.specs.Plans.{Scene, scene_of, Action, Opens, Closes, action_of, descriptor_of}
 use Rattle.cw_rights.specs.Policies.{PlainPolicy, PlainDescriptor}
+use Rattle.cw_actions.specs.Scenes.{names_of}
 use Rattle.cw_scope.specs.declared.descriptors.DescriptorFault.{DescriptorFault}
 use Rattle.cw_scope.specs.declared.descriptors.DescriptorFault.TheVariants.{NoVariable, Shadowed, Misuse, NoMemory}
 use Rattle.cw_scope.specs.Walks.{nodes, nodes_in, listed, Whole, every_whole}
 use Rattle.cw_scope.specs.Names.{locals}
 use Rattle.cw_scope.specs.Rules.{least, at_if, parts_of}
 
--- the names that a policy has, and a source under them
-abbrev pub names_of : PlainPolicy → Names
-names_of policy = record { descriptors = map (λ d. d.name) policy.descriptors; labels = policy.labels; splits = policy.split }
-
+-- a source under the names that a policy has
 abbrev pub scene_under : PlainPolicy → List ℕ → File → Scene
 scene_under policy source file = scene_of (names_of policy) source file
 

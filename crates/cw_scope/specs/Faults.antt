@@ -2,6 +2,7 @@
 use Rattle.std.specs.Prelude.{◌≡◌, ◌⊎◌, ℕ, List, [], map, length, cond, nat_lt, Option, Some, None}
 use Rattle.std.specs.Option.{option_map, option_or}
 use Rattle.cw_core.specs.declared.quantity.Quantity.TheVariants.{Functions, Labels}
+use Rattle.cw_core.specs.Quantities.{limit_of}
 use Rattle.cw_syntax.specs.declared.program.Name.{Name}
 use Rattle.cw_syntax.specs.Trees.{Tree, File}
 use Rattle.cw_scope.specs.declared.faults.ScopeFault.{ScopeFault}
@@ -35,9 +36,11 @@ reserved_name source names = option_map Reserved (least (map (reserved source) n
 unfoldable pub jump : List Placed → Option ScopeFault
 jump statements = option_map Jump (least (map (λ p. loose_jump p.looped p.statement) statements))
 
--- at most 512 functions, and at most 256 different names of labels
+-- no more functions, and no more different names of labels, than a source may have
 unfoldable pub limit : List ℕ → File → List Name → Option ScopeFault
-limit source file labels = cond (nat_lt 512 (length file.functions)) (Some (Limit Functions)) (cond (nat_lt 256 (length (different source [] labels))) (Some (Limit Labels)) None)
+limit source file labels =
+    cond (nat_lt (limit_of Functions) (length file.functions)) (Some (Limit Functions))
+    (cond (nat_lt (limit_of Labels) (length (different source [] labels))) (Some (Limit Labels)) None)
 
 infixl 10 ◌or_else◌
 abbrev pub ◌or_else◌ : Option ScopeFault → Option ScopeFault → Option ScopeFault

@@ -1,4 +1,4 @@
--- What the program holds of a file's lists, and what it stands for.
+-- Working definitions: what the program holds of a file's lists, and what it stands for.
 use Rattle.std.specs.Prelude.{List, ◌++◌, Option, Some, None}
 use Rattle.std.specs.Option.{option_map}
 use Rattle.std.specs.Borrow.{Bor}
@@ -8,13 +8,19 @@ use Rattle.cw_scope.specs.declared.walks.Placed.{Placed as HeldPlaced}
 use Rattle.cw_scope.specs.declared.walks.Whole.{Whole as HeldWhole}
 use Rattle.cw_syntax.specs.declared.program.Head.{Head, out-Head}
 use Rattle.cw_syntax.specs.declared.program.Stmt.{Stmt}
+use Rattle.cw_scope.specs.declared.entries.Entry.{Entry as HeldEntry}
 use Rattle.cw_scope.specs.Walks.{Placed, Whole, given, init_trees}
+use Rattle.cw_scope.specs.Descriptors.{Entry}
 
 abbrev pub placed_of : HeldPlaced → Placed
 placed_of p = record { statement = statement_of p.statement.now; looped = p.looped }
 
 abbrev pub whole_of : HeldWhole → Whole
 whole_of w = record { tree = tree_of w.tree.now; stands = w.stands }
+
+-- a name declared at file scope
+abbrev pub entry_of : HeldEntry → Entry
+entry_of e = record { name = e.name; fits = e.fits }
 
 abbrev pub tree_at : Bor Expr → Tree
 tree_at e = tree_of e.now

@@ -5,5 +5,4 @@ pub mod Rules
 pub mod Faults
 pub mod Descriptors
 pub mod Held
-pub mod Scenes
 pub mod Known

@@ -34,7 +34,8 @@ repeated source before (name ∷ names) = cond (list_any (bytes_eq (text source 
 -- The different texts of these names, each once, but for the texts `before`.
 abbrev pub different : List ℕ → List (List ℕ) → List Name → List (List ℕ)
 different source before [] = []
-different source before (name ∷ names) = cond (list_any (bytes_eq (text source name)) before) (different source before names) (text source name ∷ different source (before ++ text source name ∷ []) names)
+different source before (name ∷ names) =
+    cond (list_any (bytes_eq (text source name)) before) (different source before names) (text source name ∷ different source (before ++ text source name ∷ []) names)
 
 abbrev pub is_main : List ℕ → Bool
 is_main name = bytes_eq name (codes "main")

@@ -2,7 +2,8 @@
 -- and 6.9.
 use Rattle.std.specs.Prelude.{List, [], ◌∷◌, ◌++◌, map, Bool, true, false, Option, Some, None}
 use Rattle.std.specs.List.{flat_map}
-use Rattle.cw_syntax.specs.Trees.{Tree, Node, Trees, none, more, Declared, Declaration, Statement, Stated, Form, Block, Declares, Evaluates, Labels, Chooses, Whiles, Does, Fors, Returns, Perhaps, nothing, just, Statements, nil, cons, Definition, File}
+use Rattle.cw_syntax.specs.Trees.{Tree, Node, Trees, none, more, Declared, Declaration, Definition, File}
+use Rattle.cw_syntax.specs.Trees.{Statement, Stated, Form, Block, Declares, Evaluates, Labels, Chooses, Whiles, Does, Fors, Returns, Perhaps, nothing, just, Statements, nil, cons}
 
 -- An expression and all that are in it, each before its parts, these from left to right.
 abbrev mutual

@@ -15,7 +15,7 @@ use crate::names::{every_name, function_names, labels, uses};
 use crate::places;
 use crate::rules::{are_more, has_main, repeated, sooner};
 use crate::walks::{Placed, Whole};
-use cw_core::Quantity;
+use cw_core::{Quantity, limits};
 use cw_syntax::checked::Checked;
 use cw_syntax::program::{Expr, Function, Name, Program};
 use std::alloc::{AllocError, Global};
@@ -146,10 +146,10 @@ fn limit(
 ) -> Result<Option<ScopeFault>, AllocError>
     ensures { IfOk result (λ fault. fault ≡ limit source.now (file_of program.now) labels.now) }
 {
-    if program.functions.len() > 512 {
+    if program.functions.len() > limits::FUNCTIONS {
         return Ok(Some(ScopeFault::Limit(Quantity::Functions)));
     }
-    if are_more(alloc, source, labels, 256)? {
+    if are_more(alloc, source, labels, limits::LABELS)? {
         Ok(Some(ScopeFault::Limit(Quantity::Labels)))
     } else {
         Ok(None)

@@ -9,16 +9,17 @@ ghost use Rattle.cw_rights.specs.Policies.{policy_of, descriptor_of};
 ghost use Rattle.cw_rights.specs.Valid.{IsValid};
 ghost use Rattle.std.specs.Option.{option_map};
 ghost use Rattle.cw_scope.specs.Descriptors.{is_shadowed, is_variable, first_undeclared, first_shadowed, descriptor_fault, IsDueDescriptor};
-ghost use Rattle.cw_scope.specs.Scenes.{entry_of};
+ghost use Rattle.cw_scope.specs.Held.{entry_of};
 
-use crate::actions::{Scene, least_misuse};
 use crate::entries::{Entry, entries, is_declared};
 use crate::lists::{every_statement, every_whole};
-use crate::names::{locals, text};
+use crate::misuses::least_misuse;
+use crate::names::locals;
 use cw_core::NoMemory;
 use cw_rights::{Descriptor, Policy};
 use cw_syntax::checked::Checked;
-use cw_syntax::program::{Name, Program};
+use cw_syntax::names::text;
+use cw_syntax::program::Name;
 use std::alloc::Global;
 use thiserror::Error;
 
@@ -113,23 +114,19 @@ fn misused(place: Option<u32>) -> Option<DescriptorFault>
 /// The fault of the first rule that the descriptors break.
 fn descriptor_fault(
     alloc: Global,
-    source: &[u8],
-    program: &Program,
+    checked: &Checked,
     policy: &Policy,
 ) -> Result<Option<DescriptorFault>, NoMemory>
     requires { IsValid (policy_of policy.now) }
-    ensures { IfOk result (λ fault. fault ≡ descriptor_fault source.now (file_of program.now) (policy_of policy.now)) }
+    ensures { IfOk result (λ fault. fault ≡ descriptor_fault checked.now.source.now (file_of checked.now.program) (policy_of policy.now)) }
 {
+    let source = checked.source;
+    let program = &checked.program;
     let statements = every_statement(alloc, program)?;
     let wholes = every_whole(alloc, program, &statements)?;
     let entries = entries(alloc, program)?;
     let names = locals(alloc, program, &statements)?;
-    let scene = Scene {
-        source,
-        program,
-        policy,
-    };
-    let place = least_misuse(alloc, scene, &wholes)?;
+    let place = least_misuse(alloc, checked, policy, &wholes)?;
     let descriptors = &policy.descriptors;
     Ok(
         no_variable(first_undeclared(source, &entries, descriptors))
@@ -155,7 +152,7 @@ pub fn check_descriptors(
     ensures ok { IfOk result (λ _. descriptor_fault checked.now.source.now (file_of checked.now.program) (policy_of policy.now) ≡ None) }
     ensures fault { IfErr result (λ fault. IsDueDescriptor (descriptor_fault checked.now.source.now (file_of checked.now.program) (policy_of policy.now)) fault) }
 {
-    match descriptor_fault(alloc, checked.source, &checked.program, policy) {
+    match descriptor_fault(alloc, checked, policy) {
         Ok(None) => Ok(()),
         Ok(Some(fault)) => Err(fault),
         Err(NoMemory) => Err(DescriptorFault::NoMemory),

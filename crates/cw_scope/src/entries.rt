@@ -7,9 +7,9 @@ ghost use Rattle.cw_syntax.specs.Names.{text};
 ghost use Rattle.cw_syntax.specs.Trees.{Node, tree_of, trees_of, declared_of, declaration_of, definition_of, file_of};
 ghost use Rattle.cw_scope.specs.Walks.{listed};
 ghost use Rattle.cw_scope.specs.Descriptors.{is_number, is_minus, is_minus_one, is_start, is_int, is_plain_int, is_before, may_be_variable, entry_in, entries_of, entries, is_one, is_declared};
-ghost use Rattle.cw_scope.specs.Scenes.{entry_of};
+ghost use Rattle.cw_scope.specs.Held.{entry_of};
 
-use crate::names::text;
+use cw_syntax::names::text;
 use cw_syntax::program::{Base, CType, Decl, Expr, Function, Item, Name, Op, Program};
 use std::alloc::{AllocError, Global};
 

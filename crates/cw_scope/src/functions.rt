@@ -7,7 +7,7 @@ ghost use Rattle.cw_scope.specs.Rules.{defined, is_defined};
 ghost use Rattle.cw_scope.specs.Known.{AreFirst, IsKnown};
 ghost use Rattle.cw_syntax.specs.Names.{text};
 
-use crate::names::text;
+use cw_syntax::names::text;
 use cw_syntax::program::{Function, Name, Program};
 use std::alloc::{AllocError, Global};
 use std::collections::HashMap;

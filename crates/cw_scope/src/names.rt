@@ -3,7 +3,6 @@
 ghost use Rattle.std.specs.Prelude.{◌≡◌, [], ◌∷◌, ◌++◌, map, IfOk};
 ghost use Rattle.std.specs.List.{flat_map, filter_map};
 ghost use Rattle.std.specs.Option.{option_to_list};
-ghost use Rattle.cw_syntax.specs.Names.{text};
 ghost use Rattle.cw_syntax.specs.Trees.{tree_of, statement_of, declared_of, declaration_of, definition_of, prototype_of, file_of};
 ghost use Rattle.cw_scope.specs.Walks.{every_statement, every_node};
 ghost use Rattle.cw_scope.specs.Names.{declared_names, param_names, local_names, init_names, globals, locals, label_of, labels_of, plain_name, called_name, uses, function_places, every_name};
@@ -13,15 +12,6 @@ ghost use Rattle.cw_syntax.specs.declared.program.Head.{out-Head};
 use crate::walks::Placed;
 use cw_syntax::program::{Decl, Expr, Function, Item, Name, Op, Param, Program, Proto, Stmt, What};
 use std::alloc::{AllocError, Global};
-
-/// The bytes of a name.
-pub(crate) fn text(source: &[u8], name: Name) -> &[u8]
-    ensures { result.now ≡ text source.now name }
-{
-    let to = source.len().min(name.to as usize);
-    let from = to.min(name.from as usize);
-    &source[from..to]
-}
 
 fn put_items(items: &[Item], out: &mut Vec<Name>) -> Result<(), AllocError>
     ensures { IfOk result (λ _. out.new.items ≡ out.old.items ++ map (λ i. i.name) (map declared_of items.now)) }

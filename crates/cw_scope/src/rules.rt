@@ -11,8 +11,8 @@ ghost use Rattle.cw_scope.specs.Known.{IsKnown};
 ghost use Rattle.std.specs.Str.{bytes_eq};
 
 use crate::functions::{Functions, found, is_defined};
-use crate::names::text;
 use crate::walks::Placed;
+use cw_syntax::names::text;
 use cw_syntax::program::{Expr, Function, Name, Op, Program, What};
 use std::alloc::{AllocError, Global};
 use std::collections::HashSet;

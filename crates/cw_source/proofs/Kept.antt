@@ -30,7 +30,9 @@ none_of a b c d e f g h i none =
 
 module _ (source : List ℕ) (file : File) (kept : scope_fault source file ≡ None) where
   rules : (no_main source file ≡ None) × (jump (every_statement file) ≡ None) × (limit source file (every_label file) ≡ None)
-  rules = none_of (no_main source file) (two_functions source file) (two_labels source file) (arity source file (every_node file)) (call_form source file (uses file) (every_whole file)) (main_called source (every_node file)) (reserved_name source (every_name file)) (jump (every_statement file)) (limit source file (every_label file)) kept
+  rules = none_of (no_main source file) (two_functions source file) (two_labels source file) (arity source file (every_node file))
+      (call_form source file (uses file) (every_whole file)) (main_called source (every_node file)) (reserved_name source (every_name file)) (jump (every_statement file))
+      (limit source file (every_label file)) kept
 
   there : (b : Bool) → cond b None (Some NoMain) ≡ None → b ≡ true
   there true e = refl
@@ -54,4 +56,5 @@ module _ (source : List ℕ) (file : File) (kept : scope_fault source file ≡ N
 
   pub functions_kept : length file.functions ≤ 512
   unfolding limit
-  functions_kept = at_most 512 (length file.functions) (cond (nat_lt 256 (length (different source [] (every_label file)))) (Some (Limit Labels)) None) (nat_lt 512 (length file.functions)) refl rules.2
+  functions_kept = at_most 512 (length file.functions) (cond (nat_lt 256 (length (different source [] (every_label file)))) (Some (Limit Labels)) None)
+      (nat_lt 512 (length file.functions)) refl rules.2

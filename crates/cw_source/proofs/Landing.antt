@@ -2,11 +2,13 @@
 use Rattle.std.proofs.Common.{◌≡◌, ℕ, zero, suc, ◌+◌, Bool, true, false, not, ◌&&◌, List, [], ◌∷◌, ◌++◌, map, Option, None, Some, slice_get, refl, subst}
 use Rattle.std.specs.List.{flat_map}
 use Rattle.cw_syntax.specs.Names.{Names}
-use Rattle.cw_syntax.specs.Trees.{Statement, Stated, Form, Block, Declares, Evaluates, Empties, Labels, Chooses, Whiles, Does, Fors, Breaks, Continues, Returns, Perhaps, nothing, just, Statements, nil, cons, Definition, File}
-use Rattle.cw_syntax.specs.Plans.{Scene, Action, Computes, Opens, Closes, Invokes, action_of, acting, steps_of, steps_of_form, steps_of_arm, steps_of_all, seams, seams_all, numbered, numbered_all, Routine, routines_from, scene_of, plan_of}
+use Rattle.cw_syntax.specs.Trees.{Statement, Stated, Form, Block, Declares, Evaluates, Empties, Labels, Chooses, Whiles, Does, Fors, Breaks, Continues, Returns, Perhaps, nothing}
+use Rattle.cw_syntax.specs.Trees.{just, Statements, nil, cons, Definition, File}
+use Rattle.cw_syntax.specs.Plans.{Scene, Action, Computes, Opens, Closes, Invokes, action_of, acting, steps_of, steps_of_form, steps_of_arm, steps_of_all, seams, seams_all}
+use Rattle.cw_syntax.specs.Plans.{numbered, numbered_all, Routine, routines_from, scene_of, plan_of}
 use Rattle.cw_scope.specs.Walks.{Placed, placed, placed_within, placed_arm, placed_all, body_of, every_statement}
 use Rattle.cw_scope.specs.Rules.{sooner, least, at_if, is_jump, loose_jump}
-use Rattle.cw_source.specs.Jumps.{Lands, LandsAll}
+use Rattle.cw_syntax.specs.Runnable.{Lands, LandsAll}
 use Rattle.cw_source.specs.Read.{ReadsAs}
 use Rattle.cw_source.proofs.Kept.{jumps_kept}
 

@@ -1,6 +1,10 @@
+pub mod OneAnswer
 mod Kept
 mod Ordered
 pub mod Marking
 pub mod Unmarked
 pub mod Landing
 pub mod Starting
+pub mod Runnable
+mod Held
+pub mod Named

@@ -6,19 +6,21 @@ use Rattle.cw_grammar.specs.Lexemes.{from_of, AreAll, statements}
 use Rattle.cw_grammar.specs.Expressions.{IsExpression, nesting_limit}
 use Rattle.cw_grammar.specs.Declarations.{Expressions}
 use Rattle.cw_grammar.specs.Statements.{Place, InBlock, BeforeElse, Elsewhere, last, IsForm, IsStatement}
+use Rattle.cw_grammar.specs.Spelling.{lexemes_of}
 use Rattle.cw_grammar.specs.Files.{Part, Declares as DeclaresPart, Holds, Defines, IsPart, IsFunction, IsProgram, file_of}
 use Rattle.cw_syntax.specs.Names.{Names}
 use Rattle.cw_syntax.specs.Trees.{Statement, Stated, Form, Block, Declares, Evaluates, Empties, Labels, Chooses, Whiles, Does, Fors, Breaks, Continues, Returns, nothing, just, Definition, File}
-use Rattle.cw_syntax.specs.Plans.{Scene, Action, Computes, Opens, Closes, Invokes, action_of, acting, steps_of, steps_of_form, steps_of_all, seams, seams_all, numbered, numbered_all, routines_from, scene_of, plan_of}
+use Rattle.cw_syntax.specs.Plans.{Scene, Action, Computes, Opens, Closes, Invokes, action_of, acting, steps_of, steps_of_form, steps_of_all, seams, seams_all, numbered}
+use Rattle.cw_syntax.specs.Plans.{numbered_all, routines_from, scene_of, plan_of}
 use Rattle.cw_syntax.specs.Marks.{marks_in, marks_in_all, marks_from, marks_of, AreInOrder}
 use Rattle.cw_source.specs.Read.{ReadsAs}
 use Rattle.cw_source.proofs.Ordered.{Lie, lie_of, lie_le, split, first_within, wider, joined}
 
-acting_marks : (action : Action) (at j from to : ℕ) → (from ≤ at) × (at ≤ to) → AreInOrder from to (marks_in (numbered (acting action at) j))
+acting_marks : (action : Action) (at j from to : ℕ) → (from ≤ at) × (at < to) → AreInOrder from to (marks_in (numbered (acting action at) j))
 acting_marks Computes at j from to (p, q) = omega arith
-acting_marks (Opens d) at j from to (p, q) = (p, q, q)
-acting_marks (Closes d) at j from to (p, q) = (p, q, q)
-acting_marks (Invokes callee) at j from to (p, q) = (p, q, q)
+acting_marks (Opens d) at j from to (p, q) = (p, (omega arith), (omega arith))
+acting_marks (Closes d) at j from to (p, q) = (p, (omega arith), (omega arith))
+acting_marks (Invokes callee) at j from to (p, q) = (p, (omega arith), (omega arith))
 
 -- a rule, where the claim holds of the statements in it
 module _ (s : Scene) (E : Expressions) (P : Place → List Lexeme → Statement → Type 0)
@@ -26,13 +28,15 @@ module _ (s : Scene) (E : Expressions) (P : Place → List Lexeme → Statement 
   part : (from to : ℕ) (ts xs : List Lexeme) → ts ≡ xs → Lie from to ts → Lie from to xs
   part from to ts xs e lie = subst (λ (z : List Lexeme). Lie from to z) e lie
 
-  all_marks : (ts : List Lexeme) (ss : List Statement) (j from to : ℕ) → AreAll (P InBlock) ts ss → Lie from to ts → AreInOrder from to (marks_in_all (numbered_all (steps_of_all s (statements ss)) j))
+  all_marks : (ts : List Lexeme) (ss : List Statement) (j from to : ℕ) → AreAll (P InBlock) ts ss → Lie from to ts
+      → AreInOrder from to (marks_in_all (numbered_all (steps_of_all s (statements ss)) j))
   all_marks ts [] j from to none lie = lie_le from to ts lie
   all_marks ts (st ∷ ss) j from to (x, y, whole, one, rest) lie =
       let p = split from to x y (part from to ts (x ++ y) whole lie) in
       joined from p.0 to _ _ (h InBlock x st j from p.0 one p.1) (all_marks y ss (j + seams (steps_of s st)) p.0 to rest p.2)
 
-  form_marks : (place : Place) (ts : List Lexeme) (form : Form) (j from to : ℕ) → IsForm E P place ts form → Lie from to ts → AreInOrder from to (marks_in (numbered (steps_of_form s (from_of ts) form) j))
+  form_marks : (place : Place) (ts : List Lexeme) (form : Form) (j from to : ℕ) → IsForm E P place ts form → Lie from to ts
+      → AreInOrder from to (marks_in (numbered (steps_of_form s (from_of ts) form) j))
   form_marks place ts (Block kids) j from to (inner, kids_are, (o, x, c, whole, opens, closes, all)) lie =
       let p = part from to ts (o ∷ x ++ c ∷ []) whole lie in
       let q = split o.to to x (c ∷ []) p.2 in
@@ -84,19 +88,27 @@ module _ (s : Scene) (E : Expressions) (P : Place → List Lexeme → Statement 
   form_marks place ts (Returns value) j from to is lie = lie_le from to ts lie
 
 module _ (s : Scene) (limit : ℕ) where
-  statement_marks : (n : ℕ) (place : Place) (ts : List Lexeme) (st : Statement) (j from to : ℕ) → IsStatement limit n place ts st → Lie from to ts → AreInOrder from to (marks_in (numbered (steps_of s st) j))
+  statement_marks : (n : ℕ) (place : Place) (ts : List Lexeme) (st : Statement) (j from to : ℕ) → IsStatement limit n place ts st → Lie from to ts
+      → AreInOrder from to (marks_in (numbered (steps_of s st) j))
   statement_marks zero place ts st j from to is lie = absurd is
   statement_marks (suc n) place ts (Stated form begin finish) j from to (begin_is, finish_is, is) lie =
       rw begin_is (form_marks s (IsExpression limit) (IsStatement limit n) (statement_marks n) place ts form j from to is lie)
 
-  function_marks : (ts : List Lexeme) (f : Definition) (j from to : ℕ) → IsFunction limit ts f → Lie from to ts → (from ≤ f.brace) × (f.brace ≤ to) × AreInOrder f.brace to (marks_in_all (numbered_all (steps_of_all s f.body) j))
+  function_marks : (ts : List Lexeme) (f : Definition) (j from to : ℕ) → IsFunction limit ts f → Lie from to ts → (from ≤ f.brace) × (f.brace ≤ to)
+      × AreInOrder f.brace to (marks_in_all (numbered_all (steps_of_all s f.body) j))
   function_marks ts f j from to (x, o, y, c, body, whole, header, named, opens, brace, all, body_is, closes) lie =
       let p = split from to x (o ∷ y ++ c ∷ []) (subst (λ (z : List Lexeme). Lie from to z) whole lie) in
       let q = split o.to to y (c ∷ []) p.2.2 in
       let before : from ≤ o.to = (let a = lie_le from p.0 x p.1 in let b = p.2.0 in let c = p.2.1 in omega arith) in
-      rw brace (rw body_is (before, lie_le o.to to (y ++ c ∷ []) p.2.2, wider o.to q.0 o.to to _ (omega arith) (lie_le q.0 to (c ∷ []) q.2) (all_marks s (IsExpression limit) (IsStatement limit limit) (statement_marks limit) y body j o.to q.0 all q.1)))
+      rw brace (rw body_is (
+        before,
+        lie_le o.to to (y ++ c ∷ []) p.2.2,
+        wider o.to q.0 o.to to _ (omega arith) (lie_le q.0 to (c ∷ []) q.2)
+            (all_marks s (IsExpression limit) (IsStatement limit limit) (statement_marks limit) y body j o.to q.0 all q.1),
+      ))
 
-  parts_marks : (parts : List Part) (ts : List Lexeme) (j from to : ℕ) → AreAll (IsPart limit) ts parts → Lie from to ts → AreInOrder from to (marks_from (routines_from s j (file_of parts).functions))
+  parts_marks : (parts : List Part) (ts : List Lexeme) (j from to : ℕ) → AreAll (IsPart limit) ts parts → Lie from to ts
+      → AreInOrder from to (marks_from (routines_from s j (file_of parts).functions))
   parts_marks [] ts j from to none lie = lie_le from to ts lie
   parts_marks (DeclaresPart d ∷ parts) ts j from to (x, y, whole, one, rest) lie =
       let p = split from to x y (subst (λ (z : List Lexeme). Lie from to z) whole lie) in
@@ -113,8 +125,8 @@ module _ (s : Scene) (limit : ℕ) where
 pub marks_in_order : (names : Names) (source : List ℕ) (file : File) → ReadsAs source file → AreInOrder 0 (length source) (marks_of (plan_of names source file))
 unfolding IsProgram
 marks_in_order names source file h =
-    let lexed = h.lexed in
     let derived = h.derived in
-    let lie : Lie 0 (length source) h.tokens = subst (λ (z : List Lexeme). Lie 0 (length source) z) (sym lexed.2) (lie_of source 0 (length source) lexed.0 (tokens_in_order source lexed.0 lexed.1)) in
+    let ts = lexemes_of source h.tokens in
+    let lie : Lie 0 (length source) ts = lie_of source 0 (length source) h.tokens (tokens_in_order source h.tokens h.lexed) in
     subst (λ (z : File). AreInOrder 0 (length source) (marks_from (routines_from (scene_of names source file) 0 z.functions))) (sym derived.2)
-    (parts_marks (scene_of names source file) nesting_limit derived.0 h.tokens 0 0 (length source) derived.1 lie)
+    (parts_marks (scene_of names source file) nesting_limit derived.0 ts 0 0 (length source) derived.1 lie)

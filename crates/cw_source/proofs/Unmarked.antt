@@ -12,4 +12,4 @@ neither false b e = refl
 
 pub no_marker : (source : List ℕ) (file : File) → ReadsAs source file → (at : ℕ) → starts_with nat_eq (drop at source) (codes "cw{*") ≡ false
 unfolding AreTokens
-no_marker source file h at = neither (starts_with nat_eq (drop at source) (codes "cw{*")) (starts_with nat_eq (drop at source) (codes "*}cw")) (h.lexed.1.0 at)
+no_marker source file h at = neither (starts_with nat_eq (drop at source) (codes "cw{*")) (starts_with nat_eq (drop at source) (codes "*}cw")) (h.lexed.0 at)

@@ -1,4 +1,4 @@
 pub mod Places
 pub mod Lines
 pub mod Read
-pub mod Jumps
+pub mod Items

@@ -6,8 +6,6 @@ pub mod laws;
 pub mod line;
 pub mod place;
 pub mod read;
-#[cfg(test)]
-mod tests;
 
 pub use fault::SourceFault;
 pub use line::{fault_line, place_line};

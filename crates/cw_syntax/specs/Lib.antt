@@ -4,3 +4,4 @@ pub mod Plans
 pub mod Frames
 pub mod Marks
 pub mod Steps
+pub mod Runnable

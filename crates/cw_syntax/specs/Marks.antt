@@ -1,4 +1,4 @@
--- The marks of the seams, in the order of the text.
+-- The marks of the seams: function by function, its entry first, then those of its statements from left to right.
 use Rattle.std.specs.Prelude.{◌≡◌, ◌≤◌, ℕ, List, [], ◌∷◌, ◌++◌, Option, map, length}
 use Rattle.std.specs.List.{range_with_len}
 use Rattle.cw_syntax.specs.declared.program.Name.{Name}
@@ -66,6 +66,7 @@ abbrev pub AreInOrder : ℕ → ℕ → List SeamMark → Type 0
 AreInOrder at len [] = at ≤ len
 AreInOrder at len (m ∷ ms) = (at ≤ m.place) × (m.place ≤ len) × AreInOrder m.place len ms
 
--- The seams of every program are numbered from 0 in the order of their marks.
+-- The seams of every plan are numbered from 0 in the order in which `marks_of` lists their marks. It says nothing of their places: that these stand in
+-- the same order holds of programs that are read, not of each file that can be written down.
 abbrev pub SeamsAreInOrder : Type 0
 SeamsAreInOrder = (names : Names) (source : List ℕ) (file : File) → map (λ m. m.seam) (marks_of (plan_of names source file)) ≡ range_with_len 0 (length (marks_of (plan_of names source file)))

@@ -3,7 +3,8 @@
 ghost use Rattle.cw_syntax.specs.Marks.{SeamsAreInOrder};
 ghost use Rattle.cw_syntax.specs.Steps.{StepsAreTheTable};
 
-/// The seams of every program are numbered from 0, in the order in which their marks stand in the text.
+/// The seams of every program are numbered from 0, function by function, the entry first and then the statements from left to right. Of a
+/// program that is read this is the order of the text (`cw_source`, `marks_are_in_order`).
 #[tactic(auto, using(crate::proofs::Counting::in_order))]
 pub fn seams_are_in_order()
     ensures in_order { SeamsAreInOrder }

@@ -4,4 +4,5 @@
 pub mod checked;
 pub mod laws;
 pub mod marks;
+pub mod names;
 pub mod program;

@@ -9,8 +9,8 @@ use Rattle.std.specs.Ordering.{ordering_then, nat_cmp}
 use Rattle.std.proofs.lemmas.Bool.Decides.{nat_tests}
 use Rattle.std.proofs.lemmas.Option.{none-some, same_Some}
 use Rattle.std.proofs.lemmas.Map.Keys.{below_from_sorted}
+use Rattle.cw_certs.specs.Tables.{Table}
 use Rattle.cw_game.specs.declared.ambient.AmbientPolicy.{AmbientPolicy}
-use Rattle.cw_certs.specs.declared.table.WeaverCert.{WeaverCert}
 use Rattle.cw_certs.specs.declared.rows.TryRow.{TryRow}
 use Rattle.cw_certs.specs.declared.rows.AtRow.{AtRow}
 use Rattle.cw_game.specs.declared.ambient.Node.{Node}
@@ -25,7 +25,7 @@ use Rattle.cw_core.specs.declared.ids.MemId.{MemId}
 use Rattle.cw_core.specs.declared.ids.PosId.{PosId}
 use Rattle.cw_tables.specs.Rows.{pos_id, mem_id, full, mem_of, mem_row, live_row, try_row, at_row, AreStatesOf, IsTableOf}
 use Rattle.cw_game.specs.Laid.{Laid}
-use Rattle.cw_tables.specs.Ascends.{mem_cmp, live_cmp, try_cmp, at_cmp, Ascends}
+use Rattle.cw_certs.specs.Ascending.{mem_cmp, live_cmp, try_cmp, at_cmp, open_cmp, into_cmp, back_cmp, Ascends}
 use Rattle.cw_tables.proofs.Members.{In, of_in, kept_from}
 use Rattle.cw_tables.proofs.Places.{placed_at}
 use Rattle.cw_tables.proofs.Lazily.{needed_key, not_lost}
@@ -49,6 +49,10 @@ rises c d f (x ∷ xs) m s = by (f x) refl (rises c d f xs (λ a b u v i j. m a 
     by : (o : Option _) → f x ≡ o → IsStrictlySortedBy d (filter_map f xs) → IsStrictlySortedBy d (cons_option o (filter_map f xs))
     by None e h = h
     by (Some u) e h = (in_all (λ v. d u v ≡ Less) (filter_map f xs) (λ v n. let z = kept_from f xs v n in m x z.0 u v (inl refl) (inr z.1) (all_in (λ y. c x y ≡ Less) xs s.0 z.0 z.1) e z.2), h)
+
+none_sorted : {A : Type 0} (c : A → A → Ordering) → IsStrictlySortedBy c []
+unfolding IsStrictlySortedBy
+none_sorted c = tt
 
 then_less : (a b p q : ℕ) → (a < b) ⊎ ((a ≡ b) × (p < q)) → ordering_then (nat_cmp a b) (nat_cmp p q) ≡ Less
 then_less a b p q (inl l) = let e : nat_cmp a b ≡ Less = grind (arith, nat_tests) in ap (λ o. ordering_then o (nat_cmp p q)) e
@@ -112,7 +116,7 @@ mems_ascend pol (q ∷ states) s = (below states s.0, mems_ascend pol states s.1
     below [] h = tt
     below (r ∷ rs) h = (ap (λ o. ordering_then o (nat_cmp (full pol) (full pol))) h.0, below rs h.1)
 
-module _ (g : List Node) (pol : AmbientPolicy) (hs : List ℕ) (ok : AreHeights g pol hs) (start : ℕ) (safe : height_at hs start (start_of pol.numbering) ≡ 0) (laid : Laid g start) (keys : List Key) (x : Exactly key_cmp (Needed Weaver g start pol hs) keys) (states : List ℕ) (are : AreStatesOf keys states) (c : WeaverCert) (t : IsTableOf g pol keys states c) where
+module _ (g : List Node) (pol : AmbientPolicy) (hs : List ℕ) (ok : AreHeights g pol hs) (start : ℕ) (safe : height_at hs start (start_of pol.numbering) ≡ 0) (laid : Laid g start) (keys : List Key) (x : Exactly key_cmp (Needed Weaver g start pol hs) keys) (states : List ℕ) (are : AreStatesOf keys states) (c : Table) (t : IsTableOf g pol keys states c) where
   needed : (k : Key) → In keys k → Needed Weaver g start pol hs k
   needed k n = (x.1 k).0 (of_in keys k n)
 
@@ -161,5 +165,9 @@ module _ (g : List Node) (pol : AmbientPolicy) (hs : List ℕ) (ok : AreHeights 
     mems = subst (IsStrictlySortedBy mem_cmp) (sym t.mems) (mems_ascend pol states are.0);
     live = subst (IsStrictlySortedBy live_cmp) (sym t.live) (rises key_cmp live_cmp (live_row states) keys live_rises x.0);
     tries = subst (IsStrictlySortedBy try_cmp) (sym t.tries) (rises key_cmp try_cmp (try_row g pol states) keys try_rises x.0);
+    opened = subst (IsStrictlySortedBy open_cmp) (sym t.opened) (none_sorted open_cmp);
+    closed = subst (IsStrictlySortedBy at_cmp) (sym t.closed) (none_sorted at_cmp);
+    into = subst (IsStrictlySortedBy into_cmp) (sym t.into) (none_sorted into_cmp);
+    back = subst (IsStrictlySortedBy back_cmp) (sym t.back) (none_sorted back_cmp);
     ats = subst (IsStrictlySortedBy at_cmp) (sym t.ats) (rises key_cmp at_cmp (at_row g pol states) keys at_rises x.0);
   }

@@ -21,7 +21,8 @@ use Rattle.cw_game.specs.declared.ambient.AmbientPolicy.{AmbientPolicy}
 use Rattle.cw_game.specs.declared.ambient.Node.{Node}
 use Rattle.cw_game.specs.declared.ambient.Node.TheVariants.{TryAt, AskedAt, LabelTo, StepTo, BranchTo, ExitAt}
 use Rattle.cw_game.specs.Games.{Game, at_pair, leads_in, bad_in, weavers_in}
-use Rattle.cw_game.specs.Conditions.{IsAt, HowOk, IsClosedStrategy, is_call_in, is_exit_in}
+use Rattle.cw_game.specs.Pairs.{IsAt, is_call_in, is_exit_in}
+use Rattle.cw_game.specs.Closed.{HowOk, IsClosedStrategy}
 use Rattle.cw_game.specs.Ambient.{spot_of, start_of, flag_of, granted_of, lettered, is_bad, ambient_game, numbering_of}
 use Rattle.cw_tables.specs.declared.closure.Side.TheVariants.{Environment}
 use Rattle.cw_tables.specs.declared.closure.Key.{Key}
@@ -36,7 +37,7 @@ use Rattle.cw_tables.proofs.Members.{In, in_of, of_in, Every, every}
 use Rattle.cw_tables.proofs.Places.{found_key}
 use Rattle.cw_tables.proofs.Losing.{lettered_small}
 use Rattle.cw_tables.proofs.Lazily.{needed_key, height_within}
-use Rattle.cw_tables.proofs.Tabled.{got, halves, map_at, game_by}
+use Rattle.cw_tables.proofs.Tabled.{got, halves, map_at, refuses_now, game_by}
 use Rattle.cw_tables.proofs.Tops.{full_length}
 
 either : (a b : Bool) → (a || b) ≡ true → (a ≡ true) ⊎ (b ≡ true)
@@ -222,7 +223,7 @@ module _ (g : List Node) (pol : AmbientPolicy) (hs : List ℕ) (ok : AreHeights 
     pub row_there : (k : Key) → In keys k → (y : EnvRow) × (env_row g pol hs keys k ≡ Some y)
     row_there k n = let h = how_there k (slice_get g k.pos) refl n in (record { pos = pos_id k.pos; state = state_id k.state; aim = 0; how = h.0 }, ap (option_map (λ how. record { pos = pos_id k.pos; state = state_id k.state; aim = 0; how = how })) h.1)
 
-    module _ (count : ℕ) (rows : List EnvRow) (are : rows ≡ filter_map (env_row g pol hs keys) keys) (plain : PlainPolicy) (refuses : plain.refuse_enter ≡ pol.refusable) (entry exit : ℕ → ℕ) (main : ℕ) where
+    module _ (count : ℕ) (rows : List EnvRow) (are : rows ≡ filter_map (env_row g pol hs keys) keys) (plain : PlainPolicy) (refuses : refuses_now plain ≡ pol.refusable) (entry exit : ℕ → ℕ) (main : ℕ) where
       abbrev game : Game
       game = game_by plain pol.numbering pol g entry exit main
 

@@ -3,4 +3,3 @@ pub mod Heights
 pub mod Least
 pub mod Needed
 pub mod Rows
-pub mod Ascends

@@ -6,13 +6,13 @@ use Rattle.cw_core.specs.declared.ids.SeamId.{SeamId}
 use Rattle.cw_core.specs.declared.ids.StateId.{StateId}
 use Rattle.cw_core.specs.declared.ids.MemId.{MemId}
 use Rattle.cw_core.specs.declared.ids.PosId.{PosId}
-use Rattle.cw_certs.specs.declared.table.WeaverCert.{WeaverCert}
 use Rattle.cw_certs.specs.declared.rows.TryRow.{TryRow}
 use Rattle.cw_certs.specs.declared.rows.AtRow.{AtRow}
 use Rattle.cw_certs.specs.declared.strategy.EnvCert.{EnvCert}
 use Rattle.cw_certs.specs.declared.strategy.EnvRow.{EnvRow}
 use Rattle.cw_certs.specs.declared.strategy.How.{How}
 use Rattle.cw_certs.specs.declared.strategy.How.TheVariants.{Bad, Both, Go}
+use Rattle.cw_certs.specs.Tables.{Table}
 use Rattle.cw_game.specs.declared.ambient.AmbientPolicy.{AmbientPolicy}
 use Rattle.cw_game.specs.declared.ambient.Node.{Node}
 use Rattle.cw_game.specs.declared.ambient.Node.TheVariants.{TryAt, AskedAt, LabelTo}
@@ -70,32 +70,32 @@ abbrev pub at_row : List Node → AmbientPolicy → List ℕ → Key → Option 
 at_row g pol states k = at_in pol states k.state (slice_get g k.pos)
 
 -- The table of these pairs, whose memories are of these states in order.
-pub record IsTableOf (g : List Node) (pol : AmbientPolicy) (keys : List Key) (states : List ℕ) (c : WeaverCert) : Type 0 where
+pub record IsTableOf (g : List Node) (pol : AmbientPolicy) (keys : List Key) (states : List ℕ) (c : Table) : Type 0 where
   pub count : c.states ≡ count_of pol.numbering
   pub start : mem_of states (start_of pol.numbering) ≡ Some c.start.0
-  pub mems : c.mems.items ≡ map (mem_row pol) states
-  pub live : c.live.items ≡ filter_map (live_row states) keys
-  pub tries : c.tries.items ≡ filter_map (try_row g pol states) keys
-  pub ats : c.ats.items ≡ filter_map (at_row g pol states) keys
-  pub opened : c.opened.items ≡ []
-  pub closed : c.closed.items ≡ []
-  pub into : c.into.items ≡ []
-  pub back : c.back.items ≡ []
+  pub mems : c.mems ≡ map (mem_row pol) states
+  pub live : c.live ≡ filter_map (live_row states) keys
+  pub tries : c.tries ≡ filter_map (try_row g pol states) keys
+  pub ats : c.ats ≡ filter_map (at_row g pol states) keys
+  pub opened : c.opened ≡ []
+  pub closed : c.closed ≡ []
+  pub into : c.into ≡ []
+  pub back : c.back ≡ []
 
 -- the states of these pairs
 abbrev pub AreStatesOf : List Key → List ℕ → Type 0
 AreStatesOf keys states = Exactly nat_cmp (Contains (map (λ (k : Key). k.state) keys)) states
 
-abbrev pub IsTable : List Node → AmbientPolicy → List Key → WeaverCert → Type 0
+abbrev pub IsTable : List Node → AmbientPolicy → List Key → Table → Type 0
 IsTable g pol keys c = (states : List ℕ) × AreStatesOf keys states × IsTableOf g pol keys states c
 
 -- The lazy table: the least one that is closed under skipping where the skip isn't lost.
-abbrev pub IsLazy : List Node → ℕ → AmbientPolicy → List ℕ → WeaverCert → Type 0
+abbrev pub IsLazy : List Node → ℕ → AmbientPolicy → List ℕ → Table → Type 0
 IsLazy g start pol hs c = (keys : List Key) × Exactly key_cmp (Needed Weaver g start pol hs) keys × IsTable g pol keys c
 
 -- all entries of all lists
-abbrev pub table_rows : WeaverCert → ℕ
-table_rows c = length c.mems.items + length c.live.items + length c.tries.items + length c.ats.items + length c.opened.items + length c.closed.items + length c.into.items + length c.back.items
+abbrev pub table_rows : Table → ℕ
+table_rows c = length c.mems + length c.live + length c.tries + length c.ats + length c.opened + length c.closed + length c.into + length c.back
 
 -- the number of a pair's row
 abbrev pub number : List Key → Key → Option ℕ

@@ -157,9 +157,9 @@ pub fn heights(alloc: Global, nodes: &[Node], policy: &AmbientPolicy) -> Result<
     requires small { length nodes.now < 2 ^ 20 }
     requires numbered { policy.now.numbering ≡ numbering_of policy.now.tests.items nodes.now }
     ensures least { IfOk result (λ hs. AreHeights nodes.now policy.now hs.items) }
-    ensures holds { IfOk result (λ hs. (plain : PlainPolicy) → plain.refuse_enter ≡ policy.now.refusable → (entry exit : ℕ → ℕ) (main : ℕ) →
+    ensures holds { IfOk result (λ hs. (plain : PlainPolicy) → plain.refuse_enter ≡ policy.now.refusable → plain.stop ≡ false → (entry exit : ℕ → ℕ) (main : ℕ) →
         AreHeightsOf (ambient_game plain policy.now.tests.items nodes.now entry exit main) 4 hs.items) }
-    ensures holds_of_states { IfOk result (λ hs. (plain : PlainPolicy) → plain.refuse_enter ≡ policy.now.refusable → (entry exit : ℕ → ℕ) (main : ℕ) →
+    ensures holds_of_states { IfOk result (λ hs. (plain : PlainPolicy) → plain.refuse_enter ≡ policy.now.refusable → plain.stop ≡ false → (entry exit : ℕ → ℕ) (main : ℕ) →
         AreHeightsOf (ambient_game plain policy.now.tests.items nodes.now entry exit main) (count_of policy.now.numbering) hs.items) }
 {
     let mut hs = vec![in alloc; 0u32; nodes.len() * 4]?;

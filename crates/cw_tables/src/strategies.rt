@@ -1,12 +1,13 @@
 //! The strategy by least heights: the environment moves to the pair of the least height.
 
-ghost use Rattle.std.specs.Prelude.{◌≡◌, ℕ, ◌<◌, ◌≤◌, ◌^◌, List, Some, None, length, IfOk, IfSome, IfNone, filter_map};
+ghost use Rattle.std.specs.Prelude.{◌≡◌, false, ℕ, ◌<◌, ◌≤◌, ◌^◌, List, Some, None, length, IfOk, IfSome, IfNone, filter_map};
 ghost use Rattle.std.specs.List.Sorted.{IsStrictlySortedBy};
 ghost use Rattle.cw_rights.specs.Policies.{PlainPolicy};
 ghost use Rattle.cw_certs.specs.declared.strategy.EnvCert.{EnvCert};
 ghost use Rattle.cw_certs.specs.Strategies.{strategy_of};
 ghost use Rattle.cw_game.specs.Ambient.{start_of, ambient_game, numbering_of};
-ghost use Rattle.cw_game.specs.Conditions.{IsAt, IsClosedStrategy};
+ghost use Rattle.cw_game.specs.Pairs.{IsAt};
+ghost use Rattle.cw_game.specs.Closed.{IsClosedStrategy};
 ghost use Rattle.cw_tables.specs.Least.{key_cmp};
 ghost use Rattle.cw_tables.specs.Heights.{height_at, AreHeights};
 ghost use Rattle.cw_tables.specs.Rows.{number, go_how, how_in, env_row, IsLeast};
@@ -132,7 +133,7 @@ pub fn env_table(
     requires heights { AreHeights nodes.now policy.now hs.now }
     requires start { 0 < height_at hs.now start (start_of policy.now.numbering) }
     ensures least { IfOk result (λ o. IfSome o (λ c. IsLeast nodes.now start policy.now hs.now c)) }
-    ensures closed { IfOk result (λ o. IfSome o (λ c. (plain : PlainPolicy) → plain.refuse_enter ≡ policy.now.refusable → (entry exit : ℕ → ℕ) (main : ℕ) →
+    ensures closed { IfOk result (λ o. IfSome o (λ c. (plain : PlainPolicy) → plain.refuse_enter ≡ policy.now.refusable → plain.stop ≡ false → (entry exit : ℕ → ℕ) (main : ℕ) →
         IsClosedStrategy (ambient_game plain policy.now.tests.items nodes.now entry exit main) (strategy_of c))) }
     ensures begins { IfOk result (λ o. IfSome o (λ c. (row : ℕ) × IsAt (strategy_of c) row start (start_of policy.now.numbering) 0)) }
     ensures few { IfOk result (λ o. IfSome o (λ c. length c.rows.items ≤ 65536)) }

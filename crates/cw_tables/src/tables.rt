@@ -1,21 +1,20 @@
 //! The lazy table: a primitive is tried only where skipping it is lost.
 
-ghost use Rattle.std.specs.Prelude.{◌≡◌, ℕ, ◌+◌, ◌*◌, ◌<◌, ◌≤◌, ◌^◌, ◌++◌, [], ◌∷◌, List, Option, Some, None, length, IfOk, OnOk, IfSome, IfNone, IsTrue, map, filter_map, option_map, cond, slice_get, nat_eq};
+ghost use Rattle.std.specs.Prelude.{◌≡◌, false, ℕ, ◌+◌, ◌*◌, ◌<◌, ◌≤◌, ◌^◌, ◌++◌, [], ◌∷◌, List, Option, Some, None, length, IfOk, OnOk, IfSome, IfNone, IsTrue, map, filter_map, option_map, cond, slice_get, nat_eq};
 ghost use Rattle.std.specs.List.{Contains};
 ghost use Rattle.std.specs.List.Sorted.{IsStrictlySortedBy};
 ghost use Rattle.std.specs.Ordering.{nat_cmp};
 ghost use Rattle.cw_rights.specs.Policies.{PlainPolicy};
-ghost use Rattle.cw_certs.specs.declared.table.WeaverCert.{WeaverCert};
-ghost use Rattle.cw_certs.specs.Tables.{table_of};
+ghost use Rattle.cw_certs.specs.Tables.{Table};
+ghost use Rattle.cw_certs.specs.Ascending.{Ascends};
 ghost use Rattle.cw_game.specs.Laid.{Laid};
 ghost use Rattle.cw_game.specs.Ambient.{start_of, ambient_game, numbering_of};
-ghost use Rattle.cw_game.specs.Conditions.{is_closed_table};
+ghost use Rattle.cw_game.specs.Closed.{is_closed_table};
 ghost use Rattle.cw_game.specs.Necessity.{TriesOnlyLost};
 ghost use Rattle.cw_tables.specs.declared.closure.Key.{Key};
 ghost use Rattle.cw_tables.specs.Least.{Exactly, key_cmp};
 ghost use Rattle.cw_tables.specs.Needed.{Needed};
 ghost use Rattle.cw_tables.specs.Heights.{height_at, AreHeights};
-ghost use Rattle.cw_tables.specs.Ascends.{Ascends};
 ghost use Rattle.cw_tables.specs.Rows.{mem_id, full, mem_of, mem_row, live_row, try_in, try_row, at_in, at_row, AreStatesOf, IsTableOf, IsTable, IsLazy, table_rows};
 
 use crate::closure::{Key, Side, reach};
@@ -251,8 +250,9 @@ fn table_of_keys(
 ) -> Result<Option<WeaverCert>, AllocError>
     requires exactly { AreStatesOf keys.now states.now }
     requires few { length states.now ≤ 65536 }
+    requires ascend { (c : Table) → IsTableOf nodes.now policy.now keys.now states.now c → Ascends c }
     ensures some { IfOk result (λ o. IfSome o (λ c. IsTableOf nodes.now policy.now keys.now states.now c × (table_rows c ≤ 65536))) }
-    ensures none { IfOk result (λ o. IfNone o ((c : WeaverCert) → IsTable nodes.now policy.now keys.now c → 65536 < table_rows c)) }
+    ensures none { IfOk result (λ o. IfNone o ((c : Table) → IsTable nodes.now policy.now keys.now c → 65536 < table_rows c)) }
 {
     let start = match mem_of(states, policy.numbering.start()) {
         None => return Ok(None),
@@ -265,18 +265,21 @@ fn table_of_keys(
     if count_rows(mems.len(), live.len(), tries.len(), ats.len()).is_none() {
         return Ok(None);
     }
-    Ok(Some(WeaverCert {
-        states: policy.numbering.count(),
+    match WeaverCert::make(
+        policy.numbering.count(),
         start,
         mems,
         live,
         tries,
         ats,
-        opened: Vec::new(alloc),
-        closed: Vec::new(alloc),
-        into: Vec::new(alloc),
-        back: Vec::new(alloc),
-    }))
+        Vec::new(alloc),
+        Vec::new(alloc),
+        Vec::new(alloc),
+        Vec::new(alloc),
+    ) {
+        None => Ok(None),
+        Some(table) => Ok(Some(table)),
+    }
 }
 
 /// The lazy table of a program that begins at this position, where the start isn't lost. None: it has more than 65,536
@@ -296,13 +299,13 @@ pub fn weaver_table(
     requires heights { AreHeights nodes.now policy.now hs.now }
     requires start { height_at hs.now start (start_of policy.now.numbering) ≡ 0 }
     ensures lazy { IfOk result (λ o. IfSome o (λ c. IsLazy nodes.now start policy.now hs.now c)) }
-    ensures closed { IfOk result (λ o. IfSome o (λ c. (plain : PlainPolicy) → plain.refuse_enter ≡ policy.now.refusable → (entry exit : ℕ → ℕ) (main : ℕ) → entry main ≡ start →
-        IsTrue (is_closed_table (ambient_game plain policy.now.tests.items nodes.now entry exit main) (table_of c)))) }
-    ensures tries_lost { IfOk result (λ o. IfSome o (λ c. (plain : PlainPolicy) → plain.refuse_enter ≡ policy.now.refusable → (entry exit : ℕ → ℕ) (main : ℕ) →
-        TriesOnlyLost (ambient_game plain policy.now.tests.items nodes.now entry exit main) (table_of c))) }
+    ensures closed { IfOk result (λ o. IfSome o (λ c. (plain : PlainPolicy) → plain.refuse_enter ≡ policy.now.refusable → plain.stop ≡ false → (entry exit : ℕ → ℕ) (main : ℕ) → entry main ≡ start →
+        IsTrue (is_closed_table (ambient_game plain policy.now.tests.items nodes.now entry exit main) c))) }
+    ensures tries_lost { IfOk result (λ o. IfSome o (λ c. (plain : PlainPolicy) → plain.refuse_enter ≡ policy.now.refusable → plain.stop ≡ false → (entry exit : ℕ → ℕ) (main : ℕ) →
+        TriesOnlyLost (ambient_game plain policy.now.tests.items nodes.now entry exit main) c)) }
     ensures ascends { IfOk result (λ o. IfSome o (λ c. Ascends c)) }
     ensures few { IfOk result (λ o. IfSome o (λ c. table_rows c ≤ 65536)) }
-    ensures many { IfOk result (λ o. IfNone o ((c : WeaverCert) → IsLazy nodes.now start policy.now hs.now c → 65536 < table_rows c)) }
+    ensures many { IfOk result (λ o. IfNone o ((c : Table) → IsLazy nodes.now start policy.now hs.now c → 65536 < table_rows c)) }
 {
     match reach(alloc, Side::Weaver, nodes, start, policy, hs)? {
         None => Ok(None),

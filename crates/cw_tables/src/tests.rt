@@ -49,10 +49,10 @@ fn a_label_that_is_never_ambient(rt: HostRuntime) -> Result<(), Fail> {
     let hs = heights(rt.alloc(), &nodes, &policy)?;
     assert_eq!(rt; height_at(&hs, 0, policy.numbering.start()), 0);
     let table = weaver_table(rt.alloc(), &nodes, 0, &policy, &hs)?.ok_or("too many rows")?;
-    assert_eq!(rt; table.states, 4);
-    assert_eq!(rt; table.start, MemId(0));
+    assert_eq!(rt; table.states(), 4);
+    assert_eq!(rt; table.start(), MemId(0));
     let mut states = Vec::new(rt.alloc());
-    for mem in &table.mems {
+    for mem in table.mems() {
         states.push(mem.0)?;
         assert!(rt;
             mem.1.contains(StateId(0)) && mem.1.contains(StateId(3)) && !mem.1.contains(StateId(4))
@@ -72,10 +72,10 @@ fn a_label_that_is_never_ambient(rt: HostRuntime) -> Result<(), Fail> {
         (7, 2),
         (8, 2),
     ];
-    assert_eq!(rt; table.live.len(), live.len());
+    assert_eq!(rt; table.live().len(), live.len());
     for i in 0..8 {
         assert_eq!(rt;
-            table.live.get(i).copied(),
+            table.live().get(i).copied(),
             Some((PosId(live[i].0), MemId(live[i].1))),
             "row {i}"
         );
@@ -87,13 +87,13 @@ fn a_label_that_is_never_ambient(rt: HostRuntime) -> Result<(), Fail> {
         granted: Some(MemId(1)),
         refused: None,
     };
-    assert_eq!(rt; table.tries.as_slice(), [tried].as_slice());
+    assert_eq!(rt; table.tries(), [tried].as_slice());
     let at = AtRow {
         seam: SeamId(1),
         mem: MemId(1),
         after: MemId(2),
     };
-    assert_eq!(rt; table.ats.as_slice(), [at].as_slice());
+    assert_eq!(rt; table.ats(), [at].as_slice());
     Ok(())
 }
 
@@ -109,8 +109,8 @@ fn a_label_without_rules(rt: HostRuntime) -> Result<(), Fail> {
     let hs = heights(rt.alloc(), &nodes, &policy)?;
     assert_eq!(rt; height_at(&hs, 0, policy.numbering.start()), 0);
     let table = weaver_table(rt.alloc(), &nodes, 0, &policy, &hs)?.ok_or("too many rows")?;
-    assert_eq!(rt; table.states, 4);
-    assert_eq!(rt; table.start, MemId(1));
+    assert_eq!(rt; table.states(), 4);
+    assert_eq!(rt; table.start(), MemId(1));
     Ok(())
 }
 
@@ -238,12 +238,12 @@ fn main_is_the_second_function(rt: HostRuntime) -> Result<(), Fail> {
     assert!(rt; 0 < height_at(&hs, 0, policy.numbering.start()));
     assert_eq!(rt; height_at(&hs, 2, policy.numbering.start()), 0);
     let table = weaver_table(rt.alloc(), &nodes, 2, &policy, &hs)?.ok_or("too many rows")?;
-    assert_eq!(rt; table.start, MemId(0));
+    assert_eq!(rt; table.start(), MemId(0));
     let live = [(2, 0), (3, 0), (4, 1), (5, 2)];
-    assert_eq!(rt; table.live.len(), live.len());
+    assert_eq!(rt; table.live().len(), live.len());
     for i in 0..4 {
         assert_eq!(rt;
-            table.live.get(i).copied(),
+            table.live().get(i).copied(),
             Some((PosId(live[i].0), MemId(live[i].1))),
             "row {i}"
         );
@@ -255,7 +255,7 @@ fn main_is_the_second_function(rt: HostRuntime) -> Result<(), Fail> {
         granted: Some(MemId(1)),
         refused: None,
     };
-    assert_eq!(rt; table.tries.as_slice(), [tried].as_slice());
+    assert_eq!(rt; table.tries(), [tried].as_slice());
     Ok(())
 }
 

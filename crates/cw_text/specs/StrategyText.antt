@@ -3,14 +3,12 @@ use Rattle.std.specs.Prelude.{ℕ, List, [], ◌∷◌, ◌++◌, map, codes}
 use Rattle.std.specs.Fmt.{decimal}
 use Rattle.cw_core.specs.Numerals.{hexadecimal}
 use Rattle.cw_certs.specs.declared.moves.Move.{Move}
-use Rattle.cw_certs.specs.declared.moves.Move.TheVariants.{Skip, Try, Grant, Refuse, On, Left, Right, Opened, Failed}
+use Rattle.cw_certs.specs.declared.moves.Move.TheVariants.{Skip, Try, Grant, Refuse, On, Left, Right, Opened, Failed, Stop}
 use Rattle.cw_certs.specs.Strategies.{How, Bad, Out, Both, Go, Into, Row, Strategy}
 use Rattle.cw_text.specs.Lines.{line, joined, numbered}
 
--- a move by its name
+-- A move of the environment by its name. The weaver's moves have none, since no row that meets the conditions makes one.
 abbrev pub move_word : Move → List ℕ
-move_word Skip = codes "skip"
-move_word Try = codes "try"
 move_word Grant = codes "grant"
 move_word Refuse = codes "refuse"
 move_word On = codes "on"
@@ -18,6 +16,9 @@ move_word Left = codes "left"
 move_word Right = codes "right"
 move_word Opened = codes "opened"
 move_word Failed = codes "failed"
+move_word Skip = []
+move_word Try = []
+move_word Stop = []
 
 -- `EXIT=ROW`
 abbrev pub back_word : ℕ × ℕ → List ℕ

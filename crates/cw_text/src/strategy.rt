@@ -107,13 +107,11 @@ fn put_backs(backs: &[(StateId, u32)], text: &mut Vec<u8>) -> Result<(), NoMemor
     Ok(())
 }
 
-/// A move by its name.
+/// A move of the environment by its name. The weaver's moves have none: no row that meets the conditions makes one.
 fn move_name(by: Move) -> &'static str
     ensures { result.now ≡ move_word by }
 {
     match by {
-        Move::Skip => "skip",
-        Move::Try => "try",
         Move::Grant => "grant",
         Move::Refuse => "refuse",
         Move::On => "on",
@@ -121,5 +119,6 @@ fn move_name(by: Move) -> &'static str
         Move::Right => "right",
         Move::Opened => "opened",
         Move::Failed => "failed",
+        Move::Skip | Move::Try | Move::Stop => "",
     }
 }

@@ -9,15 +9,28 @@ use cw_rights::{Descriptor, Limit, Policy, Rights};
 use std::alloc::Global;
 use std::test::Fail;
 
-/// A table with memories and what is live, and no further row.
-fn table(
+/// The lists of a table of four states.
+#[derive(Drop)]
+struct Lists {
+    start: MemId,
+    mems: Vec<(StateId, StateSet)>,
+    live: Vec<(PosId, MemId)>,
+    tries: Vec<TryRow>,
+    ats: Vec<AtRow>,
+    opened: Vec<OpenRow>,
+    closed: Vec<AtRow>,
+    into: Vec<IntoRow>,
+    back: Vec<BackRow>,
+}
+
+/// Lists with memories and what is live, and no further row.
+fn make_lists(
     alloc: Global,
     start: u32,
     mems: &[(u16, u64)],
     live: &[(u32, u32)],
-) -> Result<WeaverCert, NoMemory> {
-    let mut table = WeaverCert {
-        states: 4,
+) -> Result<Lists, NoMemory> {
+    let mut lists = Lists {
         start: MemId(start),
         mems: Vec::new(alloc),
         live: Vec::new(alloc),
@@ -29,14 +42,36 @@ fn table(
         back: Vec::new(alloc),
     };
     for mem in mems {
-        table
+        lists
             .mems
             .push((StateId(mem.0), StateSet::from_bits(mem.1)))?;
     }
     for pair in live {
-        table.live.push((PosId(pair.0), MemId(pair.1)))?;
+        lists.live.push((PosId(pair.0), MemId(pair.1)))?;
     }
-    Ok(table)
+    Ok(lists)
+}
+
+/// Whether the lists make a table with this text, put after what is there.
+fn is_spelled(lists: Lists, text: &mut Vec<u8>, want: &str) -> Result<bool, NoMemory> {
+    match WeaverCert::make(
+        4,
+        lists.start,
+        lists.mems,
+        lists.live,
+        lists.tries,
+        lists.ats,
+        lists.opened,
+        lists.closed,
+        lists.into,
+        lists.back,
+    ) {
+        None => Ok(false),
+        Some(table) => {
+            put_table(&table, text)?;
+            Ok(text.as_slice() == want.as_bytes())
+        }
+    }
 }
 
 fn tried(seam: u32, mem: u32, granted: u32) -> TryRow {
@@ -80,7 +115,7 @@ fn back(seam: u32, split: bool, mem: u32, exit: u16, after: u32) -> BackRow {
 #[test]
 fn table_of_a_label_that_is_never_ambient(rt: HostRuntime) -> Result<(), Fail> {
     let alloc = rt.alloc();
-    let mut table = table(
+    let mut lists = make_lists(
         alloc,
         0,
         &[(0, 15), (1, 15), (3, 15)],
@@ -95,13 +130,12 @@ fn table_of_a_label_that_is_never_ambient(rt: HostRuntime) -> Result<(), Fail> {
             (8, 2),
         ],
     )?;
-    table.tries.push(tried(1, 0, 1))?;
-    table.ats.push(after(1, 1, 2))?;
+    lists.tries.push(tried(1, 0, 1))?;
+    lists.ats.push(after(1, 1, 2))?;
     let mut text = Vec::new(alloc);
-    put_table(&table, &mut text)?;
     let want =
         "CW_TABLE(1,4,0)\nCW_MEM(0,0,0xf)\nCW_MEM(1,1,0xf)\nCW_MEM(2,3,0xf)\nCW_LIVE(0,0)\nCW_LIVE(2,0)\nCW_LIVE(3,0)\nCW_LIVE(4,0)\nCW_LIVE(5,1)\nCW_LIVE(6,2)\nCW_LIVE(7,2)\nCW_LIVE(8,2)\nCW_TRY(1,0,0,1,CW_NONE)\nCW_AT(1,1,2)\nCW_DONE\n";
-    assert_eq!(rt; text.as_slice(), want.as_bytes());
+    assert!(rt; is_spelled(lists, &mut text, want)?);
     Ok(())
 }
 
@@ -109,23 +143,22 @@ fn table_of_a_label_that_is_never_ambient(rt: HostRuntime) -> Result<(), Fail> {
 #[test]
 fn table_of_a_split_call(rt: HostRuntime) -> Result<(), Fail> {
     let alloc = rt.alloc();
-    let mut table = table(
+    let mut lists = make_lists(
         alloc,
         0,
         &[(0, 15), (1, 15), (2, 15), (3, 15)],
         &[(0, 0), (19, 2)],
     )?;
-    table.tries.push(tried(1, 0, 1))?;
-    table.tries.push(tried(3, 1, 0))?;
-    table.ats.push(after(1, 1, 3))?;
-    table.ats.push(after(4, 2, 2))?;
-    table.into.push(into(3, true, 0, 0))?;
-    table.back.push(back(3, true, 0, 3, 2))?;
+    lists.tries.push(tried(1, 0, 1))?;
+    lists.tries.push(tried(3, 1, 0))?;
+    lists.ats.push(after(1, 1, 3))?;
+    lists.ats.push(after(4, 2, 2))?;
+    lists.into.push(into(3, true, 0, 0))?;
+    lists.back.push(back(3, true, 0, 3, 2))?;
     let mut text = Vec::new(alloc);
-    put_table(&table, &mut text)?;
     let want =
         "CW_TABLE(1,4,0)\nCW_MEM(0,0,0xf)\nCW_MEM(1,1,0xf)\nCW_MEM(2,2,0xf)\nCW_MEM(3,3,0xf)\nCW_LIVE(0,0)\nCW_LIVE(19,2)\nCW_TRY(1,0,0,1,CW_NONE)\nCW_TRY(3,0,1,0,CW_NONE)\nCW_AT(1,1,3)\nCW_AT(4,2,2)\nCW_INTO(3,1,0,0)\nCW_BACK(3,1,0,3,2)\nCW_DONE\n";
-    assert_eq!(rt; text.as_slice(), want.as_bytes());
+    assert!(rt; is_spelled(lists, &mut text, want)?);
     Ok(())
 }
 
@@ -133,33 +166,32 @@ fn table_of_a_split_call(rt: HostRuntime) -> Result<(), Fail> {
 #[test]
 fn table_of_a_promise_to_a_callee(rt: HostRuntime) -> Result<(), Fail> {
     let alloc = rt.alloc();
-    let mut table = table(
+    let mut lists = make_lists(
         alloc,
         1,
         &[(0, 5), (0, 15), (2, 5), (2, 15), (3, 15)],
         &[(0, 0), (0, 4), (26, 4)],
     )?;
-    table.tries.push(TryRow {
+    lists.tries.push(TryRow {
         refused: Some(MemId(3)),
         ..tried(5, 3, 4)
     })?;
-    table.ats.push(after(1, 0, 2))?;
-    table.opened.push(OpenRow {
+    lists.ats.push(after(1, 0, 2))?;
+    lists.opened.push(OpenRow {
         seam: SeamId(2),
         mem: MemId(0),
         opened: MemId(1),
         failed: MemId(2),
     })?;
-    table.closed.push(after(4, 3, 3))?;
-    table.into.push(into(3, false, 1, 0))?;
-    table.into.push(into(6, false, 4, 4))?;
-    table.back.push(back(3, false, 1, 2, 3))?;
-    table.back.push(back(6, false, 4, 3, 4))?;
+    lists.closed.push(after(4, 3, 3))?;
+    lists.into.push(into(3, false, 1, 0))?;
+    lists.into.push(into(6, false, 4, 4))?;
+    lists.back.push(back(3, false, 1, 2, 3))?;
+    lists.back.push(back(6, false, 4, 3, 4))?;
     let mut text = b"x".to_vec(alloc)?;
-    put_table(&table, &mut text)?;
     let want =
         "xCW_TABLE(1,4,1)\nCW_MEM(0,0,0x5)\nCW_MEM(1,0,0xf)\nCW_MEM(2,2,0x5)\nCW_MEM(3,2,0xf)\nCW_MEM(4,3,0xf)\nCW_LIVE(0,0)\nCW_LIVE(0,4)\nCW_LIVE(26,4)\nCW_TRY(5,0,3,4,3)\nCW_AT(1,0,2)\nCW_OPENED(2,0,1,2)\nCW_CLOSED(4,3,3)\nCW_INTO(3,0,1,0)\nCW_INTO(6,0,4,4)\nCW_BACK(3,0,1,2,3)\nCW_BACK(6,0,4,3,4)\nCW_DONE\n";
-    assert_eq!(rt; text.as_slice(), want.as_bytes());
+    assert!(rt; is_spelled(lists, &mut text, want)?);
     Ok(())
 }
 
@@ -173,6 +205,9 @@ fn policy(alloc: Global) -> Policy {
         split: Vec::new(alloc),
         labels: Vec::new(alloc),
         rules: Vec::new(alloc),
+        stop: false,
+        format: 1,
+        detached: Vec::new(alloc),
     }
 }
 
@@ -260,8 +295,6 @@ fn strategy_with_every_word(rt: HostRuntime) -> Result<(), Fail> {
         ..row(9, 1, How::Out)
     })?;
     for by in [
-        Move::Skip,
-        Move::Try,
         Move::Refuse,
         Move::Left,
         Move::Right,
@@ -275,21 +308,21 @@ fn strategy_with_every_word(rt: HostRuntime) -> Result<(), Fail> {
         0,
         How::Into {
             callee: 0,
-            backs: Vec::from_array(alloc, [(StateId(1), 7), (StateId(12), 3)])?,
+            backs: Vec::from_array(alloc, [(StateId(1), 5), (StateId(12), 3)])?,
         },
     ))?;
     rows.push(row(
         0,
         0,
         How::Into {
-            callee: 8,
+            callee: 6,
             backs: Vec::new(alloc),
         },
     ))?;
     let mut text = Vec::new(alloc);
     put_strategy(&EnvCert { states: 13, rows }, &mut text)?;
     let want =
-        "capweave strategy 1\nstates 13\n0 9 1 0x1a out\n1 2 0 0x0 skip 0\n2 2 0 0x0 try 0\n3 2 0 0x0 refuse 0\n4 2 0 0x0 left 0\n5 2 0 0x0 right 0\n6 2 0 0x0 opened 0\n7 2 0 0x0 failed 0\n8 1 0 0x0 into 0 1=7 12=3\n9 0 0 0x0 into 8\nend\n";
+        "capweave strategy 1\nstates 13\n0 9 1 0x1a out\n1 2 0 0x0 refuse 0\n2 2 0 0x0 left 0\n3 2 0 0x0 right 0\n4 2 0 0x0 opened 0\n5 2 0 0x0 failed 0\n6 1 0 0x0 into 0 1=5 12=3\n7 0 0 0x0 into 6\nend\n";
     assert_eq!(rt; text.as_slice(), want.as_bytes());
     Ok(())
 }

@@ -22,10 +22,12 @@ use Rattle.cw_syntax.specs.Plans.{Plain, Break, Continue, Return, Open, Close, C
 use Rattle.cw_model.specs.Boards.{may_grant, with_opened}
 use Rattle.cw_model.specs.Runs.{Sound}
 use Rattle.cw_game.specs.declared.spots.Spot.{Spot}
-use Rattle.cw_game.specs.declared.spots.Spot.TheVariants.{Step, Branch, Exit, Visit as VisitSpot, Asked as AskedSpot, Label as LabelSpot, Open as OpenSpot, Close as CloseSpot, Call as CallSpot, SplitCall}
+use Rattle.cw_game.specs.declared.spots.Spot.TheVariants.{Step, Branch, Exit, Visit as VisitSpot, Asked as AskedSpot, Label as LabelSpot, Open as OpenSpot, Close as CloseSpot}
+use Rattle.cw_game.specs.declared.spots.Spot.TheVariants.{Call as CallSpot, SplitCall}
 use Rattle.cw_game.specs.Games.{States, AreStates, Game}
 use Rattle.cw_game.specs.Places.{At, IsLaidOut}
-use Rattle.cw_game.specs.Conditions.{is_closed_table}
+use Rattle.cw_game.specs.Closed.{is_closed_table}
+use Rattle.cw_game.specs.Conditions.{InMems, InLive, fault_at, table_fault, IsGoodTable}
 use Rattle.cw_wcheck.proofs.Sounds.{sound}
 
 -- A descriptor that starts closed, and a limit on it.
@@ -33,7 +35,20 @@ abbrev limit : ALimit
 limit = record { descriptor = 0; keep = record { 0 = 1 } }
 
 abbrev policy : PlainPolicy
-policy = record { descriptors = record { name = 120 ∷ []; number = None; rights = record { 0 = 1 } } ∷ []; limits = limit ∷ []; refuse_limit = false; refuse_enter = true; refuse_split = false; split = []; labels = []; rules = [] }
+policy =
+    record {
+      descriptors = record { name = 120 ∷ []; number = None; rights = record { 0 = 1 } } ∷ [];
+      limits = limit ∷ [];
+      refuse_limit = false;
+      refuse_enter = true;
+      refuse_split = false;
+      split = [];
+      labels = [];
+      rules = [];
+      stop = false;
+      format = 1;
+      detached = [];
+    }
 
 -- A state is 0 or 1 with ambient authority, 2 or 3 without, and odd where the descriptor is open.
 abbrev caps : Bool → Hold → Caps
@@ -65,7 +80,19 @@ after_close (suc zero) = 0
 after_close (suc (suc n)) = 2
 
 abbrev states : States
-states = record { count = 4; start = 0; granted = after_grant; opened = λ q d. after_open q; closed = λ q d. after_close q; lettered = λ q l. q; bad = λ q l. false; may_grant = λ q a. may_grant (caps_of q) a; with_rights = λ x q. q }
+states =
+    record {
+      count = 4;
+      start = 0;
+      granted = after_grant;
+      opened = λ q d. after_open q;
+      closed = λ q d. after_close q;
+      lettered = λ q l. q;
+      bad = λ q l. false;
+      may_grant = λ q a. may_grant
+          (caps_of q) a;
+      with_rights = λ x q. q;
+    }
 
 abbrev Means : ℕ → Word → Caps → Type 0
 Means q word c = (q < 4) × (c ≡ caps_of q)
@@ -162,8 +189,46 @@ abbrev game : Game
 game = record { spots = spots; entry = entries; exit = exits; main = 0; policy = policy; states = states }
 
 laid_at : (f : ℕ) (r : Routine) → slice_get plan.routines f ≡ Some r → At spots policy (exits f) (new_frame f r) (entries f)
-laid_at zero r e = subst (λ y. At spots policy 28 (new_frame 0 y) 0) (same_Some _ r e) (None, None, (4, (refl, refl, tt, (refl, refl, tt, refl)), (5, refl, (11, (9, (refl, refl, tt, (refl, refl, tt, refl)), (10, refl, refl)), (15, (12, refl, (11, (13, 14, refl, (15, refl, refl), (11, refl, refl)), refl)), (16, (omega arith, refl), (28, (17, 18, 27, refl, refl, refl, (26, (24, (refl, refl, tt, (refl, refl, tt, (refl, refl, refl, refl))), (refl, λ y. refl)), (27, (28, refl, refl), refl))), (refl, refl, refl, refl, refl))))))))
-laid_at (suc zero) r e = subst (λ y. At spots policy 44 (new_frame 1 y) 29) (same_Some _ r e) (None, None, (33, (refl, refl, tt, (refl, refl, tt, refl)), (34, refl, (35, (omega arith, refl), (43, (42, refl, (36, 41, refl, (40, (refl, refl, tt, (refl, refl, tt, refl)), (refl, λ y. cc)), refl)), (44, refl, (refl, refl, refl, refl, refl)))))))
+laid_at zero r e =
+    subst (λ y. At spots policy 28 (new_frame 0 y) 0) (same_Some _ r e) (
+      None,
+      None,
+      (
+        4,
+        (refl, refl, tt, (refl, refl, tt, refl)),
+        (
+          5,
+          refl,
+          (
+            11,
+            (9, (refl, refl, tt, (refl, refl, tt, refl)), (10, refl, refl)),
+            (
+              15,
+              (12, refl, (11, (13, 14, refl, (15, refl, refl), (11, refl, refl)), refl)),
+              (
+                16,
+                (omega arith, refl),
+                (
+                  28,
+                  (17, 18, 27, refl, refl, refl, (26, (24, (refl, refl, tt, (refl, refl, tt, (refl, refl, refl, refl))), (refl, λ y. refl)), (27, (28, refl, refl), refl))),
+                  (refl, refl, refl, refl, refl),
+                ),
+              ),
+            ),
+          ),
+        ),
+      ),
+    )
+laid_at (suc zero) r e =
+    subst (λ y. At spots policy 44 (new_frame 1 y) 29) (same_Some _ r e) (
+      None,
+      None,
+      (
+        33,
+        (refl, refl, tt, (refl, refl, tt, refl)),
+        (34, refl, (35, (omega arith, refl), (43, (42, refl, (36, 41, refl, (40, (refl, refl, tt, (refl, refl, tt, refl)), (refl, λ y. cc)), refl)), (44, refl, (refl, refl, refl, refl, refl))))),
+      ),
+    )
 laid_at (suc (suc f)) r e = absurd (none-some r e)
 
 laid : IsLaidOut plan game
@@ -251,3 +316,43 @@ needs_start = refl
 
 needs_answers : is_closed_table game (record table { tries = [] }) ≡ false
 needs_answers = refl
+
+-- The table meets the numbered conditions too; without the ways back the first that fails is told.
+is_good : IsGoodTable game table
+is_good = refl
+
+lacks_ways_back : table_fault game (record table { back = [] }) ≡ Some (fault_at InLive 53 8)
+lacks_ways_back = refl
+
+other_states : table_fault game (record table { states = 5 }) ≡ Some (fault_at InMems 0 1)
+other_states = refl
+
+-- Enter is tried at the start, and the program stops where it is refused.
+abbrev stopping : Table
+stopping = record table {
+  tries = record { seam = seam 0; stage = 1; mem = mem 0; granted = Some (mem 2); refused = None }
+      ∷ record { seam = seam 1; stage = 0; mem = mem 0; granted = None; refused = Some (mem 0) }
+      ∷ record { seam = seam 1; stage = 0; mem = mem 2; granted = None; refused = Some (mem 2) }
+      ∷ record { seam = seam 3; stage = 0; mem = mem 0; granted = None; refused = Some (mem 0) }
+      ∷ record { seam = seam 3; stage = 0; mem = mem 1; granted = Some (mem 1); refused = None }
+      ∷ record { seam = seam 3; stage = 0; mem = mem 2; granted = None; refused = Some (mem 2) }
+      ∷ record { seam = seam 3; stage = 0; mem = mem 3; granted = Some (mem 3); refused = None }
+      ∷ record { seam = seam 3; stage = 2; mem = mem 0; granted = Some (mem 0); refused = None }
+      ∷ record { seam = seam 3; stage = 2; mem = mem 1; granted = Some (mem 1); refused = None }
+      ∷ record { seam = seam 3; stage = 2; mem = mem 2; granted = Some (mem 2); refused = None }
+      ∷ record { seam = seam 3; stage = 2; mem = mem 3; granted = Some (mem 3); refused = None } ∷ [];
+}
+
+abbrev with_stop : Game
+with_stop = record game { policy = record policy { stop = true } }
+
+stopping_is_good : IsGoodTable with_stop stopping
+stopping_is_good = refl
+
+-- where the policy has no stop the refusal must be gone on from
+must_go_on : table_fault game stopping ≡ Some (fault_at InLive 2 5)
+must_go_on = refl
+
+-- and where it has one, going on must lead on
+must_lead_on : table_fault with_stop (record table { tries = record { seam = seam 0; stage = 1; mem = mem 0; granted = Some (mem 2); refused = Some (mem 1) } ∷ [] }) ≡ Some (fault_at InLive 2 5)
+must_lead_on = refl

@@ -6,12 +6,13 @@ use Rattle.cw_rights.specs.declared.capabilities.Primitive.{Primitive}
 use Rattle.cw_rights.specs.declared.capabilities.Primitive.TheVariants.{Limit, Enter, Split}
 use Rattle.cw_rights.specs.Policies.{PlainPolicy, primitives}
 use Rattle.cw_certs.specs.declared.moves.Move.{Move}
-use Rattle.cw_certs.specs.declared.moves.Move.TheVariants.{Skip, Try, Grant, Refuse}
+use Rattle.cw_certs.specs.declared.moves.Move.TheVariants.{Skip, Try, Grant, Refuse, Stop}
 use Rattle.cw_certs.specs.Tables.{Table}
 use Rattle.cw_syntax.specs.Plans.{Call, Label, Plan}
 use Rattle.cw_syntax.specs.Frames.{Item, Entry, Todo, Frame, Way, pass, front, PathFrom}
-use Rattle.cw_model.specs.Boards.{Problem, Phase, Visit, Asked, Free, FreeSplit, Over, Board, onward, begin, way_of, granted, passed_by, answered, moved, may_grant, may_refuse, start_board, Forced}
-use Rattle.cw_model.specs.Runs.{State, start_state, Goes, WovenRun, last, reached, passed_in, passed, erased, is_asked, tries, Sound}
+use Rattle.cw_model.specs.Boards.{Problem, Phase, Visit, Asked, Refused, Free, FreeSplit, Over, Board, onward, begin, way_of, granted, refused, answered, moved}
+use Rattle.cw_model.specs.Boards.{may_grant, may_refuse, can_stop, start_board, Forced}
+use Rattle.cw_model.specs.Runs.{State, start_state, Goes, WovenRun, last, reached, passed_in, passed, erased, is_asked, tries, NeverStops, Sound}
 use Rattle.cw_game.proofs.Moves.{step_of}
 
 -- End to end.
@@ -19,12 +20,17 @@ pub goes_append : (p : Problem) (t : Table) (s : State) (run more : List State) 
 goes_append p t s [] more h k = k
 goes_append p t s (next ∷ run) more h k = (h.0, goes_append p t next run more h.1 k)
 
+pub never_append : (p : Problem) (s : State) (run more : List State) → NeverStops p s run → NeverStops p (last s run) more → NeverStops p s (run ++ more)
+never_append p s [] more h k = k
+never_append p s (next ∷ run) more h k = (h.0, never_append p next run more h.1 k)
+
 pub erased_append : (s : State) (run more : List State) → erased s (run ++ more) ≡ erased s run ++ erased (last s run) more
 erased_append s [] more = refl
 erased_append s (next ∷ run) more = ap (λ l. passed s ++ l) (erased_append next run more) ∙ sym (append_assoc (passed s) (erased next run) (erased (last next run) more))
 
 -- a run that passes no item, and one that passes an item first
-pub erased_join : (s : State) (run more : List State) (next : State) (i : Item) (items : List Item) → erased s run ≡ [] → passed (last s run) ≡ i ∷ [] → erased next more ≡ items → erased s (run ++ next ∷ more) ≡ i ∷ items
+pub erased_join : (s : State) (run more : List State) (next : State) (i : Item) (items : List Item) → erased s run ≡ [] → passed (last s run) ≡ i ∷ [] → erased next more ≡ items
+    → erased s (run ++ next ∷ more) ≡ i ∷ items
 erased_join s run more next i items none one rest =
     ◌∙◌ {b = erased s run ++ (passed (last s run) ++ erased next more)} (erased_append s run (next ∷ more))
     (ap₂ (λ y z. y ++ z) none (ap₂ (λ y z. y ++ z) one rest))
@@ -48,12 +54,15 @@ granted_stack b i a later = refl
 
 answered_stack : (p : Problem) (b next : Board) (i : ℕ) (a : Primitive) (later : List Primitive) (by : Move) → answered p b i a later by ≡ Some next → next.stack ≡ b.stack
 answered_stack p b next i a later Grant e = ap (λ n. n.stack) (sym (cond_some (may_grant b.caps a) (granted b i a later) next e).1) ∙ granted_stack b i a later
-answered_stack p b next i a later Refuse e = ap (λ n. n.stack) (sym (cond_some (may_refuse p.policy b.caps a) (passed_by b i later) next e).1)
+answered_stack p b next i a later Refuse e = ap (λ n. n.stack) (sym (cond_some (may_refuse p.policy b.caps a) (refused p b i a later) next e).1)
 answered_stack p b next i a later _ e = absurd (none-some next e)
 
-path_back : (p : Problem) (b next : Board) (phase : Phase) (by : Move) (is : List Item) → moved p b phase by ≡ Some next → PathFrom p.plan next.stack is → PathFrom p.plan b.stack (passed_in phase b.stack ++ is)
+path_back : (p : Problem) (b next : Board) (phase : Phase) (by : Move) (is : List Item) → moved p b phase by ≡ Some next → PathFrom p.plan next.stack is
+    → PathFrom p.plan b.stack (passed_in phase b.stack ++ is)
 path_back p b next (Visit i a later) Skip is e h = subst (λ n. PathFrom p.plan n.stack is) (sym (same_Some _ next e)) h
 path_back p b next (Visit i a later) Try is e h = subst (λ n. PathFrom p.plan n.stack is) (sym (same_Some _ next e)) h
+path_back p b next (Refused i a later) Skip is e h = subst (λ n. PathFrom p.plan n.stack is) (sym (same_Some _ next e)) h
+path_back p b next (Refused i a later) Stop is e h = subst (λ n. PathFrom p.plan n.stack is) (sym (same_Some _ next e)) h
 path_back p b next (Asked i a later) by is e h = subst (λ stack. PathFrom p.plan stack is) (answered_stack p b next i a later by e) h
 path_back p b next Free by is e h =
     let w = step_of p None b next by (way_of by) refl e in
@@ -71,6 +80,7 @@ path_of p t s (next ∷ run) h = path_back p s.board next.board s.board.phase h.
 abbrev weight : Phase → ℕ
 weight (Visit i a later) = suc (length later)
 weight (Asked i a later) = length later
+weight (Refused i a later) = length later
 weight Free = 0
 weight FreeSplit = 0
 weight Over = 0
@@ -97,14 +107,26 @@ granted_few : (b : Board) (i n : ℕ) (a : Primitive) (later : List Primitive) �
 granted_few b i n Split later le = omega (arith, le)
 granted_few b i n a later le = few_phase (onward (suc i) later) (suc i) n later refl le
 
-answered_few : (p : Problem) (b next : Board) (i n : ℕ) (a : Primitive) (later : List Primitive) (by : Move) → answered p b i a later by ≡ Some next → n ≤ weight next.phase → is_asked next.phase + n ≤ length later
-answered_few p b next i n a later Grant e le = subst (λ y. n ≤ weight y.phase → is_asked y.phase + n ≤ length later) (cond_some (may_grant b.caps a) (granted b i a later) next e).1 (λ l. granted_few b i n a later l) le
-answered_few p b next i n a later Refuse e le = few_phase next.phase (suc i) n later (ap (λ y. y.phase) (cond_some (may_refuse p.policy b.caps a) (passed_by b i later) next e).1) le
+refused_few : (halts : Bool) (i n : ℕ) (a : Primitive) (later : List Primitive) → n ≤ weight (cond halts (Refused i a later) (onward (suc i) later))
+    → is_asked (cond halts (Refused i a later) (onward (suc i) later)) + n ≤ length later
+refused_few true i n a later le = omega (arith, le)
+refused_few false i n a later le = few_phase (onward (suc i) later) (suc i) n later refl le
+
+answered_few : (p : Problem) (b next : Board) (i n : ℕ) (a : Primitive) (later : List Primitive) (by : Move) → answered p b i a later by ≡ Some next → n ≤ weight next.phase
+    → is_asked next.phase + n ≤ length later
+answered_few p b next i n a later Grant e le =
+    subst (λ y. n ≤ weight y.phase → is_asked y.phase + n ≤ length later) (cond_some (may_grant b.caps a) (granted b i a later) next e).1 (λ l. granted_few b i n a later l) le
+answered_few p b next i n a later Refuse e le =
+    subst (λ y. n ≤ weight y.phase → is_asked y.phase + n ≤ length later) (cond_some (may_refuse p.policy b.caps a) (refused p b i a later) next e).1
+    (λ l. refused_few (can_stop p.policy b.caps a) i n a later l) le
 answered_few p b next i n a later _ e le = absurd (none-some next e)
 
-few_step : (p : Problem) (b next : Board) (phase : Phase) (by : Move) (is : List Item) (n : ℕ) → moved p b phase by ≡ Some next → passed_in phase b.stack ++ is ≡ [] → (is ≡ [] → n ≤ weight next.phase) → is_asked next.phase + n ≤ weight phase
+few_step : (p : Problem) (b next : Board) (phase : Phase) (by : Move) (is : List Item) (n : ℕ) → moved p b phase by ≡ Some next → passed_in phase b.stack ++ is ≡ []
+    → (is ≡ [] → n ≤ weight next.phase) → is_asked next.phase + n ≤ weight phase
 few_step p b next (Visit i a later) Skip is n e h k = let f = few_phase next.phase (suc i) n later (ap (λ y. y.phase) (same_Some _ next e)) (k h) in omega (arith, f)
 few_step p b next (Visit i a later) Try is n e h k = let le = k h in subst (λ y. n ≤ weight y → is_asked y + n ≤ suc (length later)) (ap (λ y. y.phase) (same_Some _ next e)) (λ l. omega (arith, l)) le
+few_step p b next (Refused i a later) Skip is n e h k = few_phase next.phase (suc i) n later (ap (λ y. y.phase) (same_Some _ next e)) (k h)
+few_step p b next (Refused i a later) Stop is n e h k = let le = k h in subst (λ y. n ≤ weight y → is_asked y + n ≤ length later) (ap (λ y. y.phase) (same_Some _ next e)) (λ l. omega (arith, l)) le
 few_step p b next (Asked i a later) by is n e h k = answered_few p b next i n a later by e (k h)
 few_step p b next Free by is n e h k =
     let w = step_of p None b next by (way_of by) refl e in
@@ -147,14 +169,21 @@ granted_weight : (b : Board) (i : ℕ) (a : Primitive) (later : List Primitive) 
 granted_weight b i Split later = omega arith
 granted_weight b i a later = let w = weight_onward (suc i) later in omega (arith, w)
 
+refused_weight : (halts : Bool) (i : ℕ) (a : Primitive) (later : List Primitive) → weight (cond halts (Refused i a later) (onward (suc i) later)) ≤ length later
+refused_weight true i a later = omega arith
+refused_weight false i a later = let w = weight_onward (suc i) later in omega (arith, w)
+
 answered_weight : (p : Problem) (b next : Board) (i : ℕ) (a : Primitive) (later : List Primitive) (by : Move) → answered p b i a later by ≡ Some next → weight next.phase ≤ length later
 answered_weight p b next i a later Grant e = subst (λ y. weight y.phase ≤ length later) (cond_some (may_grant b.caps a) (granted b i a later) next e).1 (granted_weight b i a later)
-answered_weight p b next i a later Refuse e = let w = weight_onward (suc i) later in subst (λ y. weight y.phase ≤ length later) (cond_some (may_refuse p.policy b.caps a) (passed_by b i later) next e).1 (omega (arith, w))
+answered_weight p b next i a later Refuse e =
+    subst (λ y. weight y.phase ≤ length later) (cond_some (may_refuse p.policy b.caps a) (refused p b i a later) next e).1 (refused_weight (can_stop p.policy b.caps a) i a later)
 answered_weight p b next i a later _ e = absurd (none-some next e)
 
 short_step : (p : Problem) (b next : Board) (phase : Phase) (by : Move) → moved p b phase by ≡ Some next → weight phase ≤ length p.policy.limits + 2 → weight next.phase ≤ length p.policy.limits + 2
 short_step p b next (Visit i a later) Skip e h = let w = weight_onward (suc i) later in subst (λ y. weight y.phase ≤ length p.policy.limits + 2) (same_Some _ next e) (omega (arith, w, h))
 short_step p b next (Visit i a later) Try e h = subst (λ y. weight y.phase ≤ length p.policy.limits + 2) (same_Some _ next e) (omega (arith, h))
+short_step p b next (Refused i a later) Skip e h = let w = weight_onward (suc i) later in subst (λ y. weight y.phase ≤ length p.policy.limits + 2) (same_Some _ next e) (omega (arith, w, h))
+short_step p b next (Refused i a later) Stop e h = subst (λ y. weight y.phase ≤ length p.policy.limits + 2) (same_Some _ next e) (omega arith)
 short_step p b next (Asked i a later) by e h = let w = answered_weight p b next i a later by e in omega (arith, w, h)
 short_step p b next Free by e h = let w = step_of p None b next by (way_of by) refl e in subst (λ y. weight y.phase ≤ length p.policy.limits + 2) w.2.2 (begin_weight p.policy w.2.0)
 short_step p b next FreeSplit by e h = let w = step_of p (Some b.caps) b next by (way_of by) refl e in subst (λ y. weight y.phase ≤ length p.policy.limits + 2) w.2.2 (begin_weight p.policy w.2.0)

@@ -9,9 +9,10 @@ use Rattle.cw_syntax.specs.Frames.{Frame}
 use Rattle.cw_model.specs.Boards.{Visit, seam_in, onward}
 use Rattle.cw_game.specs.declared.spots.Spot.TheVariants.{Visit as VisitSpot}
 use Rattle.cw_game.specs.Games.{Game, Ret}
-use Rattle.cw_game.specs.Conditions.{is_live}
+use Rattle.cw_game.specs.Pairs.{is_live}
+use Rattle.cw_game.specs.Standing.{Meaning, Under, StandsOn}
 use Rattle.cw_game.proofs.Fronts.{next_stage}
-use Rattle.cw_game.proofs.Stands.{Meaning, Under, StandsOn, stage_at}
+use Rattle.cw_game.proofs.Stands.{stage_at}
 use Rattle.cw_wcheck.proofs.Kept.{IsMeant, Below, KeptOn}
 
 module _ (Means : Meaning) (Ex : ℕ → List Ret → Type 0) (g : Game) (t : Table) where
@@ -40,7 +41,8 @@ module _ (Means : Meaning) (Ex : ℕ → List Ret → Type 0) (g : Game) (t : Ta
     pub stands : StandsOn Means g (frame ∷ frames) kept caps word (Visit i a later) p q rets
     pub skipped : StandsOn Means g (frame ∷ frames) kept caps word (onward (suc i) later) (p + 2) q rets
 
-  pub choice_at : (frame : Frame) (frames : List Frame) (kept : List (Option Caps)) (caps : Caps) (word : Word) (i : ℕ) (a : Primitive) (later : List Primitive) (m : ℕ) (ms : List ℕ) → KeptOn Means Ex g t (frame ∷ frames) caps word (Visit i a later) kept (m ∷ ms) → Choice frame frames kept caps word i a later m
+  pub choice_at : (frame : Frame) (frames : List Frame) (kept : List (Option Caps)) (caps : Caps) (word : Word) (i : ℕ) (a : Primitive) (later : List Primitive) (m : ℕ) (ms : List ℕ)
+      → KeptOn Means Ex g t (frame ∷ frames) caps word (Visit i a later) kept (m ∷ ms) → Choice frame frames kept caps word i a later m
   choice_at frame frames kept caps word i a later m ms k =
       let w = k.3 in
       let s = w.2.0 in

@@ -8,21 +8,39 @@ use Rattle.cw_model.specs.Plays.{Beats}
 use Rattle.cw_game.specs.Games.{AreStates, Game, IsLost}
 use Rattle.cw_game.specs.Reached.{Reached}
 use Rattle.cw_game.specs.Places.{IsLaidOut, HasRoutines}
-use Rattle.cw_game.specs.Conditions.{is_closed_table}
+use Rattle.cw_game.specs.Closed.{is_closed_table}
+use Rattle.cw_game.specs.Conditions.{IsGoodTable}
+use Rattle.cw_game.specs.Standing.{IsGameOf}
 use Rattle.cw_game.specs.Necessity.{TriesOnlyLost}
 
--- Where a game is laid out for a program, and its states are the policy's, each table that meets the conditions is sound, over stacks of any depth.
-abbrev pub ConditionsMakeSound : Type 0
-ConditionsMakeSound = (p : Problem) (g : Game) (t : Table) → g.policy ≡ p.policy → AreStates g.policy g.spots g.states (Reached g.policy g.spots g.states) → IsLaidOut p.plan g → is_closed_table g t ≡ true → length p.policy.limits ≤ 12 → Sound p t
+-- Each table that meets the nine conditions of a game of a program and its policy is sound, over stacks of any depth: no woven run violates, no path
+-- is added, each path is that of a run without a stop, and each stop comes right after a refusal of what could have been granted.
+abbrev pub GoodTablesAreSound : Type 0
+GoodTablesAreSound = (p : Problem) (g : Game) (t : Table) → IsGameOf p g → IsGoodTable g t → length p.policy.limits ≤ 12 → Sound p t
 
--- Where the program has the functions that are called, too, and the table tries only what is lost to skip, a primitive is tried at a board of a woven run
--- only where the board after a skip is forced.
+-- Where it tries only what is lost to skip, and stops only where going on is lost, it is lazy.
+abbrev pub GoodTablesAreLazy : Type 0
+GoodTablesAreLazy = (p : Problem) (g : Game) (t : Table) → IsGameOf p g → IsGoodTable g t → TriesOnlyLost g t → Lazy p t
+
+-- Where a game is laid out for a program, and its states are the policy's, each table that is closed under the game's moves is sound, over stacks of
+-- any depth.
+abbrev pub ConditionsMakeSound : Type 0
+ConditionsMakeSound = (p : Problem) (g : Game) (t : Table) → g.policy ≡ p.policy
+    → AreStates g.policy g.spots g.states (Reached g.policy g.spots g.states) → IsLaidOut p.plan g
+    → is_closed_table g t ≡ true → length p.policy.limits ≤ 12 → Sound p t
+
+-- Where the program has the functions that are called, too, and the table tries only what is lost to skip and stops only where going on is lost, a
+-- primitive is tried, and the program stopped, at a board of a woven run only where the board after a skip is forced.
 abbrev pub LostPairsMakeLazy : Type 0
-LostPairsMakeLazy = (p : Problem) (g : Game) (t : Table) → g.policy ≡ p.policy → AreStates g.policy g.spots g.states (Reached g.policy g.spots g.states) → IsLaidOut p.plan g → HasRoutines p.plan g → is_closed_table g t ≡ true → TriesOnlyLost g t → Lazy p t
+LostPairsMakeLazy = (p : Problem) (g : Game) (t : Table) → g.policy ≡ p.policy
+    → AreStates g.policy g.spots g.states (Reached g.policy g.spots g.states) → IsLaidOut p.plan g → HasRoutines p.plan g
+    → is_closed_table g t ≡ true → TriesOnlyLost g t → Lazy p t
 
 -- Where the start is lost with all states promised it is forced.
 abbrev pub LostStartIsForced : Type 0
-LostStartIsForced = (p : Problem) (g : Game) → g.policy ≡ p.policy → AreStates g.policy g.spots g.states (Reached g.policy g.spots g.states) → IsLaidOut p.plan g → HasRoutines p.plan g → IsLost g (g.entry g.main) g.states.start (λ x. true) → (n : ℕ) × Forced p n (start_board p)
+LostStartIsForced = (p : Problem) (g : Game) → g.policy ≡ p.policy
+    → AreStates g.policy g.spots g.states (Reached g.policy g.spots g.states) → IsLaidOut p.plan g → HasRoutines p.plan g
+    → IsLost g (g.entry g.main) g.states.start (λ x. true) → (n : ℕ) × Forced p n (start_board p)
 
 -- Where a table is sound the start isn't forced.
 abbrev pub SoundIsNeverForced : Type 0
@@ -38,4 +56,5 @@ NeverBoth = (p : Problem) (t : Table) (s : Strategy) (row : ℕ) → Sound p t �
 
 -- Whatever the table, between two steps of the program there are at most two tries more than the policy has limits: 14 for the most that a policy may have, 12.
 abbrev pub TriesAreFew : Type 0
-TriesAreFew = (p : Problem) (t : Table) (run later : List State) → WovenRun p t run → Goes p t (reached p t run) later → erased (reached p t run) later ≡ [] → tries later ≤ length p.policy.limits + 2
+TriesAreFew = (p : Problem) (t : Table) (run later : List State) → WovenRun p t run → Goes p t (reached p t run) later
+    → erased (reached p t run) later ≡ [] → tries later ≤ length p.policy.limits + 2

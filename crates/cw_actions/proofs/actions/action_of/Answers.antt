@@ -7,7 +7,8 @@ use Rattle.cw_syntax.specs.Plans.{call_action, action_of}
 use Rattle.cw_syntax.specs.Trees.{trees_of, Node}
 use Rattle.cw_actions.specs.Scenes.{scene_in}
 use Rattle.cw_actions.specs.Acts.{act_of}
-use Rattle.cw_actions.proofs.Acting.{node_is, calls, computes}
+use Rattle.cw_syntax.proofs.Shapes.{node_is}
+use Rattle.cw_actions.proofs.Acting.{calls, computes}
 use Rattle.cw_actions.proofs.actions.action_of.Goals as goal
 
 pub returns-in-Call : goal.returns-in-Call

@@ -10,4 +10,7 @@ returns-in-None c =
     let xs = c.args.policy.now.labels.items in
     let names = map (λ (n : Vec ℕ Global). n.items) xs in
     let l : c.len.result ≡ length xs = search rules in
-    record { number = l ∙ sym (length-map xs (λ (n : Vec ℕ Global). n.items)) ∙ no_place (bytes_eq c.args.name.now) names (c.in-None.ensures ∙ ap (λ (l : List (Vec ℕ Global)). position (bytes_eq c.args.name.now) (map (λ (n : Vec ℕ Global). n.items) l)) c.deref.ensures.value) }
+    record {
+      number = l ∙ sym (length-map xs (λ (n : Vec ℕ Global). n.items)) ∙ no_place (bytes_eq c.args.name.now) names
+          (c.in-None.ensures ∙ ap (λ (l : List (Vec ℕ Global)). position (bytes_eq c.args.name.now) (map (λ (n : Vec ℕ Global). n.items) l)) c.deref.ensures.value);
+    }

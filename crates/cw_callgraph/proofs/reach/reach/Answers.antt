@@ -1,16 +1,28 @@
-use Rattle.std.proofs.Common.{◌≡◌, List, Bool, length, get_or, false, ap, ◌∙◌}
-use Rattle.std.specs.List.{filter, range_with_len}
-use Rattle.cw_callgraph.specs.Finding.{next_in, IsReach}
-use Rattle.cw_callgraph.proofs.Kept.{still}
-use Rattle.cw_callgraph.proofs.Passing.{reach_is}
+use Rattle.std.proofs.Common.{rules, ◌≡◌, ℕ, List, length, subst, arith}
+use Rattle.std.specs.List.{Contains}
+use Rattle.std.specs.Ordering.{nat_cmp}
+use Rattle.cw_closure.specs.Closures.{Reached, Exactly}
+use Rattle.cw_callgraph.specs.Finding.{next_in}
+use Rattle.cw_callgraph.proofs.Rows.{row_is, is_row, row_keeps}
+use Rattle.cw_callgraph.proofs.Reaching.{at_most}
 use Rattle.cw_callgraph.proofs.reach.reach.Goals as goal
+
+pub closed_within-requires-clause-can : goal.closed_within-requires-clause-can
+closed_within-requires-clause-can c = λ k there.
+    let rows = c.args.calls.now.rows.items in
+    let e = row_is rows c.args.function c.index.result.now c.deref.result.now c.requires.within c.index.ensures c.deref.ensures.value in
+    row_keeps rows c.args.function k (is_row rows c.args.function c.requires.within c.requires.below) (subst (λ (l : List ℕ). Contains l k) e there)
+
+pub closed_within-requires-clause-few : goal.closed_within-requires-clause-few
+closed_within-requires-clause-few c = λ xs sorted reached.
+    let rows = c.args.calls.now.rows.items in
+    let e = row_is rows c.args.function c.index.result.now c.deref.result.now c.requires.within c.index.ensures c.deref.ensures.value in
+    let few = at_most rows c.args.function (is_row rows c.args.function c.requires.within c.requires.below) xs sorted (λ x there. subst (λ (l : List ℕ). Reached (next_in rows) l x) e (reached x there)) in
+    let count : length rows ≡ c.len.result = search rules in
+    omega (arith, few, count)
 
 pub returns : goal.returns
 returns c =
-    let found = c.in_ok-found.found in
-    let p = c.in_ok-found.ensures in
-    still c.marked.result
-    (λ v. v.items ≡ filter (λ g. get_or c.deref.result.now g false) (range_with_len 0 (length c.deref.result.now)))
-    (λ v. IsReach (next_in c.args.rows.now) c.args.function v.items)
-    c.marked.ensures
-    (λ v e. reach_is (next_in c.args.rows.now) c.args.function found v.items p.0 p.1 (e ∙ ap (λ (m : List Bool). filter (λ g. get_or m g false) (range_with_len 0 (length m))) c.deref.ensures.value))
+    let rows = c.args.calls.now.rows.items in
+    let e = row_is rows c.args.function c.index.result.now c.deref.result.now c.requires.within c.index.ensures c.deref.ensures.value in
+    subst (λ (l : List ℕ). Exactly nat_cmp (Reached (next_in rows) l) c.in_ok-numbers.numbers.items) e c.in_ok-numbers.ensures.reached

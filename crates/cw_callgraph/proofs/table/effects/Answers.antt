@@ -1,16 +1,18 @@
-use Rattle.std.proofs.Common.{◌≡◌, map, ap, ◌∙◌}
+use Rattle.std.proofs.Common.{◌≡◌, map, ◌∙◌}
+use Rattle.std.proofs.lemmas.Map.Keys.{IsStrictlyIncreasing-from_sorted}
 use Rattle.cw_rights.specs.Policies.{policy_of}
 use Rattle.cw_actions.specs.Scenes.{scene_in, plan_in}
 use Rattle.cw_callgraph.specs.Finding.{lists_of, next_in, direct}
-use Rattle.cw_callgraph.proofs.Calling.{same_calls, reached, led}
+use Rattle.cw_callgraph.proofs.Calling.{same_calls}
+use Rattle.cw_callgraph.proofs.Reaching.{reached, led}
 use Rattle.cw_callgraph.proofs.table.effects.Goals as goal
 
 pub returns-clause-calls : goal.returns-clause-calls
 returns-clause-calls c =
     let policy = policy_of c.args.policy.now in
     let checked = c.args.checked.now in
-    let rows = c.deref.result.now in
-    let is : lists_of rows ≡ map (direct (scene_in checked policy)) checked.program.functions.items = ap lists_of c.deref.ensures.value ∙ c.in_ok-rows.ensures.calls in
+    let rows = c.in_ok-rows.rows.items in
+    let is : lists_of rows ≡ map (direct (scene_in checked policy)) checked.program.functions.items = c.in_ok-rows.ensures.calls in
     let same = same_calls (scene_in checked policy) checked.program.functions.items (plan_in checked policy).main rows is in
     λ f entry at. c.in_ok-effects_of.ensures.calls f entry at ∙ same f
 
@@ -19,9 +21,12 @@ returns-clause-reaches c =
     let policy = policy_of c.args.policy.now in
     let checked = c.args.checked.now in
     let plan = plan_in checked policy in
-    let rows = c.deref.result.now in
-    let is : lists_of rows ≡ map (direct (scene_in checked policy)) checked.program.functions.items = ap lists_of c.deref.ensures.value ∙ c.in_ok-rows.ensures.calls in
+    let rows = c.in_ok-rows.rows.items in
+    let is : lists_of rows ≡ map (direct (scene_in checked policy)) checked.program.functions.items = c.in_ok-rows.ensures.calls in
     let same = same_calls (scene_in checked policy) checked.program.functions.items plan.main rows is in
     λ f entry at g.
     let r = c.in_ok-effects_of.ensures.reaches f entry at in
-    (λ there. reached plan (next_in rows) same f g (r.led g there), λ reaches. r.leads g (led plan (next_in rows) same f g reaches))
+    (λ there. reached plan (next_in rows) same f g ((r.1 g).0 there), λ reaches. (r.1 g).1 (led plan (next_in rows) same f g reaches))
+
+pub returns-clause-ascending : goal.returns-clause-ascending
+returns-clause-ascending c = λ f entry at. IsStrictlyIncreasing-from_sorted entry.reaches.items (c.in_ok-effects_of.ensures.reaches f entry at).0

@@ -1,4 +1,4 @@
-use Rattle.std.proofs.Common.{ℕ, length, map, ap, sym, ◌∙◌, arith}
+use Rattle.std.proofs.Common.{length, ap, sym, ◌∙◌, arith}
 use Rattle.std.proofs.lemmas.List.{length-map}
 use Rattle.cw_syntax.specs.Trees.{file_of}
 use Rattle.cw_cli.specs.Listings.{own_names}

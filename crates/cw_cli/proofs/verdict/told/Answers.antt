@@ -5,7 +5,6 @@ use Rattle.cw_syntax.specs.Plans.{plan_of}
 use Rattle.cw_syntax.specs.Trees.{file_of}
 use Rattle.cw_actions.specs.Scenes.{names_of}
 use Rattle.cw_certs.specs.Strategies.{strategy_of}
-use Rattle.cw_certs.specs.Tables.{table_of}
 use Rattle.cw_layout.proofs.Calling.{uncalled_marks}
 use Rattle.cw_source.proofs.Marking.{marks_in_order}
 use Rattle.cw_cli.proofs.Weaves.{is_refuted, is_woven, plain_marks}
@@ -29,7 +28,7 @@ returns-in_ok-weave_text-in-Sound c =
     let same = ap (map mark_of) c.deref.ensures.value ∙ c.in_ok-marks-in-Sound.ensures.marks names source file c.requires.graph in
     let spelled = plain_marks source (marks_of (plan_of names source file)) (uncalled_marks (plan_of names source file) (uncalled names source file c.requires.within)) in
     let won = rw c.in-Sound.is at c.in_ok-table.ensures in
-    is_woven policy source file c.deref.result.now (table_of c.in-Sound.table) c.in_ok-weave_text-in-Sound.field-0.items c.requires.reads c.requires.plain same spelled c.in_ok-weave_text-in-Sound.ensures.stands c.in_ok-weave_text-in-Sound.ensures.cut won.0 won.1
+    is_woven policy source file c.deref.result.now c.in-Sound.table c.in_ok-weave_text-in-Sound.field-0.items c.requires.reads c.requires.plain same spelled c.in_ok-weave_text-in-Sound.ensures.stands c.in_ok-weave_text-in-Sound.ensures.cut won.0 won.1
 
 pub returns-in_ok-spelled-in-Beaten : goal.returns-in_ok-spelled-in-Beaten
 returns-in_ok-spelled-in-Beaten c =

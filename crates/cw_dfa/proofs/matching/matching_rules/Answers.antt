@@ -2,7 +2,9 @@ use Rattle.std.proofs.Common.{rules, ◌≡◌, ◌+◌, ◌≤◌, length, ap, 
 use Rattle.cw_rights.specs.Trees.{alt, never, tree_of}
 use Rattle.cw_dfa.specs.Positions.{bad_of}
 use Rattle.cw_dfa.specs.Verdicts.{rules_of}
-use Rattle.cw_dfa.proofs.Along.{drop_all, drop_item, rules_step, rules_end}
+use Rattle.cw_rights.proofs.Along.{drop_item}
+use Rattle.std.proofs.lemmas.List.{drop_all}
+use Rattle.cw_dfa.proofs.Along.{rules_step, rules_end}
 use Rattle.cw_dfa.proofs.matching.matching_rules.Goals as goal
 
 pub loop-rule-preserved : goal.loop-rule-preserved
@@ -11,7 +13,8 @@ loop-rule-preserved c =
     let rest = bad_of (rules_of (drop (c.loop-rule.rule-index + 1) c.args.rules.now)) in
     let lt : c.loop-rule.rule-index < length c.args.rules.now = search rules in
     let at : get_or c.args.rules.now c.loop-rule.rule-index c.rule-item.result ≡ c.rule-item.result = search rules in
-    let cut : drop c.loop-rule.rule-index c.args.rules.now ≡ c.rule-item.result ∷ drop (c.loop-rule.rule-index + 1) c.args.rules.now = drop_item c.args.rules.now c.loop-rule.rule-index c.rule-item.result lt at in
+    let cut : drop c.loop-rule.rule-index c.args.rules.now ≡ c.rule-item.result ∷ drop (c.loop-rule.rule-index + 1) c.args.rules.now =
+    drop_item c.args.rules.now c.loop-rule.rule-index c.rule-item.result lt at in
     let whole : bad_of (rules_of (drop c.loop-rule.rule-index c.args.rules.now)) ≡ alt part rest = ap (λ l. bad_of (rules_of l)) cut in
     record {
       room = search rules;
@@ -21,5 +24,5 @@ loop-rule-preserved c =
 pub returns : goal.returns
 returns c =
     let far : length c.args.rules.now ≤ c.loop-rule.rule-index = search rules in
-    let whole : bad_of (rules_of (drop c.loop-rule.rule-index c.args.rules.now)) ≡ never = ap (λ l. bad_of (rules_of l)) (drop_all c.args.rules.now c.loop-rule.rule-index far) in
+    let whole : bad_of (rules_of (drop c.loop-rule.rule-index c.args.rules.now)) ≡ never = ap (λ l. bad_of (rules_of l)) (drop_all c.loop-rule.rule-index c.args.rules.now far) in
     rules_end _ c.loop-rule.set c.loop-rule.next c.args.c.now _ whole c.loop-rule.invariant.so_far

@@ -17,4 +17,5 @@ loop-p-preserved c =
     let first = cond (has c.args.set 0) c.args.tables.now.first 0 in
     let row = slice_index c.args.tables.now.follow in
     let e : c.only_if-next-in-loop-p.result ≡ cond (has c.args.set c.loop-p.p) (row c.loop-p.p) 0 = search rules in
-    ap (λ n. bit_or n c.only_if-next-in-loop-p.result) c.loop-p.invariant ∙ ap (bit_or (bit_or first (unite row c.loop-p.p c.args.set))) e ∙ or_assoc first (unite row c.loop-p.p c.args.set) (cond (has c.args.set c.loop-p.p) (row c.loop-p.p) 0) ∙ ap (bit_or first) (sym (unite_more row c.loop-p.p c.args.set))
+    ap (λ n. bit_or n c.only_if-next-in-loop-p.result) c.loop-p.invariant ∙ ap (bit_or (bit_or first (unite row c.loop-p.p c.args.set))) e
+    ∙ or_assoc first (unite row c.loop-p.p c.args.set) (cond (has c.args.set c.loop-p.p) (row c.loop-p.p) 0) ∙ ap (bit_or first) (sym (unite_more row c.loop-p.p c.args.set))

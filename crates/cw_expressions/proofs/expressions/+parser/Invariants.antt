@@ -68,7 +68,8 @@ decreases-unary_at l = 40 * l.depth + 13
 
 abbrev pub invariant-suffixed_all-suffixes : goal.invariant-suffixed_all-suffixes
 invariant-suffixed_all-suffixes l = record {
-  gives : repeat rest_of is_suffixed (suffixed (read_at l.depth) l.depth) (suc (length l.so_far.rest.now)) (got l.so_far) ≡ repeat rest_of is_suffixed (suffixed (read_at l.depth) l.depth) (suc (length l.fn.first.rest.now)) (got l.fn.first);
+  gives : repeat rest_of is_suffixed (suffixed (read_at l.depth) l.depth) (suc (length l.so_far.rest.now)) (got l.so_far) ≡ repeat rest_of is_suffixed
+      (suffixed (read_at l.depth) l.depth) (suc (length l.fn.first.rest.now)) (got l.fn.first);
   fits : l.so_far.depth ≤ l.depth + 1;
 }
 
@@ -77,7 +78,8 @@ decreases-suffixed_all-suffixes l = length l.so_far.rest.now
 
 abbrev pub invariant-arguments_all-arguments : goal.invariant-arguments_all-arguments
 invariant-arguments_all-arguments l = record {
-  gives : repeat rest_of_arguments (begins w.Comma) (argument (read_at l.depth) l.depth) (suc (length l.so_far.rest.now)) (got_arguments l.so_far) ≡ repeat rest_of_arguments (begins w.Comma) (argument (read_at l.depth) l.depth) (suc (length l.fn.first.rest.now)) (got_arguments l.fn.first);
+  gives : repeat rest_of_arguments (begins w.Comma) (argument (read_at l.depth) l.depth) (suc (length l.so_far.rest.now)) (got_arguments l.so_far) ≡ repeat rest_of_arguments
+      (begins w.Comma) (argument (read_at l.depth) l.depth) (suc (length l.fn.first.rest.now)) (got_arguments l.fn.first);
   fits : l.so_far.depth ≤ l.depth;
 }
 

@@ -20,4 +20,4 @@ returns-clause-laid_out c =
     laid_out c.args.graph.now c.in_ok-nodes.nodes.items e
 
 pub returns-clause-routines : goal.returns-clause-routines
-returns-clause-routines c = λ policy tests source file reads graph limits descriptors uncalled. has_routines c.args.graph.now c.in_ok-nodes.nodes.items policy tests source file reads graph
+returns-clause-routines c = λ policy tests source file runs graph limits descriptors uncalled. has_routines c.args.graph.now c.in_ok-nodes.nodes.items policy tests source file runs graph

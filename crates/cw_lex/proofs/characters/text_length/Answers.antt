@@ -7,14 +7,16 @@ pub returns-then-bytes-at-eq34-clause-value : goal.returns-then-bytes-at-eq34-cl
 returns-then-bytes-at-eq34-clause-value c = sym (text_here c.args.bytes.now c.items.at c.items-test.true (eq-eqb _ _ c.if-bytes-at-eq34.true)) ∙ c.items.invariant.so_far
 
 pub returns-in_err-length-clause-value : goal.returns-in_err-length-clause-value
-returns-in_err-length-clause-value c = c.from_residual.ensures ∙ sym (text_bad c.args.bytes.now c.items.at c.items-test.true (ne_eqb _ _ c.if-bytes-at-eq34.false) (sym c.in_err-length.ensures.value)) ∙ c.items.invariant.so_far
+returns-in_err-length-clause-value c = c.from_residual.ensures
+    ∙ sym (text_bad c.args.bytes.now c.items.at c.items-test.true (ne_eqb _ _ c.if-bytes-at-eq34.false) (sym c.in_err-length.ensures.value)) ∙ c.items.invariant.so_far
 
 pub items-preserved : goal.items-preserved
 items-preserved c =
     let some = c.in_ok-length.ensures.within.0 in
     let le = c.in_ok-length.ensures.within.1 in
     record {
-      so_far = text_step c.args.bytes.now c.items.at (c.in_ok-length.field-0-0, c.in_ok-length.length) c.items-test.true (ne_eqb _ _ c.if-bytes-at-eq34.false) (sym c.in_ok-length.ensures.value) some le ∙ c.items.invariant.so_far;
+      so_far = text_step c.args.bytes.now c.items.at (c.in_ok-length.field-0-0, c.in_ok-length.length) c.items-test.true (ne_eqb _ _ c.if-bytes-at-eq34.false)
+          (sym c.in_ok-length.ensures.value) some le ∙ c.items.invariant.so_far;
       within = le;
     }
 

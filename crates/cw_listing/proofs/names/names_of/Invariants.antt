@@ -5,4 +5,5 @@ use Rattle.cw_listing.specs.Held.{lists}
 use Rattle.cw_listing.proofs.names.names_of.Given as goal
 
 abbrev pub invariant-loop-function : goal.invariant-loop-function
-invariant-loop-function l = lists l.names.items ++ map (λ f. text l.source f.name) (map definition_of (drop l.function-index l.functions)) ≡ map (λ f. text l.source f.name) (map definition_of l.functions)
+invariant-loop-function l = lists l.names.items ++ map (λ f. text l.source f.name) (map definition_of (drop l.function-index l.functions)) ≡ map (λ f. text l.source f.name)
+    (map definition_of l.functions)

@@ -5,4 +5,5 @@ use Rattle.cw_listing.specs.Labels.{labels_of_all}
 use Rattle.cw_listing.proofs.names.put_function_labels.Given as goal
 
 abbrev pub invariant-loop-function : goal.invariant-loop-function
-invariant-loop-function l = l.out.items ++ flat_map (λ f. labels_of_all f.body) (map definition_of (drop l.function-index l.functions)) ≡ l.initial.out.items ++ flat_map (λ f. labels_of_all f.body) (map definition_of l.functions)
+invariant-loop-function l = l.out.items ++ flat_map (λ f. labels_of_all f.body) (map definition_of (drop l.function-index l.functions)) ≡ l.initial.out.items ++ flat_map
+    (λ f. labels_of_all f.body) (map definition_of l.functions)

@@ -18,7 +18,7 @@ loop-number-preserved c =
     let d = drawn_of c.loop-number.draft in
     let ps = c.loop-number.parts.items in
     let e = one_definition fs f i c.loop-number-test.true c.function-item.is in
-    let new = c.in_ok-part.ensures.drawn ∙ ap (λ n. laid_one s n def d) c.in_ok-number.ensures in
+    let new = c.in_ok-part.ensures.drawn ∙ ap (λ n. laid_one s n def d) c.function_number-number.ensures in
     let put = c.in_ok-push.ensures.items ∙ ap (λ p. ps ++ p ∷ []) c.in_ok-part.ensures.part in
     record {
       drawn = ap (laid_from s (i + 1) rest) new ∙ one_function s i def rest d ∙ sym (ap (λ l. laid_from s i l d) e) ∙ c.loop-number.invariant.drawn;
@@ -38,6 +38,6 @@ returns c =
     record {
       nodes = ap (λ d. d.nodes) drawn ∙ all_nodes s all;
       parts = sym (no_part s d ps) ∙ sym (ap (λ l. parted s l d ps) none) ∙ c.loop-number.invariant.parts ∙ all_parts s all;
-      main = c.in_ok-main.ensures;
+      main = c.main_number-main.ensures;
       seams = ap (λ d. d.seams) drawn ∙ all_seams s all;
     }

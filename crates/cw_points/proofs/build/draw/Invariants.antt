@@ -7,6 +7,8 @@ use Rattle.cw_points.proofs.build.draw.Given as goal
 
 abbrev pub invariant-loop-number : goal.invariant-loop-number
 invariant-loop-number l = record {
-  drawn : laid_from (scene_in l.checked (policy_of l.policy)) l.number (map definition_of (drop l.number l.function-items)) (drawn_of l.draft) ≡ laid_from (scene_in l.checked (policy_of l.policy)) 0 (file_of l.checked.program).functions nothing_drawn;
-  parts : parted (scene_in l.checked (policy_of l.policy)) (map definition_of (drop l.number l.function-items)) (drawn_of l.draft) l.parts.items ≡ parted (scene_in l.checked (policy_of l.policy)) (file_of l.checked.program).functions nothing_drawn [];
+  drawn : laid_from (scene_in l.checked (policy_of l.policy)) l.number (map definition_of (drop l.number l.function-items)) (drawn_of l.draft) ≡ laid_from
+      (scene_in l.checked (policy_of l.policy)) 0 (file_of l.checked.program).functions nothing_drawn;
+  parts : parted (scene_in l.checked (policy_of l.policy)) (map definition_of (drop l.number l.function-items)) (drawn_of l.draft) l.parts.items ≡ parted
+      (scene_in l.checked (policy_of l.policy)) (file_of l.checked.program).functions nothing_drawn [];
 }

@@ -13,6 +13,7 @@ returns-clause-drawn c =
     let d = drawn_of c.args.draft.now in
     let exit = c.in_ok-entry.entry + 1 + c.in_ok-size.size in
     let begun = drawn_of c.put_seam.new.self in
-    laid_function s c.args.number (definition_of c.args.function.now) d c.in_ok-entry.entry c.in_ok-size.size exit c.first-start.result (function_ways exit) begun (drawn_of c.lay_all.new.draft) (drawn_of c.put_exit.new.self)
+    laid_function s c.args.number (definition_of c.args.function.now) d c.in_ok-entry.entry c.in_ok-size.size exit c.first-start.result (function_ways exit) begun (drawn_of c.lay_all.new.draft)
+    (drawn_of c.put_exit.new.self)
     c.in_ok-entry.ensures.number (c.in_ok-size.ensures.size ∙ ap (λ l. size_all (statements_of l)) c.deref.ensures.value) refl c.first-start.ensures refl
     c.in_ok-put_seam.ensures (c.in_ok-lay_all.ensures ∙ ap (λ l. laid_all s c.args.number (statements_of l) (function_ways exit) begun) c.deref-2.ensures.value) c.in_ok-put_exit.ensures

@@ -1,7 +1,6 @@
-use Rattle.std.proofs.Common.{◌≡◌, length, map, codes, subst, sym, ◌∙◌, rules}
+use Rattle.std.proofs.Common.{◌≡◌, length, map, codes, sym, ◌∙◌, rules}
 use Rattle.std.proofs.lemmas.List.{length-map}
 use Rattle.std.specs.Option.{unwrap_or}
-use Rattle.std.specs.Result.{IfOk}
 use Rattle.cw_syntax.specs.Names.{number_in, text}
 use Rattle.cw_syntax.specs.Trees.{Definition, file_of, definition_of}
 use Rattle.cw_syntax.specs.Plans.{function_names}
@@ -14,4 +13,4 @@ returns c =
     let items = c.args.checked.now.program.functions.items in
     let e : c.unwrap_or.result ≡ unwrap_or (number_in names (codes "main")) (length items) = search rules in
     let l : length items ≡ length names = sym (length-map (map definition_of items) (λ (d : Definition). text c.args.checked.now.source.now d.name) ∙ length-map items definition_of) in
-    subst (λ m. IfOk c.function_number.result (λ n. n ≡ m)) (e ∙ number_or_length names (codes "main") (length items) l) c.function_number.ensures
+    c.function_number.ensures ∙ e ∙ number_or_length names (codes "main") (length items) l

@@ -9,5 +9,6 @@ use Rattle.cw_points.proofs.lay.+lay.Given as goal
 abbrev pub invariant-lay_all-loop-statement : goal.invariant-lay_all-loop-statement
 invariant-lay_all-loop-statement l = record {
   left : l.left ≡ size_all (statements_of (drop l.statement-index l.statements));
-  drawn : laid_all (scene_in l.checked (policy_of l.policy)) l.function (statements_of (drop l.statement-index l.statements)) l.ways (drawn_of l.draft) ≡ laid_all (scene_in l.checked (policy_of l.policy)) l.function (statements_of l.statements) l.ways (drawn_of l.initial.draft);
+  drawn : laid_all (scene_in l.checked (policy_of l.policy)) l.function (statements_of (drop l.statement-index l.statements)) l.ways (drawn_of l.draft) ≡ laid_all
+      (scene_in l.checked (policy_of l.policy)) l.function (statements_of l.statements) l.ways (drawn_of l.initial.draft);
 }

@@ -1,9 +1,12 @@
-use Rattle.std.proofs.Common.{None, ap, sym, ◌∙◌}
-use Rattle.cw_syntax.specs.Trees.{tree_of}
-use Rattle.cw_syntax.specs.Plans.{Callee, action_of}
-use Rattle.cw_rights.specs.Policies.{policy_of}
+use Rattle.std.proofs.Common.{◌≡◌, ◌<◌, None, length, map, ap, sym, subst, ◌∙◌, arith}
+use Rattle.std.proofs.lemmas.List.{length-map}
+use Rattle.cw_syntax.specs.Names.{text}
+use Rattle.cw_syntax.specs.Trees.{Definition, definition_of, tree_of}
+use Rattle.cw_syntax.specs.Plans.{Callee, Opens, Closes, Invokes, action_of}
+use Rattle.cw_rights.specs.Policies.{PlainDescriptor, policy_of}
 use Rattle.cw_actions.specs.Scenes.{scene_in}
 use Rattle.cw_actions.proofs.Acting.{action_in, acts_back}
+use Rattle.cw_actions.proofs.Bounds.{IsWithin, acts_within}
 use Rattle.cw_points.specs.declared.graph.Point.TheVariants as point
 use Rattle.cw_points.specs.Drawing.{drawn_of, with_seam}
 use Rattle.cw_points.proofs.Adding.{laid_computes, laid_opens, laid_closes, laid_invokes}
@@ -18,33 +21,64 @@ returns-in-Computes c =
     let act = sym (acts_back (action_of s e)) ∙ ap action_in (sym c.action_of.ensures.act ∙ c.in-Computes.is) in
     on_ok c.put_step.result c.put_step.ensures (λ h to. h ∙ laid_computes s c.args.function e c.args.place to c.args.ways d act)
 
-pub returns-in_ok-d-in-Opens : goal.returns-in_ok-d-in-Opens
-returns-in_ok-d-in-Opens c =
+pub returns-in-Opens : goal.returns-in-Opens
+returns-in-Opens c =
     let s = scene_in c.args.checked.now (policy_of c.args.policy.now) in
     let e = tree_of c.args.e.now in
     let d = drawn_of c.args.draft.now in
     let act = sym (acts_back (action_of s e)) ∙ ap action_in (sym c.action_of.ensures.act ∙ c.in-Opens.is) in
     on_ok c.put_seam.result c.put_seam.ensures (λ h to.
-    h ∙ ap (λ i. with_seam (point.Open i) c.args.function c.args.ways.next c.args.place None d) c.in_ok-d-in-Opens.ensures
+    h ∙ ap (λ i. with_seam (point.Open i) c.args.function c.args.ways.next c.args.place None d) c.descriptor_number-d.ensures
     ∙ laid_opens s c.args.function e c.args.place to c.args.ways d c.in-Opens.d act)
 
-pub returns-in_ok-d-in-Closes : goal.returns-in_ok-d-in-Closes
-returns-in_ok-d-in-Closes c =
+pub returns-in-Closes : goal.returns-in-Closes
+returns-in-Closes c =
     let s = scene_in c.args.checked.now (policy_of c.args.policy.now) in
     let e = tree_of c.args.e.now in
     let d = drawn_of c.args.draft.now in
     let act = sym (acts_back (action_of s e)) ∙ ap action_in (sym c.action_of.ensures.act ∙ c.in-Closes.is) in
     on_ok c.put_seam-in-Closes.result c.put_seam-in-Closes.ensures (λ h to.
-    h ∙ ap (λ i. with_seam (point.Close i) c.args.function c.args.ways.next c.args.place None d) c.in_ok-d-in-Closes.ensures
+    h ∙ ap (λ i. with_seam (point.Close i) c.args.function c.args.ways.next c.args.place None d) c.descriptor_number-d-in-Closes.ensures
     ∙ laid_closes s c.args.function e c.args.place to c.args.ways d c.in-Closes.d act)
 
-pub returns-in_ok-callee-in-Invokes : goal.returns-in_ok-callee-in-Invokes
-returns-in_ok-callee-in-Invokes c =
+pub returns-in-Invokes : goal.returns-in-Invokes
+returns-in-Invokes c =
     let s = scene_in c.args.checked.now (policy_of c.args.policy.now) in
     let e = tree_of c.args.e.now in
     let d = drawn_of c.args.draft.now in
     let callee : Callee = record { number = c.in-Invokes.callee; split = c.in-Invokes.split; result = c.in-Invokes.taken } in
     let act = sym (acts_back (action_of s e)) ∙ ap action_in (sym c.action_of.ensures.act ∙ c.in-Invokes.is) in
     on_ok c.put_seam-in-Invokes.result c.put_seam-in-Invokes.ensures (λ h to.
-    h ∙ ap (λ i. with_seam (point.Call i) c.args.function c.args.ways.next c.args.place c.in-Invokes.taken d) c.in_ok-callee-in-Invokes.ensures
+    h ∙ ap (λ i. with_seam (point.Call i) c.args.function c.args.ways.next c.args.place c.in-Invokes.taken d) c.function_number-callee.ensures
     ∙ laid_invokes s c.args.function e c.args.place to c.args.ways d callee act)
+
+pub descriptor_number-d-requires : goal.descriptor_number-d-requires
+descriptor_number-d-requires c =
+    let policy = policy_of c.args.policy.now in
+    let s = scene_in c.args.checked.now policy in
+    let e = tree_of c.args.e.now in
+    let act : action_of s e ≡ Opens c.in-Opens.d = sym (acts_back (action_of s e)) ∙ ap action_in (sym c.action_of.ensures.act ∙ c.in-Opens.is) in
+    let within : c.in-Opens.d < length s.names.descriptors = subst (IsWithin s) act (acts_within s e) in
+    record { few = omega (arith, within, length-map policy.descriptors (λ (d : PlainDescriptor). d.name), c.requires.descriptors) }
+
+pub descriptor_number-d-requires-in-Closes : goal.descriptor_number-d-requires-in-Closes
+descriptor_number-d-requires-in-Closes c =
+    let policy = policy_of c.args.policy.now in
+    let s = scene_in c.args.checked.now policy in
+    let e = tree_of c.args.e.now in
+    let act : action_of s e ≡ Closes c.in-Closes.d = sym (acts_back (action_of s e)) ∙ ap action_in (sym c.action_of.ensures.act ∙ c.in-Closes.is) in
+    let within : c.in-Closes.d < length s.names.descriptors = subst (IsWithin s) act (acts_within s e) in
+    record { few = omega (arith, within, length-map policy.descriptors (λ (d : PlainDescriptor). d.name), c.requires.descriptors) }
+
+pub function_number-callee-requires : goal.function_number-callee-requires
+function_number-callee-requires c =
+    let checked = c.args.checked.now in
+    let items = checked.program.functions.items in
+    let s = scene_in checked (policy_of c.args.policy.now) in
+    let e = tree_of c.args.e.now in
+    let callee : Callee = record { number = c.in-Invokes.callee; split = c.in-Invokes.split; result = c.in-Invokes.taken } in
+    let act : action_of s e ≡ Invokes callee = sym (acts_back (action_of s e)) ∙ ap action_in (sym c.action_of.ensures.act ∙ c.in-Invokes.is) in
+    let within : c.in-Invokes.callee < length s.functions = subst (IsWithin s) act (acts_within s e) in
+    record {
+      few = omega (arith, within, length-map (map definition_of items) (λ (f : Definition). text checked.source.now f.name), length-map items definition_of, c.requires.functions);
+    }

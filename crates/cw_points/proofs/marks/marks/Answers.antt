@@ -11,6 +11,7 @@ loop-seam-preserved c =
 pub returns : goal.returns
 returns c = record {
   marks = λ names source file h.
-      sym (no_mark c.args.graph.now.nodes.items c.args.graph.now.seams.items c.deref-seam-items.result.now c.loop-seam.seam-index (map mark_of c.loop-seam.marks.items) c.deref-seam-items.ensures.value (omega (arith, c.loop-seam-test.false)))
+      sym (no_mark c.args.graph.now.nodes.items c.args.graph.now.seams.items c.deref-seam-items.result.now c.loop-seam.seam-index
+      (map mark_of c.loop-seam.marks.items) c.deref-seam-items.ensures.value (omega (arith, c.loop-seam-test.false)))
       ∙ c.loop-seam.invariant ∙ marks_of_graph names source file c.args.graph.now h;
 }

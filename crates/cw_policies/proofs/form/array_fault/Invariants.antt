@@ -5,5 +5,5 @@ use Rattle.cw_policies.proofs.form.array_fault.Given as goal
 
 abbrev pub invariant-items : goal.invariant-items
 invariant-items l =
-    (spec.first_in (spec.element_fault l.section) l.index (items_view (drop l.item-index l.items)) ≡ spec.first_in (spec.element_fault l.section) 0 (items_view l.items)) ×
+    (spec.first_in (spec.element_fault l.format l.section) l.index (items_view (drop l.item-index l.items)) ≡ spec.first_in (spec.element_fault l.format l.section) 0 (items_view l.items)) ×
     (l.index ≡ l.item-index)

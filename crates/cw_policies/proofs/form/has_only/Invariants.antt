@@ -7,4 +7,4 @@ abbrev pub invariant-members : goal.invariant-members
 invariant-members l =
     (goal.iterator-members).can_next l.text-iterator ×
     (goal.iterator-members).is_finite l.text-iterator ×
-    (spec.has_only l.keys (members_view l.text-iterator) ≡ spec.has_only l.keys (members_view l.table.entries))
+    (spec.has_only l.format l.keys (members_view l.text-iterator) ≡ spec.has_only l.format l.keys (members_view l.table.entries))

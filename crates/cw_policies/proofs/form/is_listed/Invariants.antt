@@ -3,4 +3,4 @@ use Rattle.cw_policies.specs.Form as spec
 use Rattle.cw_policies.proofs.form.is_listed.Given as goal
 
 abbrev pub invariant-keys : goal.invariant-keys
-invariant-keys l = spec.is_listed (drop l.key-index l.keys) l.text ≡ spec.is_listed l.keys l.text
+invariant-keys l = spec.is_listed l.format (drop l.key-index l.keys) l.text ≡ spec.is_listed l.format l.keys l.text

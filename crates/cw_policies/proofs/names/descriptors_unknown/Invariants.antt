@@ -6,5 +6,5 @@ use Rattle.cw_policies.proofs.names.descriptors_unknown.Given as goal
 
 abbrev pub invariant-items : goal.invariant-items
 invariant-items l =
-    (form.first_in spec.descriptor_unknown l.index (items_view (drop l.item-index l.items)) ≡ form.first_in spec.descriptor_unknown 0 (items_view l.items)) ×
+    (form.first_in (spec.descriptor_unknown l.format) l.index (items_view (drop l.item-index l.items)) ≡ form.first_in (spec.descriptor_unknown l.format) 0 (items_view l.items)) ×
     (l.index ≡ l.item-index)

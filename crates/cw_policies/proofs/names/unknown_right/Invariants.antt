@@ -6,5 +6,5 @@ use Rattle.cw_policies.proofs.names.unknown_right.Given as goal
 
 abbrev pub invariant-items : goal.invariant-items
 invariant-items l =
-    (form.first_in spec.unknown_right l.number (items_view (drop l.item-index l.items)) ≡ form.first_in spec.unknown_right 1 (items_view l.items)) ×
+    (form.first_in (spec.unknown_right l.format) l.number (items_view (drop l.item-index l.items)) ≡ form.first_in (spec.unknown_right l.format) 1 (items_view l.items)) ×
     (l.number ≡ suc l.item-index)

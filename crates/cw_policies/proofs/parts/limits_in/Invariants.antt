@@ -7,4 +7,4 @@ use Rattle.cw_policies.proofs.parts.limits_in.Given as goal
 abbrev pub invariant-items : goal.invariant-items
 invariant-items l =
     let names = meaning.names_of l.descriptors in
-    l.list.items ++ spec.limits_in names (items_view (drop l.item-index l.items)) ≡ spec.limits_in names (items_view l.items)
+    l.list.items ++ spec.limits_in l.format names (items_view (drop l.item-index l.items)) ≡ spec.limits_in l.format names (items_view l.items)

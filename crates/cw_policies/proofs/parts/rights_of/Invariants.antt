@@ -4,4 +4,4 @@ use Rattle.cw_policies.specs.Parts as spec
 use Rattle.cw_policies.proofs.parts.rights_of.Given as goal
 
 abbrev pub invariant-items : goal.invariant-items
-invariant-items l = (spec.rights_of l.rights (items_view (drop l.item-index l.items)) ≡ spec.rights_of 0 (items_view l.items)) × (l.rights ≤ 0xfff)
+invariant-items l = (spec.rights_of l.format l.rights (items_view (drop l.item-index l.items)) ≡ spec.rights_of l.format 0 (items_view l.items)) × (l.rights ≤ 0xfff)

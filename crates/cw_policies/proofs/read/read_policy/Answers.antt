@@ -18,6 +18,7 @@ returns-in-Ok-read_table-clause-policy c =
       parsed = parsed;
       has = c.in-Ok-read_table.ensures.policy;
       few_splits = few_texts c.in-Ok-read_table.policy.split.items c.in-Ok-read_table.ensures.splits;
+      few_detached = few_texts c.in-Ok-read_table.policy.detached.items c.in-Ok-read_table.ensures.detached;
       few_labels = few_texts c.in-Ok-read_table.policy.labels.items c.in-Ok-read_table.ensures.labels;
     }
 

@@ -14,8 +14,9 @@ pub returns-in-Err-clause-fault : goal.returns-in-Err-clause-fault
 returns-in-Err-clause-fault c =
     let d = names_of c.args.descriptors.now in
     let xs = c.args.sources.now in
-    let here = refused_at d (names_in c.sources.labels.keys) xs c.sources.source-index _ c.in-Err.fault c.sources-test.true c.in-Err.ensures.fault in
-    or_more (FirstRefused d (names_in c.sources.labels.keys) (map text_of (drop c.sources.source-index xs))) (FirstRefused d (names_in c.args.labels.now.keys) (map text_of xs)) c.in-Err.fault c.sources.invariant.1 here
+    let here = refused_at c.args.format d (names_in c.sources.labels.keys) xs c.sources.source-index _ c.in-Err.fault c.sources-test.true c.in-Err.ensures.fault in
+    or_more (FirstRefused c.args.format d (names_in c.sources.labels.keys) (map text_of (drop c.sources.source-index xs)))
+    (FirstRefused c.args.format d (names_in c.args.labels.now.keys) (map text_of xs)) c.in-Err.fault c.sources.invariant.1 here
 
 pub returns-clause-rules : goal.returns-clause-rules
 returns-clause-rules c =
@@ -23,5 +24,7 @@ returns-clause-rules c =
     let l = names_in c.sources.labels.keys in
     let far : length c.args.sources.now ≤ c.sources.source-index = grind (arith, common_steps) in
     let done = drop_end c.args.sources.now c.sources.source-index far in
-    let end : HaveRules d l (map text_of (drop c.sources.source-index c.args.sources.now)) [] l = subst (λ (ss : List Source). HaveRules d l (map text_of ss) [] l) (sym done) (refl, refl) in
-    subst (λ (rs : List PlainRule). HaveRules d (names_in c.args.labels.now.keys) (map text_of c.args.sources.now) rs l) (append-nil (map rule_of c.sources.rules.items)) (c.sources.invariant.0 [] l end)
+    let end : HaveRules c.args.format d l (map text_of (drop c.sources.source-index c.args.sources.now)) [] l =
+    subst (λ (ss : List Source). HaveRules c.args.format d l (map text_of ss) [] l) (sym done) (refl, refl) in
+    subst (λ (rs : List PlainRule). HaveRules c.args.format d (names_in c.args.labels.now.keys) (map text_of c.args.sources.now) rs l)
+    (append-nil (map rule_of c.sources.rules.items)) (c.sources.invariant.0 [] l end)

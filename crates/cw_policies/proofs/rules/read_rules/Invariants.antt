@@ -11,8 +11,8 @@ use Rattle.cw_policies.proofs.rules.read_rules.Given as goal
 -- what holds of the texts that are left, from the labels so far on, holds of all
 abbrev pub invariant-sources : goal.invariant-sources
 invariant-sources l =
-    ((more : List PlainRule) (after : List (List ℕ)) → HaveRules (names_of l.descriptors) (names_in l.labels.keys) (map text_of (drop l.source-index l.sources)) more after
-    → HaveRules (names_of l.descriptors) (names_in l.initial.labels.keys) (map text_of l.sources) (map rule_of l.rules.items ++ more) after) ×
-    ((f : PolicyFault) → FirstRefused (names_of l.descriptors) (names_in l.labels.keys) (map text_of (drop l.source-index l.sources)) f
-    → FirstRefused (names_of l.descriptors) (names_in l.initial.labels.keys) (map text_of l.sources) f) ×
+    ((more : List PlainRule) (after : List (List ℕ)) → HaveRules l.format (names_of l.descriptors) (names_in l.labels.keys) (map text_of (drop l.source-index l.sources)) more after
+    → HaveRules l.format (names_of l.descriptors) (names_in l.initial.labels.keys) (map text_of l.sources) (map rule_of l.rules.items ++ more) after) ×
+    ((f : PolicyFault) → FirstRefused l.format (names_of l.descriptors) (names_in l.labels.keys) (map text_of (drop l.source-index l.sources)) f
+    → FirstRefused l.format (names_of l.descriptors) (names_in l.initial.labels.keys) (map text_of l.sources) f) ×
     (index_set_len l.labels ≤ 65535)

@@ -1,4 +1,4 @@
-use Rattle.std.proofs.Common.{rules, ◌≡◌, [], None, map, length, get_or, sym, ap, ◌∙◌, arith}
+use Rattle.std.proofs.Common.{rules, ◌≡◌, false, [], None, map, length, get_or, sym, ap, ◌∙◌, arith}
 use Rattle.std.proofs.lemmas.Grind.{common_steps}
 use Rattle.std.proofs.lemmas.Bool.Decides.{nat_tests}
 use Rattle.cw_rights.specs.declared.policy.Rule.{Rule}
@@ -22,4 +22,11 @@ pub returns : goal.returns
 returns c =
     let empty : length c.args.policy.now.limits.items ≡ 0 = grind (arith, common_steps, nat_tests) in
     let each : map bad_words c.rules.tests.items ≡ map (λ (r : Rule). tree_of r.bad) c.args.policy.now.rules.items = grind (arith, common_steps) in
-    record { tests = record { limits = none_left c.args.policy.now.limits.items empty; rules = bad_each c.args.policy.now.rules.items ∙ sym each } }
+    let stop : c.args.policy.now.stop ≡ false = search rules in
+    record {
+      tests = record {
+        limits = none_left c.args.policy.now.limits.items empty;
+        rules = bad_each c.args.policy.now.rules.items ∙ sym each;
+        stop = stop;
+      };
+    }

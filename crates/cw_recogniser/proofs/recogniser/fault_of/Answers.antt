@@ -20,11 +20,13 @@ loop-index-preserved c =
 pub returns-then-may_end : goal.returns-then-may_end
 returns-then-may_end c =
     let e : c.loop-index.index ≡ length c.args.lexemes.now = search rules in
-    let all : run start (take (length c.args.lexemes.now) c.args.lexemes.now) ≡ Some (reverse c.loop-index.stack.items) = subst (λ (z : ℕ). run start (take z c.args.lexemes.now) ≡ Some (reverse c.loop-index.stack.items)) e c.loop-index.invariant in
+    let all : run start (take (length c.args.lexemes.now) c.args.lexemes.now) ≡ Some (reverse c.loop-index.stack.items) =
+    subst (λ (z : ℕ). run start (take z c.args.lexemes.now) ≡ Some (reverse c.loop-index.stack.items)) e c.loop-index.invariant in
     ended c.args.lexemes.now c.loop-index.stack.items all (search rules)
 
 pub returns : goal.returns
 returns c =
     let e : c.loop-index.index ≡ length c.args.lexemes.now = search rules in
-    let all : run start (take (length c.args.lexemes.now) c.args.lexemes.now) ≡ Some (reverse c.loop-index.stack.items) = subst (λ (z : ℕ). run start (take z c.args.lexemes.now) ≡ Some (reverse c.loop-index.stack.items)) e c.loop-index.invariant in
+    let all : run start (take (length c.args.lexemes.now) c.args.lexemes.now) ≡ Some (reverse c.loop-index.stack.items) =
+    subst (λ (z : ℕ). run start (take z c.args.lexemes.now) ≡ Some (reverse c.loop-index.stack.items)) e c.loop-index.invariant in
     unended c.args.lexemes.now c.loop-index.stack.items all (search rules)

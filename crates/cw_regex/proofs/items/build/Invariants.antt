@@ -9,5 +9,5 @@ abbrev pub invariant-loop : goal.invariant-loop
 invariant-loop l = record {
   within : l.at ≤ length l.text;
   turns : l.counter ≤ l.at;
-  so_far : PutSoFar (names_in l.labels.keys) (names_of l.descriptors) l.text l.at (levels_of l.building);
+  so_far : PutSoFar l.format (names_in l.labels.keys) (names_of l.descriptors) l.text l.at (levels_of l.building);
 }

@@ -7,13 +7,21 @@ use Rattle.cw_regex.proofs.Stepping.{word_read, word_rest, dot_read, dot_rest}
 use Rattle.cw_regex.proofs.items.step.Goals as goal
 
 pub returns-in_ok-next-in-Word-clause-read : goal.returns-in_ok-next-in-Word-clause-read
-returns-in_ok-next-in-Word-clause-read c i rest h = word_read (names_in c.args.labels.now.keys) (names_of c.args.descriptors.now) (levels_of c.args.building) (levels_of c.in_ok-next-in-Word.next) c.label_number-number.result (take (c.in-Word.to - c.in-Word.from) (drop c.in-Word.from c.args.text.now)) (parts (drop c.in-Word.to c.args.text.now)) c.label_number-number.ensures c.in_ok-next-in-Word.ensures.read i rest (sym c.in-Word.ensures.first ∙ h)
+returns-in_ok-next-in-Word-clause-read c i rest h = word_read c.args.format (names_in c.args.labels.now.keys) (names_of c.args.descriptors.now) (levels_of c.args.building)
+    (levels_of c.in_ok-next-in-Word.next) c.label_number-number.result (take (c.in-Word.to - c.in-Word.from) (drop c.in-Word.from c.args.text.now))
+    (parts (drop c.in-Word.to c.args.text.now)) c.label_number-number.ensures c.in_ok-next-in-Word.ensures.read i rest (sym c.in-Word.ensures.first ∙ h)
 
 pub returns-in_ok-next-in-Word-clause-rest : goal.returns-in_ok-next-in-Word-clause-rest
-returns-in_ok-next-in-Word-clause-rest c i rest h = word_rest (names_in c.args.labels.now.keys) (names_of c.args.descriptors.now) (take (c.in-Word.to - c.in-Word.from) (drop c.in-Word.from c.args.text.now)) (parts (drop c.in-Word.to c.args.text.now)) (parts (drop c.in_ok-next-in-Word.end c.args.text.now)) c.in_ok-next-in-Word.ensures.rest i rest (sym c.in-Word.ensures.first ∙ h)
+returns-in_ok-next-in-Word-clause-rest c i rest h = word_rest c.args.format (names_in c.args.labels.now.keys) (names_of c.args.descriptors.now)
+    (take (c.in-Word.to - c.in-Word.from) (drop c.in-Word.from c.args.text.now)) (parts (drop c.in-Word.to c.args.text.now)) (parts (drop c.in_ok-next-in-Word.end c.args.text.now))
+    c.in_ok-next-in-Word.ensures.rest i rest (sym c.in-Word.ensures.first ∙ h)
 
 pub returns-in_ok-next-in-Mark-clause-read : goal.returns-in_ok-next-in-Mark-clause-read
-returns-in_ok-next-in-Mark-clause-read c i rest h = dot_read (names_in c.args.labels.now.keys) (names_of c.args.descriptors.now) (levels_of c.args.building) (levels_of c.in_ok-next-in-Mark.next) c.in-Mark.mark (parts (drop c.in-Mark.to c.args.text.now)) (c.is_dot.ensures.0 c.if-is_dot.true) c.in_ok-next-in-Mark.ensures.read i rest (sym c.in-Mark.ensures.1.first ∙ h)
+returns-in_ok-next-in-Mark-clause-read c i rest h = dot_read c.args.format (names_in c.args.labels.now.keys) (names_of c.args.descriptors.now) (levels_of c.args.building)
+    (levels_of c.in_ok-next-in-Mark.next) c.in-Mark.mark (parts (drop c.in-Mark.to c.args.text.now)) (c.is_dot.ensures.0 c.if-is_dot.true) c.in_ok-next-in-Mark.ensures.read i rest
+    (sym c.in-Mark.ensures.1.first ∙ h)
 
 pub returns-in_ok-next-in-Mark-clause-rest : goal.returns-in_ok-next-in-Mark-clause-rest
-returns-in_ok-next-in-Mark-clause-rest c i rest h = dot_rest (names_in c.args.labels.now.keys) (names_of c.args.descriptors.now) c.in-Mark.mark (parts (drop c.in-Mark.to c.args.text.now)) (parts (drop c.in_ok-next-in-Mark.end c.args.text.now)) (c.is_dot.ensures.0 c.if-is_dot.true) c.in_ok-next-in-Mark.ensures.rest i rest (sym c.in-Mark.ensures.1.first ∙ h)
+returns-in_ok-next-in-Mark-clause-rest c i rest h = dot_rest c.args.format (names_in c.args.labels.now.keys) (names_of c.args.descriptors.now) c.in-Mark.mark
+    (parts (drop c.in-Mark.to c.args.text.now)) (parts (drop c.in_ok-next-in-Mark.end c.args.text.now)) (c.is_dot.ensures.0 c.if-is_dot.true) c.in_ok-next-in-Mark.ensures.rest i rest
+    (sym c.in-Mark.ensures.1.first ∙ h)

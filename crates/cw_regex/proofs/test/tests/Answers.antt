@@ -8,14 +8,16 @@ returns-then-not-more-clause-read c t ts rest h =
     let grows : c.push.new.self.items ≡ c.loop.read.items ++ c.test-end.result.0 ∷ [] = search rules in
     let last : c.after_test-more.result.0 ≡ false = search rules in
     let after = c.after_test-more.ensures in
-    (tests_end (names_of c.args.descriptors.now) c.args.text.now c.args.at c.loop.from c.test-end.result.1 c.after_test-more.result.1 c.loop.read.items c.push.new.self.items c.test-end.result.0 c.after_test-more.result.0 c.loop.invariant.so_far grows last c.test-end.ensures.read c.test-end.ensures.rest after.more after.rest t ts rest h).0
+    (tests_end c.args.format (names_of c.args.descriptors.now) c.args.text.now c.args.at c.loop.from c.test-end.result.1 c.after_test-more.result.1 c.loop.read.items c.push.new.self.items
+    c.test-end.result.0 c.after_test-more.result.0 c.loop.invariant.so_far grows last c.test-end.ensures.read c.test-end.ensures.rest after.more after.rest t ts rest h).0
 
 pub returns-then-not-more-clause-rest : goal.returns-then-not-more-clause-rest
 returns-then-not-more-clause-rest c t ts rest h =
     let grows : c.push.new.self.items ≡ c.loop.read.items ++ c.test-end.result.0 ∷ [] = search rules in
     let last : c.after_test-more.result.0 ≡ false = search rules in
     let after = c.after_test-more.ensures in
-    (tests_end (names_of c.args.descriptors.now) c.args.text.now c.args.at c.loop.from c.test-end.result.1 c.after_test-more.result.1 c.loop.read.items c.push.new.self.items c.test-end.result.0 c.after_test-more.result.0 c.loop.invariant.so_far grows last c.test-end.ensures.read c.test-end.ensures.rest after.more after.rest t ts rest h).1
+    (tests_end c.args.format (names_of c.args.descriptors.now) c.args.text.now c.args.at c.loop.from c.test-end.result.1 c.after_test-more.result.1 c.loop.read.items c.push.new.self.items
+    c.test-end.result.0 c.after_test-more.result.0 c.loop.invariant.so_far grows last c.test-end.ensures.read c.test-end.ensures.rest after.more after.rest t ts rest h).1
 
 pub loop-preserved : goal.loop-preserved
 loop-preserved c =
@@ -29,5 +31,6 @@ loop-preserved c =
       within = after.within;
       turns = omega (arith, was.turns);
       on = omega (arith, was.on);
-      so_far = tests_step (names_of c.args.descriptors.now) c.args.text.now c.args.at c.loop.from c.test-end.result.1 c.after_test-more.result.1 c.loop.read.items c.push.new.self.items c.test-end.result.0 c.after_test-more.result.0 was.so_far grows more c.test-end.ensures.read c.test-end.ensures.rest after.last after.next;
+      so_far = tests_step c.args.format (names_of c.args.descriptors.now) c.args.text.now c.args.at c.loop.from c.test-end.result.1 c.after_test-more.result.1 c.loop.read.items
+          c.push.new.self.items c.test-end.result.0 c.after_test-more.result.0 was.so_far grows more c.test-end.ensures.read c.test-end.ensures.rest after.last after.next;
     }

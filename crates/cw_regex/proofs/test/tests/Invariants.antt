@@ -8,5 +8,5 @@ invariant-loop l = record {
   within : l.from ≤ length l.text;
   turns : l.counter ≤ l.from;
   on : l.at ≤ l.from;
-  so_far : TestsSoFar (names_of l.descriptors) l.text l.at l.from l.read.items;
+  so_far : TestsSoFar l.format (names_of l.descriptors) l.text l.at l.from l.read.items;
 }

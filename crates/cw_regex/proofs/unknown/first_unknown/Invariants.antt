@@ -8,5 +8,5 @@ abbrev pub invariant-loop : goal.invariant-loop
 invariant-loop l = record {
   within : l.so_far.at ≤ length l.text;
   turns : l.counter ≤ l.so_far.at;
-  same : first_unknown (names_of l.descriptors) l.so_far.after (placed l.so_far.at (drop l.so_far.at l.text)) ≡ first_unknown (names_of l.descriptors) false (placed 0 l.text);
+  same : first_unknown l.format (names_of l.descriptors) l.so_far.after (placed l.so_far.at (drop l.so_far.at l.text)) ≡ first_unknown l.format (names_of l.descriptors) false (placed 0 l.text);
 }

@@ -8,18 +8,22 @@ use Rattle.cw_rights.proofs.plain.+plain.Goals as goal
 
 pub plain-plain_cat-requires : goal.plain-plain_cat-requires
 plain-plain_cat-requires t c =
-    let e : cost (tree_of c.args.r.now) (length c.args.word.now) ≡ cost (seq_of c.deref.result.now) (length c.args.word.now) = ap (λ s. cost s (length c.args.word.now)) (cat_of c.args.r.now c.in-Cat.parts c.deref.result.now c.in-Cat.is c.deref.ensures.value) in
+    let e : cost (tree_of c.args.r.now) (length c.args.word.now) ≡ cost (seq_of c.deref.result.now) (length c.args.word.now) =
+    ap (λ s. cost s (length c.args.word.now)) (cat_of c.args.r.now c.in-Cat.parts c.deref.result.now c.in-Cat.is c.deref.ensures.value) in
     (omega (arith, c.decreases), tt)
 
 pub plain-plain_or-requires : goal.plain-plain_or-requires
 plain-plain_or-requires t c =
-    let e : cost (tree_of c.args.r.now) (length c.args.word.now) ≡ cost (alt_of c.deref-in-Or.result.now) (length c.args.word.now) = ap (λ s. cost s (length c.args.word.now)) (or_of c.args.r.now c.in-Or.parts c.deref-in-Or.result.now c.in-Or.is c.deref-in-Or.ensures.value) in
+    let e : cost (tree_of c.args.r.now) (length c.args.word.now) ≡ cost (alt_of c.deref-in-Or.result.now) (length c.args.word.now) =
+    ap (λ s. cost s (length c.args.word.now)) (or_of c.args.r.now c.in-Or.parts c.deref-in-Or.result.now c.in-Or.is c.deref-in-Or.ensures.value) in
     (omega (arith, c.decreases), tt)
 
 pub plain-returns-else-is_empty : goal.plain-returns-else-is_empty
 plain-returns-else-is_empty t c =
     let z : 0 < length c.args.word.now = search rules in
-    c.plain_star-else-is_empty.ensures ∙ ap (λ x. chain (plain (tree_of x)) (length c.args.word.now) c.args.word.now) c.deref-else-is_empty.ensures ∙ sym (ap (λ x. plain (tree_of x) c.args.word.now) c.in-Plus.is ∙ if_some c.args.word.now (plain (tree_of c.in-Plus.body.value) c.args.word.now) (chain (plain (tree_of c.in-Plus.body.value)) (length c.args.word.now) c.args.word.now) z)
+    c.plain_star-else-is_empty.ensures ∙ ap (λ x. chain (plain (tree_of x)) (length c.args.word.now) c.args.word.now) c.deref-else-is_empty.ensures
+    ∙ sym (ap (λ x. plain (tree_of x) c.args.word.now) c.in-Plus.is ∙ if_some c.args.word.now (plain (tree_of c.in-Plus.body.value) c.args.word.now)
+    (chain (plain (tree_of c.in-Plus.body.value)) (length c.args.word.now) c.args.word.now) z)
 
 pub plain_cat-plain-requires : goal.plain_cat-plain-requires
 plain_cat-plain-requires t c =
@@ -69,7 +73,8 @@ plain_star-returns-then-plain_star t c =
     let lt : c.loop-i.i < length c.args.word.now = search rules in
     let one : plain (tree_of c.args.body.now) (take (c.loop-i.i + 1) c.args.word.now) ≡ true = search rules in
     let tail : take (length c.args.word.now - (c.loop-i.i + 1)) (drop (c.loop-i.i + 1) c.args.word.now) ≡ drop (c.loop-i.i + 1) c.args.word.now = take_all _ _ (grind (arith, length-drop)) in
-    let raw : chain (plain (tree_of c.args.body.now)) (length (take (length c.args.word.now - (c.loop-i.i + 1)) (drop (c.loop-i.i + 1) c.args.word.now))) (take (length c.args.word.now - (c.loop-i.i + 1)) (drop (c.loop-i.i + 1) c.args.word.now)) ≡ true = search rules in
+    let raw : chain (plain (tree_of c.args.body.now)) (length (take (length c.args.word.now - (c.loop-i.i + 1)) (drop (c.loop-i.i + 1) c.args.word.now)))
+    (take (length c.args.word.now - (c.loop-i.i + 1)) (drop (c.loop-i.i + 1) c.args.word.now)) ≡ true = search rules in
     let two = ap (λ v. chain (plain (tree_of c.args.body.now)) (length v) v) (sym tail) ∙ raw in
     star_finds (plain (tree_of c.args.body.now)) c.args.word.now c.loop-i.i lt one two
 
@@ -77,4 +82,6 @@ pub plain_star-returns : goal.plain_star-returns
 plain_star-returns t c =
     let z : 0 < length c.args.word.now = search rules in
     let e : c.loop-i.i ≡ length c.args.word.now = search rules in
-    star_ends (plain (tree_of c.args.body.now)) c.args.word.now z (subst (λ n. some_below n (λ i. plain (tree_of c.args.body.now) (take (i + 1) c.args.word.now) && chain (plain (tree_of c.args.body.now)) (length (drop (i + 1) c.args.word.now)) (drop (i + 1) c.args.word.now)) ≡ false) e c.loop-i.invariant)
+    star_ends (plain (tree_of c.args.body.now)) c.args.word.now z
+    (subst (λ n. some_below n (λ i. plain (tree_of c.args.body.now) (take (i + 1) c.args.word.now) && chain (plain (tree_of c.args.body.now)) (length (drop (i + 1) c.args.word.now))
+    (drop (i + 1) c.args.word.now)) ≡ false) e c.loop-i.invariant)

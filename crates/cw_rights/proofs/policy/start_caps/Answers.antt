@@ -11,4 +11,5 @@ pub returns : goal.returns
 returns c =
     let descriptors = c.args.policy.now.descriptors.items in
     let f = λ (k : ℕ). start_hold (slice_get (map descriptor_of descriptors) k) in
-    ap (λ (hs : List Hold). let all : Caps = record { amb = true; holds = hs } in all) (fill_by_all f c.loop-i.holds 8 Closed c.loop-i.invariant.all (λ k h. c.loop-i.invariant.set k (omega arith) ∙ ap start_hold (sym (slice_get-map descriptor_of descriptors k))))
+    ap (λ (hs : List Hold). let all : Caps = record { amb = true; holds = hs } in all) (fill_by_all f c.loop-i.holds 8 Closed c.loop-i.invariant.all
+    (λ k h. c.loop-i.invariant.set k (omega arith) ∙ ap start_hold (sym (slice_get-map descriptor_of descriptors k))))

@@ -2,7 +2,7 @@ use Rattle.std.proofs.Common.{ap, sym, ◌∙◌}
 use Rattle.cw_syntax.specs.declared.program.Expr.{out-Expr}
 use Rattle.cw_syntax.specs.Trees.{trees_of, Node}
 use Rattle.cw_scope.specs.Descriptors.{is_minus_one}
-use Rattle.cw_scope.proofs.Shapes.{node_is}
+use Rattle.cw_syntax.proofs.Shapes.{node_is}
 use Rattle.cw_scope.proofs.entries.is_minus_one.Goals as goal
 
 pub returns : goal.returns

@@ -3,7 +3,7 @@ use Rattle.std.specs.List.{list_any}
 use Rattle.std.specs.Str.{bytes_eq}
 use Rattle.cw_syntax.specs.Names.{text}
 use Rattle.cw_scope.specs.Descriptors.{Entry}
-use Rattle.cw_scope.specs.Scenes.{entry_of}
+use Rattle.cw_scope.specs.Held.{entry_of}
 use Rattle.cw_scope.proofs.Once.{one_of}
 use Rattle.cw_scope.proofs.entries.is_only.Goals as goal
 

@@ -7,5 +7,6 @@ loop-at-preserved c =
     let short : c.loop-at.at - 1 < length c.args.functions.now = omega (arith, c.loop-at.invariant.0, c.loop-at-test.true) in
     let next : c.loop-at.at - 1 + 1 ≡ c.loop-at.at = omega (arith, c.loop-at-test.true) in (
       omega (arith, short),
-      one_more c.args.source.now _ c.args.functions.now (c.loop-at.at - 1) c.text.result c.loop-at.held.entries c.insert.new.self.entries short (sym c.index-functions-at.is) c.text.ensures c.in_ok-insert.ensures.updates.0 (rw next c.loop-at.invariant.1),
+      one_more c.args.source.now _ c.args.functions.now (c.loop-at.at - 1) c.text.result c.loop-at.held.entries c.insert.new.self.entries short
+          (sym c.index-functions-at.is) c.text.ensures.bytes c.in_ok-insert.ensures.updates.0 (rw next c.loop-at.invariant.1),
     )

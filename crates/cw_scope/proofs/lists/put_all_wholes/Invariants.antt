@@ -5,4 +5,5 @@ use Rattle.cw_scope.specs.Held.{placed_of, whole_of}
 use Rattle.cw_scope.proofs.lists.put_all_wholes.Given as goal
 
 abbrev pub invariant-loop-placed : goal.invariant-loop-placed
-invariant-loop-placed l = map whole_of l.out.items ++ flat_map (λ p. wholes_of p.statement) (map placed_of (drop l.placed-index l.statements)) ≡ map whole_of l.initial.out.items ++ flat_map (λ p. wholes_of p.statement) (map placed_of l.statements)
+invariant-loop-placed l = map whole_of l.out.items ++ flat_map (λ p. wholes_of p.statement) (map placed_of (drop l.placed-index l.statements)) ≡ map whole_of l.initial.out.items ++ flat_map
+    (λ p. wholes_of p.statement) (map placed_of l.statements)

@@ -6,4 +6,5 @@ use Rattle.cw_scope.specs.Held.{placed_of}
 use Rattle.cw_scope.proofs.lists.put_bodies.Given as goal
 
 abbrev pub invariant-loop-function : goal.invariant-loop-function
-invariant-loop-function l = map placed_of l.out.items ++ flat_map body_of (map definition_of (drop l.function-index l.functions)) ≡ map placed_of l.initial.out.items ++ flat_map body_of (map definition_of l.functions)
+invariant-loop-function l = map placed_of l.out.items ++ flat_map body_of (map definition_of (drop l.function-index l.functions)) ≡ map placed_of l.initial.out.items ++ flat_map body_of
+    (map definition_of l.functions)

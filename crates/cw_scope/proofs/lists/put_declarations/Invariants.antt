@@ -6,4 +6,5 @@ use Rattle.cw_scope.specs.Held.{whole_of}
 use Rattle.cw_scope.proofs.lists.put_declarations.Given as goal
 
 abbrev pub invariant-loop-declaration : goal.invariant-loop-declaration
-invariant-loop-declaration l = map whole_of l.out.items ++ map inner (flat_map declaration_trees (map declaration_of (drop l.declaration-index l.declarations))) ≡ map whole_of l.initial.out.items ++ map inner (flat_map declaration_trees (map declaration_of l.declarations))
+invariant-loop-declaration l = map whole_of l.out.items ++ map inner (flat_map declaration_trees
+    (map declaration_of (drop l.declaration-index l.declarations))) ≡ map whole_of l.initial.out.items ++ map inner (flat_map declaration_trees (map declaration_of l.declarations))

@@ -5,4 +5,5 @@ use Rattle.cw_scope.specs.Names.{declared_names}
 use Rattle.cw_scope.proofs.names.put_declarations.Given as goal
 
 abbrev pub invariant-loop-declaration : goal.invariant-loop-declaration
-invariant-loop-declaration l = l.out.items ++ flat_map declared_names (map declaration_of (drop l.declaration-index l.declarations)) ≡ l.initial.out.items ++ flat_map declared_names (map declaration_of l.declarations)
+invariant-loop-declaration l = l.out.items ++ flat_map declared_names (map declaration_of (drop l.declaration-index l.declarations)) ≡ l.initial.out.items ++ flat_map declared_names
+    (map declaration_of l.declarations)

@@ -5,4 +5,5 @@ use Rattle.cw_scope.specs.Names.{param_names}
 use Rattle.cw_scope.proofs.names.put_prototypes.Given as goal
 
 abbrev pub invariant-loop-proto : goal.invariant-loop-proto
-invariant-loop-proto l = l.out.items ++ flat_map (λ p. param_names p.params) (map prototype_of (drop l.proto-index l.protos)) ≡ l.initial.out.items ++ flat_map (λ p. param_names p.params) (map prototype_of l.protos)
+invariant-loop-proto l = l.out.items ++ flat_map (λ p. param_names p.params) (map prototype_of (drop l.proto-index l.protos)) ≡ l.initial.out.items ++ flat_map (λ p. param_names p.params)
+    (map prototype_of l.protos)

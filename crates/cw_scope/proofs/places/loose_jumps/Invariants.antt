@@ -4,4 +4,5 @@ use Rattle.cw_scope.specs.Held.{placed_of}
 use Rattle.cw_scope.proofs.places.loose_jumps.Given as goal
 
 abbrev pub invariant-loop-placed : goal.invariant-loop-placed
-invariant-loop-placed l = sooner l.place (least (map (λ p. loose_jump p.looped p.statement) (map placed_of (drop l.placed-index l.statements)))) ≡ least (map (λ p. loose_jump p.looped p.statement) (map placed_of l.statements))
+invariant-loop-placed l = sooner l.place (least (map (λ p. loose_jump p.looped p.statement) (map placed_of (drop l.placed-index l.statements)))) ≡ least
+    (map (λ p. loose_jump p.looped p.statement) (map placed_of l.statements))

@@ -14,7 +14,7 @@ loop-name-preserved c =
     let old = c.loop-name.seen.keys in
     let held : c.len.result ≡ length c.insert.new.self.keys = c.len.ensures.len in (
       omega (arith, held, c.if-len-most.false),
-      counted_on source (get_or names c.loop-name.name-index none) (drop (c.loop-name.name-index + 1) names) c.text.result old c.insert.new.self.keys c.text.ensures c.in_ok-insert.ensures.updates.0 (c.in_ok-insert.ensures.len ∙ ap (λ b. length old + cond b 1 0) c.in_ok-insert.ensures.added)
+      counted_on source (get_or names c.loop-name.name-index none) (drop (c.loop-name.name-index + 1) names) c.text.result old c.insert.new.self.keys c.text.ensures.bytes c.in_ok-insert.ensures.updates.0 (c.in_ok-insert.ensures.len ∙ ap (λ b. length old + cond b 1 0) c.in_ok-insert.ensures.added)
           ∙ ap (λ l. length old + length (different source (texts old) l)) (sym (drop_more names c.loop-name.name-index none c.loop-name-test.true))
           ∙ c.loop-name.invariant.1,
     )
@@ -27,7 +27,7 @@ returns-then-len-most c =
     let old = c.loop-name.seen.keys in
     let held : c.len.result ≡ length c.insert.new.self.keys = c.len.ensures.len in
     let total =
-    counted_on source (get_or names c.loop-name.name-index none) (drop (c.loop-name.name-index + 1) names) c.text.result old c.insert.new.self.keys c.text.ensures c.in_ok-insert.ensures.updates.0 (c.in_ok-insert.ensures.len ∙ ap (λ b. length old + cond b 1 0) c.in_ok-insert.ensures.added)
+    counted_on source (get_or names c.loop-name.name-index none) (drop (c.loop-name.name-index + 1) names) c.text.result old c.insert.new.self.keys c.text.ensures.bytes c.in_ok-insert.ensures.updates.0 (c.in_ok-insert.ensures.len ∙ ap (λ b. length old + cond b 1 0) c.in_ok-insert.ensures.added)
     ∙ ap (λ l. length old + length (different source (texts old) l)) (sym (drop_more names c.loop-name.name-index none c.loop-name-test.true))
     ∙ c.loop-name.invariant.1
     in

@@ -6,4 +6,5 @@ use Rattle.cw_syntax.specs.Trees.{definition_of}
 use Rattle.cw_scope.proofs.rules.defined.Given as goal
 
 abbrev pub invariant-loop-function : goal.invariant-loop-function
-invariant-loop-function l = find (λ f. bytes_eq l.name (text l.source f.name)) (map definition_of (drop l.function-index l.function-items)) ≡ find (λ f. bytes_eq l.name (text l.source f.name)) (map definition_of l.function-items)
+invariant-loop-function l = find (λ f. bytes_eq l.name (text l.source f.name)) (map definition_of (drop l.function-index l.function-items)) ≡ find (λ f. bytes_eq l.name (text l.source f.name))
+    (map definition_of l.function-items)

@@ -12,7 +12,7 @@ returns-in-Call c =
     let source = c.args.source.now in
     let e = c.args.e.now in
     let test = λ (f : Name). is_main (text source f) in
-    c.at_if.ensures ∙ ap (λ holds. at_if holds (out-Expr e).from) (c.is_main.ensures ∙ ap is_main c.text.ensures) ∙ sym (at_operator (call_if test) e (CallOp c.in-Call.name) c.in-Call.is)
+    c.at_if.ensures ∙ ap (λ holds. at_if holds (out-Expr e).from) (c.is_main.ensures ∙ ap is_main c.text.ensures.bytes) ∙ sym (at_operator (call_if test) e (CallOp c.in-Call.name) c.in-Call.is)
 
 pub returns-in_default : goal.returns-in_default
 returns-in_default c =

@@ -12,7 +12,7 @@ returns-in-None c =
     let file = file_of c.args.known.now.program.now in
     let e = c.args.e.now in
     let o = out-Expr e in
-    let is = c.in-None.ensures ∙ ap (defined source file) c.text.ensures in
+    let is = c.in-None.ensures ∙ ap (defined source file) c.text.ensures.bytes in
     ap (λ d. miscounted d (count (trees_of o.parts.items)) o.from) is ∙ sym (at_operator (wrong_arity source file) e (CallOp c.in-Call.name) c.in-Call.is)
 
 pub returns-in-Some : goal.returns-in-Some
@@ -22,7 +22,7 @@ returns-in-Some c =
     let e = c.args.e.now in
     let o = out-Expr e in
     let params = c.in-Some.function.now.params in
-    let is = c.in-Some.ensures ∙ ap (defined source file) c.text.ensures in
+    let is = c.in-Some.ensures ∙ ap (defined source file) c.text.ensures.bytes in
     let n : c.len.result ≡ length o.parts.items = omega (arith, o.parts.ok.0) in
     let m : c.len-in-Some.result ≡ length params.items = omega (arith, params.ok.0) in
     c.at_if.ensures

@@ -1,11 +1,11 @@
 use Rattle.std.proofs.Common.{◌*◌, arith, get_or}
 use Rattle.cw_core.proofs.Bits.{has-complement, other_bits-lt, other_bits_more}
-use Rattle.cw_core.proofs.Words.{AreEightWords-set, AreWords-at}
+use Rattle.cw_core.proofs.Words.{AreSixteenWords-set, AreWords-at}
 use Rattle.cw_core.proofs.state_set.StateSet.complement_in.Goals as goal
 
 pub loop-i-preserved : goal.loop-i-preserved
 loop-i-preserved c = rw (c.ones_below.ensures.ones, c.saturating_sub.ensures) (record {
-  fit = AreEightWords-set c.loop-i.words c.loop-i.i _ c.loop-i.invariant.fit (other_bits-lt c.args.n (64 * c.loop-i.i) (get_or c.self.inside.words c.loop-i.i 0) (AreWords-at c.self.inside.words c.loop-i.i c.self.invariant.0));
+  fit = AreSixteenWords-set c.loop-i.words c.loop-i.i _ c.loop-i.invariant.fit (other_bits-lt c.args.n (64 * c.loop-i.i) (get_or c.self.inside.words c.loop-i.i 0) (AreWords-at c.self.inside.words c.loop-i.i c.self.invariant.0));
   each = other_bits_more c.args.n c.self.inside.words c.loop-i.words c.loop-i.i (omega (arith, c.loop-i.invariant.fit.1)) c.loop-i.invariant.each;
 })
 

@@ -13,5 +13,6 @@ returns c =
     let t = c.self.inside.tables in
     let fits : c.args.set < 2 ^ 64 = search rules in
     let first = ap (λ n. bit_or (cond (has c.args.set 0) n 0) (unite (slice_index t.follow) 64 c.args.set)) c.self.invariant.tables.first in
-    let is : c.following.result ≡ goes (bad_of all) 1 (has c.args.set 0) c.args.set = c.following.ensures ∙ first ∙ goes_tabled (bad_of all) 1 (has c.args.set 0) c.args.set (slice_index t.follow) fits c.self.invariant.tables.follow in
+    let is : c.following.result ≡ goes (bad_of all) 1 (has c.args.set 0) c.args.set = c.following.ensures ∙ first
+    ∙ goes_tabled (bad_of all) 1 (has c.args.set 0) c.args.set (slice_index t.follow) fits c.self.invariant.tables.follow in
     is ∙ ap (λ l. goes (bad_of (rules_of l)) 1 (has c.args.set 0) c.args.set) c.self.view_is

@@ -1,0 +1,15 @@
+//! Tests of the public calls of the lower crates: each with values from outside, where no clause says what is wanted.
+#![tactic(auto)]
+
+#[cfg(test)]
+mod expressions;
+#[cfg(test)]
+mod files;
+#[cfg(test)]
+mod links;
+#[cfg(test)]
+mod numerals;
+#[cfg(test)]
+mod rights;
+#[cfg(test)]
+mod words;

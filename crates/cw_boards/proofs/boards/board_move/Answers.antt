@@ -1,0 +1,30 @@
+use Rattle.std.proofs.Common.{◌≡◌, Some, true, false, ap, sym, ◌∙◌}
+use Rattle.std.specs.Prelude.{option_map}
+use Rattle.std.proofs.lemmas.Option.{none-some}
+use Rattle.cw_rights.specs.Policies.{policy_of}
+use Rattle.cw_boards.specs.Held.{scene, board_in, problem}
+use Rattle.cw_boards.proofs.Chosen.{moved_by_kind}
+use Rattle.cw_boards.proofs.boards.board_move.Goals as goal
+
+pub returns-in-None : goal.returns-in-None
+returns-in-None c = λ next h.
+    let pol = policy_of c.args.policy.now in
+    let s = scene c.args.checked.now c.args.policy.now in
+    let p = problem c.args.checked.now c.args.policy.now in
+    let b = board_in c.args.checked.now c.args.policy.now c.args.board.state in
+    let m = moved_by_kind p b c.front_kind-kind.result c.args.board.state.phase c.args.by c.choice_of-choice.result c.front_kind-kind.ensures c.choice_of-choice.ensures in
+    none-some next (sym (m ∙ sym c.in_ok-chosen.ensures ∙ ap (option_map (board_in c.args.checked.now c.args.policy.now)) c.in-None.is) ∙ h.1)
+
+pub returns-in_ok-after-in-Some : goal.returns-in_ok-after-in-Some
+returns-in_ok-after-in-Some c =
+    let pol = policy_of c.args.policy.now in
+    let s = scene c.args.checked.now c.args.policy.now in
+    let p = problem c.args.checked.now c.args.policy.now in
+    let b = board_in c.args.checked.now c.args.policy.now c.args.board.state in
+    let m = moved_by_kind p b c.front_kind-kind.result c.args.board.state.phase c.args.by c.choice_of-choice.result c.front_kind-kind.ensures c.choice_of-choice.ensures in (
+      (
+        λ v. let t = c.requires.board.1 v in let z : false ≡ true = sym c.if-violates.false ∙ t in absurd (cc),
+        m ∙ sym c.in_ok-chosen.ensures ∙ ap (option_map (board_in c.args.checked.now c.args.policy.now)) c.in-Some.is ∙ ap Some (sym c.in_ok-after-in-Some.ensures.same),
+      ),
+      c.in_ok-after-in-Some.ensures.board,
+    )

@@ -1,0 +1,28 @@
+use Rattle.std.proofs.Common.{◌∷◌, ap, ap₂, ◌∙◌}
+use Rattle.std.specs.Prelude.{option_map, is_some}
+use Rattle.cw_syntax.specs.declared.program.Head.{Head, out-Head}
+use Rattle.cw_syntax.specs.declared.program.Stmt.{Stmt}
+use Rattle.cw_syntax.specs.Plans.{numbered, numbered_all}
+use Rattle.cw_syntax.specs.Frames.{Test, Mark, items_of, init_if}
+use Rattle.cw_actions.specs.Scenes.{stm_in, stms_in}
+use Rattle.cw_boards.specs.Held.{scene, frame_in}
+use Rattle.cw_boards.proofs.Settled.{a_block, a_for}
+use Rattle.cw_boards.proofs.frames.rewrite_statement.Goals as goal
+
+pub returns-in_ok-put_all-in-Block : goal.returns-in_ok-put_all-in-Block
+returns-in_ok-put_all-in-Block c =
+    let s = scene c.args.checked.now c.args.policy.now in
+    let st = c.args.statement.now in
+    let rest = frame_in s c.args.rest in
+    a_block s st c.in-Block.statements c.args.seam rest c.in_ok-put_all-in-Block.field-0 c.in-Block.is
+    (c.in_ok-put_all-in-Block.ensures ∙ ap (λ l. items_of (numbered_all (stms_in s l) c.args.seam) rest) c.deref.ensures.value)
+
+pub returns-in_ok-for_loop-in-For : goal.returns-in_ok-for_loop-in-For
+returns-in_ok-for_loop-in-For c =
+    let s = scene c.args.checked.now c.args.policy.now in
+    let st = c.args.statement.now in
+    let rest = frame_in s c.args.rest in
+    a_for s st c.in-For.head c.in-For.body c.args.seam rest c.in_ok-for_loop-in-For.field-0 c.in-For.is
+    (c.in_ok-for_loop-in-For.ensures s
+    ∙ ap₂ (λ (h : Head) (b : Stmt). init_if (option_map (λ (i : Stmt). i.from) (out-Head h).init) (Test st.from (is_some (out-Head h).test) (is_some (out-Head h).step)
+    (numbered (stm_in s b) c.args.seam) ∷ (Mark ∷ rest))) c.deref-in-For.ensures c.deref-in-For-2.ensures)

@@ -1,0 +1,212 @@
+//! What a step changes of what is held, by the kind of the front item.
+
+ghost use Rattle.std.specs.Prelude.{◌≡◌, ◌↔◌, ◌∷◌, [], ◌++◌, IsTrue, IfOk, Some, slice_get, option_map};
+ghost use Rattle.cw_rights.specs.Capabilities.{closed};
+ghost use Rattle.cw_rights.specs.Policies.{policy_of, IsBad};
+ghost use Rattle.cw_rights.specs.Valid.{IsValid};
+ghost use Rattle.cw_model.specs.Boards.{with_opened, after_open, given_back, way_of};
+ghost use Rattle.cw_boards.specs.Held.{phase_by};
+ghost use Rattle.cw_boards.specs.Choices.{primitives_by};
+ghost use Rattle.cw_boards.specs.Changes.{kept_by, caps_by, letters_by, reached_letter, is_free};
+ghost use Rattle.cw_boards.specs.Turns.{way_in};
+
+use crate::choices::{Phase, primitive_at};
+use crate::kinds::Kind;
+use crate::turns::Way;
+use cw_certs::Move;
+use cw_rights::{Caps, Letter, Policy, close_hold, matches_plain, open_hold};
+use std::alloc::AllocError;
+use std::collections::VecDeque;
+
+/// The way on that a move of the environment is, where it is one.
+pub(crate) fn way_of(by: Move) -> Option<Way>
+    ensures { option_map way_in result ≡ way_of by }
+{
+    match by {
+        Move::On => Some(Way::On),
+        Move::Left => Some(Way::Left),
+        Move::Right => Some(Way::Right),
+        Move::Opened => Some(Way::Opened),
+        Move::Failed => Some(Way::Failed),
+        Move::Skip | Move::Try | Move::Grant | Move::Refuse | Move::Stop => None,
+    }
+}
+
+/// A call keeps by its mode, and an end forgets.
+pub(crate) fn kept_after(
+    kind: Kind,
+    mode: Option<Caps>,
+    mut kept: VecDeque<Option<Caps>>,
+) -> Result<VecDeque<Option<Caps>>, AllocError>
+    ensures { IfOk result (λ next. next.items ≡ kept_by kind mode kept.items) }
+{
+    match kind {
+        Kind::Call { .. } => {
+            kept.push_front(mode)?;
+            Ok(kept)
+        }
+        Kind::End => {
+            let _ = kept.pop_front();
+            Ok(kept)
+        }
+        Kind::Entry | Kind::Plain | Kind::Break | Kind::Continue | Kind::Return => Ok(kept),
+        Kind::Open(_) => Ok(kept),
+        Kind::Close(_) => Ok(kept),
+        Kind::Label(_) => Ok(kept),
+        Kind::Test(_) => Ok(kept),
+        Kind::Group | Kind::If | Kind::Loop | Kind::Step | Kind::Mark => Ok(kept),
+    }
+}
+
+fn closed(caps: Caps, descriptor: usize) -> Caps
+    ensures { result ≡ closed caps descriptor }
+{
+    let mut after = caps;
+    if descriptor < 8 {
+        close_hold(&mut after, descriptor as u8);
+    }
+    after
+}
+
+fn opened(policy: &Policy, caps: Caps, descriptor: usize) -> Caps
+    requires { IsValid (policy_of policy.now) }
+    ensures { result ≡ with_opened caps descriptor (slice_get (policy_of policy.now).descriptors descriptor) }
+{
+    let mut after = caps;
+    if descriptor < policy.descriptors.len() {
+        let rights = policy.descriptors[descriptor].rights;
+        open_hold(&mut after, descriptor as u8, rights);
+    }
+    after
+}
+
+fn after_open(policy: &Policy, caps: Caps, descriptor: usize, way: Way) -> Caps
+    requires { IsValid (policy_of policy.now) }
+    ensures { result ≡ after_open (policy_of policy.now) caps descriptor (way_in way) }
+{
+    match way {
+        Way::Opened => opened(policy, caps, descriptor),
+        Way::On | Way::Left | Way::Right | Way::Failed => closed(caps, descriptor),
+    }
+}
+
+fn given_back(kept: &VecDeque<Option<Caps>>, caps: Caps) -> Caps
+    ensures { result ≡ given_back kept.now.items caps }
+{
+    match kept.front() {
+        None => caps,
+        Some(top) => match top {
+            None => caps,
+            Some(before) => *before,
+        },
+    }
+}
+
+/// The capabilities after a step.
+pub(crate) fn caps_after(
+    policy: &Policy,
+    kind: Kind,
+    kept: &VecDeque<Option<Caps>>,
+    way: Way,
+    caps: Caps,
+) -> Caps
+    requires { IsValid (policy_of policy.now) }
+    ensures { result ≡ caps_by (policy_of policy.now) kind kept.now.items (way_in way) caps }
+{
+    match kind {
+        Kind::Open(d) => after_open(policy, caps, d, way),
+        Kind::Close(d) => closed(caps, d),
+        Kind::End => given_back(kept, caps),
+        Kind::Entry | Kind::Plain | Kind::Break | Kind::Continue | Kind::Return => caps,
+        Kind::Call { .. } => caps,
+        Kind::Label(_) => caps,
+        Kind::Test(_) => caps,
+        Kind::Group | Kind::If | Kind::Loop | Kind::Step | Kind::Mark => caps,
+    }
+}
+
+/// A word with the letter of a label that is passed.
+pub(crate) fn with_letter(
+    kind: Kind,
+    mut word: Vec<Letter>,
+    caps: Caps,
+) -> Result<Vec<Letter>, AllocError>
+    ensures { IfOk result (λ next. next.items ≡ word.items ++ letters_by kind caps) }
+{
+    match kind {
+        Kind::Label(label) => {
+            word.push(Letter { label, caps })?;
+            Ok(word)
+        }
+        Kind::Entry | Kind::Plain | Kind::Break | Kind::Continue | Kind::Return => Ok(word),
+        Kind::Open(_) => Ok(word),
+        Kind::Close(_) => Ok(word),
+        Kind::Call { .. } => Ok(word),
+        Kind::Test(_) => Ok(word),
+        Kind::Group | Kind::If | Kind::Loop | Kind::Step | Kind::Mark | Kind::End => Ok(word),
+    }
+}
+
+/// The letter of the label at the front, where its primitives have been passed.
+pub(crate) fn reached_letter(
+    policy: &Policy,
+    kind: Option<Kind>,
+    caps: Caps,
+    phase: Phase,
+) -> Option<Letter>
+    requires { IsValid (policy_of policy.now) }
+    ensures { result ≡ reached_letter (phase_by (primitives_by (policy_of policy.now) kind) phase) kind caps }
+{
+    if !is_free(policy, kind, phase) {
+        return None;
+    }
+    match kind {
+        Some(Kind::Label(label)) => Some(Letter { label, caps }),
+        _ => None,
+    }
+}
+
+fn is_free(policy: &Policy, kind: Option<Kind>, phase: Phase) -> bool
+    requires { IsValid (policy_of policy.now) }
+    ensures { result ≡ is_free (phase_by (primitives_by (policy_of policy.now) kind) phase) }
+{
+    match phase {
+        Phase::Visit(stage) => match primitive_at(policy, kind, stage) {
+            None => true,
+            Some(_) => false,
+        },
+        Phase::Asked(_) | Phase::Refused(_) => false,
+        Phase::Split | Phase::Over => false,
+    }
+}
+
+/// Whether a word is bad.
+fn is_bad(policy: &Policy, word: &[Letter]) -> bool
+    ensures { IsTrue result ↔ IsBad (policy_of policy.now) word.now }
+{
+    if word.is_empty() {
+        return false;
+    }
+    for rule in &policy.rules {
+        if matches_plain(&rule.bad, word) {
+            return true;
+        }
+    }
+    false
+}
+
+/// Whether a word is bad with this letter behind it; and the word, as it was.
+pub(crate) fn is_bad_with(
+    policy: &Policy,
+    mut word: Vec<Letter>,
+    letter: Letter,
+) -> Result<(Vec<Letter>, bool), AllocError>
+    ensures same { IfOk result (λ r. r.0.items ≡ word.items) }
+    ensures bad { IfOk result (λ r. IsTrue r.1 ↔ IsBad (policy_of policy.now) (word.items ++ letter ∷ [])) }
+{
+    let length = word.len();
+    word.push(letter)?;
+    let bad = is_bad(policy, &word);
+    word.truncate(length);
+    Ok((word, bad))
+}

@@ -1,0 +1,25 @@
+-- What a function reaches, by the rows of a table.
+use Rattle.std.proofs.Common.{◌≡◌, ℕ, List, length, get_or, Vec, Global, sym, subst}
+use Rattle.std.specs.List.{Contains}
+use Rattle.std.specs.Ordering.{nat_cmp}
+use Rattle.std.proofs.lemmas.List.Elements.{Contains-get_or}
+use Rattle.std.proofs.lemmas.Map.Views.{length-le_from_below}
+use Rattle.cw_closure.specs.Closures.{Reached, first, then, AtMost}
+use Rattle.cw_closure.proofs.Reach.{kept}
+use Rattle.cw_syntax.specs.Plans.{Plan}
+use Rattle.cw_callgraph.specs.Effects.{calls, Reaches, directly, further}
+use Rattle.cw_callgraph.specs.Finding.{next_in, IsRow}
+use Rattle.cw_callgraph.proofs.Rows.{row_keeps}
+
+module _ (plan : Plan) (next : ℕ → List ℕ) (same : (h : ℕ) → next h ≡ calls plan h) where
+  pub reached : (f g : ℕ) → Reached next (next f) g → Reaches plan f g
+  reached f g (first i c) = directly i (subst (λ l. Contains l i) (same f) c)
+  reached f g (then h i l c) = further h i (reached f h l) (subst (λ l. Contains l i) (same h) c)
+
+  pub led : (f g : ℕ) → Reaches plan f g → Reached next (next f) g
+  led f g (directly i c) = first i (subst (λ l. Contains l i) (sym (same f)) c)
+  led f g (further h i r c) = then h i (led f h r) (subst (λ l. Contains l i) (sym (same h)) c)
+
+-- no more is reached than there are rows
+pub at_most : (rows : List (Vec ℕ Global)) (f : ℕ) → IsRow rows f → AtMost nat_cmp (Reached (next_in rows) (next_in rows f)) (length rows)
+at_most rows f is xs sorted reached = length-le_from_below (length rows) xs sorted (λ k d lt. (kept nat_cmp (next_in rows) (next_in rows f) (IsRow rows) (λ q. row_keeps rows f q is) (row_keeps rows) (get_or xs k d) (reached (get_or xs k d) (Contains-get_or xs k d lt))).0)

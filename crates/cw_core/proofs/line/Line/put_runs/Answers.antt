@@ -1,0 +1,44 @@
+use Rattle.std.proofs.Common.{◌≡◌, ◌+◌, ◌-◌, ◌∷◌, false, suc, arith, ◌∙◌, sym}
+use Rattle.cw_core.specs.Ranges.{Run}
+use Rattle.cw_core.specs.StateSet.{has}
+use Rattle.cw_core.proofs.Runs.{runs_from, runs_without, runs_first, ranges_whole, runs_past}
+use Rattle.cw_core.proofs.RunTexts.{continued-none, continued-start, continued-more, run_room, some_text}
+use Rattle.cw_core.proofs.line.Line.put_runs.Goals as goal
+
+pub numbers-init : goal.numbers-init
+numbers-init c = rw c.requires.empty (record {
+  text = continued-start (runs_from c.args.set.now 0 1025) ∙ ranges_whole c.args.set.now c.members_are_below_1024.ensures.below;
+  room = omega arith;
+  small = omega arith;
+})
+
+pub numbers-preserved-then-contains : goal.numbers-preserved-then-contains
+numbers-preserved-then-contains c =
+    let at = c.numbers.at in
+    let greatest = c.greatest_of_run-greatest.result in
+    let within = c.greatest_of_run-greatest.ensures.within in
+    let run : Run = record { least = at; greatest = greatest } in
+    let first : runs_from c.args.set.now at (1025 - at) ≡ run ∷ runs_from c.args.set.now (greatest + 2) (1025 - (greatest + 2)) =
+    runs_first (greatest - at) c.args.set.now at greatest (1025 - (greatest + 2)) (1025 - at) (omega (arith, within.0, within.1)) (omega (arith, within.0)) c.greatest_of_run-greatest.ensures.members c.greatest_of_run-greatest.ensures.end in
+    rw c.put_run.ensures.text (record {
+      text = sym (continued-more c.numbers.self run (runs_from c.args.set.now (greatest + 2) (1025 - (greatest + 2))) (some_text run within.0 within.1)) ∙ rw first at c.numbers.invariant.text;
+      room = run_room c.numbers.self run within.0 within.1 c.numbers.invariant.room;
+      small = omega (arith, within.1);
+    })
+
+pub numbers-preserved : goal.numbers-preserved
+numbers-preserved c =
+    let at = c.numbers.at in
+    let e : 1025 - at ≡ suc (1025 - (at + 1)) = omega (arith, c.numbers-test.true) in
+    let out : has c.args.set.now at ≡ false = sym c.if-contains.ensures.member in
+    let skip : runs_from c.args.set.now at (1025 - at) ≡ runs_from c.args.set.now (at + 1) (1025 - (at + 1)) = rw e (runs_without c.args.set.now at (1025 - (at + 1)) out) in
+    record {
+      text = rw skip at c.numbers.invariant.text;
+      room = omega (arith, c.numbers.invariant.room);
+      small = omega (arith, c.numbers-test.true);
+    }
+
+pub returns : goal.returns
+returns c =
+    let none = runs_past c.args.set.now c.numbers.at (1025 - c.numbers.at) c.members_are_below_1024.ensures.below c.numbers-test.false in
+    record { text = sym (continued-none c.numbers.self) ∙ (rw none at c.numbers.invariant.text) }

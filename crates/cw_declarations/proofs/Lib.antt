@@ -1,7 +1,0 @@
-pub mod BothWays
-pub mod Listed
-pub mod Sound
-pub mod Wording
-pub mod Complete
-pub mod HeadersComplete
-pub mod Whole

@@ -1,4 +1,0 @@
-pub mod Lists
-pub mod Reading
-pub mod View
-pub mod Next

@@ -1,5 +1,0 @@
-use Rattle.std.proofs.Common.{◌≡◌, length}
-use Rattle.cw_links.proofs.tests.many_lists.Given as goal
-
-abbrev pub invariant-loop-list : goal.invariant-loop-list
-invariant-loop-list l = record { lists : length l.chains.lists ≡ l.many; values : length l.chains.values ≡ l.list }

@@ -1,0 +1,190 @@
+//! Functions and files, read from tokens by their words.
+
+ghost use Rattle.std.specs.Prelude.{◌≡◌, ◌≢◌, IfErr, IfOk, Ok};
+ghost use Rattle.cw_syntax.specs.Trees.{File, file_of, prototype_of};
+ghost use Rattle.cw_grammar.specs.Files.{IsProgram};
+ghost use Rattle.cw_expressions.specs.declared.refusal.Refusal.TheVariants.{NoMemory};
+ghost use Rattle.cw_expressions.specs.Cursor.{Gives};
+ghost use Rattle.cw_parse.specs.StatementReading.{all_named, body, headed, part, some_left, added, one_part, parts, file};
+ghost use Rattle.cw_parse.specs.StatementView.{part_of, piece, filed};
+
+use crate::declarations::declaration_at;
+use crate::headers::{header_at, is_header_next};
+use crate::statements::statements_at;
+use cw_expressions::cursor::{begins_with, past, take};
+use cw_expressions::refusal::Refusal;
+use cw_grammar::words::{Lexeme, Word};
+use cw_syntax::program::{Decl, Function, Param, Program, Proto};
+use std::alloc::Global;
+
+/// What a file is made of.
+#[derive(Drop)]
+pub enum Piece {
+    Prototype(Proto),
+    Global(Decl),
+    Function(Function),
+}
+
+/// Whether each parameter has a name.
+fn has_names(params: &[Param]) -> bool
+    ensures { result ≡ all_named params.now }
+{
+    let mut left = params;
+    'params: while let [first, rest @ ..] = left {
+        if first.name.is_none() {
+            return false;
+        }
+        left = rest;
+    }
+    true
+}
+
+/// Behind the header of a function.
+#[tactic(auto, unfolding(crate::specs::StatementReading::body))]
+fn body_at<'t>(
+    alloc: Global,
+    header: Proto,
+    tokens: &'t [Lexeme],
+) -> Result<(Piece, &'t [Lexeme]), Refusal>
+    ensures { Gives piece result (body (prototype_of header) tokens.now) }
+{
+    if has_names(header.params.as_slice()) {
+        let (brace, rest) = take(tokens, Word::OpenBrace)?;
+        let (body, rest) = statements_at(alloc, rest)?;
+        let (_, rest) = take(rest, Word::CloseBrace)?;
+        let function = Function {
+            name: header.name,
+            result: header.result,
+            params: header.params,
+            brace: brace.to,
+            body,
+        };
+        Ok((Piece::Function(function), rest))
+    } else {
+        Err(Refusal::Syntax)
+    }
+}
+
+/// A prototype or a function.
+#[tactic(auto, unfolding(crate::specs::StatementReading::headed))]
+fn headed_at<'t>(alloc: Global, tokens: &'t [Lexeme]) -> Result<(Piece, &'t [Lexeme]), Refusal>
+    ensures { Gives piece result (headed tokens.now) }
+{
+    let (header, rest) = header_at(alloc, tokens)?;
+    if begins_with(rest, Word::Semicolon) {
+        Ok((Piece::Prototype(header), past(rest)))
+    } else {
+        body_at(alloc, header, rest)
+    }
+}
+
+#[tactic(auto, unfolding(crate::specs::StatementReading::part, crate::specs::StatementReading::held))]
+fn part_at<'t>(alloc: Global, tokens: &'t [Lexeme]) -> Result<(Piece, &'t [Lexeme]), Refusal>
+    ensures { Gives piece result (part tokens.now) }
+{
+    let is_header = is_header_next(tokens)?;
+    if is_header {
+        headed_at(alloc, tokens)
+    } else {
+        let (declaration, rest) = declaration_at(alloc, tokens)?;
+        Ok((Piece::Global(declaration), rest))
+    }
+}
+
+/// A program with one part more, behind those of its kind.
+fn with_part(program: Program, part: Piece) -> Result<Program, Refusal>
+    ensures { Gives file_of result (Ok (added (file_of program) (part_of part))) }
+{
+    let Program {
+        mut protos,
+        mut globals,
+        mut functions,
+    } = program;
+    match part {
+        Piece::Prototype(prototype) => protos.push(prototype)?,
+        Piece::Global(declaration) => globals.push(declaration)?,
+        Piece::Function(function) => functions.push(function)?,
+    }
+    Ok(Program {
+        protos,
+        globals,
+        functions,
+    })
+}
+
+/// One part more.
+#[tactic(auto, unfolding(crate::specs::StatementReading::one_part))]
+fn part_after<'t>(
+    alloc: Global,
+    before: (Program, &'t [Lexeme]),
+) -> Result<(Program, &'t [Lexeme]), Refusal>
+    ensures { Gives filed result (one_part (filed before.entry)) }
+{
+    let (program, rest) = before;
+    let (part, rest) = part_at(alloc, rest)?;
+    let program = with_part(program, part)?;
+    Ok((program, rest))
+}
+
+fn has_more(tokens: &[Lexeme]) -> bool
+    ensures { result ≡ some_left tokens.now }
+{
+    match tokens {
+        [] => false,
+        [_, ..] => true,
+    }
+}
+
+/// All parts behind those before.
+fn parts_after<'t>(
+    alloc: Global,
+    first: (Program, &'t [Lexeme]),
+) -> Result<(Program, &'t [Lexeme]), Refusal>
+    ensures { Gives filed result (parts (filed first.entry)) }
+{
+    let mut so_far = first;
+    'parts: while has_more(so_far.1) {
+        so_far = part_after(alloc, so_far)?;
+    }
+    Ok(so_far)
+}
+
+/// The same program, in lists with no room to spare.
+fn fitted(program: Program) -> Program
+    ensures { file_of result ≡ file_of program }
+{
+    let Program {
+        mut protos,
+        mut globals,
+        mut functions,
+    } = program;
+    protos.shrink_to_fit();
+    globals.shrink_to_fit();
+    functions.shrink_to_fit();
+    Program {
+        protos,
+        globals,
+        functions,
+    }
+}
+
+#[tactic(auto, unfolding(crate::specs::StatementReading::file))]
+fn file_at(alloc: Global, lexemes: &[Lexeme]) -> Result<Program, Refusal>
+    ensures { Gives file_of result (file lexemes.now) }
+{
+    let none = Program {
+        protos: Vec::new(alloc),
+        globals: Vec::new(alloc),
+        functions: Vec::new(alloc),
+    };
+    let (program, _) = parts_after(alloc, (none, lexemes))?;
+    Ok(fitted(program))
+}
+
+/// The program that these tokens are, all of them, where they nest at most 64 deep.
+pub(crate) fn read_file(alloc: Global, lexemes: &[Lexeme]) -> Result<Program, Refusal>
+    ensures found { IfOk result (λ program. IsProgram lexemes.now (file_of program)) }
+    ensures none { IfErr result (λ refusal. refusal ≢ NoMemory → (file : File) → ¬ (IsProgram lexemes.now file)) }
+{
+    file_at(alloc, lexemes)
+}

@@ -1,0 +1,149 @@
+//! Parameters, and headers of prototypes and functions.
+
+ghost use Rattle.std.specs.Prelude.{◌≡◌};
+ghost use Rattle.cw_expressions.specs.Cursor.{Gives, begins};
+ghost use Rattle.cw_grammar.specs.declared.words.Word.TheVariants.{Comma};
+ghost use Rattle.cw_parse.specs.Lists.{one_more, many, behind, separated};
+ghost use Rattle.cw_parse.specs.DeclarationReading.{brackets, param, is_void, params, front, header, begins_header};
+ghost use Rattle.cw_parse.specs.DeclarationView.{specifiers_of, plain, parameters, headed};
+
+use crate::specifiers::{Specifiers, name_at, optional_name_at, specifiers_at};
+use cw_expressions::cursor::{begins_with, past, take};
+use cw_expressions::refusal::Refusal;
+use cw_expressions::types::{stars_at, type_name_at};
+use cw_grammar::words::{Lexeme, Word};
+use cw_syntax::program::{CType, Name, Param, Proto};
+use std::alloc::Global;
+
+/// `[]`, where a bracket is next.
+#[tactic(auto, unfolding(crate::specs::DeclarationReading::brackets))]
+fn brackets_at(tokens: &[Lexeme]) -> Result<(bool, &[Lexeme]), Refusal>
+    ensures { Gives plain result (brackets tokens.now) }
+{
+    if begins_with(tokens, Word::OpenBracket) {
+        let (_, rest) = take(past(tokens), Word::CloseBracket)?;
+        Ok((true, rest))
+    } else {
+        Ok((false, tokens))
+    }
+}
+
+#[tactic(auto, unfolding(crate::specs::DeclarationReading::param))]
+fn param_at(tokens: &[Lexeme]) -> Result<(Param, &[Lexeme]), Refusal>
+    ensures { Gives plain result (param tokens.now) }
+{
+    let (kind, rest) = type_name_at(tokens)?;
+    let (name, rest) = optional_name_at(rest);
+    let (array, rest) = brackets_at(rest)?;
+    Ok((Param { kind, name, array }, rest))
+}
+
+/// A parameter behind a comma.
+#[tactic(auto, unfolding(crate::specs::Lists::one_more))]
+fn param_after<'t>(
+    before: (Vec<Param>, &'t [Lexeme]),
+) -> Result<(Vec<Param>, &'t [Lexeme]), Refusal>
+    ensures { Gives parameters result (one_more (behind param) (parameters before.entry)) }
+{
+    let (mut list, rest) = before;
+    let (param, rest) = param_at(past(rest))?;
+    list.push(param)?;
+    Ok((list, rest))
+}
+
+/// The parameters behind the first.
+fn params_after<'t>(
+    first: (Vec<Param>, &'t [Lexeme]),
+) -> Result<(Vec<Param>, &'t [Lexeme]), Refusal>
+    ensures { Gives parameters result (many (behind param) (begins Comma) (parameters first.entry)) }
+{
+    let mut so_far = first;
+    'params: while begins_with(so_far.1, Word::Comma) {
+        so_far = param_after(so_far)?;
+    }
+    Ok(so_far)
+}
+
+#[tactic(auto, unfolding(crate::specs::Lists::separated))]
+fn separated_params_at<'t>(
+    alloc: Global,
+    tokens: &'t [Lexeme],
+) -> Result<(Vec<Param>, &'t [Lexeme]), Refusal>
+    ensures { Gives parameters result (separated param (begins Comma) tokens.now) }
+{
+    let (first, rest) = param_at(tokens)?;
+    let list = Vec::from_array(alloc, [first])?;
+    let (mut list, rest) = params_after((list, rest))?;
+    list.shrink_to_fit();
+    Ok((list, rest))
+}
+
+/// Whether `void` stands alone before a parenthesis.
+fn is_void_next(tokens: &[Lexeme]) -> bool
+    ensures { result ≡ is_void tokens.now }
+{
+    begins_with(tokens, Word::Void) && begins_with(past(tokens), Word::Close)
+}
+
+/// Parameters up to a parenthesis.
+#[tactic(auto, unfolding(crate::specs::DeclarationReading::params))]
+fn params_at<'t>(alloc: Global, tokens: &'t [Lexeme]) -> Result<(Vec<Param>, &'t [Lexeme]), Refusal>
+    ensures { Gives parameters result (params tokens.now) }
+{
+    if begins_with(tokens, Word::Close) {
+        Ok((Vec::new(alloc), tokens))
+    } else if is_void_next(tokens) {
+        Ok((Vec::new(alloc), past(tokens)))
+    } else {
+        separated_params_at(alloc, tokens)
+    }
+}
+
+/// Specifiers, stars and a name.
+#[tactic(auto, unfolding(crate::specs::DeclarationReading::front))]
+fn front_at(tokens: &[Lexeme]) -> Result<((Specifiers, u8, Name), &[Lexeme]), Refusal>
+    ensures { Gives (λ x. (((specifiers_of x.0.0, x.0.1), x.0.2), x.1.now)) result (front tokens.now) }
+{
+    let (specifiers, rest) = specifiers_at(tokens)?;
+    let (stars, rest) = stars_at(rest);
+    let (name, rest) = name_at(rest)?;
+    Ok(((specifiers, stars, name), rest))
+}
+
+/// The header of a prototype or a function that is next, up to the parenthesis that closes its parameters, and the tokens after
+/// it. Public source: ISO/IEC 9899:2011, 6.7.6.3 and 6.9.1.
+#[tactic(auto, unfolding(crate::specs::DeclarationReading::header))]
+pub(crate) fn header_at<'t>(
+    alloc: Global,
+    tokens: &'t [Lexeme],
+) -> Result<(Proto, &'t [Lexeme]), Refusal>
+    ensures { Gives headed result (header tokens.now) }
+{
+    let ((specifiers, stars, name), rest) = front_at(tokens)?;
+    let (_, rest) = take(rest, Word::Open)?;
+    let (params, rest) = params_at(alloc, rest)?;
+    let (_, rest) = take(rest, Word::Close)?;
+    let result = CType {
+        base: specifiers.base,
+        unsigned: specifiers.unsigned,
+        stars,
+    };
+    Ok((
+        Proto {
+            name,
+            result,
+            params,
+        },
+        rest,
+    ))
+}
+
+/// Whether `(` follows the specifiers, stars and name that are next: so it is where a header is next, and not where a
+/// declaration is.
+#[tactic(auto, unfolding(crate::specs::DeclarationReading::begins_header))]
+pub(crate) fn is_header_next(tokens: &[Lexeme]) -> Result<bool, Refusal>
+    ensures { Gives (λ x. x) result (begins_header tokens.now) }
+{
+    let (_, rest) = front_at(tokens)?;
+    Ok(begins_with(rest, Word::Open))
+}

@@ -1,0 +1,155 @@
+//! What statements are made of besides statements.
+
+ghost use Rattle.std.specs.Prelude.{◌≡◌};
+ghost use Rattle.cw_syntax.specs.Trees.{Form, form_of};
+ghost use Rattle.cw_expressions.specs.Cursor.{Gives};
+ghost use Rattle.cw_parse.specs.StatementReading.{condition, ended, declares, declared, evaluated, start, short, returned};
+ghost use Rattle.cw_parse.specs.StatementView.{tested, optional, one, perhaps};
+
+use crate::declarations::declaration_at;
+use crate::initialisers::optional_expression_at;
+use crate::specifiers::begins_declaration;
+use cw_expressions::cursor::{begins_with, first_of, past, take};
+use cw_expressions::expressions::read_expression;
+use cw_expressions::refusal::Refusal;
+use cw_grammar::words::{Lexeme, Word};
+use cw_syntax::program::{Expr, Stmt, What};
+use std::alloc::Global;
+
+/// An expression in parentheses.
+#[tactic(auto, unfolding(crate::specs::StatementReading::condition))]
+pub(crate) fn test_at<'t>(
+    alloc: Global,
+    tokens: &'t [Lexeme],
+) -> Result<(Expr, &'t [Lexeme]), Refusal>
+    ensures { Gives tested result (condition tokens.now) }
+{
+    let (_, rest) = take(tokens, Word::Open)?;
+    let (test, rest) = read_expression(alloc, rest)?;
+    let (_, rest) = take(rest, Word::Close)?;
+    Ok((test, rest))
+}
+
+/// An expression, unless this mark is next, and past the mark: where the mark ends, and the tokens after it.
+#[tactic(auto, unfolding(crate::specs::StatementReading::ended))]
+pub(crate) fn ended_at<'t>(
+    alloc: Global,
+    tokens: &'t [Lexeme],
+    closes: Word,
+) -> Result<((Option<Expr>, u32), &'t [Lexeme]), Refusal>
+    ensures { Gives optional result (ended closes tokens.now) }
+{
+    let (expression, rest) = optional_expression_at(alloc, tokens, closes)?;
+    let (close, rest) = take(rest, closes)?;
+    Ok(((expression, close.to), rest))
+}
+
+/// Whether a declaration begins here.
+pub(crate) fn declares_next(tokens: &[Lexeme]) -> bool
+    ensures { result ≡ declares tokens.now }
+{
+    match tokens {
+        [] => false,
+        [first, ..] => begins_declaration(first.word),
+    }
+}
+
+/// A declaration, as a statement.
+#[tactic(auto, unfolding(crate::specs::StatementReading::declared))]
+pub(crate) fn declared_at<'t>(
+    alloc: Global,
+    tokens: &'t [Lexeme],
+) -> Result<(Stmt, &'t [Lexeme]), Refusal>
+    ensures { Gives one result (declared tokens.now) }
+{
+    let (declaration, rest) = declaration_at(alloc, tokens)?;
+    let (from, to) = (declaration.from, declaration.to);
+    Ok((
+        Stmt {
+            what: What::Decl(declaration),
+            from,
+            to,
+        },
+        rest,
+    ))
+}
+
+/// An expression before a semicolon, as a statement.
+#[tactic(auto, unfolding(crate::specs::StatementReading::evaluated))]
+pub(crate) fn evaluated_at<'t>(
+    alloc: Global,
+    tokens: &'t [Lexeme],
+) -> Result<(Stmt, &'t [Lexeme]), Refusal>
+    ensures { Gives one result (evaluated tokens.now) }
+{
+    let (first, _) = first_of(tokens)?;
+    let (expression, rest) = read_expression(alloc, tokens)?;
+    let (semicolon, rest) = take(rest, Word::Semicolon)?;
+    Ok((
+        Stmt {
+            what: What::Expr(expression),
+            from: first.from,
+            to: semicolon.to,
+        },
+        rest,
+    ))
+}
+
+/// The first part of the head of a `for`, past its semicolon.
+#[tactic(auto, unfolding(crate::specs::StatementReading::start))]
+pub(crate) fn start_at<'t>(
+    alloc: Global,
+    tokens: &'t [Lexeme],
+) -> Result<(Option<Stmt>, &'t [Lexeme]), Refusal>
+    ensures { Gives perhaps result (start tokens.now) }
+{
+    if begins_with(tokens, Word::Semicolon) {
+        Ok((None, past(tokens)))
+    } else if declares_next(tokens) {
+        let (declaration, rest) = declared_at(alloc, tokens)?;
+        Ok((Some(declaration), rest))
+    } else {
+        let (expression, rest) = evaluated_at(alloc, tokens)?;
+        Ok((Some(expression), rest))
+    }
+}
+
+/// `break` or `continue`, behind the word.
+#[tactic(auto, unfolding(crate::specs::StatementReading::short))]
+pub(crate) fn short_at(
+    what: What,
+    word: Lexeme,
+    tokens: &[Lexeme],
+) -> Result<(Stmt, &[Lexeme]), Refusal>
+    ensures { Gives one result (short (form_of what) word tokens.now) }
+{
+    let (semicolon, rest) = take(tokens, Word::Semicolon)?;
+    Ok((
+        Stmt {
+            what,
+            from: word.from,
+            to: semicolon.to,
+        },
+        rest,
+    ))
+}
+
+/// Behind `return`.
+#[tactic(auto, unfolding(crate::specs::StatementReading::returned))]
+pub(crate) fn returned_at<'t>(
+    alloc: Global,
+    word: Lexeme,
+    tokens: &'t [Lexeme],
+) -> Result<(Stmt, &'t [Lexeme]), Refusal>
+    ensures { Gives one result (returned word tokens.now) }
+{
+    let ((value, to), rest) = ended_at(alloc, tokens, Word::Semicolon)?;
+    Ok((
+        Stmt {
+            what: What::Return(value),
+            from: word.from,
+            to,
+        },
+        rest,
+    ))
+}

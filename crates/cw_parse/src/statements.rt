@@ -1,0 +1,277 @@
+//! Statements, by recursion on the nesting that is left.
+
+ghost use Rattle.std.specs.Prelude.{◌≡◌, true, false, []};
+ghost use Rattle.cw_grammar.specs.Expressions.{nesting_limit};
+ghost use Rattle.cw_syntax.specs.Trees.{tree_of, statement_of};
+ghost use Rattle.cw_expressions.specs.Cursor.{Gives};
+ghost use Rattle.cw_parse.specs.Lists.{many};
+ghost use Rattle.cw_parse.specs.StatementReading.{goes_on, block, labelled, chosen, branched, looped, done, counted, stated, statement, read_statement};
+ghost use Rattle.cw_parse.specs.StatementView.{one, several};
+
+use crate::heads::{
+    declared_at, declares_next, ended_at, evaluated_at, returned_at, short_at, start_at, test_at,
+};
+use cw_expressions::cursor::{begins_with, past, take};
+use cw_expressions::refusal::Refusal;
+use cw_grammar::words::{Lexeme, Word};
+use cw_syntax::program::{Expr, Head, Name, Stmt, What};
+use std::alloc::Global;
+
+/// A statement at the front, with at most this nesting.
+#[cycle(parser)]
+fn read<'t>(
+    alloc: Global,
+    depth: u32,
+    in_block: bool,
+    tokens: &'t [Lexeme],
+) -> Result<(Stmt, &'t [Lexeme]), Refusal>
+    ensures { Gives one result (read_statement depth in_block tokens.now) }
+{
+    if depth == 0 {
+        return Err(Refusal::TooDeep);
+    }
+    statement_at(alloc, depth - 1, in_block, tokens)
+}
+
+#[cycle(parser)]
+#[tactic(auto, unfolding(crate::specs::StatementReading::statement))]
+fn statement_at<'t>(
+    alloc: Global,
+    depth: u32,
+    in_block: bool,
+    tokens: &'t [Lexeme],
+) -> Result<(Stmt, &'t [Lexeme]), Refusal>
+    ensures { Gives one result (statement (read_statement depth) in_block tokens.now) }
+{
+    if in_block && declares_next(tokens) {
+        declared_at(alloc, tokens)
+    } else {
+        stated_at(alloc, depth, tokens)
+    }
+}
+
+/// By its first word.
+#[cycle(parser)]
+#[tactic(auto, unfolding(crate::specs::StatementReading::stated))]
+fn stated_at<'t>(
+    alloc: Global,
+    depth: u32,
+    tokens: &'t [Lexeme],
+) -> Result<(Stmt, &'t [Lexeme]), Refusal>
+    ensures { Gives one result (stated (read_statement depth) tokens.now) }
+{
+    match tokens {
+        [] => Err(Refusal::Syntax),
+        [first, rest @ ..] => match first.word {
+            Word::OpenBrace => block_at(alloc, depth, *first, rest),
+            Word::Semicolon => Ok((
+                Stmt {
+                    what: What::Empty,
+                    from: first.from,
+                    to: first.to,
+                },
+                rest,
+            )),
+            Word::If => branched_at(alloc, depth, *first, rest),
+            Word::While => looped_at(alloc, depth, *first, rest),
+            Word::Do => done_at(alloc, depth, *first, rest),
+            Word::For => counted_at(alloc, depth, *first, rest),
+            Word::Break => short_at(What::Break, *first, rest),
+            Word::Continue => short_at(What::Continue, *first, rest),
+            Word::Return => returned_at(alloc, *first, rest),
+            Word::Name => {
+                if begins_with(rest, Word::Colon) {
+                    labelled_at(alloc, depth, *first, rest)
+                } else {
+                    evaluated_at(alloc, tokens)
+                }
+            }
+            _ => evaluated_at(alloc, tokens),
+        },
+    }
+}
+
+/// Behind `{`.
+#[cycle(parser)]
+#[tactic(auto, unfolding(crate::specs::StatementReading::block))]
+fn block_at<'t>(
+    alloc: Global,
+    depth: u32,
+    brace: Lexeme,
+    tokens: &'t [Lexeme],
+) -> Result<(Stmt, &'t [Lexeme]), Refusal>
+    ensures { Gives one result (block (read_statement depth) brace tokens.now) }
+{
+    let (kids, rest) = listed_at(alloc, depth, tokens)?;
+    let (close, rest) = take(rest, Word::CloseBrace)?;
+    Ok((
+        Stmt {
+            what: What::Block(kids),
+            from: brace.from,
+            to: close.to,
+        },
+        rest,
+    ))
+}
+
+/// Statements up to a brace, in a list with no room to spare.
+#[cycle(parser)]
+fn listed_at<'t>(
+    alloc: Global,
+    depth: u32,
+    tokens: &'t [Lexeme],
+) -> Result<(Vec<Stmt>, &'t [Lexeme]), Refusal>
+    ensures { Gives several result (many (read_statement depth true) goes_on ([], tokens.now)) }
+{
+    let mut list = Vec::new(alloc);
+    let mut rest = tokens;
+    'statements: while !begins_with(rest, Word::CloseBrace) {
+        let (statement, behind) = read(alloc, depth, true, rest)?;
+        list.push(statement)?;
+        rest = behind;
+    }
+    list.shrink_to_fit();
+    Ok((list, rest))
+}
+
+/// Behind a label's name.
+#[cycle(parser)]
+#[tactic(auto, unfolding(crate::specs::StatementReading::labelled))]
+fn labelled_at<'t>(
+    alloc: Global,
+    depth: u32,
+    name: Lexeme,
+    tokens: &'t [Lexeme],
+) -> Result<(Stmt, &'t [Lexeme]), Refusal>
+    ensures { Gives one result (labelled (read_statement depth) name tokens.now) }
+{
+    let (colon, rest) = take(tokens, Word::Colon)?;
+    let (body, rest) = read(alloc, depth, false, rest)?;
+    let to = body.to;
+    let body = Box::new(alloc, body)?;
+    let label = Name {
+        from: name.from,
+        to: name.to,
+    };
+    let what = What::Label(label, colon.to, body);
+    let from = name.from;
+    Ok((Stmt { what, from, to }, rest))
+}
+
+/// Behind `if`.
+#[cycle(parser)]
+#[tactic(auto, unfolding(crate::specs::StatementReading::branched))]
+fn branched_at<'t>(
+    alloc: Global,
+    depth: u32,
+    word: Lexeme,
+    tokens: &'t [Lexeme],
+) -> Result<(Stmt, &'t [Lexeme]), Refusal>
+    ensures { Gives one result (branched (read_statement depth) word tokens.now) }
+{
+    let (test, rest) = test_at(alloc, tokens)?;
+    let (body, rest) = read(alloc, depth, false, rest)?;
+    chosen_at(alloc, depth, word, test, body, rest)
+}
+
+/// Behind the first arm of an `if`.
+#[cycle(parser)]
+#[tactic(auto, unfolding(crate::specs::StatementReading::chosen))]
+fn chosen_at<'t>(
+    alloc: Global,
+    depth: u32,
+    word: Lexeme,
+    test: Expr,
+    body: Stmt,
+    tokens: &'t [Lexeme],
+) -> Result<(Stmt, &'t [Lexeme]), Refusal>
+    ensures { Gives one result (chosen (read_statement depth) word (tree_of test) (statement_of body) tokens.now) }
+{
+    let to = body.to;
+    let body = Box::new(alloc, body)?;
+    let from = word.from;
+    if begins_with(tokens, Word::Else) {
+        let (other, rest) = read(alloc, depth, false, past(tokens))?;
+        let to = other.to;
+        let other = Box::new(alloc, other)?;
+        let what = What::If(test, body, Some(other));
+        return Ok((Stmt { what, from, to }, rest));
+    }
+    let what = What::If(test, body, None);
+    Ok((Stmt { what, from, to }, tokens))
+}
+
+/// Behind `while`.
+#[cycle(parser)]
+#[tactic(auto, unfolding(crate::specs::StatementReading::looped))]
+fn looped_at<'t>(
+    alloc: Global,
+    depth: u32,
+    word: Lexeme,
+    tokens: &'t [Lexeme],
+) -> Result<(Stmt, &'t [Lexeme]), Refusal>
+    ensures { Gives one result (looped (read_statement depth) word tokens.now) }
+{
+    let (test, rest) = test_at(alloc, tokens)?;
+    let (body, rest) = read(alloc, depth, false, rest)?;
+    let to = body.to;
+    let body = Box::new(alloc, body)?;
+    let what = What::While(test, body);
+    let from = word.from;
+    Ok((Stmt { what, from, to }, rest))
+}
+
+/// Behind `do`.
+#[cycle(parser)]
+#[tactic(auto, unfolding(crate::specs::StatementReading::done))]
+fn done_at<'t>(
+    alloc: Global,
+    depth: u32,
+    word: Lexeme,
+    tokens: &'t [Lexeme],
+) -> Result<(Stmt, &'t [Lexeme]), Refusal>
+    ensures { Gives one result (done (read_statement depth) word tokens.now) }
+{
+    let (body, rest) = read(alloc, depth, false, tokens)?;
+    let (_, rest) = take(rest, Word::While)?;
+    let (test, rest) = test_at(alloc, rest)?;
+    let (semicolon, rest) = take(rest, Word::Semicolon)?;
+    let body = Box::new(alloc, body)?;
+    let what = What::Do(body, test);
+    let (from, to) = (word.from, semicolon.to);
+    Ok((Stmt { what, from, to }, rest))
+}
+
+/// Behind `for`.
+#[cycle(parser)]
+#[tactic(auto, unfolding(crate::specs::StatementReading::counted))]
+fn counted_at<'t>(
+    alloc: Global,
+    depth: u32,
+    word: Lexeme,
+    tokens: &'t [Lexeme],
+) -> Result<(Stmt, &'t [Lexeme]), Refusal>
+    ensures { Gives one result (counted (read_statement depth) word tokens.now) }
+{
+    let (_, rest) = take(tokens, Word::Open)?;
+    let (init, rest) = start_at(alloc, rest)?;
+    let ((test, _), rest) = ended_at(alloc, rest, Word::Semicolon)?;
+    let ((step, _), rest) = ended_at(alloc, rest, Word::Close)?;
+    let (body, rest) = read(alloc, depth, false, rest)?;
+    let to = body.to;
+    let body = Box::new(alloc, body)?;
+    let head = Box::new(alloc, Head { init, test, step })?;
+    let what = What::For(head, body);
+    let from = word.from;
+    Ok((Stmt { what, from, to }, rest))
+}
+
+/// Statements up to a brace.
+pub(crate) fn statements_at<'t>(
+    alloc: Global,
+    tokens: &'t [Lexeme],
+) -> Result<(Vec<Stmt>, &'t [Lexeme]), Refusal>
+    ensures { Gives several result (many (read_statement nesting_limit true) goes_on ([], tokens.now)) }
+{
+    listed_at(alloc, 64, tokens)
+}

@@ -1,0 +1,11 @@
+use Rattle.std.proofs.Common.{◌≡◌, map, drop}
+use Rattle.cw_scope.specs.Rules.{sooner, least}
+use Rattle.cw_scope.specs.Descriptors.{misuse}
+use Rattle.cw_scope.specs.Held.{tree_at}
+use Rattle.cw_actions.specs.Scenes.{scene_in}
+use Rattle.cw_rights.specs.Policies.{policy_of}
+use Rattle.cw_scope.proofs.misuses.misuses.Given as goal
+
+abbrev pub invariant-loop-e : goal.invariant-loop-e
+invariant-loop-e l = sooner l.place (least (map (misuse (scene_in l.checked (policy_of l.policy))) (map tree_at (drop l.e-index l.nodes)))) ≡ least
+    (map (misuse (scene_in l.checked (policy_of l.policy))) (map tree_at l.nodes))
