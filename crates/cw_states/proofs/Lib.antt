@@ -1,0 +1,9 @@
+-- The proofs.
+pub mod Growing
+pub mod Listed
+pub mod Meaning
+pub mod Members
+pub mod Narrow
+pub mod Ordered
+pub mod Places
+pub mod Tabled

@@ -1,0 +1,7 @@
+-- The definitions.
+pub mod Growing
+pub mod Kept
+pub mod Rights
+pub mod Spots
+pub mod States
+pub mod Tables
