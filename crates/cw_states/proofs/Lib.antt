@@ -1,4 +1,5 @@
 -- The proofs.
+pub mod Below
 pub mod Growing
 pub mod Listed
 pub mod Meaning

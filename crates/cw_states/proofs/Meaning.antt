@@ -24,6 +24,8 @@ use Rattle.cw_dfa.proofs.Whole.{start_set, next_set, verdict_is}
 use Rattle.cw_model.specs.Boards.{is_yes, may_grant, with_opened}
 use Rattle.cw_game.specs.declared.spots.Spot.{Spot}
 use Rattle.cw_game.specs.Games.{AreStates, IsOpenedIn, letter_of}
+use Rattle.cw_game.specs.Reached.{Reached}
+use Rattle.cw_game.proofs.Reached.{are_reached}
 use Rattle.cw_states.specs.declared.uses.Uses.{Uses}
 use Rattle.cw_states.specs.Rights.{IsRightsState, at_start, by_enter, by_limit, by_open, by_close}
 use Rattle.cw_states.specs.States.{Lists, AreLists, Means, count, pair, set_at, caps_at, set_place, caps_place, with_caps, set_after, label_count, letters_below, letters_of, states_of}
@@ -151,6 +153,12 @@ module _ (uses : Uses) (v : Lists) (are : AreLists uses v) where
   applied_is c Enter there e is = by_enter c is
   applied_is c Split there e is = is
 
+  begins : Means uses v (states_of v).start [] (start_caps v.policy)
+  begins = record { keeps = nothing_kept rules letters; set = 1; is_set = start_set rules; held = at_start; is = refl }
+
+  pub start_below : (states_of v).start < count v
+  start_below = below (states_of v).start [] (start_caps v.policy) begins
+
   module _ (spots : List Spot) (have : Have v.policy uses spots) where
     opened_is : (c : Caps) (d : ℕ) → IsOpenedIn spots d → Is c → Is (with_opened c d (slice_get v.policy.descriptors d))
     opened_is c d o is =
@@ -159,7 +167,7 @@ module _ (uses : Uses) (v : Lists) (are : AreLists uses v) where
 
     pub states_are : AreStates v.policy spots (states_of v) (Means uses v)
     states_are = record {
-      begins = record { keeps = nothing_kept rules letters; set = 1; is_set = start_set rules; held = at_start; is = refl };
+      begins = begins;
       within = λ q w c m. below q w c m;
       grants = λ q w c a there m. ap (λ x. may_grant x a) (caps_is q w c m);
       granted = λ q w c a there m e. moved q w c m (applied c a) (applied (caps_at v q) a) (ap (λ x. applied x a) (caps_is q w c m)) (applied_is c a there e m.held);
@@ -172,3 +180,7 @@ module _ (uses : Uses) (v : Lists) (are : AreLists uses v) where
       lettered = λ q w c label there m good. lettered q w c m label (have.labels label there) good;
       returned = λ x q w u c k m n. record { keeps = m.keeps; set = m.set; is_set = m.is_set; held = n.held; is = ap₂ (pair v) (row_is x w c m) (column_is q u k n) };
     }
+
+    -- and by the least meaning
+    pub states_are_reached : AreStates v.policy spots (states_of v) (Reached v.policy spots (states_of v))
+    states_are_reached = are_reached v.policy spots (states_of v) (Means uses v) states_are

@@ -1,4 +1,5 @@
 -- The definitions.
+pub mod Below
 pub mod Growing
 pub mod Kept
 pub mod Rights

@@ -1,9 +1,17 @@
 //! Laws of the definitions: functions that do nothing, and whose contracts hold of every value.
 
-ghost use Rattle.cw_states.specs.Spots.{StatesAreThePolicys};
+ghost use Rattle.cw_states.specs.Below.{StatesStayBelow};
+ghost use Rattle.cw_states.specs.Spots.{StatesAreThePolicys, StatesAreThePolicysAsReached};
 
-/// The states are the policy's, for all positions whose opens, closes and labels the source has.
-#[tactic(auto, using(crate::proofs::Meaning::states_are))]
+/// The states are the policy's, for all positions whose opens, closes and labels the source has: where a state means
+/// what `Means` says, and so also where it means what it is reached by.
+#[tactic(auto, using(crate::proofs::Meaning::states_are, crate::proofs::Meaning::states_are_reached))]
 pub fn states_are_the_policys()
-    ensures { StatesAreThePolicys }
+    ensures means { StatesAreThePolicys }
+    ensures reached { StatesAreThePolicysAsReached }
+{}
+
+/// From states below the count each call leads to states below the count.
+pub fn states_stay_below()
+    ensures { StatesStayBelow }
 {}
