@@ -44,10 +44,12 @@ module _ (v : Lists) where
     column_below = mod_below q (length v.rights) rights_there
 
     caps_below : (c : Caps) → caps_place v c < length v.rights
-    caps_below c = place_below (λ x. eq_by_cmp caps_cmp x c) v.rights rights_there (start_caps v.policy) (position (λ x. eq_by_cmp caps_cmp x c) v.rights) refl
+    caps_below c =
+        place_below (λ x. eq_by_cmp caps_cmp x c) v.rights rights_there (start_caps v.policy) (position (λ x. eq_by_cmp caps_cmp x c) v.rights) refl
 
     set_below : (set : ℕ) → set_place v set < length v.sets
-    set_below set = place_below (λ x. nat_eq x set) v.sets (left_positive (length v.sets) (length v.rights) q l) 0 (position (λ x. nat_eq x set) v.sets) refl
+    set_below set =
+        place_below (λ x. nat_eq x set) v.sets (left_positive (length v.sets) (length v.rights) q l) 0 (position (λ x. nat_eq x set) v.sets) refl
 
 pub stay_below : (uses : Uses) (v : Lists) → AreLists uses v → StayBelow (states_of v)
 stay_below uses v are = record {

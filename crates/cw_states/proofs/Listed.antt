@@ -12,13 +12,16 @@ use Rattle.cw_states.specs.declared.order.Ranked.{Ranked}
 use Rattle.cw_states.specs.Rights.{caps_cmp}
 use Rattle.cw_states.specs.Growing.{all_caps}
 
-from_caps : (caps : Caps) (i : ℕ) (rights : List Ranked) → position_from (λ (r : Ranked). eq_by_cmp caps_cmp r.caps caps) i rights ≡ position_from (λ x. eq_by_cmp caps_cmp x caps) i (all_caps rights)
+from_caps : (caps : Caps) (i : ℕ) (rights : List Ranked)
+    → position_from (λ (r : Ranked). eq_by_cmp caps_cmp r.caps caps) i rights ≡ position_from (λ x. eq_by_cmp caps_cmp x caps) i (all_caps rights)
 from_caps caps i [] = refl
 from_caps caps i (r ∷ rights) = ap (λ o. cond (eq_by_cmp caps_cmp r.caps caps) (Some i) o) (from_caps caps (i + 1) rights)
 
-pub position_caps : (caps : Caps) (rights : List Ranked) → position (λ (r : Ranked). eq_by_cmp caps_cmp r.caps caps) rights ≡ position (λ x. eq_by_cmp caps_cmp x caps) (all_caps rights)
+pub position_caps : (caps : Caps) (rights : List Ranked)
+    → position (λ (r : Ranked). eq_by_cmp caps_cmp r.caps caps) rights ≡ position (λ x. eq_by_cmp caps_cmp x caps) (all_caps rights)
 position_caps caps rights =
-    position_from-zero (λ (r : Ranked). eq_by_cmp caps_cmp r.caps caps) rights ∙ from_caps caps 0 rights ∙ sym (position_from-zero (λ x. eq_by_cmp caps_cmp x caps) (all_caps rights))
+    position_from-zero (λ (r : Ranked). eq_by_cmp caps_cmp r.caps caps) rights ∙ from_caps caps 0 rights
+    ∙ sym (position_from-zero (λ x. eq_by_cmp caps_cmp x caps) (all_caps rights))
 
 -- the capabilities after an open, by the program's descriptors
 pub opened_is : (caps : Caps) (descriptors : List Descriptor) (d : ℕ)

@@ -44,7 +44,8 @@ module _ (rules : List PlainRule) (letters : List Letter) where
   nothing_kept : KeepsRules rules letters []
   nothing_kept = record { over = All-nil (Contains letters); fronts = λ m rule b. b.0 (take_all m [] (omega arith)) }
 
-  longer : (w : Word) (c : Letter) → KeepsRules rules letters w → Contains letters c → ((rule : ℕ) → Breaks rules (w ++ c ∷ []) rule → ⊥) → KeepsRules rules letters (w ++ c ∷ [])
+  longer : (w : Word) (c : Letter) → KeepsRules rules letters w → Contains letters c → ((rule : ℕ) → Breaks rules (w ++ c ∷ []) rule → ⊥)
+      → KeepsRules rules letters (w ++ c ∷ [])
   longer w c k l n = record { over = All-push (Contains letters) w c k.over l; fronts = λ m rule b. front m rule b (nat_lt (length w) m) refl }
     where
       front : (m rule : ℕ) → Breaks rules (take m (w ++ c ∷ [])) rule → (t : Bool) → nat_lt (length w) m ≡ t → ⊥
@@ -66,7 +67,8 @@ letter_below : (rights : List Caps) (c : Caps) (label n : ℕ) → label < n →
 letter_below rights c label zero l h = absurd (omega arith)
 letter_below rights c label (suc n) l h = by (nat_eq label n) refl (letter_below rights c label n)
   where
-    by : (b : Bool) → nat_eq label n ≡ b → (label < n → Contains rights c → Contains (letters_below n rights) (letter_of label c)) → Contains (letters_below (suc n) rights) (letter_of label c)
+    by : (b : Bool) → nat_eq label n ≡ b → (label < n → Contains rights c → Contains (letters_below n rights) (letter_of label c))
+        → Contains (letters_below (suc n) rights) (letter_of label c)
     by true e rec =
         Contains-append_right (letters_below n rights) (map (letter_of n) rights) (letter_of label c)
         (subst (λ m. Contains (map (letter_of m) rights) (letter_of label c)) (eqb-true label n e) (letter_in rights c label h))
@@ -114,13 +116,17 @@ module _ (uses : Uses) (v : Lists) (are : AreLists uses v) where
     column_is = ap (λ p. p % length v.rights) m.is ∙ mod-mul-add (set_place v m.set) (length v.rights) (caps_place v c) (column_below c m.held)
 
     caps_is : caps_at v q ≡ c
-    caps_is = ap (λ j. get_or v.rights j (start_caps v.policy)) column_is ∙ (caps_found v.rights c ((are.rights.1 c).1 m.held)).1 (start_caps v.policy)
+    caps_is =
+        ap (λ j. get_or v.rights j (start_caps v.policy)) column_is ∙ (caps_found v.rights c ((are.rights.1 c).1 m.held)).1 (start_caps v.policy)
 
     set_is : set_at v q ≡ m.set
     set_is = ap (λ i. slice_index v.sets i) row_is ∙ (number_found v.sets m.set (in_sets w m.set m.keeps m.is_set)).1 0
 
     below : q < count v
-    below = subst (λ p. p < count v) (sym m.is) (subst (λ n. pair v (set_place v m.set) (caps_place v c) < n) (mul_comm (length v.rights) (length v.sets)) (mul-add-lt (set_place v m.set) (length v.rights) (caps_place v c) (length v.sets) (number_found v.sets m.set (in_sets w m.set m.keeps m.is_set)).0 (column_below c m.held)))
+    below = subst (λ p. p < count v) (sym m.is)
+        (subst (λ n. pair v (set_place v m.set) (caps_place v c) < n) (mul_comm (length v.rights) (length v.sets))
+        (mul-add-lt (set_place v m.set) (length v.rights) (caps_place v c) (length v.sets)
+        (number_found v.sets m.set (in_sets w m.set m.keeps m.is_set)).0 (column_below c m.held)))
 
     -- the same word with other capabilities
     moved : (d x : Caps) → x ≡ d → Is d → Means uses v (with_caps v q x) w d
@@ -137,9 +143,11 @@ module _ (uses : Uses) (v : Lists) (are : AreLists uses v) where
         subst (λ s. IsVerdict rules (w ++ letter label ∷ []) (verdict rules 0 1 s)) (sym (after_is label))
         (verdict_is rules (w ++ letter label ∷ []) (next_of rules m.set (letter label)) (next_set rules w m.set (letter label) m.is_set))
 
-    lettered : (label : ℕ) → label < label_count v.policy uses → (IsBad v.policy (w ++ letter label ∷ []) → ⊥) → Means uses v (pair v (set_place v (set_after v q label)) (q % length v.rights)) (w ++ letter label ∷ []) c
+    lettered : (label : ℕ) → label < label_count v.policy uses → (IsBad v.policy (w ++ letter label ∷ []) → ⊥)
+        → Means uses v (pair v (set_place v (set_after v q label)) (q % length v.rights)) (w ++ letter label ∷ []) c
     lettered label l good = record {
-      keeps = longer rules letters w (letter label) m.keeps (letter_below v.rights c label (label_count v.policy uses) l ((are.rights.1 c).1 m.held)) (λ rule b. good (rule, b));
+      keeps = longer rules letters w (letter label) m.keeps
+          (letter_below v.rights c label (label_count v.policy uses) l ((are.rights.1 c).1 m.held)) (λ rule b. good (rule, b));
       set = next_of rules m.set (letter label);
       is_set = next_set rules w m.set (letter label) m.is_set;
       held = m.held;
@@ -170,15 +178,24 @@ module _ (uses : Uses) (v : Lists) (are : AreLists uses v) where
       begins = begins;
       within = λ q w c m. below q w c m;
       grants = λ q w c a there m. ap (λ x. may_grant x a) (caps_is q w c m);
-      granted = λ q w c a there m e. moved q w c m (applied c a) (applied (caps_at v q) a) (ap (λ x. applied x a) (caps_is q w c m)) (applied_is c a there e m.held);
-      opened = λ q w c d o l m. let x = slice_get v.policy.descriptors d in moved q w c m (with_opened c d x) (with_opened (caps_at v q) d x) (ap (λ y. with_opened y d x) (caps_is q w c m)) (opened_is c d o m.held);
-      closed = λ q w c d o l m. moved q w c m (closed c d) (closed (caps_at v q) d) (ap (λ y. closed y d) (caps_is q w c m)) (by_close c d (have.closes d o) m.held);
+      granted = λ q w c a there m e.
+          moved q w c m (applied c a) (applied (caps_at v q) a) (ap (λ x. applied x a) (caps_is q w c m)) (applied_is c a there e m.held);
+      opened = λ q w c d o l m. let x = slice_get v.policy.descriptors d in
+          moved q w c m (with_opened c d x) (with_opened (caps_at v q) d x) (ap (λ y. with_opened y d x) (caps_is q w c m)) (opened_is c d o m.held);
+      closed = λ q w c d o l m.
+          moved q w c m (closed c d) (closed (caps_at v q) d) (ap (λ y. closed y d) (caps_is q w c m)) (by_close c d (have.closes d o) m.held);
       bad = λ q w c label there m. (
         verdict_bad rules (w ++ letter_of label c ∷ []) (verdict rules 0 1 (set_after v q label)) (verdict_after q w c m label),
         bad_verdict rules (w ++ letter_of label c ∷ []) (verdict rules 0 1 (set_after v q label)) (verdict_after q w c m label),
       );
       lettered = λ q w c label there m good. lettered q w c m label (have.labels label there) good;
-      returned = λ x q w u c k m n. record { keeps = m.keeps; set = m.set; is_set = m.is_set; held = n.held; is = ap₂ (pair v) (row_is x w c m) (column_is q u k n) };
+      returned = λ x q w u c k m n. record {
+        keeps = m.keeps;
+        set = m.set;
+        is_set = m.is_set;
+        held = n.held;
+        is = ap₂ (pair v) (row_is x w c m) (column_is q u k n);
+      };
     }
 
     -- and by the least meaning

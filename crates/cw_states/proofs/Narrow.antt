@@ -18,12 +18,15 @@ narrow policy v =
     let few = v.few_descriptors in
     record {
       descriptors = v.few_descriptors;
-      limits = All-weaker (IsLimitWithin (length policy.descriptors)) (λ limit. limit.descriptor < 8) (λ limit w. let l = w.0 in omega arith) policy.limits v.limits;
+      limits =
+          All-weaker (IsLimitWithin (length policy.descriptors)) (λ limit. limit.descriptor < 8)
+          (λ limit w. let l = w.0 in omega arith) policy.limits v.limits;
     }
 
 limit_in_map : (limits : List ALimit) (limit : ALimit) → Contains (map (λ limit. Limit limit) limits) (Limit limit) → Contains limits limit
 limit_in_map [] limit h = absurd (contains_none (Limit limit) h)
-limit_in_map (x ∷ xs) limit h = ⊎_elim (λ h. here (contains_one (Limit x) (Limit limit) h)) (λ h. Contains-append_right (x ∷ []) xs limit (limit_in_map xs limit h))
+limit_in_map (x ∷ xs) limit h =
+    ⊎_elim (λ h. here (contains_one (Limit x) (Limit limit) h)) (λ h. Contains-append_right (x ∷ []) xs limit (limit_in_map xs limit h))
     (Contains-append_cases (Limit x ∷ []) (map (λ limit. Limit limit) xs) (Limit limit) h)
   where
     here : Limit x ≡ Limit limit → Contains (x ∷ xs) limit
@@ -35,7 +38,9 @@ limit_of policy limit h = ⊎_elim (λ h. limit_in_map policy.limits limit h) (�
     (Contains-append_cases (map (λ limit. Limit limit) policy.limits) (Enter ∷ Split ∷ []) (Limit limit) h)
   where
     neither : Contains (Enter ∷ Split ∷ []) (Limit limit) → ⊥
-    neither h = ⊎_elim (λ h. let e = contains_one Enter (Limit limit) h in cc) (λ h. let e = contains_one Split (Limit limit) h in cc) (Contains-append_cases (Enter ∷ []) (Split ∷ []) (Limit limit) h)
+    neither h =
+        ⊎_elim (λ h. let e = contains_one Enter (Limit limit) h in cc) (λ h. let e = contains_one Split (Limit limit) h in cc)
+        (Contains-append_cases (Enter ∷ []) (Split ∷ []) (Limit limit) h)
 
 pub below_eight : (policy : PlainPolicy) (a : Primitive) → IsNarrow policy → Contains (primitives policy true) a → IsDescriptorBelow 8 a
 below_eight policy (Limit limit) n h = All-contains (λ limit. limit.descriptor < 8) policy.limits limit n.limits (limit_of policy limit h)

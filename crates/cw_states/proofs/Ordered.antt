@@ -48,7 +48,8 @@ same_caps a b g h d e = cc
 
 pub caps_exact : IsAntisymmetric caps_cmp
 caps_exact x y e =
-    let both = both_equal (nat_cmp (mode_number x.amb) (mode_number y.amb)) (slice_cmp nat_cmp (map hold_number x.holds) (map hold_number y.holds)) e in
+    let both =
+    both_equal (nat_cmp (mode_number x.amb) (mode_number y.amb)) (slice_cmp nat_cmp (map hold_number x.holds) (map hold_number y.holds)) e in
     same_caps x.amb y.amb x.holds y.holds (same_mode x.amb y.amb (nat_cmp-IsAntisymmetric (mode_number x.amb) (mode_number y.amb) both.0))
     (same_holds x.holds y.holds (slice_cmp-IsAntisymmetric nat_cmp-IsAntisymmetric (map hold_number x.holds) (map hold_number y.holds) both.1))
 
@@ -56,4 +57,5 @@ pub ranked_exact : IsAntisymmetric (on (λ (r : Ranked). r.caps) caps_cmp)
 ranked_exact x y e = ap ranked (caps_exact x.caps y.caps e)
 
 pub caps_total : IsTotalOrder caps_cmp
-caps_total = then_total (on_total (λ (c : Caps). mode_number c.amb) nat_cmp_total) (on_total (λ (c : Caps). map hold_number c.holds) nat_list_cmp_total)
+caps_total =
+    then_total (on_total (λ (c : Caps). mode_number c.amb) nat_cmp_total) (on_total (λ (c : Caps). map hold_number c.holds) nat_list_cmp_total)

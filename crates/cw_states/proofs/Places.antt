@@ -37,7 +37,8 @@ module _ {A : Type 0} (test : A → Bool) where
       by true e c rec = (0, ap (λ b. cond b (Some i) (position_from test (i + 1) ys)) e ∙ ap Some first, omega arith, λ d. e)
       by false e c rec = ⊎_elim (λ h. let z : true ≡ false = sym t ∙ ap test (sym (contains_one y x h)) ∙ e in absurd (cc)) (λ h. later (rec h) e) c
 
-  pub found : (xs : List A) (x : A) → Contains xs x → test x ≡ true → (j : ℕ) × (unwrap_or (position test xs) 0 ≡ j) × (j < length xs) × ((d : A) → test (get_or xs j d) ≡ true)
+  pub found : (xs : List A) (x : A) → Contains xs x → test x ≡ true → (j : ℕ) × (unwrap_or (position test xs) 0 ≡ j) × (j < length xs)
+      × ((d : A) → test (get_or xs j d) ≡ true)
   found xs x h t =
       let f = from_found 0 xs x h t in
       let e : 0 + f.0 ≡ f.0 = omega arith in
@@ -49,15 +50,20 @@ at_equal Less e = cc
 at_equal Equal e = refl
 at_equal Greater e = cc
 
-pub caps_found : (xs : List Caps) (c : Caps) → Contains xs c → (unwrap_or (position (λ x. eq_by_cmp caps_cmp x c) xs) 0 < length xs) × ((d : Caps) → get_or xs (unwrap_or (position (λ x. eq_by_cmp caps_cmp x c) xs) 0) d ≡ c)
+pub caps_found : (xs : List Caps) (c : Caps) → Contains xs c → (unwrap_or (position (λ x. eq_by_cmp caps_cmp x c) xs) 0 < length xs)
+    × ((d : Caps) → get_or xs (unwrap_or (position (λ x. eq_by_cmp caps_cmp x c) xs) 0) d ≡ c)
 caps_found xs c h =
-    let f = found (λ x. eq_by_cmp caps_cmp x c) xs c h (ap is_eq (tied_itself caps_total c)) in
-    (subst (λ j. j < length xs) (sym f.1) f.2, λ d. ap (λ j. get_or xs j d) f.1 ∙ caps_exact (get_or xs f.0 d) c (at_equal (caps_cmp (get_or xs f.0 d) c) (f.3 d)))
+    let f = found (λ x. eq_by_cmp caps_cmp x c) xs c h (ap is_eq (tied_itself caps_total c)) in (
+      subst (λ j. j < length xs) (sym f.1) f.2,
+      λ d. ap (λ j. get_or xs j d) f.1
+          ∙ caps_exact (get_or xs f.0 d) c (at_equal (caps_cmp (get_or xs f.0 d) c) (f.3 d)),
+    )
 
 same_nat : (q : ℕ) → nat_eq q q ≡ true
 same_nat q = grind (arith, nat_tests)
 
-pub number_found : (xs : List ℕ) (q : ℕ) → Contains xs q → (unwrap_or (position (λ x. nat_eq x q) xs) 0 < length xs) × ((d : ℕ) → get_or xs (unwrap_or (position (λ x. nat_eq x q) xs) 0) d ≡ q)
+pub number_found : (xs : List ℕ) (q : ℕ) → Contains xs q → (unwrap_or (position (λ x. nat_eq x q) xs) 0 < length xs)
+    × ((d : ℕ) → get_or xs (unwrap_or (position (λ x. nat_eq x q) xs) 0) d ≡ q)
 number_found xs q h =
     let f = found (λ x. nat_eq x q) xs q h (same_nat q) in
     (subst (λ j. j < length xs) (sym f.1) f.2, λ d. ap (λ j. get_or xs j d) f.1 ∙ eqb-true (get_or xs f.0 d) q (f.3 d))
@@ -66,24 +72,32 @@ both_true : (a b : Bool) → (a && b) ≡ true → (a ≡ true) × (b ≡ true)
 both_true true b e = (refl, e)
 both_true false b e = cc
 
-same_limit : (d n k l : ℕ) → d ≡ n → k ≡ l → (◌≡◌ {A = ALimit} (record { descriptor = d; keep = record { 0 = k } }) (record { descriptor = n; keep = record { 0 = l } }))
+same_limit : (d n k l : ℕ) → d ≡ n → k ≡ l
+    → (◌≡◌ {A = ALimit} (record { descriptor = d; keep = record { 0 = k } }) (record { descriptor = n; keep = record { 0 = l } }))
 same_limit d n k l e f = cc
 
 limit_is : (limit x : ALimit) → is_limit limit x ≡ true → x ≡ limit
 limit_is limit x e =
     let both = both_true (nat_eq x.descriptor limit.descriptor) (nat_eq x.keep.0 limit.keep.0) e in
-    same_limit x.descriptor limit.descriptor x.keep.0 limit.keep.0 (eqb-true x.descriptor limit.descriptor both.0) (eqb-true x.keep.0 limit.keep.0 both.1)
+    same_limit x.descriptor limit.descriptor x.keep.0 limit.keep.0 (eqb-true x.descriptor limit.descriptor both.0)
+    (eqb-true x.keep.0 limit.keep.0 both.1)
 
 true_both : (a b : Bool) → a ≡ true → b ≡ true → (a && b) ≡ true
 true_both true b e f = f
 true_both false b e f = cc
 
 is_itself : (limit : ALimit) → is_limit limit limit ≡ true
-is_itself limit = true_both (nat_eq limit.descriptor limit.descriptor) (nat_eq limit.keep.0 limit.keep.0) (same_nat limit.descriptor) (same_nat limit.keep.0)
+is_itself limit =
+    true_both (nat_eq limit.descriptor limit.descriptor) (nat_eq limit.keep.0 limit.keep.0) (same_nat limit.descriptor) (same_nat limit.keep.0)
 
 -- a limit that is there has a place, and stands there
-pub limit_found : (limits : List ALimit) (limit : ALimit) (o : Option ℕ) → o ≡ position (is_limit limit) limits → Contains limits limit → (i : ℕ) × (o ≡ Some i) × (slice_get limits i ≡ Some limit)
+pub limit_found : (limits : List ALimit) (limit : ALimit) (o : Option ℕ) → o ≡ position (is_limit limit) limits → Contains limits limit → (i : ℕ)
+    × (o ≡ Some i) × (slice_get limits i ≡ Some limit)
 limit_found limits limit o e h =
     let f = from_found (is_limit limit) 0 limits limit h (is_itself limit) in
-    let z : 0 + f.0 ≡ f.0 = omega arith in
-    (f.0, e ∙ position_from-zero (is_limit limit) limits ∙ f.1 ∙ ap Some z, slice_get-get_or limits f.0 limit f.2 ∙ ap Some (limit_is limit (get_or limits f.0 limit) (f.3 limit)))
+    let z : 0 + f.0 ≡ f.0 = omega arith in (
+      f.0,
+      e ∙ position_from-zero (is_limit limit) limits ∙ f.1 ∙ ap Some z,
+      slice_get-get_or limits f.0 limit f.2
+          ∙ ap Some (limit_is limit (get_or limits f.0 limit) (f.3 limit)),
+    )

@@ -37,8 +37,10 @@ module _ {A : Type 0} (f : ℕ → A) where
           get_or_append_left (tabled f n) (f n ∷ []) d i within ∙ rec below
 
 -- the column at a place, among columns that are these lists
-pub column_at : (columns : List (Vec ℕ Global)) (lists : List (List ℕ)) (i : ℕ) (x : Vec ℕ Global) → all_items columns ≡ lists → i < length columns → x ≡ get_or columns i x → x.items ≡ get_or lists i []
-column_at columns lists i x e l at = ap (λ (column : Vec ℕ Global). column.items) at ∙ sym (get_or-map (λ (column : Vec ℕ Global). column.items) columns i x [] l) ∙ ap (λ y. get_or y i []) e
+pub column_at : (columns : List (Vec ℕ Global)) (lists : List (List ℕ)) (i : ℕ) (x : Vec ℕ Global) → all_items columns ≡ lists → i < length columns
+    → x ≡ get_or columns i x → x.items ≡ get_or lists i []
+column_at columns lists i x e l at = ap (λ (column : Vec ℕ Global). column.items) at
+    ∙ sym (get_or-map (λ (column : Vec ℕ Global). column.items) columns i x [] l) ∙ ap (λ y. get_or y i []) e
 
 pub columns_length : (columns : List (Vec ℕ Global)) (lists : List (List ℕ)) → all_items columns ≡ lists → length columns ≡ length lists
 columns_length columns lists e = sym (length-map columns (λ (column : Vec ℕ Global). column.items)) ∙ ap length e
@@ -52,7 +54,8 @@ looked_in all i j n f l e within =
     let size : length (get_or all i []) ≡ n = ap length e ∙ tabled_length f n in
     (l, omega (arith, size, within), ap (λ xs. get_or xs j 0) e ∙ tabled_at f n j 0 within)
 
-looked_tabled : (g : ℕ → ℕ → ℕ) (n : ℕ) (all : List (List ℕ)) (m i j : ℕ) → all ≡ tabled (λ d. tabled (g d) n) m → i < m → j < n → Looked all i j (g i j)
+looked_tabled : (g : ℕ → ℕ → ℕ) (n : ℕ) (all : List (List ℕ)) (m i j : ℕ) → all ≡ tabled (λ d. tabled (g d) n) m → i < m → j < n
+    → Looked all i j (g i j)
 looked_tabled g n all m i j e l within =
     let size : length all ≡ m = ap length e ∙ tabled_length (λ d. tabled (g d) n) m in
     looked_in all i j n (g i) (omega (arith, size, l)) (ap (λ (y : List (List ℕ)). get_or y i []) e ∙ tabled_at (λ d. tabled (g d) n) m i [] l) within
@@ -63,17 +66,20 @@ seen_in f n xs j e l =
     (omega (arith, size, l), ap (λ ys. get_or ys j 0) e ∙ tabled_at f n j 0 l)
 
 module _ (v : Lists) where
-  pub looked : (act : ℕ → Act) (all : List (List ℕ)) (m i j : ℕ) → all ≡ tabled (λ d. places_after v (act d)) m → i < m → j < length v.rights → Looked all i j (place_after v (act i) j)
+  pub looked : (act : ℕ → Act) (all : List (List ℕ)) (m i j : ℕ) → all ≡ tabled (λ d. places_after v (act d)) m → i < m → j < length v.rights
+      → Looked all i j (place_after v (act i) j)
   looked act all m i j e l within = looked_tabled (λ d. place_after v (act d)) (length v.rights) all m i j e l within
 
-  pub looked_limit : (all : List (List ℕ)) (limit : ALimit) (i j : ℕ) → all ≡ map (λ (limit : ALimit). places_after v (Granted (Limit limit))) v.policy.limits
+  pub looked_limit : (all : List (List ℕ)) (limit : ALimit) (i j : ℕ)
+      → all ≡ map (λ (limit : ALimit). places_after v (Granted (Limit limit))) v.policy.limits
       → slice_get v.policy.limits i ≡ Some limit → j < length v.rights → Looked all i j (place_after v (Granted (Limit limit)) j)
   looked_limit all limit i j e at within =
       let f : ALimit → List ℕ = λ limit. places_after v (Granted (Limit limit)) in
       let l = slice_get_within v.policy.limits i limit at in
       let size : length all ≡ length v.policy.limits = ap length e ∙ length-map v.policy.limits f in
       looked_in all i j (length v.rights) (place_after v (Granted (Limit limit))) (omega (arith, size, l))
-      (ap (λ (y : List (List ℕ)). get_or y i []) e ∙ get_or-map f v.policy.limits i limit [] l ∙ ap f (get_or_from_slice_get v.policy.limits i limit limit at)) within
+      (ap (λ (y : List (List ℕ)). get_or y i []) e ∙ get_or-map f v.policy.limits i limit [] l
+      ∙ ap f (get_or_from_slice_get v.policy.limits i limit limit at)) within
 
   pub looked_entry : (all : List (List ℕ)) (m i q : ℕ) → all ≡ tabled (entries v) m → i < m → q < count v → Looked all i q (entry v i q)
   looked_entry all m i q e l within = looked_tabled (entry v) (count v) all m i q e l within
@@ -83,29 +89,40 @@ module _ (inside now : Held) (same : inside ≡ now) (t : Tables) (tables : AreT
   are : AreTables (lists_of now) t
   are = subst (λ (h : Held). AreTables (lists_of h) t) same tables
 
-  pub entered_seen : (places : List ℕ) (j : ℕ) → places ≡ t.entered.items → j < length now.rights → (j < length places) × (get_or places j 0 ≡ place_after (lists_of now) (Granted Enter) j)
+  pub entered_seen : (places : List ℕ) (j : ℕ) → places ≡ t.entered.items → j < length now.rights → (j < length places)
+      × (get_or places j 0 ≡ place_after (lists_of now) (Granted Enter) j)
   entered_seen places j e l = seen_in (place_after (lists_of now) (Granted Enter)) (length now.rights) places j (e ∙ are.entered) l
 
-  pub split_seen : (places : List ℕ) (j : ℕ) → places ≡ t.split.items → j < length now.rights → (j < length places) × (get_or places j 0 ≡ place_after (lists_of now) (Granted Split) j)
+  pub split_seen : (places : List ℕ) (j : ℕ) → places ≡ t.split.items → j < length now.rights → (j < length places)
+      × (get_or places j 0 ≡ place_after (lists_of now) (Granted Split) j)
   split_seen places j e l = seen_in (place_after (lists_of now) (Granted Split)) (length now.rights) places j (e ∙ are.split) l
 
-  pub limited_seen : (columns : List (Vec ℕ Global)) (limit : ALimit) (i j : ℕ) → columns ≡ t.limited.items → slice_get (lists_of now).policy.limits i ≡ Some limit → j < length now.rights
+  pub limited_seen : (columns : List (Vec ℕ Global)) (limit : ALimit) (i j : ℕ) → columns ≡ t.limited.items
+      → slice_get (lists_of now).policy.limits i ≡ Some limit → j < length now.rights
       → Looked (all_items columns) i j (place_after (lists_of now) (Granted (Limit limit)) j)
   limited_seen columns limit i j e at l = looked_limit (lists_of now) (all_items columns) limit i j (ap all_items e ∙ are.limited) at l
 
   below : (d : ℕ) → d < length now.policy.descriptors.items → d < length (lists_of now).policy.descriptors
   below d l = let n = length-map now.policy.descriptors.items descriptor_of in omega (arith, n, l)
 
-  pub opened_seen : (columns : List (Vec ℕ Global)) (d j : ℕ) → columns ≡ t.opened.items → d < length now.policy.descriptors.items → j < length now.rights
+  pub opened_seen : (columns : List (Vec ℕ Global)) (d j : ℕ) → columns ≡ t.opened.items → d < length now.policy.descriptors.items
+      → j < length now.rights
       → Looked (all_items columns) d j (place_after (lists_of now) (Opened d) j)
-  opened_seen columns d j e l within = looked (lists_of now) (λ d. Opened d) (all_items columns) (length (lists_of now).policy.descriptors) d j (ap all_items e ∙ are.opened) (below d l) within
+  opened_seen columns d j e l within =
+      looked (lists_of now) (λ d. Opened d) (all_items columns) (length (lists_of now).policy.descriptors) d j (ap all_items e
+      ∙ are.opened) (below d l) within
 
-  pub closed_seen : (columns : List (Vec ℕ Global)) (d j : ℕ) → columns ≡ t.closed.items → d < length now.policy.descriptors.items → j < length now.rights
+  pub closed_seen : (columns : List (Vec ℕ Global)) (d j : ℕ) → columns ≡ t.closed.items → d < length now.policy.descriptors.items
+      → j < length now.rights
       → Looked (all_items columns) d j (place_after (lists_of now) (Closed d) j)
-  closed_seen columns d j e l within = looked (lists_of now) (λ d. Closed d) (all_items columns) (length (lists_of now).policy.descriptors) d j (ap all_items e ∙ are.closed) (below d l) within
+  closed_seen columns d j e l within =
+      looked (lists_of now) (λ d. Closed d) (all_items columns) (length (lists_of now).policy.descriptors) d j (ap all_items e
+      ∙ are.closed) (below d l) within
 
-  pub entry_seen : (columns : List (Vec ℕ Global)) (label q : ℕ) → columns ≡ t.lettered.items → label ≤ length now.policy.labels.items → q < count (lists_of now)
+  pub entry_seen : (columns : List (Vec ℕ Global)) (label q : ℕ) → columns ≡ t.lettered.items → label ≤ length now.policy.labels.items
+      → q < count (lists_of now)
       → Looked (all_items columns) label q (entry (lists_of now) label q)
   entry_seen columns label q e l within =
       let n = length-map now.policy.labels.items (λ (name : Vec ℕ Global). name.items) in
-      looked_entry (lists_of now) (all_items columns) (length (lists_of now).policy.labels + 1) label q (ap all_items e ∙ are.lettered) (omega (arith, n, l)) within
+      looked_entry (lists_of now) (all_items columns) (length (lists_of now).policy.labels + 1) label q (ap all_items e
+      ∙ are.lettered) (omega (arith, n, l)) within

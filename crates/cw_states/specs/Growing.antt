@@ -46,7 +46,8 @@ after_close false d caps = []
 abbrev pub after_held : Uses → List PlainDescriptor → ℕ → Caps → List Ranked
 after_held uses [] d caps = []
 after_held uses (descriptor ∷ rest) d caps =
-    after_open descriptor.number descriptor.rights d caps ++ (after_close (is_closed descriptor.number (slice_get uses.closes d)) d caps ++ after_held uses rest (d + 1) caps)
+    after_open descriptor.number descriptor.rights d caps
+    ++ (after_close (is_closed descriptor.number (slice_get uses.closes d)) d caps ++ after_held uses rest (d + 1) caps)
 
 abbrev pub after : PlainPolicy → Uses → Caps → List Ranked
 after policy uses caps = ranked (applied caps Enter) ∷ (after_limits caps policy.limits ++ after_held uses policy.descriptors 0 caps)

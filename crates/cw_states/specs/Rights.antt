@@ -20,7 +20,8 @@ IsVariable policy d descriptor = (slice_get policy.descriptors d ≡ Some descri
 -- a variable of the policy, or a number of it that the source closes
 abbrev pub MayClose : PlainPolicy → Uses → ℕ → Type 0
 MayClose policy uses d =
-    (descriptor : PlainDescriptor) × (slice_get policy.descriptors d ≡ Some descriptor) × ((descriptor.number ≡ None) ⊎ (slice_get uses.closes d ≡ Some true))
+    (descriptor : PlainDescriptor) × (slice_get policy.descriptors d ≡ Some descriptor)
+    × ((descriptor.number ≡ None) ⊎ (slice_get uses.closes d ≡ Some true))
 
 -- The least set of capabilities that has the start and is closed under enter, each allowed limit, each open and each close of a variable,
 -- and each close of a number that the source closes.

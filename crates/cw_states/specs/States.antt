@@ -116,5 +116,6 @@ IsCause policy uses TooManyWords =
     (rights : List Caps) × Exactly caps_cmp (IsRightsState policy uses) rights × (length rights ≤ 128)
     × HasMore nat_cmp (Reached policy.rules (letters_of policy uses rights)) 64
 IsCause policy uses TooManyStates =
-    (v : Lists) × (v.policy ≡ policy) × AreLists uses v × (length v.rights ≤ 128) × (length v.sets ≤ 64) × (limit_in policy.format ProductStates < count v)
+    (v : Lists) × (v.policy ≡ policy) × AreLists uses v × (length v.rights ≤ 128) × (length v.sets ≤ 64)
+    × (limit_in policy.format ProductStates < count v)
 IsCause policy uses NoMemory = Unit {0}

@@ -17,7 +17,8 @@ returns c =
     let limits : c.deref.result.now ≡ v.policy.limits = c.deref.ensures.value ∙ ap (λ (p : Policy). p.limits.items) same in
     let size : length policy.descriptors.items ≡ length v.policy.descriptors =
     ap (λ (p : Policy). length p.descriptors.items) same ∙ sym (length-map c.args.pairs.now.policy.descriptors.items descriptor_of) in
-    let labels : length policy.labels.items ≡ length v.policy.labels = sym (length-map policy.labels.items (λ name. name.items)) ∙ ap (λ (p : Policy). length (policy_of p).labels) same in
+    let labels : length policy.labels.items ≡ length v.policy.labels =
+    sym (length-map policy.labels.items (λ name. name.items)) ∙ ap (λ (p : Policy). length (policy_of p).labels) same in
     let first : c.len.result ≡ length policy.descriptors.items = search rules in
     let second : c.len-2.result ≡ length policy.descriptors.items = search rules in
     let third : c.len-3.result ≡ length policy.labels.items = search rules in

@@ -19,7 +19,9 @@ returns-then-len-most-clause-cause c =
     let v : Lists = record { policy = policy; rights = all_caps c.in-Some.rights.items; sets = sets } in
     let letters : c.deref-2.result.now ≡ letters_of policy c.args.uses v.rights =
     c.deref-2.ensures.value ∙ c.in_ok-letters.ensures ∙ ap (λ states. letters_of policy c.args.uses (all_caps states)) c.deref.ensures.value in
-    let over_letters = subst (λ (rules : List Rule). Exactly nat_cmp (Reached (rules_in rules) c.deref-2.result.now) sets) c.rules_of-rules.ensures c.in_ok-sets.ensures.all in
+    let over_letters =
+    subst (λ (rules : List Rule). Exactly nat_cmp (Reached (rules_in rules) c.deref-2.result.now) sets) c.rules_of-rules.ensures
+    c.in_ok-sets.ensures.all in
     let all = subst (λ (letters : List Letter). Exactly nat_cmp (Reached policy.rules letters) sets) letters over_letters in
     let lists : AreLists c.args.uses v = record { rights = search rules; sets = all } in
     let n = length-map c.in-Some.rights.items (λ (state : Ranked). state.caps) in

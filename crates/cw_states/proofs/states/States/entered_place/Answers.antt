@@ -3,7 +3,12 @@ use Rattle.cw_states.proofs.Tabled.{entered_seen}
 use Rattle.cw_states.proofs.states.States.entered_place.Goals as goal
 
 pub read-requires : goal.read-requires
-read-requires c = (entered_seen c.self.inside.pairs c.args.self.now c.self.view_is c.self.inside.tables c.self.invariant c.deref.result.now c.args.column c.deref.ensures.value c.requires.column).0
+read-requires c =
+    (entered_seen c.self.inside.pairs c.args.self.now c.self.view_is c.self.inside.tables c.self.invariant c.deref.result.now c.args.column
+    c.deref.ensures.value c.requires.column).0
 
 pub returns : goal.returns
-returns c = c.read.ensures ∙ (entered_seen c.self.inside.pairs c.args.self.now c.self.view_is c.self.inside.tables c.self.invariant c.deref.result.now c.args.column c.deref.ensures.value c.requires.column).1
+returns c =
+    c.read.ensures
+    ∙ (entered_seen c.self.inside.pairs c.args.self.now c.self.view_is c.self.inside.tables c.self.invariant c.deref.result.now c.args.column
+    c.deref.ensures.value c.requires.column).1

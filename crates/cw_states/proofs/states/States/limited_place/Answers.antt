@@ -3,10 +3,17 @@ use Rattle.cw_states.proofs.Tabled.{limited_seen}
 use Rattle.cw_states.proofs.states.States.limited_place.Goals as goal
 
 pub look-requires-clause-column : goal.look-requires-clause-column
-look-requires-clause-column c = (limited_seen c.self.inside.pairs c.args.self.now c.self.view_is c.self.inside.tables c.self.invariant c.deref.result.now c.args.limit c.limit_place-place.result c.args.column c.deref.ensures.value (rw c.self.view_is at c.limit_place-place.ensures) c.requires.column).0
+look-requires-clause-column c =
+    (limited_seen c.self.inside.pairs c.args.self.now c.self.view_is c.self.inside.tables c.self.invariant c.deref.result.now c.args.limit
+    c.limit_place-place.result c.args.column c.deref.ensures.value (rw c.self.view_is at c.limit_place-place.ensures) c.requires.column).0
 
 pub look-requires-clause-place : goal.look-requires-clause-place
-look-requires-clause-place c = (limited_seen c.self.inside.pairs c.args.self.now c.self.view_is c.self.inside.tables c.self.invariant c.deref.result.now c.args.limit c.limit_place-place.result c.args.column c.deref.ensures.value (rw c.self.view_is at c.limit_place-place.ensures) c.requires.column).1
+look-requires-clause-place c =
+    (limited_seen c.self.inside.pairs c.args.self.now c.self.view_is c.self.inside.tables c.self.invariant c.deref.result.now c.args.limit
+    c.limit_place-place.result c.args.column c.deref.ensures.value (rw c.self.view_is at c.limit_place-place.ensures) c.requires.column).1
 
 pub returns : goal.returns
-returns c = c.look.ensures ∙ (limited_seen c.self.inside.pairs c.args.self.now c.self.view_is c.self.inside.tables c.self.invariant c.deref.result.now c.args.limit c.limit_place-place.result c.args.column c.deref.ensures.value (rw c.self.view_is at c.limit_place-place.ensures) c.requires.column).2
+returns c =
+    c.look.ensures
+    ∙ (limited_seen c.self.inside.pairs c.args.self.now c.self.view_is c.self.inside.tables c.self.invariant c.deref.result.now c.args.limit
+    c.limit_place-place.result c.args.column c.deref.ensures.value (rw c.self.view_is at c.limit_place-place.ensures) c.requires.column).2
