@@ -1,0 +1,40 @@
+-- What lines are made of: words with a mark between each two, numbers and sets as words.
+use Rattle.std.specs.Prelude.{◌≡◌, ◌≢◌, ℕ, ◌==◌, Bool, false, if◌then◌else◌, List, ◌∷◌, ◌++◌, codes, Option, IfSome, IfNone}
+use Rattle.std.specs.List.{All, join_with_byte, slice_split}
+use Rattle.cw_core.specs.Numerals.{hexadecimal}
+use Rattle.cw_core.specs.Ranges.{set_spelling}
+use Rattle.cw_core.specs.StateSet.{IsBelow}
+
+-- the mark isn't among the bytes
+abbrev pub IsFree : (mark : ℕ) → List ℕ → Type 0
+IsFree mark bytes = All (λ byte. (byte == mark) ≡ false) bytes
+
+-- words in a row, with a mark between each two
+abbrev pub joined : (mark : ℕ) → List (List ℕ) → List ℕ
+joined mark words = join_with_byte mark words
+
+-- what stands between the marks of a text; one word where it has none
+abbrev pub words_of : (mark : ℕ) → List ℕ → List (List ℕ)
+words_of mark text = slice_split (λ byte. byte == mark) text
+
+-- a line ends with LF
+abbrev pub line : List ℕ → List ℕ
+line text = text ++ codes "\n"
+
+-- How a text of a format spells a set: in format 1 as hexadecimal; in format 2 as ranges where that is shorter.
+unfoldable pub set_text : (format set : ℕ) → List ℕ
+set_text format set = if format == 2 then set_spelling set else hexadecimal set
+
+-- In a text of format 1 a set has numbers below 512, in one of format 2 below 1,024.
+abbrev pub IsSetIn : (format set : ℕ) → Type 0
+IsSetIn format set = IsBelow (if format == 2 then 1024 else 512) set
+
+-- the value that fits and whose text the word is; none where the word is the text of none that fits
+pub record Reads {A : Type 0} (Fits : A → Type 0) (text_of : A → List ℕ) (word : List ℕ) (result : Option A) : Type 0 where
+  pub some : IfSome result (λ value. Fits value × (text_of value ≡ word))
+  pub none : IfNone result ((value : A) → Fits value → text_of value ≢ word)
+
+-- the same of the first of some words, which is taken
+pub record Takes {A : Type 0} (Fits : A → Type 0) (text_of : A → List ℕ) (old new : List (List ℕ)) (result : Option A) : Type 0 where
+  pub some : IfSome result (λ value. Fits value × (old ≡ text_of value ∷ new))
+  pub none : IfNone result ((value : A) (rest : List (List ℕ)) → Fits value → old ≢ text_of value ∷ rest)

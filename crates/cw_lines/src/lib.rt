@@ -1,0 +1,15 @@
+//! Texts made of lines: where a line ends, the words of a line, numbers and sets as words, and the faults that a
+//! reader of such a text answers.
+#![tactic(auto)]
+
+mod cutting;
+mod fault;
+mod field;
+mod sets;
+mod words;
+
+pub use cutting::{cut, next_line};
+pub use fault::TextFault;
+pub use field::{number_of, set_of};
+pub use sets::put_set;
+pub use words::Words;
