@@ -1,14 +1,12 @@
 -- Words that are the text of a number or of a set.
-use Rattle.std.proofs.Common.{◌≡◌, ◌≢◌, ℕ, ◌+◌, ◌^◌, ◌<◌, ◌≤◌, ◌⊎◌, Bool, true, false, cond, List, [], ◌∷◌, ◌++◌, length, take, drop, refl, sym, ap, subst, ◌∙◌, arith, append-nil, inl, inr}
-use Rattle.std.specs.Char.{is_ascii_digit}
+use Rattle.std.proofs.Common.{◌≡◌, ◌≢◌, ℕ, ◌+◌, ◌^◌, ◌<◌, ◌≤◌, ◌⊎◌, Bool, cond, List, [], ◌++◌, length, refl, sym, ap, subst, ◌∙◌, arith, append-nil, inl, inr}
 use Rattle.std.specs.Fmt.{decimal}
-use Rattle.std.specs.List.{take_while}
-use Rattle.std.specs.Prelude.{Option, None, Some, IsTrue}
-use Rattle.cw_core.specs.Numerals.{hexadecimal, is_hexadecimal_digit, IsDecimalAt, IsSetAt}
-use Rattle.cw_core.specs.Ranges.{set_spelling, is_spelling_byte, IsSpellingAt}
-use Rattle.cw_core.specs.StateSet.{has, IsBelow}
+use Rattle.std.specs.Prelude.{Option, None}
+use Rattle.cw_core.specs.Numerals.{hexadecimal, IsDecimalAt, IsSetAt}
+use Rattle.cw_core.specs.Ranges.{set_spelling, IsSpellingAt}
+use Rattle.cw_core.specs.StateSet.{IsBelow}
 use Rattle.cw_core.proofs.SetTexts.{spelling_within}
-use Rattle.cw_core.proofs.Spellings.{decimal_at, set_at_text, one_decimal, one_set, drop-decimal, drop-hexadecimal}
+use Rattle.cw_core.proofs.Spellings.{decimal_at, set_at_text, one_decimal, one_set}
 use Rattle.std.proofs.lemmas.Bool.{ne_eqb}
 use Rattle.cw_lines.specs.Lines.{set_text, IsSetIn, Reads}
 

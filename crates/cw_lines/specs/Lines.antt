@@ -1,5 +1,5 @@
 -- What lines are made of: words with a mark between each two, numbers and sets as words.
-use Rattle.std.specs.Prelude.{◌≡◌, ◌≢◌, ℕ, ◌==◌, Bool, false, if◌then◌else◌, List, ◌∷◌, ◌++◌, codes, Option, IfSome, IfNone}
+use Rattle.std.specs.Prelude.{◌≡◌, ◌≢◌, ℕ, ◌==◌, false, if◌then◌else◌, List, ◌∷◌, ◌++◌, codes, Option, IfSome, IfNone}
 use Rattle.std.specs.List.{All, join_with_byte, slice_split}
 use Rattle.cw_core.specs.Numerals.{hexadecimal}
 use Rattle.cw_core.specs.Ranges.{set_spelling}

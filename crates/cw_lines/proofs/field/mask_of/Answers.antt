@@ -1,4 +1,4 @@
-use Rattle.std.proofs.Common.{◌≡◌, ◌∙◌, sym, refl, arith, inl, inr, false, true}
+use Rattle.std.proofs.Common.{◌∙◌, sym, refl, inl, inr}
 use Rattle.std.proofs.lemmas.Bool.{false≢true}
 use Rattle.cw_lines.proofs.Fields.{no_mask, another_mask}
 use Rattle.cw_lines.proofs.field.mask_of.Goals as goal

@@ -1,4 +1,4 @@
-use Rattle.std.proofs.Common.{◌≡◌, Bool, true, false, not, List, [], refl, sym, ap, ◌∙◌}
+use Rattle.std.proofs.Common.{sym}
 use Rattle.cw_lines.proofs.Cuts.{done_exactly}
 use Rattle.cw_lines.proofs.words.Words.is_done.Goals as goal
 

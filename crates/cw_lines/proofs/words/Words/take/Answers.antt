@@ -1,4 +1,4 @@
-use Rattle.std.proofs.Common.{◌≡◌, true, sym}
+use Rattle.std.proofs.Common.{sym}
 use Rattle.cw_lines.proofs.Cuts.{takes_first, takes_last}
 use Rattle.cw_lines.proofs.words.Words.take.Goals as goal
 
