@@ -29,8 +29,8 @@ set_text format set = if format == 2 then set_spelling set else hexadecimal set
 abbrev pub IsSetIn : (format set : ℕ) → Type 0
 IsSetIn format set = IsBelow (if format == 2 then 1024 else 512) set
 
--- the value that fits and whose text the word is; none where the word is the text of none that fits
-pub record Reads {A : Type 0} (Fits : A → Type 0) (text_of : A → List ℕ) (word : List ℕ) (result : Option A) : Type 0 where
+-- the value that fits and whose text the word is, or whose words these are; none where that is so of none that fits
+pub record Reads {A W : Type 0} (Fits : A → Type 0) (text_of : A → W) (word : W) (result : Option A) : Type 0 where
   pub some : IfSome result (λ value. Fits value × (text_of value ≡ word))
   pub none : IfNone result ((value : A) → Fits value → text_of value ≢ word)
 
