@@ -1,0 +1,3 @@
+-- The proofs.
+pub mod Within
+pub mod Begun

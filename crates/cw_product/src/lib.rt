@@ -1,0 +1,13 @@
+//! The game of a program's graph and a policy: its positions beside the policy's states.
+#![tactic(auto)]
+
+mod fault;
+mod game;
+mod place;
+mod turn;
+mod uses;
+
+pub use fault::GameFault;
+pub use game::Game;
+pub use place::Place;
+pub use turn::Turn;
