@@ -57,3 +57,9 @@ module _ {A : Type 0} (w : A → ℕ) where
 
   pub begin_within : (ns : List A) (p d : ℕ) → p < length ns + 1 → get_or (begins ns) p d ≡ sum_by w (take p ns)
   begin_within ns p d h = get_or-map-range_with_len (λ k. sum_by w (take k ns)) 0 (length ns + 1) p p d h (omega arith)
+
+  -- a part ends before all do
+  pub begin_below : (ns : List A) (p : ℕ) (n : A) → slice_get ns p ≡ Some n → sum_by w (take p ns) + w n ≤ sum_by w (take (length ns) ns)
+  begin_below [] p n e = absurd (none-some n e)
+  begin_below (m ∷ ns) zero n e = omega (arith, begin_next m ns (length ns), ap w (same_Some m n e))
+  begin_below (m ∷ ns) (suc p) n e = omega (arith, begin_next m ns (length ns), begin_next m ns p, begin_below ns p n e)

@@ -1,3 +1,8 @@
 pub mod Begins
 pub mod Lengths
 mod Visiting
+pub mod Standing
+pub mod Leading
+pub mod Fitting
+pub mod Closing
+pub mod Programs
