@@ -1,3 +1,4 @@
 -- The proofs.
 pub mod Within
 pub mod Begun
+pub mod Placing

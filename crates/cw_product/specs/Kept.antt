@@ -71,6 +71,7 @@ IsPart graph part = (part.entry.0 < length graph.nodes.items) × (part.exit.0 < 
 
 -- What is true of the graph of a program that can be run, and of its game.
 pub record IsSound (h : Held) : Type 0 where
+  pub narrow : length h.graph.nodes.items ≤ 8192
   pub few : length (game_of h).spots ≤ limit_of PositionsTimesStates
   pub fine : AreFine h
   pub parts : (f : ℕ) (part : Part) → slice_get h.graph.parts.items f ≡ Some part → IsPart h.graph part

@@ -1,5 +1,6 @@
 -- The definitions.
 pub mod Kept
 pub mod Moves
+pub mod Places
 pub mod Product
 pub mod Uses

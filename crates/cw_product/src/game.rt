@@ -9,6 +9,7 @@ ghost use Rattle.cw_product.specs.Kept.{stages_of};
 ghost use Rattle.cw_product.specs.Moves.{numbers, next_in};
 
 use crate::fault::GameFault;
+use crate::place::{Place, begun, is_asked, is_split, stage_of};
 use crate::turn::Turn;
 use cw_certs::Move;
 use cw_core::{PointId, PosId, SeamId, StateId};
@@ -127,6 +128,7 @@ impl<'g> Game<'g> {
     ghost use Rattle.cw_model.specs.Boards.{problem_of};
     ghost use Rattle.cw_game.specs.Standing.{IsGameOf};
     ghost use Rattle.cw_product.specs.Moves.{IsPosition, IsState, pair_of, numbers, next_in, next_at, turn_in};
+    ghost use Rattle.cw_product.specs.Places.{IsPointOf, stage_in, is_asked_in, is_split_in};
     ghost use Rattle.cw_product.specs.Kept.{IsSound, IsFine, IsPart, IsPrimitive, IsDescriptor, IsLabel};
     ghost use Rattle.cw_game.specs.Conditions.{is_seam, is_stage};
     ghost use Rattle.cw_positions.specs.Positions.{base_of};
@@ -496,6 +498,32 @@ impl<'g> Game<'g> {
             },
             Spot::Asked(_, _, _) | Spot::Step(_) | Spot::Branch(_, _) => Turn::Environment,
             Spot::Label(_, _, _) | Spot::Open(_, _, _) | Spot::Close(_, _, _) => Turn::Environment,
+        }
+    }
+
+    // The point of a position.
+    fn point(&self, pos: PosId) -> PointId
+        requires { IsPosition (game_of self.now) pos.0 }
+        ensures { IsPointOf self.now pos.0 result.0 }
+    {
+        self.is_sound();
+        PointId((begun(&self.positions.bases, pos.0) - 1) as u32)
+    }
+
+    /// Where a position stands in the program.
+    pub fn place(&self, pos: PosId) -> Place
+        requires { IsPosition (game_of self.now) pos.0 }
+        ensures point { IsPointOf self.now pos.0 result.point.0 }
+        ensures stage { Some result.stage ≡ option_map stage_in (slice_get (game_of self.now).spots pos.0) }
+        ensures asked { Some result.asked ≡ option_map is_asked_in (slice_get (game_of self.now).spots pos.0) }
+        ensures split { Some result.split ≡ option_map is_split_in (slice_get (game_of self.now).spots pos.0) }
+    {
+        let spot = self.spot(pos);
+        Place {
+            point: self.point(pos),
+            stage: stage_of(spot),
+            asked: is_asked(spot),
+            split: is_split(spot),
         }
     }
 
