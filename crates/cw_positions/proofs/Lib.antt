@@ -6,3 +6,6 @@ pub mod Leading
 pub mod Fitting
 pub mod Closing
 pub mod Programs
+pub mod Placing
+mod Splitting
+pub mod LaidOut

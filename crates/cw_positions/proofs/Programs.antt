@@ -117,10 +117,10 @@ module _ (names : Names) (source : List ℕ) (file : File) where
       (slice_get_within (nodes plan) part.entry.0 _ r.2.begins.0, slice_get_within (nodes plan) part.exit.0 _ r.2.ends.0)
 
   module _ (policy : PlainPolicy) where
-    abbrev begin_in : List Node → List Part → ℕ → ℕ
+    abbrev pub begin_in : List Node → List Part → ℕ → ℕ
     begin_in ns ps f = to (base policy ps ns) (option_map (λ part. part.entry.0) (slice_get ps f))
 
-    abbrev end_in : List Node → List Part → ℕ → ℕ
+    abbrev pub end_in : List Node → List Part → ℕ → ℕ
     end_in ns ps f = to (base policy ps ns) (option_map (λ part. part.exit.0) (slice_get ps f))
 
     within_plan : (f : ℕ) → f < length (parts_of names source file)
