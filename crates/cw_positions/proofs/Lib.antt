@@ -9,3 +9,7 @@ pub mod Programs
 pub mod Placing
 mod Splitting
 pub mod LaidOut
+pub mod Origins
+pub mod Bounding
+pub mod Seaming
+pub mod Seen

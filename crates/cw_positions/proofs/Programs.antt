@@ -1,5 +1,5 @@
 -- What holds of the points and parts of a program's plan holds of its graph.
-use Rattle.std.proofs.Common.{◌≡◌, ℕ, zero, suc, ◌+◌, ◌<◌, ◌≤◌, List, [], ◌∷◌, length, map, Bool, true, false, Option, Some, None, refl, sym, ap, ◌∙◌, subst, arith}
+use Rattle.std.proofs.Common.{◌≡◌, ℕ, zero, suc, ◌+◌, ◌*◌, ◌<◌, ◌≤◌, List, [], ◌∷◌, length, map, Bool, true, false, Option, Some, None, refl, sym, ap, ◌∙◌, subst, arith}
 use Rattle.std.specs.Prelude.{slice_get, option_map, is_some}
 use Rattle.std.specs.Str.{bytes_eq}
 use Rattle.std.proofs.lemmas.Option.{none-some, same_Some, slice_get_within}
@@ -11,19 +11,20 @@ use Rattle.cw_syntax.specs.Trees.{Tree, Definition, File}
 use Rattle.cw_syntax.specs.Plans.{Callee, Action, Computes, Opens, Closes, Invokes, action_of, Scene, Routine, Plan, routines_from, plan_of, scene_of, seams_all, steps_of_all}
 use Rattle.cw_actions.proofs.Bounds.{IsWithin, acts_within}
 use Rattle.cw_game.specs.declared.spots.Spot.{Spot}
+use Rattle.cw_syntax.specs.Runnable.{IsRunnable}
 use Rattle.cw_points.specs.declared.graph.Point.{Point}
 use Rattle.cw_points.specs.declared.graph.Point.TheVariants as point
 use Rattle.cw_points.specs.declared.graph.Node.{Node}
 use Rattle.cw_points.specs.declared.graph.Part.{Part}
 use Rattle.cw_points.specs.declared.graph.Graph.{Graph}
-use Rattle.cw_points.specs.Points.{points}
+use Rattle.cw_points.specs.Points.{points, count_from}
 use Rattle.cw_points.specs.Graphs.{nodes, parts_from, splits_of, exit_of, IsGraph}
 use Rattle.cw_points.specs.Walks.{parts_of}
 use Rattle.cw_points.proofs.Placed.{IsPart, IsPlaced}
 use Rattle.cw_points.proofs.Laying.{placed_program}
 use Rattle.cw_positions.specs.Positions.{base, to, spots_in, entry_of, exit_of as exit_at}
-use Rattle.cw_positions.specs.Closed.{IsClosed, LeadsWithin}
-use Rattle.cw_positions.proofs.Leading.{all_lead}
+use Rattle.cw_positions.specs.Closed.{IsClosed, IsWhole, LeadsWithin}
+use Rattle.cw_positions.proofs.Leading.{all_lead, length_nodes}
 use Rattle.cw_positions.proofs.Fitting.{ActFits, PointFits, routine_fits, points_fit_from, point_fits}
 use Rattle.cw_positions.proofs.Closing.{CallsWithin, get_below, base_below, leads_within}
 
@@ -147,9 +148,31 @@ module _ (names : Names) (source : List ℕ) (file : File) where
     pub is_closed : (g : Graph) → IsGraph names source file g → IsClosed g policy
     is_closed g i = record {
       leads = λ q s e. of_graph g (λ ns ps m. slice_get (spots_in policy ps ns) q ≡ Some s → LeadsWithin (length (spots_in policy ps ns)) (length ps) q s) i (leads_plan q s) e;
+      points = λ p h. base_below policy g.parts.items g.nodes.items 0 p h;
       entries = λ f h. of_graph g (λ ns ps m. f < length ps → begin_in ns ps f < length (spots_in policy ps ns)) i (λ k. (within_plan f k).0) h;
       exits = λ f h. of_graph g (λ ns ps m. f < length ps → end_in ns ps f < length (spots_in policy ps ns)) i (λ k. (within_plan f k).1) h;
     }
 
 pub positions_are_closed : (names : Names) (source : List ℕ) (file : File) (g : Graph) (policy : PlainPolicy) → IsGraph names source file g → IsClosed g policy
 positions_are_closed names source file g policy i = is_closed names source file policy g i
+
+-- two points for each function
+two_points : (rs : List Routine) → 2 * length rs ≤ count_from rs
+two_points [] = omega arith
+two_points (r ∷ rs) = omega (arith, two_points rs)
+
+pub is_whole : (names : Names) (source : List ℕ) (file : File) (g : Graph) → IsGraph names source file g → IsWhole g
+is_whole names source file g i =
+    let plan = plan_of names source file in
+    record {
+      entries = λ f part e. of_graph names source file g (λ ns ps m. slice_get ps f ≡ Some part → part.entry.0 < length ns) i (λ k. (part_within names source file f part k).0) e;
+      exits = λ f part e. of_graph names source file g (λ ns ps m. slice_get ps f ≡ Some part → part.exit.0 < length ns) i (λ k. (part_within names source file f part k).1) e;
+      few = of_graph names source file g (λ ns ps m. 2 * length ps ≤ length ns) i
+          (omega (arith, two_points plan.routines, length_nodes plan, parts_length names source file, routines_length names source file));
+    }
+
+pub main_is_there : (names : Names) (source : List ℕ) (file : File) (g : Graph) → IsGraph names source file g → IsRunnable (plan_of names source file) → g.main < length g.parts.items
+main_is_there names source file g i runs =
+    let plan = plan_of names source file in
+    of_graph names source file g (λ ns ps m. m < length ps) i
+    (omega (arith, slice_get_within plan.routines plan.main runs.main.0 runs.main.1, parts_length names source file, routines_length names source file))

@@ -1,3 +1,5 @@
 pub mod Positions
 pub mod Closed
 pub mod Laid
+pub mod Origins
+pub mod Seams
