@@ -1,0 +1,4 @@
+pub mod Backs
+pub mod Hows
+pub mod LineWords
+pub mod RowLines

@@ -1,0 +1,8 @@
+use Rattle.std.proofs.Common.{◌≡◌, ◌++◌, ◌∷◌, map, take}
+use Rattle.std.specs.List.{flat_map}
+use Rattle.cw_strategies.specs.StrategyText.{back_word}
+use Rattle.cw_strategies.specs.Words.{backs_of}
+use Rattle.cw_strategies.proofs.printing.put_backs.Given as goal
+
+abbrev pub invariant-loop-back : goal.invariant-loop-back
+invariant-loop-back l = l.text.items ≡ l.initial.text.items ++ flat_map (λ word. 32 ∷ word) (map back_word (backs_of (take l.back-index l.backs)))

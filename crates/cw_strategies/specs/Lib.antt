@@ -1,0 +1,4 @@
+pub mod StrategyText
+pub mod Faults
+pub mod Words
+pub mod Steps

@@ -1,0 +1,12 @@
+//! Strategies of the environment as text, written and read.
+#![tactic(auto)]
+
+mod kind;
+mod printing;
+mod reading;
+mod row;
+mod steps;
+mod wording;
+
+pub use printing::{print_env, strategy_bytes};
+pub use reading::read_env;
