@@ -1,8 +1,7 @@
 -- Backs and their words.
-use Rattle.std.proofs.Common.{◌≡◌, ◌≢◌, ℕ, ◌+◌, ◌^◌, ◌<◌, ◌≤◌, Bool, true, false, eqb, List, [], ◌∷◌, ◌++◌, length, map, refl, sym, ap, ◌∙◌, arith, append_assoc, append-nil}
-use Rattle.std.specs.Prelude.{Option, None, Some}
+use Rattle.std.proofs.Common.{◌≡◌, ◌≢◌, ℕ, ◌+◌, ◌^◌, ◌<◌, ◌≤◌, List, [], ◌∷◌, ◌++◌, length, map, refl, sym, ap, ◌∙◌, arith, append_assoc, append-nil}
+use Rattle.std.specs.Prelude.{None, Some}
 use Rattle.std.specs.Fmt.{decimal}
-use Rattle.std.specs.List.{All}
 use Rattle.std.proofs.lemmas.Fmt.{decimal_injective}
 use Rattle.std.proofs.lemmas.List.{map-append}
 use Rattle.std.proofs.lemmas.List.Elements.{All-nil, All-cons}
@@ -29,6 +28,7 @@ one_back a b fits also e =
     first : List (List ℕ) → List ℕ
     first [] = []
     first (x ∷ xs) = x
+
     second : List (List ℕ) → List ℕ
     second [] = []
     second (x ∷ []) = []
@@ -57,9 +57,9 @@ pub a_back : (word : List ℕ) (exit row : ℕ) (left more : List (List ℕ)) �
 a_back word exit row left more small also is then done =
     let parts : words_of 61 word ≡ decimal exit ∷ decimal row ∷ [] = is ∙ ap (λ (ws : List (List ℕ)). decimal exit ∷ ws) (then ∙ ap (λ (ws : List (List ℕ)). decimal row ∷ ws) done) in
     record {
-  some = ((small, also), sym (sym (joined-words 61 word) ∙ ap (joined 61) parts));
-  none = tt;
-}
+      some = ((small, also), sym (sym (joined-words 61 word) ∙ ap (joined 61) parts));
+      none = tt;
+    }
 
 -- ---- backs, one after the other
 
@@ -100,9 +100,11 @@ next_back whole left read low word rest e backs l = split l.more refl
     first : List (List ℕ) → List ℕ
     first [] = []
     first (x ∷ xs) = x
+
     others : List (List ℕ) → List (List ℕ)
     others [] = []
     others (x ∷ xs) = xs
+
     split : (more : List (ℕ × ℕ)) → l.more ≡ more → (back : ℕ × ℕ) × (others : List (ℕ × ℕ)) × (l.more ≡ back ∷ others) × (back_word back ≡ word) × (rest ≡ map back_word others)
     split [] is = let bad : word ∷ rest ≡ [] = sym e ∙ l.spelled ∙ ap (map back_word) is in absurd (omega (arith, ap length bad))
     split (back ∷ more) is =
@@ -159,6 +161,8 @@ at_next whole left read low exit row word rest keeps e reads up = record {
       };
 }
 
-pub more_backs : (whole left : List (List ℕ)) (old new : List (StateId × ℕ)) (exit row low : ℕ) → new ≡ old ++ (record { 0 = exit }, row) ∷ [] → low ≡ exit + 1 → Keeps whole left (backs_of old ++ (exit, row) ∷ []) (exit + 1)
-    → Keeps whole left (backs_of new) low
-more_backs whole left old new exit row low e is keeps = rw (e, is, map-append (λ (b : StateId × ℕ). (b.0.0, b.1)) old ((record { 0 = exit }, row) ∷ [])) keeps
+pub more_backs : (whole left : List (List ℕ)) (old new : List (StateId × ℕ)) (exit row low : ℕ) → new ≡ old ++ (record { 0 = exit }, row) ∷ [] → low ≡ exit → Keeps whole left (backs_of old ++ (exit, row) ∷ []) (exit + 1)
+    → Keeps whole left (backs_of new) (low + 1)
+more_backs whole left old new exit row low e is keeps =
+    let both : backs_of (old ++ (record { 0 = exit }, row) ∷ []) ≡ backs_of old ++ (exit, row) ∷ [] = map-append {B = ℕ × ℕ} (λ (b : StateId × ℕ). (b.0.0, b.1)) old ((record { 0 = exit }, row) ∷ []) in
+    rw (e, is, both) keeps

@@ -1,7 +1,6 @@
 -- What a row does and its words.
-use Rattle.std.proofs.Common.{◌≡◌, ◌≢◌, ℕ, Bool, true, false, cond, List, [], ◌∷◌, ◌++◌, length, map, refl, sym, ap, ◌∙◌, arith}
+use Rattle.std.proofs.Common.{◌≡◌, ℕ, cond, List, [], ◌∷◌, length, refl, sym, ap, ◌∙◌, arith}
 use Rattle.std.specs.Prelude.{Option, None, Some, codes, bytes_eq}
-use Rattle.cw_certs.specs.declared.moves.Move.{Move}
 use Rattle.cw_certs.specs.declared.moves.Move.TheVariants.{Skip, Try, Grant, Refuse, On, Left, Right, Opened, Failed, Stop}
 use Rattle.cw_certs.specs.Strategies.{How, Bad, Out, Both, Go, Into}
 use Rattle.cw_lines.specs.Lines.{Reads}
@@ -87,9 +86,9 @@ of_kind whole word rest k (Some how) e named reads = record {
   some = (
     reads.some.0.fits,
     how_words-kind how
-    ∙ ap (λ (w : List ℕ). w ∷ rest_words how) (ap kind_word reads.some.0.kind ∙ named.some.1)
-    ∙ ap (λ (ws : List (List ℕ)). word ∷ ws) reads.some.1
-    ∙ sym e,
+        ∙ ap (λ (w : List ℕ). w ∷ rest_words how) (ap kind_word reads.some.0.kind ∙ named.some.1)
+        ∙ ap (λ (ws : List (List ℕ)). word ∷ ws) reads.some.1
+        ∙ sym e,
   );
   none = tt;
 }

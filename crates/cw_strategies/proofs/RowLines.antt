@@ -1,15 +1,16 @@
 -- The words of a row's line.
-use Rattle.std.proofs.Common.{◌≡◌, ◌≢◌, ℕ, ◌+◌, ◌^◌, ◌<◌, ◌≤◌, List, [], ◌∷◌, ◌++◌, length, map, refl, sym, ap, ◌∙◌, arith, append-nil, append_assoc}
-use Rattle.std.specs.Prelude.{Option, None, Some, codes}
+use Rattle.std.proofs.Common.{◌≡◌, ◌≢◌, ℕ, ◌+◌, ◌^◌, ◌<◌, Bool, true, false, eqb, List, [], ◌∷◌, ◌++◌, length, length-append, refl, sym, ap, ◌∙◌, arith, append-nil, append_assoc}
+use Rattle.std.specs.Prelude.{None, Some, codes}
 use Rattle.std.specs.Fmt.{decimal}
+use Rattle.std.proofs.lemmas.Bool.{false≢true, eqb-true}
 use Rattle.cw_certs.specs.Strategies.{How, Row}
 use Rattle.cw_lines.specs.Lines.{IsFree, line, joined, words_of, set_text, IsSetIn, Reads}
 use Rattle.cw_lines.proofs.Cuts.{words-joined, joined-words}
 use Rattle.cw_lines.proofs.Free.{one_line, joined_free}
-use Rattle.cw_strategies.specs.StrategyText.{how_words, row_words, row_line, end_line, FitsHow, FitsRow}
+use Rattle.cw_strategies.specs.StrategyText.{how_words, row_words, row_line, end_line, FitsHow}
 use Rattle.cw_strategies.specs.Words.{row_text, FitsNamed}
 use Rattle.cw_strategies.specs.Faults.{HasRow}
-use Rattle.cw_strategies.specs.Steps.{HasNone, HasMore}
+use Rattle.cw_strategies.specs.Steps.{HasNone}
 use Rattle.cw_strategies.proofs.LineWords.{space, lf, name_free, row_free, from_none}
 
 pub words_of_row : (format : ℕ) (named : ℕ × Row) (text : List ℕ) → FitsNamed format named → row_text format named ≡ text → words_of 32 text ≡ row_words format named.0 named.1
@@ -98,3 +99,19 @@ row_here format text l rest number r e reads = record {
   fits = reads.some.0.row;
   spelled = e ∙ ap (λ (t : List ℕ). t ++ (10 ∷ rest)) (sym reads.some.1) ∙ sym (line_of_row format number r rest);
 }
+
+-- ---- what is left of a text, by the test whether that is nothing
+
+pub some_bytes : (bytes : List ℕ) (is_empty : Bool) → is_empty ≡ eqb (length bytes) 0 → is_empty ≡ false → bytes ≢ []
+some_bytes [] is_empty e is none = absurd (false≢true (sym is ∙ e))
+some_bytes (b ∷ bytes) is_empty e is none = omega (arith, ap length none)
+
+pub no_bytes : (text bytes : List ℕ) (is_empty : Bool) → is_empty ≡ eqb (length bytes) 0 → is_empty ≡ true → text ≡ end_line ++ bytes → text ≡ end_line
+no_bytes text [] is_empty e is stands = stands ∙ append-nil end_line
+no_bytes text (b ∷ bytes) is_empty e is stands = absurd (let p = eqb-true (length (b ∷ bytes)) 0 (sym e ∙ is) in omega (arith, p))
+
+-- a row's line is no empty text
+pub row_shortens : (format : ℕ) (text : List ℕ) (number : ℕ) (r : Row) (more : List ℕ) → HasRow format text number r more → length more < length text
+row_shortens format text number r more h =
+    let e : length text ≡ length (row_text format (number, r)) + length (10 ∷ more) = ap length (h.spelled ∙ line_of_row format number r more) ∙ length-append (row_text format (number, r)) (10 ∷ more) in
+    omega (arith, e)

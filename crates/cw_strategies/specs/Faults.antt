@@ -1,5 +1,5 @@
 -- The first line at fault of a text that is no strategy's.
-use Rattle.std.specs.Prelude.{◌≡◌, ◌≢◌, ℕ, ◌+◌, ◌^◌, ◌<◌, List, [], ◌∷◌, ◌++◌, length, Result, Ok, Err}
+use Rattle.std.specs.Prelude.{◌≡◌, ◌≢◌, ℕ, ◌+◌, ◌^◌, ◌<◌, List, [], ◌++◌, length, Result, Ok, Err}
 use Rattle.cw_certs.specs.Strategies.{Row, Strategy}
 use Rattle.cw_lines.specs.declared.fault.TextFault.{TextFault}
 use Rattle.cw_lines.specs.declared.fault.TextFault.TheVariants.{Line, Order, Limit, NoMemory}
@@ -20,23 +20,18 @@ pub record HasRow (format : ℕ) (text : List ℕ) (number : ℕ) (row : Row) (r
 pub data IsFault (format : ℕ) (text : List ℕ) : TextFault → Type 0 where
   -- the text doesn't begin with the head of its format
   no_head : ((rest : List ℕ) → text ≢ head_line format ++ rest) → IsFault format text (Line 1)
-
   -- what follows is no line of states
   no_states : (rest : List ℕ) → text ≡ head_line format ++ rest → ((states : ℕ) (more : List ℕ) → states < 2 ^ 16 → rest ≢ states_line states ++ more)
       → IsFault format text (Line 2)
-
   -- what follows the first rows is neither the end nor the line of a row
   no_row : (states : ℕ) (rows : List Row) (rest : List ℕ) → Begins format text states rows rest → ((more : List ℕ) → rest ≢ end_line ++ more)
       → ((number : ℕ) (row : Row) (more : List ℕ) → HasRow format rest number row more → ⊥) → IsFault format text (Line (length rows + 3))
-
   -- something follows the end
   no_end : (states : ℕ) (rows : List Row) (rest more : List ℕ) → Begins format text states rows rest → rest ≡ end_line ++ more → more ≢ []
       → IsFault format text (Line (length rows + 4))
-
   -- the row isn't the next
   no_order : (states : ℕ) (rows : List Row) (rest : List ℕ) (number : ℕ) (row : Row) (more : List ℕ) → Begins format text states rows rest
       → HasRow format rest number row more → number ≢ length rows → IsFault format text (Order (length rows + 3))
-
   -- the row is the next, and with it and its backs the rows are too many
   no_room : (states : ℕ) (rows : List Row) (rest : List ℕ) (number : ℕ) (row : Row) (more : List ℕ) → Begins format text states rows rest
       → HasRow format rest number row more → number ≡ length rows → 65536 < row_count rows + rows_in row.how → IsFault format text (Limit (length rows + 3))

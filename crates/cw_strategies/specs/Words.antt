@@ -1,12 +1,13 @@
 -- Working definitions, for proofs and the contracts of code alone: a row's words, by what the row does.
-use Rattle.std.specs.Prelude.{◌≡◌, ℕ, ◌^◌, ◌<◌, List, [], ◌∷◌, map, codes}
+use Rattle.std.specs.Prelude.{◌≡◌, ℕ, ◌^◌, ◌<◌, List, [], ◌∷◌, ◌++◌, map, codes}
+use Rattle.std.specs.List.{flat_map}
 use Rattle.std.specs.Fmt.{decimal}
 use Rattle.cw_core.specs.declared.ids.StateId.{StateId}
 use Rattle.cw_certs.specs.Strategies.{How, Bad, Out, Both, Go, Into, Row}
-use Rattle.cw_lines.specs.Lines.{joined}
+use Rattle.cw_lines.specs.Lines.{joined, line, set_text}
 use Rattle.cw_strategies.specs.declared.kind.Kind.{Kind}
 use Rattle.cw_strategies.specs.declared.kind.Kind.TheVariants as kind
-use Rattle.cw_strategies.specs.StrategyText.{back_word, move_word, row_words, FitsHow, FitsRow, IsEnvironments}
+use Rattle.cw_strategies.specs.StrategyText.{back_word, how_words, move_word, row_words, FitsHow, FitsRow, IsEnvironments}
 
 -- what a row does without its numbers, its first word, and the others
 abbrev pub kind_of_how : How → Kind
@@ -55,3 +56,7 @@ pub record FitsNamed (format : ℕ) (named : ℕ × Row) : Type 0 where
 
 unfoldable pub row_text : (format : ℕ) → ℕ × Row → List ℕ
 row_text format named = joined 32 (row_words format named.0 named.1)
+
+-- a row's line as it is put, each word but the first after a space
+abbrev pub put_line : (format number : ℕ) → Row → List ℕ
+put_line format number r = line (decimal number ++ flat_map (λ word. 32 ∷ word) (decimal r.pos ∷ decimal r.state ∷ set_text format r.aim ∷ how_words r.how))

@@ -1,13 +1,14 @@
 //! Strategies written.
 
-ghost use Rattle.std.specs.Prelude.{◌≡◌, ◌≤◌, ◌++◌, ◌∷◌, map, IfOk, OnOk};
+ghost use Rattle.std.specs.Prelude.{◌≡◌, ◌≤◌, ◌++◌, ◌∷◌, [], map, IfOk, OnOk};
+ghost use Rattle.std.specs.Fmt.{decimal};
 ghost use Rattle.std.specs.List.{flat_map};
+ghost use Rattle.cw_lines.specs.Lines.{set_text};
 ghost use Rattle.cw_certs.specs.Strategies.{how_of, row_of, strategy_of};
 ghost use Rattle.cw_io.specs.Causes.{HasCause};
 ghost use Rattle.cw_io.specs.Pieces.{Puts};
-ghost use Rattle.cw_lines.specs.Lines.{joined};
-ghost use Rattle.cw_strategies.specs.StrategyText.{back_word, how_words, move_word, row_line, row_lines, strategy_text};
-ghost use Rattle.cw_strategies.specs.Words.{backs_of};
+ghost use Rattle.cw_strategies.specs.StrategyText.{back_word, how_words, move_word, row_lines, strategy_text};
+ghost use Rattle.cw_strategies.specs.Words.{backs_of, put_line};
 
 use cw_certs::{EnvCert, EnvRow, How, Move};
 use cw_core::{NoMemory, StateId, put_dec};
@@ -65,19 +66,27 @@ fn put_rows(rows: &[EnvRow], format: u8, text: &mut Vec<u8>) -> Result<(), NoMem
     Ok(())
 }
 
-#[tactic(auto, unfolding(crate::specs::StrategyText::row_line))]
+/// Appends a row's line.
 fn put_row(number: usize, row: &EnvRow, format: u8, text: &mut Vec<u8>) -> Result<(), NoMemory>
-    ensures { OnOk result (text.new.items ≡ text.old.items ++ row_line format number (row_of row.now)) }
+    ensures { OnOk result (text.new.items ≡ text.old.items ++ put_line format number (row_of row.now)) }
 {
     put_dec(number as u64, text)?;
+    put_place(row, format, text)?;
+    put_how(&row.how, text)?;
+    put(b"\n", text)?;
+    Ok(())
+}
+
+/// Appends a row's position, state and aim, each after a space.
+fn put_place(row: &EnvRow, format: u8, text: &mut Vec<u8>) -> Result<(), NoMemory>
+    ensures { OnOk result (text.new.items ≡ text.old.items ++ flat_map (λ word. 32 ∷ word) (decimal row.now.pos.0 ∷ decimal row.now.state.0 ∷ set_text format row.now.aim ∷ [])) }
+{
     put(b" ", text)?;
     put_dec(u64::from(row.pos.0), text)?;
     put(b" ", text)?;
     put_dec(u64::from(row.state.0), text)?;
     put(b" ", text)?;
-    put_set(&row.aim, format, text)?;
-    put_how(&row.how, text)?;
-    put(b"\n", text)
+    put_set(&row.aim, format, text)
 }
 
 /// Appends what a row does, each word after a space.

@@ -24,7 +24,11 @@ struct Place {
 }
 
 /// The row that a line is, with its number, in a text of this format; none where it is none.
-pub(crate) fn read_row(alloc: Global, line: &[u8], format: u8) -> Result<Option<(u32, EnvRow)>, NoMemory>
+pub(crate) fn read_row(
+    alloc: Global,
+    line: &[u8],
+    format: u8,
+) -> Result<Option<(u32, EnvRow)>, NoMemory>
     ensures { IfOk result (λ read. Reads (FitsNamed format) (row_text format) line.now (option_map (λ named. (named.0, row_of named.1)) read)) }
 {
     let mut words = Words::of(line, b' ');

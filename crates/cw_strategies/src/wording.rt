@@ -35,6 +35,7 @@ fn take_head(words: &mut Words) -> Option<u8>
 /// The states that the next line tells, and the text after it.
 pub(crate) fn after_states(text: &[u8]) -> Option<(u16, &[u8])>
     ensures some { IfSome result (λ (states, rest). text.now ≡ states_line states ++ rest.now) }
+    ensures small { IfSome result (λ (states, _). states < 2 ^ 16) }
     ensures none { IfNone result ((states : ℕ) (rest : List ℕ) → states < 2 ^ 16 → text.now ≢ states_line states ++ rest) }
 {
     let (line, rest) = next_line(text)?;

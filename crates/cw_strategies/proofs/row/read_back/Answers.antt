@@ -1,4 +1,4 @@
-use Rattle.std.proofs.Common.{◌≡◌, ◌∙◌, sym}
+use Rattle.std.proofs.Common.{◌∙◌, sym}
 use Rattle.std.proofs.lemmas.Bool.{false≢true}
 use Rattle.cw_strategies.proofs.Backs.{no_state, no_row, no_end, a_back}
 use Rattle.cw_strategies.proofs.row.read_back.Goals as goal

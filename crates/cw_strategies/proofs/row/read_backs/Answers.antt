@@ -1,5 +1,5 @@
-use Rattle.std.proofs.Common.{◌≡◌, ◌++◌, ◌∷◌, [], sym, arith}
-use Rattle.cw_strategies.proofs.Backs.{at_first, at_end, at_none, at_low, at_next, more_backs}
+use Rattle.std.proofs.Common.{arith}
+use Rattle.cw_strategies.proofs.Backs.{at_end, at_none, at_low, at_next, more_backs}
 use Rattle.cw_strategies.specs.Words.{backs_of}
 use Rattle.cw_strategies.proofs.row.read_backs.Goals as goal
 
@@ -17,4 +17,4 @@ pub backs-preserved : goal.backs-preserved
 backs-preserved c =
     let next = at_next c.args.words.now c.backs.words (backs_of c.backs.backs.items) c.backs.low c.in-Some-read_back.exit c.in-Some-read_back.row c.in-Some.word.now c.take.new.self c.backs.invariant c.in-Some.ensures.some c.in-Some-read_back.ensures
     (let e = c.from.ensures in let le = c.if-from-low.false in omega (arith, e, le)) in
-    more_backs c.args.words.now c.take.new.self c.backs.backs.items c.push.new.self.items c.in-Some-read_back.exit c.in-Some-read_back.row (c.from-low.result + 1) c.in_ok-push.ensures.items c.from-low.ensures next
+    more_backs c.args.words.now c.take.new.self c.backs.backs.items c.push.new.self.items c.in-Some-read_back.exit c.in-Some-read_back.row c.from-low.result c.in_ok-push.ensures.items c.from-low.ensures next

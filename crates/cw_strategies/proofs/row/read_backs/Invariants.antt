@@ -1,4 +1,4 @@
-use Rattle.std.proofs.Common.{◌≡◌, ℕ, List, length}
+use Rattle.std.proofs.Common.{length}
 use Rattle.cw_strategies.specs.Words.{backs_of}
 use Rattle.cw_strategies.proofs.Backs.{Keeps}
 use Rattle.cw_strategies.proofs.row.read_backs.Given as goal

@@ -1,4 +1,4 @@
-use Rattle.std.proofs.Common.{◌≡◌, ◌∷◌, sym, arith}
+use Rattle.std.proofs.Common.{arith}
 use Rattle.cw_certs.specs.Strategies.{how_of}
 use Rattle.cw_strategies.proofs.RowLines.{no_place, no_how, a_row}
 use Rattle.cw_strategies.proofs.row.read_row.Goals as goal

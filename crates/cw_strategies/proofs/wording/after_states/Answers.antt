@@ -1,4 +1,4 @@
-use Rattle.std.proofs.Common.{◌≡◌, ◌∙◌, sym, arith}
+use Rattle.std.proofs.Common.{◌∙◌, sym, arith}
 use Rattle.cw_strategies.proofs.LineWords.{states_some, states_from, states_none}
 use Rattle.cw_strategies.proofs.wording.after_states.Goals as goal
 
