@@ -2,6 +2,7 @@ pub mod Leads
 pub mod Boards
 pub mod Wins
 pub mod Rows
+pub mod Members
 pub mod Starts
 pub mod Laws
 mod Example

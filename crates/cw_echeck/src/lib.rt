@@ -1,4 +1,6 @@
 //! What the conditions of a strategy are good for.
 #![tactic(auto)]
 
+mod named;
+mod sets;
 pub mod strategies;
