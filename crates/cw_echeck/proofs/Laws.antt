@@ -1,7 +1,10 @@
 -- The laws, from what rows give.
+use Rattle.cw_certs.specs.Strategies.{Strategy}
+use Rattle.cw_game.specs.Games.{Game}
+use Rattle.cw_game.specs.Conditions.{IsGoodStrategy}
 use Rattle.cw_game.specs.Reached.{Reached}
 use Rattle.cw_game.proofs.Standing.{lost_start}
-use Rattle.cw_echeck.specs.Beating.{GoodStrategiesStart, GoodStrategiesBeat, GoodStrategiesLose, GoodStrategiesForce, ClosedStrategiesBeat, ClosedStrategiesLose, ClosedStrategiesForce}
+use Rattle.cw_echeck.specs.Beating.{BeatsAll, GoodStrategiesStart, GoodStrategiesBeat, GoodStrategiesLose, GoodStrategiesForce, ClosedStrategiesBeat, ClosedStrategiesLose, ClosedStrategiesForce}
 use Rattle.cw_echeck.proofs.Wins.{as_problem, closed_beats}
 use Rattle.cw_echeck.proofs.Rows.{closed_loses}
 use Rattle.cw_game.proofs.Goods.{good_strategy_closed}
@@ -27,3 +30,6 @@ good_lose p g s game good = let start = good_start g s good in closed_lose p g s
 
 pub good_force : GoodStrategiesForce
 good_force p g s game good = let start = good_start g s good in closed_force p g s start.0 game (record { closed = good_strategy_closed g s good; start = start.1.stands })
+
+pub all_beat : (g : Game) (s : Strategy) → IsGoodStrategy g s → BeatsAll g s
+all_beat g s good p game = let start = good_start g s good in (start.0, start.1, good_beat p g s start.0 game good start.1)

@@ -1,5 +1,6 @@
 pub mod Leads
 pub mod Boards
+pub mod Checks
 pub mod Wins
 pub mod Rows
 pub mod Members

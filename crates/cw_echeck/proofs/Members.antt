@@ -1,5 +1,5 @@
 -- Sets of states: what the program's sets tell of the conditions.
-use Rattle.std.proofs.Common.{◌≡◌, ℕ, zero, suc, ◌+◌, ◌^◌, ◌<◌, ◌≤◌, ◌↔◌, List, [], ◌∷◌, Bool, true, false, Option, Some, None, option_map, map, not, ◌&&◌, ◌||◌, cond, min, nat_lt, nat_eq, eqb-true, eq-eqb, refl, sym, ap, ◌∙◌, subst, arith, ap₂, take, length, get_or, ◌==◌}
+use Rattle.std.proofs.Common.{◌≡◌, ℕ, zero, suc, ◌+◌, ◌^◌, ◌<◌, ◌≤◌, ◌↔◌, List, [], ◌∷◌, Bool, true, false, Some, option_map, map, not, ◌&&◌, ◌||◌, cond, min, nat_lt, nat_eq, eqb-true, eq-eqb, refl, sym, ap, ◌∙◌, arith, ap₂, take, length, get_or, ◌==◌}
 use Rattle.std.specs.Prelude.{IsTrue, is_some}
 use Rattle.std.specs.List.{list_all, list_any, range_with_len, find}
 use Rattle.std.specs.Cmp.{both_ways}
@@ -10,10 +10,10 @@ use Rattle.std.proofs.lemmas.List.Folds.{list_any_more}
 use Rattle.std.proofs.lemmas.Bool.Decides.{nat_tests}
 use Rattle.cw_core.specs.declared.ids.StateId.{StateId}
 use Rattle.cw_core.specs.StateSet.{has as has_in, IsSubset, IsBelow}
-use Rattle.cw_core.proofs.Sets.{IsBelow-lt, IsBelow_from_lt, has-zero}
+use Rattle.cw_core.proofs.Sets.{IsBelow-lt, IsBelow_from_lt}
 use Rattle.cw_certs.specs.Strategies.{back_of}
 use Rattle.cw_game.specs.Pairs.{has}
-use Rattle.cw_game.proofs.Truths.{and_parts, both, or_parts, not_true, is_false}
+use Rattle.cw_game.proofs.Truths.{and_parts, both, or_parts, is_false}
 use Rattle.cw_echeck.specs.Checks.{backs_of, is_for}
 
 -- members as the program's sets and as the game tell them
@@ -48,10 +48,10 @@ below_is set all none n t below empty rest told = ltb_from_iff (forth, back)
   where
     forth : t ≡ true → set < 2 ^ n
     forth e = IsBelow-lt n set (λ s h.
-      let k = of_rest all none (min n 1024) s rest (told.0 e s h) in
-      let m = min-le_left n 1024 in
-      let l = k.0 in
-      omega (arith, l, m))
+        let k = of_rest all none (min n 1024) s rest (told.0 e s h) in
+        let m = min-le_left n 1024 in
+        let l = k.0 in
+        omega (arith, l, m))
 
     back : set < 2 ^ n → t ≡ true
     back l = told.1 (λ s h. in_rest all none (min n 1024) s rest (le-min (IsBelow_from_lt n set l s h) (below s h)) (sym (has_is none s) ∙ empty s))
@@ -73,20 +73,24 @@ all_range test a (suc n) h x le lt = by (nat_eq a x) refl (all_range test (a + 1
 
 range_all : (test : ℕ → Bool) (a n : ℕ) → ((x : ℕ) → a ≤ x → x < a + n → test x ≡ true) → list_all test (range_with_len a n) ≡ true
 range_all test a zero h = refl
-range_all test a (suc n) h = both (test a) (list_all test (range_with_len (a + 1) n)) (h a (omega arith) (omega arith)) (range_all test (a + 1) n (λ x le l. h x (omega (arith, le)) (omega (arith, l))))
+range_all test a (suc n) h =
+    both (test a) (list_all test (range_with_len (a + 1) n)) (h a (omega arith) (omega arith))
+    (range_all test (a + 1) n (λ x le l. h x (omega (arith, le)) (omega (arith, l))))
 
 -- a member of the aim has a back
 abbrev test_of : ℕ → List (ℕ × ℕ) → ℕ → Bool
 test_of aim backs x = not (has aim x) || is_some (back_of backs x)
 
-module _ (aim exits left none n : ℕ) (backs : List (ℕ × ℕ)) (t : Bool) (below : IsBelow 1024 aim) (are : (x : ℕ) → x < 1024 → has exits x ≡ is_some (back_of backs x))
+module _ (aim exits left none n : ℕ) (backs : List (ℕ × ℕ)) (t : Bool) (below : IsBelow 1024 aim) (are : (x : ℕ) → x < 1024
+    → has exits x ≡ is_some (back_of backs x))
     (rest_left : IsRest left exits (min n 1024)) (rest_none : IsRest none aim (min n 1024)) (told : IsTrue t ↔ IsSubset left none) where
   there : (x : ℕ) (a b : Bool) → has aim x ≡ a → is_some (back_of backs x) ≡ b → x < n → t ≡ true → (not a || b) ≡ true
   there x false b ea eb l e = refl
   there x true true ea eb l e = refl
   there x true false ea eb l e =
       let small : x < 1024 = below x (has_is aim x ∙ ea) in
-      let k = of_rest none aim (min n 1024) x rest_none (told.0 e x (in_rest left exits (min n 1024) x rest_left (le-min l small) (are x small ∙ eb))) in
+      let k = of_rest none aim (min n 1024) x rest_none
+      (told.0 e x (in_rest left exits (min n 1024) x rest_left (le-min l small) (are x small ∙ eb))) in
       absurd (let z : true ≡ false = sym ea ∙ k.1 in cc)
 
   all_there : t ≡ true → list_all (test_of aim backs) (range_with_len 0 n) ≡ true
@@ -101,11 +105,12 @@ module _ (aim exits left none n : ℕ) (backs : List (ℕ × ℕ)) (t : Bool) (b
 
   all_out : list_all (test_of aim backs) (range_with_len 0 n) ≡ true → t ≡ true
   all_out h = told.1 (λ s is.
-    let k = of_rest left exits (min n 1024) s rest_left is in
-    let l = k.0 in
-    let m1 = min-le_left n 1024 in
-    let m2 = min-le_right n 1024 in
-    in_rest none aim (min n 1024) s rest_none k.0 (out s (all_range (test_of aim backs) 0 n h s (omega arith) (omega (arith, l, m1))) (omega (arith, l, m2)) k.1))
+      let k = of_rest left exits (min n 1024) s rest_left is in
+      let l = k.0 in
+      let m1 = min-le_left n 1024 in
+      let m2 = min-le_right n 1024 in
+      in_rest none aim (min n 1024) s rest_none k.0
+      (out s (all_range (test_of aim backs) 0 n h s (omega arith) (omega (arith, l, m1))) (omega (arith, l, m2)) k.1))
 
   -- each member of the aim below the count has a back, where exits are those that have one
   pub covered_is : t ≡ list_all (λ x. not (has aim x) || is_some (back_of backs x)) (range_with_len 0 n)
@@ -117,7 +122,8 @@ any_back [] x = refl
 any_back (b ∷ backs) x = by (nat_eq b.0.0 x) refl (any_back backs x)
   where
     by : (t : Bool) → nat_eq b.0.0 x ≡ t → list_any (is_for x) backs ≡ is_some (back_of (backs_of backs) x)
-        → (t || list_any (is_for x) backs) ≡ is_some (option_map (λ b. b.1) (cond t (Some (b.0.0, b.1)) (find (λ (b : ℕ × ℕ). nat_eq b.0 x) (backs_of backs))))
+        → (t || list_any (is_for x) backs) ≡ is_some
+        (option_map (λ b. b.1) (cond t (Some (b.0.0, b.1)) (find (λ (b : ℕ × ℕ). nat_eq b.0 x) (backs_of backs))))
     by true e rec = refl
     by false e rec = rec
 
@@ -147,16 +153,20 @@ module _ (exits i : ℕ) (backs : List (StateId × ℕ)) (d : StateId × ℕ) (l
   pub among_without : 1024 ≤ (get_or backs i d).0.0 → Among exits (take (i + 1) backs)
   among_without le x l =
       let apart : nat_eq (get_or backs i d).0.0 x ≡ false = ne_eqb (get_or backs i d).0.0 x (omega (arith, le, l)) in
-      so_far x l ∙ sym (or_false (list_any (is_for x) (take i backs)) (is_for x (get_or backs i d)) apart) ∙ sym (list_any_more (is_for x) backs i d lt)
+      so_far x l ∙ sym (or_false (list_any (is_for x) (take i backs)) (is_for x (get_or backs i d)) apart)
+      ∙ sym (list_any_more (is_for x) backs i d lt)
 
-pub among_all : (exits i : ℕ) (backs : List (StateId × ℕ)) → length backs ≤ i → Among exits (take i backs) → (x : ℕ) → x < 1024 → has exits x ≡ is_some (back_of (backs_of backs) x)
+pub among_all : (exits i : ℕ) (backs : List (StateId × ℕ)) → length backs ≤ i → Among exits (take i backs) → (x : ℕ) → x < 1024
+    → has exits x ≡ is_some (back_of (backs_of backs) x)
 among_all exits i backs le so_far x l = so_far x l ∙ ap (list_any (is_for x)) (take_all i backs le) ∙ any_back backs x
 
 -- tests of the numbers of backs, on the program's data
-pub named_is : (test : ℕ → Bool) (backs : List (StateId × ℕ)) → list_all (λ (b : StateId × ℕ). test b.1) backs ≡ list_all test (map (λ (b : ℕ × ℕ). b.1) (backs_of backs))
+pub named_is : (test : ℕ → Bool) (backs : List (StateId × ℕ))
+    → list_all (λ (b : StateId × ℕ). test b.1) backs ≡ list_all test (map (λ (b : ℕ × ℕ). b.1) (backs_of backs))
 named_is test [] = refl
 named_is test (b ∷ backs) = ap (λ t. test b.1 && t) (named_is test backs)
 
-pub exits_is : (test : ℕ → Bool) (backs : List (StateId × ℕ)) → list_all (λ (b : StateId × ℕ). test b.0.0) backs ≡ list_all test (map (λ (b : ℕ × ℕ). b.0) (backs_of backs))
+pub exits_is : (test : ℕ → Bool) (backs : List (StateId × ℕ))
+    → list_all (λ (b : StateId × ℕ). test b.0.0) backs ≡ list_all test (map (λ (b : ℕ × ℕ). b.0) (backs_of backs))
 exits_is test [] = refl
 exits_is test (b ∷ backs) = ap (λ t. test b.0.0 && t) (exits_is test backs)

@@ -22,6 +22,10 @@ GoodStrategiesStart = (g : Game) (s : Strategy) → IsGoodStrategy g s → (row 
 abbrev pub GoodStrategiesBeat : Type 0
 GoodStrategiesBeat = (p : Problem) (g : Game) (s : Strategy) (row : ℕ) → IsGameOf p g → IsGoodStrategy g s → IsStartRow g s row → Beats p s row
 
+-- What that gives of one game and one strategy, for whoever has checked it.
+abbrev pub BeatsAll : Game → Strategy → Type 0
+BeatsAll g s = (p : Problem) → IsGameOf p g → (row : ℕ) × IsStartRow g s row × Beats p s row
+
 -- The start is lost in the game, all exit states promised.
 abbrev pub GoodStrategiesLose : Type 0
 GoodStrategiesLose = (p : Problem) (g : Game) (s : Strategy) → IsGameOf p g → IsGoodStrategy g s → IsLost g (g.entry g.main) g.states.start (λ x. true)

@@ -1,6 +1,9 @@
-//! What the conditions of a strategy are good for.
+//! The check of a strategy, and what its conditions are good for.
 #![tactic(auto)]
 
+pub mod check;
 mod named;
 mod sets;
 pub mod strategies;
+
+pub use check::{BadEnvRow, check_env};

@@ -1,11 +1,11 @@
 //! What the conditions ask of rows by their numbers alone.
 
-ghost use Rattle.std.specs.Prelude.{◌≡◌, ◌&&◌, nat_eq, nat_lt, map};
+ghost use Rattle.std.specs.Prelude.{◌≡◌, ◌&&◌, nat_eq, nat_lt};
 ghost use Rattle.std.specs.List.{list_all};
 ghost use Rattle.cw_certs.specs.Strategies.{how_of, row_of, strategy_of};
 ghost use Rattle.cw_game.specs.Conditions.{named_by, exits_by};
-
-ghost use Rattle.cw_echeck.specs.Checks.{backs_of, stands_by, numbers};
+ghost use Rattle.cw_product.specs.Moves.{numbers};
+ghost use Rattle.cw_echeck.specs.Checks.{stands_by};
 
 use cw_certs::{EnvCert, EnvRow, How};
 use cw_core::{PosId, StateId, StateSet};
@@ -52,7 +52,12 @@ fn is_at(row: &EnvRow, pos: PosId, state: StateId, aim: &StateSet) -> bool
 }
 
 /// Whether there is a pair, at which the row with a number stands with this aim.
-pub(crate) fn stands(cert: &EnvCert, number: u32, pair: Option<(PosId, StateId)>, aim: &StateSet) -> bool
+pub(crate) fn stands(
+    cert: &EnvCert,
+    number: u32,
+    pair: Option<(PosId, StateId)>,
+    aim: &StateSet,
+) -> bool
     ensures { result ≡ stands_by (strategy_of cert.now) number aim.now (numbers pair) }
 {
     let Some((pos, state)) = pair else {

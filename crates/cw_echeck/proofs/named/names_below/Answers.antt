@@ -11,4 +11,5 @@ returns-then-callee-number c =
     let below : ℕ → _ = λ n. nat_lt n c.args.number in
     rw c.in-Into.is
     (c.are_named_below.ensures ∙ ap (list_all (λ (b : StateId × ℕ). below b.1)) c.deref.ensures.value ∙ named_is below c.in-Into.backs.items
-    ∙ ap (λ t. t && list_all below (map (λ b. b.1) (backs_of c.in-Into.backs.items))) (sym (lt-ltb c.in-Into.callee c.args.number c.if-callee-number.true)))
+    ∙ ap (λ t. t && list_all below (map (λ b. b.1) (backs_of c.in-Into.backs.items)))
+    (sym (lt-ltb c.in-Into.callee c.args.number c.if-callee-number.true)))

@@ -9,12 +9,14 @@ loop-back-init c = λ x l. sym (has_is c.empty-exits.result x) ∙ c.empty-exits
 pub loop-back-preserved : goal.loop-back-preserved
 loop-back-preserved c =
     elim c.if-back-lt-MEMBERS.branch [
-      then-back-lt-MEMBERS w ↦
+      | then-back-lt-MEMBERS w ↦
           subst (λ (exits : _). Among exits (take (c.loop-back.back-index + 1) c.args.backs.now)) (sym w.exits-is)
-          (among_with c.loop-back.exits c.loop-back.back-index c.args.backs.now _ c.loop-back-test.true c.loop-back.invariant w.insert.new.self w.insert.ensures.members)
+          (among_with c.loop-back.exits c.loop-back.back-index c.args.backs.now _ c.loop-back-test.true c.loop-back.invariant w.insert.new.self
+          w.insert.ensures.members)
       | else-back-lt-MEMBERS w ↦
           subst (λ (exits : _). Among exits (take (c.loop-back.back-index + 1) c.args.backs.now)) (sym w.exits-is)
-          (among_without c.loop-back.exits c.loop-back.back-index c.args.backs.now _ c.loop-back-test.true c.loop-back.invariant w.if-back-lt-MEMBERS.false)
+          (among_without c.loop-back.exits c.loop-back.back-index c.args.backs.now _ c.loop-back-test.true c.loop-back.invariant
+          w.if-back-lt-MEMBERS.false)
     ]
 
 pub returns : goal.returns

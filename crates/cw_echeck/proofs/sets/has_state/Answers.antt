@@ -1,4 +1,4 @@
-use Rattle.std.proofs.Common.{◌∙◌, sym, arith}
+use Rattle.std.proofs.Common.{◌∙◌, sym}
 use Rattle.std.proofs.lemmas.Bool.{le-ltb}
 use Rattle.cw_echeck.proofs.Members.{has_is, has_above}
 use Rattle.cw_echeck.proofs.sets.has_state.Goals as goal
