@@ -8,9 +8,10 @@ use Rattle.cw_game.specs.Conditions.{has_stage}
 use Rattle.cw_points.specs.declared.graph.Node.{Node}
 use Rattle.cw_points.specs.declared.graph.Graph.{Graph}
 use Rattle.cw_positions.specs.Positions.{bases, width}
+use Rattle.cw_positions.specs.Seams.{stages_of}
 use Rattle.cw_positions.proofs.Begins.{begins_length}
 use Rattle.cw_product.specs.Product.{Held, game_of}
-use Rattle.cw_product.specs.Kept.{IsSound, stages_of}
+use Rattle.cw_product.specs.Kept.{IsSound}
 
 pub bases_length : (g : Graph) (policy : PlainPolicy) → length (bases g policy) ≡ length g.nodes.items + 1
 bases_length g policy = begins_length (λ (n : Node). width policy g.parts.items n.point) g.nodes.items

@@ -1,4 +1,7 @@
 -- The proofs.
-pub mod Within
 pub mod Begun
+pub mod Fine
+pub mod Holding
+pub mod Making
 pub mod Placing
+pub mod Within

@@ -11,12 +11,11 @@ use Rattle.cw_game.specs.declared.spots.Spot.{Spot}
 use Rattle.cw_game.specs.declared.spots.Spot.TheVariants.{Visit, Asked, Step, Branch, Label, Open, Close, Call, SplitCall, Exit}
 use Rattle.cw_game.specs.Games.{Game}
 use Rattle.cw_game.specs.Conditions.{has_seam, has_stage}
-use Rattle.cw_points.specs.declared.graph.Node.{Node}
-use Rattle.cw_points.specs.declared.graph.Seam.{Seam}
 use Rattle.cw_points.specs.declared.graph.Part.{Part}
 use Rattle.cw_points.specs.declared.graph.Graph.{Graph}
 use Rattle.cw_positions.specs.declared.layout.Positions.{Positions}
-use Rattle.cw_positions.specs.Positions.{base_of, bases, primitives_at}
+use Rattle.cw_positions.specs.Positions.{base_of, bases}
+use Rattle.cw_positions.specs.Seams.{stages_of}
 use Rattle.cw_states.specs.Below.{StayBelow}
 use Rattle.cw_product.specs.Moves.{IsPosition, IsState}
 use Rattle.cw_product.specs.Product.{Held, game_of}
@@ -52,18 +51,6 @@ IsFine h p (Exit f) = Unit {0}
 -- what stands at each position is fine
 abbrev pub AreFine : Held → Type 0
 AreFine h = (p : ℕ) (s : Spot) → slice_get (game_of h).spots p ≡ Some s → IsFine h p s
-
--- how many primitives are tried or skipped at a seam's point (none, where there is no such seam or point)
-abbrev pub stages_at : PlainPolicy → List Part → Option Node → ℕ
-stages_at policy parts None = 0
-stages_at policy parts (Some node) = length (primitives_at policy parts node.point)
-
-abbrev pub node_of : List Node → Option Seam → Option Node
-node_of nodes None = None
-node_of nodes (Some seam) = slice_get nodes seam.point.0
-
-abbrev pub stages_of : Graph → PlainPolicy → ℕ → ℕ
-stages_of graph policy j = stages_at policy graph.parts.items (node_of graph.nodes.items (slice_get graph.seams.items j))
 
 -- a function begins and ends at points of the graph
 abbrev pub IsPart : Graph → Part → Type 0

@@ -1,6 +1,8 @@
 -- The definitions.
+pub mod Faults
 pub mod Kept
 pub mod Moves
+pub mod Opens
 pub mod Places
 pub mod Product
 pub mod Uses

@@ -3,7 +3,8 @@
 ghost use Rattle.std.specs.Prelude.{◌≡◌};
 ghost use Rattle.cw_product.specs.declared.fault.GameFault.TheVariants.{NoMemory};
 
-use std::alloc::{AllocError, AllocFailed};
+use cw_core::NoMemory as Refused;
+use cw_states::StatesFault;
 use thiserror::Error;
 
 /// Why a program and a policy have no game.
@@ -21,10 +22,25 @@ pub enum GameFault {
     NoMemory,
 }
 
-impl From<AllocError> for GameFault {
+impl From<Refused> for GameFault {
     ghost from_gives = { λ _ fault. fault ≡ NoMemory };
 
-    fn from(_refused: AllocError) -> GameFault {
+    fn from(_refused: Refused) -> GameFault {
         GameFault::NoMemory
+    }
+}
+
+impl From<StatesFault> for GameFault {
+    ghost use Rattle.cw_product.specs.Faults.{fault_of};
+
+    ghost from_gives = { λ given fault. fault ≡ fault_of given };
+
+    fn from(fault: StatesFault) -> GameFault {
+        match fault {
+            StatesFault::TooManyCaps => GameFault::TooManyCaps,
+            StatesFault::TooManyWords => GameFault::TooManyWords,
+            StatesFault::TooManyStates => GameFault::TooManyStates,
+            StatesFault::NoMemory => GameFault::NoMemory,
+        }
     }
 }

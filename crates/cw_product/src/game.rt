@@ -5,17 +5,18 @@ ghost use Rattle.cw_rights.specs.declared.capabilities.Primitive.TheVariants.{En
 ghost use Rattle.cw_rights.specs.Policies.{policy_of};
 ghost use Rattle.cw_game.specs.Games.{Game as GameOf};
 ghost use Rattle.cw_positions.specs.Positions.{primitives_at};
-ghost use Rattle.cw_product.specs.Kept.{stages_of};
+ghost use Rattle.cw_positions.specs.Seams.{stages_of};
 ghost use Rattle.cw_product.specs.Moves.{numbers, next_in};
 
 use crate::fault::GameFault;
 use crate::place::{Place, begun, is_asked, is_split, stage_of};
 use crate::turn::Turn;
+use crate::uses::uses_of;
 use cw_certs::Move;
-use cw_core::{PointId, PosId, SeamId, StateId};
+use cw_core::{PointId, PosId, Quantity, SeamId, StateId};
 use cw_game::Spot;
 use cw_points::{Graph, Part, Point};
-use cw_positions::Positions;
+use cw_positions::{Positions, count};
 use cw_rights::policy::is_refusable;
 use cw_rights::{Caps, Policy, Primitive};
 use cw_states::States;
@@ -116,6 +117,7 @@ fn branched(left: PosId, right: PosId, state: StateId, by: Move) -> Option<(PosI
 impl<'g> Game<'g> {
     ghost use Rattle.std.specs.Prelude.{◌≡◌, ◌<◌, ◌≤◌, ◌*◌, ℕ, List, [], Some, None, length, option_map, slice_get, IfOk, IfErr, IfSome};
     ghost use Rattle.cw_product.specs.Product.{IsProgramsGraph, IsCause, game_of};
+    ghost use Rattle.cw_product.specs.Opens.{OpensVariables};
     ghost use Rattle.cw_product.specs.Uses.{uses_of};
     ghost use Rattle.cw_rights.specs.Valid.{IsValid};
     ghost use Rattle.cw_core.specs.declared.quantity.Quantity.TheVariants.{PositionsTimesStates};
@@ -156,9 +158,21 @@ impl<'g> Game<'g> {
         ensures is_game { IfOk result (λ g. (source : List ℕ) (file : File)
             → IsGraph (names_of (policy_of policy.now)) source file graph.now
             → IsRunnable (plan_of (names_of (policy_of policy.now)) source file)
+            → OpensVariables (policy_of policy.now) graph.now
             → IsGameOf (problem_of (policy_of policy.now) source file) (game_of g)) }
     {
-        Err(GameFault::NoMemory)
+        let states = States::make(alloc, policy, uses_of(&graph.nodes, policy))?;
+        let pairs = u64::from(count(graph, policy)) * u64::from(states.count());
+        if pairs > Quantity::PositionsTimesStates.limit() {
+            return Err(GameFault::TooManyPositions);
+        }
+        let positions = Positions::make(alloc, graph, policy)?;
+        Ok(Game {
+            graph,
+            policy,
+            states,
+            positions,
+        })
     }
 
     // What stands at the positions, the functions and the seams are in range, and states lead to states.
