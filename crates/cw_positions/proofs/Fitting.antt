@@ -12,7 +12,40 @@ use Rattle.cw_points.specs.declared.graph.Point.{Point}
 use Rattle.cw_points.specs.declared.graph.Point.TheVariants as point
 use Rattle.cw_points.specs.declared.graph.Node.{Node}
 use Rattle.cw_points.specs.Points.{count, count_all}
+use Rattle.cw_positions.specs.Opens.{EachStands, EachStandsIn, EachStandsArm, EachStandsAll, EachStandsFrom}
 use Rattle.cw_points.specs.Graphs.{node, branch, first, init_nodes, test_node, step_nodes, turns, test_of, turn_of, nodes_in, nodes_in_all, exit_of, nodes_of, nodes_from}
+
+-- what holds of each expression holds of those that are statements
+module _ (T : Tree → Type 0) (all : (t : Tree) → T t) where
+  mutual
+    every : (s : Statement) → EachStands T s
+    every (Stated form from to) = every_in form
+
+    every_in : (f : Form) → EachStandsIn T f
+    every_in (Block ss) = every_all ss
+    every_in (Declares d) = tt
+    every_in (Evaluates e) = all e
+    every_in Empties = tt
+    every_in (Labels name mark s) = every s
+    every_in (Chooses test s other) = (every s, every_arm other)
+    every_in (Whiles test s) = every s
+    every_in (Does s test) = every s
+    every_in (Fors init test step s) = every s
+    every_in Breaks = tt
+    every_in Continues = tt
+    every_in (Returns value) = tt
+
+    every_arm : (o : Perhaps) → EachStandsArm T o
+    every_arm nothing = tt
+    every_arm (just s) = every s
+
+    every_all : (ss : Statements) → EachStandsAll T ss
+    every_all nil = tt
+    every_all (cons s ss) = (every s, every_all ss)
+
+  every_from : (fs : List Definition) → EachStandsFrom T fs
+  every_from [] = tt
+  every_from (f ∷ fs) = (every_all f.body, every_from fs)
 
 -- what is asked of an open, of a close, of a call and of a label
 module _ (O C L : ℕ → Type 0) (K : Callee → Type 0) where
@@ -42,8 +75,8 @@ module _ (O C L : ℕ → Type 0) (K : Callee → Type 0) where
     AllFit end = Unit {0}
     AllFit (then s ss) = Fits s × AllFit ss
 
-  -- of a program's functions
-  module _ (c : Scene) (acts : (t : Tree) → ActFits (action_of c t)) (labels : (name : Name) → L (number_or_other c.names.labels (text c.source name))) where
+  -- of a program's functions, where this holds of each expression that is a statement
+  module _ (c : Scene) (T : Tree → Type 0) (acts : (t : Tree) → T t → ActFits (action_of c t)) (labels : (name : Name) → L (number_or_other c.names.labels (text c.source name))) where
     acting_fits : (a : Action) (at j : ℕ) → ActFits a → Fits (numbered (acting a at) j)
     acting_fits Computes at j h = tt
     acting_fits (Opens d) at j h = h
@@ -51,39 +84,39 @@ module _ (O C L : ℕ → Type 0) (K : Callee → Type 0) where
     acting_fits (Invokes callee) at j h = h
 
     mutual
-      step_fits : (s : Statement) (j : ℕ) → Fits (numbered (steps_of c s) j)
-      step_fits (Stated form from to) j = form_fits form from j
+      step_fits : (s : Statement) (j : ℕ) → EachStands T s → Fits (numbered (steps_of c s) j)
+      step_fits (Stated form from to) j h = form_fits form from j h
 
-      form_fits : (f : Form) (at j : ℕ) → Fits (numbered (steps_of_form c at f) j)
-      form_fits (Block ss) at j = steps_fit ss j
-      form_fits (Declares d) at j = tt
-      form_fits (Evaluates e) at j = acting_fits (action_of c e) at j (acts e)
-      form_fits Empties at j = tt
-      form_fits (Labels name mark s) at j = (labels name, step_fits s (j + 1))
-      form_fits (Chooses test s other) at j = (step_fits s j, arm_fits other (j + seams (steps_of c s)))
-      form_fits (Whiles test s) at j = step_fits s j
-      form_fits (Does s test) at j = step_fits s j
-      form_fits (Fors init test step s) at j = step_fits s j
-      form_fits Breaks at j = tt
-      form_fits Continues at j = tt
-      form_fits (Returns value) at j = tt
+      form_fits : (f : Form) (at j : ℕ) → EachStandsIn T f → Fits (numbered (steps_of_form c at f) j)
+      form_fits (Block ss) at j h = steps_fit ss j h
+      form_fits (Declares d) at j h = tt
+      form_fits (Evaluates e) at j h = acting_fits (action_of c e) at j (acts e h)
+      form_fits Empties at j h = tt
+      form_fits (Labels name mark s) at j h = (labels name, step_fits s (j + 1) h)
+      form_fits (Chooses test s other) at j h = (step_fits s j h.0, arm_fits other (j + seams (steps_of c s)) h.1)
+      form_fits (Whiles test s) at j h = step_fits s j h
+      form_fits (Does s test) at j h = step_fits s j h
+      form_fits (Fors init test step s) at j h = step_fits s j h
+      form_fits Breaks at j h = tt
+      form_fits Continues at j h = tt
+      form_fits (Returns value) at j h = tt
 
-      arm_fits : (o : Perhaps) (j : ℕ) → Fits (numbered (steps_of_arm c o) j)
-      arm_fits nothing j = tt
-      arm_fits (just s) j = step_fits s j
+      arm_fits : (o : Perhaps) (j : ℕ) → EachStandsArm T o → Fits (numbered (steps_of_arm c o) j)
+      arm_fits nothing j h = tt
+      arm_fits (just s) j h = step_fits s j h
 
-      steps_fit : (ss : Statements) (j : ℕ) → AllFit (numbered_all (steps_of_all c ss) j)
-      steps_fit nil j = tt
-      steps_fit (cons s ss) j = (step_fits s j, steps_fit ss (j + seams (steps_of c s)))
+      steps_fit : (ss : Statements) (j : ℕ) → EachStandsAll T ss → AllFit (numbered_all (steps_of_all c ss) j)
+      steps_fit nil j h = tt
+      steps_fit (cons s ss) j h = (step_fits s j h.0, steps_fit ss (j + seams (steps_of c s)) h.1)
 
     pub EachFits : List Routine → Type 0
     EachFits [] = Unit {0}
     EachFits (r ∷ rs) = AllFit r.body × EachFits rs
 
-    routines_fit : (j : ℕ) (fs : List Definition) → EachFits (routines_from c j fs)
+    routines_fit : (j : ℕ) (fs : List Definition) → EachStandsFrom T fs → EachFits (routines_from c j fs)
     unfolding EachFits
-    routines_fit j [] = tt
-    routines_fit j (f ∷ fs) = (steps_fit f.body (j + 1), routines_fit (j + 1 + seams_all (steps_of_all c f.body)) fs)
+    routines_fit j [] h = tt
+    routines_fit j (f ∷ fs) h = (steps_fit f.body (j + 1) h.0, routines_fit (j + 1 + seams_all (steps_of_all c f.body)) fs h.1)
 
     fits_at : (rs : List Routine) (f : ℕ) (r : Routine) → EachFits rs → slice_get rs f ≡ Some r → AllFit r.body
     unfolding EachFits
@@ -91,8 +124,13 @@ module _ (O C L : ℕ → Type 0) (K : Callee → Type 0) where
     fits_at (m ∷ rs) zero r h e = subst (λ (k : Routine). AllFit k.body) (same_Some m r e) h.0
     fits_at (m ∷ rs) (suc f) r h e = fits_at rs f r h.1 e
 
+    pub routine_fits_where : (fs : List Definition) (j f : ℕ) (r : Routine) → EachStandsFrom T fs → slice_get (routines_from c j fs) f ≡ Some r → AllFit r.body
+    routine_fits_where fs j f r h e = fits_at (routines_from c j fs) f r (routines_fit j fs h) e
+
+  -- the same where it holds of each expression
+  module _ (c : Scene) (acts : (t : Tree) → ActFits (action_of c t)) (labels : (name : Name) → L (number_or_other c.names.labels (text c.source name))) where
     pub routine_fits : (fs : List Definition) (j f : ℕ) (r : Routine) → slice_get (routines_from c j fs) f ≡ Some r → AllFit r.body
-    routine_fits fs j f r e = fits_at (routines_from c j fs) f r (routines_fit j fs) e
+    routine_fits fs j f r e = routine_fits_where c (λ t. Unit {0}) (λ t h. acts t) labels fs j f r (every_from (λ t. Unit {0}) (λ t. tt) fs) e
 
   -- and of its points
   module _ (P : ℕ → Type 0) (called : (callee : Callee) → K callee → P callee.number) where

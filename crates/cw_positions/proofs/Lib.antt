@@ -13,3 +13,4 @@ pub mod Origins
 pub mod Bounding
 pub mod Seaming
 pub mod Seen
+pub mod Opening

@@ -3,3 +3,4 @@ pub mod Closed
 pub mod Laid
 pub mod Origins
 pub mod Seams
+pub mod Opens

@@ -2,6 +2,7 @@
 
 ghost use Rattle.cw_positions.specs.Closed.{PositionsAreClosed, GraphsAreWhole, MainIsThere};
 ghost use Rattle.cw_positions.specs.Laid.{ProgramsAreLaidOut, GamesHaveRoutines};
+ghost use Rattle.cw_positions.specs.Opens.{ProgramsOpenVariables};
 ghost use Rattle.cw_positions.specs.Origins.{PositionsAreOfPoints, PointsAreWithin};
 ghost use Rattle.cw_positions.specs.Seams.{SeamsAreSeen, StagesAreSeen};
 
@@ -35,4 +36,9 @@ pub fn positions_are_of_points()
 pub fn seams_are_seen()
     ensures seams { SeamsAreSeen }
     ensures stages { StagesAreSeen }
+{}
+
+/// Where the names to which a program assigns the results of calls are C names, what it opens is a variable of any valid policy, and no number: a digit is no C name.
+pub fn programs_open_variables()
+    ensures variables { ProgramsOpenVariables }
 {}
