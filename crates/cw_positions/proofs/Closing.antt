@@ -1,6 +1,6 @@
 -- Positions lead to positions that there are.
-use Rattle.std.proofs.Common.{◌≡◌, ℕ, zero, suc, ◌+◌, ◌*◌, ◌<◌, ◌≤◌, List, [], ◌∷◌, ◌++◌, Bool, true, false, cond, length, map, Option, Some, None, refl, sym, ap, ◌∙◌, subst, arith, add-zero, length-append}
-use Rattle.std.specs.Prelude.{slice_get, option_map}
+use Rattle.std.proofs.Common.{◌≡◌, ℕ, zero, suc, ◌+◌, ◌*◌, ◌<◌, ◌≤◌, List, [], ◌∷◌, ◌++◌, Bool, true, false, cond, length, map, Option, Some, None, refl, sym, subst, arith, add-zero}
+use Rattle.std.specs.Prelude.{slice_get}
 use Rattle.std.proofs.lemmas.Option.{none-some, same_Some, slice_get_within}
 use Rattle.cw_rights.specs.declared.capabilities.Limit.{Limit as ALimit}
 use Rattle.cw_rights.specs.declared.capabilities.Primitive.{Primitive}
@@ -13,10 +13,10 @@ use Rattle.cw_points.specs.declared.graph.Point.TheVariants as point
 use Rattle.cw_points.specs.declared.graph.Node.{Node}
 use Rattle.cw_points.specs.declared.graph.Part.{Part}
 use Rattle.cw_points.specs.Walks.{first_of, second_of}
-use Rattle.cw_positions.specs.Positions.{is_split, is_split_call, primitives_at, width, base, visits, free, number, to, spots_at, spots_in}
+use Rattle.cw_positions.specs.Positions.{is_split, primitives_at, width, base, visits, free, number, to, spots_at, spots_in}
 use Rattle.cw_positions.specs.Closed.{LeadsWithin}
 use Rattle.cw_positions.proofs.Begins.{begin_below}
-use Rattle.cw_positions.proofs.Lengths.{length_visits, width_at, length_all}
+use Rattle.cw_positions.proofs.Lengths.{width_at, length_all}
 use Rattle.cw_positions.proofs.Leading.{IsBelow, EachLeads, leads_at}
 use Rattle.cw_positions.proofs.Standing.{found}
 

@@ -1,19 +1,19 @@
 -- What holds of each action and of each label of a program holds of its statements, and of its points.
-use Rattle.std.proofs.Common.{◌≡◌, ℕ, zero, suc, ◌+◌, List, [], ◌∷◌, ◌++◌, Bool, true, false, Option, Some, None, refl, sym, ap, subst}
-use Rattle.std.specs.Prelude.{slice_get, is_some}
+use Rattle.std.proofs.Common.{◌≡◌, ℕ, zero, suc, ◌+◌, List, [], ◌∷◌, ◌++◌, Bool, true, false, Option, Some, None, refl, subst}
+use Rattle.std.specs.Prelude.{slice_get}
 use Rattle.std.proofs.lemmas.Option.{none-some, same_Some}
 use Rattle.cw_syntax.specs.declared.program.Name.{Name}
 use Rattle.cw_syntax.specs.Names.{text, number_or_other}
 use Rattle.cw_syntax.specs.Trees.{Tree, Statement, Stated, Form, Block, Declares, Evaluates, Empties, Labels, Chooses, Whiles, Does, Fors, Breaks, Continues, Returns, Perhaps, nothing, just}
 use Rattle.cw_syntax.specs.Trees.{Statements, nil, cons, Definition}
 use Rattle.cw_syntax.specs.Plans.{Callee, Stm, Plain, Break, Continue, Return, Open, Close, Call, Group, Label, If, While, Do, For, Stms, end, then, Routine, Scene, Action, Computes, Opens, Closes, Invokes}
-use Rattle.cw_syntax.specs.Plans.{acting, action_of, steps_of, steps_of_form, steps_of_arm, steps_of_all, seams, seams_all, numbered, numbered_all, routines_from, place_if}
+use Rattle.cw_syntax.specs.Plans.{acting, action_of, steps_of, steps_of_form, steps_of_arm, steps_of_all, seams, seams_all, numbered, numbered_all, routines_from}
 use Rattle.cw_points.specs.declared.graph.Point.{Point}
 use Rattle.cw_points.specs.declared.graph.Point.TheVariants as point
 use Rattle.cw_points.specs.declared.graph.Node.{Node}
 use Rattle.cw_points.specs.Points.{count, count_all}
 use Rattle.cw_positions.specs.Opens.{EachStands, EachStandsIn, EachStandsArm, EachStandsAll, EachStandsFrom}
-use Rattle.cw_points.specs.Graphs.{node, branch, first, init_nodes, test_node, step_nodes, turns, test_of, turn_of, nodes_in, nodes_in_all, exit_of, nodes_of, nodes_from}
+use Rattle.cw_points.specs.Graphs.{node, branch, first, init_nodes, turns, test_of, turn_of, nodes_in, nodes_in_all, exit_of, nodes_of, nodes_from}
 
 -- what holds of each expression holds of those that are statements
 module _ (T : Tree → Type 0) (all : (t : Tree) → T t) where

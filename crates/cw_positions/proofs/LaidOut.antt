@@ -1,11 +1,11 @@
 -- A program stands among the positions of its graph.
-use Rattle.std.proofs.Common.{◌≡◌, ℕ, ◌<◌, List, [], ◌∷◌, length, map, Option, Some, None, refl, sym, ap, ◌∙◌, subst, arith, ⊎_elim}
+use Rattle.std.proofs.Common.{◌≡◌, ℕ, ◌<◌, List, length, Some, sym, ◌∙◌, subst, arith, ⊎_elim}
 use Rattle.std.specs.Prelude.{slice_get, option_map}
 use Rattle.std.proofs.lemmas.List.{length-map}
 use Rattle.cw_rights.specs.Policies.{PlainPolicy, PlainDescriptor}
 use Rattle.cw_syntax.specs.Trees.{File}
 use Rattle.cw_syntax.specs.Plans.{Callee, Action, Computes, Opens, Closes, Invokes, action_of, Routine, plan_of, scene_of}
-use Rattle.cw_syntax.specs.Frames.{Frame, new_frame}
+use Rattle.cw_syntax.specs.Frames.{new_frame}
 use Rattle.cw_syntax.specs.Runnable.{IsRunnable}
 use Rattle.cw_actions.specs.Scenes.{names_of}
 use Rattle.cw_actions.proofs.Bounds.{IsWithin, acts_within}
@@ -13,7 +13,6 @@ use Rattle.cw_game.specs.declared.spots.Spot.{Spot}
 use Rattle.cw_game.specs.declared.spots.Spot.TheVariants.{Call, SplitCall}
 use Rattle.cw_game.specs.Games.{Game}
 use Rattle.cw_game.specs.Places.{At, IsLaidOut, HasRoutines}
-use Rattle.cw_points.specs.declared.graph.Node.{Node}
 use Rattle.cw_points.specs.declared.graph.Part.{Part}
 use Rattle.cw_points.specs.declared.graph.Graph.{Graph}
 use Rattle.cw_points.specs.Points.{points}

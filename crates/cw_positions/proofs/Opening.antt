@@ -1,6 +1,6 @@
 -- What a program opens is a variable of the policy.
-use Rattle.std.proofs.Common.{◌≡◌, ◌⊎◌, ℕ, zero, suc, ◌+◌, ◌<◌, ◌≤◌, List, [], ◌∷◌, length, map, Bool, true, false, cond, ◌&&◌, ◌||◌, Option, Some, None, refl, sym, ap, ◌∙◌, subst, arith, ⊎_elim}
-use Rattle.std.specs.Prelude.{slice_get, option_map, codes, nat_le, nat_eq, IsTrue, All}
+use Rattle.std.proofs.Common.{◌≡◌, ℕ, zero, suc, ◌+◌, ◌<◌, List, [], ◌∷◌, Bool, true, false, cond, Option, Some, None, refl, sym, ap, ◌∙◌, subst, arith}
+use Rattle.std.specs.Prelude.{slice_get, option_map, codes, IsTrue, All}
 use Rattle.std.specs.Str.{bytes_eq}
 use Rattle.std.proofs.lemmas.Option.{none-some, same_Some, slice_get-map, get_or_from_slice_get, slice_get_within}
 use Rattle.cw_game.proofs.Truths.{and_parts}
@@ -10,14 +10,14 @@ use Rattle.cw_syntax.specs.declared.program.Name.{Name}
 use Rattle.cw_syntax.specs.declared.program.Op.TheVariants.{Name as NameOp, Call as CallOp, Assign}
 use Rattle.cw_syntax.specs.Names.{text, number_in}
 use Rattle.cw_syntax.specs.Trees.{Tree, Node as TreeNode, Trees, none, more, File}
-use Rattle.cw_syntax.specs.Plans.{Callee, Action, Computes, Opens, Closes, Invokes, action_of, call_action, assigned_action, closed_by, closes_if, opens_if, descriptor_of, Scene, Routine, scene_of, plan_of}
+use Rattle.cw_syntax.specs.Plans.{Callee, Action, Computes, action_of, call_action, assigned_action, closed_by, closes_if, opens_if, descriptor_of, Routine, scene_of, plan_of}
 use Rattle.cw_actions.specs.Scenes.{names_of}
 use Rattle.cw_points.specs.declared.graph.Point.{Point}
 use Rattle.cw_points.specs.declared.graph.Point.TheVariants as point
 use Rattle.cw_points.specs.declared.graph.Node.{Node}
 use Rattle.cw_points.specs.declared.graph.Graph.{Graph}
 use Rattle.cw_points.specs.Graphs.{nodes, IsGraph}
-use Rattle.cw_positions.specs.Opens.{assigned, AssignsName, AssignsNames, OpensVariable}
+use Rattle.cw_positions.specs.Opens.{AssignsName, AssignsNames, OpensVariable}
 use Rattle.cw_positions.proofs.Fitting.{ActFits, PointFits, routine_fits_where, points_fit_from, point_fits}
 use Rattle.cw_positions.proofs.Programs.{of_graph}
 use Rattle.cw_positions.proofs.Splitting.{named_at}

@@ -1,7 +1,7 @@
 -- What stands among the points stands among the positions too.
-use Rattle.std.proofs.Common.{◌≡◌, ℕ, zero, suc, ◌+◌, ◌*◌, ◌<◌, List, [], ◌∷◌, ◌++◌, map, length, Bool, true, false, cond, Option, Some, None, refl, sym, ap, ◌∙◌, subst, arith}
+use Rattle.std.proofs.Common.{◌≡◌, ℕ, suc, ◌+◌, ◌<◌, List, [], ◌∷◌, ◌++◌, map, length, Bool, true, false, cond, Option, Some, None, refl, sym, ap, ◌∙◌, subst, arith}
 use Rattle.std.specs.Prelude.{slice_get, option_map}
-use Rattle.std.proofs.lemmas.Option.{none-some, same_Some}
+use Rattle.std.proofs.lemmas.Option.{none-some}
 use Rattle.cw_rights.specs.declared.capabilities.Limit.{Limit as ALimit}
 use Rattle.cw_rights.specs.declared.capabilities.Primitive.{Primitive}
 use Rattle.cw_rights.specs.declared.capabilities.Primitive.TheVariants.{Limit, Enter, Split}
@@ -13,15 +13,14 @@ use Rattle.cw_game.specs.declared.spots.Spot.{Spot}
 use Rattle.cw_game.specs.declared.spots.Spot.TheVariants as spot
 use Rattle.cw_game.specs.Places.{IsLast, Visits, Placed, PlacedAll, TestAt, StepAt, InitAt, CallsAt, At}
 use Rattle.cw_game.proofs.Places.{at_items}
-use Rattle.cw_points.specs.declared.graph.Point.{Point}
 use Rattle.cw_points.specs.declared.graph.Point.TheVariants as point
 use Rattle.cw_points.specs.declared.graph.Node.{Node}
 use Rattle.cw_points.specs.declared.graph.Part.{Part}
 use Rattle.cw_points.specs.Graphs.{node, step, branch, test_node}
 use Rattle.cw_points.proofs.Held.{HasAt, has_front, has_back}
 use Rattle.cw_points.proofs.Placed.{Placed as PlacedIn, PlacedAll as PlacedAllIn, StepAt as StepIn, InitAt as InitIn, IsPlaced}
-use Rattle.cw_positions.specs.Positions.{is_split, primitives_at, width, base, visits, free, spots_at, spots_in}
-use Rattle.cw_positions.proofs.Lengths.{length_visits, width_at}
+use Rattle.cw_positions.specs.Positions.{is_split, width, base, visits, free, spots_at, spots_in}
+use Rattle.cw_positions.proofs.Lengths.{width_at}
 use Rattle.cw_positions.proofs.Standing.{stands}
 use Rattle.cw_positions.proofs.Fitting.{Fits, AllFit}
 

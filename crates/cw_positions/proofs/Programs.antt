@@ -1,13 +1,11 @@
 -- What holds of the points and parts of a program's plan holds of its graph.
-use Rattle.std.proofs.Common.{◌≡◌, ℕ, zero, suc, ◌+◌, ◌*◌, ◌<◌, ◌≤◌, List, [], ◌∷◌, length, map, Bool, true, false, Option, Some, None, refl, sym, ap, ◌∙◌, subst, arith}
+use Rattle.std.proofs.Common.{◌≡◌, ℕ, suc, ◌+◌, ◌*◌, ◌<◌, ◌≤◌, List, [], ◌∷◌, length, Bool, Option, Some, None, refl, sym, ap, ◌∙◌, subst, arith}
 use Rattle.std.specs.Prelude.{slice_get, option_map, is_some}
-use Rattle.std.specs.Str.{bytes_eq}
-use Rattle.std.proofs.lemmas.Option.{none-some, same_Some, slice_get_within}
+use Rattle.std.proofs.lemmas.Option.{slice_get_within}
 use Rattle.std.proofs.lemmas.List.{length-map}
 use Rattle.cw_rights.specs.Policies.{PlainPolicy}
-use Rattle.cw_syntax.specs.declared.program.Name.{Name}
 use Rattle.cw_syntax.specs.Names.{Names, text, number_in}
-use Rattle.cw_syntax.specs.Trees.{Tree, Definition, File}
+use Rattle.cw_syntax.specs.Trees.{Definition, File}
 use Rattle.cw_syntax.specs.Plans.{Callee, Action, Computes, Opens, Closes, Invokes, action_of, Scene, Routine, Plan, routines_from, plan_of, scene_of, seams_all, steps_of_all}
 use Rattle.cw_actions.proofs.Bounds.{IsWithin, acts_within}
 use Rattle.cw_game.specs.declared.spots.Spot.{Spot}
@@ -22,7 +20,7 @@ use Rattle.cw_points.specs.Graphs.{nodes, parts_from, splits_of, exit_of, IsGrap
 use Rattle.cw_points.specs.Walks.{parts_of}
 use Rattle.cw_points.proofs.Placed.{IsPart, IsPlaced}
 use Rattle.cw_points.proofs.Laying.{placed_program}
-use Rattle.cw_positions.specs.Positions.{base, to, spots_in, entry_of, exit_of as exit_at}
+use Rattle.cw_positions.specs.Positions.{base, to, spots_in}
 use Rattle.cw_positions.specs.Closed.{IsClosed, IsWhole, LeadsWithin}
 use Rattle.cw_positions.proofs.Leading.{all_lead, length_nodes}
 use Rattle.cw_positions.proofs.Fitting.{ActFits, PointFits, routine_fits, points_fit_from, point_fits}

@@ -1,9 +1,8 @@
 -- The seams of a program, by its points: both are numbered in the order of the text.
-use Rattle.std.proofs.Common.{◌≡◌, ◌⊎◌, ℕ, zero, suc, ◌+◌, ◌<◌, List, [], ◌∷◌, ◌++◌, length, Bool, true, false, Option, Some, None, refl, sym, ap, ◌∙◌, subst, arith, inl, inr, ⊎_elim, length-append, add-zero}
+use Rattle.std.proofs.Common.{◌≡◌, ◌⊎◌, ℕ, zero, suc, ◌+◌, List, [], ◌∷◌, ◌++◌, length, Bool, true, false, Option, Some, None, refl, sym, ap, ◌∙◌, subst, arith, inl, inr, ⊎_elim, length-append, add-zero}
 use Rattle.std.specs.Prelude.{slice_get}
 use Rattle.std.proofs.lemmas.List.{append-nil}
 use Rattle.std.proofs.lemmas.Option.{none-some, same_Some}
-use Rattle.cw_core.specs.declared.ids.SeamId.{SeamId}
 use Rattle.cw_syntax.specs.Names.{Names}
 use Rattle.cw_syntax.specs.Trees.{Definition, File}
 use Rattle.cw_syntax.specs.Plans.{Scene, Stm, Plain, Break, Continue, Return, Open, Close, Call, Group, Label, If, While, Do, For, Stms, end, then, Routine, seams, seams_all, numbered}
@@ -13,7 +12,7 @@ use Rattle.cw_points.specs.declared.graph.Point.TheVariants as point
 use Rattle.cw_points.specs.declared.graph.Node.{Node}
 use Rattle.cw_points.specs.declared.graph.Seam.{Seam}
 use Rattle.cw_points.specs.Points.{one_if, one_if_some, count, count_all}
-use Rattle.cw_points.specs.Graphs.{node, branch, step, first, init_nodes, test_node, step_nodes, turns, test_of, turn_of, nodes_in, nodes_in_all, exit_of, nodes_of, nodes_from, nodes, seam}
+use Rattle.cw_points.specs.Graphs.{node, branch, first, init_nodes, test_node, step_nodes, turns, test_of, turn_of, nodes_in, nodes_in_all, exit_of, nodes_from, nodes, seam}
 use Rattle.cw_points.specs.Graphs.{seam_id, seams_in, seams_in_all, seams_from}
 use Rattle.cw_points.proofs.Lengths.{init_length, step_length, nodes_length, nodes_length_all, seams_length, seams_length_all}
 

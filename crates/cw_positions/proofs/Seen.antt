@@ -1,11 +1,10 @@
 -- The seams of a program's graph are those of its positions, each with its stages.
-use Rattle.std.proofs.Common.{◌≡◌, ◌⊎◌, ℕ, zero, suc, ◌+◌, ◌<◌, List, [], ◌∷◌, ◌++◌, length, map, Bool, true, false, cond, ◌&&◌, ◌||◌, nat_eq, nat_lt, Option, Some, None, refl, sym, ap, ◌∙◌, subst, arith, ⊎_elim, zero-add, eq-eqb}
+use Rattle.std.proofs.Common.{◌≡◌, ℕ, zero, suc, ◌+◌, ◌<◌, List, [], ◌∷◌, ◌++◌, length, map, Bool, true, false, ◌||◌, nat_eq, nat_lt, Option, Some, None, refl, sym, ap, ◌∙◌, subst, arith, ⊎_elim, zero-add, eq-eqb}
 use Rattle.std.specs.Prelude.{slice_get}
 use Rattle.std.specs.List.{list_any}
 use Rattle.std.proofs.lemmas.Bool.{eqb-true}
 use Rattle.std.proofs.lemmas.Bool.Decides.{nat_tests}
 use Rattle.std.proofs.lemmas.Option.{none-some, same_Some, slice_get_within}
-use Rattle.cw_core.specs.declared.ids.SeamId.{SeamId}
 use Rattle.cw_rights.specs.declared.capabilities.Limit.{Limit as ALimit}
 use Rattle.cw_rights.specs.declared.capabilities.Primitive.{Primitive}
 use Rattle.cw_rights.specs.declared.capabilities.Primitive.TheVariants.{Limit, Enter, Split}
@@ -23,7 +22,7 @@ use Rattle.cw_points.specs.declared.graph.Node.{Node}
 use Rattle.cw_points.specs.declared.graph.Part.{Part}
 use Rattle.cw_points.specs.declared.graph.Seam.{Seam}
 use Rattle.cw_points.specs.declared.graph.Graph.{Graph}
-use Rattle.cw_points.specs.Graphs.{seam_id, nodes, seams_from, IsGraph}
+use Rattle.cw_points.specs.Graphs.{nodes, IsGraph}
 use Rattle.cw_points.specs.Walks.{first_of, second_of}
 use Rattle.cw_points.proofs.Held.{HasAt}
 use Rattle.cw_positions.specs.Positions.{is_split, primitives_at, width, base, visits, free, number, to, spots_at, spots}
@@ -33,7 +32,7 @@ use Rattle.cw_positions.proofs.Lengths.{width_at}
 use Rattle.cw_positions.proofs.Standing.{stands}
 use Rattle.cw_positions.proofs.Closing.{get_below}
 use Rattle.cw_positions.proofs.Origins.{positions_are_of_points}
-use Rattle.cw_positions.proofs.Seaming.{is_seam_point, IsBare, HasSeam, AreSeams, seams_of_plan, seam_at, point_at}
+use Rattle.cw_positions.proofs.Seaming.{is_seam_point, AreSeams, seams_of_plan, seam_at, point_at}
 
 any_at : {A : Type 0} (p : A → Bool) (xs : List A) → list_any p xs ≡ true → (i : ℕ) × (x : A) × (slice_get xs i ≡ Some x) × (p x ≡ true)
 any_at {A = A} p [] h = cc

@@ -1,5 +1,5 @@
 -- A call may be split off exactly where its function's part says so.
-use Rattle.std.proofs.Common.{◌≡◌, ℕ, zero, suc, ◌+◌, ◌<◌, List, [], ◌∷◌, length, map, get_or, Bool, true, false, cond, Option, Some, None, refl, sym, ap, ◌∙◌, subst, arith}
+use Rattle.std.proofs.Common.{◌≡◌, ℕ, zero, suc, ◌+◌, ◌<◌, List, [], ◌∷◌, length, get_or, Bool, true, false, cond, Option, Some, None, refl, sym, ap, ◌∙◌, arith}
 use Rattle.std.specs.Prelude.{slice_get, option_map, is_some, codes}
 use Rattle.std.specs.Str.{bytes_eq}
 use Rattle.std.proofs.lemmas.Option.{none-some, same_Some, slice_get-get_or, slice_get-map}
@@ -10,10 +10,10 @@ use Rattle.cw_syntax.specs.declared.program.Name.{Name}
 use Rattle.cw_syntax.specs.declared.program.Op.TheVariants.{Name as NameOp, Call as CallOp, Assign}
 use Rattle.cw_syntax.specs.Names.{Names, text, number_in}
 use Rattle.cw_syntax.specs.Trees.{Tree, Node as TreeNode, Trees, none, more, Definition, File}
-use Rattle.cw_syntax.specs.Plans.{Callee, Action, Computes, Opens, Closes, Invokes, action_of, call_action, assigned_action, closed_by, closes_if, opens_if, descriptor_of, Scene, Routine, scene_of, function_names}
+use Rattle.cw_syntax.specs.Plans.{Action, Computes, Opens, Closes, Invokes, action_of, call_action, assigned_action, closed_by, closes_if, opens_if, descriptor_of, Scene, Routine, scene_of, function_names}
 use Rattle.cw_points.specs.declared.graph.Part.{Part}
 use Rattle.cw_points.specs.Graphs.{parts_from, splits_of, exit_of}
-use Rattle.cw_positions.specs.Positions.{is_split, is_split_part}
+use Rattle.cw_positions.specs.Positions.{is_split}
 
 -- the part of a function that has one says what the list says
 split_part : (rs : List Routine) (splits : List Bool) (n f : ℕ) (b : Bool) → f < length rs → slice_get splits f ≡ Some b → is_split (parts_from rs splits n) f ≡ b

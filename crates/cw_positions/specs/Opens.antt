@@ -5,7 +5,7 @@ use Rattle.cw_rights.specs.Valid.{is_name, IsValid}
 use Rattle.cw_syntax.specs.declared.program.Name.{Name}
 use Rattle.cw_syntax.specs.declared.program.Op.TheVariants.{Name as NameOp, Call as CallOp, Assign}
 use Rattle.cw_syntax.specs.Names.{text}
-use Rattle.cw_syntax.specs.Trees.{Tree, Node as TreeNode, Trees, none, more, Statement, Stated, Form, Block, Declares, Evaluates, Empties, Labels, Chooses, Whiles, Does, Fors, Breaks, Continues, Returns}
+use Rattle.cw_syntax.specs.Trees.{Tree, Node as TreeNode, none, more, Statement, Stated, Form, Block, Declares, Evaluates, Empties, Labels, Chooses, Whiles, Does, Fors, Breaks, Continues, Returns}
 use Rattle.cw_syntax.specs.Trees.{Perhaps, nothing, just, Statements, nil, cons, Definition, File}
 use Rattle.cw_actions.specs.Scenes.{names_of}
 use Rattle.cw_points.specs.declared.graph.Point.TheVariants as point

@@ -1,6 +1,6 @@
 -- The positions of the game at the points of a program under a policy, in the order of the points. A point with k primitives has a visit
 -- and what is asked there for each of them, then its free position, and a second free one where its last primitive is a split.
-use Rattle.std.specs.Prelude.{ℕ, suc, ◌+◌, ◌*◌, List, [], ◌∷◌, ◌++◌, Bool, true, false, cond, Option, Some, None, option_map, map, take, length, slice_get}
+use Rattle.std.specs.Prelude.{ℕ, suc, ◌+◌, ◌*◌, List, [], ◌∷◌, ◌++◌, Bool, false, cond, Option, Some, None, option_map, map, take, length, slice_get}
 use Rattle.std.specs.List.{sum_by, flat_map, range_with_len}
 use Rattle.cw_core.specs.declared.ids.SeamId.{SeamId}
 use Rattle.cw_rights.specs.declared.capabilities.Primitive.{Primitive}

@@ -1,4 +1,4 @@
-use Rattle.std.proofs.Common.{◌≤◌, ◌*◌, length, ap, arith}
+use Rattle.std.proofs.Common.{length, ap, arith}
 use Rattle.cw_rights.specs.Policies.{policy_of}
 use Rattle.cw_positions.proofs.Lengths.{base_small, end_step, end_all}
 use Rattle.cw_positions.proofs.widths.count.Goals as goal
