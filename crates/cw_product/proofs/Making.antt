@@ -12,6 +12,7 @@ use Rattle.cw_game.specs.Conditions.{has_seam, has_stage}
 use Rattle.cw_points.specs.declared.graph.Graph.{Graph}
 use Rattle.cw_positions.specs.declared.layout.Positions.{Positions}
 use Rattle.cw_positions.specs.Positions.{bases, spots}
+use Rattle.cw_positions.proofs.Programs.{is_whole, main_is_there, positions_are_closed}
 use Rattle.cw_positions.proofs.Seen.{seams_are_seen, stages_are_seen}
 use Rattle.cw_states.specs.declared.uses.Uses.{Uses}
 use Rattle.cw_states.specs.declared.fault.StatesFault.{StatesFault}
@@ -23,7 +24,7 @@ use Rattle.cw_product.specs.Faults.{fault_of}
 use Rattle.cw_product.specs.Uses.{uses_of}
 use Rattle.cw_product.specs.Product.{Held, IsCause, IsProgramsGraph, game_of}
 use Rattle.cw_product.specs.Kept.{IsKept, IsSound}
-use Rattle.cw_product.proofs.Fine.{are_fine, main_there, part_there, points_there}
+use Rattle.cw_product.proofs.Fine.{are_fine}
 
 -- the states' fault is the game's
 cause_by : (policy : PlainPolicy) (graph : Graph) (s : StatesFault) → IsStatesCause policy (uses_of policy graph.nodes.items) s → IsCause policy graph (fault_of s)
@@ -45,14 +46,15 @@ sound : (h : Held) → IsProgramsGraph (policy_of h.states.policy) h.graph → l
     → length (game_of h).spots * count (lists_of h.states) ≤ limit_of PositionsTimesStates → IsSound h
 sound h g narrow lists pairs =
     let policy = policy_of h.states.policy in
+    let whole = is_whole (names_of policy) g.source g.file h.graph g.drawn in
     let below : StayBelow (game_of h).states = stay_below (uses_of policy h.graph.nodes.items) (lists_of h.states) lists in
     record {
       narrow = narrow;
       few = factor (length (game_of h).spots) (count (lists_of h.states)) (limit_of PositionsTimesStates) pairs (omega (arith, below.start));
       fine = are_fine h g narrow;
-      parts = part_there (names_of policy) g.source g.file h.graph g.drawn;
-      main = main_there (names_of policy) g.source g.file h.graph g.drawn g.runnable;
-      points = points_there h;
+      parts = λ f part e. (whole.entries f part e, whole.exits f part e);
+      main = main_is_there (names_of policy) g.source g.file h.graph g.drawn g.runnable;
+      points = (positions_are_closed (names_of policy) g.source g.file h.graph policy g.drawn).points;
       seams = seams_are_seen (names_of policy) g.source g.file h.graph policy g.drawn;
       stages = stages_are_seen (names_of policy) g.source g.file h.graph policy g.drawn;
       below = below;

@@ -2,7 +2,6 @@
 pub mod Faults
 pub mod Kept
 pub mod Moves
-pub mod Opens
 pub mod Places
 pub mod Product
 pub mod Uses

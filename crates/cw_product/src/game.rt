@@ -1,21 +1,15 @@
 //! The game of a program's graph and a policy.
 
-ghost use Rattle.std.specs.Prelude.{◌≡◌, ◌<◌, Some, length};
-ghost use Rattle.cw_rights.specs.declared.capabilities.Primitive.TheVariants.{Enter};
-ghost use Rattle.cw_rights.specs.Policies.{policy_of};
-ghost use Rattle.cw_game.specs.Games.{Game as GameOf};
-ghost use Rattle.cw_positions.specs.Positions.{primitives_at};
-ghost use Rattle.cw_positions.specs.Seams.{stages_of};
-ghost use Rattle.cw_product.specs.Moves.{numbers, next_in};
-
 use crate::fault::GameFault;
+use crate::moves::{branched, gone_on, visited};
 use crate::place::{Place, begun, is_asked, is_split, stage_of};
+use crate::stages::stages_of;
 use crate::turn::Turn;
 use crate::uses::uses_of;
 use cw_certs::Move;
 use cw_core::{PointId, PosId, Quantity, SeamId, StateId};
 use cw_game::Spot;
-use cw_points::{Graph, Part, Point};
+use cw_points::{Graph, Part};
 use cw_positions::{Positions, count};
 use cw_rights::policy::is_refusable;
 use cw_rights::{Caps, Policy, Primitive};
@@ -50,74 +44,10 @@ impl<'g> Model for Game<'g> {
     ghost invariant = { λ s. IsKept (record { graph = s.graph.now; states = s.states }) s.policy.now s.positions };
 }
 
-// How many primitives are tried or skipped at a point.
-fn stages_at(policy: &Policy, parts: &[Part], point: Point) -> usize
-    ensures { result ≡ length (primitives_at (policy_of policy.now) parts.now point) }
-{
-    let seams = policy.limits.len() + 1;
-    match point {
-        Point::Entry | Point::Label(_) => seams,
-        Point::Call(callee) => match parts.get(callee as usize) {
-            Some(part) if part.split => seams + 1,
-            _ => seams,
-        },
-        Point::Step | Point::Branch | Point::Open(_) | Point::Close(_) | Point::Exit => 0,
-    }
-}
-
-// How many primitives are tried or skipped at the point of a seam; none, where there is no such seam.
-fn stages_of(graph: &Graph, policy: &Policy, seam: SeamId) -> usize
-    ensures { result ≡ stages_of graph.now (policy_of policy.now) seam.0 }
-{
-    match graph.seams.get(seam.0 as usize) {
-        None => 0,
-        Some(seam) => match graph.nodes.get(seam.point.0 as usize) {
-            None => 0,
-            Some(node) => stages_at(policy, &graph.parts, node.point),
-        },
-    }
-}
-
-// Where a visit leads.
-fn visited(pos: PosId, state: StateId, by: Move) -> Option<(PosId, StateId)>
-    requires { pos.0 < 1048576 }
-    ensures { (g : GameOf) → numbers result ≡ next_in g pos.0 state.0 (Some (Spot.Visit 0 0 Enter)) by }
-{
-    match by {
-        Move::Skip => Some((PosId(pos.0 + 2), state)),
-        Move::Try => Some((PosId(pos.0 + 1), state)),
-        Move::Grant | Move::Refuse | Move::On | Move::Left => None,
-        Move::Right | Move::Opened | Move::Failed | Move::Stop => None,
-    }
-}
-
-// Where a step leads.
-fn gone_on(next: PosId, state: StateId, by: Move) -> Option<(PosId, StateId)>
-    ensures { (g : GameOf) → numbers result ≡ next_in g 0 state.0 (Some (Spot.Step next.0)) by }
-{
-    match by {
-        Move::On => Some((next, state)),
-        Move::Skip | Move::Try | Move::Grant | Move::Refuse | Move::Left => None,
-        Move::Right | Move::Opened | Move::Failed | Move::Stop => None,
-    }
-}
-
-// Where a condition leads.
-fn branched(left: PosId, right: PosId, state: StateId, by: Move) -> Option<(PosId, StateId)>
-    ensures { (g : GameOf) → numbers result ≡ next_in g 0 state.0 (Some (Spot.Branch left.0 right.0)) by }
-{
-    match by {
-        Move::Left => Some((left, state)),
-        Move::Right => Some((right, state)),
-        Move::Skip | Move::Try | Move::Grant | Move::Refuse => None,
-        Move::On | Move::Opened | Move::Failed | Move::Stop => None,
-    }
-}
-
 impl<'g> Game<'g> {
     ghost use Rattle.std.specs.Prelude.{◌≡◌, ◌<◌, ◌≤◌, ◌*◌, ℕ, List, [], Some, None, length, option_map, slice_get, IfOk, IfErr, IfSome};
     ghost use Rattle.cw_product.specs.Product.{IsProgramsGraph, IsCause, game_of};
-    ghost use Rattle.cw_product.specs.Opens.{OpensVariables};
+    ghost use Rattle.cw_positions.specs.Opens.{AssignsNames};
     ghost use Rattle.cw_product.specs.Uses.{uses_of};
     ghost use Rattle.cw_rights.specs.Valid.{IsValid};
     ghost use Rattle.cw_core.specs.declared.quantity.Quantity.TheVariants.{PositionsTimesStates};
@@ -158,7 +88,7 @@ impl<'g> Game<'g> {
         ensures is_game { IfOk result (λ g. (source : List ℕ) (file : File)
             → IsGraph (names_of (policy_of policy.now)) source file graph.now
             → IsRunnable (plan_of (names_of (policy_of policy.now)) source file)
-            → OpensVariables (policy_of policy.now) graph.now
+            → AssignsNames source file
             → IsGameOf (problem_of (policy_of policy.now) source file) (game_of g)) }
     {
         let states = States::make(alloc, policy, uses_of(&graph.nodes, policy))?;

@@ -3,7 +3,9 @@
 
 mod fault;
 mod game;
+mod moves;
 mod place;
+mod stages;
 mod turn;
 mod uses;
 

@@ -22,7 +22,7 @@ invariant_of-result c =
     c.from.result c.from-2.result c.limit.result (c.from.ensures ∙ c.count.ensures.count) (c.from-2.ensures ∙ c.count-2.ensures) c.limit.ensures.limit c.if-pairs-limit.false
 
 pub returns-clause-is_game : goal.returns-clause-is_game
-returns-clause-is_game c = λ source file drawn run opens.
+returns-clause-is_game c = λ source file drawn run assigns.
     let uses = c.uses_of.ensures ∙ ap (uses_of (policy_of c.args.policy.now)) c.deref.ensures.value in
     game_made c.args.graph.now c.args.policy.now c.in_ok-states.states c.in_ok-states.ensures.policy c.requires.valid
-    (subst (λ u. AreLists u (lists_of c.in_ok-states.states)) uses c.in_ok-states.ensures.lists) source file drawn run opens
+    (subst (λ u. AreLists u (lists_of c.in_ok-states.states)) uses c.in_ok-states.ensures.lists) source file drawn run assigns
