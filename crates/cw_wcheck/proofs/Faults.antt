@@ -1,0 +1,151 @@
+-- The first condition that fails of several, and of a list's rows.
+use Rattle.std.proofs.Common.{◌≡◌, ℕ, zero, suc, ◌+◌, ◌<◌, List, [], ◌∷◌, ◌++◌, map, length, Bool, true, false, cond, not, ◌&&◌, Option, Some, None, option_map, nat_lt, refl, sym, ap, ap₂, ◌∙◌, subst, arith}
+use Rattle.std.specs.Option.{option_or}
+use Rattle.std.specs.List.{enumerate_from, list_all, position_or_len}
+use Rattle.std.specs.Prelude.{position, slice_get}
+use Rattle.std.proofs.lemmas.Bool.Decides.{nat_tests}
+use Rattle.cw_core.specs.declared.ids.StateId.{StateId}
+use Rattle.cw_certs.specs.Tables.{Table}
+use Rattle.cw_game.specs.Games.{Game}
+use Rattle.cw_game.specs.Conditions.{first_failing, Part, InMems, InLive, InTries, InAts, InOpened, InClosed, InInto, InBack, TableFault, fault_at, in_range, ranges, is_mem_row, is_live_row, is_try_row, is_at_row, is_open_row, is_into_row, is_back_row}
+use Rattle.cw_wcheck.specs.declared.fault.BadRow.{BadRow}
+use Rattle.cw_wcheck.specs.Checking.{table_of, told}
+use Rattle.cw_wcheck.specs.Working.{MeanStates}
+
+pub first-append : {A : Type 0} (xs ys : List (A × Bool)) → first_failing (xs ++ ys) ≡ option_or (first_failing xs) (first_failing ys)
+first-append [] ys = refl
+first-append (x ∷ xs) ys = by x.1 (first-append xs ys)
+  where
+    by : (b : Bool) → first_failing (xs ++ ys) ≡ option_or (first_failing xs) (first_failing ys) → cond b (first_failing (xs ++ ys)) (Some x.0) ≡ option_or (cond b (first_failing xs) (Some x.0)) (first_failing ys)
+    by true h = h
+    by false h = refl
+
+pub map_or : {A B : Type 0} (f : A → B) (o p : Option A) → option_map f (option_or o p) ≡ option_or (option_map f o) (option_map f p)
+map_or f None p = refl
+map_or f (Some x) p = refl
+
+module _ {A : Type 0} (p : A → Bool) where
+  position-cons : (x : A) (xs : List A) → position p (x ∷ xs) ≡ cond (p x) (Some 0) (option_map (λ i. 1 + i) (position p xs))
+  position-cons x xs = by (p x)
+    where
+      n : ℕ
+      n = position_or_len p xs
+
+      here : (t : Bool) → nat_lt n (length xs) ≡ t → cond (nat_lt (1 + n) (suc (length xs))) (Some (1 + n)) None ≡ option_map (λ i. 1 + i) (cond t (Some n) None)
+      here true t = let more : nat_lt (1 + n) (suc (length xs)) ≡ true = grind (arith, nat_tests) in ap (λ b. cond b (Some (1 + n)) None) more
+      here false t = let more : nat_lt (1 + n) (suc (length xs)) ≡ false = grind (arith, nat_tests) in ap (λ b. cond b (Some (1 + n)) None) more
+
+      by : (b : Bool) → cond (nat_lt (cond (not b) (1 + n) 0) (suc (length xs))) (Some (cond (not b) (1 + n) 0)) None ≡ cond b (Some 0) (option_map (λ i. 1 + i) (position p xs))
+      by true = let first : nat_lt 0 (suc (length xs)) ≡ true = grind (arith, nat_tests) in ap (λ b. cond b (Some 0) None) first
+      by false = here (nat_lt n (length xs)) refl
+
+-- the first row that is out of range
+pub first-in_range : {A : Type 0} (part : Part) (test : A → Bool) (n : ℕ) (rows : List A)
+    → first_failing (map (λ r. (fault_at part r.0 1, test r.1)) (enumerate_from n rows)) ≡ option_map (λ i. fault_at part (n + i) 1) (position (λ r. not (test r)) rows)
+first-in_range part test n [] = refl
+first-in_range part test n (r ∷ rows) =
+    by (test r) (first-in_range part test (n + 1) rows) ∙ sym (ap (option_map (λ i. fault_at part (n + i) 1)) (position-cons (λ r. not (test r)) r rows))
+  where
+    later : (o : Option ℕ) → option_map (λ i. fault_at part (n + 1 + i) 1) o ≡ option_map (λ i. fault_at part (n + i) 1) (option_map (λ i. 1 + i) o)
+    later None = refl
+    later (Some i) = let e : n + 1 + i ≡ n + (1 + i) = omega arith in ap (λ k. Some (fault_at part k 1)) e
+
+    by : (b : Bool) → first_failing (map (λ r. (fault_at part r.0 1, test r.1)) (enumerate_from (n + 1) rows)) ≡ option_map (λ i. fault_at part (n + 1 + i) 1) (position (λ r. not (test r)) rows)
+        → cond b (first_failing (map (λ r. (fault_at part r.0 1, test r.1)) (enumerate_from (n + 1) rows))) (Some (fault_at part n 1))
+        ≡ option_map (λ i. fault_at part (n + i) 1) (cond (not b) (Some 0) (option_map (λ i. 1 + i) (position (λ r. not (test r)) rows)))
+    by true h = h ∙ later _
+    by false h = let e : n ≡ n + 0 = omega arith in ap (λ k. Some (fault_at part k 1)) e
+
+-- as it is told
+abbrev pub out_of : ℕ → Option ℕ → Option BadRow
+out_of table number = option_map (λ n. record { table = table; number = n; condition = 1 }) number
+
+pub told_range : {A : Type 0} (part : Part) (test : A → Bool) (rows : List A) (found : Option ℕ) (row : Option BadRow)
+    → row ≡ out_of (table_of part) found → found ≡ position (λ r. not (test r)) rows → row ≡ option_map told (first_failing (in_range part test rows))
+told_range part test rows found row e f = e ∙ ap (out_of (table_of part)) f ∙ same (position (λ r. not (test r)) rows) ∙ sym (ap (option_map told) (first-in_range part test 0 rows))
+  where
+    same : (o : Option ℕ) → out_of (table_of part) o ≡ option_map told (option_map (λ i. fault_at part (0 + i) 1) o)
+    same None = refl
+    same (Some i) = let z : i ≡ 0 + i = omega arith in ap (λ n. Some (told (fault_at part n 1))) z
+
+told-append : (xs ys : List (TableFault × Bool)) (o p : Option BadRow) → o ≡ option_map told (first_failing xs) → p ≡ option_map told (first_failing ys)
+    → option_or o p ≡ option_map told (first_failing (xs ++ ys))
+told-append xs ys o p e f = ap₂ option_or e f ∙ sym (map_or told (first_failing xs) (first_failing ys)) ∙ sym (ap (option_map told) (first-append xs ys))
+
+-- the first of eight lists that has one
+pub told_ranges : (mems live tries ats opened closed into back : List (TableFault × Bool)) (a b c d e f g h : Option BadRow)
+    → a ≡ option_map told (first_failing mems) → b ≡ option_map told (first_failing live) → c ≡ option_map told (first_failing tries) → d ≡ option_map told (first_failing ats)
+    → e ≡ option_map told (first_failing opened) → f ≡ option_map told (first_failing closed) → g ≡ option_map told (first_failing into) → h ≡ option_map told (first_failing back)
+    → option_or (option_or (option_or (option_or (option_or (option_or (option_or a b) c) d) e) f) g) h
+    ≡ option_map told (first_failing (mems ++ live ++ tries ++ ats ++ opened ++ closed ++ into ++ back))
+told_ranges mems live tries ats opened closed into back a b c d e f g h pa pb pc pd pe pf pg ph =
+    let two = told-append mems live a b pa pb in
+    let three = told-append (mems ++ live) tries _ c two pc in
+    let four = told-append (mems ++ live ++ tries) ats _ d three pd in
+    let five = told-append (mems ++ live ++ tries ++ ats) opened _ e four pe in
+    let six = told-append (mems ++ live ++ tries ++ ats ++ opened) closed _ f five pf in
+    let seven = told-append (mems ++ live ++ tries ++ ats ++ opened ++ closed) into _ g six pg in
+    told-append (mems ++ live ++ tries ++ ats ++ opened ++ closed ++ into) back _ h seven ph
+
+-- Where no row is out of range.
+none_or : {A : Type 0} (o p : Option A) → option_or o p ≡ None → (o ≡ None) × (p ≡ None)
+none_or None p h = (refl, h)
+none_or (Some x) p h = cc
+
+none_first : {A : Type 0} (xs ys : List (A × Bool)) → first_failing (xs ++ ys) ≡ None → first_failing xs ≡ None
+none_first xs ys h = (none_or (first_failing xs) (first_failing ys) (sym (first-append xs ys) ∙ h)).0
+
+none_later : {A : Type 0} (xs ys : List (A × Bool)) → first_failing (xs ++ ys) ≡ None → first_failing ys ≡ None
+none_later xs ys h = (none_or (first_failing xs) (first_failing ys) (sym (first-append xs ys) ∙ h)).1
+
+none_in : {A : Type 0} (part : Part) (test : A → Bool) (n : ℕ) (rows : List A) → first_failing (map (λ r. (fault_at part r.0 1, test r.1)) (enumerate_from n rows)) ≡ None → list_all test rows ≡ true
+none_in part test n [] h = refl
+none_in part test n (r ∷ rows) h = by (test r) refl h (none_in part test (n + 1) rows)
+  where
+    later : Option TableFault
+    later = first_failing (map (λ r. (fault_at part r.0 1, test r.1)) (enumerate_from (n + 1) rows))
+
+    by : (b : Bool) → test r ≡ b → cond b later (Some (fault_at part n 1)) ≡ None → (later ≡ None → list_all test rows ≡ true) → (test r && list_all test rows) ≡ true
+    by true e k rec = ap₂ (λ x y. x && y) e (rec k)
+    by false e k rec = cc
+
+-- the memories and the live rows are in range
+pub in_range_all : (g : Game) (t : Table) → first_failing (ranges g t) ≡ None → (list_all (is_mem_row g) t.mems ≡ true) × (list_all (is_live_row g t) t.live ≡ true)
+in_range_all g t h =
+    let mems = in_range InMems (is_mem_row g) t.mems in
+    let live = in_range InLive (is_live_row g t) t.live in
+    let tries = in_range InTries (is_try_row g t) t.tries in
+    let ats = in_range InAts (is_at_row g t) t.ats in
+    let opened = in_range InOpened (is_open_row g t) t.opened in
+    let closed = in_range InClosed (is_at_row g t) t.closed in
+    let into = in_range InInto (is_into_row g t) t.into in
+    let back = in_range InBack (is_back_row g t) t.back in
+    let seven = none_first (mems ++ live ++ tries ++ ats ++ opened ++ closed ++ into) back h in
+    let six = none_first (mems ++ live ++ tries ++ ats ++ opened ++ closed) into seven in
+    let five = none_first (mems ++ live ++ tries ++ ats ++ opened) closed six in
+    let four = none_first (mems ++ live ++ tries ++ ats) opened five in
+    let three = none_first (mems ++ live ++ tries) ats four in
+    let two = none_first (mems ++ live) tries three in
+    let one = none_first mems live two in
+    (none_in InMems (is_mem_row g) 0 t.mems one, none_in InLive (is_live_row g t) 0 t.live (none_later mems live two))
+
+pub first_part : (a b : Bool) → (a && b) ≡ true → a ≡ true
+first_part true b h = refl
+first_part false b h = h
+
+pub second_part : (a b : Bool) → (a && b) ≡ true → b ≡ true
+second_part true b h = h
+second_part false b h = cc
+
+pub mean_states : (g : Game) (t : Table) → list_all (is_mem_row g) t.mems ≡ true → MeanStates g t
+mean_states g t h = record { each = among t.mems h }
+  where
+    less : (a b : ℕ) → nat_lt a b ≡ true → a < b
+    less a b e = grind (arith, nat_tests)
+
+    among : (rows : List (StateId × ℕ)) → list_all (is_mem_row g) rows ≡ true → (m : ℕ) (meant : StateId × ℕ) → slice_get rows m ≡ Some meant → meant.0.0 < g.states.count
+    among [] k m meant e = cc
+    among (r ∷ rows) k zero meant e =
+        let same : r ≡ meant = cc in
+        subst (λ x. x.0.0 < g.states.count) same (less _ _ (first_part _ _ (first_part _ _ k)))
+    among (r ∷ rows) k (suc m) meant e = among rows (second_part _ _ k) m meant e

@@ -1,0 +1,33 @@
+-- Working definitions: what the parts of the checker say of one row.
+use Rattle.std.specs.Prelude.{◌≡◌, ℕ, ◌<◌, true, Bool, Option, Some, None, slice_get, length}
+use Rattle.cw_core.specs.declared.ids.MemId.{MemId}
+use Rattle.cw_core.specs.declared.ids.StateId.{StateId}
+use Rattle.cw_certs.specs.Tables.{Table}
+use Rattle.cw_game.specs.Games.{Game}
+use Rattle.cw_game.specs.Pairs.{Called, is_live, leads_if}
+use Rattle.cw_wcheck.specs.declared.rows.LiveRow.{LiveRow}
+use Rattle.cw_wcheck.specs.declared.calls.CallAt.{CallAt}
+
+-- where the game gives a pair, the memory is there, means its state with the promise, and is live at its position
+abbrev pub takes_pair : Table → ℕ → Option MemId → Option (ℕ × ℕ) → Bool
+takes_pair t e m None = true
+takes_pair t e m (Some pair) = leads_if t pair.0 m pair.1 e
+
+-- where the game gives a pair, its position is live with the memory
+abbrev pub lands_live : Table → ℕ → Option (ℕ × ℕ) → Bool
+lands_live t m None = true
+lands_live t m (Some pair) = is_live t pair.0 m
+
+-- the row's position is one of the game's, with what stands there, and its state is one of the game's
+pub record IsRowOf (g : Game) (r : LiveRow) : Type 0 where
+  pub position : r.pos.0 < length g.spots
+  pub spot : Some r.spot ≡ slice_get g.spots r.pos.0
+  pub state : r.state.0 < g.states.count
+
+-- each memory means a state of the game
+pub record MeanStates (g : Game) (t : Table) : Type 0 where
+  pub each : (m : ℕ) (meant : StateId × ℕ) → slice_get t.mems m ≡ Some meant → meant.0.0 < g.states.count
+
+-- a call as the definition has it
+abbrev pub called_of : CallAt → Called
+called_of c = record { seam = c.seam.0; function = c.function; back = c.back.0; split = c.split }

@@ -1,0 +1,119 @@
+//! What the memories of a table mean, where they are live, and what they are followed by.
+
+ghost use Rattle.std.specs.Prelude.{◌≡◌, ◌-◌, ◌^◌, nat_eq, nat_lt, slice_get};
+ghost use Rattle.cw_game.specs.Pairs.{has, leads};
+ghost use Rattle.cw_game.specs.Conditions.{is_memory, is_memory_if, memory_after, takes_on};
+ghost use Rattle.cw_product.specs.Moves.{numbers};
+ghost use Rattle.cw_wcheck.specs.Working.{takes_pair};
+
+use cw_certs::{Move, WeaverCert};
+use cw_core::{MemId, PosId, SeamId, StateId, StateSet};
+use cw_game::Spot;
+use cw_rows::{after_close, after_label, is_live, open_at};
+
+/// The state and the promise that a memory means; None where the memory isn't there.
+pub fn meaning(cert: &WeaverCert, mem: MemId) -> Option<(StateId, StateSet)>
+    ensures { result ≡ slice_get cert.now.mems mem.0 }
+{
+    cert.mems().get(mem.0 as usize).copied()
+}
+
+/// Whether a memory is there.
+pub fn is_memory(cert: &WeaverCert, mem: MemId) -> bool
+    ensures { result ≡ is_memory cert.now mem }
+{
+    (mem.0 as usize) < cert.mems().len()
+}
+
+/// Whether it is there, if there is to be one.
+pub fn is_memory_if(cert: &WeaverCert, mem: Option<MemId>) -> bool
+    ensures { result ≡ is_memory_if cert.now mem }
+{
+    mem.is_none_or(|mem| is_memory(cert, mem))
+}
+
+/// Whether a memory means this state with this promise and is live at this position.
+pub fn leads(cert: &WeaverCert, pos: PosId, mem: MemId, state: StateId, promise: &StateSet) -> bool
+    ensures { result ≡ leads cert.now pos.0 mem.0 state.0 promise.now }
+{
+    match meaning(cert, mem) {
+        Some((meant, promised)) => meant == state
+            && promised == *promise
+            && is_live(cert, pos, mem),
+        None => false,
+    }
+}
+
+/// Whether the pair to which the game leads, if it does, is taken: the memory is there, means its state with the promise, and is
+/// live at its position.
+pub fn takes(
+    cert: &WeaverCert,
+    promise: &StateSet,
+    mem: Option<MemId>,
+    to: Option<(PosId, StateId)>,
+) -> bool
+    ensures { result ≡ takes_pair cert.now promise.now mem (numbers to) }
+{
+    match (to, mem) {
+        (None, _) => true,
+        (Some(_), None) => false,
+        (Some((pos, state)), Some(mem)) => leads(cert, pos, mem, state, promise),
+    }
+}
+
+/// Whether the pair at which going on arrives, if it does, is taken where there is a memory for it.
+pub fn takes_on(
+    cert: &WeaverCert,
+    promise: &StateSet,
+    mem: Option<MemId>,
+    to: Option<(PosId, StateId)>,
+) -> bool
+    ensures { result ≡ takes_on cert.now promise.now mem (numbers to) }
+{
+    match (to, mem) {
+        (Some((pos, state)), Some(mem)) => leads(cert, pos, mem, state, promise),
+        (Some(_), None) | (None, _) => true,
+    }
+}
+
+/// The memory after a move: that of the row for a label, an open and a close, and the same one after all else.
+pub fn memory_after(cert: &WeaverCert, mem: MemId, spot: Spot, by: Move) -> Option<MemId>
+    ensures { result ≡ memory_after cert.now mem.0 spot by }
+{
+    match spot {
+        Spot::Label(seam, _, _) => after_label(cert, SeamId(seam), mem).map(|row| row.after),
+        Spot::Close(seam, _, _) => after_close(cert, SeamId(seam), mem).map(|row| row.after),
+        Spot::Open(seam, _, _) => {
+            let row = open_at(cert, SeamId(seam), mem)?;
+            match by {
+                Move::Opened => Some(row.opened),
+                _ => Some(row.failed),
+            }
+        }
+        _ => Some(mem),
+    }
+}
+
+/// Whether a state is promised.
+pub fn is_promised(promise: &StateSet, state: StateId) -> bool
+    ensures { result ≡ has promise.now state.0 }
+{
+    promise.members_are_below_1024();
+    state.0 < 1024 && promise.contains(state)
+}
+
+/// Whether a set has states alone, of which there are so many. A set has numbers below 1,024.
+pub fn has_states_alone(set: &StateSet, states: u16) -> bool
+    ensures { result ≡ nat_lt set.now (2 ^ states) }
+{
+    set.members_are_below_1024();
+    states >= 1024 || *set <= StateSet::empty().complement_in(states)
+}
+
+/// Whether a set has all states, of which there are so many.
+pub fn has_all_states(set: &StateSet, states: u16) -> bool
+    ensures { result ≡ nat_eq set.now (2 ^ states - 1) }
+{
+    set.members_are_below_1024();
+    states <= 1024 && *set == StateSet::empty().complement_in(states)
+}

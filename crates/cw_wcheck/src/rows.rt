@@ -1,0 +1,215 @@
+//! The conditions of a live row, beside what the game gives at its pair.
+
+ghost use Rattle.std.specs.Prelude.{◌≡◌, [], Some, false, true, slice_get};
+ghost use Rattle.cw_product.specs.Product.{game_of};
+ghost use Rattle.cw_product.specs.Moves.{IsPosition, next_at};
+ghost use Rattle.cw_certs.specs.declared.moves.Move.TheVariants as Move;
+ghost use Rattle.cw_game.specs.Games.{bad_in, leads_in, resumed_in};
+ghost use Rattle.cw_game.specs.Conditions.{first_failing, live_by, live_conditions, visits_on, takes, takes_on, takes_answers, answers_on, is_passing, moves_by, moves_on, keeps_promise, calls_on, returns_on};
+ghost use Rattle.cw_game.specs.Pairs.{call_in};
+ghost use Rattle.cw_wcheck.specs.Working.{IsRowOf, MeanStates, lands_live};
+
+use crate::calls::{calls_on, returns_on};
+use crate::memories::{is_promised, meaning, memory_after, takes, takes_on};
+use cw_certs::{Move, TryRow, WeaverCert};
+use cw_core::{MemId, PosId, SeamId, StateId, StateSet};
+use cw_game::Spot;
+use cw_product::Game;
+use cw_rows::{is_live, try_at};
+
+/// A live row: its position and what stands there, its memory, and the state and the promise that the memory means.
+#[derive(Drop)]
+pub struct LiveRow {
+    pub pos: PosId,
+    pub spot: Spot,
+    pub mem: MemId,
+    pub state: StateId,
+    pub promise: StateSet,
+}
+
+/// Whether the pair to which a move leads, if it does, is live with the same memory.
+fn lands_live(game: &Game, cert: &WeaverCert, row: &LiveRow, by: Move) -> bool
+    requires row { IsRowOf (game_of game.now) row.now }
+    ensures { result ≡ lands_live cert.now row.now.mem.0 (next_at (game_of game.now) row.now.pos.0 row.now.state.0 by) }
+{
+    match game.next(row.pos, row.state, by) {
+        Some((pos, _)) => is_live(cert, pos, row.mem),
+        None => true,
+    }
+}
+
+/// The fourth condition: at a visit the position of the skip is live, or that of the try where there is a row of it.
+fn visits_on(game: &Game, cert: &WeaverCert, row: &LiveRow) -> bool
+    requires row { IsRowOf (game_of game.now) row.now }
+    ensures { result ≡ visits_on cert.now row.now.pos.0 row.now.mem.0 (Some row.now.spot) }
+{
+    match row.spot {
+        Spot::Visit(seam, stage, _) => match try_at(cert, SeamId(seam), stage, row.mem) {
+            Some(_) => lands_live(game, cert, row, Move::Try),
+            None => lands_live(game, cert, row, Move::Skip),
+        },
+        _ => true,
+    }
+}
+
+/// Whether a grant of what is asked is taken by this memory.
+fn takes_grant(game: &Game, cert: &WeaverCert, row: &LiveRow, mem: Option<MemId>) -> bool
+    requires row { IsRowOf (game_of game.now) row.now }
+    ensures { result ≡ takes cert.now row.now.promise mem (leads_in (game_of game.now) row.now.pos.0 row.now.state.0 []
+        (Some row.now.spot) Move.Grant) }
+{
+    takes(
+        cert,
+        &row.promise,
+        mem,
+        game.next(row.pos, row.state, Move::Grant),
+    )
+}
+
+/// Whether a refusal of it is.
+fn takes_refusal(game: &Game, cert: &WeaverCert, row: &LiveRow, mem: Option<MemId>) -> bool
+    requires row { IsRowOf (game_of game.now) row.now }
+    ensures { result ≡ takes cert.now row.now.promise mem (leads_in (game_of game.now) row.now.pos.0 row.now.state.0 []
+        (Some row.now.spot) Move.Refuse) }
+{
+    takes(
+        cert,
+        &row.promise,
+        mem,
+        game.next(row.pos, row.state, Move::Refuse),
+    )
+}
+
+/// Whether going on after a refusal that a stop can answer is.
+fn takes_resumed(game: &Game, cert: &WeaverCert, row: &LiveRow, mem: Option<MemId>) -> bool
+    requires row { IsRowOf (game_of game.now) row.now }
+    ensures { result ≡ takes_on cert.now row.now.promise mem
+        (resumed_in (game_of game.now) row.now.pos.0 row.now.state.0 (Some row.now.spot)) }
+{
+    takes_on(cert, &row.promise, mem, game.resumed(row.pos, row.state))
+}
+
+/// Whether each answer to what is asked is taken by its memory of a row, and going on after a refusal that a stop can answer too.
+fn takes_answers(game: &Game, cert: &WeaverCert, row: &LiveRow, found: &TryRow) -> bool
+    requires row { IsRowOf (game_of game.now) row.now }
+    ensures { result ≡ takes_answers (game_of game.now) cert.now row.now.pos.0 row.now.state.0 row.now.promise
+        (Some row.now.spot) (Some found.now) }
+{
+    takes_grant(game, cert, row, found.granted)
+        && takes_refusal(game, cert, row, found.refused)
+        && takes_resumed(game, cert, row, found.refused)
+}
+
+/// The fifth condition: where something is asked there is a row, whose memories take the answers.
+fn answers_on(game: &Game, cert: &WeaverCert, row: &LiveRow) -> bool
+    requires row { IsRowOf (game_of game.now) row.now }
+    ensures { result ≡ answers_on (game_of game.now) cert.now row.now.pos.0 row.now.state.0 row.now.mem.0 row.now.promise
+        (Some row.now.spot) }
+{
+    match row.spot {
+        Spot::Asked(seam, stage, _) => match try_at(cert, SeamId(seam), stage, row.mem) {
+            Some(found) => takes_answers(game, cert, row, &found),
+            None => false,
+        },
+        _ => true,
+    }
+}
+
+/// Whether this is no visit, nothing asked, no call and no exit.
+fn is_passing(spot: Spot) -> bool
+    ensures { result ≡ is_passing spot }
+{
+    match spot {
+        Spot::Step(_) | Spot::Branch(_, _) | Spot::Label(_, _, _) => true,
+        Spot::Open(_, _, _) | Spot::Close(_, _, _) => true,
+        Spot::Visit(_, _, _) | Spot::Asked(_, _, _) => false,
+        Spot::Call(_, _, _) | Spot::SplitCall(_, _, _) | Spot::Exit(_) => false,
+    }
+}
+
+/// Whether a move is taken by the memory after it.
+fn moves_by(game: &Game, cert: &WeaverCert, row: &LiveRow, by: Move) -> bool
+    requires row { IsRowOf (game_of game.now) row.now }
+    requires good { bad_in (game_of game.now) row.now.state.0 (Some row.now.spot) ≡ false }
+    requires passing { is_passing row.now.spot ≡ true }
+    ensures { result ≡ moves_by (game_of game.now) cert.now row.now.pos.0 row.now.state.0 row.now.mem.0 row.now.promise row.now.spot by }
+{
+    let mem = memory_after(cert, row.mem, row.spot, by);
+    takes(cert, &row.promise, mem, game.next(row.pos, row.state, by))
+}
+
+/// The sixth condition: at any other position that is no call and no exit, each move is taken by the memory after it.
+fn moves_on(game: &Game, cert: &WeaverCert, row: &LiveRow) -> bool
+    requires row { IsRowOf (game_of game.now) row.now }
+    requires good { bad_in (game_of game.now) row.now.state.0 (Some row.now.spot) ≡ false }
+    ensures { result ≡ moves_on (game_of game.now) cert.now row.now.pos.0 row.now.state.0 row.now.mem.0 row.now.promise
+        (Some row.now.spot) }
+{
+    if !is_passing(row.spot) {
+        return true;
+    }
+    moves_by(game, cert, row, Move::On)
+        && moves_by(game, cert, row, Move::Left)
+        && moves_by(game, cert, row, Move::Right)
+        && moves_by(game, cert, row, Move::Opened)
+        && moves_by(game, cert, row, Move::Failed)
+}
+
+/// The ninth condition: at the exit of a function other than `main` the state is promised.
+fn keeps_promise(game: &Game, row: &LiveRow) -> bool
+    ensures { result ≡ keeps_promise (game_of game.now) row.now.state.0 row.now.promise (Some row.now.spot) }
+{
+    match row.spot {
+        Spot::Exit(function) => function == u32::from(game.main())
+            || is_promised(&row.promise, row.state),
+        _ => true,
+    }
+}
+
+/// The number of the first condition from the third on that fails of a row.
+fn condition_of(game: &Game, cert: &WeaverCert, row: &LiveRow) -> Option<u8>
+    requires row { IsRowOf (game_of game.now) row.now }
+    requires mems { MeanStates (game_of game.now) cert.now }
+    ensures { result ≡ first_failing (live_conditions (game_of game.now) cert.now row.now.pos.0 row.now.state.0
+        row.now.mem.0 row.now.promise (slice_get (game_of game.now).spots row.now.pos.0)) }
+{
+    if game.bad(row.pos, row.state) {
+        return Some(3);
+    }
+    if !visits_on(game, cert, row) {
+        return Some(4);
+    }
+    if !answers_on(game, cert, row) {
+        return Some(5);
+    }
+    if !moves_on(game, cert, row) {
+        return Some(6);
+    }
+    if !calls_on(game, cert, row) {
+        return Some(7);
+    }
+    if !returns_on(game, cert, row) {
+        return Some(8);
+    }
+    if !keeps_promise(game, row) {
+        return Some(9);
+    }
+    None
+}
+
+/// The number of the first condition from the third on that fails of a position and a memory; None where the memory isn't there.
+pub fn failing_condition(game: &Game, cert: &WeaverCert, pos: PosId, mem: MemId) -> Option<u8>
+    requires position { IsPosition (game_of game.now) pos.0 }
+    requires mems { MeanStates (game_of game.now) cert.now }
+    ensures { result ≡ first_failing (live_by (game_of game.now) cert.now pos.0 mem.0 (slice_get cert.now.mems mem.0)) }
+{
+    let (state, promise) = meaning(cert, mem)?;
+    let row = LiveRow {
+        pos,
+        spot: game.spot(pos),
+        mem,
+        state,
+        promise,
+    };
+    condition_of(game, cert, &row)
+}
