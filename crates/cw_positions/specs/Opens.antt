@@ -1,7 +1,7 @@
--- The law: what a program opens is a variable of the policy, where the names that take the results of calls are C names.
-use Rattle.std.specs.Prelude.{◌≡◌, ℕ, zero, List, [], ◌∷◌, Option, Some, None, slice_get, IsTrue}
+-- The law: what a program opens is a variable of the policy, where the names that take the results of calls begin as C names do.
+use Rattle.std.specs.Prelude.{◌≡◌, ℕ, zero, Bool, false, List, [], ◌∷◌, Option, Some, None, slice_get, IsTrue}
 use Rattle.cw_rights.specs.Policies.{PlainDescriptor, PlainPolicy}
-use Rattle.cw_rights.specs.Valid.{is_name, IsValid}
+use Rattle.cw_rights.specs.Valid.{is_name_start, IsValid}
 use Rattle.cw_syntax.specs.declared.program.Name.{Name}
 use Rattle.cw_syntax.specs.declared.program.Op.TheVariants.{Name as NameOp, Call as CallOp, Assign}
 use Rattle.cw_syntax.specs.Names.{text}
@@ -49,17 +49,23 @@ abbrev pub assigned : Tree → Option Name
 assigned (TreeNode (Assign zero) (more (TreeNode NameOp parts at end) (more (TreeNode (CallOp f) arguments at' end') none)) from to) = Some (record { from = at; to = end })
 assigned _ = None
 
-abbrev pub AssignsName : List ℕ → Tree → Type 0
-AssignsName source e = (x : Name) → assigned e ≡ Some x → IsTrue (is_name (text source x))
+-- a C name begins with a letter or `_`
+abbrev pub begins_name : List ℕ → Bool
+begins_name [] = false
+begins_name (b ∷ rest) = is_name_start b
 
--- In each statement `x = f(..);` of the program x is a C name.
+abbrev pub AssignsName : List ℕ → Tree → Type 0
+AssignsName source e = (x : Name) → assigned e ≡ Some x → IsTrue (begins_name (text source x))
+
+-- In each statement `x = f(..);` of the program x begins as a C name.
 abbrev pub AssignsNames : List ℕ → File → Type 0
 AssignsNames source file = EachStandsFrom (AssignsName source) file.functions
 
--- A point opens variables alone.
-abbrev pub OpensVariable : PlainPolicy → Node → Type 0
-OpensVariable policy n = (d : ℕ) → n.point ≡ point.Open d → (descriptor : PlainDescriptor) × (slice_get policy.descriptors d ≡ Some descriptor) × (descriptor.number ≡ None)
+-- Each point of the graph that opens a descriptor opens a variable of the policy, and no number.
+abbrev pub OpensVariables : PlainPolicy → Graph → Type 0
+OpensVariables policy graph = (d p : ℕ) (node : Node) → slice_get graph.nodes.items p ≡ Some node → node.point ≡ point.Open d
+    → (descriptor : PlainDescriptor) × ((slice_get policy.descriptors d ≡ Some descriptor) × (descriptor.number ≡ None))
 
 abbrev pub ProgramsOpenVariables : Type 0
-ProgramsOpenVariables = (policy : PlainPolicy) (source : List ℕ) (file : File) (g : Graph) → IsValid policy → IsGraph (names_of policy) source file g
-    → AssignsNames source file → (p : ℕ) (n : Node) → slice_get g.nodes.items p ≡ Some n → OpensVariable policy n
+ProgramsOpenVariables = (policy : PlainPolicy) (source : List ℕ) (file : File) (g : Graph)
+    → IsValid policy → IsGraph (names_of policy) source file g → AssignsNames source file → OpensVariables policy g
