@@ -1,0 +1,4 @@
+//! What a program that is read opens.
+#![tactic(auto)]
+
+pub mod laws;
