@@ -16,14 +16,14 @@ use Rattle.cw_points.specs.declared.graph.Point.TheVariants as point
 use Rattle.cw_points.specs.declared.graph.Node.{Node}
 use Rattle.cw_points.specs.declared.graph.Graph.{Graph}
 use Rattle.cw_points.specs.Graphs.{nodes, IsGraph}
-use Rattle.cw_positions.specs.Opens.{begins_name, AssignsName, AssignsNames, OpensVariables}
+use Rattle.cw_positions.specs.Opens.{begins_name, AssignsName, AssignsNames, OpensVariable}
 use Rattle.cw_positions.proofs.Fitting.{ActFits, PointFits, routine_fits_where, points_fit_from, point_fits}
 use Rattle.cw_positions.proofs.Programs.{of_graph}
 use Rattle.cw_positions.proofs.Splitting.{named_at}
 
 -- a variable of the policy
 abbrev Variable : PlainPolicy → ℕ → Type 0
-Variable policy d = (descriptor : PlainDescriptor) × ((slice_get policy.descriptors d ≡ Some descriptor) × (descriptor.number ≡ None))
+Variable policy d = (descriptor : PlainDescriptor) × (slice_get policy.descriptors d ≡ Some descriptor) × (descriptor.number ≡ None)
 
 -- what an action opens is one
 abbrev OpensFit : PlainPolicy → Action → Type 0
@@ -59,7 +59,7 @@ module _ (policy : PlainPolicy) (valid : IsValid policy) where
       let at = sym (slice_get-map (λ (k : PlainDescriptor). k.name) policy.descriptors d) ∙ named_at (names_of policy).descriptors name d e in
       let r = found_name (slice_get policy.descriptors d) name at in
       let v = get_all IsValidDescriptor policy.descriptors d r.0 valid.descriptors r.1 in
-      (r.0, (r.1, no_number r.0.name r.0.number (subst (λ k. IsTrue (begins_name k)) (sym r.2) h) v.number))
+      (r.0, r.1, no_number r.0.name r.0.number (subst (λ k. IsTrue (begins_name k)) (sym r.2) h) v.number)
 
   module _ (source : List ℕ) (file : File) where
     opens_variable : (name : List ℕ) (o : Option ℕ) → IsTrue (begins_name name) → ((d : ℕ) → o ≡ Some d → number_in (names_of policy).descriptors name ≡ Some d)
@@ -123,6 +123,6 @@ module _ (policy : PlainPolicy) (valid : IsValid policy) where
         (points_fit_from (Variable policy) U U K U (λ callee h. tt) 0 rs 0 each) e)
 
 pub programs_open_variables : (policy : PlainPolicy) (source : List ℕ) (file : File) (g : Graph) → IsValid policy → IsGraph (names_of policy) source file g → AssignsNames source file
-    → OpensVariables policy g
-programs_open_variables policy source file g valid i assigns d p n e =
-    of_graph (names_of policy) source file g (λ ns ps m. slice_get ns p ≡ Some n → n.point ≡ point.Open d → Variable policy d) i (λ k. plan_opens policy valid source file assigns p n k d) e
+    → (p : ℕ) (n : Node) → slice_get g.nodes.items p ≡ Some n → OpensVariable policy n
+programs_open_variables policy source file g valid i assigns p n e =
+    of_graph (names_of policy) source file g (λ ns ps m. slice_get ns p ≡ Some n → OpensVariable policy n) i (plan_opens policy valid source file assigns p n) e

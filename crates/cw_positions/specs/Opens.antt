@@ -61,11 +61,12 @@ AssignsName source e = (x : Name) → assigned e ≡ Some x → IsTrue (begins_n
 abbrev pub AssignsNames : List ℕ → File → Type 0
 AssignsNames source file = EachStandsFrom (AssignsName source) file.functions
 
--- Each point of the graph that opens a descriptor opens a variable of the policy, and no number.
-abbrev pub OpensVariables : PlainPolicy → Graph → Type 0
-OpensVariables policy graph = (d p : ℕ) (node : Node) → slice_get graph.nodes.items p ≡ Some node → node.point ≡ point.Open d
-    → (descriptor : PlainDescriptor) × ((slice_get policy.descriptors d ≡ Some descriptor) × (descriptor.number ≡ None))
+-- A point opens variables of the policy alone, and no number.
+abbrev pub OpensVariable : PlainPolicy → Node → Type 0
+OpensVariable policy n = (d : ℕ) → n.point ≡ point.Open d
+    → (descriptor : PlainDescriptor) × (slice_get policy.descriptors d ≡ Some descriptor) × (descriptor.number ≡ None)
 
 abbrev pub ProgramsOpenVariables : Type 0
 ProgramsOpenVariables = (policy : PlainPolicy) (source : List ℕ) (file : File) (g : Graph)
-    → IsValid policy → IsGraph (names_of policy) source file g → AssignsNames source file → OpensVariables policy g
+    → IsValid policy → IsGraph (names_of policy) source file g → AssignsNames source file
+    → (p : ℕ) (n : Node) → slice_get g.nodes.items p ≡ Some n → OpensVariable policy n
