@@ -16,7 +16,7 @@ how_words-kind (Both skip tried) = refl
 how_words-kind (Go by row) = refl
 how_words-kind (Into callee backs) = refl
 
-fits_kind : (how : How) → FitsHow how → FitsKind (kind_of_how how)
+pub fits_kind : (how : How) → FitsHow how → FitsKind (kind_of_how how)
 fits_kind Bad fits = tt
 fits_kind Out fits = tt
 fits_kind (Both skip tried) fits = tt
@@ -65,7 +65,7 @@ others : List (List ℕ) → List (List ℕ)
 others [] = []
 others (x ∷ xs) = xs
 
-first_word : (how : How) (word : List ℕ) (rest : List (List ℕ)) → how_words how ≡ word ∷ rest → (kind_word (kind_of_how how) ≡ word) × (rest_words how ≡ rest)
+pub first_word : (how : How) (word : List ℕ) (rest : List (List ℕ)) → how_words how ≡ word ∷ rest → (kind_word (kind_of_how how) ≡ word) × (rest_words how ≡ rest)
 unfolding first others
 first_word how word rest e = let same : kind_word (kind_of_how how) ∷ rest_words how ≡ word ∷ rest = sym (how_words-kind how) ∙ e in (ap first same, ap others same)
 

@@ -81,7 +81,7 @@ row_free mark s format number r small fits =
 
 -- ---- lines as words
 
-line_end : (a rest : List ℕ) → line a ++ rest ≡ a ++ (10 ∷ rest)
+pub line_end : (a rest : List ℕ) → line a ++ rest ≡ a ++ (10 ∷ rest)
 line_end a rest = append_assoc a (codes "\n") rest
 
 -- a line that has these words

@@ -60,14 +60,14 @@ row_line-text : (format number : ℕ) (r : Row) → row_line format number r ≡
 unfolding row_line row_text
 row_line-text format number r = refl
 
-line_of_row : (format number : ℕ) (r : Row) (more : List ℕ) → row_line format number r ++ more ≡ row_text format (number, r) ++ (10 ∷ more)
+pub line_of_row : (format number : ℕ) (r : Row) (more : List ℕ) → row_line format number r ++ more ≡ row_text format (number, r) ++ (10 ∷ more)
 line_of_row format number r more = rw (row_line-text format number r) (append_assoc (row_text format (number, r)) (codes "\n") more)
 
-line_of_end : (more : List ℕ) → end_line ++ more ≡ codes "end" ++ (10 ∷ more)
+pub line_of_end : (more : List ℕ) → end_line ++ more ≡ codes "end" ++ (10 ∷ more)
 unfolding end_line
 line_of_end more = refl
 
-row_text_free : (format : ℕ) (named : ℕ × Row) → FitsNamed format named → IsFree 10 (row_text format named)
+pub row_text_free : (format : ℕ) (named : ℕ × Row) → FitsNamed format named → IsFree 10 (row_text format named)
 unfolding row_text
 row_text_free format named fits = joined_free 32 10 refl (row_words format named.0 named.1) (row_free 10 lf format named.0 named.1 fits.number fits.row)
 
@@ -82,7 +82,7 @@ none_at_all format text free = record {
 pub end_stands : (text l rest : List ℕ) → text ≡ l ++ (10 ∷ rest) → l ≡ codes "end" → text ≡ end_line ++ rest
 end_stands text l rest e is = e ∙ ap (λ (t : List ℕ). t ++ (10 ∷ rest)) is ∙ sym (line_of_end rest)
 
-end_free : IsFree 10 (codes "end")
+pub end_free : IsFree 10 (codes "end")
 end_free = name_free 10 lf (codes "end") refl
 
 pub none_here : (format : ℕ) (text l rest : List ℕ) → text ≡ l ++ (10 ∷ rest) → IsFree 10 l → (l ≡ codes "end" → ⊥) → Reads (FitsNamed format) (row_text format) l None → HasNone format text

@@ -2,11 +2,13 @@
 #![tactic(auto)]
 
 mod kind;
+mod laws;
 mod printing;
 mod reading;
 mod row;
 mod steps;
 mod wording;
 
+pub use laws::{one_answer, read_again};
 pub use printing::{print_env, strategy_bytes};
 pub use reading::read_env;
