@@ -1,7 +1,9 @@
 -- The proofs.
 pub mod Begun
+pub mod Between
 pub mod Fine
 pub mod Holding
 pub mod Making
 pub mod Placing
+pub mod Routing
 pub mod Within

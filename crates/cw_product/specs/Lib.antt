@@ -4,4 +4,5 @@ pub mod Kept
 pub mod Moves
 pub mod Places
 pub mod Product
+pub mod Routes
 pub mod Uses
