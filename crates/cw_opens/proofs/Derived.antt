@@ -40,56 +40,62 @@ name_of_begins : (source : List ℕ) (e : Tree) → Begins source e → NameBegi
 name_of_begins source (Node op.Name parts from to) h = h
 name_of_begins source (Node _ parts from to) h = tt
 
-module _ (source : List ℕ) (D : Derives) (rec : (rule : Rule) (ts : List Lexeme) (e : Tree) → EachBegins source ts → D rule ts e → Begins source e) where
-  of_tree : (e x : Tree) → e ≡ x → Begins source x → Begins source e
-  of_tree e x is h = subst (Begins source) (sym is) h
+module _ (source : List ℕ) (D : Derives) (rec : (rule : Rule) (ts : List Lexeme) (e : Tree) → EachBegins source ts → D rule ts e → Begins source e)
+  where
+    of_tree : (e x : Tree) → e ≡ x → Begins source x → Begins source e
+    of_tree e x is h = subst (Begins source) (sym is) h
 
-  between : (ts inner : List Lexeme) (o c : Lexeme) → ts ≡ o ∷ inner ++ c ∷ [] → EachBegins source ts → EachBegins source inner
-  between ts inner o c whole h = (each_two source inner (c ∷ []) (each_at source ts (o ∷ inner ++ c ∷ []) whole h).1).0
+    between : (ts inner : List Lexeme) (o c : Lexeme) → ts ≡ o ∷ inner ++ c ∷ [] → EachBegins source ts → EachBegins source inner
+    between ts inner o c whole h = (each_two source inner (c ∷ []) (each_at source ts (o ∷ inner ++ c ∷ []) whole h).1).0
 
-  named : (ts : List Lexeme) (e : Tree) (n : Lexeme) → EachBegins source ts → ts ≡ n ∷ [] → n.word ≡ w.Name → e ≡ Node op.Name none (from_of ts) (to_of ts) → Begins source e
-  named ts e n h whole word is =
-      let k = each_at source ts (n ∷ []) whole h in
-      let one : Node op.Name none (from_of ts) (to_of ts) ≡ Node op.Name none n.from n.to = ap (λ l. Node op.Name none (from_of l) (to_of l)) whole in
-      of_tree e (Node op.Name none n.from n.to) (is ∙ one) (k.0 word)
+    named : (ts : List Lexeme) (e : Tree) (n : Lexeme) → EachBegins source ts → ts ≡ n ∷ [] → n.word ≡ w.Name
+        → e ≡ Node op.Name none (from_of ts) (to_of ts) → Begins source e
+    named ts e n h whole word is =
+        let k = each_at source ts (n ∷ []) whole h in
+        let one : Node op.Name none (from_of ts) (to_of ts) ≡ Node op.Name none n.from n.to = ap (λ l. Node op.Name none (from_of l) (to_of l)) whole in
+        of_tree e (Node op.Name none n.from n.to) (is ∙ one) (k.0 word)
 
-  primary : (ts : List Lexeme) (e : Tree) → EachBegins source ts → IsPrimary D ts e → Begins source e
-  primary ts e h (inl (n, whole, word, is)) = named ts e n h whole word is
-  primary ts e h (inr (inl (n, b, arguments, whole, word, args, is))) = of_tree e (Node (op.Call (name_of n)) (trees arguments) (from_of ts) (to_of ts)) is tt
-  primary ts e h (inr (inr (inl (n, value, whole, word, is)))) = of_tree e (Node (op.Number value) none (from_of ts) (to_of ts)) is tt
-  primary ts e h (inr (inr (inr (inl (n, value, whole, word, is))))) = of_tree e (Node (op.Char value) none (from_of ts) (to_of ts)) is tt
-  primary ts e h (inr (inr (inr (inr (inl (t, rest, whole, strings, is)))))) = of_tree e (Node op.Text none (from_of ts) (to_of ts)) is tt
-  primary ts e h (inr (inr (inr (inr (inr (o, inner, c, whole, opens, closes, d)))))) = rec Expression inner e (between ts inner o c whole h) d
+    primary : (ts : List Lexeme) (e : Tree) → EachBegins source ts → IsPrimary D ts e → Begins source e
+    primary ts e h (inl (n, whole, word, is)) = named ts e n h whole word is
+    primary ts e h (inr (inl (n, b, arguments, whole, word, args, is))) =
+        of_tree e (Node (op.Call (name_of n)) (trees arguments) (from_of ts) (to_of ts)) is tt
+    primary ts e h (inr (inr (inl (n, value, whole, word, is)))) = of_tree e (Node (op.Number value) none (from_of ts) (to_of ts)) is tt
+    primary ts e h (inr (inr (inr (inl (n, value, whole, word, is))))) = of_tree e (Node (op.Char value) none (from_of ts) (to_of ts)) is tt
+    primary ts e h (inr (inr (inr (inr (inl (t, rest, whole, strings, is)))))) = of_tree e (Node op.Text none (from_of ts) (to_of ts)) is tt
+    primary ts e h (inr (inr (inr (inr (inr (o, inner, c, whole, opens, closes, d)))))) = rec Expression inner e (between ts inner o c whole h) d
 
-  postfix : (ts : List Lexeme) (e : Tree) → EachBegins source ts → IsPostfix D ts e → Begins source e
-  postfix ts e h (inl p) = primary ts e h p
-  postfix ts e h (inr (inl (a, b, x, y, whole, first, index, is))) = of_tree e (Node op.Index (more x (more y none)) (from_of ts) (to_of ts)) is tt
-  postfix ts e h (inr (inr (a, t, number, x, whole, suffix, first, is))) = of_tree e (Node (op.Suffix number) (more x none) (from_of ts) (to_of ts)) is tt
+    postfix : (ts : List Lexeme) (e : Tree) → EachBegins source ts → IsPostfix D ts e → Begins source e
+    postfix ts e h (inl p) = primary ts e h p
+    postfix ts e h (inr (inl (a, b, x, y, whole, first, index, is))) = of_tree e (Node op.Index (more x (more y none)) (from_of ts) (to_of ts)) is tt
+    postfix ts e h (inr (inr (a, t, number, x, whole, suffix, first, is))) =
+        of_tree e (Node (op.Suffix number) (more x none) (from_of ts) (to_of ts)) is tt
 
-  unary : (ts : List Lexeme) (e : Tree) → EachBegins source ts → IsUnary D ts e → Begins source e
-  unary ts e h (inl (t, b, number, x, whole, sign, operand, is)) = of_tree e (Node (op.Prefix number) (more x none) (from_of ts) (to_of ts)) is tt
-  unary ts e h (inr (inl (t, b, number, x, whole, step, operand, is))) = of_tree e (Node (op.Prefix number) (more x none) (from_of ts) (to_of ts)) is tt
-  unary ts e h (inr (inr (inl (t, b, x, whole, word, operand, is)))) = of_tree e (Node op.SizeOf (more x none) (from_of ts) (to_of ts)) is tt
-  unary ts e h (inr (inr (inr (inl (t, b, kind, whole, word, type, is))))) = of_tree e (Node (op.SizeOfType kind) none (from_of ts) (to_of ts)) is tt
-  unary ts e h (inr (inr (inr (inr p)))) = postfix ts e h p
+    unary : (ts : List Lexeme) (e : Tree) → EachBegins source ts → IsUnary D ts e → Begins source e
+    unary ts e h (inl (t, b, number, x, whole, sign, operand, is)) = of_tree e (Node (op.Prefix number) (more x none) (from_of ts) (to_of ts)) is tt
+    unary ts e h (inr (inl (t, b, number, x, whole, step, operand, is))) =
+        of_tree e (Node (op.Prefix number) (more x none) (from_of ts) (to_of ts)) is tt
+    unary ts e h (inr (inr (inl (t, b, x, whole, word, operand, is)))) = of_tree e (Node op.SizeOf (more x none) (from_of ts) (to_of ts)) is tt
+    unary ts e h (inr (inr (inr (inl (t, b, kind, whole, word, type, is))))) = of_tree e (Node (op.SizeOfType kind) none (from_of ts) (to_of ts)) is tt
+    unary ts e h (inr (inr (inr (inr p)))) = postfix ts e h p
 
-  operand : (ts : List Lexeme) (e : Tree) → EachBegins source ts → IsOperand D ts e → Begins source e
-  operand ts e h (inl (a, b, kind, x, whole, type, inner, is)) = of_tree e (Node (op.Cast kind) (more x none) (from_of ts) (to_of ts)) is tt
-  operand ts e h (inr p) = unary ts e h p
+    operand : (ts : List Lexeme) (e : Tree) → EachBegins source ts → IsOperand D ts e → Begins source e
+    operand ts e h (inl (a, b, kind, x, whole, type, inner, is)) = of_tree e (Node (op.Cast kind) (more x none) (from_of ts) (to_of ts)) is tt
+    operand ts e h (inr p) = unary ts e h p
 
-  level : (l : ℕ) (ts : List Lexeme) (e : Tree) → EachBegins source ts → IsLevel D l ts e → Begins source e
-  level zero ts e h p = operand ts e h p
-  level (suc l) ts e h (inl p) = level l ts e h p
-  level (suc l) ts e h (inr (a, t, b, number, x, y, whole, binary, first, second, is)) = of_tree e (Node (op.Binary number) (more x (more y none)) (from_of ts) (to_of ts)) is tt
+    level : (l : ℕ) (ts : List Lexeme) (e : Tree) → EachBegins source ts → IsLevel D l ts e → Begins source e
+    level zero ts e h p = operand ts e h p
+    level (suc l) ts e h (inl p) = level l ts e h p
+    level (suc l) ts e h (inr (a, t, b, number, x, y, whole, binary, first, second, is)) =
+        of_tree e (Node (op.Binary number) (more x (more y none)) (from_of ts) (to_of ts)) is tt
 
-  rules : (rule : Rule) (ts : List Lexeme) (e : Tree) → EachBegins source ts → IsRule D rule ts e → Begins source e
-  rules Expression ts e h (inl p) = level loosest ts e h p
-  rules Expression ts e h (inr (a, t, b, number, x, y, whole, assign, first, second, is)) =
-      let own = (each_two source a (t ∷ b) (each_at source ts (a ++ t ∷ b) whole h)).0 in
-      of_tree e (Node (op.Assign number) (more x (more y none)) (from_of ts) (to_of ts)) is (name_of_begins source x (rec Unary a x own first))
-  rules (Level l) ts e h p = level l ts e h p
-  rules Unary ts e h p = unary ts e h p
-  rules Postfix ts e h p = postfix ts e h p
+    rules : (rule : Rule) (ts : List Lexeme) (e : Tree) → EachBegins source ts → IsRule D rule ts e → Begins source e
+    rules Expression ts e h (inl p) = level loosest ts e h p
+    rules Expression ts e h (inr (a, t, b, number, x, y, whole, assign, first, second, is)) =
+        let own = (each_two source a (t ∷ b) (each_at source ts (a ++ t ∷ b) whole h)).0 in
+        of_tree e (Node (op.Assign number) (more x (more y none)) (from_of ts) (to_of ts)) is (name_of_begins source x (rec Unary a x own first))
+    rules (Level l) ts e h p = level l ts e h p
+    rules Unary ts e h p = unary ts e h p
+    rules Postfix ts e h p = postfix ts e h p
 
 derived : (source : List ℕ) (n : ℕ) (rule : Rule) (ts : List Lexeme) (e : Tree) → EachBegins source ts → IsDerived n rule ts e → Begins source e
 derived source zero rule ts e h d = absurd d

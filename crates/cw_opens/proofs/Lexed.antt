@@ -1,5 +1,6 @@
 -- A token that is a name begins as one.
-use Rattle.std.proofs.Common.{◌≡◌, ℕ, suc, ◌-◌, Bool, true, false, cond, ◌&&◌, ◌||◌, List, [], ◌∷◌, length, Option, Some, None, refl, sym, ap, ◌∙◌, subst, arith, drop, length-drop, length-take}
+use Rattle.std.proofs.Common.{◌≡◌, ℕ, suc, ◌-◌, Bool, true, false, cond, ◌&&◌, ◌||◌, List, [], ◌∷◌, length, Option, Some, None, refl, sym, ap, ◌∙◌}
+use Rattle.std.proofs.Common.{subst, arith, drop, length-drop, length-take}
 use Rattle.std.specs.Prelude.{IsTrue, nat_le, nat_eq, unwrap_or}
 use Rattle.std.specs.List.{AllByRecursion}
 use Rattle.std.specs.Str.{bytes_eq}
@@ -56,14 +57,16 @@ two_other (Some word) p h k = h
 word_named : (k : TokenKind) (text : List ℕ) → word_of k text ≡ w.Name → k ≡ kind.Name
 unfolding word_of
 word_named kind.Name text e = refl
-word_named kind.Keyword text e = let z : true ≡ false = sym (ap is_name_word e) ∙ or_other (spelled keywords text) (spelled_other keywords refl text) in absurd (cc)
+word_named kind.Keyword text e = let z : true ≡ false = sym (ap is_name_word e) ∙ or_other (spelled keywords text)
+    (spelled_other keywords refl text) in absurd (cc)
 word_named kind.Number text e = absurd (cc)
 word_named kind.Character text e = absurd (cc)
 word_named kind.Text text e = absurd (cc)
 word_named kind.Punctuation text e =
     let long = spelled_other long_punctuators refl text in
     let short = spelled_other short_punctuators refl text in
-    let z : true ≡ false = sym (ap is_name_word e) ∙ or_other (punctuator text) (two_other (spelled long_punctuators text) (spelled short_punctuators text) long short) in
+    let z : true ≡ false = sym (ap is_name_word e) ∙ or_other (punctuator text)
+    (two_other (spelled long_punctuators text) (spelled short_punctuators text) long short) in
     absurd (cc)
 
 swapped : (x y z : Bool) → (x || y || z) ≡ true → (y || x || z) ≡ true
@@ -100,7 +103,8 @@ slice_long source t h =
 token_begins : (source : List ℕ) (t : Token) → IsTokenOf source t → t.kind ≡ kind.Name → IsTrue (begins_name (slice source t.from t.to))
 token_begins source t h is =
     let alone = subst (λ (n : ℕ). piece_at true (slice source t.from t.to) ≡ piece.Token t.kind n) (sym (slice_long source t h)) h.alone in
-    name_begins (slice source t.from t.to) (subst (λ k. piece_at true (slice source t.from t.to) ≡ piece.Token k (length (slice source t.from t.to))) is alone)
+    name_begins (slice source t.from t.to) (subst (λ k. piece_at true (slice source t.from t.to) ≡ piece.Token k
+    (length (slice source t.from t.to))) is alone)
 
 each_begins : (source : List ℕ) (ts : List Token) → AllByRecursion (IsTokenOf source) ts → EachBegins source (lexemes_of source ts)
 each_begins source [] h = tt

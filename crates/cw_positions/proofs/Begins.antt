@@ -24,7 +24,8 @@ module _ {A : Type 0} (w : A → ℕ) where
       omega (arith, ap (λ k. sum_by w (take k (m ∷ ns))) z, begin_next m ns (p + 1), begin_next m ns p, begin_more ns p n e)
 
   -- the same of an item that a loop is at
-  pub end_more : (ns : List A) (i end width : ℕ) (d : A) → i < length ns → end ≡ sum_by w (take i ns) → width ≡ w (get_or ns i d) → end + width ≡ sum_by w (take (i + 1) ns)
+  pub end_more : (ns : List A) (i end width : ℕ) (d : A) → i < length ns → end ≡ sum_by w (take i ns) → width ≡ w (get_or ns i d)
+      → end + width ≡ sum_by w (take (i + 1) ns)
   end_more ns i end width d h e z = omega (arith, e, z, begin_more ns i (get_or ns i d) (slice_get-get_or ns i d h))
 
   -- no part has a number past all
@@ -43,14 +44,16 @@ module _ {A : Type 0} (w : A → ℕ) where
   begins ns = map (λ p. sum_by w (take p ns)) (range_with_len 0 (length ns + 1))
 
   -- one more of where they begin
-  pub begins_more : (ns : List A) (i end : ℕ) (bs : List ℕ) → bs ≡ map (λ p. sum_by w (take p ns)) (range_with_len 0 (i + 1)) → end ≡ sum_by w (take (i + 1) ns)
+  pub begins_more : (ns : List A) (i end : ℕ) (bs : List ℕ) → bs ≡ map (λ p. sum_by w (take p ns)) (range_with_len 0 (i + 1))
+      → end ≡ sum_by w (take (i + 1) ns)
       → bs ++ end ∷ [] ≡ map (λ p. sum_by w (take p ns)) (range_with_len 0 (i + 1 + 1))
   begins_more ns i end bs h e =
       ap (λ l. l ++ end ∷ []) h ∙ ap (λ n. map (λ p. sum_by w (take p ns)) (range_with_len 0 (i + 1)) ++ n ∷ []) e
       ∙ sym (map-range_with_len_more (λ p. sum_by w (take p ns)) 0 (i + 1) (i + 1) (omega arith))
 
   pub begin_found : (ns : List A) (p d : ℕ) → get_or (begins ns) (min p (length ns)) d ≡ sum_by w (take p ns)
-  begin_found ns p d = get_or-map-range_with_len (λ k. sum_by w (take k ns)) 0 (length ns + 1) (min p (length ns)) (min p (length ns)) d (omega arith) (omega arith) ∙ past ns p
+  begin_found ns p d = get_or-map-range_with_len (λ k. sum_by w (take k ns)) 0 (length ns + 1) (min p (length ns)) (min p (length ns)) d
+      (omega arith) (omega arith) ∙ past ns p
 
   pub begins_length : (ns : List A) → length (begins ns) ≡ length ns + 1
   begins_length ns = length-map-range_with_len (λ p. sum_by w (take p ns)) 0 (length ns + 1)

@@ -1,5 +1,6 @@
 -- Positions lead to positions that there are.
-use Rattle.std.proofs.Common.{◌≡◌, ℕ, zero, suc, ◌+◌, ◌*◌, ◌<◌, ◌≤◌, List, [], ◌∷◌, ◌++◌, Bool, true, false, cond, length, map, Option, Some, None, refl, sym, subst, arith, add-zero}
+use Rattle.std.proofs.Common.{◌≡◌, ℕ, zero, suc, ◌+◌, ◌*◌, ◌<◌, ◌≤◌, List, [], ◌∷◌, ◌++◌, Bool, true, false, cond, length, map, Option, Some, None}
+use Rattle.std.proofs.Common.{refl, sym, subst, arith, add-zero}
 use Rattle.std.specs.Prelude.{slice_get}
 use Rattle.std.proofs.lemmas.Option.{none-some, same_Some, slice_get_within}
 use Rattle.cw_rights.specs.declared.capabilities.Limit.{Limit as ALimit}
@@ -39,8 +40,10 @@ module _ (size functions : ℕ) where
 
   closed_at : (p : ℕ) (ss : List Spot) (i : ℕ) (s : Spot) → ClosedFrom p ss → slice_get ss i ≡ Some s → LeadsWithin size functions (p + i) s
   closed_at p [] i s h e = absurd (none-some s e)
-  closed_at p (t ∷ ss) zero s h e = subst (λ q. LeadsWithin size functions q s) (sym (add-zero p)) (subst (LeadsWithin size functions p) (same_Some t s e) h.0)
-  closed_at p (t ∷ ss) (suc i) s h e = let z : p + 1 + i ≡ p + suc i = omega arith in subst (λ q. LeadsWithin size functions q s) z (closed_at (p + 1) ss i s h.1 e)
+  closed_at p (t ∷ ss) zero s h e =
+      subst (λ q. LeadsWithin size functions q s) (sym (add-zero p)) (subst (LeadsWithin size functions p) (same_Some t s e) h.0)
+  closed_at p (t ∷ ss) (suc i) s h e =
+      let z : p + 1 + i ≡ p + suc i = omega arith in subst (λ q. LeadsWithin size functions q s) z (closed_at (p + 1) ss i s h.1 e)
 
   -- how many positions are needed behind what is asked
   abbrev Room : ℕ → Primitive → Type 0
@@ -63,21 +66,29 @@ module _ (size functions : ℕ) where
   some_room n (Limit limit) h = h
 
   -- the visits with what stands behind them
-  visits_closed : (j i : ℕ) (later : List Primitive) (rest : List Spot) (p : ℕ) → AllRoom (length rest) later → p + (2 * length later + length rest) ≤ size → ClosedFrom (p + 2 * length later) rest
+  visits_closed : (j i : ℕ) (later : List Primitive) (rest : List Spot) (p : ℕ) → AllRoom (length rest) later
+      → p + (2 * length later + length rest) ≤ size → ClosedFrom (p + 2 * length later) rest
       → ClosedFrom p (visits j i later ++ rest)
   visits_closed j i [] rest p room h c = let z : p + 0 ≡ p = add-zero p in subst (λ q. ClosedFrom q rest) z c
   visits_closed j i (a ∷ later) rest p room h c =
       let z : p + 2 * length (a ∷ later) ≡ p + 1 + 1 + 2 * length later = omega arith in
       let some = some_room (length rest) a room.0 in
-      let first : LeadsWithin size functions p (Visit j i a) = omega (arith, some, h) in
-      (first, (asked_closed (p + 1) j i a (length rest) room.0 (omega arith), visits_closed j (suc i) later rest (p + 1 + 1) room.1 (omega arith) (subst (λ q. ClosedFrom q rest) z c)))
+      let first : LeadsWithin size functions p (Visit j i a) = omega (arith, some, h) in (
+        first,
+        (
+          asked_closed (p + 1) j i a (length rest) room.0 (omega arith),
+          visits_closed j (suc i) later rest (p + 1 + 1) room.1 (omega arith)
+              (subst (λ q. ClosedFrom q rest) z c),
+        ),
+      )
 
   limits_room : (n : ℕ) (ls : List ALimit) (later : List Primitive) → 1 ≤ n → AllRoom n later → AllRoom n (map (λ limit. Limit limit) ls ++ later)
   limits_room n [] later h r = r
   limits_room n (l ∷ ls) later h r = (h, limits_room n ls later h r)
 
   primitives_room : (policy : PlainPolicy) (split : Bool) (n : ℕ) → n ≡ 1 + cond split 1 0 → AllRoom n (primitives policy split)
-  primitives_room policy true n e = let one : 1 ≤ n = omega arith in let two : 2 ≤ n = omega arith in limits_room n policy.limits (Enter ∷ (Split ∷ [])) one (one, (two, tt))
+  primitives_room policy true n e =
+      let one : 1 ≤ n = omega arith in let two : 2 ≤ n = omega arith in limits_room n policy.limits (Enter ∷ (Split ∷ [])) one (one, (two, tt))
   primitives_room policy false n e = let one : 1 ≤ n = omega arith in limits_room n policy.limits (Enter ∷ []) one (one, tt)
 
   module _ (policy : PlainPolicy) (parts : List Part) where
@@ -85,17 +96,20 @@ module _ (size functions : ℕ) where
     call_length true s t = refl
     call_length false s t = refl
 
-    call_closed : (split : Bool) (p j f l : ℕ) (s : Spot) → LeadsWithin size functions p s → f < functions → l < size → ClosedFrom p (s ∷ cond split (SplitCall j f l ∷ []) [])
+    call_closed : (split : Bool) (p j f l : ℕ) (s : Spot) → LeadsWithin size functions p s → f < functions → l < size
+        → ClosedFrom p (s ∷ cond split (SplitCall j f l ∷ []) [])
     call_closed true p j f l s h e k = (h, ((e, k), tt))
     call_closed false p j f l s h e k = (h, tt)
 
     -- the positions of a point, where it leads to positions that there are
     point_closed : (w : Point) (f j l r p : ℕ) → CallsWithin functions w → l < size → r < size → p + width policy parts w ≤ size
         → ClosedFrom p (visits j 0 (primitives_at policy parts w) ++ free parts w f j l r)
-    point_closed point.Entry f j l r p c hl hr h = visits_closed j 0 (primitives policy false) (free parts point.Entry f j l r) p (primitives_room policy false 1 refl) (omega arith) (hl, tt)
+    point_closed point.Entry f j l r p c hl hr h =
+        visits_closed j 0 (primitives policy false) (free parts point.Entry f j l r) p (primitives_room policy false 1 refl) (omega arith) (hl, tt)
     point_closed point.Step f j l r p c hl hr h = (hl, tt)
     point_closed point.Branch f j l r p c hl hr h = ((hl, hr), tt)
-    point_closed (point.Label m) f j l r p c hl hr h = visits_closed j 0 (primitives policy false) (free parts (point.Label m) f j l r) p (primitives_room policy false 1 refl) (omega arith) (hl, tt)
+    point_closed (point.Label m) f j l r p c hl hr h = visits_closed j 0 (primitives policy false) (free parts (point.Label m) f j l r) p
+        (primitives_room policy false 1 refl) (omega arith) (hl, tt)
     point_closed (point.Open d) f j l r p c hl hr h = (hl, tt)
     point_closed (point.Close d) f j l r p c hl hr h = (hl, tt)
     point_closed (point.Call m) f j l r p c hl hr h =
@@ -136,6 +150,7 @@ module _ (policy : PlainPolicy) (parts : List Part) (ns : List Node) (functions 
       let some : 0 < length ns = omega arith in
       let l = leads_at (length ns) ns r.0 n lead r.3 in
       let last = begin_below w ns r.0 n r.3 in
-      let all = point_closed size functions policy parts n.point n.function (number n.seam) (to at (first_of n.next)) (to at (second_of n.next)) (at r.0) (calls r.0 n r.3)
+      let all = point_closed size functions policy parts n.point n.function (number n.seam) (to at (first_of n.next)) (to at (second_of n.next))
+      (at r.0) (calls r.0 n r.3)
       (to_below (first_of n.next) l.0 some) (to_below (second_of n.next) l.1 some) (omega (arith, last, length_all policy parts at ns)) in
       subst (λ p. LeadsWithin size functions p s) (sym r.5) (closed_at size functions (at r.0) (spots_at policy parts at n) r.2 s all r.4)

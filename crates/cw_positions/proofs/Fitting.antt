@@ -4,10 +4,13 @@ use Rattle.std.specs.Prelude.{slice_get}
 use Rattle.std.proofs.lemmas.Option.{none-some, same_Some}
 use Rattle.cw_syntax.specs.declared.program.Name.{Name}
 use Rattle.cw_syntax.specs.Names.{text, number_or_other}
-use Rattle.cw_syntax.specs.Trees.{Tree, Statement, Stated, Form, Block, Declares, Evaluates, Empties, Labels, Chooses, Whiles, Does, Fors, Breaks, Continues, Returns, Perhaps, nothing, just}
+use Rattle.cw_syntax.specs.Trees.{Tree, Statement, Stated, Form, Block, Declares, Evaluates, Empties, Labels, Chooses, Whiles, Does, Fors, Breaks}
+use Rattle.cw_syntax.specs.Trees.{Continues, Returns, Perhaps, nothing, just}
 use Rattle.cw_syntax.specs.Trees.{Statements, nil, cons, Definition}
-use Rattle.cw_syntax.specs.Plans.{Callee, Stm, Plain, Break, Continue, Return, Open, Close, Call, Group, Label, If, While, Do, For, Stms, end, then, Routine, Scene, Action, Computes, Opens, Closes, Invokes}
-use Rattle.cw_syntax.specs.Plans.{acting, action_of, steps_of, steps_of_form, steps_of_arm, steps_of_all, seams, seams_all, numbered, numbered_all, routines_from}
+use Rattle.cw_syntax.specs.Plans.{Callee, Stm, Plain, Break, Continue, Return, Open, Close, Call, Group, Label, If, While, Do, For, Stms, end, then}
+use Rattle.cw_syntax.specs.Plans.{Routine, Scene, Action, Computes, Opens, Closes, Invokes}
+use Rattle.cw_syntax.specs.Plans.{acting, action_of, steps_of, steps_of_form, steps_of_arm, steps_of_all, seams, seams_all, numbered, numbered_all}
+use Rattle.cw_syntax.specs.Plans.{routines_from}
 use Rattle.cw_points.specs.declared.graph.Point.{Point}
 use Rattle.cw_points.specs.declared.graph.Point.TheVariants as point
 use Rattle.cw_points.specs.declared.graph.Node.{Node}
@@ -76,7 +79,8 @@ module _ (O C L : ℕ → Type 0) (K : Callee → Type 0) where
     AllFit (then s ss) = Fits s × AllFit ss
 
   -- of a program's functions, where this holds of each expression that is a statement
-  module _ (c : Scene) (T : Tree → Type 0) (acts : (t : Tree) → T t → ActFits (action_of c t)) (labels : (name : Name) → L (number_or_other c.names.labels (text c.source name))) where
+  module _ (c : Scene) (T : Tree → Type 0) (acts : (t : Tree) → T t → ActFits (action_of c t))
+      (labels : (name : Name) → L (number_or_other c.names.labels (text c.source name))) where
     acting_fits : (a : Action) (at j : ℕ) → ActFits a → Fits (numbered (acting a at) j)
     acting_fits Computes at j h = tt
     acting_fits (Opens d) at j h = h
@@ -124,11 +128,13 @@ module _ (O C L : ℕ → Type 0) (K : Callee → Type 0) where
     fits_at (m ∷ rs) zero r h e = subst (λ (k : Routine). AllFit k.body) (same_Some m r e) h.0
     fits_at (m ∷ rs) (suc f) r h e = fits_at rs f r h.1 e
 
-    pub routine_fits_where : (fs : List Definition) (j f : ℕ) (r : Routine) → EachStandsFrom T fs → slice_get (routines_from c j fs) f ≡ Some r → AllFit r.body
+    pub routine_fits_where : (fs : List Definition) (j f : ℕ) (r : Routine) → EachStandsFrom T fs → slice_get (routines_from c j fs) f ≡ Some r
+        → AllFit r.body
     routine_fits_where fs j f r h e = fits_at (routines_from c j fs) f r (routines_fit j fs h) e
 
   -- the same where it holds of each expression
-  module _ (c : Scene) (acts : (t : Tree) → ActFits (action_of c t)) (labels : (name : Name) → L (number_or_other c.names.labels (text c.source name))) where
+  module _ (c : Scene) (acts : (t : Tree) → ActFits (action_of c t))
+      (labels : (name : Name) → L (number_or_other c.names.labels (text c.source name))) where
     pub routine_fits : (fs : List Definition) (j f : ℕ) (r : Routine) → slice_get (routines_from c j fs) f ≡ Some r → AllFit r.body
     routine_fits fs j f r e = routine_fits_where c (λ t. Unit {0}) (λ t h. acts t) labels fs j f r (every_from (λ t. Unit {0}) (λ t. tt) fs) e
 
@@ -173,8 +179,11 @@ module _ (O C L : ℕ → Type 0) (K : Callee → Type 0) where
       points_fit (Call at j callee) f n k x b c h = (called callee h, tt)
       points_fit (Group ss) f n k x b c h = points_fit_all ss f n k x b c h
       points_fit (Label at mark j l s) f n k x b c h = (h.0, points_fit s f (n + 1) k x b c h.1)
-      points_fit (If at s t) f n k x b c h =
-          (tt, two (nodes_in f s (n + 1) k x b c) (nodes_in f t (n + 1 + count s) k x b c) (points_fit s f (n + 1) k x b c h.0) (points_fit t f (n + 1 + count s) k x b c h.1))
+      points_fit (If at s t) f n k x b c h = (
+        tt,
+        two (nodes_in f s (n + 1) k x b c) (nodes_in f t (n + 1 + count s) k x b c) (points_fit s f (n + 1) k x b c h.0)
+            (points_fit t f (n + 1 + count s) k x b c h.1),
+      )
       points_fit (While at s) f n k x b c h = (tt, points_fit s f (n + 1) n x (Some k) (Some n) h)
       points_fit (Do at s) f n k x b c h =
           let t = n + count s in
@@ -184,20 +193,24 @@ module _ (O C L : ℕ → Type 0) (K : Callee → Type 0) where
           let a = turn_of n init stepped in
           let m = first (count s) (a + 1) a in
           let body = nodes_in f s (a + 1) a x (Some k) (Some a) in
-          two (init_nodes f init t) (turns f decided stepped m k t body) (init_fit f init t) (turns_fit f decided stepped m k t body (points_fit s f (a + 1) a x (Some k) (Some a) h))
+          two (init_nodes f init t) (turns f decided stepped m k t body) (init_fit f init t)
+          (turns_fit f decided stepped m k t body (points_fit s f (a + 1) a x (Some k) (Some a) h))
 
       points_fit_all : (ss : Stms) (f n k x : ℕ) (b c : Option ℕ) → AllFit ss → PointsFit (nodes_in_all f ss n k x b c)
       points_fit_all end f n k x b c h = tt
       points_fit_all (then s ss) f n k x b c h =
           let m = first (count_all ss) (n + count s) k in
-          two (nodes_in f s n m x b c) (nodes_in_all f ss (n + count s) k x b c) (points_fit s f n m x b c h.0) (points_fit_all ss f (n + count s) k x b c h.1)
+          two (nodes_in f s n m x b c) (nodes_in_all f ss (n + count s) k x b c) (points_fit s f n m x b c h.0)
+          (points_fit_all ss f (n + count s) k x b c h.1)
 
-    pub points_fit_from : (f : ℕ) (rs : List Routine) (n : ℕ) → ((i : ℕ) (r : Routine) → slice_get rs i ≡ Some r → AllFit r.body) → PointsFit (nodes_from f rs n)
+    pub points_fit_from : (f : ℕ) (rs : List Routine) (n : ℕ) → ((i : ℕ) (r : Routine) → slice_get rs i ≡ Some r → AllFit r.body)
+        → PointsFit (nodes_from f rs n)
     points_fit_from f [] n h = tt
     points_fit_from f (r ∷ rs) n h =
         let x = exit_of r n in
         let body = nodes_in_all f r.body (n + 1) x x None None in
-        two (nodes_of f r n) (nodes_from (f + 1) rs (x + 1)) (tt, two body (node point.Exit f None None ∷ []) (points_fit_all r.body f (n + 1) x x None None (h 0 r refl)) (tt, tt))
+        two (nodes_of f r n) (nodes_from (f + 1) rs (x + 1))
+        (tt, two body (node point.Exit f None None ∷ []) (points_fit_all r.body f (n + 1) x x None None (h 0 r refl)) (tt, tt))
         (points_fit_from (f + 1) rs (x + 1) (λ i q e. h (suc i) q e))
 
     pub point_fits : (ns : List Node) (p : ℕ) (n : Node) → PointsFit ns → slice_get ns p ≡ Some n → PointFits n.point

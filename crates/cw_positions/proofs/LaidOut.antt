@@ -46,12 +46,15 @@ module _ (policy : PlainPolicy) (source : List ℕ) (file : File) where
       let rs = (plan_of names source file).routines in
       let D = λ (d : ℕ). d < length policy.descriptors in
       let K = λ (callee : Callee). callee.split ≡ is_split (parts_of names source file) callee.number in
-      routine_fits D D (λ l. Unit {0}) K c (λ t. act_fits (action_of c t) (acts_within c t) (acts_split names source file rs (routines_length names source file) t)) (λ name. tt)
+      routine_fits D D (λ l. Unit {0}) K c (λ t. act_fits (action_of c t) (acts_within c t)
+      (acts_split names source file rs (routines_length names source file) t)) (λ name. tt)
       file.functions 0 f r e
 
-  stands_plan : IsRunnable (plan_of (names_of policy) source file) → (f : ℕ) (r : Routine) → slice_get (plan_of (names_of policy) source file).routines f ≡ Some r
+  stands_plan : IsRunnable (plan_of (names_of policy) source file) → (f : ℕ) (r : Routine)
+      → slice_get (plan_of (names_of policy) source file).routines f ≡ Some r
       → At (spots_in policy (parts_of (names_of policy) source file) (nodes (plan_of (names_of policy) source file))) policy
-      (end_in (names_of policy) source file policy (nodes (plan_of (names_of policy) source file)) (parts_of (names_of policy) source file) f) (new_frame f r)
+      (end_in (names_of policy) source file policy (nodes (plan_of (names_of policy) source file)) (parts_of (names_of policy) source file) f)
+      (new_frame f r)
       (begin_in (names_of policy) source file policy (nodes (plan_of (names_of policy) source file)) (parts_of (names_of policy) source file) f)
   stands_plan runs f r e =
       let names = names_of policy in
@@ -61,28 +64,34 @@ module _ (policy : PlainPolicy) (source : List ℕ) (file : File) where
       let at = base policy ps ns in
       let p = part_of names source file f r e in
       let stands = at_routine policy ps ns (points plan) f p.0.exit.0 r p.0.entry.0 (body_fits f r e) (runs.lands f r e) p.2 in
-      subst (λ o. At (spots_in policy ps ns) policy (to at (option_map (λ (q : Part). q.exit.0) o)) (new_frame f r) (to at (option_map (λ (q : Part). q.entry.0) o))) (sym p.1) stands
+      subst (λ o. At (spots_in policy ps ns) policy (to at (option_map (λ (q : Part). q.exit.0) o)) (new_frame f r)
+      (to at (option_map (λ (q : Part). q.entry.0) o))) (sym p.1) stands
 
-  pub laid_out : (g : Graph) (game : Game) → IsGraph (names_of policy) source file g → IsRunnable (plan_of (names_of policy) source file) → IsGameOn g policy game
+  pub laid_out : (g : Graph) (game : Game) → IsGraph (names_of policy) source file g → IsRunnable (plan_of (names_of policy) source file)
+      → IsGameOn g policy game
       → IsLaidOut (plan_of (names_of policy) source file) game
   laid_out g game i runs o =
       let names = names_of policy in
       let stands = λ (f : ℕ) (r : Routine) (s : slice_get (plan_of names source file).routines f ≡ Some r).
-      let on = of_graph names source file g (λ ns ps m. At (spots_in policy ps ns) policy (end_in names source file policy ns ps f) (new_frame f r) (begin_in names source file policy ns ps f)) i
+      let on = of_graph names source file g (λ ns ps m. At (spots_in policy ps ns) policy (end_in names source file policy ns ps f) (new_frame f r)
+      (begin_in names source file policy ns ps f)) i
       (stands_plan runs f r s) in
       subst (λ l. At l game.policy (game.exit f) (new_frame f r) (game.entry f)) (sym o.spots)
       (subst (λ pol. At (spots_in policy g.parts.items g.nodes.items) pol (game.exit f) (new_frame f r) (game.entry f)) (sym o.under)
       (subst (λ n. At (spots_in policy g.parts.items g.nodes.items) policy n (new_frame f r) (game.entry f)) (sym (o.exit f))
-      (subst (λ n. At (spots_in policy g.parts.items g.nodes.items) policy (end_in names source file policy g.nodes.items g.parts.items f) (new_frame f r) n) (sym (o.entry f)) on))) in
+      (subst (λ n. At (spots_in policy g.parts.items g.nodes.items) policy (end_in names source file policy g.nodes.items g.parts.items f)
+      (new_frame f r) n) (sym (o.entry f)) on))) in
       record { main = sym i.main ∙ sym o.main; functions = stands }
 
   -- a function that is called is there
-  routine_below : (f : ℕ) → f < length (parts_of (names_of policy) source file) → (r : Routine) × (slice_get (plan_of (names_of policy) source file).routines f ≡ Some r)
+  routine_below : (f : ℕ) → f < length (parts_of (names_of policy) source file)
+      → (r : Routine) × (slice_get (plan_of (names_of policy) source file).routines f ≡ Some r)
   routine_below f h =
       let names = names_of policy in
       get_below (plan_of names source file).routines f (omega (arith, h, parts_length names source file, routines_length names source file))
 
-  pub has_routines : (g : Graph) (game : Game) → IsGraph (names_of policy) source file g → IsRunnable (plan_of (names_of policy) source file) → IsGameOn g policy game
+  pub has_routines : (g : Graph) (game : Game) → IsGraph (names_of policy) source file g → IsRunnable (plan_of (names_of policy) source file)
+      → IsGameOn g policy game
       → HasRoutines (plan_of (names_of policy) source file) game
   has_routines g game i runs o =
       let plan = plan_of (names_of policy) source file in

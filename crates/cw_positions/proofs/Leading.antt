@@ -1,12 +1,15 @@
 -- Each point of a program leads to points of the program.
-use Rattle.std.proofs.Common.{◌≡◌, ℕ, zero, suc, ◌+◌, ◌<◌, ◌≤◌, List, [], ◌∷◌, ◌++◌, length, Bool, true, false, Option, Some, None, refl, subst, length-append, arith}
+use Rattle.std.proofs.Common.{◌≡◌, ℕ, zero, suc, ◌+◌, ◌<◌, ◌≤◌, List, [], ◌∷◌, ◌++◌, length, Bool, true, false, Option, Some, None, refl, subst}
+use Rattle.std.proofs.Common.{length-append, arith}
 use Rattle.std.specs.Prelude.{slice_get}
 use Rattle.std.proofs.lemmas.Option.{none-some, same_Some}
-use Rattle.cw_syntax.specs.Plans.{Stm, Plain, Break, Continue, Return, Open, Close, Call, Group, Label, If, While, Do, For, Stms, end, then, Routine, Plan}
+use Rattle.cw_syntax.specs.Plans.{Stm, Plain, Break, Continue, Return, Open, Close, Call, Group, Label, If, While, Do, For, Stms, end, then}
+use Rattle.cw_syntax.specs.Plans.{Routine, Plan}
 use Rattle.cw_points.specs.declared.graph.Point.TheVariants as point
 use Rattle.cw_points.specs.declared.graph.Node.{Node}
 use Rattle.cw_points.specs.Points.{count, count_all, one_if, one_if_some, count_from, point_count}
-use Rattle.cw_points.specs.Graphs.{node, step, branch, first, init_nodes, test_node, step_nodes, turns, test_of, turn_of, nodes_in, nodes_in_all, exit_of, nodes_of, nodes_from, nodes}
+use Rattle.cw_points.specs.Graphs.{node, step, branch, first, init_nodes, test_node, step_nodes, turns, test_of, turn_of, nodes_in, nodes_in_all}
+use Rattle.cw_points.specs.Graphs.{exit_of, nodes_of, nodes_from, nodes}
 use Rattle.cw_points.specs.Walks.{first_of, second_of}
 use Rattle.cw_points.proofs.Lengths.{nodes_length_all}
 
@@ -48,7 +51,8 @@ step_leads size f false t h = tt
 
 module _ (size f : ℕ) where
   mutual
-    leads : (s : Stm) (n k x : ℕ) (b c : Option ℕ) → n + count s ≤ size → k < size → x < size → IsBelow size b → IsBelow size c → EachLeads size (nodes_in f s n k x b c)
+    leads : (s : Stm) (n k x : ℕ) (b c : Option ℕ) → n + count s ≤ size → k < size → x < size → IsBelow size b → IsBelow size c
+        → EachLeads size (nodes_in f s n k x b c)
     leads (Plain at) n k x b c h hk hx hb hc = ((hk, tt), tt)
     leads (Break at) n k x b c h hk hx hb hc = jump size f b hb
     leads (Continue at) n k x b c h hk hx hb hc = jump size f c hc
@@ -57,7 +61,8 @@ module _ (size f : ℕ) where
     leads (Close at j d) n k x b c h hk hx hb hc = ((hk, tt), tt)
     leads (Call at j callee) n k x b c h hk hx hb hc = ((hk, tt), tt)
     leads (Group ss) n k x b c h hk hx hb hc = leads_all ss n k x b c h hk hx hb hc
-    leads (Label at mark j l s) n k x b c h hk hx hb hc = ((first_below size (count s) (n + 1) k (omega arith) hk, tt), leads s (n + 1) k x b c (omega arith) hk hx hb hc)
+    leads (Label at mark j l s) n k x b c h hk hx hb hc =
+        ((first_below size (count s) (n + 1) k (omega arith) hk, tt), leads s (n + 1) k x b c (omega arith) hk hx hb hc)
     leads (If at s t) n k x b c h hk hx hb hc = (
       (first_below size (count s) (n + 1) k (omega arith) hk, first_below size (count t) (n + 1 + count s) k (omega arith) hk),
       each_two size (nodes_in f s (n + 1) k x b c) (nodes_in f t (n + 1 + count s) k x b c) (leads s (n + 1) k x b c (omega arith) hk hx hb hc)
@@ -69,7 +74,8 @@ module _ (size f : ℕ) where
     leads (Do at s) n k x b c h hk hx hb hc =
         let ht : n + count s < size = omega arith in
         let hn : n < size = omega arith in
-        each_two size (nodes_in f s n (n + count s) x (Some k) (Some (n + count s))) (branch f n k ∷ []) (leads s n (n + count s) x (Some k) (Some (n + count s)) (omega arith) ht hx hk ht)
+        each_two size (nodes_in f s n (n + count s) x (Some k) (Some (n + count s))) (branch f n k ∷ [])
+        (leads s n (n + count s) x (Some k) (Some (n + count s)) (omega arith) ht hx hk ht)
         ((hn, hk), tt)
     leads (For at init decided stepped s) n k x b c h hk hx hb hc =
         let t = test_of n init in
@@ -79,28 +85,36 @@ module _ (size f : ℕ) where
         let ha : n + one_if_some init + one_if stepped < size = omega arith in
         let body = nodes_in f s (a + 1) a x (Some k) (Some a) in
         let hm = first_below size (count s) (a + 1) a (omega arith) ha in
-        let rest = each_two size (step_nodes f stepped t) body (step_leads size f stepped t ht) (leads s (a + 1) a x (Some k) (Some a) (omega arith) ha hx hk ha) in
-        each_two size (init_nodes f init t) (turns f decided stepped m k t body) (init_leads size f init t ht) (test_leads size f decided m k hm hk, rest)
+        let rest = each_two size (step_nodes f stepped t) body (step_leads size f stepped t ht)
+        (leads s (a + 1) a x (Some k) (Some a) (omega arith) ha hx hk ha) in
+        each_two size (init_nodes f init t) (turns f decided stepped m k t body) (init_leads size f init t ht)
+        (test_leads size f decided m k hm hk, rest)
 
-    leads_all : (ss : Stms) (n k x : ℕ) (b c : Option ℕ) → n + count_all ss ≤ size → k < size → x < size → IsBelow size b → IsBelow size c → EachLeads size (nodes_in_all f ss n k x b c)
+    leads_all : (ss : Stms) (n k x : ℕ) (b c : Option ℕ) → n + count_all ss ≤ size → k < size → x < size → IsBelow size b → IsBelow size c
+        → EachLeads size (nodes_in_all f ss n k x b c)
     leads_all end n k x b c h hk hx hb hc = tt
     leads_all (then s ss) n k x b c h hk hx hb hc =
         let m = first (count_all ss) (n + count s) k in
         let hm = first_below size (count_all ss) (n + count s) k (omega arith) hk in
-        each_two size (nodes_in f s n m x b c) (nodes_in_all f ss (n + count s) k x b c) (leads s n m x b c (omega arith) hm hx hb hc) (leads_all ss (n + count s) k x b c (omega arith) hk hx hb hc)
+        each_two size (nodes_in f s n m x b c) (nodes_in_all f ss (n + count s) k x b c) (leads s n m x b c (omega arith) hm hx hb hc)
+        (leads_all ss (n + count s) k x b c (omega arith) hk hx hb hc)
 
 leads_of : (size f : ℕ) (r : Routine) (n : ℕ) → n + suc (suc (count_all r.body)) ≤ size → EachLeads size (nodes_of f r n)
 leads_of size f r n h =
     let x = exit_of r n in
     let hx : n + 1 + count_all r.body < size = omega arith in
     let body = nodes_in_all f r.body (n + 1) x x None None in
-    let last : List Node = node point.Exit f None None ∷ [] in
-    ((first_below size (count_all r.body) (n + 1) x (omega arith) hx, tt), each_two size body last (leads_all size f r.body (n + 1) x x None None (omega arith) hx hx tt tt) ((tt, tt), tt))
+    let last : List Node = node point.Exit f None None ∷ [] in (
+      (first_below size (count_all r.body) (n + 1) x (omega arith) hx, tt),
+      each_two size body last
+          (leads_all size f r.body (n + 1) x x None None (omega arith) hx hx tt tt) ((tt, tt), tt),
+    )
 
 leads_from : (size f : ℕ) (rs : List Routine) (n : ℕ) → n + count_from rs ≤ size → EachLeads size (nodes_from f rs n)
 leads_from size f [] n h = tt
 leads_from size f (r ∷ rs) n h =
-    each_two size (nodes_of f r n) (nodes_from (f + 1) rs (exit_of r n + 1)) (leads_of size f r n (omega arith)) (leads_from size (f + 1) rs (exit_of r n + 1) (omega arith))
+    each_two size (nodes_of f r n) (nodes_from (f + 1) rs (exit_of r n + 1)) (leads_of size f r n (omega arith))
+    (leads_from size (f + 1) rs (exit_of r n + 1) (omega arith))
 
 length_from : (f : ℕ) (rs : List Routine) (n : ℕ) → length (nodes_from f rs n) ≡ count_from rs
 length_from f [] n = refl
@@ -108,7 +122,14 @@ length_from f (r ∷ rs) n =
     let x = exit_of r n in
     let body = nodes_in_all f r.body (n + 1) x x None None in
     let last : List Node = node point.Exit f None None ∷ [] in
-    omega (arith, length-append (nodes_of f r n) (nodes_from (f + 1) rs (x + 1)), length-append body last, nodes_length_all f r.body (n + 1) x x None None, length_from (f + 1) rs (x + 1))
+    omega (
+      arith,
+      length-append (nodes_of f r n) (nodes_from (f + 1) rs (x + 1)),
+      length-append body last,
+      nodes_length_all f r.body (n + 1) x x
+          None None,
+      length_from (f + 1) rs (x + 1),
+    )
 
 pub length_nodes : (plan : Plan) → length (nodes plan) ≡ point_count plan
 length_nodes plan = length_from 0 plan.routines 0

@@ -9,7 +9,8 @@ use Rattle.cw_syntax.specs.declared.program.Name.{Name}
 use Rattle.cw_syntax.specs.declared.program.Op.TheVariants.{Name as NameOp, Call as CallOp, Assign}
 use Rattle.cw_syntax.specs.Names.{text, number_in}
 use Rattle.cw_syntax.specs.Trees.{Tree, Node as TreeNode, Trees, none, more, File}
-use Rattle.cw_syntax.specs.Plans.{Callee, Action, Computes, action_of, call_action, assigned_action, closed_by, closes_if, opens_if, descriptor_of, Routine, scene_of, plan_of}
+use Rattle.cw_syntax.specs.Plans.{Callee, Action, Computes, action_of, call_action, assigned_action, closed_by, closes_if, opens_if, descriptor_of}
+use Rattle.cw_syntax.specs.Plans.{Routine, scene_of, plan_of}
 use Rattle.cw_actions.specs.Scenes.{names_of}
 use Rattle.cw_points.specs.declared.graph.Point.{Point}
 use Rattle.cw_points.specs.declared.graph.Point.TheVariants as point
@@ -50,7 +51,8 @@ get_all : {A : Type 0} (P : A → Type 0) (xs : List A) (i : ℕ) (x : A) → Al
 get_all P xs i x h e = subst P (get_or_from_slice_get xs i x x e) (h i x (slice_get_within xs i x e))
 
 module _ (policy : PlainPolicy) (valid : IsValid policy) where
-  found_name : (o : Option PlainDescriptor) (name : List ℕ) → option_map (λ (d : PlainDescriptor). d.name) o ≡ Some name → (descriptor : PlainDescriptor) × (o ≡ Some descriptor) × (descriptor.name ≡ name)
+  found_name : (o : Option PlainDescriptor) (name : List ℕ) → option_map (λ (d : PlainDescriptor). d.name) o ≡ Some name
+      → (descriptor : PlainDescriptor) × (o ≡ Some descriptor) × (descriptor.name ≡ name)
   found_name None name e = absurd (none-some name e)
   found_name (Some d) name e = (d, refl, same_Some d.name name e)
 
@@ -62,7 +64,8 @@ module _ (policy : PlainPolicy) (valid : IsValid policy) where
       (r.0, r.1, no_number r.0.name r.0.number (subst (λ k. IsTrue (begins_name k)) (sym r.2) h) v.number)
 
   module _ (source : List ℕ) (file : File) where
-    opens_variable : (name : List ℕ) (o : Option ℕ) → IsTrue (begins_name name) → ((d : ℕ) → o ≡ Some d → number_in (names_of policy).descriptors name ≡ Some d)
+    opens_variable : (name : List ℕ) (o : Option ℕ) → IsTrue (begins_name name)
+        → ((d : ℕ) → o ≡ Some d → number_in (names_of policy).descriptors name ≡ Some d)
         → OpensFit policy (opens_if o)
     opens_variable name None h e = tt
     opens_variable name (Some d) h e = named_variable name d h (e d refl)
@@ -94,13 +97,15 @@ module _ (policy : PlainPolicy) (valid : IsValid policy) where
 
     acts_open : (t : Tree) → AssignsName source t
         → OpensFit policy (action_of (scene_of (names_of policy) source file) t)
-    acts_open (TreeNode (CallOp f) arguments from to) h = call_opens (text source f) arguments (number_in (scene_of (names_of policy) source file).functions (text source f))
+    acts_open (TreeNode (CallOp f) arguments from to) h =
+        call_opens (text source f) arguments (number_in (scene_of (names_of policy) source file).functions (text source f))
     acts_open (TreeNode (Assign zero) (more (TreeNode NameOp parts at end) (more (TreeNode (CallOp f) arguments at' end') none)) from to) h =
         let x : Name = record { from = at; to = end } in
         assigned_opens x (text source f) (number_in (scene_of (names_of policy) source file).functions (text source f)) (h x refl)
     acts_open _ h = tt
 
-    point_opens : (w : Point) → PointFits (Variable policy) (λ d. Unit {0}) (λ l. Unit {0}) (λ callee. Unit {0}) (λ f. Unit {0}) (λ callee h. tt) w → (d : ℕ) → w ≡ point.Open d → Variable policy d
+    point_opens : (w : Point) → PointFits (Variable policy) (λ d. Unit {0}) (λ l. Unit {0}) (λ callee. Unit {0}) (λ f. Unit {0}) (λ callee h. tt) w
+        → (d : ℕ) → w ≡ point.Open d → Variable policy d
     point_opens (point.Open d) h e z = let same : d ≡ e = cc in subst (Variable policy) same h
     point_opens point.Entry h e z = cc
     point_opens point.Step h e z = cc
@@ -110,7 +115,8 @@ module _ (policy : PlainPolicy) (valid : IsValid policy) where
     point_opens (point.Call f) h e z = cc
     point_opens point.Exit h e z = cc
 
-    plan_opens : AssignsNames source file → (p : ℕ) (n : Node) → slice_get (nodes (plan_of (names_of policy) source file)) p ≡ Some n → (d : ℕ) → n.point ≡ point.Open d → Variable policy d
+    plan_opens : AssignsNames source file → (p : ℕ) (n : Node) → slice_get (nodes (plan_of (names_of policy) source file)) p ≡ Some n → (d : ℕ)
+        → n.point ≡ point.Open d → Variable policy d
     plan_opens assigns p n e =
         let names = names_of policy in
         let c = scene_of names source file in
@@ -122,7 +128,9 @@ module _ (policy : PlainPolicy) (valid : IsValid policy) where
         point_opens n.point (point_fits (Variable policy) U U K U (λ callee h. tt) (nodes (plan_of names source file)) p n
         (points_fit_from (Variable policy) U U K U (λ callee h. tt) 0 rs 0 each) e)
 
-pub programs_open_variables : (policy : PlainPolicy) (source : List ℕ) (file : File) (g : Graph) → IsValid policy → IsGraph (names_of policy) source file g → AssignsNames source file
+pub programs_open_variables : (policy : PlainPolicy) (source : List ℕ) (file : File) (g : Graph) → IsValid policy
+    → IsGraph (names_of policy) source file g → AssignsNames source file
     → (p : ℕ) (n : Node) → slice_get g.nodes.items p ≡ Some n → OpensVariable policy n
 programs_open_variables policy source file g valid i assigns p n e =
-    of_graph (names_of policy) source file g (λ ns ps m. slice_get ns p ≡ Some n → OpensVariable policy n) i (plan_opens policy valid source file assigns p n) e
+    of_graph (names_of policy) source file g (λ ns ps m. slice_get ns p ≡ Some n → OpensVariable policy n) i
+    (plan_opens policy valid source file assigns p n) e

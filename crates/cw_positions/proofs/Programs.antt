@@ -6,7 +6,8 @@ use Rattle.std.proofs.lemmas.List.{length-map}
 use Rattle.cw_rights.specs.Policies.{PlainPolicy}
 use Rattle.cw_syntax.specs.Names.{Names, text, number_in}
 use Rattle.cw_syntax.specs.Trees.{Definition, File}
-use Rattle.cw_syntax.specs.Plans.{Callee, Action, Computes, Opens, Closes, Invokes, action_of, Scene, Routine, Plan, routines_from, plan_of, scene_of, seams_all, steps_of_all}
+use Rattle.cw_syntax.specs.Plans.{Callee, Action, Computes, Opens, Closes, Invokes, action_of, Scene, Routine, Plan, routines_from, plan_of}
+use Rattle.cw_syntax.specs.Plans.{scene_of, seams_all, steps_of_all}
 use Rattle.cw_actions.proofs.Bounds.{IsWithin, acts_within}
 use Rattle.cw_game.specs.declared.spots.Spot.{Spot}
 use Rattle.cw_syntax.specs.Runnable.{IsRunnable}
@@ -51,7 +52,8 @@ module _ (names : Names) (source : List ℕ) (file : File) where
   pub parts_length : length (parts_of names source file) ≡ length file.functions
   parts_length =
       let a : length plan.routines ≡ length file.functions = length_routines (scene_of names source file) 0 file.functions in
-      let b : length (splits_of names source file) ≡ length file.functions = length-map file.functions (λ f. is_some (number_in names.splits (text source f.name))) in
+      let b : length (splits_of names source file) ≡ length file.functions =
+      length-map file.functions (λ f. is_some (number_in names.splits (text source f.name))) in
       length_parts plan.routines (splits_of names source file) 0 (a ∙ sym b) ∙ a
 
   pub routines_length : length (plan_of names source file).routines ≡ length file.functions
@@ -59,35 +61,45 @@ module _ (names : Names) (source : List ℕ) (file : File) where
 
   -- a function's part, where it stands
   pub part_of : (f : ℕ) (r : Routine) → slice_get (plan_of names source file).routines f ≡ Some r
-      → (part : Part) × (slice_get (parts_of names source file) f ≡ Some part) × IsPlaced (nodes (plan_of names source file)) (points (plan_of names source file)) f r part.entry.0 part.exit.0
-  part_of f r e = go (slice_get (parts_of names source file) f) refl (subst (λ o. IsPart (nodes plan) (points plan) f o (slice_get (parts_of names source file) f)) e
+      → (part : Part) × (slice_get (parts_of names source file) f ≡ Some part) × IsPlaced (nodes (plan_of names source file))
+      (points (plan_of names source file)) f r part.entry.0 part.exit.0
+  part_of f r e = go (slice_get (parts_of names source file) f) refl
+      (subst (λ o. IsPart (nodes plan) (points plan) f o (slice_get (parts_of names source file) f)) e
       (placed_program names source file f))
     where
-      go : (q : Option Part) → slice_get (parts_of names source file) f ≡ q → IsPart (nodes (plan_of names source file)) (points (plan_of names source file)) f (Some r) q
-          → (part : Part) × (slice_get (parts_of names source file) f ≡ Some part) × IsPlaced (nodes (plan_of names source file)) (points (plan_of names source file)) f r part.entry.0 part.exit.0
+      go : (q : Option Part) → slice_get (parts_of names source file) f ≡ q
+          → IsPart (nodes (plan_of names source file)) (points (plan_of names source file)) f (Some r) q
+          → (part : Part) × (slice_get (parts_of names source file) f ≡ Some part) × IsPlaced (nodes (plan_of names source file))
+          (points (plan_of names source file)) f r part.entry.0 part.exit.0
       go None s h = absurd h
       go (Some part) s h = (part, s, h)
 
   -- and what stands where a part says
   pub routine_of : (f : ℕ) (part : Part) → slice_get (parts_of names source file) f ≡ Some part
-      → (r : Routine) × (slice_get (plan_of names source file).routines f ≡ Some r) × IsPlaced (nodes (plan_of names source file)) (points (plan_of names source file)) f r part.entry.0 part.exit.0
-  routine_of f part e = go (slice_get (plan_of names source file).routines f) refl (subst (λ o. IsPart (nodes plan) (points plan) f (slice_get plan.routines f) o) e
+      → (r : Routine) × (slice_get (plan_of names source file).routines f ≡ Some r) × IsPlaced (nodes (plan_of names source file))
+      (points (plan_of names source file)) f r part.entry.0 part.exit.0
+  routine_of f part e = go (slice_get (plan_of names source file).routines f) refl
+      (subst (λ o. IsPart (nodes plan) (points plan) f (slice_get plan.routines f) o) e
       (placed_program names source file f))
     where
-      go : (q : Option Routine) → slice_get (plan_of names source file).routines f ≡ q → IsPart (nodes (plan_of names source file)) (points (plan_of names source file)) f q (Some part)
-          → (r : Routine) × (slice_get (plan_of names source file).routines f ≡ Some r) × IsPlaced (nodes (plan_of names source file)) (points (plan_of names source file)) f r part.entry.0 part.exit.0
+      go : (q : Option Routine) → slice_get (plan_of names source file).routines f ≡ q
+          → IsPart (nodes (plan_of names source file)) (points (plan_of names source file)) f q (Some part)
+          → (r : Routine) × (slice_get (plan_of names source file).routines f ≡ Some r) × IsPlaced (nodes (plan_of names source file))
+          (points (plan_of names source file)) f r part.entry.0 part.exit.0
       go None s h = absurd h
       go (Some r) s h = (r, s, h)
 
   -- each call is one of a function that is there
-  act_calls : (a : Action) → IsWithin (scene_of names source file) a → ActFits (λ d. Unit {0}) (λ d. Unit {0}) (λ l. Unit {0}) (λ callee. callee.number < length file.functions) a
+  act_calls : (a : Action) → IsWithin (scene_of names source file) a
+      → ActFits (λ d. Unit {0}) (λ d. Unit {0}) (λ l. Unit {0}) (λ callee. callee.number < length file.functions) a
   act_calls Computes h = tt
   act_calls (Opens d) h = tt
   act_calls (Closes d) h = tt
   act_calls (Invokes callee) h = omega (arith, h, length-map file.functions (λ f. text source f.name))
 
   point_calls : (w : Point)
-      → PointFits (λ d. Unit {0}) (λ d. Unit {0}) (λ l. Unit {0}) (λ callee. callee.number < length file.functions) (λ f. f < length file.functions) (λ callee h. h) w
+      → PointFits (λ d. Unit {0}) (λ d. Unit {0}) (λ l. Unit {0}) (λ callee. callee.number < length file.functions) (λ f. f < length file.functions)
+      (λ callee h. h) w
       → CallsWithin (length file.functions) w
   point_calls point.Entry h = tt
   point_calls point.Step h = tt
@@ -123,8 +135,10 @@ module _ (names : Names) (source : List ℕ) (file : File) where
     end_in ns ps f = to (base policy ps ns) (option_map (λ part. part.exit.0) (slice_get ps f))
 
     within_plan : (f : ℕ) → f < length (parts_of names source file)
-        → (begin_in (nodes (plan_of names source file)) (parts_of names source file) f < length (spots_in policy (parts_of names source file) (nodes (plan_of names source file))))
-        × (end_in (nodes (plan_of names source file)) (parts_of names source file) f < length (spots_in policy (parts_of names source file) (nodes (plan_of names source file))))
+        → (begin_in (nodes (plan_of names source file)) (parts_of names source file) f < length
+        (spots_in policy (parts_of names source file) (nodes (plan_of names source file))))
+        × (end_in (nodes (plan_of names source file)) (parts_of names source file) f < length
+        (spots_in policy (parts_of names source file) (nodes (plan_of names source file))))
     within_plan f h =
         let ps = parts_of names source file in
         let ns = nodes plan in
@@ -137,21 +151,25 @@ module _ (names : Names) (source : List ℕ) (file : File) where
         )
 
     leads_plan : (q : ℕ) (s : Spot) → slice_get (spots_in policy (parts_of names source file) (nodes (plan_of names source file))) q ≡ Some s
-        → LeadsWithin (length (spots_in policy (parts_of names source file) (nodes (plan_of names source file)))) (length (parts_of names source file)) q s
+        → LeadsWithin (length (spots_in policy (parts_of names source file) (nodes (plan_of names source file))))
+        (length (parts_of names source file)) q s
     leads_plan q s e =
         let ps = parts_of names source file in
         let ns = nodes plan in
-        leads_within policy ps ns (length ps) (all_lead plan) (λ p n i. subst (λ k. CallsWithin k n.point) (sym parts_length) (calls_within p n i)) q s e
+        leads_within policy ps ns (length ps) (all_lead plan) (λ p n i. subst (λ k. CallsWithin k n.point) (sym parts_length) (calls_within p n i))
+        q s e
 
     pub is_closed : (g : Graph) → IsGraph names source file g → IsClosed g policy
     is_closed g i = record {
-      leads = λ q s e. of_graph g (λ ns ps m. slice_get (spots_in policy ps ns) q ≡ Some s → LeadsWithin (length (spots_in policy ps ns)) (length ps) q s) i (leads_plan q s) e;
+      leads = λ q s e. of_graph g (λ ns ps m. slice_get (spots_in policy ps ns) q ≡ Some s → LeadsWithin (length (spots_in policy ps ns))
+          (length ps) q s) i (leads_plan q s) e;
       points = λ p h. base_below policy g.parts.items g.nodes.items 0 p h;
       entries = λ f h. of_graph g (λ ns ps m. f < length ps → begin_in ns ps f < length (spots_in policy ps ns)) i (λ k. (within_plan f k).0) h;
       exits = λ f h. of_graph g (λ ns ps m. f < length ps → end_in ns ps f < length (spots_in policy ps ns)) i (λ k. (within_plan f k).1) h;
     }
 
-pub positions_are_closed : (names : Names) (source : List ℕ) (file : File) (g : Graph) (policy : PlainPolicy) → IsGraph names source file g → IsClosed g policy
+pub positions_are_closed : (names : Names) (source : List ℕ) (file : File) (g : Graph) (policy : PlainPolicy) → IsGraph names source file g
+    → IsClosed g policy
 positions_are_closed names source file g policy i = is_closed names source file policy g i
 
 -- two points for each function
@@ -163,14 +181,23 @@ pub is_whole : (names : Names) (source : List ℕ) (file : File) (g : Graph) →
 is_whole names source file g i =
     let plan = plan_of names source file in
     record {
-      entries = λ f part e. of_graph names source file g (λ ns ps m. slice_get ps f ≡ Some part → part.entry.0 < length ns) i (λ k. (part_within names source file f part k).0) e;
-      exits = λ f part e. of_graph names source file g (λ ns ps m. slice_get ps f ≡ Some part → part.exit.0 < length ns) i (λ k. (part_within names source file f part k).1) e;
+      entries = λ f part e. of_graph names source file g (λ ns ps m. slice_get ps f ≡ Some part → part.entry.0 < length ns) i
+          (λ k. (part_within names source file f part k).0) e;
+      exits = λ f part e. of_graph names source file g (λ ns ps m. slice_get ps f ≡ Some part → part.exit.0 < length ns) i
+          (λ k. (part_within names source file f part k).1) e;
       few = of_graph names source file g (λ ns ps m. 2 * length ps ≤ length ns) i
           (omega (arith, two_points plan.routines, length_nodes plan, parts_length names source file, routines_length names source file));
     }
 
-pub main_is_there : (names : Names) (source : List ℕ) (file : File) (g : Graph) → IsGraph names source file g → IsRunnable (plan_of names source file) → g.main < length g.parts.items
+pub main_is_there : (names : Names) (source : List ℕ) (file : File) (g : Graph) → IsGraph names source file g
+    → IsRunnable (plan_of names source file) → g.main < length g.parts.items
 main_is_there names source file g i runs =
     let plan = plan_of names source file in
     of_graph names source file g (λ ns ps m. m < length ps) i
-    (omega (arith, slice_get_within plan.routines plan.main runs.main.0 runs.main.1, parts_length names source file, routines_length names source file))
+    (omega (
+      arith,
+      slice_get_within plan.routines plan.main runs.main.0 runs.main.1,
+      parts_length names source file,
+      routines_length names source
+          file,
+    ))

@@ -1,18 +1,21 @@
 -- The seams of a program, by its points: both are numbered in the order of the text.
-use Rattle.std.proofs.Common.{◌≡◌, ◌⊎◌, ℕ, zero, suc, ◌+◌, List, [], ◌∷◌, ◌++◌, length, Bool, true, false, Option, Some, None, refl, sym, ap, ◌∙◌, subst, arith, inl, inr, ⊎_elim, length-append, add-zero}
+use Rattle.std.proofs.Common.{◌≡◌, ◌⊎◌, ℕ, zero, suc, ◌+◌, List, [], ◌∷◌, ◌++◌, length, Bool, true, false, Option, Some, None, refl, sym, ap, ◌∙◌}
+use Rattle.std.proofs.Common.{subst, arith, inl, inr, ⊎_elim, length-append, add-zero}
 use Rattle.std.specs.Prelude.{slice_get}
 use Rattle.std.proofs.lemmas.List.{append-nil}
 use Rattle.std.proofs.lemmas.Option.{none-some, same_Some}
 use Rattle.cw_syntax.specs.Names.{Names}
 use Rattle.cw_syntax.specs.Trees.{Definition, File}
-use Rattle.cw_syntax.specs.Plans.{Scene, Stm, Plain, Break, Continue, Return, Open, Close, Call, Group, Label, If, While, Do, For, Stms, end, then, Routine, seams, seams_all, numbered}
+use Rattle.cw_syntax.specs.Plans.{Scene, Stm, Plain, Break, Continue, Return, Open, Close, Call, Group, Label, If, While, Do, For, Stms, end, then}
+use Rattle.cw_syntax.specs.Plans.{Routine, seams, seams_all, numbered}
 use Rattle.cw_syntax.specs.Plans.{numbered_all, steps_of_all, routines_from, plan_of, scene_of}
 use Rattle.cw_points.specs.declared.graph.Point.{Point}
 use Rattle.cw_points.specs.declared.graph.Point.TheVariants as point
 use Rattle.cw_points.specs.declared.graph.Node.{Node}
 use Rattle.cw_points.specs.declared.graph.Seam.{Seam}
 use Rattle.cw_points.specs.Points.{one_if, one_if_some, count, count_all}
-use Rattle.cw_points.specs.Graphs.{node, branch, first, init_nodes, test_node, step_nodes, turns, test_of, turn_of, nodes_in, nodes_in_all, exit_of, nodes_from, nodes, seam}
+use Rattle.cw_points.specs.Graphs.{node, branch, first, init_nodes, test_node, step_nodes, turns, test_of, turn_of, nodes_in, nodes_in_all, exit_of}
+use Rattle.cw_points.specs.Graphs.{nodes_from, nodes, seam}
 use Rattle.cw_points.specs.Graphs.{seam_id, seams_in, seams_in_all, seams_from}
 use Rattle.cw_points.proofs.Lengths.{init_length, step_length, nodes_length, nodes_length_all, seams_length, seams_length_all}
 
@@ -41,7 +44,8 @@ AreSeams p j (n ∷ ns) ss =
     (IsBare n × AreSeams (p + 1) j ns ss)
     ⊎ ((s : Seam) × (rest : List Seam) × (ss ≡ s ∷ rest) × HasSeam j n × (s.point.0 ≡ p) × AreSeams (p + 1) (j + 1) ns rest)
 
-joined : (p j : ℕ) (a b : List Node) (s t : List Seam) (m i : ℕ) → length a ≡ m → length s ≡ i → AreSeams p j a s → AreSeams (p + m) (j + i) b t → AreSeams p j (a ++ b) (s ++ t)
+joined : (p j : ℕ) (a b : List Node) (s t : List Seam) (m i : ℕ) → length a ≡ m → length s ≡ i → AreSeams p j a s → AreSeams (p + m) (j + i) b t
+    → AreSeams p j (a ++ b) (s ++ t)
 joined p j [] b s t m i em ei h k =
     let y : p + m ≡ p = omega arith in
     let z : j + i ≡ j = omega (arith, ei, ap length h) in
@@ -58,7 +62,8 @@ joined p j (n ∷ a) b s t m i em ei h k =
       ap (λ l. l ++ t) q.2,
       q.3,
       q.4,
-      joined (p + 1) (j + 1) a b q.1 t (length a) (length q.1) refl refl q.5 (subst (λ r. AreSeams (p + 1 + length a) r b t) z (subst (λ r. AreSeams r (j + i) b t) y k)),
+      joined (p + 1) (j + 1) a b q.1 t (length a) (length q.1) refl refl q.5
+          (subst (λ r. AreSeams (p + 1 + length a) r b t) z (subst (λ r. AreSeams r (j + i) b t) y k)),
     ))
     h
 
@@ -93,14 +98,16 @@ mutual
   seams_are (Close at i d) j f n k x b c = inr (seam n at None, [], refl, (refl, refl), refl, refl)
   seams_are (Call at i callee) j f n k x b c = inr (seam n at callee.result, [], refl, (refl, refl), refl, refl)
   seams_are (Group ss) j f n k x b c = seams_are_all ss j f n k x b c
-  seams_are (Label at mark i l s) j f n k x b c = inr (seam n mark None, seams_in (numbered s (j + 1)) (n + 1), refl, (refl, refl), refl, seams_are s (j + 1) f (n + 1) k x b c)
+  seams_are (Label at mark i l s) j f n k x b c =
+      inr (seam n mark None, seams_in (numbered s (j + 1)) (n + 1), refl, (refl, refl), refl, seams_are s (j + 1) f (n + 1) k x b c)
   seams_are (If at s t) j f n k x b c =
       let u = numbered s j in
       let v = numbered t (j + seams s) in
       let m = n + 1 + count u in
       inl (
         (refl, refl),
-        joined (n + 1) j (nodes_in f u (n + 1) k x b c) (nodes_in f v m k x b c) (seams_in u (n + 1)) (seams_in v m) (count u) (seams s) (nodes_length f u (n + 1) k x b c)
+        joined (n + 1) j (nodes_in f u (n + 1) k x b c) (nodes_in f v m k x b c) (seams_in u (n + 1)) (seams_in v m) (count u) (seams s)
+            (nodes_length f u (n + 1) k x b c)
             (seams_length s j (n + 1)) (seams_are s j f (n + 1) k x b c) (seams_are t (j + seams s) f m k x b c),
       )
   seams_are (While at s) j f n k x b c = inl ((refl, refl), seams_are s j f (n + 1) n x (Some k) (Some n))
@@ -118,19 +125,23 @@ mutual
       let z : a + 1 ≡ t + 1 + one_if stepped = omega arith in
       let behind = plain_then (t + 1) j (step_nodes f stepped t) body ss (one_if stepped) (step_length f stepped t) (step_plain (t + 1) j f stepped t)
       (subst (λ q. AreSeams q j body ss) z (seams_are s j f (a + 1) a x (Some k) (Some a))) in
-      plain_then n j (init_nodes f init t) (turns f decided stepped m k t body) ss (one_if_some init) (init_length f init t) (init_plain n j f init t) (inl (test_bare f decided m k, behind))
+      plain_then n j (init_nodes f init t) (turns f decided stepped m k t body) ss (one_if_some init) (init_length f init t)
+      (init_plain n j f init t) (inl (test_bare f decided m k, behind))
 
-  seams_are_all : (ss : Stms) (j f n k x : ℕ) (b c : Option ℕ) → AreSeams n j (nodes_in_all f (numbered_all ss j) n k x b c) (seams_in_all (numbered_all ss j) n)
+  seams_are_all : (ss : Stms) (j f n k x : ℕ) (b c : Option ℕ)
+      → AreSeams n j (nodes_in_all f (numbered_all ss j) n k x b c) (seams_in_all (numbered_all ss j) n)
   seams_are_all end j f n k x b c = refl
   seams_are_all (then s ss) j f n k x b c =
       let u = numbered s j in
       let v = numbered_all ss (j + seams s) in
       let y = first (count_all v) (n + count u) k in
-      joined n j (nodes_in f u n y x b c) (nodes_in_all f v (n + count u) k x b c) (seams_in u n) (seams_in_all v (n + count u)) (count u) (seams s) (nodes_length f u n y x b c) (seams_length s j n)
+      joined n j (nodes_in f u n y x b c) (nodes_in_all f v (n + count u) k x b c) (seams_in u n) (seams_in_all v (n + count u)) (count u) (seams s)
+      (nodes_length f u n y x b c) (seams_length s j n)
       (seams_are s j f n y x b c) (seams_are_all ss (j + seams s) f (n + count u) k x b c)
 
 -- and of the functions of a program
-seams_are_from : (c : Scene) (fs : List Definition) (j f n : ℕ) → AreSeams n j (nodes_from f (routines_from c j fs) n) (seams_from (routines_from c j fs) n)
+seams_are_from : (c : Scene) (fs : List Definition) (j f n : ℕ)
+    → AreSeams n j (nodes_from f (routines_from c j fs) n) (seams_from (routines_from c j fs) n)
 seams_are_from c [] j f n = refl
 seams_are_from c (d ∷ fs) j f n =
     let ss = steps_of_all c d.body in
@@ -142,7 +153,8 @@ seams_are_from c (d ∷ fs) j f n =
     let last = node point.Exit f None None in
     let body = nodes_in_all f u (n + 1) x x None None in
     let own = then_plain (n + 1) (j + 1) body last (seams_in_all u (n + 1)) (refl, refl) (seams_are_all ss (j + 1) f (n + 1) x x None None) in
-    let long : length (body ++ last ∷ []) ≡ count_all u + 1 = omega (arith, length-append body (last ∷ []), nodes_length_all f u (n + 1) x x None None) in
+    let long : length (body ++ last ∷ []) ≡ count_all u + 1 =
+    omega (arith, length-append body (last ∷ []), nodes_length_all f u (n + 1) x x None None) in
     let z : x + 1 ≡ n + 1 + (count_all u + 1) = omega arith in
     let later = subst (λ q. AreSeams q m rest (seams_from (routines_from c m fs) (x + 1))) z (seams_are_from c fs m (f + 1) (x + 1)) in
     inr (
@@ -151,7 +163,8 @@ seams_are_from c (d ∷ fs) j f n =
       refl,
       (refl, refl),
       refl,
-      joined (n + 1) (j + 1) (body ++ last ∷ []) rest (seams_in_all u (n + 1)) (seams_from (routines_from c m fs) (x + 1)) (count_all u + 1) (seams_all ss) long
+      joined (n + 1) (j + 1) (body ++ last ∷ []) rest (seams_in_all u (n + 1)) (seams_from (routines_from c m fs) (x + 1)) (count_all u + 1)
+          (seams_all ss) long
           (seams_length_all ss (j + 1) (n + 1)) own later,
     )
 
@@ -173,7 +186,8 @@ seam_at p j (m ∷ ns) ss zero n h e =
 seam_at p j (m ∷ ns) ss (suc i) n h e =
     ⊎_elim
     (λ y.
-    ⊎_elim (λ q. inl q) (λ q. let z : q.1.point.0 ≡ p + suc i = omega (arith, q.4) in inr (q.0, q.1, q.2, q.3, z)) (seam_at (p + 1) j ns ss i n y.1 e))
+    ⊎_elim (λ q. inl q) (λ q. let z : q.1.point.0 ≡ p + suc i = omega (arith, q.4) in inr (q.0, q.1, q.2, q.3, z))
+    (seam_at (p + 1) j ns ss i n y.1 e))
     (λ y.
     ⊎_elim
     (λ q. inl q)
@@ -185,7 +199,8 @@ seam_at p j (m ∷ ns) ss (suc i) n h e =
     h
 
 -- behind one point more
-shifted : (p j : ℕ) (m : Node) (ns : List Node) (s : Seam) → ((i : ℕ) × (n : Node) × (slice_get ns i ≡ Some n) × HasSeam j n × (s.point.0 ≡ p + 1 + i))
+shifted : (p j : ℕ) (m : Node) (ns : List Node) (s : Seam)
+    → ((i : ℕ) × (n : Node) × (slice_get ns i ≡ Some n) × HasSeam j n × (s.point.0 ≡ p + 1 + i))
     → (i : ℕ) × (n : Node) × (slice_get (m ∷ ns) i ≡ Some n) × HasSeam j n × (s.point.0 ≡ p + i)
 shifted p j m ns s q = let z : s.point.0 ≡ p + suc q.0 = omega (arith, q.4) in (suc q.0, q.1, q.2, q.3, z)
 

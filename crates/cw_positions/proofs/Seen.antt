@@ -1,5 +1,6 @@
 -- The seams of a program's graph are those of its positions, each with its stages.
-use Rattle.std.proofs.Common.{◌≡◌, ℕ, zero, suc, ◌+◌, ◌<◌, List, [], ◌∷◌, ◌++◌, length, map, Bool, true, false, ◌||◌, nat_eq, nat_lt, Option, Some, None, refl, sym, ap, ◌∙◌, subst, arith, ⊎_elim, zero-add, eq-eqb}
+use Rattle.std.proofs.Common.{◌≡◌, ℕ, zero, suc, ◌+◌, ◌<◌, List, [], ◌∷◌, ◌++◌, length, map, Bool, true, false, ◌||◌, nat_eq, nat_lt, Option, Some}
+use Rattle.std.proofs.Common.{None, refl, sym, ap, ◌∙◌, subst, arith, ⊎_elim, zero-add, eq-eqb}
 use Rattle.std.specs.Prelude.{slice_get}
 use Rattle.std.specs.List.{list_any}
 use Rattle.std.proofs.lemmas.Bool.{eqb-true}
@@ -71,10 +72,12 @@ get_front (y ∷ a) b (suc i) x e = get_front a b i x e
 has_get : {A : Type 0} (g : List A) (p : ℕ) (is : List A) (i : ℕ) (x : A) → HasAt g p is → slice_get is i ≡ Some x → slice_get g (p + i) ≡ Some x
 has_get g p [] i x h e = absurd (none-some x e)
 has_get g p (y ∷ is) zero x h e = let z : p ≡ p + 0 = omega arith in subst (λ q. slice_get g q ≡ Some x) z (h.0 ∙ e)
-has_get g p (y ∷ is) (suc i) x h e = let z : p + 1 + i ≡ p + suc i = omega arith in subst (λ q. slice_get g q ≡ Some x) z (has_get g (p + 1) is i x h.1 e)
+has_get g p (y ∷ is) (suc i) x h e =
+    let z : p + 1 + i ≡ p + suc i = omega arith in subst (λ q. slice_get g q ≡ Some x) z (has_get g (p + 1) is i x h.1 e)
 
 -- where the visit of a stage is
-visit_get : (j first : ℕ) (later : List Primitive) (i : ℕ) (a : Primitive) → slice_get later i ≡ Some a → (m : ℕ) × (slice_get (visits j first later) m ≡ Some (spot.Visit j (first + i) a))
+visit_get : (j first : ℕ) (later : List Primitive) (i : ℕ) (a : Primitive) → slice_get later i ≡ Some a
+    → (m : ℕ) × (slice_get (visits j first later) m ≡ Some (spot.Visit j (first + i) a))
 visit_get j first [] i a e = absurd (none-some a e)
 visit_get j first (b ∷ later) zero a e =
     let z : first ≡ first + 0 = omega arith in
@@ -125,8 +128,13 @@ module _ (policy : PlainPolicy) (parts : List Part) where
       → (m : ℕ) × (s : Spot) × (slice_get (visits j 0 (primitives_at policy parts w) ++ free parts w f j l r) m ≡ Some s) × (has_seam j s ≡ true)
   visit_seen w f j l r split e =
       let a = first_primitive policy split in
-      let v = visit_get j 0 (primitives_at policy parts w) 0 a.0 (ap (λ l. slice_get l 0) e ∙ a.1) in
-      (v.0, spot.Visit j (0 + 0) a.0, get_front (visits j 0 (primitives_at policy parts w)) (free parts w f j l r) v.0 (spot.Visit j (0 + 0) a.0) v.1, same_seam j)
+      let v = visit_get j 0 (primitives_at policy parts w) 0 a.0 (ap (λ l. slice_get l 0) e ∙ a.1) in (
+        v.0,
+        spot.Visit j (0 + 0) a.0,
+        get_front (visits j 0 (primitives_at policy parts w)) (free parts w f j l r) v.0 (spot.Visit j (0 + 0) a.0)
+            v.1,
+        same_seam j,
+      )
 
   -- a point with a seam has a position with it
   seam_seen : (w : Point) (f j l r : ℕ) → is_seam_point w ≡ true
@@ -178,7 +186,8 @@ module _ (g : Graph) (policy : PlainPolicy) (are : AreSeams 0 0 g.nodes.items g.
       (seam_at 0 0 ns ss p n are e)
 
   -- the point of a seam
-  point_of : (j : ℕ) (s : Seam) → slice_get g.seams.items j ≡ Some s → (n : Node) × (slice_get g.nodes.items s.point.0 ≡ Some n) × (number n.seam ≡ j) × (is_seam_point n.point ≡ true)
+  point_of : (j : ℕ) (s : Seam) → slice_get g.seams.items j ≡ Some s
+      → (n : Node) × (slice_get g.nodes.items s.point.0 ≡ Some n) × (number n.seam ≡ j) × (is_seam_point n.point ≡ true)
   point_of j s e =
       let r = point_at 0 0 ns ss j s are e in
       let z : r.0 ≡ s.point.0 = sym (r.4 ∙ zero-add r.0) in
@@ -187,14 +196,16 @@ module _ (g : Graph) (policy : PlainPolicy) (are : AreSeams 0 0 g.nodes.items g.
   -- a position of a point
   position_of : (p : ℕ) (n : Node) (j : ℕ) (m : ℕ) (s : Spot) → slice_get g.nodes.items p ≡ Some n → number n.seam ≡ j
       → slice_get (visits j 0 (primitives_at policy g.parts.items n.point)
-      ++ free g.parts.items n.point n.function j (to (base policy g.parts.items g.nodes.items) (first_of n.next)) (to (base policy g.parts.items g.nodes.items) (second_of n.next))) m ≡ Some s
+      ++ free g.parts.items n.point n.function j (to (base policy g.parts.items g.nodes.items) (first_of n.next))
+      (to (base policy g.parts.items g.nodes.items) (second_of n.next))) m ≡ Some s
       → slice_get (spots g policy) (base policy g.parts.items g.nodes.items p + m) ≡ Some s
   position_of p n j m s e k h =
       let at = base policy parts ns in
       let l = to at (first_of n.next) in
       let r = to at (second_of n.next) in
       let here = stands (spots_at policy parts at) (λ (o : Node). width policy parts o.point) (width_at policy parts at) ns p n e in
-      let own = subst (λ q. slice_get (visits q 0 (primitives_at policy parts n.point) ++ free parts n.point n.function q l r) m ≡ Some s) (sym k) h in
+      let own = subst (λ q. slice_get (visits q 0 (primitives_at policy parts n.point) ++ free parts n.point n.function q l r) m ≡ Some s) (sym k) h
+      in
       has_get (spots g policy) (at p) (spots_at policy parts at n) m s here own
 
   seams_seen : (j : ℕ) → list_any (has_seam j) (spots g policy) ≡ nat_lt j (length g.seams.items)
@@ -216,7 +227,8 @@ module _ (g : Graph) (policy : PlainPolicy) (are : AreSeams 0 0 g.nodes.items g.
           let v = seam_seen policy parts n.0.point n.0.function j (to at (first_of n.0.next)) (to at (second_of n.0.next)) n.3 in
           at_any (has_seam j) (spots g policy) (at s.0.point.0 + v.0) v.1 (position_of s.0.point.0 n.0 j v.0 v.1 n.1 n.2 v.2) v.3
 
-  stages_are : (j : ℕ) (s : Seam) (n : Node) → slice_get g.seams.items j ≡ Some s → slice_get g.nodes.items s.point.0 ≡ Some n → stages_of g policy j ≡ length (primitives_at policy g.parts.items n.point)
+  stages_are : (j : ℕ) (s : Seam) (n : Node) → slice_get g.seams.items j ≡ Some s → slice_get g.nodes.items s.point.0 ≡ Some n
+      → stages_of g policy j ≡ length (primitives_at policy g.parts.items n.point)
   stages_are j s n es en = ap (λ o. stages_at policy parts (node_of ns o)) es ∙ ap (stages_at policy parts) en
 
   stages_seen : (j i : ℕ) → list_any (has_stage j i) (spots g policy) ≡ nat_lt i (stages_of g policy j)
@@ -232,7 +244,8 @@ module _ (g : Graph) (policy : PlainPolicy) (are : AreSeams 0 0 g.nodes.items g.
           let en = subst (λ p. slice_get ns p ≡ Some r.1) (sym s.2) r.2 in
           ap (nat_lt i) (stages_are j s.0 r.1 s.1 en) ∙ lt_true i (length (primitives_at policy parts r.1.point)) within
 
-      back : (o : Option Seam) → slice_get g.seams.items j ≡ o → nat_lt i (stages_of g policy j) ≡ true → list_any (has_stage j i) (spots g policy) ≡ true
+      back : (o : Option Seam) → slice_get g.seams.items j ≡ o → nat_lt i (stages_of g policy j) ≡ true
+          → list_any (has_stage j i) (spots g policy) ≡ true
       back None es t =
           let z : nat_lt i 0 ≡ true = sym (ap (λ o. nat_lt i (stages_at policy parts (node_of ns o))) es) ∙ t in
           let lt = true_lt i 0 z in
@@ -244,13 +257,15 @@ module _ (g : Graph) (policy : PlainPolicy) (are : AreSeams 0 0 g.nodes.items g.
           let at = base policy parts ns in
           let v = visit_get j 0 ps i a.0 a.1 in
           let rest = free parts n.0.point n.0.function j (to at (first_of n.0.next)) (to at (second_of n.0.next)) in
-          let here = position_of s.point.0 n.0 j v.0 (spot.Visit j (0 + i) a.0) n.1 n.2 (get_front (visits j 0 ps) rest v.0 (spot.Visit j (0 + i) a.0) v.1) in
+          let here = position_of s.point.0 n.0 j v.0 (spot.Visit j (0 + i) a.0) n.1 n.2
+          (get_front (visits j 0 ps) rest v.0 (spot.Visit j (0 + i) a.0) v.1) in
           at_any (has_stage j i) (spots g policy) (at s.point.0 + v.0) (spot.Visit j (0 + i) a.0) here
           (both (nat_eq j j) (nat_eq (0 + i) i) (eq-eqb j j refl) (eq-eqb (0 + i) i (zero-add i)))
 
 are_of_graph : (names : Names) (source : List ℕ) (file : File) (g : Graph) → IsGraph names source file g → AreSeams 0 0 g.nodes.items g.seams.items
 are_of_graph names source file g i =
-    subst (λ ns. AreSeams 0 0 ns g.seams.items) (sym i.nodes) (subst (AreSeams 0 0 (nodes (plan_of names source file))) (sym i.seams) (seams_of_plan names source file))
+    subst (λ ns. AreSeams 0 0 ns g.seams.items) (sym i.nodes)
+    (subst (AreSeams 0 0 (nodes (plan_of names source file))) (sym i.seams) (seams_of_plan names source file))
 
 pub seams_are_seen : (names : Names) (source : List ℕ) (file : File) (g : Graph) (policy : PlainPolicy) → IsGraph names source file g
     → (j : ℕ) → list_any (has_seam j) (spots g policy) ≡ nat_lt j (length g.seams.items)

@@ -1,5 +1,6 @@
 -- A call may be split off exactly where its function's part says so.
-use Rattle.std.proofs.Common.{◌≡◌, ℕ, zero, suc, ◌+◌, ◌<◌, List, [], ◌∷◌, length, get_or, Bool, true, false, cond, Option, Some, None, refl, sym, ap, ◌∙◌, arith}
+use Rattle.std.proofs.Common.{◌≡◌, ℕ, zero, suc, ◌+◌, ◌<◌, List, [], ◌∷◌, length, get_or, Bool, true, false, cond, Option, Some, None, refl, sym}
+use Rattle.std.proofs.Common.{ap, ◌∙◌, arith}
 use Rattle.std.specs.Prelude.{slice_get, option_map, is_some, codes}
 use Rattle.std.specs.Str.{bytes_eq}
 use Rattle.std.proofs.lemmas.Option.{none-some, same_Some, slice_get-get_or, slice_get-map}
@@ -10,13 +11,15 @@ use Rattle.cw_syntax.specs.declared.program.Name.{Name}
 use Rattle.cw_syntax.specs.declared.program.Op.TheVariants.{Name as NameOp, Call as CallOp, Assign}
 use Rattle.cw_syntax.specs.Names.{Names, text, number_in}
 use Rattle.cw_syntax.specs.Trees.{Tree, Node as TreeNode, Trees, none, more, Definition, File}
-use Rattle.cw_syntax.specs.Plans.{Action, Computes, Opens, Closes, Invokes, action_of, call_action, assigned_action, closed_by, closes_if, opens_if, descriptor_of, Scene, Routine, scene_of, function_names}
+use Rattle.cw_syntax.specs.Plans.{Action, Computes, Opens, Closes, Invokes, action_of, call_action, assigned_action, closed_by, closes_if, opens_if}
+use Rattle.cw_syntax.specs.Plans.{descriptor_of, Scene, Routine, scene_of, function_names}
 use Rattle.cw_points.specs.declared.graph.Part.{Part}
 use Rattle.cw_points.specs.Graphs.{parts_from, splits_of, exit_of}
 use Rattle.cw_positions.specs.Positions.{is_split}
 
 -- the part of a function that has one says what the list says
-split_part : (rs : List Routine) (splits : List Bool) (n f : ℕ) (b : Bool) → f < length rs → slice_get splits f ≡ Some b → is_split (parts_from rs splits n) f ≡ b
+split_part : (rs : List Routine) (splits : List Bool) (n f : ℕ) (b : Bool) → f < length rs → slice_get splits f ≡ Some b
+    → is_split (parts_from rs splits n) f ≡ b
 split_part [] splits n f b h e = absurd (omega arith)
 split_part (r ∷ rs) [] n f b h e = absurd (none-some b e)
 split_part (r ∷ rs) (split ∷ splits) n zero b h e = same_Some split b e
@@ -37,11 +40,13 @@ module _ (names : Names) (source : List ℕ) (file : File) where
   scene = scene_of names source file
 
   -- whether it may be split off, of a function with this name
-  split_at : (name : List ℕ) (f : ℕ) → number_in (function_names source file) name ≡ Some f → slice_get (splits_of names source file) f ≡ Some (is_some (number_in names.splits name))
+  split_at : (name : List ℕ) (f : ℕ) → number_in (function_names source file) name ≡ Some f
+      → slice_get (splits_of names source file) f ≡ Some (is_some (number_in names.splits name))
   split_at name f e =
       let t = λ (d : Definition). text source d.name in
       let h = λ (n : List ℕ). is_some (number_in names.splits n) in
-      let named : option_map t (slice_get file.functions f) ≡ Some name = sym (slice_get-map t file.functions f) ∙ named_at (function_names source file) name f e in
+      let named : option_map t (slice_get file.functions f) ≡ Some name =
+      sym (slice_get-map t file.functions f) ∙ named_at (function_names source file) name f e in
       slice_get-map (λ (d : Definition). h (t d)) file.functions f ∙ through t h (slice_get file.functions f) name named
 
   module _ (rs : List Routine) (many : length rs ≡ length file.functions) where
@@ -89,7 +94,8 @@ module _ (names : Names) (source : List ℕ) (file : File) where
     assigned_splits x name None h = opens_split (number_in names.descriptors (text source x))
 
     pub acts_split : (t : Tree) → SplitsAs (action_of (scene_of names source file) t)
-    acts_split (TreeNode (CallOp f) arguments from to) = call_splits (text source f) arguments (number_in (function_names source file) (text source f)) (λ n e. e)
+    acts_split (TreeNode (CallOp f) arguments from to) =
+        call_splits (text source f) arguments (number_in (function_names source file) (text source f)) (λ n e. e)
     acts_split (TreeNode (Assign zero) (more (TreeNode NameOp parts at end) (more (TreeNode (CallOp f) arguments at' end') none)) from to) =
         assigned_splits (record { from = at; to = end }) (text source f) (number_in (function_names source file) (text source f)) (λ n e. e)
     acts_split _ = tt

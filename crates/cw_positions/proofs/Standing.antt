@@ -1,5 +1,6 @@
 -- What is put together of parts: a part stands where it begins, and what stands somewhere is of a part.
-use Rattle.std.proofs.Common.{◌≡◌, ℕ, zero, suc, ◌+◌, List, [], ◌∷◌, ◌++◌, length, take, Some, refl, sym, ap, ◌∙◌, subst, zero-add, arith, ⊎_elim, ◌⊎◌, inl, inr}
+use Rattle.std.proofs.Common.{◌≡◌, ℕ, zero, suc, ◌+◌, List, [], ◌∷◌, ◌++◌, length, take, Some, refl, sym, ap, ◌∙◌, subst, zero-add, arith, ⊎_elim}
+use Rattle.std.proofs.Common.{◌⊎◌, inl, inr}
 use Rattle.std.specs.Prelude.{slice_get}
 use Rattle.std.specs.List.{sum_by, flat_map}
 use Rattle.std.proofs.lemmas.Option.{none-some, same_Some}
@@ -32,9 +33,11 @@ module _ {A B : Type 0} (f : A → List B) (w : A → ℕ) (wide : (n : A) → l
   pub stands : (ns : List A) (p : ℕ) (n : A) → slice_get ns p ≡ Some n → HasAt (flat_map f ns) (sum_by w (take p ns)) (f n)
   stands [] p n e = absurd (none-some n e)
   stands (m ∷ ns) zero n e =
-      subst (λ k. HasAt (f m ++ flat_map f ns) 0 (f k)) (same_Some m n e) (has_front (f m ++ flat_map f ns) 0 (f m) (flat_map f ns) (has_all (f m ++ flat_map f ns) []))
+      subst (λ k. HasAt (f m ++ flat_map f ns) 0 (f k)) (same_Some m n e)
+      (has_front (f m ++ flat_map f ns) 0 (f m) (flat_map f ns) (has_all (f m ++ flat_map f ns) []))
   stands (m ∷ ns) (suc p) n e =
-      let z : length (f m) + sum_by w (take p ns) ≡ sum_by w (take (suc p) (m ∷ ns)) = ap (λ k. k + sum_by w (take p ns)) (wide m) ∙ sym (begin_next w m ns p) in
+      let z : length (f m) + sum_by w (take p ns) ≡ sum_by w (take (suc p) (m ∷ ns)) =
+      ap (λ k. k + sum_by w (take p ns)) (wide m) ∙ sym (begin_next w m ns p) in
       subst (λ q. HasAt (f m ++ flat_map f ns) q (f n)) z (has_behind (f m) (flat_map f ns) (f n) (sum_by w (take p ns)) (stands ns p n e))
 
   -- what stands at q is of some part, at some place of it
@@ -43,10 +46,12 @@ module _ {A B : Type 0} (f : A → List B) (w : A → ℕ) (wide : (n : A) → l
   found [] q o e = absurd (none-some o e)
   found (m ∷ ns) q o e = ⊎_elim first (λ y. later y.0 y.2 (found ns y.0 o y.1)) (found_two (f m) (flat_map f ns) q o e)
     where
-      first : slice_get (f m) q ≡ Some o → (p : ℕ) × (n : A) × (i : ℕ) × (slice_get (m ∷ ns) p ≡ Some n) × (slice_get (f n) i ≡ Some o) × (q ≡ sum_by w (take p (m ∷ ns)) + i)
+      first : slice_get (f m) q ≡ Some o
+          → (p : ℕ) × (n : A) × (i : ℕ) × (slice_get (m ∷ ns) p ≡ Some n) × (slice_get (f n) i ≡ Some o) × (q ≡ sum_by w (take p (m ∷ ns)) + i)
       first e = let z : q ≡ 0 + q = sym (zero-add q) in (0, m, q, refl, e, z)
 
-      later : (k : ℕ) → q ≡ length (f m) + k → (p : ℕ) × (n : A) × (i : ℕ) × (slice_get ns p ≡ Some n) × (slice_get (f n) i ≡ Some o) × (k ≡ sum_by w (take p ns) + i)
+      later : (k : ℕ) → q ≡ length (f m) + k
+          → (p : ℕ) × (n : A) × (i : ℕ) × (slice_get ns p ≡ Some n) × (slice_get (f n) i ≡ Some o) × (k ≡ sum_by w (take p ns) + i)
           → (p : ℕ) × (n : A) × (i : ℕ) × (slice_get (m ∷ ns) p ≡ Some n) × (slice_get (f n) i ≡ Some o) × (q ≡ sum_by w (take p (m ∷ ns)) + i)
       later k e r =
           let z : q ≡ sum_by w (take (suc r.0) (m ∷ ns)) + r.2 = omega (arith, e, wide m, r.5, begin_next w m ns r.0) in

@@ -28,7 +28,8 @@ LeadsWithin size functions p (Call j f n) = (f < functions) × (n < size)
 LeadsWithin size functions p (SplitCall j f n) = (f < functions) × (n < size)
 LeadsWithin size functions p (Exit f) = Unit {0}
 
--- Each position leads to positions that there are and calls functions that there are; each point begins at one, and each function begins and ends at one.
+-- Each position leads to positions that there are and calls functions that there are; each point begins at one, and each function begins and
+-- ends at one.
 pub record IsClosed (g : Graph) (policy : PlainPolicy) : Type 0 where
   pub leads : (p : ℕ) (s : Spot) → slice_get (spots g policy) p ≡ Some s → LeadsWithin (length (spots g policy)) (length g.parts.items) p s
   pub points : (p : ℕ) → p < length g.nodes.items → base_of g policy p < length (spots g policy)
@@ -37,7 +38,8 @@ pub record IsClosed (g : Graph) (policy : PlainPolicy) : Type 0 where
 
 -- The positions of a program's graph are closed, under any policy and whichever names the graph is drawn by.
 abbrev pub PositionsAreClosed : Type 0
-PositionsAreClosed = (names : Names) (source : List ℕ) (file : File) (g : Graph) (policy : PlainPolicy) → IsGraph names source file g → IsClosed g policy
+PositionsAreClosed = (names : Names) (source : List ℕ) (file : File) (g : Graph) (policy : PlainPolicy) → IsGraph names source file g → IsClosed g
+    policy
 
 -- Each function begins and ends at points of the graph, and has at least these two.
 pub record IsWhole (g : Graph) : Type 0 where

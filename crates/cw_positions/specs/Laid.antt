@@ -19,7 +19,8 @@ pub record IsGameOn (g : Graph) (policy : PlainPolicy) (game : Game) : Type 0 wh
   pub main : game.main ≡ g.main
   pub under : game.policy ≡ policy
 
--- Each function of a program that can be run stands among the positions of its graph where the game says, and the game has each function that it needs.
+-- Each function of a program that can be run stands among the positions of its graph where the game says, and the game has each function
+-- that it needs.
 abbrev pub ProgramsAreLaidOut : Type 0
 ProgramsAreLaidOut = (policy : PlainPolicy) (source : List ℕ) (file : File) (g : Graph) (game : Game)
     → IsGraph (names_of policy) source file g → IsRunnable (plan_of (names_of policy) source file) → IsGameOn g policy game

@@ -5,7 +5,8 @@ use Rattle.cw_rights.specs.Valid.{is_name_start, IsValid}
 use Rattle.cw_syntax.specs.declared.program.Name.{Name}
 use Rattle.cw_syntax.specs.declared.program.Op.TheVariants.{Name as NameOp, Call as CallOp, Assign}
 use Rattle.cw_syntax.specs.Names.{text}
-use Rattle.cw_syntax.specs.Trees.{Tree, Node as TreeNode, none, more, Statement, Stated, Form, Block, Declares, Evaluates, Empties, Labels, Chooses, Whiles, Does, Fors, Breaks, Continues, Returns}
+use Rattle.cw_syntax.specs.Trees.{Tree, Node as TreeNode, none, more, Statement, Stated, Form, Block, Declares, Evaluates, Empties, Labels, Chooses}
+use Rattle.cw_syntax.specs.Trees.{Whiles, Does, Fors, Breaks, Continues, Returns}
 use Rattle.cw_syntax.specs.Trees.{Perhaps, nothing, just, Statements, nil, cons, Definition, File}
 use Rattle.cw_actions.specs.Scenes.{names_of}
 use Rattle.cw_points.specs.declared.graph.Point.TheVariants as point
@@ -46,7 +47,8 @@ EachStandsFrom T (f ∷ fs) = EachStandsAll T f.body × EachStandsFrom T fs
 
 -- the name to which the result of a call is assigned, as in `x = f(..)`
 abbrev pub assigned : Tree → Option Name
-assigned (TreeNode (Assign zero) (more (TreeNode NameOp parts at end) (more (TreeNode (CallOp f) arguments at' end') none)) from to) = Some (record { from = at; to = end })
+assigned (TreeNode (Assign zero) (more (TreeNode NameOp parts at end) (more (TreeNode (CallOp f) arguments at' end') none)) from to) =
+    Some (record { from = at; to = end })
 assigned _ = None
 
 -- a C name begins with a letter or `_`

@@ -47,7 +47,8 @@ abbrev pub visits : (seam stage : ℕ) → List Primitive → List Spot
 visits j i [] = []
 visits j i (a ∷ later) = spot.Visit j i a ∷ (spot.Asked j i a ∷ visits j (suc i) later)
 
--- The free positions of what stands at a point, in this function and with this seam: they lead to `left`, and a condition that doesn't hold to `right`.
+-- The free positions of what stands at a point, in this function and with this seam: they lead to `left`, and a condition that doesn't hold
+-- to `right`.
 abbrev pub free : List Part → Point → (function seam left right : ℕ) → List Spot
 free parts Entry f j left right = spot.Step left ∷ []
 free parts Step f j left right = spot.Step left ∷ []

@@ -6,4 +6,5 @@ pub returns-clause-names : goal.returns-clause-names
 returns-clause-names c = read_programs_assign
 
 pub returns-clause-variables : goal.returns-clause-variables
-returns-clause-variables c = λ policy source file graph valid reads drawn. programs_open_variables policy source file graph valid drawn (read_programs_assign source file reads)
+returns-clause-variables c = λ policy source file graph valid reads drawn. programs_open_variables policy source file graph valid drawn
+    (read_programs_assign source file reads)

@@ -8,8 +8,18 @@ use Rattle.cw_positions.proofs.layout.bases.Goals as goal
 
 pub overflow_add-end : goal.overflow_add-end
 overflow_add-end c =
-    let small = base_small (policy_of c.args.policy.now) c.args.graph.now.parts.items c.requires.valid.few_limits c.args.graph.now.nodes.items c.loop-node.node-index in
-    omega (arith, c.loop-node.invariant.end, small, c.width-end.ensures.small, c.requires.few, c.loop-node-test.true, ap length c.deref-node-items.ensures.value)
+    let small = base_small (policy_of c.args.policy.now) c.args.graph.now.parts.items c.requires.valid.few_limits c.args.graph.now.nodes.items
+    c.loop-node.node-index in
+    omega (
+      arith,
+      c.loop-node.invariant.end,
+      small,
+      c.width-end.ensures.small,
+      c.requires.few,
+      c.loop-node-test.true,
+      ap length
+          c.deref-node-items.ensures.value,
+    )
 
 pub loop-node-preserved : goal.loop-node-preserved
 loop-node-preserved c =
@@ -21,5 +31,6 @@ loop-node-preserved c =
     record {
       end = more;
       bases = c.in_ok-push-2.ensures.items
-          ∙ begins_more (λ (n : Node). width policy parts n.point) ns c.loop-node.node-index _ c.loop-node.bases.items c.loop-node.invariant.bases more;
+          ∙ begins_more (λ (n : Node). width policy parts n.point) ns c.loop-node.node-index _ c.loop-node.bases.items c.loop-node.invariant.bases
+          more;
     }

@@ -9,5 +9,6 @@ returns c = record {
   first = λ graph policy e.
       let w = λ (n : Node). width policy graph.parts.items n.point in
       c.index.ensures ∙ ap (λ l. slice_index_or l c.args.point.0 c.index.result.now) e
-      ∙ begin_within w graph.nodes.items c.args.point.0 c.index.result.now (omega (arith, c.requires.point, ap length e, begins_length w graph.nodes.items));
+      ∙ begin_within w graph.nodes.items c.args.point.0 c.index.result.now
+      (omega (arith, c.requires.point, ap length e, begins_length w graph.nodes.items));
 }
