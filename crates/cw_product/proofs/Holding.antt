@@ -77,8 +77,8 @@ module _ (policy : PlainPolicy) (graph : Graph) (valid : IsValid policy) (source
 
   opened : (d : ℕ) → IsOpenedIn (spots graph policy) d → (descriptor : PlainDescriptor) × IsVariable policy d descriptor
   opened d (p, j, n, e) = let o = positions_are_of_points graph policy p (Open j d n) e in
-      let v = programs_open_variables policy source file graph valid drawn assigns d o.0 o.1 o.2 o.3.1 in
-      (v.0, v.1)
+      let v = programs_open_variables policy source file graph valid drawn assigns o.0 o.1 o.2 d o.3.1 in
+      (v.0, (v.1, v.2))
 
   pub has : Have policy (uses_of policy graph.nodes.items) (spots graph policy)
   has = record {

@@ -5,5 +5,6 @@ pub mod Fine
 pub mod Holding
 pub mod Making
 pub mod Placing
+pub mod Routed
 pub mod Routing
 pub mod Within

@@ -1,5 +1,5 @@
 -- Working definitions: what a value of `Game` keeps.
-use Rattle.std.specs.Prelude.{◌≡◌, ℕ, ◌+◌, ◌<◌, ◌≤◌, List, Option, Some, None, length, slice_get, nat_lt, Contains, true}
+use Rattle.std.specs.Prelude.{◌≡◌, ℕ, ◌+◌, ◌*◌, ◌<◌, ◌≤◌, List, Option, Some, None, length, slice_get, nat_lt, Contains, true}
 use Rattle.std.specs.List.{list_any}
 use Rattle.cw_core.specs.declared.quantity.Quantity.TheVariants.{PositionsTimesStates}
 use Rattle.cw_core.specs.Quantities.{limit_of}
@@ -16,8 +16,11 @@ use Rattle.cw_points.specs.declared.graph.Graph.{Graph}
 use Rattle.cw_positions.specs.declared.layout.Positions.{Positions}
 use Rattle.cw_positions.specs.Positions.{base_of, bases}
 use Rattle.cw_positions.specs.Seams.{stages_of}
+use Rattle.cw_positions.specs.Closed.{LeadsWithin}
+use Rattle.cw_states.specs.States.{AreFew, lists_of}
 use Rattle.cw_states.specs.Below.{StayBelow}
 use Rattle.cw_product.specs.Moves.{IsPosition, IsState}
+use Rattle.cw_product.specs.Routes.{IsRoute}
 use Rattle.cw_product.specs.Product.{Held, game_of}
 
 -- what follows a primitive that is asked at p: a granted split goes one further on
@@ -60,7 +63,11 @@ IsPart graph part = (part.entry.0 < length graph.nodes.items) × (part.exit.0 < 
 pub record IsSound (h : Held) : Type 0 where
   pub narrow : length h.graph.nodes.items ≤ 8192
   pub few : length (game_of h).spots ≤ limit_of PositionsTimesStates
+  pub pairs : length (game_of h).spots * (game_of h).states.count ≤ limit_of PositionsTimesStates
+  pub few_states : AreFew (lists_of h.states)
   pub fine : AreFine h
+  pub leads : (p : ℕ) (s : Spot) → slice_get (game_of h).spots p ≡ Some s → LeadsWithin (length (game_of h).spots) (length h.graph.parts.items) p s
+  pub routes : (f : ℕ) → f < length h.graph.parts.items → IsRoute (game_of h) f
   pub parts : (f : ℕ) (part : Part) → slice_get h.graph.parts.items f ≡ Some part → IsPart h.graph part
   pub main : h.graph.main < length h.graph.parts.items
   pub points : (p : ℕ) → p < length h.graph.nodes.items → IsPosition (game_of h) (base_of h.graph (policy_of h.states.policy) p)

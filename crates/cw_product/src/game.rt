@@ -49,6 +49,10 @@ impl<'g> Game<'g> {
     ghost use Rattle.cw_product.specs.Product.{IsProgramsGraph, IsCause, game_of};
     ghost use Rattle.cw_positions.specs.Opens.{AssignsNames};
     ghost use Rattle.cw_product.specs.Uses.{uses_of};
+    ghost use Rattle.cw_product.specs.Routes.{IsRoute};
+    ghost use Rattle.cw_positions.specs.Closed.{LeadsWithin};
+    ghost use Rattle.cw_states.specs.Below.{StayBelow};
+    ghost use Rattle.cw_game.specs.declared.spots.Spot.{Spot as SpotOf};
     ghost use Rattle.cw_rights.specs.Valid.{IsValid};
     ghost use Rattle.cw_core.specs.declared.quantity.Quantity.TheVariants.{PositionsTimesStates};
     ghost use Rattle.cw_core.specs.Quantities.{limit_of};
@@ -120,6 +124,20 @@ impl<'g> Game<'g> {
     {
         self.is_sound();
         self.spot(pos)
+    }
+
+    /// What holds of every game: each position leads to positions and calls functions that there are, `main` is one of them; each function begins and ends
+    /// at positions, and those from the one to the other lead to one another; from states each call leads to states; the rights
+    /// states, the policy states and their pairs are within their limits, and so are the pairs of a position and a state.
+    pub fn is_closed(&self)
+        ensures leads { (p : ℕ) (s : SpotOf) → slice_get (game_of self.now).spots p ≡ Some s → LeadsWithin (length (game_of self.now).spots) (length self.now.graph.parts.items) p s }
+        ensures main { self.now.graph.main < length self.now.graph.parts.items }
+        ensures routes { (f : ℕ) → f < length self.now.graph.parts.items → IsRoute (game_of self.now) f }
+        ensures states { StayBelow (game_of self.now).states }
+        ensures few { AreFew (lists_of self.now.states) }
+        ensures pairs { length (game_of self.now).spots * (game_of self.now).states.count ≤ limit_of PositionsTimesStates }
+    {
+        self.is_sound();
     }
 
     /// How many states there are.
