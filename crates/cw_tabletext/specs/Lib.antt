@@ -1,0 +1,4 @@
+pub mod Rows
+pub mod TablesText
+pub mod Grammar
+pub mod Working
