@@ -414,7 +414,7 @@ next_true t u (Into x) rest a e =
     both_true _ _ (above_from_sorted into_cmp t.into x (picked into_in rest) (subst (IsStrictlySortedBy into_cmp) (listed into_in t u (Into x) rest t.into u.into x (into_are t) (into_are u) refl e) a.into)) (nil_is t.back (sym (back_are t) ∙ none_picked back_in 6 (back_absent 6 (omega arith)) (rows_of t) up))
 next_true t u (Back x) rest a e = above_from_sorted back_cmp t.back x (picked back_in rest) (subst (IsStrictlySortedBy back_cmp) (listed back_in t u (Back x) rest t.back u.back x (back_are t) (back_are u) refl e) a.back)
 
-memories_more : (k : ℕ) (xs : List (StateId × ℕ)) (x : StateId × ℕ) → memories k (xs ++ x ∷ []) ≡ memories k xs ++ Memory (k + length xs) x ∷ []
+pub memories_more : (k : ℕ) (xs : List (StateId × ℕ)) (x : StateId × ℕ) → memories k (xs ++ x ∷ []) ≡ memories k xs ++ Memory (k + length xs) x ∷ []
 memories_more k [] x = let e : k + 0 ≡ k = omega arith in rw e refl
 memories_more k (y ∷ ys) x = let e : (k + 1) + length ys ≡ k + length (y ∷ ys) = omega arith in ap (λ rs. Memory k y ∷ rs) (memories_more (k + 1) ys x ∙ ap (λ (n : ℕ). memories (k + 1) ys ++ Memory n x ∷ []) e)
 

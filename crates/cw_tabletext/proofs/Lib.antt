@@ -1,3 +1,5 @@
 pub mod RowLines
 pub mod Orders
 pub mod Adding
+pub mod Pieces
+pub mod Faults

@@ -1,12 +1,14 @@
 //! A table in the making.
 
 ghost use Rattle.std.specs.Prelude.{◌≡◌, OnOk};
-ghost use Rattle.cw_tabletext.specs.Working.{table_of, is_next, none_from_into, none_from_opened, none_from_tries, with_row};
+ghost use Rattle.cw_certs.specs.Ascending.{Ascends};
+ghost use Rattle.cw_tabletext.specs.Working.{table_of, is_next, IsEmpty, none_from_into, none_from_opened, none_from_tries, with_row};
 
 use crate::keys::is_above;
 use crate::row::Row;
-use cw_certs::{AtRow, BackRow, IntoRow, OpenRow, TryRow};
+use cw_certs::{AtRow, BackRow, IntoRow, OpenRow, TryRow, WeaverCert};
 use cw_core::{MemId, NoMemory, PosId, StateId, StateSet};
+use std::alloc::Global;
 
 /// The lists of a table as far as its lines are read.
 #[derive(Drop)]
@@ -24,6 +26,26 @@ pub(crate) struct Draft {
 }
 
 impl Draft {
+    /// A table without rows.
+    pub(crate) fn without_rows(alloc: Global, states: u16, start: MemId) -> Draft
+        ensures states { (table_of result).states ≡ states }
+        ensures start { (table_of result).start ≡ start }
+        ensures empty { IsEmpty (table_of result) }
+    {
+        Draft {
+            states,
+            start,
+            mems: Vec::new(alloc),
+            live: Vec::new(alloc),
+            tries: Vec::new(alloc),
+            ats: Vec::new(alloc),
+            opened: Vec::new(alloc),
+            closed: Vec::new(alloc),
+            into: Vec::new(alloc),
+            back: Vec::new(alloc),
+        }
+    }
+
     fn has_none_from_into(&self) -> bool
         ensures { result ≡ none_from_into (table_of self.now) }
     {
@@ -82,5 +104,27 @@ impl Draft {
             Row::Back(row) => self.back.push(row)?,
         }
         Ok(())
+    }
+
+    /// The table, whose lists ascend.
+    pub(crate) fn finish(self) -> WeaverCert
+        requires { Ascends (table_of self) }
+        ensures { result ≡ table_of self }
+    {
+        match WeaverCert::make(
+            self.states,
+            self.start,
+            self.mems,
+            self.live,
+            self.tries,
+            self.ats,
+            self.opened,
+            self.closed,
+            self.into,
+            self.back,
+        ) {
+            Some(table) => table,
+            None => unreachable!(),
+        }
     }
 }

@@ -12,7 +12,7 @@ use cw_certs::{AtRow, BackRow, IntoRow, OpenRow, TryRow};
 use cw_core::{MemId, PosId, SeamId, StateId, StateSet};
 use cw_lines::{Words, number_of};
 
-fn take_mem(words: &mut Words) -> Option<MemId>
+pub(crate) fn take_mem(words: &mut Words) -> Option<MemId>
     ensures { Takes IsMem (λ mem. decimal mem.0) words.old words.new result }
 {
     Some(MemId(words.take_u32()?))

@@ -3,8 +3,14 @@
 
 mod draft;
 mod fields;
+mod head;
 mod keys;
 mod line;
+mod reading;
 mod row;
+mod rows;
+mod writing;
 
+pub use reading::read_tables;
 pub use row::Row;
+pub use writing::{print_tables, put_tables};
