@@ -341,7 +341,7 @@ back_absent k low (Back x) le = absurd (omega (arith, low, le))
 nil_is : {A : Type 0} (xs : List A) → xs ≡ [] → is_nil xs ≡ true
 nil_is xs e = rw e refl
 
-is_nil_then : {A : Type 0} (xs : List A) → is_nil xs ≡ true → xs ≡ []
+pub is_nil_then : {A : Type 0} (xs : List A) → is_nil xs ≡ true → xs ≡ []
 is_nil_then [] e = refl
 is_nil_then (x ∷ xs) e = let no_more = eqb-true (length (x ∷ xs)) 0 e in absurd (omega (arith, no_more))
 
@@ -422,11 +422,11 @@ mems_more : (t : Table) (n : ℕ) (x : StateId × ℕ) → n ≡ length t.mems �
 unfolding rows_of
 mems_more t n x is e0 e1 e2 e3 e4 e5 e6 =
     let more : memories 0 (t.mems ++ x ∷ []) ≡ memories 0 t.mems ++ Memory n x ∷ [] = memories_more 0 t.mems x ∙ ap (λ (k : ℕ). memories 0 t.mems ++ Memory k x ∷ []) (omega (arith, is)) in
-    simp (e0, e1, e2, e3, e4, e5, e6, more, append-nil, append_assoc)
+    simp (e0, e1, e2, e3, e4, e5, e6, more, append-nil)
 
 live_more : (t : Table) (x : _) → t.tries ≡ [] → t.ats ≡ [] → t.opened ≡ [] → t.closed ≡ [] → t.into ≡ [] → t.back ≡ [] → rows_of (with_row t (Live x)) ≡ rows_of t ++ Live x ∷ []
 unfolding rows_of
-live_more t x e0 e1 e2 e3 e4 e5 = simp (e0, e1, e2, e3, e4, e5, map-append, append-nil, append_assoc)
+live_more t x e0 e1 e2 e3 e4 e5 = simp (e0, e1, e2, e3, e4, e5, map-append, append-nil)
 
 tries_more : (t : Table) (x : _) → t.ats ≡ [] → t.opened ≡ [] → t.closed ≡ [] → t.into ≡ [] → t.back ≡ [] → rows_of (with_row t (Try x)) ≡ rows_of t ++ Try x ∷ []
 unfolding rows_of

@@ -1,9 +1,9 @@
 -- What is at fault in a text that is none of a table.
-use Rattle.std.proofs.Common.{◌≡◌, ◌≢◌, ℕ, zero, suc, ◌+◌, ◌^◌, ◌<◌, ◌≤◌, ◌⊎◌, inl, inr, Bool, true, false, List, [], ◌∷◌, ◌++◌, map, length, get_or, drop, take, refl, sym, ap, ◌∙◌, subst, arith, append-nil, append_assoc, length-append, length-map}
+use Rattle.std.proofs.Common.{◌≡◌, ◌≢◌, ℕ, zero, suc, ◌+◌, ◌^◌, ◌<◌, ◌≤◌, ◌⊎◌, inl, inr, Bool, true, false, List, [], ◌∷◌, ◌++◌, map, length, get_or, drop, take, refl, sym, ap, ◌∙◌, subst, arith, append-nil, append_assoc, length-append}
 use Rattle.std.specs.Prelude.{Option, None, Some, Result, Ok, Err, codes}
 use Rattle.std.specs.List.{AllByRecursion, flat_map}
 use Rattle.std.specs.List.Sorted.{IsStrictlySortedBy}
-use Rattle.std.proofs.lemmas.List.{map-append}
+use Rattle.std.proofs.lemmas.List.{map-append, length-map}
 use Rattle.std.proofs.lemmas.List.Concat.{flat_map-append}
 use Rattle.cw_core.specs.declared.ids.MemId.{MemId}
 use Rattle.cw_rights.specs.Policies.{PlainPolicy}
@@ -15,6 +15,7 @@ use Rattle.cw_lines.specs.declared.fault.TextFault.TheVariants.{Line, Order, Lim
 use Rattle.cw_lines.proofs.Free.{one_line, no_line}
 use Rattle.cw_text.specs.LimitsText.{limits_line}
 use Rattle.cw_tabletext.specs.declared.row.Row.{Row}
+use Rattle.cw_tabletext.specs.declared.row.Row.TheVariants.{Memory, Live, Try, At, Opened, Closed, Into, Back}
 use Rattle.cw_tabletext.specs.Rows.{rows_of, row_words}
 use Rattle.cw_tabletext.specs.TablesText.{header, limits_words, table_words, head_lines, tables_lines, tables_text, text_of, done}
 use Rattle.cw_tabletext.specs.Grammar.{IsMem, Fits, IsOrdered, IsTable, Spells, BeginsAny, Begins, HasRows, IsHead, IsRow, IsDone, IsDue, GoesOn, IsWhole, IsWrong, IsFault, Answers}
@@ -116,7 +117,6 @@ fault_1 policy text none =
     head_fault policy text [] text 1 refl (omega arith) (omega arith) (begins_empty policy 0 zero_mem [] (tables_lines policy (empty 0 zero_mem)) (omega arith) (omega arith) refl)
     (λ l g h. let same : header ≡ l = ap first_of h.5 in none g.0 (g.2 ∙ ap (λ x. line x ++ g.0) (sym same)))
 
-
 abbrev second_of : List (List ℕ) → List ℕ
 second_of [] = []
 second_of (x ∷ xs) = first_of xs
@@ -156,7 +156,7 @@ pub head_is : (policy : PlainPolicy) (text first rest a after : List ℕ) (state
 head_is policy text first rest a after states start is then_is cut words =
     is ∙ ap (λ t. line header ++ t) (then_is ∙ ap (λ x. x ++ rest) (limits_is policy) ∙ ap (λ t. line (limits_words policy) ++ t) (cut ∙ sym (line_is a after) ∙ ap (λ x. line x ++ after) (sym words)))
     ∙ rw (append-nil (line (table_words policy.format states start)))
-      (ap (λ t. line header ++ t) (sym (append_assoc (line (limits_words policy)) (line (table_words policy.format states start)) after)) ∙ sym (append_assoc (line header) (line (limits_words policy) ++ line (table_words policy.format states start)) after))
+    (ap (λ t. line header ++ t) (sym (append_assoc (line (limits_words policy)) (line (table_words policy.format states start)) after)) ∙ sym (append_assoc (line header) (line (limits_words policy) ++ line (table_words policy.format states start)) after))
 
 -- ---- the rows so far
 
@@ -233,7 +233,7 @@ front policy t = head_lines policy t.states t.start ++ row_lines policy.format (
 front_length : (policy : PlainPolicy) (t : Table) → length (front policy t) ≡ length (rows_of t) + 3
 front_length policy t =
     let l = length-append (head_lines policy t.states t.start) (row_lines policy.format (rows_of t)) in
-    omega (arith, l, length-map (row_words policy.format) (rows_of t))
+    omega (arith, l, length-map (rows_of t) (row_words policy.format))
 
 pub front_text : (policy : PlainPolicy) (t : Table) (text rows rest : List ℕ) → text ≡ text_of (head_lines policy t.states t.start) ++ rows → rows ≡ text_of (row_lines policy.format (rows_of t)) ++ rest
     → text ≡ text_of (front policy t) ++ rest

@@ -42,12 +42,12 @@ unfolding row_words
 memory_step format mems i x lt is =
     let long : 0 + length (take i mems) ≡ i = omega (arith, length-take i mems) in
     let more : memories 0 (take (i + 1) mems) ≡ memories 0 (take i mems) ++ Memory i x ∷ [] =
-        ap (memories 0) (take_more mems i x lt ∙ ap (λ y. take i mems ++ y ∷ []) (sym is)) ∙ memories_more 0 (take i mems) x ∙ ap (λ (k : ℕ). memories 0 (take i mems) ++ Memory k x ∷ []) long in
+    ap (memories 0) (take_more mems i x lt ∙ ap (λ y. take i mems ++ y ∷ []) (sym is)) ∙ memories_more 0 (take i mems) x ∙ ap (λ (k : ℕ). memories 0 (take i mems) ++ Memory k x ∷ []) long in
     ap (λ rows. text_of (row_lines format rows)) more ∙ ap text_of (map-append (row_words format) (memories 0 (take i mems)) (Memory i x ∷ []))
     ∙ flat_map-append line (row_lines format (memories 0 (take i mems))) (row_words format (Memory i x) ∷ [])
     ∙ ap (λ t. text_of (row_lines format (memories 0 (take i mems))) ++ t) (append-nil (line (called (codes "CW_MEM") (memory_fields format (i, x)))))
 
-limits_is : (policy : PlainPolicy) → limits_line policy ≡ line (limits_words policy)
+pub limits_is : (policy : PlainPolicy) → limits_line policy ≡ line (limits_words policy)
 unfolding limits_line limits_words
 limits_is policy = refl
 

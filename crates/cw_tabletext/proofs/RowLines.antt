@@ -118,7 +118,7 @@ each_free mark m format (Back r) fits =
 pub fields_free : (mark : ℕ) → IsMark mark → (format : ℕ) (row : Row) → Fits format row → All (IsFree mark) (fields_of format row)
 fields_free mark m format row fits = All-from_recursion (IsFree mark) (fields_of format row) (each_free mark m format row fits)
 
-comma : IsMark 44
+pub comma : IsMark 44
 unfolding plain
 comma = record { digit = refl; spelling = refl; missing = free_from_test plain 44 (codes "CW_NONE") refl refl }
 

@@ -9,7 +9,7 @@ ghost use Rattle.cw_tabletext.specs.Working.{head_fields, table_of, FitsHead, He
 
 use crate::draft::Draft;
 use crate::fields::take_mem;
-use crate::line::name_and_inner;
+use crate::line::{is_same, name_and_inner};
 use cw_core::{MemId, NoMemory};
 use cw_lines::{TextFault, Words, next_line};
 use cw_rights::Policy;
@@ -25,7 +25,7 @@ fn behind<'t>(text: &'t [u8], front: &[u8]) -> Option<&'t [u8]>
         return None;
     }
     let (head, rest) = text.split_at(front.len());
-    if head != front {
+    if !is_same(head, front) {
         return None;
     }
     Some(rest)
@@ -58,7 +58,7 @@ fn read_table_line(line: &[u8], format: u8) -> Option<(u16, MemId)>
     ensures { Reads FitsHead (λ head. table_words format head.0 head.1) line.now result }
 {
     let (name, inner) = name_and_inner(line)?;
-    if name != b"CW_TABLE".as_slice() {
+    if !is_same(name, b"CW_TABLE") {
         return None;
     }
     let mut words = Words::of(inner, b',');

@@ -1,6 +1,6 @@
 //! The line of a row.
 
-ghost use Rattle.std.specs.Prelude.{◌≡◌, ℕ, codes, option_map};
+ghost use Rattle.std.specs.Prelude.{◌≡◌, ◌↔◌, IsTrue, ℕ, codes, option_map};
 ghost use Rattle.cw_lines.specs.Lines.{Reads};
 ghost use Rattle.cw_tabletext.specs.Grammar.{Fits};
 ghost use Rattle.cw_tabletext.specs.Rows.{row_words};
@@ -22,6 +22,13 @@ pub(crate) fn name_and_inner(line: &[u8]) -> Option<(&[u8], &[u8])>
         return None;
     }
     Some((name, inner))
+}
+
+/// Whether two texts have the same bytes.
+pub(crate) fn is_same(text: &[u8], other: &[u8]) -> bool
+    ensures { IsTrue result ↔ (text.now ≡ other.now) }
+{
+    text == other
 }
 
 /// The row whose fields stand first among the words.

@@ -20,7 +20,10 @@ pub fn read_tables(alloc: Global, text: &[u8], policy: &Policy) -> Result<Weaver
     ensures { Answers (policy_of policy.now) text.now result }
 {
     let (mut draft, rest) = read_head(alloc, text, policy)?;
-    let (count, rest) = read_rows(rest, policy.format, &mut draft)?;
+    let (count, rest) = match read_rows(rest, policy.format, &mut draft) {
+        Ok(read) => read,
+        Err(fault) => return Err(fault),
+    };
     if !rest.is_empty() {
         return Err(TextFault::Line(count + 5));
     }

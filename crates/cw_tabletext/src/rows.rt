@@ -5,7 +5,7 @@ ghost use Rattle.cw_tabletext.specs.Rows.{rows_of};
 ghost use Rattle.cw_tabletext.specs.Working.{table_of, IsGood, IsEmpty, RowsRead, IsNextLine, seen};
 
 use crate::draft::Draft;
-use crate::line::read_row;
+use crate::line::{is_same, read_row};
 use crate::row::Row;
 use cw_lines::{TextFault, next_line};
 
@@ -35,7 +35,7 @@ fn next_row<'t>(
     let Some((line, rest)) = next_line(text) else {
         return Err(TextFault::Line(number));
     };
-    if line == b"CW_DONE".as_slice() {
+    if is_same(line, b"CW_DONE") {
         return Ok(Next::Done(rest));
     }
     let Some(row) = read_row(line, format) else {

@@ -222,11 +222,7 @@ fn tables_text(alloc: Global, cert: &WeaverCert, policy: &Policy) -> Result<Vec<
 
 /// Appends the text of a table for a policy of format 1 or 2: the lines of a woven text's prologue after its first, up to
 /// and with `CW_DONE` and its LF. Where the text can't grow, it is as before.
-pub fn put_tables(
-    cert: &WeaverCert,
-    policy: &Policy,
-    text: &mut Vec<u8>,
-) -> Result<(), NoMemory>
+pub fn put_tables(cert: &WeaverCert, policy: &Policy, text: &mut Vec<u8>) -> Result<(), NoMemory>
     ensures written { OnOk result (text.new.items ≡ text.old.items ++ tables_text (policy_of policy.now) cert.now) }
     ensures refused { OnErr result (text.new.items ≡ text.old.items) }
 {
