@@ -1,7 +1,7 @@
 -- What stands at the positions of a program's graph is in range, and so are its functions and points.
-use Rattle.std.proofs.Common.{◌≡◌, ℕ, zero, suc, ◌+◌, ◌*◌, ◌<◌, ◌≤◌, List, [], ◌∷◌, length, Option, Some, None, refl, sym, ap, ◌∙◌, subst, arith}
+use Rattle.std.proofs.Common.{◌≡◌, ℕ, zero, suc, ◌≤◌, List, [], ◌∷◌, length, Some, subst, arith}
 use Rattle.std.specs.Prelude.{slice_get, Contains, true, false}
-use Rattle.std.proofs.lemmas.Option.{none-some, same_Some, slice_get_within}
+use Rattle.std.proofs.lemmas.Option.{none-some, same_Some}
 use Rattle.std.proofs.lemmas.List.{length-map}
 use Rattle.cw_rights.specs.declared.capabilities.Primitive.{Primitive}
 use Rattle.cw_rights.specs.declared.capabilities.Primitive.TheVariants.{Limit, Enter, Split}
@@ -14,15 +14,14 @@ use Rattle.cw_points.specs.declared.graph.Point.{Point}
 use Rattle.cw_points.specs.declared.graph.Point.TheVariants as point
 use Rattle.cw_points.specs.declared.graph.Node.{Node}
 use Rattle.cw_points.specs.declared.graph.Part.{Part}
-use Rattle.cw_points.specs.declared.graph.Graph.{Graph}
 use Rattle.cw_positions.specs.Positions.{is_split, primitives_at, spots}
 use Rattle.cw_positions.specs.Closed.{LeadsWithin}
 use Rattle.cw_positions.specs.Origins.{IsOf, IsPointWithin}
 use Rattle.cw_positions.proofs.Programs.{is_whole, positions_are_closed}
 use Rattle.cw_positions.proofs.Origins.{positions_are_of_points}
 use Rattle.cw_positions.proofs.Bounding.{points_are_within}
-use Rattle.cw_product.specs.Product.{Held, IsProgramsGraph, game_of}
-use Rattle.cw_product.specs.Kept.{IsFine, AreFine, IsFollowed}
+use Rattle.cw_product.specs.Product.{Held, IsProgramsGraph}
+use Rattle.cw_product.specs.Kept.{IsFine, AreFine}
 
 contains_at : {A : Type 0} (xs : List A) (i : ℕ) (a : A) → slice_get xs i ≡ Some a → Contains xs a
 contains_at [] i a e = absurd (none-some a e)

@@ -1,5 +1,5 @@
 -- What stands at the positions of a program's graph is what the states ask for, and so its game is the program's and the policy's.
-use Rattle.std.proofs.Common.{◌≡◌, ◌⊎◌, ℕ, zero, suc, ◌+◌, ◌<◌, ◌≤◌, List, [], ◌∷◌, Bool, true, false, cond, ◌||◌, length, map, Option, Some, None, refl, sym, ap, ◌∙◌, subst, inl, inr, arith, eq-eqb, nat_eq}
+use Rattle.std.proofs.Common.{◌≡◌, ℕ, zero, suc, ◌+◌, ◌<◌, ◌≤◌, List, [], ◌∷◌, Bool, true, false, cond, ◌||◌, length, map, Some, refl, sym, ap, ◌∙◌, subst, inl, inr, arith, eq-eqb}
 use Rattle.std.specs.Prelude.{slice_get}
 use Rattle.std.specs.List.{list_any}
 use Rattle.std.proofs.lemmas.Option.{none-some, same_Some}
@@ -12,11 +12,9 @@ use Rattle.cw_syntax.specs.Plans.{plan_of}
 use Rattle.cw_syntax.specs.Runnable.{IsRunnable}
 use Rattle.cw_actions.specs.Scenes.{names_of}
 use Rattle.cw_model.specs.Boards.{problem_of}
-use Rattle.cw_game.specs.declared.spots.Spot.{Spot}
 use Rattle.cw_game.specs.declared.spots.Spot.TheVariants.{Label, Open, Close}
-use Rattle.cw_game.specs.Games.{IsOpenedIn, IsClosedIn, IsLabelIn}
+use Rattle.cw_game.specs.Games.{IsOpenedIn}
 use Rattle.cw_game.specs.Standing.{IsGameOf}
-use Rattle.cw_points.specs.declared.graph.Point.{Point}
 use Rattle.cw_points.specs.declared.graph.Point.TheVariants as point
 use Rattle.cw_points.specs.declared.graph.Node.{Node}
 use Rattle.cw_points.specs.declared.graph.Graph.{Graph}
@@ -31,7 +29,7 @@ use Rattle.cw_positions.proofs.Opening.{programs_open_variables}
 use Rattle.cw_positions.proofs.Origins.{positions_are_of_points}
 use Rattle.cw_positions.proofs.Bounding.{points_are_within}
 use Rattle.cw_states.specs.Rights.{IsVariable, MayClose}
-use Rattle.cw_states.specs.States.{Held as HeldStates, AreLists, label_count, lists_of}
+use Rattle.cw_states.specs.States.{Held as HeldStates, AreLists, lists_of}
 use Rattle.cw_states.specs.Spots.{Have}
 use Rattle.cw_states.proofs.Meaning.{states_are_reached}
 use Rattle.cw_product.specs.Uses.{is_close, is_label, closes_at, labels_at, closes_in, has_label, uses_of}

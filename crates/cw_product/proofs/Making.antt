@@ -1,14 +1,11 @@
 -- What is made is kept, and why nothing is made.
-use Rattle.std.proofs.Common.{◌≡◌, ℕ, ◌*◌, ◌<◌, ◌≤◌, length, refl, sym, ap, ◌∙◌, subst, arith}
-use Rattle.std.specs.Prelude.{nat_lt}
-use Rattle.std.specs.List.{list_any}
+use Rattle.std.proofs.Common.{◌≡◌, ℕ, ◌*◌, ◌<◌, ◌≤◌, length, sym, ap, ◌∙◌, subst, arith}
 use Rattle.std.proofs.Math.Nat.{mul-le-mul_left}
 use Rattle.cw_core.specs.declared.quantity.Quantity.TheVariants.{PositionsTimesStates}
 use Rattle.cw_core.specs.Quantities.{limit_of}
 use Rattle.cw_rights.specs.declared.policy.Policy.{Policy}
 use Rattle.cw_rights.specs.Policies.{PlainPolicy, policy_of}
 use Rattle.cw_actions.specs.Scenes.{names_of}
-use Rattle.cw_game.specs.Conditions.{has_seam, has_stage}
 use Rattle.cw_points.specs.declared.graph.Graph.{Graph}
 use Rattle.cw_positions.specs.declared.layout.Positions.{Positions}
 use Rattle.cw_positions.specs.Positions.{bases, spots}

@@ -1,19 +1,17 @@
 -- Each function of a program's graph keeps to its own positions.
-use Rattle.std.proofs.Common.{◌≡◌, ℕ, ◌+◌, ◌<◌, ◌≤◌, List, length, Option, Some, None, refl, sym, ap, ◌∙◌, subst, zero-add, arith}
+use Rattle.std.proofs.Common.{◌≡◌, ℕ, ◌<◌, ◌≤◌, List, length, Some, None, refl, sym, ap, subst, arith}
 use Rattle.std.specs.Prelude.{slice_get, option_map}
-use Rattle.cw_rights.specs.Policies.{PlainPolicy, policy_of}
+use Rattle.cw_rights.specs.Policies.{policy_of}
 use Rattle.cw_syntax.specs.Names.{Names}
 use Rattle.cw_syntax.specs.Trees.{File}
 use Rattle.cw_syntax.specs.Plans.{plan_of}
 use Rattle.cw_syntax.specs.Runnable.{IsRunnable}
 use Rattle.cw_actions.specs.Scenes.{names_of}
-use Rattle.cw_game.specs.declared.spots.Spot.{Spot}
 use Rattle.cw_points.specs.declared.graph.Point.TheVariants as point
 use Rattle.cw_points.specs.declared.graph.Node.{Node}
 use Rattle.cw_points.specs.declared.graph.Part.{Part}
 use Rattle.cw_points.specs.declared.graph.Graph.{Graph}
-use Rattle.cw_points.specs.Graphs.{IsGraph, node, nodes, splits_of}
-use Rattle.cw_points.specs.Walks.{parts_of}
+use Rattle.cw_points.specs.Graphs.{IsGraph, node, splits_of}
 use Rattle.cw_positions.specs.Positions.{base_of, to, width, entry_of, exit_of}
 use Rattle.cw_positions.proofs.Closing.{get_below}
 use Rattle.cw_positions.proofs.Programs.{of_graph, routine_of, positions_are_closed}

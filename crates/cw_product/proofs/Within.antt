@@ -1,5 +1,5 @@
 -- What next, a resumption and a return give is in range.
-use Rattle.std.proofs.Common.{◌≡◌, ℕ, ◌+◌, Bool, true, false, cond, ◌||◌, List, [], Option, Some, None, option_map, arith}
+use Rattle.std.proofs.Common.{ℕ, ◌+◌, Bool, true, false, cond, ◌||◌, [], Option, Some, None, option_map, arith}
 use Rattle.std.specs.Prelude.{IfSome}
 use Rattle.cw_core.specs.declared.ids.PosId.{PosId}
 use Rattle.cw_core.specs.declared.ids.StateId.{StateId}
@@ -9,7 +9,7 @@ use Rattle.cw_certs.specs.declared.moves.Move.{Move}
 use Rattle.cw_certs.specs.declared.moves.Move.TheVariants.{Skip, Try, Grant, Refuse, On, Left, Right, Opened, Failed}
 use Rattle.cw_game.specs.declared.spots.Spot.{Spot}
 use Rattle.cw_game.specs.declared.spots.Spot.TheVariants.{Visit, Asked, Step, Branch, Label, Open, Close, Call, SplitCall, Exit}
-use Rattle.cw_game.specs.Games.{Game, States, at_pair, refuses_in, past_asked}
+use Rattle.cw_game.specs.Games.{Game, at_pair, refuses_in, past_asked}
 use Rattle.cw_states.specs.Below.{StayBelow}
 use Rattle.cw_product.specs.Moves.{IsPosition, IsState, pair_of, numbers, next_in}
 use Rattle.cw_product.specs.Product.{Held, game_of}

@@ -1,12 +1,12 @@
 -- Working definitions: what a value of `Game` keeps.
-use Rattle.std.specs.Prelude.{◌≡◌, ℕ, ◌+◌, ◌*◌, ◌<◌, ◌≤◌, List, Option, Some, None, length, slice_get, nat_lt, Contains, true}
+use Rattle.std.specs.Prelude.{◌≡◌, ℕ, ◌+◌, ◌*◌, ◌<◌, ◌≤◌, Option, Some, None, length, slice_get, nat_lt, Contains, true}
 use Rattle.std.specs.List.{list_any}
 use Rattle.cw_core.specs.declared.quantity.Quantity.TheVariants.{PositionsTimesStates}
 use Rattle.cw_core.specs.Quantities.{limit_of}
 use Rattle.cw_rights.specs.declared.capabilities.Primitive.{Primitive}
-use Rattle.cw_rights.specs.declared.capabilities.Primitive.TheVariants.{Limit, Enter, Split}
+use Rattle.cw_rights.specs.declared.capabilities.Primitive.TheVariants.{Split}
 use Rattle.cw_rights.specs.declared.policy.Policy.{Policy}
-use Rattle.cw_rights.specs.Policies.{PlainPolicy, policy_of, primitives}
+use Rattle.cw_rights.specs.Policies.{policy_of, primitives}
 use Rattle.cw_game.specs.declared.spots.Spot.{Spot}
 use Rattle.cw_game.specs.declared.spots.Spot.TheVariants.{Visit, Asked, Step, Branch, Label, Open, Close, Call, SplitCall, Exit}
 use Rattle.cw_game.specs.Games.{Game}

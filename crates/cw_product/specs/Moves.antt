@@ -1,5 +1,5 @@
 -- What a game answers of a position and a state, as numbers.
-use Rattle.std.specs.Prelude.{ℕ, ◌<◌, [], Bool, true, false, cond, ◌||◌, Option, Some, None, nat_eq, length, option_map, slice_get}
+use Rattle.std.specs.Prelude.{ℕ, ◌<◌, [], Bool, true, false, cond, ◌||◌, Option, None, nat_eq, length, option_map, slice_get}
 use Rattle.cw_core.specs.declared.ids.PosId.{PosId}
 use Rattle.cw_core.specs.declared.ids.StateId.{StateId}
 use Rattle.cw_certs.specs.declared.moves.Move.{Move}

@@ -1,4 +1,4 @@
-use Rattle.std.proofs.Common.{subst, sym, ◌∙◌, ap}
+use Rattle.std.proofs.Common.{subst, sym}
 use Rattle.cw_product.specs.Product.{game_of}
 use Rattle.cw_product.specs.Kept.{IsWithin}
 use Rattle.cw_product.proofs.Within.{next_within, seen}

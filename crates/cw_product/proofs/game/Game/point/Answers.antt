@@ -1,4 +1,4 @@
-use Rattle.std.proofs.Common.{arith, ◌∙◌, ◌≤◌, ◌<◌, length}
+use Rattle.std.proofs.Common.{arith, ◌∙◌, ◌≤◌, length}
 use Rattle.cw_product.proofs.Placing.{found_rise, some_begun, few_begun, point_of}
 use Rattle.cw_product.proofs.game.Game.point.Goals as goal
 
