@@ -18,11 +18,19 @@ bases_length g policy = begins_length (λ (n : Node). width policy g.parts.items
 
 module _ (inside h : Held) (is : inside ≡ h) where
   -- each point has a base
-  pub first_within : (found : List ℕ) → found ≡ bases inside.graph (policy_of inside.states.policy) → (p : ℕ) → p < length h.graph.nodes.items → p < length found
-  first_within found e p l = omega (arith, ap length e, bases_length inside.graph (policy_of inside.states.policy), ap (λ (x : Held). length x.graph.nodes.items) is)
+  pub first_within : (found : List ℕ) → found ≡ bases inside.graph (policy_of inside.states.policy) → (p : ℕ) → p < length h.graph.nodes.items
+      → p < length found
+  first_within found e p l = omega (
+    arith,
+    ap length e,
+    bases_length inside.graph (policy_of inside.states.policy),
+    ap (λ
+        (x : Held). length x.graph.nodes.items) is,
+  )
 
   -- a stage is one of the seam's
   pub stages_seen : IsSound h → (policy : Policy) → policy ≡ h.states.policy → (j i count : ℕ) → count ≡ stages_of inside.graph (policy_of policy) j
       → nat_lt i count ≡ list_any (has_stage j i) (game_of h).spots
   stages_seen sound policy e j i count found =
-      ap (nat_lt i) (found ∙ ap (λ (x : Held). stages_of x.graph (policy_of policy) j) is ∙ ap (λ p. stages_of h.graph (policy_of p) j) e) ∙ sym (sound.stages j i)
+      ap (nat_lt i) (found ∙ ap (λ (x : Held). stages_of x.graph (policy_of policy) j) is ∙ ap (λ p. stages_of h.graph (policy_of p) j) e) ∙ sym
+      (sound.stages j i)

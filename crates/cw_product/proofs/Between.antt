@@ -1,5 +1,6 @@
 -- Each point of a function leads to points of the function.
-use Rattle.std.proofs.Common.{◌≡◌, ℕ, zero, suc, ◌+◌, ◌≤◌, List, [], ◌∷◌, ◌++◌, length, Bool, true, false, Option, Some, None, refl, ap, subst, length-append, arith, ⊎_elim}
+use Rattle.std.proofs.Common.{◌≡◌, ℕ, zero, suc, ◌+◌, ◌≤◌, List, [], ◌∷◌, ◌++◌, length, Bool, true, false, Option, Some, None, refl, ap}
+use Rattle.std.proofs.Common.{subst, length-append, arith, ⊎_elim}
 use Rattle.std.specs.Prelude.{slice_get}
 use Rattle.std.proofs.lemmas.Option.{none-some, same_Some, slice_get_within}
 use Rattle.cw_syntax.specs.Plans.{Stm, Plain, Break, Continue, Return, Open, Close, Call, Group, Label, If, While, Do, For, Stms, end, then, Routine}
@@ -9,7 +10,8 @@ use Rattle.cw_points.specs.declared.graph.Point.TheVariants as point
 use Rattle.cw_points.specs.declared.graph.Node.{Node}
 use Rattle.cw_points.specs.declared.graph.Part.{Part}
 use Rattle.cw_points.specs.Points.{count, count_all, one_if, one_if_some}
-use Rattle.cw_points.specs.Graphs.{node, step, branch, first, init_nodes, test_node, step_nodes, turns, test_of, turn_of, nodes_in, nodes_in_all, exit_of, nodes_of, nodes_from, part, parts_from}
+use Rattle.cw_points.specs.Graphs.{node, step, branch, first, init_nodes, test_node, step_nodes, turns, test_of, turn_of, nodes_in}
+use Rattle.cw_points.specs.Graphs.{nodes_in_all, exit_of, nodes_of, nodes_from, part, parts_from}
 use Rattle.cw_points.specs.Walks.{first_of, second_of}
 use Rattle.cw_points.proofs.Lengths.{nodes_length_all}
 use Rattle.cw_positions.proofs.Standing.{found_two}
@@ -75,7 +77,8 @@ module _ (low high : ℕ) where
 
   module _ (f : ℕ) where
     mutual
-      goes : (s : Stm) (looped : Bool) (n k x : ℕ) (b c : Option ℕ) → Lands looped s → low ≤ n → n + count s ≤ high → IsBetween low high k → IsBetween low high x → Jumps looped b
+      goes : (s : Stm) (looped : Bool) (n k x : ℕ) (b c : Option ℕ) → Lands looped s → low ≤ n → n + count s ≤ high → IsBetween low high k
+          → IsBetween low high x → Jumps looped b
           → Jumps looped c → EachGoes (nodes_in f s n k x b c)
       goes (Plain at) looped n k x b c lands l h hk hx hb hc = (hk, tt)
       goes (Break at) looped n k x b c lands l h hk hx hb hc = jump_goes f looped b lands hb
@@ -85,16 +88,23 @@ module _ (low high : ℕ) where
       goes (Close at j d) looped n k x b c lands l h hk hx hb hc = (hk, tt)
       goes (Call at j callee) looped n k x b c lands l h hk hx hb hc = (hk, tt)
       goes (Group ss) looped n k x b c lands l h hk hx hb hc = goes_all ss looped n k x b c lands l h hk hx hb hc
-      goes (Label at mark j m s) looped n k x b c lands l h hk hx hb hc =
-          (first_goes (count s) (n + 1) k (omega arith) (omega arith) hk, goes s looped (n + 1) k x b c lands (omega arith) (omega arith) hk hx hb hc)
+      goes (Label at mark j m s) looped n k x b c lands l h hk hx hb hc = (
+        first_goes (count s) (n + 1) k (omega arith) (omega arith) hk,
+        goes s looped (n + 1) k x b c lands (omega arith)
+            (omega arith) hk hx hb hc,
+      )
       goes (If at s t) looped n k x b c lands l h hk hx hb hc = (
         (first_goes (count s) (n + 1) k (omega arith) (omega arith) hk, first_goes (count t) (n + 1 + count s) k (omega arith) (omega arith) hk),
-        each_two (nodes_in f s (n + 1) k x b c) (nodes_in f t (n + 1 + count s) k x b c) (goes s looped (n + 1) k x b c lands.0 (omega arith) (omega arith) hk hx hb hc)
+        each_two (nodes_in f s (n + 1) k x b c) (nodes_in f t (n + 1 + count s) k x b c) (goes s looped (n + 1) k x b c lands.0 (omega arith)
+            (omega arith) hk hx hb hc)
             (goes t looped (n + 1 + count s) k x b c lands.1 (omega arith) (omega arith) hk hx hb hc),
       )
       goes (While at s) looped n k x b c lands l h hk hx hb hc =
-          let hn : IsBetween low high n = (l, omega arith) in
-          ((first_goes (count s) (n + 1) n (omega arith) (omega arith) hn, hk), goes s true (n + 1) n x (Some k) (Some n) lands (omega arith) (omega arith) hn hx hk hn)
+          let hn : IsBetween low high n = (l, omega arith) in (
+            (first_goes (count s) (n + 1) n (omega arith) (omega arith) hn, hk),
+            goes s true (n + 1) n x (Some k) (Some n) lands (omega arith)
+                (omega arith) hn hx hk hn,
+          )
       goes (Do at s) looped n k x b c lands l h hk hx hb hc =
           let ht : IsBetween low high (n + count s) = (omega arith, omega arith) in
           let hn : IsBetween low high n = (l, omega arith) in
@@ -108,10 +118,12 @@ module _ (low high : ℕ) where
           let ha : IsBetween low high (n + one_if_some init + one_if stepped) = (omega arith, omega arith) in
           let body = nodes_in f s (a + 1) a x (Some k) (Some a) in
           let hm = first_goes (count s) (a + 1) a (omega arith) (omega arith) ha in
-          let rest = each_two (step_nodes f stepped t) body (step_goes f stepped t ht) (goes s true (a + 1) a x (Some k) (Some a) lands (omega arith) (omega arith) ha hx hk ha) in
+          let rest = each_two (step_nodes f stepped t) body (step_goes f stepped t ht) (goes s true (a + 1) a x (Some k) (Some a) lands
+          (omega arith) (omega arith) ha hx hk ha) in
           each_two (init_nodes f init t) (turns f decided stepped m k t body) (init_goes f init t ht) (test_goes f decided m k hm hk, rest)
 
-      goes_all : (ss : Stms) (looped : Bool) (n k x : ℕ) (b c : Option ℕ) → LandsAll looped ss → low ≤ n → n + count_all ss ≤ high → IsBetween low high k → IsBetween low high x
+      goes_all : (ss : Stms) (looped : Bool) (n k x : ℕ) (b c : Option ℕ) → LandsAll looped ss → low ≤ n → n + count_all ss ≤ high
+          → IsBetween low high k → IsBetween low high x
           → Jumps looped b → Jumps looped c → EachGoes (nodes_in_all f ss n k x b c)
       goes_all end looped n k x b c lands l h hk hx hb hc = tt
       goes_all (then s ss) looped n k x b c lands l h hk hx hb hc =
@@ -142,7 +154,11 @@ length_of f r n =
 part_low : (rs : List Routine) (splits : List Bool) (n i : ℕ) (p : Part) → slice_get (parts_from rs splits n) i ≡ Some p → n ≤ p.entry.0
 part_low [] splits n i p e = absurd (none-some p e)
 part_low (r ∷ rs) [] n i p e = absurd (none-some p e)
-part_low (r ∷ rs) (split ∷ splits) n zero p e = let same = same_Some (part n (exit_of r n) split) p e in omega (arith, ap (λ (q : Part). q.entry.0) same)
+part_low (r ∷ rs) (split ∷ splits) n zero p e = let same = same_Some (part n (exit_of r n) split) p e in omega (
+  arith,
+  ap (λ
+      (q : Part). q.entry.0) same,
+)
 part_low (r ∷ rs) (split ∷ splits) n (suc i) p e = omega (arith, part_low rs splits (exit_of r n + 1) i p e)
 
 -- a part ends behind where it begins
@@ -154,7 +170,8 @@ part_order (r ∷ rs) (split ∷ splits) n zero p e =
 part_order (r ∷ rs) (split ∷ splits) n (suc i) p e = part_order rs splits (exit_of r n + 1) i p e
 
 -- the points of a part lead to points of it
-pub points_stay : (f : ℕ) (rs : List Routine) (splits : List Bool) (n : ℕ) → ((i : ℕ) (r : Routine) → slice_get rs i ≡ Some r → LandsAll false r.body)
+pub points_stay : (f : ℕ) (rs : List Routine) (splits : List Bool) (n : ℕ) → ((i : ℕ) (r : Routine) → slice_get rs i ≡ Some r
+    → LandsAll false r.body)
     → (i : ℕ) (p : Part) → slice_get (parts_from rs splits n) i ≡ Some p → (q : ℕ) (m : Node) → slice_get (nodes_from f rs n) q ≡ Some m
     → p.entry.0 ≤ n + q → n + q ≤ p.exit.0 → NodeGoes p.entry.0 p.exit.0 m
 points_stay f [] splits n lands i p e q m s l h = absurd (none-some m s)
@@ -163,8 +180,10 @@ points_stay f (r ∷ rs) (split ∷ splits) n lands zero p e q m s l h =
     let same = same_Some (part n (exit_of r n) split) p e in
     subst (λ (k : Part). NodeGoes k.entry.0 k.exit.0 m) same
     (⊎_elim (λ y. each_at n (exit_of r n) (nodes_of f r n) q m (function_goes f r n (lands 0 r refl)) y)
-    (λ y. absurd (omega (arith, y.2, length_of f r n, h, ap (λ (k : Part). k.exit.0) same))) (found_two (nodes_of f r n) (nodes_from (f + 1) rs (exit_of r n + 1)) q m s))
+    (λ y. absurd (omega (arith, y.2, length_of f r n, h, ap (λ (k : Part). k.exit.0) same))) (found_two (nodes_of f r n) (nodes_from (f + 1) rs
+    (exit_of r n + 1)) q m s))
 points_stay f (r ∷ rs) (split ∷ splits) n lands (suc i) p e q m s l h =
     ⊎_elim (λ y. absurd (omega (arith, slice_get_within (nodes_of f r n) q m y, length_of f r n, l, part_low rs splits (exit_of r n + 1) i p e)))
-    (λ y. points_stay (f + 1) rs splits (exit_of r n + 1) (λ k o d. lands (suc k) o d) i p e y.0 m y.1 (omega (arith, y.2, length_of f r n, l)) (omega (arith, y.2, length_of f r n, h)))
+    (λ y. points_stay (f + 1) rs splits (exit_of r n + 1) (λ k o d. lands (suc k) o d) i p e y.0 m y.1 (omega (arith, y.2, length_of f r n, l))
+    (omega (arith, y.2, length_of f r n, h)))
     (found_two (nodes_of f r n) (nodes_from (f + 1) rs (exit_of r n + 1)) q m s)

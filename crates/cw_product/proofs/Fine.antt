@@ -32,7 +32,8 @@ none_in : {A : Type 0} {P : Type 0} (a : A) → Contains [] a → P
 none_in a h = absurd (omega (arith, h.1))
 
 -- what is tried or skipped at a point is the policy's
-primitive_in : (policy : PlainPolicy) (parts : List Part) (w : Point) (a : Primitive) → Contains (primitives_at policy parts w) a → Contains (primitives policy true) a
+primitive_in : (policy : PlainPolicy) (parts : List Part) (w : Point) (a : Primitive) → Contains (primitives_at policy parts w) a
+    → Contains (primitives policy true) a
 primitive_in policy parts point.Entry a h = among_all policy false a h
 primitive_in policy parts point.Step a h = none_in a h
 primitive_in policy parts point.Branch a h = none_in a h

@@ -1,5 +1,6 @@
 -- What stands at the positions of a program's graph is what the states ask for, and so its game is the program's and the policy's.
-use Rattle.std.proofs.Common.{◌≡◌, ℕ, zero, suc, ◌+◌, ◌<◌, ◌≤◌, List, [], ◌∷◌, Bool, true, false, cond, ◌||◌, length, map, Some, refl, sym, ap, ◌∙◌, subst, inl, inr, arith, eq-eqb}
+use Rattle.std.proofs.Common.{◌≡◌, ℕ, zero, suc, ◌+◌, ◌<◌, ◌≤◌, List, [], ◌∷◌, Bool, true, false, cond, ◌||◌, length, map, Some, refl, sym}
+use Rattle.std.proofs.Common.{ap, ◌∙◌, subst, inl, inr, arith, eq-eqb}
 use Rattle.std.specs.Prelude.{slice_get}
 use Rattle.std.specs.List.{list_any}
 use Rattle.std.proofs.lemmas.Option.{none-some, same_Some}
@@ -58,9 +59,14 @@ eight f (suc (suc (suc (suc (suc (suc (suc (suc d)))))))) l = absurd (omega (ari
 
 label_below : (l n : ℕ) → l ≤ n → (other : Bool) → (l ≡ n → other ≡ true) → l < n + cond other 1 0
 label_below l n h true other = omega (arith, h)
-label_below l n h false other = elim (leb_tells (suc l) n) [ inl t ↦ omega (arith, t.1) | inr t ↦ (let e : l ≡ n = omega (arith, h, t.1) in let z = other e in absurd (cc)) ]
+label_below l n h false other = elim (leb_tells (suc l) n) [
+  | inl t ↦ omega (arith, t.1)
+  | inr t ↦ (let e : l ≡ n = omega
+      (arith, h, t.1) in let z = other e in absurd (cc))
+]
 
-module _ (policy : PlainPolicy) (graph : Graph) (valid : IsValid policy) (source : List ℕ) (file : File) (drawn : IsGraph (names_of policy) source file graph)
+module _ (policy : PlainPolicy) (graph : Graph) (valid : IsValid policy) (source : List ℕ) (file : File) (drawn : IsGraph
+    (names_of policy) source file graph)
     (assigns : AssignsNames source file) where
   closed_by_source : (d p : ℕ) (n : Node) → slice_get graph.nodes.items p ≡ Some n → n.point ≡ point.Close d → closes_in graph.nodes.items d ≡ true
   closed_by_source d p n e w = any_at (is_close d) graph.nodes.items p n e (ap (closes_at d) w ∙ eq-eqb d d refl)
@@ -98,25 +104,31 @@ module _ (policy : PlainPolicy) (graph : Graph) (valid : IsValid policy) (source
   }
 
 -- the game is the program's and the policy's
-pub game_is : (h : Held) → IsValid (policy_of h.states.policy) → AreLists (uses_of (policy_of h.states.policy) h.graph.nodes.items) (lists_of h.states)
-    → (source : List ℕ) (file : File) → IsGraph (names_of (policy_of h.states.policy)) source file h.graph → IsRunnable (plan_of (names_of (policy_of h.states.policy)) source file)
+pub game_is : (h : Held) → IsValid (policy_of h.states.policy)
+    → AreLists (uses_of (policy_of h.states.policy) h.graph.nodes.items) (lists_of h.states)
+    → (source : List ℕ) (file : File) → IsGraph (names_of (policy_of h.states.policy)) source file h.graph
+    → IsRunnable (plan_of (names_of (policy_of h.states.policy)) source file)
     → AssignsNames source file → IsGameOf (problem_of (policy_of h.states.policy) source file) (game_of h)
 game_is h valid lists source file drawn run assigns =
     let policy = policy_of h.states.policy in
-    let on : IsGameOn h.graph (policy_of h.states.policy) (game_of h) = record { spots = refl; entry = λ f. refl; exit = λ f. refl; main = refl; under = refl } in
+    let on : IsGameOn h.graph (policy_of h.states.policy)
+    (game_of h) = record { spots = refl; entry = λ f. refl; exit = λ f. refl; main = refl; under = refl } in
     record {
       policy = refl;
-      states = states_are_reached (uses_of policy h.graph.nodes.items) (lists_of h.states) lists (spots h.graph policy) (has policy h.graph valid source file drawn assigns);
+      states = states_are_reached (uses_of policy h.graph.nodes.items) (lists_of h.states) lists (spots h.graph policy)
+          (has policy h.graph valid source file drawn assigns);
       laid = laid_out policy source file h.graph (game_of h) drawn run on;
       routines = has_routines policy source file h.graph (game_of h) drawn run on;
     }
 
 pub game_made : (graph : Graph) (policy : Policy) (s : HeldStates) → s.policy ≡ policy → IsValid (policy_of policy)
-    → AreLists (uses_of (policy_of policy) graph.nodes.items) (lists_of s) → (source : List ℕ) (file : File) → IsGraph (names_of (policy_of policy)) source file graph
+    → AreLists (uses_of (policy_of policy) graph.nodes.items) (lists_of s) → (source : List ℕ) (file : File)
+    → IsGraph (names_of (policy_of policy)) source file graph
     → IsRunnable (plan_of (names_of (policy_of policy)) source file) → AssignsNames source file
     → IsGameOf (problem_of (policy_of policy) source file) (game_of (record { graph = graph; states = s }))
 game_made graph policy s same valid lists source file drawn run assigns =
     let back : policy_of policy ≡ policy_of s.policy = sym (ap policy_of same) in
     subst (λ p. IsGameOf (problem_of p source file) (game_of (record { graph = graph; states = s }))) (ap policy_of same)
-    (game_is (record { graph = graph; states = s }) (subst IsValid back valid) (subst (λ p. AreLists (uses_of p graph.nodes.items) (lists_of s)) back lists) source file
+    (game_is (record { graph = graph; states = s }) (subst IsValid back valid) (subst (λ p. AreLists (uses_of p graph.nodes.items)
+    (lists_of s)) back lists) source file
     (subst (λ p. IsGraph (names_of p) source file graph) back drawn) (subst (λ p. IsRunnable (plan_of (names_of p) source file)) back run) assigns)

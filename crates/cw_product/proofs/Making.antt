@@ -25,13 +25,15 @@ use Rattle.cw_product.proofs.Fine.{are_fine}
 use Rattle.cw_product.proofs.Routed.{routed}
 
 -- the states' fault is the game's
-cause_by : (policy : PlainPolicy) (graph : Graph) (s : StatesFault) → IsStatesCause policy (uses_of policy graph.nodes.items) s → IsCause policy graph (fault_of s)
+cause_by : (policy : PlainPolicy) (graph : Graph) (s : StatesFault) → IsStatesCause policy (uses_of policy graph.nodes.items) s
+    → IsCause policy graph (fault_of s)
 cause_by policy graph states.TooManyCaps h = h
 cause_by policy graph states.TooManyWords h = h
 cause_by policy graph states.TooManyStates h = h
 cause_by policy graph states.NoMemory h = tt
 
-pub cause_of : (policy : PlainPolicy) (graph : Graph) (uses : Uses) → uses ≡ uses_of policy graph.nodes.items → (s : StatesFault) → IsStatesCause policy uses s
+pub cause_of : (policy : PlainPolicy) (graph : Graph) (uses : Uses) → uses ≡ uses_of policy graph.nodes.items → (s : StatesFault)
+    → IsStatesCause policy uses s
     → IsCause policy graph (fault_of s)
 cause_of policy graph uses e s h = cause_by policy graph s (subst (λ u. IsStatesCause policy u s) e h)
 
@@ -72,10 +74,12 @@ module _ (graph : Graph) (policy : Policy) (s : HeldStates) (same : s.policy ≡
       → IsSound (record { graph = graph; states = s })
   sound_made g narrow lists few pairs =
       let back = sym (ap policy_of same) in
-      sound held (subst (λ p. IsProgramsGraph p graph) back g) narrow (subst (λ p. AreLists (uses_of p graph.nodes.items) (lists_of s)) back lists) few
+      sound held (subst (λ p. IsProgramsGraph p graph) back g) narrow (subst (λ p. AreLists (uses_of p graph.nodes.items)
+      (lists_of s)) back lists) few
       (subst (λ p. length (spots graph p) * count (lists_of s) ≤ limit_of PositionsTimesStates) back pairs)
 
-  pub kept : (positions : Positions) → positions.spots.items ≡ spots graph (policy_of policy) → positions.bases.items ≡ bases graph (policy_of policy)
+  pub kept : (positions : Positions) → positions.spots.items ≡ spots graph (policy_of policy)
+      → positions.bases.items ≡ bases graph (policy_of policy)
       → IsProgramsGraph (policy_of policy) graph → length graph.nodes.items ≤ 8192
       → AreLists (uses_of (policy_of policy) graph.nodes.items) (lists_of s) → AreFew (lists_of s)
       → (n k most : ℕ) → n ≡ length (spots graph (policy_of policy)) → k ≡ count (lists_of s) → most ≡ limit_of PositionsTimesStates → n * k ≤ most

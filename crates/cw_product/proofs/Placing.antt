@@ -1,5 +1,6 @@
 -- The point of a position: the last one that begins at or before it.
-use Rattle.std.proofs.Common.{◌≡◌, ℕ, zero, suc, ◌+◌, ◌-◌, ◌<◌, ◌≤◌, List, [], ◌∷◌, true, false, length, take, get_or, nat_le, sym, subst, inl, inr, arith}
+use Rattle.std.proofs.Common.{◌≡◌, ℕ, zero, suc, ◌+◌, ◌-◌, ◌<◌, ◌≤◌, List, [], ◌∷◌, true, false, length, take, get_or, nat_le, sym, subst}
+use Rattle.std.proofs.Common.{inl, inr, arith}
 use Rattle.std.specs.List.{sum_by}
 use Rattle.std.specs.List.Sorted.{IsNonDecreasing, IsPartitionPoint}
 use Rattle.std.proofs.lemmas.Bool.Decides.{nat_tests, leb_tells}
@@ -66,7 +67,8 @@ module _ (g : Graph) (policy : PlainPolicy) where
     some = not_more 1 i (λ l. nothing_below p (ahead 0 (omega (arith, l)) (omega arith)))
 
     pub few : i ≤ length g.nodes.items
-    few = not_more i (length g.nodes.items) (λ l. let h : base_of g policy (length g.nodes.items) ≤ p = passed (length g.nodes.items) l (omega arith) in omega (arith, h, all, there))
+    few = not_more i (length g.nodes.items) (λ l. let h : base_of g policy (length g.nodes.items) ≤ p = passed (length g.nodes.items) l
+        (omega arith) in omega (arith, h, all, there))
 
     pub from : base_of g policy (i - 1) ≤ p
     from = passed (i - 1) (omega (arith, some)) (omega (arith, few))
@@ -89,7 +91,8 @@ module _ (inside h : Held) (is : inside ≡ h) (found : List ℕ) (are : found �
     some_begun = some inside.graph (policy_of inside.states.policy) found are p i there_inside bound point
 
     pub few_begun : i ≤ length h.graph.nodes.items
-    few_begun = subst (λ (x : Held). i ≤ length x.graph.nodes.items) is (few inside.graph (policy_of inside.states.policy) found are p i there_inside bound point)
+    few_begun = subst (λ (x : Held). i ≤ length x.graph.nodes.items) is (few inside.graph
+        (policy_of inside.states.policy) found are p i there_inside bound point)
 
     pub point_of : IsPointOf h p (i - 1)
     point_of = subst (λ (x : Held). IsPointOf x p (i - 1)) is (record {

@@ -21,13 +21,17 @@ use Rattle.cw_product.proofs.Between.{NodeGoes, part_order, points_stay}
 use Rattle.cw_product.proofs.Routing.{positions_stay}
 use Rattle.cw_product.proofs.Placing.{rise}
 
-module _ (names : Names) (source : List ℕ) (file : File) (run : IsRunnable (plan_of names source file)) (g : Graph) (i : IsGraph names source file g) where
+module _ (names : Names) (source : List ℕ) (file : File) (run : IsRunnable (plan_of names source file)) (g : Graph)
+    (i : IsGraph names source file g) where
   -- each function's points lead to its points
-  stay : (f : ℕ) (p : Part) → slice_get g.parts.items f ≡ Some p → (q : ℕ) (m : Node) → slice_get g.nodes.items q ≡ Some m → IsBetween p.entry.0 p.exit.0 q → NodeGoes p.entry.0 p.exit.0 m
+  stay : (f : ℕ) (p : Part) → slice_get g.parts.items f ≡ Some p → (q : ℕ) (m : Node) → slice_get g.nodes.items q ≡ Some m
+      → IsBetween p.entry.0 p.exit.0 q → NodeGoes p.entry.0 p.exit.0 m
   stay =
       of_graph names source file g
-      (λ ns ps m. (f : ℕ) (p : Part) → slice_get ps f ≡ Some p → (q : ℕ) (n : Node) → slice_get ns q ≡ Some n → IsBetween p.entry.0 p.exit.0 q → NodeGoes p.entry.0 p.exit.0 n) i
-      (λ f p e q n s b. points_stay 0 (plan_of names source file).routines (splits_of names source file) 0 run.lands f p e q n s (omega (arith, b.0)) (omega (arith, b.1)))
+      (λ ns ps m. (f : ℕ) (p : Part) → slice_get ps f ≡ Some p
+      → (q : ℕ) (n : Node) → slice_get ns q ≡ Some n → IsBetween p.entry.0 p.exit.0 q → NodeGoes p.entry.0 p.exit.0 n) i
+      (λ f p e q n s b. points_stay 0 (plan_of names source file).routines (splits_of names source file) 0 run.lands f p e q n s
+      (omega (arith, b.0)) (omega (arith, b.1)))
 
   -- and ends at an exit
   ends : (f : ℕ) (p : Part) → slice_get g.parts.items f ≡ Some p → (n : Node) × (slice_get g.nodes.items p.exit.0 ≡ Some n) × (n.point ≡ point.Exit)
@@ -44,12 +48,12 @@ pub routed : (h : Held) → IsProgramsGraph (policy_of h.states.policy) h.graph 
 routed h g f l =
     let policy = policy_of h.states.policy in
     let names = names_of (policy_of h.states.policy) in
-    let graph = h.graph in
     let found = get_below h.graph.parts.items f l in
     let p = found.0 in
     let at = base_of h.graph (policy_of h.states.policy) in
     let w = λ (n : Node). width (policy_of h.states.policy) h.graph.parts.items n.point in
-    let entry : at p.entry.0 ≡ entry_of h.graph (policy_of h.states.policy) f = ap (λ o. to at (option_map (λ (q : Part). q.entry.0) o)) (sym found.1) in
+    let entry : at p.entry.0 ≡ entry_of h.graph (policy_of h.states.policy) f = ap (λ o. to at (option_map (λ (q : Part). q.entry.0) o))
+    (sym found.1) in
     let exit : at p.exit.0 ≡ exit_of h.graph (policy_of h.states.policy) f = ap (λ o. to at (option_map (λ (q : Part). q.exit.0) o)) (sym found.1) in
     let last = ends names g.source g.file g.runnable h.graph g.drawn f p found.1 in
     let closed = positions_are_closed names g.source g.file h.graph policy g.drawn in
@@ -60,6 +64,7 @@ routed h g f l =
       stays = λ q s b e.
           subst (λ x. LeadsBetween (entry_of h.graph (policy_of h.states.policy) f) x q s) exit
           (subst (λ x. LeadsBetween x (at p.exit.0) q s) entry
-          (positions_stay policy h.graph.parts.items h.graph.nodes.items p.entry.0 p.exit.0 last.0 last.1 last.2 (stay names g.source g.file g.runnable h.graph g.drawn f p found.1) q s e
+          (positions_stay policy h.graph.parts.items h.graph.nodes.items p.entry.0 p.exit.0 last.0 last.1 last.2
+          (stay names g.source g.file g.runnable h.graph g.drawn f p found.1) q s e
           (omega (arith, b.0, entry), omega (arith, b.1, exit))));
     }

@@ -1,5 +1,6 @@
 -- Each position of a function leads to positions of the function.
-use Rattle.std.proofs.Common.{◌≡◌, ℕ, zero, suc, ◌+◌, ◌*◌, ◌<◌, ◌≤◌, List, [], ◌∷◌, ◌++◌, Bool, true, false, cond, length, map, Option, Some, None, refl, sym, ap, ◌∙◌, subst, inl, inr, arith, add-zero}
+use Rattle.std.proofs.Common.{◌≡◌, ℕ, zero, suc, ◌+◌, ◌*◌, ◌<◌, ◌≤◌, List, [], ◌∷◌, ◌++◌, Bool, true, false, cond, length, map, Option}
+use Rattle.std.proofs.Common.{Some, None, refl, sym, ap, ◌∙◌, subst, inl, inr, arith, add-zero}
 use Rattle.std.specs.Prelude.{slice_get}
 use Rattle.std.proofs.lemmas.Option.{none-some, same_Some, slice_get_within}
 use Rattle.std.proofs.lemmas.Bool.Decides.{leb_tells}
@@ -31,7 +32,8 @@ module _ (low high : ℕ) where
   route_at : (p : ℕ) (ss : List Spot) (i : ℕ) (s : Spot) → RouteFrom p ss → slice_get ss i ≡ Some s → LeadsBetween low high (p + i) s
   route_at p [] i s h e = absurd (none-some s e)
   route_at p (t ∷ ss) zero s h e = subst (λ q. LeadsBetween low high q s) (sym (add-zero p)) (subst (LeadsBetween low high p) (same_Some t s e) h.0)
-  route_at p (t ∷ ss) (suc i) s h e = let z : p + 1 + i ≡ p + suc i = omega arith in subst (λ q. LeadsBetween low high q s) z (route_at (p + 1) ss i s h.1 e)
+  route_at p (t ∷ ss) (suc i) s h e = let z : p + 1 + i ≡ p + suc i = omega arith in subst (λ q. LeadsBetween low high q s) z (route_at
+      (p + 1) ss i s h.1 e)
 
   -- how many positions are needed behind what is asked
   abbrev Room : ℕ → Primitive → Type 0
@@ -53,21 +55,29 @@ module _ (low high : ℕ) where
   some_room n Enter h = h
   some_room n (Limit limit) h = h
 
-  visits_route : (j i : ℕ) (later : List Primitive) (rest : List Spot) (p : ℕ) → AllRoom (length rest) later → p + (2 * length later + length rest) ≤ high + 1
+  visits_route : (j i : ℕ) (later : List Primitive) (rest : List Spot) (p : ℕ) → AllRoom (length rest) later
+      → p + (2 * length later + length rest) ≤ high + 1
       → RouteFrom (p + 2 * length later) rest → RouteFrom p (visits j i later ++ rest)
   visits_route j i [] rest p room h c = let z : p + 0 ≡ p = add-zero p in subst (λ q. RouteFrom q rest) z c
   visits_route j i (a ∷ later) rest p room h c =
       let z : p + 2 * length (a ∷ later) ≡ p + 1 + 1 + 2 * length later = omega arith in
       let some = some_room (length rest) a room.0 in
-      let first : LeadsBetween low high p (Visit j i a) = omega (arith, some, h) in
-      (first, (asked_route (p + 1) j i a (length rest) room.0 (omega arith), visits_route j (suc i) later rest (p + 1 + 1) room.1 (omega arith) (subst (λ q. RouteFrom q rest) z c)))
+      let first : LeadsBetween low high p (Visit j i a) = omega (arith, some, h) in (
+        first,
+        (
+          asked_route (p + 1) j i a (length rest) room.0 (omega arith),
+          visits_route j (suc i) later rest (p + 1 + 1) room.1 (omega arith)
+              (subst (λ q. RouteFrom q rest) z c),
+        ),
+      )
 
   limits_room : (n : ℕ) (ls : List ALimit) (later : List Primitive) → 1 ≤ n → AllRoom n later → AllRoom n (map (λ limit. Limit limit) ls ++ later)
   limits_room n [] later h r = r
   limits_room n (l ∷ ls) later h r = (h, limits_room n ls later h r)
 
   primitives_room : (policy : PlainPolicy) (split : Bool) (n : ℕ) → n ≡ 1 + cond split 1 0 → AllRoom n (primitives policy split)
-  primitives_room policy true n e = let one : 1 ≤ n = omega arith in let two : 2 ≤ n = omega arith in limits_room n policy.limits (Enter ∷ (Split ∷ [])) one (one, (two, tt))
+  primitives_room policy true n e = let one : 1 ≤ n = omega arith in let two : 2 ≤ n = omega arith in limits_room n policy.limits (Enter ∷
+      (Split ∷ [])) one (one, (two, tt))
   primitives_room policy false n e = let one : 1 ≤ n = omega arith in limits_room n policy.limits (Enter ∷ []) one (one, tt)
 
   module _ (policy : PlainPolicy) (parts : List Part) where
@@ -80,18 +90,23 @@ module _ (low high : ℕ) where
     call_route false p j f l h = (h, tt)
 
     -- where a point leads, its first position leads there
-    at_between : (at : ℕ → ℕ) (from last : ℕ) → ((k : ℕ) → IsBetween from last k → IsBetween low high (at k)) → (o : Option ℕ) → GoesTo from last o → IsBetween low high (to at o)
+    at_between : (at : ℕ → ℕ) (from last : ℕ) → ((k : ℕ) → IsBetween from last k → IsBetween low high (at k)) → (o : Option ℕ)
+        → GoesTo from last o → IsBetween low high (to at o)
     at_between at from last lands None h = absurd h
     at_between at from last lands (Some k) h = lands k h
 
-    point_route : (at : ℕ → ℕ) (from last : ℕ) → ((k : ℕ) → IsBetween from last k → IsBetween low high (at k)) → (w : Point) (f j : ℕ) (a b : Option ℕ) (p : ℕ)
-        → Goes from last w a b → p + width policy parts w ≤ high + 1 → RouteFrom p (visits j 0 (primitives_at policy parts w) ++ free parts w f j (to at a) (to at b))
+    point_route : (at : ℕ → ℕ) (from last : ℕ) → ((k : ℕ) → IsBetween from last k → IsBetween low high (at k))
+        → (w : Point) (f j : ℕ) (a b : Option ℕ) (p : ℕ)
+        → Goes from last w a b → p + width policy parts w ≤ high + 1
+        → RouteFrom p (visits j 0 (primitives_at policy parts w) ++ free parts w f j (to at a) (to at b))
     point_route at from last lands point.Entry f j a b p g h =
-        visits_route j 0 (primitives policy false) (free parts point.Entry f j (to at a) (to at b)) p (primitives_room policy false 1 refl) (omega arith) (at_between at from last lands a g, tt)
+        visits_route j 0 (primitives policy false) (free parts point.Entry f j (to at a) (to at b)) p (primitives_room policy false 1 refl)
+        (omega arith) (at_between at from last lands a g, tt)
     point_route at from last lands point.Step f j a b p g h = (at_between at from last lands a g, tt)
     point_route at from last lands point.Branch f j a b p g h = ((at_between at from last lands a g.0, at_between at from last lands b g.1), tt)
     point_route at from last lands (point.Label m) f j a b p g h =
-        visits_route j 0 (primitives policy false) (free parts (point.Label m) f j (to at a) (to at b)) p (primitives_room policy false 1 refl) (omega arith) (at_between at from last lands a g, tt)
+        visits_route j 0 (primitives policy false) (free parts (point.Label m) f j (to at a) (to at b)) p (primitives_room policy false 1 refl)
+        (omega arith) (at_between at from last lands a g, tt)
     point_route at from last lands (point.Open d) f j a b p g h = (at_between at from last lands a g, tt)
     point_route at from last lands (point.Close d) f j a b p g h = (at_between at from last lands a g, tt)
     point_route at from last lands (point.Call m) f j a b p g h =
@@ -105,7 +120,8 @@ not_below : (m n : ℕ) → (n < m → ⊥) → m ≤ n
 not_below m n f = elim (leb_tells m n) [ inl h ↦ h.1 | inr h ↦ absurd (f h.1) ]
 
 -- The points from one to another lead to such points; at the last an exit stands. So their positions lead to theirs.
-module _ (policy : PlainPolicy) (parts : List Part) (ns : List Node) (from last : ℕ) (exit : Node) (ends : slice_get ns last ≡ Some exit) (is_exit : exit.point ≡ point.Exit)
+module _ (policy : PlainPolicy) (parts : List Part) (ns : List Node) (from last : ℕ) (exit : Node) (ends : slice_get ns last ≡ Some exit)
+    (is_exit : exit.point ≡ point.Exit)
     (stay : (p : ℕ) (n : Node) → slice_get ns p ≡ Some n → IsBetween from last p → NodeGoes from last n) where
   abbrev w : Node → ℕ
   w n = width policy parts n.point
@@ -116,7 +132,8 @@ module _ (policy : PlainPolicy) (parts : List Part) (ns : List Node) (from last 
   last_one : base policy parts ns (last + 1) ≡ base policy parts ns last + 1
   last_one = begin_more w ns last exit ends ∙ ap (λ k. base policy parts ns last + width policy parts k) is_exit
 
-  pub positions_stay : (q : ℕ) (s : Spot) → slice_get (spots_in policy parts ns) q ≡ Some s → IsBetween (base policy parts ns from) (base policy parts ns last) q
+  pub positions_stay : (q : ℕ) (s : Spot) → slice_get (spots_in policy parts ns) q ≡ Some s
+      → IsBetween (base policy parts ns from) (base policy parts ns last) q
       → LeadsBetween (base policy parts ns from) (base policy parts ns last) q s
   positions_stay q s e b =
       let r = found (spots_at policy parts at) w (width_at policy parts at) ns q s e in
@@ -127,9 +144,11 @@ module _ (policy : PlainPolicy) (parts : List Part) (ns : List Node) (from last 
       let here : at r.0 ≤ q = omega (arith, r.5) in
       let ahead : q < at (r.0 + 1) = omega (arith, r.5, inside, wide, next) in
       let low : from ≤ r.0 = not_below from r.0 (λ l. let m = rise w ns (r.0 + 1) from (omega (arith, l)) in omega (arith, m, ahead, b.0)) in
-      let top : r.0 ≤ last = not_below r.0 last (λ l. let m = rise w ns (last + 1) r.0 (omega (arith, l)) in omega (arith, m, last_one, here, b.1)) in
+      let top : r.0 ≤ last = not_below r.0 last (λ l. let m = rise w ns (last + 1) r.0 (omega (arith, l)) in omega
+      (arith, m, last_one, here, b.1)) in
       let room = rise w ns (r.0 + 1) (last + 1) (omega (arith, top)) in
       let lands : (k : ℕ) → IsBetween from last k → IsBetween (at from) (at last) (at k) = λ k h. (rise w ns from k h.0, rise w ns k last h.1) in
-      let all = point_route (at from) (at last) policy parts at from last lands n.point n.function (number n.seam) (first_of n.next) (second_of n.next) (at r.0) (stay r.0 n r.3 (low, top))
+      let all = point_route (at from) (at last) policy parts at from last lands n.point n.function (number n.seam) (first_of n.next)
+      (second_of n.next) (at r.0) (stay r.0 n r.3 (low, top))
       (omega (arith, room, next, last_one)) in
       subst (λ p. LeadsBetween (at from) (at last) p s) (sym r.5) (route_at (at from) (at last) (at r.0) (spots_at policy parts at n) r.2 s all r.4)

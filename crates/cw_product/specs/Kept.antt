@@ -37,8 +37,8 @@ IsDescriptor h d = d < length h.states.policy.descriptors.items
 abbrev pub IsLabel : Held → ℕ → Type 0
 IsLabel h l = l ≤ length h.states.policy.labels.items
 
--- What stands at p leads to positions, and its primitive, its descriptor and its label are the policy's, or the one label more. A function's number fits
--- its type.
+-- What stands at p leads to positions, and its primitive, its descriptor and its label are the policy's, or the one label more. A function's
+-- number fits its type.
 abbrev pub IsFine : Held → ℕ → Spot → Type 0
 IsFine h p (Visit j i a) = IsPosition (game_of h) (p + 2)
 IsFine h p (Asked j i a) = IsPosition (game_of h) (p + 1) × IsFollowed (game_of h) p a × IsPrimitive (game_of h) a

@@ -85,7 +85,8 @@ impl<'g> Game<'g> {
         requires few { length graph.now.nodes.items ≤ 8192 }
         ensures graph { IfOk result (λ g. g.graph ≡ graph.now) }
         ensures policy { IfOk result (λ g. g.states.policy ≡ policy.now) }
-        ensures lists { IfOk result (λ g. AreLists (uses_of (policy_of policy.now) graph.now.nodes.items) (lists_of g.states)) }
+        ensures lists { IfOk result (λ g.
+            AreLists (uses_of (policy_of policy.now) graph.now.nodes.items) (lists_of g.states)) }
         ensures few { IfOk result (λ g. AreFew (lists_of g.states)) }
         ensures pairs { IfOk result (λ g. length (game_of g).spots * (game_of g).states.count ≤ limit_of PositionsTimesStates) }
         ensures cause { IfErr result (λ fault. IsCause (policy_of policy.now) graph.now fault) }
@@ -130,7 +131,8 @@ impl<'g> Game<'g> {
     /// at positions, and those from the one to the other lead to one another; from states each call leads to states; the rights
     /// states, the policy states and their pairs are within their limits, and so are the pairs of a position and a state.
     pub fn is_closed(&self)
-        ensures leads { (p : ℕ) (s : SpotOf) → slice_get (game_of self.now).spots p ≡ Some s → LeadsWithin (length (game_of self.now).spots) (length self.now.graph.parts.items) p s }
+        ensures leads { (p : ℕ) (s : SpotOf) → slice_get (game_of self.now).spots p ≡ Some s
+            → LeadsWithin (length (game_of self.now).spots) (length self.now.graph.parts.items) p s }
         ensures main { self.now.graph.main < length self.now.graph.parts.items }
         ensures routes { (f : ℕ) → f < length self.now.graph.parts.items → IsRoute (game_of self.now) f }
         ensures states { StayBelow (game_of self.now).states }
