@@ -6,3 +6,4 @@ pub mod OneAnswer
 pub mod OneRow
 pub mod Puts
 pub mod RowLines
+pub mod SomeAnswer

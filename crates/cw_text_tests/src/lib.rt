@@ -1,0 +1,5 @@
+//! Tests of texts made of lines, read and written, with values from outside.
+#![tactic(auto)]
+
+#[cfg(test)]
+mod strategies;
