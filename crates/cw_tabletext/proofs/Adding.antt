@@ -426,7 +426,7 @@ mems_more t n x is e0 e1 e2 e3 e4 e5 e6 =
 
 live_more : (t : Table) (x : _) → t.tries ≡ [] → t.ats ≡ [] → t.opened ≡ [] → t.closed ≡ [] → t.into ≡ [] → t.back ≡ [] → rows_of (with_row t (Live x)) ≡ rows_of t ++ Live x ∷ []
 unfolding rows_of
-live_more t x e0 e1 e2 e3 e4 e5 = simp (e0, e1, e2, e3, e4, e5, map-append, append-nil)
+live_more t x e0 e1 e2 e3 e4 e5 = simp (e0, e1, e2, e3, e4, e5, map-append, append-nil, append_assoc)
 
 tries_more : (t : Table) (x : _) → t.ats ≡ [] → t.opened ≡ [] → t.closed ≡ [] → t.into ≡ [] → t.back ≡ [] → rows_of (with_row t (Try x)) ≡ rows_of t ++ Try x ∷ []
 unfolding rows_of

@@ -71,7 +71,7 @@ begins_empty policy states start before rest few small is = (empty states start,
 
 -- ---- the lines of the head
 
-abbrev first_of : List (List ℕ) → List ℕ
+abbrev pub first_of : List (List ℕ) → List ℕ
 first_of [] = []
 first_of (x ∷ xs) = x
 
@@ -117,11 +117,11 @@ fault_1 policy text none =
     head_fault policy text [] text 1 refl (omega arith) (omega arith) (begins_empty policy 0 zero_mem [] (tables_lines policy (empty 0 zero_mem)) (omega arith) (omega arith) refl)
     (λ l g h. let same : header ≡ l = ap first_of h.5 in none g.0 (g.2 ∙ ap (λ x. line x ++ g.0) (sym same)))
 
-abbrev second_of : List (List ℕ) → List ℕ
+abbrev pub second_of : List (List ℕ) → List ℕ
 second_of [] = []
 second_of (x ∷ xs) = first_of xs
 
-abbrev third_of : List (List ℕ) → List ℕ
+abbrev pub third_of : List (List ℕ) → List ℕ
 third_of [] = []
 third_of (x ∷ xs) = second_of xs
 

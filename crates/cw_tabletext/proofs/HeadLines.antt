@@ -17,27 +17,27 @@ use Rattle.cw_tabletext.specs.TablesText.{table_words, head_lines, text_of}
 use Rattle.cw_tabletext.specs.Working.{FitsHead, head_fields, HeadRead, IsEmpty, TakesRow}
 use Rattle.cw_tabletext.proofs.RowLines.{same_first, IsMark, comma}
 
-abbrev words_at : ℕ → ℕ × MemId → List ℕ
+abbrev pub words_at : ℕ → ℕ × MemId → List ℕ
 words_at format p = table_words format p.0 p.1
 
-head_line : (format : ℕ) (p : ℕ × MemId) → words_at format p ≡ codes "CW_TABLE" ++ (40 ∷ (joined 44 (head_fields format p) ++ 41 ∷ []))
+pub head_line : (format : ℕ) (p : ℕ × MemId) → words_at format p ≡ codes "CW_TABLE" ++ (40 ∷ (joined 44 (head_fields format p) ++ 41 ∷ []))
 unfolding table_words
 head_line format p = refl
 
-name_free : IsFree 40 (codes "CW_TABLE")
-name_free = free_from_test (λ b. ltb 44 b) 40 (codes "CW_TABLE") refl refl
+pub head_name_free : IsFree 40 (codes "CW_TABLE")
+head_name_free = free_from_test (λ b. ltb 44 b) 40 (codes "CW_TABLE") refl refl
 
 pub head_fields_free : (mark : ℕ) → IsMark mark → (format : ℕ) (p : ℕ × MemId) → format < 2 ^ 8 → FitsHead p → All (IsFree mark) (head_fields format p)
 head_fields_free mark m format p small fits = All-from_recursion (IsFree mark) (head_fields format p)
     (decimal_free mark format m.digit (omega (arith, small)), (decimal_free mark p.0 m.digit (omega (arith, fits.0)), (decimal_free mark p.1.0 m.digit (omega (arith, fits.1)), tt)))
 
-words_are : (format : ℕ) (p : ℕ × MemId) → format < 2 ^ 8 → FitsHead p → words_of 44 (joined 44 (head_fields format p)) ≡ head_fields format p
+pub words_are : (format : ℕ) (p : ℕ × MemId) → format < 2 ^ 8 → FitsHead p → words_of 44 (joined 44 (head_fields format p)) ≡ head_fields format p
 words_are format p small fits = words-joined 44 _ _ (head_fields_free 44 comma format p small fits)
 
-head_parts : (format : ℕ) (p : ℕ × MemId) (line name inner : List ℕ) → format < 2 ^ 8 → FitsHead p → IsFree 40 name → line ≡ name ++ (40 ∷ (inner ++ 41 ∷ [])) → words_at format p ≡ line
+pub head_parts : (format : ℕ) (p : ℕ × MemId) (line name inner : List ℕ) → format < 2 ^ 8 → FitsHead p → IsFree 40 name → line ≡ name ++ (40 ∷ (inner ++ 41 ∷ [])) → words_at format p ≡ line
     → (name ≡ codes "CW_TABLE") × (words_of 44 inner ≡ head_fields format p)
 head_parts format p line name inner small fits free is e =
-    let both = one_line 40 name (codes "CW_TABLE") (inner ++ 41 ∷ []) (joined 44 (head_fields format p) ++ 41 ∷ []) free name_free (sym is ∙ sym e ∙ head_line format p) in
+    let both = one_line 40 name (codes "CW_TABLE") (inner ++ 41 ∷ []) (joined 44 (head_fields format p) ++ 41 ∷ []) free head_name_free (sym is ∙ sym e ∙ head_line format p) in
     let same : inner ≡ joined 44 (head_fields format p) = append_cancel_right inner (joined 44 (head_fields format p)) (41 ∷ []) both.1 in
     (both.0, ap (words_of 44) same ∙ words_are format p small fits)
 
@@ -48,7 +48,7 @@ other_version format version old new small also differs is = record {
 }
 
 pub no_call : (format : ℕ) (line : List ℕ) → ((name inner : List ℕ) → IsFree 40 name → line ≢ name ++ (40 ∷ (inner ++ 41 ∷ []))) → Reads FitsHead (words_at format) line None
-no_call format line h = record { some = tt; none = λ p fits e. h (codes "CW_TABLE") (joined 44 (head_fields format p)) name_free (sym e ∙ head_line format p) }
+no_call format line h = record { some = tt; none = λ p fits e. h (codes "CW_TABLE") (joined 44 (head_fields format p)) head_name_free (sym e ∙ head_line format p) }
 
 pub other_name : (format : ℕ) (line name inner : List ℕ) → format < 2 ^ 8 → IsFree 40 name → line ≡ name ++ (40 ∷ (inner ++ 41 ∷ [])) → name ≢ codes "CW_TABLE" → Reads FitsHead (words_at format) line None
 other_name format line name inner small free is differs = record { some = tt; none = λ p fits e. differs (head_parts format p line name inner small fits free is e).0 }

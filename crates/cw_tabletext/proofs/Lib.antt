@@ -5,3 +5,4 @@ pub mod Pieces
 pub mod Same
 pub mod Faults
 pub mod HeadLines
+pub mod OneAnswer
