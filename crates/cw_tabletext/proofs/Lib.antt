@@ -6,3 +6,4 @@ pub mod Same
 pub mod Faults
 pub mod HeadLines
 pub mod OneAnswer
+pub mod PlainLimits

@@ -1,6 +1,6 @@
 -- Each text has one answer at most: one table, or one fault.
 use Rattle.std.proofs.Common.{◌≡◌, ◌≢◌, ℕ, zero, suc, ◌+◌, ◌^◌, ◌<◌, ◌≤◌, ◌⊎◌, inl, inr, ltb, eqb, false, List, [], ◌∷◌, ◌++◌, map, length, drop, refl, sym, ap, ◌∙◌, subst, arith, append-nil, append_assoc, length-append}
-use Rattle.std.specs.Prelude.{codes}
+use Rattle.std.specs.Prelude.{codes, Result, Ok, Err}
 use Rattle.std.specs.List.{All, AllByRecursion, flat_map}
 use Rattle.std.proofs.lemmas.List.Elements.{All-append, All-cons, All-nil}
 use Rattle.std.proofs.lemmas.Fmt.{decimal_injective}
@@ -14,7 +14,7 @@ use Rattle.cw_lines.proofs.Free.{one_line, free_from_test, joined_free}
 use Rattle.cw_tabletext.specs.declared.row.Row.{Row}
 use Rattle.cw_tabletext.specs.Rows.{rows_of, row_words, name_of, fields_of}
 use Rattle.cw_tabletext.specs.TablesText.{header, limits_words, table_words, head_lines, tables_lines, tables_text, text_of, done}
-use Rattle.cw_tabletext.specs.Grammar.{IsMem, Fits, IsOrdered, IsTable, Spells, BeginsAny, Begins, HasRows, IsHead, IsRow, IsDone, IsDue, GoesOn, IsWhole, IsWrong, IsFault}
+use Rattle.cw_tabletext.specs.Grammar.{IsMem, Fits, IsOrdered, IsTable, Spells, BeginsAny, Begins, HasRows, IsHead, IsRow, IsDone, IsDue, GoesOn, IsWhole, IsWrong, IsFault, Answers}
 use Rattle.cw_tabletext.specs.Working.{FitsHead, head_fields, row_lines}
 use Rattle.cw_tabletext.proofs.Adding.{mems_are, live_are, tries_are, ats_are, opened_are, closed_are, into_are, back_are, picked, mems_in, live_in, tries_in, ats_in, opened_in, closed_in, into_in, back_in}
 use Rattle.cw_tabletext.proofs.Faults.{line_is, the_line, first_of, second_of, third_of}
@@ -132,12 +132,24 @@ place format (x ∷ rows) (d ∷ ds) more l all e = further (place format rows d
 due : (policy : PlainPolicy) (before : List (List ℕ)) (l : List ℕ) → BeginsAny policy (before ++ l ∷ []) → IsDue policy before l
 due policy [] l b = inl (b.0.states, b.0.start, _, b.2.states, b.2.start, ap (λ x. x ∷ limits_words policy ∷ table_words policy.format b.0.states b.0.start ∷ []) (ap first_of b.3))
 due policy (x ∷ []) l b =
-    inl (b.0.states, b.0.start, _, b.2.states, b.2.start,
-    ap (λ z. z ∷ limits_words policy ∷ table_words policy.format b.0.states b.0.start ∷ []) (ap first_of b.3) ∙ ap (λ z. x ∷ z ∷ table_words policy.format b.0.states b.0.start ∷ []) (ap second_of b.3))
+    inl (
+      b.0.states,
+      b.0.start,
+      _,
+      b.2.states,
+      b.2.start,
+      ap (λ z. z ∷ limits_words policy ∷ table_words policy.format b.0.states b.0.start ∷ []) (ap first_of b.3) ∙ ap (λ z. x ∷ z ∷ table_words policy.format b.0.states b.0.start ∷ []) (ap second_of b.3),
+    )
 due policy (x ∷ y ∷ []) l b =
-    inl (b.0.states, b.0.start, _, b.2.states, b.2.start,
-    ap (λ z. z ∷ limits_words policy ∷ table_words policy.format b.0.states b.0.start ∷ []) (ap first_of b.3) ∙ ap (λ z. x ∷ z ∷ table_words policy.format b.0.states b.0.start ∷ []) (ap second_of b.3)
-    ∙ ap (λ z. x ∷ y ∷ z ∷ []) (ap third_of b.3))
+    inl (
+      b.0.states,
+      b.0.start,
+      _,
+      b.2.states,
+      b.2.start,
+      ap (λ z. z ∷ limits_words policy ∷ table_words policy.format b.0.states b.0.start ∷ []) (ap first_of b.3) ∙ ap (λ z. x ∷ z ∷ table_words policy.format b.0.states b.0.start ∷ []) (ap second_of b.3)
+          ∙ ap (λ z. x ∷ y ∷ z ∷ []) (ap third_of b.3),
+    )
 due policy (x ∷ y ∷ z ∷ ds) l b =
     inr (by_place (place policy.format (rows_of b.0) ds b.1 l b.2.rows (ap (drop 3) b.3 ∙ append_assoc ds (l ∷ []) b.1)))
   where
@@ -233,3 +245,15 @@ not_both policy text t fault small limits p q =
     by_split (inl h) = no_wrong_at_end policy q.before fault (t, p.table, h.lines) (subst (λ r. IsWrong policy q.before r fault) h.rest q.wrong)
     by_split (inr (inl h)) = longer_is_wrong policy q.before (tables_lines policy t) q.rest [] fault small limits (t, [], p.table, sym (append-nil (tables_lines policy t))) q.wrong h
     by_split (inr (inr h)) = nothing_left h.next (text_of h.more ++ q.rest) h.rest
+
+abbrev ok : Table → Result Table TextFault
+ok t = Ok t
+
+-- what a reader answers for a table's text is the table, unless memory ran out
+pub read_back : (policy : PlainPolicy) (text : List ℕ) (t : Table) (answer : Result Table TextFault) → policy.format < 2 ^ 8 → IsFree 10 (limits_words policy) → Spells policy text t → Answers policy text answer
+    → (answer ≡ Ok t) ⊎ (answer ≡ Err NoMemory)
+read_back policy text t (Ok u) small limits p q = inl (ap (λ (v : Table). ok v) (one_table policy text u t small limits q p))
+read_back policy text t (Err (Line n)) small limits p q = absurd (not_both policy text t (Line n) small limits p q)
+read_back policy text t (Err (Order n)) small limits p q = absurd (not_both policy text t (Order n) small limits p q)
+read_back policy text t (Err (Limit n)) small limits p q = absurd (not_both policy text t (Limit n) small limits p q)
+read_back policy text t (Err NoMemory) small limits p q = inr refl

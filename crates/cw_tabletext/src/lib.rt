@@ -5,6 +5,7 @@ mod draft;
 mod fields;
 mod head;
 mod keys;
+pub mod laws;
 mod line;
 mod reading;
 mod row;
