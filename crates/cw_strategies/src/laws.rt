@@ -18,6 +18,11 @@ pub fn one_answer(text: &[u8], format: u8)
     ensures one { (a b : Result Strategy Fault) → IsAnswer format text.now a → IsAnswer format text.now b → a ≡ b }
 {}
 
+/// Each text is that of a strategy, or has a fault.
+pub fn some_answer(text: &[u8], format: u8)
+    ensures some { (answer : Result Strategy Fault) × IsAnswer format text.now answer }
+{}
+
 /// What is printed is read again as the value: the strategy, where it has a text, or want of memory.
 pub fn read_again(alloc: Global, cert: &EnvCert, format: u8) -> Result<EnvCert, TextFault>
     requires fits { Fits format (strategy_of cert.now) }

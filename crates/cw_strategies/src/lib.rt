@@ -9,6 +9,6 @@ mod row;
 mod steps;
 mod wording;
 
-pub use laws::{one_answer, read_again};
+pub use laws::{one_answer, read_again, some_answer};
 pub use printing::{print_env, strategy_bytes};
 pub use reading::read_env;
