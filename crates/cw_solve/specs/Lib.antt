@@ -1,0 +1,4 @@
+-- The definitions.
+pub mod Contexts
+pub mod Rounds
+pub mod Routes

@@ -1,0 +1,8 @@
+//! The heights of pairs and the needed contexts of a game.
+#![tactic(auto)]
+
+pub mod contexts;
+pub mod fault;
+
+pub use contexts::Context;
+pub use fault::SolveFault;
