@@ -1,6 +1,12 @@
 -- The proofs.
+pub mod Calling
+pub mod Counts
 pub mod Falls
 pub mod Looking
+pub mod Moves
+pub mod Rounding
 pub mod Slots
 pub mod Still
+pub mod Tabling
+pub mod Turning
 pub mod Written

@@ -9,28 +9,25 @@ use Rattle.std.proofs.lemmas.Option.{same_Some, get_or_from_slice_get, slice_get
 use Rattle.cw_game.specs.Games.{Game}
 use Rattle.cw_solve.specs.declared.contexts.Context.{Context}
 use Rattle.cw_solve.specs.Contexts.{context, IsOf, size, cells_of}
-use Rattle.cw_solve.specs.Rounds.{slot, IsCell}
+use Rattle.cw_solve.specs.Rounds.{base, slot, IsCell}
 
 module _ (g : Game) (contexts : List Context) where
-  abbrev pub base : ℕ → ℕ
-  base i = cells_of g (take i contexts)
-
   abbrev size_of : Context → ℕ
   size_of c = size g c.function
 
   -- the cells of a context follow those of the contexts before it
-  pub base_more : (i : ℕ) (c : Context) → slice_get contexts i ≡ Some c → base (i + 1) ≡ base i + size g c.function
-  base_more i c at = sum_by_more size_of contexts i c (slice_get_within contexts i c at) ∙ ap (λ (y : Context). base i + size_of y) (get_or_from_slice_get contexts i c c at)
+  pub base_more : (i : ℕ) (c : Context) → slice_get contexts i ≡ Some c → base g contexts (i + 1) ≡ base g contexts i + size g c.function
+  base_more i c at = sum_by_more size_of contexts i c (slice_get_within contexts i c at) ∙ ap (λ (y : Context). base g contexts i + size_of y) (get_or_from_slice_get contexts i c c at)
 
   -- and lie within those of all
-  pub base_rises : (i d : ℕ) → base i ≤ base (i + d)
+  pub base_rises : (i d : ℕ) → base g contexts i ≤ base g contexts (i + d)
   base_rises i d =
       let e : take i (take (i + d) contexts) ≡ take i contexts = take-take i (i + d) contexts (omega arith) in
       let le = sum_by-take-le size_of (take (i + d) contexts) i in
       let z = ap (sum_by size_of) e in
       omega (arith, le, z)
 
-  pub base_within : (i : ℕ) (c : Context) → slice_get contexts i ≡ Some c → base i + size g c.function ≤ cells_of g contexts
+  pub base_within : (i : ℕ) (c : Context) → slice_get contexts i ≡ Some c → base g contexts i + size g c.function ≤ cells_of g contexts
   base_within i c at =
       let le = sum_by_more_le size_of contexts i c (slice_get_within contexts i c at) in
       let e = ap size_of (get_or_from_slice_get contexts i c c at) in
@@ -64,7 +61,7 @@ module _ (g : Game) (contexts : List Context) where
   apart i j c d p r q x lt is are =
       let more = base_more i c is.at in
       let e : j ≡ i + 1 + (j - (i + 1)) = omega (arith, lt) in
-      let rises : base (i + 1) ≤ base j = rw e (base_rises (i + 1) (j - (i + 1))) in
+      let rises : base g contexts (i + 1) ≤ base g contexts j = rw e (base_rises (i + 1) (j - (i + 1))) in
       omega (arith, more, rises, within i c p q is)
 
   pub same_slot : (i j : ℕ) (c d : Context) (p r q x : ℕ) → IsCell g contexts i c p q → IsCell g contexts j d r x → slot g contexts i c.function p q ≡ slot g contexts j d.function r x
@@ -85,3 +82,20 @@ module _ (g : Game) (contexts : List Context) where
           let e2 : slot g contexts i c.function r x ≡ slot g contexts j d.function r x = ap₂ (λ (k : ℕ) (y : Context). slot g contexts k y.function r x) z same in
           let s = same_row i c p r q x is there (omega (arith, e, e2)) in
           record { number = z; context = same; position = s.position; state = s.state }
+
+  -- the next cell of a position, the first of the next position, and where the cells of a context begin and end
+  pub slot_next : (i f p q : ℕ) → slot g contexts i f p q + 1 ≡ slot g contexts i f p (q + 1)
+  slot_next i f p q = omega arith
+
+  pub slot_row : (i f p : ℕ) → g.entry f ≤ p → slot g contexts i f p g.states.count ≡ slot g contexts i f (p + 1) 0
+  slot_row i f p le =
+      let e : p + 1 - g.entry f ≡ suc (p - g.entry f) = omega (arith, le) in
+      rw e (omega arith)
+
+  pub slot_begins : (i f : ℕ) → base g contexts i ≡ slot g contexts i f (g.entry f) 0
+  slot_begins i f =
+      let e : g.entry f - g.entry f ≡ 0 = omega arith in
+      rw e (omega arith)
+
+  pub slot_ends : (i : ℕ) (c : Context) → slice_get contexts i ≡ Some c → slot g contexts i c.function (g.exit c.function + 1) 0 ≡ base g contexts (i + 1)
+  slot_ends i c at = let more = base_more i c at in omega (arith, more)

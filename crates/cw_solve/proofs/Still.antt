@@ -24,13 +24,13 @@ same_unless : (yes a b : Bool) → (yes ≡ false → a ≡ b) → (not yes && a
 same_unless true a b f = refl
 same_unless false a b f = f refl
 
-first_of_two : (a b : ℕ) → Contains (a ∷ b ∷ []) a
+pub first_of_two : (a b : ℕ) → Contains (a ∷ b ∷ []) a
 first_of_two a b = (0, omega arith, refl)
 
-second_of_two : (a b : ℕ) → Contains (a ∷ b ∷ []) b
+pub second_of_two : (a b : ℕ) → Contains (a ∷ b ∷ []) b
 second_of_two a b = (1, omega arith, refl)
 
-only : (a : ℕ) → Contains (a ∷ []) a
+pub only : (a : ℕ) → Contains (a ∷ []) a
 only a = (0, omega arith, refl)
 
 -- a context that is tabled has a number

@@ -5,9 +5,13 @@ use Rattle.cw_game.specs.Games.{Game, Holds}
 use Rattle.cw_game.specs.Pairs.{has, Called, call_in, kept_at}
 use Rattle.cw_solve.specs.Contexts.{context, IsOf, cells_of, IsHeight, promise_at, IsSetOf}
 
+-- where the cells of the context number i begin: behind those of the contexts before it
+abbrev pub base : Game → List Context → ℕ → ℕ
+base g contexts i = cells_of g (take i contexts)
+
 -- the cell of a pair in the context number i, of this function
 abbrev pub slot : Game → List Context → ℕ → ℕ → ℕ → ℕ → ℕ
-slot g contexts i function p q = cells_of g (take i contexts) + ((p - g.entry function) * g.states.count + q)
+slot g contexts i function p q = base g contexts i + ((p - g.entry function) * g.states.count + q)
 
 -- a context with its number, a position of its function, a state
 pub record IsCell (g : Game) (contexts : List Context) (i : ℕ) (c : Context) (p q : ℕ) : Type 0 where

@@ -3,6 +3,8 @@
 
 pub mod contexts;
 pub mod fault;
+mod look;
+mod table;
 
 pub use contexts::Context;
 pub use fault::SolveFault;

@@ -1,0 +1,176 @@
+-- Where moves and calls of a cell lead.
+use Rattle.std.proofs.Common.{◌≡◌, ℕ, zero, suc, ◌+◌, ◌-◌, ◌*◌, ◌<◌, ◌≤◌, ◌⊎◌, List, [], ◌∷◌, Bool, true, false, cond, not, ◌&&◌, ◌||◌, Option, Some, None, length, get_or, refl, sym, ap, ap₂, ◌∙◌, subst, arith, inl, inr}
+use Rattle.std.specs.Prelude.{slice_get, slice_index, nat_eq, nat_lt, Contains, option_map, position}
+use Rattle.std.proofs.lemmas.Bool.{eq-eqb, eqb-true}
+use Rattle.std.proofs.lemmas.Option.{slice_get_within, slice_get-get_or, get_or_from_slice_get, same_Some, none-some}
+use Rattle.std.proofs.lemmas.List.Quantifiers.{position-Some}
+use Rattle.std.proofs.lemmas.List.Sums.{prefix_len_passes}
+use Rattle.cw_actions.proofs.Places.{no_place}
+use Rattle.cw_rights.specs.declared.capabilities.Primitive.{Primitive}
+use Rattle.cw_rights.specs.declared.capabilities.Primitive.TheVariants.{Limit, Enter, Split}
+use Rattle.cw_certs.specs.declared.moves.Move.{Move}
+use Rattle.cw_certs.specs.declared.moves.Move.TheVariants.{Skip, Try, Grant, Refuse, On, Left, Right, Opened, Failed}
+use Rattle.cw_game.specs.declared.spots.Spot.{Spot}
+use Rattle.cw_game.specs.declared.spots.Spot.TheVariants.{Visit, Asked, Step, Branch, Label, Open, Close, Call, SplitCall, Exit}
+use Rattle.cw_game.specs.Games.{Game, Config, refuses_in, bad_in, past_asked, leads_in, returned, Promise, holds_in, Holds}
+use Rattle.cw_game.specs.Pairs.{has, all_states, Called, call_in, is_call_in, is_exit_in, call_spot, kept_at}
+use Rattle.cw_product.specs.Moves.{pair_of, is_left_in, next_in, next_at}
+use Rattle.cw_solve.specs.declared.contexts.Context.{Context}
+use Rattle.cw_solve.specs.declared.table.Table.{Table}
+use Rattle.cw_solve.specs.declared.table.Tabled.{Tabled}
+use Rattle.cw_solve.specs.Contexts.{context, IsOf, size, cells_of, promise_at, IsSetOf, IsNeeded, of_main, of_call, AreNeeded}
+use Rattle.cw_solve.specs.Routes.{IsState, targets, IsThere, AreRouted}
+use Rattle.cw_solve.specs.Rounds.{slot, IsCell, IsAsked}
+use Rattle.cw_solve.specs.Tables.{IsTable, IsTabled, HasCell, HasCall, IsMissing}
+use Rattle.cw_solve.proofs.Falls.{AreSame, holds_same, back_stays, member_is}
+use Rattle.cw_solve.proofs.Still.{first_of_two, second_of_two, only, holds_call}
+use Rattle.cw_solve.proofs.Tabling.{there_at}
+
+-- a choice that is made
+chosen : {X : Type 0} (b : Bool) (a x : X) → cond b (Some a) None ≡ Some x → a ≡ x
+chosen true a x e = same_Some a x e
+chosen false a x e = absurd (none-some x e)
+
+left : {X : Type 0} (b : Bool) (o : Option X) (x : X) → cond b None o ≡ Some x → (b ≡ false) × (o ≡ Some x)
+left true o x e = absurd (none-some x e)
+left false o x e = (refl, e)
+
+mapped : {X Y : Type 0} (f : X → Y) (o : Option X) (y : Y) → option_map f o ≡ Some y → (x : X) × (o ≡ Some x) × (f x ≡ y)
+mapped f None y e = absurd (none-some y e)
+mapped f (Some x) y e = (x, refl, same_Some (f x) y e)
+
+neither : (a b c : Bool) → (a || (b || c)) ≡ false → b ≡ false
+neither true b c e = cc
+neither false true c e = cc
+neither false false c e = refl
+
+module _ (g : Game) where
+  -- a move leads to a position of the same function
+  target : (p q : ℕ) (s : Option Spot) (by : Move) (c : Config) → is_call_in s ≡ false → leads_in g p q [] s by ≡ Some c → Contains (targets p s) c.pos
+  target p q (Some (Visit j i a)) Skip c k e = subst (λ (y : Config). Contains (targets p (Some (Visit j i a))) y.pos) (same_Some _ c e) (first_of_two (p + 2) (p + 1))
+  target p q (Some (Visit j i a)) Try c k e = subst (λ (y : Config). Contains (targets p (Some (Visit j i a))) y.pos) (same_Some _ c e) (second_of_two (p + 2) (p + 1))
+  target p q (Some (Asked j i Split)) Grant c k e = subst (λ (y : Config). Contains (targets p (Some (Asked j i Split))) y.pos) (chosen (g.states.may_grant q Split) _ c e) (first_of_two (p + 2) (p + 1))
+  target p q (Some (Asked j i Enter)) Grant c k e = subst (λ (y : Config). Contains (targets p (Some (Asked j i Enter))) y.pos) (chosen (g.states.may_grant q Enter) _ c e) (only (p + 1))
+  target p q (Some (Asked j i (Limit l))) Grant c k e = subst (λ (y : Config). Contains (targets p (Some (Asked j i (Limit l)))) y.pos) (chosen (g.states.may_grant q (Limit l)) _ c e) (only (p + 1))
+  target p q (Some (Asked j i Split)) Refuse c k e = subst (λ (y : Config). Contains (targets p (Some (Asked j i Split))) y.pos) (chosen (refuses_in g q Split) _ c e) (second_of_two (p + 2) (p + 1))
+  target p q (Some (Asked j i Enter)) Refuse c k e = subst (λ (y : Config). Contains (targets p (Some (Asked j i Enter))) y.pos) (chosen (refuses_in g q Enter) _ c e) (only (p + 1))
+  target p q (Some (Asked j i (Limit l))) Refuse c k e = subst (λ (y : Config). Contains (targets p (Some (Asked j i (Limit l)))) y.pos) (chosen (refuses_in g q (Limit l)) _ c e) (only (p + 1))
+  target p q (Some (Step n)) On c k e = subst (λ (y : Config). Contains (targets p (Some (Step n))) y.pos) (same_Some _ c e) (only n)
+  target p q (Some (Branch m n)) Left c k e = subst (λ (y : Config). Contains (targets p (Some (Branch m n))) y.pos) (same_Some _ c e) (first_of_two m n)
+  target p q (Some (Branch m n)) Right c k e = subst (λ (y : Config). Contains (targets p (Some (Branch m n))) y.pos) (same_Some _ c e) (second_of_two m n)
+  target p q (Some (Label j l n)) On c k e = subst (λ (y : Config). Contains (targets p (Some (Label j l n))) y.pos) (same_Some _ c e) (only n)
+  target p q (Some (Open j d n)) Opened c k e = subst (λ (y : Config). Contains (targets p (Some (Open j d n))) y.pos) (same_Some _ c e) (only n)
+  target p q (Some (Open j d n)) Failed c k e = subst (λ (y : Config). Contains (targets p (Some (Open j d n))) y.pos) (same_Some _ c e) (only n)
+  target p q (Some (Close j d n)) On c k e = subst (λ (y : Config). Contains (targets p (Some (Close j d n))) y.pos) (same_Some _ c e) (only n)
+  target p q (Some (Call j f n)) by c k e = cc
+  target p q (Some (SplitCall j f n)) by c k e = cc
+  target p q s by c k e = absurd (none-some c e)
+
+  next_target : (p q : ℕ) (s : Option Spot) (by : Move) (r : ℕ × ℕ) → next_in g p q s by ≡ Some r → Contains (targets p s) r.0
+  next_target p q s by r e =
+      let l = left (is_left_in g q s) (option_map pair_of (leads_in g p q [] s by)) r e in
+      let m = mapped pair_of (leads_in g p q [] s by) r l.1 in
+      let at = target p q s by m.0 (neither (bad_in g q s) (is_call_in s) (is_exit_in s) l.0) m.1 in
+      subst (λ (y : ℕ × ℕ). Contains (targets p s) y.0) m.2 at
+
+-- a call by its parts
+abbrev pub the_call : ℕ → ℕ → ℕ → Bool → Called
+the_call seam function back split = record { seam = seam; function = function; back = back; split = split }
+
+pub called : (o : Option Spot) (split : Bool) (j f n : ℕ) → o ≡ Some (call_spot split j f n) → call_in o ≡ Some (the_call j f n split)
+called o true j f n e = ap call_in e
+called o false j f n e = ap call_in e
+
+-- the context with a number, and where none is
+is_context : ℕ → ℕ → Context → Bool
+is_context f e c = nat_eq c.function f && nat_eq c.promise e
+
+both : (a b : Bool) → (a && b) ≡ true → (a ≡ true) × (b ≡ true)
+both true b h = (refl, h)
+both false b h = cc
+
+pub place_is : (contexts : List Context) (f e i : ℕ) → position (λ (c : Context). nat_eq c.function f && nat_eq c.promise e) contexts ≡ Some i → slice_get contexts i ≡ Some (context f e)
+place_is contexts f e i h =
+    let d : Context = context f e in
+    let s = position-Some (λ (c : Context). nat_eq c.function f && nat_eq c.promise e) contexts i d h in
+    let c : Context = get_or contexts i d in
+    let b = both (nat_eq c.function f) (nat_eq c.promise e) s.1 in
+    let same : c ≡ d = ap₂ context (eqb-true c.function f b.0) (eqb-true c.promise e b.1) in
+    slice_get-get_or contexts i d s.0 ∙ ap (λ (y : Context). Some y) same
+
+seeks_all : (p : Context → Bool) (xs : List Context) → position p xs ≡ None → (k : ℕ) (d : Context) → k < length xs → p (get_or xs k d) ≡ false
+seeks_all p xs h k d lt =
+    let n = no_place p xs (sym h) in
+    let passes = prefix_len_passes (λ x. not (p x)) xs k d (omega (arith, lt, n)) in
+    fails (p (get_or xs k d)) passes
+  where
+    fails : (b : Bool) → not b ≡ true → b ≡ false
+    fails true h = cc
+    fails false h = refl
+
+pub place_none : (contexts : List Context) (f e : ℕ) → position (λ (c : Context). nat_eq c.function f && nat_eq c.promise e) contexts ≡ None → Contains contexts (context f e) → ⊥
+place_none contexts f e h is =
+    let p : Context → Bool = λ c. nat_eq c.function f && nat_eq c.promise e in
+    let none = seeks_all p contexts h is.0 (context f e) is.1 in
+    let some : p (context f e) ≡ true = ap₂ (λ a b. a && b) (eq-eqb f f refl) (eq-eqb e e refl) in
+    let z : true ≡ false = sym some ∙ ap p (sym is.2) ∙ none in
+    cc
+
+
+module _ (g : Game) (functions : ℕ) (routed : AreRouted g functions) (t : Table) (table : IsTable g t) where
+  pub cell_within : (at : Tabled) (p q : ℕ) → HasCell g t at p q → p < length g.spots
+  cell_within at p q is = let th = there_at g functions routed t table at.number at.context is.at in omega (arith, th.ends, is.of.1)
+
+  -- a move leads to a cell of the same context
+  pub moved : (at : Tabled) (p q : ℕ) (by : Move) (r x : ℕ) → HasCell g t at p q → next_at g p q by ≡ Some (r, x) → IsState g x → HasCell g t at r x
+  moved at p q by r x is e s = record {
+    at = is.at;
+    of = routed.stays at.context.function p r is.of (next_target g p q (slice_get g.spots p) by (r, x) e);
+    state = s;
+  }
+
+  -- and so does a call's return
+  pub back_cell : (at : Tabled) (p q f back : ℕ) (split : Bool) → HasCell g t at p q → HasCall g p f back split → HasCell g t at back q
+  back_cell at p q f back split is call = record {
+    at = is.at;
+    of = back_stays g functions routed at.context.function p (the_call call.0 f back split) is.of (called (slice_get g.spots p) split call.0 f back call.1);
+    state = is.state;
+  }
+
+  pub callee_there : (p f back : ℕ) (split : Bool) → HasCall g p f back split → IsThere g functions f
+  callee_there p f back split call = routed.called p (the_call call.0 f back split) (called (slice_get g.spots p) split call.0 f back call.1)
+
+  -- the cell of the called function
+  pub callee_cell : (p q f back : ℕ) (split : Bool) (at : Tabled) → IsState g q → HasCall g p f back split → slice_get t.contexts.items at.number ≡ Some at.context → at.context.function ≡ f
+      → HasCell g t at (g.entry f) q
+  callee_cell p q f back split at s call is e = record {
+    at = is;
+    of = let th = callee_there p f back split call in subst (λ (y : ℕ). IsOf g y (g.entry f)) (sym e) (omega arith, th.begins);
+    state = s;
+  }
+
+  -- what a call promises, where it isn't tabled
+  pub call_missing : (at : Tabled) (n p q f back set : ℕ) (split : Bool) → HasCell g t at p q → HasCall g p f back split → IsSetOf g set (promise_at g n back (kept_at split q) at.context.promise)
+      → (Contains t.contexts.items (context f set) → ⊥) → IsMissing g t (context f set)
+  call_missing at n p q f back set split is call set_is new = record {
+    needed = of_call at.context n p q set (the_call call.0 f back split)
+        (table.needed.needed at.context (at.number, slice_get_within t.contexts.items at.number at.context is.at, get_or_from_slice_get t.contexts.items at.number at.context at.context is.at))
+        is.of is.state (called (slice_get g.spots p) split call.0 f back call.1) set_is;
+    new = new;
+  }
+
+  -- and where it is
+  pub call_asked : (at : Tabled) (n p q f back set i : ℕ) (split : Bool) → HasCall g p f back split → IsSetOf g set (promise_at g n back (kept_at split q) at.context.promise)
+      → slice_get t.contexts.items i ≡ Some (context f set) → IsAsked g t.contexts.items n p q at.context.promise
+  call_asked at n p q f back set i split call set_is is other es =
+      let e : the_call call.0 f back split ≡ other = same_Some _ other (sym (called (slice_get g.spots p) split call.0 f back call.1) ∙ es) in
+      subst (λ (y : Called). (set : ℕ) × Contains t.contexts.items (context y.function set) × IsSetOf g set (promise_at g n y.back (kept_at y.split q) at.context.promise)) e
+      (set, (i, slice_get_within t.contexts.items i (context f set) is, get_or_from_slice_get t.contexts.items i (context f set) (context f set) is), set_is)
+
+  -- the call holds for one move more where the called function does for n under what is promised
+  pub call_holds : (at : Tabled) (n p q f back set : ℕ) (split : Bool) → HasCell g t at p q → HasCall g p f back split → IsSetOf g set (promise_at g n back (kept_at split q) at.context.promise)
+      → Holds g n (g.entry f) q (has set) ≡ Holds g (suc n) p q (has at.context.promise)
+  call_holds at n p q f back set split is call set_is =
+      holds_same g functions routed n (g.entry f) q (has set) (promise_at g n back (kept_at split q) at.context.promise) is.state
+      (λ x s. member_is g set (promise_at g n back (kept_at split q) at.context.promise) set_is x s)
+      ∙ sym (holds_call g functions routed (Holds g n) p q (has at.context.promise) (the_call call.0 f back split) (called (slice_get g.spots p) split call.0 f back call.1))

@@ -1,0 +1,40 @@
+-- What a table keeps tells of its contexts and cells.
+use Rattle.std.proofs.Common.{◌≡◌, ℕ, zero, suc, ◌+◌, ◌-◌, ◌*◌, ◌<◌, ◌≤◌, ◌⊎◌, List, Bool, true, false, cond, ◌&&◌, Option, Some, None, length, get_or, take, refl, sym, ap, ◌∙◌, subst, arith, inl, inr}
+use Rattle.std.specs.Prelude.{slice_get, slice_index, nat_eq, nat_lt, Contains, ◌||◌}
+use Rattle.std.proofs.lemmas.Bool.{ne_eqb}
+use Rattle.std.proofs.lemmas.List.{get_or_default}
+use Rattle.std.proofs.lemmas.Option.{slice_get_within, get_or_from_slice_get}
+use Rattle.cw_game.specs.Games.{Game, Promise, Holds}
+use Rattle.cw_game.specs.Pairs.{has, all_states, Called, call_in}
+use Rattle.cw_solve.specs.declared.contexts.Context.{Context}
+use Rattle.cw_solve.specs.declared.table.Table.{Table}
+use Rattle.cw_solve.specs.declared.table.Tabled.{Tabled}
+use Rattle.cw_solve.specs.Contexts.{context, IsOf, size, cells_of, IsNeeded, of_main, of_call, AreNeeded}
+use Rattle.cw_solve.specs.Routes.{IsState, IsThere, AreRouted}
+use Rattle.cw_solve.specs.Rounds.{slot, holds_by, IsCell, IsWritten, AreWritten}
+use Rattle.cw_solve.specs.Tables.{IsTable, IsTabled, HasCell}
+use Rattle.cw_solve.proofs.Written.{reads}
+use Rattle.cw_solve.proofs.Slots.{slot_within}
+
+module _ (g : Game) (functions : ℕ) (routed : AreRouted g functions) where
+  pub there : (c : Context) → IsNeeded g c → IsThere g functions c.function
+  there _ of_main = routed.main
+  there _ (of_call c n p q set call need of s es is) = routed.called p call es
+
+  pub there_at : (t : Table) → IsTable g t → (i : ℕ) (c : Context) → slice_get t.contexts.items i ≡ Some c → IsThere g functions c.function
+  there_at t is i c at = there c (is.needed.needed c (i, slice_get_within t.contexts.items i c at, get_or_from_slice_get t.contexts.items i c c at))
+
+  -- what is written tells whether a pair holds
+  pub read : (t : Table) (n : ℕ) → AreWritten g t.contexts.items t.heights.items n (suc n) → (at : Tabled) (p q k : ℕ) → HasCell g t at p q
+      → k ≡ slice_index t.heights.items (slot g t.contexts.items at.number at.context.function p q) → holds_by n k ≡ Holds g n p q (has at.context.promise)
+  read t n w at p q k is e = ap (holds_by n) e ∙ reads g functions routed n (suc n) p q at.context.promise (slice_index t.heights.items (slot g t.contexts.items at.number at.context.function p q)) is.state (w.each at.number at.context p q is)
+
+  pub read_some : (t : Table) (n : ℕ) → AreWritten g t.contexts.items t.heights.items n (suc n) → (at : Tabled) (p q k : ℕ) → HasCell g t at p q
+      → k ≡ slice_index t.heights.items (slot g t.contexts.items at.number at.context.function p q) → (k ≡ 0 → ⊥) → nat_lt n k ≡ Holds g n p q (has at.context.promise)
+  read_some t n w at p q k is e some = sym (ap (λ b. b || nat_lt n k) (ne_eqb k 0 some)) ∙ read t n w at p q k is e
+
+  -- where the cells of a context begin
+  pub base_at : (t : Table) → IsTable g t → (i : ℕ) (c : Context) → slice_get t.contexts.items i ≡ Some c → (k : ℕ) → k ≡ get_or t.bases.items i k → k ≡ cells_of g (take i t.contexts.items)
+  base_at t is i c at k e =
+      let lt : i < length t.contexts.items = slice_get_within t.contexts.items i c at in
+      e ∙ get_or_default t.bases.items i k 0 (omega (arith, lt, is.bases)) ∙ is.begins i lt

@@ -1,0 +1,34 @@
+use Rattle.std.proofs.Common.{rules, ◌≡◌, ◌<◌, ◌+◌, ◌-◌, ◌*◌, length, slice_index, take, arith, ◌∙◌, sym, ap, refl}
+use Rattle.std.proofs.lemmas.Option.{slice_get_within}
+use Rattle.cw_product.specs.Product.{game_of}
+use Rattle.cw_solve.specs.Contexts.{cells_of}
+use Rattle.cw_solve.specs.Rounds.{slot}
+use Rattle.cw_solve.proofs.Slots.{slot_within}
+use Rattle.cw_solve.proofs.Tabling.{there_at, base_at}
+use Rattle.cw_solve.proofs.table.slot.Goals as goal
+
+pub entry-requires : goal.entry-requires
+entry-requires c =
+    let at = c.args.at.now in
+    (there_at (game_of c.args.game.now) (length c.args.game.now.graph.parts.items) c.requires.routed c.args.table.now c.requires.table at.number at.context c.requires.cell.at).below
+
+pub index-requires : goal.index-requires
+index-requires c =
+    let t = c.args.table.now in
+    omega (arith, slice_get_within t.contexts.items c.args.at.now.number c.args.at.now.context c.requires.cell.at, c.requires.table.bases, t.bases.ok.0)
+
+pub returns-clause-is : goal.returns-clause-is
+returns-clause-is c =
+    let at = c.args.at.now in
+    let g = game_of c.args.game.now in
+    let b = base_at g (length c.args.game.now.graph.parts.items) c.requires.routed c.args.table.now c.requires.table at.number at.context c.requires.cell.at c.index.result.now c.index.ensures in
+    rw (b, c.entry.ensures.is, c.states.ensures) refl
+
+pub returns-clause-within : goal.returns-clause-within
+returns-clause-within c =
+    let at = c.args.at.now in
+    let g = game_of c.args.game.now in
+    let t = c.args.table.now in
+    let lt = slot_within g t.contexts.items at.number at.context c.args.pos.0 c.args.state.0 c.requires.cell in
+    let e = returns-clause-is c in
+    omega (arith, lt, e, c.requires.table.cells)

@@ -1,0 +1,249 @@
+//! A round looks at each cell once: whether its pair holds for one move more.
+
+ghost use Rattle.std.specs.Prelude.{◌≡◌, ◌+◌, ◌<◌, ◌≤◌, suc, false, count_by, length, slice_get, Contains, Some, OnErr, IfOk, IfErr, IfSome, IfNone};
+ghost use Rattle.cw_game.specs.Games.{Holds, bad_in};
+ghost use Rattle.cw_game.specs.Pairs.{has, is_call_in, is_exit_in, kept_at, call_in, Called};
+ghost use Rattle.cw_product.specs.Product.{game_of};
+ghost use Rattle.cw_product.specs.Moves.{next_at};
+ghost use Rattle.cw_solve.specs.Asking.{holds_after, holds_by_moves};
+ghost use Rattle.cw_solve.specs.Contexts.{IsOf, cells_of, context, promise_at, IsSetOf};
+ghost use Rattle.cw_solve.specs.Routes.{AreRouted};
+ghost use Rattle.cw_solve.specs.Rounds.{base, slot, AreWritten, IsAsked};
+ghost use Rattle.cw_solve.specs.Tables.{IsTable, IsTabled, HasCell, IsInRound, IsLater, IsMissing, HasCall, Writes, is_none};
+
+use crate::contexts::Context;
+use crate::table::{Table, Tabled, holds, place_of, promised, slot};
+use cw_certs::Move;
+use cw_core::{PosId, StateId};
+use cw_game::Spot;
+use cw_product::{Game, Turn};
+
+/// Whether the pair to which a move leads holds for n moves, or the move isn't there.
+fn holds_after(
+    game: &Game,
+    table: &Table,
+    n: u32,
+    at: &Tabled,
+    pos: PosId,
+    state: StateId,
+    by: Move,
+) -> bool
+    requires routed { AreRouted (game_of game.now) (length game.now.graph.parts.items) }
+    requires table { IsTable (game_of game.now) table.now }
+    requires cell { HasCell (game_of game.now) table.now at.now pos.0 state.0 }
+    requires written { AreWritten (game_of game.now) table.now.contexts.items table.now.heights.items n (suc n) }
+    ensures { result ≡ holds_after (λ p q e. Holds (game_of game.now) n p q e) (has at.now.context.promise) (next_at (game_of game.now) pos.0 state.0 by) }
+{
+    match game.next(pos, state, by) {
+        None => true,
+        Some((pos, state)) => holds(game, table, n, at, pos, state),
+    }
+}
+
+/// Whether a call holds for one move more; where what it promises isn't tabled, that context.
+fn call_holds(
+    game: &Game,
+    table: &Table,
+    n: u32,
+    at: &Tabled,
+    pos: PosId,
+    state: StateId,
+    function: u16,
+    back: PosId,
+    split: bool,
+) -> Result<bool, Context>
+    requires routed { AreRouted (game_of game.now) (length game.now.graph.parts.items) }
+    requires table { IsTable (game_of game.now) table.now }
+    requires cell { HasCell (game_of game.now) table.now at.now pos.0 state.0 }
+    requires written { AreWritten (game_of game.now) table.now.contexts.items table.now.heights.items n (suc n) }
+    requires call { HasCall (game_of game.now) pos.0 function back.0 split }
+    ensures holds { IfOk result (λ holds. holds ≡ Holds (game_of game.now) (suc n) pos.0 state.0 (has at.now.context.promise)) }
+    ensures asked { IfOk result (λ _. IsAsked (game_of game.now) table.now.contexts.items n pos.0 state.0 at.now.context.promise) }
+    ensures missing { IfErr result (λ c. IsMissing (game_of game.now) table.now c) }
+{
+    let promise = promised(game, table, n, at, state, back, split);
+    match place_of(&table.contexts, function, &promise) {
+        None => Err(Context { function, promise }),
+        Some(number) => {
+            let callee = Tabled {
+                number,
+                context: table.contexts[number],
+            };
+            Ok(holds(game, table, n, &callee, game.entry(function), state))
+        }
+    }
+}
+
+/// Whether a pair that is no call and no exit, and isn't bad, holds for one move more.
+fn moves_hold(
+    game: &Game,
+    table: &Table,
+    n: u32,
+    at: &Tabled,
+    pos: PosId,
+    state: StateId,
+) -> bool
+    requires routed { AreRouted (game_of game.now) (length game.now.graph.parts.items) }
+    requires table { IsTable (game_of game.now) table.now }
+    requires cell { HasCell (game_of game.now) table.now at.now pos.0 state.0 }
+    requires written { AreWritten (game_of game.now) table.now.contexts.items table.now.heights.items n (suc n) }
+    ensures { result ≡ holds_by_moves (game_of game.now) (λ p q e. Holds (game_of game.now) n p q e) pos.0 state.0 (has at.now.context.promise)
+        (slice_get (game_of game.now).spots pos.0) }
+{
+    let after = |by: Move| holds_after(game, table, n, at, pos, state, by);
+    match game.spot(pos) {
+        Spot::Visit(_, _, _) => after(Move::Skip) || after(Move::Try),
+        Spot::Asked(_, _, _) => after(Move::Grant) && after(Move::Refuse),
+        Spot::Branch(_, _) => after(Move::Left) && after(Move::Right),
+        Spot::Open(_, _, _) => after(Move::Opened) && after(Move::Failed),
+        _ => after(Move::On),
+    }
+}
+
+/// Whether a pair holds for one move more; where it is a call and what it promises isn't tabled, that context.
+fn next_holds(
+    game: &Game,
+    table: &Table,
+    n: u32,
+    at: &Tabled,
+    pos: PosId,
+    state: StateId,
+) -> Result<bool, Context>
+    requires routed { AreRouted (game_of game.now) (length game.now.graph.parts.items) }
+    requires table { IsTable (game_of game.now) table.now }
+    requires cell { HasCell (game_of game.now) table.now at.now pos.0 state.0 }
+    requires written { AreWritten (game_of game.now) table.now.contexts.items table.now.heights.items n (suc n) }
+    ensures holds { IfOk result (λ holds. holds ≡ Holds (game_of game.now) (suc n) pos.0 state.0 (has at.now.context.promise)) }
+    ensures asked { IfOk result (λ _. IsAsked (game_of game.now) table.now.contexts.items n pos.0 state.0 at.now.context.promise) }
+    ensures missing { IfErr result (λ c. IsMissing (game_of game.now) table.now c) }
+{
+    match game.turn(pos) {
+        Turn::Call {
+            callee,
+            split,
+            back,
+        } => call_holds(game, table, n, at, pos, state, callee, back, split),
+        Turn::Exit { main } => Ok(main || at.context.promise.contains(state)),
+        Turn::Weaver | Turn::Environment => {
+            Ok(!game.bad(pos, state) && moves_hold(game, table, n, at, pos, state))
+        }
+    }
+}
+
+/// Writes the height of a cell that has none.
+fn write(table: &mut Table, cell: usize, height: u32)
+    requires within { cell < length table.old.heights.items }
+    requires positive { 0 < height }
+    requires counted { table.old.written + count_by is_none table.old.heights.items ≡ length table.old.heights.items }
+    requires few { length table.old.heights.items ≤ 4194304 }
+    ensures written { Writes table.old table.new cell height }
+{
+    if table.heights[cell] == 0 {
+        table.heights[cell] = height;
+        table.written += 1;
+    }
+}
+
+/// Looks at a cell: writes its height where it doesn't hold for one move more. Some, where a context is missing.
+pub(crate) fn look_at(
+    game: &Game,
+    table: &mut Table,
+    n: u32,
+    at: &Tabled,
+    pos: PosId,
+    state: StateId,
+) -> Option<Context>
+    requires routed { AreRouted (game_of game.now) (length game.now.graph.parts.items) }
+    requires table { IsTable (game_of game.now) table.old }
+    requires cell { HasCell (game_of game.now) table.old at.now pos.0 state.0 }
+    requires round { IsInRound (game_of game.now) table.old n
+        (slot (game_of game.now) table.old.contexts.items at.now.number at.now.context.function pos.0 state.0) }
+    ensures table { IsTable (game_of game.now) table.new }
+    ensures later { IsLater table.old table.new }
+    ensures tabled { IsTabled table.new at.now }
+    ensures round { IfNone result (IsInRound (game_of game.now) table.new n
+        (slot (game_of game.now) table.new.contexts.items at.now.number at.now.context.function pos.0 state.0 + 1)) }
+    ensures missing { IfSome result (λ c. IsMissing (game_of game.now) table.new c) }
+{
+    match next_holds(game, table, n, at, pos, state) {
+        Err(context) => Some(context),
+        Ok(true) => None,
+        Ok(false) => {
+            let cell = slot(game, table, at, pos, state);
+            write(table, cell, n + 1);
+            None
+        }
+    }
+}
+
+/// Looks at the cells of a position.
+fn look_position(
+    game: &Game,
+    table: &mut Table,
+    n: u32,
+    at: &Tabled,
+    pos: PosId,
+) -> Option<Context>
+    requires routed { AreRouted (game_of game.now) (length game.now.graph.parts.items) }
+    requires table { IsTable (game_of game.now) table.old }
+    requires tabled { IsTabled table.old at.now }
+    requires of { IsOf (game_of game.now) at.now.context.function pos.0 }
+    requires round { IsInRound (game_of game.now) table.old n
+        (slot (game_of game.now) table.old.contexts.items at.now.number at.now.context.function pos.0 0) }
+    ensures table { IsTable (game_of game.now) table.new }
+    ensures later { IsLater table.old table.new }
+    ensures tabled { IsTabled table.new at.now }
+    ensures round { IfNone result (IsInRound (game_of game.now) table.new n
+        (slot (game_of game.now) table.new.contexts.items at.now.number at.now.context.function (pos.0 + 1) 0)) }
+    ensures missing { IfSome result (λ c. IsMissing (game_of game.now) table.new c) }
+{
+    for x in 0..game.states() {
+        if let Some(context) = look_at(game, table, n, at, pos, StateId(x)) {
+            return Some(context);
+        }
+    }
+    None
+}
+
+/// Looks at the cells of a context.
+fn look_context(game: &Game, table: &mut Table, n: u32, at: &Tabled) -> Option<Context>
+    requires routed { AreRouted (game_of game.now) (length game.now.graph.parts.items) }
+    requires table { IsTable (game_of game.now) table.old }
+    requires tabled { IsTabled table.old at.now }
+    requires round { IsInRound (game_of game.now) table.old n (base (game_of game.now) table.old.contexts.items at.now.number) }
+    ensures table { IsTable (game_of game.now) table.new }
+    ensures later { IsLater table.old table.new }
+    ensures round { IfNone result (IsInRound (game_of game.now) table.new n
+        (base (game_of game.now) table.new.contexts.items (at.now.number + 1))) }
+    ensures missing { IfSome result (λ c. IsMissing (game_of game.now) table.new c) }
+{
+    let function = at.context.function;
+    for p in game.entry(function).0..game.exit(function).0 + 1 {
+        if let Some(context) = look_position(game, table, n, at, PosId(p)) {
+            return Some(context);
+        }
+    }
+    None
+}
+
+/// Looks at all cells.
+fn look_all(game: &Game, table: &mut Table, n: u32) -> Option<Context>
+    requires routed { AreRouted (game_of game.now) (length game.now.graph.parts.items) }
+    requires table { IsTable (game_of game.now) table.old }
+    requires round { IsInRound (game_of game.now) table.old n 0 }
+    ensures table { IsTable (game_of game.now) table.new }
+    ensures later { IsLater table.old table.new }
+    ensures round { IfNone result (IsInRound (game_of game.now) table.new n (cells_of (game_of game.now) table.new.contexts.items)) }
+    ensures missing { IfSome result (λ c. IsMissing (game_of game.now) table.new c) }
+{
+    for number in 0..table.contexts.len() {
+        let at = Tabled {
+            number,
+            context: table.contexts[number],
+        };
+        if let Some(context) = look_context(game, table, n, &at) {
+            return Some(context);
+        }
+    }
+    None
+}

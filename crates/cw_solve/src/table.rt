@@ -1,0 +1,95 @@
+//! A table of heights, and what it tells of pairs.
+
+ghost use Rattle.std.specs.Prelude.{◌≡◌, ◌<◌, ◌≤◌, suc, nat_eq, ◌&&◌, length, slice_index, position, IfSome};
+ghost use Rattle.cw_game.specs.Games.{Holds};
+ghost use Rattle.cw_game.specs.Pairs.{has, kept_at};
+ghost use Rattle.cw_product.specs.Product.{game_of};
+ghost use Rattle.cw_solve.specs.Contexts.{IsOf, promise_at, IsSetOf};
+ghost use Rattle.cw_solve.specs.Routes.{IsState, AreRouted};
+ghost use Rattle.cw_solve.specs.Rounds.{slot, AreWritten};
+ghost use Rattle.cw_solve.specs.Tables.{IsTable, HasCell};
+
+use crate::contexts::Context;
+use cw_core::{PosId, StateId, StateSet};
+use cw_product::Game;
+
+/// Contexts, where the cells of each begin, the height of each cell (0 where none is written) and how many are written.
+#[derive(Drop)]
+pub(crate) struct Table {
+    pub contexts: Vec<Context>,
+    pub bases: Vec<u32>,
+    pub heights: Vec<u32>,
+    pub written: u32,
+}
+
+/// A context of a table, with its number.
+#[derive(Clone, Copy, Drop)]
+pub(crate) struct Tabled {
+    pub number: usize,
+    pub context: Context,
+}
+
+/// The cell of a pair in a context.
+pub(crate) fn slot(game: &Game, table: &Table, at: &Tabled, pos: PosId, state: StateId) -> usize
+    requires routed { AreRouted (game_of game.now) (length game.now.graph.parts.items) }
+    requires table { IsTable (game_of game.now) table.now }
+    requires cell { HasCell (game_of game.now) table.now at.now pos.0 state.0 }
+    ensures is { result ≡ slot (game_of game.now) table.now.contexts.items at.now.number at.now.context.function pos.0 state.0 }
+    ensures within { result < length table.now.heights.items }
+{
+    let row = (pos.0 - game.entry(at.context.function).0) as usize;
+    table.bases[at.number] as usize + (row * game.states() as usize + state.0 as usize)
+}
+
+/// Whether a pair holds for n moves.
+pub(crate) fn holds(
+    game: &Game,
+    table: &Table,
+    n: u32,
+    at: &Tabled,
+    pos: PosId,
+    state: StateId,
+) -> bool
+    requires routed { AreRouted (game_of game.now) (length game.now.graph.parts.items) }
+    requires table { IsTable (game_of game.now) table.now }
+    requires cell { HasCell (game_of game.now) table.now at.now pos.0 state.0 }
+    requires written { AreWritten (game_of game.now) table.now.contexts.items table.now.heights.items n (suc n) }
+    ensures { result ≡ Holds (game_of game.now) n pos.0 state.0 (has at.now.context.promise) }
+{
+    let height = table.heights[slot(game, table, at, pos, state)];
+    height == 0 || n < height
+}
+
+/// The number of a context.
+pub(crate) fn place_of(contexts: &[Context], function: u16, promise: &StateSet) -> Option<usize>
+    ensures place { result ≡ position (λ c. nat_eq c.function function && nat_eq c.promise promise.now) contexts.now }
+    ensures within { IfSome result (λ i. i < length contexts.now) }
+{
+    contexts.iter().position(|c| c.function == function && c.promise == *promise)
+}
+
+/// What a call promises for n moves: the exit states from which the return holds.
+pub(crate) fn promised(
+    game: &Game,
+    table: &Table,
+    n: u32,
+    at: &Tabled,
+    call: StateId,
+    back: PosId,
+    split: bool,
+) -> StateSet
+    requires routed { AreRouted (game_of game.now) (length game.now.graph.parts.items) }
+    requires table { IsTable (game_of game.now) table.now }
+    requires cell { HasCell (game_of game.now) table.now at.now back.0 call.0 }
+    requires written { AreWritten (game_of game.now) table.now.contexts.items table.now.heights.items n (suc n) }
+    ensures { IsSetOf (game_of game.now) result (promise_at (game_of game.now) n back.0 (kept_at split call.0) at.now.context.promise) }
+{
+    let mut set = StateSet::empty();
+    for x in 0..game.states() {
+        let exit = StateId(x);
+        if holds(game, table, n, at, back, game.returned(call, exit, split)) {
+            set.insert(exit);
+        }
+    }
+    set
+}
