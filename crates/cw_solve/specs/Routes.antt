@@ -35,6 +35,7 @@ pub record IsThere (g : Game) (functions f : ℕ) : Type 0 where
 pub record AreRouted (g : Game) (functions : ℕ) : Type 0 where
   pub some : 0 < g.states.count
   pub few : g.states.count ≤ 1024
+  pub short : length g.spots ≤ 1048576
   pub closed : AreClosed g (IsState g)
   pub stays : (f p r : ℕ) → IsOf g f p → Contains (targets p (slice_get g.spots p)) r → IsOf g f r
   pub main : IsThere g functions g.main
