@@ -2,6 +2,7 @@
 pub mod Calling
 pub mod Counts
 pub mod Falls
+pub mod Fresh
 pub mod Looking
 pub mod Moves
 pub mod Rounding

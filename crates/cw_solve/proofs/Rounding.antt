@@ -3,16 +3,17 @@ use Rattle.std.proofs.Common.{◌≡◌, ◌≢◌, ℕ, zero, suc, ◌+◌, ◌
 use Rattle.std.specs.Prelude.{slice_get, slice_index, Contains}
 use Rattle.std.proofs.lemmas.Bool.{cases_eq}
 use Rattle.cw_game.specs.Games.{Game, Holds}
-use Rattle.cw_game.specs.Pairs.{has}
+use Rattle.std.proofs.lemmas.Option.{slice_get_within, get_or_from_slice_get}
+use Rattle.cw_game.specs.Pairs.{has, all_states}
 use Rattle.cw_solve.specs.declared.contexts.Context.{Context}
 use Rattle.cw_solve.specs.declared.table.Table.{Table}
 use Rattle.cw_solve.specs.declared.table.Tabled.{Tabled}
-use Rattle.cw_solve.specs.Contexts.{size, cells_of}
+use Rattle.cw_solve.specs.Contexts.{context, size, cells_of}
 use Rattle.cw_solve.specs.Routes.{AreRouted}
-use Rattle.cw_solve.specs.Rounds.{slot, IsCell, AreWritten, AreLooked, IsAsked}
-use Rattle.cw_solve.specs.Tables.{IsTable, IsTabled, HasCell, IsAtRound, IsInRound, IsLater, Writes}
+use Rattle.cw_solve.specs.Rounds.{slot, IsCell, AreWritten, AreLooked, IsAsked, WereAsked}
+use Rattle.cw_solve.specs.Tables.{IsTable, IsTabled, HasCell, IsAtRound, IsInRound, IsLater, IsDone, Writes}
 use Rattle.cw_solve.proofs.Written.{reads, widens}
-use Rattle.cw_solve.proofs.Looking.{nothing_looked, looked_more, looked_written, written_more, round_written, round_asked}
+use Rattle.cw_solve.proofs.Looking.{nothing_looked, looked_more, looked_written, written_more, round_written, round_asked, heights_are, all_tabled}
 
 module _ (g : Game) (functions : ℕ) (routed : AreRouted g functions) where
   -- a cell that holds for one move more
@@ -68,3 +69,34 @@ module _ (g : Game) (functions : ℕ) (routed : AreRouted g functions) where
                 (subst (λ (hs : List ℕ). AreLooked g t.contexts.items hs n (slot g t.contexts.items at.number at.context.function p q + 1)) (sym e.0) b);
             low = omega (arith, e.1, round.low);
           }
+
+  -- before the first cell of a round
+  pub round_begins : (t : Table) (n : ℕ) → IsAtRound g t n → IsInRound g t n 0
+  round_begins t n at = record {
+    written = record { each = λ i c p q is. widens g functions routed n n (suc n) p q c.promise (get_or t.heights.items (slot g t.contexts.items i c.function p q) 0) (omega arith) (at.written.each i c p q is) };
+    looked = nothing_looked g t.contexts.items t.heights.items n;
+    low = at.low;
+  }
+
+  -- after a round that wrote something
+  pub round_ends : (t new : Table) (n : ℕ) → IsAtRound g t n → IsLater t new → IsInRound g new n (cells_of g new.contexts.items) → (new.written ≡ t.written → ⊥) → IsAtRound g new (n + 1)
+  round_ends t new n at later round more =
+      let one : n + 1 ≡ suc n = omega arith in
+      rw one (record {
+        written = round_written g functions routed new.contexts.items new.heights.items n (suc n) round.written round.looked;
+        asked = round_asked g functions routed new.contexts.items new.heights.items n (subst (λ (cs : List Context). WereAsked g cs n) (sym later.contexts) at.asked) round.looked;
+        low = omega (arith, later.more, more, at.low);
+      })
+
+  -- after a round that wrote nothing
+  pub round_rests : (t new : Table) (n : ℕ) → IsTable g new → IsAtRound g t n → IsLater t new → IsInRound g new n (cells_of g new.contexts.items) → new.written ≡ t.written → IsDone g new
+  round_rests t new n table at later round same =
+      let w : AreWritten g new.contexts.items new.heights.items n n
+            = subst (λ (cs : List Context). AreWritten g cs new.heights.items n n) (sym later.contexts)
+              (subst (λ (hs : List ℕ). AreWritten g t.contexts.items hs n n) (sym (later.same (sym same))) at.written) in
+      let were : WereAsked g new.contexts.items n = subst (λ (cs : List Context). WereAsked g cs n) (sym later.contexts) at.asked in
+      record {
+        heights = λ i c p q is. heights_are g functions routed new.contexts.items new.heights.items n w round.looked were i c p q is;
+        all = λ c need. all_tabled g functions routed new.contexts.items new.heights.items n w round.looked were
+            (0, slice_get_within new.contexts.items 0 _ table.first, get_or_from_slice_get new.contexts.items 0 (context g.main (all_states g)) (context g.main (all_states g)) table.first) c need;
+      }

@@ -1,6 +1,9 @@
 -- The definitions.
 pub mod Asking
 pub mod Contexts
+pub mod Made
 pub mod Rounds
 pub mod Routes
+pub mod Solved
 pub mod Tables
+pub mod Trying

@@ -5,8 +5,8 @@ use Rattle.cw_game.specs.Pairs.{all_states, call_spot}
 use Rattle.cw_solve.specs.declared.contexts.Context.{Context}
 use Rattle.cw_solve.specs.declared.table.Table.{Table}
 use Rattle.cw_solve.specs.declared.table.Tabled.{Tabled}
-use Rattle.cw_solve.specs.Contexts.{context, IsOf, cells_of, IsNeeded, AreNeeded}
-use Rattle.cw_solve.specs.Rounds.{IsCell, AreWritten, AreLooked, WereAsked}
+use Rattle.cw_solve.specs.Contexts.{context, IsOf, cells_of, HeightIs, IsNeeded, AreNeeded}
+use Rattle.cw_solve.specs.Rounds.{slot, height_by, IsCell, AreWritten, AreLooked, WereAsked}
 
 abbrev pub is_none : ℕ → Bool
 is_none k = nat_eq k 0
@@ -64,3 +64,15 @@ pub record Writes (old new : Table) (cell height : ℕ) : Type 0 where
   pub some : (slice_index old.heights.items cell ≡ 0 → ⊥) → (new.heights.items ≡ old.heights.items) × (new.written ≡ old.written)
   pub none : slice_index old.heights.items cell ≡ 0 → (new.heights.items ≡ slice_set old.heights.items cell height) × (new.written ≡ old.written + 1)
   pub counted : new.written + count_by is_none new.heights.items ≡ length new.heights.items
+
+-- what is written are the heights, and the contexts are all that are needed
+pub record IsDone (g : Game) (t : Table) : Type 0 where
+  pub heights : (i : ℕ) (c : Context) (p q : ℕ) → IsCell g t.contexts.items i c p q
+      → HeightIs g p q c.promise (height_by (slice_index t.heights.items (slot g t.contexts.items i c.function p q)))
+  pub all : (c : Context) → IsNeeded g c → Contains t.contexts.items c
+
+-- contexts of which a table may be made: needed, `main` with all states first, and not too many cells
+pub record AreTabled (g : Game) (contexts : List Context) : Type 0 where
+  pub first : slice_get contexts 0 ≡ Some (context g.main (all_states g))
+  pub needed : AreNeeded g contexts
+  pub few : cells_of g contexts ≤ 4194304

@@ -4,7 +4,11 @@
 pub mod contexts;
 pub mod fault;
 mod look;
+mod rounds;
+pub mod solved;
 mod table;
+mod tries;
 
 pub use contexts::Context;
 pub use fault::SolveFault;
+pub use solved::{Solved, solve};

@@ -227,7 +227,7 @@ fn look_context(game: &Game, table: &mut Table, n: u32, at: &Tabled) -> Option<C
 }
 
 /// Looks at all cells.
-fn look_all(game: &Game, table: &mut Table, n: u32) -> Option<Context>
+pub(crate) fn look_all(game: &Game, table: &mut Table, n: u32) -> Option<Context>
     requires routed { AreRouted (game_of game.now) (length game.now.graph.parts.items) }
     requires table { IsTable (game_of game.now) table.old }
     requires round { IsInRound (game_of game.now) table.old n 0 }

@@ -1,0 +1,87 @@
+//! Rounds over all tabled contexts.
+
+ghost use Rattle.std.specs.Prelude.{◌≡◌, ◌+◌, ◌<◌, ◌≤◌, ℕ, length, slice_index, IfNone, IfSome, IfOk};
+ghost use Rattle.cw_game.specs.Pairs.{all_states};
+ghost use Rattle.cw_product.specs.Product.{game_of};
+ghost use Rattle.cw_solve.specs.Contexts.{context, cells_of, size};
+ghost use Rattle.cw_solve.specs.Routes.{AreRouted, IsThere};
+ghost use Rattle.cw_solve.specs.Tables.{IsTable, IsAtRound, IsMissing, IsDone, AreTabled};
+
+use crate::contexts::Context;
+use crate::look::look_all;
+use crate::table::Table;
+use cw_core::StateSet;
+use cw_product::Game;
+use std::alloc::{AllocError, Global};
+
+/// Rounds until one changes nothing and asks for nothing new; some, where a context is missing.
+pub(crate) fn rounds(game: &Game, table: &mut Table) -> Option<Context>
+    requires routed { AreRouted (game_of game.now) (length game.now.graph.parts.items) }
+    requires table { IsTable (game_of game.now) table.old }
+    requires start { IsAtRound (game_of game.now) table.old 0 }
+    ensures table { IsTable (game_of game.now) table.new }
+    ensures contexts { table.new.contexts.items ≡ table.old.contexts.items }
+    ensures done { IfNone result (IsDone (game_of game.now) table.new) }
+    ensures missing { IfSome result (λ c. IsMissing (game_of game.now) table.new c) }
+{
+    let mut n = 0;
+    'rounds: loop {
+        let written = table.written;
+        if let Some(context) = look_all(game, table, n) {
+            return Some(context);
+        }
+        if table.written == written {
+            return None;
+        }
+        n += 1;
+    }
+}
+
+/// How many cells a context of a function has.
+pub(crate) fn size(game: &Game, function: u16) -> u32
+    requires routed { AreRouted (game_of game.now) (length game.now.graph.parts.items) }
+    requires there { IsThere (game_of game.now) (length game.now.graph.parts.items) function }
+    ensures is { result ≡ size (game_of game.now) function }
+    ensures some { 0 < result }
+    ensures few { result ≤ 1048576 }
+{
+    (game.exit(function).0 + 1 - game.entry(function).0) * u32::from(game.states())
+}
+
+/// `main` with all states.
+pub(crate) fn main_context(game: &Game) -> Context
+    requires routed { AreRouted (game_of game.now) (length game.now.graph.parts.items) }
+    ensures { result ≡ context (game_of game.now).main (all_states (game_of game.now)) }
+{
+    Context {
+        function: game.main(),
+        promise: StateSet::empty().complement_in(game.states()),
+    }
+}
+
+/// A table of these contexts in which nothing is written.
+pub(crate) fn fresh(
+    alloc: Global,
+    game: &Game,
+    contexts: Vec<Context>,
+) -> Result<Table, AllocError>
+    requires routed { AreRouted (game_of game.now) (length game.now.graph.parts.items) }
+    requires contexts { AreTabled (game_of game.now) contexts.items }
+    ensures same { IfOk result (λ t. t.contexts.items ≡ contexts.items) }
+    ensures table { IfOk result (λ t. IsTable (game_of game.now) t) }
+    ensures start { IfOk result (λ t. IsAtRound (game_of game.now) t 0) }
+{
+    let mut bases = Vec::new(alloc);
+    let mut cells: u32 = 0;
+    for context in &contexts {
+        bases.push(cells)?;
+        cells += size(game, context.function);
+    }
+    let heights = vec![in alloc; 0; cells as usize]?;
+    Ok(Table {
+        contexts,
+        bases,
+        heights,
+        written: 0,
+    })
+}
