@@ -5,6 +5,7 @@ use Rattle.std.specs.Int.{bit_at}
 use Rattle.std.proofs.lemmas.Bool.{cases_lt, lt-ltb, le-ltb, eq-eqb, ne_eqb}
 use Rattle.std.proofs.lemmas.Nat.Bits.{bit_at_ones, bit_at_ones_above}
 use Rattle.std.proofs.lemmas.List.{get_or-replicate, get_or_past, length-replicate, get_or_append_left, get_or-append_right}
+use Rattle.std.proofs.Math.Nat.{mul-le-mul_right}
 use Rattle.std.proofs.lemmas.List.Sums.{sum_by-cons, sum_by_push, sum_by-take-le}
 use Rattle.std.proofs.lemmas.Option.{slice_get_read, none-some}
 use Rattle.cw_core.specs.StateSet.{has as has_member}
@@ -13,7 +14,7 @@ use Rattle.cw_game.specs.Games.{Game}
 use Rattle.cw_game.specs.Pairs.{has, all_states}
 use Rattle.cw_solve.specs.declared.contexts.Context.{Context}
 use Rattle.cw_solve.specs.declared.table.Table.{Table}
-use Rattle.cw_solve.specs.Contexts.{context, size, cells_of, AreNeeded, AreTooMany}
+use Rattle.cw_solve.specs.Contexts.{context, size, cells_of, IsNeeded, of_main, AreNeeded, AreTooMany}
 use Rattle.cw_solve.specs.Routes.{IsThere, AreRouted}
 use Rattle.cw_solve.specs.Tables.{is_none, IsTable, IsAtRound, AreTabled, IsMissing}
 use Rattle.cw_solve.proofs.Counts.{needed_more}
@@ -110,6 +111,28 @@ module _ (g : Game) (functions : ℕ) (routed : AreRouted g functions) where
   longer_too_many t table c missing longer e room =
       let cells = cells_of_longer t.contexts.items longer c e in
       record { some = needed_longer t table c missing longer e; many = omega (arith, cells, room, table.cells) }
+
+  -- `main` with all states alone
+  pub start_tabled : (contexts : List Context) → contexts ≡ context g.main (all_states g) ∷ [] → AreTabled g contexts
+  start_tabled contexts e =
+      let main = context g.main (all_states g) in
+      let few : size g g.main ≤ 1048576 = main_few in
+      let cells = ap (λ (xs : List Context). cells_of g xs) e ∙ sum_by-cons (λ (x : Context). size g x.function) main [] in
+      record {
+        first = ap (λ (xs : List Context). slice_get xs 0) e;
+        needed = subst (λ (xs : List Context). AreNeeded g xs) (sym e) (record { needed = λ c is. only_main c is.0 is.1 is.2; distinct = λ i j d lt within. absurd (omega (arith, lt, within)) });
+        few = omega (arith, cells, few);
+      }
+    where
+      main_few : size g g.main ≤ 1048576
+      main_few =
+          let rows : g.exit g.main + 1 - g.entry g.main ≤ length g.spots = omega (arith, routed.main.ends) in
+          let le = mul-le-mul_right g.states.count rows in
+          omega (arith, le, routed.pairs)
+
+      only_main : (c : Context) (k : ℕ) → k < length (context g.main (all_states g) ∷ []) → get_or (context g.main (all_states g) ∷ []) k c ≡ c → IsNeeded g c
+      only_main c zero lt z = subst (λ (y : Context). IsNeeded g y) z of_main
+      only_main c (suc k) lt z = absurd (omega (arith, lt))
 
 -- one more at the end
 pub values_more : (F : ℕ → ℕ) (xs : List ℕ) (n v : ℕ) → length xs ≡ n → ((i : ℕ) → i < n → slice_index xs i ≡ F i) → v ≡ F n → (i : ℕ) → i < n + 1 → slice_index (xs ++ v ∷ []) i ≡ F i

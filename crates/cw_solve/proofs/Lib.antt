@@ -3,10 +3,13 @@ pub mod Calling
 pub mod Counts
 pub mod Falls
 pub mod Fresh
+pub mod Keeping
 pub mod Looking
 pub mod Moves
 pub mod Rounding
+pub mod Routing
 pub mod Slots
+pub mod Staying
 pub mod Still
 pub mod Tabling
 pub mod Turning

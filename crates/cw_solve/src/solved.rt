@@ -8,8 +8,9 @@ ghost use Rattle.cw_solve.specs.Solved.{IsCause};
 
 use crate::contexts::Context;
 use crate::fault::SolveFault;
-use crate::table::Table;
+use crate::table::{Table, Tabled, height_in, place_of, slot};
 use crate::tries::solve_table;
+use cw_core::{PosId, StateId, StateSet};
 use cw_product::Game;
 use std::alloc::Global;
 use std::marker::Model;
@@ -53,4 +54,83 @@ pub fn solve<'g>(alloc: Global, game: &'g Game<'g>) -> Result<Solved<'g>, SolveF
 {
     let table = solve_table(alloc, game)?;
     Ok(Solved { game, table })
+}
+
+impl<'g> Solved<'g> {
+    ghost use Rattle.std.specs.Prelude.{◌≡◌, ◌<◌, ◌≤◌, Some, length, slice_get, Contains, IfSome, IfNone};
+    ghost use Rattle.cw_product.specs.Product.{game_of};
+    ghost use Rattle.cw_solve.specs.Contexts.{context, cells_of, HeightIs, AreTheNeeded};
+    ghost use Rattle.cw_solve.specs.Rounds.{IsCell, slot, height_by};
+    ghost use Rattle.cw_solve.specs.Routes.{AreRouted};
+    ghost use Rattle.cw_solve.specs.Solved.{IsNumbered, IsHeightIn};
+    ghost use Rattle.cw_solve.specs.Tables.{IsTable, IsDone};
+
+    // What the value keeps.
+    fn is_kept(&self)
+        ensures routed { AreRouted (game_of self.now.game) (length self.now.game.graph.parts.items) }
+        ensures needed { AreTheNeeded (game_of self.now.game) self.now.contexts }
+        ensures few { cells_of (game_of self.now.game) self.now.contexts ≤ 4194304 }
+    {
+        let _ = &self.table;
+    }
+
+    /// A law: the contexts are all that the game needs, each once, and `main` with all states is the first.
+    pub fn contexts_are_needed(&self)
+        ensures { AreTheNeeded (game_of self.now.game) self.now.contexts }
+    {
+        self.is_kept();
+    }
+
+    /// The game.
+    pub fn game(&self) -> &'g Game<'g>
+        ensures { result.now ≡ self.now.game }
+    {
+        self.game
+    }
+
+    /// How many contexts there are.
+    pub fn contexts(&self) -> u32
+        ensures { result ≡ length self.now.contexts }
+    {
+        self.table.contexts.len() as u32
+    }
+
+    /// A context, by its number.
+    pub fn context(&self, number: u32) -> &Context
+        requires { number < length self.now.contexts }
+        ensures { Some result.now ≡ slice_get self.now.contexts number }
+    {
+        &self.table.contexts[number as usize]
+    }
+
+    /// The number of a context; none where the game doesn't need it.
+    pub fn find(&self, function: u16, promise: &StateSet) -> Option<u32>
+        ensures found { IfSome result (λ i. slice_get self.now.contexts i ≡ Some (context function promise.now)) }
+        ensures none { IfNone result (Contains self.now.contexts (context function promise.now) → ⊥) }
+    {
+        match place_of(&self.table.contexts, function, promise) {
+            Some(number) => Some(number as u32),
+            None => None,
+        }
+    }
+
+    /// How many cells the contexts have: a pair of a position of its function and a state each.
+    pub fn cells(&self) -> u32
+        ensures { result ≡ cells_of (game_of self.now.game) self.now.contexts }
+    {
+        self.table.heights.len() as u32
+    }
+
+    /// The height of a pair under a context's promise: the least number of moves for which it doesn't hold. None where it
+    /// holds for every number.
+    pub fn height(&self, number: u32, pos: PosId, state: StateId) -> Option<u32>
+        requires cell { IsNumbered self.now number pos.0 state.0 }
+        ensures { IsHeightIn self.now number pos.0 state.0 result }
+    {
+        let at = Tabled {
+            number: number as usize,
+            context: *self.context(number),
+        };
+        height_in(self.table.heights[slot(self.game, &self.table, &at, pos, state)])
+    }
 }

@@ -6,7 +6,7 @@ ghost use Rattle.cw_game.specs.Pairs.{has, kept_at};
 ghost use Rattle.cw_product.specs.Product.{game_of};
 ghost use Rattle.cw_solve.specs.Contexts.{IsOf, promise_at, IsSetOf};
 ghost use Rattle.cw_solve.specs.Routes.{IsState, AreRouted};
-ghost use Rattle.cw_solve.specs.Rounds.{slot, AreWritten};
+ghost use Rattle.cw_solve.specs.Rounds.{slot, height_by, AreWritten};
 ghost use Rattle.cw_solve.specs.Tables.{IsTable, HasCell};
 
 use crate::contexts::Context;
@@ -58,6 +58,16 @@ pub(crate) fn holds(
 {
     let height = table.heights[slot(game, table, at, pos, state)];
     height == 0 || n < height
+}
+
+/// The height that is written, none where nothing is.
+pub(crate) fn height_in(written: u32) -> Option<u32>
+    ensures { result ≡ height_by written }
+{
+    match written {
+        0 => None,
+        height => Some(height),
+    }
 }
 
 /// The number of a context.

@@ -51,7 +51,7 @@ returns-clause-table c =
     let all : c.loop-context.cells ≡ cells_of g contexts
           = c.loop-context.invariant.cells ∙ ap (λ (n : ℕ). cells_of g (take n contexts)) e ∙ ap (λ (xs : List Context). cells_of g xs) (take_all (length contexts) contexts (omega arith)) in
     is_table g (length c.args.game.now.graph.parts.items) c.requires.routed t c.requires.contexts (c.loop-context.invariant.bases ∙ e)
-    (λ i lt. c.loop-context.invariant.begins i (omega (arith, lt, e))) (c.in_ok-heights.ensures.items_if_clones_equal ? ∙ ap (λ (n : ℕ). replicate {A = ℕ} n 0) all) refl
+    (λ i lt. c.loop-context.invariant.begins i (omega (arith, lt, e))) (c.in_ok-heights.ensures.items_if_clones_equal (λ y e. e) ∙ ap (λ (n : ℕ). replicate {A = ℕ} n 0) all) refl
 
 pub returns-clause-start : goal.returns-clause-start
 returns-clause-start c =
@@ -62,4 +62,4 @@ returns-clause-start c =
     let e : c.loop-context.context-index ≡ length contexts = omega (arith, c.loop-context-test.false, c.loop-context.auto.context-index-end, value) in
     let all : c.loop-context.cells ≡ cells_of g contexts
           = c.loop-context.invariant.cells ∙ ap (λ (n : ℕ). cells_of g (take n contexts)) e ∙ ap (λ (xs : List Context). cells_of g xs) (take_all (length contexts) contexts (omega arith)) in
-    is_at_start g (length c.args.game.now.graph.parts.items) c.requires.routed t (c.in_ok-heights.ensures.items_if_clones_equal ? ∙ ap (λ (n : ℕ). replicate {A = ℕ} n 0) all)
+    is_at_start g (length c.args.game.now.graph.parts.items) c.requires.routed t (c.in_ok-heights.ensures.items_if_clones_equal (λ y e. e) ∙ ap (λ (n : ℕ). replicate {A = ℕ} n 0) all)

@@ -1,0 +1,69 @@
+-- What a solved game keeps, as its calls tell it.
+use Rattle.std.proofs.Common.{◌≡◌, ℕ, zero, suc, ◌+◌, ◌-◌, ◌*◌, ◌<◌, ◌≤◌, List, [], ◌∷◌, Option, Some, None, length, get_or, refl, sym, ap, ◌∙◌, subst, arith}
+use Rattle.std.specs.Prelude.{slice_get, slice_index, Contains}
+use Rattle.std.proofs.Math.Nat.{mul-le-mul}
+use Rattle.std.proofs.lemmas.List.Sums.{sum_by-cons}
+use Rattle.std.proofs.lemmas.Option.{same_Some}
+use Rattle.cw_game.specs.Games.{Game}
+use Rattle.cw_product.specs.Product.{Held as HeldGame, game_of}
+use Rattle.cw_solve.specs.declared.contexts.Context.{Context}
+use Rattle.cw_solve.specs.declared.table.Table.{Table}
+use Rattle.cw_solve.specs.Contexts.{IsOf, size, cells_of, HeightIs, AreTheNeeded}
+use Rattle.cw_solve.specs.Routes.{IsThere, AreRouted}
+use Rattle.cw_solve.specs.Rounds.{slot, height_by, IsCell}
+use Rattle.cw_solve.specs.Tables.{IsTable, IsDone}
+use Rattle.cw_solve.specs.Solved.{Held, IsKept, IsNumbered, IsHeightIn}
+use Rattle.cw_solve.proofs.Tabling.{there}
+
+abbrev pub held : HeldGame → Table → Held
+held h t = record { game = h; contexts = t.contexts.items }
+
+module _ (g : Game) (functions : ℕ) (routed : AreRouted g functions) where
+  size_positive : (f : ℕ) → IsThere g functions f → 0 < size g f
+  size_positive f th =
+      let rows : 1 ≤ g.exit f + 1 - g.entry f = omega (arith, th.begins) in
+      let one : 1 ≤ g.states.count = routed.some in
+      let le = mul-le-mul rows one in
+      omega (arith, le)
+
+  few_contexts : (contexts : List Context) → ((c : Context) → Contains contexts c → 0 < size g c.function) → length contexts ≤ cells_of g contexts
+  few_contexts [] h = omega arith
+  few_contexts (c ∷ cs) h =
+      let first = h c (0, omega arith, refl) in
+      let rest = few_contexts cs (λ d is. h d (suc is.0, omega (arith, is.1), is.2)) in
+      omega (arith, first, rest, sum_by-cons (λ (x : Context). size g x.function) c cs)
+
+  pub few : (t : Table) → IsTable g t → length t.contexts.items ≤ 4194304
+  few t table =
+      let le = few_contexts t.contexts.items (λ c is. size_positive c.function (there g functions routed c (table.needed.needed c is))) in
+      omega (arith, le, table.few)
+
+pub kept_needed : (h : HeldGame) (t : Table) → IsKept h t → AreTheNeeded (game_of h) t.contexts.items
+kept_needed h t kept = record { first = kept.table.first; some = kept.table.needed; all = kept.done.all }
+
+pub kept_few : (h : HeldGame) (t : Table) → IsKept h t → length t.contexts.items ≤ 4194304
+kept_few h t kept = few (game_of h) (length h.graph.parts.items) kept.routed t kept.table
+
+-- the height that stands at a cell
+pub kept_height : (h : HeldGame) (t : Table) → IsKept h t → (number p q k : ℕ) (d : Context) → slice_get t.contexts.items number ≡ Some d → IsCell (game_of h) t.contexts.items number d p q
+    → k ≡ slice_index t.heights.items (slot (game_of h) t.contexts.items number d.function p q) → IsHeightIn (held h t) number p q (height_by k)
+kept_height h t kept number p q k d at is e c found =
+    let same : d ≡ c = same_Some d c (sym at ∙ found) in
+    let right = kept.done.heights number d p q is in
+    subst (λ (x : Context). HeightIs (game_of h) p q x.promise (height_by k)) same (subst (λ (x : ℕ). HeightIs (game_of h) p q d.promise (height_by x)) (sym e) right)
+
+-- the cell of a pair, as the call names it
+pub numbered_cell : (h : HeldGame) (t : Table) (v : Held) → held h t ≡ v → (number p q : ℕ) → IsNumbered v number p q → (d : Context) → slice_get v.contexts number ≡ Some d
+    → (slice_get t.contexts.items number ≡ Some d) × IsCell (game_of h) t.contexts.items number d p q
+numbered_cell h t v e number p q =
+    subst (λ (v : Held). IsNumbered v number p q → (d : Context) → slice_get v.contexts number ≡ Some d → (slice_get t.contexts.items number ≡ Some d) × IsCell (game_of h) t.contexts.items number d p q) e
+    (λ n d at.
+    let same : n.0 ≡ d = same_Some n.0 d (sym n.1 ∙ at) in
+    (at, record { at = at; of = subst (λ (x : Context). IsOf (game_of h) x.function p) same n.2; state = n.3 }))
+
+pub seen_height : (h : HeldGame) (t : Table) (v : Held) → held h t ≡ v → IsKept h t → (number p q k : ℕ) (d : Context) → IsNumbered v number p q → Some d ≡ slice_get v.contexts number
+    → k ≡ slice_index t.heights.items (slot (game_of h) t.contexts.items number d.function p q) → (o : Option ℕ) → o ≡ height_by k → IsHeightIn v number p q o
+seen_height h t v view kept number p q k d n at e o written =
+    let cell = numbered_cell h t v view number p q n d (sym at) in
+    subst (λ (v : Held). IsHeightIn v number p q o) view
+    (subst (λ (x : Option ℕ). IsHeightIn (held h t) number p q x) (sym written) (kept_height h t kept number p q k d cell.0 cell.1 e))
