@@ -1,28 +1,27 @@
 -- Where moves and calls of a cell lead.
-use Rattle.std.proofs.Common.{◌≡◌, ℕ, zero, suc, ◌+◌, ◌-◌, ◌*◌, ◌<◌, ◌≤◌, ◌⊎◌, List, [], ◌∷◌, Bool, true, false, cond, not, ◌&&◌, ◌||◌, Option, Some, None, length, get_or, refl, sym, ap, ap₂, ◌∙◌, subst, arith, inl, inr}
-use Rattle.std.specs.Prelude.{slice_get, slice_index, nat_eq, nat_lt, Contains, option_map, position}
+use Rattle.std.proofs.Common.{◌≡◌, ℕ, suc, ◌+◌, ◌<◌, List, [], Bool, true, false, cond, not, ◌&&◌, ◌||◌, Option, Some, None, length, get_or, refl, sym, ap, ap₂, ◌∙◌, subst, arith}
+use Rattle.std.specs.Prelude.{slice_get, nat_eq, Contains, option_map, position}
 use Rattle.std.proofs.lemmas.Bool.{eq-eqb, eqb-true}
 use Rattle.std.proofs.lemmas.Option.{slice_get_within, slice_get-get_or, get_or_from_slice_get, same_Some, none-some}
 use Rattle.std.proofs.lemmas.List.Quantifiers.{position-Some}
 use Rattle.std.proofs.lemmas.List.Sums.{prefix_len_passes}
 use Rattle.cw_actions.proofs.Places.{no_place}
-use Rattle.cw_rights.specs.declared.capabilities.Primitive.{Primitive}
 use Rattle.cw_rights.specs.declared.capabilities.Primitive.TheVariants.{Limit, Enter, Split}
 use Rattle.cw_certs.specs.declared.moves.Move.{Move}
 use Rattle.cw_certs.specs.declared.moves.Move.TheVariants.{Skip, Try, Grant, Refuse, On, Left, Right, Opened, Failed}
 use Rattle.cw_game.specs.declared.spots.Spot.{Spot}
-use Rattle.cw_game.specs.declared.spots.Spot.TheVariants.{Visit, Asked, Step, Branch, Label, Open, Close, Call, SplitCall, Exit}
-use Rattle.cw_game.specs.Games.{Game, Config, refuses_in, bad_in, past_asked, leads_in, returned, Promise, holds_in, Holds}
-use Rattle.cw_game.specs.Pairs.{has, all_states, Called, call_in, is_call_in, is_exit_in, call_spot, kept_at}
+use Rattle.cw_game.specs.declared.spots.Spot.TheVariants.{Visit, Asked, Step, Branch, Label, Open, Close, Call, SplitCall}
+use Rattle.cw_game.specs.Games.{Game, Config, refuses_in, bad_in, leads_in, Holds}
+use Rattle.cw_game.specs.Pairs.{has, Called, call_in, is_call_in, is_exit_in, call_spot, kept_at}
 use Rattle.cw_product.specs.Moves.{pair_of, is_left_in, next_in, next_at}
 use Rattle.cw_solve.specs.declared.contexts.Context.{Context}
 use Rattle.cw_solve.specs.declared.table.Table.{Table}
 use Rattle.cw_solve.specs.declared.table.Tabled.{Tabled}
-use Rattle.cw_solve.specs.Contexts.{context, IsOf, size, cells_of, promise_at, IsSetOf, IsNeeded, of_main, of_call, AreNeeded}
+use Rattle.cw_solve.specs.Contexts.{context, IsOf, promise_at, IsSetOf, of_call}
 use Rattle.cw_solve.specs.Routes.{IsState, targets, IsThere, AreRouted}
-use Rattle.cw_solve.specs.Rounds.{slot, IsCell, IsAsked}
-use Rattle.cw_solve.specs.Tables.{IsTable, IsTabled, HasCell, HasCall, IsMissing}
-use Rattle.cw_solve.proofs.Falls.{AreSame, holds_same, back_stays, member_is}
+use Rattle.cw_solve.specs.Rounds.{IsAsked}
+use Rattle.cw_solve.specs.Tables.{IsTable, HasCell, HasCall, IsMissing}
+use Rattle.cw_solve.proofs.Falls.{holds_same, back_stays, member_is}
 use Rattle.cw_solve.proofs.Still.{first_of_two, second_of_two, only, holds_call}
 use Rattle.cw_solve.proofs.Tabling.{there_at}
 
@@ -116,7 +115,6 @@ place_none contexts f e h is =
     let z : true ≡ false = sym some ∙ ap p (sym is.2) ∙ none in
     cc
 
-
 module _ (g : Game) (functions : ℕ) (routed : AreRouted g functions) (t : Table) (table : IsTable g t) where
   pub cell_within : (at : Tabled) (p q : ℕ) → HasCell g t at p q → p < length g.spots
   cell_within at p q is = let th = there_at g functions routed t table at.number at.context is.at in omega (arith, th.ends, is.of.1)
@@ -125,7 +123,7 @@ module _ (g : Game) (functions : ℕ) (routed : AreRouted g functions) (t : Tabl
   pub moved : (at : Tabled) (p q : ℕ) (by : Move) (r x : ℕ) → HasCell g t at p q → next_at g p q by ≡ Some (r, x) → IsState g x → HasCell g t at r x
   moved at p q by r x is e s = record {
     at = is.at;
-    of = routed.stays at.context.function p r is.of (next_target g p q (slice_get g.spots p) by (r, x) e);
+    of = routed.stays at.context.function p r (there_at g functions routed t table at.number at.context is.at).below is.of (next_target g p q (slice_get g.spots p) by (r, x) e);
     state = s;
   }
 
@@ -133,7 +131,7 @@ module _ (g : Game) (functions : ℕ) (routed : AreRouted g functions) (t : Tabl
   pub back_cell : (at : Tabled) (p q f back : ℕ) (split : Bool) → HasCell g t at p q → HasCall g p f back split → HasCell g t at back q
   back_cell at p q f back split is call = record {
     at = is.at;
-    of = back_stays g functions routed at.context.function p (the_call call.0 f back split) is.of (called (slice_get g.spots p) split call.0 f back call.1);
+    of = back_stays g functions routed at.context.function p (the_call call.0 f back split) (there_at g functions routed t table at.number at.context is.at).below is.of (called (slice_get g.spots p) split call.0 f back call.1);
     state = is.state;
   }
 

@@ -1,5 +1,5 @@
 -- A sum over some of a list's elements, no two the same, is no more than that over all of them.
-use Rattle.std.proofs.Common.{◌≡◌, ◌≢◌, ℕ, zero, suc, ◌+◌, ◌-◌, ◌<◌, ◌≤◌, ◌⊎◌, List, [], ◌∷◌, ◌++◌, length, get_or, refl, sym, ap, ◌∙◌, subst, arith, inl, inr}
+use Rattle.std.proofs.Common.{◌≡◌, ◌≢◌, ℕ, zero, suc, ◌+◌, ◌-◌, ◌<◌, ◌≤◌, List, [], ◌∷◌, ◌++◌, length, get_or, refl, sym, ap, ◌∙◌, subst, arith, inl, inr}
 use Rattle.std.specs.Prelude.{sum_by, Contains, AllPairs, remove}
 use Rattle.std.proofs.lemmas.Bool.{cases_lt, cases_eq}
 use Rattle.std.proofs.lemmas.List.Edits.{length-remove, get_or-remove_below, get_or-remove_above}
@@ -27,12 +27,12 @@ module _ {X : Type 0} (f : X → ℕ) where
       elim (cases_lt is.0 i) [
         | inl less ↦ let n = length-remove xs i lt in (is.0, omega (arith, n, less, lt), get_or-remove_below xs i c is.0 less lt ∙ is.2)
         | inr le ↦ elim (cases_eq is.0 i) [
-            | inl same ↦ absurd (ne (sym e ∙ get_or_default xs i x c lt ∙ ap (λ k. get_or xs k c) (sym same) ∙ is.2))
-            | inr other ↦
-                let n = length-remove xs i lt in
-                let back : is.0 - 1 + 1 ≡ is.0 = omega (arith, le, other) in
-                (is.0 - 1, omega (arith, n, le, other, is.1), get_or-remove_above xs i c (is.0 - 1) (omega (arith, le, other)) lt ∙ ap (λ k. get_or xs k c) back ∙ is.2)
-          ]
+          | inl same ↦ absurd (ne (sym e ∙ get_or_default xs i x c lt ∙ ap (λ k. get_or xs k c) (sym same) ∙ is.2))
+          | inr other ↦
+              let n = length-remove xs i lt in
+              let back : is.0 - 1 + 1 ≡ is.0 = omega (arith, le, other) in
+              (is.0 - 1, omega (arith, n, le, other, is.1), get_or-remove_above xs i c (is.0 - 1) (omega (arith, le, other)) lt ∙ ap (λ k. get_or xs k c) back ∙ is.2)
+        ]
       ]
 
   pub sum_within : (xs ys : List X) → AreApart xs → ((c : X) → Contains xs c → Contains ys c) → sum_by f xs ≤ sum_by f ys
@@ -40,7 +40,7 @@ module _ {X : Type 0} (f : X → ℕ) where
   sum_within (x ∷ xs) ys h to =
       let i = to x (0, omega arith, refl) in
       let rest : sum_by f xs ≤ sum_by f (remove ys i.0) = sum_within xs (remove ys i.0) (tail_apart x xs h)
-            (λ c is. stays ys i.0 x c i.1 i.2 (to c (suc is.0, omega (arith, is.1), is.2)) (head_apart x c xs h is)) in
+      (λ c is. stays ys i.0 x c i.1 i.2 (to c (suc is.0, omega (arith, is.1), is.2)) (head_apart x c xs h is)) in
       let all = sum_by-remove f ys i.0 x i.1 in
       let first = ap f i.2 in
       omega (arith, rest, all, first, sum_by-cons f x xs)
@@ -65,3 +65,6 @@ needed_more g contexts c are need new = record {
   ];
   distinct = all_pairs_push (λ a b. a ≢ b) contexts c are.distinct (λ k d lt e. new (k, lt, get_or_default contexts k c d lt ∙ e));
 }
+
+pub one_number : (g : Game) (some all : List Context) → AreTheNeeded g some → AreTheNeeded g all → cells_of g some ≡ cells_of g all
+one_number g some all s a = omega (arith, cells_within g some all s.some a, cells_within g all some a.some s)

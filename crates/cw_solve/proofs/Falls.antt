@@ -1,19 +1,17 @@
 -- Holding falls with the number of moves, and looks at the states of a promise alone.
-use Rattle.std.proofs.Common.{◌≡◌, ◌⊎◌, ℕ, zero, suc, ◌+◌, ◌<◌, ◌≤◌, List, [], ◌∷◌, Bool, true, false, cond, not, ◌&&◌, ◌||◌, Option, Some, None, refl, sym, ap, ap₂, ◌∙◌, subst, inl, inr, ⊎_elim, arith, tests}
+use Rattle.std.proofs.Common.{◌≡◌, ℕ, ◌<◌, ◌≤◌, Bool, true, false, ◌&&◌, Option, Some, None, refl, sym, ◌∙◌, subst, arith, tests}
 use Rattle.std.specs.Prelude.{slice_get, nat_lt, Contains}
 use Rattle.std.proofs.lemmas.Bool.{lt-ltb}
 use Rattle.std.proofs.lemmas.Option.{same_Some}
 use Rattle.cw_game.specs.declared.spots.Spot.{Spot}
-use Rattle.std.specs.Cmp.{both_ways}
 use Rattle.cw_core.proofs.Sets.{same_from_members}
 use Rattle.cw_core.specs.StateSet.{has as has_member}
 use Rattle.cw_game.specs.declared.spots.Spot.TheVariants.{Call, SplitCall}
-use Rattle.cw_game.specs.Games.{Game, returned, Promise, holds_in, Holds}
+use Rattle.cw_game.specs.Games.{Game, returned, Promise, Holds}
 use Rattle.cw_game.specs.Pairs.{has, Called, call_in, call_spot, kept_at}
-use Rattle.cw_game.proofs.Holding.{AreClosed, holds_rises, lost_rises}
-use Rattle.cw_solve.specs.declared.contexts.Context.{Context}
-use Rattle.cw_solve.specs.Contexts.{context, IsOf, IsHeight, HeightIs, promise_at, IsSetOf, IsNeeded, of_main, of_call}
-use Rattle.cw_solve.specs.Routes.{IsState, targets, IsThere, AreRouted}
+use Rattle.cw_game.proofs.Holding.{holds_rises, lost_rises}
+use Rattle.cw_solve.specs.Contexts.{IsOf, IsSetOf}
+use Rattle.cw_solve.specs.Routes.{IsState, targets, AreRouted}
 
 pub same_bools : (a b : Bool) → (a ≡ true → b ≡ true) → (b ≡ true → a ≡ true) → a ≡ b
 same_bools true b f h = sym (f refl)
@@ -57,8 +55,8 @@ module _ (g : Game) (functions : ℕ) (routed : AreRouted g functions) where
       by false o = s
 
   -- where a call returns is a position of its function
-  pub back_stays : (f p : ℕ) (call : Called) → IsOf g f p → call_in (slice_get g.spots p) ≡ Some call → IsOf g f call.back
-  back_stays f p call is es = routed.stays f p call.back is (by call.split (call_is (slice_get g.spots p) call es))
+  pub back_stays : (f p : ℕ) (call : Called) → f < functions → IsOf g f p → call_in (slice_get g.spots p) ≡ Some call → IsOf g f call.back
+  back_stays f p call below is es = routed.stays f p call.back below is (by call.split (call_is (slice_get g.spots p) call es))
     where
       by : (split : Bool) → slice_get g.spots p ≡ Some (call_spot split call.seam call.function call.back) → Contains (targets p (slice_get g.spots p)) call.back
       by true o = rw o (0, omega arith, refl)

@@ -1,5 +1,5 @@
 -- A table of contexts in which nothing is written, and the number of all states.
-use Rattle.std.proofs.Common.{◌≡◌, ℕ, zero, suc, ◌+◌, ◌-◌, ◌*◌, ◌^◌, ◌<◌, ◌≤◌, ◌⊎◌, List, [], ◌∷◌, ◌++◌, Bool, true, false, cond, not, ◌&&◌, Option, Some, None, length, get_or, replicate, take, refl, sym, ap, ap₂, ◌∙◌, subst, arith, inl, inr}
+use Rattle.std.proofs.Common.{◌≡◌, ℕ, zero, suc, ◌+◌, ◌-◌, ◌<◌, ◌≤◌, List, [], ◌∷◌, ◌++◌, Bool, true, cond, Some, length, get_or, replicate, take, refl, sym, ap, ◌∙◌, subst, arith, inl, inr}
 use Rattle.std.specs.Prelude.{nat_lt, nat_eq, slice_get, slice_index, count_by}
 use Rattle.std.specs.Int.{bit_at}
 use Rattle.std.proofs.lemmas.Bool.{cases_lt, lt-ltb, le-ltb, eq-eqb, ne_eqb}
@@ -11,7 +11,7 @@ use Rattle.std.proofs.lemmas.Option.{slice_get_read, none-some}
 use Rattle.cw_core.specs.StateSet.{has as has_member}
 use Rattle.cw_core.proofs.Sets.{same_from_members}
 use Rattle.cw_game.specs.Games.{Game}
-use Rattle.cw_game.specs.Pairs.{has, all_states}
+use Rattle.cw_game.specs.Pairs.{all_states}
 use Rattle.cw_solve.specs.declared.contexts.Context.{Context}
 use Rattle.cw_solve.specs.declared.table.Table.{Table}
 use Rattle.cw_solve.specs.Contexts.{context, size, cells_of, IsNeeded, of_main, AreNeeded, AreTooMany}
@@ -29,9 +29,9 @@ all_is g set h = same_from_members set (all_states g) (λ i. h i ∙ sym (member
   where
     members : (i : ℕ) → has_member (all_states g) i ≡ nat_lt i g.states.count
     members i = elim (cases_lt i g.states.count) [
-        | inl lt ↦ eq-eqb (bit_at (all_states g) i) 1 (bit_at_ones g.states.count i lt) ∙ sym (lt-ltb i g.states.count lt)
-        | inr le ↦ ap (λ (b : ℕ). nat_eq b 1) (bit_at_ones_above g.states.count i le) ∙ ne_eqb 0 1 (λ e. absurd (omega (arith, e))) ∙ sym (le-ltb i g.states.count le)
-      ]
+      | inl lt ↦ eq-eqb (bit_at (all_states g) i) 1 (bit_at_ones g.states.count i lt) ∙ sym (lt-ltb i g.states.count lt)
+      | inr le ↦ ap (λ (b : ℕ). nat_eq b 1) (bit_at_ones_above g.states.count i le) ∙ ne_eqb 0 1 (λ e. absurd (omega (arith, e))) ∙ sym (le-ltb i g.states.count le)
+    ]
 
 -- no height is written
 pub none_written : (n : ℕ) → count_by is_none (replicate {A = ℕ} n 0) ≡ n
@@ -44,9 +44,9 @@ none_written (suc n) =
 
 pub nothing_there : (n k : ℕ) → ◌≡◌ {A = ℕ} (get_or {A = ℕ} (replicate n 0) k 0) 0
 nothing_there n k = elim (cases_lt k n) [
-    | inl lt ↦ get_or-replicate n k 0 0 lt
-    | inr le ↦ get_or_past (replicate n 0) k 0 (let e = length-replicate {A = ℕ} n 0 in omega (arith, e, le))
-  ]
+  | inl lt ↦ get_or-replicate n k 0 0 lt
+  | inr le ↦ get_or_past (replicate n 0) k 0 (let e = length-replicate {A = ℕ} n 0 in omega (arith, e, le))
+]
 
 first_stays : (xs ys : List Context) (c : Context) → slice_get xs 0 ≡ Some c → slice_get (xs ++ ys) 0 ≡ Some c
 first_stays [] ys c e = absurd (none-some c e)
@@ -98,12 +98,14 @@ module _ (g : Game) (functions : ℕ) (routed : AreRouted g functions) where
   pub longer_tabled : (t : Table) → IsTable g t → (c : Context) → IsMissing g t c → (longer : List Context) → longer ≡ t.contexts.items ++ c ∷ [] → length t.heights.items + size g c.function ≤ 4194304
       → 0 < size g c.function → AreTabled g longer × (cells_of g t.contexts.items < cells_of g longer)
   longer_tabled t table c missing longer e room some =
-      let cells = cells_of_longer t.contexts.items longer c e in
-      (record {
-        first = ap (λ (xs : List Context). slice_get xs 0) e ∙ first_stays t.contexts.items (c ∷ []) (context g.main (all_states g)) table.first;
-        needed = needed_longer t table c missing longer e;
-        few = omega (arith, cells, room, table.cells);
-      }, omega (arith, cells, some))
+      let cells = cells_of_longer t.contexts.items longer c e in (
+        record {
+          first = ap (λ (xs : List Context). slice_get xs 0) e ∙ first_stays t.contexts.items (c ∷ []) (context g.main (all_states g)) table.first;
+          needed = needed_longer t table c missing longer e;
+          few = omega (arith, cells, room, table.cells);
+        },
+        omega (arith, cells, some),
+      )
 
   -- and where there is none
   pub longer_too_many : (t : Table) → IsTable g t → (c : Context) → IsMissing g t c → (longer : List Context) → longer ≡ t.contexts.items ++ c ∷ [] → 4194304 < length t.heights.items + size g c.function

@@ -1,5 +1,5 @@
 -- What a solved game keeps, as its calls tell it.
-use Rattle.std.proofs.Common.{◌≡◌, ℕ, zero, suc, ◌+◌, ◌-◌, ◌*◌, ◌<◌, ◌≤◌, List, [], ◌∷◌, Option, Some, None, length, get_or, refl, sym, ap, ◌∙◌, subst, arith}
+use Rattle.std.proofs.Common.{◌≡◌, ℕ, suc, ◌+◌, ◌-◌, ◌<◌, ◌≤◌, List, [], ◌∷◌, Option, Some, length, refl, sym, ◌∙◌, subst, arith}
 use Rattle.std.specs.Prelude.{slice_get, slice_index, Contains}
 use Rattle.std.proofs.Math.Nat.{mul-le-mul}
 use Rattle.std.proofs.lemmas.List.Sums.{sum_by-cons}
@@ -11,7 +11,7 @@ use Rattle.cw_solve.specs.declared.table.Table.{Table}
 use Rattle.cw_solve.specs.Contexts.{IsOf, size, cells_of, HeightIs, AreTheNeeded}
 use Rattle.cw_solve.specs.Routes.{IsThere, AreRouted}
 use Rattle.cw_solve.specs.Rounds.{slot, height_by, IsCell}
-use Rattle.cw_solve.specs.Tables.{IsTable, IsDone}
+use Rattle.cw_solve.specs.Tables.{IsTable}
 use Rattle.cw_solve.specs.Solved.{Held, IsKept, IsNumbered, IsHeightIn}
 use Rattle.cw_solve.proofs.Tabling.{there}
 

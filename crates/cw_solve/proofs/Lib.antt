@@ -9,6 +9,7 @@ pub mod Moves
 pub mod Rounding
 pub mod Routing
 pub mod Slots
+pub mod Spotting
 pub mod Staying
 pub mod Still
 pub mod Tabling

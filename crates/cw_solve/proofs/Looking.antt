@@ -1,14 +1,14 @@
 -- A round looks at one cell after the other.
-use Rattle.std.proofs.Common.{◌≡◌, ◌≢◌, ℕ, zero, suc, ◌+◌, ◌-◌, ◌*◌, ◌<◌, ◌≤◌, ◌⊎◌, List, Bool, true, false, Option, Some, None, length, get_or, set, refl, sym, ap, ◌∙◌, subst, arith, inl, inr, get_or-set_same, get_or-set_other}
-use Rattle.std.specs.Prelude.{slice_get, slice_index, Contains}
+use Rattle.std.proofs.Common.{◌≡◌, ◌≢◌, ℕ, suc, ◌+◌, ◌<◌, List, true, false, Some, length, get_or, set, refl, sym, ap, subst, arith, inl, inr, get_or-set_same, get_or-set_other}
+use Rattle.std.specs.Prelude.{slice_get, Contains}
 use Rattle.std.proofs.lemmas.Bool.{cases_lt, cases_eq}
 use Rattle.cw_game.specs.Games.{Game, Holds}
 use Rattle.cw_game.specs.Pairs.{has, all_states}
 use Rattle.cw_solve.specs.declared.contexts.Context.{Context}
-use Rattle.cw_solve.specs.Contexts.{context, IsOf, cells_of, IsHeight, HeightIs, IsNeeded}
-use Rattle.cw_solve.specs.Routes.{IsState, AreRouted}
+use Rattle.cw_solve.specs.Contexts.{context, cells_of, HeightIs, IsNeeded}
+use Rattle.cw_solve.specs.Routes.{AreRouted}
 use Rattle.cw_solve.specs.Rounds.{slot, IsCell, height_by, IsWritten, AreWritten, IsAsked, IsLooked, AreLooked, WereAsked}
-use Rattle.cw_solve.proofs.Written.{widens, writes, goes_on, stands, ends}
+use Rattle.cw_solve.proofs.Written.{writes, goes_on, stands, ends}
 use Rattle.cw_solve.proofs.Still.{still_at, needed_tabled}
 use Rattle.cw_solve.proofs.Slots.{IsSame, same_slot, slot_within}
 
@@ -38,13 +38,13 @@ module _ (g : Game) (functions : ℕ) (routed : AreRouted g functions) (contexts
   pub looked_more : (heights : List ℕ) (n i : ℕ) (c : Context) (p q : ℕ) → IsCell g contexts i c p q → AreLooked g contexts heights n (slot g contexts i c.function p q)
       → IsLooked g contexts n p q c.promise (Value heights i c p q) → AreLooked g contexts heights n (slot g contexts i c.function p q + 1)
   looked_more heights n i c p q is old new = record {
-        each = λ j d r x are lt. elim (cases_lt (slot g contexts j d.function r x) (slot g contexts i c.function p q)) [
-          | inl less ↦ old.each j d r x are less
-          | inr le ↦
-              let z : slot g contexts i c.function p q ≡ slot g contexts j d.function r x = omega (arith, lt, le) in
-              carry g contexts i j c d p r q x (Value heights i c p q) (Value heights j d r x) (IsLookedAt n) (same_slot g contexts i j c d p r q x is are z) (ap (λ y. get_or heights y 0) z) new
-        ]
-      }
+    each = λ j d r x are lt. elim (cases_lt (slot g contexts j d.function r x) (slot g contexts i c.function p q)) [
+      | inl less ↦ old.each j d r x are less
+      | inr le ↦
+          let z : slot g contexts i c.function p q ≡ slot g contexts j d.function r x = omega (arith, lt, le) in
+          carry g contexts i j c d p r q x (Value heights i c p q) (Value heights j d r x) (IsLookedAt n) (same_slot g contexts i j c d p r q x is are z) (ap (λ y. get_or heights y 0) z) new
+    ];
+  }
 
   -- what is true of each cell, and of this one with what is written, is true of each after the write
   at_cells : (heights : List ℕ) (v i : ℕ) (c : Context) (p q : ℕ) → IsCell g contexts i c p q → slot g contexts i c.function p q < length heights → (F : Context → ℕ → ℕ → ℕ → Type 0)
@@ -65,35 +65,36 @@ module _ (g : Game) (functions : ℕ) (routed : AreRouted g functions) (contexts
       → AreWritten g contexts heights n (suc n) → Holds g n p q (has c.promise) ≡ true → Holds g (suc n) p q (has c.promise) ≡ false
       → AreWritten g contexts (set heights (slot g contexts i c.function p q) (suc n)) n (suc n)
   written_more heights n i c p q is lt old h l = record {
-        each = λ j d r x are. at_cells heights (suc n) i c p q is lt (λ c p q k. IsWritten g n (suc n) p q c.promise k) (writes g functions routed n p q c.promise is.state h l) j d r x are
-            (λ ne. old.each j d r x are)
-      }
+    each = λ j d r x are. at_cells heights (suc n) i c p q is lt (λ c p q k. IsWritten g n (suc n) p q c.promise k) (writes g functions routed n p q c.promise is.state h l) j d r x are
+        (λ ne. old.each j d r x are);
+  }
 
   pub looked_written : (heights : List ℕ) (n i : ℕ) (c : Context) (p q : ℕ) → IsCell g contexts i c p q → slot g contexts i c.function p q < length heights
       → AreLooked g contexts heights n (slot g contexts i c.function p q) → IsAsked g contexts n p q c.promise
       → AreLooked g contexts (set heights (slot g contexts i c.function p q) (suc n)) n (slot g contexts i c.function p q + 1)
   looked_written heights n i c p q is lt old asked = record {
-        each = λ j d r x are less. at_cells heights (suc n) i c p q is lt (IsLookedAt n) (record { asked = asked; holds = λ e. absurd (omega (arith, e)) }) j d r x are
-            (λ ne. old.each j d r x are (omega (arith, less, ne)))
-      }
+    each = λ j d r x are less. at_cells heights (suc n) i c p q is lt (IsLookedAt n) (record { asked = asked; holds = λ e. absurd (omega (arith, e)) }) j d r x are
+        (λ ne. old.each j d r x are (omega (arith, less, ne)));
+  }
 
   -- after a round
   pub round_written : (heights : List ℕ) (n m : ℕ) → AreWritten g contexts heights n m → AreLooked g contexts heights n (cells_of g contexts) → AreWritten g contexts heights (suc n) m
   round_written heights n m w l = record {
-        each = λ i c p q is. goes_on g functions routed n m p q c.promise (Value heights i c p q) (w.each i c p q is) (l.each i c p q is (slot_within g contexts i c p q is)).holds
-      }
+    each = λ i c p q is. goes_on g functions routed n m p q c.promise (Value heights i c p q) (w.each i c p q is) (l.each i c p q is (slot_within g contexts i c p q is)).holds;
+  }
 
   pub round_asked : (heights : List ℕ) (n : ℕ) → WereAsked g contexts n → AreLooked g contexts heights n (cells_of g contexts) → WereAsked g contexts (suc n)
   round_asked heights n were l = record {
-        each = λ m i c p q lt is. elim (cases_lt m n) [
-          | inl less ↦ were.each m i c p q less is
-          | inr le ↦
-              let e : n ≡ m = omega (arith, lt, le) in
-              subst (λ (y : ℕ). IsAsked g contexts y p q c.promise) e (l.each i c p q is (slot_within g contexts i c p q is)).asked
-        ]
-      }
+    each = λ m i c p q lt is. elim (cases_lt m n) [
+      | inl less ↦ were.each m i c p q less is
+      | inr le ↦
+          let e : n ≡ m = omega (arith, lt, le) in
+          subst (λ (y : ℕ). IsAsked g contexts y p q c.promise) e (l.each i c p q is (slot_within g contexts i c p q is)).asked
+    ];
+  }
 
-  module _ (heights : List ℕ) (n : ℕ) (w : AreWritten g contexts heights n n) (l : AreLooked g contexts heights n (cells_of g contexts)) (were : WereAsked g contexts n) where
+  module _ (heights : List ℕ) (n : ℕ) (w : AreWritten g contexts heights n n) (l : AreLooked g contexts heights n (cells_of g contexts)) (were : WereAsked g contexts n)
+      (below : (i : ℕ) (c : Context) → slice_get contexts i ≡ Some c → c.function < functions) where
     looked : (i : ℕ) (c : Context) (p q : ℕ) → IsCell g contexts i c p q → IsLookedAt n c p q (Value heights i c p q)
     looked i c p q is = l.each i c p q is (slot_within g contexts i c p q is)
 
@@ -104,8 +105,8 @@ module _ (g : Game) (functions : ℕ) (routed : AreRouted g functions) (contexts
     pub heights_are : (i : ℕ) (c : Context) (p q : ℕ) → IsCell g contexts i c p q → HeightIs g p q c.promise (height_by (Value heights i c p q))
     heights_are i c p q is =
         ends g functions routed n p q c.promise (Value heights i c p q) is.state (w.each i c p q is)
-        (λ m le. still_at g functions routed contexts n rests (λ i c p q is. (looked i c p q is).asked) m le i c p q is)
+        (λ m le. still_at g functions routed contexts n below rests (λ i c p q is. (looked i c p q is).asked) m le i c p q is)
 
     -- .. and the tabled contexts are all that are needed.
     pub all_tabled : Contains contexts (context g.main (all_states g)) → (c : Context) → IsNeeded g c → Contains contexts c
-    all_tabled main c need = needed_tabled g functions routed contexts n rests (λ i c p q is. (looked i c p q is).asked) were main c need
+    all_tabled main c need = needed_tabled g functions routed contexts n below rests (λ i c p q is. (looked i c p q is).asked) were main c need

@@ -1,13 +1,12 @@
 -- What a pair asks of the pairs to which its moves lead.
-use Rattle.std.proofs.Common.{◌≡◌, ℕ, zero, suc, ◌+◌, ◌<◌, ◌≤◌, List, [], ◌∷◌, Bool, true, false, cond, not, ◌&&◌, ◌||◌, Option, Some, None, refl, sym, ap, ap₂, ◌∙◌, subst, arith}
-use Rattle.std.specs.Prelude.{slice_get, option_map}
-use Rattle.cw_rights.specs.declared.capabilities.Primitive.{Primitive}
+use Rattle.std.proofs.Common.{◌≡◌, ℕ, Bool, true, false, cond, not, ◌&&◌, ◌||◌, Option, Some, None, refl, sym, ap₂}
+use Rattle.std.specs.Prelude.{option_map}
 use Rattle.cw_rights.specs.declared.capabilities.Primitive.TheVariants.{Limit, Enter, Split}
 use Rattle.cw_game.specs.declared.spots.Spot.{Spot}
 use Rattle.cw_game.specs.declared.spots.Spot.TheVariants.{Visit, Asked, Step, Branch, Label, Open, Close, Call, SplitCall, Exit}
-use Rattle.cw_game.specs.Games.{Game, Config, refuses_in, bad_in, Promise, holds_in, Holds}
+use Rattle.cw_game.specs.Games.{Game, Config, refuses_in, bad_in, Promise, holds_in}
 use Rattle.cw_game.specs.Pairs.{is_call_in, is_exit_in}
-use Rattle.cw_product.specs.Moves.{pair_of, next_in}
+use Rattle.cw_product.specs.Moves.{pair_of}
 use Rattle.cw_solve.specs.Asking.{holds_after, holds_by_moves}
 
 -- where the choice is there it leads to this pair

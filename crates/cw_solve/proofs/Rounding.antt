@@ -1,6 +1,6 @@
 -- What a round leaves in a table, cell by cell.
-use Rattle.std.proofs.Common.{◌≡◌, ◌≢◌, ℕ, zero, suc, ◌+◌, ◌-◌, ◌*◌, ◌<◌, ◌≤◌, ◌⊎◌, List, Bool, true, false, Option, Some, None, length, get_or, set, take, refl, sym, ap, ap₂, ◌∙◌, subst, arith, inl, inr}
-use Rattle.std.specs.Prelude.{slice_get, slice_index, Contains}
+use Rattle.std.proofs.Common.{◌≡◌, ℕ, suc, ◌+◌, ◌<◌, List, true, false, Some, length, get_or, set, sym, ap, ap₂, ◌∙◌, subst, arith, inl, inr}
+use Rattle.std.specs.Prelude.{slice_get}
 use Rattle.std.proofs.lemmas.Bool.{cases_eq}
 use Rattle.cw_game.specs.Games.{Game, Holds}
 use Rattle.std.proofs.lemmas.Option.{slice_get_within, get_or_from_slice_get}
@@ -8,10 +8,11 @@ use Rattle.cw_game.specs.Pairs.{has, all_states}
 use Rattle.cw_solve.specs.declared.contexts.Context.{Context}
 use Rattle.cw_solve.specs.declared.table.Table.{Table}
 use Rattle.cw_solve.specs.declared.table.Tabled.{Tabled}
-use Rattle.cw_solve.specs.Contexts.{context, size, cells_of}
+use Rattle.cw_solve.specs.Contexts.{context, cells_of}
 use Rattle.cw_solve.specs.Routes.{AreRouted}
-use Rattle.cw_solve.specs.Rounds.{slot, IsCell, AreWritten, AreLooked, IsAsked, WereAsked}
-use Rattle.cw_solve.specs.Tables.{IsTable, IsTabled, HasCell, IsAtRound, IsInRound, IsLater, IsDone, Writes}
+use Rattle.cw_solve.specs.Rounds.{slot, AreWritten, AreLooked, IsAsked, WereAsked}
+use Rattle.cw_solve.specs.Tables.{IsTable, HasCell, IsAtRound, IsInRound, IsLater, IsDone, Writes}
+use Rattle.cw_solve.proofs.Tabling.{there_at}
 use Rattle.cw_solve.proofs.Written.{reads, widens}
 use Rattle.cw_solve.proofs.Looking.{nothing_looked, looked_more, looked_written, written_more, round_written, round_asked, heights_are, all_tabled}
 
@@ -39,7 +40,7 @@ module _ (g : Game) (functions : ℕ) (routed : AreRouted g functions) where
       held : get_or t.heights.items (slot g t.contexts.items at.number at.context.function p q) 0 ≡ 0 → Holds g n p q (has at.context.promise) ≡ true
       held none =
           let r = reads g functions routed n (suc n) p q at.context.promise (get_or t.heights.items (slot g t.contexts.items at.number at.context.function p q) 0) is.state
-                (round.written.each at.number at.context p q is) in
+          (round.written.each at.number at.context p q is) in
           sym (rw none at r)
 
       within : slot g t.contexts.items at.number at.context.function p q < length t.heights.items
@@ -92,11 +93,12 @@ module _ (g : Game) (functions : ℕ) (routed : AreRouted g functions) where
   pub round_rests : (t new : Table) (n : ℕ) → IsTable g new → IsAtRound g t n → IsLater t new → IsInRound g new n (cells_of g new.contexts.items) → new.written ≡ t.written → IsDone g new
   round_rests t new n table at later round same =
       let w : AreWritten g new.contexts.items new.heights.items n n
-            = subst (λ (cs : List Context). AreWritten g cs new.heights.items n n) (sym later.contexts)
-              (subst (λ (hs : List ℕ). AreWritten g t.contexts.items hs n n) (sym (later.same (sym same))) at.written) in
+      = subst (λ (cs : List Context). AreWritten g cs new.heights.items n n) (sym later.contexts)
+      (subst (λ (hs : List ℕ). AreWritten g t.contexts.items hs n n) (sym (later.same (sym same))) at.written) in
+      let below : (i : ℕ) (c : Context) → slice_get new.contexts.items i ≡ Some c → c.function < functions = λ i c at. (there_at g functions routed new table i c at).below in
       let were : WereAsked g new.contexts.items n = subst (λ (cs : List Context). WereAsked g cs n) (sym later.contexts) at.asked in
       record {
-        heights = λ i c p q is. heights_are g functions routed new.contexts.items new.heights.items n w round.looked were i c p q is;
-        all = λ c need. all_tabled g functions routed new.contexts.items new.heights.items n w round.looked were
+        heights = λ i c p q is. heights_are g functions routed new.contexts.items new.heights.items n w round.looked were below i c p q is;
+        all = λ c need. all_tabled g functions routed new.contexts.items new.heights.items n w round.looked were below
             (0, slice_get_within new.contexts.items 0 _ table.first, get_or_from_slice_get new.contexts.items 0 (context g.main (all_states g)) (context g.main (all_states g)) table.first) c need;
       }

@@ -1,5 +1,5 @@
 -- Each cell of a table has a place of its own.
-use Rattle.std.proofs.Common.{◌≡◌, ℕ, zero, suc, ◌+◌, ◌-◌, ◌*◌, ◌/◌, ◌%◌, ◌<◌, ◌≤◌, ◌⊎◌, List, [], ◌∷◌, ◌++◌, Option, Some, None, length, get_or, take, refl, sym, ap, ap₂, ◌∙◌, subst, arith, inl, inr}
+use Rattle.std.proofs.Common.{◌≡◌, ℕ, suc, ◌+◌, ◌-◌, ◌*◌, ◌/◌, ◌%◌, ◌<◌, ◌≤◌, List, Some, take, refl, sym, ap, ap₂, ◌∙◌, subst, arith, inl, inr}
 use Rattle.std.specs.Prelude.{slice_get, sum_by}
 use Rattle.std.proofs.lemmas.Bool.{cases_lt}
 use Rattle.std.proofs.lemmas.Nat.{div-mul-add, mod-mul-add, mul-add-lt}
@@ -8,7 +8,7 @@ use Rattle.std.proofs.lemmas.List.Sums.{sum_by_more, sum_by_more_le, sum_by-take
 use Rattle.std.proofs.lemmas.Option.{same_Some, get_or_from_slice_get, slice_get_within}
 use Rattle.cw_game.specs.Games.{Game}
 use Rattle.cw_solve.specs.declared.contexts.Context.{Context}
-use Rattle.cw_solve.specs.Contexts.{context, IsOf, size, cells_of}
+use Rattle.cw_solve.specs.Contexts.{IsOf, size, cells_of}
 use Rattle.cw_solve.specs.Rounds.{base, slot, IsCell}
 
 module _ (g : Game) (contexts : List Context) where
@@ -70,9 +70,9 @@ module _ (g : Game) (contexts : List Context) where
       elim (cases_lt i j) [
         | inl lt ↦ absurd (omega (arith, e, apart i j c d p r q x lt is are))
         | inr le ↦ elim (cases_lt j i) [
-            | inl lt ↦ absurd (omega (arith, e, apart j i d c r p x q lt are is))
-            | inr ge ↦ equal (omega (arith, le, ge))
-          ]
+          | inl lt ↦ absurd (omega (arith, e, apart j i d c r p x q lt are is))
+          | inr ge ↦ equal (omega (arith, le, ge))
+        ]
       ]
     where
       equal : i ≡ j → IsSame i j c d p r q x

@@ -1,20 +1,19 @@
 -- Where a round changes nothing and asks for nothing new, no later one would: so what is written are the heights, and the tabled contexts are all that
 -- are needed.
-use Rattle.std.proofs.Common.{◌≡◌, ℕ, zero, suc, ◌+◌, ◌-◌, ◌<◌, ◌≤◌, List, [], ◌∷◌, Bool, true, false, not, ◌&&◌, ◌||◌, Option, Some, None, refl, sym, ap, ap₂, ◌∙◌, subst, arith, inl, inr, ⊎_elim}
+use Rattle.std.proofs.Common.{◌≡◌, ℕ, zero, suc, ◌+◌, ◌-◌, ◌<◌, ◌≤◌, List, [], ◌∷◌, Bool, true, false, not, ◌&&◌, ◌||◌, Option, Some, None, refl, sym, ap, ap₂, ◌∙◌, subst, arith, inl, inr}
 use Rattle.std.specs.Prelude.{slice_get, Contains}
 use Rattle.std.proofs.lemmas.Bool.{cases_lt}
 use Rattle.std.proofs.lemmas.Option.{slice_get-get_or}
-use Rattle.cw_rights.specs.declared.capabilities.Primitive.{Primitive}
 use Rattle.cw_rights.specs.declared.capabilities.Primitive.TheVariants.{Split}
 use Rattle.cw_game.specs.declared.spots.Spot.{Spot}
 use Rattle.cw_game.specs.declared.spots.Spot.TheVariants.{Visit, Asked, Step, Branch, Label, Open, Close, Call, SplitCall, Exit}
 use Rattle.cw_game.specs.Games.{Game, refuses_in, returned, Promise, holds_in, Holds}
 use Rattle.cw_game.specs.Pairs.{has, all_states, Called, call_in, is_call_in, call_spot, kept_at}
 use Rattle.cw_solve.specs.declared.contexts.Context.{Context}
-use Rattle.cw_solve.specs.Contexts.{context, IsOf, IsHeight, HeightIs, promise_at, IsSetOf, IsNeeded, of_main, of_call}
-use Rattle.cw_solve.specs.Routes.{IsState, targets, IsThere, AreRouted}
+use Rattle.cw_solve.specs.Contexts.{context, promise_at, IsNeeded, of_main, of_call}
+use Rattle.cw_solve.specs.Routes.{IsState, targets, AreRouted}
 use Rattle.cw_solve.specs.Rounds.{IsCell, IsAsked, WereAsked}
-use Rattle.cw_solve.proofs.Falls.{same_bools, call_is, AreSame, holds_same, return_state, back_stays, member_is, set_as, set_is}
+use Rattle.cw_solve.proofs.Falls.{call_is, holds_same, return_state, back_stays, member_is, set_as, set_is}
 
 same_where : (yes a b : Bool) → (yes ≡ true → a ≡ b) → (not yes || a) ≡ (not yes || b)
 same_where true a b f = f refl
@@ -93,7 +92,7 @@ module _ (g : Game) (functions : ℕ) (routed : AreRouted g functions) where
       → IsCell g contexts i (context call.function set) (g.entry call.function) q
   entry_cell contexts p q set call es s i at = record { at = at; of = (omega arith, (routed.called p call es).begins); state = s }
 
-  module _ (contexts : List Context) (n : ℕ)
+  module _ (contexts : List Context) (n : ℕ) (below : (i : ℕ) (c : Context) → slice_get contexts i ≡ Some c → c.function < functions)
       (stands : (i : ℕ) (c : Context) (p q : ℕ) → IsCell g contexts i c p q → Holds g (suc n) p q (has c.promise) ≡ Holds g n p q (has c.promise))
       (asked : (i : ℕ) (c : Context) (p q : ℕ) → IsCell g contexts i c p q → IsAsked g contexts n p q c.promise) where
     abbrev IsStill : ℕ → Type 0
@@ -108,7 +107,7 @@ module _ (g : Game) (functions : ℕ) (routed : AreRouted g functions) where
         let there = entry_cell contexts p q a.0 call es is.state j.0 j.1 in
         let promised : ℕ → Promise = λ m. promise_at g m call.back (kept_at call.split q) c.promise in
         let back : (x : ℕ) → IsState g x → promised (n + d) x ≡ promised n x
-              = λ x s. ih i c call.back (returned g.states (kept_at call.split q) x) (record { at = is.at; of = back_stays g functions routed c.function p call is.of es; state = return_state g functions routed p x q call es s is.state }) in
+        = λ x s. ih i c call.back (returned g.states (kept_at call.split q) x) (record { at = is.at; of = back_stays g functions routed c.function p call (below i c is.at) is.of es; state = return_state g functions routed p x q call es s is.state }) in
         let set : (x : ℕ) → IsState g x → promised n x ≡ has a.0 x = λ x s. sym (member_is g a.0 (promised n) a.2 x s) in
         holds_call (Holds g (n + d)) p q (has c.promise) call es
         ∙ holds_same g functions routed (n + d) (g.entry call.function) q (promised (n + d)) (has a.0) is.state (λ x s. back x s ∙ set x s)
@@ -120,7 +119,7 @@ module _ (g : Game) (functions : ℕ) (routed : AreRouted g functions) where
         → Holds g (suc (n + d)) p q (has c.promise) ≡ Holds g (suc n) p q (has c.promise)
     elsewhere d ih i c p q is k =
         same_in (Holds g (n + d)) (Holds g n) p q (has c.promise) is.state (slice_get g.spots p) refl k
-        (λ r x to s. ih i c r x (record { at = is.at; of = routed.stays c.function p r is.of to; state = s }))
+        (λ r x to s. ih i c r x (record { at = is.at; of = routed.stays c.function p r (below i c is.at) is.of to; state = s }))
 
     pub still : (d : ℕ) → IsStill d
     still zero i c p q is = let e : n + 0 ≡ n = omega arith in rw e refl
@@ -137,9 +136,12 @@ module _ (g : Game) (functions : ℕ) (routed : AreRouted g functions) where
         elim (cases_lt m n) [
           | inl lt ↦ were.each m i c p q lt is call es
           | inr le ↦
-              let a = asked i c p q is call es in
-              (a.0, a.1, set_as g a.0 (promise_at g n call.back (kept_at call.split q) c.promise) (promise_at g m call.back (kept_at call.split q) c.promise) a.2
-              (λ x s. sym (still_at m le i c call.back (returned g.states (kept_at call.split q) x) (record { at = is.at; of = back_stays g functions routed c.function p call is.of es; state = return_state g functions routed p x q call es s is.state }))))
+              let a = asked i c p q is call es in (
+                a.0,
+                a.1,
+                set_as g a.0 (promise_at g n call.back (kept_at call.split q) c.promise) (promise_at g m call.back (kept_at call.split q) c.promise) a.2
+                    (λ x s. sym (still_at m le i c call.back (returned g.states (kept_at call.split q) x) (record { at = is.at; of = back_stays g functions routed c.function p call (below i c is.at) is.of es; state = return_state g functions routed p x q call es s is.state }))),
+              )
         ]
 
     module _ (were : WereAsked g contexts n) (main : Contains contexts (context g.main (all_states g))) where

@@ -1,20 +1,19 @@
 -- What a table keeps tells of its contexts and cells.
-use Rattle.std.proofs.Common.{◌≡◌, ℕ, zero, suc, ◌+◌, ◌-◌, ◌*◌, ◌<◌, ◌≤◌, ◌⊎◌, List, Bool, true, false, cond, ◌&&◌, Option, Some, None, length, get_or, take, refl, sym, ap, ◌∙◌, subst, arith, inl, inr}
-use Rattle.std.specs.Prelude.{slice_get, slice_index, nat_eq, nat_lt, Contains, ◌||◌}
+use Rattle.std.proofs.Common.{◌≡◌, ℕ, suc, ◌<◌, Some, length, get_or, take, sym, ap, ◌∙◌, arith}
+use Rattle.std.specs.Prelude.{slice_get, slice_index, nat_lt, ◌||◌}
 use Rattle.std.proofs.lemmas.Bool.{ne_eqb}
 use Rattle.std.proofs.lemmas.List.{get_or_default}
 use Rattle.std.proofs.lemmas.Option.{slice_get_within, get_or_from_slice_get}
-use Rattle.cw_game.specs.Games.{Game, Promise, Holds}
-use Rattle.cw_game.specs.Pairs.{has, all_states, Called, call_in}
+use Rattle.cw_game.specs.Games.{Game, Holds}
+use Rattle.cw_game.specs.Pairs.{has}
 use Rattle.cw_solve.specs.declared.contexts.Context.{Context}
 use Rattle.cw_solve.specs.declared.table.Table.{Table}
 use Rattle.cw_solve.specs.declared.table.Tabled.{Tabled}
-use Rattle.cw_solve.specs.Contexts.{context, IsOf, size, cells_of, IsNeeded, of_main, of_call, AreNeeded}
-use Rattle.cw_solve.specs.Routes.{IsState, IsThere, AreRouted}
-use Rattle.cw_solve.specs.Rounds.{slot, holds_by, IsCell, IsWritten, AreWritten}
-use Rattle.cw_solve.specs.Tables.{IsTable, IsTabled, HasCell}
+use Rattle.cw_solve.specs.Contexts.{cells_of, IsNeeded, of_main, of_call}
+use Rattle.cw_solve.specs.Routes.{IsThere, AreRouted}
+use Rattle.cw_solve.specs.Rounds.{slot, holds_by, AreWritten}
+use Rattle.cw_solve.specs.Tables.{IsTable, HasCell}
 use Rattle.cw_solve.proofs.Written.{reads}
-use Rattle.cw_solve.proofs.Slots.{slot_within}
 
 module _ (g : Game) (functions : ℕ) (routed : AreRouted g functions) where
   pub there : (c : Context) → IsNeeded g c → IsThere g functions c.function

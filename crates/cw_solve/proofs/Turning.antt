@@ -1,13 +1,13 @@
 -- Whose turn it is tells what stands at a position.
-use Rattle.std.proofs.Common.{◌≡◌, ◌⊎◌, ℕ, Bool, true, false, not, ◌&&◌, ◌||◌, Option, Some, None, nat_eq, refl, sym, ap, ap₂, ◌∙◌, inl, inr, ⊎_elim}
-use Rattle.std.specs.Prelude.{slice_get, option_map}
+use Rattle.std.proofs.Common.{◌≡◌, ℕ, Bool, true, false, not, ◌&&◌, ◌||◌, Option, Some, None, refl, sym, ap, ◌∙◌}
+use Rattle.std.specs.Prelude.{option_map}
 use Rattle.std.proofs.lemmas.Bool.{false≢true}
 use Rattle.std.proofs.lemmas.Option.{same_Some, none-some}
 use Rattle.cw_core.specs.declared.ids.PosId.{PosId}
 use Rattle.cw_game.specs.declared.spots.Spot.{Spot}
 use Rattle.cw_game.specs.declared.spots.Spot.TheVariants.{Visit, Asked, Step, Branch, Label, Open, Close, Call, SplitCall, Exit}
-use Rattle.cw_game.specs.Games.{Game, bad_in, Promise, holds_in, Holds}
-use Rattle.cw_game.specs.Pairs.{has, call_spot, is_call_in, is_exit_in}
+use Rattle.cw_game.specs.Games.{Game, bad_in, Promise, holds_in}
+use Rattle.cw_game.specs.Pairs.{call_spot, is_call_in, is_exit_in}
 use Rattle.cw_product.specs.declared.turn.Turn.{Turn}
 use Rattle.cw_product.specs.declared.turn.Turn.TheVariants as turn
 use Rattle.cw_product.specs.Moves.{turn_in}

@@ -1,5 +1,5 @@
 -- What is written of one cell, from round to round.
-use Rattle.std.proofs.Common.{◌≡◌, ℕ, zero, suc, ◌+◌, ◌<◌, ◌≤◌, Bool, true, false, cond, ◌||◌, Option, Some, None, refl, sym, ap, ◌∙◌, subst, arith, inl, inr, ⊎_elim}
+use Rattle.std.proofs.Common.{◌≡◌, ℕ, zero, suc, ◌<◌, ◌≤◌, Bool, true, false, ◌||◌, refl, sym, ◌∙◌, arith, inl, inr}
 use Rattle.std.specs.Prelude.{nat_eq, nat_lt}
 use Rattle.std.proofs.lemmas.Bool.{cases_lt, lt-ltb, le-ltb, ne_eqb}
 use Rattle.cw_game.specs.Games.{Game, Holds}
@@ -65,8 +65,8 @@ module _ (g : Game) (functions : ℕ) (routed : AreRouted g functions) where
   -- and where no later round does, what is written is the height
   pub ends : (n p q e k : ℕ) → IsState g q → IsWritten g n n p q e k → ((m : ℕ) → n ≤ m → Holds g m p q (has e) ≡ Holds g n p q (has e)) → HeightIs g p q e (height_by k)
   ends n p q e k s (inl w) h = rw w.0 (λ m. elim (cases_lt m n) [
-        | inl lt ↦ let le : m ≤ n = omega (arith, lt) in sooner g functions routed m n p q (has e) le s w.1
-        | inr le ↦ h m le ∙ w.1
-      ])
+    | inl lt ↦ let le : m ≤ n = omega (arith, lt) in sooner g functions routed m n p q (has e) le s w.1
+    | inr le ↦ h m le ∙ w.1
+  ])
   ends n p q e zero s (inr w) h = absurd (let z = height_positive g p q e 0 w.1 in omega (arith, z))
   ends n p q e (suc k) s (inr w) h = w.1

@@ -1,5 +1,5 @@
 -- Working definitions: what a pair that isn't bad, a call or an exit asks of the pairs to which its moves lead.
-use Rattle.std.specs.Prelude.{ℕ, Bool, true, ◌&&◌, ◌||◌, Option, Some, None, slice_get}
+use Rattle.std.specs.Prelude.{ℕ, Bool, true, ◌&&◌, ◌||◌, Option, Some, None}
 use Rattle.cw_certs.specs.declared.moves.Move.{Move}
 use Rattle.cw_certs.specs.declared.moves.Move.TheVariants.{Skip, Try, Grant, Refuse, On, Left, Right, Opened, Failed}
 use Rattle.cw_game.specs.declared.spots.Spot.{Spot}

@@ -38,6 +38,6 @@ pub record AreRouted (g : Game) (functions : ℕ) : Type 0 where
   pub short : length g.spots ≤ 1048576
   pub pairs : length g.spots * g.states.count ≤ 1048576
   pub closed : AreClosed g (IsState g)
-  pub stays : (f p r : ℕ) → IsOf g f p → Contains (targets p (slice_get g.spots p)) r → IsOf g f r
+  pub stays : (f p r : ℕ) → f < functions → IsOf g f p → Contains (targets p (slice_get g.spots p)) r → IsOf g f r
   pub main : IsThere g functions g.main
   pub called : (p : ℕ) (call : Called) → call_in (slice_get g.spots p) ≡ Some call → IsThere g functions call.function

@@ -1,12 +1,12 @@
 -- A game that is solved: its needed contexts.
-use Rattle.std.specs.Prelude.{◌≡◌, ◌<◌, ◌≤◌, ℕ, List, Option, Some, length, slice_get}
+use Rattle.std.specs.Prelude.{◌≡◌, ◌<◌, ℕ, List, Option, Some, length, slice_get}
 use Rattle.cw_game.specs.Games.{Game}
 use Rattle.cw_product.specs.Product.{Held as HeldGame, game_of}
 use Rattle.cw_solve.specs.declared.contexts.Context.{Context}
 use Rattle.cw_solve.specs.declared.fault.SolveFault.{SolveFault}
 use Rattle.cw_solve.specs.declared.fault.SolveFault.TheVariants.{TooManyCells, NoMemory}
 use Rattle.cw_solve.specs.declared.table.Table.{Table}
-use Rattle.cw_solve.specs.Contexts.{IsOf, cells_of, HeightIs, AreTheNeeded, AreTooMany}
+use Rattle.cw_solve.specs.Contexts.{IsOf, HeightIs, AreTooMany}
 use Rattle.cw_solve.specs.Routes.{AreRouted}
 use Rattle.cw_solve.specs.Tables.{IsTable, IsDone}
 

@@ -3,6 +3,7 @@
 
 pub mod contexts;
 pub mod fault;
+pub mod laws;
 mod look;
 mod rounds;
 pub mod solved;

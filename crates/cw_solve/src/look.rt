@@ -75,14 +75,7 @@ fn call_holds(
 }
 
 /// Whether a pair that is no call and no exit, and isn't bad, holds for one move more.
-fn moves_hold(
-    game: &Game,
-    table: &Table,
-    n: u32,
-    at: &Tabled,
-    pos: PosId,
-    state: StateId,
-) -> bool
+fn moves_hold(game: &Game, table: &Table, n: u32, at: &Tabled, pos: PosId, state: StateId) -> bool
     requires routed { AreRouted (game_of game.now) (length game.now.graph.parts.items) }
     requires table { IsTable (game_of game.now) table.now }
     requires cell { HasCell (game_of game.now) table.now at.now pos.0 state.0 }
@@ -177,13 +170,7 @@ pub(crate) fn look_at(
 }
 
 /// Looks at the cells of a position.
-fn look_position(
-    game: &Game,
-    table: &mut Table,
-    n: u32,
-    at: &Tabled,
-    pos: PosId,
-) -> Option<Context>
+fn look_position(game: &Game, table: &mut Table, n: u32, at: &Tabled, pos: PosId) -> Option<Context>
     requires routed { AreRouted (game_of game.now) (length game.now.graph.parts.items) }
     requires table { IsTable (game_of game.now) table.old }
     requires tabled { IsTabled table.old at.now }

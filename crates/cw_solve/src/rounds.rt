@@ -60,11 +60,7 @@ pub(crate) fn main_context(game: &Game) -> Context
 }
 
 /// A table of these contexts in which nothing is written.
-pub(crate) fn fresh(
-    alloc: Global,
-    game: &Game,
-    contexts: Vec<Context>,
-) -> Result<Table, AllocError>
+pub(crate) fn fresh(alloc: Global, game: &Game, contexts: Vec<Context>) -> Result<Table, AllocError>
     requires routed { AreRouted (game_of game.now) (length game.now.graph.parts.items) }
     requires contexts { AreTabled (game_of game.now) contexts.items }
     ensures same { IfOk result (λ t. t.contexts.items ≡ contexts.items) }

@@ -75,7 +75,9 @@ pub(crate) fn place_of(contexts: &[Context], function: u16, promise: &StateSet) 
     ensures place { result ≡ position (λ c. nat_eq c.function function && nat_eq c.promise promise.now) contexts.now }
     ensures within { IfSome result (λ i. i < length contexts.now) }
 {
-    contexts.iter().position(|c| c.function == function && c.promise == *promise)
+    contexts
+        .iter()
+        .position(|c| c.function == function && c.promise == *promise)
 }
 
 /// What a call promises for n moves: the exit states from which the return holds.

@@ -1,5 +1,5 @@
-use Rattle.std.proofs.Common.{◌≡◌, ℕ, List, Bool, ◌&&◌, nat_eq, Option, Some, length, sym, ap, ap₂, ◌∙◌}
-use Rattle.std.specs.Prelude.{position, slice_get}
+use Rattle.std.proofs.Common.{◌≡◌, ℕ, ◌&&◌, nat_eq, Some, length, sym, ap, ap₂, ◌∙◌}
+use Rattle.std.specs.Prelude.{position}
 use Rattle.std.proofs.lemmas.Option.{get_or_from_slice_get}
 use Rattle.cw_game.specs.Games.{Holds}
 use Rattle.cw_game.specs.Pairs.{has}
@@ -7,7 +7,7 @@ use Rattle.cw_product.specs.Product.{game_of}
 use Rattle.cw_solve.specs.declared.contexts.Context.{Context}
 use Rattle.cw_solve.specs.declared.table.Tabled.{Tabled}
 use Rattle.cw_solve.specs.Contexts.{context}
-use Rattle.cw_solve.proofs.Calling.{cell_within, back_cell, callee_there, callee_cell, call_missing, call_asked, call_holds, place_is, place_none}
+use Rattle.cw_solve.proofs.Calling.{back_cell, callee_there, callee_cell, call_missing, call_asked, call_holds, place_is, place_none}
 use Rattle.cw_solve.proofs.look.call_holds.Goals as goal
 
 pub promised-promise-requires-clause-cell : goal.promised-promise-requires-clause-cell
@@ -31,7 +31,7 @@ holds-requires-clause-cell c =
     let set = c.promised-promise.result in
     let i = c.in-Some.number in
     let found : position (λ (x : Context). nat_eq x.function f && nat_eq x.promise set) contexts ≡ Some i
-          = sym (c.in-Some.ensures.place ∙ ap (position (λ (x : Context). nat_eq x.function f && nat_eq x.promise set)) c.deref.ensures.value) in
+    = sym (c.in-Some.ensures.place ∙ ap (position (λ (x : Context). nat_eq x.function f && nat_eq x.promise set)) c.deref.ensures.value) in
     let at = place_is contexts f set i found in
     let same : c.index.result.now ≡ context f set = c.index.ensures ∙ get_or_from_slice_get contexts i (context f set) c.index.result.now at in
     let callee : Tabled = record { number = i; context = c.index.result.now } in
@@ -58,12 +58,12 @@ returns-in-Some-clause-holds c =
     let set = c.promised-promise.result in
     let i = c.in-Some.number in
     let found : position (λ (x : Context). nat_eq x.function f && nat_eq x.promise set) contexts ≡ Some i
-          = sym (c.in-Some.ensures.place ∙ ap (position (λ (x : Context). nat_eq x.function f && nat_eq x.promise set)) c.deref.ensures.value) in
+    = sym (c.in-Some.ensures.place ∙ ap (position (λ (x : Context). nat_eq x.function f && nat_eq x.promise set)) c.deref.ensures.value) in
     let at = place_is contexts f set i found in
     let same : c.index.result.now ≡ context f set = c.index.ensures ∙ get_or_from_slice_get contexts i (context f set) c.index.result.now at in
     c.holds.ensures ∙ ap₂ (λ (p : ℕ) (x : Context). Holds g c.args.n p c.args.state.0 (has x.promise)) c.entry.ensures.is same
     ∙ call_holds g functions c.requires.routed c.args.table.now c.requires.table c.args.at.now c.args.n c.args.pos.0 c.args.state.0 f c.args.back.0 set c.args.split c.requires.cell c.requires.call
-      c.promised-promise.ensures
+    c.promised-promise.ensures
 
 pub returns-in-Some-clause-asked : goal.returns-in-Some-clause-asked
 returns-in-Some-clause-asked c =
@@ -74,6 +74,6 @@ returns-in-Some-clause-asked c =
     let set = c.promised-promise.result in
     let i = c.in-Some.number in
     let found : position (λ (x : Context). nat_eq x.function f && nat_eq x.promise set) contexts ≡ Some i
-          = sym (c.in-Some.ensures.place ∙ ap (position (λ (x : Context). nat_eq x.function f && nat_eq x.promise set)) c.deref.ensures.value) in
+    = sym (c.in-Some.ensures.place ∙ ap (position (λ (x : Context). nat_eq x.function f && nat_eq x.promise set)) c.deref.ensures.value) in
     call_asked g functions c.requires.routed c.args.table.now c.requires.table c.args.at.now c.args.n c.args.pos.0 c.args.state.0 f c.args.back.0 set i c.args.split c.requires.call
     c.promised-promise.ensures (place_is contexts f set i found)

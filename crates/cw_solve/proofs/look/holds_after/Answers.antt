@@ -1,4 +1,4 @@
-use Rattle.std.proofs.Common.{◌≡◌, length, sym, ◌∙◌}
+use Rattle.std.proofs.Common.{length, sym}
 use Rattle.cw_product.specs.Product.{game_of}
 use Rattle.cw_solve.proofs.Calling.{cell_within, moved}
 use Rattle.cw_solve.proofs.look.holds_after.Goals as goal

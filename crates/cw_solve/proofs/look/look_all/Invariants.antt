@@ -1,6 +1,6 @@
 use Rattle.cw_product.specs.Product.{game_of}
 use Rattle.cw_solve.specs.Rounds.{base}
-use Rattle.cw_solve.specs.Tables.{IsTable, IsTabled, IsInRound, IsLater}
+use Rattle.cw_solve.specs.Tables.{IsTable, IsInRound, IsLater}
 use Rattle.cw_solve.proofs.look.look_all.Given as goal
 
 abbrev pub invariant-loop-number : goal.invariant-loop-number

@@ -1,4 +1,4 @@
-use Rattle.std.proofs.Common.{◌≡◌, length, sym, ◌∙◌, ap, refl, ◌||◌}
+use Rattle.std.proofs.Common.{length, sym, ◌∙◌, ap, ◌||◌}
 use Rattle.std.specs.Prelude.{slice_get}
 use Rattle.cw_core.specs.StateSet.{has as has_member}
 use Rattle.cw_game.specs.Games.{Holds}

@@ -1,10 +1,10 @@
-use Rattle.std.proofs.Common.{◌≡◌, ◌<◌, ◌+◌, ◌∷◌, [], ℕ, List, get_or, take, length, replicate, sym, ap, ◌∙◌, subst, arith, refl}
+use Rattle.std.proofs.Common.{◌≡◌, ◌<◌, ◌+◌, ℕ, List, get_or, take, length, replicate, ap, ◌∙◌, arith, refl}
 use Rattle.std.specs.Prelude.{slice_index}
 use Rattle.std.proofs.lemmas.List.{length_push, take_all}
 use Rattle.cw_product.specs.Product.{game_of}
 use Rattle.cw_solve.specs.declared.contexts.Context.{Context}
 use Rattle.cw_solve.specs.declared.table.Table.{Table}
-use Rattle.cw_solve.specs.Contexts.{cells_of, size}
+use Rattle.cw_solve.specs.Contexts.{cells_of}
 use Rattle.cw_solve.proofs.Fresh.{is_table, is_at_start, there_in, cells_more, cells_few, values_more}
 use Rattle.cw_solve.proofs.rounds.fresh.Goals as goal
 
@@ -32,7 +32,7 @@ loop-context-preserved c =
     let value = ap length c.deref-context-items.ensures.value in
     let lt : i < length contexts = omega (arith, c.loop-context-test.true, value) in
     let more = cells_more g (length c.args.game.now.graph.parts.items) c.requires.routed contexts i c.context-item.result lt
-        (c.context-item.is ∙ ap (λ (xs : List Context). get_or xs i c.context-item.result) c.deref-context-items.ensures.value) in
+    (c.context-item.is ∙ ap (λ (xs : List Context). get_or xs i c.context-item.result) c.deref-context-items.ensures.value) in
     let pushed = c.in_ok-push.ensures.items in
     record {
       bases = ap length pushed ∙ length_push c.loop-context.bases.items c.loop-context.cells ∙ ap (λ (n : ℕ). n + 1) c.loop-context.invariant.bases;
@@ -49,7 +49,7 @@ returns-clause-table c =
     let value = ap length c.deref-context-items.ensures.value in
     let e : c.loop-context.context-index ≡ length contexts = omega (arith, c.loop-context-test.false, c.loop-context.auto.context-index-end, value) in
     let all : c.loop-context.cells ≡ cells_of g contexts
-          = c.loop-context.invariant.cells ∙ ap (λ (n : ℕ). cells_of g (take n contexts)) e ∙ ap (λ (xs : List Context). cells_of g xs) (take_all (length contexts) contexts (omega arith)) in
+    = c.loop-context.invariant.cells ∙ ap (λ (n : ℕ). cells_of g (take n contexts)) e ∙ ap (λ (xs : List Context). cells_of g xs) (take_all (length contexts) contexts (omega arith)) in
     is_table g (length c.args.game.now.graph.parts.items) c.requires.routed t c.requires.contexts (c.loop-context.invariant.bases ∙ e)
     (λ i lt. c.loop-context.invariant.begins i (omega (arith, lt, e))) (c.in_ok-heights.ensures.items_if_clones_equal (λ y e. e) ∙ ap (λ (n : ℕ). replicate {A = ℕ} n 0) all) refl
 
@@ -61,5 +61,5 @@ returns-clause-start c =
     let value = ap length c.deref-context-items.ensures.value in
     let e : c.loop-context.context-index ≡ length contexts = omega (arith, c.loop-context-test.false, c.loop-context.auto.context-index-end, value) in
     let all : c.loop-context.cells ≡ cells_of g contexts
-          = c.loop-context.invariant.cells ∙ ap (λ (n : ℕ). cells_of g (take n contexts)) e ∙ ap (λ (xs : List Context). cells_of g xs) (take_all (length contexts) contexts (omega arith)) in
+    = c.loop-context.invariant.cells ∙ ap (λ (n : ℕ). cells_of g (take n contexts)) e ∙ ap (λ (xs : List Context). cells_of g xs) (take_all (length contexts) contexts (omega arith)) in
     is_at_start g (length c.args.game.now.graph.parts.items) c.requires.routed t (c.in_ok-heights.ensures.items_if_clones_equal (λ y e. e) ∙ ap (λ (n : ℕ). replicate {A = ℕ} n 0) all)

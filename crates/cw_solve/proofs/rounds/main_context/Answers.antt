@@ -1,5 +1,4 @@
-use Rattle.std.proofs.Common.{◌≡◌, ℕ, sym, ap, ap₂, ◌∙◌, ◌&&◌, not, nat_lt, Bool, true, false, refl}
-use Rattle.cw_core.specs.StateSet.{has}
+use Rattle.std.proofs.Common.{◌≡◌, ℕ, ap₂, ◌∙◌, ◌&&◌, not, nat_lt, Bool, true, false, refl}
 use Rattle.cw_product.specs.Product.{game_of}
 use Rattle.cw_solve.specs.Contexts.{context}
 use Rattle.cw_solve.proofs.Fresh.{all_is}

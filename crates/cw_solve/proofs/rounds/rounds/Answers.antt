@@ -1,6 +1,6 @@
-use Rattle.std.proofs.Common.{◌≡◌, length, sym, ◌∙◌}
+use Rattle.std.proofs.Common.{length, ◌∙◌}
 use Rattle.cw_product.specs.Product.{game_of}
-use Rattle.cw_solve.proofs.Rounding.{round_begins, round_ends, round_rests}
+use Rattle.cw_solve.proofs.Rounding.{round_ends, round_rests}
 use Rattle.cw_solve.proofs.rounds.rounds.Goals as goal
 
 pub returns-then-table-written-clause-done : goal.returns-then-table-written-clause-done

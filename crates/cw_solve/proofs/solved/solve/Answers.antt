@@ -1,5 +1,3 @@
-use Rattle.std.proofs.Common.{◌≡◌, length}
-use Rattle.cw_product.specs.Product.{game_of}
 use Rattle.cw_solve.proofs.Routing.{routed_of}
 use Rattle.cw_solve.proofs.solved.solve.Goals as goal
 

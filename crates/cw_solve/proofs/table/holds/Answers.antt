@@ -1,4 +1,4 @@
-use Rattle.std.proofs.Common.{rules, ◌≡◌, length, ◌∙◌, ap, get_or}
+use Rattle.std.proofs.Common.{length, ◌∙◌, ap, get_or}
 use Rattle.std.proofs.lemmas.List.{get_or_default}
 use Rattle.cw_product.specs.Product.{game_of}
 use Rattle.cw_solve.proofs.Tabling.{read_some}

@@ -1,4 +1,4 @@
-use Rattle.std.proofs.Common.{rules, ◌≡◌, ap, ◌∙◌, nat_lt, ◌&&◌, arith}
+use Rattle.std.proofs.Common.{◌≡◌, ap, ◌∙◌, nat_lt, ◌&&◌, arith}
 use Rattle.cw_core.specs.StateSet.{has}
 use Rattle.cw_game.specs.Pairs.{kept_at}
 use Rattle.cw_product.specs.Product.{game_of}

@@ -1,8 +1,6 @@
-use Rattle.std.proofs.Common.{rules, ◌≡◌, ◌<◌, ◌+◌, ◌-◌, ◌*◌, length, slice_index, take, arith, ◌∙◌, sym, ap, refl}
+use Rattle.std.proofs.Common.{length, arith, refl}
 use Rattle.std.proofs.lemmas.Option.{slice_get_within}
 use Rattle.cw_product.specs.Product.{game_of}
-use Rattle.cw_solve.specs.Contexts.{cells_of}
-use Rattle.cw_solve.specs.Rounds.{slot}
 use Rattle.cw_solve.proofs.Slots.{slot_within}
 use Rattle.cw_solve.proofs.Tabling.{there_at, base_at}
 use Rattle.cw_solve.proofs.table.slot.Goals as goal

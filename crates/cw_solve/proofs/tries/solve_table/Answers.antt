@@ -1,4 +1,4 @@
-use Rattle.std.proofs.Common.{◌≡◌, ◌++◌, ◌∷◌, [], List, length, sym, ap, ap₂, ◌∙◌, refl}
+use Rattle.std.proofs.Common.{◌++◌, ◌∷◌, [], List, length, ap₂, ◌∙◌}
 use Rattle.cw_product.specs.Product.{game_of}
 use Rattle.cw_solve.specs.declared.contexts.Context.{Context}
 use Rattle.cw_solve.proofs.Fresh.{start_tabled}

@@ -18,7 +18,7 @@ returns-in-Some-clause-found c =
     let f = c.args.function in
     let set = c.args.promise.now in
     let at = place_is c.self.inside.table.contexts.items f set c.in-Some.number
-        (sym (c.in-Some.ensures.place ∙ ap (position (λ (x : Context). nat_eq x.function f && nat_eq x.promise set)) c.deref.ensures.value)) in
+    (sym (c.in-Some.ensures.place ∙ ap (position (λ (x : Context). nat_eq x.function f && nat_eq x.promise set)) c.deref.ensures.value)) in
     subst (λ (h : Held). slice_get h.contexts c.in-Some.number ≡ Some (context f set)) c.self.view_is at
 
 pub returns-in-None-clause-none : goal.returns-in-None-clause-none
@@ -26,5 +26,5 @@ returns-in-None-clause-none c =
     let f = c.args.function in
     let set = c.args.promise.now in
     let none = place_none c.self.inside.table.contexts.items f set
-        (sym (c.in-None.ensures.place ∙ ap (position (λ (x : Context). nat_eq x.function f && nat_eq x.promise set)) c.deref.ensures.value)) in
+    (sym (c.in-None.ensures.place ∙ ap (position (λ (x : Context). nat_eq x.function f && nat_eq x.promise set)) c.deref.ensures.value)) in
     subst (λ (h : Held). Contains h.contexts (context f set) → ⊥) c.self.view_is none

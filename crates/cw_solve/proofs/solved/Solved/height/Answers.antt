@@ -1,4 +1,4 @@
-use Rattle.std.proofs.Common.{◌≡◌, ◌∙◌, get_or, ap, sym}
+use Rattle.std.proofs.Common.{◌∙◌, get_or, ap}
 use Rattle.std.proofs.lemmas.List.{get_or_default}
 use Rattle.cw_solve.proofs.Keeping.{seen_height}
 use Rattle.cw_solve.proofs.solved.Solved.height.Goals as goal
