@@ -1,13 +1,14 @@
 -- Words that are the text of a number or of a set.
 use Rattle.std.proofs.Common.{◌≡◌, ◌≢◌, ℕ, ◌+◌, ◌^◌, ◌<◌, ◌≤◌, ◌⊎◌, Bool, cond, List, [], ◌++◌, length, refl, sym, ap, subst, ◌∙◌, arith, append-nil, inl, inr}
 use Rattle.std.specs.Fmt.{decimal}
-use Rattle.std.specs.Prelude.{Option, None}
-use Rattle.cw_core.specs.Numerals.{hexadecimal, IsDecimalAt, IsSetAt}
+use Rattle.std.specs.Prelude.{Option, None, Some, codes}
+use Rattle.cw_core.specs.Numerals.{hexadecimal, hexadecimal_digits, IsDecimalAt, IsSetAt}
 use Rattle.cw_core.specs.Ranges.{set_spelling, IsSpellingAt}
 use Rattle.cw_core.specs.StateSet.{IsBelow}
 use Rattle.cw_core.proofs.SetTexts.{spelling_within}
 use Rattle.cw_core.proofs.Spellings.{decimal_at, set_at_text, one_decimal, one_set}
-use Rattle.std.proofs.lemmas.Bool.{ne_eqb}
+use Rattle.std.proofs.lemmas.Bool.{ne_eqb, false≢true}
+use Rattle.cw_core.proofs.Sets.{has-zero}
 use Rattle.cw_lines.specs.Lines.{set_text, IsSetIn, Reads}
 
 -- ---- numbers
@@ -83,3 +84,8 @@ in_format_2 format word read is reads = rw is reads
 pub in_format_1 : (format : ℕ) (word : List ℕ) (read : Option ℕ) → format ≢ 2 → Reads (IsBelow 512) hexadecimal word read → Reads (IsSetIn format) (set_text format) word read
 unfolding set_text
 in_format_1 format word read differs reads = subst (λ (t : Bool). Reads (IsBelow (cond t 1024 512)) (λ (s : ℕ). cond t (set_spelling s) (hexadecimal s)) word read) (sym (ne_eqb format 2 differs)) reads
+
+-- the empty set as format 2 spells it
+pub the_empty_set : Reads (IsBelow 1024) set_spelling (codes "0x0") (Some 0)
+unfolding set_spelling hexadecimal hexadecimal_digits
+the_empty_set = record { some = ((λ s member. absurd (false≢true (sym (has-zero s) ∙ member))), refl); none = tt }

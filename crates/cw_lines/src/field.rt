@@ -1,6 +1,6 @@
 //! Numbers and sets as words.
 
-ghost use Rattle.std.specs.Prelude.{◌≡◌, ℕ, ◌^◌, ◌<◌, ◌≤◌, IsTrue, ◌↔◌};
+ghost use Rattle.std.specs.Prelude.{◌≡◌, ℕ, ◌^◌, ◌<◌, ◌≤◌, IsTrue, ◌↔◌, codes};
 ghost use Rattle.std.specs.Fmt.{decimal};
 ghost use Rattle.cw_core.specs.StateSet.{IsBelow};
 ghost use Rattle.cw_core.specs.Numerals.{hexadecimal};
@@ -25,10 +25,27 @@ pub fn set_of(word: &[u8], format: u8) -> Option<StateSet>
     ensures { Reads (IsSetIn format) (set_text format) word.now result }
 {
     if format == 2 {
-        ranges_of(word)
+        spelled_of(word)
     } else {
         mask_of(word)
     }
+}
+
+/// The set of numbers below 1,024 that a word spells in format 2. The empty set, which most rows have, is told at once.
+fn spelled_of(word: &[u8]) -> Option<StateSet>
+    ensures { Reads (IsBelow 1024) set_spelling word.now result }
+{
+    if is_no_member(word) {
+        return Some(StateSet::empty());
+    }
+    ranges_of(word)
+}
+
+/// Whether a word is how the empty set is spelled.
+fn is_no_member(word: &[u8]) -> bool
+    ensures { IsTrue result ↔ (word.now ≡ codes "0x0") }
+{
+    word == b"0x0".as_slice()
 }
 
 /// The set of numbers below 1,024 that a word spells as ranges or as hexadecimal, whichever is due.
