@@ -3,3 +3,5 @@
 
 #[cfg(test)]
 mod strategies;
+#[cfg(test)]
+mod tables;

@@ -1,0 +1,381 @@
+//! Tables as text: each fault with its line, both formats.
+
+use cw_core::put_dec;
+use cw_io::{MemSink, SinkFault, SureSink};
+use cw_lines::TextFault;
+use cw_rights::{Descriptor, Limit, Policy, Rights};
+use cw_tabletext::{print_tables, put_tables, read_tables};
+use std::alloc::Global;
+use std::test::Fail;
+
+/// A policy of one descriptor, by its name, with these rights kept by its limits.
+fn policy(alloc: Global, format: u8, name: &str, kept: &[u16]) -> Result<Policy, Fail> {
+    let mut descriptors = Vec::new(alloc);
+    descriptors.push(Descriptor {
+        name: name.as_bytes().to_vec(alloc)?,
+        number: None,
+        rights: Rights(0xfff),
+    })?;
+    let mut limits = Vec::new(alloc);
+    for keep in kept {
+        limits.push(Limit {
+            descriptor: 0,
+            keep: Rights(*keep),
+        })?;
+    }
+    Ok(Policy {
+        descriptors,
+        limits,
+        refuse_limit: false,
+        refuse_enter: false,
+        refuse_split: false,
+        split: Vec::new(alloc),
+        labels: Vec::new(alloc),
+        rules: Vec::new(alloc),
+        stop: false,
+        format,
+        detached: Vec::new(alloc),
+    })
+}
+
+/// The fault of a text, or none where it is a table's, which is then put as the same text; NoMemory where it isn't.
+fn fault_of(alloc: Global, text: &[u8], policy: &Policy) -> Result<Option<TextFault>, Fail> {
+    match read_tables(alloc, text, policy) {
+        Err(fault) => Ok(Some(fault)),
+        Ok(cert) => {
+            let mut again = Vec::new(alloc);
+            put_tables(&cert, policy, &mut again)?;
+            if again.as_slice() == text {
+                Ok(None)
+            } else {
+                Ok(Some(TextFault::NoMemory))
+            }
+        }
+    }
+}
+
+/// The lines of a table with a row of each kind, but for the version in the third.
+const LINES: [&str; 14] = [
+    "#include \"capweave.h\"",
+    "#define CW_LIMITS(X) X(0,fd,0x1)",
+    "",
+    "CW_MEM(0,0,0xf)",
+    "CW_MEM(1,1,0xf)",
+    "CW_LIVE(0,0)",
+    "CW_LIVE(2,0)",
+    "CW_TRY(1,0,0,1,CW_NONE)",
+    "CW_AT(1,1,1)",
+    "CW_OPENED(2,0,1,0)",
+    "CW_CLOSED(3,0,0)",
+    "CW_INTO(4,1,0,0)",
+    "CW_BACK(4,1,0,3,1)",
+    "CW_DONE",
+];
+
+/// That table's text for a format, with another text for the line of this number.
+fn edited(alloc: Global, format: u8, at: usize, new: &str) -> Result<Vec<u8>, Fail> {
+    let mut text = Vec::new(alloc);
+    let mut number = 0;
+    for line in LINES {
+        number += 1;
+        if number == at {
+            text.extend_from_slice(new.as_bytes())?;
+        } else if number == 3 {
+            text.extend_from_slice(b"CW_TABLE(")?;
+            put_dec(u64::from(format), &mut text)?;
+            text.extend_from_slice(b",4,0)\n")?;
+        } else {
+            text.extend_from_slice(line.as_bytes())?;
+            text.extend_from_slice(b"\n")?;
+        }
+    }
+    Ok(text)
+}
+
+/// The lines before the rows.
+#[test]
+fn lines_of_the_head(rt: HostRuntime) -> Result<(), Fail> {
+    let alloc = rt.alloc();
+    for (at, new, want) in [
+        (1, "", Some(TextFault::Line(1))),
+        (1, "#include \"capweave.h\" \n", Some(TextFault::Line(1))),
+        (1, "#include <capweave.h>\n", Some(TextFault::Line(1))),
+        (1, "\n#include \"capweave.h\"\n", Some(TextFault::Line(1))),
+        (2, "#define CW_LIMITS(X)\n", Some(TextFault::Line(2))),
+        (
+            2,
+            "#define CW_LIMITS(X) X(0,fd,0x2)\n",
+            Some(TextFault::Line(2)),
+        ),
+        (
+            2,
+            "#define CW_LIMITS(X) X(0,df,0x1)\n",
+            Some(TextFault::Line(2)),
+        ),
+        (
+            2,
+            "#define CW_LIMITS(X) X(1,fd,0x1)\n",
+            Some(TextFault::Line(2)),
+        ),
+        (
+            2,
+            "#define CW_LIMITS(X) X(0,fd,0x1) X(1,fd,0x1)\n",
+            Some(TextFault::Line(2)),
+        ),
+        (3, "CW_TABLE(3,4,0)\n", Some(TextFault::Line(3))),
+        (3, "CW_TABLE(12,4,0)\n", Some(TextFault::Line(3))),
+        (3, "CW_TABLE(0,4,0)\n", Some(TextFault::Line(3))),
+    ] {
+        for format in [1, 2] {
+            let text = edited(alloc, format, at, new)?;
+            let policy = policy(alloc, format, "fd", &[1])?;
+            assert_eq!(rt;
+                fault_of(alloc, &text, &policy)?,
+                want,
+                "{format} {at} {new}"
+            );
+        }
+    }
+    Ok(())
+}
+
+/// Memories by number, state and promise, and places.
+#[test]
+fn lines_of_memories(rt: HostRuntime) -> Result<(), Fail> {
+    let alloc = rt.alloc();
+    for (at, new, want) in [
+        (4, "CW_MEM(1,0,0xf)\n", Some(TextFault::Order(4))),
+        (4, "CW_MEM(0,65536,0xf)\n", Some(TextFault::Line(4))),
+        (4, "CW_MEM(4294967296,0,0xf)\n", Some(TextFault::Line(4))),
+        (4, "CW_MEM(4294967295,0,0xf)\n", Some(TextFault::Order(4))),
+        (4, "CW_MEM(0,0,0xF)\n", Some(TextFault::Line(4))),
+        (4, "CW_MEM(0,0,0x0f)\n", Some(TextFault::Line(4))),
+        (4, "CW_MEM(0,0,0-3)\n", Some(TextFault::Line(4))),
+        (4, "CW_MEM(0,0,1024)\n", Some(TextFault::Line(4))),
+        (4, "CW_MEM(00,0,0xf)\n", Some(TextFault::Line(4))),
+        (5, "CW_MEM(1,0,0xf)\n", Some(TextFault::Order(5))),
+        (5, "CW_MEM(2,1,0xf)\n", Some(TextFault::Order(5))),
+        (5, "CW_MEM(1,0,0xe)\n", Some(TextFault::Order(5))),
+        (6, "CW_LIVE(2,0)\n", Some(TextFault::Order(7))),
+        (6, "CW_LIVE(3,0)\n", Some(TextFault::Order(7))),
+        (
+            6,
+            "CW_LIVE(0,0)\nCW_MEM(2,2,0xf)\n",
+            Some(TextFault::Order(7)),
+        ),
+        (6, "CW_LIVE(4294967296,0)\n", Some(TextFault::Line(6))),
+        (6, "CW_LIVE(-1,0)\n", Some(TextFault::Line(6))),
+        (6, "CW_LIVE( 0,0)\n", Some(TextFault::Line(6))),
+        (6, "CW_LIVE(0,0);\n", Some(TextFault::Line(6))),
+        (6, "CW_LIFE(0,0)\n", Some(TextFault::Line(6))),
+        (6, "CW_LIVE(0)\n", Some(TextFault::Line(6))),
+        (6, "CW_LIVE()\n", Some(TextFault::Line(6))),
+        (6, "CW_LIVE\n", Some(TextFault::Line(6))),
+        (6, "CW_LIVE(0,0\n", Some(TextFault::Line(6))),
+        (6, "CW_LIVE(0,CW_NONE)\n", Some(TextFault::Line(6))),
+        (6, "", None),
+    ] {
+        for format in [1, 2] {
+            let text = edited(alloc, format, at, new)?;
+            let policy = policy(alloc, format, "fd", &[1])?;
+            assert_eq!(rt;
+                fault_of(alloc, &text, &policy)?,
+                want,
+                "{format} {at} {new}"
+            );
+        }
+    }
+    Ok(())
+}
+
+/// Rows by kind and key, and the end.
+#[test]
+fn lines_of_rows(rt: HostRuntime) -> Result<(), Fail> {
+    let alloc = rt.alloc();
+    for (at, new, want) in [
+        (8, "CW_TRY(1,256,0,1,0)\n", Some(TextFault::Line(8))),
+        (8, "CW_TRY(1,255,0,CW_NONE,CW_NONE)\n", None),
+        (8, "CW_TRY(1,0,0,cw_none,0)\n", Some(TextFault::Line(8))),
+        (
+            8,
+            "CW_TRY(1,0,0,1,CW_NONE)\nCW_TRY(1,0,0,0,CW_NONE)\n",
+            Some(TextFault::Order(9)),
+        ),
+        (
+            8,
+            "CW_TRY(1,0,0,1,CW_NONE)\nCW_LIVE(1,0)\n",
+            Some(TextFault::Order(9)),
+        ),
+        (
+            8,
+            "CW_TRY(1,0,0,1,CW_NONE)\nCW_TRY(0,1,2,1,0)\n",
+            Some(TextFault::Order(9)),
+        ),
+        (
+            9,
+            "CW_AT(1,1,1)\nCW_AT(1,1,2)\n",
+            Some(TextFault::Order(10)),
+        ),
+        (9, "CW_CLOSED(1,1,1)\n", Some(TextFault::Order(10))),
+        (12, "CW_INTO(4,2,0,0)\n", Some(TextFault::Line(12))),
+        (12, "CW_INTO(4,01,0,0)\n", Some(TextFault::Line(12))),
+        (
+            12,
+            "CW_INTO(4,1,0,0)\nCW_INTO(4,0,0,0)\n",
+            Some(TextFault::Order(13)),
+        ),
+        (12, "CW_INTO(4,0,0,0)\nCW_INTO(4,1,0,0)\n", None),
+        (13, "CW_BACK(4,1,0,65536,1)\n", Some(TextFault::Line(13))),
+        (
+            13,
+            "CW_BACK(4,1,0,3,1)\nCW_BACK(4,1,0,3,2)\n",
+            Some(TextFault::Order(14)),
+        ),
+        (13, "CW_BACK(4,1,0,3,1)\nCW_BACK(4,1,0,4,2)\n", None),
+        (
+            13,
+            "CW_BACK(4,1,0,3,1)\nCW_MEM(02,2,0xf)\n",
+            Some(TextFault::Line(14)),
+        ),
+        (14, "", Some(TextFault::Line(14))),
+        (14, "CW_DONE", Some(TextFault::Line(14))),
+        (14, "CW_DONE\n\n", Some(TextFault::Line(15))),
+        (14, "CW_DONE\nx", Some(TextFault::Line(15))),
+        (14, "CW_DONE\nCW_DONE\n", Some(TextFault::Line(15))),
+        (14, "CW_DONE()\n", Some(TextFault::Line(14))),
+        (14, "cw_done\n", Some(TextFault::Line(14))),
+    ] {
+        for format in [1, 2] {
+            let text = edited(alloc, format, at, new)?;
+            let policy = policy(alloc, format, "fd", &[1])?;
+            assert_eq!(rt;
+                fault_of(alloc, &text, &policy)?,
+                want,
+                "{format} {at} {new}"
+            );
+        }
+    }
+    Ok(())
+}
+
+/// Versions, and sets as each format spells them.
+#[test]
+fn lines_of_one_format(rt: HostRuntime) -> Result<(), Fail> {
+    let alloc = rt.alloc();
+    for (format, at, new, want) in [
+        (1, 3, "CW_TABLE(1,65536,0)\n", Some(TextFault::Line(3))),
+        (1, 3, "CW_TABLE(1,04,0)\n", Some(TextFault::Line(3))),
+        (1, 3, "CW_TABLE(1,4,4294967296)\n", Some(TextFault::Line(3))),
+        (1, 3, "CW_TABLE(1,4)\n", Some(TextFault::Line(3))),
+        (1, 3, "CW_TABLE(1,4,0,0)\n", Some(TextFault::Line(3))),
+        (1, 3, "CW_TABLE(1,4,0) \n", Some(TextFault::Line(3))),
+        (1, 4, "CW_MEM(0,0,15)\n", Some(TextFault::Line(4))),
+        (2, 4, "CW_MEM(0,0,15)\n", None),
+        (1, 4, "CW_MEM(0,0,512)\n", Some(TextFault::Line(4))),
+        (2, 4, "CW_MEM(0,0,512)\n", None),
+        (1, 4, "CW_MEM(0,0,0-11)\n", Some(TextFault::Line(4))),
+        (2, 4, "CW_MEM(0,0,0-11)\n", None),
+        (1, 4, "CW_MEM(0,0,0xfff)\n", None),
+        (2, 4, "CW_MEM(0,0,0xfff)\n", Some(TextFault::Line(4))),
+        (1, 5, "CW_MEM(1,0,0x10)\n", None),
+        (2, 5, "CW_MEM(1,0,0x10)\n", Some(TextFault::Line(5))),
+        (2, 3, "CW_TABLE(2,65536,0)\n", Some(TextFault::Line(3))),
+        (2, 3, "CW_TABLE(2,04,0)\n", Some(TextFault::Line(3))),
+        (2, 3, "CW_TABLE(2,4,4294967296)\n", Some(TextFault::Line(3))),
+    ] {
+        let text = edited(alloc, format, at, new)?;
+        let policy = policy(alloc, format, "fd", &[1])?;
+        assert_eq!(rt;
+            fault_of(alloc, &text, &policy)?,
+            want,
+            "{format} {at} {new}"
+        );
+    }
+    Ok(())
+}
+
+/// So many rows, the last three of returns.
+fn many(alloc: Global, count: u32) -> Result<Vec<u8>, Fail> {
+    let mut text =
+        b"#include \"capweave.h\"\n#define CW_LIMITS(X) X(0,fd,0x1)\nCW_TABLE(1,4,0)\n".to_vec(
+            alloc,
+        )?;
+    for number in 0..count {
+        if number + 3 < count {
+            text.extend_from_slice(b"CW_LIVE(")?;
+            put_dec(u64::from(number), &mut text)?;
+            text.extend_from_slice(b",0)\n")?;
+        } else {
+            text.extend_from_slice(b"CW_BACK(")?;
+            put_dec(u64::from(number), &mut text)?;
+            text.extend_from_slice(b",0,0,0,0)\n")?;
+        }
+    }
+    text.extend_from_slice(b"CW_DONE\n")?;
+    Ok(text)
+}
+
+/// 65,536 rows and one more.
+#[test]
+fn too_many_rows(rt: HostRuntime) -> Result<(), Fail> {
+    let alloc = rt.alloc();
+    let policy = policy(alloc, 1, "fd", &[1])?;
+    for (count, want) in [
+        (65_536, None),
+        (65_537, Some(TextFault::Limit(65_540))),
+        (65_538, Some(TextFault::Limit(65_540))),
+    ] {
+        let text = many(alloc, count)?;
+        assert_eq!(rt; fault_of(alloc, &text, &policy)?, want, "{count}");
+    }
+    Ok(())
+}
+
+const ENTERED: &str =
+    "#include \"capweave.h\"\n#define CW_LIMITS(X)\nCW_TABLE(1,4,0)\nCW_MEM(0,0,0xf)\nCW_MEM(1,1,0xf)\nCW_MEM(2,3,0xf)\nCW_LIVE(0,0)\nCW_LIVE(2,0)\nCW_LIVE(3,0)\nCW_LIVE(4,0)\nCW_LIVE(5,1)\nCW_LIVE(6,2)\nCW_LIVE(7,2)\nCW_LIVE(8,2)\nCW_TRY(1,0,0,1,CW_NONE)\nCW_AT(1,1,2)\nCW_DONE\n";
+
+const SPLIT: &str =
+    "#include \"capweave.h\"\n#define CW_LIMITS(X)\nCW_TABLE(1,4,0)\nCW_MEM(0,0,0xf)\nCW_MEM(1,1,0xf)\nCW_MEM(2,2,0xf)\nCW_MEM(3,3,0xf)\nCW_LIVE(0,0)\nCW_LIVE(2,0)\nCW_LIVE(3,0)\nCW_LIVE(4,0)\nCW_LIVE(5,1)\nCW_LIVE(6,3)\nCW_LIVE(7,3)\nCW_LIVE(8,3)\nCW_LIVE(9,0)\nCW_LIVE(11,0)\nCW_LIVE(12,0)\nCW_LIVE(13,0)\nCW_LIVE(15,0)\nCW_LIVE(16,0)\nCW_LIVE(18,0)\nCW_LIVE(19,2)\nCW_LIVE(21,2)\nCW_LIVE(22,2)\nCW_LIVE(23,2)\nCW_LIVE(24,2)\nCW_TRY(1,0,0,1,CW_NONE)\nCW_TRY(3,1,0,0,CW_NONE)\nCW_AT(1,1,3)\nCW_AT(4,2,2)\nCW_INTO(3,1,0,0)\nCW_BACK(3,1,0,3,2)\nCW_DONE\n";
+
+const PROMISED: &str =
+    "#include \"capweave.h\"\n#define CW_LIMITS(X)\nCW_TABLE(1,4,1)\nCW_MEM(0,0,0x5)\nCW_MEM(1,0,0xf)\nCW_MEM(2,2,0x5)\nCW_MEM(3,2,0xf)\nCW_MEM(4,3,0xf)\nCW_LIVE(0,0)\nCW_LIVE(0,4)\nCW_LIVE(2,0)\nCW_LIVE(2,4)\nCW_LIVE(3,0)\nCW_LIVE(3,4)\nCW_LIVE(5,0)\nCW_LIVE(5,4)\nCW_LIVE(6,2)\nCW_LIVE(6,4)\nCW_LIVE(7,2)\nCW_LIVE(7,4)\nCW_LIVE(8,1)\nCW_LIVE(10,1)\nCW_LIVE(11,1)\nCW_LIVE(13,1)\nCW_LIVE(14,3)\nCW_LIVE(16,3)\nCW_LIVE(17,3)\nCW_LIVE(18,3)\nCW_LIVE(19,3)\nCW_LIVE(20,4)\nCW_LIVE(21,4)\nCW_LIVE(22,4)\nCW_LIVE(24,4)\nCW_LIVE(25,4)\nCW_LIVE(26,4)\nCW_TRY(5,0,3,4,CW_NONE)\nCW_AT(1,0,2)\nCW_AT(1,4,4)\nCW_AT(4,3,3)\nCW_AT(5,4,4)\nCW_INTO(3,0,1,0)\nCW_INTO(6,0,4,4)\nCW_BACK(3,0,1,2,3)\nCW_BACK(6,0,4,3,4)\nCW_DONE\n";
+
+const WIDE: &str =
+    "#include \"capweave.h\"\n#define CW_LIMITS(X) X(0,0,0x1) X(1,0,0x2) X(2,0,0x0) X(3,0,0x3)\nCW_TABLE(2,640,1)\nCW_MEM(0,4,0-639)\nCW_MEM(1,14,0-639)\nCW_MEM(2,24,0-639)\nCW_LIVE(0,1)\nCW_LIVE(2,1)\nCW_LIVE(4,1)\nCW_LIVE(6,1)\nCW_LIVE(8,1)\nCW_LIVE(10,1)\nCW_LIVE(11,1)\nCW_LIVE(13,1)\nCW_LIVE(15,1)\nCW_LIVE(17,1)\nCW_LIVE(19,1)\nCW_LIVE(21,1)\nCW_LIVE(22,2)\nCW_LIVE(23,2)\nCW_LIVE(25,2)\nCW_LIVE(27,2)\nCW_LIVE(29,2)\nCW_LIVE(31,2)\nCW_LIVE(33,2)\nCW_LIVE(34,0)\nCW_LIVE(35,0)\nCW_LIVE(36,0)\nCW_AT(1,1,2)\nCW_AT(2,2,0)\nCW_DONE\n";
+
+const KEPT: &str =
+    "#include \"capweave.h\"\n#define CW_LIMITS(X) X(0,0,0x5) X(1,0,0x6)\nCW_TABLE(2,12,1)\nCW_MEM(0,1,0-11)\nCW_MEM(1,2,0-11)\nCW_MEM(2,7,0-11)\nCW_LIVE(0,1)\nCW_LIVE(2,1)\nCW_LIVE(4,1)\nCW_LIVE(6,1)\nCW_LIVE(7,1)\nCW_LIVE(9,1)\nCW_LIVE(10,1)\nCW_LIVE(11,0)\nCW_LIVE(13,0)\nCW_LIVE(14,2)\nCW_LIVE(15,2)\nCW_LIVE(16,2)\nCW_TRY(1,1,1,0,CW_NONE)\nCW_AT(1,0,2)\nCW_DONE\n";
+
+/// Tables of woven programs, in both formats.
+#[test]
+fn tables_of_programs(rt: HostRuntime) -> Result<(), Fail> {
+    let alloc = rt.alloc();
+    for text in [ENTERED, SPLIT, PROMISED] {
+        let policy = policy(alloc, 1, "fd", &[])?;
+        assert_eq!(rt; fault_of(alloc, text.as_bytes(), &policy)?, None);
+    }
+    let wide = policy(alloc, 2, "0", &[1, 2, 0, 3])?;
+    assert_eq!(rt; fault_of(alloc, WIDE.as_bytes(), &wide)?, None);
+    let kept = policy(alloc, 2, "0", &[5, 6])?;
+    assert_eq!(rt; fault_of(alloc, KEPT.as_bytes(), &kept)?, None);
+    assert_eq!(rt;
+        fault_of(alloc, KEPT.as_bytes(), &wide)?,
+        Some(TextFault::Line(2))
+    );
+    Ok(())
+}
+
+/// A sink gets the whole text in one piece, or half of it where it fails.
+#[test]
+fn printed_tables(rt: HostRuntime) -> Result<(), Fail> {
+    let alloc = rt.alloc();
+    let policy = policy(alloc, 1, "fd", &[])?;
+    let cert = read_tables(alloc, SPLIT.as_bytes(), &policy)?;
+    let mut sure = SureSink::make(alloc);
+    print_tables(alloc, &cert, &policy, &mut sure)?;
+    assert_eq!(rt; sure.bytes(), SPLIT.as_bytes());
+    let mut failing = MemSink::make(alloc, Vec::from_array(alloc, [0])?);
+    let answer = print_tables(alloc, &cert, &policy, &mut failing);
+    assert_eq!(rt; answer, Err(SinkFault::Failed));
+    Ok(())
+}
