@@ -1,10 +1,9 @@
 -- A row more behind those of a table.
-use Rattle.std.proofs.Common.{◌≡◌, ◌≢◌, ℕ, zero, suc, ◌+◌, ◌-◌, ◌<◌, ◌≤◌, ◌&&◌, Bool, true, false, eqb, List, [], ◌∷◌, ◌++◌, map, length, get_or, drop, refl, sym, ap, ◌∙◌, subst, arith, append-nil, append_assoc, length-append, eq-eqb}
+use Rattle.std.proofs.Common.{◌≡◌, ℕ, ◌+◌, ◌<◌, ◌≤◌, ◌&&◌, Bool, true, false, eqb, List, [], ◌∷◌, ◌++◌, map, length, get_or, drop, refl, sym, ap, ◌∙◌, subst, arith, append-nil, append_assoc, eq-eqb}
 use Rattle.std.specs.Prelude.{Option, None, Some}
 use Rattle.std.specs.Cmp.{IsTotalOrder}
 use Rattle.std.specs.List.{AllByRecursion}
 use Rattle.std.specs.List.Sorted.{IsStrictlySortedBy}
-use Rattle.std.specs.declared.cmp.Ordering.{Ordering}
 use Rattle.std.specs.Cmp.{bool_cmp_total}
 use Rattle.std.proofs.lemmas.Bool.{eqb-true}
 use Rattle.std.proofs.lemmas.Cmp.{nat_cmp_total, on_total, then_total}
@@ -21,7 +20,7 @@ use Rattle.cw_certs.specs.Tables.{Table}
 use Rattle.cw_certs.specs.Ascending.{Ascends, mem_cmp, live_cmp, try_cmp, at_cmp, open_cmp, into_cmp, back_cmp}
 use Rattle.cw_tabletext.specs.declared.row.Row.{Row}
 use Rattle.cw_tabletext.specs.declared.row.Row.TheVariants.{Memory, Live, Try, At, Opened, Closed, Into, Back}
-use Rattle.cw_tabletext.specs.Rows.{memories, from_closed, from_tries, rows_of}
+use Rattle.cw_tabletext.specs.Rows.{memories, rows_of}
 use Rattle.cw_tabletext.specs.Working.{is_nil, is_above, none_from_into, none_from_opened, none_from_tries, is_next, with_row}
 use Rattle.cw_tabletext.proofs.Orders.{sorted_push, above_from_sorted}
 

@@ -1,7 +1,7 @@
 -- What is at fault in a text that is none of a table.
-use Rattle.std.proofs.Common.{◌≡◌, ◌≢◌, ℕ, zero, suc, ◌+◌, ◌^◌, ◌<◌, ◌≤◌, ◌⊎◌, inl, inr, Bool, true, false, List, [], ◌∷◌, ◌++◌, map, length, get_or, drop, take, refl, sym, ap, ◌∙◌, subst, arith, append-nil, append_assoc, length-append}
-use Rattle.std.specs.Prelude.{Option, None, Some, Result, Ok, Err, codes}
-use Rattle.std.specs.List.{AllByRecursion, flat_map}
+use Rattle.std.proofs.Common.{◌≡◌, ◌≢◌, ℕ, ◌+◌, ◌^◌, ◌<◌, ◌≤◌, ◌⊎◌, inl, inr, true, List, [], ◌∷◌, ◌++◌, map, length, drop, refl, sym, ap, ◌∙◌, subst, arith, append-nil, append_assoc, length-append}
+use Rattle.std.specs.Prelude.{None, Err, codes}
+use Rattle.std.specs.List.{AllByRecursion}
 use Rattle.std.specs.List.Sorted.{IsStrictlySortedBy}
 use Rattle.std.proofs.lemmas.List.{map-append, length-map}
 use Rattle.std.proofs.lemmas.List.Concat.{flat_map-append}
@@ -19,7 +19,7 @@ use Rattle.cw_tabletext.specs.declared.row.Row.TheVariants.{Memory, Live, Try, A
 use Rattle.cw_tabletext.specs.Rows.{rows_of, row_words}
 use Rattle.cw_tabletext.specs.TablesText.{header, limits_words, table_words, head_lines, tables_lines, tables_text, text_of, done}
 use Rattle.cw_tabletext.specs.Grammar.{IsMem, Fits, IsOrdered, IsTable, Spells, BeginsAny, Begins, HasRows, IsHead, IsRow, IsDone, IsDue, GoesOn, IsWhole, IsWrong, IsFault, Answers}
-use Rattle.cw_tabletext.specs.Working.{FitsHead, IsEmpty, IsGood, IsRowLine, IsWrongRow, AreRead, AreWrong, RowsRead, HeadRead, is_next, with_row, row_lines, seen}
+use Rattle.cw_tabletext.specs.Working.{FitsHead, IsEmpty, IsGood, IsRowLine, IsWrongRow, AreRead, AreWrong, RowsRead, is_next, with_row, row_lines}
 use Rattle.cw_tabletext.proofs.Orders.{all_more}
 use Rattle.cw_tabletext.proofs.Adding.{rows_next, ascends_next, next_true}
 use Rattle.std.proofs.lemmas.Bool.{false≢true}

@@ -1,6 +1,6 @@
 -- The table's own line.
-use Rattle.std.proofs.Common.{◌≡◌, ◌≢◌, ℕ, ◌+◌, ◌^◌, ◌<◌, ◌≤◌, Bool, true, false, ltb, List, [], ◌∷◌, ◌++◌, length, refl, sym, ap, ◌∙◌, subst, arith, append-nil, length-append}
-use Rattle.std.specs.Prelude.{Option, None, Some, codes}
+use Rattle.std.proofs.Common.{◌≡◌, ◌≢◌, ℕ, ◌^◌, ◌<◌, ltb, List, [], ◌∷◌, ◌++◌, length, refl, sym, ap, ◌∙◌, arith, append-nil}
+use Rattle.std.specs.Prelude.{None, Some, codes}
 use Rattle.std.specs.Fmt.{decimal}
 use Rattle.std.specs.List.{All}
 use Rattle.std.proofs.lemmas.Fmt.{decimal_injective}
@@ -12,9 +12,8 @@ use Rattle.cw_certs.specs.Tables.{Table}
 use Rattle.cw_lines.specs.Lines.{joined, words_of, IsFree, Reads}
 use Rattle.cw_lines.proofs.Cuts.{words-joined, joined-words}
 use Rattle.cw_lines.proofs.Free.{free_from_test, one_line, decimal_free}
-use Rattle.cw_tabletext.specs.Rows.{called}
 use Rattle.cw_tabletext.specs.TablesText.{table_words, head_lines, text_of}
-use Rattle.cw_tabletext.specs.Working.{FitsHead, head_fields, HeadRead, IsEmpty, TakesRow}
+use Rattle.cw_tabletext.specs.Working.{FitsHead, head_fields, IsEmpty, TakesRow}
 use Rattle.cw_tabletext.proofs.RowLines.{same_first, IsMark, comma}
 
 abbrev pub words_at : ℕ → ℕ × MemId → List ℕ

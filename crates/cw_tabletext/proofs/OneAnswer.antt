@@ -1,21 +1,21 @@
 -- Each text has one answer at most: one table, or one fault.
-use Rattle.std.proofs.Common.{◌≡◌, ◌≢◌, ℕ, zero, suc, ◌+◌, ◌^◌, ◌<◌, ◌≤◌, ◌⊎◌, inl, inr, ltb, eqb, false, List, [], ◌∷◌, ◌++◌, map, length, drop, refl, sym, ap, ◌∙◌, subst, arith, append-nil, append_assoc, length-append}
+use Rattle.std.proofs.Common.{◌≡◌, ℕ, ◌^◌, ◌<◌, ◌⊎◌, inl, inr, ltb, eqb, false, List, [], ◌∷◌, ◌++◌, map, length, drop, refl, sym, ap, ◌∙◌, subst, arith, append-nil, append_assoc, length-append}
 use Rattle.std.specs.Prelude.{codes, Result, Ok, Err}
-use Rattle.std.specs.List.{All, AllByRecursion, flat_map}
+use Rattle.std.specs.List.{All, AllByRecursion}
 use Rattle.std.proofs.lemmas.List.Elements.{All-append, All-cons, All-nil}
 use Rattle.std.proofs.lemmas.Fmt.{decimal_injective}
 use Rattle.cw_core.specs.declared.ids.MemId.{MemId}
 use Rattle.cw_rights.specs.Policies.{PlainPolicy}
 use Rattle.cw_certs.specs.Tables.{Table, table_with}
-use Rattle.cw_lines.specs.Lines.{line, joined, words_of, IsFree}
+use Rattle.cw_lines.specs.Lines.{line, joined, IsFree}
 use Rattle.cw_lines.specs.declared.fault.TextFault.{TextFault}
 use Rattle.cw_lines.specs.declared.fault.TextFault.TheVariants.{Line, Order, Limit, NoMemory}
 use Rattle.cw_lines.proofs.Free.{one_line, free_from_test, joined_free}
 use Rattle.cw_tabletext.specs.declared.row.Row.{Row}
 use Rattle.cw_tabletext.specs.Rows.{rows_of, row_words, name_of, fields_of}
 use Rattle.cw_tabletext.specs.TablesText.{header, limits_words, table_words, head_lines, tables_lines, tables_text, text_of, done}
-use Rattle.cw_tabletext.specs.Grammar.{IsMem, Fits, IsOrdered, IsTable, Spells, BeginsAny, Begins, HasRows, IsHead, IsRow, IsDone, IsDue, GoesOn, IsWhole, IsWrong, IsFault, Answers}
-use Rattle.cw_tabletext.specs.Working.{FitsHead, head_fields, row_lines}
+use Rattle.cw_tabletext.specs.Grammar.{Fits, IsTable, Spells, BeginsAny, Begins, IsRow, IsDone, IsDue, GoesOn, IsWhole, IsWrong, IsFault, Answers}
+use Rattle.cw_tabletext.specs.Working.{FitsHead, head_fields}
 use Rattle.cw_tabletext.proofs.Adding.{mems_are, live_are, tries_are, ats_are, opened_are, closed_are, into_are, back_are, picked, mems_in, live_in, tries_in, ats_in, opened_in, closed_in, into_in, back_in}
 use Rattle.cw_tabletext.proofs.Faults.{line_is, the_line, first_of, second_of, third_of}
 use Rattle.cw_tabletext.proofs.HeadLines.{head_parts, head_line, head_name_free, head_fields_free, words_are, words_at}

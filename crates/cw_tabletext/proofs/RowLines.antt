@@ -1,24 +1,24 @@
 -- The words of a row's line, and that no two rows have one line.
-use Rattle.std.proofs.Common.{◌≡◌, ◌≢◌, ℕ, zero, suc, ◌+◌, ◌||◌, if◌then◌else◌, length-append, ◌^◌, ◌<◌, ◌≤◌, Bool, true, false, eqb, ltb, List, [], ◌∷◌, ◌++◌, length, get_or, drop, refl, sym, ap, ◌∙◌, arith, append-nil, append_assoc}
+use Rattle.std.proofs.Common.{◌≡◌, ◌≢◌, ℕ, zero, suc, ◌||◌, if◌then◌else◌, length-append, ◌^◌, ◌<◌, ◌≤◌, Bool, true, false, eqb, ltb, List, [], ◌∷◌, ◌++◌, length, get_or, drop, refl, sym, ap, ◌∙◌, arith, append-nil}
 use Rattle.std.specs.Prelude.{Option, None, Some, codes}
 use Rattle.std.specs.Char.{is_ascii_digit}
 use Rattle.std.specs.Fmt.{decimal}
-use Rattle.std.specs.List.{All, AllByRecursion, list_all}
+use Rattle.std.specs.List.{All, AllByRecursion}
 use Rattle.std.proofs.lemmas.Fmt.{decimal_injective}
 use Rattle.std.proofs.lemmas.List.{append_cancel_right}
 use Rattle.std.proofs.lemmas.List.Elements.{All-from_recursion}
 use Rattle.std.proofs.lemmas.Bool.{le-ltb}
 use Rattle.cw_core.specs.declared.ids.MemId.{MemId}
 use Rattle.cw_core.specs.Ranges.{is_spelling_byte}
-use Rattle.cw_lines.specs.Lines.{joined, words_of, set_text, IsFree, IsSetIn, Reads, Takes}
+use Rattle.cw_lines.specs.Lines.{joined, words_of, IsFree, Reads, Takes}
 use Rattle.cw_lines.proofs.Cuts.{words-joined, joined-words}
-use Rattle.cw_lines.proofs.Free.{free_from_test, one_line, no_line, decimal_free, set_text_free}
+use Rattle.cw_lines.proofs.Free.{free_from_test, one_line, decimal_free, set_text_free}
 use Rattle.cw_text.specs.TableText.{answer, mode}
 use Rattle.cw_tabletext.specs.declared.row.Row.{Row}
 use Rattle.cw_tabletext.specs.declared.row.Row.TheVariants.{Memory, Live, Try, At, Opened, Closed, Into, Back}
-use Rattle.cw_tabletext.specs.Rows.{name_of, fields_of, memory_fields, called, row_words}
-use Rattle.cw_tabletext.specs.Grammar.{IsMem, IsAnswer, Fits, FitsMemory}
-use Rattle.cw_tabletext.specs.Working.{TakesRow, TakesNamed, IsCalled}
+use Rattle.cw_tabletext.specs.Rows.{name_of, fields_of, memory_fields, row_words}
+use Rattle.cw_tabletext.specs.Grammar.{IsAnswer, Fits, FitsMemory}
+use Rattle.cw_tabletext.specs.Working.{TakesNamed}
 
 -- ---- words that were taken
 

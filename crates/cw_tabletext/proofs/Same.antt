@@ -1,5 +1,5 @@
 -- No two rows have one line, and no row has that of the end.
-use Rattle.std.proofs.Common.{◌≡◌, ◌≢◌, ℕ, zero, suc, ◌+◌, ◌^◌, ◌<◌, ◌≤◌, Bool, true, false, ltb, List, [], ◌∷◌, ◌++◌, map, length, get_or, refl, sym, ap, ◌∙◌, subst, arith}
+use Rattle.std.proofs.Common.{◌≡◌, ◌≢◌, ℕ, ◌^◌, ◌<◌, Bool, true, false, ltb, List, [], ◌∷◌, ◌++◌, map, length, get_or, refl, sym, ap, ◌∙◌, subst, arith}
 use Rattle.std.specs.Prelude.{Option, None, Some, codes}
 use Rattle.std.specs.Char.{is_ascii_digit}
 use Rattle.std.specs.Fmt.{decimal}
@@ -16,13 +16,13 @@ use Rattle.cw_certs.specs.declared.rows.AtRow.{AtRow}
 use Rattle.cw_certs.specs.declared.rows.OpenRow.{OpenRow}
 use Rattle.cw_certs.specs.declared.rows.IntoRow.{IntoRow}
 use Rattle.cw_certs.specs.declared.rows.BackRow.{BackRow}
-use Rattle.cw_lines.specs.Lines.{IsFree, joined, set_text, IsSetIn}
+use Rattle.cw_lines.specs.Lines.{joined}
 use Rattle.cw_lines.proofs.Free.{free_from_test, no_line}
 use Rattle.cw_lines.proofs.OneSet.{one_set_text}
 use Rattle.cw_text.specs.TableText.{answer, mode}
 use Rattle.cw_tabletext.specs.declared.row.Row.{Row}
 use Rattle.cw_tabletext.specs.declared.row.Row.TheVariants.{Memory, Live, Try, At, Opened, Closed, Into, Back}
-use Rattle.cw_tabletext.specs.Grammar.{IsMem, IsAnswer, Fits}
+use Rattle.cw_tabletext.specs.Grammar.{IsAnswer, Fits}
 use Rattle.cw_tabletext.specs.Rows.{name_of, fields_of, row_words}
 use Rattle.cw_tabletext.specs.TablesText.{done}
 use Rattle.cw_tabletext.proofs.RowLines.{name_free, row_line, row_parts, words_are_fields}

@@ -75,9 +75,8 @@ const LINES: [&str; 14] = [
 /// That table's text for a format, with another text for the line of this number.
 fn edited(alloc: Global, format: u8, at: usize, new: &str) -> Result<Vec<u8>, Fail> {
     let mut text = Vec::new(alloc);
-    let mut number = 0;
-    for line in LINES {
-        number += 1;
+    for index in 0..LINES.len() {
+        let number = index + 1;
         if number == at {
             text.extend_from_slice(new.as_bytes())?;
         } else if number == 3 {
@@ -85,7 +84,7 @@ fn edited(alloc: Global, format: u8, at: usize, new: &str) -> Result<Vec<u8>, Fa
             put_dec(u64::from(format), &mut text)?;
             text.extend_from_slice(b",4,0)\n")?;
         } else {
-            text.extend_from_slice(line.as_bytes())?;
+            text.extend_from_slice(LINES[index].as_bytes())?;
             text.extend_from_slice(b"\n")?;
         }
     }
@@ -301,7 +300,7 @@ fn many(alloc: Global, count: u32) -> Result<Vec<u8>, Fail> {
             alloc,
         )?;
     for number in 0..count {
-        if number + 3 < count {
+        if count - number > 3 {
             text.extend_from_slice(b"CW_LIVE(")?;
             put_dec(u64::from(number), &mut text)?;
             text.extend_from_slice(b",0)\n")?;

@@ -1,5 +1,5 @@
 -- What comes next behind the rows so far.
-use Rattle.std.proofs.Common.{◌≡◌, ℕ, ◌+◌, ap, sym, ◌∙◌}
+use Rattle.std.proofs.Common.{ℕ, ◌+◌, ap, sym, ◌∙◌}
 use Rattle.std.proofs.lemmas.Bool.{false≢true}
 use Rattle.cw_tabletext.specs.Working.{table_of}
 use Rattle.cw_tabletext.proofs.Faults.{no_row, goes_on}

@@ -1,5 +1,5 @@
 -- One row more.
-use Rattle.std.proofs.Common.{◌≡◌, ap, ◌∙◌}
+use Rattle.std.proofs.Common.{ap, ◌∙◌}
 use Rattle.cw_certs.specs.Tables.{Table}
 use Rattle.cw_tabletext.specs.Working.{table_of}
 use Rattle.cw_tabletext.proofs.Faults.{next_text, next_good, next_count, same_states, same_start}
