@@ -3,7 +3,7 @@ use Rattle.std.proofs.Common.{◌≡◌, ℕ, zero, suc, ◌+◌, ◌<◌, ◌�
 use Rattle.std.specs.Prelude.{slice_get}
 use Rattle.std.specs.List.{list_all, list_any, enumerate_from, range_with_len}
 use Rattle.std.proofs.Math.Seq.{drop-cons}
-use Rattle.std.proofs.lemmas.Bool.{ltb-true}
+use Rattle.std.proofs.lemmas.Bool.{ltb-true, ne_eqb}
 use Rattle.std.proofs.lemmas.Option.{none-some, same_Some, slice_get-get_or, slice_get-map}
 use Rattle.std.proofs.lemmas.List.{take_all, drop_all}
 use Rattle.std.proofs.lemmas.List.Folds.{list_all-map, list_all_more, list_all_at, list_any_more, list_any_at}
@@ -19,6 +19,7 @@ use Rattle.cw_game.specs.Games.{Game, Config, bad_in, leads_in, weavers_in}
 use Rattle.cw_game.specs.Pairs.{Called, has, call_in, is_call_in, is_exit_in}
 use Rattle.cw_game.specs.Conditions.{RowFault, fault_in, first_failing, is_position, is_state, is_set, is_row, row_conditions, all_rows, is_start, strategy_fault, stands_after, enters, are_backs}
 use Rattle.cw_game.proofs.Truths.{and_parts, both}
+use Rattle.cw_positions.specs.Closed.{LeadsWithin}
 use Rattle.cw_product.specs.declared.turn.Turn.{Turn}
 use Rattle.cw_product.specs.declared.turn.Turn.TheVariants as turn
 use Rattle.cw_product.specs.Moves.{pair_of, pos_id, next_in, turn_in}
@@ -178,6 +179,31 @@ turn_calls g (Some (Label j l n)) t e = (0, ap (of_turn 0) (sym (same_Some t tur
 turn_calls g (Some (Open j d n)) t e = (0, ap (of_turn 0) (sym (same_Some t turn.Environment e)))
 turn_calls g (Some (Close j d n)) t e = (0, ap (of_turn 0) (sym (same_Some t turn.Environment e)))
 
+-- a function that is called is one that there is
+abbrev function_of : Turn → ℕ
+function_of (turn.Call f split back) = f
+function_of _ = 0
+
+pub callee_there : (g : Game) (size functions p f : ℕ) (split : Bool) (back : PosId) (spot : Option Spot)
+    → Some (turn.Call f split back) ≡ option_map (turn_in g) spot
+    → ((s : Spot) → spot ≡ Some s → LeadsWithin size functions p s) → f < functions
+callee_there g size functions p f split back None e leads = absurd (none-some (turn.Call f split back) (sym e))
+callee_there g size functions p f split back (Some (Call j f2 n)) e leads =
+    let same : f ≡ f2 = ap function_of (same_Some (turn.Call f split back) (turn.Call f2 false (pos_id n)) e) in
+    subst (λ k. k < functions) (sym same) (leads (Call j f2 n) refl).0
+callee_there g size functions p f split back (Some (SplitCall j f2 n)) e leads =
+    let same : f ≡ f2 = ap function_of (same_Some (turn.Call f split back) (turn.Call f2 true (pos_id n)) e) in
+    subst (λ k. k < functions) (sym same) (leads (SplitCall j f2 n) refl).0
+callee_there g size functions p f split back (Some (Visit j i a)) e leads = let z = same_Some (turn.Call f split back) turn.Weaver e in cc
+callee_there g size functions p f split back (Some (Exit k)) e leads = let z = same_Some (turn.Call f split back) (turn.Exit (nat_eq k g.main)) e in
+    cc
+callee_there g size functions p f split back (Some (Asked j i a)) e leads = let z = same_Some (turn.Call f split back) turn.Environment e in cc
+callee_there g size functions p f split back (Some (Step n)) e leads = let z = same_Some (turn.Call f split back) turn.Environment e in cc
+callee_there g size functions p f split back (Some (Branch m n)) e leads = let z = same_Some (turn.Call f split back) turn.Environment e in cc
+callee_there g size functions p f split back (Some (Label j l n)) e leads = let z = same_Some (turn.Call f split back) turn.Environment e in cc
+callee_there g size functions p f split back (Some (Open j d n)) e leads = let z = same_Some (turn.Call f split back) turn.Environment e in cc
+callee_there g size functions p f split back (Some (Close j d n)) e leads = let z = same_Some (turn.Call f split back) turn.Environment e in cc
+
 module _ (g : Game) (s : Strategy) (r : Row) (callee : ℕ) (backs : List (ℕ × ℕ)) where
   -- what conditions 6 and 7 tell of a call and the callee's row
   abbrev Told : Option Called → Option Row → Option ℕ
@@ -195,6 +221,21 @@ module _ (g : Game) (s : Strategy) (r : Row) (callee : ℕ) (backs : List (ℕ �
       ∙ sym (ap (λ t. cond t (unless 7 (are_backs g s r.state r.aim backs (of_turn k.0 (turn.Call f split back)) (Some x))) (Some 6))
       (both (nat_eq x.pos (g.entry f)) (nat_eq x.state r.state) (eq-eqb x.pos (g.entry f) pos) (eq-eqb x.state r.state state)))
       ∙ ap₂ Told (sym k.1) (sym row)
+
+  -- the callee's row stands elsewhere
+  pub call_fails : (f : ℕ) (split : Bool) (back : PosId) (x : Row) → Some (turn.Call f split back) ≡ option_map (turn_in g) (slice_get g.spots r.pos)
+      → slice_get s.rows callee ≡ Some x → (nat_eq x.pos (g.entry f) && nat_eq x.state r.state) ≡ false → Some 6 ≡ calls_in g s r callee backs
+  call_fails f split back x turned row apart =
+      let k = turn_calls g (slice_get g.spots r.pos) (turn.Call f split back) turned in
+      sym (ap (λ t. cond t (unless 7 (are_backs g s r.state r.aim backs (of_turn k.0 (turn.Call f split back)) (Some x))) (Some 6)) apart)
+      ∙ ap₂ Told (sym k.1) (sym row)
+
+pub first_apart : (a b : ℕ) (t : Bool) → (a ≡ b → ⊥) → (nat_eq a b && t) ≡ false
+first_apart a b t h = ap (λ x. x && t) (ne_eqb a b h)
+
+pub second_apart : (a b : ℕ) (t : Bool) → (a ≡ b → ⊥) → (t && nat_eq a b) ≡ false
+second_apart a b true h = ne_eqb a b h
+second_apart a b false h = refl
 
 -- the numbers of a row that are in range
 exits_all : (n : ℕ) (backs : List (StateId × ℕ)) → list_all (λ x. nat_lt x n) (map (λ (b : ℕ × ℕ). b.0) (backs_of backs)) ≡ true → AreExits n backs

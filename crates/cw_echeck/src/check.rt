@@ -81,17 +81,6 @@ fn environment_moves(game: &Game, cert: &EnvCert, row: &EnvRow, by: Move, next: 
     }
 }
 
-// Where a function begins, 0 for a number that no function has.
-fn entry(game: &Game, function: u16) -> PosId
-    ensures { result.0 ≡ (game_of game.now).entry function }
-{
-    if (function as usize) < game.graph().parts.len() {
-        game.entry(function)
-    } else {
-        PosId(0)
-    }
-}
-
 // Whether the row of a back stands where the call returns.
 fn is_back(
     game: &Game,
@@ -146,6 +135,7 @@ fn call_fault(
     requires exits { AreExits (game_of game.now).states.count backs.now }
     ensures { result ≡ calls_in (game_of game.now) (strategy_of cert.now) (row_of row.now) callee (backs_of backs.now) }
 {
+    game.is_closed();
     let Turn::Call {
         callee: function,
         split,
@@ -157,7 +147,7 @@ fn call_fault(
     let Some(entered) = cert.rows.get(callee as usize) else {
         return Some(6);
     };
-    if entered.pos.0 != entry(game, function).0 || entered.state.0 != row.state.0 {
+    if entered.pos.0 != game.entry(function).0 || entered.state.0 != row.state.0 {
         return Some(6);
     }
     let covered = are_covered(&entered.aim, backs, game.states());
