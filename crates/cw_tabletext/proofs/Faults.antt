@@ -309,7 +309,7 @@ wrong_row policy t rest (Limit n) g head real h =
         omega (arith, ap length on.1, length-append (rows_of t) (h.2 ∷ on.0), b.2.few, h.7)
 wrong_row policy t rest NoMemory g head real h = absurd (real refl)
 
-a_fault : (policy : PlainPolicy) (text rows : List ℕ) (old new : Table) (fault : TextFault) (rest : List ℕ) → FitsHead (old.states, old.start) → text ≡ text_of (head_lines policy old.states old.start) ++ rows
+pub a_fault : (policy : PlainPolicy) (text rows : List ℕ) (old new : Table) (fault : TextFault) (rest : List ℕ) → FitsHead (old.states, old.start) → text ≡ text_of (head_lines policy old.states old.start) ++ rows
     → AreWrong policy.format rows old new rest fault → fault ≢ NoMemory → IsFault policy text fault
 a_fault policy text rows old new fault rest head is h real =
     let same : text ≡ text_of (head_lines policy new.states new.start) ++ rows = is ∙ ap (λ n. text_of (head_lines policy n old.start) ++ rows) (sym h.states) ∙ ap (λ m. text_of (head_lines policy new.states m) ++ rows) (sym h.start) in

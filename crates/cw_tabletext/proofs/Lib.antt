@@ -7,3 +7,4 @@ pub mod Faults
 pub mod HeadLines
 pub mod OneAnswer
 pub mod PlainLimits
+pub mod SomeAnswer

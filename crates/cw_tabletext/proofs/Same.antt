@@ -42,16 +42,16 @@ same_mode true false e = let z : 1 ≡ 0 = decimal_injective 1 0 (omega arith) (
 no_decimal : (n : ℕ) → n < 2 ^ 32 → codes "CW_NONE" ≢ decimal n
 no_decimal n small e = false≢true (subst (λ (t : List ℕ). list_all is_ascii_digit t ≡ true) (sym e) (decimal_has_digits n (omega (arith, small))))
 
-abbrev mem_of : ℕ → MemId
+abbrev pub mem_of : ℕ → MemId
 mem_of n = record { 0 = n }
 
-abbrev seam_of : ℕ → SeamId
+abbrev pub seam_of : ℕ → SeamId
 seam_of n = record { 0 = n }
 
-abbrev state_of : ℕ → StateId
+abbrev pub state_of : ℕ → StateId
 state_of n = record { 0 = n }
 
-abbrev pos_of : ℕ → PosId
+abbrev pub pos_of : ℕ → PosId
 pos_of n = record { 0 = n }
 
 same_answer : (a b : Option MemId) → IsAnswer a → IsAnswer b → answer a ≡ answer b → a ≡ b
@@ -63,19 +63,19 @@ same_answer (Some m) (Some k) p q e = let z : m.0 ≡ k.0 = decimal_injective m.
 fourth : List ℕ → ℕ
 fourth name = get_or name 3 0
 
-abbrev at_row : ℕ → ℕ → ℕ → AtRow
+abbrev pub at_row : ℕ → ℕ → ℕ → AtRow
 at_row a b c = record { seam = seam_of a; mem = mem_of b; after = mem_of c }
 
-abbrev open_row : ℕ → ℕ → ℕ → ℕ → OpenRow
+abbrev pub open_row : ℕ → ℕ → ℕ → ℕ → OpenRow
 open_row a b c d = record { seam = seam_of a; mem = mem_of b; opened = mem_of c; failed = mem_of d }
 
-abbrev into_row : ℕ → Bool → ℕ → ℕ → IntoRow
+abbrev pub into_row : ℕ → Bool → ℕ → ℕ → IntoRow
 into_row a b c d = record { seam = seam_of a; split = b; mem = mem_of c; callee = mem_of d }
 
-abbrev back_row : ℕ → Bool → ℕ → ℕ → ℕ → BackRow
+abbrev pub back_row : ℕ → Bool → ℕ → ℕ → ℕ → BackRow
 back_row a b c d e = record { seam = seam_of a; split = b; mem = mem_of c; exit = state_of d; after = mem_of e }
 
-abbrev try_row : ℕ → ℕ → ℕ → Option MemId → Option MemId → TryRow
+abbrev pub try_row : ℕ → ℕ → ℕ → Option MemId → Option MemId → TryRow
 try_row a b c d e = record { seam = seam_of a; stage = b; mem = mem_of c; granted = d; refused = e }
 
 -- rows of one name with the same fields are one row

@@ -19,6 +19,11 @@ pub fn one_answer(policy: &Policy)
     ensures apart { (text : List ℕ) (t : Table) (f : TextFault) → Spells (policy_of policy.now) text t → IsFault (policy_of policy.now) text f → ⊥ }
 {}
 
+/// Each text is that of a table, or has a fault.
+pub fn some_answer(policy: &Policy)
+    ensures some { (text : List ℕ) → ((t : Table) × Spells (policy_of policy.now) text t) ⊎ ((fault : TextFault) × IsFault (policy_of policy.now) text fault) }
+{}
+
 /// For a valid policy what is printed of a table is read again as the table, unless memory runs out: whatever a reader
 /// may answer for a table's text, it is the table.
 pub fn printed_is_read_back(policy: &Policy)
