@@ -1,0 +1,9 @@
+//! Tests of the solver: programs and policies by their texts, with contexts, cells and heights from outside.
+#![tactic(auto)]
+
+#[cfg(test)]
+mod made;
+#[cfg(test)]
+mod rows;
+#[cfg(test)]
+mod solved;
