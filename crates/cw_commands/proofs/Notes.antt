@@ -1,0 +1,14 @@
+-- What a note got, from the put of its line.
+use Rattle.std.proofs.Common.{ℕ, List, length, Option, Some, None, Result, Ok, Err}
+use Rattle.std.proofs.Math.Seq.{take-length}
+use Rattle.cw_io.specs.Pieces.{Puts}
+use Rattle.cw_commands.specs.Endings.{GrowsByFront, PutsLine, IsNoted}
+
+-- a put appended a front of its piece, whatever it answered
+pub puts_front : {E : Type 0} (old new : Option (List ℕ)) (piece : List ℕ) (r : Result (Unit {0}) E) → Puts old new piece r → GrowsByFront old new piece
+puts_front old new piece (Ok u) p = (length piece, rw (take-length piece) p)
+puts_front old new piece (Err fault) p = p
+
+pub noted : {E : Type 0} (old new : Option (List ℕ)) (line : Option (List ℕ)) (r : Result (Unit {0}) E) → PutsLine old new line r → IsNoted old new line
+noted old new None r p = p
+noted old new (Some line) r p = puts_front old new line r p

@@ -1,0 +1,6 @@
+pub mod Commands
+pub mod Words
+pub mod Outcomes
+pub mod Files
+pub mod Endings
+pub mod Runs

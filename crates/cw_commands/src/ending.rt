@@ -1,0 +1,61 @@
+//! How a command ends.
+
+ghost use Rattle.std.specs.Prelude.{◌≡◌};
+ghost use Rattle.cw_commands.specs.Endings.{status_of};
+ghost use Rattle.cw_commands.specs.Outcomes.{cause_status, reply_status};
+
+use crate::outcome::{Cause, Reply};
+use cw_core::Quantity;
+
+/// How a command ends: a text was put whole, or why none was.
+#[derive(Drop)]
+pub enum Ending<'w> {
+    /// The text was put whole.
+    Put(Reply),
+    /// The files are refused, by this line.
+    Refused(Cause, Vec<u8>),
+    /// A file has more bytes than its quantity allows.
+    TooLong(Quantity),
+    /// The file of this name can't be read.
+    Unread(&'w str),
+    /// The text can't be written.
+    Unwritten,
+    /// There was no memory.
+    Memory,
+}
+
+fn reply_status(reply: Reply) -> u8
+    ensures { result ≡ reply_status reply }
+{
+    match reply {
+        Reply::Yes => 0,
+        Reply::No => 1,
+    }
+}
+
+fn cause_status(cause: Cause) -> u8
+    ensures { result ≡ cause_status cause }
+{
+    match cause {
+        Cause::Source => 3,
+        Cause::Policy => 4,
+        Cause::Limit => 5,
+        Cause::Grammar => 9,
+    }
+}
+
+impl Ending<'_> {
+    /// Its status.
+    pub fn status(&self) -> u8
+        ensures { result ≡ status_of self.now }
+    {
+        match self {
+            Ending::Put(reply) => reply_status(*reply),
+            Ending::Refused(cause, _) => cause_status(*cause),
+            Ending::TooLong(_) => 5,
+            Ending::Unread(_) => 6,
+            Ending::Unwritten => 7,
+            Ending::Memory => 8,
+        }
+    }
+}

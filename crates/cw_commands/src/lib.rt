@@ -1,0 +1,19 @@
+//! What all commands share: the words that ask for one, its files, read in the order of the words, what becomes of what is due for their
+//! bytes, and the one line on the note.
+#![tactic(auto)]
+
+mod command;
+mod delivery;
+mod ending;
+mod files;
+mod note;
+mod outcome;
+mod words;
+
+pub use command::Command;
+pub use delivery::deliver;
+pub use ending::Ending;
+pub use files::read_files;
+pub use note::{put_ending, put_usage};
+pub use outcome::{Cause, Outcome, Reply};
+pub use words::{Request, first_command, requested};
