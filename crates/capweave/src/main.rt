@@ -2,9 +2,11 @@
 #![tactic(auto)]
 
 use cw_cli::capweave;
+use cw_core::NoMemory;
 use cw_io::{FileShelf, Sink, StreamSink};
+use std::env::{Env, FillError};
+use std::io;
 use std::process::ExitCode;
-use std::{env, io};
 
 /// The status of want of memory.
 const MEMORY: u8 = 8;
@@ -18,24 +20,47 @@ fn end_without_memory(rt: &HostRuntime) -> ExitCode {
     ExitCode::from(MEMORY)
 }
 
-/// Words that aren't UTF-8 are words that fit no command.
-fn main(rt: HostRuntime) -> ExitCode {
-    let alloc = rt.alloc();
-    let words: Vec<String> = match env::args(&rt) {
-        Ok(args) => match args.skip(1).collect(alloc) {
-            Ok(words) => words,
-            Err(_) => return end_without_memory(&rt),
-        },
-        Err(fault) => {
-            if fault.kind() == io::ErrorKind::OutOfMemory {
-                return end_without_memory(&rt);
-            }
-            Vec::new(alloc)
+/// A word as text. In place of one that isn't UTF-8 stands a dash, which names no command and is none of a command's files.
+fn text_of(rt: &HostRuntime, word: &[u8]) -> Result<String, NoMemory> {
+    match str::from_utf8(word) {
+        Ok(text) => Ok(String::from_str(rt.alloc(), text)?),
+        Err(_) => Ok(String::from_str(rt.alloc(), "-")?),
+    }
+}
+
+/// The word of a number, counted from the program's name, or None behind the last. A system's words are shorter than 2 GB.
+fn word_at(rt: &HostRuntime, number: usize) -> Result<Option<String>, NoMemory> {
+    let mut size: usize = 256;
+    while size <= 0x8000_0000 {
+        let mut word = vec![in rt.alloc(); 0_u8; size]?;
+        match rt.arg(number, &mut word) {
+            Ok(length) => return Ok(Some(text_of(rt, &word[..length])?)),
+            Err(FillError::NotPresent) => return Ok(None),
+            Err(FillError::TooLong) => size *= 2,
         }
+    }
+    Err(NoMemory)
+}
+
+/// The words behind the program's name, which may be any bytes.
+fn words_of(rt: &HostRuntime) -> Result<Vec<String>, NoMemory> {
+    let mut words = Vec::new(rt.alloc());
+    for number in 1..usize::MAX {
+        match word_at(rt, number)? {
+            Some(word) => words.push(word)?,
+            None => break,
+        }
+    }
+    Ok(words)
+}
+
+fn main(rt: HostRuntime) -> ExitCode {
+    let Ok(words) = words_of(&rt) else {
+        return end_without_memory(&rt);
     };
     let stderr = rt.stderr();
     let mut shelf = FileShelf::make(&rt);
     let mut out = StreamSink::make(io::writer(&rt));
     let mut note = StreamSink::make(io::writer(&stderr));
-    ExitCode::from(capweave(alloc, &words, &mut shelf, &mut out, &mut note))
+    ExitCode::from(capweave(rt.alloc(), &words, &mut shelf, &mut out, &mut note))
 }

@@ -1,6 +1,5 @@
 mod Labelled
 mod Listed
-mod Notes
 mod Policies
 mod Refused
 mod StartRows

@@ -1,5 +1,5 @@
 -- The lines of a program's graph are due for its source.
-use Rattle.std.proofs.Common.{◌≡◌, ℕ, suc, ◌+◌, ◌≤◌, ◌<◌, List, [], ◌∷◌, length, map, Some, refl, sym, ap, ap₂, ◌∙◌, subst, arith, Result, inr}
+use Rattle.std.proofs.Common.{◌≡◌, ℕ, suc, ◌+◌, ◌≤◌, ◌<◌, List, [], ◌∷◌, length, map, Some, refl, sym, ap, ap₂, ◌∙◌, subst, arith, Result, inl}
 use Rattle.std.specs.Prelude.{IfOk, slice_get}
 use Rattle.std.specs.List.{range_with_len}
 use Rattle.std.proofs.lemmas.List.{length-map}
@@ -17,9 +17,11 @@ use Rattle.cw_listing.specs.Labels.{label_names}
 use Rattle.cw_listing.specs.Listing.{graph_text}
 use Rattle.cw_source.proofs.Starting.{functions_few}
 use Rattle.cw_source.specs.Read.{ReadsAs}
-use Rattle.cw_cli.specs.declared.answer.Answer.{Answer}
-use Rattle.cw_cli.specs.Due.{Due, SourceOverLimit, due_of}
-use Rattle.cw_cli.specs.Listings.{call_lists, own_names, too_many, IsListing, IsListingDue}
+use Rattle.cw_core.specs.declared.quantity.Quantity.TheVariants.{Points}
+use Rattle.cw_commands.specs.declared.outcome.Outcome.{Outcome}
+use Rattle.cw_commands.specs.Outcomes.{due_of}
+use Rattle.cw_cli.specs.Listings.{call_lists, own_names, IsListed, IsListing}
+use Rattle.cw_cli.specs.Refusals.{over as over_limit}
 use Rattle.cw_cli.proofs.Refused.{if_ok}
 
 rows_from : (plan : Plan) (k : ℕ) (es : List Effect) → ((f : ℕ) (e : Effect) → slice_get es f ≡ Some e → e.calls.items ≡ calls plan (k + f)) → map (λ e. e.calls.items) es ≡ map (calls plan) (range_with_len k (length es))
@@ -60,8 +62,5 @@ module _ (names : Names) (source : List ℕ) where
       (g, both.0, both.1 ∙ ap (λ k. graph_text (function_names source file) (label_names source file) [] (call_lists (plan_of (own_names source file) source file) k) g) many)
 
 -- too many points are due as a limit of the source
-over_is_due : (source : List ℕ) (file : File) → ReadsAs source file → 8192 < point_count (plan_of (own_names source file) source file) → (due : Due) → due ≡ SourceOverLimit too_many → IsListingDue source due
-over_is_due source file reads h due e = subst (IsListingDue source) (sym e) (inr (file, reads, h, refl))
-
-pub over : {E : Type 0} (source : List ℕ) (file : File) → ReadsAs source file → 8192 < point_count (plan_of (own_names source file) source file) → (result : Result Answer E) → IfOk result (λ answer. due_of answer ≡ SourceOverLimit too_many) → IfOk result (λ answer. IsListingDue source (due_of answer))
-over source file reads h result o = if_ok result o (λ answer e. over_is_due source file reads h (due_of answer) e)
+pub over : {E : Type 0} (source : List ℕ) (file : File) → 8192 < point_count (plan_of (own_names source file) source file) → (result : Result Outcome E) → IfOk result (λ o. due_of o ≡ over_limit Points) → IfOk result (λ o. IsListed source file (due_of o))
+over source file h result is = if_ok result is (λ o e. inl (h, e))

@@ -1,36 +1,38 @@
--- A broken rule of the descriptors is due as a refusal of the source.
-use Rattle.std.proofs.Common.{◌≡◌, ◌≢◌, ℕ, List, Result, Ok, Err, Some, ⊎_elim, inr}
+-- Refusals that are due.
+use Rattle.std.proofs.Common.{◌≡◌, ◌≢◌, ℕ, List, Result, Ok, Err, Some, ⊎_elim}
 use Rattle.std.specs.Prelude.{IfOk}
 use Rattle.cw_rights.specs.Policies.{PlainPolicy}
 use Rattle.cw_syntax.specs.Trees.{File}
-use Rattle.cw_policies.specs.Answer.{Spells}
+use Rattle.cw_policies.specs.declared.fault.PolicyFault.{PolicyFault}
+use Rattle.cw_policies.specs.declared.fault.PolicyFault.TheVariants as policy
+use Rattle.cw_policies.specs.Answer.{IsFault}
 use Rattle.cw_scope.specs.declared.descriptors.DescriptorFault.{DescriptorFault}
-use Rattle.cw_scope.specs.declared.descriptors.DescriptorFault.TheVariants.{NoMemory}
+use Rattle.cw_scope.specs.declared.descriptors.DescriptorFault.TheVariants as descriptor
 use Rattle.cw_scope.specs.Descriptors.{descriptor_fault, IsDueDescriptor}
-use Rattle.cw_source.specs.Read.{ReadsAs}
-use Rattle.cw_cli.specs.declared.answer.Answer.{Answer}
-use Rattle.cw_cli.specs.Due.{Due, PolicyRefused, PolicyOverLimit, SourceRefused, SourceOverLimit, SourceNotYet, PolicyNotYet, NoLabel, Woven, Refuted, Listed, due_of, IsDue}
-use Rattle.cw_cli.specs.Faults.{IsDescriptorRefusalOf}
+use Rattle.cw_source.specs.declared.fault.SourceFault.{SourceFault}
+use Rattle.cw_source.specs.declared.fault.SourceFault.TheVariants as source
+use Rattle.cw_source.specs.Read.{IsFaultOf, ReadsAs}
+use Rattle.cw_commands.specs.declared.outcome.Cause.TheVariants.{Source}
+use Rattle.cw_commands.specs.declared.outcome.Outcome.{Outcome}
+use Rattle.cw_commands.specs.Outcomes.{due_of, Refused}
+use Rattle.cw_cli.specs.Refusals.{descriptor_line, policy_refusal, source_refusal, IsDescriptorRefusal, IsPolicyRefusal, IsSourceRefusal}
 
 pub if_ok : {A E : Type 0} {P Q : A → Type 0} (result : Result A E) → IfOk result P → ((a : A) → P a → Q a) → IfOk result Q
 if_ok (Ok a) h f = f a h
 if_ok (Err e) h f = tt
 
-module _ (policy source : List ℕ) (whole : PlainPolicy) (file : File) (f : DescriptorFault) (spelled : Spells policy whole) (reads : ReadsAs source file) (due : IsDueDescriptor (descriptor_fault source file whole) f) where
-  is_first : (f ≢ NoMemory) → descriptor_fault source file whole ≡ Some f
-  is_first h = ⊎_elim (λ e. absurd (h e)) (λ e. e) due
+pub policy_refused : {E : Type 0} (text : List ℕ) (f : PolicyFault) (result : Result Outcome E) → IsFault text f
+    → IfOk result (λ o. (f ≢ policy.NoMemory) × (due_of o ≡ policy_refusal f)) → IfOk result (λ o. IsPolicyRefusal text (due_of o))
+policy_refused text f result is h = if_ok result h (λ o p. (f, is, p.0, p.1))
 
-  is_due : (d : Due) → IsDescriptorRefusalOf source whole f d → IsDue policy source d
-  is_due (SourceRefused line) h = (whole, spelled, inr (file, reads, (f, is_first h.0, h.1)))
-  is_due (PolicyRefused line) h = absurd h
-  is_due (PolicyOverLimit line) h = absurd h
-  is_due (SourceOverLimit line) h = absurd h
-  is_due SourceNotYet h = absurd h
-  is_due PolicyNotYet h = absurd h
-  is_due (NoLabel name) h = absurd h
-  is_due (Woven text) h = absurd h
-  is_due (Refuted text) h = absurd h
-  is_due (Listed text) h = absurd h
+pub source_refused : {E : Type 0} (text : List ℕ) (f : SourceFault) (result : Result Outcome E) → IsFaultOf text f
+    → IfOk result (λ o. (f ≢ source.NoMemory) × (due_of o ≡ source_refusal text f)) → IfOk result (λ o. IsSourceRefusal text (due_of o))
+source_refused text f result is h = if_ok result h (λ o p. (f, is, p.0, p.1))
 
-  pub refused : {E : Type 0} (result : Result Answer E) → IfOk result (λ answer. IsDescriptorRefusalOf source whole f (due_of answer)) → IfOk result (λ answer. IsDue policy source (due_of answer))
-  refused result h = if_ok result h (λ answer p. is_due (due_of answer) p)
+pub descriptor_refused : {E : Type 0} (text : List ℕ) (whole : PlainPolicy) (file : File) (f : DescriptorFault) (result : Result Outcome E)
+    → ReadsAs text file → IsDueDescriptor (descriptor_fault text file whole) f
+    → IfOk result (λ o. (f ≢ descriptor.NoMemory) × (due_of o ≡ Refused Source (descriptor_line text whole f))) → IfOk result (λ o. IsDescriptorRefusal text whole (due_of o))
+descriptor_refused text whole file f result reads due h = if_ok result h (λ o p. (file, reads, (f, first p.0, p.1)))
+  where
+    first : (f ≢ descriptor.NoMemory) → descriptor_fault text file whole ≡ Some f
+    first n = ⊎_elim (λ e. absurd (n e)) (λ e. e) due

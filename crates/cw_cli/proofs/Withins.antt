@@ -14,7 +14,7 @@ use Rattle.cw_layout.specs.Positions.{has_call}
 use Rattle.cw_layout.proofs.Calling.{same_has_call}
 use Rattle.cw_layout.proofs.Leading.{length_nodes}
 use Rattle.cw_layout.proofs.Naming.{same_points}
-use Rattle.cw_cli.specs.Due.{no_names, is_large, IsBeyond, IsWithin}
+use Rattle.cw_cli.specs.Weaving.{no_names, is_large, IsBeyond, IsWithin}
 
 module _ (names : Names) (source : List ℕ) (file : File) where
   counted : (g : Graph) → IsGraph names source file g → length g.nodes.items ≡ point_count (plan_of no_names source file)

@@ -1,8 +1,6 @@
 pub mod Refusals
-pub mod Due
-pub mod Faults
+pub mod Reading
 pub mod Verdicts
+pub mod Weaving
 pub mod Listings
-pub mod Words
-pub mod Ends
-pub mod Lines
+pub mod Due

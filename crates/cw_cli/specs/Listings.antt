@@ -1,7 +1,7 @@
 -- What is due for the bytes of a source whose graph is asked for.
-use Rattle.std.specs.Prelude.{◌≡◌, ◌⊎◌, ℕ, ◌<◌, List, [], ◌++◌, true, false, length, codes, map}
+use Rattle.std.specs.Prelude.{◌≡◌, ◌⊎◌, ℕ, ◌<◌, List, [], length, map}
 use Rattle.std.specs.List.{range_with_len}
-use Rattle.cw_core.specs.Quantities.{limit_of, name_of}
+use Rattle.cw_core.specs.Quantities.{limit_of}
 use Rattle.cw_core.specs.declared.quantity.Quantity.TheVariants.{Points}
 use Rattle.cw_syntax.specs.Names.{Names}
 use Rattle.cw_syntax.specs.Trees.{File}
@@ -13,8 +13,9 @@ use Rattle.cw_callgraph.specs.Effects.{calls}
 use Rattle.cw_listing.specs.Labels.{label_names}
 use Rattle.cw_listing.specs.Listing.{graph_text}
 use Rattle.cw_source.specs.Read.{ReadsAs}
-use Rattle.cw_cli.specs.Due.{Due, SourceRefused, SourceOverLimit, Listed}
-use Rattle.cw_cli.specs.Refusals.{IsSourceRefusal}
+use Rattle.cw_commands.specs.declared.outcome.Reply.TheVariants.{Yes}
+use Rattle.cw_commands.specs.Outcomes.{Due, Told}
+use Rattle.cw_cli.specs.Refusals.{IsSourceRefusal, over}
 
 -- no descriptors and no functions in processes of their own; a label's number is that of its name among the source's
 abbrev pub own_names : List ℕ → File → Names
@@ -31,15 +32,12 @@ IsListing source file text =
     × IsGraph (own_names source file) source file g
     × (text ≡ graph_text (function_names source file) (label_names source file) [] (call_lists (plan_of (own_names source file) source file) (length file.functions)) g)
 
--- the line that there are too many points
-abbrev pub too_many : List ℕ
-too_many = codes "limit: " ++ name_of Points
+-- That the program has too many points, or the lines of its graph.
+abbrev pub IsListed : List ℕ → File → Due → Type 0
+IsListed source file due =
+    ((limit_of Points < point_count (plan_of (own_names source file) source file)) × (due ≡ over Points))
+    ⊎ ((text : List ℕ) × IsListing source file text × (due ≡ Told Yes text))
 
--- A refusal of the source, that it has too many points, or the lines of its graph.
+-- The source is read first.
 abbrev pub IsListingDue : List ℕ → Due → Type 0
-IsListingDue source (SourceRefused line) = IsSourceRefusal source false line
-IsListingDue source (SourceOverLimit line) =
-    IsSourceRefusal source true line
-    ⊎ ((file : File) × ReadsAs source file × (limit_of Points < point_count (plan_of (own_names source file) source file)) × (line ≡ too_many))
-IsListingDue source (Listed text) = (file : File) × ReadsAs source file × IsListing source file text
-IsListingDue source due = ⊥
+IsListingDue source due = IsSourceRefusal source due ⊎ ((file : File) × ReadsAs source file × IsListed source file due)

@@ -1,11 +1,13 @@
--- Why a policy or a source is refused, and the line that tells it.
-use Rattle.std.specs.Prelude.{◌≡◌, ◌≢◌, ℕ, List, ◌++◌, Bool, true, false, Some, codes}
+-- Why a policy or a source is refused, with the line that tells it.
+use Rattle.std.specs.Prelude.{◌≡◌, ◌≢◌, ℕ, List, ◌++◌, Bool, true, false, Some, codes, if◌then◌else◌}
+use Rattle.cw_core.specs.declared.quantity.Quantity.{Quantity}
+use Rattle.cw_core.specs.Quantities.{name_of}
 use Rattle.cw_rights.specs.Policies.{PlainPolicy}
 use Rattle.cw_syntax.specs.Trees.{File}
 use Rattle.cw_text.specs.LimitsText.{descriptor_name}
 use Rattle.cw_regex.specs.declared.read.RegexFault.TheVariants.{TooDeep}
 use Rattle.cw_policies.specs.declared.fault.PolicyFault.{PolicyFault}
-use Rattle.cw_policies.specs.declared.fault.PolicyFault.TheVariants.{Limit, Regex, NoMemory}
+use Rattle.cw_policies.specs.declared.fault.PolicyFault.TheVariants.{Limit as OverLimit, Regex, NoMemory}
 use Rattle.cw_policies.specs.Answer.{IsFault}
 use Rattle.cw_policies.specs.Lines.{fault_line}
 use Rattle.cw_scope.specs.declared.faults.ScopeFault.TheVariants as scope
@@ -16,16 +18,27 @@ use Rattle.cw_source.specs.declared.fault.SourceFault.{SourceFault}
 use Rattle.cw_source.specs.declared.fault.SourceFault.TheVariants as source
 use Rattle.cw_source.specs.Read.{IsFaultOf, ReadsAs}
 use Rattle.cw_source.specs.Lines.{at_place, fault_line as source_line}
+use Rattle.cw_listing.specs.Labels.{missing_label}
+use Rattle.cw_commands.specs.declared.outcome.Cause.TheVariants.{Source, Policy, Limit}
+use Rattle.cw_commands.specs.Outcomes.{Due, Refused}
+
+-- a quantity is over its limit
+abbrev pub over : Quantity → Due
+over quantity = Refused Limit (codes "limit: " ++ name_of quantity)
 
 -- a fault of a policy that says that a quantity is over its limit
 abbrev pub is_limit : PolicyFault → Bool
-is_limit (Limit quantity) = true
+is_limit (OverLimit quantity) = true
 is_limit (Regex index TooDeep) = true
 is_limit _ = false
 
--- the line of the policy's first fault, by whether that is a limit
-abbrev pub IsRefusal : List ℕ → Bool → List ℕ → Type 0
-IsRefusal policy limit line = (f : PolicyFault) × IsFault policy f × (f ≢ NoMemory) × (is_limit f ≡ limit) × (line ≡ fault_line f)
+-- the refusal by a policy's fault
+abbrev pub policy_refusal : PolicyFault → Due
+policy_refusal f = Refused (if is_limit f then Limit else Policy) (fault_line f)
+
+-- the policy is refused, by its first fault
+abbrev pub IsPolicyRefusal : List ℕ → Due → Type 0
+IsPolicyRefusal policy due = (f : PolicyFault) × IsFault policy f × (f ≢ NoMemory) × (due ≡ policy_refusal f)
 
 -- the same of a source's fault
 abbrev pub is_source_limit : SourceFault → Bool
@@ -33,8 +46,11 @@ is_source_limit source.TooDeep = true
 is_source_limit (source.Scope (scope.Limit quantity)) = true
 is_source_limit _ = false
 
-abbrev pub IsSourceRefusal : List ℕ → Bool → List ℕ → Type 0
-IsSourceRefusal text limit line = (f : SourceFault) × IsFaultOf text f × (f ≢ source.NoMemory) × (is_source_limit f ≡ limit) × (line ≡ source_line text f)
+abbrev pub source_refusal : List ℕ → SourceFault → Due
+source_refusal text f = Refused (if is_source_limit f then Limit else Source) (source_line text f)
+
+abbrev pub IsSourceRefusal : List ℕ → Due → Type 0
+IsSourceRefusal text due = (f : SourceFault) × IsFaultOf text f × (f ≢ source.NoMemory) × (due ≡ source_refusal text f)
 
 -- the line that tells which rule of the descriptors is broken
 abbrev pub descriptor_line : List ℕ → PlainPolicy → DescriptorFault → List ℕ
@@ -43,7 +59,20 @@ descriptor_line text policy (descriptor.Shadowed d) = codes "source: shadowed " 
 descriptor_line text policy (descriptor.Misuse at) = at_place text at (codes "misuse")
 descriptor_line text policy descriptor.NoMemory = codes "memory"
 
--- the source is read, and this is the line of the first rule that the policy's descriptors break in it
-abbrev pub IsDescriptorRefusal : List ℕ → PlainPolicy → List ℕ → Type 0
-IsDescriptorRefusal text policy line =
-    (file : File) × ReadsAs text file × ((f : DescriptorFault) × (descriptor_fault text file policy ≡ Some f) × (line ≡ descriptor_line text policy f))
+-- the source is read and refused, by the first rule that the policy's descriptors break in it
+abbrev pub IsDescriptorRefusal : List ℕ → PlainPolicy → Due → Type 0
+IsDescriptorRefusal text policy due =
+    (file : File) × ReadsAs text file
+    × ((f : DescriptorFault) × (descriptor_fault text file policy ≡ Some f) × (due ≡ Refused Source (descriptor_line text policy f)))
+
+-- the policy is refused by the first of its labels that isn't in the source
+abbrev pub IsLabelRefusal : List ℕ → File → PlainPolicy → Due → Type 0
+IsLabelRefusal text file policy due =
+    (name : List ℕ) × (missing_label text file policy.labels ≡ Some name) × (due ≡ Refused Policy (codes "policy: no label " ++ name))
+
+-- what isn't woven, or judged, yet
+abbrev pub source_not_yet : Due
+source_not_yet = Refused Source (codes "source: not yet")
+
+abbrev pub policy_not_yet : Due
+policy_not_yet = Refused Policy (codes "policy: not yet")

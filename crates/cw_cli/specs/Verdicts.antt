@@ -17,10 +17,8 @@ use Rattle.cw_game.specs.Standing.{IsGameOf}
 use Rattle.cw_text.specs.StrategyText.{strategy_text}
 use Rattle.cw_emit.specs.Cut.{cut}
 use Rattle.cw_emit.specs.Woven.{Stands}
-use Rattle.cw_cli.specs.declared.verdict.PlainAnswer.{PlainAnswer}
-use Rattle.cw_cli.specs.declared.verdict.PlainAnswer.TheVariants.{Woven as WovenText, Refuted as RefutedText}
-use Rattle.cw_cli.specs.declared.verdict.Verdict.{Verdict}
-use Rattle.cw_cli.specs.declared.verdict.Verdict.TheVariants.{Sound as SoundData, Beaten as BeatenData}
+use Rattle.cw_cli.specs.declared.verdict.Solved.{Solved}
+use Rattle.cw_cli.specs.declared.verdict.Solved.TheVariants.{Sound as SoundData, Beaten as BeatenData}
 
 -- What holds of each policy of the first form: it is valid, has no descriptors and no limits, its labels have numbers of 16 bits, and its rules are
 -- those of tests of ambient authority.
@@ -61,11 +59,6 @@ IsRefuted plain source file text =
     × ((n : ℕ) × Forced (problem_of plain source file) n (start_board (problem_of plain source file)))
 
 -- the table is sound and lazy, or the strategy beats every weaver from its start row
-abbrev pub IsVerdict : Problem → Verdict → Type 0
-IsVerdict p (SoundData table) = Sound p table × Lazy p table
-IsVerdict p (BeatenData strategy) = BeatsFromStart p (strategy_of strategy)
-
--- and the text of the one or of the other
-abbrev pub IsPlainAnswer : PlainPolicy → List ℕ → File → PlainAnswer → Type 0
-IsPlainAnswer plain source file (WovenText text) = IsWoven plain source file text.items
-IsPlainAnswer plain source file (RefutedText text) = IsRefuted plain source file text.items
+abbrev pub IsSolved : Problem → Solved → Type 0
+IsSolved p (SoundData table) = Sound p table × Lazy p table
+IsSolved p (BeatenData strategy) = BeatsFromStart p (strategy_of strategy)

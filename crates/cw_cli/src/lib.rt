@@ -1,19 +1,16 @@
 //! The top call: words, a shelf and two sinks in, the status out.
 #![tactic(auto)]
 
-mod answer;
 mod command;
-mod ending;
 mod listing;
-mod note;
+mod reading;
 mod refusals;
 mod verdict;
-mod words;
+mod weaving;
 
-pub use answer::{Answer, due};
 pub use command::capweave;
-pub use ending::Ending;
 pub use listing::listing_due;
+pub use weaving::weave_due;
 
 #[cfg(test)]
 mod tests;

@@ -10,12 +10,12 @@ ghost use Rattle.cw_listing.specs.Held.{lists};
 ghost use Rattle.cw_listing.specs.Labels.{label_names};
 ghost use Rattle.cw_points.specs.Graphs.{IsGraph};
 ghost use Rattle.cw_source.specs.Read.{ReadsAs};
-ghost use Rattle.cw_cli.specs.Due.{due_of, SourceOverLimit};
-ghost use Rattle.cw_cli.specs.Listings.{call_lists, own_names, too_many, IsListing, IsListingDue};
+ghost use Rattle.cw_commands.specs.Outcomes.{due_of};
+ghost use Rattle.cw_cli.specs.Listings.{call_lists, own_names, IsListed, IsListingDue};
 
-use crate::answer::Answer;
-use crate::refusals::source_refusal;
+use crate::refusals::{over, source_refusal};
 use cw_callgraph::{Effect, effects};
+use cw_commands::{Outcome, Reply};
 use cw_core::{NoMemory, Quantity};
 use cw_listing::{Names, function_names, graph_text, label_names};
 use cw_points::build::build;
@@ -45,16 +45,6 @@ fn with_labels(alloc: Global, labels: Vec<Vec<u8>>) -> Policy
         format: 1,
         detached: Vec::new(alloc),
     }
-}
-
-/// The line that a program has too many points.
-fn too_many_points(alloc: Global) -> Result<Answer, NoMemory>
-    ensures { IfOk result (λ answer. due_of answer ≡ SourceOverLimit too_many) }
-{
-    let mut line = Vec::new(alloc);
-    line.extend_from_slice(b"limit: ")?;
-    line.extend_from_slice(Quantity::Points.name().as_bytes())?;
-    Ok(Answer::SourceOverLimit(line))
 }
 
 /// What each of these functions calls.
@@ -100,35 +90,38 @@ fn listed(
 }
 
 /// What is due for a program, under a policy that has its labels and nothing else.
-fn drawn(alloc: Global, checked: &Checked, policy: &Policy) -> Result<Answer, NoMemory>
+fn drawn(alloc: Global, checked: &Checked, policy: &Policy) -> Result<Outcome, NoMemory>
     requires reads { ReadsAs checked.now.source.now (file_of checked.now.program) }
     requires names { names_of (policy_of policy.now) ≡ own_names checked.now.source.now (file_of checked.now.program) }
     requires labels { length (policy_of policy.now).labels ≤ 65535 }
-    ensures { IfOk result (λ answer. IsListingDue checked.now.source.now (due_of answer)) }
+    ensures { IfOk result (λ outcome. IsListed checked.now.source.now (file_of checked.now.program) (due_of outcome)) }
 {
     match build(alloc, checked, policy) {
-        Ok(graph) => Ok(Answer::Listed(listed(alloc, checked, policy, &graph)?)),
-        Err(PointsFault::TooManyPoints) => too_many_points(alloc),
+        Ok(graph) => Ok(Outcome::Told(
+            Reply::Yes,
+            listed(alloc, checked, policy, &graph)?,
+        )),
+        Err(PointsFault::TooManyPoints) => over(alloc, Quantity::Points),
         Err(PointsFault::NoMemory) => Err(NoMemory),
     }
 }
 
 /// What is due for a program whose graph is asked for.
-fn of_program(alloc: Global, checked: &Checked) -> Result<Answer, NoMemory>
+fn of_program(alloc: Global, checked: &Checked) -> Result<Outcome, NoMemory>
     requires reads { ReadsAs checked.now.source.now (file_of checked.now.program) }
-    ensures { IfOk result (λ answer. IsListingDue checked.now.source.now (due_of answer)) }
+    ensures { IfOk result (λ outcome. IsListed checked.now.source.now (file_of checked.now.program) (due_of outcome)) }
 {
     let labels = label_names(alloc, checked.source, &checked.program)?;
     if labels.len() > LABELS {
-        return too_many_points(alloc);
+        return over(alloc, Quantity::Points);
     }
     drawn(alloc, checked, &with_labels(alloc, labels))
 }
 
 /// What is due for the bytes of a source whose graph is asked for.
-pub fn listing_due(alloc: Global, source: &[u8]) -> Result<Answer, NoMemory>
+pub fn listing_due(alloc: Global, source: &[u8]) -> Result<Outcome, NoMemory>
     requires short { length source.now ≤ 262144 }
-    ensures due { IfOk result (λ answer. IsListingDue source.now (due_of answer)) }
+    ensures due { IfOk result (λ outcome. IsListingDue source.now (due_of outcome)) }
 {
     match read_source(alloc, source) {
         Ok(checked) => of_program(alloc, &checked),

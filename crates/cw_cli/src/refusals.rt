@@ -1,95 +1,129 @@
-//! Why a policy or a source is refused, and the line that tells it.
+//! Why a policy or a source is refused, with the line that tells it.
 
-ghost use Rattle.std.specs.Prelude.{◌≡◌, ◌++◌, IfOk};
+ghost use Rattle.std.specs.Prelude.{◌≡◌, ◌≢◌, ◌++◌, codes, IfNone, IfOk, IfSome, None};
 ghost use Rattle.cw_rights.specs.Policies.{policy_of};
+ghost use Rattle.cw_syntax.specs.Trees.{file_of};
 ghost use Rattle.cw_text.specs.LimitsText.{descriptor_name as name_of};
-ghost use Rattle.cw_cli.specs.Due.{due_of};
-ghost use Rattle.cw_cli.specs.Refusals.{descriptor_line};
-ghost use Rattle.cw_cli.specs.Faults.{IsDescriptorRefusalOf, IsRefusalOf, IsSourceRefusalOf};
+ghost use Rattle.cw_listing.specs.Labels.{missing_label};
+ghost use Rattle.cw_commands.specs.declared.outcome.Cause.TheVariants.{Source};
+ghost use Rattle.cw_commands.specs.Outcomes.{due_of, Refused};
+ghost use Rattle.cw_cli.specs.Refusals.{descriptor_line, over, policy_refusal, source_refusal, IsLabelRefusal};
 
-use crate::answer::Answer;
-use cw_core::NoMemory;
+use cw_commands::{Cause, Outcome};
+use cw_core::{NoMemory, Quantity};
+use cw_listing::missing_label;
 use cw_policies::{PolicyFault, put_fault};
 use cw_regex::RegexFault;
 use cw_rights::Policy;
 use cw_scope::{DescriptorFault, ScopeFault};
 use cw_source::{SourceFault, fault_line, place_line};
+use cw_syntax::checked::Checked;
 use cw_text::descriptor_name;
 use std::alloc::Global;
 
-/// The line of a policy's first fault.
-pub(crate) fn refusal(alloc: Global, fault: &PolicyFault) -> Result<Answer, NoMemory>
-    ensures { IfOk result (λ answer. IsRefusalOf fault.now (due_of answer)) }
+/// What is due, or want of memory.
+pub(crate) type Answer = Result<Outcome, NoMemory>;
+
+/// Some words, and others behind them.
+pub(crate) fn worded(alloc: Global, words: &[u8], rest: &[u8]) -> Result<Vec<u8>, NoMemory>
+    ensures { IfOk result (λ line. line.items ≡ words.now ++ rest.now) }
+{
+    let mut line = Vec::new(alloc);
+    line.extend_from_slice(words)?;
+    line.extend_from_slice(rest)?;
+    Ok(line)
+}
+
+/// That a quantity is over its limit.
+pub(crate) fn over(alloc: Global, quantity: Quantity) -> Result<Outcome, NoMemory>
+    ensures { IfOk result (λ outcome. due_of outcome ≡ over quantity) }
+{
+    let line = worded(alloc, b"limit: ", quantity.name().as_bytes())?;
+    Ok(Outcome::Refused(Cause::Limit, line))
+}
+
+/// The refusal by a policy's fault.
+pub(crate) fn policy_refusal(alloc: Global, fault: &PolicyFault) -> Result<Outcome, NoMemory>
+    ensures { IfOk result (λ outcome. (fault.now ≢ PolicyFault.NoMemory) × (due_of outcome ≡ policy_refusal fault.now)) }
 {
     let mut line = Vec::new(alloc);
     put_fault(fault, &mut line)?;
     match fault {
         PolicyFault::NoMemory => Err(NoMemory),
-        PolicyFault::Limit(_) => Ok(Answer::PolicyOverLimit(line)),
-        PolicyFault::Regex(_, RegexFault::TooDeep) => Ok(Answer::PolicyOverLimit(line)),
-        PolicyFault::Regex(_, _) => Ok(Answer::PolicyRefused(line)),
+        PolicyFault::Limit(_) => Ok(Outcome::Refused(Cause::Limit, line)),
+        PolicyFault::Regex(_, RegexFault::TooDeep) => Ok(Outcome::Refused(Cause::Limit, line)),
+        PolicyFault::Regex(_, _) => Ok(Outcome::Refused(Cause::Policy, line)),
         PolicyFault::Toml
         | PolicyFault::Missing(_)
         | PolicyFault::Unknown(_)
         | PolicyFault::Kind(_)
-        | PolicyFault::Twice(_) => Ok(Answer::PolicyRefused(line)),
+        | PolicyFault::Twice(_) => Ok(Outcome::Refused(Cause::Policy, line)),
     }
 }
 
-/// The line of a source's first fault.
+/// The refusal by a source's fault.
 pub(crate) fn source_refusal(
     alloc: Global,
     source: &[u8],
     fault: &SourceFault,
-) -> Result<Answer, NoMemory>
-    ensures { IfOk result (λ answer. IsSourceRefusalOf source.now fault.now (due_of answer)) }
+) -> Result<Outcome, NoMemory>
+    ensures { IfOk result (λ outcome. (fault.now ≢ SourceFault.NoMemory) × (due_of outcome ≡ source_refusal source.now fault.now)) }
 {
     let line = fault_line(alloc, source, fault)?;
     match fault {
         SourceFault::NoMemory => Err(NoMemory),
-        SourceFault::TooDeep => Ok(Answer::SourceOverLimit(line)),
-        SourceFault::Scope(ScopeFault::Limit(_)) => Ok(Answer::SourceOverLimit(line)),
+        SourceFault::TooDeep => Ok(Outcome::Refused(Cause::Limit, line)),
+        SourceFault::Scope(ScopeFault::Limit(_)) => Ok(Outcome::Refused(Cause::Limit, line)),
         SourceFault::Scope(_) | SourceFault::Lex(_) | SourceFault::Syntax(_) => {
-            Ok(Answer::SourceRefused(line))
+            Ok(Outcome::Refused(Cause::Source, line))
         }
     }
 }
 
-/// Some words and the name of a descriptor.
-fn named(alloc: Global, words: &[u8], policy: &Policy, descriptor: u8) -> Result<Vec<u8>, NoMemory>
-    ensures { IfOk result (λ line. line.items ≡ words.now ++ name_of (policy_of policy.now) descriptor) }
-{
-    let mut line = Vec::new(alloc);
-    line.extend_from_slice(words)?;
-    line.extend_from_slice(descriptor_name(policy, descriptor))?;
-    Ok(line)
-}
-
-/// The line of the first rule that a policy's descriptors break in a source.
+/// The refusal by the first rule that a policy's descriptors break in a source.
 pub(crate) fn descriptor_refusal(
     alloc: Global,
     source: &[u8],
     policy: &Policy,
     fault: &DescriptorFault,
-) -> Result<Answer, NoMemory>
-    ensures { IfOk result (λ answer. IsDescriptorRefusalOf source.now (policy_of policy.now) fault.now (due_of answer)) }
+) -> Result<Outcome, NoMemory>
+    ensures { IfOk result (λ outcome. (fault.now ≢ DescriptorFault.NoMemory)
+        × (due_of outcome ≡ Refused Source (descriptor_line source.now (policy_of policy.now) fault.now))) }
 {
     match fault {
-        DescriptorFault::NoVariable(descriptor) => Ok(Answer::SourceRefused(named(
-            alloc,
-            b"source: no variable ",
-            policy,
-            *descriptor,
-        )?)),
-        DescriptorFault::Shadowed(descriptor) => Ok(Answer::SourceRefused(named(
-            alloc,
-            b"source: shadowed ",
-            policy,
-            *descriptor,
-        )?)),
+        DescriptorFault::NoVariable(descriptor) => {
+            let name = descriptor_name(policy, *descriptor);
+            let line = worded(alloc, b"source: no variable ", name)?;
+            Ok(Outcome::Refused(Cause::Source, line))
+        }
+        DescriptorFault::Shadowed(descriptor) => {
+            let name = descriptor_name(policy, *descriptor);
+            let line = worded(alloc, b"source: shadowed ", name)?;
+            Ok(Outcome::Refused(Cause::Source, line))
+        }
         DescriptorFault::Misuse(at) => {
-            Ok(Answer::SourceRefused(place_line(alloc, source, *at, "misuse")?))
+            let line = place_line(alloc, source, *at, "misuse")?;
+            Ok(Outcome::Refused(Cause::Source, line))
         }
         DescriptorFault::NoMemory => Err(NoMemory),
+    }
+}
+
+/// The refusal by the first of a policy's labels that isn't in the source, or None where each is.
+pub(crate) fn label_refusal(
+    alloc: Global,
+    policy: &Policy,
+    checked: &Checked,
+) -> Result<Option<Outcome>, NoMemory>
+    ensures each { IfOk result (λ found. IfNone found (missing_label checked.now.source.now (file_of checked.now.program) (policy_of policy.now).labels ≡ None)) }
+    ensures first { IfOk result (λ found. IfSome found (λ outcome.
+        IsLabelRefusal checked.now.source.now (file_of checked.now.program) (policy_of policy.now) (due_of outcome))) }
+{
+    match missing_label(checked.source, &checked.program, &policy.labels) {
+        Some(name) => {
+            let line = worded(alloc, b"policy: no label ", name)?;
+            Ok(Some(Outcome::Refused(Cause::Policy, line)))
+        }
+        None => Ok(None),
     }
 }

@@ -10,17 +10,19 @@ ghost use Rattle.cw_layout.specs.Positions.{has_call};
 ghost use Rattle.cw_points.specs.Graphs.{IsGraph};
 ghost use Rattle.cw_source.specs.Read.{ReadsAs};
 ghost use Rattle.cw_text.specs.StrategyText.{strategy_text};
-ghost use Rattle.cw_cli.specs.Due.{IsWithin};
-ghost use Rattle.cw_cli.specs.Verdicts.{IsPlainAnswer, IsPlainPolicy, IsVerdict};
+ghost use Rattle.cw_commands.specs.Outcomes.{due_of};
+ghost use Rattle.cw_cli.specs.Verdicts.{IsPlainPolicy, IsSolved};
+ghost use Rattle.cw_cli.specs.Weaving.{IsVerdict, IsWithin};
 
 use cw_certs::{EnvCert, WeaverCert};
+use cw_commands::{Outcome, Reply};
 use cw_core::NoMemory;
 use cw_emit::weave_text;
 use cw_game::ambient::AmbientPolicy;
 use cw_layout::positions::positions;
-use cw_points::Graph;
 use cw_points::build::build;
 use cw_points::marks::marks;
+use cw_points::{Graph, PointsFault};
 use cw_policy::ambient_tests;
 use cw_rights::Policy;
 use cw_syntax::checked::Checked;
@@ -32,16 +34,9 @@ use std::alloc::Global;
 
 /// Who wins: the weaver by a sound table, or the environment by a strategy that beats every weaver.
 #[derive(Drop)]
-pub(crate) enum Verdict {
+pub(crate) enum Solved {
     Sound(WeaverCert),
     Beaten(EnvCert),
-}
-
-/// The text of the one or of the other.
-#[derive(Drop)]
-pub(crate) enum PlainAnswer {
-    Woven(Vec<u8>),
-    Refuted(Vec<u8>),
 }
 
 /// The lazy table of the program where its start isn't lost, and else the strategy by least heights. One of more than
@@ -51,27 +46,27 @@ fn solved(
     checked: &Checked,
     graph: &Graph,
     policy: &Policy,
-) -> Result<Verdict, NoMemory>
+) -> Result<Solved, NoMemory>
     requires reads { ReadsAs checked.now.source.now (file_of checked.now.program) }
     requires within { IsWithin checked.now.source.now (file_of checked.now.program) }
     requires graph { IsGraph (names_of (policy_of policy.now)) checked.now.source.now (file_of checked.now.program) graph.now }
     requires plain { IsPlainPolicy (policy_of policy.now) }
-    ensures { IfOk result (IsVerdict (problem_of (policy_of policy.now) checked.now.source.now (file_of checked.now.program))) }
+    ensures { IfOk result (IsSolved (problem_of (policy_of policy.now) checked.now.source.now (file_of checked.now.program))) }
 {
     let laid = positions(alloc, graph)?;
     let Some(tests) = ambient_tests(alloc, policy)? else {
-        return Err(NoMemory);
+        unreachable!();
     };
     let ambient = AmbientPolicy::new(policy.refuse_enter, tests, &laid.nodes);
     let hs = heights(alloc, &laid.nodes, &ambient)?;
     if height_at(&hs, laid.start, ambient.numbering.start()) > 0 {
         match env_table(alloc, &laid.nodes, laid.start, &ambient, &hs)? {
-            Some(strategy) => Ok(Verdict::Beaten(strategy)),
+            Some(strategy) => Ok(Solved::Beaten(strategy)),
             None => Err(NoMemory),
         }
     } else {
         match weaver_table(alloc, &laid.nodes, laid.start, &ambient, &hs)? {
-            Some(table) => Ok(Verdict::Sound(table)),
+            Some(table) => Ok(Solved::Sound(table)),
             None => Err(NoMemory),
         }
     }
@@ -86,42 +81,46 @@ fn spelled(alloc: Global, strategy: &EnvCert) -> Result<Vec<u8>, NoMemory>
     Ok(text)
 }
 
-/// What is due for the graph of a program and a policy.
+/// The woven text or the strategy's, for the graph of a program and a policy.
 fn told(
     alloc: Global,
     checked: &Checked,
     graph: &Graph,
     policy: &Policy,
-) -> Result<PlainAnswer, NoMemory>
+) -> Result<Outcome, NoMemory>
     requires reads { ReadsAs checked.now.source.now (file_of checked.now.program) }
     requires within { IsWithin checked.now.source.now (file_of checked.now.program) }
     requires graph { IsGraph (names_of (policy_of policy.now)) checked.now.source.now (file_of checked.now.program) graph.now }
     requires plain { IsPlainPolicy (policy_of policy.now) }
-    ensures { IfOk result (IsPlainAnswer (policy_of policy.now) checked.now.source.now (file_of checked.now.program)) }
+    ensures { IfOk result (λ outcome. IsVerdict (policy_of policy.now) checked.now.source.now (file_of checked.now.program) (due_of outcome)) }
 {
     match solved(alloc, checked, graph, policy)? {
-        Verdict::Sound(table) => {
+        Solved::Sound(table) => {
             let marks = marks(alloc, graph)?;
-            Ok(PlainAnswer::Woven(weave_text(alloc, checked.source, &marks, policy, &table)?))
+            let text = weave_text(alloc, checked.source, &marks, policy, &table)?;
+            Ok(Outcome::Told(Reply::Yes, text))
         }
-        Verdict::Beaten(strategy) => Ok(PlainAnswer::Refuted(spelled(alloc, &strategy)?)),
+        Solved::Beaten(strategy) => {
+            let text = spelled(alloc, &strategy)?;
+            Ok(Outcome::Told(Reply::No, text))
+        }
     }
 }
 
-/// What is due for a program and a policy that has no label that the source hasn't. The program has at most 1,024 points, so
-/// its graph is built but for want of memory.
+/// What is due for a program and a policy that has no label that the source hasn't.
 pub(crate) fn judged(
     alloc: Global,
     checked: &Checked,
     policy: &Policy,
-) -> Result<PlainAnswer, NoMemory>
+) -> Result<Outcome, NoMemory>
     requires reads { ReadsAs checked.now.source.now (file_of checked.now.program) }
     requires within { IsWithin checked.now.source.now (file_of checked.now.program) }
     requires plain { IsPlainPolicy (policy_of policy.now) }
-    ensures { IfOk result (IsPlainAnswer (policy_of policy.now) checked.now.source.now (file_of checked.now.program)) }
+    ensures { IfOk result (λ outcome. IsVerdict (policy_of policy.now) checked.now.source.now (file_of checked.now.program) (due_of outcome)) }
 {
     match build(alloc, checked, policy) {
         Ok(graph) => told(alloc, checked, &graph, policy),
-        Err(_) => Err(NoMemory),
+        Err(PointsFault::TooManyPoints) => unreachable!(),
+        Err(PointsFault::NoMemory) => Err(NoMemory),
     }
 }

@@ -1,2 +1,3 @@
 mod Notes
 mod Reading
+pub mod Sizes

@@ -57,3 +57,9 @@ pub record IsUnread (files : Option FilesByName) (counts counts' : List ℕ → 
   pub is_name : slice_get names place ≡ Some name
   pub read : HaveBytes files [] (take place quantities) (take place names) before
   pub fault : IsFileFault files counts counts' (first before) quantity name ending
+
+-- each of these has at most as many bytes as its quantity ever allows
+abbrev pub AreSized : List Quantity → List (List ℕ) → Type 0
+AreSized [] [] = Unit {0}
+AreSized (quantity ∷ quantities) (bytes ∷ others) = (length bytes ≤ limit_in 2 quantity) × AreSized quantities others
+AreSized quantities others = ⊥

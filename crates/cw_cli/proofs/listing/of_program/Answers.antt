@@ -12,4 +12,4 @@ returns-then-len-gt-LABELS c =
     let file = file_of c.args.checked.now.program in
     let labels = c.in_ok-labels.labels.items in
     let many = sym (length-map labels (λ l. l.items)) ∙ ap length c.in_ok-labels.ensures.names in
-    over source file c.requires.reads (many_labels (own_names source file) source file (length labels) many (omega (arith, c.len.ensures, c.if-len-gt-LABELS.true))) c.too_many_points.result c.too_many_points.ensures
+    over source file (many_labels (own_names source file) source file (length labels) many (omega (arith, c.len.ensures, c.if-len-gt-LABELS.true))) c.over.result c.over.ensures

@@ -19,8 +19,8 @@ weave_text-requires c =
     let same = ap (map mark_of) c.deref.ensures.value ∙ c.in_ok-marks-in-Sound.ensures.marks names source file c.requires.graph in
     subst (AreInOrder 0 (length source)) (sym same) (marks_in_order names source file c.requires.reads)
 
-pub returns-in_ok-weave_text-in-Sound : goal.returns-in_ok-weave_text-in-Sound
-returns-in_ok-weave_text-in-Sound c =
+pub returns-in_ok-text-in-Sound : goal.returns-in_ok-text-in-Sound
+returns-in_ok-text-in-Sound c =
     let source = c.args.checked.now.source.now in
     let file = file_of c.args.checked.now.program in
     let policy = policy_of c.args.policy.now in
@@ -28,9 +28,9 @@ returns-in_ok-weave_text-in-Sound c =
     let same = ap (map mark_of) c.deref.ensures.value ∙ c.in_ok-marks-in-Sound.ensures.marks names source file c.requires.graph in
     let spelled = plain_marks source (marks_of (plan_of names source file)) (uncalled_marks (plan_of names source file) (uncalled names source file c.requires.within)) in
     let won = rw c.in-Sound.is at c.in_ok-table.ensures in
-    is_woven policy source file c.deref.result.now c.in-Sound.table c.in_ok-weave_text-in-Sound.field-0.items c.requires.reads c.requires.plain same spelled c.in_ok-weave_text-in-Sound.ensures.stands c.in_ok-weave_text-in-Sound.ensures.cut won.0 won.1
+    is_woven policy source file c.deref.result.now c.in-Sound.table c.in_ok-text-in-Sound.text.items c.requires.reads c.requires.plain same spelled c.in_ok-text-in-Sound.ensures.stands c.in_ok-text-in-Sound.ensures.cut won.0 won.1
 
-pub returns-in_ok-spelled-in-Beaten : goal.returns-in_ok-spelled-in-Beaten
-returns-in_ok-spelled-in-Beaten c =
+pub returns-in_ok-text-in-Beaten : goal.returns-in_ok-text-in-Beaten
+returns-in_ok-text-in-Beaten c =
     let won = rw c.in-Beaten.is at c.in_ok-table.ensures in
-    is_refuted (policy_of c.args.policy.now) c.args.checked.now.source.now (file_of c.args.checked.now.program) (strategy_of c.in-Beaten.strategy) c.in_ok-spelled-in-Beaten.field-0.items c.in_ok-spelled-in-Beaten.ensures won
+    is_refuted (policy_of c.args.policy.now) c.args.checked.now.source.now (file_of c.args.checked.now.program) (strategy_of c.in-Beaten.strategy) c.in_ok-text-in-Beaten.text.items c.in_ok-text-in-Beaten.ensures won

@@ -2,9 +2,9 @@ use Rattle.std.proofs.Common.{◌≡◌, true, false, sym, ◌∙◌}
 use Rattle.cw_rights.specs.Policies.{policy_of}
 use Rattle.cw_syntax.specs.Trees.{file_of}
 use Rattle.cw_actions.specs.Scenes.{names_of}
-use Rattle.cw_cli.specs.Due.{is_large}
+use Rattle.cw_cli.specs.Weaving.{is_large}
 use Rattle.cw_cli.proofs.Withins.{large, over, small}
-use Rattle.cw_cli.proofs.answer.within.Goals as goal
+use Rattle.cw_cli.proofs.weaving.within.Goals as goal
 
 pub returns-then-is_large-clause-beyond : goal.returns-then-is_large-clause-beyond
 returns-then-is_large-clause-beyond c = λ why.
