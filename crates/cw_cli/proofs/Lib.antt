@@ -1,3 +1,4 @@
+mod Dues
 mod Labelled
 mod Listed
 mod Policies

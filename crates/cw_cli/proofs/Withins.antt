@@ -35,6 +35,9 @@ module _ (names : Names) (source : List ℕ) (file : File) where
   pub over : 8192 < point_count (plan_of names source file) → IsBeyond source file
   over h = inl (omega (arith, h, same_points names no_names source file))
 
+  pub never_over : 8192 < point_count (plan_of names source file) → IsWithin source file → ⊥
+  never_over h w = omega (arith, h, w.few, same_points names no_names source file)
+
   by_nodes : (g : Graph) → IsGraph names source file g → 1024 < length g.nodes.items → IsBeyond source file
   by_nodes g is h = inl (omega (arith, h, counted g is))
 

@@ -17,8 +17,8 @@ use Rattle.cw_game.specs.Standing.{IsGameOf}
 use Rattle.cw_text.specs.StrategyText.{strategy_text}
 use Rattle.cw_emit.specs.Cut.{cut}
 use Rattle.cw_emit.specs.Woven.{Stands}
-use Rattle.cw_cli.specs.declared.verdict.Solved.{Solved}
-use Rattle.cw_cli.specs.declared.verdict.Solved.TheVariants.{Sound as SoundData, Beaten as BeatenData}
+use Rattle.cw_cli.specs.declared.verdict.Winner.{Winner}
+use Rattle.cw_cli.specs.declared.verdict.Winner.TheVariants.{Sound as SoundData, Beaten as BeatenData}
 
 -- What holds of each policy of the first form: it is valid, has no descriptors and no limits, its labels have numbers of 16 bits, and its rules are
 -- those of tests of ambient authority.
@@ -59,6 +59,6 @@ IsRefuted plain source file text =
     × ((n : ℕ) × Forced (problem_of plain source file) n (start_board (problem_of plain source file)))
 
 -- the table is sound and lazy, or the strategy beats every weaver from its start row
-abbrev pub IsSolved : Problem → Solved → Type 0
-IsSolved p (SoundData table) = Sound p table × Lazy p table
-IsSolved p (BeatenData strategy) = BeatsFromStart p (strategy_of strategy)
+abbrev pub IsWinner : Problem → Winner → Type 0
+IsWinner p (SoundData table) = Sound p table × Lazy p table
+IsWinner p (BeatenData strategy) = BeatsFromStart p (strategy_of strategy)

@@ -49,7 +49,7 @@ abbrev pub AfterPair : List ℕ → List ℕ → PlainPolicy → File → Due �
 AfterPair policy source whole file due =
     ((due ≡ source_not_yet) × IsBeyond source file)
     ⊎ (IsWithin source file
-        × (IsLabelRefusal source file whole due ⊎ ((missing_label source file whole.labels ≡ None) × AfterLabels policy source file due)))
+    × (IsLabelRefusal source file whole due ⊎ ((missing_label source file whole.labels ≡ None) × AfterLabels policy source file due)))
 
 -- The policy and the source are read first.
 abbrev pub IsWeaveDue : List ℕ → List ℕ → Due → Type 0

@@ -37,21 +37,22 @@ fn due(alloc: Global, command: Command, files: &[Vec<u8>]) -> Result<Outcome, No
 /// Reads a command's files, and puts what is due for them.
 fn perform<'w, F: Shelf, O: Sink>(
     alloc: Global,
-    request: Request<'w>,
+    command: Command,
+    names: &'w [String],
     shelf: &mut F,
     out: &mut O,
 ) -> Ending<'w>
-    requires many { length request.names.now ≡ length (quantities_of request.command) }
+    requires many { length names.now ≡ length (quantities_of command) }
     ensures same { F.files shelf.new ≡ F.files shelf.old }
-    ensures ends { Ends (IsDue request.command) (F.files shelf.old) (F.faults shelf.old) (F.faults shelf.new)
+    ensures ends { Ends (IsDue command) (F.files shelf.old) (F.faults shelf.old) (F.faults shelf.new)
         (O.taken out.old) (O.taken out.new) (O.faults out.old) (O.faults out.new)
-        (quantities_of request.command) (map string_bytes request.names.now) result }
+        (quantities_of command) (map string_bytes names.now) result }
 {
-    let files = match read_files(alloc, request.command.quantities(), request.names, shelf) {
+    let files = match read_files(alloc, command.quantities(), names, shelf) {
         Ok(files) => files,
         Err(ending) => return ending,
     };
-    match due(alloc, request.command, &files) {
+    match due(alloc, command, &files) {
         Ok(outcome) => deliver(outcome, out),
         Err(NoMemory) => Ending::Memory,
     }
@@ -82,11 +83,11 @@ pub fn capweave<F: Shelf, O: Sink, N: Sink>(
         (O.taken out.old) (O.taken out.new) (O.faults out.old) (O.faults out.new) (quantities_of wish.0) wish.1 ending
         × IsNoted (N.taken note.old) (N.taken note.new) (line_of ending)) }
 {
-    let Some(request) = requested(words) else {
+    let Some(Request { command, names }) = requested(words) else {
         let _ = put_usage(note, first_command(words));
         return USAGE;
     };
-    let ending = perform(alloc, request, shelf, out);
+    let ending = perform(alloc, command, names, shelf, out);
     // What the note answers changes no status.
     let _ = put_ending(note, &ending);
     ending.status()

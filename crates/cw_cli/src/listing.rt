@@ -97,10 +97,7 @@ fn drawn(alloc: Global, checked: &Checked, policy: &Policy) -> Result<Outcome, N
     ensures { IfOk result (λ outcome. IsListed checked.now.source.now (file_of checked.now.program) (due_of outcome)) }
 {
     match build(alloc, checked, policy) {
-        Ok(graph) => Ok(Outcome::Told(
-            Reply::Yes,
-            listed(alloc, checked, policy, &graph)?,
-        )),
+        Ok(graph) => Ok(Outcome::Told(Reply::Yes, listed(alloc, checked, policy, &graph)?)),
         Err(PointsFault::TooManyPoints) => over(alloc, Quantity::Points),
         Err(PointsFault::NoMemory) => Err(NoMemory),
     }

@@ -25,11 +25,7 @@ pub(crate) struct Pair<'s> {
 }
 
 /// The program of a source that keeps the rules of a policy's descriptors; or the refusal that is due.
-fn read_under<'s>(
-    alloc: Global,
-    policy: &Policy,
-    source: &'s [u8],
-) -> Result<Checked<'s>, Answer>
+fn read_under<'s>(alloc: Global, policy: &Policy, source: &'s [u8]) -> Result<Checked<'s>, Answer>
     requires short { length source.now ≤ 262144 }
     requires valid { IsValid (policy_of policy.now) }
     ensures source { IfOk result (λ checked. checked.source.now ≡ source.now) }
@@ -40,7 +36,7 @@ fn read_under<'s>(
     match read_source(alloc, source) {
         Ok(checked) => match check_descriptors(alloc, &checked, policy) {
             Ok(()) => Ok(checked),
-            Err(fault) => Err(descriptor_refusal(alloc, checked.source, policy, &fault)),
+            Err(fault) => Err(descriptor_refusal(alloc, source, policy, &fault)),
         },
         Err(fault) => Err(source_refusal(alloc, source, &fault)),
     }

@@ -11,7 +11,7 @@ ghost use Rattle.cw_points.specs.Graphs.{IsGraph};
 ghost use Rattle.cw_source.specs.Read.{ReadsAs};
 ghost use Rattle.cw_text.specs.StrategyText.{strategy_text};
 ghost use Rattle.cw_commands.specs.Outcomes.{due_of};
-ghost use Rattle.cw_cli.specs.Verdicts.{IsPlainPolicy, IsSolved};
+ghost use Rattle.cw_cli.specs.Verdicts.{IsPlainPolicy, IsWinner};
 ghost use Rattle.cw_cli.specs.Weaving.{IsVerdict, IsWithin};
 
 use cw_certs::{EnvCert, WeaverCert};
@@ -34,7 +34,7 @@ use std::alloc::Global;
 
 /// Who wins: the weaver by a sound table, or the environment by a strategy that beats every weaver.
 #[derive(Drop)]
-pub(crate) enum Solved {
+pub(crate) enum Winner {
     Sound(WeaverCert),
     Beaten(EnvCert),
 }
@@ -46,12 +46,12 @@ fn solved(
     checked: &Checked,
     graph: &Graph,
     policy: &Policy,
-) -> Result<Solved, NoMemory>
+) -> Result<Winner, NoMemory>
     requires reads { ReadsAs checked.now.source.now (file_of checked.now.program) }
     requires within { IsWithin checked.now.source.now (file_of checked.now.program) }
     requires graph { IsGraph (names_of (policy_of policy.now)) checked.now.source.now (file_of checked.now.program) graph.now }
     requires plain { IsPlainPolicy (policy_of policy.now) }
-    ensures { IfOk result (IsSolved (problem_of (policy_of policy.now) checked.now.source.now (file_of checked.now.program))) }
+    ensures { IfOk result (IsWinner (problem_of (policy_of policy.now) checked.now.source.now (file_of checked.now.program))) }
 {
     let laid = positions(alloc, graph)?;
     let Some(tests) = ambient_tests(alloc, policy)? else {
@@ -61,12 +61,12 @@ fn solved(
     let hs = heights(alloc, &laid.nodes, &ambient)?;
     if height_at(&hs, laid.start, ambient.numbering.start()) > 0 {
         match env_table(alloc, &laid.nodes, laid.start, &ambient, &hs)? {
-            Some(strategy) => Ok(Solved::Beaten(strategy)),
+            Some(strategy) => Ok(Winner::Beaten(strategy)),
             None => Err(NoMemory),
         }
     } else {
         match weaver_table(alloc, &laid.nodes, laid.start, &ambient, &hs)? {
-            Some(table) => Ok(Solved::Sound(table)),
+            Some(table) => Ok(Winner::Sound(table)),
             None => Err(NoMemory),
         }
     }
@@ -95,12 +95,12 @@ fn told(
     ensures { IfOk result (λ outcome. IsVerdict (policy_of policy.now) checked.now.source.now (file_of checked.now.program) (due_of outcome)) }
 {
     match solved(alloc, checked, graph, policy)? {
-        Solved::Sound(table) => {
+        Winner::Sound(table) => {
             let marks = marks(alloc, graph)?;
             let text = weave_text(alloc, checked.source, &marks, policy, &table)?;
             Ok(Outcome::Told(Reply::Yes, text))
         }
-        Solved::Beaten(strategy) => {
+        Winner::Beaten(strategy) => {
             let text = spelled(alloc, &strategy)?;
             Ok(Outcome::Told(Reply::No, text))
         }
@@ -108,11 +108,7 @@ fn told(
 }
 
 /// What is due for a program and a policy that has no label that the source hasn't.
-pub(crate) fn judged(
-    alloc: Global,
-    checked: &Checked,
-    policy: &Policy,
-) -> Result<Outcome, NoMemory>
+pub(crate) fn judged(alloc: Global, checked: &Checked, policy: &Policy) -> Result<Outcome, NoMemory>
     requires reads { ReadsAs checked.now.source.now (file_of checked.now.program) }
     requires within { IsWithin checked.now.source.now (file_of checked.now.program) }
     requires plain { IsPlainPolicy (policy_of policy.now) }

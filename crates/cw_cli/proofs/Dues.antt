@@ -1,0 +1,41 @@
+-- What is due for a command, from what is due for its files one by one.
+use Rattle.std.proofs.Common.{◌≡◌, ℕ, ◌+◌, List, [], ◌∷◌, length, map, get_or, Result, refl, sym, ap, ap₂, subst, arith}
+use Rattle.std.specs.Prelude.{IfOk}
+use Rattle.cw_commands.specs.declared.command.Command.{Command}
+use Rattle.cw_commands.specs.declared.command.Command.TheVariants.{Weave, Graph}
+use Rattle.cw_commands.specs.declared.outcome.Outcome.{Outcome}
+use Rattle.cw_commands.specs.Outcomes.{due_of}
+use Rattle.cw_cli.specs.Due.{IsDue}
+use Rattle.cw_cli.specs.Listings.{IsListingDue}
+use Rattle.cw_cli.specs.Weaving.{IsWeaveDue}
+use Rattle.cw_cli.proofs.Refused.{if_ok}
+
+module _ {A : Type 0} (f : A → List ℕ) where
+  pub one_of : (xs : List A) (a : A) → length xs ≡ 1 → a ≡ get_or xs 0 a → map f xs ≡ f a ∷ []
+  one_of [] a n e = absurd (omega (arith, n))
+  one_of (x ∷ []) a n e = ap (λ c. f c ∷ []) (sym e)
+  one_of (x ∷ (y ∷ xs)) a n e = absurd (omega (arith, n))
+
+  pub two_of : (xs : List A) (a b : A) → length xs ≡ 2 → a ≡ get_or xs 0 a → b ≡ get_or xs 1 b → map f xs ≡ f a ∷ (f b ∷ [])
+  two_of [] a b n e d = absurd (omega (arith, n))
+  two_of (x ∷ []) a b n e d = absurd (omega (arith, n))
+  two_of (x ∷ (y ∷ [])) a b n e d = ap₂ (λ c g. f c ∷ (f g ∷ [])) (sym e) (sym d)
+  two_of (x ∷ (y ∷ (z ∷ xs))) a b n e d = absurd (omega (arith, n))
+
+module _ {E : Type 0} (command : Command) (files : List (List ℕ)) (result : Result Outcome E) where
+  pub weave_is_due : (policy source p s : List ℕ) → command ≡ Weave → files ≡ policy ∷ (source ∷ []) → p ≡ policy → s ≡ source
+      → IfOk result (λ o. IsWeaveDue p s (due_of o)) → IfOk result (λ o. IsDue command files (due_of o))
+  weave_is_due policy source p s is are same_p same_s h =
+      if_ok result h (λ o d.
+      let one = subst (λ x. IsWeaveDue x s (due_of o)) same_p d in
+      let two = subst (λ x. IsWeaveDue policy x (due_of o)) same_s one in
+      let three = subst (λ fs. IsDue Weave fs (due_of o)) (sym are) two in
+      subst (λ c. IsDue c files (due_of o)) (sym is) three)
+
+  pub listing_is_due : (source s : List ℕ) → command ≡ Graph → files ≡ source ∷ [] → s ≡ source
+      → IfOk result (λ o. IsListingDue s (due_of o)) → IfOk result (λ o. IsDue command files (due_of o))
+  listing_is_due source s is are same h =
+      if_ok result h (λ o d.
+      let one = subst (λ x. IsListingDue x (due_of o)) same d in
+      let two = subst (λ fs. IsDue Graph fs (due_of o)) (sym are) one in
+      subst (λ c. IsDue c files (due_of o)) (sym is) two)
