@@ -2,11 +2,12 @@
 use Rattle.std.proofs.Common.{◌≡◌, ℕ, ◌+◌, List, [], ◌∷◌, length, map, get_or, Result, refl, sym, ap, ap₂, subst, arith}
 use Rattle.std.specs.Prelude.{IfOk}
 use Rattle.cw_commands.specs.declared.command.Command.{Command}
-use Rattle.cw_commands.specs.declared.command.Command.TheVariants.{Weave, Graph}
+use Rattle.cw_commands.specs.declared.command.Command.TheVariants.{Weave, Graph, Refute}
 use Rattle.cw_commands.specs.declared.outcome.Outcome.{Outcome}
 use Rattle.cw_commands.specs.Outcomes.{due_of}
 use Rattle.cw_cli.specs.Due.{IsDue}
 use Rattle.cw_cli.specs.Listings.{IsListingDue}
+use Rattle.cw_cli.specs.Refuting.{IsRefuteDue}
 use Rattle.cw_cli.specs.Weaving.{IsWeaveDue}
 use Rattle.cw_cli.proofs.Refused.{if_ok}
 
@@ -21,6 +22,13 @@ module _ {A : Type 0} (f : A → List ℕ) where
   two_of (x ∷ []) a b n e d = absurd (omega (arith, n))
   two_of (x ∷ (y ∷ [])) a b n e d = ap₂ (λ c g. f c ∷ (f g ∷ [])) (sym e) (sym d)
   two_of (x ∷ (y ∷ (z ∷ xs))) a b n e d = absurd (omega (arith, n))
+
+  pub three_of : (xs : List A) (a b d : A) → length xs ≡ 3 → a ≡ get_or xs 0 a → b ≡ get_or xs 1 b → d ≡ get_or xs 2 d → map f xs ≡ f a ∷ (f b ∷ (f d ∷ []))
+  three_of [] a b d n e g h = absurd (omega (arith, n))
+  three_of (x ∷ []) a b d n e g h = absurd (omega (arith, n))
+  three_of (x ∷ (y ∷ [])) a b d n e g h = absurd (omega (arith, n))
+  three_of (x ∷ (y ∷ (z ∷ []))) a b d n e g h = ap₂ (λ c k. f c ∷ k) (sym e) (ap₂ (λ c k. f c ∷ (f k ∷ [])) (sym g) (sym h))
+  three_of (x ∷ (y ∷ (z ∷ (w ∷ xs)))) a b d n e g h = absurd (omega (arith, n))
 
 module _ {E : Type 0} (command : Command) (files : List (List ℕ)) (result : Result Outcome E) where
   pub weave_is_due : (policy source p s : List ℕ) → command ≡ Weave → files ≡ policy ∷ (source ∷ []) → p ≡ policy → s ≡ source
@@ -39,3 +47,13 @@ module _ {E : Type 0} (command : Command) (files : List (List ℕ)) (result : Re
       let one = subst (λ x. IsListingDue x (due_of o)) same d in
       let two = subst (λ fs. IsDue Graph fs (due_of o)) (sym are) one in
       subst (λ c. IsDue c files (due_of o)) (sym is) two)
+
+  pub refute_is_due : (policy source strategy p s t : List ℕ) → command ≡ Refute → files ≡ policy ∷ (source ∷ (strategy ∷ [])) → p ≡ policy → s ≡ source → t ≡ strategy
+      → IfOk result (λ o. IsRefuteDue p s t (due_of o)) → IfOk result (λ o. IsDue command files (due_of o))
+  refute_is_due policy source strategy p s t is are same_p same_s same_t h =
+      if_ok result h (λ o d.
+      let one = subst (λ x. IsRefuteDue x s t (due_of o)) same_p d in
+      let two = subst (λ x. IsRefuteDue policy x t (due_of o)) same_s one in
+      let three = subst (λ x. IsRefuteDue policy source x (due_of o)) same_t two in
+      let four = subst (λ fs. IsDue Refute fs (due_of o)) (sym are) three in
+      subst (λ c. IsDue c files (due_of o)) (sym is) four)

@@ -1,4 +1,5 @@
 mod Dues
+mod Judging
 mod Labelled
 mod Listed
 mod Policies

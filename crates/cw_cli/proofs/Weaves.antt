@@ -19,7 +19,7 @@ use Rattle.cw_emit.specs.Woven.{IsPlainKind, ArePlainMarks, ArePlainNames, Stand
 use Rattle.cw_layout.specs.Marks.{IsNoCall}
 use Rattle.cw_source.proofs.Unmarked.{no_marker}
 use Rattle.cw_source.specs.Read.{ReadsAs}
-use Rattle.cw_text.specs.StrategyText.{strategy_text}
+use Rattle.cw_strategies.specs.StrategyText.{strategy_text}
 use Rattle.cw_wcheck.proofs.Beaten.{beaten_is_forced}
 use Rattle.cw_wcheck.proofs.Runs.{never_forced}
 use Rattle.cw_cli.specs.Verdicts.{BeatsFromStart, IsPlainPolicy, IsRefuted, IsWoven}
@@ -54,7 +54,7 @@ is_woven plain source file marks table bytes reads policy same spelled stands cu
 )
 
 pub is_refuted : (plain : PlainPolicy) (source : List ℕ) (file : File) (strategy : Strategy) (bytes : List ℕ)
-    → bytes ≡ strategy_text strategy → BeatsFromStart (problem_of plain source file) strategy → IsRefuted plain source file bytes
+    → bytes ≡ strategy_text plain.format strategy → BeatsFromStart (problem_of plain source file) strategy → IsRefuted plain source file bytes
 is_refuted plain source file strategy bytes spelled beats =
     let p = problem_of plain source file in
     let won = beats.4 in

@@ -35,6 +35,9 @@ module _ (names : Names) (source : List ℕ) (file : File) where
   pub over : 8192 < point_count (plan_of names source file) → IsBeyond source file
   over h = inl (omega (arith, h, same_points names no_names source file))
 
+  pub nodes_few : (g : Graph) → IsGraph names source file g → point_count (plan_of names source file) ≤ 8192 → length g.nodes.items ≤ 8192
+  nodes_few g is h = omega (arith, h, ap length is.nodes ∙ length_nodes (plan_of names source file))
+
   pub never_over : 8192 < point_count (plan_of names source file) → IsWithin source file → ⊥
   never_over h w = omega (arith, h, w.few, same_points names no_names source file)
 

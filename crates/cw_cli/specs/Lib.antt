@@ -3,4 +3,5 @@ pub mod Reading
 pub mod Verdicts
 pub mod Weaving
 pub mod Listings
+pub mod Refuting
 pub mod Due

@@ -14,7 +14,7 @@ use Rattle.cw_game.specs.Ambient.{IsAmbient}
 use Rattle.cw_game.specs.Games.{Game}
 use Rattle.cw_game.specs.Pairs.{IsAt}
 use Rattle.cw_game.specs.Standing.{IsGameOf}
-use Rattle.cw_text.specs.StrategyText.{strategy_text}
+use Rattle.cw_strategies.specs.StrategyText.{strategy_text}
 use Rattle.cw_emit.specs.Cut.{cut}
 use Rattle.cw_emit.specs.Woven.{Stands}
 use Rattle.cw_cli.specs.declared.verdict.Winner.{Winner}
@@ -54,7 +54,7 @@ IsWoven plain source file text =
 abbrev pub IsRefuted : PlainPolicy → List ℕ → File → List ℕ → Type 0
 IsRefuted plain source file text =
     (strategy : Strategy)
-    × (text ≡ strategy_text strategy)
+    × (text ≡ strategy_text plain.format strategy)
     × BeatsFromStart (problem_of plain source file) strategy
     × ((n : ℕ) × Forced (problem_of plain source file) n (start_board (problem_of plain source file)))
 

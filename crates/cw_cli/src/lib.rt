@@ -5,11 +5,13 @@ mod command;
 mod listing;
 mod reading;
 mod refusals;
+mod refuting;
 mod verdict;
 mod weaving;
 
 pub use command::capweave;
 pub use listing::listing_due;
+pub use refuting::refute_due;
 pub use weaving::weave_due;
 
 #[cfg(test)]

@@ -3,13 +3,11 @@
 ghost use Rattle.std.specs.Prelude.{◌≡◌, IfOk};
 ghost use Rattle.cw_rights.specs.Policies.{policy_of};
 ghost use Rattle.cw_syntax.specs.Trees.{file_of};
-ghost use Rattle.cw_certs.specs.Strategies.{strategy_of};
 ghost use Rattle.cw_model.specs.Boards.{problem_of};
 ghost use Rattle.cw_actions.specs.Scenes.{names_of};
 ghost use Rattle.cw_layout.specs.Positions.{has_call};
 ghost use Rattle.cw_points.specs.Graphs.{IsGraph};
 ghost use Rattle.cw_source.specs.Read.{ReadsAs};
-ghost use Rattle.cw_text.specs.StrategyText.{strategy_text};
 ghost use Rattle.cw_commands.specs.Outcomes.{due_of};
 ghost use Rattle.cw_cli.specs.Verdicts.{IsPlainPolicy, IsWinner};
 ghost use Rattle.cw_cli.specs.Weaving.{IsVerdict, IsWithin};
@@ -25,11 +23,11 @@ use cw_points::marks::marks;
 use cw_points::{Graph, PointsFault};
 use cw_policy::ambient_tests;
 use cw_rights::Policy;
+use cw_strategies::strategy_bytes;
 use cw_syntax::checked::Checked;
 use cw_tables::heights::{height_at, heights};
 use cw_tables::strategies::env_table;
 use cw_tables::tables::weaver_table;
-use cw_text::put_strategy;
 use std::alloc::Global;
 
 /// Who wins: the weaver by a sound table, or the environment by a strategy that beats every weaver.
@@ -72,15 +70,6 @@ fn solved(
     }
 }
 
-/// The text of a strategy.
-fn spelled(alloc: Global, strategy: &EnvCert) -> Result<Vec<u8>, NoMemory>
-    ensures { IfOk result (λ text. text.items ≡ strategy_text (strategy_of strategy.now)) }
-{
-    let mut text = Vec::new(alloc);
-    put_strategy(strategy, &mut text)?;
-    Ok(text)
-}
-
 /// The woven text or the strategy's, for the graph of a program and a policy.
 fn told(
     alloc: Global,
@@ -101,7 +90,7 @@ fn told(
             Ok(Outcome::Told(Reply::Yes, text))
         }
         Winner::Beaten(strategy) => {
-            let text = spelled(alloc, &strategy)?;
+            let text = strategy_bytes(alloc, &strategy, policy.format)?;
             Ok(Outcome::Told(Reply::No, text))
         }
     }

@@ -2,23 +2,26 @@
 use Rattle.std.specs.Prelude.{ℕ, List, [], ◌∷◌, if◌then◌else◌, Option, Some, None, codes}
 use Rattle.std.specs.Str.{bytes_eq}
 use Rattle.cw_core.specs.declared.quantity.Quantity.{Quantity}
-use Rattle.cw_core.specs.declared.quantity.Quantity.TheVariants.{PolicyBytes, SourceBytes}
+use Rattle.cw_core.specs.declared.quantity.Quantity.TheVariants.{PolicyBytes, SourceBytes, FileBytes}
 use Rattle.cw_commands.specs.declared.command.Command.{Command}
-use Rattle.cw_commands.specs.declared.command.Command.TheVariants.{Weave, Graph}
+use Rattle.cw_commands.specs.declared.command.Command.TheVariants.{Weave, Graph, Refute}
 
 -- the command of this name
 abbrev pub named_by : List ℕ → Option Command
 named_by word =
     if bytes_eq word (codes "weave") then Some Weave
     else if bytes_eq word (codes "graph") then Some Graph
+    else if bytes_eq word (codes "refute") then Some Refute
     else None
 
 -- the quantities that the bytes of its files are, one a file, in the order of its words
 abbrev pub quantities_of : Command → List Quantity
 quantities_of Weave = PolicyBytes ∷ (SourceBytes ∷ [])
 quantities_of Graph = SourceBytes ∷ []
+quantities_of Refute = PolicyBytes ∷ (SourceBytes ∷ (FileBytes ∷ []))
 
 -- its words, as the line on usage tells them
 abbrev pub usage_of : Command → List ℕ
 usage_of Weave = codes "weave POLICY SOURCE"
 usage_of Graph = codes "graph SOURCE"
+usage_of Refute = codes "refute POLICY SOURCE STRATEGY"

@@ -12,6 +12,8 @@ pub enum Command {
     Weave,
     /// `graph SOURCE`.
     Graph,
+    /// `refute POLICY SOURCE STRATEGY`.
+    Refute,
 }
 
 /// The command of this name.
@@ -22,6 +24,8 @@ pub(crate) fn named_by(word: &str) -> Option<Command>
         Some(Command::Weave)
     } else if word == "graph" {
         Some(Command::Graph)
+    } else if word == "refute" {
+        Some(Command::Refute)
     } else {
         None
     }
@@ -35,6 +39,11 @@ impl Command {
         match self {
             Command::Weave => &[Quantity::PolicyBytes, Quantity::SourceBytes],
             Command::Graph => &[Quantity::SourceBytes],
+            Command::Refute => &[
+                Quantity::PolicyBytes,
+                Quantity::SourceBytes,
+                Quantity::FileBytes,
+            ],
         }
     }
 
@@ -45,6 +54,7 @@ impl Command {
         match self {
             Command::Weave => b"weave POLICY SOURCE",
             Command::Graph => b"graph SOURCE",
+            Command::Refute => b"refute POLICY SOURCE STRATEGY",
         }
     }
 }

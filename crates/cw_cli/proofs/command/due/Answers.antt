@@ -1,5 +1,5 @@
 use Rattle.std.proofs.Common.{◌≡◌, length, map, arith}
-use Rattle.cw_cli.proofs.Dues.{listing_is_due, one_of, two_of, weave_is_due}
+use Rattle.cw_cli.proofs.Dues.{listing_is_due, one_of, refute_is_due, three_of, two_of, weave_is_due}
 use Rattle.cw_cli.proofs.command.due.Goals as goal
 
 pub returns-in-Weave-len2 : goal.returns-in-Weave-len2
@@ -15,3 +15,15 @@ returns-in-Graph-len1 c =
     let many : length files ≡ 1 = omega (arith, c.in-Graph-len1.len_at_least, c.in-Graph-len1.len_below) in
     let are = one_of (λ file. file.items) files c.source-item-then-this-lt2.result many c.source-item-then-this-lt2.is in
     listing_is_due c.args.command (map (λ file. file.items) files) c.listing_due.result c.source-item-then-this-lt2.result.items c.deref-in-Graph-len1.result.now c.in-Graph-len1.is-0 are c.deref-in-Graph-len1.ensures.value c.listing_due.ensures.due
+
+pub returns-in-Refute-len3 : goal.returns-in-Refute-len3
+returns-in-Refute-len3 c =
+    let files = c.args.files.now in
+    let policy = c.policy-item-then-this-lt4.result in
+    let source = c.source-item-then-this-lt4.result in
+    let strategy = c.strategy-item.result in
+    let many : length files ≡ 3 = omega (arith, c.in-Refute-len3.len_at_least, c.in-Refute-len3.len_below) in
+    let are = three_of (λ file. file.items) files policy source strategy many c.policy-item-then-this-lt4.is c.source-item-then-this-lt4.is c.strategy-item.is in
+    refute_is_due c.args.command (map (λ file. file.items) files) c.refute_due.result policy.items source.items strategy.items
+    c.deref-in-Refute-len3.result.now c.deref-in-Refute-len3-2.result.now c.deref-in-Refute-len3-3.result.now c.in-Refute-len3.is-0 are
+    c.deref-in-Refute-len3.ensures.value c.deref-in-Refute-len3-2.ensures.value c.deref-in-Refute-len3-3.ensures.value c.refute_due.ensures.due

@@ -1,11 +1,10 @@
-use Rattle.std.proofs.Common.{◌≡◌, ℕ, ◌+◌, ◌<◌, ◌≤◌, ◌⊎◌, List, [], ◌∷◌, ◌++◌, length, map, take, get_or, not, inl, inr, sym, ap, ◌∙◌, subst, arith}
+use Rattle.std.proofs.Common.{ℕ, ◌+◌, ◌<◌, List, [], ◌∷◌, length, map, take, get_or, not, inl, inr, sym, ap, ◌∙◌, subst, arith}
 use Rattle.std.proofs.lemmas.List.{length-map, map-append}
 use Rattle.std.proofs.lemmas.Option.{slice_get-get_or}
-use Rattle.std.specs.Prelude.{string_bytes, slice_get, Some}
+use Rattle.std.specs.Prelude.{string_bytes}
 use Rattle.std.proofs.Common.{⊎_elim}
 use Rattle.cw_core.specs.declared.quantity.Quantity.TheVariants.{PolicyBytes}
-use Rattle.cw_commands.specs.declared.ending.Ending.TheVariants.{Memory}
-use Rattle.cw_commands.specs.Files.{first, HaveBytes, HasBytes, IsFileFault, IsUnread}
+use Rattle.cw_commands.specs.Files.{first, HaveBytes}
 use Rattle.cw_commands.proofs.Reading.{fault_later, has_same, placed_map, read_more}
 use Rattle.cw_commands.proofs.files.read_files.Goals as goal
 

@@ -1,5 +1,5 @@
 use Rattle.std.proofs.Common.{sym, subst, List, ℕ}
-use Rattle.cw_commands.specs.Endings.{GrowsByFront, usage_line}
+use Rattle.cw_commands.specs.Endings.{GrowsByFront}
 use Rattle.cw_commands.proofs.Notes.{puts_front}
 use Rattle.cw_commands.proofs.note.put_usage.Goals as goal
 

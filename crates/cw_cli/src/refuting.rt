@@ -1,0 +1,208 @@
+//! What is due for `refute`.
+
+ghost use Rattle.std.specs.Prelude.{◌≡◌, ◌≢◌, ◌≤◌, ◌<◌, ◌^◌, ◌++◌, [], true, false, length, IfOk};
+ghost use Rattle.std.specs.Fmt.{decimal};
+ghost use Rattle.cw_rights.specs.Policies.{policy_of};
+ghost use Rattle.cw_rights.specs.Valid.{IsValid};
+ghost use Rattle.cw_syntax.specs.Trees.{file_of};
+ghost use Rattle.cw_actions.specs.Scenes.{names_of};
+ghost use Rattle.cw_certs.specs.Strategies.{strategy_of};
+ghost use Rattle.cw_points.specs.Graphs.{IsGraph};
+ghost use Rattle.cw_source.specs.Read.{ReadsAs};
+ghost use Rattle.cw_strategies.specs.StrategyText.{Spells};
+ghost use Rattle.cw_echeck.specs.Checks.{fault_of};
+ghost use Rattle.cw_product.specs.Product.{game_of};
+ghost use Rattle.cw_commands.specs.Outcomes.{due_of};
+ghost use Rattle.cw_cli.specs.Refuting.{game_refusal, strategy_refusal, told, yes, AfterFitting, AfterGraph, AfterPair, AfterStrategy, IsJudgedBy, IsRefuteDue};
+
+use crate::reading::read_both;
+use crate::refusals::{label_refusal, over, worded};
+use cw_certs::EnvCert;
+use cw_commands::{Cause, Outcome, Reply};
+use cw_core::{NoMemory, Quantity, put_dec};
+use cw_echeck::{BadEnvRow, check_env};
+use cw_lines::TextFault;
+use cw_points::build::build;
+use cw_points::{Graph, PointsFault};
+use cw_product::{Game, GameFault};
+use cw_rights::Policy;
+use cw_strategies::read_env;
+use cw_syntax::checked::Checked;
+use std::alloc::Global;
+
+/// Some words and a number.
+fn numbered(alloc: Global, words: &[u8], number: u32) -> Result<Vec<u8>, NoMemory>
+    ensures { IfOk result (λ line. line.items ≡ words.now ++ decimal number) }
+{
+    let mut line = worded(alloc, words, b"")?;
+    put_dec(u64::from(number), &mut line)?;
+    Ok(line)
+}
+
+/// The refusal by the first fault of a strategy's text.
+fn strategy_refusal(alloc: Global, fault: &TextFault) -> Result<Outcome, NoMemory>
+    ensures { IfOk result (λ outcome. (fault.now ≢ TextFault.NoMemory) × (due_of outcome ≡ strategy_refusal fault.now)) }
+{
+    match fault {
+        TextFault::Line(number) => {
+            let line = numbered(alloc, b"strategy: line ", *number)?;
+            Ok(Outcome::Refused(Cause::Grammar, line))
+        }
+        TextFault::Order(number) => {
+            let line = numbered(alloc, b"strategy: order ", *number)?;
+            Ok(Outcome::Refused(Cause::Grammar, line))
+        }
+        TextFault::Limit(_) => over(alloc, Quantity::Rows),
+        TextFault::NoMemory => Err(NoMemory),
+    }
+}
+
+/// That the game is over one of its numbers.
+fn game_refusal(alloc: Global, fault: &GameFault) -> Result<Outcome, NoMemory>
+    ensures { IfOk result (λ outcome. (fault.now ≢ GameFault.NoMemory) × (due_of outcome ≡ game_refusal fault.now)) }
+{
+    match fault {
+        GameFault::TooManyCaps => over(alloc, Quantity::RightsStates),
+        GameFault::TooManyWords => over(alloc, Quantity::PolicyStates),
+        GameFault::TooManyStates => over(alloc, Quantity::ProductStates),
+        GameFault::TooManyPositions => over(alloc, Quantity::PositionsTimesStates),
+        GameFault::NoMemory => Err(NoMemory),
+    }
+}
+
+/// The line that tells which row fails which condition.
+fn told(alloc: Global, bad: &BadEnvRow) -> Result<Vec<u8>, NoMemory>
+    ensures { IfOk result (λ line. line.items ≡ told (fault_of bad.now)) }
+{
+    let mut line = numbered(alloc, b"row ", bad.row)?;
+    line.extend_from_slice(b" condition ")?;
+    put_dec(u64::from(bad.condition), &mut line)?;
+    line.push(b'\n')?;
+    Ok(line)
+}
+
+/// The judgement of a strategy.
+fn judged(alloc: Global, game: &Game, strategy: &EnvCert) -> Result<Outcome, NoMemory>
+    requires few { length strategy.now.rows.items < 2 ^ 32 }
+    ensures { IfOk result (λ outcome. IsJudgedBy (game_of game.now) (strategy_of strategy.now) (due_of outcome)) }
+{
+    match check_env(game, strategy) {
+        Ok(()) => {
+            let line = worded(alloc, b"yes\n", b"")?;
+            Ok(Outcome::Told(Reply::Yes, line))
+        }
+        Err(bad) => {
+            let line = told(alloc, &bad)?;
+            Ok(Outcome::Told(Reply::No, line))
+        }
+    }
+}
+
+/// That the game is over one of its numbers, or the judgement.
+fn played(
+    alloc: Global,
+    policy: &Policy,
+    checked: &Checked,
+    graph: &Graph,
+    strategy: &EnvCert,
+) -> Result<Outcome, NoMemory>
+    requires valid { IsValid (policy_of policy.now) }
+    requires reads { ReadsAs checked.now.source.now (file_of checked.now.program) }
+    requires graph { IsGraph (names_of (policy_of policy.now)) checked.now.source.now (file_of checked.now.program) graph.now }
+    requires points { length graph.now.nodes.items ≤ 8192 }
+    requires few { length strategy.now.rows.items < 2 ^ 32 }
+    ensures { IfOk result (λ outcome.
+        AfterGraph checked.now.source.now (policy_of policy.now) (file_of checked.now.program) (strategy_of strategy.now) graph.now (due_of outcome)) }
+{
+    match Game::make(alloc, graph, policy) {
+        Ok(game) => judged(alloc, &game, strategy),
+        Err(fault) => game_refusal(alloc, &fault),
+    }
+}
+
+/// That the program has too many points, or what comes behind that.
+fn drawn(
+    alloc: Global,
+    policy: &Policy,
+    checked: &Checked,
+    strategy: &EnvCert,
+) -> Result<Outcome, NoMemory>
+    requires valid { IsValid (policy_of policy.now) }
+    requires reads { ReadsAs checked.now.source.now (file_of checked.now.program) }
+    requires few { length strategy.now.rows.items < 2 ^ 32 }
+    ensures { IfOk result (λ outcome.
+        AfterFitting checked.now.source.now (policy_of policy.now) (file_of checked.now.program) (strategy_of strategy.now) (due_of outcome)) }
+{
+    match build(alloc, checked, policy) {
+        Ok(graph) => played(alloc, policy, checked, &graph, strategy),
+        Err(PointsFault::TooManyPoints) => over(alloc, Quantity::Points),
+        Err(PointsFault::NoMemory) => Err(NoMemory),
+    }
+}
+
+/// Whether a policy splits no function.
+fn splits_none(policy: &Policy) -> bool
+    ensures none { result ≡ true → (policy_of policy.now).split ≡ [] }
+    ensures some { result ≡ false → (policy_of policy.now).split ≢ [] }
+{
+    policy.split.is_empty()
+}
+
+/// That the source hasn't a label of the policy, or that the policy splits functions, or what comes behind that.
+fn fitted(
+    alloc: Global,
+    policy: &Policy,
+    checked: &Checked,
+    strategy: &EnvCert,
+) -> Result<Outcome, NoMemory>
+    requires valid { IsValid (policy_of policy.now) }
+    requires reads { ReadsAs checked.now.source.now (file_of checked.now.program) }
+    requires few { length strategy.now.rows.items < 2 ^ 32 }
+    ensures { IfOk result (λ outcome.
+        AfterStrategy checked.now.source.now (policy_of policy.now) (file_of checked.now.program) (strategy_of strategy.now) (due_of outcome)) }
+{
+    match label_refusal(alloc, policy, checked)? {
+        Some(outcome) => Ok(outcome),
+        None => {
+            if splits_none(policy) {
+                drawn(alloc, policy, checked, strategy)
+            } else {
+                let line = worded(alloc, b"policy: not yet", b"")?;
+                Ok(Outcome::Refused(Cause::Policy, line))
+            }
+        }
+    }
+}
+
+/// That the strategy isn't spelled in the policy's format, or what comes behind that.
+fn spelled(
+    alloc: Global,
+    policy: &Policy,
+    checked: &Checked,
+    text: &[u8],
+) -> Result<Outcome, NoMemory>
+    requires valid { IsValid (policy_of policy.now) }
+    requires reads { ReadsAs checked.now.source.now (file_of checked.now.program) }
+    ensures { IfOk result (λ outcome. AfterPair checked.now.source.now text.now (policy_of policy.now) (file_of checked.now.program) (due_of outcome)) }
+{
+    match read_env(alloc, text, policy.format) {
+        Ok(strategy) => fitted(alloc, policy, checked, &strategy),
+        Err(fault) => strategy_refusal(alloc, &fault),
+    }
+}
+
+/// What is due for `refute`, by the bytes of a policy, of a source and of a strategy.
+pub fn refute_due(
+    alloc: Global,
+    policy: &[u8],
+    source: &[u8],
+    strategy: &[u8],
+) -> Result<Outcome, NoMemory>
+    requires short { length source.now ≤ 262144 }
+    ensures due { IfOk result (λ outcome. IsRefuteDue policy.now source.now strategy.now (due_of outcome)) }
+{
+    match read_both(alloc, policy, source) {
+        Ok(pair) => spelled(alloc, &pair.policy, &pair.checked, strategy),
+        Err(answer) => answer,
+    }
+}
