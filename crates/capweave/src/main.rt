@@ -30,13 +30,12 @@ fn text_of(rt: &HostRuntime, word: &[u8]) -> Result<String, NoMemory> {
 
 /// The word of a number, counted from the program's name, or None behind the last. A system's words are shorter than 2 GB.
 fn word_at(rt: &HostRuntime, number: usize) -> Result<Option<String>, NoMemory> {
-    let mut size: usize = 256;
-    while size <= 0x8000_0000 {
-        let mut word = vec![in rt.alloc(); 0_u8; size]?;
+    for bits in 8_u32..32 {
+        let mut word = vec![in rt.alloc(); 0_u8; 1_usize << bits]?;
         match rt.arg(number, &mut word) {
             Ok(length) => return Ok(Some(text_of(rt, &word[..length])?)),
             Err(FillError::NotPresent) => return Ok(None),
-            Err(FillError::TooLong) => size *= 2,
+            Err(FillError::TooLong) => {}
         }
     }
     Err(NoMemory)
