@@ -1,0 +1,4 @@
+mod Holding
+mod Keys
+mod Orders
+pub mod Reaching
