@@ -540,8 +540,8 @@ fn judges_strategies_or_tells_why_not(rt: HostRuntime) -> Result<(), Fail> {
         many.push_str(keep)?;
         many.push_str("]\n")?;
     }
-    many.push_str("[[rule]]\nname = \"r\"\nbad = \"")?;
-    for _ in 0..63 {
+    many.push_str("[[rule]]\nname = \"r\"\nbad = \"a")?;
+    for _ in 0..62 {
         many.push_str(" a")?;
     }
     many.push_str("\"\n")?;
