@@ -19,6 +19,6 @@ in_primitives policy now i limit same at =
     let l = slice_get_within limits i limit at in
     let n = length-map limits f in
     let there : Contains (map f limits) (Limit limit) =
-        (i, omega (arith, l, n), get_or-map f limits i limit (Limit limit) l ∙ ap f (get_or_from_slice_get limits i limit limit at)) in
+    (i, omega (arith, l, n), get_or-map f limits i limit (Limit limit) l ∙ ap f (get_or_from_slice_get limits i limit limit at)) in
     subst (λ (p : Policy). Contains (primitives (policy_of p) true) (Limit limit)) (sym same)
-        (Contains-append_left (map f limits) (Enter ∷ Split ∷ []) (Limit limit) there)
+    (Contains-append_left (map f limits) (Enter ∷ Split ∷ []) (Limit limit) there)
