@@ -1,4 +1,4 @@
-//! The check of strategies: two that the specification writes out, one through a call in both modes, and each condition broken alone.
+//! The check of strategies: two written out by hand, one through a call in both modes, and each condition broken alone.
 
 use crate::made::graph_of;
 use crate::texts::{
