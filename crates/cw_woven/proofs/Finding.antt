@@ -1,0 +1,78 @@
+-- Where a word first stands in a text.
+use Rattle.std.proofs.Common.{◌≡◌, ◌≢◌, ℕ, zero, suc, ◌+◌, ◌-◌, ◌<◌, ◌≤◌, Bool, true, false, List, [], ◌∷◌, ◌++◌, Option, None, Some, length, take, drop, refl, sym, ap, subst, ◌∙◌, arith, length-take, length-drop, length-append, eqb, nat_eq, ◌⊎◌, inl, inr}
+use Rattle.std.specs.Prelude.{codes}
+use Rattle.std.specs.List.{starts_with}
+use Rattle.std.proofs.Math.Seq.{take-append_seam, drop-append_seam}
+use Rattle.std.proofs.lemmas.Bool.{and_parts, eqb-true, false_from_ne_true, cases_order}
+use Rattle.std.proofs.lemmas.List.{take-append-drop}
+use Rattle.memchr.specs.Find.{OccursAt, FindsNeedle, Nowhere}
+use Rattle.memchr.proofs.lemmas.MatchLemmas.{OccursAt-split, OccursAt-from_part}
+use Rattle.cw_emit.specs.Cut.{opening, closing, HasNone}
+use Rattle.cw_emit.proofs.Openings.{starts_again}
+use Rattle.cw_woven.specs.Parts.{IsCutAt, NoneBefore}
+
+-- what begins with a word is the word and the rest
+pub starts_is : (t w : List ℕ) → starts_with nat_eq t w ≡ true → t ≡ w ++ drop (length w) t
+starts_is t [] e = refl
+starts_is [] (x ∷ w) e = absurd cc
+starts_is (b ∷ t) (x ∷ w) e =
+    let p = and_parts (eqb x b) (starts_with nat_eq t w) e in
+    let first : x ≡ b = eqb-true x b p.0 in
+    let others : t ≡ w ++ drop (length w) t = starts_is t w p.1 in
+    cc
+
+occurs : (text word : List ℕ) (at : ℕ) → at ≤ length text → starts_with nat_eq (drop at text) word ≡ true → OccursAt text word at
+occurs text word at le e =
+    let is : drop at text ≡ word ++ drop (length word) (drop at text) = starts_is (drop at text) word e in
+    let whole : length (drop at text) ≡ length (word ++ drop (length word) (drop at text)) = ap length is in
+    let sum : length (word ++ drop (length word) (drop at text)) ≡ length word + length (drop (length word) (drop at text)) = length-append word (drop (length word) (drop at text)) in
+    OccursAt-from_part text word at (omega (arith, le, whole, sum, length-drop at text)) (ap (take (length word)) is ∙ take-append_seam word _)
+
+empty_occurs : (text word : List ℕ) (at : ℕ) → length text < at → starts_with nat_eq (drop at text) word ≡ true → OccursAt text word 0
+empty_occurs text word at lt e =
+    let is : drop at text ≡ word ++ drop (length word) (drop at text) = starts_is (drop at text) word e in
+    let whole : length (drop at text) ≡ length (word ++ drop (length word) (drop at text)) = ap length is in
+    let sum : length (word ++ drop (length word) (drop at text)) ≡ length word + length (drop (length word) (drop at text)) = length-append word (drop (length word) (drop at text)) in
+    let none : length word ≡ 0 = omega (arith, lt, whole, sum, length-drop at text) in
+    record { fits = omega (arith, none); reads = λ j l. absurd (omega (arith, none, l)) }
+
+pub none_at : (text word : List ℕ) → Nowhere (OccursAt text word) 0 (length text + 1) → HasNone word text
+none_at text word nowhere at = false_from_ne_true _ (λ h. refuted h)
+  where
+    refuted : starts_with nat_eq (drop at text) word ≡ true → ⊥
+    refuted h = by_place (cases_order at (length text))
+      where
+        by_place : (at ≡ length text) ⊎ ((at < length text) ⊎ (length text < at)) → ⊥
+        by_place (inl e) = nowhere at (omega arith) (omega (arith, e)) (occurs text word at (omega (arith, e)) h)
+        by_place (inr (inl lt)) = nowhere at (omega arith) (omega (arith, lt)) (occurs text word at (omega (arith, lt)) h)
+        by_place (inr (inr gt)) = nowhere 0 (omega arith) (omega arith) (empty_occurs text word at gt h)
+
+take_whole : (l : List ℕ) → take (length l) l ≡ l
+take_whole [] = refl
+take_whole (x ∷ xs) = ap (λ (z : List ℕ). x ∷ z) (take_whole xs)
+
+rest_is : (k : ℕ) (l : List ℕ) → take (length l - k) (drop k l) ≡ drop k l
+rest_is k l = let e : length l - k ≡ length (drop k l) = omega (arith, length-drop k l) in ap (λ (n : ℕ). take n (drop k l)) e ∙ take_whole (drop k l)
+
+finds_at : (text word : List ℕ) (k : ℕ) → FindsNeedle text word 0 (Some k) → IsCutAt word text (take k text) (drop (k + length word) text)
+finds_at text word k g =
+    record {
+      cut = sym (take-append-drop k text) ∙ ap (λ (z : List ℕ). take k text ++ z) (OccursAt-split text word k g.1);
+      first = λ at lt. let fits = g.1.fits in false_from_ne_true _ (λ h. g.0.before at (omega arith) (omega (arith, lt, length-take k text)) (occurs text word at (omega (arith, lt, length-take k text, fits)) h));
+    }
+
+pub finds_some : (text word : List ℕ) (k : ℕ) → FindsNeedle text word 0 (Some k) → IsCutAt word text (take k text) (take (length text - (k + length word)) (drop (k + length word) text))
+finds_some text word k g = subst (λ (z : List ℕ). IsCutAt word text (take k text) z) (sym (rest_is (k + length word) text)) (finds_at text word k g)
+
+-- ---- before a word that begins otherwise
+
+behind_lf : (text : List ℕ) (at count : ℕ) → NoneBefore closing text count → at < suc count → starts_with nat_eq (drop at (10 ∷ text)) closing ≡ false
+behind_lf text zero count none lt = refl
+behind_lf text (suc at) count none lt = none at (omega (arith, lt))
+
+pub closes_behind_lf : (text front rest : List ℕ) → IsCutAt closing text front rest → IsCutAt closing (10 ∷ text) (10 ∷ front) rest
+closes_behind_lf text front rest c = record { cut = ap (λ (z : List ℕ). 10 ∷ z) c.cut; first = λ at lt. behind_lf text at (length front) c.first lt }
+
+pub none_behind_lf : (text : List ℕ) → HasNone closing text → HasNone closing (10 ∷ text)
+none_behind_lf text none zero = refl
+none_behind_lf text none (suc at) = none at

@@ -1,0 +1,6 @@
+pub mod Finding
+pub mod Parting
+pub mod Fields
+pub mod Differing
+pub mod Few
+pub mod Whole

@@ -1,0 +1,23 @@
+-- Working definitions: what is answered of a source.
+use Rattle.std.specs.Prelude.{◌≡◌, ℕ, List}
+use Rattle.cw_rights.specs.Policies.{PlainPolicy}
+use Rattle.cw_syntax.specs.Trees.{File}
+use Rattle.cw_syntax.specs.Marks.{SeamMark}
+use Rattle.cw_woven.specs.declared.fault.WovenFault.{WovenFault}
+use Rattle.cw_woven.specs.declared.fault.WovenFault.TheVariants as fault
+use Rattle.cw_tabletext.specs.Grammar.{IsFault as IsTableFault}
+use Rattle.cw_woven.specs.Reading.{IsAccepted, IsCutFault, seam_marks}
+
+-- the source is accepted, and these are the marks of its seams
+abbrev pub HasMarks : PlainPolicy → List ℕ → List SeamMark → Type 0
+HasMarks policy source marks = (file : File) × IsAccepted policy source file × (marks ≡ seam_marks policy source file)
+
+abbrev pub IsRefused : PlainPolicy → List ℕ → WovenFault → Type 0
+IsRefused policy source (fault.Source why) = IsCutFault policy source why
+IsRefused policy source fault.NoMemory = Unit {0}
+IsRefused policy source other = ⊥
+
+abbrev pub IsRefusedTable : PlainPolicy → List ℕ → WovenFault → Type 0
+IsRefusedTable policy lines (fault.Table why) = IsTableFault policy lines why
+IsRefusedTable policy lines fault.NoMemory = Unit {0}
+IsRefusedTable policy lines other = ⊥

@@ -1,0 +1,33 @@
+-- Working definitions: what the program's data stand for, and what its functions answer.
+use Rattle.std.specs.Prelude.{◌≡◌, ℕ, ◌+◌, ◌<◌, ◌≤◌, ◌⊎◌, List, [], ◌∷◌, ◌++◌, map, length, Option, None, Some, codes}
+use Rattle.cw_emit.specs.Cut.{opening, closing, HasNone}
+use Rattle.cw_woven.specs.declared.fault.WovenFault.{WovenFault}
+use Rattle.cw_woven.specs.declared.fault.WovenFault.TheVariants as fault
+use Rattle.cw_woven.specs.declared.parts.Piece.{Piece as Held}
+use Rattle.cw_woven.specs.declared.scanning.Scanned.{Scanned}
+use Rattle.cw_woven.specs.declared.scanning.Next.{Next}
+use Rattle.cw_woven.specs.declared.scanning.Next.TheVariants as next
+use Rattle.cw_woven.specs.Parts.{Piece, IsCutAt, AreParts}
+use Rattle.cw_woven.specs.Woven.{IsSpelling}
+use Rattle.cw_woven.specs.Reading.{the_prologue, IsMark, IsNoMark, IsParted}
+
+abbrev pub piece_of : Held → Piece
+piece_of p = record { gap = p.gap.now; inner = p.inner.now }
+
+-- the lines of a prologue and the rest behind it; none where there is none
+abbrev pub IsPrologue : List ℕ → Option (List ℕ × List ℕ) → Type 0
+IsPrologue text (Some parts) = AreParts text (the_prologue parts.0 ∷ []) parts.1
+IsPrologue text None = IsMark text 0
+
+abbrev pub IsNext : List ℕ → Next → Type 0
+IsNext left next.Done = HasNone opening left
+IsNext left (next.Mark p after) = (opened : List ℕ) × IsCutAt opening left p.gap.now opened × IsCutAt closing opened p.inner.now after.now × IsSpelling p.inner.now
+IsNext left (next.Bad opened) = (gap : List ℕ) × IsCutAt opening left gap opened.now × IsNoMark opened.now
+
+abbrev pub IsScanned : List ℕ → Scanned → Type 0
+IsScanned text s = IsParted text s.lines.now (map piece_of s.marks.items) s.left.now
+
+abbrev pub IsScanFault : List ℕ → WovenFault → Type 0
+IsScanFault text (fault.Mark at) = IsMark text at
+IsScanFault text fault.NoMemory = Unit {0}
+IsScanFault text other = ⊥

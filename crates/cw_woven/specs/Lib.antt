@@ -1,0 +1,6 @@
+pub mod Parts
+pub mod Reading
+pub mod Woven
+pub mod Held
+pub mod Accepting
+pub mod Comparing

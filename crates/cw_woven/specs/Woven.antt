@@ -1,0 +1,40 @@
+-- Woven texts of both formats: a prologue with the table, and the source with the marks of its seams.
+use Rattle.std.specs.Prelude.{◌≡◌, ℕ, ◌^◌, ◌<◌, ◌⊎◌, List, [], ◌∷◌, ◌++◌, IsTrue, codes}
+use Rattle.std.specs.Fmt.{decimal}
+use Rattle.cw_rights.specs.Policies.{PlainPolicy}
+use Rattle.cw_rights.specs.Valid.{is_name}
+use Rattle.cw_syntax.specs.Marks.{SeamMark}
+use Rattle.cw_certs.specs.Tables.{Table}
+use Rattle.cw_emit.specs.Cut.{part}
+use Rattle.cw_emit.specs.Woven.{woven}
+use Rattle.cw_tabletext.specs.TablesText.{tables_text}
+
+-- a part with LF and the lines of the table
+abbrev pub prologue : PlainPolicy → Table → List ℕ
+prologue policy table = part (codes "\n" ++ tables_text policy table)
+
+-- the text is the prologue, and then the source with its marks
+abbrev pub Stands : List ℕ → List ℕ → List SeamMark → Table → PlainPolicy → Type 0
+Stands text source marks table policy = text ≡ prologue policy table ++ woven policy source marks
+
+-- the decimal of a number of 32 bits
+abbrev pub IsNumber : List ℕ → Type 0
+IsNumber bytes = (n : ℕ) × (n < 2 ^ 32) × (bytes ≡ decimal n)
+
+-- The spellings of marks: a number alone, or a number and a name.
+abbrev pub IsNumbered : (before after bytes : List ℕ) → Type 0
+IsNumbered before after bytes = (n : ℕ) × (n < 2 ^ 32) × (bytes ≡ before ++ (decimal n ++ after))
+
+abbrev pub IsNamed : (before bytes : List ℕ) → Type 0
+IsNamed before bytes = (n : ℕ) × (name : List ℕ) × (n < 2 ^ 32) × IsTrue (is_name name) × (bytes ≡ before ++ (decimal n ++ (codes "," ++ (name ++ codes ")"))))
+
+-- a mark with the seam's number, and one that has a name too: whatever the seam is, and whatever descriptor or result has the name
+abbrev pub IsNumberedMark : List ℕ → Type 0
+IsNumberedMark bytes =
+    IsNumbered (codes "CW_ENTRY(") (codes ");") bytes ⊎ (IsNumbered (codes "CW_LABEL(") (codes ")") bytes ⊎ (IsNumbered (codes "CW_CLOSE(") (codes ")") bytes ⊎ IsNumbered (codes "CW_CALL(") (codes ")") bytes))
+
+abbrev pub IsNamedMark : List ℕ → Type 0
+IsNamedMark bytes = IsNamed (codes "CW_OPEN(") bytes ⊎ IsNamed (codes "CW_CALLV(") bytes
+
+abbrev pub IsSpelling : List ℕ → Type 0
+IsSpelling bytes = IsNumberedMark bytes ⊎ IsNamedMark bytes

@@ -1,0 +1,13 @@
+//! Woven texts read back: the source, the table and the marks that a text stands for, or why it stands for none.
+#![tactic(auto)]
+
+mod acceptance;
+mod comparing;
+mod fault;
+mod parts;
+mod reading;
+mod scanning;
+mod spelling;
+
+pub use fault::{CutFault, WovenFault};
+pub use reading::{Woven, read_woven};

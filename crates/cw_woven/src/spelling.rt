@@ -1,0 +1,87 @@
+//! Which bytes are spelled as a mark.
+
+ghost use Rattle.std.specs.Prelude.{◌≡◌, ◌↔◌, ◌++◌, IsTrue, IfSome, IfNone, List, ℕ, ◌≢◌, codes};
+ghost use Rattle.cw_woven.specs.Woven.{IsNumber, IsNumbered, IsNamed, IsNumberedMark, IsNamedMark, IsSpelling};
+
+use crate::parts::{behind, is_same};
+use cw_lines::{cut, number_of};
+use cw_rights::is_name;
+
+/// What stands between a front and a back; none where the bytes aren't these with something between them.
+fn between<'t>(bytes: &'t [u8], front: &[u8], back: &[u8]) -> Option<&'t [u8]>
+    ensures some { IfSome result (λ middle. bytes.now ≡ front.now ++ (middle.now ++ back.now)) }
+    ensures none { IfNone result ((middle : List ℕ) → bytes.now ≢ front.now ++ (middle ++ back.now)) }
+{
+    let rest = behind(bytes, front)?;
+    before(rest, back)
+}
+
+/// What stands before a back; none where the text has another back.
+fn before<'t>(text: &'t [u8], back: &[u8]) -> Option<&'t [u8]>
+    ensures some { IfSome result (λ head. text.now ≡ head.now ++ back.now) }
+    ensures none { IfNone result ((head : List ℕ) → text.now ≢ head ++ back.now) }
+{
+    if text.len() < back.len() {
+        return None;
+    }
+    let (head, tail) = text.split_at(text.len() - back.len());
+    if !is_same(tail, back) {
+        return None;
+    }
+    Some(head)
+}
+
+/// Whether bytes are the decimal of a number of 32 bits.
+fn is_number(bytes: &[u8]) -> bool
+    ensures { IsTrue result ↔ IsNumber bytes.now }
+{
+    match number_of(bytes, u64::from(u32::MAX)) {
+        Some(_) => true,
+        None => false,
+    }
+}
+
+/// Whether bytes are a front, a number and a back.
+fn is_numbered(bytes: &[u8], front: &[u8], back: &[u8]) -> bool
+    ensures { IsTrue result ↔ IsNumbered front.now back.now bytes.now }
+{
+    match between(bytes, front, back) {
+        Some(number) => is_number(number),
+        None => false,
+    }
+}
+
+/// Whether bytes are a front, a number, `,`, a name and `)`.
+fn is_named(bytes: &[u8], front: &[u8]) -> bool
+    ensures { IsTrue result ↔ IsNamed front.now bytes.now }
+{
+    match between(bytes, front, b")") {
+        Some(fields) => match cut(fields, b',') {
+            Some((number, name)) => is_number(number) && is_name(name),
+            None => false,
+        },
+        None => false,
+    }
+}
+
+fn is_numbered_mark(bytes: &[u8]) -> bool
+    ensures { IsTrue result ↔ IsNumberedMark bytes.now }
+{
+    is_numbered(bytes, b"CW_ENTRY(", b");")
+        || is_numbered(bytes, b"CW_LABEL(", b")")
+        || is_numbered(bytes, b"CW_CLOSE(", b")")
+        || is_numbered(bytes, b"CW_CALL(", b")")
+}
+
+fn is_named_mark(bytes: &[u8]) -> bool
+    ensures { IsTrue result ↔ IsNamedMark bytes.now }
+{
+    is_named(bytes, b"CW_OPEN(") || is_named(bytes, b"CW_CALLV(")
+}
+
+/// Whether bytes are spelled as the mark of some seam is.
+pub(crate) fn is_spelling(bytes: &[u8]) -> bool
+    ensures { IsTrue result ↔ IsSpelling bytes.now }
+{
+    is_numbered_mark(bytes) || is_named_mark(bytes)
+}
