@@ -1,0 +1,3 @@
+pub mod Lazy
+pub mod Live
+pub mod Staged

@@ -1,0 +1,4 @@
+//! The lazy table.
+#![tactic(auto)]
+
+mod laws;
