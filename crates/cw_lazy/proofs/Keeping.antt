@@ -1,21 +1,20 @@
 -- What is live isn't lost, where the start isn't: and it stands in a function under a promise that the game needs.
-use Rattle.std.proofs.Common.{◌≡◌, ℕ, zero, suc, ◌+◌, ◌<◌, ◌≤◌, List, [], ◌∷◌, Bool, true, false, cond, not, ◌&&◌, ◌||◌, Option, Some, None, nat_eq, refl, sym, ap, ◌∙◌, subst, arith, eqb-true, inl, inr}
+use Rattle.std.proofs.Common.{◌≡◌, ℕ, zero, suc, ◌+◌, ◌<◌, ◌≤◌, Bool, true, false, ◌&&◌, ◌||◌, Option, Some, nat_eq, refl, sym, ap, ◌∙◌, subst, arith, eqb-true, inl, inr}
 use Rattle.std.specs.Prelude.{slice_get, nat_lt, Contains}
 use Rattle.std.proofs.lemmas.Bool.{lt-ltb, ltb-true, cases_lt}
 use Rattle.std.proofs.lemmas.Option.{none-some}
 use Rattle.cw_rights.specs.declared.capabilities.Primitive.{Primitive}
-use Rattle.cw_certs.specs.declared.moves.Move.{Move}
 use Rattle.cw_game.specs.declared.spots.Spot.{Spot}
 use Rattle.cw_game.specs.declared.spots.Spot.TheVariants.{Visit, Exit}
-use Rattle.cw_game.specs.Games.{Game, Config, resumed, returned, leads_in, bad_in, weavers_in, Promise, holds_in, Holds, IsLost}
-use Rattle.cw_game.specs.Pairs.{has, all_states, Called, call_in, is_call_in, call_spot, kept_at}
+use Rattle.cw_game.specs.Games.{Game, Config, returned, bad_in, weavers_in, Promise, holds_in, Holds, IsLost}
+use Rattle.cw_game.specs.Pairs.{has, all_states, Called, call_in, call_spot, kept_at}
 use Rattle.cw_game.proofs.Holding.{lost_rises}
 use Rattle.cw_solve.specs.Contexts.{context, IsOf, promise_at, IsSetOf, IsNeeded, of_main, of_call}
-use Rattle.cw_solve.specs.Routes.{IsState, targets, IsThere, AreRouted}
+use Rattle.cw_solve.specs.Routes.{IsState, targets, AreRouted}
 use Rattle.cw_solve.proofs.Falls.{later, return_state, back_stays, call_is}
 use Rattle.cw_solve.proofs.Still.{first_of_two, second_of_two, only, holds_call}
 use Rattle.cw_solve.proofs.Moves.{bad_fails}
-use Rattle.cw_lazy.specs.Live.{IsLostBack, IsFull, IsLive, begins, skips, tries, moves, goes_on, calls, returns}
+use Rattle.cw_lazy.specs.Live.{IsFull, IsLive, begins, skips, tries, moves, goes_on, calls, returns}
 use Rattle.cw_lazy.specs.Staged.{IsAsked, AreStaged}
 use Rattle.cw_lazy.proofs.Going.{goes_to, resumes}
 
@@ -45,19 +44,24 @@ module _ (g : Game) (functions : ℕ) (routed : AreRouted g functions) (staged :
 
       by : (b : Bool) → has set m ≡ b → (n : ℕ) × ((x : ℕ) → x < m → has set x ≡ false → Holds g n call.back (returned g.states (kept_at call.split q) x) (has e) ≡ false)
           → (n : ℕ) × ((x : ℕ) → x < suc m → has set x ≡ false → Holds g n call.back (returned g.states (kept_at call.split q) x) (has e) ≡ false)
-      by true t h = (h.0, λ x l o. elim (cases_lt x m) [
-        | inl less ↦ h.1 x less o
-        | inr more ↦ let xm : x ≡ m = omega (arith, l, more) in let w : true ≡ false = sym t ∙ ap (has set) (sym xm) ∙ o in cc
-      ])
+      by true t h = (
+        h.0,
+        λ x l o. elim (cases_lt x m) [
+          | inl less ↦ h.1 x less o
+          | inr more ↦ let xm : x ≡ m = omega (arith, l, more) in let w : true ≡ false = sym t ∙ ap (has set) (sym xm) ∙ o in cc
+        ],
+      )
       by false t h =
-          let r = f.left_out m (omega (arith, le)) t in
-          (h.0 + r.0, λ x l o. elim (cases_lt x m) [
-            | inl less ↦ later g functions routed h.0 (h.0 + r.0) call.back (returned g.states (kept_at call.split q) x) (has e) (omega arith) (back_state x (omega (arith, less, le))) (h.1 x less o)
-            | inr more ↦
-                let xm : x ≡ m = omega (arith, l, more) in
-                subst (λ y. Holds g (h.0 + r.0) call.back (returned g.states (kept_at call.split q) y) (has e) ≡ false) (sym xm)
-                (later g functions routed r.0 (h.0 + r.0) call.back (returned g.states (kept_at call.split q) m) (has e) (omega arith) (back_state m (omega (arith, le))) r.1)
-          ])
+          let r = f.left_out m (omega (arith, le)) t in (
+            h.0 + r.0,
+            λ x l o. elim (cases_lt x m) [
+              | inl less ↦ later g functions routed h.0 (h.0 + r.0) call.back (returned g.states (kept_at call.split q) x) (has e) (omega arith) (back_state x (omega (arith, less, le))) (h.1 x less o)
+              | inr more ↦
+                  let xm : x ≡ m = omega (arith, l, more) in
+                  subst (λ y. Holds g (h.0 + r.0) call.back (returned g.states (kept_at call.split q) y) (has e) ≡ false) (sym xm)
+                  (later g functions routed r.0 (h.0 + r.0) call.back (returned g.states (kept_at call.split q) m) (has e) (omega arith) (back_state m (omega (arith, le))) r.1)
+            ],
+          )
 
   module _ (p q e set : ℕ) (call : Called) (es : call_in (slice_get g.spots p) ≡ Some call) (s : IsState g q) (f : IsFull g call q e set) where
     abbrev Back : ℕ → ℕ → Bool
@@ -78,8 +82,11 @@ module _ (g : Game) (functions : ℕ) (routed : AreRouted g functions) (staged :
     pub entry_kept : (IsLost g p q (has e) → ⊥) → IsLost g (g.entry call.function) q (has set) → ⊥
     entry_kept kept l =
         let n = bound.0 + l.0 in
-        kept (suc n, holds_call g functions routed (Holds g n) p q (has e) call es
-        ∙ lost_rises g (IsState g) routed.closed l.0 n (g.entry call.function) q (λ x. Back n x) (has set) (omega arith) s (λ x t h. in_set n x (omega arith) t h) l.1)
+        kept (
+          suc n,
+          holds_call g functions routed (Holds g n) p q (has e) call es
+              ∙ lost_rises g (IsState g) routed.closed l.0 n (g.entry call.function) q (λ x. Back n x) (has set) (omega arith) s (λ x t h. in_set n x (omega arith) t h) l.1,
+        )
 
     -- the set is what the call promises for that many moves
     pub set_of : IsSetOf g set (promise_at g bound.0 call.back (kept_at call.split q) e)
@@ -116,8 +123,11 @@ module _ (g : Game) (functions : ℕ) (routed : AreRouted g functions) (staged :
   visit_kept : (p q e j i : ℕ) (a : Primitive) → slice_get g.spots p ≡ Some (Visit j i a) → IsState g q → (IsLost g p q (has e) → ⊥) → IsLost g (p + 2) q (has e) → IsLost g (p + 1) q (has e) → ⊥
   visit_kept p q e j i a es s kept l k =
       let n = l.0 + k.0 in
-      kept (suc n, ap (holds_in g (Holds g n) p q (has e)) es
-      ∙ both (Holds g n (p + 2) q (has e)) (Holds g n (p + 1) q (has e)) (later g functions routed l.0 n (p + 2) q (has e) (omega arith) s l.1) (later g functions routed k.0 n (p + 1) q (has e) (omega arith) s k.1))
+      kept (
+        suc n,
+        ap (holds_in g (Holds g n) p q (has e)) es
+            ∙ both (Holds g n (p + 2) q (has e)) (Holds g n (p + 1) q (has e)) (later g functions routed l.0 n (p + 2) q (has e) (omega arith) s l.1) (later g functions routed k.0 n (p + 1) q (has e) (omega arith) s k.1),
+      )
     where
       both : (a b : Bool) → a ≡ false → b ≡ false → (a || b) ≡ false
       both true b x y = cc

@@ -1,5 +1,10 @@
 pub mod Finding
 pub mod Going
 pub mod Keeping
+mod Lawful
+pub mod Knowing
+pub mod Meeting
 pub mod Only
+pub mod Ranging
 pub mod Reading
+pub mod Rows

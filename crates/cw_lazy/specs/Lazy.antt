@@ -1,8 +1,5 @@
 -- The lazy table: its lists exactly from what is live.
 use Rattle.std.specs.Prelude.{◌≡◌, ℕ, ◌+◌, List, [], Bool, Option, Some, None, length, slice_get}
-use Rattle.std.specs.List.{Contains}
-use Rattle.std.specs.List.Sorted.{IsStrictlySortedBy}
-use Rattle.std.specs.declared.cmp.Ordering.{Ordering}
 use Rattle.cw_core.specs.declared.ids.StateId.{StateId}
 use Rattle.cw_core.specs.declared.ids.MemId.{MemId}
 use Rattle.cw_core.specs.declared.ids.PosId.{PosId}
@@ -25,24 +22,24 @@ abbrev pub state_id : ℕ → StateId
 state_id q = record { 0 = q }
 
 -- the memory with this number means this state with this promise
-abbrev pub Means : Table → ℕ → (q e : ℕ) → Type 0
-Means t m q e = slice_get t.mems m ≡ Some (state_id q, e)
+abbrev pub Means : List (StateId × ℕ) → ℕ → (q e : ℕ) → Type 0
+Means ms m q e = slice_get ms m ≡ Some (state_id q, e)
 
 -- the memory is that of the pair where there is one, and else there is none
-abbrev pub IsAfter : Table → (e : ℕ) → Option Config → Option MemId → Type 0
-IsAfter t e None m = m ≡ None
-IsAfter t e (Some c) None = ⊥
-IsAfter t e (Some c) (Some m) = Means t m.0 c.state e
+abbrev pub IsAfter : List (StateId × ℕ) → (e : ℕ) → Option Config → Option MemId → Type 0
+IsAfter ms e None m = m ≡ None
+IsAfter ms e (Some c) None = ⊥
+IsAfter ms e (Some c) (Some m) = Means ms m.0 c.state e
 
 -- after a refusal that a stop can answer: the memory with which the program goes on, none where going on is lost and it stops
-abbrev pub GoesOn : Game → Table → (e : ℕ) → Option (ℕ × ℕ) → Option MemId → Type 0
-GoesOn g t e None m = m ≡ None
-GoesOn g t e (Some pair) None = IsLost g pair.0 pair.1 (has e)
-GoesOn g t e (Some pair) (Some m) = (IsLost g pair.0 pair.1 (has e) → ⊥) × Means t m.0 pair.1 e
+abbrev pub GoesOn : Game → List (StateId × ℕ) → (e : ℕ) → Option (ℕ × ℕ) → Option MemId → Type 0
+GoesOn g ms e None m = m ≡ None
+GoesOn g ms e (Some pair) None = IsLost g pair.0 pair.1 (has e)
+GoesOn g ms e (Some pair) (Some m) = (IsLost g pair.0 pair.1 (has e) → ⊥) × Means ms m.0 pair.1 e
 
-abbrev pub IsRefused : Game → Table → (p q e : ℕ) → Option Config → Option MemId → Type 0
-IsRefused g t p q e None m = GoesOn g t e (resumed g p q) m
-IsRefused g t p q e (Some c) m = IsAfter t e (Some c) m
+abbrev pub IsRefused : Game → List (StateId × ℕ) → (p q e : ℕ) → Option Config → Option MemId → Type 0
+IsRefused g ms p q e None m = GoesOn g ms e (resumed g p q) m
+IsRefused g ms p q e (Some c) m = IsAfter ms e (Some c) m
 
 -- a memory's state and promise are those of something live
 pub record IsMemory (g : Game) (r : StateId × ℕ) : Type 0 where
@@ -50,24 +47,24 @@ pub record IsMemory (g : Game) (r : StateId × ℕ) : Type 0 where
   pub live : IsLive g pos r.0.0 r.1
 
 -- a row of a list, at the position p with the state q and the promise e, which its memory means
-pub record IsLiveRow (g : Game) (t : Table) (r : PosId × MemId) : Type 0 where
+pub record IsLiveRow (g : Game) (ms : List (StateId × ℕ)) (r : PosId × MemId) : Type 0 where
   pub state : ℕ
   pub promise : ℕ
   pub live : IsLive g r.0.0 state promise
-  pub meant : Means t r.1.0 state promise
+  pub meant : Means ms r.1.0 state promise
 
-pub record IsTryRow (g : Game) (t : Table) (r : TryRow) : Type 0 where
+pub record IsTryRow (g : Game) (ms : List (StateId × ℕ)) (r : TryRow) : Type 0 where
   pub pos : ℕ
   pub state : ℕ
   pub promise : ℕ
   pub prim : Primitive
   pub live : IsLive g pos state promise
   pub asked : slice_get g.spots pos ≡ Some (Asked r.seam.0 r.stage prim)
-  pub meant : Means t r.mem.0 state promise
-  pub granted : IsAfter t promise (leads_in g pos state [] (Some (Asked r.seam.0 r.stage prim)) Grant) r.granted
-  pub refused : IsRefused g t pos state promise (leads_in g pos state [] (Some (Asked r.seam.0 r.stage prim)) Refuse) r.refused
+  pub meant : Means ms r.mem.0 state promise
+  pub granted : IsAfter ms promise (leads_in g pos state [] (Some (Asked r.seam.0 r.stage prim)) Grant) r.granted
+  pub refused : IsRefused g ms pos state promise (leads_in g pos state [] (Some (Asked r.seam.0 r.stage prim)) Refuse) r.refused
 
-pub record IsLabelRow (g : Game) (t : Table) (r : AtRow) : Type 0 where
+pub record IsLabelRow (g : Game) (ms : List (StateId × ℕ)) (r : AtRow) : Type 0 where
   pub pos : ℕ
   pub state : ℕ
   pub promise : ℕ
@@ -75,10 +72,10 @@ pub record IsLabelRow (g : Game) (t : Table) (r : AtRow) : Type 0 where
   pub next : ℕ
   pub live : IsLive g pos state promise
   pub spot : slice_get g.spots pos ≡ Some (Label r.seam.0 label next)
-  pub meant : Means t r.mem.0 state promise
-  pub after : Means t r.after.0 (g.states.lettered state label) promise
+  pub meant : Means ms r.mem.0 state promise
+  pub after : Means ms r.after.0 (g.states.lettered state label) promise
 
-pub record IsOpenRow (g : Game) (t : Table) (r : OpenRow) : Type 0 where
+pub record IsOpenRow (g : Game) (ms : List (StateId × ℕ)) (r : OpenRow) : Type 0 where
   pub pos : ℕ
   pub state : ℕ
   pub promise : ℕ
@@ -86,11 +83,11 @@ pub record IsOpenRow (g : Game) (t : Table) (r : OpenRow) : Type 0 where
   pub next : ℕ
   pub live : IsLive g pos state promise
   pub spot : slice_get g.spots pos ≡ Some (Open r.seam.0 descriptor next)
-  pub meant : Means t r.mem.0 state promise
-  pub opened : Means t r.opened.0 (g.states.opened state descriptor) promise
-  pub failed : Means t r.failed.0 (g.states.closed state descriptor) promise
+  pub meant : Means ms r.mem.0 state promise
+  pub opened : Means ms r.opened.0 (g.states.opened state descriptor) promise
+  pub failed : Means ms r.failed.0 (g.states.closed state descriptor) promise
 
-pub record IsCloseRow (g : Game) (t : Table) (r : AtRow) : Type 0 where
+pub record IsCloseRow (g : Game) (ms : List (StateId × ℕ)) (r : AtRow) : Type 0 where
   pub pos : ℕ
   pub state : ℕ
   pub promise : ℕ
@@ -98,11 +95,11 @@ pub record IsCloseRow (g : Game) (t : Table) (r : AtRow) : Type 0 where
   pub next : ℕ
   pub live : IsLive g pos state promise
   pub spot : slice_get g.spots pos ≡ Some (Close r.seam.0 descriptor next)
-  pub meant : Means t r.mem.0 state promise
-  pub after : Means t r.after.0 (g.states.closed state descriptor) promise
+  pub meant : Means ms r.mem.0 state promise
+  pub after : Means ms r.after.0 (g.states.closed state descriptor) promise
 
 -- a call of this seam and mode is live at p, and promises this set
-pub record IsCalled (g : Game) (t : Table) (seam : ℕ) (split : Bool) (m : ℕ) : Type 0 where
+pub record IsCalled (g : Game) (ms : List (StateId × ℕ)) (seam : ℕ) (split : Bool) (m : ℕ) : Type 0 where
   pub pos : ℕ
   pub state : ℕ
   pub promise : ℕ
@@ -112,31 +109,31 @@ pub record IsCalled (g : Game) (t : Table) (seam : ℕ) (split : Bool) (m : ℕ)
   pub is_call : call_in (slice_get g.spots pos) ≡ Some call
   pub seams : call.seam ≡ seam
   pub modes : call.split ≡ split
-  pub meant : Means t m state promise
+  pub meant : Means ms m state promise
   pub full : IsFull g call state promise set
 
-pub record IsIntoRow (g : Game) (t : Table) (r : IntoRow) : Type 0 where
-  pub called : IsCalled g t r.seam.0 r.split r.mem.0
-  pub callee : Means t r.callee.0 called.state called.set
+pub record IsIntoRow (g : Game) (ms : List (StateId × ℕ)) (r : IntoRow) : Type 0 where
+  pub called : IsCalled g ms r.seam.0 r.split r.mem.0
+  pub callee : Means ms r.callee.0 called.state called.set
 
 -- of each call for each exit state that is live where the callee ends, under what is promised to it
-pub record IsBackRow (g : Game) (t : Table) (r : BackRow) : Type 0 where
-  pub called : IsCalled g t r.seam.0 r.split r.mem.0
+pub record IsBackRow (g : Game) (ms : List (StateId × ℕ)) (r : BackRow) : Type 0 where
+  pub called : IsCalled g ms r.seam.0 r.split r.mem.0
   pub ended : IsLive g (g.exit called.call.function) r.exit.0 called.set
-  pub after : Means t r.after.0 (returned g.states (kept_at called.call.split called.state) r.exit.0) called.promise
+  pub after : Means ms r.after.0 (returned g.states (kept_at called.call.split called.state) r.exit.0) called.promise
 
 -- The lazy table of a game: each list has exactly its rows, in order. So the memories are numbered by state, then promise.
 pub record IsLazyTable (g : Game) (t : Table) : Type 0 where
   pub states : t.states ≡ g.states.count
-  pub start : Means t t.start.0 g.states.start (all_states g)
+  pub start : Means t.mems t.start.0 g.states.start (all_states g)
   pub mems : Exactly mem_cmp (IsMemory g) t.mems
-  pub live : Exactly live_cmp (IsLiveRow g t) t.live
-  pub tries : Exactly try_cmp (IsTryRow g t) t.tries
-  pub ats : Exactly at_cmp (IsLabelRow g t) t.ats
-  pub opened : Exactly open_cmp (IsOpenRow g t) t.opened
-  pub closed : Exactly at_cmp (IsCloseRow g t) t.closed
-  pub into : Exactly into_cmp (IsIntoRow g t) t.into
-  pub back : Exactly back_cmp (IsBackRow g t) t.back
+  pub live : Exactly live_cmp (IsLiveRow g t.mems) t.live
+  pub tries : Exactly try_cmp (IsTryRow g t.mems) t.tries
+  pub ats : Exactly at_cmp (IsLabelRow g t.mems) t.ats
+  pub opened : Exactly open_cmp (IsOpenRow g t.mems) t.opened
+  pub closed : Exactly at_cmp (IsCloseRow g t.mems) t.closed
+  pub into : Exactly into_cmp (IsIntoRow g t.mems) t.into
+  pub back : Exactly back_cmp (IsBackRow g t.mems) t.back
 
 -- all rows of all lists, backs counted
 abbrev pub table_rows : Table → ℕ

@@ -1,3 +1,4 @@
+pub mod Laws
 pub mod Lazy
 pub mod Live
 pub mod Staged

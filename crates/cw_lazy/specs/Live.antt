@@ -1,6 +1,6 @@
 -- Where a run of the lazy program may come: the least set of a position, a state and a promise each that has the start, and what the choices
 -- of the lazy table lead to. Public source: the weaver's strategies of Harris, Jha, Reps, Anderson and Watson (2013).
-use Rattle.std.specs.Prelude.{◌≡◌, ℕ, ◌+◌, ◌<◌, [], Bool, true, false, Option, Some, slice_get}
+use Rattle.std.specs.Prelude.{◌≡◌, ℕ, ◌+◌, ◌<◌, [], true, false, Some, slice_get}
 use Rattle.cw_rights.specs.declared.capabilities.Primitive.{Primitive}
 use Rattle.cw_certs.specs.declared.moves.Move.{Move}
 use Rattle.cw_game.specs.declared.spots.Spot.TheVariants.{Visit}

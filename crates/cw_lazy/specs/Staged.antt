@@ -1,9 +1,10 @@
 -- What the lazy table asks of a game's positions: what is asked stands behind its visit, and a seam's parts stand at one position each.
-use Rattle.std.specs.Prelude.{◌≡◌, ℕ, ◌+◌, Bool, true, false, Option, Some, slice_get, Contains}
+use Rattle.std.specs.Prelude.{◌≡◌, ◌⊎◌, ℕ, ◌+◌, ◌<◌, false, Some, slice_get, Contains}
 use Rattle.cw_rights.specs.declared.capabilities.Primitive.{Primitive}
 use Rattle.cw_game.specs.declared.spots.Spot.TheVariants.{Visit, Asked, Label, Open, Close, Exit}
-use Rattle.cw_game.specs.Games.{Game, weavers_in}
-use Rattle.cw_game.specs.Pairs.{Called, call_in}
+use Rattle.cw_game.specs.Games.{Game, weavers_in, IsLost}
+use Rattle.cw_game.specs.Pairs.{has, Called, call_in}
+use Rattle.cw_solve.specs.Contexts.{context, IsOf, IsNeeded}
 use Rattle.cw_solve.specs.Routes.{targets}
 
 -- something is asked there
@@ -27,3 +28,7 @@ pub record AreStaged (g : Game) : Type 0 where
   -- a function that is called ends where it ends, and isn't `main`
   pub ends : (p : ℕ) (call : Called) → call_in (slice_get g.spots p) ≡ Some call → slice_get g.spots (g.exit call.function) ≡ Some (Exit call.function)
   pub not_main : (p : ℕ) (call : Called) → call_in (slice_get g.spots p) ≡ Some call → call.function ≡ g.main → ⊥
+
+-- Of each pair of a position of a function and a state it is known whether it is lost under a promise that the game needs: its height says so.
+abbrev pub IsKnown : Game → Type 0
+IsKnown g = (f p q e : ℕ) → IsNeeded g (context f e) → IsOf g f p → q < g.states.count → IsLost g p q (has e) ⊎ (IsLost g p q (has e) → ⊥)

@@ -1,9 +1,24 @@
 //! Laws of the definitions: functions that do nothing, and whose contracts hold of every value.
 
-ghost use Rattle.std.specs.Prelude.{◌≡◌, ℕ};
+ghost use Rattle.cw_lazy.specs.Laws.{LiveIsKept, LazyTablesAreGood, LazyTablesTryOnlyLost};
 
-/// To come.
-#[tactic(auto, using(crate::proofs::Going::goes_to, crate::proofs::Keeping::is_true, crate::proofs::Only::only_lost))]
-pub fn to_come()
-    ensures { (n : ℕ) → n ≡ n }
+/// What is live isn't lost, where the start isn't, and stands in a function under a promise that the game needs.
+
+pub fn live_is_kept()
+    ensures { LiveIsKept }
+{}
+
+/// The lazy table meets the nine conditions.
+///
+/// Public source: the weaver's strategies of Harris, Jha, Reps, Anderson and Watson (2013).
+
+pub fn lazy_tables_are_good()
+    ensures { LazyTablesAreGood }
+{}
+
+/// The lazy table tries a primitive, and stops after a refusal, only where the pair after it is lost, and at each call
+/// leaves only exit states out of its promise from which the return is lost.
+
+pub fn lazy_tables_try_only_lost()
+    ensures { LazyTablesTryOnlyLost }
 {}

@@ -1,4 +1,4 @@
-//! The lazy table.
+//! The lazy table of a game: its definition, and that it is good and lazy.
 #![tactic(auto)]
 
-mod laws;
+pub mod laws;
