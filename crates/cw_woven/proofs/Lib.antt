@@ -4,3 +4,5 @@ pub mod Fields
 pub mod Differing
 pub mod Few
 pub mod Whole
+pub mod Standing
+pub mod OneReading

@@ -4,6 +4,7 @@
 mod acceptance;
 mod comparing;
 mod fault;
+pub mod laws;
 mod parts;
 mod reading;
 mod scanning;
