@@ -10,8 +10,10 @@ use Rattle.cw_syntax.specs.Trees.{File}
 use Rattle.cw_certs.specs.Tables.{Table}
 use Rattle.cw_emit.specs.Cut.{opening, closing, HasNone}
 use Rattle.cw_emit.proofs.Openings.{starts_again}
-use Rattle.cw_woven.specs.Parts.{Piece, IsCutAt, AreParts, without}
-use Rattle.cw_woven.specs.Reading.{the_prologue, ReadsWoven}
+use Rattle.cw_emit.specs.Woven.{placed}
+use Rattle.cw_tabletext.specs.TablesText.{tables_text}
+use Rattle.cw_woven.specs.Parts.{Piece, IsCutAt, AreParts, without, places}
+use Rattle.cw_woven.specs.Reading.{the_prologue, ReadsWoven, seam_marks}
 
 stands_there : (word text front rest : List ℕ) → text ≡ front ++ (word ++ rest) → starts_with nat_eq (drop (length front) text) word ≡ true
 stands_there word text front rest e = ap (λ (z : List ℕ). starts_with nat_eq z word) (ap (drop (length front)) e ∙ drop-append_seam front (word ++ rest)) ∙ starts_again word rest
@@ -62,3 +64,21 @@ read_as_one policy other text source source2 file file2 table table2 r s =
     let marks : r.marks ≡ s.marks = ap (drop 1) same.0 in
     let left : r.left ≡ s.left = same.1 in
     r.is ∙ ap (λ (z : List Piece). without z r.left) marks ∙ ap (without s.marks) left ∙ sym s.is
+
+head_inner : List Piece → List ℕ
+head_inner [] = []
+head_inner (p ∷ ps) = p.inner
+
+pub one_table_text : (policy : PlainPolicy) (text source source2 : List ℕ) (file file2 : File) (table table2 : Table) → ReadsWoven policy text source file table → ReadsWoven policy text source2 file2 table2 → tables_text policy table ≡ tables_text policy table2
+unfolding head_inner
+one_table_text policy text source source2 file file2 table table2 r s =
+    let same = one_source text (the_prologue r.has.lines ∷ r.marks) (the_prologue s.has.lines ∷ s.marks) r.left s.left r.has.parted.begins.parts r.has.parted.whole s.has.parted.begins.parts s.has.parted.whole in
+    let lines : r.has.lines ≡ s.has.lines = ap (λ (z : List Piece). drop 1 (head_inner z)) same.0 in
+    sym r.has.spells.spelled ∙ lines ∙ s.has.spells.spelled
+
+pub one_list_of_marks : (policy other : PlainPolicy) (text source source2 : List ℕ) (file file2 : File) (table table2 : Table) → ReadsWoven policy text source file table → ReadsWoven other text source2 file2 table2
+    → map (placed policy source) (seam_marks policy source file) ≡ map (placed other source2) (seam_marks other source2 file2)
+one_list_of_marks policy other text source source2 file file2 table table2 r s =
+    let same = one_source text (the_prologue r.has.lines ∷ r.marks) (the_prologue s.has.lines ∷ s.marks) r.left s.left r.has.parted.begins.parts r.has.parted.whole s.has.parted.begins.parts s.has.parted.whole in
+    let marks : r.marks ≡ s.marks = ap (drop 1) same.0 in
+    sym r.placed ∙ ap places marks ∙ s.placed
