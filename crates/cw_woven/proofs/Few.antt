@@ -1,8 +1,8 @@
 -- A program has no more marks than points.
-use Rattle.std.proofs.Common.{◌≡◌, ℕ, suc, ◌+◌, ◌<◌, ◌≤◌, List, [], ◌∷◌, ◌++◌, Bool, true, false, Option, None, Some, length, arith, length-append}
+use Rattle.std.proofs.Common.{◌≤◌, List, [], ◌∷◌, length, arith, length-append}
 use Rattle.cw_syntax.specs.Marks.{marks_in, marks_in_all, marks_from, marks_of}
 use Rattle.cw_syntax.specs.Plans.{Stm, Plain, Break, Continue, Return, Open, Close, Call, Group, Label, If, While, Do, For, Stms, end, then, Routine, Plan}
-use Rattle.cw_points.specs.Points.{count, count_all, count_from, point_count, one_if, one_if_some}
+use Rattle.cw_points.specs.Points.{count, count_all, count_from, point_count}
 
 mutual
   few_in : (s : Stm) → length (marks_in s) ≤ count s

@@ -1,14 +1,12 @@
 -- Where a word first stands in a text.
-use Rattle.std.proofs.Common.{◌≡◌, ◌≢◌, ℕ, zero, suc, ◌+◌, ◌-◌, ◌<◌, ◌≤◌, Bool, true, false, List, [], ◌∷◌, ◌++◌, Option, None, Some, length, take, drop, refl, sym, ap, subst, ◌∙◌, arith, length-take, length-drop, length-append, eqb, nat_eq, ◌⊎◌, inl, inr}
-use Rattle.std.specs.Prelude.{codes}
+use Rattle.std.proofs.Common.{◌≡◌, ℕ, zero, suc, ◌+◌, ◌-◌, ◌<◌, ◌≤◌, true, false, List, [], ◌∷◌, ◌++◌, Some, length, take, drop, refl, sym, ap, subst, ◌∙◌, arith, length-take, length-drop, length-append, eqb, nat_eq, ◌⊎◌, inl, inr}
 use Rattle.std.specs.List.{starts_with}
-use Rattle.std.proofs.Math.Seq.{take-append_seam, drop-append_seam}
+use Rattle.std.proofs.Math.Seq.{take-append_seam}
 use Rattle.std.proofs.lemmas.Bool.{and_parts, eqb-true, false_from_ne_true, cases_order}
 use Rattle.std.proofs.lemmas.List.{take-append-drop}
 use Rattle.memchr.specs.Find.{OccursAt, FindsNeedle, Nowhere}
 use Rattle.memchr.proofs.lemmas.MatchLemmas.{OccursAt-split, OccursAt-from_part}
-use Rattle.cw_emit.specs.Cut.{opening, closing, HasNone}
-use Rattle.cw_emit.proofs.Openings.{starts_again}
+use Rattle.cw_emit.specs.Cut.{closing, HasNone}
 use Rattle.cw_woven.specs.Parts.{IsCutAt, NoneBefore}
 
 -- what begins with a word is the word and the rest

@@ -1,14 +1,14 @@
 -- One part more.
-use Rattle.std.proofs.Common.{◌≡◌, ◌≢◌, ℕ, zero, suc, ◌+◌, ◌<◌, ◌≤◌, List, [], ◌∷◌, ◌++◌, Option, None, Some, length, take, drop, map, get_or, refl, sym, ap, subst, ◌∙◌, arith, append_assoc, add-one, drop-cons, inl, inr, Bor, length-append}
+use Rattle.std.proofs.Common.{◌≡◌, ◌≢◌, ℕ, ◌+◌, ◌<◌, ◌≤◌, List, [], ◌∷◌, ◌++◌, Option, None, Some, length, map, refl, sym, ap, subst, ◌∙◌, arith, inl, inr, Bor, length-append}
 use Rattle.std.specs.Prelude.{codes, IfSome, IfNone, option_map}
 use Rattle.std.proofs.lemmas.List.{append_cancel_left}
 use Rattle.std.specs.List.{AllByRecursion}
 use Rattle.cw_emit.specs.Cut.{opening, closing, HasNone}
 use Rattle.cw_woven.specs.declared.parts.Piece.{Piece as Held}
 use Rattle.cw_woven.specs.Held.{piece_of, IsPrologue}
-use Rattle.cw_woven.specs.Parts.{Piece, IsCutAt, AreParts, without, places_from}
+use Rattle.cw_woven.specs.Parts.{Piece, IsCutAt, AreParts}
 use Rattle.cw_woven.specs.Woven.{IsSpelling}
-use Rattle.cw_woven.specs.Reading.{the_prologue, BeginsParted, IsMark, IsNoMark, Begins}
+use Rattle.cw_woven.specs.Reading.{the_prologue, BeginsParted, IsMark, IsNoMark}
 use Rattle.cw_woven.proofs.Finding.{closes_behind_lf, none_behind_lf}
 
 parts_on : (text : List ℕ) (ps : List Piece) (left : List ℕ) (p : Piece) (opened after : List ℕ) → AreParts text ps left → IsCutAt opening left p.gap opened → IsCutAt closing opened p.inner after → AreParts text (ps ++ p ∷ []) after

@@ -1,5 +1,5 @@
 -- What is read stands for its source and table.
-use Rattle.std.proofs.Common.{◌≡◌, ℕ, suc, ◌+◌, ◌-◌, ◌≤◌, List, [], ◌∷◌, ◌++◌, length, take, drop, map, refl, sym, ap, subst, ◌∙◌, append_assoc, arith, length-append}
+use Rattle.std.proofs.Common.{◌≡◌, ℕ, ◌+◌, ◌-◌, List, [], ◌∷◌, ◌++◌, length, take, drop, map, refl, sym, ap, subst, ◌∙◌, append_assoc, arith, length-append}
 use Rattle.std.specs.Prelude.{codes}
 use Rattle.std.proofs.Math.Seq.{take-append_seam, drop-append_seam}
 use Rattle.cw_rights.specs.Policies.{PlainPolicy}
@@ -7,11 +7,10 @@ use Rattle.cw_syntax.specs.Trees.{File}
 use Rattle.cw_syntax.specs.Marks.{SeamMark}
 use Rattle.cw_certs.specs.Tables.{Table}
 use Rattle.cw_emit.specs.Cut.{opening, closing, part}
-use Rattle.cw_emit.specs.Woven.{placed, spelled, woven_from, woven}
-use Rattle.cw_tabletext.specs.TablesText.{tables_text}
+use Rattle.cw_emit.specs.Woven.{placed, spelled, woven_from}
 use Rattle.cw_woven.specs.Parts.{Piece, IsCutAt, AreParts, without, places_from}
 use Rattle.cw_woven.specs.Woven.{Stands, prologue}
-use Rattle.cw_woven.specs.Reading.{ReadsWoven, the_prologue, seam_marks}
+use Rattle.cw_woven.specs.Reading.{ReadsWoven, seam_marks}
 
 part_is : (text gap opened inner after : List ℕ) → IsCutAt opening text gap opened → IsCutAt closing opened inner after → text ≡ gap ++ (part inner ++ after)
 part_is text gap opened inner after o c =

@@ -1,5 +1,5 @@
 -- What a woven text is read as, and why any other text is refused.
-use Rattle.std.specs.Prelude.{◌≡◌, ◌≢◌, ℕ, ◌+◌, ◌<◌, ◌≤◌, ◌⊎◌, Option, None, Some, List, [], ◌∷◌, ◌++◌, map, length, slice_get, codes}
+use Rattle.std.specs.Prelude.{◌≡◌, ◌≢◌, ℕ, ◌+◌, ◌<◌, ◌≤◌, ◌⊎◌, None, Some, List, [], ◌∷◌, ◌++◌, map, length, slice_get, codes}
 use Rattle.std.specs.List.{AllByRecursion}
 use Rattle.cw_core.specs.Quantities.{limit_of}
 use Rattle.cw_core.specs.declared.quantity.Quantity.TheVariants.{Points, SourceBytes}
@@ -9,10 +9,7 @@ use Rattle.cw_syntax.specs.Plans.{plan_of}
 use Rattle.cw_syntax.specs.Marks.{SeamMark, marks_of}
 use Rattle.cw_actions.specs.Scenes.{names_of}
 use Rattle.cw_certs.specs.Tables.{Table}
-use Rattle.cw_lines.specs.declared.fault.TextFault.{TextFault}
-use Rattle.cw_lines.specs.declared.fault.TextFault.TheVariants as table
 use Rattle.cw_tabletext.specs.Grammar.{Spells, IsFault as IsTableFault}
-use Rattle.cw_scope.specs.declared.descriptors.DescriptorFault.{DescriptorFault}
 use Rattle.cw_scope.specs.Descriptors.{descriptor_fault}
 use Rattle.cw_source.specs.declared.fault.SourceFault.{SourceFault}
 use Rattle.cw_source.specs.declared.fault.SourceFault.TheVariants as read
@@ -21,7 +18,7 @@ use Rattle.cw_points.specs.Points.{point_count}
 use Rattle.cw_emit.specs.Cut.{opening, closing, HasNone}
 use Rattle.cw_emit.specs.Woven.{placed}
 use Rattle.cw_woven.specs.Parts.{Piece, IsCutAt, AreParts, without, places}
-use Rattle.cw_woven.specs.Woven.{IsSpelling, Stands}
+use Rattle.cw_woven.specs.Woven.{IsSpelling}
 use Rattle.cw_woven.specs.declared.fault.CutFault.{CutFault}
 use Rattle.cw_woven.specs.declared.fault.CutFault.TheVariants.{TooLong, Read, Descriptors, TooManyPoints}
 use Rattle.cw_woven.specs.declared.fault.WovenFault.{WovenFault}

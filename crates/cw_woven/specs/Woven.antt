@@ -1,5 +1,5 @@
 -- Woven texts of both formats: a prologue with the table, and the source with the marks of its seams.
-use Rattle.std.specs.Prelude.{◌≡◌, ℕ, ◌^◌, ◌<◌, ◌⊎◌, List, [], ◌∷◌, ◌++◌, IsTrue, codes}
+use Rattle.std.specs.Prelude.{◌≡◌, ℕ, ◌^◌, ◌<◌, ◌⊎◌, List, ◌++◌, IsTrue, codes}
 use Rattle.std.specs.Fmt.{decimal}
 use Rattle.cw_rights.specs.Policies.{PlainPolicy}
 use Rattle.cw_rights.specs.Valid.{is_name}

@@ -1,12 +1,8 @@
-use Rattle.std.proofs.Common.{◌≡◌, ◌+◌, ℕ, suc, List, map, drop, length, get_or, subst, refl, sym, arith, []}
+use Rattle.std.proofs.Common.{◌≡◌, ◌+◌, suc, subst, sym, arith, []}
 use Rattle.cw_rights.specs.Policies.{policy_of}
 use Rattle.cw_syntax.specs.declared.marks.SeamMark.{SeamMark as MarkHeld}
 use Rattle.cw_syntax.specs.declared.marks.MarkKind.TheVariants.{Entry}
-use Rattle.cw_syntax.specs.Marks.{mark_of}
-use Rattle.cw_emit.specs.Woven.{placed}
 use Rattle.cw_woven.specs.declared.parts.Piece.{Piece as Held}
-use Rattle.cw_woven.specs.Held.{piece_of}
-use Rattle.cw_woven.specs.Parts.{places, places_from}
 use Rattle.cw_woven.specs.Reading.{IsFirstDifference}
 use Rattle.std.proofs.lemmas.Bool.{true≢false}
 use Rattle.std.proofs.Common.{◌∙◌}
