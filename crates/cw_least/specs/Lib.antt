@@ -1,0 +1,3 @@
+-- The definitions.
+pub mod Heights
+pub mod Strategies

@@ -1,0 +1,22 @@
+//! Keys of rows.
+
+use cw_certs::Move;
+use cw_core::StateSet;
+
+/// A pair of a position and a state, the exit states at which the environment aims in its function, and its height: the
+/// least number of moves for which the pair doesn't hold where all states but those of the aim are promised; 0 where it
+/// has none.
+#[derive(Clone, Copy, Drop, PartialEq, Eq, PartialOrd, Ord)]
+pub struct Key {
+    pub height: u32,
+    pub pos: u32,
+    pub state: u16,
+    pub aim: StateSet,
+}
+
+/// A move of the environment, and where it leads.
+#[derive(Clone, Copy, Drop)]
+pub struct Way {
+    pub by: Move,
+    pub to: Key,
+}

@@ -1,0 +1,6 @@
+//! The strategy by least heights of a game.
+#![tactic(auto)]
+
+pub mod key;
+
+pub use key::{Key, Way};
