@@ -1,1 +1,7 @@
 -- The proofs.
+pub mod Sets
+pub mod Lowest
+pub mod Keys
+pub mod Moving
+pub mod Naming
+pub mod Good

@@ -1,3 +1,4 @@
 -- The definitions.
 pub mod Heights
+pub mod Kept
 pub mod Strategies
