@@ -5,3 +5,4 @@ pub mod Keys
 pub mod Moving
 pub mod Naming
 pub mod Good
+pub mod Made

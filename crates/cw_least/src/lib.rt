@@ -2,5 +2,6 @@
 #![tactic(auto)]
 
 pub mod key;
+pub mod laws;
 
 pub use key::{Key, Way};
