@@ -2,8 +2,12 @@
 #![tactic(auto)]
 
 #[cfg(test)]
+mod limit;
+#[cfg(test)]
 mod made;
 #[cfg(test)]
 mod rows;
+#[cfg(test)]
+mod slow;
 #[cfg(test)]
 mod solved;

@@ -1,14 +1,16 @@
 //! What is told of a solved game.
 
-ghost use Rattle.std.specs.Prelude.{◌≡◌, ◌<◌, Some, length, slice_get};
+ghost use Rattle.std.specs.Prelude.{◌≡◌, ◌<◌, ◌≤◌, Some, length, slice_get};
+ghost use Rattle.cw_product.specs.Product.{game_of};
 ghost use Rattle.cw_solve.specs.Contexts.{context};
 
 use crate::made::graph_of;
+use crate::slow::{Held, Needed, height, needed_contexts, tables};
 use cw_core::{PosId, StateId, StateSet};
 use cw_policies::read_policy;
 use cw_product::Game;
 use cw_solve::{SolveFault, Solved, solve};
-use std::alloc::Global;
+use std::alloc::{AllocError, Global};
 
 /// A context that is wanted, how many of its pairs are lost, and the sum of their heights.
 #[derive(Clone, Copy)]
@@ -26,8 +28,12 @@ pub enum Outcome {
     Unmade,
     TooMany(usize),
     NoMemory,
+    /// The contexts or the heights aren't those of the definition.
+    NotAsDefined,
     Other,
     AsWanted(u32),
+    /// Nothing is wanted: how many contexts and cells there are.
+    Solved(u32, u32),
 }
 
 /// How many pairs at these positions are lost under a context's promise, and the sum of their heights.
@@ -74,8 +80,91 @@ fn are_as_wanted(solved: &Solved, wanted: &[Wanted]) -> bool {
     same_number && same_first && wanted.iter().all(|w| is_as_wanted(solved, *w))
 }
 
-/// Solves the game of a source and a policy, and compares its contexts and heights.
-pub fn outcome_of(alloc: Global, policy: &[u8], source: &[u8], wanted: &[Wanted]) -> Outcome {
+/// Whether each height under a context's promise is that of the tables, for each position of its function and each state.
+fn heights_agree(solved: &Solved, tables: &[Held], number: u32, function: u16, promise: u64) -> bool
+    requires { slice_get solved.now.contexts number ≡ Some (context function promise) }
+{
+    let game = solved.game();
+    if (function as usize) < game.graph().parts.len() {
+        let entry = game.entry(function).0;
+        let exit = game.exit(function).0;
+        for p in 0..game.positions() {
+            if entry <= p && p <= exit {
+                for x in 0..game.states() {
+                    let wanted = height(tables, PosId(p), StateId(x), promise as usize);
+                    let given = match solved.height(number, PosId(p), StateId(x)) {
+                        None => None,
+                        Some(height) => Some(height as usize),
+                    };
+                    if given != wanted {
+                        return false;
+                    }
+                }
+            }
+        }
+        true
+    } else {
+        false
+    }
+}
+
+/// Whether the context is there, with the heights of the tables.
+fn context_agrees(solved: &Solved, tables: &[Held], wanted: Needed) -> bool {
+    let promise = wanted.promise as u64;
+    match solved.find(wanted.function, &StateSet::from_bits(promise)) {
+        None => false,
+        Some(number) => heights_agree(solved, tables, number, wanted.function, promise),
+    }
+}
+
+/// Whether the contexts and all their heights are those of the definition, by the slow body.
+fn are_as_defined(alloc: Global, solved: &Solved) -> Result<bool, AllocError>
+    requires few { (game_of solved.now.game).states.count ≤ 10 }
+{
+    let game = solved.game();
+    let Some(tables) = tables(alloc, game)? else {
+        return Ok(false);
+    };
+    let needed = needed_contexts(alloc, game, &tables)?;
+    if needed.len() != solved.contexts() as usize {
+        return Ok(false);
+    }
+    for wanted in &needed {
+        if !context_agrees(solved, &tables, *wanted) {
+            return Ok(false);
+        }
+    }
+    Ok(true)
+}
+
+/// Whether a game of few states is solved as the definition has it.
+fn agrees(alloc: Global, solved: &Solved) -> bool {
+    if solved.game().states() <= 10 {
+        match are_as_defined(alloc, solved) {
+            Ok(agrees) => agrees,
+            Err(_) => false,
+        }
+    } else {
+        false
+    }
+}
+
+/// What a solved game comes to.
+fn judged(alloc: Global, solved: &Solved, wanted: Option<&[Wanted]>) -> Outcome {
+    let Some(wanted) = wanted else {
+        return Outcome::Solved(solved.contexts(), solved.cells());
+    };
+    if !are_as_wanted(solved, wanted) {
+        Outcome::Other
+    } else if agrees(alloc, solved) {
+        Outcome::AsWanted(solved.cells())
+    } else {
+        Outcome::NotAsDefined
+    }
+}
+
+/// Solves the game of a source and a policy.
+fn tried(alloc: Global, policy: &[u8], source: &[u8], wanted: Option<&[Wanted]>) -> Outcome {
     let Ok(policy) = read_policy(alloc, policy) else {
         return Outcome::Unread;
     };
@@ -88,12 +177,16 @@ pub fn outcome_of(alloc: Global, policy: &[u8], source: &[u8], wanted: &[Wanted]
     match solve(alloc, &game) {
         Err(SolveFault::TooManyCells(contexts)) => Outcome::TooMany(contexts.len()),
         Err(SolveFault::NoMemory) => Outcome::NoMemory,
-        Ok(solved) => {
-            if are_as_wanted(&solved, wanted) {
-                Outcome::AsWanted(solved.cells())
-            } else {
-                Outcome::Other
-            }
-        }
+        Ok(solved) => judged(alloc, &solved, wanted),
     }
+}
+
+/// Solves a game, and compares its contexts and heights with those that are wanted, and with the slow body's, cell by cell.
+pub fn outcome_of(alloc: Global, policy: &[u8], source: &[u8], wanted: &[Wanted]) -> Outcome {
+    tried(alloc, policy, source, Some(wanted))
+}
+
+/// Solves a game, and counts its contexts and cells.
+pub fn size_of(alloc: Global, policy: &[u8], source: &[u8]) -> Outcome {
+    tried(alloc, policy, source, None)
 }
