@@ -1,3 +1,4 @@
+pub mod Bridging
 pub mod Finding
 pub mod Going
 pub mod Keeping
@@ -8,3 +9,4 @@ pub mod Only
 pub mod Ranging
 pub mod Reading
 pub mod Rows
+pub mod Sameness

@@ -1,5 +1,5 @@
 -- What holds of lazy tables: they are good, they try only what is lost to skip, and each game has one at most.
-use Rattle.std.specs.Prelude.{ℕ, ◌<◌}
+use Rattle.std.specs.Prelude.{◌≡◌, ℕ, ◌<◌}
 use Rattle.cw_certs.specs.Tables.{Table}
 use Rattle.cw_game.specs.Games.{Game, IsLost}
 use Rattle.cw_game.specs.Pairs.{has, all_states}
@@ -34,3 +34,7 @@ LazyTablesAreGood = (g : Game) (functions : ℕ) → CanBegin g functions → Is
 
 abbrev pub LazyTablesTryOnlyLost : Type 0
 LazyTablesTryOnlyLost = (g : Game) (functions : ℕ) → CanBegin g functions → (t : Table) → IsLazyTable g t → TriesOnlyLost g t
+
+-- A game has one lazy table at most; so if one has more than so many rows, each does.
+abbrev pub LazyTableIsOne : Type 0
+LazyTableIsOne = (g : Game) (s t : Table) → IsLazyTable g s → IsLazyTable g t → s ≡ t

@@ -1,6 +1,6 @@
 //! Laws of the definitions: functions that do nothing, and whose contracts hold of every value.
 
-ghost use Rattle.cw_lazy.specs.Laws.{LiveIsKept, LazyTablesAreGood, LazyTablesTryOnlyLost};
+ghost use Rattle.cw_lazy.specs.Laws.{LiveIsKept, LazyTablesAreGood, LazyTablesTryOnlyLost, LazyTableIsOne};
 
 /// What is live isn't lost, where the start isn't, and stands in a function under a promise that the game needs.
 
@@ -21,4 +21,9 @@ pub fn lazy_tables_are_good()
 
 pub fn lazy_tables_try_only_lost()
     ensures { LazyTablesTryOnlyLost }
+{}
+
+/// A game has one lazy table at most.
+pub fn lazy_table_is_one()
+    ensures { LazyTableIsOne }
 {}
