@@ -1,5 +1,5 @@
 -- What is live are the members of the closure.
-use Rattle.std.proofs.Common.{◌≡◌, ◌⊎◌, inl, inr, ⊎_elim, ℕ, zero, suc, ◌+◌, ◌<◌, List, [], ◌∷◌, ◌++◌, Bool, true, false, cond, ◌||◌, Option, Some, None, option_map, filter_map, refl, sym, ap, ap₂, ◌∙◌, subst, arith}
+use Rattle.std.proofs.Common.{◌≡◌, inl, inr, ⊎_elim, ℕ, ◌+◌, List, [], ◌∷◌, ◌++◌, Bool, true, false, cond, ◌||◌, Option, Some, None, option_map, filter_map, refl, sym, ap, ap₂, ◌∙◌, subst}
 use Rattle.std.specs.Prelude.{slice_get}
 use Rattle.std.specs.List.{Contains, cons_option}
 use Rattle.std.proofs.lemmas.Option.{none-some, same_Some}
@@ -10,12 +10,12 @@ use Rattle.cw_rights.specs.declared.capabilities.Primitive.{Primitive}
 use Rattle.cw_certs.specs.declared.moves.Move.{Move}
 use Rattle.cw_certs.specs.declared.moves.Move.TheVariants.{Skip, Try, Grant, Refuse, On, Left, Right, Opened, Failed, Stop}
 use Rattle.cw_game.specs.declared.spots.Spot.{Spot}
-use Rattle.cw_game.specs.declared.spots.Spot.TheVariants.{Visit, Exit}
-use Rattle.cw_game.specs.Games.{Game, Config, resumed, returned, leads_in, weavers_in, IsLost}
-use Rattle.cw_game.specs.Pairs.{has, all_states, Called, call_in, is_call_in, is_exit_in, kept_at}
+use Rattle.cw_game.specs.declared.spots.Spot.TheVariants.{Visit}
+use Rattle.cw_game.specs.Games.{Game, Config, resumed, leads_in, weavers_in}
+use Rattle.cw_game.specs.Pairs.{has, all_states, Called, call_in, is_call_in, is_exit_in}
 use Rattle.cw_joined.specs.Members.{IsMember, first, then, joins}
 use Rattle.cw_solve.proofs.Falls.{same_bools}
-use Rattle.cw_lazy.specs.Live.{IsLostBack, IsFull, IsLive, begins, skips, tries, moves, goes_on, calls, returns}
+use Rattle.cw_lazy.specs.Live.{IsFull, IsLive, begins, skips, tries, moves, goes_on, calls, returns}
 use Rattle.cw_lazy.specs.Closing.{Key, key, moves_on, visited, begun, answered, gone_on, after, waits, ends, back, rules, AreRight}
 use Rattle.cw_lazy.specs.Staged.{AreStaged}
 use Rattle.cw_lazy.proofs.Finding.{In, in_of, of_in}
@@ -23,7 +23,7 @@ use Rattle.cw_lazy.proofs.Finding.{In, in_of, of_in}
 kept_in : {A B : Type 0} (f : A → Option B) (xs : List A) (x : A) (y : B) → In xs x → f x ≡ Some y → In (filter_map f xs) y
 kept_in f [] x y n e = absurd n
 kept_in f (z ∷ zs) x y (inl i) e = subst (λ o. In (cons_option o (filter_map f zs)) y) (sym (ap f i ∙ e)) (inl refl)
-kept_in f (z ∷ zs) x y (inr n) e = more (f z) (filter_map f zs) (kept_in f zs x y n e)
+kept_in {B = B} f (z ∷ zs) x y (inr n) e = more (f z) (filter_map f zs) (kept_in f zs x y n e)
   where
     more : (o : Option B) (ys : List B) → In ys y → In (cons_option o ys) y
     more None ys n = n
@@ -31,7 +31,7 @@ kept_in f (z ∷ zs) x y (inr n) e = more (f z) (filter_map f zs) (kept_in f zs 
 
 kept_from : {A B : Type 0} (f : A → Option B) (xs : List A) (y : B) → In (filter_map f xs) y → (x : A) × (f x ≡ Some y)
 kept_from f [] y n = absurd n
-kept_from f (z ∷ zs) y n = by (f z) refl n (kept_from f zs y)
+kept_from {A = A} {B = B} f (z ∷ zs) y n = by (f z) refl n (kept_from f zs y)
   where
     by : (o : Option B) → f z ≡ o → In (cons_option o (filter_map f zs)) y → (In (filter_map f zs) y → (x : A) × (f x ≡ Some y)) → (x : A) × (f x ≡ Some y)
     by None e n h = h n
@@ -90,9 +90,6 @@ module _ (g : Game) (staged : AreStaged g) (lost : (p q e : ℕ) → Bool) (set 
   move_live : (k b : Key) → Live k → (o : Option Spot) → slice_get g.spots k.pos ≡ o → Contains (answered g lost set k o) b → Live b
   move_live k b live o es c = by (weavers_in o) (is_call_in o) refl refl c
     where
-      f : Move → Option Key
-      f by = option_map (λ (c : Config). key c.pos c.state k.promise) (leads_in g k.pos k.state [] o by)
-
       by : (w v : Bool) → weavers_in o ≡ w → is_call_in o ≡ v → Contains (cond (w || v) [] (filter_map (λ by. option_map (λ (c : Config). key c.pos c.state k.promise) (leads_in g k.pos k.state [] o by)) moves_on)) b → Live b
       by true v ew ev c = absurd (nothing b c)
       by false true ew ev c = absurd (nothing b c)
@@ -136,3 +133,91 @@ module _ (g : Game) (staged : AreStaged g) (lost : (p q e : ℕ) → Bool) (set 
   member_live k first = begins
   member_live k (then a b m c) = after_live a b (member_live a m) c
   member_live k (joins a b x m n w e) = join_live a b x (member_live a m) (member_live b n) (call_in (slice_get g.spots a.pos)) refl w e
+
+  -- back
+  in_moves : (p q : ℕ) (o : Option Spot) (by : Move) (c : Config) → weavers_in o ≡ false → leads_in g p q [] o by ≡ Some c → In moves_on by
+  in_moves p q o Grant c w l = inl refl
+  in_moves p q o Refuse c w l = inr (inl refl)
+  in_moves p q o On c w l = inr (inr (inl refl))
+  in_moves p q o Left c w l = inr (inr (inr (inl refl)))
+  in_moves p q o Right c w l = inr (inr (inr (inr (inl refl))))
+  in_moves p q o Opened c w l = inr (inr (inr (inr (inr (inl refl)))))
+  in_moves p q o Failed c w l = inr (inr (inr (inr (inr (inr (inl refl))))))
+  in_moves p q (Some (Visit j i a)) Skip c w l = cc
+  in_moves p q _ Skip c w l = absurd (none-some c l)
+  in_moves p q (Some (Visit j i a)) Try c w l = cc
+  in_moves p q _ Try c w l = absurd (none-some c l)
+  in_moves p q (Some (Visit j i a)) Stop c w l = cc
+  in_moves p q _ Stop c w l = absurd (none-some c l)
+
+  Member : Key → Type 0
+  Member k = IsMember (rules g lost set) start k
+
+  to_visited : (k b : Key) → Contains (visited g lost set k (slice_get g.spots k.pos)) b → Contains (after g lost set k (slice_get g.spots k.pos)) b
+  to_visited k b c =
+      let o = slice_get g.spots k.pos in
+      let r = resumed g k.pos k.state in
+      Contains-append_left (visited g lost set k o ++ begun g lost set k (call_in o)) (answered g lost set k o ++ gone_on g lost set k r) b (Contains-append_left (visited g lost set k o) (begun g lost set k (call_in o)) b c)
+
+  to_begun : (k b : Key) → Contains (begun g lost set k (call_in (slice_get g.spots k.pos))) b → Contains (after g lost set k (slice_get g.spots k.pos)) b
+  to_begun k b c =
+      let o = slice_get g.spots k.pos in
+      let r = resumed g k.pos k.state in
+      Contains-append_left (visited g lost set k o ++ begun g lost set k (call_in o)) (answered g lost set k o ++ gone_on g lost set k r) b (Contains-append_right (visited g lost set k o) (begun g lost set k (call_in o)) b c)
+
+  to_answered : (k b : Key) → Contains (answered g lost set k (slice_get g.spots k.pos)) b → Contains (after g lost set k (slice_get g.spots k.pos)) b
+  to_answered k b c =
+      let o = slice_get g.spots k.pos in
+      let r = resumed g k.pos k.state in
+      Contains-append_right (visited g lost set k o ++ begun g lost set k (call_in o)) (answered g lost set k o ++ gone_on g lost set k r) b (Contains-append_left (answered g lost set k o) (gone_on g lost set k r) b c)
+
+  to_gone : (k b : Key) → Contains (gone_on g lost set k (resumed g k.pos k.state)) b → Contains (after g lost set k (slice_get g.spots k.pos)) b
+  to_gone k b c =
+      let o = slice_get g.spots k.pos in
+      let r = resumed g k.pos k.state in
+      Contains-append_right (visited g lost set k o ++ begun g lost set k (call_in o)) (answered g lost set k o ++ gone_on g lost set k r) b (Contains-append_right (answered g lost set k o) (gone_on g lost set k r) b c)
+
+  is_false : (b : Bool) → (b ≡ true → ⊥) → b ≡ false
+  is_false true h = absurd (h refl)
+  is_false false h = refl
+
+  is_true : (b : Bool) → (b ≡ false → ⊥) → b ≡ true
+  is_true true h = refl
+  is_true false h = absurd (h refl)
+
+  visit_to : (p q e j i : ℕ) (a : Primitive) (l : Bool) → slice_get g.spots p ≡ Some (Visit j i a) → lost (p + 2) q e ≡ l → Contains (visited g lost set (key p q e) (slice_get g.spots p)) (key (cond l (p + 1) (p + 2)) q e)
+  visit_to p q e j i a l es el =
+      subst (λ o. Contains (visited g lost set (key p q e) o) (key (cond l (p + 1) (p + 2)) q e)) (sym es)
+      (subst (λ b. Contains (key (cond b (p + 1) (p + 2)) q e ∷ []) (key (cond l (p + 1) (p + 2)) q e)) (sym el) (the_one (key (cond l (p + 1) (p + 2)) q e)))
+
+  move_to : (p q e : ℕ) (o : Option Spot) (by : Move) (c : Config) → weavers_in o ≡ false → is_call_in o ≡ false → leads_in g p q [] o by ≡ Some c → Contains (answered g lost set (key p q e) o) (key c.pos c.state e)
+  move_to p q e o by c w k l =
+      subst (λ b. Contains (cond b [] (filter_map (λ by. option_map (λ (c : Config). key c.pos c.state e) (leads_in g p q [] o by)) moves_on)) (key c.pos c.state e)) (sym (ap₂ (λ x y. x || y) w k))
+      (of_in _ _ (kept_in (λ by. option_map (λ (c : Config). key c.pos c.state e) (leads_in g p q [] o by)) moves_on by (key c.pos c.state e) (in_moves p q o by c w l) (ap (option_map (λ (c : Config). key c.pos c.state e)) l)))
+
+  pub live_member : (p q e : ℕ) → IsLive g p q e → IsMember (rules g lost set) start (key p q e)
+  live_member p q e begins = first
+  live_member r x y (skips p q e j i a live es n) =
+      let l = is_false (lost (p + 2) q e) (λ t. n (right.skip_lost p q e j i a live es t)) in
+      then (key p q e) (key (p + 2) q e) (live_member p q e live) (to_visited (key p q e) (key (p + 2) q e) (visit_to p q e j i a false es l))
+  live_member r x y (tries p q e j i a live es k) =
+      let l = is_true (lost (p + 2) q e) (λ t. right.skip_kept p q e j i a live es t k) in
+      then (key p q e) (key (p + 1) q e) (live_member p q e live) (to_visited (key p q e) (key (p + 1) q e) (visit_to p q e j i a true es l))
+  live_member r x y (moves p q e by next live w k l) =
+      then (key p q e) (key next.pos next.state e) (live_member p q e live) (to_answered (key p q e) (key next.pos next.state e) (move_to p q e (slice_get g.spots p) by next w k l))
+  live_member r x y (goes_on p q e pair live is n) =
+      let l = is_false (lost pair.0 pair.1 e) (λ t. n (right.on_lost p q e pair live is t)) in
+      then (key p q e) (key pair.0 pair.1 e) (live_member p q e live) (to_gone (key p q e) (key pair.0 pair.1 e)
+      (subst (λ o. Contains (gone_on g lost set (key p q e) o) (key pair.0 pair.1 e)) (sym is) (subst (λ b. Contains (cond b [] (key pair.0 pair.1 e ∷ [])) (key pair.0 pair.1 e)) (sym l) (the_one (key pair.0 pair.1 e)))))
+  live_member r x y (calls p q e s call live es f) =
+      let same : set p q e ≡ s = full_is g call q e (set p q e) s (right.full p q e call live es) f in
+      subst (λ z. IsMember (rules g lost set) start (key (g.entry call.function) q z)) same
+      (then (key p q e) (key (g.entry call.function) q (set p q e)) (live_member p q e live) (to_begun (key p q e) (key (g.entry call.function) q (set p q e))
+      (subst (λ o. Contains (begun g lost set (key p q e) o) (key (g.entry call.function) q (set p q e))) (sym es) (the_one (key (g.entry call.function) q (set p q e))))))
+  live_member r x y (returns p q e s z call live es f ended) =
+      let same : set p q e ≡ s = full_is g call q e (set p q e) s (right.full p q e call live es) f in
+      let b = key (g.exit call.function) z s in
+      let w : waits g lost set (key p q e) (call_in (slice_get g.spots p)) ≡ Some (g.exit call.function, s) = ap (waits g lost set (key p q e)) es ∙ ap (λ y. Some (g.exit call.function, y)) same in
+      let v : ends g lost set b (slice_get g.spots (g.exit call.function)) ≡ Some (g.exit call.function, s) = ap (ends g lost set b) (staged.ends p call es) in
+      subst (λ o. IsMember (rules g lost set) start (back g lost set (key p q e) o b)) es
+      (joins (key p q e) b (g.exit call.function, s) (live_member p q e live) (live_member (g.exit call.function) z s ended) w v)

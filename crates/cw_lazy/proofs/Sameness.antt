@@ -1,8 +1,8 @@
 -- A game has one lazy table at most.
-use Rattle.std.proofs.Common.{◌≡◌, ◌⊎◌, inl, inr, ⊎_elim, ℕ, zero, suc, ◌<◌, List, [], ◌∷◌, Bool, Option, Some, None, refl, sym, ap, ap₂, ◌∙◌, subst, arith}
+use Rattle.std.proofs.Common.{◌≡◌, inl, inr, ⊎_elim, ℕ, zero, suc, List, [], ◌∷◌, Some, refl, sym, ap, ap₂, ◌∙◌, subst}
 use Rattle.std.specs.Prelude.{slice_get}
 use Rattle.std.specs.Cmp.{IsTotalOrder, bool_cmp_total}
-use Rattle.std.specs.List.{AllByRecursion, Contains}
+use Rattle.std.specs.List.{AllByRecursion}
 use Rattle.std.specs.List.Sorted.{IsStrictlySortedBy}
 use Rattle.std.specs.Ordering.{ordering_reverse}
 use Rattle.std.specs.declared.cmp.Ordering.{Ordering}
@@ -10,13 +10,6 @@ use Rattle.std.specs.declared.cmp.Ordering.TheVariants.{Less}
 use Rattle.std.proofs.lemmas.Cmp.{nat_cmp_total, on_total, then_total}
 use Rattle.std.proofs.lemmas.Option.{none-some, same_Some}
 use Rattle.cw_core.specs.declared.ids.StateId.{StateId}
-use Rattle.cw_core.specs.declared.ids.MemId.{MemId}
-use Rattle.cw_core.specs.declared.ids.PosId.{PosId}
-use Rattle.cw_certs.specs.declared.rows.TryRow.{TryRow}
-use Rattle.cw_certs.specs.declared.rows.AtRow.{AtRow}
-use Rattle.cw_certs.specs.declared.rows.OpenRow.{OpenRow}
-use Rattle.cw_certs.specs.declared.rows.IntoRow.{IntoRow}
-use Rattle.cw_certs.specs.declared.rows.BackRow.{BackRow}
 use Rattle.cw_certs.specs.Tables.{Table, table_with}
 use Rattle.cw_certs.specs.Ascending.{mem_cmp, live_cmp, try_cmp, at_cmp, open_cmp, into_cmp, back_cmp}
 use Rattle.cw_closure.specs.Closures.{Exactly}

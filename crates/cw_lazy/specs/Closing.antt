@@ -1,14 +1,12 @@
 -- Working definitions: what is live as the members of a closure, by a test that tells what is lost and a set for each call.
 use Rattle.std.specs.Prelude.{◌≡◌, ℕ, ◌+◌, List, [], ◌∷◌, ◌++◌, Bool, true, false, cond, ◌||◌, Option, Some, None, option_map, filter_map, slice_get}
-use Rattle.cw_core.specs.declared.ids.StateId.{StateId}
-use Rattle.cw_core.specs.declared.ids.PosId.{PosId}
 use Rattle.cw_rights.specs.declared.capabilities.Primitive.{Primitive}
 use Rattle.cw_certs.specs.declared.moves.Move.{Move}
 use Rattle.cw_certs.specs.declared.moves.Move.TheVariants.{Grant, Refuse, On, Left, Right, Opened, Failed}
 use Rattle.cw_game.specs.declared.spots.Spot.{Spot}
 use Rattle.cw_game.specs.declared.spots.Spot.TheVariants.{Visit}
 use Rattle.cw_game.specs.Games.{Game, Config, resumed, returned, leads_in, weavers_in, IsLost}
-use Rattle.cw_game.specs.Pairs.{has, all_states, Called, call_in, is_call_in, is_exit_in, kept_at}
+use Rattle.cw_game.specs.Pairs.{has, Called, call_in, is_call_in, is_exit_in, kept_at}
 use Rattle.cw_joined.specs.Members.{Rules}
 use Rattle.cw_lazy.specs.Live.{IsFull, IsLive}
 

@@ -1,4 +1,3 @@
-use Rattle.cw_lazy.proofs.Bridging.{member_live}
 use Rattle.cw_lazy.proofs.Sameness.{lazy_is_one}
 use Rattle.cw_lazy.proofs.laws.lazy_table_is_one.Goals as goal
 
