@@ -10,3 +10,4 @@ pub mod Ranging
 pub mod Reading
 pub mod Rows
 pub mod Sameness
+pub mod Staging

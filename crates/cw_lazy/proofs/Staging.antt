@@ -1,0 +1,146 @@
+-- What is asked among the positions of a graph's points: behind its visit, and nowhere else.
+use Rattle.std.proofs.Common.{◌≡◌, ℕ, zero, suc, ◌+◌, List, [], ◌∷◌, ◌++◌, Bool, true, false, cond, Option, Some, None, refl, sym, ap, ◌∙◌, subst, arith}
+use Rattle.std.specs.Prelude.{slice_get}
+use Rattle.std.proofs.lemmas.Option.{none-some, same_Some}
+use Rattle.cw_rights.specs.declared.capabilities.Primitive.{Primitive}
+use Rattle.cw_rights.specs.Policies.{PlainPolicy}
+use Rattle.cw_game.specs.declared.spots.Spot.{Spot}
+use Rattle.cw_game.specs.declared.spots.Spot.TheVariants as spot
+use Rattle.cw_points.specs.declared.graph.Point.{Point}
+use Rattle.cw_points.specs.declared.graph.Point.TheVariants as point
+use Rattle.cw_points.specs.declared.graph.Node.{Node}
+use Rattle.cw_points.specs.declared.graph.Part.{Part}
+use Rattle.cw_points.specs.Walks.{first_of, second_of}
+use Rattle.cw_points.proofs.Held.{HasAt}
+use Rattle.cw_positions.specs.Positions.{is_split, primitives_at, width, base, visits, free, number, to, spots_at, spots_in}
+use Rattle.cw_positions.proofs.Lengths.{width_at}
+use Rattle.cw_positions.proofs.Standing.{stands, found}
+
+-- neither a visit nor what is asked
+abbrev pub is_quiet : Spot → Bool
+is_quiet (spot.Visit j i a) = false
+is_quiet (spot.Asked j i a) = false
+is_quiet _ = true
+
+abbrev pub AreQuiet : List Spot → Type 0
+AreQuiet ss = (k : ℕ) (s : Spot) → slice_get ss k ≡ Some s → is_quiet s ≡ true
+
+one_quiet : (s : Spot) → is_quiet s ≡ true → AreQuiet (s ∷ [])
+one_quiet s h zero t e = subst (λ t. is_quiet t ≡ true) (same_Some s t e) h
+one_quiet s h (suc k) t e = absurd (none-some t e)
+
+two_quiet : (b : Bool) (s t : Spot) → is_quiet s ≡ true → is_quiet t ≡ true → AreQuiet (s ∷ cond b (t ∷ []) [])
+two_quiet true s t h k zero u e = subst (λ t. is_quiet t ≡ true) (same_Some s u e) h
+two_quiet true s t h k (suc zero) u e = subst (λ t. is_quiet t ≡ true) (same_Some t u e) k
+two_quiet true s t h k (suc (suc i)) u e = absurd (none-some u e)
+two_quiet false s t h k zero u e = subst (λ t. is_quiet t ≡ true) (same_Some s u e) h
+two_quiet false s t h k (suc i) u e = absurd (none-some u e)
+
+pub free_quiet : (parts : List Part) (p : Point) (f j l r : ℕ) → AreQuiet (free parts p f j l r)
+free_quiet parts point.Entry f j l r = one_quiet (spot.Step l) refl
+free_quiet parts point.Step f j l r = one_quiet (spot.Step l) refl
+free_quiet parts point.Branch f j l r = one_quiet (spot.Branch l r) refl
+free_quiet parts (point.Label n) f j l r = one_quiet (spot.Label j n l) refl
+free_quiet parts (point.Open d) f j l r = one_quiet (spot.Open j d l) refl
+free_quiet parts (point.Close d) f j l r = one_quiet (spot.Close j d l) refl
+free_quiet parts (point.Call m) f j l r = two_quiet (is_split parts m) (spot.Call j m l) (spot.SplitCall j m l) refl refl
+free_quiet parts point.Exit f j l r = one_quiet (spot.Exit f) refl
+
+-- what a visit asks
+abbrev asked_of : Spot → Spot
+asked_of (spot.Visit j i a) = spot.Asked j i a
+asked_of s = s
+
+module _ (rest : List Spot) (quiet : AreQuiet rest) where
+  no_visit : (k j i : ℕ) (a : Primitive) → slice_get rest k ≡ Some (spot.Visit j i a) → ⊥
+  no_visit k j i a e = let w : false ≡ true = quiet k (spot.Visit j i a) e in cc
+
+  no_asked : (k j i : ℕ) (a : Primitive) → slice_get rest k ≡ Some (spot.Asked j i a) → ⊥
+  no_asked k j i a e = let w : false ≡ true = quiet k (spot.Asked j i a) e in cc
+
+  -- a visit has what it asks behind it
+  behind_in : (j i : ℕ) (ps : List Primitive) (k x y : ℕ) (a : Primitive) → slice_get (visits j i ps ++ rest) k ≡ Some (spot.Visit x y a) → slice_get (visits j i ps ++ rest) (suc k) ≡ Some (spot.Asked x y a)
+  behind_in j i [] k x y a e = absurd (no_visit k x y a e)
+  behind_in j i (b ∷ ps) zero x y a e = ap (λ s. Some (asked_of s)) (same_Some (spot.Visit j i b) (spot.Visit x y a) e)
+  behind_in j i (b ∷ ps) (suc zero) x y a e = let w : spot.Asked j i b ≡ spot.Visit x y a = same_Some (spot.Asked j i b) (spot.Visit x y a) e in cc
+  behind_in j i (b ∷ ps) (suc (suc k)) x y a e = behind_in j (suc i) ps k x y a e
+
+  -- nothing is asked at the front, nor right past a visit
+  front_in : (j i : ℕ) (ps : List Primitive) (x y : ℕ) (a : Primitive) → slice_get (visits j i ps ++ rest) 0 ≡ Some (spot.Asked x y a) → ⊥
+  front_in j i [] x y a e = no_asked 0 x y a e
+  front_in j i (b ∷ ps) x y a e = let w : spot.Visit j i b ≡ spot.Asked x y a = same_Some (spot.Visit j i b) (spot.Asked x y a) e in cc
+
+  past_in : (j i : ℕ) (ps : List Primitive) (k x y z w : ℕ) (a b : Primitive) → slice_get (visits j i ps ++ rest) k ≡ Some (spot.Visit x y a) → slice_get (visits j i ps ++ rest) (suc (suc k)) ≡ Some (spot.Asked z w b) → ⊥
+  past_in j i [] k x y z w a b e f = no_visit k x y a e
+  past_in j i (c ∷ ps) zero x y z w a b e f = front_in j (suc i) ps z w b f
+  past_in j i (c ∷ ps) (suc zero) x y z w a b e f = let v : spot.Asked j i c ≡ spot.Visit x y a = same_Some (spot.Asked j i c) (spot.Visit x y a) e in cc
+  past_in j i (c ∷ ps) (suc (suc k)) x y z w a b e f = past_in j (suc i) ps k x y z w a b e f
+
+  -- something stands at the front, and right past a visit
+  front_there : (j i : ℕ) (ps : List Primitive) (x : Spot) → slice_get rest 0 ≡ Some x → (s : Spot) × (slice_get (visits j i ps ++ rest) 0 ≡ Some s)
+  front_there j i [] x e = (x, e)
+  front_there j i (b ∷ ps) x e = (spot.Visit j i b, refl)
+
+  past_there : (j i : ℕ) (ps : List Primitive) (x : Spot) → slice_get rest 0 ≡ Some x → (k y z : ℕ) (a : Primitive) → slice_get (visits j i ps ++ rest) k ≡ Some (spot.Visit y z a) → (s : Spot) × (slice_get (visits j i ps ++ rest) (suc (suc k)) ≡ Some s)
+  past_there j i [] x e k y z a h = absurd (no_visit k y z a h)
+  past_there j i (b ∷ ps) x e zero y z a h = front_there j (suc i) ps x e
+  past_there j i (b ∷ ps) x e (suc zero) y z a h = let v : spot.Asked j i b ≡ spot.Visit y z a = same_Some (spot.Asked j i b) (spot.Visit y z a) h in cc
+  past_there j i (b ∷ ps) x e (suc (suc k)) y z a h = past_there j (suc i) ps x e k y z a h
+
+free_there : (parts : List Part) (p : Point) (f j l r : ℕ) → (s : Spot) × (slice_get (free parts p f j l r) 0 ≡ Some s)
+free_there parts point.Entry f j l r = (spot.Step l, refl)
+free_there parts point.Step f j l r = (spot.Step l, refl)
+free_there parts point.Branch f j l r = (spot.Branch l r, refl)
+free_there parts (point.Label n) f j l r = (spot.Label j n l, refl)
+free_there parts (point.Open d) f j l r = (spot.Open j d l, refl)
+free_there parts (point.Close d) f j l r = (spot.Close j d l, refl)
+free_there parts (point.Call m) f j l r = (spot.Call j m l, refl)
+free_there parts point.Exit f j l r = (spot.Exit f, refl)
+
+has_get : {A : Type 0} (g : List A) (p : ℕ) (ss : List A) (k : ℕ) (x : A) → HasAt g p ss → slice_get ss k ≡ Some x → slice_get g (p + k) ≡ Some x
+has_get g p [] k x h e = absurd (none-some x e)
+has_get g p (s ∷ ss) zero x h e = let z : p + 0 ≡ p = omega arith in ap (slice_get g) z ∙ h.0 ∙ e
+has_get g p (s ∷ ss) (suc k) x h e = let z : p + suc k ≡ p + 1 + k = omega arith in ap (slice_get g) z ∙ has_get g (p + 1) ss k x h.1 e
+
+module _ (policy : PlainPolicy) (parts : List Part) (ns : List Node) where
+  abbrev at : ℕ → ℕ
+  at = base policy parts ns
+
+  abbrev rest_of : Node → List Spot
+  rest_of n = free parts n.point n.function (number n.seam) (to at (first_of n.next)) (to at (second_of n.next))
+
+  rest_quiet : (n : Node) → AreQuiet (rest_of n)
+  rest_quiet n = free_quiet parts n.point n.function (number n.seam) (to at (first_of n.next)) (to at (second_of n.next))
+
+  -- what stands at a place of a point
+  of_point : (p : ℕ) (n : Node) (k : ℕ) (s : Spot) → slice_get ns p ≡ Some n → slice_get (spots_at policy parts at n) k ≡ Some s → slice_get (spots_in policy parts ns) (at p + k) ≡ Some s
+  of_point p n k s en e = has_get (spots_in policy parts ns) (at p) (spots_at policy parts at n) k s (stands (spots_at policy parts at) (λ (m : Node). width policy parts m.point) (width_at policy parts at) ns p n en) e
+
+  -- a visit has what it asks behind it
+  pub visit_behind : (q j i : ℕ) (a : Primitive) → slice_get (spots_in policy parts ns) q ≡ Some (spot.Visit j i a) → slice_get (spots_in policy parts ns) (q + 1) ≡ Some (spot.Asked j i a)
+  visit_behind q j i a e =
+      let r = found (spots_at policy parts at) (λ (m : Node). width policy parts m.point) (width_at policy parts at) ns q (spot.Visit j i a) e in
+      let n = r.1 in
+      let k = behind_in (rest_of n) (rest_quiet n) (number n.seam) 0 (primitives_at policy parts n.point) r.2 j i a r.4 in
+      let z : at r.0 + suc r.2 ≡ q + 1 = omega (arith, r.5) in
+      sym (ap (slice_get (spots_in policy parts ns)) z) ∙ of_point r.0 n (suc r.2) (spot.Asked j i a) r.3 k
+
+  -- nothing is asked right past a visit
+  pub visit_past : (q j i x y : ℕ) (a b : Primitive) → slice_get (spots_in policy parts ns) q ≡ Some (spot.Visit j i a) → slice_get (spots_in policy parts ns) (q + 2) ≡ Some (spot.Asked x y b) → ⊥
+  visit_past q j i x y a b e f =
+      let r = found (spots_at policy parts at) (λ (m : Node). width policy parts m.point) (width_at policy parts at) ns q (spot.Visit j i a) e in
+      let n = r.1 in
+      let u = free_there parts n.point n.function (number n.seam) (to at (first_of n.next)) (to at (second_of n.next)) in
+      let v = past_there (rest_of n) (rest_quiet n) (number n.seam) 0 (primitives_at policy parts n.point) u.0 u.1 r.2 j i a r.4 in
+      let z : at r.0 + suc (suc r.2) ≡ q + 2 = omega (arith, r.5) in
+      let same : v.0 ≡ spot.Asked x y b = same_Some v.0 (spot.Asked x y b) (sym (of_point r.0 n (suc (suc r.2)) v.0 r.3 v.1) ∙ ap (slice_get (spots_in policy parts ns)) z ∙ f) in
+      past_in (rest_of n) (rest_quiet n) (number n.seam) 0 (primitives_at policy parts n.point) r.2 j i x y a b r.4 (v.1 ∙ ap Some same)
+
+  -- nor where a point begins
+  pub front_unasked : (p : ℕ) (n : Node) (x y : ℕ) (b : Primitive) → slice_get ns p ≡ Some n → slice_get (spots_in policy parts ns) (at p) ≡ Some (spot.Asked x y b) → ⊥
+  front_unasked p n x y b en f =
+      let u = free_there parts n.point n.function (number n.seam) (to at (first_of n.next)) (to at (second_of n.next)) in
+      let v = front_there (rest_of n) (rest_quiet n) (number n.seam) 0 (primitives_at policy parts n.point) u.0 u.1 in
+      let z : at p + 0 ≡ at p = omega arith in
+      let same : v.0 ≡ spot.Asked x y b = same_Some v.0 (spot.Asked x y b) (sym (of_point p n 0 v.0 en v.1) ∙ ap (slice_get (spots_in policy parts ns)) z ∙ f) in
+      front_in (rest_of n) (rest_quiet n) (number n.seam) 0 (primitives_at policy parts n.point) x y b (v.1 ∙ ap Some same)
