@@ -1,5 +1,5 @@
 -- What is asked among the positions of a graph's points: behind its visit, and nowhere else.
-use Rattle.std.proofs.Common.{◌≡◌, ℕ, zero, suc, ◌+◌, List, [], ◌∷◌, ◌++◌, Bool, true, false, cond, Option, Some, None, refl, sym, ap, ◌∙◌, subst, arith}
+use Rattle.std.proofs.Common.{◌≡◌, ℕ, zero, suc, ◌+◌, ◌*◌, List, [], ◌∷◌, ◌++◌, Bool, true, false, cond, Option, Some, None, refl, sym, ap, ap₂, ◌∙◌, subst, arith, ⊎_elim}
 use Rattle.std.specs.Prelude.{slice_get}
 use Rattle.std.proofs.lemmas.Option.{none-some, same_Some}
 use Rattle.cw_rights.specs.declared.capabilities.Primitive.{Primitive}
@@ -14,6 +14,8 @@ use Rattle.cw_points.specs.Walks.{first_of, second_of}
 use Rattle.cw_points.proofs.Held.{HasAt}
 use Rattle.cw_positions.specs.Positions.{is_split, primitives_at, width, base, visits, free, number, to, spots_at, spots_in}
 use Rattle.cw_positions.proofs.Lengths.{width_at}
+use Rattle.cw_positions.proofs.Seaming.{is_seam_point, AreSeams, seam_at}
+use Rattle.cw_points.specs.declared.graph.Seam.{Seam}
 use Rattle.cw_positions.proofs.Standing.{stands, found}
 
 -- neither a visit nor what is asked
@@ -51,6 +53,14 @@ abbrev asked_of : Spot → Spot
 asked_of (spot.Visit j i a) = spot.Asked j i a
 asked_of s = s
 
+abbrev seam_of : Spot → ℕ
+seam_of (spot.Asked j i a) = j
+seam_of _ = 0
+
+abbrev stage_of : Spot → ℕ
+stage_of (spot.Asked j i a) = i
+stage_of _ = 0
+
 module _ (rest : List Spot) (quiet : AreQuiet rest) where
   no_visit : (k j i : ℕ) (a : Primitive) → slice_get rest k ≡ Some (spot.Visit j i a) → ⊥
   no_visit k j i a e = let w : false ≡ true = quiet k (spot.Visit j i a) e in cc
@@ -86,6 +96,20 @@ module _ (rest : List Spot) (quiet : AreQuiet rest) where
   past_there j i (b ∷ ps) x e zero y z a h = front_there j (suc i) ps x e
   past_there j i (b ∷ ps) x e (suc zero) y z a h = let v : spot.Asked j i b ≡ spot.Visit y z a = same_Some (spot.Asked j i b) (spot.Visit y z a) h in cc
   past_there j i (b ∷ ps) x e (suc (suc k)) y z a h = past_there j (suc i) ps x e k y z a h
+
+  -- where a stage is asked
+  asked_place : (j i : ℕ) (ps : List Primitive) (k x y : ℕ) (a : Primitive) → slice_get (visits j i ps ++ rest) k ≡ Some (spot.Asked x y a) → (h : ℕ) × (j ≡ x) × (i + h ≡ y) × (k ≡ 2 * h + 1)
+  asked_place j i [] k x y a e = absurd (no_asked k x y a e)
+  asked_place j i (b ∷ ps) zero x y a e = let v : spot.Visit j i b ≡ spot.Asked x y a = same_Some (spot.Visit j i b) (spot.Asked x y a) e in cc
+  asked_place j i (b ∷ ps) (suc zero) x y a e =
+      let v : spot.Asked j i b ≡ spot.Asked x y a = same_Some (spot.Asked j i b) (spot.Asked x y a) e in
+      let is : i + 0 ≡ y = omega (arith, ap stage_of v) in
+      (0, ap seam_of v, is, refl)
+  asked_place j i (b ∷ ps) (suc (suc k)) x y a e =
+      let r = asked_place j (suc i) ps k x y a e in
+      let is : i + suc r.0 ≡ y = omega (arith, r.2) in
+      let at : suc (suc k) ≡ 2 * suc r.0 + 1 = omega (arith, r.3) in
+      (suc r.0, r.1, is, at)
 
 free_there : (parts : List Part) (p : Point) (f j l r : ℕ) → (s : Spot) × (slice_get (free parts p f j l r) 0 ≡ Some s)
 free_there parts point.Entry f j l r = (spot.Step l, refl)
@@ -144,3 +168,48 @@ module _ (policy : PlainPolicy) (parts : List Part) (ns : List Node) where
       let z : at p + 0 ≡ at p = omega arith in
       let same : v.0 ≡ spot.Asked x y b = same_Some v.0 (spot.Asked x y b) (sym (of_point p n 0 v.0 en v.1) ∙ ap (slice_get (spots_in policy parts ns)) z ∙ f) in
       front_in (rest_of n) (rest_quiet n) (number n.seam) 0 (primitives_at policy parts n.point) x y b (v.1 ∙ ap Some same)
+
+  -- what is asked stands at a point with a seam
+  asked_seam : (p : Point) (f j l r k x y : ℕ) (a : Primitive) → slice_get (visits j 0 (primitives_at policy parts p) ++ free parts p f j l r) k ≡ Some (spot.Asked x y a) → is_seam_point p ≡ true
+  asked_seam point.Entry f j l r k x y a e = refl
+  asked_seam point.Step f j l r k x y a e = absurd (no_asked (free parts point.Step f j l r) (free_quiet parts point.Step f j l r) k x y a e)
+  asked_seam point.Branch f j l r k x y a e = absurd (no_asked (free parts point.Branch f j l r) (free_quiet parts point.Branch f j l r) k x y a e)
+  asked_seam (point.Label n) f j l r k x y a e = refl
+  asked_seam (point.Open d) f j l r k x y a e = refl
+  asked_seam (point.Close d) f j l r k x y a e = refl
+  asked_seam (point.Call m) f j l r k x y a e = refl
+  asked_seam point.Exit f j l r k x y a e = absurd (no_asked (free parts point.Exit f j l r) (free_quiet parts point.Exit f j l r) k x y a e)
+
+  module _ (ss : List Seam) (are : AreSeams 0 0 ns ss) where
+    -- the seam of a point
+    seam_point : (p : ℕ) (n : Node) (j : ℕ) → slice_get ns p ≡ Some n → is_seam_point n.point ≡ true → number n.seam ≡ j → (s : Seam) × (slice_get ss j ≡ Some s) × (s.point.0 ≡ p)
+    seam_point p n j en h e =
+        ⊎_elim
+        (λ b. let w : true ≡ false = sym h ∙ b.1 in cc)
+        (λ r.
+        let z : r.0 ≡ j = omega (arith, ap number r.2.0, e) in
+        let at : r.1.point.0 ≡ p = omega (arith, r.4) in
+        (r.1, ap (slice_get ss) (sym z) ∙ r.3, at))
+        (seam_at 0 0 ns ss p n are en)
+
+    -- points with one seam are one
+    pub one_point : (p r : ℕ) (n m : Node) (j : ℕ) → slice_get ns p ≡ Some n → slice_get ns r ≡ Some m → is_seam_point n.point ≡ true → is_seam_point m.point ≡ true → number n.seam ≡ j → number m.seam ≡ j → p ≡ r
+    one_point p r n m j en em hn hm jn jm =
+        let a = seam_point p n j en hn jn in
+        let b = seam_point r m j em hm jm in
+        sym a.2 ∙ ap (λ (s : Seam). s.point.0) (same_Some a.0 b.0 (sym a.1 ∙ b.1)) ∙ b.2
+
+    -- a stage of a seam is asked at one position
+    pub asked_once : (q w j i : ℕ) (a b : Primitive) → slice_get (spots_in policy parts ns) q ≡ Some (spot.Asked j i a) → slice_get (spots_in policy parts ns) w ≡ Some (spot.Asked j i b) → q ≡ w
+    asked_once q w j i a b e f =
+        let r = found (spots_at policy parts at) (λ (m : Node). width policy parts m.point) (width_at policy parts at) ns q (spot.Asked j i a) e in
+        let v = found (spots_at policy parts at) (λ (m : Node). width policy parts m.point) (width_at policy parts at) ns w (spot.Asked j i b) f in
+        let n = r.1 in
+        let m = v.1 in
+        let x = asked_place (rest_of n) (rest_quiet n) (number n.seam) 0 (primitives_at policy parts n.point) r.2 j i a r.4 in
+        let y = asked_place (rest_of m) (rest_quiet m) (number m.seam) 0 (primitives_at policy parts m.point) v.2 j i b v.4 in
+        let hn = asked_seam n.point n.function (number n.seam) (to at (first_of n.next)) (to at (second_of n.next)) r.2 j i a r.4 in
+        let hm = asked_seam m.point m.function (number m.seam) (to at (first_of m.next)) (to at (second_of m.next)) v.2 j i b v.4 in
+        let p : r.0 ≡ v.0 = one_point r.0 v.0 n m j r.3 v.3 hn hm x.1 y.1 in
+        let k : r.2 ≡ v.2 = omega (arith, x.2, x.3, y.2, y.3) in
+        r.5 ∙ ap₂ (λ c d. at c + d) p k ∙ sym v.5
