@@ -1,4 +1,3 @@
-use Rattle.cw_lazy.proofs.Staging.{free_quiet}
 use Rattle.cw_lazy.proofs.Sameness.{lazy_is_one}
 use Rattle.cw_lazy.proofs.laws.lazy_table_is_one.Goals as goal
 
