@@ -1,4 +1,5 @@
 -- The definitions.
+pub mod Acts
 pub mod Heights
 pub mod Kept
 pub mod Laws

@@ -1,7 +1,12 @@
 //! The strategy by least heights of a game.
 #![tactic(auto)]
 
+mod acts;
+pub mod fault;
+mod heights;
 pub mod key;
 pub mod laws;
+mod rows;
 
+pub use fault::TableFault;
 pub use key::{Key, Way};

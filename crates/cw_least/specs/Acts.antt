@@ -1,0 +1,45 @@
+-- Working definitions, for proofs and contracts inside: what the code's values stand for, and where it looks a height up.
+use Rattle.std.specs.Prelude.{◌≡◌, ℕ, ◌<◌, List, map, Bool, false, ◌&&◌, Option, Some, None, nat_eq, nat_le, length, slice_get}
+use Rattle.cw_game.specs.Games.{Game}
+use Rattle.cw_game.specs.Pairs.{Called}
+use Rattle.cw_product.specs.Product.{game_of}
+use Rattle.cw_solve.specs.declared.contexts.Context.{Context}
+use Rattle.cw_solve.specs.Contexts.{context, IsOf, IsNeeded}
+use Rattle.cw_solve.specs.Solved.{Held}
+use Rattle.cw_solve.specs.Tables.{HasCall}
+use Rattle.cw_least.specs.declared.acts.Act.{Act as ActData}
+use Rattle.cw_least.specs.declared.acts.Act.TheVariants as given
+use Rattle.cw_least.specs.Heights.{others}
+use Rattle.cw_least.specs.Strategies.{Act, Bad, Out, Both, Go, Into}
+
+abbrev pub act_of : ActData → Act
+act_of given.Bad = Bad
+act_of given.Out = Out
+act_of (given.Both skip tried) = Both skip tried
+act_of (given.Go way) = Go way
+act_of (given.Into callee backs) = Into callee (map (λ b. (b.0.0, b.1)) backs.items)
+
+-- the context with this number has the pair, and promises all states but those of the aim
+pub record IsIn (h : Held) (number aim p q : ℕ) : Type 0 where
+  pub context : Context
+  pub at : slice_get h.contexts number ≡ Some context
+  pub below : context.function < length h.game.graph.parts.items
+  pub of : IsOf (game_of h.game) context.function p
+  pub state : q < (game_of h.game).states.count
+  pub promise : context.promise ≡ others (game_of h.game) aim
+
+-- some needed context has the position, and promises all states but those of the aim
+abbrev pub IsThere : Game → ℕ → ℕ → Type 0
+IsThere g p aim = (function : ℕ) × IsOf g function p × IsNeeded g (context function (others g aim))
+
+abbrev pub has_position : Game → ℕ → ℕ → Option Context → Bool
+has_position g p promise None = false
+has_position g p promise (Some c) = nat_eq c.promise promise && (nat_le (g.entry c.function) p && nat_le p (g.exit c.function))
+
+-- a call stands at p, which returns to this position, plain or split
+abbrev pub IsCall : Game → (p back : ℕ) → Bool → Type 0
+IsCall g p back split = (function : ℕ) × HasCall g p function back split
+
+-- a call that returns to this position, as far as its return goes
+abbrev pub returning : ℕ → Bool → Called
+returning back split = record { seam = 0; function = 0; back = back; split = split }

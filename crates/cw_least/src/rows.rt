@@ -1,0 +1,84 @@
+//! The rows of a strategy.
+
+ghost use Rattle.std.specs.Prelude.{◌≡◌, ◌+◌, ◌<◌, ◌≤◌, map, length, sum_by, Contains, IfOk, IfSome, IfNone};
+ghost use Rattle.std.specs.List.Sorted.{IsStrictlySortedBy};
+ghost use Rattle.cw_certs.specs.Strategies.{how_of, row_of};
+ghost use Rattle.cw_product.specs.Product.{game_of};
+ghost use Rattle.cw_solve.specs.Routes.{AreRouted};
+ghost use Rattle.cw_least.specs.Acts.{act_of};
+ghost use Rattle.cw_least.specs.Kept.{IsKey};
+ghost use Rattle.cw_least.specs.Strategies.{key_cmp, number, how_by, row_at, backs_in};
+
+use crate::acts::{Act, act_at};
+use crate::key::Key;
+use cw_certs::{EnvRow, How};
+use cw_core::{PosId, StateId};
+use cw_solve::Solved;
+use std::alloc::{AllocError, Global};
+
+/// The place of a key among the keys, and how many they are where it is none of them.
+fn number(keys: &[Key], key: &Key) -> u32
+    requires order { IsStrictlySortedBy key_cmp keys.now }
+    requires few { length keys.now ≤ 65536 }
+    ensures { result ≡ number keys.now key.now }
+{
+    match keys.binary_search(key) {
+        Ok(place) => place as u32,
+        Err(_) => keys.len() as u32,
+    }
+}
+
+fn numbered(alloc: Global, keys: &[Key], backs: &[(StateId, Key)]) -> Result<Vec<(StateId, u32)>, AllocError>
+    requires order { IsStrictlySortedBy key_cmp keys.now }
+    requires few { length keys.now ≤ 65536 }
+    ensures { IfOk result (λ v. v.items ≡ map (λ b. (b.0, number keys.now b.1)) backs.now) }
+{
+    let mut numbers = Vec::new(alloc);
+    for back in backs {
+        numbers.push((back.0, number(keys, &back.1)))?;
+    }
+    Ok(numbers)
+}
+
+/// What a row says, by the places of the keys that it names.
+fn how_by(alloc: Global, keys: &[Key], act: Act) -> Result<How, AllocError>
+    requires order { IsStrictlySortedBy key_cmp keys.now }
+    requires few { length keys.now ≤ 65536 }
+    ensures { IfOk result (λ h. how_of h ≡ how_by keys.now (act_of act)) }
+{
+    match act {
+        Act::Bad => Ok(How::Bad),
+        Act::Out => Ok(How::Out),
+        Act::Both { skip, tried } => Ok(How::Both {
+            skip: number(keys, &skip),
+            tried: number(keys, &tried),
+        }),
+        Act::Go(way) => Ok(How::Go {
+            by: way.by,
+            row: number(keys, &way.to),
+        }),
+        Act::Into { callee, backs } => {
+            let backs = numbered(alloc, keys, &backs)?;
+            Ok(How::Into {
+                callee: number(keys, &callee),
+                backs,
+            })
+        }
+    }
+}
+
+fn row_at(alloc: Global, solved: &Solved, keys: &[Key], key: &Key) -> Result<EnvRow, AllocError>
+    requires routed { AreRouted (game_of solved.now.game) (length solved.now.game.graph.parts.items) }
+    requires key { IsKey (game_of solved.now.game) (length solved.now.game.graph.parts.items) key.now }
+    requires order { IsStrictlySortedBy key_cmp keys.now }
+    requires few { length keys.now ≤ 65536 }
+    ensures { IfOk result (λ r. row_of r ≡ row_at (game_of solved.now.game) keys.now key.now) }
+{
+    let how = how_by(alloc, keys, act_at(alloc, solved, key)?)?;
+    Ok(EnvRow {
+        pos: PosId(key.pos),
+        state: StateId(key.state),
+        aim: key.aim,
+        how,
+    })
+}
