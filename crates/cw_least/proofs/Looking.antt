@@ -124,15 +124,14 @@ module _ (h : Held) where
 
   pub visit_in : AreRouted g functions → (number aim p q j i : ℕ) (a : Primitive) → IsIn h number aim p q → slice_get g.spots p ≡ Some (Visit j i a) → IsIn h number aim (p + 2) q × IsIn h number aim (p + 1) q
   visit_in routed number aim p q j i a is es = (
-      same_in number aim p q (p + 2) q is (routed.stays is.context.function p (p + 2) is.below is.of (subst (λ o. Contains (targets p o) (p + 2)) (sym es) (first_of_two (p + 2) (p + 1)))) is.state,
-      same_in number aim p q (p + 1) q is (routed.stays is.context.function p (p + 1) is.below is.of (subst (λ o. Contains (targets p o) (p + 1)) (sym es) (second_of_two (p + 2) (p + 1)))) is.state,
+    same_in number aim p q (p + 2) q is (routed.stays is.context.function p (p + 2) is.below is.of (subst (λ o. Contains (targets p o) (p + 2)) (sym es) (first_of_two (p + 2) (p + 1)))) is.state,
+    same_in number aim p q (p + 1) q is (routed.stays is.context.function p (p + 1) is.below is.of (subst (λ o. Contains (targets p o) (p + 1)) (sym es) (second_of_two (p + 2) (p + 1)))) is.state,
   )
 
 -- the number of the aim
 pub aim_is : (g : Game) (k : Key) (c : Called) (aim n : ℕ) → n ≡ g.states.count → ((x : ℕ) → has_member aim x ≡ (nat_lt x n && is_lost_after g k c x)) → aim ≡ aim_at g k c
 unfolding has_member
 aim_is g k c aim n e h = same_set aim (aim_at g k c) (λ x. h x ∙ ap (λ (n : ℕ). nat_lt x n && is_lost_after g k c x) e ∙ sym (has_set (is_lost_after g k c) g.states.count x))
-
 
 -- one state more
 range_more : (a n : ℕ) → range_with_len a (suc n) ≡ range_with_len a n ++ (a + n) ∷ []

@@ -10,7 +10,8 @@ use Rattle.cw_solve.specs.Tables.{HasCall}
 use Rattle.cw_least.specs.declared.acts.Act.{Act as ActData}
 use Rattle.cw_least.specs.declared.acts.Act.TheVariants as given
 use Rattle.cw_least.specs.Heights.{others}
-use Rattle.cw_least.specs.Strategies.{Act, Bad, Out, Both, Go, Into}
+use Rattle.cw_least.specs.declared.key.Key.{Key}
+use Rattle.cw_least.specs.Strategies.{backs_in, row_at, Act, Bad, Out, Both, Go, Into}
 
 abbrev pub act_of : ActData → Act
 act_of given.Bad = Bad
@@ -43,3 +44,7 @@ IsCall g p back split = (function : ℕ) × HasCall g p function back split
 -- a call that returns to this position, as far as its return goes
 abbrev pub returning : ℕ → Bool → Called
 returning back split = record { seam = 0; function = 0; back = back; split = split }
+
+-- how many backs a key's row has
+abbrev pub backs_of : Game → List Key → Key → ℕ
+backs_of g keys k = backs_in (row_at g keys k).how

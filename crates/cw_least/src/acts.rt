@@ -69,13 +69,7 @@ fn sooner(a: Option<Way>, b: Option<Way>) -> Option<Way>
     match a {
         None => b,
         Some(a) => match b {
-            None => {
-                if 0 < a.to.height {
-                    Some(a)
-                } else {
-                    None
-                }
-            }
+            None => { if 0 < a.to.height { Some(a) } else { None } }
             Some(b) => Some(if 0 < a.to.height && a.to.height <= b.to.height {
                 a
             } else {
@@ -94,7 +88,10 @@ fn best(solved: &Solved, number: u32, key: &Key, moves: &[Move]) -> Option<Way>
 {
     match moves {
         [] => None,
-        [by, later @ ..] => sooner(way_by(solved, number, key, *by), best(solved, number, key, later)),
+        [by, later @ ..] => sooner(
+            way_by(solved, number, key, *by),
+            best(solved, number, key, later),
+        ),
     }
 }
 
@@ -174,7 +171,14 @@ fn into(
     let aim = aim_at(solved, number, key, back, split);
     let state = StateId(key.state);
     let pos = solved.game().entry(function);
-    let callee = below(solved, context_of(solved, pos, state, &aim), key, pos, state, aim);
+    let callee = below(
+        solved,
+        context_of(solved, pos, state, &aim),
+        key,
+        pos,
+        state,
+        aim,
+    );
     let backs = backs_at(alloc, solved, number, key, back, split)?;
     Ok(Act::Into { callee, backs })
 }

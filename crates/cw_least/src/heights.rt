@@ -22,7 +22,14 @@ fn others(game: &Game, set: &StateSet) -> StateSet
 }
 
 /// The height of a pair in a context, where it is at most so many; else 0.
-fn height_within(solved: &Solved, number: u32, most: u32, pos: PosId, state: StateId, aim: &StateSet) -> u32
+fn height_within(
+    solved: &Solved,
+    number: u32,
+    most: u32,
+    pos: PosId,
+    state: StateId,
+    aim: &StateSet,
+) -> u32
     requires routed { AreRouted (game_of solved.now.game) (length solved.now.game.graph.parts.items) }
     requires here { IsIn solved.now number aim.now pos.0 state.0 }
     ensures { result ≡ height_within (game_of solved.now.game) most pos.0 state.0 (has (others (game_of solved.now.game) aim.now)) }
@@ -30,18 +37,19 @@ fn height_within(solved: &Solved, number: u32, most: u32, pos: PosId, state: Sta
     let _ = aim;
     match solved.height(number, pos, state) {
         None => 0,
-        Some(height) => {
-            if height <= most {
-                height
-            } else {
-                0
-            }
-        }
+        Some(height) => { if height <= most { height } else { 0 } }
     }
 }
 
 /// The key of a pair below a key, one move later.
-pub(crate) fn below(solved: &Solved, number: u32, key: &Key, pos: PosId, state: StateId, aim: StateSet) -> Key
+pub(crate) fn below(
+    solved: &Solved,
+    number: u32,
+    key: &Key,
+    pos: PosId,
+    state: StateId,
+    aim: StateSet,
+) -> Key
     requires routed { AreRouted (game_of solved.now.game) (length solved.now.game.graph.parts.items) }
     requires here { IsIn solved.now number aim pos.0 state.0 }
     requires positive { 0 < key.now.height }

@@ -5,7 +5,7 @@ ghost use Rattle.std.specs.List.Sorted.{IsStrictlySortedBy};
 ghost use Rattle.cw_certs.specs.Strategies.{how_of, row_of};
 ghost use Rattle.cw_product.specs.Product.{game_of};
 ghost use Rattle.cw_solve.specs.Routes.{AreRouted};
-ghost use Rattle.cw_least.specs.Acts.{act_of};
+ghost use Rattle.cw_least.specs.Acts.{act_of, backs_of};
 ghost use Rattle.cw_least.specs.Kept.{IsKey};
 ghost use Rattle.cw_least.specs.Strategies.{key_cmp, number, how_by, row_at, backs_in};
 
@@ -28,7 +28,11 @@ fn number(keys: &[Key], key: &Key) -> u32
     }
 }
 
-fn numbered(alloc: Global, keys: &[Key], backs: &[(StateId, Key)]) -> Result<Vec<(StateId, u32)>, AllocError>
+fn numbered(
+    alloc: Global,
+    keys: &[Key],
+    backs: &[(StateId, Key)],
+) -> Result<Vec<(StateId, u32)>, AllocError>
     requires order { IsStrictlySortedBy key_cmp keys.now }
     requires few { length keys.now ≤ 65536 }
     ensures { IfOk result (λ v. v.items ≡ map (λ b. (b.0, number keys.now b.1)) backs.now) }
@@ -81,4 +85,42 @@ fn row_at(alloc: Global, solved: &Solved, keys: &[Key], key: &Key) -> Result<Env
         aim: key.aim,
         how,
     })
+}
+
+/// How many backs a row has.
+fn backs_in(how: &How) -> usize
+    ensures { result ≡ backs_in (how_of how.now) }
+{
+    match how {
+        How::Into { callee: _, backs } => backs.len(),
+        _ => 0,
+    }
+}
+
+/// The rows of the keys; none where they and their backs are more than 65,536.
+pub(crate) fn rows_within(
+    alloc: Global,
+    solved: &Solved,
+    keys: &[Key],
+) -> Result<Option<Vec<EnvRow>>, AllocError>
+    requires routed { AreRouted (game_of solved.now.game) (length solved.now.game.graph.parts.items) }
+    requires keys { (k : Key) → Contains keys.now k → IsKey (game_of solved.now.game) (length solved.now.game.graph.parts.items) k }
+    requires order { IsStrictlySortedBy key_cmp keys.now }
+    requires few { length keys.now ≤ 65536 }
+    ensures rows { IfOk result (λ o. IfSome o (λ v. map row_of v.items ≡ map (row_at (game_of solved.now.game) keys.now) keys.now)) }
+    ensures few { IfOk result (λ o. IfSome o (λ _. length keys.now + sum_by (backs_of (game_of solved.now.game) keys.now) keys.now ≤ 65536)) }
+    ensures many { IfOk result (λ o. IfNone o (65536 < length keys.now + sum_by (backs_of (game_of solved.now.game) keys.now) keys.now)) }
+{
+    let mut rows = Vec::new(alloc);
+    let mut left = 65536 - keys.len();
+    for key in keys {
+        let row = row_at(alloc, solved, keys, key)?;
+        let backs = backs_in(&row.how);
+        if left < backs {
+            return Ok(None);
+        }
+        left -= backs;
+        rows.push(row)?;
+    }
+    Ok(Some(rows))
 }
