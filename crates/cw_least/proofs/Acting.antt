@@ -1,5 +1,5 @@
 -- What is done at a key, by whose turn it is.
-use Rattle.std.proofs.Common.{◌≡◌, ℕ, ◌+◌, ◌<◌, ◌≤◌, List, [], ◌∷◌, ◌++◌, Bool, true, false, cond, Option, Some, None, map, filter_map, length, nat_lt, refl, sym, ap, ap₂, ◌∙◌, subst, arith}
+use Rattle.std.proofs.Common.{◌≡◌, ℕ, ◌+◌, ◌<◌, ◌≤◌, List, [], ◌∷◌, ◌++◌, Bool, true, false, cond, Option, Some, None, map, filter_map, append_assoc, length, nat_lt, refl, sym, ap, ap₂, ◌∙◌, arith}
 use Rattle.std.specs.Prelude.{slice_get, option_map}
 use Rattle.std.specs.List.{range_with_len, cons_option}
 use Rattle.std.proofs.lemmas.Bool.{lt-ltb, le-ltb}
@@ -8,17 +8,16 @@ use Rattle.cw_game.specs.declared.spots.Spot.{Spot}
 use Rattle.cw_game.specs.declared.spots.Spot.TheVariants.{Visit, Asked, Step, Branch, Label, Open, Close, Call, SplitCall, Exit}
 use Rattle.cw_game.specs.Games.{Game}
 use Rattle.cw_game.specs.Pairs.{Called, call_in}
-use Rattle.cw_product.specs.declared.turn.Turn.{Turn}
 use Rattle.cw_product.specs.declared.turn.Turn.TheVariants as turn
 use Rattle.cw_product.specs.Moves.{turn_in}
 use Rattle.cw_solve.specs.Contexts.{context}
 use Rattle.cw_solve.specs.Routes.{AreRouted}
 use Rattle.cw_solve.proofs.Tabling.{there}
 use Rattle.cw_least.specs.declared.key.Key.{Key}
-use Rattle.cw_least.specs.Acts.{IsThere}
+use Rattle.cw_least.specs.Acts.{IsThere, key_of_back}
 use Rattle.cw_least.specs.Heights.{others}
 use Rattle.cw_least.specs.Kept.{IsKey}
-use Rattle.cw_least.specs.Strategies.{below, moves, best, after_return, is_lost_after, aim_at, back_at, backs_at, Act, Out, Both, Into, goes, act_in, act}
+use Rattle.cw_least.specs.Strategies.{below, moves, best, after_return, is_lost_after, aim_at, back_at, backs_at, Out, Both, Into, goes, act_in, act}
 use Rattle.cw_least.proofs.Naming.{callee_lower}
 use Rattle.cw_least.proofs.Looking.{kept_more}
 
@@ -115,3 +114,11 @@ backs_same f x old h s = h ∙ sym (kept_more f x ∙ ap (λ o. filter_map f (ra
     nothing : (l : List (ℕ × Key)) → l ++ [] ≡ l
     nothing [] = refl
     nothing (y ∷ ys) = ap (λ (l : List (ℕ × Key)). y ∷ l) (nothing ys)
+
+keys_plain : (backs : List (StateId × Key)) → map key_of_back backs ≡ map (λ (b : ℕ × Key). b.1) (map plain backs)
+keys_plain [] = refl
+keys_plain (b ∷ backs) = ap (λ (l : List Key). b.1 ∷ l) (keys_plain backs)
+
+-- what is named at a call, put behind other keys
+pub into_keys : (old : List Key) (callee : Key) (backs : List (StateId × Key)) {new : List Key} → new ≡ (old ++ callee ∷ []) ++ map key_of_back backs → new ≡ old ++ callee ∷ map (λ (b : ℕ × Key). b.1) (map plain backs)
+into_keys old callee backs e = e ∙ append_assoc old (callee ∷ []) (map key_of_back backs) ∙ ap (λ (l : List Key). old ++ callee ∷ l) (keys_plain backs)

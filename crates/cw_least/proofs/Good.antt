@@ -1,22 +1,21 @@
 -- The strategy by least heights meets the conditions.
-use Rattle.std.proofs.Common.{◌≡◌, ◌⊎◌, ℕ, zero, suc, ◌+◌, ◌-◌, ◌<◌, ◌≤◌, ◌^◌, List, [], ◌∷◌, ◌++◌, Bool, true, false, cond, not, ◌&&◌, ◌||◌, Option, Some, None, is_some, map, filter_map, find, length, nat_eq, nat_lt, refl, sym, ap, ap₂, ◌∙◌, subst, arith, inl, inr}
+use Rattle.std.proofs.Common.{◌≡◌, ◌⊎◌, ℕ, zero, suc, ◌+◌, ◌-◌, ◌<◌, ◌^◌, List, [], ◌∷◌, ◌++◌, Bool, true, false, cond, not, ◌&&◌, ◌||◌, Option, Some, None, is_some, map, filter_map, find, length, nat_eq, nat_lt, refl, sym, ap, ◌∙◌, subst, arith, inl, inr}
 use Rattle.std.specs.Prelude.{slice_get, option_map}
 use Rattle.std.specs.List.{Contains, cons_option, list_all, list_any, enumerate_from, range_with_len}
 use Rattle.std.specs.List.Sorted.{IsStrictlySortedBy}
-use Rattle.std.proofs.lemmas.Bool.{lt-ltb, ltb-true, eq-eqb, eqb-true}
+use Rattle.std.proofs.lemmas.Bool.{lt-ltb, eq-eqb}
 use Rattle.std.proofs.lemmas.Option.{same_Some, none-some, slice_get-map, slice_get_within, get_or_from_slice_get}
 use Rattle.cw_certs.specs.declared.moves.Move.{Move}
-use Rattle.cw_certs.specs.declared.moves.Move.TheVariants.{Skip, Try, Grant, Refuse, On, Left, Right, Opened, Failed}
-use Rattle.cw_certs.specs.Strategies.{How, Row, Strategy, back_of}
-use Rattle.cw_certs.specs.Strategies as how
-use Rattle.cw_closure.specs.Closures.{Reached, Exactly, first, then}
+use Rattle.cw_certs.specs.declared.moves.Move.TheVariants.{Grant, Refuse, On, Left, Right, Opened, Failed}
+use Rattle.cw_certs.specs.Strategies.{Row, Strategy, back_of}
+use Rattle.cw_closure.specs.Closures.{Reached, first, then}
 use Rattle.cw_game.specs.declared.spots.Spot.{Spot}
 use Rattle.cw_game.specs.declared.spots.Spot.TheVariants.{Visit, Asked, Step, Branch, Label, Open, Close, Call, SplitCall, Exit}
-use Rattle.cw_game.specs.Games.{Game, Promise, Config, Holds, holds_in, bad_in, weavers_in, leads_in, returned}
+use Rattle.cw_game.specs.Games.{Game, Promise, Holds, holds_in, bad_in, weavers_in, leads_in, returned}
 use Rattle.cw_game.specs.Pairs.{has, Called, call_in, is_call_in, is_exit_in, kept_at}
-use Rattle.cw_game.specs.Conditions.{first_failing, is_state, named_by, exits_by, is_row, is_violated, is_exit, ends_well, is_row_at, stands_after, weaver_moves, environment_moves, callee_stands, is_back, are_backs, backs_stand, row_conditions, RowFault, fault_in, all_rows, is_start, strategy_conditions, strategy_fault, IsGoodStrategy}
+use Rattle.cw_game.specs.Conditions.{first_failing, is_state, named_by, exits_by, is_row, is_violated, is_exit, ends_well, is_row_at, stands_after, weaver_moves, environment_moves, callee_stands, is_back, are_backs, backs_stand, row_conditions, fault_in, all_rows, is_start, IsGoodStrategy}
 use Rattle.cw_game.proofs.Truths.{both}
-use Rattle.cw_product.specs.Moves.{pair_of, next_in, next_at}
+use Rattle.cw_product.specs.Moves.{next_in}
 use Rattle.cw_solve.specs.Asking.{holds_after, after, holds_by_moves}
 use Rattle.cw_solve.specs.Contexts.{context}
 use Rattle.cw_solve.specs.Routes.{IsState, AreRouted}
@@ -26,7 +25,7 @@ use Rattle.cw_least.specs.declared.key.Key.{Key}
 use Rattle.cw_least.specs.declared.key.Way.{Way}
 use Rattle.cw_least.specs.Heights.{others}
 use Rattle.cw_least.specs.Kept.{IsKey}
-use Rattle.cw_least.specs.Strategies.{key_cmp, below, moves, way, best, after_return, is_lost_after, aim_at, back_at, backs_at, Act, Bad, Out, Both, Go, Into, goes, inner, act_in, act, keys_in, named, number, how_by, row_at, start_key, IsLeastStrategy}
+use Rattle.cw_least.specs.Strategies.{key_cmp, below, moves, best, after_return, is_lost_after, aim_at, back_at, backs_at, Act, Bad, Out, Both, Go, Into, goes, inner, act_in, act, keys_in, named, number, how_by, row_at, start_key, IsLeastStrategy}
 use Rattle.cw_least.proofs.Sets.{has_set}
 use Rattle.cw_least.proofs.Lowest as lowest
 use Rattle.cw_least.proofs.Keys.{at_number, before}

@@ -1,11 +1,11 @@
 -- Where a height is found.
-use Rattle.std.proofs.Common.{◌≡◌, ℕ, zero, suc, ◌+◌, ◌<◌, ◌≤◌, List, [], ◌∷◌, ◌++◌, filter_map, Bool, true, false, not, ◌&&◌, Option, Some, None, length, get_or, refl, sym, ap, ap₂, ◌∙◌, subst, arith}
+use Rattle.std.proofs.Common.{◌≡◌, ℕ, zero, suc, ◌+◌, ◌<◌, ◌≤◌, List, [], ◌∷◌, ◌++◌, filter_map, Bool, true, false, not, ◌&&◌, Option, Some, None, length, refl, sym, ap, ap₂, ◌∙◌, subst, arith}
 use Rattle.std.specs.Prelude.{slice_get, nat_eq, nat_lt, nat_le, Contains}
 use Rattle.std.proofs.lemmas.Bool.{eqb-true, eq-eqb, ne_eqb}
 use Rattle.std.proofs.lemmas.Bool.Decides.{nat_tests}
 use Rattle.std.specs.List.{range_with_len}
 use Rattle.std.proofs.lemmas.List.Elements.{filter_map-append}
-use Rattle.std.proofs.lemmas.Option.{same_Some, none-some, slice_get_within, get_or_from_slice_get}
+use Rattle.std.proofs.lemmas.Option.{slice_get_within, get_or_from_slice_get}
 use Rattle.cw_core.specs.StateSet.{has as has_member}
 use Rattle.cw_game.specs.Games.{Game}
 use Rattle.cw_game.specs.Pairs.{has}
@@ -13,7 +13,7 @@ use Rattle.cw_game.proofs.Truths.{and_parts, both}
 use Rattle.cw_product.specs.Product.{game_of}
 use Rattle.cw_solve.specs.declared.contexts.Context.{Context}
 use Rattle.cw_solve.specs.Contexts.{context, IsOf, HeightIs, AreTheNeeded}
-use Rattle.cw_solve.specs.Routes.{IsState, AreRouted}
+use Rattle.cw_solve.specs.Routes.{AreRouted}
 use Rattle.cw_solve.specs.Routes.{IsThere as IsThere'}
 use Rattle.cw_solve.proofs.Tabling.{there}
 use Rattle.cw_least.specs.declared.key.Key.{Key}
@@ -100,7 +100,7 @@ module _ (h : Held) where
   same_in number aim p q r x is of s = record { context = is.context; at = is.at; below = is.below; of = of; state = s; promise = is.promise }
 
   pub key_there : (functions : ℕ) (k : Key) (is : IsKey g functions k) → IsThere g k.pos k.aim
-  key_there functions k is = (is.function, is.of, is.needed)
+  key_there _ k is = (is.function, is.of, is.needed)
 
   pub has_is : (p e number first last : ℕ) (c : Context) (near : Bool) → Some c ≡ slice_get h.contexts number → first ≡ g.entry c.function → last ≡ g.exit c.function → near ≡ (nat_le first p && nat_le p last)
       → c.promise ≡ e → near ≡ has_position g p e (slice_get h.contexts number)

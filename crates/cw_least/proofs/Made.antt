@@ -3,15 +3,12 @@ use Rattle.std.proofs.Common.{length}
 use Rattle.cw_rights.specs.Policies.{policy_of}
 use Rattle.cw_states.specs.States.{lists_of}
 use Rattle.cw_states.proofs.Below.{stay_below}
-use Rattle.cw_certs.specs.Strategies.{Strategy}
-use Rattle.cw_game.specs.Conditions.{IsGoodStrategy}
 use Rattle.cw_product.specs.Product.{Held, game_of}
 use Rattle.cw_product.specs.Uses.{uses_of}
 use Rattle.cw_solve.specs.Made.{IsMade}
 use Rattle.cw_solve.specs.Routes.{IsState}
 use Rattle.cw_solve.proofs.Routing.{routed_of}
 use Rattle.cw_least.specs.Laws.{LeastAreGood}
-use Rattle.cw_least.specs.Strategies.{IsLeastStrategy}
 use Rattle.cw_least.proofs.Good.{least_good}
 
 pub start_state : (h : Held) → IsMade h → IsState (game_of h) (game_of h).states.start

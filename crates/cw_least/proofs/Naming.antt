@@ -1,16 +1,15 @@
 -- What a key names are keys, each of a lesser height.
-use Rattle.std.proofs.Common.{◌≡◌, ◌⊎◌, ℕ, zero, suc, ◌+◌, ◌-◌, ◌<◌, ◌≤◌, ◌^◌, List, [], ◌∷◌, Bool, true, false, cond, not, ◌&&◌, ◌||◌, Option, Some, None, map, filter_map, length, nat_lt, nat_le, refl, sym, ap, ap₂, ◌∙◌, subst, arith, inl, inr}
+use Rattle.std.proofs.Common.{◌≡◌, ◌⊎◌, ℕ, zero, suc, ◌+◌, ◌-◌, ◌<◌, ◌^◌, List, [], ◌∷◌, Bool, true, false, cond, not, ◌&&◌, ◌||◌, Option, Some, None, map, filter_map, nat_lt, nat_le, refl, sym, ap, ◌∙◌, subst, arith, inl, inr}
 use Rattle.std.specs.Prelude.{slice_get, option_map}
 use Rattle.std.specs.List.{Contains, cons_option, range_with_len}
-use Rattle.std.proofs.lemmas.Bool.{lt-ltb, le-ltb, ltb-true, cases_lt, false≢true}
+use Rattle.std.proofs.lemmas.Bool.{lt-ltb, le-ltb, ltb-true}
 use Rattle.std.proofs.lemmas.Option.{same_Some, none-some}
 use Rattle.std.proofs.lemmas.List.FromFn.{length-range_with_len, get_or-range_with_len}
 use Rattle.cw_certs.specs.declared.moves.Move.{Move}
-use Rattle.cw_certs.specs.declared.moves.Move.TheVariants.{Skip, Try, Grant, Refuse, On, Left, Right, Opened, Failed}
 use Rattle.cw_game.specs.declared.spots.Spot.{Spot}
 use Rattle.cw_game.specs.declared.spots.Spot.TheVariants.{Visit, Asked, Step, Branch, Label, Open, Close, Call, SplitCall, Exit}
-use Rattle.cw_game.specs.Games.{Game, Promise, Holds, holds_in, returned}
-use Rattle.cw_game.specs.Pairs.{has, all_states, Called, call_in, is_call_in, is_exit_in, kept_at}
+use Rattle.cw_game.specs.Games.{Game, Holds, holds_in, returned}
+use Rattle.cw_game.specs.Pairs.{has, all_states, Called, call_in, kept_at}
 use Rattle.cw_product.specs.Moves.{next_at}
 use Rattle.cw_solve.specs.Contexts.{context, IsOf, IsHeight, IsNeeded, of_main, of_call, promise_at, IsSetOf}
 use Rattle.cw_solve.specs.Routes.{IsState, targets, AreRouted}
@@ -18,10 +17,10 @@ use Rattle.cw_solve.proofs.Falls.{holds_same, return_state, back_stays, member_i
 use Rattle.cw_solve.proofs.Still.{first_of_two, second_of_two, holds_call}
 use Rattle.cw_least.specs.declared.key.Key.{Key}
 use Rattle.cw_least.specs.declared.key.Way.{Way}
-use Rattle.cw_least.specs.Heights.{set_of, others, height_within}
+use Rattle.cw_least.specs.Heights.{others, height_within}
 use Rattle.cw_closure.specs.Closures.{Reached, first, then}
 use Rattle.cw_least.specs.Kept.{IsKey, Leads, here, on}
-use Rattle.cw_least.specs.Strategies.{below, moves, way, sooner, best, after_return, is_lost_after, aim_at, back_at, backs_at, Act, Bad, Out, Both, Go, Into, goes, inner, act_in, act, keys_in, named, start_key}
+use Rattle.cw_least.specs.Strategies.{below, moves, way, sooner, best, after_return, is_lost_after, aim_at, back_at, backs_at, Into, goes, inner, act_in, keys_in, named, start_key}
 use Rattle.cw_least.proofs.Sets.{has_set, set_within, none_aimed}
 use Rattle.cw_least.proofs.Lowest as lowest
 use Rattle.cw_least.proofs.Moving.{moved}

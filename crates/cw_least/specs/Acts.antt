@@ -10,6 +10,7 @@ use Rattle.cw_solve.specs.Tables.{HasCall}
 use Rattle.cw_least.specs.declared.acts.Act.{Act as ActData}
 use Rattle.cw_least.specs.declared.acts.Act.TheVariants as given
 use Rattle.cw_least.specs.Heights.{others}
+use Rattle.cw_core.specs.declared.ids.StateId.{StateId}
 use Rattle.cw_least.specs.declared.key.Key.{Key}
 use Rattle.cw_least.specs.Strategies.{backs_in, row_at, Act, Bad, Out, Both, Go, Into}
 
@@ -48,3 +49,7 @@ returning back split = record { seam = 0; function = 0; back = back; split = spl
 -- how many backs a key's row has
 abbrev pub backs_of : Game → List Key → Key → ℕ
 backs_of g keys k = backs_in (row_at g keys k).how
+
+-- the key of a back
+abbrev pub key_of_back : StateId × Key → Key
+key_of_back b = b.1

@@ -1,6 +1,6 @@
 -- The strategy by least heights: the environment moves to the pair that is lost soonest. Public source: the environment's strategies of Harris,
 -- Jha, Reps, Anderson and Watson (2013).
-use Rattle.std.specs.Prelude.{◌≡◌, ℕ, ◌+◌, ◌-◌, List, [], ◌∷◌, Bool, cond, ◌&&◌, Option, Some, None, nat_eq, nat_lt, nat_le, slice_get, length, map, filter_map, option_map, sum_by}
+use Rattle.std.specs.Prelude.{◌≡◌, ℕ, ◌+◌, ◌-◌, List, [], ◌∷◌, Bool, cond, ◌&&◌, Option, Some, None, nat_lt, nat_le, slice_get, length, map, filter_map, option_map, sum_by}
 use Rattle.std.specs.List.{range_with_len}
 use Rattle.std.specs.declared.cmp.Ordering.{Ordering}
 use Rattle.std.specs.Ordering.{ordering_then, nat_cmp, eq_by_cmp}

@@ -6,6 +6,7 @@ pub mod fault;
 mod heights;
 pub mod key;
 pub mod laws;
+mod named;
 mod rows;
 
 pub use fault::TableFault;

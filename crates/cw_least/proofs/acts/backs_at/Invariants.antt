@@ -1,4 +1,4 @@
-use Rattle.std.proofs.Common.{◌≡◌, ℕ, map, filter_map}
+use Rattle.std.proofs.Common.{◌≡◌, map, filter_map}
 use Rattle.std.specs.List.{range_with_len}
 use Rattle.cw_product.specs.Product.{game_of}
 use Rattle.cw_least.specs.Acts.{returning}

@@ -1,11 +1,11 @@
-use Rattle.std.proofs.Common.{◌≡◌, ap, ap₂, sym, ◌∙◌, length, map, subst, ℕ}
+use Rattle.std.proofs.Common.{ap, ap₂, sym, ◌∙◌, length, map, subst, ℕ}
 use Rattle.cw_product.specs.Product.{Held, game_of}
 use Rattle.cw_solve.proofs.Calling.{the_call, called}
 use Rattle.std.specs.Prelude.{slice_get}
 use Rattle.cw_core.specs.declared.ids.StateId.{StateId}
 use Rattle.cw_least.specs.declared.key.Key.{Key}
-use Rattle.cw_least.specs.Acts.{IsThere, returning}
-use Rattle.cw_least.specs.Strategies.{below, aim_at}
+use Rattle.cw_least.specs.Acts.{IsThere}
+use Rattle.cw_least.specs.Strategies.{below}
 use Rattle.cw_least.proofs.Acting.{callee_in, into_act}
 use Rattle.cw_least.proofs.acts.into.Goals as goal
 

@@ -1,4 +1,4 @@
-use Rattle.std.proofs.Common.{◌≡◌, ap, sym, ◌∙◌, arith, slice_get}
+use Rattle.std.proofs.Common.{ap, sym, ◌∙◌, arith, slice_get}
 use Rattle.cw_product.specs.Product.{Held, game_of}
 use Rattle.cw_least.specs.Acts.{has_position}
 use Rattle.cw_least.specs.Heights.{others}

@@ -1,6 +1,5 @@
-use Rattle.std.proofs.Common.{length, subst, arith}
-use Rattle.cw_solve.specs.Solved.{IsHeightIn}
-use Rattle.cw_least.proofs.Looking.{numbered, none_is, low_is, high_is}
+use Rattle.std.proofs.Common.{length, arith}
+use Rattle.cw_least.proofs.Looking.{none_is, low_is, high_is}
 use Rattle.cw_least.proofs.heights.height_within.Goals as goal
 
 pub returns-in-None : goal.returns-in-None

@@ -1,4 +1,4 @@
-use Rattle.std.proofs.Common.{sym, ◌∙◌}
+use Rattle.std.proofs.Common.{sym}
 use Rattle.cw_least.proofs.Finding.{found_at, lost_at}
 use Rattle.cw_least.proofs.rows.number.Goals as goal
 

@@ -1,4 +1,4 @@
-use Rattle.std.proofs.Common.{rules, length, sym, ap, ◌∙◌, arith, ◌<◌, ◌≡◌, ℕ, Some, slice_get}
+use Rattle.std.proofs.Common.{rules, length, sym, ap, ◌∙◌, arith, ◌<◌, ◌≡◌, Some, slice_get}
 use Rattle.std.proofs.lemmas.Option.{slice_get-get_or}
 use Rattle.cw_certs.specs.Strategies.{Row}
 use Rattle.cw_least.specs.declared.key.Key.{Key}
