@@ -5,6 +5,7 @@ pub mod Keys
 pub mod Moving
 pub mod Naming
 pub mod Good
+pub mod Counting
 pub mod Finding
 pub mod Looking
 pub mod Acting
