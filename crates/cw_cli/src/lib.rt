@@ -1,6 +1,7 @@
 //! The top call: words, a shelf and two sinks in, the status out.
 #![tactic(auto)]
 
+mod checking;
 mod command;
 mod listing;
 mod reading;
@@ -9,6 +10,7 @@ mod refuting;
 mod verdict;
 mod weaving;
 
+pub use checking::check_due;
 pub use command::capweave;
 pub use listing::listing_due;
 pub use refuting::refute_due;
