@@ -18,3 +18,5 @@ pub use weaving::weave_due;
 
 #[cfg(test)]
 mod tests;
+#[cfg(test)]
+mod checking_tests;
