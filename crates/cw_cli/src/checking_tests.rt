@@ -99,19 +99,82 @@ fn checks_tables_or_tells_why_not(rt: HostRuntime) -> Result<(), Fail> {
         "format = 1\nrefusable = [\"enter\"]\non_refusal = \"stop\"\n[[at]]\nlabel = \"a\"\nnever = [\"amb\"]\n";
     for (policy, text, old, new, status, told, line) in [
         (promises, TWO_PROMISES, "", "", 0, "yes\n", ""),
-        (promises, TWO_PROMISES, "CW_MEM(2,2,0x5)", "CW_MEM(2,2,0x1)", 1, "live 6 condition 6\n", ""),
-        (promises, TWO_PROMISES, "CW_ENTRY(0);", "CW_ENTRX(0);", 9, "", "woven: mark 689\n"),
+        (
+            promises,
+            TWO_PROMISES,
+            "CW_MEM(2,2,0x5)",
+            "CW_MEM(2,2,0x1)",
+            1,
+            "live 6 condition 6\n",
+            "",
+        ),
+        (
+            promises,
+            TWO_PROMISES,
+            "CW_ENTRY(0);",
+            "CW_ENTRX(0);",
+            9,
+            "",
+            "woven: mark 689\n",
+        ),
         (splits, TWO_PROMISES, "", "", 4, "", "policy: not yet\n"),
         (stops, NEVER_AMBIENT, "", "", 0, "yes\n", ""),
-        (stops, NEVER_AMBIENT, "1,CW_NONE)", "1,0)", 1, "live 3 condition 5\n", ""),
+        (
+            stops,
+            NEVER_AMBIENT,
+            "1,CW_NONE)",
+            "1,0)",
+            1,
+            "live 3 condition 5\n",
+            "",
+        ),
         (NEVER, NEVER_AMBIENT, "", "", 0, "yes\n", ""),
-        (NEVER, NEVER_AMBIENT, "CW_TABLE(1,4,0)", "CW_TABLE(1,5,0)", 1, "mems 0 condition 1\n", ""),
-        (NEVER, NEVER_AMBIENT, "CW_AT(1,1,2)", "CW_AT(1,1,3)", 1, "ats 0 condition 1\n", ""),
-        (NEVER, NEVER_AMBIENT, "CW_TRY(1,0,0,1,CW_NONE)\n", "", 1, "live 2 condition 4\n", ""),
+        (
+            NEVER,
+            NEVER_AMBIENT,
+            "CW_TABLE(1,4,0)",
+            "CW_TABLE(1,5,0)",
+            1,
+            "mems 0 condition 1\n",
+            "",
+        ),
+        (
+            NEVER,
+            NEVER_AMBIENT,
+            "CW_AT(1,1,2)",
+            "CW_AT(1,1,3)",
+            1,
+            "ats 0 condition 1\n",
+            "",
+        ),
+        (
+            NEVER,
+            NEVER_AMBIENT,
+            "CW_TRY(1,0,0,1,CW_NONE)\n",
+            "",
+            1,
+            "live 2 condition 4\n",
+            "",
+        ),
         ("format = 3\n", "", "", "", 4, "", "policy: kind format\n"),
-        ("format = 1\n[[at]]\nlabel = \"z\"\n", NEVER_AMBIENT, "", "", 4, "", "policy: no label z\n"),
+        (
+            "format = 1\n[[at]]\nlabel = \"z\"\n",
+            NEVER_AMBIENT,
+            "",
+            "",
+            4,
+            "",
+            "policy: no label z\n",
+        ),
     ] {
-        ends(rt, policy, &edited(alloc, text, old, new)?, status, told, line)?;
+        ends(
+            rt,
+            policy,
+            &edited(alloc, text, old, new)?,
+            status,
+            told,
+            line,
+        )?;
     }
     Ok(())
 }
@@ -139,10 +202,25 @@ fn tells_what_is_wrong_with_woven_texts(rt: HostRuntime) -> Result<(), Fail> {
     nested.push_str(";}")?;
     for (old, new, status, line) in [
         ("0xf)\nCW_MEM(2", "0x0f)\nCW_MEM(2", 9, "woven: line 5\n"),
-        ("CW_LIVE(0,0)\nCW_LIVE(2,0)", "CW_LIVE(2,0)\nCW_LIVE(0,0)", 9, "woven: order 8\n"),
-        ("CW_LIMITS(X)", "CW_LIMITS(X) X(0,0,0x1)", 9, "woven: line 2\n"),
+        (
+            "CW_LIVE(0,0)\nCW_LIVE(2,0)",
+            "CW_LIVE(2,0)\nCW_LIVE(0,0)",
+            9,
+            "woven: order 8\n",
+        ),
+        (
+            "CW_LIMITS(X)",
+            "CW_LIMITS(X) X(0,0,0x1)",
+            9,
+            "woven: line 2\n",
+        ),
         ("/*cw{*/\n", "", 9, "woven: mark 0\n"),
-        ("/*cw{*/CW_LABEL(1)/*}cw*/;", ";/*cw{*/CW_LABEL(1)/*}cw*/", 9, "woven: misplaced 1\n"),
+        (
+            "/*cw{*/CW_LABEL(1)/*}cw*/;",
+            ";/*cw{*/CW_LABEL(1)/*}cw*/",
+            9,
+            "woven: misplaced 1\n",
+        ),
         ("CW_LABEL(1)", "CW_LABEL(2)", 9, "woven: misplaced 1\n"),
         ("0;}", "0;", 9, "woven: source 1:28: syntax\n"),
         ("return 0", "return @", 9, "woven: source 1:26: bad byte\n"),
@@ -152,8 +230,22 @@ fn tells_what_is_wrong_with_woven_texts(rt: HostRuntime) -> Result<(), Fail> {
         ("0;}", &blanks, 5, "limit: source bytes\n"),
         ("return ", &points, 5, "limit: points\n"),
     ] {
-        ends(rt, NEVER, &edited(alloc, NEVER_AMBIENT, old, new)?, status, "", line)?;
+        ends(
+            rt,
+            NEVER,
+            &edited(alloc, NEVER_AMBIENT, old, new)?,
+            status,
+            "",
+            line,
+        )?;
     }
     let descriptor = "format = 1\n[[descriptor]]\nname = \"fd\"\n";
-    ends(rt, descriptor, NEVER_AMBIENT, 9, "", "woven: source: no variable fd\n")
+    ends(
+        rt,
+        descriptor,
+        NEVER_AMBIENT,
+        9,
+        "",
+        "woven: source: no variable fd\n",
+    )
 }

@@ -17,6 +17,6 @@ pub use refuting::refute_due;
 pub use weaving::weave_due;
 
 #[cfg(test)]
-mod tests;
-#[cfg(test)]
 mod checking_tests;
+#[cfg(test)]
+mod tests;

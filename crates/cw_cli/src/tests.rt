@@ -154,7 +154,11 @@ pub(crate) fn words(alloc: Global, line: &[&str]) -> Result<Vec<String>, AllocEr
     Ok(words)
 }
 
-pub(crate) fn files(alloc: Global, policy: &str, source: &str) -> Result<Vec<(Vec<u8>, Vec<u8>)>, AllocError> {
+pub(crate) fn files(
+    alloc: Global,
+    policy: &str,
+    source: &str,
+) -> Result<Vec<(Vec<u8>, Vec<u8>)>, AllocError> {
     let mut files = Vec::new(alloc);
     for (name, text) in [("p.toml", policy), ("s.c", source)] {
         files.push((
