@@ -31,9 +31,9 @@ returns-in-Refute-len3 c =
 pub returns-in-Check-len2 : goal.returns-in-Check-len2
 returns-in-Check-len2 c =
     let files = c.args.files.now in
-    let policy = c.policy-item-then-this-lt5.result in
+    let policy = c.policy-item-then-this-lt3-3.result in
     let text = c.text-item.result in
     let many : length files ≡ 2 = omega (arith, c.in-Check-len2.len_at_least, c.in-Check-len2.len_below) in
-    let are = two_of (λ file. file.items) files policy text many c.policy-item-then-this-lt5.is c.text-item.is in
+    let are = two_of (λ file. file.items) files policy text many c.policy-item-then-this-lt3-3.is c.text-item.is in
     check_is_due c.args.command (map (λ file. file.items) files) c.check_due.result policy.items text.items c.deref-in-Check-len2.result.now c.deref-in-Check-len2-2.result.now c.in-Check-len2.is-0 are
     c.deref-in-Check-len2.ensures.value c.deref-in-Check-len2-2.ensures.value c.check_due.ensures.due
