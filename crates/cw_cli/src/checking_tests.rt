@@ -3,6 +3,7 @@ use crate::capweave;
 use crate::tests::{NEVER_AMBIENT, files, words};
 use cw_io::{SureShelf, SureSink};
 use std::alloc::{AllocError, Global};
+use std::process::Abort;
 use std::test::Fail;
 
 const TWO_PROMISES: &str = "/*cw{*/
@@ -65,14 +66,14 @@ fn edited(alloc: Global, text: &str, old: &str, new: &str) -> Result<String, All
 }
 
 fn ends(
-    rt: HostRuntime,
+    rt: &impl Abort,
+    alloc: Global,
     policy: &str,
     text: &str,
     status: u8,
     told: &str,
     line: &str,
 ) -> Result<(), Fail> {
-    let alloc = rt.alloc();
     let check = words(alloc, &["check", "p.toml", "s.c"])?;
     let mut shelf = SureShelf::make(files(alloc, policy, text)?);
     let mut out = SureSink::make(alloc);
@@ -168,7 +169,8 @@ fn checks_tables_or_tells_why_not(rt: HostRuntime) -> Result<(), Fail> {
         ),
     ] {
         ends(
-            rt,
+            &rt,
+            alloc,
             policy,
             &edited(alloc, text, old, new)?,
             status,
@@ -231,7 +233,8 @@ fn tells_what_is_wrong_with_woven_texts(rt: HostRuntime) -> Result<(), Fail> {
         ("return ", &points, 5, "limit: points\n"),
     ] {
         ends(
-            rt,
+            &rt,
+            alloc,
             NEVER,
             &edited(alloc, NEVER_AMBIENT, old, new)?,
             status,
@@ -241,7 +244,8 @@ fn tells_what_is_wrong_with_woven_texts(rt: HostRuntime) -> Result<(), Fail> {
     }
     let descriptor = "format = 1\n[[descriptor]]\nname = \"fd\"\n";
     ends(
-        rt,
+        &rt,
+        alloc,
         descriptor,
         NEVER_AMBIENT,
         9,
