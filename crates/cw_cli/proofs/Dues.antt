@@ -2,9 +2,10 @@
 use Rattle.std.proofs.Common.{◌≡◌, ℕ, ◌+◌, List, [], ◌∷◌, length, map, get_or, Result, refl, sym, ap, ap₂, subst, arith}
 use Rattle.std.specs.Prelude.{IfOk}
 use Rattle.cw_commands.specs.declared.command.Command.{Command}
-use Rattle.cw_commands.specs.declared.command.Command.TheVariants.{Weave, Graph, Refute}
+use Rattle.cw_commands.specs.declared.command.Command.TheVariants.{Weave, Graph, Refute, Check}
 use Rattle.cw_commands.specs.declared.outcome.Outcome.{Outcome}
 use Rattle.cw_commands.specs.Outcomes.{due_of}
+use Rattle.cw_cli.specs.Checking.{IsCheckDue}
 use Rattle.cw_cli.specs.Due.{IsDue}
 use Rattle.cw_cli.specs.Listings.{IsListingDue}
 use Rattle.cw_cli.specs.Refuting.{IsRefuteDue}
@@ -57,3 +58,12 @@ module _ {E : Type 0} (command : Command) (files : List (List ℕ)) (result : Re
       let three = subst (λ x. IsRefuteDue policy source x (due_of o)) same_t two in
       let four = subst (λ fs. IsDue Refute fs (due_of o)) (sym are) three in
       subst (λ c. IsDue c files (due_of o)) (sym is) four)
+
+  pub check_is_due : (policy text p t : List ℕ) → command ≡ Check → files ≡ policy ∷ (text ∷ []) → p ≡ policy → t ≡ text
+      → IfOk result (λ o. IsCheckDue p t (due_of o)) → IfOk result (λ o. IsDue command files (due_of o))
+  check_is_due policy text p t is are same_p same_t h =
+      if_ok result h (λ o d.
+      let one = subst (λ x. IsCheckDue x t (due_of o)) same_p d in
+      let two = subst (λ x. IsCheckDue policy x (due_of o)) same_t one in
+      let three = subst (λ fs. IsDue Check fs (due_of o)) (sym are) two in
+      subst (λ c. IsDue c files (due_of o)) (sym is) three)

@@ -1,3 +1,4 @@
+mod Checks
 mod Dues
 mod Judging
 mod Labelled

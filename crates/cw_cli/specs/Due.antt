@@ -1,8 +1,9 @@
 -- What is due for each command, by the bytes of its files in the order of its words.
 use Rattle.std.specs.Prelude.{ℕ, List, [], ◌∷◌}
 use Rattle.cw_commands.specs.declared.command.Command.{Command}
-use Rattle.cw_commands.specs.declared.command.Command.TheVariants.{Weave, Graph, Refute}
+use Rattle.cw_commands.specs.declared.command.Command.TheVariants.{Weave, Graph, Refute, Check}
 use Rattle.cw_commands.specs.Outcomes.{Due}
+use Rattle.cw_cli.specs.Checking.{IsCheckDue}
 use Rattle.cw_cli.specs.Listings.{IsListingDue}
 use Rattle.cw_cli.specs.Refuting.{IsRefuteDue}
 use Rattle.cw_cli.specs.Weaving.{IsWeaveDue}
@@ -11,4 +12,5 @@ abbrev pub IsDue : Command → List (List ℕ) → Due → Type 0
 IsDue Weave (policy ∷ (source ∷ [])) due = IsWeaveDue policy source due
 IsDue Graph (source ∷ []) due = IsListingDue source due
 IsDue Refute (policy ∷ (source ∷ (strategy ∷ []))) due = IsRefuteDue policy source strategy due
+IsDue Check (policy ∷ (text ∷ [])) due = IsCheckDue policy text due
 IsDue command files due = ⊥

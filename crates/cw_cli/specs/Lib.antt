@@ -4,4 +4,6 @@ pub mod Verdicts
 pub mod Weaving
 pub mod Listings
 pub mod Refuting
+pub mod Checking
+pub mod CheckingHeld
 pub mod Due

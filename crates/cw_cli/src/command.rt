@@ -9,6 +9,7 @@ ghost use Rattle.cw_commands.specs.Runs.{Ends};
 ghost use Rattle.cw_commands.specs.Words.{first_command, requested};
 ghost use Rattle.cw_cli.specs.Due.{IsDue};
 
+use crate::checking::check_due;
 use crate::listing::listing_due;
 use crate::refuting::refute_due;
 use crate::weaving::weave_due;
@@ -34,6 +35,7 @@ fn due(alloc: Global, command: Command, files: &[Vec<u8>]) -> Result<Outcome, No
         (Command::Refute, [policy, source, strategy]) => refute_due(
             alloc, policy, source, strategy,
         ),
+        (Command::Check, [policy, text]) => check_due(alloc, policy, text),
         _ => unreachable!(),
     }
 }
@@ -66,8 +68,8 @@ fn perform<'w, F: Shelf, O: Sink>(
 ///
 /// `weave POLICY SOURCE` puts the woven text (0), or the strategy by which the environment beats every weaver (1); `graph SOURCE` puts the
 /// lines of the graph of the source's points (0); `refute POLICY SOURCE STRATEGY` puts `yes` where the strategy beats every weaver (0), or the
-/// first row that fails a condition (1). Words that fit no command are 2, a refused source 3, a refused policy 4, a quantity over
-/// its limit 5, a file that can't be read 6, an output that can't be written 7, want of memory 8, a strategy that isn't of its grammar 9.
+/// first row that fails a condition (1); `check POLICY WOVEN` puts `yes` where the table is sound (0), or the first row that fails a condition (1). Words that fit no command are 2, a refused source 3, a refused policy 4, a quantity over
+/// its limit 5, a file that can't be read 6, an output that can't be written 7, want of memory 8, a strategy or a woven text that isn't of its grammar 9.
 pub fn capweave<F: Shelf, O: Sink, N: Sink>(
     alloc: Global,
     words: &[String],

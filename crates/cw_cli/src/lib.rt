@@ -1,6 +1,7 @@
 //! The top call: words, a shelf and two sinks in, the status out.
 #![tactic(auto)]
 
+mod checking;
 mod command;
 mod listing;
 mod reading;
@@ -9,10 +10,13 @@ mod refuting;
 mod verdict;
 mod weaving;
 
+pub use checking::check_due;
 pub use command::capweave;
 pub use listing::listing_due;
 pub use refuting::refute_due;
 pub use weaving::weave_due;
 
+#[cfg(test)]
+mod checking_tests;
 #[cfg(test)]
 mod tests;

@@ -31,7 +31,7 @@ use cw_syntax::checked::Checked;
 use std::alloc::Global;
 
 /// Some words and a number.
-fn numbered(alloc: Global, words: &[u8], number: u32) -> Result<Vec<u8>, NoMemory>
+pub(crate) fn numbered(alloc: Global, words: &[u8], number: u32) -> Result<Vec<u8>, NoMemory>
     ensures { IfOk result (λ line. line.items ≡ words.now ++ decimal number) }
 {
     let mut line = worded(alloc, words, b"")?;
@@ -58,7 +58,7 @@ fn strategy_refusal(alloc: Global, fault: &TextFault) -> Result<Outcome, NoMemor
 }
 
 /// That the game is over one of its numbers.
-fn game_refusal(alloc: Global, fault: &GameFault) -> Result<Outcome, NoMemory>
+pub(crate) fn game_refusal(alloc: Global, fault: &GameFault) -> Result<Outcome, NoMemory>
     ensures { IfOk result (λ outcome. (fault.now ≢ GameFault.NoMemory) × (due_of outcome ≡ game_refusal fault.now)) }
 {
     match fault {
@@ -141,7 +141,7 @@ fn drawn(
 }
 
 /// Whether a policy splits no function.
-fn splits_none(policy: &Policy) -> bool
+pub(crate) fn splits_none(policy: &Policy) -> bool
     ensures none { result ≡ true → (policy_of policy.now).split ≡ [] }
     ensures some { result ≡ false → (policy_of policy.now).split ≢ [] }
 {

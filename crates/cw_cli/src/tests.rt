@@ -16,7 +16,7 @@ CW_LIVE(4,0)
 CW_DONE
 /*}cw*/int main(void){/*cw{*/CW_ENTRY(0);/*}cw*/return 0;}";
 
-const NEVER_AMBIENT: &str = "/*cw{*/
+pub(crate) const NEVER_AMBIENT: &str = "/*cw{*/
 #include \"capweave.h\"
 #define CW_LIMITS(X)
 CW_TABLE(1,4,0)
@@ -146,7 +146,7 @@ states 4
 end
 ";
 
-fn words(alloc: Global, line: &[&str]) -> Result<Vec<String>, AllocError> {
+pub(crate) fn words(alloc: Global, line: &[&str]) -> Result<Vec<String>, AllocError> {
     let mut words = Vec::new(alloc);
     for word in line {
         words.push(String::from_str(alloc, word)?)?;
@@ -154,7 +154,11 @@ fn words(alloc: Global, line: &[&str]) -> Result<Vec<String>, AllocError> {
     Ok(words)
 }
 
-fn files(alloc: Global, policy: &str, source: &str) -> Result<Vec<(Vec<u8>, Vec<u8>)>, AllocError> {
+pub(crate) fn files(
+    alloc: Global,
+    policy: &str,
+    source: &str,
+) -> Result<Vec<(Vec<u8>, Vec<u8>)>, AllocError> {
     let mut files = Vec::new(alloc);
     for (name, text) in [("p.toml", policy), ("s.c", source)] {
         files.push((

@@ -14,6 +14,8 @@ pub enum Command {
     Graph,
     /// `refute POLICY SOURCE STRATEGY`.
     Refute,
+    /// `check POLICY WOVEN`.
+    Check,
 }
 
 /// The command of this name.
@@ -26,6 +28,8 @@ pub(crate) fn named_by(word: &str) -> Option<Command>
         Some(Command::Graph)
     } else if word == "refute" {
         Some(Command::Refute)
+    } else if word == "check" {
+        Some(Command::Check)
     } else {
         None
     }
@@ -44,6 +48,7 @@ impl Command {
                 Quantity::SourceBytes,
                 Quantity::FileBytes,
             ],
+            Command::Check => &[Quantity::PolicyBytes, Quantity::FileBytes],
         }
     }
 
@@ -55,6 +60,7 @@ impl Command {
             Command::Weave => b"weave POLICY SOURCE",
             Command::Graph => b"graph SOURCE",
             Command::Refute => b"refute POLICY SOURCE STRATEGY",
+            Command::Check => b"check POLICY WOVEN",
         }
     }
 }

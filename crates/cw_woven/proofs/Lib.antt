@@ -6,3 +6,4 @@ pub mod Few
 pub mod Whole
 pub mod Standing
 pub mod OneReading
+pub mod Opening

@@ -1,15 +1,17 @@
 -- Working definitions: what the program's data stand for, and what its functions answer.
-use Rattle.std.specs.Prelude.{ℕ, List, [], ◌∷◌, map, Option, None, Some}
+use Rattle.std.specs.Prelude.{◌≡◌, ℕ, List, [], ◌∷◌, map, Option, None, Some}
 use Rattle.cw_emit.specs.Cut.{opening, closing, HasNone}
 use Rattle.cw_woven.specs.declared.fault.WovenFault.{WovenFault}
 use Rattle.cw_woven.specs.declared.fault.WovenFault.TheVariants as fault
 use Rattle.cw_woven.specs.declared.parts.Piece.{Piece as Held}
+use Rattle.cw_woven.specs.declared.reading.Opened.{Opened}
+use Rattle.cw_rights.specs.Policies.{PlainPolicy}
 use Rattle.cw_woven.specs.declared.scanning.Scanned.{Scanned}
 use Rattle.cw_woven.specs.declared.scanning.Next.{Next}
 use Rattle.cw_woven.specs.declared.scanning.Next.TheVariants as next
-use Rattle.cw_woven.specs.Parts.{Piece, IsCutAt, AreParts}
+use Rattle.cw_woven.specs.Parts.{Piece, IsCutAt, AreParts, without}
 use Rattle.cw_woven.specs.Woven.{IsSpelling}
-use Rattle.cw_woven.specs.Reading.{the_prologue, IsMark, IsNoMark, IsParted}
+use Rattle.cw_woven.specs.Reading.{the_prologue, HasTable, IsFault, IsMark, IsNoMark, IsParted}
 
 abbrev pub piece_of : Held → Piece
 piece_of p = record { gap = p.gap.now; inner = p.inner.now }
@@ -31,3 +33,14 @@ abbrev pub IsScanFault : List ℕ → WovenFault → Type 0
 IsScanFault text (fault.Mark at) = IsMark text at
 IsScanFault text fault.NoMemory = Unit {0}
 IsScanFault text other = ⊥
+
+-- the text is of parts, with the table in the first, and without them it is the source
+pub record IsOpened (policy : PlainPolicy) (o : Opened) : Type 0 where
+  pub has : HasTable policy o.text.now (map piece_of o.marks.items) o.left.now o.table
+  pub is : o.source.items ≡ without (map piece_of o.marks.items) o.left.now
+
+abbrev pub IsUnopened : PlainPolicy → List ℕ → WovenFault → Type 0
+IsUnopened policy text (fault.Mark at) = IsFault policy text (fault.Mark at)
+IsUnopened policy text (fault.Table why) = IsFault policy text (fault.Table why)
+IsUnopened policy text fault.NoMemory = Unit {0}
+IsUnopened policy text other = ⊥

@@ -107,6 +107,12 @@ IsFault policy text (Misplaced n) =
     × IsFirstDifference (places marks) (map (placed policy (without marks left)) (seam_marks policy (without marks left) file)) n
 IsFault policy text NoMemory = Unit {0}
 
+-- the same, of a text which without its parts is this source
+abbrev pub IsFaultOver : PlainPolicy → (text source : List ℕ) → WovenFault → Type 0
+IsFaultOver policy text source (InSource fault) =
+    (marks : List Piece) × (left : List ℕ) × (table : Table) × HasTable policy text marks left table × (source ≡ without marks left) × IsCutFault policy source fault
+IsFaultOver policy text source fault = IsFault policy text fault
+
 -- the text is read as a source and a table
 abbrev pub Reads : PlainPolicy → (text source : List ℕ) → Table → Type 0
 Reads policy text source table = (file : File) × ReadsWoven policy text source file table

@@ -1,25 +1,25 @@
-//! Sources that are accepted, with the marks of their seams.
+//! Sources that are accepted, with the graphs of their points.
 
-ghost use Rattle.std.specs.Prelude.{◌≡◌, ◌≤◌, length, map, IfOk, IfErr, None};
+ghost use Rattle.std.specs.Prelude.{◌≡◌, ◌≤◌, length, IfOk, IfErr, None};
 ghost use Rattle.cw_core.specs.Quantities.{limit_of};
 ghost use Rattle.cw_core.specs.declared.quantity.Quantity.TheVariants.{SourceBytes};
 ghost use Rattle.cw_rights.specs.Policies.{policy_of};
 ghost use Rattle.cw_rights.specs.Valid.{IsValid};
-ghost use Rattle.cw_syntax.specs.Marks.{mark_of};
+ghost use Rattle.cw_actions.specs.Scenes.{names_of};
+ghost use Rattle.cw_points.specs.Graphs.{IsGraph};
 ghost use Rattle.cw_syntax.specs.Trees.{file_of};
 ghost use Rattle.cw_scope.specs.Descriptors.{descriptor_fault};
 ghost use Rattle.cw_source.specs.Read.{ReadsAs};
-ghost use Rattle.cw_woven.specs.Accepting.{HasMarks, IsRefused};
+ghost use Rattle.cw_woven.specs.Accepting.{IsRefused};
+ghost use Rattle.cw_woven.specs.Reading.{IsAccepted};
 
 use crate::fault::{CutFault, WovenFault};
-use cw_points::PointsFault;
 use cw_points::build::build;
-use cw_points::marks::marks;
+use cw_points::{Graph, PointsFault};
 use cw_rights::Policy;
 use cw_scope::{DescriptorFault, check_descriptors};
 use cw_source::{SourceFault, read_source};
 use cw_syntax::checked::Checked;
-use cw_syntax::marks::SeamMark;
 use std::alloc::Global;
 
 /// The most bytes of a source.
@@ -74,14 +74,23 @@ fn keep_rules(alloc: Global, policy: &Policy, checked: &Checked) -> Result<(), W
     }
 }
 
-/// The marks of the seams of a source that is accepted.
-pub(crate) fn marks_of(
+/// A source that is accepted: its program, and the graph of its points.
+#[derive(Drop)]
+pub struct Accepted<'s> {
+    pub checked: Checked<'s>,
+    pub graph: Graph,
+}
+
+/// The program and the graph of a source that is accepted.
+pub(crate) fn accept<'s>(
     alloc: Global,
     policy: &Policy,
-    source: &[u8],
-) -> Result<Vec<SeamMark>, WovenFault>
+    source: &'s [u8],
+) -> Result<Accepted<'s>, WovenFault>
     requires valid { IsValid (policy_of policy.now) }
-    ensures marks { IfOk result (λ marks. HasMarks (policy_of policy.now) source.now (map mark_of marks.items)) }
+    ensures source { IfOk result (λ a. a.checked.source.now ≡ source.now) }
+    ensures accepted { IfOk result (λ a. IsAccepted (policy_of policy.now) source.now (file_of a.checked.program)) }
+    ensures graph { IfOk result (λ a. IsGraph (names_of (policy_of policy.now)) source.now (file_of a.checked.program) a.graph) }
     ensures fault { IfErr result (IsRefused (policy_of policy.now) source.now) }
 {
     let checked = read(alloc, policy, source)?;
@@ -93,6 +102,5 @@ pub(crate) fn marks_of(
             return Err(WovenFault::Source(CutFault::TooManyPoints));
         }
     };
-    let marks = marks(alloc, &graph)?;
-    Ok(marks)
+    Ok(Accepted { checked, graph })
 }

@@ -10,5 +10,6 @@ mod reading;
 mod scanning;
 mod spelling;
 
+pub use acceptance::Accepted;
 pub use fault::{CutFault, WovenFault};
-pub use reading::{Woven, read_woven};
+pub use reading::{Opened, Woven, accept_woven, open_woven, read_woven};

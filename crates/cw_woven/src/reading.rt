@@ -3,17 +3,22 @@
 ghost use Rattle.std.specs.Prelude.{◌≡◌, ◌≤◌, length, IfOk, IfErr};
 ghost use Rattle.cw_rights.specs.Policies.{policy_of};
 ghost use Rattle.cw_rights.specs.Valid.{IsValid};
+ghost use Rattle.cw_syntax.specs.Trees.{file_of};
+ghost use Rattle.cw_actions.specs.Scenes.{names_of};
+ghost use Rattle.cw_points.specs.Graphs.{IsGraph};
 ghost use Rattle.cw_tabletext.specs.Grammar.{Spells};
 ghost use Rattle.cw_woven.specs.Accepting.{IsRefusedTable};
-ghost use Rattle.cw_woven.specs.Reading.{IsFault, Reads};
+ghost use Rattle.cw_woven.specs.Held.{IsOpened, IsUnopened};
+ghost use Rattle.cw_woven.specs.Reading.{IsFault, IsFaultOver, Reads, ReadsWoven};
 
-use crate::acceptance::marks_of;
+use crate::acceptance::{Accepted, accept};
 use crate::comparing::compare;
 use crate::fault::WovenFault;
-use crate::parts::without;
-use crate::scanning::scan;
+use crate::parts::{Piece, without};
+use crate::scanning::{Scanned, scan};
 use cw_certs::WeaverCert;
 use cw_lines::TextFault;
+use cw_points::marks::marks;
 use cw_rights::Policy;
 use cw_tabletext::read_tables;
 use std::alloc::Global;
@@ -40,6 +45,91 @@ fn table_of(alloc: Global, lines: &[u8], policy: &Policy) -> Result<WeaverCert, 
     }
 }
 
+/// A text in parts, the first of which is a prologue: its source, which isn't read yet, and its table.
+#[derive(Drop)]
+pub struct Opened<'t> {
+    pub(crate) text: &'t [u8],
+    pub(crate) marks: Vec<Piece<'t>>,
+    pub(crate) left: &'t [u8],
+    /// The text without its parts, in bytes.
+    pub source: Vec<u8>,
+    /// The table of its prologue.
+    pub table: WeaverCert,
+}
+
+/// The parts of a text of at most 33,554,432 bytes, with its table; or the first mark or line at fault. `NoMemory`: memory ran out.
+pub fn open_woven<'t>(
+    alloc: Global,
+    text: &'t [u8],
+    policy: &Policy,
+) -> Result<Opened<'t>, WovenFault>
+    requires short { length text.now ≤ 33554432 }
+    ensures text { IfOk result (λ opened. opened.text.now ≡ text.now) }
+    ensures opened { IfOk result (λ opened. IsOpened (policy_of policy.now) opened) }
+    ensures fault { IfErr result (IsUnopened (policy_of policy.now) text.now) }
+{
+    let scanned = scan(alloc, text)?;
+    let table = table_of(alloc, scanned.lines, policy)?;
+    let source = without(alloc, &scanned.marks, scanned.left)?;
+    let Scanned {
+        lines: _,
+        marks,
+        left,
+    } = scanned;
+    Ok(Opened {
+        text,
+        marks,
+        left,
+        source,
+        table,
+    })
+}
+
+/// The program and the graph of the source of a text in parts, whose marks are those of its seams; or the first fault of the source, or the
+/// first mark that isn't that of its seam. `NoMemory`: memory ran out.
+pub fn accept_woven<'s>(
+    alloc: Global,
+    opened: &'s Opened,
+    policy: &Policy,
+) -> Result<Accepted<'s>, WovenFault>
+    requires valid { IsValid (policy_of policy.now) }
+    requires opened { IsOpened (policy_of policy.now) opened.now }
+    ensures source { IfOk result (λ a. a.checked.source.now ≡ opened.now.source.items) }
+    ensures reads { IfOk result (λ a. ReadsWoven (policy_of policy.now) opened.now.text.now opened.now.source.items (file_of a.checked.program) opened.now.table) }
+    ensures graph { IfOk result (λ a. IsGraph (names_of (policy_of policy.now)) opened.now.source.items (file_of a.checked.program) a.graph) }
+    ensures fault { IfErr result (IsFaultOver (policy_of policy.now) opened.now.text.now opened.now.source.items) }
+{
+    let accepted = match accept(alloc, policy, &opened.source) {
+        Ok(accepted) => accepted,
+        Err(fault) => return Err(fault),
+    };
+    let marks = marks(alloc, &accepted.graph)?;
+    match compare(
+        alloc,
+        &opened.marks,
+        opened.left,
+        &marks,
+        &opened.source,
+        policy,
+    ) {
+        Ok(()) => Ok(accepted),
+        Err(fault) => Err(fault),
+    }
+}
+
+/// That the source of a text in parts is accepted, with its marks; or why not.
+fn is_woven(alloc: Global, opened: &Opened, policy: &Policy) -> Result<(), WovenFault>
+    requires valid { IsValid (policy_of policy.now) }
+    requires opened { IsOpened (policy_of policy.now) opened.now }
+    ensures reads { IfOk result (λ _. Reads (policy_of policy.now) opened.now.text.now opened.now.source.items opened.now.table) }
+    ensures fault { IfErr result (IsFault (policy_of policy.now) opened.now.text.now) }
+{
+    match accept_woven(alloc, opened, policy) {
+        Ok(_) => Ok(()),
+        Err(fault) => return Err(fault),
+    }
+}
+
 /// The source and the table that a text of at most 33,554,432 bytes stands for.
 ///
 /// Any other text is refused by the first of these: the first opening that isn't closed or whose part is no mark (0 where the
@@ -52,15 +142,15 @@ pub fn read_woven(alloc: Global, text: &[u8], policy: &Policy) -> Result<Woven, 
     ensures reads { IfOk result (λ woven. Reads (policy_of policy.now) text.now woven.source.items woven.table) }
     ensures fault { IfErr result (IsFault (policy_of policy.now) text.now) }
 {
-    let scanned = scan(alloc, text)?;
-    let table = table_of(alloc, scanned.lines, policy)?;
-    let source = without(alloc, &scanned.marks, scanned.left)?;
-    let marks = match marks_of(alloc, policy, &source) {
-        Ok(marks) => marks,
+    let opened = match open_woven(alloc, text, policy) {
+        Ok(opened) => opened,
         Err(fault) => return Err(fault),
     };
-    match compare(alloc, &scanned.marks, scanned.left, &marks, &source, policy) {
-        Ok(()) => Ok(Woven { source, table }),
+    match is_woven(alloc, &opened, policy) {
+        Ok(()) => {
+            let Opened { source, table, .. } = opened;
+            Ok(Woven { source, table })
+        }
         Err(fault) => Err(fault),
     }
 }

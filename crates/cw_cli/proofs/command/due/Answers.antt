@@ -1,5 +1,5 @@
 use Rattle.std.proofs.Common.{◌≡◌, length, map, arith}
-use Rattle.cw_cli.proofs.Dues.{listing_is_due, one_of, refute_is_due, three_of, two_of, weave_is_due}
+use Rattle.cw_cli.proofs.Dues.{check_is_due, listing_is_due, one_of, refute_is_due, three_of, two_of, weave_is_due}
 use Rattle.cw_cli.proofs.command.due.Goals as goal
 
 pub returns-in-Weave-len2 : goal.returns-in-Weave-len2
@@ -27,3 +27,13 @@ returns-in-Refute-len3 c =
     refute_is_due c.args.command (map (λ file. file.items) files) c.refute_due.result policy.items source.items strategy.items
     c.deref-in-Refute-len3.result.now c.deref-in-Refute-len3-2.result.now c.deref-in-Refute-len3-3.result.now c.in-Refute-len3.is-0 are
     c.deref-in-Refute-len3.ensures.value c.deref-in-Refute-len3-2.ensures.value c.deref-in-Refute-len3-3.ensures.value c.refute_due.ensures.due
+
+pub returns-in-Check-len2 : goal.returns-in-Check-len2
+returns-in-Check-len2 c =
+    let files = c.args.files.now in
+    let policy = c.policy-item-then-this-lt3-3.result in
+    let text = c.text-item.result in
+    let many : length files ≡ 2 = omega (arith, c.in-Check-len2.len_at_least, c.in-Check-len2.len_below) in
+    let are = two_of (λ file. file.items) files policy text many c.policy-item-then-this-lt3-3.is c.text-item.is in
+    check_is_due c.args.command (map (λ file. file.items) files) c.check_due.result policy.items text.items c.deref-in-Check-len2.result.now c.deref-in-Check-len2-2.result.now c.in-Check-len2.is-0 are
+    c.deref-in-Check-len2.ensures.value c.deref-in-Check-len2-2.ensures.value c.check_due.ensures.due
