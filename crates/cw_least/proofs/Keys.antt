@@ -24,7 +24,7 @@ both_equal Less b e = cc
 both_equal Equal b e = (refl, e)
 both_equal Greater b e = cc
 
-same_key : (h p q a i r s b : ℕ) → h ≡ i → p ≡ r → q ≡ s → a ≡ b → (◌≡◌ {A = Key} (record { height = h; pos = p; state = q; aim = a }) (record { height = i; pos = r; state = s; aim = b }))
+pub same_key : (h p q a i r s b : ℕ) → h ≡ i → p ≡ r → q ≡ s → a ≡ b → (◌≡◌ {A = Key} (record { height = h; pos = p; state = q; aim = a }) (record { height = i; pos = r; state = s; aim = b }))
 same_key h p q a i r s b d e f k = cc
 
 pub key_exact : IsAntisymmetric key_cmp

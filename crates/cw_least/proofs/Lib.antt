@@ -10,3 +10,4 @@ pub mod Finding
 pub mod Looking
 pub mod Acting
 pub mod Made
+pub mod Tabled

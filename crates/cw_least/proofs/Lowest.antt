@@ -44,7 +44,8 @@ module _ (g : Game) (functions : ℕ) (routed : AreRouted g functions) (p q prom
       by false f = f
       by true t = let z = absent n t in absurd (omega (arith, z, h))
 
-  one_height : (a b : ℕ) → IsHeight g p q promise a → IsHeight g p q promise b → a ≡ b
+  -- a pair has one height
+  pub one_height : (a b : ℕ) → IsHeight g p q promise a → IsHeight g p q promise b → a ≡ b
   one_height a b x y = elim (cases_lt a b) [
     | inl lt ↦ let w : true ≡ false = sym (y.least a lt) ∙ x.lost in cc
     | inr le ↦ elim (cases_lt b a) [

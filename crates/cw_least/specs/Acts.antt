@@ -1,10 +1,10 @@
 -- Working definitions, for proofs and contracts inside: what the code's values stand for, and where it looks a height up.
 use Rattle.std.specs.Prelude.{◌≡◌, ℕ, ◌<◌, List, map, Bool, false, ◌&&◌, Option, Some, None, nat_eq, nat_le, length, slice_get}
 use Rattle.cw_game.specs.Games.{Game}
-use Rattle.cw_game.specs.Pairs.{Called}
+use Rattle.cw_game.specs.Pairs.{Called, all_states}
 use Rattle.cw_product.specs.Product.{game_of}
 use Rattle.cw_solve.specs.declared.contexts.Context.{Context}
-use Rattle.cw_solve.specs.Contexts.{context, IsOf, IsNeeded}
+use Rattle.cw_solve.specs.Contexts.{context, IsOf, IsHeight, IsNeeded}
 use Rattle.cw_solve.specs.Solved.{Held}
 use Rattle.cw_solve.specs.Tables.{HasCall}
 use Rattle.cw_least.specs.declared.acts.Act.{Act as ActData}
@@ -12,7 +12,7 @@ use Rattle.cw_least.specs.declared.acts.Act.TheVariants as given
 use Rattle.cw_least.specs.Heights.{others}
 use Rattle.cw_core.specs.declared.ids.StateId.{StateId}
 use Rattle.cw_least.specs.declared.key.Key.{Key}
-use Rattle.cw_least.specs.Strategies.{backs_in, row_at, Act, Bad, Out, Both, Go, Into}
+use Rattle.cw_least.specs.Strategies.{backs_in, row_at, start_key, Act, Bad, Out, Both, Go, Into}
 
 abbrev pub act_of : ActData → Act
 act_of given.Bad = Bad
@@ -53,3 +53,15 @@ backs_of g keys k = backs_in (row_at g keys k).how
 -- the key of a back
 abbrev pub key_of_back : StateId × Key → Key
 key_of_back b = b.1
+
+-- the start's height under the promise of all states
+abbrev pub IsStartHeight : Game → ℕ → Type 0
+IsStartHeight g height = IsHeight g (g.entry g.main) g.states.start (all_states g) height
+
+-- the start is lost
+abbrev pub IsLost : Game → Type 0
+IsLost g = (height : ℕ) × IsStartHeight g height
+
+-- the key of the start, with its height
+abbrev pub IsStartKey : Game → Key → Type 0
+IsStartKey g k = (height : ℕ) × IsStartHeight g height × (k ≡ start_key g height)

@@ -8,6 +8,8 @@ pub mod key;
 pub mod laws;
 mod named;
 mod rows;
+pub mod table;
 
 pub use fault::TableFault;
 pub use key::{Key, Way};
+pub use table::env_table;
