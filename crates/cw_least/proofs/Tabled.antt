@@ -1,5 +1,5 @@
 -- The strategy that the start's keys give, and how many rows it has.
-use Rattle.std.proofs.Common.{◌≡◌, ℕ, ◌+◌, ◌<◌, ◌≤◌, List, [], ◌∷◌, true, false, map, length, Option, Some, None, refl, sym, ap, ◌∙◌, subst, arith}
+use Rattle.std.proofs.Common.{◌≡◌, ℕ, ◌+◌, ◌<◌, ◌≤◌, List, [], ◌∷◌, true, false, map, length, Option, Some, None, refl, sym, ap, ◌∙◌, subst, arith, inl, inr}
 use Rattle.std.specs.Prelude.{slice_get, sum_by}
 use Rattle.std.specs.List.{Contains}
 use Rattle.std.specs.List.Sorted.{IsStrictlySortedBy}
@@ -26,7 +26,7 @@ use Rattle.cw_least.proofs.Keys.{key_total, equal_is, same_key}
 use Rattle.cw_least.proofs.Counting.{exactly_same, count_is}
 use Rattle.cw_least.proofs.Lowest as lowest
 use Rattle.cw_least.proofs.Made.{start_state}
-use Rattle.cw_least.proofs.Naming.{all_keys, reached_keys, start_is}
+use Rattle.cw_least.proofs.Naming.{none_in, first_or_later, all_keys, reached_keys, start_is}
 
 decides_key : (a b : Key) → Decides (eq_by_cmp key_cmp a b) (a ≡ b)
 decides_key a b = (λ e. equal_is a b e, λ e. subst (λ y. eq_by_cmp key_cmp a y ≡ true) e (ap is_eq (tied_itself key_total a)))
@@ -42,7 +42,7 @@ module _ (h : Held) (made : IsMade h.game) where
   abbrev functions : ℕ
   functions = length h.game.graph.parts.items
 
-  routed : AreRouted g functions
+  pub routed : AreRouted g functions
   routed = routed_of h.game made
 
   -- the start stands in the first context
@@ -77,8 +77,14 @@ module _ (h : Held) (made : IsMade h.game) where
   start_key_is k s = subst (IsKey g functions) (sym s.2) (start_is g functions routed s.0 (start_state h.game made) s.1)
 
   -- it may be asked for, and all that it names
-  pub start_followed : (k : Key) → IsStartKey g k → IsFollowed h k
+  start_followed : (k : Key) → IsStartKey g k → IsFollowed h k
   start_followed k s = record { routed = routed; keys = λ b l. all_keys g functions routed k b (start_key_is k s) l }
+
+  pub starts_followed : (k : Key) → IsStartKey g k → (b : Key) → Contains (k ∷ []) b → IsFollowed h b
+  starts_followed k s b i = elim (first_or_later k [] b i) [
+    | inl e ↦ subst (IsFollowed h) e (start_followed k s)
+    | inr d ↦ absurd (none_in b d)
+  ]
 
   -- what is reached from it are keys
   pub reached_are : (k : Key) → IsStartKey g k → (keys : List Key) → Exactly key_cmp (Reached (named g) (k ∷ [])) keys → (b : Key) → Contains keys b → IsKey g functions b
