@@ -1,4 +1,4 @@
-use Rattle.std.proofs.Common.{sym, subst}
+use Rattle.std.proofs.Common.{rules, sym, subst}
 use Rattle.cw_certs.specs.Strategies.{strategy_of}
 use Rattle.cw_product.specs.Product.{Held, game_of}
 use Rattle.cw_least.specs.Acts.{IsLost}
@@ -11,5 +11,5 @@ strategy_within-requires-clause-lost c = subst (λ (x : Held). IsLost (game_of x
 
 pub returns-in-Ok-Some-clause-good : goal.returns-in-Ok-Some-clause-good
 returns-in-Ok-Some-clause-good c =
-    made_good c.args.game.now c.requires.made (strategy_of c.in-Ok-Some.strategy)
-    (subst (λ (x : Held). IsLeastStrategy (game_of x) (strategy_of c.in-Ok-Some.strategy)) c.requires.solved c.in-Ok-Some.ensures.least)
+    let least : IsLeastStrategy (game_of c.args.solved.now.game) (strategy_of c.in-Ok-Some.strategy) = search rules in
+    made_good c.args.game.now c.requires.made (strategy_of c.in-Ok-Some.strategy) (subst (λ (x : Held). IsLeastStrategy (game_of x) (strategy_of c.in-Ok-Some.strategy)) c.requires.solved least)
