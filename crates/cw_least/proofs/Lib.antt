@@ -11,3 +11,4 @@ pub mod Looking
 pub mod Acting
 pub mod Made
 pub mod Tabled
+pub mod Backs

@@ -1,5 +1,6 @@
 -- The definitions.
 pub mod Acts
+pub mod Backs
 pub mod Heights
 pub mod Kept
 pub mod Laws

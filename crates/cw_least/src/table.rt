@@ -8,6 +8,7 @@ ghost use Rattle.cw_product.specs.Product.{game_of};
 ghost use Rattle.cw_solve.specs.Contexts.{IsHeight};
 ghost use Rattle.cw_solve.specs.Made.{IsMade};
 ghost use Rattle.cw_least.specs.Acts.{IsLost, IsStartHeight, IsStartKey};
+ghost use Rattle.cw_least.specs.Backs.{BacksAscend};
 ghost use Rattle.cw_least.specs.Strategies.{IsLeastStrategy, rows_of};
 
 use crate::fault::TableFault;
@@ -71,9 +72,12 @@ fn strategy_within(alloc: Global, solved: &Solved) -> Result<Option<EnvCert>, Al
     }
 }
 
-/// The strategy by least heights of a solved game whose start is lost: of height, position, state and aim of its rows, and what each does, says
-/// `IsLeastStrategy`. It meets the eight conditions of a strategy, and is the one that this game has. TooManyRows comes exactly where its rows and
-/// the backs of each are more than 65,536 together; NoMemory is want of memory alone.
+/// The strategy by least heights of a solved game whose start is lost (`IsLeastStrategy`): of the right number of
+/// states, a row for each key that the start's names, by height, position, state and aim, and the backs of each by exit
+/// state. It meets the eight conditions of a strategy; by the last of them a row stands at the start, with an empty aim.
+///
+/// TooManyRows comes only where its rows, and the backs of each, are more than 65,536 together, and an answer only where
+/// they are not. NoMemory is want of memory.
 ///
 /// Public source: the environment's strategies of Harris, Jha, Reps, Anderson and Watson (2013).
 pub fn env_table(alloc: Global, game: &Game, solved: &Solved) -> Result<EnvCert, TableFault>
@@ -82,6 +86,7 @@ pub fn env_table(alloc: Global, game: &Game, solved: &Solved) -> Result<EnvCert,
     requires lost { (n : ℕ) × IsHeight (game_of game.now) ((game_of game.now).entry (game_of game.now).main)
         (game_of game.now).states.start (all_states (game_of game.now)) n }
     ensures least { IfOk result (λ s. IsLeastStrategy (game_of game.now) (strategy_of s)) }
+    ensures ascend { IfOk result (λ s. BacksAscend (strategy_of s)) }
     ensures good { IfOk result (λ s. IsGoodStrategy (game_of game.now) (strategy_of s)) }
     ensures few { IfOk result (λ s. rows_of (strategy_of s) ≤ 65536) }
     ensures many { IfErr result (λ fault. fault ≡ TableFault.TooManyRows → (s : Strategy) → IsLeastStrategy (game_of game.now) s → 65536 < rows_of s) }

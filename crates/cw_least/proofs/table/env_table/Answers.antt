@@ -3,6 +3,7 @@ use Rattle.cw_certs.specs.Strategies.{strategy_of}
 use Rattle.cw_product.specs.Product.{Held, game_of}
 use Rattle.cw_least.specs.Acts.{IsLost}
 use Rattle.cw_least.specs.Strategies.{IsLeastStrategy}
+use Rattle.cw_least.proofs.Backs.{least_ascend}
 use Rattle.cw_least.proofs.Made.{made_good}
 use Rattle.cw_least.proofs.table.env_table.Goals as goal
 
@@ -13,3 +14,8 @@ pub returns-in-Ok-Some-clause-good : goal.returns-in-Ok-Some-clause-good
 returns-in-Ok-Some-clause-good c =
     let least : IsLeastStrategy (game_of c.args.solved.now.game) (strategy_of c.in-Ok-Some.strategy) = search rules in
     made_good c.args.game.now c.requires.made (strategy_of c.in-Ok-Some.strategy) (subst (λ (x : Held). IsLeastStrategy (game_of x) (strategy_of c.in-Ok-Some.strategy)) c.requires.solved least)
+
+pub returns-in-Ok-Some-clause-ascend : goal.returns-in-Ok-Some-clause-ascend
+returns-in-Ok-Some-clause-ascend c =
+    let least : IsLeastStrategy (game_of c.args.solved.now.game) (strategy_of c.in-Ok-Some.strategy) = search rules in
+    least_ascend (game_of c.args.solved.now.game) (strategy_of c.in-Ok-Some.strategy) least
