@@ -15,7 +15,7 @@ use Rattle.cw_game.specs.Pairs.{Called, call_in}
 use Rattle.cw_least.specs.declared.key.Key.{Key}
 use Rattle.cw_least.specs.declared.key.Way.{Way}
 use Rattle.cw_least.specs.Backs.{back_cmp, Ascends, BacksAscend}
-use Rattle.cw_least.specs.Strategies.{moves, best, after_return, is_lost_after, back_at, goes, inner, act_in, act, number, how_by, row_at, IsLeastStrategy}
+use Rattle.cw_least.specs.Strategies.{moves, best, after_return, is_lost_after, back_at, goes, inner, act_in, number, how_by, row_at, IsLeastStrategy}
 use Rattle.cw_least.proofs.Naming.{from_mapped}
 
 -- numbered backs of ascending exit states

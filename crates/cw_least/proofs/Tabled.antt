@@ -1,6 +1,6 @@
 -- The strategy that the start's keys give, and how many rows it has.
 use Rattle.std.proofs.Common.{◌≡◌, ℕ, ◌+◌, ◌<◌, ◌≤◌, List, [], ◌∷◌, true, false, map, length, Option, Some, None, refl, sym, ap, ◌∙◌, subst, arith, inl, inr}
-use Rattle.std.specs.Prelude.{slice_get, sum_by}
+use Rattle.std.specs.Prelude.{sum_by}
 use Rattle.std.specs.List.{Contains}
 use Rattle.std.specs.List.Sorted.{IsStrictlySortedBy}
 use Rattle.std.specs.Ordering.{eq_by_cmp, is_eq}
@@ -8,14 +8,14 @@ use Rattle.std.specs.Bool.{Decides}
 use Rattle.std.specs.Cmp.{eq_by_cmp_equiv, tied_itself}
 use Rattle.std.proofs.lemmas.Map.Keys.{IsDistinct-from_sorted}
 use Rattle.std.proofs.lemmas.Map.Made.{length-le_from_is_member, is_member-Decides}
-use Rattle.cw_certs.specs.Strategies.{Row, Strategy}
+use Rattle.cw_certs.specs.Strategies.{Strategy}
 use Rattle.cw_closure.specs.Closures.{Reached, Exactly, HasMore}
 use Rattle.cw_game.specs.Games.{Game}
 use Rattle.cw_game.specs.Pairs.{all_states}
 use Rattle.cw_product.specs.Product.{Held as HeldGame, game_of}
 use Rattle.cw_solve.specs.Contexts.{context, HeightIs, AreTheNeeded}
 use Rattle.cw_solve.specs.Made.{IsMade}
-use Rattle.cw_solve.specs.Routes.{IsState, AreRouted}
+use Rattle.cw_solve.specs.Routes.{AreRouted}
 use Rattle.cw_solve.specs.Solved.{Held, IsNumbered, IsHeightIn}
 use Rattle.cw_solve.proofs.Routing.{routed_of}
 use Rattle.cw_least.specs.declared.key.Key.{Key}
