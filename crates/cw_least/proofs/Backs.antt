@@ -43,7 +43,8 @@ module _ (keys : List Key) (f : ℕ → Option (ℕ × Key)) (at : (x : ℕ) (b 
   ascending a zero = tt
   ascending a (suc n) = by (f a) refl (ascending (a + 1) n)
     where
-      by : (o : Option (ℕ × Key)) → f a ≡ o → IsStrictlySortedBy back_cmp (backs (a + 1) n) → IsStrictlySortedBy back_cmp (map numbered (cons_option o (filter_map f (range_with_len (a + 1) n))))
+      by : (o : Option (ℕ × Key)) → f a ≡ o → IsStrictlySortedBy back_cmp (backs (a + 1) n)
+          → IsStrictlySortedBy back_cmp (map numbered (cons_option o (filter_map f (range_with_len (a + 1) n))))
       by None e h = h
       by (Some b) e h =
           let same : b.0 ≡ a = at a b e in

@@ -33,7 +33,13 @@ decides_key a b = (λ e. equal_is a b e, λ e. subst (λ y. eq_by_cmp key_cmp a 
 
 -- ascending keys that are all among others are no more than they
 few_keys : (xs ys : List Key) → IsStrictlySortedBy key_cmp xs → ((k : Key) → Contains xs k → Contains ys k) → length xs ≤ length ys
-few_keys xs ys s h = length-le_from_is_member (eq_by_cmp_equiv key_total) xs ys (IsDistinct-from_sorted key_cmp xs s) (λ q e. (is_member-Decides decides_key ys q).1 (h q ((is_member-Decides decides_key xs q).0 e)))
+few_keys xs ys s h =
+    length-le_from_is_member (eq_by_cmp_equiv key_total) xs ys (IsDistinct-from_sorted key_cmp xs s)
+    (λ q e. (is_member-Decides decides_key ys q).1 (h q ((is_member-Decides decides_key xs q).0 e)))
+
+-- all keys that are reached from one
+abbrev pub AreFrom : Game → Key → List Key → Type 0
+AreFrom g k keys = Exactly key_cmp (Reached (named g) (k ∷ [])) keys
 
 module _ (h : Held) (made : IsMade h.game) where
   abbrev g : Game
@@ -50,7 +56,8 @@ module _ (h : Held) (made : IsMade h.game) where
   start_numbered n = (context g.main (all_states g), n.first, (omega arith, routed.main.begins), start_state h.game made)
 
   -- where the game that is held is this one
-  module _ (x : HeldGame) (same : x ≡ h.game) (p q : ℕ) (at : p ≡ (game_of x).entry (game_of x).main) (in' : q ≡ (game_of x).states.start) where
+  module _ (x : HeldGame) (same : x ≡ h.game) (p q : ℕ) (at : p ≡ (game_of x).entry (game_of x).main)
+      (in' : q ≡ (game_of x).states.start) where
     pub pos_is : p ≡ g.entry g.main
     pos_is = at ∙ ap (λ (y : HeldGame). (game_of y).entry (game_of y).main) same
 
@@ -58,11 +65,15 @@ module _ (h : Held) (made : IsMade h.game) where
     state_is = in' ∙ ap (λ (y : HeldGame). (game_of y).states.start) same
 
     pub start_cell : AreTheNeeded g h.contexts → IsNumbered h 0 p q
-    start_cell n = subst (λ (k : ℕ). IsNumbered h 0 k q) (sym pos_is) (subst (λ (k : ℕ). IsNumbered h 0 (g.entry g.main) k) (sym state_is) (start_numbered n))
+    start_cell n =
+        subst (λ (k : ℕ). IsNumbered h 0 k q) (sym pos_is)
+        (subst (λ (k : ℕ). IsNumbered h 0 (g.entry g.main) k) (sym state_is) (start_numbered n))
 
     height_there : (o : Option ℕ) → AreTheNeeded g h.contexts → IsHeightIn h 0 p q o → HeightIs g (g.entry g.main) g.states.start (all_states g) o
     height_there o n i =
-        subst (λ (k : ℕ). HeightIs g (g.entry g.main) k (all_states g) o) state_is (subst (λ (k : ℕ). HeightIs g k q (all_states g) o) pos_is (i (context g.main (all_states g)) n.first))
+        subst (λ (k : ℕ). HeightIs g (g.entry g.main) k (all_states g) o) state_is
+        (subst (λ (k : ℕ). HeightIs g k q (all_states g) o) pos_is
+        (i (context g.main (all_states g)) n.first))
 
     pub start_high : (height : ℕ) → AreTheNeeded g h.contexts → IsHeightIn h 0 p q (Some height) → IsStartHeight g height
     start_high height n i = height_there (Some height) n i
@@ -71,7 +82,8 @@ module _ (h : Held) (made : IsMade h.game) where
     start_kept n i lost = let w : true ≡ false = sym (height_there None n i lost.0) ∙ lost.1.lost in cc
 
     pub start_key_of : (height aim : ℕ) → IsStartHeight g height → aim ≡ 0 → IsStartKey g (record { height = height; pos = p; state = q; aim = aim })
-    start_key_of height aim is none = (height, is, same_key height p q aim height (g.entry g.main) g.states.start 0 refl pos_is state_is none)
+    start_key_of height aim is none =
+        (height, is, same_key height p q aim height (g.entry g.main) g.states.start 0 refl pos_is state_is none)
 
   start_key_is : (k : Key) → IsStartKey g k → IsKey g functions k
   start_key_is k s = subst (IsKey g functions) (sym s.2) (start_is g functions routed s.0 (start_state h.game made) s.1)
@@ -87,25 +99,26 @@ module _ (h : Held) (made : IsMade h.game) where
   ]
 
   -- what is reached from it are keys
-  pub reached_are : (k : Key) → IsStartKey g k → (keys : List Key) → Exactly key_cmp (Reached (named g) (k ∷ [])) keys → (b : Key) → Contains keys b → IsKey g functions b
+  pub reached_are : (k : Key) → IsStartKey g k → (keys : List Key) → AreFrom g k keys → (b : Key) → Contains keys b → IsKey g functions b
   reached_are k s keys e b c = reached_keys g functions routed k b (start_key_is k s) ((e.1 b).0 c)
 
   -- the strategy
-  pub least_of : (k : Key) → IsStartKey g k → (keys : List Key) → Exactly key_cmp (Reached (named g) (k ∷ [])) keys → (s : Strategy) → s.states ≡ g.states.count → s.rows ≡ map (row_at g keys) keys → IsLeastStrategy g s
+  pub least_of : (k : Key) → IsStartKey g k → (keys : List Key) → AreFrom g k keys → (s : Strategy) → s.states ≡ g.states.count
+      → s.rows ≡ map (row_at g keys) keys → IsLeastStrategy g s
   least_of k st keys e s n r = record {
     height = st.0;
     is_height = st.1;
     keys = keys;
-    exactly = subst (λ b. Exactly key_cmp (Reached (named g) (b ∷ [])) keys) st.2 e;
+    exactly = subst (λ b. AreFrom g b keys) st.2 e;
     states = n;
     rows = r;
   }
 
   -- all strategies by least heights have the keys that this start key's reaches
-  keys_from : (k : Key) → IsStartKey g k → (s : Strategy) (is : IsLeastStrategy g s) → Exactly key_cmp (Reached (named g) (k ∷ [])) is.keys
+  keys_from : (k : Key) → IsStartKey g k → (s : Strategy) (is : IsLeastStrategy g s) → AreFrom g k is.keys
   keys_from k st s is =
       let same : is.height ≡ st.0 = lowest.one_height g functions routed (g.entry g.main) g.states.start (all_states g) (start_state h.game made) is.height st.0 is.is_height st.1 in
-      subst (λ b. Exactly key_cmp (Reached (named g) (b ∷ [])) is.keys) (ap (start_key g) same ∙ sym st.2) is.exactly
+      subst (λ b. AreFrom g b is.keys) (ap (start_key g) same ∙ sym st.2) is.exactly
 
   -- more keys than may be are more rows
   pub keys_many : (k : Key) → IsStartKey g k → (n : ℕ) → HasMore key_cmp (Reached (named g) (k ∷ [])) n → (s : Strategy) → IsLeastStrategy g s → n < rows_of s
@@ -116,7 +129,7 @@ module _ (h : Held) (made : IsMade h.game) where
       omega (arith, few, count, more.3)
 
   -- and so are more rows and backs
-  pub rows_many : (k : Key) → IsStartKey g k → (keys : List Key) (n : ℕ) → Exactly key_cmp (Reached (named g) (k ∷ [])) keys → n < length keys + sum_by (backs_of g keys) keys
+  pub rows_many : (k : Key) → IsStartKey g k → (keys : List Key) (n : ℕ) → AreFrom g k keys → n < length keys + sum_by (backs_of g keys) keys
       → (s : Strategy) → IsLeastStrategy g s → n < rows_of s
   rows_many k st keys n e more s is =
       let same : is.keys ≡ keys = exactly_same (Reached (named g) (k ∷ [])) is.keys keys (keys_from k st s is) e in

@@ -13,7 +13,8 @@ strategy_within-requires-clause-lost c = subst (λ (x : Held). IsLost (game_of x
 pub returns-in-Ok-Some-clause-good : goal.returns-in-Ok-Some-clause-good
 returns-in-Ok-Some-clause-good c =
     let least : IsLeastStrategy (game_of c.args.solved.now.game) (strategy_of c.in-Ok-Some.strategy) = search rules in
-    made_good c.args.game.now c.requires.made (strategy_of c.in-Ok-Some.strategy) (subst (λ (x : Held). IsLeastStrategy (game_of x) (strategy_of c.in-Ok-Some.strategy)) c.requires.solved least)
+    made_good c.args.game.now c.requires.made (strategy_of c.in-Ok-Some.strategy)
+    (subst (λ (x : Held). IsLeastStrategy (game_of x) (strategy_of c.in-Ok-Some.strategy)) c.requires.solved least)
 
 pub returns-in-Ok-Some-clause-ascend : goal.returns-in-Ok-Some-clause-ascend
 returns-in-Ok-Some-clause-ascend c =
