@@ -4,6 +4,7 @@ pub mod Going
 pub mod Keeping
 mod Lawful
 pub mod Knowing
+pub mod Made
 pub mod Meeting
 pub mod Only
 pub mod Ranging
@@ -11,3 +12,4 @@ pub mod Reading
 pub mod Rows
 pub mod Sameness
 pub mod Staging
+pub mod Stepping

@@ -46,7 +46,7 @@ module _ {A : Type 0} (cmp : A → A → Ordering) (total : IsTotalOrder cmp) wh
       back z n (inl e) = let l : cmp z z ≡ Less = subst (λ w. cmp w z ≡ Less) (sym heads ∙ e) (among (λ z. cmp y z ≡ Less) ys z r.0 n) in absurd (apart z z l l)
       back z n (inr m) = m
 
-  one : (P : A → Type 0) (xs ys : List A) → Exactly cmp P xs → Exactly cmp P ys → xs ≡ ys
+  pub one : (P : A → Type 0) (xs ys : List A) → Exactly cmp P xs → Exactly cmp P ys → xs ≡ ys
   one P xs ys a b = same_lists xs ys a.0 b.0 (λ x n. in_of ys x ((b.1 x).1 ((a.1 x).0 (of_in xs x n)))) (λ x n. in_of xs x ((a.1 x).1 ((b.1 x).0 (of_in ys x n))))
 
   in_get : (xs : List A) (i : ℕ) (x : A) → slice_get xs i ≡ Some x → In xs x

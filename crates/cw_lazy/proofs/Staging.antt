@@ -27,11 +27,11 @@ is_quiet _ = true
 abbrev pub AreQuiet : List Spot → Type 0
 AreQuiet ss = (k : ℕ) (s : Spot) → slice_get ss k ≡ Some s → is_quiet s ≡ true
 
-one_quiet : (s : Spot) → is_quiet s ≡ true → AreQuiet (s ∷ [])
+pub one_quiet : (s : Spot) → is_quiet s ≡ true → AreQuiet (s ∷ [])
 one_quiet s h zero t e = subst (λ t. is_quiet t ≡ true) (same_Some s t e) h
 one_quiet s h (suc k) t e = absurd (none-some t e)
 
-two_quiet : (b : Bool) (s t : Spot) → is_quiet s ≡ true → is_quiet t ≡ true → AreQuiet (s ∷ cond b (t ∷ []) [])
+pub two_quiet : (b : Bool) (s t : Spot) → is_quiet s ≡ true → is_quiet t ≡ true → AreQuiet (s ∷ cond b (t ∷ []) [])
 two_quiet true s t h k zero u e = subst (λ t. is_quiet t ≡ true) (same_Some s u e) h
 two_quiet true s t h k (suc zero) u e = subst (λ t. is_quiet t ≡ true) (same_Some t u e) k
 two_quiet true s t h k (suc (suc i)) u e = absurd (none-some u e)
@@ -62,10 +62,10 @@ stage_of (spot.Asked j i a) = i
 stage_of _ = 0
 
 module _ (rest : List Spot) (quiet : AreQuiet rest) where
-  no_visit : (k j i : ℕ) (a : Primitive) → slice_get rest k ≡ Some (spot.Visit j i a) → ⊥
+  pub no_visit : (k j i : ℕ) (a : Primitive) → slice_get rest k ≡ Some (spot.Visit j i a) → ⊥
   no_visit k j i a e = let w : false ≡ true = quiet k (spot.Visit j i a) e in cc
 
-  no_asked : (k j i : ℕ) (a : Primitive) → slice_get rest k ≡ Some (spot.Asked j i a) → ⊥
+  pub no_asked : (k j i : ℕ) (a : Primitive) → slice_get rest k ≡ Some (spot.Asked j i a) → ⊥
   no_asked k j i a e = let w : false ≡ true = quiet k (spot.Asked j i a) e in cc
 
   -- a visit has what it asks behind it
@@ -76,7 +76,7 @@ module _ (rest : List Spot) (quiet : AreQuiet rest) where
   behind_in j i (b ∷ ps) (suc (suc k)) x y a e = behind_in j (suc i) ps k x y a e
 
   -- nothing is asked at the front, nor right past a visit
-  front_in : (j i : ℕ) (ps : List Primitive) (x y : ℕ) (a : Primitive) → slice_get (visits j i ps ++ rest) 0 ≡ Some (spot.Asked x y a) → ⊥
+  pub front_in : (j i : ℕ) (ps : List Primitive) (x y : ℕ) (a : Primitive) → slice_get (visits j i ps ++ rest) 0 ≡ Some (spot.Asked x y a) → ⊥
   front_in j i [] x y a e = no_asked 0 x y a e
   front_in j i (b ∷ ps) x y a e = let w : spot.Visit j i b ≡ spot.Asked x y a = same_Some (spot.Visit j i b) (spot.Asked x y a) e in cc
 
@@ -87,7 +87,7 @@ module _ (rest : List Spot) (quiet : AreQuiet rest) where
   past_in j i (c ∷ ps) (suc (suc k)) x y z w a b e f = past_in j (suc i) ps k x y z w a b e f
 
   -- something stands at the front, and right past a visit
-  front_there : (j i : ℕ) (ps : List Primitive) (x : Spot) → slice_get rest 0 ≡ Some x → (s : Spot) × (slice_get (visits j i ps ++ rest) 0 ≡ Some s)
+  pub front_there : (j i : ℕ) (ps : List Primitive) (x : Spot) → slice_get rest 0 ≡ Some x → (s : Spot) × (slice_get (visits j i ps ++ rest) 0 ≡ Some s)
   front_there j i [] x e = (x, e)
   front_there j i (b ∷ ps) x e = (spot.Visit j i b, refl)
 
@@ -98,7 +98,7 @@ module _ (rest : List Spot) (quiet : AreQuiet rest) where
   past_there j i (b ∷ ps) x e (suc (suc k)) y z a h = past_there j (suc i) ps x e k y z a h
 
   -- where a stage is asked
-  asked_place : (j i : ℕ) (ps : List Primitive) (k x y : ℕ) (a : Primitive) → slice_get (visits j i ps ++ rest) k ≡ Some (spot.Asked x y a) → (h : ℕ) × (j ≡ x) × (i + h ≡ y) × (k ≡ 2 * h + 1)
+  pub asked_place : (j i : ℕ) (ps : List Primitive) (k x y : ℕ) (a : Primitive) → slice_get (visits j i ps ++ rest) k ≡ Some (spot.Asked x y a) → (h : ℕ) × (j ≡ x) × (i + h ≡ y) × (k ≡ 2 * h + 1)
   asked_place j i [] k x y a e = absurd (no_asked k x y a e)
   asked_place j i (b ∷ ps) zero x y a e = let v : spot.Visit j i b ≡ spot.Asked x y a = same_Some (spot.Visit j i b) (spot.Asked x y a) e in cc
   asked_place j i (b ∷ ps) (suc zero) x y a e =
@@ -112,7 +112,7 @@ module _ (rest : List Spot) (quiet : AreQuiet rest) where
       (suc r.0, r.1, is, at)
 
   -- what is neither a visit nor asked stands behind the visits
-  quiet_place : (j i : ℕ) (ps : List Primitive) (k : ℕ) (s : Spot) → is_quiet s ≡ true → slice_get (visits j i ps ++ rest) k ≡ Some s → (h : ℕ) × (k ≡ 2 * length ps + h) × (slice_get rest h ≡ Some s)
+  pub quiet_place : (j i : ℕ) (ps : List Primitive) (k : ℕ) (s : Spot) → is_quiet s ≡ true → slice_get (visits j i ps ++ rest) k ≡ Some s → (h : ℕ) × (k ≡ 2 * length ps + h) × (slice_get rest h ≡ Some s)
   quiet_place j i [] k s q e = let z : k ≡ 2 * 0 + k = omega arith in (k, z, e)
   quiet_place j i (b ∷ ps) zero s q e = let w : false ≡ true = ap is_quiet (same_Some (spot.Visit j i b) s e) ∙ q in cc
   quiet_place j i (b ∷ ps) (suc zero) s q e = let w : false ≡ true = ap is_quiet (same_Some (spot.Asked j i b) s e) ∙ q in cc
@@ -172,7 +172,7 @@ free_place parts (point.Call c) f j l r (suc k) s m e h = by (is_split parts c) 
 free_place parts point.Exit f j l r zero s m e h = unplaced (spot.Exit f) s m refl e h
 free_place parts point.Exit f j l r (suc k) s m e h = absurd (none-some s e)
 
-free_there : (parts : List Part) (p : Point) (f j l r : ℕ) → (s : Spot) × (slice_get (free parts p f j l r) 0 ≡ Some s)
+pub free_there : (parts : List Part) (p : Point) (f j l r : ℕ) → (s : Spot) × (slice_get (free parts p f j l r) 0 ≡ Some s)
 free_there parts point.Entry f j l r = (spot.Step l, refl)
 free_there parts point.Step f j l r = (spot.Step l, refl)
 free_there parts point.Branch f j l r = (spot.Branch l r, refl)
@@ -188,17 +188,17 @@ has_get g p (s ∷ ss) zero x h e = let z : p + 0 ≡ p = omega arith in ap (sli
 has_get g p (s ∷ ss) (suc k) x h e = let z : p + suc k ≡ p + 1 + k = omega arith in ap (slice_get g) z ∙ has_get g (p + 1) ss k x h.1 e
 
 module _ (policy : PlainPolicy) (parts : List Part) (ns : List Node) where
-  abbrev at : ℕ → ℕ
+  abbrev pub at : ℕ → ℕ
   at = base policy parts ns
 
-  abbrev rest_of : Node → List Spot
+  abbrev pub rest_of : Node → List Spot
   rest_of n = free parts n.point n.function (number n.seam) (to at (first_of n.next)) (to at (second_of n.next))
 
-  rest_quiet : (n : Node) → AreQuiet (rest_of n)
+  pub rest_quiet : (n : Node) → AreQuiet (rest_of n)
   rest_quiet n = free_quiet parts n.point n.function (number n.seam) (to at (first_of n.next)) (to at (second_of n.next))
 
   -- what stands at a place of a point
-  of_point : (p : ℕ) (n : Node) (k : ℕ) (s : Spot) → slice_get ns p ≡ Some n → slice_get (spots_at policy parts at n) k ≡ Some s → slice_get (spots_in policy parts ns) (at p + k) ≡ Some s
+  pub of_point : (p : ℕ) (n : Node) (k : ℕ) (s : Spot) → slice_get ns p ≡ Some n → slice_get (spots_at policy parts at n) k ≡ Some s → slice_get (spots_in policy parts ns) (at p + k) ≡ Some s
   of_point p n k s en e = has_get (spots_in policy parts ns) (at p) (spots_at policy parts at n) k s (stands (spots_at policy parts at) (λ (m : Node). width policy parts m.point) (width_at policy parts at) ns p n en) e
 
   -- a visit has what it asks behind it

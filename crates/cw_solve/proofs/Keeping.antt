@@ -8,11 +8,12 @@ use Rattle.cw_game.specs.Games.{Game}
 use Rattle.cw_product.specs.Product.{Held as HeldGame, game_of}
 use Rattle.cw_solve.specs.declared.contexts.Context.{Context}
 use Rattle.cw_solve.specs.declared.table.Table.{Table}
-use Rattle.cw_solve.specs.Contexts.{IsOf, size, cells_of, HeightIs, AreTheNeeded}
+use Rattle.cw_solve.specs.Contexts.{context, IsOf, size, cells_of, HeightIs, IsNeeded, AreTheNeeded}
 use Rattle.cw_solve.specs.Routes.{IsThere, AreRouted}
 use Rattle.cw_solve.specs.Rounds.{slot, height_by, IsCell}
 use Rattle.cw_solve.specs.Tables.{IsTable}
 use Rattle.cw_solve.specs.Solved.{Held, IsKept, IsNumbered, IsHeightIn}
+use Rattle.cw_solve.proofs.Still.{number_of}
 use Rattle.cw_solve.proofs.Tabling.{there}
 
 abbrev pub held : HeldGame → Table → Held
@@ -51,6 +52,17 @@ kept_height h t kept number p q k d at is e c found =
     let same : d ≡ c = same_Some d c (sym at ∙ found) in
     let right = kept.done.heights number d p q is in
     subst (λ (x : Context). HeightIs (game_of h) p q x.promise (height_by k)) same (subst (λ (x : ℕ). HeightIs (game_of h) p q d.promise (height_by x)) (sym e) right)
+
+-- each needed pair has its height, or none
+abbrev pub IsKnownIn : HeldGame → Type 0
+IsKnownIn h = (f p q e : ℕ) → IsNeeded (game_of h) (context f e) → IsOf (game_of h) f p → q < (game_of h).states.count → (o : Option ℕ) × HeightIs (game_of h) p q e o
+
+pub kept_known : (h : HeldGame) (t : Table) → IsKept h t → IsKnownIn h
+kept_known h t kept f p q e need of lt =
+    let i = number_of t.contexts.items (context f e) (kept.done.all (context f e) need) in (
+      height_by (slice_index t.heights.items (slot (game_of h) t.contexts.items i.0 f p q)),
+      kept.done.heights i.0 (context f e) p q (record { at = i.1; of = of; state = lt }),
+    )
 
 -- the cell of a pair, as the call names it
 pub numbered_cell : (h : HeldGame) (t : Table) (v : Held) → held h t ≡ v → (number p q : ℕ) → IsNumbered v number p q → (d : Context) → slice_get v.contexts number ≡ Some d

@@ -15,11 +15,11 @@ use Rattle.cw_positions.specs.Positions.{is_split, primitives_at, width, visits,
 use Rattle.cw_solve.specs.Routes.{targets}
 
 -- one of one, and of two
-one_is : (P : ℕ → Type 0) (a r : ℕ) → P a → Contains (a ∷ []) r → P r
+pub one_is : (P : ℕ → Type 0) (a r : ℕ) → P a → Contains (a ∷ []) r → P r
 one_is P a r h (zero, lt, e) = subst P e h
 one_is P a r h (suc i, lt, e) = absurd (omega (arith, lt))
 
-two_are : (P : ℕ → Type 0) (a b r : ℕ) → P a → P b → Contains (a ∷ b ∷ []) r → P r
+pub two_are : (P : ℕ → Type 0) (a b r : ℕ) → P a → P b → Contains (a ∷ b ∷ []) r → P r
 two_are P a b r h k (zero, lt, e) = subst P e h
 two_are P a b r h k (suc zero, lt, e) = subst P e k
 two_are P a b r h k (suc (suc i), lt, e) = absurd (omega (arith, lt))

@@ -57,9 +57,9 @@ pub fn solve<'g>(alloc: Global, game: &'g Game<'g>) -> Result<Solved<'g>, SolveF
 }
 
 impl<'g> Solved<'g> {
-    ghost use Rattle.std.specs.Prelude.{◌≡◌, ◌<◌, ◌≤◌, Some, length, slice_get, Contains, IfSome, IfNone};
+    ghost use Rattle.std.specs.Prelude.{◌≡◌, ◌<◌, ◌≤◌, ℕ, Option, Some, length, slice_get, Contains, IfSome, IfNone};
     ghost use Rattle.cw_product.specs.Product.{game_of};
-    ghost use Rattle.cw_solve.specs.Contexts.{context, cells_of, HeightIs, AreTheNeeded};
+    ghost use Rattle.cw_solve.specs.Contexts.{context, cells_of, HeightIs, IsNeeded, IsOf, AreTheNeeded};
     ghost use Rattle.cw_solve.specs.Rounds.{IsCell, slot, height_by};
     ghost use Rattle.cw_solve.specs.Routes.{AreRouted};
     ghost use Rattle.cw_solve.specs.Solved.{IsNumbered, IsHeightIn};
@@ -79,6 +79,18 @@ impl<'g> Solved<'g> {
         ensures { AreTheNeeded (game_of self.now.game) self.now.contexts }
     {
         self.is_kept();
+    }
+
+    /// A law: under each promise that the game needs, each pair of a position of its function and a state has a height, or holds for every number of
+    /// moves.
+    pub fn is_known(&self)
+        ensures known { (f p q e : ℕ)
+            → IsNeeded (game_of self.now.game) (context f e)
+            → IsOf (game_of self.now.game) f p
+            → q < (game_of self.now.game).states.count
+            → (h : Option ℕ) × HeightIs (game_of self.now.game) p q e h }
+    {
+        let _ = &self.table;
     }
 
     /// The game.
