@@ -65,7 +65,7 @@ module _ (g : Game) where
   target p q (Some (SplitCall j f n)) by c k e = cc
   target p q s by c k e = absurd (none-some c e)
 
-  next_target : (p q : ℕ) (s : Option Spot) (by : Move) (r : ℕ × ℕ) → next_in g p q s by ≡ Some r → Contains (targets p s) r.0
+  pub next_target : (p q : ℕ) (s : Option Spot) (by : Move) (r : ℕ × ℕ) → next_in g p q s by ≡ Some r → Contains (targets p s) r.0
   next_target p q s by r e =
       let l = left (is_left_in g q s) (option_map pair_of (leads_in g p q [] s by)) r e in
       let m = mapped pair_of (leads_in g p q [] s by) r l.1 in

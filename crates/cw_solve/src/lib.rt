@@ -7,7 +7,7 @@ pub mod laws;
 mod look;
 mod rounds;
 pub mod solved;
-mod table;
+pub mod table;
 mod tries;
 
 pub use contexts::Context;

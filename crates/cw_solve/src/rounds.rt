@@ -1,16 +1,14 @@
 //! Rounds over all tabled contexts.
 
 ghost use Rattle.std.specs.Prelude.{◌≡◌, ◌+◌, ◌<◌, ◌≤◌, ℕ, length, slice_index, IfNone, IfSome, IfOk};
-ghost use Rattle.cw_game.specs.Pairs.{all_states};
 ghost use Rattle.cw_product.specs.Product.{game_of};
-ghost use Rattle.cw_solve.specs.Contexts.{context, cells_of, size};
-ghost use Rattle.cw_solve.specs.Routes.{AreRouted, IsThere};
+ghost use Rattle.cw_solve.specs.Contexts.{cells_of};
+ghost use Rattle.cw_solve.specs.Routes.{AreRouted};
 ghost use Rattle.cw_solve.specs.Tables.{IsTable, IsAtRound, IsMissing, IsDone, AreTabled};
 
 use crate::contexts::Context;
 use crate::look::look_all;
-use crate::table::Table;
-use cw_core::StateSet;
+use crate::table::{Table, size};
 use cw_product::Game;
 use std::alloc::{AllocError, Global};
 
@@ -34,28 +32,6 @@ pub(crate) fn rounds(game: &Game, table: &mut Table) -> Option<Context>
             return None;
         }
         n += 1;
-    }
-}
-
-/// How many cells a context of a function has.
-pub(crate) fn size(game: &Game, function: u16) -> u32
-    requires routed { AreRouted (game_of game.now) (length game.now.graph.parts.items) }
-    requires there { IsThere (game_of game.now) (length game.now.graph.parts.items) function }
-    ensures is { result ≡ size (game_of game.now) function }
-    ensures some { 0 < result }
-    ensures few { result ≤ 1048576 }
-{
-    (game.exit(function).0 + 1 - game.entry(function).0) * u32::from(game.states())
-}
-
-/// `main` with all states.
-pub(crate) fn main_context(game: &Game) -> Context
-    requires routed { AreRouted (game_of game.now) (length game.now.graph.parts.items) }
-    ensures { result ≡ context (game_of game.now).main (all_states (game_of game.now)) }
-{
-    Context {
-        function: game.main(),
-        promise: StateSet::empty().complement_in(game.states()),
     }
 }
 

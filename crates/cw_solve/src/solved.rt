@@ -53,7 +53,7 @@ pub fn solve<'g>(alloc: Global, game: &'g Game<'g>) -> Result<Solved<'g>, SolveF
     ensures cause { IfErr result (λ fault. IsCause (game_of game.now) fault) }
 {
     let table = solve_table(alloc, game)?;
-    Ok(Solved { game, table })
+    Ok(Solved::of(game, table))
 }
 
 impl<'g> Solved<'g> {
@@ -62,8 +62,17 @@ impl<'g> Solved<'g> {
     ghost use Rattle.cw_solve.specs.Contexts.{context, cells_of, HeightIs, IsNeeded, IsOf, AreTheNeeded};
     ghost use Rattle.cw_solve.specs.Rounds.{IsCell, slot, height_by};
     ghost use Rattle.cw_solve.specs.Routes.{AreRouted};
-    ghost use Rattle.cw_solve.specs.Solved.{IsNumbered, IsHeightIn};
+    ghost use Rattle.cw_solve.specs.Solved.{IsKept, IsNumbered, IsHeightIn};
     ghost use Rattle.cw_solve.specs.Tables.{IsTable, IsDone};
+
+    /// The solved game of a table that is done, for solvers.
+    pub fn of(game: &'g Game<'g>, table: Table) -> Solved<'g>
+        requires kept { IsKept game.now table }
+        ensures game { result.game ≡ game.now }
+        ensures contexts { result.contexts ≡ table.contexts.items }
+    {
+        Solved { game, table }
+    }
 
     // What the value keeps.
     fn is_kept(&self)

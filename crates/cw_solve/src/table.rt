@@ -2,10 +2,10 @@
 
 ghost use Rattle.std.specs.Prelude.{◌≡◌, ◌<◌, ◌≤◌, suc, nat_eq, ◌&&◌, length, slice_index, position, IfSome};
 ghost use Rattle.cw_game.specs.Games.{Holds};
-ghost use Rattle.cw_game.specs.Pairs.{has, kept_at};
+ghost use Rattle.cw_game.specs.Pairs.{has, kept_at, all_states};
 ghost use Rattle.cw_product.specs.Product.{game_of};
-ghost use Rattle.cw_solve.specs.Contexts.{IsOf, promise_at, IsSetOf};
-ghost use Rattle.cw_solve.specs.Routes.{IsState, AreRouted};
+ghost use Rattle.cw_solve.specs.Contexts.{context, size, IsOf, promise_at, IsSetOf};
+ghost use Rattle.cw_solve.specs.Routes.{IsState, AreRouted, IsThere};
 ghost use Rattle.cw_solve.specs.Rounds.{slot, height_by, AreWritten};
 ghost use Rattle.cw_solve.specs.Tables.{IsTable, HasCell};
 
@@ -15,7 +15,7 @@ use cw_product::Game;
 
 /// Contexts, where the cells of each begin, the height of each cell (0 where none is written) and how many are written.
 #[derive(Drop)]
-pub(crate) struct Table {
+pub struct Table {
     pub contexts: Vec<Context>,
     pub bases: Vec<u32>,
     pub heights: Vec<u32>,
@@ -24,13 +24,35 @@ pub(crate) struct Table {
 
 /// A context of a table, with its number.
 #[derive(Clone, Copy, Drop)]
-pub(crate) struct Tabled {
+pub struct Tabled {
     pub number: usize,
     pub context: Context,
 }
 
+/// How many cells a context of a function has.
+pub fn size(game: &Game, function: u16) -> u32
+    requires routed { AreRouted (game_of game.now) (length game.now.graph.parts.items) }
+    requires there { IsThere (game_of game.now) (length game.now.graph.parts.items) function }
+    ensures is { result ≡ size (game_of game.now) function }
+    ensures some { 0 < result }
+    ensures few { result ≤ 1048576 }
+{
+    (game.exit(function).0 + 1 - game.entry(function).0) * u32::from(game.states())
+}
+
+/// `main` with all states.
+pub fn main_context(game: &Game) -> Context
+    requires routed { AreRouted (game_of game.now) (length game.now.graph.parts.items) }
+    ensures { result ≡ context (game_of game.now).main (all_states (game_of game.now)) }
+{
+    Context {
+        function: game.main(),
+        promise: StateSet::empty().complement_in(game.states()),
+    }
+}
+
 /// The cell of a pair in a context.
-pub(crate) fn slot(game: &Game, table: &Table, at: &Tabled, pos: PosId, state: StateId) -> usize
+pub fn slot(game: &Game, table: &Table, at: &Tabled, pos: PosId, state: StateId) -> usize
     requires routed { AreRouted (game_of game.now) (length game.now.graph.parts.items) }
     requires table { IsTable (game_of game.now) table.now }
     requires cell { HasCell (game_of game.now) table.now at.now pos.0 state.0 }
@@ -71,7 +93,7 @@ pub(crate) fn height_in(written: u32) -> Option<u32>
 }
 
 /// The number of a context.
-pub(crate) fn place_of(contexts: &[Context], function: u16, promise: &StateSet) -> Option<usize>
+pub fn place_of(contexts: &[Context], function: u16, promise: &StateSet) -> Option<usize>
     ensures place { result ≡ position (λ c. nat_eq c.function function && nat_eq c.promise promise.now) contexts.now }
     ensures within { IfSome result (λ i. i < length contexts.now) }
 {

@@ -10,8 +10,8 @@ ghost use Rattle.cw_solve.specs.Solved.{IsCause};
 
 use crate::contexts::Context;
 use crate::fault::SolveFault;
-use crate::rounds::{fresh, main_context, rounds, size};
-use crate::table::Table;
+use crate::rounds::{fresh, rounds};
+use crate::table::{Table, main_context, size};
 use cw_product::Game;
 use std::alloc::{AllocError, Global};
 

@@ -2,7 +2,7 @@ use Rattle.std.proofs.Common.{◌≡◌, ℕ, ap₂, ◌∙◌, ◌&&◌, not, n
 use Rattle.cw_product.specs.Product.{game_of}
 use Rattle.cw_solve.specs.Contexts.{context}
 use Rattle.cw_solve.proofs.Fresh.{all_is}
-use Rattle.cw_solve.proofs.rounds.main_context.Goals as goal
+use Rattle.cw_solve.proofs.table.main_context.Goals as goal
 
 only : (a : Bool) → (a && not false) ≡ a
 only true = refl
