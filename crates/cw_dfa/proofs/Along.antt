@@ -1,33 +1,33 @@
 -- What the loops over parts and over rules keep.
-use Rattle.std.proofs.Common.{◌≡◌, ℕ, ◌+◌, ◌<◌, length, take, add-one, ap, ap₂, List, [], ◌∷◌, sym, ◌∙◌, subst, ◌++◌, slice_index}
+use Rattle.std.proofs.Common.{◌≡◌, ℕ, ◌+◌, ◌<◌, length, take, add-one, ap, ap₂, Bool, List, [], ◌∷◌, sym, ◌∙◌, subst, ◌++◌, slice_index}
 use Rattle.std.proofs.Common.{slice_set, append_assoc, append-nil}
 use Rattle.std.proofs.Math.Seq.{take-suc-set}
 use Rattle.std.specs.Int.RustNames.{bit_or}
-use Rattle.cw_rights.specs.declared.words.Letter.{Letter}
-use Rattle.cw_rights.specs.Trees.{Tree, seq, alt, nothing, never, count}
+use Rattle.cw_rights.specs.Trees.{Literal, Tree, seq, alt, nothing, never, count}
 use Rattle.cw_rights.specs.Policies.{PlainRule}
-use Rattle.cw_dfa.specs.Tables.{matching, firsts, lasts, followers, lasts_of}
+use Rattle.cw_dfa.specs.Tables.{picked, firsts, lasts, followers, lasts_of}
 use Rattle.cw_dfa.proofs.Sums.{or_assoc, or_zero}
 
 -- over trees: the rest, after one part more
-pub matching_step : (whole part rest : Tree) (set at : ℕ) (c : Letter) (total s a : ℕ) → whole ≡ seq part rest → s ≡ matching part at c → a ≡ at + count part →
-    bit_or set (matching whole at c) ≡ total → bit_or (bit_or set s) (matching rest a c) ≡ total
-matching_step whole part rest set at c total s a e f h t =
-    let u : bit_or set (matching (seq part rest) at c) ≡ total = subst (λ l. bit_or set (matching l at c) ≡ total) e t in
-    rw (f, h) (or_assoc set (matching part at c) (matching rest (at + count part) c) ∙ u)
+module _ (f : Literal → Bool) where
+  pub picked_step : (whole part rest : Tree) (set at : ℕ) (total s a : ℕ) → whole ≡ seq part rest → s ≡ picked f part at → a ≡ at + count part →
+      bit_or set (picked f whole at) ≡ total → bit_or (bit_or set s) (picked f rest a) ≡ total
+  picked_step whole part rest set at total s a e g h t =
+      let u : bit_or set (picked f (seq part rest) at) ≡ total = subst (λ l. bit_or set (picked f l at) ≡ total) e t in
+      rw (g, h) (or_assoc set (picked f part at) (picked f rest (at + count part)) ∙ u)
 
-pub matching_end : (whole : Tree) (set at : ℕ) (c : Letter) (total : ℕ) → whole ≡ nothing → bit_or set (matching whole at c) ≡ total → set ≡ total
-matching_end whole set at c total e t = sym (or_zero set) ∙ subst (λ l. bit_or set (matching l at c) ≡ total) e t
+  pub picked_end : (whole : Tree) (set at : ℕ) (total : ℕ) → whole ≡ nothing → bit_or set (picked f whole at) ≡ total → set ≡ total
+  picked_end whole set at total e t = sym (or_zero set) ∙ subst (λ l. bit_or set (picked f l at) ≡ total) e t
 
--- over rules
-pub rules_step : (whole part rest : Tree) (set at : ℕ) (c : Letter) (total s a : ℕ) → whole ≡ alt part rest → s ≡ matching part at c → a ≡ at + count part →
-    bit_or set (matching whole at c) ≡ total → bit_or (bit_or set s) (matching rest a c) ≡ total
-rules_step whole part rest set at c total s a e f h t =
-    let u : bit_or set (matching (alt part rest) at c) ≡ total = subst (λ l. bit_or set (matching l at c) ≡ total) e t in
-    rw (f, h) (or_assoc set (matching part at c) (matching rest (at + count part) c) ∙ u)
+  -- over rules
+  pub rules_step : (whole part rest : Tree) (set at : ℕ) (total s a : ℕ) → whole ≡ alt part rest → s ≡ picked f part at → a ≡ at + count part →
+      bit_or set (picked f whole at) ≡ total → bit_or (bit_or set s) (picked f rest a) ≡ total
+  rules_step whole part rest set at total s a e g h t =
+      let u : bit_or set (picked f (alt part rest) at) ≡ total = subst (λ l. bit_or set (picked f l at) ≡ total) e t in
+      rw (g, h) (or_assoc set (picked f part at) (picked f rest (at + count part)) ∙ u)
 
-pub rules_end : (whole : Tree) (set at : ℕ) (c : Letter) (total : ℕ) → whole ≡ never → bit_or set (matching whole at c) ≡ total → set ≡ total
-rules_end whole set at c total e t = sym (or_zero set) ∙ subst (λ l. bit_or set (matching l at c) ≡ total) e t
+  pub rules_end : (whole : Tree) (set at : ℕ) (total : ℕ) → whole ≡ never → bit_or set (picked f whole at) ≡ total → set ≡ total
+  rules_end whole set at total e t = sym (or_zero set) ∙ subst (λ l. bit_or set (picked f l at) ≡ total) e t
 
 pub first_step : (whole part rest : Tree) (first at total f a : ℕ) → whole ≡ alt part rest → f ≡ firsts part at → a ≡ at + count part → bit_or first (firsts whole at) ≡ total →
     bit_or (bit_or first f) (firsts rest a) ≡ total

@@ -1,5 +1,5 @@
 -- What follows a set, by tables made once.
-use Rattle.std.proofs.Common.{◌≡◌, ◌≢◌, ◌⊎◌, inl, inr, ℕ, zero, suc, ◌+◌, ◌<◌, ◌≤◌, ◌^◌, List, Bool, true, false, cond, ◌||◌, max, nat_eq, nat_lt, refl, sym, ap, ap₂, ◌∙◌, subst, arith}
+use Rattle.std.proofs.Common.{◌≡◌, ◌≢◌, ℕ, zero, suc, ◌+◌, ◌<◌, ◌≤◌, ◌^◌, List, Bool, true, false, cond, ◌||◌, max, nat_eq, nat_lt, refl, sym, ap, ap₂, ◌∙◌, subst, arith}
 use Rattle.std.proofs.Common.{eqb-true, eq-eqb}
 use Rattle.std.specs.Int.{bit_at}
 use Rattle.std.specs.Int.RustNames.{bit_or, bit_and}
@@ -13,11 +13,11 @@ use Rattle.cw_dfa.specs.Sets.{has, skips, ends}
 use Rattle.cw_dfa.specs.Positions.{bad_of}
 use Rattle.cw_dfa.specs.Verdicts.{next_of}
 use Rattle.cw_dfa.specs.Tables.{goes, firsts, lasts, linked, followers, matching, unite}
-use Rattle.cw_rights.proofs.Bools.{or_cases}
-use Rattle.cw_dfa.proofs.Bools.{has_none, has_pow, has_pow_only}
+use Rattle.cw_dfa.proofs.Bools.{has_none, has_pow}
 use Rattle.cw_dfa.proofs.Sums.{or_assoc}
 use Rattle.cw_dfa.proofs.Linear.{goes_none, goes_apart, goes_united, ends_none, below, Marks, reads_masked, has_or}
 use Rattle.cw_dfa.proofs.Meeting.{ends_pow}
+use Rattle.cw_dfa.proofs.Picked.{picked_within}
 
 or_false : (a : Bool) → (a || false) ≡ a
 or_false true = refl
@@ -111,30 +111,7 @@ goes_tabled r k e set table l h =
 
 -- the literals that match a letter
 matching_within : (r : Tree) (k : ℕ) (c : Letter) (p : ℕ) → has (matching r k c) p ≡ true → (k ≤ p) × (p < k + count r)
-matching_within nothing k c p e = absurd (has_none p e)
-matching_within never k c p e = absurd (has_none p e)
-matching_within (one l) k c p e = by (fits l c) e
-  where
-    by : (t : Bool) → has (cond t (2 ^ k) 0) p ≡ true → (k ≤ p) × (p < k + 1)
-    by true h = let z = has_pow_only k p h in (omega arith, omega arith)
-    by false h = absurd (has_none p h)
-matching_within (seq r s) k c p e = by (or_cases (has (matching r k c) p) (has (matching s (k + count r) c) p) (sym (has_or (matching r k c) (matching s (k + count r) c) p) ∙ e))
-    (matching_within r k c p) (matching_within s (k + count r) c p)
-  where
-    by : (has (matching r k c) p ≡ true) ⊎ (has (matching s (k + count r) c) p ≡ true) → (has (matching r k c) p ≡ true → (k ≤ p) × (p < k + count r)) →
-        (has (matching s (k + count r) c) p ≡ true → (k + count r ≤ p) × (p < (k + count r) + count s)) → (k ≤ p) × (p < k + (count r + count s))
-    by (inl h) f g = let z = f h in (omega arith, omega arith)
-    by (inr h) f g = let z = g h in (omega arith, omega arith)
-matching_within (alt r s) k c p e = by (or_cases (has (matching r k c) p) (has (matching s (k + count r) c) p) (sym (has_or (matching r k c) (matching s (k + count r) c) p) ∙ e))
-    (matching_within r k c p) (matching_within s (k + count r) c p)
-  where
-    by : (has (matching r k c) p ≡ true) ⊎ (has (matching s (k + count r) c) p ≡ true) → (has (matching r k c) p ≡ true → (k ≤ p) × (p < k + count r)) →
-        (has (matching s (k + count r) c) p ≡ true → (k + count r ≤ p) × (p < (k + count r) + count s)) → (k ≤ p) × (p < k + (count r + count s))
-    by (inl h) f g = let z = f h in (omega arith, omega arith)
-    by (inr h) f g = let z = g h in (omega arith, omega arith)
-matching_within (star r) k c p e = matching_within r k c p e
-matching_within (plus r) k c p e = matching_within r k c p e
-matching_within (maybe r) k c p e = matching_within r k c p e
+matching_within r k c p e = picked_within (λ l. fits l c) r k p e
 
 abbrev Agrees : Tree → ℕ → Letter → ℕ → Type 0
 Agrees r k c m = (p : ℕ) → k ≤ p → p < k + count r → has m p ≡ has (matching r k c) p

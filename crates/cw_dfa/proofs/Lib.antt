@@ -8,6 +8,7 @@ pub mod Known
 pub mod Linear
 pub mod Masked
 pub mod Meeting
+pub mod Picked
 pub mod Reach
 pub mod Rows
 pub mod Sums

@@ -1,22 +1,25 @@
 -- The sets after one, by the masks of the letters.
-use Rattle.std.proofs.Common.{◌≡◌, ◌<◌, ◌+◌, ℕ, List, [], ◌∷◌, ◌++◌, Option, Some, None, length, take, get_or, map, refl, sym, ap, ap₂, ◌∙◌, append_assoc}
+use Rattle.std.proofs.Common.{◌≡◌, ◌<◌, ◌+◌, ℕ, List, [], ◌∷◌, ◌++◌, Option, Some, None, length, take, get_or, map, refl, sym, ap, ap₂, ◌∙◌, append_assoc, subst, arith, ⊎_elim}
 use Rattle.std.proofs.lemmas.List.{take_more}
-use Rattle.std.proofs.lemmas.List.Elements.{filter_map-append}
+use Rattle.std.proofs.lemmas.List.Elements.{filter_map-append, Contains-append_left, Contains-append_right, Contains-append_cases, Contains-push, Contains-push_cases}
 use Rattle.std.specs.Option.{option_to_list}
-use Rattle.std.specs.List.{filter_map, cons_option}
+use Rattle.std.specs.List.{Contains, filter_map, cons_option}
 use Rattle.cw_rights.specs.declared.words.Letter.{Letter}
 use Rattle.cw_rights.specs.Policies.{PlainRule}
 use Rattle.cw_dfa.specs.Positions.{bad_of}
 use Rattle.cw_dfa.specs.Sets.{has}
 use Rattle.cw_dfa.specs.Tables.{goes, matching}
 use Rattle.cw_dfa.specs.Verdicts.{verdict}
-use Rattle.cw_dfa.specs.States.{unless_bad, after_mask, steps}
+use Rattle.cw_dfa.specs.States.{AreMasks, unless_bad, after_mask, after_masks, steps}
 use Rattle.cw_dfa.proofs.Following.{next_masked}
 
 pub steps_masked : (rules : List PlainRule) (letters : List Letter) (set : ℕ) → filter_map (after_mask rules (goes (bad_of rules) 1 (has set 0) set))
     (map (matching (bad_of rules) 1) letters) ≡ steps rules letters set
 steps_masked rules [] set = refl
 steps_masked rules (c ∷ rest) set = ap₂ cons_option (ap (λ n. unless_bad (verdict rules 0 1 n) n) (sym (next_masked rules set c))) (steps_masked rules rest set)
+
+one_member : (x m : ℕ) → Contains (x ∷ []) m → x ≡ m
+one_member x m c = ⊎_elim (λ n. absurd (omega (arith, n.1))) (λ e. e) (Contains-push_cases [] x m c)
 
 one_of : (o : Option ℕ) → option_to_list o ≡ cons_option o []
 one_of None = refl
@@ -34,3 +37,44 @@ masks_more f old so_far now masks i next lt e is m =
     ∙ ap (λ (z : List ℕ). (old ++ filter_map f (take i masks)) ++ z) one
     ∙ append_assoc old (filter_map f (take i masks)) (filter_map f (mask ∷ []))
     ∙ ap (λ (z : List ℕ). old ++ z) (sym all)
+
+-- what follows a set is told by the members of a list of masks
+module _ (f : ℕ → Option ℕ) where
+  after_from : (xs : List ℕ) (b : ℕ) → Contains (filter_map f xs) b → (m : ℕ) × Contains xs m × (f m ≡ Some b)
+  after_from [] b (k, l, e) = absurd (omega (arith, l))
+  after_from (x ∷ xs) b c = by (f x) refl (λ h. after_from xs b h) (subst (λ (l : List ℕ). Contains l b) (filter_map-append f (x ∷ []) xs) c)
+    where
+      by : (o : Option ℕ) → f x ≡ o → (Contains (filter_map f xs) b → (m : ℕ) × Contains xs m × (f m ≡ Some b))
+          → Contains (filter_map f (x ∷ []) ++ filter_map f xs) b → (m : ℕ) × Contains (x ∷ xs) m × (f m ≡ Some b)
+      by None e rec h =
+          let r = rec (subst (λ o. Contains (cons_option o [] ++ filter_map f xs) b) e h) in
+          (r.0, Contains-append_right (x ∷ []) xs r.0 r.1, r.2)
+      by (Some y) e rec h = ⊎_elim (λ h. (x, Contains-append_left (x ∷ []) xs x (Contains-push [] x), e ∙ ap Some (one_member y b h)))
+          (λ h. let r = rec h in (r.0, Contains-append_right (x ∷ []) xs r.0 r.1, r.2))
+          (Contains-append_cases (y ∷ []) (filter_map f xs) b (subst (λ o. Contains (cons_option o [] ++ filter_map f xs) b) e h))
+
+  after_by : (xs : List ℕ) (m b : ℕ) → Contains xs m → f m ≡ Some b → Contains (filter_map f xs) b
+  after_by [] m b (k, l, e) s = absurd (omega (arith, l))
+  after_by (x ∷ xs) m b c s = subst (λ (l : List ℕ). Contains l b) (sym (filter_map-append f (x ∷ []) xs)) (⊎_elim first
+      (λ h. Contains-append_right (filter_map f (x ∷ [])) (filter_map f xs) b (after_by xs m b h s)) (Contains-append_cases (x ∷ []) xs m c))
+    where
+      first : Contains (x ∷ []) m → Contains (filter_map f (x ∷ []) ++ filter_map f xs) b
+      first h =
+          let is : f x ≡ Some b = ap f (one_member x m h) ∙ s in
+          Contains-append_left (filter_map f (x ∷ [])) (filter_map f xs) b (subst (λ o. Contains (cons_option o []) b) (sym is) (Contains-push [] b))
+
+  pub after_same : (xs ys : List ℕ) → ((m : ℕ) → Contains xs m → Contains ys m) → (b : ℕ) → Contains (filter_map f xs) b → Contains (filter_map f ys) b
+  after_same xs ys h b c = let r = after_from xs b c in after_by ys r.0 b (h r.0 r.1) r.2
+
+-- a step by masks leads where a step by the letters leads
+module _ (rules : List PlainRule) (letters : List Letter) (masks : List ℕ) (h : AreMasks rules letters masks) where
+  abbrev own : List ℕ
+  own = map (matching (bad_of rules) 1) letters
+
+  pub to_steps : (k b : ℕ) → Contains (after_masks rules masks k) b → Contains (steps rules letters k) b
+  to_steps k b c = subst (λ (l : List ℕ). Contains l b) (steps_masked rules letters k)
+      (after_same (after_mask rules (goes (bad_of rules) 1 (has k 0) k)) masks own (λ m x. (h m).0 x) b c)
+
+  pub from_steps : (k b : ℕ) → Contains (steps rules letters k) b → Contains (after_masks rules masks k) b
+  from_steps k b c = after_same (after_mask rules (goes (bad_of rules) 1 (has k 0) k)) own masks (λ m x. (h m).1 x) b
+      (subst (λ (l : List ℕ). Contains l b) (sym (steps_masked rules letters k)) c)

@@ -1,12 +1,11 @@
 -- The trees of sequences and of alternatives.
-use Rattle.std.proofs.Common.{◌≡◌, ◌⊎◌, inl, inr, ℕ, ◌+◌, List, [], ◌∷◌, Vec, Global, refl, sym, ap, ◌∙◌}
+use Rattle.std.proofs.Common.{◌≡◌, ◌⊎◌, inl, inr, ℕ, ◌+◌, Bool, List, [], ◌∷◌, Vec, Global, refl, sym, ap, ◌∙◌}
 use Rattle.std.specs.Int.RustNames.{bit_or}
-use Rattle.cw_rights.specs.declared.words.Letter.{Letter}
 use Rattle.cw_rights.specs.declared.words.Regex.{Regex}
 use Rattle.cw_rights.specs.declared.words.Regex.TheVariants.{Cat, Or}
-use Rattle.cw_rights.specs.Trees.{count, tree_of, seq_of, alt_of}
+use Rattle.cw_rights.specs.Trees.{Literal, count, tree_of, seq_of, alt_of}
 use Rattle.cw_rights.proofs.Rows.{cat_tree, or_tree}
-use Rattle.cw_dfa.specs.Tables.{matching}
+use Rattle.cw_dfa.specs.Tables.{picked}
 
 pub cat_is : (r : Regex) (v : Vec Regex Global) (items : List Regex) → r ≡ Cat v → items ≡ v.items → tree_of r ≡ seq_of items
 cat_is r v items e f = cat_tree r v e ∙ sym (ap seq_of f)
@@ -19,9 +18,9 @@ alt_count : (parts : List Regex) → count (alt_of parts) ≡ count (seq_of part
 alt_count [] = refl
 alt_count (r ∷ rest) = ap (λ n. count (tree_of r) + n) (alt_count rest)
 
-alt_matching : (parts : List Regex) (k : ℕ) (c : Letter) → matching (alt_of parts) k c ≡ matching (seq_of parts) k c
-alt_matching [] k c = refl
-alt_matching (r ∷ rest) k c = ap (λ n. bit_or (matching (tree_of r) k c) n) (alt_matching rest (k + count (tree_of r)) c)
+alt_picked : (f : Literal → Bool) (parts : List Regex) (k : ℕ) → picked f (alt_of parts) k ≡ picked f (seq_of parts) k
+alt_picked f [] k = refl
+alt_picked f (r ∷ rest) k = ap (λ n. bit_or (picked f (tree_of r) k) n) (alt_picked f rest (k + count (tree_of r)))
 
 pub cat_count : (r : Regex) (v : Vec Regex Global) → r ≡ Cat v → count (tree_of r) ≡ count (seq_of v.items)
 cat_count r v e = ap count (cat_tree r v e)
@@ -29,11 +28,8 @@ cat_count r v e = ap count (cat_tree r v e)
 pub or_count : (r : Regex) (v : Vec Regex Global) → r ≡ Or v → count (tree_of r) ≡ count (seq_of v.items)
 or_count r v e = ap count (or_tree r v e) ∙ alt_count v.items
 
-pub cat_matching : (r : Regex) (v : Vec Regex Global) (k : ℕ) (c : Letter) → r ≡ Cat v → matching (tree_of r) k c ≡ matching (seq_of v.items) k c
-cat_matching r v k c e = ap (λ t. matching t k c) (cat_tree r v e)
-
-pub or_matching : (r : Regex) (v : Vec Regex Global) (k : ℕ) (c : Letter) → r ≡ Or v → matching (tree_of r) k c ≡ matching (seq_of v.items) k c
-or_matching r v k c e = ap (λ t. matching t k c) (or_tree r v e) ∙ alt_matching v.items k c
+pub or_picked : (r : Regex) (v : Vec Regex Global) (f : Literal → Bool) (k : ℕ) → r ≡ Or v → picked f (tree_of r) k ≡ picked f (seq_of v.items) k
+or_picked r v f k e = ap (λ t. picked f t k) (or_tree r v e) ∙ alt_picked f v.items k
 
 pub row_count : (r : Regex) (v : Vec Regex Global) (items : List Regex) → (r ≡ Cat v) ⊎ (r ≡ Or v) → items ≡ v.items → count (tree_of r) ≡ count (seq_of items)
 row_count r v items (inl e) f = cat_count r v e ∙ sym (ap (λ l. count (seq_of l)) f)

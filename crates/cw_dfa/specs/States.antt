@@ -1,5 +1,5 @@
 -- The policy states: the least set that has the start and is closed under letters that break no rule.
-use Rattle.std.specs.Prelude.{ℕ, List, Option, Some, None, length, ◌<◌}
+use Rattle.std.specs.Prelude.{ℕ, List, Option, Some, None, length, map, ◌<◌}
 use Rattle.std.specs.Int.RustNames.{bit_and}
 use Rattle.std.specs.List.{Contains, filter_map}
 use Rattle.std.specs.List.Sorted.{IsStrictlySortedBy}
@@ -8,7 +8,7 @@ use Rattle.cw_rights.specs.Policies.{PlainRule}
 use Rattle.cw_rights.specs.declared.words.Letter.{Letter}
 use Rattle.cw_dfa.specs.Positions.{bad_of}
 use Rattle.cw_dfa.specs.Sets.{has}
-use Rattle.cw_dfa.specs.Tables.{goes}
+use Rattle.cw_dfa.specs.Tables.{goes, matching}
 use Rattle.cw_dfa.specs.Verdicts.{verdict, next_of}
 
 pub data Least {A : Type 0} (step : A → List A) (start : A) : A → Type 0 where
@@ -36,6 +36,18 @@ steps rules letters set = filter_map (after rules set) letters
 
 abbrev pub Reached : List PlainRule → List Letter → ℕ → Type 0
 Reached rules letters = Least (steps rules letters) 1
+
+-- the masks are those of the letters, in any order, each once or more
+abbrev pub AreMasks : List PlainRule → List Letter → List ℕ → Type 0
+AreMasks rules letters masks = (m : ℕ) → (Contains masks m → Contains (map (matching (bad_of rules) 1) letters) m)
+    × (Contains (map (matching (bad_of rules) 1) letters) m → Contains masks m)
+
+-- the policy states over any letters that have these masks
+abbrev pub AreReached : List PlainRule → List ℕ → List ℕ → Type 0
+AreReached rules masks sets = (letters : List Letter) → AreMasks rules letters masks → Exactly (Reached rules letters) sets
+
+abbrev pub AreMany : List PlainRule → List ℕ → Type 0
+AreMany rules masks = (letters : List Letter) → AreMasks rules letters masks → HasMore (Reached rules letters) 64
 
 -- ---- Working definitions: what the program keeps of its search
 

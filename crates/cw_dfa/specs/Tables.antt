@@ -1,11 +1,15 @@
 -- Working definitions: what may follow, whatever the letter is, and what reads a letter.
 use Rattle.std.specs.Prelude.{◌≡◌, ℕ, ◌+◌, ◌^◌, List, [], ◌∷◌, Bool, true, false, ◌&&◌, ◌||◌, cond, ◌<◌, slice_index, nat_eq, zero, suc, Option, Some, None}
 use Rattle.std.specs.Int.RustNames.{bit_or, bit_and}
+use Rattle.cw_rights.specs.declared.capabilities.Caps.{Caps}
 use Rattle.cw_rights.specs.declared.words.Letter.{Letter}
-use Rattle.cw_rights.specs.Words.{fits}
-use Rattle.cw_rights.specs.Trees.{Tree, nothing, never, one, seq, alt, star, plus, maybe, count}
+use Rattle.cw_rights.specs.Words.{fits, label_fits, tests_hold}
+use Rattle.cw_rights.specs.Trees.{Literal, Tree, nothing, never, one, seq, alt, star, plus, maybe, count}
 use Rattle.cw_rights.specs.Policies.{PlainRule}
+use Rattle.cw_dfa.specs.Positions.{bad_of}
 use Rattle.cw_dfa.specs.Sets.{has, skips, ends}
+use Rattle.cw_dfa.specs.declared.matching.Sought.{Sought}
+use Rattle.cw_dfa.specs.declared.matching.Sought.TheVariants.{Label, Tests}
 
 -- the literals that may stand after those of the set; `enter`: those that may stand first, too
 abbrev pub goes : Tree → ℕ → Bool → ℕ → ℕ
@@ -58,16 +62,32 @@ followers (maybe r) k p = followers r k p
 abbrev pub Gains : Tree → ℕ → List ℕ → List ℕ → Type 0
 Gains r k old new = (p : ℕ) → p < 64 → slice_index new p ≡ bit_or (slice_index old p) (followers r k p)
 
+-- the literals that a test of literals picks
+abbrev pub picked : (Literal → Bool) → Tree → ℕ → ℕ
+picked f nothing k = 0
+picked f never k = 0
+picked f (one l) k = cond (f l) (2 ^ k) 0
+picked f (seq r s) k = bit_or (picked f r k) (picked f s (k + count r))
+picked f (alt r s) k = bit_or (picked f r k) (picked f s (k + count r))
+picked f (star r) k = picked f r k
+picked f (plus r) k = picked f r k
+picked f (maybe r) k = picked f r k
+
 -- the literals that match a letter
 abbrev pub matching : Tree → ℕ → Letter → ℕ
-matching nothing k c = 0
-matching never k c = 0
-matching (one l) k c = cond (fits l c) (2 ^ k) 0
-matching (seq r s) k c = bit_or (matching r k c) (matching s (k + count r) c)
-matching (alt r s) k c = bit_or (matching r k c) (matching s (k + count r) c)
-matching (star r) k c = matching r k c
-matching (plus r) k c = matching r k c
-matching (maybe r) k c = matching r k c
+matching r k c = picked (λ l. fits l c) r k
+
+-- the literals of all rules that name a label or none, and those whose tests hold
+abbrev pub named : List PlainRule → ℕ → ℕ
+named rules label = picked (λ l. label_fits l.label label) (bad_of rules) 1
+
+abbrev pub tested : List PlainRule → Caps → ℕ
+tested rules caps = picked (λ l. tests_hold caps l.tests) (bad_of rules) 1
+
+-- what is asked of a literal
+abbrev pub picks : Sought → Literal → Bool
+picks (Label label) l = label_fits l.label label
+picks (Tests caps) l = tests_hold caps l.tests
 
 -- whether two sets have a member in common
 abbrev pub meets : ℕ → ℕ → Bool

@@ -9,4 +9,4 @@ pub mod states;
 mod tables;
 
 pub use rules::{DfaFault, Rules, start, step, violated};
-pub use states::all_states;
+pub use states::{all_states, states_by_masks};

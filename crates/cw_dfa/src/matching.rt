@@ -1,14 +1,14 @@
-//! The literals of an expression that match a letter.
+//! The literals of an expression that name a label, and those whose tests hold.
 
 ghost use Rattle.std.specs.Prelude.{◌≡◌, ◌+◌, ◌<◌, ◌≤◌, ◌^◌, cond, IfSome, IfNone};
 ghost use Rattle.cw_rights.specs.Trees.{tree_of, seq_of, literal_of, count};
-ghost use Rattle.cw_rights.specs.Words.{fits};
-ghost use Rattle.cw_dfa.specs.Tables.{matching};
+ghost use Rattle.cw_rights.specs.Words.{label_fits, tests_hold};
+ghost use Rattle.cw_dfa.specs.Tables.{picks, picked};
 ghost use Rattle.cw_dfa.specs.Positions.{bad_of};
 ghost use Rattle.cw_dfa.specs.Verdicts.{rules_of};
 
 use crate::tables::single;
-use cw_rights::{Letter, Lit, Regex, Rule, lit_matches};
+use cw_rights::{Caps, Letter, Lit, Regex, Rule, lit_matches};
 
 /// What is left of a budget after the literals of an expression, where they fit.
 #[cycle(spare)]
@@ -36,62 +36,97 @@ fn spare_row(parts: &[Regex], budget: u32) -> Option<u32>
     Some(left)
 }
 
-/// The literals of an expression that match a letter, and the number after its last literal.
+/// What is asked of a literal: that it names a label, or that its tests hold of capabilities.
+#[derive(Clone, Copy, Drop)]
+pub enum Sought {
+    Label(u16),
+    Tests(Caps),
+}
+
+// Whether a literal names no label, or this one.
+fn label_fits(lit: &Lit, label: u16) -> bool
+    ensures { result ≡ label_fits lit.now.label label }
+{
+    match lit.label {
+        None => true,
+        Some(own) => own == label,
+    }
+}
+
+// Whether a literal's tests hold: whether it matches a letter of a label that it names.
+#[tactic(auto, using(crate::proofs::Picked::own_label))]
+fn tests_hold(lit: &Lit, caps: Caps) -> bool
+    ensures { result ≡ tests_hold caps lit.now.tests.items }
+{
+    let label = lit.label.unwrap_or(0);
+    lit_matches(lit, &Letter { label, caps })
+}
+
+fn picks(lit: &Lit, sought: Sought) -> bool
+    ensures { result ≡ picks sought (literal_of lit.now) }
+{
+    match sought {
+        Sought::Label(label) => label_fits(lit, label),
+        Sought::Tests(caps) => tests_hold(lit, caps),
+    }
+}
+
+/// The literals of an expression that are as sought, and the number after its last literal.
 #[derive(Clone, Copy, Drop)]
 pub struct Marked {
     pub next: u32,
     pub set: u64,
 }
 
-fn literal(lit: &Lit, k: u32, c: &Letter) -> u64
+fn literal(lit: &Lit, k: u32, sought: Sought) -> u64
     requires { k < 64 }
-    ensures { result ≡ cond (fits (literal_of lit.now) c.now) (2 ^ k) 0 }
+    ensures { result ≡ cond (picks sought (literal_of lit.now)) (2 ^ k) 0 }
 {
-    if lit_matches(lit, c) { single(k) } else { 0 }
+    if picks(lit, sought) { single(k) } else { 0 }
 }
 
-#[cycle(matching)]
-#[tactic(auto, using(crate::proofs::Rows::cat_is, crate::proofs::Rows::or_matching, crate::proofs::Rows::or_count))]
-pub fn matching(r: &Regex, k: u32, c: &Letter) -> Marked
+#[cycle(picked)]
+#[tactic(auto, using(crate::proofs::Rows::cat_is, crate::proofs::Rows::or_picked, crate::proofs::Rows::or_count))]
+pub fn picked(r: &Regex, k: u32, sought: Sought) -> Marked
     requires { k + count (tree_of r.now) ≤ 64 }
     ensures next { result.next ≡ k + count (tree_of r.now) }
-    ensures set { result.set ≡ matching (tree_of r.now) k c.now }
+    ensures set { result.set ≡ picked (picks sought) (tree_of r.now) k }
 {
     match r {
         Regex::Lit(lit) => Marked {
             next: k + 1,
-            set: literal(lit, k, c),
+            set: literal(lit, k, sought),
         },
-        Regex::Cat(parts) | Regex::Or(parts) => matching_row(parts, k, c),
-        Regex::Star(body) | Regex::Plus(body) | Regex::Maybe(body) => matching(body, k, c),
+        Regex::Cat(parts) | Regex::Or(parts) => picked_row(parts, k, sought),
+        Regex::Star(body) | Regex::Plus(body) | Regex::Maybe(body) => picked(body, k, sought),
     }
 }
 
-#[cycle(matching)]
-fn matching_row(parts: &[Regex], k: u32, c: &Letter) -> Marked
+#[cycle(picked)]
+fn picked_row(parts: &[Regex], k: u32, sought: Sought) -> Marked
     requires { k + count (seq_of parts.now) ≤ 64 }
     ensures next { result.next ≡ k + count (seq_of parts.now) }
-    ensures set { result.set ≡ matching (seq_of parts.now) k c.now }
+    ensures set { result.set ≡ picked (picks sought) (seq_of parts.now) k }
 {
     let mut next = k;
     let mut set = 0;
     for part in parts {
-        let found = matching(part, next, c);
+        let found = picked(part, next, sought);
         next = found.next;
         set |= found.set;
     }
     Marked { next, set }
 }
 
-/// The literals of all rules, numbered from 1, that match a letter.
-pub fn matching_rules(rules: &[Rule], c: &Letter) -> u64
+/// The literals of all rules, numbered from 1, that are as sought.
+pub fn picked_rules(rules: &[Rule], sought: Sought) -> u64
     requires { count (bad_of (rules_of rules.now)) < 64 }
-    ensures { result ≡ matching (bad_of (rules_of rules.now)) 1 c.now }
+    ensures { result ≡ picked (picks sought) (bad_of (rules_of rules.now)) 1 }
 {
     let mut next = 1;
     let mut set = 0;
     for rule in rules {
-        let found = matching(&rule.bad, next, c);
+        let found = picked(&rule.bad, next, sought);
         next = found.next;
         set |= found.set;
     }

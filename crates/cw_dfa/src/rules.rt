@@ -4,13 +4,13 @@ ghost use Rattle.std.specs.Prelude.{◌≡◌, ◌+◌, ◌<◌, ◌≤◌, List
 ghost use Rattle.cw_rights.specs.Trees.{count};
 ghost use Rattle.cw_rights.specs.Words.{Word};
 ghost use Rattle.cw_dfa.specs.Sets.{has};
-ghost use Rattle.cw_dfa.specs.Tables.{goes, matching};
+ghost use Rattle.cw_dfa.specs.Tables.{goes, matching, named, tested};
 ghost use Rattle.cw_dfa.specs.Positions.{bad_of, IsSetOf};
 ghost use Rattle.cw_dfa.specs.Verdicts.{rules_of, IsVerdict, verdict, next_of, walk};
 
-use crate::matching::{matching_rules, spare_rules};
+use crate::matching::{Sought, picked_rules, spare_rules};
 use crate::tables::{Tables, first_met, following, make_tables};
-use cw_rights::{Letter, Rule};
+use cw_rights::{Caps, Letter, Rule};
 use std::marker::Model;
 use thiserror::Error;
 
@@ -72,21 +72,36 @@ impl<'r> Rules<'r> {
     }
 
     /// The literals that may read a letter after those of a set, whatever the letter is.
-    pub(crate) fn ahead(&self, set: u64) -> u64
+    pub fn ahead(&self, set: u64) -> u64
         ensures { result ≡ goes (bad_of (rules_of self.now)) 1 (has set 0) set }
     {
         following(&self.tables, set)
     }
 
+    /// The literals that name a label, or none.
+    pub fn named(&self, label: u16) -> u64
+        ensures { result ≡ named (rules_of self.now) label }
+    {
+        picked_rules(self.rules, Sought::Label(label))
+    }
+
+    /// The literals whose tests hold of capabilities.
+    pub fn tested(&self, caps: &Caps) -> u64
+        ensures { result ≡ tested (rules_of self.now) caps.now }
+    {
+        picked_rules(self.rules, Sought::Tests(*caps))
+    }
+
     /// The literals that match a letter.
-    pub(crate) fn mask(&self, letter: &Letter) -> u64
+    #[tactic(auto, using(crate::proofs::Picked::matching_both))]
+    pub fn mask(&self, letter: &Letter) -> u64
         ensures { result ≡ matching (bad_of (rules_of self.now)) 1 letter.now }
     {
-        matching_rules(self.rules, letter)
+        self.named(letter.label) & self.tested(&letter.caps)
     }
 
     /// The first rule that may end after a literal of a set.
-    pub(crate) fn ended(&self, set: u64) -> Option<u8>
+    pub fn ended(&self, set: u64) -> Option<u8>
         ensures { result ≡ verdict (rules_of self.now) 0 1 set }
     {
         first_met(&self.tables.last[..self.rules.len()], set)

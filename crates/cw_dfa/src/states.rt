@@ -6,7 +6,7 @@ ghost use Rattle.std.specs.Option.{option_to_list};
 ghost use Rattle.cw_dfa.specs.Positions.{bad_of};
 ghost use Rattle.cw_dfa.specs.Tables.{matching};
 ghost use Rattle.cw_dfa.specs.Verdicts.{rules_of};
-ghost use Rattle.cw_dfa.specs.States.{Exactly, HasMore, after_mask, Reached};
+ghost use Rattle.cw_dfa.specs.States.{AreReached, AreMany, Exactly, HasMore, after_mask, Reached};
 
 use crate::rules::{DfaFault, Rules, start};
 use cw_closure::{Steps, closed_up_to};
@@ -33,23 +33,23 @@ fn after_mask(rules: &Rules, ahead: u64, mask: u64) -> Option<u64>
     }
 }
 
-// What may follow a set: the rules, and a mask for each letter.
+// What may follow a set: the rules, and the masks of the letters.
 #[derive(Drop)]
 struct Following<'a, 'r> {
     rules: &'a Rules<'r>,
-    masks: Vec<u64>,
+    masks: &'a [u64],
 }
 
 impl<'a, 'r> Steps<u64> for Following<'a, 'r> {
     ghost use Rattle.cw_dfa.specs.Verdicts.{rules_of};
     ghost use Rattle.cw_dfa.specs.States.{after_masks};
 
-    ghost after = { λ following set. after_masks (rules_of following.rules.now) following.masks.items set };
+    ghost after = { λ following set. after_masks (rules_of following.rules.now) following.masks.now set };
 
     ghost can_follow = { λ following set. Unit {0} };
 
     fn put_after(&self, key: u64, keys: &mut Vec<u64>) -> Result<(), AllocError> {
-        put_after_all(self.rules, self.rules.ahead(key), &self.masks, keys)
+        put_after_all(self.rules, self.rules.ahead(key), self.masks, keys)
     }
 
     ghost keeps = { λ following set next can follows. tt };
@@ -81,16 +81,29 @@ fn put_some(keys: &mut Vec<u64>, next: Option<u64>) -> Result<(), AllocError>
 }
 
 // The policy states in order, where they are at most 64.
-fn reach(alloc: Global, rules: &Rules, letters: &[Letter]) -> Result<Option<Vec<u64>>, AllocError>
-    ensures some { IfOk result (λ keys. IfSome keys
-        (λ v. Exactly (Reached (rules_of rules.now) letters.now) v.items)) }
+fn reach(alloc: Global, rules: &Rules, masks: &[u64]) -> Result<Option<Vec<u64>>, AllocError>
+    ensures some { IfOk result (λ keys. IfSome keys (λ v. AreReached (rules_of rules.now) masks.now v.items)) }
     ensures few { IfOk result (λ keys. IfSome keys (λ v. length v.items ≤ 64)) }
-    ensures none { IfOk result (λ keys. IfNone keys (HasMore (Reached (rules_of rules.now) letters.now) 64)) }
+    ensures none { IfOk result (λ keys. IfNone keys (AreMany (rules_of rules.now) masks.now)) }
 {
-    let masks = masks(alloc, rules, letters)?;
     let following = Following { rules, masks };
     let keys = closed_up_to(alloc, &following, &[start(rules)], 64)?;
     Ok(keys)
+}
+
+/// The policy states over letters, by their masks: the sets without violation that are reached from the start over the
+/// letters, through sets without violation, ascending as numbers. The masks may stand in any order, each once or more.
+pub fn states_by_masks(alloc: Global, rules: &Rules, masks: &[u64]) -> Result<Vec<u64>, DfaFault>
+    ensures states { IfOk result (λ v. AreReached (rules_of rules.now) masks.now v.items) }
+    ensures few { IfOk result (λ v. length v.items ≤ 64) }
+    ensures many { result ≡ Err DfaFault.TooManyStates → AreMany (rules_of rules.now) masks.now }
+    ensures positions { result ≡ Err DfaFault.TooManyPositions → ⊥ }
+{
+    match reach(alloc, rules, masks) {
+        Err(_) => Err(DfaFault::NoMemory),
+        Ok(None) => Err(DfaFault::TooManyStates),
+        Ok(Some(states)) => Ok(states),
+    }
 }
 
 /// The policy states: the sets without violation that are reached from the start over letters, through sets without
@@ -101,9 +114,8 @@ pub fn all_states(alloc: Global, rules: &Rules, letters: &[Letter]) -> Result<Ve
     ensures many { result ≡ Err DfaFault.TooManyStates → HasMore (Reached (rules_of rules.now) letters.now) 64 }
     ensures positions { result ≡ Err DfaFault.TooManyPositions → ⊥ }
 {
-    match reach(alloc, rules, letters) {
+    match masks(alloc, rules, letters) {
         Err(_) => Err(DfaFault::NoMemory),
-        Ok(None) => Err(DfaFault::TooManyStates),
-        Ok(Some(states)) => Ok(states),
+        Ok(masks) => states_by_masks(alloc, rules, &masks),
     }
 }
