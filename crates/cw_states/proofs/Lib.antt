@@ -1,10 +1,12 @@
 -- The proofs.
 pub mod Below
 pub mod Growing
+pub mod Letters
 pub mod Listed
 pub mod Meaning
 pub mod Members
 pub mod Narrow
 pub mod Ordered
 pub mod Places
+pub mod Rowed
 pub mod Tabled

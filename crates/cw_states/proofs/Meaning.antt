@@ -1,10 +1,10 @@
 -- The states are the policy's.
-use Rattle.std.proofs.Common.{◌≡◌, ℕ, zero, suc, ◌/◌, ◌%◌, ◌<◌, ◌≤◌, List, [], ◌∷◌, ◌++◌, Bool, true, false, Option, Some, None, map, length, get_or, take, nat_lt, nat_eq, refl, sym, ap, ap₂, ◌∙◌, subst, arith, length-append, eqb-true, is_some}
+use Rattle.std.proofs.Common.{◌≡◌, ℕ, ◌/◌, ◌%◌, ◌<◌, ◌≤◌, List, [], ◌∷◌, ◌++◌, Bool, true, false, Option, Some, None, length, get_or, take, nat_lt, refl, sym, ap, ap₂, ◌∙◌, subst, arith, length-append, is_some}
 use Rattle.std.specs.Prelude.{slice_get, slice_index}
 use Rattle.std.specs.List.{Contains}
 use Rattle.std.proofs.lemmas.Bool.Decides.{nat_tests}
-use Rattle.std.proofs.lemmas.List.{get_or-map, length-map, take_all, take-append-le}
-use Rattle.std.proofs.lemmas.List.Elements.{All-nil, All-push, Contains-append_left, Contains-append_right}
+use Rattle.std.proofs.lemmas.List.{take_all, take-append-le}
+use Rattle.std.proofs.lemmas.List.Elements.{All-nil, All-push}
 use Rattle.std.proofs.Math.Nat.{mul_comm}
 use Rattle.std.proofs.lemmas.Nat.{mul-add-lt, div-mul-add, mod-mul-add}
 use Rattle.cw_rights.specs.declared.capabilities.Caps.{Caps}
@@ -28,8 +28,9 @@ use Rattle.cw_game.specs.Reached.{Reached}
 use Rattle.cw_game.proofs.Reached.{are_reached}
 use Rattle.cw_states.specs.declared.uses.Uses.{Uses}
 use Rattle.cw_states.specs.Rights.{IsRightsState, at_start, by_enter, by_limit, by_open, by_close}
-use Rattle.cw_states.specs.States.{Lists, AreLists, Means, count, pair, set_at, caps_at, set_place, caps_place, with_caps, set_after, label_count, letters_below, letters_of, states_of}
+use Rattle.cw_states.specs.States.{Lists, AreLists, Means, count, pair, set_at, caps_at, set_place, caps_place, with_caps, set_after, label_count, letters_of, states_of}
 use Rattle.cw_states.specs.Spots.{Have}
+use Rattle.cw_states.proofs.Letters.{letter_below}
 use Rattle.cw_states.proofs.Narrow.{limit_of}
 use Rattle.cw_states.proofs.Places.{caps_found, number_found}
 
@@ -55,26 +56,6 @@ module _ (rules : List PlainRule) (letters : List Letter) where
       front m rule b false t =
           let few : m ≤ length w = grind (arith, nat_tests) in
           k.fronts m rule (subst (λ v. Breaks rules v rule) (take-append-le m w (c ∷ []) few) b)
-
--- ---- letters
-
-letter_in : (rights : List Caps) (c : Caps) (label : ℕ) → Contains rights c → Contains (map (letter_of label) rights) (letter_of label c)
-letter_in rights c label (k, l, e) =
-    let n = length-map rights (letter_of label) in
-    (k, omega (arith, l, n), get_or-map (letter_of label) rights k c (letter_of label c) l ∙ ap (letter_of label) e)
-
-letter_below : (rights : List Caps) (c : Caps) (label n : ℕ) → label < n → Contains rights c → Contains (letters_below n rights) (letter_of label c)
-letter_below rights c label zero l h = absurd (omega arith)
-letter_below rights c label (suc n) l h = by (nat_eq label n) refl (letter_below rights c label n)
-  where
-    by : (b : Bool) → nat_eq label n ≡ b → (label < n → Contains rights c → Contains (letters_below n rights) (letter_of label c))
-        → Contains (letters_below (suc n) rights) (letter_of label c)
-    by true e rec =
-        Contains-append_right (letters_below n rights) (map (letter_of n) rights) (letter_of label c)
-        (subst (λ m. Contains (map (letter_of m) rights) (letter_of label c)) (eqb-true label n e) (letter_in rights c label h))
-    by false e rec =
-        let below : label < n = grind (arith, nat_tests) in
-        Contains-append_left (letters_below n rights) (map (letter_of n) rights) (letter_of label c) (rec below h)
 
 -- ---- a verdict tells whether a word is bad
 

@@ -5,10 +5,7 @@ use Rattle.cw_rights.specs.declared.policy.Policy.{Policy}
 use Rattle.cw_rights.specs.declared.policy.Rule.{Rule}
 use Rattle.cw_rights.specs.Policies.{policy_of}
 use Rattle.cw_rights.specs.Valid.{IsValid}
-use Rattle.std.specs.Ordering.{nat_cmp}
-use Rattle.cw_closure.specs.Closures.{HasMore}
-use Rattle.cw_dfa.specs.States.{Reached}
-use Rattle.cw_rights.specs.declared.words.Letter.{Letter}
+use Rattle.cw_dfa.specs.States.{AreMany}
 use Rattle.cw_rights.specs.Policies.{PlainRule}
 use Rattle.cw_states.specs.declared.fault.StatesFault.{StatesFault}
 use Rattle.cw_states.specs.declared.fault.StatesFault.TheVariants.{TooManyCaps, TooManyWords, TooManyStates, NoMemory}
@@ -24,12 +21,12 @@ pub record IsKept (h : Held) (rules : List Rule) : Type 0 where
   pub few : AreFew (lists_of h)
   pub same : rules ≡ h.policy.rules.items
 
--- why there are no policy states over letters
-abbrev pub IsManyWords : List PlainRule → List Letter → StatesFault → Type 0
-IsManyWords rules letters NoMemory = Unit {0}
-IsManyWords rules letters TooManyWords = HasMore nat_cmp (Reached rules letters) 64
-IsManyWords rules letters TooManyCaps = ⊥
-IsManyWords rules letters TooManyStates = ⊥
+-- why there are no policy states over letters that have these masks
+abbrev pub IsManyWords : List PlainRule → List ℕ → StatesFault → Type 0
+IsManyWords rules masks NoMemory = Unit {0}
+IsManyWords rules masks TooManyWords = AreMany rules masks
+IsManyWords rules masks TooManyCaps = ⊥
+IsManyWords rules masks TooManyStates = ⊥
 
 -- whether it is this limit
 abbrev pub is_limit : ALimit → ALimit → Bool

@@ -2,6 +2,7 @@
 pub mod Below
 pub mod Growing
 pub mod Kept
+pub mod Masks
 pub mod Rights
 pub mod Spots
 pub mod States

@@ -39,9 +39,13 @@ place_after v act j = caps_place v (after_act v.policy act (slice_index_or v.rig
 abbrev pub places_after : Lists → Act → List ℕ
 places_after v act = tabled (place_after v act) (length v.rights)
 
+-- the place of a policy state, 255 for a set that breaks a rule
+abbrev pub place_of : Lists → ℕ → ℕ
+place_of v set = cond (is_some (verdict v.policy.rules 0 1 set)) 255 (set_place v set)
+
 -- the place of the policy state after a label's letter, 255 where it breaks a rule
 abbrev pub entry : Lists → ℕ → ℕ → ℕ
-entry v label q = cond (is_some (verdict v.policy.rules 0 1 (set_after v q label))) 255 (set_place v (set_after v q label))
+entry v label q = place_of v (set_after v q label)
 
 abbrev pub entries : Lists → ℕ → List ℕ
 entries v label = tabled (entry v label) (count v)

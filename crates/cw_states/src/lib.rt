@@ -5,6 +5,7 @@ mod acts;
 pub mod fault;
 mod growth;
 pub mod laws;
+mod masks;
 mod order;
 mod pairs;
 pub mod states;

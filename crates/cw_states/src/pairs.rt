@@ -1,27 +1,26 @@
 //! The pairs of a policy state and a rights state, by number.
 
-ghost use Rattle.std.specs.Prelude.{◌≡◌, ◌<◌, ◌≤◌, ◌++◌, length, map, nat_eq, position, slice_get, unwrap_or, Some, Contains, IfOk, IfErr, IfSome, OnOk};
-ghost use Rattle.std.specs.Ordering.{eq_by_cmp, nat_cmp};
-ghost use Rattle.cw_closure.specs.Closures.{Exactly};
+ghost use Rattle.std.specs.Prelude.{◌≡◌, ◌<◌, ◌≤◌, length, nat_eq, position, slice_get, unwrap_or, Some, Contains, IfOk, IfErr, IfSome};
+ghost use Rattle.std.specs.Ordering.{eq_by_cmp};
 ghost use Rattle.cw_rights.specs.Policies.{policy_of};
 ghost use Rattle.cw_rights.specs.Valid.{IsValid};
-ghost use Rattle.cw_dfa.specs.States.{Reached};
+ghost use Rattle.cw_dfa.specs.States.{AreReached};
 ghost use Rattle.cw_dfa.specs.Verdicts.{rules_of as rules_in};
 ghost use Rattle.cw_states.specs.Kept.{IsManyWords, is_limit};
-ghost use Rattle.cw_game.specs.Games.{letter_of};
 ghost use Rattle.cw_states.specs.Growing.{all_caps};
 ghost use Rattle.cw_states.specs.Rights.{caps_cmp};
-ghost use Rattle.cw_states.specs.States.{Lists, AreLists, AreFew, IsCause, letters_below, letters_of, label_count, states_of, count, caps_at};
+ghost use Rattle.cw_states.specs.States.{label_count};
 
 use crate::acts::{Act, after_act};
 use crate::fault::StatesFault;
 use crate::growth::{may_grant, rights_states};
+use crate::masks::{Masks, aheads, masks_below, tested};
 use crate::order::Ranked;
 use crate::uses::Uses;
 use cw_core::{Quantity, StateId};
-use cw_dfa::{DfaFault, Rules, all_states, start, step, violated};
+use cw_dfa::{DfaFault, Rules, start, states_by_masks, violated};
 use cw_rights::policy::start_caps;
-use cw_rights::{Caps, Letter, Limit, Policy, Primitive};
+use cw_rights::{Caps, Limit, Policy, Primitive};
 use std::alloc::{AllocError, Global};
 use std::marker::Model;
 
@@ -51,6 +50,13 @@ impl<'p> Model for Pairs<'p> {
     ghost invariant = { λ s. IsKept (held s.policy.now s.rights.items s.sets.items) s.rules };
 }
 
+// A set of positions with its place.
+#[derive(Clone, Copy, Drop)]
+struct Placed {
+    set: u64,
+    place: u8,
+}
+
 // Where a set of positions stands.
 fn find_set(sets: &[u64], set: u64) -> Option<usize>
     ensures place { result ≡ position (λ x. nat_eq x set) sets.now }
@@ -76,12 +82,13 @@ fn find_caps(rights: &[Ranked], caps: Caps) -> Option<usize>
 }
 
 impl<'p> Pairs<'p> {
-    ghost use Rattle.std.specs.Prelude.{◌≡◌, ◌<◌, ◌≤◌, ◌/◌, ◌%◌, Some, true, length, slice_get, slice_index_or, Contains, IfOk, IfErr};
+    ghost use Rattle.std.specs.Prelude.{◌≡◌, ◌<◌, ◌≤◌, ◌/◌, ◌%◌, ◌++◌, Some, true, length, slice_get, slice_index_or, Contains, IfOk, IfErr, OnOk};
     ghost use Rattle.cw_rights.specs.Policies.{policy_of, primitives, start_caps};
     ghost use Rattle.cw_rights.specs.Valid.{IsValid};
     ghost use Rattle.cw_model.specs.Boards.{may_grant};
-    ghost use Rattle.cw_states.specs.States.{lists_of, AreLists, AreFew, IsCause, count, pair, caps_at, caps_place, set_after, set_place, states_of};
-    ghost use Rattle.cw_states.specs.Tables.{IsActBelow, place_after, places_after, entry, entries};
+    ghost use Rattle.cw_states.specs.States.{lists_of, AreLists, AreFew, IsCause, count, pair, caps_at, caps_place, set_place, states_of};
+    ghost use Rattle.cw_states.specs.Masks.{IsMasks, row, rows};
+    ghost use Rattle.cw_states.specs.Tables.{IsActBelow, place_after, places_after, place_of, entries};
     ghost use Rattle.cw_states.specs.Growing.{IsNarrow};
 
     /// The states of a policy for what a source has.
@@ -107,8 +114,8 @@ impl<'p> Pairs<'p> {
             return Err(StatesFault::TooManyCaps);
         };
         let rules = rules_of(policy);
-        let letters = letters_of(alloc, policy, uses, &rights)?;
-        let sets = sets_over(alloc, &rules, &letters)?;
+        let masks = masks_below(alloc, &rules, label_count(policy, uses), &rights)?;
+        let sets = sets_over(alloc, &rules, &masks)?;
         let most = Quantity::ProductStates.limit_in(policy.format);
         if (sets.len() * rights.len()) as u64 > most {
             return Err(StatesFault::TooManyStates);
@@ -267,38 +274,90 @@ impl<'p> Pairs<'p> {
         may_grant(self.caps(state), prim)
     }
 
-    // The set of positions after a label's letter.
-    fn set_after(&self, state: StateId, label: u16) -> u64
-        requires state { state.0 < count (lists_of self.now) }
-        ensures { result ≡ set_after (lists_of self.now) state.0 label }
+    // The place of a policy state, 255 for a set that breaks a rule.
+    fn place_of(&self, set: u64) -> u8
+        ensures { result ≡ place_of (lists_of self.now) set }
     {
-        let letter = Letter {
-            label,
-            caps: *self.caps(state),
-        };
-        step(&self.rules, self.sets[self.row(state) as usize], &letter)
-    }
-
-    // The place of the policy state after a label's letter, 255 where it breaks a rule.
-    fn entry(&self, state: StateId, label: u16) -> u8
-        requires state { state.0 < count (lists_of self.now) }
-        ensures { result ≡ entry (lists_of self.now) label state.0 }
-    {
-        let set = self.set_after(state, label);
         match violated(&self.rules, set) {
             Some(_) => 255,
             None => self.set_place(set),
         }
     }
 
+    // The place of a set: as before, where it is the set before.
+    fn place_after_another(&self, before: Placed, set: u64) -> Placed
+        requires { before.place ≡ place_of (lists_of self.now) before.set }
+        ensures set { result.set ≡ set }
+        ensures place { result.place ≡ place_of (lists_of self.now) set }
+    {
+        if set == before.set {
+            before
+        } else {
+            Placed {
+                set,
+                place: self.place_of(set),
+            }
+        }
+    }
+
+    // The places after the letters that name what follows a set, by rights state.
+    fn put_row(&self, ahead: u64, tested: &[u64], places: &mut Vec<u8>) -> Result<(), AllocError>
+        ensures { OnOk result (places.new.items ≡ places.old.items ++ row (lists_of self.now) ahead tested.now) }
+    {
+        let mut last = Placed {
+            set: ahead,
+            place: self.place_of(ahead),
+        };
+        for mask in tested {
+            last = self.place_after_another(last, ahead & *mask);
+            places.push(last.place)?;
+        }
+        Ok(())
+    }
+
+    // The same for each of some sets.
+    fn put_rows(
+        &self,
+        named: u64,
+        aheads: &[u64],
+        tested: &[u64],
+        places: &mut Vec<u8>,
+    ) -> Result<(), AllocError>
+        ensures { OnOk result (places.new.items ≡ places.old.items ++ rows (lists_of self.now) named aheads.now tested.now) }
+    {
+        match aheads {
+            [] => Ok(()),
+            [first, rest @ ..] => {
+                self.put_row(*first & named, tested, places)?;
+                self.put_rows(named, rest, tested, places)?;
+                Ok(())
+            }
+        }
+    }
+
+    /// What may follow each policy state, and the literals whose tests hold of each rights state.
+    pub(crate) fn masks(&self, alloc: Global) -> Result<Masks, AllocError>
+        ensures { IfOk result (λ masks. IsMasks (lists_of self.now) masks) }
+    {
+        Ok(Masks {
+            aheads: aheads(alloc, &self.rules, &self.sets)?,
+            tested: tested(alloc, &self.rules, &self.rights)?,
+        })
+    }
+
     /// For each state the place of the policy state after a label's letter, 255 where it breaks a rule.
-    pub(crate) fn entries(&self, alloc: Global, label: u16) -> Result<Vec<u8>, AllocError>
+    pub(crate) fn entries(
+        &self,
+        alloc: Global,
+        masks: &Masks,
+        label: u16,
+    ) -> Result<Vec<u8>, AllocError>
+        requires { IsMasks (lists_of self.now) masks.now }
         ensures { IfOk result (λ v. v.items ≡ entries (lists_of self.now) label) }
     {
         let mut places = Vec::new(alloc);
-        for state in 0..self.count() {
-            places.push(self.entry(StateId(state), label))?;
-        }
+        let named = self.rules.named(label);
+        self.put_rows(named, &masks.aheads, &masks.tested, &mut places)?;
         Ok(places)
     }
 
@@ -322,40 +381,11 @@ impl<'p> Pairs<'p> {
     }
 }
 
-// A label with each rights state.
-fn put_letters(label: u16, rights: &[Ranked], letters: &mut Vec<Letter>) -> Result<(), AllocError>
-    ensures { OnOk result (letters.new.items ≡ letters.old.items ++ map (letter_of label) (all_caps rights.now)) }
-{
-    for state in rights {
-        letters.push(Letter {
-            label,
-            caps: state.caps,
-        })?;
-    }
-    Ok(())
-}
-
 // The labels of the policy, and one more where the source has a label that the policy doesn't name.
 fn label_count(policy: &Policy, uses: Uses) -> usize
     ensures { result ≡ label_count (policy_of policy.now) uses }
 {
     policy.labels.len() + if uses.has_other { 1 } else { 0 }
-}
-
-fn letters_of(
-    alloc: Global,
-    policy: &Policy,
-    uses: Uses,
-    rights: &[Ranked],
-) -> Result<Vec<Letter>, AllocError>
-    requires { length policy.now.labels.items ≤ 65535 }
-    ensures { IfOk result (λ v. v.items ≡ letters_of (policy_of policy.now) uses (all_caps rights.now)) }
-{
-    let mut letters = Vec::new(alloc);
-    for label in 0..label_count(policy, uses) {
-        put_letters(label as u16, rights, &mut letters)?;
-    }
-    Ok(letters)
 }
 
 // Where a limit stands.
@@ -387,13 +417,13 @@ fn rules_of<'p>(policy: &'p Policy) -> Rules<'p>
     }
 }
 
-// The policy states over letters.
-fn sets_over(alloc: Global, rules: &Rules, letters: &[Letter]) -> Result<Vec<u64>, StatesFault>
-    ensures all { IfOk result (λ v. Exactly nat_cmp (Reached (rules_in rules.now) letters.now) v.items) }
+// The policy states over letters, by their masks.
+fn sets_over(alloc: Global, rules: &Rules, masks: &[u64]) -> Result<Vec<u64>, StatesFault>
+    ensures all { IfOk result (λ v. AreReached (rules_in rules.now) masks.now v.items) }
     ensures few { IfOk result (λ v. length v.items ≤ 64) }
-    ensures many { IfErr result (λ fault. IsManyWords (rules_in rules.now) letters.now fault) }
+    ensures many { IfErr result (λ fault. IsManyWords (rules_in rules.now) masks.now fault) }
 {
-    match all_states(alloc, rules, letters) {
+    match states_by_masks(alloc, rules, masks) {
         Ok(sets) => Ok(sets),
         Err(DfaFault::TooManyStates) => Err(StatesFault::TooManyWords),
         Err(DfaFault::NoMemory) => Err(StatesFault::NoMemory),

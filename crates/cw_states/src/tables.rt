@@ -64,9 +64,10 @@ fn lettered(alloc: Global, pairs: &Pairs, labels: usize) -> Result<Vec<Vec<u8>>,
     requires { labels ≤ 65536 }
     ensures { IfOk result (λ v. all_items v.items ≡ tabled (entries (lists_of pairs.now)) labels) }
 {
+    let masks = pairs.masks(alloc)?;
     let mut columns = Vec::new(alloc);
     for label in 0..labels {
-        columns.push(pairs.entries(alloc, label as u16)?)?;
+        columns.push(pairs.entries(alloc, &masks, label as u16)?)?;
     }
     Ok(columns)
 }
