@@ -1,0 +1,7 @@
+//! Tapes: the moves of one party as a text.
+#![tactic(auto)]
+
+mod moves;
+mod reading;
+
+pub use reading::read_tape;
