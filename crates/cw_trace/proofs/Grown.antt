@@ -1,0 +1,44 @@
+-- A run with one step more at its end.
+use Rattle.std.proofs.Common.{◌≡◌, ℕ, List, [], ◌∷◌, ◌++◌, map, refl, sym, ap, ◌∙◌, append_assoc, append-nil}
+use Rattle.cw_certs.specs.declared.moves.Move.{Move}
+use Rattle.cw_certs.specs.Tables.{Table}
+use Rattle.cw_model.specs.Boards.{Problem, Board, turn_of}
+use Rattle.cw_model.specs.Runs.{State, WovenStep}
+use Rattle.cw_trace.specs.Traces.{Names, Taken, step_lines, lines_from, board_after}
+use Rattle.cw_trace.specs.Steps.{Step, Follows, state_after, word_by, words_of, taken_of}
+
+pub lines_grown : (names : Names) (p : Problem) (b : Board) (before : List Taken) (last : Taken)
+    → lines_from names p b (before ++ last ∷ []) ≡ lines_from names p b before ++ step_lines names p (board_after b before) last.by last.next
+lines_grown names p b [] last = append-nil (step_lines names p b last.by last.next)
+lines_grown names p b (one ∷ before) last =
+    ap (λ l. step_lines names p b one.by one.next ++ l) (lines_grown names p one.next before last)
+    ∙ sym (append_assoc (step_lines names p b one.by one.next) (lines_from names p one.next before) (step_lines names p (board_after one.next before) last.by last.next))
+
+pub board_grown : (b : Board) (before : List Taken) (last : Taken) → board_after b (before ++ last ∷ []) ≡ last.next
+board_grown b [] last = refl
+board_grown b (one ∷ before) last = board_grown one.next before last
+
+module _ (p : Problem) (t : Table) where
+  pub follows_grown : (s : State) (before : List Step) (last : Step) → Follows p t s before → WovenStep p t (state_after s before) last.by last.next → Follows p t s (before ++ last ∷ [])
+  follows_grown s [] last h k = (k, tt)
+  follows_grown s (one ∷ before) last h k = (h.0, follows_grown one.next before last h.1 k)
+
+pub state_grown : (s : State) (before : List Step) (last : Step) → state_after s (before ++ last ∷ []) ≡ last.next
+state_grown s [] last = refl
+state_grown s (one ∷ before) last = state_grown one.next before last
+
+pub words_grown : (s : State) (before : List Step) (last : Step)
+    → words_of s (before ++ last ∷ []) ≡ words_of s before ++ word_by (turn_of (state_after s before).board.phase) last.by
+words_grown s [] last = append-nil (word_by (turn_of s.board.phase) last.by)
+words_grown s (one ∷ before) last =
+    ap (λ l. word_by (turn_of s.board.phase) one.by ++ l) (words_grown one.next before last)
+    ∙ sym (append_assoc (word_by (turn_of s.board.phase) one.by) (words_of one.next before) (word_by (turn_of (state_after one.next before).board.phase) last.by))
+
+-- the boards of a run are those of its steps
+pub board_of_run : (s : State) (steps : List Step) → board_after s.board (map taken_of steps) ≡ (state_after s steps).board
+board_of_run s [] = refl
+board_of_run s (one ∷ later) = board_of_run one.next later
+
+pub taken_grown : (before : List Step) (last : Step) → map taken_of (before ++ last ∷ []) ≡ map taken_of before ++ taken_of last ∷ []
+taken_grown [] last = refl
+taken_grown (one ∷ before) last = ap (λ l. taken_of one ∷ l) (taken_grown before last)

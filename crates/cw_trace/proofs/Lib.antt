@@ -1,0 +1,5 @@
+mod Shapes
+mod Lists
+pub mod Named
+pub mod OneRun
+pub mod Grown
