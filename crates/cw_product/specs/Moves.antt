@@ -1,12 +1,13 @@
 -- What a game answers of a position and a state, as numbers.
-use Rattle.std.specs.Prelude.{ℕ, ◌<◌, [], Bool, true, false, cond, ◌||◌, Option, None, nat_eq, length, option_map, slice_get}
+use Rattle.std.specs.Prelude.{ℕ, ◌<◌, [], Bool, true, false, cond, ◌||◌, Option, Some, None, nat_eq, length, option_map, slice_get}
 use Rattle.cw_core.specs.declared.ids.PosId.{PosId}
 use Rattle.cw_core.specs.declared.ids.StateId.{StateId}
 use Rattle.cw_certs.specs.declared.moves.Move.{Move}
 use Rattle.cw_game.specs.declared.spots.Spot.{Spot}
-use Rattle.cw_game.specs.declared.spots.Spot.TheVariants.{Visit, Call, SplitCall, Exit}
+use Rattle.cw_game.specs.declared.spots.Spot.TheVariants.{Visit, Label, Call, SplitCall, Exit}
 use Rattle.cw_game.specs.Games.{Game, Config, leads_in, bad_in}
 use Rattle.cw_game.specs.Pairs.{is_call_in, is_exit_in}
+use Rattle.cw_states.specs.States.{Lists, violated_in}
 use Rattle.cw_product.specs.declared.turn.Turn.{Turn}
 use Rattle.cw_product.specs.declared.turn.Turn.TheVariants as turn
 
@@ -45,3 +46,8 @@ turn_in g (Call j f n) = turn.Call f false (pos_id n)
 turn_in g (SplitCall j f n) = turn.Call f true (pos_id n)
 turn_in g (Exit f) = turn.Exit (nat_eq f g.main)
 turn_in g _ = turn.Environment
+
+-- the least rule that the label that stands there breaks
+abbrev pub violated_at : Lists → ℕ → Option Spot → Option ℕ
+violated_at v q (Some (Label j l n)) = violated_in v q l
+violated_at v q _ = None

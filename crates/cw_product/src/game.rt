@@ -45,7 +45,7 @@ impl<'g> Model for Game<'g> {
 }
 
 impl<'g> Game<'g> {
-    ghost use Rattle.std.specs.Prelude.{◌≡◌, ◌<◌, ◌≤◌, ◌*◌, ℕ, List, [], Some, None, length, option_map, slice_get, IfOk, IfErr, IfSome};
+    ghost use Rattle.std.specs.Prelude.{◌≡◌, ◌<◌, ◌≤◌, ◌*◌, ℕ, List, [], Some, None, is_some, length, option_map, slice_get, IfOk, IfErr, IfSome};
     ghost use Rattle.cw_product.specs.Product.{IsProgramsGraph, IsCause, game_of};
     ghost use Rattle.cw_positions.specs.Opens.{AssignsNames};
     ghost use Rattle.cw_product.specs.Uses.{uses_of};
@@ -63,7 +63,7 @@ impl<'g> Game<'g> {
     ghost use Rattle.cw_points.specs.Graphs.{IsGraph};
     ghost use Rattle.cw_model.specs.Boards.{problem_of};
     ghost use Rattle.cw_game.specs.Standing.{IsGameOf};
-    ghost use Rattle.cw_product.specs.Moves.{IsPosition, IsState, pair_of, numbers, next_in, next_at, turn_in};
+    ghost use Rattle.cw_product.specs.Moves.{IsPosition, IsState, pair_of, numbers, next_in, next_at, turn_in, violated_at};
     ghost use Rattle.cw_product.specs.Places.{IsPointOf, stage_in, is_asked_in, is_split_in};
     ghost use Rattle.cw_product.specs.Kept.{IsSound, IsFine, IsPart, IsPrimitive, IsDescriptor, IsLabel};
     ghost use Rattle.cw_game.specs.Conditions.{is_seam, is_stage};
@@ -500,6 +500,20 @@ impl<'g> Game<'g> {
         match self.fine_spot(pos) {
             Spot::Label(_, label, _) => self.states.bad(state, label),
             _ => false,
+        }
+    }
+
+    /// The number of the least rule that the label that stands there breaks: None where none stands there, and where it
+    /// breaks none. It takes a step of the policy's rules.
+    pub fn violated(&self, pos: PosId, state: StateId) -> Option<u8>
+        requires position { IsPosition (game_of self.now) pos.0 }
+        requires state { IsState (game_of self.now) state.0 }
+        ensures is { result ≡ violated_at (lists_of self.now.states) state.0 (slice_get (game_of self.now).spots pos.0) }
+        ensures bad { is_some result ≡ bad_in (game_of self.now) state.0 (slice_get (game_of self.now).spots pos.0) }
+    {
+        match self.fine_spot(pos) {
+            Spot::Label(_, label, _) => self.states.violated(state, label),
+            _ => None,
         }
     }
 

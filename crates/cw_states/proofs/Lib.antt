@@ -1,5 +1,6 @@
 -- The proofs.
 pub mod Below
+pub mod Broken
 pub mod Growing
 pub mod Letters
 pub mod Listed

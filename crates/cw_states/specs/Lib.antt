@@ -1,5 +1,6 @@
 -- The definitions.
 pub mod Below
+pub mod Broken
 pub mod Growing
 pub mod Kept
 pub mod Masks

@@ -1,5 +1,5 @@
 -- The states of a policy for a source: pairs of a policy state and a rights state, by number.
-use Rattle.std.specs.Prelude.{◌≡◌, ℕ, zero, suc, ◌+◌, ◌*◌, ◌/◌, ◌%◌, ◌<◌, ◌≤◌, List, [], ◌++◌, cond, is_some, nat_eq, length, map, position, slice_get, slice_index, slice_index_or, unwrap_or}
+use Rattle.std.specs.Prelude.{◌≡◌, ℕ, zero, suc, ◌+◌, ◌*◌, ◌/◌, ◌%◌, ◌<◌, ◌≤◌, List, [], ◌++◌, Option, cond, is_some, nat_eq, length, map, position, slice_get, slice_index, slice_index_or, unwrap_or}
 use Rattle.std.specs.Ordering.{eq_by_cmp, nat_cmp}
 use Rattle.cw_closure.specs.Closures.{Exactly, HasMore}
 use Rattle.cw_core.specs.declared.quantity.Quantity.TheVariants.{ProductStates}
@@ -81,6 +81,10 @@ with_caps v q caps = pair v (q / length v.rights) (caps_place v caps)
 abbrev pub set_after : Lists → ℕ → ℕ → ℕ
 set_after v q label = next_of v.policy.rules (set_at v q) (letter_of label (caps_at v q))
 
+-- the least rule that is broken after a label's letter
+abbrev pub violated_in : Lists → ℕ → ℕ → Option ℕ
+violated_in v q label = verdict v.policy.rules 0 1 (set_after v q label)
+
 abbrev pub states_of : Lists → States
 states_of v = record {
   count = count v;
@@ -89,7 +93,7 @@ states_of v = record {
   opened = λ q d. with_caps v q (with_opened (caps_at v q) d (slice_get v.policy.descriptors d));
   closed = λ q d. with_caps v q (closed (caps_at v q) d);
   lettered = λ q label. pair v (set_place v (set_after v q label)) (q % length v.rights);
-  bad = λ q label. is_some (verdict v.policy.rules 0 1 (set_after v q label));
+  bad = λ q label. is_some (violated_in v q label);
   may_grant = λ q a. may_grant (caps_at v q) a;
   with_rights = λ x q. pair v (x / length v.rights) (q % length v.rights);
 }

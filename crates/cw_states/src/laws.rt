@@ -1,6 +1,7 @@
 //! Laws of the definitions: functions that do nothing, and whose contracts hold of every value.
 
 ghost use Rattle.cw_states.specs.Below.{StatesStayBelow};
+ghost use Rattle.cw_states.specs.Broken.{ViolationsAreBad, ViolationsAreVerdicts};
 ghost use Rattle.cw_states.specs.Spots.{StatesAreThePolicys, StatesAreThePolicysAsReached};
 
 /// The states are the policy's, for all positions whose opens, closes and labels the source has: where a state means
@@ -14,4 +15,11 @@ pub fn states_are_the_policys()
 /// From states below the count each call leads to states below the count.
 pub fn states_stay_below()
     ensures { StatesStayBelow }
+{}
+
+/// The rule that a letter breaks is one exactly where the letter is bad, and for each word whose set of positions is the
+/// state's it is the least rule that matches the word with the letter.
+pub fn violations_are_the_least_rules()
+    ensures bad { ViolationsAreBad }
+    ensures least { ViolationsAreVerdicts }
 {}

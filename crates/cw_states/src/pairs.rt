@@ -18,9 +18,9 @@ use crate::masks::{Masks, aheads, masks_below, tested};
 use crate::order::Ranked;
 use crate::uses::Uses;
 use cw_core::{Quantity, StateId};
-use cw_dfa::{DfaFault, Rules, start, states_by_masks, violated};
+use cw_dfa::{DfaFault, Rules, start, states_by_masks, step, violated};
 use cw_rights::policy::start_caps;
-use cw_rights::{Caps, Limit, Policy, Primitive};
+use cw_rights::{Caps, Letter, Limit, Policy, Primitive};
 use std::alloc::{AllocError, Global};
 use std::marker::Model;
 
@@ -86,7 +86,7 @@ impl<'p> Pairs<'p> {
     ghost use Rattle.cw_rights.specs.Policies.{policy_of, primitives, start_caps};
     ghost use Rattle.cw_rights.specs.Valid.{IsValid};
     ghost use Rattle.cw_model.specs.Boards.{may_grant};
-    ghost use Rattle.cw_states.specs.States.{lists_of, AreLists, AreFew, IsCause, count, pair, caps_at, caps_place, set_place, states_of};
+    ghost use Rattle.cw_states.specs.States.{lists_of, AreLists, AreFew, IsCause, count, pair, caps_at, caps_place, set_after, set_place, states_of, violated_in};
     ghost use Rattle.cw_states.specs.Masks.{IsMasks, row, rows};
     ghost use Rattle.cw_states.specs.Tables.{IsActBelow, place_after, places_after, place_of, entries};
     ghost use Rattle.cw_states.specs.Growing.{IsNarrow};
@@ -272,6 +272,26 @@ impl<'p> Pairs<'p> {
     {
         self.is_narrow();
         may_grant(self.caps(state), prim)
+    }
+
+    /// The least rule that is broken after a label's letter.
+    pub(crate) fn violated(&self, state: StateId, label: u16) -> Option<u8>
+        requires state { state.0 < count (lists_of self.now) }
+        ensures { result ≡ violated_in (lists_of self.now) state.0 label }
+    {
+        violated(&self.rules, self.set_after(state, label))
+    }
+
+    // The set of positions after a label's letter.
+    fn set_after(&self, state: StateId, label: u16) -> u64
+        requires state { state.0 < count (lists_of self.now) }
+        ensures { result ≡ set_after (lists_of self.now) state.0 label }
+    {
+        let letter = Letter {
+            label,
+            caps: *self.caps(state),
+        };
+        step(&self.rules, self.sets[self.row(state) as usize], &letter)
     }
 
     // The place of a policy state, 255 for a set that breaks a rule.

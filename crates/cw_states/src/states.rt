@@ -33,10 +33,10 @@ impl<'p> Model for States<'p> {
 }
 
 impl<'p> States<'p> {
-    ghost use Rattle.std.specs.Prelude.{◌≡◌, ◌<◌, ◌≤◌, ◌%◌, false, length, true, Contains, IfOk, IfErr};
+    ghost use Rattle.std.specs.Prelude.{◌≡◌, ◌<◌, ◌≤◌, ◌%◌, false, is_some, length, true, Contains, IfOk, IfErr};
     ghost use Rattle.cw_rights.specs.Policies.{policy_of, primitives};
     ghost use Rattle.cw_rights.specs.Valid.{IsValid};
-    ghost use Rattle.cw_states.specs.States.{lists_of, AreLists, AreFew, IsCause, count, caps_at, states_of};
+    ghost use Rattle.cw_states.specs.States.{lists_of, AreLists, AreFew, IsCause, count, caps_at, states_of, violated_in};
     ghost use Rattle.cw_states.specs.declared.acts.Act.TheVariants as act;
     ghost use Rattle.cw_rights.specs.declared.capabilities.Primitive.TheVariants.{Enter, Limit as ALimit, Split};
     ghost use Rattle.cw_states.specs.Tables.{place_after, entry};
@@ -204,6 +204,16 @@ impl<'p> States<'p> {
     {
         self.pairs.is_few();
         self.entry(state, label) == 255
+    }
+
+    /// The number of the least rule that the letter of a label breaks: None where it breaks none. It takes a step of the
+    /// policy's rules.
+    pub fn violated(&self, state: StateId, label: u16) -> Option<u8>
+        requires state { state.0 < count (lists_of self.now) }
+        ensures is { result ≡ violated_in (lists_of self.now) state.0 label }
+        ensures bad { is_some result ≡ (states_of (lists_of self.now)).bad state.0 label }
+    {
+        self.pairs.violated(state, label)
     }
 
     /// The state after the letter of a label, where it breaks no rule.
