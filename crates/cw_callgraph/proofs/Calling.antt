@@ -1,6 +1,8 @@
 -- What the functions of a plan call, by the rows of their statements; and the tables of effects.
 use Rattle.std.proofs.Common.{◌≡◌, ℕ, zero, suc, ◌+◌, List, [], ◌∷◌, ◌++◌, map, length, get_or, Vec, Global, refl, sym, length-append, ap, ap₂, ◌∙◌, subst, arith}
-use Rattle.std.specs.Prelude.{slice_get}
+use Rattle.std.specs.Prelude.{slice_get, Option}
+use Rattle.cw_callgraph.specs.Lowest.{forbidden}
+use Rattle.std.proofs.lemmas.List.{length-map}
 use Rattle.std.proofs.lemmas.Option.{none-some, same_Some}
 use Rattle.cw_syntax.specs.declared.program.Function.{Function}
 use Rattle.cw_syntax.specs.Trees.{definition_of}
@@ -39,6 +41,9 @@ calls_at s (x ∷ fs) j (suc f) = calls_at s fs (j + 1 + seams_all (stms_in s x.
 pub same_calls : (s : Scene) (fs : List Function) (main : ℕ) (rows : List (Vec ℕ Global)) → lists_of rows ≡ map (direct s) fs → (h : ℕ) → next_in rows h ≡ calls (record { routines = routines_from s 0 (map definition_of fs); main = main }) h
 same_calls s fs main rows e h = ap (λ l. get_or l h []) e ∙ sym (calls_at s fs 0 h)
 
+pub rows_count : (s : Scene) (fs : List Function) (rows : List (Vec ℕ Global)) → lists_of rows ≡ map (direct s) fs → length rows ≡ length fs
+rows_count s fs rows e = sym (length-map rows (λ (row : Vec ℕ Global). row.items)) ∙ ap length e ∙ length-map fs (direct s)
+
 -- a table with one entry more
 each_cons : {A : Type 0} (P : ℕ → A → Type 0) (x : A) (xs : List A) → P 0 x → Each (λ f y. P (suc f) y) xs → Each P (x ∷ xs)
 each_cons P x xs p h zero y e = subst (P 0) (same_Some x y e) p
@@ -49,12 +54,23 @@ each_more P [] x n l h p = each_cons P x [] (subst (λ m. P m x) (sym l) p) (λ 
 each_more P (y ∷ ys) x zero l h p = absurd (omega arith)
 each_more P (y ∷ ys) x (suc n) l h p = each_cons P y (ys ++ x ∷ []) (h 0 y refl) (each_more (λ f z. P (suc f) z) ys x n (omega arith) (λ f z e. h (suc f) z e) p)
 
-pub no_effects : (rows : List (Vec ℕ Global)) → AreEffects rows 0 []
-no_effects rows = record { count = refl; calls = λ f y e. absurd (none-some y e); reaches = λ f y e. absurd (none-some y e) }
+pub no_effects : (rows : List (Vec ℕ Global)) (heads bodies : List (Option ℕ)) → AreEffects rows heads bodies 0 []
+no_effects rows heads bodies = record {
+  count = refl;
+  calls = λ f y e. absurd (none-some y e);
+  reaches = λ f y e. absurd (none-some y e);
+  forbids = λ f y e. absurd (none-some y e);
+}
 
-pub effects_more : (rows : List (Vec ℕ Global)) (n : ℕ) (effects : List Effect) (effect : Effect) → AreEffects rows n effects → effect.calls.items ≡ next_in rows n → IsReach (next_in rows) n effect.reaches.items → AreEffects rows (n + 1) (effects ++ effect ∷ [])
-effects_more rows n effects effect a c r = record {
+pub effects_more : (rows : List (Vec ℕ Global)) (heads bodies : List (Option ℕ)) (n : ℕ) (effects : List Effect) (effect : Effect)
+    → AreEffects rows heads bodies n effects
+    → effect.calls.items ≡ next_in rows n
+    → IsReach (next_in rows) n effect.reaches.items
+    → effect.forbids ≡ forbidden heads bodies n effect.reaches.items
+    → AreEffects rows heads bodies (n + 1) (effects ++ effect ∷ [])
+effects_more rows heads bodies n effects effect a c r b = record {
   count = length-append effects (effect ∷ []) ∙ ap (λ k. k + 1) a.count;
   calls = each_more (λ f e. e.calls.items ≡ next_in rows f) effects effect n a.count a.calls c;
   reaches = each_more (λ f e. IsReach (next_in rows) f e.reaches.items) effects effect n a.count a.reaches r;
+  forbids = each_more (λ f e. e.forbids ≡ forbidden heads bodies f e.reaches.items) effects effect n a.count a.forbids b;
 }

@@ -1,6 +1,6 @@
 -- Working definitions: numbers that are found one after the other, each kept once; and what is reached along the rows of a
 -- table.
-use Rattle.std.specs.Prelude.{◌≡◌, ◌<◌, ◌==◌, ℕ, List, [], ◌∷◌, ◌++◌, Bool, true, false, cond, length, map, Vec, slice_index_or}
+use Rattle.std.specs.Prelude.{◌≡◌, ◌<◌, ◌==◌, ℕ, List, [], ◌∷◌, ◌++◌, Bool, true, false, cond, length, map, Vec, Option, slice_index_or}
 use Rattle.std.specs.List.{Contains, list_any, IsDistinct}
 use Rattle.std.specs.Ordering.{nat_cmp}
 use Rattle.cw_closure.specs.Closures.{Exactly, Reached}
@@ -11,6 +11,7 @@ use Rattle.cw_actions.specs.Scenes.{stms_in}
 use Rattle.cw_callgraph.specs.declared.found.Found.{Found}
 use Rattle.cw_callgraph.specs.declared.table.Effect.{Effect}
 use Rattle.cw_callgraph.specs.Effects.{callees_all, firsts, Each}
+use Rattle.cw_callgraph.specs.Lowest.{forbidden}
 
 abbrev pub has : List ℕ → ℕ → Bool
 has found g = list_any (λ h. g == h) found
@@ -55,8 +56,9 @@ IsReach next f reach = Exactly nat_cmp (Reached next (next f)) reach
 abbrev pub direct : Scene → Function → List ℕ
 direct s f = firsts (callees_all (stms_in s f.body.items))
 
--- the effects of the first functions of a table of calls
-pub record AreEffects (rows : List (Vec ℕ Global)) (n : ℕ) (effects : List Effect) : Type 0 where
+-- the effects of the first functions of a table of calls, under the least places in heads and in bodies
+pub record AreEffects (rows : List (Vec ℕ Global)) (heads bodies : List (Option ℕ)) (n : ℕ) (effects : List Effect) : Type 0 where
   pub count : length effects ≡ n
   pub calls : Each (λ f effect. effect.calls.items ≡ next_in rows f) effects
   pub reaches : Each (λ f effect. IsReach (next_in rows) f effect.reaches.items) effects
+  pub forbids : Each (λ f effect. effect.forbids ≡ forbidden heads bodies f effect.reaches.items) effects

@@ -1,11 +1,19 @@
-//! What each function of a program calls directly, and all that it reaches.
+//! What each function of a program calls directly, and all that it reaches; what forbids splitting it; and which policies fit a program.
 #![tactic(auto)]
 
+mod bars;
 mod callees;
+mod expressions;
+mod fit;
 mod found;
+mod heads;
+mod lowest;
 mod reach;
+mod scopes;
+mod statements;
 mod table;
 #[cfg(test)]
 mod tests;
 
+pub use fit::{FitFault, fits};
 pub use table::{Effect, EffectTable, effects};

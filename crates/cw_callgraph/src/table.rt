@@ -1,26 +1,33 @@
-//! What each function calls, and what it reaches.
+//! What each function calls, what it reaches, and what forbids splitting it.
 
 ghost use Rattle.std.specs.Prelude.{◌≡◌, ◌<◌, ◌≤◌, ◌↔◌, ℕ, length, IfOk};
 ghost use Rattle.std.specs.List.{All, Contains};
 ghost use Rattle.std.specs.List.Sorted.{IsStrictlyIncreasing};
 ghost use Rattle.cw_rights.specs.Policies.{policy_of};
-ghost use Rattle.cw_actions.specs.Scenes.{plan_in};
+ghost use Rattle.cw_actions.specs.Scenes.{names_of, plan_in};
 ghost use Rattle.cw_callgraph.specs.Effects.{calls, Reaches, Each};
+ghost use Rattle.cw_callgraph.specs.Tabled.{AreEffectsOf};
+ghost use Rattle.cw_callgraph.specs.Forbidding.{Forbids, IsLeast};
+ghost use Rattle.cw_callgraph.specs.Lowest.{forbidden};
+ghost use Rattle.cw_syntax.specs.Trees.{file_of};
 ghost use Rattle.cw_callgraph.specs.Finding.{AreBelow, lists_of, next_in, IsReach, AreEffects};
 
+use crate::bars::{Bars, all_bars};
 use crate::callees::all_calls;
+use crate::lowest::{sooner, soonest_among};
 use crate::reach::{Calls, reach};
 use cw_core::NoMemory;
 use cw_rights::Policy;
 use cw_syntax::checked::Checked;
 use std::alloc::Global;
 
-/// What a function calls directly, each function once, in the order of its first call in the text; and all functions
-/// that it reaches, ascending.
+/// What a function calls directly, each function once, in the order of its first call in the text; all functions that it
+/// reaches, ascending; and the least place, in bytes of the source, that forbids splitting it, where there is one.
 #[derive(Drop)]
 pub struct Effect {
     pub calls: Vec<u16>,
     pub reaches: Vec<u16>,
+    pub forbids: Option<u32>,
 }
 
 /// The effects of functions, by their numbers.
@@ -37,43 +44,68 @@ fn copied(alloc: Global, numbers: &[u16]) -> Result<Vec<u16>, NoMemory>
     Ok(copy)
 }
 
-/// The effect of one function, by what each function calls.
-fn effect_of(alloc: Global, table: &Calls, function: usize) -> Result<Effect, NoMemory>
+/// The least place that forbids splitting a function which reaches these.
+fn least_place(bars: &Bars, function: usize, reaches: &[u16]) -> Option<u32>
+    requires head { function < length bars.now.heads.items }
+    requires body { function < length bars.now.bodies.items }
+    requires within { All (λ g. g < length bars.now.bodies.items) reaches.now }
+    ensures { result ≡ forbidden bars.now.heads.items bars.now.bodies.items function reaches.now }
+{
+    let body = sooner(bars.bodies[function], soonest_among(&bars.bodies, reaches));
+    sooner(bars.heads[function], body)
+}
+
+/// The effect of one function, by what each function calls and what forbids each by itself.
+fn effect_of(alloc: Global, table: &Calls, bars: &Bars, function: usize) -> Result<Effect, NoMemory>
     requires within { function < length table.now.rows.items }
     requires below { All (AreBelow (length table.now.rows.items)) (lists_of table.now.rows.items) }
+    requires heads { length bars.now.heads.items ≡ length table.now.rows.items }
+    requires bodies { length bars.now.bodies.items ≡ length table.now.rows.items }
     ensures calls { IfOk result (λ effect. effect.calls.items ≡ next_in table.now.rows.items function) }
     ensures reaches { IfOk result (λ effect. IsReach (next_in table.now.rows.items) function effect.reaches.items) }
+    ensures forbids { IfOk result (λ effect. effect.forbids ≡ forbidden bars.now.heads.items bars.now.bodies.items function effect.reaches.items) }
 {
     let reaches = reach(alloc, table, function)?;
     let calls = copied(alloc, &table.rows[function])?;
-    Ok(Effect { calls, reaches })
+    let forbids = least_place(bars, function, &reaches);
+    Ok(Effect {
+        calls,
+        reaches,
+        forbids,
+    })
 }
 
-/// The effects of all functions, by what each function calls.
-fn effects_of(alloc: Global, table: &Calls) -> Result<Vec<Effect>, NoMemory>
+/// The effects of all functions, by what each function calls and what forbids each by itself.
+fn effects_of(alloc: Global, table: &Calls, bars: &Bars) -> Result<Vec<Effect>, NoMemory>
     requires below { All (AreBelow (length table.now.rows.items)) (lists_of table.now.rows.items) }
-    ensures { IfOk result (λ effects. AreEffects table.now.rows.items (length table.now.rows.items) effects.items) }
+    requires heads { length bars.now.heads.items ≡ length table.now.rows.items }
+    requires bodies { length bars.now.bodies.items ≡ length table.now.rows.items }
+    ensures { IfOk result (λ effects. AreEffects table.now.rows.items bars.now.heads.items bars.now.bodies.items (length table.now.rows.items) effects.items) }
 {
     let mut effects = Vec::new(alloc);
     for function in 0..table.rows.len() {
-        effects.push(effect_of(alloc, table, function)?)?;
+        effects.push(effect_of(alloc, table, bars, function)?)?;
     }
     Ok(effects)
 }
 
-/// What each function of a program calls and reaches. There is an entry for each function; it lists what the function
-/// calls, each function once, in the order of its first call in the text; what it reaches ascends, and is all that it
-/// calls, that what it calls calls, and so on.
+/// What each function of a program calls and reaches, and what forbids splitting it. There is an entry for each function; it lists what
+/// the function calls, each function once, in the order of its first call in the text; what it reaches ascends, and is all that it
+/// calls, that what it calls calls, and so on; the least place, in bytes of the source, that forbids running its calls in a process of
+/// their own, or none where the policy may let it be split.
 pub fn effects(alloc: Global, checked: &Checked, policy: &Policy) -> Result<EffectTable, NoMemory>
     requires few { length checked.now.program.functions.items ≤ 65535 }
     ensures count { IfOk result (λ table. length table.of.items ≡ length checked.now.program.functions.items) }
     ensures calls { IfOk result (λ table. Each (λ f effect. effect.calls.items ≡ calls (plan_in checked.now (policy_of policy.now)) f) table.of.items) }
     ensures ascending { IfOk result (λ table. Each (λ f effect. IsStrictlyIncreasing effect.reaches.items) table.of.items) }
     ensures reaches { IfOk result (λ table. Each (λ f effect. (g : ℕ) → Contains effect.reaches.items g ↔ Reaches (plan_in checked.now (policy_of policy.now)) f g) table.of.items) }
+    ensures forbids { IfOk result (λ table. Each (λ f effect. IsLeast (Forbids (names_of (policy_of policy.now)) checked.now.source.now (file_of checked.now.program) f) effect.forbids) table.of.items) }
+    ensures told { IfOk result (λ table. AreEffectsOf checked.now (policy_of policy.now) table.of.items) }
 {
     let rows = all_calls(alloc, checked, policy)?;
     let table = Calls { rows };
+    let bars = all_bars(alloc, checked, policy)?;
     Ok(EffectTable {
-        of: effects_of(alloc, &table)?,
+        of: effects_of(alloc, &table, &bars)?,
     })
 }

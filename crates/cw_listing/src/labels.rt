@@ -61,8 +61,8 @@ fn some_has_label(source: &[u8], name: &[u8], functions: &[Function]) -> bool
 }
 
 /// Whether a label of the program has this name.
-fn is_label(source: &[u8], name: &[u8], program: &Program) -> bool
-    ensures { result ≡ list_any (bytes_eq name.now) (label_names source.now (file_of program.now)) }
+pub fn is_label(source: &[u8], name: &[u8], program: &Program) -> bool
+    ensures label { result ≡ list_any (bytes_eq name.now) (label_names source.now (file_of program.now)) }
 {
     some_has_label(source, name, &program.functions)
 }

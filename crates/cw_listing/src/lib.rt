@@ -5,6 +5,6 @@ mod labels;
 mod listing;
 mod names;
 
-pub use labels::missing_label;
+pub use labels::{is_label, missing_label};
 pub use listing::{Names, graph_text};
 pub use names::{function_names, label_names};

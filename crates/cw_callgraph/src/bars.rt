@@ -1,0 +1,73 @@
+//! What forbids splitting each function by its own head and its own body.
+
+ghost use Rattle.std.specs.Prelude.{◌≡◌, map, IfOk};
+ghost use Rattle.cw_syntax.specs.Trees.{definition_of, file_of};
+ghost use Rattle.cw_rights.specs.Policies.{policy_of};
+ghost use Rattle.cw_actions.specs.Scenes.{scene_in};
+ghost use Rattle.cw_callgraph.specs.Lowest.{lowest};
+ghost use Rattle.cw_callgraph.specs.Forbidding.{body_places};
+ghost use Rattle.cw_callgraph.specs.Walking.{scene_at, file_at, head_bar, body_bar};
+
+use crate::heads::head_place;
+use crate::lowest::lowest;
+use crate::scopes::file_scope;
+use crate::statements::{Setting, body_places};
+use cw_core::NoMemory;
+use cw_rights::Policy;
+use cw_syntax::checked::Checked;
+use cw_syntax::program::Function;
+use std::alloc::Global;
+
+/// The least place in each function's head, and the least in its body, by the numbers of the functions.
+#[derive(Drop)]
+pub(crate) struct Bars {
+    pub heads: Vec<Option<u32>>,
+    pub bodies: Vec<Option<u32>>,
+}
+
+fn head_bars(alloc: Global, functions: &[Function]) -> Result<Vec<Option<u32>>, NoMemory>
+    ensures { IfOk result (λ heads. heads.items ≡ map head_bar functions.now) }
+{
+    let mut heads = Vec::new(alloc);
+    for function in functions {
+        heads.push(head_place(function))?;
+    }
+    Ok(heads)
+}
+
+fn body_bar(alloc: Global, setting: &Setting, function: &Function) -> Result<Option<u32>, NoMemory>
+    ensures { IfOk result (λ place. place ≡ body_bar (scene_at setting.now) (file_at setting.now) function.now) }
+{
+    let places = body_places(alloc, setting, function)?;
+    Ok(lowest(&places))
+}
+
+fn body_bars(
+    alloc: Global,
+    setting: &Setting,
+    functions: &[Function],
+) -> Result<Vec<Option<u32>>, NoMemory>
+    ensures { IfOk result (λ bodies. bodies.items ≡ map (body_bar (scene_at setting.now) (file_at setting.now)) functions.now) }
+{
+    let mut bodies = Vec::new(alloc);
+    for function in functions {
+        bodies.push(body_bar(alloc, setting, function)?)?;
+    }
+    Ok(bodies)
+}
+
+/// The least place in each function's head and in each function's body.
+pub(crate) fn all_bars(alloc: Global, checked: &Checked, policy: &Policy) -> Result<Bars, NoMemory>
+    ensures heads { IfOk result (λ bars. bars.heads.items ≡ map head_bar checked.now.program.functions.items) }
+    ensures bodies { IfOk result (λ bars. bars.bodies.items ≡ map (λ f. lowest (body_places (scene_in checked.now (policy_of policy.now)) (file_of checked.now.program) (definition_of f))) checked.now.program.functions.items) }
+{
+    let file = file_scope(alloc, &checked.program)?;
+    let setting = Setting {
+        checked,
+        policy,
+        file: &file,
+    };
+    let heads = head_bars(alloc, &checked.program.functions)?;
+    let bodies = body_bars(alloc, &setting, &checked.program.functions)?;
+    Ok(Bars { heads, bodies })
+}

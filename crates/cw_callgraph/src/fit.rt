@@ -1,0 +1,104 @@
+//! Whether a policy fits a source.
+
+ghost use Rattle.std.specs.Prelude.{◌≡◌, ◌≤◌, length, map, IfOk, IfErr};
+ghost use Rattle.cw_syntax.specs.Plans.{function_names};
+ghost use Rattle.cw_syntax.specs.Trees.{file_of};
+ghost use Rattle.cw_rights.specs.Policies.{policy_of};
+ghost use Rattle.cw_callgraph.specs.Tabled.{AreEffectsOf};
+ghost use Rattle.cw_callgraph.specs.Fitting.{first_unlabelled, first_undefined, Fits, IsFitFault};
+ghost use Rattle.cw_callgraph.specs.Barring.{barred, first_barred};
+
+use crate::table::{Effect, EffectTable};
+use cw_actions::function_named;
+use cw_listing::is_label;
+use cw_rights::Policy;
+use cw_syntax::checked::Checked;
+use thiserror::Error;
+
+/// What of a policy a source doesn't fit first, in this order. A label and a function to be split have their numbers in the policy's
+/// lists; a place is counted in bytes from the front of the source.
+#[derive(Clone, Copy, Drop, Debug, PartialEq, Eq, Error)]
+pub enum FitFault {
+    /// The source has no label of this name.
+    #[error("no label")]
+    NoLabel(u16),
+    /// The source defines no function of this name.
+    #[error("no function")]
+    NoFunction(u16),
+    /// This function may not be split; at this place something forbids it.
+    #[error("not splittable")]
+    NotSplittable(u16, u32),
+}
+
+/// The first of these names that no label has.
+fn first_unlabelled(checked: &Checked, names: &[Vec<u8>]) -> Option<u16>
+    requires { length names.now ≤ 65535 }
+    ensures { result ≡ first_unlabelled checked.now.source.now (file_of checked.now.program) (map (λ n. n.items) names.now) }
+{
+    for (i, name) in names.iter().enumerate() {
+        if !is_label(checked.source, name, &checked.program) {
+            return Some(i as u16);
+        }
+    }
+    None
+}
+
+/// The first of these names that no function has.
+fn first_undefined(checked: &Checked, names: &[Vec<u8>]) -> Option<u16>
+    requires { length names.now ≤ 65535 }
+    ensures { result ≡ first_undefined checked.now.source.now (file_of checked.now.program) (map (λ n. n.items) names.now) }
+{
+    for (i, name) in names.iter().enumerate() {
+        if function_named(checked, name).is_none() {
+            return Some(i as u16);
+        }
+    }
+    None
+}
+
+/// The least place that forbids splitting the function of this name.
+fn barred(checked: &Checked, effects: &[Effect], name: &[u8]) -> Option<u32>
+    requires count { length effects.now ≡ length checked.now.program.functions.items }
+    ensures { result ≡ barred effects.now (function_names checked.now.source.now (file_of checked.now.program)) name.now }
+{
+    match function_named(checked, name) {
+        None => None,
+        Some(function) => effects[function].forbids,
+    }
+}
+
+/// The first of these names whose function may not be split, and the least place that forbids it.
+fn first_barred(checked: &Checked, effects: &[Effect], names: &[Vec<u8>]) -> Option<(u16, u32)>
+    requires few { length names.now ≤ 65535 }
+    requires count { length effects.now ≡ length checked.now.program.functions.items }
+    ensures { result ≡ first_barred effects.now (function_names checked.now.source.now (file_of checked.now.program)) 0 (map (λ n. n.items) names.now) }
+{
+    for (i, name) in names.iter().enumerate() {
+        if let Some(place) = barred(checked, effects, name) {
+            return Some((i as u16, place));
+        }
+    }
+    None
+}
+
+/// Whether every label and every function to be split that a policy names is in the source, and each of these functions may be split.
+/// The effects are those of the source under the policy. The labels are tested first, then whether the functions are there, then
+/// whether they may be split, each in the policy's order.
+pub fn fits(policy: &Policy, checked: &Checked, effects: &EffectTable) -> Result<(), FitFault>
+    requires labels { length (policy_of policy.now).labels ≤ 65535 }
+    requires split { length (policy_of policy.now).split ≤ 65535 }
+    requires effects { AreEffectsOf checked.now (policy_of policy.now) effects.now.of.items }
+    ensures fits { IfOk result (λ _. Fits checked.now.source.now (file_of checked.now.program) (policy_of policy.now)) }
+    ensures fault { IfErr result (λ fault. IsFitFault checked.now.source.now (file_of checked.now.program) (policy_of policy.now) fault) }
+{
+    if let Some(label) = first_unlabelled(checked, &policy.labels) {
+        return Err(FitFault::NoLabel(label));
+    }
+    if let Some(function) = first_undefined(checked, &policy.split) {
+        return Err(FitFault::NoFunction(function));
+    }
+    match first_barred(checked, &effects.of, &policy.split) {
+        None => Ok(()),
+        Some((function, place)) => Err(FitFault::NotSplittable(function, place)),
+    }
+}
