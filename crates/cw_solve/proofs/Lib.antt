@@ -5,6 +5,7 @@ pub mod Falls
 pub mod Fresh
 pub mod Keeping
 pub mod Looking
+pub mod Low
 pub mod Moves
 pub mod Rounding
 pub mod Routing

@@ -1,6 +1,7 @@
 -- The definitions.
 pub mod Asking
 pub mod Contexts
+pub mod Low
 pub mod Made
 pub mod Rounds
 pub mod Routes

@@ -1,4 +1,4 @@
-//! Why a game isn't solved.
+//! Why a game isn't solved, and why a solved game has no table.
 
 ghost use Rattle.std.specs.Prelude.{◌≡◌};
 ghost use Rattle.cw_solve.specs.declared.fault.SolveFault.TheVariants.{NoMemory};
@@ -31,4 +31,13 @@ impl<T: Drop> From<AllocFailed<T>> for SolveFault {
     fn from(_refused: AllocFailed<T>) -> SolveFault {
         SolveFault::NoMemory
     }
+}
+
+/// Why a table, or a strategy, of a solved game isn't made.
+#[derive(Clone, Copy, Debug, PartialEq, Eq, Error)]
+pub enum TableFault {
+    #[error("the rows are more than 65,536")]
+    TooManyRows,
+    #[error("no memory is left")]
+    NoMemory,
 }

@@ -11,5 +11,5 @@ pub mod table;
 mod tries;
 
 pub use contexts::Context;
-pub use fault::SolveFault;
+pub use fault::{SolveFault, TableFault};
 pub use solved::{Solved, solve};

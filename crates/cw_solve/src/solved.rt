@@ -8,7 +8,7 @@ ghost use Rattle.cw_solve.specs.Solved.{IsCause};
 
 use crate::contexts::Context;
 use crate::fault::SolveFault;
-use crate::table::{Table, Tabled, height_in, place_of, slot};
+use crate::table::{Table, Tabled, fit, height_in, place_of, slot};
 use crate::tries::solve_table;
 use cw_core::{PosId, StateId, StateSet};
 use cw_product::Game;
@@ -153,5 +153,18 @@ impl<'g> Solved<'g> {
             context: *self.context(number),
         };
         height_in(self.table.heights[slot(self.game, &self.table, &at, pos, state)])
+    }
+}
+
+impl<'g> Solved<'g> {
+    ghost use Rattle.cw_product.specs.Product.{game_of};
+    ghost use Rattle.cw_solve.specs.Low.{HeightsAreLow};
+
+    /// A law: each pair of a position of a function and a state has its height, or none, under each promise that the
+    /// game needs, and heights are below 2^32.
+    pub fn heights_are_low(&self)
+        ensures { HeightsAreLow (game_of self.now.game) }
+    {
+        fit(&self.table.heights);
     }
 }

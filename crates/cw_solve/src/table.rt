@@ -1,6 +1,6 @@
 //! A table of heights, and what it tells of pairs.
 
-ghost use Rattle.std.specs.Prelude.{◌≡◌, ◌<◌, ◌≤◌, suc, nat_eq, ◌&&◌, length, slice_index, position, IfSome};
+ghost use Rattle.std.specs.Prelude.{◌≡◌, ℕ, ◌<◌, ◌≤◌, suc, nat_eq, ◌&&◌, length, slice_index, position, IfSome};
 ghost use Rattle.cw_game.specs.Games.{Holds};
 ghost use Rattle.cw_game.specs.Pairs.{has, kept_at, all_states};
 ghost use Rattle.cw_product.specs.Product.{game_of};
@@ -90,6 +90,13 @@ pub(crate) fn height_in(written: u32) -> Option<u32>
         0 => None,
         height => Some(height),
     }
+}
+
+/// Numbers of 32 bits are below 2^32.
+pub(crate) fn fit(heights: &[u32])
+    ensures { (k : ℕ) → slice_index heights.now k < 4294967296 }
+{
+    let _ = heights;
 }
 
 /// The number of a context.
