@@ -1,4 +1,4 @@
 mod Holding
-mod Keys
+pub mod Keys
 mod Orders
 pub mod Reaching
