@@ -16,11 +16,12 @@ use Rattle.cw_game.specs.Pairs.{has, all_states, Called, call_in, is_call_in, is
 use Rattle.cw_joined.specs.Members.{IsMember, first, then, joins}
 use Rattle.cw_solve.proofs.Falls.{same_bools}
 use Rattle.cw_lazy.specs.Live.{IsFull, IsLive, begins, skips, tries, moves, goes_on, calls, returns}
-use Rattle.cw_lazy.specs.Closing.{Key, key, moves_on, visited, begun, answered, gone_on, after, waits, ends, back, rules, AreRight}
+use Rattle.cw_lazy.specs.declared.key.Key.{Key}
+use Rattle.cw_lazy.specs.Closing.{key, moves_on, visited, begun, answered, gone_on, after, waits, ends, back, rules, AreRight}
 use Rattle.cw_lazy.specs.Staged.{AreStaged}
 use Rattle.cw_lazy.proofs.Finding.{In, in_of, of_in}
 
-kept_in : {A B : Type 0} (f : A → Option B) (xs : List A) (x : A) (y : B) → In xs x → f x ≡ Some y → In (filter_map f xs) y
+pub kept_in : {A B : Type 0} (f : A → Option B) (xs : List A) (x : A) (y : B) → In xs x → f x ≡ Some y → In (filter_map f xs) y
 kept_in f [] x y n e = absurd n
 kept_in f (z ∷ zs) x y (inl i) e = subst (λ o. In (cons_option o (filter_map f zs)) y) (sym (ap f i ∙ e)) (inl refl)
 kept_in {B = B} f (z ∷ zs) x y (inr n) e = more (f z) (filter_map f zs) (kept_in f zs x y n e)
@@ -38,7 +39,7 @@ kept_from {A = A} {B = B} f (z ∷ zs) y n = by (f z) refl n (kept_from f zs y)
     by (Some v) e (inl i) h = (z, e ∙ ap Some i)
     by (Some v) e (inr n) h = h n
 
-mapped : {A B : Type 0} (f : A → B) (o : Option A) (y : B) → option_map f o ≡ Some y → (x : A) × (o ≡ Some x) × (f x ≡ y)
+pub mapped : {A B : Type 0} (f : A → B) (o : Option A) (y : B) → option_map f o ≡ Some y → (x : A) × (o ≡ Some x) × (f x ≡ y)
 mapped f None y e = absurd (none-some y e)
 mapped f (Some x) y e = (x, refl, same_Some (f x) y e)
 
@@ -56,7 +57,7 @@ the_one : {A : Type 0} (x : A) → Contains (x ∷ []) x
 the_one x = of_in (x ∷ []) x (inl refl)
 
 -- two sets that a call promises are one
-full_is : (g : Game) (call : Called) (q e a b : ℕ) → IsFull g call q e a → IsFull g call q e b → a ≡ b
+pub full_is : (g : Game) (call : Called) (q e a b : ℕ) → IsFull g call q e a → IsFull g call q e b → a ≡ b
 unfolding has_member
 full_is g call q e a b f h = same_from_members a b (λ x. same_bools (has a x) (has b x) (within f h x) (within h f x))
   where

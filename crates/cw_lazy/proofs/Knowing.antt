@@ -10,13 +10,9 @@ use Rattle.cw_game.specs.Pairs.{has, Called, call_in, kept_at}
 use Rattle.cw_solve.specs.Routes.{AreRouted}
 use Rattle.cw_solve.proofs.Falls.{same_bools, return_state, back_stays}
 use Rattle.cw_lazy.specs.Live.{IsLostBack, IsFull}
+use Rattle.cw_lazy.specs.Sets.{set_by}
 use Rattle.cw_lazy.specs.Staged.{IsKnown}
 use Rattle.cw_lazy.proofs.Keeping.{IsSafe}
-
--- the set of the numbers below n that pass a test
-abbrev pub set_by : ℕ → (ℕ → Bool) → ℕ
-set_by zero f = 0
-set_by (suc n) f = cond (f 0) 1 0 + 2 * set_by n (λ x. f (suc x))
 
 low : (b : Bool) (n : ℕ) → has (cond b 1 0 + 2 * n) 0 ≡ b
 low true n = let h : (1 + 2 * n) % 2 ≡ 1 = omega arith in ap (λ y. nat_eq y 1) (bit_at_lowest (1 + 2 * n) ∙ h)

@@ -1,15 +1,27 @@
+pub mod Ascending
 pub mod Bridging
+pub mod Choosing
+pub mod Counting
 pub mod Finding
+pub mod Following
 pub mod Going
 pub mod Keeping
-mod Lawful
 pub mod Knowing
+mod Lawful
+pub mod Listing
+pub mod Looking
 pub mod Made
 pub mod Meeting
+pub mod Numbers
 pub mod Only
+pub mod Placing
 pub mod Ranging
 pub mod Reading
+pub mod Returning
+pub mod Rowing
 pub mod Rows
 pub mod Sameness
 pub mod Staging
+pub mod Starting
 pub mod Stepping
+pub mod Tabled

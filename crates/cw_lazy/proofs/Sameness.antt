@@ -19,16 +19,16 @@ use Rattle.cw_lazy.specs.Lazy.{state_id, Means, IsMemory, IsLiveRow, IsTryRow, I
 use Rattle.cw_lazy.proofs.Finding.{In, in_of, of_in}
 
 module _ {A : Type 0} (cmp : A → A → Ordering) (total : IsTotalOrder cmp) where
-  apart : (x y : A) → cmp x y ≡ Less → cmp y x ≡ Less → ⊥
+  pub apart : (x y : A) → cmp x y ≡ Less → cmp y x ≡ Less → ⊥
   apart x y h k = let e : Less ≡ ordering_reverse Less = sym h ∙ total.antisymm x y ∙ ap ordering_reverse k in cc
 
-  among : (P : A → Type 0) (xs : List A) (x : A) → AllByRecursion P xs → In xs x → P x
+  pub among : (P : A → Type 0) (xs : List A) (x : A) → AllByRecursion P xs → In xs x → P x
   among P [] x h n = absurd n
   among P (y ∷ ys) x h (inl e) = subst P e h.0
   among P (y ∷ ys) x h (inr n) = among P ys x h.1 n
 
   -- lists that ascend and have the same elements are one
-  same_lists : (xs ys : List A) → IsStrictlySortedBy cmp xs → IsStrictlySortedBy cmp ys → ((x : A) → In xs x → In ys x) → ((x : A) → In ys x → In xs x) → xs ≡ ys
+  pub same_lists : (xs ys : List A) → IsStrictlySortedBy cmp xs → IsStrictlySortedBy cmp ys → ((x : A) → In xs x → In ys x) → ((x : A) → In ys x → In xs x) → xs ≡ ys
   unfolding IsStrictlySortedBy
   same_lists [] [] s r f h = refl
   same_lists [] (y ∷ ys) s r f h = absurd (h y (inl refl))
@@ -49,13 +49,13 @@ module _ {A : Type 0} (cmp : A → A → Ordering) (total : IsTotalOrder cmp) wh
   pub one : (P : A → Type 0) (xs ys : List A) → Exactly cmp P xs → Exactly cmp P ys → xs ≡ ys
   one P xs ys a b = same_lists xs ys a.0 b.0 (λ x n. in_of ys x ((b.1 x).1 ((a.1 x).0 (of_in xs x n)))) (λ x n. in_of xs x ((a.1 x).1 ((b.1 x).0 (of_in ys x n))))
 
-  in_get : (xs : List A) (i : ℕ) (x : A) → slice_get xs i ≡ Some x → In xs x
+  pub in_get : (xs : List A) (i : ℕ) (x : A) → slice_get xs i ≡ Some x → In xs x
   in_get [] i x e = absurd (none-some x e)
   in_get (y ∷ ys) zero x e = inl (same_Some y x e)
   in_get (y ∷ ys) (suc i) x e = inr (in_get ys i x e)
 
   -- an element has one number
-  one_number : (xs : List A) (i j : ℕ) (x : A) → IsStrictlySortedBy cmp xs → slice_get xs i ≡ Some x → slice_get xs j ≡ Some x → i ≡ j
+  pub one_number : (xs : List A) (i j : ℕ) (x : A) → IsStrictlySortedBy cmp xs → slice_get xs i ≡ Some x → slice_get xs j ≡ Some x → i ≡ j
   unfolding IsStrictlySortedBy
   one_number [] i j x s e f = absurd (none-some x e)
   one_number (y ∷ ys) zero zero x s e f = refl
@@ -63,25 +63,25 @@ module _ {A : Type 0} (cmp : A → A → Ordering) (total : IsTotalOrder cmp) wh
   one_number (y ∷ ys) (suc i) zero x s e f = let l : cmp x x ≡ Less = subst (λ w. cmp w x ≡ Less) (same_Some y x f) (among (λ z. cmp y z ≡ Less) ys x s.0 (in_get ys i x e)) in absurd (apart x x l l)
   one_number (y ∷ ys) (suc i) (suc j) x s e f = ap suc (one_number ys i j x s.1 e f)
 
-mem_total : IsTotalOrder mem_cmp
+pub mem_total : IsTotalOrder mem_cmp
 mem_total = then_total (on_total (λ r. r.0.0) nat_cmp_total) (on_total (λ r. r.1) nat_cmp_total)
 
-live_total : IsTotalOrder live_cmp
+pub live_total : IsTotalOrder live_cmp
 live_total = then_total (on_total (λ r. r.0.0) nat_cmp_total) (on_total (λ r. r.1.0) nat_cmp_total)
 
-try_total : IsTotalOrder try_cmp
+pub try_total : IsTotalOrder try_cmp
 try_total = then_total (on_total (λ r. r.seam.0) nat_cmp_total) (then_total (on_total (λ r. r.stage) nat_cmp_total) (on_total (λ r. r.mem.0) nat_cmp_total))
 
-at_total : IsTotalOrder at_cmp
+pub at_total : IsTotalOrder at_cmp
 at_total = then_total (on_total (λ r. r.seam.0) nat_cmp_total) (on_total (λ r. r.mem.0) nat_cmp_total)
 
-open_total : IsTotalOrder open_cmp
+pub open_total : IsTotalOrder open_cmp
 open_total = then_total (on_total (λ r. r.seam.0) nat_cmp_total) (on_total (λ r. r.mem.0) nat_cmp_total)
 
-into_total : IsTotalOrder into_cmp
+pub into_total : IsTotalOrder into_cmp
 into_total = then_total (on_total (λ r. r.seam.0) nat_cmp_total) (then_total (on_total (λ r. r.split) bool_cmp_total) (on_total (λ r. r.mem.0) nat_cmp_total))
 
-back_total : IsTotalOrder back_cmp
+pub back_total : IsTotalOrder back_cmp
 back_total = then_total (on_total (λ r. r.seam.0) nat_cmp_total) (then_total (on_total (λ r. r.split) bool_cmp_total) (then_total (on_total (λ r. r.mem.0) nat_cmp_total) (on_total (λ r. r.exit.0) nat_cmp_total)))
 
 -- with the same memories the rows are the same

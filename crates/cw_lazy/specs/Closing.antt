@@ -8,13 +8,8 @@ use Rattle.cw_game.specs.declared.spots.Spot.TheVariants.{Visit}
 use Rattle.cw_game.specs.Games.{Game, Config, resumed, returned, leads_in, weavers_in, IsLost}
 use Rattle.cw_game.specs.Pairs.{has, Called, call_in, is_call_in, is_exit_in, kept_at}
 use Rattle.cw_joined.specs.Members.{Rules}
+use Rattle.cw_lazy.specs.declared.key.Key.{Key}
 use Rattle.cw_lazy.specs.Live.{IsFull, IsLive}
-
--- a position, a state and a promise
-pub record Key : Type 0 where
-  pub pos : ℕ
-  pub state : ℕ
-  pub promise : ℕ
 
 abbrev pub key : (p q e : ℕ) → Key
 key p q e = record { pos = p; state = q; promise = e }

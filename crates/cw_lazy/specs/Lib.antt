@@ -1,5 +1,11 @@
+pub mod Choices
 pub mod Closing
+pub mod Following
 pub mod Laws
 pub mod Lazy
 pub mod Live
+pub mod Places
+pub mod Rowing
+pub mod Sets
 pub mod Staged
+pub mod Tabled

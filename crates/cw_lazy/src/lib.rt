@@ -1,4 +1,13 @@
-//! The lazy table of a game: its definition, and that it is good and lazy.
+//! The lazy table of a game: its definition, that it is good and lazy, and the function that makes it.
 #![tactic(auto)]
 
+mod choice;
+mod follow;
+pub mod key;
 pub mod laws;
+mod lists;
+mod place;
+pub mod table;
+
+pub use key::Key;
+pub use table::weaver_table;

@@ -1,0 +1,110 @@
+//! What the lazy table chooses at a pair of a solved game.
+
+ghost use Rattle.std.specs.Prelude.{◌≡◌, ◌<◌, ◌&&◌, nat_le, length, slice_get};
+ghost use Rattle.cw_product.specs.Product.{game_of};
+ghost use Rattle.cw_lazy.specs.Choices.{lost_in, promised, returning, IsThere, IsIn, has_position, IsReady};
+
+use crate::key::Key;
+use cw_core::{PosId, StateId, StateSet};
+use cw_product::Game;
+use cw_solve::Solved;
+
+fn is_between(first: PosId, pos: PosId, last: PosId) -> bool
+    ensures { result ≡ (nat_le first.0 pos.0 && nat_le pos.0 last.0) }
+{
+    first.0 <= pos.0 && pos.0 <= last.0
+}
+
+/// Whether a context has a position and this promise.
+fn has_position(game: &Game, solved: &Solved, number: u32, pos: PosId, promise: &StateSet) -> bool
+    requires ready { IsReady game.now solved.now }
+    requires number { number < length solved.now.contexts }
+    ensures { result ≡ has_position (game_of game.now) pos.0 promise.now (slice_get solved.now.contexts number) }
+{
+    let context = solved.context(number);
+    let first = game.entry(context.function);
+    let last = game.exit(context.function);
+    if context.promise == *promise {
+        is_between(first, pos, last)
+    } else {
+        false
+    }
+}
+
+/// The number of a context that has a position and this promise.
+fn number_of(game: &Game, solved: &Solved, pos: PosId, promise: &StateSet) -> u32
+    requires ready { IsReady game.now solved.now }
+    requires there { IsThere (game_of game.now) pos.0 promise.now }
+    ensures { IsIn (game_of game.now) solved.now.contexts result promise.now pos.0 }
+{
+    for number in 0..solved.contexts() {
+        if has_position(game, solved, number, pos, promise) {
+            return number;
+        }
+    }
+    unreachable!()
+}
+
+/// Whether a pair is lost under a context's promise.
+fn is_lost_in(
+    game: &Game,
+    solved: &Solved,
+    number: u32,
+    pos: PosId,
+    state: StateId,
+    promise: &StateSet,
+) -> bool
+    requires ready { IsReady game.now solved.now }
+    requires here { IsIn (game_of game.now) solved.now.contexts number promise.now pos.0 }
+    requires state { state.0 < (game_of game.now).states.count }
+    ensures { result ≡ lost_in (game_of game.now) pos.0 state.0 promise.now }
+{
+    let _ = game;
+    let _ = promise;
+    match solved.height(number, pos, state) {
+        None => false,
+        Some(_) => true,
+    }
+}
+
+/// Whether a pair is lost under a promise that the game needs.
+pub(crate) fn is_lost(
+    game: &Game,
+    solved: &Solved,
+    pos: PosId,
+    state: StateId,
+    promise: &StateSet,
+) -> bool
+    requires ready { IsReady game.now solved.now }
+    requires there { IsThere (game_of game.now) pos.0 promise.now }
+    requires state { state.0 < (game_of game.now).states.count }
+    ensures { result ≡ lost_in (game_of game.now) pos.0 state.0 promise.now }
+{
+    let number = number_of(game, solved, pos, promise);
+    is_lost_in(game, solved, number, pos, state, promise)
+}
+
+/// What a call promises that returns to this position: the exit states from which the return isn't lost.
+pub(crate) fn promised(
+    game: &Game,
+    solved: &Solved,
+    key: &Key,
+    back: PosId,
+    split: bool,
+) -> StateSet
+    requires ready { IsReady game.now solved.now }
+    requires there { IsThere (game_of game.now) back.0 key.now.promise }
+    requires state { key.now.state < (game_of game.now).states.count }
+    ensures { result ≡ promised (game_of game.now) key.now.state key.now.promise (returning back.0 split) }
+{
+    let number = number_of(game, solved, back, &key.promise);
+    let mut set = StateSet::empty();
+    for x in 0..game.states() {
+        let exit = StateId(x);
+        let state = game.returned(StateId(key.state), exit, split);
+        if !is_lost_in(game, solved, number, back, state, &key.promise) {
+            set.insert(exit);
+        }
+    }
+    set
+}
