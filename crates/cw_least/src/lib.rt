@@ -2,7 +2,6 @@
 #![tactic(auto)]
 
 mod acts;
-pub mod fault;
 mod heights;
 pub mod key;
 pub mod laws;
@@ -10,6 +9,6 @@ mod named;
 mod rows;
 pub mod table;
 
-pub use fault::TableFault;
+pub use cw_solve::TableFault;
 pub use key::{Key, Way};
 pub use table::env_table;

@@ -11,7 +11,6 @@ ghost use Rattle.cw_least.specs.Acts.{IsLost, IsStartHeight, IsStartKey};
 ghost use Rattle.cw_least.specs.Backs.{BacksAscend};
 ghost use Rattle.cw_least.specs.Strategies.{IsLeastStrategy, rows_of};
 
-use crate::fault::TableFault;
 use crate::key::Key;
 use crate::named::Named;
 use crate::rows::rows_within;
@@ -19,7 +18,7 @@ use cw_certs::EnvCert;
 use cw_closure::closed_up_to;
 use cw_core::StateSet;
 use cw_product::Game;
-use cw_solve::Solved;
+use cw_solve::{Solved, TableFault};
 use std::alloc::{AllocError, Global};
 
 /// The height of the start under the promise of all states.
