@@ -1,0 +1,165 @@
+-- The link of a call is asked for, which returns to a pair that is taken.
+use Rattle.std.proofs.Common.{◌≡◌, ℕ, zero, suc, ◌+◌, ◌-◌, ◌*◌, ◌<◌, ◌≤◌, List, [], ◌∷◌, Bool, true, false, ◌||◌, not, Option, Some, length, set, refl, sym, ap, ◌∙◌, subst, arith, inl, inr}
+use Rattle.std.specs.Prelude.{◌⊎◌, slice_get, slice_index, nat_eq, nat_lt, Contains}
+use Rattle.std.proofs.lemmas.Bool.{cases_eq}
+use Rattle.std.proofs.lemmas.Option.{same_Some}
+use Rattle.std.proofs.lemmas.List.{length-set}
+use Rattle.cw_core.specs.declared.ids.PosId.{PosId}
+use Rattle.cw_game.specs.Games.{Game, returned}
+use Rattle.cw_game.specs.Pairs.{has, Called, call_in, kept_at}
+use Rattle.cw_links.specs.Lists.{Chained, list_at}
+use Rattle.cw_product.specs.Moves.{pos_id}
+use Rattle.cw_solve.specs.declared.contexts.Context.{Context}
+use Rattle.cw_solve.specs.declared.table.Table.{Table}
+use Rattle.cw_solve.specs.Contexts.{context, IsOf}
+use Rattle.cw_solve.specs.Routes.{AreRouted}
+use Rattle.cw_solve.specs.Rounds.{slot, IsCell}
+use Rattle.cw_solve.specs.Tables.{IsTable, HasCell}
+use Rattle.cw_solve.proofs.Falls.{not_both}
+use Rattle.cw_solve.proofs.Slots.{slot_within}
+use Rattle.cw_linked.specs.declared.work.Cell.{Cell}
+use Rattle.cw_linked.specs.declared.work.Work.{Work}
+use Rattle.cw_linked.specs.Founds.{Found, class_of, AreAlike, IsLink, IsTied, IsFresh, height_back, GoesTo, IsShrinking, AreRight, Waits, IsStanding, Nothing, AllStanding}
+use Rattle.cw_linked.specs.Queues.{found_of, AreQueued, AreLong, AreHigh, due_with, AsksForLink, LowersKeys}
+use Rattle.cw_linked.specs.Returns.{HasReturn, AreReturns, AsksReturn}
+use Rattle.cw_linked.specs.Steps.{Lowers, ReturnsThere}
+use Rattle.cw_linked.specs.Works.{AreUpTo, place_at, value_at}
+use Rattle.cw_linked.proofs.Asking.{decide, chosen_then, chosen_else}
+use Rattle.cw_linked.proofs.Bounding.{place_is}
+use Rattle.cw_linked.proofs.Closing.{standing_asked, own_link}
+use Rattle.cw_linked.proofs.Lowering.{lowers_standing, waits_less}
+use Rattle.cw_linked.proofs.Telling.{below, up_to_set}
+use Rattle.cw_linked.proofs.Waits.{first_or_later}
+use Rattle.cw_linked.proofs.Working.{Keys, found_keys, is_due, links_lower, links_right}
+
+due_up_to : (due : List ℕ) (place key most : ℕ) → place < length due → key ≤ most → AreUpTo due most → AreUpTo (due_with due place key) most
+due_up_to due place key most lt le up =
+    elim (decide (nat_eq (slice_index due place) 0 || nat_lt key (slice_index due place))) [
+      | inl h ↦ subst (λ (y : List ℕ). AreUpTo y most) (sym (chosen_then _ (set due place key) due h)) (up_to_set due place key most lt le up)
+      | inr h ↦ subst (λ (y : List ℕ). AreUpTo y most) (sym (chosen_else _ (set due place key) due h)) up
+    ]
+
+due_length : (due : List ℕ) (place key : ℕ) → length (due_with due place key) ≡ length due
+due_length due place key =
+    elim (decide (nat_eq (slice_index due place) 0 || nat_lt key (slice_index due place))) [
+      | inl h ↦ ap (λ (y : List ℕ). length y) (chosen_then _ (set due place key) due h) ∙ length-set due place key
+      | inr h ↦ ap (λ (y : List ℕ). length y) (chosen_else _ (set due place key) due h)
+    ]
+
+module _ (g : Game) (functions : ℕ) (routed : AreRouted g functions) (alike : AreAlike g) (old new : Work) (table : IsTable g old.table) where
+  abbrev Contexts : List Context
+  Contexts = old.table.contexts.items
+
+  -- A link whose promise shrinks for so many moves is asked for.
+  module _ (long : AreLong old) (high : AreHigh old) (right : AreRight g Contexts (found_of g old)) (j : ℕ) (d : Context) (r x : ℕ) (call : Called) (link : IsLink g Contexts j d r x call) (n place : ℕ)
+      (some : 0 < n) (low : n ≤ old.table.written) (at : place ≡ slot g Contexts j d.function r x) (shrinks : IsShrinking g Contexts (found_of g old) j r x call n) (asks : AsksForLink old new place (2 * n + 1)) where
+    here : place ≡ place_at g Contexts j r x
+    here = at ∙ sym (place_is g Contexts j d r x link.cell.at)
+
+    inside : place < length old.table.heights.items
+    inside = omega (arith, at, slot_within g Contexts j d r x link.cell, table.cells)
+
+    odd : 0 < 2 * n + 1
+    odd = omega arith
+
+    is_long : AreLong new
+    is_long =
+        let same = ap (λ (t : Table). length t.heights.items) asks.others.table in
+        record {
+          owners = ap (λ (y : List ℕ). length y) asks.others.owners ∙ long.owners ∙ sym same;
+          asked = ap (λ (y : List ℕ). length y) asks.asked ∙ long.asked ∙ sym same;
+          due = ap (λ (y : List ℕ). length y) asks.due ∙ due_length old.due.items place (2 * n + 1) ∙ long.due ∙ sym same;
+          to = ap (λ (y : List ℕ). length y) asks.others.to ∙ long.to ∙ sym same;
+          waves = ap (λ (y : List ℕ). length y) asks.others.waves ∙ long.waves ∙ sym same;
+        }
+
+    is_high : AreHigh new
+    is_high =
+        let few : AreUpTo (due_with old.due.items place (2 * n + 1)) (2 * old.table.written + 1)
+        = due_up_to old.due.items place (2 * n + 1) (2 * old.table.written + 1) (omega (arith, inside, long.due)) (omega (arith, low)) high.due in
+        record {
+          heights = subst (λ (t : Table). AreUpTo t.heights.items t.written) (sym asks.others.table) high.heights;
+          asked = subst (λ (t : Table). AreUpTo new.asked.items (2 * t.written + 2)) (sym asks.others.table) (subst (λ (y : List ℕ). AreUpTo y (2 * old.table.written + 2)) (sym asks.asked) high.asked);
+          due = subst (λ (t : Table). AreUpTo new.due.items (2 * t.written + 1)) (sym asks.others.table) (subst (λ (y : List ℕ). AreUpTo y (2 * old.table.written + 1)) (sym asks.due) few);
+          waves = subst (λ (t : Table). AreUpTo new.waves.items t.written) (sym asks.others.table) (subst (λ (y : List ℕ). AreUpTo y old.table.written) (sym asks.others.waves) high.waves);
+        }
+
+    pub link_step : LowersKeys g old new
+    link_step = record {
+      others = asks.others;
+      long = is_long;
+      queued = asks.queued;
+      high = is_high;
+      lowers = links_lower g functions routed alike old new (below g functions routed alike old new table) long j d r x place (2 * n + 1) call link here inside odd asks;
+      right = subst (λ (y : Found). AreRight g Contexts y) (sym (found_keys g old new asks.others))
+          (links_right g functions routed alike old new (below g functions routed alike old new table) long j d r x place (2 * n + 1) call link here inside odd asks right n refl some shrinks);
+    }
+
+    pub link_waits : Waits ((found_of g new).due j r x) (2 * n + 1)
+    link_waits = subst (λ (y : Found). Waits (y.due j r x) (2 * n + 1)) (sym (found_keys g old new asks.others))
+        (is_due g functions routed alike old new (below g functions routed alike old new table) long j d r x place (2 * n + 1) call link here inside odd asks).here
+
+  -- What stood before the step stands after it.
+  module _ (step : LowersKeys g old new) where
+    pub stands_on : (i : ℕ) (c : Context) (p k : ℕ) (call : Called) (x : ℕ) → IsLink g Contexts i c p k call → IsStanding g Contexts (found_of g old) i p k call x
+        → IsStanding g Contexts (found_of g new) i p k call x
+    stands_on i c p k call x is stands = subst (λ (y : Found). IsStanding g Contexts y i p k call x) (sym (found_keys g old new step.others))
+        (lowers_standing g functions routed alike Contexts (below g functions routed alike old new table) (found_of g old) _ _ step.lowers i c p k call x is stands)
+
+    pub fresh_on : (i : ℕ) (c : Context) (p k : ℕ) (call : Called) → IsLink g Contexts i c p k call → IsFresh (found_of g old) i p k → IsFresh (found_of g new) i p k
+    fresh_on i c p k call is fresh = subst (λ (y : Found). IsFresh y i p k) (sym (found_keys g old new step.others))
+        (λ free. waits_less ((found_of g old).due i p k) ((Keys g old new).due i p k) 1 (step.lowers.links i c p k call is) (fresh free))
+
+  -- So does each link of a position that returns to the cell, where the link of the cell's own class waits for it or hasn't its state.
+  pub returns_stand : LowersKeys g old new → (cell : Cell) → HasCell g old.table cell.at cell.pos.0 cell.state.0 → (n : ℕ) → (found_of g new).height cell.at.number cell.pos.0 cell.state.0 ≡ n
+      → (p : ℕ) (called : Called) → call_in (slice_get g.spots p) ≡ Some called
+      → ((set : ℕ) → GoesTo Contexts (found_of g new) cell.at.number p (class_of g called.split cell.state.0) called set → has set cell.state.0 ≡ true
+      → Waits ((found_of g new).due cell.at.number p (class_of g called.split cell.state.0)) (2 * n + 1))
+      → AsksReturn g old new cell p
+  returns_stand step cell is n height p called es waits = record {
+    step = step;
+    standing = λ k call link back fresh stood. (
+      fresh_on step cell.at.number cell.at.context p k call link fresh,
+      λ x lt. elim (cases_eq (returned g.states (kept_at call.split k) x) cell.state.0) [
+        | inr apart ↦ stands_on step cell.at.number cell.at.context p k call x link (stood x lt apart)
+        | inl same ↦
+            let own = own_link g functions routed alike Contexts (below g functions routed alike old new table) (found_of g new) call.split k x cell.state.0 lt link.cell.state is.state link.class same in
+            let one : called ≡ call = same_Some called call (sym es ∙ link.calls) in
+            let class : class_of g called.split cell.state.0 ≡ k = ap (λ (y : Called). class_of g y.split cell.state.0) one ∙ own.0 in
+            standing_asked g functions routed alike Contexts (below g functions routed alike old new table) (found_of g new) step.right cell.at.number cell.at.context p k call link cell.state.0 n is.state
+            (ap (λ (y : ℕ). (found_of g new).height cell.at.number y cell.state.0) back ∙ height)
+            (λ set tied goes member. subst (λ (y : ℕ). Waits ((found_of g new).due cell.at.number p y) (2 * n + 1)) class
+            (waits set (subst (λ (y : Called). GoesTo Contexts (found_of g new) cell.at.number p (class_of g called.split cell.state.0) y set) (sym one)
+            (subst (λ (y : ℕ). GoesTo Contexts (found_of g new) cell.at.number p y call set) (sym class) goes)) member))
+            x lt same
+      ],
+    );
+  }
+
+  -- no call that returns to the cell stands there
+  pub no_return : LowersKeys g old new → (cell : Cell) (p : ℕ) → ((call : Called) → call_in (slice_get g.spots p) ≡ Some call → call.back ≡ cell.pos.0 → ⊥) → AsksReturn g old new cell p
+  no_return step cell p none = record { step = step; standing = λ k call link back fresh stood. absurd (none call link.calls back) }
+
+-- the calls of a context that are left to ask for
+abbrev pub ReturnsLeft : Game → List Context → Found → Chained PosId → List ℕ → (j r x : ℕ) → ℕ → ℕ → ℕ → Type 0
+ReturnsLeft g contexts s returns rest j r x i p k = ReturnsThere g contexts s j r x i p k × HasReturn returns rest p
+
+module _ (g : Game) (contexts : List Context) (s : Found) (returns : Chained PosId) where
+  -- at first, all that return to the cell
+  pub all_returns : AreReturns g returns → (t : Found) (j r x : ℕ) → ((i : ℕ) (c : Context) (p q : ℕ) → IsCell g contexts i c p q → p < length g.spots)
+      → AllStanding g contexts t (ReturnsThere g contexts s j r x) → AllStanding g contexts t (ReturnsLeft g contexts s returns (list_at returns.lists r) j r x)
+  all_returns are t j r x within all i c p k call is =
+      elim (all i c p k call is) [
+        | inl stands ↦ inl stands
+        | inr rest ↦
+            let there = are.leads p rest.0 (within i c p k is.cell) rest.1 in
+            inr (rest, subst (λ (y : ℕ). HasReturn returns (list_at returns.lists y) p) rest.3 there)
+      ]
+
+  -- and at last none
+  pub no_returns : (t : Found) (j r x : ℕ) → AllStanding g contexts t (ReturnsLeft g contexts s returns [] j r x) → AllStanding g contexts t Nothing
+  no_returns t j r x all i c p k call is =
+      elim (all i c p k call is) [
+        | inl stands ↦ inl stands
+        | inr rest ↦ absurd (let lt = rest.1.1.1 in omega (arith, lt))
+      ]

@@ -1,0 +1,179 @@
+-- What is told of a cell is asked for.
+use Rattle.std.proofs.Common.{◌≡◌, ◌≢◌, ℕ, suc, ◌+◌, ◌*◌, ◌<◌, ◌≤◌, List, Bool, true, false, ◌&&◌, ◌||◌, Some, length, get_or, set, refl, sym, ap, ◌∙◌, subst, arith, inl, inr, length-set, get_or-set_same, get_or-set_other}
+use Rattle.std.specs.Prelude.{◌⊎◌, if◌then◌else◌, slice_get, slice_index, nat_eq, nat_lt}
+use Rattle.std.proofs.lemmas.Bool.{cases_eq}
+use Rattle.cw_game.specs.Games.{Game, Holds}
+use Rattle.cw_game.specs.Pairs.{has, is_call_in}
+use Rattle.cw_solve.specs.declared.contexts.Context.{Context}
+use Rattle.cw_solve.specs.declared.table.Table.{Table}
+use Rattle.cw_solve.specs.Routes.{AreRouted}
+use Rattle.cw_solve.specs.Rounds.{slot, IsCell}
+use Rattle.cw_solve.specs.Tables.{IsTable, HasCell}
+use Rattle.cw_solve.proofs.Slots.{slot_within}
+use Rattle.cw_solve.proofs.Tabling.{there_at}
+use Rattle.cw_linked.specs.declared.work.Cell.{Cell}
+use Rattle.cw_linked.specs.declared.work.Work.{Work}
+use Rattle.cw_linked.specs.Founds.{Found, AreAlike, AreRight, Waits, IsClosed, AllClosed, AllCalled, AllStanding}
+use Rattle.cw_linked.specs.Queues.{found_of, AreQueued, AreLong, AreSameBut, asked_with, AsksForCell, AreHigh, LowersKeys, AsksTold}
+use Rattle.cw_linked.specs.Steps.{with_keys, Lowers, AsksCell, IsBound}
+use Rattle.cw_linked.specs.Works.{heights_of, AreUpTo, place_at, value_at}
+use Rattle.cw_linked.proofs.Asking.{decide, chosen_then, chosen_else}
+use Rattle.cw_linked.proofs.Bounding.{place_is}
+use Rattle.cw_linked.proofs.Closing.{closed_untold, closed_asked, bound_is_lost}
+use Rattle.cw_linked.proofs.Lowering.{lowers_all_closed, lowers_all_called, lowers_all_standing}
+use Rattle.cw_linked.proofs.Working.{Keys, found_keys, is_asked, cell_lowers, cell_right}
+
+-- a number that is written is no higher
+pub up_to_set : (values : List ℕ) (place v most : ℕ) → place < length values → v ≤ most → AreUpTo values most → AreUpTo (set values place v) most
+up_to_set values place v most lt le up k =
+    elim (cases_eq k place) [
+      | inl e ↦ let here : get_or (set values place v) k 0 ≡ v = ap (λ (y : ℕ). get_or (set values place v) y 0) e ∙ get_or-set_same values place v 0 lt in omega (arith, here, le)
+      | inr ne ↦ let there : get_or (set values place v) k 0 ≡ get_or values k 0 = get_or-set_other values place k v 0 ne in let old = up k in omega (arith, there, old)
+    ]
+
+pub asked_up_to : (heights asked : List ℕ) (place key most : ℕ) → place < length asked → key ≤ most → AreUpTo asked most → AreUpTo (asked_with heights asked place key) most
+asked_up_to heights asked place key most lt le up =
+    elim (decide (nat_eq (slice_index heights place) 0 && (nat_eq (slice_index asked place) 0 || nat_lt key (slice_index asked place)))) [
+      | inl h ↦ subst (λ (y : List ℕ). AreUpTo y most) (sym (chosen_then _ (set asked place key) asked h)) (up_to_set asked place key most lt le up)
+      | inr h ↦ subst (λ (y : List ℕ). AreUpTo y most) (sym (chosen_else _ (set asked place key) asked h)) up
+    ]
+
+asked_length : (heights asked : List ℕ) (place key : ℕ) → length (asked_with heights asked place key) ≡ length asked
+asked_length heights asked place key =
+    elim (decide (nat_eq (slice_index heights place) 0 && (nat_eq (slice_index asked place) 0 || nat_lt key (slice_index asked place)))) [
+      | inl h ↦ ap (λ (y : List ℕ). length y) (chosen_then _ (set asked place key) asked h) ∙ length-set asked place key
+      | inr h ↦ ap (λ (y : List ℕ). length y) (chosen_else _ (set asked place key) asked h)
+    ]
+
+module _ (g : Game) (functions : ℕ) (routed : AreRouted g functions) (alike : AreAlike g) (old new : Work) (table : IsTable g old.table) where
+  abbrev Contexts : List Context
+  Contexts = old.table.contexts.items
+
+  pub below : (i : ℕ) (c : Context) → slice_get Contexts i ≡ Some c → c.function < functions
+  below i c at = (there_at g functions routed old.table table i c at).below
+
+  -- where only keys change, and become lower, what is asked for is still asked for
+  module _ (same : AreSameBut old new) (lowers : Lowers g Contexts (found_of g old) (value_at g Contexts new.asked.items) (value_at g Contexts new.due.items)) where
+    pub still_closed : (Rest : ℕ → ℕ → ℕ → Type 0) → AllClosed g Contexts (found_of g old) Rest → AllClosed g Contexts (found_of g new) Rest
+    still_closed Rest all = subst (λ (y : Found). AllClosed g Contexts y Rest) (sym (found_keys g old new same))
+        (lowers_all_closed g functions routed alike Contexts below (found_of g old) _ _ lowers Rest all)
+
+    pub still_called : (Rest : ℕ → ℕ → ℕ → Type 0) → AllCalled g Contexts (found_of g old) Rest → AllCalled g Contexts (found_of g new) Rest
+    still_called Rest all = subst (λ (y : Found). AllCalled g Contexts y Rest) (sym (found_keys g old new same))
+        (lowers_all_called g functions routed alike Contexts below (found_of g old) _ _ lowers Rest all)
+
+    pub still_standing : (Rest : ℕ → ℕ → ℕ → Type 0) → AllStanding g Contexts (found_of g old) Rest → AllStanding g Contexts (found_of g new) Rest
+    still_standing Rest all = subst (λ (y : Found). AllStanding g Contexts y Rest) (sym (found_keys g old new same))
+        (lowers_all_standing g functions routed alike Contexts below (found_of g old) _ _ lowers Rest all)
+
+  -- A cell that is lost within so many moves is asked for.
+  module _ (long : AreLong old) (high : AreHigh old) (right : AreRight g Contexts (found_of g old)) (j : ℕ) (d : Context) (r x : ℕ) (is : IsCell g Contexts j d r x) (n place : ℕ)
+      (some : 0 < n) (low : n ≤ old.table.written + 1) (at : place ≡ slot g Contexts j d.function r x) (lost : Holds g n r x (has d.promise) ≡ false) (asks : AsksForCell old new place (2 * n)) where
+    here : place ≡ place_at g Contexts j r x
+    here = at ∙ sym (place_is g Contexts j d r x is.at)
+
+    inside : place < length old.table.heights.items
+    inside = omega (arith, at, slot_within g Contexts j d r x is, table.cells)
+
+    twice : 0 < 2 * n
+    twice = omega (arith, some)
+
+    is_long : AreLong new
+    is_long =
+        let same = ap (λ (t : Table). length t.heights.items) asks.others.table in
+        record {
+          owners = ap (λ (y : List ℕ). length y) asks.others.owners ∙ long.owners ∙ sym same;
+          asked = ap (λ (y : List ℕ). length y) asks.asked ∙ asked_length old.table.heights.items old.asked.items place (2 * n) ∙ long.asked ∙ sym same;
+          due = ap (λ (y : List ℕ). length y) asks.due ∙ long.due ∙ sym same;
+          to = ap (λ (y : List ℕ). length y) asks.others.to ∙ long.to ∙ sym same;
+          waves = ap (λ (y : List ℕ). length y) asks.others.waves ∙ long.waves ∙ sym same;
+        }
+
+    is_high : AreHigh new
+    is_high =
+        let few : AreUpTo (asked_with old.table.heights.items old.asked.items place (2 * n)) (2 * old.table.written + 2)
+        = asked_up_to old.table.heights.items old.asked.items place (2 * n) (2 * old.table.written + 2) (omega (arith, inside, long.asked)) (omega (arith, low)) high.asked in
+        record {
+          heights = subst (λ (t : Table). AreUpTo t.heights.items t.written) (sym asks.others.table) high.heights;
+          asked = subst (λ (t : Table). AreUpTo new.asked.items (2 * t.written + 2)) (sym asks.others.table) (subst (λ (y : List ℕ). AreUpTo y (2 * old.table.written + 2)) (sym asks.asked) few);
+          due = subst (λ (t : Table). AreUpTo new.due.items (2 * t.written + 1)) (sym asks.others.table) (subst (λ (y : List ℕ). AreUpTo y (2 * old.table.written + 1)) (sym asks.due) high.due);
+          waves = subst (λ (t : Table). AreUpTo new.waves.items t.written) (sym asks.others.table) (subst (λ (y : List ℕ). AreUpTo y old.table.written) (sym asks.others.waves) high.waves);
+        }
+
+    pub asked_step : LowersKeys g old new
+    asked_step = record {
+      others = asks.others;
+      long = is_long;
+      queued = asks.queued;
+      high = is_high;
+      lowers = cell_lowers g functions routed alike old new below long j d r x place (2 * n) is here inside twice asks;
+      right = subst (λ (y : Found). AreRight g Contexts y) (sym (found_keys g old new asks.others)) (cell_right g functions routed alike old new below long j d r x place (2 * n) is here inside twice asks right n refl lost);
+    }
+
+    pub asked_waits : (Keys g old new).height j r x ≡ 0 → Waits ((Keys g old new).asked j r x) (2 * n)
+    asked_waits = (is_asked g functions routed alike old new below long j d r x place (2 * n) is here inside twice asks).here
+
+  -- so is one of which the taken heights tell it
+  pub told_asked : AreLong old → AreHigh old → AreRight g Contexts (found_of g old) → (cell : Cell) → HasCell g old.table cell.at cell.pos.0 cell.state.0 → (within place : ℕ)
+      → IsBound g (heights_of g old.table) cell.at.number cell.pos.0 cell.state.0 cell.at.context.promise within → is_call_in (slice_get g.spots cell.pos.0) ≡ false → 0 < within → within ≤ old.table.written + 1
+      → place ≡ slot g Contexts cell.at.number cell.at.context.function cell.pos.0 cell.state.0 → AsksForCell old new place (2 * within) → AsksTold g old new cell
+  told_asked long high right cell is within place bound plain some low at asks =
+      let lost = bound_is_lost g functions routed alike Contexts below (found_of g old) right cell.at.number cell.at.context cell.pos.0 cell.state.0 within is plain bound some in
+      record {
+        step = asked_step long high right cell.at.number cell.at.context cell.pos.0 cell.state.0 is within place some low at lost asks;
+        closed = subst (λ (y : Found). IsClosed g y cell.at.number cell.at.context cell.pos.0 cell.state.0) (sym (found_keys g old new asks.others))
+            (closed_asked g functions routed alike Contexts below (Keys g old new) cell.at.number cell.at.context cell.pos.0 cell.state.0 within bound
+            (asked_waits long high right cell.at.number cell.at.context cell.pos.0 cell.state.0 is within place some low at lost asks));
+      }
+
+-- nothing changes
+pub nothing : (g : Game) (old : Work) → AreLong old → AreQueued old → AreHigh old → AreRight g old.table.contexts.items (found_of g old) → LowersKeys g old old
+nothing g old long queued high right = record {
+  others = record { table = refl; owners = refl; to = refl; waves = refl; callers = refl; room = refl; lists = refl };
+  long = long;
+  queued = queued;
+  high = high;
+  lowers = record { cells = λ i c p q is lt. (lt, omega arith); links = λ i c p k call is lt. (lt, omega arith) };
+  right = right;
+}
+
+-- nothing is told of the cell
+pub told_none : (g : Game) (functions : ℕ) (routed : AreRouted g functions) (alike : AreAlike g) (old : Work) → IsTable g old.table → AreLong old → AreQueued old → AreHigh old → AreRight g old.table.contexts.items (found_of g old)
+    → (cell : Cell) → (is_call_in (slice_get g.spots cell.pos.0) ≡ false → IsBound g (heights_of g old.table) cell.at.number cell.pos.0 cell.state.0 cell.at.context.promise 0) → AsksTold g old old cell
+told_none g functions routed alike old table long queued high right cell bound = record {
+  step = nothing g old long queued high right;
+  closed = λ none plain. closed_untold g functions routed alike old.table.contexts.items (below g functions routed alike old old table) (found_of g old) cell.at.number cell.at.context cell.pos.0 cell.state.0 (bound plain) none plain;
+}
+
+-- two steps
+pub two_steps : (g : Game) (old mid new : Work) → LowersKeys g old mid → LowersKeys g mid new → LowersKeys g old new
+two_steps g old mid new a b = record {
+  others = record {
+    table = b.others.table ∙ a.others.table;
+    owners = b.others.owners ∙ a.others.owners;
+    to = b.others.to ∙ a.others.to;
+    waves = b.others.waves ∙ a.others.waves;
+    callers = b.others.callers ∙ a.others.callers;
+    room = b.others.room ∙ a.others.room;
+    lists = b.others.lists ∙ a.others.lists;
+  };
+  long = b.long;
+  queued = b.queued;
+  high = b.high;
+  lowers = record {
+    cells = λ i c p q is lt.
+        let x = a.lowers.cells i c p q is lt in
+        let y = later.cells i c p q is x.0 in
+        (y.0, omega (arith, y.1, x.1));
+    links = λ i c p k call is lt.
+        let x = a.lowers.links i c p k call is lt in
+        let y = later.links i c p k call is x.0 in
+        (y.0, omega (arith, y.1, x.1));
+  };
+  right = subst (λ (t : Table). AreRight g t.contexts.items (found_of g new)) a.others.table b.right;
+}
+  where
+    later : Lowers g old.table.contexts.items (with_keys (found_of g old) (value_at g old.table.contexts.items mid.asked.items) (value_at g old.table.contexts.items mid.due.items))
+        (value_at g old.table.contexts.items new.asked.items) (value_at g old.table.contexts.items new.due.items)
+    later = subst (λ (s : Found). Lowers g old.table.contexts.items s (value_at g old.table.contexts.items new.asked.items) (value_at g old.table.contexts.items new.due.items)) (found_keys g old mid a.others)
+        (subst (λ (t : Table). Lowers g t.contexts.items (found_of g mid) (value_at g t.contexts.items new.asked.items) (value_at g t.contexts.items new.due.items)) a.others.table b.lowers)

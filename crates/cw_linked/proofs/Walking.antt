@@ -1,0 +1,96 @@
+-- A walk along a list of links: what is left of it, and its next step.
+use Rattle.std.proofs.Common.{◌≡◌, ◌≢◌, ℕ, zero, suc, inl, inr, Bool, true, false, List, [], ◌∷◌, ◌++◌, ◌==◌, eqb, length, Option, Some, None, refl, sym, ap, ◌∙◌, subst, arith}
+use Rattle.std.specs.Prelude.{slice_get, if◌then◌else◌}
+use Rattle.std.specs.List.{concat, IsDistinct, AllByRecursion}
+use Rattle.std.proofs.lemmas.Bool.{cases_eq, eq-eqb, ne_eqb, eqb-true}
+use Rattle.std.proofs.lemmas.Bool.Decides.{nat_tests}
+use Rattle.std.proofs.lemmas.Option.{none-some, same_Some}
+use Rattle.cw_links.specs.Lists.{list_at, AreApart}
+use Rattle.cw_links.specs.Rows.{has, Once}
+use Rattle.cw_links.proofs.Rows.{has-append, Once-append_left, Once-append_right, apart-append}
+use Rattle.cw_linked.specs.Walks.{from, rest_of}
+
+-- a list of apart cells has each once
+absent : (x : ℕ) (xs : List ℕ) → AllByRecursion (λ y. eqb x y ≡ false) xs → has xs x ≡ false
+absent x [] a = refl
+absent x (y ∷ ys) a = grind (arith, nat_tests, a.0, absent x ys a.1)
+
+once : (xs : List ℕ) → IsDistinct eqb xs → Once xs
+unfolding IsDistinct
+once [] o = tt
+once (x ∷ xs) o = (absent x xs o.0, once xs o.1)
+
+once_in : (lists : List (List ℕ)) (l : ℕ) → Once (concat lists) → Once (list_at lists l)
+once_in [] l o = tt
+once_in (xs ∷ lists) zero o = Once-append_left xs (concat lists) o
+once_in (xs ∷ lists) (suc l) o = once_in lists l (Once-append_right xs (concat lists) o)
+
+pub apart_once : (lists : List (List ℕ)) (cells l : ℕ) → AreApart lists cells → Once (list_at lists l)
+apart_once lists cells l apart = once_in lists l (once (concat lists) apart.once)
+
+-- what is left begins with the cell, where it is in the list
+pub split_at : (xs : List ℕ) (e : ℕ) → slice_get (from xs e) 0 ≡ Some e → (front : List ℕ) × (back : List ℕ) × (xs ≡ front ++ e ∷ back) × (from xs e ≡ e ∷ back)
+split_at [] e h = absurd (none-some e h)
+split_at (x ∷ xs) e h = by (split_at xs e) (eqb x e) refl h
+  where
+    by : (slice_get (from xs e) 0 ≡ Some e → (front : List ℕ) × (back : List ℕ) × (xs ≡ front ++ e ∷ back) × (from xs e ≡ e ∷ back))
+        → (b : Bool) → eqb x e ≡ b → slice_get (if b then x ∷ xs else from xs e) 0 ≡ Some e
+        → (front : List ℕ) × (back : List ℕ) × (x ∷ xs ≡ front ++ e ∷ back) × ((if b then x ∷ xs else from xs e) ≡ e ∷ back)
+    by later true t k = let same = eqb-true x e t in ([], xs, ap (λ (y : ℕ). y ∷ xs) same, ap (λ (y : ℕ). y ∷ xs) same)
+    by later false t k = let s = later k in (x ∷ s.0, s.1, ap (λ (ys : List ℕ). x ∷ ys) s.2, s.3)
+
+from_here : (e : ℕ) (xs : List ℕ) → from (e ∷ xs) e ≡ e ∷ xs
+from_here e xs = ap (λ (b : Bool). if b then e ∷ xs else from xs e) (eq-eqb e e refl)
+
+from_next : (x e : ℕ) (xs : List ℕ) → x ≢ e → from (x ∷ xs) e ≡ from xs e
+from_next x e xs ne = ap (λ (b : Bool). if b then x ∷ xs else from xs e) (ne_eqb x e ne)
+
+has_not : (x e : ℕ) (xs : List ℕ) → has (x ∷ xs) e ≡ false → (x ≢ e) × (has xs e ≡ false)
+has_not x e xs h = elim (cases_eq x e) [
+  | inl same ↦ absurd (let z : true ≡ false = sym (ap (λ (b : Bool). if b then true else has xs e) (eq-eqb x e same)) ∙ h in cc)
+  | inr ne ↦ (ne, sym (ap (λ (b : Bool). if b then true else has xs e) (ne_eqb x e ne)) ∙ h)
+]
+
+from_past : (front ys : List ℕ) (e : ℕ) → has front e ≡ false → from (front ++ ys) e ≡ from ys e
+from_past [] ys e h = refl
+from_past (x ∷ front) ys e h = let n = has_not x e front h in from_next x e (front ++ ys) n.0 ∙ from_past front ys e n.1
+
+-- a step further, one cell less is left
+pub rest_after : (xs front back : List ℕ) (e : ℕ) → Once xs → xs ≡ front ++ e ∷ back → rest_of xs (slice_get back 0) ≡ back
+rest_after xs front [] e o is = refl
+rest_after xs front (y ∷ back) e o is =
+    let apart : Once (front ++ e ∷ y ∷ back) = subst Once is o in
+    let here : has (e ∷ y ∷ back) y ≡ true = second in
+    let before : has front y ≡ false = apart-append front (e ∷ y ∷ back) y apart here in
+    let tail : Once (e ∷ y ∷ back) = Once-append_right front (e ∷ y ∷ back) apart in
+    ap (λ (zs : List ℕ). from zs y) is ∙ from_past front (e ∷ y ∷ back) y before ∙ from_next e y (y ∷ back) (λ same. (has_not y e back tail.0).0 (sym same)) ∙ from_here y back
+  where
+    first : has (y ∷ back) y ≡ true
+    first = ap (λ (b : Bool). if b then true else has back y) (eq-eqb y y refl)
+
+    second : has (e ∷ y ∷ back) y ≡ true
+    second = by (eqb e y)
+      where
+        by : (b : Bool) → (if b then true else has (y ∷ back) y) ≡ true
+        by true = refl
+        by false = first
+
+-- a walk begins with the whole list
+pub rest_whole : (xs : List ℕ) → rest_of xs (slice_get xs 0) ≡ xs
+rest_whole [] = refl
+rest_whole (x ∷ xs) = from_here x xs
+
+pub walk_begins : (xs : List ℕ) (next : Option ℕ) → next ≡ slice_get xs 0 → (rest_of xs next ≡ xs) × (slice_get (rest_of xs next) 0 ≡ next)
+walk_begins xs next is =
+    let whole : rest_of xs next ≡ xs = ap (rest_of xs) is ∙ rest_whole xs in
+    (whole, ap (λ (ys : List ℕ). slice_get ys 0) whole ∙ sym is)
+
+-- one step of a walk
+pub walk_steps : (lists : List (List ℕ)) (cells l edge : ℕ) (next : Option ℕ) → AreApart lists cells → slice_get (from (list_at lists l) edge) 0 ≡ Some edge
+    → ((list : ℕ) (front back : List ℕ) → list_at lists list ≡ front ++ edge ∷ back → next ≡ slice_get back 0)
+    → (back : List ℕ) × (from (list_at lists l) edge ≡ edge ∷ back) × (rest_of (list_at lists l) next ≡ back) × (slice_get (rest_of (list_at lists l) next) 0 ≡ next)
+walk_steps lists cells l edge next apart at within =
+    let s = split_at (list_at lists l) edge at in
+    let is = within l s.0 s.1 s.2 in
+    let rest : rest_of (list_at lists l) next ≡ s.1 = ap (rest_of (list_at lists l)) is ∙ rest_after (list_at lists l) s.0 s.1 edge (apart_once lists cells l apart) s.2 in
+    (s.1, s.3, rest, ap (λ (ys : List ℕ). slice_get ys 0) rest ∙ sym is)

@@ -1,0 +1,28 @@
+use Rattle.std.proofs.Common.{◌≡◌, ◌<◌, ℕ, false, length, subst, arith}
+use Rattle.std.specs.Prelude.{slice_get}
+use Rattle.cw_game.specs.Pairs.{is_call_in}
+use Rattle.cw_product.specs.Product.{game_of}
+use Rattle.cw_linked.specs.Steps.{IsBound}
+use Rattle.cw_linked.specs.Works.{heights_of}
+use Rattle.cw_linked.proofs.Alike.{alike}
+use Rattle.cw_linked.proofs.Least.{false_of}
+use Rattle.cw_linked.proofs.Telling.{told_none, told_asked}
+use Rattle.cw_linked.proofs.told.ask_told.Goals as goal
+
+pub returns-then-within-eq0 : goal.returns-then-within-eq0
+returns-then-within-eq0 c =
+    let g = game_of c.args.game.now in
+    let w = c.args.work.now in
+    let cell = c.args.cell.now in
+    told_none g (length c.args.game.now.graph.parts.items) c.requires.routed (alike c.args.game.now) w c.requires.table c.requires.long c.requires.queued c.requires.high c.requires.right cell
+    (λ plain. subst (λ (y : ℕ). IsBound g (heights_of g w.table) cell.at.number cell.pos.0 cell.state.0 cell.at.context.promise y) c.if-within-eq0.true (c.bound-within.ensures.told plain))
+
+pub returns : goal.returns
+returns c =
+    let g = game_of c.args.game.now in
+    let w = c.args.work.now in
+    let cell = c.args.cell.now in
+    let plain : is_call_in (slice_get g.spots cell.pos.0) ≡ false = false_of (is_call_in (slice_get g.spots cell.pos.0)) (λ y. c.if-within-eq0.false (c.bound-within.ensures.call y)) in
+    let some : 0 < c.bound-within.result = omega (arith, c.if-within-eq0.false) in
+    told_asked g (length c.args.game.now.graph.parts.items) c.requires.routed (alike c.args.game.now) w c.ask_cell.new.work c.requires.table c.requires.long c.requires.high c.requires.right cell c.requires.cell
+    c.bound-within.result c.slot-place.result (c.bound-within.ensures.told plain) plain some (c.bound-within.ensures.high w.table.written c.requires.high.heights) c.slot-place.ensures.is c.in_ok-ask_cell.ensures

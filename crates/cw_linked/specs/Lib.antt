@@ -1,0 +1,9 @@
+-- The definitions.
+pub mod Founds
+pub mod Steps
+pub mod Works
+pub mod Queues
+pub mod Waiting
+pub mod Walks
+pub mod Calls
+pub mod Returns

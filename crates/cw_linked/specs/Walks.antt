@@ -1,0 +1,11 @@
+-- Working definitions: what is left of a walk along a list.
+use Rattle.std.specs.Prelude.{ℕ, List, [], ◌∷◌, if◌then◌else◌, ◌==◌, Option, Some, None}
+
+-- the list from a cell on
+abbrev pub from : List ℕ → ℕ → List ℕ
+from [] e = []
+from (x ∷ xs) e = if x == e then x ∷ xs else from xs e
+
+abbrev pub rest_of : List ℕ → Option ℕ → List ℕ
+rest_of xs None = []
+rest_of xs (Some e) = from xs e

@@ -1,0 +1,129 @@
+//! What the heights that are taken tell of a cell.
+
+ghost use Rattle.std.specs.Prelude.{◌≡◌, ◌⊎◌, ℕ, suc, false, true, ◌+◌, ◌<◌, ◌≤◌, ◌&&◌, ◌||◌, length, slice_get};
+ghost use Rattle.cw_game.specs.Games.{bad_in};
+ghost use Rattle.cw_game.specs.Pairs.{has, is_call_in, is_exit_in};
+ghost use Rattle.cw_product.specs.Product.{game_of};
+ghost use Rattle.cw_product.specs.Moves.{next_at};
+ghost use Rattle.cw_solve.specs.Asking.{holds_after, holds_by_moves};
+ghost use Rattle.cw_solve.specs.Routes.{AreRouted};
+ghost use Rattle.cw_solve.specs.Rounds.{holds_by};
+ghost use Rattle.cw_solve.specs.Tables.{IsTable, HasCell};
+ghost use Rattle.cw_linked.specs.Founds.{told};
+ghost use Rattle.cw_linked.specs.Steps.{IsBound};
+ghost use Rattle.cw_linked.specs.Works.{heights_of, AreUpTo};
+
+use cw_certs::Move;
+use cw_core::{PosId, StateId};
+use cw_game::Spot;
+use cw_product::{Game, Turn};
+use cw_solve::table::{Table, Tabled, slot};
+
+/// The height of the pair to which a move leads, 0 where none is taken or the move isn't there.
+fn height_after(
+    game: &Game,
+    table: &Table,
+    at: &Tabled,
+    pos: PosId,
+    state: StateId,
+    by: Move,
+) -> u32
+    requires routed { AreRouted (game_of game.now) (length game.now.graph.parts.items) }
+    requires table { IsTable (game_of game.now) table.now }
+    requires cell { HasCell (game_of game.now) table.now at.now pos.0 state.0 }
+    requires high { AreUpTo table.now.heights.items 4194304 }
+    ensures tells { (n : ℕ) → holds_by n result ≡ holds_after (told (heights_of (game_of game.now) table.now) at.now.number n) (has at.now.context.promise)
+        (next_at (game_of game.now) pos.0 state.0 by) }
+    ensures high { result ≤ 4194304 }
+    ensures most { (most : ℕ) → AreUpTo table.now.heights.items most → result ≤ most }
+{
+    match game.next(pos, state, by) {
+        None => 0,
+        Some((pos, state)) => table.heights[slot(game, table, at, pos, state)],
+    }
+}
+
+/// One more than a height, 0 where there is none.
+fn one_more(height: u32) -> u32
+    requires high { height ≤ 4194304 }
+    ensures tells { (n : ℕ) → holds_by (suc n) result ≡ holds_by n height }
+    ensures high { result ≤ height + 1 }
+{
+    if height == 0 { 0 } else { height + 1 }
+}
+
+/// One more than the greater of two heights, 0 where one of them isn't there.
+fn both(a: u32, b: u32) -> u32
+    requires high { (a ≤ 4194304) × (b ≤ 4194304) }
+    ensures tells { (n : ℕ) → holds_by (suc n) result ≡ (holds_by n a || holds_by n b) }
+    ensures high { (result ≤ a + 1) ⊎ (result ≤ b + 1) }
+{
+    if a.min(b) == 0 { 0 } else { a.max(b) + 1 }
+}
+
+/// One more than the lesser of two heights, or than the one that is there.
+fn either(a: u32, b: u32) -> u32
+    requires high { (a ≤ 4194304) × (b ≤ 4194304) }
+    ensures tells { (n : ℕ) → holds_by (suc n) result ≡ (holds_by n a && holds_by n b) }
+    ensures high { (result ≤ a + 1) ⊎ (result ≤ b + 1) }
+{
+    if a == 0 {
+        one_more(b)
+    } else if b == 0 {
+        a + 1
+    } else {
+        a.min(b) + 1
+    }
+}
+
+/// The number of moves within which the taken heights tell that a pair that is no call and no exit, and isn't bad, is lost;
+/// 0 where they don't.
+fn moves_bound(game: &Game, table: &Table, at: &Tabled, pos: PosId, state: StateId) -> u32
+    requires routed { AreRouted (game_of game.now) (length game.now.graph.parts.items) }
+    requires table { IsTable (game_of game.now) table.now }
+    requires cell { HasCell (game_of game.now) table.now at.now pos.0 state.0 }
+    requires high { AreUpTo table.now.heights.items 4194304 }
+    ensures tells { (n : ℕ) → holds_by (suc n) result ≡ holds_by_moves (game_of game.now) (told (heights_of (game_of game.now) table.now) at.now.number n) pos.0 state.0
+        (has at.now.context.promise) (slice_get (game_of game.now).spots pos.0) }
+    ensures high { (most : ℕ) → AreUpTo table.now.heights.items most → result ≤ most + 1 }
+{
+    let after = |by: Move| height_after(game, table, at, pos, state, by);
+    match game.spot(pos) {
+        Spot::Visit(_, _, _) => both(after(Move::Skip), after(Move::Try)),
+        Spot::Asked(_, _, _) => either(after(Move::Grant), after(Move::Refuse)),
+        Spot::Branch(_, _) => either(after(Move::Left), after(Move::Right)),
+        Spot::Open(_, _, _) => either(after(Move::Opened), after(Move::Failed)),
+        _ => one_more(after(Move::On)),
+    }
+}
+
+/// The number of moves within which the taken heights tell that a pair that is no call is lost; 0 where they don't, and at
+/// a call.
+pub(crate) fn bound(game: &Game, table: &Table, at: &Tabled, pos: PosId, state: StateId) -> u32
+    requires routed { AreRouted (game_of game.now) (length game.now.graph.parts.items) }
+    requires table { IsTable (game_of game.now) table.now }
+    requires cell { HasCell (game_of game.now) table.now at.now pos.0 state.0 }
+    requires high { AreUpTo table.now.heights.items 4194304 }
+    ensures told { is_call_in (slice_get (game_of game.now).spots pos.0) ≡ false
+        → IsBound (game_of game.now) (heights_of (game_of game.now) table.now) at.now.number pos.0 state.0 at.now.context.promise result }
+    ensures call { is_call_in (slice_get (game_of game.now).spots pos.0) ≡ true → result ≡ 0 }
+    ensures high { (most : ℕ) → AreUpTo table.now.heights.items most → result ≤ most + 1 }
+{
+    match game.turn(pos) {
+        Turn::Call { .. } => 0,
+        Turn::Exit { main } => {
+            if main || at.context.promise.contains(state) {
+                0
+            } else {
+                1
+            }
+        }
+        Turn::Weaver | Turn::Environment => {
+            if game.bad(pos, state) {
+                1
+            } else {
+                moves_bound(game, table, at, pos, state)
+            }
+        }
+    }
+}
