@@ -1,0 +1,2 @@
+-- The texts of samples.
+pub mod Samples
