@@ -48,7 +48,8 @@ entry_place (x ∷ xs) zero e l is = ap (λ (y : Effect). y.forbids) is
 entry_place (x ∷ xs) (suc f) e l is = entry_place xs f e (omega (arith, l)) is
 
 -- a name's number is one of a function
-pub named_within : (checked : Checked) (name : List ℕ) (f n : ℕ) → number_in (function_names checked.source.now (file_of checked.program)) name ≡ Some f → n ≡ length checked.program.functions.items → f < n
+pub named_within : (checked : Checked) (name : List ℕ) (f n : ℕ) → number_in (function_names checked.source.now (file_of checked.program)) name ≡ Some f
+    → n ≡ length checked.program.functions.items → f < n
 named_within checked name f n e count =
     let names = function_names checked.source.now (file_of checked.program) in
     let l : f < length names = place_within (bytes_eq name) names f e in
@@ -57,7 +58,8 @@ named_within checked name f n e count =
     omega (arith, l, a, b, count)
 
 module _ (effects : List Effect) (functions : List (List ℕ)) where
-  pub passed : (i : ℕ) (names : List (List ℕ)) → first_barred effects functions i names ≡ None → (j : ℕ) (name : List ℕ) → slice_get names j ≡ Some name → barred effects functions name ≡ None
+  pub passed : (i : ℕ) (names : List (List ℕ)) → first_barred effects functions i names ≡ None → (j : ℕ) (name : List ℕ) → slice_get names j ≡ Some name
+      → barred effects functions name ≡ None
   passed i [] e j name at = absurd (none-some name at)
   passed i (x ∷ xs) e zero name at = subst (λ n. barred effects functions n ≡ None) (same_Some x name at) (none_now (barred effects functions x) i (first_barred effects functions (i + 1) xs) e)
   passed i (x ∷ xs) e (suc j) name at = passed (i + 1) xs (none_later (barred effects functions x) i (first_barred effects functions (i + 1) xs) e) j name at
@@ -93,7 +95,8 @@ module _ (effects : List Effect) (functions : List (List ℕ)) where
           let c : number ≡ (i + 1) + q.index = q.counted in
           record { index = suc q.index; name = q.name; counted = omega (arith, c); named = q.named; bar = q.bar; earlier = before_it q }
         where
-          before_it : (q : IsFirst (i + 1) xs number place) (j : ℕ) (before : List ℕ) → j < suc q.index → slice_get (x ∷ xs) j ≡ Some before → barred effects functions before ≡ None
+          before_it : (q : IsFirst (i + 1) xs number place) (j : ℕ) (before : List ℕ) → j < suc q.index → slice_get (x ∷ xs) j ≡ Some before
+              → barred effects functions before ≡ None
           before_it q zero before l at = subst (λ n. barred effects functions n ≡ None) (same_Some x before at) is
           before_it q (suc j) before l at = q.earlier j before (omega (arith, l)) at
 
@@ -113,10 +116,12 @@ module _ (checked : Checked) (policy : PlainPolicy) (effects : List Effect) (tol
   pub may_be : (name : List ℕ) → barred effects names name ≡ None → MayBeSplit checked.source.now (file_of checked.program) (names_of policy) name
   may_be name none f e = subst (IsLeast (Bad f)) (sym (ap (place_at effects) e) ∙ none) (least name f e)
 
-  pub all_may_be : (split : List (List ℕ)) → first_barred effects names 0 split ≡ None → All (MayBeSplit checked.source.now (file_of checked.program) (names_of policy)) split
+  pub all_may_be : (split : List (List ℕ)) → first_barred effects names 0 split ≡ None
+      → All (MayBeSplit checked.source.now (file_of checked.program) (names_of policy)) split
   all_may_be split none = λ k d l. may_be (get_or split k d) (passed effects names 0 split none k (get_or split k d) (got split k d l))
 
-  pub first_forbidden : (split : List (List ℕ)) (number place : ℕ) → first_barred effects names 0 split ≡ Some (number, place) → IsFirstForbidden checked.source.now (file_of checked.program) (names_of policy) split number place
+  pub first_forbidden : (split : List (List ℕ)) (number place : ℕ) → first_barred effects names 0 split ≡ Some (number, place)
+      → IsFirstForbidden checked.source.now (file_of checked.program) (names_of policy) split number place
   first_forbidden split number place e = by (number_in names q.name) refl
     where
       q : IsFirst effects names 0 split number place

@@ -38,7 +38,8 @@ calls_at s [] j f = refl
 calls_at s (x ∷ fs) j zero = ap firsts (all_numbered (stms_in s x.body.items) (j + 1))
 calls_at s (x ∷ fs) j (suc f) = calls_at s fs (j + 1 + seams_all (stms_in s x.body.items)) f
 
-pub same_calls : (s : Scene) (fs : List Function) (main : ℕ) (rows : List (Vec ℕ Global)) → lists_of rows ≡ map (direct s) fs → (h : ℕ) → next_in rows h ≡ calls (record { routines = routines_from s 0 (map definition_of fs); main = main }) h
+pub same_calls : (s : Scene) (fs : List Function) (main : ℕ) (rows : List (Vec ℕ Global)) → lists_of rows ≡ map (direct s) fs → (h : ℕ)
+    → next_in rows h ≡ calls (record { routines = routines_from s 0 (map definition_of fs); main = main }) h
 same_calls s fs main rows e h = ap (λ l. get_or l h []) e ∙ sym (calls_at s fs 0 h)
 
 pub rows_count : (s : Scene) (fs : List Function) (rows : List (Vec ℕ Global)) → lists_of rows ≡ map (direct s) fs → length rows ≡ length fs

@@ -22,7 +22,8 @@ pub found_at : {X : Type 0} (t : X → Bool) (i : ℕ) (xs : List X) (k : ℕ) �
 found_at t i [] k e = let z : None ≡ Some k = e in absurd (cc)
 found_at t i (x ∷ xs) k e = by (t x) refl e (found_at t (i + 1) xs k)
   where
-    by : (b : Bool) → t x ≡ b → cond b (Some i) (position_from t (i + 1) xs) ≡ Some k → (position_from t (i + 1) xs ≡ Some k → IsFoundAt t (i + 1) xs k) → IsFoundAt t i (x ∷ xs) k
+    by : (b : Bool) → t x ≡ b → cond b (Some i) (position_from t (i + 1) xs) ≡ Some k → (position_from t (i + 1) xs ≡ Some k → IsFoundAt t (i + 1) xs k)
+        → IsFoundAt t i (x ∷ xs) k
     by true is e r = let z : i ≡ k = same_Some i k e in record { index = 0; counted = omega (arith, z); same = ap (λ b. cond b (Some x) (find t xs)) is }
     by false is e r =
         let q = r e in

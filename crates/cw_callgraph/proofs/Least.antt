@@ -61,12 +61,14 @@ lowest_is ps =
     (any (λ g p. g ≡ p) Some ps (λ g. (refl, λ p e. let l : g ≡ p = e in omega (arith, l))))
 
 -- the least place of the function with this number
-pub at_is : (F : Definition → List ℕ) (fs : List Function) (f : ℕ) → at (map (λ x. lowest (F (definition_of x))) fs) f ≡ lowest (places_of F (slice_get (map definition_of fs) f))
+pub at_is : (F : Definition → List ℕ) (fs : List Function) (f : ℕ)
+    → at (map (λ x. lowest (F (definition_of x))) fs) f ≡ lowest (places_of F (slice_get (map definition_of fs) f))
 at_is F [] f = refl
 at_is F (x ∷ fs) zero = refl
 at_is F (x ∷ fs) (suc f) = at_is F fs f
 
-pub least_at : (F : Definition → List ℕ) (fs : List Function) (places : List (Option ℕ)) (f : ℕ) → places ≡ map (λ x. lowest (F (definition_of x))) fs → IsLeast (Contains (places_of F (slice_get (map definition_of fs) f))) (at places f)
+pub least_at : (F : Definition → List ℕ) (fs : List Function) (places : List (Option ℕ)) (f : ℕ) → places ≡ map (λ x. lowest (F (definition_of x))) fs
+    → IsLeast (Contains (places_of F (slice_get (map definition_of fs) f))) (at places f)
 least_at F fs places f e =
     let ps = places_of F (slice_get (map definition_of fs) f) in
     subst (IsLeast (Contains ps)) (sym (ap (λ l. at l f) e ∙ at_is F fs f)) (lowest_is ps)
@@ -87,7 +89,8 @@ module _ (names : Names) (source : List ℕ) (file : File) (fs : List Function) 
       subst (λ (l : List Definition). IsLeast (Contains (places_of (body_places (scene_of names source file) file) (slice_get l f))) (at bodies f)) same
       (least_at (body_places (scene_of names source file) file) fs bodies f bodies_are)
 
-  pub forbidden_is : (f : ℕ) (reaches : List ℕ) → ((g : ℕ) → (Contains reaches g → Reaches (plan_of names source file) f g) × (Reaches (plan_of names source file) f g → Contains reaches g))
+  pub forbidden_is : (f : ℕ) (reaches : List ℕ)
+      → ((g : ℕ) → (Contains reaches g → Reaches (plan_of names source file) f g) × (Reaches (plan_of names source file) f g → Contains reaches g))
       → IsLeast (Forbids names source file f) (forbidden heads bodies f reaches)
   forbidden_is f reaches exact =
       turned (λ p. Head f p ⊎ (Body f p ⊎ HasSome Body reaches p)) (Forbids names source file f) (forbidden heads bodies f reaches) to from

@@ -24,11 +24,13 @@ module _ (source : List ℕ) (file inner : List Known) where
   pub element_is : (e : Expr) → is_element source file inner (tree_of e) ≡ element_at source file inner (out-Expr e).op (trees_of (out-Expr e).parts.items)
   element_is e = ap (is_element source file inner) (node_is e)
 
-  pub places_are : (role : Role) (e : Expr) → places source file inner role (tree_of e) ≡ place_if (forbids_itself source file inner role (out-Expr e).op (trees_of (out-Expr e).parts.items) (out-Expr e).from (out-Expr e).to) (out-Expr e).from ++ places_in source file inner (first_role role (out-Expr e).op) (trees_of (out-Expr e).parts.items)
+  pub places_are : (role : Role) (e : Expr)
+      → places source file inner role (tree_of e) ≡ place_if (forbids_itself source file inner role (out-Expr e).op (trees_of (out-Expr e).parts.items) (out-Expr e).from (out-Expr e).to) (out-Expr e).from ++ places_in source file inner (first_role role (out-Expr e).op) (trees_of (out-Expr e).parts.items)
   places_are role e = ap (places source file inner role) (node_is e)
 
 module _ (s : Scene) (file : List Known) where
-  pub block_places : (inner : List Known) (at : ℕ) (w : What) (v : Vec Stmt Global) → w ≡ Block v → formed s file inner at (form_of w) ≡ stated_all s file inner (statements_of v.items)
+  pub block_places : (inner : List Known) (at : ℕ) (w : What) (v : Vec Stmt Global) → w ≡ Block v
+      → formed s file inner at (form_of w) ≡ stated_all s file inner (statements_of v.items)
   block_places inner at w v e = ap (formed s file inner at) (block_form w v e)
 
   pub block_known : (w : What) (v : Vec Stmt Global) → w ≡ Block v → known_in s file (form_of w) ≡ []
@@ -46,7 +48,8 @@ module _ (s : Scene) (file : List Known) where
   head_places inner at (Head' Head-init-None' test step) body = refl
   head_places inner at (Head' (Head-init-Some' what from to) test step) body = refl
 
-  pub for_is : (inner : List Known) (at : ℕ) (w : What) (h : Box Head Global) (b : Box Stmt Global) → w ≡ For h b → formed s file inner at (form_of w) ≡ for_places inner h.value b.value
+  pub for_is : (inner : List Known) (at : ℕ) (w : What) (h : Box Head Global) (b : Box Stmt Global) → w ≡ For h b
+      → formed s file inner at (form_of w) ≡ for_places inner h.value b.value
   for_is inner at w h b e = ap (λ w. formed s file inner at (form_of w)) e ∙ head_places inner at h.value b.value
 
   head_known : (h : Head) (body : Statement) → known_in s file (for_of h body) ≡ []
@@ -92,7 +95,8 @@ take_front [] ys = refl
 take_front (x ∷ xs) ys = ap (λ l. x ∷ l) (take_front xs ys)
 
 -- what is known again behind a body, where what its head and it declared is taken off
-pub cut : (inner body left left' : List Known) (depth : ℕ) (all all' : List Known) → depth ≡ length inner → all ≡ inner ++ left → all' ≡ all ++ left' → body ≡ take depth all' → body ≡ inner
+pub cut : (inner body left left' : List Known) (depth : ℕ) (all all' : List Known) → depth ≡ length inner → all ≡ inner ++ left → all' ≡ all ++ left'
+    → body ≡ take depth all' → body ≡ inner
 cut inner body left left' depth all all' at known known' is =
     is
     ∙ ap (take depth) (known' ∙ ap (λ l. l ++ left') known ∙ append_assoc inner left left')

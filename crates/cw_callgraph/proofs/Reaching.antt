@@ -25,7 +25,8 @@ pub at_most : (rows : List (Vec ℕ Global)) (f : ℕ) → IsRow rows f → AtMo
 at_most rows f is xs sorted reached = length-le_from_below (length rows) xs sorted (λ k d lt. (kept nat_cmp (next_in rows) (next_in rows f) (IsRow rows) (λ q. row_keeps rows f q is) (row_keeps rows) (get_or xs k d) (reached (get_or xs k d) (Contains-get_or xs k d lt))).0)
 
 -- what is reached has a row
-pub reached_below : (rows : List (Vec ℕ Global)) (f n : ℕ) (numbers : List ℕ) → f < length rows → All (AreBelow (length rows)) (lists_of rows) → IsReach (next_in rows) f numbers → n ≡ length rows → All (λ g. g < n) numbers
+pub reached_below : (rows : List (Vec ℕ Global)) (f n : ℕ) (numbers : List ℕ) → f < length rows → All (AreBelow (length rows)) (lists_of rows)
+    → IsReach (next_in rows) f numbers → n ≡ length rows → All (λ g. g < n) numbers
 reached_below rows f n numbers lt below reach e = λ k d l.
     let is = is_row rows f lt below in
     let g = get_or numbers k d in
