@@ -1,5 +1,5 @@
 -- Tapes: the moves of one party as a text, words with white space between.
-use Rattle.std.specs.Prelude.{◌≡◌, ◌≢◌, ℕ, ◌+◌, ◌==◌, nat_le, List, [], ◌∷◌, ◌++◌, map, filter, length, Bool, true, false, not, ◌&&◌, ◌||◌, codes, Contains}
+use Rattle.std.specs.Prelude.{◌≡◌, ◌≢◌, ℕ, ◌+◌, ◌==◌, nat_le, List, [], ◌∷◌, ◌++◌, map, filter, length, Bool, true, false, not, ◌&&◌, ◌||◌, codes, Contains, Result, Ok, Err}
 use Rattle.std.specs.List.{All, slice_split, flat_map}
 use Rattle.cw_certs.specs.declared.moves.Move.{Move}
 use Rattle.cw_certs.specs.declared.moves.Move.TheVariants.{Skip, Try, Grant, Refuse, On, Left, Right, Opened, Failed, Stop}
@@ -81,3 +81,13 @@ IsFault play text (fault.Line number) = IsFirstOther play text number
 IsFault play text (fault.Order number) = ⊥
 IsFault play text (fault.Limit number) = ⊥
 IsFault play text fault.NoMemory = Unit {0}
+
+-- what a text is: the tape of these moves, or one whose first line with another word has this number
+abbrev pub IsAnswer : (play : Bool) (text : List ℕ) → Result (List Move) TextFault → Type 0
+IsAnswer play text (Ok moves) = IsTape play text moves
+IsAnswer play text (Err (fault.Line number)) = IsFirstOther play text number
+IsAnswer play text (Err _) = ⊥
+
+-- A text has one answer at most.
+abbrev pub OneAnswer : Type 0
+OneAnswer = (play : Bool) (text : List ℕ) (a b : Result (List Move) TextFault) → IsAnswer play text a → IsAnswer play text b → a ≡ b

@@ -1,6 +1,7 @@
 //! Tapes: the moves of one party as a text.
 #![tactic(auto)]
 
+pub mod laws;
 mod moves;
 mod reading;
 
