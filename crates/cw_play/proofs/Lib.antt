@@ -1,0 +1,9 @@
+pub mod OnePlay
+pub mod Held
+pub mod Advances
+pub mod Going
+pub mod Ending
+pub mod FirstRow
+pub mod Ranges
+pub mod Meant
+pub mod Looping
