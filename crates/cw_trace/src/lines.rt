@@ -8,8 +8,8 @@ ghost use Rattle.cw_text.specs.Lines.{numbered};
 ghost use Rattle.cw_trace.specs.Lines.{primitive_text, answer_text, try_line, stop_line, success_text, open_line, close_line, mode_text, call_line, return_line, rights_text, hold_text, held_text, authority_text, caps_text, label_line};
 
 use cw_core::{NoMemory, SeamId, put_dec};
-use cw_rights::{Caps, Hold, Primitive, Rights};
 use cw_rights::policy::Descriptor;
+use cw_rights::{Caps, Hold, Primitive, Rights};
 use cw_text::put_bytes;
 
 fn put_primitive(stage: u8, prim: Primitive, text: &mut Vec<u8>) -> Result<(), NoMemory>
@@ -187,11 +187,7 @@ fn put_held(
     put_hold(hold_of(caps, number), text)
 }
 
-fn put_all_held(
-    caps: &Caps,
-    descriptors: &[Descriptor],
-    text: &mut Vec<u8>,
-) -> Result<(), NoMemory>
+fn put_all_held(caps: &Caps, descriptors: &[Descriptor], text: &mut Vec<u8>) -> Result<(), NoMemory>
     ensures { OnOk result (text.new.items ≡ text.old.items ++ numbered (held_text caps.now) (map descriptor_of descriptors.now)) }
 {
     for number in 0..descriptors.len() {
@@ -211,11 +207,7 @@ fn put_authority(amb: bool, text: &mut Vec<u8>) -> Result<(), NoMemory>
 }
 
 #[tactic(auto, unfolding(crate::specs::Lines::caps_text))]
-fn put_caps(
-    caps: &Caps,
-    descriptors: &[Descriptor],
-    text: &mut Vec<u8>,
-) -> Result<(), NoMemory>
+fn put_caps(caps: &Caps, descriptors: &[Descriptor], text: &mut Vec<u8>) -> Result<(), NoMemory>
     ensures { OnOk result (text.new.items ≡ text.old.items ++ caps_text (map descriptor_of descriptors.now) caps.now) }
 {
     put_authority(caps.amb, text)?;

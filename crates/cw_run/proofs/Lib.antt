@@ -1,0 +1,9 @@
+mod Waits
+mod Sees
+mod Sits
+mod Calls
+mod Refusals
+mod Moveless
+mod Runs
+mod Main
+mod Looping

@@ -1,0 +1,156 @@
+-- What the loop over the tape keeps, for a program's game and a good table.
+use Rattle.std.proofs.Common.{◌≡◌, ℕ, zero, suc, ◌+◌, ◌<◌, ◌≤◌, List, [], ◌∷◌, ◌++◌, map, take, length, get_or, Option, Some, None, refl, sym, ap, ap₂, ◌∙◌, subst, arith, add-one}
+use Rattle.std.specs.Prelude.{slice_get}
+use Rattle.std.specs.List.{All}
+use Rattle.std.proofs.lemmas.List.{take_all}
+use Rattle.std.proofs.lemmas.List.Elements.{All-nil}
+use Rattle.cw_rights.specs.declared.capabilities.Caps.{Caps}
+use Rattle.cw_rights.specs.Words.{Word}
+use Rattle.cw_rights.specs.Policies.{PlainPolicy, policy_of}
+use Rattle.cw_rights.specs.Valid.{IsValid}
+use Rattle.cw_certs.specs.declared.moves.Move.{Move}
+use Rattle.cw_certs.specs.Tables.{Table}
+use Rattle.cw_syntax.specs.Trees.{File}
+use Rattle.cw_syntax.specs.Plans.{Plan, plan_of}
+use Rattle.cw_syntax.specs.Runnable.{IsRunnable}
+use Rattle.cw_actions.specs.Scenes.{names_of}
+use Rattle.cw_points.specs.Graphs.{IsGraph}
+use Rattle.cw_positions.specs.Opens.{AssignsNames}
+use Rattle.cw_positions.specs.Positions.{spots}
+use Rattle.cw_model.specs.Boards.{Problem, problem_of}
+use Rattle.cw_model.specs.Runs.{Sound}
+use Rattle.cw_game.specs.Games.{Game}
+use Rattle.cw_game.specs.Reached.{Reached}
+use Rattle.cw_game.specs.Standing.{IsGameOf}
+use Rattle.cw_game.specs.Conditions.{IsGoodTable}
+use Rattle.cw_game.proofs.Reached.{reached_means}
+use Rattle.cw_game.proofs.Goods.{good_closed}
+use Rattle.cw_states.specs.States.{lists_of, AreLists, Means, caps_at, states_of}
+use Rattle.cw_states.proofs.Meaning.{states_are}
+use Rattle.cw_product.specs.Product.{Held, game_of}
+use Rattle.cw_product.specs.Uses.{uses_of}
+use Rattle.cw_product.proofs.Holding.{has, game_is}
+use Rattle.cw_wcheck.proofs.Sounds.{sound}
+use Rattle.cw_trace.specs.Traces.{Names}
+use Rattle.cw_trace.specs.Labels.{names_of as trace_names_of}
+use Rattle.cw_trace.specs.Steps.{End, Ended, TapeSpent, BadMove}
+use Rattle.cw_run.specs.declared.run.Place.{Place as PlaceData}
+use Rattle.cw_run.specs.declared.run.Place.TheVariants.{At, Over}
+use Rattle.cw_run.specs.declared.walk.Here.{Here as HereData}
+use Rattle.cw_run.specs.declared.walk.Wait.{Wait as WaitData}
+use Rattle.cw_run.specs.Walks.{here_of, wait_of, innermost, place_in, start_here, lines_here, IsHere, IsWait, IsPlace, Arrives, Goes, Answered}
+use Rattle.cw_run.specs.Woven.{Tells}
+use Rattle.cw_run.proofs.Main.{caps_meant, RunSoFar, begun, went, spent, over, bad_word, past_end}
+
+abbrev pub plan_here : Held → List ℕ → File → Plan
+plan_here h source file = plan_of (names_of (policy_of h.states.policy)) source file
+
+-- what the loop keeps when so many words have been read
+pub record LoopKeeps (names : Names) (h : Held) (t : Table) (plan : Plan) (words : List Move) (place : PlaceData) (waits : List WaitData) (old new : List ℕ) : Type 0 where
+  pub run : RunSoFar names (game_of h) t plan words (place_in place) (innermost waits) old new
+  pub there : IsPlace (game_of h) (place_in place)
+  pub waiting : All (λ w. IsWait (game_of h) (wait_of w)) waits
+
+one_more : (tape : List Move) (i : ℕ) (by : Move) → i < length tape → by ≡ get_or tape i by → take (i + 1) tape ≡ take i tape ++ by ∷ []
+one_more tape i by lt is = rw add-one (more tape i by lt is)
+  where
+    more : (tape : List Move) (i : ℕ) (by : Move) → i < length tape → by ≡ get_or tape i by → take (suc i) tape ≡ take i tape ++ by ∷ []
+    more [] i by lt is = absurd (omega arith)
+    more (w ∷ tape) zero by lt is = ap (λ z. z ∷ []) (sym is)
+    more (w ∷ tape) (suc i) by lt is = ap (λ l. w ∷ l) (more tape i by (omega (arith, lt)) is)
+
+got : (tape : List Move) (i : ℕ) (by : Move) → i < length tape → by ≡ get_or tape i by → slice_get tape i ≡ Some by
+got [] i by lt is = absurd (omega arith)
+got (w ∷ tape) zero by lt is = ap Some (sym is)
+got (w ∷ tape) (suc i) by lt is = got tape i by (omega (arith, lt)) is
+
+module _ (h : Held) (source : List ℕ) (file : File) (t : Table) (names : Names) (valid : IsValid (policy_of h.states.policy))
+    (lists : AreLists (uses_of (policy_of h.states.policy) h.graph.nodes.items) (lists_of h.states)) (drawn : IsGraph (names_of (policy_of h.states.policy)) source file h.graph)
+    (run : IsRunnable (plan_of (names_of (policy_of h.states.policy)) source file)) (assigns : AssignsNames source file) (good : IsGoodTable (game_of h) t) where
+  abbrev policy : PlainPolicy
+  policy = policy_of h.states.policy
+
+  abbrev g : Game
+  g = game_of h
+
+  abbrev plan : Plan
+  plan = plan_here h source file
+
+  abbrev held : ℕ → Caps
+  held = caps_at (lists_of h.states)
+
+  of : IsGameOf (problem_of policy source file) g
+  of = game_is h valid lists source file drawn run assigns
+
+  holds : (q : ℕ) (w : Word) (c : Caps) → Reached g.policy g.spots g.states q w c → held q ≡ c
+  holds q w c r =
+      let uses = uses_of policy h.graph.nodes.items in
+      let v = lists_of h.states in
+      caps_meant uses v lists q w c
+      (reached_means policy (spots h.graph policy) (states_of v) (Means uses v) (states_are uses v lists (spots h.graph policy) (has policy h.graph valid source file drawn assigns)) q w c r)
+
+  safe : Sound (problem_of policy source file) t
+  safe = sound (Reached g.policy g.spots g.states) (problem_of policy source file) g t refl of.states of.laid (good_closed g t good) valid.few_limits
+
+  abbrev Keeps : List Move → PlaceData → List WaitData → List ℕ → List ℕ → Type 0
+  Keeps words place waits old new = LoopKeeps names h t plan words place waits old new
+
+  pub loop_begun : (here : HereData) (waits : List WaitData) (old new : List ℕ) → Arrives names g t held (start_here g t) (here_of here) old new → IsHere g (here_of here) → waits ≡ []
+      → Keeps [] (At here) waits old new
+  loop_begun here waits old new a there none =
+      subst (λ ws. Keeps [] (At here) ws old new) (sym none)
+      (record { run = begun names g t plan of.states of.laid of.routines held holds safe (here_of here) old new a; there = there; waiting = All-nil (λ w. IsWait g (wait_of w)) })
+
+  pub loop_went : (tape : List Move) (i : ℕ) (by : Move) (here : HereData) (p place : PlaceData) (o : Option PlaceData) (waits waits2 : List WaitData) (old mid new : List ℕ) → i < length tape
+      → by ≡ get_or tape i by → p ≡ At here → o ≡ Some place → Keeps (take i tape) p waits old mid
+      → Answered names g t held h.graph.main (here_of here) by o (innermost waits) (innermost waits2) mid new
+      → IsPlace g (place_in place) → All (λ w. IsWait g (wait_of w)) waits2 → Keeps (take (i + 1) tape) place waits2 old new
+  loop_went tape i by here p place o waits waits2 old mid new lt is ep eo k0 a there all =
+      let k = subst (λ z. Keeps (take i tape) z waits old mid) ep k0 in
+      let w = subst (λ z. Answered names g t held h.graph.main (here_of here) by z (innermost waits) (innermost waits2) mid new) eo a in
+      let n = w.0 in
+      let go2 = subst (λ main. Goes names g t held n (innermost waits) (innermost waits2) (place_in place)
+      (mid ++ lines_here names g.policy main (slice_get g.spots (here_of here).pos) by) new) (sym of.laid.main) w.2 in
+      subst (λ words. Keeps words place waits2 old new) (sym (one_more tape i by lt is))
+      (record {
+        run = went names g t plan of.states of.laid of.routines held holds safe (take i tape) (here_of here) (innermost waits) (innermost waits2) (place_in place) old mid new by n k.run w.1 go2;
+        there = there;
+        waiting = all;
+      })
+
+  abbrev Puts : List Move → End → List ℕ → List ℕ → Type 0
+  Puts tape end old new = Tells (problem_of policy source file) (trace_names_of source file plan) t tape end old new
+
+  named : (tape : List Move) (end : End) (old new : List ℕ) → names ≡ trace_names_of source file plan → Tells (problem_of policy source file) names t tape end old new → Puts tape end old new
+  named tape end old new e k = subst (λ ns. Tells (problem_of policy source file) ns t tape end old new) e k
+
+  pub loop_bad : (tape : List Move) (i : ℕ) (by : Move) (here : HereData) (p : PlaceData) (o : Option PlaceData) (waits waits2 : List WaitData) (old mid new : List ℕ)
+      → names ≡ trace_names_of source file plan → i < length tape → by ≡ get_or tape i by → p ≡ At here → o ≡ None → Keeps (take i tape) p waits old mid
+      → Answered names g t held h.graph.main (here_of here) by o (innermost waits) (innermost waits2) mid new → Puts tape (BadMove i) old new
+  loop_bad tape i by here p o waits waits2 old mid new e lt is ep eo k0 a0 =
+      let k = subst (λ z. Keeps (take i tape) z waits old mid) ep k0 in
+      let a = subst (λ z. Answered names g t held h.graph.main (here_of here) by z (innermost waits) (innermost waits2) mid new) eo a0 in
+      named tape (BadMove i) old new e
+      (subst (λ l. Tells (problem_of policy source file) names t tape (BadMove i) old l) (sym a.1)
+      (bad_word names g t plan of.states of.laid of.routines held holds safe tape i by (here_of here) (innermost waits) old mid k.run (got tape i by lt is) a.0))
+
+  pub loop_past : (tape : List Move) (i : ℕ) (by : Move) (p : PlaceData) (waits : List WaitData) (old new : List ℕ) → names ≡ trace_names_of source file plan → i < length tape
+      → by ≡ get_or tape i by → p ≡ Over → Keeps (take i tape) p waits old new → Puts tape (BadMove i) old new
+  loop_past tape i by p waits old new e lt is ep k0 =
+      let k = subst (λ z. Keeps (take i tape) z waits old new) ep k0 in
+      named tape (BadMove i) old new e (past_end names g t plan of.states of.laid of.routines held holds safe tape i by (innermost waits) old new k.run (got tape i by lt is))
+
+  all_read : (tape : List Move) (i : ℕ) (p : PlaceData) (waits : List WaitData) (old new : List ℕ) → length tape ≤ i → Keeps (take i tape) p waits old new → Keeps tape p waits old new
+  all_read tape i p waits old new le k = subst (λ l. Keeps l p waits old new) (take_all i tape le) k
+
+  pub loop_spent : (tape : List Move) (i : ℕ) (here : HereData) (p : PlaceData) (waits : List WaitData) (old new : List ℕ) → names ≡ trace_names_of source file plan → length tape ≤ i
+      → p ≡ At here → Keeps (take i tape) p waits old new → Puts tape TapeSpent old new
+  loop_spent tape i here p waits old new e le ep k0 =
+      let k = all_read tape i (At here) waits old new le (subst (λ z. Keeps (take i tape) z waits old new) ep k0) in
+      named tape TapeSpent old new e (spent names g t plan of.states of.laid of.routines held holds safe tape (here_of here) (innermost waits) old new k.run)
+
+  pub loop_over : (tape : List Move) (i : ℕ) (p : PlaceData) (waits : List WaitData) (old new : List ℕ) → names ≡ trace_names_of source file plan → length tape ≤ i
+      → p ≡ Over → Keeps (take i tape) p waits old new → Puts tape Ended old new
+  loop_over tape i p waits old new e le ep k0 =
+      let k = all_read tape i Over waits old new le (subst (λ z. Keeps (take i tape) z waits old new) ep k0) in
+      named tape Ended old new e (over names g t plan of.states of.laid of.routines held holds safe tape (innermost waits) old new k.run)

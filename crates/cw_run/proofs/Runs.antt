@@ -1,0 +1,381 @@
+-- A run as far as it has gone: its steps, the words that were read, the text that was told, and where it is.
+use Rattle.std.proofs.Common.{◌≡◌, ℕ, suc, ◌+◌, List, [], ◌∷◌, ◌++◌, map, take, Bool, true, false, Option, Some, None, is_some, option_map, option_and_then, refl, sym, ap, ap₂, ◌∙◌, subst, append-nil, append_assoc, inl, inr}
+use Rattle.std.specs.Prelude.{slice_get}
+use Rattle.std.proofs.lemmas.Option.{none-some, same_Some}
+use Rattle.cw_core.specs.declared.ids.MemId.{MemId}
+use Rattle.cw_rights.specs.declared.capabilities.Caps.{Caps}
+use Rattle.cw_rights.specs.declared.capabilities.Primitive.{Primitive}
+use Rattle.cw_rights.specs.Words.{Word}
+use Rattle.cw_certs.specs.declared.moves.Move.{Move}
+use Rattle.cw_certs.specs.declared.moves.Move.TheVariants.{Skip, Try, Refuse, On, Stop}
+use Rattle.cw_certs.specs.declared.rows.TryRow.{TryRow}
+use Rattle.cw_certs.specs.Tables.{Table, try_at, into_at, back_at, state_of}
+use Rattle.cw_syntax.specs.Plans.{Plan}
+use Rattle.cw_syntax.specs.Frames.{Frame}
+use Rattle.cw_model.specs.Boards.{seam_in, Problem, Phase, Visit, Asked, Refused, Free, FreeSplit, Over, Board, Party, Weaver, Environment, Moves, moved, turn_of}
+use Rattle.cw_model.specs.Runs.{mem_in, try_of, try_in, refused_with, stays_where, stays_unless, memories, State, start_state, WovenStep, Goes, WovenRun, last, reached, Sound}
+use Rattle.cw_game.specs.declared.spots.Spot.{Spot}
+use Rattle.cw_game.specs.declared.spots.Spot.TheVariants.{Step as StepSpot, Branch, Exit, Visit as VisitSpot, Asked as AskedSpot, Label as LabelSpot, Open as OpenSpot, Close as CloseSpot, Call as CallSpot, SplitCall}
+use Rattle.cw_game.specs.Games.{AreStates, Game, Ret, Config, at_pair, leads_in, leads_to, bad_in, weavers_in, resumed, returned}
+use Rattle.cw_game.specs.Reached.{Reached}
+use Rattle.cw_game.specs.Places.{IsLaidOut, HasRoutines}
+use Rattle.cw_game.specs.Pairs.{call_spot, kept_at}
+use Rattle.cw_game.specs.Standing.{StandsOn}
+use Rattle.cw_game.proofs.Link.{Stands, party_of, turn_is, starts_at, board_moves, environments_turn, weavers_turn}
+use Rattle.cw_trace.specs.Lines.{try_line, stop_line}
+use Rattle.cw_trace.specs.Traces.{Names, step_lines, lines_from}
+use Rattle.cw_trace.specs.Steps.{Step, Follows, state_after, word_by, words_of, taken_of, run_trace}
+use Rattle.cw_trace.proofs.Grown.{lines_grown, follows_grown, state_grown, words_grown, board_of_run, taken_grown}
+use Rattle.cw_run.specs.Walks.{Here, Wait, ret_of, config_of, mems_of, place, within, spot_lines, label_text, Next, To, Into, Back, Over as AllOver, Resumed, Stopped, at_pos}
+use Rattle.cw_run.specs.Walks.{called, returning, ended, going_on, refusing, asked, next_of, stop_lines, place_of, waits_after, Rests, stays as rests_stays, tries as rests_tries, skips as rests_skips}
+use Rattle.cw_run.proofs.Sees.{is_inner, Sees, sees_visit, sees_asked, sees_step, sees_branch, sees_label, sees_open, sees_close, sees_call, sees_split, sees_end, see, below, board_on, told_by, stays}
+use Rattle.cw_run.proofs.Sits.{mapped, chained, Waiting, Least, Sits, Stepped, label_of, arrived, inner_step}
+use Rattle.cw_run.proofs.Calls.{Finishes, call_step, return_step, end_step}
+use Rattle.cw_run.proofs.Refusals.{Refuses, Resumes, Stops, resume_step, stop_step}
+use Rattle.cw_run.proofs.Moveless.{Safe}
+
+-- what the weaver remembers after a skip and after a try
+abbrev weaver_memory : Move → Bool → ℕ → Option ℕ
+weaver_memory Skip tries m = stays_unless tries m
+weaver_memory Try tries m = stays_where tries m
+weaver_memory _ tries m = None
+
+-- what a visit is at the front
+record IsVisitHere (j i : ℕ) (a : Primitive) (frame : Frame) (phase : Phase) : Type 0 where
+  pub later : List Primitive
+  pub stage : ℕ
+  pub what : Primitive
+  pub is_phase : phase ≡ Visit stage what later
+  pub is_stage : stage ≡ i
+  pub is_seam : seam_in frame ≡ Some j
+
+abbrev visit_key : Spot → ℕ × ℕ
+visit_key (VisitSpot j i a) = (j, i)
+visit_key s = (0, 0)
+
+visit_here : (j i : ℕ) (a : Primitive) (frame : Frame) (phase : Phase) (spot : Spot) → spot ≡ VisitSpot j i a → Sees frame phase spot → IsVisitHere j i a frame phase
+visit_here j i a frame _ _ e (sees_visit {frame = fr} {j = j2} {i = i2} {a = a2} {later = later} s) =
+    let k = ap visit_key e in
+    record { later = later; stage = i2; what = a2; is_phase = refl; is_stage = ap (λ (x : ℕ × ℕ). x.1) k; is_seam = s ∙ ap (λ (x : ℕ × ℕ). Some x.0) k }
+visit_here j i a frame _ _ e (sees_asked s) = cc
+visit_here j i a _ _ _ e (sees_step s) = cc
+visit_here j i a _ _ _ e (sees_branch s) = cc
+visit_here j i a _ _ _ e sees_label = cc
+visit_here j i a _ _ _ e sees_open = cc
+visit_here j i a _ _ _ e sees_close = cc
+visit_here j i a _ _ _ e sees_call = cc
+visit_here j i a _ _ _ e sees_split = cc
+visit_here j i a _ _ _ e sees_end = cc
+
+-- The states of a list of steps are a run, and the last of them is where it comes to.
+goes_of : (p : Problem) (t : Table) (s : State) (steps : List Step) → Follows p t s steps → Goes p t s (map (λ step. step.next) steps)
+goes_of p t s [] h = tt
+goes_of p t s (step ∷ later) h = ((step.by, h.0), goes_of p t step.next later h.1)
+
+last_of : (s : State) (steps : List Step) → last s (map (λ step. step.next) steps) ≡ state_after s steps
+last_of s [] = refl
+last_of s (step ∷ later) = last_of step.next later
+
+pub safe_of : (p : Problem) (t : Table) → Sound p t → (steps : List Step) → Follows p t (start_state p t) steps → Safe p t (state_after (start_state p t) steps)
+safe_of p t sound steps h =
+    let run = map (λ (step : Step). step.next) steps in
+    let w = goes_of p t (start_state p t) steps h in
+    subst (λ s. Safe p t s) (last_of (start_state p t) steps)
+    (record { meets = sound.meets run w; answers = λ m next e mv. sound.answers run m next w e mv; chooses = λ e. sound.chooses run w e })
+
+module _ (names : Names) (g : Game) (t : Table) (plan : Plan) where
+  abbrev problem_on : Problem
+  problem_on = record { plan = plan; policy = g.policy }
+
+  -- The steps so far, with what they read and tell.
+  pub record HasSteps (words : List Move) (text : List ℕ) (s : State) : Type 0 where
+    pub steps : List Step
+    pub follows : Follows problem_on t (start_state problem_on t) steps
+    pub reads : words_of (start_state problem_on t) steps ≡ words
+    pub tells : run_trace names problem_on steps ≡ text
+    pub comes : state_after (start_state problem_on t) steps ≡ s
+
+  pub record IsRunAt (words : List Move) (text : List ℕ) (h : Here) (waits : List Wait) : Type 0 where
+    pub state : State
+    pub run : HasSteps words text state
+    pub sits : Sits g state h waits
+
+  pub record IsOver (words : List Move) (text : List ℕ) : Type 0 where
+    pub state : State
+    pub run : HasSteps words text state
+    pub over : state.board.phase ≡ Over
+
+module _ (names : Names) (g : Game) (t : Table) (plan : Plan) (right : AreStates g.policy g.spots g.states (Reached g.policy g.spots g.states)) (laid : IsLaidOut plan g) (has : HasRoutines plan g)
+    (held : ℕ → Caps) (holds : (q : ℕ) (w : Word) (c : Caps) → Reached g.policy g.spots g.states q w c → held q ≡ c) where
+  abbrev pub problem : Problem
+  problem = record { plan = plan; policy = g.policy }
+
+  abbrev start : State
+  start = start_state problem t
+
+  abbrev label : Here → List ℕ
+  label h = label_of names g t plan right laid has held holds h
+
+  abbrev StepTo : State → Move → List ℕ → Here → List Wait → Type 0
+  StepTo s by lines to waits = Stepped names g t plan right laid has held holds s by lines to waits
+
+  abbrev Has : List Move → List ℕ → State → Type 0
+  Has words text s = HasSteps names g t plan words text s
+
+  abbrev IsRun : List Move → List ℕ → Here → List Wait → Type 0
+  IsRun words text h waits = IsRunAt names g t plan words text h waits
+
+  abbrev step_by : Move → State → Step
+  step_by by next = record { by = by; next = next }
+
+  -- one step more
+  pub grown : (words : List Move) (text lines : List ℕ) (s next : State) (by : Move) → Has words text s → WovenStep problem t s by next → step_lines names problem s.board by next.board ≡ lines
+      → Has (words ++ word_by (turn_of s.board.phase) by) (text ++ lines) next
+  grown words text lines s next by h step e =
+      let one = step_by by next in
+      record {
+        steps = h.steps ++ one ∷ [];
+        follows = follows_grown problem t start h.steps one h.follows (subst (λ z. WovenStep problem t z by next) (sym h.comes) step);
+        reads = words_grown start h.steps one ∙ ap₂ (λ l (z : State). l ++ word_by (turn_of z.board.phase) by) h.reads h.comes;
+        tells = ap (λ l. lines_from names problem start.board l) (taken_grown h.steps one)
+            ∙ lines_grown names problem start.board (map taken_of h.steps) (taken_of one)
+            ∙ ap₂ (λ l (b : Board). l ++ step_lines names problem b by next.board) h.tells (board_of_run start h.steps ∙ ap (λ (z : State). z.board) h.comes)
+            ∙ ap (λ l. text ++ l) e;
+        comes = state_grown start h.steps one;
+      }
+
+  with_word : (words : List Move) (text : List ℕ) (s from : State) (by : Move) → turn_of from.board.phase ≡ Some Environment → Has (words ++ word_by (turn_of from.board.phase) by) text s
+      → Has (words ++ by ∷ []) text s
+  with_word words text s from by e h = subst (λ o. Has (words ++ word_by o by) text s) e h
+
+  without_word : (words : List Move) (text : List ℕ) (s from : State) (by : Move) → turn_of from.board.phase ≡ Some Weaver → Has (words ++ word_by (turn_of from.board.phase) by) text s
+      → Has words text s
+  without_word words text s from by e h = subst (λ l. Has l text s) (append-nil words) (subst (λ o. Has (words ++ word_by o by) text s) e h)
+
+  abbrev step_text : List ℕ → List ℕ → List ℕ → List ℕ
+  step_text text lines more = text ++ (lines ++ more)
+
+  -- the environment's step
+  moved_on : (words : List Move) (text lines : List ℕ) (s : State) (by : Move) (to : Here) (waits : List Wait) → turn_of s.board.phase ≡ Some Environment → Has words text s → StepTo s by lines to waits
+      → IsRun (words ++ by ∷ []) (step_text text lines (label to)) to waits
+  moved_on words text lines s by to waits turn h k =
+      record { state = k.next; run = with_word words (step_text text lines (label to)) k.next s by turn (grown words text (lines ++ label to) s k.next by h k.steps k.tells); sits = k.sits }
+
+  -- The weaver's steps.
+  visited_on : (frame : Frame) (frames : List Frame) (kept : List (Option Caps)) (caps : Caps) (word : Word) (phase : Phase) (h : Here) (waits : List Wait) (j i : ℕ) (a : Primitive)
+      (by : Move) (n : ℕ) → let b = board_on (frame ∷ frames) kept caps word phase in StandsOn (Least g) g (frame ∷ frames) kept caps word phase h.pos h.state (map ret_of waits)
+      → Waiting frames kept waits → slice_get g.spots h.pos ≡ Some (VisitSpot j i a)
+      → leads_in g h.pos h.state (map ret_of waits) (Some (VisitSpot j i a)) by ≡ Some (at_pair n h.state (map ret_of waits))
+      → ((stage : ℕ) (what : Primitive) (later : List Primitive) (b : Board)
+      → memories problem t b (mems_of h waits) (Visit stage what later) by ≡ option_map (λ m. m ∷ map (λ (w : Wait). w.mem) waits)
+      (weaver_memory by (is_some (try_of t b stage h.mem)) h.mem))
+      → weaver_memory by (is_some (try_at t j i h.mem)) h.mem ≡ Some h.mem
+      → StepTo (record { board = b; mems = mems_of h waits }) by [] (at_pos n h) waits
+  visited_on frame frames kept caps word phase h waits j i a by n stands waiting es leads memory there =
+      let b = board_on (frame ∷ frames) kept caps word phase in
+      let c = config_of h waits in
+      let rets = map ret_of waits in
+      let ms : List ℕ = map (λ (w : Wait). w.mem) waits in
+      let sn = see (Least g) g.spots g.policy (g.exit stands.0) frame caps word phase h.pos h.state stands.1 in
+      let e : sn.0 ≡ VisitSpot j i a = same_Some sn.0 (VisitSpot j i a) (sym sn.1 ∙ es) in
+      let v = visit_here j i a frame phase sn.0 e sn.2 in
+      let sees : Sees frame phase (VisitSpot j i a) = subst (λ o. Sees frame phase o) e sn.2 in
+      let good : bad_in g h.state (slice_get g.spots h.pos) ≡ false = ap (bad_in g h.state) es in
+      let to = board_moves (Least g) g plan right laid has b c (at_pair n h.state rets) by stands good (ap (λ o. leads_in g h.pos h.state rets o by) es ∙ leads) in
+      let stay = stays names problem t frame frames kept caps word phase by (VisitSpot j i a) to.0 sees refl to.1.1 in
+      let mem : memories problem t b (h.mem ∷ ms) phase by ≡ Some (h.mem ∷ ms) =
+      ap (λ ph. memories problem t b (h.mem ∷ ms) ph by) v.is_phase ∙ memory v.stage v.what v.later b
+      ∙ ap₂ (λ (o : Option ℕ) (stage : ℕ). option_map (λ m. m ∷ ms) (weaver_memory by (is_some (try_in t o stage h.mem)) h.mem)) v.is_seam v.is_stage
+      ∙ ap (option_map (λ m. m ∷ ms)) there in
+      record {
+        next = record { board = to.0; mems = h.mem ∷ ms };
+        steps = (to.1, mem);
+        sits = record { stands = to.2; mems = refl; waiting = subst (λ f. Waiting f to.0.kept waits) (sym stay.0) (subst (λ k. Waiting frames k waits) (sym stay.1) waiting) };
+        tells = ap₂ (λ x y. x ++ y) (told_by names problem t frame frames kept caps word phase by (VisitSpot j i a) sees)
+            (arrived names g t plan right laid has held holds to.0 (at_pos n h) waits to.2);
+      }
+
+  visited : (s : State) (h : Here) (waits : List Wait) (j i : ℕ) (a : Primitive) (by : Move) (n : ℕ) → Sits g s h waits → slice_get g.spots h.pos ≡ Some (VisitSpot j i a)
+      → leads_in g h.pos h.state (map ret_of waits) (Some (VisitSpot j i a)) by ≡ Some (at_pair n h.state (map ret_of waits))
+      → ((stage : ℕ) (what : Primitive) (later : List Primitive) (b : Board)
+      → memories problem t b (mems_of h waits) (Visit stage what later) by ≡ option_map (λ m. m ∷ map (λ (w : Wait). w.mem) waits)
+      (weaver_memory by (is_some (try_of t b stage h.mem)) h.mem))
+      → weaver_memory by (is_some (try_at t j i h.mem)) h.mem ≡ Some h.mem → StepTo s by [] (at_pos n h) waits
+  visited s h waits j i a by n sits es leads memory there =
+      subst (λ ms. StepTo (record { board = s.board; mems = ms }) by [] (at_pos n h) waits) (sym sits.mems)
+      (on s.board.stack s.board.kept s.board.caps s.board.word s.board.phase sits.stands sits.waiting)
+    where
+      on : (stack : List Frame) (kept : List (Option Caps)) (caps : Caps) (word : Word) (phase : Phase) → StandsOn (Least g) g stack kept caps word phase h.pos h.state (map ret_of waits)
+          → Waiting (below stack) kept waits → StepTo (record { board = board_on stack kept caps word phase; mems = mems_of h waits }) by [] (at_pos n h) waits
+      on [] kept caps word phase stands waiting = absurd stands
+      on (frame ∷ frames) kept caps word phase stands waiting = visited_on frame frames kept caps word phase h waits j i a by n stands waiting es leads memory there
+
+  weaved : (words : List Move) (text : List ℕ) (s : State) (h to : Here) (waits : List Wait) (by : Move) (j i : ℕ) (a : Primitive) → slice_get g.spots h.pos ≡ Some (VisitSpot j i a)
+      → Stands (Least g) g s.board (config_of h waits) → Has words (text ++ label h) s → StepTo s by [] to waits → IsRun words (text ++ label to) to waits
+  weaved words text s h to waits by j i a es stands run k =
+      let turn = weavers_turn (Least g) g plan right laid has s.board (config_of h waits) stands (ap weavers_in es) in
+      let none : text ++ label h ≡ text = ap (λ o. text ++ label_text names g.policy (held h.state) o) es ∙ append-nil text in
+      let r = subst (λ l. Has words l s) none run in
+      record { state = k.next; run = without_word words (text ++ label to) k.next s by turn (grown words text (label to) s k.next by r k.steps k.tells); sits = k.sits }
+
+  -- after a try it is the environment's turn
+  tried_turn : (b next : Board) (phase : Phase) → moved problem b phase Try ≡ Some next → turn_of next.phase ≡ Some Environment
+  tried_turn b next (Visit i a later) e = ap (λ (n : Board). turn_of n.phase) (sym (same_Some _ next e))
+  tried_turn b next (Asked i a later) e = absurd (none-some next e)
+  tried_turn b next (Refused i a later) e = absurd (none-some next e)
+  tried_turn b next Free e = absurd (none-some next e)
+  tried_turn b next FreeSplit e = absurd (none-some next e)
+  tried_turn b next Over e = absurd (none-some next e)
+
+  party_false : (yes : Bool) → Some (party_of yes) ≡ Some Environment → yes ≡ false
+  party_false true e = let k = same_Some _ _ e in cc
+  party_false false e = refl
+
+  -- The weaver comes to rest, and then it isn't its turn.
+  abbrev pub AtRest : List Move → List ℕ → Here → List Wait → Type 0
+  AtRest words text h waits = IsRun words text h waits × (weavers_in (slice_get g.spots h.pos) ≡ false)
+
+  rested_from : (words : List Move) (text : List ℕ) (h : Here) (waits : List Wait) (p n : ℕ) → Rests g t h.mem p n → IsRun words (text ++ label (at_pos p h)) (at_pos p h) waits
+      → AtRest words (text ++ label (at_pos n h)) (at_pos n h) waits
+  rested_from words text h waits _ _ (rests_stays p e) r = (r, e)
+  rested_from words text h waits _ _ (rests_tries p j i a es e) r =
+      let step = visited r.state (at_pos p h) waits j i a Try (p + 1) r.sits es refl (λ stage what later b. refl) (ap (λ y. stays_where y h.mem) e) in (
+        weaved words text r.state (at_pos p h) (at_pos (p + 1) h) waits Try j i a es r.sits.stands r.run step,
+        party_false (weavers_in (slice_get g.spots (p + 1)))
+            (sym (turn_is (Least g) g plan right laid has step.next.board (config_of (at_pos (p + 1) h) waits) step.sits.stands)
+            ∙ tried_turn r.state.board step.next.board r.state.board.phase step.steps.0.1),
+      )
+  rested_from words text h waits _ _ (rests_skips p n j i a es e rest) r =
+      rested_from words text h waits (p + 2) n rest
+      (weaved words text r.state (at_pos p h) (at_pos (p + 2) h) waits Skip j i a es r.sits.stands r.run
+      (visited r.state (at_pos p h) waits j i a Skip (p + 2) r.sits es refl (λ stage what later b. refl) (ap (λ y. stays_unless y h.mem) e)))
+
+  pub rested : (words : List Move) (text : List ℕ) (h here : Here) (waits : List Wait) → IsRun words (text ++ label h) h waits → Rests g t h.mem h.pos here.pos → here ≡ at_pos here.pos h
+      → AtRest words (text ++ label here) here waits
+  rested words text h here waits r w e =
+      subst (λ z. AtRest words (text ++ label z) z waits) (sym e) (rested_from words text h waits h.pos here.pos w r)
+
+  -- Where a move of the environment leads.
+  finished : (words : List Move) (text lines : List ℕ) (s : State) (by : Move) → turn_of s.board.phase ≡ Some Environment → Has words text s
+      → Finishes names g t plan right laid has held holds s by lines → IsOver names g t plan (words ++ by ∷ []) (text ++ lines)
+  finished words text lines s by turn h k =
+      record { state = k.next; run = with_word words (text ++ lines) k.next s by turn (grown words text lines s k.next by h k.steps k.tells); over = k.over }
+
+  -- what a refusal leaves, with the weaver's move after it
+  refusal_grown : (words : List Move) (text : List ℕ) (s : State) (j i : ℕ) (a : Primitive) → turn_of s.board.phase ≡ Some Environment → Has words text s
+      → (r : Refuses names g t plan right laid has held holds s j i a) → Has (words ++ Refuse ∷ []) (text ++ try_line j i a false) r.first
+  refusal_grown words text s j i a turn h r =
+      with_word words _ r.first s Refuse turn (grown words text (try_line j i a false) s r.first Refuse h r.refuses r.told)
+
+  resumed_on : (words : List Move) (text : List ℕ) (s : State) (j i : ℕ) (a : Primitive) (to : Here) (waits : List Wait) → turn_of s.board.phase ≡ Some Environment → Has words text s
+      → Resumes names g t plan right laid has held holds s j i a to waits → IsRun (words ++ Refuse ∷ []) (step_text text (try_line j i a false) (label to)) to waits
+  resumed_on words text s j i a to waits turn h k =
+      let line = try_line j i a false in
+      let first = refusal_grown words text s j i a turn h k.refusal in
+      let all = words ++ Refuse ∷ [] in
+      let two = grown all (text ++ line) (label to) k.refusal.first k.then.next Skip first k.then.steps k.then.tells in
+      let three = without_word all ((text ++ line) ++ label to) k.then.next k.refusal.first Skip (ap turn_of k.refusal.is_refused) two in
+      record { state = k.then.next; run = subst (λ l. Has all l k.then.next) (append_assoc text line (label to)) three; sits = k.then.sits }
+
+  stopped_on : (words : List Move) (text : List ℕ) (s : State) (j i : ℕ) (a : Primitive) → turn_of s.board.phase ≡ Some Environment → Has words text s
+      → Stops names g t plan right laid has held holds s j i a
+      → IsOver names g t plan (words ++ Refuse ∷ []) (step_text text (try_line j i a false) (stop_line j))
+  stopped_on words text s j i a turn h k =
+      let line = try_line j i a false in
+      let first = refusal_grown words text s j i a turn h k.refusal in
+      let all = words ++ Refuse ∷ [] in
+      let halt = stop_line j in
+      let two = grown all (text ++ line) halt k.refusal.first k.then.next Stop first k.then.steps k.then.tells in
+      let three = without_word all ((text ++ line) ++ halt) k.then.next k.refusal.first Stop (ap turn_of k.refusal.is_refused) two in
+      record { state = k.then.next; run = subst (λ l. Has all l k.then.next) (append_assoc text line halt) three; over = k.then.over }
+
+  -- What the next place is told of: the run goes on there, or is over.
+  abbrev pub LeadsTo : List Move → List ℕ → List ℕ → Next → Option Here → List Wait → Type 0
+  LeadsTo words text lines n (Some to) waits = IsRun words (text ++ (lines ++ (stop_lines n ++ label to))) to waits
+  LeadsTo words text lines n None waits = IsOver names g t plan words (text ++ (lines ++ stop_lines n))
+
+  abbrev Leads : List Move → List ℕ → Spot → Move → List Wait → Next → Type 0
+  Leads words text spot by waits n = LeadsTo (words ++ by ∷ []) text (spot_lines names g.policy plan.main spot by) n (place_of n) (waits_after n waits)
+
+  module _ (words : List Move) (text : List ℕ) (h : Here) (waits : List Wait) (run : IsRun words text h waits) where
+    turn_here : (spot : Spot) → slice_get g.spots h.pos ≡ Some spot → weavers_in (Some spot) ≡ false → turn_of run.state.board.phase ≡ Some Environment
+    turn_here spot es env = environments_turn (Least g) g plan right laid has run.state.board (config_of h waits) run.sits.stands (ap weavers_in es ∙ env)
+
+    inner_leads : (spot : Spot) (by : Move) (n : Next) → slice_get g.spots h.pos ≡ Some spot → is_inner spot ≡ true → weavers_in (Some spot) ≡ false
+        → option_map To (within g t h spot by) ≡ Some n → Leads words text spot by waits n
+    inner_leads spot by n es inner env e =
+        let m = mapped To (within g t h spot by) n e in
+        subst (λ z. Leads words text spot by waits z) m.2
+        (moved_on words text (spot_lines names g.policy plan.main spot by) run.state by m.0 waits (turn_here spot es env) run.run
+        (inner_step names g t plan right laid has held holds run.state h waits by spot m.0 run.sits es inner env m.1))
+
+    call_leads_to : (split : Bool) (j f n2 : ℕ) (by : Move) (n : Next) → slice_get g.spots h.pos ≡ Some (call_spot split j f n2)
+        → called g t h j f n2 split by ≡ Some n → Leads words text (call_spot split j f n2) by waits n
+    call_leads_to split j f n2 On n es e =
+        let m = mapped (λ m. Into (place (g.entry f, h.state) m) (record { seam = j; split = split; back = n2; state = h.state; mem = h.mem }))
+        (option_and_then (λ r. mem_in t r.callee) (into_at t j split h.mem)) n e in
+        subst (λ z. Leads words text (call_spot split j f n2) On waits z) m.2
+        (moved_on words text (spot_lines names g.policy plan.main (call_spot split j f n2) On) run.state On (place (g.entry f, h.state) m.0)
+        (record { seam = j; split = split; back = n2; state = h.state; mem = h.mem } ∷ waits)
+        (turn_here (call_spot split j f n2) es (no_visit split)) run.run
+        (call_step names g t plan right laid has held holds run.state h waits split j f n2 m.0 run.sits es m.1))
+      where
+        no_visit : (split : Bool) → weavers_in (Some (call_spot split j f n2)) ≡ false
+        no_visit true = refl
+        no_visit false = refl
+    call_leads_to split j f n2 _ n es e = absurd (none-some n e)
+
+    refusal_leads : (j i : ℕ) (a : Primitive) (pair : ℕ × ℕ) (n : Next) → slice_get g.spots h.pos ≡ Some (AskedSpot j i a) → resumed g h.pos h.state ≡ Some pair
+        → (row : Option TryRow) → try_at t j i h.mem ≡ row → refusing t j pair row ≡ Some n → Leads words text (AskedSpot j i a) Refuse waits n
+    refusal_leads j i a pair n es er None row e = absurd (none-some n e)
+    refusal_leads j i a pair n es er (Some r) row e = by r.refused refl e
+      where
+        by : (o : Option MemId) → r.refused ≡ o → going_on t j pair o ≡ Some n → Leads words text (AskedSpot j i a) Refuse waits n
+        by None en e =
+            subst (λ z. Leads words text (AskedSpot j i a) Refuse waits z) (same_Some (Stopped j) n e)
+            (stopped_on words text run.state j i a (turn_here (AskedSpot j i a) es refl) run.run
+            (stop_step names g t plan right laid has held holds run.state h waits j i a pair r run.sits es er row en))
+        by (Some m0) en e =
+            let m = mapped (λ n. Resumed (place pair n)) (mem_in t m0) n e in
+            let kept : refused_with t (try_at t j i h.mem) ≡ Some m.0 = ap (refused_with t) row ∙ ap (option_and_then (mem_in t)) en ∙ m.1 in
+            subst (λ z. Leads words text (AskedSpot j i a) Refuse waits z) m.2
+            (resumed_on words text run.state j i a (place pair m.0) waits (turn_here (AskedSpot j i a) es refl) run.run
+            (resume_step names g t plan right laid has held holds run.state h waits j i m.0 a pair run.sits es er kept))
+
+    asked_leads : (j i : ℕ) (a : Primitive) (by : Move) (n : Next) → slice_get g.spots h.pos ≡ Some (AskedSpot j i a) → (o : Option (ℕ × ℕ)) → resumed g h.pos h.state ≡ o
+        → asked g t h (AskedSpot j i a) j i by o ≡ Some n → Leads words text (AskedSpot j i a) by waits n
+    asked_leads j i a Refuse n es (Some pair) er e = refusal_leads j i a pair n es er (try_at t j i h.mem) refl e
+    asked_leads j i a Refuse n es None er e = inner_leads (AskedSpot j i a) Refuse n es refl refl e
+    asked_leads j i a by n es o er e = inner_leads (AskedSpot j i a) by n es refl refl e
+
+  end_leads : (words : List Move) (text : List ℕ) (h : Here) (waits : List Wait) → IsRun words text h waits → (f : ℕ) (by : Move) (n : Next) → slice_get g.spots h.pos ≡ Some (Exit f)
+      → ended g t h waits by ≡ Some n → Leads words text (Exit f) by waits n
+  end_leads words text h [] run f On n es e =
+      subst (λ z. Leads words text (Exit f) On [] z) (same_Some AllOver n e)
+      (subst (λ l. IsOver names g t plan (words ++ On ∷ []) (text ++ l)) (sym (append-nil (spot_lines names g.policy plan.main (Exit f) On)))
+      (finished words text (spot_lines names g.policy plan.main (Exit f) On) run.state On (turn_here words text h [] run (Exit f) es refl) run.run
+      (end_step names g t plan right laid has held holds run.state h f run.sits es)))
+  end_leads words text h (w ∷ waits) run f On n es e =
+      let x = chained (λ exit. option_map (λ m. Back (place (w.back, returned g.states (kept_at w.split w.state) h.state) m))
+      (option_and_then (λ r. mem_in t r.after) (back_at t w.seam w.split w.mem exit))) (state_of t h.mem) n e in
+      let m = mapped (λ m. Back (place (w.back, returned g.states (kept_at w.split w.state) h.state) m))
+      (option_and_then (λ r. mem_in t r.after) (back_at t w.seam w.split w.mem x.0)) n x.2 in
+      subst (λ z. Leads words text (Exit f) On (w ∷ waits) z) m.2
+      (moved_on words text (spot_lines names g.policy plan.main (Exit f) On) run.state On (place (w.back, returned g.states (kept_at w.split w.state) h.state) m.0) waits
+      (turn_here words text h (w ∷ waits) run (Exit f) es refl) run.run
+      (return_step names g t plan right laid has held holds run.state h w waits f x.0 m.0 run.sits es x.1 m.1))
+  end_leads words text h waits run f _ n es e = absurd (none-some n e)
+
+  -- A move that is found leads on.
+  pub leads_on : (words : List Move) (text : List ℕ) (h : Here) (waits : List Wait) → IsRun words text h waits → (spot : Spot) (by : Move) (n : Next)
+      → slice_get g.spots h.pos ≡ Some spot → weavers_in (Some spot) ≡ false → next_of g t h waits spot by ≡ Some n → Leads words text spot by waits n
+  leads_on words text h waits run (CallSpot j f n2) by n es env e = call_leads_to words text h waits run false j f n2 by n es e
+  leads_on words text h waits run (SplitCall j f n2) by n es env e = call_leads_to words text h waits run true j f n2 by n es e
+  leads_on words text h waits run (Exit f) by n es env e = end_leads words text h waits run f by n es e
+  leads_on words text h waits run (AskedSpot j i a) by n es env e = asked_leads words text h waits run j i a by n es (resumed g h.pos h.state) refl e
+  leads_on words text h waits run (VisitSpot j i a) by n es env e = cc
+  leads_on words text h waits run (StepSpot k) by n es env e = inner_leads words text h waits run (StepSpot k) by n es refl refl e
+  leads_on words text h waits run (Branch l r) by n es env e = inner_leads words text h waits run (Branch l r) by n es refl refl e
+  leads_on words text h waits run (LabelSpot j l k) by n es env e = inner_leads words text h waits run (LabelSpot j l k) by n es refl refl e
+  leads_on words text h waits run (OpenSpot j d k) by n es env e = inner_leads words text h waits run (OpenSpot j d k) by n es refl refl e
+  leads_on words text h waits run (CloseSpot j d k) by n es env e = inner_leads words text h waits run (CloseSpot j d k) by n es refl refl e

@@ -1,0 +1,76 @@
+use Rattle.std.proofs.Common.{sym, subst, arith, get_or}
+use Rattle.std.proofs.lemmas.List.{get_or_default}
+use Rattle.cw_certs.specs.declared.moves.Move.TheVariants.{On}
+use Rattle.cw_rights.specs.Policies.{policy_of}
+use Rattle.cw_actions.specs.Scenes.{names_of}
+use Rattle.cw_syntax.specs.Trees.{file_of}
+use Rattle.cw_points.specs.Graphs.{IsGraph}
+use Rattle.cw_trace.specs.Labels.{told}
+use Rattle.std.specs.Prelude.{IfSome}
+use Rattle.cw_product.specs.Product.{game_of}
+use Rattle.cw_run.specs.Walks.{IsPlace, place_in}
+use Rattle.cw_run.proofs.Looping.{loop_begun, loop_went, loop_bad, loop_past, loop_spent, loop_over}
+use Rattle.cw_run.proofs.run.run_woven.Goals as goal
+
+pub loop-i-init : goal.loop-i-init
+loop-i-init c =
+    let q = c.requires in
+    loop_begun c.args.game.now c.args.checked.now.source.now (file_of c.args.checked.now.program) c.args.table.now (told c.in_ok-names.names) q.valid q.lists q.drawn q.runnable q.assigns q.good
+    c.in_ok-begin.field-0 c.new-waits.result.items _ _ c.in_ok-begin.ensures.arrives c.in_ok-begin.ensures.range c.new-waits.ensures.items
+
+pub returns-in-Over : goal.returns-in-Over
+returns-in-Over c =
+    let q = c.requires in
+    let e =
+    c.in_ok-names.ensures.names (names_of (policy_of c.args.game.now.states.policy))
+    (subst (λ gr. IsGraph (names_of (policy_of c.args.game.now.states.policy)) c.args.checked.now.source.now (file_of c.args.checked.now.program) gr) (sym c.graph.ensures) q.drawn) in
+    record {
+      run = loop_past c.args.game.now c.args.checked.now.source.now (file_of c.args.checked.now.program) c.args.table.now (told c.in_ok-names.names) q.valid q.lists q.drawn q.runnable q.assigns
+          q.good c.args.tape.now c.loop-i.i (get_or c.args.tape.now c.loop-i.i On) _ _ _ _ e c.loop-i-test.true (get_or_default c.args.tape.now c.loop-i.i _ _ c.loop-i-test.true) c.in-Over.is
+          c.loop-i.invariant;
+    }
+
+pub returns-in-None : goal.returns-in-None
+returns-in-None c =
+    let q = c.requires in
+    let e =
+    c.in_ok-names.ensures.names (names_of (policy_of c.args.game.now.states.policy))
+    (subst (λ gr. IsGraph (names_of (policy_of c.args.game.now.states.policy)) c.args.checked.now.source.now (file_of c.args.checked.now.program) gr) (sym c.graph.ensures) q.drawn) in
+    record {
+      run = loop_bad c.args.game.now c.args.checked.now.source.now (file_of c.args.checked.now.program) c.args.table.now (told c.in_ok-names.names) q.valid q.lists q.drawn q.runnable q.assigns
+          q.good c.args.tape.now c.loop-i.i _ c.in-At.here _ _ _ c.answer.new.waits.items _ _ _ e c.loop-i-test.true (get_or_default c.args.tape.now c.loop-i.i _ _ c.loop-i-test.true) c.in-At.is c.in-None.is
+          c.loop-i.invariant c.in_ok-next-in-At.ensures.answered;
+    }
+
+pub loop-i-preserved : goal.loop-i-preserved
+loop-i-preserved c =
+    let q = c.requires in
+    loop_went c.args.game.now c.args.checked.now.source.now (file_of c.args.checked.now.program) c.args.table.now (told c.in_ok-names.names) q.valid q.lists q.drawn q.runnable q.assigns q.good
+    c.args.tape.now c.loop-i.i _ c.in-At.here _ c.in-Some.next _ _ _ _ _ _ c.loop-i-test.true (get_or_default c.args.tape.now c.loop-i.i _ _ c.loop-i-test.true) c.in-At.is c.in-Some.is
+    c.loop-i.invariant c.in_ok-next-in-At.ensures.answered
+    (subst (λ o. IfSome o (λ place. IsPlace (game_of c.args.game.now) (place_in place))) c.in-Some.is c.in_ok-next-in-At.ensures.range)
+    c.in_ok-next-in-At.ensures.waits
+
+pub returns-in-At-place : goal.returns-in-At-place
+returns-in-At-place c =
+    let q = c.requires in
+    let e =
+    c.in_ok-names.ensures.names (names_of (policy_of c.args.game.now.states.policy))
+    (subst (λ gr. IsGraph (names_of (policy_of c.args.game.now.states.policy)) c.args.checked.now.source.now (file_of c.args.checked.now.program) gr) (sym c.graph.ensures) q.drawn) in
+    let f = c.loop-i-test.false in
+    record {
+      run = loop_spent c.args.game.now c.args.checked.now.source.now (file_of c.args.checked.now.program) c.args.table.now (told c.in_ok-names.names) q.valid q.lists q.drawn q.runnable q.assigns
+          q.good c.args.tape.now c.loop-i.i c.in-At-place.field-0 _ _ _ _ e (omega (arith, f)) c.in-At-place.is c.loop-i.invariant;
+    }
+
+pub returns : goal.returns
+returns c =
+    let q = c.requires in
+    let e =
+    c.in_ok-names.ensures.names (names_of (policy_of c.args.game.now.states.policy))
+    (subst (λ gr. IsGraph (names_of (policy_of c.args.game.now.states.policy)) c.args.checked.now.source.now (file_of c.args.checked.now.program) gr) (sym c.graph.ensures) q.drawn) in
+    let f = c.loop-i-test.false in
+    record {
+      run = loop_over c.args.game.now c.args.checked.now.source.now (file_of c.args.checked.now.program) c.args.table.now (told c.in_ok-names.names) q.valid q.lists q.drawn q.runnable q.assigns
+          q.good c.args.tape.now c.loop-i.i _ _ _ _ e (omega (arith, f)) c.in-Over-place.is c.loop-i.invariant;
+    }

@@ -1,0 +1,215 @@
+//! The woven run by a tape.
+
+ghost use Rattle.std.specs.Prelude.{◌≡◌, ◌∷◌, ◌<◌, ◌^◌, length, IfOk, IfSome};
+ghost use Rattle.std.specs.List.{All};
+ghost use Rattle.cw_rights.specs.Policies.{policy_of};
+ghost use Rattle.cw_states.specs.States.{lists_of, caps_at};
+ghost use Rattle.cw_product.specs.Product.{game_of};
+ghost use Rattle.cw_rights.specs.Valid.{IsValid};
+ghost use Rattle.cw_actions.specs.Scenes.{names_of};
+ghost use Rattle.cw_syntax.specs.Trees.{file_of};
+ghost use Rattle.cw_syntax.specs.Plans.{plan_of};
+ghost use Rattle.cw_syntax.specs.Runnable.{IsRunnable};
+ghost use Rattle.cw_points.specs.Graphs.{IsGraph};
+ghost use Rattle.cw_positions.specs.Opens.{AssignsNames};
+ghost use Rattle.cw_states.specs.States.{AreLists};
+ghost use Rattle.cw_product.specs.Uses.{uses_of};
+ghost use Rattle.cw_model.specs.Boards.{problem_of};
+ghost use Rattle.cw_game.specs.Conditions.{IsGoodTable};
+ghost use Rattle.cw_trace.specs.Labels.{told, names_of as trace_names_of};
+ghost use Rattle.cw_run.specs.Woven.{end_of, Tells};
+ghost use Rattle.cw_run.specs.Walks.{here_of, wait_of, next_is, innermost, IsHere, IsWait, IsNextIn, IsPlace, Arrives, Goes, Answered, place_in, start_here, without_first};
+ghost use Rattle.cw_game.specs.Games.{Game as GameOf};
+
+use crate::tell::{put_label_here, put_move};
+use crate::walk::{Here, Next, Wait, lead, rest};
+use cw_certs::{Move, WeaverCert};
+use cw_core::NoMemory;
+use cw_product::Game;
+use cw_syntax::checked::Checked;
+use cw_trace::{Names, put_stop, trace_names};
+use std::alloc::Global;
+
+/// How a run by a tape ends.
+#[derive(Clone, Copy, Drop, Debug, PartialEq, Eq)]
+pub enum RunEnd {
+    /// All is over as the tape ends.
+    Ended,
+    /// The tape ends before that.
+    TapeSpent,
+    /// The word with this number, from 0, is no move of the board there.
+    BadMove(u32),
+}
+
+/// Where the run comes to rest after a move to a place, with the label that is reached there.
+fn arrive(
+    game: &Game,
+    table: &WeaverCert,
+    names: &Names,
+    to: Here,
+    text: &mut Vec<u8>,
+) -> Result<Here, NoMemory>
+    requires { IsHere (game_of game.now) (here_of to) }
+    ensures arrives { IfOk result (λ here. Arrives (told names.now) (game_of game.now) table.now (caps_at (lists_of game.now.states)) (here_of to) (here_of here) text.old.items text.new.items) }
+    ensures range { IfOk result (λ here. IsHere (game_of game.now) (here_of here)) }
+{
+    let here = Here {
+        pos: rest(game, table, to.pos, to.mem),
+        state: to.state,
+        mem: to.mem,
+    };
+    put_label_here(names, game, here, text)?;
+    Ok(here)
+}
+
+/// Where a run is.
+#[derive(Clone, Copy, Drop)]
+pub enum Place {
+    /// In a function.
+    At(Here),
+    /// All is over.
+    Over,
+}
+
+/// Where a run is at its start, when the weaver has made its moves.
+fn begin(
+    game: &Game,
+    table: &WeaverCert,
+    names: &Names,
+    text: &mut Vec<u8>,
+) -> Result<Here, NoMemory>
+    ensures arrives { IfOk result (λ here. Arrives (told names.now) (game_of game.now) table.now (caps_at (lists_of game.now.states)) (start_here (game_of game.now) table.now) (here_of here) text.old.items text.new.items) }
+    ensures range { IfOk result (λ here. IsHere (game_of game.now) (here_of here)) }
+{
+    let (pos, state) = game.start();
+    let start = Here {
+        pos,
+        state,
+        mem: table.start(),
+    };
+    arrive(game, table, names, start, text)
+}
+
+/// A call waits.
+#[tactic(auto, using(crate::proofs::Waits::innermost_push))]
+fn remember(waits: &mut Vec<Wait>, wait: Wait) -> Result<(), NoMemory>
+    ensures first { IfOk result (λ _. innermost waits.new.items ≡ wait_of wait ∷ innermost waits.old.items) }
+    ensures all { (g : GameOf) → IfOk result (λ _. All (λ w. IsWait g (wait_of w)) waits.old.items → IsWait g (wait_of wait) → All (λ w. IsWait g (wait_of w)) waits.new.items) }
+{
+    waits.push(wait)?;
+    Ok(())
+}
+
+/// The innermost call waits no more.
+#[tactic(auto, using(crate::proofs::Waits::popped))]
+fn forget(waits: &mut Vec<Wait>)
+    ensures rest { innermost waits.new.items ≡ without_first (innermost waits.old.items) }
+    ensures all { (g : GameOf) → All (λ w. IsWait g (wait_of w)) waits.old.items → All (λ w. IsWait g (wait_of w)) waits.new.items }
+{
+    let _ = waits.pop();
+}
+
+/// The run goes on where a move leads.
+fn go(
+    game: &Game,
+    table: &WeaverCert,
+    names: &Names,
+    waits: &mut Vec<Wait>,
+    next: Next,
+    text: &mut Vec<u8>,
+) -> Result<Place, NoMemory>
+    requires next { IsNextIn (game_of game.now) (next_is next) }
+    requires waits { All (λ w. IsWait (game_of game.now) (wait_of w)) waits.old.items }
+    ensures goes { IfOk result (λ place. Goes (told names.now) (game_of game.now) table.now (caps_at (lists_of game.now.states)) (next_is next) (innermost waits.old.items) (innermost waits.new.items) (place_in place) text.old.items text.new.items) }
+    ensures range { IfOk result (λ place. IsPlace (game_of game.now) (place_in place)) }
+    ensures waits { IfOk result (λ _. All (λ w. IsWait (game_of game.now) (wait_of w)) waits.new.items) }
+{
+    match next {
+        Next::To(to) | Next::Resumed(to) => Ok(Place::At(arrive(game, table, names, to, text)?)),
+        Next::Into(to, wait) => {
+            remember(waits, wait)?;
+            Ok(Place::At(arrive(game, table, names, to, text)?))
+        }
+        Next::Back(to) => {
+            forget(waits);
+            Ok(Place::At(arrive(game, table, names, to, text)?))
+        }
+        Next::Over => Ok(Place::Over),
+        Next::Stopped(seam) => {
+            put_stop(seam, text)?;
+            Ok(Place::Over)
+        }
+    }
+}
+
+/// One word of the tape: where the run is after it, or none where it is no move here.
+fn answer(
+    game: &Game,
+    table: &WeaverCert,
+    names: &Names,
+    here: Here,
+    waits: &mut Vec<Wait>,
+    by: Move,
+    text: &mut Vec<u8>,
+) -> Result<Option<Place>, NoMemory>
+    requires here { IsHere (game_of game.now) (here_of here) }
+    requires waits { All (λ w. IsWait (game_of game.now) (wait_of w)) waits.old.items }
+    ensures answered { IfOk result (λ place. Answered (told names.now) (game_of game.now) table.now (caps_at (lists_of game.now.states)) game.now.graph.main (here_of here) by place (innermost waits.old.items) (innermost waits.new.items) text.old.items text.new.items) }
+    ensures range { IfOk result (λ place. IfSome place (λ place. IsPlace (game_of game.now) (place_in place))) }
+    ensures waits { IfOk result (λ _. All (λ w. IsWait (game_of game.now) (wait_of w)) waits.new.items) }
+{
+    let spot = game.spot(here.pos);
+    match lead(game, table, here, waits, spot, by) {
+        None => Ok(None),
+        Some(next) => {
+            put_move(names, game.policy(), game.main(), spot, by, text)?;
+            let place = go(game, table, names, waits, next, text)?;
+            Ok(Some(place))
+        }
+    }
+}
+
+/// The woven run of a program by a tape: the environment makes the moves of the tape, and the weaver all its moves up to the environment's next turn. Its trace
+/// is appended.
+///
+/// `Ended` comes exactly where all is over as the tape ends, `TapeSpent` where the tape ends before that, and `BadMove` with the number of
+/// the first word that is no move of the board. The game is one that was made for the program's graph and the policy, and the table meets the conditions of tables.
+pub fn run_woven(
+    alloc: Global,
+    checked: &Checked,
+    game: &Game,
+    table: &WeaverCert,
+    tape: &[Move],
+    trace: &mut Vec<u8>,
+) -> Result<RunEnd, NoMemory>
+    requires valid { IsValid (policy_of game.now.states.policy) }
+    requires lists { AreLists (uses_of (policy_of game.now.states.policy) game.now.graph.nodes.items) (lists_of game.now.states) }
+    requires drawn { IsGraph (names_of (policy_of game.now.states.policy)) checked.now.source.now (file_of checked.now.program) game.now.graph }
+    requires runnable { IsRunnable (plan_of (names_of (policy_of game.now.states.policy)) checked.now.source.now (file_of checked.now.program)) }
+    requires assigns { AssignsNames checked.now.source.now (file_of checked.now.program) }
+    requires good { IsGoodTable (game_of game.now) table.now }
+    requires short { length tape.now < 2 ^ 32 }
+    ensures run { IfOk result (λ end. Tells
+        (problem_of (policy_of game.now.states.policy) checked.now.source.now (file_of checked.now.program))
+        (trace_names_of checked.now.source.now (file_of checked.now.program) (plan_of (names_of (policy_of game.now.states.policy)) checked.now.source.now (file_of checked.now.program)))
+        table.now tape.now (end_of end) trace.old.items trace.new.items) }
+{
+    let names = trace_names(alloc, checked, game.graph())?;
+    let mut waits = Vec::new(alloc);
+    let mut place = Place::At(begin(game, table, &names, trace)?);
+    for i in 0..tape.len() {
+        match place {
+            Place::Over => return Ok(RunEnd::BadMove(i as u32)),
+            Place::At(here) => {
+                match answer(game, table, &names, here, &mut waits, tape[i], trace)? {
+                    Some(next) => place = next,
+                    None => return Ok(RunEnd::BadMove(i as u32)),
+                }
+            }
+        }
+    }
+    match place {
+        Place::At(_) => Ok(RunEnd::TapeSpent),
+        Place::Over => Ok(RunEnd::Ended),
+    }
+}

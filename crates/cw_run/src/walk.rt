@@ -1,0 +1,341 @@
+//! Where a run stands, and where each move leads: over the positions and states of the game, and the rows of the table.
+
+ghost use Rattle.std.specs.Prelude.{◌≡◌, ◌<◌, ◌∷◌, ℕ, List, Some, length, option_map, option_and_then, slice_get, IfSome};
+ghost use Rattle.std.specs.List.{All};
+ghost use Rattle.cw_certs.specs.Tables.{try_at, state_of};
+ghost use Rattle.cw_model.specs.Runs.{mem_in, by_success};
+ghost use Rattle.cw_product.specs.Moves.{IsPosition, IsState};
+ghost use Rattle.cw_product.specs.Product.{game_of};
+ghost use Rattle.cw_game.specs.Games.{resumed};
+ghost use Rattle.cw_game.specs.Pairs.{call_in};
+ghost use Rattle.cw_run.specs.Walks.{Wait as WaitOf, here_of, wait_of, next_is, innermost, first_of, called_of, mem_after, within, called, returning, ended, refusing, next_of, Rests, IsHere, IsWait, IsNextIn, asked_memory, asked};
+
+use cw_certs::{Move, OpenRow, WeaverCert};
+use cw_core::{MemId, PosId, SeamId, StateId};
+use cw_game::Spot;
+use cw_product::{Game, Turn};
+use cw_rows::{after_close, after_label, back_at, into_at, open_at, try_at};
+
+/// Where the top frame stands: its position, the state, its memory.
+#[derive(Clone, Copy, Drop)]
+pub struct Here {
+    pub pos: PosId,
+    pub state: StateId,
+    pub mem: MemId,
+}
+
+/// A call that waits for the end of the function: its seam and mode, the position to which it returns, and the state and the memory
+/// at the call.
+#[derive(Clone, Copy, Drop)]
+pub struct Wait {
+    pub seam: SeamId,
+    pub split: bool,
+    pub back: PosId,
+    pub state: StateId,
+    pub mem: MemId,
+}
+
+/// What a move leads to.
+#[derive(Clone, Copy, Drop)]
+pub enum Next {
+    /// On in the same frame.
+    To(Here),
+    /// Into a function, whose call waits.
+    Into(Here, Wait),
+    /// Back to the caller.
+    Back(Here),
+    /// The end of the program.
+    Over,
+    /// On after a refusal that a stop could have answered.
+    Resumed(Here),
+    /// The stop after a refusal at this seam.
+    Stopped(SeamId),
+}
+
+/// The memory of this number, where the table has it.
+fn memory(table: &WeaverCert, mem: MemId) -> Option<MemId>
+    ensures { option_map (λ m. m.0) result ≡ mem_in table.now mem }
+{
+    match table.mems().get(mem.0 as usize) {
+        Some(_) => Some(mem),
+        None => None,
+    }
+}
+
+/// The state that a memory means.
+fn state_of(table: &WeaverCert, mem: MemId) -> Option<StateId>
+    ensures { option_map (λ q. q.0) result ≡ state_of table.now mem.0 }
+{
+    match table.mems().get(mem.0 as usize) {
+        Some((state, _)) => Some(*state),
+        None => None,
+    }
+}
+
+/// The memory after an answer.
+fn asked_memory(table: &WeaverCert, mem: MemId, seam: SeamId, stage: u8, by: Move) -> Option<MemId>
+    ensures { option_map (λ m. m.0) result ≡ asked_memory table.now mem.0 seam.0 stage by }
+{
+    let row = try_at(table, seam, stage, mem)?;
+    match by {
+        Move::Grant => memory(table, row.granted?),
+        Move::Refuse => memory(table, row.refused?),
+        Move::Skip | Move::Try | Move::On | Move::Left => None,
+        Move::Right | Move::Opened | Move::Failed | Move::Stop => None,
+    }
+}
+
+/// The memory of an open's row, by whether a descriptor was given.
+fn by_success(row: OpenRow, by: Move) -> MemId
+    ensures { result ≡ by_success by row.opened row.failed }
+{
+    match by {
+        Move::Opened => row.opened,
+        _ => row.failed,
+    }
+}
+
+/// The memory after a move within a function.
+fn mem_after(table: &WeaverCert, mem: MemId, spot: Spot, by: Move) -> Option<MemId>
+    ensures { option_map (λ m. m.0) result ≡ mem_after table.now mem.0 spot by }
+{
+    match spot {
+        Spot::Asked(seam, stage, _) => asked_memory(table, mem, SeamId(seam), stage, by),
+        Spot::Step(_) | Spot::Branch(_, _) => Some(mem),
+        Spot::Label(seam, _, _) => memory(table, after_label(table, SeamId(seam), mem)?.after),
+        Spot::Open(seam, _, _) => {
+            let row = open_at(table, SeamId(seam), mem)?;
+            memory(table, by_success(row, by))
+        }
+        Spot::Close(seam, _, _) => memory(table, after_close(table, SeamId(seam), mem)?.after),
+        Spot::Visit(_, _, _) | Spot::Exit(_) => None,
+        Spot::Call(_, _, _) | Spot::SplitCall(_, _, _) => None,
+    }
+}
+
+/// Where a move leads within a function.
+fn within(game: &Game, table: &WeaverCert, here: Here, spot: Spot, by: Move) -> Option<Here>
+    requires here { IsHere (game_of game.now) (here_of here) }
+    ensures is { option_map here_of result ≡ within (game_of game.now) table.now (here_of here) spot by }
+    ensures range { IfSome result (λ to. IsHere (game_of game.now) (here_of to)) }
+{
+    let (pos, state) = game.next(here.pos, here.state, by)?;
+    let mem = mem_after(table, here.mem, spot, by)?;
+    Some(Here { pos, state, mem })
+}
+
+/// A call at a position: its seam, the function, the position to which it returns, and whether it is split.
+#[derive(Clone, Copy, Drop)]
+pub struct CallAt {
+    pub seam: SeamId,
+    pub function: u16,
+    pub back: PosId,
+    pub split: bool,
+}
+
+/// Where a call leads.
+fn called(game: &Game, table: &WeaverCert, here: Here, call: CallAt, by: Move) -> Option<Next>
+    requires here { IsHere (game_of game.now) (here_of here) }
+    requires function { call.function < length game.now.graph.parts.items }
+    requires back { IsPosition (game_of game.now) call.back.0 }
+    ensures is { option_map next_is result ≡ called (game_of game.now) table.now (here_of here) call.seam.0 call.function call.back.0 call.split by }
+    ensures range { IfSome result (λ next. IsNextIn (game_of game.now) (next_is next)) }
+{
+    if by != Move::On {
+        return None;
+    }
+    let row = into_at(table, call.seam, call.split, here.mem)?;
+    let mem = memory(table, row.callee)?;
+    let begun = Here {
+        pos: game.entry(call.function),
+        state: here.state,
+        mem,
+    };
+    let wait = Wait {
+        seam: call.seam,
+        split: call.split,
+        back: call.back,
+        state: here.state,
+        mem: here.mem,
+    };
+    Some(Next::Into(begun, wait))
+}
+
+/// The function that is called at a position is there, and so is the position to which it returns.
+fn call_is_within(game: &Game, pos: PosId, spot: Spot, call: CallAt)
+    requires spot { Some spot ≡ slice_get (game_of game.now).spots pos.0 }
+    requires call { Some (called_of call) ≡ call_in (Some spot) }
+    ensures function { call.function < length game.now.graph.parts.items }
+    ensures back { IsPosition (game_of game.now) call.back.0 }
+{
+    game.is_closed();
+    let _ = (pos, spot, call);
+}
+
+/// The call at a position.
+fn call_at(game: &Game, pos: PosId, spot: Spot) -> Option<CallAt>
+    requires spot { Some spot ≡ slice_get (game_of game.now).spots pos.0 }
+    ensures { option_map called_of result ≡ call_in (Some spot) }
+{
+    let Turn::Call {
+        callee,
+        split,
+        back,
+    } = game.turn(pos)
+    else {
+        return None;
+    };
+    match spot {
+        Spot::Call(seam, _, _) | Spot::SplitCall(seam, _, _) => Some(CallAt {
+            seam: SeamId(seam),
+            function: callee,
+            back,
+            split,
+        }),
+        _ => None,
+    }
+}
+
+/// Where the end of a function leads, by the call that waits for it.
+fn returned(game: &Game, table: &WeaverCert, here: Here, wait: Wait) -> Option<Next>
+    requires here { IsHere (game_of game.now) (here_of here) }
+    requires wait { IsWait (game_of game.now) (wait_of wait) }
+    ensures is { option_map next_is result ≡ returning (game_of game.now) table.now (here_of here) (Some (wait_of wait)) }
+    ensures range { IfSome result (λ next. IsNextIn (game_of game.now) (next_is next)) }
+{
+    let exit = state_of(table, here.mem)?;
+    let row = back_at(table, wait.seam, wait.split, wait.mem, exit)?;
+    let mem = memory(table, row.after)?;
+    Some(Next::Back(Here {
+        pos: wait.back,
+        state: game.returned(wait.state, here.state, wait.split),
+        mem,
+    }))
+}
+
+/// The innermost call that waits.
+#[tactic(auto, using(crate::proofs::Waits::last_is))]
+fn last_call(waits: &[Wait]) -> Option<Wait>
+    ensures { option_map wait_of result ≡ first_of (innermost waits.now) }
+{
+    waits.last().copied()
+}
+
+/// The position to which a call returns, and its state, are the game's.
+fn last_range(game: &Game, waits: &[Wait])
+    requires waits { All (λ w. IsWait (game_of game.now) (wait_of w)) waits.now }
+    ensures range { (w : WaitOf) → first_of (innermost waits.now) ≡ Some w → IsWait (game_of game.now) w }
+{
+    let _ = game;
+    let _ = waits;
+}
+
+/// Where the end of a function leads: back to the innermost call that waits, or to the end of the program.
+fn ended(game: &Game, table: &WeaverCert, here: Here, waits: &[Wait], by: Move) -> Option<Next>
+    requires here { IsHere (game_of game.now) (here_of here) }
+    requires waits { All (λ w. IsWait (game_of game.now) (wait_of w)) waits.now }
+    ensures is { option_map next_is result ≡ ended (game_of game.now) table.now (here_of here) (innermost waits.now) by }
+    ensures range { IfSome result (λ next. IsNextIn (game_of game.now) (next_is next)) }
+{
+    if by != Move::On {
+        return None;
+    }
+    last_range(game, waits);
+    match last_call(waits) {
+        None => Some(Next::Over),
+        Some(wait) => returned(game, table, here, wait),
+    }
+}
+
+/// Where a refusal leads that a stop can answer.
+fn refused(
+    table: &WeaverCert,
+    mem: MemId,
+    seam: SeamId,
+    stage: u8,
+    pair: (PosId, StateId),
+) -> Option<Next>
+    ensures { option_map next_is result ≡ refusing table.now seam.0 (pair.0.0, pair.1.0) (try_at table.now seam.0 stage mem.0) }
+{
+    let row = try_at(table, seam, stage, mem)?;
+    match row.refused {
+        None => Some(Next::Stopped(seam)),
+        Some(kept) => {
+            let mem = memory(table, kept)?;
+            Some(Next::Resumed(Here {
+                pos: pair.0,
+                state: pair.1,
+                mem,
+            }))
+        }
+    }
+}
+
+/// Where an answer leads.
+fn asked(
+    game: &Game,
+    table: &WeaverCert,
+    here: Here,
+    spot: Spot,
+    seam: SeamId,
+    stage: u8,
+    by: Move,
+) -> Option<Next>
+    requires here { IsHere (game_of game.now) (here_of here) }
+    ensures is { option_map next_is result ≡ asked (game_of game.now) table.now (here_of here) spot seam.0 stage by (resumed (game_of game.now) here.pos.0 here.state.0) }
+    ensures range { IfSome result (λ next. IsNextIn (game_of game.now) (next_is next)) }
+{
+    match game.resumed(here.pos, here.state) {
+        Some(pair) if by == Move::Refuse => refused(table, here.mem, seam, stage, pair),
+        _ => Some(Next::To(within(game, table, here, spot, by)?)),
+    }
+}
+
+/// Where a move of the environment leads; nowhere where the game has no such move, or the table no row for it. The calls that wait stand in their order,
+/// the innermost last.
+pub fn lead(
+    game: &Game,
+    table: &WeaverCert,
+    here: Here,
+    waits: &[Wait],
+    spot: Spot,
+    by: Move,
+) -> Option<Next>
+    requires here { IsHere (game_of game.now) (here_of here) }
+    requires waits { All (λ w. IsWait (game_of game.now) (wait_of w)) waits.now }
+    requires spot { Some spot ≡ slice_get (game_of game.now).spots here.pos.0 }
+    ensures is { option_map next_is result ≡ next_of (game_of game.now) table.now (here_of here) (innermost waits.now) spot by }
+    ensures range { IfSome result (λ next. IsNextIn (game_of game.now) (next_is next)) }
+{
+    match spot {
+        Spot::Call(_, _, _) | Spot::SplitCall(_, _, _) => {
+            let call = call_at(game, here.pos, spot)?;
+            call_is_within(game, here.pos, spot, call);
+            called(game, table, here, call, by)
+        }
+        Spot::Exit(_) => ended(game, table, here, waits, by),
+        Spot::Asked(seam, stage, _) => { asked(game, table, here, spot, SeamId(seam), stage, by) }
+        _ => Some(Next::To(within(game, table, here, spot, by)?)),
+    }
+}
+
+/// The position at which the weaver comes to rest by its own moves.
+#[cycle(rest)]
+pub fn rest(game: &Game, table: &WeaverCert, pos: PosId, mem: MemId) -> PosId
+    requires position { IsPosition (game_of game.now) pos.0 }
+    ensures rests { Rests (game_of game.now) table.now mem.0 pos.0 result.0 }
+    ensures range { IsPosition (game_of game.now) result.0 }
+{
+    let _ = game.positions();
+    game.is_closed();
+    match game.spot(pos) {
+        Spot::Visit(seam, stage, _) => {
+            if try_at(table, SeamId(seam), stage, mem).is_some() {
+                PosId(pos.0 + 1)
+            } else {
+                rest(game, table, PosId(pos.0 + 2), mem)
+            }
+        }
+        _ => pos,
+    }
+}
