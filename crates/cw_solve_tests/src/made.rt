@@ -4,7 +4,9 @@ ghost use Rattle.std.specs.Prelude.{◌≤◌, length, IfSome};
 ghost use Rattle.cw_rights.specs.Policies.{policy_of};
 ghost use Rattle.cw_rights.specs.Valid.{IsValid};
 ghost use Rattle.cw_product.specs.Product.{IsProgramsGraph};
+ghost use Rattle.cw_solve.specs.Made.{LeavesMain};
 
+use cw_calls::laws::read_programs_leave_main;
 use cw_points::Graph;
 use cw_points::build::build;
 use cw_rights::Policy;
@@ -16,12 +18,14 @@ use std::alloc::Global;
 pub fn graph_of(alloc: Global, policy: &Policy, source: &[u8]) -> Option<Graph>
     requires { IsValid (policy_of policy.now) }
     ensures drawn { IfSome result (IsProgramsGraph (policy_of policy.now)) }
+    ensures leaves { IfSome result (LeavesMain (policy_of policy.now)) }
     ensures few { IfSome result (λ g. length g.nodes.items ≤ 8192) }
 {
     if source.len() > 262144 {
         return None;
     }
     programs_are_runnable();
+    read_programs_leave_main();
     let Ok(checked) = read_source(alloc, source) else {
         return None;
     };

@@ -17,3 +17,12 @@ returns-clause-drawn c =
           (subst (λ t. ReadsAs t file) (sym c.in-Ok.ensures.source) c.in-Ok.ensures.program);
       drawn = c.in-Ok-build.ensures.graph;
     }
+
+pub returns-clause-leaves : goal.returns-clause-leaves
+returns-clause-leaves c =
+    let policy = policy_of c.args.policy.now in
+    let text = c.in-Ok.checked.source.now in
+    let file = file_of c.in-Ok.checked.program in
+    c.read_programs_leave_main.ensures (names_of policy) policy text file c.in-Ok-build.graph
+    (subst (λ t. ReadsAs t file) (sym c.in-Ok.ensures.source) c.in-Ok.ensures.program)
+    c.in-Ok-build.ensures.graph

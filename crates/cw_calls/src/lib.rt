@@ -1,0 +1,4 @@
+//! What a program that is read calls.
+#![tactic(auto)]
+
+pub mod laws;
