@@ -3,9 +3,10 @@ mod Dues
 mod Judging
 mod Labelled
 mod Listed
-mod Policies
+mod Made
 mod Refused
-mod StartRows
-mod Starts
 mod Weaves
 mod Withins
+mod Agreeing
+mod OneGame
+mod Winning

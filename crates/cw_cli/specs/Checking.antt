@@ -1,5 +1,5 @@
 -- What is due for `check`, by the bytes of a policy and of a woven text.
-use Rattle.std.specs.Prelude.{◌≡◌, ◌≢◌, ◌⊎◌, ℕ, List, [], ◌∷◌, ◌++◌, None, Some, codes}
+use Rattle.std.specs.Prelude.{◌≡◌, ◌≢◌, ◌⊎◌, ℕ, List, [], ◌∷◌, ◌++◌, Some, codes}
 use Rattle.std.specs.Fmt.{decimal}
 use Rattle.cw_core.specs.declared.quantity.Quantity.TheVariants.{Points, SourceBytes, Rows}
 use Rattle.cw_rights.specs.Policies.{PlainPolicy}
@@ -14,7 +14,7 @@ use Rattle.cw_game.specs.Games.{Game}
 use Rattle.cw_game.specs.Conditions.{Part, InMems, InLive, InTries, InAts, InOpened, InClosed, InInto, InBack, TableFault, table_fault, IsGoodTable}
 use Rattle.cw_game.specs.Standing.{IsGameOf}
 use Rattle.cw_product.specs.Product.{Held, game_of}
-use Rattle.cw_listing.specs.Labels.{missing_label}
+use Rattle.cw_callgraph.specs.Fitting.{Fits}
 use Rattle.cw_lines.specs.declared.fault.TextFault.{TextFault}
 use Rattle.cw_lines.specs.declared.fault.TextFault.TheVariants as fault
 use Rattle.cw_policies.specs.Answer.{Spells}
@@ -26,7 +26,8 @@ use Rattle.cw_woven.specs.Reading.{IsFaultOver, ReadsWoven}
 use Rattle.cw_commands.specs.declared.outcome.Cause.TheVariants.{Grammar, Source}
 use Rattle.cw_commands.specs.declared.outcome.Reply.TheVariants.{Yes, No}
 use Rattle.cw_commands.specs.Outcomes.{Due, Told, Refused}
-use Rattle.cw_cli.specs.Refusals.{descriptor_line, over, policy_not_yet, source_refusal, IsLabelRefusal, IsPolicyRefusal}
+use Rattle.cw_cli.specs.Fitting.{IsFitRefusal}
+use Rattle.cw_cli.specs.Refusals.{descriptor_line, over, source_refusal, IsPolicyRefusal}
 use Rattle.cw_cli.specs.Refuting.{yes, IsGame, IsGameRefusal}
 
 -- the refusal by the first fault of a table's lines; where its rows are too many that is a limit
@@ -85,13 +86,11 @@ AfterGraph source whole file t graph due =
     ⊎ ((held : Held) × IsGame whole graph held × IsGameOf (problem_of whole source file) (game_of held)
     × IsChecked (problem_of whole source file) (game_of held) t due)
 
--- That the source hasn't a label of the policy, or that the policy splits functions, or what comes behind that.
+-- That the policy doesn't fit the program, or what comes behind that.
 abbrev pub AfterWoven : List ℕ → PlainPolicy → File → Table → Due → Type 0
 AfterWoven source whole file t due =
-    IsLabelRefusal source file whole due
-    ⊎ ((missing_label source file whole.labels ≡ None)
-    × (((whole.split ≢ []) × (due ≡ policy_not_yet))
-    ⊎ ((whole.split ≡ []) × ((graph : Graph) × IsGraph (names_of whole) source file graph × AfterGraph source whole file t graph due))))
+    IsFitRefusal source file whole due
+    ⊎ (Fits source file whole × (graph : Graph) × IsGraph (names_of whole) source file graph × AfterGraph source whole file t graph due)
 
 -- That the text is no woven text, or what is due for the source and the table that it is read as.
 abbrev pub AfterPolicy : (text : List ℕ) → PlainPolicy → Due → Type 0

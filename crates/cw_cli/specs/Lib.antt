@@ -1,9 +1,11 @@
 pub mod Refusals
 pub mod Reading
+pub mod Fitting
+pub mod Refuting
 pub mod Verdicts
 pub mod Weaving
 pub mod Listings
-pub mod Refuting
 pub mod Checking
 pub mod CheckingHeld
 pub mod Due
+pub mod Agreeing

@@ -18,7 +18,6 @@ use Rattle.cw_source.specs.declared.fault.SourceFault.{SourceFault}
 use Rattle.cw_source.specs.declared.fault.SourceFault.TheVariants as source
 use Rattle.cw_source.specs.Read.{IsFaultOf, ReadsAs}
 use Rattle.cw_source.specs.Lines.{at_place, fault_line as source_line}
-use Rattle.cw_listing.specs.Labels.{missing_label}
 use Rattle.cw_commands.specs.declared.outcome.Cause.TheVariants.{Source, Policy, Limit}
 use Rattle.cw_commands.specs.Outcomes.{Due, Refused}
 
@@ -65,14 +64,6 @@ IsDescriptorRefusal text policy due =
     (file : File) × ReadsAs text file
     × ((f : DescriptorFault) × (descriptor_fault text file policy ≡ Some f) × (due ≡ Refused Source (descriptor_line text policy f)))
 
--- the policy is refused by the first of its labels that isn't in the source
-abbrev pub IsLabelRefusal : List ℕ → File → PlainPolicy → Due → Type 0
-IsLabelRefusal text file policy due =
-    (name : List ℕ) × (missing_label text file policy.labels ≡ Some name) × (due ≡ Refused Policy (codes "policy: no label " ++ name))
-
--- what isn't woven, or judged, yet
-abbrev pub source_not_yet : Due
-source_not_yet = Refused Source (codes "source: not yet")
-
-abbrev pub policy_not_yet : Due
-policy_not_yet = Refused Policy (codes "policy: not yet")
+-- functions in processes of their own that aren't waited for: no program in one process does that
+abbrev pub policy_detached : Due
+policy_detached = Refused Policy (codes "policy: detached")

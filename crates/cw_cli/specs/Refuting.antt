@@ -1,5 +1,5 @@
 -- What is due for `refute`, by the bytes of a policy, of a source and of a strategy.
-use Rattle.std.specs.Prelude.{◌≡◌, ◌≢◌, ◌⊎◌, ℕ, ◌<◌, List, [], ◌∷◌, ◌++◌, None, Some, codes}
+use Rattle.std.specs.Prelude.{◌≡◌, ◌≢◌, ◌⊎◌, ℕ, ◌<◌, List, [], ◌∷◌, ◌++◌, Some, codes}
 use Rattle.std.specs.Fmt.{decimal}
 use Rattle.cw_core.specs.Quantities.{limit_of}
 use Rattle.cw_core.specs.declared.quantity.Quantity.TheVariants.{Points, RightsStates, PolicyStates, ProductStates, PositionsTimesStates, Rows}
@@ -22,7 +22,7 @@ use Rattle.cw_product.specs.declared.fault.GameFault.{GameFault}
 use Rattle.cw_product.specs.declared.fault.GameFault.TheVariants.{TooManyCaps, TooManyWords, TooManyStates, TooManyPositions, NoMemory}
 use Rattle.cw_product.specs.Product.{Held, game_of, IsCause}
 use Rattle.cw_product.specs.Uses.{uses_of}
-use Rattle.cw_listing.specs.Labels.{missing_label}
+use Rattle.cw_callgraph.specs.Fitting.{Fits}
 use Rattle.cw_lines.specs.declared.fault.TextFault.{TextFault}
 use Rattle.cw_lines.specs.declared.fault.TextFault.TheVariants as fault
 use Rattle.cw_strategies.specs.Faults.{IsFault}
@@ -31,7 +31,8 @@ use Rattle.cw_commands.specs.declared.outcome.Cause.TheVariants.{Grammar}
 use Rattle.cw_commands.specs.declared.outcome.Reply.TheVariants.{Yes, No}
 use Rattle.cw_commands.specs.Outcomes.{Due, Told, Refused}
 use Rattle.cw_cli.specs.Reading.{AfterReading}
-use Rattle.cw_cli.specs.Refusals.{over, policy_not_yet, IsLabelRefusal}
+use Rattle.cw_cli.specs.Fitting.{IsFitRefusal}
+use Rattle.cw_cli.specs.Refusals.{over}
 
 -- the refusal by the first fault of a strategy's text; where its rows are too many that is a limit
 abbrev pub strategy_refusal : TextFault → Due
@@ -96,12 +97,9 @@ AfterFitting source whole file s due =
     ((limit_of Points < point_count (plan_of (names_of whole) source file)) × (due ≡ over Points))
     ⊎ ((graph : Graph) × IsGraph (names_of whole) source file graph × AfterGraph source whole file s graph due)
 
--- That the source hasn't a label of the policy, or that the policy splits functions, or what comes behind that.
+-- That the policy doesn't fit the program, or what comes behind that.
 abbrev pub AfterStrategy : List ℕ → PlainPolicy → File → Strategy → Due → Type 0
-AfterStrategy source whole file s due =
-    IsLabelRefusal source file whole due
-    ⊎ ((missing_label source file whole.labels ≡ None)
-    × (((whole.split ≢ []) × (due ≡ policy_not_yet)) ⊎ ((whole.split ≡ []) × AfterFitting source whole file s due)))
+AfterStrategy source whole file s due = IsFitRefusal source file whole due ⊎ (Fits source file whole × AfterFitting source whole file s due)
 
 -- That the strategy isn't spelled in the policy's format, or what comes behind that.
 abbrev pub AfterPair : List ℕ → List ℕ → PlainPolicy → File → Due → Type 0

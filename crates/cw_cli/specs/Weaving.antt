@@ -1,56 +1,49 @@
 -- What is due for `weave`, by the bytes of a policy and of a source.
-use Rattle.std.specs.Prelude.{◌≡◌, ◌⊎◌, ℕ, ◌<◌, ◌≤◌, List, [], Bool, true, false, ◌||◌, nat_lt, length, None}
+use Rattle.std.specs.Prelude.{◌≡◌, ◌≢◌, ◌⊎◌, ℕ, ◌<◌, ◌≤◌, List, []}
+use Rattle.cw_core.specs.Quantities.{limit_of}
+use Rattle.cw_core.specs.declared.quantity.Quantity.TheVariants.{Points}
 use Rattle.cw_rights.specs.Policies.{PlainPolicy}
-use Rattle.cw_syntax.specs.Names.{Names}
 use Rattle.cw_syntax.specs.Trees.{File}
 use Rattle.cw_syntax.specs.Plans.{plan_of}
+use Rattle.cw_actions.specs.Scenes.{names_of}
+use Rattle.cw_points.specs.declared.graph.Graph.{Graph}
+use Rattle.cw_points.specs.Graphs.{IsGraph}
 use Rattle.cw_points.specs.Points.{point_count}
-use Rattle.cw_points.specs.declared.graph.Node.{Node}
-use Rattle.cw_points.specs.Graphs.{nodes}
-use Rattle.cw_layout.specs.Positions.{has_call}
-use Rattle.cw_listing.specs.Labels.{missing_label}
-use Rattle.cw_policy.specs.Answer.{SpellsFirst}
-use Rattle.cw_commands.specs.declared.outcome.Reply.TheVariants.{Yes, No}
-use Rattle.cw_commands.specs.Outcomes.{Due, Told, Refused}
+use Rattle.cw_model.specs.Boards.{problem_of}
+use Rattle.cw_game.specs.Standing.{IsGameOf}
+use Rattle.cw_product.specs.Product.{Held, game_of}
+use Rattle.cw_solve.specs.Made.{IsMade}
+use Rattle.cw_callgraph.specs.Fitting.{Fits}
+use Rattle.cw_commands.specs.Outcomes.{Due}
 use Rattle.cw_cli.specs.Reading.{AfterReading}
-use Rattle.cw_cli.specs.Refusals.{IsLabelRefusal, policy_not_yet, source_not_yet}
-use Rattle.cw_cli.specs.Verdicts.{IsWoven, IsRefuted}
+use Rattle.cw_cli.specs.Fitting.{IsFitRefusal}
+use Rattle.cw_cli.specs.Refusals.{over, policy_detached}
+use Rattle.cw_cli.specs.Refuting.{IsGame, IsGameRefusal}
+use Rattle.cw_cli.specs.Verdicts.{AfterGame}
 
--- the names of no policy
-abbrev pub no_names : Names
-no_names = record { descriptors = []; labels = []; splits = [] }
+-- That the game is over one of its numbers, or what comes behind that: the game of the graph and the policy, which is that of the program.
+abbrev pub AfterGraph : List ℕ → PlainPolicy → File → Graph → Due → Type 0
+AfterGraph source whole file graph due =
+    IsGameRefusal whole graph due
+    ⊎ ((held : Held) × IsGame whole graph held × IsMade held × IsGameOf (problem_of whole source file) (game_of held)
+    × AfterGame whole source file (game_of held) due)
 
--- What isn't woven yet: a program that calls a defined function, or has more than 1,024 points; and what is.
-abbrev pub IsBeyond : List ℕ → File → Type 0
-IsBeyond source file = (1024 < point_count (plan_of no_names source file)) ⊎ (has_call (nodes (plan_of no_names source file)) ≡ true)
+-- That the program has too many points, or what comes behind that.
+abbrev pub AfterFitting : List ℕ → PlainPolicy → File → Due → Type 0
+AfterFitting source whole file due =
+    ((limit_of Points < point_count (plan_of (names_of whole) source file)) × (due ≡ over Points))
+    ⊎ ((point_count (plan_of (names_of whole) source file) ≤ limit_of Points)
+    × (graph : Graph) × IsGraph (names_of whole) source file graph × AfterGraph source whole file graph due)
 
-pub record IsWithin (source : List ℕ) (file : File) : Type 0 where
-  pub few : point_count (plan_of no_names source file) ≤ 1024
-  pub calls : has_call (nodes (plan_of no_names source file)) ≡ false
+-- That the policy detaches functions, or what comes behind that.
+abbrev pub AfterFit : List ℕ → PlainPolicy → File → Due → Type 0
+AfterFit source whole file due =
+    ((whole.detached ≢ []) × (due ≡ policy_detached)) ⊎ ((whole.detached ≡ []) × AfterFitting source whole file due)
 
--- the same as a test of its graph's points
-abbrev pub is_large : List Node → Bool
-is_large ns = nat_lt 1024 (length ns) || has_call ns
-
--- The woven text with status 0, or the text of a strategy with status 1.
-abbrev pub IsVerdict : PlainPolicy → List ℕ → File → Due → Type 0
-IsVerdict plain source file (Told Yes text) = IsWoven plain source file text
-IsVerdict plain source file (Told No text) = IsRefuted plain source file text
-IsVerdict plain source file (Refused cause line) = ⊥
-
--- That the policy isn't of the first form, or the verdict.
-abbrev pub AfterLabels : List ℕ → List ℕ → File → Due → Type 0
-AfterLabels policy source file due =
-    ((due ≡ policy_not_yet) × ((plain : PlainPolicy) → SpellsFirst policy plain → ⊥))
-    ⊎ ((plain : PlainPolicy) × SpellsFirst policy plain × IsVerdict plain source file due)
-
--- That the program isn't woven yet, or that the source hasn't a label of the policy, or what comes behind that.
-abbrev pub AfterPair : List ℕ → List ℕ → PlainPolicy → File → Due → Type 0
-AfterPair policy source whole file due =
-    ((due ≡ source_not_yet) × IsBeyond source file)
-    ⊎ (IsWithin source file
-    × (IsLabelRefusal source file whole due ⊎ ((missing_label source file whole.labels ≡ None) × AfterLabels policy source file due)))
+-- That the policy doesn't fit the program, or what comes behind that.
+abbrev pub AfterPair : List ℕ → PlainPolicy → File → Due → Type 0
+AfterPair source whole file due = IsFitRefusal source file whole due ⊎ (Fits source file whole × AfterFit source whole file due)
 
 -- The policy and the source are read first.
 abbrev pub IsWeaveDue : List ℕ → List ℕ → Due → Type 0
-IsWeaveDue policy source = AfterReading (AfterPair policy source) policy source
+IsWeaveDue policy source = AfterReading (AfterPair source) policy source

@@ -16,10 +16,9 @@ ghost use Rattle.cw_woven.specs.Held.{IsOpened};
 ghost use Rattle.cw_cli.specs.Checking.{cut_refusal, of_woven, table_refusal, woven_refusal, AfterGraph, AfterPolicy, AfterWoven, IsCheckDue};
 ghost use Rattle.cw_cli.specs.CheckingHeld.{list_name, told_row, AfterOpening, IsCheckedBy};
 
-use crate::refusals::{
-    descriptor_refusal, label_refusal, over, policy_refusal, source_refusal, worded,
-};
-use crate::refuting::{game_refusal, numbered, splits_none};
+use crate::fitting::fit_refusal;
+use crate::refusals::{descriptor_refusal, over, policy_refusal, source_refusal, worded};
+use crate::refuting::{game_refusal, numbered};
 use cw_certs::WeaverCert;
 use cw_commands::{Cause, Outcome, Reply};
 use cw_core::{NoMemory, Quantity, put_dec};
@@ -184,7 +183,7 @@ fn played(
     }
 }
 
-/// That the source hasn't a label of the policy, or that the policy splits functions, or what comes behind that.
+/// That the policy doesn't fit the program, or what comes behind that.
 fn fitted(
     alloc: Global,
     policy: &Policy,
@@ -199,16 +198,9 @@ fn fitted(
     ensures { IfOk result (λ outcome.
         AfterWoven accepted.now.checked.source.now (policy_of policy.now) (file_of accepted.now.checked.program) table.now (due_of outcome)) }
 {
-    match label_refusal(alloc, policy, &accepted.checked)? {
+    match fit_refusal(alloc, policy, &accepted.checked)? {
         Some(outcome) => Ok(outcome),
-        None => {
-            if splits_none(policy) {
-                played(alloc, policy, &accepted.checked, &accepted.graph, table)
-            } else {
-                let line = worded(alloc, b"policy: not yet", b"")?;
-                Ok(Outcome::Refused(Cause::Policy, line))
-            }
-        }
+        None => played(alloc, policy, &accepted.checked, &accepted.graph, table),
     }
 }
 

@@ -118,7 +118,7 @@ fn checks_tables_or_tells_why_not(rt: HostRuntime) -> Result<(), Fail> {
             "",
             "woven: mark 689\n",
         ),
-        (splits, TWO_PROMISES, "", "", 4, "", "policy: not yet\n"),
+        (splits, TWO_PROMISES, "", "", 1, "live 15 condition 4\n", ""),
         (stops, NEVER_AMBIENT, "", "", 0, "yes\n", ""),
         (
             stops,

@@ -3,6 +3,8 @@
 
 mod checking;
 mod command;
+mod fitting;
+pub mod laws;
 mod listing;
 mod reading;
 mod refusals;
@@ -18,5 +20,7 @@ pub use weaving::weave_due;
 
 #[cfg(test)]
 mod checking_tests;
+#[cfg(test)]
+mod splitting_tests;
 #[cfg(test)]
 mod tests;

@@ -1,23 +1,19 @@
 //! Why a policy or a source is refused, with the line that tells it.
 
-ghost use Rattle.std.specs.Prelude.{◌≡◌, ◌≢◌, ◌++◌, codes, IfNone, IfOk, IfSome, None};
+ghost use Rattle.std.specs.Prelude.{◌≡◌, ◌≢◌, ◌++◌, codes, IfOk};
 ghost use Rattle.cw_rights.specs.Policies.{policy_of};
-ghost use Rattle.cw_syntax.specs.Trees.{file_of};
 ghost use Rattle.cw_text.specs.LimitsText.{descriptor_name as name_of};
-ghost use Rattle.cw_listing.specs.Labels.{missing_label};
 ghost use Rattle.cw_commands.specs.declared.outcome.Cause.TheVariants.{Source};
 ghost use Rattle.cw_commands.specs.Outcomes.{due_of, Refused};
-ghost use Rattle.cw_cli.specs.Refusals.{descriptor_line, over, policy_refusal, source_refusal, IsLabelRefusal};
+ghost use Rattle.cw_cli.specs.Refusals.{descriptor_line, over, policy_refusal, source_refusal};
 
 use cw_commands::{Cause, Outcome};
 use cw_core::{NoMemory, Quantity};
-use cw_listing::missing_label;
 use cw_policies::{PolicyFault, put_fault};
 use cw_regex::RegexFault;
 use cw_rights::Policy;
 use cw_scope::{DescriptorFault, ScopeFault};
 use cw_source::{SourceFault, fault_line, place_line};
-use cw_syntax::checked::Checked;
 use cw_text::descriptor_name;
 use std::alloc::Global;
 
@@ -106,24 +102,5 @@ pub(crate) fn descriptor_refusal(
             Ok(Outcome::Refused(Cause::Source, line))
         }
         DescriptorFault::NoMemory => Err(NoMemory),
-    }
-}
-
-/// The refusal by the first of a policy's labels that isn't in the source, or None where each is.
-pub(crate) fn label_refusal(
-    alloc: Global,
-    policy: &Policy,
-    checked: &Checked,
-) -> Result<Option<Outcome>, NoMemory>
-    ensures each { IfOk result (λ found. IfNone found (missing_label checked.now.source.now (file_of checked.now.program) (policy_of policy.now).labels ≡ None)) }
-    ensures first { IfOk result (λ found. IfSome found (λ outcome.
-        IsLabelRefusal checked.now.source.now (file_of checked.now.program) (policy_of policy.now) (due_of outcome))) }
-{
-    match missing_label(checked.source, &checked.program, &policy.labels) {
-        Some(name) => {
-            let line = worded(alloc, b"policy: no label ", name)?;
-            Ok(Some(Outcome::Refused(Cause::Policy, line)))
-        }
-        None => Ok(None),
     }
 }

@@ -1,6 +1,6 @@
 //! What is due for `refute`.
 
-ghost use Rattle.std.specs.Prelude.{◌≡◌, ◌≢◌, ◌≤◌, ◌<◌, ◌^◌, ◌++◌, [], true, false, length, IfOk};
+ghost use Rattle.std.specs.Prelude.{◌≡◌, ◌≢◌, ◌≤◌, ◌<◌, ◌^◌, ◌++◌, length, IfOk};
 ghost use Rattle.std.specs.Fmt.{decimal};
 ghost use Rattle.cw_rights.specs.Policies.{policy_of};
 ghost use Rattle.cw_rights.specs.Valid.{IsValid};
@@ -15,8 +15,9 @@ ghost use Rattle.cw_product.specs.Product.{game_of};
 ghost use Rattle.cw_commands.specs.Outcomes.{due_of};
 ghost use Rattle.cw_cli.specs.Refuting.{game_refusal, strategy_refusal, told, yes, AfterFitting, AfterGraph, AfterPair, AfterStrategy, IsJudgedBy, IsRefuteDue};
 
+use crate::fitting::fit_refusal;
 use crate::reading::read_both;
-use crate::refusals::{label_refusal, over, worded};
+use crate::refusals::{over, worded};
 use cw_certs::EnvCert;
 use cw_commands::{Cause, Outcome, Reply};
 use cw_core::{NoMemory, Quantity, put_dec};
@@ -140,15 +141,7 @@ fn drawn(
     }
 }
 
-/// Whether a policy splits no function.
-pub(crate) fn splits_none(policy: &Policy) -> bool
-    ensures none { result ≡ true → (policy_of policy.now).split ≡ [] }
-    ensures some { result ≡ false → (policy_of policy.now).split ≢ [] }
-{
-    policy.split.is_empty()
-}
-
-/// That the source hasn't a label of the policy, or that the policy splits functions, or what comes behind that.
+/// That the policy doesn't fit the program, or what comes behind that.
 fn fitted(
     alloc: Global,
     policy: &Policy,
@@ -161,16 +154,9 @@ fn fitted(
     ensures { IfOk result (λ outcome.
         AfterStrategy checked.now.source.now (policy_of policy.now) (file_of checked.now.program) (strategy_of strategy.now) (due_of outcome)) }
 {
-    match label_refusal(alloc, policy, checked)? {
+    match fit_refusal(alloc, policy, checked)? {
         Some(outcome) => Ok(outcome),
-        None => {
-            if splits_none(policy) {
-                drawn(alloc, policy, checked, strategy)
-            } else {
-                let line = worded(alloc, b"policy: not yet", b"")?;
-                Ok(Outcome::Refused(Cause::Policy, line))
-            }
-        }
+        None => drawn(alloc, policy, checked, strategy),
     }
 }
 

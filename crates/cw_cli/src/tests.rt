@@ -146,6 +146,128 @@ states 4
 end
 ";
 
+const FORMAT_TWO: &str = "/*cw{*/
+#include \"capweave.h\"
+#define CW_LIMITS(X)
+CW_TABLE(2,4,1)
+CW_MEM(0,0,0xf)
+CW_MEM(1,2,0xf)
+CW_LIVE(0,1)
+CW_LIVE(2,1)
+CW_LIVE(3,1)
+CW_LIVE(5,1)
+CW_LIVE(6,0)
+CW_LIVE(7,0)
+CW_LIVE(8,0)
+CW_AT(1,1,0)
+CW_DONE
+/*}cw*/int main(void){/*cw{*/CW_ENTRY(0);/*}cw*/a:/*cw{*/CW_LABEL(1)/*}cw*/;return 0;}";
+
+const OVER_A_CALL: &str = "/*cw{*/
+#include \"capweave.h\"
+#define CW_LIMITS(X)
+CW_TABLE(1,4,0)
+CW_MEM(0,0,0xf)
+CW_MEM(1,1,0xf)
+CW_MEM(2,3,0xf)
+CW_LIVE(0,0)
+CW_LIVE(2,0)
+CW_LIVE(3,0)
+CW_LIVE(4,0)
+CW_LIVE(6,0)
+CW_LIVE(7,0)
+CW_LIVE(9,0)
+CW_LIVE(10,0)
+CW_LIVE(11,0)
+CW_LIVE(12,1)
+CW_LIVE(13,2)
+CW_LIVE(14,2)
+CW_LIVE(15,2)
+CW_TRY(3,0,0,1,CW_NONE)
+CW_AT(3,1,2)
+CW_INTO(2,0,0,0)
+CW_BACK(2,0,0,0,0)
+CW_DONE
+/*}cw*/void f(void){/*cw{*/CW_ENTRY(0);/*}cw*/}int main(void){/*cw{*/CW_ENTRY(1);/*}cw*//*cw{*/CW_CALL(2)/*}cw*/f();a:/*cw{*/CW_LABEL(3)/*}cw*/;return 0;}";
+
+const STOPS: &str = "/*cw{*/
+#include \"capweave.h\"
+#define CW_LIMITS(X)
+CW_TABLE(1,4,0)
+CW_MEM(0,0,0xf)
+CW_MEM(1,1,0xf)
+CW_MEM(2,3,0xf)
+CW_LIVE(0,0)
+CW_LIVE(2,0)
+CW_LIVE(3,0)
+CW_LIVE(4,0)
+CW_LIVE(5,1)
+CW_LIVE(6,2)
+CW_LIVE(7,2)
+CW_LIVE(8,2)
+CW_TRY(1,0,0,1,CW_NONE)
+CW_AT(1,1,2)
+CW_DONE
+/*}cw*/int main(void){/*cw{*/CW_ENTRY(0);/*}cw*/a:/*cw{*/CW_LABEL(1)/*}cw*/;return 0;}";
+
+const OPENED_AND_TAKEN: &str = "/*cw{*/
+#include \"capweave.h\"
+#define CW_LIMITS(X) X(0,fd,0x0)
+CW_TABLE(2,12,0)
+CW_MEM(0,0,0-11)
+CW_MEM(1,1,0-11)
+CW_MEM(2,2,0-11)
+CW_MEM(3,6,0-11)
+CW_MEM(4,7,0-11)
+CW_LIVE(0,0)
+CW_LIVE(0,2)
+CW_LIVE(2,0)
+CW_LIVE(2,2)
+CW_LIVE(4,0)
+CW_LIVE(4,2)
+CW_LIVE(5,0)
+CW_LIVE(5,2)
+CW_LIVE(6,0)
+CW_LIVE(6,2)
+CW_LIVE(7,0)
+CW_LIVE(9,0)
+CW_LIVE(11,0)
+CW_LIVE(12,0)
+CW_LIVE(13,0)
+CW_LIVE(14,0)
+CW_LIVE(14,2)
+CW_LIVE(16,0)
+CW_LIVE(16,2)
+CW_LIVE(18,0)
+CW_LIVE(18,2)
+CW_LIVE(19,0)
+CW_LIVE(19,2)
+CW_LIVE(20,2)
+CW_LIVE(21,0)
+CW_LIVE(21,1)
+CW_LIVE(23,0)
+CW_LIVE(23,1)
+CW_LIVE(24,3)
+CW_LIVE(24,4)
+CW_LIVE(25,3)
+CW_LIVE(25,4)
+CW_LIVE(26,3)
+CW_LIVE(27,3)
+CW_TRY(4,0,2,1,CW_NONE)
+CW_AT(4,0,3)
+CW_AT(4,1,4)
+CW_OPENED(2,0,2,0)
+CW_CLOSED(5,3,3)
+CW_CLOSED(5,4,3)
+CW_INTO(3,0,0,0)
+CW_INTO(3,0,2,2)
+CW_BACK(3,0,0,0,0)
+CW_BACK(3,0,0,2,2)
+CW_BACK(3,0,2,0,0)
+CW_BACK(3,0,2,2,2)
+CW_DONE
+/*}cw*/int fd;int f(void){/*cw{*/CW_ENTRY(0);/*}cw*/return 0;}int main(void){/*cw{*/CW_ENTRY(1);/*}cw*/int x;/*cw{*/CW_OPEN(2,fd)/*}cw*/fd=open(0);/*cw{*/CW_CALLV(3,x)/*}cw*/x=f();a:/*cw{*/CW_LABEL(4)/*}cw*/;/*cw{*/CW_CLOSE(5)/*}cw*/close(fd);return 0;}";
+
 pub(crate) fn words(alloc: Global, line: &[&str]) -> Result<Vec<String>, AllocError> {
     let mut words = Vec::new(alloc);
     for word in line {
@@ -189,6 +311,15 @@ fn weaves_refutes_or_tells_why_not(rt: HostRuntime) -> Result<(), Fail> {
     for _ in 0..13 {
         limits.push_str("[[limit]]\ndescriptor = \"0\"\nkeep = []\n")?;
     }
+    let stops =
+        "format = 1\nrefusable = [\"enter\"]\non_refusal = \"stop\"\n[[at]]\nlabel = \"a\"\nnever = [\"amb\"]\n";
+    let opened =
+        "format = 2\n[[descriptor]]\nname = \"fd\"\nrights = [\"CAP_READ\"]\n[[limit]]\ndescriptor = \"fd\"\nkeep = []\n[[at]]\nlabel = \"a\"\nnever = [\"fd:CAP_READ\"]\n";
+    let mut many = String::from_str(alloc, "int main(void){")?;
+    for _ in 0..8_190 {
+        many.push_str(";")?;
+    }
+    many.push_str("return 0;}")?;
     let weave = words(alloc, &["weave", "p.toml", "s.c"])?;
     for (policy, source, status, text, line) in [
         ("format = 1\n", "int main(void){return 0;}", 0, NO_RULES, ""),
@@ -209,7 +340,7 @@ fn weaves_refutes_or_tells_why_not(rt: HostRuntime) -> Result<(), Fail> {
             TWO_LABELS_IN_A_LOOP,
             "",
         ),
-        ("format = 2\n", two, 4, "", "policy: not yet\n"),
+        ("format = 2\n", two, 0, FORMAT_TWO, ""),
         ("format = 3\n", two, 4, "", "policy: kind format\n"),
         ("format = 3\n", "", 4, "", "policy: kind format\n"),
         ("format = 1\n", "", 3, "", "source: no main\n"),
@@ -241,21 +372,30 @@ fn weaves_refutes_or_tells_why_not(rt: HostRuntime) -> Result<(), Fail> {
             "",
             "source 1:46: call form\n",
         ),
-        (refusable, two, 4, "", "policy: not yet\n"),
+        (refusable, two, 1, REFUSED_ENTER, ""),
+        (stops, two, 0, STOPS, ""),
         (
-            refusable,
-            "void f(void);void f(void){}int main(void){f();return 0;}",
-            3,
+            never,
+            "void f(void){}int main(void){f();a:;return 0;}",
+            0,
+            OVER_A_CALL,
             "",
-            "source: not yet\n",
         ),
         (
-            refusable,
-            "int main(void){a:;;return 1;}",
+            opened,
+            "int fd;int f(void){return 0;}int main(void){int x;fd=open(0);x=f();a:;close(fd);return 0;}",
+            0,
+            OPENED_AND_TAKEN,
+            "",
+        ),
+        (
+            "format = 2\nsplit = [\"f\"]\ndetached = [\"f\"]\n",
+            "void f(void){}int main(void){f();return 0;}",
             4,
             "",
-            "policy: not yet\n",
+            "policy: detached\n",
         ),
+        ("format = 1\n", &many, 5, "", "limit: points\n"),
         (descriptor, two, 3, "", "source: no variable fd\n"),
         (
             descriptor,
@@ -581,7 +721,7 @@ fn judges_strategies_or_tells_why_not(rt: HostRuntime) -> Result<(), Fail> {
         ),
         (both, one, TWO_LABELS, 4, "", "policy: no label b\n"),
         (&many, two, REFUSED_ENTER, 5, "", "limit: product states\n"),
-        (splits, calls, REFUSED_ENTER, 4, "", "policy: not yet\n"),
+        (splits, calls, REFUSED_ENTER, 1, "row 0 condition 2\n", ""),
         (both, "int main(void){", "", 3, "", "source 1:16: syntax\n"),
         ("format = 3\n", "", "", 4, "", "policy: kind format\n"),
     ] {

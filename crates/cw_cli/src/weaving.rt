@@ -1,100 +1,96 @@
 //! What is due for `weave`.
 
-ghost use Rattle.std.specs.Prelude.{◌≡◌, ◌≤◌, length, IfErr, IfOk};
+ghost use Rattle.std.specs.Prelude.{◌≡◌, ◌≢◌, ◌≤◌, [], true, false, length, IfOk};
 ghost use Rattle.cw_rights.specs.Policies.{policy_of};
 ghost use Rattle.cw_rights.specs.Valid.{IsValid};
 ghost use Rattle.cw_syntax.specs.Trees.{file_of};
+ghost use Rattle.cw_actions.specs.Scenes.{names_of};
+ghost use Rattle.cw_points.specs.Graphs.{IsGraph};
 ghost use Rattle.cw_source.specs.Read.{ReadsAs};
 ghost use Rattle.cw_commands.specs.Outcomes.{due_of};
-ghost use Rattle.cw_cli.specs.Weaving.{is_large, AfterLabels, AfterPair, IsBeyond, IsWeaveDue, IsWithin};
+ghost use Rattle.cw_cli.specs.Weaving.{AfterFit, AfterFitting, AfterGraph, AfterPair, IsWeaveDue};
 
+use crate::fitting::fit_refusal;
 use crate::reading::read_both;
-use crate::refusals::{label_refusal, worded};
+use crate::refusals::{over, worded};
+use crate::refuting::game_refusal;
 use crate::verdict::judged;
 use cw_commands::{Cause, Outcome};
-use cw_core::NoMemory;
-use cw_layout::positions::has_call;
+use cw_core::{NoMemory, Quantity};
 use cw_points::build::build;
 use cw_points::{Graph, PointsFault};
-use cw_policy::read_first_policy;
+use cw_product::Game;
 use cw_rights::Policy;
 use cw_syntax::checked::Checked;
 use std::alloc::Global;
 
-/// The most points of a program that is woven yet.
-const POINTS: usize = 1024;
-
-/// Why a program isn't woven.
-#[derive(Clone, Copy, Drop)]
-pub(crate) enum NotWoven {
-    /// It isn't of the form that is woven yet.
-    Beyond,
-    /// There was no memory.
-    NoMemory,
-}
-
-/// Whether a graph has more points than a program that is woven yet, or a call.
-fn is_large(graph: &Graph) -> bool
-    ensures { result ≡ is_large graph.now.nodes.items }
-{
-    graph.nodes.len() > POINTS || has_call(graph)
-}
-
-/// Whether a program is of the form that is woven yet.
-fn within(alloc: Global, checked: &Checked, policy: &Policy) -> Result<(), NotWoven>
+/// That the game is over one of its numbers, or what comes behind that.
+fn played(
+    alloc: Global,
+    policy: &Policy,
+    checked: &Checked,
+    graph: &Graph,
+) -> Result<Outcome, NoMemory>
     requires valid { IsValid (policy_of policy.now) }
-    ensures within { IfOk result (λ done. IsWithin checked.now.source.now (file_of checked.now.program)) }
-    ensures beyond { IfErr result (λ why. why ≡ NotWoven.Beyond → IsBeyond checked.now.source.now (file_of checked.now.program)) }
+    requires reads { ReadsAs checked.now.source.now (file_of checked.now.program) }
+    requires graph { IsGraph (names_of (policy_of policy.now)) checked.now.source.now (file_of checked.now.program) graph.now }
+    requires points { length graph.now.nodes.items ≤ 8192 }
+    ensures { IfOk result (λ outcome.
+        AfterGraph checked.now.source.now (policy_of policy.now) (file_of checked.now.program) graph.now (due_of outcome)) }
 {
-    match build(alloc, checked, policy) {
-        Ok(graph) => {
-            if is_large(&graph) {
-                Err(NotWoven::Beyond)
-            } else {
-                Ok(())
-            }
-        }
-        Err(PointsFault::TooManyPoints) => Err(NotWoven::Beyond),
-        Err(PointsFault::NoMemory) => Err(NotWoven::NoMemory),
+    match Game::make(alloc, graph, policy) {
+        Ok(game) => judged(alloc, checked, &game),
+        Err(fault) => game_refusal(alloc, &fault),
     }
 }
 
-/// That the policy isn't of the first form, or the verdict.
-fn fitted(alloc: Global, policy: &[u8], checked: &Checked) -> Result<Outcome, NoMemory>
+/// That the program has too many points, or what comes behind that.
+fn drawn(alloc: Global, policy: &Policy, checked: &Checked) -> Result<Outcome, NoMemory>
+    requires valid { IsValid (policy_of policy.now) }
     requires reads { ReadsAs checked.now.source.now (file_of checked.now.program) }
-    requires within { IsWithin checked.now.source.now (file_of checked.now.program) }
-    ensures { IfOk result (λ outcome. AfterLabels policy.now checked.now.source.now (file_of checked.now.program) (due_of outcome)) }
+    ensures { IfOk result (λ outcome.
+        AfterFitting checked.now.source.now (policy_of policy.now) (file_of checked.now.program) (due_of outcome)) }
 {
-    match read_first_policy(alloc, policy)? {
-        None => {
-            let line = worded(alloc, b"policy: not yet", b"")?;
-            Ok(Outcome::Refused(Cause::Policy, line))
-        }
-        Some(plain) => judged(alloc, checked, &plain),
+    match build(alloc, checked, policy) {
+        Ok(graph) => played(alloc, policy, checked, &graph),
+        Err(PointsFault::TooManyPoints) => over(alloc, Quantity::Points),
+        Err(PointsFault::NoMemory) => Err(NoMemory),
+    }
+}
+
+/// Whether a policy detaches no function.
+fn detaches_none(policy: &Policy) -> bool
+    ensures none { result ≡ true → (policy_of policy.now).detached ≡ [] }
+    ensures some { result ≡ false → (policy_of policy.now).detached ≢ [] }
+{
+    policy.detached.is_empty()
+}
+
+/// That the policy detaches functions, or what comes behind that.
+fn waited(alloc: Global, policy: &Policy, checked: &Checked) -> Result<Outcome, NoMemory>
+    requires valid { IsValid (policy_of policy.now) }
+    requires reads { ReadsAs checked.now.source.now (file_of checked.now.program) }
+    ensures { IfOk result (λ outcome.
+        AfterFit checked.now.source.now (policy_of policy.now) (file_of checked.now.program) (due_of outcome)) }
+{
+    if detaches_none(policy) {
+        drawn(alloc, policy, checked)
+    } else {
+        let line = worded(alloc, b"policy: detached", b"")?;
+        Ok(Outcome::Refused(Cause::Policy, line))
     }
 }
 
 /// What is due for a policy and a program that are read.
-fn formed(
-    alloc: Global,
-    policy: &[u8],
-    whole: &Policy,
-    checked: &Checked,
-) -> Result<Outcome, NoMemory>
-    requires valid { IsValid (policy_of whole.now) }
+fn fitted(alloc: Global, policy: &Policy, checked: &Checked) -> Result<Outcome, NoMemory>
+    requires valid { IsValid (policy_of policy.now) }
     requires reads { ReadsAs checked.now.source.now (file_of checked.now.program) }
-    ensures { IfOk result (λ outcome. AfterPair policy.now checked.now.source.now (policy_of whole.now) (file_of checked.now.program) (due_of outcome)) }
+    ensures { IfOk result (λ outcome.
+        AfterPair checked.now.source.now (policy_of policy.now) (file_of checked.now.program) (due_of outcome)) }
 {
-    match within(alloc, checked, whole) {
-        Ok(()) => match label_refusal(alloc, whole, checked)? {
-            Some(outcome) => Ok(outcome),
-            None => fitted(alloc, policy, checked),
-        },
-        Err(NotWoven::Beyond) => {
-            let line = worded(alloc, b"source: not yet", b"")?;
-            Ok(Outcome::Refused(Cause::Source, line))
-        }
-        Err(NotWoven::NoMemory) => Err(NoMemory),
+    match fit_refusal(alloc, policy, checked)? {
+        Some(outcome) => Ok(outcome),
+        None => waited(alloc, policy, checked),
     }
 }
 
@@ -104,7 +100,7 @@ pub fn weave_due(alloc: Global, policy: &[u8], source: &[u8]) -> Result<Outcome,
     ensures due { IfOk result (λ outcome. IsWeaveDue policy.now source.now (due_of outcome)) }
 {
     match read_both(alloc, policy, source) {
-        Ok(pair) => formed(alloc, policy, &pair.policy, &pair.checked),
+        Ok(pair) => fitted(alloc, &pair.policy, &pair.checked),
         Err(answer) => answer,
     }
 }

@@ -16,28 +16,31 @@ use Rattle.cw_syntax.specs.Frames.{new_frame}
 use Rattle.cw_syntax.specs.Plans.{Plain, Call, Label, Stms, end, then, Routine, Plan}
 use Rattle.cw_model.specs.Boards.{Problem, may_grant}
 use Rattle.cw_model.specs.Plays.{Beats}
-use Rattle.cw_game.specs.declared.ambient.AmbientTest.{AmbientTest}
 use Rattle.cw_game.specs.declared.spots.Spot.{Spot}
 use Rattle.cw_game.specs.declared.spots.Spot.TheVariants.{Step, Exit, Visit as VisitSpot, Asked as AskedSpot, Label as LabelSpot, Call as CallSpot, SplitCall}
-use Rattle.cw_game.specs.Ambient.{bad_words, IsAmbient, is_bad, is_granted}
 use Rattle.cw_game.specs.Games.{States, AreStates, letter_of, Game, IsLost}
 use Rattle.cw_game.specs.Places.{At, IsLaidOut, HasRoutines}
 use Rattle.cw_game.specs.Conditions.{fault_in, strategy_fault, IsGoodStrategy}
 use Rattle.cw_game.specs.Standing.{IsGameOf}
-use Rattle.cw_game.proofs.Ambients.{bad_last, last_bad}
 use Rattle.cw_game.proofs.Reached.{are_reached}
 use Rattle.cw_echeck.specs.Beating.{IsStartRow}
+use Rattle.cw_echeck.proofs.LastLetters.{LetterTest, bad_words, is_bad, AreOfTests, bad_last, last_bad}
 use Rattle.cw_echeck.proofs.Laws.{good_starts, good_beat, good_lose}
 
-abbrev tests : List AmbientTest
+abbrev tests : List LetterTest
 tests = record { label = 0; wanted = true } ∷ []
 
 -- the label `a`, and the function `f`, which may be called in a process of its own
 abbrev policy : PlainPolicy
 policy = record { descriptors = []; limits = []; refuse_limit = false; refuse_enter = true; refuse_split = false; split = (102 ∷ []) ∷ []; labels = (97 ∷ []) ∷ []; rules = record { name = []; bad = bad_words (record { label = 0; wanted = true }) } ∷ []; stop = false; format = 1; detached = [] }
 
-is_ambient : IsAmbient policy tests
-is_ambient = record { limits = refl; rules = refl; stop = refl }
+of_tests : AreOfTests policy tests
+of_tests = refl
+
+-- nothing is limited here, and every other primitive may be granted
+abbrev is_granted : Primitive → Bool
+is_granted (Limit limit) = false
+is_granted _ = true
 
 -- state 0 has ambient authority, state 1 has none
 abbrev state_with : Bool → ℕ
@@ -101,8 +104,8 @@ right = record {
   opened = λ q w c d at lt h. absurd (omega (arith, lt));
   closed = λ q w c d at lt h. absurd (omega (arith, lt));
   bad = λ q w c l at h. (
-    (λ e. last_bad policy tests is_ambient w (letter_of l c) (sym (ap (is_bad tests l) (flag_is q c.amb h)) ∙ e)),
-    (λ b. ap (is_bad tests l) (flag_is q c.amb h) ∙ bad_last policy tests is_ambient w (letter_of l c) b),
+    (λ e. last_bad policy tests of_tests w (letter_of l c) (sym (ap (is_bad tests l) (flag_is q c.amb h)) ∙ e)),
+    (λ b. ap (is_bad tests l) (flag_is q c.amb h) ∙ bad_last policy tests of_tests w (letter_of l c) b),
   );
   lettered = λ q w c l at h fine. h;
   returned = λ x q w v c k h h2. h2;

@@ -6,4 +6,5 @@ pub mod Rows
 pub mod Members
 pub mod Starts
 pub mod Laws
+mod LastLetters
 mod Example

@@ -1,18 +1,15 @@
 -- What is woven is cut back to the source.
 use Rattle.std.proofs.Common.{◌≡◌, ℕ, suc, ◌+◌, ◌-◌, true, false, List, [], ◌∷◌, ◌++◌, length, take, drop, refl, sym, ap, ◌∙◌, append_assoc, arith, drop-drop}
 use Rattle.std.specs.Prelude.{not, ◌==◌, codes}
-use Rattle.std.proofs.Math.Seq.{drop-append_seam}
 use Rattle.std.proofs.lemmas.Bool.{and_parts, true≢false, eq-eqb}
-use Rattle.cw_text.specs.Lines.{line}
-use Rattle.cw_text.specs.LimitsText.{limits_line}
-use Rattle.cw_text.specs.TableText.{table_text}
-use Rattle.std.proofs.lemmas.List.{append-nil, take-append-drop}
+use Rattle.std.proofs.lemmas.List.{append-nil, append_cancel_left, take-append-drop}
 use Rattle.cw_rights.specs.Policies.{PlainPolicy}
 use Rattle.cw_syntax.specs.Marks.{SeamMark, AreInOrder}
 use Rattle.cw_certs.specs.Tables.{Table}
+use Rattle.cw_tabletext.specs.TablesText.{tables_text}
 use Rattle.cw_emit.specs.Cut.{closing, cut_from, cut, part, HasNone}
-use Rattle.cw_emit.specs.Woven.{spelled, woven_from, woven, prologue, prologue_lines, ArePlainNames, ArePlainMarks, StandsPlainly}
-use Rattle.cw_emit.proofs.Slashes.{is_plain, plain_spelled, plain_prologue}
+use Rattle.cw_emit.specs.Woven.{spelled, woven_from, woven, prologue, ArePlainNames, ArePlainMarks, StandsPlainly}
+use Rattle.cw_emit.proofs.Slashes.{is_plain, plain_spelled, plain_lines}
 use Rattle.cw_emit.proofs.Openings.{is_free, free_from_none, free_cut, free_drop, free_take, part_cut}
 
 ends : (a : List ℕ) → a ++ cut_from 0 false [] ≡ a
@@ -39,7 +36,7 @@ woven_cut policy source (m ∷ ms) at free names plain order =
 
 pub cut_of_woven : (policy : PlainPolicy) (table : Table) (source : List ℕ) (ms : List SeamMark) → HasNone (codes "cw{*") source → ArePlainNames policy → ArePlainMarks source ms → AreInOrder 0 (length source) ms → cut (prologue policy table ++ woven policy source ms) ≡ source
 cut_of_woven policy table source ms none names plain order =
-    part_cut (prologue_lines policy table) (woven policy source ms) (plain_prologue policy table names)
+    part_cut (codes "\n" ++ tables_text policy table) (woven policy source ms) (plain_lines policy table names)
     ∙ woven_cut policy source ms 0 (free_from_none source none) names plain order
 
 cut_is : (text source : List ℕ) (ms : List SeamMark) (table : Table) (policy : PlainPolicy) → StandsPlainly text source ms table policy → cut text ≡ source
@@ -65,8 +62,7 @@ part_shape a x = append_assoc a closing x
 pub same_part : (a b x y : List ℕ) → is_plain a ≡ true → is_plain b ≡ true → part a ++ x ≡ part b ++ y → a ≡ b
 same_part a b x y p q e = before_slash a b (drop 1 closing ++ x) (drop 1 closing ++ y) p q (sym (part_shape a x) ∙ ap (drop 7) e ∙ part_shape b y)
 
-pub table_text_is_one : (text source other : List ℕ) (marks others : List SeamMark) (table table2 : Table) (policy : PlainPolicy) → StandsPlainly text source marks table policy → StandsPlainly text other others table2 policy → table_text table ≡ table_text table2
+pub table_text_is_one : (text source other : List ℕ) (marks others : List SeamMark) (table table2 : Table) (policy : PlainPolicy) → StandsPlainly text source marks table policy → StandsPlainly text other others table2 policy → tables_text policy table ≡ tables_text policy table2
 table_text_is_one text source other marks others table table2 policy s t =
-    let lines : prologue_lines policy table ≡ prologue_lines policy table2 = same_part (prologue_lines policy table) (prologue_lines policy table2) (woven policy source marks) (woven policy other others) (plain_prologue policy table s.names) (plain_prologue policy table2 t.names) (sym s.stands ∙ t.stands) in
-    let head : List ℕ = line [] ++ line (codes "#include \"capweave.h\"") ++ limits_line policy in
-    sym (drop-append_seam head (table_text table)) ∙ ap (drop (length head)) lines ∙ drop-append_seam head (table_text table2)
+    let lines = same_part (codes "\n" ++ tables_text policy table) (codes "\n" ++ tables_text policy table2) (woven policy source marks) (woven policy other others) (plain_lines policy table s.names) (plain_lines policy table2 t.names) (sym s.stands ∙ t.stands) in
+    append_cancel_left (codes "\n") (tables_text policy table) (tables_text policy table2) lines

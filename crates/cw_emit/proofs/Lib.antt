@@ -1,6 +1,6 @@
 pub mod OneMark
 pub mod Slashes
 pub mod Openings
+pub mod Names
 pub mod Cutting
-pub mod Premises
 pub mod OneList

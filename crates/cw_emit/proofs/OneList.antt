@@ -8,9 +8,10 @@ use Rattle.std.proofs.lemmas.List.{append_cancel_left}
 use Rattle.cw_rights.specs.Policies.{PlainPolicy}
 use Rattle.cw_syntax.specs.Marks.{SeamMark, AreInOrder}
 use Rattle.cw_certs.specs.Tables.{Table}
+use Rattle.cw_tabletext.specs.TablesText.{tables_text}
 use Rattle.cw_emit.specs.Cut.{opening, part}
-use Rattle.cw_emit.specs.Woven.{spelled, placed, woven_from, woven, prologue, prologue_lines, ArePlainNames, ArePlainMarks, StandsPlainly}
-use Rattle.cw_emit.proofs.Slashes.{plain_spelled, plain_prologue}
+use Rattle.cw_emit.specs.Woven.{spelled, placed, woven_from, woven, prologue, ArePlainNames, ArePlainMarks, StandsPlainly}
+use Rattle.cw_emit.proofs.Slashes.{plain_spelled, plain_lines}
 use Rattle.cw_emit.proofs.Openings.{is_free, free_from_none, free_drop, free_take, no_opening, starts_again}
 use Rattle.cw_emit.proofs.Cutting.{others_plain, same_part, source_is_one}
 
@@ -65,6 +66,8 @@ marks_are_one text source other marks others table table2 policy s t =
     let same : source ≡ other = source_is_one text source other marks others table table2 policy policy s t in
     let u : StandsPlainly text source others table2 policy = subst (λ (z : List ℕ). StandsPlainly text z others table2 policy) (sym same) t in
     let both : prologue policy table ++ woven policy source marks ≡ prologue policy table2 ++ woven policy source others = sym s.stands ∙ u.stands in
-    let lines : prologue_lines policy table ≡ prologue_lines policy table2 = same_part (prologue_lines policy table) (prologue_lines policy table2) _ _ (plain_prologue policy table s.names) (plain_prologue policy table2 s.names) both in
+    let front : List ℕ = codes "\n" ++ tables_text policy table in
+    let back : List ℕ = codes "\n" ++ tables_text policy table2 in
+    let lines : front ≡ back = same_part front back _ _ (plain_lines policy table s.names) (plain_lines policy table2 t.names) both in
     let rests : woven policy source marks ≡ woven policy source others = append_cancel_left (prologue policy table2) _ _ (ap (λ (z : List ℕ). part z ++ woven policy source marks) (sym lines) ∙ both) in
     same_marks policy source marks others 0 (free_from_none source s.free) s.names s.marked u.marked s.order u.order rests ∙ ap (λ (z : List ℕ). map (placed policy z) others) same

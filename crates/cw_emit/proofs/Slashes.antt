@@ -1,24 +1,30 @@
 -- What the weaver writes between an opening and a closing has no slash.
-use Rattle.std.proofs.Common.{◌≡◌, ℕ, zero, suc, ◌+◌, ◌/◌, ◌%◌, ◌≤◌, Bool, true, false, cond, not, Option, None, Some, List, [], ◌∷◌, ◌++◌, map, refl, sym, ◌∙◌, arith}
-use Rattle.std.specs.Prelude.{nat_eq, nat_lt, ◌==◌, if◌then◌else◌, codes}
+use Rattle.std.proofs.Common.{◌≡◌, ℕ, zero, suc, ◌+◌, ◌/◌, ◌%◌, ◌≤◌, Bool, true, false, cond, not, Option, None, Some, List, [], ◌∷◌, ◌++◌, map, length, refl, sym, ◌∙◌, arith}
+use Rattle.std.specs.Prelude.{nat_eq, nat_lt, ◌==◌, ◌&&◌, if◌then◌else◌, codes}
 use Rattle.std.specs.Char.{digit_char}
 use Rattle.std.specs.Fmt.{decimal, digits, digits_onto, digit_glyph}
 use Rattle.std.specs.Int.Digits.{digits_of}
-use Rattle.std.specs.List.{flat_map, list_all, starts_with, enumerate_from}
+use Rattle.std.specs.List.{flat_map, list_all, starts_with, enumerate_from, join_with_byte}
 use Rattle.std.proofs.lemmas.Bool.{and_from, not_from_false, false_from_ne_true, ne_eqb, eqb-true, true≢false}
 use Rattle.std.proofs.lemmas.List.Folds.{list_all-append}
-use Rattle.cw_core.specs.declared.ids.StateId.{StateId}
 use Rattle.cw_core.specs.declared.ids.MemId.{MemId}
 use Rattle.cw_core.specs.Numerals.{hexadecimal, hexadecimal_digits}
+use Rattle.cw_core.specs.Ranges.{Run, run_text, runs_text, runs_of, members, ranges, set_spelling}
 use Rattle.cw_rights.specs.Policies.{PlainPolicy}
 use Rattle.cw_syntax.specs.Names.{text}
 use Rattle.cw_syntax.specs.Marks.{MarkKind, EntryMark, LabelMark, OpenMark, CloseMark, CallMark, SeamMark}
 use Rattle.cw_certs.specs.Tables.{Table}
-use Rattle.cw_text.specs.Lines.{line, with_fields, joined, numbered}
-use Rattle.cw_text.specs.TableText.{answer, mode, live_fields, try_fields, after_fields, opened_fields, into_fields, back_fields, memory_line, lines, table_text}
-use Rattle.cw_text.specs.LimitsText.{descriptor_name, limit_word, limits_line}
+use Rattle.cw_lines.specs.Lines.{line, set_text}
+use Rattle.cw_lines.specs.Lines.{joined as joined_by}
+use Rattle.cw_text.specs.Lines.{with_fields, joined, numbered}
+use Rattle.cw_text.specs.TableText.{answer, mode}
+use Rattle.cw_text.specs.LimitsText.{descriptor_name, limit_word}
+use Rattle.cw_tabletext.specs.declared.row.Row.{Row}
+use Rattle.cw_tabletext.specs.declared.row.Row.TheVariants.{Memory, Live, Try, At, Opened, Closed, Into, Back}
+use Rattle.cw_tabletext.specs.Rows.{rows_of, row_words, called, name_of, fields_of}
+use Rattle.cw_tabletext.specs.TablesText.{header, limits_words, table_words, done, tables_lines, text_of, tables_text}
 use Rattle.cw_emit.specs.Cut.{HasNone}
-use Rattle.cw_emit.specs.Woven.{spelling, spelled, prologue_lines, ArePlainNames, IsPlainKind}
+use Rattle.cw_emit.specs.Woven.{spelling, spelled, ArePlainNames, IsPlainKind}
 
 -- no byte is a slash
 abbrev pub is_plain : List ℕ → Bool
@@ -124,12 +130,6 @@ plain_fields name ws p q =
     plain_append (name ++ codes "(" ++ joined (codes ",") ws) (codes ")")
     (plain_append (name ++ codes "(") (joined (codes ",") ws) (plain_append name (codes "(") p (plain_is _ refl)) (plain_joined ws q)) (plain_is _ refl)
 
-plain_line : (words : List ℕ) → Plain words → Plain (line words)
-plain_line words p = plain_append words (codes "\n") p (plain_is _ refl)
-
-plain_lines : {A : Type 0} (name : List ℕ) (fields : A → List (List ℕ)) → Plain name → ((x : A) → ArePlain (fields x)) → (rows : List A) → Plain (lines name fields rows)
-plain_lines name fields p each rows = plain_rows (λ row. line (with_fields name (fields row))) (λ row. plain_line (with_fields name (fields row)) (plain_fields name (fields row) p (each row))) rows
-
 plain_answer : (m : Option MemId) → Plain (answer m)
 plain_answer None = (plain_is _ refl)
 plain_answer (Some m) = plain_decimal m.0
@@ -138,31 +138,98 @@ plain_mode : (split : Bool) → Plain (mode split)
 plain_mode false = plain_decimal 0
 plain_mode true = plain_decimal 1
 
-plain_table : (t : Table) → Plain (table_text t)
-unfolding table_text
-plain_table t =
-    let head = plain_line (with_fields (codes "CW_TABLE") (decimal 1 ∷ decimal t.states ∷ decimal t.start.0 ∷ [])) (plain_fields (codes "CW_TABLE") (decimal 1 ∷ decimal t.states ∷ decimal t.start.0 ∷ []) (plain_is _ refl) (plain_decimal 1, (plain_decimal t.states, (plain_decimal t.start.0, tt)))) in
-    let mems = plain_rows (λ (row : ℕ × (StateId × ℕ)). memory_line row.0 row.1) (λ row. plain_line _ (plain_fields (codes "CW_MEM") (decimal row.0 ∷ decimal row.1.0.0 ∷ hexadecimal row.1.1 ∷ []) (plain_is _ refl) (plain_decimal row.0, (plain_decimal row.1.0.0, (plain_hexadecimal row.1.1, tt))))) (enumerate_from 0 t.mems) in
-    let live = plain_lines (codes "CW_LIVE") live_fields (plain_is _ refl) (λ r. (plain_decimal r.0.0, (plain_decimal r.1.0, tt))) t.live in
-    let tries = plain_lines (codes "CW_TRY") try_fields (plain_is _ refl) (λ r. (plain_decimal r.seam.0, (plain_decimal r.stage, (plain_decimal r.mem.0, (plain_answer r.granted, (plain_answer r.refused, tt)))))) t.tries in
-    let ats = plain_lines (codes "CW_AT") after_fields (plain_is _ refl) (λ r. (plain_decimal r.seam.0, (plain_decimal r.mem.0, (plain_decimal r.after.0, tt)))) t.ats in
-    let opened = plain_lines (codes "CW_OPENED") opened_fields (plain_is _ refl) (λ r. (plain_decimal r.seam.0, (plain_decimal r.mem.0, (plain_decimal r.opened.0, (plain_decimal r.failed.0, tt))))) t.opened in
-    let closed = plain_lines (codes "CW_CLOSED") after_fields (plain_is _ refl) (λ r. (plain_decimal r.seam.0, (plain_decimal r.mem.0, (plain_decimal r.after.0, tt)))) t.closed in
-    let into = plain_lines (codes "CW_INTO") into_fields (plain_is _ refl) (λ r. (plain_decimal r.seam.0, (plain_mode r.split, (plain_decimal r.mem.0, (plain_decimal r.callee.0, tt))))) t.into in
-    let back = plain_lines (codes "CW_BACK") back_fields (plain_is _ refl) (λ r. (plain_decimal r.seam.0, (plain_mode r.split, (plain_decimal r.mem.0, (plain_decimal r.exit.0, (plain_decimal r.after.0, tt)))))) t.back in
-    plain_append _ _ (plain_append _ _ (plain_append _ _ (plain_append _ _ (plain_append _ _ (plain_append _ _ (plain_append _ _ (plain_append _ _ (plain_append _ _ head mems) live) tries) ats) opened) closed) into) back) (plain_is _ refl)
+plain_run : (run : Run) → Plain (run_text run)
+unfolding run_text
+plain_run run = by_test (run.least == run.greatest)
+  where
+    by_test : (t : Bool) → Plain (if t then decimal run.least else decimal run.least ++ (codes "-" ++ decimal run.greatest))
+    by_test true = plain_decimal run.least
+    by_test false = plain_append (decimal run.least) _ (plain_decimal run.least) (plain_append (codes "-") _ (plain_is _ refl) (plain_decimal run.greatest))
 
-plain_limits : (policy : PlainPolicy) → ArePlainNames policy → Plain (limits_line policy)
-unfolding limits_line
+-- words with a mark between that is no slash
+plain_between : (mark : ℕ) → Plain (mark ∷ []) → (ws : List (List ℕ)) → ArePlain ws → Plain (join_with_byte mark ws)
+plain_between mark m [] p = plain_is [] refl
+plain_between mark m (w ∷ []) p = p.0
+plain_between mark m (w ∷ v ∷ ws) p = plain_append w (mark ∷ join_with_byte mark (v ∷ ws)) p.0 (plain_append (mark ∷ []) (join_with_byte mark (v ∷ ws)) m (plain_between mark m (v ∷ ws) p.1))
+
+are_plain_runs : (runs : List Run) → ArePlain (map run_text runs)
+are_plain_runs [] = tt
+are_plain_runs (r ∷ rs) = (plain_run r, are_plain_runs rs)
+
+plain_ranges : (set : ℕ) → Plain (ranges set)
+unfolding ranges runs_text
+plain_ranges set = plain_between 43 (plain_is _ refl) (map run_text (runs_of (members set))) (are_plain_runs (runs_of (members set)))
+
+plain_set : (format set : ℕ) → Plain (set_text format set)
+unfolding set_text set_spelling
+plain_set format set = by_test (format == 2) (not (set == 0) && nat_lt (length (ranges set)) (length (hexadecimal set)))
+  where
+    by_test : (t u : Bool) → Plain (if t then (if u then ranges set else hexadecimal set) else hexadecimal set)
+    by_test true true = plain_ranges set
+    by_test true false = plain_hexadecimal set
+    by_test false u = plain_hexadecimal set
+
+-- ---- rows
+
+plain_called : (name : List ℕ) (ws : List (List ℕ)) → Plain name → ArePlain ws → Plain (called name ws)
+plain_called name ws p q =
+    plain_append name (codes "(" ++ (joined_by 44 ws ++ codes ")")) p
+    (plain_append (codes "(") (joined_by 44 ws ++ codes ")") (plain_is _ refl) (plain_append (joined_by 44 ws) (codes ")") (plain_between 44 (plain_is _ refl) ws q) (plain_is _ refl)))
+
+plain_name : (r : Row) → Plain (name_of r)
+plain_name (Memory n m) = plain_is _ refl
+plain_name (Live p) = plain_is _ refl
+plain_name (Try r) = plain_is _ refl
+plain_name (At r) = plain_is _ refl
+plain_name (Opened r) = plain_is _ refl
+plain_name (Closed r) = plain_is _ refl
+plain_name (Into r) = plain_is _ refl
+plain_name (Back r) = plain_is _ refl
+
+plain_row : (format : ℕ) (r : Row) → ArePlain (fields_of format r)
+plain_row format (Memory n m) = (plain_decimal n, (plain_decimal m.0.0, (plain_set format m.1, tt)))
+plain_row format (Live r) = (plain_decimal r.0.0, (plain_decimal r.1.0, tt))
+plain_row format (Try r) = (plain_decimal r.seam.0, (plain_decimal r.stage, (plain_decimal r.mem.0, (plain_answer r.granted, (plain_answer r.refused, tt)))))
+plain_row format (At r) = (plain_decimal r.seam.0, (plain_decimal r.mem.0, (plain_decimal r.after.0, tt)))
+plain_row format (Opened r) = (plain_decimal r.seam.0, (plain_decimal r.mem.0, (plain_decimal r.opened.0, (plain_decimal r.failed.0, tt))))
+plain_row format (Closed r) = (plain_decimal r.seam.0, (plain_decimal r.mem.0, (plain_decimal r.after.0, tt)))
+plain_row format (Into r) = (plain_decimal r.seam.0, (plain_mode r.split, (plain_decimal r.mem.0, (plain_decimal r.callee.0, tt))))
+plain_row format (Back r) = (plain_decimal r.seam.0, (plain_mode r.split, (plain_decimal r.mem.0, (plain_decimal r.exit.0, (plain_decimal r.after.0, tt)))))
+
+plain_words : (format : ℕ) (r : Row) → Plain (row_words format r)
+unfolding row_words
+plain_words format r = plain_called (name_of r) (fields_of format r) (plain_name r) (plain_row format r)
+
+plain_limits : (policy : PlainPolicy) → ArePlainNames policy → Plain (limits_words policy)
+unfolding limits_words
 plain_limits policy names =
-    plain_line _ (plain_append (codes "#define CW_LIMITS(X)") (numbered (limit_word policy) policy.limits) (plain_is _ refl)
-    (plain_rows (λ row. limit_word policy row.0 row.1) (λ row. plain_append (codes " ") _ (plain_is _ refl) (plain_fields (codes "X") (decimal row.0 ∷ descriptor_name policy row.1.descriptor ∷ hexadecimal row.1.keep.0 ∷ []) (plain_is _ refl) (plain_decimal row.0, (plain_from_none _ (names row.1.descriptor), (plain_hexadecimal row.1.keep.0, tt))))) (enumerate_from 0 policy.limits)))
+    plain_append (codes "#define CW_LIMITS(X)") (numbered (limit_word policy) policy.limits) (plain_is _ refl)
+    (plain_rows (λ row. limit_word policy row.0 row.1) (λ row. plain_append (codes " ") _ (plain_is _ refl) (plain_fields (codes "X") (decimal row.0 ∷ descriptor_name policy row.1.descriptor ∷ hexadecimal row.1.keep.0 ∷ []) (plain_is _ refl) (plain_decimal row.0, (plain_from_none _ (names row.1.descriptor), (plain_hexadecimal row.1.keep.0, tt))))) (enumerate_from 0 policy.limits))
 
-pub plain_prologue : (policy : PlainPolicy) (table : Table) → ArePlainNames policy → is_plain (prologue_lines policy table) ≡ true
-plain_prologue policy table names =
-    is_from_plain _
-    (plain_append (line [] ++ line (codes "#include \"capweave.h\"") ++ limits_line policy) (table_text table)
-    (plain_append (line [] ++ line (codes "#include \"capweave.h\"")) (limits_line policy) (plain_is _ refl) (plain_limits policy names)) (plain_table table))
+plain_head : (format states : ℕ) (start : MemId) → Plain (table_words format states start)
+unfolding table_words
+plain_head format states start = plain_called (codes "CW_TABLE") (decimal format ∷ decimal states ∷ decimal start.0 ∷ []) (plain_is _ refl) (plain_decimal format, (plain_decimal states, (plain_decimal start.0, tt)))
+
+both_plain : (xs bs : List (List ℕ)) → ArePlain xs → ArePlain bs → ArePlain (xs ++ bs)
+both_plain [] bs p q = q
+both_plain (x ∷ xs) bs p q = (p.0, both_plain xs bs p.1 q)
+
+rows_plain : (format : ℕ) (rs : List Row) → ArePlain (map (row_words format) rs)
+rows_plain format [] = tt
+rows_plain format (r ∷ rs) = (plain_words format r, rows_plain format rs)
+
+plain_text : (ls : List (List ℕ)) → ArePlain ls → Plain (text_of ls)
+plain_text [] p = plain_is [] refl
+plain_text (l ∷ ls) p = plain_append (line l) (text_of ls) (plain_append l (codes "\n") p.0 (plain_is _ refl)) (plain_text ls p.1)
+
+plain_tables : (policy : PlainPolicy) (t : Table) → ArePlainNames policy → Plain (tables_text policy t)
+unfolding tables_text
+plain_tables policy t names =
+    plain_text (tables_lines policy t)
+    (plain_is header refl, (plain_limits policy names, (plain_head policy.format t.states t.start, both_plain (map (row_words policy.format) (rows_of t)) (done ∷ []) (rows_plain policy.format (rows_of t)) (plain_is done refl, tt))))
+
+pub plain_lines : (policy : PlainPolicy) (t : Table) → ArePlainNames policy → is_plain (codes "\n" ++ tables_text policy t) ≡ true
+plain_lines policy t names = is_from_plain _ (plain_append (codes "\n") (tables_text policy t) (plain_is _ refl) (plain_tables policy t names))
 
 -- ---- marks
 

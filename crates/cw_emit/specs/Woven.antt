@@ -6,9 +6,9 @@ use Rattle.cw_rights.specs.Policies.{PlainPolicy}
 use Rattle.cw_syntax.specs.Names.{text}
 use Rattle.cw_syntax.specs.Marks.{MarkKind, EntryMark, LabelMark, OpenMark, CloseMark, CallMark, SeamMark, AreInOrder}
 use Rattle.cw_certs.specs.Tables.{Table}
-use Rattle.cw_text.specs.Lines.{line, with_fields}
-use Rattle.cw_text.specs.TableText.{table_text}
-use Rattle.cw_text.specs.LimitsText.{descriptor_name, limits_line}
+use Rattle.cw_text.specs.Lines.{with_fields}
+use Rattle.cw_text.specs.LimitsText.{descriptor_name}
+use Rattle.cw_tabletext.specs.TablesText.{tables_text}
 use Rattle.cw_emit.specs.Cut.{HasNone, part}
 
 -- A mark as it is spelled. That of an entry is a statement of its own, the others are prefixes of one. An open has the
@@ -36,13 +36,9 @@ woven_from policy source at (m ∷ ms) = take (m.place - at) (drop at source) ++
 abbrev pub woven : PlainPolicy → List ℕ → List SeamMark → List ℕ
 woven policy source marks = woven_from policy source 0 marks
 
--- the header that the marks need, the policy's limits and the table; the first line has the opening alone
-abbrev pub prologue_lines : PlainPolicy → Table → List ℕ
-prologue_lines policy table = line [] ++ line (codes "#include \"capweave.h\"") ++ limits_line policy ++ table_text table
-
--- a part with these lines
+-- a part with the lines of the table; its first line has the opening alone
 abbrev pub prologue : PlainPolicy → Table → List ℕ
-prologue policy table = part (prologue_lines policy table)
+prologue policy table = part (codes "\n" ++ tables_text policy table)
 
 -- the text is the prologue, and then the source with its marks
 abbrev pub Stands : List ℕ → List ℕ → List SeamMark → Table → PlainPolicy → Type 0

@@ -1,10 +1,9 @@
-//! Woven texts: a prologue with the table, and the source with the marks of its seams.
+//! Woven texts of both formats: a prologue with the table, and the source with the marks of its seams.
 #![tactic(auto)]
 
 pub mod laws;
 mod marks;
-#[cfg(test)]
-mod tests;
 mod weave;
 
+pub use marks::put_spelling;
 pub use weave::weave_text;

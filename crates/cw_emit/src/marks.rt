@@ -29,7 +29,8 @@ pub(crate) fn put_mark(
     put_bytes(b"/*}cw*/", text)
 }
 
-fn put_spelling(
+/// Appends a mark as it is spelled.
+pub fn put_spelling(
     seam: u32,
     kind: MarkKind,
     source: &[u8],

@@ -33,11 +33,11 @@ use Rattle.cw_game.specs.Conditions.{is_mem_row, is_try_row, is_at_row, is_open_
 use Rattle.cw_game.proofs.Truths.{and_parts, both, or_parts, not_true, neither, is_false}
 
 -- Where no condition fails each holds.
-taken : {A : Type 0} (b : Bool) (rest : Option A) (a : A) → cond b rest (Some a) ≡ None → (b ≡ true) × (rest ≡ None)
+pub taken : {A : Type 0} (b : Bool) (rest : Option A) (a : A) → cond b rest (Some a) ≡ None → (b ≡ true) × (rest ≡ None)
 taken true rest a h = (refl, h)
 taken false rest a h = absurd (none-some a (sym h))
 
-none_first : {A : Type 0} (xs ys : List (A × Bool)) → first_failing (xs ++ ys) ≡ None → (first_failing xs ≡ None) × (first_failing ys ≡ None)
+pub none_first : {A : Type 0} (xs ys : List (A × Bool)) → first_failing (xs ++ ys) ≡ None → (first_failing xs ≡ None) × (first_failing ys ≡ None)
 none_first [] ys h = (refl, h)
 none_first (c ∷ xs) ys h =
     let k = taken c.1 (first_failing (xs ++ ys)) c.0 h in
@@ -50,7 +50,7 @@ none_mapped f (c ∷ cs) h =
     let k = taken c.1 (first_failing (map (λ c. (f c.0, c.1)) cs)) (f c.0) h in
     ap (λ b. cond b (first_failing cs) (Some c.0)) k.0 ∙ none_mapped f cs k.1
 
-all_in : {A : Type 0} (part : Part) (test : A → Bool) (n : ℕ) (rows : List A) → first_failing (map (λ r. (fault_at part r.0 1, test r.1)) (enumerate_from n rows)) ≡ None → list_all test rows ≡ true
+pub all_in : {A : Type 0} (part : Part) (test : A → Bool) (n : ℕ) (rows : List A) → first_failing (map (λ r. (fault_at part r.0 1, test r.1)) (enumerate_from n rows)) ≡ None → list_all test rows ≡ true
 all_in part test n [] h = refl
 all_in part test n (r ∷ rows) h =
     let k = taken (test r) (first_failing (map (λ r. (fault_at part r.0 1, test r.1)) (enumerate_from (n + 1) rows))) (fault_at part n 1) h in
@@ -413,7 +413,7 @@ module _ (g : Game) (s : Strategy) where
       let n1 = first_named i callee (map (λ b. b.1) backs) k.0 in
       (n1.0, into_good i q e callee backs (slice_get g.spots p) (call_in (slice_get g.spots p)) (slice_get s.rows callee) refl refl n1.1 k.5 k.6)
 
-  rows_hold : (n : ℕ) (rows : List Row) → first_failing (all_rows g s (enumerate_from n rows)) ≡ None → (i : ℕ) (r : Row) → slice_get rows i ≡ Some r
+  pub rows_hold : (n : ℕ) (rows : List Row) → first_failing (all_rows g s (enumerate_from n rows)) ≡ None → (i : ℕ) (r : Row) → slice_get rows i ≡ Some r
       → first_failing (row_conditions g s (n + i) r (slice_get g.spots r.pos)) ≡ None
   rows_hold n [] h i r e = absurd (none-some r e)
   rows_hold n (y ∷ rows) h zero r e =
@@ -425,7 +425,7 @@ module _ (g : Game) (s : Strategy) where
       let k = none_first (map (λ c. (fault_in n c.0, c.1)) (row_conditions g s n y (slice_get g.spots y.pos))) (all_rows g s (enumerate_from (n + 1) rows)) h in
       subst (λ (m : ℕ). first_failing (row_conditions g s m r (slice_get g.spots r.pos)) ≡ None) (omega arith) (rows_hold (n + 1) rows k.1 i r e)
 
-  parts : IsGoodStrategy g s → (first_failing (all_rows g s (enumerate_from 0 s.rows)) ≡ None) × (list_any (is_start g) s.rows ≡ true)
+  pub parts : IsGoodStrategy g s → (first_failing (all_rows g s (enumerate_from 0 s.rows)) ≡ None) × (list_any (is_start g) s.rows ≡ true)
   parts h =
       let k = taken (nat_eq s.states g.states.count) _ (fault_in 0 1) h in
       let r = none_first (all_rows g s (enumerate_from 0 s.rows)) ((fault_in (length s.rows) 8, list_any (is_start g) s.rows) ∷ []) k.1 in

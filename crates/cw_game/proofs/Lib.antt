@@ -4,7 +4,6 @@ pub mod Stands
 pub mod Link
 pub mod Moves
 pub mod Reached
-pub mod Ambients
 pub mod Holding
 pub mod Necessity
 pub mod Standing

@@ -4,8 +4,6 @@ pub mod Places
 pub mod Pairs
 pub mod Closed
 pub mod Conditions
-pub mod Ambient
-pub mod Laid
 pub mod Necessity
 pub mod Standing
 pub mod Laws

@@ -1,7 +1,6 @@
 //! The game on numbered positions and states.
 #![tactic(auto)]
 
-pub mod ambient;
 pub mod laws;
 mod spots;
 

@@ -1,3 +1,1 @@
-pub mod Lexed
-pub mod Derived
 pub mod Stated

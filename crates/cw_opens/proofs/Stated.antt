@@ -1,95 +1,57 @@
--- What holds of the names among the tokens of a program holds of the names to which its statements assign.
-use Rattle.std.proofs.Common.{ℕ, zero, suc, List, [], ◌∷◌, ◌++◌, sym, subst}
-use Rattle.cw_syntax.specs.Trees.{Tree, Statement, Stated, Form, Block, Declares, Evaluates, Empties, Labels, Chooses, Whiles, Does, Fors, Breaks}
-use Rattle.cw_syntax.specs.Trees.{Continues, Returns, nothing, just}
-use Rattle.cw_syntax.specs.Trees.{Definition, File}
-use Rattle.cw_grammar.specs.declared.words.Lexeme.{Lexeme}
-use Rattle.cw_grammar.specs.Lexemes.{AreAll, statements}
-use Rattle.cw_grammar.specs.Expressions.{IsExpression, nesting_limit}
-use Rattle.cw_grammar.specs.Declarations.{Expressions}
-use Rattle.cw_grammar.specs.Spelling.{lexemes_of}
-use Rattle.cw_grammar.specs.Statements.{Place, InBlock, BeforeElse, Elsewhere, last, IsForm, IsStatement}
-use Rattle.cw_grammar.specs.Files.{Part, Declares as DeclaresPart, Holds, Defines, IsPart, IsFunction, IsProgram, file_of}
-use Rattle.cw_source.specs.Read.{ReadsAs}
-use Rattle.cw_positions.specs.Opens.{AssignsName, AssignsNames, EachStands, EachStandsIn, EachStandsAll, EachStandsFrom}
-use Rattle.cw_opens.proofs.Lexed.{EachBegins, tokens_begin}
-use Rattle.cw_opens.proofs.Derived.{each_two, each_at, expression_assigns}
+-- A C name begins as one.
+use Rattle.std.proofs.Common.{◌≡◌, ℕ, List, [], ◌∷◌, true, Some}
+use Rattle.std.specs.Prelude.{IsTrue}
+use Rattle.std.specs.List.{list_all}
+use Rattle.std.proofs.lemmas.Bool.{and_parts}
+use Rattle.cw_rights.specs.Valid.{is_name, is_name_start, is_name_byte}
+use Rattle.cw_syntax.specs.declared.program.Name.{Name}
+use Rattle.cw_syntax.specs.Names.{text}
+use Rattle.cw_syntax.specs.Trees.{Tree, Statement, Stated, Form, Block, Declares, Evaluates, Empties, Labels, Chooses, Whiles, Does, Fors, Breaks, Continues, Returns}
+use Rattle.cw_syntax.specs.Trees.{Perhaps, nothing, just, Statements, nil, cons, Definition}
+use Rattle.cw_positions.specs.Opens.{begins_name, AssignsName, EachStands, EachStandsIn, EachStandsArm, EachStandsAll, EachStandsFrom}
+use Rattle.cw_named.specs.Marked.{AssignsName as AssignsWholeName}
+use Rattle.cw_named.proofs.Stated.{read_programs_assign as each_assigns}
+use Rattle.cw_opens.specs.Opened.{ReadProgramsAssignNames}
 
--- a rule, where the claim holds of the expressions and the statements in it
-module _ (source : List ℕ) (E : Expressions) (P : Place → List Lexeme → Statement → Type 0)
-    (expression : (ts : List Lexeme) (e : Tree) → EachBegins source ts → E ts e → AssignsName source e)
-    (rec : (place : Place) (ts : List Lexeme) (st : Statement) → EachBegins source ts → P place ts st → EachStands (AssignsName source) st) where
-  all_assign : (ts : List Lexeme) (ss : List Statement) → EachBegins source ts → AreAll (P InBlock) ts ss
-      → EachStandsAll (AssignsName source) (statements ss)
-  all_assign ts [] h none = tt
-  all_assign ts (st ∷ ss) h (x, y, whole, one, rest) =
-      let p = each_two source x y (each_at source ts (x ++ y) whole h) in
-      (rec InBlock x st p.0 one, all_assign y ss p.1 rest)
+-- what holds of each expression that is a statement, where another claim does
+module _ (T U : Tree → Type 0) (so : (t : Tree) → T t → U t) where
+  mutual
+    each : (s : Statement) → EachStands T s → EachStands U s
+    each (Stated form from to) h = each_in form h
 
-  form_assigns : (place : Place) (ts : List Lexeme) (form : Form) → EachBegins source ts → IsForm E P place ts form
-      → EachStandsIn (AssignsName source) form
-  form_assigns place ts (Block kids) h (inner, kids_are, (o, x, c, whole, opens, closes, all)) =
-      let p = each_two source x (c ∷ []) (each_at source ts (o ∷ x ++ c ∷ []) whole h).1 in
-      subst (EachStandsAll (AssignsName source)) (sym kids_are) (all_assign x inner p.0 all)
-  form_assigns place ts (Declares d) h is = tt
-  form_assigns place ts (Evaluates e) h (inner, c, whole, closes, is) =
-      expression inner e (each_two source inner (c ∷ []) (each_at source ts (inner ++ c ∷ []) whole h)).0 is
-  form_assigns place ts Empties h is = tt
-  form_assigns place ts (Labels name mark body) h (n, k, x, whole, n_is, k_is, name_is, mark_is, is) =
-      rec (last place) x body (each_at source ts (n ∷ k ∷ x) whole h).1.1 is
-  form_assigns place ts (Chooses test arm nothing) h (i, x, y, whole, place_is, i_is, test_is, is) =
-      let p = each_two source x y (each_at source ts (i ∷ x ++ y) whole h).1 in
-      (rec Elsewhere y arm p.1 is, tt)
-  form_assigns place ts (Chooses test arm (just other)) h (i, x, y, e, z, whole, i_is, test_is, is, e_is, other_is) =
-      let p = each_two source x (y ++ e ∷ z) (each_at source ts (i ∷ x ++ (y ++ e ∷ z)) whole h).1 in
-      let q = each_two source y (e ∷ z) p.1 in
-      (rec BeforeElse y arm q.0 is, rec (last place) z other q.1.1 other_is)
-  form_assigns place ts (Whiles test body) h (w, x, y, whole, w_is, test_is, is) =
-      let p = each_two source x y (each_at source ts (w ∷ x ++ y) whole h).1 in
-      rec (last place) y body p.1 is
-  form_assigns place ts (Does body test) h (d, x, w, y, c, whole, d_is, is, w_is, test_is, c_is) =
-      let p = each_two source x (w ∷ y ++ c ∷ []) (each_at source ts (d ∷ x ++ (w ∷ y ++ c ∷ [])) whole h).1 in
-      rec Elsewhere x body p.0 is
-  form_assigns place ts (Fors init test step body) h (f, o, x, y, z, v, whole, f_is, o_is, init_is, test_is, step_is, is) =
-      let p = each_two source x (y ++ (z ++ v)) (each_at source ts (f ∷ o ∷ x ++ (y ++ (z ++ v))) whole h).1.1 in
-      let q = each_two source y (z ++ v) p.1 in
-      rec (last place) v body (each_two source z v q.1).1 is
-  form_assigns place ts Breaks h is = tt
-  form_assigns place ts Continues h is = tt
-  form_assigns place ts (Returns value) h is = tt
+    each_in : (f : Form) → EachStandsIn T f → EachStandsIn U f
+    each_in (Block ss) h = each_all ss h
+    each_in (Declares d) h = tt
+    each_in (Evaluates e) h = so e h
+    each_in Empties h = tt
+    each_in (Labels name mark s) h = each s h
+    each_in (Chooses test s other) h = (each s h.0, each_arm other h.1)
+    each_in (Whiles test s) h = each s h
+    each_in (Does s test) h = each s h
+    each_in (Fors init test step s) h = each s h
+    each_in Breaks h = tt
+    each_in Continues h = tt
+    each_in (Returns value) h = tt
 
-statement_assigns : (source : List ℕ) (limit n : ℕ) (place : Place) (ts : List Lexeme) (st : Statement) → EachBegins source ts
-    → IsStatement limit n place ts st
-    → EachStands (AssignsName source) st
-statement_assigns source limit zero place ts st h is = absurd is
-statement_assigns source limit (suc n) place ts (Stated form from to) h (from_is, to_is, is) =
-    form_assigns source (IsExpression limit) (IsStatement limit n) (expression_assigns source limit) (statement_assigns source limit n) place ts
-    form h is
+    each_arm : (o : Perhaps) → EachStandsArm T o → EachStandsArm U o
+    each_arm nothing h = tt
+    each_arm (just s) h = each s h
 
-function_assigns : (source : List ℕ) (n : ℕ) (ts : List Lexeme) (f : Definition) → EachBegins source ts → IsFunction n ts f
-    → EachStandsAll (AssignsName source) f.body
-function_assigns source n ts f h (header, opens, inner, closes, body, whole, header_is, named, open_is, brace_is, all, body_is, close_is) =
-    let p = each_two source header (opens ∷ inner ++ closes ∷ []) (each_at source ts (header ++ (opens ∷ inner ++ closes ∷ [])) whole h) in
-    let q = each_two source inner (closes ∷ []) p.1.1 in
-    subst (EachStandsAll (AssignsName source)) (sym body_is)
-    (all_assign source (IsExpression n) (IsStatement n n) (expression_assigns source n) (statement_assigns source n n) inner body q.0 all)
+    each_all : (ss : Statements) → EachStandsAll T ss → EachStandsAll U ss
+    each_all nil h = tt
+    each_all (cons s ss) h = (each s h.0, each_all ss h.1)
 
-parts_assign : (source : List ℕ) (n : ℕ) (ts : List Lexeme) (parts : List Part) → EachBegins source ts → AreAll (IsPart n) ts parts
-    → EachStandsFrom (AssignsName source) (file_of parts).functions
-parts_assign source n ts [] h none = tt
-parts_assign source n ts (DeclaresPart p ∷ parts) h (x, y, whole, one, rest) =
-    parts_assign source n y parts (each_two source x y (each_at source ts (x ++ y) whole h)).1 rest
-parts_assign source n ts (Holds d ∷ parts) h (x, y, whole, one, rest) =
-    parts_assign source n y parts (each_two source x y (each_at source ts (x ++ y) whole h)).1 rest
-parts_assign source n ts (Defines f ∷ parts) h (x, y, whole, one, rest) =
-    let p = each_two source x y (each_at source ts (x ++ y) whole h) in
-    (function_assigns source n x f p.0 one, parts_assign source n y parts p.1 rest)
+  each_from : (fs : List Definition) → EachStandsFrom T fs → EachStandsFrom U fs
+  each_from [] h = tt
+  each_from (f ∷ fs) h = (each_all f.body h.0, each_from fs h.1)
 
-file_assigns : (source : List ℕ) (ts : List Lexeme) (file : File) → EachBegins source ts → IsProgram ts file → AssignsNames source file
-unfolding IsProgram
-file_assigns source ts file h (parts, all, is) =
-    subst (λ (f : File). EachStandsFrom (AssignsName source) f.functions) (sym is) (parts_assign source nesting_limit ts parts h all)
+begins : (name : List ℕ) → is_name name ≡ true → begins_name name ≡ true
+begins [] h = absurd cc
+begins (b ∷ bs) h = (and_parts (is_name_start b) (list_all is_name_byte bs) h).0
 
-pub read_programs_assign : (source : List ℕ) (file : File) → ReadsAs source file → AssignsNames source file
+begins_whole : (source : List ℕ) (t : Tree) → AssignsWholeName source t → AssignsName source t
+begins_whole source t h x e = begins (text source x) (h x e)
+
+pub read_programs_assign : ReadProgramsAssignNames
 read_programs_assign source file reads =
-    file_assigns source (lexemes_of source reads.tokens) file (tokens_begin source reads.tokens reads.lexed) reads.derived
+    each_from (AssignsWholeName source) (AssignsName source) (begins_whole source) file.functions (each_assigns source file reads)

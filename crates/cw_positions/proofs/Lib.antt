@@ -7,7 +7,7 @@ pub mod Fitting
 pub mod Closing
 pub mod Programs
 pub mod Placing
-mod Splitting
+pub mod Splitting
 pub mod LaidOut
 pub mod Origins
 pub mod Bounding

@@ -1,4 +1,3 @@
 pub mod Lines
 pub mod TableText
 pub mod LimitsText
-pub mod StrategyText

@@ -1,10 +1,6 @@
 -- What lines are made of: words, a name with its fields, the end of a line.
 use Rattle.std.specs.Prelude.{ℕ, List, ◌++◌, codes}
-use Rattle.std.specs.Fmt.{decimal}
 use Rattle.std.specs.List.{flat_map, join_by, enumerate_from}
-use Rattle.cw_core.specs.Numerals.{hexadecimal}
-use Rattle.cw_text.specs.declared.lines.Word.{Word}
-use Rattle.cw_text.specs.declared.lines.Word.TheVariants.{Number, Set, Missing}
 
 -- the words in a row, with a mark between each two
 abbrev pub joined : List ℕ → List (List ℕ) → List ℕ
@@ -21,9 +17,3 @@ line words = words ++ codes "\n"
 -- one line for each row, by the number of the row, from 0
 abbrev pub numbered : {A : Type 0} → (ℕ → A → List ℕ) → List A → List ℕ
 numbered line_of rows = flat_map (λ row. line_of row.0 row.1) (enumerate_from 0 rows)
-
--- what a word of the program's data spells
-abbrev pub spelled : Word → List ℕ
-spelled (Number n) = decimal n
-spelled (Set set) = hexadecimal set
-spelled Missing = codes "CW_NONE"

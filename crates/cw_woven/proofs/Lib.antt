@@ -7,3 +7,5 @@ pub mod Whole
 pub mod Standing
 pub mod OneReading
 pub mod Opening
+pub mod Again
+pub mod Apart

@@ -64,7 +64,7 @@ read_as_one policy other text source source2 file file2 table table2 r s =
     let left : r.left ≡ s.left = same.1 in
     r.is ∙ ap (λ (z : List Piece). without z r.left) marks ∙ ap (without s.marks) left ∙ sym s.is
 
-head_inner : List Piece → List ℕ
+unfoldable pub head_inner : List Piece → List ℕ
 head_inner [] = []
 head_inner (p ∷ ps) = p.inner
 

@@ -7,9 +7,8 @@ use Rattle.cw_syntax.specs.Trees.{File}
 use Rattle.cw_syntax.specs.Marks.{SeamMark}
 use Rattle.cw_certs.specs.Tables.{Table}
 use Rattle.cw_emit.specs.Cut.{opening, closing, part}
-use Rattle.cw_emit.specs.Woven.{placed, spelled, woven_from}
+use Rattle.cw_emit.specs.Woven.{placed, prologue, spelled, woven_from, Stands}
 use Rattle.cw_woven.specs.Parts.{Piece, IsCutAt, AreParts, without, places_from}
-use Rattle.cw_woven.specs.Woven.{Stands, prologue}
 use Rattle.cw_woven.specs.Reading.{ReadsWoven, seam_marks}
 
 part_is : (text gap opened inner after : List ℕ) → IsCutAt opening text gap opened → IsCutAt closing opened inner after → text ≡ gap ++ (part inner ++ after)

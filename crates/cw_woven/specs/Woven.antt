@@ -1,21 +1,7 @@
--- Woven texts of both formats: a prologue with the table, and the source with the marks of its seams.
+-- Which bytes are spelled as a mark.
 use Rattle.std.specs.Prelude.{◌≡◌, ℕ, ◌^◌, ◌<◌, ◌⊎◌, List, ◌++◌, IsTrue, codes}
 use Rattle.std.specs.Fmt.{decimal}
-use Rattle.cw_rights.specs.Policies.{PlainPolicy}
 use Rattle.cw_rights.specs.Valid.{is_name}
-use Rattle.cw_syntax.specs.Marks.{SeamMark}
-use Rattle.cw_certs.specs.Tables.{Table}
-use Rattle.cw_emit.specs.Cut.{part}
-use Rattle.cw_emit.specs.Woven.{woven}
-use Rattle.cw_tabletext.specs.TablesText.{tables_text}
-
--- a part with LF and the lines of the table
-abbrev pub prologue : PlainPolicy → Table → List ℕ
-prologue policy table = part (codes "\n" ++ tables_text policy table)
-
--- the text is the prologue, and then the source with its marks
-abbrev pub Stands : List ℕ → List ℕ → List SeamMark → Table → PlainPolicy → Type 0
-Stands text source marks table policy = text ≡ prologue policy table ++ woven policy source marks
 
 -- the decimal of a number of 32 bits
 abbrev pub IsNumber : List ℕ → Type 0

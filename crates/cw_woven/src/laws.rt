@@ -1,19 +1,30 @@
 //! What holds of every text that is read. The functions do nothing: their contracts are the laws.
 
-ghost use Rattle.std.specs.Prelude.{◌≡◌, ℕ, List, map};
-ghost use Rattle.cw_emit.specs.Woven.{placed};
+ghost use Rattle.std.specs.Prelude.{◌≡◌, ◌≢◌, ℕ, List, map};
+ghost use Rattle.cw_emit.specs.Woven.{placed, Stands};
 ghost use Rattle.cw_tabletext.specs.TablesText.{tables_text};
 ghost use Rattle.cw_rights.specs.Policies.{PlainPolicy};
 ghost use Rattle.cw_syntax.specs.Trees.{File};
 ghost use Rattle.cw_certs.specs.Tables.{Table};
-ghost use Rattle.cw_woven.specs.Woven.{Stands};
-ghost use Rattle.cw_woven.specs.Reading.{ReadsWoven, seam_marks};
+ghost use Rattle.cw_rights.specs.Valid.{IsValid};
+ghost use Rattle.cw_tabletext.specs.Grammar.{IsTable};
+ghost use Rattle.cw_woven.specs.declared.fault.WovenFault.{WovenFault};
+ghost use Rattle.cw_woven.specs.declared.fault.WovenFault.TheVariants.{NoMemory};
+ghost use Rattle.cw_woven.specs.Reading.{IsAccepted, IsFault, ReadsWoven, seam_marks};
 
 /// What a text is read as it stands for: the text is the prologue with the table, and the source with the marks of its seams.
 pub fn what_is_read_stands()
     ensures { (policy : PlainPolicy) (text source : List ℕ) (file : File) (table : Table)
         → ReadsWoven policy text source file table
         → Stands text source (seam_marks policy source file) table policy }
+{}
+
+/// For a valid policy, what stands for an accepted source and a table that has a text is read as these.
+pub fn what_stands_is_read()
+    ensures { (policy : PlainPolicy) (text source : List ℕ) (file : File) (table : Table)
+        → IsValid policy → IsAccepted policy source file → IsTable policy.format table
+        → Stands text source (seam_marks policy source file) table policy
+        → ReadsWoven policy text source file table }
 {}
 
 /// A text is read as one source, under whatever policies.
@@ -38,4 +49,15 @@ pub fn one_list_of_marks()
         → ReadsWoven policy text source file table
         → ReadsWoven other text source2 file2 table2
         → map (placed policy source) (seam_marks policy source file) ≡ map (placed other source2) (seam_marks other source2 file2) }
+{}
+
+/// For a valid policy a text is read as one source, one program and one table at most, and what is read has no fault but want of memory.
+pub fn one_answer()
+    ensures one { (policy : PlainPolicy) (text source source2 : List ℕ) (file file2 : File) (table table2 : Table)
+        → IsValid policy → ReadsWoven policy text source file table
+        → ReadsWoven policy text source2 file2 table2
+        → (source ≡ source2) × (file ≡ file2) × (table ≡ table2) }
+    ensures apart { (policy : PlainPolicy) (text source : List ℕ) (file : File) (table : Table) (fault : WovenFault)
+        → IsValid policy → ReadsWoven policy text source file table
+        → fault ≢ NoMemory → IsFault policy text fault → ⊥ }
 {}

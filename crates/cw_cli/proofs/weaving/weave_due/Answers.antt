@@ -8,9 +8,8 @@ use Rattle.cw_cli.proofs.weaving.weave_due.Goals as goal
 
 pub returns-in-Ok : goal.returns-in-Ok
 returns-in-Ok c =
-    let policy = c.args.policy.now in
     let whole = policy_of c.in-Ok.pair.policy in
     let file = file_of c.in-Ok.pair.checked.program in
     record {
-      due = if_ok c.formed.result c.formed.ensures (λ o d. inr (whole, file, c.in-Ok.ensures.read, subst (λ s. AfterPair policy s whole file (due_of o)) c.in-Ok.ensures.source d));
+      due = if_ok c.fitted.result c.fitted.ensures (λ o d. inr (whole, file, c.in-Ok.ensures.read, subst (λ s. AfterPair s whole file (due_of o)) c.in-Ok.ensures.source d));
     }

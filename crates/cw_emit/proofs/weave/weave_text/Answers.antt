@@ -2,9 +2,10 @@ use Rattle.std.proofs.Common.{map}
 use Rattle.cw_rights.specs.Policies.{policy_of}
 use Rattle.cw_syntax.specs.Marks.{mark_of}
 use Rattle.cw_emit.proofs.Cutting.{cut_of_woven}
+use Rattle.cw_emit.proofs.Names.{valid_names}
 use Rattle.cw_emit.proofs.weave.weave_text.Goals as goal
 
 pub returns-clause-cut : goal.returns-clause-cut
-returns-clause-cut c = λ free names plain.
+returns-clause-cut c = λ free plain.
     rw (c.in_ok-put_source.ensures, c.in_ok-put_prologue.ensures, c.new-text.ensures.items)
-    (cut_of_woven (policy_of c.args.policy.now) c.args.cert.now c.args.source.now (map mark_of c.args.marks.now) free names plain c.requires)
+    (cut_of_woven (policy_of c.args.policy.now) c.args.cert.now c.args.source.now (map mark_of c.args.marks.now) free (valid_names (policy_of c.args.policy.now) c.requires.valid) plain c.requires.order)

@@ -1,0 +1,44 @@
+use Rattle.std.proofs.Common.{length, map, sym, ap, subst, ◌∙◌, inl, inr}
+use Rattle.cw_rights.specs.declared.policy.Policy.{Policy}
+use Rattle.cw_rights.specs.Policies.{policy_of}
+use Rattle.cw_syntax.specs.Marks.{mark_of, AreInOrder}
+use Rattle.cw_syntax.specs.Trees.{file_of}
+use Rattle.cw_actions.specs.Scenes.{names_of}
+use Rattle.cw_model.specs.Boards.{problem_of}
+use Rattle.cw_points.specs.Graphs.{IsGraph}
+use Rattle.cw_product.specs.Product.{game_of}
+use Rattle.cw_emit.specs.Woven.{Stands}
+use Rattle.cw_source.proofs.Marking.{marks_in_order}
+use Rattle.cw_cli.proofs.Refused.{if_ok}
+use Rattle.cw_cli.proofs.Weaves.{IsMadeTable, IsWritten, is_sound, is_woven}
+use Rattle.cw_cli.proofs.verdict.woven.Goals as goal
+
+pub weave_text-requires-clause-order : goal.weave_text-requires-clause-order
+weave_text-requires-clause-order c =
+    let source = c.args.checked.now.source.now in
+    let file = file_of c.args.checked.now.program in
+    let names = names_of (policy_of c.args.game.now.states.policy) in
+    let graph = subst (IsGraph names source file) (sym c.graph.ensures) c.requires.graph in
+    let same = ap (map mark_of) c.deref.ensures.value ∙ c.in_ok-marks-in-Ok.ensures.marks names source file graph in
+    subst (AreInOrder 0 (length source)) (sym same) (marks_in_order names source file c.requires.reads)
+
+pub returns-in_ok-text-in-Ok : goal.returns-in_ok-text-in-Ok
+returns-in_ok-text-in-Ok c =
+    let source = c.args.checked.now.source.now in
+    let file = file_of c.args.checked.now.program in
+    let game = c.args.game.now in
+    let whole = policy_of game.states.policy in
+    let graph = subst (IsGraph (names_of whole) source file) (sym c.graph.ensures) c.requires.graph in
+    let marks = c.deref.result.now in
+    let same = ap (map mark_of) c.deref.ensures.value ∙ c.in_ok-marks-in-Ok.ensures.marks (names_of whole) source file graph in
+    let table = c.in-Ok.table in
+    let bytes = c.in_ok-text-in-Ok.text.items in
+    let stands = subst (λ (p : Policy). Stands bytes source (map mark_of marks) table (policy_of p)) c.policy.ensures c.in_ok-text-in-Ok.ensures.stands in
+    let written : IsWritten whole source marks table bytes = record { stands = stands; cuts = c.in_ok-text-in-Ok.ensures.cut } in
+    let made : IsMadeTable (game_of game) table = record { is_lazy = c.in-Ok.ensures.lazy; ascends = c.in-Ok.ensures.ascends; few = c.in-Ok.ensures.few; good = c.in-Ok.ensures.good; lost = c.in-Ok.ensures.lost } in
+    let sound = is_sound (problem_of whole source file) (game_of game) table c.requires.is_game made.good c.requires.made.valid.few_limits in
+    inr (is_woven whole source file (game_of game) marks table bytes c.requires.reads c.requires.is_game same written made sound)
+
+pub returns-in-Err-TooManyRows : goal.returns-in-Err-TooManyRows
+returns-in-Err-TooManyRows c =
+    if_ok c.over.result c.over.ensures (λ o e. inl (inl (c.requires.kept, c.in-Err-TooManyRows.ensures.many c.in-Err-TooManyRows.field-0-is), e))

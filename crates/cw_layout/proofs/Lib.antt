@@ -1,9 +1,0 @@
-pub mod Begins
-pub mod Standing
-pub mod Placing
-pub mod Leading
-pub mod Seams
-pub mod LaidGraph
-pub mod Naming
-pub mod Calling
-pub mod Laying

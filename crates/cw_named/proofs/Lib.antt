@@ -1,0 +1,4 @@
+mod Lexed
+mod Derived
+pub mod Stated
+pub mod Marked

@@ -1,3 +1,0 @@
-pub mod First
-pub mod Answer
-pub mod Ambient

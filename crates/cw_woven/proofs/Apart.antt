@@ -1,0 +1,136 @@
+-- What is read is read as one source and one table, and has no fault.
+use Rattle.std.proofs.Common.{◌≡◌, ◌≢◌, ℕ, ◌<◌, List, [], ◌∷◌, ◌++◌, None, Some, length, drop, map, refl, sym, ap, subst, ◌∙◌, arith, append_assoc, inl, inr, nat_eq}
+use Rattle.std.specs.Prelude.{codes, slice_get}
+use Rattle.std.specs.List.{AllByRecursion, starts_with}
+use Rattle.std.proofs.Math.Seq.{drop-append_seam}
+use Rattle.std.proofs.lemmas.Bool.{true≢false}
+use Rattle.std.proofs.lemmas.List.{append_cancel_left}
+use Rattle.std.proofs.lemmas.Option.{none-some}
+use Rattle.cw_rights.specs.Policies.{PlainPolicy}
+use Rattle.cw_rights.specs.Valid.{IsValid}
+use Rattle.cw_syntax.specs.Trees.{File}
+use Rattle.cw_certs.specs.Tables.{Table}
+use Rattle.cw_lines.specs.declared.fault.TextFault.{TextFault}
+use Rattle.cw_scope.specs.Descriptors.{descriptor_fault}
+use Rattle.cw_source.specs.declared.fault.SourceFault.{SourceFault}
+use Rattle.cw_source.specs.declared.fault.SourceFault.TheVariants as read
+use Rattle.cw_source.specs.Read.{ReadsAs}
+use Rattle.cw_source.proofs.OneAnswer.{one_program, never_both}
+use Rattle.cw_tabletext.specs.Grammar.{Spells}
+use Rattle.cw_tabletext.proofs.OneAnswer.{one_table, not_both}
+use Rattle.cw_tabletext.proofs.PlainLimits.{limits_free, small_format}
+use Rattle.cw_emit.specs.Cut.{opening, closing, HasNone}
+use Rattle.cw_emit.specs.Woven.{placed}
+use Rattle.cw_emit.proofs.Openings.{starts_again}
+use Rattle.cw_woven.specs.declared.fault.CutFault.{CutFault}
+use Rattle.cw_woven.specs.declared.fault.CutFault.TheVariants as cut
+use Rattle.cw_woven.specs.declared.fault.WovenFault.{WovenFault}
+use Rattle.cw_woven.specs.declared.fault.WovenFault.TheVariants as fault
+use Rattle.cw_woven.specs.Parts.{Piece, IsCutAt, AreParts, without, places}
+use Rattle.cw_woven.specs.Woven.{IsSpelling}
+use Rattle.cw_woven.specs.Reading.{the_prologue, Begins, IsAccepted, IsCutFault, IsFault, IsMark, IsNoMark, IsRead, ReadsWoven, seam_marks}
+use Rattle.cw_woven.proofs.OneReading.{head_inner, one_front, one_rest, one_source, read_as_one}
+
+none_stands : (word text front rest : List ℕ) → IsCutAt word text front rest → HasNone word text → ⊥
+none_stands word text front rest c none =
+    true≢false (sym (ap (λ (z : List ℕ). starts_with nat_eq z word) (ap (drop (length front)) c.cut ∙ drop-append_seam front (word ++ rest)) ∙ starts_again word rest) ∙ none (length front))
+
+-- behind some of the parts the next one opens, closes and is spelled as a mark
+pub record HasNext (opened : List ℕ) : Type 0 where
+  pub inner : List ℕ
+  pub after : List ℕ
+  pub closes : IsCutAt closing opened inner after
+  pub spelled : IsSpelling inner
+
+next_there : (text : List ℕ) (ps qs : List Piece) (left other gap opened : List ℕ) → AreParts text ps left → AreParts text qs other → HasNone opening other
+    → AllByRecursion (λ (q : Piece). IsSpelling q.inner) qs → IsCutAt opening left gap opened → HasNext opened
+next_there text [] [] left other gap opened a b none spelled c = absurd (none_stands opening left gap opened c (subst (HasNone opening) (sym b ∙ a) none))
+next_there text [] (q ∷ qs) left other gap opened a b none spelled c =
+    let d : IsCutAt opening text gap opened = subst (λ (z : List ℕ). IsCutAt opening z gap opened) (sym a) c in
+    let same : opened ≡ b.0 = one_rest opening text gap q.gap opened b.0 d b.2 in
+    record { inner = q.inner; after = b.1; closes = subst (λ (z : List ℕ). IsCutAt closing z q.inner b.1) (sym same) b.3; spelled = spelled.0 }
+next_there text (p ∷ ps) [] left other gap opened a b none spelled c = absurd (none_stands opening text p.gap a.0 a.2 (subst (HasNone opening) (sym b) none))
+next_there text (p ∷ ps) (q ∷ qs) left other gap opened a b none spelled c =
+    let same : a.0 ≡ b.0 = one_rest opening text p.gap q.gap a.0 b.0 a.2 b.2 in
+    let d : IsCutAt closing b.0 p.inner a.1 = subst (λ (z : List ℕ). IsCutAt closing z p.inner a.1) same a.3 in
+    let after : a.1 ≡ b.1 = one_rest closing b.0 p.inner q.inner a.1 b.1 d b.3 in
+    next_there b.1 ps qs left other gap opened (subst (λ (z : List ℕ). AreParts z ps left) after a.4) b.4 none spelled.1 c
+
+no_mark : (opened : List ℕ) → HasNext opened → IsNoMark opened → ⊥
+no_mark opened n (inl none) = none_stands closing opened n.inner n.after n.closes none
+no_mark opened n (inr (inner, after, c, not)) = not (subst IsSpelling (one_front closing opened n.inner inner n.after after n.closes c) n.spelled)
+
+no_read_fault : (source : List ℕ) (file : File) (f : SourceFault) → ReadsAs source file → IsRead source f → ⊥
+no_read_fault source file (read.Lex l) reads h = never_both source file (read.Lex l) (λ e. cc) reads h
+no_read_fault source file (read.Syntax at) reads h = never_both source file (read.Syntax at) (λ e. cc) reads h
+no_read_fault source file read.TooDeep reads h = never_both source file read.TooDeep (λ e. cc) reads h
+no_read_fault source file (read.Scope s) reads h = never_both source file (read.Scope s) (λ e. cc) reads h
+no_read_fault source file read.NoMemory reads h = h
+
+no_cut_fault : (policy : PlainPolicy) (source : List ℕ) (file : File) (f : CutFault) → IsAccepted policy source file → IsCutFault policy source f → ⊥
+no_cut_fault policy source file cut.TooLong a lt = let le = a.short in omega (arith, le, lt)
+no_cut_fault policy source file (cut.Read f) a h = no_read_fault source file f a.reads h.1
+no_cut_fault policy source file (cut.Descriptors f) a (other, short, reads, e) =
+    let same = one_program source other file reads a.reads in
+    none-some f (sym (a.descriptors) ∙ sym (ap (λ (z : File). descriptor_fault source z policy) same) ∙ e)
+no_cut_fault policy source file cut.TooManyPoints a (other, short, reads, e, many) =
+    let same = one_program source other file reads a.reads in
+    let few = subst (λ (z : File). IsAccepted policy source z) (sym same) a in
+    let le = few.few in
+    omega (arith, many, le)
+
+module _ (policy : PlainPolicy) (valid : IsValid policy) (text source : List ℕ) (file : File) (t : Table) (r : ReadsWoven policy text source file t) where
+  front_marks : (lines : List ℕ) (marks : List Piece) (left : List ℕ) → AreParts text (the_prologue lines ∷ marks) left → HasNone opening left → (r.has.lines ≡ lines) × (source ≡ without marks left) × (r.marks ≡ marks)
+  unfolding head_inner
+  front_marks lines marks left parts none =
+      let same = one_source text (the_prologue r.has.lines ∷ r.marks) (the_prologue lines ∷ marks) r.left left r.has.parted.begins.parts r.has.parted.whole parts none in
+      let ms : r.marks ≡ marks = ap (drop 1) same.0 in
+      (ap (λ (z : List Piece). drop 1 (head_inner z)) same.0, r.is ∙ ap (λ (z : List Piece). without z r.left) ms ∙ ap (without marks) same.1, ms)
+
+  begins : Begins text
+  begins =
+      let parts = r.has.parted.begins.parts in
+      (r.has.lines ++ (closing ++ parts.1), parts.2.cut ∙ ap (λ (z : List ℕ). opening ++ z) (parts.3.cut))
+
+  no_mark_fault : (at : ℕ) → IsMark text at → ⊥
+  no_mark_fault at (inl (e, none)) = none begins
+  no_mark_fault at (inr (inl (e, rest, is, none))) =
+      let parts = r.has.parted.begins.parts in
+      let opened : parts.0 ≡ codes "\n" ++ rest = append_cancel_left opening parts.0 (codes "\n" ++ rest) (sym (parts.2.cut) ∙ is) in
+      none_stands closing (codes "\n" ++ rest) (codes "\n" ++ r.has.lines) parts.1 (subst (λ (z : List ℕ). IsCutAt closing z (codes "\n" ++ r.has.lines) parts.1) opened parts.3) none
+  no_mark_fault at (inr (inr (lines, marks, left, gap, opened, b, c, none, sum))) =
+      let own = r.has.parted.begins.parts in
+      let other = b.parts in
+      let same : own.0 ≡ other.0 = one_rest opening text [] [] own.0 other.0 own.2 other.2 in
+      let d : IsCutAt closing other.0 (codes "\n" ++ r.has.lines) own.1 = subst (λ (z : List ℕ). IsCutAt closing z (codes "\n" ++ r.has.lines) own.1) same own.3 in
+      let after : own.1 ≡ other.1 = one_rest closing other.0 (codes "\n" ++ r.has.lines) (codes "\n" ++ lines) own.1 other.1 d other.3 in
+      no_mark opened
+      (next_there own.1 marks r.marks left r.left gap opened (subst (λ (z : List ℕ). AreParts z marks left) (sym after) other.4) own.4 r.has.parted.whole r.has.parted.begins.spelled c) none
+
+  pub no_fault : (f : WovenFault) → f ≢ fault.NoMemory → IsFault policy text f → ⊥
+  no_fault (fault.Mark at) ne h = no_mark_fault at h
+  no_fault (fault.Table f) ne (lines, marks, left, parted, wrong) =
+      let same = front_marks lines marks left parted.begins.parts parted.whole in
+      not_both policy lines t f (small_format policy valid) (limits_free policy valid) (subst (λ (z : List ℕ). Spells policy z t) same.0 r.has.spells) wrong
+  no_fault (fault.Source f) ne (marks, left, table, has, wrong) =
+      let same = front_marks has.lines marks left has.parted.begins.parts has.parted.whole in
+      no_cut_fault policy source file f r.accepted (subst (λ (z : List ℕ). IsCutFault policy z f) (sym same.1) wrong)
+  no_fault (fault.Misplaced n) ne (marks, left, table, other, has, accepted, differs) =
+      let same = front_marks has.lines marks left has.parted.begins.parts has.parted.whole in
+      let read : IsAccepted policy source other = subst (λ (z : List ℕ). IsAccepted policy z other) (sym same.1) accepted in
+      let files = one_program source file other r.accepted.reads read.reads in
+      let here : places marks ≡ map (placed policy source) (seam_marks policy source file) = ap places (sym same.2) ∙ r.placed in
+      let there : map (placed policy source) (seam_marks policy source file) ≡ map (placed policy (without marks left)) (seam_marks policy (without marks left) other) =
+      ap (λ (z : File). map (placed policy source) (seam_marks policy source z)) files ∙ ap (λ (z : List ℕ). map (placed policy z) (seam_marks policy z other)) same.1 in
+      differs.0 (ap (λ (z : List (ℕ × List ℕ)). slice_get z n) (here ∙ there))
+  no_fault fault.NoMemory ne h = ne refl
+
+  pub one_reading : (source2 : List ℕ) (file2 : File) (u : Table) → ReadsWoven policy text source2 file2 u → (source ≡ source2) × (file ≡ file2) × (t ≡ u)
+  one_reading source2 file2 u s =
+      let sources = read_as_one policy policy text source source2 file file2 t u r s in
+      let other : ReadsAs source file2 = subst (λ (z : List ℕ). ReadsAs z file2) (sym sources) s.accepted.reads in
+      let same = front_marks s.has.lines s.marks s.left s.has.parted.begins.parts s.has.parted.whole in (
+        sources,
+        one_program source file file2 r.accepted.reads other,
+        one_table policy s.has.lines t u (small_format policy valid) (limits_free policy valid) (subst (λ (z : List ℕ). Spells policy z t) same.0 r.has.spells) s.has.spells,
+      )
