@@ -10,9 +10,9 @@ use cw_lines::TextFault;
 use std::alloc::Global;
 
 /// The moves of a tape, a play's or a run's: words with white space between, each the name of a move. Otherwise Line with the number
-/// of the first line that has another word, counted from 1 by LF. A text has at most 16,777,216 bytes.
+/// of the first line that has another word, counted from 1 by LF. A text has at most 33,554,432 bytes.
 pub fn read_tape(alloc: Global, text: &[u8], play: bool) -> Result<Vec<Move>, TextFault>
-    requires { length text.now ≤ 16777216 }
+    requires { length text.now ≤ 33554432 }
     ensures moves { IfOk result (λ moves. IsTape play text.now moves.items) }
     ensures fault { IfErr result (λ fault. IsFault play text.now fault) }
 {
