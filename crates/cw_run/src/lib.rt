@@ -5,4 +5,4 @@ mod run;
 mod tell;
 mod walk;
 
-pub use run::RunEnd;
+pub use run::{RunEnd, run_woven};
