@@ -4,7 +4,7 @@ use Rattle.std.specs.Str.{bytes_eq}
 use Rattle.cw_core.specs.declared.quantity.Quantity.{Quantity}
 use Rattle.cw_core.specs.declared.quantity.Quantity.TheVariants.{PolicyBytes, SourceBytes, FileBytes}
 use Rattle.cw_commands.specs.declared.command.Command.{Command}
-use Rattle.cw_commands.specs.declared.command.Command.TheVariants.{Weave, Graph, Refute, Check}
+use Rattle.cw_commands.specs.declared.command.Command.TheVariants.{Weave, Graph, Refute, Check, Play, Run}
 
 -- the command of this name
 abbrev pub named_by : List ℕ → Option Command
@@ -13,6 +13,8 @@ named_by word =
     else if bytes_eq word (codes "graph") then Some Graph
     else if bytes_eq word (codes "refute") then Some Refute
     else if bytes_eq word (codes "check") then Some Check
+    else if bytes_eq word (codes "play") then Some Play
+    else if bytes_eq word (codes "run") then Some Run
     else None
 
 -- the quantities that the bytes of its files are, one a file, in the order of its words
@@ -21,6 +23,8 @@ quantities_of Weave = PolicyBytes ∷ (SourceBytes ∷ [])
 quantities_of Graph = SourceBytes ∷ []
 quantities_of Refute = PolicyBytes ∷ (SourceBytes ∷ (FileBytes ∷ []))
 quantities_of Check = PolicyBytes ∷ (FileBytes ∷ [])
+quantities_of Play = PolicyBytes ∷ (SourceBytes ∷ (FileBytes ∷ (FileBytes ∷ [])))
+quantities_of Run = PolicyBytes ∷ (FileBytes ∷ (FileBytes ∷ []))
 
 -- its words, as the line on usage tells them
 abbrev pub usage_of : Command → List ℕ
@@ -28,3 +32,5 @@ usage_of Weave = codes "weave POLICY SOURCE"
 usage_of Graph = codes "graph SOURCE"
 usage_of Refute = codes "refute POLICY SOURCE STRATEGY"
 usage_of Check = codes "check POLICY WOVEN"
+usage_of Play = codes "play POLICY SOURCE STRATEGY TAPE"
+usage_of Run = codes "run POLICY WOVEN TAPE"

@@ -16,6 +16,10 @@ pub enum Command {
     Refute,
     /// `check POLICY WOVEN`.
     Check,
+    /// `play POLICY SOURCE STRATEGY TAPE`.
+    Play,
+    /// `run POLICY WOVEN TAPE`.
+    Run,
 }
 
 /// The command of this name.
@@ -30,6 +34,10 @@ pub(crate) fn named_by(word: &str) -> Option<Command>
         Some(Command::Refute)
     } else if word == "check" {
         Some(Command::Check)
+    } else if word == "play" {
+        Some(Command::Play)
+    } else if word == "run" {
+        Some(Command::Run)
     } else {
         None
     }
@@ -49,6 +57,17 @@ impl Command {
                 Quantity::FileBytes,
             ],
             Command::Check => &[Quantity::PolicyBytes, Quantity::FileBytes],
+            Command::Play => &[
+                Quantity::PolicyBytes,
+                Quantity::SourceBytes,
+                Quantity::FileBytes,
+                Quantity::FileBytes,
+            ],
+            Command::Run => &[
+                Quantity::PolicyBytes,
+                Quantity::FileBytes,
+                Quantity::FileBytes,
+            ],
         }
     }
 
@@ -61,6 +80,8 @@ impl Command {
             Command::Graph => b"graph SOURCE",
             Command::Refute => b"refute POLICY SOURCE STRATEGY",
             Command::Check => b"check POLICY WOVEN",
+            Command::Play => b"play POLICY SOURCE STRATEGY TAPE",
+            Command::Run => b"run POLICY WOVEN TAPE",
         }
     }
 }
