@@ -1,5 +1,5 @@
 -- What is told of a table, for a program; and of a text that is read.
-use Rattle.std.proofs.Common.{◌≡◌, ◌≢◌, ℕ, ◌+◌, ◌^◌, ◌<◌, ◌≤◌, suc, List, [], ◌∷◌, ◌++◌, length, map, Option, Some, None, Result, refl, sym, ap, ◌∙◌, ⊎_elim, inl, inr, arith, length-append}
+use Rattle.std.proofs.Common.{◌≡◌, ◌≢◌, ℕ, ◌+◌, ◌≤◌, suc, List, [], ◌∷◌, ◌++◌, length, map, Option, Some, None, Result, refl, sym, ap, ◌∙◌, ⊎_elim, inl, inr, arith, length-append}
 use Rattle.std.specs.Prelude.{codes, option_map, IfNone, IfOk}
 use Rattle.std.specs.Fmt.{decimal}
 use Rattle.std.proofs.lemmas.List.{length-map}
@@ -41,7 +41,7 @@ told_is : (f : TableFault) → told_row (told_of f) ≡ told f
 told_is f = ap (λ (name : List ℕ). name ++ (codes " " ++ decimal f.row) ++ (codes " condition " ++ decimal f.condition) ++ (10 ∷ [])) (name_is f.part)
 
 module _ (p : Problem) (g : Game) (t : Table) (due : Due) where
-  failing : (bad : BadRow) → (due ≡ Told No (told_row bad)) → (o : Option TableFault) → table_fault g t ≡ o → option_map told_of o ≡ Some bad
+  pub failing : (bad : BadRow) → (due ≡ Told No (told_row bad)) → (o : Option TableFault) → table_fault g t ≡ o → option_map told_of o ≡ Some bad
       → (f : TableFault) × (table_fault g t ≡ Some f) × (due ≡ Told No (told f))
   failing bad d None e h = absurd (none-some bad h)
   failing bad d (Some f) e h = (f, e, d ∙ ap (Told No) (ap told_row (sym (same_Some (told_of f) bad h)) ∙ told_is f))

@@ -1,14 +1,16 @@
 -- What is due for a command, from what is due for its files one by one.
-use Rattle.std.proofs.Common.{◌≡◌, ℕ, ◌+◌, List, [], ◌∷◌, length, map, get_or, Result, refl, sym, ap, ap₂, subst, arith}
+use Rattle.std.proofs.Common.{◌≡◌, ℕ, List, [], ◌∷◌, length, map, get_or, Result, sym, ap, ap₂, subst, arith}
 use Rattle.std.specs.Prelude.{IfOk}
 use Rattle.cw_commands.specs.declared.command.Command.{Command}
-use Rattle.cw_commands.specs.declared.command.Command.TheVariants.{Weave, Graph, Refute, Check}
+use Rattle.cw_commands.specs.declared.command.Command.TheVariants.{Weave, Graph, Refute, Check, Play, Run}
 use Rattle.cw_commands.specs.declared.outcome.Outcome.{Outcome}
 use Rattle.cw_commands.specs.Outcomes.{due_of}
 use Rattle.cw_cli.specs.Checking.{IsCheckDue}
 use Rattle.cw_cli.specs.Due.{IsDue}
 use Rattle.cw_cli.specs.Listings.{IsListingDue}
+use Rattle.cw_cli.specs.Playing.{IsPlayDue}
 use Rattle.cw_cli.specs.Refuting.{IsRefuteDue}
+use Rattle.cw_cli.specs.Running.{IsRunDue}
 use Rattle.cw_cli.specs.Weaving.{IsWeaveDue}
 use Rattle.cw_cli.proofs.Refused.{if_ok}
 
@@ -30,6 +32,14 @@ module _ {A : Type 0} (f : A → List ℕ) where
   three_of (x ∷ (y ∷ [])) a b d n e g h = absurd (omega (arith, n))
   three_of (x ∷ (y ∷ (z ∷ []))) a b d n e g h = ap₂ (λ c k. f c ∷ k) (sym e) (ap₂ (λ c k. f c ∷ (f k ∷ [])) (sym g) (sym h))
   three_of (x ∷ (y ∷ (z ∷ (w ∷ xs)))) a b d n e g h = absurd (omega (arith, n))
+
+  pub four_of : (xs : List A) (a b d k : A) → length xs ≡ 4 → a ≡ get_or xs 0 a → b ≡ get_or xs 1 b → d ≡ get_or xs 2 d → k ≡ get_or xs 3 k → map f xs ≡ f a ∷ (f b ∷ (f d ∷ (f k ∷ [])))
+  four_of [] a b d k n e g h i = absurd (omega (arith, n))
+  four_of (x ∷ []) a b d k n e g h i = absurd (omega (arith, n))
+  four_of (x ∷ (y ∷ [])) a b d k n e g h i = absurd (omega (arith, n))
+  four_of (x ∷ (y ∷ (z ∷ []))) a b d k n e g h i = absurd (omega (arith, n))
+  four_of (x ∷ (y ∷ (z ∷ (w ∷ [])))) a b d k n e g h i = ap₂ (λ c r. f c ∷ r) (sym e) (ap₂ (λ c r. f c ∷ r) (sym g) (ap₂ (λ c r. f c ∷ (f r ∷ [])) (sym h) (sym i)))
+  four_of (x ∷ (y ∷ (z ∷ (w ∷ (v ∷ xs))))) a b d k n e g h i = absurd (omega (arith, n))
 
 module _ {E : Type 0} (command : Command) (files : List (List ℕ)) (result : Result Outcome E) where
   pub weave_is_due : (policy source p s : List ℕ) → command ≡ Weave → files ≡ policy ∷ (source ∷ []) → p ≡ policy → s ≡ source
@@ -67,3 +77,24 @@ module _ {E : Type 0} (command : Command) (files : List (List ℕ)) (result : Re
       let two = subst (λ x. IsCheckDue policy x (due_of o)) same_t one in
       let three = subst (λ fs. IsDue Check fs (due_of o)) (sym are) two in
       subst (λ c. IsDue c files (due_of o)) (sym is) three)
+
+  pub play_is_due : (policy source strategy tape p s t m : List ℕ) → command ≡ Play → files ≡ policy ∷ (source ∷ (strategy ∷ (tape ∷ []))) → p ≡ policy → s ≡ source → t ≡ strategy → m ≡ tape
+      → IfOk result (λ o. IsPlayDue p s t m (due_of o)) → IfOk result (λ o. IsDue command files (due_of o))
+  play_is_due policy source strategy tape p s t m is are same_p same_s same_t same_m h =
+      if_ok result h (λ o d.
+      let one = subst (λ x. IsPlayDue x s t m (due_of o)) same_p d in
+      let two = subst (λ x. IsPlayDue policy x t m (due_of o)) same_s one in
+      let three = subst (λ x. IsPlayDue policy source x m (due_of o)) same_t two in
+      let four = subst (λ x. IsPlayDue policy source strategy x (due_of o)) same_m three in
+      let five = subst (λ fs. IsDue Play fs (due_of o)) (sym are) four in
+      subst (λ c. IsDue c files (due_of o)) (sym is) five)
+
+  pub run_is_due : (policy text tape p t m : List ℕ) → command ≡ Run → files ≡ policy ∷ (text ∷ (tape ∷ [])) → p ≡ policy → t ≡ text → m ≡ tape
+      → IfOk result (λ o. IsRunDue p t m (due_of o)) → IfOk result (λ o. IsDue command files (due_of o))
+  run_is_due policy text tape p t m is are same_p same_t same_m h =
+      if_ok result h (λ o d.
+      let one = subst (λ x. IsRunDue x t m (due_of o)) same_p d in
+      let two = subst (λ x. IsRunDue policy x m (due_of o)) same_t one in
+      let three = subst (λ x. IsRunDue policy text x (due_of o)) same_m two in
+      let four = subst (λ fs. IsDue Run fs (due_of o)) (sym are) three in
+      subst (λ c. IsDue c files (due_of o)) (sym is) four)

@@ -1,5 +1,5 @@
 -- The judgement of a strategy, for a program; what is told of its text.
-use Rattle.std.proofs.Common.{◌≡◌, ◌≢◌, ℕ, ◌+◌, ◌^◌, ◌<◌, ◌≤◌, List, [], ◌∷◌, length, ⊎_elim, inl, inr, refl, arith}
+use Rattle.std.proofs.Common.{◌≢◌, ℕ, ◌^◌, ◌<◌, ◌≤◌, List, [], ◌∷◌, length, ⊎_elim, inl, inr, refl, arith}
 use Rattle.cw_certs.specs.Strategies.{How, Bad, Out, Both, Go, Into, Row, Strategy}
 use Rattle.cw_model.specs.Boards.{Problem}
 use Rattle.cw_game.specs.Games.{Game}

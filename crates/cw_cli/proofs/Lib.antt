@@ -5,6 +5,7 @@ mod Labelled
 mod Listed
 mod Made
 mod Refused
+mod Shown
 mod Weaves
 mod Withins
 mod Agreeing

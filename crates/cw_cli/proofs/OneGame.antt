@@ -1,5 +1,5 @@
 -- A graph and a policy have one game, and it is over no limit where one is made.
-use Rattle.std.proofs.Common.{◌≡◌, ◌≢◌, ℕ, suc, ◌+◌, ◌*◌, ◌<◌, ◌≤◌, List, [], ◌∷◌, length, Option, option_map, Contains, refl, sym, ap, ap₂, ◌∙◌, subst, arith, inl, inr, ⊎_elim}
+use Rattle.std.proofs.Common.{◌≡◌, ◌≢◌, ℕ, ◌*◌, ◌<◌, ◌≤◌, List, [], ◌∷◌, length, option_map, refl, sym, ap, ap₂, ◌∙◌, subst, arith, inl, inr, ⊎_elim}
 use Rattle.std.specs.Prelude.{slice_get}
 use Rattle.std.specs.Cmp.{IsTotalOrder}
 use Rattle.std.specs.List.{AllByRecursion}
@@ -22,7 +22,7 @@ use Rattle.cw_lazy.proofs.Finding.{In, in_of, of_in}
 use Rattle.cw_positions.specs.Positions.{base, spots, spots_in, to}
 use Rattle.cw_states.specs.declared.uses.Uses.{Uses}
 use Rattle.cw_states.specs.Rights.{IsRightsState, caps_cmp}
-use Rattle.cw_states.specs.States.{Lists, AreFew, AreLists, count, letters_of, lists_of, states_of}
+use Rattle.cw_states.specs.States.{Lists, AreLists, count, letters_of, lists_of, states_of}
 use Rattle.cw_states.proofs.Ordered.{caps_total}
 use Rattle.cw_product.specs.declared.fault.GameFault.{GameFault}
 use Rattle.cw_product.specs.declared.fault.GameFault.TheVariants.{TooManyCaps, TooManyWords, TooManyStates, TooManyPositions, NoMemory}

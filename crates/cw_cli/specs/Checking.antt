@@ -12,8 +12,6 @@ use Rattle.cw_model.specs.Boards.{Problem, problem_of}
 use Rattle.cw_model.specs.Runs.{Sound}
 use Rattle.cw_game.specs.Games.{Game}
 use Rattle.cw_game.specs.Conditions.{Part, InMems, InLive, InTries, InAts, InOpened, InClosed, InInto, InBack, TableFault, table_fault, IsGoodTable}
-use Rattle.cw_game.specs.Standing.{IsGameOf}
-use Rattle.cw_product.specs.Product.{Held, game_of}
 use Rattle.cw_callgraph.specs.Fitting.{Fits}
 use Rattle.cw_lines.specs.declared.fault.TextFault.{TextFault}
 use Rattle.cw_lines.specs.declared.fault.TextFault.TheVariants as fault
@@ -28,7 +26,7 @@ use Rattle.cw_commands.specs.declared.outcome.Reply.TheVariants.{Yes, No}
 use Rattle.cw_commands.specs.Outcomes.{Due, Told, Refused}
 use Rattle.cw_cli.specs.Fitting.{IsFitRefusal}
 use Rattle.cw_cli.specs.Refusals.{descriptor_line, over, source_refusal, IsPolicyRefusal}
-use Rattle.cw_cli.specs.Refuting.{yes, IsGame, IsGameRefusal}
+use Rattle.cw_cli.specs.Refuting.{yes, WithGame}
 
 -- the refusal by the first fault of a table's lines; where its rows are too many that is a limit
 abbrev pub table_refusal : TextFault → Due
@@ -79,24 +77,27 @@ IsChecked p g t due =
     (IsGoodTable g t × (due ≡ Told Yes yes) × Sound p t)
     ⊎ ((f : TableFault) × (table_fault g t ≡ Some f) × (due ≡ Told No (told f)))
 
--- That the game is over one of its numbers, or what is told of the table.
-abbrev pub AfterGraph : List ℕ → PlainPolicy → File → Table → Graph → Due → Type 0
-AfterGraph source whole file t graph due =
-    IsGameRefusal whole graph due
-    ⊎ ((held : Held) × IsGame whole graph held × IsGameOf (problem_of whole source file) (game_of held)
-    × IsChecked (problem_of whole source file) (game_of held) t due)
-
--- That the policy doesn't fit the program, or what comes behind that.
-abbrev pub AfterWoven : List ℕ → PlainPolicy → File → Table → Due → Type 0
-AfterWoven source whole file t due =
+-- That the policy doesn't fit the program of a woven text, or what comes behind that.
+abbrev pub WhereWovenFits : (Game → Due → Type 0) → List ℕ → PlainPolicy → File → Due → Type 0
+WhereWovenFits Next source whole file due =
     IsFitRefusal source file whole due
-    ⊎ (Fits source file whole × (graph : Graph) × IsGraph (names_of whole) source file graph × AfterGraph source whole file t graph due)
+    ⊎ (Fits source file whole × (graph : Graph) × IsGraph (names_of whole) source file graph × WithGame Next source whole file graph due)
 
--- That the text is no woven text, or what is due for the source and the table that it is read as.
-abbrev pub AfterPolicy : (text : List ℕ) → PlainPolicy → Due → Type 0
-AfterPolicy text whole due =
+-- That the text is no woven text, or what comes next for the source and the table that it is read as.
+abbrev pub WithWoven : (List ℕ → File → Table → Due → Type 0) → (text : List ℕ) → PlainPolicy → Due → Type 0
+WithWoven Next text whole due =
     IsWovenRefusal whole text due
-    ⊎ ((source : List ℕ) × (file : File) × (t : Table) × ReadsWoven whole text source file t × AfterWoven source whole file t due)
+    ⊎ ((source : List ℕ) × (file : File) × (t : Table) × ReadsWoven whole text source file t × Next source file t due)
+
+-- These stages of `check`, with what is told of the table behind them.
+abbrev pub AfterGraph : List ℕ → PlainPolicy → File → Table → Graph → Due → Type 0
+AfterGraph source whole file t = WithGame (λ g due. IsChecked (problem_of whole source file) g t due) source whole file
+
+abbrev pub AfterWoven : List ℕ → PlainPolicy → File → Table → Due → Type 0
+AfterWoven source whole file t = WhereWovenFits (λ g due. IsChecked (problem_of whole source file) g t due) source whole file
+
+abbrev pub AfterPolicy : (text : List ℕ) → PlainPolicy → Due → Type 0
+AfterPolicy text whole = WithWoven (λ source file t due. AfterWoven source whole file t due) text whole
 
 -- The policy is read first.
 abbrev pub IsCheckDue : (policy text : List ℕ) → Due → Type 0

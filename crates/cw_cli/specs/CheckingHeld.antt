@@ -3,6 +3,7 @@ use Rattle.std.specs.Prelude.{◌≡◌, ◌⊎◌, ℕ, ◌≤◌, nat_eq, if�
 use Rattle.std.specs.Fmt.{decimal}
 use Rattle.cw_rights.specs.Policies.{PlainPolicy}
 use Rattle.cw_syntax.specs.Trees.{File}
+use Rattle.cw_certs.specs.declared.moves.Move.{Move}
 use Rattle.cw_certs.specs.Tables.{Table}
 use Rattle.cw_model.specs.Boards.{Problem}
 use Rattle.cw_model.specs.Runs.{Sound}
@@ -16,6 +17,7 @@ use Rattle.cw_commands.specs.declared.outcome.Reply.TheVariants.{Yes, No}
 use Rattle.cw_commands.specs.Outcomes.{Due, Told}
 use Rattle.cw_cli.specs.Refuting.{yes}
 use Rattle.cw_cli.specs.Checking.{AfterPolicy}
+use Rattle.cw_cli.specs.Running.{IsRunTold}
 
 -- the name of a list, by its number
 abbrev pub list_name : ℕ → List ℕ
@@ -43,3 +45,9 @@ IsCheckedBy g t due =
 
 abbrev pub AfterOpening : PlainPolicy → Opened → Due → Type 0
 AfterOpening whole opened due = AfterPolicy opened.text.now whole due
+
+-- the same for a run of the table
+abbrev pub IsRunShownBy : List ℕ → PlainPolicy → File → Table → List Move → Game → Due → Type 0
+IsRunShownBy source whole file t tape g due =
+    (IsGoodTable g t × IsRunTold source whole file t tape due)
+    ⊎ ((bad : BadRow) × (option_map told_of (table_fault g t) ≡ Some bad) × (due ≡ Told No (told_row bad)))

@@ -6,6 +6,9 @@ pub mod Verdicts
 pub mod Weaving
 pub mod Listings
 pub mod Checking
+pub mod Tapes
+pub mod Playing
+pub mod Running
 pub mod CheckingHeld
 pub mod Due
 pub mod Agreeing

@@ -92,7 +92,7 @@ fn cut_refusal(
 }
 
 /// The refusal by the first fault of a woven text, which without its parts is this source.
-fn woven_refusal(
+pub(crate) fn woven_refusal(
     alloc: Global,
     policy: &Policy,
     source: &[u8],
@@ -133,7 +133,7 @@ fn list_name(table: u8) -> &'static [u8]
 }
 
 /// The line that tells which row fails which condition.
-fn told(alloc: Global, bad: &BadRow) -> Result<Vec<u8>, NoMemory>
+pub(crate) fn told(alloc: Global, bad: &BadRow) -> Result<Vec<u8>, NoMemory>
     ensures { IfOk result (λ line. line.items ≡ told_row bad.now) }
 {
     let mut line = worded(alloc, list_name(bad.table), b" ")?;

@@ -11,7 +11,9 @@ ghost use Rattle.cw_cli.specs.Due.{IsDue};
 
 use crate::checking::check_due;
 use crate::listing::listing_due;
+use crate::playing::play_due;
 use crate::refuting::refute_due;
+use crate::running::run_due;
 use crate::weaving::weave_due;
 use cw_commands::{
     Command, Ending, Outcome, Request, deliver, first_command, put_ending, put_usage, read_files,
@@ -36,6 +38,10 @@ fn due(alloc: Global, command: Command, files: &[Vec<u8>]) -> Result<Outcome, No
             alloc, policy, source, strategy,
         ),
         (Command::Check, [policy, text]) => check_due(alloc, policy, text),
+        (Command::Play, [policy, source, strategy, tape]) => play_due(
+            alloc, policy, source, strategy, tape,
+        ),
+        (Command::Run, [policy, text, tape]) => run_due(alloc, policy, text, tape),
         _ => unreachable!(),
     }
 }
@@ -68,7 +74,9 @@ fn perform<'w, F: Shelf, O: Sink>(
 ///
 /// `weave POLICY SOURCE` puts the woven text (0), or the strategy by which the environment beats every weaver (1); `graph SOURCE` puts the
 /// lines of the graph of the source's points (0); `refute POLICY SOURCE STRATEGY` puts `yes` where the strategy beats every weaver (0), or the
-/// first row that fails a condition (1); `check POLICY WOVEN` puts `yes` where the table is sound (0), or the first row that fails a condition (1). Words that fit no command are 2, a refused source 3, a refused policy 4, a quantity over
+/// first row that fails a condition (1); `check POLICY WOVEN` puts `yes` where the table is sound (0), or the first row that fails a condition (1);
+/// `play POLICY SOURCE STRATEGY TAPE` puts the trace of the strategy's play by the tape and `violation RULE` (0) or `tape spent` (1), and `run POLICY WOVEN TAPE` that of the
+/// woven run and `ended` (0), `tape spent` or `bad move I` (1), or each the first row that fails a condition (1). Words that fit no command are 2, a refused source 3, a refused policy 4, a quantity over
 /// its limit 5, a file that can't be read 6, an output that can't be written 7, want of memory 8, a strategy or a woven text that isn't of its grammar 9.
 pub fn capweave<F: Shelf, O: Sink, N: Sink>(
     alloc: Global,

@@ -6,20 +6,27 @@ mod command;
 mod fitting;
 pub mod laws;
 mod listing;
+mod playing;
 mod reading;
 mod refusals;
 mod refuting;
+mod running;
+mod tapes;
 mod verdict;
 mod weaving;
 
 pub use checking::check_due;
 pub use command::capweave;
 pub use listing::listing_due;
+pub use playing::play_due;
 pub use refuting::refute_due;
+pub use running::run_due;
 pub use weaving::weave_due;
 
 #[cfg(test)]
 mod checking_tests;
+#[cfg(test)]
+mod playing_tests;
 #[cfg(test)]
 mod splitting_tests;
 #[cfg(test)]

@@ -41,7 +41,7 @@ pub(crate) fn numbered(alloc: Global, words: &[u8], number: u32) -> Result<Vec<u
 }
 
 /// The refusal by the first fault of a strategy's text.
-fn strategy_refusal(alloc: Global, fault: &TextFault) -> Result<Outcome, NoMemory>
+pub(crate) fn strategy_refusal(alloc: Global, fault: &TextFault) -> Result<Outcome, NoMemory>
     ensures { IfOk result (λ outcome. (fault.now ≢ TextFault.NoMemory) × (due_of outcome ≡ strategy_refusal fault.now)) }
 {
     match fault {
@@ -72,7 +72,7 @@ pub(crate) fn game_refusal(alloc: Global, fault: &GameFault) -> Result<Outcome, 
 }
 
 /// The line that tells which row fails which condition.
-fn told(alloc: Global, bad: &BadEnvRow) -> Result<Vec<u8>, NoMemory>
+pub(crate) fn told(alloc: Global, bad: &BadEnvRow) -> Result<Vec<u8>, NoMemory>
     ensures { IfOk result (λ line. line.items ≡ told (fault_of bad.now)) }
 {
     let mut line = numbered(alloc, b"row ", bad.row)?;

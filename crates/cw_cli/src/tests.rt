@@ -630,7 +630,7 @@ fn what_the_note_answers_changes_no_status(rt: HostRuntime) -> Result<(), Fail> 
     Ok(())
 }
 
-const REFUSED_ENTER: &str = "capweave strategy 1
+pub(crate) const REFUSED_ENTER: &str = "capweave strategy 1
 states 4
 0 5 0 0x0 bad
 1 4 0 0x0 refuse 0
@@ -641,16 +641,21 @@ states 4
 end
 ";
 
-fn shelf_of(
+pub(crate) fn shelf_of(
     alloc: Global,
     policy: &str,
     source: &str,
     strategy: &[u8],
+    tape: &[u8],
 ) -> Result<SureShelf, AllocError> {
     let mut held = files(alloc, policy, source)?;
     held.push((
         Vec::from_slice(alloc, b"t")?,
         Vec::from_slice(alloc, strategy)?,
+    ))?;
+    held.push((
+        Vec::from_slice(alloc, b"tape")?,
+        Vec::from_slice(alloc, tape)?,
     ))?;
     Ok(SureShelf::make(held))
 }
@@ -725,7 +730,7 @@ fn judges_strategies_or_tells_why_not(rt: HostRuntime) -> Result<(), Fail> {
         (both, "int main(void){", "", 3, "", "source 1:16: syntax\n"),
         ("format = 3\n", "", "", 4, "", "policy: kind format\n"),
     ] {
-        let mut shelf = shelf_of(alloc, policy, source, strategy.as_bytes())?;
+        let mut shelf = shelf_of(alloc, policy, source, strategy.as_bytes(), b"")?;
         let mut out = SureSink::make(alloc);
         let mut note = SureSink::make(alloc);
         assert_eq!(rt;
@@ -751,7 +756,7 @@ fn files_of_a_strategy_have_the_limit_of_the_policys_format(rt: HostRuntime) -> 
         ("format = 3\n", 16_777_217, 5, "limit: file bytes\n"),
     ] {
         let long = vec![in alloc; b'0'; length]?;
-        let mut shelf = shelf_of(alloc, policy, "int main(void){return 0;}", &long)?;
+        let mut shelf = shelf_of(alloc, policy, "int main(void){return 0;}", &long, b"")?;
         let mut out = SureSink::make(alloc);
         let mut note = SureSink::make(alloc);
         assert_eq!(rt;

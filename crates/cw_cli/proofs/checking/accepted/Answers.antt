@@ -1,4 +1,4 @@
-use Rattle.std.proofs.Common.{inl, inr, length, ◌≤◌, sym, subst}
+use Rattle.std.proofs.Common.{inl, inr, sym, subst}
 use Rattle.cw_rights.specs.Policies.{policy_of}
 use Rattle.cw_syntax.specs.Trees.{file_of}
 use Rattle.cw_actions.specs.Scenes.{names_of}

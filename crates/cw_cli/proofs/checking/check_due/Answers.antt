@@ -1,6 +1,6 @@
-use Rattle.std.proofs.Common.{inl, inr}
+use Rattle.std.proofs.Common.{inr}
 use Rattle.cw_rights.specs.Policies.{policy_of}
-use Rattle.cw_cli.proofs.Refused.{if_ok, policy_refused}
+use Rattle.cw_cli.proofs.Refused.{if_ok}
 use Rattle.cw_cli.proofs.checking.check_due.Goals as goal
 
 pub returns-in-Ok : goal.returns-in-Ok

@@ -1,5 +1,5 @@
 use Rattle.std.proofs.Common.{◌≡◌, length, map, arith}
-use Rattle.cw_cli.proofs.Dues.{check_is_due, listing_is_due, one_of, refute_is_due, three_of, two_of, weave_is_due}
+use Rattle.cw_cli.proofs.Dues.{check_is_due, four_of, listing_is_due, one_of, play_is_due, refute_is_due, run_is_due, three_of, two_of, weave_is_due}
 use Rattle.cw_cli.proofs.command.due.Goals as goal
 
 pub returns-in-Weave-len2 : goal.returns-in-Weave-len2
@@ -37,3 +37,28 @@ returns-in-Check-len2 c =
     let are = two_of (λ file. file.items) files policy text many c.policy-item-then-this-lt3-3.is c.text-item.is in
     check_is_due c.args.command (map (λ file. file.items) files) c.check_due.result policy.items text.items c.deref-in-Check-len2.result.now c.deref-in-Check-len2-2.result.now c.in-Check-len2.is-0 are
     c.deref-in-Check-len2.ensures.value c.deref-in-Check-len2-2.ensures.value c.check_due.ensures.due
+
+pub returns-in-Play-len4 : goal.returns-in-Play-len4
+returns-in-Play-len4 c =
+    let files = c.args.files.now in
+    let policy = c.policy-item-then-this-lt5.result in
+    let source = c.source-item-then-this-lt5.result in
+    let strategy = c.strategy-item-then-this-lt5.result in
+    let tape = c.tape-item.result in
+    let many : length files ≡ 4 = omega (arith, c.in-Play-len4.len_at_least, c.in-Play-len4.len_below) in
+    let are = four_of (λ file. file.items) files policy source strategy tape many c.policy-item-then-this-lt5.is c.source-item-then-this-lt5.is c.strategy-item-then-this-lt5.is c.tape-item.is in
+    play_is_due c.args.command (map (λ file. file.items) files) c.play_due.result policy.items source.items strategy.items tape.items
+    c.deref-in-Play-len4.result.now c.deref-in-Play-len4-2.result.now c.deref-in-Play-len4-3.result.now c.deref-in-Play-len4-4.result.now c.in-Play-len4.is-0 are
+    c.deref-in-Play-len4.ensures.value c.deref-in-Play-len4-2.ensures.value c.deref-in-Play-len4-3.ensures.value c.deref-in-Play-len4-4.ensures.value c.play_due.ensures.due
+
+pub returns-in-Run-len3 : goal.returns-in-Run-len3
+returns-in-Run-len3 c =
+    let files = c.args.files.now in
+    let policy = c.policy-item-then-this-lt4-3.result in
+    let text = c.text-item-then-this-lt4-3.result in
+    let tape = c.tape-item-then-this-lt4-3.result in
+    let many : length files ≡ 3 = omega (arith, c.in-Run-len3.len_at_least, c.in-Run-len3.len_below) in
+    let are = three_of (λ file. file.items) files policy text tape many c.policy-item-then-this-lt4-3.is c.text-item-then-this-lt4-3.is c.tape-item-then-this-lt4-3.is in
+    run_is_due c.args.command (map (λ file. file.items) files) c.run_due.result policy.items text.items tape.items
+    c.deref-in-Run-len3.result.now c.deref-in-Run-len3-2.result.now c.deref-in-Run-len3-3.result.now c.in-Run-len3.is-0 are
+    c.deref-in-Run-len3.ensures.value c.deref-in-Run-len3-2.ensures.value c.deref-in-Run-len3-3.ensures.value c.run_due.ensures.due

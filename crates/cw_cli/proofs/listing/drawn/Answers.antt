@@ -2,7 +2,6 @@ use Rattle.std.proofs.Common.{length, ap, arith, inr, refl}
 use Rattle.std.proofs.lemmas.List.{length-map}
 use Rattle.cw_rights.specs.Policies.{PlainDescriptor, policy_of}
 use Rattle.cw_syntax.specs.Names.{Names}
-use Rattle.cw_syntax.specs.Trees.{file_of}
 use Rattle.cw_actions.specs.Scenes.{names_of}
 use Rattle.cw_cli.proofs.Listed.{few_functions, is_listing}
 use Rattle.cw_cli.proofs.listing.drawn.Goals as goal

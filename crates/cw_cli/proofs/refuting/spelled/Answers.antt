@@ -1,4 +1,4 @@
-use Rattle.std.proofs.Common.{length, arith, inl, inr}
+use Rattle.std.proofs.Common.{arith, inl, inr}
 use Rattle.std.proofs.lemmas.List.{length-map}
 use Rattle.cw_rights.specs.Policies.{policy_of}
 use Rattle.cw_certs.specs.Strategies.{row_of, strategy_of}

@@ -1,0 +1,57 @@
+-- What is due for `play`, by the bytes of a policy, of a source, of a strategy and of a tape.
+use Rattle.std.specs.Prelude.{◌≡◌, ◌⊎◌, ℕ, List, [], ◌∷◌, ◌++◌, true, Some, codes, slice_get, unwrap_or, option_map}
+use Rattle.cw_rights.specs.Policies.{PlainPolicy}
+use Rattle.cw_syntax.specs.Trees.{File}
+use Rattle.cw_syntax.specs.Plans.{plan_of}
+use Rattle.cw_actions.specs.Scenes.{names_of}
+use Rattle.cw_certs.specs.declared.moves.Move.{Move}
+use Rattle.cw_certs.specs.Strategies.{Strategy}
+use Rattle.cw_model.specs.Boards.{problem_of}
+use Rattle.cw_game.specs.Games.{Game}
+use Rattle.cw_game.specs.Conditions.{RowFault, strategy_fault, IsGoodStrategy}
+use Rattle.cw_echeck.specs.Beating.{IsStartRow}
+use Rattle.cw_strategies.specs.StrategyText.{Spells}
+use Rattle.cw_trace.specs.Labels.{names_of as told_names}
+use Rattle.cw_trace.specs.Traces.{Taken, trace}
+use Rattle.cw_play.specs.declared.end.PlayEnd.{PlayEnd}
+use Rattle.cw_play.specs.declared.end.PlayEnd.TheVariants.{Violation, TapeSpent}
+use Rattle.cw_play.specs.Plays.{IsPlayBy}
+use Rattle.cw_commands.specs.declared.outcome.Reply.TheVariants.{Yes, No}
+use Rattle.cw_commands.specs.Outcomes.{Due, Told}
+use Rattle.cw_cli.specs.Reading.{AfterReading}
+use Rattle.cw_cli.specs.Refuting.{told, IsStrategyRefusal, WhereFits}
+use Rattle.cw_cli.specs.Tapes.{WithTape}
+
+-- the name of the rule with this number; a number without a rule has the empty one
+abbrev pub rule_name : PlainPolicy → ℕ → List ℕ
+rule_name whole number = unwrap_or (option_map (λ rule. rule.name) (slice_get whole.rules number)) []
+
+-- the trace of a play, and behind it how the play ends
+abbrev pub play_told : PlainPolicy → PlayEnd → (lines : List ℕ) → Due
+play_told whole (Violation rule) lines = Told Yes (lines ++ (codes "violation " ++ (rule_name whole rule ++ (10 ∷ []))))
+play_told whole TapeSpent lines = Told No (lines ++ (codes "tape spent" ++ (10 ∷ [])))
+
+-- There is a play of the strategy by the tape from its start row, and its trace and its end are told.
+pub record IsPlayTold (source : List ℕ) (whole : PlainPolicy) (file : File) (g : Game) (s : Strategy) (tape : List Move) (due : Due) : Type 0 where
+  pub row : ℕ
+  pub start : IsStartRow g s row
+  pub end : PlayEnd
+  pub steps : List Taken
+  pub play : IsPlayBy (problem_of whole source file) s row tape end steps
+  pub due_is : due ≡ play_told whole end (trace (told_names source file (plan_of (names_of whole) source file)) (problem_of whole source file) steps)
+
+-- The strategy meets the conditions of the game, and is played; or the first row that fails one.
+abbrev pub IsShown : List ℕ → PlainPolicy → File → Strategy → List Move → Game → Due → Type 0
+IsShown source whole file s tape g due =
+    (IsGoodStrategy g s × IsPlayTold source whole file g s tape due)
+    ⊎ ((f : RowFault) × (strategy_fault g s ≡ Some f) × (due ≡ Told No (told f)))
+
+-- That the strategy isn't spelled in the policy's format, that the tape isn't one of the weaver's moves, or what comes behind that.
+abbrev pub AfterPair : (source text tape : List ℕ) → PlainPolicy → File → Due → Type 0
+AfterPair source text tape whole file due =
+    IsStrategyRefusal whole.format text due
+    ⊎ ((s : Strategy) × Spells whole.format text s × WithTape (λ moves. WhereFits (IsShown source whole file s moves) source whole file) true tape due)
+
+-- The policy and the source are read first.
+abbrev pub IsPlayDue : (policy source text tape : List ℕ) → Due → Type 0
+IsPlayDue policy source text tape = AfterReading (AfterPair source text tape) policy source

@@ -1,0 +1,242 @@
+//! What is due for `play`.
+
+ghost use Rattle.std.specs.Prelude.{◌≡◌, ◌≤◌, ◌<◌, ◌^◌, true, length, All, IfOk};
+ghost use Rattle.cw_rights.specs.Policies.{policy_of};
+ghost use Rattle.cw_rights.specs.Valid.{IsValid};
+ghost use Rattle.cw_syntax.specs.Trees.{file_of};
+ghost use Rattle.cw_actions.specs.Scenes.{names_of};
+ghost use Rattle.cw_certs.specs.Strategies.{strategy_of};
+ghost use Rattle.cw_points.specs.Graphs.{IsGraph};
+ghost use Rattle.cw_source.specs.Read.{ReadsAs};
+ghost use Rattle.cw_game.specs.Conditions.{IsGoodStrategy};
+ghost use Rattle.cw_states.specs.States.{AreLists, lists_of};
+ghost use Rattle.cw_product.specs.Product.{game_of};
+ghost use Rattle.cw_product.specs.Uses.{uses_of};
+ghost use Rattle.cw_tapes.specs.Tapes.{IsIn};
+ghost use Rattle.cw_commands.specs.Outcomes.{due_of};
+ghost use Rattle.cw_cli.specs.Refuting.{WhereFits, WithGame, WithGraph};
+ghost use Rattle.cw_cli.specs.Tapes.{WithTape};
+ghost use Rattle.cw_cli.specs.Playing.{play_told, rule_name, AfterPair, IsPlayDue, IsPlayTold, IsShown};
+
+use crate::fitting::fit_refusal;
+use crate::reading::read_both;
+use crate::refusals::over;
+use crate::refuting::{game_refusal, strategy_refusal, told};
+use crate::tapes::moves_of;
+use cw_certs::{EnvCert, Move};
+use cw_commands::{Outcome, Reply};
+use cw_core::{NoMemory, Quantity};
+use cw_echeck::check_env;
+use cw_play::{PlayEnd, play_env};
+use cw_points::build::build;
+use cw_points::{Graph, PointsFault};
+use cw_product::Game;
+use cw_rights::Policy;
+use cw_strategies::read_env;
+use cw_syntax::checked::Checked;
+use cw_trace::trace_names;
+use std::alloc::Global;
+
+/// The name of the rule with this number.
+fn rule_name(policy: &Policy, number: u8) -> &[u8]
+    ensures { result.now ≡ rule_name (policy_of policy.now) number }
+{
+    match policy.rules.get(usize::from(number)) {
+        Some(rule) => rule.name.as_slice(),
+        None => &[],
+    }
+}
+
+/// The trace of a play, and behind it how the play ends.
+fn play_told(policy: &Policy, end: PlayEnd, trace: Vec<u8>) -> Result<Outcome, NoMemory>
+    ensures { IfOk result (λ outcome. due_of outcome ≡ play_told (policy_of policy.now) end trace.items) }
+{
+    let mut text = trace;
+    match end {
+        PlayEnd::Violation(rule) => {
+            text.extend_from_slice(b"violation ")?;
+            text.extend_from_slice(rule_name(policy, rule))?;
+            text.push(b'\n')?;
+            Ok(Outcome::Told(Reply::Yes, text))
+        }
+        PlayEnd::TapeSpent => {
+            text.extend_from_slice(b"tape spent\n")?;
+            Ok(Outcome::Told(Reply::No, text))
+        }
+    }
+}
+
+/// The play of a good strategy by a tape.
+fn shown(
+    alloc: Global,
+    checked: &Checked,
+    game: &Game,
+    strategy: &EnvCert,
+    tape: &[Move],
+) -> Result<Outcome, NoMemory>
+    requires valid { IsValid (policy_of game.now.states.policy) }
+    requires lists { AreLists (uses_of (policy_of game.now.states.policy) game.now.graph.nodes.items) (lists_of game.now.states) }
+    requires reads { ReadsAs checked.now.source.now (file_of checked.now.program) }
+    requires graph { IsGraph (names_of (policy_of game.now.states.policy)) checked.now.source.now (file_of checked.now.program) game.now.graph }
+    requires good { IsGoodStrategy (game_of game.now) (strategy_of strategy.now) }
+    requires few { length strategy.now.rows.items < 2 ^ 32 }
+    requires tape { All (IsIn true) tape.now }
+    ensures { IfOk result (λ outcome. IsPlayTold checked.now.source.now (policy_of game.now.states.policy) (file_of checked.now.program)
+        (game_of game.now) (strategy_of strategy.now) tape.now (due_of outcome)) }
+{
+    let names = trace_names(alloc, checked, game.graph())?;
+    let mut trace = Vec::new(alloc);
+    let end = play_env(alloc, &names, game, strategy, tape, &mut trace)?;
+    play_told(game.policy(), end, trace)
+}
+
+/// What is told of a strategy: its play by a tape, or the first row that fails a condition.
+fn judged(
+    alloc: Global,
+    checked: &Checked,
+    game: &Game,
+    strategy: &EnvCert,
+    tape: &[Move],
+) -> Result<Outcome, NoMemory>
+    requires valid { IsValid (policy_of game.now.states.policy) }
+    requires lists { AreLists (uses_of (policy_of game.now.states.policy) game.now.graph.nodes.items) (lists_of game.now.states) }
+    requires reads { ReadsAs checked.now.source.now (file_of checked.now.program) }
+    requires graph { IsGraph (names_of (policy_of game.now.states.policy)) checked.now.source.now (file_of checked.now.program) game.now.graph }
+    requires few { length strategy.now.rows.items < 2 ^ 32 }
+    requires tape { All (IsIn true) tape.now }
+    ensures { IfOk result (λ outcome. IsShown checked.now.source.now (policy_of game.now.states.policy) (file_of checked.now.program)
+        (strategy_of strategy.now) tape.now (game_of game.now) (due_of outcome)) }
+{
+    match check_env(game, strategy) {
+        Ok(()) => shown(alloc, checked, game, strategy, tape),
+        Err(bad) => {
+            let line = told(alloc, &bad)?;
+            Ok(Outcome::Told(Reply::No, line))
+        }
+    }
+}
+
+/// That the game is over one of its numbers, or what is told of the strategy.
+fn played(
+    alloc: Global,
+    policy: &Policy,
+    checked: &Checked,
+    graph: &Graph,
+    strategy: &EnvCert,
+    tape: &[Move],
+) -> Result<Outcome, NoMemory>
+    requires valid { IsValid (policy_of policy.now) }
+    requires reads { ReadsAs checked.now.source.now (file_of checked.now.program) }
+    requires graph { IsGraph (names_of (policy_of policy.now)) checked.now.source.now (file_of checked.now.program) graph.now }
+    requires points { length graph.now.nodes.items ≤ 8192 }
+    requires few { length strategy.now.rows.items < 2 ^ 32 }
+    requires tape { All (IsIn true) tape.now }
+    ensures { IfOk result (λ outcome. let source = checked.now.source.now in let whole = policy_of policy.now in let file = file_of checked.now.program in
+        WithGame (IsShown source whole file (strategy_of strategy.now) tape.now) source whole file graph.now (due_of outcome)) }
+{
+    match Game::make(alloc, graph, policy) {
+        Ok(game) => judged(alloc, checked, &game, strategy, tape),
+        Err(fault) => game_refusal(alloc, &fault),
+    }
+}
+
+/// That the program has too many points, or what comes behind that.
+fn drawn(
+    alloc: Global,
+    policy: &Policy,
+    checked: &Checked,
+    strategy: &EnvCert,
+    tape: &[Move],
+) -> Result<Outcome, NoMemory>
+    requires valid { IsValid (policy_of policy.now) }
+    requires reads { ReadsAs checked.now.source.now (file_of checked.now.program) }
+    requires few { length strategy.now.rows.items < 2 ^ 32 }
+    requires tape { All (IsIn true) tape.now }
+    ensures { IfOk result (λ outcome. let source = checked.now.source.now in let whole = policy_of policy.now in let file = file_of checked.now.program in
+        WithGraph (IsShown source whole file (strategy_of strategy.now) tape.now) source whole file (due_of outcome)) }
+{
+    match build(alloc, checked, policy) {
+        Ok(graph) => played(alloc, policy, checked, &graph, strategy, tape),
+        Err(PointsFault::TooManyPoints) => over(alloc, Quantity::Points),
+        Err(PointsFault::NoMemory) => Err(NoMemory),
+    }
+}
+
+/// That the policy doesn't fit the program, or what comes behind that.
+fn fitted(
+    alloc: Global,
+    policy: &Policy,
+    checked: &Checked,
+    strategy: &EnvCert,
+    tape: &[Move],
+) -> Result<Outcome, NoMemory>
+    requires valid { IsValid (policy_of policy.now) }
+    requires reads { ReadsAs checked.now.source.now (file_of checked.now.program) }
+    requires few { length strategy.now.rows.items < 2 ^ 32 }
+    requires tape { All (IsIn true) tape.now }
+    ensures { IfOk result (λ outcome. let source = checked.now.source.now in let whole = policy_of policy.now in let file = file_of checked.now.program in
+        WhereFits (IsShown source whole file (strategy_of strategy.now) tape.now) source whole file (due_of outcome)) }
+{
+    match fit_refusal(alloc, policy, checked)? {
+        Some(outcome) => Ok(outcome),
+        None => drawn(alloc, policy, checked, strategy, tape),
+    }
+}
+
+/// That the tape isn't one of the weaver's moves, or what comes behind that.
+fn taped(
+    alloc: Global,
+    policy: &Policy,
+    checked: &Checked,
+    strategy: &EnvCert,
+    tape: &[u8],
+) -> Result<Outcome, NoMemory>
+    requires valid { IsValid (policy_of policy.now) }
+    requires reads { ReadsAs checked.now.source.now (file_of checked.now.program) }
+    requires few { length strategy.now.rows.items < 2 ^ 32 }
+    requires short { length tape.now ≤ 33554432 }
+    ensures { IfOk result (λ outcome. let source = checked.now.source.now in let whole = policy_of policy.now in let file = file_of checked.now.program in
+        WithTape (λ moves. WhereFits (IsShown source whole file (strategy_of strategy.now) moves) source whole file) true tape.now (due_of outcome)) }
+{
+    match moves_of(alloc, tape, true) {
+        Ok(moves) => fitted(alloc, policy, checked, strategy, &moves),
+        Err(answer) => answer,
+    }
+}
+
+/// That the strategy isn't spelled in the policy's format, or what comes behind that.
+fn spelled(
+    alloc: Global,
+    policy: &Policy,
+    checked: &Checked,
+    text: &[u8],
+    tape: &[u8],
+) -> Result<Outcome, NoMemory>
+    requires valid { IsValid (policy_of policy.now) }
+    requires reads { ReadsAs checked.now.source.now (file_of checked.now.program) }
+    requires short { length tape.now ≤ 33554432 }
+    ensures { IfOk result (λ outcome. AfterPair checked.now.source.now text.now tape.now (policy_of policy.now) (file_of checked.now.program) (due_of outcome)) }
+{
+    match read_env(alloc, text, policy.format) {
+        Ok(strategy) => taped(alloc, policy, checked, &strategy, tape),
+        Err(fault) => strategy_refusal(alloc, &fault),
+    }
+}
+
+/// What is due for `play`, by the bytes of a policy, of a source, of a strategy and of a tape.
+pub fn play_due(
+    alloc: Global,
+    policy: &[u8],
+    source: &[u8],
+    strategy: &[u8],
+    tape: &[u8],
+) -> Result<Outcome, NoMemory>
+    requires short { length source.now ≤ 262144 }
+    requires short_tape { length tape.now ≤ 33554432 }
+    ensures due { IfOk result (λ outcome. IsPlayDue policy.now source.now strategy.now tape.now (due_of outcome)) }
+{
+    match read_both(alloc, policy, source) {
+        Ok(pair) => spelled(alloc, &pair.policy, &pair.checked, strategy, tape),
+        Err(answer) => answer,
+    }
+}
