@@ -3,10 +3,13 @@
 
     capweave graph SOURCE | python3 bench/dot.py | dot -Tsvg >points.svg
     capweave graph SOURCE | python3 bench/dot.py --mermaid
+    capweave graph SOURCE | python3 bench/dot.py [--mermaid] --woven WOVEN
 
 A box is a function and a node a point, by its number and kind. A branch has an edge `yes` and an edge `no`, and a dashed edge
-leads from a call to the entry of the function that is called. Needs Python 3.8 and no package.
+leads from a call to the entry of the function that is called. With the woven text of the source a point tells at which of its primitives something
+is tried: `tries 0` is the policy's first limit, and so on, then enter, then split. Needs Python 3.8 and no package.
 """
+import re
 import sys
 from collections import namedtuple
 
@@ -35,7 +38,7 @@ def edges(entries, points):
         for successor, label in zip(point.successors, labels):
             yield point.number, successor, label, False
         if point.kind.startswith("call "):
-            yield point.number, entries[point.kind[len("call "):]], "", True
+            yield point.number, entries[point.kind[len("call "):].split(",")[0]], "", True
 
 
 def dot_edge(begin, end, label, call):
@@ -73,14 +76,34 @@ def drawn(form, entries, points):
     yield from form.tail
 
 
+def with_tries(points, woven):
+    """The points, those with a primitive that is tried told so. Seams are numbered in the order of their marks, and so are points."""
+    tried = {}
+    for seam, stage in re.findall(r"^CW_TRY\((\d+),(\d+),", woven, re.M):
+        tried.setdefault(seam, set()).add(int(stage))
+    seams = re.findall(r"/\*cw\{\*/CW_(?:ENTRY|LABEL|CALLV?)\((\d+)", woven)
+    places = [(name, index) for name, own in points.items() for index, point in enumerate(own) if point.kind.split(" ")[0] in ("entry", "label", "call")]
+    for (name, index), seam in zip(places, seams):
+        if seam in tried:
+            point = points[name][index]
+            points[name][index] = point._replace(kind="%s, tries %s" % (point.kind, " ".join(map(str, sorted(tried[seam])))))
+
+
 def main():
-    if sys.argv[1:] not in ([], ["--mermaid"]):
+    words = sys.argv[1:]
+    mermaid = "--mermaid" in words
+    if mermaid:
+        words.remove("--mermaid")
+    if words and (len(words) != 2 or words[0] != "--woven"):
         sys.exit(__doc__)
     lines = sys.stdin.read().splitlines()
     if not lines or not lines[0].startswith("points "):
         sys.exit("dot.py: standard input isn't what `graph SOURCE` prints")
-    form = MERMAID if sys.argv[1:] else DOT
-    print("\n".join(drawn(form, *read_graph(lines))))
+    entries, points = read_graph(lines)
+    if words:
+        with open(words[1], encoding="latin-1") as file:
+            with_tries(points, file.read())
+    print("\n".join(drawn(MERMAID if mermaid else DOT, entries, points)))
 
 
 if __name__ == "__main__":
