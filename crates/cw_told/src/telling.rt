@@ -54,12 +54,7 @@ fn put_opened(name: &[u8], by: Move, text: &mut Vec<u8>) -> Result<(), NoMemory>
 }
 
 /// The end of a function is told, but that of `main`.
-fn put_returned(
-    names: &Names,
-    main: u16,
-    function: u32,
-    text: &mut Vec<u8>,
-) -> Result<(), NoMemory>
+fn put_returned(names: &Names, main: u16, function: u32, text: &mut Vec<u8>) -> Result<(), NoMemory>
     ensures { OnOk result (text.new.items ≡ text.old.items ++ returned_lines (told names.now) main function) }
 {
     if function == u32::from(main) {
@@ -125,8 +120,8 @@ pub fn put_step(
     requires state { IsState (game_of game.now) next.1.0 }
     ensures told { let g = game_of game.now in
         OnOk result (text.new.items ≡ text.old.items
-            ++ (lines_at (told names.now) g.policy g.main (slice_get g.spots pos.0) by
-            ++ label_at (told names.now) g.policy (caps_at (lists_of game.now.states) next.1.0) (slice_get g.spots next.0.0))) }
+        ++ (lines_at (told names.now) g.policy g.main (slice_get g.spots pos.0) by
+        ++ label_at (told names.now) g.policy (caps_at (lists_of game.now.states) next.1.0) (slice_get g.spots next.0.0))) }
 {
     let policy = game.policy();
     put_spot(names, policy, game.main(), game.spot(pos), by, text)?;
