@@ -301,25 +301,6 @@ fn weaves_refutes_or_tells_why_not(rt: HostRuntime) -> Result<(), Fail> {
         "format = 1\n[[at]]\nlabel = \"a\"\nnever = [\"amb\"]\n[[at]]\nlabel = \"b\"\nmust = [\"amb\"]\n";
     let loops =
         "format = 1\n[[at]]\nlabel = \"o\"\nmust = [\"amb\"]\n[[at]]\nlabel = \"p\"\nnever = [\"amb\"]\n";
-    let refusable =
-        "format = 1\nrefusable = [\"enter\"]\n[[at]]\nlabel = \"a\"\nnever = [\"amb\"]\n";
-    let descriptor = "format = 1\n[[descriptor]]\nname = \"fd\"\n";
-    let mut limits = String::from_str(
-        alloc,
-        "format = 1\n[[descriptor]]\nname = \"0\"\nrights = [\"CAP_READ\"]\n",
-    )?;
-    for _ in 0..13 {
-        limits.push_str("[[limit]]\ndescriptor = \"0\"\nkeep = []\n")?;
-    }
-    let stops =
-        "format = 1\nrefusable = [\"enter\"]\non_refusal = \"stop\"\n[[at]]\nlabel = \"a\"\nnever = [\"amb\"]\n";
-    let opened =
-        "format = 2\n[[descriptor]]\nname = \"fd\"\nrights = [\"CAP_READ\"]\n[[limit]]\ndescriptor = \"fd\"\nkeep = []\n[[at]]\nlabel = \"a\"\nnever = [\"fd:CAP_READ\"]\n";
-    let mut many = String::from_str(alloc, "int main(void){")?;
-    for _ in 0..8_190 {
-        many.push_str(";")?;
-    }
-    many.push_str("return 0;}")?;
     let weave = words(alloc, &["weave", "p.toml", "s.c"])?;
     for (policy, source, status, text, line) in [
         ("format = 1\n", "int main(void){return 0;}", 0, NO_RULES, ""),
@@ -343,6 +324,34 @@ fn weaves_refutes_or_tells_why_not(rt: HostRuntime) -> Result<(), Fail> {
         ("format = 2\n", two, 0, FORMAT_TWO, ""),
         ("format = 3\n", two, 4, "", "policy: kind format\n"),
         ("format = 3\n", "", 4, "", "policy: kind format\n"),
+    ] {
+        let mut shelf = SureShelf::make(files(alloc, policy, source)?);
+        let mut out = SureSink::make(alloc);
+        let mut note = SureSink::make(alloc);
+        assert_eq!(rt;
+            capweave(alloc, &weave, &mut shelf, &mut out, &mut note),
+            status,
+            "{source}"
+        );
+        assert_eq!(rt; out.bytes(), text.as_bytes(), "{source}");
+        assert_eq!(rt; note.bytes(), line.as_bytes(), "{source}");
+    }
+    Ok(())
+}
+
+#[test]
+fn weaves_refusals_calls_and_opens(rt: HostRuntime) -> Result<(), Fail> {
+    let alloc = rt.alloc();
+    let two = "int main(void){a:;return 0;}";
+    let never = "format = 1\n[[at]]\nlabel = \"a\"\nnever = [\"amb\"]\n";
+    let refusable =
+        "format = 1\nrefusable = [\"enter\"]\n[[at]]\nlabel = \"a\"\nnever = [\"amb\"]\n";
+    let stops =
+        "format = 1\nrefusable = [\"enter\"]\non_refusal = \"stop\"\n[[at]]\nlabel = \"a\"\nnever = [\"amb\"]\n";
+    let opened =
+        "format = 2\n[[descriptor]]\nname = \"fd\"\nrights = [\"CAP_READ\"]\n[[limit]]\ndescriptor = \"fd\"\nkeep = []\n[[at]]\nlabel = \"a\"\nnever = [\"fd:CAP_READ\"]\n";
+    let weave = words(alloc, &["weave", "p.toml", "s.c"])?;
+    for (policy, source, status, text, line) in [
         ("format = 1\n", "", 3, "", "source: no main\n"),
         (
             "format = 1\n",
@@ -388,6 +397,41 @@ fn weaves_refutes_or_tells_why_not(rt: HostRuntime) -> Result<(), Fail> {
             OPENED_AND_TAKEN,
             "",
         ),
+    ] {
+        let mut shelf = SureShelf::make(files(alloc, policy, source)?);
+        let mut out = SureSink::make(alloc);
+        let mut note = SureSink::make(alloc);
+        assert_eq!(rt;
+            capweave(alloc, &weave, &mut shelf, &mut out, &mut note),
+            status,
+            "{source}"
+        );
+        assert_eq!(rt; out.bytes(), text.as_bytes(), "{source}");
+        assert_eq!(rt; note.bytes(), line.as_bytes(), "{source}");
+    }
+    Ok(())
+}
+
+#[test]
+fn tells_why_nothing_is_woven(rt: HostRuntime) -> Result<(), Fail> {
+    let alloc = rt.alloc();
+    let two = "int main(void){a:;return 0;}";
+    let never = "format = 1\n[[at]]\nlabel = \"a\"\nnever = [\"amb\"]\n";
+    let descriptor = "format = 1\n[[descriptor]]\nname = \"fd\"\n";
+    let mut limits = String::from_str(
+        alloc,
+        "format = 1\n[[descriptor]]\nname = \"0\"\nrights = [\"CAP_READ\"]\n",
+    )?;
+    for _ in 0..13 {
+        limits.push_str("[[limit]]\ndescriptor = \"0\"\nkeep = []\n")?;
+    }
+    let mut many = String::from_str(alloc, "int main(void){")?;
+    for _ in 0..8_190 {
+        many.push_str(";")?;
+    }
+    many.push_str("return 0;}")?;
+    let weave = words(alloc, &["weave", "p.toml", "s.c"])?;
+    for (policy, source, status, text, line) in [
         (
             "format = 2\nsplit = [\"f\"]\ndetached = [\"f\"]\n",
             "void f(void){}int main(void){f();return 0;}",
