@@ -1,5 +1,5 @@
 #!/usr/bin/env bash
-# Weaves the three tools, checks what was woven, compiles it with gcc and clang over the stand-in for the kernel, and compares what each tool prints
+# Weaves the three tools, compares the woven texts with those beside them, checks them, compiles them with gcc and clang over the stand-in for the kernel, and compares what each tool prints
 # before and after.
 #
 #     examples/try.sh [CAPWEAVE]
@@ -35,6 +35,7 @@ for tool in lines find split; do
         fail "weave $tool"
         continue
     fi
+    cmp "$tool.woven.c" "$work/$tool.woven.c" || fail "$tool.woven.c is not what is woven today"
     [ "$("$program" check "$tool.toml" "$work/$tool.woven.c")" = yes ] || fail "check $tool"
     for compiler in gcc clang; do
         command -v $compiler >/dev/null || continue
