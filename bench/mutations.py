@@ -1,11 +1,11 @@
 #!/usr/bin/env python3
 """Compares what two commands say of woven texts and strategies that were changed at random.
 
-    python3 bench/mutations.py OURS OTHER [--count 1000] [--seed 1] [--command check|refute] [--splits] [--batch]
+    python3 bench/mutations.py OURS OTHER [--count 1000] [--seed 1] [--command check|refute] [--each 8] [--splits] [--batch]
 
 OURS and OTHER are commands that take `weave`, `check` and `refute`. A pair of a policy and a program is made at random, of both formats, with calls,
 limits, opens and closes, with --splits also functions in processes of their own, and woven by both; what was written is changed (bytes, lines,
-numbers, marks, words of rows) and given to `check` or `refute` of both. Status, output and note have to be the same. Where they differ the files are
+numbers, marks, words of rows), in as many ways as --each says, and given to `check` or `refute` of both. Status, output and note have to be the same. Where they differ the files are
 left in the folder that is told, with the seed and the number of the text; the status is then 1. With --batch OTHER is started once, as in
 `pairs.py`. Needs Python 3.8 and no package.
 """
@@ -79,6 +79,7 @@ def main():
     read.add_argument("--count", type=int, default=1000)
     read.add_argument("--seed", type=int, default=1)
     read.add_argument("--command", choices=["check", "refute"], default="check")
+    read.add_argument("--each", type=int, default=8)
     read.add_argument("--splits", action="store_true")
     read.add_argument("--batch", action="store_true")
     asked = read.parse_args()
@@ -108,7 +109,7 @@ def main():
             print("weave differs, seed", asked.seed, "before text", done, "in", shutil.copytree(folder, "%s-%d" % (folder, differ)), status, note)
         if status != wanted:
             continue
-        for _ in range(8):
+        for _ in range(asked.each):
             made = text
             for _ in range(chance.choice([0, 1, 1, 1, 2])):
                 made = changed(chance, made)
