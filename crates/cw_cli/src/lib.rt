@@ -22,12 +22,3 @@ pub use playing::play_due;
 pub use refuting::refute_due;
 pub use running::run_due;
 pub use weaving::weave_due;
-
-#[cfg(test)]
-mod checking_tests;
-#[cfg(test)]
-mod playing_tests;
-#[cfg(test)]
-mod splitting_tests;
-#[cfg(test)]
-mod tests;
