@@ -14,6 +14,8 @@ mod playing;
 #[cfg(test)]
 mod refuting;
 #[cfg(test)]
+mod sampling;
+#[cfg(test)]
 mod splitting;
 #[cfg(test)]
 mod texts;
