@@ -40,11 +40,11 @@ use Rattle.cw_cli.proofs.OneGame.{AreAlike, no_cause, one_game}
 use Rattle.cw_cli.proofs.Winning.{IsWon, game_made, won}
 
 -- the graphs of a program are alike
-alike : (whole : PlainPolicy) (source : List ℕ) (file : File) (g k : Graph) → IsGraph (names_of whole) source file g → IsGraph (names_of whole) source file k → AreAlike g k
+pub alike : (whole : PlainPolicy) (source : List ℕ) (file : File) (g k : Graph) → IsGraph (names_of whole) source file g → IsGraph (names_of whole) source file k → AreAlike g k
 alike whole source file g k is of = record { nodes = is.nodes ∙ sym of.nodes; parts = is.parts ∙ sym of.parts; main = is.main ∙ sym of.main }
 
 -- a policy that fits has no fault of fitting
-fits_once : (source : List ℕ) (file : File) (whole : PlainPolicy) (f : FitFault) → Fits source file whole → IsFitFault source file whole f → ⊥
+pub fits_once : (source : List ℕ) (file : File) (whole : PlainPolicy) (f : FitFault) → Fits source file whole → IsFitFault source file whole f → ⊥
 fits_once source file whole (NoLabel i) fits e = none-some i (sym fits.0 ∙ e)
 fits_once source file whole (NoFunction i) fits (labels, e) = none-some i (sym fits.1 ∙ e)
 fits_once source file whole (NotSplittable i place) fits (labels, functions, first) =

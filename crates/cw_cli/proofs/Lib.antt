@@ -8,6 +8,6 @@ mod Refused
 mod Shown
 mod Weaves
 mod Withins
-mod Agreeing
-mod OneGame
+pub mod Agreeing
+pub mod OneGame
 mod Winning

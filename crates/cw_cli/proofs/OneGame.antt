@@ -86,7 +86,7 @@ module _ {A : Type 0} (cmp : A → A → Ordering) (total : IsTotalOrder cmp) wh
   one : (P : A → Type 0) (xs ys : List A) → Exactly cmp P xs → Exactly cmp P ys → xs ≡ ys
   one P xs ys a b = same_lists xs ys a.0 b.0 (λ x n. in_of ys x ((b.1 x).1 ((a.1 x).0 (of_in xs x n)))) (λ x n. in_of xs x ((a.1 x).1 ((b.1 x).0 (of_in ys x n))))
 
-  no_more : (P : A → Type 0) (xs : List A) (n : ℕ) → Exactly cmp P xs → HasMore cmp P n → n < length xs
+  pub no_more : (P : A → Type 0) (xs : List A) (n : ℕ) → Exactly cmp P xs → HasMore cmp P n → n < length xs
   no_more P xs n a more =
       let le = fewer more.0 xs more.1 a.0 (λ x m. in_of xs x ((a.1 x).1 (more.2 x (of_in more.0 x m)))) in
       let lt = more.3 in
