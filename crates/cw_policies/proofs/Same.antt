@@ -224,12 +224,12 @@ InTree text f = (f ≡ Toml) ⊎ ((f ≢ Toml) × IsUtf8 text × ((tree : Member
 
 tree_of_fault : (text : List ℕ) (f : PolicyFault) → f ≢ NoMemory → IsFault text f → InTree text f
 tree_of_fault text Toml h a = inl refl
-tree_of_fault text (Missing x) h a = inr ((λ e. cc), a)
-tree_of_fault text (Unknown x) h a = inr ((λ e. cc), a)
-tree_of_fault text (Kind x) h a = inr ((λ e. cc), a)
-tree_of_fault text (Regex i x) h a = inr ((λ e. cc), a)
-tree_of_fault text (TooMany x) h a = inr ((λ e. cc), a)
-tree_of_fault text (Twice x) h a = inr ((λ e. cc), a)
+tree_of_fault text (Missing x) h a = inr ((λ e. cc), a.0, a.1)
+tree_of_fault text (Unknown x) h a = inr ((λ e. cc), a.0, a.1)
+tree_of_fault text (Kind x) h a = inr ((λ e. cc), a.0, a.1)
+tree_of_fault text (Regex i x) h a = inr ((λ e. cc), a.0, a.1)
+tree_of_fault text (TooMany x) h a = inr ((λ e. cc), a.0, a.1)
+tree_of_fault text (Twice x) h a = inr ((λ e. cc), a.0, a.1)
 tree_of_fault text NoMemory h a = absurd (h refl)
 
 not_toml : (text : List ℕ) (f g : PolicyFault) → f ≡ Toml → IsFault text f → IsUtf8 text → (tree : Members) → parse_document text ≡ Some tree → ⊥
@@ -242,6 +242,6 @@ one_fault text f g h k a b = by (tree_of_fault text f h a) (tree_of_fault text g
     by (inl e) (inl i) = e ∙ sym i
     by (inl e) (inr (ne, utf8, (tree, parsed, is))) = absurd (not_toml text f g e a utf8 tree parsed)
     by (inr (ne, utf8, (tree, parsed, is))) (inl e) = absurd (not_toml text g f e b utf8 tree parsed)
-    by (inr (ne, utf8, (tree, parsed, is))) (inr (nor, utf, (other, read, as))) =
+    by (inr (ne, utf8, (tree, parsed, is))) (inr (nor, utf, (other, read, also))) =
         let trees : other ≡ tree = same_Some other tree (sym read ∙ parsed) in
-        one_of tree f g h k is (subst (λ (t : Members). IsFaultOf t g) trees as)
+        one_of tree f g h k is (subst (λ (t : Members). IsFaultOf t g) trees also)
