@@ -1,22 +1,26 @@
 #!/usr/bin/env python3
 """Compares what two commands say of woven texts and strategies that were changed at random.
 
-    python3 bench/mutations.py OURS OTHER [--count 1000] [--seed 1] [--command check|refute]
+    python3 bench/mutations.py OURS OTHER [--count 1000] [--seed 1] [--command check|refute] [--each 8] [--splits] [--batch]
 
-OURS and OTHER are commands that take `weave`, `check` and `refute`. A pair of a policy and a program is made at random and woven by OTHER; what
-it wrote is changed (bytes, lines, numbers, marks, words of rows) and given to `check` or `refute` of both. Status, output and note have to be
-the same. A pair for which they differ is left in the folder that is told, and the status is 1. Needs Python 3.8 and no package.
+OURS and OTHER are commands that take `weave`, `check` and `refute`. A pair of a policy and a program is made at random, of both formats, with calls,
+limits, opens and closes, with --splits also functions in processes of their own, and woven by both; what was written is changed (bytes, lines,
+numbers, marks, words of rows), in as many ways as --each says, and given to `check` or `refute` of both. Status, output and note have to be the same. Where they differ the files are
+left in the folder that is told, with the seed and the number of the text; the status is then 1. With --batch OTHER is started once, as in
+`pairs.py`. Needs Python 3.8 and no package.
 """
 import argparse
 import collections
 import os
 import random
 import re
-import subprocess
+import shlex
+import shutil
 import sys
 import tempfile
 
 from making import Maker
+from pairs import Other, digest, said
 
 
 def changed(chance, text):
@@ -62,9 +66,10 @@ def changed(chance, text):
     return b"\n".join(lines)
 
 
-def said(command, words, folder):
-    run = subprocess.run([command] + words, cwd=folder, capture_output=True)
-    return run.returncode, run.stdout, run.stderr
+def kind(status, out, note):
+    """What the last table counts: the condition that fails, or the second word of the line."""
+    words = (note or out).split()
+    return b" ".join(words[-2:] if status == 1 else words[:2][-1:]).decode("ascii", "replace")
 
 
 def main():
@@ -74,39 +79,52 @@ def main():
     read.add_argument("--count", type=int, default=1000)
     read.add_argument("--seed", type=int, default=1)
     read.add_argument("--command", choices=["check", "refute"], default="check")
+    read.add_argument("--each", type=int, default=8)
+    read.add_argument("--splits", action="store_true")
+    read.add_argument("--batch", action="store_true")
     asked = read.parse_args()
-    ours, other = os.path.abspath(asked.ours), os.path.abspath(asked.other)
-    chance = random.Random(asked.seed)
-    maker = Maker(chance)
     folder = tempfile.mkdtemp(prefix="mutations-")
+    ours = shlex.split(asked.ours)
+    other = Other(shlex.split(asked.other), asked.batch, folder)
+    chance = random.Random(asked.seed)
+    maker = Maker(chance, asked.splits)
     wanted = 0 if asked.command == "check" else 1
-    words = ["p.toml", "t"] if asked.command == "check" else ["p.toml", "s.c", "t"]
+    words = ["check", "p.toml", "t"] if asked.command == "check" else ["refute", "p.toml", "s.c", "t"]
     kinds = collections.Counter()
-    done = 0
+    done = differ = 0
+
+    def answers(words):
+        """What OURS says, and whether OTHER says the same."""
+        status, out, note = said(ours, words, folder)
+        return status, out, note, (status, digest(out), digest(note)) == other.digests(words)
+
     while done < asked.count:
         policy, source = maker.pair()
         for name, text in (("p.toml", policy), ("s.c", source)):
             with open(os.path.join(folder, name), "w", encoding="ascii") as file:
                 file.write(text)
-        status, text, _ = said(other, ["weave", "p.toml", "s.c"], folder)
+        status, text, note, same = answers(["weave", "p.toml", "s.c"])
+        if not same:
+            differ += 1
+            print("weave differs, seed", asked.seed, "before text", done, "in", shutil.copytree(folder, "%s-%d" % (folder, differ)), status, note)
         if status != wanted:
             continue
-        for _ in range(8):
+        for _ in range(asked.each):
             made = text
             for _ in range(chance.choice([0, 1, 1, 1, 2])):
                 made = changed(chance, made)
             with open(os.path.join(folder, "t"), "wb") as file:
                 file.write(made)
-            first, second = (said(command, [asked.command] + words, folder) for command in (ours, other))
-            if first != second:
-                print("they differ, in", folder, first, second)
-                return 1
+            status, out, note, same = answers(words)
+            if not same:
+                differ += 1
+                print("they differ, seed", asked.seed, "text", done, "in", shutil.copytree(folder, "%s-%d" % (folder, differ)), status, out, note)
             done += 1
-            kinds[(first[0], (first[2] or first[1]).split(b" ")[:2][-1].strip().decode("ascii", "replace"))] += 1
-    print(done, "texts, none differs")
+            kinds[(status, kind(status, out, note))] += 1
+    print(done, "texts,", differ or "none", "differ" if differ > 1 else "differs")
     for (status, word), count in kinds.most_common():
         print("%6d  status %d  %s" % (count, status, word))
-    return 0
+    return 1 if differ else 0
 
 
 if __name__ == "__main__":

@@ -1,7 +1,7 @@
 #!/usr/bin/env python3
-"""Makes each allocation of some runs of the program fail in turn, and looks for any answer but want of memory.
+"""Makes each allocation of runs of every command fail in turn, and looks for any answer but want of memory.
 
-    python3 bench/refusals.py crates/capweave/out/capweave
+    python3 bench/refusals.py crates/capweave/out/capweave [COMMAND]
 
 A small library in C, compiled into a temporary folder and loaded before the C library, refuses one allocation and lets all others through: the
 first, then the second, and so on until a run asks for no more. Each run that is refused one has to end with status 8 and the line `memory`, having
@@ -12,6 +12,8 @@ import os
 import subprocess
 import sys
 import tempfile
+
+from running import written
 
 LIBRARY = r"""
 #define _GNU_SOURCE
@@ -55,6 +57,12 @@ POLICY = 'format = 1\n[[at]]\nlabel = "served"\nnever = ["amb"]\n[[at]]\nlabel =
 BODY = "int f(int a){while(a<3)a=a+1;return a;}int main(void){int i;%sfor(i=0;i<2;i++){if(g(i,1))continue;x[i]=-i*(2+3);}do h(\"t\"\"u\");while(i);%sreturn 0;}"
 GOOD = "int main(void){opened:g();if(a){b();}else while(c)d(1);served:;return 0;}"
 BAD = "int main(void){served:;opened:;return 0;}"
+SPLITS = 'format = 2\nrefusable = ["limit"]\nsplit = ["f"]\n[[descriptor]]\nname = "fd"\n[[limit]]\ndescriptor = "fd"\nkeep = ["CAP_READ"]\n'
+SPLITS += '[[at]]\nlabel = "l"\nnever = ["amb"]\n[[at]]\nlabel = "m"\nmust = ["amb"]\n'
+OPENS = "int fd;int f(int x){l:;return x;}int main(void){int y;fd=o();y=f(1);m:;close(fd);return 0;}"
+STOPS = POLICY.replace("1\n", '1\nrefusable = ["enter"]\non_refusal = "stop"\n', 1)
+MOVES = "on on on left on grant on on on on"
+# A command, its policy and source, and for `check`, `refute`, `run` and `play` the tape and an edit of what `weave` writes for them.
 RUNS = [
     ("weave", POLICY, GOOD),
     ("weave", POLICY, BAD),
@@ -62,8 +70,40 @@ RUNS = [
     ("weave", POLICY, GOOD.replace("served:;", "served:break;")),
     ("weave", POLICY, GOOD + "}"),
     ("weave", POLICY + '[[rule]]\nname = "n"\nbad = "(served | opened)* @amb"\n', GOOD),
+    ("weave", SPLITS, OPENS),
+    ("weave", STOPS, GOOD),
     ("graph", None, BODY % ("opened:f(2);", "served:;")),
+    ("graph", None, GOOD + "}"),
+    ("check", POLICY, GOOD, "", ("", "")),
+    ("check", SPLITS, OPENS, "", ("", "")),
+    ("check", POLICY, GOOD, "", ("CW_LIVE(0,0)\n", "")),
+    ("check", POLICY, GOOD, "", ("CW_LIVE(0,0)", "CW_LIVE(00,0)")),
+    ("check", POLICY, GOOD, "", ("return", "return+")),
+    ("run", POLICY, GOOD, MOVES, ("", "")),
+    ("run", STOPS, GOOD, "on on on left on refuse", ("", "")),
+    ("run", SPLITS, OPENS, "on on opened grant on on grant on on on on on on on on on", ("", "")),
+    ("run", POLICY, GOOD, "on off", ("", "")),
+    ("refute", POLICY, BAD, "", ("", "")),
+    ("refute", POLICY, BAD, "", (" bad", " out")),
+    ("refute", POLICY, BAD, "", ("states 4", "states 04")),
+    ("refute", SPLITS.replace("limit", "split", 1), OPENS, "", ("", "")),
+    ("play", POLICY, BAD, "skip try skip try skip try skip try", ("", "")),
+    ("play", SPLITS.replace("limit", "split", 1), OPENS, "try " * 12, ("", "")),
+    ("play", POLICY, BAD, "try\ntry\ngrant", ("", "")),
 ]
+
+
+def files_of(program, folder, policy, source, more):
+    """The names of the files of a run, written."""
+    texts = {name: text for name, text in (("policy.toml", policy), ("source.c", source)) if text is not None}
+    written(folder, texts)
+    if not more:
+        return list(texts)
+    command, tape, (old, new) = more
+    woven = subprocess.run([program, "weave", "policy.toml", "source.c"], cwd=folder, stdout=subprocess.PIPE).stdout
+    written(folder, {"text": woven.replace(old.encode(), new.encode(), 1), "tape": tape})
+    names = ["policy.toml"] + (["source.c"] if command in ("refute", "play") else []) + ["text"]
+    return names + (["tape"] if command in ("run", "play") else [])
 
 
 def ran(library, words, refused):
@@ -81,7 +121,7 @@ def ran(library, words, refused):
 
 
 def main():
-    if len(sys.argv) != 2:
+    if len(sys.argv) not in (2, 3):
         sys.exit(__doc__)
     program, wrong = os.path.abspath(sys.argv[1]), 0
     with tempfile.TemporaryDirectory() as folder:
@@ -89,13 +129,11 @@ def main():
         with open(code, "w") as file:
             file.write(LIBRARY)
         subprocess.run(["cc", "-O1", "-shared", "-fPIC", "-o", library, code, "-ldl"], check=True)
-        for number, (command, policy, source) in enumerate(RUNS):
-            files = [name for name, text in (("policy.toml", policy), ("source.c", source)) if text is not None]
-            for name, text in (("policy.toml", policy), ("source.c", source)):
-                if text is not None:
-                    with open(os.path.join(folder, name), "w") as file:
-                        file.write(text)
-            words = [program, command] + [os.path.join(folder, name) for name in files]
+        for number, (command, policy, source, *more) in enumerate(RUNS):
+            if command not in (sys.argv[2:] or command):
+                continue
+            names = files_of(program, folder, policy, source, [command] + more if more else [])
+            words = [program, command] + [os.path.join(folder, name) for name in names]
             whole = subprocess.run(words, stdout=subprocess.PIPE, stderr=subprocess.PIPE)
             answer = (whole.returncode, whole.stdout, whole.stderr)
             refused, told = 1, 0
@@ -112,7 +150,8 @@ def main():
             if (status, out, note) != answer:
                 wrong += 1
                 print(f"run {number} with all memory: status {status} in place of {whole.returncode}")
-            print(f"run {number}: {command}, status {whole.returncode}; of {refused - 1} allocations {told} end it with status 8 where they are refused")
+            line = (whole.stderr or whole.stdout).split(b"\n")[0].decode()
+            print(f"run {number}: {command}, status {whole.returncode} ({line}); of {refused - 1} allocations {told} end it with status 8 where they are refused", flush=True)
     sys.exit(wrong > 0)
 
 

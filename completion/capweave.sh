@@ -2,7 +2,7 @@
 _capweave() {
     local word=${COMP_WORDS[COMP_CWORD]}
     if [ "$COMP_CWORD" -eq 1 ]; then
-        COMPREPLY=($(compgen -W "weave check refute run play graph" -- "$word"))
+        COMPREPLY=($(compgen -W "weave check refute run play graph sample" -- "$word"))
         return
     fi
     case ${COMP_WORDS[1]} in

@@ -1,6 +1,6 @@
 //! Names by their bytes, and the numbers that stand for them.
 
-ghost use Rattle.std.specs.Prelude.{◌≡◌, map, is_some, ◌≤◌, length};
+ghost use Rattle.std.specs.Prelude.{◌≡◌, true, false, map, is_some, ◌≤◌, length};
 ghost use Rattle.std.specs.Fmt.{decimal};
 ghost use Rattle.std.specs.Str.{bytes_eq};
 ghost use Rattle.cw_syntax.specs.Names.{text, number_in, number_or_other};
@@ -15,12 +15,32 @@ use cw_syntax::checked::Checked;
 use cw_syntax::names;
 use cw_syntax::program::Name;
 
+/// Whether two names end in different bytes.
+fn end_apart(name: &[u8], other: &[u8]) -> bool
+    ensures apart { result ≡ true → bytes_eq name.now other.now ≡ false }
+{
+    match name.last() {
+        None => false,
+        Some(last) => match other.last() {
+            None => false,
+            Some(end) => *last != *end,
+        },
+    }
+}
+
+/// Whether two names are the same. Most that aren't are told apart by their ends.
+fn is_same(name: &[u8], other: &[u8]) -> bool
+    ensures { result ≡ bytes_eq name.now other.now }
+{
+    !end_apart(name, other) && name == other
+}
+
 /// The number of the descriptor with this name.
 pub fn descriptor_named(policy: &Policy, name: &[u8]) -> Option<usize>
     ensures number { result ≡ number_in (names_of (policy_of policy.now)).descriptors name.now }
 {
     for (i, d) in policy.descriptors.iter().enumerate() {
-        if name == d.name.as_slice() {
+        if is_same(name, &d.name) {
             return Some(i);
         }
     }
@@ -53,7 +73,7 @@ fn place_of(names: &[Vec<u8>], name: &[u8]) -> Option<usize>
     ensures { result ≡ number_in (map (λ n. n.items) names.now) name.now }
 {
     for (i, n) in names.iter().enumerate() {
-        if name == n.as_slice() {
+        if is_same(name, n) {
             return Some(i);
         }
     }
@@ -90,7 +110,7 @@ pub fn function_named(checked: &Checked, name: &[u8]) -> Option<usize>
     ensures number { result ≡ number_in (function_names checked.now.source.now (file_of checked.now.program)) name.now }
 {
     for (i, f) in checked.program.functions.iter().enumerate() {
-        if name == text(checked, f.name) {
+        if is_same(name, text(checked, f.name)) {
             return Some(i);
         }
     }

@@ -1,8 +1,8 @@
 -- What is due for a command, from what is due for its files one by one.
-use Rattle.std.proofs.Common.{◌≡◌, ℕ, List, [], ◌∷◌, length, map, get_or, Result, sym, ap, ap₂, subst, arith}
+use Rattle.std.proofs.Common.{◌≡◌, ℕ, List, [], ◌∷◌, length, map, get_or, Result, refl, sym, ap, ap₂, subst, arith}
 use Rattle.std.specs.Prelude.{IfOk}
 use Rattle.cw_commands.specs.declared.command.Command.{Command}
-use Rattle.cw_commands.specs.declared.command.Command.TheVariants.{Weave, Graph, Refute, Check, Play, Run}
+use Rattle.cw_commands.specs.declared.command.Command.TheVariants.{Weave, Graph, Refute, Check, Play, Run, Sample}
 use Rattle.cw_commands.specs.declared.outcome.Outcome.{Outcome}
 use Rattle.cw_commands.specs.Outcomes.{due_of}
 use Rattle.cw_cli.specs.Checking.{IsCheckDue}
@@ -11,10 +11,15 @@ use Rattle.cw_cli.specs.Listings.{IsListingDue}
 use Rattle.cw_cli.specs.Playing.{IsPlayDue}
 use Rattle.cw_cli.specs.Refuting.{IsRefuteDue}
 use Rattle.cw_cli.specs.Running.{IsRunDue}
+use Rattle.cw_cli.specs.Sampling.{IsSampleDue}
 use Rattle.cw_cli.specs.Weaving.{IsWeaveDue}
 use Rattle.cw_cli.proofs.Refused.{if_ok}
 
 module _ {A : Type 0} (f : A → List ℕ) where
+  pub none_of : (xs : List A) → length xs ≡ 0 → map f xs ≡ []
+  none_of [] n = refl
+  none_of (x ∷ xs) n = absurd (omega (arith, n))
+
   pub one_of : (xs : List A) (a : A) → length xs ≡ 1 → a ≡ get_or xs 0 a → map f xs ≡ f a ∷ []
   one_of [] a n e = absurd (omega (arith, n))
   one_of (x ∷ []) a n e = ap (λ c. f c ∷ []) (sym e)
@@ -98,3 +103,9 @@ module _ {E : Type 0} (command : Command) (files : List (List ℕ)) (result : Re
       let three = subst (λ x. IsRunDue policy text x (due_of o)) same_m two in
       let four = subst (λ fs. IsDue Run fs (due_of o)) (sym are) three in
       subst (λ c. IsDue c files (due_of o)) (sym is) four)
+
+  pub sample_is_due : (number : ℕ) → command ≡ Sample number → files ≡ [] → IfOk result (λ o. IsSampleDue number (due_of o)) → IfOk result (λ o. IsDue command files (due_of o))
+  sample_is_due number is are h =
+      if_ok result h (λ o d.
+      let one = subst (λ fs. IsDue (Sample number) fs (due_of o)) (sym are) d in
+      subst (λ c. IsDue c files (due_of o)) (sym is) one)

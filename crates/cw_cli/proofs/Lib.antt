@@ -1,10 +1,13 @@
 mod Checks
+mod Counted
 mod Dues
 mod Judging
 mod Labelled
 mod Listed
 mod Made
 mod Refused
+mod Rowed
+mod Sampled
 mod Shown
 mod Weaves
 mod Withins

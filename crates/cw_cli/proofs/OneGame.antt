@@ -83,7 +83,7 @@ module _ {A : Type 0} (cmp : A → A → Ordering) (total : IsTotalOrder cmp) wh
       back z n (inl e) = absurd (apart z (subst (λ w. cmp w z ≡ Less) (sym heads ∙ e) (among (λ z. cmp y z ≡ Less) ys z r.0 n)))
       back z n (inr m) = m
 
-  one : (P : A → Type 0) (xs ys : List A) → Exactly cmp P xs → Exactly cmp P ys → xs ≡ ys
+  pub one : (P : A → Type 0) (xs ys : List A) → Exactly cmp P xs → Exactly cmp P ys → xs ≡ ys
   one P xs ys a b = same_lists xs ys a.0 b.0 (λ x n. in_of ys x ((b.1 x).1 ((a.1 x).0 (of_in xs x n)))) (λ x n. in_of xs x ((a.1 x).1 ((b.1 x).0 (of_in ys x n))))
 
   pub no_more : (P : A → Type 0) (xs : List A) (n : ℕ) → Exactly cmp P xs → HasMore cmp P n → n < length xs

@@ -4,6 +4,8 @@ pub mod Fitting
 pub mod Refuting
 pub mod Verdicts
 pub mod Weaving
+pub mod Counting
+pub mod Sampling
 pub mod Listings
 pub mod Checking
 pub mod Tapes

@@ -72,9 +72,9 @@ HasManyRows g =
     (StartHolds g × ((t : Table) → IsLazyTable g t → limit_of Rows < table_rows t))
     ⊎ (StartIsLost g × ((s : Strategy) → IsLeastStrategy g s → limit_of Rows < rows_of s))
 
--- That these rows are too many, or the verdict.
-abbrev pub AfterCells : PlainPolicy → List ℕ → File → Game → Due → Type 0
-AfterCells whole source file g due = (HasManyRows g × (due ≡ over Rows)) ⊎ IsVerdict whole source file g due
+-- That these rows are too many, or what comes next for the game, which is the verdict or stands on it.
+abbrev pub AfterCells : (Game → Due → Type 0) → Game → Due → Type 0
+AfterCells Next g due = (HasManyRows g × (due ≡ over Rows)) ⊎ Next g due
 
 -- the cells of the contexts that the game needs are too many, or they are not
 abbrev pub HasManyCells : Game → Type 0
@@ -84,5 +84,5 @@ abbrev pub HasFewCells : Game → Type 0
 HasFewCells g = (contexts : List Context) × AreTheNeeded g contexts × (cells_of g contexts ≤ limit_of Cells)
 
 -- That the cells are too many, or what comes behind that.
-abbrev pub AfterGame : PlainPolicy → List ℕ → File → Game → Due → Type 0
-AfterGame whole source file g due = (HasManyCells g × (due ≡ over Cells)) ⊎ (HasFewCells g × AfterCells whole source file g due)
+abbrev pub AfterGame : (Game → Due → Type 0) → Game → Due → Type 0
+AfterGame Next g due = (HasManyCells g × (due ≡ over Cells)) ⊎ (HasFewCells g × AfterCells Next g due)

@@ -1,7 +1,7 @@
 //! The commands.
 
 ghost use Rattle.std.specs.Prelude.{◌≡◌, map, length, None, Some, IfOk, IfSome, string_bytes};
-ghost use Rattle.cw_commands.specs.Commands.{quantities_of};
+ghost use Rattle.cw_commands.specs.Commands.{quantities_of, IsNumbered};
 ghost use Rattle.cw_commands.specs.Endings.{IsNoted, line_of, status_of, usage_line};
 ghost use Rattle.cw_commands.specs.Files.{AreSized};
 ghost use Rattle.cw_commands.specs.Outcomes.{due_of};
@@ -14,6 +14,7 @@ use crate::listing::listing_due;
 use crate::playing::play_due;
 use crate::refuting::refute_due;
 use crate::running::run_due;
+use crate::sampling::sample_due;
 use crate::weaving::weave_due;
 use cw_commands::{
     Command, Ending, Outcome, Request, deliver, first_command, put_ending, put_usage, read_files,
@@ -26,8 +27,9 @@ use std::alloc::Global;
 /// The status of words that don't fit.
 const USAGE: u8 = 2;
 
-/// What is due for a command, by the bytes of its files in the order of its words.
+/// What is due for a command, by the bytes of its files in the order of its words, or for a sample by its number.
 fn due(alloc: Global, command: Command, files: &[Vec<u8>]) -> Result<Outcome, NoMemory>
+    requires numbered { IsNumbered command }
     requires sized { AreSized (quantities_of command) (map (λ file. file.items) files.now) }
     ensures { IfOk result (λ outcome. IsDue command (map (λ file. file.items) files.now) (due_of outcome)) }
 {
@@ -42,6 +44,7 @@ fn due(alloc: Global, command: Command, files: &[Vec<u8>]) -> Result<Outcome, No
             alloc, policy, source, strategy, tape,
         ),
         (Command::Run, [policy, text, tape]) => run_due(alloc, policy, text, tape),
+        (Command::Sample(number), []) => sample_due(alloc, number),
         _ => unreachable!(),
     }
 }
@@ -55,6 +58,7 @@ fn perform<'w, F: Shelf, O: Sink>(
     out: &mut O,
 ) -> Ending<'w>
     requires many { length names.now ≡ length (quantities_of command) }
+    requires numbered { IsNumbered command }
     ensures same { F.files shelf.new ≡ F.files shelf.old }
     ensures ends { Ends (IsDue command) (F.files shelf.old) (F.faults shelf.old) (F.faults shelf.new)
         (O.taken out.old) (O.taken out.new) (O.faults out.old) (O.faults out.new)
@@ -76,7 +80,8 @@ fn perform<'w, F: Shelf, O: Sink>(
 /// lines of the graph of the source's points (0); `refute POLICY SOURCE STRATEGY` puts `yes` where the strategy beats every weaver (0), or the
 /// first row that fails a condition (1); `check POLICY WOVEN` puts `yes` where the table is sound (0), or the first row that fails a condition (1);
 /// `play POLICY SOURCE STRATEGY TAPE` puts the trace of the strategy's play by the tape and `violation RULE` (0) or `tape spent` (1), and `run POLICY WOVEN TAPE` that of the
-/// woven run and `ended` (0), `tape spent` or `bad move I` (1), or each the first row that fails a condition (1). Words that fit no command are 2, a refused source 3, a refused policy 4, a quantity over
+/// woven run and `ended` (0), `tape spent` or `bad move I` (1), or each the first row that fails a condition (1); `sample N` weaves the sample of N, has it checked and puts its
+/// numbers and `woven` (0) or `refuted` (1). Words that fit no command are 2, a refused source 3, a refused policy 4, a quantity over
 /// its limit 5, a file that can't be read 6, an output that can't be written 7, want of memory 8, a strategy or a woven text that isn't of its grammar 9.
 pub fn capweave<F: Shelf, O: Sink, N: Sink>(
     alloc: Global,

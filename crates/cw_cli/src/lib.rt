@@ -6,11 +6,13 @@ mod command;
 mod fitting;
 pub mod laws;
 mod listing;
+mod numbers;
 mod playing;
 mod reading;
 mod refusals;
 mod refuting;
 mod running;
+mod sampling;
 mod tapes;
 mod verdict;
 mod weaving;
@@ -21,13 +23,5 @@ pub use listing::listing_due;
 pub use playing::play_due;
 pub use refuting::refute_due;
 pub use running::run_due;
+pub use sampling::sample_due;
 pub use weaving::weave_due;
-
-#[cfg(test)]
-mod checking_tests;
-#[cfg(test)]
-mod playing_tests;
-#[cfg(test)]
-mod splitting_tests;
-#[cfg(test)]
-mod tests;

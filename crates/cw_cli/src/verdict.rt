@@ -13,8 +13,10 @@ ghost use Rattle.cw_product.specs.Product.{game_of};
 ghost use Rattle.cw_solve.specs.Contexts.{HeightIs};
 ghost use Rattle.cw_solve.specs.Made.{IsMade};
 ghost use Rattle.cw_commands.specs.Outcomes.{due_of};
+ghost use Rattle.cw_cli.specs.Counting.{IsCounted};
 ghost use Rattle.cw_cli.specs.Verdicts.{AfterCells, AfterGame, StartHolds, StartIsLost};
 
+use crate::numbers::{Numbers, strategy_rows, table_rows};
 use crate::refusals::over;
 use cw_commands::{Outcome, Reply};
 use cw_core::{NoMemory, Quantity};
@@ -45,6 +47,7 @@ fn woven(
     checked: &Checked,
     game: &Game,
     solved: &Solved,
+    numbers: &mut Numbers,
 ) -> Result<Outcome, NoMemory>
     requires reads { ReadsAs checked.now.source.now (file_of checked.now.program) }
     requires made { IsMade game.now }
@@ -53,12 +56,14 @@ fn woven(
     requires solved { solved.now.game ≡ game.now }
     requires kept { StartHolds (game_of game.now) }
     ensures { IfOk result (λ outcome.
-        AfterCells (policy_of game.now.states.policy) checked.now.source.now (file_of checked.now.program) (game_of game.now) (due_of outcome)) }
+        AfterCells (IsCounted numbers.new (policy_of game.now.states.policy) checked.now.source.now (file_of checked.now.program)) (game_of game.now) (due_of outcome)) }
 {
     match weaver_table(alloc, game, solved) {
         Ok(table) => {
             let marks = marks(alloc, game.graph())?;
             let text = weave_text(alloc, checked.source, &marks, game.policy(), &table)?;
+            solved.contexts_are_needed();
+            *numbers = Numbers::make(game, solved, table_rows(&table));
             Ok(Outcome::Told(Reply::Yes, text))
         }
         Err(TableFault::TooManyRows) => over(alloc, Quantity::Rows),
@@ -72,18 +77,22 @@ fn refuted(
     checked: &Checked,
     game: &Game,
     solved: &Solved,
+    numbers: &mut Numbers,
 ) -> Result<Outcome, NoMemory>
     requires made { IsMade game.now }
+    requires graph { IsGraph (names_of (policy_of game.now.states.policy)) checked.now.source.now (file_of checked.now.program) game.now.graph }
     requires is_game { IsGameOf (problem_of (policy_of game.now.states.policy) checked.now.source.now (file_of checked.now.program)) (game_of game.now) }
     requires solved { solved.now.game ≡ game.now }
     requires lost { StartIsLost (game_of game.now) }
     ensures { IfOk result (λ outcome.
-        AfterCells (policy_of game.now.states.policy) checked.now.source.now (file_of checked.now.program) (game_of game.now) (due_of outcome)) }
+        AfterCells (IsCounted numbers.new (policy_of game.now.states.policy) checked.now.source.now (file_of checked.now.program)) (game_of game.now) (due_of outcome)) }
 {
     let _ = checked;
     match env_table(alloc, game, solved) {
         Ok(strategy) => {
             let text = strategy_bytes(alloc, &strategy, game.policy().format)?;
+            solved.contexts_are_needed();
+            *numbers = Numbers::make(game, solved, strategy_rows(&strategy));
             Ok(Outcome::Told(Reply::No, text))
         }
         Err(TableFault::TooManyRows) => over(alloc, Quantity::Rows),
@@ -92,32 +101,43 @@ fn refuted(
 }
 
 /// That the rows are too many, or the verdict.
-fn told(alloc: Global, checked: &Checked, game: &Game, solved: &Solved) -> Result<Outcome, NoMemory>
+fn told(
+    alloc: Global,
+    checked: &Checked,
+    game: &Game,
+    solved: &Solved,
+    numbers: &mut Numbers,
+) -> Result<Outcome, NoMemory>
     requires reads { ReadsAs checked.now.source.now (file_of checked.now.program) }
     requires made { IsMade game.now }
     requires graph { IsGraph (names_of (policy_of game.now.states.policy)) checked.now.source.now (file_of checked.now.program) game.now.graph }
     requires is_game { IsGameOf (problem_of (policy_of game.now.states.policy) checked.now.source.now (file_of checked.now.program)) (game_of game.now) }
     requires solved { solved.now.game ≡ game.now }
     ensures { IfOk result (λ outcome.
-        AfterCells (policy_of game.now.states.policy) checked.now.source.now (file_of checked.now.program) (game_of game.now) (due_of outcome)) }
+        AfterCells (IsCounted numbers.new (policy_of game.now.states.policy) checked.now.source.now (file_of checked.now.program)) (game_of game.now) (due_of outcome)) }
 {
     match start_height(game, solved) {
-        None => woven(alloc, checked, game, solved),
-        Some(_) => refuted(alloc, checked, game, solved),
+        None => woven(alloc, checked, game, solved, numbers),
+        Some(_) => refuted(alloc, checked, game, solved, numbers),
     }
 }
 
 /// What is due for the game of a program: that its cells are too many, or what comes behind that.
-pub(crate) fn judged(alloc: Global, checked: &Checked, game: &Game) -> Result<Outcome, NoMemory>
+pub(crate) fn judged(
+    alloc: Global,
+    checked: &Checked,
+    game: &Game,
+    numbers: &mut Numbers,
+) -> Result<Outcome, NoMemory>
     requires reads { ReadsAs checked.now.source.now (file_of checked.now.program) }
     requires made { IsMade game.now }
     requires graph { IsGraph (names_of (policy_of game.now.states.policy)) checked.now.source.now (file_of checked.now.program) game.now.graph }
     requires is_game { IsGameOf (problem_of (policy_of game.now.states.policy) checked.now.source.now (file_of checked.now.program)) (game_of game.now) }
     ensures { IfOk result (λ outcome.
-        AfterGame (policy_of game.now.states.policy) checked.now.source.now (file_of checked.now.program) (game_of game.now) (due_of outcome)) }
+        AfterGame (IsCounted numbers.new (policy_of game.now.states.policy) checked.now.source.now (file_of checked.now.program)) (game_of game.now) (due_of outcome)) }
 {
     match solve(alloc, game) {
-        Ok(solution) => told(alloc, checked, game, &solution),
+        Ok(solution) => told(alloc, checked, game, &solution, numbers),
         Err(SolveFault::TooManyCells(_)) => over(alloc, Quantity::Cells),
         Err(SolveFault::NoMemory) => Err(NoMemory),
     }

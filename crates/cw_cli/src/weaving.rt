@@ -8,9 +8,11 @@ ghost use Rattle.cw_actions.specs.Scenes.{names_of};
 ghost use Rattle.cw_points.specs.Graphs.{IsGraph};
 ghost use Rattle.cw_source.specs.Read.{ReadsAs};
 ghost use Rattle.cw_commands.specs.Outcomes.{due_of};
-ghost use Rattle.cw_cli.specs.Weaving.{AfterFit, AfterFitting, AfterGraph, AfterPair, IsWeaveDue};
+ghost use Rattle.cw_cli.specs.Counting.{IsCounted};
+ghost use Rattle.cw_cli.specs.Weaving.{AfterFit, AfterFitting, AfterGraph, AfterPair, IsWeaveDue, Weaves};
 
 use crate::fitting::fit_refusal;
+use crate::numbers::Numbers;
 use crate::reading::read_both;
 use crate::refusals::{over, worded};
 use crate::refuting::game_refusal;
@@ -30,29 +32,37 @@ fn played(
     policy: &Policy,
     checked: &Checked,
     graph: &Graph,
+    numbers: &mut Numbers,
 ) -> Result<Outcome, NoMemory>
     requires valid { IsValid (policy_of policy.now) }
     requires reads { ReadsAs checked.now.source.now (file_of checked.now.program) }
     requires graph { IsGraph (names_of (policy_of policy.now)) checked.now.source.now (file_of checked.now.program) graph.now }
     requires points { length graph.now.nodes.items ≤ 8192 }
     ensures { IfOk result (λ outcome.
-        AfterGraph checked.now.source.now (policy_of policy.now) (file_of checked.now.program) graph.now (due_of outcome)) }
+        AfterGraph (IsCounted numbers.new (policy_of policy.now) checked.now.source.now (file_of checked.now.program))
+        checked.now.source.now (policy_of policy.now) (file_of checked.now.program) graph.now (due_of outcome)) }
 {
     match Game::make(alloc, graph, policy) {
-        Ok(game) => judged(alloc, checked, &game),
+        Ok(game) => judged(alloc, checked, &game, numbers),
         Err(fault) => game_refusal(alloc, &fault),
     }
 }
 
 /// That the program has too many points, or what comes behind that.
-fn drawn(alloc: Global, policy: &Policy, checked: &Checked) -> Result<Outcome, NoMemory>
+fn drawn(
+    alloc: Global,
+    policy: &Policy,
+    checked: &Checked,
+    numbers: &mut Numbers,
+) -> Result<Outcome, NoMemory>
     requires valid { IsValid (policy_of policy.now) }
     requires reads { ReadsAs checked.now.source.now (file_of checked.now.program) }
     ensures { IfOk result (λ outcome.
-        AfterFitting checked.now.source.now (policy_of policy.now) (file_of checked.now.program) (due_of outcome)) }
+        AfterFitting (IsCounted numbers.new (policy_of policy.now) checked.now.source.now (file_of checked.now.program))
+        checked.now.source.now (policy_of policy.now) (file_of checked.now.program) (due_of outcome)) }
 {
     match build(alloc, checked, policy) {
-        Ok(graph) => played(alloc, policy, checked, &graph),
+        Ok(graph) => played(alloc, policy, checked, &graph, numbers),
         Err(PointsFault::TooManyPoints) => over(alloc, Quantity::Points),
         Err(PointsFault::NoMemory) => Err(NoMemory),
     }
@@ -67,14 +77,20 @@ fn detaches_none(policy: &Policy) -> bool
 }
 
 /// That the policy detaches functions, or what comes behind that.
-fn waited(alloc: Global, policy: &Policy, checked: &Checked) -> Result<Outcome, NoMemory>
+fn waited(
+    alloc: Global,
+    policy: &Policy,
+    checked: &Checked,
+    numbers: &mut Numbers,
+) -> Result<Outcome, NoMemory>
     requires valid { IsValid (policy_of policy.now) }
     requires reads { ReadsAs checked.now.source.now (file_of checked.now.program) }
     ensures { IfOk result (λ outcome.
-        AfterFit checked.now.source.now (policy_of policy.now) (file_of checked.now.program) (due_of outcome)) }
+        AfterFit (IsCounted numbers.new (policy_of policy.now) checked.now.source.now (file_of checked.now.program))
+        checked.now.source.now (policy_of policy.now) (file_of checked.now.program) (due_of outcome)) }
 {
     if detaches_none(policy) {
-        drawn(alloc, policy, checked)
+        drawn(alloc, policy, checked, numbers)
     } else {
         let line = worded(alloc, b"policy: detached", b"")?;
         Ok(Outcome::Refused(Cause::Policy, line))
@@ -82,15 +98,37 @@ fn waited(alloc: Global, policy: &Policy, checked: &Checked) -> Result<Outcome, 
 }
 
 /// What is due for a policy and a program that are read.
-fn fitted(alloc: Global, policy: &Policy, checked: &Checked) -> Result<Outcome, NoMemory>
+fn fitted(
+    alloc: Global,
+    policy: &Policy,
+    checked: &Checked,
+    numbers: &mut Numbers,
+) -> Result<Outcome, NoMemory>
     requires valid { IsValid (policy_of policy.now) }
     requires reads { ReadsAs checked.now.source.now (file_of checked.now.program) }
     ensures { IfOk result (λ outcome.
-        AfterPair checked.now.source.now (policy_of policy.now) (file_of checked.now.program) (due_of outcome)) }
+        AfterPair (IsCounted numbers.new (policy_of policy.now) checked.now.source.now (file_of checked.now.program))
+        checked.now.source.now (policy_of policy.now) (file_of checked.now.program) (due_of outcome)) }
 {
     match fit_refusal(alloc, policy, checked)? {
         Some(outcome) => Ok(outcome),
-        None => waited(alloc, policy, checked),
+        None => waited(alloc, policy, checked, numbers),
+    }
+}
+
+/// What is due for `weave`, by the bytes of a policy and of a source; where it is a text, with its numbers.
+pub(crate) fn counted_due(
+    alloc: Global,
+    policy: &[u8],
+    source: &[u8],
+    numbers: &mut Numbers,
+) -> Result<Outcome, NoMemory>
+    requires short { length source.now ≤ 262144 }
+    ensures due { IfOk result (λ outcome. Weaves (λ whole file. IsCounted numbers.new whole source.now file) policy.now source.now (due_of outcome)) }
+{
+    match read_both(alloc, policy, source) {
+        Ok(pair) => fitted(alloc, &pair.policy, &pair.checked, numbers),
+        Err(answer) => answer,
     }
 }
 
@@ -99,8 +137,5 @@ pub fn weave_due(alloc: Global, policy: &[u8], source: &[u8]) -> Result<Outcome,
     requires short { length source.now ≤ 262144 }
     ensures due { IfOk result (λ outcome. IsWeaveDue policy.now source.now (due_of outcome)) }
 {
-    match read_both(alloc, policy, source) {
-        Ok(pair) => fitted(alloc, &pair.policy, &pair.checked),
-        Err(answer) => answer,
-    }
+    counted_due(alloc, policy, source, &mut Numbers::none())
 }

@@ -11,15 +11,7 @@ use Rattle.std.specs.BTreeSet.{BTreeSet, contains, Updates, IsOrdered}
 use Rattle.std.proofs.lemmas.Map.Views.{btree_set_contains_iff}
 use Rattle.std.proofs.lemmas.List.Elements.{Contains-push, Contains-push_cases, Contains-append_left, Contains-append_right, Contains-append_cases}
 use Rattle.cw_closure.specs.Seen.{SeenIs, Adds}
-
-contains_none : {A : Type 0} (x : A) → Contains [] x → ⊥
-contains_none x (k, l, e) = absurd (omega arith)
-
-pub contains_one : {A : Type 0} (x y : A) → Contains (x ∷ []) y → x ≡ y
-contains_one x y c = ⊎_elim (λ n. absurd (contains_none y n)) (λ e. e) (Contains-push_cases [] x y c)
-
-pub contains_first : {A : Type 0} (x : A) (xs : List A) → Contains (x ∷ xs) x
-contains_first x xs = Contains-append_left (x ∷ []) xs x (Contains-push [] x)
+use Rattle.cw_closure.proofs.Members.{contains_none, contains_one}
 
 -- what a set has after an insert
 cond_true : (b c : Bool) → c ≡ true → cond b true c ≡ true
@@ -45,14 +37,21 @@ module _ {K : Type 0} (cmp : K → K → Ordering) (total : IsTotalOrder cmp) (e
       by true e f = inl (exact k q (at_equal _ e))
       by false e f = inr ((btree_set_contains_iff total exact s q).0 f)
 
-pub see_new : {K : Type 0} (cmp : K → K → Ordering) → IsTotalOrder cmp → IsAntisymmetric cmp → (seen : List K) (s n : BTreeSet K) (k : K) → SeenIs cmp seen s.keys → Updates cmp s n k true → length n.keys ≡ length s.keys + 1 → IsOrdered cmp n → SeenIs cmp (seen ++ k ∷ []) n.keys
+pub see_new : {K : Type 0} (cmp : K → K → Ordering) → IsTotalOrder cmp → IsAntisymmetric cmp → (seen : List K) (s n : BTreeSet K) (k : K) → SeenIs cmp seen s.keys → Updates cmp s n k true
+    → length n.keys ≡ length s.keys + 1 → IsOrdered cmp n → SeenIs cmp (seen ++ k ∷ []) n.keys
 see_new cmp total exact seen s n k h u l o = record {
-  same = λ q. (λ c. ⊎_elim (λ a. inserted_old cmp total exact s n k u q ((h.same q).0 a)) (λ e. subst (Contains n.keys) e (inserted_new cmp total exact s n k u)) (Contains-push_cases seen k q c), λ c. ⊎_elim (λ e. subst (Contains (seen ++ k ∷ [])) e (Contains-push seen k)) (λ a. Contains-append_left seen (k ∷ []) q ((h.same q).1 a)) (inserted_from cmp total exact s n k u q c));
+  same = λ q. (
+    λ c. ⊎_elim (λ a. inserted_old cmp total exact s n k u q ((h.same q).0 a)) (λ e. subst (Contains n.keys) e (inserted_new cmp total exact s n k u))
+        (Contains-push_cases seen k q c),
+    λ c. ⊎_elim (λ e. subst (Contains (seen ++ k ∷ [])) e (Contains-push seen k)) (λ a. Contains-append_left seen (k ∷ []) q ((h.same q).1 a))
+        (inserted_from cmp total exact s n k u q c),
+  );
   once = let o = h.once in let m = length-append seen (k ∷ []) in omega arith;
   order = o;
 }
 
-pub adds_none : {K : Type 0} (cmp : K → K → Ordering) → IsTotalOrder cmp → IsAntisymmetric cmp → (seen : List K) (s : BTreeSet K) (k : K) → SeenIs cmp seen s.keys → contains cmp s k ≡ true → Adds seen seen (k ∷ [])
+pub adds_none : {K : Type 0} (cmp : K → K → Ordering) → IsTotalOrder cmp → IsAntisymmetric cmp → (seen : List K) (s : BTreeSet K) (k : K) → SeenIs cmp seen s.keys → contains cmp s k ≡ true
+    → Adds seen seen (k ∷ [])
 adds_none cmp total exact seen s k h e = record {
   more = [];
   is = sym (append-nil seen);

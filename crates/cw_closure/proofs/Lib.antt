@@ -1,2 +1,3 @@
-mod Keys
+pub mod Keys
+pub mod Members
 pub mod Reach

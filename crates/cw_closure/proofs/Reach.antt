@@ -19,10 +19,12 @@ module _ {K : Type 0} (cmp : K → K → Ordering) (step : K → List K) (starts
     far = omega arith;
   }
 
-  pub reached_step : (seen set seen' set' : List K) (i : ℕ) (k : K) (keys : List K) → Seen cmp step starts seen set i → i < length seen → ((d : K) → get_or seen i d ≡ k) → keys ≡ step k → SeenIs cmp seen' set' → Adds seen seen' keys → Seen cmp step starts seen' set' (i + 1)
+  pub reached_step : (seen set seen' set' : List K) (i : ℕ) (k : K) (keys : List K) → Seen cmp step starts seen set i → i < length seen → ((d : K) → get_or seen i d ≡ k) → keys ≡ step k
+      → SeenIs cmp seen' set' → Adds seen seen' keys → Seen cmp step starts seen' set' (i + 1)
   reached_step seen set seen' set' i k keys h l at e s a = record {
     same = s;
-    needed = λ q c. ⊎_elim (λ o. h.needed q o) (λ n. then k q (h.needed k (i, l, at k)) (subst (λ y. Contains y q) e (a.from q n))) (Contains-append_cases seen a.more q (subst (λ y. Contains y q) a.is c));
+    needed = λ q c. ⊎_elim (λ o. h.needed q o) (λ n. then k q (h.needed k (i, l, at k)) (subst (λ y. Contains y q) e (a.from q n)))
+        (Contains-append_cases seen a.more q (subst (λ y. Contains y q) a.is c));
     begins = λ q c. old q (h.begins q c);
     closed = closes;
     far = let m = length-append seen a.more in let n : length seen' ≡ length (seen ++ a.more) = ap length a.is in omega arith;
@@ -56,14 +58,22 @@ module _ {K : Type 0} (cmp : K → K → Ordering) (step : K → List K) (starts
       h.closed z.0 a (omega (arith, z.1)) b (subst (λ y. Contains (step y) b) (sym z.2) c)
 
   pub reached_all : (seen set : List K) (i : ℕ) (v : List K) → Seen cmp step starts seen set i → length seen ≤ i → v ≡ set → IsStrictlySortedBy cmp v → Exactly cmp (Reached step starts) v
-  reached_all seen set i v h l e o = (o, λ k. (λ c. h.needed k ((h.same.same k).1 (subst (λ y. Contains y k) e c)), λ n. subst (λ y. Contains y k) (sym e) ((h.same.same k).0 (all_seen seen set i h l k n))))
+  reached_all seen set i v h l e o = (
+    o,
+    λ k. (
+      λ c. h.needed k ((h.same.same k).1 (subst (λ y. Contains y k) e c)),
+      λ n. subst (λ y. Contains y k) (sym e)
+          ((h.same.same k).0 (all_seen seen set i h l k n)),
+    ),
+  )
 
   pub reached_many : (seen set : List K) (i n : ℕ) → Seen cmp step starts seen set i → n < length seen → HasMore cmp (Reached step starts) n
   reached_many seen set i n h l =
       let o = h.same.once in
       (set, h.same.order, λ k c. h.needed k ((h.same.same k).1 c), omega (arith, o, l))
 
-  pub searched_all : (seen set : List K) (most : ℕ) (v : List K) → Searched cmp step starts seen set most → length seen ≤ most → v ≡ set → IsStrictlySortedBy cmp v → Exactly cmp (Reached step starts) v
+  pub searched_all : (seen set : List K) (most : ℕ) (v : List K) → Searched cmp step starts seen set most → length seen ≤ most → v ≡ set → IsStrictlySortedBy cmp v
+      → Exactly cmp (Reached step starts) v
   searched_all seen set most v h few e o =
       reached_all seen set h.passed v h.so_far (⊎_elim (λ l. l) (λ is. omega (arith, is, few)) h.done) e o
 
@@ -78,8 +88,10 @@ module _ {K : Type 0} (cmp : K → K → Ordering) (step : K → List K) (starts
   kept P begins keeps k (first q c) = begins k c
   kept P begins keeps k (then a b n c) = keeps a k (kept P begins keeps a n) c
 
-  pub may_follow : (P : K → Type 0) → ((k : K) → Contains starts k → P k) → ((k q : K) → P k → Contains (step k) q → P q) → (seen set : List K) (i j : ℕ) (k : K) → Seen cmp step starts seen set i → j < length seen → k ≡ get_or seen j k → P k
+  pub may_follow : (P : K → Type 0) → ((k : K) → Contains starts k → P k) → ((k q : K) → P k → Contains (step k) q → P q) → (seen set : List K) (i j : ℕ) (k : K)
+      → Seen cmp step starts seen set i → j < length seen → k ≡ get_or seen j k → P k
   may_follow P begins keeps seen set i j k h l is = kept P begins keeps k (h.needed k (j, l, sym is))
 
-  pub passed_more : (seen set seen' set' : List K) (i : ℕ) (k : K) (keys : List K) → Seen cmp step starts seen set i → i < length seen → k ≡ get_or seen i k → keys ≡ step k → SeenIs cmp seen' set' → Adds seen seen' keys → Seen cmp step starts seen' set' (i + 1)
+  pub passed_more : (seen set seen' set' : List K) (i : ℕ) (k : K) (keys : List K) → Seen cmp step starts seen set i → i < length seen → k ≡ get_or seen i k → keys ≡ step k
+      → SeenIs cmp seen' set' → Adds seen seen' keys → Seen cmp step starts seen' set' (i + 1)
   passed_more seen set seen' set' i k keys h l is e s a = reached_step seen set seen' set' i k keys h l (λ d. get_or_default seen i d k l ∙ sym is) e s a

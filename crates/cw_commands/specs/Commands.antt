@@ -3,21 +3,45 @@ use Rattle.std.specs.Prelude.{ℕ, List, [], ◌∷◌, if◌then◌else◌, Opt
 use Rattle.std.specs.Str.{bytes_eq}
 use Rattle.cw_core.specs.declared.quantity.Quantity.{Quantity}
 use Rattle.cw_core.specs.declared.quantity.Quantity.TheVariants.{PolicyBytes, SourceBytes, FileBytes}
+use Rattle.cw_sample.specs.Samples.{HasSample}
 use Rattle.cw_commands.specs.declared.command.Command.{Command}
-use Rattle.cw_commands.specs.declared.command.Command.TheVariants.{Weave, Graph, Refute, Check, Play, Run}
+use Rattle.cw_commands.specs.declared.command.Command.TheVariants.{Weave, Graph, Refute, Check, Play, Run, Sample}
+use Rattle.cw_commands.specs.declared.name.Name.{Name}
+use Rattle.cw_commands.specs.declared.name.Name.TheVariants as name
 
--- the command of this name
-abbrev pub named_by : List ℕ → Option Command
+-- the name that a word is
+abbrev pub named_by : List ℕ → Option Name
 named_by word =
-    if bytes_eq word (codes "weave") then Some Weave
-    else if bytes_eq word (codes "graph") then Some Graph
-    else if bytes_eq word (codes "refute") then Some Refute
-    else if bytes_eq word (codes "check") then Some Check
-    else if bytes_eq word (codes "play") then Some Play
-    else if bytes_eq word (codes "run") then Some Run
+    if bytes_eq word (codes "weave") then Some name.Weave
+    else if bytes_eq word (codes "graph") then Some name.Graph
+    else if bytes_eq word (codes "refute") then Some name.Refute
+    else if bytes_eq word (codes "check") then Some name.Check
+    else if bytes_eq word (codes "play") then Some name.Play
+    else if bytes_eq word (codes "run") then Some name.Run
+    else if bytes_eq word (codes "sample") then Some name.Sample
     else None
 
--- the quantities that the bytes of its files are, one a file, in the order of its words
+-- how many words stand behind a name
+abbrev pub count_of : Name → ℕ
+count_of name.Weave = 2
+count_of name.Graph = 1
+count_of name.Refute = 3
+count_of name.Check = 2
+count_of name.Play = 4
+count_of name.Run = 3
+count_of name.Sample = 1
+
+-- the words of a command, as the line on usage tells them
+abbrev pub usage_of : Name → List ℕ
+usage_of name.Weave = codes "weave POLICY SOURCE"
+usage_of name.Graph = codes "graph SOURCE"
+usage_of name.Refute = codes "refute POLICY SOURCE STRATEGY"
+usage_of name.Check = codes "check POLICY WOVEN"
+usage_of name.Play = codes "play POLICY SOURCE STRATEGY TAPE"
+usage_of name.Run = codes "run POLICY WOVEN TAPE"
+usage_of name.Sample = codes "sample N"
+
+-- the quantities that the bytes of a command's files are, one a file, in the order of its words
 abbrev pub quantities_of : Command → List Quantity
 quantities_of Weave = PolicyBytes ∷ (SourceBytes ∷ [])
 quantities_of Graph = SourceBytes ∷ []
@@ -25,12 +49,9 @@ quantities_of Refute = PolicyBytes ∷ (SourceBytes ∷ (FileBytes ∷ []))
 quantities_of Check = PolicyBytes ∷ (FileBytes ∷ [])
 quantities_of Play = PolicyBytes ∷ (SourceBytes ∷ (FileBytes ∷ (FileBytes ∷ [])))
 quantities_of Run = PolicyBytes ∷ (FileBytes ∷ (FileBytes ∷ []))
+quantities_of (Sample number) = []
 
--- its words, as the line on usage tells them
-abbrev pub usage_of : Command → List ℕ
-usage_of Weave = codes "weave POLICY SOURCE"
-usage_of Graph = codes "graph SOURCE"
-usage_of Refute = codes "refute POLICY SOURCE STRATEGY"
-usage_of Check = codes "check POLICY WOVEN"
-usage_of Play = codes "play POLICY SOURCE STRATEGY TAPE"
-usage_of Run = codes "run POLICY WOVEN TAPE"
+-- the number of a sample is one that has a sample
+abbrev pub IsNumbered : Command → Type 0
+IsNumbered (Sample number) = HasSample number
+IsNumbered _ = Unit {0}

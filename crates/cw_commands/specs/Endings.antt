@@ -2,7 +2,7 @@
 use Rattle.std.specs.Prelude.{◌≡◌, ℕ, List, [], ◌∷◌, ◌++◌, Option, Some, None, take, codes, Result}
 use Rattle.cw_core.specs.Quantities.{name_of}
 use Rattle.cw_io.specs.Pieces.{Grows, Puts}
-use Rattle.cw_commands.specs.declared.command.Command.{Command}
+use Rattle.cw_commands.specs.declared.name.Name.{Name}
 use Rattle.cw_commands.specs.declared.ending.Ending.{Ending}
 use Rattle.cw_commands.specs.declared.ending.Ending.TheVariants.{Put, Refused, TooLong, Unread, Unwritten, Memory}
 use Rattle.cw_commands.specs.Commands.{usage_of}
@@ -21,8 +21,8 @@ abbrev pub line : List ℕ → List ℕ → List ℕ
 line words rest = words ++ rest ++ (10 ∷ [])
 
 -- the line of words that don't fit, by the command that the first one names
-abbrev pub usage_line : Option Command → List ℕ
-usage_line (Some command) = line (codes "usage: capweave ") (usage_of command)
+abbrev pub usage_line : Option Name → List ℕ
+usage_line (Some name) = line (codes "usage: capweave ") (usage_of name)
 usage_line None = line (codes "usage: capweave ") (codes "COMMAND ARGUMENTS")
 
 -- the line of an ending; where a text was put there is none

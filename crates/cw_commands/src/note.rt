@@ -4,8 +4,8 @@ ghost use Rattle.std.specs.Prelude.{◌≡◌, codes, Some};
 ghost use Rattle.cw_io.specs.Pieces.{Puts};
 ghost use Rattle.cw_commands.specs.Endings.{IsNoted, line, line_of, usage_line, PutsLine};
 
-use crate::command::Command;
 use crate::ending::Ending;
+use crate::name::Name;
 use cw_io::{Sink, SinkFault, put_both};
 
 /// Puts some words, others behind them and a line feed.
@@ -16,17 +16,17 @@ fn put_line<N: Sink>(note: &mut N, words: &[u8], rest: &[u8]) -> Result<(), Sink
     note.put(b"\n")
 }
 
-fn usage(first: Option<Command>) -> &'static [u8]
+fn usage(first: Option<Name>) -> &'static [u8]
     ensures { usage_line first ≡ line (codes "usage: capweave ") result.now }
 {
     match first {
-        Some(command) => command.usage(),
+        Some(name) => name.usage(),
         None => b"COMMAND ARGUMENTS",
     }
 }
 
 /// Puts the line of words that don't fit, by the command that the first one names.
-pub fn put_usage<N: Sink>(note: &mut N, first: Option<Command>) -> Result<(), SinkFault>
+pub fn put_usage<N: Sink>(note: &mut N, first: Option<Name>) -> Result<(), SinkFault>
     ensures puts { Puts (N.taken note.old) (N.taken note.new) (usage_line first) result }
     ensures noted { IsNoted (N.taken note.old) (N.taken note.new) (Some (usage_line first)) }
 {

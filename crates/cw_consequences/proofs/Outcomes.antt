@@ -76,7 +76,7 @@ start_holds p g of never n = by (Holds g n (g.entry g.main) g.states.start (has 
     by true e = refl
     by false e = let f = start_forced p g of (n, e) in absurd (never f.0 f.1)
 
-pub ends : (source : List ℕ) (file : File) (p : PlainPolicy) (g : Game) (due : Due) → IsGameOf (problem_of p source file) g → AfterGame p source file g due
+pub ends : (source : List ℕ) (file : File) (p : PlainPolicy) (g : Game) (due : Due) → IsGameOf (problem_of p source file) g → AfterGame (IsVerdict p source file) g due
     → (o : Outcome) × Ends g o × Says source file p o due
 ends source file p g due of (inl (many, e)) = (ManyCells, many, e)
 ends source file p g due of (inr (few, inl (many, e))) = (ManyRows, (few, many), e)

@@ -19,6 +19,7 @@ use Rattle.cw_commands.specs.declared.outcome.Cause.TheVariants.{Source}
 use Rattle.cw_commands.specs.Outcomes.{Due, Refused}
 use Rattle.cw_cli.specs.Reading.{IsSourceUnread}
 use Rattle.cw_cli.specs.Refusals.{descriptor_line, over, policy_refusal, source_refusal, IsPolicyRefusal}
+use Rattle.cw_cli.specs.Verdicts.{IsVerdict}
 use Rattle.cw_cli.specs.Weaving.{AfterPair, IsWeaveDue}
 use Rattle.cw_consequences.specs.Alike.{in_format, AreAlike}
 use Rattle.cw_consequences.specs.Laws.{FormatsAgree, StopGivesTheSame, WeaveHasOneAnswer}
@@ -29,7 +30,7 @@ use Rattle.cw_consequences.proofs.Texts.{one_text}
 
 -- a source is unread under a policy, or it is read and this is due
 abbrev Either : List ℕ → PlainPolicy → Due → Type 0
-Either source p due = IsSourceUnread source p due ⊎ ((file : File) × ReadsAs source file × (descriptor_fault source file p ≡ None) × AfterPair source p file due)
+Either source p due = IsSourceUnread source p due ⊎ ((file : File) × ReadsAs source file × (descriptor_fault source file p ≡ None) × AfterPair (IsVerdict p source file) source p file due)
 
 -- where the policy is spelled
 behind_policy : (policy source : List ℕ) (p : PlainPolicy) (due : Due) → Spells policy p → IsWeaveDue policy source due → Either source p due
@@ -42,7 +43,7 @@ behind_policy policy source p due spells (inr (whole, file, are, after)) =
       file,
       are.reads,
       subst (λ (q : PlainPolicy). descriptor_fault source file q ≡ None) same are.descriptors,
-      subst (λ (q : PlainPolicy). AfterPair source q file due) same after,
+      subst (λ (q : PlainPolicy). AfterPair (IsVerdict q source file) source q file due) same after,
     )
 
 module _ (source : List ℕ) (p : PlainPolicy) (limit enter split stop : Bool) (format : ℕ) where
@@ -86,7 +87,7 @@ module _ (source : List ℕ) (p : PlainPolicy) (limit enter split stop : Bool) (
     either_alike due answer (inr (file, reads, none, after)) (inl w) = absurd (never_unread file answer reads none (unread_same answer w))
     either_alike due answer (inr (file, reads, none, after)) (inr (other, reading, nor, behind)) =
         let files : other ≡ file = one_program source other file reading reads in
-        after_pair source file reads p limit enter split stop format like wide due answer after (subst (λ (z : File). AfterPair source y z answer) files behind)
+        after_pair source file reads p limit enter split stop format like wide due answer after (subst (λ (z : File). AfterPair (IsVerdict y source z) source y z answer) files behind)
 
     pub due_alike : (policy other : List ℕ) (due answer : Due) → Spells policy p → Spells other (varied p limit enter split stop format)
         → IsWeaveDue policy source due → IsWeaveDue other source answer

@@ -29,7 +29,7 @@ use Rattle.cw_commands.specs.Outcomes.{Due, Told, Refused}
 use Rattle.cw_cli.specs.Fitting.{fit_line}
 use Rattle.cw_cli.specs.Refusals.{over}
 use Rattle.cw_cli.specs.Refuting.{game_refusal, IsGame}
-use Rattle.cw_cli.specs.Verdicts.{AfterGame}
+use Rattle.cw_cli.specs.Verdicts.{AfterGame, IsVerdict}
 use Rattle.cw_cli.specs.Weaving.{AfterFit, AfterFitting, AfterGraph, AfterPair}
 use Rattle.cw_cli.proofs.Agreeing.{alike, fits_once}
 use Rattle.cw_consequences.specs.Alike.{AreAlike, refused, refuted, woven}
@@ -76,8 +76,8 @@ module _ (source : List ℕ) (file : File) (reads : ReadsAs source file) (p : Pl
   by_states f due answer a (e, lt) = inl (a ∙ ap game_refusal e, lt)
 
   after_games : (g k : Graph) (h l : Held) (due answer : Due) → IsGraph (names_of p) source file g → IsGraph (names_of p) source file k
-      → IsGame p g h → IsMade h → IsGameOf (problem_of p source file) (game_of h) → AfterGame p source file (game_of h) due
-      → IsGame y k l → IsMade l → IsGameOf (problem_of y source file) (game_of l) → AfterGame y source file (game_of l) answer
+      → IsGame p g h → IsMade h → IsGameOf (problem_of p source file) (game_of h) → AfterGame (IsVerdict p source file) (game_of h) due
+      → IsGame y k l → IsMade l → IsGameOf (problem_of y source file) (game_of l) → AfterGame (IsVerdict y source file) (game_of l) answer
       → AreAlike source p y due answer
   after_games g k h l due answer drawn draws is made of after other makes ofs behind =
       let like_graphs = alike p source file g k drawn draws in
@@ -101,7 +101,7 @@ module _ (source : List ℕ) (file : File) (reads : ReadsAs source file) (p : Pl
       says_alike source p y file second.0 due answer reads (subst (λ (o : Outcome). Says source file p o due) same first.2) second.2
 
   after_graphs : (g k : Graph) (due answer : Due) → IsGraph (names_of p) source file g → IsGraph (names_of p) source file k
-      → AfterGraph source p file g due → AfterGraph source y file k answer → Agree due answer
+      → AfterGraph (IsVerdict p source file) source p file g due → AfterGraph (IsVerdict y source file) source y file k answer → Agree due answer
   after_graphs g k due answer drawn draws (inl (f, ne, cause, a)) (inl (e, other, because, b)) =
       ⊎_elim (by_states f due answer a) (λ same. inr (fault_alike source p y e due answer (a ∙ ap game_refusal same) b))
       (both_refused p limit enter split stop format g k (alike p source file g k drawn draws) wide f e ne other cause because)
@@ -112,19 +112,20 @@ module _ (source : List ℕ) (file : File) (reads : ReadsAs source file) (p : Pl
   after_graphs g k due answer drawn draws (inr (h, is, made, of, after)) (inr (l, other, makes, ofs, behind)) =
       inr (after_games g k h l due answer drawn draws is made of after other makes ofs behind)
 
-  after_fitting : (due answer : Due) → AfterFitting source p file due → AfterFitting source y file answer → Agree due answer
+  after_fitting : (due answer : Due) → AfterFitting (IsVerdict p source file) source p file due → AfterFitting (IsVerdict y source file) source y file answer → Agree due answer
   after_fitting due answer (inl (many, a)) (inl (more, b)) = inr (refused_alike source p y _ _ due answer a b)
   after_fitting due answer (inl (many, a)) (inr (few, behind)) = absurd (apart (limit_of Points) (point_count (plan_of (names_of p) source file)) many few)
   after_fitting due answer (inr (few, behind)) (inl (many, b)) = absurd (apart (limit_of Points) (point_count (plan_of (names_of p) source file)) many few)
   after_fitting due answer (inr (few, g, drawn, after)) (inr (less, k, draws, behind)) = after_graphs g k due answer drawn draws after behind
 
-  after_fit : (due answer : Due) → AfterFit source p file due → AfterFit source y file answer → Agree due answer
+  after_fit : (due answer : Due) → AfterFit (IsVerdict p source file) source p file due → AfterFit (IsVerdict y source file) source y file answer → Agree due answer
   after_fit due answer (inl (some, a)) (inl (more, b)) = inr (refused_alike source p y _ _ due answer a b)
   after_fit due answer (inl (some, a)) (inr (none, behind)) = absurd (some none)
   after_fit due answer (inr (none, after)) (inl (some, b)) = absurd (some none)
   after_fit due answer (inr (none, after)) (inr (no_more, behind)) = after_fitting due answer after behind
 
-  pub after_pair : (due answer : Due) → AfterPair source p file due → AfterPair source (varied p limit enter split stop format) file answer
+  pub after_pair : (due answer : Due) → AfterPair (IsVerdict p source file) source p file due
+      → AfterPair (IsVerdict (varied p limit enter split stop format) source file) source (varied p limit enter split stop format) file answer
       → ((due ≡ over ProductStates) × (limit_in p.format ProductStates < limit_in format ProductStates))
       ⊎ AreAlike source p (varied p limit enter split stop format) due answer
   after_pair due answer (inl (f, fault, a)) (inl (e, other, b)) =

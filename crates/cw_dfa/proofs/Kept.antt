@@ -5,11 +5,12 @@ use Rattle.std.specs.Int.{bit_at}
 use Rattle.std.specs.List.{Contains, filter_map, cons_option}
 use Rattle.std.proofs.lemmas.Bool.Decides.{nat_tests}
 use Rattle.std.proofs.lemmas.List.{take_all, take_at, take-append-le}
-use Rattle.std.proofs.lemmas.List.Elements.{All-nil, All-push, All-contains, Contains-push, Contains-push_cases, Contains-append_left, Contains-append_right, Contains-append_cases}
+use Rattle.std.proofs.lemmas.List.Elements.{All-nil, All-push, All-contains, Contains-push, Contains-append_left, Contains-append_right, Contains-append_cases}
 use Rattle.std.proofs.lemmas.Nat.Bits.{bit_at-lt, same_from_bits}
 use Rattle.cw_rights.specs.declared.words.Letter.{Letter}
 use Rattle.cw_rights.specs.Words.{Word}
 use Rattle.cw_rights.specs.Policies.{PlainRule, Breaks}
+use Rattle.cw_closure.proofs.Members.{contains_none, contains_one}
 use Rattle.cw_dfa.specs.Kept.{KeepsRules}
 use Rattle.cw_dfa.specs.Positions.{IsSetOf}
 use Rattle.cw_dfa.specs.Sets.{has}
@@ -18,12 +19,6 @@ use Rattle.cw_dfa.specs.Verdicts.{IsVerdict, verdict, next_of, walk}
 use Rattle.cw_dfa.proofs.Whole.{start_set, next_set, verdict_is, walk_set}
 
 -- ---- what a list maps to, where it does
-
-none_in : {A : Type 0} (x : A) → Contains [] x → ⊥
-none_in x (k, l, e) = absurd (omega arith)
-
-one_in : {A : Type 0} (x y : A) → Contains (x ∷ []) y → x ≡ y
-one_in x y c = ⊎_elim (λ n. absurd (none_in y n)) (λ e. e) (Contains-push_cases [] x y c)
 
 module _ (f : Letter → Option ℕ) where
   abbrev Source : List Letter → ℕ → Type 0
@@ -34,13 +29,13 @@ module _ (f : Letter → Option ℕ) where
   source_step c cs b (Some n) e ih h = ⊎_elim here there (Contains-append_cases (n ∷ []) (filter_map f cs) b h)
     where
       here : Contains (n ∷ []) b → Source (c ∷ cs) b
-      here k = (c, Contains-append_left (c ∷ []) cs c (Contains-push [] c), e ∙ ap Some (one_in n b k))
+      here k = (c, Contains-append_left (c ∷ []) cs c (Contains-push [] c), e ∙ ap Some (contains_one n b k))
 
       there : Contains (filter_map f cs) b → Source (c ∷ cs) b
       there k = let x = ih k in (x.0, Contains-append_right (c ∷ []) cs x.0 x.1, x.2)
 
   source_of : (cs : List Letter) (b : ℕ) → Contains (filter_map f cs) b → Source cs b
-  source_of [] b h = absurd (none_in b h)
+  source_of [] b h = absurd (contains_none b h)
   source_of (c ∷ cs) b h = source_step c cs b (f c) refl (source_of cs b) h
 
   mapped_first : (cs : List Letter) (b : ℕ) (o : Option ℕ) → o ≡ Some b → Contains (cons_option o (filter_map f cs)) b
@@ -52,8 +47,8 @@ module _ (f : Letter → Option ℕ) where
   mapped_later cs b (Some n) h = Contains-append_right (n ∷ []) (filter_map f cs) b h
 
   mapped : (cs : List Letter) (c : Letter) (b : ℕ) → Contains cs c → f c ≡ Some b → Contains (filter_map f cs) b
-  mapped [] c b h e = absurd (none_in c h)
-  mapped (d ∷ cs) c b h e = ⊎_elim (λ k. mapped_first cs b (f d) (ap f (one_in d c k) ∙ e)) (λ k. mapped_later cs b (f d) (mapped cs c b k e)) (Contains-append_cases (d ∷ []) cs c h)
+  mapped [] c b h e = absurd (contains_none c h)
+  mapped (d ∷ cs) c b h e = ⊎_elim (λ k. mapped_first cs b (f d) (ap f (contains_one d c k) ∙ e)) (λ k. mapped_later cs b (f d) (mapped cs c b k e)) (Contains-append_cases (d ∷ []) cs c h)
 
 -- ---- a word has one set
 

@@ -1,7 +1,7 @@
 -- The sets after one, by the masks of the letters.
 use Rattle.std.proofs.Common.{◌≡◌, ◌<◌, ◌+◌, ℕ, List, [], ◌∷◌, ◌++◌, Option, Some, None, length, take, get_or, map, refl, sym, ap, ap₂, ◌∙◌, append_assoc, subst, arith, ⊎_elim}
 use Rattle.std.proofs.lemmas.List.{take_more}
-use Rattle.std.proofs.lemmas.List.Elements.{filter_map-append, Contains-append_left, Contains-append_right, Contains-append_cases, Contains-push, Contains-push_cases}
+use Rattle.std.proofs.lemmas.List.Elements.{filter_map-append, Contains-append_left, Contains-append_right, Contains-append_cases, Contains-push}
 use Rattle.std.specs.Option.{option_to_list}
 use Rattle.std.specs.List.{Contains, filter_map, cons_option}
 use Rattle.cw_rights.specs.declared.words.Letter.{Letter}
@@ -11,15 +11,13 @@ use Rattle.cw_dfa.specs.Sets.{has}
 use Rattle.cw_dfa.specs.Tables.{goes, matching}
 use Rattle.cw_dfa.specs.Verdicts.{verdict}
 use Rattle.cw_dfa.specs.States.{AreMasks, unless_bad, after_mask, after_masks, steps}
+use Rattle.cw_closure.proofs.Members.{contains_one}
 use Rattle.cw_dfa.proofs.Following.{next_masked}
 
 pub steps_masked : (rules : List PlainRule) (letters : List Letter) (set : ℕ) → filter_map (after_mask rules (goes (bad_of rules) 1 (has set 0) set))
     (map (matching (bad_of rules) 1) letters) ≡ steps rules letters set
 steps_masked rules [] set = refl
 steps_masked rules (c ∷ rest) set = ap₂ cons_option (ap (λ n. unless_bad (verdict rules 0 1 n) n) (sym (next_masked rules set c))) (steps_masked rules rest set)
-
-one_member : (x m : ℕ) → Contains (x ∷ []) m → x ≡ m
-one_member x m c = ⊎_elim (λ n. absurd (omega (arith, n.1))) (λ e. e) (Contains-push_cases [] x m c)
 
 one_of : (o : Option ℕ) → option_to_list o ≡ cons_option o []
 one_of None = refl
@@ -30,7 +28,8 @@ pub masks_more : (f : ℕ → Option ℕ) (old so_far now masks : List ℕ) (i :
     → now ≡ so_far ++ option_to_list next → now ≡ old ++ filter_map f (take (i + 1) masks)
 masks_more f old so_far now masks i next lt e is m =
     let mask = get_or masks i 0 in
-    let all : filter_map f (take (i + 1) masks) ≡ filter_map f (take i masks) ++ filter_map f (mask ∷ []) = ap (filter_map f) (take_more masks i 0 lt) ∙ filter_map-append f (take i masks) (mask ∷ []) in
+    let all : filter_map f (take (i + 1) masks) ≡ filter_map f (take i masks) ++ filter_map f (mask ∷ []) = ap (filter_map f) (take_more masks i 0 lt)
+    ∙ filter_map-append f (take i masks) (mask ∷ []) in
     let one : option_to_list next ≡ filter_map f (mask ∷ []) = ap option_to_list is ∙ one_of (f mask) in
     m
     ∙ ap (λ (z : List ℕ). z ++ option_to_list next) e
@@ -49,7 +48,7 @@ module _ (f : ℕ → Option ℕ) where
       by None e rec h =
           let r = rec (subst (λ o. Contains (cons_option o [] ++ filter_map f xs) b) e h) in
           (r.0, Contains-append_right (x ∷ []) xs r.0 r.1, r.2)
-      by (Some y) e rec h = ⊎_elim (λ h. (x, Contains-append_left (x ∷ []) xs x (Contains-push [] x), e ∙ ap Some (one_member y b h)))
+      by (Some y) e rec h = ⊎_elim (λ h. (x, Contains-append_left (x ∷ []) xs x (Contains-push [] x), e ∙ ap Some (contains_one y b h)))
           (λ h. let r = rec h in (r.0, Contains-append_right (x ∷ []) xs r.0 r.1, r.2))
           (Contains-append_cases (y ∷ []) (filter_map f xs) b (subst (λ o. Contains (cons_option o [] ++ filter_map f xs) b) e h))
 
@@ -60,7 +59,7 @@ module _ (f : ℕ → Option ℕ) where
     where
       first : Contains (x ∷ []) m → Contains (filter_map f (x ∷ []) ++ filter_map f xs) b
       first h =
-          let is : f x ≡ Some b = ap f (one_member x m h) ∙ s in
+          let is : f x ≡ Some b = ap f (contains_one x m h) ∙ s in
           Contains-append_left (filter_map f (x ∷ [])) (filter_map f xs) b (subst (λ o. Contains (cons_option o []) b) (sym is) (Contains-push [] b))
 
   pub after_same : (xs ys : List ℕ) → ((m : ℕ) → Contains xs m → Contains ys m) → (b : ℕ) → Contains (filter_map f xs) b → Contains (filter_map f ys) b

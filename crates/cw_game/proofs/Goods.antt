@@ -50,7 +50,8 @@ none_mapped f (c ∷ cs) h =
     let k = taken c.1 (first_failing (map (λ c. (f c.0, c.1)) cs)) (f c.0) h in
     ap (λ b. cond b (first_failing cs) (Some c.0)) k.0 ∙ none_mapped f cs k.1
 
-pub all_in : {A : Type 0} (part : Part) (test : A → Bool) (n : ℕ) (rows : List A) → first_failing (map (λ r. (fault_at part r.0 1, test r.1)) (enumerate_from n rows)) ≡ None → list_all test rows ≡ true
+pub all_in : {A : Type 0} (part : Part) (test : A → Bool) (n : ℕ) (rows : List A) → first_failing (map (λ r. (fault_at part r.0 1, test r.1)) (enumerate_from n rows)) ≡ None
+    → list_all test rows ≡ true
 all_in part test n [] h = refl
 all_in part test n (r ∷ rows) h =
     let k = taken (test r) (first_failing (map (λ r. (fault_at part r.0 1, test r.1)) (enumerate_from (n + 1) rows))) (fault_at part n 1) h in

@@ -9,4 +9,5 @@ pub mod Necessity
 pub mod Standing
 pub mod Linking
 pub mod Truths
+pub mod Failing
 pub mod Goods

@@ -1,1 +1,3 @@
 pub mod Moving
+pub mod Running
+pub mod Beaten

@@ -5,10 +5,12 @@ use Rattle.cw_rights.specs.declared.capabilities.Primitive.{Primitive}
 use Rattle.cw_rights.specs.Capabilities.{HoldsRight}
 use Rattle.cw_certs.specs.declared.moves.Move.{Move}
 use Rattle.cw_certs.specs.declared.moves.Move.TheVariants.{Skip, Try, Refuse, Opened, Stop}
+use Rattle.cw_certs.specs.Strategies.{Strategy}
 use Rattle.cw_certs.specs.Tables.{Table}
 use Rattle.cw_syntax.specs.Frames.{End, Frame}
-use Rattle.cw_model.specs.Boards.{Problem, Phase, Asked, Over, Board, start_board, may_refuse, passed_by, answered, stop_answers, is_refused, Moves, Party, Weaver, Environment, turn_of}
-use Rattle.cw_model.specs.Runs.{top_by, try_of, refused_with, memories, State, WovenRun, WovenStep, WasRefused, reached}
+use Rattle.cw_model.specs.Boards.{Problem, Phase, Asked, Over, Board, start_board, may_refuse, passed_by, answered, stop_answers, is_refused, Moves, Party, Weaver, Environment, turn_of, Forced}
+use Rattle.cw_model.specs.Runs.{top_by, try_of, refused_with, memories, State, WovenRun, WovenStep, WasRefused, reached, Sound}
+use Rattle.cw_model.specs.Plays.{Beats}
 
 -- whose move it is
 abbrev pub party_of : Move → Party
@@ -77,3 +79,15 @@ CapabilityModeStays = (p : Problem) (b : Board) (m : Move) (next : Board) → Mo
 abbrev pub RightsNeverGrow : Type 0
 RightsNeverGrow = (p : Problem) (b : Board) (m : Move) (next : Board) → Moves p b m next
     → ((d right : ℕ) → HoldsRight next.caps d right → HoldsRight b.caps d right) ⊎ ((m ≡ Opened) ⊎ ((before : Caps) × EndsSplit b before × (next.caps ≡ before)))
+
+-- Where a table is sound the start isn't forced.
+abbrev pub SoundIsNeverForced : Type 0
+SoundIsNeverForced = (p : Problem) (t : Table) → Sound p t → (n : ℕ) → Forced p n (start_board p) → ⊥
+
+-- Where a strategy beats every weaver the start is forced.
+abbrev pub BeatenIsForced : Type 0
+BeatenIsForced = (p : Problem) (s : Strategy) (row : ℕ) → Beats p s row → (n : ℕ) × Forced p n (start_board p)
+
+-- So no program has both a sound table and a strategy that beats every weaver.
+abbrev pub NeverBoth : Type 0
+NeverBoth = (p : Problem) (t : Table) (s : Strategy) (row : ℕ) → Sound p t → Beats p s row → ⊥

@@ -1,12 +1,15 @@
 //! Laws of the definitions: functions with nothing to do, whose contracts say what holds of all programs and policies.
 
 ghost use Rattle.cw_model.specs.Laws.{
+  BeatenIsForced,
   CapabilityModeStays,
   GoingOnIsSkipping,
+  NeverBoth,
   OnePartyMoves,
   OverHasNoMove,
   RefusedIsSkipped,
   RightsNeverGrow,
+  SoundIsNeverForced,
   StopsAfterRefusal,
   WithoutStop,
 };
@@ -58,4 +61,19 @@ pub fn capability_mode_stays()
 #[tactic(auto, using(crate::proofs::Moving::never_grow_by_moves))]
 pub fn rights_never_grow()
     ensures shrink { RightsNeverGrow }
+{}
+
+/// Where a table is sound the environment can't force a violation from the start.
+pub fn sound_is_never_forced()
+    ensures never { SoundIsNeverForced }
+{}
+
+/// Where a strategy beats every weaver the environment can force a violation from the start.
+pub fn beaten_is_forced()
+    ensures forced { BeatenIsForced }
+{}
+
+/// No program has both a sound table and a strategy that beats every weaver.
+pub fn never_both()
+    ensures never { NeverBoth }
 {}

@@ -1,10 +1,16 @@
-//! Tests of tapes and of plays: programs, policies and strategies by their texts, with traces from outside.
+//! Tests of tapes, plays and runs: programs, policies, strategies and woven programs by their texts, with traces from outside.
 #![tactic(auto)]
 
+#[cfg(test)]
+mod lines;
+#[cfg(test)]
+mod lists;
 #[cfg(test)]
 mod made;
 #[cfg(test)]
 mod plays;
+#[cfg(test)]
+mod runs;
 #[cfg(test)]
 mod tapes;
 #[cfg(test)]

@@ -1,17 +1,22 @@
-//! Plays by their tapes: the traces are those of a second program in another language.
+//! The plays of every tape of up to six words, against lists from a second program in another language.
 
-ghost use Rattle.std.specs.Prelude.{true, All};
+ghost use Rattle.std.specs.Prelude.{◌<◌, ◌^◌, length};
 ghost use Rattle.cw_rights.specs.Policies.{policy_of};
 ghost use Rattle.cw_rights.specs.Valid.{IsValid};
+ghost use Rattle.cw_certs.specs.Strategies.{strategy_of};
+ghost use Rattle.cw_game.specs.Conditions.{IsGoodStrategy};
 ghost use Rattle.cw_states.specs.States.{AreLists, lists_of};
+ghost use Rattle.cw_product.specs.Product.{game_of};
 ghost use Rattle.cw_product.specs.Uses.{uses_of};
-ghost use Rattle.cw_tapes.specs.Tapes.{IsIn};
 
+use crate::lines::{put_line, put_longer};
+use crate::lists::{CALL_PLAYS, ONE_PLAYS, TWO_PLAYS};
 use crate::made::{graph_of, names_of};
 use crate::texts::{
     CALL, CALL_POLICY, CALL_STRATEGY, ONE, ONE_POLICY, ONE_STRATEGY, TWO, TWO_POLICY, TWO_STRATEGY,
 };
-use cw_certs::{EnvCert, Move};
+use cw_certs::EnvCert;
+use cw_core::NoMemory;
 use cw_echeck::check_env;
 use cw_play::{PlayEnd, play_env};
 use cw_policies::read_policy;
@@ -21,40 +26,72 @@ use cw_tapes::read_tape;
 use cw_trace::Names;
 use std::alloc::Global;
 
-/// The play of a strategy that is good.
-fn play_of(
+/// How a play ends, as the program tells it.
+fn end_text(alloc: Global, game: &Game, end: PlayEnd) -> Result<Vec<u8>, NoMemory> {
+    let mut text = Vec::new(alloc);
+    match end {
+        PlayEnd::TapeSpent => text.extend_from_slice(b"tape spent")?,
+        PlayEnd::Violation(number) => {
+            text.extend_from_slice(b"violation ")?;
+            if let Some(rule) = game.policy().rules.get(usize::from(number)) {
+                text.extend_from_slice(rule.name.as_slice())?;
+            }
+        }
+    }
+    Ok(text)
+}
+
+/// Appends the line of a tape that is played against a good strategy.
+fn put_play(
     alloc: Global,
     names: &Names,
     game: &Game,
     cert: &EnvCert,
-    tape: &[Move],
-    text: &mut Vec<u8>,
-) -> Option<PlayEnd>
+    tape: &[u8],
+    list: &mut Vec<u8>,
+) -> Option<()>
     requires valid { IsValid (policy_of game.now.states.policy) }
     requires lists { AreLists (uses_of (policy_of game.now.states.policy) game.now.graph.nodes.items) (lists_of game.now.states) }
-    requires tape { All (IsIn true) tape.now }
+    requires good { IsGoodStrategy (game_of game.now) (strategy_of cert.now) }
+    requires rows { length cert.now.rows.items < 2 ^ 32 }
 {
-    if cert.rows.len() > 65536 {
+    if tape.len() > 65536 {
         return None;
     }
-    match check_env(game, cert) {
-        Ok(()) => play_env(alloc, names, game, cert, tape, text).ok(),
-        Err(_) => None,
-    }
+    let Ok(moves) = read_tape(alloc, tape, true) else {
+        return None;
+    };
+    let mut trace = Vec::new(alloc);
+    let Ok(end) = play_env(alloc, names, game, cert, &moves, &mut trace) else {
+        return None;
+    };
+    let end = end_text(alloc, game, end).ok()?;
+    put_line(tape, &end, &trace, list).ok()
 }
 
-/// The play of a strategy by texts, with its trace.
-fn played(
-    alloc: Global,
-    policy: &str,
-    source: &str,
-    strategy: &str,
-    tape: &str,
-    text: &mut Vec<u8>,
-) -> Option<PlayEnd> {
-    if tape.len() > 16777216 {
-        return None;
+/// The lines of every tape of up to six words that is played against a good strategy, the shorter ones first.
+fn every_play(alloc: Global, names: &Names, game: &Game, cert: &EnvCert) -> Option<Vec<u8>>
+    requires valid { IsValid (policy_of game.now.states.policy) }
+    requires lists { AreLists (uses_of (policy_of game.now.states.policy) game.now.graph.nodes.items) (lists_of game.now.states) }
+    requires good { IsGoodStrategy (game_of game.now) (strategy_of cert.now) }
+    requires rows { length cert.now.rows.items < 2 ^ 32 }
+{
+    let mut list = Vec::new(alloc);
+    let mut tapes = Vec::new(alloc);
+    tapes.push(Vec::new(alloc)).ok()?;
+    for _ in 0..7 {
+        let mut next = Vec::new(alloc);
+        for tape in &tapes {
+            put_play(alloc, names, game, cert, tape, &mut list)?;
+            put_longer(alloc, tape, &["skip", "try"], &mut next).ok()?;
+        }
+        tapes = next;
     }
+    Some(list)
+}
+
+/// The lines of a strategy by texts, where it is good.
+fn played(alloc: Global, policy: &str, source: &str, strategy: &str) -> Option<Vec<u8>> {
     let Ok(policy) = read_policy(alloc, policy.as_bytes()) else {
         return None;
     };
@@ -67,81 +104,30 @@ fn played(
     let Ok(cert) = read_env(alloc, strategy.as_bytes(), 1) else {
         return None;
     };
-    let Ok(tape) = read_tape(alloc, tape.as_bytes(), true) else {
+    if cert.rows.len() > 65536 {
+        return None;
+    }
+    let Ok(game) = Game::make(alloc, &graph, &policy) else {
         return None;
     };
-    match Game::make(alloc, &graph, &policy) {
-        Ok(game) => play_of(alloc, &names, &game, &cert, &tape, text),
+    match check_env(&game, &cert) {
+        Ok(()) => every_play(alloc, &names, &game, &cert),
         Err(_) => None,
     }
 }
 
-/// Whether the play of a strategy by texts ends so, with this trace.
-fn plays(alloc: Global, texts: [&str; 3], tape: &str, end: PlayEnd, trace: &str) -> bool {
-    let mut text = Vec::new(alloc);
-    let [policy, source, strategy] = texts;
-    let told = played(alloc, policy, source, strategy, tape, &mut text);
-    told == Some(end) && text.as_slice() == trace.as_bytes()
+/// Whether a strategy by texts has these lines.
+fn plays(alloc: Global, policy: &str, source: &str, strategy: &str, list: &str) -> bool {
+    match played(alloc, policy, source, strategy) {
+        Some(lines) => lines.as_slice() == list.as_bytes(),
+        None => false,
+    }
 }
 
 #[test]
-fn violations_are_played(rt: HostRuntime) {
+fn every_tape_of_up_to_six_words_is_played(rt: HostRuntime) {
     let alloc = rt.alloc();
-    let one = [ONE_POLICY, ONE, ONE_STRATEGY];
-    let two = [TWO_POLICY, TWO, TWO_STRATEGY];
-    let call = [CALL_POLICY, CALL, CALL_STRATEGY];
-    let refused = "try 0 enter refused\ntry 1 enter refused\nlabel a amb\n";
-    assert!(rt; plays(alloc, one, "try try", PlayEnd::Violation(0), refused));
-    let later = "try 0 enter granted\nlabel a cap\nlabel b cap\n";
-    assert!(rt;
-        plays(
-            alloc,
-            two,
-            "try skip skip try",
-            PlayEnd::Violation(1),
-            later
-        )
-    );
-    let split =
-        "try 2 enter granted\ntry 3 enter granted\ntry 3 split granted\ncall f split\ntry 0 enter granted\ntry 1 enter granted\nlabel a cap\nreturn f\ntry 4 enter granted\nlabel b cap\n";
-    assert!(rt;
-        plays(
-            alloc,
-            call,
-            "try try try try try try",
-            PlayEnd::Violation(1),
-            split
-        )
-    );
-    let plain =
-        "try 2 enter granted\ncall f\ntry 0 enter granted\nlabel a cap\nreturn f\ntry 4 enter granted\nlabel b cap\n";
-    assert!(rt;
-        plays(
-            alloc,
-            call,
-            "try skip skip try skip try",
-            PlayEnd::Violation(1),
-            plain
-        )
-    );
-}
-
-#[test]
-fn tapes_are_spent(rt: HostRuntime) {
-    let alloc = rt.alloc();
-    let one = [ONE_POLICY, ONE, ONE_STRATEGY];
-    let two = [TWO_POLICY, TWO, TWO_STRATEGY];
-    assert!(rt; plays(alloc, one, "", PlayEnd::TapeSpent, ""));
-    assert!(rt; plays(alloc, one, "skip", PlayEnd::TapeSpent, ""));
-    assert!(rt;
-        plays(
-            alloc,
-            one,
-            "try",
-            PlayEnd::TapeSpent,
-            "try 0 enter refused\n"
-        )
-    );
-    let told = "try 0 enter granted\ntry 1 enter granted\nlabel a cap\n";
-    assert!(rt; plays(alloc, two, "try try", PlayEnd::TapeSpent, told));
+    assert!(rt; plays(alloc, ONE_POLICY, ONE, ONE_STRATEGY, ONE_PLAYS));
+    assert!(rt; plays(alloc, TWO_POLICY, TWO, TWO_STRATEGY, TWO_PLAYS));
+    assert!(rt; plays(alloc, CALL_POLICY, CALL, CALL_STRATEGY, CALL_PLAYS));
 }

@@ -1,4 +1,4 @@
-//! The texts of programs, policies and strategies.
+//! The texts of programs, policies, strategies and woven programs.
 
 /// A function that may run in a process of its own.
 pub const CALL: &str = "int f(int x){a:;return x;}
@@ -90,6 +90,117 @@ states 4
 4 1 0 0x0 refuse 3
 5 0 0 0x0 both 3 4
 end
+";
+
+/// A function that calls itself behind a branch, and a label after its return, before which to enter.
+pub const RETURN: &str = "/*cw{*/
+#include \"capweave.h\"
+#define CW_LIMITS(X)
+CW_TABLE(1,4,0)
+CW_MEM(0,0,0xf)
+CW_MEM(1,1,0xf)
+CW_MEM(2,3,0xf)
+CW_LIVE(0,0)
+CW_LIVE(2,0)
+CW_LIVE(3,0)
+CW_LIVE(4,0)
+CW_LIVE(6,0)
+CW_LIVE(7,0)
+CW_LIVE(8,0)
+CW_LIVE(10,0)
+CW_LIVE(11,0)
+CW_LIVE(13,0)
+CW_LIVE(14,0)
+CW_LIVE(15,0)
+CW_LIVE(16,1)
+CW_LIVE(17,2)
+CW_LIVE(18,2)
+CW_TRY(4,0,0,1,CW_NONE)
+CW_AT(4,1,2)
+CW_INTO(1,0,0,0)
+CW_INTO(3,0,0,0)
+CW_BACK(1,0,0,0,0)
+CW_BACK(3,0,0,0,0)
+CW_DONE
+/*}cw*/void f(int x){/*cw{*/CW_ENTRY(0);/*}cw*/if(x)/*cw{*/CW_CALL(1)/*}cw*/f(x-1);}int main(void){/*cw{*/CW_ENTRY(2);/*}cw*//*cw{*/CW_CALL(3)/*}cw*/f(9);a:/*cw{*/CW_LABEL(4)/*}cw*/;}";
+
+/// A descriptor's limit before a label, behind a branch and an open; what refuses it is answered by a stop.
+pub const STOP: &str = "/*cw{*/
+#include \"capweave.h\"
+#define CW_LIMITS(X) X(0,fd,0x1)
+CW_TABLE(1,12,0)
+CW_MEM(0,0,0xfff)
+CW_MEM(1,1,0xfff)
+CW_MEM(2,2,0xfff)
+CW_MEM(3,6,0xfff)
+CW_MEM(4,7,0xfff)
+CW_LIVE(0,0)
+CW_LIVE(2,0)
+CW_LIVE(4,0)
+CW_LIVE(5,0)
+CW_LIVE(6,0)
+CW_LIVE(7,0)
+CW_LIVE(7,2)
+CW_LIVE(8,2)
+CW_LIVE(9,0)
+CW_LIVE(9,1)
+CW_LIVE(11,0)
+CW_LIVE(11,1)
+CW_LIVE(12,3)
+CW_LIVE(12,4)
+CW_LIVE(13,0)
+CW_LIVE(13,3)
+CW_LIVE(13,4)
+CW_LIVE(14,0)
+CW_LIVE(14,3)
+CW_LIVE(14,4)
+CW_TRY(2,0,2,1,CW_NONE)
+CW_AT(2,0,3)
+CW_AT(2,1,4)
+CW_OPENED(1,0,2,0)
+CW_DONE
+/*}cw*/int fd;int main(void){/*cw{*/CW_ENTRY(0);/*}cw*/if(c){/*cw{*/CW_OPEN(1,fd)/*}cw*/fd=g();a:/*cw{*/CW_LABEL(2)/*}cw*/;}return 0;}";
+
+/// The descriptor `fd` never writes at `a`; a limit may be refused, and then the program may stop.
+pub const STOP_POLICY: &str = "format = 1
+refusable = [\"limit\"]
+on_refusal = \"stop\"
+[[descriptor]]
+name = \"fd\"
+[[limit]]
+descriptor = \"fd\"
+keep = [\"CAP_READ\"]
+[[at]]
+label = \"a\"
+never = [\"fd:CAP_WRITE\"]
+";
+
+/// The woven text that the program's own run prints.
+pub const STORED: &str = "/*cw{*/
+#include \"capweave.h\"
+#define CW_LIMITS(X)
+CW_TABLE(1,4,0)
+CW_MEM(0,0,0xf)
+CW_MEM(1,1,0xf)
+CW_MEM(2,3,0xf)
+CW_LIVE(0,0)
+CW_LIVE(2,0)
+CW_LIVE(3,0)
+CW_LIVE(4,0)
+CW_LIVE(5,1)
+CW_LIVE(6,2)
+CW_LIVE(7,2)
+CW_LIVE(8,2)
+CW_TRY(1,0,0,1,CW_NONE)
+CW_AT(1,1,2)
+CW_DONE
+/*}cw*/int main(void){/*cw{*/CW_ENTRY(0);/*}cw*/a:/*cw{*/CW_LABEL(1)/*}cw*/;return 0;}";
+
+/// Ambient authority never at `a`; that of `RETURN` too.
+pub const STORED_POLICY: &str = "format = 1
+[[at]]
+label = \"a\"
+never = [\"amb\"]
 ";
 
 /// Two labels.

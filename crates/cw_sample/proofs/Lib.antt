@@ -1,2 +1,3 @@
 -- The proofs.
 mod Numbers
+mod Short

@@ -1,6 +1,7 @@
 -- The sample of a number n: a policy, and a source of n functions that call one another in a ring.
-use Rattle.std.specs.Prelude.{◌≡◌, ◌<◌, ◌≤◌, ◌⊎◌, ℕ, zero, suc, ◌+◌, List, [], ◌++◌, cond, nat_lt, codes}
+use Rattle.std.specs.Prelude.{◌≡◌, ◌<◌, ◌≤◌, ◌⊎◌, ℕ, zero, suc, ◌+◌, List, [], ◌++◌, Option, Some, None, cond, if◌then◌else◌, nat_lt, codes}
 use Rattle.std.specs.Fmt.{decimal}
+use Rattle.std.specs.Str.{bytes_eq}
 use Rattle.cw_sample.specs.declared.sample.SampleFault.{SampleFault}
 use Rattle.cw_sample.specs.declared.sample.SampleFault.TheVariants.{OutOfRange, NoMemory}
 
@@ -52,3 +53,12 @@ HasSample n = (0 < n) × (n ≤ 400)
 abbrev pub IsSampleFault : ℕ → SampleFault → Type 0
 IsSampleFault n OutOfRange = (n ≡ 0) ⊎ (400 < n)
 IsSampleFault n NoMemory = HasSample n
+
+-- the number from 1 to the last whose decimal, without leading zeros, a word is
+unfoldable pub number_up_to : (last : ℕ) → (word : List ℕ) → Option ℕ
+number_up_to zero word = None
+number_up_to (suc n) word = if bytes_eq word (decimal (suc n)) then Some (suc n) else number_up_to n word
+
+-- the number of a sample that a word tells
+abbrev pub sample_number : (word : List ℕ) → Option ℕ
+sample_number word = number_up_to 400 word

@@ -1,6 +1,6 @@
 //! The policy and the source of a sample.
 
-ghost use Rattle.std.specs.Prelude.{◌≡◌, ◌++◌, OnOk, IfOk, IfErr};
+ghost use Rattle.std.specs.Prelude.{◌≡◌, ◌≤◌, ◌++◌, length, OnOk, IfOk, IfErr};
 ghost use Rattle.cw_sample.specs.Samples.{sample_policy, prototype, next, definition, prototypes, definitions, main_line, sample_source, HasSample, IsSampleFault};
 ghost use Rattle.cw_sample.specs.declared.sample.SampleFault.TheVariants as sample;
 
@@ -101,10 +101,11 @@ fn source_text(alloc: Global, n: u32) -> Result<Vec<u8>, NoMemory>
 }
 
 /// The policy and the source of a number from 1 to 400: functions `f1` to `fN`, each of which calls the next one and the last one the
-/// first, and a `main` that calls `f1`, under a policy that splits `f1`.
+/// first, and a `main` that calls `f1`, under a policy that splits `f1`. The source has at most 262,144 bytes, as one that is read from a file.
 pub fn make_sample(alloc: Global, n: u32) -> Result<(Vec<u8>, Vec<u8>), SampleFault>
     ensures policy { IfOk result (λ texts. texts.0.items ≡ sample_policy) }
     ensures source { IfOk result (λ texts. texts.1.items ≡ sample_source n) }
+    ensures short { IfOk result (λ texts. length texts.1.items ≤ 262144) }
     ensures range { IfOk result (λ _. HasSample n) }
     ensures fault { IfErr result (IsSampleFault n) }
 {

@@ -1,18 +1,23 @@
 //! The number of a sample as a word of a command.
 
-ghost use Rattle.std.specs.Fmt.{decimal};
-ghost use Rattle.cw_lines.specs.Lines.{Reads};
-ghost use Rattle.cw_sample.specs.Samples.{HasSample};
+ghost use Rattle.std.specs.Prelude.{◌≡◌, IfSome};
+ghost use Rattle.cw_sample.specs.Samples.{sample_number, HasSample};
 
 use cw_lines::number_of;
 
 /// The number from 1 to 400 whose decimal, without leading zeros, a word is; none where it is that of none of them.
 pub fn sample_number(word: &[u8]) -> Option<u32>
-    ensures number { Reads HasSample decimal word.now result }
+    ensures number { result ≡ sample_number word.now }
+    ensures range { IfSome result HasSample }
 {
-    let number = number_of(word, 400)?;
-    if number == 0 {
-        return None;
+    match number_of(word, 400) {
+        None => None,
+        Some(number) => {
+            if number == 0 {
+                None
+            } else {
+                Some(number as u32)
+            }
+        }
     }
-    Some(number as u32)
 }

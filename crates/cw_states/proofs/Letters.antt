@@ -23,7 +23,7 @@ use Rattle.cw_states.specs.Masks.{HaveSame, met}
 use Rattle.cw_states.specs.Rights.{IsRightsState, caps_cmp}
 use Rattle.cw_states.specs.States.{IsCause, letters_below, letters_of, label_count}
 use Rattle.cw_states.specs.Tables.{tabled}
-use Rattle.cw_states.proofs.Members.{contains_none, contains_one, contains_first}
+use Rattle.cw_closure.proofs.Members.{contains_none, contains_one, contains_first}
 use Rattle.cw_states.proofs.Tabled.{tabled_length, tabled_at}
 
 letter_in : (rights : List Caps) (c : Caps) (label : ℕ) → Contains rights c → Contains (map (letter_of label) rights) (letter_of label c)

@@ -5,7 +5,6 @@ pub mod Growing
 pub mod Letters
 pub mod Listed
 pub mod Meaning
-pub mod Members
 pub mod Narrow
 pub mod Ordered
 pub mod Places

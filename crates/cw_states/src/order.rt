@@ -34,21 +34,35 @@ fn hold_number(hold: Hold) -> u32
     }
 }
 
-fn hold_numbers(holds: &[Hold; 8]) -> [u32; 8]
-    ensures { result ≡ map hold_number holds.now }
+/// Holds, descriptor by descriptor, by the first that differs.
+fn order_holds(a: &[Hold], b: &[Hold]) -> Ordering
+    ensures { result ≡ slice_cmp nat_cmp (map hold_number a.now) (map hold_number b.now) }
 {
-    let mut numbers = [0; 8];
-    for i in 0..8 {
-        numbers[i] = hold_number(holds[i]);
+    match a {
+        [] => {
+            if b.is_empty() {
+                Ordering::Equal
+            } else {
+                Ordering::Less
+            }
+        }
+        [first, rest @ ..] => match b {
+            [] => Ordering::Greater,
+            [other, others @ ..] => match hold_number(*first).cmp(&hold_number(*other)) {
+                Ordering::Equal => order_holds(rest, others),
+                differs => differs,
+            },
+        },
     }
-    numbers
 }
 
 fn order(a: &Caps, b: &Caps) -> Ordering
     ensures { result ≡ caps_cmp a.now b.now }
 {
-    let modes = mode_number(a.amb).cmp(&mode_number(b.amb));
-    modes.then(hold_numbers(&a.holds).cmp(&hold_numbers(&b.holds)))
+    match mode_number(a.amb).cmp(&mode_number(b.amb)) {
+        Ordering::Equal => order_holds(&a.holds, &b.holds),
+        differs => differs,
+    }
 }
 
 impl PartialEq for Ranked {

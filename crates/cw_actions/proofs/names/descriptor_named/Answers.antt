@@ -5,8 +5,8 @@ use Rattle.cw_rights.specs.Policies.{descriptor_of}
 use Rattle.cw_actions.proofs.Places.{seeks_found, seeks_none, position_map}
 use Rattle.cw_actions.proofs.names.descriptor_named.Goals as goal
 
-pub returns-then-eq : goal.returns-then-eq
-returns-then-eq c =
+pub returns-then-is_same : goal.returns-then-is_same
+returns-then-is_same c =
     let xs = c.args.policy.now.descriptors.items in
     let name = c.args.name.now in
     let q : Descriptor → Bool = λ d. bytes_eq name d.name.items in

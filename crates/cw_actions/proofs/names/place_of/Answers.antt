@@ -3,8 +3,8 @@ use Rattle.std.specs.Str.{bytes_eq}
 use Rattle.cw_actions.proofs.Places.{seeks_found, seeks_none, position_map}
 use Rattle.cw_actions.proofs.names.place_of.Goals as goal
 
-pub returns-then-eq : goal.returns-then-eq
-returns-then-eq c =
+pub returns-then-is_same : goal.returns-then-is_same
+returns-then-is_same c =
     let xs = c.args.names.now in
     let name = c.args.name.now in
     let q : Vec ℕ Global → Bool = λ n. bytes_eq name n.items in

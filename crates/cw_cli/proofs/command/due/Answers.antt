@@ -1,5 +1,6 @@
-use Rattle.std.proofs.Common.{◌≡◌, length, map, arith}
-use Rattle.cw_cli.proofs.Dues.{check_is_due, four_of, listing_is_due, one_of, play_is_due, refute_is_due, run_is_due, three_of, two_of, weave_is_due}
+use Rattle.std.proofs.Common.{◌≡◌, length, map, subst, arith}
+use Rattle.cw_commands.specs.Commands.{IsNumbered}
+use Rattle.cw_cli.proofs.Dues.{check_is_due, four_of, listing_is_due, one_of, none_of, play_is_due, refute_is_due, run_is_due, sample_is_due, three_of, two_of, weave_is_due}
 use Rattle.cw_cli.proofs.command.due.Goals as goal
 
 pub returns-in-Weave-len2 : goal.returns-in-Weave-len2
@@ -62,3 +63,12 @@ returns-in-Run-len3 c =
     run_is_due c.args.command (map (λ file. file.items) files) c.run_due.result policy.items text.items tape.items
     c.deref-in-Run-len3.result.now c.deref-in-Run-len3-2.result.now c.deref-in-Run-len3-3.result.now c.in-Run-len3.is-0 are
     c.deref-in-Run-len3.ensures.value c.deref-in-Run-len3-2.ensures.value c.deref-in-Run-len3-3.ensures.value c.run_due.ensures.due
+
+pub sample_due-requires : goal.sample_due-requires
+sample_due-requires c = subst IsNumbered c.in-Sample-len0.is-0 c.requires.numbered
+
+pub returns-in-Sample-len0 : goal.returns-in-Sample-len0
+returns-in-Sample-len0 c =
+    let files = c.args.files.now in
+    let many : length files ≡ 0 = omega (arith, c.in-Sample-len0.len_below) in
+    sample_is_due c.args.command (map (λ file. file.items) files) c.sample_due.result c.in-Sample-len0.number c.in-Sample-len0.is-0 (none_of (λ file. file.items) files many) c.sample_due.ensures.due

@@ -3,15 +3,34 @@ use Rattle.cw_rights.specs.declared.policy.Policy.{Policy}
 use Rattle.cw_rights.specs.Policies.{policy_of}
 use Rattle.cw_syntax.specs.Trees.{file_of}
 use Rattle.cw_certs.specs.Strategies.{strategy_of}
+use Rattle.cw_least.specs.Strategies.{rows_of}
 use Rattle.cw_product.specs.Product.{game_of}
 use Rattle.cw_strategies.specs.StrategyText.{strategy_text}
+use Rattle.cw_cli.proofs.Counted.{AreKept, are_numbers}
 use Rattle.cw_cli.proofs.Weaves.{IsMadeStrategy, is_refuted}
 use Rattle.cw_cli.proofs.verdict.refuted.Goals as goal
 
 pub returns-in_ok-text-in-Ok : goal.returns-in_ok-text-in-Ok
 returns-in_ok-text-in-Ok c =
+    let source = c.args.checked.now.source.now in
+    let file = file_of c.args.checked.now.program in
     let game = c.args.game.now in
+    let whole = policy_of game.states.policy in
     let strategy = strategy_of c.in-Ok.strategy in
     let spelled = c.in_ok-text-in-Ok.ensures ∙ ap (λ (p : Policy). strategy_text p.format strategy) c.policy.ensures in
     let made : IsMadeStrategy (game_of game) strategy = record { is_least = c.in-Ok.ensures.least; ascend = c.in-Ok.ensures.ascend; few = c.in-Ok.ensures.few; good = c.in-Ok.ensures.good } in
-    inr (is_refuted (policy_of game.states.policy) c.args.checked.now.source.now (file_of c.args.checked.now.program) (game_of game) strategy c.in_ok-text-in-Ok.text.items c.requires.is_game spelled made)
+    let kept : AreKept game c.args.solved.now c.make.result (rows_of strategy) = record {
+      same = c.requires.solved;
+      needed = c.contexts_are_needed.ensures;
+      points = c.make.ensures.points;
+      positions = c.make.ensures.positions;
+      states = c.make.ensures.states;
+      contexts = c.make.ensures.contexts;
+      cells = c.make.ensures.cells;
+      are_rows = c.make.ensures.rows ∙ c.strategy_rows.ensures;
+    } in
+    inr (
+      is_refuted whole source file (game_of game) strategy c.in_ok-text-in-Ok.text.items c.requires.is_game spelled made,
+      kept.are_rows,
+      are_numbers game c.args.solved.now c.make.result (rows_of strategy) whole source file c.requires.graph kept,
+    )

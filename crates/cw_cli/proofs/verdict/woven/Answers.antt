@@ -8,7 +8,9 @@ use Rattle.cw_model.specs.Boards.{problem_of}
 use Rattle.cw_points.specs.Graphs.{IsGraph}
 use Rattle.cw_product.specs.Product.{game_of}
 use Rattle.cw_emit.specs.Woven.{Stands}
+use Rattle.cw_lazy.specs.Lazy.{table_rows}
 use Rattle.cw_source.proofs.Marking.{marks_in_order}
+use Rattle.cw_cli.proofs.Counted.{AreKept, are_numbers}
 use Rattle.cw_cli.proofs.Refused.{if_ok}
 use Rattle.cw_cli.proofs.Weaves.{IsMadeTable, IsWritten, is_sound, is_woven}
 use Rattle.cw_cli.proofs.verdict.woven.Goals as goal
@@ -37,7 +39,21 @@ returns-in_ok-text-in-Ok c =
     let written : IsWritten whole source marks table bytes = record { stands = stands; cuts = c.in_ok-text-in-Ok.ensures.cut } in
     let made : IsMadeTable (game_of game) table = record { is_lazy = c.in-Ok.ensures.lazy; ascends = c.in-Ok.ensures.ascends; few = c.in-Ok.ensures.few; good = c.in-Ok.ensures.good; lost = c.in-Ok.ensures.lost } in
     let sound = is_sound (problem_of whole source file) (game_of game) table c.requires.is_game made.good c.requires.made.valid.few_limits in
-    inr (is_woven whole source file (game_of game) marks table bytes c.requires.reads c.requires.is_game same written made sound)
+    let kept : AreKept game c.args.solved.now c.make.result (table_rows table) = record {
+      same = c.requires.solved;
+      needed = c.contexts_are_needed.ensures;
+      points = c.make.ensures.points;
+      positions = c.make.ensures.positions;
+      states = c.make.ensures.states;
+      contexts = c.make.ensures.contexts;
+      cells = c.make.ensures.cells;
+      are_rows = c.make.ensures.rows ∙ c.table_rows.ensures;
+    } in
+    inr (
+      is_woven whole source file (game_of game) marks table bytes c.requires.reads c.requires.is_game same written made sound,
+      kept.are_rows,
+      are_numbers game c.args.solved.now c.make.result (table_rows table) whole source file c.requires.graph kept,
+    )
 
 pub returns-in-Err-TooManyRows : goal.returns-in-Err-TooManyRows
 returns-in-Err-TooManyRows c =

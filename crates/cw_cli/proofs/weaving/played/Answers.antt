@@ -10,6 +10,7 @@ use Rattle.cw_opens.proofs.Stated.{read_programs_assign}
 use Rattle.cw_points.specs.Graphs.{IsGraph}
 use Rattle.cw_product.specs.Product.{game_of}
 use Rattle.cw_source.proofs.Runnable.{runnable}
+use Rattle.cw_cli.specs.Counting.{IsCounted}
 use Rattle.cw_cli.specs.Refuting.{IsGame}
 use Rattle.cw_cli.specs.Verdicts.{AfterGame}
 use Rattle.cw_cli.proofs.Made.{is_made}
@@ -57,7 +58,7 @@ returns-in-Ok c =
     let is_game = c.in-Ok.ensures.is_game source file c.requires.graph runs (read_programs_assign source file c.requires.reads) in
     let is : IsGame whole c.args.graph.now held = record { graph_is = c.in-Ok.ensures.graph; policy_is = policy_is; lists = c.in-Ok.ensures.lists } in
     let made = is_made held whole c.args.graph.now c.in-Ok.ensures.graph policy_is c.requires.valid (record { source = source; file = file; runnable = runs; drawn = c.requires.graph }) (leaves_main (names_of whole) whole source file c.args.graph.now c.requires.reads c.requires.graph) c.in-Ok.ensures.lists c.in-Ok.ensures.few c.in-Ok.ensures.pairs in
-    if_ok c.judged.result c.judged.ensures (λ o d. inr (held, is, made, is_game, subst (λ (p : PlainPolicy). AfterGame p source file (game_of held) (due_of o)) policy_is d))
+    if_ok c.judged.result c.judged.ensures (λ o d. inr (held, is, made, is_game, subst (λ (p : PlainPolicy). AfterGame (IsCounted c.judged.new.numbers p source file) (game_of held) (due_of o)) policy_is d))
 
 pub returns-in-Err : goal.returns-in-Err
 returns-in-Err c = if_ok c.game_refusal.result c.game_refusal.ensures (λ o p. inl (c.in-Err.fault, p.0, c.in-Err.ensures.cause, p.1))

@@ -1,15 +1,9 @@
-use Rattle.std.proofs.Common.{inr, subst}
-use Rattle.cw_rights.specs.Policies.{policy_of}
-use Rattle.cw_syntax.specs.Trees.{file_of}
 use Rattle.cw_commands.specs.Outcomes.{due_of}
-use Rattle.cw_cli.specs.Weaving.{AfterPair}
+use Rattle.cw_cli.proofs.Counted.{is_weave_due}
 use Rattle.cw_cli.proofs.Refused.{if_ok}
 use Rattle.cw_cli.proofs.weaving.weave_due.Goals as goal
 
-pub returns-in-Ok : goal.returns-in-Ok
-returns-in-Ok c =
-    let whole = policy_of c.in-Ok.pair.policy in
-    let file = file_of c.in-Ok.pair.checked.program in
-    record {
-      due = if_ok c.fitted.result c.fitted.ensures (λ o d. inr (whole, file, c.in-Ok.ensures.read, subst (λ s. AfterPair s whole file (due_of o)) c.in-Ok.ensures.source d));
-    }
+pub returns : goal.returns
+returns c = record {
+  due = if_ok c.counted_due.result c.counted_due.ensures.due (λ o d. is_weave_due c.counted_due.new.numbers c.args.policy.now c.args.source.now (due_of o) d);
+}

@@ -11,4 +11,5 @@ returns-then-most-len-clause-many g c =
 pub returns-clause-reached : goal.returns-clause-reached
 returns-clause-reached g c =
     let l : length c.search.new.seen.items ≤ c.args.most = search rules in
-    searched_all g.K.Ord.cmp (g.S.Steps.after c.args.steps.now) c.args.starts.now c.search.new.seen.items c.search.new.set.keys c.args.most c.in_ok-keys.keys.items c.in_ok-search.ensures.searched l c.in_ok-keys.ensures.items c.in_ok-keys.ensures.order
+    searched_all g.K.Ord.cmp (g.S.Steps.after c.args.steps.now) c.args.starts.now c.search.new.seen.items c.search.new.set.keys c.args.most c.in_ok-keys.keys.items
+    c.in_ok-search.ensures.searched l c.in_ok-keys.ensures.items c.in_ok-keys.ensures.order

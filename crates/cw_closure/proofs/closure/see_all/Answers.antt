@@ -13,5 +13,6 @@ loop-key-preserved g c =
     let all : take (i + 1) keys ≡ take i keys ++ key ∷ [] = take_more keys i key lt ∙ ap (λ y. take i keys ++ (y ∷ [])) (sym c.key-item.is) in
     record {
       same = c.in_ok-see.ensures.same;
-      adds = subst (Adds c.args.seen.now.items c.see.new.seen.items) (sym all) (adds_more c.args.seen.now.items c.loop-key.seen.items c.see.new.seen.items (take i keys) (key ∷ []) c.loop-key.invariant.adds c.in_ok-see.ensures.more);
+      adds = subst (Adds c.args.seen.now.items c.see.new.seen.items) (sym all)
+          (adds_more c.args.seen.now.items c.loop-key.seen.items c.see.new.seen.items (take i keys) (key ∷ []) c.loop-key.invariant.adds c.in_ok-see.ensures.more);
     }

@@ -1,9 +1,14 @@
+use Rattle.std.proofs.Common.{Option, None, Some}
+use Rattle.std.specs.Option.{IfNone}
 use Rattle.std.proofs.lemmas.Option.{IfSome_then}
 use Rattle.cw_rights.specs.Policies.{policy_of}
-use Rattle.cw_states.proofs.Members.{IfNone_then}
 use Rattle.cw_states.proofs.Ordered.{ranked_exact}
 use Rattle.cw_states.proofs.Growing.{exactly_caps, more_caps}
 use Rattle.cw_states.proofs.growth.rights_states.Goals as goal
+
+IfNone_then : {A : Type 0} (o : Option A) {X Y : Type 0} → IfNone o X → (X → Y) → IfNone o Y
+IfNone_then None h f = f h
+IfNone_then (Some x) h f = h
 
 pub closed_up_to-requires-clause-exact : goal.closed_up_to-requires-clause-exact
 closed_up_to-requires-clause-exact c = ranked_exact

@@ -1,6 +1,7 @@
 //! Whole runs of `play` and `run` over files and sinks in memory. The traces are those of a second program in another language.
-use crate::capweave;
-use crate::tests::{NEVER_AMBIENT, REFUSED_ENTER, shelf_of, words};
+use crate::given::{shelf_of, words};
+use crate::texts::{NEVER_AMBIENT, REFUSED_ENTER};
+use cw_cli::capweave;
 use cw_io::{SureShelf, SureSink};
 use std::alloc::Global;
 use std::process::Abort;

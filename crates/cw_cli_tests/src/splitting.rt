@@ -1,6 +1,6 @@
 //! Runs of the command line under policies that split functions off. The texts are another implementation's.
-use crate::capweave;
-use crate::tests::{files, words};
+use crate::given::{files, words};
+use cw_cli::capweave;
 use cw_io::{SureShelf, SureSink};
 use std::test::Fail;
 

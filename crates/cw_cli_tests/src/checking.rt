@@ -1,6 +1,7 @@
 //! Whole runs of `check` over files and sinks in memory.
-use crate::capweave;
-use crate::tests::{NEVER_AMBIENT, files, words};
+use crate::given::{files, words};
+use crate::texts::NEVER_AMBIENT;
+use cw_cli::capweave;
 use cw_io::{SureShelf, SureSink};
 use std::alloc::{AllocError, Global};
 use std::process::Abort;

@@ -1,0 +1,243 @@
+#!/usr/bin/env python3
+"""Runs the program on files at each limit, and on files one past it, and says what came, in what time and memory.
+
+    python3 bench/limits.py crates/capweave/out/capweave [--against "COMMAND"] [--only WORD] [--seconds 900]
+
+Each quantity of the table of limits in docs/COMMANDS.md has pairs of files: with the first the quantity is at its number, and the answer is one that
+speaks of no limit; with the second it is past it, and the answer is status 5 with the line `limit: QUANTITY`. Where no count just one past the limit
+exists (states come in products), the next one that does stands. With --against the answers of the other command have to be the same. Want of memory is
+told by no run, since there is enough. What is answered otherwise is marked, and the exit status is then 1. --only takes the quantities whose name has the
+word. Needs Linux, Python 3.8 and no package.
+"""
+import argparse
+import os
+import shlex
+import sys
+import tempfile
+
+from running import prepared, ran, written
+
+RIGHTS = ["CAP_READ", "CAP_WRITE", "CAP_SEEK", "CAP_FSTAT", "CAP_FTRUNCATE", "CAP_FSYNC", "CAP_FCNTL", "CAP_IOCTL", "CAP_EVENT", "CAP_ACCEPT", "CAP_LISTEN", "CAP_LOOKUP"]
+NEVER_TRUE = "a[amb,!amb]"
+EMPTY = "int main(void){return 0;}"
+ONE_LABEL = "int main(void){a:;return 0;}"
+
+
+def policy(*parts, version=1):
+    return "format = %d\n" % version + "".join(parts)
+
+
+def rules(*bad):
+    return "".join('[[rule]]\nname = "r%d"\nbad = "%s"\n' % pair for pair in enumerate(bad))
+
+
+def at(label, key, *tests):
+    return '[[at]]\nlabel = "%s"\n%s = [%s]\n' % (label, key, ", ".join('"%s"' % test for test in tests))
+
+
+def descriptors(*names):
+    return "".join('[[descriptor]]\nname = "%s"\n' % name for name in names)
+
+
+def limits(name, count):
+    """Limits of a descriptor to so many different single rights."""
+    return "".join('[[limit]]\ndescriptor = "%s"\nkeep = ["%s"]\n' % (name, right) for right in RIGHTS[:count])
+
+
+def cycles(first, second):
+    """Rules that no word breaks, with as many states as the least common multiple, the start, and, where another label stands, one more."""
+    return rules(*("(%s)* %s" % (" ".join("a" * length), NEVER_TRUE) for length in (first, second)))
+
+
+def declared(count):
+    return "".join("int v%d;" % number for number in range(count))
+
+
+def variables(count):
+    return descriptors(*("v%d" % number for number in range(count)))
+
+
+def padded(text, size, filler):
+    return text + filler * (size - len(text))
+
+
+def weave(text, source):
+    return "weave", {"p": text, "s": source}
+
+
+def refute(text, source, strategy):
+    return "refute", {"p": text, "s": source, "t": strategy}
+
+
+def strategy(rows, version=1, states=2):
+    return "capweave strategy %d\nstates %d\n" % (version, states) + "".join(rows) + "end\n"
+
+
+def table(rows):
+    return "/*cw{*/\n#include \"capweave.h\"\n#define CW_LIMITS(X)\nCW_TABLE(1,2,0)\nCW_MEM(0,0,0x3)\n" + "".join(rows) + "CW_DONE\n/*}cw*/int main(void){/*cw{*/CW_ENTRY(0);/*}cw*/return 0;}"
+
+
+def nested(before, middle, after, count):
+    return "int main(void){" + before * count + middle[0] + after * count + middle[1:] + "return 0;}"
+
+
+class Woven:
+    """A run of `check` or `run` on what `weave` writes for a pair, edited."""
+
+    def __init__(self, text, source, edit=lambda woven: woven, tape=None):
+        self.text, self.source, self.edit, self.tape = text, source, edit, tape
+
+
+def bytes_of_files():
+    for command in ("weave", "graph"):
+        yield "source bytes", [(command, {"p": policy(), "s": padded(EMPTY, size, " ")}) for size in (262_144, 262_145)]
+    yield "source bytes", [Woven(policy(), padded(EMPTY, 262_144, " "), lambda woven, more=more: woven + more) for more in (b"", b" ")]
+    yield "policy bytes", [weave(padded(policy() + "#", size, "x"), EMPTY) for size in (65_536, 65_537)]
+    for version, most in ((1, 16_777_216), (2, 33_554_432)):
+        text = policy(version=version)
+        yield "file bytes", [refute(text, EMPTY, " " * size) for size in (most, most + 1)]
+        yield "file bytes", [("check", {"p": text, "t": " " * size}) for size in (most, most + 1)]
+        yield "file bytes", [Woven(text, EMPTY, tape=padded(" on grant" * (most // 9), size, "\n")) for size in (most, most + 1)]
+    yield "file bytes", [refute(policy(version=version), EMPTY, " " * 16_777_217) for version in (2, 1)]
+
+
+def parts_of_policies():
+    yield "descriptors", [weave(policy(descriptors("0", "1", "2"), variables(count)), declared(count) + EMPTY) for count in (5, 6)]
+    equal = '[[limit]]\ndescriptor = "0"\nkeep = ["CAP_READ"]\n'
+    yield "limits", [weave(policy('[[descriptor]]\nname = "0"\nrights = ["CAP_READ"]\n', equal * count), EMPTY) for count in (12, 13)]
+    yield "rules", [weave(policy(rules(*[NEVER_TRUE] * count)), ONE_LABEL) for count in (32, 33)]
+    yield "rule positions", [weave(policy(rules(" ".join("a" * count))), ONE_LABEL) for count in (63, 64)]
+    held = ["%s%s:%s" % (truth, name, right) for name in "01" for right in RIGHTS for truth in ("", "!")]
+    tests = [at("a", "never", *held[:30]) + rules("a"), at("a", "never", *held[:32])]
+    yield "rule positions", [weave(policy(descriptors("0", "1"), text), ONE_LABEL) for text in tests]
+    yield "nesting", [weave(policy(rules("(" * count + NEVER_TRUE + ")" * count)), ONE_LABEL) for count in (64, 65)]
+
+
+def parts_of_sources():
+    statements = ("{", "}"), ("if(c)", ""), ("if(c);else ", ""), ("while(c)", ""), ("do ", "while(c);"), ("for(;;)", "")
+    expressions = ("(", ")"), ("- ", ""), ("!", ""), ("x+", ""), ("x=", ""), ("a[", "]"), ("sizeof ", "")
+    for before, after in statements + expressions:
+        both = [nested(before, ";" if (before, after) in statements else "x;", after, count) for count in (63, 64)]
+        for command in ("graph", "weave"):
+            yield "nesting", [(command, {"p": policy(), "s": source}) for source in both]
+    yield "nesting", [Woven(policy(), EMPTY, lambda woven, count=count: woven.replace(b"return", b"{" * count + b";" + b"}" * count + b"return")) for count in (63, 64)]
+    for command in ("graph", "weave"):
+        functions = ["".join("void f%d(void){}" % number for number in range(count)) + EMPTY for count in (511, 512)]
+        yield "functions", [(command, {"p": policy(), "s": source}) for source in functions]
+        labels = ["int main(void){" + "".join("l%d:;" % number for number in range(count)) + "return 0;}" for count in (256, 257)]
+        yield "labels", [(command, {"p": policy(), "s": source}) for source in labels]
+        points = ["int main(void){" + ";" * count + "return 0;}" for count in (8_189, 8_190)]
+        yield "points", [(command, {"p": policy(), "s": source}) for source in points]
+    yield "points", [refute(policy(), source, strategy([])) for source in points]
+    yield "points", [Woven(policy(), points[0], lambda woven, more=more: woven.replace(b"return", more + b"return")) for more in (b"", b";")]
+
+
+def states():
+    at_128, at_132 = variables(6), variables(3) + limits("v0", 9) + limits("v1", 1)
+    pairs = [(policy(at_128), declared(6) + EMPTY), (policy(at_132), declared(3) + EMPTY)]
+    yield "rights states", [weave(*pair) for pair in pairs]
+    yield "rights states", [refute(*pair, strategy([])) for pair in pairs]
+    loops = ["int main(void){while(c){a:;%s}return 0;}" % more for more in ("", "b:;")]
+    yield "policy states", [weave(policy(cycles(7, 9)), source) for source in loops]
+    yield "policy states", [refute(policy(cycles(7, 9)), source, strategy([])) for source in loops]
+    products = [(1, 3, 7, 9), (1, 5, 6, 7)], [(2, 7, 7, 9), (2, 8, 7, 8)]
+    for pair in products:
+        texts = [policy(descriptors("0"), limits("0", count), cycles(first, second), version=version) for version, count, first, second in pair]
+        yield "product states", [weave(text, loops[0]) for text in texts]
+        yield "product states", [refute(text, loops[0], strategy([], version=pair[0][0])) for text in texts]
+    text = policy(descriptors("0"), limits("0", 3), cycles(7, 9))
+    sources = ["int main(void){a:;" + ";" * count + "return 0;}" for count in (2_027, 2_028)]
+    yield "positions times states", [weave(text, source) for source in sources]
+    yield "positions times states", [refute(text, source, strategy([])) for source in sources]
+
+
+def cells():
+    """One function that is wanted in eleven contexts, and a loop in which `main` may stay."""
+    text = policy(*('[[descriptor]]\nname = "%s"\nrights = ["CAP_READ"]\n' % name for name in ("0", "1", "2", "v")))
+    text += "".join('[[limit]]\ndescriptor = "%d"\nkeep = []\n' % number for number in range(3))
+    text += "".join(at("l%d" % number, "must", "%d:CAP_READ" % number) for number in range(3)) + at("l3", "must", "amb")
+    called = "void f(int x){if(c){for(;;){" + "".join("x%d:;" % number for number in range(240)) + ";" * 3_536 + "}}}"
+    calls = "".join("f(1);l%d:;" % number for number in range(4))
+    yield "cells", [weave(text, "int v;" + called + "int main(void){if(c){for(;;){" + ";" * count + "}}" + calls + "return 0;}") for count in (19, 20)]
+
+
+def rows():
+    """A table whose points are live with the sixteen outcomes of four opens; a strategy against 54 choices of the weaver; and files."""
+    opens = "".join("v%d=o();" % number for number in range(4))
+    sources = [declared(4) + "int main(void){" + ";" * count + opens + ";" * 4_091 + "return 0;}" for count in (0, 1)]
+    yield "rows", [weave(policy(variables(4)), source) for source in sources]
+    yield "rows", [Woven(policy(variables(4)), sources[0], lambda woven, more=more: woven.replace(b"CW_DONE", more + b"CW_DONE")) for more in (b"", b"CW_BACK(65535,0,0,0,0)\n")]
+    text = policy(variables(3), *('[[limit]]\ndescriptor = "v%d"\nkeep = [%s]\n' % (number, kept) for number in range(3) for kept in ('"CAP_READ", "CAP_WRITE"', '"CAP_READ"')))
+    text += at("a", "never", "amb") + at("b", "must", "amb") + at("d", "must", "amb")
+    opens = "".join("v%d=o();" % number for number in range(3))
+    yield "rows", [weave(text, declared(3) + "int main(void){if(c){d:;}" + ";" * count + opens + "x:;" + ";" * 1_185 + "a:;b:;return 0;}") for count in (28, 29)]
+    for version in (1, 2):
+        made = [["%d 0 0 0x0 bad\n" % number for number in range(count)] for count in (65_536, 65_537)]
+        yield "rows", [refute(policy(version=version), EMPTY, strategy(many, version)) for many in made]
+    backs = ["%d 0 0 0x0 into 0 0=0\n" % number for number in range(32_768)]
+    yield "rows", [refute(policy(), EMPTY, strategy(backs + more)) for more in ([], ["32768 0 0 0x0 bad\n"])]
+    live = ["CW_LIVE(%d,0)\n" % number for number in range(65_536)]
+    yield "rows", [("check", {"p": policy(), "t": table(live[:count])}) for count in (65_535, 65_536)]
+
+
+def gathered():
+    for make in (bytes_of_files, parts_of_policies, parts_of_sources, states, cells, rows):
+        yield from make()
+
+
+class Run:
+    """The runs of one command, in a folder."""
+
+    def __init__(self, asked):
+        self.asked, self.wrong = asked, 0
+        self.folder = tempfile.mkdtemp(prefix="limits-")
+        self.commands = [shlex.split(asked.program)] + ([shlex.split(asked.against)] if asked.against else [])
+
+    def made(self, case):
+        """The words and files of a case."""
+        if not isinstance(case, Woven):
+            return case
+        written(self.folder, {"p": case.text, "s": case.source})
+        woven = ran(self.commands[-1] + ["weave", "p", "s"], self.folder, seconds=self.asked.seconds)
+        files = {"p": case.text, "t": case.edit(woven.out)}
+        if case.tape is None:
+            return "check", files
+        return "run", dict(files, u=case.tape)
+
+    def case(self, quantity, case, past):
+        command, files = self.made(case)
+        if command == "graph":
+            files = {"s": files["s"]}
+        written(self.folder, files)
+        answers = [ran(one + [command] + list(files), self.folder, seconds=self.asked.seconds) for one in self.commands]
+        ours = answers[0]
+        told = (ours.status, ours.out, ours.note)
+        good = told == (5, b"", b"limit: %s\n" % quantity.encode()) if past else ours.status not in (None, 5, 8) and ours.status >= 0
+        same = all((other.status, other.out, other.note) == told for other in answers[1:])
+        first = (ours.note or ours.out)[:48].split(b"\n")[0].decode("ascii", "replace")
+        times = " ".join("%9.2f s %9d KiB" % (answer.seconds, answer.kilobytes) for answer in answers)
+        mark = "" if good and same else "  <-- WRONG" if not good else "  <-- the other says %s" % (answers[1].note or answers[1].out)[:60]
+        self.wrong += bool(mark)
+        print("%-23s %-7s %-4s status %s %-40s %s%s" % (quantity, command, "past" if past else "at", ours.status, first, times, mark), flush=True)
+
+
+def main():
+    read = argparse.ArgumentParser(description=__doc__, formatter_class=argparse.RawDescriptionHelpFormatter)
+    read.add_argument("program")
+    read.add_argument("--against")
+    read.add_argument("--only", default="")
+    read.add_argument("--seconds", type=float, default=900)
+    run = Run(read.parse_args())
+    prepared()
+    pairs = 0
+    for quantity, cases in gathered():
+        if run.asked.only in quantity:
+            pairs += 1
+            for past, case in enumerate(cases):
+                run.case(quantity, case, bool(past))
+    print(pairs, "pairs,", run.wrong or "none", "wrong")
+    return 1 if run.wrong else 0
+
+
+if __name__ == "__main__":
+    sys.exit(main())

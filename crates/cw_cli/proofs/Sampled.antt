@@ -1,0 +1,37 @@
+-- What is due for a sample, from what is due for its texts.
+use Rattle.std.proofs.Common.{◌≡◌, ℕ, List, subst, sym, refl}
+use Rattle.cw_rights.specs.Policies.{PlainPolicy}
+use Rattle.cw_syntax.specs.Trees.{File}
+use Rattle.cw_game.specs.Games.{Game}
+use Rattle.cw_sample.specs.Samples.{sample_policy, sample_source}
+use Rattle.cw_commands.specs.declared.outcome.Cause.{Cause}
+use Rattle.cw_commands.specs.declared.outcome.Reply.{Reply}
+use Rattle.cw_commands.specs.Outcomes.{Due, Told, Refused}
+use Rattle.cw_cli.specs.declared.numbers.Numbers.{Numbers}
+use Rattle.cw_cli.specs.Counting.{IsCounted}
+use Rattle.cw_cli.specs.Sampling.{summary, IsSampleDue, IsSummed}
+use Rattle.cw_cli.specs.Weaving.{Weaves}
+use Rattle.cw_cli.proofs.Counted.{weaves_by, weaves_told}
+
+module _ (number : ℕ) (numbers : Numbers) where
+  abbrev Counted : PlainPolicy → File → Game → Due → Type 0
+  Counted whole file = IsCounted numbers whole (sample_source number) file
+
+  -- of the texts that code has, which are the sample's
+  of_texts : (policy source : List ℕ) (due : Due) → policy ≡ sample_policy → source ≡ sample_source number
+      → Weaves (λ whole file. IsCounted numbers whole source file) policy source due → Weaves Counted sample_policy (sample_source number) due
+  of_texts policy source due same_policy same_source h =
+      let one = subst (λ (s : List ℕ). Weaves (λ whole file. IsCounted numbers whole s file) policy s due) same_source h in
+      subst (λ (p : List ℕ). Weaves Counted p (sample_source number) due) same_policy one
+
+  pub refused_due : (policy source : List ℕ) (cause : Cause) (line : List ℕ) → policy ≡ sample_policy → source ≡ sample_source number
+      → Weaves (λ whole file. IsCounted numbers whole source file) policy source (Refused cause line) → IsSampleDue number (Refused cause line)
+  refused_due policy source cause line same_policy same_source h =
+      weaves_by Counted (IsSummed number) sample_policy (sample_source number) (Refused cause line) (λ whole file g never. absurd never)
+      (of_texts policy source (Refused cause line) same_policy same_source h)
+
+  pub summed_due : (policy source : List ℕ) (r : Reply) (text told : List ℕ) → policy ≡ sample_policy → source ≡ sample_source number → told ≡ summary number numbers r
+      → Weaves (λ whole file. IsCounted numbers whole source file) policy source (Told r text) → IsSampleDue number (Told r told)
+  summed_due policy source r text told same_policy same_source is h =
+      weaves_told Counted (IsSummed number) sample_policy (sample_source number) r text told (λ whole file g counted. (text, numbers, counted, is))
+      (of_texts policy source (Told r text) same_policy same_source h)

@@ -1,0 +1,23 @@
+//! Tests of the command line: whole runs over files and sinks in memory, with values from outside.
+#![tactic(auto)]
+
+#[cfg(test)]
+mod checking;
+#[cfg(test)]
+mod faults;
+#[cfg(test)]
+mod given;
+#[cfg(test)]
+mod listing;
+#[cfg(test)]
+mod playing;
+#[cfg(test)]
+mod refuting;
+#[cfg(test)]
+mod sampling;
+#[cfg(test)]
+mod splitting;
+#[cfg(test)]
+mod texts;
+#[cfg(test)]
+mod weaving;

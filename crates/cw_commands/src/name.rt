@@ -1,0 +1,71 @@
+//! The names of the commands.
+
+ghost use Rattle.std.specs.Prelude.{◌≡◌};
+ghost use Rattle.cw_commands.specs.Commands.{count_of, named_by, usage_of};
+
+/// The name of a command.
+#[derive(Clone, Copy, Debug, PartialEq, Eq, Drop)]
+pub enum Name {
+    Weave,
+    Graph,
+    Refute,
+    Check,
+    Play,
+    Run,
+    Sample,
+}
+
+/// The name that a word is.
+pub(crate) fn named_by(word: &str) -> Option<Name>
+    ensures { result ≡ named_by word.now }
+{
+    if word == "weave" {
+        Some(Name::Weave)
+    } else if word == "graph" {
+        Some(Name::Graph)
+    } else if word == "refute" {
+        Some(Name::Refute)
+    } else if word == "check" {
+        Some(Name::Check)
+    } else if word == "play" {
+        Some(Name::Play)
+    } else if word == "run" {
+        Some(Name::Run)
+    } else if word == "sample" {
+        Some(Name::Sample)
+    } else {
+        None
+    }
+}
+
+impl Name {
+    /// How many words stand behind it.
+    pub(crate) fn count(self) -> usize
+        ensures { result ≡ count_of self }
+    {
+        match self {
+            Name::Weave => 2,
+            Name::Graph => 1,
+            Name::Refute => 3,
+            Name::Check => 2,
+            Name::Play => 4,
+            Name::Run => 3,
+            Name::Sample => 1,
+        }
+    }
+
+    /// The words of its command, as the line on usage tells them.
+    pub(crate) fn usage(self) -> &'static [u8]
+        ensures { result.now ≡ usage_of self }
+    {
+        match self {
+            Name::Weave => b"weave POLICY SOURCE",
+            Name::Graph => b"graph SOURCE",
+            Name::Refute => b"refute POLICY SOURCE STRATEGY",
+            Name::Check => b"check POLICY WOVEN",
+            Name::Play => b"play POLICY SOURCE STRATEGY TAPE",
+            Name::Run => b"run POLICY WOVEN TAPE",
+            Name::Sample => b"sample N",
+        }
+    }
+}
