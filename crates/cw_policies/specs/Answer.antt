@@ -1,5 +1,5 @@
 -- The policy that a text spells, and the fault of one that spells none.
-use Rattle.std.specs.Prelude.{◌≡◌, ◌⊎◌, ℕ, ◌+◌, ◌≤◌, List, [], codes, if◌then◌else◌, Option, Some, None, length, nat_lt, sum_by}
+use Rattle.std.specs.Prelude.{◌≡◌, ◌≢◌, ◌⊎◌, ℕ, ◌+◌, ◌≤◌, List, [], codes, if◌then◌else◌, Option, Some, None, length, nat_lt, sum_by}
 use Rattle.std.specs.Str.{IsUtf8}
 use Rattle.toml.specs.Data.{Members}
 use Rattle.toml.specs.Parse.{parse_document}
@@ -95,6 +95,10 @@ SpellsOnePolicy = (text : List ℕ) (policy other : PlainPolicy) → Spells text
 -- a text that is refused, for another cause than want of memory, spells none
 abbrev pub RefusedSpellsNone : Type 0
 RefusedSpellsNone = (text : List ℕ) (policy : PlainPolicy) (f : PolicyFault) → Spells text policy → IsFault text f → f ≡ NoMemory
+
+-- and it is refused by one fault
+abbrev pub RefusedHasOneFault : Type 0
+RefusedHasOneFault = (text : List ℕ) (f g : PolicyFault) → f ≢ NoMemory → g ≢ NoMemory → IsFault text f → IsFault text g → f ≡ g
 
 -- a policy of format 1 detaches no function
 abbrev pub FormatOneDetachesNone : Type 0

@@ -50,14 +50,15 @@ module _ (g : Game) (x y : PlainPolicy)
     left_out = λ z s t. lost_same g x y forth call.back (returned g.states (kept_at call.split q) z) (has e) (f.left_out z s t);
   }
 
-  -- what is live stays so, if it never goes on
-  module _ (stays : (p q e : ℕ) (pair : ℕ × ℕ) → IsLive (under g x) p q e → resumed (under g x) p q ≡ Some pair → (IsLost (under g x) pair.0 pair.1 (has e) → ⊥) → ⊥) where
+  -- what is live stays so, if it goes on alike
+  module _ (on : (p q e : ℕ) (pair : ℕ × ℕ) → IsLive (under g x) p q e → IsLive (under g y) p q e → resumed (under g x) p q ≡ Some pair
+      → (IsLost (under g x) pair.0 pair.1 (has e) → ⊥) → IsLive (under g y) pair.0 pair.1 e) where
     pub live_same : (p q e : ℕ) → IsLive (under g x) p q e → IsLive (under g y) p q e
     live_same p q e begins = begins
     live_same r s t (skips p q e j i a live es n) = skips p q e j i a (live_same p q e live) es (λ l. n (lost_same g y x back (p + 2) q (has e) l))
     live_same r s t (tries p q e j i a live es l) = tries p q e j i a (live_same p q e live) es (lost_same g x y forth (p + 2) q (has e) l)
     live_same r s t (moves p q e by next live w c l) = moves p q e by next (live_same p q e live) w c (sym (leads_same g x y forth p q [] (slice_get g.spots p) by) ∙ l)
-    live_same r s t (goes_on p q e pair live is n) = absurd (stays p q e pair live is n)
+    live_same r s t (goes_on p q e pair live is n) = on p q e pair live (live_same p q e live) is n
     live_same r s t (calls p q e set call live es f) = calls p q e set call (live_same p q e live) es (full_same call q e set f)
     live_same r s t (returns p q e set z call live es f ended) =
         returns p q e set z call (live_same p q e live) es (full_same call q e set f) (live_same (g.exit call.function) z set ended)
@@ -248,10 +249,10 @@ module _ (g : Game) (functions : ℕ) (stop : g.policy.stop ≡ true) (can : Can
       none-some pair (sym (ap (resumed_in (under g y) p q) r.3 ∙ resumes_none g p q r.0 r.1 r.2) ∙ is)
 
   pub live_forth : (p q e : ℕ) → IsLive g p q e → IsLive (under g (unrefused g.policy)) p q e
-  live_forth = live_same g x y (refuse_alike g stop) (refuse_back g stop) stays
+  live_forth = live_same g x y (refuse_alike g stop) (refuse_back g stop) (λ p q e pair live same is n. absurd (stays p q e pair live is n))
 
   pub live_back : (p q e : ℕ) → IsLive (under g (unrefused g.policy)) p q e → IsLive g p q e
-  live_back = live_same g y x (refuse_back g stop) (refuse_alike g stop) never
+  live_back = live_same g y x (refuse_back g stop) (refuse_alike g stop) (λ p q e pair live same is n. absurd (never p q e pair live is n))
 
   goes : (ms : List (StateId × ℕ)) (p q e j i : ℕ) (a : Primitive) (m : Option MemId) → IsLive g p q e → slice_get g.spots p ≡ Some (Asked j i a)
       → GoesOn g ms e (resumed g p q) m → GoesOn (under g (unrefused g.policy)) ms e (resumed (under g (unrefused g.policy)) p q) m

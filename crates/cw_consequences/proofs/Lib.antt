@@ -1,0 +1,7 @@
+mod Causes
+mod Fits
+mod Likes
+mod Outcomes
+mod Readings
+mod Stages
+mod Texts

@@ -1,0 +1,19 @@
+//! Laws of the definitions: functions that do nothing, and whose contracts hold of every value.
+
+ghost use Rattle.cw_consequences.specs.Laws.{FormatsAgree, StopGivesTheSame, WeaveHasOneAnswer};
+
+/// For a policy and a source one answer of `weave` is due.
+pub fn weave_has_one_answer()
+    ensures { WeaveHasOneAnswer }
+{}
+
+/// Under a policy that stops after a refusal status and bytes are those under the same policy of which nothing can be refused.
+pub fn stop_gives_the_same()
+    ensures { StopGivesTheSame }
+{}
+
+/// Under a policy of format 1 the status, and the refusal, the table or the strategy, are those under the same policy of format 2, unless the product
+/// states are over their number in format 1.
+pub fn formats_agree()
+    ensures { FormatsAgree }
+{}
