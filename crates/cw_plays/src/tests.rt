@@ -8,7 +8,9 @@ ghost use Rattle.cw_rights.specs.Trees.{tree_of};
 ghost use Rattle.cw_rights.specs.Valid.{IsValid};
 ghost use Rattle.cw_plays.specs.Order.{order};
 
-use cw_boards::{BoardFault, Front, Moves, Phase, Seen, board_move, board_moves, board_start, erased};
+use cw_boards::{
+    BoardFault, Front, Moves, Phase, Seen, board_move, board_moves, board_start, erased,
+};
 use cw_certs::Move;
 use cw_core::NoMemory;
 use cw_rights::{Descriptor, Limit, Lit, Policy, Regex, Rights, Rule, Test};
