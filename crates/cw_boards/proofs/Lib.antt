@@ -7,3 +7,4 @@ pub mod Chosen
 pub mod Having
 pub mod Putting
 mod Passing
+pub mod Below

@@ -1,5 +1,6 @@
 -- Statements put before a frame, from the last to the first.
 use Rattle.std.proofs.Common.{◌≡◌, ◌≤◌, ◌<◌, ℕ, zero, suc, ◌+◌, ◌-◌, List, [], ◌∷◌, drop, length, get_or, ap, sym, ◌∙◌, arith}
+use Rattle.std.proofs.lemmas.List.{drop_all}
 use Rattle.cw_syntax.specs.declared.program.Stmt.{Stmt}
 use Rattle.cw_syntax.specs.Plans.{Scene, numbered, numbered_all, seams, seams_all}
 use Rattle.cw_syntax.specs.Frames.{Frame, Todo, items_of}
@@ -16,6 +17,22 @@ some_of s [] zero = omega arith
 some_of s [] (suc k) = omega arith
 some_of s (x ∷ xs) zero = omega arith
 some_of s (x ∷ xs) (suc k) = let h = some_of s xs k in omega (arith, h)
+
+-- at the end none is put
+pub none_put : (s : Scene) (xs : List Stmt) (seam : ℕ) (rest : Frame) (i at : ℕ) → i ≡ length xs → at ≡ seam + seams_all (stms_in s xs) → Puts s xs seam rest i at rest
+none_put s xs seam rest i at e a =
+    let none : drop i xs ≡ [] = drop_all i xs (omega (arith, e)) in record {
+      within = omega (arith, e);
+      count = ap (λ l. at + seams_all (stms_in s l)) none ∙ omega (arith, a);
+      put = sym (ap (λ l. items_of (numbered_all (stms_in s l) at) rest) none);
+    }
+
+-- a statement has no more seams than all
+pub one_within : (s : Scene) (xs : List Stmt) (i k : ℕ) (x : Stmt) → i ≡ k + 1 → k < length xs → x ≡ get_or xs k x → seams (stm_in s x) ≤ seams_all (stms_in s xs)
+one_within s xs i k x next_to within here =
+    let from = from_here xs k x within here in
+    let m = some_of s xs k in
+    omega (arith, m, ap (λ l. seams_all (stms_in s l)) from)
 
 -- the statement at place k comes before those from i on
 module _ (s : Scene) (xs : List Stmt) (seam : ℕ) (rest : Frame) (i k at own : ℕ) (frame : Frame) (x : Stmt)

@@ -1,5 +1,5 @@
 -- Boards as the program holds them, and the boards that they stand for. `checked` and `policy` are the program's own.
-use Rattle.std.specs.Prelude.{◌↔◌, IsTrue, ℕ, List, [], ◌∷◌, Option, Some, None, map, drop}
+use Rattle.std.specs.Prelude.{◌↔◌, ◌+◌, ◌<◌, IsTrue, ℕ, List, [], ◌∷◌, Option, Some, None, map, drop}
 use Rattle.std.specs.declared.collections.VecDeque.{VecDeque}
 use Rattle.std.specs.declared.alloc.Global.{Global}
 use Rattle.cw_rights.specs.declared.capabilities.Primitive.{Primitive}
@@ -8,10 +8,12 @@ use Rattle.cw_rights.specs.Policies.{PlainPolicy, policy_of}
 use Rattle.cw_certs.specs.declared.moves.Move.{Move}
 use Rattle.cw_syntax.specs.declared.checked.Checked.{Checked}
 use Rattle.cw_syntax.specs.Trees.{file_of}
-use Rattle.cw_syntax.specs.Plans.{Plain, Group, end, Scene, numbered}
+use Rattle.cw_syntax.specs.declared.program.Function.{Function}
+use Rattle.cw_syntax.specs.Plans.{Plain, Group, end, Scene, numbered, seams_all}
 use Rattle.cw_syntax.specs.Frames.{Item, Entry, Todo, Test, After as AfterItem, Mark, End, Frame}
-use Rattle.cw_actions.specs.Scenes.{scene_in, stm_in}
+use Rattle.cw_actions.specs.Scenes.{scene_in, stm_in, stms_in}
 use Rattle.cw_model.specs.Boards.{Problem, problem_of, Phase, Asked, Refused, FreeSplit, Over, Board, primitives_in, onward, Violates, Moves}
+use Rattle.cw_boards.specs.Numbered.{most_seams, StackBelow}
 use Rattle.cw_boards.specs.declared.items.Item.{Item as Held}
 use Rattle.cw_boards.specs.declared.items.Item.TheVariants.{Entry as HeldEntry, Todo as HeldTodo, Nothing as HeldNothing, Init as HeldInit, Test as HeldTest, After as HeldAfter}
 use Rattle.cw_boards.specs.declared.items.Item.TheVariants.{Mark as HeldMark, End as HeldEnd}
@@ -79,9 +81,20 @@ board_in checked policy state = record {
 abbrev pub board_of : Checked → Policy → HeldBoard → Board
 board_of checked policy held = board_in checked policy held.state
 
--- a board of this source and policy: it says of itself whether it violates
-abbrev pub IsBoard : Checked → Policy → HeldBoard → Type 0
-IsBoard checked policy held = IsTrue held.violates ↔ Violates (problem checked policy) (board_of checked policy held)
+-- how many seams these functions have together
+abbrev pub seams_before : Scene → List Function → ℕ
+seams_before s [] = 0
+seams_before s (f ∷ fs) = 1 + seams_all (stms_in s f.body.items) + seams_before s fs
+
+-- a source with so few seams that each, and the one behind it, has a number of 64 bits
+abbrev pub HasFewSeams : Checked → Policy → Type 0
+HasFewSeams checked policy = seams_before (scene checked policy) checked.program.functions.items < most_seams
+
+-- a board of this source and policy: it says of itself whether it violates, and its seams have such numbers
+pub record IsBoard (checked : Checked) (policy : Policy) (held : HeldBoard) : Type 0 where
+  pub judged : IsTrue held.violates ↔ Violates (problem checked policy) (board_of checked policy held)
+  pub few : HasFewSeams checked policy
+  pub below : StackBelow most_seams (board_of checked policy held).stack
 
 -- the board after a move; none exactly where the move isn't the board's
 abbrev pub After : Checked → Policy → HeldBoard → Move → Option HeldBoard → Type 0

@@ -1,3 +1,4 @@
+pub mod Numbered
 pub mod Held
 pub mod Seen
 pub mod Kinds

@@ -1,9 +1,7 @@
--- Working definitions: what a rewriting at the front of a frame leaves, and how many seams functions have.
+-- Working definitions: what a rewriting at the front of a frame leaves.
 use Rattle.std.specs.Prelude.{◌≡◌, ◌<◌, suc, ◌+◌, ℕ, List, [], ◌∷◌}
-use Rattle.cw_syntax.specs.declared.program.Function.{Function}
-use Rattle.cw_syntax.specs.Plans.{Stm, Stms, Group, While, Do, For, end, then, Scene, seams_all}
+use Rattle.cw_syntax.specs.Plans.{Stm, Stms, Group, While, Do, For, end, then, Scene}
 use Rattle.cw_syntax.specs.Frames.{Item, Todo, Frame, settle}
-use Rattle.cw_actions.specs.Scenes.{stms_in}
 use Rattle.cw_boards.specs.declared.frames.Rewritten.{Rewritten}
 use Rattle.cw_boards.specs.declared.frames.Rewritten.TheVariants.{Last, More}
 use Rattle.cw_boards.specs.Held.{frame_in}
@@ -32,8 +30,3 @@ frame_weight (i ∷ is) = item_weight i + frame_weight is
 abbrev pub Rewrites : Scene → Frame → Rewritten → Type 0
 Rewrites s frame (Last next) = frame_in s next ≡ settle frame
 Rewrites s frame (More next) = (settle (frame_in s next) ≡ settle frame) × (frame_weight (frame_in s next) < frame_weight frame)
-
--- how many seams these functions have together
-abbrev pub seams_before : Scene → List Function → ℕ
-seams_before s [] = 0
-seams_before s (f ∷ fs) = 1 + seams_all (stms_in s f.body.items) + seams_before s fs

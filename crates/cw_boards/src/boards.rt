@@ -1,13 +1,14 @@
 //! Boards.
 
-ghost use Rattle.std.specs.Prelude.{◌≡◌, ◌↔◌, IsTrue, IfOk, Some, None, []};
+ghost use Rattle.std.specs.Prelude.{◌≡◌, ◌≤◌, ◌↔◌, IsTrue, IfOk, IfErr, Some, None, []};
 ghost use Rattle.cw_rights.specs.Policies.{PlainPolicy, policy_of};
 ghost use Rattle.cw_syntax.specs.Plans.{Scene};
 ghost use Rattle.cw_rights.specs.Capabilities.{applied};
 ghost use Rattle.cw_rights.specs.Valid.{IsValid};
 ghost use Rattle.cw_syntax.specs.Frames.{pass};
 ghost use Rattle.cw_model.specs.Boards.{landed, stepped, way_of, begin, Violates, start_board};
-ghost use Rattle.cw_boards.specs.Held.{scene, primitives_at, phase_by, stack_in, board_in, board_of, problem, IsBoard, After};
+ghost use Rattle.cw_boards.specs.Held.{scene, primitives_at, phase_by, stack_in, board_in, board_of, problem, seams_before, HasFewSeams, IsBoard, After};
+ghost use Rattle.cw_boards.specs.Numbered.{most_seams, StackBelow};
 ghost use Rattle.cw_boards.specs.Choices.{mode_of, chosen};
 ghost use Rattle.cw_boards.specs.Kinds.{front_kind};
 ghost use Rattle.cw_boards.specs.Turns.{way_in};
@@ -15,8 +16,10 @@ ghost use Rattle.std.specs.Prelude.{option_map};
 
 use crate::changes::{caps_after, is_bad_with, kept_after, reached_letter, way_of, with_letter};
 use crate::choices::{Choice, Phase, choice_of};
+use crate::fault::BoardFault;
 use crate::items::Item;
 use crate::kinds::{Kind, front_kind};
+use crate::seams::seams_before;
 use crate::steps::{pass, start_stack};
 use crate::turns::Way;
 use cw_certs::Move;
@@ -72,6 +75,8 @@ fn landed<'s>(
     way: Way,
 ) -> Result<Option<State<'s>>, AllocError>
     requires valid { IsValid (policy_of policy.now) }
+    requires few { HasFewSeams checked.now policy.now }
+    requires below { StackBelow most_seams (stack_in (scene checked.now policy.now) state.stack) }
     requires kind { front_kind (stack_in (scene checked.now policy.now) state.stack) ≡ Some kind }
     ensures { IfOk result (λ o. option_map (board_in checked.now policy.now) o ≡ stepped (problem checked.now policy.now) (mode_of split state.entry.caps) (board_in checked.now policy.now state.entry) (Some (way_in way))) }
 {
@@ -109,7 +114,9 @@ fn stepped<'s>(
     split: bool,
     by: Move,
 ) -> Result<Option<State<'s>>, AllocError>
-    requires { IsValid (policy_of policy.now) }
+    requires valid { IsValid (policy_of policy.now) }
+    requires few { HasFewSeams checked.now policy.now }
+    requires below { StackBelow most_seams (stack_in (scene checked.now policy.now) state.stack) }
     ensures { IfOk result (λ o. option_map (board_in checked.now policy.now) o ≡ stepped (problem checked.now policy.now) (mode_of split state.entry.caps) (board_in checked.now policy.now state.entry) (way_of by)) }
 {
     match way_of(by) {
@@ -147,7 +154,9 @@ fn chosen<'s>(
     choice: Choice,
     by: Move,
 ) -> Result<Option<State<'s>>, AllocError>
-    requires { IsValid (policy_of policy.now) }
+    requires valid { IsValid (policy_of policy.now) }
+    requires few { HasFewSeams checked.now policy.now }
+    requires below { StackBelow most_seams (stack_in (scene checked.now policy.now) state.stack) }
     ensures { IfOk result (λ o. option_map (board_in checked.now policy.now) o ≡ chosen (problem checked.now policy.now) (board_in checked.now policy.now state.entry) choice by) }
 {
     match choice {
@@ -171,7 +180,9 @@ fn judged<'s>(
     policy: &Policy,
     state: State<'s>,
 ) -> Result<Board<'s>, AllocError>
-    requires { IsValid (policy_of policy.now) }
+    requires valid { IsValid (policy_of policy.now) }
+    requires few { HasFewSeams checked.now policy.now }
+    requires below { StackBelow most_seams (stack_in (scene checked.now policy.now) state.stack) }
     ensures same { IfOk result (λ b. board_of checked.now policy.now b ≡ board_in checked.now policy.now state.entry) }
     ensures board { IfOk result (λ b. IsBoard checked.now policy.now b) }
 {
@@ -203,22 +214,26 @@ fn judged<'s>(
 }
 
 /// The board with which a program begins under a policy: the frame of `main`, the capabilities at the start and
-/// the empty word.
+/// the empty word. Of a source with 2^64 - 1 seams or more the answer is `TooManySeams`.
 pub fn board_start<'s>(
     alloc: Global,
     checked: &'s Checked<'s>,
     policy: &Policy,
-) -> Result<Board<'s>, NoMemory>
+) -> Result<Board<'s>, BoardFault>
     requires { IsValid (policy_of policy.now) }
     ensures start { IfOk result (λ b. board_of checked.now policy.now b ≡ start_board (problem checked.now policy.now)) }
     ensures board { IfOk result (λ b. IsBoard checked.now policy.now b) }
+    ensures many { IfErr result (λ fault. fault ≡ BoardFault.TooManySeams → most_seams ≤ seams_before (scene checked.now policy.now) checked.now.program.functions.items) }
 {
+    if seams_before(checked, policy, &checked.program.functions) == usize::MAX {
+        return Err(BoardFault::TooManySeams);
+    }
     let stack = start_stack(alloc, checked, policy)?;
     let phase = begin(&stack);
     let mut kept = VecDeque::new(alloc);
     let mode: Option<Caps> = None;
     if kept.push_front(mode).is_err() {
-        return Err(NoMemory);
+        return Err(BoardFault::NoMemory);
     }
     let state = State {
         stack,

@@ -7,6 +7,7 @@ ghost use Rattle.cw_syntax.specs.declared.program.Head.{out-Head};
 ghost use Rattle.cw_rights.specs.Policies.{policy_of};
 ghost use Rattle.cw_actions.specs.Scenes.{stm_in, stms_in};
 ghost use Rattle.cw_boards.specs.Held.{scene, item_of, frame_in};
+ghost use Rattle.cw_boards.specs.Numbered.{most_seams, SeamsBelow, AllSeamsBelow, ItemBelow, FrameBelow};
 ghost use Rattle.cw_boards.specs.Rewriting.{Rewrites};
 
 use crate::items::Item;
@@ -36,16 +37,16 @@ pub(crate) fn put_all<'s>(
     seam: usize,
     rest: VecDeque<Item<'s>>,
 ) -> Result<VecDeque<Item<'s>>, AllocError>
+    requires below { AllSeamsBelow most_seams (numbered_all (stms_in (scene checked.now policy.now) statements.now) seam) }
     ensures { IfOk result (λ next. frame_in (scene checked.now policy.now) next ≡ items_of (numbered_all (stms_in (scene checked.now policy.now) statements.now) seam) (frame_in (scene checked.now policy.now) rest.entry)) }
 {
     let mut frame = rest;
-    let count = seams_all(checked, policy, statements).ok_or(AllocError)?;
-    let mut at = seam.checked_add(count).ok_or(AllocError)?;
+    let mut at = seam + seams_all(checked, policy, statements);
     let mut i = statements.len();
     while i > 0 {
         i -= 1;
         let statement = &statements[i];
-        let own = seams(checked, policy, statement).ok_or(AllocError)?;
+        let own = seams(checked, policy, statement);
         at -= own;
         frame = put(
             frame,
@@ -71,6 +72,7 @@ fn rewrite<'s>(
     item: Item<'s>,
     rest: VecDeque<Item<'s>>,
 ) -> Result<Rewritten<'s>, AllocError>
+    requires below { ItemBelow most_seams (item_of (scene checked.now policy.now) item) }
     ensures { IfOk result (λ r. Rewrites (scene checked.now policy.now) (item_of (scene checked.now policy.now) item.entry ∷ frame_in (scene checked.now policy.now) rest.entry) r) }
 {
     match item {
@@ -87,6 +89,7 @@ fn rewrite_statement<'s>(
     seam: usize,
     rest: VecDeque<Item<'s>>,
 ) -> Result<Rewritten<'s>, AllocError>
+    requires below { SeamsBelow most_seams (numbered (stm_in (scene checked.now policy.now) statement.now) seam) }
     ensures { IfOk result (λ r. Rewrites (scene checked.now policy.now) (Todo (numbered (stm_in (scene checked.now policy.now) statement.now) seam) ∷ frame_in (scene checked.now policy.now) rest.entry) r) }
 {
     match &statement.what {
@@ -182,6 +185,7 @@ pub(crate) fn settle<'s>(
     policy: &Policy,
     mut frame: VecDeque<Item<'s>>,
 ) -> Result<VecDeque<Item<'s>>, AllocError>
+    requires below { FrameBelow most_seams (frame_in (scene checked.now policy.now) frame) }
     ensures { IfOk result (λ next. frame_in (scene checked.now policy.now) next ≡ settle (frame_in (scene checked.now policy.now) frame.entry)) }
 {
     while let Some(item) = frame.pop_front() {

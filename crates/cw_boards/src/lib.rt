@@ -5,6 +5,7 @@
 mod boards;
 mod changes;
 mod choices;
+mod fault;
 mod frames;
 mod items;
 mod kinds;
@@ -15,5 +16,6 @@ mod steps;
 mod turns;
 
 pub use boards::{Board, board_move, board_start};
+pub use fault::BoardFault;
 pub use moves::{Moves, board_moves};
 pub use paths::{Front, Phase, Seen, erased};

@@ -1,19 +1,20 @@
-//! How many seams a statement has.
+//! How many seams a statement has, counted up to the most that there may be.
 
 ghost use Rattle.cw_boards.specs.Held.{scene};
-ghost use Rattle.std.specs.Prelude.{◌≡◌, IfSome};
+ghost use Rattle.cw_boards.specs.Numbered.{capped};
+ghost use Rattle.cw_boards.specs.Held.{seams_before};
+ghost use Rattle.std.specs.Prelude.{◌≡◌};
 ghost use Rattle.cw_syntax.specs.Plans.{acting, action_of, seams, seams_all};
 ghost use Rattle.cw_syntax.specs.Trees.{tree_of};
-ghost use Rattle.cw_rights.specs.Policies.{policy_of};
 ghost use Rattle.cw_actions.specs.Scenes.{stm_in, stms_in};
 
 use cw_actions::{Act, action_of};
 use cw_rights::Policy;
 use cw_syntax::checked::Checked;
-use cw_syntax::program::{Expr, Stmt, What};
+use cw_syntax::program::{Expr, Function, Stmt, What};
 
 fn expression_seams(checked: &Checked, policy: &Policy, e: &Expr) -> usize
-    ensures { result ≡ seams (acting (action_of (scene checked.now policy.now) (tree_of e.now)) 0) }
+    ensures { result ≡ capped (seams (acting (action_of (scene checked.now policy.now) (tree_of e.now)) 0)) }
 {
     match action_of(checked, policy, e) {
         Act::Computes => 0,
@@ -21,38 +22,49 @@ fn expression_seams(checked: &Checked, policy: &Policy, e: &Expr) -> usize
     }
 }
 
-/// How many seams a statement has. There is no answer where 64 bits don't hold it, which takes more statements
-/// than memory has bytes.
+/// How many seams a statement has.
 #[cycle(seams)]
-pub(crate) fn seams(checked: &Checked, policy: &Policy, statement: &Stmt) -> Option<usize>
-    ensures { IfSome result (λ n. n ≡ seams (stm_in (scene checked.now policy.now) statement.now)) }
+pub(crate) fn seams(checked: &Checked, policy: &Policy, statement: &Stmt) -> usize
+    ensures { result ≡ capped (seams (stm_in (scene checked.now policy.now) statement.now)) }
 {
     match &statement.what {
         What::Block(statements) => seams_all(checked, policy, statements),
-        What::Expr(e) => Some(expression_seams(checked, policy, e)),
-        What::Label(_, _, body) => seams(checked, policy, body)?.checked_add(1),
+        What::Expr(e) => expression_seams(checked, policy, e),
+        What::Label(_, _, body) => seams(checked, policy, body).saturating_add(1),
         What::If(_, arm, other) => match other {
             None => seams(checked, policy, arm),
             Some(other) => {
-                let first = seams(checked, policy, arm)?;
-                first.checked_add(seams(checked, policy, other)?)
+                seams(checked, policy, arm).saturating_add(seams(checked, policy, other))
             }
         },
         What::While(_, body) => seams(checked, policy, body),
         What::Do(body, _) => seams(checked, policy, body),
         What::For(_, body) => seams(checked, policy, body),
-        What::Decl(_) | What::Empty | What::Break | What::Continue | What::Return(_) => Some(0),
+        What::Decl(_) | What::Empty | What::Break | What::Continue | What::Return(_) => 0,
     }
 }
 
 /// How many seams these statements have together.
 #[cycle(seams)]
-pub(crate) fn seams_all(checked: &Checked, policy: &Policy, statements: &[Stmt]) -> Option<usize>
-    ensures { IfSome result (λ n. n ≡ seams_all (stms_in (scene checked.now policy.now) statements.now)) }
+pub(crate) fn seams_all(checked: &Checked, policy: &Policy, statements: &[Stmt]) -> usize
+    ensures { result ≡ capped (seams_all (stms_in (scene checked.now policy.now) statements.now)) }
 {
     let mut count: usize = 0;
     for s in statements {
-        count = count.checked_add(seams(checked, policy, s)?)?;
+        count = count.saturating_add(seams(checked, policy, s));
     }
-    Some(count)
+    count
+}
+
+/// How many seams these functions have together: one more for each entry.
+pub(crate) fn seams_before(checked: &Checked, policy: &Policy, functions: &[Function]) -> usize
+    ensures { result ≡ capped (seams_before (scene checked.now policy.now) functions.now) }
+{
+    let mut count: usize = 0;
+    for f in functions {
+        count = count
+            .saturating_add(seams_all(checked, policy, &f.body))
+            .saturating_add(1);
+    }
+    count
 }

@@ -1,22 +1,23 @@
 //! Steps of a stack of frames, the top first.
 
-ghost use Rattle.std.specs.Prelude.{◌≡◌, codes, ◌<◌, ◌+◌, [], ◌∷◌, length, take, IfOk, IfSome, option_map};
-ghost use Rattle.cw_syntax.specs.Plans.{Scene, function_names, numbered, numbered_all, seams};
+ghost use Rattle.std.specs.Prelude.{◌≡◌, codes, ◌<◌, ◌≤◌, ◌+◌, [], ◌∷◌, length, take, IfOk, option_map};
+ghost use Rattle.cw_syntax.specs.Plans.{Scene, function_names, numbered, numbered_all, seams, seams_all};
 ghost use Rattle.cw_syntax.specs.Names.{number_or_other};
 ghost use Rattle.cw_syntax.specs.Trees.{file_of};
 ghost use Rattle.cw_syntax.specs.Frames.{Entry, Todo, Test, End, after_if, items_of, settle, frame_of, pass, popped, start_stack};
 ghost use Rattle.cw_rights.specs.Policies.{policy_of};
 ghost use Rattle.cw_rights.specs.Valid.{IsValid};
 ghost use Rattle.cw_actions.specs.Scenes.{plan_in, stm_in, stms_in};
-ghost use Rattle.cw_boards.specs.Held.{scene, item_of, frame_in, stack_in};
-ghost use Rattle.cw_boards.specs.Rewriting.{seams_before};
+ghost use Rattle.cw_boards.specs.Held.{scene, item_of, frame_in, stack_in, HasFewSeams};
+ghost use Rattle.cw_boards.specs.Numbered.{most_seams, SeamsBelow, ItemBelow, FrameBelow, StackBelow};
+ghost use Rattle.cw_boards.specs.Held.{seams_before};
 ghost use Rattle.cw_boards.specs.Kinds.{item_kind};
 ghost use Rattle.cw_boards.specs.Turns.{way_in, entered, taken, turn_of, stepped_by};
 
 use crate::frames::{broken, continued, ended, put, put_all, settle};
 use crate::items::Item;
 use crate::kinds::item_kind;
-use crate::seams::{seams, seams_all};
+use crate::seams::{seams, seams_before};
 use crate::turns::{Turn, Way, turn_of};
 use cw_actions::function_named;
 use cw_rights::Policy;
@@ -25,26 +26,13 @@ use cw_syntax::program::{Function, Stmt, What};
 use std::alloc::{AllocError, Global};
 use std::collections::VecDeque;
 
-/// How many seams these functions have together.
-fn seams_before(checked: &Checked, policy: &Policy, functions: &[Function]) -> Option<usize>
-    ensures { IfSome result (λ n. n ≡ seams_before (scene checked.now policy.now) functions.now) }
-{
-    let mut count: usize = 0;
-    for f in functions {
-        count = count
-            .checked_add(seams_all(checked, policy, &f.body)?)?
-            .checked_add(1)?;
-    }
-    Some(count)
-}
-
 /// The number of the entry's seam of the function with this number.
-fn entry_seam(checked: &Checked, policy: &Policy, number: usize) -> Result<usize, AllocError>
-    requires { number < length checked.now.program.functions.items }
-    ensures { IfOk result (λ n. n ≡ seams_before (scene checked.now policy.now) (take number checked.now.program.functions.items)) }
+fn entry_seam(checked: &Checked, policy: &Policy, number: usize) -> usize
+    requires number { number < length checked.now.program.functions.items }
+    requires few { HasFewSeams checked.now policy.now }
+    ensures { result ≡ seams_before (scene checked.now policy.now) (take number checked.now.program.functions.items) }
 {
-    let before = &checked.program.functions[..number];
-    seams_before(checked, policy, before).ok_or(AllocError)
+    seams_before(checked, policy, &checked.program.functions[..number])
 }
 
 /// A new frame of this function, which has this number, by the seam of its entry.
@@ -56,11 +44,11 @@ fn frame_from<'s>(
     number: usize,
     seam: usize,
 ) -> Result<VecDeque<Item<'s>>, AllocError>
+    requires fits { seam + 1 + seams_all (stms_in (scene checked.now policy.now) f.now.body.items) ≤ most_seams }
     ensures { IfOk result (λ frame. frame_in (scene checked.now policy.now) frame ≡ Entry number seam ∷ items_of (numbered_all (stms_in (scene checked.now policy.now) f.now.body.items) (seam + 1)) (End number ∷ [])) }
 {
-    let first = seam.checked_add(1).ok_or(AllocError)?;
     let last = put(VecDeque::new(alloc), Item::End(number))?;
-    let body = put_all(checked, policy, &f.body, first, last)?;
+    let body = put_all(checked, policy, &f.body, seam + 1, last)?;
     put(
         body,
         Item::Entry {
@@ -77,13 +65,14 @@ fn new_frame<'s>(
     policy: &Policy,
     number: usize,
 ) -> Result<Option<VecDeque<Item<'s>>>, AllocError>
+    requires few { HasFewSeams checked.now policy.now }
     ensures { IfOk result (λ o. option_map (frame_in (scene checked.now policy.now)) o ≡ frame_of (plan_in checked.now (policy_of policy.now)) number) }
 {
     if number >= checked.program.functions.len() {
         return Ok(None);
     }
     let f = &checked.program.functions[number];
-    let seam = entry_seam(checked, policy, number)?;
+    let seam = entry_seam(checked, policy, number);
     let frame = frame_from(alloc, checked, policy, f, number, seam)?;
     Ok(Some(frame))
 }
@@ -97,10 +86,10 @@ fn other_arm<'s>(
     seam: usize,
     rest: VecDeque<Item<'s>>,
 ) -> Result<VecDeque<Item<'s>>, AllocError>
+    requires below { SeamsBelow most_seams (numbered (stm_in (scene checked.now policy.now) arm.now) seam) }
     ensures { IfOk result (λ next. frame_in (scene checked.now policy.now) next ≡ Todo (numbered (stm_in (scene checked.now policy.now) other.now) (seam + seams (stm_in (scene checked.now policy.now) arm.now))) ∷ frame_in (scene checked.now policy.now) rest.entry) }
 {
-    let own = seams(checked, policy, arm).ok_or(AllocError)?;
-    let behind = seam.checked_add(own).ok_or(AllocError)?;
+    let behind = seam + seams(checked, policy, arm);
     put(
         rest,
         Item::Todo {
@@ -119,17 +108,17 @@ fn enter_statement<'s>(
     way: Way,
     rest: VecDeque<Item<'s>>,
 ) -> Result<Option<VecDeque<Item<'s>>>, AllocError>
+    requires below { SeamsBelow most_seams (numbered (stm_in (scene checked.now policy.now) statement.now) seam) }
     ensures { IfOk result (λ o. option_map (frame_in (scene checked.now policy.now)) o ≡ entered (Todo (numbered (stm_in (scene checked.now policy.now) statement.now) seam)) (way_in way) (frame_in (scene checked.now policy.now) rest.entry)) }
 {
     match &statement.what {
         What::Label(_, _, body) => match way {
             Way::On => {
-                let inner = seam.checked_add(1).ok_or(AllocError)?;
                 let next = put(
                     rest,
                     Item::Todo {
                         statement: body,
-                        seam: inner,
+                        seam: seam + 1,
                     },
                 )?;
                 Ok(Some(next))
@@ -206,6 +195,7 @@ fn enter<'s>(
     way: Way,
     rest: VecDeque<Item<'s>>,
 ) -> Result<Option<VecDeque<Item<'s>>>, AllocError>
+    requires below { ItemBelow most_seams (item_of (scene checked.now policy.now) item) }
     ensures { IfOk result (λ o. option_map (frame_in (scene checked.now policy.now)) o ≡ entered (item_of (scene checked.now policy.now) item.entry) (way_in way) (frame_in (scene checked.now policy.now) rest.entry)) }
 {
     match item {
@@ -258,6 +248,7 @@ fn after<'s>(
     way: Way,
     rest: VecDeque<Item<'s>>,
 ) -> Result<Option<VecDeque<Item<'s>>>, AllocError>
+    requires below { ItemBelow most_seams (item_of (scene checked.now policy.now) item) }
     ensures { IfOk result (λ o. option_map (frame_in (scene checked.now policy.now)) o ≡ taken turn (item_of (scene checked.now policy.now) item.entry) (way_in way) (frame_in (scene checked.now policy.now) rest.entry)) }
 {
     match turn {
@@ -288,6 +279,8 @@ fn within<'s>(
     rest: VecDeque<Item<'s>>,
     mut frames: VecDeque<VecDeque<Item<'s>>>,
 ) -> Result<Option<VecDeque<VecDeque<Item<'s>>>>, AllocError>
+    requires item { ItemBelow most_seams (item_of (scene checked.now policy.now) item) }
+    requires rest { FrameBelow most_seams (frame_in (scene checked.now policy.now) rest) }
     ensures { IfOk result (λ o. option_map (stack_in (scene checked.now policy.now)) o ≡ option_map (λ next. settle next ∷ stack_in (scene checked.now policy.now) frames.entry) (taken turn (item_of (scene checked.now policy.now) item.entry) (way_in way) (frame_in (scene checked.now policy.now) rest.entry))) }
 {
     match after(alloc, checked, policy, item, turn, way, rest)? {
@@ -308,6 +301,7 @@ fn called<'s>(
     number: usize,
     mut frames: VecDeque<VecDeque<Item<'s>>>,
 ) -> Result<Option<VecDeque<VecDeque<Item<'s>>>>, AllocError>
+    requires few { HasFewSeams checked.now policy.now }
     ensures { IfOk result (λ o. option_map (stack_in (scene checked.now policy.now)) o ≡ option_map (λ frame. frame ∷ stack_in (scene checked.now policy.now) frames.entry) (frame_of (plan_in checked.now (policy_of policy.now)) number)) }
 {
     match new_frame(alloc, checked, policy, number)? {
@@ -325,6 +319,7 @@ fn returned<'s>(
     policy: &Policy,
     mut frames: VecDeque<VecDeque<Item<'s>>>,
 ) -> Result<Option<VecDeque<VecDeque<Item<'s>>>>, AllocError>
+    requires below { StackBelow most_seams (stack_in (scene checked.now policy.now) frames) }
     ensures { IfOk result (λ o. option_map (stack_in (scene checked.now policy.now)) o ≡ popped (stack_in (scene checked.now policy.now) frames.entry)) }
 {
     match frames.pop_front() {
@@ -350,7 +345,11 @@ fn pass_front<'s>(
     mut frames: VecDeque<VecDeque<Item<'s>>>,
     way: Way,
 ) -> Result<Option<VecDeque<VecDeque<Item<'s>>>>, AllocError>
-    requires { IsValid (policy_of policy.now) }
+    requires valid { IsValid (policy_of policy.now) }
+    requires few { HasFewSeams checked.now policy.now }
+    requires item { ItemBelow most_seams (item_of (scene checked.now policy.now) item) }
+    requires rest { FrameBelow most_seams (frame_in (scene checked.now policy.now) rest) }
+    requires frames { StackBelow most_seams (stack_in (scene checked.now policy.now) frames) }
     ensures { IfOk result (λ o. option_map (stack_in (scene checked.now policy.now)) o ≡ stepped_by (plan_in checked.now (policy_of policy.now)) (turn_of (item_kind (item_of (scene checked.now policy.now) item.entry)) way) (item_of (scene checked.now policy.now) item.entry) (way_in way) (frame_in (scene checked.now policy.now) rest.entry) (stack_in (scene checked.now policy.now) frames.entry)) }
 {
     let turn = turn_of(item_kind(checked, policy, &item), way);
@@ -375,7 +374,9 @@ pub(crate) fn pass<'s>(
     mut frames: VecDeque<VecDeque<Item<'s>>>,
     way: Way,
 ) -> Result<Option<VecDeque<VecDeque<Item<'s>>>>, AllocError>
-    requires { IsValid (policy_of policy.now) }
+    requires valid { IsValid (policy_of policy.now) }
+    requires few { HasFewSeams checked.now policy.now }
+    requires below { StackBelow most_seams (stack_in (scene checked.now policy.now) frames) }
     ensures { IfOk result (λ o. option_map (stack_in (scene checked.now policy.now)) o ≡ pass (plan_in checked.now (policy_of policy.now)) (stack_in (scene checked.now policy.now) frames.entry) (way_in way)) }
 {
     match frames.pop_front() {
@@ -393,6 +394,7 @@ pub(crate) fn start_stack<'s>(
     checked: &'s Checked<'s>,
     policy: &Policy,
 ) -> Result<VecDeque<VecDeque<Item<'s>>>, AllocError>
+    requires { HasFewSeams checked.now policy.now }
     ensures { IfOk result (λ stack. stack_in (scene checked.now policy.now) stack ≡ start_stack (plan_in checked.now (policy_of policy.now))) }
 {
     let mut stack = VecDeque::new(alloc);

@@ -1,16 +1,20 @@
 -- What is due for a sample, from what is due for its texts.
-use Rattle.std.proofs.Common.{◌≡◌, ℕ, List, subst, sym, refl}
+use Rattle.std.proofs.Common.{◌≡◌, ◌≤◌, ℕ, List, length, subst}
 use Rattle.cw_rights.specs.Policies.{PlainPolicy}
 use Rattle.cw_syntax.specs.Trees.{File}
 use Rattle.cw_game.specs.Games.{Game}
 use Rattle.cw_sample.specs.Samples.{sample_policy, sample_source}
 use Rattle.cw_commands.specs.declared.outcome.Cause.{Cause}
 use Rattle.cw_commands.specs.declared.outcome.Reply.{Reply}
+use Rattle.cw_commands.specs.declared.outcome.Reply.TheVariants.{Yes, No}
 use Rattle.cw_commands.specs.Outcomes.{Due, Told, Refused}
 use Rattle.cw_cli.specs.declared.numbers.Numbers.{Numbers}
+use Rattle.cw_cli.specs.Checking.{IsCheckDue}
 use Rattle.cw_cli.specs.Counting.{IsCounted}
+use Rattle.cw_cli.specs.Refuting.{yes, IsRefuteDue}
 use Rattle.cw_cli.specs.Sampling.{summary, IsSampleDue, IsSummed}
-use Rattle.cw_cli.specs.Weaving.{Weaves}
+use Rattle.cw_cli.specs.Weaving.{IsWeaveDue, Weaves}
+use Rattle.cw_cli.proofs.Agreeing.{refuted_is_judged, woven_is_checked}
 use Rattle.cw_cli.proofs.Counted.{weaves_by, weaves_told}
 
 module _ (number : ℕ) (numbers : Numbers) where
@@ -35,3 +39,10 @@ module _ (number : ℕ) (numbers : Numbers) where
   summed_due policy source r text told same_policy same_source is h =
       weaves_told Counted (IsSummed number) sample_policy (sample_source number) r text told (λ whole file g counted. (text, numbers, counted, is))
       (of_texts policy source (Told r text) same_policy same_source h)
+
+-- what `weave` is due to write, `check` or `refute` is due to accept
+pub checked_yes : (policy source text : List ℕ) (due : Due) → length source ≤ 262144 → IsWeaveDue policy source (Told Yes text) → IsCheckDue policy text due → due ≡ Told Yes yes
+checked_yes policy source text due short woven is = (woven_is_checked policy source text short woven).1 due is
+
+pub judged_yes : (policy source text : List ℕ) (due : Due) → IsWeaveDue policy source (Told No text) → IsRefuteDue policy source text due → due ≡ Told Yes yes
+judged_yes policy source text due refuted is = (refuted_is_judged policy source text refuted).1 due is

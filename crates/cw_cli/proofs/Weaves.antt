@@ -28,9 +28,9 @@ use Rattle.cw_named.proofs.Marked.{plain_marks}
 use Rattle.cw_source.proofs.Unmarked.{no_marker}
 use Rattle.cw_source.specs.Read.{ReadsAs}
 use Rattle.cw_strategies.specs.StrategyText.{strategy_text}
-use Rattle.cw_wcheck.proofs.Beaten.{beaten_is_forced}
+use Rattle.cw_model.proofs.Beaten.{beaten_is_forced}
 use Rattle.cw_wcheck.proofs.Lazies.{lazy}
-use Rattle.cw_wcheck.proofs.Runs.{never_forced}
+use Rattle.cw_model.proofs.Running.{never_forced}
 use Rattle.cw_wcheck.proofs.Sounds.{sound}
 use Rattle.cw_cli.specs.Verdicts.{IsRefuted, IsWoven}
 

@@ -1,6 +1,6 @@
 //! The commands.
 
-ghost use Rattle.std.specs.Prelude.{◌≡◌, map, length, None, Some, IfOk, IfSome, string_bytes};
+ghost use Rattle.std.specs.Prelude.{◌≡◌, map, length, None, Some, IfOk, IfSome, ◌⊎◌};
 ghost use Rattle.cw_commands.specs.Commands.{quantities_of, IsNumbered};
 ghost use Rattle.cw_commands.specs.Endings.{IsNoted, line_of, status_of, usage_line};
 ghost use Rattle.cw_commands.specs.Files.{AreSized};
@@ -53,7 +53,7 @@ fn due(alloc: Global, command: Command, files: &[Vec<u8>]) -> Result<Outcome, No
 fn perform<'w, F: Shelf, O: Sink>(
     alloc: Global,
     command: Command,
-    names: &'w [String],
+    names: &[&'w str],
     shelf: &mut F,
     out: &mut O,
 ) -> Ending<'w>
@@ -62,7 +62,7 @@ fn perform<'w, F: Shelf, O: Sink>(
     ensures same { F.files shelf.new ≡ F.files shelf.old }
     ensures ends { Ends (IsDue command) (F.files shelf.old) (F.faults shelf.old) (F.faults shelf.new)
         (O.taken out.old) (O.taken out.new) (O.faults out.old) (O.faults out.new)
-        (quantities_of command) (map string_bytes names.now) result }
+        (quantities_of command) (map (λ name. name.now) names.now) result }
 {
     let files = match read_files(alloc, command.quantities(), names, shelf) {
         Ok(files) => files,
@@ -92,9 +92,10 @@ pub fn capweave<F: Shelf, O: Sink, N: Sink>(
 ) -> u8
     ensures same { F.files shelf.new ≡ F.files shelf.old }
 
-    // Words that don't fit: nothing is appended to the output, and the note gets a front of the line on usage.
-    ensures usage { requested words.now ≡ None → (result ≡ 2) × (O.taken out.new ≡ O.taken out.old)
-        × IsNoted (N.taken note.old) (N.taken note.new) (Some (usage_line (first_command words.now))) }
+    // Words that don't fit: nothing is appended to the output, and the note gets a front of the line on usage, or there was no memory to read them.
+    ensures usage { requested words.now ≡ None → (O.taken out.new ≡ O.taken out.old)
+        × (((result ≡ 2) × IsNoted (N.taken note.old) (N.taken note.new) (Some (usage_line (first_command words.now))))
+        ⊎ ((result ≡ 8) × IsNoted (N.taken note.old) (N.taken note.new) (line_of Ending.Memory))) }
     ensures misused { result ≡ 2 → requested words.now ≡ None }
 
     // The words of a command: its ending, with its status, what it leaves on the output and its line on the note.
@@ -103,12 +104,19 @@ pub fn capweave<F: Shelf, O: Sink, N: Sink>(
         (O.taken out.old) (O.taken out.new) (O.faults out.old) (O.faults out.new) (quantities_of wish.0) wish.1 ending
         × IsNoted (N.taken note.old) (N.taken note.new) (line_of ending)) }
 {
-    let Some(Request { command, names }) = requested(words) else {
+    // What the note answers changes no status.
+    let request = match requested(alloc, words) {
+        Ok(request) => request,
+        Err(NoMemory) => {
+            let _ = put_ending(note, &Ending::Memory);
+            return Ending::Memory.status();
+        }
+    };
+    let Some(Request { command, names }) = request else {
         let _ = put_usage(note, first_command(words));
         return USAGE;
     };
-    let ending = perform(alloc, command, names, shelf, out);
-    // What the note answers changes no status.
+    let ending = perform(alloc, command, &names, shelf, out);
     let _ = put_ending(note, &ending);
     ending.status()
 }

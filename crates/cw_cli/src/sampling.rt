@@ -1,7 +1,8 @@
 //! What is due for `sample`.
 
-ghost use Rattle.std.specs.Prelude.{◌≡◌, ◌≤◌, ◌++◌, length, IfOk, OnOk};
+ghost use Rattle.std.specs.Prelude.{◌≡◌, ◌≢◌, ◌≤◌, ◌++◌, ℕ, List, false, length, IfOk, OnOk};
 ghost use Rattle.cw_sample.specs.Samples.{sample_policy, sample_source, HasSample};
+ghost use Rattle.cw_commands.specs.declared.outcome.Reply.TheVariants.{Yes, No};
 ghost use Rattle.cw_commands.specs.Outcomes.{due_of, Told};
 ghost use Rattle.cw_cli.specs.Sampling.{number_line, reply_line, summary, IsSampleDue};
 ghost use Rattle.cw_cli.specs.Weaving.{IsWeaveDue};
@@ -32,8 +33,51 @@ fn texts_of(alloc: Global, number: u32) -> Result<(Vec<u8>, Vec<u8>), NoMemory>
     }
 }
 
-/// Has `check` go through a woven text, or `refute` through a strategy: what `weave` writes they accept. A text that is longer than a file may be
-/// isn't gone through.
+/// Whether a command answers yes.
+fn is_yes(outcome: &Outcome) -> bool
+    ensures { result ≡ false → (text : List ℕ) → due_of outcome.now ≢ Told Yes text }
+{
+    match outcome {
+        Outcome::Told(Reply::Yes, _) => true,
+        Outcome::Told(Reply::No, _) => false,
+        Outcome::Refused(_, _) => false,
+    }
+}
+
+/// Has `check` go through a woven text that is due for `weave`, unless it is longer than a file may be: it answers yes.
+fn check_text(alloc: Global, policy: &[u8], source: &[u8], text: &[u8]) -> Result<(), NoMemory>
+    requires short { length source.now ≤ 262144 }
+    requires due { IsWeaveDue policy.now source.now (Told Yes text.now) }
+{
+    let _ = source;
+    if text.len() > FILE_BYTES {
+        return Ok(());
+    }
+    let outcome = check_due(alloc, policy, text)?;
+    if is_yes(&outcome) {
+        Ok(())
+    } else {
+        unreachable!()
+    }
+}
+
+/// Has `refute` go through a strategy that is due for `weave`, unless it is longer than a file may be: it answers yes.
+fn refute_text(alloc: Global, policy: &[u8], source: &[u8], text: &[u8]) -> Result<(), NoMemory>
+    requires short { length source.now ≤ 262144 }
+    requires due { IsWeaveDue policy.now source.now (Told No text.now) }
+{
+    if text.len() > FILE_BYTES {
+        return Ok(());
+    }
+    let outcome = refute_due(alloc, policy, source, text)?;
+    if is_yes(&outcome) {
+        Ok(())
+    } else {
+        unreachable!()
+    }
+}
+
+/// Has the other commands go through what is due for `weave`: what that writes, these accept.
 fn go_through(
     alloc: Global,
     reply: Reply,
@@ -44,16 +88,9 @@ fn go_through(
     requires short { length source.now ≤ 262144 }
     requires due { IsWeaveDue policy.now source.now (Told reply text.now) }
 {
-    if text.len() > FILE_BYTES {
-        return Ok(());
-    }
-    let outcome = match reply {
-        Reply::Yes => check_due(alloc, policy, text)?,
-        Reply::No => refute_due(alloc, policy, source, text)?,
-    };
-    match outcome {
-        Outcome::Told(Reply::Yes, _) => Ok(()),
-        Outcome::Told(Reply::No, _) | Outcome::Refused(_, _) => unreachable!(),
+    match reply {
+        Reply::Yes => check_text(alloc, policy, source, text),
+        Reply::No => refute_text(alloc, policy, source, text),
     }
 }
 
@@ -101,7 +138,8 @@ pub fn sample_due(alloc: Global, number: u32) -> Result<Outcome, NoMemory>
 {
     let (policy, source) = texts_of(alloc, number)?;
     let mut numbers = Numbers::none();
-    match counted_due(alloc, &policy, &source, &mut numbers)? {
+    let outcome = counted_due(alloc, &policy, &source, &mut numbers)?;
+    match outcome {
         Outcome::Refused(cause, line) => Ok(Outcome::Refused(cause, line)),
         Outcome::Told(reply, text) => {
             go_through(alloc, reply, &policy, &source, &text)?;

@@ -134,3 +134,43 @@ fn what_the_note_answers_changes_no_status(rt: HostRuntime) -> Result<(), Fail> 
     assert_eq!(rt; out.bytes(), b"".as_slice());
     Ok(())
 }
+
+#[test]
+fn words_are_read_as_clap_reads_them(rt: HostRuntime) -> Result<(), Fail> {
+    let alloc = rt.alloc();
+    // The words, the status, how many bytes were put, the line.
+    for (line, status, count, told) in [
+        (
+            ["weave", "--", "p.toml", "s.c"].as_slice(),
+            0,
+            NO_RULES.len(),
+            "",
+        ),
+        (&["weave", "p.toml", "--", "s.c"], 0, NO_RULES.len(), ""),
+        (&["graph", "-"], 6, 0, "read: -\n"),
+        (&["graph", ""], 6, 0, "read: \n"),
+        (&["graph", "--", "-x"], 6, 0, "read: -x\n"),
+        (&["graph", "-x"], 2, 0, "usage: capweave graph SOURCE\n"),
+        (&["graph", "--"], 2, 0, "usage: capweave graph SOURCE\n"),
+        (
+            &["weave", "--help"],
+            2,
+            0,
+            "usage: capweave weave POLICY SOURCE\n",
+        ),
+        (&["--help"], 2, 0, "usage: capweave COMMAND ARGUMENTS\n"),
+    ] {
+        let mut shelf = SureShelf::make(files(alloc, "format = 1\n", "int main(void){return 0;}")?);
+        let mut out = SureSink::make(alloc);
+        let mut note = SureSink::make(alloc);
+        let given = words(alloc, line)?;
+        assert_eq!(rt;
+            capweave(alloc, &given, &mut shelf, &mut out, &mut note),
+            status,
+            "{told}"
+        );
+        assert_eq!(rt; out.bytes().len(), count, "{told}");
+        assert_eq!(rt; note.bytes(), told.as_bytes(), "{told}");
+    }
+    Ok(())
+}

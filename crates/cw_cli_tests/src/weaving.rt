@@ -208,3 +208,25 @@ fn tells_why_nothing_is_woven(rt: HostRuntime) -> Result<(), Fail> {
     }
     Ok(())
 }
+
+#[test]
+fn a_source_of_two_hundred_thousand_bytes_is_woven(rt: HostRuntime) -> Result<(), Fail> {
+    let alloc = rt.alloc();
+    let mut source = String::from_str(alloc, "int main(void){return 0;}\n")?;
+    let mut woven = String::from_str(alloc, NO_RULES)?;
+    woven.push_str("\n")?;
+    for _ in 0..2_000 {
+        let line =
+            "/* a line of a comment, so that the source is long and its program is short: a hundred bytes at all */\n";
+        source.push_str(line)?;
+        woven.push_str(line)?;
+    }
+    let weave = words(alloc, &["weave", "p.toml", "s.c"])?;
+    let mut shelf = SureShelf::make(files(alloc, "format = 1\n", &source)?);
+    let mut out = SureSink::make(alloc);
+    let mut note = SureSink::make(alloc);
+    assert_eq!(rt; capweave(alloc, &weave, &mut shelf, &mut out, &mut note), 0);
+    assert!(rt; source.len() > 200_000);
+    assert!(rt; out.bytes() == woven.as_bytes());
+    Ok(())
+}

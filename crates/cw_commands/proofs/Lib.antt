@@ -1,3 +1,6 @@
+mod Collected
+mod Fits
 mod Notes
+mod Placed
 mod Reading
 pub mod Sizes

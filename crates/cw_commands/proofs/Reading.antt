@@ -1,5 +1,6 @@
 -- Files that are read one after the other.
 use Rattle.std.proofs.Common.{◌≡◌, ℕ, ◌+◌, ◌<◌, ◌≤◌, List, [], ◌∷◌, ◌++◌, length, map, take, get_or, Option, Some, sym, ap, ◌∙◌, subst, arith, append_assoc}
+use Rattle.std.specs.Borrow.{Bor}
 use Rattle.std.specs.Prelude.{slice_get, option_map}
 use Rattle.std.proofs.lemmas.List.{append-nil, take_more}
 use Rattle.std.proofs.lemmas.Option.{get_or_from_slice_get, slice_get-get_or, slice_get-map}
@@ -8,6 +9,7 @@ use Rattle.cw_io.specs.Causes.{Rose}
 use Rattle.cw_io.specs.Files.{FilesByName}
 use Rattle.cw_commands.specs.declared.ending.Ending.{Ending}
 use Rattle.cw_commands.specs.declared.ending.Ending.TheVariants.{Put, Refused, TooLong, Unread, Unwritten, Memory}
+use Rattle.cw_commands.proofs.Collected.{place_at}
 use Rattle.cw_commands.specs.Files.{first, HasBytes, HaveBytes, IsFileFault}
 
 -- one more file behind those that were read
@@ -21,12 +23,11 @@ have_more files before [] (n' ∷ ns) bs q n b h has = absurd h
 have_more files before (q' ∷ qs) [] bs q n b h has = absurd h
 have_more files before (q' ∷ qs) (n' ∷ ns) [] q n b h has = absurd h
 
--- an element that stands at its place
-pub placed : {A : Type 0} (xs : List A) (k : ℕ) (x : A) → k < length xs → x ≡ get_or xs k x → slice_get xs k ≡ Some x
-placed xs k x lt e = slice_get-get_or xs k x lt ∙ ap Some (sym e)
-
-pub placed_map : {A B : Type 0} (f : A → B) (xs : List A) (k : ℕ) (x : A) → k < length xs → x ≡ get_or xs k x → slice_get (map f xs) k ≡ Some (f x)
-placed_map f xs k x lt e = slice_get-map f xs k ∙ ap (λ o. option_map f o) (placed xs k x lt e)
+-- a name that stands at its place
+pub placed_at : (names : List (Bor (List ℕ))) (k : ℕ) → k < length names → slice_get (map (λ name. name.now) names) k ≡ Some (place_at names k).now
+placed_at names k lt =
+    slice_get-map (λ (name : Bor (List ℕ)). name.now) names k
+    ∙ ap (λ o. option_map (λ (name : Bor (List ℕ)). name.now) o) (slice_get-get_or names k (record { ref_ptr = (0, 0); now = [] }) lt)
 
 one_more : {A : Type 0} (xs : List A) (k : ℕ) (x : A) → k < length xs → slice_get xs k ≡ Some x → take (k + 1) xs ≡ take k xs ++ (x ∷ [])
 one_more xs k x lt e = take_more xs k x lt ∙ ap (λ y. take k xs ++ (y ∷ [])) (get_or_from_slice_get xs k x x e)

@@ -21,15 +21,15 @@ named_by word =
     else if bytes_eq word (codes "sample") then Some name.Sample
     else None
 
--- how many words stand behind a name
-abbrev pub count_of : Name → ℕ
-count_of name.Weave = 2
-count_of name.Graph = 1
-count_of name.Refute = 3
-count_of name.Check = 2
-count_of name.Play = 4
-count_of name.Run = 3
-count_of name.Sample = 1
+-- the places of the words behind a name
+abbrev pub places_of : Name → List (List ℕ)
+places_of name.Weave = codes "POLICY" ∷ (codes "SOURCE" ∷ [])
+places_of name.Graph = codes "SOURCE" ∷ []
+places_of name.Refute = codes "POLICY" ∷ (codes "SOURCE" ∷ (codes "STRATEGY" ∷ []))
+places_of name.Check = codes "POLICY" ∷ (codes "WOVEN" ∷ [])
+places_of name.Play = codes "POLICY" ∷ (codes "SOURCE" ∷ (codes "STRATEGY" ∷ (codes "TAPE" ∷ [])))
+places_of name.Run = codes "POLICY" ∷ (codes "WOVEN" ∷ (codes "TAPE" ∷ []))
+places_of name.Sample = codes "N" ∷ []
 
 -- the words of a command, as the line on usage tells them
 abbrev pub usage_of : Name → List ℕ

@@ -1,4 +1,5 @@
 pub mod Commands
+pub mod Lines
 pub mod Words
 pub mod Outcomes
 pub mod Files

@@ -1,7 +1,6 @@
 -- The words of a command line.
-use Rattle.std.specs.Prelude.{ℕ, List, [], ◌∷◌, Bool, false, not, ◌&&◌, if◌then◌else◌, nat_eq, length, map, Option, Some, None, option_map}
+use Rattle.std.specs.Prelude.{ℕ, List, [], ◌∷◌, map, Option, Some, None, option_map, option_and_then}
 use Rattle.std.specs.Prelude.{String, string_bytes}
-use Rattle.std.specs.List.{list_any}
 use Rattle.std.specs.declared.alloc.Global.{Global}
 use Rattle.cw_sample.specs.Samples.{sample_number}
 use Rattle.cw_commands.specs.declared.command.Command.{Command}
@@ -9,21 +8,13 @@ use Rattle.cw_commands.specs.declared.command.Command.TheVariants.{Weave, Graph,
 use Rattle.cw_commands.specs.declared.name.Name.{Name}
 use Rattle.cw_commands.specs.declared.name.Name.TheVariants as name
 use Rattle.cw_commands.specs.declared.words.Request.{Request}
-use Rattle.cw_commands.specs.Commands.{count_of, named_by}
-
--- a word that begins with a dash
-abbrev pub is_dashed : List ℕ → Bool
-is_dashed [] = false
-is_dashed (b ∷ bs) = nat_eq b 45
+use Rattle.cw_commands.specs.Commands.{named_by, places_of}
+use Rattle.cw_commands.specs.Lines.{taken}
 
 -- the command that the first word names
 abbrev pub first_command : List (String Global) → Option Name
 first_command [] = None
 first_command (word ∷ rest) = named_by (string_bytes word)
-
--- as many words as stand behind the name, none of which begins with a dash
-abbrev pub fits : Name → List (String Global) → Bool
-fits name words = nat_eq (length words) (count_of name) && not (list_any (λ word. is_dashed (string_bytes word)) words)
 
 -- a command, and the names of its files
 abbrev pub Wish : Type 0
@@ -34,7 +25,7 @@ abbrev pub sample_of : List (List ℕ) → Option Wish
 sample_of (word ∷ []) = option_map (λ number. (Sample number, [])) (sample_number word)
 sample_of words = None
 
--- what a name asks for with the words that fit it: they are the names of files, or the number of a sample
+-- what a name asks for with the values of its places: they are the names of files, or the number of a sample
 abbrev pub asked : Name → List (List ℕ) → Option Wish
 asked name.Weave words = Some (Weave, words)
 asked name.Graph words = Some (Graph, words)
@@ -46,7 +37,7 @@ asked name.Sample words = sample_of words
 
 abbrev pub request_of : Option Name → List (String Global) → Option Wish
 request_of None words = None
-request_of (Some name) words = if fits name words then asked name (map string_bytes words) else None
+request_of (Some name) words = option_and_then (asked name) (taken (places_of name) (map string_bytes words))
 
 -- what the words ask for: the first names a command, and the others fit it
 abbrev pub requested : List (String Global) → Option Wish
@@ -55,4 +46,4 @@ requested (word ∷ rest) = request_of (named_by (string_bytes word)) rest
 
 -- the same as the code keeps it
 abbrev pub wish_of : Request → Wish
-wish_of a = (a.command, map string_bytes a.names.now)
+wish_of a = (a.command, map (λ name. name.now) a.names.items)

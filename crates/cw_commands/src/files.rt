@@ -1,6 +1,6 @@
 //! The files of a command, read in the order of its words.
 
-ghost use Rattle.std.specs.Prelude.{◌≡◌, ◌≢◌, ◌⊎◌, ◌≤◌, ◌<◌, ℕ, List, [], IfErr, IfOk, true, false, length, map, slice_get, Some, string_bytes};
+ghost use Rattle.std.specs.Prelude.{◌≡◌, ◌≢◌, ◌⊎◌, ◌≤◌, ◌<◌, ℕ, List, [], IfErr, IfOk, true, false, length, map, slice_get, Some};
 ghost use Rattle.cw_core.specs.Quantities.{limit_in};
 ghost use Rattle.cw_commands.specs.Files.{first, HasBytes, HaveBytes, IsFileFault, IsOfFormatTwo, IsOver, IsUnread, IsWithin};
 
@@ -97,24 +97,18 @@ fn first(files: &[Vec<u8>]) -> &[u8]
 pub fn read_files<'w, F: Shelf>(
     alloc: Global,
     quantities: &[Quantity],
-    names: &'w [String],
+    names: &[&'w str],
     shelf: &mut F,
 ) -> Result<Vec<Vec<u8>>, Ending<'w>>
     requires many { length names.now ≡ length quantities.now }
     ensures same { F.files shelf.new ≡ F.files shelf.old }
-    ensures read { IfOk result (λ files. HaveBytes (F.files shelf.old) [] quantities.now (map string_bytes names.now) (map (λ file. file.items) files.items)) }
+    ensures read { IfOk result (λ files. HaveBytes (F.files shelf.old) [] quantities.now (map (λ name. name.now) names.now) (map (λ file. file.items) files.items)) }
     ensures unread { IfErr result (λ ending. (ending ≡ Ending.Memory)
-        ⊎ IsUnread (F.files shelf.old) (F.faults shelf.old) (F.faults shelf.new) quantities.now (map string_bytes names.now) ending) }
+        ⊎ IsUnread (F.files shelf.old) (F.faults shelf.old) (F.faults shelf.new) quantities.now (map (λ name. name.now) names.now) ending) }
 {
     let mut files = Vec::new(alloc);
     for place in 0..names.len() {
-        match read_file(
-            alloc,
-            first(&files),
-            quantities[place],
-            &names[place],
-            shelf,
-        ) {
+        match read_file(alloc, first(&files), quantities[place], names[place], shelf) {
             Ok(bytes) => {
                 if files.push(bytes).is_err() {
                     return Err(Ending::Memory);

@@ -1,7 +1,7 @@
 //! The names of the commands.
 
-ghost use Rattle.std.specs.Prelude.{◌≡◌};
-ghost use Rattle.cw_commands.specs.Commands.{count_of, named_by, usage_of};
+ghost use Rattle.std.specs.Prelude.{◌≡◌, map};
+ghost use Rattle.cw_commands.specs.Commands.{named_by, places_of, usage_of};
 
 /// The name of a command.
 #[derive(Clone, Copy, Debug, PartialEq, Eq, Drop)]
@@ -39,18 +39,18 @@ pub(crate) fn named_by(word: &str) -> Option<Name>
 }
 
 impl Name {
-    /// How many words stand behind it.
-    pub(crate) fn count(self) -> usize
-        ensures { result ≡ count_of self }
+    /// The places of the words behind it.
+    pub(crate) fn places(self) -> &'static [&'static str]
+        ensures { map (λ place. place.now) result.now ≡ places_of self }
     {
         match self {
-            Name::Weave => 2,
-            Name::Graph => 1,
-            Name::Refute => 3,
-            Name::Check => 2,
-            Name::Play => 4,
-            Name::Run => 3,
-            Name::Sample => 1,
+            Name::Weave => &["POLICY", "SOURCE"],
+            Name::Graph => &["SOURCE"],
+            Name::Refute => &["POLICY", "SOURCE", "STRATEGY"],
+            Name::Check => &["POLICY", "WOVEN"],
+            Name::Play => &["POLICY", "SOURCE", "STRATEGY", "TAPE"],
+            Name::Run => &["POLICY", "WOVEN", "TAPE"],
+            Name::Sample => &["N"],
         }
     }
 

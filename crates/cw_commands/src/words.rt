@@ -1,40 +1,21 @@
 //! The words of a command line.
 
-ghost use Rattle.std.specs.Prelude.{◌≡◌, true, map, option_map, string_bytes, IfSome, length};
-ghost use Rattle.std.specs.List.{list_any};
-ghost use Rattle.cw_commands.specs.Commands.{quantities_of, IsNumbered};
-ghost use Rattle.cw_commands.specs.Words.{asked, requested, first_command, fits, is_dashed, sample_of, wish_of};
+ghost use Rattle.std.specs.Prelude.{◌≡◌, map, option_map, string_bytes, IfOk, IfSome, length};
+ghost use Rattle.cw_commands.specs.Commands.{places_of, quantities_of, IsNumbered};
+ghost use Rattle.cw_commands.specs.Words.{asked, requested, first_command, sample_of, wish_of};
 
 use crate::command::Command;
+use crate::line::taken;
 use crate::name::{Name, named_by};
+use cw_core::NoMemory;
 use cw_sample::sample_number;
+use std::alloc::Global;
 
 /// What the words of a command line ask for: a command, and the names of its files.
-#[derive(Clone, Copy, Drop)]
+#[derive(Drop)]
 pub struct Request<'w> {
     pub command: Command,
-    pub names: &'w [String],
-}
-
-fn is_dashed(word: &str) -> bool
-    ensures { result ≡ is_dashed word.now }
-{
-    match word.as_bytes() {
-        [] => false,
-        [first, ..] => *first == b'-',
-    }
-}
-
-fn has_dashed(words: &[String]) -> bool
-    ensures { result ≡ list_any (λ word. is_dashed (string_bytes word)) words.now }
-{
-    words.iter().any(|word| is_dashed(word))
-}
-
-fn fits(name: Name, words: &[String]) -> bool
-    ensures { result ≡ fits name words.now }
-{
-    words.len() == name.count() && !has_dashed(words)
+    pub names: Vec<&'w str>,
 }
 
 /// The command that the first word names.
@@ -48,9 +29,9 @@ pub fn first_command(words: &[String]) -> Option<Name>
 }
 
 /// The sample whose number one word tells.
-fn sample_of(words: &[String]) -> Option<Request<'_>>
-    ensures wish { option_map wish_of result ≡ sample_of (map string_bytes words.now) }
-    ensures many { IfSome result (λ a. length a.names.now ≡ length (quantities_of a.command)) }
+fn sample_of<'w>(alloc: Global, words: &[&'w str]) -> Option<Request<'w>>
+    ensures wish { option_map wish_of result ≡ sample_of (map (λ word. word.now) words.now) }
+    ensures many { IfSome result (λ a. length a.names.items ≡ length (quantities_of a.command)) }
     ensures numbered { IfSome result (λ a. IsNumbered a.command) }
 {
     let [word] = words else {
@@ -59,15 +40,15 @@ fn sample_of(words: &[String]) -> Option<Request<'_>>
     let number = sample_number(word.as_bytes())?;
     Some(Request {
         command: Command::Sample(number),
-        names: &[],
+        names: Vec::new(alloc),
     })
 }
 
-/// What a name asks for with the words that fit it.
-fn asked(name: Name, words: &[String]) -> Option<Request<'_>>
-    requires { fits name words.now ≡ true }
-    ensures wish { option_map wish_of result ≡ asked name (map string_bytes words.now) }
-    ensures many { IfSome result (λ a. length a.names.now ≡ length (quantities_of a.command)) }
+/// What a name asks for with the values of its places.
+fn asked<'w>(alloc: Global, name: Name, words: Vec<&'w str>) -> Option<Request<'w>>
+    requires { length words.items ≡ length (places_of name) }
+    ensures wish { option_map wish_of result ≡ asked name (map (λ word. word.now) words.entry.items) }
+    ensures many { IfSome result (λ a. length a.names.items ≡ length (quantities_of a.command)) }
     ensures numbered { IfSome result (λ a. IsNumbered a.command) }
 {
     let command = match name {
@@ -77,7 +58,7 @@ fn asked(name: Name, words: &[String]) -> Option<Request<'_>>
         Name::Check => Command::Check,
         Name::Play => Command::Play,
         Name::Run => Command::Run,
-        Name::Sample => return sample_of(words),
+        Name::Sample => return sample_of(alloc, &words),
     };
     Some(Request {
         command,
@@ -85,20 +66,21 @@ fn asked(name: Name, words: &[String]) -> Option<Request<'_>>
     })
 }
 
-/// What the words ask for: the first names a command, and as many others as stand behind that name follow, none of which begins with a dash:
-/// the names of its files, or the number of a sample.
-pub fn requested(words: &[String]) -> Option<Request<'_>>
-    ensures wish { option_map wish_of result ≡ requested words.now }
-    ensures many { IfSome result (λ a. length a.names.now ≡ length (quantities_of a.command)) }
-    ensures numbered { IfSome result (λ a. IsNumbered a.command) }
+/// What the words ask for: the first names a command, and those behind it fit the places of that name, as clap reads them: the names of its
+/// files, or the number of a sample. NoMemory is want of memory.
+pub fn requested<'w>(alloc: Global, words: &'w [String]) -> Result<Option<Request<'w>>, NoMemory>
+    ensures wish { IfOk result (λ found. option_map wish_of found ≡ requested words.now) }
+    ensures many { IfOk result (λ found. IfSome found (λ a. length a.names.items ≡ length (quantities_of a.command))) }
+    ensures numbered { IfOk result (λ found. IfSome found (λ a. IsNumbered a.command)) }
 {
     let [word, others @ ..] = words else {
-        return None;
+        return Ok(None);
     };
-    let name = named_by(word)?;
-    if fits(name, others) {
-        asked(name, others)
-    } else {
-        None
+    let Some(name) = named_by(word) else {
+        return Ok(None);
+    };
+    match taken(alloc, name.places(), others)? {
+        Some(values) => Ok(asked(alloc, name, values)),
+        None => Ok(None),
     }
 }

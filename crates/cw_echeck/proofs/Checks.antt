@@ -18,6 +18,7 @@ use Rattle.cw_game.specs.declared.spots.Spot.TheVariants.{Visit, Asked, Step, Br
 use Rattle.cw_game.specs.Games.{Game, Config, bad_in, leads_in, weavers_in}
 use Rattle.cw_game.specs.Pairs.{Called, has, call_in, is_call_in, is_exit_in}
 use Rattle.cw_game.specs.Conditions.{RowFault, fault_in, first_failing, is_position, is_state, is_set, is_row, row_conditions, all_rows, is_start, strategy_fault, stands_after, enters, are_backs}
+use Rattle.cw_game.proofs.Failing.{first_mapped, append_none, append_some}
 use Rattle.cw_game.proofs.Truths.{and_parts, both}
 use Rattle.cw_positions.specs.Closed.{LeadsWithin}
 use Rattle.cw_product.specs.declared.turn.Turn.{Turn}
@@ -89,45 +90,18 @@ all_more test f xs i d lt h e = list_all_more (λ x. test (f x)) xs i d lt ∙ a
 
 -- ---- the first condition that fails
 
-pub append_none : {A : Type 0} (cs ds : List (A × Bool)) → first_failing cs ≡ None → first_failing (cs ++ ds) ≡ first_failing ds
-append_none [] ds e = refl
-append_none {A} (c ∷ cs) ds e = by c.1 e (append_none cs ds)
-  where
-    by : (t : Bool) → cond t (first_failing cs) (Some c.0) ≡ None → (first_failing cs ≡ None → first_failing (cs ++ ds) ≡ first_failing ds)
-        → cond t (first_failing (cs ++ ds)) (Some c.0) ≡ first_failing ds
-    by true e rec = rec e
-    by false e rec = absurd (none-some c.0 (sym e))
-
-pub append_some : {A : Type 0} (cs ds : List (A × Bool)) (x : A) → first_failing cs ≡ Some x → first_failing (cs ++ ds) ≡ Some x
-append_some [] ds x e = absurd (none-some x e)
-append_some {A} (c ∷ cs) ds x e = by c.1 e (append_some cs ds x)
-  where
-    by : (t : Bool) → cond t (first_failing cs) (Some c.0) ≡ Some x → (first_failing cs ≡ Some x → first_failing (cs ++ ds) ≡ Some x)
-        → cond t (first_failing (cs ++ ds)) (Some c.0) ≡ Some x
-    by true e rec = rec e
-    by false e rec = e
-
-mapped : {A B : Type 0} (f : A → B) (cs : List (A × Bool)) → first_failing (map (λ c. (f c.0, c.1)) cs) ≡ option_map f (first_failing cs)
-mapped f [] = refl
-mapped {A} {B} f (c ∷ cs) = by c.1 (mapped f cs)
-  where
-    by : (t : Bool) → first_failing (map (λ c. (f c.0, c.1)) cs) ≡ option_map f (first_failing cs)
-        → cond t (first_failing (map (λ c. (f c.0, c.1)) cs)) (Some (f c.0)) ≡ option_map f (cond t (first_failing cs) (Some c.0))
-    by true e = e
-    by false e = refl
-
 -- the conditions of a row, told with its number
 abbrev Faults : ℕ → List (ℕ × Bool) → List (RowFault × Bool)
 Faults row cs = map (λ c. (fault_in row c.0, c.1)) cs
 
 none_in : (row : ℕ) (cs : List (ℕ × Bool)) (rest : List (RowFault × Bool)) → first_failing cs ≡ None
     → first_failing (Faults row cs ++ rest) ≡ first_failing rest
-none_in row cs rest e = append_none (Faults row cs) rest (mapped (fault_in row) cs ∙ ap (option_map (fault_in row)) e)
+none_in row cs rest e = append_none (Faults row cs) rest (first_mapped (fault_in row) cs ∙ ap (option_map (fault_in row)) e)
 
 some_in : (row : ℕ) (cs : List (ℕ × Bool)) (rest : List (RowFault × Bool)) (condition : ℕ) → first_failing cs ≡ Some condition
     → first_failing (Faults row cs ++ rest) ≡ Some (fault_in row condition)
 some_in row cs rest condition e =
-    append_some (Faults row cs) rest (fault_in row condition) (mapped (fault_in row) cs ∙ ap (option_map (fault_in row)) e)
+    append_some (Faults row cs) rest (fault_in row condition) (first_mapped (fault_in row) cs ∙ ap (option_map (fault_in row)) e)
 
 -- ---- the first row that fails
 

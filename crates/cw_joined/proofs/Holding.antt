@@ -9,7 +9,7 @@ use Rattle.std.proofs.lemmas.Cmp.{tied_itself}
 use Rattle.std.proofs.lemmas.Option.{same_Some}
 use Rattle.std.proofs.lemmas.List.Elements.{Contains-push, Contains-push_cases, Contains-append_left}
 use Rattle.cw_joined.specs.Working.{PutsIn}
-use Rattle.cw_joined.proofs.Keys.{at_equal}
+use Rattle.cw_closure.proofs.Keys.{at_equal}
 
 differ : true ≡ false → ⊥
 differ e = cc
@@ -27,13 +27,15 @@ module _ {K G : Type 0} (cmp : G → G → Ordering) (total : IsTotalOrder cmp) 
   }
     where
       by : (a : K) (q : G) → Contains (old q) a → (t : Bool) → is_eq (cmp q g) ≡ t → Contains (new q) a
-      by a q c true t = let z : q ≡ g = exact q g (at_equal _ t) in subst (λ y. Contains (new y) a) (sym z) (subst (λ y. Contains y a) (sym e) (Contains-append_left (old g) (k ∷ []) a (subst (λ y. Contains (old y) a) z c)))
+      by a q c true t = let z : q ≡ g = exact q g (at_equal _ t) in subst (λ y. Contains (new y) a) (sym z)
+          (subst (λ y. Contains y a) (sym e) (Contains-append_left (old g) (k ∷ []) a (subst (λ y. Contains (old y) a) z c)))
       by a q c false t = subst (λ y. Contains y a) (sym (f q (apart cmp total q g t))) c
 
       back : (a : K) (q : G) → Contains (new q) a → (t : Bool) → is_eq (cmp q g) ≡ t → Contains (old q) a ⊎ ((a ≡ k) × (Some g ≡ Some q))
       back a q c true t =
           let z : q ≡ g = exact q g (at_equal _ t) in
-          ⊎_elim (λ o. inl (subst (λ y. Contains (old y) a) (sym z) o)) (λ n. inr (sym n, ap Some (sym z))) (Contains-push_cases (old g) k a (subst (λ y. Contains y a) e (subst (λ y. Contains (new y) a) z c)))
+          ⊎_elim (λ o. inl (subst (λ y. Contains (old y) a) (sym z) o)) (λ n. inr (sym n, ap Some (sym z)))
+          (Contains-push_cases (old g) k a (subst (λ y. Contains y a) e (subst (λ y. Contains (new y) a) z c)))
       back a q c false t = inl (subst (λ y. Contains y a) (f q (apart cmp total q g t)) c)
 
   pub puts_none : (old : G → List K) (k : K) → PutsIn old old None k

@@ -1,4 +1,3 @@
 mod Holding
-pub mod Keys
 mod Orders
 pub mod Reaching

@@ -1,5 +1,6 @@
 -- The loop over what is seen, where keys are joined.
-use Rattle.std.proofs.Common.{◌≡◌, ◌⊎◌, inl, inr, ℕ, ◌+◌, ◌<◌, ◌≤◌, List, [], ◌∷◌, ◌++◌, Bool, true, false, Option, Some, None, map, length, get_or, refl, sym, ap, ◌∙◌, subst, arith, ⊎_elim, length-append, eqb-true, nat_eq}
+use Rattle.std.proofs.Common.{◌≡◌, ◌⊎◌, inl, inr, ℕ, ◌+◌, ◌<◌, ◌≤◌, List, [], ◌∷◌, ◌++◌, Bool, true, false, Option, Some, None, map, length, get_or, refl, sym, ap, ◌∙◌, subst, arith, ⊎_elim}
+use Rattle.std.proofs.Common.{length-append, eqb-true, nat_eq}
 use Rattle.std.proofs.lemmas.List.{get_or_append_left, get_or_default}
 use Rattle.std.specs.List.{Contains}
 use Rattle.std.specs.List.Sorted.{IsStrictlySortedBy}
@@ -10,7 +11,7 @@ use Rattle.cw_closure.specs.Closures.{Exactly}
 use Rattle.cw_closure.specs.Seen.{SeenIs, Adds}
 use Rattle.cw_joined.specs.Members.{Rules, IsMember, first, then, joins, AreMet, IsPair, pair_cmp, HaveMore}
 use Rattle.cw_joined.specs.Working.{PutsIn, held_if, met_by, join_of, Below, Reached}
-use Rattle.cw_joined.proofs.Keys.{contains_none, contains_one, contains_first}
+use Rattle.cw_closure.proofs.Members.{contains_none, contains_one, contains_first}
 
 -- elements of a mapped list
 abbrev pub In : {A : Type 0} → List A → A → Type 0
@@ -90,7 +91,8 @@ module _ {K G : Type 0} (r : Rules K G) (start : K) where
   }
 
   -- k, the next of what was seen, is held for its groups; what is met with it, and what is held then, was seen
-  module _ (seen : List K) (pairs : List (K × K)) (W E W' E' : G → List K) (i : ℕ) (k : K) (h : Reached r start seen pairs W E i) (l : i < length seen) (at : (d : K) → get_or seen i d ≡ k) (p : PutsIn W W' (r.waits k) k) (q : PutsIn E E' (r.ends k) k) where
+  module _ (seen : List K) (pairs : List (K × K)) (W E W' E' : G → List K) (i : ℕ) (k : K) (h : Reached r start seen pairs W E i) (l : i < length seen) (at : (d : K) → get_or seen i d ≡ k)
+      (p : PutsIn W W' (r.waits k) k) (q : PutsIn E E' (r.ends k) k) where
     abbrev met : List (K × K)
     met = met_by W' E' (r.waits k) (r.ends k) k
 
@@ -110,7 +112,8 @@ module _ {K G : Type 0} (r : Rules K G) (start : K) where
         by (inl (g, w, e, d)) = let f = from_end ab.1 g d in (subst (Contains seen) (sym e) here, f.0, (g, ap r.waits e ∙ w, f.1))
         by (inr (g, w, e, d)) = let f = from_wait ab.0 g d in (f.0, subst (Contains seen) (sym e) here, (g, f.1, ap r.ends e ∙ w))
 
-    module _ (seen' : List K) (pairs' : List (K × K)) (next : List K) (is : next ≡ r.after k ++ map (join_of r) (met_by W' E' (r.waits k) (r.ends k) k)) (s : Adds seen seen' next) (t : Adds pairs pairs' (met_by W' E' (r.waits k) (r.ends k) k)) where
+    module _ (seen' : List K) (pairs' : List (K × K)) (next : List K) (is : next ≡ r.after k ++ map (join_of r) (met_by W' E' (r.waits k) (r.ends k) k)) (s : Adds seen seen' next)
+        (t : Adds pairs pairs' (met_by W' E' (r.waits k) (r.ends k) k)) where
       old : (x : K) → Contains seen x → Contains seen' x
       old x c = subst (λ y. Contains y x) (sym s.is) (Contains-append_left seen s.more x c)
 
@@ -138,7 +141,8 @@ module _ {K G : Type 0} (r : Rules K G) (start : K) where
           by false t = let lt : j < i = grind (arith, nat_tests) in inl (j, lt, in', same)
 
       new_needed : (x : K) → Contains s.more x → IsMember r start x
-      new_needed x c = ⊎_elim (λ d. then k x (h.needed k here) d) (λ d. by (contains_mapped (join_of r) met x d)) (Contains-append_cases (r.after k) (map (join_of r) met) x (subst (λ y. Contains y x) is (s.from x c)))
+      new_needed x c = ⊎_elim (λ d. then k x (h.needed k here) d) (λ d. by (contains_mapped (join_of r) met x d))
+          (Contains-append_cases (r.after k) (map (join_of r) met) x (subst (λ y. Contains y x) is (s.from x c)))
         where
           by : (ab : K × K) × Contains met ab × (x ≡ join_of r ab) → IsMember r start x
           by z = let m = met_are z.0 z.1 in subst (IsMember r start) (sym z.2) (joins z.0.0 z.0.1 m.2.0 (h.needed z.0.0 m.0) (h.needed z.0.1 m.1) m.2.1 m.2.2)
@@ -162,7 +166,8 @@ module _ {K G : Type 0} (r : Rules K G) (start : K) where
         closed = λ a b m c. ⊎_elim (λ o. old b (h.closed a b o c)) (λ n. has b (Contains-append_left (r.after k) (map (join_of r) met) b (subst (λ y. Contains (r.after y) b) n c))) (split a m);
         joined = λ a b g m n e f. ⊎_elim (λ o. old (r.join a b) (h.joined a b g o.0 o.1 e f)) (λ c. has_join (a, b) c) (old_or_met a b g m n e f);
         paired = λ a b g m n e f. ⊎_elim (λ o. old_pair (a, b) (h.paired a b g o.0 o.1 e f)) (λ c. t.has (a, b) c) (old_or_met a b g m n e f);
-        are_met = λ ab c. let z = ⊎_elim (λ o. h.are_met ab o) (λ n. met_are ab (t.from ab n)) (Contains-append_cases pairs t.more ab (subst (λ y. Contains y ab) t.is c)) in (old ab.0 z.0, old ab.1 z.1, z.2);
+        are_met = λ ab c. let z = ⊎_elim (λ o. h.are_met ab o) (λ n. met_are ab (t.from ab n)) (Contains-append_cases pairs t.more ab (subst (λ y. Contains y ab) t.is c)) in
+            (old ab.0 z.0, old ab.1 z.1, z.2);
         has_waiting = wait_all;
         has_ended = end_all;
         is_waiting = λ a g c. let f = from_wait a g c in (old a f.0, f.1);
@@ -189,10 +194,19 @@ module _ {K G : Type 0} (r : Rules K G) (start : K) where
   pub are_pairs : (seen : List K) (pairs : List (K × K)) (W E : G → List K) (i : ℕ) → Reached r start seen pairs W E i → (ab : K × K) → Contains pairs ab → IsPair r start ab
   are_pairs seen pairs W E i h ab c = let m = h.are_met ab c in record { waiting = h.needed ab.0 m.0; ending = h.needed ab.1 m.1; met = m.2 }
 
-  pub exactly_pairs : (seen : List K) (pairs : List (K × K)) (W E : G → List K) (i : ℕ) → Reached r start seen pairs W E i → length seen ≤ i → (cmp : K → K → Ordering) (set v : List (K × K)) → SeenIs (pair_cmp cmp) pairs set → v ≡ set → IsStrictlySortedBy (pair_cmp cmp) v → Exactly (pair_cmp cmp) (IsPair r start) v
-  exactly_pairs seen pairs W E i h l cmp set v s e o = (o, λ k. (λ c. are_pairs seen pairs W E i h k ((s.same k).1 (subst (λ y. Contains y k) e c)), λ n. subst (λ y. Contains y k) (sym e) ((s.same k).0 (all_paired seen pairs W E i h l k n))))
+  pub exactly_pairs : (seen : List K) (pairs : List (K × K)) (W E : G → List K) (i : ℕ) → Reached r start seen pairs W E i → length seen ≤ i → (cmp : K → K → Ordering) (set v : List (K × K))
+      → SeenIs (pair_cmp cmp) pairs set → v ≡ set → IsStrictlySortedBy (pair_cmp cmp) v → Exactly (pair_cmp cmp) (IsPair r start) v
+  exactly_pairs seen pairs W E i h l cmp set v s e o = (
+    o,
+    λ k. (
+      λ c. are_pairs seen pairs W E i h k ((s.same k).1 (subst (λ y. Contains y k) e c)),
+      λ n. subst (λ y. Contains y k) (sym e)
+          ((s.same k).0 (all_paired seen pairs W E i h l k n)),
+    ),
+  )
 
-  pub have_more : (seen : List K) (pairs : List (K × K)) (W E : G → List K) (i : ℕ) → Reached r start seen pairs W E i → (cmp : K → K → Ordering) (set : List K) (pair_set : List (K × K)) → SeenIs cmp seen set → SeenIs (pair_cmp cmp) pairs pair_set → (n : ℕ) → n < length seen + length pairs → HaveMore cmp r start n
+  pub have_more : (seen : List K) (pairs : List (K × K)) (W E : G → List K) (i : ℕ) → Reached r start seen pairs W E i → (cmp : K → K → Ordering) (set : List K) (pair_set : List (K × K))
+      → SeenIs cmp seen set → SeenIs (pair_cmp cmp) pairs pair_set → (n : ℕ) → n < length seen + length pairs → HaveMore cmp r start n
   have_more seen pairs W E i h cmp set pair_set s t n l = record {
     members = set;
     pairs = pair_set;

@@ -9,7 +9,7 @@ use Rattle.std.specs.Cmp.{IsTotalOrder}
 use Rattle.std.specs.declared.cmp.Ordering.{Ordering}
 use Rattle.std.proofs.lemmas.List.{take_more, take_all, get_or_default}
 use Rattle.std.proofs.lemmas.List.Elements.{Contains-push, Contains-push_cases, Contains-append_left, filter_map-append}
-use Rattle.cw_joined.proofs.Keys.{inserted_old, inserted_new, inserted_from}
+use Rattle.cw_closure.proofs.Keys.{inserted_old, inserted_new, inserted_from}
 
 -- the set has the items so far
 abbrev pub HasSame : {K : Type 0} → List K → List K → Type 0

@@ -21,6 +21,7 @@ use Rattle.cw_game.specs.declared.spots.Spot.TheVariants.{Visit, Asked, Label, O
 use Rattle.cw_game.specs.Games.{Game, Config, resumed, returned, IsLost}
 use Rattle.cw_game.specs.Pairs.{has, all_states, Called, call_spot, kept_at}
 use Rattle.cw_game.specs.Conditions.{first_failing, is_state, is_set, is_position, is_memory, is_memory_if, has_seam, has_stage, is_seam, is_stage, is_header, is_mem_row, is_live_row, is_try_row, is_at_row, is_open_row, is_into_row, is_back_row, begins, fault_at, in_range, ranges, live_rows, InMems, InLive, InTries, InAts, InOpened, InClosed, InInto, InBack, TableFault, IsGoodTable}
+use Rattle.cw_game.proofs.Failing.{none_more, none_append}
 use Rattle.cw_game.proofs.Truths.{both}
 use Rattle.cw_solve.specs.Contexts.{context}
 use Rattle.cw_solve.specs.Routes.{IsState, AreRouted}
@@ -32,7 +33,7 @@ use Rattle.cw_lazy.specs.Staged.{AreStaged, IsKnown}
 use Rattle.cw_lazy.proofs.Finding.{of_in, below}
 use Rattle.cw_lazy.proofs.Keeping.{safe, came}
 use Rattle.cw_lazy.proofs.Meeting.{leads_to}
-use Rattle.cw_lazy.proofs.Rows.{none_more, none_append, none_in_range, rows_good}
+use Rattle.cw_lazy.proofs.Rows.{none_in_range, rows_good}
 
 any_of : {A : Type 0} (test : A → Bool) (xs : List A) (i : ℕ) (x : A) → slice_get xs i ≡ Some x → test x ≡ true → list_any test xs ≡ true
 any_of test [] i x e h = absurd (none-some x e)

@@ -1,8 +1,7 @@
 -- The conditions of the live rows of the lazy table: visits, calls and returns, and all of them.
-use Rattle.std.proofs.Common.{◌≡◌, ◌⊎◌, inl, inr, ℕ, ◌+◌, List, [], ◌∷◌, ◌++◌, map, Bool, true, false, cond, not, ◌||◌, Option, Some, None, is_some, option_map, nat_eq, refl, sym, ap, ◌∙◌, subst, eqb-true, eq-eqb}
+use Rattle.std.proofs.Common.{◌≡◌, ◌⊎◌, inl, inr, ℕ, ◌+◌, List, [], ◌∷◌, map, Bool, true, false, cond, not, ◌||◌, Option, Some, None, is_some, option_map, nat_eq, refl, sym, ap, ◌∙◌, subst, eqb-true, eq-eqb}
 use Rattle.std.specs.Prelude.{slice_get}
 use Rattle.std.specs.List.{enumerate_from, Contains}
-use Rattle.std.proofs.lemmas.Option.{none-some}
 use Rattle.cw_core.specs.declared.ids.MemId.{MemId}
 use Rattle.cw_core.specs.declared.ids.PosId.{PosId}
 use Rattle.cw_certs.specs.declared.rows.IntoRow.{IntoRow}
@@ -12,6 +11,7 @@ use Rattle.cw_game.specs.declared.spots.Spot.TheVariants.{Visit}
 use Rattle.cw_game.specs.Games.{Game, returned, IsLost}
 use Rattle.cw_game.specs.Pairs.{has, all_states, is_live, Called, call_in, kept_at}
 use Rattle.cw_game.specs.Conditions.{first_failing, visits_on, begins_by, calls_on, promise_of, means_state, returns_by, all_return, returns_on, back_by, live_conditions, live_by, live_rows, fault_at, InLive, Part}
+use Rattle.cw_game.proofs.Failing.{none_more, none_append, none_mapped}
 use Rattle.cw_game.proofs.Truths.{both}
 use Rattle.cw_solve.specs.Routes.{IsState, targets, AreRouted}
 use Rattle.cw_solve.proofs.Still.{first_of_two}
@@ -30,26 +30,6 @@ implied true b h = h refl
 implied false b h = refl
 
 -- no condition fails
-pub none_more : {A : Type 0} (b : Bool) (rest : Option A) (a : A) → b ≡ true → rest ≡ None → cond b rest (Some a) ≡ None
-none_more true rest a e h = h
-none_more false rest a e h = cc
-
-pub none_append : {A : Type 0} (xs ys : List (A × Bool)) → first_failing xs ≡ None → first_failing ys ≡ None → first_failing (xs ++ ys) ≡ None
-none_append [] ys h k = k
-none_append (c ∷ xs) ys h k = by c.1 refl (λ r. none_append xs ys r k)
-  where
-    by : (b : Bool) → c.1 ≡ b → (first_failing xs ≡ None → first_failing (xs ++ ys) ≡ None) → cond c.1 (first_failing (xs ++ ys)) (Some c.0) ≡ None
-    by true e rec = none_more c.1 (first_failing (xs ++ ys)) c.0 e (rec (sym (ap (λ b. cond b (first_failing xs) (Some c.0)) e) ∙ h))
-    by false e rec = absurd (none-some c.0 (sym (sym (ap (λ b. cond b (first_failing xs) (Some c.0)) e) ∙ h)))
-
-none_mapped : {A B : Type 0} (f : A → B) (cs : List (A × Bool)) → first_failing cs ≡ None → first_failing (map (λ c. (f c.0, c.1)) cs) ≡ None
-none_mapped f [] h = refl
-none_mapped f (c ∷ cs) h = by c.1 refl (λ r. none_mapped f cs r)
-  where
-    by : (b : Bool) → c.1 ≡ b → (first_failing cs ≡ None → first_failing (map (λ c. (f c.0, c.1)) cs) ≡ None) → cond c.1 (first_failing (map (λ c. (f c.0, c.1)) cs)) (Some (f c.0)) ≡ None
-    by true e rec = none_more c.1 (first_failing (map (λ c. (f c.0, c.1)) cs)) (f c.0) e (rec (sym (ap (λ b. cond b (first_failing cs) (Some c.0)) e) ∙ h))
-    by false e rec = absurd (none-some c.0 (sym (sym (ap (λ b. cond b (first_failing cs) (Some c.0)) e) ∙ h)))
-
 pub none_in_range : {A : Type 0} (part : Part) (test : A → Bool) (n : ℕ) (rows : List A) → ((r : A) → In rows r → test r ≡ true) → first_failing (map (λ r. (fault_at part r.0 1, test r.1)) (enumerate_from n rows)) ≡ None
 none_in_range part test n [] h = refl
 none_in_range part test n (r ∷ rows) h = none_more (test r) _ (fault_at part n 1) (h r (inl refl)) (none_in_range part test (n + 1) rows (λ x i. h x (inr i)))

@@ -1,5 +1,5 @@
 -- The strategy by least heights meets the conditions.
-use Rattle.std.proofs.Common.{◌≡◌, ◌⊎◌, ℕ, zero, suc, ◌+◌, ◌-◌, ◌<◌, ◌^◌, List, [], ◌∷◌, ◌++◌, Bool, true, false, cond, not, ◌&&◌, ◌||◌, Option, Some, None, is_some, map, filter_map, find, length, nat_eq, nat_lt, refl, sym, ap, ◌∙◌, subst, arith, inl, inr}
+use Rattle.std.proofs.Common.{◌≡◌, ◌⊎◌, ℕ, zero, suc, ◌+◌, ◌-◌, ◌<◌, ◌^◌, List, [], ◌∷◌, Bool, true, false, cond, not, ◌&&◌, ◌||◌, Option, Some, None, is_some, map, filter_map, find, length, nat_eq, nat_lt, refl, sym, ap, ◌∙◌, subst, arith, inl, inr}
 use Rattle.std.specs.Prelude.{slice_get, option_map}
 use Rattle.std.specs.List.{Contains, cons_option, list_all, list_any, enumerate_from, range_with_len}
 use Rattle.std.specs.List.Sorted.{IsStrictlySortedBy}
@@ -14,6 +14,7 @@ use Rattle.cw_game.specs.declared.spots.Spot.TheVariants.{Visit, Asked, Step, Br
 use Rattle.cw_game.specs.Games.{Game, Promise, Holds, holds_in, bad_in, weavers_in, leads_in, returned}
 use Rattle.cw_game.specs.Pairs.{has, Called, call_in, is_call_in, is_exit_in, kept_at}
 use Rattle.cw_game.specs.Conditions.{first_failing, is_state, named_by, exits_by, is_row, is_violated, is_exit, ends_well, is_row_at, stands_after, weaver_moves, environment_moves, callee_stands, is_back, are_backs, backs_stand, row_conditions, fault_in, all_rows, is_start, IsGoodStrategy}
+use Rattle.cw_game.proofs.Failing.{none_more, none_append, none_mapped}
 use Rattle.cw_game.proofs.Truths.{both}
 use Rattle.cw_product.specs.Moves.{next_in}
 use Rattle.cw_solve.specs.Asking.{holds_after, after, holds_by_moves}
@@ -33,37 +34,16 @@ use Rattle.cw_least.proofs.Moving.{moved}
 use Rattle.cw_least.proofs.Naming.{none_in, first_or_later, is_first, is_later, from_mapped, in_range, named_lower, fails, best_taken, best_some, taken_at, backs_lower, reached_keys, start_is}
 
 -- no condition fails
-none_here : {A : Type 0} (a : A) (b : Bool) (cs : List (A × Bool)) → b ≡ true → first_failing cs ≡ None → first_failing ((a, b) ∷ cs) ≡ None
-none_here a b cs t h = ap (λ b. cond b (first_failing cs) (Some a)) t ∙ h
-
 seven : (a b c d e f h : Bool) → a ≡ true → b ≡ true → c ≡ true → d ≡ true → e ≡ true → f ≡ true → h ≡ true → first_failing {A = ℕ} ((1, a) ∷ (2, b) ∷ (3, c) ∷ (4, d) ∷ (5, e) ∷ (6, f) ∷ (7, h) ∷ []) ≡ None
 seven a b c d e f h p q r s t u v =
-    none_here 1 a ((2, b) ∷ (3, c) ∷ (4, d) ∷ (5, e) ∷ (6, f) ∷ (7, h) ∷ []) p (none_here 2 b ((3, c) ∷ (4, d) ∷ (5, e) ∷ (6, f) ∷ (7, h) ∷ []) q (none_here 3 c ((4, d) ∷ (5, e) ∷ (6, f) ∷ (7, h) ∷ []) r (none_here 4 d ((5, e) ∷ (6, f) ∷ (7, h) ∷ []) s (none_here 5 e ((6, f) ∷ (7, h) ∷ []) t (none_here 6 f ((7, h) ∷ []) u (none_here 7 h [] v refl))))))
-
-none_both : {A : Type 0} (xs ys : List (A × Bool)) → first_failing xs ≡ None → first_failing ys ≡ None → first_failing (xs ++ ys) ≡ None
-none_both [] ys h k = k
-none_both (c ∷ xs) ys h k = by c.1 refl h (none_both xs ys)
-  where
-    by : (b : Bool) → c.1 ≡ b → cond b (first_failing xs) (Some c.0) ≡ None → (first_failing xs ≡ None → first_failing ys ≡ None → first_failing (xs ++ ys) ≡ None)
-        → cond c.1 (first_failing (xs ++ ys)) (Some c.0) ≡ None
-    by true t h rec = ap (λ b. cond b (first_failing (xs ++ ys)) (Some c.0)) t ∙ rec h k
-    by false t h rec = absurd (none-some c.0 (sym h))
-
-none_mapped : {A B : Type 0} (f : A → B) (cs : List (A × Bool)) → first_failing cs ≡ None → first_failing (map (λ c. (f c.0, c.1)) cs) ≡ None
-none_mapped f [] h = refl
-none_mapped f (c ∷ cs) h = by c.1 refl h (none_mapped f cs)
-  where
-    by : (b : Bool) → c.1 ≡ b → cond b (first_failing cs) (Some c.0) ≡ None → (first_failing cs ≡ None → first_failing (map (λ c. (f c.0, c.1)) cs) ≡ None)
-        → cond c.1 (first_failing (map (λ c. (f c.0, c.1)) cs)) (Some (f c.0)) ≡ None
-    by true t h rec = ap (λ b. cond b (first_failing (map (λ c. (f c.0, c.1)) cs)) (Some (f c.0))) t ∙ rec h
-    by false t h rec = absurd (none-some c.0 (sym h))
+    none_more a _ 1 p (none_more b _ 2 q (none_more c _ 3 r (none_more d _ 4 s (none_more e _ 5 t (none_more f _ 6 u (none_more h _ 7 v refl))))))
 
 rows_none : (g : Game) (s : Strategy) (rows : List Row) (n : ℕ) → ((j : ℕ) (r : Row) → slice_get rows j ≡ Some r → first_failing (row_conditions g s (n + j) r (slice_get g.spots r.pos)) ≡ None)
     → first_failing (all_rows g s (enumerate_from n rows)) ≡ None
 rows_none g s [] n h = refl
 rows_none g s (r ∷ rows) n h =
     let z : n + 0 ≡ n = omega arith in
-    none_both (map (λ c. (fault_in n c.0, c.1)) (row_conditions g s n r (slice_get g.spots r.pos))) (all_rows g s (enumerate_from (n + 1) rows))
+    none_append (map (λ c. (fault_in n c.0, c.1)) (row_conditions g s n r (slice_get g.spots r.pos))) (all_rows g s (enumerate_from (n + 1) rows))
     (none_mapped (λ c. fault_in n c) (row_conditions g s n r (slice_get g.spots r.pos)) (subst (λ i. first_failing (row_conditions g s i r (slice_get g.spots r.pos)) ≡ None) z (h 0 r refl)))
     (rows_none g s rows (n + 1) (λ j x e. let y : n + suc j ≡ n + 1 + j = omega arith in subst (λ i. first_failing (row_conditions g s i x (slice_get g.spots x.pos)) ≡ None) y (h (suc j) x e)))
 
@@ -390,8 +370,8 @@ module _ (g : Game) (functions : ℕ) (routed : AreRouted g functions) (s : Stra
   -- The strategy by least heights meets the conditions.
   pub least_good : IsGoodStrategy g s
   least_good =
-      none_here (fault_in 0 1) (nat_eq s.states g.states.count) (all_rows g s (enumerate_from 0 s.rows) ++ (fault_in (length s.rows) 8, list_any (is_start g) s.rows) ∷ []) (eq-eqb s.states g.states.count is.states)
-      (none_both (all_rows g s (enumerate_from 0 s.rows)) ((fault_in (length s.rows) 8, list_any (is_start g) s.rows) ∷ [])
+      none_more (nat_eq s.states g.states.count) _ (fault_in 0 1) (eq-eqb s.states g.states.count is.states)
+      (none_append (all_rows g s (enumerate_from 0 s.rows)) ((fault_in (length s.rows) 8, list_any (is_start g) s.rows) ∷ [])
       (rows_none g s s.rows 0 (λ j r e. let z : j ≡ 0 + j = omega arith in subst (λ i. first_failing (row_conditions g s i r (slice_get g.spots r.pos)) ≡ None) z (at_row j r e)))
-      (none_here (fault_in (length s.rows) 8) (list_any (is_start g) s.rows) []
+      (none_more (list_any (is_start g) s.rows) _ (fault_in (length s.rows) 8)
       (any_at (is_start g) s.rows (number is.keys start) (row_at g is.keys start) (row_is g functions routed is.keys is.exactly.0 s is.rows start begins) (is_same (g.entry g.main) g.states.start 0)) refl))

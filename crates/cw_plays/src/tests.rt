@@ -8,7 +8,7 @@ ghost use Rattle.cw_rights.specs.Trees.{tree_of};
 ghost use Rattle.cw_rights.specs.Valid.{IsValid};
 ghost use Rattle.cw_plays.specs.Order.{order};
 
-use cw_boards::{Front, Moves, Phase, Seen, board_move, board_moves, board_start, erased};
+use cw_boards::{BoardFault, Front, Moves, Phase, Seen, board_move, board_moves, board_start, erased};
 use cw_certs::Move;
 use cw_core::NoMemory;
 use cw_rights::{Descriptor, Limit, Lit, Policy, Regex, Rights, Rule, Test};
@@ -184,7 +184,11 @@ fn told(
     requires { IsValid (policy_of policy.now) }
 {
     let mut text = Vec::new(alloc);
-    let mut board = board_start(alloc, checked, policy)?;
+    let mut board = match board_start(alloc, checked, policy) {
+        Ok(board) => board,
+        Err(BoardFault::TooManySeams) => return Ok(text),
+        Err(BoardFault::NoMemory) => return Err(NoMemory),
+    };
     for mark in moves {
         put_moves(&mut text, board_moves(checked, policy, &board))?;
         match board_move(alloc, checked, policy, board, move_of(*mark))? {

@@ -1,36 +1,31 @@
 -- Calls, returns, the end of the program, and what follows a refusal that a stop can answer.
-use Rattle.std.proofs.Common.{◌≡◌, ◌⊎◌, ℕ, suc, ◌+◌, List, [], ◌∷◌, ◌++◌, map, Bool, true, false, cond, not, ◌&&◌, ◌||◌, Option, Some, None, is_some, option_map, option_and_then, refl, sym, ap, ap₂, ◌∙◌, subst, append-nil}
+use Rattle.std.proofs.Common.{◌≡◌, ℕ, ◌+◌, List, [], ◌∷◌, ◌++◌, map, Bool, true, false, Option, Some, None, is_some, option_map, option_and_then, refl, sym, ap, ap₂, ◌∙◌, subst, append-nil}
 use Rattle.std.specs.Prelude.{slice_get}
-use Rattle.std.proofs.lemmas.Option.{none-some, same_Some, cond_some}
-use Rattle.cw_core.specs.declared.ids.MemId.{MemId}
+use Rattle.std.proofs.lemmas.Option.{none-some, same_Some}
 use Rattle.cw_rights.specs.declared.capabilities.Caps.{Caps}
-use Rattle.cw_rights.specs.declared.capabilities.Primitive.{Primitive}
 use Rattle.cw_rights.specs.Words.{Word}
-use Rattle.cw_rights.specs.Policies.{is_refusable}
 use Rattle.cw_certs.specs.declared.moves.Move.{Move}
-use Rattle.cw_certs.specs.declared.moves.Move.TheVariants.{Skip, Refuse, On, Stop}
-use Rattle.cw_certs.specs.declared.rows.TryRow.{TryRow}
-use Rattle.cw_certs.specs.Tables.{Table, into_at, back_at, try_at, state_of}
+use Rattle.cw_certs.specs.declared.moves.Move.TheVariants.{On}
+use Rattle.cw_certs.specs.Tables.{Table, into_at, back_at, state_of}
 use Rattle.cw_syntax.specs.Plans.{Callee, Call, Plan}
-use Rattle.cw_syntax.specs.Frames.{Todo, End, Frame, Way, settle, pass, popped, frame_of}
+use Rattle.cw_syntax.specs.Frames.{Todo, End, Frame, Way, settle, pass, frame_of}
 use Rattle.cw_syntax.specs.Frames.{On as OnWay}
-use Rattle.cw_model.specs.Boards.{Problem, Phase, Visit, Asked, Refused, Free, FreeSplit, Over, Board, may_grant, may_refuse, can_stop, way_of, landed, passed_by, moved, Moves, Violates}
-use Rattle.cw_model.specs.Runs.{front_seam, mem_in, try_in, refused_with, stops, stays_where, called_with, returned_with, return_memories, was_split, memories, State, WovenStep}
+use Rattle.cw_model.specs.Boards.{Problem, Phase, Free, FreeSplit, Over, Board, landed, moved}
+use Rattle.cw_model.specs.Runs.{mem_in, called_with, returned_with, memories, State, WovenStep}
 use Rattle.cw_game.specs.declared.spots.Spot.{Spot}
-use Rattle.cw_game.specs.declared.spots.Spot.TheVariants.{Exit, Asked as AskedSpot, Call as CallSpot, SplitCall}
-use Rattle.cw_game.specs.Games.{AreStates, Game, Ret, Config, at_pair, leads_in, leads_to, bad_in, can_stop_in, resumed, resumed_in, returned}
+use Rattle.cw_game.specs.declared.spots.Spot.TheVariants.{Exit, Call as CallSpot, SplitCall}
+use Rattle.cw_game.specs.Games.{AreStates, Game, Ret, at_pair, leads_in, leads_to, bad_in, returned}
 use Rattle.cw_game.specs.Reached.{Reached}
 use Rattle.cw_game.specs.Places.{IsLaidOut, HasRoutines}
 use Rattle.cw_game.specs.Pairs.{call_spot, kept_at}
-use Rattle.cw_game.specs.Standing.{StandsIn, StandsOn}
+use Rattle.cw_game.specs.Standing.{StandsOn}
 use Rattle.cw_game.proofs.Moves.{step_of}
-use Rattle.cw_game.proofs.Stands.{refused_at, stops_is}
-use Rattle.cw_game.proofs.Link.{Stands, not_both, violates_bad, board_moves}
-use Rattle.cw_trace.specs.Traces.{Names, step_lines, stopped_lines}
-use Rattle.cw_trace.specs.Lines.{try_line, stop_line}
-use Rattle.cw_run.specs.Walks.{Here, Wait, ret_of, config_of, mems_of, place, spot_lines, Next, Resumed, Stopped}
-use Rattle.cw_run.proofs.Sees.{Sees, sees_visit, sees_asked, sees_step, sees_branch, sees_label, sees_open, sees_close, sees_call, sees_split, sees_end, see, means_in, below, board_on, told_by}
-use Rattle.cw_run.proofs.Sits.{IsCallOf, Waiting, Least, Sits, Stepped, label_of, arrived}
+use Rattle.cw_game.proofs.Link.{not_both, violates_bad, board_moves}
+use Rattle.cw_trace.specs.Traces.{Names, step_lines}
+use Rattle.cw_told.specs.Told.{spot_lines}
+use Rattle.cw_run.specs.Walks.{Here, Wait, ret_of, config_of, mems_of, place}
+use Rattle.cw_run.proofs.Sees.{Sees, sees_visit, sees_asked, sees_step, sees_branch, sees_label, sees_open, sees_close, sees_call, sees_split, sees_end, see, below, board_on}
+use Rattle.cw_run.proofs.Sits.{IsCallOf, Waiting, Least, Sits, Stepped, arrived, told_by}
 
 module _ (names : Names) (g : Game) (t : Table) (plan : Plan) (right : AreStates g.policy g.spots g.states (Reached g.policy g.spots g.states)) (laid : IsLaidOut plan g) (has : HasRoutines plan g)
     (held : ℕ → Caps) (holds : (q : ℕ) (w : Word) (c : Caps) → Reached g.policy g.spots g.states q w c → held q ≡ c) where
@@ -77,10 +72,26 @@ module _ (names : Names) (g : Game) (t : Table) (plan : Plan) (right : AreStates
   unfolding spot_call
   call_here j f n true _ _ _ e (sees_split {at = at} {j = j2} {callee = callee} {is = is} {n = n2}) =
       let k = ap spot_call e in
-      record { at = at; callee = callee; rest = is; is_frame = ap (λ x. Todo (Call at x callee) ∷ is) (ap (λ (x : ℕ × (ℕ × ℕ)). x.0) k); is_phase = refl; is_callee = ap (λ (x : ℕ × (ℕ × ℕ)). x.1.0) k }
+      record {
+        at = at;
+        callee = callee;
+        rest = is;
+        is_frame = ap (λ x. Todo (Call at x callee) ∷ is) (ap (λ (x : ℕ × (ℕ × ℕ)). x.0) k);
+        is_phase = refl;
+        is_callee =
+            ap (λ (x : ℕ × (ℕ × ℕ)). x.1.0) k;
+      }
   call_here j f n false _ _ _ e (sees_call {at = at} {j = j2} {callee = callee} {is = is} {n = n2}) =
       let k = ap spot_call e in
-      record { at = at; callee = callee; rest = is; is_frame = ap (λ x. Todo (Call at x callee) ∷ is) (ap (λ (x : ℕ × (ℕ × ℕ)). x.0) k); is_phase = refl; is_callee = ap (λ (x : ℕ × (ℕ × ℕ)). x.1.0) k }
+      record {
+        at = at;
+        callee = callee;
+        rest = is;
+        is_frame = ap (λ x. Todo (Call at x callee) ∷ is) (ap (λ (x : ℕ × (ℕ × ℕ)). x.0) k);
+        is_phase = refl;
+        is_callee =
+            ap (λ (x : ℕ × (ℕ × ℕ)). x.1.0) k;
+      }
   call_here j f n true _ _ _ e sees_call = cc
   call_here j f n false _ _ _ e sees_split = cc
   call_here j f n true _ _ _ e (sees_visit h) = cc
@@ -137,16 +148,16 @@ module _ (names : Names) (g : Game) (t : Table) (plan : Plan) (right : AreStates
   call_on : (frame : Frame) (frames : List Frame) (kept : List (Option Caps)) (caps : Caps) (word : Word) (phase : Phase) (h : Here) (waits : List Wait) (split : Bool) (j f n m : ℕ)
       → let b = board_on (frame ∷ frames) kept caps word phase in StandsOn (Least g) g (frame ∷ frames) kept caps word phase h.pos h.state (map ret_of waits)
       → Waiting frames kept waits → slice_get g.spots h.pos ≡ Some (call_spot split j f n) → option_and_then (λ r. mem_in t r.callee) (into_at t j split h.mem) ≡ Some m
-      → Step (state_of_board b (mems_of h waits)) On (spot_lines names g.policy plan.main (call_spot split j f n) On) (place (g.entry f, h.state) m) (wait_at h j n split ∷ waits)
+      → Step (state_of_board b (mems_of h waits)) On (spot_lines names g.policy g.main (call_spot split j f n) On) (place (g.entry f, h.state) m) (wait_at h j n split ∷ waits)
   call_on frame frames kept caps word phase h waits split j f n m stands waiting es em =
       let sn = see (Least g) g.spots g.policy (g.exit stands.0) frame caps word phase h.pos h.state stands.1 in
       let sees : Sees frame phase (call_spot split j f n) = subst (λ o. Sees frame phase o) (same_Some sn.0 (call_spot split j f n) (sym sn.1 ∙ es)) sn.2 in
-      by (call_here j f n split frame phase (call_spot split j f n) refl sees) sees
+      by (call_here j f n split frame phase (call_spot split j f n) refl sees)
     where
-      by : IsCallHere j f split frame phase → Sees frame phase (call_spot split j f n)
-          → Step (state_of_board (board_on (frame ∷ frames) kept caps word phase) (mems_of h waits)) On (spot_lines names g.policy plan.main (call_spot split j f n) On)
+      by : IsCallHere j f split frame phase
+          → Step (state_of_board (board_on (frame ∷ frames) kept caps word phase) (mems_of h waits)) On (spot_lines names g.policy g.main (call_spot split j f n) On)
           (place (g.entry f, h.state) m) (wait_at h j n split ∷ waits)
-      by c sees =
+      by c =
           let rets = map ret_of waits in
           let frame2 : Frame = Todo (Call c.at j c.callee) ∷ c.rest in
           let b = board_on (frame ∷ frames) kept caps word phase in
@@ -170,20 +181,20 @@ module _ (names : Names) (g : Game) (t : Table) (plan : Plan) (right : AreStates
               mems = refl;
               waiting = subst (λ fs. Waiting fs to.0.kept (wait_at h j n split ∷ waits)) (sym stay.0) (subst (λ k. Waiting (frame2 ∷ frames) k (wait_at h j n split ∷ waits)) (sym stay.1) waiting2);
             };
-            tells = ap₂ (λ x y. x ++ y) (told_by names problem t frame frames kept caps word phase On (call_spot split j f n) sees)
+            tells = ap₂ (λ x y. x ++ y) (told_by names g t plan right laid has held holds b h waits On (call_spot split j f n) stands es)
                 (arrived names g t plan right laid has held holds to.0 (place (g.entry f, h.state) m) (wait_at h j n split ∷ waits) to.2);
           }
 
   pub call_step : (s : State) (h : Here) (waits : List Wait) (split : Bool) (j f n m : ℕ) → Sits g s h waits → slice_get g.spots h.pos ≡ Some (call_spot split j f n)
       → option_and_then (λ r. mem_in t r.callee) (into_at t j split h.mem) ≡ Some m
-      → Step s On (spot_lines names g.policy plan.main (call_spot split j f n) On) (place (g.entry f, h.state) m) (wait_at h j n split ∷ waits)
+      → Step s On (spot_lines names g.policy g.main (call_spot split j f n) On) (place (g.entry f, h.state) m) (wait_at h j n split ∷ waits)
   call_step s h waits split j f n m sits es em =
-      subst (λ ms. Step (state_of_board s.board ms) On (spot_lines names g.policy plan.main (call_spot split j f n) On) (place (g.entry f, h.state) m) (wait_at h j n split ∷ waits))
+      subst (λ ms. Step (state_of_board s.board ms) On (spot_lines names g.policy g.main (call_spot split j f n) On) (place (g.entry f, h.state) m) (wait_at h j n split ∷ waits))
       (sym sits.mems) (on s.board.stack s.board.kept s.board.caps s.board.word s.board.phase sits.stands sits.waiting)
     where
       on : (stack : List Frame) (kept : List (Option Caps)) (caps : Caps) (word : Word) (phase : Phase) → StandsOn (Least g) g stack kept caps word phase h.pos h.state (map ret_of waits)
           → Waiting (below stack) kept waits
-          → Step (state_of_board (board_on stack kept caps word phase) (mems_of h waits)) On (spot_lines names g.policy plan.main (call_spot split j f n) On) (place (g.entry f, h.state) m)
+          → Step (state_of_board (board_on stack kept caps word phase) (mems_of h waits)) On (spot_lines names g.policy g.main (call_spot split j f n) On) (place (g.entry f, h.state) m)
           (wait_at h j n split ∷ waits)
       on [] kept caps word phase stands waiting = absurd stands
       on (frame ∷ frames) kept caps word phase stands waiting = call_on frame frames kept caps word phase h waits split j f n m stands waiting es em
@@ -224,21 +235,21 @@ module _ (names : Names) (g : Game) (t : Table) (plan : Plan) (right : AreStates
       → let b = board_on (frame ∷ frames) kept caps word phase in StandsOn (Least g) g (frame ∷ frames) kept caps word phase h.pos h.state (map ret_of (w ∷ waits))
       → Waiting frames kept (w ∷ waits) → slice_get g.spots h.pos ≡ Some (Exit f) → state_of t h.mem ≡ Some exit
       → option_and_then (λ r. mem_in t r.after) (back_at t w.seam w.split w.mem exit) ≡ Some m
-      → Step (state_of_board b (mems_of h (w ∷ waits))) On (spot_lines names g.policy plan.main (Exit f) On) (place (w.back, returned g.states (kept_at w.split w.state) h.state) m) waits
+      → Step (state_of_board b (mems_of h (w ∷ waits))) On (spot_lines names g.policy g.main (Exit f) On) (place (w.back, returned g.states (kept_at w.split w.state) h.state) m) waits
   return_on frame [] kept caps word phase h w waits f exit m stands waiting es ex em = absurd waiting
   return_on frame (frame2 ∷ frames) [] caps word phase h w waits f exit m stands waiting es ex em = absurd waiting
   return_on frame (frame2 ∷ frames) (k ∷ kept) caps word phase h w waits f exit m stands waiting es ex em =
       let sn = see (Least g) g.spots g.policy (g.exit stands.0) frame caps word phase h.pos h.state stands.1 in
       let sees : Sees frame phase (Exit f) = subst (λ o. Sees frame phase o) (same_Some sn.0 (Exit f) (sym sn.1 ∙ es)) sn.2 in
-      by (end_here f frame phase (Exit f) refl sees) sees waiting.0
+      by (end_here f frame phase (Exit f) refl sees) waiting.0
     where
       to_here : Here
       to_here = place (w.back, returned g.states (kept_at w.split w.state) h.state) m
 
-      by : IsEndHere frame phase → Sees frame phase (Exit f) → IsCallOf frame2 w
-          → Step (state_of_board (board_on (frame ∷ (frame2 ∷ frames)) (k ∷ kept) caps word phase) (mems_of h (w ∷ waits))) On (spot_lines names g.policy plan.main (Exit f) On)
+      by : IsEndHere frame phase → IsCallOf frame2 w
+          → Step (state_of_board (board_on (frame ∷ (frame2 ∷ frames)) (k ∷ kept) caps word phase) (mems_of h (w ∷ waits))) On (spot_lines names g.policy g.main (Exit f) On)
           (place (w.back, returned g.states (kept_at w.split w.state) h.state) m) waits
-      by c sees call =
+      by c call =
           let rets = map ret_of waits in
           let b = board_on (frame ∷ (frame2 ∷ frames)) (k ∷ kept) caps word phase in
           let cf = config_of h (w ∷ waits) in
@@ -265,20 +276,20 @@ module _ (names : Names) (g : Game) (t : Table) (plan : Plan) (right : AreStates
               mems = refl;
               waiting = subst (λ fs. Waiting fs to.0.kept waits) (sym stay.0) (subst (λ ks. Waiting frames ks waits) (sym stay.1) waiting.2);
             };
-            tells = ap₂ (λ x y. x ++ y) (told_by names problem t frame (frame2 ∷ frames) (k ∷ kept) caps word phase On (Exit f) sees)
+            tells = ap₂ (λ x y. x ++ y) (told_by names g t plan right laid has held holds b h (w ∷ waits) On (Exit f) stands es)
                 (arrived names g t plan right laid has held holds to.0 (place (w.back, returned g.states (kept_at w.split w.state) h.state) m) waits to.2);
           }
 
   pub return_step : (s : State) (h : Here) (w : Wait) (waits : List Wait) (f exit m : ℕ) → Sits g s h (w ∷ waits) → slice_get g.spots h.pos ≡ Some (Exit f) → state_of t h.mem ≡ Some exit
       → option_and_then (λ r. mem_in t r.after) (back_at t w.seam w.split w.mem exit) ≡ Some m
-      → Step s On (spot_lines names g.policy plan.main (Exit f) On) (place (w.back, returned g.states (kept_at w.split w.state) h.state) m) waits
+      → Step s On (spot_lines names g.policy g.main (Exit f) On) (place (w.back, returned g.states (kept_at w.split w.state) h.state) m) waits
   return_step s h w waits f exit m sits es ex em =
-      subst (λ ms. Step (state_of_board s.board ms) On (spot_lines names g.policy plan.main (Exit f) On) (place (w.back, returned g.states (kept_at w.split w.state) h.state) m) waits)
+      subst (λ ms. Step (state_of_board s.board ms) On (spot_lines names g.policy g.main (Exit f) On) (place (w.back, returned g.states (kept_at w.split w.state) h.state) m) waits)
       (sym sits.mems) (on s.board.stack s.board.kept s.board.caps s.board.word s.board.phase sits.stands sits.waiting)
     where
       on : (stack : List Frame) (kept : List (Option Caps)) (caps : Caps) (word : Word) (phase : Phase) → StandsOn (Least g) g stack kept caps word phase h.pos h.state (map ret_of (w ∷ waits))
           → Waiting (below stack) kept (w ∷ waits)
-          → Step (state_of_board (board_on stack kept caps word phase) (mems_of h (w ∷ waits))) On (spot_lines names g.policy plan.main (Exit f) On)
+          → Step (state_of_board (board_on stack kept caps word phase) (mems_of h (w ∷ waits))) On (spot_lines names g.policy g.main (Exit f) On)
           (place (w.back, returned g.states (kept_at w.split w.state) h.state) m) waits
       on [] kept caps word phase stands waiting = absurd stands
       on (frame ∷ frames) kept caps word phase stands waiting = return_on frame frames kept caps word phase h w waits f exit m stands waiting es ex em
@@ -292,7 +303,7 @@ module _ (names : Names) (g : Game) (t : Table) (plan : Plan) (right : AreStates
 
   end_on : (frame : Frame) (frames : List Frame) (kept : List (Option Caps)) (caps : Caps) (word : Word) (phase : Phase) (h : Here) (ms : List ℕ) (f : ℕ)
       → StandsOn (Least g) g (frame ∷ frames) kept caps word phase h.pos h.state [] → Waiting frames kept [] → slice_get g.spots h.pos ≡ Some (Exit f)
-      → Finishes (state_of_board (board_on (frame ∷ frames) kept caps word phase) ms) On (spot_lines names g.policy plan.main (Exit f) On)
+      → Finishes (state_of_board (board_on (frame ∷ frames) kept caps word phase) ms) On (spot_lines names g.policy g.main (Exit f) On)
   end_on frame (frame2 ∷ frames) [] caps word phase h ms f stands waiting es = absurd waiting
   end_on frame (frame2 ∷ frames) (k ∷ kept) caps word phase h ms f stands waiting es = absurd waiting
   end_on frame [] kept caps word phase h ms f stands waiting es =
@@ -315,13 +326,13 @@ module _ (names : Names) (g : Game) (t : Table) (plan : Plan) (right : AreStates
           ap (λ (y : Board). memories problem t y ms y.phase On) eb,
         );
         over = refl;
-        tells = ap (λ l. l ++ []) (told_by names problem t frame [] kept caps word phase On (Exit f) sees) ∙ append-nil (spot_lines names g.policy plan.main (Exit f) On);
+        tells = ap (λ l. l ++ []) (told_by names g t plan right laid has held holds b h [] On (Exit f) stands es) ∙ append-nil (spot_lines names g.policy g.main (Exit f) On);
       }
 
-  pub end_step : (s : State) (h : Here) (f : ℕ) → Sits g s h [] → slice_get g.spots h.pos ≡ Some (Exit f) → Finishes s On (spot_lines names g.policy plan.main (Exit f) On)
+  pub end_step : (s : State) (h : Here) (f : ℕ) → Sits g s h [] → slice_get g.spots h.pos ≡ Some (Exit f) → Finishes s On (spot_lines names g.policy g.main (Exit f) On)
   end_step s h f sits es = on s.board.stack s.board.kept s.board.caps s.board.word s.board.phase sits.stands sits.waiting
     where
       on : (stack : List Frame) (kept : List (Option Caps)) (caps : Caps) (word : Word) (phase : Phase) → StandsOn (Least g) g stack kept caps word phase h.pos h.state []
-          → Waiting (below stack) kept [] → Finishes (state_of_board (board_on stack kept caps word phase) s.mems) On (spot_lines names g.policy plan.main (Exit f) On)
+          → Waiting (below stack) kept [] → Finishes (state_of_board (board_on stack kept caps word phase) s.mems) On (spot_lines names g.policy g.main (Exit f) On)
       on [] kept caps word phase stands waiting = absurd stands
       on (frame ∷ frames) kept caps word phase stands waiting = end_on frame frames kept caps word phase h s.mems f stands waiting es

@@ -1,5 +1,5 @@
 -- What the loop over the tape keeps, for a program's game and a good table.
-use Rattle.std.proofs.Common.{◌≡◌, ℕ, zero, suc, ◌+◌, ◌<◌, ◌≤◌, List, [], ◌∷◌, ◌++◌, map, take, length, get_or, Option, Some, None, refl, sym, ap, ap₂, ◌∙◌, subst, arith, add-one}
+use Rattle.std.proofs.Common.{◌≡◌, ℕ, zero, suc, ◌+◌, ◌<◌, ◌≤◌, List, [], ◌∷◌, ◌++◌, take, length, get_or, Option, Some, None, refl, sym, ap, subst, arith, add-one}
 use Rattle.std.specs.Prelude.{slice_get}
 use Rattle.std.specs.List.{All}
 use Rattle.std.proofs.lemmas.List.{take_all}
@@ -17,7 +17,7 @@ use Rattle.cw_actions.specs.Scenes.{names_of}
 use Rattle.cw_points.specs.Graphs.{IsGraph}
 use Rattle.cw_positions.specs.Opens.{AssignsNames}
 use Rattle.cw_positions.specs.Positions.{spots}
-use Rattle.cw_model.specs.Boards.{Problem, problem_of}
+use Rattle.cw_model.specs.Boards.{problem_of}
 use Rattle.cw_model.specs.Runs.{Sound}
 use Rattle.cw_game.specs.Games.{Game}
 use Rattle.cw_game.specs.Reached.{Reached}
@@ -38,7 +38,7 @@ use Rattle.cw_run.specs.declared.run.Place.{Place as PlaceData}
 use Rattle.cw_run.specs.declared.run.Place.TheVariants.{At, Over}
 use Rattle.cw_run.specs.declared.walk.Here.{Here as HereData}
 use Rattle.cw_run.specs.declared.walk.Wait.{Wait as WaitData}
-use Rattle.cw_run.specs.Walks.{here_of, wait_of, innermost, place_in, start_here, lines_here, IsHere, IsWait, IsPlace, Arrives, Goes, Answered}
+use Rattle.cw_run.specs.Walks.{here_of, wait_of, innermost, place_in, start_here, IsHere, IsWait, IsPlace, Arrives, Answered}
 use Rattle.cw_run.specs.Woven.{Tells}
 use Rattle.cw_run.proofs.Main.{caps_meant, RunSoFar, begun, went, spent, over, bad_word, past_end}
 
@@ -103,17 +103,15 @@ module _ (h : Held) (source : List ℕ) (file : File) (t : Table) (names : Names
 
   pub loop_went : (tape : List Move) (i : ℕ) (by : Move) (here : HereData) (p place : PlaceData) (o : Option PlaceData) (waits waits2 : List WaitData) (old mid new : List ℕ) → i < length tape
       → by ≡ get_or tape i by → p ≡ At here → o ≡ Some place → Keeps (take i tape) p waits old mid
-      → Answered names g t held h.graph.main (here_of here) by o (innermost waits) (innermost waits2) mid new
+      → Answered names g t held (here_of here) by o (innermost waits) (innermost waits2) mid new
       → IsPlace g (place_in place) → All (λ w. IsWait g (wait_of w)) waits2 → Keeps (take (i + 1) tape) place waits2 old new
   loop_went tape i by here p place o waits waits2 old mid new lt is ep eo k0 a there all =
       let k = subst (λ z. Keeps (take i tape) z waits old mid) ep k0 in
-      let w = subst (λ z. Answered names g t held h.graph.main (here_of here) by z (innermost waits) (innermost waits2) mid new) eo a in
+      let w = subst (λ z. Answered names g t held (here_of here) by z (innermost waits) (innermost waits2) mid new) eo a in
       let n = w.0 in
-      let go2 = subst (λ main. Goes names g t held n (innermost waits) (innermost waits2) (place_in place)
-      (mid ++ lines_here names g.policy main (slice_get g.spots (here_of here).pos) by) new) (sym of.laid.main) w.2 in
       subst (λ words. Keeps words place waits2 old new) (sym (one_more tape i by lt is))
       (record {
-        run = went names g t plan of.states of.laid of.routines held holds safe (take i tape) (here_of here) (innermost waits) (innermost waits2) (place_in place) old mid new by n k.run w.1 go2;
+        run = went names g t plan of.states of.laid of.routines held holds safe (take i tape) (here_of here) (innermost waits) (innermost waits2) (place_in place) old mid new by n k.run w.1 w.2;
         there = there;
         waiting = all;
       })
@@ -126,10 +124,10 @@ module _ (h : Held) (source : List ℕ) (file : File) (t : Table) (names : Names
 
   pub loop_bad : (tape : List Move) (i : ℕ) (by : Move) (here : HereData) (p : PlaceData) (o : Option PlaceData) (waits waits2 : List WaitData) (old mid new : List ℕ)
       → names ≡ trace_names_of source file plan → i < length tape → by ≡ get_or tape i by → p ≡ At here → o ≡ None → Keeps (take i tape) p waits old mid
-      → Answered names g t held h.graph.main (here_of here) by o (innermost waits) (innermost waits2) mid new → Puts tape (BadMove i) old new
+      → Answered names g t held (here_of here) by o (innermost waits) (innermost waits2) mid new → Puts tape (BadMove i) old new
   loop_bad tape i by here p o waits waits2 old mid new e lt is ep eo k0 a0 =
       let k = subst (λ z. Keeps (take i tape) z waits old mid) ep k0 in
-      let a = subst (λ z. Answered names g t held h.graph.main (here_of here) by z (innermost waits) (innermost waits2) mid new) eo a0 in
+      let a = subst (λ z. Answered names g t held (here_of here) by z (innermost waits) (innermost waits2) mid new) eo a0 in
       named tape (BadMove i) old new e
       (subst (λ l. Tells (problem_of policy source file) names t tape (BadMove i) old l) (sym a.1)
       (bad_word names g t plan of.states of.laid of.routines held holds safe tape i by (here_of here) (innermost waits) old mid k.run (got tape i by lt is) a.0))

@@ -1,53 +1,39 @@
 -- The run by a tape, step by step: what the loop keeps, and what it comes to.
-use Rattle.std.proofs.Common.{◌≡◌, ℕ, ◌+◌, ◌%◌, ◌<◌, ◌≤◌, List, [], ◌∷◌, ◌++◌, map, take, length, get_or, Bool, true, false, Option, Some, None, refl, sym, ap, ap₂, ◌∙◌, subst, append_assoc, append-nil, option_and_then}
+use Rattle.std.proofs.Common.{◌≡◌, ℕ, ◌+◌, ◌%◌, List, [], ◌∷◌, ◌++◌, map, take, length, get_or, false, Option, Some, None, refl, sym, ap, ap₂, ◌∙◌, subst, append_assoc, append-nil, option_and_then}
 use Rattle.std.specs.Prelude.{slice_get, option_map}
 use Rattle.std.proofs.lemmas.Option.{none-some, same_Some}
 use Rattle.std.proofs.lemmas.Nat.{mod-mul-add}
 use Rattle.cw_rights.specs.declared.capabilities.Caps.{Caps}
 use Rattle.cw_rights.specs.declared.capabilities.Primitive.{Primitive}
 use Rattle.cw_rights.specs.Words.{Word}
-use Rattle.cw_rights.specs.Policies.{PlainPolicy, policy_of, start_caps, primitives}
-use Rattle.cw_rights.specs.Valid.{IsValid}
+use Rattle.cw_rights.specs.Policies.{PlainPolicy, start_caps, primitives}
 use Rattle.cw_certs.specs.declared.moves.Move.{Move}
 use Rattle.cw_certs.specs.declared.moves.Move.TheVariants.{Refuse}
 use Rattle.cw_certs.specs.Tables.{Table}
-use Rattle.cw_syntax.specs.Trees.{File}
-use Rattle.cw_syntax.specs.Plans.{Plan, Routine, plan_of}
-use Rattle.cw_syntax.specs.Frames.{Frame, new_frame, frame_of, stack_of, start_stack}
-use Rattle.cw_syntax.specs.Runnable.{IsRunnable}
-use Rattle.cw_actions.specs.Scenes.{names_of}
-use Rattle.cw_points.specs.Graphs.{IsGraph}
-use Rattle.cw_positions.specs.Opens.{AssignsNames}
-use Rattle.cw_model.specs.Boards.{Problem, problem_of, Phase, Free, Over, Board, Weaver, Environment, begin, onward, start_board, moved, turn_of}
+use Rattle.cw_syntax.specs.Plans.{Plan, Routine}
+use Rattle.cw_syntax.specs.Frames.{Frame, new_frame, stack_of, start_stack}
+use Rattle.cw_model.specs.Boards.{Problem, Phase, Over, Weaver, Environment, begin, onward, start_board, moved, turn_of}
 use Rattle.cw_model.specs.Runs.{State, start_state, WovenStep, Sound}
 use Rattle.cw_game.specs.declared.spots.Spot.{Spot}
 use Rattle.cw_game.specs.Games.{AreStates, Game, weavers_in}
 use Rattle.cw_game.specs.Reached.{Reached}
 use Rattle.cw_game.specs.Places.{IsLaidOut, HasRoutines}
-use Rattle.cw_game.specs.Standing.{IsGameOf, StandsOn}
-use Rattle.cw_game.specs.Conditions.{IsGoodTable}
-use Rattle.cw_game.proofs.Reached.{reached_means}
+use Rattle.cw_game.specs.Standing.{StandsOn}
 use Rattle.cw_game.proofs.Link.{starts_at, environments_turn}
-use Rattle.cw_states.specs.States.{Lists, lists_of, AreLists, Means, caps_at, caps_place, set_place, states_of}
-use Rattle.cw_states.specs.Spots.{Have}
+use Rattle.cw_positions.specs.Positions.{spots}
+use Rattle.cw_states.specs.States.{Lists, AreLists, Means, caps_at, caps_place, set_place}
 use Rattle.cw_states.specs.declared.uses.Uses.{Uses}
 use Rattle.cw_states.proofs.Places.{caps_found}
-use Rattle.cw_states.proofs.Meaning.{states_are}
-use Rattle.cw_positions.specs.Positions.{spots}
-use Rattle.cw_product.specs.Product.{Held, game_of}
-use Rattle.cw_product.specs.Uses.{uses_of}
-use Rattle.cw_product.proofs.Holding.{has, game_is}
-use Rattle.cw_wcheck.proofs.Sounds.{sound}
-use Rattle.cw_game.proofs.Goods.{good_closed}
-use Rattle.cw_trace.specs.Traces.{Names, label_lines, reached_lines}
-use Rattle.cw_trace.specs.Steps.{Step, state_after, words_of, End, Ended, TapeSpent, BadMove, IsNoMove, Runs, run_trace}
+use Rattle.cw_trace.specs.Traces.{Names, reached_lines}
+use Rattle.cw_trace.specs.Steps.{Step, state_after, End, Ended, TapeSpent, BadMove, IsNoMove}
 use Rattle.cw_trace.proofs.Grown.{follows_grown, state_grown}
-use Rattle.cw_run.specs.Walks.{at_pos, Here, Wait, ret_of, config_of, label_text, Next, place_of, stop_lines, spot_lines, waits_after, next_of, Stopped, with_stop, next_here, lines_here, Arrives, LandsAt, Goes, start_here}
+use Rattle.cw_told.specs.Told.{spot_lines, lines_at, label_at}
+use Rattle.cw_run.specs.Walks.{at_pos, Here, Wait, ret_of, config_of, Next, place_of, stop_lines, waits_after, next_of, Stopped, with_stop, next_here, Arrives, LandsAt, Goes, start_here}
 use Rattle.cw_run.specs.Woven.{Tells}
 use Rattle.cw_run.proofs.Sees.{see, below}
 use Rattle.cw_run.proofs.Sits.{Waiting, Least, Sits, label_of, arrived}
 use Rattle.cw_run.proofs.Moveless.{Safe, moveless}
-use Rattle.cw_run.proofs.Runs.{HasSteps, IsRunAt, IsOver, AtRest, LeadsTo, rested, leads_on, safe_of}
+use Rattle.cw_run.proofs.Runs.{IsRunAt, IsOver, LeadsTo, rested, leads_on, safe_of}
 
 -- the capabilities of a state are those that it stands for
 pub caps_meant : (uses : Uses) (v : Lists) → AreLists uses v → (q : ℕ) (w : Word) (c : Caps) → Means uses v q w c → caps_at v q ≡ c
@@ -66,7 +52,8 @@ IsAt names g t plan words text None waits = IsOver names g t plan words text
 abbrev pub RunSoFar : Names → Game → Table → Plan → List Move → Option Here → List Wait → List ℕ → List ℕ → Type 0
 RunSoFar names g t plan words place waits old new = (text : List ℕ) × (new ≡ old ++ text) × IsAt names g t plan words text place waits
 
-module _ (names : Names) (g : Game) (t : Table) (plan : Plan) (right : AreStates g.policy g.spots g.states (Reached g.policy g.spots g.states)) (laid : IsLaidOut plan g) (has_them : HasRoutines plan g)
+module _ (names : Names) (g : Game) (t : Table) (plan : Plan) (right : AreStates g.policy g.spots g.states (Reached g.policy g.spots g.states)) (laid : IsLaidOut plan g)
+    (has_them : HasRoutines plan g)
     (held : ℕ → Caps) (holds : (q : ℕ) (w : Word) (c : Caps) → Reached g.policy g.spots g.states q w c → held q ≡ c)
     (safe_table : Sound (record { plan = plan; policy = g.policy }) t) where
   abbrev problem : Problem
@@ -111,8 +98,8 @@ module _ (names : Names) (g : Game) (t : Table) (plan : Plan) (right : AreStates
   }
 
   -- the label of the place where the run comes to rest
-  label_here : (to here : Here) → here ≡ at_pos here.pos to → label_text names g.policy (held to.state) (slice_get g.spots here.pos) ≡ label here
-  label_here to here e = ap (λ (q : ℕ). label_text names g.policy (held q) (slice_get g.spots here.pos)) (sym (ap (λ (h : Here). h.state) e))
+  label_here : (to here : Here) → here ≡ at_pos here.pos to → label_at names g.policy (held to.state) (slice_get g.spots here.pos) ≡ label here
+  label_here to here e = ap (λ (q : ℕ). label_at names g.policy (held q) (slice_get g.spots here.pos)) (sym (ap (λ (h : Here). h.state) e))
 
   pub begun : (here : Here) (old new : List ℕ) → Arrives names g t held (start_here g t) here old new → RunSoFar names g t plan [] (Some here) [] old new
   begun here old new a = (
@@ -169,15 +156,15 @@ module _ (names : Names) (g : Game) (t : Table) (plan : Plan) (right : AreStates
   -- One word more.
   pub went : (words : List Move) (h : Here) (waits waits2 : List Wait) (place : Option Here) (old mid new : List ℕ) (by : Move) (n : Next)
       → RunSoFar names g t plan words (Some h) waits old mid → next_here g t h waits by ≡ Some n
-      → Goes names g t held n waits waits2 place (mid ++ lines_here names g.policy plan.main (slice_get g.spots h.pos) by) new
+      → Goes names g t held n waits waits2 place (mid ++ lines_at names g.policy g.main (slice_get g.spots h.pos) by) new
       → RunSoFar names g t plan (words ++ by ∷ []) place waits2 old new
   went words h waits waits2 place old mid new by n (text, em, run) en go =
       let sp = spot_of run.0.state h waits run.0.sits in
       let es = sp.1 in
       let en2 : next_of g t h waits sp.0 by ≡ Some n = sym (ap (option_and_then (λ s. next_of g t h waits s by)) es) ∙ en in
-      let lands = subst (λ o. LandsAt names g t held n (place_of n) place (mid ++ lines_here names g.policy plan.main o by) new) es go.lands in
+      let lands = subst (λ o. LandsAt names g t held n (place_of n) place (mid ++ lines_at names g.policy g.main o by) new) es go.lands in
       subst (λ ws. RunSoFar names g t plan (words ++ by ∷ []) place ws old new) (sym go.waiting)
-      (landed (words ++ by ∷ []) text (spot_lines names g.policy plan.main sp.0 by) old mid new n (waits_after n waits) (place_of n) place em lands
+      (landed (words ++ by ∷ []) text (spot_lines names g.policy g.main sp.0 by) old mid new n (waits_after n waits) (place_of n) place em lands
       (leads_on names g t plan right laid has_them held holds words text h waits run.0 sp.0 by n es (sym (ap weavers_in es) ∙ run.1) en2))
 
   -- The ends.
@@ -232,7 +219,8 @@ module _ (names : Names) (g : Game) (t : Table) (plan : Plan) (right : AreStates
       let after : (next : State) → WovenStep problem t run.0.state Refuse next → Safe problem t next = λ next step.
       let one : Step = record { by = Refuse; next = next } in
       subst (λ z. Safe problem t z) (state_grown (start_state problem t) s.steps one)
-      (safe_of problem t safe_table (s.steps ++ one ∷ []) (follows_grown problem t (start_state problem t) s.steps one s.follows (subst (λ z. WovenStep problem t z Refuse next) (sym s.comes) step))) in
+      (safe_of problem t safe_table (s.steps ++ one ∷ [])
+      (follows_grown problem t (start_state problem t) s.steps one s.follows (subst (λ z. WovenStep problem t z Refuse next) (sym s.comes) step))) in
       let stuck = moveless names g t plan right laid has_them held holds run.0.state h waits by spot run.0.sits safe after es (sym (ap weavers_in es) ∙ run.1) none in
       record {
         steps = s.steps;

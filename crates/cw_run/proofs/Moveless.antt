@@ -1,40 +1,41 @@
 -- Where the game and the table have no move, the board has none: the table is sound.
-use Rattle.std.proofs.Common.{◌≡◌, ◌⊎◌, ℕ, suc, ◌+◌, List, [], ◌∷◌, ◌++◌, map, Bool, true, false, cond, not, ◌&&◌, ◌||◌, Option, Some, None, is_some, option_map, option_and_then, refl, sym, ap, ap₂, ◌∙◌, subst, append-nil, inl, inr}
+use Rattle.std.proofs.Common.{◌≡◌, ◌⊎◌, ℕ, ◌+◌, List, [], ◌∷◌, map, Bool, true, false, cond, not, ◌||◌, Option, Some, None, is_some, option_map, option_and_then, refl, sym, ap}
+use Rattle.std.proofs.Common.{ap₂, ◌∙◌, subst, inl, inr}
 use Rattle.std.specs.Prelude.{slice_get}
-use Rattle.std.proofs.lemmas.Option.{none-some, same_Some, cond_some}
+use Rattle.std.proofs.lemmas.Option.{none-some, same_Some}
 use Rattle.cw_core.specs.declared.ids.MemId.{MemId}
 use Rattle.cw_rights.specs.declared.capabilities.Caps.{Caps}
 use Rattle.cw_rights.specs.declared.capabilities.Primitive.{Primitive}
 use Rattle.cw_rights.specs.Words.{Word}
 use Rattle.cw_rights.specs.Policies.{PlainPolicy}
 use Rattle.cw_certs.specs.declared.moves.Move.{Move}
-use Rattle.cw_certs.specs.declared.moves.Move.TheVariants.{Skip, Try, Grant, Refuse, On, Left, Right, Opened, Failed, Stop}
+use Rattle.cw_certs.specs.declared.moves.Move.TheVariants.{Skip, Refuse, On, Stop}
 use Rattle.cw_certs.specs.declared.rows.TryRow.{TryRow}
 use Rattle.cw_certs.specs.Tables.{Table, into_at, back_at, try_at, state_of}
 use Rattle.cw_syntax.specs.Plans.{Callee, Call, Plan}
 use Rattle.cw_syntax.specs.Frames.{Todo, Frame}
-use Rattle.cw_model.specs.Boards.{seam_in, Problem, Phase, Visit, Asked, Refused, Free, FreeSplit, Over, Board, Weaver, Environment, can_stop, moved, Moves, Violates, stop_answers, is_refused, turn_of, IsWeavers, IsEnvironments}
-use Rattle.cw_model.specs.Runs.{front_seam, try_of, mem_in, try_in, refused_with, stops, stays_where, top_by, called_with, returned_with, memories, State, WovenStep}
+use Rattle.cw_model.specs.Boards.{Problem, Phase, Asked, Refused, Board, Environment, moved, Moves, Violates, stop_answers, is_refused, turn_of, IsWeavers, IsEnvironments}
+use Rattle.cw_model.specs.Runs.{front_seam, try_of, mem_in, try_in, refused_with, stops, stays_where, returned_with, memories, State, WovenStep}
 use Rattle.cw_game.specs.declared.spots.Spot.{Spot}
-use Rattle.cw_game.specs.declared.spots.Spot.TheVariants.{Step, Branch, Exit, Visit as VisitSpot, Asked as AskedSpot, Label as LabelSpot, Open as OpenSpot, Close as CloseSpot, Call as CallSpot, SplitCall}
-use Rattle.cw_game.specs.Games.{AreStates, Game, Ret, Config, at_pair, leads_in, leads_to, bad_in, weavers_in, can_stop_in, resumed, resumed_in, returned}
+use Rattle.cw_game.specs.declared.spots.Spot.TheVariants.{Step, Branch, Exit, Visit as VisitSpot, Asked as AskedSpot, Label as LabelSpot, Open as OpenSpot, Close as CloseSpot}
+use Rattle.cw_game.specs.declared.spots.Spot.TheVariants.{Call as CallSpot, SplitCall}
+use Rattle.cw_game.specs.Games.{AreStates, Game, Ret, Config, leads_in, leads_to, bad_in, weavers_in, can_stop_in, resumed, resumed_in, returned}
 use Rattle.cw_game.specs.Reached.{Reached}
 use Rattle.cw_game.specs.Places.{IsLaidOut, HasRoutines}
 use Rattle.cw_game.specs.Pairs.{Called, call_in, is_call_in, is_exit_in, call_spot, kept_at}
-use Rattle.cw_game.specs.Standing.{StandsIn, StandsOn, standing, StandsAt, IsGameOf, Tied}
-use Rattle.cw_game.specs.Laws.{AreLinked, IsLastEnd}
+use Rattle.cw_game.specs.Standing.{StandsOn, standing, StandsAt, IsGameOf}
+use Rattle.cw_game.specs.Laws.{AreLinked}
 use Rattle.cw_game.proofs.Linking.{linked}
 use Rattle.cw_game.proofs.Stands.{stops_is}
-use Rattle.cw_game.proofs.Link.{Stands, not_both, bad_violates, environments_turn, unrefused}
+use Rattle.cw_game.proofs.Link.{Stands, bad_violates, environments_turn, unrefused}
 use Rattle.cw_product.specs.Moves.{pair_of, is_left_in, next_in, next_at}
 use Rattle.cw_trace.specs.Traces.{Names}
 use Rattle.cw_trace.specs.Steps.{IsNoMove}
-use Rattle.cw_trace.proofs.OneRun.{is_chosen}
 use Rattle.cw_run.specs.Walks.{Here, Wait, ret_of, config_of, mems_of, place, mem_after, within, To, Over as AllOver, Back, Stopped, called, returning, ended, going_on, refusing, asked, next_of}
 use Rattle.cw_run.proofs.Sees.{Sees, see, is_inner, below, board_on, remembered}
-use Rattle.cw_run.proofs.Sits.{same_lead, with_rets, mapped, IsCallOf, Waiting, Least, Sits}
-use Rattle.cw_run.proofs.Calls.{IsCallHere, call_here, called_memory, IsEndHere, end_here}
-use Rattle.cw_run.proofs.Refusals.{Refuses, refusal_step, asked_here}
+use Rattle.cw_run.proofs.Sits.{same_lead, with_rets, mapped, Waiting, Least, Sits}
+use Rattle.cw_run.proofs.Calls.{call_here, called_memory, end_here}
+use Rattle.cw_run.proofs.Refusals.{refusal_step, asked_here}
 
 steady : (phase : Phase) → is_refused phase ≡ false → standing phase ≡ phase
 steady (Refused i a later) e = cc
@@ -107,7 +108,7 @@ module _ (names : Names) (g : Game) (t : Table) (plan : Plan) (right : AreStates
   memory_on frame frames kept caps word phase h waits by spot stands es inner turn never =
       let sn = see (Least g) g.spots g.policy (g.exit stands.0) frame caps word phase h.pos h.state stands.1 in
       let sees : Sees frame phase spot = subst (λ o. Sees frame phase o) (same_Some sn.0 spot (sym sn.1 ∙ es)) sn.2 in
-      remembered names problem t frame frames kept caps word phase by spot h.mem (map (λ (w : Wait). w.mem) waits) sees inner turn never
+      remembered problem t frame frames kept caps word phase by spot h.mem (map (λ (w : Wait). w.mem) waits) sees inner turn never
 
   memory_is : (b : Board) (h : Here) (waits : List Wait) (by : Move) (spot : Spot) → Stands (Least g) g b (config_of h waits)
       → slice_get g.spots h.pos ≡ Some spot → is_inner spot ≡ true → turn_of b.phase ≡ Some Environment → stop_answers g.policy b.caps b.phase by ≡ false

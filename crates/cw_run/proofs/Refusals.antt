@@ -1,33 +1,32 @@
 -- What follows a refusal that a stop can answer: going on, or the stop.
-use Rattle.std.proofs.Common.{◌≡◌, ℕ, suc, ◌+◌, List, [], ◌∷◌, ◌++◌, map, Bool, true, false, cond, not, ◌&&◌, ◌||◌, Option, Some, None, is_some, option_map, refl, sym, ap, ap₂, ◌∙◌, subst, append-nil}
+use Rattle.std.proofs.Common.{◌≡◌, ℕ, suc, ◌+◌, List, [], ◌∷◌, map, Bool, true, false, cond, not, ◌&&◌, ◌||◌, Option, Some, None, is_some, option_map, refl, sym, ap, ap₂, ◌∙◌, subst, append-nil}
 use Rattle.std.specs.Prelude.{slice_get}
-use Rattle.std.proofs.lemmas.Option.{none-some, same_Some, cond_some}
+use Rattle.std.proofs.lemmas.Option.{same_Some, cond_some}
 use Rattle.cw_rights.specs.declared.capabilities.Caps.{Caps}
 use Rattle.cw_rights.specs.declared.capabilities.Primitive.{Primitive}
 use Rattle.cw_rights.specs.declared.capabilities.Primitive.TheVariants.{Split}
 use Rattle.cw_rights.specs.Words.{Word}
 use Rattle.cw_rights.specs.Policies.{is_refusable}
-use Rattle.cw_certs.specs.declared.moves.Move.{Move}
 use Rattle.cw_certs.specs.declared.moves.Move.TheVariants.{Skip, Refuse, Stop}
 use Rattle.cw_certs.specs.declared.rows.TryRow.{TryRow}
 use Rattle.cw_certs.specs.Tables.{Table, try_at}
 use Rattle.cw_syntax.specs.Plans.{Plan}
 use Rattle.cw_syntax.specs.Frames.{Frame}
-use Rattle.cw_model.specs.Boards.{seam_in, Problem, Phase, Visit, Asked, Refused, Free, FreeSplit, Over, Board, onward, may_grant, may_refuse, can_stop, passed_by, refused, moved, Moves, Violates}
-use Rattle.cw_model.specs.Runs.{top_by, front_seam, try_in, refused_with, stops, stays_where, memories, State, WovenStep}
+use Rattle.cw_model.specs.Boards.{seam_in, Problem, Phase, Asked, Refused, Over, Board, onward, may_grant, may_refuse, can_stop, passed_by, refused}
+use Rattle.cw_model.specs.Runs.{top_by, try_in, refused_with, stops, stays_where, State, WovenStep}
 use Rattle.cw_game.specs.declared.spots.Spot.{Spot}
 use Rattle.cw_game.specs.declared.spots.Spot.TheVariants.{Asked as AskedSpot}
-use Rattle.cw_game.specs.Games.{AreStates, Game, Ret, Config, at_pair, bad_in, can_stop_in, resumed, resumed_in}
+use Rattle.cw_game.specs.Games.{AreStates, Game, Ret, at_pair, bad_in, can_stop_in, resumed, resumed_in}
 use Rattle.cw_game.specs.Reached.{Reached}
 use Rattle.cw_game.specs.Places.{IsLaidOut, HasRoutines}
-use Rattle.cw_game.specs.Standing.{StandsIn, StandsOn}
+use Rattle.cw_game.specs.Standing.{StandsOn}
 use Rattle.cw_game.proofs.Stands.{refused_at, stops_is}
-use Rattle.cw_game.proofs.Link.{Stands, not_both, violates_bad}
+use Rattle.cw_game.proofs.Link.{not_both, violates_bad}
 use Rattle.cw_trace.specs.Traces.{Names, step_lines, answered_lines, stopped_lines}
 use Rattle.cw_trace.specs.Lines.{try_line, stop_line}
-use Rattle.cw_run.specs.Walks.{Here, Wait, ret_of, config_of, mems_of, place}
-use Rattle.cw_run.proofs.Sees.{Sees, sees_visit, sees_asked, sees_step, sees_branch, sees_label, sees_open, sees_close, sees_call, sees_split, sees_end, see, means_in, below, board_on}
-use Rattle.cw_run.proofs.Sits.{Waiting, Least, Sits, Stepped, label_of, arrived}
+use Rattle.cw_run.specs.Walks.{Here, Wait, ret_of, mems_of, place}
+use Rattle.cw_run.proofs.Sees.{Sees, sees_visit, sees_asked, sees_step, sees_branch, sees_label, sees_open, sees_close, sees_call, sees_split, sees_end, see, below, board_on}
+use Rattle.cw_run.proofs.Sits.{Waiting, Least, Sits, Stepped, arrived}
 use Rattle.cw_run.proofs.Calls.{Finishes}
 
 -- what is asked at the front

@@ -1,5 +1,6 @@
 -- A run as far as it has gone: its steps, the words that were read, the text that was told, and where it is.
-use Rattle.std.proofs.Common.{◌≡◌, ℕ, suc, ◌+◌, List, [], ◌∷◌, ◌++◌, map, take, Bool, true, false, Option, Some, None, is_some, option_map, option_and_then, refl, sym, ap, ap₂, ◌∙◌, subst, append-nil, append_assoc, inl, inr}
+use Rattle.std.proofs.Common.{◌≡◌, ℕ, ◌+◌, List, [], ◌∷◌, ◌++◌, map, Bool, true, false, Option, Some, None, is_some, option_map, option_and_then, refl, sym, ap, ap₂, ◌∙◌, subst}
+use Rattle.std.proofs.Common.{append-nil, append_assoc}
 use Rattle.std.specs.Prelude.{slice_get}
 use Rattle.std.proofs.lemmas.Option.{none-some, same_Some}
 use Rattle.cw_core.specs.declared.ids.MemId.{MemId}
@@ -12,24 +13,26 @@ use Rattle.cw_certs.specs.declared.rows.TryRow.{TryRow}
 use Rattle.cw_certs.specs.Tables.{Table, try_at, into_at, back_at, state_of}
 use Rattle.cw_syntax.specs.Plans.{Plan}
 use Rattle.cw_syntax.specs.Frames.{Frame}
-use Rattle.cw_model.specs.Boards.{seam_in, Problem, Phase, Visit, Asked, Refused, Free, FreeSplit, Over, Board, Party, Weaver, Environment, Moves, moved, turn_of}
-use Rattle.cw_model.specs.Runs.{mem_in, try_of, try_in, refused_with, stays_where, stays_unless, memories, State, start_state, WovenStep, Goes, WovenRun, last, reached, Sound}
+use Rattle.cw_model.specs.Boards.{seam_in, Problem, Phase, Visit, Asked, Refused, Free, FreeSplit, Over, Board, Weaver, Environment, moved, turn_of}
+use Rattle.cw_model.specs.Runs.{mem_in, try_of, try_in, refused_with, stays_where, stays_unless, memories, State, start_state, WovenStep, Goes, last, Sound}
 use Rattle.cw_game.specs.declared.spots.Spot.{Spot}
-use Rattle.cw_game.specs.declared.spots.Spot.TheVariants.{Step as StepSpot, Branch, Exit, Visit as VisitSpot, Asked as AskedSpot, Label as LabelSpot, Open as OpenSpot, Close as CloseSpot, Call as CallSpot, SplitCall}
-use Rattle.cw_game.specs.Games.{AreStates, Game, Ret, Config, at_pair, leads_in, leads_to, bad_in, weavers_in, resumed, returned}
+use Rattle.cw_game.specs.declared.spots.Spot.TheVariants.{Step as StepSpot, Branch, Exit, Visit as VisitSpot, Asked as AskedSpot, Label as LabelSpot, Open as OpenSpot}
+use Rattle.cw_game.specs.declared.spots.Spot.TheVariants.{Close as CloseSpot, Call as CallSpot, SplitCall}
+use Rattle.cw_game.specs.Games.{AreStates, Game, at_pair, leads_in, bad_in, weavers_in, resumed, returned}
 use Rattle.cw_game.specs.Reached.{Reached}
 use Rattle.cw_game.specs.Places.{IsLaidOut, HasRoutines}
 use Rattle.cw_game.specs.Pairs.{call_spot, kept_at}
 use Rattle.cw_game.specs.Standing.{StandsOn}
-use Rattle.cw_game.proofs.Link.{Stands, party_of, turn_is, starts_at, board_moves, environments_turn, weavers_turn}
+use Rattle.cw_game.proofs.Link.{Stands, party_of, turn_is, board_moves, environments_turn, weavers_turn}
 use Rattle.cw_trace.specs.Lines.{try_line, stop_line}
 use Rattle.cw_trace.specs.Traces.{Names, step_lines, lines_from}
 use Rattle.cw_trace.specs.Steps.{Step, Follows, state_after, word_by, words_of, taken_of, run_trace}
 use Rattle.cw_trace.proofs.Grown.{lines_grown, follows_grown, state_grown, words_grown, board_of_run, taken_grown}
-use Rattle.cw_run.specs.Walks.{Here, Wait, ret_of, config_of, mems_of, place, within, spot_lines, label_text, Next, To, Into, Back, Over as AllOver, Resumed, Stopped, at_pos}
-use Rattle.cw_run.specs.Walks.{called, returning, ended, going_on, refusing, asked, next_of, stop_lines, place_of, waits_after, Rests, stays as rests_stays, tries as rests_tries, skips as rests_skips}
-use Rattle.cw_run.proofs.Sees.{is_inner, Sees, sees_visit, sees_asked, sees_step, sees_branch, sees_label, sees_open, sees_close, sees_call, sees_split, sees_end, see, below, board_on, told_by, stays}
-use Rattle.cw_run.proofs.Sits.{mapped, chained, Waiting, Least, Sits, Stepped, label_of, arrived, inner_step}
+use Rattle.cw_told.specs.Told.{spot_lines, label_at}
+use Rattle.cw_run.specs.Walks.{Here, Wait, ret_of, config_of, mems_of, place, within, Next, To, Into, Back, Over as AllOver, Resumed, Stopped, at_pos}
+use Rattle.cw_run.specs.Walks.{called, ended, going_on, refusing, asked, next_of, stop_lines, place_of, waits_after, Rests, stays as rests_stays, tries as rests_tries, skips as rests_skips}
+use Rattle.cw_run.proofs.Sees.{is_inner, Sees, sees_visit, sees_asked, sees_step, sees_branch, sees_label, sees_open, sees_close, sees_call, sees_split, sees_end, see, below, board_on, stays}
+use Rattle.cw_run.proofs.Sits.{mapped, chained, Waiting, Least, Sits, Stepped, label_of, arrived, told_by, inner_step}
 use Rattle.cw_run.proofs.Calls.{Finishes, call_step, return_step, end_step}
 use Rattle.cw_run.proofs.Refusals.{Refuses, Resumes, Stops, resume_step, stop_step}
 use Rattle.cw_run.proofs.Moveless.{Safe}
@@ -156,7 +159,8 @@ module _ (names : Names) (g : Game) (t : Table) (plan : Plan) (right : AreStates
   step_text text lines more = text ++ (lines ++ more)
 
   -- the environment's step
-  moved_on : (words : List Move) (text lines : List ℕ) (s : State) (by : Move) (to : Here) (waits : List Wait) → turn_of s.board.phase ≡ Some Environment → Has words text s → StepTo s by lines to waits
+  moved_on : (words : List Move) (text lines : List ℕ) (s : State) (by : Move) (to : Here) (waits : List Wait) → turn_of s.board.phase ≡ Some Environment → Has words text s
+      → StepTo s by lines to waits
       → IsRun (words ++ by ∷ []) (step_text text lines (label to)) to waits
   moved_on words text lines s by to waits turn h k =
       record { state = k.next; run = with_word words (step_text text lines (label to)) k.next s by turn (grown words text (lines ++ label to) s k.next by h k.steps k.tells); sits = k.sits }
@@ -182,7 +186,7 @@ module _ (names : Names) (g : Game) (t : Table) (plan : Plan) (right : AreStates
       let sees : Sees frame phase (VisitSpot j i a) = subst (λ o. Sees frame phase o) e sn.2 in
       let good : bad_in g h.state (slice_get g.spots h.pos) ≡ false = ap (bad_in g h.state) es in
       let to = board_moves (Least g) g plan right laid has b c (at_pair n h.state rets) by stands good (ap (λ o. leads_in g h.pos h.state rets o by) es ∙ leads) in
-      let stay = stays names problem t frame frames kept caps word phase by (VisitSpot j i a) to.0 sees refl to.1.1 in
+      let stay = stays problem t frame frames kept caps word phase by (VisitSpot j i a) to.0 sees refl to.1.1 in
       let mem : memories problem t b (h.mem ∷ ms) phase by ≡ Some (h.mem ∷ ms) =
       ap (λ ph. memories problem t b (h.mem ∷ ms) ph by) v.is_phase ∙ memory v.stage v.what v.later b
       ∙ ap₂ (λ (o : Option ℕ) (stage : ℕ). option_map (λ m. m ∷ ms) (weaver_memory by (is_some (try_in t o stage h.mem)) h.mem)) v.is_seam v.is_stage
@@ -191,7 +195,7 @@ module _ (names : Names) (g : Game) (t : Table) (plan : Plan) (right : AreStates
         next = record { board = to.0; mems = h.mem ∷ ms };
         steps = (to.1, mem);
         sits = record { stands = to.2; mems = refl; waiting = subst (λ f. Waiting f to.0.kept waits) (sym stay.0) (subst (λ k. Waiting frames k waits) (sym stay.1) waiting) };
-        tells = ap₂ (λ x y. x ++ y) (told_by names problem t frame frames kept caps word phase by (VisitSpot j i a) sees)
+        tells = ap₂ (λ x y. x ++ y) (told_by names g t plan right laid has held holds b h waits by (VisitSpot j i a) stands es)
             (arrived names g t plan right laid has held holds to.0 (at_pos n h) waits to.2);
       }
 
@@ -214,7 +218,7 @@ module _ (names : Names) (g : Game) (t : Table) (plan : Plan) (right : AreStates
       → Stands (Least g) g s.board (config_of h waits) → Has words (text ++ label h) s → StepTo s by [] to waits → IsRun words (text ++ label to) to waits
   weaved words text s h to waits by j i a es stands run k =
       let turn = weavers_turn (Least g) g plan right laid has s.board (config_of h waits) stands (ap weavers_in es) in
-      let none : text ++ label h ≡ text = ap (λ o. text ++ label_text names g.policy (held h.state) o) es ∙ append-nil text in
+      let none : text ++ label h ≡ text = ap (λ o. text ++ label_at names g.policy (held h.state) o) es ∙ append-nil text in
       let r = subst (λ l. Has words l s) none run in
       record { state = k.next; run = without_word words (text ++ label to) k.next s by turn (grown words text (label to) s k.next by r k.steps k.tells); sits = k.sits }
 
@@ -295,7 +299,7 @@ module _ (names : Names) (g : Game) (t : Table) (plan : Plan) (right : AreStates
   LeadsTo words text lines n None waits = IsOver names g t plan words (text ++ (lines ++ stop_lines n))
 
   abbrev Leads : List Move → List ℕ → Spot → Move → List Wait → Next → Type 0
-  Leads words text spot by waits n = LeadsTo (words ++ by ∷ []) text (spot_lines names g.policy plan.main spot by) n (place_of n) (waits_after n waits)
+  Leads words text spot by waits n = LeadsTo (words ++ by ∷ []) text (spot_lines names g.policy g.main spot by) n (place_of n) (waits_after n waits)
 
   module _ (words : List Move) (text : List ℕ) (h : Here) (waits : List Wait) (run : IsRun words text h waits) where
     turn_here : (spot : Spot) → slice_get g.spots h.pos ≡ Some spot → weavers_in (Some spot) ≡ false → turn_of run.state.board.phase ≡ Some Environment
@@ -306,7 +310,7 @@ module _ (names : Names) (g : Game) (t : Table) (plan : Plan) (right : AreStates
     inner_leads spot by n es inner env e =
         let m = mapped To (within g t h spot by) n e in
         subst (λ z. Leads words text spot by waits z) m.2
-        (moved_on words text (spot_lines names g.policy plan.main spot by) run.state by m.0 waits (turn_here spot es env) run.run
+        (moved_on words text (spot_lines names g.policy g.main spot by) run.state by m.0 waits (turn_here spot es env) run.run
         (inner_step names g t plan right laid has held holds run.state h waits by spot m.0 run.sits es inner env m.1))
 
     call_leads_to : (split : Bool) (j f n2 : ℕ) (by : Move) (n : Next) → slice_get g.spots h.pos ≡ Some (call_spot split j f n2)
@@ -315,7 +319,7 @@ module _ (names : Names) (g : Game) (t : Table) (plan : Plan) (right : AreStates
         let m = mapped (λ m. Into (place (g.entry f, h.state) m) (record { seam = j; split = split; back = n2; state = h.state; mem = h.mem }))
         (option_and_then (λ r. mem_in t r.callee) (into_at t j split h.mem)) n e in
         subst (λ z. Leads words text (call_spot split j f n2) On waits z) m.2
-        (moved_on words text (spot_lines names g.policy plan.main (call_spot split j f n2) On) run.state On (place (g.entry f, h.state) m.0)
+        (moved_on words text (spot_lines names g.policy g.main (call_spot split j f n2) On) run.state On (place (g.entry f, h.state) m.0)
         (record { seam = j; split = split; back = n2; state = h.state; mem = h.mem } ∷ waits)
         (turn_here (call_spot split j f n2) es (no_visit split)) run.run
         (call_step names g t plan right laid has held holds run.state h waits split j f n2 m.0 run.sits es m.1))
@@ -352,8 +356,8 @@ module _ (names : Names) (g : Game) (t : Table) (plan : Plan) (right : AreStates
       → ended g t h waits by ≡ Some n → Leads words text (Exit f) by waits n
   end_leads words text h [] run f On n es e =
       subst (λ z. Leads words text (Exit f) On [] z) (same_Some AllOver n e)
-      (subst (λ l. IsOver names g t plan (words ++ On ∷ []) (text ++ l)) (sym (append-nil (spot_lines names g.policy plan.main (Exit f) On)))
-      (finished words text (spot_lines names g.policy plan.main (Exit f) On) run.state On (turn_here words text h [] run (Exit f) es refl) run.run
+      (subst (λ l. IsOver names g t plan (words ++ On ∷ []) (text ++ l)) (sym (append-nil (spot_lines names g.policy g.main (Exit f) On)))
+      (finished words text (spot_lines names g.policy g.main (Exit f) On) run.state On (turn_here words text h [] run (Exit f) es refl) run.run
       (end_step names g t plan right laid has held holds run.state h f run.sits es)))
   end_leads words text h (w ∷ waits) run f On n es e =
       let x = chained (λ exit. option_map (λ m. Back (place (w.back, returned g.states (kept_at w.split w.state) h.state) m))
@@ -361,7 +365,7 @@ module _ (names : Names) (g : Game) (t : Table) (plan : Plan) (right : AreStates
       let m = mapped (λ m. Back (place (w.back, returned g.states (kept_at w.split w.state) h.state) m))
       (option_and_then (λ r. mem_in t r.after) (back_at t w.seam w.split w.mem x.0)) n x.2 in
       subst (λ z. Leads words text (Exit f) On (w ∷ waits) z) m.2
-      (moved_on words text (spot_lines names g.policy plan.main (Exit f) On) run.state On (place (w.back, returned g.states (kept_at w.split w.state) h.state) m.0) waits
+      (moved_on words text (spot_lines names g.policy g.main (Exit f) On) run.state On (place (w.back, returned g.states (kept_at w.split w.state) h.state) m.0) waits
       (turn_here words text h (w ∷ waits) run (Exit f) es refl) run.run
       (return_step names g t plan right laid has held holds run.state h w waits f x.0 m.0 run.sits es x.1 m.1))
   end_leads words text h waits run f _ n es e = absurd (none-some n e)

@@ -1,5 +1,5 @@
 -- What a board's front and phase are where the spot of its position is known, and what its moves leave.
-use Rattle.std.proofs.Common.{◌≡◌, ◌⊎◌, ℕ, suc, ◌+◌, List, [], ◌∷◌, ◌++◌, Bool, true, false, cond, ◌||◌, Option, Some, None, is_some, option_map, option_and_then, refl, sym, ap, ap₂, ◌∙◌, subst}
+use Rattle.std.proofs.Common.{◌≡◌, ℕ, List, [], ◌∷◌, Bool, true, false, cond, Option, Some, None, option_map, option_and_then, refl, sym, ap, ◌∙◌, subst}
 use Rattle.std.specs.Prelude.{slice_get}
 use Rattle.std.proofs.lemmas.Option.{none-some, same_Some, cond_some}
 use Rattle.cw_rights.specs.declared.capabilities.Caps.{Caps}
@@ -9,20 +9,19 @@ use Rattle.cw_rights.specs.Words.{Word}
 use Rattle.cw_rights.specs.Policies.{PlainPolicy}
 use Rattle.cw_certs.specs.declared.moves.Move.{Move}
 use Rattle.cw_certs.specs.declared.moves.Move.TheVariants.{Skip, Try, Grant, Refuse, On, Left, Right, Opened, Failed, Stop}
-use Rattle.cw_certs.specs.Tables.{Table, into_at, try_at}
-use Rattle.cw_syntax.specs.Plans.{Callee, Stm, Plain, Break, Continue, Return, Open, Close, Call, Group, Label, If, While, Do, For, Plan}
-use Rattle.cw_syntax.specs.Frames.{Item, Entry, Todo, Test, After, Mark, End, Frame, Way, after, settle, pass}
-use Rattle.cw_syntax.specs.Frames.{On as OnWay}
-use Rattle.cw_model.specs.Boards.{Problem, Phase, Visit, Asked, Refused, Free, FreeSplit, Over, Board, Weaver, Environment, Party, seam_in, onward, may_grant, may_refuse, can_stop, way_of}
-use Rattle.cw_model.specs.Boards.{granted, refused, answered, landed, stepped, moved, stop_answers, turn_of}
-use Rattle.cw_model.specs.Runs.{front_seam, mem_in, try_in, refused_with, try_of, called_with, step_memories, memories}
+use Rattle.cw_certs.specs.Tables.{Table}
+use Rattle.cw_syntax.specs.Plans.{Callee, Stm, Open, Close, Call, Label}
+use Rattle.cw_syntax.specs.Frames.{Item, Todo, End, Frame, after, settle}
+use Rattle.cw_model.specs.Boards.{Problem, Phase, Visit, Asked, Refused, Free, FreeSplit, Over, Board, Weaver, Environment, seam_in, may_grant, may_refuse, can_stop, way_of}
+use Rattle.cw_model.specs.Boards.{granted, refused, answered, moved, stop_answers, turn_of}
+use Rattle.cw_model.specs.Runs.{mem_in, try_in, refused_with, memories}
 use Rattle.cw_game.specs.declared.spots.Spot.{Spot}
-use Rattle.cw_game.specs.declared.spots.Spot.TheVariants.{Step, Branch, Exit, Visit as VisitSpot, Asked as AskedSpot, Label as LabelSpot, Open as OpenSpot, Close as CloseSpot, Call as CallSpot, SplitCall}
+use Rattle.cw_game.specs.declared.spots.Spot.TheVariants.{Step, Branch, Exit, Visit as VisitSpot, Asked as AskedSpot, Label as LabelSpot, Open as OpenSpot, Close as CloseSpot}
+use Rattle.cw_game.specs.declared.spots.Spot.TheVariants.{Call as CallSpot, SplitCall}
 use Rattle.cw_game.specs.Standing.{Meaning, StandsIn}
 use Rattle.cw_game.proofs.Moves.{step_of}
 use Rattle.cw_game.proofs.Fronts.{IsQuiet, Front, is_step, is_branch, is_label, is_open, is_close, is_call, is_end, front_of}
-use Rattle.cw_trace.specs.Traces.{Names, passed_lines, move_lines, label_lines, reached_lines, answered_lines}
-use Rattle.cw_run.specs.Walks.{mem_after, spot_lines, label_text}
+use Rattle.cw_run.specs.Walks.{mem_after}
 
 -- What stands at a position and what is at the front of a board that stands there.
 pub data Sees : Frame → Phase → Spot → Type 0 where
@@ -69,40 +68,6 @@ module _ (Means : Meaning) (g : List Spot) (pol : PlainPolicy) (x : ℕ) where
   means_in frame caps word (Refused i a later) p q h = absurd h
   means_in frame caps word Over p q h = absurd h
 
--- A quiet front tells nothing: an item that tells something isn't quiet.
-some_nil : {A : Type 0} (x : A) (xs : List A) → x ∷ xs ≡ [] → ⊥
-some_nil x xs e = cc
-
-longer : {A : Type 0} (x : A) → x ∷ [] ≡ [] → ⊥
-longer x e = cc
-
-module _ (t : Table) (is : Frame) where
-  no_open : (at j d : ℕ) → IsQuiet (Todo (Open at j d)) is → ⊥
-  no_open at j d q = none-some [] (q.remembers t false On [] [] [])
-
-  no_close : (at j d : ℕ) → IsQuiet (Todo (Close at j d)) is → ⊥
-  no_close at j d q = none-some [] (q.remembers t false On [] [] [])
-
-  no_label : (at mark j l : ℕ) (s : Stm) → IsQuiet (Todo (Label at mark j l s)) is → ⊥
-  no_label at mark j l s q = none-some [] (q.remembers t false On [] [] [])
-
-  no_call : (at j : ℕ) (callee : Callee) → IsQuiet (Todo (Call at j callee)) is → ⊥
-  no_call at j callee q = none-some [] (q.remembers t false On [] [] [])
-
-  no_end : (f : ℕ) → IsQuiet (End f) is → ⊥
-  no_end f q = let e = q.keeps None [] (None ∷ []) in cc
-
-  pub untold : (names : Names) (p : Problem) (split : Bool) (by : Move) (i : Item) (frames : List Frame) → IsQuiet i is → passed_lines names p split by ((i ∷ is) ∷ frames) ≡ []
-  untold names p split by (Todo (Open at j d)) frames q = absurd (no_open at j d q)
-  untold names p split by (Todo (Close at j d)) frames q = absurd (no_close at j d q)
-  untold names p split by (Todo (Call at j callee)) frames q = absurd (no_call at j callee q)
-  untold names p split by (End f) frames q = absurd (no_end f q)
-  untold names p split by _ frames q = refl
-
-  pub unlabelled : (names : Names) (pol : PlainPolicy) (caps : Caps) (i : Item) (frames : List Frame) → IsQuiet i is → label_lines names pol caps ((i ∷ is) ∷ frames) ≡ []
-  unlabelled names pol caps (Todo (Label at mark j l s)) frames q = absurd (no_label at mark j l s q)
-  unlabelled names pol caps _ frames q = refl
-
 -- a position within a function: neither a call nor an exit
 abbrev pub is_inner : Spot → Bool
 is_inner (CallSpot j f n) = false
@@ -117,34 +82,7 @@ below (frame ∷ frames) = frames
 abbrev pub board_on : List Frame → List (Option Caps) → Caps → Word → Phase → Board
 board_on stack kept caps word phase = record { stack = stack; kept = kept; caps = caps; word = word; phase = phase }
 
-module _ (names : Names) (p : Problem) (t : Table) where
-  -- what is told
-  pub told_by : (frame : Frame) (frames : List Frame) (kept : List (Option Caps)) (caps : Caps) (word : Word) (phase : Phase) (by : Move) (spot : Spot) → Sees frame phase spot
-      → move_lines names p (board_on (frame ∷ frames) kept caps word phase) phase by ≡ spot_lines names p.policy p.plan.main spot by
-  told_by frame frames kept caps word _ by _ (sees_visit e) = refl
-  told_by frame frames kept caps word _ by _ (sees_asked {frame = fr} {j = j} {i = i} {a = a} {later = later} e) = ap (λ s. answered_lines s i a by) e
-  told_by _ frames kept caps word _ by _ (sees_step {i} {is} {n} quiet) = untold t is names p false by i frames quiet
-  told_by _ frames kept caps word _ by _ (sees_branch {i} {is} {m} {n} quiet) = untold t is names p false by i frames quiet
-  told_by _ frames kept caps word _ by _ sees_label = refl
-  told_by _ frames kept caps word _ by _ sees_open = refl
-  told_by _ frames kept caps word _ by _ sees_close = refl
-  told_by _ frames kept caps word _ by _ sees_call = refl
-  told_by _ frames kept caps word _ by _ sees_split = refl
-  told_by _ frames kept caps word _ by _ sees_end = refl
-
-  pub labelled_by : (frame : Frame) (frames : List Frame) (kept : List (Option Caps)) (caps : Caps) (word : Word) (phase : Phase) (spot : Spot) → Sees frame phase spot
-      → reached_lines names p.policy (board_on (frame ∷ frames) kept caps word phase) phase ≡ label_text names p.policy caps (Some spot)
-  labelled_by frame frames kept caps word _ _ (sees_visit e) = refl
-  labelled_by frame frames kept caps word _ _ (sees_asked e) = refl
-  labelled_by _ frames kept caps word _ _ (sees_step {i} {is} {n} quiet) = unlabelled t is names p.policy caps i frames quiet
-  labelled_by _ frames kept caps word _ _ (sees_branch {i} {is} {m} {n} quiet) = unlabelled t is names p.policy caps i frames quiet
-  labelled_by _ frames kept caps word _ _ sees_label = refl
-  labelled_by _ frames kept caps word _ _ sees_open = refl
-  labelled_by _ frames kept caps word _ _ sees_close = refl
-  labelled_by _ frames kept caps word _ _ sees_call = refl
-  labelled_by _ frames kept caps word _ _ sees_split = refl
-  labelled_by _ frames kept caps word _ _ sees_end = refl
-
+module _ (p : Problem) (t : Table) where
   -- what is remembered, in the same frame
   top_answer : (halts : Bool) (o : Option (List ℕ)) (ms : List ℕ) → halts ≡ false → cond halts (Some ms) o ≡ o
   top_answer true o ms e = cc

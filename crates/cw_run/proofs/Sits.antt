@@ -1,40 +1,33 @@
 -- A state of a woven run over the place where it stands in the game, and what each move of the environment leaves of both.
-use Rattle.std.proofs.Common.{◌≡◌, ◌⊎◌, ℕ, suc, ◌+◌, List, [], ◌∷◌, ◌++◌, map, Bool, true, false, cond, not, ◌&&◌, ◌||◌, Option, Some, None, is_some, option_map, option_and_then, refl, sym, ap, ap₂, ◌∙◌, subst}
+use Rattle.std.proofs.Common.{◌≡◌, ℕ, ◌+◌, List, [], ◌∷◌, ◌++◌, map, Bool, true, false, cond, ◌||◌, Option, Some, None, is_some, option_map, option_and_then, refl, sym, ap, ap₂, ◌∙◌, subst}
 use Rattle.std.specs.Prelude.{slice_get}
-use Rattle.std.proofs.lemmas.Option.{none-some, same_Some, cond_some}
-use Rattle.cw_core.specs.declared.ids.MemId.{MemId}
+use Rattle.std.proofs.lemmas.Option.{none-some, same_Some}
 use Rattle.cw_rights.specs.declared.capabilities.Caps.{Caps}
 use Rattle.cw_rights.specs.declared.capabilities.Primitive.{Primitive}
 use Rattle.cw_rights.specs.declared.capabilities.Primitive.TheVariants.{Split}
 use Rattle.cw_rights.specs.Words.{Word}
-use Rattle.cw_rights.specs.Policies.{PlainPolicy, is_refusable}
 use Rattle.cw_certs.specs.declared.moves.Move.{Move}
-use Rattle.cw_certs.specs.declared.moves.Move.TheVariants.{Skip, Try, Grant, Refuse, On, Left, Right, Opened, Failed, Stop}
-use Rattle.cw_certs.specs.declared.rows.TryRow.{TryRow}
-use Rattle.cw_certs.specs.Tables.{Table, into_at, back_at, try_at, state_of}
+use Rattle.cw_certs.specs.declared.moves.Move.TheVariants.{Skip, Try, Grant, Refuse, On, Left, Right, Opened, Failed}
+use Rattle.cw_certs.specs.Tables.{Table}
 use Rattle.cw_syntax.specs.Plans.{Callee, Call, Plan}
-use Rattle.cw_syntax.specs.Frames.{Todo, End, Frame, Way, settle, pass, popped, frame_of, start_stack, stack_of}
-use Rattle.cw_syntax.specs.Frames.{On as OnWay}
-use Rattle.cw_model.specs.Boards.{Problem, Phase, Visit, Asked, Refused, Free, FreeSplit, Over, Board, Weaver, Environment, begin, may_grant, may_refuse, can_stop, way_of, landed, passed_by, moved, Moves, Violates}
-use Rattle.cw_model.specs.Boards.{stop_answers, turn_of, start_board, IsEnvironments}
-use Rattle.cw_model.specs.Runs.{front_seam, mem_in, try_in, refused_with, stops, stays_where, called_with, returned_with, return_memories, was_split, memories, State, start_state, WovenStep}
+use Rattle.cw_syntax.specs.Frames.{Todo, Frame}
+use Rattle.cw_model.specs.Boards.{Problem, Phase, Board, may_grant}
+use Rattle.cw_model.specs.Runs.{State, WovenStep}
 use Rattle.cw_game.specs.declared.spots.Spot.{Spot}
-use Rattle.cw_game.specs.declared.spots.Spot.TheVariants.{Step, Branch, Exit, Visit as VisitSpot, Asked as AskedSpot, Label as LabelSpot, Open as OpenSpot, Close as CloseSpot, Call as CallSpot, SplitCall}
-use Rattle.cw_game.specs.Games.{AreStates, Game, Ret, Config, at_pair, past_asked, leads_in, leads_to, bad_in, weavers_in, can_stop_in, refuses_in, resumed, resumed_in, returned}
+use Rattle.cw_game.specs.declared.spots.Spot.TheVariants.{Step, Branch, Exit, Visit as VisitSpot, Asked as AskedSpot, Label as LabelSpot, Open as OpenSpot, Close as CloseSpot}
+use Rattle.cw_game.specs.declared.spots.Spot.TheVariants.{Call as CallSpot, SplitCall}
+use Rattle.cw_game.specs.Games.{AreStates, Game, Ret, Config, at_pair, past_asked, leads_in, leads_to, bad_in, weavers_in, refuses_in}
 use Rattle.cw_game.specs.Reached.{Reached}
 use Rattle.cw_game.specs.Places.{IsLaidOut, HasRoutines}
-use Rattle.cw_game.specs.Pairs.{is_call_in, is_exit_in, kept_at}
-use Rattle.cw_game.specs.Standing.{Meaning, Under, StandsIn, StandsOn}
-use Rattle.cw_game.proofs.Moves.{step_of}
-use Rattle.cw_game.proofs.Stands.{refused_at, stops_is}
-use Rattle.cw_game.proofs.Link.{Stands, IsTied, not_both, tied, violates_bad, board_moves, environments_turn, weavers_turn, starts_at}
+use Rattle.cw_game.specs.Standing.{Meaning, StandsOn}
+use Rattle.cw_game.proofs.Link.{Stands, board_moves, environments_turn}
 use Rattle.cw_product.specs.Moves.{pair_of, is_left_in, next_in, next_at}
-use Rattle.cw_trace.specs.Traces.{Names, move_lines, reached_lines, step_lines, stopped_lines}
-use Rattle.cw_trace.specs.Lines.{try_line, stop_line}
-use Rattle.cw_run.specs.Walks.{Here, Wait, ret_of, config_of, mems_of, place, mem_after, within, spot_lines, label_text, Next, To, Into, Back, Resumed, Stopped}
-use Rattle.cw_run.specs.Walks.{called, returning, ended, going_on, refusing, asked, next_of}
-use Rattle.cw_run.proofs.Sees.{Sees, sees_visit, sees_asked, sees_step, sees_branch, sees_label, sees_open, sees_close, sees_call, sees_split, sees_end, see, means_in, is_inner, below}
-use Rattle.cw_run.proofs.Sees.{board_on, told_by, labelled_by, remembered, stays}
+use Rattle.cw_trace.specs.Traces.{Names, move_lines, reached_lines, step_lines}
+use Rattle.cw_told.specs.Told.{spot_lines, lines_at, label_at}
+use Rattle.cw_told.proofs.Boards.{moved_on, reached_on}
+use Rattle.cw_run.specs.Walks.{Here, Wait, ret_of, config_of, mems_of, place, mem_after, within}
+use Rattle.cw_run.proofs.Sees.{Sees, see, means_in, is_inner, below}
+use Rattle.cw_run.proofs.Sees.{board_on, remembered, stays}
 
 -- Where a move leads within a function, whatever waits.
 abbrev pub with_rets : List Ret → Config → Config
@@ -121,21 +114,27 @@ module _ (names : Names) (g : Game) (t : Table) (plan : Plan) (right : AreStates
   problem = record { plan = plan; policy = g.policy }
 
   abbrev pub label_of : Here → List ℕ
-  label_of h = label_text names g.policy (held h.state) (slice_get g.spots h.pos)
+  label_of h = label_at names g.policy (held h.state) (slice_get g.spots h.pos)
 
   -- the label that is told where a board stands
   arrived_on : (stack : List Frame) (kept : List (Option Caps)) (caps : Caps) (word : Word) (phase : Phase) (p q : ℕ) (rets : List Ret)
       → StandsOn (Least g) g stack kept caps word phase p q rets
-      → reached_lines names g.policy (board_on stack kept caps word phase) phase ≡ label_text names g.policy (held q) (slice_get g.spots p)
+      → reached_lines names g.policy (board_on stack kept caps word phase) phase ≡ label_at names g.policy (held q) (slice_get g.spots p)
   arrived_on [] kept caps word phase p q rets h = absurd h
   arrived_on (frame ∷ frames) kept caps word phase p q rets h =
-      let sn = see (Least g) g.spots g.policy (g.exit h.0) frame caps word phase p q h.1 in
       let m = holds q word caps (means_in (Least g) g.spots g.policy (g.exit h.0) frame caps word phase p q h.1) in
-      labelled_by names problem t frame frames kept caps word phase sn.0 sn.2
-      ∙ ap₂ (λ (k : Caps) (o : Option Spot). label_text names g.policy k o) (sym m) (sym sn.1)
+      reached_on (Least g) g plan laid.main names (frame ∷ frames) kept caps word phase p q rets h
+      ∙ ap (λ (k : Caps). label_at names g.policy k (slice_get g.spots p)) (sym m)
 
   pub arrived : (b : Board) (h : Here) (waits : List Wait) → Stands (Least g) g b (config_of h waits) → reached_lines names g.policy b b.phase ≡ label_of h
   arrived b h waits s = arrived_on b.stack b.kept b.caps b.word b.phase h.pos h.state (map ret_of waits) s
+
+  -- what is told by a move that is made where a board stands
+  pub told_by : (b : Board) (h : Here) (waits : List Wait) (by : Move) (spot : Spot) → Stands (Least g) g b (config_of h waits) → slice_get g.spots h.pos ≡ Some spot
+      → move_lines names problem b b.phase by ≡ spot_lines names g.policy g.main spot by
+  told_by b h waits by spot s es =
+      moved_on (Least g) g plan laid.main names b.stack b.kept b.caps b.word b.phase h.pos h.state (map ret_of waits) by s
+      ∙ ap (λ (o : Option Spot). lines_at names g.policy g.main o by) es
 
   -- A move of the environment or the weaver, and where it leads.
   pub record Stepped (s : State) (by : Move) (lines : List ℕ) (to : Here) (waits : List Wait) : Type 0 where
@@ -154,7 +153,7 @@ module _ (names : Names) (g : Game) (t : Table) (plan : Plan) (right : AreStates
   inner_on : (frame : Frame) (frames : List Frame) (kept : List (Option Caps)) (caps : Caps) (word : Word) (phase : Phase) (h : Here) (waits : List Wait) (by : Move) (spot : Spot)
       (pair : ℕ × ℕ) (m : ℕ) → let b = board_on (frame ∷ frames) kept caps word phase in StandsOn (Least g) g (frame ∷ frames) kept caps word phase h.pos h.state (map ret_of waits)
       → Waiting frames kept waits → slice_get g.spots h.pos ≡ Some spot → is_inner spot ≡ true → weavers_in (Some spot) ≡ false → next_at g h.pos h.state by ≡ Some pair
-      → mem_after t h.mem spot by ≡ Some m → Stepped (state_of_board b (mems_of h waits)) by (spot_lines names g.policy plan.main spot by) (place pair m) waits
+      → mem_after t h.mem spot by ≡ Some m → Stepped (state_of_board b (mems_of h waits)) by (spot_lines names g.policy g.main spot by) (place pair m) waits
   inner_on frame frames kept caps word phase h waits by spot pair m stands waiting es inner env en em =
       let rets = map ret_of waits in
       let b = board_on (frame ∷ frames) kept caps word phase in
@@ -166,28 +165,28 @@ module _ (names : Names) (g : Game) (t : Table) (plan : Plan) (right : AreStates
       let good : bad_in g h.state (slice_get g.spots h.pos) ≡ false = ap (bad_in g h.state) es ∙ l.1 in
       let to = board_moves (Least g) g plan right laid has b c (at_pair pair.0 pair.1 rets) by stands good leads in
       let turn = environments_turn (Least g) g plan right laid has b c stands (ap weavers_in es ∙ env) in
-      let stay = stays names problem t frame frames kept caps word phase by spot to.0 sees inner to.1.1 in
+      let stay = stays problem t frame frames kept caps word phase by spot to.0 sees inner to.1.1 in
       let ms : List ℕ = map (λ (w : Wait). w.mem) waits in
-      let memory = remembered names problem t frame frames kept caps word phase by spot h.mem ms sees inner turn to.3 ∙ ap (option_map (λ n. n ∷ ms)) em in
+      let memory = remembered problem t frame frames kept caps word phase by spot h.mem ms sees inner turn to.3 ∙ ap (option_map (λ n. n ∷ ms)) em in
       record {
         next = state_of_board to.0 (m ∷ ms);
         steps = (to.1, memory);
         sits = record { stands = to.2; mems = refl; waiting = subst (λ f. Waiting f to.0.kept waits) (sym stay.0) (subst (λ k. Waiting frames k waits) (sym stay.1) waiting) };
-        tells = ap₂ (λ x y. x ++ y) (told_by names problem t frame frames kept caps word phase by spot sees) (arrived to.0 (place pair m) waits to.2);
+        tells = ap₂ (λ x y. x ++ y) (told_by b h waits by spot stands es) (arrived to.0 (place pair m) waits to.2);
       }
 
   pub inner_step : (s : State) (h : Here) (waits : List Wait) (by : Move) (spot : Spot) (to : Here) → Sits g s h waits → slice_get g.spots h.pos ≡ Some spot → is_inner spot ≡ true
-      → weavers_in (Some spot) ≡ false → within g t h spot by ≡ Some to → Stepped s by (spot_lines names g.policy plan.main spot by) to waits
+      → weavers_in (Some spot) ≡ false → within g t h spot by ≡ Some to → Stepped s by (spot_lines names g.policy g.main spot by) to waits
   inner_step s h waits by spot to sits es inner env e =
       let one = chained (λ (pair : ℕ × ℕ). option_map (place pair) (mem_after t h.mem spot by)) (next_at g h.pos h.state by) to e in
       let two = mapped (place one.0) (mem_after t h.mem spot by) to one.2 in
-      subst (λ z. Stepped s by (spot_lines names g.policy plan.main spot by) z waits) two.2
-      (subst (λ ms. Stepped (state_of_board s.board ms) by (spot_lines names g.policy plan.main spot by) (place one.0 two.0) waits) (sym sits.mems)
+      subst (λ z. Stepped s by (spot_lines names g.policy g.main spot by) z waits) two.2
+      (subst (λ ms. Stepped (state_of_board s.board ms) by (spot_lines names g.policy g.main spot by) (place one.0 two.0) waits) (sym sits.mems)
       (on s.board.stack s.board.kept s.board.caps s.board.word s.board.phase one.0 two.0 sits.stands sits.waiting one.1 two.1))
     where
       on : (stack : List Frame) (kept : List (Option Caps)) (caps : Caps) (word : Word) (phase : Phase) (pair : ℕ × ℕ) (m : ℕ)
           → StandsOn (Least g) g stack kept caps word phase h.pos h.state (map ret_of waits) → Waiting (below stack) kept waits → next_at g h.pos h.state by ≡ Some pair
           → mem_after t h.mem spot by ≡ Some m
-          → Stepped (state_of_board (board_on stack kept caps word phase) (mems_of h waits)) by (spot_lines names g.policy plan.main spot by) (place pair m) waits
+          → Stepped (state_of_board (board_on stack kept caps word phase) (mems_of h waits)) by (spot_lines names g.policy g.main spot by) (place pair m) waits
       on [] kept caps word phase pair m stands waiting en em = absurd stands
       on (frame ∷ frames) kept caps word phase pair m stands waiting en em = inner_on frame frames kept caps word phase h waits by spot pair m stands waiting es inner env en em

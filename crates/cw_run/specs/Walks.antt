@@ -1,13 +1,11 @@
 -- Working definitions: a run over the positions and states of the game, and over the rows of the table.
-use Rattle.std.specs.Prelude.{◌≡◌, ℕ, ◌+◌, List, [], ◌∷◌, ◌++◌, map, reverse, Bool, true, false, Option, Some, None, option_map, option_and_then, is_some, nat_eq, slice_get}
+use Rattle.std.specs.Prelude.{◌≡◌, ℕ, ◌+◌, List, [], ◌∷◌, ◌++◌, map, reverse, Bool, true, false, Option, Some, None, option_map, option_and_then, is_some, slice_get}
 use Rattle.cw_core.specs.declared.ids.MemId.{MemId}
 use Rattle.cw_rights.specs.declared.capabilities.Caps.{Caps}
-use Rattle.cw_rights.specs.Policies.{PlainPolicy}
 use Rattle.cw_certs.specs.declared.moves.Move.{Move}
 use Rattle.cw_certs.specs.declared.moves.Move.TheVariants.{Grant, Refuse, On}
 use Rattle.cw_certs.specs.declared.rows.TryRow.{TryRow}
 use Rattle.cw_certs.specs.Tables.{Table, try_at, after_at, open_at, into_at, back_at, state_of}
-use Rattle.cw_text.specs.LimitsText.{descriptor_name}
 use Rattle.cw_model.specs.Runs.{mem_in, refused_with, by_success}
 use Rattle.cw_game.specs.declared.spots.Spot.{Spot}
 use Rattle.cw_game.specs.declared.spots.Spot.TheVariants.{Visit, Asked, Step, Branch, Label, Open, Close, Call, SplitCall, Exit}
@@ -15,8 +13,9 @@ use Rattle.cw_game.specs.Games.{Game, Ret, Config, at_pair, returned, resumed}
 use Rattle.cw_game.specs.Games.{weavers_in}
 use Rattle.cw_game.specs.Pairs.{Called, kept_at}
 use Rattle.cw_product.specs.Moves.{IsPosition, IsState, next_at}
-use Rattle.cw_trace.specs.Lines.{stop_line, close_line, call_line, label_line}
-use Rattle.cw_trace.specs.Traces.{Names, name_in, answered_lines, opened_lines, returned_lines}
+use Rattle.cw_trace.specs.Lines.{stop_line}
+use Rattle.cw_trace.specs.Traces.{Names}
+use Rattle.cw_told.specs.Told.{lines_at, label_at}
 use Rattle.cw_run.specs.declared.walk.Here.{Here as HereData}
 use Rattle.cw_run.specs.declared.walk.CallAt.{CallAt}
 use Rattle.cw_run.specs.declared.run.Place.{Place as PlaceData}
@@ -125,24 +124,10 @@ next_of g t h waits (Exit f) by = ended g t h waits by
 next_of g t h waits (Asked j i a) by = asked g t h (Asked j i a) j i by (resumed g h.pos h.state)
 next_of g t h waits s by = option_map To (within g t h s by)
 
--- what a move tells where this stands
-abbrev pub spot_lines : Names → PlainPolicy → (main : ℕ) → Spot → Move → List ℕ
-spot_lines names policy main (Asked j i a) by = answered_lines (Some j) i a by
-spot_lines names policy main (Open j d n) by = opened_lines (descriptor_name policy d) by
-spot_lines names policy main (Close j d n) by = close_line (descriptor_name policy d)
-spot_lines names policy main (Call j f n) by = call_line (name_in names.functions f) false
-spot_lines names policy main (SplitCall j f n) by = call_line (name_in names.functions f) true
-spot_lines names policy main (Exit f) by = returned_lines names main f
-spot_lines names policy main _ by = []
-
+-- the stop after a move
 abbrev pub stop_lines : Next → List ℕ
 stop_lines (Stopped seam) = stop_line seam
 stop_lines _ = []
-
--- the label that stands here, with what is held
-abbrev pub label_text : Names → PlainPolicy → Caps → Option Spot → List ℕ
-label_text names policy caps (Some (Label j l n)) = label_line policy.descriptors (name_in names.labels j) caps
-label_text names policy caps _ = []
 
 -- From a position the weaver comes to another by its own moves: it skips what has no try row, and tries what has one.
 pub data Rests (g : Game) (t : Table) (m : ℕ) : ℕ → ℕ → Type 0 where
@@ -214,7 +199,7 @@ innermost waits = reverse (map wait_of waits)
 pub record Arrives (names : Names) (g : Game) (t : Table) (held : ℕ → Caps) (to here : Here) (old new : List ℕ) : Type 0 where
   pub rests : Rests g t to.mem to.pos here.pos
   pub same : here ≡ at_pos here.pos to
-  pub told : new ≡ old ++ label_text names g.policy (held to.state) (slice_get g.spots here.pos)
+  pub told : new ≡ old ++ label_at names g.policy (held to.state) (slice_get g.spots here.pos)
 
 -- Where the run is: at a place, or over.
 abbrev pub place_in : PlaceData → Option Here
@@ -241,16 +226,12 @@ pub record Goes (names : Names) (g : Game) (t : Table) (held : ℕ → Caps) (n 
 abbrev pub next_here : Game → Table → Here → List Wait → Move → Option Next
 next_here g t h waits by = option_and_then (λ s. next_of g t h waits s by) (slice_get g.spots h.pos)
 
-abbrev pub lines_here : Names → PlainPolicy → (main : ℕ) → Option Spot → Move → List ℕ
-lines_here names policy main None by = []
-lines_here names policy main (Some s) by = spot_lines names policy main s by
-
 -- An answer of the environment at a place: it is a move there, and the run goes on by it; or it is none.
-abbrev pub Answered : Names → Game → Table → (ℕ → Caps) → ℕ → Here → Move → Option PlaceData → List Wait → List Wait → List ℕ → List ℕ → Type 0
-Answered names g t held main h by None waits waits2 old new = (next_here g t h waits by ≡ None) × (new ≡ old)
-Answered names g t held main h by (Some place) waits waits2 old new =
+abbrev pub Answered : Names → Game → Table → (ℕ → Caps) → Here → Move → Option PlaceData → List Wait → List Wait → List ℕ → List ℕ → Type 0
+Answered names g t held h by None waits waits2 old new = (next_here g t h waits by ≡ None) × (new ≡ old)
+Answered names g t held h by (Some place) waits waits2 old new =
     (n : Next) × (next_here g t h waits by ≡ Some n)
-    × Goes names g t held n waits waits2 (place_in place) (old ++ lines_here names g.policy main (slice_get g.spots h.pos) by) new
+    × Goes names g t held n waits waits2 (place_in place) (old ++ lines_at names g.policy g.main (slice_get g.spots h.pos) by) new
 
 abbrev pub IsPlace : Game → Option Here → Type 0
 IsPlace g None = Unit {0}

@@ -2,7 +2,6 @@
 #![tactic(auto)]
 
 mod run;
-mod tell;
 mod walk;
 
 pub use run::{RunEnd, run_woven};

@@ -21,12 +21,12 @@ ghost use Rattle.cw_run.specs.Woven.{end_of, Tells};
 ghost use Rattle.cw_run.specs.Walks.{here_of, wait_of, next_is, innermost, IsHere, IsWait, IsNextIn, IsPlace, Arrives, Goes, Answered, place_in, start_here, without_first};
 ghost use Rattle.cw_game.specs.Games.{Game as GameOf};
 
-use crate::tell::{put_label_here, put_move};
 use crate::walk::{Here, Next, Wait, lead, rest};
 use cw_certs::{Move, WeaverCert};
 use cw_core::NoMemory;
 use cw_product::Game;
 use cw_syntax::checked::Checked;
+use cw_told::{put_move, put_reached};
 use cw_trace::{Names, put_stop, trace_names};
 use std::alloc::Global;
 
@@ -58,7 +58,13 @@ fn arrive(
         state: to.state,
         mem: to.mem,
     };
-    put_label_here(names, game, here, text)?;
+    put_reached(
+        names,
+        game.policy(),
+        game.caps(here.state),
+        game.spot(here.pos),
+        text,
+    )?;
     Ok(here)
 }
 
@@ -154,7 +160,7 @@ fn answer(
 ) -> Result<Option<Place>, NoMemory>
     requires here { IsHere (game_of game.now) (here_of here) }
     requires waits { All (λ w. IsWait (game_of game.now) (wait_of w)) waits.old.items }
-    ensures answered { IfOk result (λ place. Answered (told names.now) (game_of game.now) table.now (caps_at (lists_of game.now.states)) game.now.graph.main (here_of here) by place (innermost waits.old.items) (innermost waits.new.items) text.old.items text.new.items) }
+    ensures answered { IfOk result (λ place. Answered (told names.now) (game_of game.now) table.now (caps_at (lists_of game.now.states)) (here_of here) by place (innermost waits.old.items) (innermost waits.new.items) text.old.items text.new.items) }
     ensures range { IfOk result (λ place. IfSome place (λ place. IsPlace (game_of game.now) (place_in place))) }
     ensures waits { IfOk result (λ _. All (λ w. IsWait (game_of game.now) (wait_of w)) waits.new.items) }
 {

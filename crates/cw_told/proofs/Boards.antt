@@ -8,7 +8,8 @@ use Rattle.cw_syntax.specs.Plans.{Plain, Break, Continue, Return, Open, Close, C
 use Rattle.cw_syntax.specs.Frames.{Entry, Todo, Test, After, Mark, End, Frame}
 use Rattle.cw_model.specs.Boards.{Problem, Phase, Visit, Asked, Refused, Free, FreeSplit, Over, Board}
 use Rattle.cw_game.specs.declared.spots.Spot.{Spot}
-use Rattle.cw_game.specs.declared.spots.Spot.TheVariants.{Visit as VisitSpot, Asked as AskedSpot, Step, Branch, Label as LabelSpot, Open as OpenSpot, Close as CloseSpot, Call as CallSpot, SplitCall, Exit}
+use Rattle.cw_game.specs.declared.spots.Spot.TheVariants.{Visit as VisitSpot, Asked as AskedSpot, Step, Branch, Label as LabelSpot, Open as OpenSpot, Close as CloseSpot}
+use Rattle.cw_game.specs.declared.spots.Spot.TheVariants.{Call as CallSpot, SplitCall, Exit}
 use Rattle.cw_game.specs.Games.{Game, Ret, Config}
 use Rattle.cw_game.specs.Places.{TestAt}
 use Rattle.cw_game.specs.Standing.{Meaning, settled, FreeAt, StandsOn}
@@ -73,7 +74,7 @@ module _ (Means : Meaning) (g : Game) (plan : Plan) (main : plan.main ≡ g.main
   abbrev board : List Frame → List (Option Caps) → Caps → Word → Phase → Board
   board stack kept caps word phase = record { stack = stack; kept = kept; caps = caps; word = word; phase = phase }
 
-  moved_on : (stack : List Frame) (kept : List (Option Caps)) (caps : Caps) (word : Word) (phase : Phase) (p q : ℕ) (rets : List Ret) (by : Move)
+  pub moved_on : (stack : List Frame) (kept : List (Option Caps)) (caps : Caps) (word : Word) (phase : Phase) (p q : ℕ) (rets : List Ret) (by : Move)
       → StandsOn Means g stack kept caps word phase p q rets → move_lines names problem (board stack kept caps word phase) phase by ≡ told p by
   moved_on [] kept caps word phase p q rets by h = absurd h
   moved_on (frame ∷ frames) kept caps word (Visit i a later) p q rets by h = at_spot p (VisitSpot h.1.0.1 i a) by h.1.0.4.0
@@ -88,7 +89,7 @@ module _ (Means : Meaning) (g : Game) (plan : Plan) (main : plan.main ≡ g.main
   moved_on (frame ∷ frames) kept caps word (Refused i a later) p q rets by h = absurd h.1
   moved_on (frame ∷ frames) kept caps word Over p q rets by h = absurd h.1
 
-  reached_on : (stack : List Frame) (kept : List (Option Caps)) (caps : Caps) (word : Word) (phase : Phase) (p q : ℕ) (rets : List Ret)
+  pub reached_on : (stack : List Frame) (kept : List (Option Caps)) (caps : Caps) (word : Word) (phase : Phase) (p q : ℕ) (rets : List Ret)
       → StandsOn Means g stack kept caps word phase p q rets → reached_lines names g.policy (board stack kept caps word phase) phase ≡ labelled caps p
   reached_on [] kept caps word phase p q rets h = absurd h
   reached_on (frame ∷ frames) kept caps word (Visit i a later) p q rets h = at_label p (VisitSpot h.1.0.1 i a) caps h.1.0.4.0

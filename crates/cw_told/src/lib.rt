@@ -3,4 +3,4 @@
 
 mod telling;
 
-pub use telling::put_step;
+pub use telling::{put_move, put_reached, put_step};

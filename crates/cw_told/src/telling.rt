@@ -5,7 +5,6 @@ ghost use Rattle.cw_rights.specs.Policies.{policy_of};
 ghost use Rattle.cw_states.specs.States.{caps_at, lists_of};
 ghost use Rattle.cw_product.specs.Moves.{IsPosition, IsState};
 ghost use Rattle.cw_product.specs.Product.{game_of};
-ghost use Rattle.cw_text.specs.LimitsText.{descriptor_name};
 ghost use Rattle.cw_trace.specs.Traces.{answered_lines, opened_lines, returned_lines};
 ghost use Rattle.cw_trace.specs.Labels.{told};
 ghost use Rattle.cw_told.specs.Told.{spot_lines, label_lines, lines_at, label_at};
@@ -15,17 +14,8 @@ use cw_core::{NoMemory, PosId, SeamId, StateId};
 use cw_game::Spot;
 use cw_product::Game;
 use cw_rights::{Caps, Policy, Primitive};
+use cw_text::descriptor_name;
 use cw_trace::{Names, put_call, put_close, put_label, put_open, put_return, put_try};
-
-/// The name of a descriptor of the policy; one that the policy doesn't have, none.
-fn descriptor_name(policy: &Policy, number: u8) -> &[u8]
-    ensures { result.now ≡ descriptor_name (policy_of policy.now) number }
-{
-    match policy.descriptors.get(usize::from(number)) {
-        Some(descriptor) => descriptor.name.as_slice(),
-        None => &[],
-    }
-}
 
 fn put_answered(
     seam: SeamId,
@@ -63,8 +53,8 @@ fn put_returned(names: &Names, main: u16, function: u32, text: &mut Vec<u8>) -> 
     put_return(names.function(function), text)
 }
 
-/// What a move tells that is made where this stands.
-fn put_spot(
+/// Appends what a move tells that is made where this stands.
+pub fn put_move(
     names: &Names,
     policy: &Policy,
     main: u16,
@@ -85,8 +75,8 @@ fn put_spot(
     }
 }
 
-/// The label that stands there, with the capabilities.
-fn put_reached(
+/// Appends what is told where this is reached with these capabilities: the label that stands there, if one does.
+pub fn put_reached(
     names: &Names,
     policy: &Policy,
     caps: &Caps,
@@ -124,6 +114,6 @@ pub fn put_step(
         ++ label_at (told names.now) g.policy (caps_at (lists_of game.now.states) next.1.0) (slice_get g.spots next.0.0))) }
 {
     let policy = game.policy();
-    put_spot(names, policy, game.main(), game.spot(pos), by, text)?;
+    put_move(names, policy, game.main(), game.spot(pos), by, text)?;
     put_reached(names, policy, game.caps(next.1), game.spot(next.0), text)
 }

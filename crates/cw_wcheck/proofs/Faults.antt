@@ -1,4 +1,4 @@
--- The first condition that fails of several, and of a list's rows.
+-- The first condition that fails of a list's rows, and of several lists.
 use Rattle.std.proofs.Common.{◌≡◌, ℕ, zero, suc, ◌+◌, ◌<◌, List, [], ◌∷◌, ◌++◌, map, length, Bool, true, false, cond, not, ◌&&◌, Option, Some, None, option_map, nat_lt, refl, sym, ap, ap₂, ◌∙◌, subst, arith}
 use Rattle.std.specs.Option.{option_or}
 use Rattle.std.specs.List.{enumerate_from, list_all, position_or_len}
@@ -8,17 +8,10 @@ use Rattle.cw_core.specs.declared.ids.StateId.{StateId}
 use Rattle.cw_certs.specs.Tables.{Table}
 use Rattle.cw_game.specs.Games.{Game}
 use Rattle.cw_game.specs.Conditions.{first_failing, Part, InMems, InLive, InTries, InAts, InOpened, InClosed, InInto, InBack, TableFault, fault_at, in_range, ranges, is_mem_row, is_live_row, is_try_row, is_at_row, is_open_row, is_into_row, is_back_row}
+use Rattle.cw_game.proofs.Failing.{first_append}
 use Rattle.cw_wcheck.specs.declared.fault.BadRow.{BadRow}
 use Rattle.cw_wcheck.specs.Checking.{table_of, told}
 use Rattle.cw_wcheck.specs.Working.{MeanStates}
-
-pub first-append : {A : Type 0} (xs ys : List (A × Bool)) → first_failing (xs ++ ys) ≡ option_or (first_failing xs) (first_failing ys)
-first-append [] ys = refl
-first-append (x ∷ xs) ys = by x.1 (first-append xs ys)
-  where
-    by : (b : Bool) → first_failing (xs ++ ys) ≡ option_or (first_failing xs) (first_failing ys) → cond b (first_failing (xs ++ ys)) (Some x.0) ≡ option_or (cond b (first_failing xs) (Some x.0)) (first_failing ys)
-    by true h = h
-    by false h = refl
 
 pub map_or : {A B : Type 0} (f : A → B) (o p : Option A) → option_map f (option_or o p) ≡ option_or (option_map f o) (option_map f p)
 map_or f None p = refl
@@ -70,7 +63,7 @@ told_range part test rows found row e f = e ∙ ap (out_of (table_of part)) f �
 
 told-append : (xs ys : List (TableFault × Bool)) (o p : Option BadRow) → o ≡ option_map told (first_failing xs) → p ≡ option_map told (first_failing ys)
     → option_or o p ≡ option_map told (first_failing (xs ++ ys))
-told-append xs ys o p e f = ap₂ option_or e f ∙ sym (map_or told (first_failing xs) (first_failing ys)) ∙ sym (ap (option_map told) (first-append xs ys))
+told-append xs ys o p e f = ap₂ option_or e f ∙ sym (map_or told (first_failing xs) (first_failing ys)) ∙ sym (ap (option_map told) (first_append xs ys))
 
 -- the first of eight lists that has one
 pub told_ranges : (mems live tries ats opened closed into back : List (TableFault × Bool)) (a b c d e f g h : Option BadRow)
@@ -93,10 +86,10 @@ none_or None p h = (refl, h)
 none_or (Some x) p h = cc
 
 none_first : {A : Type 0} (xs ys : List (A × Bool)) → first_failing (xs ++ ys) ≡ None → first_failing xs ≡ None
-none_first xs ys h = (none_or (first_failing xs) (first_failing ys) (sym (first-append xs ys) ∙ h)).0
+none_first xs ys h = (none_or (first_failing xs) (first_failing ys) (sym (first_append xs ys) ∙ h)).0
 
 none_later : {A : Type 0} (xs ys : List (A × Bool)) → first_failing (xs ++ ys) ≡ None → first_failing ys ≡ None
-none_later xs ys h = (none_or (first_failing xs) (first_failing ys) (sym (first-append xs ys) ∙ h)).1
+none_later xs ys h = (none_or (first_failing xs) (first_failing ys) (sym (first_append xs ys) ∙ h)).1
 
 none_in : {A : Type 0} (part : Part) (test : A → Bool) (n : ℕ) (rows : List A) → first_failing (map (λ r. (fault_at part r.0 1, test r.1)) (enumerate_from n rows)) ≡ None → list_all test rows ≡ true
 none_in part test n [] h = refl

@@ -5,7 +5,6 @@ pub mod Lives
 pub mod Kept
 pub mod Runs
 pub mod Sounds
-pub mod Beaten
 pub mod Tries
 pub mod Lazies
 mod Example

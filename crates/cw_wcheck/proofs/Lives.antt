@@ -1,5 +1,5 @@
 -- The conditions of the live rows, from a row on.
-use Rattle.std.proofs.Common.{◌≡◌, ℕ, zero, suc, ◌+◌, ◌<◌, ◌≤◌, List, [], ◌∷◌, map, length, drop, get_or, Bool, true, false, cond, Option, Some, None, option_map, nat_lt, refl, sym, ap, ap₂, ◌∙◌, subst, arith, add-one}
+use Rattle.std.proofs.Common.{◌≡◌, ℕ, zero, suc, ◌+◌, ◌<◌, ◌≤◌, List, [], ◌∷◌, map, length, drop, get_or, true, false, cond, Option, Some, None, option_map, nat_lt, refl, sym, ap, ap₂, ◌∙◌, subst, arith, add-one}
 use Rattle.std.specs.Option.{option_or}
 use Rattle.std.specs.Prelude.{slice_get}
 use Rattle.std.specs.List.{All, enumerate_from, list_all}
@@ -11,17 +11,10 @@ use Rattle.cw_core.specs.declared.ids.MemId.{MemId}
 use Rattle.cw_certs.specs.Tables.{Table}
 use Rattle.cw_game.specs.Games.{Game}
 use Rattle.cw_game.specs.Conditions.{first_failing, InMems, InLive, TableFault, fault_at, is_header, ranges, is_live_row, begins, live_by, live_rows, table_fault}
+use Rattle.cw_game.proofs.Failing.{first_append, first_mapped}
 use Rattle.cw_wcheck.specs.declared.fault.BadRow.{BadRow}
 use Rattle.cw_wcheck.specs.Checking.{told}
-use Rattle.cw_wcheck.proofs.Faults.{first-append, first_part, second_part}
-
-first-map : {A B : Type 0} (f : A → B) (cs : List (A × Bool)) → first_failing (map (λ c. (f c.0, c.1)) cs) ≡ option_map f (first_failing cs)
-first-map f [] = refl
-first-map f (c ∷ cs) = by c.1 (first-map f cs)
-  where
-    by : (b : Bool) → first_failing (map (λ c. (f c.0, c.1)) cs) ≡ option_map f (first_failing cs) → cond b (first_failing (map (λ c. (f c.0, c.1)) cs)) (Some (f c.0)) ≡ option_map f (cond b (first_failing cs) (Some c.0))
-    by true h = h
-    by false h = refl
+use Rattle.cw_wcheck.proofs.Faults.{first_part, second_part}
 
 module _ (g : Game) (t : Table) where
   -- the first condition that fails of a row, and of the rows from one on
@@ -35,8 +28,8 @@ module _ (g : Game) (t : Table) where
   step i d l =
       let r = get_or t.live i d in
       ap (λ rows. first_failing (live_rows g t (enumerate_from i rows))) (drop-cons t.live i d l)
-      ∙ first-append (map (λ c. (fault_at InLive i c.0, c.1)) (live_by g t r.0.0 r.1.0 (slice_get t.mems r.1.0))) (live_rows g t (enumerate_from (i + 1) (drop (suc i) t.live)))
-      ∙ ap₂ option_or (first-map (fault_at InLive i) (live_by g t r.0.0 r.1.0 (slice_get t.mems r.1.0)))
+      ∙ first_append (map (λ c. (fault_at InLive i c.0, c.1)) (live_by g t r.0.0 r.1.0 (slice_get t.mems r.1.0))) (live_rows g t (enumerate_from (i + 1) (drop (suc i) t.live)))
+      ∙ ap₂ option_or (first_mapped (fault_at InLive i) (live_by g t r.0.0 r.1.0 (slice_get t.mems r.1.0)))
       (ap (λ k. first_failing (live_rows g t (enumerate_from (i + 1) (drop k t.live)))) (sym (add-one i)))
 
   pub found : (rows : List (PosId × MemId)) (i : ℕ) (d : PosId × MemId) (o : Option ℕ) (condition : ℕ)
@@ -70,7 +63,7 @@ module _ (g : Game) (t : Table) where
   then_begins = cond (begins g t) (fails_from 0) (Some (fault_at InLive 0 2))
 
   fault_is : table_fault g t ≡ cond (is_header g t) (option_or (first_failing (ranges g t)) then_begins) (Some (fault_at InMems 0 1))
-  fault_is = ap (λ o. cond (is_header g t) o (Some (fault_at InMems 0 1))) (first-append (ranges g t) ((fault_at InLive 0 2, begins g t) ∷ live_rows g t (enumerate_from 0 t.live)))
+  fault_is = ap (λ o. cond (is_header g t) o (Some (fault_at InMems 0 1))) (first_append (ranges g t) ((fault_at InLive 0 2, begins g t) ∷ live_rows g t (enumerate_from 0 t.live)))
 
   past_header : is_header g t ≡ true → table_fault g t ≡ option_or (first_failing (ranges g t)) then_begins
   past_header h = fault_is ∙ ap (λ b. cond b (option_or (first_failing (ranges g t)) then_begins) (Some (fault_at InMems 0 1))) h

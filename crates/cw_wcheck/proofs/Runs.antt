@@ -1,5 +1,5 @@
--- Woven runs, whatever the table: they add no path, try seldom, and are put end to end.
-use Rattle.std.proofs.Common.{◌≡◌, ℕ, zero, suc, ◌+◌, ◌≤◌, List, [], ◌∷◌, ◌++◌, map, length, Bool, true, false, cond, Some, None, refl, sym, ap, ap₂, ◌∙◌, subst, ⊎_elim, append_assoc, arith}
+-- Woven runs, whatever the table: they add no path, try seldom, and what is said of them is put end to end.
+use Rattle.std.proofs.Common.{◌≡◌, ℕ, zero, suc, ◌+◌, ◌≤◌, List, [], ◌∷◌, ◌++◌, map, length, Bool, true, false, cond, Some, None, refl, sym, ap, ap₂, ◌∙◌, subst, append_assoc, arith}
 use Rattle.std.proofs.lemmas.Option.{none-some, same_Some, cond_some}
 use Rattle.cw_rights.specs.declared.capabilities.Limit.{Limit as ALimit}
 use Rattle.cw_rights.specs.declared.capabilities.Primitive.{Primitive}
@@ -11,15 +11,11 @@ use Rattle.cw_certs.specs.Tables.{Table}
 use Rattle.cw_syntax.specs.Plans.{Call, Label, Plan}
 use Rattle.cw_syntax.specs.Frames.{Item, Entry, Todo, Frame, Way, pass, front, PathFrom}
 use Rattle.cw_model.specs.Boards.{Problem, Phase, Visit, Asked, Refused, Free, FreeSplit, Over, Board, onward, begin, way_of, granted, refused, answered, moved}
-use Rattle.cw_model.specs.Boards.{may_grant, may_refuse, can_stop, start_board, Forced}
-use Rattle.cw_model.specs.Runs.{State, start_state, Goes, WovenRun, last, reached, passed_in, passed, erased, is_asked, tries, NeverStops, Sound}
+use Rattle.cw_model.specs.Boards.{may_grant, may_refuse, can_stop, start_board}
+use Rattle.cw_model.specs.Runs.{State, start_state, Goes, WovenRun, last, reached, passed_in, passed, erased, is_asked, tries, NeverStops}
 use Rattle.cw_game.proofs.Moves.{step_of}
 
 -- End to end.
-pub goes_append : (p : Problem) (t : Table) (s : State) (run more : List State) → Goes p t s run → Goes p t (last s run) more → Goes p t s (run ++ more)
-goes_append p t s [] more h k = k
-goes_append p t s (next ∷ run) more h k = (h.0, goes_append p t next run more h.1 k)
-
 pub never_append : (p : Problem) (s : State) (run more : List State) → NeverStops p s run → NeverStops p (last s run) more → NeverStops p s (run ++ more)
 never_append p s [] more h k = k
 never_append p s (next ∷ run) more h k = (h.0, never_append p next run more h.1 k)
@@ -34,10 +30,6 @@ pub erased_join : (s : State) (run more : List State) (next : State) (i : Item) 
 erased_join s run more next i items none one rest =
     ◌∙◌ {b = erased s run ++ (passed (last s run) ++ erased next more)} (erased_append s run (next ∷ more))
     (ap₂ (λ y z. y ++ z) none (ap₂ (λ y z. y ++ z) one rest))
-
-pub last_append : (s : State) (run : List State) (next : State) → last s (run ++ next ∷ []) ≡ next
-last_append s [] next = refl
-last_append s (one ∷ run) next = last_append one run next
 
 -- No path is added.
 front_is : (plan : Plan) (stack next : List Frame) (way : Way) → pass plan stack way ≡ Some next → (i : Item) × (front stack ≡ i ∷ [])
@@ -199,22 +191,3 @@ few p t run later h k e =
     let f = few_from p t (reached p t run) later k e in
     let w = short p t (start_state p t) run h (begin_weight p.policy (start_board p).stack) in
     omega (arith, f, w)
-
--- No board of a run of a sound table is forced.
-forced_along : (p : Problem) (t : Table) → Sound p t → (n : ℕ) (run : List State) → WovenRun p t run → Forced p n (reached p t run).board → ⊥
-forced_along p t sound zero run h f = sound.meets run h f
-forced_along p t sound (suc n) run h f =
-    ⊎_elim (λ v. sound.meets run h v) (λ r. ⊎_elim
-    (λ w.
-    let k = sound.chooses run h w.0 in
-    let g = goes_append p t (start_state p t) run (k.1 ∷ []) h ((k.0, k.2), tt) in
-    forced_along p t sound n (run ++ k.1 ∷ []) g (subst (λ s. Forced p n s.board) (sym (last_append (start_state p t) run k.1)) (w.1 k.0 k.1.board k.2.0)))
-    (λ w.
-    let m = w.1 in
-    let k = sound.answers run m.0 m.1 h w.0 m.2 in
-    let next : State = record { board = m.1; mems = k.0 } in
-    let g = goes_append p t (start_state p t) run (next ∷ []) h ((m.0, k.1), tt) in
-    forced_along p t sound n (run ++ next ∷ []) g (subst (λ s. Forced p n s.board) (sym (last_append (start_state p t) run next)) m.3)) r) f
-
-pub never_forced : (p : Problem) (t : Table) → Sound p t → (n : ℕ) → Forced p n (start_board p) → ⊥
-never_forced p t sound n f = forced_along p t sound n [] tt f

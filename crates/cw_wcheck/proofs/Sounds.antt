@@ -27,7 +27,8 @@ use Rattle.cw_game.proofs.Stands.{enters_at, stops_is}
 use Rattle.cw_game.proofs.Truths.{and_parts, not_true}
 use Rattle.cw_model.proofs.Moving.{stops_after_refusal}
 use Rattle.cw_wcheck.proofs.Kept.{rests, IsMeant, Kept, KeptOn, Hands, row_in, leads_to, asked_row, halted_some, advances, free_advances, split_advances, keeps}
-use Rattle.cw_wcheck.proofs.Runs.{goes_append, never_append, erased_join, path_of, few}
+use Rattle.cw_model.proofs.Running.{goes_append}
+use Rattle.cw_wcheck.proofs.Runs.{never_append, erased_join, path_of, few}
 
 module _ (Means : Meaning) (Ex : ℕ → List Ret → Type 0) (g : Game) (t : Table) (plan : Plan) (right : AreStates g.policy g.spots g.states Means) (laid : IsLaidOut plan g)
     (ok : rows_ok g t t.live ≡ true) (hands : Hands Means Ex g t) where

@@ -1,10 +1,8 @@
 -- What the conditions of a table are good for.
 use Rattle.std.specs.Prelude.{◌≡◌, ℕ, ◌+◌, ◌≤◌, List, [], true, length}
-use Rattle.cw_certs.specs.Strategies.{Strategy}
 use Rattle.cw_certs.specs.Tables.{Table}
 use Rattle.cw_model.specs.Boards.{Problem, start_board, Forced}
 use Rattle.cw_model.specs.Runs.{State, WovenRun, Goes, reached, erased, tries, Sound, Lazy}
-use Rattle.cw_model.specs.Plays.{Beats}
 use Rattle.cw_game.specs.Games.{AreStates, Game, IsLost}
 use Rattle.cw_game.specs.Reached.{Reached}
 use Rattle.cw_game.specs.Places.{IsLaidOut, HasRoutines}
@@ -41,18 +39,6 @@ abbrev pub LostStartIsForced : Type 0
 LostStartIsForced = (p : Problem) (g : Game) → g.policy ≡ p.policy
     → AreStates g.policy g.spots g.states (Reached g.policy g.spots g.states) → IsLaidOut p.plan g → HasRoutines p.plan g
     → IsLost g (g.entry g.main) g.states.start (λ x. true) → (n : ℕ) × Forced p n (start_board p)
-
--- Where a table is sound the start isn't forced.
-abbrev pub SoundIsNeverForced : Type 0
-SoundIsNeverForced = (p : Problem) (t : Table) → Sound p t → (n : ℕ) → Forced p n (start_board p) → ⊥
-
--- Where a strategy beats every weaver the start is forced.
-abbrev pub BeatenIsForced : Type 0
-BeatenIsForced = (p : Problem) (s : Strategy) (row : ℕ) → Beats p s row → (n : ℕ) × Forced p n (start_board p)
-
--- So no program has both a sound table and a strategy that beats every weaver.
-abbrev pub NeverBoth : Type 0
-NeverBoth = (p : Problem) (t : Table) (s : Strategy) (row : ℕ) → Sound p t → Beats p s row → ⊥
 
 -- Whatever the table, between two steps of the program there are at most two tries more than the policy has limits: 14 for the most that a policy may have, 12.
 abbrev pub TriesAreFew : Type 0

@@ -1,7 +1,7 @@
 //! Laws of tables, over woven runs of any length and stacks of any depth. The functions here do nothing: what they promise is
 //! true of every program, game and table.
 
-ghost use Rattle.cw_wcheck.specs.Soundness.{GoodTablesAreSound, GoodTablesAreLazy, ConditionsMakeSound, LostPairsMakeLazy, LostStartIsForced, SoundIsNeverForced, BeatenIsForced, NeverBoth, TriesAreFew};
+ghost use Rattle.cw_wcheck.specs.Soundness.{GoodTablesAreSound, GoodTablesAreLazy, ConditionsMakeSound, LostPairsMakeLazy, LostStartIsForced, TriesAreFew};
 
 /// Each table that meets the nine conditions of a game of a program and its policy is sound, over stacks of any depth. For a policy
 /// that lets the weaver stop after a refusal it keeps the program's paths up to a stop right after a refusal of what could have been
@@ -40,21 +40,6 @@ pub fn lost_pairs_make_lazy()
 /// Where the pair of the start is lost, with all states promised, the environment can force a violation from the start.
 pub fn lost_start_is_forced()
     ensures forced { LostStartIsForced }
-{}
-
-/// Where a table is sound the environment can't force a violation from the start.
-pub fn sound_is_never_forced()
-    ensures never { SoundIsNeverForced }
-{}
-
-/// Where a strategy beats every weaver the environment can force a violation from the start.
-pub fn beaten_is_forced()
-    ensures forced { BeatenIsForced }
-{}
-
-/// No program has both a sound table and a strategy that beats every weaver.
-pub fn never_both()
-    ensures never { NeverBoth }
 {}
 
 /// Whatever the table, a woven run has at most two tries more between two steps of the program than the policy has limits:

@@ -1,4 +1,4 @@
-use Rattle.std.proofs.Common.{◌∷◌, ap, ap₂, ◌∙◌}
+use Rattle.std.proofs.Common.{◌∷◌, sym, ap, ap₂, ◌∙◌, subst}
 use Rattle.std.specs.Prelude.{option_map, is_some}
 use Rattle.cw_syntax.specs.declared.program.Head.{Head, out-Head}
 use Rattle.cw_syntax.specs.declared.program.Stmt.{Stmt}
@@ -6,6 +6,8 @@ use Rattle.cw_syntax.specs.Plans.{numbered, numbered_all}
 use Rattle.cw_syntax.specs.Frames.{Test, Mark, items_of, init_if}
 use Rattle.cw_actions.specs.Scenes.{stm_in, stms_in}
 use Rattle.cw_boards.specs.Held.{scene, frame_in}
+use Rattle.cw_actions.proofs.Shapes.{block_steps}
+use Rattle.cw_boards.specs.Numbered.{most_seams, SeamsBelow, AllSeamsBelow}
 use Rattle.cw_boards.proofs.Settled.{a_block, a_for}
 use Rattle.cw_boards.proofs.frames.rewrite_statement.Goals as goal
 
@@ -26,3 +28,10 @@ returns-in_ok-for_loop-in-For c =
     (c.in_ok-for_loop-in-For.ensures s
     ∙ ap₂ (λ (h : Head) (b : Stmt). init_if (option_map (λ (i : Stmt). i.from) (out-Head h).init) (Test st.from (is_some (out-Head h).test) (is_some (out-Head h).step)
     (numbered (stm_in s b) c.args.seam) ∷ (Mark ∷ rest))) c.deref-in-For.ensures c.deref-in-For-2.ensures)
+
+pub put_all-requires : goal.put_all-requires
+put_all-requires c =
+    let s = scene c.args.checked.now c.args.policy.now in
+    let st = c.args.statement.now in
+    let below = subst (λ x. SeamsBelow most_seams (numbered x c.args.seam)) (block_steps s st.from st.what c.in-Block.statements c.in-Block.is) c.requires.below in
+    record { below = subst (λ l. AllSeamsBelow most_seams (numbered_all (stms_in s l) c.args.seam)) (sym c.deref.ensures.value) below }

@@ -2,6 +2,7 @@ use Rattle.std.proofs.Common.{◌≡◌, ◌<◌, ◌≤◌, length, get_or, ap,
 use Rattle.std.specs.Prelude.{option_map}
 use Rattle.cw_syntax.specs.Frames.{new_frame}
 use Rattle.cw_boards.specs.Held.{scene, frame_in}
+use Rattle.cw_boards.proofs.Below.{function_fits}
 use Rattle.cw_boards.proofs.Routines.{routine_none, frame_at}
 use Rattle.cw_boards.proofs.steps.new_frame.Goals as goal
 
@@ -19,4 +20,13 @@ returns c =
     let l : c.args.number < length fs = omega arith in
     let x = c.index-f.result.now in
     let e : x ≡ get_or fs c.args.number x = search rules in
-    frame_at s fs c.args.number c.in_ok-seam.seam x (frame_in s c.in_ok-frame.frame) l e c.in_ok-seam.ensures c.in_ok-frame.ensures
+    frame_at s fs c.args.number c.entry_seam-seam.result x (frame_in s c.in_ok-frame.frame) l e c.entry_seam-seam.ensures c.in_ok-frame.ensures
+
+pub frame_from-requires : goal.frame_from-requires
+frame_from-requires c =
+    let s = scene c.args.checked.now c.args.policy.now in
+    let fs = c.args.checked.now.program.functions.items in
+    let l : c.args.number < length fs = omega arith in
+    let x = c.index-f.result.now in
+    let e : x ≡ get_or fs c.args.number x = search rules in
+    record { fits = omega (arith, function_fits s fs c.args.number x l e, c.entry_seam-seam.ensures, c.requires.few) }

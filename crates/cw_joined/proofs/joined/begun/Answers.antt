@@ -1,7 +1,7 @@
 use Rattle.std.proofs.Common.{rules, ◌≡◌, [], ◌∷◌}
 use Rattle.cw_closure.specs.Seen.{Adds}
 use Rattle.cw_joined.specs.Working.{held}
-use Rattle.cw_joined.proofs.Keys.{seen_none}
+use Rattle.cw_closure.proofs.Keys.{seen_none}
 use Rattle.cw_joined.proofs.Reaching.{reached_start}
 use Rattle.cw_joined.specs.Members.{pair_cmp}
 use Rattle.cw_joined.proofs.joined.begun.Goals as goal

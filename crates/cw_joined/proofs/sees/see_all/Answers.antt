@@ -1,7 +1,7 @@
 use Rattle.std.proofs.Common.{◌<◌, ◌≡◌, ◌++◌, ◌∷◌, [], ap, ◌∙◌, length, take, subst, sym, ◌+◌}
 use Rattle.std.proofs.lemmas.List.{take_more}
 use Rattle.cw_closure.specs.Seen.{Adds}
-use Rattle.cw_joined.proofs.Keys.{adds_more}
+use Rattle.cw_closure.proofs.Keys.{adds_more}
 use Rattle.cw_joined.proofs.sees.see_all.Goals as goal
 
 pub loop-key-preserved : goal.loop-key-preserved
@@ -13,5 +13,6 @@ loop-key-preserved g c =
     let all : take (i + 1) keys ≡ take i keys ++ key ∷ [] = take_more keys i key lt ∙ ap (λ y. take i keys ++ (y ∷ [])) (sym c.key-item.is) in
     record {
       same = c.in_ok-see.ensures.same;
-      adds = subst (Adds c.args.seen.now.items c.see.new.seen.items) (sym all) (adds_more c.args.seen.now.items c.loop-key.seen.items c.see.new.seen.items (take i keys) (key ∷ []) c.loop-key.invariant.adds c.in_ok-see.ensures.more);
+      adds = subst (Adds c.args.seen.now.items c.see.new.seen.items) (sym all)
+          (adds_more c.args.seen.now.items c.loop-key.seen.items c.see.new.seen.items (take i keys) (key ∷ []) c.loop-key.invariant.adds c.in_ok-see.ensures.more);
     }

@@ -38,7 +38,8 @@ returns-in-None c =
     (subst (λ gr. IsGraph (names_of (policy_of c.args.game.now.states.policy)) c.args.checked.now.source.now (file_of c.args.checked.now.program) gr) (sym c.graph.ensures) q.drawn) in
     record {
       run = loop_bad c.args.game.now c.args.checked.now.source.now (file_of c.args.checked.now.program) c.args.table.now (told c.in_ok-names.names) q.valid q.lists q.drawn q.runnable q.assigns
-          q.good c.args.tape.now c.loop-i.i _ c.in-At.here _ _ _ c.answer.new.waits.items _ _ _ e c.loop-i-test.true (get_or_default c.args.tape.now c.loop-i.i _ _ c.loop-i-test.true) c.in-At.is c.in-None.is
+          q.good c.args.tape.now c.loop-i.i _ c.in-At.here _ _ _ c.answer.new.waits.items _ _ _ e c.loop-i-test.true (get_or_default c.args.tape.now c.loop-i.i _ _ c.loop-i-test.true)
+          c.in-At.is c.in-None.is
           c.loop-i.invariant c.in_ok-next-in-At.ensures.answered;
     }
 

@@ -1,0 +1,64 @@
+-- What clap builds of a command line of places.
+use Rattle.std.proofs.Common.{◌≡◌, ℕ, ◌+◌, ◌&&◌, Bool, true, false, List, [], ◌∷◌, map, min, Option, Some, None, is_some, refl, sym, ap, ◌∙◌}
+use Rattle.std.specs.List.{list_all, list_any}
+use Rattle.clap.specs.Lexer.{usize_max}
+use Rattle.clap.specs.Walk.{Rule, Text, arg_by_long, arg_by_short, is_early_multiple, nothing_held, walk}
+use Rattle.clap.specs.Simple.{App, built, entered, filled_from, is_simple}
+use Rattle.clap.specs.Takes.{default_passes, level_passes, takes}
+use Rattle.clap.specs.Faults.{entered_fault, fault_of, is_simple_and_free, level_fault}
+use Rattle.clap.specs.Kinds.{Kinds}
+use Rattle.clap.proofs.TakesLemmas.{leaf_takes}
+use Rattle.cw_commands.specs.Lines.{line_app, word_rule}
+use Rattle.cw_commands.proofs.Fits.{and_true, level_ok}
+
+abbrev rules : ℕ → List Text → List Rule
+rules i places = filled_from i (map word_rule places)
+
+no_short : (i : ℕ) (places : List Text) (x : ℕ) → arg_by_short (rules i places) x ≡ None
+no_short i [] x = refl
+no_short i (p ∷ ps) x = no_short (min (i + 1) usize_max) ps x
+
+no_long : (i : ℕ) (places : List Text) (name : Text) → arg_by_long (rules i places) name ≡ None
+no_long i [] name = refl
+no_long i (p ∷ ps) name = no_long (min (i + 1) usize_max) ps name
+
+no_defaults : (i : ℕ) (places : List Text) → list_all default_passes (rules i places) ≡ true
+no_defaults i [] = refl
+no_defaults i (p ∷ ps) = no_defaults (min (i + 1) usize_max) ps
+
+are_free : (i : ℕ) (places : List Text) → list_all (λ a. a.is_free) (rules i places) ≡ true
+are_free i [] = refl
+are_free i (p ∷ ps) = are_free (min (i + 1) usize_max) ps
+
+are_simple : (places : List Text) → list_all (λ a. a.is_simple) (map word_rule places) ≡ true
+are_simple [] = refl
+are_simple (p ∷ ps) = are_simple ps
+
+still_simple : (i : ℕ) (places : List Text) → list_all (λ a. a.is_simple) (rules i places) ≡ true
+still_simple i [] = refl
+still_simple i (p ∷ ps) = still_simple (min (i + 1) usize_max) ps
+
+none_early : (n i : ℕ) (places : List Text) → list_any (is_early_multiple n) (rules i places) ≡ false
+none_early n i [] = refl
+none_early n i (p ∷ ps) = none_early n (min (i + 1) usize_max) ps
+
+pub line_is_simple : (places : List Text) → is_simple (line_app places) ≡ true
+line_is_simple places = rw (are_simple places, still_simple 1 places, none_early _ 1 places) refl
+
+pub line_is_free : (places : List Text) → is_simple_and_free (line_app places) ≡ true
+line_is_free places = rw (line_is_simple places, are_free 1 places) refl
+
+module _ (places words : List Text) where
+  abbrev app : App
+  app = built (line_app places)
+
+  leaf : (stop : Option (Text × List Text)) → level_fault app.top [] nothing_held words (is_some (entered app stop)) (entered_fault app stop) ≡ []
+      → level_fault app.top [] nothing_held words false [] ≡ []
+  leaf None e = e
+  leaf (Some p) e = e
+
+  -- words at which no step of a parse fails are taken
+  pub fits : fault_of (line_app places) words ≡ [] → takes (line_app places) words ≡ true
+  fits e =
+      let level = level_ok app.top (no_short 1 places) (no_long 1 places) (no_defaults 1 places) (are_free 1 places) refl refl refl words (leaf (walk app.top.rules [] nothing_held words).stopped e) in
+      and_true _ _ (line_is_simple places) (leaf_takes app nothing_held words refl level)
