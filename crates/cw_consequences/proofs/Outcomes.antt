@@ -152,17 +152,24 @@ pub record IsLike (g : Game) (y : PlainPolicy) : Type 0 where
 
 module _ (g : Game) (y : PlainPolicy) (like : IsLike g y) (functions : ℕ) (begins : StartHolds g → CanBegin g functions) where
   many_moved : HasManyCells g → HasManyCells (under g y)
-  many_moved (contexts, are) = (contexts, record {
-    some = record { needed = λ c n. needed_same g g.policy y like.forth c (are.some.needed c n); distinct = are.some.distinct };
-    many = are.many;
-  })
+  many_moved (contexts, are) = (
+    contexts,
+    record {
+      some = record { needed = λ c n. needed_same g g.policy y like.forth c (are.some.needed c n); distinct = are.some.distinct };
+      many = are.many;
+    },
+  )
 
   few_moved : HasFewCells g → HasFewCells (under g y)
-  few_moved (contexts, are, le) = (contexts, record {
-    first = are.first;
-    some = record { needed = λ c n. needed_same g g.policy y like.forth c (are.some.needed c n); distinct = are.some.distinct };
-    all = λ c n. are.all c (needed_same g y g.policy like.back c n);
-  }, le)
+  few_moved (contexts, are, le) = (
+    contexts,
+    record {
+      first = are.first;
+      some = record { needed = λ c n. needed_same g g.policy y like.forth c (are.some.needed c n); distinct = are.some.distinct };
+      all = λ c n. are.all c (needed_same g y g.policy like.back c n);
+    },
+    le,
+  )
 
   holds_moved : StartHolds g → StartHolds (under g y)
   holds_moved holds n = sym (holds_same g g.policy y like.forth n (g.entry g.main) g.states.start (has (all_states g))) ∙ holds n
