@@ -105,22 +105,22 @@ module _ (p : PlainPolicy) (uses : Uses) (positions : ℕ) where
     -- where both are refused
     pub one_cause : (f g : GameFault) → Comes p uses positions allowed f → Comes p uses positions more g → ((f ≡ TooManyStates) × (allowed < more)) ⊎ (f ≡ g)
     one_cause TooManyCaps TooManyCaps a b = inr refl
-    one_cause TooManyCaps TooManyWords a (us, exactly, few, b) = absurd (never_caps us a exactly few)
+    one_cause TooManyCaps TooManyWords a (us, each, few, b) = absurd (never_caps us a each few)
     one_cause TooManyCaps TooManyStates a (us, ys, listed, b) = absurd (never_caps us a listed.rights listed.few_rights)
-    one_cause TooManyCaps TooManyPositions a (us, ys, listed, b) = absurd (never_caps us a listed.rights listed.few_rights)
+    one_cause TooManyCaps TooManyPositions a (us, ys, listed, le, b) = absurd (never_caps us a listed.rights listed.few_rights)
     one_cause TooManyCaps NoMemory a b = absurd b
-    one_cause TooManyWords TooManyCaps (rs, exactly, few, a) b = absurd (never_caps rs b exactly few)
+    one_cause TooManyWords TooManyCaps (rs, each, few, a) b = absurd (never_caps rs b each few)
     one_cause TooManyWords TooManyWords a b = inr refl
-    one_cause TooManyWords TooManyStates (rs, exactly, few, a) (us, ys, listed, b) = absurd (never_words rs us ys exactly a listed)
-    one_cause TooManyWords TooManyPositions (rs, exactly, few, a) (us, ys, listed, b) = absurd (never_words rs us ys exactly a listed)
+    one_cause TooManyWords TooManyStates (rs, each, few, a) (us, ys, listed, b) = absurd (never_words rs us ys each a listed)
+    one_cause TooManyWords TooManyPositions (rs, each, few, a) (us, ys, listed, le, b) = absurd (never_words rs us ys each a listed)
     one_cause TooManyWords NoMemory a b = absurd b
     one_cause TooManyStates TooManyCaps (rs, xs, listed, a) b = absurd (never_caps rs b listed.rights listed.few_rights)
-    one_cause TooManyStates TooManyWords (rs, xs, listed, a) (us, exactly, few, b) = absurd (never_words us rs xs exactly b listed)
+    one_cause TooManyStates TooManyWords (rs, xs, listed, a) (us, each, few, b) = absurd (never_words us rs xs each b listed)
     one_cause TooManyStates TooManyStates a b = inr refl
     one_cause TooManyStates TooManyPositions (rs, xs, listed, a) (us, ys, other, le, b) = inl (refl, between rs us xs ys allowed more listed other a le)
     one_cause TooManyStates NoMemory a b = absurd b
-    one_cause TooManyPositions TooManyCaps (rs, xs, listed, a) b = absurd (never_caps rs b listed.rights listed.few_rights)
-    one_cause TooManyPositions TooManyWords (rs, xs, listed, a) (us, exactly, few, b) = absurd (never_words us rs xs exactly b listed)
+    one_cause TooManyPositions TooManyCaps (rs, xs, listed, le, a) b = absurd (never_caps rs b listed.rights listed.few_rights)
+    one_cause TooManyPositions TooManyWords (rs, xs, listed, le, a) (us, each, few, b) = absurd (never_words us rs xs each b listed)
     one_cause TooManyPositions TooManyStates (rs, xs, listed, le, a) (us, ys, other, b) = absurd (unbetween rs us xs ys allowed more listed other le b wide)
     one_cause TooManyPositions TooManyPositions a b = inr refl
     one_cause TooManyPositions NoMemory a b = absurd b
@@ -129,7 +129,7 @@ module _ (p : PlainPolicy) (uses : Uses) (positions : ℕ) where
     -- where the first alone is
     pub first_cause : (f : GameFault) → Comes p uses positions allowed f → HasGame p uses positions more → (f ≡ TooManyStates) × (allowed < more)
     first_cause TooManyCaps a (us, ys, listed, le, few) = absurd (never_caps us a listed.rights listed.few_rights)
-    first_cause TooManyWords (rs, exactly, few, a) (us, ys, listed, le, in_all) = absurd (never_words rs us ys exactly a listed)
+    first_cause TooManyWords (rs, each, few, a) (us, ys, listed, le, in_all) = absurd (never_words rs us ys each a listed)
     first_cause TooManyStates (rs, xs, listed, a) (us, ys, other, le, few) = (refl, between rs us xs ys allowed more listed other a le)
     first_cause TooManyPositions (rs, xs, listed, le, a) (us, ys, other, fits, few) = absurd (never_positions rs us xs ys listed other a few)
     first_cause NoMemory a b = absurd a
@@ -137,7 +137,7 @@ module _ (p : PlainPolicy) (uses : Uses) (positions : ℕ) where
     -- where the second alone is
     pub second_cause : (g : GameFault) → HasGame p uses positions allowed → Comes p uses positions more g → ⊥
     second_cause TooManyCaps (rs, xs, listed, le, few) b = never_caps rs b listed.rights listed.few_rights
-    second_cause TooManyWords (rs, xs, listed, le, in_all) (us, exactly, few, b) = never_words us rs xs exactly b listed
+    second_cause TooManyWords (rs, xs, listed, le, in_all) (us, each, few, b) = never_words us rs xs each b listed
     second_cause TooManyStates (rs, xs, listed, le, few) (us, ys, other, b) = unbetween rs us xs ys allowed more listed other le b wide
     second_cause TooManyPositions (rs, xs, listed, le, few) (us, ys, other, fits, b) = never_positions us rs ys xs other listed b few
     second_cause NoMemory a b = b

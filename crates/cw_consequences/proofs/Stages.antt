@@ -114,8 +114,8 @@ module _ (source : List ℕ) (file : File) (reads : ReadsAs source file) (p : Pl
 
   after_fitting : (due answer : Due) → AfterFitting (IsVerdict p source file) source p file due → AfterFitting (IsVerdict y source file) source y file answer → Agree due answer
   after_fitting due answer (inl (many, a)) (inl (more, b)) = inr (refused_alike source p y _ _ due answer a b)
-  after_fitting due answer (inl (many, a)) (inr (few, behind)) = absurd (apart (limit_of Points) (point_count (plan_of (names_of p) source file)) many few)
-  after_fitting due answer (inr (few, behind)) (inl (many, b)) = absurd (apart (limit_of Points) (point_count (plan_of (names_of p) source file)) many few)
+  after_fitting due answer (inl (many, a)) (inr (few, k, draws, behind)) = absurd (apart (limit_of Points) (point_count (plan_of (names_of p) source file)) many few)
+  after_fitting due answer (inr (few, g, drawn, after)) (inl (many, b)) = absurd (apart (limit_of Points) (point_count (plan_of (names_of p) source file)) many few)
   after_fitting due answer (inr (few, g, drawn, after)) (inr (less, k, draws, behind)) = after_graphs g k due answer drawn draws after behind
 
   after_fit : (due answer : Due) → AfterFit (IsVerdict p source file) source p file due → AfterFit (IsVerdict y source file) source y file answer → Agree due answer

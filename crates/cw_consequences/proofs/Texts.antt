@@ -32,7 +32,7 @@ module _ (p : PlainPolicy) (limit enter split stop : Bool) where
       ap₂ (λ (s : List ℕ) (rest : List ℕ). take (m.place - at) (drop at source) ++ (part s ++ rest)) (spelling_same source m.seam m.kind) (woven_same source m.place ms)
 
   lines_same : (t : Table) → tables_text (varied p limit enter split stop p.format) t ≡ tables_text p t
-  unfolding tables_text, limits_words
+  unfolding tables_text limits_words
   lines_same t = refl
 
   pub text_same : (text source : List ℕ) (marks : List SeamMark) (t : Table) → Stands text source marks t (varied p limit enter split stop p.format) → Stands text source marks t p
