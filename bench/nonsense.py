@@ -1,12 +1,12 @@
 #!/usr/bin/env python3
 """Gives the program a million bytes of every kind of nonsense in the place of each file of each command.
 
-    python3 bench/nonsense.py crates/capweave/out/capweave [--against "COMMAND"] [--stack 8192,512] [--only WORD] [--seconds 120] [--seed 1]
+    python3 bench/nonsense.py crates/capweave/out/capweave [--against "COMMAND"] [--stack 8192,512] [--bytes 1000000] [--only WORD] [--seconds 120] [--seed 1]
 
-A kind is a few bytes again and again, or random bytes, tokens or lines, to the limit of the file, by itself and behind good beginnings of
-such a file, and by itself to a million bytes. Each run has to end within the time, by no signal, with a status of docs/COMMANDS.md, one line on the note exactly where it has to have one, and
-nothing on the output but with status 0 or 1; with each of the sizes of stack in KiB it has to say the same, and with --against the other command has to say it too
-(with the stack there is). What doesn't is told and left in a folder, and the exit status is then 1. Needs Linux, Python 3.8 and no package.
+A kind is a few bytes again and again, or random bytes, tokens or lines, to the limit of the file, by itself and behind good beginnings of such a file, and by itself
+to a million bytes, or as many as --bytes says. Each run has to end within so many seconds of processor time, by no signal, with a status of docs/COMMANDS.md, one line on
+the note exactly where it has to have one, and nothing on the output but with status 0 or 1; with each of the sizes of stack in KiB it has to say the same, and with --against the
+other command has to say it too (with the stack there is). What doesn't is told and left in a folder, and the exit status is then 1. Needs Linux, Python 3.8 and no package.
 """
 import argparse
 import collections
@@ -37,7 +37,6 @@ COMMANDS = {
     "play": ("policy", "source", "strategy", "tape"),
 }
 LONGEST = {"policy": 65_536, "source": 262_144}
-MILLION = 1_000_000
 BEGINNINGS = {
     "policy": ("", "format = 1\n", 'format = 1\n[[rule]]\nname = "r"\nbad = "', "format = 1\nsplit = ["),
     "source": ("", "int main(void){", "int main(void){return ", "int a={"),
@@ -79,6 +78,7 @@ def main():
     read.add_argument("program")
     read.add_argument("--against")
     read.add_argument("--stack", default="8192,512")
+    read.add_argument("--bytes", type=int, default=1_000_000)
     read.add_argument("--only", default="")
     read.add_argument("--seconds", type=float, default=120)
     read.add_argument("--seed", type=int, default=1)
@@ -95,7 +95,8 @@ def main():
                 continue
             good = PLAIN if role == "policy" and command in ("check", "run") else FILES[role]
             for beginning in BEGINNINGS[role]:
-                for size in {LONGEST.get(role, MILLION), MILLION if not beginning else LONGEST.get(role, MILLION)}:
+                most = min(asked.bytes, LONGEST.get(role, asked.bytes))
+                for size in {most, most if beginning else asked.bytes}:
                     for name, text in kinds(random.Random(asked.seed), size - len(beginning)):
                         written(folder, {role: beginning.encode() + text})
                         words = [command] + list(roles)

@@ -18,9 +18,16 @@ def prepared():
     ctypes.CDLL(None).prctl(ADOPTS_ORPHANS, 1, 0, 0, 0)
 
 
+def used(child):
+    """The processor time of a process that was started and not waited for."""
+    with open("/proc/%d/stat" % child, encoding="ascii", errors="replace") as file:
+        fields = file.read().rpartition(")")[2].split()
+    return (int(fields[11]) + int(fields[12])) / os.sysconf("SC_CLK_TCK")
+
+
 def ran(words, folder, stack=0, seconds=600):
-    """The status (minus the number of a signal; None where the time is over), output, note, processor time and greatest resident size. `stack` is in KiB, 0 for
-    the one there is. The command's output stands in the files `out` and `note` of the folder."""
+    """The status (minus the number of a signal; None where it took more processor time than `seconds`, or waited for twenty times as long), output, note,
+    processor time and greatest resident size. `stack` is in KiB, 0 for the one there is. The command's output stands in the files `out` and `note` of the folder."""
     begun = time.monotonic()
     shell = subprocess.run(["sh", "-c", SHELL, "sh", str(stack), *words], cwd=folder, stdout=subprocess.PIPE, check=True)
     child, ended = int(shell.stdout), 0
@@ -28,7 +35,7 @@ def ran(words, folder, stack=0, seconds=600):
     while not ended:
         ended, code, usage = os.wait4(child, os.WNOHANG)
         if not ended:
-            if time.monotonic() - begun > seconds:
+            if used(child) > seconds or time.monotonic() - begun > 20 * seconds:
                 os.kill(child, signal.SIGKILL)
                 os.wait4(child, 0)
                 return Ran(None, b"", b"", seconds, 0)
