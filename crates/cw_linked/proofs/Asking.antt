@@ -50,7 +50,7 @@ either_is true b h = inl refl
 either_is false b h = inr h
 
 -- a key that isn't written waits under no more already
-kept_low : (old key : ℕ) → (nat_eq old 0 || nat_lt key old) ≡ false → Waits old key
+pub kept_low : (old key : ℕ) → (nat_eq old 0 || nat_lt key old) ≡ false → Waits old key
 kept_low old key h =
     let n = neither_is (nat_eq old 0) (nat_lt key old) h in (
       some old n.0,

@@ -2,7 +2,13 @@
 #![tactic(auto)]
 
 mod bounds;
+mod calls;
+mod cells;
 mod edges;
+mod popped;
+mod returns;
+mod room;
+mod ties;
 mod told;
 mod waiting;
 mod work;
