@@ -39,14 +39,14 @@ due_up_to due place key most lt le up =
       | inr h ↦ subst (λ (y : List ℕ). AreUpTo y most) (sym (chosen_else _ (set due place key) due h)) up
     ]
 
-due_other : (due : List ℕ) (place key k : ℕ) → (k ≡ place → ⊥) → slice_index (due_with due place key) k ≡ slice_index due k
+pub due_other : (due : List ℕ) (place key k : ℕ) → (k ≡ place → ⊥) → slice_index (due_with due place key) k ≡ slice_index due k
 due_other due place key k ne =
     elim (decide (nat_eq (slice_index due place) 0 || nat_lt key (slice_index due place))) [
       | inl h ↦ ap (λ (ys : List ℕ). slice_index ys k) (chosen_then _ (set due place key) due h) ∙ get_or-set_other due place k key 0 ne
       | inr h ↦ ap (λ (ys : List ℕ). slice_index ys k) (chosen_else _ (set due place key) due h)
     ]
 
-due_length : (due : List ℕ) (place key : ℕ) → length (due_with due place key) ≡ length due
+pub due_length : (due : List ℕ) (place key : ℕ) → length (due_with due place key) ≡ length due
 due_length due place key =
     elim (decide (nat_eq (slice_index due place) 0 || nat_lt key (slice_index due place))) [
       | inl h ↦ ap (λ (y : List ℕ). length y) (chosen_then _ (set due place key) due h) ∙ length-set due place key

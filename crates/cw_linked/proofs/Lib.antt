@@ -32,3 +32,4 @@ pub mod Edging
 pub mod Pushing
 pub mod Promising
 pub mod Lengthening
+pub mod Freeing

@@ -81,7 +81,7 @@ module _ (g : Game) (contexts : List Context) (new : Context) where
       ∙ ap (λ (k : ℕ). get_or (replicate (size g new.function) v) k 0) rest
       ∙ get_or-replicate (size g new.function) ((p - g.entry new.function) * g.states.count + q) v 0 row
 
-module _ (g : Game) (old new : Work) (c : Context) (blocks : AreBlocks g old.table) (pushes : Pushes g old new c) where
+module _ (g : Game) (old new : Work) (c : Context) (blocks : AreBlocks g old.table) (pushes : Pushes old new c (size g c.function)) where
   abbrev Contexts : List Context
   Contexts = old.table.contexts.items
 

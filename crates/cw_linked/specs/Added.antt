@@ -6,13 +6,13 @@ use Rattle.cw_links.specs.Heights.{height_at}
 use Rattle.cw_links.specs.Lists.{Chained, list_at}
 use Rattle.cw_solve.specs.declared.contexts.Context.{Context}
 use Rattle.cw_solve.specs.declared.table.Table.{Table}
-use Rattle.cw_solve.specs.Contexts.{size, cells_of}
+use Rattle.cw_solve.specs.Contexts.{cells_of}
 use Rattle.cw_solve.specs.Rounds.{height_by}
 use Rattle.cw_solve.specs.Tables.{is_none}
 use Rattle.cw_linked.specs.declared.work.Work.{Work}
 use Rattle.cw_linked.specs.Calls.{AreCallers}
-use Rattle.cw_linked.specs.Founds.{IsLink, AllClosed}
-use Rattle.cw_linked.specs.Queues.{found_of, AreQueued, AreLong, AreSameBut, due_with, LowersKeys}
+use Rattle.cw_linked.specs.Founds.{IsLink}
+use Rattle.cw_linked.specs.Queues.{AreQueued, AreSameBut}
 use Rattle.cw_linked.specs.Works.{place_at}
 
 -- what is written under a key, and nothing where the key is 0
@@ -48,17 +48,17 @@ pub record AreBlocks (g : Game) (t : Table) : Type 0 where
   pub cells : length t.heights.items ≡ cells_of g t.contexts.items
   pub counted : t.written + count_by is_none t.heights.items ≡ length t.heights.items
 
--- a context is added, with cells of which none has a height or waits, and links that go nowhere
-pub record Pushes (g : Game) (old new : Work) (context : Context) : Type 0 where
+-- a context is added, with so many cells of which none has a height or waits, and links that go nowhere
+pub record Pushes (old new : Work) (context : Context) (many : ℕ) : Type 0 where
   pub contexts : new.table.contexts.items ≡ old.table.contexts.items ++ context ∷ []
   pub bases : new.table.bases.items ≡ old.table.bases.items ++ length old.table.heights.items ∷ []
   pub written : new.table.written ≡ old.table.written
-  pub heights : new.table.heights.items ≡ old.table.heights.items ++ replicate (size g context.function) 0
-  pub owners : new.owners.items ≡ old.owners.items ++ replicate (size g context.function) (length old.table.contexts.items)
-  pub asked : new.asked.items ≡ old.asked.items ++ replicate (size g context.function) 0
-  pub due : new.due.items ≡ old.due.items ++ replicate (size g context.function) 0
-  pub to : new.to.items ≡ old.to.items ++ replicate (size g context.function) 0
-  pub waves : new.waves.items ≡ old.waves.items ++ replicate (size g context.function) 0
+  pub heights : new.table.heights.items ≡ old.table.heights.items ++ replicate many 0
+  pub owners : new.owners.items ≡ old.owners.items ++ replicate many (length old.table.contexts.items)
+  pub asked : new.asked.items ≡ old.asked.items ++ replicate many 0
+  pub due : new.due.items ≡ old.due.items ++ replicate many 0
+  pub to : new.to.items ≡ old.to.items ++ replicate many 0
+  pub waves : new.waves.items ≡ old.waves.items ++ replicate many 0
   pub callers : AreCallers new
   pub queued : AreQueued new
 
@@ -92,25 +92,11 @@ pub record Lengthens (old new : Work) : Type 0 where
 abbrev pub IsLinkOf : Game → List Context → (i : ℕ) → Context → ℕ → Type 0
 IsLinkOf g contexts i c k = (p : ℕ) × (x : ℕ) × (call : Called) × IsLink g contexts i c p x call × (k ≡ place_at g contexts i p x)
 
--- if a cell is that of a link, the link waits to be tied
-pub record FreesOne (g : Game) (old new : Work) (i : ℕ) (c : Context) (place : ℕ) : Type 0 where
-  pub others : AreSameBut old new
-  pub asked : new.asked.items ≡ old.asked.items
-  pub due : (IsLinkOf g old.table.contexts.items i c place × (new.due.items ≡ due_with old.due.items place 1)) ⊎ ((IsLinkOf g old.table.contexts.items i c place → ⊥) × (new.due.items ≡ old.due.items))
-  pub queued : AreQueued new
-
--- the links of a context before a place do, and nothing else changes
-pub record FreesTo (g : Game) (old new : Work) (i : ℕ) (c : Context) (before : ℕ) : Type 0 where
+-- the links of a context between two places wait to be tied, and nothing else changes
+pub record FreesLinks (g : Game) (old new : Work) (i : ℕ) (c : Context) (from before : ℕ) : Type 0 where
   pub others : AreSameBut old new
   pub asked : new.asked.items ≡ old.asked.items
   pub long : length new.due.items ≡ length old.due.items
   pub queued : AreQueued new
-  pub links : (k : ℕ) → k < before → IsLinkOf g old.table.contexts.items i c k → slice_index new.due.items k ≡ 1
+  pub links : (k : ℕ) → from ≤ k → k < before → IsLinkOf g old.table.contexts.items i c k → slice_index new.due.items k ≡ 1
   pub rest : (k : ℕ) → (slice_index new.due.items k ≡ slice_index old.due.items k) ⊎ (IsLinkOf g old.table.contexts.items i c k × (slice_index new.due.items k ≡ 1))
-  pub after : (k : ℕ) → before ≤ k → slice_index new.due.items k ≡ slice_index old.due.items k
-
--- the cells of a context before a place are asked for where the taken heights tell that they are lost
-pub record AsksTo (g : Game) (old new : Work) (i : ℕ) (c : Context) (before : ℕ) : Type 0 where
-  pub step : LowersKeys g old new
-  pub due : new.due.items ≡ old.due.items
-  pub closed : AllClosed g old.table.contexts.items (found_of g new) (λ j p q. (j ≡ i) × (before ≤ place_at g old.table.contexts.items j p q))

@@ -34,7 +34,7 @@ pub(crate) fn class_at(game: &Game, pos: PosId, state: StateId) -> Option<StateI
 }
 
 /// Whether two states are the same.
-fn is_same(a: StateId, b: StateId) -> bool
+pub(crate) fn is_same(a: StateId, b: StateId) -> bool
     ensures is { result ≡ true → a.0 ≡ b.0 }
     ensures not { result ≡ false → a.0 ≡ b.0 → ⊥ }
 {

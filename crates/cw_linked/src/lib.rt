@@ -1,6 +1,7 @@
 //! The heights of the pairs of a game and its needed contexts, by linked cells.
 #![tactic(auto)]
 
+mod added;
 mod bounds;
 mod calls;
 mod cells;
