@@ -1,35 +1,32 @@
 -- The link of a call is asked for, which returns to a pair that is taken.
-use Rattle.std.proofs.Common.{◌≡◌, ℕ, zero, suc, ◌+◌, ◌-◌, ◌*◌, ◌<◌, ◌≤◌, List, [], ◌∷◌, Bool, true, false, ◌||◌, not, Option, Some, length, set, refl, sym, ap, ◌∙◌, subst, arith, inl, inr}
-use Rattle.std.specs.Prelude.{◌⊎◌, slice_get, slice_index, nat_eq, nat_lt, Contains}
+use Rattle.std.proofs.Common.{◌≡◌, ℕ, ◌+◌, ◌*◌, ◌<◌, ◌≤◌, List, [], true, ◌||◌, Some, length, set, refl, sym, ap, ◌∙◌, subst, arith, inl, inr}
+use Rattle.std.specs.Prelude.{slice_get, slice_index, nat_eq, nat_lt}
 use Rattle.std.proofs.lemmas.Bool.{cases_eq}
 use Rattle.std.proofs.lemmas.Option.{same_Some}
 use Rattle.std.proofs.lemmas.List.{length-set, get_or-set_same, get_or-set_other}
 use Rattle.cw_core.specs.declared.ids.PosId.{PosId}
-use Rattle.cw_game.specs.Games.{Game, returned}
-use Rattle.cw_game.specs.Pairs.{has, Called, call_in, kept_at}
+use Rattle.cw_game.specs.Games.{Game}
+use Rattle.cw_game.specs.Pairs.{has, Called, call_in}
 use Rattle.cw_links.specs.Lists.{Chained, list_at}
-use Rattle.cw_product.specs.Moves.{pos_id}
 use Rattle.cw_solve.specs.declared.contexts.Context.{Context}
 use Rattle.cw_solve.specs.declared.table.Table.{Table}
-use Rattle.cw_solve.specs.Contexts.{context, IsOf}
+use Rattle.cw_solve.specs.Contexts.{IsOf}
 use Rattle.cw_solve.specs.Routes.{AreRouted}
 use Rattle.cw_solve.specs.Rounds.{slot, IsCell}
 use Rattle.cw_solve.specs.Tables.{IsTable, HasCell}
-use Rattle.cw_solve.proofs.Falls.{not_both}
 use Rattle.cw_solve.proofs.Slots.{slot_within}
 use Rattle.cw_linked.specs.declared.work.Cell.{Cell}
 use Rattle.cw_linked.specs.declared.work.Work.{Work}
-use Rattle.cw_linked.specs.Founds.{Found, class_of, AreAlike, IsLink, IsTied, IsFresh, height_back, GoesTo, IsShrinking, AreRight, Waits, IsStanding, Nothing, AllStanding}
-use Rattle.cw_linked.specs.Queues.{found_of, AreQueued, AreLong, AreHigh, IsLinkAt, AreDue, due_with, AsksForLink, LowersKeys}
+use Rattle.cw_linked.specs.Founds.{Found, class_of, AreAlike, IsLink, IsTied, IsFresh, GoesTo, IsShrinking, AreRight, Waits, IsStanding, Nothing, AllStanding}
+use Rattle.cw_linked.specs.Queues.{found_of, AreLong, AreHigh, IsLinkAt, AreDue, due_with, AsksForLink, LowersKeys}
 use Rattle.cw_linked.specs.Returns.{HasReturn, AreReturns, AsksReturn}
-use Rattle.cw_linked.specs.Steps.{Lowers, ReturnsThere}
-use Rattle.cw_linked.specs.Works.{AreUpTo, place_at, value_at}
+use Rattle.cw_linked.specs.Steps.{ReturnsThere}
+use Rattle.cw_linked.specs.Works.{AreUpTo, place_at}
 use Rattle.cw_linked.proofs.Asking.{decide, kept_low, chosen_then, chosen_else}
 use Rattle.cw_linked.proofs.Bounding.{place_is}
 use Rattle.cw_linked.proofs.Closing.{standing_asked, own_link}
 use Rattle.cw_linked.proofs.Lowering.{lowers_standing, waits_less}
 use Rattle.cw_linked.proofs.Telling.{below, up_to_set}
-use Rattle.cw_linked.proofs.Waits.{first_or_later}
 use Rattle.cw_linked.proofs.Working.{Keys, found_keys, is_due, links_lower, links_right}
 
 due_up_to : (due : List ℕ) (place key most : ℕ) → place < length due → key ≤ most → AreUpTo due most → AreUpTo (due_with due place key) most

@@ -1,5 +1,5 @@
 -- The call of a link is asked for, whose callee is lost.
-use Rattle.std.proofs.Common.{◌≡◌, ℕ, zero, suc, ◌+◌, ◌-◌, ◌*◌, ◌<◌, ◌≤◌, List, [], ◌∷◌, Bool, true, false, not, Option, Some, None, length, refl, sym, ap, ◌∙◌, subst, arith, inl, inr}
+use Rattle.std.proofs.Common.{◌≡◌, ℕ, zero, suc, ◌+◌, ◌-◌, ◌*◌, ◌<◌, ◌≤◌, List, [], ◌∷◌, true, false, not, Some, length, refl, sym, ap, ◌∙◌, subst, arith, inl, inr}
 use Rattle.std.specs.Prelude.{◌⊎◌, slice_get, slice_index, nat_eq, Contains}
 use Rattle.std.proofs.lemmas.Bool.{eq-eqb, ne_eqb}
 use Rattle.std.proofs.lemmas.Option.{same_Some}
@@ -17,7 +17,7 @@ use Rattle.cw_linked.specs.declared.work.Cell.{Cell}
 use Rattle.cw_linked.specs.declared.work.Work.{Work}
 use Rattle.cw_linked.specs.Calls.{AreCallers, CallsLeft, AsksCaller}
 use Rattle.cw_linked.specs.Founds.{Found, class_of, AreAlike, IsLink, IsTied, AreRight, Waits, IsCalled, Nothing, AllCalled}
-use Rattle.cw_linked.specs.Queues.{found_of, AreQueued, AreLong, AreSameBut, AreHigh, AsksForCell, LowersKeys, IsCellAt}
+use Rattle.cw_linked.specs.Queues.{found_of, AreQueued, AreLong, AreHigh, AsksForCell, LowersKeys, IsCellAt}
 use Rattle.cw_linked.specs.Steps.{IsSame, CallsThere}
 use Rattle.cw_linked.specs.Works.{heights_of, place_at, value_at}
 use Rattle.cw_linked.proofs.Bounding.{place_is}

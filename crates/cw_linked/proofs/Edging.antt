@@ -1,6 +1,6 @@
 -- The lists of what waits for pairs, and of what returns to positions, grow by one.
-use Rattle.std.proofs.Common.{◌≡◌, ℕ, zero, suc, ◌+◌, ◌*◌, ◌<◌, ◌≤◌, List, [], ◌∷◌, ◌++◌, Option, Some, None, length, replicate, refl, sym, ap, ◌∙◌, subst, arith, inl, inr}
-use Rattle.std.specs.Prelude.{◌⊎◌, slice_get, Contains, option_map}
+use Rattle.std.proofs.Common.{◌≡◌, ℕ, suc, ◌+◌, ◌*◌, ◌<◌, ◌≤◌, List, [], ◌∷◌, ◌++◌, Some, None, length, replicate, refl, sym, ap, ◌∙◌, subst, arith, inl, inr}
+use Rattle.std.specs.Prelude.{◌⊎◌, slice_get, Contains}
 use Rattle.std.proofs.lemmas.Bool.{cases_eq, cases_lt}
 use Rattle.std.proofs.lemmas.List.{length_push, length-replicate}
 use Rattle.std.proofs.lemmas.Option.{same_Some, none-some}
@@ -13,7 +13,7 @@ use Rattle.cw_links.specs.Lists.{Chained, list_at, with_front}
 use Rattle.cw_links.proofs.CallerLemmas.{length-with_front, list_at-with_front_same, list_at-with_front_other}
 use Rattle.cw_product.specs.Moves.{pos_id, next_at}
 use Rattle.cw_linked.specs.declared.edges.Pair.{Pair}
-use Rattle.cw_linked.specs.Edges.{HasIn, AreFine, AddsMove, AddsMoves, AreWaitsTo, AreReturnsTo}
+use Rattle.cw_linked.specs.Edges.{HasIn, AddsMove, AddsMoves, AreWaitsTo, AreReturnsTo}
 use Rattle.cw_linked.specs.Returns.{HasReturn, AreReturns}
 use Rattle.cw_linked.specs.Steps.{Leads}
 use Rattle.cw_linked.specs.Waiting.{pair_of, pair_number, IsAmong, AreWaits}

@@ -1,6 +1,6 @@
 -- After a cell is taken: what waits for it is asked for, kind by kind.
-use Rattle.std.proofs.Common.{◌≡◌, ℕ, suc, ◌+◌, ◌-◌, ◌*◌, ◌<◌, ◌≤◌, List, Bool, true, false, Some, length, refl, sym, ap, ◌∙◌, subst, arith, inl, inr}
-use Rattle.std.specs.Prelude.{◌⊎◌, slice_get, slice_index, Contains}
+use Rattle.std.proofs.Common.{◌≡◌, ℕ, ◌<◌, ◌≤◌, List, Some, length, sym, ap, ◌∙◌, subst, inl, inr}
+use Rattle.std.specs.Prelude.{slice_get, slice_index, Contains}
 use Rattle.std.proofs.lemmas.Option.{same_Some}
 use Rattle.cw_game.specs.Games.{Game}
 use Rattle.cw_game.specs.Pairs.{Called, call_in}
@@ -9,13 +9,12 @@ use Rattle.cw_solve.specs.declared.contexts.Context.{Context}
 use Rattle.cw_solve.specs.declared.table.Table.{Table}
 use Rattle.cw_solve.specs.Contexts.{context}
 use Rattle.cw_solve.specs.Routes.{AreRouted}
-use Rattle.cw_solve.specs.Rounds.{IsCell}
 use Rattle.cw_solve.specs.Tables.{IsTable, HasCell}
 use Rattle.cw_linked.specs.declared.work.Cell.{Cell}
 use Rattle.cw_linked.specs.declared.work.Work.{Work}
 use Rattle.cw_linked.specs.Calls.{AreCallers, AsksCallers}
-use Rattle.cw_linked.specs.Founds.{Found, class_of, AreAlike, IsLink, AreRight, IsCalled, Nothing, AllClosed, AllCalled, AllStanding}
-use Rattle.cw_linked.specs.Popped.{IsWork, IsTaken, Finishes}
+use Rattle.cw_linked.specs.Founds.{Found, class_of, AreAlike, IsLink, AreRight, Nothing, AllClosed, AllCalled, AllStanding}
+use Rattle.cw_linked.specs.Popped.{IsTaken, Finishes}
 use Rattle.cw_linked.specs.Queues.{found_of, IsOwner, AreOwners, LowersKeys, AsksWaiting}
 use Rattle.cw_linked.specs.Returns.{AreFew, AsksReturns}
 use Rattle.cw_linked.specs.Steps.{CallsThere, ReturnsThere}
@@ -23,7 +22,7 @@ use Rattle.cw_linked.specs.Works.{heights_of, value_at}
 use Rattle.cw_linked.proofs.Backs.{stands_on, fresh_on}
 use Rattle.cw_linked.proofs.Callers.{tied_or_not, is_tied, untied_called}
 use Rattle.cw_linked.proofs.Least.{link_of}
-use Rattle.cw_linked.proofs.Telling.{below, still_closed, still_called, still_standing, nothing, two_steps}
+use Rattle.cw_linked.proofs.Telling.{below, still_closed, still_called, still_standing, two_steps}
 use Rattle.cw_linked.proofs.Working.{found_keys}
 
 -- links go to as few contexts

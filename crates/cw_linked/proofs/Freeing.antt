@@ -1,6 +1,6 @@
 -- The links of a context wait to be tied.
-use Rattle.std.proofs.Common.{◌≡◌, ℕ, suc, ◌+◌, ◌*◌, ◌<◌, ◌≤◌, List, Bool, true, false, ◌||◌, Some, length, set, refl, sym, ap, ◌∙◌, subst, arith, inl, inr}
-use Rattle.std.specs.Prelude.{◌⊎◌, slice_get, slice_index, nat_eq, nat_lt}
+use Rattle.std.proofs.Common.{◌≡◌, ℕ, ◌+◌, ◌<◌, List, ◌||◌, Some, length, set, refl, sym, ap, ◌∙◌, subst, arith, inl, inr}
+use Rattle.std.specs.Prelude.{slice_get, slice_index, nat_eq, nat_lt}
 use Rattle.std.proofs.lemmas.Bool.{cases_eq, cases_lt}
 use Rattle.std.proofs.lemmas.List.{get_or-set_same}
 use Rattle.cw_game.specs.Games.{Game}
@@ -11,9 +11,8 @@ use Rattle.cw_solve.specs.Rounds.{slot, IsCell}
 use Rattle.cw_solve.proofs.Slots.{same_slot}
 use Rattle.cw_linked.specs.declared.work.Work.{Work}
 use Rattle.cw_linked.specs.Added.{IsLinkOf, FreesLinks}
-use Rattle.cw_linked.specs.Founds.{class_of, IsLink}
+use Rattle.cw_linked.specs.Founds.{class_of}
 use Rattle.cw_linked.specs.Queues.{AreQueued, AreSameBut, due_with, AsksForLink}
-use Rattle.cw_linked.specs.Works.{place_at}
 use Rattle.cw_linked.proofs.Asking.{decide, kept_low, chosen_then, chosen_else}
 use Rattle.cw_linked.proofs.Backs.{due_other, due_length}
 use Rattle.cw_linked.proofs.Bounding.{place_is}

@@ -1,44 +1,34 @@
 -- A link of the least key is taken from the vectors, and tied: what the solver keeps then.
-use Rattle.std.proofs.Common.{◌≡◌, ◌≢◌, ℕ, zero, suc, ◌+◌, ◌-◌, ◌*◌, ◌/◌, ◌<◌, ◌≤◌, List, [], ◌∷◌, Bool, true, false, not, Some, length, set, refl, sym, ap, ◌∙◌, subst, arith, inl, inr}
-use Rattle.std.specs.Prelude.{◌⊎◌, slice_get, slice_index, nat_eq, Contains}
-use Rattle.std.proofs.lemmas.Bool.{cases_eq, cases_lt}
+use Rattle.std.proofs.Common.{◌≡◌, ℕ, ◌+◌, ◌*◌, ◌/◌, ◌<◌, ◌≤◌, List, Some, length, set, refl, sym, ap, ◌∙◌, subst, arith, inl, inr}
+use Rattle.std.specs.Prelude.{slice_get, slice_index, Contains}
+use Rattle.std.proofs.lemmas.Bool.{cases_eq}
 use Rattle.std.proofs.lemmas.Nat.{div-mul-add}
 use Rattle.std.proofs.lemmas.List.{length-set, get_or-set_same, get_or-set_other}
-use Rattle.std.proofs.lemmas.Option.{same_Some}
-use Rattle.cw_game.specs.Games.{Game, returned}
-use Rattle.cw_game.specs.Pairs.{Called, call_in, kept_at}
-use Rattle.cw_links.specs.Lists.{Chained, list_at, without, with_front}
-use Rattle.cw_links.proofs.CallerLemmas.{length-without, length-with_front, list_at-with_front_same, list_at-with_front_other, Contains-without_other}
+use Rattle.cw_game.specs.Games.{Game}
+use Rattle.cw_game.specs.Pairs.{Called, call_in}
+use Rattle.cw_links.specs.Lists.{Chained, list_at}
 use Rattle.cw_solve.specs.declared.contexts.Context.{Context}
 use Rattle.cw_solve.specs.declared.table.Table.{Table}
-use Rattle.cw_solve.specs.Contexts.{context, IsSetOf}
+use Rattle.cw_solve.specs.Contexts.{IsSetOf}
 use Rattle.cw_solve.specs.Routes.{AreRouted}
 use Rattle.cw_solve.specs.Rounds.{IsCell, holds_by}
-use Rattle.cw_solve.specs.Tables.{IsTable, HasCell}
-use Rattle.cw_solve.proofs.Slots.{same_slot, slot_within}
+use Rattle.cw_solve.specs.Tables.{IsTable}
+use Rattle.cw_solve.proofs.Slots.{same_slot}
 use Rattle.cw_linked.specs.declared.work.Cell.{Cell}
 use Rattle.cw_linked.specs.declared.work.Work.{Work}
-use Rattle.cw_linked.specs.Calls.{AreCallers, AsksCaller}
-use Rattle.cw_linked.specs.Founds.{Found, class_of, AreAlike, IsLink, IsTied, height_back, IsShrinking, AreRight, IsCalled, IsStanding, Nothing, AllClosed, AllCalled, AllStanding, AreAbove}
-use Rattle.cw_linked.specs.Popped.{FreesLink, IsWork, Finishes}
-use Rattle.cw_linked.specs.Queues.{found_of, AreLong, AreSameBut, IsOwner, AreOwners, AreHigh, IsLinkAt, AreDue, LowersKeys, IsCellAt}
-use Rattle.cw_linked.specs.Returns.{AsksReturn}
-use Rattle.cw_linked.specs.Steps.{IsSame, with_keys, Frees, IsReady, with_links, Ties, CallsBy, IsIt}
-use Rattle.cw_linked.specs.Tied.{IsFirm, IsFreed, IsTieable, TiesLink, AsksCalls, CallsFrom, AsksAgain}
-use Rattle.cw_linked.specs.Works.{AreUpTo, heights_of, place_at, value_at}
-use Rattle.cw_linked.proofs.Backs.{stands_on}
+use Rattle.cw_linked.specs.Calls.{AreCallers}
+use Rattle.cw_linked.specs.Founds.{Found, class_of, AreAlike, IsLink, height_back, IsShrinking, AreRight, Nothing, AllClosed, AllCalled, AllStanding, AreAbove}
+use Rattle.cw_linked.specs.Popped.{FreesLink, IsWork}
+use Rattle.cw_linked.specs.Queues.{found_of, AreLong, AreSameBut, IsOwner, AreOwners, AreHigh, IsLinkAt, AreDue, IsCellAt}
+use Rattle.cw_linked.specs.Steps.{with_keys, Frees, IsReady, IsIt}
+use Rattle.cw_linked.specs.Tied.{IsFreed}
+use Rattle.cw_linked.specs.Works.{AreUpTo, place_at, value_at}
 use Rattle.cw_linked.proofs.Bounding.{place_is}
-use Rattle.cw_linked.proofs.Closing.{called_none}
-use Rattle.cw_linked.proofs.Finishing.{next_table, next_owners, next_callers, next_right, next_closed, next_called}
-use Rattle.cw_linked.proofs.Least.{link_of, back_of}
-use Rattle.cw_linked.proofs.Lowering.{link_is}
 use Rattle.cw_linked.proofs.Popping.{least_above}
-use Rattle.cw_linked.proofs.Taking.{at_same, one_call}
-use Rattle.cw_linked.proofs.Takings.{found_in, up_more, half_of}
-use Rattle.cw_linked.proofs.Telling.{below, up_to_set, still_standing, still_called, nothing, two_steps}
-use Rattle.cw_linked.proofs.Tying.{ready, freed_right, freed_standing, tied_right, tied_called, tied_standing}
+use Rattle.cw_linked.proofs.Telling.{below, up_to_set}
+use Rattle.cw_linked.proofs.Tying.{ready, freed_right, freed_standing}
 use Rattle.cw_linked.proofs.Working.{found_keys}
-use Rattle.cw_linked.proofs.Writing.{frees_written, ties_written}
+use Rattle.cw_linked.proofs.Writing.{frees_written}
 
 half_odd : (a h n : ℕ) → a ≡ 2 * n + 1 → h ≡ a / 2 → a ≡ 2 * h + 1
 half_odd a h n e half =

@@ -1,16 +1,15 @@
 -- A context is added to the vectors: what stands there then.
-use Rattle.std.proofs.Common.{◌≡◌, ℕ, zero, suc, ◌+◌, ◌-◌, ◌*◌, ◌<◌, ◌≤◌, List, [], ◌∷◌, ◌++◌, Bool, true, false, cond, not, Some, length, get_or, set, take, replicate, refl, sym, ap, ◌∙◌, subst, arith, inl, inr}
-use Rattle.std.specs.Prelude.{◌⊎◌, slice_get, slice_index, nat_eq, count_by, sum_by, Contains}
+use Rattle.std.proofs.Common.{◌≡◌, ℕ, ◌+◌, ◌-◌, ◌*◌, ◌<◌, ◌≤◌, List, [], ◌∷◌, ◌++◌, cond, length, get_or, take, replicate, refl, sym, ap, ◌∙◌, subst, arith, inl, inr}
+use Rattle.std.specs.Prelude.{slice_get, slice_index, count_by}
 use Rattle.std.proofs.lemmas.Bool.{cases_lt}
 use Rattle.std.proofs.lemmas.List.{length-replicate, length-append, length_push, get_or-replicate, get_or_past, get_or_append_left, get_or-append_right, take-append-le, take_all}
 use Rattle.std.proofs.lemmas.List.Sums.{sum_by-append, sum_by_push}
-use Rattle.std.proofs.lemmas.Option.{same_Some, slice_get_within}
+use Rattle.std.proofs.lemmas.Option.{slice_get_within}
 use Rattle.cw_game.specs.Games.{Game}
 use Rattle.cw_game.specs.Pairs.{Called}
 use Rattle.cw_solve.specs.declared.contexts.Context.{Context}
 use Rattle.cw_solve.specs.Contexts.{size, cells_of, AreNeeded}
-use Rattle.cw_solve.specs.Routes.{AreRouted}
-use Rattle.cw_solve.specs.Rounds.{base, slot, IsCell}
+use Rattle.cw_solve.specs.Rounds.{base, IsCell}
 use Rattle.cw_solve.specs.Tables.{is_none, IsTable, AreTabled}
 use Rattle.cw_solve.proofs.Fresh.{none_written, values_more}
 use Rattle.cw_solve.proofs.Slots.{within, slot_within}

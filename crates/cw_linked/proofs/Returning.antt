@@ -1,7 +1,7 @@
 -- One call more of those that return to a cell, or whose callee a cell is, is asked for.
-use Rattle.std.proofs.Common.{◌≡◌, ℕ, zero, suc, ◌+◌, ◌-◌, ◌*◌, ◌<◌, ◌≤◌, List, [], ◌∷◌, Bool, true, false, not, Option, Some, None, length, refl, sym, ap, ◌∙◌, subst, arith, inl, inr}
+use Rattle.std.proofs.Common.{◌≡◌, ℕ, zero, suc, ◌+◌, ◌-◌, ◌*◌, ◌<◌, ◌≤◌, List, [], ◌∷◌, Bool, true, false, not, Option, Some, refl, sym, ap, ◌∙◌, subst, arith, inl, inr}
 use Rattle.std.specs.Prelude.{◌⊎◌, slice_get, slice_index, nat_eq, option_map}
-use Rattle.std.proofs.lemmas.Bool.{cases_eq, cases_lt, eq-eqb, false≢true}
+use Rattle.std.proofs.lemmas.Bool.{cases_eq, eq-eqb, false≢true}
 use Rattle.std.proofs.lemmas.Option.{same_Some}
 use Rattle.cw_core.specs.declared.ids.PosId.{PosId}
 use Rattle.cw_game.specs.declared.spots.Spot.{Spot}
@@ -14,14 +14,14 @@ use Rattle.cw_solve.specs.declared.contexts.Context.{Context}
 use Rattle.cw_solve.specs.declared.table.Table.{Table}
 use Rattle.cw_solve.specs.Contexts.{context, IsOf, promise_at, IsSetOf}
 use Rattle.cw_solve.specs.Routes.{AreRouted}
-use Rattle.cw_solve.specs.Rounds.{slot, IsCell}
+use Rattle.cw_solve.specs.Rounds.{slot}
 use Rattle.cw_solve.specs.Tables.{IsTable, HasCell}
 use Rattle.cw_solve.proofs.Falls.{not_both}
 use Rattle.cw_solve.proofs.Turning.{is_call}
 use Rattle.cw_linked.specs.declared.work.Cell.{Cell}
 use Rattle.cw_linked.specs.declared.work.Work.{Work}
 use Rattle.cw_linked.specs.Calls.{CallsLeft, AsksCaller}
-use Rattle.cw_linked.specs.Founds.{Found, class_of, AreAlike, IsLink, IsTied, IsFresh, height_back, GoesTo, IsShrinking, AreRight, Waits, IsStanding, Nothing, AllCalled, AllStanding}
+use Rattle.cw_linked.specs.Founds.{Found, class_of, AreAlike, IsLink, height_back, GoesTo, IsShrinking, AreRight, Waits, IsStanding, Nothing, AllCalled, AllStanding}
 use Rattle.cw_linked.specs.Queues.{found_of, AreQueued, AreLong, AreHigh, AsksForLink, LowersKeys}
 use Rattle.cw_linked.specs.Returns.{IsPromised, Returns, AsksReturn}
 use Rattle.cw_linked.specs.Steps.{ReturnsThere}

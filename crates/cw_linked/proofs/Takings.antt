@@ -1,6 +1,6 @@
 -- The cell of the least key is taken from the vectors: what the solver keeps then.
-use Rattle.std.proofs.Common.{◌≡◌, ℕ, zero, suc, ◌+◌, ◌-◌, ◌*◌, ◌/◌, ◌%◌, ◌<◌, ◌≤◌, List, [], ◌∷◌, Bool, true, false, cond, not, Some, length, get_or, set, take, refl, sym, ap, ◌∙◌, subst, arith}
-use Rattle.std.specs.Prelude.{slice_get, slice_index, nat_eq, count_by, sum_by, Contains}
+use Rattle.std.proofs.Common.{◌≡◌, ℕ, zero, suc, ◌+◌, ◌-◌, ◌*◌, ◌/◌, ◌%◌, ◌<◌, ◌≤◌, List, [], ◌∷◌, Bool, cond, not, Some, length, get_or, set, take, refl, sym, ap, ◌∙◌, subst, arith}
+use Rattle.std.specs.Prelude.{slice_get, slice_index, nat_eq, count_by, Contains}
 use Rattle.std.proofs.lemmas.Bool.{eq-eqb, ne_eqb}
 use Rattle.std.proofs.lemmas.Nat.{div-mul-add}
 use Rattle.std.proofs.lemmas.List.{length-set, get_or_default}
@@ -12,17 +12,16 @@ use Rattle.cw_solve.specs.declared.contexts.Context.{Context}
 use Rattle.cw_solve.specs.declared.table.Table.{Table}
 use Rattle.cw_solve.specs.Contexts.{cells_of, AreNeeded}
 use Rattle.cw_solve.specs.Routes.{AreRouted}
-use Rattle.cw_solve.specs.Rounds.{base, IsCell}
+use Rattle.cw_solve.specs.Rounds.{IsCell}
 use Rattle.cw_solve.specs.Tables.{is_none, IsTable}
-use Rattle.cw_solve.proofs.Tabling.{there_at}
 use Rattle.cw_linked.specs.declared.work.Cell.{Cell}
 use Rattle.cw_linked.specs.declared.work.Work.{Work}
 use Rattle.cw_linked.specs.Calls.{AreCallers}
 use Rattle.cw_linked.specs.Founds.{Found, AreAlike, AreRight, AllClosed, AllCalled, AllStanding, AreAbove}
-use Rattle.cw_linked.specs.Popped.{IsLeast, TakesCell, IsWork, IsTaken}
-use Rattle.cw_linked.specs.Queues.{found_of, AreQueued, AreLong, IsOwner, AreOwners, AreHigh, IsLinkAt, AreDue, IsCellAt}
+use Rattle.cw_linked.specs.Popped.{TakesCell, IsWork, IsTaken}
+use Rattle.cw_linked.specs.Queues.{found_of, AreLong, IsOwner, AreOwners, AreHigh, IsLinkAt, AreDue, IsCellAt}
 use Rattle.cw_linked.specs.Steps.{with_heights, Takes, WaitsFor, CallsThere, ReturnsThere}
-use Rattle.cw_linked.specs.Works.{AreUpTo, heights_of, place_at, value_at}
+use Rattle.cw_linked.specs.Works.{AreUpTo, place_at, value_at}
 use Rattle.cw_linked.proofs.Bounding.{place_is}
 use Rattle.cw_linked.proofs.Placing.{cell_is}
 use Rattle.cw_linked.proofs.Popping.{least_above}

@@ -1,6 +1,6 @@
 -- What is told of a cell is asked for.
-use Rattle.std.proofs.Common.{◌≡◌, ◌≢◌, ℕ, suc, ◌+◌, ◌*◌, ◌<◌, ◌≤◌, List, Bool, true, false, ◌&&◌, ◌||◌, Some, length, get_or, set, refl, sym, ap, ◌∙◌, subst, arith, inl, inr, length-set, get_or-set_same, get_or-set_other}
-use Rattle.std.specs.Prelude.{◌⊎◌, if◌then◌else◌, slice_get, slice_index, nat_eq, nat_lt}
+use Rattle.std.proofs.Common.{◌≡◌, ℕ, ◌+◌, ◌*◌, ◌<◌, ◌≤◌, List, false, ◌&&◌, ◌||◌, Some, length, get_or, set, refl, sym, ap, ◌∙◌, subst, arith, inl, inr, length-set, get_or-set_same, get_or-set_other}
+use Rattle.std.specs.Prelude.{slice_get, slice_index, nat_eq, nat_lt}
 use Rattle.std.proofs.lemmas.Bool.{cases_eq}
 use Rattle.cw_game.specs.Games.{Game, Holds}
 use Rattle.cw_game.specs.Pairs.{has, is_call_in}
@@ -15,7 +15,7 @@ use Rattle.cw_linked.specs.declared.work.Cell.{Cell}
 use Rattle.cw_linked.specs.declared.work.Work.{Work}
 use Rattle.cw_linked.specs.Founds.{Found, AreAlike, AreRight, Waits, IsClosed, AllClosed, AllCalled, AllStanding}
 use Rattle.cw_linked.specs.Queues.{found_of, AreQueued, AreLong, AreSameBut, asked_with, AsksForCell, AreHigh, IsLinkAt, AreDue, LowersKeys, AsksTold}
-use Rattle.cw_linked.specs.Steps.{with_keys, Lowers, AsksCell, IsBound}
+use Rattle.cw_linked.specs.Steps.{with_keys, Lowers, IsBound}
 use Rattle.cw_linked.specs.Works.{heights_of, AreUpTo, place_at, value_at}
 use Rattle.cw_linked.proofs.Asking.{decide, chosen_then, chosen_else}
 use Rattle.cw_linked.proofs.Bounding.{place_is}

@@ -1,8 +1,8 @@
 -- A link is tied in the vectors, and what is left to do then is done state by state.
-use Rattle.std.proofs.Common.{◌≡◌, ◌≢◌, ℕ, zero, suc, ◌+◌, ◌-◌, ◌*◌, ◌<◌, ◌≤◌, List, [], ◌∷◌, Bool, true, false, not, Some, length, set, refl, sym, ap, ◌∙◌, subst, arith, inl, inr}
-use Rattle.std.specs.Prelude.{◌⊎◌, slice_get, slice_index, nat_eq, Contains}
+use Rattle.std.proofs.Common.{◌≡◌, ℕ, suc, ◌+◌, ◌<◌, ◌≤◌, List, ◌∷◌, Some, length, set, refl, sym, ap, ◌∙◌, subst, arith, inl, inr}
+use Rattle.std.specs.Prelude.{slice_get, slice_index, Contains}
 use Rattle.std.proofs.lemmas.Bool.{cases_eq, cases_lt}
-use Rattle.std.proofs.lemmas.List.{length-set, get_or-set_same, get_or-set_other}
+use Rattle.std.proofs.lemmas.List.{get_or-set_same, get_or-set_other}
 use Rattle.std.proofs.lemmas.Option.{same_Some}
 use Rattle.cw_game.specs.Games.{Game, returned}
 use Rattle.cw_game.specs.Pairs.{Called, call_in, kept_at}
@@ -11,7 +11,7 @@ use Rattle.cw_links.proofs.CallerLemmas.{length-without, length-with_front, list
 use Rattle.cw_solve.specs.declared.contexts.Context.{Context}
 use Rattle.cw_solve.specs.declared.table.Table.{Table}
 use Rattle.cw_solve.specs.declared.table.Tabled.{Tabled}
-use Rattle.cw_solve.specs.Contexts.{context, IsOf}
+use Rattle.cw_solve.specs.Contexts.{context}
 use Rattle.cw_solve.specs.Routes.{AreRouted}
 use Rattle.cw_solve.specs.Rounds.{IsCell}
 use Rattle.cw_solve.specs.Tables.{IsTable, HasCell}
@@ -19,26 +19,21 @@ use Rattle.cw_solve.proofs.Falls.{not_both}
 use Rattle.cw_linked.specs.declared.work.Cell.{Cell}
 use Rattle.cw_linked.specs.declared.work.Work.{Work}
 use Rattle.cw_linked.specs.Calls.{AreCallers, AsksCaller}
-use Rattle.cw_linked.specs.Founds.{Found, class_of, AreAlike, IsLink, IsTied, height_back, AreRight, IsCalled, IsStanding, IsFresh, Nothing, AllClosed, AllCalled, AllStanding}
-use Rattle.cw_linked.specs.Popped.{Finishes}
-use Rattle.cw_linked.specs.Queues.{found_of, AreQueued, AreLong, AreOwners, AreHigh, IsLinkAt, AreDue, LowersKeys, IsCellAt}
-use Rattle.cw_linked.specs.Returns.{Returns, AreFew, AsksReturn}
-use Rattle.cw_linked.specs.Steps.{IsSame, with_links, Ties, CallsBy, IsIt}
-use Rattle.cw_linked.specs.Tied.{IsFirm, IsTieable, TiesLink, AsksCalls, CallsFrom, AsksAgain}
-use Rattle.cw_linked.specs.Works.{AreUpTo, heights_of, place_at, value_at}
+use Rattle.cw_linked.specs.Founds.{Found, class_of, AreAlike, IsLink, IsTied, height_back, AreRight, IsCalled, IsStanding, IsFresh, Nothing, AllCalled, AllStanding}
+use Rattle.cw_linked.specs.Queues.{found_of, AreQueued, AreLong, AreHigh, LowersKeys, IsCellAt}
+use Rattle.cw_linked.specs.Returns.{Returns, AsksReturn}
+use Rattle.cw_linked.specs.Steps.{IsSame, CallsBy, IsIt}
+use Rattle.cw_linked.specs.Tied.{CallsFrom}
+use Rattle.cw_linked.specs.Works.{heights_of, place_at, value_at}
 use Rattle.cw_linked.proofs.Backs.{stands_on}
 use Rattle.cw_linked.proofs.Bounding.{place_is}
 use Rattle.cw_linked.proofs.Callers.{is_tied}
 use Rattle.cw_linked.proofs.Closing.{called_none}
-use Rattle.cw_linked.proofs.Finishing.{next_table, next_owners, next_callers, next_right, next_closed, next_called}
 use Rattle.cw_linked.proofs.Least.{link_of, back_of}
 use Rattle.cw_linked.proofs.Lowering.{link_is}
 use Rattle.cw_linked.proofs.Taking.{one_call}
-use Rattle.cw_linked.proofs.Takings.{found_in}
-use Rattle.cw_linked.proofs.Telling.{below, up_to_set, still_standing, still_called, nothing, two_steps}
-use Rattle.cw_linked.proofs.Tying.{tied_right, tied_called, tied_standing}
+use Rattle.cw_linked.proofs.Telling.{below, still_standing, still_called, nothing}
 use Rattle.cw_linked.proofs.Working.{found_keys}
-use Rattle.cw_linked.proofs.Writing.{ties_written}
 
 first_is : (c : ℕ) (xs : List ℕ) → Contains (c ∷ xs) c
 first_is c xs = (0, omega arith, refl)

@@ -1,5 +1,5 @@
 -- A link that is ready goes to its context, and what is left to do then is done: the solver keeps all.
-use Rattle.std.proofs.Common.{◌≡◌, ℕ, suc, ◌+◌, ◌-◌, ◌*◌, ◌<◌, ◌≤◌, List, Bool, true, false, not, Some, length, set, refl, sym, ap, ◌∙◌, subst, arith, inl, inr}
+use Rattle.std.proofs.Common.{◌≡◌, ℕ, suc, ◌+◌, ◌-◌, ◌*◌, ◌<◌, List, Bool, not, Some, length, set, refl, sym, ap, ◌∙◌, subst, arith, inl, inr}
 use Rattle.std.specs.Prelude.{slice_get, slice_index, nat_eq}
 use Rattle.std.proofs.lemmas.Bool.{cases_eq}
 use Rattle.std.proofs.lemmas.List.{length-set, get_or-set_same, get_or-set_other}
@@ -9,20 +9,19 @@ use Rattle.cw_solve.specs.declared.contexts.Context.{Context}
 use Rattle.cw_solve.specs.declared.table.Table.{Table}
 use Rattle.cw_solve.specs.Contexts.{context, IsOf}
 use Rattle.cw_solve.specs.Routes.{AreRouted}
-use Rattle.cw_solve.specs.Tables.{IsTable, IsTabled, HasCell}
+use Rattle.cw_solve.specs.Tables.{IsTable, HasCell}
 use Rattle.cw_solve.proofs.Falls.{back_stays}
 use Rattle.cw_solve.proofs.Slots.{slot_within}
 use Rattle.cw_linked.specs.declared.work.Cell.{Cell}
 use Rattle.cw_linked.specs.declared.work.Work.{Work}
 use Rattle.cw_linked.specs.Founds.{Found, AreAlike, IsLink, IsTied, AreRight, Nothing, AllClosed, AllCalled, AllStanding}
 use Rattle.cw_linked.specs.Popped.{Finishes}
-use Rattle.cw_linked.specs.Queues.{found_of, AreLong, IsOwner, AreOwners, AreHigh, IsLinkAt, AreDue, LowersKeys, IsCellAt}
+use Rattle.cw_linked.specs.Queues.{found_of, IsOwner, IsLinkAt, AreDue, LowersKeys, IsCellAt}
 use Rattle.cw_linked.specs.Returns.{Returns, AreFew}
 use Rattle.cw_linked.specs.Steps.{with_links, Ties, CallsBy, IsIt}
 use Rattle.cw_linked.specs.Tied.{IsFirm, IsTieable, TiesLink, AsksCalls, AsksAgain}
 use Rattle.cw_linked.specs.Works.{AreUpTo, place_at, value_at}
 use Rattle.cw_linked.proofs.Bounding.{place_is}
-use Rattle.cw_linked.proofs.Callers.{is_tied}
 use Rattle.cw_linked.proofs.Finishing.{next_table, next_owners, next_callers, next_right, next_cell, next_closed, next_called}
 use Rattle.cw_linked.proofs.Takings.{found_in}
 use Rattle.cw_linked.proofs.Telling.{below, up_to_set, still_standing, two_steps}

@@ -1,5 +1,5 @@
 -- Working definitions: what waits under the least key is taken.
-use Rattle.std.specs.Prelude.{◌≡◌, ℕ, ◌+◌, ◌*◌, ◌/◌, ◌<◌, ◌≤◌, List, Some, length, slice_get, slice_index, slice_set}
+use Rattle.std.specs.Prelude.{◌≡◌, ℕ, ◌+◌, ◌/◌, ◌<◌, ◌≤◌, Some, length, slice_index, slice_set}
 use Rattle.cw_game.specs.Games.{Game}
 use Rattle.cw_links.specs.Heights.{height_at, AreOut}
 use Rattle.cw_solve.specs.Tables.{IsTable, HasCell}

@@ -6,10 +6,9 @@ use Rattle.cw_game.specs.Pairs.{has, Called, call_in, kept_at}
 use Rattle.cw_links.specs.Lists.{Chained, list_at}
 use Rattle.cw_product.specs.Moves.{pos_id}
 use Rattle.cw_solve.specs.declared.contexts.Context.{Context}
-use Rattle.cw_solve.specs.Contexts.{IsOf}
 use Rattle.cw_linked.specs.declared.work.Cell.{Cell}
 use Rattle.cw_linked.specs.declared.work.Work.{Work}
-use Rattle.cw_linked.specs.Founds.{Found, IsLink, IsFresh, IsStanding, Nothing, AllStanding}
+use Rattle.cw_linked.specs.Founds.{IsLink, IsStanding, Nothing, AllStanding}
 use Rattle.cw_linked.specs.Queues.{found_of, LowersKeys}
 
 -- a link of this list has the position

@@ -1,16 +1,15 @@
 -- Working definitions: a link of the least key is taken, and tied to a context.
-use Rattle.std.specs.Prelude.{◌≡◌, ℕ, suc, ◌+◌, ◌*◌, ◌<◌, ◌≤◌, List, Some, length, slice_get, slice_index, slice_set}
+use Rattle.std.specs.Prelude.{◌≡◌, ℕ, ◌+◌, ◌<◌, ◌≤◌, Some, slice_get, slice_index, slice_set}
 use Rattle.cw_game.specs.Games.{Game}
 use Rattle.cw_game.specs.Pairs.{Called}
 use Rattle.cw_solve.specs.declared.contexts.Context.{Context}
-use Rattle.cw_solve.specs.Contexts.{context, IsSetOf}
+use Rattle.cw_solve.specs.Contexts.{IsSetOf}
 use Rattle.cw_solve.specs.Rounds.{holds_by}
 use Rattle.cw_solve.specs.Tables.{IsTable}
 use Rattle.cw_linked.specs.declared.work.Cell.{Cell}
 use Rattle.cw_linked.specs.declared.work.Work.{Work}
 use Rattle.cw_linked.specs.Calls.{AreCallers}
-use Rattle.cw_linked.specs.Founds.{IsLink, IsTied, height_back, IsShrinking, AreRight, Nothing, AllClosed, AllCalled, AllStanding}
-use Rattle.cw_linked.specs.Popped.{IsWork}
+use Rattle.cw_linked.specs.Founds.{IsLink, height_back, IsShrinking, AreRight, Nothing, AllClosed, AllCalled, AllStanding}
 use Rattle.cw_linked.specs.Queues.{found_of, AreQueued, AreLong, AreOwners, AreHigh, AreDue, LowersKeys, IsCellAt}
 use Rattle.cw_linked.specs.Steps.{IsReady, CallsBy, IsIt}
 

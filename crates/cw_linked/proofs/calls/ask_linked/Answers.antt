@@ -1,4 +1,4 @@
-use Rattle.std.proofs.Common.{◌≡◌, ◌<◌, ◌≤◌, ◌+◌, ◌∙◌, ℕ, length, sym, ap, refl, arith}
+use Rattle.std.proofs.Common.{◌+◌, ◌∙◌, length, arith}
 use Rattle.std.specs.Prelude.{slice_get, slice_index}
 use Rattle.cw_product.specs.Product.{game_of}
 use Rattle.cw_solve.proofs.Calling.{cell_within}

@@ -1,4 +1,4 @@
-use Rattle.std.proofs.Common.{◌≡◌, ◌<◌, refl, length, arith}
+use Rattle.std.proofs.Common.{refl, arith}
 use Rattle.cw_linked.proofs.Lengthening.{lengthened}
 use Rattle.cw_linked.proofs.room.lengthen.Goals as goal
 

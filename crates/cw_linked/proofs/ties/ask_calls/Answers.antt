@@ -1,4 +1,4 @@
-use Rattle.std.proofs.Common.{◌≡◌, ◌∙◌, ◌<◌, ℕ, Some, length, subst, sym, ap, arith}
+use Rattle.std.proofs.Common.{◌≡◌, Some, length, subst, sym, arith}
 use Rattle.std.specs.Prelude.{slice_get}
 use Rattle.cw_product.specs.Product.{game_of}
 use Rattle.cw_solve.specs.declared.table.Table.{Table}
