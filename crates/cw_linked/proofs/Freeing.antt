@@ -12,7 +12,7 @@ use Rattle.cw_solve.proofs.Slots.{same_slot}
 use Rattle.cw_linked.specs.declared.work.Work.{Work}
 use Rattle.cw_linked.specs.Added.{IsLinkOf, FreesLinks}
 use Rattle.cw_linked.specs.Founds.{class_of}
-use Rattle.cw_linked.specs.Queues.{AreQueued, AreSameBut, due_with, AsksForLink}
+use Rattle.cw_linked.specs.Queues.{AreLong, AreQueued, AreSameBut, due_with, AsksForLink}
 use Rattle.cw_linked.proofs.Asking.{decide, kept_low, chosen_then, chosen_else}
 use Rattle.cw_linked.proofs.Backs.{due_other, due_length}
 use Rattle.cw_linked.proofs.Bounding.{place_is}
@@ -86,6 +86,18 @@ module _ (g : Game) (i : ℕ) (c : Context) where
       | inl same ↦ elim (one.rest k) [ inl was ↦ inl (same ∙ was) | inr was ↦ inr (was.0, same ∙ was.1) ]
     ];
   }
+
+  -- the vectors are as long as they were
+  pub frees_long : (old new : Work) (a b : ℕ) → FreesLinks g old new i c a b → AreLong old → AreLong new
+  frees_long old new a b frees long =
+      let same = ap (λ (t : Table). length t.heights.items) frees.others.table in
+      record {
+        owners = ap (λ (ys : List ℕ). length ys) frees.others.owners ∙ long.owners ∙ sym same;
+        asked = ap (λ (ys : List ℕ). length ys) frees.asked ∙ long.asked ∙ sym same;
+        due = frees.long ∙ long.due ∙ sym same;
+        to = ap (λ (ys : List ℕ). length ys) frees.others.to ∙ long.to ∙ sym same;
+        waves = ap (λ (ys : List ℕ). length ys) frees.others.waves ∙ long.waves ∙ sym same;
+      }
 
   -- whether a cell is that of a link
   module _ (contexts : List Context) (p x place : ℕ) (cell : IsCell g contexts i c p x) (at : place ≡ slot g contexts i c.function p x) where
