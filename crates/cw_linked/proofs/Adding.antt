@@ -1,17 +1,17 @@
 -- A context is added: what stays true, and what is left to do.
-use Rattle.std.proofs.Common.{◌≡◌, ℕ, zero, suc, ◌+◌, ◌*◌, ◌<◌, ◌≤◌, List, [], ◌∷◌, ◌++◌, Bool, true, false, Option, Some, length, refl, sym, ap, ◌∙◌, subst, arith, inl, inr}
-use Rattle.std.specs.Prelude.{◌⊎◌, slice_get, Contains}
+use Rattle.std.proofs.Common.{◌≡◌, ℕ, zero, suc, ◌<◌, List, [], ◌∷◌, ◌++◌, true, false, Some, length, refl, sym, ap, ◌∙◌, subst, arith, inl, inr}
+use Rattle.std.specs.Prelude.{◌⊎◌, slice_get}
 use Rattle.std.proofs.lemmas.Option.{same_Some, none-some}
 use Rattle.std.proofs.lemmas.List.Elements.{Contains-append_left}
 use Rattle.cw_game.specs.Games.{Game, returned, holds_in, Holds}
-use Rattle.cw_game.specs.Pairs.{has, Called, call_in, kept_at}
+use Rattle.cw_game.specs.Pairs.{has, Called, kept_at}
 use Rattle.cw_solve.specs.declared.contexts.Context.{Context}
 use Rattle.cw_solve.specs.Contexts.{context, IsHeight, promise_at, IsSetOf}
 use Rattle.cw_solve.specs.Routes.{AreRouted}
-use Rattle.cw_solve.specs.Rounds.{IsCell, IsAsked, holds_by}
+use Rattle.cw_solve.specs.Rounds.{IsCell, holds_by}
 use Rattle.cw_solve.proofs.Falls.{not_both}
 use Rattle.cw_solve.proofs.Still.{entry_cell}
-use Rattle.cw_linked.specs.Founds.{Found, class_of, AreAlike, IsLink, IsTied, height_back, GoesTo, IsShrinking, AreRight, tells, Waits, IsClosed, IsCalled, IsStanding, Nothing, AllClosed, AllCalled, AllStanding, AreFound}
+use Rattle.cw_linked.specs.Founds.{Found, class_of, AreAlike, IsLink, IsTied, height_back, GoesTo, AreRight, tells, IsClosed, IsCalled, IsStanding, Nothing, AllClosed, AllCalled, AllStanding}
 use Rattle.cw_linked.specs.Steps.{IsReady, Adds, IsNew}
 use Rattle.cw_linked.proofs.Leading.{in_same, next_cell}
 use Rattle.cw_linked.proofs.Least.{all_of, link_of, back_of}

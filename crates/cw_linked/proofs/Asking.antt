@@ -1,15 +1,15 @@
 -- A key that is written at a cell's place, as a step of what is found.
-use Rattle.std.proofs.Common.{◌≡◌, ◌≢◌, ℕ, zero, suc, ◌+◌, ◌-◌, ◌*◌, ◌<◌, ◌≤◌, List, Bool, true, false, not, ◌&&◌, ◌||◌, Option, Some, length, get_or, set, refl, sym, ap, ◌∙◌, subst, arith, inl, inr, get_or-set_same, get_or-set_other}
-use Rattle.std.specs.Prelude.{◌⊎◌, if◌then◌else◌, slice_get, slice_index, nat_eq, nat_lt}
-use Rattle.std.proofs.lemmas.Bool.{cases_lt, cases_eq, lt-ltb, ltb-true, eqb-true, le-ltb, ne_eqb, eq-eqb}
+use Rattle.std.proofs.Common.{◌≡◌, ◌≢◌, ℕ, zero, suc, ◌<◌, ◌≤◌, List, Bool, true, false, ◌&&◌, ◌||◌, length, set, refl, sym, ◌∙◌, subst, arith, inl, inr, get_or-set_same, get_or-set_other}
+use Rattle.std.specs.Prelude.{◌⊎◌, if◌then◌else◌, slice_index, nat_eq, nat_lt}
+use Rattle.std.proofs.lemmas.Bool.{cases_lt, lt-ltb, ltb-true, eqb-true, eq-eqb}
 use Rattle.cw_game.specs.Games.{Game}
 use Rattle.cw_game.specs.Pairs.{Called}
 use Rattle.cw_solve.specs.declared.contexts.Context.{Context}
-use Rattle.cw_solve.specs.Rounds.{slot, IsCell}
+use Rattle.cw_solve.specs.Rounds.{IsCell}
 use Rattle.cw_solve.proofs.Slots.{same_slot}
 use Rattle.cw_linked.specs.Founds.{Found, IsLink, Waits}
 use Rattle.cw_linked.specs.Queues.{asked_with, due_with}
-use Rattle.cw_linked.specs.Steps.{IsSame, IsOther, AsksCell, AsksLink}
+use Rattle.cw_linked.specs.Steps.{IsOther, AsksCell, AsksLink}
 use Rattle.cw_linked.specs.Works.{place_at, value_at}
 use Rattle.cw_linked.proofs.Bounding.{place_is}
 
@@ -50,7 +50,7 @@ either_is true b h = inl refl
 either_is false b h = inr h
 
 -- a key that isn't written waits under no more already
-kept_low : (old key : ℕ) → (nat_eq old 0 || nat_lt key old) ≡ false → Waits old key
+pub kept_low : (old key : ℕ) → (nat_eq old 0 || nat_lt key old) ≡ false → Waits old key
 kept_low old key h =
     let n = neither_is (nat_eq old 0) (nat_lt key old) h in (
       some old n.0,

@@ -1,35 +1,32 @@
 -- The link of a call is asked for, which returns to a pair that is taken.
-use Rattle.std.proofs.Common.{◌≡◌, ℕ, zero, suc, ◌+◌, ◌-◌, ◌*◌, ◌<◌, ◌≤◌, List, [], ◌∷◌, Bool, true, false, ◌||◌, not, Option, Some, length, set, refl, sym, ap, ◌∙◌, subst, arith, inl, inr}
-use Rattle.std.specs.Prelude.{◌⊎◌, slice_get, slice_index, nat_eq, nat_lt, Contains}
+use Rattle.std.proofs.Common.{◌≡◌, ℕ, ◌+◌, ◌*◌, ◌<◌, ◌≤◌, List, [], true, ◌||◌, Some, length, set, refl, sym, ap, ◌∙◌, subst, arith, inl, inr}
+use Rattle.std.specs.Prelude.{slice_get, slice_index, nat_eq, nat_lt}
 use Rattle.std.proofs.lemmas.Bool.{cases_eq}
 use Rattle.std.proofs.lemmas.Option.{same_Some}
-use Rattle.std.proofs.lemmas.List.{length-set}
+use Rattle.std.proofs.lemmas.List.{length-set, get_or-set_same, get_or-set_other}
 use Rattle.cw_core.specs.declared.ids.PosId.{PosId}
-use Rattle.cw_game.specs.Games.{Game, returned}
-use Rattle.cw_game.specs.Pairs.{has, Called, call_in, kept_at}
+use Rattle.cw_game.specs.Games.{Game}
+use Rattle.cw_game.specs.Pairs.{has, Called, call_in}
 use Rattle.cw_links.specs.Lists.{Chained, list_at}
-use Rattle.cw_product.specs.Moves.{pos_id}
 use Rattle.cw_solve.specs.declared.contexts.Context.{Context}
 use Rattle.cw_solve.specs.declared.table.Table.{Table}
-use Rattle.cw_solve.specs.Contexts.{context, IsOf}
+use Rattle.cw_solve.specs.Contexts.{IsOf}
 use Rattle.cw_solve.specs.Routes.{AreRouted}
 use Rattle.cw_solve.specs.Rounds.{slot, IsCell}
 use Rattle.cw_solve.specs.Tables.{IsTable, HasCell}
-use Rattle.cw_solve.proofs.Falls.{not_both}
 use Rattle.cw_solve.proofs.Slots.{slot_within}
 use Rattle.cw_linked.specs.declared.work.Cell.{Cell}
 use Rattle.cw_linked.specs.declared.work.Work.{Work}
-use Rattle.cw_linked.specs.Founds.{Found, class_of, AreAlike, IsLink, IsTied, IsFresh, height_back, GoesTo, IsShrinking, AreRight, Waits, IsStanding, Nothing, AllStanding}
-use Rattle.cw_linked.specs.Queues.{found_of, AreQueued, AreLong, AreHigh, due_with, AsksForLink, LowersKeys}
+use Rattle.cw_linked.specs.Founds.{Found, class_of, AreAlike, IsLink, IsTied, IsFresh, GoesTo, IsShrinking, AreRight, Waits, IsStanding, Nothing, AllStanding}
+use Rattle.cw_linked.specs.Queues.{found_of, AreLong, AreHigh, IsLinkAt, AreDue, due_with, AsksForLink, LowersKeys}
 use Rattle.cw_linked.specs.Returns.{HasReturn, AreReturns, AsksReturn}
-use Rattle.cw_linked.specs.Steps.{Lowers, ReturnsThere}
-use Rattle.cw_linked.specs.Works.{AreUpTo, place_at, value_at}
-use Rattle.cw_linked.proofs.Asking.{decide, chosen_then, chosen_else}
+use Rattle.cw_linked.specs.Steps.{ReturnsThere}
+use Rattle.cw_linked.specs.Works.{AreUpTo, place_at}
+use Rattle.cw_linked.proofs.Asking.{decide, kept_low, chosen_then, chosen_else}
 use Rattle.cw_linked.proofs.Bounding.{place_is}
 use Rattle.cw_linked.proofs.Closing.{standing_asked, own_link}
 use Rattle.cw_linked.proofs.Lowering.{lowers_standing, waits_less}
 use Rattle.cw_linked.proofs.Telling.{below, up_to_set}
-use Rattle.cw_linked.proofs.Waits.{first_or_later}
 use Rattle.cw_linked.proofs.Working.{Keys, found_keys, is_due, links_lower, links_right}
 
 due_up_to : (due : List ℕ) (place key most : ℕ) → place < length due → key ≤ most → AreUpTo due most → AreUpTo (due_with due place key) most
@@ -39,7 +36,14 @@ due_up_to due place key most lt le up =
       | inr h ↦ subst (λ (y : List ℕ). AreUpTo y most) (sym (chosen_else _ (set due place key) due h)) up
     ]
 
-due_length : (due : List ℕ) (place key : ℕ) → length (due_with due place key) ≡ length due
+pub due_other : (due : List ℕ) (place key k : ℕ) → (k ≡ place → ⊥) → slice_index (due_with due place key) k ≡ slice_index due k
+due_other due place key k ne =
+    elim (decide (nat_eq (slice_index due place) 0 || nat_lt key (slice_index due place))) [
+      | inl h ↦ ap (λ (ys : List ℕ). slice_index ys k) (chosen_then _ (set due place key) due h) ∙ get_or-set_other due place k key 0 ne
+      | inr h ↦ ap (λ (ys : List ℕ). slice_index ys k) (chosen_else _ (set due place key) due h)
+    ]
+
+pub due_length : (due : List ℕ) (place key : ℕ) → length (due_with due place key) ≡ length due
 due_length due place key =
     elim (decide (nat_eq (slice_index due place) 0 || nat_lt key (slice_index due place))) [
       | inl h ↦ ap (λ (y : List ℕ). length y) (chosen_then _ (set due place key) due h) ∙ length-set due place key
@@ -52,7 +56,7 @@ module _ (g : Game) (functions : ℕ) (routed : AreRouted g functions) (alike : 
 
   -- A link whose promise shrinks for so many moves is asked for.
   module _ (long : AreLong old) (high : AreHigh old) (right : AreRight g Contexts (found_of g old)) (j : ℕ) (d : Context) (r x : ℕ) (call : Called) (link : IsLink g Contexts j d r x call) (n place : ℕ)
-      (some : 0 < n) (low : n ≤ old.table.written) (at : place ≡ slot g Contexts j d.function r x) (shrinks : IsShrinking g Contexts (found_of g old) j r x call n) (asks : AsksForLink old new place (2 * n + 1)) where
+      (some : 0 < n) (low : n ≤ old.table.written) (at : place ≡ slot g Contexts j d.function r x) (shrinks : IsShrinking g Contexts (found_of g old) j r x call n) (tied_there : 0 < slice_index old.to.items place) (asks : AsksForLink old new place (2 * n + 1)) where
     here : place ≡ place_at g Contexts j r x
     here = at ∙ sym (place_is g Contexts j d r x link.cell.at)
 
@@ -84,6 +88,35 @@ module _ (g : Game) (functions : ℕ) (routed : AreRouted g functions) (alike : 
           waves = subst (λ (t : Table). AreUpTo new.waves.items t.written) (sym asks.others.table) (subst (λ (y : List ℕ). AreUpTo y old.table.written) (sym asks.others.waves) high.waves);
         }
 
+    -- the key of the link is more than 1
+    is_due_there : AreDue g old → AreDue g new
+    is_due_there are k lt most = elim (cases_eq k place) [
+      | inl e ↦ (
+        subst (λ (t : Table). IsLinkAt g t.contexts.items k) (sym asks.others.table) (j, d, r, x, call, link, e ∙ here),
+        λ tied. subst (λ (ys : List ℕ). 1 < slice_index ys k) (sym asks.due) (subst (λ (y : ℕ). 1 < slice_index (due_with old.due.items place (2 * n + 1)) y) (sym e) (more_than_one are)),
+      )
+      | inr ne ↦
+          let before = subst (λ (t : Table). k < length t.heights.items) asks.others.table lt in
+          let same : slice_index new.due.items k ≡ slice_index old.due.items k = ap (λ (ys : List ℕ). slice_index ys k) asks.due ∙ due_other old.due.items place (2 * n + 1) k ne in
+          let h = are k before (omega (arith, most, same)) in (
+            subst (λ (t : Table). IsLinkAt g t.contexts.items k) (sym asks.others.table) h.0,
+            λ tied. let low = h.1 (subst (λ (ys : List ℕ). 0 < slice_index ys k) asks.others.to tied) in omega (arith, low, same),
+          )
+    ]
+      where
+        more_than_one : AreDue g old → 1 < slice_index (due_with old.due.items place (2 * n + 1)) place
+        more_than_one are = elim (decide (nat_eq (slice_index old.due.items place) 0 || nat_lt (2 * n + 1) (slice_index old.due.items place))) [
+          | inl h ↦
+              let e = ap (λ (ys : List ℕ). slice_index ys place) (chosen_then _ (set old.due.items place (2 * n + 1)) old.due.items h) in
+              let v = get_or-set_same old.due.items place (2 * n + 1) 0 (omega (arith, inside, long.due)) in
+              omega (arith, e, v, some)
+          | inr h ↦
+              let e = ap (λ (ys : List ℕ). slice_index ys place) (chosen_else _ (set old.due.items place (2 * n + 1)) old.due.items h) in
+              let w = kept_low (slice_index old.due.items place) (2 * n + 1) h in
+              let low = (are place inside w.0).1 tied_there in
+              omega (arith, e, low)
+        ]
+
     pub link_step : LowersKeys g old new
     link_step = record {
       others = asks.others;
@@ -93,6 +126,7 @@ module _ (g : Game) (functions : ℕ) (routed : AreRouted g functions) (alike : 
       lowers = links_lower g functions routed alike old new (below g functions routed alike old new table) long j d r x place (2 * n + 1) call link here inside odd asks;
       right = subst (λ (y : Found). AreRight g Contexts y) (sym (found_keys g old new asks.others))
           (links_right g functions routed alike old new (below g functions routed alike old new table) long j d r x place (2 * n + 1) call link here inside odd asks right n refl some shrinks);
+      dues = is_due_there;
     }
 
     pub link_waits : Waits ((found_of g new).due j r x) (2 * n + 1)
@@ -110,35 +144,35 @@ module _ (g : Game) (functions : ℕ) (routed : AreRouted g functions) (alike : 
     fresh_on i c p k call is fresh = subst (λ (y : Found). IsFresh y i p k) (sym (found_keys g old new step.others))
         (λ free. waits_less ((found_of g old).due i p k) ((Keys g old new).due i p k) 1 (step.lowers.links i c p k call is) (fresh free))
 
-  -- So does each link of a position that returns to the cell, where the link of the cell's own class waits for it or hasn't its state.
+  -- Each link of a position that returns to the cell stands, where the link of the cell's own class waits for it or hasn't its state.
   pub returns_stand : LowersKeys g old new → (cell : Cell) → HasCell g old.table cell.at cell.pos.0 cell.state.0 → (n : ℕ) → (found_of g new).height cell.at.number cell.pos.0 cell.state.0 ≡ n
       → (p : ℕ) (called : Called) → call_in (slice_get g.spots p) ≡ Some called
-      → ((set : ℕ) → GoesTo Contexts (found_of g new) cell.at.number p (class_of g called.split cell.state.0) called set → has set cell.state.0 ≡ true
+      → ((set : ℕ) → IsTied (found_of g new) cell.at.number p (class_of g called.split cell.state.0)
+      → GoesTo Contexts (found_of g new) cell.at.number p (class_of g called.split cell.state.0) called set → has set cell.state.0 ≡ true
       → Waits ((found_of g new).due cell.at.number p (class_of g called.split cell.state.0)) (2 * n + 1))
       → AsksReturn g old new cell p
   returns_stand step cell is n height p called es waits = record {
     step = step;
-    standing = λ k call link back fresh stood. (
-      fresh_on step cell.at.number cell.at.context p k call link fresh,
-      λ x lt. elim (cases_eq (returned g.states (kept_at call.split k) x) cell.state.0) [
-        | inr apart ↦ stands_on step cell.at.number cell.at.context p k call x link (stood x lt apart)
-        | inl same ↦
-            let own = own_link g functions routed alike Contexts (below g functions routed alike old new table) (found_of g new) call.split k x cell.state.0 lt link.cell.state is.state link.class same in
-            let one : called ≡ call = same_Some called call (sym es ∙ link.calls) in
-            let class : class_of g called.split cell.state.0 ≡ k = ap (λ (y : Called). class_of g y.split cell.state.0) one ∙ own.0 in
-            standing_asked g functions routed alike Contexts (below g functions routed alike old new table) (found_of g new) step.right cell.at.number cell.at.context p k call link cell.state.0 n is.state
-            (ap (λ (y : ℕ). (found_of g new).height cell.at.number y cell.state.0) back ∙ height)
-            (λ set tied goes member. subst (λ (y : ℕ). Waits ((found_of g new).due cell.at.number p y) (2 * n + 1)) class
-            (waits set (subst (λ (y : Called). GoesTo Contexts (found_of g new) cell.at.number p (class_of g called.split cell.state.0) y set) (sym one)
-            (subst (λ (y : ℕ). GoesTo Contexts (found_of g new) cell.at.number p y call set) (sym class) goes)) member))
-            x lt same
-      ],
-    );
+    standing = λ k call link back x lt same.
+        let own = own_link g functions routed alike Contexts (below g functions routed alike old new table) (found_of g new) call.split k x cell.state.0 lt link.cell.state is.state link.class same in
+        let one : called ≡ call = same_Some called call (sym es ∙ link.calls) in
+        let class : class_of g called.split cell.state.0 ≡ k = ap (λ (y : Called). class_of g y.split cell.state.0) one ∙ own.0 in
+        standing_asked g functions routed alike Contexts (below g functions routed alike old new table) (found_of g new) step.right cell.at.number cell.at.context p k call link cell.state.0 n is.state
+        (ap (λ (y : ℕ). (found_of g new).height cell.at.number y cell.state.0) back ∙ height)
+        (λ set tied goes member. subst (λ (y : ℕ). Waits ((found_of g new).due cell.at.number p y) (2 * n + 1)) class
+        (waits set (subst (λ (y : ℕ). IsTied (found_of g new) cell.at.number p y) (sym class) tied)
+        (subst (λ (y : Called). GoesTo Contexts (found_of g new) cell.at.number p (class_of g called.split cell.state.0) y set) (sym one)
+        (subst (λ (y : ℕ). GoesTo Contexts (found_of g new) cell.at.number p y call set) (sym class) goes)) member))
+        x lt same;
   }
 
   -- no call that returns to the cell stands there
   pub no_return : LowersKeys g old new → (cell : Cell) (p : ℕ) → ((call : Called) → call_in (slice_get g.spots p) ≡ Some call → call.back ≡ cell.pos.0 → ⊥) → AsksReturn g old new cell p
-  no_return step cell p none = record { step = step; standing = λ k call link back fresh stood. absurd (none call link.calls back) }
+  no_return step cell p none = record { step = step; standing = λ k call link back. absurd (none call link.calls back) }
+
+  -- and none of the cell's function
+  pub no_position : LowersKeys g old new → (cell : Cell) (p : ℕ) → (IsOf g cell.at.context.function p → ⊥) → AsksReturn g old new cell p
+  no_position step cell p none = record { step = step; standing = λ k call link. absurd (none link.cell.of) }
 
 -- the calls of a context that are left to ask for
 abbrev pub ReturnsLeft : Game → List Context → Found → Chained PosId → List ℕ → (j r x : ℕ) → ℕ → ℕ → ℕ → Type 0

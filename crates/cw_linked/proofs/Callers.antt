@@ -1,5 +1,5 @@
 -- The call of a link is asked for, whose callee is lost.
-use Rattle.std.proofs.Common.{◌≡◌, ℕ, zero, suc, ◌+◌, ◌-◌, ◌*◌, ◌<◌, ◌≤◌, List, [], ◌∷◌, Bool, true, false, not, Option, Some, None, length, refl, sym, ap, ◌∙◌, subst, arith, inl, inr}
+use Rattle.std.proofs.Common.{◌≡◌, ℕ, zero, suc, ◌+◌, ◌-◌, ◌*◌, ◌<◌, ◌≤◌, List, [], ◌∷◌, true, false, not, Some, length, refl, sym, ap, ◌∙◌, subst, arith, inl, inr}
 use Rattle.std.specs.Prelude.{◌⊎◌, slice_get, slice_index, nat_eq, Contains}
 use Rattle.std.proofs.lemmas.Bool.{eq-eqb, ne_eqb}
 use Rattle.std.proofs.lemmas.Option.{same_Some}
@@ -17,7 +17,7 @@ use Rattle.cw_linked.specs.declared.work.Cell.{Cell}
 use Rattle.cw_linked.specs.declared.work.Work.{Work}
 use Rattle.cw_linked.specs.Calls.{AreCallers, CallsLeft, AsksCaller}
 use Rattle.cw_linked.specs.Founds.{Found, class_of, AreAlike, IsLink, IsTied, AreRight, Waits, IsCalled, Nothing, AllCalled}
-use Rattle.cw_linked.specs.Queues.{found_of, AreQueued, AreLong, AreSameBut, AreHigh, AsksForCell, LowersKeys, IsCellAt}
+use Rattle.cw_linked.specs.Queues.{found_of, AreQueued, AreLong, AreHigh, AsksForCell, LowersKeys, IsCellAt}
 use Rattle.cw_linked.specs.Steps.{IsSame, CallsThere}
 use Rattle.cw_linked.specs.Works.{heights_of, place_at, value_at}
 use Rattle.cw_linked.proofs.Bounding.{place_is}
@@ -30,16 +30,16 @@ use Rattle.cw_linked.proofs.Waits.{first_or_later}
 use Rattle.cw_linked.proofs.Working.{Keys, found_keys}
 
 -- a link that isn't tied has no calls to ask for
-untied_called : (g : Game) (s : Found) (i p q : ℕ) (call : Called) → call_in (slice_get g.spots p) ≡ Some call → s.tied i p (class_of g call.split q) ≡ false → IsCalled g s i p q
+pub untied_called : (g : Game) (s : Found) (i p q : ℕ) (call : Called) → call_in (slice_get g.spots p) ≡ Some call → s.tied i p (class_of g call.split q) ≡ false → IsCalled g s i p q
 untied_called g s i p q call es free other fs tied =
     let same = one_call (slice_get g.spots p) call other es fs in
     absurd (not_both (s.tied i p (class_of g other.split q)) tied (subst (λ (y : Called). s.tied i p (class_of g y.split q) ≡ false) same free))
 
-is_tied : (v j : ℕ) → v ≡ suc j → not (nat_eq v 0) ≡ true
+pub is_tied : (v j : ℕ) → v ≡ suc j → not (nat_eq v 0) ≡ true
 is_tied v j e = ap (λ (y : ℕ). not (nat_eq y 0)) e ∙ ap not (ne_eqb (suc j) 0 (λ z. omega (arith, z)))
 
 -- a number is 0, or one more than another
-tied_or_not : (v j : ℕ) → v - 1 ≡ j → (not (nat_eq v 0) ≡ false) ⊎ (v ≡ suc j)
+pub tied_or_not : (v j : ℕ) → v - 1 ≡ j → (not (nat_eq v 0) ≡ false) ⊎ (v ≡ suc j)
 tied_or_not zero j e = inl (ap not (eq-eqb 0 0 refl))
 tied_or_not (suc v) j e = inr (omega (arith, e))
 

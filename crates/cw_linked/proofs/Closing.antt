@@ -1,16 +1,16 @@
 -- What is left to do is done: a cell or a link that was asked for at what is known of it waits as it should.
-use Rattle.std.proofs.Common.{◌≡◌, ℕ, zero, suc, ◌+◌, ◌-◌, ◌*◌, ◌<◌, ◌≤◌, List, Bool, true, false, ◌||◌, Option, Some, refl, sym, ap, ◌∙◌, subst, arith, inl, inr}
+use Rattle.std.proofs.Common.{◌≡◌, ℕ, zero, suc, ◌+◌, ◌*◌, ◌<◌, ◌≤◌, List, Bool, true, false, ◌||◌, Some, refl, sym, ap, ◌∙◌, subst, arith, inl, inr}
 use Rattle.std.specs.Prelude.{◌⊎◌, slice_get, nat_eq, nat_lt}
-use Rattle.std.proofs.lemmas.Bool.{cases_lt, lt-ltb, le-ltb, ne_eqb}
+use Rattle.std.proofs.lemmas.Bool.{cases_lt, le-ltb, ne_eqb}
 use Rattle.std.proofs.lemmas.Option.{same_Some}
-use Rattle.cw_game.specs.Games.{Game, returned, holds_in, Holds}
+use Rattle.cw_game.specs.Games.{Game, returned, Holds}
 use Rattle.cw_game.specs.Pairs.{has, Called, call_in, is_call_in, kept_at}
 use Rattle.cw_solve.specs.declared.contexts.Context.{Context}
-use Rattle.cw_solve.specs.Contexts.{context, promise_at, IsSetOf}
-use Rattle.cw_solve.specs.Routes.{IsState, AreRouted}
+use Rattle.cw_solve.specs.Contexts.{promise_at}
+use Rattle.cw_solve.specs.Routes.{AreRouted}
 use Rattle.cw_solve.specs.Rounds.{IsCell, holds_by}
 use Rattle.cw_solve.proofs.Falls.{not_both, member_is}
-use Rattle.cw_linked.specs.Founds.{Found, class_of, AreAlike, IsLink, IsTied, height_back, GoesTo, AreRight, tells, Waits, IsClosed, IsCalled, IsStanding}
+use Rattle.cw_linked.specs.Founds.{Found, class_of, AreAlike, IsLink, IsTied, height_back, GoesTo, AreRight, Waits, IsClosed, IsCalled, IsStanding}
 use Rattle.cw_linked.specs.Steps.{IsBound}
 use Rattle.cw_linked.proofs.Least.{tells_none, tells_above}
 use Rattle.cw_linked.proofs.Losing.{told_lost}

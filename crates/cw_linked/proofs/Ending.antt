@@ -1,9 +1,9 @@
 -- Nothing waits: what is taken are the heights, and the contexts are all that are needed.
-use Rattle.std.proofs.Common.{◌≡◌, ℕ, zero, suc, ◌+◌, ◌*◌, ◌<◌, ◌≤◌, List, Bool, true, false, Option, Some, None, refl, sym, ap, ◌∙◌, subst, arith, inl, inr}
+use Rattle.std.proofs.Common.{◌≡◌, ℕ, zero, suc, ◌+◌, ◌*◌, ◌<◌, List, Some, refl, sym, ◌∙◌, subst, arith, inl, inr}
 use Rattle.std.specs.Prelude.{slice_get, Contains}
 use Rattle.std.proofs.lemmas.Bool.{cases_lt}
-use Rattle.cw_game.specs.Games.{Game, returned, Holds}
-use Rattle.cw_game.specs.Pairs.{has, all_states, Called, call_in, kept_at}
+use Rattle.cw_game.specs.Games.{Game, Holds}
+use Rattle.cw_game.specs.Pairs.{has, all_states, kept_at}
 use Rattle.cw_solve.specs.declared.contexts.Context.{Context}
 use Rattle.cw_solve.specs.Contexts.{context, HeightIs, IsHeight, promise_at, IsSetOf, IsNeeded, of_main, of_call}
 use Rattle.cw_solve.specs.Routes.{AreRouted}

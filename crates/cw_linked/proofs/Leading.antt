@@ -1,5 +1,5 @@
 -- What holds at a position that is no call, read off the pairs to which its moves lead.
-use Rattle.std.proofs.Common.{◌≡◌, ℕ, ◌+◌, ◌<◌, List, [], Bool, true, false, cond, not, ◌&&◌, ◌||◌, Option, Some, None, refl, sym, ap, ap₂, ◌∙◌, subst}
+use Rattle.std.proofs.Common.{◌≡◌, ℕ, ◌<◌, List, [], Bool, true, false, cond, ◌&&◌, ◌||◌, Option, Some, None, refl, sym, ap, ap₂, ◌∙◌, subst}
 use Rattle.std.specs.Prelude.{slice_get, option_map}
 use Rattle.std.proofs.lemmas.Option.{same_Some, none-some}
 use Rattle.cw_rights.specs.declared.capabilities.Primitive.TheVariants.{Limit, Enter, Split}
@@ -8,12 +8,11 @@ use Rattle.cw_certs.specs.declared.moves.Move.TheVariants.{Skip, Try, Grant, Ref
 use Rattle.cw_game.specs.declared.spots.Spot.{Spot}
 use Rattle.cw_game.specs.declared.spots.Spot.TheVariants.{Visit, Asked, Step, Branch, Label, Open, Close, Call, SplitCall, Exit}
 use Rattle.cw_game.specs.Games.{Game, Config, refuses_in, bad_in, leads_in, Promise, holds_in}
-use Rattle.cw_game.specs.Pairs.{has, is_call_in, is_exit_in}
+use Rattle.cw_game.specs.Pairs.{is_call_in, is_exit_in}
 use Rattle.cw_game.proofs.Holding.{Gives}
 use Rattle.cw_product.specs.Moves.{pair_of, is_left_in, next_in, next_at}
 use Rattle.cw_solve.specs.declared.contexts.Context.{Context}
-use Rattle.cw_solve.specs.Asking.{holds_after, after, holds_by_moves}
-use Rattle.cw_solve.specs.Contexts.{IsOf}
+use Rattle.cw_solve.specs.Asking.{holds_after, holds_by_moves}
 use Rattle.cw_solve.specs.Routes.{IsState, AreRouted}
 use Rattle.cw_solve.specs.Rounds.{IsCell}
 use Rattle.cw_solve.proofs.Calling.{next_target}

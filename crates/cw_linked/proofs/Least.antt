@@ -1,19 +1,18 @@
 -- The one lemma: where nothing waits under a key below some number, the taken heights tell what holds for half as many moves.
-use Rattle.std.proofs.Common.{◌≡◌, ℕ, zero, suc, ◌+◌, ◌*◌, ◌<◌, ◌≤◌, List, Bool, true, false, ◌||◌, Option, Some, refl, sym, ap, ◌∙◌, subst, arith, inl, inr}
+use Rattle.std.proofs.Common.{◌≡◌, ℕ, zero, suc, ◌+◌, ◌*◌, ◌<◌, List, Bool, true, false, ◌||◌, Some, refl, sym, ap, ◌∙◌, arith, inl, inr}
 use Rattle.std.specs.Prelude.{◌⊎◌, slice_get, nat_lt, nat_eq}
 use Rattle.std.proofs.lemmas.Bool.{cases_lt, lt-ltb}
-use Rattle.cw_game.specs.declared.spots.Spot.{Spot}
-use Rattle.cw_game.specs.Games.{Game, returned, Promise, holds_in, Holds}
+use Rattle.cw_game.specs.Games.{Game, returned, holds_in, Holds}
 use Rattle.cw_game.specs.Pairs.{has, Called, call_in, is_call_in, kept_at}
-use Rattle.cw_game.proofs.Holding.{holds_rises, lost_rises}
+use Rattle.cw_game.proofs.Holding.{holds_rises}
 use Rattle.cw_solve.specs.declared.contexts.Context.{Context}
-use Rattle.cw_solve.specs.Contexts.{context, IsHeight, promise_at, IsSetOf}
+use Rattle.cw_solve.specs.Contexts.{context, promise_at}
 use Rattle.cw_solve.specs.Routes.{IsState, AreRouted}
 use Rattle.cw_solve.specs.Rounds.{IsCell, holds_by}
-use Rattle.cw_solve.proofs.Falls.{not_both, sooner, later, holds_same, return_state, back_stays, member_is}
+use Rattle.cw_solve.proofs.Falls.{sooner, holds_same, return_state, back_stays}
 use Rattle.cw_solve.proofs.Still.{holds_call, call_or_not, entry_cell}
 use Rattle.cw_solve.proofs.Written.{reads}
-use Rattle.cw_linked.specs.Founds.{Found, class_of, AreAlike, IsLink, IsTied, height_back, GoesTo, AreRight, tells, Waits, IsClosed, IsCalled, IsStanding, Nothing, AreFound, AreAbove}
+use Rattle.cw_linked.specs.Founds.{Found, class_of, AreAlike, IsLink, IsTied, height_back, GoesTo, AreRight, tells, IsClosed, IsCalled, AreFound, AreAbove}
 use Rattle.cw_linked.proofs.Leading.{in_same, next_cell}
 
 -- what stands where nothing is left to do

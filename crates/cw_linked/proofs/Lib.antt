@@ -21,3 +21,15 @@ pub mod Backs
 pub mod Placing
 pub mod Writing
 pub mod Popping
+pub mod Returning
+pub mod Takings
+pub mod Finishing
+pub mod Linking
+pub mod Tieing
+pub mod Tightening
+pub mod Filling
+pub mod Edging
+pub mod Pushing
+pub mod Promising
+pub mod Lengthening
+pub mod Freeing

@@ -1,13 +1,13 @@
 -- Keys become lower: what is asked for is still asked for.
-use Rattle.std.proofs.Common.{◌≡◌, ℕ, zero, suc, ◌+◌, ◌*◌, ◌<◌, ◌≤◌, List, Bool, true, false, Option, Some, refl, sym, ap, ◌∙◌, subst, arith, inl, inr}
+use Rattle.std.proofs.Common.{◌≡◌, ℕ, ◌+◌, ◌*◌, ◌<◌, List, false, Some, sym, ◌∙◌, subst, arith, inl, inr}
 use Rattle.std.specs.Prelude.{slice_get}
-use Rattle.cw_game.specs.Games.{Game, returned, Holds}
-use Rattle.cw_game.specs.Pairs.{has, Called, call_in, kept_at}
+use Rattle.cw_game.specs.Games.{Game, Holds}
+use Rattle.cw_game.specs.Pairs.{has, Called, call_in}
 use Rattle.cw_solve.specs.declared.contexts.Context.{Context}
 use Rattle.cw_solve.specs.Routes.{AreRouted}
 use Rattle.cw_solve.specs.Rounds.{IsCell}
-use Rattle.cw_linked.specs.Founds.{Found, class_of, AreAlike, IsLink, IsTied, height_back, GoesTo, IsShrinking, AreRight, Waits, IsClosed, IsCalled, IsStanding, AllClosed, AllCalled, AllStanding}
-use Rattle.cw_linked.specs.Steps.{IsSame, IsOther, with_keys, Lowers, AsksCell, AsksLink}
+use Rattle.cw_linked.specs.Founds.{Found, AreAlike, IsLink, height_back, IsShrinking, AreRight, Waits, IsClosed, IsCalled, IsStanding, AllClosed, AllCalled, AllStanding}
+use Rattle.cw_linked.specs.Steps.{IsSame, with_keys, Lowers, AsksCell, AsksLink}
 use Rattle.cw_linked.proofs.Taking.{same_or_other, one_call, at_same}
 
 -- what is left to do stays left, or is done

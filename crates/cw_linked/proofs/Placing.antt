@@ -1,12 +1,11 @@
 -- The cell at a place.
-use Rattle.std.proofs.Common.{◌≡◌, ℕ, ◌+◌, ◌-◌, ◌*◌, ◌/◌, ◌%◌, ◌<◌, ◌≤◌, Some, length, get_or, refl, sym, ap, ◌∙◌, subst, arith}
+use Rattle.std.proofs.Common.{◌≡◌, ℕ, ◌+◌, ◌-◌, ◌*◌, ◌/◌, ◌%◌, ◌<◌, ◌≤◌, Some, length, get_or, sym, ap, ◌∙◌, subst, arith}
 use Rattle.std.specs.Prelude.{slice_get, slice_index}
 use Rattle.std.proofs.lemmas.Nat.{div-add-mod', div_below, mod_below}
 use Rattle.std.proofs.lemmas.List.{get_or_default}
 use Rattle.std.proofs.lemmas.Option.{slice_get-get_or}
 use Rattle.cw_game.specs.Games.{Game}
 use Rattle.cw_solve.specs.declared.contexts.Context.{Context}
-use Rattle.cw_solve.specs.Contexts.{size}
 use Rattle.cw_solve.specs.Routes.{AreRouted}
 use Rattle.cw_solve.specs.Rounds.{base}
 use Rattle.cw_solve.specs.Tables.{IsTable}

@@ -1,5 +1,5 @@
 -- A cell of the least key is taken: what stays true, and what is left to do.
-use Rattle.std.proofs.Common.{◌≡◌, ℕ, zero, suc, ◌+◌, ◌*◌, ◌<◌, ◌≤◌, List, Bool, true, false, Option, Some, None, refl, sym, ap, ◌∙◌, subst, arith, inl, inr}
+use Rattle.std.proofs.Common.{◌≡◌, ℕ, ◌+◌, ◌*◌, ◌<◌, ◌≤◌, List, true, false, Option, Some, None, refl, sym, ap, ◌∙◌, subst, arith, inl, inr}
 use Rattle.std.specs.Prelude.{◌⊎◌, slice_get}
 use Rattle.std.proofs.lemmas.Bool.{cases_eq}
 use Rattle.std.proofs.lemmas.Option.{same_Some, none-some}
@@ -16,7 +16,7 @@ use Rattle.cw_solve.specs.Routes.{AreRouted}
 use Rattle.cw_solve.specs.Rounds.{IsCell, holds_by}
 use Rattle.cw_solve.proofs.Falls.{not_both}
 use Rattle.cw_solve.proofs.Still.{call_or_not, entry_cell}
-use Rattle.cw_linked.specs.Founds.{Found, class_of, AreAlike, IsLink, IsTied, height_back, GoesTo, AreRight, tells, Waits, IsClosed, IsCalled, IsStanding, IsFresh, AllClosed, AllCalled, AllStanding, AreFound, AreAbove}
+use Rattle.cw_linked.specs.Founds.{Found, class_of, AreAlike, IsTied, AreRight, tells, Waits, IsClosed, IsCalled, IsStanding, IsFresh, AllClosed, AllCalled, AllStanding, AreFound, AreAbove}
 use Rattle.cw_linked.specs.Steps.{IsSame, IsOther, with_heights, Takes, Leads, WaitsFor, CallsThere, ReturnsThere}
 use Rattle.cw_linked.proofs.Leading.{in_same, next_cell}
 use Rattle.cw_linked.proofs.Least.{all_of, least, link_of, back_of}

@@ -1,6 +1,6 @@
 -- What is told of a cell is asked for.
-use Rattle.std.proofs.Common.{◌≡◌, ◌≢◌, ℕ, suc, ◌+◌, ◌*◌, ◌<◌, ◌≤◌, List, Bool, true, false, ◌&&◌, ◌||◌, Some, length, get_or, set, refl, sym, ap, ◌∙◌, subst, arith, inl, inr, length-set, get_or-set_same, get_or-set_other}
-use Rattle.std.specs.Prelude.{◌⊎◌, if◌then◌else◌, slice_get, slice_index, nat_eq, nat_lt}
+use Rattle.std.proofs.Common.{◌≡◌, ℕ, ◌+◌, ◌*◌, ◌<◌, ◌≤◌, List, false, ◌&&◌, ◌||◌, Some, length, get_or, set, refl, sym, ap, ◌∙◌, subst, arith, inl, inr, length-set, get_or-set_same, get_or-set_other}
+use Rattle.std.specs.Prelude.{slice_get, slice_index, nat_eq, nat_lt}
 use Rattle.std.proofs.lemmas.Bool.{cases_eq}
 use Rattle.cw_game.specs.Games.{Game, Holds}
 use Rattle.cw_game.specs.Pairs.{has, is_call_in}
@@ -14,14 +14,23 @@ use Rattle.cw_solve.proofs.Tabling.{there_at}
 use Rattle.cw_linked.specs.declared.work.Cell.{Cell}
 use Rattle.cw_linked.specs.declared.work.Work.{Work}
 use Rattle.cw_linked.specs.Founds.{Found, AreAlike, AreRight, Waits, IsClosed, AllClosed, AllCalled, AllStanding}
-use Rattle.cw_linked.specs.Queues.{found_of, AreQueued, AreLong, AreSameBut, asked_with, AsksForCell, AreHigh, LowersKeys, AsksTold}
-use Rattle.cw_linked.specs.Steps.{with_keys, Lowers, AsksCell, IsBound}
+use Rattle.cw_linked.specs.Queues.{found_of, AreQueued, AreLong, AreSameBut, asked_with, AsksForCell, AreHigh, IsLinkAt, AreDue, LowersKeys, AsksTold}
+use Rattle.cw_linked.specs.Steps.{with_keys, Lowers, IsBound}
 use Rattle.cw_linked.specs.Works.{heights_of, AreUpTo, place_at, value_at}
 use Rattle.cw_linked.proofs.Asking.{decide, chosen_then, chosen_else}
 use Rattle.cw_linked.proofs.Bounding.{place_is}
 use Rattle.cw_linked.proofs.Closing.{closed_untold, closed_asked, bound_is_lost}
 use Rattle.cw_linked.proofs.Lowering.{lowers_all_closed, lowers_all_called, lowers_all_standing}
 use Rattle.cw_linked.proofs.Working.{Keys, found_keys, is_asked, cell_lowers, cell_right}
+
+-- what waits as a link is one, where the links and their keys are as before
+pub same_dues : (g : Game) (old new : Work) → AreSameBut old new → new.due.items ≡ old.due.items → AreDue g old → AreDue g new
+same_dues g old new same due are k lt some =
+    let before = subst (λ (t : Table). k < length t.heights.items) same.table lt in
+    let h = are k before (subst (λ (ys : List ℕ). 0 < slice_index ys k) due some) in (
+      subst (λ (t : Table). IsLinkAt g t.contexts.items k) (sym same.table) h.0,
+      λ tied. subst (λ (ys : List ℕ). 1 < slice_index ys k) (sym due) (h.1 (subst (λ (ys : List ℕ). 0 < slice_index ys k) same.to tied)),
+    )
 
 -- a number that is written is no higher
 pub up_to_set : (values : List ℕ) (place v most : ℕ) → place < length values → v ≤ most → AreUpTo values most → AreUpTo (set values place v) most
@@ -108,6 +117,7 @@ module _ (g : Game) (functions : ℕ) (routed : AreRouted g functions) (alike : 
       high = is_high;
       lowers = cell_lowers g functions routed alike old new below long j d r x place (2 * n) is here inside twice asks;
       right = subst (λ (y : Found). AreRight g Contexts y) (sym (found_keys g old new asks.others)) (cell_right g functions routed alike old new below long j d r x place (2 * n) is here inside twice asks right n refl lost);
+      dues = same_dues g old new asks.others asks.due;
     }
 
     pub asked_waits : (Keys g old new).height j r x ≡ 0 → Waits ((Keys g old new).asked j r x) (2 * n)
@@ -124,6 +134,7 @@ module _ (g : Game) (functions : ℕ) (routed : AreRouted g functions) (alike : 
         closed = subst (λ (y : Found). IsClosed g y cell.at.number cell.at.context cell.pos.0 cell.state.0) (sym (found_keys g old new asks.others))
             (closed_asked g functions routed alike Contexts below (Keys g old new) cell.at.number cell.at.context cell.pos.0 cell.state.0 within bound
             (asked_waits long high right cell.at.number cell.at.context cell.pos.0 cell.state.0 is within place some low at lost asks));
+        due = asks.due;
       }
 
 -- nothing changes
@@ -135,6 +146,7 @@ nothing g old long queued high right = record {
   high = high;
   lowers = record { cells = λ i c p q is lt. (lt, omega arith); links = λ i c p k call is lt. (lt, omega arith) };
   right = right;
+  dues = λ are. are;
 }
 
 -- nothing is told of the cell
@@ -143,6 +155,7 @@ pub told_none : (g : Game) (functions : ℕ) (routed : AreRouted g functions) (a
 told_none g functions routed alike old table long queued high right cell bound = record {
   step = nothing g old long queued high right;
   closed = λ none plain. closed_untold g functions routed alike old.table.contexts.items (below g functions routed alike old old table) (found_of g old) cell.at.number cell.at.context cell.pos.0 cell.state.0 (bound plain) none plain;
+  due = refl;
 }
 
 -- two steps
@@ -171,6 +184,7 @@ two_steps g old mid new a b = record {
         (y.0, omega (arith, y.1, x.1));
   };
   right = subst (λ (t : Table). AreRight g t.contexts.items (found_of g new)) a.others.table b.right;
+  dues = λ are. b.dues (a.dues are);
 }
   where
     later : Lowers g old.table.contexts.items (with_keys (found_of g old) (value_at g old.table.contexts.items mid.asked.items) (value_at g old.table.contexts.items mid.due.items))

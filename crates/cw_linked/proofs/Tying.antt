@@ -1,17 +1,17 @@
 -- A link of the least key is taken: what stays true, and what is left to do.
-use Rattle.std.proofs.Common.{◌≡◌, ℕ, zero, suc, ◌+◌, ◌*◌, ◌<◌, ◌≤◌, List, Bool, true, false, Option, Some, length, refl, sym, ap, ◌∙◌, subst, arith, inl, inr}
+use Rattle.std.proofs.Common.{◌≡◌, ℕ, ◌+◌, ◌*◌, ◌<◌, ◌≤◌, List, Bool, true, Some, refl, sym, ap, ◌∙◌, subst, arith, inl, inr}
 use Rattle.std.specs.Prelude.{slice_get, Contains}
-use Rattle.std.proofs.lemmas.Bool.{cases_lt, cases_eq}
+use Rattle.std.proofs.lemmas.Bool.{cases_lt}
 use Rattle.std.proofs.lemmas.Option.{slice_get_within, get_or_from_slice_get}
 use Rattle.cw_game.specs.Games.{Game, returned, Holds}
-use Rattle.cw_game.specs.Pairs.{has, Called, call_in, is_call_in, kept_at}
+use Rattle.cw_game.specs.Pairs.{has, Called, is_call_in, kept_at}
 use Rattle.cw_solve.specs.declared.contexts.Context.{Context}
 use Rattle.cw_solve.specs.Contexts.{context, promise_at, IsSetOf}
-use Rattle.cw_solve.specs.Routes.{IsState, AreRouted}
+use Rattle.cw_solve.specs.Routes.{AreRouted}
 use Rattle.cw_solve.specs.Rounds.{IsCell, IsAsked, holds_by}
 use Rattle.cw_solve.proofs.Falls.{same_bools, not_both, sooner, member_is, set_as}
 use Rattle.cw_solve.proofs.Still.{call_or_not}
-use Rattle.cw_linked.specs.Founds.{Found, class_of, AreAlike, IsLink, IsTied, height_back, GoesTo, IsShrinking, AreRight, Waits, IsClosed, IsCalled, IsStanding, Nothing, AllClosed, AllCalled, AllStanding, AreFound, AreAbove}
+use Rattle.cw_linked.specs.Founds.{Found, class_of, AreAlike, IsLink, IsTied, height_back, GoesTo, IsShrinking, AreRight, Waits, IsCalled, Nothing, AllCalled, AllStanding, AreFound, AreAbove}
 use Rattle.cw_linked.specs.Steps.{IsSame, IsOther, with_keys, Frees, IsReady, with_links, Ties, CallsBy, IsIt}
 use Rattle.cw_linked.proofs.Least.{all_of, true_of, least, promised, tells_none, link_of, back_of}
 use Rattle.cw_linked.proofs.Lowering.{link_is}

@@ -1,13 +1,13 @@
 -- A walk along a list of links: what is left of it, and its next step.
-use Rattle.std.proofs.Common.{◌≡◌, ◌≢◌, ℕ, zero, suc, inl, inr, Bool, true, false, List, [], ◌∷◌, ◌++◌, ◌==◌, eqb, length, Option, Some, None, refl, sym, ap, ◌∙◌, subst, arith}
+use Rattle.std.proofs.Common.{◌≡◌, ◌≢◌, ℕ, zero, suc, inl, inr, Bool, true, false, List, [], ◌∷◌, ◌++◌, eqb, Option, Some, refl, sym, ap, ◌∙◌, subst, arith}
 use Rattle.std.specs.Prelude.{slice_get, if◌then◌else◌}
 use Rattle.std.specs.List.{concat, IsDistinct, AllByRecursion}
 use Rattle.std.proofs.lemmas.Bool.{cases_eq, eq-eqb, ne_eqb, eqb-true}
 use Rattle.std.proofs.lemmas.Bool.Decides.{nat_tests}
-use Rattle.std.proofs.lemmas.Option.{none-some, same_Some}
+use Rattle.std.proofs.lemmas.Option.{none-some}
 use Rattle.cw_links.specs.Lists.{list_at, AreApart}
 use Rattle.cw_links.specs.Rows.{has, Once}
-use Rattle.cw_links.proofs.Rows.{has-append, Once-append_left, Once-append_right, apart-append}
+use Rattle.cw_links.proofs.Rows.{Once-append_left, Once-append_right, apart-append}
 use Rattle.cw_linked.specs.Walks.{from, rest_of}
 
 -- a list of apart cells has each once

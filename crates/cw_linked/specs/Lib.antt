@@ -7,3 +7,7 @@ pub mod Waiting
 pub mod Walks
 pub mod Calls
 pub mod Returns
+pub mod Popped
+pub mod Tied
+pub mod Added
+pub mod Edges

@@ -1,6 +1,7 @@
 -- Working definitions: what the solver's vectors, buckets and lists keep, and what is found in them.
 use Rattle.std.specs.Prelude.{◌≡◌, ℕ, ◌+◌, ◌-◌, ◌*◌, ◌<◌, ◌≤◌, List, not, ◌&&◌, ◌||◌, if◌then◌else◌, None, nat_eq, nat_lt, length, slice_index, slice_set}
 use Rattle.cw_game.specs.Games.{Game}
+use Rattle.cw_game.specs.Pairs.{Called}
 use Rattle.cw_links.specs.Heights.{height_at}
 use Rattle.cw_solve.specs.declared.contexts.Context.{Context}
 use Rattle.cw_solve.specs.Contexts.{IsOf}
@@ -9,9 +10,9 @@ use Rattle.cw_solve.specs.Tables.{HasCell}
 use Rattle.cw_linked.specs.declared.edges.Pair.{Pair}
 use Rattle.cw_linked.specs.declared.work.Cell.{Cell}
 use Rattle.cw_linked.specs.declared.work.Work.{Work}
-use Rattle.cw_linked.specs.Founds.{Found, AreRight, IsClosed, Nothing, AllClosed}
+use Rattle.cw_linked.specs.Founds.{Found, IsLink, AreRight, IsClosed, Nothing, AllClosed}
 use Rattle.cw_linked.specs.Steps.{Lowers}
-use Rattle.cw_linked.specs.Works.{value_at, heights_of, AreUpTo}
+use Rattle.cw_linked.specs.Works.{place_at, value_at, heights_of, AreUpTo}
 
 -- what is found, read off the vectors: a link is tied where its number isn't 0, to the context of the number before
 abbrev pub found_of : Game → Work → Found
@@ -89,6 +90,13 @@ pub record AreHigh (w : Work) : Type 0 where
   pub due : AreUpTo w.due.items (2 * w.table.written + 1)
   pub waves : AreUpTo w.waves.items w.table.written
 
+-- only links wait as such, and one that goes to a context under more than 1
+abbrev pub IsLinkAt : Game → List Context → ℕ → Type 0
+IsLinkAt g contexts k = (i : ℕ) × (c : Context) × (p : ℕ) × (x : ℕ) × (call : Called) × IsLink g contexts i c p x call × (k ≡ place_at g contexts i p x)
+
+abbrev pub AreDue : Game → Work → Type 0
+AreDue g w = (k : ℕ) → k < length w.table.heights.items → 0 < slice_index w.due.items k → IsLinkAt g w.table.contexts.items k × (0 < slice_index w.to.items k → 1 < slice_index w.due.items k)
+
 -- cells and links wait under lower keys, and nothing else changes
 pub record LowersKeys (g : Game) (old new : Work) : Type 0 where
   pub others : AreSameBut old new
@@ -97,11 +105,13 @@ pub record LowersKeys (g : Game) (old new : Work) : Type 0 where
   pub high : AreHigh new
   pub lowers : Lowers g old.table.contexts.items (found_of g old) (value_at g old.table.contexts.items new.asked.items) (value_at g old.table.contexts.items new.due.items)
   pub right : AreRight g old.table.contexts.items (found_of g new)
+  pub dues : AreDue g old → AreDue g new
 
 -- and a cell is asked for where the taken heights tell that it is lost
 pub record AsksTold (g : Game) (old new : Work) (cell : Cell) : Type 0 where
   pub step : LowersKeys g old new
   pub closed : IsClosed g (found_of g new) cell.at.number cell.at.context cell.pos.0 cell.state.0
+  pub due : new.due.items ≡ old.due.items
 
 -- the same of a pair beside a cell, where it is one of the cell's function
 pub record AsksPair (g : Game) (old new : Work) (cell : Cell) (pair : Pair) : Type 0 where

@@ -1,15 +1,14 @@
 -- Working definitions: the calls that return to each position.
-use Rattle.std.specs.Prelude.{◌≡◌, ℕ, ◌<◌, List, Some, length, slice_get, Contains}
+use Rattle.std.specs.Prelude.{◌≡◌, ℕ, ◌-◌, ◌<◌, ◌≤◌, List, true, Some, length, slice_get, slice_index, Contains}
 use Rattle.cw_core.specs.declared.ids.PosId.{PosId}
 use Rattle.cw_game.specs.Games.{Game, returned}
-use Rattle.cw_game.specs.Pairs.{Called, call_in, kept_at}
+use Rattle.cw_game.specs.Pairs.{has, Called, call_in, kept_at}
 use Rattle.cw_links.specs.Lists.{Chained, list_at}
 use Rattle.cw_product.specs.Moves.{pos_id}
 use Rattle.cw_solve.specs.declared.contexts.Context.{Context}
-use Rattle.cw_solve.specs.Contexts.{IsOf}
 use Rattle.cw_linked.specs.declared.work.Cell.{Cell}
 use Rattle.cw_linked.specs.declared.work.Work.{Work}
-use Rattle.cw_linked.specs.Founds.{Found, IsLink, IsFresh, IsStanding, Nothing, AllStanding}
+use Rattle.cw_linked.specs.Founds.{IsLink, IsStanding, Nothing, AllStanding}
 use Rattle.cw_linked.specs.Queues.{found_of, LowersKeys}
 
 -- a link of this list has the position
@@ -22,12 +21,23 @@ pub record AreReturns (g : Game) (returns : Chained PosId) : Type 0 where
   pub fine : (edge : ℕ) (pos : PosId) → slice_get returns.values edge ≡ Some pos → pos.0 < length g.spots
   pub leads : (p : ℕ) (call : Called) → p < length g.spots → call_in (slice_get g.spots p) ≡ Some call → HasReturn returns (list_at returns.lists call.back) p
 
--- each link of a position that returns to the cell stands, if it stood but for the states that return there
+-- a link goes to one of the contexts
+abbrev pub AreFew : Work → Type 0
+AreFew w = (k : ℕ) → k < length w.table.heights.items → slice_index w.to.items k ≤ length w.table.contexts.items
+
+-- the link at a place goes to a context whose promise has the state
+abbrev pub IsPromised : Work → (k x : ℕ) → Type 0
+IsPromised w k x = (c : Context) × (0 < slice_index w.to.items k) × (slice_get w.table.contexts.items (slice_index w.to.items k - 1) ≡ Some c) × (has c.promise x ≡ true)
+
+-- a call stands at p that returns to r
+abbrev pub Returns : Game → (p r : ℕ) → Type 0
+Returns g p r = (call : Called) × (call_in (slice_get g.spots p) ≡ Some call) × (call.back ≡ r)
+
+-- each link of a position that returns to the cell's position stands, as far as states return to the cell
 pub record AsksReturn (g : Game) (old new : Work) (cell : Cell) (p : ℕ) : Type 0 where
   pub step : LowersKeys g old new
-  pub standing : (k : ℕ) (call : Called) → IsLink g old.table.contexts.items cell.at.number cell.at.context p k call → call.back ≡ cell.pos.0 → IsFresh (found_of g old) cell.at.number p k
-      → ((x : ℕ) → x < g.states.count → (returned g.states (kept_at call.split k) x ≡ cell.state.0 → ⊥) → IsStanding g old.table.contexts.items (found_of g old) cell.at.number p k call x)
-      → IsFresh (found_of g new) cell.at.number p k × ((x : ℕ) → x < g.states.count → IsStanding g old.table.contexts.items (found_of g new) cell.at.number p k call x)
+  pub standing : (k : ℕ) (call : Called) → IsLink g old.table.contexts.items cell.at.number cell.at.context p k call → call.back ≡ cell.pos.0
+      → (x : ℕ) → x < g.states.count → returned g.states (kept_at call.split k) x ≡ cell.state.0 → IsStanding g old.table.contexts.items (found_of g new) cell.at.number p k call x
 
 pub record AsksReturns (g : Game) (old new : Work) : Type 0 where
   pub step : LowersKeys g old new

@@ -1,7 +1,5 @@
 -- Working definitions: what waits for a pair, the same in all contexts.
 use Rattle.std.specs.Prelude.{◌≡◌, ℕ, ◌+◌, ◌*◌, ◌<◌, List, Some, length, slice_get, Contains}
-use Rattle.cw_core.specs.declared.ids.PosId.{PosId}
-use Rattle.cw_core.specs.declared.ids.StateId.{StateId}
 use Rattle.cw_game.specs.Games.{Game}
 use Rattle.cw_links.specs.Lists.{Chained, list_at}
 use Rattle.cw_linked.specs.declared.edges.Pair.{Pair}

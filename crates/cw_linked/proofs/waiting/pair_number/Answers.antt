@@ -1,4 +1,4 @@
-use Rattle.std.proofs.Common.{◌≡◌, ◌<◌, ◌+◌, ◌*◌, ℕ, length, subst, sym, ap, arith}
+use Rattle.std.proofs.Common.{◌≡◌, ◌<◌, ◌+◌, ◌*◌, ℕ, length, subst, sym, arith}
 use Rattle.std.proofs.lemmas.Nat.{mul-add-lt}
 use Rattle.cw_product.specs.Product.{game_of}
 use Rattle.cw_linked.proofs.waiting.pair_number.Goals as goal

@@ -1,0 +1,222 @@
+-- A link of the least key is taken from the vectors, and tied: what the solver keeps then.
+use Rattle.std.proofs.Common.{◌≡◌, ℕ, ◌+◌, ◌*◌, ◌/◌, ◌<◌, ◌≤◌, List, Some, length, set, refl, sym, ap, ◌∙◌, subst, arith, inl, inr}
+use Rattle.std.specs.Prelude.{slice_get, slice_index, Contains}
+use Rattle.std.proofs.lemmas.Bool.{cases_eq}
+use Rattle.std.proofs.lemmas.Nat.{div-mul-add}
+use Rattle.std.proofs.lemmas.List.{length-set, get_or-set_same, get_or-set_other}
+use Rattle.cw_game.specs.Games.{Game}
+use Rattle.cw_game.specs.Pairs.{Called, call_in}
+use Rattle.cw_links.specs.Lists.{Chained, list_at}
+use Rattle.cw_solve.specs.declared.contexts.Context.{Context}
+use Rattle.cw_solve.specs.declared.table.Table.{Table}
+use Rattle.cw_solve.specs.Contexts.{IsSetOf}
+use Rattle.cw_solve.specs.Routes.{AreRouted}
+use Rattle.cw_solve.specs.Rounds.{IsCell, holds_by}
+use Rattle.cw_solve.specs.Tables.{IsTable}
+use Rattle.cw_solve.proofs.Slots.{same_slot}
+use Rattle.cw_linked.specs.declared.work.Cell.{Cell}
+use Rattle.cw_linked.specs.declared.work.Work.{Work}
+use Rattle.cw_linked.specs.Calls.{AreCallers}
+use Rattle.cw_linked.specs.Founds.{Found, class_of, AreAlike, IsLink, height_back, IsShrinking, AreRight, Nothing, AllClosed, AllCalled, AllStanding, AreAbove}
+use Rattle.cw_linked.specs.Popped.{FreesLink, IsWork}
+use Rattle.cw_linked.specs.Queues.{found_of, AreLong, AreSameBut, IsOwner, AreOwners, AreHigh, IsLinkAt, AreDue, IsCellAt}
+use Rattle.cw_linked.specs.Steps.{with_keys, Frees, IsReady, IsIt}
+use Rattle.cw_linked.specs.Tied.{IsFreed}
+use Rattle.cw_linked.specs.Works.{AreUpTo, place_at, value_at}
+use Rattle.cw_linked.proofs.Bounding.{place_is}
+use Rattle.cw_linked.proofs.Popping.{least_above}
+use Rattle.cw_linked.proofs.Telling.{below, up_to_set}
+use Rattle.cw_linked.proofs.Tying.{ready, freed_right, freed_standing}
+use Rattle.cw_linked.proofs.Working.{found_keys}
+use Rattle.cw_linked.proofs.Writing.{frees_written}
+
+half_odd : (a h n : ℕ) → a ≡ 2 * n + 1 → h ≡ a / 2 → a ≡ 2 * h + 1
+half_odd a h n e half =
+    let b : a ≡ n * 2 + 1 = omega (arith, e) in
+    let d : a / 2 ≡ n = ap (λ (y : ℕ). y / 2) b ∙ div-mul-add n 2 1 (omega arith) in
+    omega (arith, e, half, d)
+
+-- where only keys and buckets change
+module _ (g : Game) (old new : Work) (same : AreSameBut old new) where
+  pub same_table : old.table ≡ new.table
+  same_table = sym same.table
+
+  pub same_owners : AreOwners g old → AreOwners g new
+  same_owners owners k lt =
+      subst (λ (t : Table). IsOwner g t.contexts.items (slice_index new.owners.items k) k) same_table
+      (subst (λ (ys : List ℕ). IsOwner g old.table.contexts.items (slice_index ys k) k) (sym same.owners)
+      (owners k (subst (λ (t : Table). k < length t.heights.items) same.table lt)))
+
+  pub same_callers : AreCallers old → AreCallers new
+  same_callers c = record {
+    lists = ap (λ (y : Chained ℕ). length y.lists) same.callers ∙ c.lists ∙ sym same.lists;
+    more = subst (λ (n : ℕ). length new.table.contexts.items < n) (sym same.lists) (subst (λ (t : Table). length t.contexts.items < old.lists) same_table c.more);
+    values = ap (λ (y : Chained ℕ). length y.values) same.callers ∙ c.values ∙ ap (λ (t : Table). length t.heights.items) same_table;
+    there = λ k lt. subst (λ (y : Chained ℕ). Contains (list_at y.lists (slice_index new.to.items k)) k) (sym same.callers)
+        (subst (λ (ys : List ℕ). Contains (list_at old.callers.lists (slice_index ys k)) k) (sym same.to)
+        (c.there k (subst (λ (t : Table). k < length t.heights.items) same.table lt)));
+    few = λ k lt. subst (λ (ys : List ℕ). slice_index ys k ≤ length new.table.contexts.items) (sym same.to)
+        (subst (λ (t : Table). slice_index old.to.items k ≤ length t.contexts.items) same_table (c.few k (subst (λ (t : Table). k < length t.heights.items) same.table lt)));
+  }
+
+-- A link of the least key waits no more.
+module _ (g : Game) (functions : ℕ) (routed : AreRouted g functions) (alike : AreAlike g) (old new : Work) (work : IsWork g old) (place moves : ℕ) (frees : FreesLink old new place moves) where
+  abbrev Contexts : List Context
+  Contexts = old.table.contexts.items
+
+  tables : old.table ≡ new.table
+  tables = sym frees.others.table
+
+  lengths : length new.table.heights.items ≡ length old.table.heights.items
+  lengths = ap (λ (t : Table). length t.heights.items) frees.others.table
+
+  pub freed_table : IsTable g new.table
+  freed_table = subst (IsTable g) tables work.table
+
+  pub freed_long : AreLong new
+  freed_long = record {
+    owners = ap (λ (ys : List ℕ). length ys) frees.others.owners ∙ work.long.owners ∙ sym lengths;
+    asked = ap (λ (ys : List ℕ). length ys) frees.asked ∙ work.long.asked ∙ sym lengths;
+    due = ap (λ (ys : List ℕ). length ys) frees.due ∙ length-set old.due.items place 0 ∙ work.long.due ∙ sym lengths;
+    to = ap (λ (ys : List ℕ). length ys) frees.others.to ∙ work.long.to ∙ sym lengths;
+    waves = ap (λ (ys : List ℕ). length ys) frees.others.waves ∙ work.long.waves ∙ sym lengths;
+  }
+
+  pub freed_owners : AreOwners g new
+  freed_owners = same_owners g old new frees.others work.owners
+
+  freed_high : AreHigh new
+  freed_high =
+      let due : AreUpTo (set old.due.items place 0) (2 * old.table.written + 1)
+      = up_to_set old.due.items place 0 (2 * old.table.written + 1) (omega (arith, frees.within, work.long.due)) (omega arith) work.high.due in
+      record {
+        heights = subst (λ (t : Table). AreUpTo t.heights.items t.written) tables work.high.heights;
+        asked = subst (λ (t : Table). AreUpTo new.asked.items (2 * t.written + 2)) tables (subst (λ (ys : List ℕ). AreUpTo ys (2 * old.table.written + 2)) (sym frees.asked) work.high.asked);
+        due = subst (λ (t : Table). AreUpTo new.due.items (2 * t.written + 1)) tables (subst (λ (ys : List ℕ). AreUpTo ys (2 * old.table.written + 1)) (sym frees.due) due);
+        waves = subst (λ (t : Table). AreUpTo new.waves.items t.written) tables (subst (λ (ys : List ℕ). AreUpTo ys old.table.written) (sym frees.others.waves) work.high.waves);
+      }
+
+  free_here : slice_index new.due.items place ≡ 0
+  free_here = ap (λ (ys : List ℕ). slice_index ys place) frees.due ∙ get_or-set_same old.due.items place 0 0 (omega (arith, frees.within, work.long.due))
+
+  freed_dues : AreDue g new
+  freed_dues k lt some = elim (cases_eq k place) [
+    | inl e ↦ absurd (let z : slice_index new.due.items k ≡ 0 = ap (slice_index new.due.items) e ∙ free_here in omega (arith, z, some))
+    | inr ne ↦
+        let same : slice_index new.due.items k ≡ slice_index old.due.items k = ap (λ (ys : List ℕ). slice_index ys k) frees.due ∙ get_or-set_other old.due.items place k 0 0 ne in
+        let h = work.dues k (omega (arith, lt, lengths)) (omega (arith, some, same)) in (
+          subst (λ (t : Table). IsLinkAt g t.contexts.items k) tables h.0,
+          λ tied. let low = h.1 (subst (λ (ys : List ℕ). 0 < slice_index ys k) frees.others.to tied) in omega (arith, low, same),
+        )
+  ]
+
+  module _ (link : Cell) (at : IsCellAt g new place link) where
+    is_cell : IsCell g Contexts link.at.number link.at.context link.pos.0 link.state.0
+    is_cell = subst (λ (t : Table). IsCell g t.contexts.items link.at.number link.at.context link.pos.0 link.state.0) frees.others.table at.is
+
+    place_here : place ≡ place_at g Contexts link.at.number link.pos.0 link.state.0
+    place_here = at.place ∙ sym (place_is g new.table.contexts.items link.at.number link.at.context link.pos.0 link.state.0 at.is.at)
+        ∙ ap (λ (t : Table). place_at g t.contexts.items link.at.number link.pos.0 link.state.0) frees.others.table
+
+    functions_below : (i : ℕ) (c : Context) → slice_get Contexts i ≡ Some c → c.function < functions
+    functions_below = below g functions routed alike old old work.table
+
+    waiting : IsLinkAt g Contexts place × (0 < slice_index old.to.items place → 1 < slice_index old.due.items place)
+    waiting = work.dues place frees.within frees.some
+
+    -- it is a link
+    is_link : (call : Called) × IsLink g Contexts link.at.number link.at.context link.pos.0 link.state.0 call
+    is_link =
+        let l = waiting.0 in
+        let s = same_slot g Contexts l.0 link.at.number l.1 link.at.context l.2 link.pos.0 l.3 link.state.0 l.5.cell is_cell
+        (sym (place_is g Contexts l.0 l.1 l.2 l.3 l.5.cell.at) ∙ sym l.6 ∙ place_here ∙ place_is g Contexts link.at.number link.at.context link.pos.0 link.state.0 is_cell.at) in (
+          l.4,
+          record {
+            cell = is_cell;
+            calls = subst (λ (y : ℕ). call_in (slice_get g.spots y) ≡ Some l.4) s.position l.5.calls;
+            class = subst (λ (y : ℕ). class_of g l.4.split y ≡ y) s.state l.5.class;
+          },
+        )
+
+    due_is : (found_of g old).due link.at.number link.pos.0 link.state.0 ≡ slice_index old.due.items place
+    due_is = ap (slice_index old.due.items) (sym place_here)
+
+    due_odd : slice_index old.due.items place ≡ 2 * moves + 1
+    due_odd =
+        let l = work.found.right.due link.at.number link.at.context link.pos.0 link.state.0 is_link.0 is_link.1 (omega (arith, due_is, frees.some)) in
+        half_odd (slice_index old.due.items place) moves l.0 (sym due_is ∙ l.1) frees.half
+
+    key : (found_of g old).due link.at.number link.pos.0 link.state.0 ≡ 2 * moves + 1
+    key = due_is ∙ due_odd
+
+    above : AreAbove g Contexts (found_of g old) (2 * moves + 1)
+    above = subst (λ (k : ℕ). AreAbove g Contexts (found_of g old) k) due_odd (least_above g old work.table work.queued (slice_index old.due.items place) frees.least)
+
+    abbrev Due : ℕ → ℕ → ℕ → ℕ
+    Due = value_at g Contexts (set old.due.items place 0)
+
+    abbrev After : Found
+    After = with_keys (found_of g old) (value_at g Contexts old.asked.items) Due
+
+    found_new : found_of g new ≡ After
+    found_new = found_keys g old new frees.others
+        ∙ ap (λ (ys : List ℕ). with_keys (found_of g old) (value_at g Contexts ys) (value_at g Contexts new.due.items)) frees.asked
+        ∙ ap (λ (ys : List ℕ). with_keys (found_of g old) (value_at g Contexts old.asked.items) (value_at g Contexts ys)) frees.due
+
+    is_free : Frees g Contexts (found_of g old) Due link.at.number link.pos.0 link.state.0
+    is_free = subst (λ (k : ℕ). Frees g Contexts (found_of g old) (value_at g Contexts (set old.due.items k 0)) link.at.number link.pos.0 link.state.0) (sym place_here)
+        (frees_written g Contexts (found_of g old) link.at.number link.at.context link.pos.0 link.state.0 is_link.0 is_link.1 old.due.items (omega (arith, place_here, frees.within, work.long.due)) (λ i p k. refl))
+
+    was_ready : (call : Called) (set_is : ℕ) → IsLink g Contexts link.at.number link.at.context link.pos.0 link.state.0 call
+        → IsSetOf g set_is (λ y. holds_by moves (height_back g (found_of g old) link.at.number call link.state.0 y))
+        → IsReady g Contexts After link.at.number link.at.context link.pos.0 link.state.0 call moves set_is
+    was_ready call set_is here read =
+        let r = ready g functions routed alike Contexts functions_below (found_of g old) work.found moves above link.at.number link.at.context link.pos.0 link.state.0 call here key set_is read in
+        record { promise = r.promise; later = r.later; past = r.past }
+
+    was_shrinking : (call : Called) → IsLink g Contexts link.at.number link.at.context link.pos.0 link.state.0 call → 0 < slice_index old.to.items place
+        → IsShrinking g Contexts (found_of g old) link.at.number link.pos.0 link.state.0 call moves
+    was_shrinking call here tied =
+        let l = work.found.right.due link.at.number link.at.context link.pos.0 link.state.0 call here (omega (arith, key)) in
+        let more = waiting.1 tied in
+        let e : l.0 ≡ moves = omega (arith, l.1, key) in
+        subst (λ (n : ℕ). IsShrinking g Contexts (found_of g old) link.at.number link.pos.0 link.state.0 call n) e (l.2 (omega (arith, more, due_odd, e)))
+
+    there : IsLink g new.table.contexts.items link.at.number link.at.context link.pos.0 link.state.0 is_link.0
+    there = subst (λ (t : Table). IsLink g t.contexts.items link.at.number link.at.context link.pos.0 link.state.0 is_link.0) tables is_link.1
+
+    pub is_freed : IsFreed g new link place moves
+    is_freed = record {
+      firm = record {
+        table = freed_table;
+        long = freed_long;
+        owners = freed_owners;
+        queued = frees.queued;
+        high = freed_high;
+        callers = same_callers g old new frees.others work.callers;
+        dues = freed_dues;
+        right = subst (λ (t : Table). AreRight g t.contexts.items (found_of g new)) tables (subst (λ (s : Found). AreRight g Contexts s) (sym found_new)
+            (freed_right g functions routed alike Contexts functions_below (found_of g old) work.found link.at.number link.at.context link.pos.0 link.state.0 is_link.0 is_link.1 Due is_free));
+      };
+      at = at;
+      low = (let h = work.high.due place in let e = ap (λ (t : Table). t.written) tables in omega (arith, h, e, due_odd));
+      call = (is_link.0, there);
+      free = free_here;
+      closed = subst (λ (t : Table). AllClosed g t.contexts.items (found_of g new) Nothing) tables (subst (λ (s : Found). AllClosed g Contexts s Nothing) (sym found_new) work.found.closed);
+      called = subst (λ (t : Table). AllCalled g t.contexts.items (found_of g new) Nothing) tables (subst (λ (s : Found). AllCalled g Contexts s Nothing) (sym found_new) work.found.called);
+      standing = subst (λ (t : Table). AllStanding g t.contexts.items (found_of g new) (IsIt link.at.number link.pos.0 link.state.0)) tables
+          (subst (λ (s : Found). AllStanding g Contexts s (IsIt link.at.number link.pos.0 link.state.0)) (sym found_new)
+          (freed_standing g functions routed alike Contexts functions_below (found_of g old) work.found link.at.number link.at.context link.pos.0 link.state.0 is_link.0 is_link.1 Due is_free));
+      ready = λ call set_is is.
+          subst (λ (t : Table). IsLink g t.contexts.items link.at.number link.at.context link.pos.0 link.state.0 call
+          → IsSetOf g set_is (λ y. holds_by moves (height_back g (found_of g new) link.at.number call link.state.0 y))
+          → IsReady g t.contexts.items (found_of g new) link.at.number link.at.context link.pos.0 link.state.0 call moves set_is) tables
+          (subst (λ (s : Found). IsLink g Contexts link.at.number link.at.context link.pos.0 link.state.0 call
+          → IsSetOf g set_is (λ y. holds_by moves (height_back g s link.at.number call link.state.0 y))
+          → IsReady g Contexts s link.at.number link.at.context link.pos.0 link.state.0 call moves set_is) (sym found_new)
+          (λ here read. was_ready call set_is here read)) is;
+      shrinks = λ call is tied.
+          subst (λ (t : Table). IsLink g t.contexts.items link.at.number link.at.context link.pos.0 link.state.0 call → IsShrinking g t.contexts.items (found_of g new) link.at.number link.pos.0 link.state.0 call moves) tables
+          (subst (λ (s : Found). IsLink g Contexts link.at.number link.at.context link.pos.0 link.state.0 call → IsShrinking g Contexts s link.at.number link.pos.0 link.state.0 call moves) (sym found_new)
+          (λ here. was_shrinking call here (subst (λ (ys : List ℕ). 0 < slice_index ys place) frees.others.to tied))) is;
+    }

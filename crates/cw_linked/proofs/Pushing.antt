@@ -1,0 +1,195 @@
+-- A context is added to the vectors: what stands there then.
+use Rattle.std.proofs.Common.{◌≡◌, ℕ, ◌+◌, ◌-◌, ◌*◌, ◌<◌, ◌≤◌, List, [], ◌∷◌, ◌++◌, cond, length, get_or, take, replicate, refl, sym, ap, ◌∙◌, subst, arith, inl, inr}
+use Rattle.std.specs.Prelude.{slice_get, slice_index, count_by}
+use Rattle.std.proofs.lemmas.Bool.{cases_lt}
+use Rattle.std.proofs.lemmas.List.{length-replicate, length-append, length_push, get_or-replicate, get_or_past, get_or_append_left, get_or-append_right, take-append-le, take_all}
+use Rattle.std.proofs.lemmas.List.Sums.{sum_by-append, sum_by_push}
+use Rattle.std.proofs.lemmas.Option.{slice_get_within}
+use Rattle.cw_game.specs.Games.{Game}
+use Rattle.cw_game.specs.Pairs.{Called}
+use Rattle.cw_solve.specs.declared.contexts.Context.{Context}
+use Rattle.cw_solve.specs.Contexts.{size, cells_of, AreNeeded}
+use Rattle.cw_solve.specs.Rounds.{base, IsCell}
+use Rattle.cw_solve.specs.Tables.{is_none, IsTable, AreTabled}
+use Rattle.cw_solve.proofs.Fresh.{none_written, values_more}
+use Rattle.cw_solve.proofs.Slots.{within, slot_within}
+use Rattle.cw_linked.specs.declared.work.Work.{Work}
+use Rattle.cw_linked.specs.Added.{AreBlocks, Pushes}
+use Rattle.cw_linked.specs.Founds.{IsLink}
+use Rattle.cw_linked.specs.Queues.{AreLong, IsOwner, AreOwners, AreHigh, IsLinkAt, AreDue}
+use Rattle.cw_linked.specs.Works.{AreUpTo, place_at, value_at}
+use Rattle.cw_linked.proofs.Adding.{before_push, after_push}
+use Rattle.cw_linked.proofs.Bounding.{place_is}
+
+-- no number of a longer vector is above
+pub up_to_append : (values : List ℕ) (n v most : ℕ) → v ≤ most → AreUpTo values most → AreUpTo (values ++ replicate n v) most
+up_to_append values n v most le up k =
+    elim (cases_lt k (length values)) [
+      | inl lt ↦ let e = get_or_append_left values (replicate n v) 0 k lt in let h = up k in omega (arith, e, h)
+      | inr ge ↦
+          let e = get_or-append_right values (replicate n v) (length values) k 0 refl ge in
+          elim (cases_lt (k - length values) n) [
+            | inl lt ↦ let w = get_or-replicate n (k - length values) v 0 lt in omega (arith, e, w, le)
+            | inr past ↦ let w = get_or_past (replicate n v) (k - length values) 0 (let l = length-replicate {A = ℕ} n v in omega (arith, l, past)) in omega (arith, e, w)
+          ]
+    ]
+
+module _ (g : Game) (contexts : List Context) (new : Context) where
+  abbrev Longer : List Context
+  Longer = contexts ++ new ∷ []
+
+  pub base_before : (i : ℕ) → i ≤ length contexts → base g Longer i ≡ base g contexts i
+  base_before i le = ap (λ (cs : List Context). cells_of g cs) (take-append-le i contexts (new ∷ []) le)
+
+  pub base_end : base g Longer (length contexts) ≡ cells_of g contexts
+  base_end = base_before (length contexts) (omega arith) ∙ ap (λ (cs : List Context). cells_of g cs) (take_all (length contexts) contexts (omega arith))
+
+  pub cells_longer : cells_of g Longer ≡ cells_of g contexts + size g new.function
+  cells_longer = sum_by_push (λ (c : Context). size g c.function) contexts new
+
+  pub cell_on : (i : ℕ) (c : Context) (p q : ℕ) → IsCell g contexts i c p q → IsCell g Longer i c p q
+  cell_on i c p q is = record { at = before_push contexts new i c is.at; of = is.of; state = is.state }
+
+  pub link_on : (i : ℕ) (c : Context) (p x : ℕ) (call : Called) → IsLink g contexts i c p x call → IsLink g Longer i c p x call
+  link_on i c p x call is = record { cell = cell_on i c p x is.cell; calls = is.calls; class = is.class }
+
+  pub place_on : (i : ℕ) (c : Context) (p q : ℕ) → IsCell g contexts i c p q → place_at g Longer i p q ≡ place_at g contexts i p q
+  place_on i c p q is =
+      let lt = slice_get_within contexts i c is.at in
+      place_is g Longer i c p q (before_push contexts new i c is.at)
+      ∙ ap (λ (b : ℕ). b + ((p - g.entry c.function) * g.states.count + q)) (base_before i (omega (arith, lt)))
+      ∙ sym (place_is g contexts i c p q is.at)
+
+  -- what stood for a cell stands there still
+  pub value_on : (values more : List ℕ) → length values ≡ cells_of g contexts → (i : ℕ) (c : Context) (p q : ℕ) → IsCell g contexts i c p q
+      → value_at g Longer (values ++ more) i p q ≡ value_at g contexts values i p q
+  value_on values more long i c p q is =
+      let inside : place_at g contexts i p q < length values = omega (arith, place_is g contexts i c p q is.at, slot_within g contexts i c p q is, long) in
+      ap (λ (k : ℕ). get_or (values ++ more) k 0) (place_on i c p q is) ∙ get_or_append_left values more 0 (place_at g contexts i p q) inside
+
+  -- and a new cell has what is added
+  pub value_new : (values : List ℕ) (v : ℕ) → length values ≡ cells_of g contexts → (p q : ℕ) → IsCell g Longer (length contexts) new p q
+      → value_at g Longer (values ++ replicate (size g new.function) v) (length contexts) p q ≡ v
+  value_new values v long p q is =
+      let at = after_push contexts new in
+      let row = within g Longer (length contexts) new p q is in
+      let place : place_at g Longer (length contexts) p q ≡ length values + ((p - g.entry new.function) * g.states.count + q)
+      = place_is g Longer (length contexts) new p q at ∙ ap (λ (b : ℕ). b + ((p - g.entry new.function) * g.states.count + q)) (base_end ∙ sym long) in
+      let rest : place_at g Longer (length contexts) p q - length values ≡ (p - g.entry new.function) * g.states.count + q = omega (arith, place) in
+      get_or-append_right values (replicate (size g new.function) v) (length values) (place_at g Longer (length contexts) p q) 0 refl (omega (arith, place))
+      ∙ ap (λ (k : ℕ). get_or (replicate (size g new.function) v) k 0) rest
+      ∙ get_or-replicate (size g new.function) ((p - g.entry new.function) * g.states.count + q) v 0 row
+
+module _ (g : Game) (old new : Work) (c : Context) (blocks : AreBlocks g old.table) (pushes : Pushes old new c (size g c.function)) where
+  abbrev Contexts : List Context
+  Contexts = old.table.contexts.items
+
+  abbrev More : List Context
+  More = Contexts ++ c ∷ []
+
+  abbrev many : ℕ
+  many = size g c.function
+
+  cells : length new.table.heights.items ≡ length old.table.heights.items + many
+  cells = ap (λ (ys : List ℕ). length ys) pushes.heights ∙ length-append old.table.heights.items (replicate many 0) ∙ ap (λ (n : ℕ). length old.table.heights.items + n) (length-replicate {A = ℕ} many 0)
+
+  counted : new.table.written + count_by is_none new.table.heights.items ≡ length new.table.heights.items
+  counted =
+      let w = pushes.written in
+      let hs = ap (λ (ys : List ℕ). count_by is_none ys) pushes.heights in
+      let both = sum_by-append (λ (x : ℕ). cond (is_none x) 1 0) old.table.heights.items (replicate many 0) in
+      let all = none_written many in
+      omega (arith, w, hs, both, all, cells, blocks.counted)
+
+  longer : length new.table.contexts.items ≡ length Contexts + 1
+  longer = ap (λ (cs : List Context). length cs) pushes.contexts ∙ length_push Contexts c
+
+  pub pushed_table : AreTabled g More → IsTable g new.table
+  pushed_table tabled = record {
+    first = ap (λ (cs : List Context). slice_get cs 0) pushes.contexts ∙ tabled.first;
+    needed = subst (λ (cs : List Context). AreNeeded g cs) (sym pushes.contexts) tabled.needed;
+    begins = λ i lt. ap (λ (bs : List ℕ). slice_index bs i) pushes.bases
+        ∙ values_more (λ n. cells_of g (take n More)) old.table.bases.items (length Contexts) (length old.table.heights.items) blocks.bases
+        (λ k less. blocks.begins k less ∙ sym (base_before g Contexts c k (omega (arith, less)))) (blocks.cells ∙ sym (base_end g Contexts c)) i (omega (arith, lt, longer))
+        ∙ ap (λ (cs : List Context). cells_of g (take i cs)) (sym pushes.contexts);
+    bases = ap (λ (bs : List ℕ). length bs) pushes.bases ∙ length_push old.table.bases.items (length old.table.heights.items) ∙ ap (λ (n : ℕ). n + 1) blocks.bases ∙ sym longer;
+    cells = cells ∙ ap (λ (n : ℕ). n + many) blocks.cells ∙ sym (cells_longer g Contexts c) ∙ ap (λ (cs : List Context). cells_of g cs) (sym pushes.contexts);
+    few = subst (λ (cs : List Context). cells_of g cs ≤ 4194304) (sym pushes.contexts) tabled.few;
+    counted = counted;
+  }
+
+  longer_by : (xs ys : List ℕ) (v : ℕ) → length xs ≡ length old.table.heights.items → ys ≡ xs ++ replicate many v → length ys ≡ length new.table.heights.items
+  longer_by xs ys v long is =
+      ap (λ (zs : List ℕ). length zs) is ∙ length-append xs (replicate many v) ∙ ap (λ (n : ℕ). length xs + n) (length-replicate {A = ℕ} many v)
+      ∙ ap (λ (n : ℕ). n + many) long ∙ sym cells
+
+  pub pushed_long : AreLong old → AreLong new
+  pushed_long long = record {
+    owners = longer_by old.owners.items new.owners.items (length Contexts) long.owners pushes.owners;
+    asked = longer_by old.asked.items new.asked.items 0 long.asked pushes.asked;
+    due = longer_by old.due.items new.due.items 0 long.due pushes.due;
+    to = longer_by old.to.items new.to.items 0 long.to pushes.to;
+    waves = longer_by old.waves.items new.waves.items 0 long.waves pushes.waves;
+  }
+
+  pub pushed_high : AreHigh old → AreHigh new
+  pushed_high high = record {
+    heights = subst (λ (n : ℕ). AreUpTo new.table.heights.items n) (sym pushes.written) (subst (λ (ys : List ℕ). AreUpTo ys old.table.written) (sym pushes.heights)
+        (up_to_append old.table.heights.items many 0 old.table.written (omega arith) high.heights));
+    asked = subst (λ (n : ℕ). AreUpTo new.asked.items (2 * n + 2)) (sym pushes.written) (subst (λ (ys : List ℕ). AreUpTo ys (2 * old.table.written + 2)) (sym pushes.asked)
+        (up_to_append old.asked.items many 0 (2 * old.table.written + 2) (omega arith) high.asked));
+    due = subst (λ (n : ℕ). AreUpTo new.due.items (2 * n + 1)) (sym pushes.written) (subst (λ (ys : List ℕ). AreUpTo ys (2 * old.table.written + 1)) (sym pushes.due)
+        (up_to_append old.due.items many 0 (2 * old.table.written + 1) (omega arith) high.due));
+    waves = subst (λ (n : ℕ). AreUpTo new.waves.items n) (sym pushes.written) (subst (λ (ys : List ℕ). AreUpTo ys old.table.written) (sym pushes.waves)
+        (up_to_append old.waves.items many 0 old.table.written (omega arith) high.waves));
+  }
+
+  -- each new place is one of the new context
+  pub pushed_owners : AreLong old → AreOwners g old → AreOwners g new
+  pushed_owners long owners k lt =
+      subst (λ (cs : List Context). IsOwner g cs (slice_index new.owners.items k) k) (sym pushes.contexts)
+      (subst (λ (ys : List ℕ). IsOwner g More (slice_index ys k) k) (sym pushes.owners)
+      (elim (cases_lt k (length old.table.heights.items)) [
+        | inl before ↦
+            let o = owners k before in
+            let e = get_or_append_left old.owners.items (replicate many (length Contexts)) 0 k (omega (arith, before, long.owners)) in
+            subst (λ (i : ℕ). IsOwner g More i k) (sym e) (owner_on (slice_index old.owners.items k) k o)
+        | inr after ↦
+            let e = get_or-append_right old.owners.items (replicate many (length Contexts)) (length old.owners.items) k 0 refl (omega (arith, after, long.owners)) in
+            let v = get_or-replicate many (k - length old.owners.items) (length Contexts) 0 (omega (arith, after, long.owners, lt, cells)) in
+            subst (λ (i : ℕ). IsOwner g More i k) (sym (e ∙ v)) (
+              omega (arith, length_push Contexts c),
+              (let b = base_end g Contexts c in omega (arith, b, after, blocks.cells)),
+              (let b = base_past in omega (arith, b, lt, cells, blocks.cells, cells_longer g Contexts c)),
+            )
+      ]))
+    where
+      base_past : base g More (length Contexts + 1) ≡ cells_of g More
+      base_past = ap (λ (cs : List Context). cells_of g cs) (take_all (length Contexts + 1) More (omega (arith, length_push Contexts c)))
+
+      owner_on : (i k : ℕ) → IsOwner g Contexts i k → IsOwner g More i k
+      owner_on i k o = (
+        omega (arith, o.0, length_push Contexts c),
+        (let b = base_before g Contexts c i (omega (arith, o.0)) in omega (arith, b, o.1)),
+        (let b = base_before g Contexts c (i + 1) (omega (arith, o.0)) in omega (arith, b, o.2)),
+      )
+
+  pub pushed_dues : AreLong old → AreDue g old → AreDue g new
+  pushed_dues long dues k lt some =
+      elim (cases_lt k (length old.table.heights.items)) [
+        | inl before ↦
+            let e : slice_index new.due.items k ≡ slice_index old.due.items k = ap (λ (ys : List ℕ). slice_index ys k) pushes.due ∙ get_or_append_left old.due.items (replicate many 0) 0 k (omega (arith, before, long.due)) in
+            let t : slice_index new.to.items k ≡ slice_index old.to.items k = ap (λ (ys : List ℕ). slice_index ys k) pushes.to ∙ get_or_append_left old.to.items (replicate many 0) 0 k (omega (arith, before, long.to)) in
+            let h = dues k before (omega (arith, some, e)) in (
+              subst (λ (cs : List Context). IsLinkAt g cs k) (sym pushes.contexts) (link_there k h.0),
+              λ tied. let low = h.1 (omega (arith, tied, t)) in omega (arith, low, e),
+            )
+        | inr after ↦
+            let e : slice_index new.due.items k ≡ 0 = ap (λ (ys : List ℕ). slice_index ys k) pushes.due
+            ∙ get_or-append_right old.due.items (replicate many 0) (length old.due.items) k 0 refl (omega (arith, after, long.due))
+            ∙ get_or-replicate many (k - length old.due.items) 0 0 (omega (arith, after, long.due, lt, cells)) in
+            absurd (omega (arith, e, some))
+      ]
+    where
+      link_there : (k : ℕ) → IsLinkAt g Contexts k → IsLinkAt g More k
+      link_there k l = (l.0, l.1, l.2, l.3, l.4, link_on g Contexts c l.0 l.1 l.2 l.3 l.4 l.5, l.6 ∙ sym (place_on g Contexts c l.0 l.1 l.2 l.3 l.5.cell))

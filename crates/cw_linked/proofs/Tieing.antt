@@ -1,0 +1,219 @@
+-- A link is tied in the vectors, and what is left to do then is done state by state.
+use Rattle.std.proofs.Common.{◌≡◌, ℕ, suc, ◌+◌, ◌<◌, ◌≤◌, List, ◌∷◌, Some, length, set, refl, sym, ap, ◌∙◌, subst, arith, inl, inr}
+use Rattle.std.specs.Prelude.{slice_get, slice_index, Contains}
+use Rattle.std.proofs.lemmas.Bool.{cases_eq, cases_lt}
+use Rattle.std.proofs.lemmas.List.{get_or-set_same, get_or-set_other}
+use Rattle.std.proofs.lemmas.Option.{same_Some}
+use Rattle.cw_game.specs.Games.{Game, returned}
+use Rattle.cw_game.specs.Pairs.{Called, call_in, kept_at}
+use Rattle.cw_links.specs.Lists.{list_at, without, with_front}
+use Rattle.cw_links.proofs.CallerLemmas.{length-without, length-with_front, list_at-with_front_same, list_at-with_front_other, Contains-without_other}
+use Rattle.cw_solve.specs.declared.contexts.Context.{Context}
+use Rattle.cw_solve.specs.declared.table.Table.{Table}
+use Rattle.cw_solve.specs.declared.table.Tabled.{Tabled}
+use Rattle.cw_solve.specs.Contexts.{context}
+use Rattle.cw_solve.specs.Routes.{AreRouted}
+use Rattle.cw_solve.specs.Rounds.{IsCell}
+use Rattle.cw_solve.specs.Tables.{IsTable, HasCell}
+use Rattle.cw_solve.proofs.Falls.{not_both}
+use Rattle.cw_linked.specs.declared.work.Cell.{Cell}
+use Rattle.cw_linked.specs.declared.work.Work.{Work}
+use Rattle.cw_linked.specs.Calls.{AreCallers, AsksCaller}
+use Rattle.cw_linked.specs.Founds.{Found, class_of, AreAlike, IsLink, IsTied, height_back, AreRight, IsCalled, IsStanding, IsFresh, Nothing, AllCalled, AllStanding}
+use Rattle.cw_linked.specs.Queues.{found_of, AreQueued, AreLong, AreHigh, LowersKeys, IsCellAt}
+use Rattle.cw_linked.specs.Returns.{Returns, AsksReturn}
+use Rattle.cw_linked.specs.Steps.{IsSame, CallsBy, IsIt}
+use Rattle.cw_linked.specs.Tied.{CallsFrom}
+use Rattle.cw_linked.specs.Works.{heights_of, place_at, value_at}
+use Rattle.cw_linked.proofs.Backs.{stands_on}
+use Rattle.cw_linked.proofs.Bounding.{place_is}
+use Rattle.cw_linked.proofs.Callers.{is_tied}
+use Rattle.cw_linked.proofs.Closing.{called_none}
+use Rattle.cw_linked.proofs.Least.{link_of, back_of}
+use Rattle.cw_linked.proofs.Lowering.{link_is}
+use Rattle.cw_linked.proofs.Taking.{one_call}
+use Rattle.cw_linked.proofs.Telling.{below, still_standing, still_called, nothing}
+use Rattle.cw_linked.proofs.Working.{found_keys}
+
+first_is : (c : ℕ) (xs : List ℕ) → Contains (c ∷ xs) c
+first_is c xs = (0, omega arith, refl)
+
+later_is : (c y : ℕ) (xs : List ℕ) → Contains xs y → Contains (c ∷ xs) y
+later_is c y xs h = (suc h.0, omega (arith, h.1), h.2)
+
+-- a link that is moved to another list stands there, and the others where they stood
+pub moved_there : (lists : List (List ℕ)) (to : List ℕ) (place l : ℕ) → l < length lists → place < length to → ((k : ℕ) → k < length to → slice_index to k < length lists)
+    → ((k : ℕ) → k < length to → Contains (list_at lists (slice_index to k)) k)
+    → (k : ℕ) → k < length to → Contains (list_at (with_front (without lists place) l place) (slice_index (set to place l) k)) k
+moved_there lists to place l lt inside few there k within =
+    let long : l < length (without lists place) = (let e = length-without lists place in omega (arith, e, lt)) in
+    elim (cases_eq k place) [
+      | inl e ↦
+          let list : slice_index (set to place l) k ≡ l = ap (slice_index (set to place l)) e ∙ get_or-set_same to place l 0 inside in
+          subst (λ (y : ℕ). Contains (list_at (with_front (without lists place) l place) y) k) (sym list)
+          (subst (λ (ys : List ℕ). Contains ys k) (sym (list_at-with_front_same (without lists place) l place long))
+          (subst (λ (y : ℕ). Contains (place ∷ list_at (without lists place) l) y) (sym e) (first_is place (list_at (without lists place) l))))
+      | inr ne ↦
+          let list : slice_index (set to place l) k ≡ slice_index to k = get_or-set_other to place k l 0 ne in
+          let rest : Contains (list_at (without lists place) (slice_index to k)) k = Contains-without_other lists place (slice_index to k) k ne (there k within) in
+          subst (λ (y : ℕ). Contains (list_at (with_front (without lists place) l place) y) k) (sym list)
+          (elim (cases_eq (slice_index to k) l) [
+            | inl same ↦ subst (λ (y : ℕ). Contains (list_at (with_front (without lists place) l place) y) k) (sym same)
+                (subst (λ (ys : List ℕ). Contains ys k) (sym (list_at-with_front_same (without lists place) l place long))
+                (later_is place k (list_at (without lists place) l) (subst (λ (y : ℕ). Contains (list_at (without lists place) y) k) same rest)))
+            | inr apart ↦ subst (λ (ys : List ℕ). Contains ys k) (sym (list_at-with_front_other (without lists place) l place (slice_index to k) apart)) rest
+          ])
+    ]
+
+pub tied_callers : (old new : Work) (place number : ℕ) → AreCallers old → place < length old.table.heights.items → number < length old.table.contexts.items → length old.to.items ≡ length old.table.heights.items
+    → new.table ≡ old.table → new.lists ≡ old.lists → new.to.items ≡ set old.to.items place (number + 1) → new.callers.lists ≡ with_front (without old.callers.lists place) (number + 1) place
+    → new.callers.values ≡ old.callers.values → AreCallers new
+tied_callers old new place number c inside few long table lists to moved values = record {
+  lists = ap (λ (ls : List (List ℕ)). length ls) moved ∙ length-with_front (without old.callers.lists place) (number + 1) place ∙ length-without old.callers.lists place ∙ c.lists ∙ sym lists;
+  more = subst (λ (n : ℕ). length new.table.contexts.items < n) (sym lists) (subst (λ (t : Table). length t.contexts.items < old.lists) (sym table) c.more);
+  values = ap (λ (vs : List ℕ). length vs) values ∙ c.values ∙ ap (λ (t : Table). length t.heights.items) (sym table);
+  there = λ k lt. subst (λ (ls : List (List ℕ)). Contains (list_at ls (slice_index new.to.items k)) k) (sym moved)
+      (subst (λ (ys : List ℕ). Contains (list_at (with_front (without old.callers.lists place) (number + 1) place) (slice_index ys k)) k) (sym to)
+      (moved_there old.callers.lists old.to.items place (number + 1) (omega (arith, c.lists, c.more, few)) (omega (arith, inside, long))
+      (λ j less. let f = c.few j (omega (arith, less, long)) in omega (arith, f, c.lists, c.more)) (λ j less. c.there j (omega (arith, less, long)))
+      k (omega (arith, long, old_length k lt))));
+  few = λ k lt. subst (λ (ys : List ℕ). slice_index ys k ≤ length new.table.contexts.items) (sym to)
+      (subst (λ (t : Table). slice_index (set old.to.items place (number + 1)) k ≤ length t.contexts.items) (sym table)
+      (elim (cases_eq k place) [
+        | inl e ↦ let v : slice_index (set old.to.items place (number + 1)) k ≡ number + 1 = ap (slice_index (set old.to.items place (number + 1))) e ∙ get_or-set_same old.to.items place (number + 1) 0 (omega (arith, inside, long)) in omega (arith, v, few)
+        | inr ne ↦ let v = get_or-set_other old.to.items place k (number + 1) 0 ne in let f = c.few k (old_length k lt) in omega (arith, v, f)
+      ]));
+}
+  where
+    old_length : (k : ℕ) → k < length new.table.heights.items → k < length old.table.heights.items
+    old_length k lt = subst (λ (t : Table). k < length t.heights.items) table lt
+
+module _ (g : Game) (functions : ℕ) (routed : AreRouted g functions) (alike : AreAlike g) where
+  -- A callee that isn't lost from a state has no call to ask for.
+  pub unlost_call : (w : Work) → IsTable g w.table → AreLong w → AreQueued w → AreHigh w → AreRight g w.table.contexts.items (found_of g w) → (place : ℕ) (cell : Cell) → heights_of g w.table cell.at.number cell.pos.0 cell.state.0 ≡ 0 → AsksCaller g w w place cell
+  unlost_call w table long queued high right place cell none = record {
+    step = nothing g w long queued high right;
+    called = λ i c p q call is es goes at.
+        called_none g functions routed alike w.table.contexts.items (below g functions routed alike w w table) (found_of g w) i p q call es
+        (ap (λ (y : ℕ). heights_of g w.table y (g.entry call.function) q) goes.0 ∙ ap (λ (y : ℕ). heights_of g w.table cell.at.number y q) goes.1
+        ∙ ap (λ (y : ℕ). heights_of g w.table cell.at.number cell.pos.0 y) goes.2 ∙ none);
+  }
+
+  -- and no link
+  pub unlost_return : (w : Work) → AreLong w → AreQueued w → AreHigh w → AreRight g w.table.contexts.items (found_of g w) → (cell : Cell) (p : ℕ) → heights_of g w.table cell.at.number cell.pos.0 cell.state.0 ≡ 0 → AsksReturn g w w cell p
+  unlost_return w long queued high right cell p none = record {
+    step = nothing g w long queued high right;
+    standing = λ k call link back x lt same tied set goes member some.
+        let e : height_back g (found_of g w) cell.at.number call k x ≡ 0 = ap (λ (y : ℕ). heights_of g w.table cell.at.number y (returned g.states (kept_at call.split k) x)) back
+        ∙ ap (λ (y : ℕ). heights_of g w.table cell.at.number cell.pos.0 y) same ∙ none in
+        absurd (omega (arith, e, some));
+  }
+
+  -- The calls of a link, state by state.
+  pub all_from : (cs : List Context) (s : Found) (j r x : ℕ) → AllCalled g cs s (CallsBy g j r x) → AllCalled g cs s (CallsFrom g j r x 0)
+  all_from cs s j r x all i c p q is = elim (all i c p q is) [ inl called ↦ inl called | inr rest ↦ inr (rest, omega arith) ]
+
+  pub none_from : (cs : List Context) (s : Found) (j r x from : ℕ) → g.states.count ≤ from → AllCalled g cs s (CallsFrom g j r x from) → AllCalled g cs s Nothing
+  none_from cs s j r x from most all i c p q is = elim (all i c p q is) [ inl called ↦ inl called | inr rest ↦ absurd (let lt = is.state in omega (arith, lt, most, rest.1)) ]
+
+  module _ (w mid new : Work) (table : IsTable g w.table) (step : LowersKeys g w mid) where
+    abbrev Contexts : List Context
+    Contexts = w.table.contexts.items
+
+    tables : w.table ≡ mid.table
+    tables = sym step.others.table
+
+    mid_table : IsTable g mid.table
+    mid_table = subst (IsTable g) tables table
+
+    pub one_from : (place : ℕ) (link : Cell) → IsCellAt g w place link → (cell : Cell) → slice_get Contexts cell.at.number ≡ Some cell.at.context → cell.pos.0 ≡ g.entry cell.at.context.function
+        → slice_index w.to.items place ≡ suc cell.at.number → AsksCaller g mid new place cell
+        → AllCalled g Contexts (found_of g mid) (CallsFrom g link.at.number link.pos.0 link.state.0 cell.state.0)
+        → AllCalled g Contexts (found_of g new) (CallsFrom g link.at.number link.pos.0 link.state.0 (cell.state.0 + 1))
+    one_from place link at cell callee entry goes asks all i c p q is =
+        elim (later i c p q is) [
+          | inl called ↦ inl called
+          | inr rest ↦ elim (cases_lt cell.state.0 q) [
+            | inl more ↦ inr (rest.0, omega (arith, more))
+            | inr le ↦ inl (asked rest.0.0 rest.0.1 rest.0.2 (omega (arith, le, rest.1)))
+          ]
+        ]
+      where
+        later : AllCalled g Contexts (found_of g new) (CallsFrom g link.at.number link.pos.0 link.state.0 cell.state.0)
+        later = subst (λ (t : Table). AllCalled g t.contexts.items (found_of g new) (CallsFrom g link.at.number link.pos.0 link.state.0 cell.state.0)) (sym tables)
+            (still_called g functions routed alike mid new mid_table asks.step.others asks.step.lowers _
+            (subst (λ (t : Table). AllCalled g t.contexts.items (found_of g mid) (CallsFrom g link.at.number link.pos.0 link.state.0 cell.state.0)) tables all))
+
+        asked : (call : Called) → call_in (slice_get g.spots p) ≡ Some call → IsSame i p (class_of g call.split q) link.at.number link.pos.0 link.state.0 → q ≡ cell.state.0 → IsCalled g (found_of g new) i p q
+        asked call es same state =
+            let k = class_of g call.split q in
+            let spot : place_at g Contexts i p k ≡ place_at g Contexts link.at.number link.pos.0 link.state.0
+            = ap (λ (y : ℕ). place_at g Contexts y p k) same.0 ∙ ap (λ (y : ℕ). place_at g Contexts link.at.number y k) same.1 ∙ ap (λ (y : ℕ). place_at g Contexts link.at.number link.pos.0 y) same.2 in
+            let here : place ≡ place_at g Contexts i p k = at.place ∙ sym (place_is g Contexts link.at.number link.at.context link.pos.0 link.state.0 at.is.at) ∙ sym spot in
+            let value : value_at g Contexts w.to.items i p k ≡ suc cell.at.number = ap (slice_index w.to.items) (sym here) ∙ goes in
+            let now : value_at g Contexts mid.to.items i p k ≡ suc cell.at.number = ap (λ (ys : List ℕ). value_at g Contexts ys i p k) step.others.to ∙ value in
+            let there : value_at g mid.table.contexts.items mid.to.items i p k ≡ suc cell.at.number = subst (λ (t : Table). value_at g t.contexts.items mid.to.items i p k ≡ suc cell.at.number) tables now in
+            let to : (found_of g mid).to i p k ≡ cell.at.number = omega (arith, there) in
+            let is_mid : IsCell g mid.table.contexts.items i c p q = subst (λ (t : Table). IsCell g t.contexts.items i c p q) tables is in
+            let linked : IsLink g Contexts i c p k call = link_of g functions routed alike Contexts (below g functions routed alike w w table) i c p q call is es in
+            let l = step.right.linked i c p k call linked (is_tied (value_at g mid.table.contexts.items mid.to.items i p k) cell.at.number there) in
+            let function : context call.function l.0 ≡ cell.at.context = same_Some _ _ (sym l.1 ∙ ap (slice_get Contexts) to ∙ callee) in
+            let begins : g.entry call.function ≡ cell.pos.0 = ap (λ (y : Context). g.entry y.function) function ∙ sym entry in
+            asks.called i c p q call is_mid es (to, begins, state) (subst (λ (t : Table). place ≡ place_at g t.contexts.items i p k) tables here)
+
+    -- A link, state by state.
+    module _ (link : Cell) (back : ℕ) (returns : Returns g link.pos.0 back) (cell : Cell) (asks : AsksReturn g mid new cell link.pos.0) (at : cell.at ≡ link.at) (pos : cell.pos.0 ≡ back) where
+      pub one_again : ((call : Called) → IsLink g Contexts link.at.number link.at.context link.pos.0 link.state.0 call
+          → (y : ℕ) → y < g.states.count → returned g.states (kept_at call.split link.state.0) y < cell.state.0
+          → IsStanding g Contexts (found_of g mid) link.at.number link.pos.0 link.state.0 call y)
+          → (call : Called) → IsLink g Contexts link.at.number link.at.context link.pos.0 link.state.0 call
+          → (y : ℕ) → y < g.states.count → returned g.states (kept_at call.split link.state.0) y < cell.state.0 + 1
+          → IsStanding g Contexts (found_of g new) link.at.number link.pos.0 link.state.0 call y
+      one_again before call is y lt less =
+          elim (cases_lt (returned g.states (kept_at call.split link.state.0) y) cell.state.0) [
+            | inl earlier ↦ subst (λ (t : Table). IsStanding g t.contexts.items (found_of g new) link.at.number link.pos.0 link.state.0 call y) (sym tables)
+                (stands_on g functions routed alike mid new mid_table asks.step link.at.number link.at.context link.pos.0 link.state.0 call y is_mid
+                (subst (λ (t : Table). IsStanding g t.contexts.items (found_of g mid) link.at.number link.pos.0 link.state.0 call y) tables (before call is y lt earlier)))
+            | inr most ↦
+                let same : returned g.states (kept_at call.split link.state.0) y ≡ cell.state.0 = omega (arith, less, most) in
+                let one : returns.0 ≡ call = one_call (slice_get g.spots link.pos.0) returns.0 call returns.1 is.calls in
+                let behind : call.back ≡ cell.pos.0 = ap (λ (c : Called). c.back) (sym one) ∙ returns.2 ∙ sym pos in
+                subst (λ (t : Table). IsStanding g t.contexts.items (found_of g new) link.at.number link.pos.0 link.state.0 call y) (sym tables)
+                (subst (λ (a : Tabled). IsLink g mid.table.contexts.items a.number a.context link.pos.0 link.state.0 call → IsStanding g mid.table.contexts.items (found_of g new) a.number link.pos.0 link.state.0 call y) at
+                (λ l. asks.standing link.state.0 call l behind y lt same) is_mid)
+          ]
+        where
+          is_mid : IsLink g mid.table.contexts.items link.at.number link.at.context link.pos.0 link.state.0 call
+          is_mid = subst (λ (t : Table). IsLink g t.contexts.items link.at.number link.at.context link.pos.0 link.state.0 call) tables is
+
+      pub others_again : AllStanding g Contexts (found_of g mid) (IsIt link.at.number link.pos.0 link.state.0) → AllStanding g Contexts (found_of g new) (IsIt link.at.number link.pos.0 link.state.0)
+      others_again all = subst (λ (t : Table). AllStanding g t.contexts.items (found_of g new) (IsIt link.at.number link.pos.0 link.state.0)) (sym tables)
+          (still_standing g functions routed alike mid new mid_table asks.step.others asks.step.lowers _
+          (subst (λ (t : Table). AllStanding g t.contexts.items (found_of g mid) (IsIt link.at.number link.pos.0 link.state.0)) tables all))
+
+  pub all_again : (w new : Work) → IsTable g w.table → LowersKeys g w new → (link : Cell) → HasCell g w.table link.at link.pos.0 link.state.0 → IsTied (found_of g w) link.at.number link.pos.0 link.state.0
+      → (from : ℕ) → g.states.count ≤ from → AllStanding g w.table.contexts.items (found_of g new) (IsIt link.at.number link.pos.0 link.state.0)
+      → ((call : Called) → IsLink g w.table.contexts.items link.at.number link.at.context link.pos.0 link.state.0 call
+      → (y : ℕ) → y < g.states.count → returned g.states (kept_at call.split link.state.0) y < from
+      → IsStanding g w.table.contexts.items (found_of g new) link.at.number link.pos.0 link.state.0 call y)
+      → AllStanding g w.table.contexts.items (found_of g new) Nothing
+  all_again w new table step link cell tied from most others before i c p k call is =
+      elim (others i c p k call is) [
+        | inl stands ↦ inl stands
+        | inr same ↦
+            let mine : IsLink g w.table.contexts.items link.at.number link.at.context link.pos.0 link.state.0 call = at_link same in
+            let is_tied_now : IsTied (found_of g new) link.at.number link.pos.0 link.state.0 = subst (λ (s : Found). IsTied s link.at.number link.pos.0 link.state.0) (sym (found_keys g w new step.others)) tied in
+            inl (link_is g w.table.contexts.items link.at.number link.at.context link.pos.0 link.state.0 call mine i c p k call is same
+            (λ i c p k call. IsFresh (found_of g new) i p k × ((y : ℕ) → y < g.states.count → IsStanding g w.table.contexts.items (found_of g new) i p k call y)) (
+              λ free. absurd (not_both ((found_of g new).tied link.at.number link.pos.0 link.state.0) is_tied_now free),
+              λ y lt. before call mine y lt
+                  (let b = (back_of g functions routed alike w.table.contexts.items (below g functions routed alike w w table) link.at.number link.at.context link.pos.0 link.state.0 call y mine lt).state in omega (arith, b, most)),
+            ))
+      ]
+    where
+      at_link : IsSame i p k link.at.number link.pos.0 link.state.0 → IsLink g w.table.contexts.items link.at.number link.at.context link.pos.0 link.state.0 call
+      at_link same = record {
+        cell = cell;
+        calls = subst (λ (y : ℕ). call_in (slice_get g.spots y) ≡ Some call) same.1 is.calls;
+        class = subst (λ (y : ℕ). class_of g call.split y ≡ y) same.2 is.class;
+      }

@@ -1,0 +1,223 @@
+-- A link that is ready goes to its context, and what is left to do then is done: the solver keeps all.
+use Rattle.std.proofs.Common.{◌≡◌, ℕ, suc, ◌+◌, ◌-◌, ◌*◌, ◌<◌, List, Bool, not, Some, length, set, refl, sym, ap, ◌∙◌, subst, arith, inl, inr}
+use Rattle.std.specs.Prelude.{slice_get, slice_index, nat_eq}
+use Rattle.std.proofs.lemmas.Bool.{cases_eq}
+use Rattle.std.proofs.lemmas.List.{length-set, get_or-set_same, get_or-set_other}
+use Rattle.cw_game.specs.Games.{Game}
+use Rattle.cw_game.specs.Pairs.{Called}
+use Rattle.cw_solve.specs.declared.contexts.Context.{Context}
+use Rattle.cw_solve.specs.declared.table.Table.{Table}
+use Rattle.cw_solve.specs.Contexts.{context, IsOf}
+use Rattle.cw_solve.specs.Routes.{AreRouted}
+use Rattle.cw_solve.specs.Tables.{IsTable, HasCell}
+use Rattle.cw_solve.proofs.Falls.{back_stays}
+use Rattle.cw_solve.proofs.Slots.{slot_within}
+use Rattle.cw_linked.specs.declared.work.Cell.{Cell}
+use Rattle.cw_linked.specs.declared.work.Work.{Work}
+use Rattle.cw_linked.specs.Founds.{Found, AreAlike, IsLink, IsTied, AreRight, Nothing, AllClosed, AllCalled, AllStanding}
+use Rattle.cw_linked.specs.Popped.{Finishes}
+use Rattle.cw_linked.specs.Queues.{found_of, IsOwner, IsLinkAt, AreDue, LowersKeys, IsCellAt}
+use Rattle.cw_linked.specs.Returns.{Returns, AreFew}
+use Rattle.cw_linked.specs.Steps.{with_links, Ties, CallsBy, IsIt}
+use Rattle.cw_linked.specs.Tied.{IsFirm, IsTieable, TiesLink, AsksCalls, AsksAgain}
+use Rattle.cw_linked.specs.Works.{AreUpTo, place_at, value_at}
+use Rattle.cw_linked.proofs.Bounding.{place_is}
+use Rattle.cw_linked.proofs.Finishing.{next_table, next_owners, next_callers, next_right, next_cell, next_closed, next_called}
+use Rattle.cw_linked.proofs.Takings.{found_in}
+use Rattle.cw_linked.proofs.Telling.{below, up_to_set, still_standing, two_steps}
+use Rattle.cw_linked.proofs.Tying.{tied_right, tied_called, tied_standing}
+use Rattle.cw_linked.proofs.Working.{found_keys}
+use Rattle.cw_linked.proofs.Writing.{ties_written}
+
+module _ (g : Game) (functions : ℕ) (routed : AreRouted g functions) (alike : AreAlike g) (old mid : Work) (link : Cell) (place moves callee back : ℕ) (target : Context)
+    (tieable : IsTieable g old link place moves callee back target) where
+  abbrev Contexts : List Context
+  Contexts = old.table.contexts.items
+
+  abbrev call : Called
+  call = tieable.ready.0
+
+  is_link : IsLink g Contexts link.at.number link.at.context link.pos.0 link.state.0 call
+  is_link = tieable.ready.1
+
+  place_here : place ≡ place_at g Contexts link.at.number link.pos.0 link.state.0
+  place_here = tieable.at.place ∙ sym (place_is g Contexts link.at.number link.at.context link.pos.0 link.state.0 tieable.at.is.at)
+
+  pub within : place < length old.table.heights.items
+  within = omega (arith, tieable.at.place, slot_within g Contexts link.at.number link.at.context link.pos.0 link.state.0 tieable.at.is, tieable.firm.table.cells)
+
+  functions_below : (i : ℕ) (c : Context) → slice_get Contexts i ≡ Some c → c.function < functions
+  functions_below = below g functions routed alike old old tieable.firm.table
+
+  module _ (ties : TiesLink old mid place callee moves) where
+    tables : old.table ≡ mid.table
+    tables = sym ties.table
+
+    ties_to : mid.to.items ≡ set old.to.items place (suc callee)
+    ties_to = ties.to ∙ ap (λ (v : ℕ). set old.to.items place v) (next callee)
+      where
+        next : (n : ℕ) → n + 1 ≡ suc n
+        next n = omega arith
+
+    lengths : length mid.table.heights.items ≡ length old.table.heights.items
+    lengths = ap (λ (t : Table). length t.heights.items) ties.table
+
+    abbrev To : ℕ → ℕ → ℕ → ℕ
+    To = λ i p k. value_at g Contexts (set old.to.items place (suc callee)) i p k - 1
+
+    abbrev Wave : ℕ → ℕ → ℕ → ℕ
+    Wave = value_at g Contexts (set old.waves.items place moves)
+
+    abbrev Tied : ℕ → ℕ → ℕ → Bool
+    Tied = λ i p k. not (nat_eq (value_at g Contexts (set old.to.items place (suc callee)) i p k) 0)
+
+    abbrev After : Found
+    After = with_links (found_of g old) To Wave Tied
+
+    found_mid : found_of g mid ≡ After
+    found_mid =
+        ap (λ (t : Table). found_in g t.contexts.items t.heights.items mid.asked.items mid.to.items mid.waves.items mid.due.items) ties.table
+        ∙ ap (λ (ys : List ℕ). found_in g Contexts old.table.heights.items ys mid.to.items mid.waves.items mid.due.items) ties.asked
+        ∙ ap (λ (ys : List ℕ). found_in g Contexts old.table.heights.items old.asked.items ys mid.waves.items mid.due.items) ties_to
+        ∙ ap (λ (ys : List ℕ). found_in g Contexts old.table.heights.items old.asked.items (set old.to.items place (suc callee)) ys mid.due.items) ties.waves
+        ∙ ap (λ (ys : List ℕ). found_in g Contexts old.table.heights.items old.asked.items (set old.to.items place (suc callee)) (set old.waves.items place moves) ys) ties.due
+
+    is_tied_there : Ties g Contexts (found_of g old) To Wave Tied link.at.number link.pos.0 link.state.0 callee moves
+    is_tied_there =
+        subst (λ (k : ℕ). Ties g Contexts (found_of g old) (λ i p q. value_at g Contexts (set old.to.items k (suc callee)) i p q - 1) (value_at g Contexts (set old.waves.items k moves))
+        (λ i p q. not (nat_eq (value_at g Contexts (set old.to.items k (suc callee)) i p q) 0)) link.at.number link.pos.0 link.state.0 callee moves) (sym place_here)
+        (ties_written g Contexts (found_of g old) link.at.number link.at.context link.pos.0 link.state.0 call is_link old.to.items old.waves.items callee moves
+        (omega (arith, place_here, within, tieable.firm.long.to)) (omega (arith, place_here, within, tieable.firm.long.waves)) (λ i p k. refl) (λ i p k. refl) (λ i p k. refl))
+
+    free : (found_of g old).due link.at.number link.pos.0 link.state.0 ≡ 0
+    free = ap (slice_index old.due.items) (sym place_here) ∙ tieable.free
+
+    there : slice_get Contexts callee ≡ Some (context call.function target.promise)
+    there = tieable.there ∙ ap (λ (f : ℕ). Some (context f target.promise)) (sym tieable.ready.3)
+
+    dues : AreDue g mid
+    dues k lt some = elim (cases_eq k place) [
+      | inl e ↦ absurd (let z : slice_index mid.due.items k ≡ 0 = ap (slice_index mid.due.items) e ∙ ap (λ (ys : List ℕ). slice_index ys place) ties.due ∙ tieable.free in omega (arith, z, some))
+      | inr ne ↦
+          let same = ap (λ (ys : List ℕ). slice_index ys k) ties.due in
+          let to : slice_index mid.to.items k ≡ slice_index old.to.items k = ap (λ (ys : List ℕ). slice_index ys k) ties_to ∙ get_or-set_other old.to.items place k (suc callee) 0 ne in
+          let h = tieable.firm.dues k (omega (arith, lt, lengths)) (omega (arith, some, same)) in (
+            subst (λ (t : Table). IsLinkAt g t.contexts.items k) tables h.0,
+            λ tied. let low = h.1 (omega (arith, tied, to)) in omega (arith, low, same),
+          )
+    ]
+
+    pub mid_firm : IsFirm g mid
+    mid_firm = record {
+      table = subst (IsTable g) tables tieable.firm.table;
+      long = record {
+        owners = ap (λ (ys : List ℕ). length ys) ties.owners ∙ tieable.firm.long.owners ∙ sym lengths;
+        asked = ap (λ (ys : List ℕ). length ys) ties.asked ∙ tieable.firm.long.asked ∙ sym lengths;
+        due = ap (λ (ys : List ℕ). length ys) ties.due ∙ tieable.firm.long.due ∙ sym lengths;
+        to = ap (λ (ys : List ℕ). length ys) ties_to ∙ length-set old.to.items place (suc callee) ∙ tieable.firm.long.to ∙ sym lengths;
+        waves = ap (λ (ys : List ℕ). length ys) ties.waves ∙ length-set old.waves.items place moves ∙ tieable.firm.long.waves ∙ sym lengths;
+      };
+      owners = λ k lt. subst (λ (t : Table). IsOwner g t.contexts.items (slice_index mid.owners.items k) k) tables
+          (subst (λ (ys : List ℕ). IsOwner g Contexts (slice_index ys k) k) (sym ties.owners) (tieable.firm.owners k (omega (arith, lt, lengths))));
+      queued = ties.queued;
+      high = record {
+        heights = subst (λ (t : Table). AreUpTo t.heights.items t.written) tables tieable.firm.high.heights;
+        asked = subst (λ (t : Table). AreUpTo mid.asked.items (2 * t.written + 2)) tables (subst (λ (ys : List ℕ). AreUpTo ys (2 * old.table.written + 2)) (sym ties.asked) tieable.firm.high.asked);
+        due = subst (λ (t : Table). AreUpTo mid.due.items (2 * t.written + 1)) tables (subst (λ (ys : List ℕ). AreUpTo ys (2 * old.table.written + 1)) (sym ties.due) tieable.firm.high.due);
+        waves = subst (λ (t : Table). AreUpTo mid.waves.items t.written) tables (subst (λ (ys : List ℕ). AreUpTo ys old.table.written) (sym ties.waves)
+            (up_to_set old.waves.items place moves old.table.written (omega (arith, within, tieable.firm.long.waves)) tieable.low tieable.firm.high.waves));
+      };
+      callers = ties.callers;
+      dues = dues;
+      right = subst (λ (t : Table). AreRight g t.contexts.items (found_of g mid)) tables (subst (λ (s : Found). AreRight g Contexts s) (sym found_mid)
+          (tied_right g functions routed alike Contexts functions_below (found_of g old) tieable.firm.right link.at.number link.at.context link.pos.0 link.state.0 call is_link free moves target.promise tieable.ready.4
+          callee there To Wave Tied is_tied_there));
+    }
+
+    -- before the calls of the link are asked for
+    pub mid_at : IsCellAt g mid place link
+    mid_at = record {
+      is = subst (λ (t : Table). HasCell g t link.at link.pos.0 link.state.0) tables tieable.at.is;
+      place = tieable.at.place ∙ sym (place_is g Contexts link.at.number link.at.context link.pos.0 link.state.0 tieable.at.is.at)
+          ∙ ap (λ (t : Table). place_at g t.contexts.items link.at.number link.pos.0 link.state.0) tables
+          ∙ place_is g mid.table.contexts.items link.at.number link.at.context link.pos.0 link.state.0 (subst (λ (t : Table). slice_get t.contexts.items link.at.number ≡ Some link.at.context) tables tieable.at.is.at);
+    }
+
+    pub mid_goes : slice_index mid.to.items place ≡ suc callee
+    mid_goes = ap (λ (ys : List ℕ). slice_index ys place) ties_to ∙ get_or-set_same old.to.items place (suc callee) 0 (omega (arith, within, tieable.firm.long.to))
+
+    pub mid_there : slice_get mid.table.contexts.items callee ≡ Some target
+    mid_there = subst (λ (t : Table). slice_get t.contexts.items callee ≡ Some target) tables tieable.there
+
+    pub mid_called : AllCalled g mid.table.contexts.items (found_of g mid) (CallsBy g link.at.number link.pos.0 link.state.0)
+    mid_called = subst (λ (t : Table). AllCalled g t.contexts.items (found_of g mid) (CallsBy g link.at.number link.pos.0 link.state.0)) tables
+        (subst (λ (s : Found). AllCalled g Contexts s (CallsBy g link.at.number link.pos.0 link.state.0)) (sym found_mid)
+        (tied_called g functions routed alike Contexts functions_below (found_of g old) tieable.firm.right link.at.number link.at.context link.pos.0 link.state.0 call is_link free moves target.promise tieable.ready.4
+        callee there To Wave Tied is_tied_there tieable.called))
+
+    mid_closed : AllClosed g mid.table.contexts.items (found_of g mid) Nothing
+    mid_closed = subst (λ (t : Table). AllClosed g t.contexts.items (found_of g mid) Nothing) tables (subst (λ (s : Found). AllClosed g Contexts s Nothing) (sym found_mid) tieable.closed)
+
+    mid_standing : AllStanding g mid.table.contexts.items (found_of g mid) (IsIt link.at.number link.pos.0 link.state.0)
+    mid_standing = subst (λ (t : Table). AllStanding g t.contexts.items (found_of g mid) (IsIt link.at.number link.pos.0 link.state.0)) tables
+        (subst (λ (s : Found). AllStanding g Contexts s (IsIt link.at.number link.pos.0 link.state.0)) (sym found_mid)
+        (tied_standing g functions routed alike Contexts functions_below (found_of g old) tieable.firm.right link.at.number link.at.context link.pos.0 link.state.0 call is_link free moves target.promise tieable.ready.4
+        callee there To Wave Tied is_tied_there tieable.standing))
+
+    mid_tied : IsTied (found_of g mid) link.at.number link.pos.0 link.state.0
+    mid_tied = subst (λ (s : Found). IsTied s link.at.number link.pos.0 link.state.0) (sym found_mid) is_tied_there.tied_now
+
+    pub back_of_link : IsOf g link.at.context.function back
+    back_of_link = subst (λ (y : ℕ). IsOf g link.at.context.function y) tieable.ready.2
+        (back_stays g functions routed link.at.context.function link.pos.0 call (functions_below link.at.number link.at.context tieable.at.is.at) tieable.at.is.of is_link.calls)
+
+    pub returns_back : Returns g link.pos.0 back
+    returns_back = (call, is_link.calls, tieable.ready.2)
+
+    -- and after
+    module _ (one : Work) (calls : AsksCalls g mid one) where
+      pub one_table : IsTable g one.table
+      one_table = next_table g functions routed alike mid one mid_firm.table calls.step
+
+      pub one_right : AreRight g one.table.contexts.items (found_of g one)
+      one_right = next_right g functions routed alike mid one mid_firm.table calls.step
+
+      pub one_few : AreFew one
+      one_few = (next_callers g functions routed alike mid one mid_firm.table calls.step mid_firm.callers).few
+
+      pub one_cell : HasCell g one.table link.at link.pos.0 link.state.0
+      one_cell = next_cell g functions routed alike mid one mid_firm.table calls.step link mid_at.is
+
+      pub one_tied : IsTied (found_of g one) link.at.number link.pos.0 link.state.0
+      one_tied = subst (λ (s : Found). IsTied s link.at.number link.pos.0 link.state.0) (sym (found_keys g mid one calls.step.others)) mid_tied
+
+      pub one_standing : AllStanding g one.table.contexts.items (found_of g one) (IsIt link.at.number link.pos.0 link.state.0)
+      one_standing = subst (λ (t : Table). AllStanding g t.contexts.items (found_of g one) (IsIt link.at.number link.pos.0 link.state.0)) (sym calls.step.others.table)
+          (still_standing g functions routed alike mid one mid_firm.table calls.step.others calls.step.lowers _ mid_standing)
+
+      module _ (new : Work) (again : AsksAgain g one new) where
+        both : LowersKeys g mid new
+        both = two_steps g mid one new calls.step again.step
+
+        one_called : AllCalled g one.table.contexts.items (found_of g one) Nothing
+        one_called = subst (λ (t : Table). AllCalled g t.contexts.items (found_of g one) Nothing) (sym calls.step.others.table) calls.called
+
+        pub tied_all : Finishes g old new
+        tied_all = record {
+          kept = record {
+            table = next_table g functions routed alike mid new mid_firm.table both;
+            long = both.long;
+            owners = next_owners g functions routed alike mid new mid_firm.table both mid_firm.owners;
+            queued = both.queued;
+            high = both.high;
+            callers = next_callers g functions routed alike mid new mid_firm.table both mid_firm.callers;
+            dues = both.dues mid_firm.dues;
+            found = record {
+              right = next_right g functions routed alike mid new mid_firm.table both;
+              closed = next_closed g functions routed alike mid new mid_firm.table both mid_closed;
+              called = next_called g functions routed alike one new one_table again.step one_called;
+              standing = subst (λ (t : Table). AllStanding g t.contexts.items (found_of g new) Nothing) (sym again.step.others.table) again.standing;
+            };
+          };
+          table = both.others.table ∙ ties.table;
+        }

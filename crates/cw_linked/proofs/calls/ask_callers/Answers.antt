@@ -1,0 +1,81 @@
+use Rattle.std.proofs.Common.{◌≡◌, ◌<◌, ◌+◌, ◌∷◌, ◌++◌, ◌∙◌, ℕ, List, Option, Some, length, subst, sym, ap, arith}
+use Rattle.std.specs.Prelude.{slice_get, IfSome}
+use Rattle.cw_links.specs.Lists.{Chained, list_at, AreApart}
+use Rattle.cw_product.specs.Product.{game_of}
+use Rattle.cw_linked.specs.Calls.{CallsLeft}
+use Rattle.cw_linked.specs.Founds.{AllCalled}
+use Rattle.cw_linked.specs.Queues.{found_of}
+use Rattle.cw_linked.specs.Walks.{from, rest_of}
+use Rattle.cw_linked.proofs.Alike.{alike}
+use Rattle.cw_linked.proofs.Callers.{all_calls}
+use Rattle.cw_linked.proofs.Returning.{asked_call_left, no_calls_left}
+use Rattle.cw_linked.proofs.Telling.{nothing, two_steps}
+use Rattle.cw_linked.proofs.Walking.{walk_begins, walk_steps}
+use Rattle.cw_linked.proofs.calls.ask_callers.Goals as goal
+
+pub walk-init : goal.walk-init
+walk-init c =
+    let g = game_of c.args.game.now in
+    let w = c.args.work.now in
+    let cell = c.args.cell.now in
+    let list = list_at w.callers.lists (cell.at.number + 1) in
+    let begins = walk_begins list c.first-next.result c.first-next.ensures.first in
+    record {
+      known = subst (λ (n : ℕ). IfSome c.first-next.result (λ link. link < n)) c.requires.callers.values c.first-next.ensures.known;
+      step = nothing g w c.requires.long c.requires.queued c.requires.high c.requires.right;
+      at = begins.1;
+      left = subst (λ (ys : List ℕ). AllCalled g w.table.contexts.items (found_of g w) (CallsLeft g w.table.contexts.items (found_of g w) ys cell.at.number cell.pos.0 cell.state.0)) (sym begins.0)
+          (all_calls g (length c.args.game.now.graph.parts.items) c.requires.routed (alike c.args.game.now) w c.requires.table c.requires.callers cell.at.number cell.pos.0 cell.state.0 c.requires.called);
+    }
+
+pub walk-smaller : goal.walk-smaller
+walk-smaller c =
+    let w = c.args.work.now in
+    let cell = c.args.cell.now in
+    let l = cell.at.number + 1 in
+    let same = c.in_ok-ask_call.ensures.step.others.callers ∙ c.walk.invariant.step.others.callers in
+    let apart : AreApart w.callers.lists (length w.callers.values) = subst (λ (y : Chained ℕ). AreApart y.lists (length y.values)) same c.next-next.ensures.apart in
+    let within : (list : ℕ) (front back : List ℕ) → list_at w.callers.lists list ≡ front ++ c.in-Some.link ∷ back → c.next-next.result ≡ slice_get back 0
+    = subst (λ (y : Chained ℕ). (list : ℕ) (front back : List ℕ) → list_at y.lists list ≡ front ++ c.in-Some.link ∷ back → c.next-next.result ≡ slice_get back 0) same c.next-next.ensures.within in
+    let at : slice_get (from (list_at w.callers.lists l) c.in-Some.link) 0 ≡ Some c.in-Some.link = subst (λ (o : Option ℕ). slice_get (rest_of (list_at w.callers.lists l) o) 0 ≡ o) c.in-Some.is c.walk.invariant.at in
+    let s = walk_steps w.callers.lists (length w.callers.values) l c.in-Some.link c.next-next.result apart at within in
+    let before = ap (λ (o : Option ℕ). length (rest_of (list_at w.callers.lists l) o)) c.in-Some.is in
+    let old = ap (λ (ys : List ℕ). length ys) s.1 in
+    let new = ap (λ (ys : List ℕ). length ys) s.2 in
+    omega (arith, before, old, new)
+
+pub walk-preserved : goal.walk-preserved
+walk-preserved c =
+    let g = game_of c.args.game.now in
+    let functions = length c.args.game.now.graph.parts.items in
+    let w = c.args.work.now in
+    let cell = c.args.cell.now in
+    let l = cell.at.number + 1 in
+    let same = c.in_ok-ask_call.ensures.step.others.callers ∙ c.walk.invariant.step.others.callers in
+    let apart : AreApart w.callers.lists (length w.callers.values) = subst (λ (y : Chained ℕ). AreApart y.lists (length y.values)) same c.next-next.ensures.apart in
+    let within : (list : ℕ) (front back : List ℕ) → list_at w.callers.lists list ≡ front ++ c.in-Some.link ∷ back → c.next-next.result ≡ slice_get back 0
+    = subst (λ (y : Chained ℕ). (list : ℕ) (front back : List ℕ) → list_at y.lists list ≡ front ++ c.in-Some.link ∷ back → c.next-next.result ≡ slice_get back 0) same c.next-next.ensures.within in
+    let at : slice_get (from (list_at w.callers.lists l) c.in-Some.link) 0 ≡ Some c.in-Some.link = subst (λ (o : Option ℕ). slice_get (rest_of (list_at w.callers.lists l) o) 0 ≡ o) c.in-Some.is c.walk.invariant.at in
+    let s = walk_steps w.callers.lists (length w.callers.values) l c.in-Some.link c.next-next.result apart at within in
+    let rest : rest_of (list_at w.callers.lists l) c.walk.next ≡ c.in-Some.link ∷ s.0 = ap (rest_of (list_at w.callers.lists l)) c.in-Some.is ∙ s.1 in
+    record {
+      known = subst (λ (n : ℕ). IfSome c.next-next.result (λ link. link < n)) (ap (λ (y : Chained ℕ). length y.values) same ∙ c.requires.callers.values) c.next-next.ensures.known;
+      step = two_steps g w c.walk.work c.ask_call.new.work c.walk.invariant.step c.in_ok-ask_call.ensures.step;
+      at = s.3;
+      left = subst (λ (ys : List ℕ). AllCalled g w.table.contexts.items (found_of g c.ask_call.new.work) (CallsLeft g w.table.contexts.items (found_of g w) ys cell.at.number cell.pos.0 cell.state.0)) (sym s.2)
+          (asked_call_left g functions c.requires.routed (alike c.args.game.now) w c.walk.work c.ask_call.new.work c.requires.table c.walk.invariant.step c.in-Some.link s.0 cell c.in_ok-ask_call.ensures
+          (subst (λ (ys : List ℕ). AllCalled g w.table.contexts.items (found_of g c.walk.work) (CallsLeft g w.table.contexts.items (found_of g w) ys cell.at.number cell.pos.0 cell.state.0)) rest c.walk.invariant.left));
+    }
+
+pub returns : goal.returns
+returns c =
+    let g = game_of c.args.game.now in
+    let w = c.args.work.now in
+    let cell = c.args.cell.now in
+    let l = cell.at.number + 1 in
+    record {
+      step = c.walk.invariant.step;
+      called = no_calls_left g w.table.contexts.items (found_of g c.walk.work) (found_of g w) cell.at.number cell.pos.0 cell.state.0
+          (subst (λ (o : Option ℕ). AllCalled g w.table.contexts.items (found_of g c.walk.work) (CallsLeft g w.table.contexts.items (found_of g w) (rest_of (list_at w.callers.lists l) o) cell.at.number cell.pos.0 cell.state.0))
+          c.in_default.is c.walk.invariant.left);
+    }

@@ -1,0 +1,88 @@
+-- Working definitions: what waits under the least key is taken.
+use Rattle.std.specs.Prelude.{◌≡◌, ℕ, ◌+◌, ◌/◌, ◌<◌, ◌≤◌, Some, length, slice_index, slice_set}
+use Rattle.cw_game.specs.Games.{Game}
+use Rattle.cw_links.specs.Heights.{height_at, AreOut}
+use Rattle.cw_solve.specs.Tables.{IsTable, HasCell}
+use Rattle.cw_linked.specs.declared.popped.Popped.{Popped}
+use Rattle.cw_linked.specs.declared.popped.Popped.TheVariants.{Nothing as Empty, Cell as OfCell, Link as OfLink}
+use Rattle.cw_linked.specs.declared.work.Cell.{Cell}
+use Rattle.cw_linked.specs.declared.work.Work.{Work}
+use Rattle.cw_linked.specs.Calls.{AreCallers}
+use Rattle.cw_linked.specs.Founds.{AreRight, AllClosed, AllCalled, AllStanding, AreFound}
+use Rattle.cw_linked.specs.Queues.{found_of, AreQueued, AreLong, AreSameBut, AreOwners, AreHigh, AreDue}
+use Rattle.cw_linked.specs.Steps.{WaitsFor, CallsThere, ReturnsThere}
+use Rattle.cw_linked.specs.Works.{heights_of}
+
+-- no element has a key below this one
+abbrev pub IsLeast : Work → ℕ → Type 0
+IsLeast w key = (e k : ℕ) → height_at w.buckets e ≡ Some k → key ≤ k
+
+-- the cell at a place had the least key, and has its height now and waits no more
+pub record TakesCell (old new : Work) (place height : ℕ) : Type 0 where
+  pub within : place < length old.table.heights.items
+  pub some : 0 < slice_index old.asked.items place
+  pub half : height ≡ slice_index old.asked.items place / 2
+  pub least : IsLeast old (slice_index old.asked.items place)
+  pub contexts : new.table.contexts.items ≡ old.table.contexts.items
+  pub bases : new.table.bases.items ≡ old.table.bases.items
+  pub heights : new.table.heights.items ≡ slice_set old.table.heights.items place height
+  pub written : new.table.written ≡ old.table.written + 1
+  pub owners : new.owners.items ≡ old.owners.items
+  pub asked : new.asked.items ≡ slice_set old.asked.items place 0
+  pub due : new.due.items ≡ old.due.items
+  pub to : new.to.items ≡ old.to.items
+  pub waves : new.waves.items ≡ old.waves.items
+  pub callers : new.callers ≡ old.callers
+  pub room : new.room ≡ old.room
+  pub lists : new.lists ≡ old.lists
+  pub queued : AreQueued new
+
+-- the link at a place had the least key, and waits no more
+pub record FreesLink (old new : Work) (place moves : ℕ) : Type 0 where
+  pub within : place < length old.table.heights.items
+  pub some : 0 < slice_index old.due.items place
+  pub half : moves ≡ slice_index old.due.items place / 2
+  pub least : IsLeast old (slice_index old.due.items place)
+  pub others : AreSameBut old new
+  pub asked : new.asked.items ≡ old.asked.items
+  pub due : new.due.items ≡ slice_set old.due.items place 0
+  pub queued : AreQueued new
+
+-- what is taken; where nothing waits nothing changes
+abbrev pub Pops : Work → Work → Popped → Type 0
+Pops old new Empty = AreOut old.buckets × (new ≡ old)
+Pops old new (OfCell place height) = TakesCell old new place height
+Pops old new (OfLink place moves) = FreesLink old new place moves
+
+-- what the solver keeps from step to step
+pub record IsWork (g : Game) (w : Work) : Type 0 where
+  pub table : IsTable g w.table
+  pub long : AreLong w
+  pub owners : AreOwners g w
+  pub queued : AreQueued w
+  pub high : AreHigh w
+  pub callers : AreCallers w
+  pub dues : AreDue g w
+  pub found : AreFound g w.table.contexts.items (found_of g w)
+
+-- what it keeps right after a cell is taken at a height
+pub record IsTaken (g : Game) (w : Work) (cell : Cell) (height : ℕ) : Type 0 where
+  pub table : IsTable g w.table
+  pub long : AreLong w
+  pub owners : AreOwners g w
+  pub queued : AreQueued w
+  pub high : AreHigh w
+  pub callers : AreCallers w
+  pub dues : AreDue g w
+  pub there : HasCell g w.table cell.at cell.pos.0 cell.state.0
+  pub some : 0 < height
+  pub taken : heights_of g w.table cell.at.number cell.pos.0 cell.state.0 ≡ height
+  pub right : AreRight g w.table.contexts.items (found_of g w)
+  pub closed : AllClosed g w.table.contexts.items (found_of g w) (WaitsFor g cell.at.number cell.pos.0 cell.state.0)
+  pub called : AllCalled g w.table.contexts.items (found_of g w) (CallsThere g (found_of g w) cell.at.number cell.pos.0 cell.state.0)
+  pub standing : AllStanding g w.table.contexts.items (found_of g w) (ReturnsThere g w.table.contexts.items (found_of g w) cell.at.number cell.pos.0 cell.state.0)
+
+-- after what waited for it is asked for
+pub record Finishes (g : Game) (old new : Work) : Type 0 where
+  pub kept : IsWork g new
+  pub table : new.table ≡ old.table

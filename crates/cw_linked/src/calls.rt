@@ -1,0 +1,166 @@
+//! The calls of a link are asked for, whose callee is lost.
+
+ghost use Rattle.std.specs.Prelude.{◌≡◌, ◌⊎◌, ◌<◌, ◌≤◌, suc, true, false, Some, length, slice_get, slice_index, OnOk, IfSome, IfNone};
+ghost use Rattle.cw_game.specs.Pairs.{Called, call_in};
+ghost use Rattle.cw_product.specs.Product.{game_of};
+ghost use Rattle.cw_product.specs.Moves.{IsPosition, IsState};
+ghost use Rattle.cw_solve.specs.Routes.{AreRouted};
+ghost use Rattle.cw_solve.specs.Tables.{IsTable, HasCell};
+ghost use Rattle.cw_linked.specs.Calls.{AreCallers, AsksCaller, AsksCallers};
+ghost use Rattle.cw_linked.specs.Founds.{class_of, AreRight, AllCalled};
+ghost use Rattle.cw_linked.specs.Queues.{found_of, AreQueued, AreLong, AreOwners, AreHigh};
+ghost use Rattle.cw_linked.specs.Steps.{CallsThere};
+ghost use Rattle.cw_linked.specs.Works.{heights_of};
+
+use crate::work::{Cell, Work, ask_cell, cell_at};
+use cw_core::{NoMemory, PosId, StateId};
+use cw_product::{Game, Turn};
+use cw_solve::table::slot;
+
+/// The state that stands for those that are alike at the call at a position; none where no call is.
+pub(crate) fn class_at(game: &Game, pos: PosId, state: StateId) -> Option<StateId>
+    requires position { IsPosition (game_of game.now) pos.0 }
+    requires state { IsState (game_of game.now) state.0 }
+    ensures some { IfSome result (λ k. (call : Called) × (call_in (slice_get (game_of game.now).spots pos.0) ≡ Some call)
+        × (class_of (game_of game.now) call.split state.0 ≡ k.0)) }
+    ensures none { IfNone result ((call : Called) → call_in (slice_get (game_of game.now).spots pos.0) ≡ Some call → ⊥) }
+    ensures within { IfSome result (λ k. IsState (game_of game.now) k.0) }
+{
+    match game.turn(pos) {
+        Turn::Call { split, .. } => Some(game.returned(state, StateId(0), split)),
+        Turn::Exit { .. } => None,
+        Turn::Weaver | Turn::Environment => None,
+    }
+}
+
+/// Whether two states are the same.
+pub(crate) fn is_same(a: StateId, b: StateId) -> bool
+    ensures is { result ≡ true → a.0 ≡ b.0 }
+    ensures not { result ≡ false → a.0 ≡ b.0 → ⊥ }
+{
+    a.0 == b.0
+}
+
+/// The greater of the number of moves of the link at a place and a height.
+fn greater(work: &Work, link: usize, height: u32) -> u32
+    requires long { AreLong work.now }
+    requires within { link < length work.now.table.heights.items }
+    ensures one { (slice_index work.now.waves.items link ≡ result) ⊎ (height ≡ result) }
+    ensures moves { slice_index work.now.waves.items link ≤ result }
+    ensures high { height ≤ result }
+{
+    let moves = work.waves[link];
+    if moves < height { height } else { moves }
+}
+
+/// Whether the link at a place goes to the context of a number.
+fn goes_to(work: &Work, link: usize, number: usize) -> bool
+    requires long { AreLong work.now }
+    requires within { link < length work.now.table.heights.items }
+    ensures is { result ≡ true → slice_index work.now.to.items link ≡ suc number }
+    ensures not { result ≡ false → slice_index work.now.to.items link ≡ suc number → ⊥ }
+{
+    let to = work.to[link] as usize;
+    if to == 0 { false } else { to - 1 == number }
+}
+
+/// Asks for the call of a link that goes to the context of this cell of an entry, if the state of the cell is of its class.
+fn ask_linked(
+    game: &Game,
+    work: &mut Work,
+    cell: &Cell,
+    height: u32,
+    link: usize,
+) -> Result<(), NoMemory>
+    requires routed { AreRouted (game_of game.now) (length game.now.graph.parts.items) }
+    requires table { IsTable (game_of game.now) work.old.table }
+    requires cell { HasCell (game_of game.now) work.old.table cell.now.at cell.now.pos.0 cell.now.state.0 }
+    requires entry { cell.now.pos.0 ≡ (game_of game.now).entry cell.now.at.context.function }
+    requires taken { heights_of (game_of game.now) work.old.table cell.now.at.number cell.now.pos.0 cell.now.state.0 ≡ height }
+    requires some { 0 < height }
+    requires within { link < length work.old.table.heights.items }
+    requires goes { slice_index work.old.to.items link ≡ suc cell.now.at.number }
+    requires owners { AreOwners (game_of game.now) work.old }
+    requires long { AreLong work.old }
+    requires queued { AreQueued work.old }
+    requires high { AreHigh work.old }
+    requires right { AreRight (game_of game.now) work.old.table.contexts.items (found_of (game_of game.now) work.old) }
+    ensures { OnOk result (AsksCaller (game_of game.now) work.old work.new link cell.now) }
+{
+    let caller = cell_at(game, work, link);
+    match class_at(game, caller.pos, cell.state) {
+        None => Ok(()),
+        Some(class) => {
+            if is_same(class, caller.state) {
+                let place = slot(game, &work.table, &caller.at, caller.pos, cell.state);
+                let most = greater(work, link, height);
+                let within = most + 1;
+                ask_cell(work, place, 2 * within)?;
+                Ok(())
+            } else {
+                Ok(())
+            }
+        }
+    }
+}
+
+/// Asks for the call of a link, if the link goes to the context of this cell of an entry, and the state of the cell is of its class.
+pub(crate) fn ask_call(
+    game: &Game,
+    work: &mut Work,
+    cell: &Cell,
+    height: u32,
+    link: usize,
+) -> Result<(), NoMemory>
+    requires routed { AreRouted (game_of game.now) (length game.now.graph.parts.items) }
+    requires table { IsTable (game_of game.now) work.old.table }
+    requires cell { HasCell (game_of game.now) work.old.table cell.now.at cell.now.pos.0 cell.now.state.0 }
+    requires entry { cell.now.pos.0 ≡ (game_of game.now).entry cell.now.at.context.function }
+    requires taken { heights_of (game_of game.now) work.old.table cell.now.at.number cell.now.pos.0 cell.now.state.0 ≡ height }
+    requires some { 0 < height }
+    requires within { link < length work.old.table.heights.items }
+    requires owners { AreOwners (game_of game.now) work.old }
+    requires long { AreLong work.old }
+    requires queued { AreQueued work.old }
+    requires high { AreHigh work.old }
+    requires right { AreRight (game_of game.now) work.old.table.contexts.items (found_of (game_of game.now) work.old) }
+    ensures { OnOk result (AsksCaller (game_of game.now) work.old work.new link cell.now) }
+{
+    if goes_to(work, link, cell.at.number) {
+        ask_linked(game, work, cell, height, link)?;
+        Ok(())
+    } else {
+        Ok(())
+    }
+}
+
+/// Asks for the calls whose link goes to the context of a cell of an entry.
+pub(crate) fn ask_callers(
+    game: &Game,
+    work: &mut Work,
+    cell: &Cell,
+    height: u32,
+) -> Result<(), NoMemory>
+    requires routed { AreRouted (game_of game.now) (length game.now.graph.parts.items) }
+    requires table { IsTable (game_of game.now) work.old.table }
+    requires cell { HasCell (game_of game.now) work.old.table cell.now.at cell.now.pos.0 cell.now.state.0 }
+    requires entry { cell.now.pos.0 ≡ (game_of game.now).entry cell.now.at.context.function }
+    requires taken { heights_of (game_of game.now) work.old.table cell.now.at.number cell.now.pos.0 cell.now.state.0 ≡ height }
+    requires some { 0 < height }
+    requires owners { AreOwners (game_of game.now) work.old }
+    requires callers { AreCallers work.old }
+    requires long { AreLong work.old }
+    requires queued { AreQueued work.old }
+    requires high { AreHigh work.old }
+    requires right { AreRight (game_of game.now) work.old.table.contexts.items (found_of (game_of game.now) work.old) }
+    requires called { AllCalled (game_of game.now) work.old.table.contexts.items (found_of (game_of game.now) work.old)
+        (CallsThere (game_of game.now) (found_of (game_of game.now) work.old) cell.now.at.number cell.now.pos.0 cell.now.state.0) }
+    ensures { OnOk result (AsksCallers (game_of game.now) work.old work.new) }
+{
+    let mut next = work.callers.first(cell.at.number as u32 + 1);
+    'walk: while let Some(link) = next {
+        ask_call(game, work, cell, height, link as usize)?;
+        next = work.callers.next(link);
+    }
+    Ok(())
+}

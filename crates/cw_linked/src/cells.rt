@@ -1,0 +1,66 @@
+//! What waits for a cell that is taken is asked for.
+
+ghost use Rattle.std.specs.Prelude.{◌≡◌, ◌<◌, length, OnOk};
+ghost use Rattle.cw_product.specs.Product.{game_of};
+ghost use Rattle.cw_solve.specs.Routes.{AreRouted};
+ghost use Rattle.cw_solve.specs.Tables.{IsTable, HasCell};
+ghost use Rattle.cw_linked.specs.Calls.{AreCallers, AsksCallers};
+ghost use Rattle.cw_linked.specs.Founds.{AreRight, AllCalled};
+ghost use Rattle.cw_linked.specs.Popped.{IsTaken, Finishes};
+ghost use Rattle.cw_linked.specs.Queues.{found_of, AreQueued, AreLong, AreOwners, AreHigh};
+ghost use Rattle.cw_linked.specs.Returns.{AreReturns};
+ghost use Rattle.cw_linked.specs.Steps.{CallsThere};
+ghost use Rattle.cw_linked.specs.Waiting.{AreWaits};
+ghost use Rattle.cw_linked.specs.Works.{heights_of};
+
+use crate::calls::ask_callers;
+use crate::edges::Edges;
+use crate::returns::ask_returns;
+use crate::waiting::ask_waiting;
+use crate::work::{Cell, Work};
+use cw_core::NoMemory;
+use cw_product::Game;
+
+/// Asks for the calls whose link goes to the context of the cell, if it is one of the context's entry.
+fn ask_entry(game: &Game, work: &mut Work, cell: &Cell, height: u32) -> Result<(), NoMemory>
+    requires routed { AreRouted (game_of game.now) (length game.now.graph.parts.items) }
+    requires table { IsTable (game_of game.now) work.old.table }
+    requires cell { HasCell (game_of game.now) work.old.table cell.now.at cell.now.pos.0 cell.now.state.0 }
+    requires taken { heights_of (game_of game.now) work.old.table cell.now.at.number cell.now.pos.0 cell.now.state.0 ≡ height }
+    requires some { 0 < height }
+    requires owners { AreOwners (game_of game.now) work.old }
+    requires callers { AreCallers work.old }
+    requires long { AreLong work.old }
+    requires queued { AreQueued work.old }
+    requires high { AreHigh work.old }
+    requires right { AreRight (game_of game.now) work.old.table.contexts.items (found_of (game_of game.now) work.old) }
+    requires called { AllCalled (game_of game.now) work.old.table.contexts.items (found_of (game_of game.now) work.old)
+        (CallsThere (game_of game.now) (found_of (game_of game.now) work.old) cell.now.at.number cell.now.pos.0 cell.now.state.0) }
+    ensures { OnOk result (AsksCallers (game_of game.now) work.old work.new) }
+{
+    if cell.pos.0 == game.entry(cell.at.context.function).0 {
+        ask_callers(game, work, cell, height)
+    } else {
+        Ok(())
+    }
+}
+
+/// Asks for what waits for a cell that has its height now.
+pub(crate) fn finish(
+    game: &Game,
+    edges: &Edges,
+    work: &mut Work,
+    cell: &Cell,
+    height: u32,
+) -> Result<(), NoMemory>
+    requires routed { AreRouted (game_of game.now) (length game.now.graph.parts.items) }
+    requires waits { AreWaits (game_of game.now) edges.now.waits }
+    requires returns { AreReturns (game_of game.now) edges.now.returns }
+    requires taken { IsTaken (game_of game.now) work.old cell.now height }
+    ensures { OnOk result (Finishes (game_of game.now) work.old work.new) }
+{
+    ask_waiting(game, &edges.waits, work, cell)?;
+    ask_entry(game, work, cell, height)?;
+    ask_returns(game, &edges.returns, work, cell, height)?;
+    Ok(())
+}

@@ -1,0 +1,150 @@
+//! The links of calls are asked for, which return to a pair that is taken.
+
+ghost use Rattle.std.specs.Prelude.{◌≡◌, ◌<◌, true, false, length, OnOk};
+ghost use Rattle.cw_product.specs.Product.{game_of};
+ghost use Rattle.cw_product.specs.Moves.{IsPosition};
+ghost use Rattle.cw_solve.specs.Contexts.{IsOf};
+ghost use Rattle.cw_solve.specs.Routes.{AreRouted};
+ghost use Rattle.cw_solve.specs.Tables.{IsTable, HasCell};
+ghost use Rattle.cw_linked.specs.Founds.{AreRight, AllStanding};
+ghost use Rattle.cw_linked.specs.Queues.{found_of, AreQueued, AreLong, AreHigh};
+ghost use Rattle.cw_linked.specs.Returns.{AreReturns, AreFew, IsPromised, Returns, AsksReturn, AsksReturns};
+ghost use Rattle.cw_linked.specs.Steps.{ReturnsThere};
+ghost use Rattle.cw_linked.specs.Works.{heights_of};
+
+use crate::calls::class_at;
+use crate::waiting::is_of;
+use crate::work::{Cell, Work, ask_link};
+use cw_core::{NoMemory, PosId, StateId};
+use cw_links::Chains;
+use cw_product::{Game, Turn};
+use cw_solve::table::slot;
+
+/// Whether the link at a place goes to a context whose promise has the state.
+fn is_promised(work: &Work, link: usize, state: StateId) -> bool
+    requires long { AreLong work.now }
+    requires within { link < length work.now.table.heights.items }
+    requires few { AreFew work.now }
+    requires state { state.0 < 1024 }
+    ensures is { result ≡ true → IsPromised work.now link state.0 }
+    ensures not { result ≡ false → IsPromised work.now link state.0 → ⊥ }
+{
+    let to = work.to[link] as usize;
+    if to == 0 {
+        false
+    } else {
+        work.table.contexts[to - 1].promise.contains(state)
+    }
+}
+
+/// Whether a call stands at a position, which returns to another.
+fn returns_to(game: &Game, pos: PosId, to: PosId) -> bool
+    requires position { IsPosition (game_of game.now) pos.0 }
+    ensures is { result ≡ true → Returns (game_of game.now) pos.0 to.0 }
+    ensures not { result ≡ false → Returns (game_of game.now) pos.0 to.0 → ⊥ }
+{
+    match game.turn(pos) {
+        Turn::Call { back, .. } => back.0 == to.0,
+        Turn::Exit { .. } => false,
+        Turn::Weaver | Turn::Environment => false,
+    }
+}
+
+/// Asks for the link of a call that returns to the cell, which has this height, and from whose state it returns there.
+fn ask_own(
+    game: &Game,
+    work: &mut Work,
+    cell: &Cell,
+    height: u32,
+    pos: PosId,
+) -> Result<(), NoMemory>
+    requires routed { AreRouted (game_of game.now) (length game.now.graph.parts.items) }
+    requires table { IsTable (game_of game.now) work.old.table }
+    requires cell { HasCell (game_of game.now) work.old.table cell.now.at cell.now.pos.0 cell.now.state.0 }
+    requires taken { heights_of (game_of game.now) work.old.table cell.now.at.number cell.now.pos.0 cell.now.state.0 ≡ height }
+    requires some { 0 < height }
+    requires position { IsPosition (game_of game.now) pos.0 }
+    requires of { IsOf (game_of game.now) cell.now.at.context.function pos.0 }
+    requires returns { Returns (game_of game.now) pos.0 cell.now.pos.0 }
+    requires few { AreFew work.old }
+    requires long { AreLong work.old }
+    requires queued { AreQueued work.old }
+    requires high { AreHigh work.old }
+    requires right { AreRight (game_of game.now) work.old.table.contexts.items (found_of (game_of game.now) work.old) }
+    ensures { OnOk result (AsksReturn (game_of game.now) work.old work.new cell.now pos.0) }
+{
+    match class_at(game, pos, cell.state) {
+        None => Ok(()),
+        Some(class) => {
+            let link = slot(game, &work.table, &cell.at, pos, class);
+            if is_promised(work, link, cell.state) {
+                ask_link(work, link, 2 * height + 1)?;
+                Ok(())
+            } else {
+                Ok(())
+            }
+        }
+    }
+}
+
+/// Asks for the link at a position that returns to the cell, which has this height.
+pub(crate) fn ask_return(
+    game: &Game,
+    work: &mut Work,
+    cell: &Cell,
+    height: u32,
+    pos: PosId,
+) -> Result<(), NoMemory>
+    requires routed { AreRouted (game_of game.now) (length game.now.graph.parts.items) }
+    requires table { IsTable (game_of game.now) work.old.table }
+    requires cell { HasCell (game_of game.now) work.old.table cell.now.at cell.now.pos.0 cell.now.state.0 }
+    requires taken { heights_of (game_of game.now) work.old.table cell.now.at.number cell.now.pos.0 cell.now.state.0 ≡ height }
+    requires some { 0 < height }
+    requires position { IsPosition (game_of game.now) pos.0 }
+    requires few { AreFew work.old }
+    requires long { AreLong work.old }
+    requires queued { AreQueued work.old }
+    requires high { AreHigh work.old }
+    requires right { AreRight (game_of game.now) work.old.table.contexts.items (found_of (game_of game.now) work.old) }
+    ensures { OnOk result (AsksReturn (game_of game.now) work.old work.new cell.now pos.0) }
+{
+    if !is_of(game, cell.at.context.function, pos) {
+        return Ok(());
+    }
+    if !returns_to(game, pos, cell.pos) {
+        return Ok(());
+    }
+    ask_own(game, work, cell, height, pos)?;
+    Ok(())
+}
+
+/// Asks for the links that return to a cell.
+pub(crate) fn ask_returns(
+    game: &Game,
+    returns: &Chains<PosId>,
+    work: &mut Work,
+    cell: &Cell,
+    height: u32,
+) -> Result<(), NoMemory>
+    requires routed { AreRouted (game_of game.now) (length game.now.graph.parts.items) }
+    requires returns { AreReturns (game_of game.now) returns.now }
+    requires table { IsTable (game_of game.now) work.old.table }
+    requires cell { HasCell (game_of game.now) work.old.table cell.now.at cell.now.pos.0 cell.now.state.0 }
+    requires taken { heights_of (game_of game.now) work.old.table cell.now.at.number cell.now.pos.0 cell.now.state.0 ≡ height }
+    requires some { 0 < height }
+    requires few { AreFew work.old }
+    requires long { AreLong work.old }
+    requires queued { AreQueued work.old }
+    requires high { AreHigh work.old }
+    requires right { AreRight (game_of game.now) work.old.table.contexts.items (found_of (game_of game.now) work.old) }
+    requires standing { AllStanding (game_of game.now) work.old.table.contexts.items (found_of (game_of game.now) work.old)
+        (ReturnsThere (game_of game.now) work.old.table.contexts.items (found_of (game_of game.now) work.old) cell.now.at.number cell.now.pos.0 cell.now.state.0) }
+    ensures { OnOk result (AsksReturns (game_of game.now) work.old work.new) }
+{
+    let mut next = returns.first(cell.pos.0);
+    'walk: while let Some(edge) = next {
+        ask_return(game, work, cell, height, *returns.get(edge))?;
+        next = returns.next(edge);
+    }
+    Ok(())
+}

@@ -1,0 +1,214 @@
+//! A link that is out of the buckets is tied to a context.
+
+ghost use Rattle.std.specs.Prelude.{◌≡◌, ◌<◌, ◌≤◌, suc, Some, length, slice_get, slice_index, OnOk};
+ghost use Rattle.cw_game.specs.Games.{returned};
+ghost use Rattle.cw_game.specs.Pairs.{kept_at};
+ghost use Rattle.cw_product.specs.Product.{game_of};
+ghost use Rattle.cw_product.specs.Moves.{IsPosition};
+ghost use Rattle.cw_solve.specs.Contexts.{IsOf, IsSetOf};
+ghost use Rattle.cw_solve.specs.Routes.{AreRouted};
+ghost use Rattle.cw_solve.specs.Rounds.{IsCell, holds_by};
+ghost use Rattle.cw_solve.specs.Tables.{IsTable, IsTabled, HasCell};
+ghost use Rattle.cw_linked.specs.Calls.{AreCallers, AsksCaller};
+ghost use Rattle.cw_linked.specs.Founds.{AreRight, AllCalled, AllStanding, IsTied};
+ghost use Rattle.cw_linked.specs.Popped.{Finishes};
+ghost use Rattle.cw_linked.specs.Queues.{found_of, AreQueued, AreLong, AreOwners, AreHigh, IsCellAt};
+ghost use Rattle.cw_linked.specs.Returns.{AreFew, Returns, AsksReturn};
+ghost use Rattle.cw_linked.specs.Steps.{CallsBy, IsIt};
+ghost use Rattle.cw_linked.specs.Tied.{IsTieable, TiesLink, AsksCalls, AsksAgain};
+ghost use Rattle.cw_linked.specs.Works.{heights_of};
+
+use crate::calls::ask_call;
+use crate::returns::ask_return;
+use crate::work::{Cell, Work};
+use cw_core::{NoMemory, PosId, StateId, StateSet};
+use cw_product::Game;
+use cw_solve::table::{Table, Tabled, slot};
+
+/// The height that is taken of a cell, 0 where none is.
+fn height_at(game: &Game, table: &Table, at: &Tabled, pos: PosId, state: StateId) -> u32
+    requires routed { AreRouted (game_of game.now) (length game.now.graph.parts.items) }
+    requires table { IsTable (game_of game.now) table.now }
+    requires cell { HasCell (game_of game.now) table.now at.now pos.0 state.0 }
+    ensures { result ≡ heights_of (game_of game.now) table.now at.now.number pos.0 state.0 }
+{
+    table.heights[slot(game, table, at, pos, state)]
+}
+
+/// Whether the taken heights tell of a cell that it holds for so many moves.
+fn stays(game: &Game, table: &Table, at: &Tabled, pos: PosId, state: StateId, moves: u32) -> bool
+    requires routed { AreRouted (game_of game.now) (length game.now.graph.parts.items) }
+    requires table { IsTable (game_of game.now) table.now }
+    requires cell { HasCell (game_of game.now) table.now at.now pos.0 state.0 }
+    ensures { result ≡ holds_by moves (heights_of (game_of game.now) table.now at.now.number pos.0 state.0) }
+{
+    let height = height_at(game, table, at, pos, state);
+    height == 0 || moves < height
+}
+
+/// What a link's call promises for so many moves, as the taken heights tell.
+pub(crate) fn promise_of(
+    game: &Game,
+    table: &Table,
+    link: &Cell,
+    back: PosId,
+    split: bool,
+    moves: u32,
+) -> StateSet
+    requires routed { AreRouted (game_of game.now) (length game.now.graph.parts.items) }
+    requires table { IsTable (game_of game.now) table.now }
+    requires cell { HasCell (game_of game.now) table.now link.now.at back.0 link.now.state.0 }
+    ensures { IsSetOf (game_of game.now) result (λ x. holds_by moves
+        (heights_of (game_of game.now) table.now link.now.at.number back.0 (returned (game_of game.now).states (kept_at split link.now.state.0) x))) }
+{
+    let mut set = StateSet::empty();
+    for x in 0..game.states() {
+        let exit = StateId(x);
+        let then = game.returned(link.state, exit, split);
+        if stays(game, table, &link.at, back, then, moves) {
+            set.insert(exit);
+        }
+    }
+    set
+}
+
+/// Ties the link at a place to the context of a number, with a promise for so many moves.
+fn tie(work: &mut Work, place: usize, number: usize, moves: u32)
+    requires long { AreLong work.old }
+    requires queued { AreQueued work.old }
+    requires callers { AreCallers work.old }
+    requires few { length work.old.table.heights.items ≤ 4194304 }
+    requires within { place < length work.old.table.heights.items }
+    requires number { number < length work.old.table.contexts.items }
+    ensures { TiesLink work.old work.new place number moves }
+{
+    let to = number as u32 + 1;
+    work.callers.move_to(place as u32, to);
+    work.to[place] = to;
+    work.waves[place] = moves;
+}
+
+/// Asks for the call of a link, if the callee is lost from the cell's state.
+fn ask_lost(game: &Game, work: &mut Work, cell: &Cell, place: usize) -> Result<(), NoMemory>
+    requires routed { AreRouted (game_of game.now) (length game.now.graph.parts.items) }
+    requires table { IsTable (game_of game.now) work.old.table }
+    requires cell { HasCell (game_of game.now) work.old.table cell.now.at cell.now.pos.0 cell.now.state.0 }
+    requires entry { cell.now.pos.0 ≡ (game_of game.now).entry cell.now.at.context.function }
+    requires within { place < length work.old.table.heights.items }
+    requires owners { AreOwners (game_of game.now) work.old }
+    requires long { AreLong work.old }
+    requires queued { AreQueued work.old }
+    requires high { AreHigh work.old }
+    requires right { AreRight (game_of game.now) work.old.table.contexts.items (found_of (game_of game.now) work.old) }
+    ensures { OnOk result (AsksCaller (game_of game.now) work.old work.new place cell.now) }
+{
+    let height = height_at(game, &work.table, &cell.at, cell.pos, cell.state);
+    if height == 0 {
+        return Ok(());
+    }
+    ask_call(game, work, cell, height, place)?;
+    Ok(())
+}
+
+/// Asks for the calls of a link from whose states the callee is lost.
+fn ask_calls(
+    game: &Game,
+    work: &mut Work,
+    place: usize,
+    link: &Cell,
+    callee: &Tabled,
+) -> Result<(), NoMemory>
+    requires routed { AreRouted (game_of game.now) (length game.now.graph.parts.items) }
+    requires table { IsTable (game_of game.now) work.old.table }
+    requires at { IsCellAt (game_of game.now) work.old place link.now }
+    requires callee { IsTabled work.old.table callee.now }
+    requires goes { slice_index work.old.to.items place ≡ suc callee.now.number }
+    requires owners { AreOwners (game_of game.now) work.old }
+    requires long { AreLong work.old }
+    requires queued { AreQueued work.old }
+    requires high { AreHigh work.old }
+    requires right { AreRight (game_of game.now) work.old.table.contexts.items (found_of (game_of game.now) work.old) }
+    requires called { AllCalled (game_of game.now) work.old.table.contexts.items (found_of (game_of game.now) work.old)
+        (CallsBy (game_of game.now) link.now.at.number link.now.pos.0 link.now.state.0) }
+    ensures { OnOk result (AsksCalls (game_of game.now) work.old work.new) }
+{
+    let entry = game.entry(callee.context.function);
+    for q in 0..game.states() {
+        let cell = Cell {
+            at: *callee,
+            pos: entry,
+            state: StateId(q),
+        };
+        ask_lost(game, work, &cell, place)?;
+    }
+    Ok(())
+}
+
+/// Asks for the link at a position that returns to the cell, if the cell is lost.
+fn ask_back(game: &Game, work: &mut Work, cell: &Cell, pos: PosId) -> Result<(), NoMemory>
+    requires routed { AreRouted (game_of game.now) (length game.now.graph.parts.items) }
+    requires table { IsTable (game_of game.now) work.old.table }
+    requires cell { HasCell (game_of game.now) work.old.table cell.now.at cell.now.pos.0 cell.now.state.0 }
+    requires position { IsPosition (game_of game.now) pos.0 }
+    requires few { AreFew work.old }
+    requires long { AreLong work.old }
+    requires queued { AreQueued work.old }
+    requires high { AreHigh work.old }
+    requires right { AreRight (game_of game.now) work.old.table.contexts.items (found_of (game_of game.now) work.old) }
+    ensures { OnOk result (AsksReturn (game_of game.now) work.old work.new cell.now pos.0) }
+{
+    let height = height_at(game, &work.table, &cell.at, cell.pos, cell.state);
+    if height == 0 {
+        return Ok(());
+    }
+    ask_return(game, work, cell, height, pos)?;
+    Ok(())
+}
+
+/// Asks for a link that was tied, if states of its promise return to taken pairs.
+fn ask_again(game: &Game, work: &mut Work, link: &Cell, back: PosId) -> Result<(), NoMemory>
+    requires routed { AreRouted (game_of game.now) (length game.now.graph.parts.items) }
+    requires table { IsTable (game_of game.now) work.old.table }
+    requires cell { HasCell (game_of game.now) work.old.table link.now.at link.now.pos.0 link.now.state.0 }
+    requires back { IsOf (game_of game.now) link.now.at.context.function back.0 }
+    requires returns { Returns (game_of game.now) link.now.pos.0 back.0 }
+    requires tied { IsTied (found_of (game_of game.now) work.old) link.now.at.number link.now.pos.0 link.now.state.0 }
+    requires few { AreFew work.old }
+    requires long { AreLong work.old }
+    requires queued { AreQueued work.old }
+    requires high { AreHigh work.old }
+    requires right { AreRight (game_of game.now) work.old.table.contexts.items (found_of (game_of game.now) work.old) }
+    requires standing { AllStanding (game_of game.now) work.old.table.contexts.items (found_of (game_of game.now) work.old)
+        (IsIt link.now.at.number link.now.pos.0 link.now.state.0) }
+    ensures { OnOk result (AsksAgain (game_of game.now) work.old work.new) }
+{
+    for q in 0..game.states() {
+        let cell = Cell {
+            at: link.at,
+            pos: back,
+            state: StateId(q),
+        };
+        ask_back(game, work, &cell, link.pos)?;
+    }
+    Ok(())
+}
+
+/// Ties a link to a context that has its promise, and asks for what is left to do then.
+pub(crate) fn tie_link(
+    game: &Game,
+    work: &mut Work,
+    place: usize,
+    link: &Cell,
+    back: PosId,
+    moves: u32,
+    callee: &Tabled,
+) -> Result<(), NoMemory>
+    requires routed { AreRouted (game_of game.now) (length game.now.graph.parts.items) }
+    requires tieable { IsTieable (game_of game.now) work.old link.now place moves callee.now.number back.0 callee.now.context }
+    ensures { OnOk result (Finishes (game_of game.now) work.old work.new) }
+{
+    tie(work, place, callee.number, moves);
+    ask_calls(game, work, place, link, callee)?;
+    ask_again(game, work, link, back)?;
+    Ok(())
+}
