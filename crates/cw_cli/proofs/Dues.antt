@@ -1,10 +1,11 @@
 -- What is due for a command, from what is due for its files one by one.
-use Rattle.std.proofs.Common.{◌≡◌, ℕ, List, [], ◌∷◌, length, map, get_or, Result, refl, sym, ap, ap₂, subst, arith}
-use Rattle.std.specs.Prelude.{IfOk}
+use Rattle.std.proofs.Common.{◌≡◌, ℕ, List, [], ◌∷◌, length, map, get_or, Option, Some, Result, refl, sym, ap, ap₂, subst, arith}
+use Rattle.std.specs.Prelude.{IfOk, IfSome}
 use Rattle.cw_commands.specs.declared.command.Command.{Command}
 use Rattle.cw_commands.specs.declared.command.Command.TheVariants.{Weave, Graph, Refute, Check, Play, Run, Sample}
 use Rattle.cw_commands.specs.declared.outcome.Outcome.{Outcome}
 use Rattle.cw_commands.specs.Outcomes.{due_of}
+use Rattle.cw_commands.specs.Words.{Wish}
 use Rattle.cw_cli.specs.Checking.{IsCheckDue}
 use Rattle.cw_cli.specs.Due.{IsDue}
 use Rattle.cw_cli.specs.Listings.{IsListingDue}
@@ -45,6 +46,10 @@ module _ {A : Type 0} (f : A → List ℕ) where
   four_of (x ∷ (y ∷ (z ∷ []))) a b d k n e g h i = absurd (omega (arith, n))
   four_of (x ∷ (y ∷ (z ∷ (w ∷ [])))) a b d k n e g h i = ap₂ (λ c r. f c ∷ r) (sym e) (ap₂ (λ c r. f c ∷ r) (sym g) (ap₂ (λ c r. f c ∷ (f r ∷ [])) (sym h) (sym i)))
   four_of (x ∷ (y ∷ (z ∷ (w ∷ (v ∷ xs))))) a b d k n e g h i = absurd (omega (arith, n))
+
+-- what is so of a wish, where the words ask for it
+pub wished : (P : Wish → Type 0) (asked : Option Wish) (wish : Wish) → Some wish ≡ asked → P wish → IfSome asked P
+wished P asked wish e p = subst (λ o. IfSome o P) e p
 
 module _ {E : Type 0} (command : Command) (files : List (List ℕ)) (result : Result Outcome E) where
   pub weave_is_due : (policy source p s : List ℕ) → command ≡ Weave → files ≡ policy ∷ (source ∷ []) → p ≡ policy → s ≡ source

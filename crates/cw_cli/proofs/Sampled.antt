@@ -15,7 +15,7 @@ use Rattle.cw_cli.specs.Refuting.{yes, IsRefuteDue}
 use Rattle.cw_cli.specs.Sampling.{summary, IsSampleDue, IsSummed}
 use Rattle.cw_cli.specs.Weaving.{IsWeaveDue, Weaves}
 use Rattle.cw_cli.proofs.Agreeing.{refuted_is_judged, woven_is_checked}
-use Rattle.cw_cli.proofs.Counted.{weaves_by, weaves_told}
+use Rattle.cw_cli.proofs.Counted.{is_weave_due, weaves_by, weaves_told}
 
 module _ (number : ℕ) (numbers : Numbers) where
   abbrev Counted : PlainPolicy → File → Game → Due → Type 0
@@ -46,3 +46,11 @@ checked_yes policy source text due short woven is = (woven_is_checked policy sou
 
 pub judged_yes : (policy source text : List ℕ) (due : Due) → IsWeaveDue policy source (Told No text) → IsRefuteDue policy source text due → due ≡ Told Yes yes
 judged_yes policy source text due refuted is = (refuted_is_judged policy source text refuted).1 due is
+
+-- what is due with its numbers is due for `weave`, also where the same texts are called otherwise
+pub due_again : (numbers : Numbers) (p p' s s' text text' : List ℕ) (r : Reply) → p ≡ p' → s ≡ s' → text ≡ text'
+    → Weaves (λ whole file. IsCounted numbers whole s file) p s (Told r text) → IsWeaveDue p' s' (Told r text')
+due_again numbers p p' s s' text text' r ep es et h =
+    let one = subst (λ (x : List ℕ). IsWeaveDue x s (Told r text)) ep (is_weave_due numbers p s (Told r text) h) in
+    let two = subst (λ (x : List ℕ). IsWeaveDue p' x (Told r text)) es one in
+    subst (λ (x : List ℕ). IsWeaveDue p' s' (Told r x)) et two

@@ -1,5 +1,5 @@
 -- What is woven and what is refuted, from what the crates below give.
-use Rattle.std.proofs.Common.{◌≡◌, ℕ, ◌≤◌, List, [], length, map, sym, subst}
+use Rattle.std.proofs.Common.{◌≡◌, ℕ, ◌≤◌, List, [], length, map, refl, sym, subst}
 use Rattle.std.specs.Prelude.{codes}
 use Rattle.cw_rights.specs.Policies.{PlainPolicy}
 use Rattle.cw_syntax.specs.declared.marks.SeamMark.{SeamMark as MarkData}
@@ -53,21 +53,23 @@ is_sound p g t of good short = sound (Reached g.policy g.spots g.states) p g t o
 
 pub is_woven : (whole : PlainPolicy) (source : List ℕ) (file : File) (g : Game) (marks : List MarkData) (table : Table) (bytes : List ℕ)
     → ReadsAs source file → IsGameOf (problem_of whole source file) g → map mark_of marks ≡ marks_of (plan_of (names_of whole) source file)
-    → IsWritten whole source marks table bytes → IsMadeTable g table → Sound (problem_of whole source file) table → IsWoven whole source file g bytes
+    → IsWritten whole source marks table bytes → IsMadeTable g table → Sound (problem_of whole source file) table → (woven : IsWoven whole source file g bytes) × (woven.table ≡ table)
 is_woven whole source file g marks table bytes reads of same written made holds =
-    let p = problem_of whole source file in
-    record {
-      table = table;
-      stands = subst (λ ms. Stands bytes source ms table whole) same written.stands;
-      inserted = written.cuts (no_marker source file reads) (subst (ArePlainMarks source) (sym same) (plain_marks (names_of whole) source file reads));
-      is_lazy = made.is_lazy;
-      ascends = made.ascends;
-      few = made.few;
-      good = made.good;
-      sound = holds;
-      lazy = lazy (Reached g.policy g.spots g.states) p g table of.policy of.states of.laid of.routines (good_closed g table made.good) made.lost;
-      never = never_forced p table holds;
-    }
+    let p = problem_of whole source file in (
+      record {
+        table = table;
+        stands = subst (λ ms. Stands bytes source ms table whole) same written.stands;
+        inserted = written.cuts (no_marker source file reads) (subst (ArePlainMarks source) (sym same) (plain_marks (names_of whole) source file reads));
+        is_lazy = made.is_lazy;
+        ascends = made.ascends;
+        few = made.few;
+        good = made.good;
+        sound = holds;
+        lazy = lazy (Reached g.policy g.spots g.states) p g table of.policy of.states of.laid of.routines (good_closed g table made.good) made.lost;
+        never = never_forced p table holds;
+      },
+      refl,
+    )
 
 -- what is made of a game whose start is lost
 pub record IsMadeStrategy (g : Game) (s : Strategy) : Type 0 where
@@ -77,18 +79,20 @@ pub record IsMadeStrategy (g : Game) (s : Strategy) : Type 0 where
   pub good : IsGoodStrategy g s
 
 pub is_refuted : (whole : PlainPolicy) (source : List ℕ) (file : File) (g : Game) (s : Strategy) (bytes : List ℕ)
-    → IsGameOf (problem_of whole source file) g → bytes ≡ strategy_text whole.format s → IsMadeStrategy g s → IsRefuted whole source file g bytes
+    → IsGameOf (problem_of whole source file) g → bytes ≡ strategy_text whole.format s → IsMadeStrategy g s → (refuted : IsRefuted whole source file g bytes) × (refuted.strategy ≡ s)
 is_refuted whole source file g s bytes of spelled made =
     let p = problem_of whole source file in
     let wins = all_beat g s made.good p of in
-    let beats = wins.2 in
-    record {
-      strategy = s;
-      spelled = spelled;
-      is_least = made.is_least;
-      ascend = made.ascend;
-      few = made.few;
-      good = made.good;
-      wins = wins;
-      forced = beaten_is_forced p s beats.0 wins.0 (start_board p) [] beats.1;
-    }
+    let beats = wins.2 in (
+      record {
+        strategy = s;
+        spelled = spelled;
+        is_least = made.is_least;
+        ascend = made.ascend;
+        few = made.few;
+        good = made.good;
+        wins = wins;
+        forced = beaten_is_forced p s beats.0 wins.0 (start_board p) [] beats.1;
+      },
+      refl,
+    )

@@ -25,14 +25,14 @@ use Rattle.cw_cli.specs.Verdicts.{IsVerdict}
 use Rattle.cw_cli.specs.Weaving.{IsWeaveDue}
 use Rattle.cw_cli.proofs.Withins.{nodes_few}
 
-never_game : (r : Reply) (text : List ℕ) (f : GameFault) → Told r text ≡ game_refusal f → ⊥
+pub never_game : (r : Reply) (text : List ℕ) (f : GameFault) → Told r text ≡ game_refusal f → ⊥
 never_game r text TooManyCaps e = cc
 never_game r text TooManyWords e = cc
 never_game r text TooManyStates e = cc
 never_game r text TooManyPositions e = cc
 never_game r text NoMemory e = cc
 
-never_unread : (policy source : List ℕ) (r : Reply) (text : List ℕ) → IsUnread policy source (Told r text) → ⊥
+pub never_unread : (policy source : List ℕ) (r : Reply) (text : List ℕ) → IsUnread policy source (Told r text) → ⊥
 never_unread policy source r text (inl (f, is, ne, e)) = cc
 never_unread policy source r text (inr (whole, spelled, inl (f, is, ne, e))) = cc
 never_unread policy source r text (inr (whole, spelled, inr (file, reads, (f, is, e)))) = cc

@@ -17,8 +17,7 @@ use crate::running::run_due;
 use crate::sampling::sample_due;
 use crate::weaving::weave_due;
 use cw_commands::{
-    Command, Ending, Outcome, Request, deliver, first_command, put_ending, put_usage, read_files,
-    requested,
+    Command, Ending, Outcome, deliver, first_command, put_ending, put_usage, read_files, requested,
 };
 use cw_core::NoMemory;
 use cw_io::{Shelf, Sink};
@@ -112,11 +111,11 @@ pub fn capweave<F: Shelf, O: Sink, N: Sink>(
             return Ending::Memory.status();
         }
     };
-    let Some(Request { command, names }) = request else {
+    let Some(request) = request else {
         let _ = put_usage(note, first_command(words));
         return USAGE;
     };
-    let ending = perform(alloc, command, &names, shelf, out);
+    let ending = perform(alloc, request.command, &request.names, shelf, out);
     let _ = put_ending(note, &ending);
     ending.status()
 }

@@ -65,10 +65,10 @@ returns-in-Run-len3 c =
     c.deref-in-Run-len3.ensures.value c.deref-in-Run-len3-2.ensures.value c.deref-in-Run-len3-3.ensures.value c.run_due.ensures.due
 
 pub sample_due-requires : goal.sample_due-requires
-sample_due-requires c = subst IsNumbered c.in-Sample-len0.is-0 c.requires.numbered
+sample_due-requires c = subst IsNumbered c.in-Sample-empty.is-0 c.requires.numbered
 
-pub returns-in-Sample-len0 : goal.returns-in-Sample-len0
-returns-in-Sample-len0 c =
+pub returns-in-Sample-empty : goal.returns-in-Sample-empty
+returns-in-Sample-empty c =
     let files = c.args.files.now in
-    let many : length files ≡ 0 = omega (arith, c.in-Sample-len0.len_below) in
-    sample_is_due c.args.command (map (λ file. file.items) files) c.sample_due.result c.in-Sample-len0.number c.in-Sample-len0.is-0 (none_of (λ file. file.items) files many) c.sample_due.ensures.due
+    let many : length files ≡ 0 = omega (arith, c.in-Sample-empty.len_below) in
+    sample_is_due c.args.command (map (λ file. file.items) files) c.sample_due.result c.in-Sample-empty.number c.in-Sample-empty.is-0 (none_of (λ file. file.items) files many) c.sample_due.ensures.due

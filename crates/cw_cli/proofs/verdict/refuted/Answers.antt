@@ -1,4 +1,4 @@
-use Rattle.std.proofs.Common.{ap, inr, ◌∙◌}
+use Rattle.std.proofs.Common.{ap, sym, inr, ◌∙◌}
 use Rattle.cw_rights.specs.declared.policy.Policy.{Policy}
 use Rattle.cw_rights.specs.Policies.{policy_of}
 use Rattle.cw_syntax.specs.Trees.{file_of}
@@ -29,8 +29,9 @@ returns-in_ok-text-in-Ok c =
       cells = c.make.ensures.cells;
       are_rows = c.make.ensures.rows ∙ c.strategy_rows.ensures;
     } in
+    let refuted = is_refuted whole source file (game_of game) strategy c.in_ok-text-in-Ok.text.items c.requires.is_game spelled made in
     inr (
-      is_refuted whole source file (game_of game) strategy c.in_ok-text-in-Ok.text.items c.requires.is_game spelled made,
-      kept.are_rows,
+      refuted.0,
+      kept.are_rows ∙ ap rows_of (sym refuted.1),
       are_numbers game c.args.solved.now c.make.result (rows_of strategy) whole source file c.requires.graph kept,
     )

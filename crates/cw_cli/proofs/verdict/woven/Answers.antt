@@ -49,9 +49,10 @@ returns-in_ok-text-in-Ok c =
       cells = c.make.ensures.cells;
       are_rows = c.make.ensures.rows ∙ c.table_rows.ensures;
     } in
+    let woven = is_woven whole source file (game_of game) marks table bytes c.requires.reads c.requires.is_game same written made sound in
     inr (
-      is_woven whole source file (game_of game) marks table bytes c.requires.reads c.requires.is_game same written made sound,
-      kept.are_rows,
+      woven.0,
+      kept.are_rows ∙ ap table_rows (sym woven.1),
       are_numbers game c.args.solved.now c.make.result (table_rows table) whole source file c.requires.graph kept,
     )
 
