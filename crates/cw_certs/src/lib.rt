@@ -8,6 +8,7 @@ mod strategy;
 mod table;
 
 pub use moves::Move;
+pub use order::Keyed;
 pub use rows::{AtRow, BackRow, IntoRow, OpenRow, TryRow};
 pub use strategy::{EnvCert, EnvRow, How};
 pub use table::WeaverCert;

@@ -12,7 +12,7 @@ use cw_core::{MemId, PosId, StateId, StateSet};
 use std::cmp::Ordering;
 
 /// A row of a list that ascends by a key of its own.
-pub trait Row {
+pub trait Keyed {
     ghost order: { Self → Self → Ordering };
 
     /// The key beside that of another row.
@@ -22,7 +22,7 @@ pub trait Row {
     ghost total: { IsTotalOrder order };
 }
 
-impl Row for (StateId, StateSet) {
+impl Keyed for (StateId, StateSet) {
     ghost order = { mem_cmp };
 
     ghost total = { then_total (on_total (λ r. r.0.0) nat_cmp_total) (on_total (λ r. r.1) nat_cmp_total) };
@@ -32,7 +32,7 @@ impl Row for (StateId, StateSet) {
     }
 }
 
-impl Row for (PosId, MemId) {
+impl Keyed for (PosId, MemId) {
     ghost order = { live_cmp };
 
     ghost total = { then_total (on_total (λ r. r.0.0) nat_cmp_total) (on_total (λ r. r.1.0) nat_cmp_total) };
@@ -42,7 +42,7 @@ impl Row for (PosId, MemId) {
     }
 }
 
-impl Row for TryRow {
+impl Keyed for TryRow {
     ghost order = { try_cmp };
 
     ghost total = { then_total (on_total (λ r. r.seam.0) nat_cmp_total) (then_total (on_total (λ r. r.stage) nat_cmp_total) (on_total (λ r. r.mem.0) nat_cmp_total)) };
@@ -56,7 +56,7 @@ impl Row for TryRow {
     }
 }
 
-impl Row for AtRow {
+impl Keyed for AtRow {
     ghost order = { at_cmp };
 
     ghost total = { then_total (on_total (λ r. r.seam.0) nat_cmp_total) (on_total (λ r. r.mem.0) nat_cmp_total) };
@@ -69,7 +69,7 @@ impl Row for AtRow {
     }
 }
 
-impl Row for OpenRow {
+impl Keyed for OpenRow {
     ghost order = { open_cmp };
 
     ghost total = { then_total (on_total (λ r. r.seam.0) nat_cmp_total) (on_total (λ r. r.mem.0) nat_cmp_total) };
@@ -82,7 +82,7 @@ impl Row for OpenRow {
     }
 }
 
-impl Row for IntoRow {
+impl Keyed for IntoRow {
     ghost order = { into_cmp };
 
     ghost total = { then_total (on_total (λ r. r.seam.0) nat_cmp_total) (then_total (on_total (λ r. r.split) bool_cmp_total) (on_total (λ r. r.mem.0) nat_cmp_total)) };
@@ -96,7 +96,7 @@ impl Row for IntoRow {
     }
 }
 
-impl Row for BackRow {
+impl Keyed for BackRow {
     ghost order = { back_cmp };
 
     ghost total = { then_total (on_total (λ r. r.seam.0) nat_cmp_total) (then_total (on_total (λ r. r.split) bool_cmp_total) (then_total (on_total (λ r. r.mem.0) nat_cmp_total) (on_total (λ r. r.exit.0) nat_cmp_total))) };
@@ -113,7 +113,7 @@ impl Row for BackRow {
 }
 
 /// Whether each row's key is below that of the next.
-pub fn ascends<R: Row>(rows: &[R]) -> bool
+pub fn ascends<R: Keyed>(rows: &[R]) -> bool
     ensures { MatchBool result (IsStrictlySortedBy R.order rows.now) (IsStrictlySortedBy R.order rows.now → ⊥) }
 {
     for i in 1..rows.len() {

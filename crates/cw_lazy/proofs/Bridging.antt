@@ -91,7 +91,8 @@ module _ (g : Game) (staged : AreStaged g) (lost : (p q e : ℕ) → Bool) (set 
   move_live : (k b : Key) → Live k → (o : Option Spot) → slice_get g.spots k.pos ≡ o → Contains (answered g lost set k o) b → Live b
   move_live k b live o es c = by (weavers_in o) (is_call_in o) refl refl c
     where
-      by : (w v : Bool) → weavers_in o ≡ w → is_call_in o ≡ v → Contains (cond (w || v) [] (filter_map (λ by. option_map (λ (c : Config). key c.pos c.state k.promise) (leads_in g k.pos k.state [] o by)) moves_on)) b → Live b
+      by : (w v : Bool) → weavers_in o ≡ w → is_call_in o ≡ v
+          → Contains (cond (w || v) [] (filter_map (λ by. option_map (λ (c : Config). key c.pos c.state k.promise) (leads_in g k.pos k.state [] o by)) moves_on)) b → Live b
       by true v ew ev c = absurd (nothing b c)
       by false true ew ev c = absurd (nothing b c)
       by false false ew ev c =
@@ -123,10 +124,12 @@ module _ (g : Game) (staged : AreStaged g) (lost : (p q e : ℕ) → Bool) (set 
       by true e = same_Some (k.pos, k.promise) x e
       by false e = absurd (none-some x e)
 
-  join_live : (a b : Key) (x : ℕ × ℕ) → Live a → Live b → (o : Option Called) → call_in (slice_get g.spots a.pos) ≡ o → waits g lost set a o ≡ Some x → ends g lost set b (slice_get g.spots b.pos) ≡ Some x → Live (back g lost set a o b)
+  join_live : (a b : Key) (x : ℕ × ℕ) → Live a → Live b → (o : Option Called) → call_in (slice_get g.spots a.pos) ≡ o → waits g lost set a o ≡ Some x
+      → ends g lost set b (slice_get g.spots b.pos) ≡ Some x → Live (back g lost set a o b)
   join_live a b x la lb None es w e = la
   join_live a b x la lb (Some call) es w e =
-      let z : (g.exit call.function, set a.pos a.state a.promise) ≡ (b.pos, b.promise) = same_Some (g.exit call.function, set a.pos a.state a.promise) x w ∙ sym (ends_at b (slice_get g.spots b.pos) x e) in
+      let z : (g.exit call.function, set a.pos a.state a.promise) ≡ (b.pos, b.promise) = same_Some (g.exit call.function, set a.pos a.state a.promise) x w
+      ∙ sym (ends_at b (slice_get g.spots b.pos) x e) in
       let l : IsLive g (g.exit call.function) b.state (set a.pos a.state a.promise) = subst (λ (y : ℕ × ℕ). IsLive g y.0 b.state y.1) (sym z) lb in
       returns a.pos a.state a.promise (set a.pos a.state a.promise) b.state call la es (right.full a.pos a.state a.promise call la es) l
 
@@ -158,25 +161,29 @@ module _ (g : Game) (staged : AreStaged g) (lost : (p q e : ℕ) → Bool) (set 
   to_visited k b c =
       let o = slice_get g.spots k.pos in
       let r = resumed g k.pos k.state in
-      Contains-append_left (visited g lost set k o ++ begun g lost set k (call_in o)) (answered g lost set k o ++ gone_on g lost set k r) b (Contains-append_left (visited g lost set k o) (begun g lost set k (call_in o)) b c)
+      Contains-append_left (visited g lost set k o ++ begun g lost set k (call_in o)) (answered g lost set k o ++ gone_on g lost set k r) b
+      (Contains-append_left (visited g lost set k o) (begun g lost set k (call_in o)) b c)
 
   to_begun : (k b : Key) → Contains (begun g lost set k (call_in (slice_get g.spots k.pos))) b → Contains (after g lost set k (slice_get g.spots k.pos)) b
   to_begun k b c =
       let o = slice_get g.spots k.pos in
       let r = resumed g k.pos k.state in
-      Contains-append_left (visited g lost set k o ++ begun g lost set k (call_in o)) (answered g lost set k o ++ gone_on g lost set k r) b (Contains-append_right (visited g lost set k o) (begun g lost set k (call_in o)) b c)
+      Contains-append_left (visited g lost set k o ++ begun g lost set k (call_in o)) (answered g lost set k o ++ gone_on g lost set k r) b
+      (Contains-append_right (visited g lost set k o) (begun g lost set k (call_in o)) b c)
 
   to_answered : (k b : Key) → Contains (answered g lost set k (slice_get g.spots k.pos)) b → Contains (after g lost set k (slice_get g.spots k.pos)) b
   to_answered k b c =
       let o = slice_get g.spots k.pos in
       let r = resumed g k.pos k.state in
-      Contains-append_right (visited g lost set k o ++ begun g lost set k (call_in o)) (answered g lost set k o ++ gone_on g lost set k r) b (Contains-append_left (answered g lost set k o) (gone_on g lost set k r) b c)
+      Contains-append_right (visited g lost set k o ++ begun g lost set k (call_in o)) (answered g lost set k o ++ gone_on g lost set k r) b
+      (Contains-append_left (answered g lost set k o) (gone_on g lost set k r) b c)
 
   to_gone : (k b : Key) → Contains (gone_on g lost set k (resumed g k.pos k.state)) b → Contains (after g lost set k (slice_get g.spots k.pos)) b
   to_gone k b c =
       let o = slice_get g.spots k.pos in
       let r = resumed g k.pos k.state in
-      Contains-append_right (visited g lost set k o ++ begun g lost set k (call_in o)) (answered g lost set k o ++ gone_on g lost set k r) b (Contains-append_right (answered g lost set k o) (gone_on g lost set k r) b c)
+      Contains-append_right (visited g lost set k o ++ begun g lost set k (call_in o)) (answered g lost set k o ++ gone_on g lost set k r) b
+      (Contains-append_right (answered g lost set k o) (gone_on g lost set k r) b c)
 
   is_false : (b : Bool) → (b ≡ true → ⊥) → b ≡ false
   is_false true h = absurd (h refl)
@@ -186,15 +193,18 @@ module _ (g : Game) (staged : AreStaged g) (lost : (p q e : ℕ) → Bool) (set 
   is_true true h = refl
   is_true false h = absurd (h refl)
 
-  visit_to : (p q e j i : ℕ) (a : Primitive) (l : Bool) → slice_get g.spots p ≡ Some (Visit j i a) → lost (p + 2) q e ≡ l → Contains (visited g lost set (key p q e) (slice_get g.spots p)) (key (cond l (p + 1) (p + 2)) q e)
+  visit_to : (p q e j i : ℕ) (a : Primitive) (l : Bool) → slice_get g.spots p ≡ Some (Visit j i a) → lost (p + 2) q e ≡ l
+      → Contains (visited g lost set (key p q e) (slice_get g.spots p)) (key (cond l (p + 1) (p + 2)) q e)
   visit_to p q e j i a l es el =
       subst (λ o. Contains (visited g lost set (key p q e) o) (key (cond l (p + 1) (p + 2)) q e)) (sym es)
       (subst (λ b. Contains (key (cond b (p + 1) (p + 2)) q e ∷ []) (key (cond l (p + 1) (p + 2)) q e)) (sym el) (the_one (key (cond l (p + 1) (p + 2)) q e)))
 
-  move_to : (p q e : ℕ) (o : Option Spot) (by : Move) (c : Config) → weavers_in o ≡ false → is_call_in o ≡ false → leads_in g p q [] o by ≡ Some c → Contains (answered g lost set (key p q e) o) (key c.pos c.state e)
+  move_to : (p q e : ℕ) (o : Option Spot) (by : Move) (c : Config) → weavers_in o ≡ false → is_call_in o ≡ false → leads_in g p q [] o by ≡ Some c
+      → Contains (answered g lost set (key p q e) o) (key c.pos c.state e)
   move_to p q e o by c w k l =
       subst (λ b. Contains (cond b [] (filter_map (λ by. option_map (λ (c : Config). key c.pos c.state e) (leads_in g p q [] o by)) moves_on)) (key c.pos c.state e)) (sym (ap₂ (λ x y. x || y) w k))
-      (of_in _ _ (kept_in (λ by. option_map (λ (c : Config). key c.pos c.state e) (leads_in g p q [] o by)) moves_on by (key c.pos c.state e) (in_moves p q o by c w l) (ap (option_map (λ (c : Config). key c.pos c.state e)) l)))
+      (of_in _ _ (kept_in (λ by. option_map (λ (c : Config). key c.pos c.state e) (leads_in g p q [] o by)) moves_on by (key c.pos c.state e) (in_moves p q o by c w l)
+      (ap (option_map (λ (c : Config). key c.pos c.state e)) l)))
 
   pub live_member : (p q e : ℕ) → IsLive g p q e → IsMember (rules g lost set) start (key p q e)
   live_member p q e begins = first
@@ -209,7 +219,8 @@ module _ (g : Game) (staged : AreStaged g) (lost : (p q e : ℕ) → Bool) (set 
   live_member r x y (goes_on p q e pair live is n) =
       let l = is_false (lost pair.0 pair.1 e) (λ t. n (right.on_lost p q e pair live is t)) in
       then (key p q e) (key pair.0 pair.1 e) (live_member p q e live) (to_gone (key p q e) (key pair.0 pair.1 e)
-      (subst (λ o. Contains (gone_on g lost set (key p q e) o) (key pair.0 pair.1 e)) (sym is) (subst (λ b. Contains (cond b [] (key pair.0 pair.1 e ∷ [])) (key pair.0 pair.1 e)) (sym l) (the_one (key pair.0 pair.1 e)))))
+      (subst (λ o. Contains (gone_on g lost set (key p q e) o) (key pair.0 pair.1 e)) (sym is)
+      (subst (λ b. Contains (cond b [] (key pair.0 pair.1 e ∷ [])) (key pair.0 pair.1 e)) (sym l) (the_one (key pair.0 pair.1 e)))))
   live_member r x y (calls p q e s call live es f) =
       let same : set p q e ≡ s = full_is g call q e (set p q e) s (right.full p q e call live es) f in
       subst (λ z. IsMember (rules g lost set) start (key (g.entry call.function) q z)) same

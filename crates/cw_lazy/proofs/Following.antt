@@ -1,5 +1,6 @@
 -- What follows a key, by whose turn it is.
-use Rattle.std.proofs.Common.{◌≡◌, ℕ, ◌+◌, ◌<◌, List, [], ◌∷◌, ◌++◌, ◌≤◌, Bool, true, false, cond, ◌||◌, Option, Some, None, filter_map, Result, Ok, Err, nat_eq, length, append-nil, refl, sym, ap, ap₂, ◌∙◌, subst, arith}
+use Rattle.std.proofs.Common.{◌≡◌, ℕ, ◌+◌, ◌<◌, List, [], ◌∷◌, ◌++◌, ◌≤◌, Bool, true, false, cond, ◌||◌, Option, Some, None, filter_map, Result, Ok, Err, nat_eq, length}
+use Rattle.std.proofs.Common.{append-nil, refl, sym, ap, ap₂, ◌∙◌, subst, arith}
 use Rattle.std.specs.Prelude.{slice_get, option_map, Contains, OnOk}
 use Rattle.std.specs.List.{cons_option}
 use Rattle.std.proofs.lemmas.Option.{same_Some}
@@ -13,7 +14,7 @@ use Rattle.cw_game.specs.Games.{Game, Config, returned, leads_in, resumed, resum
 use Rattle.cw_game.specs.Pairs.{Called, call_in, is_call_in, is_exit_in, kept_at}
 use Rattle.cw_product.specs.declared.turn.Turn.{Turn}
 use Rattle.cw_product.specs.declared.turn.Turn.TheVariants as turn
-use Rattle.cw_product.specs.Moves.{IsPosition, IsState, pair_of, numbers, is_left_in, next_in, next_at, turn_in}
+use Rattle.cw_product.specs.Moves.{IsPosition, IsState, pair_of, numbers, is_left_in, next_in, turn_in}
 use Rattle.cw_product.specs.Product.{Held as HeldGame, game_of}
 use Rattle.cw_solve.specs.Contexts.{context}
 use Rattle.cw_solve.specs.Routes.{targets}
@@ -24,7 +25,8 @@ use Rattle.cw_solve.proofs.Still.{first_of_two}
 use Rattle.cw_solve.proofs.Tabling.{there}
 use Rattle.cw_solve.proofs.Turning.{turn_call}
 use Rattle.cw_lazy.specs.declared.key.Key.{Key}
-use Rattle.cw_lazy.specs.Choices.{lost_in, promised, promised_in, set_in, choices, start_of, returning, IsThere, IsReady, CanFollow}
+use Rattle.cw_solve.specs.Numbering.{IsUnder}
+use Rattle.cw_lazy.specs.Choices.{lost_in, promised, promised_in, set_in, choices, returning, CanFollow}
 use Rattle.cw_lazy.specs.Closing.{key, moves_on, visited, begun, answered, gone_on, waits, ends, back}
 use Rattle.cw_lazy.specs.Following.{moved_by, skip_or_try, put_if}
 use Rattle.cw_lazy.specs.Live.{IsLive}
@@ -150,7 +152,8 @@ module _ (g : Game) where
     pub exit_after : (main : Bool) → Turns (turn.Exit main) → [] ≡ (choices g).after k
     exit_after main e = sym (ap after_in (exit_in spot main e).1)
 
-    calls_after : (j f n set : ℕ) (split : Bool) (o : Option Spot) → (is_call_in o ≡ true) × (call_in o ≡ Some (the_call j f n split)) → set ≡ set_in g k.pos k.state k.promise → key (g.entry f) k.state set ∷ [] ≡ after_in o
+    calls_after : (j f n set : ℕ) (split : Bool) (o : Option Spot) → (is_call_in o ≡ true) × (call_in o ≡ Some (the_call j f n split)) → set ≡ set_in g k.pos k.state k.promise
+        → key (g.entry f) k.state set ∷ [] ≡ after_in o
     calls_after j f n set split (Some (Call a b c)) e s = ap₂ (λ (x y : ℕ). key (g.entry x) k.state y ∷ []) (ap function_of (sym e.1)) s
       where
         function_of : Option Called → ℕ
@@ -240,10 +243,10 @@ module _ (h : HeldGame) (s : Held) (k : Key) (can : CanFollow h s k) where
   pub is_safe : IsSafe g functions k.pos k.state k.promise
   is_safe = safe_at g functions can.ready.begins k.pos k.state k.promise live
 
-  pub within : (p e : ℕ) → IsThere g p e → IsPosition g p
+  pub within : (p e : ℕ) → IsUnder g p e → IsPosition g p
   within p e is = let th = there g functions can.ready.begins.routed (context is.0 e) is.2 in omega (arith, is.1.1, th.ends)
 
-  pub stands : IsThere g k.pos k.promise
+  pub stands : IsUnder g k.pos k.promise
   stands = (is_safe.function, is_safe.of, is_safe.needed)
 
   pub position : IsPosition g k.pos
@@ -255,11 +258,12 @@ module _ (h : HeldGame) (s : Held) (k : Key) (can : CanFollow h s k) where
   pub is_good : bad_in g k.state (slice_get g.spots k.pos) ≡ false
   is_good = good g functions can.ready.begins.routed can.ready.begins.staged k.pos k.state k.promise is_safe.kept
 
-  pub skip_there : Some turn.Weaver ≡ option_map (turn_in g) (slice_get g.spots k.pos) → IsThere g (k.pos + 2) k.promise
+  pub skip_there : Some turn.Weaver ≡ option_map (turn_in g) (slice_get g.spots k.pos) → IsUnder g (k.pos + 2) k.promise
   skip_there e =
       let v = visit_in g (slice_get g.spots k.pos) e in (
         is_safe.function,
-        can.ready.begins.routed.stays is_safe.function k.pos (k.pos + 2) is_safe.below is_safe.of (subst (λ o. Contains (targets k.pos o) (k.pos + 2)) (sym v.3) (first_of_two (k.pos + 2) (k.pos + 1))),
+        can.ready.begins.routed.stays is_safe.function k.pos (k.pos + 2) is_safe.below is_safe.of
+            (subst (λ o. Contains (targets k.pos o) (k.pos + 2)) (sym v.3) (first_of_two (k.pos + 2) (k.pos + 1))),
         is_safe.needed,
       )
 
@@ -269,7 +273,7 @@ module _ (h : HeldGame) (s : Held) (k : Key) (can : CanFollow h s k) where
       let few = can.ready.begins.routed.short in
       omega (arith, lt, few)
 
-  pub back_there : (f : ℕ) (split : Bool) (b : PosId) → Some (turn.Call f split b) ≡ option_map (turn_in g) (slice_get g.spots k.pos) → IsThere g b.0 k.promise
+  pub back_there : (f : ℕ) (split : Bool) (b : PosId) → Some (turn.Call f split b) ≡ option_map (turn_in g) (slice_get g.spots k.pos) → IsUnder g b.0 k.promise
   back_there f split b e =
       let c = call_is g k f split b e in
       (is_safe.function, back_stays g functions can.ready.begins.routed is_safe.function k.pos (the_call c.0 f b.0 split) is_safe.below is_safe.of c.1, is_safe.needed)
@@ -277,7 +281,7 @@ module _ (h : HeldGame) (s : Held) (k : Key) (can : CanFollow h s k) where
   pub callee_below : (f : ℕ) (split : Bool) (b : PosId) → Some (turn.Call f split b) ≡ option_map (turn_in g) (slice_get g.spots k.pos) → f < functions
   callee_below f split b e = let c = call_is g k f split b e in (can.ready.begins.routed.called k.pos (the_call c.0 f b.0 split) c.1).below
 
-  pub on_there : (pair : ℕ × ℕ) → resumed g k.pos k.state ≡ Some pair → IsThere g pair.0 k.promise
+  pub on_there : (pair : ℕ × ℕ) → resumed g k.pos k.state ≡ Some pair → IsUnder g pair.0 k.promise
   on_there pair is =
       let z = resumes g can.ready.begins.routed.closed k.pos k.state (slice_get g.spots k.pos) pair is in
       (is_safe.function, can.ready.begins.routed.stays is_safe.function k.pos pair.0 is_safe.below is_safe.of z.0, is_safe.needed)

@@ -36,21 +36,34 @@ pub record GoesTo (g : Game) (p q : ℕ) (o : Option Spot) (c : Config) : Type 0
   pub lost : (h : ℕ → ℕ → Promise → Bool) (e : Promise) → h c.pos c.state e ≡ false → holds_in g h p q e o ≡ false
 
 module _ (g : Game) (closed : AreClosed g (IsState g)) (p q : ℕ) where
-  pub goes_to : (o : Option Spot) (by : Move) (c : Config) → slice_get g.spots p ≡ o → bad_in g q o ≡ false → weavers_in o ≡ false → is_call_in o ≡ false → leads_in g p q [] o by ≡ Some c → GoesTo g p q o c
+  pub goes_to : (o : Option Spot) (by : Move) (c : Config) → slice_get g.spots p ≡ o → bad_in g q o ≡ false → weavers_in o ≡ false → is_call_in o ≡ false
+      → leads_in g p q [] o by ≡ Some c → GoesTo g p q o c
   goes_to None by c es b w k l = absurd (none-some c l)
   goes_to (Some (Visit j i a)) by c es b w k l = cc
   goes_to (Some (Asked j i Split)) Grant c es b w k l =
       let z = chosen (g.states.may_grant q Split) (past_asked g p q Split []) c l in
-      subst (GoesTo g p q (Some (Asked j i Split))) z.1 (record { target = first_of_two (p + 2) (p + 1); state = λ s. s; lost = λ h e f. and_left _ _ (given (g.states.may_grant q Split) (h (p + 2) q e) z.0 f) })
+      subst (GoesTo g p q (Some (Asked j i Split))) z.1
+      (record { target = first_of_two (p + 2) (p + 1); state = λ s. s; lost = λ h e f. and_left _ _ (given (g.states.may_grant q Split) (h (p + 2) q e) z.0 f) })
   goes_to (Some (Asked j i Enter)) Grant c es b w k l =
       let z = chosen (g.states.may_grant q Enter) (past_asked g p q Enter []) c l in
-      subst (GoesTo g p q (Some (Asked j i Enter))) z.1 (record { target = only (p + 1); state = λ s. closed.granted p j i q Enter es z.0 s; lost = λ h e f. and_left _ _ (given (g.states.may_grant q Enter) (h (p + 1) (g.states.granted q Enter) e) z.0 f) })
+      subst (GoesTo g p q (Some (Asked j i Enter))) z.1 (record {
+        target = only (p + 1);
+        state = λ s. closed.granted p j i q Enter es z.0 s;
+        lost =
+            λ h e f. and_left _ _ (given (g.states.may_grant q Enter) (h (p + 1) (g.states.granted q Enter) e) z.0 f);
+      })
   goes_to (Some (Asked j i (Limit n))) Grant c es b w k l =
       let z = chosen (g.states.may_grant q (Limit n)) (past_asked g p q (Limit n) []) c l in
-      subst (GoesTo g p q (Some (Asked j i (Limit n)))) z.1 (record { target = only (p + 1); state = λ s. closed.granted p j i q (Limit n) es z.0 s; lost = λ h e f. and_left _ _ (given (g.states.may_grant q (Limit n)) (h (p + 1) (g.states.granted q (Limit n)) e) z.0 f) })
+      subst (GoesTo g p q (Some (Asked j i (Limit n)))) z.1 (record {
+        target = only (p + 1);
+        state = λ s. closed.granted p j i q (Limit n) es z.0 s;
+        lost =
+            λ h e f. and_left _ _ (given (g.states.may_grant q (Limit n)) (h (p + 1) (g.states.granted q (Limit n)) e) z.0 f);
+      })
   goes_to (Some (Asked j i Split)) Refuse c es b w k l =
       let z = chosen (refuses_in g q Split) (at_pair (p + 1) q []) c l in
-      subst (GoesTo g p q (Some (Asked j i Split))) z.1 (record { target = second_of_two (p + 2) (p + 1); state = λ s. s; lost = λ h e f. and_right _ _ (given (refuses_in g q Split) (h (p + 1) q e) z.0 f) })
+      subst (GoesTo g p q (Some (Asked j i Split))) z.1
+      (record { target = second_of_two (p + 2) (p + 1); state = λ s. s; lost = λ h e f. and_right _ _ (given (refuses_in g q Split) (h (p + 1) q e) z.0 f) })
   goes_to (Some (Asked j i Enter)) Refuse c es b w k l =
       let z = chosen (refuses_in g q Enter) (at_pair (p + 1) q []) c l in
       subst (GoesTo g p q (Some (Asked j i Enter))) z.1 (record { target = only (p + 1); state = λ s. s; lost = λ h e f. and_right _ _ (given (refuses_in g q Enter) (h (p + 1) q e) z.0 f) })
@@ -63,10 +76,13 @@ module _ (g : Game) (closed : AreClosed g (IsState g)) (p q : ℕ) where
   goes_to (Some (Branch m n)) Left c es b w k l = subst (GoesTo g p q (Some (Branch m n))) (same_Some _ c l) (record { target = first_of_two m n; state = λ s. s; lost = λ h e f. and_left _ _ f })
   goes_to (Some (Branch m n)) Right c es b w k l = subst (GoesTo g p q (Some (Branch m n))) (same_Some _ c l) (record { target = second_of_two m n; state = λ s. s; lost = λ h e f. and_right _ _ f })
   goes_to (Some (Branch m n)) _ c es b w k l = absurd (none-some c l)
-  goes_to (Some (Label j x n)) On c es b w k l = subst (GoesTo g p q (Some (Label j x n))) (same_Some _ c l) (record { target = only n; state = λ s. closed.lettered p j x n q es b s; lost = λ h e f. and_right _ _ f })
+  goes_to (Some (Label j x n)) On c es b w k l = subst (GoesTo g p q (Some (Label j x n))) (same_Some _ c l)
+      (record { target = only n; state = λ s. closed.lettered p j x n q es b s; lost = λ h e f. and_right _ _ f })
   goes_to (Some (Label j x n)) _ c es b w k l = absurd (none-some c l)
-  goes_to (Some (Open j d n)) Opened c es b w k l = subst (GoesTo g p q (Some (Open j d n))) (same_Some _ c l) (record { target = only n; state = λ s. closed.opened p j d n q es s; lost = λ h e f. and_left _ _ f })
-  goes_to (Some (Open j d n)) Failed c es b w k l = subst (GoesTo g p q (Some (Open j d n))) (same_Some _ c l) (record { target = only n; state = λ s. closed.failed p j d n q es s; lost = λ h e f. and_right _ _ f })
+  goes_to (Some (Open j d n)) Opened c es b w k l = subst (GoesTo g p q (Some (Open j d n))) (same_Some _ c l)
+      (record { target = only n; state = λ s. closed.opened p j d n q es s; lost = λ h e f. and_left _ _ f })
+  goes_to (Some (Open j d n)) Failed c es b w k l = subst (GoesTo g p q (Some (Open j d n))) (same_Some _ c l)
+      (record { target = only n; state = λ s. closed.failed p j d n q es s; lost = λ h e f. and_right _ _ f })
   goes_to (Some (Open j d n)) _ c es b w k l = absurd (none-some c l)
   goes_to (Some (Close j d n)) On c es b w k l = subst (GoesTo g p q (Some (Close j d n))) (same_Some _ c l) (record { target = only n; state = λ s. closed.closed p j d n q es s; lost = λ h e f. f })
   goes_to (Some (Close j d n)) _ c es b w k l = absurd (none-some c l)

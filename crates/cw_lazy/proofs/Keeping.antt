@@ -76,7 +76,8 @@ module _ (g : Game) (functions : ℕ) (routed : AreRouted g functions) (staged :
       where
         by : (b : Bool) → has set x ≡ b → has set x ≡ true
         by true t = t
-        by false t = let w : true ≡ false = sym h ∙ later g functions routed bound.0 n call.back (returned g.states (kept_at call.split q) x) (has e) le (return_state g functions routed p x q call es l s) (bound.1 x l t) in cc
+        by false t = let w : true ≡ false = sym h ∙ later g functions routed bound.0 n call.back (returned g.states (kept_at call.split q) x) (has e) le
+            (return_state g functions routed p x q call es l s) (bound.1 x l t) in cc
 
     -- the function begins at a pair that isn't lost under what the call promises
     pub entry_kept : (IsLost g p q (has e) → ⊥) → IsLost g (g.entry call.function) q (has set) → ⊥
@@ -126,7 +127,8 @@ module _ (g : Game) (functions : ℕ) (routed : AreRouted g functions) (staged :
       kept (
         suc n,
         ap (holds_in g (Holds g n) p q (has e)) es
-            ∙ both (Holds g n (p + 2) q (has e)) (Holds g n (p + 1) q (has e)) (later g functions routed l.0 n (p + 2) q (has e) (omega arith) s l.1) (later g functions routed k.0 n (p + 1) q (has e) (omega arith) s k.1),
+            ∙ both (Holds g n (p + 2) q (has e)) (Holds g n (p + 1) q (has e)) (later g functions routed l.0 n (p + 2) q (has e) (omega arith) s l.1)
+            (later g functions routed k.0 n (p + 1) q (has e) (omega arith) s k.1),
       )
     where
       both : (a b : Bool) → a ≡ false → b ≡ false → (a || b) ≡ false
@@ -182,7 +184,8 @@ module _ (g : Game) (functions : ℕ) (routed : AreRouted g functions) (staged :
     came p q e begins k = absurd (staged.started k)
     came r x y (skips p q e j i a live es n) k = absurd (staged.skipped p j i a es k)
     came r x y (tries p q e j i a live es l) k = (p, j, i, a, refl, es, l)
-    came r x y (moves p q e by next live w c l) k = absurd (staged.moved p next.pos w (goes_to g routed.closed p q (slice_get g.spots p) by next refl (good p q e (safe p q e live).kept) w c l).target k)
+    came r x y (moves p q e by next live w c l) k =
+        absurd (staged.moved p next.pos w (goes_to g routed.closed p q (slice_get g.spots p) by next refl (good p q e (safe p q e live).kept) w c l).target k)
     came r x y (goes_on p q e pair live is n) k = let z = resumes g routed.closed p q (slice_get g.spots p) pair is in absurd (staged.moved p pair.0 z.2 z.0 k)
     came r x y (calls p q e set call live es f) k = absurd (staged.called p call es k)
     came r x y (returns p q e set z call live es f ended) k = absurd (staged.moved p call.back (call_turn (slice_get g.spots p) call es) (back_target p call es) k)

@@ -28,7 +28,8 @@ unfolding has_member
 none_in x = has-zero x
 
 lt_suc : (x n : ℕ) → nat_lt (suc x) (suc n) ≡ nat_lt x n
-lt_suc x n = same_bools (nat_lt (suc x) (suc n)) (nat_lt x n) (λ h. let l : suc x < suc n = ltb-true (suc x) (suc n) h in lt-ltb x n (omega (arith, l))) (λ h. let l : x < n = ltb-true x n h in lt-ltb (suc x) (suc n) (omega (arith, l)))
+lt_suc x n = same_bools (nat_lt (suc x) (suc n)) (nat_lt x n) (λ h. let l : suc x < suc n = ltb-true (suc x) (suc n) h in lt-ltb x n (omega (arith, l)))
+    (λ h. let l : x < n = ltb-true x n h in lt-ltb (suc x) (suc n) (omega (arith, l)))
 
 lt_none : (x : ℕ) → nat_lt x 0 ≡ false
 lt_none x = same_bools (nat_lt x 0) false (λ h. let l : x < 0 = ltb-true x 0 h in absurd (omega (arith, l))) (λ h. cc)
@@ -68,7 +69,8 @@ module _ (g : Game) (functions : ℕ) (routed : AreRouted g functions) (known : 
       out false b h k = cc
 
       answer : (x : ℕ) → x < g.states.count → Answer x
-      answer x s = known h.function call.back (returned g.states (kept_at call.split q) x) e h.needed (back_stays g functions routed h.function p call h.below h.of es) (return_state g functions routed p x q call es s h.state)
+      answer x s = known h.function call.back (returned g.states (kept_at call.split q) x) e h.needed (back_stays g functions routed h.function p call h.below h.of es)
+          (return_state g functions routed p x q call es s h.state)
 
       keeps : (x : ℕ) → Answer x → Bool
       keeps x (inl l) = false

@@ -1,5 +1,6 @@
 -- The rows of keys in order are the lists of the table.
-use Rattle.std.proofs.Common.{◌≡◌, ◌⊎◌, inl, inr, ⊎_elim, ℕ, ◌<◌, List, [], ◌∷◌, map, filter_map, Bool, true, false, cond, Option, Some, None, option_map, nat_eq, refl, sym, ap, ap₂, ◌∙◌, subst, arith}
+use Rattle.std.proofs.Common.{◌≡◌, ◌⊎◌, inl, inr, ⊎_elim, ℕ, ◌<◌, List, [], ◌∷◌, map, filter_map, Bool, true, false, cond, Option, Some, None, option_map, nat_eq, refl, sym, ap}
+use Rattle.std.proofs.Common.{ap₂, ◌∙◌, subst, arith}
 use Rattle.std.specs.Prelude.{slice_get}
 use Rattle.std.specs.List.{Contains, AllByRecursion, cons_option}
 use Rattle.std.specs.List.Sorted.{IsStrictlySortedBy}
@@ -35,7 +36,7 @@ use Rattle.cw_lazy.specs.Places.{key_cmp, placed_cmp, part_at, placed, placed_of
 use Rattle.cw_lazy.specs.Rowing.{Memories, number, live_row, try_row, at_row, open_row, into_row, back_row}
 use Rattle.cw_lazy.proofs.Bridging.{mapped}
 use Rattle.cw_lazy.proofs.Finding.{In, in_of, of_in}
-use Rattle.cw_lazy.proofs.Numbers.{number_less}
+use Rattle.cw_lazy.proofs.Numbers.{mem_less}
 use Rattle.cw_lazy.proofs.Placing.{asked_there, label_there, open_there, close_there, call_there, less_then, less_first, then_equal, same_nat, tied_nat, not_less_same, split_parts}
 use Rattle.cw_lazy.proofs.Rowing.{meant, try_to, try_from, label_to, label_from, close_to, close_from, open_to, open_from, into_to, into_from, back_to, back_from, live_to, live_from}
 
@@ -208,7 +209,8 @@ module _ (g : Game) (functions : ℕ) (can : CanBegin g functions) where
   close_part x y a b = (close_there (slice_get g.spots x.pos) x.seam x.part a.at).3 ∙ sym (close_there (slice_get g.spots y.pos) y.seam y.part b.at).3
 
   -- keys that are live, by what stands at their positions
-  pub places_exactly : (k : Kind) (members : List Key) (ys : List Placed) → ((x : Key) → (Contains members x → IsLive g x.pos x.state x.promise) × (IsLive g x.pos x.state x.promise → Contains members x))
+  pub places_exactly : (k : Kind) (members : List Key) (ys : List Placed)
+      → ((x : Key) → (Contains members x → IsLive g x.pos x.state x.promise) × (IsLive g x.pos x.state x.promise → Contains members x))
       → Exactly placed_cmp (Contains (filter_map (placed_of g k) members)) ys → Exactly placed_cmp (IsPlaced g k) ys
   places_exactly k members ys are e =
       images placed_cmp (λ (x : Key). IsLive g x.pos x.state x.promise) (IsPlaced g k) (placed_of g k) members ys are forth back e
@@ -235,7 +237,7 @@ module _ (g : Game) (functions : ℕ) (can : CanBegin g functions) where
     memories_less : (q e x y p r : ℕ) → IsLive g p q e → IsLive g r x y → mem_cmp (state_id q, e) (state_id x, y) ≡ Less → nat_cmp (number ms q e) (number ms x y) ≡ Less
     memories_less q e x y p r a b l =
         less_nat (number ms q e) (number ms x y)
-        (number_less ms q e x y are.0 (meant g functions can low ms are p q e a) (meant g functions can low ms are r x y b) l)
+        (mem_less ms q e x y are.0 (meant g functions can low ms are p q e a) (meant g functions can low ms are r x y b) l)
 
     last : (x y : Placed) → IsLive g x.pos x.state x.promise → IsLive g y.pos y.state y.promise → x.pos ≡ y.pos
         → ordering_then (nat_cmp x.state y.state) (ordering_then (nat_cmp x.promise y.promise) (nat_cmp x.pos y.pos)) ≡ Less → nat_cmp (num x) (num y) ≡ Less
@@ -309,7 +311,8 @@ module _ (g : Game) (functions : ℕ) (can : CanBegin g functions) where
     -- returns of one call by their exit states
     exits : (b c : Key) → b.pos ≡ c.pos → b.promise ≡ c.promise → key_cmp b c ≡ Less → nat_cmp b.state c.state ≡ Less
     exits b c p e l =
-        let r : ordering_then (nat_cmp b.state c.state) (nat_cmp b.promise c.promise) ≡ Less = sym (then_equal (nat_cmp b.pos c.pos) (ordering_then (nat_cmp b.state c.state) (nat_cmp b.promise c.promise)) (tied_nat b.pos c.pos p)) ∙ l in
+        let r : ordering_then (nat_cmp b.state c.state) (nat_cmp b.promise c.promise) ≡ Less =
+        sym (then_equal (nat_cmp b.pos c.pos) (ordering_then (nat_cmp b.state c.state) (nat_cmp b.promise c.promise)) (tied_nat b.pos c.pos p)) ∙ l in
         ⊎_elim (λ s. s) (λ s. absurd (not_less_same b.promise c.promise e s.1)) (less_then (nat_cmp b.state c.state) (nat_cmp b.promise c.promise) r)
 
     same_call : (x : Placed) (c d : Called) → call_in (slice_get g.spots x.pos) ≡ Some c → call_in (slice_get g.spots x.pos) ≡ Some d → c ≡ d

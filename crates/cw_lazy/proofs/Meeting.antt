@@ -61,7 +61,8 @@ descriptor_in (Open j d n) = d
 descriptor_in (Close j d n) = d
 descriptor_in _ = 0
 
-module _ (g : Game) (functions : ℕ) (routed : AreRouted g functions) (staged : AreStaged g) (first : IsState g g.states.start) (start : IsLost g (g.entry g.main) g.states.start (has (all_states g)) → ⊥)
+module _ (g : Game) (functions : ℕ) (routed : AreRouted g functions) (staged : AreStaged g) (first : IsState g g.states.start)
+    (start : IsLost g (g.entry g.main) g.states.start (has (all_states g)) → ⊥)
     (known : IsKnown g) (t : Table) (lazy : IsLazyTable g t) where
   safe_at : (p q e : ℕ) → IsLive g p q e → IsSafe g functions p q e
   safe_at = safe g functions routed staged first start
@@ -114,7 +115,8 @@ module _ (g : Game) (functions : ℕ) (routed : AreRouted g functions) (staged :
         (record { pos = p; state = q; promise = e; prim = a; live = live; asked = es; meant = meant; granted = gr.1; refused = re.1 })
 
     -- going on is taken
-    takes_resumed : (o : Option Config) (w : Option (ℕ × ℕ)) (r : Option MemId) → resumed g p q ≡ w → ((pair : ℕ × ℕ) → w ≡ Some pair → o ≡ None) → IsRefused g t.mems p q e o r → takes_on t e r w ≡ true
+    takes_resumed : (o : Option Config) (w : Option (ℕ × ℕ)) (r : Option MemId) → resumed g p q ≡ w → ((pair : ℕ × ℕ) → w ≡ Some pair → o ≡ None) → IsRefused g t.mems p q e o r
+        → takes_on t e r w ≡ true
     takes_resumed o None None ew n h = refl
     takes_resumed o None (Some r) ew n h = refl
     takes_resumed o (Some pair) None ew n h = refl
@@ -137,7 +139,8 @@ module _ (g : Game) (functions : ℕ) (routed : AreRouted g functions) (staged :
         let s : Option Spot = Some (Asked j i a) in
         subst (λ o. takes_answers g t p q e s o ≡ true) (sym z.1)
         (both (takes t e z.0.granted (leads_in g p q [] s Grant)) _ (takes_it e (leads_in g p q [] s Grant) z.0.granted gr (λ c l. moved s Grant es refl refl c l))
-        (both (takes t e z.0.refused (leads_in g p q [] s Refuse)) (takes_on t e z.0.refused (resumed_in g p q s)) (takes_refused (leads_in g p q [] s Refuse) z.0.refused re (λ c l. moved s Refuse es refl refl c l))
+        (both (takes t e z.0.refused (leads_in g p q [] s Refuse)) (takes_on t e z.0.refused (resumed_in g p q s))
+        (takes_refused (leads_in g p q [] s Refuse) z.0.refused re (λ c l. moved s Refuse es refl refl c l))
         (takes_resumed (leads_in g p q [] s Refuse) (resumed_in g p q s) z.0.refused (ap (resumed_in g p q) es) (λ pair k. no_refusal g p q s pair k) re)))
     answers_good _ es = refl
 
@@ -145,46 +148,59 @@ module _ (g : Game) (functions : ℕ) (routed : AreRouted g functions) (staged :
     label_good j l n es =
         let to = moved (Some (Label j l n)) On es refl refl (at_pair n (g.states.lettered q l) []) refl in
         let a = memory g t lazy n (g.states.lettered q l) e to in
-        let z = label_to g t lazy (record { seam = seam_id j; mem = mem_id m; after = mem_id a.0 }) (record { pos = p; state = q; promise = e; label = l; next = n; live = live; spot = es; meant = meant; after = a.2 }) in
+        let z = label_to g t lazy (record { seam = seam_id j; mem = mem_id m; after = mem_id a.0 })
+        (record { pos = p; state = q; promise = e; label = l; next = n; live = live; spot = es; meant = meant; after = a.2 }) in
         let y = label_of g t lazy j m z.0 z.1 in
         let row = y.0 in
         let at : slice_get g.spots row.pos ≡ Some (Label j row.label row.next) = row.spot ∙ ap (λ x. Some (Label x row.label row.next)) y.1 in
         let pp : row.pos ≡ p = staged.labels row.pos p j row.label l row.next n at es in
         let s = same_means t m row.state row.promise q e (subst (λ i. Means t.mems i row.state row.promise) y.2 row.meant) meant in
         let el : row.label ≡ l = ap label_in (same_Some (Label j row.label row.next) (Label j l n) (sym at ∙ ap (slice_get g.spots) pp ∙ es)) in
-        let w : Means t.mems z.0.after.0 (g.states.lettered q l) e = subst (λ x. Means t.mems z.0.after.0 (g.states.lettered q l) x) s.1 (subst (λ x. Means t.mems z.0.after.0 (g.states.lettered q x) row.promise) el (subst (λ x. Means t.mems z.0.after.0 (g.states.lettered x row.label) row.promise) s.0 row.after)) in
+        let w : Means t.mems z.0.after.0 (g.states.lettered q l) e =
+        subst (λ x. Means t.mems z.0.after.0 (g.states.lettered q l) x) s.1
+        (subst (λ x. Means t.mems z.0.after.0 (g.states.lettered q x) row.promise) el (subst (λ x. Means t.mems z.0.after.0 (g.states.lettered x row.label) row.promise) s.0 row.after)) in
         subst (λ o. takes t e (option_map (λ (r : AtRow). r.after) o) (Some (at_pair n (g.states.lettered q l) [])) ≡ true) (sym z.1) (leads_to n z.0.after.0 (g.states.lettered q l) e w to)
 
     close_good : (j d n : ℕ) → slice_get g.spots p ≡ Some (Close j d n) → takes t e (option_map (λ r. r.after) (after_at t.closed j m)) (Some (at_pair n (g.states.closed q d) [])) ≡ true
     close_good j d n es =
         let to = moved (Some (Close j d n)) On es refl refl (at_pair n (g.states.closed q d) []) refl in
         let a = memory g t lazy n (g.states.closed q d) e to in
-        let z = close_to g t lazy (record { seam = seam_id j; mem = mem_id m; after = mem_id a.0 }) (record { pos = p; state = q; promise = e; descriptor = d; next = n; live = live; spot = es; meant = meant; after = a.2 }) in
+        let z = close_to g t lazy (record { seam = seam_id j; mem = mem_id m; after = mem_id a.0 })
+        (record { pos = p; state = q; promise = e; descriptor = d; next = n; live = live; spot = es; meant = meant; after = a.2 }) in
         let y = close_of g t lazy j m z.0 z.1 in
         let row = y.0 in
         let at : slice_get g.spots row.pos ≡ Some (Close j row.descriptor row.next) = row.spot ∙ ap (λ x. Some (Close x row.descriptor row.next)) y.1 in
         let pp : row.pos ≡ p = staged.closes row.pos p j row.descriptor d row.next n at es in
         let s = same_means t m row.state row.promise q e (subst (λ i. Means t.mems i row.state row.promise) y.2 row.meant) meant in
         let el : row.descriptor ≡ d = ap descriptor_in (same_Some (Close j row.descriptor row.next) (Close j d n) (sym at ∙ ap (slice_get g.spots) pp ∙ es)) in
-        let w : Means t.mems z.0.after.0 (g.states.closed q d) e = subst (λ x. Means t.mems z.0.after.0 (g.states.closed q d) x) s.1 (subst (λ x. Means t.mems z.0.after.0 (g.states.closed q x) row.promise) el (subst (λ x. Means t.mems z.0.after.0 (g.states.closed x row.descriptor) row.promise) s.0 row.after)) in
+        let w : Means t.mems z.0.after.0 (g.states.closed q d) e =
+        subst (λ x. Means t.mems z.0.after.0 (g.states.closed q d) x) s.1
+        (subst (λ x. Means t.mems z.0.after.0 (g.states.closed q x) row.promise) el (subst (λ x. Means t.mems z.0.after.0 (g.states.closed x row.descriptor) row.promise) s.0 row.after)) in
         subst (λ o. takes t e (option_map (λ (r : AtRow). r.after) o) (Some (at_pair n (g.states.closed q d) [])) ≡ true) (sym z.1) (leads_to n z.0.after.0 (g.states.closed q d) e w to)
 
     -- both rows of an open
-    open_good : (j d n : ℕ) → slice_get g.spots p ≡ Some (Open j d n) → (takes t e (option_map (λ r. r.opened) (open_at t j m)) (Some (at_pair n (g.states.opened q d) [])) ≡ true) × (takes t e (option_map (λ r. r.failed) (open_at t j m)) (Some (at_pair n (g.states.closed q d) [])) ≡ true)
+    open_good : (j d n : ℕ) → slice_get g.spots p ≡ Some (Open j d n)
+        → (takes t e (option_map (λ r. r.opened) (open_at t j m)) (Some (at_pair n (g.states.opened q d) [])) ≡ true) × (takes t e (option_map (λ r. r.failed) (open_at t j m))
+        (Some (at_pair n (g.states.closed q d) [])) ≡ true)
     open_good j d n es =
         let to = moved (Some (Open j d n)) Opened es refl refl (at_pair n (g.states.opened q d) []) refl in
         let no_file = moved (Some (Open j d n)) Failed es refl refl (at_pair n (g.states.closed q d) []) refl in
         let a = memory g t lazy n (g.states.opened q d) e to in
         let b = memory g t lazy n (g.states.closed q d) e no_file in
-        let z = open_to g t lazy (record { seam = seam_id j; mem = mem_id m; opened = mem_id a.0; failed = mem_id b.0 }) (record { pos = p; state = q; promise = e; descriptor = d; next = n; live = live; spot = es; meant = meant; opened = a.2; failed = b.2 }) in
+        let z = open_to g t lazy (record { seam = seam_id j; mem = mem_id m; opened = mem_id a.0; failed = mem_id b.0 })
+        (record { pos = p; state = q; promise = e; descriptor = d; next = n; live = live; spot = es; meant = meant; opened = a.2; failed = b.2 }) in
         let y = open_of g t lazy j m z.0 z.1 in
         let row = y.0 in
         let at : slice_get g.spots row.pos ≡ Some (Open j row.descriptor row.next) = row.spot ∙ ap (λ x. Some (Open x row.descriptor row.next)) y.1 in
         let pp : row.pos ≡ p = staged.opens row.pos p j row.descriptor d row.next n at es in
         let s = same_means t m row.state row.promise q e (subst (λ i. Means t.mems i row.state row.promise) y.2 row.meant) meant in
         let el : row.descriptor ≡ d = ap descriptor_in (same_Some (Open j row.descriptor row.next) (Open j d n) (sym at ∙ ap (slice_get g.spots) pp ∙ es)) in
-        let v : Means t.mems z.0.opened.0 (g.states.opened q d) e = subst (λ x. Means t.mems z.0.opened.0 (g.states.opened q d) x) s.1 (subst (λ x. Means t.mems z.0.opened.0 (g.states.opened q x) row.promise) el (subst (λ x. Means t.mems z.0.opened.0 (g.states.opened x row.descriptor) row.promise) s.0 row.opened)) in
-        let w : Means t.mems z.0.failed.0 (g.states.closed q d) e = subst (λ x. Means t.mems z.0.failed.0 (g.states.closed q d) x) s.1 (subst (λ x. Means t.mems z.0.failed.0 (g.states.closed q x) row.promise) el (subst (λ x. Means t.mems z.0.failed.0 (g.states.closed x row.descriptor) row.promise) s.0 row.failed)) in (
+        let v : Means t.mems z.0.opened.0 (g.states.opened q d) e =
+        subst (λ x. Means t.mems z.0.opened.0 (g.states.opened q d) x) s.1
+        (subst (λ x. Means t.mems z.0.opened.0 (g.states.opened q x) row.promise) el (subst (λ x. Means t.mems z.0.opened.0 (g.states.opened x row.descriptor) row.promise) s.0 row.opened)) in
+        let w : Means t.mems z.0.failed.0 (g.states.closed q d) e =
+        subst (λ x. Means t.mems z.0.failed.0 (g.states.closed q d) x) s.1
+        (subst (λ x. Means t.mems z.0.failed.0 (g.states.closed q x) row.promise) el (subst (λ x. Means t.mems z.0.failed.0 (g.states.closed x row.descriptor) row.promise) s.0 row.failed)) in (
           subst (λ o. takes t e (option_map (λ (r : OpenRow). r.opened) o) (Some (at_pair n (g.states.opened q d) [])) ≡ true) (sym z.1) (leads_to n z.0.opened.0 (g.states.opened q d) e v to),
           subst (λ o. takes t e (option_map (λ (r : OpenRow). r.failed) o) (Some (at_pair n (g.states.closed q d) [])) ≡ true) (sym z.1) (leads_to n z.0.failed.0 (g.states.closed q d) e w no_file),
         )

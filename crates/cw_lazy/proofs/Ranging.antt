@@ -20,7 +20,9 @@ use Rattle.cw_game.specs.declared.spots.Spot.{Spot}
 use Rattle.cw_game.specs.declared.spots.Spot.TheVariants.{Visit, Asked, Label, Open, Close}
 use Rattle.cw_game.specs.Games.{Game, Config, resumed, returned, IsLost}
 use Rattle.cw_game.specs.Pairs.{has, all_states, Called, call_spot, kept_at}
-use Rattle.cw_game.specs.Conditions.{first_failing, is_state, is_set, is_position, is_memory, is_memory_if, has_seam, has_stage, is_seam, is_stage, is_header, is_mem_row, is_live_row, is_try_row, is_at_row, is_open_row, is_into_row, is_back_row, begins, fault_at, in_range, ranges, live_rows, InMems, InLive, InTries, InAts, InOpened, InClosed, InInto, InBack, TableFault, IsGoodTable}
+use Rattle.cw_game.specs.Conditions.{first_failing, is_state, is_set, is_position, is_memory, is_memory_if, has_seam, has_stage, is_seam, is_stage, is_header, is_mem_row}
+use Rattle.cw_game.specs.Conditions.{is_live_row, is_try_row, is_at_row, is_open_row, is_into_row, is_back_row, begins, fault_at, in_range, ranges, live_rows, InMems, InLive}
+use Rattle.cw_game.specs.Conditions.{InTries, InAts, InOpened, InClosed, InInto, InBack, TableFault, IsGoodTable}
 use Rattle.cw_game.proofs.Failing.{none_more, none_append}
 use Rattle.cw_game.proofs.Truths.{both}
 use Rattle.cw_solve.specs.Contexts.{context}
@@ -44,7 +46,8 @@ any_of test (y ∷ xs) (suc i) x e h = by (test y) (any_of test xs i x e h)
     by true k = refl
     by false k = k
 
-module _ (g : Game) (functions : ℕ) (routed : AreRouted g functions) (staged : AreStaged g) (first : IsState g g.states.start) (start : IsLost g (g.entry g.main) g.states.start (has (all_states g)) → ⊥)
+module _ (g : Game) (functions : ℕ) (routed : AreRouted g functions) (staged : AreStaged g) (first : IsState g g.states.start)
+    (start : IsLost g (g.entry g.main) g.states.start (has (all_states g)) → ⊥)
     (known : IsKnown g) (t : Table) (lazy : IsLazyTable g t) where
   -- a promise has states alone
   full_below : (call : Called) (q e set : ℕ) → IsFull g call q e set → set < 2 ^ g.states.count
@@ -96,7 +99,8 @@ module _ (g : Game) (functions : ℕ) (routed : AreRouted g functions) (staged :
   called_in : (seam : ℕ) (split : Bool) (m : ℕ) (c : IsCalled g t.mems seam split m) → list_any (has_seam seam) g.spots ≡ true
   called_in seam split m c =
       subst (λ j. list_any (has_seam j) g.spots ≡ true) c.seams
-      (seam_in c.call.seam c.pos (call_spot c.call.split c.call.seam c.call.function c.call.back) (call_is (slice_get g.spots c.pos) c.call c.is_call) (call_seam c.call.split c.call.seam c.call.function c.call.back))
+      (seam_in c.call.seam c.pos (call_spot c.call.split c.call.seam c.call.function c.call.back) (call_is (slice_get g.spots c.pos) c.call c.is_call)
+      (call_seam c.call.split c.call.seam c.call.function c.call.back))
 
   mem_good : (r : StateId × ℕ) → IsMemory g r → is_mem_row g r ≡ true
   mem_good r h = both (is_state g r.0.0) (is_set g r.1) (state_in h.pos r.0.0 r.1 h.live) (lt-ltb r.1 (2 ^ g.states.count) (promise_below h.pos r.0.0 r.1 h.live))
@@ -138,7 +142,8 @@ module _ (g : Game) (functions : ℕ) (routed : AreRouted g functions) (staged :
   open_good r h =
       both (is_seam g r.seam) _ (seam_in r.seam.0 h.pos (Open r.seam.0 h.descriptor h.next) h.spot (eq-eqb r.seam.0 r.seam.0 refl))
       (both (is_memory t r.mem) _ (memory_in r.mem h.state h.promise h.meant)
-      (both (is_memory t r.opened) (is_memory t r.failed) (memory_in r.opened (g.states.opened h.state h.descriptor) h.promise h.opened) (memory_in r.failed (g.states.closed h.state h.descriptor) h.promise h.failed)))
+      (both (is_memory t r.opened) (is_memory t r.failed) (memory_in r.opened (g.states.opened h.state h.descriptor) h.promise h.opened)
+      (memory_in r.failed (g.states.closed h.state h.descriptor) h.promise h.failed)))
 
   into_good : (r : IntoRow) → IsIntoRow g t.mems r → is_into_row g t r ≡ true
   into_good r h =
@@ -192,7 +197,8 @@ module _ (g : Game) (functions : ℕ) (routed : AreRouted g functions) (staged :
   -- The lazy table meets the nine conditions.
   pub lazy_good : IsGoodTable g t
   lazy_good =
-      none_more (is_header g t) _ (fault_at InMems 0 1) (both (nat_eq t.states g.states.count) (is_memory t t.start) (eq-eqb t.states g.states.count lazy.states) (memory_in t.start g.states.start (all_states g) lazy.start))
+      none_more (is_header g t) _ (fault_at InMems 0 1)
+      (both (nat_eq t.states g.states.count) (is_memory t t.start) (eq-eqb t.states g.states.count lazy.states) (memory_in t.start g.states.start (all_states g) lazy.start))
       (none_append (ranges g t) ((fault_at InLive 0 2, begins g t) ∷ live_rows g t (enumerate_from 0 t.live)) ranges_good
       (none_more (begins g t) _ (fault_at InLive 0 2)
       (leads_to g functions routed staged first start known t lazy (g.entry g.main) t.start.0 g.states.start (all_states g) lazy.start begins_at)

@@ -88,7 +88,8 @@ module _ (g : Game) (t : Table) (lazy : IsLazyTable g t) where
       (z.0, eqb-true r.seam.0 j k.0, eqb-true r.mem.0 m k.1)
 
   at_to : (rows : List AtRow) (r : AtRow) → Contains rows r → (s : AtRow) × (after_at rows r.seam.0 r.mem.0 ≡ Some s)
-  at_to rows r c = is_found (λ s. nat_eq s.seam.0 r.seam.0 && nat_eq s.mem.0 r.mem.0) rows r c (both (nat_eq r.seam.0 r.seam.0) (nat_eq r.mem.0 r.mem.0) (eq-eqb r.seam.0 r.seam.0 refl) (eq-eqb r.mem.0 r.mem.0 refl))
+  at_to rows r c = is_found (λ s. nat_eq s.seam.0 r.seam.0 && nat_eq s.mem.0 r.mem.0) rows r c
+      (both (nat_eq r.seam.0 r.seam.0) (nat_eq r.mem.0 r.mem.0) (eq-eqb r.seam.0 r.seam.0 refl) (eq-eqb r.mem.0 r.mem.0 refl))
 
   pub label_of : (j m : ℕ) (r : AtRow) → after_at t.ats j m ≡ Some r → IsLabelRow g t.mems r × (r.seam.0 ≡ j) × (r.mem.0 ≡ m)
   label_of j m r e = let z = at_of t.ats j m r e in ((lazy.ats.1 r).0 z.0, z.1, z.2)
@@ -109,7 +110,8 @@ module _ (g : Game) (t : Table) (lazy : IsLazyTable g t) where
       ((lazy.opened.1 r).0 z.0, eqb-true r.seam.0 j k.0, eqb-true r.mem.0 m k.1)
 
   pub open_to : (r : OpenRow) → IsOpenRow g t.mems r → (s : OpenRow) × (open_at t r.seam.0 r.mem.0 ≡ Some s)
-  open_to r h = is_found (λ s. nat_eq s.seam.0 r.seam.0 && nat_eq s.mem.0 r.mem.0) t.opened r ((lazy.opened.1 r).1 h) (both (nat_eq r.seam.0 r.seam.0) (nat_eq r.mem.0 r.mem.0) (eq-eqb r.seam.0 r.seam.0 refl) (eq-eqb r.mem.0 r.mem.0 refl))
+  open_to r h = is_found (λ s. nat_eq s.seam.0 r.seam.0 && nat_eq s.mem.0 r.mem.0) t.opened r ((lazy.opened.1 r).1 h)
+      (both (nat_eq r.seam.0 r.seam.0) (nat_eq r.mem.0 r.mem.0) (eq-eqb r.seam.0 r.seam.0 refl) (eq-eqb r.mem.0 r.mem.0 refl))
 
   pub into_of : (j : ℕ) (split : Bool) (m : ℕ) (r : IntoRow) → into_at t j split m ≡ Some r → IsIntoRow g t.mems r × (r.seam.0 ≡ j) × (r.split ≡ split) × (r.mem.0 ≡ m)
   into_of j split m r e =
@@ -132,4 +134,5 @@ module _ (g : Game) (t : Table) (lazy : IsLazyTable g t) where
 
   pub back_to : (r : BackRow) → IsBackRow g t.mems r → (s : BackRow) × (back_at t r.seam.0 r.split r.mem.0 r.exit.0 ≡ Some s)
   back_to r h = is_found (λ s. nat_eq s.seam.0 r.seam.0 && (same s.split r.split && (nat_eq s.mem.0 r.mem.0 && nat_eq s.exit.0 r.exit.0))) t.back r ((lazy.back.1 r).1 h)
-      (both (nat_eq r.seam.0 r.seam.0) _ (eq-eqb r.seam.0 r.seam.0 refl) (both (same r.split r.split) _ (same_to r.split) (both (nat_eq r.mem.0 r.mem.0) (nat_eq r.exit.0 r.exit.0) (eq-eqb r.mem.0 r.mem.0 refl) (eq-eqb r.exit.0 r.exit.0 refl))))
+      (both (nat_eq r.seam.0 r.seam.0) _ (eq-eqb r.seam.0 r.seam.0 refl)
+      (both (same r.split r.split) _ (same_to r.split) (both (nat_eq r.mem.0 r.mem.0) (nat_eq r.exit.0 r.exit.0) (eq-eqb r.mem.0 r.mem.0 refl) (eq-eqb r.exit.0 r.exit.0 refl))))

@@ -86,7 +86,8 @@ module _ (g : Game) (functions : ℕ) (can : CanBegin g functions) (low : Height
   }
 
   -- the pairs as calls with their returns
-  pub returns_exactly : (pairs : List (Key × Key)) (ys : List (Placed × Key)) → Exactly (pair_cmp key_cmp) Pair pairs → Exactly return_cmp (Contains (filter_map (return_of g) pairs)) ys → Exactly return_cmp (IsReturn g) ys
+  pub returns_exactly : (pairs : List (Key × Key)) (ys : List (Placed × Key)) → Exactly (pair_cmp key_cmp) Pair pairs → Exactly return_cmp (Contains (filter_map (return_of g) pairs)) ys
+      → Exactly return_cmp (IsReturn g) ys
   returns_exactly pairs ys are e = images return_cmp Pair (IsReturn g) (return_of g) pairs ys are.1 forth back e
     where
       forth : (ab : Key × Key) (y : Placed × Key) → Pair ab → return_of g ab ≡ Some y → IsReturn g y

@@ -1,5 +1,5 @@
 -- The row of a key is a row of the table, and each row of the table is that of a key.
-use Rattle.std.proofs.Common.{◌≡◌, ℕ, ◌+◌, List, [], Bool, true, false, cond, ◌||◌, Option, Some, None, option_map, nat_eq, refl, sym, ap, ap₂, ◌∙◌, subst}
+use Rattle.std.proofs.Common.{◌≡◌, ℕ, [], Bool, true, false, cond, ◌||◌, Option, Some, None, option_map, nat_eq, refl, sym, ap, ◌∙◌, subst}
 use Rattle.std.specs.Prelude.{slice_get}
 use Rattle.cw_core.specs.declared.ids.SeamId.{SeamId}
 use Rattle.cw_core.specs.declared.ids.StateId.{StateId}
@@ -17,9 +17,9 @@ use Rattle.cw_certs.specs.Ascending.{mem_cmp}
 use Rattle.cw_closure.specs.Closures.{Exactly}
 use Rattle.cw_game.specs.declared.spots.Spot.{Spot}
 use Rattle.cw_game.specs.declared.spots.Spot.TheVariants.{Asked, Label, Open, Close}
-use Rattle.cw_game.specs.Games.{Game, Config, at_pair, resumed, returned, leads_in, bad_in, weavers_in, IsLost}
-use Rattle.cw_game.specs.Pairs.{has, Called, call_in, is_call_in, is_exit_in, kept_at}
-use Rattle.cw_product.specs.Moves.{pair_of, next_in, next_at, pos_id}
+use Rattle.cw_game.specs.Games.{Game, Config, at_pair, resumed, returned, leads_in, bad_in, weavers_in}
+use Rattle.cw_game.specs.Pairs.{Called, call_in, is_call_in, is_exit_in, kept_at}
+use Rattle.cw_product.specs.Moves.{pair_of, next_in, next_at}
 use Rattle.cw_solve.specs.Low.{HeightsAreLow}
 use Rattle.cw_lazy.specs.declared.key.Key.{Key}
 use Rattle.cw_lazy.specs.declared.place.Kind.TheVariants as kind
@@ -28,14 +28,13 @@ use Rattle.cw_lazy.specs.Choices.{lost_in, set_in}
 use Rattle.cw_lazy.specs.Closing.{key}
 use Rattle.cw_lazy.specs.Laws.{CanBegin}
 use Rattle.cw_lazy.specs.Lazy.{state_id, Means, IsAfter, GoesOn, IsRefused, IsMemory, IsLiveRow, IsTryRow, IsLabelRow, IsOpenRow, IsCloseRow, IsCalled, IsIntoRow, IsBackRow}
-use Rattle.cw_lazy.specs.Live.{IsFull, IsLive, moves, goes_on, calls, returns}
+use Rattle.cw_lazy.specs.Live.{IsLive, moves, goes_on, calls, returns}
 use Rattle.cw_lazy.specs.Places.{part_there, IsPlaced, IsReturn}
-use Rattle.cw_lazy.specs.Rowing.{Memories, number, seam_id, mem_id, mem, live_row, mem_after, state_or, moved, going_on, refused_by, try_row, at_row, open_row, is_split, into_row, back_row}
+use Rattle.cw_lazy.specs.Rowing.{Memories, number, mem_id, mem, live_row, mem_after, state_or, moved, going_on, refused_by, try_row, at_row, open_row, is_split, into_row, back_row}
 use Rattle.cw_lazy.proofs.Bridging.{full_is}
 use Rattle.cw_lazy.proofs.Choosing.{safe_at, set_full, right}
-use Rattle.cw_lazy.proofs.Finding.{in_of}
 use Rattle.cw_lazy.proofs.Keeping.{good}
-use Rattle.cw_lazy.proofs.Numbers.{at_number, number_is}
+use Rattle.cw_lazy.proofs.Numbers.{mem_at, number_is}
 use Rattle.cw_lazy.proofs.Placing.{asked_there, label_there, open_there, close_there, call_there, there_call, split_is}
 
 left_if : (b c x : Bool) → b ≡ false → c ≡ false → x ≡ false → (b || (c || x)) ≡ false
@@ -64,17 +63,19 @@ same_back j s t m n x a b e f h = cc
 
 module _ (g : Game) (functions : ℕ) (can : CanBegin g functions) (low : HeightsAreLow g) (ms : Memories) (are : Exactly mem_cmp (IsMemory g) ms) where
   pub meant : (p q e : ℕ) → IsLive g p q e → Means ms (number ms q e) q e
-  meant p q e live = at_number ms q e (in_of ms (state_id q, e) ((are.1 (state_id q, e)).1 (record { pos = p; live = live })))
+  meant p q e live = mem_at ms q e ((are.1 (state_id q, e)).1 (record { pos = p; live = live }))
 
   pub mem_is : (m : MemId) (q e : ℕ) → Means ms m.0 q e → m ≡ mem ms q e
   mem_is m q e h = ap mem_id (number_is ms m.0 q e are.0 h)
 
-  next_is : (p q e : ℕ) (by : Move) (o : Option Spot) → IsLive g p q e → slice_get g.spots p ≡ o → is_call_in o ≡ false → is_exit_in o ≡ false → next_at g p q by ≡ option_map pair_of (leads_in g p q [] o by)
+  next_is : (p q e : ℕ) (by : Move) (o : Option Spot) → IsLive g p q e → slice_get g.spots p ≡ o → is_call_in o ≡ false → is_exit_in o ≡ false
+      → next_at g p q by ≡ option_map pair_of (leads_in g p q [] o by)
   next_is p q e by o live es c x =
       let fine : bad_in g q o ≡ false = subst (λ s. bad_in g q s ≡ false) es (good g functions can.routed can.staged p q e (safe_at g functions can p q e live).kept) in
       ap (λ s. next_in g p q s by) es ∙ ap (λ b. cond b None (option_map pair_of (leads_in g p q [] o by))) (left_if (bad_in g q o) (is_call_in o) (is_exit_in o) fine c x)
 
-  moved_live : (p q e : ℕ) (by : Move) (o : Option Spot) (c : Config) → IsLive g p q e → slice_get g.spots p ≡ o → weavers_in o ≡ false → is_call_in o ≡ false → leads_in g p q [] o by ≡ Some c → IsLive g c.pos c.state e
+  moved_live : (p q e : ℕ) (by : Move) (o : Option Spot) (c : Config) → IsLive g p q e → slice_get g.spots p ≡ o → weavers_in o ≡ false → is_call_in o ≡ false
+      → leads_in g p q [] o by ≡ Some c → IsLive g c.pos c.state e
   moved_live p q e by o c live es w k l = moves p q e by c live (ap weavers_in es ∙ w) (ap is_call_in es ∙ k) (ap (λ s. leads_in g p q [] s by) es ∙ l)
 
   -- after a move
@@ -109,7 +110,8 @@ module _ (g : Game) (functions : ℕ) (can : CanBegin g functions) (low : Height
       by true t = absurd (h.0 ((right g functions can low).on_lost p q e pair live es t))
       by false t = ap (λ (x : MemId). Some x) (mem_is m pair.1 e h.1)
 
-  refused_to : (p q e : ℕ) (o : Option Config) → IsLive g p q e → ((c : Config) → o ≡ Some c → IsLive g c.pos c.state e) → IsRefused g ms p q e o (refused_by g ms e (option_map pair_of o) (resumed g p q))
+  refused_to : (p q e : ℕ) (o : Option Config) → IsLive g p q e → ((c : Config) → o ≡ Some c → IsLive g c.pos c.state e)
+      → IsRefused g ms p q e o (refused_by g ms e (option_map pair_of o) (resumed g p q))
   refused_to p q e None live h = going_to p q e (resumed g p q) live refl
   refused_to p q e (Some c) live h = meant c.pos c.state e (h c refl)
 
@@ -121,7 +123,8 @@ module _ (g : Game) (functions : ℕ) (can : CanBegin g functions) (low : Height
   abbrev asked : Placed → Primitive → Option Spot
   asked x a = Some (Asked x.seam x.part a)
 
-  asked_next : (x : Placed) (a : Primitive) (by : Move) → IsLive g x.pos x.state x.promise → slice_get g.spots x.pos ≡ asked x a → next_at g x.pos x.state by ≡ option_map pair_of (leads_in g x.pos x.state [] (asked x a) by)
+  asked_next : (x : Placed) (a : Primitive) (by : Move) → IsLive g x.pos x.state x.promise → slice_get g.spots x.pos ≡ asked x a
+      → next_at g x.pos x.state by ≡ option_map pair_of (leads_in g x.pos x.state [] (asked x a) by)
   asked_next x a by live es = next_is x.pos x.state x.promise by (asked x a) live es refl refl
 
   pub try_to : (x : Placed) → IsPlaced g kind.Asked x → IsTryRow g ms (try_row g ms x)
@@ -137,7 +140,8 @@ module _ (g : Game) (functions : ℕ) (can : CanBegin g functions) (low : Height
         meant = meant x.pos x.state x.promise is.live;
         granted = subst (λ n. IsAfter ms x.promise (leads_in g x.pos x.state [] (asked x s.0) Grant) (mem_after ms x.promise n)) (sym (asked_next x s.0 Grant is.live s.1))
             (after_to x.promise (leads_in g x.pos x.state [] (asked x s.0) Grant) (λ c l. moved_live x.pos x.state x.promise Grant (asked x s.0) c is.live s.1 refl refl l));
-        refused = subst (λ n. IsRefused g ms x.pos x.state x.promise (leads_in g x.pos x.state [] (asked x s.0) Refuse) (refused_by g ms x.promise n (resumed g x.pos x.state))) (sym (asked_next x s.0 Refuse is.live s.1))
+        refused = subst (λ n. IsRefused g ms x.pos x.state x.promise (leads_in g x.pos x.state [] (asked x s.0) Refuse) (refused_by g ms x.promise n (resumed g x.pos x.state)))
+            (sym (asked_next x s.0 Refuse is.live s.1))
             (refused_to x.pos x.state x.promise (leads_in g x.pos x.state [] (asked x s.0) Refuse) is.live (λ c l. moved_live x.pos x.state x.promise Refuse (asked x s.0) c is.live s.1 refl refl l));
       }
 
@@ -146,7 +150,8 @@ module _ (g : Game) (functions : ℕ) (can : CanBegin g functions) (low : Height
       let x : Placed = record { seam = r.seam.0; part = r.stage; state = h.state; promise = h.promise; pos = h.pos } in (
         x,
         record { live = h.live; at = ap (part_there kind.Asked) h.asked },
-        same_try r.seam r.stage r.mem (mem ms h.state h.promise) r.granted (mem_after ms h.promise (next_at g h.pos h.state Grant)) r.refused (refused_by g ms h.promise (next_at g h.pos h.state Refuse) (resumed g h.pos h.state))
+        same_try r.seam r.stage r.mem (mem ms h.state h.promise) r.granted (mem_after ms h.promise (next_at g h.pos h.state Grant)) r.refused
+            (refused_by g ms h.promise (next_at g h.pos h.state Refuse) (resumed g h.pos h.state))
             (mem_is r.mem h.state h.promise h.meant)
             (after_from h.promise (leads_in g h.pos h.state [] (asked x h.prim) Grant) r.granted h.granted ∙ ap (mem_after ms h.promise) (sym (asked_next x h.prim Grant h.live h.asked)))
             (refused_from h.pos h.state h.promise (leads_in g h.pos h.state [] (asked x h.prim) Refuse) r.refused h.live h.refused
@@ -158,7 +163,8 @@ module _ (g : Game) (functions : ℕ) (can : CanBegin g functions) (low : Height
       → leads_in g x.pos x.state [] o by ≡ Some c → moved g ms x by ≡ mem ms c.state x.promise
   moved_is x by o c live es k e l = ap (λ n. mem ms (state_or x.state n) x.promise) (next_is x.pos x.state x.promise by o live es k e ∙ ap (option_map pair_of) l)
 
-  moved_means : (x : Placed) (by : Move) (o : Option Spot) (c : Config) → IsLive g x.pos x.state x.promise → slice_get g.spots x.pos ≡ o → weavers_in o ≡ false → is_call_in o ≡ false → is_exit_in o ≡ false
+  moved_means : (x : Placed) (by : Move) (o : Option Spot) (c : Config) → IsLive g x.pos x.state x.promise → slice_get g.spots x.pos ≡ o → weavers_in o ≡ false → is_call_in o ≡ false
+      → is_exit_in o ≡ false
       → leads_in g x.pos x.state [] o by ≡ Some c → Means ms (moved g ms x by).0 c.state x.promise
   moved_means x by o c live es w k e l =
       subst (λ (m : MemId). Means ms m.0 c.state x.promise) (sym (moved_is x by o c live es k e l)) (meant c.pos c.state x.promise (moved_live x.pos x.state x.promise by o c live es w k l))
@@ -305,7 +311,8 @@ module _ (g : Game) (functions : ℕ) (can : CanBegin g functions) (low : Height
       record {
         called = c;
         ended = ended;
-        after = subst (λ (s : Bool). Means ms (number ms (returned g.states (kept_at (is_split x) x.state) xb.1.state) x.promise) (returned g.states (kept_at s x.state) xb.1.state) x.promise) (sym c.modes)
+        after = subst (λ (s : Bool). Means ms (number ms (returned g.states (kept_at (is_split x) x.state) xb.1.state) x.promise) (returned g.states (kept_at s x.state) xb.1.state)
+            x.promise) (sym c.modes)
             (meant c.call.back (returned g.states (kept_at (is_split x) x.state) xb.1.state) x.promise
             (subst (λ (s : Bool). IsLive g c.call.back (returned g.states (kept_at s x.state) xb.1.state) x.promise) c.modes
             (returns x.pos x.state x.promise c.set xb.1.state c.call is.placed.live c.is_call c.full ended)));
@@ -333,7 +340,8 @@ module _ (g : Game) (functions : ℕ) (can : CanBegin g functions) (low : Height
           promise = refl;
           ended = subst (IsLive g (g.exit c.call.function) r.exit.0) same h.ended;
         },
-        same_back r.seam r.split (nat_eq (cond c.call.split 1 0) 1) r.mem (mem ms c.state c.promise) r.exit r.after (mem ms (returned g.states (kept_at (nat_eq (cond c.call.split 1 0) 1) c.state) r.exit.0) c.promise)
+        same_back r.seam r.split (nat_eq (cond c.call.split 1 0) 1) r.mem (mem ms c.state c.promise) r.exit r.after
+            (mem ms (returned g.states (kept_at (nat_eq (cond c.call.split 1 0) 1) c.state) r.exit.0) c.promise)
             split (mem_is r.mem c.state c.promise c.meant)
             (mem_is r.after (returned g.states (kept_at c.call.split c.state) r.exit.0) c.promise h.after
             ∙ ap (λ (s : Bool). mem ms (returned g.states (kept_at s c.state) r.exit.0) c.promise) (sym (split_is c.call.split))),

@@ -1,5 +1,6 @@
 -- The conditions of the live rows of the lazy table: visits, calls and returns, and all of them.
-use Rattle.std.proofs.Common.{◌≡◌, ◌⊎◌, inl, inr, ℕ, ◌+◌, List, [], ◌∷◌, map, Bool, true, false, cond, not, ◌||◌, Option, Some, None, is_some, option_map, nat_eq, refl, sym, ap, ◌∙◌, subst, eqb-true, eq-eqb}
+use Rattle.std.proofs.Common.{◌≡◌, ◌⊎◌, inl, inr, ℕ, ◌+◌, List, [], ◌∷◌, map, Bool, true, false, cond, not, ◌||◌, Option, Some, None, is_some, option_map, nat_eq, refl, sym, ap}
+use Rattle.std.proofs.Common.{◌∙◌, subst, eqb-true, eq-eqb}
 use Rattle.std.specs.Prelude.{slice_get}
 use Rattle.std.specs.List.{enumerate_from, Contains}
 use Rattle.cw_core.specs.declared.ids.MemId.{MemId}
@@ -10,7 +11,8 @@ use Rattle.cw_game.specs.declared.spots.Spot.{Spot}
 use Rattle.cw_game.specs.declared.spots.Spot.TheVariants.{Visit}
 use Rattle.cw_game.specs.Games.{Game, returned, IsLost}
 use Rattle.cw_game.specs.Pairs.{has, all_states, is_live, Called, call_in, kept_at}
-use Rattle.cw_game.specs.Conditions.{first_failing, visits_on, begins_by, calls_on, promise_of, means_state, returns_by, all_return, returns_on, back_by, live_conditions, live_by, live_rows, fault_at, InLive, Part}
+use Rattle.cw_game.specs.Conditions.{first_failing, visits_on, begins_by, calls_on, promise_of, means_state, returns_by, all_return, returns_on, back_by, live_conditions, live_by}
+use Rattle.cw_game.specs.Conditions.{live_rows, fault_at, InLive, Part}
 use Rattle.cw_game.proofs.Failing.{none_more, none_append, none_mapped}
 use Rattle.cw_game.proofs.Truths.{both}
 use Rattle.cw_solve.specs.Routes.{IsState, targets, AreRouted}
@@ -30,11 +32,13 @@ implied true b h = h refl
 implied false b h = refl
 
 -- no condition fails
-pub none_in_range : {A : Type 0} (part : Part) (test : A → Bool) (n : ℕ) (rows : List A) → ((r : A) → In rows r → test r ≡ true) → first_failing (map (λ r. (fault_at part r.0 1, test r.1)) (enumerate_from n rows)) ≡ None
+pub none_in_range : {A : Type 0} (part : Part) (test : A → Bool) (n : ℕ) (rows : List A) → ((r : A) → In rows r → test r ≡ true)
+    → first_failing (map (λ r. (fault_at part r.0 1, test r.1)) (enumerate_from n rows)) ≡ None
 none_in_range part test n [] h = refl
 none_in_range part test n (r ∷ rows) h = none_more (test r) _ (fault_at part n 1) (h r (inl refl)) (none_in_range part test (n + 1) rows (λ x i. h x (inr i)))
 
-module _ (g : Game) (functions : ℕ) (routed : AreRouted g functions) (staged : AreStaged g) (first : IsState g g.states.start) (start : IsLost g (g.entry g.main) g.states.start (has (all_states g)) → ⊥)
+module _ (g : Game) (functions : ℕ) (routed : AreRouted g functions) (staged : AreStaged g) (first : IsState g g.states.start)
+    (start : IsLost g (g.entry g.main) g.states.start (has (all_states g)) → ⊥)
     (known : IsKnown g) (t : Table) (lazy : IsLazyTable g t) where
   -- 4
   visits_good : (p m q e : ℕ) → IsLive g p q e → Means t.mems m q e → (o : Option Spot) → slice_get g.spots p ≡ o → visits_on t p m o ≡ true
@@ -55,9 +59,11 @@ module _ (g : Game) (functions : ℕ) (routed : AreRouted g functions) (staged :
 
       by : (b : Bool) → is_some (try_at t j i m) ≡ b → is_live t (cond (is_some (try_at t j i m)) (p + 1) (p + 2)) m ≡ true
       by true k = subst (λ b. is_live t (cond b (p + 1) (p + 2)) m ≡ true) (sym k)
-          (live_to g t lazy (p + 1) m q e (lost_on (tries_lost g functions routed staged first start t lazy p m q e j i a (live_to g t lazy p m q e live meant, means_to (slice_get t.mems m) q e meant) es k)) meant)
+          (live_to g t lazy (p + 1) m q e (lost_on (tries_lost g functions routed staged first start t lazy p m q e j i a
+          (live_to g t lazy p m q e live meant, means_to (slice_get t.mems m) q e meant) es k)) meant)
       by false k = subst (λ b. is_live t (cond b (p + 1) (p + 2)) m ≡ true) (sym k)
-          (skip k (known here.function (p + 2) q e here.needed (routed.stays here.function p (p + 2) here.below here.of (subst (λ o. Contains (targets p o) (p + 2)) (sym es) (first_of_two (p + 2) (p + 1)))) here.state))
+          (skip k (known here.function (p + 2) q e here.needed
+          (routed.stays here.function p (p + 2) here.below here.of (subst (λ o. Contains (targets p o) (p + 2)) (sym es) (first_of_two (p + 2) (p + 1)))) here.state))
   visits_good p m q e live meant _ es = refl
 
   -- the row of a call
@@ -68,14 +74,16 @@ module _ (g : Game) (functions : ℕ) (routed : AreRouted g functions) (staged :
     pub full : IsFull g call q e set
     pub callee : Means t.mems row.callee.0 q set
 
-  abbrev called : (p m q e : ℕ) (call : Called) (set : ℕ) → IsLive g p q e → Means t.mems m q e → call_in (slice_get g.spots p) ≡ Some call → IsFull g call q e set → IsCalled g t.mems call.seam call.split m
+  abbrev called : (p m q e : ℕ) (call : Called) (set : ℕ) → IsLive g p q e → Means t.mems m q e → call_in (slice_get g.spots p) ≡ Some call → IsFull g call q e set
+      → IsCalled g t.mems call.seam call.split m
   called p m q e call set live meant es f = record { pos = p; state = q; promise = e; call = call; set = set; live = live; is_call = es; seams = refl; modes = refl; meant = meant; full = f }
 
   entered : (p m q e : ℕ) → IsLive g p q e → Means t.mems m q e → (call : Called) → call_in (slice_get g.spots p) ≡ Some call → IsEntered p m q e call
   entered p m q e live meant call es =
       let f = full_there g functions routed known p q e call (safe g functions routed staged first start p q e live) es in
       let b = memory g t lazy (g.entry call.function) q f.0 (calls p q e f.0 call live es f.1) in
-      let z = into_to g t lazy (record { seam = seam_id call.seam; split = call.split; mem = mem_id m; callee = mem_id b.0 }) (record { called = called p m q e call f.0 live meant es f.1; callee = b.2 }) in
+      let z = into_to g t lazy (record { seam = seam_id call.seam; split = call.split; mem = mem_id m; callee = mem_id b.0 })
+      (record { called = called p m q e call f.0 live meant es f.1; callee = b.2 }) in
       let w = into_is g functions routed staged first start t lazy p m q e call z.0 meant es z.1 in
       record { row = z.0; is = z.1; set = w.0; full = w.1; callee = w.2 }
 
@@ -90,12 +98,14 @@ module _ (g : Game) (functions : ℕ) (routed : AreRouted g functions) (staged :
       (live_to g t lazy (g.entry call.function) z.row.callee.0 q z.set (calls p q e z.set call live es z.full) z.callee))
 
   -- a way back
-  back_good : (p m q e : ℕ) → IsLive g p q e → Means t.mems m q e → (call : Called) → call_in (slice_get g.spots p) ≡ Some call → (set x : ℕ) → IsFull g call q e set → IsLive g (g.exit call.function) x set
+  back_good : (p m q e : ℕ) → IsLive g p q e → Means t.mems m q e → (call : Called) → call_in (slice_get g.spots p) ≡ Some call → (set x : ℕ) → IsFull g call q e set
+      → IsLive g (g.exit call.function) x set
       → back_by t call (returned g.states (kept_at call.split q) x) e (back_at t call.seam call.split m x) ≡ true
   back_good p m q e live meant call es set x f ended =
       let to = returns p q e set x call live es f ended in
       let b = memory g t lazy call.back (returned g.states (kept_at call.split q) x) e to in
-      let z = back_to g t lazy (record { seam = seam_id call.seam; split = call.split; mem = mem_id m; exit = state_id x; after = mem_id b.0 }) (record { called = called p m q e call set live meant es f; ended = ended; after = b.2 }) in
+      let z = back_to g t lazy (record { seam = seam_id call.seam; split = call.split; mem = mem_id m; exit = state_id x; after = mem_id b.0 })
+      (record { called = called p m q e call set live meant es f; ended = ended; after = b.2 }) in
       let y = back_of g t lazy call.seam call.split m x z.0 z.1 in
       let c = y.0.called in
       let i = called_is g functions routed staged first start t lazy p m q e call meant es z.0.seam.0 z.0.mem.0 z.0.split c y.1 y.2 y.3 in
@@ -112,7 +122,8 @@ module _ (g : Game) (functions : ℕ) (routed : AreRouted g functions) (staged :
   returns_good p m q e live meant None es = refl
   returns_good p m q e live meant (Some call) es =
       subst (λ o. all_return g t q m e call (promise_of t o) ≡ true) (sym z.is)
-      (subst (λ o. all_return g t q m e call (option_map (λ meant. meant.1) o) ≡ true) (sym z.callee) (all_pass (λ r. not (nat_eq r.0.0 (g.exit call.function)) || returns_by g t q m e call z.set (slice_get t.mems r.1.0)) t.live each))
+      (subst (λ o. all_return g t q m e call (option_map (λ meant. meant.1) o) ≡ true) (sym z.callee)
+      (all_pass (λ r. not (nat_eq r.0.0 (g.exit call.function)) || returns_by g t q m e call z.set (slice_get t.mems r.1.0)) t.live each))
     where
       z : IsEntered p m q e call
       z = entered p m q e live meant call es
@@ -123,7 +134,8 @@ module _ (g : Game) (functions : ℕ) (routed : AreRouted g functions) (staged :
           subst (λ o. (not (nat_eq r.0.0 (g.exit call.function)) || returns_by g t q m e call z.set o) ≡ true) (sym row.meant)
           (implied (nat_eq r.0.0 (g.exit call.function)) _ (λ ex. implied (nat_eq row.promise z.set) _ (λ ep.
           back_good p m q e live meant call es z.set row.state z.full
-          (subst (λ y. IsLive g (g.exit call.function) row.state y) (eqb-true row.promise z.set ep) (subst (λ y. IsLive g y row.state row.promise) (eqb-true r.0.0 (g.exit call.function) ex) row.live)))))
+          (subst (λ y. IsLive g (g.exit call.function) row.state y) (eqb-true row.promise z.set ep)
+          (subst (λ y. IsLive g y row.state row.promise) (eqb-true r.0.0 (g.exit call.function) ex) row.live)))))
 
   -- all conditions of a live row
   row_good : (p m q e : ℕ) → IsLive g p q e → Means t.mems m q e → first_failing (live_conditions g t p q m e (slice_get g.spots p)) ≡ None

@@ -69,7 +69,8 @@ module _ (rest : List Spot) (quiet : AreQuiet rest) where
   no_asked k j i a e = let w : false ≡ true = quiet k (spot.Asked j i a) e in cc
 
   -- a visit has what it asks behind it
-  behind_in : (j i : ℕ) (ps : List Primitive) (k x y : ℕ) (a : Primitive) → slice_get (visits j i ps ++ rest) k ≡ Some (spot.Visit x y a) → slice_get (visits j i ps ++ rest) (suc k) ≡ Some (spot.Asked x y a)
+  behind_in : (j i : ℕ) (ps : List Primitive) (k x y : ℕ) (a : Primitive) → slice_get (visits j i ps ++ rest) k ≡ Some (spot.Visit x y a)
+      → slice_get (visits j i ps ++ rest) (suc k) ≡ Some (spot.Asked x y a)
   behind_in j i [] k x y a e = absurd (no_visit k x y a e)
   behind_in j i (b ∷ ps) zero x y a e = ap (λ s. Some (asked_of s)) (same_Some (spot.Visit j i b) (spot.Visit x y a) e)
   behind_in j i (b ∷ ps) (suc zero) x y a e = let w : spot.Asked j i b ≡ spot.Visit x y a = same_Some (spot.Asked j i b) (spot.Visit x y a) e in cc
@@ -80,7 +81,8 @@ module _ (rest : List Spot) (quiet : AreQuiet rest) where
   front_in j i [] x y a e = no_asked 0 x y a e
   front_in j i (b ∷ ps) x y a e = let w : spot.Visit j i b ≡ spot.Asked x y a = same_Some (spot.Visit j i b) (spot.Asked x y a) e in cc
 
-  past_in : (j i : ℕ) (ps : List Primitive) (k x y z w : ℕ) (a b : Primitive) → slice_get (visits j i ps ++ rest) k ≡ Some (spot.Visit x y a) → slice_get (visits j i ps ++ rest) (suc (suc k)) ≡ Some (spot.Asked z w b) → ⊥
+  past_in : (j i : ℕ) (ps : List Primitive) (k x y z w : ℕ) (a b : Primitive) → slice_get (visits j i ps ++ rest) k ≡ Some (spot.Visit x y a)
+      → slice_get (visits j i ps ++ rest) (suc (suc k)) ≡ Some (spot.Asked z w b) → ⊥
   past_in j i [] k x y z w a b e f = no_visit k x y a e
   past_in j i (c ∷ ps) zero x y z w a b e f = front_in j (suc i) ps z w b f
   past_in j i (c ∷ ps) (suc zero) x y z w a b e f = let v : spot.Asked j i c ≡ spot.Visit x y a = same_Some (spot.Asked j i c) (spot.Visit x y a) e in cc
@@ -91,7 +93,8 @@ module _ (rest : List Spot) (quiet : AreQuiet rest) where
   front_there j i [] x e = (x, e)
   front_there j i (b ∷ ps) x e = (spot.Visit j i b, refl)
 
-  past_there : (j i : ℕ) (ps : List Primitive) (x : Spot) → slice_get rest 0 ≡ Some x → (k y z : ℕ) (a : Primitive) → slice_get (visits j i ps ++ rest) k ≡ Some (spot.Visit y z a) → (s : Spot) × (slice_get (visits j i ps ++ rest) (suc (suc k)) ≡ Some s)
+  past_there : (j i : ℕ) (ps : List Primitive) (x : Spot) → slice_get rest 0 ≡ Some x → (k y z : ℕ) (a : Primitive) → slice_get (visits j i ps ++ rest) k ≡ Some (spot.Visit y z a)
+      → (s : Spot) × (slice_get (visits j i ps ++ rest) (suc (suc k)) ≡ Some s)
   past_there j i [] x e k y z a h = absurd (no_visit k y z a h)
   past_there j i (b ∷ ps) x e zero y z a h = front_there j (suc i) ps x e
   past_there j i (b ∷ ps) x e (suc zero) y z a h = let v : spot.Asked j i b ≡ spot.Visit y z a = same_Some (spot.Asked j i b) (spot.Visit y z a) h in cc
@@ -112,7 +115,8 @@ module _ (rest : List Spot) (quiet : AreQuiet rest) where
       (suc r.0, r.1, is, at)
 
   -- what is neither a visit nor asked stands behind the visits
-  pub quiet_place : (j i : ℕ) (ps : List Primitive) (k : ℕ) (s : Spot) → is_quiet s ≡ true → slice_get (visits j i ps ++ rest) k ≡ Some s → (h : ℕ) × (k ≡ 2 * length ps + h) × (slice_get rest h ≡ Some s)
+  pub quiet_place : (j i : ℕ) (ps : List Primitive) (k : ℕ) (s : Spot) → is_quiet s ≡ true → slice_get (visits j i ps ++ rest) k ≡ Some s
+      → (h : ℕ) × (k ≡ 2 * length ps + h) × (slice_get rest h ≡ Some s)
   quiet_place j i [] k s q e = let z : k ≡ 2 * 0 + k = omega arith in (k, z, e)
   quiet_place j i (b ∷ ps) zero s q e = let w : false ≡ true = ap is_quiet (same_Some (spot.Visit j i b) s e) ∙ q in cc
   quiet_place j i (b ∷ ps) (suc zero) s q e = let w : false ≡ true = ap is_quiet (same_Some (spot.Asked j i b) s e) ∙ q in cc
@@ -149,7 +153,8 @@ unplaced t s m n e h = absurd (none-some m (sym n ∙ ap place_of (same_Some t s
 here_placed : (t s : Spot) (i j m : ℕ) → place_of t ≡ Some i → seam_in t ≡ j → Some t ≡ Some s → place_of s ≡ Some m → (i ≡ m) × (true ≡ true) × (j ≡ seam_in s)
 here_placed t s i j m p q e h = (same_Some i m (sym p ∙ ap place_of (same_Some t s e) ∙ h), refl, sym q ∙ ap seam_in (same_Some t s e))
 
-free_place : (parts : List Part) (p : Point) (f j l r k : ℕ) (s : Spot) (m : ℕ) → slice_get (free parts p f j l r) k ≡ Some s → place_of s ≡ Some m → (k ≡ m) × (is_seam_point p ≡ true) × (j ≡ seam_in s)
+free_place : (parts : List Part) (p : Point) (f j l r k : ℕ) (s : Spot) (m : ℕ) → slice_get (free parts p f j l r) k ≡ Some s → place_of s ≡ Some m
+    → (k ≡ m) × (is_seam_point p ≡ true) × (j ≡ seam_in s)
 free_place parts point.Entry f j l r zero s m e h = unplaced (spot.Step l) s m refl e h
 free_place parts point.Entry f j l r (suc k) s m e h = absurd (none-some s e)
 free_place parts point.Step f j l r zero s m e h = unplaced (spot.Step l) s m refl e h
@@ -199,7 +204,8 @@ module _ (policy : PlainPolicy) (parts : List Part) (ns : List Node) where
 
   -- what stands at a place of a point
   pub of_point : (p : ℕ) (n : Node) (k : ℕ) (s : Spot) → slice_get ns p ≡ Some n → slice_get (spots_at policy parts at n) k ≡ Some s → slice_get (spots_in policy parts ns) (at p + k) ≡ Some s
-  of_point p n k s en e = has_get (spots_in policy parts ns) (at p) (spots_at policy parts at n) k s (stands (spots_at policy parts at) (λ (m : Node). width policy parts m.point) (width_at policy parts at) ns p n en) e
+  of_point p n k s en e = has_get (spots_in policy parts ns) (at p) (spots_at policy parts at n) k s
+      (stands (spots_at policy parts at) (λ (m : Node). width policy parts m.point) (width_at policy parts at) ns p n en) e
 
   -- a visit has what it asks behind it
   pub visit_behind : (q j i : ℕ) (a : Primitive) → slice_get (spots_in policy parts ns) q ≡ Some (spot.Visit j i a) → slice_get (spots_in policy parts ns) (q + 1) ≡ Some (spot.Asked j i a)
@@ -254,7 +260,8 @@ module _ (policy : PlainPolicy) (parts : List Part) (ns : List Node) where
         (seam_at 0 0 ns ss p n are en)
 
     -- points with one seam are one
-    pub one_point : (p r : ℕ) (n m : Node) (j : ℕ) → slice_get ns p ≡ Some n → slice_get ns r ≡ Some m → is_seam_point n.point ≡ true → is_seam_point m.point ≡ true → number n.seam ≡ j → number m.seam ≡ j → p ≡ r
+    pub one_point : (p r : ℕ) (n m : Node) (j : ℕ) → slice_get ns p ≡ Some n → slice_get ns r ≡ Some m → is_seam_point n.point ≡ true → is_seam_point m.point ≡ true → number n.seam ≡ j
+        → number m.seam ≡ j → p ≡ r
     one_point p r n m j en em hn hm jn jm =
         let a = seam_point p n j en hn jn in
         let b = seam_point r m j em hm jm in
@@ -276,7 +283,8 @@ module _ (policy : PlainPolicy) (parts : List Part) (ns : List Node) where
         r.5 ∙ ap₂ (λ c d. at c + d) p k ∙ sym v.5
 
     -- what stands in the same place of the same seam stands at one position
-    pub placed_once : (q w m : ℕ) (s t : Spot) → place_of s ≡ Some m → place_of t ≡ Some m → seam_in s ≡ seam_in t → slice_get (spots_in policy parts ns) q ≡ Some s → slice_get (spots_in policy parts ns) w ≡ Some t → q ≡ w
+    pub placed_once : (q w m : ℕ) (s t : Spot) → place_of s ≡ Some m → place_of t ≡ Some m → seam_in s ≡ seam_in t → slice_get (spots_in policy parts ns) q ≡ Some s
+        → slice_get (spots_in policy parts ns) w ≡ Some t → q ≡ w
     placed_once q w m s t ps pt js e f =
         let r = found (spots_at policy parts at) (λ (m : Node). width policy parts m.point) (width_at policy parts at) ns q s e in
         let v = found (spots_at policy parts at) (λ (m : Node). width policy parts m.point) (width_at policy parts at) ns w t f in

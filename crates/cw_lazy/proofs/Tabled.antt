@@ -40,7 +40,7 @@ use Rattle.cw_lazy.proofs.Finding.{in_of, of_in}
 use Rattle.cw_lazy.proofs.Listing.{places_exactly, memories_exactly, tries_exactly, labels_exactly, opened_exactly, closed_exactly, into_exactly, back_exactly, live_exactly}
 use Rattle.cw_lazy.proofs.Returning.{alive, listed, returns_exactly}
 use Rattle.cw_lazy.proofs.Rowing.{meant}
-use Rattle.cw_lazy.proofs.Sameness.{mem_total}
+use Rattle.cw_certs.proofs.Orders.{mem_total}
 
 pub if_ok : {A E : Type 0} (P Q : A → Type 0) (r : Result A E) → IfOk r P → ((a : A) → P a → Q a) → IfOk r Q
 if_ok P Q (Ok a) p h = h a p
@@ -100,34 +100,43 @@ module _ (h : HeldGame) (keys : List Key) (live : AreLive h keys) where
     pub live_are : (rows : List (PosId × MemId)) → rows ≡ map (live_row ms) keys → Exactly live_cmp (IsLiveRow g ms) rows
     live_are rows e = subst (Exactly live_cmp (IsLiveRow g ms)) (sym e) (live_exactly g functions live.begins ms all.are live.low keys (live.are.0, lives))
 
-    pub tries_are : (ys : List Placed) → Exactly placed_cmp (Contains (filter_map (placed_of g kind.Asked) keys)) ys → (rows : List TryRow) → rows ≡ map (try_row g ms) ys → Exactly try_cmp (IsTryRow g ms) rows
+    pub tries_are : (ys : List Placed) → Exactly placed_cmp (Contains (filter_map (placed_of g kind.Asked) keys)) ys → (rows : List TryRow) → rows ≡ map (try_row g ms) ys
+        → Exactly try_cmp (IsTryRow g ms) rows
     tries_are ys are rows e = subst (Exactly try_cmp (IsTryRow g ms)) (sym e) (tries_exactly g functions live.begins ms all.are live.low ys (places_are kind.Asked ys are))
 
-    pub labels_are : (ys : List Placed) → Exactly placed_cmp (Contains (filter_map (placed_of g kind.Label) keys)) ys → (rows : List AtRow) → rows ≡ map (at_row g ms) ys → Exactly at_cmp (IsLabelRow g ms) rows
+    pub labels_are : (ys : List Placed) → Exactly placed_cmp (Contains (filter_map (placed_of g kind.Label) keys)) ys → (rows : List AtRow) → rows ≡ map (at_row g ms) ys
+        → Exactly at_cmp (IsLabelRow g ms) rows
     labels_are ys are rows e = subst (Exactly at_cmp (IsLabelRow g ms)) (sym e) (labels_exactly g functions live.begins ms all.are live.low ys (places_are kind.Label ys are))
 
-    pub opens_are : (ys : List Placed) → Exactly placed_cmp (Contains (filter_map (placed_of g kind.Open) keys)) ys → (rows : List OpenRow) → rows ≡ map (open_row g ms) ys → Exactly open_cmp (IsOpenRow g ms) rows
+    pub opens_are : (ys : List Placed) → Exactly placed_cmp (Contains (filter_map (placed_of g kind.Open) keys)) ys → (rows : List OpenRow) → rows ≡ map (open_row g ms) ys
+        → Exactly open_cmp (IsOpenRow g ms) rows
     opens_are ys are rows e = subst (Exactly open_cmp (IsOpenRow g ms)) (sym e) (opened_exactly g functions live.begins ms all.are live.low ys (places_are kind.Open ys are))
 
-    pub closes_are : (ys : List Placed) → Exactly placed_cmp (Contains (filter_map (placed_of g kind.Close) keys)) ys → (rows : List AtRow) → rows ≡ map (at_row g ms) ys → Exactly at_cmp (IsCloseRow g ms) rows
+    pub closes_are : (ys : List Placed) → Exactly placed_cmp (Contains (filter_map (placed_of g kind.Close) keys)) ys → (rows : List AtRow) → rows ≡ map (at_row g ms) ys
+        → Exactly at_cmp (IsCloseRow g ms) rows
     closes_are ys are rows e = subst (Exactly at_cmp (IsCloseRow g ms)) (sym e) (closed_exactly g functions live.begins ms all.are live.low ys (places_are kind.Close ys are))
 
-    pub calls_are : (ys : List Placed) → Exactly placed_cmp (Contains (filter_map (placed_of g kind.Call) keys)) ys → (rows : List IntoRow) → rows ≡ map (into_row g ms) ys → Exactly into_cmp (IsIntoRow g ms) rows
+    pub calls_are : (ys : List Placed) → Exactly placed_cmp (Contains (filter_map (placed_of g kind.Call) keys)) ys → (rows : List IntoRow) → rows ≡ map (into_row g ms) ys
+        → Exactly into_cmp (IsIntoRow g ms) rows
     calls_are ys are rows e = subst (Exactly into_cmp (IsIntoRow g ms)) (sym e) (into_exactly g functions live.begins ms all.are live.low ys (places_are kind.Call ys are))
 
     -- the table
     pub start_means : (q e : ℕ) → q ≡ g.states.start → e ≡ all_states g → Means ms (mem ms q e).0 g.states.start (all_states g)
-    start_means q e a b = subst (λ (n : ℕ). Means ms n g.states.start (all_states g)) (ap₂ (number ms) (sym a) (sym b)) (meant g functions live.begins live.low ms all.are (g.entry g.main) g.states.start (all_states g) begins)
+    start_means q e a b = subst (λ (n : ℕ). Means ms n g.states.start (all_states g)) (ap₂ (number ms) (sym a) (sym b))
+        (meant g functions live.begins live.low ms all.are (g.entry g.main) g.states.start (all_states g) begins)
 
 -- the memories as the code has them
-pub mems_of : (h : HeldGame) (keys : List Key) (live : AreLive h keys) (all given : List (StateId × ℕ)) (found ms : Memories) → given ≡ all → all ≡ map memory_of keys → Exactly mem_cmp (Contains given) found → ms ≡ found → AreAllMemories (game_of h) ms
+pub mems_of : (h : HeldGame) (keys : List Key) (live : AreLive h keys) (all given : List (StateId × ℕ)) (found ms : Memories) → given ≡ all → all ≡ map memory_of keys
+    → Exactly mem_cmp (Contains given) found → ms ≡ found → AreAllMemories (game_of h) ms
 mems_of h keys live all given found ms a b e m =
     memories_are h keys live ms (subst (λ (l : Memories). Exactly mem_cmp (Contains (map memory_of keys)) l) (sym m) (subst (λ (l : List (StateId × ℕ)). Exactly mem_cmp (Contains l) found) (a ∙ b) e))
 
 -- the table as the code has it
-pub lazy_of : (g : Game) (states : ℕ) (start : MemId) (ms found : Memories) (live : List (PosId × MemId)) (tries : List TryRow) (ats : List AtRow) (opened : List OpenRow) (closed : List AtRow) (into : List IntoRow) (back : List BackRow)
+pub lazy_of : (g : Game) (states : ℕ) (start : MemId) (ms found : Memories) (live : List (PosId × MemId)) (tries : List TryRow) (ats : List AtRow) (opened : List OpenRow)
+    (closed : List AtRow) (into : List IntoRow) (back : List BackRow)
     → ms ≡ found → states ≡ g.states.count → Means ms start.0 g.states.start (all_states g) → AreAllMemories g ms → Exactly live_cmp (IsLiveRow g ms) live → Exactly try_cmp (IsTryRow g ms) tries
-    → Exactly at_cmp (IsLabelRow g ms) ats → Exactly open_cmp (IsOpenRow g ms) opened → Exactly at_cmp (IsCloseRow g ms) closed → Exactly into_cmp (IsIntoRow g ms) into → Exactly back_cmp (IsBackRow g ms) back
+    → Exactly at_cmp (IsLabelRow g ms) ats → Exactly open_cmp (IsOpenRow g ms) opened → Exactly at_cmp (IsCloseRow g ms) closed → Exactly into_cmp (IsIntoRow g ms) into
+    → Exactly back_cmp (IsBackRow g ms) back
     → IsLazyTable g (table_with states start found live tries ats opened closed into back)
 lazy_of g states start ms found live tries ats opened closed into back same n s all l t a o c i b =
     subst (λ (m : Memories). IsLazyTable g (table_with states start m live tries ats opened closed into back)) same
@@ -150,7 +159,8 @@ module _ (h : HeldGame) (pairs : List (Key × Key)) (returns : AreReturns h pair
   pub pair_position : (ab : Key × Key) → Contains pairs ab → IsPosition (game_of h) ab.0.pos
   pair_position ab c =
       let p = (returns.are.1 ab).0 c in
-      let s = safe_at (game_of h) (length h.graph.parts.items) returns.begins ab.0.pos ab.0.state ab.0.promise (alive (game_of h) (length h.graph.parts.items) returns.begins returns.low ab.0 p.waiting) in
+      let s = safe_at (game_of h) (length h.graph.parts.items) returns.begins ab.0.pos ab.0.state ab.0.promise
+      (alive (game_of h) (length h.graph.parts.items) returns.begins returns.low ab.0 p.waiting) in
       let th = there (game_of h) (length h.graph.parts.items) returns.begins.routed (context s.function ab.0.promise) s.needed in
       omega (arith, s.of.1, th.ends)
 

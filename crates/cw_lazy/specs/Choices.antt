@@ -1,11 +1,10 @@
 -- Working definitions: what the lazy table chooses, as functions of a game whose heights are below 2^32.
-use Rattle.std.specs.Prelude.{◌≡◌, ℕ, ◌<◌, List, Bool, false, not, ◌&&◌, Option, Some, None, nat_eq, nat_le, length, slice_get, Contains}
+use Rattle.std.specs.Prelude.{◌≡◌, ℕ, Bool, not, Option, Some, None, length, slice_get, Contains}
 use Rattle.cw_game.specs.Games.{Game, returned, Holds}
 use Rattle.cw_game.specs.Pairs.{has, all_states, Called, call_in, kept_at}
 use Rattle.cw_joined.specs.Members.{Rules, IsMember, then, joins}
 use Rattle.cw_product.specs.Product.{Held as HeldGame, game_of}
-use Rattle.cw_solve.specs.declared.contexts.Context.{Context}
-use Rattle.cw_solve.specs.Contexts.{context, IsOf, IsNeeded, AreTheNeeded}
+use Rattle.cw_solve.specs.Contexts.{AreTheNeeded}
 use Rattle.cw_solve.specs.Low.{HeightsAreLow}
 use Rattle.cw_solve.specs.Solved.{Held}
 use Rattle.cw_lazy.specs.declared.key.Key.{Key}
@@ -43,21 +42,6 @@ start_of g = key (g.entry g.main) g.states.start (all_states g)
 -- a call that returns to this position, as far as its return goes
 abbrev pub returning : ℕ → Bool → Called
 returning back split = record { seam = 0; function = 0; back = back; split = split }
-
--- the position stands in a function under a needed promise
-abbrev pub IsThere : Game → (p e : ℕ) → Type 0
-IsThere g p e = (function : ℕ) × IsOf g function p × IsNeeded g (context function e)
-
--- the context with this number has the position, and this promise
-pub record IsIn (g : Game) (contexts : List Context) (number e p : ℕ) : Type 0 where
-  pub context : Context
-  pub at : slice_get contexts number ≡ Some context
-  pub of : IsOf g context.function p
-  pub promise : context.promise ≡ e
-
-abbrev pub has_position : Game → (p promise : ℕ) → Option Context → Bool
-has_position g p promise None = false
-has_position g p promise (Some c) = nat_eq c.promise promise && (nat_le (g.entry c.function) p && nat_le p (g.exit c.function))
 
 -- a game, and the same game solved, in which the lazy table can begin
 pub record IsReady (h : HeldGame) (s : Held) : Type 0 where

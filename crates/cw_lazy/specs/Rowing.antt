@@ -1,5 +1,5 @@
 -- Working definitions: the rows of keys, as functions of the game and the memories.
-use Rattle.std.specs.Prelude.{ℕ, ◌+◌, ◌≤◌, List, [], ◌∷◌, Bool, cond, ◌&&◌, Option, Some, None, option_map, nat_eq, length}
+use Rattle.std.specs.Prelude.{ℕ, ◌≤◌, List, Bool, cond, Option, Some, None, option_map, nat_eq, length}
 use Rattle.std.specs.List.Sorted.{IsStrictlySortedBy}
 use Rattle.cw_core.specs.declared.ids.SeamId.{SeamId}
 use Rattle.cw_core.specs.declared.ids.StateId.{StateId}
@@ -13,6 +13,7 @@ use Rattle.cw_certs.specs.declared.rows.OpenRow.{OpenRow}
 use Rattle.cw_certs.specs.declared.rows.IntoRow.{IntoRow}
 use Rattle.cw_certs.specs.declared.rows.BackRow.{BackRow}
 use Rattle.cw_certs.specs.Ascending.{mem_cmp}
+use Rattle.cw_ordered.specs.Numbers.{number_in}
 use Rattle.cw_game.specs.Games.{Game, resumed, returned}
 use Rattle.cw_game.specs.Pairs.{kept_at}
 use Rattle.cw_product.specs.Moves.{next_at, pos_id}
@@ -31,8 +32,7 @@ pub record AreMemories (ms : Memories) : Type 0 where
 
 -- the place of a state and a promise among the memories, and how many they are where it is none of them
 abbrev pub number : Memories → (q e : ℕ) → ℕ
-number [] q e = 0
-number (x ∷ xs) q e = cond (nat_eq x.0.0 q && nat_eq x.1 e) 0 (number xs q e + 1)
+number ms q e = number_in mem_cmp ms (state_id q, e)
 
 abbrev pub seam_id : ℕ → SeamId
 seam_id n = record { 0 = n }

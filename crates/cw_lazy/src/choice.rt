@@ -1,49 +1,14 @@
 //! What the lazy table chooses at a pair of a solved game.
 
-ghost use Rattle.std.specs.Prelude.{◌≡◌, ◌<◌, ◌&&◌, nat_le, length, slice_get};
+ghost use Rattle.std.specs.Prelude.{◌≡◌, ◌<◌};
 ghost use Rattle.cw_product.specs.Product.{game_of};
-ghost use Rattle.cw_lazy.specs.Choices.{lost_in, promised, returning, IsThere, IsIn, has_position, IsReady};
+ghost use Rattle.cw_solve.specs.Numbering.{IsUnder, IsNumberOf};
+ghost use Rattle.cw_lazy.specs.Choices.{lost_in, promised, returning, IsReady};
 
 use crate::key::Key;
 use cw_core::{PosId, StateId, StateSet};
 use cw_product::Game;
 use cw_solve::Solved;
-
-fn is_between(first: PosId, pos: PosId, last: PosId) -> bool
-    ensures { result ≡ (nat_le first.0 pos.0 && nat_le pos.0 last.0) }
-{
-    first.0 <= pos.0 && pos.0 <= last.0
-}
-
-/// Whether a context has a position and this promise.
-fn has_position(game: &Game, solved: &Solved, number: u32, pos: PosId, promise: &StateSet) -> bool
-    requires ready { IsReady game.now solved.now }
-    requires number { number < length solved.now.contexts }
-    ensures { result ≡ has_position (game_of game.now) pos.0 promise.now (slice_get solved.now.contexts number) }
-{
-    let context = solved.context(number);
-    let first = game.entry(context.function);
-    let last = game.exit(context.function);
-    if context.promise == *promise {
-        is_between(first, pos, last)
-    } else {
-        false
-    }
-}
-
-/// The number of a context that has a position and this promise.
-fn number_of(game: &Game, solved: &Solved, pos: PosId, promise: &StateSet) -> u32
-    requires ready { IsReady game.now solved.now }
-    requires there { IsThere (game_of game.now) pos.0 promise.now }
-    ensures { IsIn (game_of game.now) solved.now.contexts result promise.now pos.0 }
-{
-    for number in 0..solved.contexts() {
-        if has_position(game, solved, number, pos, promise) {
-            return number;
-        }
-    }
-    unreachable!()
-}
 
 /// Whether a pair is lost under a context's promise.
 fn is_lost_in(
@@ -55,7 +20,7 @@ fn is_lost_in(
     promise: &StateSet,
 ) -> bool
     requires ready { IsReady game.now solved.now }
-    requires here { IsIn (game_of game.now) solved.now.contexts number promise.now pos.0 }
+    requires here { IsNumberOf (game_of solved.now.game) solved.now.contexts number promise.now pos.0 }
     requires state { state.0 < (game_of game.now).states.count }
     ensures { result ≡ lost_in (game_of game.now) pos.0 state.0 promise.now }
 {
@@ -76,11 +41,11 @@ pub(crate) fn is_lost(
     promise: &StateSet,
 ) -> bool
     requires ready { IsReady game.now solved.now }
-    requires there { IsThere (game_of game.now) pos.0 promise.now }
+    requires there { IsUnder (game_of game.now) pos.0 promise.now }
     requires state { state.0 < (game_of game.now).states.count }
     ensures { result ≡ lost_in (game_of game.now) pos.0 state.0 promise.now }
 {
-    let number = number_of(game, solved, pos, promise);
+    let number = solved.number_of(pos, promise);
     is_lost_in(game, solved, number, pos, state, promise)
 }
 
@@ -93,11 +58,11 @@ pub(crate) fn promised(
     split: bool,
 ) -> StateSet
     requires ready { IsReady game.now solved.now }
-    requires there { IsThere (game_of game.now) back.0 key.now.promise }
+    requires there { IsUnder (game_of game.now) back.0 key.now.promise }
     requires state { key.now.state < (game_of game.now).states.count }
     ensures { result ≡ promised (game_of game.now) key.now.state key.now.promise (returning back.0 split) }
 {
-    let number = number_of(game, solved, back, &key.promise);
+    let number = solved.number_of(back, &key.promise);
     let mut set = StateSet::empty();
     for x in 0..game.states() {
         let exit = StateId(x);

@@ -4,7 +4,8 @@ ghost use Rattle.std.specs.Prelude.{◌≡◌, ◌≤◌, ◌++◌, ℕ, Some, �
 ghost use Rattle.cw_game.specs.Games.{resumed};
 ghost use Rattle.cw_product.specs.Moves.{IsPosition, IsState};
 ghost use Rattle.cw_product.specs.Product.{game_of};
-ghost use Rattle.cw_lazy.specs.Choices.{lost_in, set_in, choices, IsThere, IsReady, CanFollow};
+ghost use Rattle.cw_solve.specs.Numbering.{IsUnder};
+ghost use Rattle.cw_lazy.specs.Choices.{lost_in, set_in, choices, IsReady, CanFollow};
 ghost use Rattle.cw_lazy.specs.Closing.{gone_on};
 ghost use Rattle.cw_lazy.specs.Following.{moved_by, skip_or_try, put_if};
 
@@ -68,7 +69,7 @@ fn put_going_on(
     requires ready { IsReady game.now solved.now }
     requires position { IsPosition (game_of game.now) key.now.pos }
     requires state { IsState (game_of game.now) key.now.state }
-    requires there { (pair : ℕ × ℕ) → resumed (game_of game.now) key.now.pos key.now.state ≡ Some pair → IsThere (game_of game.now) pair.0 key.now.promise }
+    requires there { (pair : ℕ × ℕ) → resumed (game_of game.now) key.now.pos key.now.state ≡ Some pair → IsUnder (game_of game.now) pair.0 key.now.promise }
     ensures { OnOk result (keys.new.items ≡ keys.old.items ++ gone_on (game_of game.now) (lost_in (game_of game.now)) (set_in (game_of game.now)) key.now
         (resumed (game_of game.now) key.now.pos key.now.state)) }
 {
@@ -92,7 +93,7 @@ fn put_going_on(
 fn chosen(game: &Game, solved: &Solved, key: &Key) -> Key
     requires ready { IsReady game.now solved.now }
     requires short { key.now.pos + 2 ≤ 1048576 }
-    requires there { IsThere (game_of game.now) (key.now.pos + 2) key.now.promise }
+    requires there { IsUnder (game_of game.now) (key.now.pos + 2) key.now.promise }
     requires state { IsState (game_of game.now) key.now.state }
     ensures { result ≡ skip_or_try (game_of game.now) key.now }
 {

@@ -15,19 +15,18 @@ use crate::key::Key;
 use crate::place::Placed;
 use cw_certs::{AtRow, BackRow, IntoRow, Move, OpenRow, TryRow};
 use cw_core::{MemId, PosId, SeamId, StateId, StateSet};
+use cw_ordered::number_of;
 use cw_product::Game;
 use cw_solve::Solved;
 use std::alloc::{AllocError, Global};
 
 /// The number of a memory, and how many they are where it is none of them.
+#[tactic(auto, using(crate::proofs::Numbers::mem_exact))]
 pub(crate) fn mem(mems: &[(StateId, StateSet)], state: StateId, promise: StateSet) -> MemId
     requires mems { AreMemories mems.now }
     ensures { result ≡ mem mems.now state.0 promise }
 {
-    match mems.binary_search(&(state, promise)) {
-        Ok(place) => MemId(place as u32),
-        Err(_) => MemId(mems.len() as u32),
-    }
+    MemId(number_of(mems, &(state, promise)) as u32)
 }
 
 pub(crate) fn live_rows(

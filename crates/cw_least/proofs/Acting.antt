@@ -73,7 +73,8 @@ module _ (g : Game) (k : Key) where
   pub weaver_act : Some turn.Weaver ≡ option_map (turn_in g) (slice_get g.spots k.pos) → Both (below g k (k.pos + 2) k.state k.aim) (below g k (k.pos + 1) k.state k.aim) ≡ act g k
   weaver_act e = let v = weaver_at e in sym (ap (λ o. act_in g k o (call_in o)) v.3)
 
-  pub into_act : (c : Called) (callee : Key) (backs : List (ℕ × Key)) → call_in (slice_get g.spots k.pos) ≡ Some c → callee ≡ below g k (g.entry c.function) k.state (aim_at g k c) → backs ≡ backs_at g k c
+  pub into_act : (c : Called) (callee : Key) (backs : List (ℕ × Key)) → call_in (slice_get g.spots k.pos) ≡ Some c → callee ≡ below g k (g.entry c.function) k.state (aim_at g k c)
+      → backs ≡ backs_at g k c
       → Into callee backs ≡ act g k
   into_act c callee backs es a b = ap₂ Into a b ∙ sym (ap (act_in g k (slice_get g.spots k.pos)) es)
 
@@ -120,5 +121,6 @@ keys_plain [] = refl
 keys_plain (b ∷ backs) = ap (λ (l : List Key). b.1 ∷ l) (keys_plain backs)
 
 -- what is named at a call, put behind other keys
-pub into_keys : (old : List Key) (callee : Key) (backs : List (StateId × Key)) {new : List Key} → new ≡ (old ++ callee ∷ []) ++ map key_of_back backs → new ≡ old ++ callee ∷ map (λ (b : ℕ × Key). b.1) (map plain backs)
+pub into_keys : (old : List Key) (callee : Key) (backs : List (StateId × Key)) {new : List Key} → new ≡ (old ++ callee ∷ []) ++ map key_of_back backs
+    → new ≡ old ++ callee ∷ map (λ (b : ℕ × Key). b.1) (map plain backs)
 into_keys old callee backs e = e ∙ append_assoc old (callee ∷ []) (map key_of_back backs) ∙ ap (λ (l : List Key). old ++ callee ∷ l) (keys_plain backs)

@@ -18,7 +18,8 @@ use Rattle.cw_least.proofs.Keys.{key_total, key_exact}
 pub exactly_same : (P : Key → Type 0) (xs ys : List Key) → Exactly key_cmp P xs → Exactly key_cmp P ys → xs ≡ ys
 exactly_same P xs ys a b =
     btree_set_from_contains key_total s t a.0 b.0
-    (λ q. both_ways (contains key_cmp s q) (contains key_cmp t q) (λ e. (btree_set_contains_iff key_total key_exact t q).1 ((b.1 q).1 ((a.1 q).0 ((btree_set_contains_iff key_total key_exact s q).0 e))))
+    (λ q. both_ways (contains key_cmp s q) (contains key_cmp t q)
+    (λ e. (btree_set_contains_iff key_total key_exact t q).1 ((b.1 q).1 ((a.1 q).0 ((btree_set_contains_iff key_total key_exact s q).0 e))))
     (λ e. (btree_set_contains_iff key_total key_exact s q).1 ((a.1 q).1 ((b.1 q).0 ((btree_set_contains_iff key_total key_exact t q).0 e))))) key_exact
   where
     s : BTreeSet Key

@@ -1,5 +1,6 @@
 -- The strategy by least heights meets the conditions.
-use Rattle.std.proofs.Common.{◌≡◌, ◌⊎◌, ℕ, zero, suc, ◌+◌, ◌-◌, ◌<◌, ◌^◌, List, [], ◌∷◌, Bool, true, false, cond, not, ◌&&◌, ◌||◌, Option, Some, None, is_some, map, filter_map, find, length, nat_eq, nat_lt, refl, sym, ap, ◌∙◌, subst, arith, inl, inr}
+use Rattle.std.proofs.Common.{◌≡◌, ◌⊎◌, ℕ, zero, suc, ◌+◌, ◌-◌, ◌<◌, ◌^◌, List, [], ◌∷◌, Bool, true, false, cond, not, ◌&&◌, ◌||◌, Option, Some, None, is_some, map, filter_map}
+use Rattle.std.proofs.Common.{find, length, nat_eq, nat_lt, refl, sym, ap, ◌∙◌, subst, arith, inl, inr}
 use Rattle.std.specs.Prelude.{slice_get, option_map}
 use Rattle.std.specs.List.{Contains, cons_option, list_all, list_any, enumerate_from, range_with_len}
 use Rattle.std.specs.List.Sorted.{IsStrictlySortedBy}
@@ -13,7 +14,8 @@ use Rattle.cw_game.specs.declared.spots.Spot.{Spot}
 use Rattle.cw_game.specs.declared.spots.Spot.TheVariants.{Visit, Asked, Step, Branch, Label, Open, Close, Call, SplitCall, Exit}
 use Rattle.cw_game.specs.Games.{Game, Promise, Holds, holds_in, bad_in, weavers_in, leads_in, returned}
 use Rattle.cw_game.specs.Pairs.{has, Called, call_in, is_call_in, is_exit_in, kept_at}
-use Rattle.cw_game.specs.Conditions.{first_failing, is_state, named_by, exits_by, is_row, is_violated, is_exit, ends_well, is_row_at, stands_after, weaver_moves, environment_moves, callee_stands, is_back, are_backs, backs_stand, row_conditions, fault_in, all_rows, is_start, IsGoodStrategy}
+use Rattle.cw_game.specs.Conditions.{first_failing, is_state, named_by, exits_by, is_row, is_violated, is_exit, ends_well, is_row_at, stands_after, weaver_moves, environment_moves}
+use Rattle.cw_game.specs.Conditions.{callee_stands, is_back, are_backs, backs_stand, row_conditions, fault_in, all_rows, is_start, IsGoodStrategy}
 use Rattle.cw_game.proofs.Failing.{none_more, none_append, none_mapped}
 use Rattle.cw_game.proofs.Truths.{both}
 use Rattle.cw_product.specs.Moves.{next_in}
@@ -26,15 +28,18 @@ use Rattle.cw_least.specs.declared.key.Key.{Key}
 use Rattle.cw_least.specs.declared.key.Way.{Way}
 use Rattle.cw_least.specs.Heights.{others}
 use Rattle.cw_least.specs.Kept.{IsKey}
-use Rattle.cw_least.specs.Strategies.{key_cmp, below, moves, best, after_return, is_lost_after, aim_at, back_at, backs_at, Act, Bad, Out, Both, Go, Into, goes, inner, act_in, act, keys_in, named, number, how_by, row_at, start_key, IsLeastStrategy}
+use Rattle.cw_least.specs.Strategies.{key_cmp, below, moves, best, after_return, is_lost_after, aim_at, back_at, backs_at, Act, Bad, Out, Both, Go, Into, goes, inner, act_in, act}
+use Rattle.cw_least.specs.Strategies.{keys_in, named, number, how_by, row_at, start_key, IsLeastStrategy}
 use Rattle.cw_least.proofs.Sets.{has_set}
 use Rattle.cw_least.proofs.Lowest as lowest
-use Rattle.cw_least.proofs.Keys.{at_number, before}
+use Rattle.cw_ordered.proofs.Numbers.{at_number}
+use Rattle.cw_least.proofs.Keys.{key_total, key_exact, before}
 use Rattle.cw_least.proofs.Moving.{moved}
 use Rattle.cw_least.proofs.Naming.{none_in, first_or_later, is_first, is_later, from_mapped, in_range, named_lower, fails, best_taken, best_some, taken_at, backs_lower, reached_keys, start_is}
 
 -- no condition fails
-seven : (a b c d e f h : Bool) → a ≡ true → b ≡ true → c ≡ true → d ≡ true → e ≡ true → f ≡ true → h ≡ true → first_failing {A = ℕ} ((1, a) ∷ (2, b) ∷ (3, c) ∷ (4, d) ∷ (5, e) ∷ (6, f) ∷ (7, h) ∷ []) ≡ None
+seven : (a b c d e f h : Bool) → a ≡ true → b ≡ true → c ≡ true → d ≡ true → e ≡ true → f ≡ true → h ≡ true
+    → first_failing {A = ℕ} ((1, a) ∷ (2, b) ∷ (3, c) ∷ (4, d) ∷ (5, e) ∷ (6, f) ∷ (7, h) ∷ []) ≡ None
 seven a b c d e f h p q r s t u v =
     none_more a _ 1 p (none_more b _ 2 q (none_more c _ 3 r (none_more d _ 4 s (none_more e _ 5 t (none_more f _ 6 u (none_more h _ 7 v refl))))))
 
@@ -125,7 +130,7 @@ after_false h e (Some r) f = (r, refl, f)
 module _ (g : Game) (functions : ℕ) (routed : AreRouted g functions) (keys : List Key) (order : IsStrictlySortedBy key_cmp keys) (s : Strategy) (rows : s.rows ≡ map (row_at g keys) keys) where
   -- a key's row stands at its number
   row_is : (b : Key) → Contains keys b → slice_get s.rows (number keys b) ≡ Some (row_at g keys b)
-  row_is b c = ap (λ r. slice_get r (number keys b)) rows ∙ slice_get-map (row_at g keys) keys (number keys b) ∙ ap (option_map (row_at g keys)) (at_number keys b c)
+  row_is b c = ap (λ r. slice_get r (number keys b)) rows ∙ slice_get-map (row_at g keys) keys (number keys b) ∙ ap (option_map (row_at g keys)) (at_number key_cmp key_total key_exact keys b c)
 
   stands : (b : Key) → Contains keys b → is_row_at b.pos b.state b.aim (slice_get s.rows (number keys b)) ≡ true
   stands b c = ap (is_row_at b.pos b.state b.aim) (row_is b c) ∙ is_same b.pos b.state b.aim
@@ -163,7 +168,8 @@ module _ (g : Game) (functions : ℕ) (routed : AreRouted g functions) (keys : L
         → callee_stands g s k.state (call_in spot) (how_by keys a) ≡ true → backs_stand g s k.state k.aim (call_in spot) (how_by keys a) ≡ true → Meets a
     meets a c1 c2 c3 c4 c5 c6 c7 =
         seven (is_row g i (row_by a)) (is_violated g k.state spot (how_by keys a)) (ends_well g k.state k.aim spot (how_by keys a)) (weaver_moves g s k.pos k.state k.aim spot (how_by keys a))
-        (environment_moves g s k.pos k.state k.aim spot (how_by keys a)) (callee_stands g s k.state (call_in spot) (how_by keys a)) (backs_stand g s k.state k.aim (call_in spot) (how_by keys a)) c1 c2 c3 c4 c5 c6 c7
+        (environment_moves g s k.pos k.state k.aim spot (how_by keys a)) (callee_stands g s k.state (call_in spot) (how_by keys a))
+        (backs_stand g s k.state k.aim (call_in spot) (how_by keys a)) c1 c2 c3 c4 c5 c6 c7
 
     -- The environment has a move, where the pair isn't bad.
     abbrev HasWay : Type 0
@@ -217,7 +223,8 @@ module _ (g : Game) (functions : ℕ) (routed : AreRouted g functions) (keys : L
         ap (λ (b : Key). is_row_at b.pos b.state b.aim (slice_get s.rows (number keys v.to))) (sym t.1.2) ∙ stands v.to (named_in v.to (names v.to (is_first v.to []))) in
         let after_is : stands_after s (number keys v.to) k.aim (leads_in g k.pos k.state [] spot v.by) ≡ true =
         ap (stands_after s (number keys v.to) k.aim) m.3.1 ∙ ap (λ (p : ℕ × ℕ). is_row_at p.0 p.1 k.aim (slice_get s.rows (number keys v.to))) m.3.2 ∙ at_is in
-        let turn : not (weavers_in spot || (is_call_in spot || (is_exit_in spot || bad_in g k.state spot))) ≡ true = all_four (weavers_in spot) (is_call_in spot) (is_exit_in spot) (bad_in g k.state spot) w c x m.0 in
+        let turn : not (weavers_in spot || (is_call_in spot || (is_exit_in spot || bad_in g k.state spot))) ≡ true =
+        all_four (weavers_in spot) (is_call_in spot) (is_exit_in spot) (bad_in g k.state spot) w c x m.0 in
         meets (Go v) (row_range (Go v) (both (nat_lt (number keys v.to) i) true (smaller v.to (names v.to (is_first v.to []))) refl) refl) refl refl refl (both _ _ turn after_is) refl refl
       where
         all_four : (a b c d : Bool) → a ≡ false → b ≡ false → c ≡ false → d ≡ false → not (a || (b || (c || d))) ≡ true
@@ -248,7 +255,8 @@ module _ (g : Game) (functions : ℕ) (routed : AreRouted g functions) (keys : L
         let cs : Contains (named g k) skip = names skip (is_first skip (tried ∷ [])) in
         let ct : Contains (named g k) tried = names tried (is_later skip (tried ∷ []) tried (is_first tried [])) in
         let at_visit : weaver_moves g s k.pos k.state k.aim (Some (Visit j x a)) (how_by keys (Both skip tried)) ≡ true =
-        both (is_row_at (k.pos + 2) k.state k.aim (slice_get s.rows (number keys skip))) (is_row_at (k.pos + 1) k.state k.aim (slice_get s.rows (number keys tried))) (stands skip (named_in skip cs)) (stands tried (named_in tried ct)) in
+        both (is_row_at (k.pos + 2) k.state k.aim (slice_get s.rows (number keys skip))) (is_row_at (k.pos + 1) k.state k.aim (slice_get s.rows (number keys tried)))
+        (stands skip (named_in skip cs)) (stands tried (named_in tried ct)) in
         meets (Both skip tried)
         (row_range (Both skip tried) (both (nat_lt (number keys skip) i) _ (smaller skip cs) (both (nat_lt (number keys tried) i) true (smaller tried ct) refl)) refl)
         refl refl (ap (λ o. weaver_moves g s k.pos k.state k.aim o (how_by keys (Both skip tried))) es ∙ at_visit) refl refl refl
@@ -300,7 +308,8 @@ module _ (g : Game) (functions : ℕ) (routed : AreRouted g functions) (keys : L
         (has_set (is_lost_after g k c) count z.0.0 ∙ both (nat_lt z.0.0 count) (is_lost_after g k c z.0.0) (lt-ltb z.0.0 count l.0) l.1)
         (ap (λ (b : Key). is_row_at b.pos b.state b.aim (slice_get s.rows (number keys z.0.1))) (sym l.2) ∙ stands z.0.1 (named_in z.0.1 (back_in z.0 z.1))))) in
         let backs_is : backs_stand g s k.state k.aim (Some c) (how_by keys a) ≡ true
-        = ap (are_backs g s k.state k.aim numbered (Some c)) callee_row ∙ both (list_all (λ x. not (has (aim_at g k c) x) || is_some (back_of numbered x)) (range_with_len 0 count)) _ every_aim every_back in
+        = ap (are_backs g s k.state k.aim numbered (Some c)) callee_row
+        ∙ both (list_all (λ x. not (has (aim_at g k c) x) || is_some (back_of numbered x)) (range_with_len 0 count)) _ every_aim every_back in
         meets a (row_range a smaller_all exits_all) refl refl refl refl
         (ap (λ o. callee_stands g s k.state o (how_by keys a)) es ∙ enters_is) (ap (λ o. backs_stand g s k.state k.aim o (how_by keys a)) es ∙ backs_is)
       where
@@ -374,4 +383,5 @@ module _ (g : Game) (functions : ℕ) (routed : AreRouted g functions) (s : Stra
       (none_append (all_rows g s (enumerate_from 0 s.rows)) ((fault_in (length s.rows) 8, list_any (is_start g) s.rows) ∷ [])
       (rows_none g s s.rows 0 (λ j r e. let z : j ≡ 0 + j = omega arith in subst (λ i. first_failing (row_conditions g s i r (slice_get g.spots r.pos)) ≡ None) z (at_row j r e)))
       (none_more (list_any (is_start g) s.rows) _ (fault_in (length s.rows) 8)
-      (any_at (is_start g) s.rows (number is.keys start) (row_at g is.keys start) (row_is g functions routed is.keys is.exactly.0 s is.rows start begins) (is_same (g.entry g.main) g.states.start 0)) refl))
+      (any_at (is_start g) s.rows (number is.keys start) (row_at g is.keys start) (row_is g functions routed is.keys is.exactly.0 s is.rows start begins)
+      (is_same (g.entry g.main) g.states.start 0)) refl))

@@ -1,25 +1,19 @@
 -- Where a height is found.
-use Rattle.std.proofs.Common.{◌≡◌, ℕ, zero, suc, ◌+◌, ◌<◌, ◌≤◌, List, [], ◌∷◌, ◌++◌, filter_map, Bool, true, false, not, ◌&&◌, Option, Some, None, length, refl, sym, ap, ap₂, ◌∙◌, subst, arith}
-use Rattle.std.specs.Prelude.{slice_get, nat_eq, nat_lt, nat_le, Contains}
-use Rattle.std.proofs.lemmas.Bool.{eqb-true, eq-eqb, ne_eqb}
-use Rattle.std.proofs.lemmas.Bool.Decides.{nat_tests}
+use Rattle.std.proofs.Common.{◌≡◌, ℕ, zero, suc, ◌+◌, ◌<◌, ◌≤◌, List, [], ◌∷◌, ◌++◌, filter_map, Bool, not, ◌&&◌, Option, Some, None, length, sym, ap, ◌∙◌, subst, arith}
+use Rattle.std.specs.Prelude.{slice_get, nat_lt, Contains}
 use Rattle.std.specs.List.{range_with_len}
 use Rattle.std.proofs.lemmas.List.Elements.{filter_map-append}
-use Rattle.std.proofs.lemmas.Option.{slice_get_within, get_or_from_slice_get}
 use Rattle.cw_core.specs.StateSet.{has as has_member}
 use Rattle.cw_game.specs.Games.{Game}
 use Rattle.cw_game.specs.Pairs.{has}
-use Rattle.cw_game.proofs.Truths.{and_parts, both}
 use Rattle.cw_product.specs.Product.{game_of}
-use Rattle.cw_solve.specs.declared.contexts.Context.{Context}
 use Rattle.cw_solve.specs.Contexts.{context, IsOf, HeightIs, AreTheNeeded}
 use Rattle.cw_solve.specs.Routes.{AreRouted}
-use Rattle.cw_solve.specs.Routes.{IsThere as IsThere'}
-use Rattle.cw_solve.proofs.Tabling.{there}
+use Rattle.cw_solve.specs.Numbering.{IsNumberOf}
+use Rattle.cw_solve.proofs.Numbering.{function_there}
 use Rattle.cw_least.specs.declared.key.Key.{Key}
 use Rattle.cw_least.specs.Kept.{IsKey}
 use Rattle.cw_solve.specs.Solved.{Held, IsNumbered, IsHeightIn}
-use Rattle.cw_solve.proofs.Still.{number_of}
 use Rattle.cw_rights.specs.declared.capabilities.Primitive.{Primitive}
 use Rattle.cw_certs.specs.declared.moves.Move.{Move}
 use Rattle.cw_game.specs.declared.spots.Spot.TheVariants.{Visit}
@@ -31,7 +25,7 @@ use Rattle.cw_solve.proofs.Falls.{back_stays}
 use Rattle.cw_solve.proofs.Still.{first_of_two, second_of_two}
 use Rattle.cw_least.specs.Strategies.{is_lost_after, aim_at}
 use Rattle.cw_least.proofs.Moving.{moved}
-use Rattle.cw_least.specs.Acts.{IsIn, IsThere, IsCall, has_position}
+use Rattle.cw_least.specs.Acts.{IsIn, IsThere, IsCall}
 use Rattle.cw_least.specs.Heights.{others, height_within}
 use Rattle.cw_least.proofs.Lowest as lowest
 use Rattle.cw_least.proofs.Sets.{has_set, same_set}
@@ -55,45 +49,30 @@ module _ (h : Held) where
   pub none_is : (functions : ℕ) → AreRouted g functions → (number aim p q most : ℕ) → IsIn h number aim p q → IsHeightIn h number p q None → 0 ≡ height_within g most p q (has (others g aim))
   none_is functions routed number aim p q most is here = sym (lowest.absent g functions routed p q (others g aim) is.state most (height_is functions routed number aim p q most is None here most))
 
-  pub low_is : (functions : ℕ) → AreRouted g functions → (number aim p q most k : ℕ) → IsIn h number aim p q → IsHeightIn h number p q (Some k) → k ≤ most → k ≡ height_within g most p q (has (others g aim))
-  low_is functions routed number aim p q most k is here le = sym (lowest.is_within g functions routed p q (others g aim) is.state most k (height_is functions routed number aim p q most is (Some k) here) le)
+  pub low_is : (functions : ℕ) → AreRouted g functions → (number aim p q most k : ℕ) → IsIn h number aim p q → IsHeightIn h number p q (Some k) → k ≤ most
+      → k ≡ height_within g most p q (has (others g aim))
+  low_is functions routed number aim p q most k is here le =
+      sym (lowest.is_within g functions routed p q (others g aim) is.state most k (height_is functions routed number aim p q most is (Some k) here) le)
 
-  pub high_is : (functions : ℕ) → AreRouted g functions → (number aim p q most k : ℕ) → IsIn h number aim p q → IsHeightIn h number p q (Some k) → most < k → 0 ≡ height_within g most p q (has (others g aim))
-  high_is functions routed number aim p q most k is here lt = sym (lowest.is_above g functions routed p q (others g aim) is.state most k (height_is functions routed number aim p q most is (Some k) here) lt)
-
-  -- the functions of contexts are there
-  pub function_there : (functions : ℕ) → AreRouted g functions → AreTheNeeded g h.contexts → (number : ℕ) (c : Context) → Some c ≡ slice_get h.contexts number → IsThere' g functions c.function
-  function_there functions routed are number c e = there g functions routed c (are.some.needed c (number, slice_get_within h.contexts number c (sym e), get_or_from_slice_get h.contexts number c c (sym e)))
+  pub high_is : (functions : ℕ) → AreRouted g functions → (number aim p q most k : ℕ) → IsIn h number aim p q → IsHeightIn h number p q (Some k) → most < k
+      → 0 ≡ height_within g most p q (has (others g aim))
+  high_is functions routed number aim p q most k is here lt =
+      sym (lowest.is_above g functions routed p q (others g aim) is.state most k (height_is functions routed number aim p q most is (Some k) here) lt)
 
   abbrev functions : ℕ
   functions = length h.game.graph.parts.items
 
   -- the context that has a position
-  pub found_in : AreRouted g functions → AreTheNeeded g h.contexts → (number aim p q : ℕ) → q < g.states.count → has_position g p (others g aim) (slice_get h.contexts number) ≡ true → IsIn h number aim p q
-  found_in routed are number aim p q s t = by (slice_get h.contexts number) refl t
-    where
-      by : (o : Option Context) → slice_get h.contexts number ≡ o → has_position g p (others g aim) o ≡ true → IsIn h number aim p q
-      by None e t = cc
-      by (Some c) e t =
-          let a = and_parts (nat_eq c.promise (others g aim)) (nat_le (g.entry c.function) p && nat_le p (g.exit c.function)) t in
-          let b = and_parts (nat_le (g.entry c.function) p) (nat_le p (g.exit c.function)) a.1 in
-          record { context = c; at = e; below = (function_there functions routed are number c (sym e)).below; of = (grind (arith, nat_tests, b.0), grind (arith, nat_tests, b.1)); state = s; promise = eqb-true c.promise (others g aim) a.0 }
-
-  pub some_has : (aim p : ℕ) → AreTheNeeded g h.contexts → IsThere g p aim → (n : ℕ) → length h.contexts ≤ n → ((i : ℕ) → i < n → has_position g p (others g aim) (slice_get h.contexts i) ≡ false) → ⊥
-  some_has aim p are is n le none =
-      let c = context is.0 (others g aim) in
-      let at = number_of h.contexts c (are.all c is.2) in
-      let i = at.0 in
-      let ways : has_position g p (others g aim) (Some c) ≡ true =
-      both (nat_eq (others g aim) (others g aim)) (nat_le (g.entry is.0) p && nat_le p (g.exit is.0)) (eq-eqb (others g aim) (others g aim) refl)
-      (both (nat_le (g.entry is.0) p) (nat_le p (g.exit is.0)) (le_true (g.entry is.0) p is.1.0) (le_true p (g.exit is.0) is.1.1)) in
-      let long = slice_get_within h.contexts i c at.1 in
-      let lt : i < n = omega (arith, long, le) in
-      let w : true ≡ false = sym ways ∙ ap (has_position g p (others g aim)) (sym at.1) ∙ none i lt in
-      cc
-    where
-      le_true : (a b : ℕ) → a ≤ b → nat_le a b ≡ true
-      le_true a b l = grind (arith, nat_tests, l)
+  pub found_in : AreRouted g functions → AreTheNeeded g h.contexts → (number aim p q : ℕ) → q < g.states.count → IsNumberOf g h.contexts number (others g aim) p → IsIn h number aim p q
+  found_in routed are number aim p q s is =
+      record {
+        context = is.context;
+        at = is.at;
+        below = (function_there h functions routed are number is.context (sym is.at)).below;
+        of = is.of;
+        state = s;
+        promise = is.promise_is;
+      }
 
   -- in the same context
   pub same_in : (number aim p q r x : ℕ) (is : IsIn h number aim p q) → IsOf g is.context.function r → x < g.states.count → IsIn h number aim r x
@@ -101,15 +80,6 @@ module _ (h : Held) where
 
   pub key_there : (functions : ℕ) (k : Key) (is : IsKey g functions k) → IsThere g k.pos k.aim
   key_there _ k is = (is.function, is.of, is.needed)
-
-  pub has_is : (p e number first last : ℕ) (c : Context) (near : Bool) → Some c ≡ slice_get h.contexts number → first ≡ g.entry c.function → last ≡ g.exit c.function → near ≡ (nat_le first p && nat_le p last)
-      → c.promise ≡ e → near ≡ has_position g p e (slice_get h.contexts number)
-  has_is p e number first last c near at f l n same =
-      n ∙ ap₂ (λ (x y : ℕ). nat_le x p && nat_le p y) f l
-      ∙ sym (ap (has_position g p e) (sym at) ∙ ap (λ b. b && (nat_le (g.entry c.function) p && nat_le p (g.exit c.function))) (eq-eqb c.promise e same))
-
-  pub has_not : (p e number : ℕ) (c : Context) → Some c ≡ slice_get h.contexts number → (c.promise ≡ e → ⊥) → false ≡ has_position g p e (slice_get h.contexts number)
-  has_not p e number c at other = sym (ap (has_position g p e) (sym at) ∙ ap (λ b. b && (nat_le (g.entry c.function) p && nat_le p (g.exit c.function))) (ne_eqb c.promise e other))
 
   -- a move stays in the context
   pub move_in : AreRouted g functions → (number aim p q : ℕ) (by : Move) (r : ℕ × ℕ) → IsIn h number aim p q → next_at g p q by ≡ Some r → IsIn h number aim r.0 r.1
@@ -120,9 +90,11 @@ module _ (h : Held) where
   -- and so does a call's return
   pub back_in : AreRouted g functions → (number aim p q back x : ℕ) (split : Bool) → IsIn h number aim p q → IsCall g p back split → x < g.states.count → IsIn h number aim back x
   back_in routed number aim p q back x split is call s =
-      same_in number aim p q back x is (back_stays g functions routed is.context.function p (the_call call.1.0 call.0 back split) is.below is.of (called (slice_get g.spots p) split call.1.0 call.0 back call.1.1)) s
+      same_in number aim p q back x is (back_stays g functions routed is.context.function p (the_call call.1.0 call.0 back split) is.below is.of
+      (called (slice_get g.spots p) split call.1.0 call.0 back call.1.1)) s
 
-  pub visit_in : AreRouted g functions → (number aim p q j i : ℕ) (a : Primitive) → IsIn h number aim p q → slice_get g.spots p ≡ Some (Visit j i a) → IsIn h number aim (p + 2) q × IsIn h number aim (p + 1) q
+  pub visit_in : AreRouted g functions → (number aim p q j i : ℕ) (a : Primitive) → IsIn h number aim p q → slice_get g.spots p ≡ Some (Visit j i a)
+      → IsIn h number aim (p + 2) q × IsIn h number aim (p + 1) q
   visit_in routed number aim p q j i a is es = (
     same_in number aim p q (p + 2) q is (routed.stays is.context.function p (p + 2) is.below is.of (subst (λ o. Contains (targets p o) (p + 2)) (sym es) (first_of_two (p + 2) (p + 1)))) is.state,
     same_in number aim p q (p + 1) q is (routed.stays is.context.function p (p + 1) is.below is.of (subst (λ o. Contains (targets p o) (p + 1)) (sym es) (second_of_two (p + 2) (p + 1)))) is.state,

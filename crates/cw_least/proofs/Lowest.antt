@@ -23,7 +23,9 @@ module _ (g : Game) (functions : ℕ) (routed : AreRouted g functions) (p q prom
       here : Holds g n p q e ≡ true → Is (suc n)
       here t = (record { lost = h; least = λ m lt. sooner g functions routed m n p q e (omega (arith, lt)) s t }, omega arith, omega arith)
 
-      by : (b : Bool) → Holds g n p q e ≡ b → (Holds g n p q e ≡ false → IsHeight g p q promise (height_within g n p q e) × (height_within g n p q e ≤ n) × (0 < height_within g n p q e)) → Is (cond (Holds g n p q e) (cond (Holds g (suc n) p q e) 0 (suc n)) (height_within g n p q e))
+      by : (b : Bool) → Holds g n p q e ≡ b → (Holds g n p q e ≡ false
+          → IsHeight g p q promise (height_within g n p q e) × (height_within g n p q e ≤ n) × (0 < height_within g n p q e))
+          → Is (cond (Holds g n p q e) (cond (Holds g (suc n) p q e) 0 (suc n)) (height_within g n p q e))
       by true t rec = subst Is (sym (ap (λ b. cond b (cond (Holds g (suc n) p q e) 0 (suc n)) (height_within g n p q e)) t ∙ ap (λ b. cond b 0 (suc n)) h)) (here t)
       by false f rec =
           let k = rec f in

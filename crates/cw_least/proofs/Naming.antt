@@ -1,5 +1,6 @@
 -- What a key names are keys, each of a lesser height.
-use Rattle.std.proofs.Common.{◌≡◌, ◌⊎◌, ℕ, zero, suc, ◌+◌, ◌-◌, ◌<◌, ◌^◌, List, [], ◌∷◌, Bool, true, false, cond, not, ◌&&◌, ◌||◌, Option, Some, None, map, filter_map, nat_lt, nat_le, refl, sym, ap, ◌∙◌, subst, arith, inl, inr}
+use Rattle.std.proofs.Common.{◌≡◌, ◌⊎◌, ℕ, zero, suc, ◌+◌, ◌-◌, ◌<◌, ◌^◌, List, [], ◌∷◌, Bool, true, false, cond, not, ◌&&◌, ◌||◌, Option, Some, None, map, filter_map, nat_lt}
+use Rattle.std.proofs.Common.{nat_le, refl, sym, ap, ◌∙◌, subst, arith, inl, inr}
 use Rattle.std.specs.Prelude.{slice_get, option_map}
 use Rattle.std.specs.List.{Contains, cons_option, range_with_len}
 use Rattle.std.proofs.lemmas.Bool.{lt-ltb, le-ltb, ltb-true}
@@ -102,7 +103,8 @@ module _ (g : Game) (functions : ℕ) (routed : AreRouted g functions) where
     fails = subst (λ m. Holds g m k.pos k.state (has (others g k.aim)) ≡ false) more is.height.lost
 
     -- a pair that is lost one move sooner
-    pub lower : (f p q aim : ℕ) → f < functions → IsOf g f p → IsState g q → IsNeeded g (context f (others g aim)) → aim < 2 ^ g.states.count → Holds g n p q (has (others g aim)) ≡ false → Lower (below g k p q aim)
+    pub lower : (f p q aim : ℕ) → f < functions → IsOf g f p → IsState g q → IsNeeded g (context f (others g aim)) → aim < 2 ^ g.states.count
+        → Holds g n p q (has (others g aim)) ≡ false → Lower (below g k p q aim)
     lower f p q aim there of s need lt h =
         let w = lowest.found g functions routed p q (others g aim) s n h in (
           record { function = f; there = there; of = of; state = s; needed = need; height = w.0; aim = lt },

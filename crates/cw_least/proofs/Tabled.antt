@@ -22,14 +22,15 @@ use Rattle.cw_least.specs.declared.key.Key.{Key}
 use Rattle.cw_least.specs.Acts.{backs_of, IsLost, IsStartHeight, IsStartKey}
 use Rattle.cw_least.specs.Kept.{IsKey, IsFollowed}
 use Rattle.cw_least.specs.Strategies.{key_cmp, named, row_at, start_key, rows_of, IsLeastStrategy}
-use Rattle.cw_least.proofs.Keys.{key_total, equal_is, same_key}
+use Rattle.cw_ordered.proofs.Numbers.{equal_is}
+use Rattle.cw_least.proofs.Keys.{key_total, key_exact, same_key}
 use Rattle.cw_least.proofs.Counting.{exactly_same, count_is}
 use Rattle.cw_least.proofs.Lowest as lowest
 use Rattle.cw_least.proofs.Made.{start_state}
 use Rattle.cw_least.proofs.Naming.{none_in, first_or_later, all_keys, reached_keys, start_is}
 
 decides_key : (a b : Key) → Decides (eq_by_cmp key_cmp a b) (a ≡ b)
-decides_key a b = (λ e. equal_is a b e, λ e. subst (λ y. eq_by_cmp key_cmp a y ≡ true) e (ap is_eq (tied_itself key_total a)))
+decides_key a b = (λ e. equal_is key_cmp key_total key_exact a b e, λ e. subst (λ y. eq_by_cmp key_cmp a y ≡ true) e (ap is_eq (tied_itself key_total a)))
 
 -- ascending keys that are all among others are no more than they
 few_keys : (xs ys : List Key) → IsStrictlySortedBy key_cmp xs → ((k : Key) → Contains xs k → Contains ys k) → length xs ≤ length ys

@@ -1,10 +1,11 @@
 -- Working definitions, for proofs and contracts inside: what the code's values stand for, and where it looks a height up.
-use Rattle.std.specs.Prelude.{◌≡◌, ℕ, ◌<◌, List, map, Bool, false, ◌&&◌, Option, Some, None, nat_eq, nat_le, length, slice_get}
+use Rattle.std.specs.Prelude.{◌≡◌, ℕ, ◌<◌, List, map, Bool, Some, length, slice_get}
 use Rattle.cw_game.specs.Games.{Game}
 use Rattle.cw_game.specs.Pairs.{Called, all_states}
 use Rattle.cw_product.specs.Product.{game_of}
 use Rattle.cw_solve.specs.declared.contexts.Context.{Context}
-use Rattle.cw_solve.specs.Contexts.{context, IsOf, IsHeight, IsNeeded}
+use Rattle.cw_solve.specs.Contexts.{context, IsOf, IsHeight}
+use Rattle.cw_solve.specs.Numbering.{IsUnder}
 use Rattle.cw_solve.specs.Solved.{Held}
 use Rattle.cw_solve.specs.Tables.{HasCall}
 use Rattle.cw_least.specs.declared.acts.Act.{Act as ActData}
@@ -32,11 +33,7 @@ pub record IsIn (h : Held) (number aim p q : ℕ) : Type 0 where
 
 -- some needed context has the position, and promises all states but those of the aim
 abbrev pub IsThere : Game → ℕ → ℕ → Type 0
-IsThere g p aim = (function : ℕ) × IsOf g function p × IsNeeded g (context function (others g aim))
-
-abbrev pub has_position : Game → ℕ → ℕ → Option Context → Bool
-has_position g p promise None = false
-has_position g p promise (Some c) = nat_eq c.promise promise && (nat_le (g.entry c.function) p && nat_le p (g.exit c.function))
+IsThere g p aim = IsUnder g p (others g aim)
 
 -- a call stands at p, which returns to this position, plain or split
 abbrev pub IsCall : Game → (p back : ℕ) → Bool → Type 0

@@ -3,7 +3,7 @@
 use Rattle.std.specs.Prelude.{◌≡◌, ℕ, ◌+◌, ◌-◌, List, [], ◌∷◌, Bool, cond, ◌&&◌, Option, Some, None, nat_lt, nat_le, slice_get, length, map, filter_map, option_map, sum_by}
 use Rattle.std.specs.List.{range_with_len}
 use Rattle.std.specs.declared.cmp.Ordering.{Ordering}
-use Rattle.std.specs.Ordering.{ordering_then, nat_cmp, eq_by_cmp}
+use Rattle.std.specs.Ordering.{ordering_then, nat_cmp}
 use Rattle.cw_certs.specs.declared.moves.Move.{Move}
 use Rattle.cw_certs.specs.declared.moves.Move.TheVariants.{Skip, Try, Grant, Refuse, On, Left, Right, Opened, Failed}
 use Rattle.cw_certs.specs.Strategies.{How, Row, Strategy}
@@ -15,6 +15,7 @@ use Rattle.cw_game.specs.Games.{Game, returned}
 use Rattle.cw_game.specs.Pairs.{has, all_states, Called, call_in, kept_at}
 use Rattle.cw_product.specs.Moves.{next_at}
 use Rattle.cw_solve.specs.Contexts.{IsHeight}
+use Rattle.cw_ordered.specs.Numbers.{number_in}
 use Rattle.cw_least.specs.declared.key.Key.{Key}
 use Rattle.cw_least.specs.declared.key.Way.{Way}
 use Rattle.cw_least.specs.Heights.{set_of, others, height_within}
@@ -98,8 +99,7 @@ named g k = keys_in (act g k)
 
 -- the number of a key's row: its place in the list
 abbrev pub number : List Key → Key → ℕ
-number [] k = 0
-number (x ∷ xs) k = cond (eq_by_cmp key_cmp x k) 0 (number xs k + 1)
+number keys k = number_in key_cmp keys k
 
 abbrev pub how_by : List Key → Act → How
 how_by keys Bad = how.Bad

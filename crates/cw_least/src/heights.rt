@@ -1,10 +1,10 @@
 //! Where a pair's height is found.
 
-ghost use Rattle.std.specs.Prelude.{◌≡◌, ◌-◌, ◌<◌, ◌&&◌, nat_le, length, slice_get};
+ghost use Rattle.std.specs.Prelude.{◌≡◌, ◌-◌, ◌<◌, length};
 ghost use Rattle.cw_product.specs.Product.{game_of};
 ghost use Rattle.cw_solve.specs.Routes.{AreRouted};
 ghost use Rattle.cw_game.specs.Pairs.{has};
-ghost use Rattle.cw_least.specs.Acts.{IsIn, IsThere, has_position};
+ghost use Rattle.cw_least.specs.Acts.{IsIn, IsThere};
 ghost use Rattle.cw_least.specs.Heights.{others, height_within};
 ghost use Rattle.cw_least.specs.Strategies.{below};
 
@@ -63,30 +63,6 @@ pub(crate) fn below(
     }
 }
 
-fn is_between(first: u32, pos: PosId, last: u32) -> bool
-    ensures { result ≡ (nat_le first pos.0 && nat_le pos.0 last) }
-{
-    first <= pos.0 && pos.0 <= last
-}
-
-/// Whether a context has a position and this promise.
-fn has_position(solved: &Solved, number: u32, pos: PosId, promise: &StateSet) -> bool
-    requires routed { AreRouted (game_of solved.now.game) (length solved.now.game.graph.parts.items) }
-    requires number { number < length solved.now.contexts }
-    ensures { result ≡ has_position (game_of solved.now.game) pos.0 promise.now (slice_get solved.now.contexts number) }
-{
-    solved.contexts_are_needed();
-    let game = solved.game();
-    let context = solved.context(number);
-    let first = game.entry(context.function).0;
-    let last = game.exit(context.function).0;
-    if context.promise == *promise {
-        is_between(first, pos, last)
-    } else {
-        false
-    }
-}
-
 /// The number of a context that has a position and promises all states but those of an aim.
 pub(crate) fn context_of(solved: &Solved, pos: PosId, state: StateId, aim: &StateSet) -> u32
     requires routed { AreRouted (game_of solved.now.game) (length solved.now.game.graph.parts.items) }
@@ -97,10 +73,5 @@ pub(crate) fn context_of(solved: &Solved, pos: PosId, state: StateId, aim: &Stat
     let _ = state;
     solved.contexts_are_needed();
     let promise = others(solved.game(), aim);
-    for number in 0..solved.contexts() {
-        if has_position(solved, number, pos, &promise) {
-            return number;
-        }
-    }
-    0
+    solved.number_of(pos, &promise)
 }

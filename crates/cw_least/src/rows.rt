@@ -13,19 +13,18 @@ use crate::acts::{Act, act_at};
 use crate::key::Key;
 use cw_certs::{EnvRow, How};
 use cw_core::{PosId, StateId};
+use cw_ordered::number_of;
 use cw_solve::Solved;
 use std::alloc::{AllocError, Global};
 
 /// The place of a key among the keys, and how many they are where it is none of them.
+#[tactic(auto, using(crate::proofs::Keys::key_exact))]
 fn number(keys: &[Key], key: &Key) -> u32
     requires order { IsStrictlySortedBy key_cmp keys.now }
     requires few { length keys.now ≤ 65536 }
     ensures { result ≡ number keys.now key.now }
 {
-    match keys.binary_search(key) {
-        Ok(place) => place as u32,
-        Err(_) => keys.len() as u32,
-    }
+    number_of(keys, key) as u32
 }
 
 fn numbered(

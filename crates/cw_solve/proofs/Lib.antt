@@ -7,6 +7,7 @@ pub mod Keeping
 pub mod Looking
 pub mod Low
 pub mod Moves
+pub mod Numbering
 pub mod Rounding
 pub mod Routing
 pub mod Slots

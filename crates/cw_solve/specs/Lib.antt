@@ -3,6 +3,7 @@ pub mod Asking
 pub mod Contexts
 pub mod Low
 pub mod Made
+pub mod Numbering
 pub mod Rounds
 pub mod Routes
 pub mod Solved

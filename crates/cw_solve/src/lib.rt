@@ -5,6 +5,7 @@ pub mod contexts;
 pub mod fault;
 pub mod laws;
 mod look;
+mod number;
 mod rounds;
 pub mod solved;
 pub mod table;

@@ -75,7 +75,7 @@ impl<'g> Solved<'g> {
     }
 
     // What the value keeps.
-    fn is_kept(&self)
+    pub(crate) fn is_kept(&self)
         ensures routed { AreRouted (game_of self.now.game) (length self.now.game.graph.parts.items) }
         ensures needed { AreTheNeeded (game_of self.now.game) self.now.contexts }
         ensures few { cells_of (game_of self.now.game) self.now.contexts ≤ 4194304 }

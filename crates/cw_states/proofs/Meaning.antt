@@ -97,7 +97,7 @@ module _ (uses : Uses) (v : Lists) (are : AreLists uses v) where
     column_is : q % length v.rights ≡ caps_place v c
     column_is = ap (λ p. p % length v.rights) m.is ∙ mod-mul-add (set_place v m.set) (length v.rights) (caps_place v c) (column_below c m.held)
 
-    caps_is : caps_at v q ≡ c
+    pub caps_is : caps_at v q ≡ c
     caps_is =
         ap (λ j. get_or v.rights j (start_caps v.policy)) column_is ∙ (caps_found v.rights c ((are.rights.1 c).1 m.held)).1 (start_caps v.policy)
 
@@ -120,7 +120,7 @@ module _ (uses : Uses) (v : Lists) (are : AreLists uses v) where
     after_is : (label : ℕ) → set_after v q label ≡ next_of rules m.set (letter label)
     after_is label = ap₂ (λ s d. next_of rules s (letter_of label d)) set_is caps_is
 
-    verdict_after : (label : ℕ) → IsVerdict rules (w ++ letter label ∷ []) (verdict rules 0 1 (set_after v q label))
+    pub verdict_after : (label : ℕ) → IsVerdict rules (w ++ letter label ∷ []) (verdict rules 0 1 (set_after v q label))
     verdict_after label =
         subst (λ s. IsVerdict rules (w ++ letter label ∷ []) (verdict rules 0 1 s)) (sym (after_is label))
         (verdict_is rules (w ++ letter label ∷ []) (next_of rules m.set (letter label)) (next_set rules w m.set (letter label) m.is_set))

@@ -3,4 +3,4 @@ use Rattle.cw_certs.proofs.Rising.{Rises}
 use Rattle.cw_certs.proofs.order.ascends.Given as goal
 
 abbrev pub invariant-loop-i : goal.invariant-loop-i
-invariant-loop-i g l = Rises g.R.Row.order l.rows l.i
+invariant-loop-i g l = Rises g.R.Keyed.order l.rows l.i

@@ -20,5 +20,6 @@ loop-key-preserved c =
 pub returns : goal.returns
 returns c =
     subst (λ (l : List Placed). IfOk c.ascending.result (λ v. Exactly placed_cmp (Contains l) v.items))
-    (at_end (placed_of (game_of c.args.game.now) c.args.kind) c.args.keys.now c.loop-key.key-index c.loop-key.found.items c.deref.result.now c.loop-key-test.false c.deref.ensures.value c.loop-key.invariant)
+    (at_end (placed_of (game_of c.args.game.now) c.args.kind) c.args.keys.now c.loop-key.key-index c.loop-key.found.items c.deref.result.now c.loop-key-test.false c.deref.ensures.value
+    c.loop-key.invariant)
     c.ascending.ensures

@@ -15,7 +15,8 @@ place-requires c = c.requires c.pair-item.result (c.loop-pair.pair-index, c.loop
 
 pub loop-pair-preserved : goal.loop-pair-preserved
 loop-pair-preserved c =
-    filtered_more (return_of (game_of c.args.game.now)) c.args.pairs.now c.loop-pair.pair-index c.pair-item.result [] c.loop-pair.found.items c.put_return.new.returns.items c.loop-pair-test.true c.pair-item.is c.loop-pair.invariant
+    filtered_more (return_of (game_of c.args.game.now)) c.args.pairs.now c.loop-pair.pair-index c.pair-item.result [] c.loop-pair.found.items c.put_return.new.returns.items
+    c.loop-pair-test.true c.pair-item.is c.loop-pair.invariant
     (c.in_ok-put_return.ensures ∙ put_return_is c.loop-pair.found.items c.place.result (placed_of (game_of c.args.game.now) kind.Call c.pair-item.result.0) c.pair-item.result.1 c.place.ensures)
 
 pub returns : goal.returns

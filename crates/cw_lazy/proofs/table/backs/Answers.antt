@@ -24,7 +24,9 @@ back_rows-requires-clause-states c =
 pub returns : goal.returns
 returns c =
     let g = game_of c.args.game.now in
-    if_ok (λ (v : Vec BackRow Global). v.items ≡ map (back_row g c.args.mems.now) c.deref.result.now) (λ (v : Vec BackRow Global). Exactly back_cmp (IsBackRow g c.args.mems.now) v.items) c.back_rows.result c.back_rows.ensures
+    if_ok (λ (v : Vec BackRow Global). v.items ≡ map (back_row g c.args.mems.now) c.deref.result.now)
+    (λ (v : Vec BackRow Global). Exactly back_cmp (IsBackRow g c.args.mems.now) v.items) c.back_rows.result c.back_rows.ensures
     (λ v e.
     backs_are c.args.game.now c.args.pairs.now c.requires.returns c.deref.result.now
-    (subst (λ (l : List (Placed × Key)). Exactly return_cmp (Contains (filter_map (return_of g) c.args.pairs.now)) l) (sym c.deref.ensures.value) c.in_ok-returns.ensures) c.args.mems.now c.requires.mems v.items e)
+    (subst (λ (l : List (Placed × Key)). Exactly return_cmp (Contains (filter_map (return_of g) c.args.pairs.now)) l) (sym c.deref.ensures.value) c.in_ok-returns.ensures)
+    c.args.mems.now c.requires.mems v.items e)

@@ -24,7 +24,8 @@ at_rows-requires-clause-there c =
 pub returns : goal.returns
 returns c =
     let g = game_of c.args.game.now in
-    if_ok (λ (v : Vec AtRow Global). v.items ≡ map (at_row g c.args.mems.now) c.deref.result.now) (λ (v : Vec AtRow Global). Exactly at_cmp (IsLabelRow g c.args.mems.now) v.items) c.at_rows.result c.at_rows.ensures
+    if_ok (λ (v : Vec AtRow Global). v.items ≡ map (at_row g c.args.mems.now) c.deref.result.now) (λ (v : Vec AtRow Global). Exactly at_cmp (IsLabelRow g c.args.mems.now) v.items)
+    c.at_rows.result c.at_rows.ensures
     (λ v e.
     labels_are c.args.game.now c.args.keys.now c.requires.live c.args.mems.now c.requires.mems c.deref.result.now
     (subst (λ (l : List Placed). Exactly placed_cmp (Contains (filter_map (placed_of g kind.Label) c.args.keys.now)) l) (sym c.deref.ensures.value) c.in_ok-labels.ensures) v.items e)

@@ -24,7 +24,8 @@ open_rows-requires-clause-there c =
 pub returns : goal.returns
 returns c =
     let g = game_of c.args.game.now in
-    if_ok (λ (v : Vec OpenRow Global). v.items ≡ map (open_row g c.args.mems.now) c.deref.result.now) (λ (v : Vec OpenRow Global). Exactly open_cmp (IsOpenRow g c.args.mems.now) v.items) c.open_rows.result c.open_rows.ensures
+    if_ok (λ (v : Vec OpenRow Global). v.items ≡ map (open_row g c.args.mems.now) c.deref.result.now)
+    (λ (v : Vec OpenRow Global). Exactly open_cmp (IsOpenRow g c.args.mems.now) v.items) c.open_rows.result c.open_rows.ensures
     (λ v e.
     opens_are c.args.game.now c.args.keys.now c.requires.live c.args.mems.now c.requires.mems c.deref.result.now
     (subst (λ (l : List Placed). Exactly placed_cmp (Contains (filter_map (placed_of g kind.Open) c.args.keys.now)) l) (sym c.deref.ensures.value) c.in_ok-opens.ensures) v.items e)

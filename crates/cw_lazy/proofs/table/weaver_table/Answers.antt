@@ -11,9 +11,11 @@ table_within-requires c =
 pub returns-in-Ok-Some-clause-good : goal.returns-in-Ok-Some-clause-good
 returns-in-Ok-Some-clause-good c =
     let lazy : IsLazyTable (game_of c.args.game.now) c.in-Ok-Some.table = search rules in
-    ready_good c.args.game.now c.args.solved.now (is_ready c.args.game.now c.args.solved.now c.requires.made c.requires.solved c.requires.kept c.contexts_are_needed.ensures c.heights_are_low.ensures) c.in-Ok-Some.table lazy
+    ready_good c.args.game.now c.args.solved.now (is_ready c.args.game.now c.args.solved.now c.requires.made c.requires.solved c.requires.kept c.contexts_are_needed.ensures
+    c.heights_are_low.ensures) c.in-Ok-Some.table lazy
 
 pub returns-in-Ok-Some-clause-lost : goal.returns-in-Ok-Some-clause-lost
 returns-in-Ok-Some-clause-lost c =
     let lazy : IsLazyTable (game_of c.args.game.now) c.in-Ok-Some.table = search rules in
-    ready_lost c.args.game.now c.args.solved.now (is_ready c.args.game.now c.args.solved.now c.requires.made c.requires.solved c.requires.kept c.contexts_are_needed.ensures c.heights_are_low.ensures) c.in-Ok-Some.table lazy
+    ready_lost c.args.game.now c.args.solved.now (is_ready c.args.game.now c.args.solved.now c.requires.made c.requires.solved c.requires.kept c.contexts_are_needed.ensures
+    c.heights_are_low.ensures) c.in-Ok-Some.table lazy

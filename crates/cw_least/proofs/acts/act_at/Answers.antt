@@ -37,4 +37,5 @@ pub into-requires-clause-call : goal.into-requires-clause-call
 into-requires-clause-call c =
     let g = game_of c.args.solved.now.game in
     let k = c.args.key.now in
-    turn_call g (slice_get g.spots k.pos) c.in-Call.callee c.in-Call.split c.in-Call.back (c.in-Call.ensures ∙ ap (λ (x : Held). option_map (turn_in (game_of x)) (slice_get (game_of x).spots k.pos)) c.game.ensures)
+    turn_call g (slice_get g.spots k.pos) c.in-Call.callee c.in-Call.split c.in-Call.back
+    (c.in-Call.ensures ∙ ap (λ (x : Held). option_map (turn_in (game_of x)) (slice_get (game_of x).spots k.pos)) c.game.ensures)

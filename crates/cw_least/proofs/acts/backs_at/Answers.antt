@@ -16,7 +16,8 @@ loop-x-preserved c = elim c.if-to-gt0.branch [
       let g = game_of c.args.solved.now.game in
       let call = returning c.args.back.0 c.args.split in
       backs_more (back_at g c.args.key.now call) c.loop-x.x c.loop-x.backs.items c.if-to-gt0.backs.items (record { 0 = c.loop-x.x }, c.after_return-to.result) c.loop-x.invariant
-      (ap (λ (v : Vec (StateId × Key) Global). v.items) w.backs-is ∙ w.in_ok-push.ensures.items) (back_some g c.args.key.now call c.loop-x.x c.after_return-to.result c.after_return-to.ensures w.if-to-gt0.true)
+      (ap (λ (v : Vec (StateId × Key) Global). v.items) w.backs-is ∙ w.in_ok-push.ensures.items)
+      (back_some g c.args.key.now call c.loop-x.x c.after_return-to.result c.after_return-to.ensures w.if-to-gt0.true)
   | else-to-gt0 w ↦
       let g = game_of c.args.solved.now.game in
       let call = returning c.args.back.0 c.args.split in

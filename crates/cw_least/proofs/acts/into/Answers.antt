@@ -14,7 +14,8 @@ entry-pos-requires c =
     let g = game_of c.args.solved.now.game in
     let k = c.args.key.now in
     let j = c.requires.call.0 in
-    rw c.game.ensures (c.requires.routed.called k.pos (the_call j c.args.function c.args.back.0 c.args.split) (called (slice_get g.spots k.pos) c.args.split j c.args.function c.args.back.0 c.requires.call.1)).below
+    rw c.game.ensures (c.requires.routed.called k.pos (the_call j c.args.function c.args.back.0 c.args.split)
+    (called (slice_get g.spots k.pos) c.args.split j c.args.function c.args.back.0 c.requires.call.1)).below
 
 pub context_of-requires-clause-there : goal.context_of-requires-clause-there
 context_of-requires-clause-there c =

@@ -8,10 +8,12 @@ returns-in-None c =
 
 pub returns-then-height-most : goal.returns-then-height-most
 returns-then-height-most c =
-    low_is c.args.solved.now (length c.args.solved.now.game.graph.parts.items) c.requires.routed c.args.number c.args.aim.now c.args.pos.0 c.args.state.0 c.args.most c.in-Some.height c.requires.here c.in-Some.ensures
+    low_is c.args.solved.now (length c.args.solved.now.game.graph.parts.items) c.requires.routed c.args.number c.args.aim.now c.args.pos.0 c.args.state.0 c.args.most c.in-Some.height
+    c.requires.here c.in-Some.ensures
     (omega (arith, c.if-height-most.true))
 
 pub returns-else-height-most : goal.returns-else-height-most
 returns-else-height-most c =
-    high_is c.args.solved.now (length c.args.solved.now.game.graph.parts.items) c.requires.routed c.args.number c.args.aim.now c.args.pos.0 c.args.state.0 c.args.most c.in-Some.height c.requires.here c.in-Some.ensures
+    high_is c.args.solved.now (length c.args.solved.now.game.graph.parts.items) c.requires.routed c.args.number c.args.aim.now c.args.pos.0 c.args.state.0 c.args.most c.in-Some.height
+    c.requires.here c.in-Some.ensures
     (omega (arith, c.if-height-most.false))

@@ -1,7 +1,0 @@
-use Rattle.std.proofs.Common.{◌≡◌, ℕ, ◌<◌, false, slice_get}
-use Rattle.cw_product.specs.Product.{game_of}
-use Rattle.cw_least.specs.Acts.{has_position}
-use Rattle.cw_least.proofs.heights.context_of.Given as goal
-
-abbrev pub invariant-loop-number : goal.invariant-loop-number
-invariant-loop-number l = (i : ℕ) → i < l.number → has_position (game_of l.solved.game) l.pos.0 l.promise (slice_get l.solved.contexts i) ≡ false

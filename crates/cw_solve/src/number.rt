@@ -1,0 +1,49 @@
+//! Contexts by position and promise.
+
+ghost use Rattle.std.specs.Prelude.{◌≡◌, ◌&&◌, nat_le};
+
+use crate::solved::Solved;
+use cw_core::{PosId, StateSet};
+
+fn is_between(first: PosId, pos: PosId, last: PosId) -> bool
+    ensures { result ≡ (nat_le first.0 pos.0 && nat_le pos.0 last.0) }
+{
+    first.0 <= pos.0 && pos.0 <= last.0
+}
+
+impl<'g> Solved<'g> {
+    ghost use Rattle.std.specs.Prelude.{◌≡◌, ◌<◌, length, slice_get};
+    ghost use Rattle.cw_product.specs.Product.{game_of};
+    ghost use Rattle.cw_solve.specs.Numbering.{has_position, IsUnder, IsNumberOf};
+
+    // Whether a context has a position and this promise.
+    fn has_position(&self, number: u32, pos: PosId, promise: &StateSet) -> bool
+        requires number { number < length self.now.contexts }
+        ensures { result ≡ has_position (game_of self.now.game) pos.0 promise.now (slice_get self.now.contexts number) }
+    {
+        self.is_kept();
+        let game = self.game();
+        let context = self.context(number);
+        let first = game.entry(context.function);
+        let last = game.exit(context.function);
+        if context.promise == *promise {
+            is_between(first, pos, last)
+        } else {
+            false
+        }
+    }
+
+    /// The number of a context that has a position and this promise, where some needed context has both.
+    pub fn number_of(&self, pos: PosId, promise: &StateSet) -> u32
+        requires under { IsUnder (game_of self.now.game) pos.0 promise.now }
+        ensures { IsNumberOf (game_of self.now.game) self.now.contexts result promise.now pos.0 }
+    {
+        self.is_kept();
+        for number in 0..self.contexts() {
+            if self.has_position(number, pos, promise) {
+                return number;
+            }
+        }
+        unreachable!()
+    }
+}
