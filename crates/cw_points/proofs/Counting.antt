@@ -17,7 +17,7 @@ use Rattle.cw_points.proofs.Shapes.{for_form, IsFor}
 pub capped_add : (a b : ℕ) → capped (capped a + capped b) ≡ capped (a + b)
 capped_add a b = omega arith
 
-one_place : (o : Option ℕ) → one_if_some o ≡ one_if (is_some o)
+pub one_place : (o : Option ℕ) → one_if_some o ≡ one_if (is_some o)
 one_place None = refl
 one_place (Some at) = refl
 
@@ -43,6 +43,9 @@ one_more ss s i lt is = ap statements_of (drop-cons ss i s lt ∙ ap₂ (λ y z.
 -- a whole program
 pub few_points : (c : Scene) (fs : List Definition) (n : ℕ) → n ≡ capped (size_from fs) → n ≤ 8192 → count_from (routines_from c 0 fs) ≤ 8192
 few_points c fs n e h = omega (arith, e, h, size_from_is c fs 0)
+
+pub few_sizes : (fs : List Definition) (n : ℕ) → n ≡ capped (size_from fs) → n ≤ 8192 → size_from fs ≤ 8192
+few_sizes fs n e h = omega (arith, e, h)
 
 pub many_points : (c : Scene) (fs : List Definition) (n : ℕ) → n ≡ capped (size_from fs) → 8192 < n → 8192 < count_from (routines_from c 0 fs)
 many_points c fs n e h = omega (arith, e, h, size_from_is c fs 0)

@@ -27,7 +27,8 @@ twice p q p' q' a b d e f =
     (append_assoc d.nodes ns (p' (length (d.nodes ++ ns)) (length (d.seams ++ ss))) ∙ ap₂ (λ x y. d.nodes ++ (ns ++ p' x y)) m l)
     (append_assoc d.seams ss (q' (length (d.nodes ++ ns)) (length (d.seams ++ ss))) ∙ ap₂ (λ x y. d.seams ++ (ss ++ q' x y)) m l)
 
-pub nodes_more : (ns old new : List Node) (ss : List Seam) → new ≡ old ++ ns → let a : Drawn = record { nodes = new; seams = ss } in let b : Drawn = record { nodes = old; seams = ss } in a ≡ with_nodes ns b
+pub nodes_more : (ns old new : List Node) (ss : List Seam) → new ≡ old ++ ns
+    → let a : Drawn = record { nodes = new; seams = ss } in let b : Drawn = record { nodes = old; seams = ss } in a ≡ with_nodes ns b
 unfolding with_nodes
 nodes_more ns old new ss e = same_drawn e (sym (append-nil ss))
 

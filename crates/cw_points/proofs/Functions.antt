@@ -61,6 +61,13 @@ module _ (c : Scene) (f : ℕ) (def : Definition) where
   one_seams : (n j : ℕ) → length (seam n def.brace None ∷ body_seams (n + 1) (j + 1)) ≡ suc (seams_all (steps_of_all c def.body))
   one_seams n j = ap suc (seams_length_all (steps_of_all c def.body) (j + 1) (n + 1))
 
+  pub one_length : (d : Drawn) → length (laid_one c f def d).nodes ≡ length d.nodes + suc (suc (size_all def.body))
+  unfolding laid_one
+  one_length d =
+      let n = length d.nodes in
+      let j = length d.seams in
+      length-append d.nodes (nodes_of f (routine_of c j def) n) ∙ ap (λ l. n + l) (one_nodes n j)
+
   next_point : (n j : ℕ) → n + suc (suc (size_all def.body)) ≡ exit_of (routine_of c j def) n + 1
   next_point n j = omega (arith, size_all_is c def.body (j + 1))
 

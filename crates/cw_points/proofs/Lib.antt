@@ -11,6 +11,7 @@ mod Drawn
 pub mod Lengths
 mod Adding
 mod Told
+mod Room
 mod Functions
 mod Marked
 mod Numbers

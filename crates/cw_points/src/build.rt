@@ -9,15 +9,15 @@ ghost use Rattle.cw_syntax.specs.Plans.{function_names, plan_of};
 ghost use Rattle.cw_rights.specs.Policies.{policy_of};
 ghost use Rattle.cw_actions.specs.Scenes.{names_of, scene_in};
 ghost use Rattle.cw_points.specs.Points.{point_count};
-ghost use Rattle.cw_points.specs.Sizes.{size_all};
+ghost use Rattle.cw_points.specs.Sizes.{size_all, size_from};
 ghost use Rattle.cw_points.specs.Graphs.{IsGraph, part};
 ghost use Rattle.cw_points.specs.Drawing.{drawn_of, laid_one, split_of};
 
-use crate::count::{MOST_POINTS, count_functions};
+use crate::count::{MOST_POINTS, count_all, count_functions};
 use crate::draft::{Draft, Ways, first};
 use crate::fault::PointsFault;
 use crate::graph::{Graph, Part, Point};
-use crate::lay::{function_number, lay_all, size_all};
+use crate::lay::{function_number, lay_all};
 use cw_actions::{function_named, is_split, text};
 use cw_core::PointId;
 use cw_rights::Policy;
@@ -36,11 +36,12 @@ fn lay_function(
     requires labels { length (policy_of policy.now).labels ≤ 65535 }
     requires descriptors { length (policy_of policy.now).descriptors ≤ 255 }
     requires functions { length checked.now.program.functions.items ≤ 65535 }
+    requires few { length draft.old.nodes.items + size_all (definition_of function.now).body + 2 ≤ 8192 }
     ensures drawn { OnOk result (drawn_of draft.new ≡ laid_one (scene_in checked.now (policy_of policy.now)) number (definition_of function.now) (drawn_of draft.old)) }
     ensures part { IfOk result (λ p. p ≡ part (length draft.old.nodes.items) (length draft.old.nodes.items + 1 + size_all (definition_of function.now).body) (split_of (scene_in checked.now (policy_of policy.now)) (definition_of function.now))) }
 {
-    let entry = draft.next_point()?;
-    let size = size_all(&function.body)?;
+    let entry = draft.next_point();
+    let size = count_all(&function.body);
     let exit = entry + 1 + size;
     let ways = Ways {
         next: exit,
@@ -74,6 +75,7 @@ fn draw(alloc: Global, checked: &Checked, policy: &Policy) -> Result<Graph, Allo
     requires labels { length (policy_of policy.now).labels ≤ 65535 }
     requires descriptors { length (policy_of policy.now).descriptors ≤ 255 }
     requires functions { length checked.now.program.functions.items ≤ 65535 }
+    requires few { size_from (map definition_of checked.now.program.functions.items) ≤ 8192 }
     ensures { IfOk result (λ g. IsGraph (names_of (policy_of policy.now)) checked.now.source.now (file_of checked.now.program) g) }
 {
     let mut draft = Draft::new(alloc);

@@ -1,19 +1,19 @@
 //! A graph that is drawn front first.
 
-ghost use Rattle.std.specs.Prelude.{◌≡◌, ◌≤◌, [], ◌∷◌, length, Some, None, option_map, IfOk, OnOk};
+ghost use Rattle.std.specs.Prelude.{◌≡◌, ◌≤◌, [], ◌∷◌, length, Some, None, option_map, OnOk};
 ghost use Rattle.cw_points.specs.Graphs.{point_id, first, step, branch, step_nodes, test_node, node};
 
-use crate::count::MOST_POINTS;
 use crate::graph::{Node, Point, Seam};
 use cw_core::{PointId, SeamId};
 use cw_syntax::program::Name;
 use std::alloc::{AllocError, Global};
 
-/// The points and the seams that are drawn so far, by number.
+/// The points and the seams that are drawn so far, by number. Each seam is a point.
 #[derive(Drop)]
 pub(crate) struct Draft {
     pub nodes: Vec<Node>,
     pub seams: Vec<Seam>,
+    ghost seams_are_points: { length seams.items ≤ length nodes.items },
 }
 
 /// Where a statement leads: to what follows it, at a `return`, and, in a loop, at a `break` and at a `continue`.
@@ -53,27 +53,20 @@ impl Draft {
         }
     }
 
-    /// The number of the point that is put next. There is no answer behind the most points that there may be.
-    pub(crate) fn next_point(&self) -> Result<u32, AllocError>
-        ensures number { IfOk result (λ number. number ≡ length self.now.nodes.items) }
-        ensures few { IfOk result (λ number. number ≤ 8192) }
+    /// The number of the point that is put next.
+    pub(crate) fn next_point(&self) -> u32
+        requires few { length self.now.nodes.items ≤ 8192 }
+        ensures { result ≡ length self.now.nodes.items }
     {
-        let number = self.nodes.len();
-        if number > MOST_POINTS as usize {
-            return Err(AllocError);
-        }
-        Ok(number as u32)
+        self.nodes.len() as u32
     }
 
     /// The number of the seam that is put next.
-    fn next_seam(&self) -> Result<u32, AllocError>
-        ensures { IfOk result (λ number. number ≡ length self.now.seams.items) }
+    fn next_seam(&self) -> u32
+        requires few { length self.now.nodes.items ≤ 8192 }
+        ensures { result ≡ length self.now.seams.items }
     {
-        let number = self.seams.len();
-        if number > MOST_POINTS as usize {
-            return Err(AllocError);
-        }
-        Ok(number as u32)
+        self.seams.len() as u32
     }
 
     fn put(&mut self, node: Node) -> Result<(), AllocError>
@@ -166,10 +159,11 @@ impl Draft {
         place: u32,
         taken: Option<Name>,
     ) -> Result<(), AllocError>
+        requires few { length self.old.nodes.items ≤ 8192 }
         ensures { OnOk result (drawn_of self.new ≡ with_seam point function next place taken (drawn_of self.old)) }
     {
-        let at = self.next_point()?;
-        let number = self.next_seam()?;
+        let at = self.next_point();
+        let number = self.next_seam();
         self.nodes.push(Node {
             point,
             function,

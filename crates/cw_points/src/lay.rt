@@ -10,7 +10,7 @@ ghost use Rattle.cw_points.specs.Sizes.{size, size_all};
 ghost use Rattle.cw_points.specs.Graphs.{first, step_nodes, test_node};
 ghost use Rattle.cw_points.specs.Drawing.{drawn_of, looped, before, with_nodes, with_node, laid, laid_all};
 
-use crate::count::{MOST_POINTS, count, count_all};
+use crate::count::{count, count_all};
 use crate::draft::{Draft, Ways, first};
 use crate::graph::Point;
 use cw_actions::{Act, action_of, label_number, text};
@@ -18,30 +18,6 @@ use cw_rights::Policy;
 use cw_syntax::checked::Checked;
 use cw_syntax::program::{Expr, Head, Stmt, What};
 use std::alloc::AllocError;
-
-/// How many points a statement has. There is no answer behind the most that there may be.
-fn size(statement: &Stmt) -> Result<u32, AllocError>
-    ensures size { IfOk result (λ n. n ≡ size (statement_of statement.now)) }
-    ensures few { IfOk result (λ n. n ≤ 8192) }
-{
-    let n = count(statement);
-    if n > MOST_POINTS {
-        return Err(AllocError);
-    }
-    Ok(n)
-}
-
-/// How many points these statements have together. There is no answer behind the most that there may be.
-pub(crate) fn size_all(statements: &[Stmt]) -> Result<u32, AllocError>
-    ensures size { IfOk result (λ n. n ≡ size_all (statements_of statements.now)) }
-    ensures few { IfOk result (λ n. n ≤ 8192) }
-{
-    let n = count_all(statements);
-    if n > MOST_POINTS {
-        return Err(AllocError);
-    }
-    Ok(n)
-}
 
 /// The ways in a loop whose body goes on at this point.
 fn looped(ways: Ways, turn: u32) -> Ways
@@ -90,6 +66,7 @@ fn lay_expression(
 ) -> Result<(), AllocError>
     requires descriptors { length (policy_of policy.now).descriptors ≤ 255 }
     requires functions { length checked.now.program.functions.items ≤ 65535 }
+    requires few { length draft.old.nodes.items ≤ 8192 }
     ensures { OnOk result ((to : ℕ) → drawn_of draft.new ≡ laid (scene_in checked.now (policy_of policy.now)) function (Stated (Evaluates (tree_of e.now)) place to) ways (drawn_of draft.old)) }
 {
     match action_of(checked, policy, e) {
@@ -121,12 +98,13 @@ fn put_head(
     body: u32,
     next: u32,
 ) -> Result<u32, AllocError>
-    requires { body ≤ 8192 }
+    requires few { length draft.old.nodes.items ≤ 8192 }
+    requires body { body ≤ 8192 }
     ensures turn { IfOk result (λ turn. turn ≡ length draft.old.nodes.items + one_if (is_some (out-Head head.now).init) + one_if (is_some (out-Head head.now).step)) }
     ensures drawn { IfOk result (λ turn. (test : ℕ) → test ≡ length draft.old.nodes.items + one_if (is_some (out-Head head.now).init) →
         drawn_of draft.new ≡ with_nodes (step_nodes function (is_some (out-Head head.now).step) test) (with_node (test_node function (is_some (out-Head head.now).test) (first body (turn + 1) turn) next) (with_nodes (step_nodes function (is_some (out-Head head.now).init) test) (drawn_of draft.old)))) }
 {
-    let at = draft.next_point()?;
+    let at = draft.next_point();
     let begun = head.init.is_some();
     let stepped = head.step.is_some();
     let test = at + u32::from(begun);
@@ -155,6 +133,7 @@ fn lay(
     requires labels { length (policy_of policy.now).labels ≤ 65535 }
     requires descriptors { length (policy_of policy.now).descriptors ≤ 255 }
     requires functions { length checked.now.program.functions.items ≤ 65535 }
+    requires few { length draft.old.nodes.items + size (statement_of statement.now) ≤ 8192 }
     ensures { OnOk result (drawn_of draft.new ≡ laid (scene_in checked.now (policy_of policy.now)) function (statement_of statement.now) ways (drawn_of draft.old)) }
 {
     match &statement.what {
@@ -167,42 +146,42 @@ fn lay(
         What::Block(statements) => lay_all(draft, checked, policy, function, statements, ways),
         What::Label(name, mark, body) => {
             let label = label_number(policy, text(checked, *name));
-            let at = draft.next_point()?;
-            let next = first(size(body)?, at + 1, ways.next);
+            let at = draft.next_point();
+            let next = first(count(body), at + 1, ways.next);
             draft.put_seam(Point::Label(label), function, next, *mark, None)?;
             lay(draft, checked, policy, function, body, ways)
         }
         What::If(_, arm, other) => match other {
             None => {
-                let at = draft.next_point()?;
-                let holds = first(size(arm)?, at + 1, ways.next);
+                let at = draft.next_point();
+                let holds = first(count(arm), at + 1, ways.next);
                 draft.put_branch(function, holds, ways.next)?;
                 lay(draft, checked, policy, function, arm, ways)
             }
             Some(other) => {
-                let at = draft.next_point()?;
-                let own = size(arm)?;
+                let at = draft.next_point();
+                let own = count(arm);
                 let holds = first(own, at + 1, ways.next);
-                let fails = first(size(other)?, at + 1 + own, ways.next);
+                let fails = first(count(other), at + 1 + own, ways.next);
                 draft.put_branch(function, holds, fails)?;
                 lay(draft, checked, policy, function, arm, ways)?;
                 lay(draft, checked, policy, function, other, ways)
             }
         },
         What::While(_, body) => {
-            let at = draft.next_point()?;
-            let holds = first(size(body)?, at + 1, at);
+            let at = draft.next_point();
+            let holds = first(count(body), at + 1, at);
             draft.put_branch(function, holds, ways.next)?;
             lay(draft, checked, policy, function, body, looped(ways, at))
         }
         What::Do(body, _) => {
-            let at = draft.next_point()?;
-            let test = at + size(body)?;
+            let at = draft.next_point();
+            let test = at + count(body);
             lay(draft, checked, policy, function, body, looped(ways, test))?;
             draft.put_branch(function, at, ways.next)
         }
         What::For(head, body) => {
-            let turn = put_head(draft, function, head, size(body)?, ways.next)?;
+            let turn = put_head(draft, function, head, count(body), ways.next)?;
             lay(draft, checked, policy, function, body, looped(ways, turn))
         }
     }
@@ -221,13 +200,14 @@ pub(crate) fn lay_all(
     requires labels { length (policy_of policy.now).labels ≤ 65535 }
     requires descriptors { length (policy_of policy.now).descriptors ≤ 255 }
     requires functions { length checked.now.program.functions.items ≤ 65535 }
+    requires few { length draft.old.nodes.items + size_all (statements_of statements.now) ≤ 8192 }
     ensures { OnOk result (drawn_of draft.new ≡ laid_all (scene_in checked.now (policy_of policy.now)) function (statements_of statements.now) ways (drawn_of draft.old)) }
 {
-    let mut left = size_all(statements)?;
+    let mut left = count_all(statements);
     for statement in statements {
-        let own = size(statement)?;
+        let own = count(statement);
         left -= own;
-        let at = draft.next_point()?;
+        let at = draft.next_point();
         let next = first(left, at + own, ways.next);
         lay(
             draft,

@@ -3,7 +3,7 @@ use Rattle.cw_syntax.specs.Trees.{definition_of}
 use Rattle.cw_rights.specs.Policies.{policy_of}
 use Rattle.cw_actions.specs.Scenes.{scene_in}
 use Rattle.cw_points.specs.Sizes.{size_from, capped}
-use Rattle.cw_points.proofs.Counting.{few_functions, few_points, many_points}
+use Rattle.cw_points.proofs.Counting.{few_functions, few_points, few_sizes, many_points}
 use Rattle.cw_points.proofs.build.build.Goals as goal
 
 pub returns-then-count_functions-gt-MOST_POINTS-clause-many : goal.returns-then-count_functions-gt-MOST_POINTS-clause-many
@@ -19,4 +19,9 @@ returns-clause-few c =
 pub draw-requires-clause-functions : goal.draw-requires-clause-functions
 draw-requires-clause-functions c =
     few_functions c.args.checked.now.program.functions.items c.count_functions.result
+    (c.count_functions.ensures ∙ ap (λ l. capped (size_from (map definition_of l))) c.deref.ensures.value) c.if-count_functions-gt-MOST_POINTS.false
+
+pub draw-requires-clause-few : goal.draw-requires-clause-few
+draw-requires-clause-few c =
+    few_sizes (map definition_of c.args.checked.now.program.functions.items) c.count_functions.result
     (c.count_functions.ensures ∙ ap (λ l. capped (size_from (map definition_of l))) c.deref.ensures.value) c.if-count_functions-gt-MOST_POINTS.false

@@ -1,10 +1,11 @@
-use Rattle.std.proofs.Common.{◌≡◌, ◌+◌, [], ◌∷◌, ◌++◌, map, drop, ap, ap₂, sym, ◌∙◌, arith}
+use Rattle.std.proofs.Common.{◌≡◌, ◌+◌, [], ◌∷◌, ◌++◌, length, map, drop, ap, ap₂, sym, ◌∙◌, arith}
 use Rattle.std.proofs.lemmas.List.{drop_all}
 use Rattle.cw_syntax.specs.Trees.{definition_of, file_of}
 use Rattle.cw_rights.specs.Policies.{policy_of}
 use Rattle.cw_actions.specs.Scenes.{scene_in}
 use Rattle.cw_points.specs.Drawing.{drawn_of, nothing_drawn, laid_one, laid_from, parted}
 use Rattle.cw_points.proofs.Functions.{one_function, one_part, no_function, no_part, all_nodes, all_seams, all_parts, one_definition}
+use Rattle.cw_points.proofs.Room.{first_function, rest_functions}
 use Rattle.cw_points.proofs.build.draw.Goals as goal
 
 pub loop-number-preserved : goal.loop-number-preserved
@@ -21,6 +22,7 @@ loop-number-preserved c =
     let new = c.in_ok-part.ensures.drawn ∙ ap (λ n. laid_one s n def d) c.function_number-number.ensures in
     let put = c.in_ok-push.ensures.items ∙ ap (λ p. ps ++ p ∷ []) c.in_ok-part.ensures.part in
     record {
+      few = rest_functions s c.function_number-number.result def rest (map definition_of (drop i fs)) d (drawn_of c.lay_function.new.draft) e c.in_ok-part.ensures.drawn c.loop-number.invariant.few;
       drawn = ap (laid_from s (i + 1) rest) new ∙ one_function s i def rest d ∙ sym (ap (λ l. laid_from s i l d) e) ∙ c.loop-number.invariant.drawn;
       parts = ap₂ (parted s rest) new put ∙ one_part s i def rest d ps ∙ sym (ap (λ l. parted s l d ps) e) ∙ c.loop-number.invariant.parts;
     }
@@ -41,3 +43,11 @@ returns c =
       main = c.main_number-main.ensures;
       seams = ap (λ d. d.seams) drawn ∙ all_seams s all;
     }
+
+pub lay_function-requires-clause-few : goal.lay_function-requires-clause-few
+lay_function-requires-clause-few c =
+    let fs = c.deref-function-items.result.now in
+    let i = c.loop-number.number in
+    let f = c.function-item.result in
+    first_function (length c.loop-number.draft.nodes.items) (definition_of f) (map definition_of (drop (i + 1) fs)) (map definition_of (drop i fs))
+    (one_definition fs f i c.loop-number-test.true c.function-item.is) c.loop-number.invariant.few

@@ -1,5 +1,6 @@
-use Rattle.std.proofs.Common.{◌≡◌, ◌+◌, ◌-◌, [], drop, ap, sym, ◌∙◌, refl, arith}
+use Rattle.std.proofs.Common.{◌≡◌, ◌+◌, ◌-◌, [], length, drop, ap, sym, ◌∙◌, refl, arith, rules}
 use Rattle.std.proofs.lemmas.List.{drop_all}
+use Rattle.cw_syntax.specs.declared.program.What.{the_lemmas}
 use Rattle.cw_syntax.specs.declared.program.What.TheVariants.{If}
 use Rattle.cw_syntax.specs.Trees.{Block, Labels, Chooses, Whiles, Does, Fors, nothing, just, declaration_of, tree_of, form_of, statement_of, statements_of}
 use Rattle.std.specs.Prelude.{option_map, is_some}
@@ -7,12 +8,14 @@ use Rattle.cw_syntax.specs.declared.program.Head.{Head, out-Head}
 use Rattle.cw_syntax.specs.Names.{number_or_other}
 use Rattle.cw_rights.specs.Policies.{policy_of}
 use Rattle.cw_actions.specs.Scenes.{scene_in}
-use Rattle.cw_points.specs.Sizes.{size}
+use Rattle.cw_points.specs.Graphs.{branch, first}
+use Rattle.cw_points.specs.Sizes.{size, capped}
 use Rattle.cw_points.specs.Drawing.{drawn_of, laid_all}
 use Rattle.cw_syntax.proofs.Shapes.{block_form}
 use Rattle.cw_points.proofs.Shapes.{for_form, IsFor}
 use Rattle.cw_points.proofs.Adding.{laid_declares, laid_empty, laid_break, laid_continue, laid_return, laid_block, laid_no_more}
 use Rattle.cw_points.proofs.Counting.{one_more}
+use Rattle.cw_points.proofs.Room.{whole, label_part, arm_part, other_part, while_part, do_part, for_part, block_room, label_room, arm_room, other_room, while_room, for_room, first_room, rest_room}
 use Rattle.cw_points.proofs.Told.{on_ok, at_form, label_told, if_told, choice_told, while_told, do_told, for_told, more_told, left_told}
 use Rattle.cw_points.proofs.lay.+lay.Goals as goal
 
@@ -74,9 +77,11 @@ lay-returns-in_ok-put_seam-in-Label t c =
     let body = statement_of c.in-Label.body.value in
     on_ok c.lay.result c.lay.ensures (λ h.
     at_form sc c.args.function s (Labels c.in-Label.name c.in-Label.mark body) c.args.ways d (drawn_of c.lay.new.draft) (ap form_of c.in-Label.is)
-    (label_told sc c.args.function c.in-Label.name c.in-Label.mark body (statement_of c.deref-in-Label-2.result.now) s.from s.to c.label_number-label.result c.in_ok-at-in-Label.at c.in_ok-size-in-Label.field-0 c.first-next.result c.args.ways d (drawn_of c.put_seam.new.self) (drawn_of c.lay.new.draft)
-    (ap statement_of c.deref-in-Label-2.ensures) (c.label_number-label.ensures.number ∙ ap (number_or_other sc.names.labels) c.text.ensures.bytes) c.in_ok-at-in-Label.ensures.number
-    (c.in_ok-size-in-Label.ensures.size ∙ ap (λ b. size (statement_of b)) c.deref-in-Label.ensures) c.first-next.ensures
+    (label_told sc c.args.function c.in-Label.name c.in-Label.mark body (statement_of c.deref-in-Label-2.result.now) s.from s.to c.label_number-label.result c.next_point-at.result
+    c.count.result c.first-next.result c.args.ways d (drawn_of c.put_seam.new.self) (drawn_of c.lay.new.draft)
+    (ap statement_of c.deref-in-Label-2.ensures) (c.label_number-label.ensures.number ∙ ap (number_or_other sc.names.labels) c.text.ensures.bytes) c.next_point-at.ensures
+    (whole c.count.result (size body) (length d.nodes) (c.count.ensures ∙ ap (λ b. capped (size (statement_of b))) c.deref-in-Label.ensures)
+    (label_part s d c.requires.few c.in-Label.name c.in-Label.mark body (ap form_of c.in-Label.is))) c.first-next.ensures
     c.in_ok-put_seam-in-Label.ensures h))
 
 pub lay-returns-in_ok-put_branch-in-None : goal.lay-returns-in_ok-put_branch-in-None
@@ -88,9 +93,11 @@ lay-returns-in_ok-put_branch-in-None t c =
     let e = tree_of c.in-If.field-0 in
     on_ok c.lay-in-None.result c.lay-in-None.ensures (λ h.
     at_form sc c.args.function s (Chooses e arm nothing) c.args.ways d (drawn_of c.lay-in-None.new.draft) (ap form_of (c.in-If.is ∙ ap (If c.in-If.field-0 c.in-If.arm) c.in-None.is))
-    (if_told sc c.args.function e arm (statement_of c.deref-in-None-2.result.now) s.from s.to c.in_ok-at-in-None.at c.in_ok-size-in-None.field-0 c.first-holds.result c.args.ways d
+    (if_told sc c.args.function e arm (statement_of c.deref-in-None-2.result.now) s.from s.to c.next_point-at-in-None.result c.count-in-None.result c.first-holds.result c.args.ways d
     (drawn_of c.put_branch.new.self) (drawn_of c.lay-in-None.new.draft)
-    (ap statement_of c.deref-in-None-2.ensures) c.in_ok-at-in-None.ensures.number (c.in_ok-size-in-None.ensures.size ∙ ap (λ b. size (statement_of b)) c.deref-in-None.ensures) c.first-holds.ensures
+    (ap statement_of c.deref-in-None-2.ensures) c.next_point-at-in-None.ensures
+    (whole c.count-in-None.result (size arm) (length d.nodes) (c.count-in-None.ensures ∙ ap (λ b. capped (size (statement_of b))) c.deref-in-None.ensures)
+    (arm_part s d c.requires.few e arm nothing (ap form_of (c.in-If.is ∙ ap (If c.in-If.field-0 c.in-If.arm) c.in-None.is)))) c.first-holds.ensures
     c.in_ok-put_branch-in-None.ensures h))
 
 pub lay-returns-in_ok-put_branch-in-While : goal.lay-returns-in_ok-put_branch-in-While
@@ -102,9 +109,11 @@ lay-returns-in_ok-put_branch-in-While t c =
     let e = tree_of c.in-While.field-0 in
     on_ok c.lay-in-While.result c.lay-in-While.ensures (λ h.
     at_form sc c.args.function s (Whiles e body) c.args.ways d (drawn_of c.lay-in-While.new.draft) (ap form_of c.in-While.is)
-    (while_told sc c.args.function e body (statement_of c.deref-in-While-2.result.now) s.from s.to c.in_ok-at-in-While.at c.in_ok-size-in-While.field-0 c.first-holds-in-While.result c.looped.result c.args.ways d (drawn_of c.put_branch-in-While.new.self) (drawn_of c.lay-in-While.new.draft)
-    (ap statement_of c.deref-in-While-2.ensures) c.in_ok-at-in-While.ensures.number (c.in_ok-size-in-While.ensures.size
-    ∙ ap (λ b. size (statement_of b)) c.deref-in-While.ensures) c.first-holds-in-While.ensures c.looped.ensures
+    (while_told sc c.args.function e body (statement_of c.deref-in-While-2.result.now) s.from s.to c.next_point-at-in-While.result c.count-in-While.result c.first-holds-in-While.result
+    c.looped.result c.args.ways d (drawn_of c.put_branch-in-While.new.self) (drawn_of c.lay-in-While.new.draft)
+    (ap statement_of c.deref-in-While-2.ensures) c.next_point-at-in-While.ensures
+    (whole c.count-in-While.result (size body) (length d.nodes) (c.count-in-While.ensures ∙ ap (λ b. capped (size (statement_of b))) c.deref-in-While.ensures)
+    (while_part s d c.requires.few e body (ap form_of c.in-While.is))) c.first-holds-in-While.ensures c.looped.ensures
     c.in_ok-put_branch-in-While.ensures h))
 
 pub lay-returns-in_ok-lay-in-Do : goal.lay-returns-in_ok-lay-in-Do
@@ -116,9 +125,11 @@ lay-returns-in_ok-lay-in-Do t c =
     let e = tree_of c.in-Do.field-1 in
     on_ok c.put_branch-in-Do.result c.put_branch-in-Do.ensures (λ h.
     at_form sc c.args.function s (Does body e) c.args.ways d (drawn_of c.put_branch-in-Do.new.self) (ap form_of c.in-Do.is)
-    (do_told sc c.args.function e body (statement_of c.deref-in-Do-2.result.now) s.from s.to c.in_ok-at-in-Do.at c.in_ok-test-in-Do.field-0
-    (c.in_ok-at-in-Do.at + c.in_ok-test-in-Do.field-0) c.looped-in-Do.result c.args.ways d (drawn_of c.lay-in-Do.new.draft) (drawn_of c.put_branch-in-Do.new.self)
-    (ap statement_of c.deref-in-Do-2.ensures) c.in_ok-at-in-Do.ensures.number (c.in_ok-test-in-Do.ensures.size ∙ ap (λ b. size (statement_of b)) c.deref-in-Do.ensures) refl c.looped-in-Do.ensures
+    (do_told sc c.args.function e body (statement_of c.deref-in-Do-2.result.now) s.from s.to c.next_point-at-in-Do.result c.count-in-Do.result
+    (c.next_point-at-in-Do.result + c.count-in-Do.result) c.looped-in-Do.result c.args.ways d (drawn_of c.lay-in-Do.new.draft) (drawn_of c.put_branch-in-Do.new.self)
+    (ap statement_of c.deref-in-Do-2.ensures) c.next_point-at-in-Do.ensures
+    (whole c.count-in-Do.result (size body) (length d.nodes) (c.count-in-Do.ensures ∙ ap (λ b. capped (size (statement_of b))) c.deref-in-Do.ensures)
+    (do_part s d c.requires.few e body (ap form_of c.in-Do.is))) refl c.looped-in-Do.ensures
     c.in_ok-lay-in-Do.ensures h))
 
 pub lay-returns-in_ok-turn-in-For : goal.lay-returns-in_ok-turn-in-For
@@ -132,11 +143,12 @@ lay-returns-in_ok-turn-in-For t c =
     let o = out-Head c.deref-in-For.result.now in
     on_ok c.lay-in-For.result c.lay-in-For.ensures (λ h.
     at_form sc c.args.function s (Fors k.init k.test k.step body) c.args.ways d (drawn_of c.lay-in-For.new.draft) k.form_is
-    (for_told sc c.args.function k.init k.test k.step body (statement_of c.deref-in-For-3.result.now) s.from s.to c.in_ok-size-in-For.field-0 c.in_ok-turn-in-For.turn (is_some o.init)
+    (for_told sc c.args.function k.init k.test k.step body (statement_of c.deref-in-For-3.result.now) s.from s.to c.count-in-For.result c.in_ok-turn-in-For.turn (is_some o.init)
     (is_some o.test) (is_some o.step) c.looped-in-For.result c.args.ways d (drawn_of c.put_head.new.draft) (drawn_of c.lay-in-For.new.draft)
     (ap (λ (h : Head). is_some (out-Head h).init) c.deref-in-For.ensures ∙ k.head_is.begun) (ap (λ (h : Head). is_some (out-Head h).test) c.deref-in-For.ensures ∙ k.head_is.decided)
     (ap (λ (h : Head). is_some (out-Head h).step) c.deref-in-For.ensures ∙ k.head_is.stepped)
-    (ap statement_of c.deref-in-For-3.ensures) (c.in_ok-size-in-For.ensures.size ∙ ap (λ b. size (statement_of b)) c.deref-in-For-2.ensures)
+    (ap statement_of c.deref-in-For-3.ensures) (whole c.count-in-For.result (size body) (length d.nodes) (c.count-in-For.ensures ∙ ap (λ b. capped (size (statement_of b))) c.deref-in-For-2.ensures)
+    (for_part s d c.requires.few k.init k.test k.step body k.form_is))
     c.in_ok-turn-in-For.ensures.turn c.looped-in-For.ensures c.in_ok-turn-in-For.ensures.drawn h))
 
 pub lay_all-loop-statement-preserved : goal.lay_all-loop-statement-preserved
@@ -150,12 +162,14 @@ lay_all-loop-statement-preserved t c =
     let d = drawn_of c.loop-statement.draft in
     let e = one_more ss s i c.loop-statement-test.true c.statement-item.is in
     let inv = c.loop-statement.invariant in
+    let own = whole c.count-own.result (size (statement_of s)) (length d.nodes) c.count-own.ensures (first_room d (statement_of s) rest all e inv.few) in
     record {
-      left = left_told sc c.args.function (statement_of s) rest all c.in_ok-own.own c.loop-statement.left e inv.left c.in_ok-own.ensures.size;
+      few = rest_room sc c.args.function c.before-in-loop-statement.result d (drawn_of c.lay.new.draft) (statement_of s) rest all e c.in_ok-lay.ensures inv.few;
+      left = left_told sc c.args.function (statement_of s) rest all c.count-own.result c.loop-statement.left e inv.left own;
       drawn =
-          more_told sc c.args.function (statement_of s) rest all c.in_ok-at.at c.in_ok-own.own c.loop-statement.left
-          (c.loop-statement.left - c.in_ok-own.own) c.first-next.result c.before-in-loop-statement.result c.args.ways d (drawn_of c.lay.new.draft)
-          e inv.left c.in_ok-own.ensures.size refl c.in_ok-at.ensures.number c.first-next.ensures c.before-in-loop-statement.ensures c.in_ok-lay.ensures
+          more_told sc c.args.function (statement_of s) rest all c.next_point-at.result c.count-own.result c.loop-statement.left
+          (c.loop-statement.left - c.count-own.result) c.first-next.result c.before-in-loop-statement.result c.args.ways d (drawn_of c.lay.new.draft)
+          e inv.left own refl c.next_point-at.ensures c.first-next.ensures c.before-in-loop-statement.ensures c.in_ok-lay.ensures
           ∙ inv.drawn;
     }
 
@@ -179,9 +193,158 @@ lay-returns-in_ok-lay-in-Some t c =
     on_ok c.lay-in-Some-2.result c.lay-in-Some-2.ensures (λ h.
     at_form sc c.args.function s (Chooses e arm (just other)) c.args.ways d (drawn_of c.lay-in-Some-2.new.draft) (ap form_of (c.in-If.is ∙ ap (If c.in-If.field-0 c.in-If.arm) c.in-Some.is))
     (choice_told sc c.args.function e arm (statement_of c.deref-in-Some-3.result.now) other
-    (statement_of c.deref-in-Some-4.result.now) s.from s.to c.in_ok-at-in-Some.at c.in_ok-own-in-Some.own c.in_ok-size-in-Some.field-0 c.first-holds-in-Some.result c.first-fails.result c.args.ways d
+    (statement_of c.deref-in-Some-4.result.now) s.from s.to c.next_point-at-in-Some.result c.count-own.result c.count-in-Some.result c.first-holds-in-Some.result c.first-fails.result c.args.ways d
     (drawn_of c.put_branch-in-Some.new.self) (drawn_of c.lay-in-Some.new.draft) (drawn_of c.lay-in-Some-2.new.draft)
     (ap statement_of c.deref-in-Some-3.ensures) (ap statement_of c.deref-in-Some-4.ensures)
-    c.in_ok-at-in-Some.ensures.number (c.in_ok-own-in-Some.ensures.size ∙ ap (λ b. size (statement_of b)) c.deref-in-Some.ensures)
-    (c.in_ok-size-in-Some.ensures.size ∙ ap (λ b. size (statement_of b)) c.deref-in-Some-2.ensures) c.first-holds-in-Some.ensures c.first-fails.ensures
+    c.next_point-at-in-Some.ensures
+    (whole c.count-own.result (size arm) (length d.nodes) (c.count-own.ensures ∙ ap (λ b. capped (size (statement_of b))) c.deref-in-Some.ensures)
+    (arm_part s d c.requires.few e arm (just other) (ap form_of (c.in-If.is ∙ ap (If c.in-If.field-0 c.in-If.arm) c.in-Some.is))))
+    (whole c.count-in-Some.result (size other) (length d.nodes) (c.count-in-Some.ensures ∙ ap (λ b. capped (size (statement_of b))) c.deref-in-Some-2.ensures)
+    (other_part s d c.requires.few e arm other (ap form_of (c.in-If.is ∙ ap (If c.in-If.field-0 c.in-If.arm) c.in-Some.is)))) c.first-holds-in-Some.ensures c.first-fails.ensures
     c.in_ok-put_branch-in-Some.ensures c.in_ok-lay-in-Some.ensures h))
+
+pub lay-lay_all-requires : goal.lay-lay_all-requires
+lay-lay_all-requires t c =
+    let s = c.args.statement.now in (
+      search (rules, the_lemmas),
+      (
+        c.requires.labels,
+        (
+          c.requires.descriptors,
+          (
+            c.requires.functions,
+            block_room s (drawn_of c.args.draft.now) c.requires.few (statements_of c.in-Block.statements.items) (statements_of c.deref.result.now)
+                (block_form s.what c.in-Block.statements c.in-Block.is) (ap statements_of c.deref.ensures.value),
+          ),
+        ),
+      ),
+    )
+
+pub lay-lay-requires : goal.lay-lay-requires
+lay-lay-requires t c = (
+  search (rules, the_lemmas),
+  (
+    c.requires.labels,
+    (
+      c.requires.descriptors,
+      (
+        c.requires.functions,
+        label_room c.args.statement.now (drawn_of c.args.draft.now) c.requires.few c.args.function c.in-Label.name c.in-Label.mark (statement_of c.in-Label.body.value)
+            (statement_of c.deref-in-Label-2.result.now) c.label_number-label.result c.first-next.result (drawn_of c.put_seam.new.self) (ap form_of c.in-Label.is)
+            (ap statement_of c.deref-in-Label-2.ensures) c.in_ok-put_seam-in-Label.ensures,
+      ),
+    ),
+  ),
+)
+
+pub lay-lay-requires-in-None : goal.lay-lay-requires-in-None
+lay-lay-requires-in-None t c = (
+  search (rules, the_lemmas),
+  (
+    c.requires.labels,
+    (
+      c.requires.descriptors,
+      (
+        c.requires.functions,
+        arm_room c.args.statement.now (drawn_of c.args.draft.now) c.requires.few (tree_of c.in-If.field-0) (statement_of c.in-If.arm.value) (statement_of c.deref-in-None-2.result.now)
+            nothing (branch c.args.function c.first-holds.result c.args.ways.next) (drawn_of c.put_branch.new.self) (ap form_of (c.in-If.is ∙ ap (If c.in-If.field-0 c.in-If.arm) c.in-None.is))
+            (ap statement_of c.deref-in-None-2.ensures) c.in_ok-put_branch-in-None.ensures,
+      ),
+    ),
+  ),
+)
+
+pub lay-lay-requires-in-Some : goal.lay-lay-requires-in-Some
+lay-lay-requires-in-Some t c = (
+  search (rules, the_lemmas),
+  (
+    c.requires.labels,
+    (
+      c.requires.descriptors,
+      (
+        c.requires.functions,
+        arm_room c.args.statement.now (drawn_of c.args.draft.now) c.requires.few (tree_of c.in-If.field-0) (statement_of c.in-If.arm.value) (statement_of c.deref-in-Some-3.result.now)
+            (just (statement_of c.in-Some.other.value)) (branch c.args.function c.first-holds-in-Some.result c.first-fails.result) (drawn_of c.put_branch-in-Some.new.self)
+            (ap form_of (c.in-If.is ∙ ap (If c.in-If.field-0 c.in-If.arm) c.in-Some.is)) (ap statement_of c.deref-in-Some-3.ensures) c.in_ok-put_branch-in-Some.ensures,
+      ),
+    ),
+  ),
+)
+
+pub lay-lay-requires-in-Some-2 : goal.lay-lay-requires-in-Some-2
+lay-lay-requires-in-Some-2 t c = (
+  search (rules, the_lemmas),
+  (
+    c.requires.labels,
+    (
+      c.requires.descriptors,
+      (
+        c.requires.functions,
+        other_room c.args.statement.now (drawn_of c.args.draft.now) c.requires.few (scene_in c.args.checked.now (policy_of c.args.policy.now)) c.args.function c.args.ways
+            (tree_of c.in-If.field-0) (statement_of c.in-If.arm.value) (statement_of c.deref-in-Some-3.result.now) (statement_of c.in-Some.other.value) (statement_of c.deref-in-Some-4.result.now)
+            (branch c.args.function c.first-holds-in-Some.result c.first-fails.result) (drawn_of c.put_branch-in-Some.new.self) (drawn_of c.lay-in-Some.new.draft)
+            (ap form_of (c.in-If.is ∙ ap (If c.in-If.field-0 c.in-If.arm) c.in-Some.is)) (ap statement_of c.deref-in-Some-3.ensures) (ap statement_of c.deref-in-Some-4.ensures)
+            c.in_ok-put_branch-in-Some.ensures c.in_ok-lay-in-Some.ensures,
+      ),
+    ),
+  ),
+)
+
+pub lay-lay-requires-in-While : goal.lay-lay-requires-in-While
+lay-lay-requires-in-While t c = (
+  search (rules, the_lemmas),
+  (
+    c.requires.labels,
+    (
+      c.requires.descriptors,
+      (
+        c.requires.functions,
+        while_room c.args.statement.now (drawn_of c.args.draft.now) c.requires.few (tree_of c.in-While.field-0) (statement_of c.in-While.body.value) (statement_of c.deref-in-While-2.result.now)
+            (branch c.args.function c.first-holds-in-While.result c.args.ways.next) (drawn_of c.put_branch-in-While.new.self) (ap form_of c.in-While.is)
+            (ap statement_of c.deref-in-While-2.ensures) c.in_ok-put_branch-in-While.ensures,
+      ),
+    ),
+  ),
+)
+
+pub lay-lay-requires-in-For : goal.lay-lay-requires-in-For
+lay-lay-requires-in-For t c =
+    let s = c.args.statement.now in
+    let body = statement_of c.in-For.body.value in
+    let k : IsFor c.in-For.head.value body (form_of s.what) = for_form s.what c.in-For.head c.in-For.body c.in-For.is in
+    let o = out-Head c.deref-in-For.result.now in
+    let turn = c.in_ok-turn-in-For.turn in (
+      search (rules, the_lemmas),
+      (
+        c.requires.labels,
+        (
+          c.requires.descriptors,
+          (
+            c.requires.functions,
+            for_room s (drawn_of c.args.draft.now) c.requires.few c.args.function k.init k.test k.step body (statement_of c.deref-in-For-3.result.now) (is_some o.init) (is_some o.test)
+                (is_some o.step) (first c.count-in-For.result (turn + 1) turn) c.args.ways.next (drawn_of c.put_head.new.draft) k.form_is (ap statement_of c.deref-in-For-3.ensures)
+                (ap (λ (h : Head). is_some (out-Head h).init) c.deref-in-For.ensures ∙ k.head_is.begun) (ap (λ (h : Head). is_some (out-Head h).step) c.deref-in-For.ensures ∙ k.head_is.stepped)
+                c.in_ok-turn-in-For.ensures.drawn,
+          ),
+        ),
+      ),
+    )
+
+pub lay_all-lay-requires : goal.lay_all-lay-requires
+lay_all-lay-requires t c =
+    let ss = c.args.statements.now in
+    let s = c.statement-item.result in
+    let i = c.loop-statement.statement-index in (
+      search (rules, the_lemmas),
+      (
+        c.requires.labels,
+        (
+          c.requires.descriptors,
+          (
+            c.requires.functions,
+            first_room (drawn_of c.loop-statement.draft) (statement_of s) (statements_of (drop (i + 1) ss)) (statements_of (drop i ss))
+                (one_more ss s i c.loop-statement-test.true c.statement-item.is) c.loop-statement.invariant.few,
+          ),
+        ),
+      ),
+    )

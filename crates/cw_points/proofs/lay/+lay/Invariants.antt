@@ -1,4 +1,4 @@
-use Rattle.std.proofs.Common.{◌≡◌, drop}
+use Rattle.std.proofs.Common.{◌≡◌, ◌+◌, ◌≤◌, length, drop}
 use Rattle.cw_syntax.specs.Trees.{statements_of}
 use Rattle.cw_rights.specs.Policies.{policy_of}
 use Rattle.cw_actions.specs.Scenes.{scene_in}
@@ -8,6 +8,7 @@ use Rattle.cw_points.proofs.lay.+lay.Given as goal
 
 abbrev pub invariant-lay_all-loop-statement : goal.invariant-lay_all-loop-statement
 invariant-lay_all-loop-statement l = record {
+  few : length l.draft.nodes.items + size_all (statements_of (drop l.statement-index l.statements)) ≤ 8192;
   left : l.left ≡ size_all (statements_of (drop l.statement-index l.statements));
   drawn : laid_all (scene_in l.checked (policy_of l.policy)) l.function (statements_of (drop l.statement-index l.statements)) l.ways (drawn_of l.draft) ≡ laid_all
       (scene_in l.checked (policy_of l.policy)) l.function (statements_of l.statements) l.ways (drawn_of l.initial.draft);
