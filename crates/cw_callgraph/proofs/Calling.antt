@@ -1,6 +1,6 @@
 -- What the functions of a plan call, by the rows of their statements; and the tables of effects.
 use Rattle.std.proofs.Common.{◌≡◌, ℕ, zero, suc, ◌+◌, List, [], ◌∷◌, ◌++◌, map, length, get_or, Vec, Global, refl, sym, length-append, ap, ap₂, ◌∙◌, subst, arith}
-use Rattle.std.specs.Prelude.{slice_get, Option}
+use Rattle.std.specs.Prelude.{slice_get, Option, Some}
 use Rattle.cw_callgraph.specs.Lowest.{forbidden}
 use Rattle.std.proofs.lemmas.List.{length-map}
 use Rattle.std.proofs.lemmas.Option.{none-some, same_Some}
@@ -44,6 +44,12 @@ same_calls s fs main rows e h = ap (λ l. get_or l h []) e ∙ sym (calls_at s f
 
 pub rows_count : (s : Scene) (fs : List Function) (rows : List (Vec ℕ Global)) → lists_of rows ≡ map (direct s) fs → length rows ≡ length fs
 rows_count s fs rows e = sym (length-map rows (λ (row : Vec ℕ Global). row.items)) ∙ ap length e ∙ length-map fs (direct s)
+
+-- the row with this number
+pub row_at : (rows : List (Vec ℕ Global)) (f : ℕ) (row : Vec ℕ Global) → slice_get rows f ≡ Some row → next_in rows f ≡ row.items
+row_at [] f row e = absurd (none-some row e)
+row_at (x ∷ xs) zero row e = ap (λ (r : Vec ℕ Global). r.items) (same_Some x row e)
+row_at (x ∷ xs) (suc f) row e = row_at xs f row e
 
 -- a table with one entry more
 each_cons : {A : Type 0} (P : ℕ → A → Type 0) (x : A) (xs : List A) → P 0 x → Each (λ f y. P (suc f) y) xs → Each P (x ∷ xs)

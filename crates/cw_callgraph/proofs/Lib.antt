@@ -8,3 +8,4 @@ mod Least
 mod Nodes
 mod Barred
 pub mod Labelled
+mod Unsplit

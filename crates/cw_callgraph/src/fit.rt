@@ -1,6 +1,6 @@
 //! Whether a policy fits a source.
 
-ghost use Rattle.std.specs.Prelude.{◌≡◌, ◌≤◌, length, map, IfOk, IfErr};
+ghost use Rattle.std.specs.Prelude.{◌≡◌, ◌≤◌, length, map, IfOk, IfErr, IfNone, IfSome};
 ghost use Rattle.cw_syntax.specs.Plans.{function_names};
 ghost use Rattle.cw_syntax.specs.Trees.{file_of};
 ghost use Rattle.cw_rights.specs.Policies.{policy_of};
@@ -8,11 +8,13 @@ ghost use Rattle.cw_callgraph.specs.Tabled.{AreEffectsOf};
 ghost use Rattle.cw_callgraph.specs.Fitting.{first_unlabelled, first_undefined, Fits, IsFitFault};
 ghost use Rattle.cw_callgraph.specs.Barring.{barred, first_barred};
 
-use crate::table::{Effect, EffectTable};
+use crate::table::{Effect, EffectTable, effects};
 use cw_actions::function_named;
+use cw_core::NoMemory;
 use cw_listing::is_label;
 use cw_rights::Policy;
 use cw_syntax::checked::Checked;
+use std::alloc::Global;
 use thiserror::Error;
 
 /// What of a policy a source doesn't fit first, in this order. A label and a function to be split have their numbers in the policy's
@@ -100,5 +102,41 @@ pub fn fits(policy: &Policy, checked: &Checked, effects: &EffectTable) -> Result
     match first_barred(checked, &effects.of, &policy.split) {
         None => Ok(()),
         Some((function, place)) => Err(FitFault::NotSplittable(function, place)),
+    }
+}
+
+/// The label that a policy which splits nothing asks for and the source hasn't, first in the policy's order.
+fn missing_label(policy: &Policy, checked: &Checked) -> Option<FitFault>
+    requires labels { length (policy_of policy.now).labels ≤ 65535 }
+    requires whole { length policy.now.split.items ≡ 0 }
+    ensures fits { IfNone result (Fits checked.now.source.now (file_of checked.now.program) (policy_of policy.now)) }
+    ensures fault { IfSome result (IsFitFault checked.now.source.now (file_of checked.now.program) (policy_of policy.now)) }
+{
+    match first_unlabelled(checked, &policy.labels) {
+        None => None,
+        Some(label) => Some(FitFault::NoLabel(label)),
+    }
+}
+
+/// What of a policy a source doesn't fit first, or None where it fits: what `fits` answers, with the effects found out where the
+/// policy splits functions, and only there.
+pub fn fit_fault(
+    alloc: Global,
+    policy: &Policy,
+    checked: &Checked,
+) -> Result<Option<FitFault>, NoMemory>
+    requires labels { length (policy_of policy.now).labels ≤ 65535 }
+    requires split { length (policy_of policy.now).split ≤ 65535 }
+    requires few { length checked.now.program.functions.items ≤ 65535 }
+    ensures fits { IfOk result (λ found. IfNone found (Fits checked.now.source.now (file_of checked.now.program) (policy_of policy.now))) }
+    ensures fault { IfOk result (λ found. IfSome found (IsFitFault checked.now.source.now (file_of checked.now.program) (policy_of policy.now))) }
+{
+    if policy.split.is_empty() {
+        return Ok(missing_label(policy, checked));
+    }
+    let table = effects(alloc, checked, policy)?;
+    match fits(policy, checked, &table) {
+        Ok(()) => Ok(None),
+        Err(fault) => Ok(Some(fault)),
     }
 }

@@ -15,5 +15,5 @@ mod table;
 #[cfg(test)]
 mod tests;
 
-pub use fit::{FitFault, fits};
-pub use table::{Effect, EffectTable, effects};
+pub use fit::{FitFault, fit_fault, fits};
+pub use table::{Effect, EffectTable, call_table, effects};

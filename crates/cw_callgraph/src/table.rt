@@ -109,3 +109,18 @@ pub fn effects(alloc: Global, checked: &Checked, policy: &Policy) -> Result<Effe
         of: effects_of(alloc, &table, &bars)?,
     })
 }
+
+/// What each function of a program calls, as in its effects, without the rest of them: an entry for each function, which lists what the
+/// function calls, each function once, in the order of its first call in the text.
+pub fn call_table(
+    alloc: Global,
+    checked: &Checked,
+    policy: &Policy,
+) -> Result<Vec<Vec<u16>>, NoMemory>
+    requires few { length checked.now.program.functions.items ≤ 65535 }
+    ensures count { IfOk result (λ rows. length rows.items ≡ length checked.now.program.functions.items) }
+    ensures calls { IfOk result (λ rows. Each (λ f row. row.items ≡ calls (plan_in checked.now (policy_of policy.now)) f) rows.items) }
+{
+    let rows = all_calls(alloc, checked, policy)?;
+    Ok(rows)
+}

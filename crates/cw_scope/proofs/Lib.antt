@@ -8,3 +8,4 @@ pub mod Once
 pub mod Starting
 pub mod Firsts
 pub mod Seen
+pub mod Without

@@ -120,6 +120,9 @@ fn descriptor_fault(
     requires { IsValid (policy_of policy.now) }
     ensures { IfOk result (λ fault. fault ≡ descriptor_fault checked.now.source.now (file_of checked.now.program) (policy_of policy.now)) }
 {
+    if policy.descriptors.is_empty() {
+        return Ok(None);
+    }
     let source = checked.source;
     let program = &checked.program;
     let statements = every_statement(alloc, program)?;

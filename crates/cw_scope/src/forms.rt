@@ -5,7 +5,7 @@ ghost use Rattle.std.specs.List.{list_any, filter_map};
 ghost use Rattle.std.specs.Option.{option_map};
 ghost use Rattle.cw_syntax.specs.Trees.{Node, none, more, tree_of, trees_of, file_of};
 ghost use Rattle.cw_scope.specs.Walks.{nodes};
-ghost use Rattle.cw_scope.specs.Rules.{least, is_call, defined_call, external_call, statement_call, standing_call, misplaced, second_external, wrong_form};
+ghost use Rattle.cw_scope.specs.Rules.{least, is_call, defined_call, external_call, statement_call, standing_call, misplaced, wrong_form};
 ghost use Rattle.cw_scope.specs.Held.{tree_at, whole_of};
 ghost use Rattle.cw_scope.specs.Known.{IsKnown};
 
@@ -88,23 +88,22 @@ fn holding_call(known: &Functions, call: &Expr, inner: &[&Expr]) -> Option<u32>
     }
 }
 
-/// The least place of a call of a defined function that may not stand where it does in an expression.
+/// The least place of a call of a defined function that may not stand where it does in a whole expression, all of whose expressions
+/// these are.
 fn misplaced(
     alloc: Global,
     known: &Functions,
-    call: Option<&Expr>,
-    tree: &Expr,
+    whole: Whole,
+    all: &[&Expr],
 ) -> Result<Option<u32>, AllocError>
     requires known { IsKnown known.now }
-    ensures { IfOk result (λ place. place ≡ least (misplaced known.now.source.now (file_of known.now.program.now) (option_map tree_at call.entry) (tree_of tree.now))) }
+    requires all { map tree_at all.now ≡ nodes (whole_of whole).tree }
+    ensures { IfOk result (λ place. place ≡ least (misplaced known.now.source.now (file_of known.now.program.now) (standing_call (whole_of whole.entry)) (whole_of whole.entry).tree)) }
 {
-    let mut inner = Vec::new(alloc);
-    match call {
-        None => {
-            put_nodes(tree, &mut inner)?;
-            Ok(defined_calls(known, &inner))
-        }
+    match standing_call(whole) {
+        None => Ok(defined_calls(known, all)),
         Some(call) => {
+            let mut inner = Vec::new(alloc);
             put_parts(&call.parts, &mut inner)?;
             let own = holding_call(known, call, &inner);
             Ok(sooner(own, defined_calls(known, &inner)))
@@ -128,24 +127,27 @@ fn second_call(known: &Functions, nodes: &[&Expr]) -> Option<u32>
     None
 }
 
-/// The second external call of an expression.
-fn second_external(alloc: Global, known: &Functions, tree: &Expr) -> Result<Option<u32>, AllocError>
+/// The least place at which a whole expression, all of whose expressions these are, breaks the rule on the forms of calls.
+fn wrong_form(
+    alloc: Global,
+    known: &Functions,
+    whole: Whole,
+    all: &[&Expr],
+) -> Result<Option<u32>, AllocError>
     requires known { IsKnown known.now }
-    ensures { IfOk result (λ place. place ≡ second_external known.now.source.now (file_of known.now.program.now) (tree_of tree.now)) }
-{
-    let mut all = Vec::new(alloc);
-    put_nodes(tree, &mut all)?;
-    Ok(second_call(known, &all))
-}
-
-/// The least place at which a whole expression breaks the rule on the forms of calls.
-fn wrong_form(alloc: Global, known: &Functions, whole: Whole) -> Result<Option<u32>, AllocError>
-    requires known { IsKnown known.now }
+    requires all { map tree_at all.now ≡ nodes (whole_of whole).tree }
     ensures { IfOk result (λ place. place ≡ wrong_form known.now.source.now (file_of known.now.program.now) (whole_of whole.entry)) }
 {
-    let own = misplaced(alloc, known, standing_call(whole), whole.tree)?;
-    let second = second_external(alloc, known, whole.tree)?;
-    Ok(sooner(own, second))
+    let own = misplaced(alloc, known, whole, all)?;
+    Ok(sooner(own, second_call(known, all)))
+}
+
+/// Lists the expressions of a tree, in place of what was listed.
+fn list_nodes<'p>(tree: &'p Expr, out: &mut Vec<&'p Expr>) -> Result<(), AllocError>
+    ensures { IfOk result (λ _. map tree_at out.new.items ≡ nodes (tree_of tree.now)) }
+{
+    out.clear();
+    put_nodes(tree, out)
 }
 
 /// The least place at which one of these whole expressions does.
@@ -158,9 +160,11 @@ pub(crate) fn wrong_forms(
     requires known { IsKnown known.now }
     ensures { IfOk result (λ place. place ≡ least (map (wrong_form known.now.source.now (file_of known.now.program.now)) (map whole_of wholes.now))) }
 {
+    let mut all = Vec::new(alloc);
     let mut place = None;
     for whole in wholes {
-        place = sooner(place, wrong_form(alloc, known, *whole)?);
+        list_nodes(whole.tree, &mut all)?;
+        place = sooner(place, wrong_form(alloc, known, *whole, &all)?);
     }
     Ok(place)
 }

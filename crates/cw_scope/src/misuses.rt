@@ -105,8 +105,7 @@ fn put_used<'p>(
 ) -> Result<(), AllocError>
     ensures { IfOk result (λ _. map tree_at out.new.items ≡ map tree_at out.old.items ++ used (scene_in checked.now (policy_of policy.now)) (whole_of whole.entry)) }
 {
-    let own = is_own(checked, policy, whole.tree);
-    if whole.stands && own {
+    if whole.stands && is_own(checked, policy, whole.tree) {
         put_parts(&whole.tree.parts, out)?;
     } else {
         put_nodes(whole.tree, out)?;

@@ -9,8 +9,17 @@ use Rattle.cw_scope.specs.Held.{tree_at}
 use Rattle.cw_scope.proofs.Operators.{parts_are}
 use Rattle.cw_scope.proofs.forms.misplaced.Goals as goal
 
-pub returns : goal.returns
-returns c =
+pub returns-in-None : goal.returns-in-None
+returns-in-None c =
+    let source = c.args.known.now.source.now in
+    let file = file_of c.args.known.now.program.now in
+    let tree = tree_of c.args.whole.tree.now in
+    c.defined_calls.ensures
+    ∙ ap (λ l. least (map (defined_call source file) l)) c.requires.all
+    ∙ ap (λ o. least (misplaced source file o tree)) (ap (option_map tree_at) (sym c.in-None.is) ∙ c.standing_call.ensures)
+
+pub returns-in_ok-put_parts-in-Some : goal.returns-in_ok-put_parts-in-Some
+returns-in_ok-put_parts-in-Some c =
     let source = c.args.known.now.source.now in
     let file = file_of c.args.known.now.program.now in
     let call = c.in-Some.call.now in
@@ -19,12 +28,12 @@ returns c =
     let rest = λ (l : List Tree). least (map (defined_call source file) l) in
     let inner =
     c.in_ok-put_parts-in-Some.ensures
-    ∙ ap (λ l. map tree_at l ++ nodes_in (trees_of c.deref-in-Some.result.now)) c.new-inner.ensures.items
-    ∙ ap (λ l. nodes_in (trees_of l)) c.deref-in-Some.ensures.value
+    ∙ ap (λ l. map tree_at l ++ nodes_in (trees_of c.deref.result.now)) c.new-inner.ensures.items
+    ∙ ap (λ l. nodes_in (trees_of l)) c.deref.ensures.value
     in
-    let two = ap (map tree_at) c.deref-in-Some-2.ensures.value ∙ inner in
-    let three = ap (map tree_at) c.deref-in-Some-3.ensures.value ∙ inner in
+    let two = ap (map tree_at) c.deref-in-Some.ensures.value ∙ inner in
+    let three = ap (map tree_at) c.deref-in-Some-2.ensures.value ∙ inner in
     c.sooner.ensures
     ∙ ap₂ sooner (c.holding_call-own.ensures ∙ ap own two) (c.defined_calls-in-Some.ensures ∙ ap rest three)
     ∙ ap (λ (ps : Trees). sooner (own (nodes_in ps)) (rest (nodes_in ps))) (sym (parts_are call))
-    ∙ ap (λ o. least (misplaced source file (option_map tree_at o) (tree_of c.args.tree.now))) (sym c.in-Some.is)
+    ∙ ap (λ o. least (misplaced source file o (tree_of c.args.whole.tree.now))) (ap (option_map tree_at) (sym c.in-Some.is) ∙ c.standing_call.ensures)

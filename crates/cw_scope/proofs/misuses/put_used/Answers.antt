@@ -13,4 +13,4 @@ returns-in_ok-put_parts c =
     c.in_ok-put_parts.ensures
     ∙ ap (λ l. old ++ nodes_in (trees_of l)) c.deref.ensures.value
     ∙ ap (λ ts. old ++ nodes_in ts) (sym (parts_are tree))
-    ∙ ap₂ (λ a b. old ++ cond (a && b) (nodes_in (parts_of (tree_of tree))) (nodes (tree_of tree))) (sym c.if-whole.true) (sym c.if-own.true ∙ c.is_own-own.ensures)
+    ∙ ap₂ (λ a b. old ++ cond (a && b) (nodes_in (parts_of (tree_of tree))) (nodes (tree_of tree))) (sym c.if-whole.true) (sym c.if-is_own.true ∙ c.is_own.ensures)
