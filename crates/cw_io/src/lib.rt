@@ -23,7 +23,7 @@ pub use file_shelf::FileShelf;
 pub use mem_shelf::MemShelf;
 pub use mem_sink::MemSink;
 pub use shelf::Shelf;
-pub use sink::{Sink, put_both};
+pub use sink::{PIECE, Sink};
 pub use stream_sink::StreamSink;
 pub use sure_shelf::SureShelf;
 pub use sure_sink::SureSink;

@@ -3,13 +3,15 @@ ghost use Rattle.std.specs.Prelude.{◌≡◌, ◌<◌, ◌≤◌, [], take, len
 ghost use Rattle.cw_io.specs.Causes.{HasCause, raised};
 ghost use Rattle.cw_io.specs.Pieces.{Grows, Puts};
 
-use crate::{Sink, SinkFault};
+use crate::{PIECE, Sink, SinkFault};
 use std::io;
 use std::io::Write;
 
 /// A writer, as a file or the standard output. It has taken what the writer says that it holds, and the
-/// writers of the system don't say. A put writes the whole piece and flushes. Each error of the writer, and
-/// a write that takes nothing of a piece that isn't empty, raises the count of faults and is `Failed`.
+/// writers of the system don't say. A put writes the whole piece, and flushes unless it has [`PIECE`] bytes: the
+/// last piece of a text has fewer, so a buffered writer below writes long texts in few turns and keeps nothing of
+/// one that is finished. Each error of the writer, and a write that takes nothing of a piece that isn't empty,
+/// raises the count of faults and is `Failed`.
 #[derive(Drop)]
 pub struct StreamSink<W: Write + Drop> {
     writer: W,
@@ -55,12 +57,16 @@ fn write_whole<W: Write>(writer: &mut W, piece: &[u8]) -> io::Result<()>
     Ok(())
 }
 
-/// Writes a whole piece, and flushes.
+/// Writes a whole piece, and flushes if it is a short one.
 fn write_and_flush<W: Write>(writer: &mut W, piece: &[u8]) -> io::Result<()>
     ensures { Puts (W.contents writer.old) (W.contents writer.new) piece.now result }
 {
     write_whole(writer, piece)?;
-    writer.flush()
+    if piece.len() < PIECE {
+        writer.flush()
+    } else {
+        Ok(())
+    }
 }
 
 impl<W: Write + Drop> Sink for StreamSink<W> {
