@@ -40,9 +40,13 @@ woven policy source marks = woven_from policy source 0 marks
 abbrev pub prologue : PlainPolicy → Table → List ℕ
 prologue policy table = part (codes "\n" ++ tables_text policy table)
 
--- the text is the prologue, and then the source with its marks
+-- the woven text: the prologue, and then the source with its marks
+abbrev pub woven_text : List ℕ → List SeamMark → Table → PlainPolicy → List ℕ
+woven_text source marks table policy = prologue policy table ++ woven policy source marks
+
+-- the text is that
 abbrev pub Stands : List ℕ → List ℕ → List SeamMark → Table → PlainPolicy → Type 0
-Stands text source marks table policy = text ≡ prologue policy table ++ woven policy source marks
+Stands text source marks table policy = text ≡ woven_text source marks table policy
 
 -- no name that is spelled has a slash: a name has letters, digits and `_`
 abbrev pub ArePlainNames : PlainPolicy → Type 0

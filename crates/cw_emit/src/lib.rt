@@ -6,4 +6,4 @@ mod marks;
 mod weave;
 
 pub use marks::put_spelling;
-pub use weave::weave_text;
+pub use weave::{put_woven, weave_text};

@@ -1,70 +1,88 @@
 //! Marks as text.
 
-ghost use Rattle.std.specs.Prelude.{◌≡◌, ◌++◌, OnOk, codes};
+ghost use Rattle.std.specs.Prelude.{◌≡◌, ◌++◌, codes};
 ghost use Rattle.std.specs.Fmt.{decimal};
+ghost use Rattle.cw_pieces.specs.Written.{Follows};
 ghost use Rattle.cw_rights.specs.Policies.{policy_of};
 ghost use Rattle.cw_syntax.specs.Marks.{kind_of, mark_of};
 ghost use Rattle.cw_syntax.specs.Names.{text as name_text};
-ghost use Rattle.cw_text.specs.Lines.{with_fields};
 ghost use Rattle.cw_emit.specs.Cut.{part};
 ghost use Rattle.cw_emit.specs.Woven.{spelled, spelling};
 
-use cw_core::{NoMemory, put_dec};
+use cw_io::Sink;
+use cw_pieces::Writer;
 use cw_rights::Policy;
 use cw_syntax::marks::{MarkKind, SeamMark};
 use cw_syntax::program::Name;
-use cw_text::{descriptor_name, put_bytes};
+use cw_text::descriptor_name;
 
 /// Appends a mark between `/*cw{*/` and `/*}cw*/`.
-pub(crate) fn put_mark(
+pub(crate) fn put_mark<S: Sink>(
     mark: &SeamMark,
     source: &[u8],
     policy: &Policy,
-    text: &mut Vec<u8>,
-) -> Result<(), NoMemory>
-    ensures { OnOk result (text.new.items ≡ text.old.items ++ part (spelled (policy_of policy.now) source.now (mark_of mark.now))) }
+    writer: &mut Writer<S>,
+    out: &mut S,
+)
+    requires follows { Follows S.taken S.faults S.refused writer.old out.old }
+    ensures text { writer.new.text ≡ writer.old.text ++ part (spelled (policy_of policy.now) source.now (mark_of mark.now)) }
+    ensures begun { writer.new.begun ≡ writer.old.begun }
+    ensures follows { Follows S.taken S.faults S.refused writer.new out.new }
 {
-    put_bytes(b"/*cw{*/", text)?;
-    put_spelling(mark.seam, mark.kind, source, policy, text)?;
-    put_bytes(b"/*}cw*/", text)
+    writer.put(b"/*cw{*/", out);
+    put_spelling(mark.seam, mark.kind, source, policy, writer, out);
+    writer.put(b"/*}cw*/", out);
 }
 
 /// Appends a mark as it is spelled.
-pub fn put_spelling(
+pub fn put_spelling<S: Sink>(
     seam: u32,
     kind: MarkKind,
     source: &[u8],
     policy: &Policy,
-    text: &mut Vec<u8>,
-) -> Result<(), NoMemory>
-    ensures { OnOk result (text.new.items ≡ text.old.items ++ spelling (policy_of policy.now) source.now seam (kind_of kind)) }
+    writer: &mut Writer<S>,
+    out: &mut S,
+)
+    requires follows { Follows S.taken S.faults S.refused writer.old out.old }
+    ensures text { writer.new.text ≡ writer.old.text ++ spelling (policy_of policy.now) source.now seam (kind_of kind) }
+    ensures begun { writer.new.begun ≡ writer.old.begun }
+    ensures follows { Follows S.taken S.faults S.refused writer.new out.new }
 {
     match kind {
-        MarkKind::Entry => put_seam(b"CW_ENTRY(", seam, b");", text),
-        MarkKind::Label => put_seam(b"CW_LABEL(", seam, b")", text),
+        MarkKind::Entry => put_seam(b"CW_ENTRY(", seam, b");", writer, out),
+        MarkKind::Label => put_seam(b"CW_LABEL(", seam, b")", writer, out),
         MarkKind::Open(descriptor) => {
-            put_named(b"CW_OPEN(", seam, descriptor_name(policy, descriptor), text)
+            let name = descriptor_name(policy, descriptor);
+            put_named(b"CW_OPEN(", seam, name, writer, out)
         }
-        MarkKind::Close => put_seam(b"CW_CLOSE(", seam, b")", text),
-        MarkKind::Call(None) => put_seam(b"CW_CALL(", seam, b")", text),
-        MarkKind::Call(Some(name)) => put_named(b"CW_CALLV(", seam, name_bytes(source, name), text),
+        MarkKind::Close => put_seam(b"CW_CLOSE(", seam, b")", writer, out),
+        MarkKind::Call(None) => put_seam(b"CW_CALL(", seam, b")", writer, out),
+        MarkKind::Call(Some(name)) => {
+            put_named(b"CW_CALLV(", seam, name_bytes(source, name), writer, out)
+        }
     }
 }
 
-fn put_seam(before: &[u8], seam: u32, after: &[u8], text: &mut Vec<u8>) -> Result<(), NoMemory>
-    ensures { OnOk result (text.new.items ≡ text.old.items ++ (before.now ++ (decimal seam ++ after.now))) }
+fn put_seam<S: Sink>(before: &[u8], seam: u32, after: &[u8], writer: &mut Writer<S>, out: &mut S)
+    requires follows { Follows S.taken S.faults S.refused writer.old out.old }
+    ensures text { writer.new.text ≡ writer.old.text ++ (before.now ++ (decimal seam ++ after.now)) }
+    ensures begun { writer.new.begun ≡ writer.old.begun }
+    ensures follows { Follows S.taken S.faults S.refused writer.new out.new }
 {
-    put_bytes(before, text)?;
-    put_dec(u64::from(seam), text)?;
-    put_bytes(after, text)
+    writer.put(before, out);
+    writer.put_number(u64::from(seam), out);
+    writer.put(after, out);
 }
 
-fn put_named(before: &[u8], seam: u32, name: &[u8], text: &mut Vec<u8>) -> Result<(), NoMemory>
-    ensures { OnOk result (text.new.items ≡ text.old.items ++ (before.now ++ (decimal seam ++ (codes "," ++ (name.now ++ codes ")"))))) }
+fn put_named<S: Sink>(before: &[u8], seam: u32, name: &[u8], writer: &mut Writer<S>, out: &mut S)
+    requires follows { Follows S.taken S.faults S.refused writer.old out.old }
+    ensures text { writer.new.text ≡ writer.old.text ++ (before.now ++ (decimal seam ++ (codes "," ++ (name.now ++ codes ")")))) }
+    ensures begun { writer.new.begun ≡ writer.old.begun }
+    ensures follows { Follows S.taken S.faults S.refused writer.new out.new }
 {
-    put_seam(before, seam, b",", text)?;
-    put_bytes(name, text)?;
-    put_bytes(b")", text)
+    put_seam(before, seam, b",", writer, out);
+    writer.put(name, out);
+    writer.put(b")", out);
 }
 
 /// The bytes of a name, as far as the source has them.

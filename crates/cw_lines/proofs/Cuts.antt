@@ -35,7 +35,8 @@ pub done_exactly : (mark : ℕ) (text : List ℕ) (more : Bool) (view : List (Li
 done_exactly mark text true view is = ((λ e. absurd cc), λ e. absurd (some_word mark text (sym is ∙ e)))
 done_exactly mark text false view is = ((λ e. is), λ e. refl)
 
-pub takes_first : (mark : ℕ) (text front rest : List ℕ) (more : Bool) (view : List (List ℕ)) → more ≡ true → view ≡ left mark text more → text ≡ front ++ (mark ∷ rest) → IsFree mark front → view ≡ front ∷ left mark rest more
+pub takes_first : (mark : ℕ) (text front rest : List ℕ) (more : Bool) (view : List (List ℕ)) → more ≡ true → view ≡ left mark text more → text ≡ front ++ (mark ∷ rest)
+    → IsFree mark front → view ≡ front ∷ left mark rest more
 takes_first mark text front rest true view on is e free = is ∙ words_first mark text front rest e free
 takes_first mark text front rest false view on is e free = absurd cc
 

@@ -22,7 +22,8 @@ no_number word most small none = record {
   none = λ n fits e. none n (number_stands word n (omega (arith, small, fits)) e);
 }
 
-pub another_number : (word : List ℕ) (most number after : ℕ) → most < 2 ^ 64 → IsDecimalAt word 0 number → after ≡ 0 + length (decimal number) → (after < length word) ⊎ (most < number) → Reads (λ n. n ≤ most) decimal word None
+pub another_number : (word : List ℕ) (most number after : ℕ) → most < 2 ^ 64 → IsDecimalAt word 0 number → after ≡ 0 + length (decimal number) → (after < length word) ⊎ (most < number)
+    → Reads (λ n. n ≤ most) decimal word None
 another_number word most number after small stands is differs = record {
   some = tt;
   none = λ n fits e.
@@ -45,7 +46,8 @@ no_mask word none = record {
   none = λ set fits e. none set (mask_stands word set (wider set fits) e);
 }
 
-pub another_mask : (word : List ℕ) (set after : ℕ) → IsSetAt word 0 set → after ≡ 0 + length (hexadecimal set) → (after < length word) ⊎ (IsBelow 512 set → ⊥) → Reads (IsBelow 512) hexadecimal word None
+pub another_mask : (word : List ℕ) (set after : ℕ) → IsSetAt word 0 set → after ≡ 0 + length (hexadecimal set) → (after < length word) ⊎ (IsBelow 512 set → ⊥)
+    → Reads (IsBelow 512) hexadecimal word None
 another_mask word set after stands is differs = record {
   some = tt;
   none = λ other fits e.
@@ -83,7 +85,8 @@ in_format_2 format word read is reads = rw is reads
 
 pub in_format_1 : (format : ℕ) (word : List ℕ) (read : Option ℕ) → format ≢ 2 → Reads (IsBelow 512) hexadecimal word read → Reads (IsSetIn format) (set_text format) word read
 unfolding set_text
-in_format_1 format word read differs reads = subst (λ (t : Bool). Reads (IsBelow (cond t 1024 512)) (λ (s : ℕ). cond t (set_spelling s) (hexadecimal s)) word read) (sym (ne_eqb format 2 differs)) reads
+in_format_1 format word read differs reads = subst (λ (t : Bool). Reads (IsBelow (cond t 1024 512)) (λ (s : ℕ). cond t (set_spelling s) (hexadecimal s)) word read)
+    (sym (ne_eqb format 2 differs)) reads
 
 -- the empty set as format 2 spells it
 pub the_empty_set : Reads (IsBelow 1024) set_spelling (codes "0x0") (Some 0)

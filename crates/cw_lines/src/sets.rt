@@ -1,19 +1,24 @@
 //! Sets in a text of a format.
 
-ghost use Rattle.std.specs.Prelude.{◌≡◌, ◌++◌, OnErr, OnOk};
+ghost use Rattle.std.specs.Prelude.{◌≡◌, ◌++◌};
+ghost use Rattle.cw_pieces.specs.Written.{Follows};
 ghost use Rattle.cw_lines.specs.Lines.{set_text};
 
-use cw_core::{NoMemory, StateSet, put_hex, put_ranges};
+use cw_core::StateSet;
+use cw_io::Sink;
+use cw_pieces::Writer;
 
-/// Appends a set as a text of this format spells it. Where the text can't grow, it is as before.
+/// Appends a set as a text of this format spells it.
 #[tactic(auto, unfolding(crate::specs::Lines::set_text))]
-pub fn put_set(set: &StateSet, format: u8, text: &mut Vec<u8>) -> Result<(), NoMemory>
-    ensures written { OnOk result (text.new.items ≡ text.old.items ++ set_text format set.now) }
-    ensures refused { OnErr result (text.new.items ≡ text.old.items) }
+pub fn put_set<S: Sink>(set: &StateSet, format: u8, writer: &mut Writer<S>, out: &mut S)
+    requires follows { Follows S.taken S.faults S.refused writer.old out.old }
+    ensures text { writer.new.text ≡ writer.old.text ++ set_text format set.now }
+    ensures begun { writer.new.begun ≡ writer.old.begun }
+    ensures follows { Follows S.taken S.faults S.refused writer.new out.new }
 {
     if format == 2 {
-        put_ranges(set, text)
+        writer.put_ranges(set, out);
     } else {
-        put_hex(set, text)
+        writer.put_mask(set, out);
     }
 }

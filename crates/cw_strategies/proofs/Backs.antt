@@ -39,7 +39,8 @@ one_back a b fits also e =
 pub no_state : (word : List ℕ) → ((n : ℕ) (rest : List (List ℕ)) → n < 2 ^ 16 → words_of 61 word ≢ decimal n ∷ rest) → Reads FitsBack back_word word None
 no_state word none = record { some = tt; none = λ back fits e. none back.0 (decimal back.1 ∷ []) fits.0 (words_of_back word back fits e) }
 
-pub no_row : (word : List ℕ) (exit : ℕ) (left : List (List ℕ)) → words_of 61 word ≡ decimal exit ∷ left → ((n : ℕ) (rest : List (List ℕ)) → n < 2 ^ 32 → left ≢ decimal n ∷ rest) → Reads FitsBack back_word word None
+pub no_row : (word : List ℕ) (exit : ℕ) (left : List (List ℕ)) → words_of 61 word ≡ decimal exit ∷ left → ((n : ℕ) (rest : List (List ℕ)) → n < 2 ^ 32 → left ≢ decimal n ∷ rest)
+    → Reads FitsBack back_word word None
 no_row word exit left is none = record { some = tt; none = λ back fits e. none back.1 [] fits.1 (ap others (sym is ∙ words_of_back word back fits e)) }
   where
     others : List (List ℕ) → List (List ℕ)
@@ -53,7 +54,8 @@ no_end word exit row left more is also some = record { some = tt; none = λ back
     others [] = []
     others (x ∷ xs) = xs
 
-pub a_back : (word : List ℕ) (exit row : ℕ) (left more : List (List ℕ)) → exit < 2 ^ 16 → row < 2 ^ 32 → words_of 61 word ≡ decimal exit ∷ left → left ≡ decimal row ∷ more → more ≡ [] → Reads FitsBack back_word word (Some (exit, row))
+pub a_back : (word : List ℕ) (exit row : ℕ) (left more : List (List ℕ)) → exit < 2 ^ 16 → row < 2 ^ 32 → words_of 61 word ≡ decimal exit ∷ left → left ≡ decimal row ∷ more → more ≡ []
+    → Reads FitsBack back_word word (Some (exit, row))
 a_back word exit row left more small also is then done =
     let parts : words_of 61 word ≡ decimal exit ∷ decimal row ∷ [] = is ∙ ap (λ (ws : List (List ℕ)). decimal exit ∷ ws) (then ∙ ap (λ (ws : List (List ℕ)). decimal row ∷ ws) done) in
     record {
@@ -124,7 +126,8 @@ at_none whole left read low word rest keeps e reads = record {
 }
 
 -- the next back doesn't ascend
-pub at_low : (whole left : List (List ℕ)) (read : List (ℕ × ℕ)) (low exit row : ℕ) (word : List ℕ) (rest : List (List ℕ)) → Keeps whole left read low → left ≡ word ∷ rest → Reads FitsBack back_word word (Some (exit, row))
+pub at_low : (whole left : List (List ℕ)) (read : List (ℕ × ℕ)) (low exit row : ℕ) (word : List ℕ) (rest : List (List ℕ)) → Keeps whole left read low → left ≡ word ∷ rest
+    → Reads FitsBack back_word word (Some (exit, row))
     → exit < low → Reads (AreBacks 0) (map back_word) whole None
 at_low whole left read low exit row word rest keeps e reads under = record {
   some = tt;
@@ -138,7 +141,8 @@ at_low whole left read low exit row word rest keeps e reads under = record {
 }
 
 -- one back more
-pub at_next : (whole left : List (List ℕ)) (read : List (ℕ × ℕ)) (low exit row : ℕ) (word : List ℕ) (rest : List (List ℕ)) → Keeps whole left read low → left ≡ word ∷ rest → Reads FitsBack back_word word (Some (exit, row))
+pub at_next : (whole left : List (List ℕ)) (read : List (ℕ × ℕ)) (low exit row : ℕ) (word : List ℕ) (rest : List (List ℕ)) → Keeps whole left read low → left ≡ word ∷ rest
+    → Reads FitsBack back_word word (Some (exit, row))
     → low ≤ exit → Keeps whole rest (read ++ (exit, row) ∷ []) (exit + 1)
 at_next whole left read low exit row word rest keeps e reads up = record {
   bound = let p = reads.some.0.0 in omega (arith, p);
@@ -161,8 +165,10 @@ at_next whole left read low exit row word rest keeps e reads up = record {
       };
 }
 
-pub more_backs : (whole left : List (List ℕ)) (old new : List (StateId × ℕ)) (exit row low : ℕ) → new ≡ old ++ (record { 0 = exit }, row) ∷ [] → low ≡ exit → Keeps whole left (backs_of old ++ (exit, row) ∷ []) (exit + 1)
+pub more_backs : (whole left : List (List ℕ)) (old new : List (StateId × ℕ)) (exit row low : ℕ) → new ≡ old ++ (record { 0 = exit }, row) ∷ [] → low ≡ exit
+    → Keeps whole left (backs_of old ++ (exit, row) ∷ []) (exit + 1)
     → Keeps whole left (backs_of new) (low + 1)
 more_backs whole left old new exit row low e is keeps =
-    let both : backs_of (old ++ (record { 0 = exit }, row) ∷ []) ≡ backs_of old ++ (exit, row) ∷ [] = map-append {B = ℕ × ℕ} (λ (b : StateId × ℕ). (b.0.0, b.1)) old ((record { 0 = exit }, row) ∷ []) in
+    let both : backs_of (old ++ (record { 0 = exit }, row) ∷ []) ≡ backs_of old ++ (exit, row) ∷ [] =
+    map-append {B = ℕ × ℕ} (λ (b : StateId × ℕ). (b.0.0, b.1)) old ((record { 0 = exit }, row) ∷ []) in
     rw (e, is, both) keeps

@@ -45,7 +45,8 @@ front_first format text after rest states small e is = record {
   spelled = e ∙ ap (λ (t : List ℕ). head_line format ++ t) is;
 }
 
-pub front_next : (format : ℕ) (text : List ℕ) (states : ℕ) (rows : List Row) (rest more : List ℕ) (r : Row) → Begins format text states rows rest → HasRow format rest (length rows) r more → row_count rows + rows_in r.how ≤ 65536
+pub front_next : (format : ℕ) (text : List ℕ) (states : ℕ) (rows : List Row) (rest more : List ℕ) (r : Row) → Begins format text states rows rest
+    → HasRow format rest (length rows) r more → row_count rows + rows_in r.how ≤ 65536
     → Begins format text states (rows ++ r ∷ []) more
 front_next format text states rows rest more r front stands few = record {
   fits = record {
@@ -55,7 +56,8 @@ front_next format text states rows rest more r front stands few = record {
   };
   spelled =
       let zeroth : 0 + length rows ≡ length rows = omega arith in
-      let both : row_lines format 0 (rows ++ r ∷ []) ≡ row_lines format 0 rows ++ row_line format (length rows) r = row_lines-append format 0 rows r ∙ ap (λ (k : ℕ). row_lines format 0 rows ++ row_line format k r) zeroth in
+      let both : row_lines format 0 (rows ++ r ∷ []) ≡ row_lines format 0 rows ++ row_line format (length rows) r = row_lines-append format 0 rows r
+      ∙ ap (λ (k : ℕ). row_lines format 0 rows ++ row_line format k r) zeroth in
       front.spelled
       ∙ ap (λ (t : List ℕ). head_line format ++ (states_line states ++ t))
       (ap (λ (t : List ℕ). row_lines format 0 rows ++ t) stands.spelled
@@ -63,7 +65,8 @@ front_next format text states rows rest more r front stands few = record {
       ∙ ap (λ (t : List ℕ). t ++ more) (sym both));
 }
 
-pub front_end : (format : ℕ) (text : List ℕ) (states : ℕ) (rows : List Row) (rest : List ℕ) → Begins format text states rows rest → rest ≡ end_line → Spells format text (record { states = states; rows = rows })
+pub front_end : (format : ℕ) (text : List ℕ) (states : ℕ) (rows : List Row) (rest : List ℕ) → Begins format text states rows rest → rest ≡ end_line
+    → Spells format text (record { states = states; rows = rows })
 unfolding strategy_text
 front_end format text states rows rest front e = record {
   fits = front.fits;
@@ -71,7 +74,8 @@ front_end format text states rows rest front e = record {
 }
 
 -- the fault of the rest is the fault of the text
-pub front_fault : (format : ℕ) (text : List ℕ) (states : ℕ) (rows : List Row) (rest : List ℕ) (count : ℕ) (fault : TextFault) → Begins format text states rows rest → count ≡ row_count rows → IsStepFault format rest (length rows) count fault → IsCause format text fault
+pub front_fault : (format : ℕ) (text : List ℕ) (states : ℕ) (rows : List Row) (rest : List ℕ) (count : ℕ) (fault : TextFault) → Begins format text states rows rest
+    → count ≡ row_count rows → IsStepFault format rest (length rows) count fault → IsCause format text fault
 front_fault format text states rows rest count (Line n) front e (inl h) = rw h.0 (no_row states rows rest front h.1.over h.1.row)
 front_fault format text states rows rest count (Line n) front e (inr h) = rw h.0 (no_end states rows rest h.1.more front h.1.text h.1.some)
 front_fault format text states rows rest count (Order n) front e h = rw h.0 (no_order states rows rest h.1.number h.1.row h.1.more front h.1.stands h.1.differs)
@@ -93,12 +97,14 @@ few_rows format text states rows rest n front e = let p = rows_within (map row_o
 rows_more : (old new : List EnvRow) (r : EnvRow) → new ≡ old ++ r ∷ [] → map row_of new ≡ map row_of old ++ row_of r ∷ []
 rows_more old new r e = ap (map row_of) e ∙ map-append row_of old (r ∷ [])
 
-pub front_more : (format : ℕ) (text : List ℕ) (states : ℕ) (old new : List EnvRow) (rest more : List ℕ) (r : EnvRow) (n count : ℕ) → Begins format text states (map row_of old) rest → n ≡ length old → count ≡ row_count (map row_of old) → new ≡ old ++ r ∷ []
+pub front_more : (format : ℕ) (text : List ℕ) (states : ℕ) (old new : List EnvRow) (rest more : List ℕ) (r : EnvRow) (n count : ℕ) → Begins format text states (map row_of old) rest
+    → n ≡ length old → count ≡ row_count (map row_of old) → new ≡ old ++ r ∷ []
     → HasRow format rest n (row_of r) more → count + rows_in (row_of r).how ≤ 65536 → Begins format text states (map row_of new) more
 front_more format text states old new rest more r n count front len counted e stands few =
     rw (rows_more old new r e) (front_next format text states (map row_of old) rest more (row_of r) front (rw (at_length old n len) at stands) (omega (arith, counted, few)))
 
-pub count_more : (old new : List EnvRow) (r : EnvRow) (count added : ℕ) → count ≡ row_count (map row_of old) → added ≡ rows_in (row_of r).how → new ≡ old ++ r ∷ [] → count + added ≡ row_count (map row_of new)
+pub count_more : (old new : List EnvRow) (r : EnvRow) (count added : ℕ) → count ≡ row_count (map row_of old) → added ≡ rows_in (row_of r).how → new ≡ old ++ r ∷ []
+    → count + added ≡ row_count (map row_of new)
 count_more old new r count added counted is e =
     let p = row_count-append (map row_of old) (row_of r) in
     let q : row_count (map row_of new) ≡ row_count (map row_of old ++ row_of r ∷ []) = ap row_count (rows_more old new r e) in

@@ -26,9 +26,11 @@ fits_kind (Into callee backs) fits = tt
 -- the kind of a word
 kind_from : List ℕ → Option Kind
 kind_from word =
-    cond (bytes_eq word (codes "bad")) (Some kind.Bad) (cond (bytes_eq word (codes "out")) (Some kind.Out) (cond (bytes_eq word (codes "both")) (Some kind.Both) (cond (bytes_eq word (codes "into")) (Some kind.Into)
+    cond (bytes_eq word (codes "bad")) (Some kind.Bad)
+    (cond (bytes_eq word (codes "out")) (Some kind.Out) (cond (bytes_eq word (codes "both")) (Some kind.Both) (cond (bytes_eq word (codes "into")) (Some kind.Into)
     (cond (bytes_eq word (codes "grant")) (Some (kind.Go Grant)) (cond (bytes_eq word (codes "refuse")) (Some (kind.Go Refuse)) (cond (bytes_eq word (codes "on")) (Some (kind.Go On))
-    (cond (bytes_eq word (codes "left")) (Some (kind.Go Left)) (cond (bytes_eq word (codes "right")) (Some (kind.Go Right)) (cond (bytes_eq word (codes "opened")) (Some (kind.Go Opened)) (Some (kind.Go Failed)))))))))))
+    (cond (bytes_eq word (codes "left")) (Some (kind.Go Left))
+    (cond (bytes_eq word (codes "right")) (Some (kind.Go Right)) (cond (bytes_eq word (codes "opened")) (Some (kind.Go Opened)) (Some (kind.Go Failed)))))))))))
 
 kind_back : (k : Kind) → FitsKind k → kind_from (kind_word k) ≡ Some k
 unfolding kind_from
@@ -75,7 +77,8 @@ no_words whole e = record { some = tt; none = λ how fits is. let bad : kind_wor
 pub no_kind : (whole : List (List ℕ)) (word : List ℕ) (rest : List (List ℕ)) → whole ≡ word ∷ rest → Reads FitsKind kind_word word None → Reads FitsHow how_words whole None
 no_kind whole word rest e reads = record { some = tt; none = λ how fits is. reads.none (kind_of_how how) (fits_kind how fits) (first_word how word rest (is ∙ e)).0 }
 
-pub of_kind : (whole : List (List ℕ)) (word : List ℕ) (rest : List (List ℕ)) (k : Kind) (read : Option How) → whole ≡ word ∷ rest → Reads FitsKind kind_word word (Some k) → Reads (IsOf k) rest_words rest read → Reads FitsHow how_words whole read
+pub of_kind : (whole : List (List ℕ)) (word : List ℕ) (rest : List (List ℕ)) (k : Kind) (read : Option How) → whole ≡ word ∷ rest → Reads FitsKind kind_word word (Some k)
+    → Reads (IsOf k) rest_words rest read → Reads FitsHow how_words whole read
 of_kind whole word rest k None e named reads = record {
   some = tt;
   none = λ how fits is.

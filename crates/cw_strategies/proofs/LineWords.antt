@@ -129,7 +129,8 @@ pub head_some : (text l rest : List ℕ) (format : ℕ) → text ≡ l ++ (10 �
 head_some text l rest format e is = rw (is_head_line format) (to_line text l rest (head_words format) e is)
 
 -- a text that begins with the head has its words in its first line
-pub head_from : (text l rest more : List ℕ) (format : ℕ) → format < 2 ^ 32 → text ≡ l ++ (10 ∷ rest) → IsFree 10 l → text ≡ head_line format ++ more → (words_of 32 l ≡ head_words format) × (rest ≡ more)
+pub head_from : (text l rest more : List ℕ) (format : ℕ) → format < 2 ^ 32 → text ≡ l ++ (10 ∷ rest) → IsFree 10 l → text ≡ head_line format ++ more
+    → (words_of 32 l ≡ head_words format) × (rest ≡ more)
 head_from text l rest more format small e free is =
     from_line text l rest more (codes "capweave") (codes "strategy" ∷ decimal format ∷ []) e free (head_free 10 lf format small) (head_free 32 space format small) (rw (is_head_line format) at is)
 
@@ -148,7 +149,8 @@ one_head a b small also e = decimal_injective a b (omega (arith, small)) (omega 
 pub states_some : (text l rest : List ℕ) (states : ℕ) → text ≡ l ++ (10 ∷ rest) → words_of 32 l ≡ states_words states → text ≡ states_line states ++ rest
 states_some text l rest states e is = rw (is_states_line states) (to_line text l rest (states_words states) e is)
 
-pub states_from : (text l rest more : List ℕ) (states : ℕ) → states < 2 ^ 32 → text ≡ l ++ (10 ∷ rest) → IsFree 10 l → text ≡ states_line states ++ more → (words_of 32 l ≡ states_words states) × (rest ≡ more)
+pub states_from : (text l rest more : List ℕ) (states : ℕ) → states < 2 ^ 32 → text ≡ l ++ (10 ∷ rest) → IsFree 10 l → text ≡ states_line states ++ more
+    → (words_of 32 l ≡ states_words states) × (rest ≡ more)
 states_from text l rest more states small e free is =
     from_line text l rest more (codes "states") (decimal states ∷ []) e free (states_free 10 lf states small) (states_free 32 space states small) (rw (is_states_line states) at is)
 

@@ -82,7 +82,8 @@ record Further (format : ℕ) (shorter longer : List Row) (rest : List ℕ) (n :
   tail : List ℕ
   stands : HasRow format rest (n + length shorter) row tail
 
-at_once : (format n : ℕ) (r : Row) (rows : List Row) (rest more : List ℕ) → n + length (r ∷ rows) ≤ 65536 → All (FitsRow format) (r ∷ rows) → rest ≡ row_lines format n (r ∷ rows) ++ more → Further format [] (r ∷ rows) rest n
+at_once : (format n : ℕ) (r : Row) (rows : List Row) (rest more : List ℕ) → n + length (r ∷ rows) ≤ 65536 → All (FitsRow format) (r ∷ rows)
+    → rest ≡ row_lines format n (r ∷ rows) ++ more → Further format [] (r ∷ rows) rest n
 unfolding row_lines
 at_once format n r rows rest more few fits e = record {
   row = r;
@@ -105,7 +106,8 @@ later format n r s shorter longer rest e f = record {
   stands = let place : (n + 1) + length shorter ≡ n + suc (length shorter) = omega arith in rw place at f.stands;
 }
 
-first_row : (format n : ℕ) (r : Row) (rows : List Row) (rest : List ℕ) → n + length (r ∷ rows) ≤ 65536 → All (FitsRow format) (r ∷ rows) → HasRow format (row_lines format n (r ∷ rows) ++ rest) n r (row_lines format (n + 1) rows ++ rest)
+first_row : (format n : ℕ) (r : Row) (rows : List Row) (rest : List ℕ) → n + length (r ∷ rows) ≤ 65536 → All (FitsRow format) (r ∷ rows)
+    → HasRow format (row_lines format n (r ∷ rows) ++ rest) n r (row_lines format (n + 1) rows ++ rest)
 unfolding row_lines
 first_row format n r rows rest few fits = record {
   small = omega (arith, few);
@@ -117,7 +119,8 @@ from_none : (format n : ℕ) (rest text : List ℕ) → row_lines format n [] ++
 unfolding row_lines
 from_none format n rest text e = e
 
-walk : (format n : ℕ) (xs ys : List Row) (rest more : List ℕ) → n + length xs ≤ 65536 → n + length ys ≤ 65536 → All (FitsRow format) xs → All (FitsRow format) ys → row_lines format n xs ++ rest ≡ row_lines format n ys ++ more
+walk : (format n : ℕ) (xs ys : List Row) (rest more : List ℕ) → n + length xs ≤ 65536 → n + length ys ≤ 65536 → All (FitsRow format) xs → All (FitsRow format) ys
+    → row_lines format n xs ++ rest ≡ row_lines format n ys ++ more
     → ((xs ≡ ys) × (rest ≡ more)) ⊎ (Further format xs ys rest n ⊎ Further format ys xs more n)
 walk format n [] [] rest more few also fits well e = inl (refl, append_cancel_left (row_lines format n []) rest more e)
 walk format n [] (y ∷ ys) rest more few also fits well e = inr (inl (at_once format n y ys rest more also well (from_none format n rest (row_lines format n (y ∷ ys) ++ more) e)))
@@ -154,7 +157,8 @@ stuck format xs ys rest k s f few =
 one_front : (format : ℕ) (text : List ℕ) (s t : ℕ) (xs ys : List Row) (rest more : List ℕ) (k l : Stop) → Begins format text s xs rest → Begins format text t ys more
     → Stops format (length xs) (row_count xs) rest k → Stops format (length ys) (row_count ys) more l → (s ≡ t) × (xs ≡ ys) × (k ≡ l)
 one_front format text s t xs ys rest more k l front other stop end =
-    let after : states_line s ++ (row_lines format 0 xs ++ rest) ≡ states_line t ++ (row_lines format 0 ys ++ more) = append_cancel_left (head_line format) (states_line s ++ (row_lines format 0 xs ++ rest)) (states_line t ++ (row_lines format 0 ys ++ more)) (sym front.spelled ∙ other.spelled) in
+    let after : states_line s ++ (row_lines format 0 xs ++ rest) ≡ states_line t ++ (row_lines format 0 ys ++ more) =
+    append_cancel_left (head_line format) (states_line s ++ (row_lines format 0 xs ++ rest)) (states_line t ++ (row_lines format 0 ys ++ more)) (sym front.spelled ∙ other.spelled) in
     let states = one_states (states_line s ++ (row_lines format 0 xs ++ rest)) (row_lines format 0 xs ++ rest) (row_lines format 0 ys ++ more) s t front.fits.states other.fits.states refl after in
     let few = front.fits.few in
     let also = other.fits.few in
@@ -191,9 +195,11 @@ one_seen format text a b (at_head h) (at_states rest e g) = absurd (h rest e)
 one_seen format text a b (at_head h) (past t ys more l other end) = absurd (h (states_line t ++ (row_lines format 0 ys ++ more)) other.spelled)
 one_seen format text a b (at_states rest e g) (at_head h) = absurd (h rest e)
 one_seen format text a b (at_states rest e g) (at_states more f h) = refl
-one_seen format text a b (at_states rest e g) (past t ys more l other end) = absurd (g t (row_lines format 0 ys ++ more) other.fits.states (append_cancel_left (head_line format) rest (states_line t ++ (row_lines format 0 ys ++ more)) (sym e ∙ other.spelled)))
+one_seen format text a b (at_states rest e g) (past t ys more l other end) =
+    absurd (g t (row_lines format 0 ys ++ more) other.fits.states (append_cancel_left (head_line format) rest (states_line t ++ (row_lines format 0 ys ++ more)) (sym e ∙ other.spelled)))
 one_seen format text a b (past s xs rest k front stop) (at_head h) = absurd (h (states_line s ++ (row_lines format 0 xs ++ rest)) front.spelled)
-one_seen format text a b (past s xs rest k front stop) (at_states more e g) = absurd (g s (row_lines format 0 xs ++ rest) front.fits.states (append_cancel_left (head_line format) more (states_line s ++ (row_lines format 0 xs ++ rest)) (sym e ∙ front.spelled)))
+one_seen format text a b (past s xs rest k front stop) (at_states more e g) =
+    absurd (g s (row_lines format 0 xs ++ rest) front.fits.states (append_cancel_left (head_line format) more (states_line s ++ (row_lines format 0 xs ++ rest)) (sym e ∙ front.spelled)))
 one_seen format text a b (past s xs rest k front stop) (past t ys more l other end) =
     let p = one_front format text s t xs ys rest more k l front other stop end in
     rw (p.0, p.1, p.2) refl
@@ -208,8 +214,10 @@ seen_fault format text fault (no_head h) = at_head h
 seen_fault format text fault (no_states rest e h) = at_states rest e h
 seen_fault format text fault (no_row states rows rest front none row) = past states rows rest nothing front (record { over = none; row = row })
 seen_fault format text fault (no_end states rows rest more front e some) = past states rows rest beyond front (record { more = more; text = e; some = some })
-seen_fault format text fault (no_order states rows rest number row more front stands differs) = past states rows rest another front (record { number = number; row = row; more = more; stands = stands; differs = differs })
-seen_fault format text fault (no_room states rows rest number row more front stands next large) = past states rows rest many front (record { row = row; more = more; stands = rw next at stands; many = large })
+seen_fault format text fault (no_order states rows rest number row more front stands differs) =
+    past states rows rest another front (record { number = number; row = row; more = more; stands = stands; differs = differs })
+seen_fault format text fault (no_room states rows rest number row more front stands next large) =
+    past states rows rest many front (record { row = row; more = more; stands = rw next at stands; many = large })
 
 seen : (format : ℕ) (text : List ℕ) (a : Result Strategy TextFault) → IsAnswer format text a → Seen format text a
 unfolding outcome
@@ -231,7 +239,8 @@ same_ok a b e = ap (strategy_or a) e
     strategy_or other (Ok s) = s
     strategy_or other (Err fault) = other
 
-pub again_same : (format : ℕ) (text : List ℕ) (s : Strategy) (read : Result EnvCert TextFault) → text ≡ strategy_text format s → Fits format s → IfOk read (λ cert. Spells format text (strategy_of cert)) → IfOk read (λ cert. strategy_of cert ≡ s)
+pub again_same : (format : ℕ) (text : List ℕ) (s : Strategy) (read : Result EnvCert TextFault) → text ≡ strategy_text format s → Fits format s
+    → IfOk read (λ cert. Spells format text (strategy_of cert)) → IfOk read (λ cert. strategy_of cert ≡ s)
 again_same format text s (Ok cert) e fits h = same_ok (strategy_of cert) s (one_answer format text (Ok (strategy_of cert)) (Ok s) h (printed format text s e fits))
 again_same format text s (Err fault) e fits h = tt
 
@@ -242,7 +251,8 @@ no_fault format text s fault e fits h = absurd (false≢true (ap is_ok (one_answ
     is_ok (Ok t) = true
     is_ok (Err f) = false
 
-pub again_memory : (format : ℕ) (text : List ℕ) (s : Strategy) (read : Result EnvCert TextFault) → text ≡ strategy_text format s → Fits format s → IfErr read (λ fault. IsCause format text fault) → IfErr read (λ fault. fault ≡ NoMemory)
+pub again_memory : (format : ℕ) (text : List ℕ) (s : Strategy) (read : Result EnvCert TextFault) → text ≡ strategy_text format s → Fits format s
+    → IfErr read (λ fault. IsCause format text fault) → IfErr read (λ fault. fault ≡ NoMemory)
 again_memory format text s (Ok cert) e fits h = tt
 again_memory format text s (Err (Line n)) e fits h = absurd (no_fault format text s (Line n) e fits h)
 again_memory format text s (Err (Order n)) e fits h = absurd (no_fault format text s (Order n) e fits h)

@@ -81,7 +81,8 @@ one_how a b fits also e =
 same_row : (a b : Row) → a.pos ≡ b.pos → a.state ≡ b.state → a.aim ≡ b.aim → a.how ≡ b.how → a ≡ b
 same_row a b e f g h = rw (e, f, g, h) refl
 
-one_words : (format number other : ℕ) (a b : Row) → number < 2 ^ 32 → other < 2 ^ 32 → FitsRow format a → FitsRow format b → row_words format number a ≡ row_words format other b → (number ≡ other) × (a ≡ b)
+one_words : (format number other : ℕ) (a b : Row) → number < 2 ^ 32 → other < 2 ^ 32 → FitsRow format a → FitsRow format b → row_words format number a ≡ row_words format other b
+    → (number ≡ other) × (a ≡ b)
 unfolding head tail
 one_words format number other a b small low fits also e =
     let second : tail (row_words format number a) ≡ tail (row_words format other b) = ap tail e in
@@ -95,7 +96,8 @@ one_words format number other a b small low fits also e =
     )
 
 -- a text begins with the line of one row at most
-pub one_row : (format : ℕ) (text : List ℕ) (number other : ℕ) (a b : Row) (rest more : List ℕ) → HasRow format text number a rest → HasRow format text other b more → (number ≡ other) × (a ≡ b) × (rest ≡ more)
+pub one_row : (format : ℕ) (text : List ℕ) (number other : ℕ) (a b : Row) (rest more : List ℕ) → HasRow format text number a rest → HasRow format text other b more
+    → (number ≡ other) × (a ≡ b) × (rest ≡ more)
 one_row format text number other a b rest more h k =
     let fits : FitsNamed format (number, a) = record { number = h.small; row = h.fits } in
     let also : FitsNamed format (other, b) = record { number = k.small; row = k.fits } in
@@ -109,7 +111,8 @@ one_row format text number other a b rest more h k =
 pub no_end_row : (format : ℕ) (text : List ℕ) (number : ℕ) (r : Row) (rest more : List ℕ) → HasRow format text number r rest → text ≡ end_line ++ more → ⊥
 no_end_row format text number r rest more h e =
     let fits : FitsNamed format (number, r) = record { number = h.small; row = h.fits } in
-    let p = one_line 10 (row_text format (number, r)) (codes "end") rest more (row_text_free format (number, r) fits) end_free (sym (line_of_row format number r rest) ∙ sym h.spelled ∙ e ∙ line_of_end more) in
+    let p = one_line 10 (row_text format (number, r)) (codes "end") rest more (row_text_free format (number, r) fits) end_free
+    (sym (line_of_row format number r rest) ∙ sym h.spelled ∙ e ∙ line_of_end more) in
     let words : row_words format number r ≡ codes "end" ∷ [] = sym (words_of_row format (number, r) (row_text format (number, r)) fits refl) ∙ ap (words_of 32) p.0 in
     omega (arith, ap length words)
 
@@ -120,9 +123,11 @@ one_end text rest more e f = append_cancel_left end_line rest more (sym e ∙ f)
 pub one_states : (text rest more : List ℕ) (a b : ℕ) → a < 2 ^ 16 → b < 2 ^ 16 → text ≡ states_line a ++ rest → text ≡ states_line b ++ more → (a ≡ b) × (rest ≡ more)
 unfolding head tail
 one_states text rest more a b small also e f =
-    let p = one_line 10 (joined 32 (states_words a)) (joined 32 (states_words b)) rest more (joined_free 32 10 refl (states_words a) (states_free 10 lf a (omega (arith, small)))) (joined_free 32 10 refl (states_words b) (states_free 10 lf b (omega (arith, also))))
+    let p = one_line 10 (joined 32 (states_words a)) (joined 32 (states_words b)) rest more (joined_free 32 10 refl (states_words a) (states_free 10 lf a (omega (arith, small))))
+    (joined_free 32 10 refl (states_words b) (states_free 10 lf b (omega (arith, also))))
     (sym (states_text a rest) ∙ sym e ∙ f ∙ states_text b more) in
-    let words : states_words a ≡ states_words b = sym (words-joined 32 (codes "states") (decimal a ∷ []) (states_free 32 space a (omega (arith, small)))) ∙ ap (words_of 32) p.0 ∙ words-joined 32 (codes "states") (decimal b ∷ []) (states_free 32 space b (omega (arith, also))) in
+    let words : states_words a ≡ states_words b = sym (words-joined 32 (codes "states") (decimal a ∷ []) (states_free 32 space a (omega (arith, small)))) ∙ ap (words_of 32) p.0
+    ∙ words-joined 32 (codes "states") (decimal b ∷ []) (states_free 32 space b (omega (arith, also))) in
     (one_number a b (omega (arith, small)) (omega (arith, also)) (ap (λ ws. head (tail ws)) words), p.1)
   where
     states_text : (n : ℕ) (t : List ℕ) → states_line n ++ t ≡ joined 32 (states_words n) ++ (10 ∷ t)

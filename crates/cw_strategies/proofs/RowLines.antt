@@ -20,7 +20,8 @@ words_of_row format named text fits e =
     (row_free 32 space format named.0 named.1 fits.number fits.row))
 
 pub no_place : (format : ℕ) (text : List ℕ)
-    → ((number pos state aim : ℕ) (rest : List (List ℕ)) → number < 2 ^ 32 → pos < 2 ^ 32 → state < 2 ^ 16 → IsSetIn format aim → words_of 32 text ≢ decimal number ∷ decimal pos ∷ decimal state ∷ set_text format aim ∷ rest)
+    → ((number pos state aim : ℕ) (rest : List (List ℕ)) → number < 2 ^ 32 → pos < 2 ^ 32 → state < 2 ^ 16 → IsSetIn format aim
+    → words_of 32 text ≢ decimal number ∷ decimal pos ∷ decimal state ∷ set_text format aim ∷ rest)
     → Reads (FitsNamed format) (row_text format) text None
 no_place format text none = record {
   some = tt;
@@ -34,7 +35,8 @@ past_place (a ∷ b ∷ []) = []
 past_place (a ∷ b ∷ d ∷ []) = []
 past_place (a ∷ b ∷ d ∷ e ∷ rest) = rest
 
-pub no_how : (format : ℕ) (text : List ℕ) (number pos state aim : ℕ) (left : List (List ℕ)) → words_of 32 text ≡ decimal number ∷ decimal pos ∷ decimal state ∷ set_text format aim ∷ left → Reads FitsHow how_words left None
+pub no_how : (format : ℕ) (text : List ℕ) (number pos state aim : ℕ) (left : List (List ℕ))
+    → words_of 32 text ≡ decimal number ∷ decimal pos ∷ decimal state ∷ set_text format aim ∷ left → Reads FitsHow how_words left None
     → Reads (FitsNamed format) (row_text format) text None
 unfolding past_place
 no_how format text number pos state aim left is reads = record {
@@ -113,5 +115,6 @@ no_bytes text (b ∷ bytes) is_empty e is stands = absurd (let p = eqb-true (len
 -- a row's line is no empty text
 pub row_shortens : (format : ℕ) (text : List ℕ) (number : ℕ) (r : Row) (more : List ℕ) → HasRow format text number r more → length more < length text
 row_shortens format text number r more h =
-    let e : length text ≡ length (row_text format (number, r)) + length (10 ∷ more) = ap length (h.spelled ∙ line_of_row format number r more) ∙ length-append (row_text format (number, r)) (10 ∷ more) in
+    let e : length text ≡ length (row_text format (number, r)) + length (10 ∷ more) = ap length (h.spelled ∙ line_of_row format number r more)
+    ∙ length-append (row_text format (number, r)) (10 ∷ more) in
     omega (arith, e)

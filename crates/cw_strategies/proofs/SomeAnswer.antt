@@ -149,7 +149,8 @@ unfolding head tail
 backs_readable low [] = (Some [], record { some = (tt, refl); none = tt })
 backs_readable low (w ∷ words) = by_read (back_readable w).0 (back_readable w).1 (λ (more : ℕ). backs_readable more words)
   where
-    after : (b : ℕ × ℕ) → FitsBack b → back_word b ≡ w → low ≤ b.0 → (r : Option (List (ℕ × ℕ))) → Reads (AreBacks (b.0 + 1)) (map back_word) words r → Readable (AreBacks low) (map back_word) (w ∷ words)
+    after : (b : ℕ × ℕ) → FitsBack b → back_word b ≡ w → low ≤ b.0 → (r : Option (List (ℕ × ℕ))) → Reads (AreBacks (b.0 + 1)) (map back_word) words r
+        → Readable (AreBacks low) (map back_word) (w ∷ words)
     after b fits is up (Some bs) reads = (Some (b ∷ bs), record { some = ((up, fits.0, fits.1, reads.some.0), rw (is, reads.some.1) refl); none = tt })
     after b fits is up None reads = (None, record { some = tt; none = missing })
       where
@@ -231,7 +232,8 @@ kind_readable word =
     found : (k : Kind) → FitsKind k → kind_word k ≡ word → Readable FitsKind kind_word word
     found k fits e = (Some k, record { some = (fits, e); none = tt })
 
-    missing : codes "bad" ≢ word → codes "out" ≢ word → codes "both" ≢ word → codes "into" ≢ word → codes "grant" ≢ word → codes "refuse" ≢ word → codes "on" ≢ word → codes "left" ≢ word → codes "right" ≢ word → codes "opened" ≢ word → codes "failed" ≢ word
+    missing : codes "bad" ≢ word → codes "out" ≢ word → codes "both" ≢ word → codes "into" ≢ word → codes "grant" ≢ word → codes "refuse" ≢ word → codes "on" ≢ word
+        → codes "left" ≢ word → codes "right" ≢ word → codes "opened" ≢ word → codes "failed" ≢ word
         → (k : Kind) → FitsKind k → kind_word k ≢ word
     missing bad out both into grant refuse on left right opened failed kind.Bad fits = bad
     missing bad out both into grant refuse on left right opened failed kind.Out fits = out
@@ -343,9 +345,16 @@ rest_readable kind.Into fits words =
       | inl t ↦ with_backs t.0 t.1 t.2 t.3 (backs_readable 0 t.1).0 (backs_readable 0 t.1).1
     ]
   where
-    with_backs : (callee : ℕ) (left : List (List ℕ)) → callee < 2 ^ 32 → words ≡ decimal callee ∷ left → (r : Option (List (ℕ × ℕ))) → Reads (AreBacks 0) (map back_word) left r → Readable (IsOf kind.Into) rest_words words
-    with_backs callee left small is (Some bs) reads = (Some (Into callee bs), record { some = (record { fits = (small, reads.some.0); kind = refl }, sym (is ∙ ap (λ (ws : List (List ℕ)). decimal callee ∷ ws) (sym reads.some.1))); none = tt })
-    with_backs callee left small is None reads = (None, record { some = tt; none = λ how of e. let o = only_into how of.fits of.kind in reads.none o.backs o.good (sym (ap tail (sym is ∙ sym e ∙ o.words))) })
+    with_backs : (callee : ℕ) (left : List (List ℕ)) → callee < 2 ^ 32 → words ≡ decimal callee ∷ left → (r : Option (List (ℕ × ℕ))) → Reads (AreBacks 0) (map back_word) left r
+        → Readable (IsOf kind.Into) rest_words words
+    with_backs callee left small is (Some bs) reads = (
+      Some (Into callee bs),
+      record { some = (record { fits = (small, reads.some.0); kind = refl }, sym (is ∙ ap (λ (ws : List (List ℕ)). decimal callee ∷ ws) (sym reads.some.1))); none = tt },
+    )
+    with_backs callee left small is None reads = (
+      None,
+      record { some = tt; none = λ how of e. let o = only_into how of.fits of.kind in reads.none o.backs o.good (sym (ap tail (sym is ∙ sym e ∙ o.words))) },
+    )
 
 how_readable : (words : List (List ℕ)) → Readable FitsHow how_words words
 how_readable [] = (None, no_words [] refl)
@@ -369,19 +378,23 @@ row_readable format text =
           | inl v ↦ elim (take_value (IsSetIn format) (set_text format) (set_readable (cond (eqb format 2) 1024 512) (set_text format)) v.1) [
             | inr none ↦ (None, no_place format text (λ number pos state aim rest a b d f e. none aim rest f (ap tail (sym v.3 ∙ ap tail (sym u.3 ∙ ap tail (sym t.3 ∙ e))))))
             | inl w ↦
-                let place : words_of 32 text ≡ decimal t.0 ∷ decimal u.0 ∷ decimal v.0 ∷ set_text format w.0 ∷ w.1 = t.3 ∙ four (decimal t.0) t.1 (decimal u.0) u.1 (decimal v.0) v.1 (set_text format w.0) w.1 u.3 v.3 w.3 in
+                let place : words_of 32 text ≡ decimal t.0 ∷ decimal u.0 ∷ decimal v.0 ∷ set_text format w.0 ∷ w.1 = t.3
+                ∙ four (decimal t.0) t.1 (decimal u.0) u.1 (decimal v.0) v.1 (set_text format w.0) w.1 u.3 v.3 w.3 in
                 with_how t.0 u.0 v.0 w.0 w.1 t.2 u.2 v.2 w.2 place (how_readable w.1).0 (how_readable w.1).1
           ]
         ]
       ]
     ]
   where
-    four : (a : List ℕ) (left : List (List ℕ)) (b : List ℕ) (more : List (List ℕ)) (d : List ℕ) (others : List (List ℕ)) (f : List ℕ) (rest : List (List ℕ)) → left ≡ b ∷ more → more ≡ d ∷ others → others ≡ f ∷ rest → a ∷ left ≡ a ∷ b ∷ d ∷ f ∷ rest
+    four : (a : List ℕ) (left : List (List ℕ)) (b : List ℕ) (more : List (List ℕ)) (d : List ℕ) (others : List (List ℕ)) (f : List ℕ) (rest : List (List ℕ)) → left ≡ b ∷ more
+        → more ≡ d ∷ others → others ≡ f ∷ rest → a ∷ left ≡ a ∷ b ∷ d ∷ f ∷ rest
     four a left b more d others f rest p q s = ap (λ (ws : List (List ℕ)). a ∷ ws) (p ∙ ap (λ (ws : List (List ℕ)). b ∷ ws) (q ∙ ap (λ (ws : List (List ℕ)). d ∷ ws) s))
 
-    with_how : (number pos state aim : ℕ) (left : List (List ℕ)) → number < 2 ^ 32 → pos < 2 ^ 32 → state < 2 ^ 16 → IsSetIn format aim → words_of 32 text ≡ decimal number ∷ decimal pos ∷ decimal state ∷ set_text format aim ∷ left → (r : Option How) → Reads FitsHow how_words left r
+    with_how : (number pos state aim : ℕ) (left : List (List ℕ)) → number < 2 ^ 32 → pos < 2 ^ 32 → state < 2 ^ 16 → IsSetIn format aim
+        → words_of 32 text ≡ decimal number ∷ decimal pos ∷ decimal state ∷ set_text format aim ∷ left → (r : Option How) → Reads FitsHow how_words left r
         → Readable (FitsNamed format) (row_text format) text
-    with_how number pos state aim left a b d f place (Some how) reads = (Some (number, record { pos = pos; state = state; aim = aim; how = how }), a_row format text number pos state aim left how a b d f place reads)
+    with_how number pos state aim left a b d f place (Some how) reads =
+        (Some (number, record { pos = pos; state = state; aim = aim; how = how }), a_row format text number pos state aim left how a b d f place reads)
     with_how number pos state aim left a b d f place None reads = (None, no_how format text number pos state aim left place reads)
 
 -- ---- line after line
@@ -413,7 +426,8 @@ step format count rows text =
       ]
     ]
   where
-    by_row : (l rest : List ℕ) → text ≡ l ++ (10 ∷ rest) → IsFree 10 l → (l ≡ codes "end" → ⊥) → (r : Option (ℕ × Row)) → Reads (FitsNamed format) (row_text format) l r → Stopped format count rows text ⊎ GoesOn format count rows text
+    by_row : (l rest : List ℕ) → text ≡ l ++ (10 ∷ rest) → IsFree 10 l → (l ≡ codes "end" → ⊥) → (r : Option (ℕ × Row)) → Reads (FitsNamed format) (row_text format) l r
+        → Stopped format count rows text ⊎ GoesOn format count rows text
     by_row l rest e free differs None reads = inl (with_none (none_here format text l rest e free differs reads))
     by_row l rest e free differs (Some named) reads =
         let stands = row_here format text l rest named.0 named.1 e reads in

@@ -7,9 +7,10 @@ ghost use Rattle.cw_lines.specs.declared.fault.TextFault.TheVariants.{NoMemory a
 ghost use Rattle.cw_strategies.specs.StrategyText.{Fits};
 ghost use Rattle.cw_strategies.specs.Faults.{IsAnswer};
 
-use crate::printing::strategy_bytes;
+use crate::printing::print_env;
 use crate::reading::read_env;
 use cw_certs::EnvCert;
+use cw_io::SureSink;
 use cw_lines::TextFault;
 use std::alloc::Global;
 
@@ -29,6 +30,9 @@ pub fn read_again(alloc: Global, cert: &EnvCert, format: u8) -> Result<EnvCert, 
     ensures same { IfOk result (λ again. strategy_of again ≡ strategy_of cert.now) }
     ensures memory { IfErr result (λ fault. fault ≡ OutOfMemory) }
 {
-    let text = strategy_bytes(alloc, cert, format)?;
-    read_env(alloc, &text, format)
+    let mut sink = SureSink::make(alloc);
+    match print_env(cert, format, &mut sink) {
+        Ok(()) => read_env(alloc, sink.bytes(), format),
+        Err(_) => Err(TextFault::NoMemory),
+    }
 }

@@ -1,132 +1,166 @@
 //! Strategies written.
 
-ghost use Rattle.std.specs.Prelude.{◌≡◌, ◌≤◌, ◌++◌, ◌∷◌, [], map, IfOk, OnOk};
+ghost use Rattle.std.specs.Prelude.{◌≡◌, ◌++◌, ◌∷◌, [], codes, map};
 ghost use Rattle.std.specs.Fmt.{decimal};
 ghost use Rattle.std.specs.List.{flat_map};
 ghost use Rattle.cw_lines.specs.Lines.{set_text};
 ghost use Rattle.cw_certs.specs.Strategies.{how_of, row_of, strategy_of};
 ghost use Rattle.cw_io.specs.Causes.{HasCause};
 ghost use Rattle.cw_io.specs.Pieces.{Puts};
+ghost use Rattle.cw_pieces.specs.Written.{Follows};
 ghost use Rattle.cw_strategies.specs.StrategyText.{back_word, how_words, move_word, row_lines, strategy_text};
 ghost use Rattle.cw_strategies.specs.Words.{backs_of, put_line};
 
 use cw_certs::{EnvCert, EnvRow, How, Move};
-use cw_core::{NoMemory, StateId, put_dec};
+use cw_core::StateId;
 use cw_io::{Sink, SinkFault};
 use cw_lines::put_set;
-use std::alloc::Global;
+use cw_pieces::Writer;
 
-/// Puts the text of a strategy, in a text of this format. The text is made whole, and then put in one piece.
-pub fn print_env<S: Sink>(
-    alloc: Global,
-    cert: &EnvCert,
-    format: u8,
-    out: &mut S,
-) -> Result<(), SinkFault>
+/// Puts the text of a strategy, in a text of this format, piece by piece. After a fault of the sink a front of it is put, and
+/// nothing after the fault.
+pub fn print_env<S: Sink>(cert: &EnvCert, format: u8, out: &mut S) -> Result<(), SinkFault>
     ensures bytes { Puts (S.taken out.old) (S.taken out.new) (strategy_text format (strategy_of cert.now)) result }
     ensures failed { HasCause SinkFault.Failed (S.faults out.old) (S.faults out.new) result }
-    ensures refused { S.refused out.old ≤ S.refused out.new }
+    ensures refused { HasCause SinkFault.NoMemory (S.refused out.old) (S.refused out.new) result }
 {
-    let Ok(text) = strategy_bytes(alloc, cert, format) else {
-        return Err(SinkFault::NoMemory);
-    };
-    out.put(&text)
+    let mut writer = Writer::begin(out);
+    put_strategy(cert, format, &mut writer, out);
+    writer.finish(out)
 }
 
-/// The text of a strategy, in a text of this format.
-#[tactic(auto, unfolding(crate::specs::StrategyText::strategy_text, crate::specs::StrategyText::head_line, crate::specs::StrategyText::states_line, crate::specs::StrategyText::end_line))]
-pub fn strategy_bytes(alloc: Global, cert: &EnvCert, format: u8) -> Result<Vec<u8>, NoMemory>
-    ensures { IfOk result (λ text. text.items ≡ strategy_text format (strategy_of cert.now)) }
+/// Appends the text of a strategy, in a text of this format.
+pub fn put_strategy<S: Sink>(cert: &EnvCert, format: u8, writer: &mut Writer<S>, out: &mut S)
+    requires follows { Follows S.taken S.faults S.refused writer.old out.old }
+    ensures text { writer.new.text ≡ writer.old.text ++ strategy_text format (strategy_of cert.now) }
+    ensures begun { writer.new.begun ≡ writer.old.begun }
+    ensures follows { Follows S.taken S.faults S.refused writer.new out.new }
 {
-    let mut text = Vec::new(alloc);
-    put(b"capweave strategy ", &mut text)?;
-    put_dec(u64::from(format), &mut text)?;
-    put(b"\nstates ", &mut text)?;
-    put_dec(u64::from(cert.states), &mut text)?;
-    put(b"\n", &mut text)?;
-    put_rows(&cert.rows, format, &mut text)?;
-    put(b"end\n", &mut text)?;
-    Ok(text)
+    writer.put(b"capweave strategy ", out);
+    writer.put_number(u64::from(format), out);
+    writer.put(b"\nstates ", out);
+    writer.put_number(u64::from(cert.states), out);
+    writer.put(b"\n", out);
+    put_rows(&cert.rows, format, writer, out);
+    writer.put(b"end\n", out);
 }
 
-/// Appends bytes.
-fn put(bytes: &[u8], text: &mut Vec<u8>) -> Result<(), NoMemory>
-    ensures { OnOk result (text.new.items ≡ text.old.items ++ bytes.now) }
-{
-    text.extend_from_slice(bytes)?;
-    Ok(())
-}
-
-fn put_rows(rows: &[EnvRow], format: u8, text: &mut Vec<u8>) -> Result<(), NoMemory>
-    ensures { OnOk result (text.new.items ≡ text.old.items ++ row_lines format 0 (map row_of rows.now)) }
+fn put_rows<S: Sink>(rows: &[EnvRow], format: u8, writer: &mut Writer<S>, out: &mut S)
+    requires follows { Follows S.taken S.faults S.refused writer.old out.old }
+    ensures text { writer.new.text ≡ writer.old.text ++ row_lines format 0 (map row_of rows.now) }
+    ensures begun { writer.new.begun ≡ writer.old.begun }
+    ensures follows { Follows S.taken S.faults S.refused writer.new out.new }
 {
     for number in 0..rows.len() {
-        put_row(number, &rows[number], format, text)?;
+        put_row(number, &rows[number], format, writer, out);
     }
-    Ok(())
 }
 
 /// Appends a row's line.
-fn put_row(number: usize, row: &EnvRow, format: u8, text: &mut Vec<u8>) -> Result<(), NoMemory>
-    ensures { OnOk result (text.new.items ≡ text.old.items ++ put_line format number (row_of row.now)) }
+fn put_row<S: Sink>(number: usize, row: &EnvRow, format: u8, writer: &mut Writer<S>, out: &mut S)
+    requires follows { Follows S.taken S.faults S.refused writer.old out.old }
+    ensures text { writer.new.text ≡ writer.old.text ++ put_line format number (row_of row.now) }
+    ensures begun { writer.new.begun ≡ writer.old.begun }
+    ensures follows { Follows S.taken S.faults S.refused writer.new out.new }
 {
-    put_dec(number as u64, text)?;
-    put_place(row, format, text)?;
-    put_how(&row.how, text)?;
-    put(b"\n", text)?;
-    Ok(())
+    writer.put_number(number as u64, out);
+    put_place(row, format, writer, out);
+    put_how(&row.how, writer, out);
+    writer.put(b"\n", out);
 }
 
 /// Appends a row's position, state and aim, each after a space.
-fn put_place(row: &EnvRow, format: u8, text: &mut Vec<u8>) -> Result<(), NoMemory>
-    ensures { OnOk result (text.new.items ≡ text.old.items ++ flat_map (λ word. 32 ∷ word) (decimal row.now.pos.0 ∷ decimal row.now.state.0 ∷ set_text format row.now.aim ∷ [])) }
+fn put_place<S: Sink>(row: &EnvRow, format: u8, writer: &mut Writer<S>, out: &mut S)
+    requires follows { Follows S.taken S.faults S.refused writer.old out.old }
+    ensures text { writer.new.text ≡ writer.old.text ++ flat_map (λ word. 32 ∷ word) (decimal row.now.pos.0 ∷ decimal row.now.state.0 ∷ set_text format row.now.aim ∷ []) }
+    ensures begun { writer.new.begun ≡ writer.old.begun }
+    ensures follows { Follows S.taken S.faults S.refused writer.new out.new }
 {
-    put(b" ", text)?;
-    put_dec(u64::from(row.pos.0), text)?;
-    put(b" ", text)?;
-    put_dec(u64::from(row.state.0), text)?;
-    put(b" ", text)?;
-    put_set(&row.aim, format, text)
+    writer.put(b" ", out);
+    writer.put_number(u64::from(row.pos.0), out);
+    writer.put(b" ", out);
+    writer.put_number(u64::from(row.state.0), out);
+    writer.put(b" ", out);
+    put_set(&row.aim, format, writer, out);
 }
 
 /// Appends what a row does, each word after a space.
-fn put_how(how: &How, text: &mut Vec<u8>) -> Result<(), NoMemory>
-    ensures { OnOk result (text.new.items ≡ text.old.items ++ flat_map (λ word. 32 ∷ word) (how_words (how_of how.now))) }
+fn put_how<S: Sink>(how: &How, writer: &mut Writer<S>, out: &mut S)
+    requires follows { Follows S.taken S.faults S.refused writer.old out.old }
+    ensures text { writer.new.text ≡ writer.old.text ++ flat_map (λ word. 32 ∷ word) (how_words (how_of how.now)) }
+    ensures begun { writer.new.begun ≡ writer.old.begun }
+    ensures follows { Follows S.taken S.faults S.refused writer.new out.new }
 {
     match how {
-        How::Bad => put(b" bad", text),
-        How::Out => put(b" out", text),
-        How::Both { skip, tried } => {
-            put(b" both ", text)?;
-            put_dec(u64::from(*skip), text)?;
-            put(b" ", text)?;
-            put_dec(u64::from(*tried), text)
-        }
-        How::Go { by, row } => {
-            put(b" ", text)?;
-            put(move_name(*by).as_bytes(), text)?;
-            put(b" ", text)?;
-            put_dec(u64::from(*row), text)
-        }
-        How::Into { callee, backs } => {
-            put(b" into ", text)?;
-            put_dec(u64::from(*callee), text)?;
-            put_backs(backs, text)
-        }
+        How::Bad => writer.put(b" bad", out),
+        How::Out => writer.put(b" out", out),
+        How::Both { skip, tried } => put_both(*skip, *tried, writer, out),
+        How::Go { by, row } => put_go(*by, *row, writer, out),
+        How::Into { callee, backs } => put_into(*callee, backs, writer, out),
     }
 }
 
+/// Appends ` both SKIP TRIED`.
+fn put_both<S: Sink>(skip: u32, tried: u32, writer: &mut Writer<S>, out: &mut S)
+    requires follows { Follows S.taken S.faults S.refused writer.old out.old }
+    ensures text { writer.new.text ≡ writer.old.text ++ flat_map (λ word. 32 ∷ word) (codes "both" ∷ decimal skip ∷ decimal tried ∷ []) }
+    ensures begun { writer.new.begun ≡ writer.old.begun }
+    ensures follows { Follows S.taken S.faults S.refused writer.new out.new }
+{
+    writer.put(b" both ", out);
+    writer.put_number(u64::from(skip), out);
+    writer.put(b" ", out);
+    writer.put_number(u64::from(tried), out);
+}
+
+/// Appends ` MOVE ROW`.
+fn put_go<S: Sink>(by: Move, row: u32, writer: &mut Writer<S>, out: &mut S)
+    requires follows { Follows S.taken S.faults S.refused writer.old out.old }
+    ensures text { writer.new.text ≡ writer.old.text ++ flat_map (λ word. 32 ∷ word) (move_word by ∷ decimal row ∷ []) }
+    ensures begun { writer.new.begun ≡ writer.old.begun }
+    ensures follows { Follows S.taken S.faults S.refused writer.new out.new }
+{
+    writer.put(b" ", out);
+    writer.put(move_name(by).as_bytes(), out);
+    writer.put(b" ", out);
+    writer.put_number(u64::from(row), out);
+}
+
+/// Appends ` into CALLEE` and the backs.
+fn put_into<S: Sink>(callee: u32, backs: &[(StateId, u32)], writer: &mut Writer<S>, out: &mut S)
+    requires follows { Follows S.taken S.faults S.refused writer.old out.old }
+    ensures text { writer.new.text ≡ writer.old.text ++ flat_map (λ word. 32 ∷ word) (codes "into" ∷ decimal callee ∷ map back_word (backs_of backs.now)) }
+    ensures begun { writer.new.begun ≡ writer.old.begun }
+    ensures follows { Follows S.taken S.faults S.refused writer.new out.new }
+{
+    writer.put(b" into ", out);
+    writer.put_number(u64::from(callee), out);
+    put_backs(backs, writer, out);
+}
+
 /// Appends ` EXIT=ROW` for each exit state.
-fn put_backs(backs: &[(StateId, u32)], text: &mut Vec<u8>) -> Result<(), NoMemory>
-    ensures { OnOk result (text.new.items ≡ text.old.items ++ flat_map (λ word. 32 ∷ word) (map back_word (backs_of backs.now))) }
+fn put_backs<S: Sink>(backs: &[(StateId, u32)], writer: &mut Writer<S>, out: &mut S)
+    requires follows { Follows S.taken S.faults S.refused writer.old out.old }
+    ensures text { writer.new.text ≡ writer.old.text ++ flat_map (λ word. 32 ∷ word) (map back_word (backs_of backs.now)) }
+    ensures begun { writer.new.begun ≡ writer.old.begun }
+    ensures follows { Follows S.taken S.faults S.refused writer.new out.new }
 {
     for back in backs {
-        put(b" ", text)?;
-        put_dec(u64::from(back.0.0), text)?;
-        put(b"=", text)?;
-        put_dec(u64::from(back.1), text)?;
+        put_back(*back, writer, out);
     }
-    Ok(())
+}
+
+/// Appends ` EXIT=ROW`.
+fn put_back<S: Sink>(back: (StateId, u32), writer: &mut Writer<S>, out: &mut S)
+    requires follows { Follows S.taken S.faults S.refused writer.old out.old }
+    ensures text { writer.new.text ≡ writer.old.text ++ (32 ∷ back_word (back.0.0, back.1)) }
+    ensures begun { writer.new.begun ≡ writer.old.begun }
+    ensures follows { Follows S.taken S.faults S.refused writer.new out.new }
+{
+    writer.put(b" ", out);
+    writer.put_number(u64::from(back.0.0), out);
+    writer.put(b"=", out);
+    writer.put_number(u64::from(back.1), out);
 }
 
 /// A move of the environment by its name. The weaver's moves have none.

@@ -1,12 +1,9 @@
 -- A row more behind those of a table.
 use Rattle.std.proofs.Common.{◌≡◌, ℕ, ◌+◌, ◌<◌, ◌≤◌, ◌&&◌, Bool, true, false, eqb, List, [], ◌∷◌, ◌++◌, map, length, get_or, drop, refl, sym, ap, ◌∙◌, subst, arith, append-nil, append_assoc, eq-eqb}
 use Rattle.std.specs.Prelude.{Option, None, Some}
-use Rattle.std.specs.Cmp.{IsTotalOrder}
 use Rattle.std.specs.List.{AllByRecursion}
 use Rattle.std.specs.List.Sorted.{IsStrictlySortedBy}
-use Rattle.std.specs.Cmp.{bool_cmp_total}
 use Rattle.std.proofs.lemmas.Bool.{eqb-true}
-use Rattle.std.proofs.lemmas.Cmp.{nat_cmp_total, on_total, then_total}
 use Rattle.std.proofs.lemmas.List.{map-append}
 use Rattle.cw_core.specs.declared.ids.StateId.{StateId}
 use Rattle.cw_core.specs.declared.ids.PosId.{PosId}
@@ -18,6 +15,7 @@ use Rattle.cw_certs.specs.declared.rows.IntoRow.{IntoRow}
 use Rattle.cw_certs.specs.declared.rows.BackRow.{BackRow}
 use Rattle.cw_certs.specs.Tables.{Table}
 use Rattle.cw_certs.specs.Ascending.{Ascends, mem_cmp, live_cmp, try_cmp, at_cmp, open_cmp, into_cmp, back_cmp}
+use Rattle.cw_certs.proofs.Orders.{mem_total, live_total, try_total, at_total, open_total, into_total, back_total}
 use Rattle.cw_tabletext.specs.declared.row.Row.{Row}
 use Rattle.cw_tabletext.specs.declared.row.Row.TheVariants.{Memory, Live, Try, At, Opened, Closed, Into, Back}
 use Rattle.cw_tabletext.specs.Rows.{memories, rows_of}
@@ -78,7 +76,16 @@ mems_in (Back x) = None
 
 pub mems_are : (t : Table) → picked mems_in (rows_of t) ≡ t.mems
 unfolding mems_in
-mems_are t = parts mems_in t ∙ rw (picked_memories mems_in (λ n x. refl) 0 t.mems, picked_none mems_in Live (λ x. refl) t.live, picked_none mems_in Try (λ x. refl) t.tries, picked_none mems_in At (λ x. refl) t.ats, picked_none mems_in Opened (λ x. refl) t.opened, picked_none mems_in Closed (λ x. refl) t.closed, picked_none mems_in Into (λ x. refl) t.into, picked_none mems_in Back (λ x. refl) t.back) (append-nil t.mems)
+mems_are t = parts mems_in t ∙ rw (
+  picked_memories mems_in (λ n x. refl) 0 t.mems,
+  picked_none mems_in Live (λ x. refl) t.live,
+  picked_none mems_in Try (λ x. refl) t.tries,
+  picked_none mems_in At (λ x. refl) t.ats,
+  picked_none mems_in Opened (λ x. refl) t.opened,
+  picked_none mems_in Closed (λ x. refl) t.closed,
+  picked_none mems_in Into (λ x. refl) t.into,
+  picked_none mems_in Back (λ x. refl) t.back,
+) (append-nil t.mems)
 
 pub live_in : Row → Option (PosId × MemId)
 live_in (Memory n x) = None
@@ -92,7 +99,16 @@ live_in (Back x) = None
 
 pub live_are : (t : Table) → picked live_in (rows_of t) ≡ t.live
 unfolding live_in
-live_are t = parts live_in t ∙ rw (picked_no_memories live_in (λ n x. refl) 0 t.mems, picked_all live_in Live (λ x. refl) t.live, picked_none live_in Try (λ x. refl) t.tries, picked_none live_in At (λ x. refl) t.ats, picked_none live_in Opened (λ x. refl) t.opened, picked_none live_in Closed (λ x. refl) t.closed, picked_none live_in Into (λ x. refl) t.into, picked_none live_in Back (λ x. refl) t.back) (append-nil t.live)
+live_are t = parts live_in t ∙ rw (
+  picked_no_memories live_in (λ n x. refl) 0 t.mems,
+  picked_all live_in Live (λ x. refl) t.live,
+  picked_none live_in Try (λ x. refl) t.tries,
+  picked_none live_in At (λ x. refl) t.ats,
+  picked_none live_in Opened (λ x. refl) t.opened,
+  picked_none live_in Closed (λ x. refl) t.closed,
+  picked_none live_in Into (λ x. refl) t.into,
+  picked_none live_in Back (λ x. refl) t.back,
+) (append-nil t.live)
 
 pub tries_in : Row → Option (TryRow)
 tries_in (Memory n x) = None
@@ -106,7 +122,16 @@ tries_in (Back x) = None
 
 pub tries_are : (t : Table) → picked tries_in (rows_of t) ≡ t.tries
 unfolding tries_in
-tries_are t = parts tries_in t ∙ rw (picked_no_memories tries_in (λ n x. refl) 0 t.mems, picked_none tries_in Live (λ x. refl) t.live, picked_all tries_in Try (λ x. refl) t.tries, picked_none tries_in At (λ x. refl) t.ats, picked_none tries_in Opened (λ x. refl) t.opened, picked_none tries_in Closed (λ x. refl) t.closed, picked_none tries_in Into (λ x. refl) t.into, picked_none tries_in Back (λ x. refl) t.back) (append-nil t.tries)
+tries_are t = parts tries_in t ∙ rw (
+  picked_no_memories tries_in (λ n x. refl) 0 t.mems,
+  picked_none tries_in Live (λ x. refl) t.live,
+  picked_all tries_in Try (λ x. refl) t.tries,
+  picked_none tries_in At (λ x. refl) t.ats,
+  picked_none tries_in Opened (λ x. refl) t.opened,
+  picked_none tries_in Closed (λ x. refl) t.closed,
+  picked_none tries_in Into (λ x. refl) t.into,
+  picked_none tries_in Back (λ x. refl) t.back,
+) (append-nil t.tries)
 
 pub ats_in : Row → Option (AtRow)
 ats_in (Memory n x) = None
@@ -120,7 +145,16 @@ ats_in (Back x) = None
 
 pub ats_are : (t : Table) → picked ats_in (rows_of t) ≡ t.ats
 unfolding ats_in
-ats_are t = parts ats_in t ∙ rw (picked_no_memories ats_in (λ n x. refl) 0 t.mems, picked_none ats_in Live (λ x. refl) t.live, picked_none ats_in Try (λ x. refl) t.tries, picked_all ats_in At (λ x. refl) t.ats, picked_none ats_in Opened (λ x. refl) t.opened, picked_none ats_in Closed (λ x. refl) t.closed, picked_none ats_in Into (λ x. refl) t.into, picked_none ats_in Back (λ x. refl) t.back) (append-nil t.ats)
+ats_are t = parts ats_in t ∙ rw (
+  picked_no_memories ats_in (λ n x. refl) 0 t.mems,
+  picked_none ats_in Live (λ x. refl) t.live,
+  picked_none ats_in Try (λ x. refl) t.tries,
+  picked_all ats_in At (λ x. refl) t.ats,
+  picked_none ats_in Opened (λ x. refl) t.opened,
+  picked_none ats_in Closed (λ x. refl) t.closed,
+  picked_none ats_in Into (λ x. refl) t.into,
+  picked_none ats_in Back (λ x. refl) t.back,
+) (append-nil t.ats)
 
 pub opened_in : Row → Option (OpenRow)
 opened_in (Memory n x) = None
@@ -134,7 +168,16 @@ opened_in (Back x) = None
 
 pub opened_are : (t : Table) → picked opened_in (rows_of t) ≡ t.opened
 unfolding opened_in
-opened_are t = parts opened_in t ∙ rw (picked_no_memories opened_in (λ n x. refl) 0 t.mems, picked_none opened_in Live (λ x. refl) t.live, picked_none opened_in Try (λ x. refl) t.tries, picked_none opened_in At (λ x. refl) t.ats, picked_all opened_in Opened (λ x. refl) t.opened, picked_none opened_in Closed (λ x. refl) t.closed, picked_none opened_in Into (λ x. refl) t.into, picked_none opened_in Back (λ x. refl) t.back) (append-nil t.opened)
+opened_are t = parts opened_in t ∙ rw (
+  picked_no_memories opened_in (λ n x. refl) 0 t.mems,
+  picked_none opened_in Live (λ x. refl) t.live,
+  picked_none opened_in Try (λ x. refl) t.tries,
+  picked_none opened_in At (λ x. refl) t.ats,
+  picked_all opened_in Opened (λ x. refl) t.opened,
+  picked_none opened_in Closed (λ x. refl) t.closed,
+  picked_none opened_in Into (λ x. refl) t.into,
+  picked_none opened_in Back (λ x. refl) t.back,
+) (append-nil t.opened)
 
 pub closed_in : Row → Option (AtRow)
 closed_in (Memory n x) = None
@@ -148,7 +191,16 @@ closed_in (Back x) = None
 
 pub closed_are : (t : Table) → picked closed_in (rows_of t) ≡ t.closed
 unfolding closed_in
-closed_are t = parts closed_in t ∙ rw (picked_no_memories closed_in (λ n x. refl) 0 t.mems, picked_none closed_in Live (λ x. refl) t.live, picked_none closed_in Try (λ x. refl) t.tries, picked_none closed_in At (λ x. refl) t.ats, picked_none closed_in Opened (λ x. refl) t.opened, picked_all closed_in Closed (λ x. refl) t.closed, picked_none closed_in Into (λ x. refl) t.into, picked_none closed_in Back (λ x. refl) t.back) (append-nil t.closed)
+closed_are t = parts closed_in t ∙ rw (
+  picked_no_memories closed_in (λ n x. refl) 0 t.mems,
+  picked_none closed_in Live (λ x. refl) t.live,
+  picked_none closed_in Try (λ x. refl) t.tries,
+  picked_none closed_in At (λ x. refl) t.ats,
+  picked_none closed_in Opened (λ x. refl) t.opened,
+  picked_all closed_in Closed (λ x. refl) t.closed,
+  picked_none closed_in Into (λ x. refl) t.into,
+  picked_none closed_in Back (λ x. refl) t.back,
+) (append-nil t.closed)
 
 pub into_in : Row → Option (IntoRow)
 into_in (Memory n x) = None
@@ -162,7 +214,16 @@ into_in (Back x) = None
 
 pub into_are : (t : Table) → picked into_in (rows_of t) ≡ t.into
 unfolding into_in
-into_are t = parts into_in t ∙ rw (picked_no_memories into_in (λ n x. refl) 0 t.mems, picked_none into_in Live (λ x. refl) t.live, picked_none into_in Try (λ x. refl) t.tries, picked_none into_in At (λ x. refl) t.ats, picked_none into_in Opened (λ x. refl) t.opened, picked_none into_in Closed (λ x. refl) t.closed, picked_all into_in Into (λ x. refl) t.into, picked_none into_in Back (λ x. refl) t.back) (append-nil t.into)
+into_are t = parts into_in t ∙ rw (
+  picked_no_memories into_in (λ n x. refl) 0 t.mems,
+  picked_none into_in Live (λ x. refl) t.live,
+  picked_none into_in Try (λ x. refl) t.tries,
+  picked_none into_in At (λ x. refl) t.ats,
+  picked_none into_in Opened (λ x. refl) t.opened,
+  picked_none into_in Closed (λ x. refl) t.closed,
+  picked_all into_in Into (λ x. refl) t.into,
+  picked_none into_in Back (λ x. refl) t.back,
+) (append-nil t.into)
 
 pub back_in : Row → Option (BackRow)
 back_in (Memory n x) = None
@@ -176,7 +237,16 @@ back_in (Back x) = Some x
 
 pub back_are : (t : Table) → picked back_in (rows_of t) ≡ t.back
 unfolding back_in
-back_are t = parts back_in t ∙ rw (picked_no_memories back_in (λ n x. refl) 0 t.mems, picked_none back_in Live (λ x. refl) t.live, picked_none back_in Try (λ x. refl) t.tries, picked_none back_in At (λ x. refl) t.ats, picked_none back_in Opened (λ x. refl) t.opened, picked_none back_in Closed (λ x. refl) t.closed, picked_none back_in Into (λ x. refl) t.into, picked_all back_in Back (λ x. refl) t.back) refl
+back_are t = parts back_in t ∙ rw (
+  picked_no_memories back_in (λ n x. refl) 0 t.mems,
+  picked_none back_in Live (λ x. refl) t.live,
+  picked_none back_in Try (λ x. refl) t.tries,
+  picked_none back_in At (λ x. refl) t.ats,
+  picked_none back_in Opened (λ x. refl) t.opened,
+  picked_none back_in Closed (λ x. refl) t.closed,
+  picked_none back_in Into (λ x. refl) t.into,
+  picked_all back_in Back (λ x. refl) t.back,
+) refl
 
 numbers_in : Row → Option ℕ
 numbers_in (Memory n x) = Some n
@@ -200,7 +270,16 @@ numbers_counted k (x ∷ xs) = ap (λ ns. k ∷ ns) (numbers_counted (k + 1) xs)
 
 numbers_are : (t : Table) → picked numbers_in (rows_of t) ≡ counted 0 t.mems
 unfolding numbers_in
-numbers_are t = parts numbers_in t ∙ rw (numbers_counted 0 t.mems, picked_none numbers_in Live (λ x. refl) t.live, picked_none numbers_in Try (λ x. refl) t.tries, picked_none numbers_in At (λ x. refl) t.ats, picked_none numbers_in Opened (λ x. refl) t.opened, picked_none numbers_in Closed (λ x. refl) t.closed, picked_none numbers_in Into (λ x. refl) t.into, picked_none numbers_in Back (λ x. refl) t.back) (append-nil (counted 0 t.mems))
+numbers_are t = parts numbers_in t ∙ rw (
+  numbers_counted 0 t.mems,
+  picked_none numbers_in Live (λ x. refl) t.live,
+  picked_none numbers_in Try (λ x. refl) t.tries,
+  picked_none numbers_in At (λ x. refl) t.ats,
+  picked_none numbers_in Opened (λ x. refl) t.opened,
+  picked_none numbers_in Closed (λ x. refl) t.closed,
+  picked_none numbers_in Into (λ x. refl) t.into,
+  picked_none numbers_in Back (λ x. refl) t.back,
+) (append-nil (counted 0 t.mems))
 
 counted_next : (k : ℕ) (us ms : List (StateId × ℕ)) (n : ℕ) (more : List ℕ) → counted k us ≡ counted k ms ++ n ∷ more → n ≡ k + length ms
 counted_next k [] [] n more e = absurd (omega (arith, ap length e))
@@ -391,33 +470,46 @@ next_true t u (Memory n x) rest a e =
     let up = up_to t u (Memory n x) rest e in
     let number = counted_next 0 u.mems t.mems n (picked numbers_in rest) (listed numbers_in t u (Memory n x) rest (counted 0 t.mems) (counted 0 u.mems) n (numbers_are t) (numbers_are u) refl e) in
     both_true _ _ (eq-eqb n (length t.mems) (omega (arith, number)))
-    (both_true _ _ (above_from_sorted mem_cmp t.mems x (picked mems_in rest) (subst (IsStrictlySortedBy mem_cmp) (listed mems_in t u (Memory n x) rest t.mems u.mems x (mems_are t) (mems_are u) refl e) a.mems))
+    (both_true _ _ (above_from_sorted mem_cmp t.mems x (picked mems_in rest)
+    (subst (IsStrictlySortedBy mem_cmp) (listed mems_in t u (Memory n x) rest t.mems u.mems x (mems_are t) (mems_are u) refl e) a.mems))
     (both_true _ _ (nil_is t.live (sym (live_are t) ∙ none_picked live_in 0 (live_absent 0 (omega arith)) (rows_of t) up)) (no_tries 0 (omega arith) t up)))
 next_true t u (Live x) rest a e =
     let up = up_to t u (Live x) rest e in
-    both_true _ _ (above_from_sorted live_cmp t.live x (picked live_in rest) (subst (IsStrictlySortedBy live_cmp) (listed live_in t u (Live x) rest t.live u.live x (live_are t) (live_are u) refl e) a.live)) (no_tries 1 (omega arith) t up)
+    both_true _ _ (above_from_sorted live_cmp t.live x (picked live_in rest)
+    (subst (IsStrictlySortedBy live_cmp) (listed live_in t u (Live x) rest t.live u.live x (live_are t) (live_are u) refl e) a.live)) (no_tries 1 (omega arith) t up)
 next_true t u (Try x) rest a e =
     let up = up_to t u (Try x) rest e in
-    both_true _ _ (above_from_sorted try_cmp t.tries x (picked tries_in rest) (subst (IsStrictlySortedBy try_cmp) (listed tries_in t u (Try x) rest t.tries u.tries x (tries_are t) (tries_are u) refl e) a.tries)) (both_true _ _ (no_ats 2 (omega arith) t up) (no_opened 2 (omega arith) t up))
+    both_true _ _ (above_from_sorted try_cmp t.tries x (picked tries_in rest)
+    (subst (IsStrictlySortedBy try_cmp) (listed tries_in t u (Try x) rest t.tries u.tries x (tries_are t) (tries_are u) refl e) a.tries))
+    (both_true _ _ (no_ats 2 (omega arith) t up) (no_opened 2 (omega arith) t up))
 next_true t u (At x) rest a e =
     let up = up_to t u (At x) rest e in
-    both_true _ _ (above_from_sorted at_cmp t.ats x (picked ats_in rest) (subst (IsStrictlySortedBy at_cmp) (listed ats_in t u (At x) rest t.ats u.ats x (ats_are t) (ats_are u) refl e) a.ats)) (no_opened 3 (omega arith) t up)
+    both_true _ _ (above_from_sorted at_cmp t.ats x (picked ats_in rest)
+    (subst (IsStrictlySortedBy at_cmp) (listed ats_in t u (At x) rest t.ats u.ats x (ats_are t) (ats_are u) refl e) a.ats)) (no_opened 3 (omega arith) t up)
 next_true t u (Opened x) rest a e =
     let up = up_to t u (Opened x) rest e in
-    both_true _ _ (above_from_sorted open_cmp t.opened x (picked opened_in rest) (subst (IsStrictlySortedBy open_cmp) (listed opened_in t u (Opened x) rest t.opened u.opened x (opened_are t) (opened_are u) refl e) a.opened)) (both_true _ _ (no_closed 4 (omega arith) t up) (no_into 4 (omega arith) t up))
+    both_true _ _ (above_from_sorted open_cmp t.opened x (picked opened_in rest)
+    (subst (IsStrictlySortedBy open_cmp) (listed opened_in t u (Opened x) rest t.opened u.opened x (opened_are t) (opened_are u) refl e) a.opened))
+    (both_true _ _ (no_closed 4 (omega arith) t up) (no_into 4 (omega arith) t up))
 next_true t u (Closed x) rest a e =
     let up = up_to t u (Closed x) rest e in
-    both_true _ _ (above_from_sorted at_cmp t.closed x (picked closed_in rest) (subst (IsStrictlySortedBy at_cmp) (listed closed_in t u (Closed x) rest t.closed u.closed x (closed_are t) (closed_are u) refl e) a.closed)) (no_into 5 (omega arith) t up)
+    both_true _ _ (above_from_sorted at_cmp t.closed x (picked closed_in rest)
+    (subst (IsStrictlySortedBy at_cmp) (listed closed_in t u (Closed x) rest t.closed u.closed x (closed_are t) (closed_are u) refl e) a.closed)) (no_into 5 (omega arith) t up)
 next_true t u (Into x) rest a e =
     let up = up_to t u (Into x) rest e in
-    both_true _ _ (above_from_sorted into_cmp t.into x (picked into_in rest) (subst (IsStrictlySortedBy into_cmp) (listed into_in t u (Into x) rest t.into u.into x (into_are t) (into_are u) refl e) a.into)) (nil_is t.back (sym (back_are t) ∙ none_picked back_in 6 (back_absent 6 (omega arith)) (rows_of t) up))
-next_true t u (Back x) rest a e = above_from_sorted back_cmp t.back x (picked back_in rest) (subst (IsStrictlySortedBy back_cmp) (listed back_in t u (Back x) rest t.back u.back x (back_are t) (back_are u) refl e) a.back)
+    both_true _ _ (above_from_sorted into_cmp t.into x (picked into_in rest)
+    (subst (IsStrictlySortedBy into_cmp) (listed into_in t u (Into x) rest t.into u.into x (into_are t) (into_are u) refl e) a.into))
+    (nil_is t.back (sym (back_are t) ∙ none_picked back_in 6 (back_absent 6 (omega arith)) (rows_of t) up))
+next_true t u (Back x) rest a e = above_from_sorted back_cmp t.back x (picked back_in rest)
+    (subst (IsStrictlySortedBy back_cmp) (listed back_in t u (Back x) rest t.back u.back x (back_are t) (back_are u) refl e) a.back)
 
 pub memories_more : (k : ℕ) (xs : List (StateId × ℕ)) (x : StateId × ℕ) → memories k (xs ++ x ∷ []) ≡ memories k xs ++ Memory (k + length xs) x ∷ []
 memories_more k [] x = let e : k + 0 ≡ k = omega arith in rw e refl
-memories_more k (y ∷ ys) x = let e : (k + 1) + length ys ≡ k + length (y ∷ ys) = omega arith in ap (λ rs. Memory k y ∷ rs) (memories_more (k + 1) ys x ∙ ap (λ (n : ℕ). memories (k + 1) ys ++ Memory n x ∷ []) e)
+memories_more k (y ∷ ys) x = let e : (k + 1) + length ys ≡ k + length (y ∷ ys) = omega arith in
+    ap (λ rs. Memory k y ∷ rs) (memories_more (k + 1) ys x ∙ ap (λ (n : ℕ). memories (k + 1) ys ++ Memory n x ∷ []) e)
 
-mems_more : (t : Table) (n : ℕ) (x : StateId × ℕ) → n ≡ length t.mems → t.live ≡ [] → t.tries ≡ [] → t.ats ≡ [] → t.opened ≡ [] → t.closed ≡ [] → t.into ≡ [] → t.back ≡ [] → rows_of (with_row t (Memory n x)) ≡ rows_of t ++ Memory n x ∷ []
+mems_more : (t : Table) (n : ℕ) (x : StateId × ℕ) → n ≡ length t.mems → t.live ≡ [] → t.tries ≡ [] → t.ats ≡ [] → t.opened ≡ [] → t.closed ≡ [] → t.into ≡ [] → t.back ≡ []
+    → rows_of (with_row t (Memory n x)) ≡ rows_of t ++ Memory n x ∷ []
 unfolding rows_of
 mems_more t n x is e0 e1 e2 e3 e4 e5 e6 =
     let more : memories 0 (t.mems ++ x ∷ []) ≡ memories 0 t.mems ++ Memory n x ∷ [] = memories_more 0 t.mems x ∙ ap (λ (k : ℕ). memories 0 t.mems ++ Memory k x ∷ []) (omega (arith, is)) in
@@ -510,34 +602,91 @@ rows_next t (Closed x) e =
 rows_next t (Into x) e = into_more t x (is_nil_then t.back (both_pass (is_above into_cmp t.into x) _ e).1)
 rows_next t (Back x) e = back_more t x
 
-mem_cmp_total : IsTotalOrder mem_cmp
-mem_cmp_total = then_total (on_total (λ r. r.0.0) nat_cmp_total) (on_total (λ r. r.1) nat_cmp_total)
-
-live_cmp_total : IsTotalOrder live_cmp
-live_cmp_total = then_total (on_total (λ r. r.0.0) nat_cmp_total) (on_total (λ r. r.1.0) nat_cmp_total)
-
-try_cmp_total : IsTotalOrder try_cmp
-try_cmp_total = then_total (on_total (λ r. r.seam.0) nat_cmp_total) (then_total (on_total (λ r. r.stage) nat_cmp_total) (on_total (λ r. r.mem.0) nat_cmp_total))
-
-at_cmp_total : IsTotalOrder at_cmp
-at_cmp_total = then_total (on_total (λ r. r.seam.0) nat_cmp_total) (on_total (λ r. r.mem.0) nat_cmp_total)
-
-open_cmp_total : IsTotalOrder open_cmp
-open_cmp_total = then_total (on_total (λ r. r.seam.0) nat_cmp_total) (on_total (λ r. r.mem.0) nat_cmp_total)
-
-into_cmp_total : IsTotalOrder into_cmp
-into_cmp_total = then_total (on_total (λ r. r.seam.0) nat_cmp_total) (then_total (on_total (λ r. r.split) bool_cmp_total) (on_total (λ r. r.mem.0) nat_cmp_total))
-
-back_cmp_total : IsTotalOrder back_cmp
-back_cmp_total = then_total (on_total (λ r. r.seam.0) nat_cmp_total) (then_total (on_total (λ r. r.split) bool_cmp_total) (then_total (on_total (λ r. r.mem.0) nat_cmp_total) (on_total (λ r. r.exit.0) nat_cmp_total)))
-
 -- and its lists ascend
 pub ascends_next : (t : Table) (row : Row) → is_next t row ≡ true → Ascends t → Ascends (with_row t row)
-ascends_next t (Memory n x) e a = record { mems = sorted_push mem_cmp_total t.mems x a.mems (both_pass _ _ (both_pass (eqb n (length t.mems)) _ e).1).0; live = a.live; tries = a.tries; ats = a.ats; opened = a.opened; closed = a.closed; into = a.into; back = a.back }
-ascends_next t (Live x) e a = record { mems = a.mems; live = sorted_push live_cmp_total t.live x a.live (both_pass (is_above live_cmp t.live x) _ e).0; tries = a.tries; ats = a.ats; opened = a.opened; closed = a.closed; into = a.into; back = a.back }
-ascends_next t (Try x) e a = record { mems = a.mems; live = a.live; tries = sorted_push try_cmp_total t.tries x a.tries (both_pass (is_above try_cmp t.tries x) _ e).0; ats = a.ats; opened = a.opened; closed = a.closed; into = a.into; back = a.back }
-ascends_next t (At x) e a = record { mems = a.mems; live = a.live; tries = a.tries; ats = sorted_push at_cmp_total t.ats x a.ats (both_pass (is_above at_cmp t.ats x) _ e).0; opened = a.opened; closed = a.closed; into = a.into; back = a.back }
-ascends_next t (Opened x) e a = record { mems = a.mems; live = a.live; tries = a.tries; ats = a.ats; opened = sorted_push open_cmp_total t.opened x a.opened (both_pass (is_above open_cmp t.opened x) _ e).0; closed = a.closed; into = a.into; back = a.back }
-ascends_next t (Closed x) e a = record { mems = a.mems; live = a.live; tries = a.tries; ats = a.ats; opened = a.opened; closed = sorted_push at_cmp_total t.closed x a.closed (both_pass (is_above at_cmp t.closed x) _ e).0; into = a.into; back = a.back }
-ascends_next t (Into x) e a = record { mems = a.mems; live = a.live; tries = a.tries; ats = a.ats; opened = a.opened; closed = a.closed; into = sorted_push into_cmp_total t.into x a.into (both_pass (is_above into_cmp t.into x) _ e).0; back = a.back }
-ascends_next t (Back x) e a = record { mems = a.mems; live = a.live; tries = a.tries; ats = a.ats; opened = a.opened; closed = a.closed; into = a.into; back = sorted_push back_cmp_total t.back x a.back e }
+ascends_next t (Memory n x) e a = record {
+  mems = sorted_push mem_total t.mems x a.mems (both_pass _ _ (both_pass (eqb n (length t.mems)) _ e).1).0;
+  live = a.live;
+  tries = a.tries;
+  ats = a.ats;
+  opened = a.opened;
+  closed = a.closed;
+  into = a.into;
+  back = a.back;
+}
+ascends_next t (Live x) e a = record {
+  mems = a.mems;
+  live = sorted_push live_total t.live x a.live (both_pass (is_above live_cmp t.live x) _ e).0;
+  tries = a.tries;
+  ats = a.ats;
+  opened = a.opened;
+  closed = a.closed;
+  into = a.into;
+  back = a.back;
+}
+ascends_next t (Try x) e a = record {
+  mems = a.mems;
+  live = a.live;
+  tries = sorted_push try_total t.tries x a.tries (both_pass (is_above try_cmp t.tries x) _ e).0;
+  ats = a.ats;
+  opened =
+      a.opened;
+  closed = a.closed;
+  into = a.into;
+  back = a.back;
+}
+ascends_next t (At x) e a = record {
+  mems = a.mems;
+  live = a.live;
+  tries = a.tries;
+  ats = sorted_push at_total t.ats x a.ats (both_pass (is_above at_cmp t.ats x) _ e).0;
+  opened =
+      a.opened;
+  closed = a.closed;
+  into = a.into;
+  back = a.back;
+}
+ascends_next t (Opened x) e a = record {
+  mems = a.mems;
+  live = a.live;
+  tries = a.tries;
+  ats = a.ats;
+  opened =
+      sorted_push open_total t.opened x a.opened (both_pass (is_above open_cmp t.opened x) _ e).0;
+  closed = a.closed;
+  into = a.into;
+  back = a.back;
+}
+ascends_next t (Closed x) e a = record {
+  mems = a.mems;
+  live = a.live;
+  tries = a.tries;
+  ats = a.ats;
+  opened = a.opened;
+  closed =
+      sorted_push at_total t.closed x a.closed (both_pass (is_above at_cmp t.closed x) _ e).0;
+  into = a.into;
+  back = a.back;
+}
+ascends_next t (Into x) e a = record {
+  mems = a.mems;
+  live = a.live;
+  tries = a.tries;
+  ats = a.ats;
+  opened = a.opened;
+  closed = a.closed;
+  into =
+      sorted_push into_total t.into x a.into (both_pass (is_above into_cmp t.into x) _ e).0;
+  back = a.back;
+}
+ascends_next t (Back x) e a = record {
+  mems = a.mems;
+  live = a.live;
+  tries = a.tries;
+  ats = a.ats;
+  opened = a.opened;
+  closed = a.closed;
+  into = a.into;
+  back =
+      sorted_push back_total t.back x a.back e;
+}

@@ -66,7 +66,8 @@ empty_is_table format states start few small = record {
 zero_mem : MemId
 zero_mem = record { 0 = 0 }
 
-begins_empty : (policy : PlainPolicy) (states : ℕ) (start : MemId) (before rest : List (List ℕ)) → states < 2 ^ 16 → IsMem start → tables_lines policy (empty states start) ≡ before ++ rest → Begins policy before
+begins_empty : (policy : PlainPolicy) (states : ℕ) (start : MemId) (before rest : List (List ℕ)) → states < 2 ^ 16 → IsMem start
+    → tables_lines policy (empty states start) ≡ before ++ rest → Begins policy before
 begins_empty policy states start before rest few small is = (empty states start, rest, empty_is_table policy.format states start few small, is)
 
 -- ---- the lines of the head
@@ -84,7 +85,8 @@ has_three policy before rows h =
     longer xs = omega (arith, length-append (head_lines policy h.0 h.1) xs)
 
 -- no line of the head comes next
-pub head_fault : (policy : PlainPolicy) (text : List ℕ) (before : List (List ℕ)) (rest : List ℕ) (n : ℕ) → text ≡ text_of before ++ rest → n ≡ length before + 1 → length before < 3 → Begins policy before
+pub head_fault : (policy : PlainPolicy) (text : List ℕ) (before : List (List ℕ)) (rest : List ℕ) (n : ℕ) → text ≡ text_of before ++ rest → n ≡ length before + 1 → length before < 3
+    → Begins policy before
     → ((l : List ℕ) → GoesOn rest l → ¬ (IsHead policy before l)) → IsFault policy text (Line n)
 head_fault policy text before rest n cut number short begins none = record {
   before = before;
@@ -131,9 +133,11 @@ fault_2 policy text rest is none =
     head_fault policy text (header ∷ []) rest 2 is (omega arith) (omega arith) (begins_empty policy 0 zero_mem (header ∷ []) _ (omega arith) (omega arith) refl)
     (λ l g h. let same : limits_words policy ≡ l = ap second_of h.5 in none g.0 (g.2 ∙ ap (λ x. line x ++ g.0) (sym same) ∙ ap (λ x. x ++ g.0) (sym (limits_is policy))))
 
-two_lines : (policy : PlainPolicy) (text first rest : List ℕ) → text ≡ codes "#include \"capweave.h\"\n" ++ first → first ≡ limits_line policy ++ rest → text ≡ text_of (header ∷ limits_words policy ∷ []) ++ rest
+two_lines : (policy : PlainPolicy) (text first rest : List ℕ) → text ≡ codes "#include \"capweave.h\"\n" ++ first → first ≡ limits_line policy ++ rest
+    → text ≡ text_of (header ∷ limits_words policy ∷ []) ++ rest
 two_lines policy text first rest is then_is =
-    is ∙ ap (λ t. line header ++ t) (then_is ∙ ap (λ x. x ++ rest) (limits_is policy ∙ sym (append-nil (line (limits_words policy))))) ∙ sym (append_assoc (line header) (line (limits_words policy) ++ []) rest)
+    is ∙ ap (λ t. line header ++ t) (then_is ∙ ap (λ x. x ++ rest) (limits_is policy ∙ sym (append-nil (line (limits_words policy)))))
+    ∙ sym (append_assoc (line header) (line (limits_words policy) ++ []) rest)
 
 fault_3 : (policy : PlainPolicy) (text first rest : List ℕ) → text ≡ codes "#include \"capweave.h\"\n" ++ first → first ≡ limits_line policy ++ rest
     → ((l : List ℕ) (states : ℕ) (start : MemId) → GoesOn rest l → FitsHead (states, start) → table_words policy.format states start ≢ l) → IsFault policy text (Line 3)
@@ -143,20 +147,24 @@ fault_3 policy text first rest is then_is none =
     (begins_empty policy 0 zero_mem (header ∷ limits_words policy ∷ []) _ (omega arith) (omega arith) refl)
     (λ l g h. none l h.0 h.1 g (h.3, h.4) (ap third_of h.5))
 
-pub fault_3_missing : (policy : PlainPolicy) (text first rest : List ℕ) → text ≡ codes "#include \"capweave.h\"\n" ++ first → first ≡ limits_line policy ++ rest → IsFree 10 rest → IsFault policy text (Line 3)
+pub fault_3_missing : (policy : PlainPolicy) (text first rest : List ℕ) → text ≡ codes "#include \"capweave.h\"\n" ++ first → first ≡ limits_line policy ++ rest → IsFree 10 rest
+    → IsFault policy text (Line 3)
 fault_3_missing policy text first rest is then_is free = fault_3 policy text first rest is then_is (λ l states start g fits e. no_more rest l free g)
 
-pub fault_3_misspelled : (policy : PlainPolicy) (text first rest a after : List ℕ) → text ≡ codes "#include \"capweave.h\"\n" ++ first → first ≡ limits_line policy ++ rest → rest ≡ a ++ (10 ∷ after) → IsFree 10 a
+pub fault_3_misspelled : (policy : PlainPolicy) (text first rest a after : List ℕ) → text ≡ codes "#include \"capweave.h\"\n" ++ first → first ≡ limits_line policy ++ rest
+    → rest ≡ a ++ (10 ∷ after) → IsFree 10 a
     → ((head : ℕ × MemId) → FitsHead head → table_words policy.format head.0 head.1 ≢ a) → IsFault policy text (Line 3)
 fault_3_misspelled policy text first rest a after is then_is cut free none =
     fault_3 policy text first rest is then_is (λ l states start g fits e. none (states, start) fits (e ∙ the_line rest a after l free cut g))
 
-pub head_is : (policy : PlainPolicy) (text first rest a after : List ℕ) (states : ℕ) (start : MemId) → text ≡ codes "#include \"capweave.h\"\n" ++ first → first ≡ limits_line policy ++ rest → rest ≡ a ++ (10 ∷ after)
+pub head_is : (policy : PlainPolicy) (text first rest a after : List ℕ) (states : ℕ) (start : MemId) → text ≡ codes "#include \"capweave.h\"\n" ++ first
+    → first ≡ limits_line policy ++ rest → rest ≡ a ++ (10 ∷ after)
     → table_words policy.format states start ≡ a → text ≡ text_of (head_lines policy states start) ++ after
 head_is policy text first rest a after states start is then_is cut words =
     is ∙ ap (λ t. line header ++ t) (then_is ∙ ap (λ x. x ++ rest) (limits_is policy) ∙ ap (λ t. line (limits_words policy) ++ t) (cut ∙ sym (line_is a after) ∙ ap (λ x. line x ++ after) (sym words)))
     ∙ rw (append-nil (line (table_words policy.format states start)))
-    (ap (λ t. line header ++ t) (sym (append_assoc (line (limits_words policy)) (line (table_words policy.format states start)) after)) ∙ sym (append_assoc (line header) (line (limits_words policy) ++ line (table_words policy.format states start)) after))
+    (ap (λ t. line header ++ t) (sym (append_assoc (line (limits_words policy)) (line (table_words policy.format states start)) after))
+    ∙ sym (append_assoc (line header) (line (limits_words policy) ++ line (table_words policy.format states start)) after))
 
 -- ---- the rows so far
 
@@ -214,11 +222,13 @@ same_start t (Into r) = refl
 same_start t (Back r) = refl
 
 -- a row that can't be taken
-pub no_row : (format n : ℕ) (t : Table) (rest a after : List ℕ) → n ≡ length (rows_of t) + 4 → rest ≡ a ++ (10 ∷ after) → IsFree 10 a → a ≢ done → Reads (Fits format) (row_words format) a None → IsWrongRow format t rest (Line n)
+pub no_row : (format n : ℕ) (t : Table) (rest a after : List ℕ) → n ≡ length (rows_of t) + 4 → rest ≡ a ++ (10 ∷ after) → IsFree 10 a → a ≢ done
+    → Reads (Fits format) (row_words format) a None → IsWrongRow format t rest (Line n)
 no_row format n t rest a after number cut free differs h =
     (number, λ l g. let same = the_line rest a after l free cut g in ((λ e. differs (sym same ∙ e)), λ row fits e. h.none row fits (e ∙ same)))
 
-pub wrong_rows : (format : ℕ) (text rest : List ℕ) (old new : Table) (fault : TextFault) → text ≡ text_of (row_lines format (rows_of new)) ++ rest → IsGood format new → new.states ≡ old.states → new.start ≡ old.start
+pub wrong_rows : (format : ℕ) (text rest : List ℕ) (old new : Table) (fault : TextFault) → text ≡ text_of (row_lines format (rows_of new)) ++ rest → IsGood format new
+    → new.states ≡ old.states → new.start ≡ old.start
     → IsWrongRow format new rest fault → RowsRead format text old new (Err fault)
 wrong_rows format text rest old new (Line n) is good states start h = (rest, record { is = is; good = good; states = states; start = start; wrong = h })
 wrong_rows format text rest old new (Order n) is good states start h = (rest, record { is = is; good = good; states = states; start = start; wrong = h })
@@ -235,7 +245,8 @@ front_length policy t =
     let l = length-append (head_lines policy t.states t.start) (row_lines policy.format (rows_of t)) in
     omega (arith, l, length-map (rows_of t) (row_words policy.format))
 
-pub front_text : (policy : PlainPolicy) (t : Table) (text rows rest : List ℕ) → text ≡ text_of (head_lines policy t.states t.start) ++ rows → rows ≡ text_of (row_lines policy.format (rows_of t)) ++ rest
+pub front_text : (policy : PlainPolicy) (t : Table) (text rows rest : List ℕ) → text ≡ text_of (head_lines policy t.states t.start) ++ rows
+    → rows ≡ text_of (row_lines policy.format (rows_of t)) ++ rest
     → text ≡ text_of (front policy t) ++ rest
 front_text policy t text rows rest is then_is =
     is ∙ ap (λ x. text_of (head_lines policy t.states t.start) ++ x) then_is
@@ -252,11 +263,13 @@ begins_rows : (policy : PlainPolicy) (t : Table) → IsGood policy.format t → 
 begins_rows policy t g head = (t, done ∷ [], good_table policy t g head, all_lines policy t)
 
 -- the rows of a table whose lines go on so
-pub rows_go_on : (policy : PlainPolicy) (t u : Table) (row : Row) (more : List (List ℕ)) → AllByRecursion (Fits policy.format) (rows_of t) → AllByRecursion (Fits policy.format) (rows_of u) → Fits policy.format row
+pub rows_go_on : (policy : PlainPolicy) (t u : Table) (row : Row) (more : List (List ℕ)) → AllByRecursion (Fits policy.format) (rows_of t)
+    → AllByRecursion (Fits policy.format) (rows_of u) → Fits policy.format row
     → tables_lines policy u ≡ (front policy t ++ row_words policy.format row ∷ []) ++ more → (rest : List Row) × (rows_of u ≡ rows_of t ++ row ∷ rest)
 rows_go_on policy t u row more p q r e =
     rows_split policy.format (rows_of t) (rows_of u) row more p q r
-    (ap (drop 3) (e ∙ append_assoc (front policy t) (row_words policy.format row ∷ []) more ∙ append_assoc (head_lines policy t.states t.start) (row_lines policy.format (rows_of t)) (row_words policy.format row ∷ more)))
+    (ap (drop 3) (e ∙ append_assoc (front policy t) (row_words policy.format row ∷ []) more
+    ∙ append_assoc (head_lines policy t.states t.start) (row_lines policy.format (rows_of t)) (row_words policy.format row ∷ more)))
 
 -- the lines of a table with the next row
 begins_next : (policy : PlainPolicy) (t : Table) (row : Row) → IsGood policy.format t → FitsHead (t.states, t.start) → Fits policy.format row → is_next t row ≡ true
@@ -275,7 +288,8 @@ begins_next policy t row g head fits next = (with_row t row, done ∷ [], ordere
     lines = rw (same_states t row, same_start t row, rows_next t row next, map-append (row_words policy.format) (rows_of t) (row ∷ []))
         (simp append_assoc)
 
-wrong_row : (policy : PlainPolicy) (t : Table) (rest : List ℕ) (fault : TextFault) → IsGood policy.format t → FitsHead (t.states, t.start) → fault ≢ NoMemory → IsWrongRow policy.format t rest fault → IsWrong policy (front policy t) rest fault
+wrong_row : (policy : PlainPolicy) (t : Table) (rest : List ℕ) (fault : TextFault) → IsGood policy.format t → FitsHead (t.states, t.start) → fault ≢ NoMemory
+    → IsWrongRow policy.format t rest fault → IsWrong policy (front policy t) rest fault
 wrong_row policy t rest (Line n) g head real h = (let l = front_length policy t in omega (arith, h.0, l), not_due, not_whole)
   where
     by_case : (l : List ℕ) → GoesOn rest l → IsHead policy (front policy t) l ⊎ (IsDone policy (front policy t) l ⊎ ((row : Row) × IsRow policy (front policy t) l row)) → ⊥
@@ -309,10 +323,12 @@ wrong_row policy t rest (Limit n) g head real h =
         omega (arith, ap length on.1, length-append (rows_of t) (h.2 ∷ on.0), b.2.few, h.7)
 wrong_row policy t rest NoMemory g head real h = absurd (real refl)
 
-pub a_fault : (policy : PlainPolicy) (text rows : List ℕ) (old new : Table) (fault : TextFault) (rest : List ℕ) → FitsHead (old.states, old.start) → text ≡ text_of (head_lines policy old.states old.start) ++ rows
+pub a_fault : (policy : PlainPolicy) (text rows : List ℕ) (old new : Table) (fault : TextFault) (rest : List ℕ) → FitsHead (old.states, old.start)
+    → text ≡ text_of (head_lines policy old.states old.start) ++ rows
     → AreWrong policy.format rows old new rest fault → fault ≢ NoMemory → IsFault policy text fault
 a_fault policy text rows old new fault rest head is h real =
-    let same : text ≡ text_of (head_lines policy new.states new.start) ++ rows = is ∙ ap (λ n. text_of (head_lines policy n old.start) ++ rows) (sym h.states) ∙ ap (λ m. text_of (head_lines policy new.states m) ++ rows) (sym h.start) in
+    let same : text ≡ text_of (head_lines policy new.states new.start) ++ rows = is ∙ ap (λ n. text_of (head_lines policy n old.start) ++ rows) (sym h.states)
+    ∙ ap (λ m. text_of (head_lines policy new.states m) ++ rows) (sym h.start) in
     let fits : FitsHead (new.states, new.start) = (rw h.states head.0, rw h.start head.1) in
     record {
       before = front policy new;
@@ -332,10 +348,12 @@ rows_fault policy text rows old new NoMemory head is h = tt
 -- ---- the whole text
 
 -- the text up to the end
-whole_is : (policy : PlainPolicy) (text rows rest : List ℕ) (old new : Table) (count : ℕ) → text ≡ text_of (head_lines policy old.states old.start) ++ rows → AreRead policy.format rows old new count rest
+whole_is : (policy : PlainPolicy) (text rows rest : List ℕ) (old new : Table) (count : ℕ) → text ≡ text_of (head_lines policy old.states old.start) ++ rows
+    → AreRead policy.format rows old new count rest
     → text ≡ text_of (tables_lines policy new) ++ rest
 whole_is policy text rows rest old new count is h =
-    let same : text ≡ text_of (head_lines policy new.states new.start) ++ rows = is ∙ ap (λ n. text_of (head_lines policy n old.start) ++ rows) (sym h.states) ∙ ap (λ m. text_of (head_lines policy new.states m) ++ rows) (sym h.start) in
+    let same : text ≡ text_of (head_lines policy new.states new.start) ++ rows = is ∙ ap (λ n. text_of (head_lines policy n old.start) ++ rows) (sym h.states)
+    ∙ ap (λ m. text_of (head_lines policy new.states m) ++ rows) (sym h.start) in
     front_text policy new text rows (line done ++ rest) same h.is
     ∙ sym (append_assoc (text_of (front policy new)) (line done) rest)
     ∙ ap (λ x. (text_of (front policy new) ++ x) ++ rest) (sym (append-nil (line done)))

@@ -40,7 +40,8 @@ head_parts format p line name inner small fits free is e =
     let same : inner ≡ joined 44 (head_fields format p) = append_cancel_right inner (joined 44 (head_fields format p)) (41 ∷ []) both.1 in
     (both.0, ap (words_of 44) same ∙ words_are format p small fits)
 
-pub other_version : (format version : ℕ) (old new : List (List ℕ)) → format < 2 ^ 8 → version < 2 ^ 8 → version ≢ format → old ≡ decimal version ∷ new → TakesRow FitsHead (head_fields format) old new None
+pub other_version : (format version : ℕ) (old new : List (List ℕ)) → format < 2 ^ 8 → version < 2 ^ 8 → version ≢ format → old ≡ decimal version ∷ new
+    → TakesRow FitsHead (head_fields format) old new None
 other_version format version old new small also differs is = record {
   some = tt;
   none = λ p rest fits e. differs (decimal_injective version format (omega (arith, also)) (omega (arith, small)) (same_first is e));
@@ -49,10 +50,12 @@ other_version format version old new small also differs is = record {
 pub no_call : (format : ℕ) (line : List ℕ) → ((name inner : List ℕ) → IsFree 40 name → line ≢ name ++ (40 ∷ (inner ++ 41 ∷ []))) → Reads FitsHead (words_at format) line None
 no_call format line h = record { some = tt; none = λ p fits e. h (codes "CW_TABLE") (joined 44 (head_fields format p)) head_name_free (sym e ∙ head_line format p) }
 
-pub other_name : (format : ℕ) (line name inner : List ℕ) → format < 2 ^ 8 → IsFree 40 name → line ≡ name ++ (40 ∷ (inner ++ 41 ∷ [])) → name ≢ codes "CW_TABLE" → Reads FitsHead (words_at format) line None
+pub other_name : (format : ℕ) (line name inner : List ℕ) → format < 2 ^ 8 → IsFree 40 name → line ≡ name ++ (40 ∷ (inner ++ 41 ∷ [])) → name ≢ codes "CW_TABLE"
+    → Reads FitsHead (words_at format) line None
 other_name format line name inner small free is differs = record { some = tt; none = λ p fits e. differs (head_parts format p line name inner small fits free is e).0 }
 
-pub no_fields : (format : ℕ) (line name inner : List ℕ) (new : List (List ℕ)) → format < 2 ^ 8 → IsFree 40 name → line ≡ name ++ (40 ∷ (inner ++ 41 ∷ [])) → TakesRow FitsHead (head_fields format) (words_of 44 inner) new None
+pub no_fields : (format : ℕ) (line name inner : List ℕ) (new : List (List ℕ)) → format < 2 ^ 8 → IsFree 40 name → line ≡ name ++ (40 ∷ (inner ++ 41 ∷ []))
+    → TakesRow FitsHead (head_fields format) (words_of 44 inner) new None
     → Reads FitsHead (words_at format) line None
 no_fields format line name inner new small free is h = record {
   some = tt;

@@ -16,7 +16,8 @@ use Rattle.cw_tabletext.specs.Rows.{rows_of, row_words, name_of, fields_of}
 use Rattle.cw_tabletext.specs.TablesText.{header, limits_words, table_words, head_lines, tables_lines, tables_text, text_of, done}
 use Rattle.cw_tabletext.specs.Grammar.{Fits, IsTable, Spells, BeginsAny, Begins, IsRow, IsDone, IsDue, GoesOn, IsWhole, IsWrong, IsFault, Answers}
 use Rattle.cw_tabletext.specs.Working.{FitsHead, head_fields}
-use Rattle.cw_tabletext.proofs.Adding.{mems_are, live_are, tries_are, ats_are, opened_are, closed_are, into_are, back_are, picked, mems_in, live_in, tries_in, ats_in, opened_in, closed_in, into_in, back_in}
+use Rattle.cw_tabletext.proofs.Adding.{mems_are, live_are, tries_are, ats_are, opened_are, closed_are, into_are, back_are, picked, mems_in, live_in, tries_in, ats_in, opened_in}
+use Rattle.cw_tabletext.proofs.Adding.{closed_in, into_in, back_in}
 use Rattle.cw_tabletext.proofs.Faults.{line_is, the_line, first_of, second_of, third_of}
 use Rattle.cw_tabletext.proofs.HeadLines.{head_parts, head_line, head_name_free, head_fields_free, words_are, words_at}
 use Rattle.cw_tabletext.proofs.RowLines.{line_feed, name_free, fields_free, row_line}
@@ -29,7 +30,9 @@ same_table : {s z : ℕ} {m k : MemId} {a p : _} {b q : _} {c r : _} {d v : _} {
 same_table e0 e1 e2 e3 e4 e5 e6 e7 e8 e9 = rw (e0, e1, e2, e3, e4, e5, e6, e7, e8, e9) refl
 
 one_table_of_rows : (t u : Table) → t.states ≡ u.states → t.start ≡ u.start → rows_of t ≡ rows_of u → t ≡ u
-one_table_of_rows t u s m e = same_table s m (sym (mems_are t) ∙ ap (picked mems_in) e ∙ mems_are u) (sym (live_are t) ∙ ap (picked live_in) e ∙ live_are u) (sym (tries_are t) ∙ ap (picked tries_in) e ∙ tries_are u) (sym (ats_are t) ∙ ap (picked ats_in) e ∙ ats_are u) (sym (opened_are t) ∙ ap (picked opened_in) e ∙ opened_are u) (sym (closed_are t) ∙ ap (picked closed_in) e ∙ closed_are u) (sym (into_are t) ∙ ap (picked into_in) e ∙ into_are u) (sym (back_are t) ∙ ap (picked back_in) e ∙ back_are u)
+one_table_of_rows t u s m e = same_table s m (sym (mems_are t) ∙ ap (picked mems_in) e ∙ mems_are u) (sym (live_are t) ∙ ap (picked live_in) e ∙ live_are u)
+    (sym (tries_are t) ∙ ap (picked tries_in) e ∙ tries_are u) (sym (ats_are t) ∙ ap (picked ats_in) e ∙ ats_are u) (sym (opened_are t) ∙ ap (picked opened_in) e ∙ opened_are u)
+    (sym (closed_are t) ∙ ap (picked closed_in) e ∙ closed_are u) (sym (into_are t) ∙ ap (picked into_in) e ∙ into_are u) (sym (back_are t) ∙ ap (picked back_in) e ∙ back_are u)
 
 abbrev mem_of : ℕ → MemId
 mem_of n = record { 0 = n }
@@ -54,21 +57,25 @@ Free lines = AllByRecursion (IsFree 10) lines
 call_free : (name : List ℕ) (fields : List (List ℕ)) → IsFree 10 name → All (IsFree 10) fields → IsFree 10 (name ++ (40 ∷ (joined 44 fields ++ 41 ∷ [])))
 call_free name fields free all =
     let P : ℕ → Type 0 = λ b. eqb b 10 ≡ false in
-    All-append P name (40 ∷ (joined 44 fields ++ 41 ∷ [])) free (All-cons P 40 (joined 44 fields ++ 41 ∷ []) refl (All-append P (joined 44 fields) (41 ∷ []) (joined_free 44 10 refl fields all) (All-cons P 41 [] refl (All-nil P))))
+    All-append P name (40 ∷ (joined 44 fields ++ 41 ∷ [])) free
+    (All-cons P 40 (joined 44 fields ++ 41 ∷ []) refl (All-append P (joined 44 fields) (41 ∷ []) (joined_free 44 10 refl fields all) (All-cons P 41 [] refl (All-nil P))))
 
 row_free : (format : ℕ) (row : Row) → Fits format row → IsFree 10 (row_words format row)
 row_free format row fits = subst (IsFree 10) (sym (row_line format row)) (call_free (name_of row) (fields_of format row) (name_free 10 (omega arith) row) (fields_free 10 line_feed format row fits))
 
 head_free : (format : ℕ) (p : ℕ × MemId) → format < 2 ^ 8 → FitsHead p → IsFree 10 (words_at format p)
-head_free format p small fits = subst (IsFree 10) (sym (head_line format p)) (call_free (codes "CW_TABLE") (head_fields format p) (free_from_test (λ b. ltb 44 b) 10 (codes "CW_TABLE") refl refl) (head_fields_free 10 line_feed format p small fits))
+head_free format p small fits = subst (IsFree 10) (sym (head_line format p))
+    (call_free (codes "CW_TABLE") (head_fields format p) (free_from_test (λ b. ltb 44 b) 10 (codes "CW_TABLE") refl refl) (head_fields_free 10 line_feed format p small fits))
 
 rows_free : (format : ℕ) (rows : List Row) → AllByRecursion (Fits format) rows → Free (map (row_words format) rows ++ done ∷ [])
 rows_free format [] all = (free_from_test (λ b. ltb 44 b) 10 done refl refl, tt)
 rows_free format (r ∷ rows) all = (row_free format r all.0, rows_free format rows all.1)
 
 all_free : (policy : PlainPolicy) (t : Table) → policy.format < 2 ^ 8 → IsFree 10 (limits_words policy) → IsTable policy.format t → Free (tables_lines policy t)
-all_free policy t small limits p =
-    (free_from_test (λ b. ltb 31 b) 10 header refl refl, (limits, (head_free policy.format (t.states, t.start) small (p.ordered.states, p.ordered.start), rows_free policy.format (rows_of t) p.ordered.rows)))
+all_free policy t small limits p = (
+  free_from_test (λ b. ltb 31 b) 10 header refl refl,
+  (limits, (head_free policy.format (t.states, t.start) small (p.ordered.states, p.ordered.start), rows_free policy.format (rows_of t) p.ordered.rows)),
+)
 
 front_free : (a b : List (List ℕ)) → Free (a ++ b) → Free a
 front_free [] b all = tt
@@ -138,7 +145,8 @@ due policy (x ∷ []) l b =
       _,
       b.2.states,
       b.2.start,
-      ap (λ z. z ∷ limits_words policy ∷ table_words policy.format b.0.states b.0.start ∷ []) (ap first_of b.3) ∙ ap (λ z. x ∷ z ∷ table_words policy.format b.0.states b.0.start ∷ []) (ap second_of b.3),
+      ap (λ z. z ∷ limits_words policy ∷ table_words policy.format b.0.states b.0.start ∷ []) (ap first_of b.3)
+          ∙ ap (λ z. x ∷ z ∷ table_words policy.format b.0.states b.0.start ∷ []) (ap second_of b.3),
     )
 due policy (x ∷ y ∷ []) l b =
     inl (
@@ -147,7 +155,8 @@ due policy (x ∷ y ∷ []) l b =
       _,
       b.2.states,
       b.2.start,
-      ap (λ z. z ∷ limits_words policy ∷ table_words policy.format b.0.states b.0.start ∷ []) (ap first_of b.3) ∙ ap (λ z. x ∷ z ∷ table_words policy.format b.0.states b.0.start ∷ []) (ap second_of b.3)
+      ap (λ z. z ∷ limits_words policy ∷ table_words policy.format b.0.states b.0.start ∷ []) (ap first_of b.3)
+          ∙ ap (λ z. x ∷ z ∷ table_words policy.format b.0.states b.0.start ∷ []) (ap second_of b.3)
           ∙ ap (λ z. x ∷ y ∷ z ∷ []) (ap third_of b.3),
     )
 due policy (x ∷ y ∷ z ∷ ds) l b =
@@ -178,7 +187,8 @@ no_longer policy before rest l (Order n) h g b = h.5 (subst (λ k. BeginsAny pol
 no_longer policy before rest l (Limit n) h g b = h.4 (subst (λ k. Begins policy (before ++ k ∷ [])) (sym (same_next rest l h.1 g h.2)) b)
 no_longer policy before rest l NoMemory h g b = h
 
-longer_is_wrong : (policy : PlainPolicy) (a b : List (List ℕ)) (r s : List ℕ) (fault : TextFault) → policy.format < 2 ^ 8 → IsFree 10 (limits_words policy) → Begins policy b → IsWrong policy a r fault → Longer a b r s → ⊥
+longer_is_wrong : (policy : PlainPolicy) (a b : List (List ℕ)) (r s : List ℕ) (fault : TextFault) → policy.format < 2 ^ 8 → IsFree 10 (limits_words policy) → Begins policy b
+    → IsWrong policy a r fault → Longer a b r s → ⊥
 longer_is_wrong policy a b r s fault small limits begins wrong h =
     let longer : Begins policy (a ++ h.next ∷ h.more) = subst (Begins policy) h.is begins in
     let free = begins_free policy (a ++ h.next ∷ []) small limits (fewer policy a h.more h.next longer) in
@@ -206,7 +216,8 @@ one_wrong policy before rest (Order m) NoMemory p q = absurd q
 one_wrong policy before rest (Limit m) NoMemory p q = absurd q
 
 pub one_fault : (policy : PlainPolicy) (text : List ℕ) (f g : TextFault) → policy.format < 2 ^ 8 → IsFree 10 (limits_words policy) → IsFault policy text f → IsFault policy text g → f ≡ g
-one_fault policy text f g small limits p q = by_split (lines_split p.before q.before p.rest q.rest (begins_free policy p.before small limits p.begins) (begins_free policy q.before small limits q.begins) (sym p.cut ∙ q.cut))
+one_fault policy text f g small limits p q = by_split (lines_split p.before q.before p.rest q.rest (begins_free policy p.before small limits p.begins)
+    (begins_free policy q.before small limits q.begins) (sym p.cut ∙ q.cut))
   where
     by_split : Split p.before q.before p.rest q.rest → f ≡ g
     by_split (inl h) = one_wrong policy p.before p.rest f g p.wrong (subst (λ r. IsWrong policy p.before r g) (sym h.rest) (subst (λ b. IsWrong policy b q.rest g) (sym h.lines) q.wrong))
@@ -224,7 +235,8 @@ nothing_left l more e = omega (arith, ap length e, length-append (line l) more, 
 
 pub one_table : (policy : PlainPolicy) (text : List ℕ) (t u : Table) → policy.format < 2 ^ 8 → IsFree 10 (limits_words policy) → Spells policy text t → Spells policy text u → t ≡ u
 one_table policy text t u small limits p q =
-    by_split (lines_split (tables_lines policy t) (tables_lines policy u) [] [] (all_free policy t small limits p.table) (all_free policy u small limits q.table) (sym (whole_text_is policy text t p) ∙ whole_text_is policy text u q))
+    by_split (lines_split (tables_lines policy t) (tables_lines policy u) [] [] (all_free policy t small limits p.table) (all_free policy u small limits q.table)
+    (sym (whole_text_is policy text t p) ∙ whole_text_is policy text u q))
   where
     by_split : Split (tables_lines policy t) (tables_lines policy u) [] [] → t ≡ u
     by_split (inl h) = same_lines policy t u small p.table q.table h.lines
@@ -239,7 +251,8 @@ no_wrong_at_end policy lines NoMemory whole h = h
 
 pub not_both : (policy : PlainPolicy) (text : List ℕ) (t : Table) (fault : TextFault) → policy.format < 2 ^ 8 → IsFree 10 (limits_words policy) → Spells policy text t → IsFault policy text fault → ⊥
 not_both policy text t fault small limits p q =
-    by_split (lines_split q.before (tables_lines policy t) q.rest [] (begins_free policy q.before small limits q.begins) (all_free policy t small limits p.table) (sym q.cut ∙ whole_text_is policy text t p))
+    by_split (lines_split q.before (tables_lines policy t) q.rest [] (begins_free policy q.before small limits q.begins) (all_free policy t small limits p.table)
+    (sym q.cut ∙ whole_text_is policy text t p))
   where
     by_split : Split q.before (tables_lines policy t) q.rest [] → ⊥
     by_split (inl h) = no_wrong_at_end policy q.before fault (t, p.table, h.lines) (subst (λ r. IsWrong policy q.before r fault) h.rest q.wrong)
@@ -250,7 +263,8 @@ abbrev ok : Table → Result Table TextFault
 ok t = Ok t
 
 -- what a reader answers for a table's text is the table, unless memory ran out
-pub read_back : (policy : PlainPolicy) (text : List ℕ) (t : Table) (answer : Result Table TextFault) → policy.format < 2 ^ 8 → IsFree 10 (limits_words policy) → Spells policy text t → Answers policy text answer
+pub read_back : (policy : PlainPolicy) (text : List ℕ) (t : Table) (answer : Result Table TextFault) → policy.format < 2 ^ 8 → IsFree 10 (limits_words policy) → Spells policy text t
+    → Answers policy text answer
     → (answer ≡ Ok t) ⊎ (answer ≡ Err NoMemory)
 read_back policy text t (Ok u) small limits p q = inl (ap (λ (v : Table). ok v) (one_table policy text u t small limits q p))
 read_back policy text t (Err (Line n)) small limits p q = absurd (not_both policy text t (Line n) small limits p q)

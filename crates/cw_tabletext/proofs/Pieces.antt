@@ -19,16 +19,20 @@ use Rattle.cw_tabletext.specs.Working.{row_lines}
 use Rattle.cw_tabletext.proofs.Adding.{memories_more}
 
 -- a name, and fields with a mark behind each
-pub two_fields : (t0 t1 t2 t3 t4 name a b : List ℕ) → t1 ≡ t0 ++ (name ++ 40 ∷ []) → t2 ≡ t1 ++ (a ++ 44 ∷ []) → t3 ≡ t2 ++ (b ++ 41 ∷ []) → t4 ≡ t3 ++ codes "\n" → t4 ≡ t0 ++ line (called name (a ∷ b ∷ []))
+pub two_fields : (t0 t1 t2 t3 t4 name a b : List ℕ) → t1 ≡ t0 ++ (name ++ 40 ∷ []) → t2 ≡ t1 ++ (a ++ 44 ∷ []) → t3 ≡ t2 ++ (b ++ 41 ∷ []) → t4 ≡ t3 ++ codes "\n"
+    → t4 ≡ t0 ++ line (called name (a ∷ b ∷ []))
 two_fields t0 t1 t2 t3 t4 name a b h0 h1 h2 h3 = rw (h3, h2, h1, h0) (simp append_assoc)
 
-pub three_fields : (t0 t1 t2 t3 t4 t5 name a b c : List ℕ) → t1 ≡ t0 ++ (name ++ 40 ∷ []) → t2 ≡ t1 ++ (a ++ 44 ∷ []) → t3 ≡ t2 ++ (b ++ 44 ∷ []) → t4 ≡ t3 ++ (c ++ 41 ∷ []) → t5 ≡ t4 ++ codes "\n" → t5 ≡ t0 ++ line (called name (a ∷ b ∷ c ∷ []))
+pub three_fields : (t0 t1 t2 t3 t4 t5 name a b c : List ℕ) → t1 ≡ t0 ++ (name ++ 40 ∷ []) → t2 ≡ t1 ++ (a ++ 44 ∷ []) → t3 ≡ t2 ++ (b ++ 44 ∷ []) → t4 ≡ t3 ++ (c ++ 41 ∷ [])
+    → t5 ≡ t4 ++ codes "\n" → t5 ≡ t0 ++ line (called name (a ∷ b ∷ c ∷ []))
 three_fields t0 t1 t2 t3 t4 t5 name a b c h0 h1 h2 h3 h4 = rw (h4, h3, h2, h1, h0) (simp append_assoc)
 
-pub four_fields : (t0 t1 t2 t3 t4 t5 t6 name a b c d : List ℕ) → t1 ≡ t0 ++ (name ++ 40 ∷ []) → t2 ≡ t1 ++ (a ++ 44 ∷ []) → t3 ≡ t2 ++ (b ++ 44 ∷ []) → t4 ≡ t3 ++ (c ++ 44 ∷ []) → t5 ≡ t4 ++ (d ++ 41 ∷ []) → t6 ≡ t5 ++ codes "\n" → t6 ≡ t0 ++ line (called name (a ∷ b ∷ c ∷ d ∷ []))
+pub four_fields : (t0 t1 t2 t3 t4 t5 t6 name a b c d : List ℕ) → t1 ≡ t0 ++ (name ++ 40 ∷ []) → t2 ≡ t1 ++ (a ++ 44 ∷ []) → t3 ≡ t2 ++ (b ++ 44 ∷ []) → t4 ≡ t3 ++ (c ++ 44 ∷ [])
+    → t5 ≡ t4 ++ (d ++ 41 ∷ []) → t6 ≡ t5 ++ codes "\n" → t6 ≡ t0 ++ line (called name (a ∷ b ∷ c ∷ d ∷ []))
 four_fields t0 t1 t2 t3 t4 t5 t6 name a b c d h0 h1 h2 h3 h4 h5 = rw (h5, h4, h3, h2, h1, h0) (simp append_assoc)
 
-pub five_fields : (t0 t1 t2 t3 t4 t5 t6 t7 name a b c d e : List ℕ) → t1 ≡ t0 ++ (name ++ 40 ∷ []) → t2 ≡ t1 ++ (a ++ 44 ∷ []) → t3 ≡ t2 ++ (b ++ 44 ∷ []) → t4 ≡ t3 ++ (c ++ 44 ∷ []) → t5 ≡ t4 ++ (d ++ 44 ∷ []) → t6 ≡ t5 ++ (e ++ 41 ∷ []) → t7 ≡ t6 ++ codes "\n" → t7 ≡ t0 ++ line (called name (a ∷ b ∷ c ∷ d ∷ e ∷ []))
+pub five_fields : (t0 t1 t2 t3 t4 t5 t6 t7 name a b c d e : List ℕ) → t1 ≡ t0 ++ (name ++ 40 ∷ []) → t2 ≡ t1 ++ (a ++ 44 ∷ []) → t3 ≡ t2 ++ (b ++ 44 ∷ []) → t4 ≡ t3 ++ (c ++ 44 ∷ [])
+    → t5 ≡ t4 ++ (d ++ 44 ∷ []) → t6 ≡ t5 ++ (e ++ 41 ∷ []) → t7 ≡ t6 ++ codes "\n" → t7 ≡ t0 ++ line (called name (a ∷ b ∷ c ∷ d ∷ e ∷ []))
 five_fields t0 t1 t2 t3 t4 t5 t6 t7 name a b c d e h0 h1 h2 h3 h4 h5 h6 = rw (h6, h5, h4, h3, h2, h1, h0) (simp append_assoc)
 
 -- the lines of rows of one kind
@@ -52,8 +56,7 @@ unfolding limits_line limits_words
 limits_is policy = refl
 
 -- the whole text, piece by piece
-pub whole_text : (policy : PlainPolicy) (t : Table) (t0 t1 t2 t3 t4 t5 t6 t7 t8 t9 t10 t11 t12 : List ℕ) → t0 ≡ []
-    → t1 ≡ t0 ++ codes "#include \"capweave.h\"\n"
+pub whole_text : (policy : PlainPolicy) (t : Table) (t0 t1 t2 t3 t4 t5 t6 t7 t8 t9 t10 t11 t12 : List ℕ) → t1 ≡ t0 ++ codes "#include \"capweave.h\"\n"
     → t2 ≡ t1 ++ limits_line policy
     → t3 ≡ t2 ++ line (table_words policy.format t.states t.start)
     → t4 ≡ t3 ++ text_of (row_lines policy.format (memories 0 t.mems))
@@ -65,8 +68,19 @@ pub whole_text : (policy : PlainPolicy) (t : Table) (t0 t1 t2 t3 t4 t5 t6 t7 t8 
     → t10 ≡ t9 ++ flat_map (λ x. line (called (codes "CW_INTO") (into_fields x))) t.into
     → t11 ≡ t10 ++ flat_map (λ x. line (called (codes "CW_BACK") (back_fields x))) t.back
     → t12 ≡ t11 ++ codes "CW_DONE\n"
-    → t12 ≡ tables_text policy t
+    → t12 ≡ t0 ++ tables_text policy t
 unfolding tables_text rows_of row_words
-whole_text policy t t0 t1 t2 t3 t4 t5 t6 t7 t8 t9 t10 t11 t12 h0 h1 h2 h3 h4 h5 h6 h7 h8 h9 h10 h11 h12 =
-    rw (h12, h11, h10, h9, h8, h7, h6, h5, h4, h3, h2, h1, h0, limits_is policy)
-    (simp (append_assoc, map-append, flat_map-append, kind_text policy.format Live t.live, kind_text policy.format Try t.tries, kind_text policy.format At t.ats, kind_text policy.format Opened t.opened, kind_text policy.format Closed t.closed, kind_text policy.format Into t.into, kind_text policy.format Back t.back))
+whole_text policy t t0 t1 t2 t3 t4 t5 t6 t7 t8 t9 t10 t11 t12 h1 h2 h3 h4 h5 h6 h7 h8 h9 h10 h11 h12 =
+    rw (h12, h11, h10, h9, h8, h7, h6, h5, h4, h3, h2, h1, limits_is policy)
+    (simp (
+      append_assoc,
+      map-append,
+      flat_map-append,
+      kind_text policy.format Live t.live,
+      kind_text policy.format Try t.tries,
+      kind_text policy.format At t.ats,
+      kind_text policy.format Opened t.opened,
+      kind_text policy.format Closed t.closed,
+      kind_text policy.format Into t.into,
+      kind_text policy.format Back t.back,
+    ))

@@ -1,5 +1,6 @@
 -- The words of a row's line, and that no two rows have one line.
-use Rattle.std.proofs.Common.{◌≡◌, ◌≢◌, ℕ, zero, suc, ◌||◌, if◌then◌else◌, length-append, ◌^◌, ◌<◌, ◌≤◌, Bool, true, false, eqb, ltb, List, [], ◌∷◌, ◌++◌, length, get_or, drop, refl, sym, ap, ◌∙◌, arith, append-nil}
+use Rattle.std.proofs.Common.{◌≡◌, ◌≢◌, ℕ, zero, suc, ◌||◌, if◌then◌else◌, length-append, ◌^◌, ◌<◌, ◌≤◌, Bool, true, false, eqb, ltb, List, [], ◌∷◌, ◌++◌, length, get_or, drop}
+use Rattle.std.proofs.Common.{refl, sym, ap, ◌∙◌, arith, append-nil}
 use Rattle.std.specs.Prelude.{Option, None, Some, codes}
 use Rattle.std.specs.Char.{is_ascii_digit}
 use Rattle.std.specs.Fmt.{decimal}
@@ -106,14 +107,24 @@ number_free mark n m small = decimal_free mark n m.digit (omega (arith, small))
 each_free : (mark : ℕ) → IsMark mark → (format : ℕ) (row : Row) → Fits format row → AllByRecursion (IsFree mark) (fields_of format row)
 each_free mark m format (Memory n x) fits = (number_free mark n m fits.0, (decimal_free mark x.0.0 m.digit (omega (arith, fits.1)), (set_text_free mark format x.1 m.spelling fits.2, tt)))
 each_free mark m format (Live r) fits = (number_free mark r.0.0 m fits.0, (number_free mark r.1.0 m fits.1, tt))
-each_free mark m format (Try r) fits =
-    (number_free mark r.seam.0 m fits.0, (decimal_free mark r.stage m.digit (omega (arith, fits.1)), (number_free mark r.mem.0 m fits.2, (answer_free mark m.digit m.missing r.granted fits.3, (answer_free mark m.digit m.missing r.refused fits.4, tt)))))
+each_free mark m format (Try r) fits = (
+  number_free mark r.seam.0 m fits.0,
+  (
+    decimal_free mark r.stage m.digit (omega (arith, fits.1)),
+    (number_free mark r.mem.0 m fits.2, (answer_free mark m.digit m.missing r.granted fits.3, (answer_free mark m.digit m.missing r.refused fits.4, tt))),
+  ),
+)
 each_free mark m format (At r) fits = (number_free mark r.seam.0 m fits.0, (number_free mark r.mem.0 m fits.1, (number_free mark r.after.0 m fits.2, tt)))
 each_free mark m format (Opened r) fits = (number_free mark r.seam.0 m fits.0, (number_free mark r.mem.0 m fits.1, (number_free mark r.opened.0 m fits.2, (number_free mark r.failed.0 m fits.3, tt))))
 each_free mark m format (Closed r) fits = (number_free mark r.seam.0 m fits.0, (number_free mark r.mem.0 m fits.1, (number_free mark r.after.0 m fits.2, tt)))
 each_free mark m format (Into r) fits = (number_free mark r.seam.0 m fits.0, (mode_free mark m.digit r.split, (number_free mark r.mem.0 m fits.1, (number_free mark r.callee.0 m fits.2, tt))))
-each_free mark m format (Back r) fits =
-    (number_free mark r.seam.0 m fits.0, (mode_free mark m.digit r.split, (number_free mark r.mem.0 m fits.1, (decimal_free mark r.exit.0 m.digit (omega (arith, fits.2)), (number_free mark r.after.0 m fits.3, tt)))))
+each_free mark m format (Back r) fits = (
+  number_free mark r.seam.0 m fits.0,
+  (
+    mode_free mark m.digit r.split,
+    (number_free mark r.mem.0 m fits.1, (decimal_free mark r.exit.0 m.digit (omega (arith, fits.2)), (number_free mark r.after.0 m fits.3, tt))),
+  ),
+)
 
 pub fields_free : (mark : ℕ) → IsMark mark → (format : ℕ) (row : Row) → Fits format row → All (IsFree mark) (fields_of format row)
 fields_free mark m format row fits = All-from_recursion (IsFree mark) (fields_of format row) (each_free mark m format row fits)
@@ -182,7 +193,8 @@ no_fields format line name inner new free is h = record {
       h.none row [] fits p.0 (p.1 ∙ sym (append-nil (fields_of format row)));
 }
 
-pub more_fields : (format : ℕ) (line name inner : List ℕ) (new : List (List ℕ)) (found : Row) → IsFree 40 name → line ≡ name ++ (40 ∷ (inner ++ 41 ∷ [])) → TakesNamed format name (words_of 44 inner) new (Some found)
+pub more_fields : (format : ℕ) (line name inner : List ℕ) (new : List (List ℕ)) (found : Row) → IsFree 40 name → line ≡ name ++ (40 ∷ (inner ++ 41 ∷ []))
+    → TakesNamed format name (words_of 44 inner) new (Some found)
     → (new ≡ [] → ⊥) → Reads (Fits format) (row_words format) line None
 more_fields format line name inner new found free is h left = record {
   some = tt;
@@ -214,7 +226,8 @@ same_last [] (z ∷ b) x y e = absurd (omega (arith, ap length e, length-append 
 same_last (z ∷ a) [] x y e = absurd (omega (arith, ap length e, length-append a (x ∷ [])))
 same_last (z ∷ a) (w ∷ b) x y e = same_last a b x y (ap (drop 1) e)
 
-pub other_end : (line name rest inner : List ℕ) (last : ℕ) → IsFree 40 name → line ≡ name ++ (40 ∷ rest) → rest ≡ inner ++ last ∷ [] → last ≢ 41 → (other more : List ℕ) → IsFree 40 other → line ≢ other ++ (40 ∷ (more ++ 41 ∷ []))
+pub other_end : (line name rest inner : List ℕ) (last : ℕ) → IsFree 40 name → line ≡ name ++ (40 ∷ rest) → rest ≡ inner ++ last ∷ [] → last ≢ 41 → (other more : List ℕ)
+    → IsFree 40 other → line ≢ other ++ (40 ∷ (more ++ 41 ∷ []))
 other_end line name rest inner last free is split differs other more plainly e =
     let p = one_line 40 name other rest (more ++ 41 ∷ []) free plainly (sym is ∙ e) in
     differs (same_last inner more last 41 (sym split ∙ p.1))

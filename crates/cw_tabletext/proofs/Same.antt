@@ -112,7 +112,9 @@ same_row format (Try r) (Try s) p q name e =
     let e2 = number 2 r.mem.0 s.mem.0 _ _ p.2 q.2 e refl refl in
     let e3 = same_answer r.granted s.granted p.3 q.3 (ap (nth 3) e) in
     let e4 = same_answer r.refused s.refused p.4 q.4 (ap (nth 4) e) in
-    ap (λ (x : ℕ). Try (try_row x r.stage r.mem.0 r.granted r.refused)) e0 ∙ ap (λ (x : ℕ). Try (try_row s.seam.0 x r.mem.0 r.granted r.refused)) e1 ∙ ap (λ (x : ℕ). Try (try_row s.seam.0 s.stage x r.granted r.refused)) e2 ∙ ap (λ (x : Option MemId). Try (try_row s.seam.0 s.stage s.mem.0 x r.refused)) e3 ∙ ap (λ (x : Option MemId). Try (try_row s.seam.0 s.stage s.mem.0 s.granted x)) e4
+    ap (λ (x : ℕ). Try (try_row x r.stage r.mem.0 r.granted r.refused)) e0 ∙ ap (λ (x : ℕ). Try (try_row s.seam.0 x r.mem.0 r.granted r.refused)) e1
+    ∙ ap (λ (x : ℕ). Try (try_row s.seam.0 s.stage x r.granted r.refused)) e2 ∙ ap (λ (x : Option MemId). Try (try_row s.seam.0 s.stage s.mem.0 x r.refused)) e3
+    ∙ ap (λ (x : Option MemId). Try (try_row s.seam.0 s.stage s.mem.0 s.granted x)) e4
 same_row format (Try r) (At s) p q name e = let l4 : 84 ≡ 65 = ap fourth name in absurd (omega (arith, l4))
 same_row format (Try r) (Opened s) p q name e = let l4 : 84 ≡ 79 = ap fourth name in absurd (omega (arith, l4))
 same_row format (Try r) (Closed s) p q name e = let l4 : 84 ≡ 67 = ap fourth name in absurd (omega (arith, l4))
@@ -139,7 +141,8 @@ same_row format (Opened r) (Opened s) p q name e =
     let e1 = number 1 r.mem.0 s.mem.0 _ _ p.1 q.1 e refl refl in
     let e2 = number 2 r.opened.0 s.opened.0 _ _ p.2 q.2 e refl refl in
     let e3 = number 3 r.failed.0 s.failed.0 _ _ p.3 q.3 e refl refl in
-    ap (λ (x : ℕ). Opened (open_row x r.mem.0 r.opened.0 r.failed.0)) e0 ∙ ap (λ (x : ℕ). Opened (open_row s.seam.0 x r.opened.0 r.failed.0)) e1 ∙ ap (λ (x : ℕ). Opened (open_row s.seam.0 s.mem.0 x r.failed.0)) e2 ∙ ap (λ (x : ℕ). Opened (open_row s.seam.0 s.mem.0 s.opened.0 x)) e3
+    ap (λ (x : ℕ). Opened (open_row x r.mem.0 r.opened.0 r.failed.0)) e0 ∙ ap (λ (x : ℕ). Opened (open_row s.seam.0 x r.opened.0 r.failed.0)) e1
+    ∙ ap (λ (x : ℕ). Opened (open_row s.seam.0 s.mem.0 x r.failed.0)) e2 ∙ ap (λ (x : ℕ). Opened (open_row s.seam.0 s.mem.0 s.opened.0 x)) e3
 same_row format (Opened r) (Closed s) p q name e = let l4 : 79 ≡ 67 = ap fourth name in absurd (omega (arith, l4))
 same_row format (Opened r) (Into s) p q name e = let l4 : 79 ≡ 73 = ap fourth name in absurd (omega (arith, l4))
 same_row format (Opened r) (Back s) p q name e = let l4 : 79 ≡ 66 = ap fourth name in absurd (omega (arith, l4))
@@ -166,7 +169,8 @@ same_row format (Into r) (Into s) p q name e =
     let e1 = same_mode r.split s.split (ap (nth 1) e) in
     let e2 = number 2 r.mem.0 s.mem.0 _ _ p.1 q.1 e refl refl in
     let e3 = number 3 r.callee.0 s.callee.0 _ _ p.2 q.2 e refl refl in
-    ap (λ (x : ℕ). Into (into_row x r.split r.mem.0 r.callee.0)) e0 ∙ ap (λ (x : Bool). Into (into_row s.seam.0 x r.mem.0 r.callee.0)) e1 ∙ ap (λ (x : ℕ). Into (into_row s.seam.0 s.split x r.callee.0)) e2 ∙ ap (λ (x : ℕ). Into (into_row s.seam.0 s.split s.mem.0 x)) e3
+    ap (λ (x : ℕ). Into (into_row x r.split r.mem.0 r.callee.0)) e0 ∙ ap (λ (x : Bool). Into (into_row s.seam.0 x r.mem.0 r.callee.0)) e1
+    ∙ ap (λ (x : ℕ). Into (into_row s.seam.0 s.split x r.callee.0)) e2 ∙ ap (λ (x : ℕ). Into (into_row s.seam.0 s.split s.mem.0 x)) e3
 same_row format (Into r) (Back s) p q name e = let l4 : 73 ≡ 66 = ap fourth name in absurd (omega (arith, l4))
 same_row format (Back r) (Memory k l) p q name e = let l4 : 66 ≡ 77 = ap fourth name in absurd (omega (arith, l4))
 same_row format (Back r) (Live s) p q name e = let l4 : 66 ≡ 76 = ap fourth name in absurd (omega (arith, l4))
@@ -181,7 +185,9 @@ same_row format (Back r) (Back s) p q name e =
     let e2 = number 2 r.mem.0 s.mem.0 _ _ p.1 q.1 e refl refl in
     let e3 = number 3 r.exit.0 s.exit.0 _ _ (omega (arith, p.2)) (omega (arith, q.2)) e refl refl in
     let e4 = number 4 r.after.0 s.after.0 _ _ p.3 q.3 e refl refl in
-    ap (λ (x : ℕ). Back (back_row x r.split r.mem.0 r.exit.0 r.after.0)) e0 ∙ ap (λ (x : Bool). Back (back_row s.seam.0 x r.mem.0 r.exit.0 r.after.0)) e1 ∙ ap (λ (x : ℕ). Back (back_row s.seam.0 s.split x r.exit.0 r.after.0)) e2 ∙ ap (λ (x : ℕ). Back (back_row s.seam.0 s.split s.mem.0 x r.after.0)) e3 ∙ ap (λ (x : ℕ). Back (back_row s.seam.0 s.split s.mem.0 s.exit.0 x)) e4
+    ap (λ (x : ℕ). Back (back_row x r.split r.mem.0 r.exit.0 r.after.0)) e0 ∙ ap (λ (x : Bool). Back (back_row s.seam.0 x r.mem.0 r.exit.0 r.after.0)) e1
+    ∙ ap (λ (x : ℕ). Back (back_row s.seam.0 s.split x r.exit.0 r.after.0)) e2 ∙ ap (λ (x : ℕ). Back (back_row s.seam.0 s.split s.mem.0 x r.after.0)) e3
+    ∙ ap (λ (x : ℕ). Back (back_row s.seam.0 s.split s.mem.0 s.exit.0 x)) e4
 
 pub one_row : (format : ℕ) (a b : Row) → Fits format a → Fits format b → row_words format a ≡ row_words format b → a ≡ b
 one_row format a b p q e =

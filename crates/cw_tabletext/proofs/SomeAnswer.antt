@@ -20,7 +20,8 @@ use Rattle.cw_tabletext.specs.Grammar.{IsAnswer, Fits, Spells, IsFault}
 use Rattle.cw_tabletext.specs.Rows.{rows_of, row_words}
 use Rattle.cw_tabletext.specs.TablesText.{table_words, head_lines, text_of, done}
 use Rattle.cw_tabletext.specs.Working.{FitsHead, IsGood, IsRowLine, IsWrongRow, AreRead, AreWrong, is_next, with_row, row_lines}
-use Rattle.cw_tabletext.proofs.Faults.{line_is, goes_on, no_more, empty, is_empty, fault_1, fault_2, fault_3_missing, fault_3_misspelled, head_is, start_good, start_text, next_text, next_good, same_states, same_start, no_row, a_fault, reads_table, behind_fault}
+use Rattle.cw_tabletext.proofs.Faults.{line_is, goes_on, no_more, empty, is_empty, fault_1, fault_2, fault_3_missing, fault_3_misspelled, head_is, start_good, start_text}
+use Rattle.cw_tabletext.proofs.Faults.{next_text, next_good, same_states, same_start, no_row, a_fault, reads_table, behind_fault}
 use Rattle.cw_tabletext.proofs.Same.{mem_of, pos_of, state_of, at_row, open_row, into_row, back_row, try_row}
 
 -- ---- what can be decided
@@ -115,44 +116,58 @@ live_kind format l = by_seek ((seek_number (2 ^ 32) (Below (2 ^ 32) FitsLast) (s
     by_seek (inr none) = inr (λ r fit e. none (r.0.0, (r.1.0, tt)) (fit.0, (fit.1, tt)) e)
 
 try_kind : (format : ℕ) (l : List ℕ) → Kind format Try l
-try_kind format l = by_seek ((seek_number (2 ^ 32) (Below (2 ^ 8) (Below (2 ^ 32) (Answered (Answered FitsLast)))) (seek_number (2 ^ 8) (Below (2 ^ 32) (Answered (Answered FitsLast))) (seek_number (2 ^ 32) (Answered (Answered FitsLast)) (seek_answer (Answered FitsLast) (seek_answer FitsLast seek_last))))) (λ p. row_words format (Try (try_row p.0 p.1.0 p.1.1.0 p.1.1.1.0 p.1.1.1.1.0))) l)
+try_kind format l = by_seek ((seek_number (2 ^ 32) (Below (2 ^ 8) (Below (2 ^ 32) (Answered (Answered FitsLast))))
+    (seek_number (2 ^ 8) (Below (2 ^ 32) (Answered (Answered FitsLast)))
+    (seek_number (2 ^ 32) (Answered (Answered FitsLast)) (seek_answer (Answered FitsLast) (seek_answer FitsLast seek_last)))))
+    (λ p. row_words format (Try (try_row p.0 p.1.0 p.1.1.0 p.1.1.1.0 p.1.1.1.1.0))) l)
   where
-    by_seek : Sought (Below (2 ^ 32) (Below (2 ^ 8) (Below (2 ^ 32) (Answered (Answered FitsLast))))) (λ p. row_words format (Try (try_row p.0 p.1.0 p.1.1.0 p.1.1.1.0 p.1.1.1.1.0))) l → Kind format Try l
+    by_seek : Sought (Below (2 ^ 32) (Below (2 ^ 8) (Below (2 ^ 32) (Answered (Answered FitsLast))))) (λ p. row_words format (Try (try_row p.0 p.1.0 p.1.1.0 p.1.1.1.0 p.1.1.1.1.0))) l
+        → Kind format Try l
     by_seek (inl q) = let p = q.0 in let fits = q.1 in inl ((try_row p.0 p.1.0 p.1.1.0 p.1.1.1.0 p.1.1.1.1.0), (fits.0, fits.1.0, fits.1.1.0, fits.1.1.1.0, fits.1.1.1.1.0), q.2)
     by_seek (inr none) = inr (λ r fit e. none (r.seam.0, (r.stage, (r.mem.0, (r.granted, (r.refused, tt))))) (fit.0, (fit.1, (fit.2, (fit.3, (fit.4, tt))))) e)
 
 at_kind : (format : ℕ) (l : List ℕ) → Kind format At l
-at_kind format l = by_seek ((seek_number (2 ^ 32) (Below (2 ^ 32) (Below (2 ^ 32) FitsLast)) (seek_number (2 ^ 32) (Below (2 ^ 32) FitsLast) (seek_number (2 ^ 32) FitsLast seek_last))) (λ p. row_words format (At (at_row p.0 p.1.0 p.1.1.0))) l)
+at_kind format l = by_seek ((seek_number (2 ^ 32) (Below (2 ^ 32) (Below (2 ^ 32) FitsLast)) (seek_number (2 ^ 32) (Below (2 ^ 32) FitsLast) (seek_number (2 ^ 32) FitsLast seek_last)))
+    (λ p. row_words format (At (at_row p.0 p.1.0 p.1.1.0))) l)
   where
     by_seek : Sought (Below (2 ^ 32) (Below (2 ^ 32) (Below (2 ^ 32) FitsLast))) (λ p. row_words format (At (at_row p.0 p.1.0 p.1.1.0))) l → Kind format At l
     by_seek (inl q) = let p = q.0 in let fits = q.1 in inl ((at_row p.0 p.1.0 p.1.1.0), (fits.0, fits.1.0, fits.1.1.0), q.2)
     by_seek (inr none) = inr (λ r fit e. none (r.seam.0, (r.mem.0, (r.after.0, tt))) (fit.0, (fit.1, (fit.2, tt))) e)
 
 opened_kind : (format : ℕ) (l : List ℕ) → Kind format Opened l
-opened_kind format l = by_seek ((seek_number (2 ^ 32) (Below (2 ^ 32) (Below (2 ^ 32) (Below (2 ^ 32) FitsLast))) (seek_number (2 ^ 32) (Below (2 ^ 32) (Below (2 ^ 32) FitsLast)) (seek_number (2 ^ 32) (Below (2 ^ 32) FitsLast) (seek_number (2 ^ 32) FitsLast seek_last)))) (λ p. row_words format (Opened (open_row p.0 p.1.0 p.1.1.0 p.1.1.1.0))) l)
+opened_kind format l = by_seek ((seek_number (2 ^ 32) (Below (2 ^ 32) (Below (2 ^ 32) (Below (2 ^ 32) FitsLast)))
+    (seek_number (2 ^ 32) (Below (2 ^ 32) (Below (2 ^ 32) FitsLast)) (seek_number (2 ^ 32) (Below (2 ^ 32) FitsLast) (seek_number (2 ^ 32) FitsLast seek_last))))
+    (λ p. row_words format (Opened (open_row p.0 p.1.0 p.1.1.0 p.1.1.1.0))) l)
   where
     by_seek : Sought (Below (2 ^ 32) (Below (2 ^ 32) (Below (2 ^ 32) (Below (2 ^ 32) FitsLast)))) (λ p. row_words format (Opened (open_row p.0 p.1.0 p.1.1.0 p.1.1.1.0))) l → Kind format Opened l
     by_seek (inl q) = let p = q.0 in let fits = q.1 in inl ((open_row p.0 p.1.0 p.1.1.0 p.1.1.1.0), (fits.0, fits.1.0, fits.1.1.0, fits.1.1.1.0), q.2)
     by_seek (inr none) = inr (λ r fit e. none (r.seam.0, (r.mem.0, (r.opened.0, (r.failed.0, tt)))) (fit.0, (fit.1, (fit.2, (fit.3, tt)))) e)
 
 closed_kind : (format : ℕ) (l : List ℕ) → Kind format Closed l
-closed_kind format l = by_seek ((seek_number (2 ^ 32) (Below (2 ^ 32) (Below (2 ^ 32) FitsLast)) (seek_number (2 ^ 32) (Below (2 ^ 32) FitsLast) (seek_number (2 ^ 32) FitsLast seek_last))) (λ p. row_words format (Closed (at_row p.0 p.1.0 p.1.1.0))) l)
+closed_kind format l = by_seek ((seek_number (2 ^ 32) (Below (2 ^ 32) (Below (2 ^ 32) FitsLast))
+    (seek_number (2 ^ 32) (Below (2 ^ 32) FitsLast) (seek_number (2 ^ 32) FitsLast seek_last))) (λ p. row_words format (Closed (at_row p.0 p.1.0 p.1.1.0))) l)
   where
     by_seek : Sought (Below (2 ^ 32) (Below (2 ^ 32) (Below (2 ^ 32) FitsLast))) (λ p. row_words format (Closed (at_row p.0 p.1.0 p.1.1.0))) l → Kind format Closed l
     by_seek (inl q) = let p = q.0 in let fits = q.1 in inl ((at_row p.0 p.1.0 p.1.1.0), (fits.0, fits.1.0, fits.1.1.0), q.2)
     by_seek (inr none) = inr (λ r fit e. none (r.seam.0, (r.mem.0, (r.after.0, tt))) (fit.0, (fit.1, (fit.2, tt))) e)
 
 into_kind : (format : ℕ) (l : List ℕ) → Kind format Into l
-into_kind format l = by_seek ((seek_number (2 ^ 32) (Either (Below (2 ^ 32) (Below (2 ^ 32) FitsLast))) (seek_mode (Below (2 ^ 32) (Below (2 ^ 32) FitsLast)) (seek_number (2 ^ 32) (Below (2 ^ 32) FitsLast) (seek_number (2 ^ 32) FitsLast seek_last)))) (λ p. row_words format (Into (into_row p.0 p.1.0 p.1.1.0 p.1.1.1.0))) l)
+into_kind format l = by_seek ((seek_number (2 ^ 32) (Either (Below (2 ^ 32) (Below (2 ^ 32) FitsLast)))
+    (seek_mode (Below (2 ^ 32) (Below (2 ^ 32) FitsLast)) (seek_number (2 ^ 32) (Below (2 ^ 32) FitsLast) (seek_number (2 ^ 32) FitsLast seek_last))))
+    (λ p. row_words format (Into (into_row p.0 p.1.0 p.1.1.0 p.1.1.1.0))) l)
   where
     by_seek : Sought (Below (2 ^ 32) (Either (Below (2 ^ 32) (Below (2 ^ 32) FitsLast)))) (λ p. row_words format (Into (into_row p.0 p.1.0 p.1.1.0 p.1.1.1.0))) l → Kind format Into l
     by_seek (inl q) = let p = q.0 in let fits = q.1 in inl ((into_row p.0 p.1.0 p.1.1.0 p.1.1.1.0), (fits.0, fits.1.0, fits.1.1.0), q.2)
     by_seek (inr none) = inr (λ r fit e. none (r.seam.0, (r.split, (r.mem.0, (r.callee.0, tt)))) (fit.0, (fit.1, (fit.2, tt))) e)
 
 back_kind : (format : ℕ) (l : List ℕ) → Kind format Back l
-back_kind format l = by_seek ((seek_number (2 ^ 32) (Either (Below (2 ^ 32) (Below (2 ^ 16) (Below (2 ^ 32) FitsLast)))) (seek_mode (Below (2 ^ 32) (Below (2 ^ 16) (Below (2 ^ 32) FitsLast))) (seek_number (2 ^ 32) (Below (2 ^ 16) (Below (2 ^ 32) FitsLast)) (seek_number (2 ^ 16) (Below (2 ^ 32) FitsLast) (seek_number (2 ^ 32) FitsLast seek_last))))) (λ p. row_words format (Back (back_row p.0 p.1.0 p.1.1.0 p.1.1.1.0 p.1.1.1.1.0))) l)
+back_kind format l = by_seek ((seek_number (2 ^ 32) (Either (Below (2 ^ 32) (Below (2 ^ 16) (Below (2 ^ 32) FitsLast))))
+    (seek_mode (Below (2 ^ 32) (Below (2 ^ 16) (Below (2 ^ 32) FitsLast)))
+    (seek_number (2 ^ 32) (Below (2 ^ 16) (Below (2 ^ 32) FitsLast)) (seek_number (2 ^ 16) (Below (2 ^ 32) FitsLast) (seek_number (2 ^ 32) FitsLast seek_last)))))
+    (λ p. row_words format (Back (back_row p.0 p.1.0 p.1.1.0 p.1.1.1.0 p.1.1.1.1.0))) l)
   where
-    by_seek : Sought (Below (2 ^ 32) (Either (Below (2 ^ 32) (Below (2 ^ 16) (Below (2 ^ 32) FitsLast))))) (λ p. row_words format (Back (back_row p.0 p.1.0 p.1.1.0 p.1.1.1.0 p.1.1.1.1.0))) l → Kind format Back l
+    by_seek : Sought (Below (2 ^ 32) (Either (Below (2 ^ 32) (Below (2 ^ 16) (Below (2 ^ 32) FitsLast)))))
+        (λ p. row_words format (Back (back_row p.0 p.1.0 p.1.1.0 p.1.1.1.0 p.1.1.1.1.0))) l → Kind format Back l
     by_seek (inl q) = let p = q.0 in let fits = q.1 in inl ((back_row p.0 p.1.0 p.1.1.0 p.1.1.1.0 p.1.1.1.1.0), (fits.0, fits.1.0, fits.1.1.0, fits.1.1.1.0), q.2)
     by_seek (inr none) = inr (λ r fit e. none (r.seam.0, (r.split, (r.mem.0, (r.exit.0, (r.after.0, tt))))) (fit.0, (fit.1, (fit.2, (fit.3, tt)))) e)
 
@@ -161,7 +176,8 @@ memory_row p = Memory p.0 p.1
 
 memory_of : (format size : ℕ) (l : List ℕ) → ((set : ℕ) → IsBelow size set → IsSetIn format set) → ((set : ℕ) → IsSetIn format set → IsBelow size set) → Kind format memory_row l
 memory_of format size l here there =
-    by_seek (seek_number (2 ^ 32) (Below (2 ^ 16) (Below (2 ^ size) FitsLast)) (seek_number (2 ^ 16) (Below (2 ^ size) FitsLast) (seek_number (2 ^ size) FitsLast seek_last)) (λ p. row_words format (Memory p.0 (state_of p.1.0, p.1.1.0))) l)
+    by_seek (seek_number (2 ^ 32) (Below (2 ^ 16) (Below (2 ^ size) FitsLast)) (seek_number (2 ^ 16) (Below (2 ^ size) FitsLast) (seek_number (2 ^ size) FitsLast seek_last))
+    (λ p. row_words format (Memory p.0 (state_of p.1.0, p.1.1.0))) l)
   where
     by_seek : Sought (Below (2 ^ 32) (Below (2 ^ 16) (Below (2 ^ size) FitsLast))) (λ p. row_words format (Memory p.0 (state_of p.1.0, p.1.1.0))) l → Kind format memory_row l
     by_seek (inl q) = let p = q.0 in let fits = q.1 in inl ((p.0, (state_of p.1.0, p.1.1.0)), (fits.0, fits.1.0, here p.1.1.0 (IsBelow_from_lt size p.1.1.0 fits.1.1.0)), q.2)
@@ -178,9 +194,11 @@ abbrev HasRow : (format : ℕ) → List ℕ → Type 0
 HasRow format l = (row : Row) × Fits format row × (row_words format row ≡ l)
 
 row_sought : (format : ℕ) (l : List ℕ) → HasRow format l ⊎ ((row : Row) → Fits format row → row_words format row ≢ l)
-row_sought format l = by_memory (memory_kind format l) (live_kind format l) (try_kind format l) (at_kind format l) (opened_kind format l) (closed_kind format l) (into_kind format l) (back_kind format l)
+row_sought format l = by_memory (memory_kind format l) (live_kind format l) (try_kind format l) (at_kind format l) (opened_kind format l) (closed_kind format l) (into_kind format l)
+    (back_kind format l)
   where
-    by_memory : Kind format memory_row l → Kind format Live l → Kind format Try l → Kind format At l → Kind format Opened l → Kind format Closed l → Kind format Into l → Kind format Back l → HasRow format l ⊎ ((row : Row) → Fits format row → row_words format row ≢ l)
+    by_memory : Kind format memory_row l → Kind format Live l → Kind format Try l → Kind format At l → Kind format Opened l → Kind format Closed l → Kind format Into l
+        → Kind format Back l → HasRow format l ⊎ ((row : Row) → Fits format row → row_words format row ≢ l)
     by_memory (inl p) a b c d e f g = inl (Memory p.0.0 p.0.1, p.1, p.2)
     by_memory (inr m) (inl p) b c d e f g = inl (Live p.0, p.1, p.2)
     by_memory (inr m) (inr a) (inl p) c d e f g = inl (Try p.0, p.1, p.2)
@@ -260,7 +278,8 @@ abbrev Outcome : ℕ → List ℕ → Table → Type 0
 Outcome format text old = Found format text old ⊎ Failed format text old
 
 fails : (format : ℕ) (text : List ℕ) (old t : Table) (rest : List ℕ) (fault : TextFault) → SoFar format text old t rest → fault ≢ NoMemory → IsWrongRow format t rest fault → Outcome format text old
-fails format text old t rest fault s real h = inr (record { new = t; rest = rest; fault = fault; real = real; wrong = record { is = s.is; good = s.good; states = s.states; start = s.start; wrong = h } })
+fails format text old t rest fault s real h = inr (record
+    { new = t; rest = rest; fault = fault; real = real; wrong = record { is = s.is; good = s.good; states = s.states; start = s.start; wrong = h } })
 
 abbrev Again : ℕ → ℕ → List ℕ → Table → Type 0
 Again fuel format text old = (u : Table) (left : List ℕ) → length left < fuel → SoFar format text old u left → Outcome format text old
@@ -269,8 +288,10 @@ rows_end : (format : ℕ) (fuel : ℕ) (text : List ℕ) (old t : Table) (rest :
 rows_end format zero text old t rest short s = absurd (omega (arith, short))
 rows_end format (suc fuel) text old t rest short s = by_line (λ u left low so. rows_end format fuel text old u left low so) (first_line rest)
   where
-    by_room : Again fuel format text old → (l after : List ℕ) (row : Row) → rest ≡ l ++ (10 ∷ after) → IsFree 10 l → Fits format row → row_words format row ≡ l → is_next t row ≡ true → (length (rows_of t) ≡ 65536) ⊎ (length (rows_of t) ≢ 65536) → Outcome format text old
-    by_room again l after row cut free fits is next (inl full) = fails format text old t rest (Limit (length (rows_of t) + 4)) s (λ e. absurd (cc)) (refl, l, row, goes_on rest l after free cut, fits, is, next, full)
+    by_room : Again fuel format text old → (l after : List ℕ) (row : Row) → rest ≡ l ++ (10 ∷ after) → IsFree 10 l → Fits format row → row_words format row ≡ l → is_next t row ≡ true
+        → (length (rows_of t) ≡ 65536) ⊎ (length (rows_of t) ≢ 65536) → Outcome format text old
+    by_room again l after row cut free fits is next (inl full) =
+        fails format text old t rest (Limit (length (rows_of t) + 4)) s (λ e. absurd (cc)) (refl, l, row, goes_on rest l after free cut, fits, is, next, full)
     by_room again l after row cut free fits is next (inr room) =
         let this : IsRowLine format t rest row after = record { is = cut ∙ sym (line_is l after) ∙ ap (λ x. line x ++ after) (sym is); fits = fits; next = next; few = room } in
         again (with_row t row) after (omega (arith, short, ap length cut, length-append l (10 ∷ after))) (record {
@@ -280,14 +301,18 @@ rows_end format (suc fuel) text old t rest short s = by_line (λ u left low so. 
           start = same_start t row ∙ s.start;
         })
 
-    by_next : Again fuel format text old → (l after : List ℕ) (row : Row) → rest ≡ l ++ (10 ∷ after) → IsFree 10 l → Fits format row → row_words format row ≡ l → (b : Bool) → is_next t row ≡ b → Outcome format text old
+    by_next : Again fuel format text old → (l after : List ℕ) (row : Row) → rest ≡ l ++ (10 ∷ after) → IsFree 10 l → Fits format row → row_words format row ≡ l → (b : Bool)
+        → is_next t row ≡ b → Outcome format text old
     by_next again l after row cut free fits is true next = by_room again l after row cut free fits is next (cases_eq (length (rows_of t)) 65536)
-    by_next again l after row cut free fits is false next = fails format text old t rest (Order (length (rows_of t) + 4)) s (λ e. absurd (cc)) (refl, l, row, goes_on rest l after free cut, fits, is, next)
+    by_next again l after row cut free fits is false next =
+        fails format text old t rest (Order (length (rows_of t) + 4)) s (λ e. absurd (cc)) (refl, l, row, goes_on rest l after free cut, fits, is, next)
 
-    by_row : Again fuel format text old → (l after : List ℕ) → rest ≡ l ++ (10 ∷ after) → IsFree 10 l → l ≢ done → HasRow format l ⊎ ((row : Row) → Fits format row → row_words format row ≢ l) → Outcome format text old
+    by_row : Again fuel format text old → (l after : List ℕ) → rest ≡ l ++ (10 ∷ after) → IsFree 10 l → l ≢ done
+        → HasRow format l ⊎ ((row : Row) → Fits format row → row_words format row ≢ l) → Outcome format text old
     by_row again l after cut free differs (inl h) = by_next again l after h.0 cut free h.1 h.2 (is_next t h.0) refl
     by_row again l after cut free differs (inr none) =
-        fails format text old t rest (Line (length (rows_of t) + 4)) s (λ e. absurd (cc)) (no_row format (length (rows_of t) + 4) t rest l after refl cut free differs (record { some = tt; none = none }))
+        fails format text old t rest (Line (length (rows_of t) + 4)) s (λ e. absurd (cc))
+        (no_row format (length (rows_of t) + 4) t rest l after refl cut free differs (record { some = tt; none = none }))
 
     by_end : Again fuel format text old → (l after : List ℕ) → rest ≡ l ++ (10 ∷ after) → IsFree 10 l → (l ≡ done) ⊎ (l ≢ done) → Outcome format text old
     by_end again l after cut free (inl e) = inl (record {
@@ -323,7 +348,10 @@ behind_head policy text rest states start head is =
   where
     by_left : (f : Found policy.format rest (empty states start)) → (left : List ℕ) → f.rest ≡ left → SomeAnswer policy text
     by_left f [] e = inl (f.new, reads_table policy text rest f.rest (empty states start) f.new (length (rows_of f.new)) head is f.read e)
-    by_left f (x ∷ left) e = inr (Line (length (rows_of f.new) + 5), behind_fault policy text rest f.rest (empty states start) f.new (length (rows_of f.new)) (length (rows_of f.new) + 5) head is f.read (λ none. omega (arith, ap length (sym e ∙ none))) refl)
+    by_left f (x ∷ left) e = inr (
+      Line (length (rows_of f.new) + 5),
+      behind_fault policy text rest f.rest (empty states start) f.new (length (rows_of f.new)) (length (rows_of f.new) + 5) head is f.read (λ none. omega (arith, ap length (sym e ∙ none))) refl,
+    )
 
     by_rows : Outcome policy.format rest (empty states start) → SomeAnswer policy text
     by_rows (inl f) = by_left f f.rest refl
@@ -345,7 +373,8 @@ some_answer policy text = by_header (prefixed (codes "#include \"capweave.h\"\n"
         by_words first rest p.0 p.1 is limits p.2 p.3 (seek_number (2 ^ 16) (Below (2 ^ 32) FitsLast) (seek_number (2 ^ 32) FitsLast seek_last) (λ p. table_words policy.format p.0 (mem_of p.1.0)) p.0)
     by_line first rest is limits (inr free) = inr (Line 3, fault_3_missing policy text first rest is limits free)
 
-    by_limits : (first : List ℕ) → text ≡ codes "#include \"capweave.h\"\n" ++ first → ((rest : List ℕ) × (first ≡ limits_line policy ++ rest)) ⊎ ((rest : List ℕ) → first ≢ limits_line policy ++ rest) → SomeAnswer policy text
+    by_limits : (first : List ℕ) → text ≡ codes "#include \"capweave.h\"\n" ++ first
+        → ((rest : List ℕ) × (first ≡ limits_line policy ++ rest)) ⊎ ((rest : List ℕ) → first ≢ limits_line policy ++ rest) → SomeAnswer policy text
     by_limits first is (inl p) = by_line first p.0 is p.1 (first_line p.0)
     by_limits first is (inr none) = inr (Line 2, fault_2 policy text first is none)
 

@@ -105,7 +105,8 @@ pub record IsGood (format : ℕ) (t : Table) : Type 0 where
 abbrev pub IsWrongRow : (format : ℕ) → Table → List ℕ → TextFault → Type 0
 IsWrongRow format t rest (Line n) = (n ≡ length (rows_of t) + 4) × ((l : List ℕ) → GoesOn rest l → (l ≢ done) × ((row : Row) → Fits format row → row_words format row ≢ l))
 IsWrongRow format t rest (Order n) = (n ≡ length (rows_of t) + 4) × (l : List ℕ) × (row : Row) × GoesOn rest l × Fits format row × (row_words format row ≡ l) × (is_next t row ≡ false)
-IsWrongRow format t rest (Limit n) = (n ≡ length (rows_of t) + 4) × (l : List ℕ) × (row : Row) × GoesOn rest l × Fits format row × (row_words format row ≡ l) × (is_next t row ≡ true) × (length (rows_of t) ≡ 65536)
+IsWrongRow format t rest (Limit n) = (n ≡ length (rows_of t) + 4) × (l : List ℕ) × (row : Row) × GoesOn rest l × Fits format
+    row × (row_words format row ≡ l) × (is_next t row ≡ true) × (length (rows_of t) ≡ 65536)
 IsWrongRow format t rest NoMemory = Unit {0}
 
 -- the line that comes next: CW_DONE, a row that is the next, or what is wrong

@@ -11,7 +11,9 @@ use crate::draft::Draft;
 use crate::fields::take_mem;
 use crate::line::{is_same, name_and_inner};
 use cw_core::{MemId, NoMemory};
+use cw_io::SureSink;
 use cw_lines::{TextFault, Words, next_line};
+use cw_pieces::Writer;
 use cw_rights::Policy;
 use cw_text::put_limits;
 use std::alloc::Global;
@@ -31,13 +33,17 @@ fn behind<'t>(text: &'t [u8], front: &[u8]) -> Option<&'t [u8]>
     Some(rest)
 }
 
-/// The line of a policy's limits, with its LF.
-fn limits_of(alloc: Global, policy: &Policy) -> Result<Vec<u8>, NoMemory>
-    ensures { IfOk result (λ text. text.items ≡ limits_line (policy_of policy.now)) }
+/// The line of a policy's limits, with its LF, put into a sink in memory.
+fn limits_of(alloc: Global, policy: &Policy) -> Result<SureSink, NoMemory>
+    ensures { IfOk result (λ sink. sink.bytes ≡ limits_line (policy_of policy.now)) }
 {
-    let mut text = Vec::new(alloc);
-    put_limits(policy, &mut text)?;
-    Ok(text)
+    let mut sink = SureSink::make(alloc);
+    let mut writer = Writer::begin(&sink);
+    put_limits(policy, &mut writer, &mut sink);
+    match writer.finish(&mut sink) {
+        Ok(()) => Ok(sink),
+        Err(_) => Err(NoMemory),
+    }
 }
 
 /// The fields of the table's own line, for a policy of this format.
@@ -81,7 +87,7 @@ pub(crate) fn read_head<'t>(
         return Err(TextFault::Line(1));
     };
     let limits = limits_of(alloc, policy)?;
-    let Some(rest) = behind(rest, &limits) else {
+    let Some(rest) = behind(rest, limits.bytes()) else {
         return Err(TextFault::Line(2));
     };
     let Some((line, rest)) = next_line(rest) else {

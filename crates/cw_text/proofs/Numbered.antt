@@ -44,3 +44,7 @@ mapped_step f g xs i x lt is =
 -- what was put so far, and one piece more
 pub one_more : (old now new a b whole : List ℕ) → now ≡ old ++ a → new ≡ now ++ b → whole ≡ a ++ b → new ≡ old ++ whole
 one_more old now new a b whole so_far piece both = rw (piece, so_far, both) (append_assoc old a b)
+
+-- three pieces, one after another
+pub three_pieces : (t0 t1 t2 t3 a b c : List ℕ) → t1 ≡ t0 ++ a → t2 ≡ t1 ++ b → t3 ≡ t2 ++ c → t3 ≡ t0 ++ ((a ++ b) ++ c)
+three_pieces t0 t1 t2 t3 a b c h0 h1 h2 = rw (h2, h1, h0) (simp append_assoc)

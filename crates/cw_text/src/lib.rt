@@ -2,7 +2,5 @@
 #![tactic(auto)]
 
 mod limits;
-mod lines;
 
 pub use limits::{descriptor_name, put_limits};
-pub use lines::put_bytes;

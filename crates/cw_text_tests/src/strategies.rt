@@ -4,7 +4,7 @@ use cw_certs::{EnvCert, EnvRow, How};
 use cw_core::{PosId, StateId, StateSet, put_dec};
 use cw_io::{MemSink, SinkFault, SureSink};
 use cw_lines::TextFault;
-use cw_strategies::{print_env, read_again, read_env, strategy_bytes};
+use cw_strategies::{print_env, read_again, read_env};
 use std::alloc::Global;
 use std::test::Fail;
 
@@ -12,13 +12,20 @@ const FIRST: &str = "capweave strategy 1\nstates 4\n";
 
 const SECOND: &str = "capweave strategy 2\nstates 4\n";
 
+/// A sink that took the text of a strategy.
+fn printed(alloc: Global, cert: &EnvCert, format: u8) -> Result<SureSink, Fail> {
+    let mut sink = SureSink::make(alloc);
+    print_env(cert, format, &mut sink)?;
+    Ok(sink)
+}
+
 /// The fault of a text, or none where it is a strategy's, which is then printed as the same text.
 fn fault_of(alloc: Global, text: &[u8], format: u8) -> Result<Option<TextFault>, Fail> {
     match read_env(alloc, text, format) {
         Err(fault) => Ok(Some(fault)),
         Ok(cert) => {
-            let again = strategy_bytes(alloc, &cert, format)?;
-            if again.as_slice() == text {
+            let again = printed(alloc, &cert, format)?;
+            if again.bytes() == text {
                 Ok(None)
             } else {
                 Ok(Some(TextFault::NoMemory))
@@ -339,14 +346,39 @@ fn put_to_sinks(rt: HostRuntime) -> Result<(), Fail> {
     let cert = one_row(alloc)?;
     let want = "capweave strategy 2\nstates 5\n0 1 2 0-11 both 3 4\nend\n";
     let mut sure = SureSink::make(alloc);
-    assert_eq!(rt; print_env(alloc, &cert, 2, &mut sure), Ok(()));
+    assert_eq!(rt; print_env(&cert, 2, &mut sure), Ok(()));
     assert_eq!(rt; sure.bytes(), want.as_bytes());
     let mut failing = MemSink::make(alloc, Vec::from_array(alloc, [0])?);
-    assert_eq!(rt;
-        print_env(alloc, &cert, 1, &mut failing),
-        Err(SinkFault::Failed)
-    );
+    assert_eq!(rt; print_env(&cert, 1, &mut failing), Err(SinkFault::Failed));
     assert_eq!(rt; failing.bytes(), "capweave strategy 1\nstates ".as_bytes());
+    Ok(())
+}
+
+/// A long text is put in pieces of 4,096 bytes; after one that fails nothing more is put.
+#[test]
+fn put_in_pieces(rt: HostRuntime) -> Result<(), Fail> {
+    let alloc = rt.alloc();
+    let mut rows = Vec::new(alloc);
+    for number in 0..600u32 {
+        rows.push(EnvRow {
+            pos: PosId(number),
+            state: StateId(2),
+            aim: StateSet::from_bits(0xfff),
+            how: How::Both { skip: 3, tried: 4 },
+        })?;
+    }
+    let cert = EnvCert { states: 5, rows };
+    let whole = printed(alloc, &cert, 1)?;
+    assert!(rt; whole.bytes().len() > 3 * 4096);
+    let mut sink = MemSink::make(alloc, Vec::new(alloc));
+    assert_eq!(rt; print_env(&cert, 1, &mut sink), Ok(()));
+    assert_eq!(rt; sink.bytes(), whole.bytes());
+    assert_eq!(rt; sink.longest(), 4096);
+    let mut failing = MemSink::make(alloc, Vec::from_array(alloc, [1])?);
+    let answer = print_env(&cert, 1, &mut failing);
+    assert_eq!(rt; answer, Err(SinkFault::Failed));
+    assert!(rt; whole.bytes().starts_with(failing.bytes()));
+    assert_eq!(rt; failing.bytes().len(), 4096 + 2048);
     Ok(())
 }
 
@@ -359,9 +391,6 @@ fn read_twice(rt: HostRuntime) -> Result<(), Fail> {
         panic!(rt; "not read");
     };
     let again = read_again(alloc, &cert, 2)?;
-    assert_eq!(rt;
-        strategy_bytes(alloc, &again, 2)?.as_slice(),
-        text.as_bytes()
-    );
+    assert_eq!(rt; printed(alloc, &again, 2)?.bytes(), text.as_bytes());
     Ok(())
 }

@@ -4,7 +4,7 @@ use cw_core::put_dec;
 use cw_io::{MemSink, SinkFault, SureSink};
 use cw_lines::TextFault;
 use cw_rights::{Descriptor, Limit, Policy, Rights};
-use cw_tabletext::{print_tables, put_tables, read_tables};
+use cw_tabletext::{print_tables, read_tables};
 use std::alloc::Global;
 use std::test::Fail;
 
@@ -43,9 +43,9 @@ fn fault_of(alloc: Global, text: &[u8], policy: &Policy) -> Result<Option<TextFa
     match read_tables(alloc, text, policy) {
         Err(fault) => Ok(Some(fault)),
         Ok(cert) => {
-            let mut again = Vec::new(alloc);
-            put_tables(&cert, policy, &mut again)?;
-            if again.as_slice() == text {
+            let mut again = SureSink::make(alloc);
+            print_tables(&cert, policy, &mut again)?;
+            if again.bytes() == text {
                 Ok(None)
             } else {
                 Ok(Some(TextFault::NoMemory))
@@ -364,17 +364,17 @@ fn tables_of_programs(rt: HostRuntime) -> Result<(), Fail> {
     Ok(())
 }
 
-/// A sink gets the whole text in one piece, or half of it where it fails.
+/// A sink gets the whole of a short text in one piece, or half of it where it fails.
 #[test]
 fn printed_tables(rt: HostRuntime) -> Result<(), Fail> {
     let alloc = rt.alloc();
     let policy = policy(alloc, 1, "fd", &[])?;
     let cert = read_tables(alloc, SPLIT.as_bytes(), &policy)?;
     let mut sure = SureSink::make(alloc);
-    print_tables(alloc, &cert, &policy, &mut sure)?;
+    print_tables(&cert, &policy, &mut sure)?;
     assert_eq!(rt; sure.bytes(), SPLIT.as_bytes());
     let mut failing = MemSink::make(alloc, Vec::from_array(alloc, [0])?);
-    let answer = print_tables(alloc, &cert, &policy, &mut failing);
+    let answer = print_tables(&cert, &policy, &mut failing);
     assert_eq!(rt; answer, Err(SinkFault::Failed));
     Ok(())
 }

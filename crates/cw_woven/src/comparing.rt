@@ -13,9 +13,29 @@ use crate::fault::WovenFault;
 use crate::parts::Piece;
 use cw_core::NoMemory;
 use cw_emit::put_spelling;
+use cw_io::SureSink;
+use cw_pieces::Writer;
 use cw_rights::Policy;
 use cw_syntax::marks::SeamMark;
 use std::alloc::Global;
+
+/// A mark as it is spelled, put into a sink in memory.
+fn spelling_of(
+    alloc: Global,
+    mark: &SeamMark,
+    source: &[u8],
+    policy: &Policy,
+) -> Result<SureSink, NoMemory>
+    ensures { IfOk result (λ sink. sink.bytes ≡ spelled (policy_of policy.now) source.now (mark_of mark.now)) }
+{
+    let mut sink = SureSink::make(alloc);
+    let mut writer = Writer::begin(&sink);
+    put_spelling(mark.seam, mark.kind, source, policy, &mut writer, &mut sink);
+    match writer.finish(&mut sink) {
+        Ok(()) => Ok(sink),
+        Err(_) => Err(NoMemory),
+    }
+}
 
 /// Whether these bytes stand at the place of a mark and are spelled as it is.
 fn is_due(
@@ -28,9 +48,8 @@ fn is_due(
 ) -> Result<bool, NoMemory>
     ensures { IfOk result (λ same. IsTrue same ↔ ((place, bytes.now) ≡ placed (policy_of policy.now) source.now (mark_of mark.now))) }
 {
-    let mut text = Vec::new(alloc);
-    put_spelling(mark.seam, mark.kind, source, policy, &mut text)?;
-    Ok(place == mark.place as usize && bytes == text.as_slice())
+    let spelling = spelling_of(alloc, mark, source, policy)?;
+    Ok(place == mark.place as usize && bytes == spelling.bytes())
 }
 
 /// That the parts of a text, with this behind the last, stand where the marks of a source do, and are spelled as these are; else the first that isn't.

@@ -7,7 +7,8 @@ pub returns-in_err-exit : goal.returns-in_err-exit
 returns-in_err-exit c = rw c.from_residual.ensures (no_state c.args.word.now (rw c.of-parts.ensures.words at c.in_err-exit.ensures.none))
 
 pub returns-in_err-row : goal.returns-in_err-row
-returns-in_err-row c = rw c.from_residual-in_err-row.ensures (no_row c.args.word.now c.in_ok-exit.exit c.take_u16.new.self (rw c.of-parts.ensures.words at c.in_ok-exit.ensures.some.1) c.in_err-row.ensures.none)
+returns-in_err-row c = rw c.from_residual-in_err-row.ensures
+    (no_row c.args.word.now c.in_ok-exit.exit c.take_u16.new.self (rw c.of-parts.ensures.words at c.in_ok-exit.ensures.some.1) c.in_err-row.ensures.none)
 
 pub returns-then-is_done : goal.returns-then-is_done
 returns-then-is_done c = a_back c.args.word.now c.in_ok-exit.exit c.in_ok-row.row c.take_u16.new.self c.take_u32.new.self c.in_ok-exit.ensures.some.0 c.in_ok-row.ensures.some.0

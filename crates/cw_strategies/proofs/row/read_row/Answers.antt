@@ -11,5 +11,6 @@ returns-in_default-2 c = no_how c.args.format c.args.line.now c.in-Some.place.nu
     (rw c.of-words.ensures.words at c.in-Some.ensures.some) (rw c.in_default-2.is at c.in_ok-how.ensures)
 
 pub returns : goal.returns
-returns c = a_row c.args.format c.args.line.now c.in-Some.place.number c.in-Some.place.pos c.in-Some.place.state c.in-Some.place.aim c.take_place.new.words (how_of c.in-Some-2.how) (omega arith) (omega arith) (omega arith) c.in-Some.ensures.fits
+returns c = a_row c.args.format c.args.line.now c.in-Some.place.number c.in-Some.place.pos c.in-Some.place.state c.in-Some.place.aim c.take_place.new.words (how_of c.in-Some-2.how)
+    (omega arith) (omega arith) (omega arith) c.in-Some.ensures.fits
     (rw c.of-words.ensures.words at c.in-Some.ensures.some) (rw c.in-Some-2.is at c.in_ok-how.ensures)

@@ -35,7 +35,8 @@ returns-then-named-count-clause-fault c = (
     number = c.in-Some-2.named;
     row = row_of c.in-Some-2.row;
     more = c.in-Some.rest.now;
-    stands = row_here c.args.format c.args.text.now c.in-Some.line.now c.in-Some.rest.now c.in-Some-2.named (row_of c.in-Some-2.row) c.in-Some.ensures.parts (rw c.in-Some-2.is at c.in_ok-named.ensures);
+    stands = row_here c.args.format c.args.text.now c.in-Some.line.now c.in-Some.rest.now c.in-Some-2.named (row_of c.in-Some-2.row) c.in-Some.ensures.parts
+        (rw c.in-Some-2.is at c.in_ok-named.ensures);
     differs = c.if-named-count.true;
   },
 )
@@ -47,10 +48,12 @@ returns-then-rows-rows_of-gt-ROWS-clause-fault c = (
   record {
     row = row_of c.in-Some-2.row;
     more = c.in-Some.rest.now;
-    stands = rw c.if-named-count.false at (row_here c.args.format c.args.text.now c.in-Some.line.now c.in-Some.rest.now c.in-Some-2.named (row_of c.in-Some-2.row) c.in-Some.ensures.parts (rw c.in-Some-2.is at c.in_ok-named.ensures));
+    stands = rw c.if-named-count.false at (row_here c.args.format c.args.text.now c.in-Some.line.now c.in-Some.rest.now c.in-Some-2.named (row_of c.in-Some-2.row)
+        c.in-Some.ensures.parts (rw c.in-Some-2.is at c.in_ok-named.ensures));
     many = let e = c.rows_of.ensures in let lt = c.if-rows-rows_of-gt-ROWS.true in omega (arith, e, lt);
   },
 )
 
 pub returns-clause-row : goal.returns-clause-row
-returns-clause-row c = rw c.if-named-count.false at (row_here c.args.format c.args.text.now c.in-Some.line.now c.in-Some.rest.now c.in-Some-2.named (row_of c.in-Some-2.row) c.in-Some.ensures.parts (rw c.in-Some-2.is at c.in_ok-named.ensures))
+returns-clause-row c = rw c.if-named-count.false at (row_here c.args.format c.args.text.now c.in-Some.line.now c.in-Some.rest.now c.in-Some-2.named (row_of c.in-Some-2.row)
+    c.in-Some.ensures.parts (rw c.in-Some-2.is at c.in_ok-named.ensures))

@@ -11,4 +11,5 @@ returns-in_err-states-clause-none c = rw c.from_residual-in_err-states.ensures (
     c.in_err-states.ensures.none states small (c.of-words.ensures.words ∙ p.0))
 
 pub returns-clause-some : goal.returns-clause-some
-returns-clause-some c = states_some c.args.text.now c.in_ok-line.line.now c.in_ok-line.rest.now c.in_ok-states.states c.in_ok-line.ensures.parts (sym c.of-words.ensures.words ∙ c.in_ok-states.ensures.some)
+returns-clause-some c = states_some c.args.text.now c.in_ok-line.line.now c.in_ok-line.rest.now c.in_ok-states.states c.in_ok-line.ensures.parts
+    (sym c.of-words.ensures.words ∙ c.in_ok-states.ensures.some)

@@ -6,7 +6,8 @@ use Rattle.cw_tabletext.proofs.Faults.{no_row, goes_on}
 use Rattle.cw_tabletext.proofs.rows.next_row.Goals as goal
 
 pub returns-in_default-read_row : goal.returns-in_default-read_row
-returns-in_default-read_row c = no_row c.args.format (c.args.count + 4) (table_of c.args.draft.now) c.args.text.now c.in-Some.line.now c.in-Some.rest.now (ap (λ (n : ℕ). n + 4) c.requires.count) c.in-Some.ensures.parts c.in-Some.ensures.first
+returns-in_default-read_row c = no_row c.args.format (c.args.count + 4) (table_of c.args.draft.now) c.args.text.now c.in-Some.line.now c.in-Some.rest.now
+    (ap (λ (n : ℕ). n + 4) c.requires.count) c.in-Some.ensures.parts c.in-Some.ensures.first
     (λ e. false≢true (c.if-is_same.ensures.1 e)) c.in_default-read_row.ensures
 
 pub returns-then-not-is_next : goal.returns-then-not-is_next

@@ -9,9 +9,11 @@ pub rows-preserved : goal.rows-preserved
 rows-preserved c =
     let same = c.in_ok-push-in-Ok-Row.ensures in
     record {
-      is = rw same (next_text c.args.format c.args.text.now c.rows.rest.now c.in-Ok-Row.after.now (table_of c.rows.draft) c.in-Ok-Row.row c.rows.invariant.is (rw c.in-Ok-Row.field-0-is at c.in-Ok-Row.ensures));
+      is = rw same (next_text c.args.format c.args.text.now c.rows.rest.now c.in-Ok-Row.after.now (table_of c.rows.draft) c.in-Ok-Row.row c.rows.invariant.is
+          (rw c.in-Ok-Row.field-0-is at c.in-Ok-Row.ensures));
       good = rw same (next_good c.args.format c.rows.rest.now c.in-Ok-Row.after.now (table_of c.rows.draft) c.in-Ok-Row.row c.rows.invariant.good (rw c.in-Ok-Row.field-0-is at c.in-Ok-Row.ensures));
-      count_is = rw same (next_count c.args.format c.rows.count c.rows.rest.now c.in-Ok-Row.after.now (table_of c.rows.draft) c.in-Ok-Row.row c.rows.invariant.count_is (rw c.in-Ok-Row.field-0-is at c.in-Ok-Row.ensures));
+      count_is = rw same (next_count c.args.format c.rows.count c.rows.rest.now c.in-Ok-Row.after.now (table_of c.rows.draft) c.in-Ok-Row.row c.rows.invariant.count_is
+          (rw c.in-Ok-Row.field-0-is at c.in-Ok-Row.ensures));
       states = ap (λ (t : Table). t.states) same ∙ same_states (table_of c.rows.draft) c.in-Ok-Row.row ∙ c.rows.invariant.states;
       start = ap (λ (t : Table). t.start) same ∙ same_start (table_of c.rows.draft) c.in-Ok-Row.row ∙ c.rows.invariant.start;
     }

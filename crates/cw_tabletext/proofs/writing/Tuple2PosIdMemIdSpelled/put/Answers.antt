@@ -1,7 +1,7 @@
 -- The pieces of a line, one after another.
-use Rattle.std.proofs.lemmas.Result.{on_ok_weaker}
 use Rattle.cw_tabletext.proofs.Pieces.{two_fields}
 use Rattle.cw_tabletext.proofs.writing.Tuple2PosIdMemIdSpelled.put.Goals as goal
 
-pub returns : goal.returns
-returns c = on_ok_weaker c.put_bytes.result (two_fields _ _ _ _ _ _ _ _ c.in_ok-put_name.ensures c.in_ok-put_field.ensures c.in_ok-put_field-2.ensures) c.put_bytes.ensures.written
+pub returns-clause-text : goal.returns-clause-text
+returns-clause-text g c = two_fields _ _ _ _ _ _ _ _ c.put_name.ensures.text c.put_field.ensures.text c.put_field-2.ensures.text
+    c.put.ensures.text
