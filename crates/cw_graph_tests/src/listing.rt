@@ -1,7 +1,9 @@
 //! The texts themselves, and that a call succeeds.
 
 use cw_core::{NoMemory, PointId};
-use cw_listing::{Names, function_names, graph_text, label_names, missing_label};
+use cw_io::{SinkFault, SureSink};
+use cw_listing::{Names, function_names, is_label, label_names, put_graph};
+use cw_pieces::Writer;
 use cw_points::{Graph, Node, Part, Point};
 use cw_syntax::program::{Base, CType, Function, Name, Program, Stmt, What};
 use std::alloc::Global;
@@ -45,6 +47,20 @@ fn graph(alloc: Global, main: u16, nodes: &[Node], parts: &[Part]) -> Result<Gra
     })
 }
 
+/// The lines of a graph, in a sink.
+fn lines_of(
+    alloc: Global,
+    names: Names,
+    calls: &[Vec<u16>],
+    graph: &Graph,
+) -> Result<SureSink, SinkFault> {
+    let mut out = SureSink::make(alloc);
+    let mut writer = Writer::begin(&out);
+    put_graph(names, calls, graph, &mut writer, &mut out);
+    writer.finish(&mut out)?;
+    Ok(out)
+}
+
 /// `int main(void){a:;return 0;}`
 #[test]
 fn text_of_a_label(rt: HostRuntime) -> Result<(), Fail> {
@@ -64,10 +80,10 @@ fn text_of_a_label(rt: HostRuntime) -> Result<(), Fail> {
         labels: &labels,
         descriptors: &[],
     };
-    let text = graph_text(alloc, names, &[], &graph)?;
+    let text = lines_of(alloc, names, &[], &graph)?;
     let want =
         "points 5\nfunction main 0 4\n0 main entry -> 1\n1 main label a -> 2\n2 main step -> 3\n3 main step -> 4\n4 main exit\n";
-    assert_eq!(rt; text.as_slice(), want.as_bytes());
+    assert_eq!(rt; text.bytes(), want.as_bytes());
     Ok(())
 }
 
@@ -96,10 +112,10 @@ fn text_of_a_branch_and_a_call(rt: HostRuntime) -> Result<(), Fail> {
     let mut calls = Vec::new(alloc);
     calls.push(Vec::new(alloc))?;
     calls.push([0u16].to_vec(alloc)?)?;
-    let text = graph_text(alloc, names, &calls, &graph)?;
+    let text = lines_of(alloc, names, &calls, &graph)?;
     let want =
         "points 8\nfunction f 0 2\nfunction main 3 7 calls f\n0 f entry -> 1\n1 f open fd -> 2\n2 f exit\n3 main entry -> 4\n4 main branch -> 5 6\n5 main call f -> 6\n6 main close fd -> 7\n7 main exit\n";
-    assert_eq!(rt; text.as_slice(), want.as_bytes());
+    assert_eq!(rt; text.bytes(), want.as_bytes());
     Ok(())
 }
 
@@ -143,7 +159,7 @@ fn names_of_a_program(rt: HostRuntime) -> Result<(), Fail> {
     assert_eq!(rt; functions[0].as_slice(), b"main".as_slice());
     assert_eq!(rt; labels.len(), 1);
     assert_eq!(rt; labels[0].as_slice(), b"a".as_slice());
-    let names = texts(alloc, &["a", "main"])?;
-    assert!(rt; missing_label(source, &program, &names) == Some(b"main"));
+    assert!(rt; is_label(source, b"a", &program));
+    assert!(rt; !is_label(source, b"main", &program));
     Ok(())
 }

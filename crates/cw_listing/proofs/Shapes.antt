@@ -2,7 +2,6 @@
 use Rattle.std.proofs.Common.{◌≡◌, Vec, Box, Global, refl, ap, ◌∙◌}
 use Rattle.cw_syntax.specs.declared.program.Stmt.{Stmt}
 use Rattle.cw_syntax.specs.declared.program.Head.{Head, Head'}
-use Rattle.cw_syntax.specs.declared.program.What.{What}
 use Rattle.cw_syntax.specs.declared.program.What.TheVariants.{Block, For}
 use Rattle.cw_syntax.specs.Trees.{Statement, form_of, for_of, statement_of, statements_of}
 use Rattle.cw_syntax.proofs.Shapes.{block_form}

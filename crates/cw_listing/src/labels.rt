@@ -1,21 +1,20 @@
-//! Names that no label of a program has.
+//! Whether a label of a program has a name.
 
-ghost use Rattle.std.specs.Prelude.{◌≡◌, map, option_map};
+ghost use Rattle.std.specs.Prelude.{◌≡◌, map};
 ghost use Rattle.std.specs.List.{list_any, flat_map};
 ghost use Rattle.std.specs.Str.{bytes_eq};
 ghost use Rattle.cw_syntax.specs.Names.{text};
 ghost use Rattle.cw_syntax.specs.Trees.{statement_of, statements_of, definition_of, file_of};
-ghost use Rattle.cw_listing.specs.Held.{lists};
-ghost use Rattle.cw_listing.specs.Labels.{labels_of, labels_of_all, label_names, missing_label};
+ghost use Rattle.cw_listing.specs.Labels.{labels_of, labels_of_all, label_names};
 
 use cw_syntax::names::text;
 use cw_syntax::program::{Function, Program, Stmt, What};
 
 /// Whether a label of a statement has this name.
 #[cycle(has_label)]
-#[tactic(auto, using(crate::proofs::Joined::any_join, crate::proofs::Shapes::block_labels, crate::proofs::Shapes::for_labels))]
+#[tactic(auto, using(crate::proofs::Joined::any_join, crate::proofs::Joined::any_label, crate::proofs::Shapes::block_labels, crate::proofs::Shapes::for_labels))]
 fn has_label(source: &[u8], name: &[u8], statement: &Stmt) -> bool
-    ensures { result ≡ list_any (bytes_eq name.now) (map (text source.now) (labels_of (statement_of statement.now))) }
+    ensures { result ≡ list_any (bytes_eq name.now) (map (λ l. text source.now l.name) (labels_of (statement_of statement.now))) }
 {
     match &statement.what {
         What::Block(statements) => has_label_in(source, name, statements),
@@ -35,9 +34,9 @@ fn has_label(source: &[u8], name: &[u8], statement: &Stmt) -> bool
 }
 
 #[cycle(has_label)]
-#[tactic(auto, using(crate::proofs::Joined::any_join))]
+#[tactic(auto, using(crate::proofs::Joined::any_join, crate::proofs::Joined::any_label))]
 fn has_label_in(source: &[u8], name: &[u8], statements: &[Stmt]) -> bool
-    ensures { result ≡ list_any (bytes_eq name.now) (map (text source.now) (labels_of_all (statements_of statements.now))) }
+    ensures { result ≡ list_any (bytes_eq name.now) (map (λ l. text source.now l.name) (labels_of_all (statements_of statements.now))) }
 {
     for statement in statements {
         if has_label(source, name, statement) {
@@ -48,9 +47,9 @@ fn has_label_in(source: &[u8], name: &[u8], statements: &[Stmt]) -> bool
 }
 
 /// Whether a label of some of these functions has this name.
-#[tactic(auto, using(crate::proofs::Joined::any_join))]
+#[tactic(auto, using(crate::proofs::Joined::any_join, crate::proofs::Joined::any_label))]
 fn some_has_label(source: &[u8], name: &[u8], functions: &[Function]) -> bool
-    ensures { result ≡ list_any (bytes_eq name.now) (map (text source.now) (flat_map (λ f. labels_of_all f.body) (map definition_of functions.now))) }
+    ensures { result ≡ list_any (bytes_eq name.now) (map (λ l. text source.now l.name) (flat_map (λ f. labels_of_all f.body) (map definition_of functions.now))) }
 {
     for function in functions {
         if has_label_in(source, name, &function.body) {
@@ -65,16 +64,4 @@ pub fn is_label(source: &[u8], name: &[u8], program: &Program) -> bool
     ensures label { result ≡ list_any (bytes_eq name.now) (label_names source.now (file_of program.now)) }
 {
     some_has_label(source, name, &program.functions)
-}
-
-/// The first of these names that no label of the program has.
-pub fn missing_label<'a>(source: &[u8], program: &Program, names: &'a [Vec<u8>]) -> Option<&'a [u8]>
-    ensures first { option_map (λ name. name.now) result ≡ missing_label source.now (file_of program.now) (lists names.now) }
-{
-    for name in names {
-        if !is_label(source, name, program) {
-            return Some(name);
-        }
-    }
-    None
 }

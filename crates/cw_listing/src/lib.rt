@@ -5,6 +5,6 @@ mod labels;
 mod listing;
 mod names;
 
-pub use labels::{is_label, missing_label};
-pub use listing::{Names, graph_text};
-pub use names::{function_names, label_names};
+pub use labels::is_label;
+pub use listing::{Names, put_graph};
+pub use names::{Labelled, function_names, label_names, labels_in};

@@ -1,16 +1,17 @@
 //! The lines of the graph of a program's points.
 
-ghost use Rattle.std.specs.Prelude.{◌≡◌, [], ◌++◌, map, is_some, unwrap_or, slice_get, codes, IfOk, OnOk};
+ghost use Rattle.std.specs.Prelude.{◌≡◌, [], ◌++◌, map, is_some, unwrap_or, slice_get, codes};
 ghost use Rattle.std.specs.Fmt.{decimal};
 ghost use Rattle.std.specs.List.{list_any};
+ghost use Rattle.cw_pieces.specs.Written.{Follows};
 ghost use Rattle.cw_text.specs.Lines.{numbered};
 ghost use Rattle.cw_listing.specs.Held.{lists};
 ghost use Rattle.cw_listing.specs.Listing.{name_in, spaced, marked, successors, kind, ends, point_line, function_line, graph_text};
 
-use cw_core::{NoMemory, PointId, put_dec};
+use cw_core::PointId;
+use cw_io::Sink;
+use cw_pieces::Writer;
 use cw_points::{Graph, Node, Part, Point};
-use cw_text::put_bytes;
-use std::alloc::Global;
 
 /// The names of functions, labels and descriptors, each by its number.
 #[derive(Clone, Copy, Drop)]
@@ -31,14 +32,16 @@ fn name_in(names: &[Vec<u8>], number: usize) -> &[u8]
 }
 
 /// Appends names after one space each.
-fn put_names(names: &[Vec<u8>], numbers: &[u16], text: &mut Vec<u8>) -> Result<(), NoMemory>
-    ensures { OnOk result (text.new.items ≡ text.old.items ++ spaced (map (name_in (lists names.now)) numbers.now)) }
+fn put_names<S: Sink>(names: &[Vec<u8>], numbers: &[u16], writer: &mut Writer<S>, out: &mut S)
+    requires follows { Follows S.taken S.faults S.refused writer.old out.old }
+    ensures text { writer.new.text ≡ writer.old.text ++ spaced (map (name_in (lists names.now)) numbers.now) }
+    ensures begun { writer.new.begun ≡ writer.old.begun }
+    ensures follows { Follows S.taken S.faults S.refused writer.new out.new }
 {
     for number in numbers {
-        put_bytes(b" ", text)?;
-        put_bytes(name_in(names, usize::from(*number)), text)?;
+        writer.put(b" ", out);
+        writer.put(name_in(names, usize::from(*number)), out);
     }
-    Ok(())
 }
 
 /// The numbers of the functions that a function calls.
@@ -52,99 +55,121 @@ fn calls_of(calls: &[Vec<u16>], function: usize) -> &[u16]
 }
 
 /// Appends ` calls` and the name of each of these functions, where there are any.
-fn put_calls(names: &[Vec<u8>], callees: &[u16], text: &mut Vec<u8>) -> Result<(), NoMemory>
-    ensures { OnOk result (text.new.items ≡ text.old.items ++ marked (codes " calls") (map (name_in (lists names.now)) callees.now)) }
+fn put_calls<S: Sink>(names: &[Vec<u8>], callees: &[u16], writer: &mut Writer<S>, out: &mut S)
+    requires follows { Follows S.taken S.faults S.refused writer.old out.old }
+    ensures text { writer.new.text ≡ writer.old.text ++ marked (codes " calls") (map (name_in (lists names.now)) callees.now) }
+    ensures begun { writer.new.begun ≡ writer.old.begun }
+    ensures follows { Follows S.taken S.faults S.refused writer.new out.new }
 {
     match callees {
-        [] => Ok(()),
+        [] => {}
         [_, ..] => {
-            put_bytes(b" calls", text)?;
-            put_names(names, callees, text)
+            writer.put(b" calls", out);
+            put_names(names, callees, writer, out);
         }
     }
 }
 
 /// Appends the numbers of a function's entry and exit after one space each.
-fn put_ends(part: &Part, text: &mut Vec<u8>) -> Result<(), NoMemory>
-    ensures { OnOk result (text.new.items ≡ text.old.items ++ ends part.now) }
+fn put_ends<S: Sink>(part: &Part, writer: &mut Writer<S>, out: &mut S)
+    requires follows { Follows S.taken S.faults S.refused writer.old out.old }
+    ensures text { writer.new.text ≡ writer.old.text ++ ends part.now }
+    ensures begun { writer.new.begun ≡ writer.old.begun }
+    ensures follows { Follows S.taken S.faults S.refused writer.new out.new }
 {
-    put_bytes(b" ", text)?;
-    put_dec(u64::from(part.entry.0), text)?;
-    put_bytes(b" ", text)?;
-    put_dec(u64::from(part.exit.0), text)
+    writer.put(b" ", out);
+    writer.put_number(u64::from(part.entry.0), out);
+    writer.put(b" ", out);
+    writer.put_number(u64::from(part.exit.0), out);
 }
 
 /// Appends `function NAME FIRST LAST`, the functions that it calls, and LF.
-fn put_function(
+fn put_function<S: Sink>(
     names: &[Vec<u8>],
     calls: &[Vec<u16>],
     number: usize,
     part: &Part,
-    text: &mut Vec<u8>,
-) -> Result<(), NoMemory>
-    ensures { OnOk result (text.new.items ≡ text.old.items ++ function_line (lists names.now) (lists calls.now) number part.now) }
+    writer: &mut Writer<S>,
+    out: &mut S,
+)
+    requires follows { Follows S.taken S.faults S.refused writer.old out.old }
+    ensures text { writer.new.text ≡ writer.old.text ++ function_line (lists names.now) (lists calls.now) number part.now }
+    ensures begun { writer.new.begun ≡ writer.old.begun }
+    ensures follows { Follows S.taken S.faults S.refused writer.new out.new }
 {
-    put_bytes(b"function ", text)?;
-    put_bytes(name_in(names, number), text)?;
-    put_ends(part, text)?;
-    put_calls(names, calls_of(calls, number), text)?;
-    put_bytes(b"\n", text)
+    writer.put(b"function ", out);
+    writer.put(name_in(names, number), out);
+    put_ends(part, writer, out);
+    put_calls(names, calls_of(calls, number), writer, out);
+    writer.put(b"\n", out);
 }
 
-fn put_functions(
+fn put_functions<S: Sink>(
     names: &[Vec<u8>],
     calls: &[Vec<u16>],
     parts: &[Part],
-    text: &mut Vec<u8>,
-) -> Result<(), NoMemory>
-    ensures { OnOk result (text.new.items ≡ text.old.items ++ numbered (function_line (lists names.now) (lists calls.now)) parts.now) }
+    writer: &mut Writer<S>,
+    out: &mut S,
+)
+    requires follows { Follows S.taken S.faults S.refused writer.old out.old }
+    ensures text { writer.new.text ≡ writer.old.text ++ numbered (function_line (lists names.now) (lists calls.now)) parts.now }
+    ensures begun { writer.new.begun ≡ writer.old.begun }
+    ensures follows { Follows S.taken S.faults S.refused writer.new out.new }
 {
     for number in 0..parts.len() {
-        put_function(names, calls, number, &parts[number], text)?;
+        put_function(names, calls, number, &parts[number], writer, out);
     }
-    Ok(())
 }
 
 /// Appends a name behind a word.
-fn put_named(
+fn put_named<S: Sink>(
     word: &[u8],
     names: &[Vec<u8>],
     number: usize,
-    text: &mut Vec<u8>,
-) -> Result<(), NoMemory>
-    ensures { OnOk result (text.new.items ≡ text.old.items ++ (word.now ++ name_in (lists names.now) number)) }
+    writer: &mut Writer<S>,
+    out: &mut S,
+)
+    requires follows { Follows S.taken S.faults S.refused writer.old out.old }
+    ensures text { writer.new.text ≡ writer.old.text ++ (word.now ++ name_in (lists names.now) number) }
+    ensures begun { writer.new.begun ≡ writer.old.begun }
+    ensures follows { Follows S.taken S.faults S.refused writer.new out.new }
 {
-    put_bytes(word, text)?;
-    put_bytes(name_in(names, number), text)
+    writer.put(word, out);
+    writer.put(name_in(names, number), out);
 }
 
 /// Appends what stands at a point, with its name.
-fn put_kind(names: Names, point: Point, text: &mut Vec<u8>) -> Result<(), NoMemory>
-    ensures { OnOk result (text.new.items ≡ text.old.items ++ kind (lists names.entry.functions.now) (lists names.entry.labels.now) (lists names.entry.descriptors.now) point) }
+fn put_kind<S: Sink>(names: Names, point: Point, writer: &mut Writer<S>, out: &mut S)
+    requires follows { Follows S.taken S.faults S.refused writer.old out.old }
+    ensures text { writer.new.text ≡ writer.old.text ++ kind (lists names.entry.functions.now) (lists names.entry.labels.now) (lists names.entry.descriptors.now) point }
+    ensures begun { writer.new.begun ≡ writer.old.begun }
+    ensures follows { Follows S.taken S.faults S.refused writer.new out.new }
 {
     match point {
-        Point::Entry => put_bytes(b"entry", text),
-        Point::Step => put_bytes(b"step", text),
-        Point::Branch => put_bytes(b"branch", text),
-        Point::Label(l) => put_named(b"label ", names.labels, usize::from(l), text),
-        Point::Open(d) => put_named(b"open ", names.descriptors, usize::from(d), text),
-        Point::Close(d) => put_named(b"close ", names.descriptors, usize::from(d), text),
-        Point::Call(f) => put_named(b"call ", names.functions, usize::from(f), text),
-        Point::Exit => put_bytes(b"exit", text),
+        Point::Entry => writer.put(b"entry", out),
+        Point::Step => writer.put(b"step", out),
+        Point::Branch => writer.put(b"branch", out),
+        Point::Label(l) => put_named(b"label ", names.labels, usize::from(l), writer, out),
+        Point::Open(d) => put_named(b"open ", names.descriptors, usize::from(d), writer, out),
+        Point::Close(d) => put_named(b"close ", names.descriptors, usize::from(d), writer, out),
+        Point::Call(f) => put_named(b"call ", names.functions, usize::from(f), writer, out),
+        Point::Exit => writer.put(b"exit", out),
     }
 }
 
 /// Appends the successors of a point after one space each, the left one first.
-fn put_successors(next: &[Option<PointId>], text: &mut Vec<u8>) -> Result<(), NoMemory>
-    ensures { OnOk result (text.new.items ≡ text.old.items ++ spaced (map decimal (successors next.now))) }
+fn put_successors<S: Sink>(next: &[Option<PointId>], writer: &mut Writer<S>, out: &mut S)
+    requires follows { Follows S.taken S.faults S.refused writer.old out.old }
+    ensures text { writer.new.text ≡ writer.old.text ++ spaced (map decimal (successors next.now)) }
+    ensures begun { writer.new.begun ≡ writer.old.begun }
+    ensures follows { Follows S.taken S.faults S.refused writer.new out.new }
 {
     for point in next {
         if let Some(successor) = point {
-            put_bytes(b" ", text)?;
-            put_dec(u64::from(successor.0), text)?;
+            writer.put(b" ", out);
+            writer.put_number(u64::from(successor.0), out);
         }
     }
-    Ok(())
 }
 
 /// Whether a point has successors.
@@ -155,55 +180,81 @@ fn leads_on(next: &[Option<PointId>]) -> bool
 }
 
 /// Appends ` ->` and the successors of a point, where it has any.
-fn put_arrow(next: &[Option<PointId>], text: &mut Vec<u8>) -> Result<(), NoMemory>
-    ensures { OnOk result (text.new.items ≡ text.old.items ++ marked (codes " ->") (map decimal (successors next.now))) }
+fn put_arrow<S: Sink>(next: &[Option<PointId>], writer: &mut Writer<S>, out: &mut S)
+    requires follows { Follows S.taken S.faults S.refused writer.old out.old }
+    ensures text { writer.new.text ≡ writer.old.text ++ marked (codes " ->") (map decimal (successors next.now)) }
+    ensures begun { writer.new.begun ≡ writer.old.begun }
+    ensures follows { Follows S.taken S.faults S.refused writer.new out.new }
 {
     if leads_on(next) {
-        put_bytes(b" ->", text)?;
-        put_successors(next, text)?;
+        writer.put(b" ->", out);
+        put_successors(next, writer, out);
     }
-    Ok(())
+}
+
+/// Appends the number of a point, and the name of its function after one space.
+fn put_whose<S: Sink>(
+    names: &[Vec<u8>],
+    number: usize,
+    function: u16,
+    writer: &mut Writer<S>,
+    out: &mut S,
+)
+    requires follows { Follows S.taken S.faults S.refused writer.old out.old }
+    ensures text { writer.new.text ≡ writer.old.text ++ (decimal number ++ codes " " ++ name_in (lists names.now) function) }
+    ensures begun { writer.new.begun ≡ writer.old.begun }
+    ensures follows { Follows S.taken S.faults S.refused writer.new out.new }
+{
+    writer.put_number(number as u64, out);
+    writer.put(b" ", out);
+    writer.put(name_in(names, usize::from(function)), out);
 }
 
 /// Appends `NUMBER FUNCTION KIND`, the point's successors, and LF.
-fn put_point(names: Names, number: usize, node: &Node, text: &mut Vec<u8>) -> Result<(), NoMemory>
-    ensures { OnOk result (text.new.items ≡ text.old.items ++ point_line (lists names.entry.functions.now) (lists names.entry.labels.now) (lists names.entry.descriptors.now) number node.now) }
+fn put_point<S: Sink>(names: Names, number: usize, node: &Node, writer: &mut Writer<S>, out: &mut S)
+    requires follows { Follows S.taken S.faults S.refused writer.old out.old }
+    ensures text { writer.new.text ≡ writer.old.text ++ point_line (lists names.entry.functions.now) (lists names.entry.labels.now) (lists names.entry.descriptors.now) number node.now }
+    ensures begun { writer.new.begun ≡ writer.old.begun }
+    ensures follows { Follows S.taken S.faults S.refused writer.new out.new }
 {
-    put_dec(number as u64, text)?;
-    put_bytes(b" ", text)?;
-    put_bytes(name_in(names.functions, usize::from(node.function)), text)?;
-    put_bytes(b" ", text)?;
-    put_kind(names, node.point, text)?;
-    put_arrow(&node.next, text)?;
-    put_bytes(b"\n", text)
+    put_whose(names.functions, number, node.function, writer, out);
+    writer.put(b" ", out);
+    put_kind(names, node.point, writer, out);
+    put_arrow(&node.next, writer, out);
+    writer.put(b"\n", out);
 }
 
-fn put_points(names: Names, nodes: &[Node], text: &mut Vec<u8>) -> Result<(), NoMemory>
-    ensures { OnOk result (text.new.items ≡ text.old.items ++ numbered (point_line (lists names.entry.functions.now) (lists names.entry.labels.now) (lists names.entry.descriptors.now)) nodes.now) }
+fn put_points<S: Sink>(names: Names, nodes: &[Node], writer: &mut Writer<S>, out: &mut S)
+    requires follows { Follows S.taken S.faults S.refused writer.old out.old }
+    ensures text { writer.new.text ≡ writer.old.text ++ numbered (point_line (lists names.entry.functions.now) (lists names.entry.labels.now) (lists names.entry.descriptors.now)) nodes.now }
+    ensures begun { writer.new.begun ≡ writer.old.begun }
+    ensures follows { Follows S.taken S.faults S.refused writer.new out.new }
 {
     for number in 0..nodes.len() {
-        put_point(names, number, &nodes[number], text)?;
+        put_point(names, number, &nodes[number], writer, out);
     }
-    Ok(())
 }
 
-/// The text of a graph: `points N`; for each function `function NAME FIRST LAST`, and ` calls` with the functions that it calls; for
-/// each point `NUMBER FUNCTION KIND`, and ` ->` with its successors, the left one first. Each line ends with LF. `calls` has, for each
-/// function by its number, the numbers of the functions that it calls.
+/// Appends the lines of a graph: `points N`; for each function `function NAME FIRST LAST`, and ` calls` with the functions that it
+/// calls; for each point `NUMBER FUNCTION KIND`, and ` ->` with its successors, the left one first. Each line ends with LF. `calls` has,
+/// for each function by its number, the numbers of the functions that it calls. It takes no memory but the sink's own.
 #[tactic(auto, unfolding(crate::specs::Listing::graph_text))]
-pub fn graph_text(
-    alloc: Global,
+pub fn put_graph<S: Sink>(
     names: Names,
     calls: &[Vec<u16>],
     graph: &Graph,
-) -> Result<Vec<u8>, NoMemory>
-    ensures text { IfOk result (λ text. text.items ≡ graph_text (lists names.entry.functions.now) (lists names.entry.labels.now) (lists names.entry.descriptors.now) (lists calls.now) graph.now) }
+    writer: &mut Writer<S>,
+    out: &mut S,
+)
+    requires follows { Follows S.taken S.faults S.refused writer.old out.old }
+    ensures text { writer.new.text ≡ writer.old.text
+        ++ graph_text (lists names.entry.functions.now) (lists names.entry.labels.now) (lists names.entry.descriptors.now) (lists calls.now) graph.now }
+    ensures begun { writer.new.begun ≡ writer.old.begun }
+    ensures follows { Follows S.taken S.faults S.refused writer.new out.new }
 {
-    let mut text = Vec::new(alloc);
-    put_bytes(b"points ", &mut text)?;
-    put_dec(graph.nodes.len() as u64, &mut text)?;
-    put_bytes(b"\n", &mut text)?;
-    put_functions(names.functions, calls, &graph.parts, &mut text)?;
-    put_points(names, &graph.nodes, &mut text)?;
-    Ok(text)
+    writer.put(b"points ", out);
+    writer.put_number(graph.nodes.len() as u64, out);
+    writer.put(b"\n", out);
+    put_functions(names.functions, calls, &graph.parts, writer, out);
+    put_points(names, &graph.nodes, writer, out);
 }

@@ -6,20 +6,27 @@ ghost use Rattle.cw_syntax.specs.Names.{text};
 ghost use Rattle.cw_syntax.specs.Plans.{function_names};
 ghost use Rattle.cw_syntax.specs.Trees.{statement_of, statements_of, definition_of, file_of};
 ghost use Rattle.cw_listing.specs.Held.{lists};
-ghost use Rattle.cw_listing.specs.Labels.{labels_of, labels_of_all, label_names};
+ghost use Rattle.cw_listing.specs.Labels.{labels_of, labels_of_all, labels_in_file, label_names};
 
 use cw_core::NoMemory;
 use cw_syntax::names::text;
 use cw_syntax::program::{Function, Name, Program, Stmt, What};
 use std::alloc::Global;
 
-/// The bytes of each name.
-fn texts(alloc: Global, source: &[u8], names: &[Name]) -> Result<Vec<Vec<u8>>, NoMemory>
-    ensures { IfOk result (λ texts. lists texts.items ≡ map (text source.now) names.now) }
+/// A label of a source: its name, and the place after its `:`.
+#[derive(Clone, Copy, Drop)]
+pub struct Labelled {
+    pub name: Name,
+    pub mark: u32,
+}
+
+/// The bytes of each label's name.
+fn texts(alloc: Global, source: &[u8], labels: &[Labelled]) -> Result<Vec<Vec<u8>>, NoMemory>
+    ensures { IfOk result (λ texts. lists texts.items ≡ map (λ l. text source.now l.name) labels.now) }
 {
     let mut texts = Vec::new(alloc);
-    for name in names {
-        let copied = text(source, *name).to_vec(alloc)?;
+    for label in labels {
+        let copied = text(source, label.name).to_vec(alloc)?;
         texts.push(copied)?;
     }
     Ok(texts)
@@ -28,13 +35,16 @@ fn texts(alloc: Global, source: &[u8], names: &[Name]) -> Result<Vec<Vec<u8>>, N
 /// Appends the labels of a statement.
 #[cycle(labels)]
 #[tactic(auto, using(crate::proofs::Shapes::block_labels, crate::proofs::Shapes::for_labels))]
-fn put_labels(statement: &Stmt, out: &mut Vec<Name>) -> Result<(), NoMemory>
+fn put_labels(statement: &Stmt, out: &mut Vec<Labelled>) -> Result<(), NoMemory>
     ensures { IfOk result (λ _. out.new.items ≡ out.old.items ++ labels_of (statement_of statement.now)) }
 {
     match &statement.what {
         What::Block(statements) => put_all_labels(statements, out),
-        What::Label(name, _, body) => {
-            out.push(*name)?;
+        What::Label(name, mark, body) => {
+            out.push(Labelled {
+                name: *name,
+                mark: *mark,
+            })?;
             put_labels(body, out)
         }
         What::If(_, arm, other) => {
@@ -54,7 +64,7 @@ fn put_labels(statement: &Stmt, out: &mut Vec<Name>) -> Result<(), NoMemory>
 
 /// Appends the labels of these statements.
 #[cycle(labels)]
-fn put_all_labels(statements: &[Stmt], out: &mut Vec<Name>) -> Result<(), NoMemory>
+fn put_all_labels(statements: &[Stmt], out: &mut Vec<Labelled>) -> Result<(), NoMemory>
     ensures { IfOk result (λ _. out.new.items ≡ out.old.items ++ labels_of_all (statements_of statements.now)) }
 {
     for statement in statements {
@@ -63,7 +73,7 @@ fn put_all_labels(statements: &[Stmt], out: &mut Vec<Name>) -> Result<(), NoMemo
     Ok(())
 }
 
-fn put_function_labels(functions: &[Function], out: &mut Vec<Name>) -> Result<(), NoMemory>
+fn put_function_labels(functions: &[Function], out: &mut Vec<Labelled>) -> Result<(), NoMemory>
     ensures { IfOk result (λ _. out.new.items ≡ out.old.items ++ flat_map (λ f. labels_of_all f.body) (map definition_of functions.now)) }
 {
     for function in functions {
@@ -94,6 +104,15 @@ pub fn function_names(
     names_of(alloc, source, &program.functions)
 }
 
+/// The labels of a program, in the order of the text.
+pub fn labels_in(alloc: Global, program: &Program) -> Result<Vec<Labelled>, NoMemory>
+    ensures labels { IfOk result (λ labels. labels.items ≡ labels_in_file (file_of program.now)) }
+{
+    let mut labels = Vec::new(alloc);
+    put_function_labels(&program.functions, &mut labels)?;
+    Ok(labels)
+}
+
 /// The names of a program's labels in the order of the text, a name that stands in several functions as often as it stands.
 pub fn label_names(
     alloc: Global,
@@ -102,7 +121,6 @@ pub fn label_names(
 ) -> Result<Vec<Vec<u8>>, NoMemory>
     ensures names { IfOk result (λ names. lists names.items ≡ label_names source.now (file_of program.now)) }
 {
-    let mut names = Vec::new(alloc);
-    put_function_labels(&program.functions, &mut names)?;
-    texts(alloc, source, &names)
+    let labels = labels_in(alloc, program)?;
+    texts(alloc, source, &labels)
 }

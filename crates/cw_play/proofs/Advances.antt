@@ -51,7 +51,8 @@ module _ (g : Game) (v : Lists) (names : Names) (s : Strategy) (first : ℕ) (ta
     lines_told : (b to : Board) (c d : Config) (by : Move) → Stands Means g b c → Stands Means g to d → step_lines names p b by to ≡ told_of c.pos by d.pos d.state
     lines_told b to c d by h k =
         step_told Means g plan game.laid.main names b to c d by h k
-        ∙ ap (λ (caps : Caps). lines_at names g.policy g.main (slice_get g.spots c.pos) by ++ label_at names g.policy caps (slice_get g.spots d.pos)) (tells.caps d.state to.word to.caps (meant Means g to d k))
+        ∙ ap (λ (caps : Caps). lines_at names g.policy g.main (slice_get g.spots c.pos) by ++ label_at names g.policy caps (slice_get g.spots d.pos))
+        (tells.caps d.state to.word to.caps (meant Means g to d k))
 
     pub advance : (text more : List ℕ) (c d : Config) (at next : ℕ) (calls opened : List ℕ) (rest left : List Move) (r : Row) (by : Move)
         → Sofar g names plan s first tape old text c at calls rest

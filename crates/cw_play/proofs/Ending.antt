@@ -12,7 +12,8 @@ use Rattle.cw_syntax.specs.Plans.{Call, Plan}
 use Rattle.cw_syntax.specs.Frames.{Todo, Frame}
 use Rattle.cw_model.specs.Boards.{Phase, Visit, Asked, Refused, Free, FreeSplit, Over, Board, letters}
 use Rattle.cw_game.specs.declared.spots.Spot.{Spot}
-use Rattle.cw_game.specs.declared.spots.Spot.TheVariants.{Visit as VisitSpot, Asked as AskedSpot, Step, Branch, Label as LabelSpot, Open as OpenSpot, Close as CloseSpot, Call as CallSpot, SplitCall, Exit}
+use Rattle.cw_game.specs.declared.spots.Spot.TheVariants.{Visit as VisitSpot, Asked as AskedSpot, Step, Branch, Label as LabelSpot, Open as OpenSpot, Close as CloseSpot}
+use Rattle.cw_game.specs.declared.spots.Spot.TheVariants.{Call as CallSpot, SplitCall, Exit}
 use Rattle.cw_game.specs.Games.{Game, Ret, Config, at_pair, letter_of, bad_in}
 use Rattle.cw_game.specs.Closed.{IsClosedStrategy}
 use Rattle.cw_game.specs.Reached.{Reached}
@@ -35,7 +36,8 @@ module _ (Means : Meaning) (g : Game) where
   not_label : (p j l n : ℕ) (spot : Spot) → slice_get g.spots p ≡ Some (LabelSpot j l n) → slice_get g.spots p ≡ Some spot → LabelSpot j l n ≡ spot
   not_label p j l n spot e es = same_Some (LabelSpot j l n) spot (sym e ∙ es)
 
-  front_letter : (x p j l n : ℕ) (frame : Frame) (frames : List Frame) (caps : Caps) → slice_get g.spots p ≡ Some (LabelSpot j l n) → Front g.spots g.policy x p frame → letters (frame ∷ frames) caps ≡ letter_of l caps ∷ []
+  front_letter : (x p j l n : ℕ) (frame : Frame) (frames : List Frame) (caps : Caps) → slice_get g.spots p ≡ Some (LabelSpot j l n) → Front g.spots g.policy x p frame
+      → letters (frame ∷ frames) caps ≡ letter_of l caps ∷ []
   front_letter x p seam label after _ frames caps e (is_step raw {n} quiet ways es a) = absurd (let w = not_label p seam label after (Step n) e es in cc)
   front_letter x p seam label after _ frames caps e (is_branch left right' {m} {n} quiet ways es a a') = absurd (let w = not_label p seam label after (Branch m n) e es in cc)
   front_letter x p seam label after _ frames caps e (is_label {at} {mark} {j} {l} {s} {is} {n} es a) =
@@ -94,11 +96,13 @@ module _ (g : Game) (v : Lists) (names : Names) (s : Strategy) (first : ℕ) (ta
       let letter = letter_is Means g so.board c broken.0 broken.1 broken.2 so.stands broken.3 in
       let is_rule = ap (λ (p : PlainPolicy). verdict p.rules 0 1 (set_after v k.state broken.1)) (sym under) ∙ broken.4 in
       let told : IsVerdict g.policy.rules (so.board.word ++ letter_of broken.1 so.board.caps ∷ []) (Some rule) =
-      subst (λ (o : Option ℕ). IsVerdict g.policy.rules (so.board.word ++ letter_of broken.1 so.board.caps ∷ []) o) is_rule (tells.rule k.state so.board.word so.board.caps broken.1 (meant Means g so.board c so.stands)) in
+      subst (λ (o : Option ℕ). IsVerdict g.policy.rules (so.board.word ++ letter_of broken.1 so.board.caps ∷ []) o) is_rule
+      (tells.rule k.state so.board.word so.board.caps broken.1 (meant Means g so.board c so.stands)) in
       whole plan text c at calls rest so (row_in k.pos k.state k.aim Bad) (Violation rule) here
       (violates plan g game so.board c so.stands bad, subst (λ (w : Word). IsVerdict g.policy.rules (so.board.word ++ w) (Some rule)) (sym letter) told)
   by_end text at calls rest k how word TapeSpent er h spent plan game tells =
-      whole plan text (at_pair k.pos k.state k.rets) at calls rest (k.sofar plan game tells) (row_in k.pos k.state k.aim (Both h.0 h.1)) TapeSpent (er ∙ ap (λ (how : How). Some (row_in k.pos k.state k.aim how)) h.2) (spent h.3)
+      whole plan text (at_pair k.pos k.state k.rets) at calls rest (k.sofar plan game tells) (row_in k.pos k.state k.aim (Both h.0 h.1)) TapeSpent
+      (er ∙ ap (λ (how : How). Some (row_in k.pos k.state k.aim how)) h.2) (spent h.3)
 
   pub ends : (text : List ℕ) (at : ℕ) (calls : List ℕ) (rest : List Move) (r : Row) (word : Option Move) (end : PlayEnd) → Kept g v names s first tape old text at calls rest
       → slice_get s.rows at ≡ Some r → EndsAt g v r word end → (word ≡ None → rest ≡ []) → (plan : Plan) → IsGameOf (problem_in plan g) g → Tells g v → Whole plan text end

@@ -17,6 +17,7 @@ use Rattle.cw_tapes.specs.Tapes.{IsWeavers}
 use Rattle.cw_trace.specs.Traces.{Names}
 use Rattle.cw_play.specs.Rows.{backs_if, backs_at, move_in, after_in, moves_below, moves_left}
 use Rattle.cw_play.proofs.Held.{IsInRange, Owed, Sofar, Kept}
+use Rattle.cw_play.proofs.Nested.{AreNested, nested_below}
 use Rattle.cw_play.proofs.Advances.{told_of, advance}
 
 -- Fewer moves are left.
@@ -51,6 +52,7 @@ module _ (g : Game) (v : Lists) (names : Names) (s : Strategy) (first : ℕ) (ta
     pub opened : List ℕ
     pub is_after : after_in s r.how at r.state by calls ≡ Some (next, opened)
     pub fewer : moves_left next opened < moves_left at calls
+    pub nested : (rows : ℕ) → AreNested rows at calls → AreNested rows next opened
     pub row : Row
     pub has_row : slice_get s.rows next ≡ Some row
     pub kept : (more : List ℕ) → more ≡ text ++ told_of g v names s first tape old r.pos by row.pos row.state → Kept g v names s first tape old more next opened left
@@ -81,6 +83,7 @@ module _ (g : Game) (v : Lists) (names : Names) (s : Strategy) (first : ℕ) (ta
           opened = calls;
           is_after = refl;
           fewer = fewer_next skip at calls ok.0;
+          nested = λ rows h. nested_below rows skip at calls ok.0 h;
           row = row_in (k.pos + 2) k.state k.aim ok.3.0;
           has_row = ok.3.1;
           kept = λ more told. record {
@@ -101,6 +104,7 @@ module _ (g : Game) (v : Lists) (names : Names) (s : Strategy) (first : ℕ) (ta
           opened = calls;
           is_after = refl;
           fewer = fewer_next tried at calls ok.1;
+          nested = λ rows h. nested_below rows tried at calls ok.1 h;
           row = row_in (k.pos + 1) k.state k.aim ok.4.0;
           has_row = ok.4.1;
           kept = λ more told. record {
@@ -134,6 +138,7 @@ module _ (g : Game) (v : Lists) (names : Names) (s : Strategy) (first : ℕ) (ta
           opened = calls;
           is_after = refl;
           fewer = fewer_next row at calls ok.0;
+          nested = λ rows h. nested_below rows row at calls ok.0 h;
           row = row_in t.0 t.1 k.aim t.3.0;
           has_row = t.3.1;
           kept = λ more told. record {
@@ -161,6 +166,7 @@ module _ (g : Game) (v : Lists) (names : Names) (s : Strategy) (first : ℕ) (ta
           opened = at ∷ calls;
           is_after = refl;
           fewer = fewer_called callee at calls ok.0;
+          nested = λ rows h. (ok.0, h);
           row = row_in (g.entry t.0) k.state t.3 t.5.0;
           has_row = t.5.1;
           kept = λ more told. record {
@@ -170,7 +176,8 @@ module _ (g : Game) (v : Lists) (names : Names) (s : Strategy) (first : ℕ) (ta
             rets = ret ∷ k.rets;
             stands = t.5;
             owed = (row_in k.pos k.state k.aim (Into callee backs), er, t.6, k.owed);
-            sofar = λ plan game tells. advance g v names s first tape old plan game tells text more (at_pair k.pos k.state k.rets) (at_pair (g.entry t.0) k.state (ret ∷ k.rets)) at callee calls (at ∷ calls) rest left
+            sofar = λ plan game tells. advance g v names s first tape old plan game tells text more (at_pair k.pos k.state k.rets) (at_pair (g.entry t.0) k.state (ret ∷ k.rets)) at
+                callee calls (at ∷ calls) rest left
                 (row_in k.pos k.state k.aim (Into callee backs)) On (k.sofar plan game tells) er
                 (λ b to h. let c = at_call plan g game b (at_pair k.pos k.state k.rets) h l.1 in
                 (refl, e, refl, ap (λ (bs : List (ℕ × ℕ)). bs ∷ map (backs_at s) calls) (ap backs_if er), c.0, c.1)) l.2 l.0 told;
@@ -191,6 +198,7 @@ module _ (g : Game) (v : Lists) (names : Names) (s : Strategy) (first : ℕ) (ta
           opened = calls;
           is_after = ap (option_map (λ (row : ℕ). (row, calls))) found;
           fewer = fewer_back back.0 at caller calls back.2;
+          nested = λ rows h. nested_below rows back.0 caller calls back.2 h.1;
           row = row_in ret.back next owed.0.aim back.3.0;
           has_row = back.3.1;
           kept = λ more told. record {
@@ -200,7 +208,8 @@ module _ (g : Game) (v : Lists) (names : Names) (s : Strategy) (first : ℕ) (ta
             rets = rets;
             stands = back.3;
             owed = owed.3;
-            sofar = λ plan game tells. advance g v names s first tape old plan game tells text more (at_pair k.pos k.state (ret ∷ rets)) (at_pair ret.back next rets) at back.0 (caller ∷ calls) calls rest left
+            sofar = λ plan game tells. advance g v names s first tape old plan game tells text more (at_pair k.pos k.state (ret ∷ rets)) (at_pair ret.back next rets) at back.0
+                (caller ∷ calls) calls rest left
                 (row_in k.pos k.state k.aim Out) On
                 (subst (λ (rs : List Ret). Sofar g names plan s first tape old text (at_pair k.pos k.state rs) at (caller ∷ calls) rest) same (k.sofar plan game tells)) er
                 (λ b to h. let z = at_end plan g game b (at_pair k.pos k.state (ret ∷ rets)) h (ap is_exit_in ok.1) in (refl, e, z.0, z.1, (backs_at s caller, refl, found)))

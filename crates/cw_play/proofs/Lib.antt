@@ -1,6 +1,7 @@
 pub mod OnePlay
 pub mod Held
 pub mod Advances
+pub mod Nested
 pub mod Going
 pub mod Ending
 pub mod FirstRow

@@ -34,6 +34,7 @@ use Rattle.cw_play.specs.declared.end.PlayEnd.{PlayEnd}
 use Rattle.cw_play.specs.Played.{IsPlayed}
 use Rattle.cw_play.specs.Rows.{move_in, after_in, words_in, moves_left, EndsAt}
 use Rattle.cw_play.proofs.Held.{Kept}
+use Rattle.cw_play.proofs.Nested.{AreNested}
 use Rattle.cw_play.proofs.Advances.{told_of}
 use Rattle.cw_play.proofs.Going.{Takes, Ready, ready}
 use Rattle.cw_play.proofs.Ending.{ends}
@@ -62,7 +63,8 @@ takes_from (Both skip tried) tape taken n word by may w made e = both_take tape 
 takes_from (Go move row) tape taken n word by may w made e = none_taken tape taken n e
 takes_from (Into callee backs) tape taken n word by may w made e = none_taken tape taken n e
 
-pub taken_within : (how : How) (tape : List Move) (taken n : ℕ) (word : Option Move) (by : Move) → taken ≤ length tape → word ≡ slice_get tape taken → move_in how word ≡ Some by → n ≡ words_in how → taken + n ≤ length tape
+pub taken_within : (how : How) (tape : List Move) (taken n : ℕ) (word : Option Move) (by : Move) → taken ≤ length tape → word ≡ slice_get tape taken → move_in how word ≡ Some by
+    → n ≡ words_in how → taken + n ≤ length tape
 taken_within (Both skip tried) tape taken n word by le w made e = let lt = slice_get_within tape taken by (sym w ∙ made) in omega (arith, lt, e)
 taken_within Bad tape taken n word by le w made e = omega (arith, le, e)
 taken_within Out tape taken n word by le w made e = omega (arith, le, e)
@@ -103,12 +105,16 @@ module _ (held : Held) (cert : EnvCert) (names : Names) (tape : List Move) (old 
       (row_here text at calls taken k x e) made (takes_from (how_of x.how) tape taken n word by may w made words)
 
   -- what comes after a row is what the code finds
-  module _ (text : List ℕ) (at : ℕ) (calls : List ℕ) (r : Row) (by : Move) (left : List Move) (y : Ready g v names s first tape old text at calls r by left) (next : ℕ) (opened : List ℕ) (after : after_in s r.how at r.state by calls ≡ Some (next, opened)) where
+  module _ (text : List ℕ) (at : ℕ) (calls : List ℕ) (r : Row) (by : Move) (left : List Move) (y : Ready g v names s first tape old text at calls r by left) (next : ℕ) (opened : List ℕ)
+      (after : after_in s r.how at r.state by calls ≡ Some (next, opened)) where
     same : ◌≡◌ {A = ℕ × List ℕ} (y.next, y.opened) (next, opened)
     same = same_Some (y.next, y.opened) (next, opened) (sym y.is_after ∙ after)
 
     pub fewer_then : moves_left next opened < moves_left at calls
     fewer_then = subst (λ (p : ℕ × List ℕ). moves_left p.0 p.1 < moves_left at calls) same y.fewer
+
+    pub nested_then : (rows : ℕ) → AreNested rows at calls → AreNested rows next opened
+    nested_then rows h = subst (λ (p : ℕ × List ℕ). AreNested rows p.0 p.1) same (y.nested rows h)
 
     has_then : slice_get s.rows next ≡ Some y.row
     has_then = subst (λ (p : ℕ × List ℕ). slice_get s.rows p.0 ≡ Some y.row) same y.has_row

@@ -1,6 +1,6 @@
 //! Plays by a tape.
 
-ghost use Rattle.std.specs.Prelude.{◌≡◌, ℕ, ◌<◌, ◌^◌, List, true, None, Some, length, slice_get, All, IfOk};
+ghost use Rattle.std.specs.Prelude.{◌≡◌, ℕ, ◌<◌, ◌^◌, List, true, None, Some, length, slice_get, All, IfOk, OnErr};
 ghost use Rattle.cw_rights.specs.Policies.{policy_of};
 ghost use Rattle.cw_rights.specs.Valid.{IsValid};
 ghost use Rattle.cw_syntax.specs.Trees.{File};
@@ -12,6 +12,7 @@ ghost use Rattle.cw_certs.specs.Strategies.{Bad, how_of, row_of, strategy_of};
 ghost use Rattle.cw_model.specs.Boards.{problem_of};
 ghost use Rattle.cw_game.specs.Games.{bad_in};
 ghost use Rattle.cw_game.specs.Conditions.{IsGoodStrategy};
+ghost use Rattle.cw_pieces.specs.Written.{Follows};
 ghost use Rattle.cw_positions.specs.Opens.{AssignsNames};
 ghost use Rattle.cw_states.specs.States.{AreLists, lists_of};
 ghost use Rattle.cw_product.specs.Moves.{IsPosition, IsState, violated_at};
@@ -27,6 +28,8 @@ use crate::rows::{move_at, next_row, words_at};
 use crate::start::start_row;
 use cw_certs::{EnvCert, EnvRow, How, Move};
 use cw_core::NoMemory;
+use cw_io::Sink;
+use cw_pieces::Writer;
 use cw_product::Game;
 use cw_told::put_step;
 use cw_trace::Names;
@@ -67,28 +70,33 @@ fn end_at(game: &Game, row: &EnvRow, word: Option<Move>) -> PlayEnd
 }
 
 /// The play of a good strategy in which the weaver makes the moves of a tape: how it ends, with its trace behind the text. Words after a
-/// violation aren't played. It goes over the pairs of the game, and keeps no word. Where memory is wanting, some of the trace may have been
-/// appended.
+/// violation aren't played. It goes over the pairs of the game, and keeps no word. The list of open calls, for which the number of rows is
+/// room enough, is made before the first byte is put: where memory is wanting nothing was appended.
 ///
 /// Public source: the visibly pushdown games of Löding, Madhusudan and Serre (2004).
-pub fn play_env(
+pub fn play_env<S: Sink>(
     alloc: Global,
     names: &Names,
     game: &Game,
     cert: &EnvCert,
     tape: &[Move],
-    trace: &mut Vec<u8>,
+    writer: &mut Writer<S>,
+    out: &mut S,
 ) -> Result<PlayEnd, NoMemory>
     requires valid { IsValid (policy_of game.now.states.policy) }
     requires lists { AreLists (uses_of (policy_of game.now.states.policy) game.now.graph.nodes.items) (lists_of game.now.states) }
     requires good { IsGoodStrategy (game_of game.now) (strategy_of cert.now) }
     requires rows { length cert.now.rows.items < 2 ^ 32 }
     requires tape { All (IsIn true) tape.now }
+    requires follows { Follows S.taken S.faults S.refused writer.old out.old }
     ensures play { IfOk result (λ end. (source : List ℕ) (file : File) → let policy = policy_of game.now.states.policy in
         IsGraph (names_of policy) source file game.now.graph → IsRunnable (plan_of (names_of policy) source file) → AssignsNames source file
-        → IsPlayed (told names.now) (problem_of policy source file) (game_of game.now) (strategy_of cert.now) tape.now end trace.old.items trace.new.items) }
+        → IsPlayed (told names.now) (problem_of policy source file) (game_of game.now) (strategy_of cert.now) tape.now end writer.old.text writer.new.text) }
+    ensures refused { OnErr result ((writer.new ≡ writer.old) × (out.new ≡ out.old)) }
+    ensures begun { writer.new.begun ≡ writer.old.begun }
+    ensures follows { Follows S.taken S.faults S.refused writer.new out.new }
 {
-    let mut calls = Vec::new(alloc);
+    let mut calls = Vec::with_capacity(alloc, cert.rows.len())?;
     let mut at = start_row(game, cert);
     let mut taken = 0;
     'rows: loop {
@@ -98,7 +106,7 @@ pub fn play_env(
             return Ok(end_at(game, row, word));
         };
         taken += words_at(&row.how);
-        at = next_row(cert, row, at, by, &mut calls)?;
+        at = next_row(cert, row, at, by, &mut calls);
         let reached = &cert.rows[at as usize];
         put_step(
             names,
@@ -106,7 +114,8 @@ pub fn play_env(
             row.pos,
             by,
             (reached.pos, reached.state),
-            trace,
-        )?;
+            writer,
+            out,
+        );
     }
 }

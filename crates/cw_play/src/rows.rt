@@ -1,12 +1,12 @@
 //! From row to row of a strategy.
 
-ghost use Rattle.std.specs.Prelude.{◌≡◌, reverse, map, Some, IfOk, IsSome};
+ghost use Rattle.std.specs.Prelude.{◌≡◌, ◌<◌, reverse, map, Some, IsSome, vec_len, vec_capacity};
 ghost use Rattle.cw_certs.specs.Strategies.{How, Out, back_of, how_of, row_of, strategy_of};
 ghost use Rattle.cw_certs.specs.declared.moves.Move.TheVariants.{On};
 ghost use Rattle.cw_play.specs.Rows.{backs_in, backs_at, backs_of, move_in, after_in, words_in};
 
 use cw_certs::{EnvCert, EnvRow, How, Move};
-use cw_core::{NoMemory, StateId};
+use cw_core::StateId;
 
 /// The move that is made at a row, where the weaver's next word is this one; none where the play ends.
 pub(crate) fn move_at(how: &How, word: Option<Move>) -> Option<Move>
@@ -65,6 +65,7 @@ fn back_of(backs: &[(StateId, u32)], exit: StateId) -> Option<u32>
 fn returned_to(cert: &EnvCert, exit: StateId, calls: &mut Vec<u32>) -> u32
     requires next { IsSome (after_in (strategy_of cert.now) Out 0 exit.0 On (reverse calls.old.items)) }
     ensures next { after_in (strategy_of cert.now) Out 0 exit.0 On (reverse calls.old.items) ≡ Some (result, reverse calls.new.items) }
+    ensures capacity { vec_capacity calls.new ≡ vec_capacity calls.old }
 {
     let Some(caller) = calls.pop() else {
         unreachable!()
@@ -75,26 +76,23 @@ fn returned_to(cert: &EnvCert, exit: StateId, calls: &mut Vec<u32>) -> u32
     back
 }
 
-/// The row after a move that is made at the row with a number; `calls` has the rows of the calls that are open, the innermost last.
-pub(crate) fn next_row(
-    cert: &EnvCert,
-    row: &EnvRow,
-    at: u32,
-    by: Move,
-    calls: &mut Vec<u32>,
-) -> Result<u32, NoMemory>
+/// The row after a move that is made at the row with a number; `calls` has the rows of the calls that are open, the innermost last, and
+/// there is room for one more.
+pub(crate) fn next_row(cert: &EnvCert, row: &EnvRow, at: u32, by: Move, calls: &mut Vec<u32>) -> u32
     requires next { IsSome (after_in (strategy_of cert.now) (how_of row.now.how) at row.now.state.0 by (reverse calls.old.items)) }
-    ensures next { IfOk result (λ next. after_in (strategy_of cert.now) (how_of row.now.how) at row.now.state.0 by (reverse calls.old.items)
-        ≡ Some (next, reverse calls.new.items)) }
+    requires room { vec_len calls.old < vec_capacity calls.old }
+    ensures next { after_in (strategy_of cert.now) (how_of row.now.how) at row.now.state.0 by (reverse calls.old.items)
+        ≡ Some (result, reverse calls.new.items) }
+    ensures capacity { vec_capacity calls.new ≡ vec_capacity calls.old }
 {
     match &row.how {
-        How::Both { skip, tried } => Ok(if by == Move::Try { *tried } else { *skip }),
-        How::Go { row: next, .. } => Ok(*next),
+        How::Both { skip, tried } => if by == Move::Try { *tried } else { *skip },
+        How::Go { row: next, .. } => *next,
         How::Into { callee, .. } => {
-            calls.push(at)?;
-            Ok(*callee)
+            calls.push_reserved(at);
+            *callee
         }
-        How::Out => Ok(returned_to(cert, row.state, calls)),
+        How::Out => returned_to(cert, row.state, calls),
         How::Bad => unreachable!(),
     }
 }

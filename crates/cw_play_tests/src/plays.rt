@@ -18,6 +18,8 @@ use crate::texts::{
 use cw_certs::EnvCert;
 use cw_core::NoMemory;
 use cw_echeck::check_env;
+use cw_io::SureSink;
+use cw_pieces::Writer;
 use cw_play::{PlayEnd, play_env};
 use cw_policies::read_policy;
 use cw_product::Game;
@@ -61,12 +63,14 @@ fn put_play(
     let Ok(moves) = read_tape(alloc, tape, true) else {
         return None;
     };
-    let mut trace = Vec::new(alloc);
-    let Ok(end) = play_env(alloc, names, game, cert, &moves, &mut trace) else {
+    let mut out = SureSink::make(alloc);
+    let mut writer = Writer::begin(&out);
+    let Ok(end) = play_env(alloc, names, game, cert, &moves, &mut writer, &mut out) else {
         return None;
     };
+    writer.finish(&mut out).ok()?;
     let end = end_text(alloc, game, end).ok()?;
-    put_line(tape, &end, &trace, list).ok()
+    put_line(tape, &end, out.bytes(), list).ok()
 }
 
 /// The lines of every tape of up to six words that is played against a good strategy, the shorter ones first.

@@ -19,6 +19,8 @@ use crate::lists::{RETURN_RUNS, STOP_RUNS, STORED_RUNS};
 use crate::texts::{RETURN, STOP, STOP_POLICY, STORED, STORED_POLICY};
 use cw_certs::WeaverCert;
 use cw_core::{NoMemory, put_dec};
+use cw_io::SureSink;
+use cw_pieces::Writer;
 use cw_points::Graph;
 use cw_policies::read_policy;
 use cw_product::Game;
@@ -53,7 +55,7 @@ fn run_by(
     game: &Game,
     table: &WeaverCert,
     tape: &[u8],
-) -> Option<(RunEnd, Vec<u8>)>
+) -> Option<(RunEnd, SureSink)>
     requires valid { IsValid (policy_of game.now.states.policy) }
     requires lists { AreLists (uses_of (policy_of game.now.states.policy) game.now.graph.nodes.items) (lists_of game.now.states) }
     requires reads { ReadsAs checked.now.source.now (file_of checked.now.program) }
@@ -69,11 +71,13 @@ fn run_by(
     if moves.len() > 65536 {
         return None;
     }
-    let mut trace = Vec::new(alloc);
-    match run_woven(alloc, checked, game, table, &moves, &mut trace) {
-        Ok(end) => Some((end, trace)),
-        Err(_) => None,
-    }
+    let mut out = SureSink::make(alloc);
+    let mut writer = Writer::begin(&out);
+    let Ok(end) = run_woven(alloc, checked, game, table, &moves, &mut writer, &mut out) else {
+        return None;
+    };
+    writer.finish(&mut out).ok()?;
+    Some((end, out))
 }
 
 /// Whether a tape with one word more, whichever, is told the same.
@@ -83,7 +87,7 @@ fn stays(
     game: &Game,
     table: &WeaverCert,
     tape: &[u8],
-    told: &(RunEnd, Vec<u8>),
+    told: &(RunEnd, SureSink),
 ) -> bool
     requires valid { IsValid (policy_of game.now.states.policy) }
     requires lists { AreLists (uses_of (policy_of game.now.states.policy) game.now.graph.nodes.items) (lists_of game.now.states) }
@@ -98,7 +102,7 @@ fn stays(
         let Some((end, trace)) = run_by(alloc, checked, game, table, &tape) else {
             return false;
         };
-        if end != told.0 || trace.as_slice() != told.1.as_slice() {
+        if end != told.0 || trace.bytes() != told.1.bytes() {
             return false;
         }
     }
@@ -122,7 +126,7 @@ fn every_run(alloc: Global, checked: &Checked, game: &Game, table: &WeaverCert) 
         for tape in &tapes {
             let told = run_by(alloc, checked, game, table, tape)?;
             let end = end_text(alloc, told.0).ok()?;
-            put_line(tape, &end, &told.1, &mut list).ok()?;
+            put_line(tape, &end, told.1.bytes(), &mut list).ok()?;
             match told.0 {
                 RunEnd::BadMove(_) => {
                     if !stays(alloc, checked, game, table, tape, &told) {

@@ -26,7 +26,7 @@ use Rattle.cw_game.specs.Conditions.{IsGoodTable}
 use Rattle.cw_game.proofs.Reached.{reached_means}
 use Rattle.cw_game.proofs.Goods.{good_closed}
 use Rattle.cw_states.specs.States.{lists_of, AreLists, Means, caps_at, states_of}
-use Rattle.cw_states.proofs.Meaning.{states_are}
+use Rattle.cw_states.proofs.Meaning.{states_are, caps_is}
 use Rattle.cw_product.specs.Product.{Held, game_of}
 use Rattle.cw_product.specs.Uses.{uses_of}
 use Rattle.cw_product.proofs.Holding.{has, game_is}
@@ -40,7 +40,7 @@ use Rattle.cw_run.specs.declared.walk.Here.{Here as HereData}
 use Rattle.cw_run.specs.declared.walk.Wait.{Wait as WaitData}
 use Rattle.cw_run.specs.Walks.{here_of, wait_of, innermost, place_in, start_here, IsHere, IsWait, IsPlace, Arrives, Answered}
 use Rattle.cw_run.specs.Woven.{Tells}
-use Rattle.cw_run.proofs.Main.{caps_meant, RunSoFar, begun, went, spent, over, bad_word, past_end}
+use Rattle.cw_run.proofs.Main.{RunSoFar, begun, went, spent, over, bad_word, past_end}
 
 abbrev pub plan_here : Held → List ℕ → File → Plan
 plan_here h source file = plan_of (names_of (policy_of h.states.policy)) source file
@@ -86,7 +86,7 @@ module _ (h : Held) (source : List ℕ) (file : File) (t : Table) (names : Names
   holds q w c r =
       let uses = uses_of policy h.graph.nodes.items in
       let v = lists_of h.states in
-      caps_meant uses v lists q w c
+      caps_is uses v lists q w c
       (reached_means policy (spots h.graph policy) (states_of v) (Means uses v) (states_are uses v lists (spots h.graph policy) (has policy h.graph valid source file drawn assigns)) q w c r)
 
   safe : Sound (problem_of policy source file) t

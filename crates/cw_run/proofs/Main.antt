@@ -1,8 +1,7 @@
 -- The run by a tape, step by step: what the loop keeps, and what it comes to.
-use Rattle.std.proofs.Common.{◌≡◌, ℕ, ◌+◌, ◌%◌, List, [], ◌∷◌, ◌++◌, map, take, length, get_or, false, Option, Some, None, refl, sym, ap, ap₂, ◌∙◌, subst, append_assoc, append-nil, option_and_then}
+use Rattle.std.proofs.Common.{◌≡◌, ℕ, List, [], ◌∷◌, ◌++◌, map, take, false, Option, Some, None, refl, sym, ap, ap₂, ◌∙◌, subst, append_assoc, append-nil, option_and_then}
 use Rattle.std.specs.Prelude.{slice_get, option_map}
 use Rattle.std.proofs.lemmas.Option.{none-some, same_Some}
-use Rattle.std.proofs.lemmas.Nat.{mod-mul-add}
 use Rattle.cw_rights.specs.declared.capabilities.Caps.{Caps}
 use Rattle.cw_rights.specs.declared.capabilities.Primitive.{Primitive}
 use Rattle.cw_rights.specs.Words.{Word}
@@ -20,10 +19,6 @@ use Rattle.cw_game.specs.Reached.{Reached}
 use Rattle.cw_game.specs.Places.{IsLaidOut, HasRoutines}
 use Rattle.cw_game.specs.Standing.{StandsOn}
 use Rattle.cw_game.proofs.Link.{starts_at, environments_turn}
-use Rattle.cw_positions.specs.Positions.{spots}
-use Rattle.cw_states.specs.States.{Lists, AreLists, Means, caps_at, caps_place, set_place}
-use Rattle.cw_states.specs.declared.uses.Uses.{Uses}
-use Rattle.cw_states.proofs.Places.{caps_found}
 use Rattle.cw_trace.specs.Traces.{Names, reached_lines}
 use Rattle.cw_trace.specs.Steps.{Step, state_after, End, Ended, TapeSpent, BadMove, IsNoMove}
 use Rattle.cw_trace.proofs.Grown.{follows_grown, state_grown}
@@ -34,14 +29,6 @@ use Rattle.cw_run.proofs.Sees.{see, below}
 use Rattle.cw_run.proofs.Sits.{Waiting, Least, Sits, label_of, arrived}
 use Rattle.cw_run.proofs.Moveless.{Safe, moveless}
 use Rattle.cw_run.proofs.Runs.{IsRunAt, IsOver, LeadsTo, rested, leads_on, safe_of}
-
--- the capabilities of a state are those that it stands for
-pub caps_meant : (uses : Uses) (v : Lists) → AreLists uses v → (q : ℕ) (w : Word) (c : Caps) → Means uses v q w c → caps_at v q ≡ c
-caps_meant uses v are q w c m =
-    let f = caps_found v.rights c ((are.rights.1 c).1 m.held) in
-    ap (λ j. get_or v.rights j (start_caps v.policy))
-    (ap (λ p. p % length v.rights) m.is ∙ mod-mul-add (set_place v m.set) (length v.rights) (caps_place v c) f.0)
-    ∙ f.1 (start_caps v.policy)
 
 -- where the run is
 abbrev pub IsAt : Names → Game → Table → Plan → List Move → List ℕ → Option Here → List Wait → Type 0

@@ -12,7 +12,7 @@ use Rattle.cw_certs.specs.declared.rows.TryRow.{TryRow}
 use Rattle.cw_certs.specs.Tables.{Table, try_at}
 use Rattle.cw_syntax.specs.Plans.{Plan}
 use Rattle.cw_syntax.specs.Frames.{Frame}
-use Rattle.cw_model.specs.Boards.{seam_in, Problem, Phase, Asked, Refused, Over, Board, onward, may_grant, may_refuse, can_stop, passed_by, refused}
+use Rattle.cw_model.specs.Boards.{seam_in, Problem, Phase, Asked, Refused, Over, Board, onward, may_grant, may_refuse, can_stop, passed_by}
 use Rattle.cw_model.specs.Runs.{top_by, try_in, refused_with, stops, stays_where, State, WovenStep}
 use Rattle.cw_game.specs.declared.spots.Spot.{Spot}
 use Rattle.cw_game.specs.declared.spots.Spot.TheVariants.{Asked as AskedSpot}

@@ -11,7 +11,7 @@ use Rattle.cw_certs.specs.declared.moves.Move.TheVariants.{Skip, Try, Grant, Ref
 use Rattle.cw_certs.specs.Tables.{Table}
 use Rattle.cw_syntax.specs.Plans.{Callee, Call, Plan}
 use Rattle.cw_syntax.specs.Frames.{Todo, Frame}
-use Rattle.cw_model.specs.Boards.{Problem, Phase, Board, may_grant}
+use Rattle.cw_model.specs.Boards.{Problem, Phase, Board}
 use Rattle.cw_model.specs.Runs.{State, WovenStep}
 use Rattle.cw_game.specs.declared.spots.Spot.{Spot}
 use Rattle.cw_game.specs.declared.spots.Spot.TheVariants.{Step, Branch, Exit, Visit as VisitSpot, Asked as AskedSpot, Label as LabelSpot, Open as OpenSpot, Close as CloseSpot}

@@ -1,6 +1,6 @@
 //! The woven run by a tape.
 
-ghost use Rattle.std.specs.Prelude.{◌≡◌, ◌∷◌, ◌<◌, ◌^◌, length, IfOk, IfSome};
+ghost use Rattle.std.specs.Prelude.{◌≡◌, ◌+◌, ◌∷◌, ◌<◌, ◌≤◌, ◌^◌, length, vec_len, vec_capacity, IfOk, IfSome, OnErr};
 ghost use Rattle.std.specs.List.{All};
 ghost use Rattle.cw_rights.specs.Policies.{policy_of};
 ghost use Rattle.cw_states.specs.States.{lists_of, caps_at};
@@ -16,6 +16,7 @@ ghost use Rattle.cw_states.specs.States.{AreLists};
 ghost use Rattle.cw_product.specs.Uses.{uses_of};
 ghost use Rattle.cw_model.specs.Boards.{problem_of};
 ghost use Rattle.cw_game.specs.Conditions.{IsGoodTable};
+ghost use Rattle.cw_pieces.specs.Written.{Follows};
 ghost use Rattle.cw_trace.specs.Labels.{told, names_of as trace_names_of};
 ghost use Rattle.cw_run.specs.Woven.{end_of, Tells};
 ghost use Rattle.cw_run.specs.Walks.{here_of, wait_of, next_is, innermost, IsHere, IsWait, IsNextIn, IsPlace, Arrives, Goes, Answered, place_in, start_here, without_first};
@@ -24,6 +25,8 @@ ghost use Rattle.cw_game.specs.Games.{Game as GameOf};
 use crate::walk::{Here, Next, Wait, lead, rest};
 use cw_certs::{Move, WeaverCert};
 use cw_core::NoMemory;
+use cw_io::Sink;
+use cw_pieces::Writer;
 use cw_product::Game;
 use cw_syntax::checked::Checked;
 use cw_told::{put_move, put_reached};
@@ -42,16 +45,20 @@ pub enum RunEnd {
 }
 
 /// Where the run comes to rest after a move to a place, with the label that is reached there.
-fn arrive(
+fn arrive<S: Sink>(
     game: &Game,
     table: &WeaverCert,
     names: &Names,
     to: Here,
-    text: &mut Vec<u8>,
-) -> Result<Here, NoMemory>
-    requires { IsHere (game_of game.now) (here_of to) }
-    ensures arrives { IfOk result (λ here. Arrives (told names.now) (game_of game.now) table.now (caps_at (lists_of game.now.states)) (here_of to) (here_of here) text.old.items text.new.items) }
-    ensures range { IfOk result (λ here. IsHere (game_of game.now) (here_of here)) }
+    writer: &mut Writer<S>,
+    out: &mut S,
+) -> Here
+    requires here { IsHere (game_of game.now) (here_of to) }
+    requires follows { Follows S.taken S.faults S.refused writer.old out.old }
+    ensures arrives { Arrives (told names.now) (game_of game.now) table.now (caps_at (lists_of game.now.states)) (here_of to) (here_of result) writer.old.text writer.new.text }
+    ensures range { IsHere (game_of game.now) (here_of result) }
+    ensures begun { writer.new.begun ≡ writer.old.begun }
+    ensures follows { Follows S.taken S.faults S.refused writer.new out.new }
 {
     let here = Here {
         pos: rest(game, table, to.pos, to.mem),
@@ -63,9 +70,10 @@ fn arrive(
         game.policy(),
         game.caps(here.state),
         game.spot(here.pos),
-        text,
-    )?;
-    Ok(here)
+        writer,
+        out,
+    );
+    here
 }
 
 /// Where a run is.
@@ -78,14 +86,18 @@ pub enum Place {
 }
 
 /// Where a run is at its start, when the weaver has made its moves.
-fn begin(
+fn begin<S: Sink>(
     game: &Game,
     table: &WeaverCert,
     names: &Names,
-    text: &mut Vec<u8>,
-) -> Result<Here, NoMemory>
-    ensures arrives { IfOk result (λ here. Arrives (told names.now) (game_of game.now) table.now (caps_at (lists_of game.now.states)) (start_here (game_of game.now) table.now) (here_of here) text.old.items text.new.items) }
-    ensures range { IfOk result (λ here. IsHere (game_of game.now) (here_of here)) }
+    writer: &mut Writer<S>,
+    out: &mut S,
+) -> Here
+    requires follows { Follows S.taken S.faults S.refused writer.old out.old }
+    ensures arrives { Arrives (told names.now) (game_of game.now) table.now (caps_at (lists_of game.now.states)) (start_here (game_of game.now) table.now) (here_of result) writer.old.text writer.new.text }
+    ensures range { IsHere (game_of game.now) (here_of result) }
+    ensures begun { writer.new.begun ≡ writer.old.begun }
+    ensures follows { Follows S.taken S.faults S.refused writer.new out.new }
 {
     let (pos, state) = game.start();
     let start = Here {
@@ -93,17 +105,19 @@ fn begin(
         state,
         mem: table.start(),
     };
-    arrive(game, table, names, start, text)
+    arrive(game, table, names, start, writer, out)
 }
 
-/// A call waits.
+/// A call waits, for which there is room.
 #[tactic(auto, using(crate::proofs::Waits::innermost_push))]
-fn remember(waits: &mut Vec<Wait>, wait: Wait) -> Result<(), NoMemory>
-    ensures first { IfOk result (λ _. innermost waits.new.items ≡ wait_of wait ∷ innermost waits.old.items) }
-    ensures all { (g : GameOf) → IfOk result (λ _. All (λ w. IsWait g (wait_of w)) waits.old.items → IsWait g (wait_of wait) → All (λ w. IsWait g (wait_of w)) waits.new.items) }
+fn remember(waits: &mut Vec<Wait>, wait: Wait)
+    requires room { vec_len waits.old < vec_capacity waits.old }
+    ensures first { innermost waits.new.items ≡ wait_of wait ∷ innermost waits.old.items }
+    ensures all { (g : GameOf) → All (λ w. IsWait g (wait_of w)) waits.old.items → IsWait g (wait_of wait) → All (λ w. IsWait g (wait_of w)) waits.new.items }
+    ensures length { vec_len waits.new ≡ vec_len waits.old + 1 }
+    ensures capacity { vec_capacity waits.new ≡ vec_capacity waits.old }
 {
-    waits.push(wait)?;
-    Ok(())
+    waits.push_reserved(wait);
 }
 
 /// The innermost call waits no more.
@@ -111,66 +125,81 @@ fn remember(waits: &mut Vec<Wait>, wait: Wait) -> Result<(), NoMemory>
 fn forget(waits: &mut Vec<Wait>)
     ensures rest { innermost waits.new.items ≡ without_first (innermost waits.old.items) }
     ensures all { (g : GameOf) → All (λ w. IsWait g (wait_of w)) waits.old.items → All (λ w. IsWait g (wait_of w)) waits.new.items }
+    ensures length { vec_len waits.new ≤ vec_len waits.old }
+    ensures capacity { vec_capacity waits.new ≡ vec_capacity waits.old }
 {
     let _ = waits.pop();
 }
 
 /// The run goes on where a move leads.
-fn go(
+fn go<S: Sink>(
     game: &Game,
     table: &WeaverCert,
     names: &Names,
     waits: &mut Vec<Wait>,
     next: Next,
-    text: &mut Vec<u8>,
-) -> Result<Place, NoMemory>
+    writer: &mut Writer<S>,
+    out: &mut S,
+) -> Place
     requires next { IsNextIn (game_of game.now) (next_is next) }
     requires waits { All (λ w. IsWait (game_of game.now) (wait_of w)) waits.old.items }
-    ensures goes { IfOk result (λ place. Goes (told names.now) (game_of game.now) table.now (caps_at (lists_of game.now.states)) (next_is next) (innermost waits.old.items) (innermost waits.new.items) (place_in place) text.old.items text.new.items) }
-    ensures range { IfOk result (λ place. IsPlace (game_of game.now) (place_in place)) }
-    ensures waits { IfOk result (λ _. All (λ w. IsWait (game_of game.now) (wait_of w)) waits.new.items) }
+    requires room { vec_len waits.old < vec_capacity waits.old }
+    requires follows { Follows S.taken S.faults S.refused writer.old out.old }
+    ensures goes { Goes (told names.now) (game_of game.now) table.now (caps_at (lists_of game.now.states)) (next_is next) (innermost waits.old.items) (innermost waits.new.items) (place_in result) writer.old.text writer.new.text }
+    ensures range { IsPlace (game_of game.now) (place_in result) }
+    ensures waits { All (λ w. IsWait (game_of game.now) (wait_of w)) waits.new.items }
+    ensures length { vec_len waits.new ≤ vec_len waits.old + 1 }
+    ensures capacity { vec_capacity waits.new ≡ vec_capacity waits.old }
+    ensures begun { writer.new.begun ≡ writer.old.begun }
+    ensures follows { Follows S.taken S.faults S.refused writer.new out.new }
 {
     match next {
-        Next::To(to) | Next::Resumed(to) => Ok(Place::At(arrive(game, table, names, to, text)?)),
+        Next::To(to) | Next::Resumed(to) => Place::At(arrive(game, table, names, to, writer, out)),
         Next::Into(to, wait) => {
-            remember(waits, wait)?;
-            Ok(Place::At(arrive(game, table, names, to, text)?))
+            remember(waits, wait);
+            Place::At(arrive(game, table, names, to, writer, out))
         }
         Next::Back(to) => {
             forget(waits);
-            Ok(Place::At(arrive(game, table, names, to, text)?))
+            Place::At(arrive(game, table, names, to, writer, out))
         }
-        Next::Over => Ok(Place::Over),
+        Next::Over => Place::Over,
         Next::Stopped(seam) => {
-            put_stop(seam, text)?;
-            Ok(Place::Over)
+            put_stop(seam, writer, out);
+            Place::Over
         }
     }
 }
 
 /// One word of the tape: where the run is after it, or none where it is no move here.
-fn answer(
+fn answer<S: Sink>(
     game: &Game,
     table: &WeaverCert,
     names: &Names,
     here: Here,
     waits: &mut Vec<Wait>,
     by: Move,
-    text: &mut Vec<u8>,
-) -> Result<Option<Place>, NoMemory>
+    writer: &mut Writer<S>,
+    out: &mut S,
+) -> Option<Place>
     requires here { IsHere (game_of game.now) (here_of here) }
     requires waits { All (λ w. IsWait (game_of game.now) (wait_of w)) waits.old.items }
-    ensures answered { IfOk result (λ place. Answered (told names.now) (game_of game.now) table.now (caps_at (lists_of game.now.states)) (here_of here) by place (innermost waits.old.items) (innermost waits.new.items) text.old.items text.new.items) }
-    ensures range { IfOk result (λ place. IfSome place (λ place. IsPlace (game_of game.now) (place_in place))) }
-    ensures waits { IfOk result (λ _. All (λ w. IsWait (game_of game.now) (wait_of w)) waits.new.items) }
+    requires room { vec_len waits.old < vec_capacity waits.old }
+    requires follows { Follows S.taken S.faults S.refused writer.old out.old }
+    ensures answered { Answered (told names.now) (game_of game.now) table.now (caps_at (lists_of game.now.states)) (here_of here) by result (innermost waits.old.items) (innermost waits.new.items) writer.old.text writer.new.text }
+    ensures range { IfSome result (λ place. IsPlace (game_of game.now) (place_in place)) }
+    ensures waits { All (λ w. IsWait (game_of game.now) (wait_of w)) waits.new.items }
+    ensures length { vec_len waits.new ≤ vec_len waits.old + 1 }
+    ensures capacity { vec_capacity waits.new ≡ vec_capacity waits.old }
+    ensures begun { writer.new.begun ≡ writer.old.begun }
+    ensures follows { Follows S.taken S.faults S.refused writer.new out.new }
 {
     let spot = game.spot(here.pos);
     match lead(game, table, here, waits, spot, by) {
-        None => Ok(None),
+        None => None,
         Some(next) => {
-            put_move(names, game.policy(), game.main(), spot, by, text)?;
-            let place = go(game, table, names, waits, next, text)?;
-            Ok(Some(place))
+            put_move(names, game.policy(), game.main(), spot, by, writer, out);
+            Some(go(game, table, names, waits, next, writer, out))
         }
     }
 }
@@ -180,13 +209,15 @@ fn answer(
 ///
 /// `Ended` comes exactly where all is over as the tape ends, `TapeSpent` where the tape ends before that, and `BadMove` with the number of
 /// the first word that is no move of the board. The game is one that was made for the program's graph and the policy, and the table meets the conditions of tables.
-pub fn run_woven(
+/// What takes memory, the names and the list of calls that wait, is made before the first byte is put: where memory is wanting nothing was appended.
+pub fn run_woven<S: Sink>(
     alloc: Global,
     checked: &Checked,
     game: &Game,
     table: &WeaverCert,
     tape: &[Move],
-    trace: &mut Vec<u8>,
+    writer: &mut Writer<S>,
+    out: &mut S,
 ) -> Result<RunEnd, NoMemory>
     requires valid { IsValid (policy_of game.now.states.policy) }
     requires lists { AreLists (uses_of (policy_of game.now.states.policy) game.now.graph.nodes.items) (lists_of game.now.states) }
@@ -195,19 +226,23 @@ pub fn run_woven(
     requires assigns { AssignsNames checked.now.source.now (file_of checked.now.program) }
     requires good { IsGoodTable (game_of game.now) table.now }
     requires short { length tape.now < 2 ^ 32 }
+    requires follows { Follows S.taken S.faults S.refused writer.old out.old }
     ensures run { IfOk result (λ end. Tells
         (problem_of (policy_of game.now.states.policy) checked.now.source.now (file_of checked.now.program))
         (trace_names_of checked.now.source.now (file_of checked.now.program) (plan_of (names_of (policy_of game.now.states.policy)) checked.now.source.now (file_of checked.now.program)))
-        table.now tape.now (end_of end) trace.old.items trace.new.items) }
+        table.now tape.now (end_of end) writer.old.text writer.new.text) }
+    ensures refused { OnErr result ((writer.new ≡ writer.old) × (out.new ≡ out.old)) }
+    ensures begun { writer.new.begun ≡ writer.old.begun }
+    ensures follows { Follows S.taken S.faults S.refused writer.new out.new }
 {
     let names = trace_names(alloc, checked, game.graph())?;
-    let mut waits = Vec::new(alloc);
-    let mut place = Place::At(begin(game, table, &names, trace)?);
+    let mut waits = Vec::with_capacity(alloc, tape.len())?;
+    let mut place = Place::At(begin(game, table, &names, writer, out));
     for i in 0..tape.len() {
         match place {
             Place::Over => return Ok(RunEnd::BadMove(i as u32)),
             Place::At(here) => {
-                match answer(game, table, &names, here, &mut waits, tape[i], trace)? {
+                match answer(game, table, &names, here, &mut waits, tape[i], writer, out) {
                     Some(next) => place = next,
                     None => return Ok(RunEnd::BadMove(i as u32)),
                 }

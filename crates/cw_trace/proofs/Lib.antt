@@ -1,4 +1,3 @@
-mod Shapes
 mod Lists
 pub mod Named
 pub mod OneRun

@@ -1,20 +1,19 @@
 -- The seams of a graph have the places of the marks of its plan.
-use Rattle.std.proofs.Common.{◌≡◌, ℕ, ◌+◌, List, [], ◌∷◌, ◌++◌, map, refl, sym, ap, ap₂, ◌∙◌}
+use Rattle.std.proofs.Common.{◌≡◌, ℕ, ◌+◌, List, [], ◌∷◌, ◌++◌, map, refl, ap, ap₂, ◌∙◌}
 use Rattle.cw_syntax.specs.Names.{Names as PolicyNames}
-use Rattle.std.specs.List.{flat_map}
-use Rattle.cw_syntax.specs.declared.program.Function.{Function}
 use Rattle.cw_syntax.specs.declared.program.Program.{Program}
-use Rattle.cw_syntax.specs.Trees.{File, file_of, definition_of}
+use Rattle.cw_syntax.specs.Trees.{File, file_of}
 use Rattle.cw_syntax.specs.Plans.{function_names, Stm, Plain, Break, Continue, Return, Open, Close, Call, Group, Label, If, While, Do, For, Stms, end, then, Routine, plan_of}
 use Rattle.cw_syntax.specs.Marks.{SeamMark, marks_in, marks_in_all, marks_from, marks_of}
 use Rattle.cw_points.specs.declared.graph.Seam.{Seam}
 use Rattle.cw_points.specs.declared.graph.Graph.{Graph}
 use Rattle.cw_points.specs.Points.{count}
 use Rattle.cw_points.specs.Graphs.{turn_of, exit_of, seams_in, seams_in_all, seams_from, IsGraph}
+use Rattle.cw_listing.specs.declared.names.Labelled.{Labelled}
+use Rattle.cw_listing.specs.Labels.{labels_in_file}
 use Rattle.cw_trace.proofs.Lists.{cons_head, cons_tail}
-use Rattle.cw_trace.specs.declared.names.Labelled.{Labelled}
 use Rattle.cw_trace.specs.Traces.{Names}
-use Rattle.cw_trace.specs.Labels.{labels_of_all, labels_in_file, label_at, names_of}
+use Rattle.cw_trace.specs.Labels.{label_at, names_of}
 
 module _ {A : Type 0} (f : ℕ → A) where
   abbrev Alike : List Seam → List SeamMark → Type 0
@@ -59,14 +58,14 @@ module _ {A : Type 0} (f : ℕ → A) where
 abbrev pub both : List (List ℕ) → List (List ℕ) → Names
 both functions labels = record { functions = functions; labels = labels }
 
-pub all_named : (given : PolicyNames) (source : List ℕ) (program : Program) (g : Graph) (functions labels : List (List ℕ)) (places places2 : List Labelled) (fs : List Function) (seams : List Seam)
-    → functions ≡ function_names source (file_of program) → places ≡ flat_map (λ f. labels_of_all f.body) (map definition_of fs) → fs ≡ program.functions.items
+pub all_named : (given : PolicyNames) (source : List ℕ) (program : Program) (g : Graph) (functions labels : List (List ℕ)) (places places2 : List Labelled) (seams : List Seam)
+    → functions ≡ function_names source (file_of program) → places ≡ labels_in_file (file_of program)
     → labels ≡ map (λ s. label_at source places2 s.place) seams → places2 ≡ places → seams ≡ g.seams.items → IsGraph given source (file_of program) g
     → both functions labels ≡ names_of source (file_of program) (plan_of given source (file_of program))
-all_named given source program g functions labels places places2 fs seams ef ep es el e2 eg drawn =
+all_named given source program g functions labels places places2 seams ef ep el e2 eg drawn =
     let file = file_of program in
     ap₂ both ef
     (el
     ∙ ap₂ (λ (ls : List Labelled) (ss : List Seam). map (λ (s : Seam). label_at source ls s.place) ss)
-    (e2 ∙ ep ∙ ap (λ (l : List Function). flat_map (λ f. labels_of_all f.body) (map definition_of l)) es) eg
+    (e2 ∙ ep) eg
     ∙ are_named (label_at source (labels_in_file file)) given source file g drawn)

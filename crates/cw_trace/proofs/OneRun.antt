@@ -1,5 +1,6 @@
 -- For each tape there is one woven run at most.
-use Rattle.std.proofs.Common.{◌≡◌, ℕ, zero, suc, ◌<◌, List, [], ◌∷◌, ◌++◌, length, take, Bool, true, false, cond, not, Option, Some, None, is_some, option_map, option_and_then, refl, sym, ap, ap₂, ◌∙◌, subst, arith}
+use Rattle.std.proofs.Common.{◌≡◌, ℕ, zero, suc, List, [], ◌∷◌, ◌++◌, take, Bool, true, false, cond, not, Option, Some, None, is_some, option_map, option_and_then}
+use Rattle.std.proofs.Common.{refl, sym, ap, ap₂, ◌∙◌, subst}
 use Rattle.std.specs.Prelude.{slice_get}
 use Rattle.std.proofs.lemmas.Option.{none-some, same_Some}
 use Rattle.cw_core.specs.declared.ids.MemId.{MemId}
@@ -8,9 +9,9 @@ use Rattle.cw_certs.specs.declared.moves.Move.TheVariants.{Skip, Try, Stop}
 use Rattle.cw_certs.specs.declared.rows.TryRow.{TryRow}
 use Rattle.cw_certs.specs.Tables.{Table}
 use Rattle.cw_model.specs.Boards.{Problem, Phase, Visit, Asked, Refused, Free, FreeSplit, Over, Board, Party, Weaver, Environment, Moves, moved, turn_of, IsWeavers}
-use Rattle.cw_model.specs.Runs.{try_of, mem_in, top_by, stays_where, stays_unless, refused_with, stops, memories, State, start_state, WovenStep}
+use Rattle.cw_model.specs.Runs.{try_of, mem_in, stays_where, stays_unless, refused_with, stops, memories, State, start_state, WovenStep}
 use Rattle.cw_trace.proofs.Lists.{cons_head, cons_tail}
-use Rattle.cw_trace.specs.Steps.{Step, Follows, state_after, word_by, words_of, End, Ended, TapeSpent, BadMove, IsNoMove, EndsBy, Runs, IsRunBy, OneRunByATape}
+use Rattle.cw_trace.specs.Steps.{Step, Follows, state_after, word_by, words_of, End, Ended, TapeSpent, BadMove, EndsBy, OneRunByATape}
 
 abbrev at_state : Board → List ℕ → State
 at_state b ms = record { board = b; mems = ms }

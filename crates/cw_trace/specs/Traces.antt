@@ -1,14 +1,14 @@
 -- The trace of a play or a run: the lines of its moves, over boards.
-use Rattle.std.specs.Prelude.{ℕ, List, [], ◌∷◌, ◌++◌, Bool, true, false, cond, Option, Some, None, nat_eq, slice_get, unwrap_or, option_map}
+use Rattle.std.specs.Prelude.{ℕ, List, [], ◌∷◌, ◌++◌, Bool, true, false, cond, Option, Some, None, nat_eq, slice_get, unwrap_or}
 use Rattle.cw_rights.specs.declared.capabilities.Caps.{Caps}
 use Rattle.cw_rights.specs.declared.capabilities.Primitive.{Primitive}
-use Rattle.cw_rights.specs.Policies.{PlainDescriptor, PlainPolicy}
+use Rattle.cw_rights.specs.Policies.{PlainPolicy}
 use Rattle.cw_certs.specs.declared.moves.Move.{Move}
-use Rattle.cw_certs.specs.declared.moves.Move.TheVariants.{Grant, Refuse, On, Opened, Failed, Stop}
+use Rattle.cw_certs.specs.declared.moves.Move.TheVariants.{Grant, Refuse, Opened, Failed, Stop}
 use Rattle.cw_syntax.specs.Plans.{Open, Close, Call, Label}
 use Rattle.cw_syntax.specs.Frames.{Todo, End, Frame}
 use Rattle.cw_text.specs.LimitsText.{descriptor_name}
-use Rattle.cw_model.specs.Boards.{Problem, Phase, Visit, Asked, Refused, Free, FreeSplit, Board, start_board}
+use Rattle.cw_model.specs.Boards.{Problem, Phase, Asked, Refused, Free, FreeSplit, Board, start_board}
 use Rattle.cw_model.specs.Runs.{front_seam}
 use Rattle.cw_trace.specs.Lines.{try_line, stop_line, open_line, close_line, call_line, return_line, label_line}
 

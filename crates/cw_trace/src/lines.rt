@@ -1,131 +1,143 @@
-//! The lines of a trace. Each call appends one line, LF included; where the text can't grow, some of it may have been appended.
+//! The lines of a trace. Each call appends one line, LF included, to the text that a writer puts piece by piece.
 
-ghost use Rattle.std.specs.Prelude.{◌≡◌, ◌<◌, ◌++◌, ◌/◌, ◌%◌, ◌∷◌, [], map, OnOk};
+ghost use Rattle.std.specs.Prelude.{◌≡◌, ◌<◌, ◌++◌, ◌/◌, ◌%◌, ◌∷◌, [], map};
 ghost use Rattle.std.specs.Char.{digit_char};
 ghost use Rattle.cw_rights.specs.Capabilities.{hold_of};
 ghost use Rattle.cw_rights.specs.Policies.{descriptor_of};
+ghost use Rattle.cw_pieces.specs.Written.{Follows};
 ghost use Rattle.cw_text.specs.Lines.{numbered};
 ghost use Rattle.cw_trace.specs.Lines.{primitive_text, answer_text, try_line, stop_line, success_text, open_line, close_line, mode_text, call_line, return_line, rights_text, hold_text, held_text, authority_text, caps_text, label_line};
 
-use cw_core::{NoMemory, SeamId, put_dec};
+use cw_core::SeamId;
+use cw_io::Sink;
+use cw_pieces::Writer;
 use cw_rights::policy::Descriptor;
 use cw_rights::{Caps, Hold, Primitive, Rights};
-use cw_text::put_bytes;
 
-fn put_primitive(stage: u8, prim: Primitive, text: &mut Vec<u8>) -> Result<(), NoMemory>
-    ensures { OnOk result (text.new.items ≡ text.old.items ++ primitive_text stage prim) }
+fn put_primitive<S: Sink>(stage: u8, prim: Primitive, writer: &mut Writer<S>, out: &mut S)
+    requires follows { Follows S.taken S.faults S.refused writer.old out.old }
+    ensures text { writer.new.text ≡ writer.old.text ++ primitive_text stage prim }
+    ensures begun { writer.new.begun ≡ writer.old.begun }
+    ensures follows { Follows S.taken S.faults S.refused writer.new out.new }
 {
     match prim {
         Primitive::Limit(_) => {
-            put_bytes(b"limit", text)?;
-            put_dec(u64::from(stage), text)
+            writer.put(b"limit", out);
+            writer.put_number(u64::from(stage), out);
         }
-        Primitive::Enter => put_bytes(b"enter", text),
-        Primitive::Split => put_bytes(b"split", text),
+        Primitive::Enter => writer.put(b"enter", out),
+        Primitive::Split => writer.put(b"split", out),
     }
 }
 
-fn put_answer(granted: bool, text: &mut Vec<u8>) -> Result<(), NoMemory>
-    ensures { OnOk result (text.new.items ≡ text.old.items ++ answer_text granted) }
+fn answer_word(granted: bool) -> &'static [u8]
+    ensures { result.now ≡ answer_text granted }
 {
-    if granted {
-        put_bytes(b"granted", text)
-    } else {
-        put_bytes(b"refused", text)
-    }
+    if granted { b"granted" } else { b"refused" }
 }
 
 /// Appends `try SEAM PRIMITIVE granted` or `refused`: what was tried at this stage of a seam, cap_enter(2) and
 /// cap_rights_limit(2), and the answer.
 #[tactic(auto, unfolding(crate::specs::Lines::try_line))]
-pub fn put_try(
+pub fn put_try<S: Sink>(
     seam: SeamId,
     stage: u8,
     prim: Primitive,
     granted: bool,
-    text: &mut Vec<u8>,
-) -> Result<(), NoMemory>
-    ensures line { OnOk result (text.new.items ≡ text.old.items ++ try_line seam.0 stage prim granted) }
+    writer: &mut Writer<S>,
+    out: &mut S,
+)
+    requires follows { Follows S.taken S.faults S.refused writer.old out.old }
+    ensures line { writer.new.text ≡ writer.old.text ++ try_line seam.0 stage prim granted }
+    ensures begun { writer.new.begun ≡ writer.old.begun }
+    ensures follows { Follows S.taken S.faults S.refused writer.new out.new }
 {
-    put_bytes(b"try ", text)?;
-    put_dec(u64::from(seam.0), text)?;
-    put_bytes(b" ", text)?;
-    put_primitive(stage, prim, text)?;
-    put_bytes(b" ", text)?;
-    put_answer(granted, text)?;
-    put_bytes(b"\n", text)
+    writer.put(b"try ", out);
+    writer.put_number(u64::from(seam.0), out);
+    writer.put(b" ", out);
+    put_primitive(stage, prim, writer, out);
+    writer.put(b" ", out);
+    writer.put(answer_word(granted), out);
+    writer.put(b"\n", out);
 }
 
 /// Appends `stop SEAM`: the weaver ended the program after a refusal at this seam.
 #[tactic(auto, unfolding(crate::specs::Lines::stop_line))]
-pub fn put_stop(seam: SeamId, text: &mut Vec<u8>) -> Result<(), NoMemory>
-    ensures line { OnOk result (text.new.items ≡ text.old.items ++ stop_line seam.0) }
+pub fn put_stop<S: Sink>(seam: SeamId, writer: &mut Writer<S>, out: &mut S)
+    requires follows { Follows S.taken S.faults S.refused writer.old out.old }
+    ensures line { writer.new.text ≡ writer.old.text ++ stop_line seam.0 }
+    ensures begun { writer.new.begun ≡ writer.old.begun }
+    ensures follows { Follows S.taken S.faults S.refused writer.new out.new }
 {
-    put_bytes(b"stop ", text)?;
-    put_dec(u64::from(seam.0), text)?;
-    put_bytes(b"\n", text)
+    writer.put(b"stop ", out);
+    writer.put_number(u64::from(seam.0), out);
+    writer.put(b"\n", out);
 }
 
-fn put_success(opened: bool, text: &mut Vec<u8>) -> Result<(), NoMemory>
-    ensures { OnOk result (text.new.items ≡ text.old.items ++ success_text opened) }
+fn success_words(opened: bool) -> &'static [u8]
+    ensures { result.now ≡ success_text opened }
 {
-    if opened {
-        put_bytes(b" opened", text)
-    } else {
-        put_bytes(b" failed", text)
-    }
+    if opened { b" opened" } else { b" failed" }
 }
 
 /// Appends `open NAME opened` or `failed`.
 #[tactic(auto, unfolding(crate::specs::Lines::open_line))]
-pub fn put_open(name: &[u8], opened: bool, text: &mut Vec<u8>) -> Result<(), NoMemory>
-    ensures line { OnOk result (text.new.items ≡ text.old.items ++ open_line name.now opened) }
+pub fn put_open<S: Sink>(name: &[u8], opened: bool, writer: &mut Writer<S>, out: &mut S)
+    requires follows { Follows S.taken S.faults S.refused writer.old out.old }
+    ensures line { writer.new.text ≡ writer.old.text ++ open_line name.now opened }
+    ensures begun { writer.new.begun ≡ writer.old.begun }
+    ensures follows { Follows S.taken S.faults S.refused writer.new out.new }
 {
-    put_bytes(b"open ", text)?;
-    put_bytes(name, text)?;
-    put_success(opened, text)?;
-    put_bytes(b"\n", text)
+    writer.put(b"open ", out);
+    writer.put(name, out);
+    writer.put(success_words(opened), out);
+    writer.put(b"\n", out);
 }
 
 /// Appends `close NAME`.
 #[tactic(auto, unfolding(crate::specs::Lines::close_line))]
-pub fn put_close(name: &[u8], text: &mut Vec<u8>) -> Result<(), NoMemory>
-    ensures line { OnOk result (text.new.items ≡ text.old.items ++ close_line name.now) }
+pub fn put_close<S: Sink>(name: &[u8], writer: &mut Writer<S>, out: &mut S)
+    requires follows { Follows S.taken S.faults S.refused writer.old out.old }
+    ensures line { writer.new.text ≡ writer.old.text ++ close_line name.now }
+    ensures begun { writer.new.begun ≡ writer.old.begun }
+    ensures follows { Follows S.taken S.faults S.refused writer.new out.new }
 {
-    put_bytes(b"close ", text)?;
-    put_bytes(name, text)?;
-    put_bytes(b"\n", text)
+    writer.put(b"close ", out);
+    writer.put(name, out);
+    writer.put(b"\n", out);
 }
 
-fn put_mode(split: bool, text: &mut Vec<u8>) -> Result<(), NoMemory>
-    ensures { OnOk result (text.new.items ≡ text.old.items ++ mode_text split) }
+fn mode_words(split: bool) -> &'static [u8]
+    ensures { result.now ≡ mode_text split }
 {
-    if split {
-        put_bytes(b" split", text)
-    } else {
-        Ok(())
-    }
+    if split { b" split" } else { b"" }
 }
 
 /// Appends `call NAME`, and ` split` where the call runs in a process of its own.
 #[tactic(auto, unfolding(crate::specs::Lines::call_line))]
-pub fn put_call(name: &[u8], split: bool, text: &mut Vec<u8>) -> Result<(), NoMemory>
-    ensures line { OnOk result (text.new.items ≡ text.old.items ++ call_line name.now split) }
+pub fn put_call<S: Sink>(name: &[u8], split: bool, writer: &mut Writer<S>, out: &mut S)
+    requires follows { Follows S.taken S.faults S.refused writer.old out.old }
+    ensures line { writer.new.text ≡ writer.old.text ++ call_line name.now split }
+    ensures begun { writer.new.begun ≡ writer.old.begun }
+    ensures follows { Follows S.taken S.faults S.refused writer.new out.new }
 {
-    put_bytes(b"call ", text)?;
-    put_bytes(name, text)?;
-    put_mode(split, text)?;
-    put_bytes(b"\n", text)
+    writer.put(b"call ", out);
+    writer.put(name, out);
+    writer.put(mode_words(split), out);
+    writer.put(b"\n", out);
 }
 
 /// Appends `return NAME`, with the function that ends.
 #[tactic(auto, unfolding(crate::specs::Lines::return_line))]
-pub fn put_return(name: &[u8], text: &mut Vec<u8>) -> Result<(), NoMemory>
-    ensures line { OnOk result (text.new.items ≡ text.old.items ++ return_line name.now) }
+pub fn put_return<S: Sink>(name: &[u8], writer: &mut Writer<S>, out: &mut S)
+    requires follows { Follows S.taken S.faults S.refused writer.old out.old }
+    ensures line { writer.new.text ≡ writer.old.text ++ return_line name.now }
+    ensures begun { writer.new.begun ≡ writer.old.begun }
+    ensures follows { Follows S.taken S.faults S.refused writer.new out.new }
 {
-    put_bytes(b"return ", text)?;
-    put_bytes(name, text)?;
-    put_bytes(b"\n", text)
+    writer.put(b"return ", out);
+    writer.put(name, out);
+    writer.put(b"\n", out);
 }
 
 /// The lower-case hexadecimal digit of a number below 16.
@@ -141,25 +153,35 @@ fn digit(number: u16) -> u8
 }
 
 /// Appends rights in lower-case hexadecimal: three digits, and four where three are too few.
-fn put_rights(rights: Rights, text: &mut Vec<u8>) -> Result<(), NoMemory>
-    ensures { OnOk result (text.new.items ≡ text.old.items ++ rights_text rights.0) }
+fn put_rights<S: Sink>(rights: Rights, writer: &mut Writer<S>, out: &mut S)
+    requires follows { Follows S.taken S.faults S.refused writer.old out.old }
+    ensures text { writer.new.text ≡ writer.old.text ++ rights_text rights.0 }
+    ensures begun { writer.new.begun ≡ writer.old.begun }
+    ensures follows { Follows S.taken S.faults S.refused writer.new out.new }
 {
     let bits = rights.0;
     if bits >= 4096 {
-        text.push(digit(bits / 4096))?;
+        writer.put(&[digit(bits / 4096)], out);
     }
-    text.push(digit(bits / 256 % 16))?;
-    text.push(digit(bits / 16 % 16))?;
-    text.push(digit(bits % 16))?;
-    Ok(())
+    writer.put(
+        &[
+            digit(bits / 256 % 16),
+            digit(bits / 16 % 16),
+            digit(bits % 16),
+        ],
+        out,
+    );
 }
 
-fn put_hold(hold: Hold, text: &mut Vec<u8>) -> Result<(), NoMemory>
-    ensures { OnOk result (text.new.items ≡ text.old.items ++ hold_text hold) }
+fn put_hold<S: Sink>(hold: Hold, writer: &mut Writer<S>, out: &mut S)
+    requires follows { Follows S.taken S.faults S.refused writer.old out.old }
+    ensures text { writer.new.text ≡ writer.old.text ++ hold_text hold }
+    ensures begun { writer.new.begun ≡ writer.old.begun }
+    ensures follows { Follows S.taken S.faults S.refused writer.new out.new }
 {
     match hold {
-        Hold::Closed => put_bytes(b"closed", text),
-        Hold::Open(rights) => put_rights(rights, text),
+        Hold::Closed => writer.put(b"closed", out),
+        Hold::Open(rights) => put_rights(rights, writer, out),
     }
 }
 
@@ -173,61 +195,75 @@ fn hold_of(caps: &Caps, number: usize) -> Hold
     }
 }
 
-fn put_held(
+fn put_held<S: Sink>(
     caps: &Caps,
     number: usize,
     descriptor: &Descriptor,
-    text: &mut Vec<u8>,
-) -> Result<(), NoMemory>
-    ensures { OnOk result (text.new.items ≡ text.old.items ++ held_text caps.now number (descriptor_of descriptor.now)) }
+    writer: &mut Writer<S>,
+    out: &mut S,
+)
+    requires follows { Follows S.taken S.faults S.refused writer.old out.old }
+    ensures text { writer.new.text ≡ writer.old.text ++ held_text caps.now number (descriptor_of descriptor.now) }
+    ensures begun { writer.new.begun ≡ writer.old.begun }
+    ensures follows { Follows S.taken S.faults S.refused writer.new out.new }
 {
-    put_bytes(b" ", text)?;
-    put_bytes(&descriptor.name, text)?;
-    put_bytes(b"=", text)?;
-    put_hold(hold_of(caps, number), text)
+    writer.put(b" ", out);
+    writer.put(&descriptor.name, out);
+    writer.put(b"=", out);
+    put_hold(hold_of(caps, number), writer, out);
 }
 
-fn put_all_held(caps: &Caps, descriptors: &[Descriptor], text: &mut Vec<u8>) -> Result<(), NoMemory>
-    ensures { OnOk result (text.new.items ≡ text.old.items ++ numbered (held_text caps.now) (map descriptor_of descriptors.now)) }
+fn put_all_held<S: Sink>(
+    caps: &Caps,
+    descriptors: &[Descriptor],
+    writer: &mut Writer<S>,
+    out: &mut S,
+)
+    requires follows { Follows S.taken S.faults S.refused writer.old out.old }
+    ensures text { writer.new.text ≡ writer.old.text ++ numbered (held_text caps.now) (map descriptor_of descriptors.now) }
+    ensures begun { writer.new.begun ≡ writer.old.begun }
+    ensures follows { Follows S.taken S.faults S.refused writer.new out.new }
 {
     for number in 0..descriptors.len() {
-        put_held(caps, number, &descriptors[number], text)?;
+        put_held(caps, number, &descriptors[number], writer, out);
     }
-    Ok(())
 }
 
-fn put_authority(amb: bool, text: &mut Vec<u8>) -> Result<(), NoMemory>
-    ensures { OnOk result (text.new.items ≡ text.old.items ++ authority_text amb) }
+fn authority_word(amb: bool) -> &'static [u8]
+    ensures { result.now ≡ authority_text amb }
 {
-    if amb {
-        put_bytes(b"amb", text)
-    } else {
-        put_bytes(b"cap", text)
-    }
+    if amb { b"amb" } else { b"cap" }
 }
 
 #[tactic(auto, unfolding(crate::specs::Lines::caps_text))]
-fn put_caps(caps: &Caps, descriptors: &[Descriptor], text: &mut Vec<u8>) -> Result<(), NoMemory>
-    ensures { OnOk result (text.new.items ≡ text.old.items ++ caps_text (map descriptor_of descriptors.now) caps.now) }
+fn put_caps<S: Sink>(caps: &Caps, descriptors: &[Descriptor], writer: &mut Writer<S>, out: &mut S)
+    requires follows { Follows S.taken S.faults S.refused writer.old out.old }
+    ensures text { writer.new.text ≡ writer.old.text ++ caps_text (map descriptor_of descriptors.now) caps.now }
+    ensures begun { writer.new.begun ≡ writer.old.begun }
+    ensures follows { Follows S.taken S.faults S.refused writer.new out.new }
 {
-    put_authority(caps.amb, text)?;
-    put_all_held(caps, descriptors, text)
+    writer.put(authority_word(caps.amb), out);
+    put_all_held(caps, descriptors, writer, out);
 }
 
 /// Appends `label NAME CAPS`: `amb` or `cap`, and for each of the policy's descriptors ` DESCRIPTOR=` with `closed` or the rights
 /// that are held, in lower-case hexadecimal of three digits at least, rights(4).
 #[tactic(auto, unfolding(crate::specs::Lines::label_line))]
-pub fn put_label(
+pub fn put_label<S: Sink>(
     name: &[u8],
     descriptors: &[Descriptor],
     caps: &Caps,
-    text: &mut Vec<u8>,
-) -> Result<(), NoMemory>
-    ensures line { OnOk result (text.new.items ≡ text.old.items ++ label_line (map descriptor_of descriptors.now) name.now caps.now) }
+    writer: &mut Writer<S>,
+    out: &mut S,
+)
+    requires follows { Follows S.taken S.faults S.refused writer.old out.old }
+    ensures line { writer.new.text ≡ writer.old.text ++ label_line (map descriptor_of descriptors.now) name.now caps.now }
+    ensures begun { writer.new.begun ≡ writer.old.begun }
+    ensures follows { Follows S.taken S.faults S.refused writer.new out.new }
 {
-    put_bytes(b"label ", text)?;
-    put_bytes(name, text)?;
-    put_bytes(b" ", text)?;
-    put_caps(caps, descriptors, text)?;
-    put_bytes(b"\n", text)
+    writer.put(b"label ", out);
+    writer.put(name, out);
+    writer.put(b" ", out);
+    put_caps(caps, descriptors, writer, out);
+    writer.put(b"\n", out);
 }

@@ -7,5 +7,6 @@ use Rattle.cw_listing.specs.Labels.{labels_of_all}
 use Rattle.cw_listing.proofs.labels.+has_label.Given as goal
 
 abbrev pub invariant-has_label_in-loop-statement : goal.invariant-has_label_in-loop-statement
-invariant-has_label_in-loop-statement l = list_any (bytes_eq l.name) (map (text l.source) (labels_of_all (statements_of (drop l.statement-index l.statements)))) ≡ list_any (bytes_eq l.name)
-    (map (text l.source) (labels_of_all (statements_of l.statements)))
+invariant-has_label_in-loop-statement l = list_any (bytes_eq l.name) (map (λ x. text l.source x.name) (labels_of_all (statements_of (drop l.statement-index l.statements)))) ≡ list_any
+    (bytes_eq l.name)
+    (map (λ x. text l.source x.name) (labels_of_all (statements_of l.statements)))

@@ -7,5 +7,5 @@ use Rattle.cw_listing.specs.Labels.{labels_of_all}
 use Rattle.cw_listing.proofs.labels.some_has_label.Given as goal
 
 abbrev pub invariant-loop-function : goal.invariant-loop-function
-invariant-loop-function l = list_any (bytes_eq l.name) (map (text l.source) (flat_map (λ f. labels_of_all f.body) (map definition_of (drop l.function-index l.functions)))) ≡ list_any
-    (bytes_eq l.name) (map (text l.source) (flat_map (λ f. labels_of_all f.body) (map definition_of l.functions)))
+invariant-loop-function l = list_any (bytes_eq l.name) (map (λ x. text l.source x.name) (flat_map (λ f. labels_of_all f.body) (map definition_of (drop l.function-index l.functions)))) ≡ list_any
+    (bytes_eq l.name) (map (λ x. text l.source x.name) (flat_map (λ f. labels_of_all f.body) (map definition_of l.functions)))

@@ -1,8 +1,13 @@
 use Rattle.std.proofs.Common.{◌≡◌, ◌++◌, take}
 use Rattle.cw_text.specs.Lines.{numbered}
 use Rattle.cw_listing.specs.Held.{lists}
+use Rattle.cw_pieces.specs.Written.{Follows}
 use Rattle.cw_listing.specs.Listing.{function_line}
 use Rattle.cw_listing.proofs.listing.put_functions.Given as goal
 
 abbrev pub invariant-loop-number : goal.invariant-loop-number
-invariant-loop-number l = l.text.items ≡ l.initial.text.items ++ numbered (function_line (lists l.names) (lists l.calls)) (take l.number l.parts)
+invariant-loop-number g l = record {
+  text : l.writer.text ≡ l.initial.writer.text ++ numbered (function_line (lists l.names) (lists l.calls)) (take l.number l.parts);
+  begun : l.writer.begun ≡ l.initial.writer.begun;
+  follows : Follows g.S.Sink.taken g.S.Sink.faults g.S.Sink.refused l.writer l.out;
+}

@@ -1,7 +1,12 @@
 use Rattle.std.proofs.Common.{◌≡◌, ◌++◌, take, map}
 use Rattle.cw_listing.specs.Held.{lists}
+use Rattle.cw_pieces.specs.Written.{Follows}
 use Rattle.cw_listing.specs.Listing.{name_in, spaced}
 use Rattle.cw_listing.proofs.listing.put_names.Given as goal
 
 abbrev pub invariant-loop-number : goal.invariant-loop-number
-invariant-loop-number l = l.text.items ≡ l.initial.text.items ++ spaced (map (name_in (lists l.names)) (take l.number-index l.numbers))
+invariant-loop-number g l = record {
+  text : l.writer.text ≡ l.initial.writer.text ++ spaced (map (name_in (lists l.names)) (take l.number-index l.numbers));
+  begun : l.writer.begun ≡ l.initial.writer.begun;
+  follows : Follows g.S.Sink.taken g.S.Sink.faults g.S.Sink.refused l.writer l.out;
+}

@@ -3,9 +3,9 @@ use Rattle.std.proofs.Common.{subst}
 use Rattle.cw_run.specs.Walks.{next_is, IsNextIn}
 use Rattle.cw_run.proofs.run.go.Goals as goal
 
-pub returns-in_ok-arrive-in-Into-clause-waits : goal.returns-in_ok-arrive-in-Into-clause-waits
-returns-in_ok-arrive-in-Into-clause-waits c =
-    c.in_ok-remember-in-Into.ensures.all (game_of c.args.game.now) c.requires.waits (subst (λ n. IsNextIn (game_of c.args.game.now) (next_is n)) c.in-Into.is c.requires.next).1
+pub returns-in-Into-clause-waits : goal.returns-in-Into-clause-waits
+returns-in-Into-clause-waits g c =
+    c.remember.ensures.all (game_of c.args.game.now) c.requires.waits (subst (λ n. IsNextIn (game_of c.args.game.now) (next_is n)) c.in-Into.is c.requires.next).1
 
-pub returns-in_ok-arrive-in-Back-clause-waits : goal.returns-in_ok-arrive-in-Back-clause-waits
-returns-in_ok-arrive-in-Back-clause-waits c = c.forget.ensures.all (game_of c.args.game.now) c.requires.waits
+pub returns-in-Back-clause-waits : goal.returns-in-Back-clause-waits
+returns-in-Back-clause-waits g c = c.forget.ensures.all (game_of c.args.game.now) c.requires.waits

@@ -1,4 +1,4 @@
-use Rattle.std.proofs.Common.{sym, subst, arith, get_or}
+use Rattle.std.proofs.Common.{◌∙◌, sym, subst, arith, get_or}
 use Rattle.std.proofs.lemmas.List.{get_or_default}
 use Rattle.cw_certs.specs.declared.moves.Move.TheVariants.{On}
 use Rattle.cw_rights.specs.Policies.{policy_of}
@@ -13,65 +13,73 @@ use Rattle.cw_run.proofs.Looping.{loop_begun, loop_went, loop_bad, loop_past, lo
 use Rattle.cw_run.proofs.run.run_woven.Goals as goal
 
 pub loop-i-init : goal.loop-i-init
-loop-i-init c =
+loop-i-init g c =
     let q = c.requires in
-    loop_begun c.args.game.now c.args.checked.now.source.now (file_of c.args.checked.now.program) c.args.table.now (told c.in_ok-names.names) q.valid q.lists q.drawn q.runnable q.assigns q.good
-    c.in_ok-begin.field-0 c.new-waits.result.items _ _ c.in_ok-begin.ensures.arrives c.in_ok-begin.ensures.range c.new-waits.ensures.items
+    record {
+      run = loop_begun c.args.game.now c.args.checked.now.source.now (file_of c.args.checked.now.program) c.args.table.now (told c.in_ok-names.names) q.valid q.lists q.drawn q.runnable q.assigns q.good
+          c.begin.result c.in_ok-waits.waits.items _ _ c.begin.ensures.arrives c.begin.ensures.range c.in_ok-waits.ensures.items;
+      few = omega (arith, c.in_ok-waits.ensures.len);
+      room = c.in_ok-waits.ensures.capacity;
+      begun = c.begin.ensures.begun;
+      follows = c.begin.ensures.follows;
+    }
 
-pub returns-in-Over : goal.returns-in-Over
-returns-in-Over c =
+pub answer-requires-clause-room : goal.answer-requires-clause-room
+answer-requires-clause-room g c =
+    omega (arith, c.loop-i.invariant.few, c.loop-i.invariant.room, c.loop-i-test.true)
+
+pub returns-in-Over-clause-run : goal.returns-in-Over-clause-run
+returns-in-Over-clause-run g c =
     let q = c.requires in
     let e =
     c.in_ok-names.ensures.names (names_of (policy_of c.args.game.now.states.policy))
     (subst (λ gr. IsGraph (names_of (policy_of c.args.game.now.states.policy)) c.args.checked.now.source.now (file_of c.args.checked.now.program) gr) (sym c.graph.ensures) q.drawn) in
-    record {
-      run = loop_past c.args.game.now c.args.checked.now.source.now (file_of c.args.checked.now.program) c.args.table.now (told c.in_ok-names.names) q.valid q.lists q.drawn q.runnable q.assigns
-          q.good c.args.tape.now c.loop-i.i (get_or c.args.tape.now c.loop-i.i On) _ _ _ _ e c.loop-i-test.true (get_or_default c.args.tape.now c.loop-i.i _ _ c.loop-i-test.true) c.in-Over.is
-          c.loop-i.invariant;
-    }
+    loop_past c.args.game.now c.args.checked.now.source.now (file_of c.args.checked.now.program) c.args.table.now (told c.in_ok-names.names) q.valid q.lists q.drawn q.runnable q.assigns q.good
+    c.args.tape.now c.loop-i.i (get_or c.args.tape.now c.loop-i.i On) _ _ _ _ e c.loop-i-test.true (get_or_default c.args.tape.now c.loop-i.i _ _ c.loop-i-test.true) c.in-Over.is
+    c.loop-i.invariant.run
 
-pub returns-in-None : goal.returns-in-None
-returns-in-None c =
+pub returns-in-None-clause-run : goal.returns-in-None-clause-run
+returns-in-None-clause-run g c =
     let q = c.requires in
     let e =
     c.in_ok-names.ensures.names (names_of (policy_of c.args.game.now.states.policy))
     (subst (λ gr. IsGraph (names_of (policy_of c.args.game.now.states.policy)) c.args.checked.now.source.now (file_of c.args.checked.now.program) gr) (sym c.graph.ensures) q.drawn) in
-    record {
-      run = loop_bad c.args.game.now c.args.checked.now.source.now (file_of c.args.checked.now.program) c.args.table.now (told c.in_ok-names.names) q.valid q.lists q.drawn q.runnable q.assigns
-          q.good c.args.tape.now c.loop-i.i _ c.in-At.here _ _ _ c.answer.new.waits.items _ _ _ e c.loop-i-test.true (get_or_default c.args.tape.now c.loop-i.i _ _ c.loop-i-test.true)
-          c.in-At.is c.in-None.is
-          c.loop-i.invariant c.in_ok-next-in-At.ensures.answered;
-    }
+    loop_bad c.args.game.now c.args.checked.now.source.now (file_of c.args.checked.now.program) c.args.table.now (told c.in_ok-names.names) q.valid q.lists q.drawn q.runnable q.assigns q.good
+    c.args.tape.now c.loop-i.i _ c.in-At.here _ _ _ c.answer.new.waits.items _ _ _ e c.loop-i-test.true (get_or_default c.args.tape.now c.loop-i.i _ _ c.loop-i-test.true)
+    c.in-At.is c.in-None.is
+    c.loop-i.invariant.run c.answer.ensures.answered
 
 pub loop-i-preserved : goal.loop-i-preserved
-loop-i-preserved c =
+loop-i-preserved g c =
     let q = c.requires in
-    loop_went c.args.game.now c.args.checked.now.source.now (file_of c.args.checked.now.program) c.args.table.now (told c.in_ok-names.names) q.valid q.lists q.drawn q.runnable q.assigns q.good
-    c.args.tape.now c.loop-i.i _ c.in-At.here _ c.in-Some.next _ _ _ _ _ _ c.loop-i-test.true (get_or_default c.args.tape.now c.loop-i.i _ _ c.loop-i-test.true) c.in-At.is c.in-Some.is
-    c.loop-i.invariant c.in_ok-next-in-At.ensures.answered
-    (subst (λ o. IfSome o (λ place. IsPlace (game_of c.args.game.now) (place_in place))) c.in-Some.is c.in_ok-next-in-At.ensures.range)
-    c.in_ok-next-in-At.ensures.waits
+    record {
+      run = loop_went c.args.game.now c.args.checked.now.source.now (file_of c.args.checked.now.program) c.args.table.now (told c.in_ok-names.names) q.valid q.lists q.drawn q.runnable q.assigns q.good
+          c.args.tape.now c.loop-i.i _ c.in-At.here _ c.in-Some.next _ _ _ _ _ _ c.loop-i-test.true (get_or_default c.args.tape.now c.loop-i.i _ _ c.loop-i-test.true) c.in-At.is c.in-Some.is
+          c.loop-i.invariant.run c.answer.ensures.answered
+          (subst (λ o. IfSome o (λ place. IsPlace (game_of c.args.game.now) (place_in place))) c.in-Some.is c.answer.ensures.range)
+          c.answer.ensures.waits;
+      few = omega (arith, c.loop-i.invariant.few, c.answer.ensures.length);
+      room = omega (arith, c.loop-i.invariant.room, c.answer.ensures.capacity);
+      begun = c.answer.ensures.begun ∙ c.loop-i.invariant.begun;
+      follows = c.answer.ensures.follows;
+    }
 
-pub returns-in-At-place : goal.returns-in-At-place
-returns-in-At-place c =
+pub returns-in-At-place-clause-run : goal.returns-in-At-place-clause-run
+returns-in-At-place-clause-run g c =
     let q = c.requires in
     let e =
     c.in_ok-names.ensures.names (names_of (policy_of c.args.game.now.states.policy))
     (subst (λ gr. IsGraph (names_of (policy_of c.args.game.now.states.policy)) c.args.checked.now.source.now (file_of c.args.checked.now.program) gr) (sym c.graph.ensures) q.drawn) in
     let f = c.loop-i-test.false in
-    record {
-      run = loop_spent c.args.game.now c.args.checked.now.source.now (file_of c.args.checked.now.program) c.args.table.now (told c.in_ok-names.names) q.valid q.lists q.drawn q.runnable q.assigns
-          q.good c.args.tape.now c.loop-i.i c.in-At-place.field-0 _ _ _ _ e (omega (arith, f)) c.in-At-place.is c.loop-i.invariant;
-    }
+    loop_spent c.args.game.now c.args.checked.now.source.now (file_of c.args.checked.now.program) c.args.table.now (told c.in_ok-names.names) q.valid q.lists q.drawn q.runnable q.assigns q.good
+    c.args.tape.now c.loop-i.i c.in-At-place.field-0 _ _ _ _ e (omega (arith, f)) c.in-At-place.is c.loop-i.invariant.run
 
-pub returns : goal.returns
-returns c =
+pub returns-clause-run : goal.returns-clause-run
+returns-clause-run g c =
     let q = c.requires in
     let e =
     c.in_ok-names.ensures.names (names_of (policy_of c.args.game.now.states.policy))
     (subst (λ gr. IsGraph (names_of (policy_of c.args.game.now.states.policy)) c.args.checked.now.source.now (file_of c.args.checked.now.program) gr) (sym c.graph.ensures) q.drawn) in
     let f = c.loop-i-test.false in
-    record {
-      run = loop_over c.args.game.now c.args.checked.now.source.now (file_of c.args.checked.now.program) c.args.table.now (told c.in_ok-names.names) q.valid q.lists q.drawn q.runnable q.assigns
-          q.good c.args.tape.now c.loop-i.i _ _ _ _ e (omega (arith, f)) c.in-Over-place.is c.loop-i.invariant;
-    }
+    loop_over c.args.game.now c.args.checked.now.source.now (file_of c.args.checked.now.program) c.args.table.now (told c.in_ok-names.names) q.valid q.lists q.drawn q.runnable q.assigns q.good
+    c.args.tape.now c.loop-i.i _ _ _ _ e (omega (arith, f)) c.in-Over-place.is c.loop-i.invariant.run

@@ -1,4 +1,4 @@
-use Rattle.std.proofs.Common.{◌≡◌, ℕ, ◌+◌, ◌-◌, ◌<◌, length, Some, is_some, true, false, sym, ap, ◌∙◌, arith}
+use Rattle.std.proofs.Common.{◌+◌, ◌<◌, length, Some, is_some, sym, ap, ◌∙◌, arith}
 use Rattle.cw_product.specs.Product.{game_of}
 use Rattle.cw_game.specs.Games.{weavers_in}
 use Rattle.cw_run.specs.Walks.{stays, tries, skips}

@@ -1,4 +1,4 @@
-use Rattle.std.proofs.Common.{ℕ, ◌-◌, length}
+use Rattle.std.proofs.Common.{◌-◌, length}
 use Rattle.cw_product.specs.Product.{game_of}
 use Rattle.cw_run.proofs.walk.+rest.Given as goal
 
