@@ -1,10 +1,9 @@
 -- After a cell is taken: what waits for it is asked for, kind by kind.
 use Rattle.std.proofs.Common.{◌≡◌, ℕ, ◌<◌, ◌≤◌, List, Some, length, sym, ap, ◌∙◌, subst, inl, inr}
-use Rattle.std.specs.Prelude.{slice_get, slice_index, Contains}
+use Rattle.std.specs.Prelude.{slice_get, slice_index}
 use Rattle.std.proofs.lemmas.Option.{same_Some}
 use Rattle.cw_game.specs.Games.{Game}
 use Rattle.cw_game.specs.Pairs.{Called, call_in}
-use Rattle.cw_links.specs.Lists.{Chained, list_at}
 use Rattle.cw_solve.specs.declared.contexts.Context.{Context}
 use Rattle.cw_solve.specs.declared.table.Table.{Table}
 use Rattle.cw_solve.specs.Contexts.{context}
@@ -15,13 +14,14 @@ use Rattle.cw_linked.specs.declared.work.Work.{Work}
 use Rattle.cw_linked.specs.Calls.{AreCallers, AsksCallers}
 use Rattle.cw_linked.specs.Founds.{Found, class_of, AreAlike, IsLink, AreRight, Nothing, AllClosed, AllCalled, AllStanding}
 use Rattle.cw_linked.specs.Popped.{IsTaken, Finishes}
-use Rattle.cw_linked.specs.Queues.{found_of, IsOwner, AreOwners, LowersKeys, AsksWaiting}
+use Rattle.cw_linked.specs.Queues.{found_of, AreOwners, LowersKeys, AsksWaiting}
 use Rattle.cw_linked.specs.Returns.{AreFew, AsksReturns}
 use Rattle.cw_linked.specs.Steps.{CallsThere, ReturnsThere}
 use Rattle.cw_linked.specs.Works.{heights_of, value_at}
 use Rattle.cw_linked.proofs.Backs.{stands_on, fresh_on}
 use Rattle.cw_linked.proofs.Callers.{tied_or_not, is_tied, untied_called}
 use Rattle.cw_linked.proofs.Least.{link_of}
+use Rattle.cw_linked.proofs.Staying.{owners_on, callers_on}
 use Rattle.cw_linked.proofs.Telling.{below, still_closed, still_called, still_standing, two_steps}
 use Rattle.cw_linked.proofs.Working.{found_keys}
 
@@ -40,22 +40,10 @@ module _ (g : Game) (functions : ℕ) (routed : AreRouted g functions) (alike : 
   next_table = subst (IsTable g) tables table
 
   pub next_owners : AreOwners g old → AreOwners g new
-  next_owners owners k lt =
-      subst (λ (t : Table). IsOwner g t.contexts.items (slice_index new.owners.items k) k) tables
-      (subst (λ (ys : List ℕ). IsOwner g old.table.contexts.items (slice_index ys k) k) (sym step.others.owners)
-      (owners k (subst (λ (t : Table). k < length t.heights.items) step.others.table lt)))
+  next_owners = owners_on g old new step.others.table step.others.owners
 
   pub next_callers : AreCallers old → AreCallers new
-  next_callers c = record {
-    lists = ap (λ (y : Chained ℕ). length y.lists) step.others.callers ∙ c.lists ∙ sym step.others.lists;
-    more = subst (λ (n : ℕ). length new.table.contexts.items < n) (sym step.others.lists) (subst (λ (t : Table). length t.contexts.items < old.lists) tables c.more);
-    values = ap (λ (y : Chained ℕ). length y.values) step.others.callers ∙ c.values ∙ ap (λ (t : Table). length t.heights.items) tables;
-    there = λ k lt. subst (λ (y : Chained ℕ). Contains (list_at y.lists (slice_index new.to.items k)) k) (sym step.others.callers)
-        (subst (λ (ys : List ℕ). Contains (list_at old.callers.lists (slice_index ys k)) k) (sym step.others.to)
-        (c.there k (subst (λ (t : Table). k < length t.heights.items) step.others.table lt)));
-    few = λ k lt. subst (λ (ys : List ℕ). slice_index ys k ≤ length new.table.contexts.items) (sym step.others.to)
-        (subst (λ (t : Table). slice_index old.to.items k ≤ length t.contexts.items) tables (c.few k (subst (λ (t : Table). k < length t.heights.items) step.others.table lt)));
-  }
+  next_callers = callers_on old new step.others.table step.others.to step.others.callers step.others.lists
 
   pub next_right : AreRight g new.table.contexts.items (found_of g new)
   next_right = subst (λ (t : Table). AreRight g t.contexts.items (found_of g new)) tables step.right
@@ -155,7 +143,7 @@ module _ (g : Game) (functions : ℕ) (routed : AreRouted g functions) (alike : 
       called_two : AllCalled g two.table.contexts.items (found_of g two) Nothing
       called_two = subst (λ (t : Table). AllCalled g t.contexts.items (found_of g two) Nothing) (sym callers.step.others.table) callers.called
 
-      pub finished : Finishes g old new
+      pub finished : Finishes g old new old.to.items
       finished = record {
         kept = record {
           table = next_table g functions routed alike old new taken.table third;
@@ -173,4 +161,5 @@ module _ (g : Game) (functions : ℕ) (routed : AreRouted g functions) (alike : 
           };
         };
         table = third.others.table;
+        to = third.others.to;
       }

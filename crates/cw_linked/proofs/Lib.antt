@@ -33,3 +33,10 @@ pub mod Pushing
 pub mod Promising
 pub mod Lengthening
 pub mod Freeing
+pub mod Measuring
+pub mod Askings
+pub mod Staying
+pub mod Widening
+pub mod Joining
+pub mod Targets
+pub mod Solving

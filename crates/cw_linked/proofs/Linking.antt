@@ -1,12 +1,11 @@
 -- A link of the least key is taken from the vectors, and tied: what the solver keeps then.
-use Rattle.std.proofs.Common.{◌≡◌, ℕ, ◌+◌, ◌*◌, ◌/◌, ◌<◌, ◌≤◌, List, Some, length, set, refl, sym, ap, ◌∙◌, subst, arith, inl, inr}
-use Rattle.std.specs.Prelude.{slice_get, slice_index, Contains}
+use Rattle.std.proofs.Common.{◌≡◌, ℕ, ◌+◌, ◌*◌, ◌/◌, ◌<◌, List, Some, length, set, refl, sym, ap, ◌∙◌, subst, arith, inl, inr}
+use Rattle.std.specs.Prelude.{slice_get, slice_index}
 use Rattle.std.proofs.lemmas.Bool.{cases_eq}
 use Rattle.std.proofs.lemmas.Nat.{div-mul-add}
 use Rattle.std.proofs.lemmas.List.{length-set, get_or-set_same, get_or-set_other}
 use Rattle.cw_game.specs.Games.{Game}
 use Rattle.cw_game.specs.Pairs.{Called, call_in}
-use Rattle.cw_links.specs.Lists.{Chained, list_at}
 use Rattle.cw_solve.specs.declared.contexts.Context.{Context}
 use Rattle.cw_solve.specs.declared.table.Table.{Table}
 use Rattle.cw_solve.specs.Contexts.{IsSetOf}
@@ -16,15 +15,15 @@ use Rattle.cw_solve.specs.Tables.{IsTable}
 use Rattle.cw_solve.proofs.Slots.{same_slot}
 use Rattle.cw_linked.specs.declared.work.Cell.{Cell}
 use Rattle.cw_linked.specs.declared.work.Work.{Work}
-use Rattle.cw_linked.specs.Calls.{AreCallers}
 use Rattle.cw_linked.specs.Founds.{Found, class_of, AreAlike, IsLink, height_back, IsShrinking, AreRight, Nothing, AllClosed, AllCalled, AllStanding, AreAbove}
 use Rattle.cw_linked.specs.Popped.{FreesLink, IsWork}
-use Rattle.cw_linked.specs.Queues.{found_of, AreLong, AreSameBut, IsOwner, AreOwners, AreHigh, IsLinkAt, AreDue, IsCellAt}
+use Rattle.cw_linked.specs.Queues.{found_of, AreLong, AreOwners, AreHigh, IsLinkAt, AreDue, IsCellAt}
 use Rattle.cw_linked.specs.Steps.{with_keys, Frees, IsReady, IsIt}
 use Rattle.cw_linked.specs.Tied.{IsFreed}
 use Rattle.cw_linked.specs.Works.{AreUpTo, place_at, value_at}
 use Rattle.cw_linked.proofs.Bounding.{place_is}
 use Rattle.cw_linked.proofs.Popping.{least_above}
+use Rattle.cw_linked.proofs.Staying.{owners_on, callers_on}
 use Rattle.cw_linked.proofs.Telling.{below, up_to_set}
 use Rattle.cw_linked.proofs.Tying.{ready, freed_right, freed_standing}
 use Rattle.cw_linked.proofs.Working.{found_keys}
@@ -35,29 +34,6 @@ half_odd a h n e half =
     let b : a ≡ n * 2 + 1 = omega (arith, e) in
     let d : a / 2 ≡ n = ap (λ (y : ℕ). y / 2) b ∙ div-mul-add n 2 1 (omega arith) in
     omega (arith, e, half, d)
-
--- where only keys and buckets change
-module _ (g : Game) (old new : Work) (same : AreSameBut old new) where
-  pub same_table : old.table ≡ new.table
-  same_table = sym same.table
-
-  pub same_owners : AreOwners g old → AreOwners g new
-  same_owners owners k lt =
-      subst (λ (t : Table). IsOwner g t.contexts.items (slice_index new.owners.items k) k) same_table
-      (subst (λ (ys : List ℕ). IsOwner g old.table.contexts.items (slice_index ys k) k) (sym same.owners)
-      (owners k (subst (λ (t : Table). k < length t.heights.items) same.table lt)))
-
-  pub same_callers : AreCallers old → AreCallers new
-  same_callers c = record {
-    lists = ap (λ (y : Chained ℕ). length y.lists) same.callers ∙ c.lists ∙ sym same.lists;
-    more = subst (λ (n : ℕ). length new.table.contexts.items < n) (sym same.lists) (subst (λ (t : Table). length t.contexts.items < old.lists) same_table c.more);
-    values = ap (λ (y : Chained ℕ). length y.values) same.callers ∙ c.values ∙ ap (λ (t : Table). length t.heights.items) same_table;
-    there = λ k lt. subst (λ (y : Chained ℕ). Contains (list_at y.lists (slice_index new.to.items k)) k) (sym same.callers)
-        (subst (λ (ys : List ℕ). Contains (list_at old.callers.lists (slice_index ys k)) k) (sym same.to)
-        (c.there k (subst (λ (t : Table). k < length t.heights.items) same.table lt)));
-    few = λ k lt. subst (λ (ys : List ℕ). slice_index ys k ≤ length new.table.contexts.items) (sym same.to)
-        (subst (λ (t : Table). slice_index old.to.items k ≤ length t.contexts.items) same_table (c.few k (subst (λ (t : Table). k < length t.heights.items) same.table lt)));
-  }
 
 -- A link of the least key waits no more.
 module _ (g : Game) (functions : ℕ) (routed : AreRouted g functions) (alike : AreAlike g) (old new : Work) (work : IsWork g old) (place moves : ℕ) (frees : FreesLink old new place moves) where
@@ -83,7 +59,7 @@ module _ (g : Game) (functions : ℕ) (routed : AreRouted g functions) (alike : 
   }
 
   pub freed_owners : AreOwners g new
-  freed_owners = same_owners g old new frees.others work.owners
+  freed_owners = owners_on g old new frees.others.table frees.others.owners work.owners
 
   freed_high : AreHigh new
   freed_high =
@@ -193,7 +169,7 @@ module _ (g : Game) (functions : ℕ) (routed : AreRouted g functions) (alike : 
         owners = freed_owners;
         queued = frees.queued;
         high = freed_high;
-        callers = same_callers g old new frees.others work.callers;
+        callers = callers_on old new frees.others.table frees.others.to frees.others.callers frees.others.lists work.callers;
         dues = freed_dues;
         right = subst (λ (t : Table). AreRight g t.contexts.items (found_of g new)) tables (subst (λ (s : Found). AreRight g Contexts s) (sym found_new)
             (freed_right g functions routed alike Contexts functions_below (found_of g old) work.found link.at.number link.at.context link.pos.0 link.state.0 is_link.0 is_link.1 Due is_free));

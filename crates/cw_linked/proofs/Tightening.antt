@@ -16,13 +16,14 @@ use Rattle.cw_linked.specs.declared.work.Cell.{Cell}
 use Rattle.cw_linked.specs.declared.work.Work.{Work}
 use Rattle.cw_linked.specs.Founds.{Found, AreAlike, IsLink, IsTied, AreRight, Nothing, AllClosed, AllCalled, AllStanding}
 use Rattle.cw_linked.specs.Popped.{Finishes}
-use Rattle.cw_linked.specs.Queues.{found_of, IsOwner, IsLinkAt, AreDue, LowersKeys, IsCellAt}
+use Rattle.cw_linked.specs.Queues.{found_of, IsLinkAt, AreDue, LowersKeys, IsCellAt}
 use Rattle.cw_linked.specs.Returns.{Returns, AreFew}
 use Rattle.cw_linked.specs.Steps.{with_links, Ties, CallsBy, IsIt}
 use Rattle.cw_linked.specs.Tied.{IsFirm, IsTieable, TiesLink, AsksCalls, AsksAgain}
 use Rattle.cw_linked.specs.Works.{AreUpTo, place_at, value_at}
 use Rattle.cw_linked.proofs.Bounding.{place_is}
 use Rattle.cw_linked.proofs.Finishing.{next_table, next_owners, next_callers, next_right, next_cell, next_closed, next_called}
+use Rattle.cw_linked.proofs.Staying.{owners_on}
 use Rattle.cw_linked.proofs.Takings.{found_in}
 use Rattle.cw_linked.proofs.Telling.{below, up_to_set, still_standing, two_steps}
 use Rattle.cw_linked.proofs.Tying.{tied_right, tied_called, tied_standing}
@@ -117,8 +118,7 @@ module _ (g : Game) (functions : ℕ) (routed : AreRouted g functions) (alike : 
         to = ap (λ (ys : List ℕ). length ys) ties_to ∙ length-set old.to.items place (suc callee) ∙ tieable.firm.long.to ∙ sym lengths;
         waves = ap (λ (ys : List ℕ). length ys) ties.waves ∙ length-set old.waves.items place moves ∙ tieable.firm.long.waves ∙ sym lengths;
       };
-      owners = λ k lt. subst (λ (t : Table). IsOwner g t.contexts.items (slice_index mid.owners.items k) k) tables
-          (subst (λ (ys : List ℕ). IsOwner g Contexts (slice_index ys k) k) (sym ties.owners) (tieable.firm.owners k (omega (arith, lt, lengths))));
+      owners = owners_on g old mid ties.table ties.owners tieable.firm.owners;
       queued = ties.queued;
       high = record {
         heights = subst (λ (t : Table). AreUpTo t.heights.items t.written) tables tieable.firm.high.heights;
@@ -202,7 +202,7 @@ module _ (g : Game) (functions : ℕ) (routed : AreRouted g functions) (alike : 
         one_called : AllCalled g one.table.contexts.items (found_of g one) Nothing
         one_called = subst (λ (t : Table). AllCalled g t.contexts.items (found_of g one) Nothing) (sym calls.step.others.table) calls.called
 
-        pub tied_all : Finishes g old new
+        pub tied_all : Finishes g old new (set old.to.items place (callee + 1))
         tied_all = record {
           kept = record {
             table = next_table g functions routed alike mid new mid_firm.table both;
@@ -220,4 +220,5 @@ module _ (g : Game) (functions : ℕ) (routed : AreRouted g functions) (alike : 
             };
           };
           table = both.others.table ∙ ties.table;
+          to = both.others.to ∙ ties.to;
         }

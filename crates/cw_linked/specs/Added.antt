@@ -6,13 +6,15 @@ use Rattle.cw_links.specs.Heights.{height_at}
 use Rattle.cw_links.specs.Lists.{Chained, list_at}
 use Rattle.cw_solve.specs.declared.contexts.Context.{Context}
 use Rattle.cw_solve.specs.declared.table.Table.{Table}
-use Rattle.cw_solve.specs.Contexts.{cells_of}
+use Rattle.cw_solve.specs.Contexts.{size, cells_of}
 use Rattle.cw_solve.specs.Rounds.{height_by}
 use Rattle.cw_solve.specs.Tables.{is_none}
 use Rattle.cw_linked.specs.declared.work.Work.{Work}
 use Rattle.cw_linked.specs.Calls.{AreCallers}
-use Rattle.cw_linked.specs.Founds.{IsLink}
-use Rattle.cw_linked.specs.Queues.{AreQueued, AreSameBut}
+use Rattle.cw_linked.specs.Founds.{IsLink, AreRight, Nothing, AllClosed, AllCalled, AllStanding}
+use Rattle.cw_linked.specs.Queues.{found_of, AreQueued, AreLong, AreOwners, AreHigh, AreDue, AreSameBut, LowersKeys}
+use Rattle.cw_linked.specs.Steps.{IsIt}
+use Rattle.cw_linked.specs.Tied.{IsFirm}
 use Rattle.cw_linked.specs.Works.{place_at}
 
 -- what is written under a key, and nothing where the key is 0
@@ -100,3 +102,38 @@ pub record FreesLinks (g : Game) (old new : Work) (i : ℕ) (c : Context) (from 
   pub queued : AreQueued new
   pub links : (k : ℕ) → from ≤ k → k < before → IsLinkOf g old.table.contexts.items i c k → slice_index new.due.items k ≡ 1
   pub rest : (k : ℕ) → (slice_index new.due.items k ≡ slice_index old.due.items k) ⊎ (IsLinkOf g old.table.contexts.items i c k × (slice_index new.due.items k ≡ 1))
+
+-- the cells of a context from a place on
+abbrev pub CellsFrom : Game → List Context → (j from : ℕ) → ℕ → ℕ → ℕ → Type 0
+CellsFrom g contexts j from i p q = (i ≡ j) × (from ≤ place_at g contexts i p q)
+
+-- the cells of a context between two places are asked for
+pub record AsksCells (g : Game) (old new : Work) (j from before : ℕ) : Type 0 where
+  pub step : LowersKeys g old new
+  pub closed : AllClosed g old.table.contexts.items (found_of g old) (CellsFrom g old.table.contexts.items j from) → AllClosed g old.table.contexts.items (found_of g new) (CellsFrom g old.table.contexts.items j before)
+  pub due : new.due.items ≡ old.due.items
+
+-- what the solver keeps but for what waits, whatever the contexts are: one more may be added
+pub record IsOpen (g : Game) (w : Work) : Type 0 where
+  pub blocks : AreBlocks g w.table
+  pub long : AreLong w
+  pub owners : AreOwners g w
+  pub queued : AreQueued w
+  pub high : AreHigh w
+  pub callers : AreCallers w
+  pub dues : AreDue g w
+  pub right : AreRight g w.table.contexts.items (found_of g w)
+
+-- A context is added, the last one: its cells have no heights, its links go nowhere, and both are asked for. What was there is as before but for keys of cells, and what
+-- is known is missing nowhere where it wasn't, but for a link that is left to do.
+pub record AddsContext (g : Game) (old new : Work) (context : Context) : Type 0 where
+  pub firm : IsFirm g new
+  pub contexts : new.table.contexts.items ≡ old.table.contexts.items ++ context ∷ []
+  pub written : new.table.written ≡ old.table.written
+  pub heights : new.table.heights.items ≡ old.table.heights.items ++ replicate (size g context.function) 0
+  pub to : new.to.items ≡ old.to.items ++ replicate (size g context.function) 0
+  pub dues : (k : ℕ) → k < length old.table.heights.items → slice_index new.due.items k ≡ slice_index old.due.items k
+  pub closed : AllClosed g old.table.contexts.items (found_of g old) Nothing → AllClosed g new.table.contexts.items (found_of g new) Nothing
+  pub called : AllCalled g old.table.contexts.items (found_of g old) Nothing → AllCalled g new.table.contexts.items (found_of g new) Nothing
+  pub standing : AllStanding g old.table.contexts.items (found_of g old) Nothing → AllStanding g new.table.contexts.items (found_of g new) Nothing
+  pub others : (j r x : ℕ) → AllStanding g old.table.contexts.items (found_of g old) (IsIt j r x) → AllStanding g new.table.contexts.items (found_of g new) (IsIt j r x)

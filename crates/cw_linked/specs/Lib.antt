@@ -11,3 +11,6 @@ pub mod Popped
 pub mod Tied
 pub mod Added
 pub mod Edges
+pub mod Measures
+pub mod Solving
+pub mod Links

@@ -1,5 +1,5 @@
 -- Working definitions: what waits under the least key is taken.
-use Rattle.std.specs.Prelude.{◌≡◌, ℕ, ◌+◌, ◌/◌, ◌<◌, ◌≤◌, Some, length, slice_index, slice_set}
+use Rattle.std.specs.Prelude.{◌≡◌, ℕ, ◌+◌, ◌/◌, ◌<◌, ◌≤◌, List, Some, length, slice_index, slice_set}
 use Rattle.cw_game.specs.Games.{Game}
 use Rattle.cw_links.specs.Heights.{height_at, AreOut}
 use Rattle.cw_solve.specs.Tables.{IsTable, HasCell}
@@ -82,7 +82,8 @@ pub record IsTaken (g : Game) (w : Work) (cell : Cell) (height : ℕ) : Type 0 w
   pub called : AllCalled g w.table.contexts.items (found_of g w) (CallsThere g (found_of g w) cell.at.number cell.pos.0 cell.state.0)
   pub standing : AllStanding g w.table.contexts.items (found_of g w) (ReturnsThere g w.table.contexts.items (found_of g w) cell.at.number cell.pos.0 cell.state.0)
 
--- after what waited for it is asked for
-pub record Finishes (g : Game) (old new : Work) : Type 0 where
+-- after what waited is asked for, where links go to the contexts of these numbers
+pub record Finishes (g : Game) (old new : Work) (numbers : List ℕ) : Type 0 where
   pub kept : IsWork g new
   pub table : new.table ≡ old.table
+  pub to : new.to.items ≡ numbers

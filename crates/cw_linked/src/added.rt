@@ -1,19 +1,23 @@
-//! The links of a new context wait to be tied.
+//! A context is added: its cells and its links are asked for.
 
-ghost use Rattle.std.specs.Prelude.{◌+◌, length, OnOk};
+ghost use Rattle.std.specs.Prelude.{◌+◌, ◌∷◌, ◌++◌, [], length, OnOk};
 ghost use Rattle.cw_product.specs.Product.{game_of};
-ghost use Rattle.cw_solve.specs.Contexts.{IsOf};
+ghost use Rattle.cw_solve.specs.Contexts.{size, IsOf};
 ghost use Rattle.cw_solve.specs.Routes.{AreRouted};
 ghost use Rattle.cw_solve.specs.Rounds.{slot};
-ghost use Rattle.cw_solve.specs.Tables.{IsTable, IsTabled, HasCell};
-ghost use Rattle.cw_linked.specs.Added.{FreesLinks};
+ghost use Rattle.cw_solve.specs.Tables.{IsTable, IsTabled, HasCell, AreTabled};
+ghost use Rattle.cw_linked.specs.Added.{FreesLinks, Pushes, IsOpen, AddsContext};
 ghost use Rattle.cw_linked.specs.Queues.{AreQueued, AreLong};
 
+use crate::asked::ask_all;
 use crate::calls::{class_at, is_same};
+use crate::room::{lengthen, push, widen};
 use crate::work::{Work, ask_link};
 use cw_core::{NoMemory, PosId, StateId};
 use cw_product::Game;
-use cw_solve::table::{Tabled, slot};
+use cw_solve::Context;
+use cw_solve::table::{Tabled, size, slot};
+use std::alloc::Global;
 
 /// Has the link of a cell wait to be tied, if the cell is that of one.
 fn free_link(
@@ -61,5 +65,57 @@ fn free_links(game: &Game, work: &mut Work, at: &Tabled, pos: PosId) -> Result<(
     for x in 0..game.states() {
         free_link(game, work, at, pos, StateId(x))?;
     }
+    Ok(())
+}
+
+/// Has the links of a context wait to be tied.
+fn free_all(game: &Game, work: &mut Work, at: &Tabled) -> Result<(), NoMemory>
+    requires routed { AreRouted (game_of game.now) (length game.now.graph.parts.items) }
+    requires table { IsTable (game_of game.now) work.old.table }
+    requires tabled { IsTabled work.old.table at.now }
+    requires long { AreLong work.old }
+    requires queued { AreQueued work.old }
+    ensures { OnOk result (FreesLinks (game_of game.now) work.old work.new at.now.number at.now.context
+        (slot (game_of game.now) work.old.table.contexts.items at.now.number at.now.context.function ((game_of game.now).entry at.now.context.function) 0)
+        (slot (game_of game.now) work.old.table.contexts.items at.now.number at.now.context.function ((game_of game.now).exit at.now.context.function + 1) 0)) }
+{
+    for p in game.entry(at.context.function).0..game.exit(at.context.function).0 + 1 {
+        free_links(game, work, at, PosId(p))?;
+    }
+    Ok(())
+}
+
+/// Adds a context to the vectors, of which nothing waits.
+fn enlarge(alloc: Global, game: &Game, work: &mut Work, context: &Context) -> Result<(), NoMemory>
+    requires routed { AreRouted (game_of game.now) (length game.now.graph.parts.items) }
+    requires kept { IsOpen (game_of game.now) work.old }
+    requires contexts { AreTabled (game_of game.now) (work.old.table.contexts.items ++ context.now ∷ []) }
+    ensures { OnOk result (Pushes work.old work.new context.now (size (game_of game.now) context.now.function)) }
+{
+    let many = size(game, context.function);
+    let cells = work.table.heights.len() as u32 + many;
+    widen(alloc, work, cells)?;
+    lengthen(alloc, work)?;
+    push(work, *context, many)?;
+    Ok(())
+}
+
+/// Adds a context, and asks for its cells and its links.
+pub(crate) fn add(
+    alloc: Global,
+    game: &Game,
+    work: &mut Work,
+    context: Context,
+) -> Result<(), NoMemory>
+    requires routed { AreRouted (game_of game.now) (length game.now.graph.parts.items) }
+    requires kept { IsOpen (game_of game.now) work.old }
+    requires contexts { AreTabled (game_of game.now) (work.old.table.contexts.items ++ context ∷ []) }
+    ensures { OnOk result (AddsContext (game_of game.now) work.old work.new context) }
+{
+    let number = work.table.contexts.len();
+    enlarge(alloc, game, work, &context)?;
+    let at = Tabled { number, context };
+    free_all(game, work, &at)?;
+    ask_all(game, work, &at)?;
     Ok(())
 }

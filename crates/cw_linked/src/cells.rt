@@ -57,7 +57,7 @@ pub(crate) fn finish(
     requires waits { AreWaits (game_of game.now) edges.now.waits }
     requires returns { AreReturns (game_of game.now) edges.now.returns }
     requires taken { IsTaken (game_of game.now) work.old cell.now height }
-    ensures { OnOk result (Finishes (game_of game.now) work.old work.new) }
+    ensures { OnOk result (Finishes (game_of game.now) work.old work.new work.old.to.items) }
 {
     ask_waiting(game, &edges.waits, work, cell)?;
     ask_entry(game, work, cell, height)?;

@@ -2,14 +2,19 @@
 #![tactic(auto)]
 
 mod added;
+mod asked;
 mod bounds;
 mod calls;
 mod cells;
 mod edges;
+mod links;
 mod popped;
 mod returns;
 mod room;
+mod solver;
 mod ties;
 mod told;
 mod waiting;
 mod work;
+
+pub use solver::solve;

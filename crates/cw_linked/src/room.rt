@@ -95,7 +95,7 @@ pub(crate) fn lengthen(alloc: Global, work: &mut Work) -> Result<(), NoMemory>
 }
 
 /// Adds a context with so many cells, of which none has a height or waits, and links that go nowhere.
-fn push(work: &mut Work, context: Context, many: u32) -> Result<(), NoMemory>
+pub(crate) fn push(work: &mut Work, context: Context, many: u32) -> Result<(), NoMemory>
     requires long { AreLong work.old }
     requires queued { AreQueued work.old }
     requires callers { AreCallers work.old }

@@ -1,6 +1,6 @@
 //! A link that is out of the buckets is tied to a context.
 
-ghost use Rattle.std.specs.Prelude.{◌≡◌, ◌<◌, ◌≤◌, suc, Some, length, slice_get, slice_index, OnOk};
+ghost use Rattle.std.specs.Prelude.{◌≡◌, ◌+◌, ◌<◌, ◌≤◌, suc, Some, length, slice_get, slice_index, slice_set, OnOk};
 ghost use Rattle.cw_game.specs.Games.{returned};
 ghost use Rattle.cw_game.specs.Pairs.{kept_at};
 ghost use Rattle.cw_product.specs.Product.{game_of};
@@ -205,7 +205,7 @@ pub(crate) fn tie_link(
 ) -> Result<(), NoMemory>
     requires routed { AreRouted (game_of game.now) (length game.now.graph.parts.items) }
     requires tieable { IsTieable (game_of game.now) work.old link.now place moves callee.now.number back.0 callee.now.context }
-    ensures { OnOk result (Finishes (game_of game.now) work.old work.new) }
+    ensures { OnOk result (Finishes (game_of game.now) work.old work.new (slice_set work.old.to.items place (callee.now.number + 1))) }
 {
     tie(work, place, callee.number, moves);
     ask_calls(game, work, place, link, callee)?;

@@ -1,0 +1,201 @@
+-- What is left to do becomes less where a link is tied, and no more where a context is added.
+use Rattle.std.proofs.Common.{◌≡◌, ℕ, zero, suc, ◌+◌, ◌-◌, ◌*◌, ◌<◌, ◌≤◌, List, [], ◌∷◌, ◌++◌, Bool, true, false, cond, ◌&&◌, ◌||◌, Some, length, set, replicate, refl, sym, ap, ◌∙◌, subst, arith, inl, inr}
+use Rattle.std.specs.Prelude.{slice_get, slice_index, nat_lt, count_by, sum_by}
+use Rattle.std.specs.List.{range_with_len}
+use Rattle.std.proofs.lemmas.Bool.{cases_lt, le-ltb, ne_eqb}
+use Rattle.std.proofs.lemmas.List.{length-append, length-replicate}
+use Rattle.std.proofs.lemmas.List.Folds.{sum_by-replicate}
+use Rattle.std.proofs.lemmas.List.FromFn.{length-range_with_len}
+use Rattle.std.proofs.lemmas.List.Sums.{sum_by-cons, sum_by-set, sum_by-append, count_by-le-length}
+use Rattle.std.proofs.lemmas.Option.{same_Some}
+use Rattle.cw_game.specs.Games.{Game, returned, Holds}
+use Rattle.cw_game.specs.Pairs.{has, Called, kept_at}
+use Rattle.cw_solve.specs.declared.contexts.Context.{Context}
+use Rattle.cw_solve.specs.declared.table.Table.{Table}
+use Rattle.cw_solve.specs.Contexts.{context, promise_at, IsSetOf}
+use Rattle.cw_solve.specs.Routes.{IsState, AreRouted}
+use Rattle.cw_solve.specs.Rounds.{holds_by}
+use Rattle.cw_solve.specs.Tables.{is_none}
+use Rattle.cw_solve.proofs.Falls.{not_both, sooner, return_state, member_is}
+use Rattle.cw_solve.proofs.Fresh.{none_written}
+use Rattle.cw_linked.specs.declared.work.Cell.{Cell}
+use Rattle.cw_linked.specs.declared.work.Work.{Work}
+use Rattle.cw_linked.specs.Founds.{IsLink, IsTied, height_back}
+use Rattle.cw_linked.specs.Measures.{states_in, promised_in, ties_left, work_left}
+use Rattle.cw_linked.specs.Queues.{found_of}
+use Rattle.cw_linked.specs.Returns.{AreFew}
+use Rattle.cw_linked.specs.Tied.{IsFreed}
+use Rattle.cw_linked.specs.Works.{place_at}
+use Rattle.cw_linked.proofs.Bounding.{place_is}
+use Rattle.cw_linked.proofs.Callers.{is_tied}
+
+-- Counts and sums.
+
+abbrev ones : Bool → ℕ
+ones b = cond b 1 0
+
+no_more : (a b : Bool) → (a ≡ true → b ≡ true) → ones a ≤ ones b
+no_more true b f = let e : ones b ≡ 1 = ap ones (f refl) in omega (arith, e)
+no_more false b f = omega arith
+
+count_more : (p : ℕ → Bool) (a n : ℕ) → count_by p (range_with_len a (suc n)) ≡ ones (p a) + count_by p (range_with_len (a + 1) n)
+count_more p a n = sum_by-cons (λ (x : ℕ). cond (p x) 1 0) a (range_with_len (a + 1) n)
+
+count_le : (p r : ℕ → Bool) → ((x : ℕ) → p x ≡ true → r x ≡ true) → (a n : ℕ) → count_by p (range_with_len a n) ≤ count_by r (range_with_len a n)
+count_le p r f a zero = omega arith
+count_le p r f a (suc n) =
+    let first = no_more (p a) (r a) (f a) in
+    let rest = count_le p r f (a + 1) n in
+    omega (arith, first, rest, count_more p a n, count_more r a n)
+
+-- a number that one counts and the other doesn't
+count_less : (p r : ℕ → Bool) → ((x : ℕ) → p x ≡ true → r x ≡ true) → (a n x : ℕ) → a ≤ x → x < a + n → p x ≡ false → r x ≡ true
+    → count_by p (range_with_len a n) < count_by r (range_with_len a n)
+count_less p r f a zero x le lt lacks has_it = absurd (omega (arith, le, lt))
+count_less p r f a (suc n) x le lt lacks has_it =
+    elim (cases_lt a x) [
+      | inl more ↦
+          let first = no_more (p a) (r a) (f a) in
+          let rest = count_less p r f (a + 1) n x (omega (arith, more)) (omega (arith, lt)) lacks has_it in
+          omega (arith, first, rest, count_more p a n, count_more r a n)
+      | inr most ↦
+          let here : x ≡ a = omega (arith, le, most) in
+          let none : ones (p a) ≡ 0 = ap (λ (y : ℕ). ones (p y)) (sym here) ∙ ap ones lacks in
+          let one : ones (r a) ≡ 1 = ap (λ (y : ℕ). ones (r y)) (sym here) ∙ ap ones has_it in
+          let rest = count_le p r f (a + 1) n in
+          omega (arith, none, one, rest, count_more p a n, count_more r a n)
+    ]
+
+sum_same : (f h : ℕ → ℕ) (most : ℕ) → ((x : ℕ) → x ≤ most → f x ≡ h x) → (xs : List ℕ) → ((k : ℕ) → k < length xs → slice_index xs k ≤ most) → sum_by f xs ≡ sum_by h xs
+sum_same f h most same [] low = refl
+sum_same f h most same (x ∷ xs) low =
+    let first = same x (low 0 (omega arith)) in
+    let rest = sum_same f h most same xs (λ k lt. low (suc k) (omega (arith, lt))) in
+    omega (arith, first, rest, sum_by-cons f x xs, sum_by-cons h x xs)
+
+-- what a set has at most
+pub states_most : (g : Game) (set : ℕ) → states_in g set ≤ g.states.count
+states_most g set = let l = count_by-le-length (has set) (range_with_len 0 g.states.count) in let e = length-range_with_len 0 g.states.count in omega (arith, l, e)
+
+-- Nothing but keys, buckets and lists changes.
+
+pub kept_left : (g : Game) (old new : Work) → new.table ≡ old.table → new.to.items ≡ old.to.items → work_left g new ≡ work_left g old
+kept_left g old new table to =
+    ap (λ (t : Table). (4194304 - length t.heights.items) * (g.states.count + 2) + count_by is_none t.heights.items + sum_by (ties_left g t.contexts.items) new.to.items) table
+    ∙ ap (λ (ys : List ℕ). (4194304 - length old.table.heights.items) * (g.states.count + 2) + count_by is_none old.table.heights.items + sum_by (ties_left g old.table.contexts.items) ys) to
+
+-- A link is tied to a context whose promise is one of its fewer ties.
+
+pub tied_less : (g : Game) (old new : Work) (place number : ℕ) → new.table ≡ old.table → new.to.items ≡ set old.to.items place (number + 1) → place < length old.to.items
+    → promised_in g (slice_get old.table.contexts.items number) < ties_left g old.table.contexts.items (slice_index old.to.items place) → work_left g new < work_left g old
+tied_less g old new place number table to within less =
+    let now : work_left g new ≡ (4194304 - length old.table.heights.items) * (g.states.count + 2) + count_by is_none old.table.heights.items + sum_by (ties_left g old.table.contexts.items) (set old.to.items place (suc number))
+    = ap (λ (t : Table). (4194304 - length t.heights.items) * (g.states.count + 2) + count_by is_none t.heights.items + sum_by (ties_left g t.contexts.items) new.to.items) table
+    ∙ ap (λ (ys : List ℕ). (4194304 - length old.table.heights.items) * (g.states.count + 2) + count_by is_none old.table.heights.items + sum_by (ties_left g old.table.contexts.items) ys)
+    (to ∙ ap (λ (n : ℕ). set old.to.items place n) (next number)) in
+    let sums = sum_by-set (ties_left g old.table.contexts.items) old.to.items place (suc number) 0 within in
+    omega (arith, now, sums, less)
+  where
+    next : (n : ℕ) → n + 1 ≡ suc n
+    next n = omega arith
+
+-- A context is added.
+
+-- a link that was there has as many ties left
+pub ties_on : (g : Game) (contexts : List Context) (c : Context) (to : ℕ) → to ≤ length contexts → ties_left g (contexts ++ c ∷ []) to ≡ ties_left g contexts to
+ties_on g contexts c zero le = refl
+ties_on g contexts c (suc i) le = ap (promised_in g) (before contexts i (omega (arith, le)))
+  where
+    before : (xs : List Context) (i : ℕ) → i < length xs → slice_get (xs ++ c ∷ []) i ≡ slice_get xs i
+    before [] i lt = absurd (omega (arith, lt))
+    before (x ∷ xs) zero lt = refl
+    before (x ∷ xs) (suc i) lt = before xs i (omega (arith, lt))
+
+pub added_left : (g : Game) (old new : Work) (c : Context) (many : ℕ) → new.table.contexts.items ≡ old.table.contexts.items ++ c ∷ []
+    → new.table.heights.items ≡ old.table.heights.items ++ replicate many 0 → new.to.items ≡ old.to.items ++ replicate many 0
+    → length old.table.heights.items + many ≤ 4194304 → length old.to.items ≡ length old.table.heights.items → AreFew old → work_left g new ≡ work_left g old
+added_left g old new c many contexts heights to room long few =
+    let cs = old.table.contexts.items in
+    let hs = old.table.heights.items in
+    let longer : length new.table.heights.items ≡ length hs + many
+    = ap (λ (ys : List ℕ). length ys) heights ∙ length-append hs (replicate many 0) ∙ ap (λ (n : ℕ). length hs + n) (length-replicate {A = ℕ} many 0) in
+    let none : count_by is_none new.table.heights.items ≡ count_by is_none hs + many
+    = ap (λ (ys : List ℕ). count_by is_none ys) heights ∙ sum_by-append (λ (x : ℕ). cond (is_none x) 1 0) hs (replicate many 0) ∙ ap (λ (n : ℕ). count_by is_none hs + n) (none_written many) in
+    let same : sum_by (ties_left g (cs ++ c ∷ [])) old.to.items ≡ sum_by (ties_left g cs) old.to.items
+    = sum_same (ties_left g (cs ++ c ∷ [])) (ties_left g cs) (length cs) (ties_on g cs c) old.to.items (λ k lt. few k (omega (arith, lt, long))) in
+    let ties : sum_by (ties_left g new.table.contexts.items) new.to.items ≡ sum_by (ties_left g cs) old.to.items + many * (g.states.count + 1)
+    = ap (λ (ys : List Context). sum_by (ties_left g ys) new.to.items) contexts ∙ ap (λ (ys : List ℕ). sum_by (ties_left g (cs ++ c ∷ [])) ys) to
+    ∙ sum_by-append (ties_left g (cs ++ c ∷ [])) old.to.items (replicate many 0) ∙ both _ _ _ _ same (sum_by-replicate (ties_left g (cs ++ c ∷ [])) many 0) in
+    let rooms = room_for (length hs) many (g.states.count) room in
+    let less : (4194304 - length new.table.heights.items) * (g.states.count + 2) ≡ (4194304 - (length hs + many)) * (g.states.count + 2) = ap (λ (n : ℕ). (4194304 - n) * (g.states.count + 2)) longer in
+    let product : many * (g.states.count + 2) ≡ many * (g.states.count + 1) + many = times many g.states.count in
+    omega (arith, none, ties, rooms, less, product)
+  where
+    both : (a b c d : ℕ) → a ≡ c → b ≡ d → a + b ≡ c + d
+    both a b c d e f = omega (arith, e, f)
+
+    times : (m n : ℕ) → m * (n + 2) ≡ m * (n + 1) + m
+    times m n = omega arith
+
+    room_for : (n many count : ℕ) → n + many ≤ 4194304 → (4194304 - (n + many)) * (count + 2) + many * (count + 2) ≡ (4194304 - n) * (count + 2)
+    room_for n many count le = let e : (4194304 - (n + many)) + many ≡ 4194304 - n = omega (arith, le) in omega (arith, ap (λ (m : ℕ). m * (count + 2)) e)
+
+-- A link stops waiting: the promise of its call has fewer states than the link has ties left.
+
+module _ (g : Game) (functions : ℕ) (routed : AreRouted g functions) (w : Work) (link : Cell) (place moves : ℕ) (freed : IsFreed g w link place moves) (more : 0 < slice_index w.to.items place → 0 < moves) where
+  abbrev Contexts : List Context
+  Contexts = w.table.contexts.items
+
+  place_here : place ≡ place_at g Contexts link.at.number link.pos.0 link.state.0
+  place_here = freed.at.place ∙ sym (place_is g Contexts link.at.number link.at.context link.pos.0 link.state.0 freed.at.is.at)
+
+  module _ (call : Called) (is : IsLink g Contexts link.at.number link.at.context link.pos.0 link.state.0 call) (states : ℕ)
+      (read : IsSetOf g states (λ y. holds_by moves (height_back g (found_of g w) link.at.number call link.state.0 y))) where
+    back_state : (x : ℕ) → x < g.states.count → IsState g (returned g.states (kept_at call.split link.state.0) x)
+    back_state x lt = return_state g functions routed link.pos.0 x link.state.0 call is.calls lt is.cell.state
+
+    fewer : (to : ℕ) → slice_index w.to.items place ≡ suc to → states_in g states < promised_in g (slice_get Contexts to)
+    fewer to e =
+        let tied : 0 < slice_index w.to.items place = omega (arith, e) in
+        let s = freed.shrinks call is tied in
+        let before = s.0 in
+        let x = s.1 in
+        let value : (found_of g w).to link.at.number link.pos.0 link.state.0 ≡ to = (let v = ap (slice_index w.to.items) (sym place_here) in omega (arith, v, e)) in
+        let goes : slice_get Contexts to ≡ Some (context call.function before) = ap (slice_get Contexts) (sym value) ∙ s.2 in
+        let is_tied_here : IsTied (found_of g w) link.at.number link.pos.0 link.state.0 = is_tied (slice_index w.to.items (place_at g Contexts link.at.number link.pos.0 link.state.0)) to (ap (slice_index w.to.items) (sym place_here) ∙ e) in
+        let l = freed.firm.right.linked link.at.number link.at.context link.pos.0 link.state.0 call is is_tied_here in
+        let same : l.0 ≡ before = ap (λ (c : Context). c.promise) (same_Some (context call.function l.0) (context call.function before) (sym l.1 ∙ s.2)) in
+        let wave = (found_of g w).wave link.at.number link.pos.0 link.state.0 in
+        let promised : IsSetOf g before (promise_at g wave call.back (kept_at call.split link.state.0) link.at.context.promise)
+        = subst (λ (y : ℕ). IsSetOf g y (promise_at g wave call.back (kept_at call.split link.state.0) link.at.context.promise)) same l.2 in
+        let ready = freed.ready call states is read in
+        let lost : has states x ≡ false = member_is g states _ read x s.3 ∙ ap (holds_by moves) s.5 ∙ gone (more tied) in
+        let fell : Holds g moves call.back (returned g.states (kept_at call.split link.state.0) x) (has link.at.context.promise) ≡ false = sym (member_is g states _ ready.promise x s.3) ∙ lost in
+        let held : Holds g wave call.back (returned g.states (kept_at call.split link.state.0) x) (has link.at.context.promise) ≡ true = sym (member_is g before _ promised x s.3) ∙ s.4 in
+        let earlier : wave ≤ moves = elim (cases_lt moves wave) [
+          | inl lt ↦ absurd (not_both _ (sooner g functions routed moves wave call.back _ (has link.at.context.promise) (omega (arith, lt)) (back_state x s.3) held) fell)
+          | inr le ↦ le
+        ] in
+        let less = count_less (has states) (has before) (λ y member. inside wave before promised ready.promise earlier y member) 0 g.states.count x (omega arith) (omega (arith, s.3)) lost s.4 in
+        subst (λ (o : _). states_in g states < promised_in g o) (sym goes) less
+      where
+        gone : 0 < moves → holds_by moves moves ≡ false
+        gone lt = ap (λ (b : Bool). b || nat_lt moves moves) (ne_eqb moves 0 (λ e. absurd (omega (arith, e, lt)))) ∙ le-ltb moves moves (omega arith)
+
+        inside : (wave before : ℕ) → IsSetOf g before (promise_at g wave call.back (kept_at call.split link.state.0) link.at.context.promise)
+            → IsSetOf g states (promise_at g moves call.back (kept_at call.split link.state.0) link.at.context.promise) → wave ≤ moves → (y : ℕ) → has states y ≡ true → has before y ≡ true
+        inside wave before promised now le y member =
+            elim (cases_lt y g.states.count) [
+              | inl lt ↦
+                  let holds = sym (member_is g states _ now y lt) ∙ member in
+                  member_is g before _ promised y lt ∙ sooner g functions routed wave moves call.back _ (has link.at.context.promise) le (back_state y lt) holds
+              | inr past ↦ absurd (not_both (has states y) member (now y ∙ ap (λ (b : Bool). b && promise_at g moves call.back (kept_at call.split link.state.0) link.at.context.promise y) (le-ltb y g.states.count past)))
+            ]
+
+    -- fewer than are left
+    pub fewer_states : states_in g states < ties_left g Contexts (slice_index w.to.items place)
+    fewer_states = by (slice_index w.to.items place) refl
+      where
+        by : (to : ℕ) → slice_index w.to.items place ≡ to → states_in g states < ties_left g Contexts to
+        by zero e = let m = states_most g states in omega (arith, m)
+        by (suc to) e = fewer to e

@@ -1,0 +1,10 @@
+use Rattle.cw_product.specs.Product.{game_of}
+use Rattle.cw_linked.specs.Measures.{work_left}
+use Rattle.cw_linked.specs.Popped.{IsWork}
+use Rattle.cw_linked.proofs.solver.steps.Given as goal
+
+abbrev pub invariant-steps : goal.invariant-steps
+invariant-steps l = IsWork (game_of l.game) l.work
+
+abbrev pub decreases-steps : goal.decreases-steps
+decreases-steps l = work_left (game_of l.game) l.work

@@ -1,0 +1,86 @@
+//! A link that is out of the buckets is taken.
+
+ghost use Rattle.std.specs.Prelude.{◌<◌, length, slice_index, IfOk};
+ghost use Rattle.cw_product.specs.Product.{game_of};
+ghost use Rattle.cw_solve.specs.Contexts.{IsNeeded};
+ghost use Rattle.cw_solve.specs.Routes.{AreRouted};
+ghost use Rattle.cw_linked.specs.Links.{NumbersContext, TakesLink};
+ghost use Rattle.cw_linked.specs.Tied.{IsFirm, IsFreed};
+
+use crate::added::add;
+use crate::ties::{promise_of, tie_link};
+use crate::work::{Cell, Work};
+use cw_core::NoMemory;
+use cw_product::{Game, Turn};
+use cw_solve::Context;
+use cw_solve::table::{Tabled, place_of, size};
+use std::alloc::Global;
+
+/// What comes of a step.
+#[derive(Drop)]
+pub(crate) enum Stepped {
+    /// Nothing waits.
+    Done,
+    More,
+    /// This context is needed, and its cells are too many.
+    TooMany(Context),
+}
+
+/// The number of a context, which is added if it isn't there; none where its cells are too many.
+fn number_of(
+    alloc: Global,
+    game: &Game,
+    work: &mut Work,
+    context: &Context,
+) -> Result<Option<usize>, NoMemory>
+    requires routed { AreRouted (game_of game.now) (length game.now.graph.parts.items) }
+    requires firm { IsFirm (game_of game.now) work.old }
+    requires needed { IsNeeded (game_of game.now) context.now }
+    ensures { IfOk result (λ number. NumbersContext (game_of game.now) work.old work.new context.now number) }
+{
+    match place_of(&work.table.contexts, context.function, &context.promise) {
+        Some(number) => Ok(Some(number)),
+        None => {
+            let number = work.table.contexts.len();
+            if work.table.heights.len() as u32 + size(game, context.function) > 4_194_304 {
+                return Ok(None);
+            }
+            add(alloc, game, work, *context)?;
+            Ok(Some(number))
+        }
+    }
+}
+
+/// Takes the link at a place, for so many moves.
+pub(crate) fn take_link(
+    alloc: Global,
+    game: &Game,
+    work: &mut Work,
+    place: usize,
+    link: &Cell,
+    moves: u32,
+) -> Result<Stepped, NoMemory>
+    requires routed { AreRouted (game_of game.now) (length game.now.graph.parts.items) }
+    requires freed { IsFreed (game_of game.now) work.old link.now place moves }
+    requires some { 0 < slice_index work.old.to.items place → 0 < moves }
+    ensures { IfOk result (λ stepped. TakesLink (game_of game.now) work.old work.new stepped) }
+{
+    let Turn::Call {
+        callee,
+        split,
+        back,
+    } = game.turn(link.pos)
+    else {
+        unreachable!()
+    };
+    let context = Context {
+        function: callee,
+        promise: promise_of(game, &work.table, link, back, split, moves),
+    };
+    let Some(number) = number_of(alloc, game, work, &context)? else {
+        return Ok(Stepped::TooMany(context));
+    };
+    let to = Tabled { number, context };
+    tie_link(game, work, place, link, back, moves, &to)?;
+    Ok(Stepped::More)
+}

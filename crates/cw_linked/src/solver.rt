@@ -1,0 +1,160 @@
+//! The solver.
+
+ghost use Rattle.std.specs.Prelude.{◌≡◌, ◌<◌, ◌≤◌, ◌++◌, ◌∷◌, [], length, IfOk, IfErr};
+ghost use Rattle.cw_product.specs.Product.{game_of};
+ghost use Rattle.cw_solve.specs.Contexts.{cells_of, AreTheNeeded};
+ghost use Rattle.cw_solve.specs.Made.{IsMade};
+ghost use Rattle.cw_solve.specs.Routes.{AreRouted};
+ghost use Rattle.cw_solve.specs.Solved.{IsCause};
+ghost use Rattle.cw_solve.specs.Tables.{IsTable, IsDone};
+ghost use Rattle.cw_linked.specs.Popped.{IsWork};
+ghost use Rattle.cw_linked.specs.Returns.{AreReturns};
+ghost use Rattle.cw_linked.specs.Solving.{IsBlank, Steps, Ends};
+ghost use Rattle.cw_linked.specs.Waiting.{AreWaits};
+
+use crate::added::add;
+use crate::cells::finish;
+use crate::edges::Edges;
+use crate::links::{Stepped, take_link};
+use crate::popped::{Popped, pop};
+use crate::work::{Work, cell_at};
+use cw_core::NoMemory;
+use cw_links::{Buckets, Chains};
+use cw_product::Game;
+use cw_solve::table::{Table, main_context};
+use cw_solve::{Context, SolveFault, Solved};
+use std::alloc::{AllocError, Global};
+
+/// Takes what waits under the least key.
+fn step(alloc: Global, game: &Game, edges: &Edges, work: &mut Work) -> Result<Stepped, NoMemory>
+    requires routed { AreRouted (game_of game.now) (length game.now.graph.parts.items) }
+    requires waits { AreWaits (game_of game.now) edges.now.waits }
+    requires returns { AreReturns (game_of game.now) edges.now.returns }
+    requires work { IsWork (game_of game.now) work.old }
+    ensures { IfOk result (λ stepped. Steps (game_of game.now) work.old work.new stepped) }
+{
+    match pop(work) {
+        Popped::Nothing => Ok(Stepped::Done),
+        Popped::Cell(place, height) => {
+            let cell = cell_at(game, work, place);
+            finish(game, edges, work, &cell, height)?;
+            Ok(Stepped::More)
+        }
+        Popped::Link(place, moves) => {
+            let link = cell_at(game, work, place);
+            let stepped = take_link(alloc, game, work, place, &link, moves)?;
+            Ok(stepped)
+        }
+    }
+}
+
+/// Steps until nothing waits; a context that is needed, where there is no room for it.
+fn steps(
+    alloc: Global,
+    game: &Game,
+    edges: &Edges,
+    work: &mut Work,
+) -> Result<Option<Context>, NoMemory>
+    requires routed { AreRouted (game_of game.now) (length game.now.graph.parts.items) }
+    requires waits { AreWaits (game_of game.now) edges.now.waits }
+    requires returns { AreReturns (game_of game.now) edges.now.returns }
+    requires work { IsWork (game_of game.now) work.old }
+    ensures { IfOk result (λ more. Ends (game_of game.now) work.new.table more) }
+{
+    'steps: loop {
+        match step(alloc, game, edges, work)? {
+            Stepped::Done => return Ok(None),
+            Stepped::More => {}
+            Stepped::TooMany(context) => return Ok(Some(context)),
+        }
+    }
+}
+
+/// Nothing is found yet.
+fn blank(alloc: Global) -> Result<Work, NoMemory>
+    ensures { IfOk result IsBlank }
+{
+    Ok(Work {
+        table: Table {
+            contexts: Vec::new(alloc),
+            bases: Vec::new(alloc),
+            heights: Vec::new(alloc),
+            written: 0,
+        },
+        owners: Vec::new(alloc),
+        asked: Vec::new(alloc),
+        due: Vec::new(alloc),
+        to: Vec::new(alloc),
+        waves: Vec::new(alloc),
+        buckets: Buckets::make(alloc, 0)?,
+        room: 0,
+        callers: Chains::make(alloc, 2)?,
+        lists: 2,
+    })
+}
+
+/// `main` with all states alone, and what is known of it.
+fn begun(alloc: Global, game: &Game) -> Result<Work, NoMemory>
+    requires routed { AreRouted (game_of game.now) (length game.now.graph.parts.items) }
+    ensures { IfOk result (λ work. IsWork (game_of game.now) work) }
+{
+    let mut work = blank(alloc)?;
+    add(alloc, game, &mut work, main_context(game))?;
+    Ok(work)
+}
+
+/// What is found in the end; or a context that is needed, where there is no room for it.
+fn solve_work(alloc: Global, game: &Game) -> Result<(Work, Option<Context>), NoMemory>
+    requires routed { AreRouted (game_of game.now) (length game.now.graph.parts.items) }
+    ensures { IfOk result (λ end. Ends (game_of game.now) end.0.table end.1) }
+{
+    let edges = Edges::make(alloc, game)?;
+    let mut work = begun(alloc, game)?;
+    let more = steps(alloc, game, &edges, &mut work)?;
+    Ok((work, more))
+}
+
+/// A table's contexts and one more.
+fn longer(table: Table, context: Context) -> Result<Vec<Context>, AllocError>
+    ensures { IfOk result (λ v. v.items ≡ table.contexts.items ++ context ∷ []) }
+{
+    let mut contexts = table.contexts;
+    contexts.push(context)?;
+    Ok(contexts)
+}
+
+/// The table of a game.
+fn solve_table(alloc: Global, game: &Game) -> Result<Table, SolveFault>
+    requires routed { AreRouted (game_of game.now) (length game.now.graph.parts.items) }
+    ensures table { IfOk result (λ t. IsTable (game_of game.now) t) }
+    ensures done { IfOk result (λ t. IsDone (game_of game.now) t) }
+    ensures cause { IfErr result (λ fault. IsCause (game_of game.now) fault) }
+{
+    let Ok((work, more)) = solve_work(alloc, game) else {
+        return Err(SolveFault::NoMemory);
+    };
+    match more {
+        None => Ok(work.table),
+        Some(context) => Err(SolveFault::TooManyCells(longer(work.table, context)?)),
+    }
+}
+
+/// Solves a game: its needed contexts and the heights of their pairs.
+///
+/// The contexts are the least set that has `main` with all states and, for each context and each call at a position of
+/// its function, what the call promises for each state and each number of moves. TooManyCells comes exactly where their
+/// cells, a pair of a position of its function and a state each, are more than 4,194,304; it has some of them, no two
+/// the same, whose cells alone are more.
+///
+/// What is known to be lost waits under its height, and is taken by its height, each pair once; what waits for it is asked
+/// for then. A call's promise shrinks after all pairs of a height are taken.
+pub fn solve<'g>(alloc: Global, game: &'g Game<'g>) -> Result<Solved<'g>, SolveFault>
+    requires made { IsMade game.now }
+    ensures game { IfOk result (λ s. s.game ≡ game.now) }
+    ensures contexts { IfOk result (λ s. AreTheNeeded (game_of game.now) s.contexts) }
+    ensures few { IfOk result (λ s. cells_of (game_of game.now) s.contexts ≤ 4194304) }
+    ensures cause { IfErr result (λ fault. IsCause (game_of game.now) fault) }
+{
+    let table = solve_table(alloc, game)?;
+    Ok(Solved::of(game, table))
+}
