@@ -6,10 +6,14 @@ use cw_core::NoMemory;
 use cw_io::{FileShelf, Sink, StreamSink};
 use std::env::{Env, FillError};
 use std::io;
+use std::io::BufWriter;
 use std::process::ExitCode;
 
 /// The status of want of memory.
 const MEMORY: u8 = 8;
+
+/// How many bytes of a long text go to the system in one write.
+const BUFFER: usize = 65_536;
 
 /// The end of a run whose words found no memory.
 fn end_without_memory(rt: &HostRuntime) -> ExitCode {
@@ -57,9 +61,12 @@ fn main(rt: HostRuntime) -> ExitCode {
     let Ok(words) = words_of(&rt) else {
         return end_without_memory(&rt);
     };
+    let Ok(writer) = BufWriter::with_capacity(rt.alloc(), BUFFER, io::writer(&rt)) else {
+        return end_without_memory(&rt);
+    };
     let stderr = rt.stderr();
     let mut shelf = FileShelf::make(&rt);
-    let mut out = StreamSink::make(io::writer(&rt));
+    let mut out = StreamSink::make(writer);
     let mut note = StreamSink::make(io::writer(&stderr));
     ExitCode::from(capweave(rt.alloc(), &words, &mut shelf, &mut out, &mut note))
 }

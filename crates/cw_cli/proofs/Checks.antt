@@ -98,7 +98,7 @@ unopened policy text fault.NoMemory h = tt
 unopened policy text (fault.Source why) h = absurd h
 unopened policy text (fault.Misplaced n) h = absurd h
 
-pub woven_refused : {E : Type 0} (policy : PlainPolicy) (text source s : List ℕ) (f : WovenFault) (result : Result Outcome E) → IsFaultOver policy text source f → s ≡ source
+pub woven_refused : {O E : Type 0} (policy : PlainPolicy) (text source s : List ℕ) (f : WovenFault) (result : Result (Outcome O) E) → IsFaultOver policy text source f → s ≡ source
     → IfOk result (λ o. (f ≢ fault.NoMemory) × (due_of o ≡ woven_refusal policy s f)) → IfOk result (λ o. IsWovenRefusal policy text (due_of o))
 woven_refused policy text source s f result is same h = if_ok result h (λ o p. (source, f, is, p.0, p.1 ∙ ap (λ (z : List ℕ). woven_refusal policy z f) same))
 

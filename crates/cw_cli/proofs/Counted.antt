@@ -1,12 +1,11 @@
 -- What comes behind the stages of `weave`: the verdict with its numbers, the verdict alone, and the lines of a sample.
-use Rattle.std.proofs.Common.{◌≡◌, ℕ, ◌≤◌, List, length, sym, ap, ◌∙◌, subst, inl, inr}
-use Rattle.cw_rights.specs.Policies.{PlainPolicy, policy_of}
+use Rattle.std.proofs.Common.{◌≡◌, ℕ, List, length, ap, ◌∙◌, subst, inl, inr}
+use Rattle.cw_rights.specs.Policies.{PlainPolicy}
 use Rattle.cw_syntax.specs.Plans.{plan_of}
 use Rattle.cw_syntax.specs.Trees.{File}
 use Rattle.cw_actions.specs.Scenes.{names_of}
 use Rattle.cw_points.specs.declared.graph.Graph.{Graph}
 use Rattle.cw_points.specs.Graphs.{IsGraph}
-use Rattle.cw_points.specs.Points.{point_count}
 use Rattle.cw_positions.proofs.Leading.{length_nodes}
 use Rattle.cw_game.specs.Games.{Game}
 use Rattle.cw_product.specs.Product.{Held, game_of}

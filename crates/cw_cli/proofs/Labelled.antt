@@ -6,7 +6,8 @@ use Rattle.cw_syntax.specs.Names.{Names, text}
 use Rattle.cw_syntax.specs.Trees.{Statement, Stated, Form, Block, Declares, Evaluates, Empties, Labels, Chooses, Whiles, Does, Fors, Breaks, Continues, Returns, Perhaps, nothing, just, Statements, nil, cons, Definition, File}
 use Rattle.cw_syntax.specs.Plans.{Scene, steps_of, steps_of_form, steps_of_arm, steps_of_all, seams, seams_all, numbered, numbered_all, routines_from, scene_of, plan_of}
 use Rattle.cw_points.specs.Points.{count, count_all, count_from, point_count}
-use Rattle.cw_listing.specs.Labels.{labels_of, labels_in, labels_of_arm, labels_of_all, label_names}
+use Rattle.cw_listing.specs.declared.names.Labelled.{Labelled}
+use Rattle.cw_listing.specs.Labels.{labels_of, labels_in, labels_of_arm, labels_of_all, labels_in_file, label_names}
 
 module _ (c : Scene) where
   mutual
@@ -46,7 +47,7 @@ module _ (c : Scene) where
       )
 
 pub few_labels : (names : Names) (source : List ℕ) (file : File) → length (label_names source file) ≤ point_count (plan_of names source file)
-few_labels names source file = omega (arith, length-map (flat_map (λ (f : Definition). labels_of_all f.body) file.functions) (text source), few_from (scene_of names source file) file.functions 0)
+few_labels names source file = omega (arith, length-map (labels_in_file file) (λ (l : Labelled). text source l.name), few_from (scene_of names source file) file.functions 0)
 
 -- so more labels than have numbers of 16 bits are too many points
 pub many_labels : (names : Names) (source : List ℕ) (file : File) (n : ℕ) → n ≡ length (label_names source file) → 65535 < n → 8192 < point_count (plan_of names source file)

@@ -1,5 +1,5 @@
 -- The lines of a program's graph are due for its source.
-use Rattle.std.proofs.Common.{◌≡◌, ℕ, suc, ◌+◌, ◌≤◌, ◌<◌, List, [], ◌∷◌, length, map, Some, refl, sym, ap, ap₂, ◌∙◌, subst, arith, Result, inl}
+use Rattle.std.proofs.Common.{◌≡◌, ℕ, suc, ◌+◌, ◌≤◌, ◌<◌, List, [], ◌∷◌, length, map, Vec, Global, Some, refl, sym, ap, ap₂, ◌∙◌, subst, arith, Result, inl}
 use Rattle.std.specs.Prelude.{IfOk, slice_get}
 use Rattle.std.specs.List.{range_with_len}
 use Rattle.std.proofs.lemmas.List.{length-map}
@@ -11,8 +11,8 @@ use Rattle.cw_points.specs.declared.graph.Graph.{Graph}
 use Rattle.cw_points.specs.Graphs.{IsGraph, splits_of}
 use Rattle.cw_points.specs.Points.{point_count}
 use Rattle.cw_points.proofs.Laying.{splits_length}
-use Rattle.cw_callgraph.specs.declared.table.Effect.{Effect}
 use Rattle.cw_callgraph.specs.Effects.{calls, Each}
+use Rattle.cw_listing.specs.Held.{lists}
 use Rattle.cw_listing.specs.Labels.{label_names}
 use Rattle.cw_listing.specs.Listing.{graph_text}
 use Rattle.cw_source.proofs.Starting.{functions_few}
@@ -24,19 +24,20 @@ use Rattle.cw_cli.specs.Listings.{call_lists, own_names, IsListed, IsListing}
 use Rattle.cw_cli.specs.Refusals.{over as over_limit}
 use Rattle.cw_cli.proofs.Refused.{if_ok}
 
-rows_from : (plan : Plan) (k : ℕ) (es : List Effect) → ((f : ℕ) (e : Effect) → slice_get es f ≡ Some e → e.calls.items ≡ calls plan (k + f)) → map (λ e. e.calls.items) es ≡ map (calls plan) (range_with_len k (length es))
+rows_from : (plan : Plan) (k : ℕ) (rows : List (Vec ℕ Global)) → ((f : ℕ) (row : Vec ℕ Global) → slice_get rows f ≡ Some row → row.items ≡ calls plan (k + f))
+    → lists rows ≡ map (calls plan) (range_with_len k (length rows))
 rows_from plan k [] h = refl
-rows_from plan k (e ∷ es) h =
+rows_from plan k (row ∷ rows) h =
     let same : k + 0 ≡ k = omega arith in
-    let first = h 0 e refl ∙ ap (calls plan) same in
+    let first = h 0 row refl ∙ ap (calls plan) same in
     let next : (f : ℕ) → k + suc f ≡ k + 1 + f = λ f. omega arith in
-    ap₂ (λ a b. a ∷ b) first (rows_from plan (k + 1) es (λ f d s. h (suc f) d s ∙ ap (calls plan) (next f)))
+    ap₂ (λ a b. a ∷ b) first (rows_from plan (k + 1) rows (λ f d s. h (suc f) d s ∙ ap (calls plan) (next f)))
 
--- the rows of a table of effects are what the functions call
-pub rows_are : (plan : Plan) (n : ℕ) (es : List Effect) → length es ≡ n → Each (λ f e. e.calls.items ≡ calls plan f) es → map (λ e. e.calls.items) es ≡ call_lists plan n
-rows_are plan n es count h =
+-- the rows of a table of calls are what the functions call
+pub rows_are : (plan : Plan) (n : ℕ) (rows : List (Vec ℕ Global)) → length rows ≡ n → Each (λ f row. row.items ≡ calls plan f) rows → lists rows ≡ call_lists plan n
+rows_are plan n rows count h =
     let none : (f : ℕ) → f ≡ 0 + f = λ f. omega arith in
-    rows_from plan 0 es (λ f e s. h f e s ∙ ap (calls plan) (none f)) ∙ ap (λ k. map (calls plan) (range_with_len 0 k)) count
+    rows_from plan 0 rows (λ f row s. h f row s ∙ ap (calls plan) (none f)) ∙ ap (λ k. map (calls plan) (range_with_len 0 k)) count
 
 module _ (names : Names) (source : List ℕ) where
   -- a program that is read has few functions
@@ -62,5 +63,5 @@ module _ (names : Names) (source : List ℕ) where
       (g, both.0, both.1 ∙ ap (λ k. graph_text (function_names source file) (label_names source file) [] (call_lists (plan_of (own_names source file) source file) k) g) many)
 
 -- too many points are due as a limit of the source
-pub over : {E : Type 0} (source : List ℕ) (file : File) → 8192 < point_count (plan_of (own_names source file) source file) → (result : Result Outcome E) → IfOk result (λ o. due_of o ≡ over_limit Points) → IfOk result (λ o. IsListed source file (due_of o))
+pub over : {O E : Type 0} (source : List ℕ) (file : File) → 8192 < point_count (plan_of (own_names source file) source file) → (result : Result (Outcome O) E) → IfOk result (λ o. due_of o ≡ over_limit Points) → IfOk result (λ o. IsListed source file (due_of o))
 over source file h result is = if_ok result is (λ o e. inl (h, e))

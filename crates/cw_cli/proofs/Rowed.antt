@@ -1,8 +1,8 @@
 -- The rows of a strategy, counted one by one.
-use Rattle.std.proofs.Common.{◌≡◌, ℕ, ◌+◌, ◌≤◌, ◌<◌, List, [], ◌∷◌, length, map, take, get_or, refl, sym, ap, ap₂, ◌∙◌, arith}
+use Rattle.std.proofs.Common.{◌≡◌, ℕ, ◌+◌, List, [], ◌∷◌, length, map, refl, sym, ap, ap₂, ◌∙◌}
 use Rattle.std.specs.Prelude.{sum_by}
 use Rattle.std.proofs.lemmas.List.{length-map}
-use Rattle.std.proofs.lemmas.List.Sums.{sum_by-cons, sum_by_more, sum_by_more_le}
+use Rattle.std.proofs.lemmas.List.Sums.{sum_by-cons}
 use Rattle.cw_certs.specs.declared.strategy.EnvCert.{EnvCert}
 use Rattle.cw_certs.specs.declared.strategy.EnvRow.{EnvRow}
 use Rattle.cw_certs.specs.Strategies.{how_of, row_of, strategy_of, Row}

@@ -2,10 +2,11 @@
 
 ghost use Rattle.std.specs.Prelude.{◌≡◌, map, length, None, Some, IfOk, IfSome, ◌⊎◌};
 ghost use Rattle.cw_commands.specs.Commands.{quantities_of, IsNumbered};
-ghost use Rattle.cw_commands.specs.Endings.{IsNoted, line_of, status_of, usage_line};
+ghost use Rattle.cw_commands.specs.Endings.{line_of, status_of, usage_line, IsNoted, IsNotedWhole};
 ghost use Rattle.cw_commands.specs.Files.{AreSized};
 ghost use Rattle.cw_commands.specs.Outcomes.{due_of};
 ghost use Rattle.cw_commands.specs.Runs.{Ends};
+ghost use Rattle.cw_commands.specs.Starts.{Starts};
 ghost use Rattle.cw_commands.specs.Words.{first_command, requested};
 ghost use Rattle.cw_cli.specs.Due.{IsDue};
 
@@ -27,23 +28,29 @@ use std::alloc::Global;
 const USAGE: u8 = 2;
 
 /// What is due for a command, by the bytes of its files in the order of its words, or for a sample by its number.
-fn due(alloc: Global, command: Command, files: &[Vec<u8>]) -> Result<Outcome, NoMemory>
+fn due<O: Sink>(
+    alloc: Global,
+    command: Command,
+    files: &[Vec<u8>],
+    out: &mut O,
+) -> Result<Outcome<O>, NoMemory>
     requires numbered { IsNumbered command }
     requires sized { AreSized (quantities_of command) (map (λ file. file.items) files.now) }
-    ensures { IfOk result (λ outcome. IsDue command (map (λ file. file.items) files.now) (due_of outcome)) }
+    ensures due { IfOk result (λ outcome. IsDue command (map (λ file. file.items) files.now) (due_of outcome)) }
+    ensures puts { Starts O.taken O.faults O.refused out.old out.new result }
 {
     match (command, files) {
-        (Command::Weave, [policy, source]) => weave_due(alloc, policy, source),
-        (Command::Graph, [source]) => listing_due(alloc, source),
+        (Command::Weave, [policy, source]) => weave_due(alloc, policy, source, out),
+        (Command::Graph, [source]) => listing_due(alloc, source, out),
         (Command::Refute, [policy, source, strategy]) => refute_due(
-            alloc, policy, source, strategy,
+            alloc, policy, source, strategy, out,
         ),
-        (Command::Check, [policy, text]) => check_due(alloc, policy, text),
+        (Command::Check, [policy, text]) => check_due(alloc, policy, text, out),
         (Command::Play, [policy, source, strategy, tape]) => play_due(
-            alloc, policy, source, strategy, tape,
+            alloc, policy, source, strategy, tape, out,
         ),
-        (Command::Run, [policy, text, tape]) => run_due(alloc, policy, text, tape),
-        (Command::Sample(number), []) => sample_due(alloc, number),
+        (Command::Run, [policy, text, tape]) => run_due(alloc, policy, text, tape, out),
+        (Command::Sample(number), []) => sample_due(alloc, number, out),
         _ => unreachable!(),
     }
 }
@@ -67,7 +74,7 @@ fn perform<'w, F: Shelf, O: Sink>(
         Ok(files) => files,
         Err(ending) => return ending,
     };
-    match due(alloc, command, &files) {
+    match due(alloc, command, &files, out) {
         Ok(outcome) => deliver(outcome, out),
         Err(NoMemory) => Ending::Memory,
     }
@@ -92,16 +99,20 @@ pub fn capweave<F: Shelf, O: Sink, N: Sink>(
     ensures same { F.files shelf.new ≡ F.files shelf.old }
 
     // Words that don't fit: nothing is appended to the output, and the note gets a front of the line on usage, or there was no memory to read them.
+    // Where neither of the note's counts rose it got the whole line, here and below.
     ensures usage { requested words.now ≡ None → (O.taken out.new ≡ O.taken out.old)
-        × (((result ≡ 2) × IsNoted (N.taken note.old) (N.taken note.new) (Some (usage_line (first_command words.now))))
-        ⊎ ((result ≡ 8) × IsNoted (N.taken note.old) (N.taken note.new) (line_of Ending.Memory))) }
+        × (((result ≡ 2) × IsNoted (N.taken note.old) (N.taken note.new) (Some (usage_line (first_command words.now)))
+        × IsNotedWhole N.taken N.faults N.refused note.old note.new (Some (usage_line (first_command words.now))))
+        ⊎ ((result ≡ 8) × IsNoted (N.taken note.old) (N.taken note.new) (line_of Ending.Memory)
+        × IsNotedWhole N.taken N.faults N.refused note.old note.new (line_of Ending.Memory))) }
     ensures misused { result ≡ 2 → requested words.now ≡ None }
 
     // The words of a command: its ending, with its status, what it leaves on the output and its line on the note.
     ensures ends { IfSome (requested words.now) (λ wish. (ending : Ending) × (result ≡ status_of ending)
         × Ends (IsDue wish.0) (F.files shelf.old) (F.faults shelf.old) (F.faults shelf.new)
         (O.taken out.old) (O.taken out.new) (O.faults out.old) (O.faults out.new) (quantities_of wish.0) wish.1 ending
-        × IsNoted (N.taken note.old) (N.taken note.new) (line_of ending)) }
+        × IsNoted (N.taken note.old) (N.taken note.new) (line_of ending)
+        × IsNotedWhole N.taken N.faults N.refused note.old note.new (line_of ending)) }
 {
     // What the note answers changes no status.
     let request = match requested(alloc, words) {

@@ -7,12 +7,14 @@ ghost use Rattle.cw_syntax.specs.Trees.{file_of};
 ghost use Rattle.cw_callgraph.specs.Fitting.{Fits};
 ghost use Rattle.cw_source.specs.Read.{ReadsAs};
 ghost use Rattle.cw_commands.specs.Outcomes.{due_of};
+ghost use Rattle.cw_commands.specs.Starts.{IsRefused};
 ghost use Rattle.cw_cli.specs.Fitting.{fit_line, name_at, splitting_line, IsFitRefusal};
 
 use crate::refusals::worded;
-use cw_callgraph::{FitFault, effects, fits};
+use cw_callgraph::{FitFault, fit_fault};
 use cw_commands::{Cause, Outcome};
 use cw_core::{NoMemory, put_dec};
+use cw_io::Sink;
 use cw_rights::Policy;
 use cw_source::place::{column_of, line_of};
 use cw_syntax::checked::Checked;
@@ -73,21 +75,21 @@ fn fit_line(
 }
 
 /// The refusal of a policy that doesn't fit a program, or None where it does.
-pub(crate) fn fit_refusal(
+pub(crate) fn fit_refusal<O: Sink>(
     alloc: Global,
     policy: &Policy,
     checked: &Checked,
-) -> Result<Option<Outcome>, NoMemory>
+) -> Result<Option<Outcome<O>>, NoMemory>
     requires valid { IsValid (policy_of policy.now) }
     requires reads { ReadsAs checked.now.source.now (file_of checked.now.program) }
     ensures fits { IfOk result (λ found. IfNone found (Fits checked.now.source.now (file_of checked.now.program) (policy_of policy.now))) }
     ensures first { IfOk result (λ found. IfSome found (λ outcome.
         IsFitRefusal checked.now.source.now (file_of checked.now.program) (policy_of policy.now) (due_of outcome))) }
+    ensures refused { IfOk result (λ found. IfSome found IsRefused) }
 {
-    let table = effects(alloc, checked, policy)?;
-    match fits(policy, checked, &table) {
-        Ok(()) => Ok(None),
-        Err(fault) => {
+    match fit_fault(alloc, policy, checked)? {
+        None => Ok(None),
+        Some(fault) => {
             let line = fit_line(alloc, policy, checked.source, fault)?;
             Ok(Some(Outcome::Refused(Cause::Policy, line)))
         }

@@ -8,6 +8,7 @@ pub mod laws;
 mod listing;
 mod numbers;
 mod playing;
+mod putting;
 mod reading;
 mod refusals;
 mod refuting;

@@ -10,14 +10,18 @@ ghost use Rattle.cw_listing.specs.Held.{lists};
 ghost use Rattle.cw_listing.specs.Labels.{label_names};
 ghost use Rattle.cw_points.specs.Graphs.{IsGraph};
 ghost use Rattle.cw_source.specs.Read.{ReadsAs};
-ghost use Rattle.cw_commands.specs.Outcomes.{due_of};
+ghost use Rattle.cw_commands.specs.declared.outcome.Reply.TheVariants.{Yes};
+ghost use Rattle.cw_commands.specs.Outcomes.{due_of, Told};
+ghost use Rattle.cw_commands.specs.Starts.{Starts};
 ghost use Rattle.cw_cli.specs.Listings.{call_lists, own_names, IsListed, IsListingDue};
 
 use crate::refusals::{over, source_refusal};
-use cw_callgraph::{Effect, effects};
+use cw_callgraph::call_table;
 use cw_commands::{Outcome, Reply};
 use cw_core::{NoMemory, Quantity};
-use cw_listing::{Names, function_names, graph_text, label_names};
+use cw_io::Sink;
+use cw_listing::{Names, function_names, label_names, put_graph};
+use cw_pieces::Writer;
 use cw_points::build::build;
 use cw_points::{Graph, PointsFault};
 use cw_rights::Policy;
@@ -47,37 +51,28 @@ fn with_labels(alloc: Global, labels: Vec<Vec<u8>>) -> Policy
     }
 }
 
-/// What each of these functions calls.
-fn called_by(alloc: Global, effects: &[Effect]) -> Result<Vec<Vec<u16>>, NoMemory>
-    ensures { IfOk result (λ calls. lists calls.items ≡ map (λ e. e.calls.items) effects.now) }
-{
-    let mut calls = Vec::new(alloc);
-    for effect in effects {
-        let row = effect.calls.to_vec(alloc)?;
-        calls.push(row)?;
-    }
-    Ok(calls)
-}
-
 /// The functions that each function of a program calls.
 fn call_lists(alloc: Global, checked: &Checked, policy: &Policy) -> Result<Vec<Vec<u16>>, NoMemory>
     requires few { length checked.now.program.functions.items ≤ 65535 }
     ensures { IfOk result (λ calls. lists calls.items ≡ call_lists (plan_in checked.now (policy_of policy.now)) (length checked.now.program.functions.items)) }
 {
-    let table = effects(alloc, checked, policy)?;
-    called_by(alloc, &table.of)
+    let rows = call_table(alloc, checked, policy)?;
+    Ok(rows)
 }
 
 /// The lines of a program's graph, which is built under a policy that has its labels alone.
-fn listed(
+fn listed<O: Sink>(
     alloc: Global,
     checked: &Checked,
     policy: &Policy,
     graph: &Graph,
-) -> Result<Vec<u8>, NoMemory>
+    out: &mut O,
+) -> Result<Outcome<O>, NoMemory>
     requires few { length checked.now.program.functions.items ≤ 65535 }
-    ensures { IfOk result (λ text. text.items ≡ graph_text (function_names checked.now.source.now (file_of checked.now.program)) (lists policy.now.labels.items) []
-        (call_lists (plan_in checked.now (policy_of policy.now)) (length checked.now.program.functions.items)) graph.now) }
+    ensures due { IfOk result (λ outcome. due_of outcome
+        ≡ Told Yes (graph_text (function_names checked.now.source.now (file_of checked.now.program)) (lists policy.now.labels.items) []
+        (call_lists (plan_in checked.now (policy_of policy.now)) (length checked.now.program.functions.items)) graph.now)) }
+    ensures puts { Starts O.taken O.faults O.refused out.old out.new result }
 {
     let functions = function_names(alloc, checked.source, &checked.program)?;
     let calls = call_lists(alloc, checked, policy)?;
@@ -86,42 +81,60 @@ fn listed(
         labels: &policy.labels,
         descriptors: &[],
     };
-    graph_text(alloc, names, &calls, graph)
+    let mut writer = Writer::begin(out);
+    put_graph(names, &calls, graph, &mut writer, out);
+    Ok(Outcome::Told(Reply::Yes, writer))
 }
 
 /// What is due for a program, under a policy that has its labels and nothing else.
-fn drawn(alloc: Global, checked: &Checked, policy: &Policy) -> Result<Outcome, NoMemory>
+fn drawn<O: Sink>(
+    alloc: Global,
+    checked: &Checked,
+    policy: &Policy,
+    out: &mut O,
+) -> Result<Outcome<O>, NoMemory>
     requires reads { ReadsAs checked.now.source.now (file_of checked.now.program) }
     requires names { names_of (policy_of policy.now) ≡ own_names checked.now.source.now (file_of checked.now.program) }
     requires labels { length (policy_of policy.now).labels ≤ 65535 }
-    ensures { IfOk result (λ outcome. IsListed checked.now.source.now (file_of checked.now.program) (due_of outcome)) }
+    ensures due { IfOk result (λ outcome. IsListed checked.now.source.now (file_of checked.now.program) (due_of outcome)) }
+    ensures puts { Starts O.taken O.faults O.refused out.old out.new result }
 {
     match build(alloc, checked, policy) {
-        Ok(graph) => Ok(Outcome::Told(Reply::Yes, listed(alloc, checked, policy, &graph)?)),
+        Ok(graph) => listed(alloc, checked, policy, &graph, out),
         Err(PointsFault::TooManyPoints) => over(alloc, Quantity::Points),
         Err(PointsFault::NoMemory) => Err(NoMemory),
     }
 }
 
 /// What is due for a program whose graph is asked for.
-fn of_program(alloc: Global, checked: &Checked) -> Result<Outcome, NoMemory>
+fn of_program<O: Sink>(
+    alloc: Global,
+    checked: &Checked,
+    out: &mut O,
+) -> Result<Outcome<O>, NoMemory>
     requires reads { ReadsAs checked.now.source.now (file_of checked.now.program) }
-    ensures { IfOk result (λ outcome. IsListed checked.now.source.now (file_of checked.now.program) (due_of outcome)) }
+    ensures due { IfOk result (λ outcome. IsListed checked.now.source.now (file_of checked.now.program) (due_of outcome)) }
+    ensures puts { Starts O.taken O.faults O.refused out.old out.new result }
 {
     let labels = label_names(alloc, checked.source, &checked.program)?;
     if labels.len() > LABELS {
         return over(alloc, Quantity::Points);
     }
-    drawn(alloc, checked, &with_labels(alloc, labels))
+    drawn(alloc, checked, &with_labels(alloc, labels), out)
 }
 
 /// What is due for the bytes of a source whose graph is asked for.
-pub fn listing_due(alloc: Global, source: &[u8]) -> Result<Outcome, NoMemory>
+pub fn listing_due<O: Sink>(
+    alloc: Global,
+    source: &[u8],
+    out: &mut O,
+) -> Result<Outcome<O>, NoMemory>
     requires short { length source.now ≤ 262144 }
     ensures due { IfOk result (λ outcome. IsListingDue source.now (due_of outcome)) }
+    ensures puts { Starts O.taken O.faults O.refused out.old out.new result }
 {
     match read_source(alloc, source) {
-        Ok(checked) => of_program(alloc, &checked),
+        Ok(checked) => of_program(alloc, &checked, out),
         Err(fault) => source_refusal(alloc, source, &fault),
     }
 }

@@ -10,10 +10,12 @@ ghost use Rattle.cw_points.specs.Graphs.{IsGraph};
 ghost use Rattle.cw_source.specs.Read.{ReadsAs};
 ghost use Rattle.cw_game.specs.Conditions.{IsGoodStrategy};
 ghost use Rattle.cw_states.specs.States.{AreLists, lists_of};
+ghost use Rattle.cw_pieces.specs.Written.{Follows};
 ghost use Rattle.cw_product.specs.Product.{game_of};
 ghost use Rattle.cw_product.specs.Uses.{uses_of};
 ghost use Rattle.cw_tapes.specs.Tapes.{IsIn};
 ghost use Rattle.cw_commands.specs.Outcomes.{due_of};
+ghost use Rattle.cw_commands.specs.Starts.{Begins, Starts};
 ghost use Rattle.cw_cli.specs.Refuting.{WhereFits, WithGame, WithGraph};
 ghost use Rattle.cw_cli.specs.Tapes.{WithTape};
 ghost use Rattle.cw_cli.specs.Playing.{play_told, rule_name, AfterPair, IsPlayDue, IsPlayTold, IsShown};
@@ -27,6 +29,8 @@ use cw_certs::{EnvCert, Move};
 use cw_commands::{Outcome, Reply};
 use cw_core::{NoMemory, Quantity};
 use cw_echeck::check_env;
+use cw_io::Sink;
+use cw_pieces::Writer;
 use cw_play::{PlayEnd, play_env};
 use cw_points::build::build;
 use cw_points::{Graph, PointsFault};
@@ -48,32 +52,35 @@ fn rule_name(policy: &Policy, number: u8) -> &[u8]
 }
 
 /// The trace of a play, and behind it how the play ends.
-fn play_told(policy: &Policy, end: PlayEnd, trace: Vec<u8>) -> Result<Outcome, NoMemory>
-    ensures { IfOk result (λ outcome. due_of outcome ≡ play_told (policy_of policy.now) end trace.items) }
+fn play_told<O: Sink>(policy: &Policy, end: PlayEnd, trace: Writer<O>, out: &mut O) -> Outcome<O>
+    requires follows { Follows O.taken O.faults O.refused trace out.old }
+    ensures due { due_of result ≡ play_told (policy_of policy.now) end trace.text }
+    ensures puts { Begins O.taken O.faults O.refused trace.begun out.new result }
 {
-    let mut text = trace;
+    let mut writer = trace;
     match end {
         PlayEnd::Violation(rule) => {
-            text.extend_from_slice(b"violation ")?;
-            text.extend_from_slice(rule_name(policy, rule))?;
-            text.push(b'\n')?;
-            Ok(Outcome::Told(Reply::Yes, text))
+            writer.put(b"violation ", out);
+            writer.put(rule_name(policy, rule), out);
+            writer.put(b"\n", out);
+            Outcome::Told(Reply::Yes, writer)
         }
         PlayEnd::TapeSpent => {
-            text.extend_from_slice(b"tape spent\n")?;
-            Ok(Outcome::Told(Reply::No, text))
+            writer.put(b"tape spent\n", out);
+            Outcome::Told(Reply::No, writer)
         }
     }
 }
 
 /// The play of a good strategy by a tape.
-fn shown(
+fn shown<O: Sink>(
     alloc: Global,
     checked: &Checked,
     game: &Game,
     strategy: &EnvCert,
     tape: &[Move],
-) -> Result<Outcome, NoMemory>
+    out: &mut O,
+) -> Result<Outcome<O>, NoMemory>
     requires valid { IsValid (policy_of game.now.states.policy) }
     requires lists { AreLists (uses_of (policy_of game.now.states.policy) game.now.graph.nodes.items) (lists_of game.now.states) }
     requires reads { ReadsAs checked.now.source.now (file_of checked.now.program) }
@@ -81,162 +88,174 @@ fn shown(
     requires good { IsGoodStrategy (game_of game.now) (strategy_of strategy.now) }
     requires few { length strategy.now.rows.items < 2 ^ 32 }
     requires tape { All (IsIn true) tape.now }
-    ensures { IfOk result (λ outcome. IsPlayTold checked.now.source.now (policy_of game.now.states.policy) (file_of checked.now.program)
+    ensures due { IfOk result (λ outcome. IsPlayTold checked.now.source.now (policy_of game.now.states.policy) (file_of checked.now.program)
         (game_of game.now) (strategy_of strategy.now) tape.now (due_of outcome)) }
+    ensures puts { Starts O.taken O.faults O.refused out.old out.new result }
 {
     let names = trace_names(alloc, checked, game.graph())?;
-    let mut trace = Vec::new(alloc);
-    let end = play_env(alloc, &names, game, strategy, tape, &mut trace)?;
-    play_told(game.policy(), end, trace)
+    let mut writer = Writer::begin(out);
+    let end = play_env(alloc, &names, game, strategy, tape, &mut writer, out)?;
+    Ok(play_told(game.policy(), end, writer, out))
 }
 
 /// What is told of a strategy: its play by a tape, or the first row that fails a condition.
-fn judged(
+fn judged<O: Sink>(
     alloc: Global,
     checked: &Checked,
     game: &Game,
     strategy: &EnvCert,
     tape: &[Move],
-) -> Result<Outcome, NoMemory>
+    out: &mut O,
+) -> Result<Outcome<O>, NoMemory>
     requires valid { IsValid (policy_of game.now.states.policy) }
     requires lists { AreLists (uses_of (policy_of game.now.states.policy) game.now.graph.nodes.items) (lists_of game.now.states) }
     requires reads { ReadsAs checked.now.source.now (file_of checked.now.program) }
     requires graph { IsGraph (names_of (policy_of game.now.states.policy)) checked.now.source.now (file_of checked.now.program) game.now.graph }
     requires few { length strategy.now.rows.items < 2 ^ 32 }
     requires tape { All (IsIn true) tape.now }
-    ensures { IfOk result (λ outcome. IsShown checked.now.source.now (policy_of game.now.states.policy) (file_of checked.now.program)
+    ensures due { IfOk result (λ outcome. IsShown checked.now.source.now (policy_of game.now.states.policy) (file_of checked.now.program)
         (strategy_of strategy.now) tape.now (game_of game.now) (due_of outcome)) }
+    ensures puts { Starts O.taken O.faults O.refused out.old out.new result }
 {
     match check_env(game, strategy) {
-        Ok(()) => shown(alloc, checked, game, strategy, tape),
-        Err(bad) => {
-            let line = told(alloc, &bad)?;
-            Ok(Outcome::Told(Reply::No, line))
-        }
+        Ok(()) => shown(alloc, checked, game, strategy, tape, out),
+        Err(bad) => Ok(told(&bad, out)),
     }
 }
 
 /// That the game is over one of its numbers, or what is told of the strategy.
-fn played(
+fn played<O: Sink>(
     alloc: Global,
     policy: &Policy,
     checked: &Checked,
     graph: &Graph,
     strategy: &EnvCert,
     tape: &[Move],
-) -> Result<Outcome, NoMemory>
+    out: &mut O,
+) -> Result<Outcome<O>, NoMemory>
     requires valid { IsValid (policy_of policy.now) }
     requires reads { ReadsAs checked.now.source.now (file_of checked.now.program) }
     requires graph { IsGraph (names_of (policy_of policy.now)) checked.now.source.now (file_of checked.now.program) graph.now }
     requires points { length graph.now.nodes.items ≤ 8192 }
     requires few { length strategy.now.rows.items < 2 ^ 32 }
     requires tape { All (IsIn true) tape.now }
-    ensures { IfOk result (λ outcome. let source = checked.now.source.now in let whole = policy_of policy.now in let file = file_of checked.now.program in
+    ensures due { IfOk result (λ outcome. let source = checked.now.source.now in let whole = policy_of policy.now in let file = file_of checked.now.program in
         WithGame (IsShown source whole file (strategy_of strategy.now) tape.now) source whole file graph.now (due_of outcome)) }
+    ensures puts { Starts O.taken O.faults O.refused out.old out.new result }
 {
     match Game::make(alloc, graph, policy) {
-        Ok(game) => judged(alloc, checked, &game, strategy, tape),
+        Ok(game) => judged(alloc, checked, &game, strategy, tape, out),
         Err(fault) => game_refusal(alloc, &fault),
     }
 }
 
 /// That the program has too many points, or what comes behind that.
-fn drawn(
+fn drawn<O: Sink>(
     alloc: Global,
     policy: &Policy,
     checked: &Checked,
     strategy: &EnvCert,
     tape: &[Move],
-) -> Result<Outcome, NoMemory>
+    out: &mut O,
+) -> Result<Outcome<O>, NoMemory>
     requires valid { IsValid (policy_of policy.now) }
     requires reads { ReadsAs checked.now.source.now (file_of checked.now.program) }
     requires few { length strategy.now.rows.items < 2 ^ 32 }
     requires tape { All (IsIn true) tape.now }
-    ensures { IfOk result (λ outcome. let source = checked.now.source.now in let whole = policy_of policy.now in let file = file_of checked.now.program in
+    ensures due { IfOk result (λ outcome. let source = checked.now.source.now in let whole = policy_of policy.now in let file = file_of checked.now.program in
         WithGraph (IsShown source whole file (strategy_of strategy.now) tape.now) source whole file (due_of outcome)) }
+    ensures puts { Starts O.taken O.faults O.refused out.old out.new result }
 {
     match build(alloc, checked, policy) {
-        Ok(graph) => played(alloc, policy, checked, &graph, strategy, tape),
+        Ok(graph) => played(alloc, policy, checked, &graph, strategy, tape, out),
         Err(PointsFault::TooManyPoints) => over(alloc, Quantity::Points),
         Err(PointsFault::NoMemory) => Err(NoMemory),
     }
 }
 
 /// That the policy doesn't fit the program, or what comes behind that.
-fn fitted(
+fn fitted<O: Sink>(
     alloc: Global,
     policy: &Policy,
     checked: &Checked,
     strategy: &EnvCert,
     tape: &[Move],
-) -> Result<Outcome, NoMemory>
+    out: &mut O,
+) -> Result<Outcome<O>, NoMemory>
     requires valid { IsValid (policy_of policy.now) }
     requires reads { ReadsAs checked.now.source.now (file_of checked.now.program) }
     requires few { length strategy.now.rows.items < 2 ^ 32 }
     requires tape { All (IsIn true) tape.now }
-    ensures { IfOk result (λ outcome. let source = checked.now.source.now in let whole = policy_of policy.now in let file = file_of checked.now.program in
+    ensures due { IfOk result (λ outcome. let source = checked.now.source.now in let whole = policy_of policy.now in let file = file_of checked.now.program in
         WhereFits (IsShown source whole file (strategy_of strategy.now) tape.now) source whole file (due_of outcome)) }
+    ensures puts { Starts O.taken O.faults O.refused out.old out.new result }
 {
     match fit_refusal(alloc, policy, checked)? {
         Some(outcome) => Ok(outcome),
-        None => drawn(alloc, policy, checked, strategy, tape),
+        None => drawn(alloc, policy, checked, strategy, tape, out),
     }
 }
 
 /// That the tape isn't one of the weaver's moves, or what comes behind that.
-fn taped(
+fn taped<O: Sink>(
     alloc: Global,
     policy: &Policy,
     checked: &Checked,
     strategy: &EnvCert,
     tape: &[u8],
-) -> Result<Outcome, NoMemory>
+    out: &mut O,
+) -> Result<Outcome<O>, NoMemory>
     requires valid { IsValid (policy_of policy.now) }
     requires reads { ReadsAs checked.now.source.now (file_of checked.now.program) }
     requires few { length strategy.now.rows.items < 2 ^ 32 }
     requires short { length tape.now ≤ 33554432 }
-    ensures { IfOk result (λ outcome. let source = checked.now.source.now in let whole = policy_of policy.now in let file = file_of checked.now.program in
+    ensures due { IfOk result (λ outcome. let source = checked.now.source.now in let whole = policy_of policy.now in let file = file_of checked.now.program in
         WithTape (λ moves. WhereFits (IsShown source whole file (strategy_of strategy.now) moves) source whole file) true tape.now (due_of outcome)) }
+    ensures puts { Starts O.taken O.faults O.refused out.old out.new result }
 {
     match moves_of(alloc, tape, true) {
-        Ok(moves) => fitted(alloc, policy, checked, strategy, &moves),
+        Ok(moves) => fitted(alloc, policy, checked, strategy, &moves, out),
         Err(answer) => answer,
     }
 }
 
 /// That the strategy isn't spelled in the policy's format, or what comes behind that.
-fn spelled(
+fn spelled<O: Sink>(
     alloc: Global,
     policy: &Policy,
     checked: &Checked,
     text: &[u8],
     tape: &[u8],
-) -> Result<Outcome, NoMemory>
+    out: &mut O,
+) -> Result<Outcome<O>, NoMemory>
     requires valid { IsValid (policy_of policy.now) }
     requires reads { ReadsAs checked.now.source.now (file_of checked.now.program) }
     requires short { length tape.now ≤ 33554432 }
-    ensures { IfOk result (λ outcome. AfterPair checked.now.source.now text.now tape.now (policy_of policy.now) (file_of checked.now.program) (due_of outcome)) }
+    ensures due { IfOk result (λ outcome. AfterPair checked.now.source.now text.now tape.now (policy_of policy.now) (file_of checked.now.program) (due_of outcome)) }
+    ensures puts { Starts O.taken O.faults O.refused out.old out.new result }
 {
     match read_env(alloc, text, policy.format) {
-        Ok(strategy) => taped(alloc, policy, checked, &strategy, tape),
+        Ok(strategy) => taped(alloc, policy, checked, &strategy, tape, out),
         Err(fault) => strategy_refusal(alloc, &fault),
     }
 }
 
 /// What is due for `play`, by the bytes of a policy, of a source, of a strategy and of a tape.
-pub fn play_due(
+pub fn play_due<O: Sink>(
     alloc: Global,
     policy: &[u8],
     source: &[u8],
     strategy: &[u8],
     tape: &[u8],
-) -> Result<Outcome, NoMemory>
+    out: &mut O,
+) -> Result<Outcome<O>, NoMemory>
     requires short { length source.now ≤ 262144 }
     requires short_tape { length tape.now ≤ 33554432 }
     ensures due { IfOk result (λ outcome. IsPlayDue policy.now source.now strategy.now tape.now (due_of outcome)) }
+    ensures puts { Starts O.taken O.faults O.refused out.old out.new result }
 {
     match read_both(alloc, policy, source) {
-        Ok(pair) => spelled(alloc, &pair.policy, &pair.checked, strategy, tape),
+        Ok(pair) => spelled(alloc, &pair.policy, &pair.checked, strategy, tape, out),
         Err(answer) => answer,
     }
 }

@@ -5,10 +5,12 @@ ghost use Rattle.cw_rights.specs.Policies.{policy_of};
 ghost use Rattle.cw_text.specs.LimitsText.{descriptor_name as name_of};
 ghost use Rattle.cw_commands.specs.declared.outcome.Cause.TheVariants.{Source};
 ghost use Rattle.cw_commands.specs.Outcomes.{due_of, Refused};
+ghost use Rattle.cw_commands.specs.Starts.{IsRefused};
 ghost use Rattle.cw_cli.specs.Refusals.{descriptor_line, over, policy_refusal, source_refusal};
 
 use cw_commands::{Cause, Outcome};
 use cw_core::{NoMemory, Quantity};
+use cw_io::Sink;
 use cw_policies::{PolicyFault, put_fault};
 use cw_regex::RegexFault;
 use cw_rights::Policy;
@@ -18,7 +20,7 @@ use cw_text::descriptor_name;
 use std::alloc::Global;
 
 /// What is due, or want of memory.
-pub(crate) type Answer = Result<Outcome, NoMemory>;
+pub(crate) type Answer<O> = Result<Outcome<O>, NoMemory>;
 
 /// Some words, and others behind them.
 pub(crate) fn worded(alloc: Global, words: &[u8], rest: &[u8]) -> Result<Vec<u8>, NoMemory>
@@ -31,16 +33,21 @@ pub(crate) fn worded(alloc: Global, words: &[u8], rest: &[u8]) -> Result<Vec<u8>
 }
 
 /// That a quantity is over its limit.
-pub(crate) fn over(alloc: Global, quantity: Quantity) -> Result<Outcome, NoMemory>
-    ensures { IfOk result (λ outcome. due_of outcome ≡ over quantity) }
+pub(crate) fn over<O: Sink>(alloc: Global, quantity: Quantity) -> Result<Outcome<O>, NoMemory>
+    ensures due { IfOk result (λ outcome. due_of outcome ≡ over quantity) }
+    ensures refused { IfOk result IsRefused }
 {
     let line = worded(alloc, b"limit: ", quantity.name().as_bytes())?;
     Ok(Outcome::Refused(Cause::Limit, line))
 }
 
 /// The refusal by a policy's fault.
-pub(crate) fn policy_refusal(alloc: Global, fault: &PolicyFault) -> Result<Outcome, NoMemory>
-    ensures { IfOk result (λ outcome. (fault.now ≢ PolicyFault.NoMemory) × (due_of outcome ≡ policy_refusal fault.now)) }
+pub(crate) fn policy_refusal<O: Sink>(
+    alloc: Global,
+    fault: &PolicyFault,
+) -> Result<Outcome<O>, NoMemory>
+    ensures due { IfOk result (λ outcome. (fault.now ≢ PolicyFault.NoMemory) × (due_of outcome ≡ policy_refusal fault.now)) }
+    ensures refused { IfOk result IsRefused }
 {
     let mut line = Vec::new(alloc);
     put_fault(fault, &mut line)?;
@@ -58,12 +65,13 @@ pub(crate) fn policy_refusal(alloc: Global, fault: &PolicyFault) -> Result<Outco
 }
 
 /// The refusal by a source's fault.
-pub(crate) fn source_refusal(
+pub(crate) fn source_refusal<O: Sink>(
     alloc: Global,
     source: &[u8],
     fault: &SourceFault,
-) -> Result<Outcome, NoMemory>
-    ensures { IfOk result (λ outcome. (fault.now ≢ SourceFault.NoMemory) × (due_of outcome ≡ source_refusal source.now fault.now)) }
+) -> Result<Outcome<O>, NoMemory>
+    ensures due { IfOk result (λ outcome. (fault.now ≢ SourceFault.NoMemory) × (due_of outcome ≡ source_refusal source.now fault.now)) }
+    ensures refused { IfOk result IsRefused }
 {
     let line = fault_line(alloc, source, fault)?;
     match fault {
@@ -77,14 +85,15 @@ pub(crate) fn source_refusal(
 }
 
 /// The refusal by the first rule that a policy's descriptors break in a source.
-pub(crate) fn descriptor_refusal(
+pub(crate) fn descriptor_refusal<O: Sink>(
     alloc: Global,
     source: &[u8],
     policy: &Policy,
     fault: &DescriptorFault,
-) -> Result<Outcome, NoMemory>
-    ensures { IfOk result (λ outcome. (fault.now ≢ DescriptorFault.NoMemory)
+) -> Result<Outcome<O>, NoMemory>
+    ensures due { IfOk result (λ outcome. (fault.now ≢ DescriptorFault.NoMemory)
         × (due_of outcome ≡ Refused Source (descriptor_line source.now (policy_of policy.now) fault.now))) }
+    ensures refused { IfOk result IsRefused }
 {
     match fault {
         DescriptorFault::NoVariable(descriptor) => {

@@ -12,17 +12,22 @@ ghost use Rattle.cw_source.specs.Read.{ReadsAs};
 ghost use Rattle.cw_strategies.specs.StrategyText.{Spells};
 ghost use Rattle.cw_echeck.specs.Checks.{fault_of};
 ghost use Rattle.cw_product.specs.Product.{game_of};
-ghost use Rattle.cw_commands.specs.Outcomes.{due_of};
+ghost use Rattle.cw_commands.specs.declared.outcome.Reply.TheVariants.{No};
+ghost use Rattle.cw_commands.specs.Outcomes.{due_of, Told};
+ghost use Rattle.cw_commands.specs.Starts.{Begins, IsRefused, Starts};
 ghost use Rattle.cw_cli.specs.Refuting.{game_refusal, strategy_refusal, told, yes, AfterFitting, AfterGraph, AfterPair, AfterStrategy, IsJudgedBy, IsRefuteDue};
 
 use crate::fitting::fit_refusal;
+use crate::putting;
 use crate::reading::read_both;
 use crate::refusals::{over, worded};
 use cw_certs::EnvCert;
 use cw_commands::{Cause, Outcome, Reply};
 use cw_core::{NoMemory, Quantity, put_dec};
 use cw_echeck::{BadEnvRow, check_env};
+use cw_io::Sink;
 use cw_lines::TextFault;
+use cw_pieces::Writer;
 use cw_points::build::build;
 use cw_points::{Graph, PointsFault};
 use cw_product::{Game, GameFault};
@@ -41,8 +46,12 @@ pub(crate) fn numbered(alloc: Global, words: &[u8], number: u32) -> Result<Vec<u
 }
 
 /// The refusal by the first fault of a strategy's text.
-pub(crate) fn strategy_refusal(alloc: Global, fault: &TextFault) -> Result<Outcome, NoMemory>
-    ensures { IfOk result (λ outcome. (fault.now ≢ TextFault.NoMemory) × (due_of outcome ≡ strategy_refusal fault.now)) }
+pub(crate) fn strategy_refusal<O: Sink>(
+    alloc: Global,
+    fault: &TextFault,
+) -> Result<Outcome<O>, NoMemory>
+    ensures due { IfOk result (λ outcome. (fault.now ≢ TextFault.NoMemory) × (due_of outcome ≡ strategy_refusal fault.now)) }
+    ensures refused { IfOk result IsRefused }
 {
     match fault {
         TextFault::Line(number) => {
@@ -59,8 +68,12 @@ pub(crate) fn strategy_refusal(alloc: Global, fault: &TextFault) -> Result<Outco
 }
 
 /// That the game is over one of its numbers.
-pub(crate) fn game_refusal(alloc: Global, fault: &GameFault) -> Result<Outcome, NoMemory>
-    ensures { IfOk result (λ outcome. (fault.now ≢ GameFault.NoMemory) × (due_of outcome ≡ game_refusal fault.now)) }
+pub(crate) fn game_refusal<O: Sink>(
+    alloc: Global,
+    fault: &GameFault,
+) -> Result<Outcome<O>, NoMemory>
+    ensures due { IfOk result (λ outcome. (fault.now ≢ GameFault.NoMemory) × (due_of outcome ≡ game_refusal fault.now)) }
+    ensures refused { IfOk result IsRefused }
 {
     match fault {
         GameFault::TooManyCaps => over(alloc, Quantity::RightsStates),
@@ -72,123 +85,131 @@ pub(crate) fn game_refusal(alloc: Global, fault: &GameFault) -> Result<Outcome, 
 }
 
 /// The line that tells which row fails which condition.
-pub(crate) fn told(alloc: Global, bad: &BadEnvRow) -> Result<Vec<u8>, NoMemory>
-    ensures { IfOk result (λ line. line.items ≡ told (fault_of bad.now)) }
+pub(crate) fn told<O: Sink>(bad: &BadEnvRow, out: &mut O) -> Outcome<O>
+    ensures due { due_of result ≡ Told No (told (fault_of bad.now)) }
+    ensures puts { Begins O.taken O.faults O.refused out.old out.new result }
 {
-    let mut line = numbered(alloc, b"row ", bad.row)?;
-    line.extend_from_slice(b" condition ")?;
-    put_dec(u64::from(bad.condition), &mut line)?;
-    line.push(b'\n')?;
-    Ok(line)
+    let mut writer = Writer::begin(out);
+    writer.put(b"row ", out);
+    writer.put_number(u64::from(bad.row), out);
+    writer.put(b" condition ", out);
+    writer.put_number(u64::from(bad.condition), out);
+    writer.put(b"\n", out);
+    Outcome::Told(Reply::No, writer)
 }
 
 /// The judgement of a strategy.
-fn judged(alloc: Global, game: &Game, strategy: &EnvCert) -> Result<Outcome, NoMemory>
+fn judged<O: Sink>(game: &Game, strategy: &EnvCert, out: &mut O) -> Outcome<O>
     requires few { length strategy.now.rows.items < 2 ^ 32 }
-    ensures { IfOk result (λ outcome. IsJudgedBy (game_of game.now) (strategy_of strategy.now) (due_of outcome)) }
+    ensures due { IsJudgedBy (game_of game.now) (strategy_of strategy.now) (due_of result) }
+    ensures puts { Begins O.taken O.faults O.refused out.old out.new result }
 {
     match check_env(game, strategy) {
-        Ok(()) => {
-            let line = worded(alloc, b"yes\n", b"")?;
-            Ok(Outcome::Told(Reply::Yes, line))
-        }
-        Err(bad) => {
-            let line = told(alloc, &bad)?;
-            Ok(Outcome::Told(Reply::No, line))
-        }
+        Ok(()) => putting::told(Reply::Yes, b"yes\n", out),
+        Err(bad) => told(&bad, out),
     }
 }
 
 /// That the game is over one of its numbers, or the judgement.
-fn played(
+fn played<O: Sink>(
     alloc: Global,
     policy: &Policy,
     checked: &Checked,
     graph: &Graph,
     strategy: &EnvCert,
-) -> Result<Outcome, NoMemory>
+    out: &mut O,
+) -> Result<Outcome<O>, NoMemory>
     requires valid { IsValid (policy_of policy.now) }
     requires reads { ReadsAs checked.now.source.now (file_of checked.now.program) }
     requires graph { IsGraph (names_of (policy_of policy.now)) checked.now.source.now (file_of checked.now.program) graph.now }
     requires points { length graph.now.nodes.items ≤ 8192 }
     requires few { length strategy.now.rows.items < 2 ^ 32 }
-    ensures { IfOk result (λ outcome.
+    ensures due { IfOk result (λ outcome.
         AfterGraph checked.now.source.now (policy_of policy.now) (file_of checked.now.program) (strategy_of strategy.now) graph.now (due_of outcome)) }
+    ensures puts { Starts O.taken O.faults O.refused out.old out.new result }
 {
     match Game::make(alloc, graph, policy) {
-        Ok(game) => judged(alloc, &game, strategy),
+        Ok(game) => Ok(judged(&game, strategy, out)),
         Err(fault) => game_refusal(alloc, &fault),
     }
 }
 
 /// That the program has too many points, or what comes behind that.
-fn drawn(
+fn drawn<O: Sink>(
     alloc: Global,
     policy: &Policy,
     checked: &Checked,
     strategy: &EnvCert,
-) -> Result<Outcome, NoMemory>
+    out: &mut O,
+) -> Result<Outcome<O>, NoMemory>
     requires valid { IsValid (policy_of policy.now) }
     requires reads { ReadsAs checked.now.source.now (file_of checked.now.program) }
     requires few { length strategy.now.rows.items < 2 ^ 32 }
-    ensures { IfOk result (λ outcome.
+    ensures due { IfOk result (λ outcome.
         AfterFitting checked.now.source.now (policy_of policy.now) (file_of checked.now.program) (strategy_of strategy.now) (due_of outcome)) }
+    ensures puts { Starts O.taken O.faults O.refused out.old out.new result }
 {
     match build(alloc, checked, policy) {
-        Ok(graph) => played(alloc, policy, checked, &graph, strategy),
+        Ok(graph) => played(alloc, policy, checked, &graph, strategy, out),
         Err(PointsFault::TooManyPoints) => over(alloc, Quantity::Points),
         Err(PointsFault::NoMemory) => Err(NoMemory),
     }
 }
 
 /// That the policy doesn't fit the program, or what comes behind that.
-fn fitted(
+fn fitted<O: Sink>(
     alloc: Global,
     policy: &Policy,
     checked: &Checked,
     strategy: &EnvCert,
-) -> Result<Outcome, NoMemory>
+    out: &mut O,
+) -> Result<Outcome<O>, NoMemory>
     requires valid { IsValid (policy_of policy.now) }
     requires reads { ReadsAs checked.now.source.now (file_of checked.now.program) }
     requires few { length strategy.now.rows.items < 2 ^ 32 }
-    ensures { IfOk result (λ outcome.
+    ensures due { IfOk result (λ outcome.
         AfterStrategy checked.now.source.now (policy_of policy.now) (file_of checked.now.program) (strategy_of strategy.now) (due_of outcome)) }
+    ensures puts { Starts O.taken O.faults O.refused out.old out.new result }
 {
     match fit_refusal(alloc, policy, checked)? {
         Some(outcome) => Ok(outcome),
-        None => drawn(alloc, policy, checked, strategy),
+        None => drawn(alloc, policy, checked, strategy, out),
     }
 }
 
 /// That the strategy isn't spelled in the policy's format, or what comes behind that.
-fn spelled(
+fn spelled<O: Sink>(
     alloc: Global,
     policy: &Policy,
     checked: &Checked,
     text: &[u8],
-) -> Result<Outcome, NoMemory>
+    out: &mut O,
+) -> Result<Outcome<O>, NoMemory>
     requires valid { IsValid (policy_of policy.now) }
     requires reads { ReadsAs checked.now.source.now (file_of checked.now.program) }
-    ensures { IfOk result (λ outcome. AfterPair checked.now.source.now text.now (policy_of policy.now) (file_of checked.now.program) (due_of outcome)) }
+    ensures due { IfOk result (λ outcome. AfterPair checked.now.source.now text.now (policy_of policy.now) (file_of checked.now.program) (due_of outcome)) }
+    ensures puts { Starts O.taken O.faults O.refused out.old out.new result }
 {
     match read_env(alloc, text, policy.format) {
-        Ok(strategy) => fitted(alloc, policy, checked, &strategy),
+        Ok(strategy) => fitted(alloc, policy, checked, &strategy, out),
         Err(fault) => strategy_refusal(alloc, &fault),
     }
 }
 
 /// What is due for `refute`, by the bytes of a policy, of a source and of a strategy.
-pub fn refute_due(
+pub fn refute_due<O: Sink>(
     alloc: Global,
     policy: &[u8],
     source: &[u8],
     strategy: &[u8],
-) -> Result<Outcome, NoMemory>
+    out: &mut O,
+) -> Result<Outcome<O>, NoMemory>
     requires short { length source.now ≤ 262144 }
     ensures due { IfOk result (λ outcome. IsRefuteDue policy.now source.now strategy.now (due_of outcome)) }
+    ensures puts { Starts O.taken O.faults O.refused out.old out.new result }
 {
     match read_both(alloc, policy, source) {
-        Ok(pair) => spelled(alloc, &pair.policy, &pair.checked, strategy),
+        Ok(pair) => spelled(alloc, &pair.policy, &pair.checked, strategy, out),
         Err(answer) => answer,
     }
 }

@@ -9,12 +9,14 @@ ghost use Rattle.cw_points.specs.Graphs.{IsGraph};
 ghost use Rattle.cw_source.specs.Read.{ReadsAs};
 ghost use Rattle.cw_game.specs.Conditions.{IsGoodTable};
 ghost use Rattle.cw_states.specs.States.{AreLists, lists_of};
+ghost use Rattle.cw_pieces.specs.Written.{Follows};
 ghost use Rattle.cw_product.specs.Product.{game_of};
 ghost use Rattle.cw_product.specs.Uses.{uses_of};
 ghost use Rattle.cw_run.specs.Woven.{end_of};
 ghost use Rattle.cw_wcheck.specs.Checking.{HasFewRows};
 ghost use Rattle.cw_woven.specs.Held.{IsOpened};
 ghost use Rattle.cw_commands.specs.Outcomes.{due_of};
+ghost use Rattle.cw_commands.specs.Starts.{Begins, Starts};
 ghost use Rattle.cw_cli.specs.Checking.{WhereWovenFits};
 ghost use Rattle.cw_cli.specs.CheckingHeld.{IsRunShownBy};
 ghost use Rattle.cw_cli.specs.Refuting.{WithGame};
@@ -27,7 +29,9 @@ use crate::refuting::game_refusal;
 use crate::tapes::moves_of;
 use cw_certs::{Move, WeaverCert};
 use cw_commands::{Outcome, Reply};
-use cw_core::{NoMemory, put_dec};
+use cw_core::NoMemory;
+use cw_io::Sink;
+use cw_pieces::Writer;
 use cw_points::Graph;
 use cw_policies::read_policy;
 use cw_product::Game;
@@ -39,117 +43,124 @@ use cw_woven::{Accepted, Opened, accept_woven, open_woven};
 use std::alloc::Global;
 
 /// The trace of a run, and behind it how the run ends.
-fn run_told(end: RunEnd, trace: Vec<u8>) -> Result<Outcome, NoMemory>
-    ensures { IfOk result (λ outcome. due_of outcome ≡ run_told (end_of end) trace.items) }
+fn run_told<O: Sink>(end: RunEnd, trace: Writer<O>, out: &mut O) -> Outcome<O>
+    requires follows { Follows O.taken O.faults O.refused trace out.old }
+    ensures due { due_of result ≡ run_told (end_of end) trace.text }
+    ensures puts { Begins O.taken O.faults O.refused trace.begun out.new result }
 {
-    let mut text = trace;
+    let mut writer = trace;
     match end {
         RunEnd::Ended => {
-            text.extend_from_slice(b"ended\n")?;
-            Ok(Outcome::Told(Reply::Yes, text))
+            writer.put(b"ended\n", out);
+            Outcome::Told(Reply::Yes, writer)
         }
         RunEnd::TapeSpent => {
-            text.extend_from_slice(b"tape spent\n")?;
-            Ok(Outcome::Told(Reply::No, text))
+            writer.put(b"tape spent\n", out);
+            Outcome::Told(Reply::No, writer)
         }
         RunEnd::BadMove(number) => {
-            text.extend_from_slice(b"bad move ")?;
-            put_dec(u64::from(number), &mut text)?;
-            text.push(b'\n')?;
-            Ok(Outcome::Told(Reply::No, text))
+            writer.put(b"bad move ", out);
+            writer.put_number(u64::from(number), out);
+            writer.put(b"\n", out);
+            Outcome::Told(Reply::No, writer)
         }
     }
 }
 
 /// The woven run of a good table by a tape.
-fn shown(
+fn shown<O: Sink>(
     alloc: Global,
     checked: &Checked,
     game: &Game,
     table: &WeaverCert,
     tape: &[Move],
-) -> Result<Outcome, NoMemory>
+    out: &mut O,
+) -> Result<Outcome<O>, NoMemory>
     requires valid { IsValid (policy_of game.now.states.policy) }
     requires lists { AreLists (uses_of (policy_of game.now.states.policy) game.now.graph.nodes.items) (lists_of game.now.states) }
     requires reads { ReadsAs checked.now.source.now (file_of checked.now.program) }
     requires graph { IsGraph (names_of (policy_of game.now.states.policy)) checked.now.source.now (file_of checked.now.program) game.now.graph }
     requires good { IsGoodTable (game_of game.now) table.now }
     requires tape { length tape.now < 2 ^ 32 }
-    ensures { IfOk result (λ outcome.
+    ensures due { IfOk result (λ outcome.
         IsRunTold checked.now.source.now (policy_of game.now.states.policy) (file_of checked.now.program) table.now tape.now (due_of outcome)) }
+    ensures puts { Starts O.taken O.faults O.refused out.old out.new result }
 {
-    let mut trace = Vec::new(alloc);
-    let end = run_woven(alloc, checked, game, table, tape, &mut trace)?;
-    run_told(end, trace)
+    let mut writer = Writer::begin(out);
+    let end = run_woven(alloc, checked, game, table, tape, &mut writer, out)?;
+    Ok(run_told(end, writer, out))
 }
 
 /// What is told of a table: its run by a tape, or the first row that fails a condition.
-fn judged(
+fn judged<O: Sink>(
     alloc: Global,
     checked: &Checked,
     game: &Game,
     table: &WeaverCert,
     tape: &[Move],
-) -> Result<Outcome, NoMemory>
+    out: &mut O,
+) -> Result<Outcome<O>, NoMemory>
     requires valid { IsValid (policy_of game.now.states.policy) }
     requires lists { AreLists (uses_of (policy_of game.now.states.policy) game.now.graph.nodes.items) (lists_of game.now.states) }
     requires reads { ReadsAs checked.now.source.now (file_of checked.now.program) }
     requires graph { IsGraph (names_of (policy_of game.now.states.policy)) checked.now.source.now (file_of checked.now.program) game.now.graph }
     requires few { HasFewRows table.now }
     requires tape { length tape.now < 2 ^ 32 }
-    ensures { IfOk result (λ outcome.
+    ensures due { IfOk result (λ outcome.
         IsRunShownBy checked.now.source.now (policy_of game.now.states.policy) (file_of checked.now.program) table.now tape.now (game_of game.now) (due_of outcome)) }
+    ensures puts { Starts O.taken O.faults O.refused out.old out.new result }
 {
     match check_weaver(game, table) {
-        Ok(()) => shown(alloc, checked, game, table, tape),
-        Err(bad) => {
-            let line = told(alloc, &bad)?;
-            Ok(Outcome::Told(Reply::No, line))
-        }
+        Ok(()) => shown(alloc, checked, game, table, tape, out),
+        Err(bad) => Ok(told(&bad, out)),
     }
 }
 
 /// That the game is over one of its numbers, or what is told of the table.
-fn played(
+fn played<O: Sink>(
     alloc: Global,
     policy: &Policy,
     checked: &Checked,
     graph: &Graph,
     table: &WeaverCert,
     tape: &[Move],
-) -> Result<Outcome, NoMemory>
+    out: &mut O,
+) -> Result<Outcome<O>, NoMemory>
     requires valid { IsValid (policy_of policy.now) }
     requires reads { ReadsAs checked.now.source.now (file_of checked.now.program) }
     requires graph { IsGraph (names_of (policy_of policy.now)) checked.now.source.now (file_of checked.now.program) graph.now }
     requires points { length graph.now.nodes.items ≤ 8192 }
     requires few { HasFewRows table.now }
     requires tape { length tape.now < 2 ^ 32 }
-    ensures { IfOk result (λ outcome. let source = checked.now.source.now in let whole = policy_of policy.now in let file = file_of checked.now.program in
+    ensures due { IfOk result (λ outcome. let source = checked.now.source.now in let whole = policy_of policy.now in let file = file_of checked.now.program in
         WithGame (IsRunShown source whole file table.now tape.now) source whole file graph.now (due_of outcome)) }
+    ensures puts { Starts O.taken O.faults O.refused out.old out.new result }
 {
     match Game::make(alloc, graph, policy) {
-        Ok(game) => judged(alloc, checked, &game, table, tape),
+        Ok(game) => judged(alloc, checked, &game, table, tape, out),
         Err(fault) => game_refusal(alloc, &fault),
     }
 }
 
 /// That the policy doesn't fit the program, or what comes behind that.
-fn fitted(
+fn fitted<O: Sink>(
     alloc: Global,
     policy: &Policy,
     accepted: &Accepted,
     table: &WeaverCert,
     tape: &[Move],
-) -> Result<Outcome, NoMemory>
+    out: &mut O,
+) -> Result<Outcome<O>, NoMemory>
     requires valid { IsValid (policy_of policy.now) }
     requires reads { ReadsAs accepted.now.checked.source.now (file_of accepted.now.checked.program) }
     requires graph { IsGraph (names_of (policy_of policy.now)) accepted.now.checked.source.now (file_of accepted.now.checked.program) accepted.now.graph }
     requires points { length accepted.now.graph.nodes.items ≤ 8192 }
     requires few { HasFewRows table.now }
     requires tape { length tape.now < 2 ^ 32 }
-    ensures { IfOk result (λ outcome.
+    ensures due { IfOk result (λ outcome.
         let source = accepted.now.checked.source.now in let whole = policy_of policy.now in let file = file_of accepted.now.checked.program in
         WhereWovenFits (IsRunShown source whole file table.now tape.now) source whole file (due_of outcome)) }
+    ensures puts { Starts O.taken O.faults O.refused out.old out.new result }
 {
     match fit_refusal(alloc, policy, &accepted.checked)? {
         Some(outcome) => Ok(outcome),
@@ -160,72 +171,91 @@ fn fitted(
             &accepted.graph,
             table,
             tape,
+            out,
         ),
     }
 }
 
 /// That the tape isn't one of the environment's moves, or what comes behind that.
-fn taped(
+fn taped<O: Sink>(
     alloc: Global,
     policy: &Policy,
     accepted: &Accepted,
     table: &WeaverCert,
     tape: &[u8],
-) -> Result<Outcome, NoMemory>
+    out: &mut O,
+) -> Result<Outcome<O>, NoMemory>
     requires valid { IsValid (policy_of policy.now) }
     requires reads { ReadsAs accepted.now.checked.source.now (file_of accepted.now.checked.program) }
     requires graph { IsGraph (names_of (policy_of policy.now)) accepted.now.checked.source.now (file_of accepted.now.checked.program) accepted.now.graph }
     requires points { length accepted.now.graph.nodes.items ≤ 8192 }
     requires few { HasFewRows table.now }
     requires short { length tape.now ≤ 33554432 }
-    ensures { IfOk result (λ outcome.
+    ensures due { IfOk result (λ outcome.
         AfterWoven tape.now accepted.now.checked.source.now (policy_of policy.now) (file_of accepted.now.checked.program) table.now (due_of outcome)) }
+    ensures puts { Starts O.taken O.faults O.refused out.old out.new result }
 {
     match moves_of(alloc, tape, false) {
-        Ok(moves) => fitted(alloc, policy, accepted, table, &moves),
+        Ok(moves) => fitted(alloc, policy, accepted, table, &moves, out),
         Err(answer) => answer,
     }
 }
 
 /// That the source of a text in parts isn't accepted, or a mark isn't that of its seam, or what comes behind that.
-fn accepted(
+fn accepted<O: Sink>(
     alloc: Global,
     policy: &Policy,
     opened: &Opened,
     tape: &[u8],
-) -> Result<Outcome, NoMemory>
+    out: &mut O,
+) -> Result<Outcome<O>, NoMemory>
     requires valid { IsValid (policy_of policy.now) }
     requires opened { IsOpened (policy_of policy.now) opened.now }
     requires short { length tape.now ≤ 33554432 }
-    ensures { IfOk result (λ outcome. AfterPolicy opened.now.text.now tape.now (policy_of policy.now) (due_of outcome)) }
+    ensures due { IfOk result (λ outcome. AfterPolicy opened.now.text.now tape.now (policy_of policy.now) (due_of outcome)) }
+    ensures puts { Starts O.taken O.faults O.refused out.old out.new result }
 {
     match accept_woven(alloc, opened, policy) {
-        Ok(program) => taped(alloc, policy, &program, &opened.table, tape),
+        Ok(program) => taped(alloc, policy, &program, &opened.table, tape, out),
         Err(fault) => woven_refusal(alloc, policy, &opened.source, &fault),
     }
 }
 
 /// That a text is no woven text, or what is due for the source and the table that it is read as.
-fn opened(alloc: Global, policy: &Policy, text: &[u8], tape: &[u8]) -> Result<Outcome, NoMemory>
+fn opened<O: Sink>(
+    alloc: Global,
+    policy: &Policy,
+    text: &[u8],
+    tape: &[u8],
+    out: &mut O,
+) -> Result<Outcome<O>, NoMemory>
     requires valid { IsValid (policy_of policy.now) }
     requires short { length text.now ≤ 33554432 }
     requires short_tape { length tape.now ≤ 33554432 }
-    ensures { IfOk result (λ outcome. AfterPolicy text.now tape.now (policy_of policy.now) (due_of outcome)) }
+    ensures due { IfOk result (λ outcome. AfterPolicy text.now tape.now (policy_of policy.now) (due_of outcome)) }
+    ensures puts { Starts O.taken O.faults O.refused out.old out.new result }
 {
     match open_woven(alloc, text, policy) {
-        Ok(parts) => accepted(alloc, policy, &parts, tape),
+        Ok(parts) => accepted(alloc, policy, &parts, tape, out),
         Err(fault) => woven_refusal(alloc, policy, b"", &fault),
     }
 }
 
 /// What is due for `run`, by the bytes of a policy, of a woven text and of a tape.
-pub fn run_due(alloc: Global, policy: &[u8], text: &[u8], tape: &[u8]) -> Result<Outcome, NoMemory>
+pub fn run_due<O: Sink>(
+    alloc: Global,
+    policy: &[u8],
+    text: &[u8],
+    tape: &[u8],
+    out: &mut O,
+) -> Result<Outcome<O>, NoMemory>
     requires short { length text.now ≤ 33554432 }
     requires short_tape { length tape.now ≤ 33554432 }
     ensures due { IfOk result (λ outcome. IsRunDue policy.now text.now tape.now (due_of outcome)) }
+    ensures puts { Starts O.taken O.faults O.refused out.old out.new result }
 {
     match read_policy(alloc, policy) {
-        Ok(whole) => opened(alloc, &whole, text, tape),
+        Ok(whole) => opened(alloc, &whole, text, tape, out),
         Err(fault) => policy_refusal(alloc, &fault),
     }
 }

@@ -1,9 +1,11 @@
 //! What is due for `sample`.
 
-ghost use Rattle.std.specs.Prelude.{◌≡◌, ◌≢◌, ◌≤◌, ◌++◌, ℕ, List, false, length, IfOk, OnOk};
+ghost use Rattle.std.specs.Prelude.{◌≡◌, ◌≢◌, ◌≤◌, ◌++◌, [], ℕ, List, false, length, IfOk};
 ghost use Rattle.cw_sample.specs.Samples.{sample_policy, sample_source, HasSample};
 ghost use Rattle.cw_commands.specs.declared.outcome.Reply.TheVariants.{Yes, No};
 ghost use Rattle.cw_commands.specs.Outcomes.{due_of, Told};
+ghost use Rattle.cw_commands.specs.Starts.{Begins, Starts};
+ghost use Rattle.cw_pieces.specs.Written.{Follows};
 ghost use Rattle.cw_cli.specs.Sampling.{number_line, reply_line, summary, IsSampleDue};
 ghost use Rattle.cw_cli.specs.Weaving.{IsWeaveDue};
 
@@ -12,7 +14,9 @@ use crate::numbers::Numbers;
 use crate::refuting::refute_due;
 use crate::weaving::counted_due;
 use cw_commands::{Outcome, Reply};
-use cw_core::{NoMemory, put_dec};
+use cw_core::NoMemory;
+use cw_io::{Sink, SinkFault, SureSink};
+use cw_pieces::Writer;
 use cw_sample::{SampleFault, make_sample};
 use std::alloc::Global;
 
@@ -34,7 +38,7 @@ fn texts_of(alloc: Global, number: u32) -> Result<(Vec<u8>, Vec<u8>), NoMemory>
 }
 
 /// Whether a command answers yes.
-fn is_yes(outcome: &Outcome) -> bool
+fn is_yes(outcome: &Outcome<SureSink>) -> bool
     ensures { result ≡ false → (text : List ℕ) → due_of outcome.now ≢ Told Yes text }
 {
     match outcome {
@@ -53,7 +57,8 @@ fn check_text(alloc: Global, policy: &[u8], source: &[u8], text: &[u8]) -> Resul
     if text.len() > FILE_BYTES {
         return Ok(());
     }
-    let outcome = check_due(alloc, policy, text)?;
+    let mut answer = SureSink::make(alloc);
+    let outcome = check_due(alloc, policy, text, &mut answer)?;
     if is_yes(&outcome) {
         Ok(())
     } else {
@@ -69,7 +74,8 @@ fn refute_text(alloc: Global, policy: &[u8], source: &[u8], text: &[u8]) -> Resu
     if text.len() > FILE_BYTES {
         return Ok(());
     }
-    let outcome = refute_due(alloc, policy, source, text)?;
+    let mut answer = SureSink::make(alloc);
+    let outcome = refute_due(alloc, policy, source, text, &mut answer)?;
     if is_yes(&outcome) {
         Ok(())
     } else {
@@ -94,15 +100,17 @@ fn go_through(
     }
 }
 
-/// Appends a line of a name and a number.
-fn put_number(name: &[u8], number: u64, text: &mut Vec<u8>) -> Result<(), NoMemory>
-    ensures { OnOk result (text.new.items ≡ text.old.items ++ number_line name.now number) }
+/// Puts a line of a name and a number.
+fn put_number<O: Sink>(name: &[u8], number: u64, writer: &mut Writer<O>, out: &mut O)
+    requires follows { Follows O.taken O.faults O.refused writer.old out.old }
+    ensures text { writer.new.text ≡ writer.old.text ++ number_line name.now number }
+    ensures begun { writer.new.begun ≡ writer.old.begun }
+    ensures follows { Follows O.taken O.faults O.refused writer.new out.new }
 {
-    text.extend_from_slice(name)?;
-    text.extend_from_slice(b" ")?;
-    put_dec(number, text)?;
-    text.push(b'\n')?;
-    Ok(())
+    writer.put(name, out);
+    writer.put(b" ", out);
+    writer.put_number(number, out);
+    writer.put(b"\n", out);
 }
 
 /// The line that tells the verdict.
@@ -116,35 +124,51 @@ fn reply_line(reply: Reply) -> &'static [u8]
 }
 
 /// The eight lines of a sample.
-fn summary(alloc: Global, number: u32, numbers: &Numbers, reply: Reply) -> Result<Vec<u8>, NoMemory>
-    ensures { IfOk result (λ text. text.items ≡ summary number numbers.now reply) }
+fn summary<O: Sink>(number: u32, numbers: &Numbers, reply: Reply, out: &mut O) -> Outcome<O>
+    ensures due { due_of result ≡ Told reply (summary number numbers.now reply) }
+    ensures puts { Begins O.taken O.faults O.refused out.old out.new result }
 {
-    let mut text = Vec::new(alloc);
-    put_number(b"sample", u64::from(number), &mut text)?;
-    put_number(b"points", numbers.points, &mut text)?;
-    put_number(b"positions", numbers.positions, &mut text)?;
-    put_number(b"states", numbers.states, &mut text)?;
-    put_number(b"contexts", numbers.contexts, &mut text)?;
-    put_number(b"cells", numbers.cells, &mut text)?;
-    put_number(b"rows", numbers.rows, &mut text)?;
-    text.extend_from_slice(reply_line(reply))?;
-    Ok(text)
+    let mut writer = Writer::begin(out);
+    put_number(b"sample", u64::from(number), &mut writer, out);
+    put_number(b"points", numbers.points, &mut writer, out);
+    put_number(b"positions", numbers.positions, &mut writer, out);
+    put_number(b"states", numbers.states, &mut writer, out);
+    put_number(b"contexts", numbers.contexts, &mut writer, out);
+    put_number(b"cells", numbers.cells, &mut writer, out);
+    put_number(b"rows", numbers.rows, &mut writer, out);
+    writer.put(reply_line(reply), out);
+    Outcome::Told(reply, writer)
+}
+
+/// Finishes a text in memory, which began with nothing.
+fn finished(writer: Writer<SureSink>, sink: &mut SureSink) -> Result<(), NoMemory>
+    requires follows { Follows ⟦<SureSink as Sink>⟧.taken ⟦<SureSink as Sink>⟧.faults ⟦<SureSink as Sink>⟧.refused writer sink.old }
+    requires empty { writer.begun.bytes ≡ [] }
+    ensures { IfOk result (λ _. sink.new.bytes ≡ writer.text) }
+{
+    match writer.finish(sink) {
+        Ok(()) => Ok(()),
+        Err(SinkFault::NoMemory) => Err(NoMemory),
+        Err(SinkFault::Failed) => unreachable!(),
+    }
 }
 
 /// What is due for `sample`, by its number, from 1 to 400: its policy and its source are woven, what is written is checked, and the numbers are told.
-pub fn sample_due(alloc: Global, number: u32) -> Result<Outcome, NoMemory>
+pub fn sample_due<O: Sink>(alloc: Global, number: u32, out: &mut O) -> Result<Outcome<O>, NoMemory>
     requires { HasSample number }
     ensures due { IfOk result (λ outcome. IsSampleDue number (due_of outcome)) }
+    ensures puts { Starts O.taken O.faults O.refused out.old out.new result }
 {
     let (policy, source) = texts_of(alloc, number)?;
     let mut numbers = Numbers::none();
-    let outcome = counted_due(alloc, &policy, &source, &mut numbers)?;
+    let mut sink = SureSink::make(alloc);
+    let outcome = counted_due(alloc, &policy, &source, &mut numbers, &mut sink)?;
     match outcome {
         Outcome::Refused(cause, line) => Ok(Outcome::Refused(cause, line)),
-        Outcome::Told(reply, text) => {
-            go_through(alloc, reply, &policy, &source, &text)?;
-            let text = summary(alloc, number, &numbers, reply)?;
-            Ok(Outcome::Told(reply, text))
+        Outcome::Told(reply, writer) => {
+            finished(writer, &mut sink)?;
+            go_through(alloc, reply, &policy, &source, sink.bytes())?;
+            Ok(summary(number, &numbers, reply, out))
         }
     }
 }

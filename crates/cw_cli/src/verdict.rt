@@ -13,6 +13,7 @@ ghost use Rattle.cw_product.specs.Product.{game_of};
 ghost use Rattle.cw_solve.specs.Contexts.{HeightIs};
 ghost use Rattle.cw_solve.specs.Made.{IsMade};
 ghost use Rattle.cw_commands.specs.Outcomes.{due_of};
+ghost use Rattle.cw_commands.specs.Starts.{Starts};
 ghost use Rattle.cw_cli.specs.Counting.{IsCounted};
 ghost use Rattle.cw_cli.specs.Verdicts.{AfterCells, AfterGame, StartHolds, StartIsLost};
 
@@ -20,13 +21,16 @@ use crate::numbers::{Numbers, strategy_rows, table_rows};
 use crate::refusals::over;
 use cw_commands::{Outcome, Reply};
 use cw_core::{NoMemory, Quantity};
-use cw_emit::weave_text;
+use cw_emit::put_woven;
+use cw_io::Sink;
 use cw_lazy::weaver_table;
 use cw_least::env_table;
+use cw_linked::solve;
+use cw_pieces::Writer;
 use cw_points::marks::marks;
 use cw_product::Game;
-use cw_solve::{SolveFault, Solved, TableFault, solve};
-use cw_strategies::strategy_bytes;
+use cw_solve::{SolveFault, Solved, TableFault};
+use cw_strategies::put_strategy;
 use cw_syntax::checked::Checked;
 use std::alloc::Global;
 
@@ -42,29 +46,39 @@ fn start_height(game: &Game, solved: &Solved) -> Option<u32>
 }
 
 /// The woven text with the lazy table, or that this has too many rows.
-fn woven(
+fn woven<O: Sink>(
     alloc: Global,
     checked: &Checked,
     game: &Game,
     solved: &Solved,
     numbers: &mut Numbers,
-) -> Result<Outcome, NoMemory>
+    out: &mut O,
+) -> Result<Outcome<O>, NoMemory>
     requires reads { ReadsAs checked.now.source.now (file_of checked.now.program) }
     requires made { IsMade game.now }
     requires graph { IsGraph (names_of (policy_of game.now.states.policy)) checked.now.source.now (file_of checked.now.program) game.now.graph }
     requires is_game { IsGameOf (problem_of (policy_of game.now.states.policy) checked.now.source.now (file_of checked.now.program)) (game_of game.now) }
     requires solved { solved.now.game ≡ game.now }
     requires kept { StartHolds (game_of game.now) }
-    ensures { IfOk result (λ outcome.
+    ensures due { IfOk result (λ outcome.
         AfterCells (IsCounted numbers.new (policy_of game.now.states.policy) checked.now.source.now (file_of checked.now.program)) (game_of game.now) (due_of outcome)) }
+    ensures puts { Starts O.taken O.faults O.refused out.old out.new result }
 {
     match weaver_table(alloc, game, solved) {
         Ok(table) => {
             let marks = marks(alloc, game.graph())?;
-            let text = weave_text(alloc, checked.source, &marks, game.policy(), &table)?;
+            let mut writer = Writer::begin(out);
+            put_woven(
+                checked.source,
+                &marks,
+                game.policy(),
+                &table,
+                &mut writer,
+                out,
+            );
             solved.contexts_are_needed();
             *numbers = Numbers::make(game, solved, table_rows(&table));
-            Ok(Outcome::Told(Reply::Yes, text))
+            Ok(Outcome::Told(Reply::Yes, writer))
         }
         Err(TableFault::TooManyRows) => over(alloc, Quantity::Rows),
         Err(TableFault::NoMemory) => Err(NoMemory),
@@ -72,28 +86,31 @@ fn woven(
 }
 
 /// The text of the strategy by least heights, or that this has too many rows.
-fn refuted(
+fn refuted<O: Sink>(
     alloc: Global,
     checked: &Checked,
     game: &Game,
     solved: &Solved,
     numbers: &mut Numbers,
-) -> Result<Outcome, NoMemory>
+    out: &mut O,
+) -> Result<Outcome<O>, NoMemory>
     requires made { IsMade game.now }
     requires graph { IsGraph (names_of (policy_of game.now.states.policy)) checked.now.source.now (file_of checked.now.program) game.now.graph }
     requires is_game { IsGameOf (problem_of (policy_of game.now.states.policy) checked.now.source.now (file_of checked.now.program)) (game_of game.now) }
     requires solved { solved.now.game ≡ game.now }
     requires lost { StartIsLost (game_of game.now) }
-    ensures { IfOk result (λ outcome.
+    ensures due { IfOk result (λ outcome.
         AfterCells (IsCounted numbers.new (policy_of game.now.states.policy) checked.now.source.now (file_of checked.now.program)) (game_of game.now) (due_of outcome)) }
+    ensures puts { Starts O.taken O.faults O.refused out.old out.new result }
 {
     let _ = checked;
     match env_table(alloc, game, solved) {
         Ok(strategy) => {
-            let text = strategy_bytes(alloc, &strategy, game.policy().format)?;
+            let mut writer = Writer::begin(out);
+            put_strategy(&strategy, game.policy().format, &mut writer, out);
             solved.contexts_are_needed();
             *numbers = Numbers::make(game, solved, strategy_rows(&strategy));
-            Ok(Outcome::Told(Reply::No, text))
+            Ok(Outcome::Told(Reply::No, writer))
         }
         Err(TableFault::TooManyRows) => over(alloc, Quantity::Rows),
         Err(TableFault::NoMemory) => Err(NoMemory),
@@ -101,43 +118,47 @@ fn refuted(
 }
 
 /// That the rows are too many, or the verdict.
-fn told(
+fn told<O: Sink>(
     alloc: Global,
     checked: &Checked,
     game: &Game,
     solved: &Solved,
     numbers: &mut Numbers,
-) -> Result<Outcome, NoMemory>
+    out: &mut O,
+) -> Result<Outcome<O>, NoMemory>
     requires reads { ReadsAs checked.now.source.now (file_of checked.now.program) }
     requires made { IsMade game.now }
     requires graph { IsGraph (names_of (policy_of game.now.states.policy)) checked.now.source.now (file_of checked.now.program) game.now.graph }
     requires is_game { IsGameOf (problem_of (policy_of game.now.states.policy) checked.now.source.now (file_of checked.now.program)) (game_of game.now) }
     requires solved { solved.now.game ≡ game.now }
-    ensures { IfOk result (λ outcome.
+    ensures due { IfOk result (λ outcome.
         AfterCells (IsCounted numbers.new (policy_of game.now.states.policy) checked.now.source.now (file_of checked.now.program)) (game_of game.now) (due_of outcome)) }
+    ensures puts { Starts O.taken O.faults O.refused out.old out.new result }
 {
     match start_height(game, solved) {
-        None => woven(alloc, checked, game, solved, numbers),
-        Some(_) => refuted(alloc, checked, game, solved, numbers),
+        None => woven(alloc, checked, game, solved, numbers, out),
+        Some(_) => refuted(alloc, checked, game, solved, numbers, out),
     }
 }
 
 /// What is due for the game of a program: that its cells are too many, or what comes behind that.
-pub(crate) fn judged(
+pub(crate) fn judged<O: Sink>(
     alloc: Global,
     checked: &Checked,
     game: &Game,
     numbers: &mut Numbers,
-) -> Result<Outcome, NoMemory>
+    out: &mut O,
+) -> Result<Outcome<O>, NoMemory>
     requires reads { ReadsAs checked.now.source.now (file_of checked.now.program) }
     requires made { IsMade game.now }
     requires graph { IsGraph (names_of (policy_of game.now.states.policy)) checked.now.source.now (file_of checked.now.program) game.now.graph }
     requires is_game { IsGameOf (problem_of (policy_of game.now.states.policy) checked.now.source.now (file_of checked.now.program)) (game_of game.now) }
-    ensures { IfOk result (λ outcome.
+    ensures due { IfOk result (λ outcome.
         AfterGame (IsCounted numbers.new (policy_of game.now.states.policy) checked.now.source.now (file_of checked.now.program)) (game_of game.now) (due_of outcome)) }
+    ensures puts { Starts O.taken O.faults O.refused out.old out.new result }
 {
     match solve(alloc, game) {
-        Ok(solution) => told(alloc, checked, game, &solution, numbers),
+        Ok(solution) => told(alloc, checked, game, &solution, numbers, out),
         Err(SolveFault::TooManyCells(_)) => over(alloc, Quantity::Cells),
         Err(SolveFault::NoMemory) => Err(NoMemory),
     }

@@ -8,6 +8,7 @@ ghost use Rattle.cw_actions.specs.Scenes.{names_of};
 ghost use Rattle.cw_points.specs.Graphs.{IsGraph};
 ghost use Rattle.cw_source.specs.Read.{ReadsAs};
 ghost use Rattle.cw_commands.specs.Outcomes.{due_of};
+ghost use Rattle.cw_commands.specs.Starts.{Starts};
 ghost use Rattle.cw_cli.specs.Counting.{IsCounted};
 ghost use Rattle.cw_cli.specs.Weaving.{AfterFit, AfterFitting, AfterGraph, AfterPair, IsWeaveDue, Weaves};
 
@@ -19,6 +20,7 @@ use crate::refuting::game_refusal;
 use crate::verdict::judged;
 use cw_commands::{Cause, Outcome};
 use cw_core::{NoMemory, Quantity};
+use cw_io::Sink;
 use cw_points::build::build;
 use cw_points::{Graph, PointsFault};
 use cw_product::Game;
@@ -27,42 +29,46 @@ use cw_syntax::checked::Checked;
 use std::alloc::Global;
 
 /// That the game is over one of its numbers, or what comes behind that.
-fn played(
+fn played<O: Sink>(
     alloc: Global,
     policy: &Policy,
     checked: &Checked,
     graph: &Graph,
     numbers: &mut Numbers,
-) -> Result<Outcome, NoMemory>
+    out: &mut O,
+) -> Result<Outcome<O>, NoMemory>
     requires valid { IsValid (policy_of policy.now) }
     requires reads { ReadsAs checked.now.source.now (file_of checked.now.program) }
     requires graph { IsGraph (names_of (policy_of policy.now)) checked.now.source.now (file_of checked.now.program) graph.now }
     requires points { length graph.now.nodes.items ≤ 8192 }
-    ensures { IfOk result (λ outcome.
+    ensures due { IfOk result (λ outcome.
         AfterGraph (IsCounted numbers.new (policy_of policy.now) checked.now.source.now (file_of checked.now.program))
         checked.now.source.now (policy_of policy.now) (file_of checked.now.program) graph.now (due_of outcome)) }
+    ensures puts { Starts O.taken O.faults O.refused out.old out.new result }
 {
     match Game::make(alloc, graph, policy) {
-        Ok(game) => judged(alloc, checked, &game, numbers),
+        Ok(game) => judged(alloc, checked, &game, numbers, out),
         Err(fault) => game_refusal(alloc, &fault),
     }
 }
 
 /// That the program has too many points, or what comes behind that.
-fn drawn(
+fn drawn<O: Sink>(
     alloc: Global,
     policy: &Policy,
     checked: &Checked,
     numbers: &mut Numbers,
-) -> Result<Outcome, NoMemory>
+    out: &mut O,
+) -> Result<Outcome<O>, NoMemory>
     requires valid { IsValid (policy_of policy.now) }
     requires reads { ReadsAs checked.now.source.now (file_of checked.now.program) }
-    ensures { IfOk result (λ outcome.
+    ensures due { IfOk result (λ outcome.
         AfterFitting (IsCounted numbers.new (policy_of policy.now) checked.now.source.now (file_of checked.now.program))
         checked.now.source.now (policy_of policy.now) (file_of checked.now.program) (due_of outcome)) }
+    ensures puts { Starts O.taken O.faults O.refused out.old out.new result }
 {
     match build(alloc, checked, policy) {
-        Ok(graph) => played(alloc, policy, checked, &graph, numbers),
+        Ok(graph) => played(alloc, policy, checked, &graph, numbers, out),
         Err(PointsFault::TooManyPoints) => over(alloc, Quantity::Points),
         Err(PointsFault::NoMemory) => Err(NoMemory),
     }
@@ -77,20 +83,22 @@ fn detaches_none(policy: &Policy) -> bool
 }
 
 /// That the policy detaches functions, or what comes behind that.
-fn waited(
+fn waited<O: Sink>(
     alloc: Global,
     policy: &Policy,
     checked: &Checked,
     numbers: &mut Numbers,
-) -> Result<Outcome, NoMemory>
+    out: &mut O,
+) -> Result<Outcome<O>, NoMemory>
     requires valid { IsValid (policy_of policy.now) }
     requires reads { ReadsAs checked.now.source.now (file_of checked.now.program) }
-    ensures { IfOk result (λ outcome.
+    ensures due { IfOk result (λ outcome.
         AfterFit (IsCounted numbers.new (policy_of policy.now) checked.now.source.now (file_of checked.now.program))
         checked.now.source.now (policy_of policy.now) (file_of checked.now.program) (due_of outcome)) }
+    ensures puts { Starts O.taken O.faults O.refused out.old out.new result }
 {
     if detaches_none(policy) {
-        drawn(alloc, policy, checked, numbers)
+        drawn(alloc, policy, checked, numbers, out)
     } else {
         let line = worded(alloc, b"policy: detached", b"")?;
         Ok(Outcome::Refused(Cause::Policy, line))
@@ -98,44 +106,54 @@ fn waited(
 }
 
 /// What is due for a policy and a program that are read.
-fn fitted(
+fn fitted<O: Sink>(
     alloc: Global,
     policy: &Policy,
     checked: &Checked,
     numbers: &mut Numbers,
-) -> Result<Outcome, NoMemory>
+    out: &mut O,
+) -> Result<Outcome<O>, NoMemory>
     requires valid { IsValid (policy_of policy.now) }
     requires reads { ReadsAs checked.now.source.now (file_of checked.now.program) }
-    ensures { IfOk result (λ outcome.
+    ensures due { IfOk result (λ outcome.
         AfterPair (IsCounted numbers.new (policy_of policy.now) checked.now.source.now (file_of checked.now.program))
         checked.now.source.now (policy_of policy.now) (file_of checked.now.program) (due_of outcome)) }
+    ensures puts { Starts O.taken O.faults O.refused out.old out.new result }
 {
     match fit_refusal(alloc, policy, checked)? {
         Some(outcome) => Ok(outcome),
-        None => waited(alloc, policy, checked, numbers),
+        None => waited(alloc, policy, checked, numbers, out),
     }
 }
 
 /// What is due for `weave`, by the bytes of a policy and of a source; where it is a text, with its numbers.
-pub(crate) fn counted_due(
+pub(crate) fn counted_due<O: Sink>(
     alloc: Global,
     policy: &[u8],
     source: &[u8],
     numbers: &mut Numbers,
-) -> Result<Outcome, NoMemory>
+    out: &mut O,
+) -> Result<Outcome<O>, NoMemory>
     requires short { length source.now ≤ 262144 }
     ensures due { IfOk result (λ outcome. Weaves (λ whole file. IsCounted numbers.new whole source.now file) policy.now source.now (due_of outcome)) }
+    ensures puts { Starts O.taken O.faults O.refused out.old out.new result }
 {
     match read_both(alloc, policy, source) {
-        Ok(pair) => fitted(alloc, &pair.policy, &pair.checked, numbers),
+        Ok(pair) => fitted(alloc, &pair.policy, &pair.checked, numbers, out),
         Err(answer) => answer,
     }
 }
 
 /// What is due for `weave`, by the bytes of a policy and of a source.
-pub fn weave_due(alloc: Global, policy: &[u8], source: &[u8]) -> Result<Outcome, NoMemory>
+pub fn weave_due<O: Sink>(
+    alloc: Global,
+    policy: &[u8],
+    source: &[u8],
+    out: &mut O,
+) -> Result<Outcome<O>, NoMemory>
     requires short { length source.now ≤ 262144 }
     ensures due { IfOk result (λ outcome. IsWeaveDue policy.now source.now (due_of outcome)) }
+    ensures puts { Starts O.taken O.faults O.refused out.old out.new result }
 {
-    counted_due(alloc, policy, source, &mut Numbers::none())
+    counted_due(alloc, policy, source, &mut Numbers::none(), out)
 }

@@ -4,3 +4,4 @@ mod Notes
 mod Placed
 mod Reading
 pub mod Sizes
+pub mod Starting

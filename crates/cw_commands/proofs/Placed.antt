@@ -1,12 +1,11 @@
 -- What clap builds of a command line of places.
-use Rattle.std.proofs.Common.{◌≡◌, ℕ, ◌+◌, ◌&&◌, Bool, true, false, List, [], ◌∷◌, map, min, Option, Some, None, is_some, refl, sym, ap, ◌∙◌}
+use Rattle.std.proofs.Common.{◌≡◌, ℕ, ◌+◌, true, false, List, [], ◌∷◌, map, min, Option, Some, None, is_some, refl}
 use Rattle.std.specs.List.{list_all, list_any}
 use Rattle.clap.specs.Lexer.{usize_max}
 use Rattle.clap.specs.Walk.{Rule, Text, arg_by_long, arg_by_short, is_early_multiple, nothing_held, walk}
 use Rattle.clap.specs.Simple.{App, built, entered, filled_from, is_simple}
-use Rattle.clap.specs.Takes.{default_passes, level_passes, takes}
+use Rattle.clap.specs.Takes.{default_passes, takes}
 use Rattle.clap.specs.Faults.{entered_fault, fault_of, is_simple_and_free, level_fault}
-use Rattle.clap.specs.Kinds.{Kinds}
 use Rattle.clap.proofs.TakesLemmas.{leaf_takes}
 use Rattle.cw_commands.specs.Lines.{line_app, word_rule}
 use Rattle.cw_commands.proofs.Fits.{and_true, level_ok}

@@ -1,6 +1,7 @@
 -- How a command ends: its status, and the one line on the note, with its line feed.
 use Rattle.std.specs.Prelude.{◌≡◌, ℕ, List, [], ◌∷◌, ◌++◌, Option, Some, None, take, codes, Result}
 use Rattle.cw_core.specs.Quantities.{name_of}
+use Rattle.cw_io.specs.Causes.{Rose}
 use Rattle.cw_io.specs.Pieces.{Grows, Puts}
 use Rattle.cw_commands.specs.declared.name.Name.{Name}
 use Rattle.cw_commands.specs.declared.ending.Ending.{Ending}
@@ -47,3 +48,13 @@ GrowsByFront old new bytes = (count : ℕ) × Grows old new (take count bytes)
 abbrev pub IsNoted : Option (List ℕ) → Option (List ℕ) → Option (List ℕ) → Type 0
 IsNoted old new None = new ≡ old
 IsNoted old new (Some line) = GrowsByFront old new line
+
+-- the note got the whole line, and where there is none it stayed as it was
+abbrev pub GrowsByLine : Option (List ℕ) → Option (List ℕ) → Option (List ℕ) → Type 0
+GrowsByLine old new None = new ≡ old
+GrowsByLine old new (Some line) = Grows old new line
+
+-- where neither count of the note rose, it got the whole line, by what it tells of its bytes, its faults and its refused memory
+abbrev pub IsNotedWhole : {N : Type 0} → (taken : N → Option (List ℕ)) → (faults refused : N → ℕ) → (old new : N) → Option (List ℕ) → Type 0
+IsNotedWhole taken faults refused old new line =
+    (Rose (faults old) (faults new) → ⊥) → (Rose (refused old) (refused new) → ⊥) → GrowsByLine (taken old) (taken new) line

@@ -1,5 +1,5 @@
 -- The command lines of the commands, as clap reads them.
-use Rattle.std.specs.Prelude.{ℕ, List, [], ◌∷◌, Bool, true, map, Option, Some, None, if◌then◌else◌, option_map, option_and_then, codes}
+use Rattle.std.specs.Prelude.{List, [], ◌∷◌, true, map, Option, Some, None, if◌then◌else◌, option_map, option_and_then, codes}
 use Rattle.clap.specs.Simple.{new_shape}
 use Rattle.clap.specs.Words.{App, Row, Rule, Text, first_of, matches_of, new_rule, takes}
 

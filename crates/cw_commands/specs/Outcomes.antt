@@ -12,8 +12,8 @@ pub data Due : Type 0 where
   Told : (reply : Reply) → (text : List ℕ) → Due
   Refused : (cause : Cause) → (line : List ℕ) → Due
 
-abbrev pub due_of : Outcome → Due
-due_of (ToldData reply text) = Told reply text.items
+abbrev pub due_of : {O : Type 0} → Outcome O → Due
+due_of (ToldData reply writer) = Told reply writer.text
 due_of (RefusedData cause line) = Refused cause line.items
 
 -- the status of a text that was put whole, and of a refusal

@@ -1,19 +1,27 @@
 //! The one line on the note.
 
 ghost use Rattle.std.specs.Prelude.{◌≡◌, codes, Some};
+ghost use Rattle.cw_io.specs.Causes.{HasCause};
 ghost use Rattle.cw_io.specs.Pieces.{Puts};
-ghost use Rattle.cw_commands.specs.Endings.{IsNoted, line, line_of, usage_line, PutsLine};
+ghost use Rattle.cw_io.specs.declared.fault.SinkFault.TheVariants as SinkFault;
+ghost use Rattle.cw_commands.specs.Endings.{line, line_of, usage_line, IsNoted, IsNotedWhole, PutsLine};
 
 use crate::ending::Ending;
 use crate::name::Name;
-use cw_io::{Sink, SinkFault, put_both};
+use cw_io::{Sink, SinkFault};
+use cw_pieces::Writer;
 
 /// Puts some words, others behind them and a line feed.
 fn put_line<N: Sink>(note: &mut N, words: &[u8], rest: &[u8]) -> Result<(), SinkFault>
-    ensures { Puts (N.taken note.old) (N.taken note.new) (line words.now rest.now) result }
+    ensures puts { Puts (N.taken note.old) (N.taken note.new) (line words.now rest.now) result }
+    ensures failed { HasCause SinkFault.Failed (N.faults note.old) (N.faults note.new) result }
+    ensures refused { HasCause SinkFault.NoMemory (N.refused note.old) (N.refused note.new) result }
 {
-    put_both(note, words, rest)?;
-    note.put(b"\n")
+    let mut writer = Writer::begin(note);
+    writer.put(words, note);
+    writer.put(rest, note);
+    writer.put(b"\n", note);
+    writer.finish(note)
 }
 
 fn usage(first: Option<Name>) -> &'static [u8]
@@ -25,16 +33,20 @@ fn usage(first: Option<Name>) -> &'static [u8]
     }
 }
 
-/// Puts the line of words that don't fit, by the command that the first one names.
+/// Puts the line of words that don't fit, by the command that the first one names. The note gets a front of it, and all of it where neither of
+/// its counts rises.
 pub fn put_usage<N: Sink>(note: &mut N, first: Option<Name>) -> Result<(), SinkFault>
     ensures puts { Puts (N.taken note.old) (N.taken note.new) (usage_line first) result }
     ensures noted { IsNoted (N.taken note.old) (N.taken note.new) (Some (usage_line first)) }
+    ensures whole { IsNotedWhole N.taken N.faults N.refused note.old note.new (Some (usage_line first)) }
 {
     put_line(note, b"usage: capweave ", usage(first))
 }
 
 fn put_line_of<N: Sink>(note: &mut N, ending: &Ending) -> Result<(), SinkFault>
-    ensures { PutsLine (N.taken note.old) (N.taken note.new) (line_of ending.now) result }
+    ensures puts { PutsLine (N.taken note.old) (N.taken note.new) (line_of ending.now) result }
+    ensures failed { HasCause SinkFault.Failed (N.faults note.old) (N.faults note.new) result }
+    ensures refused { HasCause SinkFault.NoMemory (N.refused note.old) (N.refused note.new) result }
 {
     match ending {
         Ending::Put(_) => Ok(()),
@@ -46,10 +58,11 @@ fn put_line_of<N: Sink>(note: &mut N, ending: &Ending) -> Result<(), SinkFault>
     }
 }
 
-/// Puts the line of an ending, if it has one. After an error a front of it was put, maybe all of it.
+/// Puts the line of an ending, if it has one. After an error a front of it was put, maybe all of it; where neither of the note's counts rises, all of it.
 pub fn put_ending<N: Sink>(note: &mut N, ending: &Ending) -> Result<(), SinkFault>
     ensures puts { PutsLine (N.taken note.old) (N.taken note.new) (line_of ending.now) result }
     ensures noted { IsNoted (N.taken note.old) (N.taken note.new) (line_of ending.now) }
+    ensures whole { IsNotedWhole N.taken N.faults N.refused note.old note.new (line_of ending.now) }
 {
     put_line_of(note, ending)
 }

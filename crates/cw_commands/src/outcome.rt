@@ -1,5 +1,8 @@
 //! What is due for the bytes of a command's files.
 
+use cw_io::Sink;
+use cw_pieces::Writer;
+
 /// Which of a command's two answers a text is.
 #[derive(Clone, Copy, Debug, PartialEq, Eq, Drop)]
 pub enum Reply {
@@ -24,9 +27,9 @@ pub enum Cause {
 
 /// What is due for the bytes of a command's files.
 #[derive(Drop)]
-pub enum Outcome {
-    /// A text for the output.
-    Told(Reply, Vec<u8>),
+pub enum Outcome<O: Sink> {
+    /// A text for the output, to which it was put, but for what waits in its writer.
+    Told(Reply, Writer<O>),
     /// A refusal: the line on the note.
     Refused(Cause, Vec<u8>),
 }

@@ -5,6 +5,7 @@ use Rattle.cw_actions.specs.Scenes.{names_of}
 use Rattle.cw_points.specs.Graphs.{IsGraph}
 use Rattle.cw_source.specs.Read.{ReadsAs}
 use Rattle.cw_commands.specs.Outcomes.{due_of}
+use Rattle.cw_commands.proofs.Starting.{unput}
 use Rattle.cw_cli.specs.Checking.{AfterWoven}
 use Rattle.cw_cli.proofs.Checks.{few_rows, woven_refused}
 use Rattle.cw_cli.proofs.Refused.{if_ok}
@@ -12,29 +13,32 @@ use Rattle.cw_cli.proofs.Withins.{nodes_few}
 use Rattle.cw_cli.proofs.checking.accepted.Goals as goal
 
 pub fitted-requires-clause-reads : goal.fitted-requires-clause-reads
-fitted-requires-clause-reads c = subst (λ s. ReadsAs s (file_of c.in-Ok.program.checked.program)) (sym c.in-Ok.ensures.source) c.in-Ok.ensures.reads.accepted.reads
+fitted-requires-clause-reads g c = subst (λ s. ReadsAs s (file_of c.in-Ok.program.checked.program)) (sym c.in-Ok.ensures.source) c.in-Ok.ensures.reads.accepted.reads
 
 pub fitted-requires-clause-graph : goal.fitted-requires-clause-graph
-fitted-requires-clause-graph c =
+fitted-requires-clause-graph g c =
     subst (λ s. IsGraph (names_of (policy_of c.args.policy.now)) s (file_of c.in-Ok.program.checked.program) c.in-Ok.program.graph) (sym c.in-Ok.ensures.source) c.in-Ok.ensures.graph
 
 pub fitted-requires-clause-points : goal.fitted-requires-clause-points
-fitted-requires-clause-points c =
+fitted-requires-clause-points g c =
     nodes_few (names_of (policy_of c.args.policy.now)) c.args.opened.now.source.items (file_of c.in-Ok.program.checked.program) c.in-Ok.program.graph c.in-Ok.ensures.graph c.in-Ok.ensures.reads.accepted.few
 
 pub fitted-requires-clause-few : goal.fitted-requires-clause-few
-fitted-requires-clause-few c = few_rows (policy_of c.args.policy.now) c.requires.opened.has.lines c.args.opened.now.table c.requires.opened.has.spells
+fitted-requires-clause-few g c = few_rows (policy_of c.args.policy.now) c.requires.opened.has.lines c.args.opened.now.table c.requires.opened.has.spells
 
-pub returns-in-Ok : goal.returns-in-Ok
-returns-in-Ok c =
+pub returns-in-Ok-clause-due : goal.returns-in-Ok-clause-due
+returns-in-Ok-clause-due g c =
     let whole = policy_of c.args.policy.now in
     let file = file_of c.in-Ok.program.checked.program in
     let o = c.args.opened.now in
-    if_ok c.fitted.result c.fitted.ensures (λ outcome d.
+    if_ok c.fitted.result c.fitted.ensures.due (λ outcome d.
     inr (o.source.items, file, o.table, c.in-Ok.ensures.reads, subst (λ s. AfterWoven s whole file o.table (due_of outcome)) c.in-Ok.ensures.source d))
 
-pub returns-in-Err : goal.returns-in-Err
-returns-in-Err c =
+pub returns-in-Err-clause-due : goal.returns-in-Err-clause-due
+returns-in-Err-clause-due g c =
     let whole = policy_of c.args.policy.now in
     let o = c.args.opened.now in
-    if_ok c.woven_refusal.result (woven_refused whole o.text.now o.source.items c.deref.result.now c.in-Err.fault c.woven_refusal.result c.in-Err.ensures.fault c.deref.ensures.value c.woven_refusal.ensures) (λ outcome d. inl d)
+    if_ok c.woven_refusal.result (woven_refused whole o.text.now o.source.items c.deref.result.now c.in-Err.fault c.woven_refusal.result c.in-Err.ensures.fault c.deref.ensures.value c.woven_refusal.ensures.due) (λ outcome d. inl d)
+
+pub returns-in-Err-clause-puts : goal.returns-in-Err-clause-puts
+returns-in-Err-clause-puts g c = unput g.O.Sink.taken g.O.Sink.faults g.O.Sink.refused c.args.out.now c.woven_refusal.result c.woven_refusal.ensures.refused

@@ -1,9 +1,13 @@
 use Rattle.std.proofs.Common.{inr}
+use Rattle.cw_commands.proofs.Starting.{unput_one}
 use Rattle.cw_cli.proofs.Checks.{where_none}
 use Rattle.cw_cli.proofs.Refused.{if_ok}
 use Rattle.cw_cli.proofs.checking.fitted.Goals as goal
 
-pub returns-in-None : goal.returns-in-None
-returns-in-None c =
+pub returns-in-None-clause-due : goal.returns-in-None-clause-due
+returns-in-None-clause-due g c =
     let fits = where_none c.in_ok-outcome.field-0 c.in-None.is c.in_ok-outcome.ensures.fits in
-    if_ok c.played.result c.played.ensures (λ o d. inr (fits, c.args.accepted.now.graph, c.requires.graph, d))
+    if_ok c.played.result c.played.ensures.due (λ o d. inr (fits, c.args.accepted.now.graph, c.requires.graph, d))
+
+pub returns-in-Some-clause-puts : goal.returns-in-Some-clause-puts
+returns-in-Some-clause-puts g c = unput_one g.O.Sink.taken g.O.Sink.faults g.O.Sink.refused c.args.out.now c.in-Some.outcome (rw c.in-Some.is at c.in_ok-outcome.ensures.refused)

@@ -1,9 +1,13 @@
 use Rattle.std.proofs.Common.{inr}
+use Rattle.cw_commands.proofs.Starting.{unput}
 use Rattle.cw_cli.proofs.Refused.{if_ok}
 use Rattle.cw_cli.proofs.playing.taped.Goals as goal
 
 pub fitted-requires-clause-tape : goal.fitted-requires-clause-tape
-fitted-requires-clause-tape c = rw c.deref.ensures.value c.in-Ok.ensures.moves.may
+fitted-requires-clause-tape g c = rw c.deref.ensures.value c.in-Ok.ensures.moves.may
 
-pub returns-in-Ok : goal.returns-in-Ok
-returns-in-Ok c = if_ok c.fitted.result c.fitted.ensures (λ o d. inr (c.in-Ok.moves.items, c.in-Ok.ensures.moves, rw c.deref.ensures.value at d))
+pub returns-in-Ok-clause-due : goal.returns-in-Ok-clause-due
+returns-in-Ok-clause-due g c = if_ok c.fitted.result c.fitted.ensures.due (λ o d. inr (c.in-Ok.moves.items, c.in-Ok.ensures.moves, rw c.deref.ensures.value at d))
+
+pub returns-in-Err-clause-puts : goal.returns-in-Err-clause-puts
+returns-in-Err-clause-puts g c = unput g.O.Sink.taken g.O.Sink.faults g.O.Sink.refused c.args.out.now c.in-Err.answer c.in-Err.ensures.untold

@@ -5,7 +5,7 @@ use Rattle.cw_scope.specs.Descriptors.{descriptor_fault}
 use Rattle.cw_cli.proofs.reading.read_both.Goals as goal
 
 pub returns-in-Ok-read_under-clause-read : goal.returns-in-Ok-read_under-clause-read
-returns-in-Ok-read_under-clause-read c =
+returns-in-Ok-read_under-clause-read g c =
     let whole = policy_of c.in-Ok.whole in
     let file = file_of c.in-Ok-read_under.checked.program in
     record {

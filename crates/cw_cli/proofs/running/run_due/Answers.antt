@@ -1,7 +1,11 @@
 use Rattle.std.proofs.Common.{inr}
 use Rattle.cw_rights.specs.Policies.{policy_of}
+use Rattle.cw_commands.proofs.Starting.{unput}
 use Rattle.cw_cli.proofs.Refused.{if_ok}
 use Rattle.cw_cli.proofs.running.run_due.Goals as goal
 
-pub returns-in-Ok : goal.returns-in-Ok
-returns-in-Ok c = record { due = if_ok c.opened.result c.opened.ensures (λ o d. inr (policy_of c.in-Ok.whole, c.in-Ok.ensures.policy, d)) }
+pub returns-in-Ok-clause-due : goal.returns-in-Ok-clause-due
+returns-in-Ok-clause-due g c = if_ok c.opened.result c.opened.ensures.due (λ o d. inr (policy_of c.in-Ok.whole, c.in-Ok.ensures.policy, d))
+
+pub returns-in-Err-clause-puts : goal.returns-in-Err-clause-puts
+returns-in-Err-clause-puts g c = unput g.O.Sink.taken g.O.Sink.faults g.O.Sink.refused c.args.out.now c.policy_refusal.result c.policy_refusal.ensures.refused

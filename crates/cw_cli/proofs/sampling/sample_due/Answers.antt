@@ -1,37 +1,44 @@
-use Rattle.std.proofs.Common.{sym, ◌∙◌, subst}
+use Rattle.std.proofs.Common.{ap, sym, ◌∙◌, refl, subst}
+use Rattle.cw_io.specs.Sinks.{SureSinkState}
 use Rattle.cw_commands.specs.declared.outcome.Outcome.{Outcome}
 use Rattle.cw_commands.specs.Outcomes.{due_of}
 use Rattle.cw_cli.specs.Counting.{IsCounted}
+use Rattle.cw_cli.specs.Sampling.{summary, IsSampleDue}
 use Rattle.cw_cli.specs.Weaving.{Weaves}
 use Rattle.cw_cli.proofs.Sampled.{due_again, refused_due, summed_due}
 use Rattle.cw_cli.proofs.sampling.sample_due.Goals as goal
 
-pub returns-in-Refused : goal.returns-in-Refused
-returns-in-Refused c =
+pub returns-in-Refused-clause-due : goal.returns-in-Refused-clause-due
+returns-in-Refused-clause-due g c =
     let numbers = c.counted_due.new.numbers in
     let policy = c.deref.result.now in
     let source = c.deref-2.result.now in
-    let due = subst (λ (o : Outcome). Weaves (λ whole file. IsCounted numbers whole source file) policy source (due_of o)) c.in-Refused.is c.in_ok-outcome.ensures.due in
-    record {
-      due = refused_due c.args.number numbers policy source c.in-Refused.cause c.in-Refused.line.items (c.deref.ensures.value ∙ c.in_ok-policy.ensures.policy) (c.deref-2.ensures.value ∙ c.in_ok-policy.ensures.source) due;
-    }
+    let due = subst (λ (o : Outcome SureSinkState). Weaves (λ whole file. IsCounted numbers whole source file) policy source (due_of o)) c.in-Refused.is c.in_ok-outcome.ensures.due in
+    refused_due c.args.number numbers policy source c.in-Refused.cause c.in-Refused.line.items (c.deref.ensures.value ∙ c.in_ok-policy.ensures.policy) (c.deref-2.ensures.value ∙ c.in_ok-policy.ensures.source) due
+
+pub finished-requires-clause-follows : goal.finished-requires-clause-follows
+finished-requires-clause-follows g c = (rw c.in-Told.is at c.in_ok-outcome.ensures.puts).1
+
+pub finished-requires-clause-empty : goal.finished-requires-clause-empty
+finished-requires-clause-empty g c =
+    let begun = (rw c.in-Told.is at c.in_ok-outcome.ensures.puts).0 in
+    ap (λ (s : SureSinkState). s.bytes) (begun ∙ c.make-sink.ensures)
 
 pub go_through-requires-clause-due : goal.go_through-requires-clause-due
-go_through-requires-clause-due c =
+go_through-requires-clause-due g c =
     let numbers = c.counted_due.new.numbers in
     let policy = c.deref.result.now in
     let source = c.deref-2.result.now in
-    let due = subst (λ (o : Outcome). Weaves (λ whole file. IsCounted numbers whole source file) policy source (due_of o)) c.in-Told.is c.in_ok-outcome.ensures.due in
-    due_again numbers policy c.deref-in-Told.result.now source c.deref-in-Told-2.result.now c.in-Told.text.items c.deref-in-Told-3.result.now c.in-Told.reply
-    (c.deref.ensures.value ∙ sym c.deref-in-Told.ensures.value) (c.deref-2.ensures.value ∙ sym c.deref-in-Told-2.ensures.value) (sym c.deref-in-Told-3.ensures.value) due
+    let due = subst (λ (o : Outcome SureSinkState). Weaves (λ whole file. IsCounted numbers whole source file) policy source (due_of o)) c.in-Told.is c.in_ok-outcome.ensures.due in
+    due_again numbers policy c.deref-in-Told.result.now source c.deref-in-Told-2.result.now c.in-Told.writer.text c.bytes.result.now c.in-Told.reply
+    (c.deref.ensures.value ∙ sym c.deref-in-Told.ensures.value) (c.deref-2.ensures.value ∙ sym c.deref-in-Told-2.ensures.value) (sym (c.bytes.ensures ∙ c.in_ok-finished-in-Told.ensures)) due
 
-pub returns : goal.returns
-returns c =
+pub returns-clause-due : goal.returns-clause-due
+returns-clause-due g c =
     let numbers = c.counted_due.new.numbers in
     let policy = c.deref.result.now in
     let source = c.deref-2.result.now in
-    let due = subst (λ (o : Outcome). Weaves (λ whole file. IsCounted numbers whole source file) policy source (due_of o)) c.in-Told.is c.in_ok-outcome.ensures.due in
-    record {
-      due = summed_due c.args.number numbers policy source c.in-Told.reply c.in-Told.text.items c.in_ok-text-in-Told.text.items (c.deref.ensures.value ∙ c.in_ok-policy.ensures.policy)
-          (c.deref-2.ensures.value ∙ c.in_ok-policy.ensures.source) c.in_ok-text-in-Told.ensures due;
-    }
+    let due = subst (λ (o : Outcome SureSinkState). Weaves (λ whole file. IsCounted numbers whole source file) policy source (due_of o)) c.in-Told.is c.in_ok-outcome.ensures.due in
+    let told = summed_due c.args.number numbers policy source c.in-Told.reply c.in-Told.writer.text (summary c.args.number numbers c.in-Told.reply) (c.deref.ensures.value ∙ c.in_ok-policy.ensures.policy)
+    (c.deref-2.ensures.value ∙ c.in_ok-policy.ensures.source) refl due in
+    subst (IsSampleDue c.args.number) (sym c.summary.ensures.due) told

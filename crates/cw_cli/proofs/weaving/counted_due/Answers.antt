@@ -2,15 +2,17 @@ use Rattle.std.proofs.Common.{inr, subst}
 use Rattle.cw_rights.specs.Policies.{policy_of}
 use Rattle.cw_syntax.specs.Trees.{file_of}
 use Rattle.cw_commands.specs.Outcomes.{due_of}
+use Rattle.cw_commands.proofs.Starting.{unput}
 use Rattle.cw_cli.specs.Counting.{IsCounted}
 use Rattle.cw_cli.specs.Weaving.{AfterPair}
 use Rattle.cw_cli.proofs.Refused.{if_ok}
 use Rattle.cw_cli.proofs.weaving.counted_due.Goals as goal
 
-pub returns-in-Ok : goal.returns-in-Ok
-returns-in-Ok c =
+pub returns-in-Ok-clause-due : goal.returns-in-Ok-clause-due
+returns-in-Ok-clause-due g c =
     let whole = policy_of c.in-Ok.pair.policy in
     let file = file_of c.in-Ok.pair.checked.program in
-    record {
-      due = if_ok c.fitted.result c.fitted.ensures (λ o d. inr (whole, file, c.in-Ok.ensures.read, subst (λ s. AfterPair (IsCounted c.fitted.new.numbers whole s file) s whole file (due_of o)) c.in-Ok.ensures.source d));
-    }
+    if_ok c.fitted.result c.fitted.ensures.due (λ o d. inr (whole, file, c.in-Ok.ensures.read, subst (λ s. AfterPair (IsCounted c.fitted.new.numbers whole s file) s whole file (due_of o)) c.in-Ok.ensures.source d))
+
+pub returns-in-Err-clause-puts : goal.returns-in-Err-clause-puts
+returns-in-Err-clause-puts g c = unput g.O.Sink.taken g.O.Sink.faults g.O.Sink.refused c.args.out.now c.in-Err.answer c.in-Err.ensures.untold

@@ -1,8 +1,8 @@
-use Rattle.std.proofs.Common.{◌≡◌, ◌≢◌, ℕ, List, [], map, true, false, sym, ap, ap₂, ◌∙◌, subst}
+use Rattle.std.proofs.Common.{◌≡◌, ℕ, List, [], map, sym, ap, ◌∙◌}
 use Rattle.std.specs.Prelude.{string_bytes}
 use Rattle.std.proofs.lemmas.Result.{IfOk-weaker}
 use Rattle.clap.specs.Words.{App, app_of, fault_of, found_of, is_simple, is_simple_and_free, matches_of, rows_of, takes}
-use Rattle.cw_commands.specs.Lines.{line_app, taken, values}
+use Rattle.cw_commands.specs.Lines.{line_app}
 use Rattle.cw_commands.proofs.Collected.{none_taken, taken_is}
 use Rattle.cw_commands.proofs.Placed.{line_is_free, line_is_simple}
 use Rattle.cw_commands.proofs.line.taken.Goals as goal

@@ -1,9 +1,8 @@
-use Rattle.std.proofs.Common.{◌≡◌, ◌<◌, ◌∷◌, [], ◌++◌, None, Some, length, length-append, map, sym, ap, ◌∙◌, arith, List, ℕ}
+use Rattle.std.proofs.Common.{◌<◌, ◌∷◌, [], length, length-append, map, ap, ◌∙◌, arith, List, ℕ}
 use Rattle.std.specs.Borrow.{Bor}
 use Rattle.std.proofs.lemmas.List.{map-append}
 use Rattle.clap.proofs.WalkLemmas.{first_value-rows}
 use Rattle.clap.specs.Words.{found_of, rows_of}
-use Rattle.cw_commands.specs.Lines.{values}
 use Rattle.cw_commands.proofs.Collected.{none_found, one_found, place_at}
 use Rattle.cw_commands.proofs.line.values.Goals as goal
 
