@@ -1,0 +1,4 @@
+pub mod Ranks
+pub mod Spreads
+pub mod Blocks
+mod Bits
