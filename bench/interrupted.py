@@ -6,7 +6,7 @@
 A small library in C, compiled into a temporary folder and loaded before the C library, lets each read or write take a few bytes alone, and makes one of
 them fail: the first, then the second, and so on until a run makes no more. With short ones each command has to answer as with whole ones. A read that fails has
 to end it with status 6, the line `read: NAME` and nothing on the output; a write to the output with status 7, the line `write` and a front of what it
-writes otherwise; a write to the note changes nothing but the note, which keeps a front of its line. The same is asked of a full disk, a closed output, a pipe
+writes otherwise, but for an interrupted one, which is made again; a write to the note changes nothing but the note, which keeps a front of its line. The same is asked of a full disk, a closed output, a pipe
 whose reader ends after a byte, a folder, a missing file, an endless one and a pipe that comes byte by byte. What differs is printed, and the exit status
 is then 1. Needs Linux, cc, Python 3.8 and no package.
 """
@@ -127,6 +127,8 @@ def failures(program, words, answer, kind, **asked):
             return failing - 1
         if kind == READ:
             good = (told, taken) == (6, b"") and line in [b"read: %s\n" % name.encode() for name in words[1:]]
+        elif kind == OUT and asked["CODE"] == errno.EINTR:
+            good = (told, taken, line) == answer
         elif kind == OUT:
             good = told == 7 and line == b"write\n" and out.startswith(taken)
         else:
