@@ -1,7 +1,7 @@
 //! The objects as a caller sees them: each one through its trait, and the two real ones on real files.
 use cw_io::{
     FileShelf, MemShelf, MemSink, ReadFault, Shelf, Sink, SinkFault, StreamSink, SureShelf,
-    SureSink, put_both,
+    SureSink,
 };
 use std::alloc::{AllocError, Global};
 use std::process::Abort;
@@ -92,11 +92,12 @@ fn puts_in_memory(rt: HostRuntime) -> Result<(), Fail> {
         assert_eq!(rt; sink.bytes(), bytes.as_bytes(), "{piece}");
         assert_eq!(rt; sink.longest(), longest, "{piece}");
     }
-    assert_eq!(rt; put_both(&mut sink, b"hi", b"j"), Ok(()));
+    assert_eq!(rt; sink.put(b"hij"), Ok(()));
     assert_eq!(rt; sink.bytes(), b"abcdefghij".as_slice());
 
     let mut sure = SureSink::make(alloc);
-    assert_eq!(rt; put_both(&mut sure, b"one ", b"two"), Ok(()));
+    assert_eq!(rt; sure.put(b"one "), Ok(()));
+    assert_eq!(rt; sure.put(b"two"), Ok(()));
     assert_eq!(rt; sure.bytes(), b"one two".as_slice());
     Ok(())
 }
@@ -105,7 +106,8 @@ fn puts_in_memory(rt: HostRuntime) -> Result<(), Fail> {
 fn real_files(rt: HostRuntime) -> Result<(), Fail> {
     let alloc = rt.alloc();
     let mut sink = StreamSink::make(fs::create(&rt, "out.c")?);
-    assert_eq!(rt; put_both(&mut sink, b"int main", b""), Ok(()));
+    assert_eq!(rt; sink.put(b"int main"), Ok(()));
+    assert_eq!(rt; sink.put(b""), Ok(()));
     assert_eq!(rt; sink.put(b"(void);"), Ok(()));
     drop(sink);
     fs::write(&rt, "long", vec![in alloc; b'x'; 9000]?.as_slice())?;

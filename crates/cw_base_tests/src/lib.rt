@@ -8,7 +8,11 @@ mod files;
 #[cfg(test)]
 mod links;
 #[cfg(test)]
+mod marks;
+#[cfg(test)]
 mod numerals;
+#[cfg(test)]
+mod pieces;
 #[cfg(test)]
 mod rights;
 #[cfg(test)]
