@@ -1,0 +1,3 @@
+pub mod Queueing
+pub mod Linking
+pub mod Spreading
