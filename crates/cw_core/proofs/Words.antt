@@ -1,11 +1,14 @@
 -- Words of 64 bits and the number that they stand for.
-use Rattle.std.proofs.Common.{◌≡◌, ◌≢◌, ℕ, zero, suc, ◌^◌, ◌<◌, ◌≤◌, true, eqb, List, [], ◌∷◌, length, get_or, refl, sym, ap, ◌∙◌, arith, inl, inr, Less, Greater, nat_cmp}
+use Rattle.std.proofs.Common.{◌≡◌, ◌≢◌, ℕ, zero, suc, ◌+◌, ◌-◌, ◌*◌, ◌/◌, ◌^◌, ◌<◌, ◌≤◌, true, eqb, List, [], ◌∷◌, length, get_or, refl, sym, ap, ◌∙◌, arith, inl, inr, Less, Greater, nat_cmp}
 use Rattle.std.proofs.lemmas.Bool.{cases_lt, eq-eqb, eqb-true}
 use Rattle.std.specs.Cmp.{both_ways, nat_cmp_is}
 use Rattle.std.specs.Cmp.Lexicographic.{same_text}
 use lib.Pointwise.{pointwise}
 use Rattle.std.proofs.Math.ListN.{set}
 use Rattle.std.proofs.lemmas.List.{length-set, ext_get_or}
+use Rattle.std.proofs.lemmas.Nat.{pow_pos, pow-add, leading_length}
+use Rattle.std.proofs.Math.Nat.{pow-le-pow_right, div-eq_of_lt}
+use Rattle.std.specs.Int.Count.{count_leading_zeros}
 use Rattle.cw_core.specs.Words.{number_of, words_of, AreWords, AreSixteenWords, words_of-number_of}
 
 pub AreWords-set : (ws : List ℕ) (i w : ℕ) → AreWords ws → w < 2 ^ 64 → AreWords (set ws i w)
@@ -65,3 +68,38 @@ nat_cmp-number_of xs ys i p q len above differ =
 -- words that are all equal
 pub same_number : (xs ys : List ℕ) → length xs ≡ length ys → ((k : ℕ) → 0 ≤ k → get_or xs k 0 ≡ get_or ys k 0) → number_of xs ≡ number_of ys
 same_number xs ys len all = ap number_of (ext_get_or 0 xs ys len (λ k _. all k (omega arith)))
+
+-- where every word is zero
+pub all_zero : (ws : List ℕ) → ((k : ℕ) → 0 ≤ k → get_or ws k 0 ≡ 0) → number_of ws ≡ 0
+unfolding number_of
+all_zero [] none = refl
+all_zero (w ∷ ws) none =
+    let first : w ≡ 0 = none zero (omega arith) in
+    let rest = all_zero ws (λ k _. none (suc k) (omega arith)) in
+    omega (arith, first, rest)
+
+-- the highest word that isn't zero bounds the number
+top_word : (ws : List ℕ) (i m : ℕ) → AreWords ws → ((k : ℕ) → i < k → get_or ws k 0 ≡ 0) → get_or ws i 0 < 2 ^ m → number_of ws < 2 ^ (64 * i + m)
+unfolding number_of
+top_word [] i m fit above lt = pow_pos (64 * i + m)
+top_word (w ∷ ws) zero m fit above lt =
+    let rest = all_zero ws (λ k _. above (suc k) (omega arith)) in
+    let e : 64 * 0 + m ≡ m = omega arith in
+    rw e (omega (arith, rest, lt))
+top_word (w ∷ ws) (suc i) m fit above lt =
+    let less = top_word ws i m fit.1 (λ k h. above (suc k) (omega (arith, h))) lt in
+    let e : 64 * suc i + m ≡ 64 * i + m + 64 = omega arith in
+    let p : 2 ^ (64 * suc i + m) ≡ 2 ^ (64 * i + m) * 2 ^ 64 = ap (λ (z : ℕ). 2 ^ z) e ∙ pow-add 2 (64 * i + m) 64 in
+    let low = fit.0 in
+    rw p (omega (arith, less, low))
+
+-- no bit stands from its highest nibble on
+pub above_top : (ws : List ℕ) (i empty place : ℕ) → AreWords ws → ((k : ℕ) → i < k → get_or ws k 0 ≡ 0) → empty ≡ count_leading_zeros 64 (get_or ws i 0)
+    → place ≡ 16 * i + (67 - empty) / 4 → number_of ws / 2 ^ (4 * place) ≡ 0
+above_top ws i empty place fit above is e =
+    let (m, whole, lt, _) = leading_length 64 (get_or ws i 0) (AreWords-at ws i fit) in
+    let wide : 64 * i + m ≤ 4 * place = omega (arith, is, e, whole) in
+    let less = top_word ws i m fit above lt in
+    let more : 2 ^ (64 * i + m) ≤ 2 ^ (4 * place) = pow-le-pow_right (omega arith) wide in
+    let within : number_of ws < 2 ^ (4 * place) = omega (arith, less, more) in
+    div-eq_of_lt within

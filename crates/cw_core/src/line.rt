@@ -82,9 +82,8 @@ impl Line {
         ensures text { self.new ≡ self.old ++ hexadecimal set.now }
     {
         self.put_text(b"0x");
-        set.members_are_below_1024();
         let mut some = false;
-        let mut place: usize = 256;
+        let mut place = set.nibble_count();
         'nibbles: while place > 0 {
             some = self.put_digit(some, set.nibble(place - 1));
             place -= 1;

@@ -165,6 +165,20 @@ impl StateSet {
         ((self.words[place / 16] >> (4 * (place % 16))) & 15) as u8
     }
 
+    /// How many places of four bits there are up to the greatest member, and none in the empty set.
+    pub(crate) fn nibble_count(&self) -> usize
+        ensures within { result ≤ 256 }
+        ensures above { self.now / 2 ^ (4 * result) ≡ 0 }
+    {
+        for i in (0..16).rev() {
+            let word = self.words[i];
+            if word != 0 {
+                return 16 * i + (67 - word.leading_zeros() as usize) / 4;
+            }
+        }
+        0
+    }
+
     /// Puts four bits from 4 times a place on, above all that the set has.
     pub(crate) fn add_nibble(&mut self, place: usize, digit: u8)
         requires in_range { place < 256 }

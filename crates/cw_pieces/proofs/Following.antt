@@ -1,9 +1,12 @@
 -- How a sink follows the text when a piece comes, and what it has taken at the end.
-use Rattle.std.proofs.Common.{◌≡◌, ℕ, ◌+◌, ◌-◌, ◌≤◌, true, false, take, drop, List, [], ◌++◌, Option, Some, None, Result, Ok, Err, sym, ap, ◌∙◌, append_assoc, arith}
+use Rattle.std.proofs.Common.{◌≡◌, ℕ, ◌+◌, ◌-◌, ◌<◌, ◌≤◌, true, false, length, length-append, take, drop, List, [], ◌++◌, Option, Some, None, Result, Ok, Err, sym, ap, ◌∙◌, append_assoc, arith}
 use Rattle.std.specs.Option.{is_some}
 use Rattle.std.specs.Result.{result_err}
-use Rattle.std.proofs.Math.Seq.{take-add}
-use Rattle.std.proofs.lemmas.List.{append-nil}
+use Rattle.std.proofs.Math.Seq.{take-add, drop-append_seam}
+use Rattle.std.proofs.lemmas.List.{append-nil, take_rest}
+use Rattle.cw_core.specs.Numerals.{hexadecimal}
+use Rattle.cw_core.specs.StateSet.{IsBelow}
+use Rattle.cw_core.proofs.SetTexts.{mask_length}
 use Rattle.cw_io.specs.Causes.{HasCause}
 use Rattle.cw_io.specs.Pieces.{Puts}
 use Rattle.cw_io.specs.declared.fault.SinkFault.{SinkFault}
@@ -29,6 +32,23 @@ took_waiting old mid new text waiting piece None (Ok u) none (said, whole, grows
 took_waiting old mid new text waiting piece None (Err fault) none (said, whole, grows) put =
     let all : text ++ piece ≡ said ++ (waiting ++ piece) = ap (λ (z : List ℕ). z ++ piece) whole ∙ append_assoc said waiting piece in
     rw all (puts_both old mid new said (waiting ++ piece) (Err fault) grows put)
+
+-- a piece that there was room for, and no put
+pub took_on : (old new : Option (List ℕ)) (text waiting piece : List ℕ) (fault : Option SinkFault) → is_some fault ≡ false
+    → TookBut old new text waiting fault → TookBut old new (text ++ piece) (waiting ++ piece) fault
+took_on old new text waiting piece None none (said, whole, grows) = (said, ap (λ (z : List ℕ). z ++ piece) whole ∙ append_assoc said waiting piece, grows)
+took_on old new text waiting piece (Some fault) none took = cc
+
+-- what stands behind what waited
+pub last_piece : (waiting piece now all front : List ℕ) → now ≡ waiting ++ piece → all ≡ now → front ≡ waiting → take (length all - length front) (drop (length front) all) ≡ piece
+last_piece waiting piece now all front e f g = rw (g, f, e) (take_rest (waiting ++ piece) (length waiting) ∙ drop-append_seam waiting piece)
+
+-- the spelling of a set for which there is more room than it needs
+pub short_with_mask : (waiting : List ℕ) (set : ℕ) → IsBelow 1024 set → length waiting + 258 < 4096 → length (waiting ++ hexadecimal set) < 4096
+short_with_mask waiting set below more =
+    let p = mask_length set below in
+    let q = length-append waiting (hexadecimal set) in
+    omega (arith, p, q, more)
 
 -- at the end: what the sink took, and the put of all that waits
 pub took_last : (old mid new : Option (List ℕ)) (text waiting : List ℕ) (answer : Result (Unit {0}) SinkFault)

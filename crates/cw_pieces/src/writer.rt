@@ -1,5 +1,6 @@
 //! A text that goes to a sink piece by piece.
-ghost use Rattle.std.specs.Prelude.{◌≡◌, ℕ, ◌+◌, ◌≤◌, ◌++◌, [], List, Option, length};
+ghost use Rattle.std.specs.Prelude.{◌≡◌, ℕ, ◌+◌, ◌<◌, ◌≤◌, ◌++◌, [], List, Option, IsTrue, false, length};
+ghost use Rattle.std.specs.Option.{is_some};
 ghost use Rattle.std.specs.Fmt.{decimal};
 ghost use Rattle.cw_core.specs.Numerals.{hexadecimal};
 ghost use Rattle.cw_core.specs.Ranges.{set_spelling};
@@ -85,6 +86,31 @@ impl<S: Sink> Writer<S> {
 
     /// Appends `0x` and the shortest lower-case hexadecimal of a set's number.
     pub fn put_mask(&mut self, set: &StateSet, out: &mut S)
+        requires follows { Follows S.taken S.faults S.refused self.old out.old }
+        ensures text { self.new.text ≡ self.old.text ++ hexadecimal set.now }
+        ensures begun { self.new.begun ≡ self.old.begun }
+        ensures follows { Follows S.taken S.faults S.refused self.new out.new }
+    {
+        if !self.has_room_for_mask() {
+            self.put_mask_apart(set, out);
+            return;
+        }
+        set.members_are_below_1024();
+        let from = self.line.bytes().len();
+        self.line.put_mask(set);
+        self.said.more(&self.line.bytes()[from..]);
+    }
+
+    /// Whether no fault came, and there is more room than the spelling of a set needs.
+    fn has_room_for_mask(&self) -> bool
+        ensures room { IsTrue result → length self.now.waiting + 258 < 4096 }
+        ensures none { IsTrue result → is_some self.now.fault ≡ false }
+    {
+        self.fault.is_none() && self.line.room() > 258
+    }
+
+    /// Appends the same where the line may be too short for it.
+    fn put_mask_apart(&mut self, set: &StateSet, out: &mut S)
         requires follows { Follows S.taken S.faults S.refused self.old out.old }
         ensures text { self.new.text ≡ self.old.text ++ hexadecimal set.now }
         ensures begun { self.new.begun ≡ self.old.begun }

@@ -4,17 +4,16 @@ use Rattle.std.specs.Int.Digits.{digits_of}
 use Rattle.std.specs.Char.{digit_char}
 use Rattle.cw_core.proofs.Masks.{room_more, mask_of_none, mask_of_some}
 use Rattle.cw_core.proofs.Nibbles.{text_more, one_digit, number_more}
-use Rattle.cw_core.proofs.Sets.{IsBelow-shr}
 use Rattle.cw_core.proofs.line.Line.put_mask.Goals as goal
 
 pub nibbles-init : goal.nibbles-init
 nibbles-init c =
     let long = length-append c.args.self.now (codes "0x") in
-    rw (IsBelow-shr 1024 c.args.set.now c.members_are_below_1024.ensures.below, c.put_text.ensures.text) (record {
+    rw (c.nibble_count-place.ensures.above, c.put_text.ensures.text) (record {
       text = sym (append-nil (c.args.self.now ++ codes "0x"));
-      room = omega (arith, long);
+      room = omega (arith, long, c.nibble_count-place.ensures.within);
       some = refl;
-      small = omega arith;
+      small = c.nibble_count-place.ensures.within;
     })
 
 pub nibbles-preserved : goal.nibbles-preserved
