@@ -1,6 +1,6 @@
 //! Names by their bytes, and the numbers that stand for them.
 
-ghost use Rattle.std.specs.Prelude.{◌≡◌, true, false, map, is_some, ◌≤◌, length};
+ghost use Rattle.std.specs.Prelude.{◌≡◌, ◌≢◌, true, false, map, is_some, ◌≤◌, length};
 ghost use Rattle.std.specs.Fmt.{decimal};
 ghost use Rattle.std.specs.Str.{bytes_eq};
 ghost use Rattle.cw_syntax.specs.Names.{text, number_in, number_or_other};
@@ -105,12 +105,29 @@ pub fn text<'s>(checked: &Checked<'s>, name: Name) -> &'s [u8]
     names::text(checked.source, name)
 }
 
+/// Whether a name may have so many bytes: a span that ends in the source has as many as it tells.
+fn may_have(source: &[u8], name: Name, count: usize) -> bool
+    ensures apart { result ≡ false → length (text source.now name) ≢ count }
+{
+    if source.len() < name.to as usize {
+        return true;
+    }
+    name.to.saturating_sub(name.from) as usize == count
+}
+
+/// Whether a name has these bytes. Most that haven't are told apart by their lengths.
+fn is_named(checked: &Checked, name: Name, bytes: &[u8]) -> bool
+    ensures { result ≡ bytes_eq bytes.now (text checked.now.source.now name) }
+{
+    may_have(checked.source, name, bytes.len()) && is_same(bytes, text(checked, name))
+}
+
 /// The number of the defined function with this name, in the order of definition.
 pub fn function_named(checked: &Checked, name: &[u8]) -> Option<usize>
     ensures number { result ≡ number_in (function_names checked.now.source.now (file_of checked.now.program)) name.now }
 {
     for (i, f) in checked.program.functions.iter().enumerate() {
-        if is_same(name, text(checked, f.name)) {
+        if is_named(checked, f.name, name) {
             return Some(i);
         }
     }

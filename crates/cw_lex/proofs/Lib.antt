@@ -9,6 +9,7 @@ pub mod Ordered
 pub mod Listing
 pub mod Alone
 pub mod Valued
-pub mod Markers
 pub mod Each
 pub mod Strings
+mod ShortWords
+mod Places

@@ -1,9 +1,10 @@
 //! Punctuation and markers.
 
-ghost use Rattle.std.specs.Prelude.{◌≡◌, ◌+◌, ◌<◌, ◌≤◌, length, drop, IfSome, IfNone};
-ghost use Rattle.cw_lex.specs.Marks.{three_byte_marks, two_byte_marks, one_byte_marks, begins, mark_len, is_marker, IsLeastMarker, HasNoMarker};
+ghost use Rattle.std.specs.Prelude.{◌≡◌, ◌<◌, ℕ, true, false, nat_eq, length, drop, IfSome, IfNone};
+ghost use Rattle.std.specs.List.{starts_with};
+ghost use Rattle.cw_lex.specs.Marks.{three_byte_marks, two_byte_marks, one_byte_marks, begins, mark_len, IsLeastMarker, HasNoMarker};
 
-use crate::bytes::tail;
+use memchr::memmem;
 
 fn begins_three(bytes: &[u8]) -> bool
     ensures { result ≡ begins three_byte_marks bytes.now }
@@ -81,23 +82,15 @@ pub(crate) fn mark_length(bytes: &[u8]) -> usize
     }
 }
 
-fn is_marker(bytes: &[u8]) -> bool
-    ensures { result ≡ is_marker bytes.now }
+/// The least place where a word begins.
+fn first_place(source: &[u8], word: &[u8]) -> Option<usize>
+    requires some { 0 < length word.now }
+    ensures found { IfSome result (λ at. starts_with nat_eq (drop at source.now) word.now ≡ true) }
+    ensures least { IfSome result (λ at. (k : ℕ) → k < at → starts_with nat_eq (drop k source.now) word.now ≡ false) }
+    ensures within { IfSome result (λ at. at < length source.now) }
+    ensures none { IfNone result ((k : ℕ) → starts_with nat_eq (drop k source.now) word.now ≡ false) }
 {
-    match bytes {
-        [b'c', b'w', b'{', b'*', ..] | [b'*', b'}', b'c', b'w', ..] => true,
-        _ => false,
-    }
-}
-
-fn is_marker_from(source: &[u8], at: usize) -> bool
-    requires { at ≤ length source.now }
-    ensures { result ≡ is_marker (drop at source.now) }
-{
-    match source.get(at) {
-        Some(b'c' | b'*') => is_marker(tail(source, at)),
-        _ => false,
-    }
+    memmem::find(source, word)
 }
 
 /// The least place where a marker begins.
@@ -106,10 +99,13 @@ pub(crate) fn first_marker(source: &[u8]) -> Option<usize>
     ensures within { IfSome result (λ at. at < length source.now) }
     ensures none { IfNone result (HasNoMarker source.now) }
 {
-    for at in 0..source.len() {
-        if is_marker_from(source, at) {
-            return Some(at);
-        }
+    let opening = first_place(source, b"cw{*");
+    let closing = first_place(source, b"*}cw");
+    match opening {
+        None => closing,
+        Some(at) => match closing {
+            None => Some(at),
+            Some(other) => Some(at.min(other)),
+        },
     }
-    None
 }

@@ -85,10 +85,12 @@ fn number_text(bytes: &[u8]) -> &[u8]
     &bytes[..number_length(bytes)]
 }
 
+/// A name or a keyword. Many names have one byte, and no keyword has.
+#[tactic(auto, using(crate::proofs::ShortWords::short_word))]
 fn word(text: &[u8]) -> Piece
     ensures { result ≡ word text.now }
 {
-    if is_keyword(text) {
+    if text.len() > 1 && is_keyword(text) {
         Piece::Token(TokenKind::Keyword, text.len())
     } else {
         Piece::Token(TokenKind::Name, text.len())

@@ -1,16 +1,20 @@
 -- A map of the first functions, with one function more in front.
-use Rattle.std.proofs.Common.{◌≡◌, ℕ, ◌+◌, ◌<◌, List, ◌∷◌, length, map, drop, get_or, Bool, true, false, cond, Option, Some, refl, sym, ap, ◌∙◌}
+use Rattle.std.proofs.Common.{◌≡◌, ℕ, ◌≢◌, ◌+◌, ◌<◌, List, ◌∷◌, length, map, drop, get_or, Bool, true, false, cond, Option, Some, refl, sym, ap, ◌∙◌, inl, inr}
 use Rattle.std.specs.List.{find}
 use Rattle.std.specs.Map.{lookup}
 use Rattle.std.specs.Option.{option_map}
 use Rattle.std.specs.Borrow.{Bor}
 use Rattle.std.specs.Str.{bytes_eq}
+use Rattle.std.proofs.Math.ListN.{set}
+use Rattle.std.specs.Cmp.Lexicographic.{same_text}
+use Rattle.std.proofs.lemmas.Bool.{cases_eq, false≢true}
 use Rattle.std.proofs.lemmas.Cmp.{nat_list_eq_equiv}
+use Rattle.std.proofs.lemmas.List.{get_or-set_same, get_or-set_other}
 use Rattle.cw_rights.proofs.Along.{drop_item}
 use Rattle.cw_syntax.specs.declared.program.Function.{Function}
 use Rattle.cw_syntax.specs.Names.{text}
 use Rattle.cw_syntax.specs.Trees.{definition_of}
-use Rattle.cw_scope.specs.Known.{AreFirst}
+use Rattle.cw_scope.specs.Known.{AreFirst, Begin}
 
 -- what is found by a test that the first item passes or doesn't
 by_test : {A B : Type 0} (F : A → B) (x : A) (older : Option A) (later : Option B) (b : Bool) → option_map F older ≡ later → option_map F (cond b (Some x) older) ≡ cond b (Some (F x)) later
@@ -41,3 +45,26 @@ pub one_more : (source : List ℕ) (f : Bor Function) (fs : List Function) (i : 
 one_more source f fs i key old new short is at updates rest name =
     one_before source f (drop (i + 1) fs) key old new at updates rest name
     ∙ ap (λ l. find (λ g. bytes_eq name.now (text source g.name)) (map definition_of l)) (sym (drop_item fs i f.now short is))
+
+-- the marks with that of the first function's name
+pub begin_before : (source : List ℕ) (f : Function) (fs : List Function) (byte : ℕ) (marks : List Bool) → byte ≡ get_or (text source f.name) 0 0 → byte < length marks
+    → Begin source (map definition_of fs) marks → Begin source (map definition_of (f ∷ fs)) (set marks byte true)
+begin_before source f fs byte marks is within rest name out =
+    elim (cases_eq (get_or name 0 0) byte) [
+      | inl e ↦
+          let on : get_or (set marks byte true) (get_or name 0 0) false ≡ true = rw e (get_or-set_same marks byte true false within) in
+          absurd (false≢true (sym out ∙ on))
+      | inr ne ↦
+          let unmarked : get_or marks (get_or name 0 0) false ≡ false = sym (get_or-set_other marks byte (get_or name 0 0) true false ne) ∙ out in
+          ap (λ b. cond b (Some (definition_of f)) (find (λ g. bytes_eq name (text source g.name)) (map definition_of fs))) (differ ne (bytes_eq name (text source f.name)) refl) ∙ rest name unmarked
+    ]
+  where
+    differ : get_or name 0 0 ≢ byte → (b : Bool) → bytes_eq name (text source f.name) ≡ b → b ≡ false
+    differ ne true e = absurd (ne (ap (λ z. get_or z 0 0) (same_text name (text source f.name) (sym e)) ∙ sym is))
+    differ ne false e = refl
+
+-- from an index on, where the next index's functions are marked
+pub begin_more : (source : List ℕ) (f : Function) (fs : List Function) (i byte : ℕ) (marks : List Bool) → i < length fs → get_or fs i f ≡ f
+    → byte ≡ get_or (text source f.name) 0 0 → byte < length marks
+    → Begin source (map definition_of (drop (i + 1) fs)) marks → Begin source (map definition_of (drop i fs)) (set marks byte true)
+begin_more source f fs i byte marks short at is within rest = rw (drop_item fs i f short at) (begin_before source f (drop (i + 1) fs) byte marks is within rest)

@@ -2,15 +2,15 @@
 
 ghost use Rattle.std.specs.Prelude.{◌≡◌, None, map, IfOk, IfErr};
 ghost use Rattle.cw_syntax.specs.Trees.{definition_of, file_of};
-ghost use Rattle.cw_scope.specs.Rules.{second_label};
+ghost use Rattle.cw_scope.specs.Rules.{least, second_label, wrong_form};
 ghost use Rattle.cw_scope.specs.Faults.{no_main, two_functions, two_labels, arity, call_form, main_called, reserved_name, jump, limit, scope_fault, IsDue};
 ghost use Rattle.cw_scope.specs.Held.{placed_of, whole_of, tree_at};
 ghost use Rattle.cw_scope.specs.Known.{IsKnown};
 
 use crate::faults::ScopeFault;
-use crate::forms::wrong_forms;
+use crate::forms::every_node;
 use crate::functions::{Functions, by_names};
-use crate::lists::{body_of, every_node, every_statement, every_whole};
+use crate::lists::{body_of, every_statement, every_whole};
 use crate::names::{every_name, function_names, labels, uses};
 use crate::places;
 use crate::rules::{are_more, has_main, repeated, sooner};
@@ -91,19 +91,19 @@ fn arity(known: &Functions, nodes: &[&Expr]) -> Option<ScopeFault>
 
 #[tactic(auto, unfolding(crate::specs::Faults::call_form))]
 fn call_form(
-    alloc: Global,
     known: &Functions,
     names: &[Name],
-    wholes: &[Whole],
-) -> Result<Option<ScopeFault>, AllocError>
+    _wholes: &[Whole],
+    misformed: Option<u32>,
+) -> Option<ScopeFault>
     requires known { IsKnown known.now }
-    ensures { IfOk result (λ fault. fault ≡ call_form known.now.source.now (file_of known.now.program.now) names.now (map whole_of wholes.now)) }
+    requires misformed { misformed ≡ least (map (wrong_form known.now.source.now (file_of known.now.program.now)) (map whole_of _wholes.now)) }
+    ensures { result ≡ call_form known.now.source.now (file_of known.now.program.now) names.now (map whole_of _wholes.now) }
 {
     let named = places::function_names(known, names);
-    let called = wrong_forms(alloc, known, wholes)?;
-    match sooner(named, called) {
-        None => Ok(None),
-        Some(place) => Ok(Some(ScopeFault::CallForm(place))),
+    match sooner(named, misformed) {
+        None => None,
+        Some(place) => Some(ScopeFault::CallForm(place)),
     }
 }
 
@@ -166,10 +166,10 @@ fn scope_fault(
 {
     let statements = every_statement(alloc, program)?;
     let wholes = every_whole(alloc, program, &statements)?;
-    let nodes = every_node(alloc, &wholes)?;
-    let used = uses(alloc, program, &statements, &nodes)?;
     let known = by_names(alloc, source, program)?;
-    let called = call_form(alloc, &known, &used, &wholes)?;
+    let (nodes, misformed) = every_node(alloc, &known, &wholes)?;
+    let used = uses(alloc, program, &statements, &nodes)?;
+    let called = call_form(&known, &used, &wholes, misformed);
     let names = every_name(program, used, &nodes)?;
     let labels = labels(alloc, &statements)?;
     Ok(

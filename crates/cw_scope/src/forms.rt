@@ -1,7 +1,7 @@
 //! The forms in which calls may stand.
 
 ghost use Rattle.std.specs.Prelude.{◌≡◌, ℕ, cond, None, map, IfOk, slice_get};
-ghost use Rattle.std.specs.List.{list_any, filter_map};
+ghost use Rattle.std.specs.List.{list_any, filter_map, flat_map};
 ghost use Rattle.std.specs.Option.{option_map};
 ghost use Rattle.cw_syntax.specs.Trees.{Node, none, more, tree_of, trees_of, file_of};
 ghost use Rattle.cw_scope.specs.Walks.{nodes};
@@ -142,29 +142,23 @@ fn wrong_form(
     Ok(sooner(own, second_call(known, all)))
 }
 
-/// Lists the expressions of a tree, in place of what was listed.
-fn list_nodes<'p>(tree: &'p Expr, out: &mut Vec<&'p Expr>) -> Result<(), AllocError>
-    ensures { IfOk result (λ _. map tree_at out.new.items ≡ nodes (tree_of tree.now)) }
-{
-    out.clear();
-    put_nodes(tree, out)
-}
-
-/// The least place at which one of these whole expressions does.
+/// All expressions of a program, whose whole expressions these are, and the least place at which one of these breaks the rule.
 #[tactic(auto, using(crate::proofs::Lesser::sooner_assoc))]
-pub(crate) fn wrong_forms(
+pub(crate) fn every_node<'p>(
     alloc: Global,
     known: &Functions,
-    wholes: &[Whole],
-) -> Result<Option<u32>, AllocError>
+    wholes: &[Whole<'p>],
+) -> Result<(Vec<&'p Expr>, Option<u32>), AllocError>
     requires known { IsKnown known.now }
-    ensures { IfOk result (λ place. place ≡ least (map (wrong_form known.now.source.now (file_of known.now.program.now)) (map whole_of wholes.now))) }
+    ensures every { IfOk result (λ found. map tree_at found.0.items ≡ flat_map (λ w. nodes w.tree) (map whole_of wholes.now)) }
+    ensures place { IfOk result (λ found. found.1 ≡ least (map (wrong_form known.now.source.now (file_of known.now.program.now)) (map whole_of wholes.now))) }
 {
-    let mut all = Vec::new(alloc);
+    let mut every = Vec::new(alloc);
     let mut place = None;
     for whole in wholes {
-        list_nodes(whole.tree, &mut all)?;
-        place = sooner(place, wrong_form(alloc, known, *whole, &all)?);
+        let from = every.len();
+        put_nodes(whole.tree, &mut every)?;
+        place = sooner(place, wrong_form(alloc, known, *whole, &every[from..])?);
     }
-    Ok(place)
+    Ok((every, place))
 }

@@ -1,13 +1,13 @@
-//! The lists of a whole program: its statements, its whole expressions, all its expressions.
+//! The lists of a whole program: its statements and its whole expressions.
 
 ghost use Rattle.std.specs.Prelude.{◌≡◌, [], ◌∷◌, ◌++◌, map, IfOk, Some, None};
 ghost use Rattle.std.specs.List.{flat_map};
 ghost use Rattle.std.specs.Option.{option_map};
 ghost use Rattle.cw_syntax.specs.Trees.{tree_of, trees_of, array_of, statement_of, statements_of, declared_of, declaration_of, definition_of, file_of};
-ghost use Rattle.cw_scope.specs.Walks.{nodes, placed_all, body_of, every_statement, given, listed, size_of, item_trees, declaration_trees, init_trees, inner, wholes_of, every_whole, every_node};
+ghost use Rattle.cw_scope.specs.Walks.{placed_all, body_of, every_statement, given, listed, size_of, item_trees, declaration_trees, init_trees, inner, wholes_of, every_whole};
 ghost use Rattle.cw_scope.specs.Held.{placed_of, whole_of, tree_at, perhaps_of, head_trees};
 
-use crate::walks::{Placed, Whole, put_nodes, put_statements};
+use crate::walks::{Placed, Whole, put_statements};
 use cw_syntax::program::{Decl, Expr, Function, Head, Item, Program, Stmt, What};
 use std::alloc::{AllocError, Global};
 
@@ -170,18 +170,4 @@ pub(crate) fn every_whole<'p>(
     put_declarations(&program.globals, &mut wholes)?;
     put_all_wholes(statements, &mut wholes)?;
     Ok(wholes)
-}
-
-/// All expressions of a program, whose whole expressions these are.
-pub(crate) fn every_node<'p>(
-    alloc: Global,
-    wholes: &[Whole<'p>],
-) -> Result<Vec<&'p Expr>, AllocError>
-    ensures { IfOk result (λ es. map tree_at es.items ≡ flat_map (λ w. nodes w.tree) (map whole_of wholes.now)) }
-{
-    let mut every = Vec::new(alloc);
-    for whole in wholes {
-        put_nodes(whole.tree, &mut every)?;
-    }
-    Ok(every)
 }

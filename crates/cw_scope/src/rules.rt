@@ -1,6 +1,6 @@
 //! The scope rules, each for one thing that stands in a program.
 
-ghost use Rattle.std.specs.Prelude.{◌≡◌, [], map, IfOk, length, nat_lt, take, codes};
+ghost use Rattle.std.specs.Prelude.{◌≡◌, [], map, IfOk, length, nat_lt, codes};
 ghost use Rattle.std.specs.List.{list_any};
 ghost use Rattle.std.specs.Option.{option_map};
 ghost use Rattle.cw_syntax.specs.Names.{text};
@@ -8,7 +8,6 @@ ghost use Rattle.cw_syntax.specs.Trees.{tree_of, definition_of, file_of};
 ghost use Rattle.cw_scope.specs.Rules.{sooner, at_if, repeated, different, is_main, is_reserved, is_call, defined, has_main, wrong_arity, function_name, defined_call, external_call, main_call, reserved, loose_jump};
 ghost use Rattle.cw_scope.specs.Held.{placed_of};
 ghost use Rattle.cw_scope.specs.Known.{IsKnown};
-ghost use Rattle.std.specs.Str.{bytes_eq};
 
 use crate::functions::{Functions, found, is_defined};
 use crate::walks::Placed;
@@ -167,30 +166,13 @@ pub(crate) fn main_call(source: &[u8], e: &Expr) -> Option<u32>
     }
 }
 
-fn begins_with(name: &[u8], mark: &[u8]) -> bool
-    requires { length mark.now ≡ 3 }
-    ensures { result ≡ bytes_eq (take 3 name.now) mark.now }
-{
-    let front = name.len().min(3);
-    &name[..front] == mark
-}
-
-fn lower_mark() -> &'static [u8]
-    ensures { result.now ≡ codes "cw_" }
-{
-    b"cw_"
-}
-
-fn upper_mark() -> &'static [u8]
-    ensures { result.now ≡ codes "CW_" }
-{
-    b"CW_"
-}
-
 fn is_reserved(name: &[u8]) -> bool
     ensures { result ≡ is_reserved name.now }
 {
-    begins_with(name, lower_mark()) || begins_with(name, upper_mark())
+    match name {
+        [b'c', b'w', b'_', ..] | [b'C', b'W', b'_', ..] => true,
+        _ => false,
+    }
 }
 
 /// A name that begins with `cw_` or `CW_`.

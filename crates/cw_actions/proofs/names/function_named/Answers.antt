@@ -6,8 +6,8 @@ use Rattle.cw_syntax.specs.Trees.{definition_of}
 use Rattle.cw_actions.proofs.Places.{seeks_found, seeks_none, position_map}
 use Rattle.cw_actions.proofs.names.function_named.Goals as goal
 
-pub returns-then-is_same : goal.returns-then-is_same
-returns-then-is_same c =
+pub returns-then-is_named : goal.returns-then-is_named
+returns-then-is_named c =
     let xs = c.args.checked.now.program.functions.items in
     let source = c.args.checked.now.source.now in
     let name = c.args.name.now in

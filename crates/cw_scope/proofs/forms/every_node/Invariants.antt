@@ -1,0 +1,14 @@
+use Rattle.std.proofs.Common.{◌≡◌, ◌++◌, map, drop}
+use Rattle.std.specs.List.{flat_map}
+use Rattle.cw_syntax.specs.Trees.{file_of}
+use Rattle.cw_scope.specs.Rules.{sooner, least, wrong_form}
+use Rattle.cw_scope.specs.Walks.{nodes}
+use Rattle.cw_scope.specs.Held.{whole_of, tree_at}
+use Rattle.cw_scope.proofs.forms.every_node.Given as goal
+
+abbrev pub invariant-loop-whole : goal.invariant-loop-whole
+invariant-loop-whole l = record {
+  every : map tree_at l.every.items ++ flat_map (λ w. nodes w.tree) (map whole_of (drop l.whole-index l.wholes)) ≡ flat_map (λ w. nodes w.tree) (map whole_of l.wholes);
+  place : sooner l.place (least (map (wrong_form l.known.source.now (file_of l.known.program.now)) (map whole_of (drop l.whole-index l.wholes))))
+      ≡ least (map (wrong_form l.known.source.now (file_of l.known.program.now)) (map whole_of l.wholes));
+}
