@@ -18,7 +18,7 @@ use Rattle.cw_positions.proofs.Origins.{positions_are_of_points}
 use Rattle.cw_positions.proofs.Programs.{of_graph}
 use Rattle.cw_game.specs.declared.spots.Spot.TheVariants.{Call, SplitCall}
 use Rattle.cw_game.specs.Pairs.{Called, call_in, call_spot}
-use Rattle.cw_solve.specs.Made.{LeavesMain}
+use Rattle.cw_product.specs.Made.{LeavesMain}
 use Rattle.cw_solve.proofs.Falls.{call_is}
 use Rattle.cw_calls.proofs.Scoped.{LeavesAll, statements_leave, acts_leave}
 

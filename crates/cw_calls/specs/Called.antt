@@ -6,7 +6,7 @@ use Rattle.cw_syntax.specs.Trees.{File}
 use Rattle.cw_source.specs.Read.{ReadsAs}
 use Rattle.cw_points.specs.declared.graph.Graph.{Graph}
 use Rattle.cw_points.specs.Graphs.{IsGraph}
-use Rattle.cw_solve.specs.Made.{LeavesMain}
+use Rattle.cw_product.specs.Made.{LeavesMain}
 
 -- No position of its graph calls `main`, by whichever names the graph is drawn and under whichever policy its positions are.
 abbrev pub ReadProgramsLeaveMain : Type 0

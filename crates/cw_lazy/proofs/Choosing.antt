@@ -6,9 +6,9 @@ use Rattle.cw_rights.specs.declared.capabilities.Primitive.{Primitive}
 use Rattle.cw_game.specs.declared.spots.Spot.TheVariants.{Visit}
 use Rattle.cw_game.specs.Games.{Game, resumed, returned, Holds, IsLost}
 use Rattle.cw_game.specs.Pairs.{has, Called, call_in, kept_at}
-use Rattle.cw_solve.specs.Contexts.{context, IsOf, HeightIs, IsNeeded}
+use Rattle.cw_product.specs.Routed.{IsState, targets, IsOf}
+use Rattle.cw_solve.specs.Contexts.{context, HeightIs, IsNeeded}
 use Rattle.cw_solve.specs.Low.{IsLow, HeightsAreLow}
-use Rattle.cw_solve.specs.Routes.{IsState, targets}
 use Rattle.cw_solve.proofs.Falls.{later, return_state, back_stays}
 use Rattle.cw_solve.proofs.Still.{first_of_two}
 use Rattle.cw_lazy.specs.Choices.{most, lost_in, is_kept_back, promised, promised_in, set_in}

@@ -17,7 +17,7 @@ use Rattle.cw_product.specs.declared.turn.Turn.TheVariants as turn
 use Rattle.cw_product.specs.Moves.{IsPosition, IsState, pair_of, numbers, is_left_in, next_in, turn_in}
 use Rattle.cw_product.specs.Product.{Held as HeldGame, game_of}
 use Rattle.cw_solve.specs.Contexts.{context}
-use Rattle.cw_solve.specs.Routes.{targets}
+use Rattle.cw_product.specs.Routed.{targets}
 use Rattle.cw_solve.specs.Solved.{Held}
 use Rattle.cw_solve.proofs.Calling.{the_call, called}
 use Rattle.cw_solve.proofs.Falls.{back_stays}

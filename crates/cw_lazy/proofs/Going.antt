@@ -10,7 +10,7 @@ use Rattle.cw_game.specs.declared.spots.Spot.TheVariants.{Visit, Asked, Step, Br
 use Rattle.cw_game.specs.Games.{Game, Config, at_pair, past_asked, can_stop_in, refuses_in, resumed_in, leads_in, bad_in, weavers_in, Promise, holds_in}
 use Rattle.cw_game.specs.Pairs.{is_call_in}
 use Rattle.cw_game.proofs.Holding.{AreClosed}
-use Rattle.cw_solve.specs.Routes.{IsState, targets}
+use Rattle.cw_product.specs.Routed.{IsState, targets}
 use Rattle.cw_solve.proofs.Still.{first_of_two, second_of_two, only}
 
 chosen : (b : Bool) (x c : Config) → cond b (Some x) None ≡ Some c → (b ≡ true) × (x ≡ c)

@@ -7,7 +7,7 @@ use Rattle.cw_core.specs.StateSet.{has as has_member}
 use Rattle.cw_core.proofs.Sets.{has-zero, has-suc}
 use Rattle.cw_game.specs.Games.{Game, returned}
 use Rattle.cw_game.specs.Pairs.{has, Called, call_in, kept_at}
-use Rattle.cw_solve.specs.Routes.{AreRouted}
+use Rattle.cw_product.specs.Routed.{AreRouted}
 use Rattle.cw_solve.proofs.Falls.{same_bools, return_state, back_stays}
 use Rattle.cw_lazy.specs.Live.{IsLostBack, IsFull}
 use Rattle.cw_lazy.specs.Sets.{set_by}

@@ -24,8 +24,9 @@ use Rattle.cw_states.specs.States.{lists_of}
 use Rattle.cw_states.proofs.Below.{stay_below}
 use Rattle.cw_product.specs.Product.{Held, game_of}
 use Rattle.cw_product.specs.Uses.{uses_of}
-use Rattle.cw_solve.specs.Contexts.{context, IsOf, HeightIs, IsNeeded}
-use Rattle.cw_solve.specs.Made.{IsMade}
+use Rattle.cw_product.specs.Routed.{IsOf}
+use Rattle.cw_solve.specs.Contexts.{context, HeightIs, IsNeeded}
+use Rattle.cw_product.specs.Made.{IsMade}
 use Rattle.cw_solve.proofs.Falls.{call_is}
 use Rattle.cw_solve.proofs.Routing.{routed_of}
 use Rattle.cw_lazy.specs.Laws.{CanBegin}

@@ -18,7 +18,7 @@ use Rattle.cw_game.specs.Games.{Game, Config, at_pair, can_stop_in, may_refuse_i
 use Rattle.cw_game.specs.Pairs.{has, all_states, is_live, means_it, leads, is_call_in}
 use Rattle.cw_game.specs.Conditions.{is_good_pair, takes, takes_on, takes_answers, answers_on, moves_on, keeps_promise}
 use Rattle.cw_game.proofs.Truths.{both}
-use Rattle.cw_solve.specs.Routes.{IsState, targets, AreRouted}
+use Rattle.cw_product.specs.Routed.{IsState, targets, AreRouted}
 use Rattle.cw_lazy.specs.Live.{IsLive, moves, goes_on}
 use Rattle.cw_lazy.specs.Lazy.{Means, IsAfter, GoesOn, IsRefused, IsLazyTable}
 use Rattle.cw_lazy.specs.Staged.{AreStaged, IsKnown}

@@ -12,7 +12,7 @@ use Rattle.cw_game.specs.declared.spots.Spot.TheVariants.{Visit, Asked}
 use Rattle.cw_game.specs.Games.{Game, Config, resumed, leads_in, IsLost}
 use Rattle.cw_game.specs.Pairs.{has, all_states, means_it, Called, call_in, kept_at}
 use Rattle.cw_game.specs.Necessity.{LeavesOutLost, IsLivePair, TriesOnlyLost}
-use Rattle.cw_solve.specs.Routes.{IsState, AreRouted}
+use Rattle.cw_product.specs.Routed.{IsState, AreRouted}
 use Rattle.cw_lazy.specs.Live.{IsFull, IsLive}
 use Rattle.cw_lazy.specs.Lazy.{Means, IsAfter, GoesOn, IsRefused, IsCalled, IsLazyTable}
 use Rattle.cw_lazy.specs.Staged.{AreStaged}

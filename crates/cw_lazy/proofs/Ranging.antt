@@ -26,7 +26,7 @@ use Rattle.cw_game.specs.Conditions.{InTries, InAts, InOpened, InClosed, InInto,
 use Rattle.cw_game.proofs.Failing.{none_more, none_append}
 use Rattle.cw_game.proofs.Truths.{both}
 use Rattle.cw_solve.specs.Contexts.{context}
-use Rattle.cw_solve.specs.Routes.{IsState, AreRouted}
+use Rattle.cw_product.specs.Routed.{IsState, AreRouted}
 use Rattle.cw_solve.proofs.Falls.{call_is}
 use Rattle.cw_solve.proofs.Tabling.{there}
 use Rattle.cw_lazy.specs.Live.{IsFull, IsLive, begins as begins_at, skips, tries, moves, goes_on, calls, returns}

@@ -15,7 +15,7 @@ use Rattle.cw_game.specs.Conditions.{first_failing, visits_on, begins_by, calls_
 use Rattle.cw_game.specs.Conditions.{live_rows, fault_at, InLive, Part}
 use Rattle.cw_game.proofs.Failing.{none_more, none_append, none_mapped}
 use Rattle.cw_game.proofs.Truths.{both}
-use Rattle.cw_solve.specs.Routes.{IsState, targets, AreRouted}
+use Rattle.cw_product.specs.Routed.{IsState, targets, AreRouted}
 use Rattle.cw_solve.proofs.Still.{first_of_two}
 use Rattle.cw_lazy.specs.Live.{IsFull, IsLive, skips, tries, calls, returns}
 use Rattle.cw_lazy.specs.Lazy.{state_id, Means, IsLiveRow, IsCalled, IsLazyTable}

@@ -14,8 +14,8 @@ use Rattle.cw_rights.specs.Policies.{policy_of}
 use Rattle.cw_solve.specs.declared.contexts.Context.{Context}
 use Rattle.cw_solve.specs.Contexts.{context, HeightIs, AreTheNeeded}
 use Rattle.cw_solve.specs.Low.{IsLow, HeightsAreLow}
-use Rattle.cw_solve.specs.Made.{IsMade}
-use Rattle.cw_solve.specs.Routes.{IsState}
+use Rattle.cw_product.specs.Made.{IsMade}
+use Rattle.cw_product.specs.Routed.{IsState}
 use Rattle.cw_solve.specs.Solved.{Held}
 use Rattle.cw_solve.proofs.Routing.{routed_of}
 use Rattle.cw_states.specs.States.{lists_of}

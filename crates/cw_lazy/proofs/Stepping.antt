@@ -22,7 +22,7 @@ use Rattle.cw_positions.proofs.Closing.{get_below}
 use Rattle.cw_positions.proofs.Lengths.{width_at, length_all}
 use Rattle.cw_positions.proofs.Standing.{found}
 use Rattle.cw_product.proofs.Placing.{rise}
-use Rattle.cw_solve.specs.Routes.{targets}
+use Rattle.cw_product.specs.Routed.{targets}
 use Rattle.cw_solve.proofs.Spotting.{one_is, two_are}
 use Rattle.cw_lazy.proofs.Staging.{is_quiet, AreQuiet, free_there, no_asked, front_in, front_there, quiet_place, rest_of, rest_quiet, of_point, front_unasked}
 

@@ -5,8 +5,8 @@ use Rattle.cw_game.specs.Games.{Game, IsLost}
 use Rattle.cw_game.specs.Pairs.{has, all_states}
 use Rattle.cw_game.specs.Conditions.{IsGoodTable}
 use Rattle.cw_game.specs.Necessity.{TriesOnlyLost}
-use Rattle.cw_solve.specs.Contexts.{context, IsOf, IsNeeded}
-use Rattle.cw_solve.specs.Routes.{AreRouted}
+use Rattle.cw_product.specs.Routed.{AreRouted, IsOf}
+use Rattle.cw_solve.specs.Contexts.{context, IsNeeded}
 use Rattle.cw_lazy.specs.Lazy.{IsLazyTable}
 use Rattle.cw_lazy.specs.Live.{IsLive}
 use Rattle.cw_lazy.specs.Staged.{AreStaged, IsKnown}

@@ -4,8 +4,8 @@ use Rattle.cw_rights.specs.declared.capabilities.Primitive.{Primitive}
 use Rattle.cw_game.specs.declared.spots.Spot.TheVariants.{Visit, Asked, Label, Open, Close, Exit}
 use Rattle.cw_game.specs.Games.{Game, weavers_in, IsLost}
 use Rattle.cw_game.specs.Pairs.{has, Called, call_in}
-use Rattle.cw_solve.specs.Contexts.{context, IsOf, IsNeeded}
-use Rattle.cw_solve.specs.Routes.{targets}
+use Rattle.cw_product.specs.Routed.{targets, IsOf}
+use Rattle.cw_solve.specs.Contexts.{context, IsNeeded}
 
 -- something is asked there
 abbrev pub IsAsked : Game → ℕ → Type 0

@@ -9,7 +9,7 @@ ghost use Rattle.cw_game.specs.Necessity.{TriesOnlyLost};
 ghost use Rattle.cw_game.specs.Pairs.{all_states};
 ghost use Rattle.cw_product.specs.Product.{game_of};
 ghost use Rattle.cw_solve.specs.Contexts.{HeightIs};
-ghost use Rattle.cw_solve.specs.Made.{IsMade};
+ghost use Rattle.cw_product.specs.Made.{IsMade};
 ghost use Rattle.cw_lazy.specs.Choices.{start_of, IsReady};
 ghost use Rattle.cw_lazy.specs.Lazy.{IsTryRow, IsLabelRow, IsOpenRow, IsCloseRow, IsIntoRow, IsBackRow, IsLazyTable, table_rows};
 ghost use Rattle.cw_lazy.specs.Tabled.{AreLive, AreReturns, AreAllMemories};

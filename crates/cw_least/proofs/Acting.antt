@@ -11,7 +11,7 @@ use Rattle.cw_game.specs.Pairs.{Called, call_in}
 use Rattle.cw_product.specs.declared.turn.Turn.TheVariants as turn
 use Rattle.cw_product.specs.Moves.{turn_in}
 use Rattle.cw_solve.specs.Contexts.{context}
-use Rattle.cw_solve.specs.Routes.{AreRouted}
+use Rattle.cw_product.specs.Routed.{AreRouted}
 use Rattle.cw_solve.proofs.Tabling.{there}
 use Rattle.cw_least.specs.declared.key.Key.{Key}
 use Rattle.cw_least.specs.Acts.{IsThere, key_of_back}

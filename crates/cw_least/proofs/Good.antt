@@ -21,7 +21,7 @@ use Rattle.cw_game.proofs.Truths.{both}
 use Rattle.cw_product.specs.Moves.{next_in}
 use Rattle.cw_solve.specs.Asking.{holds_after, after, holds_by_moves}
 use Rattle.cw_solve.specs.Contexts.{context}
-use Rattle.cw_solve.specs.Routes.{IsState, AreRouted}
+use Rattle.cw_product.specs.Routed.{IsState, AreRouted}
 use Rattle.cw_solve.proofs.Moves.{by_moves}
 use Rattle.cw_solve.proofs.Tabling.{there}
 use Rattle.cw_least.specs.declared.key.Key.{Key}

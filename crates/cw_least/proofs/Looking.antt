@@ -7,8 +7,8 @@ use Rattle.cw_core.specs.StateSet.{has as has_member}
 use Rattle.cw_game.specs.Games.{Game}
 use Rattle.cw_game.specs.Pairs.{has}
 use Rattle.cw_product.specs.Product.{game_of}
-use Rattle.cw_solve.specs.Contexts.{context, IsOf, HeightIs, AreTheNeeded}
-use Rattle.cw_solve.specs.Routes.{AreRouted}
+use Rattle.cw_product.specs.Routed.{AreRouted, targets, IsOf}
+use Rattle.cw_solve.specs.Contexts.{context, HeightIs, AreTheNeeded}
 use Rattle.cw_solve.specs.Numbering.{IsNumberOf}
 use Rattle.cw_solve.proofs.Numbering.{function_there}
 use Rattle.cw_least.specs.declared.key.Key.{Key}
@@ -19,7 +19,6 @@ use Rattle.cw_certs.specs.declared.moves.Move.{Move}
 use Rattle.cw_game.specs.declared.spots.Spot.TheVariants.{Visit}
 use Rattle.cw_game.specs.Pairs.{Called}
 use Rattle.cw_product.specs.Moves.{next_at}
-use Rattle.cw_solve.specs.Routes.{targets}
 use Rattle.cw_solve.proofs.Calling.{the_call, called}
 use Rattle.cw_solve.proofs.Falls.{back_stays}
 use Rattle.cw_solve.proofs.Still.{first_of_two, second_of_two}

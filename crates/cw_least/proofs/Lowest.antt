@@ -4,7 +4,7 @@ use Rattle.std.proofs.lemmas.Bool.{cases_lt}
 use Rattle.cw_game.specs.Games.{Game, Promise, Holds}
 use Rattle.cw_game.specs.Pairs.{has}
 use Rattle.cw_solve.specs.Contexts.{IsHeight}
-use Rattle.cw_solve.specs.Routes.{IsState, AreRouted}
+use Rattle.cw_product.specs.Routed.{IsState, AreRouted}
 use Rattle.cw_solve.proofs.Falls.{sooner, later}
 use Rattle.cw_least.specs.Heights.{height_within}
 

@@ -5,8 +5,8 @@ use Rattle.cw_states.specs.States.{lists_of}
 use Rattle.cw_states.proofs.Below.{stay_below}
 use Rattle.cw_product.specs.Product.{Held, game_of}
 use Rattle.cw_product.specs.Uses.{uses_of}
-use Rattle.cw_solve.specs.Made.{IsMade}
-use Rattle.cw_solve.specs.Routes.{IsState}
+use Rattle.cw_product.specs.Made.{IsMade}
+use Rattle.cw_product.specs.Routed.{IsState}
 use Rattle.cw_solve.proofs.Routing.{routed_of}
 use Rattle.cw_least.specs.Laws.{LeastAreGood}
 use Rattle.cw_least.proofs.Good.{least_good}

@@ -11,7 +11,7 @@ use Rattle.cw_game.specs.Games.{Game, Config, at_pair, refuses_in, bad_in, leads
 use Rattle.cw_game.specs.Pairs.{is_call_in, is_exit_in}
 use Rattle.cw_game.proofs.Holding.{AreClosed}
 use Rattle.cw_product.specs.Moves.{pair_of, is_left_in, next_in}
-use Rattle.cw_solve.specs.Routes.{IsState, targets}
+use Rattle.cw_product.specs.Routed.{IsState, targets}
 use Rattle.cw_solve.proofs.Still.{first_of_two, second_of_two, only}
 
 chosen : {X : Type 0} (b : Bool) (a x : X) → cond b (Some a) None ≡ Some x → (b ≡ true) × (a ≡ x)

@@ -12,8 +12,8 @@ use Rattle.cw_game.specs.declared.spots.Spot.TheVariants.{Visit, Asked, Step, Br
 use Rattle.cw_game.specs.Games.{Game, Holds, holds_in, returned}
 use Rattle.cw_game.specs.Pairs.{has, all_states, Called, call_in, kept_at}
 use Rattle.cw_product.specs.Moves.{next_at}
-use Rattle.cw_solve.specs.Contexts.{context, IsOf, IsHeight, IsNeeded, of_main, of_call, promise_at, IsSetOf}
-use Rattle.cw_solve.specs.Routes.{IsState, targets, AreRouted}
+use Rattle.cw_product.specs.Routed.{IsState, targets, AreRouted, IsOf}
+use Rattle.cw_solve.specs.Contexts.{context, IsHeight, IsNeeded, of_main, of_call, promise_at, IsSetOf}
 use Rattle.cw_solve.proofs.Falls.{holds_same, return_state, back_stays, member_is}
 use Rattle.cw_solve.proofs.Still.{first_of_two, second_of_two, holds_call}
 use Rattle.cw_least.specs.declared.key.Key.{Key}

@@ -4,7 +4,8 @@ use Rattle.cw_game.specs.Games.{Game}
 use Rattle.cw_game.specs.Pairs.{Called, all_states}
 use Rattle.cw_product.specs.Product.{game_of}
 use Rattle.cw_solve.specs.declared.contexts.Context.{Context}
-use Rattle.cw_solve.specs.Contexts.{context, IsOf, IsHeight}
+use Rattle.cw_product.specs.Routed.{IsOf}
+use Rattle.cw_solve.specs.Contexts.{context, IsHeight}
 use Rattle.cw_solve.specs.Numbering.{IsUnder}
 use Rattle.cw_solve.specs.Solved.{Held}
 use Rattle.cw_solve.specs.Tables.{HasCall}

@@ -2,8 +2,8 @@
 use Rattle.std.specs.Prelude.{ℕ, ◌<◌, ◌^◌, List, length}
 use Rattle.std.specs.List.{Contains}
 use Rattle.cw_game.specs.Games.{Game}
-use Rattle.cw_solve.specs.Contexts.{context, IsOf, IsHeight, IsNeeded}
-use Rattle.cw_solve.specs.Routes.{AreRouted}
+use Rattle.cw_product.specs.Routed.{AreRouted, IsOf}
+use Rattle.cw_solve.specs.Contexts.{context, IsHeight, IsNeeded}
 use Rattle.cw_least.specs.declared.key.Key.{Key}
 use Rattle.cw_least.specs.Heights.{others}
 use Rattle.cw_least.specs.Strategies.{named}

@@ -2,7 +2,7 @@
 use Rattle.cw_certs.specs.Strategies.{Strategy}
 use Rattle.cw_game.specs.Conditions.{IsGoodStrategy}
 use Rattle.cw_product.specs.Product.{Held, game_of}
-use Rattle.cw_solve.specs.Made.{IsMade}
+use Rattle.cw_product.specs.Made.{IsMade}
 use Rattle.cw_least.specs.Strategies.{IsLeastStrategy}
 
 -- It meets the conditions of a strategy.

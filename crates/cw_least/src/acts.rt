@@ -3,7 +3,7 @@
 ghost use Rattle.std.specs.Prelude.{◌≡◌, ◌<◌, [], List, map, length, slice_get, IfOk, option_map, Some};
 ghost use Rattle.std.specs.List.{filter_map, range_with_len};
 ghost use Rattle.cw_product.specs.Product.{game_of};
-ghost use Rattle.cw_solve.specs.Routes.{AreRouted};
+ghost use Rattle.cw_product.specs.Routed.{AreRouted};
 ghost use Rattle.cw_least.specs.Acts.{act_of, IsIn, IsCall, returning};
 ghost use Rattle.cw_solve.specs.Tables.{HasCall};
 ghost use Rattle.cw_least.specs.Kept.{IsKey};

@@ -2,7 +2,7 @@
 
 ghost use Rattle.std.specs.Prelude.{◌≡◌, ◌-◌, ◌<◌, length};
 ghost use Rattle.cw_product.specs.Product.{game_of};
-ghost use Rattle.cw_solve.specs.Routes.{AreRouted};
+ghost use Rattle.cw_product.specs.Routed.{AreRouted};
 ghost use Rattle.cw_game.specs.Pairs.{has};
 ghost use Rattle.cw_least.specs.Acts.{IsIn, IsThere};
 ghost use Rattle.cw_least.specs.Heights.{others, height_within};

@@ -4,7 +4,7 @@ ghost use Rattle.std.specs.Prelude.{◌≡◌, ◌+◌, ◌<◌, ◌≤◌, map,
 ghost use Rattle.std.specs.List.Sorted.{IsStrictlySortedBy};
 ghost use Rattle.cw_certs.specs.Strategies.{how_of, row_of};
 ghost use Rattle.cw_product.specs.Product.{game_of};
-ghost use Rattle.cw_solve.specs.Routes.{AreRouted};
+ghost use Rattle.cw_product.specs.Routed.{AreRouted};
 ghost use Rattle.cw_least.specs.Acts.{act_of, backs_of};
 ghost use Rattle.cw_least.specs.Kept.{IsKey};
 ghost use Rattle.cw_least.specs.Strategies.{key_cmp, number, how_by, row_at, backs_in};

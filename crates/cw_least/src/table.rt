@@ -6,7 +6,7 @@ ghost use Rattle.cw_game.specs.Conditions.{IsGoodStrategy};
 ghost use Rattle.cw_game.specs.Pairs.{all_states};
 ghost use Rattle.cw_product.specs.Product.{game_of};
 ghost use Rattle.cw_solve.specs.Contexts.{IsHeight};
-ghost use Rattle.cw_solve.specs.Made.{IsMade};
+ghost use Rattle.cw_product.specs.Made.{IsMade};
 ghost use Rattle.cw_least.specs.Acts.{IsLost, IsStartHeight, IsStartKey};
 ghost use Rattle.cw_least.specs.Backs.{BacksAscend};
 ghost use Rattle.cw_least.specs.Strategies.{IsLeastStrategy, rows_of};

@@ -1,8 +1,10 @@
 -- The definitions.
 pub mod Faults
 pub mod Kept
+pub mod Made
 pub mod Moves
 pub mod Places
 pub mod Product
+pub mod Routed
 pub mod Routes
 pub mod Uses

@@ -8,7 +8,7 @@ use Rattle.cw_certs.specs.Strategies.{Strategy}
 use Rattle.cw_certs.specs.Ascending.{Ascends}
 use Rattle.cw_game.specs.Conditions.{IsGoodTable, IsGoodStrategy}
 use Rattle.cw_product.specs.Product.{Held, game_of}
-use Rattle.cw_solve.specs.Made.{IsMade}
+use Rattle.cw_product.specs.Made.{IsMade}
 use Rattle.cw_lazy.specs.Lazy.{table_rows}
 use Rattle.cw_least.specs.Backs.{BacksAscend}
 use Rattle.cw_least.specs.Strategies.{rows_of}

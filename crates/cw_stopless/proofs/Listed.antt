@@ -24,7 +24,7 @@ use Rattle.cw_states.specs.States.{AreLists, letters_of, lists_of, states_of}
 use Rattle.cw_states.proofs.Ordered.{caps_total}
 use Rattle.cw_product.specs.Product.{Held, game_of}
 use Rattle.cw_product.specs.Uses.{uses_of}
-use Rattle.cw_solve.specs.Made.{IsMade}
+use Rattle.cw_product.specs.Made.{IsMade}
 use Rattle.cw_lazy.proofs.Sameness.{one}
 use Rattle.cw_stopless.specs.Unrefused.{varied, under}
 use Rattle.cw_stopless.specs.Laws.{GameIsUnrefused}

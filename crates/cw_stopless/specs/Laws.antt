@@ -9,7 +9,7 @@ use Rattle.cw_game.specs.Games.{Game, Ret, leads_in, Promise, Holds}
 use Rattle.cw_product.specs.Product.{Held, game_of}
 use Rattle.cw_solve.specs.declared.contexts.Context.{Context}
 use Rattle.cw_solve.specs.Contexts.{IsNeeded}
-use Rattle.cw_solve.specs.Made.{IsMade}
+use Rattle.cw_product.specs.Made.{IsMade}
 use Rattle.cw_lazy.specs.Lazy.{IsLazyTable}
 use Rattle.cw_lazy.specs.Laws.{CanBegin}
 use Rattle.cw_lazy.specs.Live.{IsLive}
