@@ -17,8 +17,8 @@ use Rattle.cw_product.specs.Moves.{pair_of, is_left_in, next_in, next_at}
 use Rattle.cw_solve.specs.declared.contexts.Context.{Context}
 use Rattle.cw_solve.specs.declared.table.Table.{Table}
 use Rattle.cw_solve.specs.declared.table.Tabled.{Tabled}
-use Rattle.cw_solve.specs.Contexts.{context, IsOf, promise_at, IsSetOf, of_call}
-use Rattle.cw_solve.specs.Routes.{IsState, targets, IsThere, AreRouted}
+use Rattle.cw_product.specs.Routed.{IsState, targets, IsThere, AreRouted, IsOf}
+use Rattle.cw_solve.specs.Contexts.{context, promise_at, IsSetOf, of_call}
 use Rattle.cw_solve.specs.Rounds.{IsAsked}
 use Rattle.cw_solve.specs.Tables.{IsTable, HasCell, HasCall, IsMissing}
 use Rattle.cw_solve.proofs.Falls.{holds_same, back_stays, member_is}

@@ -10,8 +10,8 @@ use Rattle.cw_game.specs.declared.spots.Spot.TheVariants.{Call, SplitCall}
 use Rattle.cw_game.specs.Games.{Game, returned, Promise, Holds}
 use Rattle.cw_game.specs.Pairs.{has, Called, call_in, call_spot, kept_at}
 use Rattle.cw_game.proofs.Holding.{holds_rises, lost_rises}
-use Rattle.cw_solve.specs.Contexts.{IsOf, IsSetOf}
-use Rattle.cw_solve.specs.Routes.{IsState, targets, AreRouted}
+use Rattle.cw_product.specs.Routed.{IsState, targets, AreRouted, IsOf}
+use Rattle.cw_solve.specs.Contexts.{IsSetOf}
 
 pub same_bools : (a b : Bool) → (a ≡ true → b ≡ true) → (b ≡ true → a ≡ true) → a ≡ b
 same_bools true b f h = sym (f refl)

@@ -15,7 +15,7 @@ use Rattle.cw_game.specs.Pairs.{all_states}
 use Rattle.cw_solve.specs.declared.contexts.Context.{Context}
 use Rattle.cw_solve.specs.declared.table.Table.{Table}
 use Rattle.cw_solve.specs.Contexts.{context, size, cells_of, IsNeeded, of_main, AreNeeded, AreTooMany}
-use Rattle.cw_solve.specs.Routes.{IsThere, AreRouted}
+use Rattle.cw_product.specs.Routed.{IsThere, AreRouted}
 use Rattle.cw_solve.specs.Tables.{is_none, IsTable, IsAtRound, AreTabled, IsMissing}
 use Rattle.cw_solve.proofs.Counts.{needed_more}
 use Rattle.cw_solve.proofs.Looking.{nothing_written, nothing_asked}

@@ -8,8 +8,8 @@ use Rattle.cw_game.specs.Games.{Game}
 use Rattle.cw_product.specs.Product.{Held as HeldGame, game_of}
 use Rattle.cw_solve.specs.declared.contexts.Context.{Context}
 use Rattle.cw_solve.specs.declared.table.Table.{Table}
-use Rattle.cw_solve.specs.Contexts.{context, IsOf, size, cells_of, HeightIs, IsNeeded, AreTheNeeded}
-use Rattle.cw_solve.specs.Routes.{IsThere, AreRouted}
+use Rattle.cw_product.specs.Routed.{IsThere, AreRouted, IsOf}
+use Rattle.cw_solve.specs.Contexts.{context, size, cells_of, HeightIs, IsNeeded, AreTheNeeded}
 use Rattle.cw_solve.specs.Rounds.{slot, height_by, IsCell}
 use Rattle.cw_solve.specs.Tables.{IsTable}
 use Rattle.cw_solve.specs.Solved.{Held, IsKept, IsNumbered, IsHeightIn}

@@ -6,7 +6,7 @@ use Rattle.cw_game.specs.Games.{Game, Holds}
 use Rattle.cw_game.specs.Pairs.{has, all_states}
 use Rattle.cw_solve.specs.declared.contexts.Context.{Context}
 use Rattle.cw_solve.specs.Contexts.{context, cells_of, HeightIs, IsNeeded}
-use Rattle.cw_solve.specs.Routes.{AreRouted}
+use Rattle.cw_product.specs.Routed.{AreRouted}
 use Rattle.cw_solve.specs.Rounds.{slot, IsCell, height_by, IsWritten, AreWritten, IsAsked, IsLooked, AreLooked, WereAsked}
 use Rattle.cw_solve.proofs.Written.{writes, goes_on, stands, ends}
 use Rattle.cw_solve.proofs.Still.{still_at, needed_tabled}

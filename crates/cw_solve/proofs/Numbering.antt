@@ -10,7 +10,7 @@ use Rattle.cw_product.specs.Product.{game_of}
 use Rattle.cw_solve.specs.declared.contexts.Context.{Context}
 use Rattle.cw_solve.specs.Contexts.{context, AreTheNeeded}
 use Rattle.cw_solve.specs.Numbering.{has_position, IsUnder, IsNumberOf}
-use Rattle.cw_solve.specs.Routes.{AreRouted, IsThere}
+use Rattle.cw_product.specs.Routed.{AreRouted, IsThere}
 use Rattle.cw_solve.specs.Solved.{Held}
 use Rattle.cw_solve.proofs.Still.{number_of}
 use Rattle.cw_solve.proofs.Tabling.{there}

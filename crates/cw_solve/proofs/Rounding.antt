@@ -9,7 +9,7 @@ use Rattle.cw_solve.specs.declared.contexts.Context.{Context}
 use Rattle.cw_solve.specs.declared.table.Table.{Table}
 use Rattle.cw_solve.specs.declared.table.Tabled.{Tabled}
 use Rattle.cw_solve.specs.Contexts.{context, cells_of}
-use Rattle.cw_solve.specs.Routes.{AreRouted}
+use Rattle.cw_product.specs.Routed.{AreRouted}
 use Rattle.cw_solve.specs.Rounds.{slot, AreWritten, AreLooked, IsAsked, WereAsked}
 use Rattle.cw_solve.specs.Tables.{IsTable, HasCell, IsAtRound, IsInRound, IsLater, IsDone, Writes}
 use Rattle.cw_solve.proofs.Tabling.{there_at}

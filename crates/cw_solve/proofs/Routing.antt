@@ -35,9 +35,8 @@ use Rattle.cw_game.specs.Pairs.{Called, call_in, call_spot}
 use Rattle.cw_game.proofs.Holding.{AreClosed}
 use Rattle.cw_product.specs.Product.{Held, game_of}
 use Rattle.cw_product.specs.Uses.{uses_of}
-use Rattle.cw_solve.specs.Contexts.{IsOf}
-use Rattle.cw_solve.specs.Made.{IsMade}
-use Rattle.cw_solve.specs.Routes.{IsState, targets, IsThere, AreRouted}
+use Rattle.cw_product.specs.Routed.{IsState, targets, IsThere, AreRouted, IsOf}
+use Rattle.cw_product.specs.Made.{IsMade}
 use Rattle.cw_solve.proofs.Falls.{call_is}
 use Rattle.cw_solve.proofs.Staying.{IsBetween, LeadsOn, part_stays, part_rises}
 use Rattle.cw_solve.proofs.Spotting as spotting

@@ -1,5 +1,5 @@
 -- Each cell of a table has a place of its own.
-use Rattle.std.proofs.Common.{◌≡◌, ℕ, suc, ◌+◌, ◌-◌, ◌*◌, ◌/◌, ◌%◌, ◌<◌, ◌≤◌, List, Some, take, refl, sym, ap, ap₂, ◌∙◌, subst, arith, inl, inr}
+use Rattle.std.proofs.Common.{◌≡◌, ℕ, ◌+◌, ◌-◌, ◌*◌, ◌/◌, ◌%◌, ◌<◌, ◌≤◌, List, Some, take, refl, sym, ap, ap₂, ◌∙◌, subst, arith, inl, inr}
 use Rattle.std.specs.Prelude.{slice_get, sum_by}
 use Rattle.std.proofs.lemmas.Bool.{cases_lt}
 use Rattle.std.proofs.lemmas.Nat.{div-mul-add, mod-mul-add, mul-add-lt}
@@ -8,8 +8,9 @@ use Rattle.std.proofs.lemmas.List.Sums.{sum_by_more, sum_by_more_le, sum_by-take
 use Rattle.std.proofs.lemmas.Option.{same_Some, get_or_from_slice_get, slice_get_within}
 use Rattle.cw_game.specs.Games.{Game}
 use Rattle.cw_solve.specs.declared.contexts.Context.{Context}
-use Rattle.cw_solve.specs.Contexts.{IsOf, size, cells_of}
-use Rattle.cw_solve.specs.Rounds.{base, slot, IsCell}
+use Rattle.cw_product.specs.Routed.{IsOf}
+use Rattle.cw_solve.specs.Contexts.{size, cells_of}
+use Rattle.cw_solve.specs.Rounds.{base, positions, slot, IsCell}
 
 module _ (g : Game) (contexts : List Context) where
   abbrev size_of : Context → ℕ
@@ -33,12 +34,18 @@ module _ (g : Game) (contexts : List Context) where
       let e = ap size_of (get_or_from_slice_get contexts i c c at) in
       omega (arith, le, e)
 
+  row_within : (i : ℕ) (c : Context) (p q : ℕ) → IsCell g contexts i c p q → p - g.entry c.function < positions g c.function
+  row_within i c p q is = omega (arith, is.of.0, is.of.1)
+
+  swap_times : (m n : ℕ) → m * n ≡ n * m
+  swap_times m n = omega arith
+
   -- the place of a cell among those of its context
-  pub within : (i : ℕ) (c : Context) (p q : ℕ) → IsCell g contexts i c p q → (p - g.entry c.function) * g.states.count + q < size g c.function
+  pub within : (i : ℕ) (c : Context) (p q : ℕ) → IsCell g contexts i c p q → q * positions g c.function + (p - g.entry c.function) < size g c.function
   within i c p q is =
-      let le : p - g.entry c.function < g.exit c.function + 1 - g.entry c.function = omega (arith, is.of.0, is.of.1) in
-      let lt = mul-add-lt (p - g.entry c.function) g.states.count q (g.exit c.function + 1 - g.entry c.function) le is.state in
-      omega (arith, lt)
+      let lt = mul-add-lt q (positions g c.function) (p - g.entry c.function) g.states.count is.state (row_within i c p q is) in
+      let e = swap_times g.states.count (positions g c.function) in
+      omega (arith, lt, e)
 
   pub slot_within : (i : ℕ) (c : Context) (p q : ℕ) → IsCell g contexts i c p q → slot g contexts i c.function p q < cells_of g contexts
   slot_within i c p q is = omega (arith, within i c p q is, base_within i c is.at)
@@ -50,11 +57,12 @@ module _ (g : Game) (contexts : List Context) where
     pub state : q ≡ x
 
   same_row : (i : ℕ) (c : Context) (p r q x : ℕ) → IsCell g contexts i c p q → IsCell g contexts i c r x
-      → (p - g.entry c.function) * g.states.count + q ≡ (r - g.entry c.function) * g.states.count + x → IsSame i i c c p r q x
+      → q * positions g c.function + (p - g.entry c.function) ≡ x * positions g c.function + (r - g.entry c.function) → IsSame i i c c p r q x
   same_row i c p r q x is are e =
-      let row = sym (div-mul-add (p - g.entry c.function) g.states.count q is.state) ∙ ap (λ y. y / g.states.count) e ∙ div-mul-add (r - g.entry c.function) g.states.count x are.state in
-      let column = sym (mod-mul-add (p - g.entry c.function) g.states.count q is.state) ∙ ap (λ y. y % g.states.count) e ∙ mod-mul-add (r - g.entry c.function) g.states.count x are.state in
-      record { number = refl; context = refl; position = omega (arith, row, is.of.0, are.of.0); state = column }
+      let many = positions g c.function in
+      let state = sym (div-mul-add q many (p - g.entry c.function) (row_within i c p q is)) ∙ ap (λ y. y / many) e ∙ div-mul-add x many (r - g.entry c.function) (row_within i c r x are) in
+      let row = sym (mod-mul-add q many (p - g.entry c.function) (row_within i c p q is)) ∙ ap (λ y. y % many) e ∙ mod-mul-add x many (r - g.entry c.function) (row_within i c r x are) in
+      record { number = refl; context = refl; position = omega (arith, row, is.of.0, are.of.0); state = state }
 
   -- the cells of an earlier context come before
   apart : (i j : ℕ) (c d : Context) (p r q x : ℕ) → i < j → IsCell g contexts i c p q → IsCell g contexts j d r x → slot g contexts i c.function p q < slot g contexts j d.function r x
@@ -83,19 +91,22 @@ module _ (g : Game) (contexts : List Context) where
           let s = same_row i c p r q x is there (omega (arith, e, e2)) in
           record { number = z; context = same; position = s.position; state = s.state }
 
-  -- the next cell of a position, the first of the next position, and where the cells of a context begin and end
-  pub slot_next : (i f p q : ℕ) → slot g contexts i f p q + 1 ≡ slot g contexts i f p (q + 1)
-  slot_next i f p q = omega arith
+  -- the next cell of a state, the first of the next state, and where the cells of a context begin and end
+  pub slot_next : (i f p q : ℕ) → g.entry f ≤ p → slot g contexts i f p q + 1 ≡ slot g contexts i f (p + 1) q
+  slot_next i f p q le = omega (arith, le)
 
-  pub slot_row : (i f p : ℕ) → g.entry f ≤ p → slot g contexts i f p g.states.count ≡ slot g contexts i f (p + 1) 0
-  slot_row i f p le =
-      let e : p + 1 - g.entry f ≡ suc (p - g.entry f) = omega (arith, le) in
-      rw e (omega arith)
+  pub slot_run : (i f q : ℕ) → g.entry f ≤ g.exit f → slot g contexts i f (g.exit f + 1) q ≡ slot g contexts i f (g.entry f) (q + 1)
+  slot_run i f q le =
+      let e : (q + 1) * positions g f ≡ q * positions g f + positions g f = omega arith in
+      omega (arith, e, le)
 
   pub slot_begins : (i f : ℕ) → base g contexts i ≡ slot g contexts i f (g.entry f) 0
   slot_begins i f =
       let e : g.entry f - g.entry f ≡ 0 = omega arith in
       rw e (omega arith)
 
-  pub slot_ends : (i : ℕ) (c : Context) → slice_get contexts i ≡ Some c → slot g contexts i c.function (g.exit c.function + 1) 0 ≡ base g contexts (i + 1)
-  slot_ends i c at = let more = base_more i c at in omega (arith, more)
+  pub slot_ends : (i : ℕ) (c : Context) → slice_get contexts i ≡ Some c → slot g contexts i c.function (g.entry c.function) g.states.count ≡ base g contexts (i + 1)
+  slot_ends i c at =
+      let more = base_more i c at in
+      let e = swap_times g.states.count (positions g c.function) in
+      omega (arith, more, e)

@@ -12,7 +12,7 @@ use Rattle.cw_points.specs.declared.graph.Point.{Point}
 use Rattle.cw_points.specs.declared.graph.Point.TheVariants as point
 use Rattle.cw_points.specs.declared.graph.Part.{Part}
 use Rattle.cw_positions.specs.Positions.{is_split, primitives_at, width, visits, free}
-use Rattle.cw_solve.specs.Routes.{targets}
+use Rattle.cw_product.specs.Routed.{targets}
 
 -- one of one, and of two
 pub one_is : (P : ℕ → Type 0) (a r : ℕ) → P a → Contains (a ∷ []) r → P r

@@ -11,7 +11,7 @@ use Rattle.cw_game.specs.Games.{Game, refuses_in, returned, Promise, holds_in, H
 use Rattle.cw_game.specs.Pairs.{has, all_states, Called, call_in, is_call_in, call_spot, kept_at}
 use Rattle.cw_solve.specs.declared.contexts.Context.{Context}
 use Rattle.cw_solve.specs.Contexts.{context, promise_at, IsNeeded, of_main, of_call}
-use Rattle.cw_solve.specs.Routes.{IsState, targets, AreRouted}
+use Rattle.cw_product.specs.Routed.{IsState, targets, AreRouted}
 use Rattle.cw_solve.specs.Rounds.{IsCell, IsAsked, WereAsked}
 use Rattle.cw_solve.proofs.Falls.{call_is, holds_same, return_state, back_stays, member_is, set_as, set_is}
 

@@ -10,7 +10,7 @@ use Rattle.cw_solve.specs.declared.contexts.Context.{Context}
 use Rattle.cw_solve.specs.declared.table.Table.{Table}
 use Rattle.cw_solve.specs.declared.table.Tabled.{Tabled}
 use Rattle.cw_solve.specs.Contexts.{cells_of, IsNeeded, of_main, of_call}
-use Rattle.cw_solve.specs.Routes.{IsThere, AreRouted}
+use Rattle.cw_product.specs.Routed.{IsThere, AreRouted}
 use Rattle.cw_solve.specs.Rounds.{slot, holds_by, AreWritten}
 use Rattle.cw_solve.specs.Tables.{IsTable, HasCell}
 use Rattle.cw_solve.proofs.Written.{reads}

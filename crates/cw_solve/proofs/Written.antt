@@ -5,7 +5,7 @@ use Rattle.std.proofs.lemmas.Bool.{cases_lt, lt-ltb, le-ltb, ne_eqb}
 use Rattle.cw_game.specs.Games.{Game, Holds}
 use Rattle.cw_game.specs.Pairs.{has}
 use Rattle.cw_solve.specs.Contexts.{IsHeight, HeightIs}
-use Rattle.cw_solve.specs.Routes.{IsState, AreRouted}
+use Rattle.cw_product.specs.Routed.{IsState, AreRouted}
 use Rattle.cw_solve.specs.Rounds.{holds_by, height_by, IsWritten}
 use Rattle.cw_solve.proofs.Falls.{not_both, sooner, later}
 

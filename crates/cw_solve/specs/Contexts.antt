@@ -3,14 +3,11 @@
 use Rattle.std.specs.Prelude.{◌≡◌, ℕ, ◌+◌, ◌-◌, ◌*◌, ◌<◌, ◌≤◌, List, true, false, ◌&&◌, Option, Some, None, nat_lt, slice_get, sum_by, Contains, AllPairs, ◌≢◌}
 use Rattle.cw_solve.specs.declared.contexts.Context.{Context}
 use Rattle.cw_game.specs.Games.{Game, returned, Promise, Holds}
+use Rattle.cw_product.specs.Routed.{IsOf}
 use Rattle.cw_game.specs.Pairs.{has, all_states, Called, call_in, kept_at}
 
 abbrev pub context : ℕ → ℕ → Context
 context function promise = record { function = function; promise = promise }
-
--- a position of the function: its positions are those from where it begins to where it ends
-abbrev pub IsOf : Game → ℕ → ℕ → Type 0
-IsOf g function p = (g.entry function ≤ p) × (p ≤ g.exit function)
 
 -- the cells of a context: a pair of a position of its function and a state each
 abbrev pub size : Game → ℕ → ℕ

@@ -2,10 +2,8 @@
 pub mod Asking
 pub mod Contexts
 pub mod Low
-pub mod Made
 pub mod Numbering
 pub mod Rounds
-pub mod Routes
 pub mod Solved
 pub mod Tables
 pub mod Trying

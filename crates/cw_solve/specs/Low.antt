@@ -1,7 +1,8 @@
 -- Heights are told as numbers of 32 bits.
 use Rattle.std.specs.Prelude.{ℕ, ◌<◌, Option, Some, None}
 use Rattle.cw_game.specs.Games.{Game}
-use Rattle.cw_solve.specs.Contexts.{context, IsOf, HeightIs, IsNeeded}
+use Rattle.cw_product.specs.Routed.{IsOf}
+use Rattle.cw_solve.specs.Contexts.{context, HeightIs, IsNeeded}
 
 abbrev pub IsLow : Option ℕ → Type 0
 IsLow None = Unit {0}

@@ -3,15 +3,20 @@ use Rattle.std.specs.Prelude.{◌≡◌, ◌⊎◌, ℕ, zero, suc, ◌+◌, ◌
 use Rattle.cw_solve.specs.declared.contexts.Context.{Context}
 use Rattle.cw_game.specs.Games.{Game, Holds}
 use Rattle.cw_game.specs.Pairs.{has, Called, call_in, kept_at}
-use Rattle.cw_solve.specs.Contexts.{context, IsOf, cells_of, IsHeight, promise_at, IsSetOf}
+use Rattle.cw_product.specs.Routed.{IsOf}
+use Rattle.cw_solve.specs.Contexts.{context, cells_of, IsHeight, promise_at, IsSetOf}
 
 -- where the cells of the context number i begin: behind those of the contexts before it
 abbrev pub base : Game → List Context → ℕ → ℕ
 base g contexts i = cells_of g (take i contexts)
 
--- the cell of a pair in the context number i, of this function
+-- how many positions a function has
+abbrev pub positions : Game → ℕ → ℕ
+positions g function = g.exit function + 1 - g.entry function
+
+-- the cell of a pair in the context number i, of this function: the cells of one state follow each other
 abbrev pub slot : Game → List Context → ℕ → ℕ → ℕ → ℕ → ℕ
-slot g contexts i function p q = base g contexts i + ((p - g.entry function) * g.states.count + q)
+slot g contexts i function p q = base g contexts i + (q * positions g function + (p - g.entry function))
 
 -- a context with its number, a position of its function, a state
 pub record IsCell (g : Game) (contexts : List Context) (i : ℕ) (c : Context) (p q : ℕ) : Type 0 where

@@ -6,8 +6,8 @@ use Rattle.cw_solve.specs.declared.contexts.Context.{Context}
 use Rattle.cw_solve.specs.declared.fault.SolveFault.{SolveFault}
 use Rattle.cw_solve.specs.declared.fault.SolveFault.TheVariants.{TooManyCells, NoMemory}
 use Rattle.cw_solve.specs.declared.table.Table.{Table}
-use Rattle.cw_solve.specs.Contexts.{IsOf, HeightIs, AreTooMany}
-use Rattle.cw_solve.specs.Routes.{AreRouted}
+use Rattle.cw_product.specs.Routed.{AreRouted, IsOf}
+use Rattle.cw_solve.specs.Contexts.{HeightIs, AreTooMany}
 use Rattle.cw_solve.specs.Tables.{IsTable, IsDone}
 
 -- The game, and its contexts.

@@ -6,8 +6,8 @@ ghost use Rattle.cw_game.specs.Pairs.{has, is_call_in, is_exit_in, kept_at, call
 ghost use Rattle.cw_product.specs.Product.{game_of};
 ghost use Rattle.cw_product.specs.Moves.{next_at};
 ghost use Rattle.cw_solve.specs.Asking.{holds_after, holds_by_moves};
-ghost use Rattle.cw_solve.specs.Contexts.{IsOf, cells_of, context, promise_at, IsSetOf};
-ghost use Rattle.cw_solve.specs.Routes.{AreRouted};
+ghost use Rattle.cw_product.specs.Routed.{AreRouted, IsState};
+ghost use Rattle.cw_solve.specs.Contexts.{cells_of, context, promise_at, IsSetOf};
 ghost use Rattle.cw_solve.specs.Rounds.{base, slot, AreWritten, IsAsked};
 ghost use Rattle.cw_solve.specs.Tables.{IsTable, IsTabled, HasCell, IsInRound, IsLater, IsMissing, HasCall, Writes, is_none};
 
@@ -169,23 +169,30 @@ pub(crate) fn look_at(
     }
 }
 
-/// Looks at the cells of a position.
-fn look_position(game: &Game, table: &mut Table, n: u32, at: &Tabled, pos: PosId) -> Option<Context>
+/// Looks at the cells of a state.
+fn look_state(
+    game: &Game,
+    table: &mut Table,
+    n: u32,
+    at: &Tabled,
+    state: StateId,
+) -> Option<Context>
     requires routed { AreRouted (game_of game.now) (length game.now.graph.parts.items) }
     requires table { IsTable (game_of game.now) table.old }
     requires tabled { IsTabled table.old at.now }
-    requires of { IsOf (game_of game.now) at.now.context.function pos.0 }
+    requires state { IsState (game_of game.now) state.0 }
     requires round { IsInRound (game_of game.now) table.old n
-        (slot (game_of game.now) table.old.contexts.items at.now.number at.now.context.function pos.0 0) }
+        (slot (game_of game.now) table.old.contexts.items at.now.number at.now.context.function ((game_of game.now).entry at.now.context.function) state.0) }
     ensures table { IsTable (game_of game.now) table.new }
     ensures later { IsLater table.old table.new }
     ensures tabled { IsTabled table.new at.now }
     ensures round { IfNone result (IsInRound (game_of game.now) table.new n
-        (slot (game_of game.now) table.new.contexts.items at.now.number at.now.context.function (pos.0 + 1) 0)) }
+        (slot (game_of game.now) table.new.contexts.items at.now.number at.now.context.function ((game_of game.now).entry at.now.context.function) (state.0 + 1))) }
     ensures missing { IfSome result (λ c. IsMissing (game_of game.now) table.new c) }
 {
-    for x in 0..game.states() {
-        if let Some(context) = look_at(game, table, n, at, pos, StateId(x)) {
+    let function = at.context.function;
+    for p in game.entry(function).0..game.exit(function).0 + 1 {
+        if let Some(context) = look_at(game, table, n, at, PosId(p), state) {
             return Some(context);
         }
     }
@@ -204,9 +211,8 @@ fn look_context(game: &Game, table: &mut Table, n: u32, at: &Tabled) -> Option<C
         (base (game_of game.now) table.new.contexts.items (at.now.number + 1))) }
     ensures missing { IfSome result (λ c. IsMissing (game_of game.now) table.new c) }
 {
-    let function = at.context.function;
-    for p in game.entry(function).0..game.exit(function).0 + 1 {
-        if let Some(context) = look_position(game, table, n, at, PosId(p)) {
+    for x in 0..game.states() {
+        if let Some(context) = look_state(game, table, n, at, StateId(x)) {
             return Some(context);
         }
     }

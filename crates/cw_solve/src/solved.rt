@@ -3,7 +3,7 @@
 ghost use Rattle.std.specs.Prelude.{◌≡◌, ◌<◌, ◌≤◌, length, slice_get, IfOk, IfErr};
 ghost use Rattle.cw_product.specs.Product.{game_of};
 ghost use Rattle.cw_solve.specs.Contexts.{cells_of, AreTheNeeded};
-ghost use Rattle.cw_solve.specs.Made.{IsMade};
+ghost use Rattle.cw_product.specs.Made.{IsMade};
 ghost use Rattle.cw_solve.specs.Solved.{IsCause};
 
 use crate::contexts::Context;
@@ -59,9 +59,9 @@ pub fn solve<'g>(alloc: Global, game: &'g Game<'g>) -> Result<Solved<'g>, SolveF
 impl<'g> Solved<'g> {
     ghost use Rattle.std.specs.Prelude.{◌≡◌, ◌<◌, ◌≤◌, ℕ, Option, Some, length, slice_get, Contains, IfSome, IfNone};
     ghost use Rattle.cw_product.specs.Product.{game_of};
-    ghost use Rattle.cw_solve.specs.Contexts.{context, cells_of, HeightIs, IsNeeded, IsOf, AreTheNeeded};
+    ghost use Rattle.cw_product.specs.Routed.{AreRouted, IsOf};
+    ghost use Rattle.cw_solve.specs.Contexts.{context, cells_of, HeightIs, IsNeeded, AreTheNeeded};
     ghost use Rattle.cw_solve.specs.Rounds.{IsCell, slot, height_by};
-    ghost use Rattle.cw_solve.specs.Routes.{AreRouted};
     ghost use Rattle.cw_solve.specs.Solved.{IsKept, IsNumbered, IsHeightIn};
     ghost use Rattle.cw_solve.specs.Tables.{IsTable, IsDone};
 

@@ -4,9 +4,9 @@ ghost use Rattle.std.specs.Prelude.{◌≡◌, ℕ, ◌<◌, ◌≤◌, suc, nat
 ghost use Rattle.cw_game.specs.Games.{Holds};
 ghost use Rattle.cw_game.specs.Pairs.{has, kept_at, all_states};
 ghost use Rattle.cw_product.specs.Product.{game_of};
-ghost use Rattle.cw_solve.specs.Contexts.{context, size, IsOf, promise_at, IsSetOf};
-ghost use Rattle.cw_solve.specs.Routes.{IsState, AreRouted, IsThere};
-ghost use Rattle.cw_solve.specs.Rounds.{slot, height_by, AreWritten};
+ghost use Rattle.cw_product.specs.Routed.{IsState, AreRouted, IsThere, IsOf};
+ghost use Rattle.cw_solve.specs.Contexts.{context, size, promise_at, IsSetOf};
+ghost use Rattle.cw_solve.specs.Rounds.{positions, slot, height_by, AreWritten};
 ghost use Rattle.cw_solve.specs.Tables.{IsTable, HasCell};
 
 use crate::contexts::Context;
@@ -29,6 +29,16 @@ pub struct Tabled {
     pub context: Context,
 }
 
+/// How many positions a function has.
+pub fn positions(game: &Game, function: u16) -> u32
+    requires routed { AreRouted (game_of game.now) (length game.now.graph.parts.items) }
+    requires there { IsThere (game_of game.now) (length game.now.graph.parts.items) function }
+    ensures is { result ≡ positions (game_of game.now) function }
+    ensures some { 0 < result }
+{
+    game.exit(function).0 + 1 - game.entry(function).0
+}
+
 /// How many cells a context of a function has.
 pub fn size(game: &Game, function: u16) -> u32
     requires routed { AreRouted (game_of game.now) (length game.now.graph.parts.items) }
@@ -37,7 +47,7 @@ pub fn size(game: &Game, function: u16) -> u32
     ensures some { 0 < result }
     ensures few { result ≤ 1048576 }
 {
-    (game.exit(function).0 + 1 - game.entry(function).0) * u32::from(game.states())
+    positions(game, function) * u32::from(game.states())
 }
 
 /// `main` with all states.
@@ -51,7 +61,7 @@ pub fn main_context(game: &Game) -> Context
     }
 }
 
-/// The cell of a pair in a context.
+/// The cell of a pair in a context: the cells of one state follow each other, by position.
 pub fn slot(game: &Game, table: &Table, at: &Tabled, pos: PosId, state: StateId) -> usize
     requires routed { AreRouted (game_of game.now) (length game.now.graph.parts.items) }
     requires table { IsTable (game_of game.now) table.now }
@@ -59,8 +69,9 @@ pub fn slot(game: &Game, table: &Table, at: &Tabled, pos: PosId, state: StateId)
     ensures is { result ≡ slot (game_of game.now) table.now.contexts.items at.now.number at.now.context.function pos.0 state.0 }
     ensures within { result < length table.now.heights.items }
 {
-    let row = (pos.0 - game.entry(at.context.function).0) as usize;
-    table.bases[at.number] as usize + (row * game.states() as usize + state.0 as usize)
+    let function = at.context.function;
+    let run = state.0 as usize * positions(game, function) as usize;
+    table.bases[at.number] as usize + (run + (pos.0 - game.entry(function).0) as usize)
 }
 
 /// Whether a pair holds for n moves.

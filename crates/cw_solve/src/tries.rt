@@ -3,7 +3,7 @@
 ghost use Rattle.std.specs.Prelude.{◌≡◌, ◌<◌, ◌≤◌, ◌++◌, ◌∷◌, [], length, slice_get, IfOk, IfErr, IfSome, IfNone};
 ghost use Rattle.cw_product.specs.Product.{game_of};
 ghost use Rattle.cw_solve.specs.Contexts.{context, cells_of, AreNeeded, AreTheNeeded};
-ghost use Rattle.cw_solve.specs.Routes.{AreRouted};
+ghost use Rattle.cw_product.specs.Routed.{AreRouted};
 ghost use Rattle.cw_solve.specs.Tables.{IsTable, IsDone, AreTabled};
 ghost use Rattle.cw_solve.specs.Trying.{IsTried};
 ghost use Rattle.cw_solve.specs.Solved.{IsCause};

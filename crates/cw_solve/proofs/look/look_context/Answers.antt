@@ -1,26 +1,12 @@
-use Rattle.std.proofs.Common.{◌≡◌, ◌+◌, ℕ, length, sym, ap, ◌∙◌, subst, arith, refl}
+use Rattle.std.proofs.Common.{◌≡◌, ℕ, ap, ◌∙◌, subst, arith, refl}
 use Rattle.cw_product.specs.Product.{game_of}
 use Rattle.cw_solve.specs.Rounds.{slot}
 use Rattle.cw_solve.specs.Tables.{IsInRound}
 use Rattle.cw_solve.proofs.Slots.{slot_begins, slot_ends}
-use Rattle.cw_solve.proofs.Tabling.{there_at}
 use Rattle.cw_solve.proofs.look.look_context.Goals as goal
 
-pub entry-p-requires : goal.entry-p-requires
-entry-p-requires c =
-    let at = c.args.at.now in
-    (there_at (game_of c.args.game.now) (length c.args.game.now.graph.parts.items) c.requires.routed c.args.table.now c.requires.table at.number at.context c.requires.tabled).below
-
-pub exit-p-end-requires : goal.exit-p-end-requires
-exit-p-end-requires c =
-    let at = c.args.at.now in
-    (there_at (game_of c.args.game.now) (length c.args.game.now.graph.parts.items) c.requires.routed c.args.table.now c.requires.table at.number at.context c.requires.tabled).below
-
-pub overflow_add-p-end : goal.overflow_add-p-end
-overflow_add-p-end c = let lt = c.exit-p-end.ensures.within in let short = c.requires.routed.short in omega (arith, lt, short)
-
-pub loop-p-init : goal.loop-p-init
-loop-p-init c =
+pub loop-x-init : goal.loop-x-init
+loop-x-init c =
     let g = game_of c.args.game.now in
     let t = c.args.table.now in
     let at = c.args.at.now in
@@ -28,20 +14,16 @@ loop-p-init c =
       table = c.requires.table;
       later = record { contexts = refl; bases = refl; more = omega arith; same = λ e. refl };
       tabled = c.requires.tabled;
-      round = subst (λ (s : ℕ). IsInRound g t c.args.n s)
-          (slot_begins g t.contexts.items at.number at.context.function ∙ ap (λ (p : ℕ). slot g t.contexts.items at.number at.context.function p 0) (sym c.entry-p.ensures.is))
-          c.requires.round;
+      round = subst (λ (s : ℕ). IsInRound g t c.args.n s) (slot_begins g t.contexts.items at.number at.context.function) c.requires.round;
     }
 
 pub returns-clause-round : goal.returns-clause-round
 returns-clause-round c =
     let g = game_of c.args.game.now in
-    let t = c.loop-p.table in
+    let t = c.loop-x.table in
     let at = c.args.at.now in
-    let th = there_at g (length c.args.game.now.graph.parts.items) c.requires.routed c.args.table.now c.requires.table at.number at.context c.requires.tabled in
-    let le = c.loop-p.auto.p-end in
-    let e : c.loop-p.p ≡ c.exit-p-end.result.0 + 1 = omega (arith, c.loop-p-test.false, le, th.begins, c.entry-p.ensures.is, c.exit-p-end.ensures.is) in
+    let e : c.loop-x.x ≡ c.states-x-end.result = omega (arith, c.loop-x-test.false, c.loop-x.auto.x-end) in
     subst (λ (s : ℕ). IsInRound g t c.args.n s)
-    (ap (λ (p : ℕ). slot g t.contexts.items at.number at.context.function p 0) (e ∙ ap (λ (x : ℕ). x + 1) c.exit-p-end.ensures.is)
-    ∙ slot_ends g t.contexts.items at.number at.context c.loop-p.invariant.tabled)
-    c.loop-p.invariant.round
+    (ap (λ (x : ℕ). slot g t.contexts.items at.number at.context.function (g.entry at.context.function) x) (e ∙ c.states-x-end.ensures)
+    ∙ slot_ends g t.contexts.items at.number at.context c.loop-x.invariant.tabled)
+    c.loop-x.invariant.round

@@ -10,6 +10,11 @@ entry-requires c =
     let at = c.args.at.now in
     (there_at (game_of c.args.game.now) (length c.args.game.now.graph.parts.items) c.requires.routed c.args.table.now c.requires.table at.number at.context c.requires.cell.at).below
 
+pub positions-requires-clause-there : goal.positions-requires-clause-there
+positions-requires-clause-there c =
+    let at = c.args.at.now in
+    there_at (game_of c.args.game.now) (length c.args.game.now.graph.parts.items) c.requires.routed c.args.table.now c.requires.table at.number at.context c.requires.cell.at
+
 pub index-requires : goal.index-requires
 index-requires c =
     let t = c.args.table.now in
@@ -20,7 +25,7 @@ returns-clause-is c =
     let at = c.args.at.now in
     let g = game_of c.args.game.now in
     let b = base_at g (length c.args.game.now.graph.parts.items) c.requires.routed c.args.table.now c.requires.table at.number at.context c.requires.cell.at c.index.result.now c.index.ensures in
-    rw (b, c.entry.ensures.is, c.states.ensures) refl
+    rw (b, c.entry.ensures.is, c.positions.ensures.is) refl
 
 pub returns-clause-within : goal.returns-clause-within
 returns-clause-within c =
