@@ -2,7 +2,7 @@
 ghost use Rattle.std.specs.Prelude.{◌≡◌, ◌<◌, ◌≤◌, length, IfOk};
 
 use cw_core::NoMemory;
-use cw_links::{Buckets, Chains};
+use cw_links::{Buckets, Chains, Queue};
 use std::alloc::Global;
 use std::process::Abort;
 use std::test::Fail;
@@ -74,6 +74,26 @@ fn takes_the_least_first(rt: HostRuntime) -> Result<(), Fail> {
     Ok(())
 }
 
+#[test]
+fn takes_the_last_under_the_least_key(rt: HostRuntime) -> Result<(), Fail> {
+    let mut queue = Queue::make(rt.alloc())?;
+    assert_eq!(rt; queue.take(), None);
+    queue.put(4, 7)?;
+    queue.put(5, 3)?;
+    queue.put(6, 7)?;
+    queue.put(4, 3)?;
+    for taken in [(4, 3), (5, 3), (6, 7)] {
+        assert_eq!(rt; queue.take(), Some(taken));
+    }
+    queue.put(8, 1)?;
+    queue.put(9, 1_000)?;
+    for taken in [(8, 1), (4, 7), (9, 1_000)] {
+        assert_eq!(rt; queue.take(), Some(taken));
+    }
+    assert_eq!(rt; queue.take(), None);
+    Ok(())
+}
+
 /// So many lists of a cell each, in the order of the cells.
 fn many_lists(alloc: Global, many: u32) -> Result<Chains<u64>, NoMemory>
     requires { many < 4294967295 }
@@ -120,10 +140,30 @@ fn expect_heights(rt: &impl Abort, alloc: Global, many: u32) -> Result<(), NoMem
     Ok(())
 }
 
+/// Has so many elements wait twice, and takes them.
+fn expect_keys(rt: &impl Abort, alloc: Global, many: u32) -> Result<(), NoMemory>
+    requires { many < 4294967295 }
+{
+    let mut queue = Queue::make(alloc)?;
+    for element in 0..many {
+        queue.put(element, many - element)?;
+    }
+    for element in 0..many {
+        queue.put(element, element + 1)?;
+    }
+    for key in 1..many + 1 {
+        assert_eq!(rt; queue.take(), Some((key - 1, key)));
+        assert_eq!(rt; queue.take(), Some((many - key, key)));
+    }
+    assert_eq!(rt; queue.take(), None);
+    Ok(())
+}
+
 #[test]
 fn a_million_of_each_call(rt: HostRuntime) -> Result<(), Fail> {
     let mut chains = many_lists(rt.alloc(), MANY)?;
     expect_moves(&rt, &mut chains, MANY);
     expect_heights(&rt, rt.alloc(), MANY)?;
+    expect_keys(&rt, rt.alloc(), MANY)?;
     Ok(())
 }

@@ -49,3 +49,49 @@ fn counts_and_finds_marks(rt: HostRuntime) -> Result<(), Fail> {
     }
     Ok(())
 }
+
+/// Marks of 135 places, of which 0, 63 and 134 are marked, and the others are added at once.
+fn marks_apart(alloc: Global) -> Result<Marks, NoMemory>
+    ensures { IfOk result (λ marks. length marks ≡ 135) }
+{
+    let mut marks = Marks::make(alloc);
+    marks.push(true)?;
+    marks.push_plain(62)?;
+    marks.push(true)?;
+    marks.push_plain(70)?;
+    marks.push(true)?;
+    Ok(marks)
+}
+
+#[test]
+fn places_without_marks_stand_between(rt: HostRuntime) -> Result<(), Fail> {
+    let marks = marks_apart(rt.alloc())?;
+    assert_eq!(rt; marks.len(), 135);
+    assert_eq!(rt; marks.marked(), 3);
+    let ranks = [
+        (0, 0),
+        (1, 1),
+        (63, 1),
+        (64, 2),
+        (65, 2),
+        (127, 2),
+        (128, 2),
+        (134, 2),
+        (135, 3),
+    ];
+    for (place, rank) in ranks {
+        assert!(rt;
+            place <= 135 && marks.rank(place) == rank,
+            "rank of {place}"
+        );
+    }
+    assert!(rt; marks.is_marked(63) && !marks.is_marked(64) && !marks.is_marked(133));
+    let places = [(0, 0), (1, 63), (2, 134)];
+    for (before, place) in places {
+        assert!(rt;
+            before < marks.marked() && marks.place(before) == place,
+            "place of {before}"
+        );
+    }
+    Ok(())
+}

@@ -62,7 +62,7 @@ absent_all : (x : ℕ) (xs : List ℕ) → AllByRecursion (λ y. eqb x y ≡ fal
 absent_all x [] a = refl
 absent_all x (y ∷ ys) a = grind (arith, nat_tests, a.0, absent_all x ys a.1)
 
-Once-from_IsDistinct : (xs : List ℕ) → IsDistinct eqb xs → Once xs
+pub Once-from_IsDistinct : (xs : List ℕ) → IsDistinct eqb xs → Once xs
 unfolding IsDistinct
 Once-from_IsDistinct [] o = tt
 Once-from_IsDistinct (x ∷ xs) o = (absent_all x xs o.0, Once-from_IsDistinct xs o.1)
@@ -75,7 +75,7 @@ has_concat_list [] h y k = absurd (false≢true k)
 has_concat_list (xs ∷ ms) zero y k = has-append xs (concat ms) y ∙ rw k refl
 has_concat_list (xs ∷ ms) (suc h) y k = has-append xs (concat ms) y ∙ true_either (has xs y) (has (concat ms) y) (has_concat_list ms h y k)
 
-same_list : (ms : List (List ℕ)) (h k y : ℕ) → Once (concat ms) → has (list_at ms h) y ≡ true → has (list_at ms k) y ≡ true → h ≡ k
+pub same_list : (ms : List (List ℕ)) (h k y : ℕ) → Once (concat ms) → has (list_at ms h) y ≡ true → has (list_at ms k) y ≡ true → h ≡ k
 same_list [] h k y o p q = absurd (false≢true p)
 same_list (xs ∷ ms) zero zero y o p q = refl
 same_list (xs ∷ ms) zero (suc k) y o p q = absurd (false≢true (sym (apart-append xs (concat ms) y o (has_concat_list ms k y q)) ∙ p))

@@ -5,3 +5,5 @@ pub mod Spelling
 pub mod Moves
 pub mod CallerLemmas
 pub mod Piles
+pub mod Stacks
+pub mod Moved

@@ -1,32 +1,16 @@
 -- Buckets after a cell is put in or taken out.
-use Rattle.std.proofs.Common.{◌≡◌, ◌≢◌, ℕ, suc, zero, ◌<◌, ◌≤◌, min, true, List, [], ◌∷◌, ◌++◌, length, set, replicate, Option, None, Some, refl, sym, ap, ◌∙◌, arith, ⊎_elim}
+use Rattle.std.proofs.Common.{◌≡◌, ◌≢◌, ℕ, ◌<◌, ◌≤◌, min, true, List, [], ◌∷◌, ◌++◌, length, set, replicate, Option, None, Some, refl, sym, ap, ◌∙◌, arith, ⊎_elim}
 use Rattle.std.specs.List.{slice_get}
 use Rattle.std.proofs.lemmas.Bool.{cases_eq, cases_lt, false≢true, eq-eqb}
 use Rattle.std.proofs.lemmas.Bool.Decides.{nat_tests}
 use Rattle.std.proofs.lemmas.Option.{none-some, same_Some}
-use Rattle.std.proofs.lemmas.List.{get_or-set_same, get_or-set_other, get_or_past, length-set, length-map}
+use Rattle.std.proofs.lemmas.List.{get_or-set_same, get_or-set_other, get_or_past, length-set}
 use Rattle.cw_links.specs.Lists.{list_at, without, with_front}
 use Rattle.cw_links.specs.Rows.{has}
 use Rattle.cw_links.specs.Heights.{height_at, AreOut, AreBuckets}
 use Rattle.cw_links.proofs.CallerLemmas.{list_at-without}
+use Rattle.cw_links.proofs.Moved.{moved, moved_here}
 use Rattle.cw_links.proofs.Rows.{less, has-less_same, has-less_other, has-less_within, has-first, has_tail}
-
-list_at-empties : (ls : List (List ℕ)) (k h : ℕ) → list_at (ls ++ replicate k []) h ≡ list_at ls h
-list_at-empties [] zero h = refl
-list_at-empties [] (suc k) zero = refl
-list_at-empties [] (suc k) (suc h) = list_at-empties [] k h
-list_at-empties (xs ∷ ls) k zero = refl
-list_at-empties (xs ∷ ls) k (suc h) = list_at-empties ls k h
-
--- a list of the lists with the cell moved to the front of one that may be new
-moved : (ls : List (List ℕ)) (k c l h : ℕ) → h ≢ l → list_at (with_front (without (ls ++ replicate k []) c) l c) h ≡ less (list_at ls h) c
-moved ls k c l h ne =
-    get_or-set_other (without (ls ++ replicate k []) c) l h _ [] ne ∙ list_at-without (ls ++ replicate k []) c h ∙ ap (λ w. less w c) (list_at-empties ls k h)
-
-moved_here : (ls : List (List ℕ)) (k c l : ℕ) → l < length (ls ++ replicate k []) → list_at (with_front (without (ls ++ replicate k []) c) l c) l ≡ c ∷ less (list_at ls l) c
-moved_here ls k c l i =
-    get_or-set_same (without (ls ++ replicate k []) c) l _ [] (rw (length-map (ls ++ replicate k []) _) i)
-    ∙ ap (λ w. c ∷ w) (list_at-without (ls ++ replicate k []) c l ∙ ap (λ w. less w c) (list_at-empties ls k l))
 
 known_cell : (hs : List (Option ℕ)) (y h : ℕ) → height_at hs y ≡ Some h → y < length hs
 known_cell hs y h e = ⊎_elim (λ l. l) (λ g. absurd (none-some h (sym (get_or_past hs y None g) ∙ e))) (cases_lt y (length hs))

@@ -1,3 +1,4 @@
 pub mod Lists
 pub mod Heights
 pub mod Rows
+pub mod Queues

@@ -1,9 +1,8 @@
 //! Cells by height, the least height first.
-ghost use Rattle.std.specs.Prelude.{◌≡◌, ℕ, List, ◌+◌, ◌<◌, ◌≤◌, ◌↔◌, [], length, replicate, slice_get, slice_set, None, Some, IsNone, IfOk, OnOk, OnErr, IfSome, IfNone};
-ghost use Rattle.cw_links.specs.Lists.{list_at};
+ghost use Rattle.std.specs.Prelude.{◌≡◌, ℕ, ◌≤◌, ◌<◌, ◌↔◌, length, replicate, slice_set, None, Some, IsNone, IfOk, OnOk, OnErr, IfSome, IfNone};
 ghost use Rattle.cw_links.specs.Heights.{height_at, AreOut};
 
-use crate::links::Links;
+use crate::links::{Links, lowest};
 use cw_core::NoMemory;
 use std::alloc::Global;
 use std::marker::Model;
@@ -83,18 +82,4 @@ impl Buckets {
             }
         }
     }
-}
-
-/// The first cell of the lowest list, from the floor on, that has one, and the number of that list.
-fn lowest(links: &Links, floor: usize) -> Option<(u32, u32)>
-    ensures first { IfSome result (λ found. slice_get (list_at links.now.lists found.1) 0 ≡ Some found.0) }
-    ensures lowest { IfSome result (λ found. (height : ℕ) → floor ≤ height → height < found.1 → list_at links.now.lists height ≡ []) }
-    ensures none { IfNone result ((height : ℕ) → floor ≤ height → list_at links.now.lists height ≡ []) }
-{
-    for height in floor..links.lists() {
-        if let Some(cell) = links.first(height as u32) {
-            return Some((cell, height as u32));
-        }
-    }
-    None
 }

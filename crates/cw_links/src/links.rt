@@ -174,6 +174,23 @@ impl Links {
     }
 }
 
+/// The first cell of the lowest list, from the floor on, that has one, and the number of that list.
+pub(crate) fn lowest(links: &Links, floor: usize) -> Option<(u32, u32)>
+    ensures first { IfSome result (λ found. slice_get (list_at links.now.lists found.1) 0 ≡ Some found.0) }
+    ensures lowest { IfSome result (λ found. (height : ℕ) → floor ≤ height → height < found.1 → list_at links.now.lists height ≡ []) }
+    ensures from { IfSome result (λ found. floor ≤ found.1) }
+    ensures known { IfSome result (λ found. found.0 < links.now.cells) }
+    ensures apart { IfSome result (λ found. AreApart links.now.lists links.now.cells) }
+    ensures none { IfNone result ((height : ℕ) → floor ≤ height → list_at links.now.lists height ≡ []) }
+{
+    for height in floor..links.lists() {
+        if let Some(cell) = links.first(height as u32) {
+            return Some((cell, height as u32));
+        }
+    }
+    None
+}
+
 /// The cell of this number, if it is one.
 fn cell_of(number: u32) -> Option<u32>
     ensures some { IfSome result (λ cell. (cell ≡ number) × (cell < 4294967295)) }

@@ -2,3 +2,4 @@ pub mod Ranks
 pub mod Spreads
 pub mod Blocks
 mod Bits
+pub mod Plain

@@ -1,5 +1,5 @@
 //! A list of marks that grows at its end.
-ghost use Rattle.std.specs.Prelude.{◌≡◌, ◌+◌, ◌%◌, ◌<◌, ◌≤◌, ◌==◌, true, if◌then◌else◌, [], ◌∷◌, ◌++◌, length, OnOk, OnErr};
+ghost use Rattle.std.specs.Prelude.{◌≡◌, ◌+◌, ◌%◌, ◌<◌, ◌≤◌, ◌==◌, true, if◌then◌else◌, [], ◌∷◌, ◌++◌, length, replicate, false, OnOk, OnErr};
 ghost use Rattle.cw_marks.specs.Marks.{is_marked, number, rank};
 
 use cw_core::NoMemory;
@@ -57,6 +57,19 @@ impl Marks {
         self.words[self.count / BITS] |= u64::from(mark) << (self.count % BITS);
         self.marked += u32::from(mark);
         self.count += 1;
+        Ok(())
+    }
+
+    /// Adds so many places at the end, of which none is marked. The one error is want of memory, which changes nothing.
+    pub fn push_plain(&mut self, many: u32) -> Result<(), NoMemory>
+        requires few { length self.old + many ≤ 4294967295 }
+        ensures pushed { OnOk result (self.new ≡ self.old ++ replicate many false) }
+        ensures refused { OnErr result (self.new ≡ self.old) }
+    {
+        let count = self.count + many as usize;
+        let missing = count.div_ceil(BITS) - self.words.len();
+        begin_words(&mut self.words, &mut self.before, missing, self.marked)?;
+        self.count = count;
         Ok(())
     }
 
@@ -122,6 +135,29 @@ impl Marks {
     }
 }
 
+/// Adds so many words without marks.
+fn begin_words(
+    words: &mut Vec<u64>,
+    before: &mut Vec<u32>,
+    more: usize,
+    marked: u32,
+) -> Result<(), NoMemory>
+    requires same { length words.old.items ≡ length before.old.items }
+    requires few { length words.old.items + more ≤ 4294967295 }
+    ensures words { OnOk result (words.new.items ≡ words.old.items ++ replicate more 0) }
+    ensures before { OnOk result (before.new.items ≡ before.old.items ++ replicate more marked) }
+    ensures refused_words { OnErr result (words.new.items ≡ words.old.items) }
+    ensures refused_before { OnErr result (before.new.items ≡ before.old.items) }
+{
+    words.reserve(more)?;
+    before.reserve(more)?;
+    let end = words.len() + more;
+    // There is room now, so neither is refused.
+    let _ = words.resize(end, 0);
+    let _ = before.resize(end, marked);
+    Ok(())
+}
+
 /// Adds a word without marks where so many places end with a word.
 fn begin_word(
     words: &mut Vec<u64>,
@@ -129,17 +165,15 @@ fn begin_word(
     count: usize,
     marked: u32,
 ) -> Result<(), NoMemory>
+    requires same { length words.old.items ≡ length before.old.items }
+    requires few { length words.old.items < 4294967295 }
     ensures words { OnOk result (words.new.items ≡ (if count % 64 == 0 then words.old.items ++ 0 ∷ [] else words.old.items)) }
     ensures before { OnOk result (before.new.items ≡ (if count % 64 == 0 then before.old.items ++ marked ∷ [] else before.old.items)) }
     ensures refused_words { OnErr result (words.new.items ≡ words.old.items) }
     ensures refused_before { OnErr result (before.new.items ≡ before.old.items) }
 {
     if count % BITS == 0 {
-        words.reserve(1)?;
-        before.reserve(1)?;
-        // There is room now, so neither push is refused.
-        let _ = words.push(0);
-        let _ = before.push(marked);
+        begin_words(words, before, 1, marked)?;
     }
     Ok(())
 }

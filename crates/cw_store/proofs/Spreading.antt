@@ -1,16 +1,17 @@
 -- Keys and values of links, as they stand at their places.
-use Rattle.std.proofs.Common.{◌≡◌, ℕ, ◌<◌, ◌≤◌, Bool, true, false, cond, List, [], ◌∷◌, ◌++◌, length, set, get_or, refl, sym, ap, ◌∙◌, subst, arith}
+use Rattle.std.proofs.Common.{◌≡◌, ℕ, ◌+◌, ◌<◌, ◌≤◌, Bool, true, false, cond, List, [], ◌∷◌, ◌++◌, length, replicate, set, get_or, refl, sym, ap, ◌∙◌, subst, arith}
 use Rattle.std.specs.Prelude.{slice_index, nat_eq, nat_lt, ◌||◌, Contains}
 use Rattle.cw_links.specs.Lists.{list_at}
-use Rattle.std.proofs.lemmas.List.{length_push}
+use Rattle.std.proofs.lemmas.List.{length_push, length-append, length-replicate, append-nil}
 use Rattle.cw_marks.specs.Marks.{is_marked, number, rank, spread}
-use Rattle.cw_marks.proofs.Ranks.{marked_within, rank_below, number_push, number-none}
-use Rattle.cw_marks.proofs.Spreads.{length-spread, spread-at, spread_marked, set_marked, spread_push_marked, spread_push_not_marked}
+use Rattle.cw_marks.proofs.Ranks.{marked_within, rank_below, number_push, number-none, number-append}
+use Rattle.cw_marks.proofs.Plain.{number-plain}
+use Rattle.cw_marks.proofs.Spreads.{length-spread, spread-at, spread_marked, set_marked, spread_push_marked, spread_grows}
 use Rattle.cw_store.specs.declared.popped.Popped.{Popped}
 use Rattle.cw_store.specs.declared.popped.Popped.TheVariants.{Nothing as Empty, Cell as OfCell, Link as OfLink}
 use Rattle.cw_store.specs.Callers.{Calling}
 use Rattle.cw_store.specs.Keys.{Keyed, Pops, lowered, AreFrom, AreEmpty, Takes}
-use Rattle.cw_store.specs.Stores.{AreStored, IsKnown, IsAt, Pushes, PopsPlace, Ties, grown, stored, with_asked, with_due}
+use Rattle.cw_store.specs.Stores.{Stored, AreStored, IsKnown, IsAt, Pushes, PushesPlain, PopsPlace, Ties, stored, with_asked, with_due}
 
 spread_cond : (marks : List Bool) (b : Bool) (xs ys : List ℕ) → spread marks (cond b xs ys) ≡ cond b (spread marks xs) (spread marks ys)
 spread_cond marks true xs ys = refl
@@ -51,14 +52,15 @@ taken_marked marks old new link place key as_many marked is takes = record {
   taken = ap (λ (xs : List ℕ). spread marks xs) (takes.taken ∙ ap (λ (y : ℕ). set old y 0) (sym is)) ∙ set_marked marks old place 0 as_many marked;
 }
 
--- a place more
-pub grown_spread : (marks : List Bool) (values : List ℕ) (mark : Bool) → length values ≡ number marks → spread (marks ++ mark ∷ []) (grown mark values) ≡ spread marks values ++ 0 ∷ []
-grown_spread marks values true as_many = spread_push_marked 0 marks values 0 as_many
-grown_spread marks values false as_many = spread_push_not_marked 0 marks values as_many
+-- so many places more that are no links
+plain_spread : (marks : List Bool) (values : List ℕ) (many : ℕ) → length values ≡ number marks → spread (marks ++ replicate many false) values ≡ spread marks values ++ replicate many 0
+plain_spread marks values many as_many =
+    let none : values ++ replicate (number (replicate many false)) 0 ≡ values = ap (λ (n : ℕ). values ++ replicate n 0) (number-plain many) ∙ append-nil values in
+    ap (λ (vs : List ℕ). spread (marks ++ replicate many false) vs) (sym none) ∙ spread_grows 0 marks (replicate many false) values as_many
+    ∙ ap (λ (n : ℕ). spread marks values ++ replicate n 0) (length-replicate many false)
 
-pub grown_length : (marks : List Bool) (values : List ℕ) (mark : Bool) → length values ≡ number marks → length (grown mark values) ≡ number (marks ++ mark ∷ [])
-grown_length marks values true as_many = let n = number_push marks true in let l = length_push values 0 in omega (arith, n, l, as_many)
-grown_length marks values false as_many = let n = number_push marks false in omega (arith, n, as_many)
+plain_number : (marks : List Bool) (many : ℕ) → number (marks ++ replicate many false) ≡ number marks
+plain_number marks many = (let n = number-append marks (replicate many false) in let z = number-plain many in omega (arith, n, z))
 
 -- what is read of a place that is no link, or of a link
 pub read_marked : (marks : List Bool) (values : List ℕ) (place v : ℕ) → is_marked marks place ≡ true → v ≡ slice_index values (rank marks place) → v ≡ slice_index (spread marks values) place
@@ -117,26 +119,72 @@ tied_at marks keys old new waves place list moves are marked to lists = record {
   lists = lists;
 }
 
-module _ (marks : List Bool) (keys keys' : Keyed) (callers callers' : Calling) (waves waves' : List ℕ) (mark : Bool) (are : AreStored marks keys callers waves)
-    (asked : keys'.asked ≡ keys.asked ++ 0 ∷ []) (due : keys'.due ≡ grown mark keys.due) (to : callers'.to ≡ grown mark callers.to) (wave : waves' ≡ grown mark waves) where
-  pub pushed_stored : length marks < 4194304 → AreStored (marks ++ mark ∷ []) keys' callers' waves'
+-- a link more
+module _ (marks : List Bool) (keys keys' : Keyed) (callers callers' : Calling) (waves waves' : List ℕ) (are : AreStored marks keys callers waves)
+    (asked : keys'.asked ≡ keys.asked ++ 0 ∷ []) (due : keys'.due ≡ keys.due ++ 0 ∷ []) (to : callers'.to ≡ callers.to ++ 0 ∷ []) (wave : waves' ≡ waves ++ 0 ∷ []) where
+  one_longer : (values values' : List ℕ) → length values ≡ number marks → values' ≡ values ++ 0 ∷ [] → length values' ≡ number (marks ++ true ∷ [])
+  one_longer values values' as_many is =
+      let e = ap (λ (xs : List ℕ). length xs) is in
+      let l = length_push values 0 in
+      let n = number_push marks true in
+      omega (arith, e, l, n, as_many)
+
+  pub pushed_stored : length marks < 4194304 → AreStored (marks ++ true ∷ []) keys' callers' waves'
   pushed_stored few = record {
-    few = (let n = length_push marks mark in omega (arith, n, few));
-    keys_of_cells = (let n = length_push marks mark in let a = ap (λ (xs : List ℕ). length xs) asked in let l = length_push keys.asked 0 in omega (arith, n, a, l, are.keys_of_cells));
-    keys_of_links = ap (λ (xs : List ℕ). length xs) due ∙ grown_length marks keys.due mark are.keys_of_links;
-    lists_of_links = ap (λ (xs : List ℕ). length xs) to ∙ grown_length marks callers.to mark are.lists_of_links;
-    waves_of_links = ap (λ (xs : List ℕ). length xs) wave ∙ grown_length marks waves mark are.waves_of_links;
+    few = (let n = length_push marks true in omega (arith, n, few));
+    keys_of_cells = (let n = length_push marks true in let a = ap (λ (xs : List ℕ). length xs) asked in let l = length_push keys.asked 0 in omega (arith, n, a, l, are.keys_of_cells));
+    keys_of_links = one_longer keys.due keys'.due are.keys_of_links due;
+    lists_of_links = one_longer callers.to callers'.to are.lists_of_links to;
+    waves_of_links = one_longer waves waves' are.waves_of_links wave;
   }
 
-  pub pushed_at : length callers'.lists ≡ length callers.lists → Pushes (stored marks keys callers waves) (stored (marks ++ mark ∷ []) keys' callers' waves') mark
+  pub pushed_at : length callers'.lists ≡ length callers.lists → Pushes (stored marks keys callers waves) (stored (marks ++ true ∷ []) keys' callers' waves') true
   pushed_at lists = record {
     marks = refl;
     asked = asked;
-    due = ap (λ (xs : List ℕ). spread (marks ++ mark ∷ []) xs) due ∙ grown_spread marks keys.due mark are.keys_of_links;
-    to = ap (λ (xs : List ℕ). spread (marks ++ mark ∷ []) xs) to ∙ grown_spread marks callers.to mark are.lists_of_links;
-    waves = ap (λ (xs : List ℕ). spread (marks ++ mark ∷ []) xs) wave ∙ grown_spread marks waves mark are.waves_of_links;
+    due = ap (λ (xs : List ℕ). spread (marks ++ true ∷ []) xs) due ∙ spread_push_marked 0 marks keys.due 0 are.keys_of_links;
+    to = ap (λ (xs : List ℕ). spread (marks ++ true ∷ []) xs) to ∙ spread_push_marked 0 marks callers.to 0 are.lists_of_links;
+    waves = ap (λ (xs : List ℕ). spread (marks ++ true ∷ []) xs) wave ∙ spread_push_marked 0 marks waves 0 are.waves_of_links;
     lists = lists;
   }
+
+-- so many places more that are no links
+module _ (marks : List Bool) (keys keys' : Keyed) (callers : Calling) (waves : List ℕ) (many : ℕ) (are : AreStored marks keys callers waves)
+    (asked : keys'.asked ≡ keys.asked ++ replicate many 0) (due : keys'.due ≡ keys.due) where
+  pub plain_stored : length marks + many ≤ 4194304 → AreStored (marks ++ replicate many false) keys' callers waves
+  plain_stored few =
+      let m : length (marks ++ replicate many false) ≡ length marks + many = length-append marks (replicate many false) ∙ ap (λ (k : ℕ). length marks + k) (length-replicate many false) in
+      let a : length keys'.asked ≡ length keys.asked + many
+      = ap (λ (xs : List ℕ). length xs) asked ∙ length-append keys.asked (replicate many 0) ∙ ap (λ (k : ℕ). length keys.asked + k) (length-replicate {A = ℕ} many 0) in
+      let n = plain_number marks many in
+      record {
+        few = omega (arith, m, few);
+        keys_of_cells = omega (arith, m, a, are.keys_of_cells);
+        keys_of_links = ap (λ (xs : List ℕ). length xs) due ∙ are.keys_of_links ∙ sym n;
+        lists_of_links = are.lists_of_links ∙ sym n;
+        waves_of_links = are.waves_of_links ∙ sym n;
+      }
+
+  pub plain_at : PushesPlain (stored marks keys callers waves) (stored (marks ++ replicate many false) keys' callers waves) many
+  plain_at = record {
+    marks = refl;
+    asked = asked;
+    due = ap (λ (xs : List ℕ). spread (marks ++ replicate many false) xs) due ∙ plain_spread marks keys.due many are.keys_of_links;
+    to = plain_spread marks callers.to many are.lists_of_links;
+    waves = plain_spread marks waves many are.waves_of_links;
+    lists = refl;
+  }
+
+-- one place more that is no link
+pub one_plain : (old new : Stored) → PushesPlain old new 1 → Pushes old new false
+one_plain old new pushes = record {
+  marks = pushes.marks;
+  asked = pushes.asked;
+  due = pushes.due;
+  to = pushes.to;
+  waves = pushes.waves;
+  lists = ap (λ (ls : List (List ℕ)). length ls) pushes.lists;
+}
 
 -- the link at a place stands in its list
 pub there_at : (marks : List Bool) (callers : Calling) → length callers.to ≡ number marks → ((k : ℕ) → k < length callers.to → Contains (list_at callers.lists (slice_index callers.to k)) k)

@@ -1,6 +1,6 @@
--- Keys of cells and of links, by number, and buckets that have each under its key.
-use Rattle.std.specs.Prelude.{◌≡◌, ℕ, zero, suc, ◌+◌, ◌-◌, ◌<◌, ◌≤◌, ◌||◌, if◌then◌else◌, nat_eq, nat_lt, List, length, Option, None, Some, slice_index, slice_set}
-use Rattle.cw_links.specs.Heights.{height_at}
+-- Keys of cells and of links, by number, and the queue in which they wait.
+use Rattle.std.specs.Prelude.{◌≡◌, ℕ, ◌/◌, ◌%◌, ◌<◌, ◌≤◌, ◌||◌, if◌then◌else◌, nat_eq, nat_lt, List, length, slice_index, slice_set, Contains}
+use Rattle.cw_links.specs.Lists.{list_at}
 use Rattle.cw_store.specs.declared.popped.Popped.{Popped}
 use Rattle.cw_store.specs.declared.popped.Popped.TheVariants.{Nothing as Empty, Cell as OfCell, Link as OfLink}
 
@@ -11,36 +11,24 @@ pub record Keyed : Type 0 where
   pub spare_cells : ℕ
   pub spare_links : ℕ
 
--- in the buckets, nothing stands under the key 0
-abbrev pub waiting : ℕ → Option ℕ
-waiting zero = None
-waiting (suc key) = Some (suc key)
+-- the key of an element of the queue: the even ones are those of cells, and the odd ones those of links
+abbrev pub key_of : (asked due : List ℕ) (element : ℕ) → ℕ
+key_of asked due element = if nat_eq (element % 2) 0 then slice_index asked (element / 2) else slice_index due (element / 2)
 
--- the key of an element of the buckets: the first are those of cells, and then come those of links
-abbrev pub key_of : (asked due : List ℕ) (cells element : ℕ) → ℕ
-key_of asked due cells element = if nat_lt element cells then slice_index asked element else slice_index due (element - cells)
+-- the element is that of a cell or of a link
+abbrev pub IsElement : (asked due : List ℕ) (element : ℕ) → Type 0
+IsElement asked due element = element / 2 < (if nat_eq (element % 2) 0 then length asked else length due)
 
--- buckets for so many cells and links, with these keys
-pub record AreQueued (asked due : List ℕ) (buckets : List (Option ℕ)) (cells links : ℕ) : Type 0 where
-  pub few_cells : cells ≤ 4194304
-  pub few_links : links ≤ 4194304
-  pub some_cells : length asked ≤ cells
-  pub some_links : length due ≤ links
-  pub long : length buckets ≡ cells + links
-  pub keys : (element : ℕ) → height_at buckets element ≡ waiting (key_of asked due cells element)
+-- each element that has a key is under it, and maybe under others too
+pub record AreWaiting (asked due : List ℕ) (stacks : List (List ℕ)) : Type 0 where
+  pub waits : (element : ℕ) → 0 < key_of asked due element → Contains (list_at stacks (key_of asked due element)) element
+  pub known : (key element : ℕ) → Contains (list_at stacks key) element → IsElement asked due element
 
--- what is written under a key, and nothing where the key is 0
-pub record Puts (old new : List (Option ℕ)) (element key : ℕ) : Type 0 where
-  pub long : length new ≡ length old
-  pub here : height_at new element ≡ waiting key
-  pub others : (e : ℕ) → (e ≡ element → ⊥) → height_at new e ≡ height_at old e
-
--- so many keys are put in, from an element on
-pub record Fills (old new : List (Option ℕ)) (first : ℕ) (keys : List ℕ) (many : ℕ) : Type 0 where
-  pub long : length new ≡ length old
-  pub before : (element : ℕ) → element < first → height_at new element ≡ height_at old element
-  pub filled : (element : ℕ) → first ≤ element → element < first + many → height_at new element ≡ waiting (slice_index keys (element - first))
-  pub rest : (element : ℕ) → first + many ≤ element → height_at new element ≡ None
+-- these are few, and the queue has their elements
+pub record AreQueued (asked due : List ℕ) (stacks : List (List ℕ)) : Type 0 where
+  pub few_cells : length asked ≤ 4194304
+  pub few_links : length due ≤ 4194304
+  pub waiting : AreWaiting asked due stacks
 
 -- the keys with this one at a place, unless a lower one stands there
 abbrev pub lowered : (keys : List ℕ) (place key : ℕ) → List ℕ
@@ -62,6 +50,15 @@ pub record Takes (old new : List ℕ) (number key : ℕ) : Type 0 where
   pub is : slice_index old number ≡ key
   pub some : 0 < key
   pub taken : new ≡ slice_set old number 0
+
+-- an element was taken under its key, the least one, and the others that have a key are still under it
+pub record IsNext (asked due : List ℕ) (stacks : List (List ℕ)) (element key : ℕ) : Type 0 where
+  pub some : 0 < key
+  pub is : key_of asked due element ≡ key
+  pub is_element : IsElement asked due element
+  pub from : AreFrom asked due key
+  pub others : (e : ℕ) → (e ≡ element → ⊥) → 0 < key_of asked due e → Contains (list_at stacks (key_of asked due e)) e
+  pub known : (k e : ℕ) → Contains (list_at stacks k) e → IsElement asked due e
 
 -- what is taken from under the least key
 abbrev pub Pops : (old new : Keyed) → Popped → Type 0

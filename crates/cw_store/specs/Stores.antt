@@ -1,5 +1,5 @@
 -- What a solver keeps by places: a key for each cell, and of the few places that are links their keys, where they go and for how long.
-use Rattle.std.specs.Prelude.{◌≡◌, ℕ, ◌<◌, ◌≤◌, if◌then◌else◌, List, [], ◌∷◌, ◌++◌, Bool, true, length, slice_set}
+use Rattle.std.specs.Prelude.{◌≡◌, ℕ, ◌<◌, ◌≤◌, List, [], ◌∷◌, ◌++◌, Bool, true, false, length, replicate, slice_set}
 use Rattle.cw_marks.specs.Marks.{is_marked, number, rank, spread}
 use Rattle.cw_store.specs.declared.popped.Popped.{Popped}
 use Rattle.cw_store.specs.declared.popped.Popped.TheVariants.{Nothing as Empty, Cell as OfCell, Link as OfLink}
@@ -72,10 +72,6 @@ PopsPlace old new Empty = AreEmpty old.asked old.due × (new ≡ old)
 PopsPlace old new (OfCell place key) = AreFrom old.asked old.due key × Takes old.asked new.asked place key × (new ≡ with_asked old new.asked)
 PopsPlace old new (OfLink place key) = AreFrom old.asked old.due key × Takes old.due new.due place key × (is_marked old.marks place ≡ true) × (new ≡ with_due old new.due)
 
--- a value more where a place is a link
-abbrev pub grown : Bool → List ℕ → List ℕ
-grown mark values = if mark then values ++ 0 ∷ [] else values
-
 -- a place more, of which nothing waits
 pub record Pushes (old new : Stored) (mark : Bool) : Type 0 where
   pub marks : new.marks ≡ old.marks ++ mark ∷ []
@@ -84,6 +80,15 @@ pub record Pushes (old new : Stored) (mark : Bool) : Type 0 where
   pub to : new.to ≡ old.to ++ 0 ∷ []
   pub waves : new.waves ≡ old.waves ++ 0 ∷ []
   pub lists : length new.lists ≡ length old.lists
+
+-- so many places more, none of which is a link or waits
+pub record PushesPlain (old new : Stored) (many : ℕ) : Type 0 where
+  pub marks : new.marks ≡ old.marks ++ replicate many false
+  pub asked : new.asked ≡ old.asked ++ replicate many 0
+  pub due : new.due ≡ old.due ++ replicate many 0
+  pub to : new.to ≡ old.to ++ replicate many 0
+  pub waves : new.waves ≡ old.waves ++ replicate many 0
+  pub lists : new.lists ≡ old.lists
 
 -- the link at a place stands in a list, with a number of moves
 pub record Ties (old new : Stored) (place list moves : ℕ) : Type 0 where

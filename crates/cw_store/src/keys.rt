@@ -1,30 +1,24 @@
 //! Keys of cells and of links, the least key first.
 
-ghost use Rattle.std.specs.Prelude.{◌≡◌, ℕ, ◌+◌, ◌<◌, ◌≤◌, [], ◌∷◌, ◌++◌, None, length, slice_index, OnOk, OnErr, IfOk};
-ghost use Rattle.cw_links.specs.Heights.{height_at};
-ghost use Rattle.cw_store.specs.Keys.{AreQueued, Fills, Pops, Puts, lowered};
+ghost use Rattle.std.specs.Prelude.{◌≡◌, ◌+◌, ◌<◌, ◌≤◌, [], ◌∷◌, ◌++◌, length, replicate, slice_index, OnOk, OnErr, IfOk, IfSome, IfNone};
+ghost use Rattle.cw_store.specs.Keys.{AreEmpty, AreWaiting, IsElement, IsNext, Pops, key_of, lowered};
 
 use crate::popped::Popped;
 use cw_core::NoMemory;
-use cw_links::Buckets;
+use cw_links::Queue;
 use std::alloc::Global;
 use std::marker::Model;
 
-/// The most cells, and the most links.
-const MOST: u32 = 4_194_304;
-
 /// Cells and links by number, which wait each under a key, or don't wait, under 0.
 ///
-/// Contracts see the list of the cells' keys and that of the links', and how many more of each have their memory already. The buckets have the cells first, and then the links.
+/// Contracts see the list of the cells' keys and that of the links', and how many more of each have their memory already. In the
+/// queue the cell c is the element 2 * c, and the link l is 2 * l + 1. Where a key is lowered, the element stays under the older
+/// key too; what is taken there is passed over, since it isn't the key that is written.
 #[derive(Drop)]
 pub(crate) struct Keys {
     asked: Vec<u32>,
     due: Vec<u32>,
-    buckets: Buckets,
-    /// For how many cells there are buckets.
-    cells: u32,
-    /// For how many links.
-    links: u32,
+    queue: Queue,
 }
 
 impl Model for Keys {
@@ -36,11 +30,11 @@ impl Model for Keys {
     ghost view = { λ k. record {
       asked = k.asked.items;
       due = k.due.items;
-      spare_cells = min (k.cells - length k.asked.items) (vec_capacity k.asked - vec_len k.asked);
-      spare_links = min (k.links - length k.due.items) (vec_capacity k.due - vec_len k.due);
+      spare_cells = min (4194304 - length k.asked.items) (vec_capacity k.asked - vec_len k.asked);
+      spare_links = min (4194304 - length k.due.items) (vec_capacity k.due - vec_len k.due);
     } };
 
-    ghost invariant = { λ k. AreQueued k.asked.items k.due.items k.buckets k.cells k.links };
+    ghost invariant = { λ k. AreQueued k.asked.items k.due.items k.queue };
 }
 
 impl Keys {
@@ -52,9 +46,7 @@ impl Keys {
         Ok(Keys {
             asked: Vec::new(alloc),
             due: Vec::new(alloc),
-            buckets: Buckets::make(alloc, 0)?,
-            cells: 0,
-            links: 0,
+            queue: Queue::make(alloc)?,
         })
     }
 
@@ -76,7 +68,7 @@ impl Keys {
     {
         let asked = self.asked[cell];
         if asked == 0 || key < asked {
-            self.buckets.put(cell as u32, key)?;
+            self.queue.put(2 * cell as u32, key)?;
             self.asked[cell] = key;
         }
         Ok(())
@@ -92,7 +84,7 @@ impl Keys {
     {
         let due = self.due[link];
         if due == 0 || key < due {
-            self.buckets.put(self.cells + link as u32, key)?;
+            self.queue.put(2 * link as u32 + 1, key)?;
             self.due[link] = key;
         }
         Ok(())
@@ -102,52 +94,55 @@ impl Keys {
     pub(crate) fn pop(&mut self) -> Popped
         ensures { Pops self.old self.new result }
     {
-        match self.buckets.take_least() {
+        match next(&mut self.queue, &self.asked, &self.due) {
             None => Popped::Nothing,
             Some((element, key)) => {
-                if element < self.cells {
-                    self.asked[element as usize] = 0;
-                    Popped::Cell(element as usize, key)
+                let number = (element / 2) as usize;
+                if element % 2 == 0 {
+                    self.asked[number] = 0;
+                    Popped::Cell(number, key)
                 } else {
-                    let link = (element - self.cells) as usize;
-                    self.due[link] = 0;
-                    Popped::Link(link, key)
+                    self.due[number] = 0;
+                    Popped::Link(number, key)
                 }
             }
         }
     }
 
-    /// Takes the memory of one more cell and one more link. The one error is want of memory; keys stay as they are.
-    pub(crate) fn reserve(&mut self, alloc: Global) -> Result<(), NoMemory>
-        requires few_cells { length self.old.asked < 4194304 }
-        requires few_links { length self.old.due < 4194304 }
-        ensures cells { OnOk result (0 < self.new.spare_cells) }
-        ensures links { OnOk result (0 < self.new.spare_links) }
+    /// Takes the memory of so many more cells. The one error is want of memory; keys stay as they are.
+    pub(crate) fn reserve_cells(&mut self, more: usize) -> Result<(), NoMemory>
+        requires few { length self.old.asked + more ≤ 4194304 }
+        ensures room { OnOk result (more ≤ self.new.spare_cells) }
+        ensures links { self.new.spare_links ≡ self.old.spare_links }
         ensures asked { self.new.asked ≡ self.old.asked }
         ensures due { self.new.due ≡ self.old.due }
     {
-        self.asked.reserve(1)?;
-        self.due.reserve(1)?;
-        let cells = room_for(self.asked.len() as u32, self.cells);
-        let links = room_for(self.due.len() as u32, self.links);
-        if cells == self.cells && links == self.links {
-            return Ok(());
-        }
-        self.buckets = queued(alloc, &self.asked, &self.due, cells, links)?;
-        self.cells = cells;
-        self.links = links;
+        self.asked.reserve(more)?;
         Ok(())
     }
 
-    /// Adds a cell, which doesn't wait.
-    pub(crate) fn push_cell(&mut self)
-        requires room { 0 < self.old.spare_cells }
-        ensures asked { self.new.asked ≡ self.old.asked ++ 0 ∷ [] }
+    /// Takes the memory of one more link. The one error is want of memory; keys stay as they are.
+    pub(crate) fn reserve_link(&mut self) -> Result<(), NoMemory>
+        requires few { length self.old.due < 4194304 }
+        ensures room { OnOk result (0 < self.new.spare_links) }
+        ensures cells { self.new.spare_cells ≡ self.old.spare_cells }
+        ensures asked { self.new.asked ≡ self.old.asked }
+        ensures due { self.new.due ≡ self.old.due }
+    {
+        self.due.reserve(1)?;
+        Ok(())
+    }
+
+    /// Adds so many cells, which don't wait.
+    pub(crate) fn push_cells(&mut self, many: usize)
+        requires room { many ≤ self.old.spare_cells }
+        ensures asked { self.new.asked ≡ self.old.asked ++ replicate many 0 }
         ensures due { self.new.due ≡ self.old.due }
         ensures links { self.new.spare_links ≡ self.old.spare_links }
     {
-        // There is room, so the push is not refused.
-        let _ = self.asked.push(0);
+        // There is room, so this is not refused.
+        let cells = self.asked.len() + many;
+        let _ = self.asked.resize(cells, 0);
     }
 
     /// Adds a link, which doesn't wait.
@@ -162,62 +157,30 @@ impl Keys {
     }
 }
 
-/// Room for one more than there are.
-fn room_for(there: u32, room: u32) -> u32
-    requires within { there ≤ room }
-    requires few { there < 4194304 }
-    requires room { room ≤ 4194304 }
-    ensures more { there < result }
-    ensures few { result ≤ 4194304 }
+/// Takes elements until one is taken under the key that it has.
+fn next(queue: &mut Queue, asked: &[u32], due: &[u32]) -> Option<(u32, u32)>
+    requires { AreWaiting asked.now due.now queue.old }
+    ensures next { IfSome result (λ taken. IsNext asked.now due.now queue.new taken.0 taken.1) }
+    ensures none { IfNone result (AreEmpty asked.now due.now) }
+    ensures waiting { IfNone result (AreWaiting asked.now due.now queue.new) }
 {
-    if there < room {
-        room
+    while let Some((element, key)) = queue.take() {
+        if key_of(asked, due, element) == key {
+            return Some((element, key));
+        }
+    }
+    None
+}
+
+/// The key of an element.
+fn key_of(asked: &[u32], due: &[u32], element: u32) -> u32
+    requires { IsElement asked.now due.now element }
+    ensures { result ≡ key_of asked.now due.now element }
+{
+    let number = (element / 2) as usize;
+    if element % 2 == 0 {
+        asked[number]
     } else {
-        (2 * room).max(64).min(MOST)
+        due[number]
     }
-}
-
-/// Puts an element that isn't in under a key, unless the key is 0.
-fn put_key(buckets: &mut Buckets, element: u32, key: u32) -> Result<(), NoMemory>
-    requires within { element < length buckets.old }
-    requires out { height_at buckets.old element ≡ None }
-    ensures { OnOk result (Puts buckets.old buckets.new element key) }
-{
-    if key != 0 {
-        buckets.put(element, key)?;
-    }
-    Ok(())
-}
-
-/// Puts keys in from an element on, where none is.
-fn fill(buckets: &mut Buckets, first: u32, keys: &[u32]) -> Result<(), NoMemory>
-    requires within { first + length keys.now ≤ length buckets.old }
-    requires few { first + length keys.now ≤ 8388608 }
-    requires out { (element : ℕ) → first ≤ element → height_at buckets.old element ≡ None }
-    ensures { OnOk result (Fills buckets.old buckets.new first keys.now (length keys.now)) }
-{
-    for k in 0..keys.len() {
-        put_key(buckets, first + k as u32, keys[k])?;
-    }
-    Ok(())
-}
-
-/// Buckets for so many cells and links, with their keys.
-fn queued(
-    alloc: Global,
-    asked: &[u32],
-    due: &[u32],
-    cells: u32,
-    links: u32,
-) -> Result<Buckets, NoMemory>
-    requires few_cells { cells ≤ 4194304 }
-    requires few_links { links ≤ 4194304 }
-    requires asked { length asked.now ≤ cells }
-    requires due { length due.now ≤ links }
-    ensures { IfOk result (λ buckets. AreQueued asked.now due.now buckets cells links) }
-{
-    let mut buckets = Buckets::make(alloc, cells + links)?;
-    fill(&mut buckets, 0, asked)?;
-    fill(&mut buckets, cells, due)?;
-    Ok(buckets)
 }

@@ -4,7 +4,7 @@ ghost use Rattle.std.specs.Prelude.{◌≡◌, ℕ, List, true, ◌+◌, ◌<◌
 ghost use Rattle.cw_links.specs.Lists.{list_at, AreApart};
 ghost use Rattle.cw_marks.specs.Marks.{is_marked, number, rank};
 ghost use Rattle.cw_store.specs.Keys.{lowered};
-ghost use Rattle.cw_store.specs.Stores.{IsBlank, IsKnown, IsAt, Pushes, PopsPlace, Ties, grown, with_asked, with_due, with_lists};
+ghost use Rattle.cw_store.specs.Stores.{IsBlank, IsKnown, IsAt, Pushes, PushesPlain, PopsPlace, Ties, with_asked, with_due, with_lists};
 
 use crate::callers::Callers;
 use crate::keys::Keys;
@@ -139,17 +139,43 @@ impl Store {
 
     /// Adds a place, which is a link or not. Its cell and its link don't wait, and the link stands in the list 0. The one error is
     /// want of memory, which changes nothing.
-    pub fn push(&mut self, alloc: Global, mark: bool) -> Result<(), NoMemory>
+    pub fn push(&mut self, mark: bool) -> Result<(), NoMemory>
         requires few { length self.old.marks < 4194304 }
         ensures pushed { OnOk result (Pushes self.old self.new mark) }
         ensures refused { OnErr result (self.new ≡ self.old) }
     {
-        self.keys.reserve(alloc)?;
+        if mark {
+            self.push_link()
+        } else {
+            self.push_plain(1)
+        }
+    }
+
+    /// Adds so many places, of which none is a link and none waits. The one error is want of memory, which changes nothing.
+    pub fn push_plain(&mut self, many: u32) -> Result<(), NoMemory>
+        requires few { length self.old.marks + many ≤ 4194304 }
+        ensures pushed { OnOk result (PushesPlain self.old self.new many) }
+        ensures refused { OnErr result (self.new ≡ self.old) }
+    {
+        self.keys.reserve_cells(many as usize)?;
+        self.marks.push_plain(many)?;
+        self.keys.push_cells(many as usize);
+        Ok(())
+    }
+
+    /// Adds a place that is a link, as `push` does.
+    fn push_link(&mut self) -> Result<(), NoMemory>
+        requires few { length self.old.marks < 4194304 }
+        ensures pushed { OnOk result (Pushes self.old self.new true) }
+        ensures refused { OnErr result (self.new ≡ self.old) }
+    {
+        self.keys.reserve_cells(1)?;
+        self.keys.reserve_link()?;
         self.callers.reserve()?;
         self.waves.reserve(1)?;
-        self.marks.push(mark)?;
-        self.keys.push_cell();
-        add_link(&mut self.keys, &mut self.callers, &mut self.waves, mark);
+        self.marks.push(true)?;
+        self.keys.push_cells(1);
+        add_link(&mut self.keys, &mut self.callers, &mut self.waves);
         Ok(())
     }
 
@@ -208,22 +234,20 @@ fn at_place(marks: &Marks, popped: Popped) -> Popped
     }
 }
 
-/// Adds a link, where a place is one.
-fn add_link(keys: &mut Keys, callers: &mut Callers, waves: &mut Vec<u32>, mark: bool)
+/// Adds a link.
+fn add_link(keys: &mut Keys, callers: &mut Callers, waves: &mut Vec<u32>)
     requires few { length callers.old.to < 4194304 }
     requires keys { 0 < keys.old.spare_links }
     requires callers { 0 < callers.old.spare }
     requires waves { vec_len waves.old < vec_capacity waves.old }
     ensures asked { keys.new.asked ≡ keys.old.asked }
-    ensures due { keys.new.due ≡ grown mark keys.old.due }
-    ensures to { callers.new.to ≡ grown mark callers.old.to }
+    ensures due { keys.new.due ≡ keys.old.due ++ 0 ∷ [] }
+    ensures to { callers.new.to ≡ callers.old.to ++ 0 ∷ [] }
     ensures lists { length callers.new.lists ≡ length callers.old.lists }
-    ensures waves { waves.new.items ≡ grown mark waves.old.items }
+    ensures waves { waves.new.items ≡ waves.old.items ++ 0 ∷ [] }
 {
-    if mark {
-        keys.push_link();
-        callers.push();
-        // There is room, so the push is not refused.
-        let _ = waves.push(0);
-    }
+    keys.push_link();
+    callers.push();
+    // There is room, so the push is not refused.
+    let _ = waves.push(0);
 }

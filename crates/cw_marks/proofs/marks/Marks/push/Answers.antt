@@ -1,5 +1,5 @@
-use Rattle.std.proofs.Common.{◌≡◌}
-use Rattle.cw_marks.proofs.Bits.{push_leaves}
+use Rattle.std.proofs.Common.{◌≡◌, ◌<◌, arith}
+use Rattle.cw_marks.proofs.Bits.{length-marks_of, push_leaves}
 use Rattle.cw_marks.proofs.marks.Marks.push.Goals as goal
 
 pub overflow_add-self : goal.overflow_add-self
@@ -28,3 +28,8 @@ returns-clause-pushed c =
     rw (← c.self.view_is) (push_leaves s.words.items s.before.items c.begin_word.new.words.items c.begin_word.new.before.items s.count s.marked
     c.index_mut.result.now c.from.result c.args.mark
     c.self.invariant few c.in_ok-begin_word.ensures.words c.in_ok-begin_word.ensures.before c.index_mut.ensures.value c.from.ensures).marks
+
+pub begin_word-requires-clause-few : goal.begin_word-requires-clause-few
+begin_word-requires-clause-few c =
+    let few : c.self.inside.count < 4294967295 = rw (← c.self.view_is, length-marks_of) at c.requires.few in
+    omega (arith, few, c.self.invariant.long)
