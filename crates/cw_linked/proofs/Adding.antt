@@ -7,7 +7,7 @@ use Rattle.cw_game.specs.Games.{Game, returned, holds_in, Holds}
 use Rattle.cw_game.specs.Pairs.{has, Called, kept_at}
 use Rattle.cw_solve.specs.declared.contexts.Context.{Context}
 use Rattle.cw_solve.specs.Contexts.{context, IsHeight, promise_at, IsSetOf}
-use Rattle.cw_solve.specs.Routes.{AreRouted}
+use Rattle.cw_product.specs.Routed.{AreRouted}
 use Rattle.cw_solve.specs.Rounds.{IsCell, holds_by}
 use Rattle.cw_solve.proofs.Falls.{not_both}
 use Rattle.cw_solve.proofs.Still.{entry_cell}
@@ -134,7 +134,7 @@ module _ (g : Game) (functions : ℕ) (routed : AreRouted g functions) (alike : 
             let cell = cell_before i c p q is at in
             let same : holds_in g (tells t i n) p q (has c.promise) (slice_get g.spots p) ≡ holds_in g (tells s i n) p q (has c.promise) (slice_get g.spots p)
             = in_same g (tells t i n) (tells s i n) p q (has c.promise) (slice_get g.spots p) plain
-            (λ by y e. ap (holds_by n) (adds.heights i c y.0 y.1 (next_cell g functions routed contexts i c p q by y (below_before i c at) cell e))) in
+            (λ by y among e. ap (holds_by n) (adds.heights i c y.0 y.1 (next_cell g functions routed contexts i c p q by y (below_before i c at) cell e))) in
             let w = all_of (IsClosed g s i c p q) (closed i c p q cell) (sym (adds.heights i c p q cell) ∙ none) plain n (sym same ∙ lost) in
             let e = adds.askeds i c p q cell in
             (omega (arith, w.0, e), omega (arith, w.1, e)))

@@ -4,11 +4,12 @@ use Rattle.std.specs.Prelude.{◌⊎◌, if◌then◌else◌, slice_index, nat_e
 use Rattle.std.proofs.lemmas.Bool.{cases_lt, lt-ltb, ltb-true, eqb-true, eq-eqb}
 use Rattle.cw_game.specs.Games.{Game}
 use Rattle.cw_game.specs.Pairs.{Called}
+use Rattle.cw_store.specs.Keys.{lowered}
 use Rattle.cw_solve.specs.declared.contexts.Context.{Context}
 use Rattle.cw_solve.specs.Rounds.{IsCell}
 use Rattle.cw_solve.proofs.Slots.{same_slot}
 use Rattle.cw_linked.specs.Founds.{Found, IsLink, Waits}
-use Rattle.cw_linked.specs.Queues.{asked_with, due_with}
+use Rattle.cw_linked.specs.Queues.{asked_with}
 use Rattle.cw_linked.specs.Steps.{IsOther, AsksCell, AsksLink}
 use Rattle.cw_linked.specs.Works.{place_at, value_at}
 use Rattle.cw_linked.proofs.Bounding.{place_is}
@@ -126,14 +127,14 @@ module _ (g : Game) (contexts : List Context) (s : Found) (heights asked due : L
     abbrev LinkTest : Bool
     LinkTest = nat_eq (slice_index due (place_at g contexts j r x)) 0 || nat_lt key (slice_index due (place_at g contexts j r x))
 
-    pub asks_for_link : AsksLink g contexts s (value_at g contexts (due_with due (place_at g contexts j r x) key)) j r x key
+    pub asks_for_link : AsksLink g contexts s (value_at g contexts (lowered due (place_at g contexts j r x) key)) j r x key
     asks_for_link =
         elim (decide LinkTest) [
           | inl yes_is ↦
-              let list : due_with due (place_at g contexts j r x) key ≡ set due (place_at g contexts j r x) key = chosen_then LinkTest _ _ yes_is in
+              let list : lowered due (place_at g contexts j r x) key ≡ set due (place_at g contexts j r x) key = chosen_then LinkTest _ _ yes_is in
               subst (λ (y : List ℕ). AsksLink g contexts s (value_at g contexts y) j r x key) (sym list) (written yes_is)
           | inr not_is ↦
-              let list : due_with due (place_at g contexts j r x) key ≡ due = chosen_else LinkTest _ _ not_is in
+              let list : lowered due (place_at g contexts j r x) key ≡ due = chosen_else LinkTest _ _ not_is in
               subst (λ (y : List ℕ). AsksLink g contexts s (value_at g contexts y) j r x key) (sym list) (kept not_is)
         ]
       where

@@ -1,60 +1,65 @@
--- The cells of a context are asked for, one after the other.
-use Rattle.std.proofs.Common.{◌≡◌, ℕ, ◌+◌, refl, sym, ◌∙◌, subst, arith, inl, inr}
-use Rattle.std.proofs.lemmas.Bool.{cases_eq}
+-- The cells of a context are asked for, some and then others.
+use Rattle.std.proofs.Common.{◌≡◌, ℕ, ◌+◌, ◌*◌, refl, sym, ◌∙◌, subst, arith, inl, inr}
+use Rattle.std.specs.Prelude.{◌⊎◌}
+use Rattle.std.proofs.lemmas.Bool.{cases_lt}
 use Rattle.cw_game.specs.Games.{Game}
 use Rattle.cw_solve.specs.declared.contexts.Context.{Context}
 use Rattle.cw_solve.specs.declared.table.Table.{Table}
-use Rattle.cw_solve.specs.Routes.{AreRouted}
-use Rattle.cw_solve.specs.Rounds.{slot, IsCell}
-use Rattle.cw_solve.specs.Tables.{IsTable, HasCell}
-use Rattle.cw_solve.proofs.Slots.{same_slot}
-use Rattle.cw_linked.specs.declared.work.Cell.{Cell}
+use Rattle.cw_solve.specs.Rounds.{IsCell}
 use Rattle.cw_linked.specs.declared.work.Work.{Work}
-use Rattle.cw_linked.specs.Added.{CellsFrom, AsksCells}
-use Rattle.cw_linked.specs.Founds.{AreAlike, AreRight, IsClosed, AllClosed}
-use Rattle.cw_linked.specs.Queues.{found_of, AreQueued, AreLong, AreHigh, AsksTold}
-use Rattle.cw_linked.specs.Works.{place_at}
-use Rattle.cw_linked.proofs.Bounding.{place_is}
-use Rattle.cw_linked.proofs.Telling.{nothing, two_steps, still_closed}
+use Rattle.cw_linked.specs.Added.{ThePair, FirstOf, AllOf, Before, AsksCells}
+use Rattle.cw_linked.specs.Founds.{Found, AreRight, IsClosed}
+use Rattle.cw_linked.specs.Queues.{found_of, AreLong, AreHigh, LowersKeys}
+use Rattle.cw_linked.specs.Works.{value_at}
+use Rattle.cw_linked.proofs.Lowering.{waits_less}
+use Rattle.cw_linked.proofs.Telling.{nothing, two_steps}
+use Rattle.cw_linked.proofs.Working.{found_keys}
 
 module _ (g : Game) where
-  -- none between a place and itself
-  pub asks_none : (w : Work) → AreLong w → AreQueued w → AreHigh w → AreRight g w.table.contexts.items (found_of g w) → (j a : ℕ) → AsksCells g w w j a a
-  asks_none w long queued high right j a = record { step = nothing g w long queued high right; closed = λ all. all; due = refl }
+  -- what is asked for stays so where keys become lower
+  pub stays_closed : (old new : Work) → LowersKeys g old new → (i : ℕ) (c : Context) (p q : ℕ) → IsCell g old.table.contexts.items i c p q → IsClosed g (found_of g old) i c p q
+      → IsClosed g (found_of g new) i c p q
+  stays_closed old new step i c p q is closed =
+      subst (λ (s : Found). IsClosed g s i c p q) (sym (found_keys g old new step.others))
+      (λ none plain n lost.
+      waits_less ((found_of g old).asked i p q) (value_at g old.table.contexts.items new.store.asked i p q) (2 * n + 2) (step.lowers.cells i c p q is) (closed none plain n lost))
 
-  -- some, and then more
-  pub asks_more : (old mid new : Work) (j a b d : ℕ) → AsksCells g old mid j a b → AsksCells g mid new j b d → AsksCells g old new j a d
-  asks_more old mid new j a b d one two = record {
+  -- nothing is to be asked for at these pairs
+  pub asks_nothing : (w : Work) → AreLong w → AreHigh w → AreRight g w.table.contexts.items (found_of g w) → (j : ℕ) (c : Context) (These : ℕ → ℕ → Type 0)
+      → ((p q : ℕ) → IsCell g w.table.contexts.items j c p q → These p q → IsClosed g (found_of g w) j c p q) → AsksCells g w w j c These
+  asks_nothing w long high right j c These closed = record { step = nothing g w long high right; closed = closed; due = refl }
+
+  -- one cell
+  pub asks_one : (old new : Work) (j : ℕ) (c : Context) (r y : ℕ) → LowersKeys g old new → IsClosed g (found_of g new) j c r y → new.store.due ≡ old.store.due → AsksCells g old new j c (ThePair r y)
+  asks_one old new j c r y step closed due = record {
+    step = step;
+    closed = λ p q is e. subst (λ (z : ℕ). IsClosed g (found_of g new) j c z q) (sym e.0) (subst (λ (z : ℕ). IsClosed g (found_of g new) j c r z) (sym e.1) closed);
+    due = due;
+  }
+
+  -- those at some pairs, and then those at others
+  pub asks_more : (old mid new : Work) (j : ℕ) (c : Context) (These Those All : ℕ → ℕ → Type 0) → AsksCells g old mid j c These → AsksCells g mid new j c Those
+      → ((p q : ℕ) → IsCell g old.table.contexts.items j c p q → All p q → These p q ⊎ Those p q) → AsksCells g old new j c All
+  asks_more old mid new j c These Those All one two parts = record {
     step = two_steps g old mid new one.step two.step;
-    closed = λ all. later (one.closed all);
+    closed = λ p q is all. elim (parts p q is all) [
+      | inl these ↦ stays_closed mid new two.step j c p q (still p q is) (one.closed p q is these)
+      | inr those ↦ two.closed p q (still p q is) those
+    ];
     due = two.due ∙ one.due;
   }
     where
-      later : AllClosed g old.table.contexts.items (found_of g mid) (CellsFrom g old.table.contexts.items j b) → AllClosed g old.table.contexts.items (found_of g new) (CellsFrom g old.table.contexts.items j d)
-      later = subst (λ (t : Table). AllClosed g t.contexts.items (found_of g mid) (CellsFrom g t.contexts.items j b) → AllClosed g t.contexts.items (found_of g new) (CellsFrom g t.contexts.items j d))
-          one.step.others.table two.closed
+      still : (p q : ℕ) → IsCell g old.table.contexts.items j c p q → IsCell g mid.table.contexts.items j c p q
+      still p q is = subst (λ (t : Table). IsCell g t.contexts.items j c p q) (sym one.step.others.table) is
 
-  -- one cell
-  pub asks_one : (functions : ℕ) → AreRouted g functions → AreAlike g → (w new : Work) → IsTable g w.table → (cell : Cell) → HasCell g w.table cell.at cell.pos.0 cell.state.0 → AsksTold g w new cell
-      → (place : ℕ) → place ≡ slot g w.table.contexts.items cell.at.number cell.at.context.function cell.pos.0 cell.state.0 → AsksCells g w new cell.at.number place (place + 1)
-  asks_one functions routed alike w new table cell there told place at = record {
-    step = told.step;
-    closed = λ all i c p q is.
-        elim (still_closed g functions routed alike w new table told.step.others told.step.lowers (CellsFrom g w.table.contexts.items cell.at.number place) all i c p q is) [
-          | inl closed ↦ inl closed
-          | inr rest ↦ elim (cases_eq (place_at g w.table.contexts.items i p q) place) [
-            | inl e ↦ inl (here i c p q is (sym (place_is g w.table.contexts.items i c p q is.at) ∙ e ∙ at))
-            | inr ne ↦ inr (rest.0, omega (arith, rest.1, ne))
-          ]
-        ];
-    due = told.due;
-  }
-    where
-      here : (i : ℕ) (c : Context) (p q : ℕ) → IsCell g w.table.contexts.items i c p q
-          → slot g w.table.contexts.items i c.function p q ≡ slot g w.table.contexts.items cell.at.number cell.at.context.function cell.pos.0 cell.state.0 → IsClosed g (found_of g new) i c p q
-      here i c p q is e =
-          let s = same_slot g w.table.contexts.items i cell.at.number c cell.at.context p cell.pos.0 q cell.state.0 is there e in
-          subst (λ (y : ℕ). IsClosed g (found_of g new) y c p q) (sym s.number)
-          (subst (λ (y : Context). IsClosed g (found_of g new) cell.at.number y p q) (sym s.context)
-          (subst (λ (y : ℕ). IsClosed g (found_of g new) cell.at.number cell.at.context y q) (sym s.position)
-          (subst (λ (y : ℕ). IsClosed g (found_of g new) cell.at.number cell.at.context cell.pos.0 y) (sym s.state) told.closed)))
+  -- pairs that are among these
+  pub asks_these : (old new : Work) (j : ℕ) (c : Context) (These Those : ℕ → ℕ → Type 0) → AsksCells g old new j c These
+      → ((p q : ℕ) → IsCell g old.table.contexts.items j c p q → Those p q → These p q) → AsksCells g old new j c Those
+  asks_these old new j c These Those asks among = record { step = asks.step; closed = λ p q is those. asks.closed p q is (among p q is those); due = asks.due }
+
+-- Pairs of a position and a state, in parts.
+pub one_more_state : (r y p q : ℕ) → FirstOf r (y + 1) p q → FirstOf r y p q ⊎ ThePair r y p q
+one_more_state r y p q h = elim (cases_lt q y) [ inl lt ↦ inl (h.0, lt) | inr ge ↦ inr (h.0, omega (arith, h.1, ge)) ]
+
+pub one_more_position : (r p q : ℕ) → Before (r + 1) p q → Before r p q ⊎ AllOf r p q
+one_more_position r p q h = elim (cases_lt p r) [ inl lt ↦ inl lt | inr ge ↦ inr (omega (arith, h, ge)) ]

@@ -1,5 +1,5 @@
 -- The link of a call is asked for, which returns to a pair that is taken.
-use Rattle.std.proofs.Common.{◌≡◌, ℕ, ◌+◌, ◌*◌, ◌<◌, ◌≤◌, List, [], true, ◌||◌, Some, length, set, refl, sym, ap, ◌∙◌, subst, arith, inl, inr}
+use Rattle.std.proofs.Common.{◌≡◌, ℕ, ◌+◌, ◌*◌, ◌<◌, ◌≤◌, List, [], true, ◌||◌, Some, length, set, refl, sym, ap, ◌∙◌, subst, arith, inl, inr, Bool}
 use Rattle.std.specs.Prelude.{slice_get, slice_index, nat_eq, nat_lt}
 use Rattle.std.proofs.lemmas.Bool.{cases_eq}
 use Rattle.std.proofs.lemmas.Option.{same_Some}
@@ -8,17 +8,17 @@ use Rattle.cw_core.specs.declared.ids.PosId.{PosId}
 use Rattle.cw_game.specs.Games.{Game}
 use Rattle.cw_game.specs.Pairs.{has, Called, call_in}
 use Rattle.cw_links.specs.Lists.{Chained, list_at}
+use Rattle.cw_store.specs.Keys.{lowered}
 use Rattle.cw_solve.specs.declared.contexts.Context.{Context}
 use Rattle.cw_solve.specs.declared.table.Table.{Table}
-use Rattle.cw_solve.specs.Contexts.{IsOf}
-use Rattle.cw_solve.specs.Routes.{AreRouted}
+use Rattle.cw_product.specs.Routed.{AreRouted, IsOf}
 use Rattle.cw_solve.specs.Rounds.{slot, IsCell}
 use Rattle.cw_solve.specs.Tables.{IsTable, HasCell}
 use Rattle.cw_solve.proofs.Slots.{slot_within}
 use Rattle.cw_linked.specs.declared.work.Cell.{Cell}
 use Rattle.cw_linked.specs.declared.work.Work.{Work}
 use Rattle.cw_linked.specs.Founds.{Found, class_of, AreAlike, IsLink, IsTied, IsFresh, GoesTo, IsShrinking, AreRight, Waits, IsStanding, Nothing, AllStanding}
-use Rattle.cw_linked.specs.Queues.{found_of, AreLong, AreHigh, IsLinkAt, AreDue, due_with, AsksForLink, LowersKeys}
+use Rattle.cw_linked.specs.Queues.{found_of, AreLong, AreHigh, IsLinkAt, AreDue, AsksForLink, LowersKeys}
 use Rattle.cw_linked.specs.Returns.{HasReturn, AreReturns, AsksReturn}
 use Rattle.cw_linked.specs.Steps.{ReturnsThere}
 use Rattle.cw_linked.specs.Works.{AreUpTo, place_at}
@@ -29,21 +29,21 @@ use Rattle.cw_linked.proofs.Lowering.{lowers_standing, waits_less}
 use Rattle.cw_linked.proofs.Telling.{below, up_to_set}
 use Rattle.cw_linked.proofs.Working.{Keys, found_keys, is_due, links_lower, links_right}
 
-due_up_to : (due : List ℕ) (place key most : ℕ) → place < length due → key ≤ most → AreUpTo due most → AreUpTo (due_with due place key) most
+due_up_to : (due : List ℕ) (place key most : ℕ) → place < length due → key ≤ most → AreUpTo due most → AreUpTo (lowered due place key) most
 due_up_to due place key most lt le up =
     elim (decide (nat_eq (slice_index due place) 0 || nat_lt key (slice_index due place))) [
       | inl h ↦ subst (λ (y : List ℕ). AreUpTo y most) (sym (chosen_then _ (set due place key) due h)) (up_to_set due place key most lt le up)
       | inr h ↦ subst (λ (y : List ℕ). AreUpTo y most) (sym (chosen_else _ (set due place key) due h)) up
     ]
 
-pub due_other : (due : List ℕ) (place key k : ℕ) → (k ≡ place → ⊥) → slice_index (due_with due place key) k ≡ slice_index due k
+pub due_other : (due : List ℕ) (place key k : ℕ) → (k ≡ place → ⊥) → slice_index (lowered due place key) k ≡ slice_index due k
 due_other due place key k ne =
     elim (decide (nat_eq (slice_index due place) 0 || nat_lt key (slice_index due place))) [
       | inl h ↦ ap (λ (ys : List ℕ). slice_index ys k) (chosen_then _ (set due place key) due h) ∙ get_or-set_other due place k key 0 ne
       | inr h ↦ ap (λ (ys : List ℕ). slice_index ys k) (chosen_else _ (set due place key) due h)
     ]
 
-pub due_length : (due : List ℕ) (place key : ℕ) → length (due_with due place key) ≡ length due
+pub due_length : (due : List ℕ) (place key : ℕ) → length (lowered due place key) ≡ length due
 due_length due place key =
     elim (decide (nat_eq (slice_index due place) 0 || nat_lt key (slice_index due place))) [
       | inl h ↦ ap (λ (y : List ℕ). length y) (chosen_then _ (set due place key) due h) ∙ length-set due place key
@@ -56,7 +56,7 @@ module _ (g : Game) (functions : ℕ) (routed : AreRouted g functions) (alike : 
 
   -- A link whose promise shrinks for so many moves is asked for.
   module _ (long : AreLong old) (high : AreHigh old) (right : AreRight g Contexts (found_of g old)) (j : ℕ) (d : Context) (r x : ℕ) (call : Called) (link : IsLink g Contexts j d r x call) (n place : ℕ)
-      (some : 0 < n) (low : n ≤ old.table.written) (at : place ≡ slot g Contexts j d.function r x) (shrinks : IsShrinking g Contexts (found_of g old) j r x call n) (tied_there : 0 < slice_index old.to.items place) (asks : AsksForLink old new place (2 * n + 1)) where
+      (some : 0 < n) (low : n ≤ old.table.written) (at : place ≡ slot g Contexts j d.function r x) (shrinks : IsShrinking g Contexts (found_of g old) j r x call n) (tied_there : 0 < slice_index old.store.to place) (asks : AsksForLink old new place (2 * n + 1)) where
     here : place ≡ place_at g Contexts j r x
     here = at ∙ sym (place_is g Contexts j d r x link.cell.at)
 
@@ -71,21 +71,22 @@ module _ (g : Game) (functions : ℕ) (routed : AreRouted g functions) (alike : 
         let same = ap (λ (t : Table). length t.heights.items) asks.others.table in
         record {
           owners = ap (λ (y : List ℕ). length y) asks.others.owners ∙ long.owners ∙ sym same;
+          marks = ap (λ (ms : List Bool). length ms) asks.others.marks ∙ long.marks ∙ sym same;
           asked = ap (λ (y : List ℕ). length y) asks.asked ∙ long.asked ∙ sym same;
-          due = ap (λ (y : List ℕ). length y) asks.due ∙ due_length old.due.items place (2 * n + 1) ∙ long.due ∙ sym same;
+          due = ap (λ (y : List ℕ). length y) asks.due ∙ due_length old.store.due place (2 * n + 1) ∙ long.due ∙ sym same;
           to = ap (λ (y : List ℕ). length y) asks.others.to ∙ long.to ∙ sym same;
           waves = ap (λ (y : List ℕ). length y) asks.others.waves ∙ long.waves ∙ sym same;
         }
 
     is_high : AreHigh new
     is_high =
-        let few : AreUpTo (due_with old.due.items place (2 * n + 1)) (2 * old.table.written + 1)
-        = due_up_to old.due.items place (2 * n + 1) (2 * old.table.written + 1) (omega (arith, inside, long.due)) (omega (arith, low)) high.due in
+        let few : AreUpTo (lowered old.store.due place (2 * n + 1)) (2 * old.table.written + 1)
+        = due_up_to old.store.due place (2 * n + 1) (2 * old.table.written + 1) (omega (arith, inside, long.due)) (omega (arith, low)) high.due in
         record {
           heights = subst (λ (t : Table). AreUpTo t.heights.items t.written) (sym asks.others.table) high.heights;
-          asked = subst (λ (t : Table). AreUpTo new.asked.items (2 * t.written + 2)) (sym asks.others.table) (subst (λ (y : List ℕ). AreUpTo y (2 * old.table.written + 2)) (sym asks.asked) high.asked);
-          due = subst (λ (t : Table). AreUpTo new.due.items (2 * t.written + 1)) (sym asks.others.table) (subst (λ (y : List ℕ). AreUpTo y (2 * old.table.written + 1)) (sym asks.due) few);
-          waves = subst (λ (t : Table). AreUpTo new.waves.items t.written) (sym asks.others.table) (subst (λ (y : List ℕ). AreUpTo y old.table.written) (sym asks.others.waves) high.waves);
+          asked = subst (λ (t : Table). AreUpTo new.store.asked (2 * t.written + 2)) (sym asks.others.table) (subst (λ (y : List ℕ). AreUpTo y (2 * old.table.written + 2)) (sym asks.asked) high.asked);
+          due = subst (λ (t : Table). AreUpTo new.store.due (2 * t.written + 1)) (sym asks.others.table) (subst (λ (y : List ℕ). AreUpTo y (2 * old.table.written + 1)) (sym asks.due) few);
+          waves = subst (λ (t : Table). AreUpTo new.store.waves t.written) (sym asks.others.table) (subst (λ (y : List ℕ). AreUpTo y old.table.written) (sym asks.others.waves) high.waves);
         }
 
     -- the key of the link is more than 1
@@ -93,26 +94,26 @@ module _ (g : Game) (functions : ℕ) (routed : AreRouted g functions) (alike : 
     is_due_there are k lt most = elim (cases_eq k place) [
       | inl e ↦ (
         subst (λ (t : Table). IsLinkAt g t.contexts.items k) (sym asks.others.table) (j, d, r, x, call, link, e ∙ here),
-        λ tied. subst (λ (ys : List ℕ). 1 < slice_index ys k) (sym asks.due) (subst (λ (y : ℕ). 1 < slice_index (due_with old.due.items place (2 * n + 1)) y) (sym e) (more_than_one are)),
+        λ tied. subst (λ (ys : List ℕ). 1 < slice_index ys k) (sym asks.due) (subst (λ (y : ℕ). 1 < slice_index (lowered old.store.due place (2 * n + 1)) y) (sym e) (more_than_one are)),
       )
       | inr ne ↦
           let before = subst (λ (t : Table). k < length t.heights.items) asks.others.table lt in
-          let same : slice_index new.due.items k ≡ slice_index old.due.items k = ap (λ (ys : List ℕ). slice_index ys k) asks.due ∙ due_other old.due.items place (2 * n + 1) k ne in
+          let same : slice_index new.store.due k ≡ slice_index old.store.due k = ap (λ (ys : List ℕ). slice_index ys k) asks.due ∙ due_other old.store.due place (2 * n + 1) k ne in
           let h = are k before (omega (arith, most, same)) in (
             subst (λ (t : Table). IsLinkAt g t.contexts.items k) (sym asks.others.table) h.0,
             λ tied. let low = h.1 (subst (λ (ys : List ℕ). 0 < slice_index ys k) asks.others.to tied) in omega (arith, low, same),
           )
     ]
       where
-        more_than_one : AreDue g old → 1 < slice_index (due_with old.due.items place (2 * n + 1)) place
-        more_than_one are = elim (decide (nat_eq (slice_index old.due.items place) 0 || nat_lt (2 * n + 1) (slice_index old.due.items place))) [
+        more_than_one : AreDue g old → 1 < slice_index (lowered old.store.due place (2 * n + 1)) place
+        more_than_one are = elim (decide (nat_eq (slice_index old.store.due place) 0 || nat_lt (2 * n + 1) (slice_index old.store.due place))) [
           | inl h ↦
-              let e = ap (λ (ys : List ℕ). slice_index ys place) (chosen_then _ (set old.due.items place (2 * n + 1)) old.due.items h) in
-              let v = get_or-set_same old.due.items place (2 * n + 1) 0 (omega (arith, inside, long.due)) in
+              let e = ap (λ (ys : List ℕ). slice_index ys place) (chosen_then _ (set old.store.due place (2 * n + 1)) old.store.due h) in
+              let v = get_or-set_same old.store.due place (2 * n + 1) 0 (omega (arith, inside, long.due)) in
               omega (arith, e, v, some)
           | inr h ↦
-              let e = ap (λ (ys : List ℕ). slice_index ys place) (chosen_else _ (set old.due.items place (2 * n + 1)) old.due.items h) in
-              let w = kept_low (slice_index old.due.items place) (2 * n + 1) h in
+              let e = ap (λ (ys : List ℕ). slice_index ys place) (chosen_else _ (set old.store.due place (2 * n + 1)) old.store.due h) in
+              let w = kept_low (slice_index old.store.due place) (2 * n + 1) h in
               let low = (are place inside w.0).1 tied_there in
               omega (arith, e, low)
         ]
@@ -121,7 +122,6 @@ module _ (g : Game) (functions : ℕ) (routed : AreRouted g functions) (alike : 
     link_step = record {
       others = asks.others;
       long = is_long;
-      queued = asks.queued;
       high = is_high;
       lowers = links_lower g functions routed alike old new (below g functions routed alike old new table) long j d r x place (2 * n + 1) call link here inside odd asks;
       right = subst (λ (y : Found). AreRight g Contexts y) (sym (found_keys g old new asks.others))

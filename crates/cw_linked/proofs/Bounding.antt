@@ -1,18 +1,14 @@
--- What stands in a vector of cells, and what taken heights tell at the end of a function and where moves are.
-use Rattle.std.proofs.Common.{◌≡◌, ℕ, suc, ◌<◌, List, Bool, true, false, ◌||◌, Option, Some, length, get_or, sym, ap, ◌∙◌, arith}
-use Rattle.std.specs.Prelude.{slice_get, option_map, nat_lt}
-use Rattle.std.proofs.lemmas.Bool.{le-ltb}
+-- What stands in a vector of cells, what holds at the end of a function, and where what holds is read off the moves.
+use Rattle.std.proofs.Common.{◌≡◌, ℕ, List, Bool, true, false, ◌<◌, ◌||◌, Option, Some, length, get_or, refl, sym, ap, ◌∙◌, subst}
+use Rattle.std.specs.Prelude.{slice_get, nat_eq}
+use Rattle.std.proofs.lemmas.Bool.{eq-eqb, ne_eqb}
 use Rattle.std.proofs.lemmas.List.{get_or_default}
 use Rattle.cw_game.specs.declared.spots.Spot.{Spot}
-use Rattle.cw_game.specs.Games.{Game, bad_in, Promise, holds_in}
-use Rattle.cw_product.specs.declared.turn.Turn.{Turn}
-use Rattle.cw_product.specs.declared.turn.Turn.TheVariants as turn
-use Rattle.cw_product.specs.Moves.{turn_in}
+use Rattle.cw_game.specs.declared.spots.Spot.TheVariants.{Visit, Asked, Step, Branch, Label, Open, Close, Call, SplitCall, Exit}
+use Rattle.cw_game.specs.Games.{Game, bad_in}
+use Rattle.cw_game.specs.Pairs.{is_call_in, is_exit_in}
 use Rattle.cw_solve.specs.declared.contexts.Context.{Context}
-use Rattle.cw_solve.specs.Asking.{holds_by_moves}
-use Rattle.cw_solve.specs.Rounds.{slot, holds_by}
-use Rattle.cw_solve.proofs.Moves.{by_moves}
-use Rattle.cw_solve.proofs.Turning.{turn_exit, turn_inner, is_inner}
+use Rattle.cw_solve.specs.Rounds.{slot}
 use Rattle.cw_linked.specs.Works.{function_in, place_at, value_at}
 
 -- where the value of a cell stands
@@ -24,13 +20,28 @@ pub read_value : (g : Game) (contexts : List Context) (values : List ℕ) (i : �
 read_value g contexts values i c p q k place at e lt is =
     is ∙ get_or_default values place k 0 lt ∙ ap (λ (y : ℕ). get_or values y 0) (e ∙ sym (place_is g contexts i c p q at))
 
--- at the end of a function
-pub exit_bound : (g : Game) (h : ℕ → ℕ → Promise → Bool) (p q : ℕ) (e : Promise) (o : Option Spot) (main : Bool) (n : ℕ) → Some (turn.Exit main) ≡ option_map (turn_in g) o → (main || e q) ≡ false
-    → nat_lt (suc n) 1 ≡ holds_in g h p q e o
-exit_bound g h p q e o main n is lost = le-ltb (suc n) 1 (omega arith) ∙ sym lost ∙ turn_exit g h p q e o main is
+-- the end of a function holds where it is the end of `main`, and elsewhere where its state is promised
+pub main_ends : (f main : ℕ) (held : Bool) → f ≡ main → true ≡ (nat_eq f main || held)
+main_ends f main held is = sym (ap (λ (b : Bool). b || held) (eq-eqb f main is))
 
--- where moves are
-pub inner_bound : (g : Game) (h : ℕ → ℕ → Promise → Bool) (p q : ℕ) (e : Promise) (o : Option Spot) (t : Turn) (bound n : ℕ) → Some t ≡ option_map (turn_in g) o → is_inner g t ≡ true → bad_in g q o ≡ false
-    → holds_by (suc n) bound ≡ holds_by_moves g h p q e o → holds_by (suc n) bound ≡ holds_in g h p q e o
-inner_bound g h p q e o t bound n is inner good tells =
-    let k = turn_inner g o t is inner in tells ∙ by_moves g h p q e o good k.0 k.1
+pub other_ends : (f main : ℕ) (held : Bool) → (f ≡ main → ⊥) → held ≡ (nat_eq f main || held)
+other_ends f main held other = sym (ap (λ (b : Bool). b || held) (ne_eqb f main other))
+
+-- where neither a label, a call nor an exit stands
+pub plain_spot : (g : Game) (q : ℕ) (o : Option Spot) (s : Spot) → Some s ≡ o
+    → ((x y z : ℕ) → s ≡ Label x y z → ⊥) → ((x y z : ℕ) → s ≡ Call x y z → ⊥) → ((x y z : ℕ) → s ≡ SplitCall x y z → ⊥) → ((x : ℕ) → s ≡ Exit x → ⊥)
+    → (bad_in g q o ≡ false) × (is_call_in o ≡ false) × (is_exit_in o ≡ false)
+plain_spot g q o s is label call split exit = subst (λ (y : Option Spot). (bad_in g q y ≡ false) × (is_call_in y ≡ false) × (is_exit_in y ≡ false)) is (by s label call split exit)
+  where
+    by : (s : Spot) → ((x y z : ℕ) → s ≡ Label x y z → ⊥) → ((x y z : ℕ) → s ≡ Call x y z → ⊥) → ((x y z : ℕ) → s ≡ SplitCall x y z → ⊥) → ((x : ℕ) → s ≡ Exit x → ⊥)
+        → (bad_in g q (Some s) ≡ false) × (is_call_in (Some s) ≡ false) × (is_exit_in (Some s) ≡ false)
+    by (Label j l n) label call split exit = absurd (label j l n refl)
+    by (Call j f n) label call split exit = absurd (call j f n refl)
+    by (SplitCall j f n) label call split exit = absurd (split j f n refl)
+    by (Exit f) label call split exit = absurd (exit f refl)
+    by (Visit j i a) label call split exit = (refl, refl, refl)
+    by (Asked j i a) label call split exit = (refl, refl, refl)
+    by (Step n) label call split exit = (refl, refl, refl)
+    by (Branch m n) label call split exit = (refl, refl, refl)
+    by (Open j d n) label call split exit = (refl, refl, refl)
+    by (Close j d n) label call split exit = (refl, refl, refl)

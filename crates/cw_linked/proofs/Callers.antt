@@ -1,23 +1,25 @@
 -- The call of a link is asked for, whose callee is lost.
-use Rattle.std.proofs.Common.{◌≡◌, ℕ, zero, suc, ◌+◌, ◌-◌, ◌*◌, ◌<◌, ◌≤◌, List, [], ◌∷◌, true, false, not, Some, length, refl, sym, ap, ◌∙◌, subst, arith, inl, inr}
+use Rattle.std.proofs.Common.{◌≡◌, ℕ, zero, suc, ◌+◌, ◌-◌, ◌*◌, ◌<◌, ◌≤◌, Bool, List, ◌∷◌, true, false, not, Some, refl, sym, ap, ◌∙◌, subst, arith, inl, inr}
 use Rattle.std.specs.Prelude.{◌⊎◌, slice_get, slice_index, nat_eq, Contains}
 use Rattle.std.proofs.lemmas.Bool.{eq-eqb, ne_eqb}
 use Rattle.std.proofs.lemmas.Option.{same_Some}
 use Rattle.cw_game.specs.Games.{Game, Holds}
 use Rattle.cw_game.specs.Pairs.{has, Called, call_in}
 use Rattle.cw_links.specs.Lists.{list_at}
+use Rattle.cw_marks.specs.Marks.{is_marked, rank}
+use Rattle.cw_marks.proofs.Ranks.{same_from_rank}
 use Rattle.cw_solve.specs.declared.contexts.Context.{Context}
 use Rattle.cw_solve.specs.Contexts.{context}
-use Rattle.cw_solve.specs.Routes.{AreRouted}
+use Rattle.cw_product.specs.Routed.{AreRouted}
 use Rattle.cw_solve.specs.Rounds.{slot, IsCell}
 use Rattle.cw_solve.specs.Tables.{IsTable, HasCell}
 use Rattle.cw_solve.proofs.Falls.{not_both}
-use Rattle.cw_solve.proofs.Slots.{same_slot, slot_within}
+use Rattle.cw_solve.proofs.Slots.{same_slot}
 use Rattle.cw_linked.specs.declared.work.Cell.{Cell}
 use Rattle.cw_linked.specs.declared.work.Work.{Work}
-use Rattle.cw_linked.specs.Calls.{AreCallers, CallsLeft, AsksCaller}
-use Rattle.cw_linked.specs.Founds.{Found, class_of, AreAlike, IsLink, IsTied, AreRight, Waits, IsCalled, Nothing, AllCalled}
-use Rattle.cw_linked.specs.Queues.{found_of, AreQueued, AreLong, AreHigh, AsksForCell, LowersKeys, IsCellAt}
+use Rattle.cw_linked.specs.Calls.{CallsLeft, AsksCaller}
+use Rattle.cw_linked.specs.Founds.{Found, class_of, AreAlike, IsLink, IsTied, AreRight, Waits, IsCalled, AllCalled}
+use Rattle.cw_linked.specs.Queues.{found_of, IsLinkAt, AreMarked, AreLong, AreHigh, AsksForCell, LowersKeys, IsCellAt}
 use Rattle.cw_linked.specs.Steps.{IsSame, CallsThere}
 use Rattle.cw_linked.specs.Works.{heights_of, place_at, value_at}
 use Rattle.cw_linked.proofs.Bounding.{place_is}
@@ -48,20 +50,21 @@ module _ (g : Game) (functions : ℕ) (routed : AreRouted g functions) (alike : 
   Contexts = old.table.contexts.items
 
   -- all calls whose link goes to the context are in its list
-  pub all_calls : AreCallers old → (j r x : ℕ) → AllCalled g Contexts (found_of g old) (CallsThere g (found_of g old) j r x)
-      → AllCalled g Contexts (found_of g old) (CallsLeft g Contexts (found_of g old) (list_at old.callers.lists (j + 1)) j r x)
-  all_calls callers j r x all i c p q is =
+  pub all_calls : AreMarked g old
+      → ((place : ℕ) → is_marked old.store.marks place ≡ true → Contains (list_at old.store.lists (slice_index old.store.to place)) (rank old.store.marks place))
+      → (j r x : ℕ) → AllCalled g Contexts (found_of g old) (CallsThere g (found_of g old) j r x)
+      → AllCalled g Contexts (found_of g old) (CallsLeft g Contexts old.store.marks (found_of g old) (list_at old.store.lists (j + 1)) j r x)
+  all_calls marked there j r x all i c p q is =
       elim (all i c p q is) [
         | inl called ↦ inl called
-        | inr rest ↦ elim (tied_or_not (value_at g Contexts old.to.items i p (class_of g rest.0.split q)) j rest.2.0) [
+        | inr rest ↦ elim (tied_or_not (value_at g Contexts old.store.to i p (class_of g rest.0.split q)) j rest.2.0) [
           | inl free ↦ inl (untied_called g (found_of g old) i p q rest.0 rest.1 free)
           | inr here ↦
               let k = class_of g rest.0.split q in
               let link = link_of g functions routed alike Contexts (below g functions routed alike old old table) i c p q rest.0 is rest.1 in
-              let inside : place_at g Contexts i p k < length old.table.heights.items
-              = omega (arith, place_is g Contexts i c p k is.at, slot_within g Contexts i c p k link.cell, table.cells) in
-              let list : value_at g Contexts old.to.items i p k ≡ j + 1 = omega (arith, here) in
-              inr (rest.0, rest.1, rest.2, subst (λ (y : ℕ). Contains (list_at old.callers.lists y) (place_at g Contexts i p k)) list (callers.there (place_at g Contexts i p k) inside))
+              let list : value_at g Contexts old.store.to i p k ≡ j + 1 = omega (arith, here) in
+              let stands = there (place_at g Contexts i p k) (marked (place_at g Contexts i p k) (i, c, p, k, rest.0, link, refl)) in
+              inr (rest.0, rest.1, rest.2, subst (λ (y : ℕ). Contains (list_at old.store.lists y) (rank old.store.marks (place_at g Contexts i p k))) list stands)
         ]
       ]
 
@@ -82,8 +85,8 @@ module _ (g : Game) (functions : ℕ) (routed : AreRouted g functions) (alike : 
   module _ (new : Work) (long : AreLong old) (high : AreHigh old) (right : AreRight g Contexts (found_of g old)) (cell : Cell) (is_cell : HasCell g old.table cell.at cell.pos.0 cell.state.0)
       (height : ℕ) (some : 0 < height) (taken : heights_of g old.table cell.at.number cell.pos.0 cell.state.0 ≡ height)
       (link : ℕ) (caller : Cell) (at : IsCellAt g old link caller) (called : Called) (calls : call_in (slice_get g.spots caller.pos.0) ≡ Some called)
-      (class : class_of g called.split cell.state.0 ≡ caller.state.0) (goes : slice_index old.to.items link ≡ suc cell.at.number) (entry : cell.pos.0 ≡ g.entry cell.at.context.function)
-      (most n place : ℕ) (more : n ≡ suc most) (greatest : (slice_index old.waves.items link ≡ most) ⊎ (height ≡ most)) (waves : slice_index old.waves.items link ≤ most) (heights : height ≤ most)
+      (class : class_of g called.split cell.state.0 ≡ caller.state.0) (goes : slice_index old.store.to link ≡ suc cell.at.number) (entry : cell.pos.0 ≡ g.entry cell.at.context.function)
+      (most n place : ℕ) (more : n ≡ suc most) (greatest : (slice_index old.store.waves link ≡ most) ⊎ (height ≡ most)) (waves : slice_index old.store.waves link ≤ most) (heights : height ≤ most)
       (low : n ≤ old.table.written + 1) (spot : place ≡ slot g Contexts caller.at.number caller.at.context.function caller.pos.0 cell.state.0) (asks : AsksForCell old new place (2 * n)) where
     abbrev k : ℕ
     k = class_of g called.split cell.state.0
@@ -94,11 +97,11 @@ module _ (g : Game) (functions : ℕ) (routed : AreRouted g functions) (alike : 
     here : link ≡ place_at g Contexts caller.at.number caller.pos.0 k
     here = at.place ∙ sym (place_is g Contexts caller.at.number caller.at.context caller.pos.0 caller.state.0 at.is.at) ∙ ap (λ (y : ℕ). place_at g Contexts caller.at.number caller.pos.0 y) (sym class)
 
-    number : value_at g Contexts old.to.items caller.at.number caller.pos.0 k ≡ suc cell.at.number
-    number = ap (slice_index old.to.items) (sym here) ∙ goes
+    number : value_at g Contexts old.store.to caller.at.number caller.pos.0 k ≡ suc cell.at.number
+    number = ap (slice_index old.store.to) (sym here) ∙ goes
 
     tied : IsTied (found_of g old) caller.at.number caller.pos.0 k
-    tied = is_tied (value_at g Contexts old.to.items caller.at.number caller.pos.0 k) cell.at.number number
+    tied = is_tied (value_at g Contexts old.store.to caller.at.number caller.pos.0 k) cell.at.number number
 
     link_there : IsLink g Contexts caller.at.number caller.at.context caller.pos.0 k called
     link_there = link_of g functions routed alike Contexts (below g functions routed alike old old table) caller.at.number caller.at.context caller.pos.0 cell.state.0 called asked_cell calls
@@ -115,8 +118,8 @@ module _ (g : Game) (functions : ℕ) (routed : AreRouted g functions) (alike : 
         let to : (found_of g old).to caller.at.number caller.pos.0 k ≡ cell.at.number = omega (arith, number) in
         ap (λ (y : ℕ). heights_of g old.table y (g.entry called.function) cell.state.0) to ∙ ap (λ (y : ℕ). heights_of g old.table cell.at.number y cell.state.0) callee ∙ taken
 
-    wave : (found_of g old).wave caller.at.number caller.pos.0 k ≡ slice_index old.waves.items link
-    wave = ap (slice_index old.waves.items) (sym here)
+    wave : (found_of g old).wave caller.at.number caller.pos.0 k ≡ slice_index old.store.waves link
+    wave = ap (slice_index old.store.waves) (sym here)
 
     lost : Holds g n caller.pos.0 cell.state.0 (has caller.at.context.promise) ≡ false
     lost = subst (λ (y : ℕ). Holds g y caller.pos.0 cell.state.0 (has caller.at.context.promise) ≡ false) (sym more)
@@ -145,42 +148,40 @@ module _ (g : Game) (functions : ℕ) (routed : AreRouted g functions) (alike : 
     }
 
   -- no link of the cell's class is there
-  pub call_unasked : (link : ℕ) (caller : Cell) → AreLong old → AreQueued old → AreHigh old → AreRight g Contexts (found_of g old) → IsCellAt g old link caller → (cell : Cell)
+  pub call_unasked : (link : ℕ) (caller : Cell) → AreLong old → AreHigh old → AreRight g Contexts (found_of g old) → IsCellAt g old link caller → (cell : Cell)
       → ((call : Called) → call_in (slice_get g.spots caller.pos.0) ≡ Some call → class_of g call.split cell.state.0 ≡ caller.state.0 → ⊥) → AsksCaller g old old link cell
-  call_unasked link caller long queued high right at cell none = record {
-    step = nothing g old long queued high right;
+  call_unasked link caller long high right at cell none = record {
+    step = nothing g old long high right;
     called = λ i c p q call is es goes place.
         let same = same_link link caller at i c p q call is es place in
         absurd (none call (call_at_link link caller at i c p q call is es place) (subst (λ (y : ℕ). class_of g call.split y ≡ caller.state.0) goes.2 same.2));
   }
 
   -- and a link that goes elsewhere isn't asked for
-  pub call_elsewhere : (link : ℕ) → AreLong old → AreQueued old → AreHigh old → AreRight g Contexts (found_of g old) → (cell : Cell) → (slice_index old.to.items link ≡ suc cell.at.number → ⊥) → AsksCaller g old old link cell
-  call_elsewhere link long queued high right cell other = record {
-    step = nothing g old long queued high right;
-    called = λ i c p q call is es goes place. elim (tied_or_not (value_at g Contexts old.to.items i p (class_of g call.split q)) cell.at.number goes.0) [
+  pub call_elsewhere : (link : ℕ) → AreLong old → AreHigh old → AreRight g Contexts (found_of g old) → (cell : Cell) → (slice_index old.store.to link ≡ suc cell.at.number → ⊥) → AsksCaller g old old link cell
+  call_elsewhere link long high right cell other = record {
+    step = nothing g old long high right;
+    called = λ i c p q call is es goes place. elim (tied_or_not (value_at g Contexts old.store.to i p (class_of g call.split q)) cell.at.number goes.0) [
       | inl free ↦ untied_called g (found_of g old) i p q call es free
-      | inr here ↦ absurd (other (ap (slice_index old.to.items) place ∙ here))
+      | inr here ↦ absurd (other (ap (slice_index old.store.to) place ∙ here))
     ];
   }
 
-  -- One link fewer is left.
-  pub one_call_left : (new : Work) (edge : ℕ) (back : List ℕ) (cell : Cell) → AsksCaller g old new edge cell
-      → AllCalled g Contexts (found_of g old) (CallsLeft g Contexts (found_of g old) (edge ∷ back) cell.at.number cell.pos.0 cell.state.0)
-      → AllCalled g Contexts (found_of g new) (CallsLeft g Contexts (found_of g old) back cell.at.number cell.pos.0 cell.state.0)
-  one_call_left new edge back cell asks all i c p q is =
-      elim (still_called g functions routed alike old new table asks.step.others asks.step.lowers (CallsLeft g Contexts (found_of g old) (edge ∷ back) cell.at.number cell.pos.0 cell.state.0) all i c p q is) [
+  -- One link fewer is left, which stands at this place.
+  pub one_call_left : (new : Work) (marks : List Bool) (edge place : ℕ) (back : List ℕ) (cell : Cell) → ((k : ℕ) → IsLinkAt g Contexts k → is_marked marks k ≡ true)
+      → is_marked marks place ≡ true → rank marks place ≡ edge → AsksCaller g old new place cell
+      → AllCalled g Contexts (found_of g old) (CallsLeft g Contexts marks (found_of g old) (edge ∷ back) cell.at.number cell.pos.0 cell.state.0)
+      → AllCalled g Contexts (found_of g new) (CallsLeft g Contexts marks (found_of g old) back cell.at.number cell.pos.0 cell.state.0)
+  one_call_left new marks edge place back cell marked here its asks all i c p q is =
+      elim (still_called g functions routed alike old new table asks.step.others asks.step.lowers
+      (CallsLeft g Contexts marks (found_of g old) (edge ∷ back) cell.at.number cell.pos.0 cell.state.0) all i c p q is) [
         | inl called ↦ inl called
-        | inr rest ↦ elim (first_or_later edge back (place_at g Contexts i p (class_of g rest.0.split q)) rest.3) [
+        | inr rest ↦ elim (first_or_later edge back (rank marks (place_at g Contexts i p (class_of g rest.0.split q))) rest.3) [
           | inr later ↦ inr (rest.0, rest.1, rest.2, later)
-          | inl now ↦ inl (asks.called i c p q rest.0 is rest.1 rest.2 now)
+          | inl now ↦
+              let k = class_of g rest.0.split q in
+              let link = link_of g functions routed alike Contexts (below g functions routed alike old old table) i c p q rest.0 is rest.1 in
+              let there = marked (place_at g Contexts i p k) (i, c, p, k, rest.0, link, refl) in
+              inl (asks.called i c p q rest.0 is rest.1 rest.2 (same_from_rank marks place (place_at g Contexts i p k) here there (its ∙ now)))
         ]
-      ]
-
-  -- and at last none
-  pub no_call_left : (j r x : ℕ) → AllCalled g Contexts (found_of g old) (CallsLeft g Contexts (found_of g old) [] j r x) → AllCalled g Contexts (found_of g old) Nothing
-  no_call_left j r x all i c p q is =
-      elim (all i c p q is) [
-        | inl called ↦ inl called
-        | inr rest ↦ absurd (let lt = rest.3.1 in omega (arith, lt))
       ]

@@ -1,26 +1,28 @@
 -- The lists of what waits for pairs, and of what returns to positions, grow by one.
-use Rattle.std.proofs.Common.{◌≡◌, ℕ, suc, ◌+◌, ◌*◌, ◌<◌, ◌≤◌, List, [], ◌∷◌, ◌++◌, Some, None, length, replicate, refl, sym, ap, ◌∙◌, subst, arith, inl, inr}
+use Rattle.std.proofs.Common.{◌≡◌, ℕ, suc, ◌+◌, ◌<◌, ◌≤◌, List, [], ◌∷◌, ◌++◌, Bool, true, false, Option, Some, None, length, get_or, set, refl, sym, ap, ◌∙◌, subst, arith, inl, inr}
 use Rattle.std.specs.Prelude.{◌⊎◌, slice_get, Contains}
-use Rattle.std.proofs.lemmas.Bool.{cases_eq, cases_lt}
-use Rattle.std.proofs.lemmas.List.{length_push, length-replicate}
+use Rattle.std.proofs.lemmas.Bool.{cases_eq, cases_lt, false≢true}
+use Rattle.std.proofs.lemmas.List.{length_push, length-set, get_or-set_same, get_or-set_other}
 use Rattle.std.proofs.lemmas.Option.{same_Some, none-some}
 use Rattle.cw_core.specs.declared.ids.PosId.{PosId}
 use Rattle.cw_certs.specs.declared.moves.Move.{Move}
-use Rattle.cw_certs.specs.declared.moves.Move.TheVariants.{Skip, Try, Grant, Refuse, On, Left, Right, Opened, Failed, Stop}
+use Rattle.cw_game.specs.declared.spots.Spot.{Spot}
 use Rattle.cw_game.specs.Games.{Game}
 use Rattle.cw_game.specs.Pairs.{Called, call_in}
 use Rattle.cw_links.specs.Lists.{Chained, list_at, with_front}
 use Rattle.cw_links.proofs.CallerLemmas.{length-with_front, list_at-with_front_same, list_at-with_front_other}
 use Rattle.cw_product.specs.Moves.{pos_id, next_at}
 use Rattle.cw_linked.specs.declared.edges.Pair.{Pair}
-use Rattle.cw_linked.specs.Edges.{HasIn, AddsMove, AddsMoves, AreWaitsTo, AreReturnsTo}
-use Rattle.cw_linked.specs.Returns.{HasReturn, AreReturns}
-use Rattle.cw_linked.specs.Steps.{Leads}
-use Rattle.cw_linked.specs.Waiting.{pair_of, pair_number, IsAmong, AreWaits}
+use Rattle.cw_linked.specs.declared.edges.Changes.{Changes}
+use Rattle.cw_linked.specs.Edges.{AddsMove, AddsMoves, AreChangesTo, AreReturnsTo}
+use Rattle.cw_linked.specs.Returns.{HasReturn}
+use Rattle.cw_linked.specs.Steps.{first_move, second_move, IsMoveIn, Leads}
+use Rattle.cw_linked.specs.Waiting.{pair_of, pair_number, HasIn, keeps_state, IsChange, AreChanges}
 use Rattle.cw_linked.proofs.Adding.{before_push, after_push, push_cases}
 
 -- a new link in front of a list
-module _ {T : Type 0} (old new : Chained T) (list : ℕ) (v : T) (lists : new.lists ≡ with_front old.lists list (length old.values)) (values : new.values ≡ old.values ++ v ∷ []) (within : list < length old.lists) where
+module _ {T : Type 0} (old new : Chained T) (list : ℕ) (v : T) (lists : new.lists ≡ with_front old.lists list (length old.values)) (values : new.values ≡ old.values ++ v ∷ [])
+    (within : list < length old.lists) where
   pub lists_kept : length new.lists ≡ length old.lists
   lists_kept = ap (λ (ls : List (List ℕ)). length ls) lists ∙ length-with_front old.lists list (length old.values)
 
@@ -51,16 +53,19 @@ module _ {T : Type 0} (old new : Chained T) (list : ℕ) (v : T) (lists : new.li
   pub value_cases : (edge : ℕ) (w : T) → slice_get new.values edge ≡ Some w → (slice_get old.values edge ≡ Some w) ⊎ (v ≡ w)
   value_cases edge w e = elim (push_cases old.values v edge w (ap (λ (vs : List T). slice_get vs edge) (sym values) ∙ e)) [ inl h ↦ inl h | inr h ↦ inr h.1 ]
 
-module _ (g : Game) where
-  -- Calls that return.
-  pub no_returns_yet : (returns : Chained PosId) → returns.lists ≡ replicate (length g.spots) [] → returns.values ≡ [] → AreReturnsTo g returns 0
-  no_returns_yet returns lists values = record {
-    lists = ap (λ (ls : List (List ℕ)). length ls) lists ∙ length-replicate {A = List ℕ} (length g.spots) [];
-    few = (let e = ap (λ (vs : List PosId). length vs) values in omega (arith, e));
-    fine = λ edge pos e. absurd (none-some pos (sym (ap (λ (vs : List PosId). slice_get vs edge) values) ∙ e));
-    leads = λ p call lt. absurd (omega (arith, lt));
-  }
+-- what holds of the moves at a position, one or two
+pub each_move : (o : Option Spot) (P : Move → Type 0) → P (first_move o) → ((by : Move) → second_move o ≡ Some by → P by) → (by : Move) → IsMoveIn o by → P by
+each_move o P first second by is = elim is [ inl e ↦ subst P e first | inr e ↦ second by e ]
 
+-- what is marked stays marked
+marked_still : (marks : List Bool) (i r : ℕ) → i < length marks → get_or marks r false ≡ true → get_or (set marks i true) r false ≡ true
+marked_still marks i r lt is =
+    elim (cases_eq r i) [
+      | inl e ↦ ap (λ (y : ℕ). get_or (set marks i true) y false) e ∙ get_or-set_same marks i true false lt
+      | inr ne ↦ get_or-set_other marks i r true false ne ∙ is
+    ]
+
+module _ (g : Game) where
   pub a_return_more : (old new : Chained PosId) (p : ℕ) (called : Called) → AreReturnsTo g old p → call_in (slice_get g.spots p) ≡ Some called → p < length g.spots → called.back < length g.spots
       → new.lists ≡ with_front old.lists called.back (length old.values) → new.values ≡ old.values ++ pos_id p ∷ [] → AreReturnsTo g new (p + 1)
   a_return_more old new p called are es lt back lists values =
@@ -83,109 +88,106 @@ module _ (g : Game) where
         ];
       }
 
-  pub no_return_more : (old : Chained PosId) (p : ℕ) → AreReturnsTo g old p → ((call : Called) → call_in (slice_get g.spots p) ≡ Some call → ⊥) → AreReturnsTo g old (p + 1)
-  no_return_more old p are none = record {
-    lists = are.lists;
-    few = (let f = are.few in omega (arith, f));
-    fine = are.fine;
-    leads = λ r call less fs. elim (cases_lt r p) [
-      | inl before ↦ are.leads r call before fs
-      | inr ge ↦ let here : r ≡ p = omega (arith, less, ge) in absurd (none call (ap (λ (y : ℕ). call_in (slice_get g.spots y)) (sym here) ∙ fs))
-    ];
-  }
-
-  pub all_returns_in : (returns : Chained PosId) (m : ℕ) → length g.spots ≤ m → AreReturnsTo g returns m → AreReturns g returns
-  all_returns_in returns m le are = record { lists = are.lists; fine = are.fine; leads = λ p call lt es. are.leads p call (omega (arith, lt, le)) es }
-
-  -- Pairs that wait.
-  pub a_move_more : (old new : Chained Pair) (p q r x : ℕ) (by : Move) → next_at g p q by ≡ Some (r, x) → p < length g.spots → q < g.states.count → pair_number g r x < length old.lists
-      → new.lists ≡ with_front old.lists (pair_number g r x) (length old.values) → new.values ≡ old.values ++ pair_of p q ∷ [] → AddsMove g old new p q by
-  a_move_more old new p q r x by leads lp lq within lists values =
+  -- Pairs that wait, at positions that may change the state.
+  pub a_move_more : (old new : Changes) (p q r x : ℕ) (by : Move) → next_at g p q by ≡ Some (r, x) → p < length g.spots → q < g.states.count → pair_number g r x < length old.pairs.lists
+      → r < length old.marks.items → new.pairs.lists ≡ with_front old.pairs.lists (pair_number g r x) (length old.pairs.values) → new.pairs.values ≡ old.pairs.values ++ pair_of p q ∷ []
+      → new.marks.items ≡ set old.marks.items r true → AddsMove g old new p q by
+  a_move_more old new p q r x by leads lp lq within inside lists values marks =
       let list = pair_number g r x in
-      let more = one_more old new list (pair_of p q) lists values within in
+      let more = one_more old.pairs new.pairs list (pair_of p q) lists values within in
       record {
-        lists = lists_kept old new list (pair_of p q) lists values within;
+        lists = lists_kept old.pairs new.pairs list (pair_of p q) lists values within;
+        marks = ap (λ (bs : List Bool). length bs) marks ∙ length-set old.marks.items r true;
         grows = omega (arith, more);
-        fine = λ are edge pair e. elim (value_cases old new list (pair_of p q) lists values within edge pair e) [
+        fine = λ are edge pair e. elim (value_cases old.pairs new.pairs list (pair_of p q) lists values within edge pair e) [
           | inl was ↦ are edge pair was
           | inr same ↦ subst (λ (y : Pair). (y.pos.0 < length g.spots) × (y.state.0 < g.states.count)) same (lp, lq)
         ];
-        keeps = kept_in old new list (pair_of p q) lists values within;
+        keeps = λ m n s y is. (
+          kept_in old.pairs new.pairs list (pair_of p q) lists values within (pair_number g s y) (pair_of m n) is.0,
+          ap (λ (bs : List Bool). get_or bs s false) marks ∙ marked_still old.marks.items r s inside is.1,
+        );
         leads = λ s y e.
             let same : (r, x) ≡ (s, y) = same_Some (r, x) (s, y) (sym leads ∙ e) in
-            subst (λ (z : ℕ × ℕ). IsAmong new (list_at new.lists (pair_number g z.0 z.1)) p q) same (new_in old new list (pair_of p q) lists values within);
+            subst (λ (z : ℕ × ℕ). IsChange g new p q z.0 z.1) same (
+              new_in old.pairs new.pairs list (pair_of p q) lists values within,
+              ap (λ (bs : List Bool). get_or bs r false) marks ∙ get_or-set_same old.marks.items r true false inside,
+            );
       }
 
-  pub no_move_more : (old : Chained Pair) (p q : ℕ) (by : Move) → next_at g p q by ≡ None → AddsMove g old old p q by
-  no_move_more old p q by none = record {
-    lists = refl;
-    grows = omega arith;
-    fine = λ are. are;
-    keeps = λ l pair h. h;
-    leads = λ r x e. absurd (none-some (r, x) (sym none ∙ e));
+  -- all moves at a position, one or two
+  pub one_move : (a b : Changes) (p q : ℕ) → second_move (slice_get g.spots p) ≡ None → AddsMove g a b p q (first_move (slice_get g.spots p)) → AddsMoves g a b p q
+  one_move a b p q alone first = record {
+    lists = first.lists;
+    marks = first.marks;
+    grows = (let h = first.grows in omega (arith, h));
+    fine = first.fine;
+    keeps = first.keeps;
+    leads = λ r x is. each_move (slice_get g.spots p) (λ by. next_at g p q by ≡ Some (r, x) → IsChange g b p q r x) (first.leads r x) (λ by e. absurd (none-some by (sym alone ∙ e))) is.0 is.1 is.2;
   }
 
-  pub all_moves : (a b c d e f h i j k l : Chained Pair) (p q : ℕ) → AddsMove g a b p q Skip → AddsMove g b c p q Try → AddsMove g c d p q Grant → AddsMove g d e p q Refuse → AddsMove g e f p q On
-      → AddsMove g f h p q Left → AddsMove g h i p q Right → AddsMove g i j p q Opened → AddsMove g j k p q Failed → AddsMove g k l p q Stop → AddsMoves g a l p q
-  all_moves a b c d e f h i j k l p q m1 m2 m3 m4 m5 m6 m7 m8 m9 m10 = record {
-    lists = m10.lists ∙ m9.lists ∙ m8.lists ∙ m7.lists ∙ m6.lists ∙ m5.lists ∙ m4.lists ∙ m3.lists ∙ m2.lists ∙ m1.lists;
-    grows = omega (arith, m1.grows, m2.grows, m3.grows, m4.grows, m5.grows, m6.grows, m7.grows, m8.grows, m9.grows, m10.grows);
-    fine = λ are. m10.fine (m9.fine (m8.fine (m7.fine (m6.fine (m5.fine (m4.fine (m3.fine (m2.fine (m1.fine are)))))))));
-    keeps = λ n v z. m10.keeps n v (m9.keeps n v (m8.keeps n v (m7.keeps n v (m6.keeps n v (m5.keeps n v (m4.keeps n v (m3.keeps n v (m2.keeps n v (m1.keeps n v z)))))))));
-    leads = λ r x is. by r x is.0 is.1;
-  }
-    where
-      by : (r x : ℕ) (move : Move) → next_at g p q move ≡ Some (r, x) → HasIn l (pair_number g r x) (pair_of p q)
-      by r x Skip s = let n = pair_number g r x in let v = pair_of p q in
-          m10.keeps n v (m9.keeps n v (m8.keeps n v (m7.keeps n v (m6.keeps n v (m5.keeps n v (m4.keeps n v (m3.keeps n v (m2.keeps n v (m1.leads r x s)))))))))
-      by r x Try s = let n = pair_number g r x in let v = pair_of p q in
-          m10.keeps n v (m9.keeps n v (m8.keeps n v (m7.keeps n v (m6.keeps n v (m5.keeps n v (m4.keeps n v (m3.keeps n v (m2.leads r x s))))))))
-      by r x Grant s = let n = pair_number g r x in let v = pair_of p q in
-          m10.keeps n v (m9.keeps n v (m8.keeps n v (m7.keeps n v (m6.keeps n v (m5.keeps n v (m4.keeps n v (m3.leads r x s)))))))
-      by r x Refuse s = let n = pair_number g r x in let v = pair_of p q in
-          m10.keeps n v (m9.keeps n v (m8.keeps n v (m7.keeps n v (m6.keeps n v (m5.keeps n v (m4.leads r x s))))))
-      by r x On s = let n = pair_number g r x in let v = pair_of p q in m10.keeps n v (m9.keeps n v (m8.keeps n v (m7.keeps n v (m6.keeps n v (m5.leads r x s)))))
-      by r x Left s = let n = pair_number g r x in let v = pair_of p q in m10.keeps n v (m9.keeps n v (m8.keeps n v (m7.keeps n v (m6.leads r x s))))
-      by r x Right s = let n = pair_number g r x in let v = pair_of p q in m10.keeps n v (m9.keeps n v (m8.keeps n v (m7.leads r x s)))
-      by r x Opened s = let n = pair_number g r x in let v = pair_of p q in m10.keeps n v (m9.keeps n v (m8.leads r x s))
-      by r x Failed s = let n = pair_number g r x in let v = pair_of p q in m10.keeps n v (m9.leads r x s)
-      by r x Stop s = m10.leads r x s
-
-  pub no_waits_yet : (waits : Chained Pair) → waits.lists ≡ replicate (length g.spots * g.states.count) [] → waits.values ≡ [] → AreWaitsTo g waits 0 0
-  no_waits_yet waits lists values = record {
-    lists = ap (λ (ls : List (List ℕ)). length ls) lists ∙ length-replicate {A = List ℕ} (length g.spots * g.states.count) [];
-    few = (let e = ap (λ (vs : List Pair). length vs) values in omega (arith, e));
-    fine = λ edge pair e. absurd (none-some pair (sym (ap (λ (vs : List Pair). slice_get vs edge) values) ∙ e));
-    leads = λ p q r x before lt leads. absurd (elim before [ inl less ↦ omega (arith, less) | inr less ↦ (let k = less.1 in omega (arith, k)) ]);
+  pub two_moves : (a b c : Changes) (p q : ℕ) (other : Move) → second_move (slice_get g.spots p) ≡ Some other → AddsMove g a b p q (first_move (slice_get g.spots p)) → AddsMove g b c p q other
+      → AddsMoves g a c p q
+  two_moves a b c p q other also first second = record {
+    lists = second.lists ∙ first.lists;
+    marks = second.marks ∙ first.marks;
+    grows = omega (arith, first.grows, second.grows);
+    fine = λ are. second.fine (first.fine are);
+    keeps = λ m n r x is. second.keeps m n r x (first.keeps m n r x is);
+    leads = λ r x is. each_move (slice_get g.spots p) (λ by. next_at g p q by ≡ Some (r, x) → IsChange g c p q r x) (λ e. second.keeps p q r x (first.leads r x e))
+        (λ by e. subst (λ (m : Move). next_at g p q m ≡ Some (r, x) → IsChange g c p q r x) (same_Some other by (sym also ∙ e)) (second.leads r x)) is.0 is.1 is.2;
   }
 
-  pub a_pair_more : (old new : Chained Pair) (p q : ℕ) → AreWaitsTo g old p q → AddsMoves g old new p q → AreWaitsTo g new p (q + 1)
+  pub a_pair_more : (old new : Changes) (p q : ℕ) → AreChangesTo g old p q → AddsMoves g old new p q → AreChangesTo g new p (q + 1)
   a_pair_more old new p q are adds = record {
     lists = adds.lists ∙ are.lists;
+    marks = adds.marks ∙ are.marks;
     few = (let f = are.few in let h = adds.grows in omega (arith, f, h));
     fine = adds.fine are.fine;
-    leads = λ m n r x before lt leads. elim before [
-      | inl less ↦ adds.keeps (pair_number g r x) (pair_of m n) (are.leads m n r x (inl less) lt leads)
+    leads = λ m n r x before lt changing leads. elim before [
+      | inl less ↦ adds.keeps m n r x (are.leads m n r x (inl less) lt changing leads)
       | inr same ↦ elim (cases_lt n q) [
-        | inl less ↦ adds.keeps (pair_number g r x) (pair_of m n) (are.leads m n r x (inr (same.0, less)) lt leads)
+        | inl less ↦ adds.keeps m n r x (are.leads m n r x (inr (same.0, less)) lt changing leads)
         | inr ge ↦
             let e : q ≡ n = (let k = same.1 in omega (arith, k, ge)) in
-            subst (λ (y : ℕ). Leads g y n r x → HasIn new (pair_number g r x) (pair_of y n)) (sym same.0)
-            (subst (λ (y : ℕ). Leads g p y r x → HasIn new (pair_number g r x) (pair_of p y)) e (adds.leads r x)) leads
+            subst (λ (y : ℕ). Leads g y n r x → IsChange g new y n r x) (sym same.0)
+            (subst (λ (y : ℕ). Leads g p y r x → IsChange g new p y r x) e (adds.leads r x)) leads
       ]
     ];
   }
 
-  pub a_position_more : (waits : Chained Pair) (p q : ℕ) → g.states.count ≡ q → AreWaitsTo g waits p q → AreWaitsTo g waits (p + 1) 0
-  a_position_more waits p q e are = record {
+  pub a_position_more : (changes : Changes) (p q : ℕ) → g.states.count ≡ q → AreChangesTo g changes p q → AreChangesTo g changes (p + 1) 0
+  a_position_more changes p q e are = record {
     lists = are.lists;
+    marks = are.marks;
     few = (let f = are.few in omega (arith, f, e));
     fine = are.fine;
-    leads = λ m n r x before lt leads. are.leads m n r x (elim before [
+    leads = λ m n r x before lt changing leads. are.leads m n r x (elim before [
       | inl less ↦ elim (cases_lt m p) [ inl earlier ↦ inl earlier | inr ge ↦ inr (omega (arith, less, ge), omega (arith, lt, e)) ]
       | inr same ↦ absurd (let k = same.1 in omega (arith, k))
-    ]) lt leads;
+    ]) lt changing leads;
   }
 
-  pub all_waits_in : (waits : Chained Pair) (m : ℕ) → length g.spots ≤ m → AreWaitsTo g waits m 0 → AreWaits g waits
-  all_waits_in waits m le are = record { lists = are.lists; fine = are.fine; leads = λ p q r x lt state leads. are.leads p q r x (inl (omega (arith, lt, le))) state leads }
+  -- a position that keeps the state has none
+  pub no_pair_more : (changes : Changes) (p : ℕ) → keeps_state (slice_get g.spots p) ≡ true → AreChangesTo g changes p 0 → AreChangesTo g changes (p + 1) 0
+  no_pair_more changes p keeps are = record {
+    lists = are.lists;
+    marks = are.marks;
+    few = (let f = are.few in omega (arith, f));
+    fine = are.fine;
+    leads = λ m n r x before lt changing leads. elim before [
+      | inl less ↦ elim (cases_lt m p) [
+        | inl earlier ↦ are.leads m n r x (inl earlier) lt changing leads
+        | inr ge ↦ let here : m ≡ p = omega (arith, less, ge) in absurd (false≢true (sym changing ∙ ap (λ (y : ℕ). keeps_state (slice_get g.spots y)) here ∙ keeps))
+      ]
+      | inr same ↦ absurd (let k = same.1 in omega (arith, k))
+    ];
+  }
+
+  pub all_changes_in : (changes : Changes) (m : ℕ) → length g.spots ≤ m → AreChangesTo g changes m 0 → AreChanges g changes
+  all_changes_in changes m le are = record {
+    lists = are.lists;
+    marks = are.marks;
+    fine = are.fine;
+    leads = λ p q r x lt state changing leads. are.leads p q r x (inl (omega (arith, lt, le))) state changing leads;
+  }

@@ -6,7 +6,7 @@ use Rattle.cw_game.specs.Games.{Game, Holds}
 use Rattle.cw_game.specs.Pairs.{has, all_states, kept_at}
 use Rattle.cw_solve.specs.declared.contexts.Context.{Context}
 use Rattle.cw_solve.specs.Contexts.{context, HeightIs, IsHeight, promise_at, IsSetOf, IsNeeded, of_main, of_call}
-use Rattle.cw_solve.specs.Routes.{AreRouted}
+use Rattle.cw_product.specs.Routed.{AreRouted}
 use Rattle.cw_solve.specs.Rounds.{IsCell, IsAsked, holds_by, height_by}
 use Rattle.cw_solve.proofs.Falls.{set_as, set_is}
 use Rattle.cw_solve.proofs.Still.{number_of}

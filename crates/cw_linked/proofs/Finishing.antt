@@ -7,21 +7,21 @@ use Rattle.cw_game.specs.Pairs.{Called, call_in}
 use Rattle.cw_solve.specs.declared.contexts.Context.{Context}
 use Rattle.cw_solve.specs.declared.table.Table.{Table}
 use Rattle.cw_solve.specs.Contexts.{context}
-use Rattle.cw_solve.specs.Routes.{AreRouted}
+use Rattle.cw_product.specs.Routed.{AreRouted}
 use Rattle.cw_solve.specs.Tables.{IsTable, HasCell}
 use Rattle.cw_linked.specs.declared.work.Cell.{Cell}
 use Rattle.cw_linked.specs.declared.work.Work.{Work}
 use Rattle.cw_linked.specs.Calls.{AreCallers, AsksCallers}
 use Rattle.cw_linked.specs.Founds.{Found, class_of, AreAlike, IsLink, AreRight, Nothing, AllClosed, AllCalled, AllStanding}
 use Rattle.cw_linked.specs.Popped.{IsTaken, Finishes}
-use Rattle.cw_linked.specs.Queues.{found_of, AreOwners, LowersKeys, AsksWaiting}
+use Rattle.cw_linked.specs.Queues.{found_of, AreMarked, AreOwners, LowersKeys, AsksWaiting}
 use Rattle.cw_linked.specs.Returns.{AreFew, AsksReturns}
 use Rattle.cw_linked.specs.Steps.{CallsThere, ReturnsThere}
 use Rattle.cw_linked.specs.Works.{heights_of, value_at}
 use Rattle.cw_linked.proofs.Backs.{stands_on, fresh_on}
 use Rattle.cw_linked.proofs.Callers.{tied_or_not, is_tied, untied_called}
 use Rattle.cw_linked.proofs.Least.{link_of}
-use Rattle.cw_linked.proofs.Staying.{owners_on, callers_on}
+use Rattle.cw_linked.proofs.Staying.{owners_on, callers_on, marked_on}
 use Rattle.cw_linked.proofs.Telling.{below, still_closed, still_called, still_standing, two_steps}
 use Rattle.cw_linked.proofs.Working.{found_keys}
 
@@ -29,7 +29,7 @@ use Rattle.cw_linked.proofs.Working.{found_keys}
 pub next_few : (g : Game) (old new : Work) → LowersKeys g old new → AreFew old → AreFew new
 next_few g old new step few k lt =
     subst (λ (ys : List ℕ). slice_index ys k ≤ length new.table.contexts.items) (sym step.others.to)
-    (subst (λ (t : Table). slice_index old.to.items k ≤ length t.contexts.items) (sym step.others.table) (few k (subst (λ (t : Table). k < length t.heights.items) step.others.table lt)))
+    (subst (λ (t : Table). slice_index old.store.to k ≤ length t.contexts.items) (sym step.others.table) (few k (subst (λ (t : Table). k < length t.heights.items) step.others.table lt)))
 
 -- Keys become lower.
 module _ (g : Game) (functions : ℕ) (routed : AreRouted g functions) (alike : AreAlike g) (old new : Work) (table : IsTable g old.table) (step : LowersKeys g old new) where
@@ -42,8 +42,11 @@ module _ (g : Game) (functions : ℕ) (routed : AreRouted g functions) (alike : 
   pub next_owners : AreOwners g old → AreOwners g new
   next_owners = owners_on g old new step.others.table step.others.owners
 
+  pub next_marked : AreMarked g old → AreMarked g new
+  next_marked = marked_on g old new (ap (λ (t : Table). t.contexts.items) step.others.table) step.others.marks
+
   pub next_callers : AreCallers old → AreCallers new
-  next_callers = callers_on old new step.others.table step.others.to step.others.callers step.others.lists
+  next_callers = callers_on old new step.others.table step.others.to step.others.lists
 
   pub next_right : AreRight g new.table.contexts.items (found_of g new)
   next_right = subst (λ (t : Table). AreRight g t.contexts.items (found_of g new)) tables step.right
@@ -98,11 +101,11 @@ no_entry g functions routed alike w table right j d r x at other all i c p q is 
       | inl called ↦ inl called
       | inr rest ↦
           let k = class_of g rest.0.split q in
-          elim (tied_or_not (value_at g w.table.contexts.items w.to.items i p k) j rest.2.0) [
+          elim (tied_or_not (value_at g w.table.contexts.items w.store.to i p k) j rest.2.0) [
             | inl free ↦ inl (untied_called g (found_of g w) i p q rest.0 rest.1 free)
             | inr here ↦
                 let link = link_of g functions routed alike w.table.contexts.items (below g functions routed alike w w table) i c p q rest.0 is rest.1 in
-                let l = right.linked i c p k rest.0 link (is_tied (value_at g w.table.contexts.items w.to.items i p k) j here) in
+                let l = right.linked i c p k rest.0 link (is_tied (value_at g w.table.contexts.items w.store.to i p k) j here) in
                 let same : context rest.0.function l.0 ≡ d = same_Some _ _ (sym l.1 ∙ ap (slice_get w.table.contexts.items) rest.2.0 ∙ at) in
                 absurd (other (sym rest.2.1 ∙ ap (λ (y : Context). g.entry y.function) same))
           ]
@@ -143,13 +146,13 @@ module _ (g : Game) (functions : ℕ) (routed : AreRouted g functions) (alike : 
       called_two : AllCalled g two.table.contexts.items (found_of g two) Nothing
       called_two = subst (λ (t : Table). AllCalled g t.contexts.items (found_of g two) Nothing) (sym callers.step.others.table) callers.called
 
-      pub finished : Finishes g old new old.to.items
+      pub finished : Finishes g old new old.store.to
       finished = record {
         kept = record {
           table = next_table g functions routed alike old new taken.table third;
           long = third.long;
           owners = next_owners g functions routed alike old new taken.table third taken.owners;
-          queued = third.queued;
+          marked = next_marked g functions routed alike old new taken.table third taken.marked;
           high = third.high;
           callers = next_callers g functions routed alike old new taken.table third taken.callers;
           dues = third.dues taken.dues;

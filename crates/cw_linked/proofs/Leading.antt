@@ -1,5 +1,5 @@
 -- What holds at a position that is no call, read off the pairs to which its moves lead.
-use Rattle.std.proofs.Common.{◌≡◌, ℕ, ◌<◌, List, [], Bool, true, false, cond, ◌&&◌, ◌||◌, Option, Some, None, refl, sym, ap, ap₂, ◌∙◌, subst}
+use Rattle.std.proofs.Common.{◌≡◌, ℕ, ◌<◌, List, [], Bool, true, false, cond, ◌&&◌, ◌||◌, Option, Some, None, refl, sym, ap, ap₂, ◌∙◌, subst, inl, inr}
 use Rattle.std.specs.Prelude.{slice_get, option_map}
 use Rattle.std.proofs.lemmas.Option.{same_Some, none-some}
 use Rattle.cw_rights.specs.declared.capabilities.Primitive.TheVariants.{Limit, Enter, Split}
@@ -13,11 +13,12 @@ use Rattle.cw_game.proofs.Holding.{Gives}
 use Rattle.cw_product.specs.Moves.{pair_of, is_left_in, next_in, next_at}
 use Rattle.cw_solve.specs.declared.contexts.Context.{Context}
 use Rattle.cw_solve.specs.Asking.{holds_after, holds_by_moves}
-use Rattle.cw_solve.specs.Routes.{IsState, AreRouted}
+use Rattle.cw_product.specs.Routed.{IsState, AreRouted}
 use Rattle.cw_solve.specs.Rounds.{IsCell}
 use Rattle.cw_solve.proofs.Calling.{next_target}
 use Rattle.cw_solve.proofs.Falls.{same_bools}
 use Rattle.cw_solve.proofs.Moves.{by_moves, bad_fails}
+use Rattle.cw_linked.specs.Steps.{IsMoveIn}
 
 gives_or : (a b c d : Bool) → Gives a c → Gives b d → Gives (a || b) (c || d)
 gives_or true b c d f g h = ap (λ z. z || d) (f refl)
@@ -54,20 +55,28 @@ module _ (g : Game) where
     after_gives (Some r) f k = f r refl k
 
     abbrev Follows : ℕ → ℕ → Option Spot → Type 0
-    Follows p q o = (by : Move) (r : ℕ × ℕ) → next_in g p q o by ≡ Some r → Gives (h r.0 r.1 e) (h' r.0 r.1 e)
+    Follows p q o = (by : Move) (r : ℕ × ℕ) → IsMoveIn o by → next_in g p q o by ≡ Some r → Gives (h r.0 r.1 e) (h' r.0 r.1 e)
 
     moves_give : (p q : ℕ) (o : Option Spot) → Follows p q o → Gives (holds_by_moves g h p q e o) (holds_by_moves g h' p q e o)
-    moves_give p q (Some (Visit j i a)) f = gives_or _ _ _ _ (after_gives (next_in g p q (Some (Visit j i a)) Skip) (f Skip)) (after_gives (next_in g p q (Some (Visit j i a)) Try) (f Try))
-    moves_give p q (Some (Asked j i a)) f = gives_and _ _ _ _ (after_gives (next_in g p q (Some (Asked j i a)) Grant) (f Grant)) (after_gives (next_in g p q (Some (Asked j i a)) Refuse) (f Refuse))
-    moves_give p q (Some (Branch m n)) f = gives_and _ _ _ _ (after_gives (next_in g p q (Some (Branch m n)) Left) (f Left)) (after_gives (next_in g p q (Some (Branch m n)) Right) (f Right))
-    moves_give p q (Some (Open j d n)) f = gives_and _ _ _ _ (after_gives (next_in g p q (Some (Open j d n)) Opened) (f Opened)) (after_gives (next_in g p q (Some (Open j d n)) Failed) (f Failed))
-    moves_give p q (Some (Step n)) f = after_gives (next_in g p q (Some (Step n)) On) (f On)
-    moves_give p q (Some (Label j l n)) f = after_gives (next_in g p q (Some (Label j l n)) On) (f On)
-    moves_give p q (Some (Close j d n)) f = after_gives (next_in g p q (Some (Close j d n)) On) (f On)
-    moves_give p q (Some (Call j d n)) f = after_gives (next_in g p q (Some (Call j d n)) On) (f On)
-    moves_give p q (Some (SplitCall j d n)) f = after_gives (next_in g p q (Some (SplitCall j d n)) On) (f On)
-    moves_give p q (Some (Exit d)) f = after_gives (next_in g p q (Some (Exit d)) On) (f On)
-    moves_give p q None f = after_gives (next_in g p q None On) (f On)
+    moves_give p q (Some (Visit j i a)) f =
+        gives_or _ _ _ _ (after_gives (next_in g p q (Some (Visit j i a)) Skip) (λ r. f Skip r (inl refl)))
+        (after_gives (next_in g p q (Some (Visit j i a)) Try) (λ r. f Try r (inr refl)))
+    moves_give p q (Some (Asked j i a)) f =
+        gives_and _ _ _ _ (after_gives (next_in g p q (Some (Asked j i a)) Grant) (λ r. f Grant r (inl refl)))
+        (after_gives (next_in g p q (Some (Asked j i a)) Refuse) (λ r. f Refuse r (inr refl)))
+    moves_give p q (Some (Branch m n)) f =
+        gives_and _ _ _ _ (after_gives (next_in g p q (Some (Branch m n)) Left) (λ r. f Left r (inl refl)))
+        (after_gives (next_in g p q (Some (Branch m n)) Right) (λ r. f Right r (inr refl)))
+    moves_give p q (Some (Open j d n)) f =
+        gives_and _ _ _ _ (after_gives (next_in g p q (Some (Open j d n)) Opened) (λ r. f Opened r (inl refl)))
+        (after_gives (next_in g p q (Some (Open j d n)) Failed) (λ r. f Failed r (inr refl)))
+    moves_give p q (Some (Step n)) f = after_gives (next_in g p q (Some (Step n)) On) (λ r. f On r (inl refl))
+    moves_give p q (Some (Label j l n)) f = after_gives (next_in g p q (Some (Label j l n)) On) (λ r. f On r (inl refl))
+    moves_give p q (Some (Close j d n)) f = after_gives (next_in g p q (Some (Close j d n)) On) (λ r. f On r (inl refl))
+    moves_give p q (Some (Call j d n)) f = after_gives (next_in g p q (Some (Call j d n)) On) (λ r. f On r (inl refl))
+    moves_give p q (Some (SplitCall j d n)) f = after_gives (next_in g p q (Some (SplitCall j d n)) On) (λ r. f On r (inl refl))
+    moves_give p q (Some (Exit d)) f = after_gives (next_in g p q (Some (Exit d)) On) (λ r. f On r (inl refl))
+    moves_give p q None f = after_gives (next_in g p q None On) (λ r. f On r (inl refl))
 
     exit_same : (p q : ℕ) (o : Option Spot) → is_exit_in o ≡ true → holds_in g h p q e o ≡ holds_in g h' p q e o
     exit_same p q (Some (Exit f)) k = refl
@@ -85,9 +94,9 @@ module _ (g : Game) where
 
   -- .. and the same where that is the same
   pub in_same : (h h' : ℕ → ℕ → Promise → Bool) (p q : ℕ) (e : Promise) (o : Option Spot) → is_call_in o ≡ false
-      → ((by : Move) (r : ℕ × ℕ) → next_in g p q o by ≡ Some r → h r.0 r.1 e ≡ h' r.0 r.1 e) → holds_in g h p q e o ≡ holds_in g h' p q e o
+      → ((by : Move) (r : ℕ × ℕ) → IsMoveIn o by → next_in g p q o by ≡ Some r → h r.0 r.1 e ≡ h' r.0 r.1 e) → holds_in g h p q e o ≡ holds_in g h' p q e o
   in_same h h' p q e o plain f =
-      same_bools (holds_in g h p q e o) (holds_in g h' p q e o) (in_gives h h' e p q o plain (λ by r k y. sym (f by r k) ∙ y)) (in_gives h' h e p q o plain (λ by r k y. f by r k ∙ y))
+      same_bools (holds_in g h p q e o) (holds_in g h' p q e o) (in_gives h h' e p q o plain (λ by r is k y. sym (f by r is k) ∙ y)) (in_gives h' h e p q o plain (λ by r is k y. f by r is k ∙ y))
 
 module _ (g : Game) (functions : ℕ) (routed : AreRouted g functions) where
   leads_state : (p q : ℕ) (o : Option Spot) (by : Move) (c : Config) → slice_get g.spots p ≡ o → bad_in g q o ≡ false → is_call_in o ≡ false → IsState g q → leads_in g p q [] o by ≡ Some c

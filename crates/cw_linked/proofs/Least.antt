@@ -7,7 +7,7 @@ use Rattle.cw_game.specs.Pairs.{has, Called, call_in, is_call_in, kept_at}
 use Rattle.cw_game.proofs.Holding.{holds_rises}
 use Rattle.cw_solve.specs.declared.contexts.Context.{Context}
 use Rattle.cw_solve.specs.Contexts.{context, promise_at}
-use Rattle.cw_solve.specs.Routes.{IsState, AreRouted}
+use Rattle.cw_product.specs.Routed.{IsState, AreRouted}
 use Rattle.cw_solve.specs.Rounds.{IsCell, holds_by}
 use Rattle.cw_solve.proofs.Falls.{sooner, holds_same, return_state, back_stays}
 use Rattle.cw_solve.proofs.Still.{holds_call, call_or_not, entry_cell}
@@ -105,7 +105,7 @@ module _ (g : Game) (functions : ℕ) (routed : AreRouted g functions) (alike : 
           true_of (Holds g (suc n) p q (has c.promise)) (λ lost.
           let same : holds_in g (tells s i n) p q (has c.promise) (slice_get g.spots p) ≡ Holds g (suc n) p q (has c.promise)
           = in_same g (tells s i n) (Holds g n) p q (has c.promise) (slice_get g.spots p) plain
-          (λ by r e. read i c r.0 r.1 (next_cell g functions routed contexts i c p q by r (below i c is.at) is e)) in
+          (λ by r among e. read i c r.0 r.1 (next_cell g functions routed contexts i c p q by r (below i c is.at) is e)) in
           let w = all_of (IsClosed g s i c p q) (found.closed i c p q is) none plain n (same ∙ lost) in
           let a = above.cells i c p q is w.0 in
           omega (arith, w.1, a, lt))

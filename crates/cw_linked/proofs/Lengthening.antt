@@ -1,71 +1,17 @@
--- Links are added to lists.
-use Rattle.std.proofs.Common.{◌≡◌, ℕ, ◌+◌, ◌-◌, ◌*◌, ◌<◌, ◌≤◌, List, [], ◌∷◌, ◌++◌, Option, length, take, replicate, refl, sym, ap, ◌∙◌, subst, arith, inl, inr}
-use Rattle.std.specs.Prelude.{slice_index, Contains}
+-- Vectors grow by a context's places.
+use Rattle.std.proofs.Common.{◌≡◌, ℕ, ◌+◌, ◌-◌, ◌*◌, ◌<◌, ◌≤◌, Bool, true, false, List, [], ◌∷◌, ◌++◌, length, take, replicate, refl, sym, ap, ◌∙◌, subst, arith, inl, inr}
+use Rattle.std.specs.Prelude.{slice_get, slice_index, Some}
 use Rattle.std.proofs.lemmas.Bool.{cases_lt}
-use Rattle.std.proofs.lemmas.List.{length-replicate, length-append, get_or-replicate, get_or_append_left, get_or-append_right, take_all}
-use Rattle.cw_links.specs.Heights.{height_at}
-use Rattle.cw_links.specs.Lists.{Chained, list_at, with_front}
-use Rattle.cw_solve.specs.declared.table.Table.{Table}
-use Rattle.cw_solve.specs.Rounds.{height_by}
-use Rattle.cw_linked.specs.declared.work.Work.{Work}
-use Rattle.cw_linked.specs.Added.{PushesLinks, AreLinkedBy}
-use Rattle.cw_linked.specs.Calls.{AreCallers}
-use Rattle.cw_linked.specs.Queues.{AreQueued, AreLong}
-use Rattle.cw_linked.proofs.Edging.{lists_kept, one_more, still_in, front_in}
-
-pub none_pushed : (old : Chained ℕ) → PushesLinks old old 0
-none_pushed old = record { lists = refl; values = omega arith; kept = λ h k is. is; added = λ k le lt. absurd (omega (arith, le, lt)) }
-
--- one link more goes nowhere
-pub one_pushed : (old mid new : Chained ℕ) (more : ℕ) → 0 < length old.lists → PushesLinks old mid more → new.lists ≡ with_front mid.lists 0 (length mid.values) → new.values ≡ mid.values ++ 0 ∷ [] → PushesLinks old new (more + 1)
-one_pushed old mid new more some pushed lists values =
-    let within : 0 < length mid.lists = omega (arith, some, pushed.lists) in
-    let n = one_more mid new 0 0 lists values within in
-    record {
-      lists = lists_kept mid new 0 0 lists values within ∙ pushed.lists;
-      values = omega (arith, n, pushed.values);
-      kept = λ h k is. still_in mid new 0 0 lists values within h k (pushed.kept h k is);
-      added = λ k le lt. elim (cases_lt k (length mid.values)) [
-        | inl before ↦ still_in mid new 0 0 lists values within 0 k (pushed.added k le (omega (arith, before, pushed.values)))
-        | inr after ↦
-            let e : length mid.values ≡ k = omega (arith, after, lt, pushed.values) in
-            subst (λ (y : ℕ). Contains (list_at new.lists 0) y) e (front_in mid new 0 0 lists values within)
-      ];
-    }
-
-pub none_linked : (callers : Chained ℕ) (to : List ℕ) (lists : ℕ) → callers.lists ≡ replicate lists [] → callers.values ≡ [] → AreLinkedBy callers to lists 0
-none_linked callers to lists is none = record {
-  long = ap (λ (ls : List (List ℕ)). length ls) is ∙ length-replicate {A = List ℕ} lists [];
-  values = ap (λ (vs : List ℕ). length vs) none;
-  there = λ k lt. absurd (omega (arith, lt));
-}
-
-pub one_linked : (old new : Chained ℕ) (to : List ℕ) (lists many list : ℕ) → AreLinkedBy old to lists many → list ≡ slice_index to many → list < lists → new.lists ≡ with_front old.lists list (length old.values)
-    → new.values ≡ old.values ++ 0 ∷ [] → AreLinkedBy new to lists (many + 1)
-one_linked old new to lists many list are is lt front values =
-    let within : list < length old.lists = omega (arith, lt, are.long) in
-    let n = one_more old new list 0 front values within in
-    record {
-      long = lists_kept old new list 0 front values within ∙ are.long;
-      values = omega (arith, n, are.values);
-      there = λ k less. elim (cases_lt k many) [
-        | inl before ↦ still_in old new list 0 front values within (slice_index to k) k (are.there k before)
-        | inr after ↦
-            let e : many ≡ k = omega (arith, less, after) in
-            let here : Contains (list_at new.lists list) (length old.values) = front_in old new list 0 front values within in
-            subst (λ (y : ℕ). Contains (list_at new.lists (slice_index to y)) y) e
-            (subst (λ (y : ℕ). Contains (list_at new.lists (slice_index to many)) y) are.values (subst (λ (y : ℕ). Contains (list_at new.lists y) (length old.values)) is here))
-      ];
-    }
-
--- the same links
-pub same_pushed : (old new : Chained ℕ) → new.lists ≡ old.lists → new.values ≡ old.values → PushesLinks old new 0
-same_pushed old new lists values = record {
-  lists = ap (λ (ls : List (List ℕ)). length ls) lists;
-  values = (let e = ap (λ (vs : List ℕ). length vs) values in omega (arith, e));
-  kept = λ h k is. subst (λ (ls : List (List ℕ)). Contains (list_at ls h) k) (sym lists) is;
-  added = λ k le lt. absurd (omega (arith, le, lt));
-}
+use Rattle.std.proofs.lemmas.Nat.{mul-add-lt}
+use Rattle.std.proofs.Math.Nat.{mul-le-mul}
+use Rattle.std.proofs.lemmas.List.{length-replicate, length-append, length_push, get_or-replicate, get_or_append_left, get_or-append_right, take_all, append_assoc, append-nil, replicate-append-replicate}
+use Rattle.cw_game.specs.Games.{Game}
+use Rattle.cw_game.specs.Pairs.{Called, call_in}
+use Rattle.cw_marks.specs.Marks.{is_marked}
+use Rattle.cw_store.specs.Stores.{Stored, Pushes}
+use Rattle.cw_solve.specs.Rounds.{positions}
+use Rattle.cw_linked.specs.Added.{PushesPlaces, MarksState, MarksLinks}
+use Rattle.cw_linked.specs.Founds.{class_of}
 
 -- a vector that grows
 pub resized : (old new : List ℕ) (end len more v : ℕ) → new ≡ take end old ++ replicate (end - len) v → len ≡ length old → end ≡ len + more → new ≡ old ++ replicate more v
@@ -76,21 +22,9 @@ resized old new end len more v is long size =
     rest : (end len more : ℕ) → end ≡ len + more → end - len ≡ more
     rest end len more e = omega (arith, e)
 
--- the lists are filled anew
-pub lengthened : (old new : Work) (many : ℕ) → AreCallers old → length old.to.items ≡ length old.table.heights.items → AreLinkedBy new.callers old.to.items new.lists (length old.to.items) → new.table ≡ old.table
-    → new.to.items ≡ old.to.items → length old.table.contexts.items < new.lists → AreCallers new
-lengthened old new many c long linked table to more = record {
-  lists = linked.long;
-  more = subst (λ (t : Table). length t.contexts.items < new.lists) (sym table) more;
-  values = linked.values ∙ long ∙ ap (λ (t : Table). length t.heights.items) (sym table);
-  there = λ k lt. subst (λ (ys : List ℕ). Contains (list_at new.callers.lists (slice_index ys k)) k) (sym to)
-      (linked.there k (let before = subst (λ (t : Table). k < length t.heights.items) table lt in omega (arith, before, long)));
-  few = λ k lt. subst (λ (ys : List ℕ). slice_index ys k ≤ length new.table.contexts.items) (sym to)
-      (subst (λ (t : Table). slice_index old.to.items k ≤ length t.contexts.items) (sym table) (c.few k (subst (λ (t : Table). k < length t.heights.items) table lt)));
-}
-
 pub grown_length : (old new : List ℕ) (more v : ℕ) → new ≡ old ++ replicate more v → length new ≡ length old + more
-grown_length old new more v is = ap (λ (ys : List ℕ). length ys) is ∙ length-append old (replicate more v) ∙ ap (λ (n : ℕ). length old + n) (length-replicate {A = ℕ} more v)
+grown_length old new more v is =
+    ap (λ (ys : List ℕ). length ys) is ∙ length-append old (replicate more v) ∙ ap (λ (n : ℕ). length old + n) (length-replicate {A = ℕ} more v)
 
 -- what stands behind a vector that grows by zeros
 module _ (old new : List ℕ) (more : ℕ) (is : new ≡ old ++ replicate more 0) where
@@ -100,36 +34,92 @@ module _ (old new : List ℕ) (more : ℕ) (is : new ≡ old ++ replicate more 0
   pub grown_after : (k : ℕ) → length old ≤ k → k < length old + more → slice_index new k ≡ 0
   grown_after k le lt = ap (λ (ys : List ℕ). slice_index ys k) is ∙ get_or-append_right old (replicate more 0) (length old) k 0 refl le ∙ get_or-replicate more (k - length old) 0 0 (omega (arith, le, lt))
 
-pub pushed_callers : (old new : Work) (more : ℕ) → AreCallers old → AreLong old → PushesLinks old.callers new.callers more → length new.table.contexts.items ≡ length old.table.contexts.items + 1
-    → length old.table.contexts.items + 1 < old.lists → new.lists ≡ old.lists → length new.table.heights.items ≡ length old.table.heights.items + more → new.to.items ≡ old.to.items ++ replicate more 0 → AreCallers new
-pushed_callers old new more c long pushed contexts room lists cells to = record {
-  lists = pushed.lists ∙ c.lists ∙ sym lists;
-  more = omega (arith, contexts, room, lists);
-  values = omega (arith, pushed.values, c.values, cells);
-  there = λ k lt. elim (cases_lt k (length old.table.heights.items)) [
-    | inl before ↦ subst (λ (l : ℕ). Contains (list_at new.callers.lists l) k) (sym (grown_before old.to.items new.to.items more to k (omega (arith, before, long.to))))
-        (pushed.kept (slice_index old.to.items k) k (c.there k before))
-    | inr after ↦ subst (λ (l : ℕ). Contains (list_at new.callers.lists l) k) (sym (grown_after old.to.items new.to.items more to k (omega (arith, after, long.to)) (omega (arith, lt, cells, long.to))))
-        (pushed.added k (omega (arith, after, c.values)) (omega (arith, lt, cells, c.values)))
-  ];
-  few = λ k lt. elim (cases_lt k (length old.table.heights.items)) [
-    | inl before ↦ let e = grown_before old.to.items new.to.items more to k (omega (arith, before, long.to)) in let f = c.few k before in omega (arith, e, f, contexts)
-    | inr after ↦ let e = grown_after old.to.items new.to.items more to k (omega (arith, after, long.to)) (omega (arith, lt, cells, long.to)) in omega (arith, e)
-  ];
+-- no place yet, one, and so many more
+pub no_places : (old : Stored) → PushesPlaces old old 0
+no_places old = record {
+  asked = sym (append-nil old.asked);
+  due = sym (append-nil old.due);
+  to = sym (append-nil old.to);
+  waves = sym (append-nil old.waves);
+  long = omega arith;
+  kept = λ k lt. refl;
+  lists = omega arith;
 }
 
-pub pushed_queued : (old new : Work) (more : ℕ) → AreLong old → AreQueued old → new.buckets ≡ old.buckets → new.room ≡ old.room → length new.table.heights.items ≡ length old.table.heights.items + more
-    → length old.table.heights.items + more ≤ old.room → new.asked.items ≡ old.asked.items ++ replicate more 0 → new.due.items ≡ old.due.items ++ replicate more 0 → AreQueued new
-pushed_queued old new more long q buckets room cells enough asked due = record {
-  room = ap (λ (b : List (Option ℕ)). length b) buckets ∙ q.room ∙ ap (λ (n : ℕ). 2 * n) (sym room);
-  within = omega (arith, cells, enough, room);
-  cells = λ k lt. ap (λ (b : List (Option ℕ)). height_at b (2 * k)) buckets ∙ elim (cases_lt k (length old.table.heights.items)) [
-    | inl before ↦ q.cells k before ∙ ap height_by (sym (grown_before old.asked.items new.asked.items more asked k (omega (arith, before, long.asked))))
-    | inr after ↦ q.beyond (2 * k) (omega (arith, after)) ∙ ap height_by (sym (grown_after old.asked.items new.asked.items more asked k (omega (arith, after, long.asked)) (omega (arith, lt, cells, long.asked))))
-  ];
-  links = λ k lt. ap (λ (b : List (Option ℕ)). height_at b (2 * k + 1)) buckets ∙ elim (cases_lt k (length old.table.heights.items)) [
-    | inl before ↦ q.links k before ∙ ap height_by (sym (grown_before old.due.items new.due.items more due k (omega (arith, before, long.due))))
-    | inr after ↦ q.beyond (2 * k + 1) (omega (arith, after)) ∙ ap height_by (sym (grown_after old.due.items new.due.items more due k (omega (arith, after, long.due)) (omega (arith, lt, cells, long.due))))
-  ];
-  beyond = λ k le. ap (λ (b : List (Option ℕ)). height_at b k) buckets ∙ q.beyond k (omega (arith, le, cells));
+pub one_place : (old new : Stored) (mark : Bool) → Pushes old new mark → PushesPlaces old new 1
+one_place old new mark pushes = record {
+  asked = pushes.asked;
+  due = pushes.due;
+  to = pushes.to;
+  waves = pushes.waves;
+  long = ap (λ (ms : List Bool). length ms) pushes.marks ∙ length_push old.marks mark;
+  kept = λ k lt. ap (λ (ms : List Bool). is_marked ms k) pushes.marks ∙ get_or_append_left old.marks (mark ∷ []) false k lt;
+  lists = omega (arith, pushes.lists);
 }
+
+more_zeros : (old mid new : List ℕ) (m n : ℕ) → mid ≡ old ++ replicate m 0 → new ≡ mid ++ replicate n 0 → new ≡ old ++ replicate (m + n) 0
+more_zeros old mid new m n one two =
+    two ∙ ap (λ (ys : List ℕ). ys ++ replicate n 0) one ∙ append_assoc old (replicate m 0) (replicate n 0) ∙ ap (λ (ys : List ℕ). old ++ ys) (replicate-append-replicate m n 0)
+
+pub more_places : (old mid new : Stored) (m n : ℕ) → PushesPlaces old mid m → PushesPlaces mid new n → PushesPlaces old new (m + n)
+more_places old mid new m n one two = record {
+  asked = more_zeros old.asked mid.asked new.asked m n one.asked two.asked;
+  due = more_zeros old.due mid.due new.due m n one.due two.due;
+  to = more_zeros old.to mid.to new.to m n one.to two.to;
+  waves = more_zeros old.waves mid.waves new.waves m n one.waves two.waves;
+  long = omega (arith, one.long, two.long);
+  kept = λ k lt. two.kept k (omega (arith, lt, one.long)) ∙ one.kept k lt;
+  lists = omega (arith, one.lists, two.lists);
+}
+
+-- Of no new places none is to be marked ..
+pub none_marked_in : (g : Game) (marks : List Bool) (function x : ℕ) → MarksState g marks marks function x 0
+none_marked_in g marks function x p call of is class less = absurd (omega (arith, less))
+
+-- .. and of one more where it is that of a link.
+pub one_marked : (g : Game) (old mid new : List Bool) (function x m : ℕ) (mark : Bool) → g.entry function ≤ m → new ≡ mid ++ mark ∷ [] → length mid ≡ length old + (m - g.entry function)
+    → ((call : Called) → call_in (slice_get g.spots m) ≡ Some call → class_of g call.split x ≡ x → mark ≡ true) → MarksState g old mid function x (m - g.entry function)
+    → MarksState g old new function x (m + 1 - g.entry function)
+one_marked g old mid new function x m mark from pushed long link marked p call of is class less =
+    ap (λ (ms : List Bool). is_marked ms (length old + (p - g.entry function))) pushed
+    ∙ elim (cases_lt p m) [
+      | inl before ↦
+          let row : p - g.entry function < m - g.entry function = omega (arith, before, of.0) in
+          get_or_append_left mid (mark ∷ []) false (length old + (p - g.entry function)) (omega (arith, row, long)) ∙ marked p call of is class row
+      | inr after ↦
+          let here : p ≡ m = omega (arith, less, after, from) in
+          let first : length old + (p - g.entry function) - length mid ≡ 0 = omega (arith, here, long) in
+          get_or-append_right mid (mark ∷ []) (length mid) (length old + (p - g.entry function)) false refl (omega (arith, here, long))
+          ∙ ap (λ (k : ℕ). is_marked (mark ∷ []) k) first ∙ link call (subst (λ (y : ℕ). call_in (slice_get g.spots y) ≡ Some call) here is) class
+    ]
+
+pub none_marked : (g : Game) (marks : List Bool) (function : ℕ) → MarksLinks g marks marks function 0
+none_marked g marks function p x call of is class less = absurd (omega (arith, less))
+
+-- the places of one state more
+pub run_more : (g : Game) (function x : ℕ) → x * positions g function + positions g function ≡ (x + 1) * positions g function
+run_more g function x = omega arith
+
+pub more_marked : (g : Game) (old mid new : Stored) (function y : ℕ) → PushesPlaces old mid (y * positions g function) → PushesPlaces mid new (positions g function)
+    → MarksLinks g old.marks mid.marks function (y * positions g function) → MarksState g mid.marks new.marks function y (positions g function)
+    → MarksLinks g old.marks new.marks function ((y + 1) * positions g function)
+more_marked g old mid new function y one two marked at p x call of is class less =
+    let row : p - g.entry function < positions g function = omega (arith, of.0, of.1) in
+    elim (cases_lt x y) [
+      | inl before ↦
+          let inside = mul-add-lt x (positions g function) (p - g.entry function) y before row in
+          two.kept (length old.marks + (x * positions g function + (p - g.entry function))) (omega (arith, one.long, inside))
+          ∙ marked p x call of is class (omega (arith, inside))
+      | inr after ↦ elim (cases_lt y x) [
+        | inl past ↦ absurd (
+            let runs : y + 1 ≤ x = omega (arith, past) in
+            let same : positions g function ≤ positions g function = omega arith in
+            let all = mul-le-mul runs same in
+            omega (arith, all, less))
+        | inr same_or ↦
+            let here : x ≡ y = omega (arith, after, same_or) in
+            let run = ap (λ (z : ℕ). z * positions g function) here in
+            let place : length old.marks + (x * positions g function + (p - g.entry function)) ≡ length mid.marks + (p - g.entry function) = omega (arith, one.long, run) in
+            ap (is_marked new.marks) place ∙ at p call of is (subst (λ (z : ℕ). class_of g call.split z ≡ z) here class) row
+      ]
+    ]

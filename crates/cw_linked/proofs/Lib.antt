@@ -27,14 +27,15 @@ pub mod Finishing
 pub mod Linking
 pub mod Tieing
 pub mod Tightening
-pub mod Filling
 pub mod Edging
+pub mod Sourcing
 pub mod Pushing
 pub mod Promising
 pub mod Lengthening
 pub mod Freeing
 pub mod Measuring
 pub mod Askings
+pub mod Passing
 pub mod Staying
 pub mod Widening
 pub mod Joining

@@ -1,5 +1,5 @@
 -- A link of the least key is taken from the vectors, and tied: what the solver keeps then.
-use Rattle.std.proofs.Common.{◌≡◌, ℕ, ◌+◌, ◌*◌, ◌/◌, ◌<◌, List, Some, length, set, refl, sym, ap, ◌∙◌, subst, arith, inl, inr}
+use Rattle.std.proofs.Common.{◌≡◌, ℕ, ◌+◌, ◌*◌, ◌/◌, ◌<◌, List, Some, length, set, refl, sym, ap, ◌∙◌, subst, arith, inl, inr, Bool}
 use Rattle.std.specs.Prelude.{slice_get, slice_index}
 use Rattle.std.proofs.lemmas.Bool.{cases_eq}
 use Rattle.std.proofs.lemmas.Nat.{div-mul-add}
@@ -9,7 +9,7 @@ use Rattle.cw_game.specs.Pairs.{Called, call_in}
 use Rattle.cw_solve.specs.declared.contexts.Context.{Context}
 use Rattle.cw_solve.specs.declared.table.Table.{Table}
 use Rattle.cw_solve.specs.Contexts.{IsSetOf}
-use Rattle.cw_solve.specs.Routes.{AreRouted}
+use Rattle.cw_product.specs.Routed.{AreRouted}
 use Rattle.cw_solve.specs.Rounds.{IsCell, holds_by}
 use Rattle.cw_solve.specs.Tables.{IsTable}
 use Rattle.cw_solve.proofs.Slots.{same_slot}
@@ -23,7 +23,7 @@ use Rattle.cw_linked.specs.Tied.{IsFreed}
 use Rattle.cw_linked.specs.Works.{AreUpTo, place_at, value_at}
 use Rattle.cw_linked.proofs.Bounding.{place_is}
 use Rattle.cw_linked.proofs.Popping.{least_above}
-use Rattle.cw_linked.proofs.Staying.{owners_on, callers_on}
+use Rattle.cw_linked.proofs.Staying.{owners_on, callers_on, marked_on}
 use Rattle.cw_linked.proofs.Telling.{below, up_to_set}
 use Rattle.cw_linked.proofs.Tying.{ready, freed_right, freed_standing}
 use Rattle.cw_linked.proofs.Working.{found_keys}
@@ -52,8 +52,9 @@ module _ (g : Game) (functions : ℕ) (routed : AreRouted g functions) (alike : 
   pub freed_long : AreLong new
   freed_long = record {
     owners = ap (λ (ys : List ℕ). length ys) frees.others.owners ∙ work.long.owners ∙ sym lengths;
+    marks = ap (λ (ms : List Bool). length ms) frees.others.marks ∙ work.long.marks ∙ sym lengths;
     asked = ap (λ (ys : List ℕ). length ys) frees.asked ∙ work.long.asked ∙ sym lengths;
-    due = ap (λ (ys : List ℕ). length ys) frees.due ∙ length-set old.due.items place 0 ∙ work.long.due ∙ sym lengths;
+    due = ap (λ (ys : List ℕ). length ys) frees.due ∙ length-set old.store.due place 0 ∙ work.long.due ∙ sym lengths;
     to = ap (λ (ys : List ℕ). length ys) frees.others.to ∙ work.long.to ∙ sym lengths;
     waves = ap (λ (ys : List ℕ). length ys) frees.others.waves ∙ work.long.waves ∙ sym lengths;
   }
@@ -63,23 +64,23 @@ module _ (g : Game) (functions : ℕ) (routed : AreRouted g functions) (alike : 
 
   freed_high : AreHigh new
   freed_high =
-      let due : AreUpTo (set old.due.items place 0) (2 * old.table.written + 1)
-      = up_to_set old.due.items place 0 (2 * old.table.written + 1) (omega (arith, frees.within, work.long.due)) (omega arith) work.high.due in
+      let due : AreUpTo (set old.store.due place 0) (2 * old.table.written + 1)
+      = up_to_set old.store.due place 0 (2 * old.table.written + 1) (omega (arith, frees.within, work.long.due)) (omega arith) work.high.due in
       record {
         heights = subst (λ (t : Table). AreUpTo t.heights.items t.written) tables work.high.heights;
-        asked = subst (λ (t : Table). AreUpTo new.asked.items (2 * t.written + 2)) tables (subst (λ (ys : List ℕ). AreUpTo ys (2 * old.table.written + 2)) (sym frees.asked) work.high.asked);
-        due = subst (λ (t : Table). AreUpTo new.due.items (2 * t.written + 1)) tables (subst (λ (ys : List ℕ). AreUpTo ys (2 * old.table.written + 1)) (sym frees.due) due);
-        waves = subst (λ (t : Table). AreUpTo new.waves.items t.written) tables (subst (λ (ys : List ℕ). AreUpTo ys old.table.written) (sym frees.others.waves) work.high.waves);
+        asked = subst (λ (t : Table). AreUpTo new.store.asked (2 * t.written + 2)) tables (subst (λ (ys : List ℕ). AreUpTo ys (2 * old.table.written + 2)) (sym frees.asked) work.high.asked);
+        due = subst (λ (t : Table). AreUpTo new.store.due (2 * t.written + 1)) tables (subst (λ (ys : List ℕ). AreUpTo ys (2 * old.table.written + 1)) (sym frees.due) due);
+        waves = subst (λ (t : Table). AreUpTo new.store.waves t.written) tables (subst (λ (ys : List ℕ). AreUpTo ys old.table.written) (sym frees.others.waves) work.high.waves);
       }
 
-  free_here : slice_index new.due.items place ≡ 0
-  free_here = ap (λ (ys : List ℕ). slice_index ys place) frees.due ∙ get_or-set_same old.due.items place 0 0 (omega (arith, frees.within, work.long.due))
+  free_here : slice_index new.store.due place ≡ 0
+  free_here = ap (λ (ys : List ℕ). slice_index ys place) frees.due ∙ get_or-set_same old.store.due place 0 0 (omega (arith, frees.within, work.long.due))
 
   freed_dues : AreDue g new
   freed_dues k lt some = elim (cases_eq k place) [
-    | inl e ↦ absurd (let z : slice_index new.due.items k ≡ 0 = ap (slice_index new.due.items) e ∙ free_here in omega (arith, z, some))
+    | inl e ↦ absurd (let z : slice_index new.store.due k ≡ 0 = ap (slice_index new.store.due) e ∙ free_here in omega (arith, z, some))
     | inr ne ↦
-        let same : slice_index new.due.items k ≡ slice_index old.due.items k = ap (λ (ys : List ℕ). slice_index ys k) frees.due ∙ get_or-set_other old.due.items place k 0 0 ne in
+        let same : slice_index new.store.due k ≡ slice_index old.store.due k = ap (λ (ys : List ℕ). slice_index ys k) frees.due ∙ get_or-set_other old.store.due place k 0 0 ne in
         let h = work.dues k (omega (arith, lt, lengths)) (omega (arith, some, same)) in (
           subst (λ (t : Table). IsLinkAt g t.contexts.items k) tables h.0,
           λ tied. let low = h.1 (subst (λ (ys : List ℕ). 0 < slice_index ys k) frees.others.to tied) in omega (arith, low, same),
@@ -97,7 +98,7 @@ module _ (g : Game) (functions : ℕ) (routed : AreRouted g functions) (alike : 
     functions_below : (i : ℕ) (c : Context) → slice_get Contexts i ≡ Some c → c.function < functions
     functions_below = below g functions routed alike old old work.table
 
-    waiting : IsLinkAt g Contexts place × (0 < slice_index old.to.items place → 1 < slice_index old.due.items place)
+    waiting : IsLinkAt g Contexts place × (0 < slice_index old.store.to place → 1 < slice_index old.store.due place)
     waiting = work.dues place frees.within frees.some
 
     -- it is a link
@@ -114,34 +115,34 @@ module _ (g : Game) (functions : ℕ) (routed : AreRouted g functions) (alike : 
           },
         )
 
-    due_is : (found_of g old).due link.at.number link.pos.0 link.state.0 ≡ slice_index old.due.items place
-    due_is = ap (slice_index old.due.items) (sym place_here)
+    due_is : (found_of g old).due link.at.number link.pos.0 link.state.0 ≡ slice_index old.store.due place
+    due_is = ap (slice_index old.store.due) (sym place_here)
 
-    due_odd : slice_index old.due.items place ≡ 2 * moves + 1
+    due_odd : slice_index old.store.due place ≡ 2 * moves + 1
     due_odd =
         let l = work.found.right.due link.at.number link.at.context link.pos.0 link.state.0 is_link.0 is_link.1 (omega (arith, due_is, frees.some)) in
-        half_odd (slice_index old.due.items place) moves l.0 (sym due_is ∙ l.1) frees.half
+        half_odd (slice_index old.store.due place) moves l.0 (sym due_is ∙ l.1) frees.half
 
     key : (found_of g old).due link.at.number link.pos.0 link.state.0 ≡ 2 * moves + 1
     key = due_is ∙ due_odd
 
     above : AreAbove g Contexts (found_of g old) (2 * moves + 1)
-    above = subst (λ (k : ℕ). AreAbove g Contexts (found_of g old) k) due_odd (least_above g old work.table work.queued (slice_index old.due.items place) frees.least)
+    above = subst (λ (k : ℕ). AreAbove g Contexts (found_of g old) k) due_odd (least_above g old work.table (slice_index old.store.due place) frees.least)
 
     abbrev Due : ℕ → ℕ → ℕ → ℕ
-    Due = value_at g Contexts (set old.due.items place 0)
+    Due = value_at g Contexts (set old.store.due place 0)
 
     abbrev After : Found
-    After = with_keys (found_of g old) (value_at g Contexts old.asked.items) Due
+    After = with_keys (found_of g old) (value_at g Contexts old.store.asked) Due
 
     found_new : found_of g new ≡ After
     found_new = found_keys g old new frees.others
-        ∙ ap (λ (ys : List ℕ). with_keys (found_of g old) (value_at g Contexts ys) (value_at g Contexts new.due.items)) frees.asked
-        ∙ ap (λ (ys : List ℕ). with_keys (found_of g old) (value_at g Contexts old.asked.items) (value_at g Contexts ys)) frees.due
+        ∙ ap (λ (ys : List ℕ). with_keys (found_of g old) (value_at g Contexts ys) (value_at g Contexts new.store.due)) frees.asked
+        ∙ ap (λ (ys : List ℕ). with_keys (found_of g old) (value_at g Contexts old.store.asked) (value_at g Contexts ys)) frees.due
 
     is_free : Frees g Contexts (found_of g old) Due link.at.number link.pos.0 link.state.0
-    is_free = subst (λ (k : ℕ). Frees g Contexts (found_of g old) (value_at g Contexts (set old.due.items k 0)) link.at.number link.pos.0 link.state.0) (sym place_here)
-        (frees_written g Contexts (found_of g old) link.at.number link.at.context link.pos.0 link.state.0 is_link.0 is_link.1 old.due.items (omega (arith, place_here, frees.within, work.long.due)) (λ i p k. refl))
+    is_free = subst (λ (k : ℕ). Frees g Contexts (found_of g old) (value_at g Contexts (set old.store.due k 0)) link.at.number link.pos.0 link.state.0) (sym place_here)
+        (frees_written g Contexts (found_of g old) link.at.number link.at.context link.pos.0 link.state.0 is_link.0 is_link.1 old.store.due (omega (arith, place_here, frees.within, work.long.due)) (λ i p k. refl))
 
     was_ready : (call : Called) (set_is : ℕ) → IsLink g Contexts link.at.number link.at.context link.pos.0 link.state.0 call
         → IsSetOf g set_is (λ y. holds_by moves (height_back g (found_of g old) link.at.number call link.state.0 y))
@@ -150,7 +151,7 @@ module _ (g : Game) (functions : ℕ) (routed : AreRouted g functions) (alike : 
         let r = ready g functions routed alike Contexts functions_below (found_of g old) work.found moves above link.at.number link.at.context link.pos.0 link.state.0 call here key set_is read in
         record { promise = r.promise; later = r.later; past = r.past }
 
-    was_shrinking : (call : Called) → IsLink g Contexts link.at.number link.at.context link.pos.0 link.state.0 call → 0 < slice_index old.to.items place
+    was_shrinking : (call : Called) → IsLink g Contexts link.at.number link.at.context link.pos.0 link.state.0 call → 0 < slice_index old.store.to place
         → IsShrinking g Contexts (found_of g old) link.at.number link.pos.0 link.state.0 call moves
     was_shrinking call here tied =
         let l = work.found.right.due link.at.number link.at.context link.pos.0 link.state.0 call here (omega (arith, key)) in
@@ -167,9 +168,9 @@ module _ (g : Game) (functions : ℕ) (routed : AreRouted g functions) (alike : 
         table = freed_table;
         long = freed_long;
         owners = freed_owners;
-        queued = frees.queued;
+        marked = marked_on g old new (ap (λ (t : Table). t.contexts.items) frees.others.table) frees.others.marks work.marked;
         high = freed_high;
-        callers = callers_on old new frees.others.table frees.others.to frees.others.callers frees.others.lists work.callers;
+        callers = callers_on old new frees.others.table frees.others.to frees.others.lists work.callers;
         dues = freed_dues;
         right = subst (λ (t : Table). AreRight g t.contexts.items (found_of g new)) tables (subst (λ (s : Found). AreRight g Contexts s) (sym found_new)
             (freed_right g functions routed alike Contexts functions_below (found_of g old) work.found link.at.number link.at.context link.pos.0 link.state.0 is_link.0 is_link.1 Due is_free));

@@ -7,7 +7,7 @@ use Rattle.cw_game.specs.Pairs.{has, Called, call_in, is_call_in, kept_at}
 use Rattle.cw_game.proofs.Holding.{lost_rises}
 use Rattle.cw_solve.specs.declared.contexts.Context.{Context}
 use Rattle.cw_solve.specs.Contexts.{context, promise_at}
-use Rattle.cw_solve.specs.Routes.{IsState, AreRouted}
+use Rattle.cw_product.specs.Routed.{IsState, AreRouted}
 use Rattle.cw_solve.specs.Rounds.{IsCell, holds_by}
 use Rattle.cw_solve.proofs.Falls.{not_both, sooner, member_is}
 use Rattle.cw_solve.proofs.Still.{entry_cell}
@@ -32,7 +32,7 @@ module _ (g : Game) (functions : ℕ) (routed : AreRouted g functions) (alike : 
       false_of (Holds g (suc n) p q (has c.promise)) (λ holds.
       not_both (holds_in g (tells s i n) p q (has c.promise) (slice_get g.spots p))
       (in_gives g (Holds g n) (tells s i n) (has c.promise) p q (slice_get g.spots p) plain
-      (λ by r e y. tells_of n i c r.0 r.1 (next_cell g functions routed contexts i c p q by r (below i c is.at) is e) y) holds)
+      (λ by r m e y. tells_of n i c r.0 r.1 (next_cell g functions routed contexts i c p q by r (below i c is.at) is e) y) holds)
       lost)
 
   -- where a call is whose callee is lost

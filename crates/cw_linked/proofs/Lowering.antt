@@ -4,7 +4,7 @@ use Rattle.std.specs.Prelude.{slice_get}
 use Rattle.cw_game.specs.Games.{Game, Holds}
 use Rattle.cw_game.specs.Pairs.{has, Called, call_in}
 use Rattle.cw_solve.specs.declared.contexts.Context.{Context}
-use Rattle.cw_solve.specs.Routes.{AreRouted}
+use Rattle.cw_product.specs.Routed.{AreRouted}
 use Rattle.cw_solve.specs.Rounds.{IsCell}
 use Rattle.cw_linked.specs.Founds.{Found, AreAlike, IsLink, height_back, IsShrinking, AreRight, Waits, IsClosed, IsCalled, IsStanding, AllClosed, AllCalled, AllStanding}
 use Rattle.cw_linked.specs.Steps.{IsSame, with_keys, Lowers, AsksCell, AsksLink}

@@ -1,9 +1,9 @@
--- What is left to do becomes less where a link is tied, and no more where a context is added.
+-- What is left to do becomes less where a cell is taken or a link is tied, and no more where a context is added.
 use Rattle.std.proofs.Common.{◌≡◌, ℕ, zero, suc, ◌+◌, ◌-◌, ◌*◌, ◌<◌, ◌≤◌, List, [], ◌∷◌, ◌++◌, Bool, true, false, cond, ◌&&◌, ◌||◌, Some, length, set, replicate, refl, sym, ap, ◌∙◌, subst, arith, inl, inr}
 use Rattle.std.specs.Prelude.{slice_get, slice_index, nat_lt, count_by, sum_by}
 use Rattle.std.specs.List.{range_with_len}
 use Rattle.std.proofs.lemmas.Bool.{cases_lt, le-ltb, ne_eqb}
-use Rattle.std.proofs.lemmas.List.{length-append, length-replicate}
+use Rattle.std.proofs.lemmas.List.{length-set, length-append, length-replicate}
 use Rattle.std.proofs.lemmas.List.Folds.{sum_by-replicate}
 use Rattle.std.proofs.lemmas.List.FromFn.{length-range_with_len}
 use Rattle.std.proofs.lemmas.List.Sums.{sum_by-cons, sum_by-set, sum_by-append, count_by-le-length}
@@ -13,21 +13,23 @@ use Rattle.cw_game.specs.Pairs.{has, Called, kept_at}
 use Rattle.cw_solve.specs.declared.contexts.Context.{Context}
 use Rattle.cw_solve.specs.declared.table.Table.{Table}
 use Rattle.cw_solve.specs.Contexts.{context, promise_at, IsSetOf}
-use Rattle.cw_solve.specs.Routes.{IsState, AreRouted}
+use Rattle.cw_product.specs.Routed.{IsState, AreRouted}
 use Rattle.cw_solve.specs.Rounds.{holds_by}
 use Rattle.cw_solve.specs.Tables.{is_none}
 use Rattle.cw_solve.proofs.Falls.{not_both, sooner, return_state, member_is}
 use Rattle.cw_solve.proofs.Fresh.{none_written}
 use Rattle.cw_linked.specs.declared.work.Cell.{Cell}
 use Rattle.cw_linked.specs.declared.work.Work.{Work}
-use Rattle.cw_linked.specs.Founds.{IsLink, IsTied, height_back}
+use Rattle.cw_linked.specs.Founds.{AreAlike, IsLink, IsTied, height_back}
 use Rattle.cw_linked.specs.Measures.{states_in, promised_in, ties_left, work_left}
+use Rattle.cw_linked.specs.Popped.{TakesCell, FreesLink, IsWork}
 use Rattle.cw_linked.specs.Queues.{found_of}
 use Rattle.cw_linked.specs.Returns.{AreFew}
 use Rattle.cw_linked.specs.Tied.{IsFreed}
 use Rattle.cw_linked.specs.Works.{place_at}
 use Rattle.cw_linked.proofs.Bounding.{place_is}
 use Rattle.cw_linked.proofs.Callers.{is_tied}
+use Rattle.cw_linked.proofs.Takings.{is_table}
 
 -- Counts and sums.
 
@@ -77,23 +79,41 @@ sum_same f h most same (x ∷ xs) low =
 pub states_most : (g : Game) (set : ℕ) → states_in g set ≤ g.states.count
 states_most g set = let l = count_by-le-length (has set) (range_with_len 0 g.states.count) in let e = length-range_with_len 0 g.states.count in omega (arith, l, e)
 
--- Nothing but keys, buckets and lists changes.
+-- A cell is taken.
 
-pub kept_left : (g : Game) (old new : Work) → new.table ≡ old.table → new.to.items ≡ old.to.items → work_left g new ≡ work_left g old
+module _ (g : Game) (functions : ℕ) (routed : AreRouted g functions) (alike : AreAlike g) (old new : Work) (work : IsWork g old) (place height : ℕ) (takes : TakesCell old new place height) where
+  pub taken_less : work_left g new < work_left g old
+  taken_less =
+      let after = is_table g functions routed alike old new work place height takes in
+      let long = ap (λ (ys : List ℕ). length ys) takes.heights in
+      let same = length-set old.table.heights.items place height in
+      let all : length new.table.heights.items ≡ length old.table.heights.items = long ∙ same in
+      let counted = after.counted in
+      let before = work.table.counted in
+      let written = takes.written in
+      let sums : sum_by (ties_left g new.table.contexts.items) new.store.to ≡ sum_by (ties_left g old.table.contexts.items) old.store.to
+      = ap (λ (cs : List Context). sum_by (ties_left g cs) new.store.to) takes.contexts ∙ ap (λ (ys : List ℕ). sum_by (ties_left g old.table.contexts.items) ys) takes.to in
+      let room : (4194304 - length new.table.heights.items) * (g.states.count + 2) ≡ (4194304 - length old.table.heights.items) * (g.states.count + 2)
+      = ap (λ (n : ℕ). (4194304 - n) * (g.states.count + 2)) all in
+      omega (arith, room, sums, counted, before, written, all)
+
+-- Nothing but keys and lists changes.
+
+pub kept_left : (g : Game) (old new : Work) → new.table ≡ old.table → new.store.to ≡ old.store.to → work_left g new ≡ work_left g old
 kept_left g old new table to =
-    ap (λ (t : Table). (4194304 - length t.heights.items) * (g.states.count + 2) + count_by is_none t.heights.items + sum_by (ties_left g t.contexts.items) new.to.items) table
+    ap (λ (t : Table). (4194304 - length t.heights.items) * (g.states.count + 2) + count_by is_none t.heights.items + sum_by (ties_left g t.contexts.items) new.store.to) table
     ∙ ap (λ (ys : List ℕ). (4194304 - length old.table.heights.items) * (g.states.count + 2) + count_by is_none old.table.heights.items + sum_by (ties_left g old.table.contexts.items) ys) to
 
 -- A link is tied to a context whose promise is one of its fewer ties.
 
-pub tied_less : (g : Game) (old new : Work) (place number : ℕ) → new.table ≡ old.table → new.to.items ≡ set old.to.items place (number + 1) → place < length old.to.items
-    → promised_in g (slice_get old.table.contexts.items number) < ties_left g old.table.contexts.items (slice_index old.to.items place) → work_left g new < work_left g old
+pub tied_less : (g : Game) (old new : Work) (place number : ℕ) → new.table ≡ old.table → new.store.to ≡ set old.store.to place (number + 1) → place < length old.store.to
+    → promised_in g (slice_get old.table.contexts.items number) < ties_left g old.table.contexts.items (slice_index old.store.to place) → work_left g new < work_left g old
 tied_less g old new place number table to within less =
-    let now : work_left g new ≡ (4194304 - length old.table.heights.items) * (g.states.count + 2) + count_by is_none old.table.heights.items + sum_by (ties_left g old.table.contexts.items) (set old.to.items place (suc number))
-    = ap (λ (t : Table). (4194304 - length t.heights.items) * (g.states.count + 2) + count_by is_none t.heights.items + sum_by (ties_left g t.contexts.items) new.to.items) table
+    let now : work_left g new ≡ (4194304 - length old.table.heights.items) * (g.states.count + 2) + count_by is_none old.table.heights.items + sum_by (ties_left g old.table.contexts.items) (set old.store.to place (suc number))
+    = ap (λ (t : Table). (4194304 - length t.heights.items) * (g.states.count + 2) + count_by is_none t.heights.items + sum_by (ties_left g t.contexts.items) new.store.to) table
     ∙ ap (λ (ys : List ℕ). (4194304 - length old.table.heights.items) * (g.states.count + 2) + count_by is_none old.table.heights.items + sum_by (ties_left g old.table.contexts.items) ys)
-    (to ∙ ap (λ (n : ℕ). set old.to.items place n) (next number)) in
-    let sums = sum_by-set (ties_left g old.table.contexts.items) old.to.items place (suc number) 0 within in
+    (to ∙ ap (λ (n : ℕ). set old.store.to place n) (next number)) in
+    let sums = sum_by-set (ties_left g old.table.contexts.items) old.store.to place (suc number) 0 within in
     omega (arith, now, sums, less)
   where
     next : (n : ℕ) → n + 1 ≡ suc n
@@ -112,8 +132,8 @@ ties_on g contexts c (suc i) le = ap (promised_in g) (before contexts i (omega (
     before (x ∷ xs) (suc i) lt = before xs i (omega (arith, lt))
 
 pub added_left : (g : Game) (old new : Work) (c : Context) (many : ℕ) → new.table.contexts.items ≡ old.table.contexts.items ++ c ∷ []
-    → new.table.heights.items ≡ old.table.heights.items ++ replicate many 0 → new.to.items ≡ old.to.items ++ replicate many 0
-    → length old.table.heights.items + many ≤ 4194304 → length old.to.items ≡ length old.table.heights.items → AreFew old → work_left g new ≡ work_left g old
+    → new.table.heights.items ≡ old.table.heights.items ++ replicate many 0 → new.store.to ≡ old.store.to ++ replicate many 0
+    → length old.table.heights.items + many ≤ 4194304 → length old.store.to ≡ length old.table.heights.items → AreFew old → work_left g new ≡ work_left g old
 added_left g old new c many contexts heights to room long few =
     let cs = old.table.contexts.items in
     let hs = old.table.heights.items in
@@ -121,11 +141,11 @@ added_left g old new c many contexts heights to room long few =
     = ap (λ (ys : List ℕ). length ys) heights ∙ length-append hs (replicate many 0) ∙ ap (λ (n : ℕ). length hs + n) (length-replicate {A = ℕ} many 0) in
     let none : count_by is_none new.table.heights.items ≡ count_by is_none hs + many
     = ap (λ (ys : List ℕ). count_by is_none ys) heights ∙ sum_by-append (λ (x : ℕ). cond (is_none x) 1 0) hs (replicate many 0) ∙ ap (λ (n : ℕ). count_by is_none hs + n) (none_written many) in
-    let same : sum_by (ties_left g (cs ++ c ∷ [])) old.to.items ≡ sum_by (ties_left g cs) old.to.items
-    = sum_same (ties_left g (cs ++ c ∷ [])) (ties_left g cs) (length cs) (ties_on g cs c) old.to.items (λ k lt. few k (omega (arith, lt, long))) in
-    let ties : sum_by (ties_left g new.table.contexts.items) new.to.items ≡ sum_by (ties_left g cs) old.to.items + many * (g.states.count + 1)
-    = ap (λ (ys : List Context). sum_by (ties_left g ys) new.to.items) contexts ∙ ap (λ (ys : List ℕ). sum_by (ties_left g (cs ++ c ∷ [])) ys) to
-    ∙ sum_by-append (ties_left g (cs ++ c ∷ [])) old.to.items (replicate many 0) ∙ both _ _ _ _ same (sum_by-replicate (ties_left g (cs ++ c ∷ [])) many 0) in
+    let same : sum_by (ties_left g (cs ++ c ∷ [])) old.store.to ≡ sum_by (ties_left g cs) old.store.to
+    = sum_same (ties_left g (cs ++ c ∷ [])) (ties_left g cs) (length cs) (ties_on g cs c) old.store.to (λ k lt. few k (omega (arith, lt, long))) in
+    let ties : sum_by (ties_left g new.table.contexts.items) new.store.to ≡ sum_by (ties_left g cs) old.store.to + many * (g.states.count + 1)
+    = ap (λ (ys : List Context). sum_by (ties_left g ys) new.store.to) contexts ∙ ap (λ (ys : List ℕ). sum_by (ties_left g (cs ++ c ∷ [])) ys) to
+    ∙ sum_by-append (ties_left g (cs ++ c ∷ [])) old.store.to (replicate many 0) ∙ both _ _ _ _ same (sum_by-replicate (ties_left g (cs ++ c ∷ [])) many 0) in
     let rooms = room_for (length hs) many (g.states.count) room in
     let less : (4194304 - length new.table.heights.items) * (g.states.count + 2) ≡ (4194304 - (length hs + many)) * (g.states.count + 2) = ap (λ (n : ℕ). (4194304 - n) * (g.states.count + 2)) longer in
     let product : many * (g.states.count + 2) ≡ many * (g.states.count + 1) + many = times many g.states.count in
@@ -142,7 +162,7 @@ added_left g old new c many contexts heights to room long few =
 
 -- A link stops waiting: the promise of its call has fewer states than the link has ties left.
 
-module _ (g : Game) (functions : ℕ) (routed : AreRouted g functions) (w : Work) (link : Cell) (place moves : ℕ) (freed : IsFreed g w link place moves) (more : 0 < slice_index w.to.items place → 0 < moves) where
+module _ (g : Game) (functions : ℕ) (routed : AreRouted g functions) (w : Work) (link : Cell) (place moves : ℕ) (freed : IsFreed g w link place moves) (more : 0 < slice_index w.store.to place → 0 < moves) where
   abbrev Contexts : List Context
   Contexts = w.table.contexts.items
 
@@ -154,15 +174,15 @@ module _ (g : Game) (functions : ℕ) (routed : AreRouted g functions) (w : Work
     back_state : (x : ℕ) → x < g.states.count → IsState g (returned g.states (kept_at call.split link.state.0) x)
     back_state x lt = return_state g functions routed link.pos.0 x link.state.0 call is.calls lt is.cell.state
 
-    fewer : (to : ℕ) → slice_index w.to.items place ≡ suc to → states_in g states < promised_in g (slice_get Contexts to)
+    fewer : (to : ℕ) → slice_index w.store.to place ≡ suc to → states_in g states < promised_in g (slice_get Contexts to)
     fewer to e =
-        let tied : 0 < slice_index w.to.items place = omega (arith, e) in
+        let tied : 0 < slice_index w.store.to place = omega (arith, e) in
         let s = freed.shrinks call is tied in
         let before = s.0 in
         let x = s.1 in
-        let value : (found_of g w).to link.at.number link.pos.0 link.state.0 ≡ to = (let v = ap (slice_index w.to.items) (sym place_here) in omega (arith, v, e)) in
+        let value : (found_of g w).to link.at.number link.pos.0 link.state.0 ≡ to = (let v = ap (slice_index w.store.to) (sym place_here) in omega (arith, v, e)) in
         let goes : slice_get Contexts to ≡ Some (context call.function before) = ap (slice_get Contexts) (sym value) ∙ s.2 in
-        let is_tied_here : IsTied (found_of g w) link.at.number link.pos.0 link.state.0 = is_tied (slice_index w.to.items (place_at g Contexts link.at.number link.pos.0 link.state.0)) to (ap (slice_index w.to.items) (sym place_here) ∙ e) in
+        let is_tied_here : IsTied (found_of g w) link.at.number link.pos.0 link.state.0 = is_tied (slice_index w.store.to (place_at g Contexts link.at.number link.pos.0 link.state.0)) to (ap (slice_index w.store.to) (sym place_here) ∙ e) in
         let l = freed.firm.right.linked link.at.number link.at.context link.pos.0 link.state.0 call is is_tied_here in
         let same : l.0 ≡ before = ap (λ (c : Context). c.promise) (same_Some (context call.function l.0) (context call.function before) (sym l.1 ∙ s.2)) in
         let wave = (found_of g w).wave link.at.number link.pos.0 link.state.0 in
@@ -193,9 +213,16 @@ module _ (g : Game) (functions : ℕ) (routed : AreRouted g functions) (w : Work
             ]
 
     -- fewer than are left
-    pub fewer_states : states_in g states < ties_left g Contexts (slice_index w.to.items place)
-    fewer_states = by (slice_index w.to.items place) refl
+    pub fewer_states : states_in g states < ties_left g Contexts (slice_index w.store.to place)
+    fewer_states = by (slice_index w.store.to place) refl
       where
-        by : (to : ℕ) → slice_index w.to.items place ≡ to → states_in g states < ties_left g Contexts to
+        by : (to : ℕ) → slice_index w.store.to place ≡ to → states_in g states < ties_left g Contexts to
         by zero e = let m = states_most g states in omega (arith, m)
         by (suc to) e = fewer to e
+
+-- The least key's link that goes to a context waited for some moves.
+pub some_moves : (g : Game) (old new : Work) (place moves : ℕ) → IsWork g old → FreesLink old new place moves → 0 < slice_index new.store.to place → 0 < moves
+some_moves g old new place moves work frees tied =
+    let high = (work.dues place frees.within frees.some).1 (subst (λ (ys : List ℕ). 0 < slice_index ys place) frees.others.to tied) in
+    let half = frees.half in
+    omega (arith, high, half)

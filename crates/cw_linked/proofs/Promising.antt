@@ -1,7 +1,7 @@
--- Whether the promise of a link's context has a state, and where a call returns.
-use Rattle.std.proofs.Common.{◌≡◌, ℕ, ◌-◌, ◌<◌, ◌≤◌, Bool, true, false, Some, length, get_or, sym, ap, ◌∙◌, arith}
-use Rattle.std.specs.Prelude.{slice_get, slice_index}
-use Rattle.std.proofs.lemmas.List.{get_or_default}
+-- A promise is made state by state; whether the promise of a link's context has a state, and where a call returns.
+use Rattle.std.proofs.Common.{◌≡◌, ℕ, ◌+◌, ◌-◌, ◌<◌, ◌≤◌, Bool, true, false, ◌&&◌, ◌||◌, nat_lt, Some, length, get_or, sym, ap, ap₂, ◌∙◌, arith, inl, inr}
+use Rattle.std.specs.Prelude.{slice_get, slice_index, nat_eq}
+use Rattle.std.proofs.lemmas.Bool.{cases_eq, cases_lt, eq-eqb, ne_eqb, lt-ltb, le-ltb}
 use Rattle.std.proofs.lemmas.Option.{slice_get-get_or, get_or_from_slice_get}
 use Rattle.cw_game.specs.declared.spots.Spot.{Spot}
 use Rattle.cw_game.specs.Games.{Game}
@@ -12,11 +12,37 @@ use Rattle.cw_solve.proofs.Falls.{call_is}
 use Rattle.cw_linked.specs.declared.work.Work.{Work}
 use Rattle.cw_linked.specs.Returns.{IsPromised}
 
-module _ (w : Work) (link x to : ℕ) (c : Context) (read : to ≡ get_or w.to.items link to) (within : link < length w.to.items) (some : to ≡ 0 → ⊥) (low : to ≤ length w.table.contexts.items)
-    (at : c ≡ get_or w.table.contexts.items (to - 1) c) where
-  value : to ≡ slice_index w.to.items link
-  value = read ∙ get_or_default w.to.items link to 0 within
+-- Of a set that has the numbers below x for which something holds: with x it has one more, if it holds for x, ..
+pub one_more_in : (old holds : ℕ → Bool) (x : ℕ) → ((y : ℕ) → old y ≡ (nat_lt y x && holds y)) → holds x ≡ true → (y : ℕ) → (nat_eq y x || old y) ≡ (nat_lt y (x + 1) && holds y)
+one_more_in old holds x is here y =
+    elim (cases_lt y x) [
+      | inl lt ↦
+          ap₂ (λ (a b : Bool). a || b) (ne_eqb y x (λ e. omega (arith, e, lt))) (is y ∙ ap (λ (b : Bool). b && holds y) (lt-ltb y x lt))
+          ∙ sym (ap (λ (b : Bool). b && holds y) (lt-ltb y (x + 1) (omega (arith, lt))))
+      | inr ge ↦ elim (cases_eq y x) [
+        | inl e ↦ ap (λ (b : Bool). b || old y) (eq-eqb y x e) ∙ sym (ap₂ (λ (a b : Bool). a && b) (lt-ltb y (x + 1) (omega (arith, e))) (ap holds e ∙ here))
+        | inr ne ↦
+            ap₂ (λ (a b : Bool). a || b) (ne_eqb y x ne) (is y ∙ ap (λ (b : Bool). b && holds y) (le-ltb y x ge))
+            ∙ sym (ap (λ (b : Bool). b && holds y) (le-ltb y (x + 1) (omega (arith, ge, ne))))
+      ]
+    ]
 
+-- .. and is the same if it doesn't.
+pub one_more_out : (old holds : ℕ → Bool) (x : ℕ) → ((y : ℕ) → old y ≡ (nat_lt y x && holds y)) → holds x ≡ false → (y : ℕ) → old y ≡ (nat_lt y (x + 1) && holds y)
+one_more_out old holds x is here y =
+    is y
+    ∙ elim (cases_lt y x) [
+      | inl lt ↦ ap (λ (b : Bool). b && holds y) (lt-ltb y x lt) ∙ sym (ap (λ (b : Bool). b && holds y) (lt-ltb y (x + 1) (omega (arith, lt))))
+      | inr ge ↦
+          ap (λ (b : Bool). b && holds y) (le-ltb y x ge)
+          ∙ elim (cases_eq y x) [
+            | inl e ↦ sym (ap₂ (λ (a b : Bool). a && b) (lt-ltb y (x + 1) (omega (arith, e))) (ap holds e ∙ here))
+            | inr ne ↦ sym (ap (λ (b : Bool). b && holds y) (le-ltb y (x + 1) (omega (arith, ge, ne))))
+          ]
+    ]
+
+module _ (w : Work) (link x to : ℕ) (c : Context) (value : to ≡ slice_index w.store.to link) (some : to ≡ 0 → ⊥) (low : to ≤ length w.table.contexts.items)
+    (at : c ≡ get_or w.table.contexts.items (to - 1) c) where
   pub is_promised : has c.promise x ≡ true → IsPromised w link x
   is_promised member = (
     c,

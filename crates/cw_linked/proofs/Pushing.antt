@@ -1,5 +1,5 @@
 -- A context is added to the vectors: what stands there then.
-use Rattle.std.proofs.Common.{◌≡◌, ℕ, ◌+◌, ◌-◌, ◌*◌, ◌<◌, ◌≤◌, List, [], ◌∷◌, ◌++◌, cond, length, get_or, take, replicate, refl, sym, ap, ◌∙◌, subst, arith, inl, inr}
+use Rattle.std.proofs.Common.{◌≡◌, ℕ, ◌+◌, ◌-◌, ◌*◌, ◌<◌, ◌≤◌, List, [], ◌∷◌, ◌++◌, cond, true, length, get_or, take, replicate, refl, sym, ap, ◌∙◌, subst, arith, inl, inr}
 use Rattle.std.specs.Prelude.{slice_get, slice_index, count_by}
 use Rattle.std.proofs.lemmas.Bool.{cases_lt}
 use Rattle.std.proofs.lemmas.List.{length-replicate, length-append, length_push, get_or-replicate, get_or_past, get_or_append_left, get_or-append_right, take-append-le, take_all}
@@ -7,18 +7,20 @@ use Rattle.std.proofs.lemmas.List.Sums.{sum_by-append, sum_by_push}
 use Rattle.std.proofs.lemmas.Option.{slice_get_within}
 use Rattle.cw_game.specs.Games.{Game}
 use Rattle.cw_game.specs.Pairs.{Called}
+use Rattle.cw_marks.specs.Marks.{is_marked}
 use Rattle.cw_solve.specs.declared.contexts.Context.{Context}
 use Rattle.cw_solve.specs.Contexts.{size, cells_of, AreNeeded}
-use Rattle.cw_solve.specs.Rounds.{base, IsCell}
+use Rattle.cw_solve.specs.Rounds.{base, positions, IsCell}
 use Rattle.cw_solve.specs.Tables.{is_none, IsTable, AreTabled}
 use Rattle.cw_solve.proofs.Fresh.{none_written, values_more}
 use Rattle.cw_solve.proofs.Slots.{within, slot_within}
 use Rattle.cw_linked.specs.declared.work.Work.{Work}
 use Rattle.cw_linked.specs.Added.{AreBlocks, Pushes}
+use Rattle.cw_linked.specs.Calls.{AreCallers}
 use Rattle.cw_linked.specs.Founds.{IsLink}
-use Rattle.cw_linked.specs.Queues.{AreLong, IsOwner, AreOwners, AreHigh, IsLinkAt, AreDue}
+use Rattle.cw_linked.specs.Queues.{AreLong, IsOwner, AreOwners, AreHigh, IsLinkAt, AreMarked, AreDue}
 use Rattle.cw_linked.specs.Works.{AreUpTo, place_at, value_at}
-use Rattle.cw_linked.proofs.Adding.{before_push, after_push}
+use Rattle.cw_linked.proofs.Adding.{before_push, after_push, push_cases}
 use Rattle.cw_linked.proofs.Bounding.{place_is}
 
 -- no number of a longer vector is above
@@ -57,7 +59,7 @@ module _ (g : Game) (contexts : List Context) (new : Context) where
   place_on i c p q is =
       let lt = slice_get_within contexts i c is.at in
       place_is g Longer i c p q (before_push contexts new i c is.at)
-      ∙ ap (λ (b : ℕ). b + ((p - g.entry c.function) * g.states.count + q)) (base_before i (omega (arith, lt)))
+      ∙ ap (λ (b : ℕ). b + (q * positions g c.function + (p - g.entry c.function))) (base_before i (omega (arith, lt)))
       ∙ sym (place_is g contexts i c p q is.at)
 
   -- what stood for a cell stands there still
@@ -73,14 +75,14 @@ module _ (g : Game) (contexts : List Context) (new : Context) where
   value_new values v long p q is =
       let at = after_push contexts new in
       let row = within g Longer (length contexts) new p q is in
-      let place : place_at g Longer (length contexts) p q ≡ length values + ((p - g.entry new.function) * g.states.count + q)
-      = place_is g Longer (length contexts) new p q at ∙ ap (λ (b : ℕ). b + ((p - g.entry new.function) * g.states.count + q)) (base_end ∙ sym long) in
-      let rest : place_at g Longer (length contexts) p q - length values ≡ (p - g.entry new.function) * g.states.count + q = omega (arith, place) in
+      let place : place_at g Longer (length contexts) p q ≡ length values + (q * positions g new.function + (p - g.entry new.function))
+      = place_is g Longer (length contexts) new p q at ∙ ap (λ (b : ℕ). b + (q * positions g new.function + (p - g.entry new.function))) (base_end ∙ sym long) in
+      let rest : place_at g Longer (length contexts) p q - length values ≡ q * positions g new.function + (p - g.entry new.function) = omega (arith, place) in
       get_or-append_right values (replicate (size g new.function) v) (length values) (place_at g Longer (length contexts) p q) 0 refl (omega (arith, place))
       ∙ ap (λ (k : ℕ). get_or (replicate (size g new.function) v) k 0) rest
-      ∙ get_or-replicate (size g new.function) ((p - g.entry new.function) * g.states.count + q) v 0 row
+      ∙ get_or-replicate (size g new.function) (q * positions g new.function + (p - g.entry new.function)) v 0 row
 
-module _ (g : Game) (old new : Work) (c : Context) (blocks : AreBlocks g old.table) (pushes : Pushes old new c (size g c.function)) where
+module _ (g : Game) (old new : Work) (c : Context) (blocks : AreBlocks g old.table) (pushes : Pushes g old new c (size g c.function)) where
   abbrev Contexts : List Context
   Contexts = old.table.contexts.items
 
@@ -125,23 +127,24 @@ module _ (g : Game) (old new : Work) (c : Context) (blocks : AreBlocks g old.tab
 
   pub pushed_long : AreLong old → AreLong new
   pushed_long long = record {
+    marks = pushes.places.long ∙ ap (λ (n : ℕ). n + many) long.marks ∙ sym cells;
     owners = longer_by old.owners.items new.owners.items (length Contexts) long.owners pushes.owners;
-    asked = longer_by old.asked.items new.asked.items 0 long.asked pushes.asked;
-    due = longer_by old.due.items new.due.items 0 long.due pushes.due;
-    to = longer_by old.to.items new.to.items 0 long.to pushes.to;
-    waves = longer_by old.waves.items new.waves.items 0 long.waves pushes.waves;
+    asked = longer_by old.store.asked new.store.asked 0 long.asked pushes.places.asked;
+    due = longer_by old.store.due new.store.due 0 long.due pushes.places.due;
+    to = longer_by old.store.to new.store.to 0 long.to pushes.places.to;
+    waves = longer_by old.store.waves new.store.waves 0 long.waves pushes.places.waves;
   }
 
   pub pushed_high : AreHigh old → AreHigh new
   pushed_high high = record {
     heights = subst (λ (n : ℕ). AreUpTo new.table.heights.items n) (sym pushes.written) (subst (λ (ys : List ℕ). AreUpTo ys old.table.written) (sym pushes.heights)
         (up_to_append old.table.heights.items many 0 old.table.written (omega arith) high.heights));
-    asked = subst (λ (n : ℕ). AreUpTo new.asked.items (2 * n + 2)) (sym pushes.written) (subst (λ (ys : List ℕ). AreUpTo ys (2 * old.table.written + 2)) (sym pushes.asked)
-        (up_to_append old.asked.items many 0 (2 * old.table.written + 2) (omega arith) high.asked));
-    due = subst (λ (n : ℕ). AreUpTo new.due.items (2 * n + 1)) (sym pushes.written) (subst (λ (ys : List ℕ). AreUpTo ys (2 * old.table.written + 1)) (sym pushes.due)
-        (up_to_append old.due.items many 0 (2 * old.table.written + 1) (omega arith) high.due));
-    waves = subst (λ (n : ℕ). AreUpTo new.waves.items n) (sym pushes.written) (subst (λ (ys : List ℕ). AreUpTo ys old.table.written) (sym pushes.waves)
-        (up_to_append old.waves.items many 0 old.table.written (omega arith) high.waves));
+    asked = subst (λ (n : ℕ). AreUpTo new.store.asked (2 * n + 2)) (sym pushes.written) (subst (λ (ys : List ℕ). AreUpTo ys (2 * old.table.written + 2)) (sym pushes.places.asked)
+        (up_to_append old.store.asked many 0 (2 * old.table.written + 2) (omega arith) high.asked));
+    due = subst (λ (n : ℕ). AreUpTo new.store.due (2 * n + 1)) (sym pushes.written) (subst (λ (ys : List ℕ). AreUpTo ys (2 * old.table.written + 1)) (sym pushes.places.due)
+        (up_to_append old.store.due many 0 (2 * old.table.written + 1) (omega arith) high.due));
+    waves = subst (λ (n : ℕ). AreUpTo new.store.waves n) (sym pushes.written) (subst (λ (ys : List ℕ). AreUpTo ys old.table.written) (sym pushes.places.waves)
+        (up_to_append old.store.waves many 0 old.table.written (omega arith) high.waves));
   }
 
   -- each new place is one of the new context
@@ -174,20 +177,58 @@ module _ (g : Game) (old new : Work) (c : Context) (blocks : AreBlocks g old.tab
         (let b = base_before g Contexts c (i + 1) (omega (arith, o.0)) in omega (arith, b, o.2)),
       )
 
+  -- and each of its links' places is marked
+  pub pushed_marked : AreLong old → AreMarked g old → AreMarked g new
+  pushed_marked long marked k link =
+      let l = subst (λ (cs : List Context). IsLinkAt g cs k) pushes.contexts link in
+      elim (push_cases Contexts c l.0 l.1 l.5.cell.at) [
+        | inl h ↦
+            let before : IsLink g Contexts l.0 l.1 l.2 l.3 l.4 = record { cell = record { at = h; of = l.5.cell.of; state = l.5.cell.state }; calls = l.5.calls; class = l.5.class } in
+            let place : k ≡ place_at g Contexts l.0 l.2 l.3 = l.6 ∙ place_on g Contexts c l.0 l.1 l.2 l.3 before.cell in
+            let is = place_is g Contexts l.0 l.1 l.2 l.3 h in
+            let inside = slot_within g Contexts l.0 l.1 l.2 l.3 before.cell in
+            pushes.places.kept k (omega (arith, place, is, inside, blocks.cells, long.marks)) ∙ marked k (l.0, l.1, l.2, l.3, l.4, before, place)
+        | inr h ↦
+            let there : IsLink g More (length Contexts) c l.2 l.3 l.4
+            = subst (λ (d : Context). IsLink g More (length Contexts) d l.2 l.3 l.4) (sym h.1) (subst (λ (i : ℕ). IsLink g More i l.1 l.2 l.3 l.4) h.0 l.5) in
+            let is = place_is g More (length Contexts) c l.2 l.3 there.cell.at in
+            let at : k ≡ place_at g More (length Contexts) l.2 l.3 = l.6 ∙ ap (λ (i : ℕ). place_at g More i l.2 l.3) h.0 in
+            let place : k ≡ length old.store.marks + (l.3 * positions g c.function + (l.2 - g.entry c.function)) = omega (arith, at, is, base_end g Contexts c, blocks.cells, long.marks) in
+            subst (λ (y : ℕ). is_marked new.store.marks y ≡ true) (sym place)
+            (pushes.marked l.2 l.3 l.4 there.cell.of there.calls there.class (within g More (length Contexts) c l.2 l.3 there.cell))
+      ]
+
+  -- and there is a list for it
+  pub pushed_callers : AreLong old → AreCallers old → AreCallers new
+  pushed_callers long callers = record {
+    more = omega (arith, longer, pushes.lists);
+    few = λ k lt. elim (cases_lt k (length old.table.heights.items)) [
+      | inl before ↦
+          let e : slice_index new.store.to k ≡ slice_index old.store.to k = ap (λ (ys : List ℕ). slice_index ys k) pushes.places.to ∙ get_or_append_left old.store.to (replicate many 0) 0 k (omega (arith, before, long.to)) in
+          let f = callers.few k before in
+          omega (arith, e, f, longer)
+      | inr after ↦
+          let e : slice_index new.store.to k ≡ 0 = ap (λ (ys : List ℕ). slice_index ys k) pushes.places.to
+          ∙ get_or-append_right old.store.to (replicate many 0) (length old.store.to) k 0 refl (omega (arith, after, long.to))
+          ∙ get_or-replicate many (k - length old.store.to) 0 0 (omega (arith, after, long.to, lt, cells)) in
+          omega (arith, e)
+    ];
+  }
+
   pub pushed_dues : AreLong old → AreDue g old → AreDue g new
   pushed_dues long dues k lt some =
       elim (cases_lt k (length old.table.heights.items)) [
         | inl before ↦
-            let e : slice_index new.due.items k ≡ slice_index old.due.items k = ap (λ (ys : List ℕ). slice_index ys k) pushes.due ∙ get_or_append_left old.due.items (replicate many 0) 0 k (omega (arith, before, long.due)) in
-            let t : slice_index new.to.items k ≡ slice_index old.to.items k = ap (λ (ys : List ℕ). slice_index ys k) pushes.to ∙ get_or_append_left old.to.items (replicate many 0) 0 k (omega (arith, before, long.to)) in
+            let e : slice_index new.store.due k ≡ slice_index old.store.due k = ap (λ (ys : List ℕ). slice_index ys k) pushes.places.due ∙ get_or_append_left old.store.due (replicate many 0) 0 k (omega (arith, before, long.due)) in
+            let t : slice_index new.store.to k ≡ slice_index old.store.to k = ap (λ (ys : List ℕ). slice_index ys k) pushes.places.to ∙ get_or_append_left old.store.to (replicate many 0) 0 k (omega (arith, before, long.to)) in
             let h = dues k before (omega (arith, some, e)) in (
               subst (λ (cs : List Context). IsLinkAt g cs k) (sym pushes.contexts) (link_there k h.0),
               λ tied. let low = h.1 (omega (arith, tied, t)) in omega (arith, low, e),
             )
         | inr after ↦
-            let e : slice_index new.due.items k ≡ 0 = ap (λ (ys : List ℕ). slice_index ys k) pushes.due
-            ∙ get_or-append_right old.due.items (replicate many 0) (length old.due.items) k 0 refl (omega (arith, after, long.due))
-            ∙ get_or-replicate many (k - length old.due.items) 0 0 (omega (arith, after, long.due, lt, cells)) in
+            let e : slice_index new.store.due k ≡ 0 = ap (λ (ys : List ℕ). slice_index ys k) pushes.places.due
+            ∙ get_or-append_right old.store.due (replicate many 0) (length old.store.due) k 0 refl (omega (arith, after, long.due))
+            ∙ get_or-replicate many (k - length old.store.due) 0 0 (omega (arith, after, long.due, lt, cells)) in
             absurd (omega (arith, e, some))
       ]
     where

@@ -8,12 +8,13 @@ use Rattle.cw_game.specs.declared.spots.Spot.{Spot}
 use Rattle.cw_game.specs.Games.{Game, returned}
 use Rattle.cw_game.specs.Pairs.{has, Called, call_in, kept_at}
 use Rattle.cw_links.specs.Lists.{Chained}
+use Rattle.cw_marks.specs.Marks.{is_marked, rank}
 use Rattle.cw_product.specs.declared.turn.Turn.{Turn}
 use Rattle.cw_product.specs.Moves.{pos_id, turn_in}
 use Rattle.cw_solve.specs.declared.contexts.Context.{Context}
 use Rattle.cw_solve.specs.declared.table.Table.{Table}
-use Rattle.cw_solve.specs.Contexts.{context, IsOf, promise_at, IsSetOf}
-use Rattle.cw_solve.specs.Routes.{AreRouted}
+use Rattle.cw_product.specs.Routed.{AreRouted, IsOf}
+use Rattle.cw_solve.specs.Contexts.{context, promise_at, IsSetOf}
 use Rattle.cw_solve.specs.Rounds.{slot}
 use Rattle.cw_solve.specs.Tables.{IsTable, HasCell}
 use Rattle.cw_solve.proofs.Falls.{not_both}
@@ -22,7 +23,7 @@ use Rattle.cw_linked.specs.declared.work.Cell.{Cell}
 use Rattle.cw_linked.specs.declared.work.Work.{Work}
 use Rattle.cw_linked.specs.Calls.{CallsLeft, AsksCaller}
 use Rattle.cw_linked.specs.Founds.{Found, class_of, AreAlike, IsLink, height_back, GoesTo, IsShrinking, AreRight, Waits, IsStanding, Nothing, AllCalled, AllStanding}
-use Rattle.cw_linked.specs.Queues.{found_of, AreQueued, AreLong, AreHigh, AsksForLink, LowersKeys}
+use Rattle.cw_linked.specs.Queues.{found_of, IsLinkAt, AreMarked, AreLong, AreHigh, AsksForLink, LowersKeys}
 use Rattle.cw_linked.specs.Returns.{IsPromised, Returns, AsksReturn}
 use Rattle.cw_linked.specs.Steps.{ReturnsThere}
 use Rattle.cw_linked.specs.Works.{heights_of, place_at, value_at}
@@ -64,19 +65,23 @@ module _ (g : Game) (functions : ℕ) (routed : AreRouted g functions) (alike : 
   tables = sym step.others.table
 
   -- of the calls whose link goes there
-  pub asked_call_left : (edge : ℕ) (back : List ℕ) (cell : Cell) → AsksCaller g mid new edge cell
-      → AllCalled g Contexts (found_of g mid) (CallsLeft g Contexts (found_of g w) (edge ∷ back) cell.at.number cell.pos.0 cell.state.0)
-      → AllCalled g Contexts (found_of g new) (CallsLeft g Contexts (found_of g w) back cell.at.number cell.pos.0 cell.state.0)
-  asked_call_left edge back cell asks all =
+  pub asked_call_left : (edge place : ℕ) (back : List ℕ) (cell : Cell) → AreMarked g w → is_marked mid.store.marks place ≡ true → rank mid.store.marks place ≡ edge → AsksCaller g mid new place cell
+      → AllCalled g Contexts (found_of g mid) (CallsLeft g Contexts w.store.marks (found_of g w) (edge ∷ back) cell.at.number cell.pos.0 cell.state.0)
+      → AllCalled g Contexts (found_of g new) (CallsLeft g Contexts w.store.marks (found_of g w) back cell.at.number cell.pos.0 cell.state.0)
+  asked_call_left edge place back cell marked here its asks all =
+      let marks = w.store.marks in
       let keys = found_keys g w mid step.others in
-      let now : AllCalled g Contexts (found_of g mid) (CallsLeft g Contexts (found_of g mid) (edge ∷ back) cell.at.number cell.pos.0 cell.state.0)
-      = subst (λ (y : Found). AllCalled g Contexts (found_of g mid) (CallsLeft g Contexts y (edge ∷ back) cell.at.number cell.pos.0 cell.state.0)) (sym keys) all in
-      let there : AllCalled g mid.table.contexts.items (found_of g mid) (CallsLeft g mid.table.contexts.items (found_of g mid) (edge ∷ back) cell.at.number cell.pos.0 cell.state.0)
-      = subst (λ (t : Table). AllCalled g t.contexts.items (found_of g mid) (CallsLeft g t.contexts.items (found_of g mid) (edge ∷ back) cell.at.number cell.pos.0 cell.state.0)) tables now in
-      let done = one_call_left g functions routed alike mid (subst (IsTable g) tables table) new edge back cell asks there in
-      let back_here : AllCalled g Contexts (found_of g new) (CallsLeft g Contexts (found_of g mid) back cell.at.number cell.pos.0 cell.state.0)
-      = subst (λ (t : Table). AllCalled g t.contexts.items (found_of g new) (CallsLeft g t.contexts.items (found_of g mid) back cell.at.number cell.pos.0 cell.state.0)) (sym tables) done in
-      subst (λ (y : Found). AllCalled g Contexts (found_of g new) (CallsLeft g Contexts y back cell.at.number cell.pos.0 cell.state.0)) keys back_here
+      let now : AllCalled g Contexts (found_of g mid) (CallsLeft g Contexts marks (found_of g mid) (edge ∷ back) cell.at.number cell.pos.0 cell.state.0)
+      = subst (λ (y : Found). AllCalled g Contexts (found_of g mid) (CallsLeft g Contexts marks y (edge ∷ back) cell.at.number cell.pos.0 cell.state.0)) (sym keys) all in
+      let there : AllCalled g mid.table.contexts.items (found_of g mid) (CallsLeft g mid.table.contexts.items marks (found_of g mid) (edge ∷ back) cell.at.number cell.pos.0 cell.state.0)
+      = subst (λ (t : Table). AllCalled g t.contexts.items (found_of g mid) (CallsLeft g t.contexts.items marks (found_of g mid) (edge ∷ back) cell.at.number cell.pos.0 cell.state.0)) tables now in
+      let links : (k : ℕ) → IsLinkAt g mid.table.contexts.items k → is_marked marks k ≡ true
+      = subst (λ (t : Table). (k : ℕ) → IsLinkAt g t.contexts.items k → is_marked marks k ≡ true) tables marked in
+      let done = one_call_left g functions routed alike mid (subst (IsTable g) tables table) new marks edge place back cell links
+      (subst (λ (ms : List Bool). is_marked ms place ≡ true) step.others.marks here) (subst (λ (ms : List Bool). rank ms place ≡ edge) step.others.marks its) asks there in
+      let back_here : AllCalled g Contexts (found_of g new) (CallsLeft g Contexts marks (found_of g mid) back cell.at.number cell.pos.0 cell.state.0)
+      = subst (λ (t : Table). AllCalled g t.contexts.items (found_of g new) (CallsLeft g t.contexts.items marks (found_of g mid) back cell.at.number cell.pos.0 cell.state.0)) (sym tables) done in
+      subst (λ (y : Found). AllCalled g Contexts (found_of g new) (CallsLeft g Contexts marks y back cell.at.number cell.pos.0 cell.state.0)) keys back_here
 
   -- of the links that return there
   module _ (returns : Chained PosId) (edge : ℕ) (back : List ℕ) (cell : Cell) (pos : PosId) (at : slice_get Contexts cell.at.number ≡ Some cell.at.context)
@@ -134,8 +139,8 @@ module _ (g : Game) (functions : ℕ) (routed : AreRouted g functions) (alike : 
             (subst (λ (z : ℕ). (y : ℕ) → y < g.states.count → (returned g.states (kept_at there.0.split k) y ≡ cell.state.0 → ⊥) → IsStanding g Contexts (found_of g w) z p k there.0 y) there.2 there.5) y lt)
 
 -- at last no call is left
-pub no_calls_left : (g : Game) (contexts : List Context) (t s : Found) (j r x : ℕ) → AllCalled g contexts t (CallsLeft g contexts s [] j r x) → AllCalled g contexts t Nothing
-no_calls_left g contexts t s j r x all i c p q is =
+pub no_calls_left : (g : Game) (contexts : List Context) (marks : List Bool) (t s : Found) (j r x : ℕ) → AllCalled g contexts t (CallsLeft g contexts marks s [] j r x) → AllCalled g contexts t Nothing
+no_calls_left g contexts marks t s j r x all i c p q is =
     elim (all i c p q is) [
       | inl called ↦ inl called
       | inr rest ↦ absurd (let lt = rest.3.1 in omega (arith, lt))
@@ -146,7 +151,7 @@ tied_some zero e = absurd (false≢true (sym (ap not (eq-eqb 0 0 refl)) ∙ e))
 tied_some (suc v) e = omega arith
 
 -- The link of a call that returns to a cell, and from whose state it returns there.
-module _ (g : Game) (functions : ℕ) (routed : AreRouted g functions) (alike : AreAlike g) (w : Work) (table : IsTable g w.table) (long : AreLong w) (queued : AreQueued w) (high : AreHigh w)
+module _ (g : Game) (functions : ℕ) (routed : AreRouted g functions) (alike : AreAlike g) (w : Work) (table : IsTable g w.table) (long : AreLong w) (high : AreHigh w)
     (right : AreRight g w.table.contexts.items (found_of g w)) (cell : Cell) (is : HasCell g w.table cell.at cell.pos.0 cell.state.0) (height : ℕ) (some : 0 < height)
     (taken : heights_of g w.table cell.at.number cell.pos.0 cell.state.0 ≡ height) (p : ℕ) (of : IsOf g cell.at.context.function p) (returns : Returns g p cell.pos.0)
     (call : Called) (es : call_in (slice_get g.spots p) ≡ Some call) (k : ℕ) (class : class_of g call.split cell.state.0 ≡ k)
@@ -174,16 +179,19 @@ module _ (g : Game) (functions : ℕ) (routed : AreRouted g functions) (alike : 
   back_height = ap (λ (y : ℕ). heights_of g w.table cell.at.number y (returned g.states (kept_at call.split k) cell.state.0)) behind
       ∙ ap (λ (y : ℕ). heights_of g w.table cell.at.number cell.pos.0 y) own ∙ taken
 
+  pub own_link : IsLinkAt g Cells place
+  own_link = (cell.at.number, cell.at.context, p, k, call, link, spot)
+
   -- it is asked for
   module _ (new : Work) (promised : IsPromised w place cell.state.0) (asks : AsksForLink w new place (2 * height + 1)) where
-    value : value_at g Cells w.to.items cell.at.number p k ≡ suc (value_at g Cells w.to.items cell.at.number p k - 1)
-    value = let v = ap (slice_index w.to.items) (sym spot) in let lt = promised.1 in omega (arith, v, lt)
+    value : value_at g Cells w.store.to cell.at.number p k ≡ suc (value_at g Cells w.store.to cell.at.number p k - 1)
+    value = let v = ap (slice_index w.store.to) (sym spot) in let lt = promised.1 in omega (arith, v, lt)
 
     goes : slice_get Cells ((found_of g w).to cell.at.number p k) ≡ Some promised.0
-    goes = ap (λ (y : ℕ). slice_get Cells (slice_index w.to.items y - 1)) (sym spot) ∙ promised.2
+    goes = ap (λ (y : ℕ). slice_get Cells (slice_index w.store.to y - 1)) (sym spot) ∙ promised.2
 
     linked : (set_of : ℕ) × GoesTo Cells (found_of g w) cell.at.number p k call set_of × IsSetOf g set_of (promise_at g ((found_of g w).wave cell.at.number p k) call.back (kept_at call.split k) cell.at.context.promise)
-    linked = right.linked cell.at.number cell.at.context p k call link (is_tied (value_at g Cells w.to.items cell.at.number p k) _ value)
+    linked = right.linked cell.at.number cell.at.context p k call link (is_tied (value_at g Cells w.store.to cell.at.number p k) _ value)
 
     shrinks : IsShrinking g Cells (found_of g w) cell.at.number p k call height
     shrinks =
@@ -204,11 +212,11 @@ module _ (g : Game) (functions : ℕ) (routed : AreRouted g functions) (alike : 
 
   -- or doesn't promise its state
   pub own_unpromised : (IsPromised w place cell.state.0 → ⊥) → AsksReturn g w w cell p
-  own_unpromised none = returns_stand g functions routed alike w w table (nothing g w long queued high right) cell is height taken p call es
+  own_unpromised none = returns_stand g functions routed alike w w table (nothing g w long high right) cell is height taken p call es
       (λ set_of tied goes member. absurd (none (
         context call.function set_of,
-        (let v = tied_some (value_at g Cells w.to.items cell.at.number p (class_of g call.split cell.state.0)) tied in omega (arith, v, ap (slice_index w.to.items) there)),
-        ap (λ (y : ℕ). slice_get Cells (slice_index w.to.items y - 1)) there ∙ goes,
+        (let v = tied_some (value_at g Cells w.store.to cell.at.number p (class_of g call.split cell.state.0)) tied in omega (arith, v, ap (slice_index w.store.to) there)),
+        ap (λ (y : ℕ). slice_get Cells (slice_index w.store.to y - 1)) there ∙ goes,
         member,
       )))
     where

@@ -4,7 +4,6 @@ use Rattle.std.specs.Prelude.{◌⊎◌, slice_get}
 use Rattle.std.proofs.lemmas.Bool.{cases_eq}
 use Rattle.std.proofs.lemmas.Option.{same_Some, none-some}
 use Rattle.cw_certs.specs.declared.moves.Move.{Move}
-use Rattle.cw_certs.specs.declared.moves.Move.TheVariants.{Skip, Try, Grant, Refuse, On, Left, Right, Opened, Failed, Stop}
 use Rattle.cw_game.specs.declared.spots.Spot.{Spot}
 use Rattle.cw_game.specs.declared.spots.Spot.TheVariants.{Call, SplitCall}
 use Rattle.cw_game.specs.Games.{Game, returned, holds_in, Holds}
@@ -12,12 +11,12 @@ use Rattle.cw_game.specs.Pairs.{has, Called, call_in, is_call_in, kept_at}
 use Rattle.cw_product.specs.Moves.{next_at}
 use Rattle.cw_solve.specs.declared.contexts.Context.{Context}
 use Rattle.cw_solve.specs.Contexts.{context, IsHeight}
-use Rattle.cw_solve.specs.Routes.{AreRouted}
+use Rattle.cw_product.specs.Routed.{AreRouted}
 use Rattle.cw_solve.specs.Rounds.{IsCell, holds_by}
 use Rattle.cw_solve.proofs.Falls.{not_both}
 use Rattle.cw_solve.proofs.Still.{call_or_not, entry_cell}
 use Rattle.cw_linked.specs.Founds.{Found, class_of, AreAlike, IsTied, AreRight, tells, Waits, IsClosed, IsCalled, IsStanding, IsFresh, AllClosed, AllCalled, AllStanding, AreFound, AreAbove}
-use Rattle.cw_linked.specs.Steps.{IsSame, IsOther, with_heights, Takes, Leads, WaitsFor, CallsThere, ReturnsThere}
+use Rattle.cw_linked.specs.Steps.{IsSame, IsOther, with_heights, Takes, first_move, second_move, IsMoveIn, Leads, WaitsFor, CallsThere, ReturnsThere}
 use Rattle.cw_linked.proofs.Leading.{in_same, next_cell}
 use Rattle.cw_linked.proofs.Least.{all_of, least, link_of, back_of}
 
@@ -64,64 +63,27 @@ is_pair (Some y) r x =
       ]
     ]
 
--- some move does, or none
-some_move : (P : Move → Type 0) → ((by : Move) → P by ⊎ (P by → ⊥)) → ((by : Move) × P by) ⊎ ((by : Move) → P by → ⊥)
-some_move P f =
-    elim (f Skip) [
-      | inl h ↦ inl (Skip, h)
-      | inr a ↦
-          elim (f Try) [
-            | inl h ↦ inl (Try, h)
-            | inr b ↦
-                elim (f Grant) [
-                  | inl h ↦ inl (Grant, h)
-                  | inr c ↦
-                      elim (f Refuse) [
-                        | inl h ↦ inl (Refuse, h)
-                        | inr d ↦
-                            elim (f On) [
-                              | inl h ↦ inl (On, h)
-                              | inr e ↦
-                                  elim (f Left) [
-                                    | inl h ↦ inl (Left, h)
-                                    | inr k ↦
-                                        elim (f Right) [
-                                          | inl h ↦ inl (Right, h)
-                                          | inr l ↦
-                                              elim (f Opened) [
-                                                | inl h ↦ inl (Opened, h)
-                                                | inr m ↦
-                                                    elim (f Failed) [
-                                                      | inl h ↦ inl (Failed, h)
-                                                      | inr n ↦
-                                                          elim (f Stop) [ inl h ↦ inl (Stop, h) | inr o ↦ inr (none a b c d e k l m n o) ]
-                                                    ]
-                                              ]
-                                        ]
-                                  ]
-                            ]
-                      ]
-                ]
-          ]
+-- another move does, or none
+another : (m : Option Move) (P : Move → Type 0) → ((by : Move) → P by ⊎ (P by → ⊥)) → ((by : Move) × (m ≡ Some by) × P by) ⊎ ((by : Move) → m ≡ Some by → P by → ⊥)
+another None P f = inr (λ by e h. none-some by e)
+another (Some m) P f =
+    elim (f m) [
+      | inl h ↦ inl (m, refl, h)
+      | inr isnt ↦ inr (λ by e h. isnt (subst P (sym (same_Some m by e)) h))
     ]
-  where
-    none : (P Skip → ⊥) → (P Try → ⊥) → (P Grant → ⊥) → (P Refuse → ⊥) → (P On → ⊥) → (P Left → ⊥) → (P Right → ⊥) → (P Opened → ⊥) → (P Failed → ⊥) → (P Stop → ⊥) → (by : Move) → P by → ⊥
-    none a b c d e k l m n o Skip h = a h
-    none a b c d e k l m n o Try h = b h
-    none a b c d e k l m n o Grant h = c h
-    none a b c d e k l m n o Refuse h = d h
-    none a b c d e k l m n o On h = e h
-    none a b c d e k l m n o Left h = k h
-    none a b c d e k l m n o Right h = l h
-    none a b c d e k l m n o Opened h = m h
-    none a b c d e k l m n o Failed h = n h
-    none a b c d e k l m n o Stop h = o h
 
 pub leads_or_not : (g : Game) (p q r x : ℕ) → Leads g p q r x ⊎ (Leads g p q r x → ⊥)
 leads_or_not g p q r x =
-    elim (some_move (λ by. next_at g p q by ≡ Some (r, x)) (λ by. is_pair (next_at g p q by) r x)) [
-      | inl h ↦ inl h
-      | inr none ↦ inr (λ h. none h.0 h.1)
+    let o = slice_get g.spots p in
+    elim (is_pair (next_at g p q (first_move o)) r x) [
+      | inl h ↦ inl (first_move o, inl refl, h)
+      | inr first ↦ elim (another (second_move o) (λ by. next_at g p q by ≡ Some (r, x)) (λ by. is_pair (next_at g p q by) r x)) [
+        | inl h ↦ inl (h.0, inr h.1, h.2)
+        | inr second ↦ inr (λ h. elim h.1 [
+          | inl e ↦ first (subst (λ (by : Move). next_at g p q by ≡ Some (r, x)) (sym e) h.2)
+          | inr e ↦ second h.0 e h.2
+        ])
+      ]
     ]
 
 module _ (g : Game) (functions : ℕ) (routed : AreRouted g functions) (alike : AreAlike g) (contexts : List Context)
@@ -190,19 +152,19 @@ module _ (g : Game) (functions : ℕ) (routed : AreRouted g functions) (alike : 
     pub taken_closed : AllClosed g contexts After (WaitsFor g j r x)
     taken_closed i c p q is =
         elim (leads_or_not g p q r x) [
-          | inr plain ↦ inl (stays (λ by y e. λ h. plain (by, subst (λ (z : ℕ). next_at g p q by ≡ Some (z, x)) h.1 (subst (λ (z : ℕ). next_at g p q by ≡ Some (y.0, z)) h.2 e))))
+          | inr plain ↦ inl (stays (λ by y is e. λ h. plain (by, is, subst (λ (z : ℕ). next_at g p q by ≡ Some (z, x)) h.1 (subst (λ (z : ℕ). next_at g p q by ≡ Some (y.0, z)) h.2 e))))
           | inl leads ↦ elim (cases_eq i j) [
             | inl e ↦ inr (e, leads)
-            | inr ne ↦ inl (stays (λ by y e h. ne h.0))
+            | inr ne ↦ inl (stays (λ by y is e h. ne h.0))
           ]
         ]
       where
-        stays : ((by : Move) (y : ℕ × ℕ) → next_at g p q by ≡ Some y → IsOther i y.0 y.1 j r x) → IsClosed g After i c p q
+        stays : ((by : Move) (y : ℕ × ℕ) → IsMoveIn (slice_get g.spots p) by → next_at g p q by ≡ Some y → IsOther i y.0 y.1 j r x) → IsClosed g After i c p q
         stays apart none plain m lost =
             let o = other_after i p q none in
             let same : holds_in g (tells After i m) p q (has c.promise) (slice_get g.spots p) ≡ holds_in g (tells s i m) p q (has c.promise) (slice_get g.spots p)
             = in_same g (tells After i m) (tells s i m) p q (has c.promise) (slice_get g.spots p) plain
-            (λ by y e. ap (holds_by m) (takes.heights i c y.0 y.1 (next_cell g functions routed contexts i c p q by y (below i c is.at) is e) (apart by y e))) in
+            (λ by y among e. ap (holds_by m) (takes.heights i c y.0 y.1 (next_cell g functions routed contexts i c p q by y (below i c is.at) is e) (apart by y among e))) in
             let w = all_of (IsClosed g s i c p q) (found.closed i c p q is) (sym (takes.heights i c p q is o) ∙ none) plain m (sym same ∙ lost) in
             let e = takes.askeds i c p q is o in
             (omega (arith, w.0, e), omega (arith, w.1, e))

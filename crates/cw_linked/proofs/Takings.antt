@@ -1,18 +1,17 @@
 -- The cell of the least key is taken from the vectors: what the solver keeps then.
 use Rattle.std.proofs.Common.{◌≡◌, ℕ, zero, suc, ◌+◌, ◌-◌, ◌*◌, ◌/◌, ◌%◌, ◌<◌, ◌≤◌, List, [], ◌∷◌, Bool, cond, not, Some, length, get_or, set, take, refl, sym, ap, ◌∙◌, subst, arith}
-use Rattle.std.specs.Prelude.{slice_get, slice_index, nat_eq, count_by, Contains}
+use Rattle.std.specs.Prelude.{slice_get, slice_index, nat_eq, count_by}
 use Rattle.std.proofs.lemmas.Bool.{eq-eqb, ne_eqb}
 use Rattle.std.proofs.lemmas.Nat.{div-mul-add}
 use Rattle.std.proofs.lemmas.List.{length-set, get_or_default}
 use Rattle.std.proofs.lemmas.List.Sums.{sum_by-set}
 use Rattle.std.proofs.lemmas.Option.{get_or_from_slice_get, slice_get_within}
 use Rattle.cw_game.specs.Games.{Game}
-use Rattle.cw_links.specs.Lists.{Chained, list_at}
 use Rattle.cw_solve.specs.declared.contexts.Context.{Context}
 use Rattle.cw_solve.specs.declared.table.Table.{Table}
 use Rattle.cw_solve.specs.Contexts.{cells_of, AreNeeded}
-use Rattle.cw_solve.specs.Routes.{AreRouted}
-use Rattle.cw_solve.specs.Rounds.{IsCell}
+use Rattle.cw_product.specs.Routed.{AreRouted}
+use Rattle.cw_solve.specs.Rounds.{positions, IsCell}
 use Rattle.cw_solve.specs.Tables.{is_none, IsTable}
 use Rattle.cw_linked.specs.declared.work.Cell.{Cell}
 use Rattle.cw_linked.specs.declared.work.Work.{Work}
@@ -25,6 +24,7 @@ use Rattle.cw_linked.specs.Works.{AreUpTo, place_at, value_at}
 use Rattle.cw_linked.proofs.Bounding.{place_is}
 use Rattle.cw_linked.proofs.Placing.{cell_is}
 use Rattle.cw_linked.proofs.Popping.{least_above}
+use Rattle.cw_linked.proofs.Staying.{marked_on}
 use Rattle.cw_linked.proofs.Taking.{taken_right, taken_closed, taken_called, taken_standing}
 use Rattle.cw_linked.proofs.Telling.{below, up_to_set}
 use Rattle.cw_linked.proofs.Writing.{takes_written}
@@ -54,8 +54,8 @@ cell_for g functions routed w table long owners k lt =
     let read : c.0 ≡ get_or w.table.contexts.items i c.0 = sym (get_or_from_slice_get w.table.contexts.items i c.0 c.0 c.1) in
     let b = slice_index w.table.bases.items i in
     let begins : b ≡ get_or w.table.bases.items i b = sym (get_or_default w.table.bases.items i b 0 (omega (arith, owner.0, table.bases))) in (
-      record { at = record { number = i; context = c.0 }; pos = record { 0 = g.entry c.0.function + (k - b) / g.states.count }; state = record { 0 = (k - b) % g.states.count } },
-      cell_is g functions routed w table long owners k i c.0 lt from read b g.states.count (g.entry c.0.function) begins refl refl,
+      record { at = record { number = i; context = c.0 }; pos = record { 0 = g.entry c.0.function + (k - b) % positions g c.0.function }; state = record { 0 = (k - b) / positions g c.0.function } },
+      cell_is g functions routed w table long owners k i c.0 lt from read b (positions g c.0.function) (g.entry c.0.function) begins refl refl,
     )
 
 pub up_more : (values : List ℕ) (a b : ℕ) → a ≤ b → AreUpTo values a → AreUpTo values b
@@ -95,15 +95,15 @@ module _ (g : Game) (functions : ℕ) (routed : AreRouted g functions) (alike : 
   here : (cell : Cell) × IsCellAt g old place cell
   here = cell_for g functions routed old work.table work.long work.owners place takes.within
 
-  lost : (slice_index old.table.heights.items place ≡ 0) × (slice_index old.asked.items place ≡ 2 * height)
+  lost : (slice_index old.table.heights.items place ≡ 0) × (slice_index old.store.asked place ≡ 2 * height)
   lost =
       let cell = here.0 in
       let is = here.1 in
       let e : place ≡ place_at g Contexts cell.at.number cell.pos.0 cell.state.0 = is.place ∙ sym (place_is g Contexts cell.at.number cell.at.context cell.pos.0 cell.state.0 is.is.at) in
-      let asked : slice_index old.asked.items place ≡ value_at g Contexts old.asked.items cell.at.number cell.pos.0 cell.state.0 = ap (slice_index old.asked.items) e in
+      let asked : slice_index old.store.asked place ≡ value_at g Contexts old.store.asked cell.at.number cell.pos.0 cell.state.0 = ap (slice_index old.store.asked) e in
       let l = work.found.right.lost cell.at.number cell.at.context cell.pos.0 cell.state.0 is.is (omega (arith, takes.some, asked)) in (
         ap (slice_index old.table.heights.items) e ∙ l.0,
-        half_of (slice_index old.asked.items place) height l.1.0 (asked ∙ l.1.1) takes.half,
+        half_of (slice_index old.store.asked place) height l.1.0 (asked ∙ l.1.1) takes.half,
       )
 
   pub some : 0 < height
@@ -130,7 +130,8 @@ module _ (g : Game) (functions : ℕ) (routed : AreRouted g functions) (alike : 
   pub is_long : AreLong new
   is_long = record {
     owners = ap (λ (ys : List ℕ). length ys) takes.owners ∙ work.long.owners ∙ sym same_length;
-    asked = ap (λ (ys : List ℕ). length ys) takes.asked ∙ length-set old.asked.items place 0 ∙ work.long.asked ∙ sym same_length;
+    marks = ap (λ (ms : List Bool). length ms) takes.marks ∙ work.long.marks ∙ sym same_length;
+    asked = ap (λ (ys : List ℕ). length ys) takes.asked ∙ length-set old.store.asked place 0 ∙ work.long.asked ∙ sym same_length;
     due = ap (λ (ys : List ℕ). length ys) takes.due ∙ work.long.due ∙ sym same_length;
     to = ap (λ (ys : List ℕ). length ys) takes.to ∙ work.long.to ∙ sym same_length;
     waves = ap (λ (ys : List ℕ). length ys) takes.waves ∙ work.long.waves ∙ sym same_length;
@@ -147,16 +148,16 @@ module _ (g : Game) (functions : ℕ) (routed : AreRouted g functions) (alike : 
       let low : height ≤ old.table.written + 1 = omega (arith, key, lost.1) in
       let heights : AreUpTo (set old.table.heights.items place height) (old.table.written + 1)
       = up_to_set old.table.heights.items place height (old.table.written + 1) takes.within low (up_more old.table.heights.items old.table.written (old.table.written + 1) (omega arith) work.high.heights) in
-      let asked : AreUpTo (set old.asked.items place 0) (2 * (old.table.written + 1) + 2)
-      = up_to_set old.asked.items place 0 (2 * (old.table.written + 1) + 2) (omega (arith, takes.within, work.long.asked)) (omega arith)
-      (up_more old.asked.items (2 * old.table.written + 2) (2 * (old.table.written + 1) + 2) (omega arith) work.high.asked) in
-      let due = up_more old.due.items (2 * old.table.written + 1) (2 * (old.table.written + 1) + 1) (omega arith) work.high.due in
-      let waves = up_more old.waves.items old.table.written (old.table.written + 1) (omega arith) work.high.waves in
+      let asked : AreUpTo (set old.store.asked place 0) (2 * (old.table.written + 1) + 2)
+      = up_to_set old.store.asked place 0 (2 * (old.table.written + 1) + 2) (omega (arith, takes.within, work.long.asked)) (omega arith)
+      (up_more old.store.asked (2 * old.table.written + 2) (2 * (old.table.written + 1) + 2) (omega arith) work.high.asked) in
+      let due = up_more old.store.due (2 * old.table.written + 1) (2 * (old.table.written + 1) + 1) (omega arith) work.high.due in
+      let waves = up_more old.store.waves old.table.written (old.table.written + 1) (omega arith) work.high.waves in
       record {
         heights = subst (λ (n : ℕ). AreUpTo new.table.heights.items n) (sym takes.written) (subst (λ (ys : List ℕ). AreUpTo ys (old.table.written + 1)) (sym takes.heights) heights);
-        asked = subst (λ (n : ℕ). AreUpTo new.asked.items (2 * n + 2)) (sym takes.written) (subst (λ (ys : List ℕ). AreUpTo ys (2 * (old.table.written + 1) + 2)) (sym takes.asked) asked);
-        due = subst (λ (n : ℕ). AreUpTo new.due.items (2 * n + 1)) (sym takes.written) (subst (λ (ys : List ℕ). AreUpTo ys (2 * (old.table.written + 1) + 1)) (sym takes.due) due);
-        waves = subst (λ (n : ℕ). AreUpTo new.waves.items n) (sym takes.written) (subst (λ (ys : List ℕ). AreUpTo ys (old.table.written + 1)) (sym takes.waves) waves);
+        asked = subst (λ (n : ℕ). AreUpTo new.store.asked (2 * n + 2)) (sym takes.written) (subst (λ (ys : List ℕ). AreUpTo ys (2 * (old.table.written + 1) + 2)) (sym takes.asked) asked);
+        due = subst (λ (n : ℕ). AreUpTo new.store.due (2 * n + 1)) (sym takes.written) (subst (λ (ys : List ℕ). AreUpTo ys (2 * (old.table.written + 1) + 1)) (sym takes.due) due);
+        waves = subst (λ (n : ℕ). AreUpTo new.store.waves n) (sym takes.written) (subst (λ (ys : List ℕ). AreUpTo ys (old.table.written + 1)) (sym takes.waves) waves);
       }
 
   are_callers : AreCallers new
@@ -164,11 +165,7 @@ module _ (g : Game) (functions : ℕ) (routed : AreRouted g functions) (alike : 
       let lengths = ap (λ (cs : List Context). length cs) takes.contexts in
       let c = work.callers in
       record {
-        lists = ap (λ (y : Chained ℕ). length y.lists) takes.callers ∙ c.lists ∙ sym takes.lists;
-        more = omega (arith, lengths, takes.lists, c.more);
-        values = ap (λ (y : Chained ℕ). length y.values) takes.callers ∙ c.values ∙ sym same_length;
-        there = λ k lt. subst (λ (y : Chained ℕ). Contains (list_at y.lists (slice_index new.to.items k)) k) (sym takes.callers)
-            (subst (λ (ys : List ℕ). Contains (list_at old.callers.lists (slice_index ys k)) k) (sym takes.to) (c.there k (omega (arith, lt, same_length))));
+        more = (let many = ap (λ (ls : List (List ℕ)). length ls) takes.lists in omega (arith, lengths, many, c.more));
         few = λ k lt. subst (λ (ys : List ℕ). slice_index ys k ≤ length new.table.contexts.items) (sym takes.to)
             (let f = c.few k (omega (arith, lt, same_length)) in omega (arith, f, lengths));
       }
@@ -185,19 +182,19 @@ module _ (g : Game) (functions : ℕ) (routed : AreRouted g functions) (alike : 
   Heights = value_at g Contexts (set old.table.heights.items place height)
 
   abbrev Asked : ℕ → ℕ → ℕ → ℕ
-  Asked = value_at g Contexts (set old.asked.items place 0)
+  Asked = value_at g Contexts (set old.store.asked place 0)
 
   abbrev After : Found
   After = with_heights (found_of g old) Heights Asked
 
   found_new : found_of g new ≡ After
   found_new =
-      ap (λ (cs : List Context). found_in g cs new.table.heights.items new.asked.items new.to.items new.waves.items new.due.items) takes.contexts
-      ∙ ap (λ (ys : List ℕ). found_in g Contexts ys new.asked.items new.to.items new.waves.items new.due.items) takes.heights
-      ∙ ap (λ (ys : List ℕ). found_in g Contexts (set old.table.heights.items place height) ys new.to.items new.waves.items new.due.items) takes.asked
-      ∙ ap (λ (ys : List ℕ). found_in g Contexts (set old.table.heights.items place height) (set old.asked.items place 0) ys new.waves.items new.due.items) takes.to
-      ∙ ap (λ (ys : List ℕ). found_in g Contexts (set old.table.heights.items place height) (set old.asked.items place 0) old.to.items ys new.due.items) takes.waves
-      ∙ ap (λ (ys : List ℕ). found_in g Contexts (set old.table.heights.items place height) (set old.asked.items place 0) old.to.items old.waves.items ys) takes.due
+      ap (λ (cs : List Context). found_in g cs new.table.heights.items new.store.asked new.store.to new.store.waves new.store.due) takes.contexts
+      ∙ ap (λ (ys : List ℕ). found_in g Contexts ys new.store.asked new.store.to new.store.waves new.store.due) takes.heights
+      ∙ ap (λ (ys : List ℕ). found_in g Contexts (set old.table.heights.items place height) ys new.store.to new.store.waves new.store.due) takes.asked
+      ∙ ap (λ (ys : List ℕ). found_in g Contexts (set old.table.heights.items place height) (set old.store.asked place 0) ys new.store.waves new.store.due) takes.to
+      ∙ ap (λ (ys : List ℕ). found_in g Contexts (set old.table.heights.items place height) (set old.store.asked place 0) old.store.to ys new.store.due) takes.waves
+      ∙ ap (λ (ys : List ℕ). found_in g Contexts (set old.table.heights.items place height) (set old.store.asked place 0) old.store.to old.store.waves ys) takes.due
 
   module _ (cell : Cell) (at : IsCellAt g new place cell) where
     is_cell : IsCell g Contexts cell.at.number cell.at.context cell.pos.0 cell.state.0
@@ -209,16 +206,16 @@ module _ (g : Game) (functions : ℕ) (routed : AreRouted g functions) (alike : 
 
     is_taken_there : Takes g Contexts (found_of g old) Heights Asked cell.at.number cell.pos.0 cell.state.0 height
     is_taken_there =
-        subst (λ (k : ℕ). Takes g Contexts (found_of g old) (value_at g Contexts (set old.table.heights.items k height)) (value_at g Contexts (set old.asked.items k 0)) cell.at.number cell.pos.0 cell.state.0 height)
+        subst (λ (k : ℕ). Takes g Contexts (found_of g old) (value_at g Contexts (set old.table.heights.items k height)) (value_at g Contexts (set old.store.asked k 0)) cell.at.number cell.pos.0 cell.state.0 height)
         (sym place_here)
-        (takes_written g Contexts (found_of g old) cell.at.number cell.at.context cell.pos.0 cell.state.0 old.table.heights.items old.asked.items height is_cell
+        (takes_written g Contexts (found_of g old) cell.at.number cell.at.context cell.pos.0 cell.state.0 old.table.heights.items old.store.asked height is_cell
         (omega (arith, place_here, takes.within)) (omega (arith, place_here, takes.within, work.long.asked)) (λ i p q. refl) (λ i p q. refl))
 
     above : AreAbove g Contexts (found_of g old) (2 * height)
-    above = subst (λ (k : ℕ). AreAbove g Contexts (found_of g old) k) lost.1 (least_above g old work.table work.queued (slice_index old.asked.items place) takes.least)
+    above = subst (λ (k : ℕ). AreAbove g Contexts (found_of g old) k) lost.1 (least_above g old work.table (slice_index old.store.asked place) takes.least)
 
     key : (found_of g old).asked cell.at.number cell.pos.0 cell.state.0 ≡ 2 * height
-    key = ap (slice_index old.asked.items) (sym place_here) ∙ lost.1
+    key = ap (slice_index old.store.asked) (sym place_here) ∙ lost.1
 
     functions_below : (i : ℕ) (c : Context) → slice_get Contexts i ≡ Some c → c.function < functions
     functions_below = below g functions routed alike old old work.table
@@ -228,7 +225,7 @@ module _ (g : Game) (functions : ℕ) (routed : AreRouted g functions) (alike : 
       table = is_table;
       long = is_long;
       owners = are_owners;
-      queued = takes.queued;
+      marked = marked_on g old new takes.contexts takes.marks work.marked;
       high = are_high;
       callers = are_callers;
       dues = are_due;

@@ -9,9 +9,9 @@ use Rattle.cw_game.specs.Pairs.{Called, kept_at}
 use Rattle.cw_product.specs.declared.turn.Turn.TheVariants as turn
 use Rattle.cw_product.specs.Moves.{turn_in}
 use Rattle.cw_solve.specs.declared.contexts.Context.{Context}
-use Rattle.cw_solve.specs.Contexts.{context, IsOf, size, IsSetOf, IsNeeded, of_call}
-use Rattle.cw_solve.specs.Routes.{AreRouted}
-use Rattle.cw_solve.specs.Rounds.{slot, IsCell, holds_by}
+use Rattle.cw_product.specs.Routed.{AreRouted, IsOf}
+use Rattle.cw_solve.specs.Contexts.{context, size, IsSetOf, IsNeeded, of_call}
+use Rattle.cw_solve.specs.Rounds.{positions, slot, IsCell, holds_by}
 use Rattle.cw_solve.specs.Tables.{HasCell}
 use Rattle.cw_solve.proofs.Falls.{back_stays}
 use Rattle.cw_solve.proofs.Slots.{slot_within}
@@ -40,7 +40,7 @@ firm_open g w firm = record {
   blocks = record { begins = firm.table.begins; bases = firm.table.bases; cells = firm.table.cells; counted = firm.table.counted };
   long = firm.long;
   owners = firm.owners;
-  queued = firm.queued;
+  marked = firm.marked;
   high = firm.high;
   callers = firm.callers;
   dues = firm.dues;
@@ -121,7 +121,7 @@ module _ (g : Game) (functions : ℕ) (routed : AreRouted g functions) (old : Wo
       is = subst (λ (cs : List Context). IsCell g cs link.at.number link.at.context link.pos.0 link.state.0) (sym adds.contexts)
           (cell_on g Contexts to link.at.number link.at.context link.pos.0 link.state.0 freed.at.is);
       place = freed.at.place
-          ∙ ap (λ (b : ℕ). b + ((link.pos.0 - g.entry link.at.context.function) * g.states.count + link.state.0))
+          ∙ ap (λ (b : ℕ). b + (link.state.0 * positions g link.at.context.function + (link.pos.0 - g.entry link.at.context.function)))
           (sym (base_before g Contexts to link.at.number (let lt = slice_get_within Contexts link.at.number link.at.context is.cell.at in omega (arith, lt))))
           ∙ ap (λ (cs : List Context). slot g cs link.at.number link.at.context.function link.pos.0 link.state.0) (sym adds.contexts);
     }
@@ -151,11 +151,11 @@ module _ (g : Game) (functions : ℕ) (routed : AreRouted g functions) (old : Wo
     left_then = added_left g old mid to (size g to.function) adds.contexts adds.heights adds.to
         (let more = grown_length old.table.heights.items mid.table.heights.items (size g to.function) 0 adds.heights in let t = adds.firm.table in omega (arith, more, t.cells, t.few)) freed.firm.long.to freed.firm.callers.few
 
-    ties_then : ties_left g mid.table.contexts.items (slice_index mid.to.items place) ≡ ties_left g Contexts (slice_index old.to.items place)
+    ties_then : ties_left g mid.table.contexts.items (slice_index mid.store.to place) ≡ ties_left g Contexts (slice_index old.store.to place)
     ties_then =
-        ap (λ (cs : List Context). ties_left g cs (slice_index mid.to.items place)) adds.contexts
-        ∙ ap (λ (n : ℕ). ties_left g More n) (grown_before old.to.items mid.to.items (size g to.function) adds.to place (omega (arith, inside, freed.firm.long.to)))
-        ∙ ties_on g Contexts to (slice_index old.to.items place) (freed.firm.callers.few place inside)
+        ap (λ (cs : List Context). ties_left g cs (slice_index mid.store.to place)) adds.contexts
+        ∙ ap (λ (n : ℕ). ties_left g More n) (grown_before old.store.to mid.store.to (size g to.function) adds.to place (omega (arith, inside, freed.firm.long.to)))
+        ∙ ties_on g Contexts to (slice_index old.store.to place) (freed.firm.callers.few place inside)
 
   -- where it was there
   tieable_now : (number : ℕ) → slice_get Contexts number ≡ Some to → IsTieable g old link place moves number call.back to
@@ -181,18 +181,18 @@ module _ (g : Game) (functions : ℕ) (routed : AreRouted g functions) (old : Wo
     left : work_left g mid ≡ work_left g old
     left = elim numbered.grows [ inl same ↦ ap (work_left g) same | inr adds ↦ left_then mid adds ]
 
-    ties : ties_left g mid.table.contexts.items (slice_index mid.to.items place) ≡ ties_left g Contexts (slice_index old.to.items place)
-    ties = elim numbered.grows [ inl same ↦ ap (λ (w : Work). ties_left g w.table.contexts.items (slice_index w.to.items place)) same | inr adds ↦ ties_then mid adds ]
+    ties : ties_left g mid.table.contexts.items (slice_index mid.store.to place) ≡ ties_left g Contexts (slice_index old.store.to place)
+    ties = elim numbered.grows [ inl same ↦ ap (λ (w : Work). ties_left g w.table.contexts.items (slice_index w.store.to place)) same | inr adds ↦ ties_then mid adds ]
 
     -- less is left to do
-    pub is_less : (0 < slice_index old.to.items place → 0 < moves) → (new : Work) → Finishes g mid new (set mid.to.items place (number + 1)) → work_left g new < work_left g old
+    pub is_less : (0 < slice_index old.store.to place → 0 < moves) → (new : Work) → Finishes g mid new (set mid.store.to place (number + 1)) → work_left g new < work_left g old
     is_less more new finishes =
         let promised : promised_in g (slice_get mid.table.contexts.items number) ≡ promised_in g (Some to) = ap (promised_in g) numbered.there in
         let fewer = fewer_states g functions routed old link place moves freed more call is to.promise read in
         let less = tied_less g mid new place number finishes.table finishes.to within_mid (omega (arith, promised, fewer, ties)) in
         omega (arith, less, left)
       where
-        within_mid : place < length mid.to.items
+        within_mid : place < length mid.store.to
         within_mid =
             let t = is_tieable in
             let lt = slot_within g mid.table.contexts.items link.at.number link.at.context link.pos.0 link.state.0 t.at.is in

@@ -1,20 +1,20 @@
 -- What is told of a cell is asked for.
-use Rattle.std.proofs.Common.{◌≡◌, ℕ, ◌+◌, ◌*◌, ◌<◌, ◌≤◌, List, false, ◌&&◌, ◌||◌, Some, length, get_or, set, refl, sym, ap, ◌∙◌, subst, arith, inl, inr, length-set, get_or-set_same, get_or-set_other}
+use Rattle.std.proofs.Common.{◌≡◌, ℕ, ◌+◌, ◌*◌, ◌<◌, ◌≤◌, List, false, ◌&&◌, ◌||◌, Some, length, get_or, set, refl, sym, ap, ◌∙◌, subst, arith, inl, inr, length-set, get_or-set_same, get_or-set_other, Bool}
 use Rattle.std.specs.Prelude.{slice_get, slice_index, nat_eq, nat_lt}
 use Rattle.std.proofs.lemmas.Bool.{cases_eq}
 use Rattle.cw_game.specs.Games.{Game, Holds}
 use Rattle.cw_game.specs.Pairs.{has, is_call_in}
 use Rattle.cw_solve.specs.declared.contexts.Context.{Context}
 use Rattle.cw_solve.specs.declared.table.Table.{Table}
-use Rattle.cw_solve.specs.Routes.{AreRouted}
+use Rattle.cw_solve.specs.declared.table.Tabled.{Tabled}
+use Rattle.cw_product.specs.Routed.{AreRouted}
 use Rattle.cw_solve.specs.Rounds.{slot, IsCell}
 use Rattle.cw_solve.specs.Tables.{IsTable, HasCell}
 use Rattle.cw_solve.proofs.Slots.{slot_within}
 use Rattle.cw_solve.proofs.Tabling.{there_at}
-use Rattle.cw_linked.specs.declared.work.Cell.{Cell}
 use Rattle.cw_linked.specs.declared.work.Work.{Work}
 use Rattle.cw_linked.specs.Founds.{Found, AreAlike, AreRight, Waits, IsClosed, AllClosed, AllCalled, AllStanding}
-use Rattle.cw_linked.specs.Queues.{found_of, AreQueued, AreLong, AreSameBut, asked_with, AsksForCell, AreHigh, IsLinkAt, AreDue, LowersKeys, AsksTold}
+use Rattle.cw_linked.specs.Queues.{found_of, AreLong, AreSameBut, asked_with, AsksForCell, AreHigh, IsLinkAt, AreDue, LowersKeys, AsksTold}
 use Rattle.cw_linked.specs.Steps.{with_keys, Lowers, IsBound}
 use Rattle.cw_linked.specs.Works.{heights_of, AreUpTo, place_at, value_at}
 use Rattle.cw_linked.proofs.Asking.{decide, chosen_then, chosen_else}
@@ -24,7 +24,7 @@ use Rattle.cw_linked.proofs.Lowering.{lowers_all_closed, lowers_all_called, lowe
 use Rattle.cw_linked.proofs.Working.{Keys, found_keys, is_asked, cell_lowers, cell_right}
 
 -- what waits as a link is one, where the links and their keys are as before
-pub same_dues : (g : Game) (old new : Work) → AreSameBut old new → new.due.items ≡ old.due.items → AreDue g old → AreDue g new
+pub same_dues : (g : Game) (old new : Work) → AreSameBut old new → new.store.due ≡ old.store.due → AreDue g old → AreDue g new
 same_dues g old new same due are k lt some =
     let before = subst (λ (t : Table). k < length t.heights.items) same.table lt in
     let h = are k before (subst (λ (ys : List ℕ). 0 < slice_index ys k) due some) in (
@@ -62,7 +62,7 @@ module _ (g : Game) (functions : ℕ) (routed : AreRouted g functions) (alike : 
   below i c at = (there_at g functions routed old.table table i c at).below
 
   -- where only keys change, and become lower, what is asked for is still asked for
-  module _ (same : AreSameBut old new) (lowers : Lowers g Contexts (found_of g old) (value_at g Contexts new.asked.items) (value_at g Contexts new.due.items)) where
+  module _ (same : AreSameBut old new) (lowers : Lowers g Contexts (found_of g old) (value_at g Contexts new.store.asked) (value_at g Contexts new.store.due)) where
     pub still_closed : (Rest : ℕ → ℕ → ℕ → Type 0) → AllClosed g Contexts (found_of g old) Rest → AllClosed g Contexts (found_of g new) Rest
     still_closed Rest all = subst (λ (y : Found). AllClosed g Contexts y Rest) (sym (found_keys g old new same))
         (lowers_all_closed g functions routed alike Contexts below (found_of g old) _ _ lowers Rest all)
@@ -92,7 +92,8 @@ module _ (g : Game) (functions : ℕ) (routed : AreRouted g functions) (alike : 
         let same = ap (λ (t : Table). length t.heights.items) asks.others.table in
         record {
           owners = ap (λ (y : List ℕ). length y) asks.others.owners ∙ long.owners ∙ sym same;
-          asked = ap (λ (y : List ℕ). length y) asks.asked ∙ asked_length old.table.heights.items old.asked.items place (2 * n) ∙ long.asked ∙ sym same;
+          marks = ap (λ (ms : List Bool). length ms) asks.others.marks ∙ long.marks ∙ sym same;
+          asked = ap (λ (y : List ℕ). length y) asks.asked ∙ asked_length old.table.heights.items old.store.asked place (2 * n) ∙ long.asked ∙ sym same;
           due = ap (λ (y : List ℕ). length y) asks.due ∙ long.due ∙ sym same;
           to = ap (λ (y : List ℕ). length y) asks.others.to ∙ long.to ∙ sym same;
           waves = ap (λ (y : List ℕ). length y) asks.others.waves ∙ long.waves ∙ sym same;
@@ -100,20 +101,19 @@ module _ (g : Game) (functions : ℕ) (routed : AreRouted g functions) (alike : 
 
     is_high : AreHigh new
     is_high =
-        let few : AreUpTo (asked_with old.table.heights.items old.asked.items place (2 * n)) (2 * old.table.written + 2)
-        = asked_up_to old.table.heights.items old.asked.items place (2 * n) (2 * old.table.written + 2) (omega (arith, inside, long.asked)) (omega (arith, low)) high.asked in
+        let few : AreUpTo (asked_with old.table.heights.items old.store.asked place (2 * n)) (2 * old.table.written + 2)
+        = asked_up_to old.table.heights.items old.store.asked place (2 * n) (2 * old.table.written + 2) (omega (arith, inside, long.asked)) (omega (arith, low)) high.asked in
         record {
           heights = subst (λ (t : Table). AreUpTo t.heights.items t.written) (sym asks.others.table) high.heights;
-          asked = subst (λ (t : Table). AreUpTo new.asked.items (2 * t.written + 2)) (sym asks.others.table) (subst (λ (y : List ℕ). AreUpTo y (2 * old.table.written + 2)) (sym asks.asked) few);
-          due = subst (λ (t : Table). AreUpTo new.due.items (2 * t.written + 1)) (sym asks.others.table) (subst (λ (y : List ℕ). AreUpTo y (2 * old.table.written + 1)) (sym asks.due) high.due);
-          waves = subst (λ (t : Table). AreUpTo new.waves.items t.written) (sym asks.others.table) (subst (λ (y : List ℕ). AreUpTo y old.table.written) (sym asks.others.waves) high.waves);
+          asked = subst (λ (t : Table). AreUpTo new.store.asked (2 * t.written + 2)) (sym asks.others.table) (subst (λ (y : List ℕ). AreUpTo y (2 * old.table.written + 2)) (sym asks.asked) few);
+          due = subst (λ (t : Table). AreUpTo new.store.due (2 * t.written + 1)) (sym asks.others.table) (subst (λ (y : List ℕ). AreUpTo y (2 * old.table.written + 1)) (sym asks.due) high.due);
+          waves = subst (λ (t : Table). AreUpTo new.store.waves t.written) (sym asks.others.table) (subst (λ (y : List ℕ). AreUpTo y old.table.written) (sym asks.others.waves) high.waves);
         }
 
     pub asked_step : LowersKeys g old new
     asked_step = record {
       others = asks.others;
       long = is_long;
-      queued = asks.queued;
       high = is_high;
       lowers = cell_lowers g functions routed alike old new below long j d r x place (2 * n) is here inside twice asks;
       right = subst (λ (y : Found). AreRight g Contexts y) (sym (found_keys g old new asks.others)) (cell_right g functions routed alike old new below long j d r x place (2 * n) is here inside twice asks right n refl lost);
@@ -124,25 +124,24 @@ module _ (g : Game) (functions : ℕ) (routed : AreRouted g functions) (alike : 
     asked_waits = (is_asked g functions routed alike old new below long j d r x place (2 * n) is here inside twice asks).here
 
   -- so is one of which the taken heights tell it
-  pub told_asked : AreLong old → AreHigh old → AreRight g Contexts (found_of g old) → (cell : Cell) → HasCell g old.table cell.at cell.pos.0 cell.state.0 → (within place : ℕ)
-      → IsBound g (heights_of g old.table) cell.at.number cell.pos.0 cell.state.0 cell.at.context.promise within → is_call_in (slice_get g.spots cell.pos.0) ≡ false → 0 < within → within ≤ old.table.written + 1
-      → place ≡ slot g Contexts cell.at.number cell.at.context.function cell.pos.0 cell.state.0 → AsksForCell old new place (2 * within) → AsksTold g old new cell
-  told_asked long high right cell is within place bound plain some low at asks =
-      let lost = bound_is_lost g functions routed alike Contexts below (found_of g old) right cell.at.number cell.at.context cell.pos.0 cell.state.0 within is plain bound some in
+  pub told_asked : AreLong old → AreHigh old → AreRight g Contexts (found_of g old) → (at : Tabled) (p q : ℕ) → HasCell g old.table at p q → (within place : ℕ)
+      → IsBound g (heights_of g old.table) at.number p q at.context.promise within → is_call_in (slice_get g.spots p) ≡ false → 0 < within → within ≤ old.table.written + 1
+      → place ≡ slot g Contexts at.number at.context.function p q → AsksForCell old new place (2 * within) → AsksTold g old new at p q
+  told_asked long high right at p q is within place bound plain some low here asks =
+      let lost = bound_is_lost g functions routed alike Contexts below (found_of g old) right at.number at.context p q within is plain bound some in
       record {
-        step = asked_step long high right cell.at.number cell.at.context cell.pos.0 cell.state.0 is within place some low at lost asks;
-        closed = subst (λ (y : Found). IsClosed g y cell.at.number cell.at.context cell.pos.0 cell.state.0) (sym (found_keys g old new asks.others))
-            (closed_asked g functions routed alike Contexts below (Keys g old new) cell.at.number cell.at.context cell.pos.0 cell.state.0 within bound
-            (asked_waits long high right cell.at.number cell.at.context cell.pos.0 cell.state.0 is within place some low at lost asks));
+        step = asked_step long high right at.number at.context p q is within place some low here lost asks;
+        closed = subst (λ (y : Found). IsClosed g y at.number at.context p q) (sym (found_keys g old new asks.others))
+            (closed_asked g functions routed alike Contexts below (Keys g old new) at.number at.context p q within bound
+            (asked_waits long high right at.number at.context p q is within place some low here lost asks));
         due = asks.due;
       }
 
 -- nothing changes
-pub nothing : (g : Game) (old : Work) → AreLong old → AreQueued old → AreHigh old → AreRight g old.table.contexts.items (found_of g old) → LowersKeys g old old
-nothing g old long queued high right = record {
-  others = record { table = refl; owners = refl; to = refl; waves = refl; callers = refl; room = refl; lists = refl };
+pub nothing : (g : Game) (old : Work) → AreLong old → AreHigh old → AreRight g old.table.contexts.items (found_of g old) → LowersKeys g old old
+nothing g old long high right = record {
+  others = record { table = refl; owners = refl; to = refl; waves = refl; marks = refl; lists = refl };
   long = long;
-  queued = queued;
   high = high;
   lowers = record { cells = λ i c p q is lt. (lt, omega arith); links = λ i c p k call is lt. (lt, omega arith) };
   right = right;
@@ -150,11 +149,12 @@ nothing g old long queued high right = record {
 }
 
 -- nothing is told of the cell
-pub told_none : (g : Game) (functions : ℕ) (routed : AreRouted g functions) (alike : AreAlike g) (old : Work) → IsTable g old.table → AreLong old → AreQueued old → AreHigh old → AreRight g old.table.contexts.items (found_of g old)
-    → (cell : Cell) → (is_call_in (slice_get g.spots cell.pos.0) ≡ false → IsBound g (heights_of g old.table) cell.at.number cell.pos.0 cell.state.0 cell.at.context.promise 0) → AsksTold g old old cell
-told_none g functions routed alike old table long queued high right cell bound = record {
-  step = nothing g old long queued high right;
-  closed = λ none plain. closed_untold g functions routed alike old.table.contexts.items (below g functions routed alike old old table) (found_of g old) cell.at.number cell.at.context cell.pos.0 cell.state.0 (bound plain) none plain;
+pub told_none : (g : Game) (functions : ℕ) (routed : AreRouted g functions) (alike : AreAlike g) (old : Work) → IsTable g old.table → AreLong old → AreHigh old → AreRight g old.table.contexts.items (found_of g old)
+    → (at : Tabled) (p q : ℕ) → (is_call_in (slice_get g.spots p) ≡ false → IsBound g (heights_of g old.table) at.number p q at.context.promise 0) → AsksTold g old old at p q
+told_none g functions routed alike old table long high right at p q bound = record {
+  step = nothing g old long high right;
+  closed = λ none plain.
+      closed_untold g functions routed alike old.table.contexts.items (below g functions routed alike old old table) (found_of g old) at.number at.context p q (bound plain) none plain;
   due = refl;
 }
 
@@ -166,12 +166,10 @@ two_steps g old mid new a b = record {
     owners = b.others.owners ∙ a.others.owners;
     to = b.others.to ∙ a.others.to;
     waves = b.others.waves ∙ a.others.waves;
-    callers = b.others.callers ∙ a.others.callers;
-    room = b.others.room ∙ a.others.room;
+    marks = b.others.marks ∙ a.others.marks;
     lists = b.others.lists ∙ a.others.lists;
   };
   long = b.long;
-  queued = b.queued;
   high = b.high;
   lowers = record {
     cells = λ i c p q is lt.
@@ -187,7 +185,7 @@ two_steps g old mid new a b = record {
   dues = λ are. b.dues (a.dues are);
 }
   where
-    later : Lowers g old.table.contexts.items (with_keys (found_of g old) (value_at g old.table.contexts.items mid.asked.items) (value_at g old.table.contexts.items mid.due.items))
-        (value_at g old.table.contexts.items new.asked.items) (value_at g old.table.contexts.items new.due.items)
-    later = subst (λ (s : Found). Lowers g old.table.contexts.items s (value_at g old.table.contexts.items new.asked.items) (value_at g old.table.contexts.items new.due.items)) (found_keys g old mid a.others)
-        (subst (λ (t : Table). Lowers g t.contexts.items (found_of g mid) (value_at g t.contexts.items new.asked.items) (value_at g t.contexts.items new.due.items)) a.others.table b.lowers)
+    later : Lowers g old.table.contexts.items (with_keys (found_of g old) (value_at g old.table.contexts.items mid.store.asked) (value_at g old.table.contexts.items mid.store.due))
+        (value_at g old.table.contexts.items new.store.asked) (value_at g old.table.contexts.items new.store.due)
+    later = subst (λ (s : Found). Lowers g old.table.contexts.items s (value_at g old.table.contexts.items new.store.asked) (value_at g old.table.contexts.items new.store.due)) (found_keys g old mid a.others)
+        (subst (λ (t : Table). Lowers g t.contexts.items (found_of g mid) (value_at g t.contexts.items new.store.asked) (value_at g t.contexts.items new.store.due)) a.others.table b.lowers)

@@ -1,18 +1,16 @@
 -- A link is tied in the vectors, and what is left to do then is done state by state.
-use Rattle.std.proofs.Common.{◌≡◌, ℕ, suc, ◌+◌, ◌<◌, ◌≤◌, List, ◌∷◌, Some, length, set, refl, sym, ap, ◌∙◌, subst, arith, inl, inr}
-use Rattle.std.specs.Prelude.{slice_get, slice_index, Contains}
+use Rattle.std.proofs.Common.{◌≡◌, ℕ, suc, ◌+◌, ◌<◌, ◌≤◌, List, Some, length, set, sym, ap, ◌∙◌, subst, arith, inl, inr}
+use Rattle.std.specs.Prelude.{slice_get, slice_index}
 use Rattle.std.proofs.lemmas.Bool.{cases_eq, cases_lt}
 use Rattle.std.proofs.lemmas.List.{get_or-set_same, get_or-set_other}
 use Rattle.std.proofs.lemmas.Option.{same_Some}
 use Rattle.cw_game.specs.Games.{Game, returned}
 use Rattle.cw_game.specs.Pairs.{Called, call_in, kept_at}
-use Rattle.cw_links.specs.Lists.{list_at, without, with_front}
-use Rattle.cw_links.proofs.CallerLemmas.{length-without, length-with_front, list_at-with_front_same, list_at-with_front_other, Contains-without_other}
 use Rattle.cw_solve.specs.declared.contexts.Context.{Context}
 use Rattle.cw_solve.specs.declared.table.Table.{Table}
 use Rattle.cw_solve.specs.declared.table.Tabled.{Tabled}
 use Rattle.cw_solve.specs.Contexts.{context}
-use Rattle.cw_solve.specs.Routes.{AreRouted}
+use Rattle.cw_product.specs.Routed.{AreRouted}
 use Rattle.cw_solve.specs.Rounds.{IsCell}
 use Rattle.cw_solve.specs.Tables.{IsTable, HasCell}
 use Rattle.cw_solve.proofs.Falls.{not_both}
@@ -20,7 +18,7 @@ use Rattle.cw_linked.specs.declared.work.Cell.{Cell}
 use Rattle.cw_linked.specs.declared.work.Work.{Work}
 use Rattle.cw_linked.specs.Calls.{AreCallers, AsksCaller}
 use Rattle.cw_linked.specs.Founds.{Found, class_of, AreAlike, IsLink, IsTied, height_back, AreRight, IsCalled, IsStanding, IsFresh, Nothing, AllCalled, AllStanding}
-use Rattle.cw_linked.specs.Queues.{found_of, AreQueued, AreLong, AreHigh, LowersKeys, IsCellAt}
+use Rattle.cw_linked.specs.Queues.{found_of, AreLong, AreHigh, LowersKeys, IsCellAt}
 use Rattle.cw_linked.specs.Returns.{Returns, AsksReturn}
 use Rattle.cw_linked.specs.Steps.{IsSame, CallsBy, IsIt}
 use Rattle.cw_linked.specs.Tied.{CallsFrom}
@@ -35,53 +33,15 @@ use Rattle.cw_linked.proofs.Taking.{one_call}
 use Rattle.cw_linked.proofs.Telling.{below, still_standing, still_called, nothing}
 use Rattle.cw_linked.proofs.Working.{found_keys}
 
-first_is : (c : ℕ) (xs : List ℕ) → Contains (c ∷ xs) c
-first_is c xs = (0, omega arith, refl)
-
-later_is : (c y : ℕ) (xs : List ℕ) → Contains xs y → Contains (c ∷ xs) y
-later_is c y xs h = (suc h.0, omega (arith, h.1), h.2)
-
--- a link that is moved to another list stands there, and the others where they stood
-pub moved_there : (lists : List (List ℕ)) (to : List ℕ) (place l : ℕ) → l < length lists → place < length to → ((k : ℕ) → k < length to → slice_index to k < length lists)
-    → ((k : ℕ) → k < length to → Contains (list_at lists (slice_index to k)) k)
-    → (k : ℕ) → k < length to → Contains (list_at (with_front (without lists place) l place) (slice_index (set to place l) k)) k
-moved_there lists to place l lt inside few there k within =
-    let long : l < length (without lists place) = (let e = length-without lists place in omega (arith, e, lt)) in
-    elim (cases_eq k place) [
-      | inl e ↦
-          let list : slice_index (set to place l) k ≡ l = ap (slice_index (set to place l)) e ∙ get_or-set_same to place l 0 inside in
-          subst (λ (y : ℕ). Contains (list_at (with_front (without lists place) l place) y) k) (sym list)
-          (subst (λ (ys : List ℕ). Contains ys k) (sym (list_at-with_front_same (without lists place) l place long))
-          (subst (λ (y : ℕ). Contains (place ∷ list_at (without lists place) l) y) (sym e) (first_is place (list_at (without lists place) l))))
-      | inr ne ↦
-          let list : slice_index (set to place l) k ≡ slice_index to k = get_or-set_other to place k l 0 ne in
-          let rest : Contains (list_at (without lists place) (slice_index to k)) k = Contains-without_other lists place (slice_index to k) k ne (there k within) in
-          subst (λ (y : ℕ). Contains (list_at (with_front (without lists place) l place) y) k) (sym list)
-          (elim (cases_eq (slice_index to k) l) [
-            | inl same ↦ subst (λ (y : ℕ). Contains (list_at (with_front (without lists place) l place) y) k) (sym same)
-                (subst (λ (ys : List ℕ). Contains ys k) (sym (list_at-with_front_same (without lists place) l place long))
-                (later_is place k (list_at (without lists place) l) (subst (λ (y : ℕ). Contains (list_at (without lists place) y) k) same rest)))
-            | inr apart ↦ subst (λ (ys : List ℕ). Contains ys k) (sym (list_at-with_front_other (without lists place) l place (slice_index to k) apart)) rest
-          ])
-    ]
-
-pub tied_callers : (old new : Work) (place number : ℕ) → AreCallers old → place < length old.table.heights.items → number < length old.table.contexts.items → length old.to.items ≡ length old.table.heights.items
-    → new.table ≡ old.table → new.lists ≡ old.lists → new.to.items ≡ set old.to.items place (number + 1) → new.callers.lists ≡ with_front (without old.callers.lists place) (number + 1) place
-    → new.callers.values ≡ old.callers.values → AreCallers new
-tied_callers old new place number c inside few long table lists to moved values = record {
-  lists = ap (λ (ls : List (List ℕ)). length ls) moved ∙ length-with_front (without old.callers.lists place) (number + 1) place ∙ length-without old.callers.lists place ∙ c.lists ∙ sym lists;
-  more = subst (λ (n : ℕ). length new.table.contexts.items < n) (sym lists) (subst (λ (t : Table). length t.contexts.items < old.lists) (sym table) c.more);
-  values = ap (λ (vs : List ℕ). length vs) values ∙ c.values ∙ ap (λ (t : Table). length t.heights.items) (sym table);
-  there = λ k lt. subst (λ (ls : List (List ℕ)). Contains (list_at ls (slice_index new.to.items k)) k) (sym moved)
-      (subst (λ (ys : List ℕ). Contains (list_at (with_front (without old.callers.lists place) (number + 1) place) (slice_index ys k)) k) (sym to)
-      (moved_there old.callers.lists old.to.items place (number + 1) (omega (arith, c.lists, c.more, few)) (omega (arith, inside, long))
-      (λ j less. let f = c.few j (omega (arith, less, long)) in omega (arith, f, c.lists, c.more)) (λ j less. c.there j (omega (arith, less, long)))
-      k (omega (arith, long, old_length k lt))));
+pub tied_callers : (old new : Work) (place number : ℕ) → AreCallers old → place < length old.table.heights.items → number < length old.table.contexts.items → length old.store.to ≡ length old.table.heights.items
+    → new.table ≡ old.table → length new.store.lists ≡ length old.store.lists → new.store.to ≡ set old.store.to place (number + 1) → AreCallers new
+tied_callers old new place number c inside few long table lists to = record {
+  more = (let e = ap (λ (t : Table). length t.contexts.items) table in omega (arith, e, lists, c.more));
   few = λ k lt. subst (λ (ys : List ℕ). slice_index ys k ≤ length new.table.contexts.items) (sym to)
-      (subst (λ (t : Table). slice_index (set old.to.items place (number + 1)) k ≤ length t.contexts.items) (sym table)
+      (subst (λ (t : Table). slice_index (set old.store.to place (number + 1)) k ≤ length t.contexts.items) (sym table)
       (elim (cases_eq k place) [
-        | inl e ↦ let v : slice_index (set old.to.items place (number + 1)) k ≡ number + 1 = ap (slice_index (set old.to.items place (number + 1))) e ∙ get_or-set_same old.to.items place (number + 1) 0 (omega (arith, inside, long)) in omega (arith, v, few)
-        | inr ne ↦ let v = get_or-set_other old.to.items place k (number + 1) 0 ne in let f = c.few k (old_length k lt) in omega (arith, v, f)
+        | inl e ↦ let v : slice_index (set old.store.to place (number + 1)) k ≡ number + 1 = ap (slice_index (set old.store.to place (number + 1))) e ∙ get_or-set_same old.store.to place (number + 1) 0 (omega (arith, inside, long)) in omega (arith, v, few)
+        | inr ne ↦ let v = get_or-set_other old.store.to place k (number + 1) 0 ne in let f = c.few k (old_length k lt) in omega (arith, v, f)
       ]));
 }
   where
@@ -90,9 +50,9 @@ tied_callers old new place number c inside few long table lists to moved values 
 
 module _ (g : Game) (functions : ℕ) (routed : AreRouted g functions) (alike : AreAlike g) where
   -- A callee that isn't lost from a state has no call to ask for.
-  pub unlost_call : (w : Work) → IsTable g w.table → AreLong w → AreQueued w → AreHigh w → AreRight g w.table.contexts.items (found_of g w) → (place : ℕ) (cell : Cell) → heights_of g w.table cell.at.number cell.pos.0 cell.state.0 ≡ 0 → AsksCaller g w w place cell
-  unlost_call w table long queued high right place cell none = record {
-    step = nothing g w long queued high right;
+  pub unlost_call : (w : Work) → IsTable g w.table → AreLong w → AreHigh w → AreRight g w.table.contexts.items (found_of g w) → (place : ℕ) (cell : Cell) → heights_of g w.table cell.at.number cell.pos.0 cell.state.0 ≡ 0 → AsksCaller g w w place cell
+  unlost_call w table long high right place cell none = record {
+    step = nothing g w long high right;
     called = λ i c p q call is es goes at.
         called_none g functions routed alike w.table.contexts.items (below g functions routed alike w w table) (found_of g w) i p q call es
         (ap (λ (y : ℕ). heights_of g w.table y (g.entry call.function) q) goes.0 ∙ ap (λ (y : ℕ). heights_of g w.table cell.at.number y q) goes.1
@@ -100,9 +60,9 @@ module _ (g : Game) (functions : ℕ) (routed : AreRouted g functions) (alike : 
   }
 
   -- and no link
-  pub unlost_return : (w : Work) → AreLong w → AreQueued w → AreHigh w → AreRight g w.table.contexts.items (found_of g w) → (cell : Cell) (p : ℕ) → heights_of g w.table cell.at.number cell.pos.0 cell.state.0 ≡ 0 → AsksReturn g w w cell p
-  unlost_return w long queued high right cell p none = record {
-    step = nothing g w long queued high right;
+  pub unlost_return : (w : Work) → AreLong w → AreHigh w → AreRight g w.table.contexts.items (found_of g w) → (cell : Cell) (p : ℕ) → heights_of g w.table cell.at.number cell.pos.0 cell.state.0 ≡ 0 → AsksReturn g w w cell p
+  unlost_return w long high right cell p none = record {
+    step = nothing g w long high right;
     standing = λ k call link back x lt same tied set goes member some.
         let e : height_back g (found_of g w) cell.at.number call k x ≡ 0 = ap (λ (y : ℕ). heights_of g w.table cell.at.number y (returned g.states (kept_at call.split k) x)) back
         ∙ ap (λ (y : ℕ). heights_of g w.table cell.at.number cell.pos.0 y) same ∙ none in
@@ -127,7 +87,7 @@ module _ (g : Game) (functions : ℕ) (routed : AreRouted g functions) (alike : 
     mid_table = subst (IsTable g) tables table
 
     pub one_from : (place : ℕ) (link : Cell) → IsCellAt g w place link → (cell : Cell) → slice_get Contexts cell.at.number ≡ Some cell.at.context → cell.pos.0 ≡ g.entry cell.at.context.function
-        → slice_index w.to.items place ≡ suc cell.at.number → AsksCaller g mid new place cell
+        → slice_index w.store.to place ≡ suc cell.at.number → AsksCaller g mid new place cell
         → AllCalled g Contexts (found_of g mid) (CallsFrom g link.at.number link.pos.0 link.state.0 cell.state.0)
         → AllCalled g Contexts (found_of g new) (CallsFrom g link.at.number link.pos.0 link.state.0 (cell.state.0 + 1))
     one_from place link at cell callee entry goes asks all i c p q is =
@@ -150,13 +110,13 @@ module _ (g : Game) (functions : ℕ) (routed : AreRouted g functions) (alike : 
             let spot : place_at g Contexts i p k ≡ place_at g Contexts link.at.number link.pos.0 link.state.0
             = ap (λ (y : ℕ). place_at g Contexts y p k) same.0 ∙ ap (λ (y : ℕ). place_at g Contexts link.at.number y k) same.1 ∙ ap (λ (y : ℕ). place_at g Contexts link.at.number link.pos.0 y) same.2 in
             let here : place ≡ place_at g Contexts i p k = at.place ∙ sym (place_is g Contexts link.at.number link.at.context link.pos.0 link.state.0 at.is.at) ∙ sym spot in
-            let value : value_at g Contexts w.to.items i p k ≡ suc cell.at.number = ap (slice_index w.to.items) (sym here) ∙ goes in
-            let now : value_at g Contexts mid.to.items i p k ≡ suc cell.at.number = ap (λ (ys : List ℕ). value_at g Contexts ys i p k) step.others.to ∙ value in
-            let there : value_at g mid.table.contexts.items mid.to.items i p k ≡ suc cell.at.number = subst (λ (t : Table). value_at g t.contexts.items mid.to.items i p k ≡ suc cell.at.number) tables now in
+            let value : value_at g Contexts w.store.to i p k ≡ suc cell.at.number = ap (slice_index w.store.to) (sym here) ∙ goes in
+            let now : value_at g Contexts mid.store.to i p k ≡ suc cell.at.number = ap (λ (ys : List ℕ). value_at g Contexts ys i p k) step.others.to ∙ value in
+            let there : value_at g mid.table.contexts.items mid.store.to i p k ≡ suc cell.at.number = subst (λ (t : Table). value_at g t.contexts.items mid.store.to i p k ≡ suc cell.at.number) tables now in
             let to : (found_of g mid).to i p k ≡ cell.at.number = omega (arith, there) in
             let is_mid : IsCell g mid.table.contexts.items i c p q = subst (λ (t : Table). IsCell g t.contexts.items i c p q) tables is in
             let linked : IsLink g Contexts i c p k call = link_of g functions routed alike Contexts (below g functions routed alike w w table) i c p q call is es in
-            let l = step.right.linked i c p k call linked (is_tied (value_at g mid.table.contexts.items mid.to.items i p k) cell.at.number there) in
+            let l = step.right.linked i c p k call linked (is_tied (value_at g mid.table.contexts.items mid.store.to i p k) cell.at.number there) in
             let function : context call.function l.0 ≡ cell.at.context = same_Some _ _ (sym l.1 ∙ ap (slice_get Contexts) to ∙ callee) in
             let begins : g.entry call.function ≡ cell.pos.0 = ap (λ (y : Context). g.entry y.function) function ∙ sym entry in
             asks.called i c p q call is_mid es (to, begins, state) (subst (λ (t : Table). place ≡ place_at g t.contexts.items i p k) tables here)

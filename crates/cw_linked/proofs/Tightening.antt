@@ -1,14 +1,15 @@
 -- A link that is ready goes to its context, and what is left to do then is done: the solver keeps all.
-use Rattle.std.proofs.Common.{◌≡◌, ℕ, suc, ◌+◌, ◌-◌, ◌*◌, ◌<◌, List, Bool, not, Some, length, set, refl, sym, ap, ◌∙◌, subst, arith, inl, inr}
+use Rattle.std.proofs.Common.{◌≡◌, ℕ, suc, ◌+◌, ◌-◌, ◌*◌, ◌<◌, List, Bool, true, not, Some, length, set, refl, sym, ap, ◌∙◌, subst, arith, inl, inr}
 use Rattle.std.specs.Prelude.{slice_get, slice_index, nat_eq}
 use Rattle.std.proofs.lemmas.Bool.{cases_eq}
 use Rattle.std.proofs.lemmas.List.{length-set, get_or-set_same, get_or-set_other}
 use Rattle.cw_game.specs.Games.{Game}
 use Rattle.cw_game.specs.Pairs.{Called}
+use Rattle.cw_marks.specs.Marks.{is_marked}
 use Rattle.cw_solve.specs.declared.contexts.Context.{Context}
 use Rattle.cw_solve.specs.declared.table.Table.{Table}
-use Rattle.cw_solve.specs.Contexts.{context, IsOf}
-use Rattle.cw_solve.specs.Routes.{AreRouted}
+use Rattle.cw_product.specs.Routed.{AreRouted, IsOf}
+use Rattle.cw_solve.specs.Contexts.{context}
 use Rattle.cw_solve.specs.Tables.{IsTable, HasCell}
 use Rattle.cw_solve.proofs.Falls.{back_stays}
 use Rattle.cw_solve.proofs.Slots.{slot_within}
@@ -16,14 +17,14 @@ use Rattle.cw_linked.specs.declared.work.Cell.{Cell}
 use Rattle.cw_linked.specs.declared.work.Work.{Work}
 use Rattle.cw_linked.specs.Founds.{Found, AreAlike, IsLink, IsTied, AreRight, Nothing, AllClosed, AllCalled, AllStanding}
 use Rattle.cw_linked.specs.Popped.{Finishes}
-use Rattle.cw_linked.specs.Queues.{found_of, IsLinkAt, AreDue, LowersKeys, IsCellAt}
+use Rattle.cw_linked.specs.Queues.{found_of, IsLinkAt, AreMarked, AreDue, LowersKeys, IsCellAt}
 use Rattle.cw_linked.specs.Returns.{Returns, AreFew}
 use Rattle.cw_linked.specs.Steps.{with_links, Ties, CallsBy, IsIt}
 use Rattle.cw_linked.specs.Tied.{IsFirm, IsTieable, TiesLink, AsksCalls, AsksAgain}
 use Rattle.cw_linked.specs.Works.{AreUpTo, place_at, value_at}
 use Rattle.cw_linked.proofs.Bounding.{place_is}
-use Rattle.cw_linked.proofs.Finishing.{next_table, next_owners, next_callers, next_right, next_cell, next_closed, next_called}
-use Rattle.cw_linked.proofs.Staying.{owners_on}
+use Rattle.cw_linked.proofs.Finishing.{next_table, next_owners, next_callers, next_marked, next_right, next_cell, next_closed, next_called}
+use Rattle.cw_linked.proofs.Staying.{owners_on, marked_on}
 use Rattle.cw_linked.proofs.Takings.{found_in}
 use Rattle.cw_linked.proofs.Telling.{below, up_to_set, still_standing, two_steps}
 use Rattle.cw_linked.proofs.Tying.{tied_right, tied_called, tied_standing}
@@ -47,6 +48,9 @@ module _ (g : Game) (functions : ℕ) (routed : AreRouted g functions) (alike : 
   pub within : place < length old.table.heights.items
   within = omega (arith, tieable.at.place, slot_within g Contexts link.at.number link.at.context link.pos.0 link.state.0 tieable.at.is, tieable.firm.table.cells)
 
+  pub link_marked : is_marked old.store.marks place ≡ true
+  link_marked = tieable.firm.marked place (link.at.number, link.at.context, link.pos.0, link.state.0, call, is_link, place_here)
+
   functions_below : (i : ℕ) (c : Context) → slice_get Contexts i ≡ Some c → c.function < functions
   functions_below = below g functions routed alike old old tieable.firm.table
 
@@ -54,8 +58,8 @@ module _ (g : Game) (functions : ℕ) (routed : AreRouted g functions) (alike : 
     tables : old.table ≡ mid.table
     tables = sym ties.table
 
-    ties_to : mid.to.items ≡ set old.to.items place (suc callee)
-    ties_to = ties.to ∙ ap (λ (v : ℕ). set old.to.items place v) (next callee)
+    ties_to : mid.store.to ≡ set old.store.to place (suc callee)
+    ties_to = ties.to ∙ ap (λ (v : ℕ). set old.store.to place v) (next callee)
       where
         next : (n : ℕ) → n + 1 ≡ suc n
         next n = omega arith
@@ -64,44 +68,44 @@ module _ (g : Game) (functions : ℕ) (routed : AreRouted g functions) (alike : 
     lengths = ap (λ (t : Table). length t.heights.items) ties.table
 
     abbrev To : ℕ → ℕ → ℕ → ℕ
-    To = λ i p k. value_at g Contexts (set old.to.items place (suc callee)) i p k - 1
+    To = λ i p k. value_at g Contexts (set old.store.to place (suc callee)) i p k - 1
 
     abbrev Wave : ℕ → ℕ → ℕ → ℕ
-    Wave = value_at g Contexts (set old.waves.items place moves)
+    Wave = value_at g Contexts (set old.store.waves place moves)
 
     abbrev Tied : ℕ → ℕ → ℕ → Bool
-    Tied = λ i p k. not (nat_eq (value_at g Contexts (set old.to.items place (suc callee)) i p k) 0)
+    Tied = λ i p k. not (nat_eq (value_at g Contexts (set old.store.to place (suc callee)) i p k) 0)
 
     abbrev After : Found
     After = with_links (found_of g old) To Wave Tied
 
     found_mid : found_of g mid ≡ After
     found_mid =
-        ap (λ (t : Table). found_in g t.contexts.items t.heights.items mid.asked.items mid.to.items mid.waves.items mid.due.items) ties.table
-        ∙ ap (λ (ys : List ℕ). found_in g Contexts old.table.heights.items ys mid.to.items mid.waves.items mid.due.items) ties.asked
-        ∙ ap (λ (ys : List ℕ). found_in g Contexts old.table.heights.items old.asked.items ys mid.waves.items mid.due.items) ties_to
-        ∙ ap (λ (ys : List ℕ). found_in g Contexts old.table.heights.items old.asked.items (set old.to.items place (suc callee)) ys mid.due.items) ties.waves
-        ∙ ap (λ (ys : List ℕ). found_in g Contexts old.table.heights.items old.asked.items (set old.to.items place (suc callee)) (set old.waves.items place moves) ys) ties.due
+        ap (λ (t : Table). found_in g t.contexts.items t.heights.items mid.store.asked mid.store.to mid.store.waves mid.store.due) ties.table
+        ∙ ap (λ (ys : List ℕ). found_in g Contexts old.table.heights.items ys mid.store.to mid.store.waves mid.store.due) ties.asked
+        ∙ ap (λ (ys : List ℕ). found_in g Contexts old.table.heights.items old.store.asked ys mid.store.waves mid.store.due) ties_to
+        ∙ ap (λ (ys : List ℕ). found_in g Contexts old.table.heights.items old.store.asked (set old.store.to place (suc callee)) ys mid.store.due) ties.waves
+        ∙ ap (λ (ys : List ℕ). found_in g Contexts old.table.heights.items old.store.asked (set old.store.to place (suc callee)) (set old.store.waves place moves) ys) ties.due
 
     is_tied_there : Ties g Contexts (found_of g old) To Wave Tied link.at.number link.pos.0 link.state.0 callee moves
     is_tied_there =
-        subst (λ (k : ℕ). Ties g Contexts (found_of g old) (λ i p q. value_at g Contexts (set old.to.items k (suc callee)) i p q - 1) (value_at g Contexts (set old.waves.items k moves))
-        (λ i p q. not (nat_eq (value_at g Contexts (set old.to.items k (suc callee)) i p q) 0)) link.at.number link.pos.0 link.state.0 callee moves) (sym place_here)
-        (ties_written g Contexts (found_of g old) link.at.number link.at.context link.pos.0 link.state.0 call is_link old.to.items old.waves.items callee moves
+        subst (λ (k : ℕ). Ties g Contexts (found_of g old) (λ i p q. value_at g Contexts (set old.store.to k (suc callee)) i p q - 1) (value_at g Contexts (set old.store.waves k moves))
+        (λ i p q. not (nat_eq (value_at g Contexts (set old.store.to k (suc callee)) i p q) 0)) link.at.number link.pos.0 link.state.0 callee moves) (sym place_here)
+        (ties_written g Contexts (found_of g old) link.at.number link.at.context link.pos.0 link.state.0 call is_link old.store.to old.store.waves callee moves
         (omega (arith, place_here, within, tieable.firm.long.to)) (omega (arith, place_here, within, tieable.firm.long.waves)) (λ i p k. refl) (λ i p k. refl) (λ i p k. refl))
 
     free : (found_of g old).due link.at.number link.pos.0 link.state.0 ≡ 0
-    free = ap (slice_index old.due.items) (sym place_here) ∙ tieable.free
+    free = ap (slice_index old.store.due) (sym place_here) ∙ tieable.free
 
     there : slice_get Contexts callee ≡ Some (context call.function target.promise)
     there = tieable.there ∙ ap (λ (f : ℕ). Some (context f target.promise)) (sym tieable.ready.3)
 
     dues : AreDue g mid
     dues k lt some = elim (cases_eq k place) [
-      | inl e ↦ absurd (let z : slice_index mid.due.items k ≡ 0 = ap (slice_index mid.due.items) e ∙ ap (λ (ys : List ℕ). slice_index ys place) ties.due ∙ tieable.free in omega (arith, z, some))
+      | inl e ↦ absurd (let z : slice_index mid.store.due k ≡ 0 = ap (slice_index mid.store.due) e ∙ ap (λ (ys : List ℕ). slice_index ys place) ties.due ∙ tieable.free in omega (arith, z, some))
       | inr ne ↦
           let same = ap (λ (ys : List ℕ). slice_index ys k) ties.due in
-          let to : slice_index mid.to.items k ≡ slice_index old.to.items k = ap (λ (ys : List ℕ). slice_index ys k) ties_to ∙ get_or-set_other old.to.items place k (suc callee) 0 ne in
+          let to : slice_index mid.store.to k ≡ slice_index old.store.to k = ap (λ (ys : List ℕ). slice_index ys k) ties_to ∙ get_or-set_other old.store.to place k (suc callee) 0 ne in
           let h = tieable.firm.dues k (omega (arith, lt, lengths)) (omega (arith, some, same)) in (
             subst (λ (t : Table). IsLinkAt g t.contexts.items k) tables h.0,
             λ tied. let low = h.1 (omega (arith, tied, to)) in omega (arith, low, same),
@@ -113,20 +117,21 @@ module _ (g : Game) (functions : ℕ) (routed : AreRouted g functions) (alike : 
       table = subst (IsTable g) tables tieable.firm.table;
       long = record {
         owners = ap (λ (ys : List ℕ). length ys) ties.owners ∙ tieable.firm.long.owners ∙ sym lengths;
+        marks = ap (λ (ms : List Bool). length ms) ties.marks ∙ tieable.firm.long.marks ∙ sym lengths;
         asked = ap (λ (ys : List ℕ). length ys) ties.asked ∙ tieable.firm.long.asked ∙ sym lengths;
         due = ap (λ (ys : List ℕ). length ys) ties.due ∙ tieable.firm.long.due ∙ sym lengths;
-        to = ap (λ (ys : List ℕ). length ys) ties_to ∙ length-set old.to.items place (suc callee) ∙ tieable.firm.long.to ∙ sym lengths;
-        waves = ap (λ (ys : List ℕ). length ys) ties.waves ∙ length-set old.waves.items place moves ∙ tieable.firm.long.waves ∙ sym lengths;
+        to = ap (λ (ys : List ℕ). length ys) ties_to ∙ length-set old.store.to place (suc callee) ∙ tieable.firm.long.to ∙ sym lengths;
+        waves = ap (λ (ys : List ℕ). length ys) ties.waves ∙ length-set old.store.waves place moves ∙ tieable.firm.long.waves ∙ sym lengths;
       };
       owners = owners_on g old mid ties.table ties.owners tieable.firm.owners;
-      queued = ties.queued;
       high = record {
         heights = subst (λ (t : Table). AreUpTo t.heights.items t.written) tables tieable.firm.high.heights;
-        asked = subst (λ (t : Table). AreUpTo mid.asked.items (2 * t.written + 2)) tables (subst (λ (ys : List ℕ). AreUpTo ys (2 * old.table.written + 2)) (sym ties.asked) tieable.firm.high.asked);
-        due = subst (λ (t : Table). AreUpTo mid.due.items (2 * t.written + 1)) tables (subst (λ (ys : List ℕ). AreUpTo ys (2 * old.table.written + 1)) (sym ties.due) tieable.firm.high.due);
-        waves = subst (λ (t : Table). AreUpTo mid.waves.items t.written) tables (subst (λ (ys : List ℕ). AreUpTo ys old.table.written) (sym ties.waves)
-            (up_to_set old.waves.items place moves old.table.written (omega (arith, within, tieable.firm.long.waves)) tieable.low tieable.firm.high.waves));
+        asked = subst (λ (t : Table). AreUpTo mid.store.asked (2 * t.written + 2)) tables (subst (λ (ys : List ℕ). AreUpTo ys (2 * old.table.written + 2)) (sym ties.asked) tieable.firm.high.asked);
+        due = subst (λ (t : Table). AreUpTo mid.store.due (2 * t.written + 1)) tables (subst (λ (ys : List ℕ). AreUpTo ys (2 * old.table.written + 1)) (sym ties.due) tieable.firm.high.due);
+        waves = subst (λ (t : Table). AreUpTo mid.store.waves t.written) tables (subst (λ (ys : List ℕ). AreUpTo ys old.table.written) (sym ties.waves)
+            (up_to_set old.store.waves place moves old.table.written (omega (arith, within, tieable.firm.long.waves)) tieable.low tieable.firm.high.waves));
       };
+      marked = marked_on g old mid (ap (λ (t : Table). t.contexts.items) ties.table) ties.marks tieable.firm.marked;
       callers = ties.callers;
       dues = dues;
       right = subst (λ (t : Table). AreRight g t.contexts.items (found_of g mid)) tables (subst (λ (s : Found). AreRight g Contexts s) (sym found_mid)
@@ -143,8 +148,8 @@ module _ (g : Game) (functions : ℕ) (routed : AreRouted g functions) (alike : 
           ∙ place_is g mid.table.contexts.items link.at.number link.at.context link.pos.0 link.state.0 (subst (λ (t : Table). slice_get t.contexts.items link.at.number ≡ Some link.at.context) tables tieable.at.is.at);
     }
 
-    pub mid_goes : slice_index mid.to.items place ≡ suc callee
-    mid_goes = ap (λ (ys : List ℕ). slice_index ys place) ties_to ∙ get_or-set_same old.to.items place (suc callee) 0 (omega (arith, within, tieable.firm.long.to))
+    pub mid_goes : slice_index mid.store.to place ≡ suc callee
+    mid_goes = ap (λ (ys : List ℕ). slice_index ys place) ties_to ∙ get_or-set_same old.store.to place (suc callee) 0 (omega (arith, within, tieable.firm.long.to))
 
     pub mid_there : slice_get mid.table.contexts.items callee ≡ Some target
     mid_there = subst (λ (t : Table). slice_get t.contexts.items callee ≡ Some target) tables tieable.there
@@ -185,6 +190,9 @@ module _ (g : Game) (functions : ℕ) (routed : AreRouted g functions) (alike : 
       pub one_few : AreFew one
       one_few = (next_callers g functions routed alike mid one mid_firm.table calls.step mid_firm.callers).few
 
+      pub one_marked : AreMarked g one
+      one_marked = next_marked g functions routed alike mid one mid_firm.table calls.step mid_firm.marked
+
       pub one_cell : HasCell g one.table link.at link.pos.0 link.state.0
       one_cell = next_cell g functions routed alike mid one mid_firm.table calls.step link mid_at.is
 
@@ -202,13 +210,13 @@ module _ (g : Game) (functions : ℕ) (routed : AreRouted g functions) (alike : 
         one_called : AllCalled g one.table.contexts.items (found_of g one) Nothing
         one_called = subst (λ (t : Table). AllCalled g t.contexts.items (found_of g one) Nothing) (sym calls.step.others.table) calls.called
 
-        pub tied_all : Finishes g old new (set old.to.items place (callee + 1))
+        pub tied_all : Finishes g old new (set old.store.to place (callee + 1))
         tied_all = record {
           kept = record {
             table = next_table g functions routed alike mid new mid_firm.table both;
             long = both.long;
             owners = next_owners g functions routed alike mid new mid_firm.table both mid_firm.owners;
-            queued = both.queued;
+            marked = next_marked g functions routed alike mid new mid_firm.table both mid_firm.marked;
             high = both.high;
             callers = next_callers g functions routed alike mid new mid_firm.table both mid_firm.callers;
             dues = both.dues mid_firm.dues;

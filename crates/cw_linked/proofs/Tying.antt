@@ -7,7 +7,7 @@ use Rattle.cw_game.specs.Games.{Game, returned, Holds}
 use Rattle.cw_game.specs.Pairs.{has, Called, is_call_in, kept_at}
 use Rattle.cw_solve.specs.declared.contexts.Context.{Context}
 use Rattle.cw_solve.specs.Contexts.{context, promise_at, IsSetOf}
-use Rattle.cw_solve.specs.Routes.{AreRouted}
+use Rattle.cw_product.specs.Routed.{AreRouted}
 use Rattle.cw_solve.specs.Rounds.{IsCell, IsAsked, holds_by}
 use Rattle.cw_solve.proofs.Falls.{same_bools, not_both, sooner, member_is, set_as}
 use Rattle.cw_solve.proofs.Still.{call_or_not}

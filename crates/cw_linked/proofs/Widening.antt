@@ -1,46 +1,21 @@
--- Room is made for a context, and it is pushed: what stands there then.
-use Rattle.std.proofs.Common.{◌≡◌, ℕ, suc, ◌+◌, ◌-◌, ◌<◌, ◌≤◌, List, [], ◌∷◌, ◌++◌, length, replicate, refl, ap, ◌∙◌, subst, arith}
+-- A context is pushed: it is one of few, and what stands there then.
+use Rattle.std.proofs.Common.{◌≡◌, ℕ, suc, ◌+◌, ◌-◌, ◌<◌, ◌≤◌, List, [], ◌∷◌, ◌++◌, length, replicate, refl, sym, ap, ◌∙◌, subst, arith}
 use Rattle.std.specs.Prelude.{Contains}
 use Rattle.std.proofs.Math.Nat.{mul-le-mul}
 use Rattle.std.proofs.lemmas.List.{length_push}
 use Rattle.std.proofs.lemmas.List.Elements.{Contains-push}
 use Rattle.std.proofs.lemmas.List.Sums.{sum_by-cons}
 use Rattle.cw_game.specs.Games.{Game}
+use Rattle.cw_store.specs.Stores.{Stored, with_lists}
 use Rattle.cw_solve.specs.declared.contexts.Context.{Context}
 use Rattle.cw_solve.specs.declared.table.Table.{Table}
 use Rattle.cw_solve.specs.Contexts.{size, cells_of}
-use Rattle.cw_solve.specs.Routes.{IsThere, AreRouted}
+use Rattle.cw_product.specs.Routed.{IsThere, AreRouted}
 use Rattle.cw_solve.specs.Tables.{AreTabled}
 use Rattle.cw_solve.proofs.Tabling.{there}
 use Rattle.cw_linked.specs.declared.work.Work.{Work}
-use Rattle.cw_linked.specs.Added.{Widens, Lengthens, Pushes}
-use Rattle.cw_linked.specs.Calls.{AreCallers}
-use Rattle.cw_linked.proofs.Staying.{callers_on}
-
-module _ (old mid : Work) (cells : ℕ) (widens : Widens old mid cells) where
-  pub widened_callers : AreCallers old → AreCallers mid
-  widened_callers = callers_on old mid widens.table widens.to widens.callers widens.lists
-
-  module _ (two : Work) (lengthens : Lengthens mid two) where
-    lengthened_table : two.table ≡ old.table
-    lengthened_table = lengthens.table ∙ widens.table
-
-    -- and a context is pushed
-    pub pushes_then : (new : Work) (c : Context) (many : ℕ) → Pushes two new c many → Pushes old new c many
-    pushes_then new c many pushes = record {
-      contexts = subst (λ (t : Table). new.table.contexts.items ≡ t.contexts.items ++ c ∷ []) lengthened_table pushes.contexts;
-      bases = subst (λ (t : Table). new.table.bases.items ≡ t.bases.items ++ length t.heights.items ∷ []) lengthened_table pushes.bases;
-      written = pushes.written ∙ ap (λ (t : Table). t.written) lengthened_table;
-      heights = subst (λ (t : Table). new.table.heights.items ≡ t.heights.items ++ replicate many 0) lengthened_table pushes.heights;
-      owners = pushes.owners ∙ ap (λ (t : Table). two.owners.items ++ replicate many (length t.contexts.items)) lengthened_table
-          ∙ ap (λ (ys : List ℕ). ys ++ replicate many (length old.table.contexts.items)) (lengthens.owners ∙ widens.owners);
-      asked = pushes.asked ∙ ap (λ (ys : List ℕ). ys ++ replicate many 0) (lengthens.asked ∙ widens.asked);
-      due = pushes.due ∙ ap (λ (ys : List ℕ). ys ++ replicate many 0) (lengthens.due ∙ widens.due);
-      to = pushes.to ∙ ap (λ (ys : List ℕ). ys ++ replicate many 0) (lengthens.to ∙ widens.to);
-      waves = pushes.waves ∙ ap (λ (ys : List ℕ). ys ++ replicate many 0) (lengthens.waves ∙ widens.waves);
-      callers = pushes.callers;
-      queued = pushes.queued;
-    }
+use Rattle.cw_linked.specs.Added.{PushesPlaces, PushesContext, MarksLinks, Pushes, IsOpen}
+use Rattle.cw_linked.proofs.Pushing.{cells_longer}
 
 -- Contexts that may be tabled are few.
 module _ (g : Game) (functions : ℕ) (routed : AreRouted g functions) where
@@ -66,3 +41,35 @@ module _ (g : Game) (functions : ℕ) (routed : AreRouted g functions) where
     few_contexts =
         let le = few_by (contexts ++ c ∷ []) (λ d is. size_some d.function (there g functions routed d (tabled.needed.needed d is))) in
         omega (arith, le, tabled.few, length_push contexts c)
+
+pub few_cells : (g : Game) (w : Work) (c : Context) → IsOpen g w → AreTabled g (w.table.contexts.items ++ c ∷ []) → length w.table.heights.items + size g c.function ≤ 4194304
+few_cells g w c kept tabled = omega (arith, kept.blocks.cells, tabled.few, cells_longer g w.table.contexts.items c)
+
+-- Lists are made, places are added to the store, and the context to the table.
+pub pushes_then : (g : Game) (old mid new : Work) (c : Context) (reached : Stored) (many : ℕ) → reached ≡ with_lists old.store reached.lists → length old.store.lists ≤ length reached.lists
+    → length old.table.contexts.items + 2 ≤ length reached.lists → PushesPlaces reached mid.store (size g c.function) → MarksLinks g reached.marks mid.store.marks c.function (size g c.function)
+    → mid.table ≡ old.table → mid.owners.items ≡ old.owners.items → PushesContext mid new c many → many ≡ size g c.function → Pushes g old new c (size g c.function)
+pushes_then g old mid new c reached many same more enough added marked table owners pushes size_is =
+    let places = subst (λ (s : Stored). PushesPlaces s mid.store (size g c.function)) same added in
+    let there : PushesContext mid new c (size g c.function) = subst (λ (n : ℕ). PushesContext mid new c n) size_is pushes in
+    let all : PushesPlaces old.store mid.store (size g c.function) = record {
+      asked = places.asked;
+      due = places.due;
+      to = places.to;
+      waves = places.waves;
+      long = places.long;
+      kept = places.kept;
+      lists = omega (arith, more, added.lists);
+    } in
+    record {
+      contexts = there.contexts ∙ ap (λ (t : Table). t.contexts.items ++ c ∷ []) table;
+      bases = there.bases ∙ ap (λ (t : Table). t.bases.items ++ length t.heights.items ∷ []) table;
+      written = there.written ∙ ap (λ (t : Table). t.written) table;
+      heights = there.heights ∙ ap (λ (t : Table). t.heights.items ++ replicate (size g c.function) 0) table;
+      owners = there.owners ∙ ap (λ (t : Table). mid.owners.items ++ replicate (size g c.function) (length t.contexts.items)) table
+          ∙ ap (λ (ys : List ℕ). ys ++ replicate (size g c.function) (length old.table.contexts.items)) owners;
+      places = subst (λ (s : Stored). PushesPlaces old.store s (size g c.function)) (sym there.store) all;
+      marked = subst (λ (s : Stored). MarksLinks g old.store.marks s.marks c.function (size g c.function)) (sym there.store)
+          (subst (λ (s : Stored). MarksLinks g s.marks mid.store.marks c.function (size g c.function)) same marked);
+      lists = (let e = ap (λ (s : Stored). length s.lists) there.store in omega (arith, enough, added.lists, e));
+    }

@@ -1,8 +1,8 @@
 -- Working definitions: the lists of the links that go to each context.
-use Rattle.std.specs.Prelude.{◌≡◌, ℕ, ◌<◌, ◌≤◌, List, Some, length, slice_get, slice_index, Contains}
+use Rattle.std.specs.Prelude.{◌≡◌, ℕ, ◌<◌, ◌≤◌, List, Bool, Some, length, slice_get, slice_index, Contains}
 use Rattle.cw_game.specs.Games.{Game}
 use Rattle.cw_game.specs.Pairs.{Called, call_in}
-use Rattle.cw_links.specs.Lists.{list_at}
+use Rattle.cw_marks.specs.Marks.{rank}
 use Rattle.cw_solve.specs.declared.contexts.Context.{Context}
 use Rattle.cw_solve.specs.Rounds.{IsCell}
 use Rattle.cw_linked.specs.declared.work.Cell.{Cell}
@@ -12,19 +12,16 @@ use Rattle.cw_linked.specs.Queues.{found_of, LowersKeys}
 use Rattle.cw_linked.specs.Steps.{IsSame}
 use Rattle.cw_linked.specs.Works.{place_at}
 
--- the link at a place stands in the list of its number, which is 0 where it isn't tied
+-- there is a list for each context, and links go to these
 pub record AreCallers (w : Work) : Type 0 where
-  pub lists : length w.callers.lists ≡ w.lists
-  pub more : length w.table.contexts.items < w.lists
-  pub values : length w.callers.values ≡ length w.table.heights.items
-  pub there : (k : ℕ) → k < length w.table.heights.items → Contains (list_at w.callers.lists (slice_index w.to.items k)) k
-  pub few : (k : ℕ) → k < length w.table.heights.items → slice_index w.to.items k ≤ length w.table.contexts.items
+  pub more : length w.table.contexts.items < length w.store.lists
+  pub few : (k : ℕ) → k < length w.table.heights.items → slice_index w.store.to k ≤ length w.table.contexts.items
 
 -- the calls whose link goes to a cell of an entry, and stands in what is left of its list
-abbrev pub CallsLeft : Game → List Context → Found → List ℕ → (j r x : ℕ) → ℕ → ℕ → ℕ → Type 0
-CallsLeft g contexts s rest j r x i p q =
+abbrev pub CallsLeft : Game → List Context → List Bool → Found → List ℕ → (j r x : ℕ) → ℕ → ℕ → ℕ → Type 0
+CallsLeft g contexts marks s rest j r x i p q =
     (call : Called) × (call_in (slice_get g.spots p) ≡ Some call) × IsSame (s.to i p (class_of g call.split q)) (g.entry call.function) q j r x
-    × Contains rest (place_at g contexts i p (class_of g call.split q))
+    × Contains rest (rank marks (place_at g contexts i p (class_of g call.split q)))
 
 -- the call of the link at a place is asked for, if the link goes to the context of this cell and the state of the cell is of its class
 pub record AsksCaller (g : Game) (old new : Work) (k : ℕ) (cell : Cell) : Type 0 where

@@ -25,4 +25,4 @@ abbrev pub work_left : Game → Work → ℕ
 work_left g w =
     (4194304 - length w.table.heights.items) * (g.states.count + 2)
     + count_by is_none w.table.heights.items
-    + sum_by (ties_left g w.table.contexts.items) w.to.items
+    + sum_by (ties_left g w.table.contexts.items) w.store.to

@@ -1,7 +1,7 @@
 -- Working definitions: what waits under the least key is taken.
-use Rattle.std.specs.Prelude.{◌≡◌, ℕ, ◌+◌, ◌/◌, ◌<◌, ◌≤◌, List, Some, length, slice_index, slice_set}
+use Rattle.std.specs.Prelude.{◌≡◌, ℕ, ◌+◌, ◌/◌, ◌<◌, List, length, slice_index, slice_set}
 use Rattle.cw_game.specs.Games.{Game}
-use Rattle.cw_links.specs.Heights.{height_at, AreOut}
+use Rattle.cw_store.specs.Keys.{AreFrom, AreEmpty}
 use Rattle.cw_solve.specs.Tables.{IsTable, HasCell}
 use Rattle.cw_linked.specs.declared.popped.Popped.{Popped}
 use Rattle.cw_linked.specs.declared.popped.Popped.TheVariants.{Nothing as Empty, Cell as OfCell, Link as OfLink}
@@ -9,48 +9,41 @@ use Rattle.cw_linked.specs.declared.work.Cell.{Cell}
 use Rattle.cw_linked.specs.declared.work.Work.{Work}
 use Rattle.cw_linked.specs.Calls.{AreCallers}
 use Rattle.cw_linked.specs.Founds.{AreRight, AllClosed, AllCalled, AllStanding, AreFound}
-use Rattle.cw_linked.specs.Queues.{found_of, AreQueued, AreLong, AreSameBut, AreOwners, AreHigh, AreDue}
+use Rattle.cw_linked.specs.Queues.{found_of, AreMarked, AreLong, AreSameBut, AreOwners, AreHigh, AreDue}
 use Rattle.cw_linked.specs.Steps.{WaitsFor, CallsThere, ReturnsThere}
 use Rattle.cw_linked.specs.Works.{heights_of}
-
--- no element has a key below this one
-abbrev pub IsLeast : Work → ℕ → Type 0
-IsLeast w key = (e k : ℕ) → height_at w.buckets e ≡ Some k → key ≤ k
 
 -- the cell at a place had the least key, and has its height now and waits no more
 pub record TakesCell (old new : Work) (place height : ℕ) : Type 0 where
   pub within : place < length old.table.heights.items
-  pub some : 0 < slice_index old.asked.items place
-  pub half : height ≡ slice_index old.asked.items place / 2
-  pub least : IsLeast old (slice_index old.asked.items place)
+  pub some : 0 < slice_index old.store.asked place
+  pub half : height ≡ slice_index old.store.asked place / 2
+  pub least : AreFrom old.store.asked old.store.due (slice_index old.store.asked place)
   pub contexts : new.table.contexts.items ≡ old.table.contexts.items
   pub bases : new.table.bases.items ≡ old.table.bases.items
   pub heights : new.table.heights.items ≡ slice_set old.table.heights.items place height
   pub written : new.table.written ≡ old.table.written + 1
   pub owners : new.owners.items ≡ old.owners.items
-  pub asked : new.asked.items ≡ slice_set old.asked.items place 0
-  pub due : new.due.items ≡ old.due.items
-  pub to : new.to.items ≡ old.to.items
-  pub waves : new.waves.items ≡ old.waves.items
-  pub callers : new.callers ≡ old.callers
-  pub room : new.room ≡ old.room
-  pub lists : new.lists ≡ old.lists
-  pub queued : AreQueued new
+  pub marks : new.store.marks ≡ old.store.marks
+  pub asked : new.store.asked ≡ slice_set old.store.asked place 0
+  pub due : new.store.due ≡ old.store.due
+  pub to : new.store.to ≡ old.store.to
+  pub waves : new.store.waves ≡ old.store.waves
+  pub lists : new.store.lists ≡ old.store.lists
 
 -- the link at a place had the least key, and waits no more
 pub record FreesLink (old new : Work) (place moves : ℕ) : Type 0 where
   pub within : place < length old.table.heights.items
-  pub some : 0 < slice_index old.due.items place
-  pub half : moves ≡ slice_index old.due.items place / 2
-  pub least : IsLeast old (slice_index old.due.items place)
+  pub some : 0 < slice_index old.store.due place
+  pub half : moves ≡ slice_index old.store.due place / 2
+  pub least : AreFrom old.store.asked old.store.due (slice_index old.store.due place)
   pub others : AreSameBut old new
-  pub asked : new.asked.items ≡ old.asked.items
-  pub due : new.due.items ≡ slice_set old.due.items place 0
-  pub queued : AreQueued new
+  pub asked : new.store.asked ≡ old.store.asked
+  pub due : new.store.due ≡ slice_set old.store.due place 0
 
 -- what is taken; where nothing waits nothing changes
 abbrev pub Pops : Work → Work → Popped → Type 0
-Pops old new Empty = AreOut old.buckets × (new ≡ old)
+Pops old new Empty = AreEmpty old.store.asked old.store.due × (new ≡ old)
 Pops old new (OfCell place height) = TakesCell old new place height
 Pops old new (OfLink place moves) = FreesLink old new place moves
 
@@ -59,7 +52,7 @@ pub record IsWork (g : Game) (w : Work) : Type 0 where
   pub table : IsTable g w.table
   pub long : AreLong w
   pub owners : AreOwners g w
-  pub queued : AreQueued w
+  pub marked : AreMarked g w
   pub high : AreHigh w
   pub callers : AreCallers w
   pub dues : AreDue g w
@@ -70,7 +63,7 @@ pub record IsTaken (g : Game) (w : Work) (cell : Cell) (height : ℕ) : Type 0 w
   pub table : IsTable g w.table
   pub long : AreLong w
   pub owners : AreOwners g w
-  pub queued : AreQueued w
+  pub marked : AreMarked g w
   pub high : AreHigh w
   pub callers : AreCallers w
   pub dues : AreDue g w
@@ -86,4 +79,4 @@ pub record IsTaken (g : Game) (w : Work) (cell : Cell) (height : ℕ) : Type 0 w
 pub record Finishes (g : Game) (old new : Work) (numbers : List ℕ) : Type 0 where
   pub kept : IsWork g new
   pub table : new.table ≡ old.table
-  pub to : new.to.items ≡ numbers
+  pub to : new.store.to ≡ numbers

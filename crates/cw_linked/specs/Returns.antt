@@ -23,11 +23,11 @@ pub record AreReturns (g : Game) (returns : Chained PosId) : Type 0 where
 
 -- a link goes to one of the contexts
 abbrev pub AreFew : Work → Type 0
-AreFew w = (k : ℕ) → k < length w.table.heights.items → slice_index w.to.items k ≤ length w.table.contexts.items
+AreFew w = (k : ℕ) → k < length w.table.heights.items → slice_index w.store.to k ≤ length w.table.contexts.items
 
 -- the link at a place goes to a context whose promise has the state
 abbrev pub IsPromised : Work → (k x : ℕ) → Type 0
-IsPromised w k x = (c : Context) × (0 < slice_index w.to.items k) × (slice_get w.table.contexts.items (slice_index w.to.items k - 1) ≡ Some c) × (has c.promise x ≡ true)
+IsPromised w k x = (c : Context) × (0 < slice_index w.store.to k) × (slice_get w.table.contexts.items (slice_index w.store.to k - 1) ≡ Some c) × (has c.promise x ≡ true)
 
 -- a call stands at p that returns to r
 abbrev pub Returns : Game → (p r : ℕ) → Type 0

@@ -10,7 +10,7 @@ use Rattle.cw_linked.specs.declared.work.Cell.{Cell}
 use Rattle.cw_linked.specs.declared.work.Work.{Work}
 use Rattle.cw_linked.specs.Calls.{AreCallers}
 use Rattle.cw_linked.specs.Founds.{IsLink, height_back, IsShrinking, AreRight, Nothing, AllClosed, AllCalled, AllStanding}
-use Rattle.cw_linked.specs.Queues.{found_of, AreQueued, AreLong, AreOwners, AreHigh, AreDue, LowersKeys, IsCellAt}
+use Rattle.cw_linked.specs.Queues.{found_of, AreMarked, AreLong, AreOwners, AreHigh, AreDue, LowersKeys, IsCellAt}
 use Rattle.cw_linked.specs.Steps.{IsReady, CallsBy, IsIt}
 
 -- what the solver keeps but for what waits
@@ -18,7 +18,7 @@ pub record IsFirm (g : Game) (w : Work) : Type 0 where
   pub table : IsTable g w.table
   pub long : AreLong w
   pub owners : AreOwners g w
-  pub queued : AreQueued w
+  pub marked : AreMarked g w
   pub high : AreHigh w
   pub callers : AreCallers w
   pub dues : AreDue g w
@@ -30,14 +30,14 @@ pub record IsFreed (g : Game) (w : Work) (link : Cell) (place moves : ℕ) : Typ
   pub at : IsCellAt g w place link
   pub low : moves ≤ w.table.written
   pub call : (call : Called) × IsLink g w.table.contexts.items link.at.number link.at.context link.pos.0 link.state.0 call
-  pub free : slice_index w.due.items place ≡ 0
+  pub free : slice_index w.store.due place ≡ 0
   pub closed : AllClosed g w.table.contexts.items (found_of g w) Nothing
   pub called : AllCalled g w.table.contexts.items (found_of g w) Nothing
   pub standing : AllStanding g w.table.contexts.items (found_of g w) (IsIt link.at.number link.pos.0 link.state.0)
   pub ready : (call : Called) (set : ℕ) → IsLink g w.table.contexts.items link.at.number link.at.context link.pos.0 link.state.0 call
       → IsSetOf g set (λ y. holds_by moves (height_back g (found_of g w) link.at.number call link.state.0 y))
       → IsReady g w.table.contexts.items (found_of g w) link.at.number link.at.context link.pos.0 link.state.0 call moves set
-  pub shrinks : (call : Called) → IsLink g w.table.contexts.items link.at.number link.at.context link.pos.0 link.state.0 call → 0 < slice_index w.to.items place
+  pub shrinks : (call : Called) → IsLink g w.table.contexts.items link.at.number link.at.context link.pos.0 link.state.0 call → 0 < slice_index w.store.to place
       → IsShrinking g w.table.contexts.items (found_of g w) link.at.number link.pos.0 link.state.0 call moves
 
 -- before it is tied: the context with the number `callee` has what its call promises for so many moves
@@ -45,7 +45,7 @@ pub record IsTieable (g : Game) (w : Work) (link : Cell) (place moves callee bac
   pub firm : IsFirm g w
   pub at : IsCellAt g w place link
   pub low : moves ≤ w.table.written
-  pub free : slice_index w.due.items place ≡ 0
+  pub free : slice_index w.store.due place ≡ 0
   pub closed : AllClosed g w.table.contexts.items (found_of g w) Nothing
   pub called : AllCalled g w.table.contexts.items (found_of g w) Nothing
   pub standing : AllStanding g w.table.contexts.items (found_of g w) (IsIt link.at.number link.pos.0 link.state.0)
@@ -57,12 +57,12 @@ pub record IsTieable (g : Game) (w : Work) (link : Cell) (place moves callee bac
 pub record TiesLink (old new : Work) (place number moves : ℕ) : Type 0 where
   pub table : new.table ≡ old.table
   pub owners : new.owners.items ≡ old.owners.items
-  pub asked : new.asked.items ≡ old.asked.items
-  pub due : new.due.items ≡ old.due.items
-  pub to : new.to.items ≡ slice_set old.to.items place (number + 1)
-  pub waves : new.waves.items ≡ slice_set old.waves.items place moves
+  pub marks : new.store.marks ≡ old.store.marks
+  pub asked : new.store.asked ≡ old.store.asked
+  pub due : new.store.due ≡ old.store.due
+  pub to : new.store.to ≡ slice_set old.store.to place (number + 1)
+  pub waves : new.store.waves ≡ slice_set old.store.waves place moves
   pub callers : AreCallers new
-  pub queued : AreQueued new
 
 -- the calls of a link are asked for whose callee is lost
 pub record AsksCalls (g : Game) (old new : Work) : Type 0 where

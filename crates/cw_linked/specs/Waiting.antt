@@ -1,9 +1,19 @@
 -- Working definitions: what waits for a pair, the same in all contexts.
-use Rattle.std.specs.Prelude.{◌≡◌, ℕ, ◌+◌, ◌*◌, ◌<◌, List, Some, length, slice_get, Contains}
+use Rattle.std.specs.Prelude.{◌≡◌, ℕ, ◌+◌, ◌*◌, ◌<◌, Bool, true, false, Option, Some, length, slice_get, slice_index_or, Contains}
+use Rattle.cw_core.specs.declared.ids.PosId.{PosId}
+use Rattle.cw_game.specs.declared.spots.Spot.{Spot}
+use Rattle.cw_game.specs.declared.spots.Spot.TheVariants.{Visit, Step, Branch}
 use Rattle.cw_game.specs.Games.{Game}
 use Rattle.cw_links.specs.Lists.{Chained, list_at}
+use Rattle.cw_product.specs.Moves.{pos_id}
 use Rattle.cw_linked.specs.declared.edges.Pair.{Pair}
-use Rattle.cw_linked.specs.Steps.{Leads}
+use Rattle.cw_linked.specs.declared.edges.Changes.{Changes}
+use Rattle.cw_linked.specs.declared.edges.Waits.{Waits}
+use Rattle.cw_linked.specs.declared.work.Cell.{Cell}
+use Rattle.cw_linked.specs.declared.work.Work.{Work}
+use Rattle.cw_linked.specs.Founds.{AllClosed}
+use Rattle.cw_linked.specs.Queues.{found_of, LowersKeys}
+use Rattle.cw_linked.specs.Steps.{Leads, WaitsFor}
 
 abbrev pub pair_of : (p q : ℕ) → Pair
 pair_of p q = record { pos = record { 0 = p }; state = record { 0 = q } }
@@ -12,12 +22,42 @@ pair_of p q = record { pos = record { 0 = p }; state = record { 0 = q } }
 abbrev pub pair_number : Game → (p q : ℕ) → ℕ
 pair_number g p q = p * g.states.count + q
 
--- a link of this list has the pair
-abbrev pub IsAmong : Chained Pair → List ℕ → (p q : ℕ) → Type 0
-IsAmong waits rest p q = (edge : ℕ) × Contains rest edge × (slice_get waits.values edge ≡ Some (pair_of p q))
+-- a link of a list has a value
+abbrev pub HasIn : {T : Type 0} → Chained T → ℕ → T → Type 0
+HasIn chains l v = (edge : ℕ) × Contains (list_at chains.lists l) edge × (slice_get chains.values edge ≡ Some v)
 
--- For each pair a list, which has the pairs from which a move leads there.
-pub record AreWaits (g : Game) (waits : Chained Pair) : Type 0 where
-  pub lists : length waits.lists ≡ length g.spots * g.states.count
-  pub fine : (edge : ℕ) (pair : Pair) → slice_get waits.values edge ≡ Some pair → (pair.pos.0 < length g.spots) × (pair.state.0 < g.states.count)
-  pub leads : (p q r x : ℕ) → p < length g.spots → q < g.states.count → Leads g p q r x → IsAmong waits (list_at waits.lists (pair_number g r x)) p q
+-- whether the moves where this stands keep the state: then they lead to the same positions from all states
+abbrev pub keeps_state : Option Spot → Bool
+keeps_state (Some (Visit j i a)) = true
+keeps_state (Some (Step n)) = true
+keeps_state (Some (Branch m n)) = true
+keeps_state _ = false
+
+-- For each position a list, which has the positions that keep the state and lead there.
+pub record AreSources (g : Game) (sources : Chained PosId) : Type 0 where
+  pub lists : length sources.lists ≡ length g.spots
+  pub leads : (p q r x : ℕ) → p < length g.spots → keeps_state (slice_get g.spots p) ≡ true → Leads g p q r x → HasIn sources r (pos_id p)
+
+-- the pair (p, q) is in the list of (r, x), and r is marked
+abbrev pub IsChange : Game → Changes → (p q r x : ℕ) → Type 0
+IsChange g changes p q r x = HasIn changes.pairs (pair_number g r x) (pair_of p q) × (slice_index_or changes.marks.items r false ≡ true)
+
+-- For each pair a list, which has the pairs at the other positions from which a move leads there.
+pub record AreChanges (g : Game) (changes : Changes) : Type 0 where
+  pub lists : length changes.pairs.lists ≡ length g.spots * g.states.count
+  pub marks : length changes.marks.items ≡ length g.spots
+  pub fine : (edge : ℕ) (pair : Pair) → slice_get changes.pairs.values edge ≡ Some pair → (pair.pos.0 < length g.spots) × (pair.state.0 < g.states.count)
+  pub leads : (p q r x : ℕ) → p < length g.spots → q < g.states.count → keeps_state (slice_get g.spots p) ≡ false → Leads g p q r x → IsChange g changes p q r x
+
+pub record AreWaits (g : Game) (waits : Waits) : Type 0 where
+  pub sources : AreSources g waits.sources
+  pub changes : AreChanges g waits.changes
+
+-- of the pairs that wait for a pair those at the other positions
+abbrev pub ChangesFor : Game → (j r x : ℕ) → ℕ → ℕ → ℕ → Type 0
+ChangesFor g j r x i p q = (keeps_state (slice_get g.spots p) ≡ false) × WaitsFor g j r x i p q
+
+-- keys become lower, and all that waits for the cell is asked for but for these
+pub record AsksSources (g : Game) (old new : Work) (cell : Cell) : Type 0 where
+  pub step : LowersKeys g old new
+  pub closed : AllClosed g old.table.contexts.items (found_of g new) (ChangesFor g cell.at.number cell.pos.0 cell.state.0)

@@ -1,9 +1,13 @@
 -- Working definitions: what the solver's vectors say of contexts, positions and states.
 use Rattle.std.specs.Prelude.{ℕ, ◌≤◌, List, Option, Some, None, slice_get, slice_index}
+use Rattle.cw_core.specs.declared.ids.PosId.{PosId}
+use Rattle.cw_core.specs.declared.ids.StateId.{StateId}
 use Rattle.cw_game.specs.Games.{Game}
 use Rattle.cw_solve.specs.declared.contexts.Context.{Context}
 use Rattle.cw_solve.specs.declared.table.Table.{Table}
+use Rattle.cw_solve.specs.declared.table.Tabled.{Tabled}
 use Rattle.cw_solve.specs.Rounds.{slot}
+use Rattle.cw_linked.specs.declared.work.Cell.{Cell}
 
 -- the function of a context, by its number
 abbrev pub function_in : Option Context → ℕ
@@ -22,6 +26,10 @@ value_at g contexts values i p q = slice_index values (place_at g contexts i p q
 
 abbrev pub heights_of : Game → Table → (i p q : ℕ) → ℕ
 heights_of g t = value_at g t.contexts.items t.heights.items
+
+-- the cell of a context, a position and a state
+abbrev pub cell_of : Tabled → PosId → StateId → Cell
+cell_of at pos state = record { at = at; pos = pos; state = state }
 
 -- no number is above this one
 abbrev pub AreUpTo : List ℕ → ℕ → Type 0

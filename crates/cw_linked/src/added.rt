@@ -1,17 +1,16 @@
 //! A context is added: its cells and its links are asked for.
 
-ghost use Rattle.std.specs.Prelude.{◌+◌, ◌∷◌, ◌++◌, [], length, OnOk};
+ghost use Rattle.std.specs.Prelude.{◌∷◌, ◌++◌, [], length, OnOk};
 ghost use Rattle.cw_product.specs.Product.{game_of};
-ghost use Rattle.cw_solve.specs.Contexts.{size, IsOf};
-ghost use Rattle.cw_solve.specs.Routes.{AreRouted};
-ghost use Rattle.cw_solve.specs.Rounds.{slot};
+ghost use Rattle.cw_product.specs.Routed.{AreRouted, IsOf};
+ghost use Rattle.cw_solve.specs.Contexts.{size};
 ghost use Rattle.cw_solve.specs.Tables.{IsTable, IsTabled, HasCell, AreTabled};
-ghost use Rattle.cw_linked.specs.Added.{FreesLinks, Pushes, IsOpen, AddsContext};
-ghost use Rattle.cw_linked.specs.Queues.{AreQueued, AreLong};
+ghost use Rattle.cw_linked.specs.Added.{ThePair, AllOf, Each, FreesLinks, Pushes, IsOpen, AddsContext};
+ghost use Rattle.cw_linked.specs.Queues.{AreMarked, AreLong};
 
 use crate::asked::ask_all;
-use crate::calls::{class_at, is_same};
-use crate::room::{lengthen, push, widen};
+use crate::calls::{class_at, is_call, is_same};
+use crate::room::{push, push_places};
 use crate::work::{Work, ask_link};
 use cw_core::{NoMemory, PosId, StateId};
 use cw_product::Game;
@@ -31,10 +30,8 @@ fn free_link(
     requires table { IsTable (game_of game.now) work.old.table }
     requires cell { HasCell (game_of game.now) work.old.table at.now pos.0 state.0 }
     requires long { AreLong work.old }
-    requires queued { AreQueued work.old }
-    ensures { OnOk result (FreesLinks (game_of game.now) work.old work.new at.now.number at.now.context
-        (slot (game_of game.now) work.old.table.contexts.items at.now.number at.now.context.function pos.0 state.0)
-        (slot (game_of game.now) work.old.table.contexts.items at.now.number at.now.context.function pos.0 state.0 + 1)) }
+    requires marked { AreMarked (game_of game.now) work.old }
+    ensures { OnOk result (FreesLinks (game_of game.now) work.old work.new at.now.number at.now.context (ThePair pos.0 state.0)) }
 {
     match class_at(game, pos, state) {
         None => Ok(()),
@@ -57,11 +54,12 @@ fn free_links(game: &Game, work: &mut Work, at: &Tabled, pos: PosId) -> Result<(
     requires tabled { IsTabled work.old.table at.now }
     requires of { IsOf (game_of game.now) at.now.context.function pos.0 }
     requires long { AreLong work.old }
-    requires queued { AreQueued work.old }
-    ensures { OnOk result (FreesLinks (game_of game.now) work.old work.new at.now.number at.now.context
-        (slot (game_of game.now) work.old.table.contexts.items at.now.number at.now.context.function pos.0 0)
-        (slot (game_of game.now) work.old.table.contexts.items at.now.number at.now.context.function (pos.0 + 1) 0)) }
+    requires marked { AreMarked (game_of game.now) work.old }
+    ensures { OnOk result (FreesLinks (game_of game.now) work.old work.new at.now.number at.now.context (AllOf pos.0)) }
 {
+    if !is_call(game, pos) {
+        return Ok(());
+    }
     for x in 0..game.states() {
         free_link(game, work, at, pos, StateId(x))?;
     }
@@ -74,10 +72,8 @@ fn free_all(game: &Game, work: &mut Work, at: &Tabled) -> Result<(), NoMemory>
     requires table { IsTable (game_of game.now) work.old.table }
     requires tabled { IsTabled work.old.table at.now }
     requires long { AreLong work.old }
-    requires queued { AreQueued work.old }
-    ensures { OnOk result (FreesLinks (game_of game.now) work.old work.new at.now.number at.now.context
-        (slot (game_of game.now) work.old.table.contexts.items at.now.number at.now.context.function ((game_of game.now).entry at.now.context.function) 0)
-        (slot (game_of game.now) work.old.table.contexts.items at.now.number at.now.context.function ((game_of game.now).exit at.now.context.function + 1) 0)) }
+    requires marked { AreMarked (game_of game.now) work.old }
+    ensures { OnOk result (FreesLinks (game_of game.now) work.old work.new at.now.number at.now.context Each) }
 {
     for p in game.entry(at.context.function).0..game.exit(at.context.function).0 + 1 {
         free_links(game, work, at, PosId(p))?;
@@ -90,13 +86,12 @@ fn enlarge(alloc: Global, game: &Game, work: &mut Work, context: &Context) -> Re
     requires routed { AreRouted (game_of game.now) (length game.now.graph.parts.items) }
     requires kept { IsOpen (game_of game.now) work.old }
     requires contexts { AreTabled (game_of game.now) (work.old.table.contexts.items ++ context.now ∷ []) }
-    ensures { OnOk result (Pushes work.old work.new context.now (size (game_of game.now) context.now.function)) }
+    ensures { OnOk result (Pushes (game_of game.now) work.old work.new context.now (size (game_of game.now) context.now.function)) }
 {
-    let many = size(game, context.function);
-    let cells = work.table.heights.len() as u32 + many;
-    widen(alloc, work, cells)?;
-    lengthen(alloc, work)?;
-    push(work, *context, many)?;
+    let lists = work.table.contexts.len() as u32 + 2;
+    work.store.reach(alloc, lists)?;
+    push_places(game, &mut work.store, context.function)?;
+    push(work, *context, size(game, context.function))?;
     Ok(())
 }
 

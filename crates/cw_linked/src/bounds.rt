@@ -1,12 +1,11 @@
 //! What the heights that are taken tell of a cell.
 
-ghost use Rattle.std.specs.Prelude.{◌≡◌, ◌⊎◌, ℕ, suc, false, true, ◌+◌, ◌<◌, ◌≤◌, ◌&&◌, ◌||◌, length, slice_get};
-ghost use Rattle.cw_game.specs.Games.{bad_in};
-ghost use Rattle.cw_game.specs.Pairs.{has, is_call_in, is_exit_in};
+ghost use Rattle.std.specs.Prelude.{◌≡◌, ◌⊎◌, ℕ, suc, false, true, ◌+◌, ◌<◌, ◌≤◌, ◌&&◌, ◌||◌, nat_eq, Some, length, slice_get};
+ghost use Rattle.cw_game.specs.Pairs.{has, is_call_in};
 ghost use Rattle.cw_product.specs.Product.{game_of};
-ghost use Rattle.cw_product.specs.Moves.{next_at};
+ghost use Rattle.cw_product.specs.Moves.{IsState, next_at};
 ghost use Rattle.cw_solve.specs.Asking.{holds_after, holds_by_moves};
-ghost use Rattle.cw_solve.specs.Routes.{AreRouted};
+ghost use Rattle.cw_product.specs.Routed.{AreRouted};
 ghost use Rattle.cw_solve.specs.Rounds.{holds_by};
 ghost use Rattle.cw_solve.specs.Tables.{IsTable, HasCell};
 ghost use Rattle.cw_linked.specs.Founds.{told};
@@ -16,7 +15,8 @@ ghost use Rattle.cw_linked.specs.Works.{heights_of, AreUpTo};
 use cw_certs::Move;
 use cw_core::{PosId, StateId};
 use cw_game::Spot;
-use cw_product::{Game, Turn};
+use cw_product::Game;
+use cw_solve::Context;
 use cw_solve::table::{Table, Tabled, slot};
 
 /// The height of the pair to which a move leads, 0 where none is taken or the move isn't there.
@@ -78,22 +78,45 @@ fn either(a: u32, b: u32) -> u32
 
 /// The number of moves within which the taken heights tell that a pair that is no call and no exit, and isn't bad, is lost;
 /// 0 where they don't.
-fn moves_bound(game: &Game, table: &Table, at: &Tabled, pos: PosId, state: StateId) -> u32
+fn moves_bound(
+    game: &Game,
+    table: &Table,
+    at: &Tabled,
+    pos: PosId,
+    state: StateId,
+    spot: Spot,
+) -> u32
     requires routed { AreRouted (game_of game.now) (length game.now.graph.parts.items) }
     requires table { IsTable (game_of game.now) table.now }
     requires cell { HasCell (game_of game.now) table.now at.now pos.0 state.0 }
+    requires spot { Some spot ≡ slice_get (game_of game.now).spots pos.0 }
     requires high { AreUpTo table.now.heights.items 4194304 }
     ensures tells { (n : ℕ) → holds_by (suc n) result ≡ holds_by_moves (game_of game.now) (told (heights_of (game_of game.now) table.now) at.now.number n) pos.0 state.0
         (has at.now.context.promise) (slice_get (game_of game.now).spots pos.0) }
     ensures high { (most : ℕ) → AreUpTo table.now.heights.items most → result ≤ most + 1 }
 {
     let after = |by: Move| height_after(game, table, at, pos, state, by);
-    match game.spot(pos) {
+    match spot {
         Spot::Visit(_, _, _) => both(after(Move::Skip), after(Move::Try)),
         Spot::Asked(_, _, _) => either(after(Move::Grant), after(Move::Refuse)),
         Spot::Branch(_, _) => either(after(Move::Left), after(Move::Right)),
         Spot::Open(_, _, _) => either(after(Move::Opened), after(Move::Failed)),
         _ => one_more(after(Move::On)),
+    }
+}
+
+/// The number of moves within which the end of a function is lost: 1 where it isn't the end of `main` and the context doesn't
+/// promise the state, else 0.
+fn exit_bound(game: &Game, context: &Context, function: u32, state: StateId) -> u32
+    requires state { IsState (game_of game.now) state.0 }
+    requires few { (game_of game.now).states.count ≤ 1024 }
+    ensures tells { (n : ℕ) → holds_by (suc n) result ≡ (nat_eq function (game_of game.now).main || has context.now.promise state.0) }
+    ensures most { result ≤ 1 }
+{
+    if function == u32::from(game.main()) || context.promise.contains(state) {
+        0
+    } else {
+        1
     }
 }
 
@@ -109,21 +132,17 @@ pub(crate) fn bound(game: &Game, table: &Table, at: &Tabled, pos: PosId, state: 
     ensures call { is_call_in (slice_get (game_of game.now).spots pos.0) ≡ true → result ≡ 0 }
     ensures high { (most : ℕ) → AreUpTo table.now.heights.items most → result ≤ most + 1 }
 {
-    match game.turn(pos) {
-        Turn::Call { .. } => 0,
-        Turn::Exit { main } => {
-            if main || at.context.promise.contains(state) {
-                0
-            } else {
-                1
-            }
-        }
-        Turn::Weaver | Turn::Environment => {
+    let spot = game.spot(pos);
+    match spot {
+        Spot::Call(_, _, _) | Spot::SplitCall(_, _, _) => 0,
+        Spot::Exit(function) => exit_bound(game, &at.context, function, state),
+        Spot::Label(_, _, _) => {
             if game.bad(pos, state) {
                 1
             } else {
-                moves_bound(game, table, at, pos, state)
+                moves_bound(game, table, at, pos, state, spot)
             }
         }
+        _ => moves_bound(game, table, at, pos, state, spot),
     }
 }

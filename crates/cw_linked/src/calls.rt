@@ -1,14 +1,14 @@
 //! The calls of a link are asked for, whose callee is lost.
 
 ghost use Rattle.std.specs.Prelude.{◌≡◌, ◌⊎◌, ◌<◌, ◌≤◌, suc, true, false, Some, length, slice_get, slice_index, OnOk, IfSome, IfNone};
-ghost use Rattle.cw_game.specs.Pairs.{Called, call_in};
+ghost use Rattle.cw_game.specs.Pairs.{Called, call_in, is_call_in};
 ghost use Rattle.cw_product.specs.Product.{game_of};
 ghost use Rattle.cw_product.specs.Moves.{IsPosition, IsState};
-ghost use Rattle.cw_solve.specs.Routes.{AreRouted};
+ghost use Rattle.cw_product.specs.Routed.{AreRouted};
 ghost use Rattle.cw_solve.specs.Tables.{IsTable, HasCell};
 ghost use Rattle.cw_linked.specs.Calls.{AreCallers, AsksCaller, AsksCallers};
 ghost use Rattle.cw_linked.specs.Founds.{class_of, AreRight, AllCalled};
-ghost use Rattle.cw_linked.specs.Queues.{found_of, AreQueued, AreLong, AreOwners, AreHigh};
+ghost use Rattle.cw_linked.specs.Queues.{found_of, AreMarked, AreLong, AreOwners, AreHigh};
 ghost use Rattle.cw_linked.specs.Steps.{CallsThere};
 ghost use Rattle.cw_linked.specs.Works.{heights_of};
 
@@ -33,6 +33,18 @@ pub(crate) fn class_at(game: &Game, pos: PosId, state: StateId) -> Option<StateI
     }
 }
 
+/// Whether a call stands at a position.
+pub(crate) fn is_call(game: &Game, pos: PosId) -> bool
+    requires { IsPosition (game_of game.now) pos.0 }
+    ensures { result ≡ is_call_in (slice_get (game_of game.now).spots pos.0) }
+{
+    match game.turn(pos) {
+        Turn::Call { .. } => true,
+        Turn::Exit { .. } => false,
+        Turn::Weaver | Turn::Environment => false,
+    }
+}
+
 /// Whether two states are the same.
 pub(crate) fn is_same(a: StateId, b: StateId) -> bool
     ensures is { result ≡ true → a.0 ≡ b.0 }
@@ -45,11 +57,11 @@ pub(crate) fn is_same(a: StateId, b: StateId) -> bool
 fn greater(work: &Work, link: usize, height: u32) -> u32
     requires long { AreLong work.now }
     requires within { link < length work.now.table.heights.items }
-    ensures one { (slice_index work.now.waves.items link ≡ result) ⊎ (height ≡ result) }
-    ensures moves { slice_index work.now.waves.items link ≤ result }
+    ensures one { (slice_index work.now.store.waves link ≡ result) ⊎ (height ≡ result) }
+    ensures moves { slice_index work.now.store.waves link ≤ result }
     ensures high { height ≤ result }
 {
-    let moves = work.waves[link];
+    let moves = work.store.wave(link);
     if moves < height { height } else { moves }
 }
 
@@ -57,10 +69,10 @@ fn greater(work: &Work, link: usize, height: u32) -> u32
 fn goes_to(work: &Work, link: usize, number: usize) -> bool
     requires long { AreLong work.now }
     requires within { link < length work.now.table.heights.items }
-    ensures is { result ≡ true → slice_index work.now.to.items link ≡ suc number }
-    ensures not { result ≡ false → slice_index work.now.to.items link ≡ suc number → ⊥ }
+    ensures is { result ≡ true → slice_index work.now.store.to link ≡ suc number }
+    ensures not { result ≡ false → slice_index work.now.store.to link ≡ suc number → ⊥ }
 {
-    let to = work.to[link] as usize;
+    let to = work.store.to(link) as usize;
     if to == 0 { false } else { to - 1 == number }
 }
 
@@ -79,10 +91,9 @@ fn ask_linked(
     requires taken { heights_of (game_of game.now) work.old.table cell.now.at.number cell.now.pos.0 cell.now.state.0 ≡ height }
     requires some { 0 < height }
     requires within { link < length work.old.table.heights.items }
-    requires goes { slice_index work.old.to.items link ≡ suc cell.now.at.number }
+    requires goes { slice_index work.old.store.to link ≡ suc cell.now.at.number }
     requires owners { AreOwners (game_of game.now) work.old }
     requires long { AreLong work.old }
-    requires queued { AreQueued work.old }
     requires high { AreHigh work.old }
     requires right { AreRight (game_of game.now) work.old.table.contexts.items (found_of (game_of game.now) work.old) }
     ensures { OnOk result (AsksCaller (game_of game.now) work.old work.new link cell.now) }
@@ -121,7 +132,6 @@ pub(crate) fn ask_call(
     requires within { link < length work.old.table.heights.items }
     requires owners { AreOwners (game_of game.now) work.old }
     requires long { AreLong work.old }
-    requires queued { AreQueued work.old }
     requires high { AreHigh work.old }
     requires right { AreRight (game_of game.now) work.old.table.contexts.items (found_of (game_of game.now) work.old) }
     ensures { OnOk result (AsksCaller (game_of game.now) work.old work.new link cell.now) }
@@ -149,18 +159,19 @@ pub(crate) fn ask_callers(
     requires some { 0 < height }
     requires owners { AreOwners (game_of game.now) work.old }
     requires callers { AreCallers work.old }
+    requires marked { AreMarked (game_of game.now) work.old }
     requires long { AreLong work.old }
-    requires queued { AreQueued work.old }
     requires high { AreHigh work.old }
     requires right { AreRight (game_of game.now) work.old.table.contexts.items (found_of (game_of game.now) work.old) }
     requires called { AllCalled (game_of game.now) work.old.table.contexts.items (found_of (game_of game.now) work.old)
         (CallsThere (game_of game.now) (found_of (game_of game.now) work.old) cell.now.at.number cell.now.pos.0 cell.now.state.0) }
     ensures { OnOk result (AsksCallers (game_of game.now) work.old work.new) }
 {
-    let mut next = work.callers.first(cell.at.number as u32 + 1);
+    let mut next = work.store.first(cell.at.number as u32 + 1);
     'walk: while let Some(link) = next {
-        ask_call(game, work, cell, height, link as usize)?;
-        next = work.callers.next(link);
+        let place = work.store.place(link);
+        ask_call(game, work, cell, height, place)?;
+        next = work.store.next(link);
     }
     Ok(())
 }

@@ -2,12 +2,12 @@
 
 ghost use Rattle.std.specs.Prelude.{◌≡◌, ◌<◌, length, OnOk};
 ghost use Rattle.cw_product.specs.Product.{game_of};
-ghost use Rattle.cw_solve.specs.Routes.{AreRouted};
+ghost use Rattle.cw_product.specs.Routed.{AreRouted};
 ghost use Rattle.cw_solve.specs.Tables.{IsTable, HasCell};
 ghost use Rattle.cw_linked.specs.Calls.{AreCallers, AsksCallers};
 ghost use Rattle.cw_linked.specs.Founds.{AreRight, AllCalled};
 ghost use Rattle.cw_linked.specs.Popped.{IsTaken, Finishes};
-ghost use Rattle.cw_linked.specs.Queues.{found_of, AreQueued, AreLong, AreOwners, AreHigh};
+ghost use Rattle.cw_linked.specs.Queues.{found_of, AreMarked, AreLong, AreOwners, AreHigh};
 ghost use Rattle.cw_linked.specs.Returns.{AreReturns};
 ghost use Rattle.cw_linked.specs.Steps.{CallsThere};
 ghost use Rattle.cw_linked.specs.Waiting.{AreWaits};
@@ -30,8 +30,8 @@ fn ask_entry(game: &Game, work: &mut Work, cell: &Cell, height: u32) -> Result<(
     requires some { 0 < height }
     requires owners { AreOwners (game_of game.now) work.old }
     requires callers { AreCallers work.old }
+    requires marked { AreMarked (game_of game.now) work.old }
     requires long { AreLong work.old }
-    requires queued { AreQueued work.old }
     requires high { AreHigh work.old }
     requires right { AreRight (game_of game.now) work.old.table.contexts.items (found_of (game_of game.now) work.old) }
     requires called { AllCalled (game_of game.now) work.old.table.contexts.items (found_of (game_of game.now) work.old)
@@ -57,7 +57,7 @@ pub(crate) fn finish(
     requires waits { AreWaits (game_of game.now) edges.now.waits }
     requires returns { AreReturns (game_of game.now) edges.now.returns }
     requires taken { IsTaken (game_of game.now) work.old cell.now height }
-    ensures { OnOk result (Finishes (game_of game.now) work.old work.new work.old.to.items) }
+    ensures { OnOk result (Finishes (game_of game.now) work.old work.new work.old.store.to) }
 {
     ask_waiting(game, &edges.waits, work, cell)?;
     ask_entry(game, work, cell, height)?;

@@ -1,17 +1,18 @@
 //! What waits for a pair, and which calls return to a position, the same in all contexts.
 
-ghost use Rattle.std.specs.Prelude.{◌≡◌, ◌≤◌, ◌+◌, ◌*◌, length, OnOk, IfOk};
-ghost use Rattle.cw_certs.specs.declared.moves.Move.TheVariants as moves;
+ghost use Rattle.std.specs.Prelude.{◌≡◌, ◌≤◌, ◌+◌, ◌*◌, length, slice_get, OnOk, IfOk};
 ghost use Rattle.cw_product.specs.Product.{game_of};
 ghost use Rattle.cw_product.specs.Moves.{IsPosition, IsState};
-ghost use Rattle.cw_solve.specs.Routes.{AreRouted};
-ghost use Rattle.cw_linked.specs.Edges.{AddsMove, AddsMoves, AreWaitsTo, AreReturnsTo};
+ghost use Rattle.cw_product.specs.Routed.{AreRouted};
+ghost use Rattle.cw_linked.specs.Edges.{AddsSource, AddsMove, AddsMoves, AreSourcesTo, AreChangesTo, AreReturnsTo};
 ghost use Rattle.cw_linked.specs.Returns.{AreReturns};
-ghost use Rattle.cw_linked.specs.Waiting.{AreWaits};
+ghost use Rattle.cw_linked.specs.Steps.{first_move, second_move};
+ghost use Rattle.cw_linked.specs.Waiting.{keeps_state, AreSources, AreChanges, AreWaits};
 
 use crate::waiting::pair_number;
 use cw_certs::Move;
 use cw_core::{NoMemory, PosId, StateId};
+use cw_game::Spot;
 use cw_links::Chains;
 use cw_product::{Game, Turn};
 use std::alloc::Global;
@@ -23,17 +24,113 @@ pub(crate) struct Pair {
     pub state: StateId,
 }
 
-/// For each pair those from which a move leads there; for each position those of the calls that return there.
+/// For each pair those at positions that may change the state, from which a move leads there. A position is marked where one of its
+/// pairs has such.
+#[derive(Drop)]
+pub(crate) struct Changes {
+    pub pairs: Chains<Pair>,
+    pub marks: Vec<bool>,
+}
+
+/// What waits for a pair: for each position those from which a move leads there in the same state, whatever the state is; and all others.
+#[derive(Drop)]
+pub(crate) struct Waits {
+    pub sources: Chains<PosId>,
+    pub changes: Changes,
+}
+
+/// What waits for a pair; for each position those of the calls that return there.
 #[derive(Drop)]
 pub(crate) struct Edges {
-    pub waits: Chains<Pair>,
+    pub waits: Waits,
     pub returns: Chains<PosId>,
+}
+
+/// The moves at a position, one or two.
+fn moves_at(game: &Game, pos: PosId) -> (Move, Option<Move>)
+    requires position { IsPosition (game_of game.now) pos.0 }
+    ensures first { first_move (slice_get (game_of game.now).spots pos.0) ≡ result.0 }
+    ensures second { second_move (slice_get (game_of game.now).spots pos.0) ≡ result.1 }
+{
+    match game.spot(pos) {
+        Spot::Visit(_, _, _) => (Move::Skip, Some(Move::Try)),
+        Spot::Asked(_, _, _) => (Move::Grant, Some(Move::Refuse)),
+        Spot::Branch(_, _) => (Move::Left, Some(Move::Right)),
+        Spot::Open(_, _, _) => (Move::Opened, Some(Move::Failed)),
+        Spot::Step(_) | Spot::Label(_, _, _) | Spot::Close(_, _, _) => (Move::On, None),
+        Spot::Call(_, _, _) | Spot::SplitCall(_, _, _) | Spot::Exit(_) => (Move::On, None),
+    }
+}
+
+/// Whether the moves at a position keep the state.
+fn keeps(game: &Game, pos: PosId) -> bool
+    requires position { IsPosition (game_of game.now) pos.0 }
+    ensures { keeps_state (slice_get (game_of game.now).spots pos.0) ≡ result }
+{
+    match game.spot(pos) {
+        Spot::Visit(_, _, _) | Spot::Step(_) | Spot::Branch(_, _) => true,
+        Spot::Asked(_, _, _) | Spot::Label(_, _, _) => false,
+        Spot::Open(_, _, _) | Spot::Close(_, _, _) => false,
+        Spot::Call(_, _, _) | Spot::SplitCall(_, _, _) | Spot::Exit(_) => false,
+    }
+}
+
+/// Puts a position into the list of the one to which a move leads, if there is one.
+fn add_source(
+    game: &Game,
+    sources: &mut Chains<PosId>,
+    pos: PosId,
+    by: Move,
+) -> Result<(), NoMemory>
+    requires routed { AreRouted (game_of game.now) (length game.now.graph.parts.items) }
+    requires position { IsPosition (game_of game.now) pos.0 }
+    requires lists { length sources.old.lists ≡ length (game_of game.now).spots }
+    requires few { length sources.old.values ≤ 16777216 }
+    ensures { OnOk result (AddsSource (game_of game.now) sources.old sources.new pos.0 by) }
+{
+    if let Some((to, _)) = game.next(pos, StateId(0), by) {
+        sources.push_front(to.0, pos)?;
+    }
+    Ok(())
+}
+
+/// Puts a position that keeps the state into the lists of those to which its moves lead.
+fn add_sources(game: &Game, sources: &mut Chains<PosId>, pos: PosId) -> Result<(), NoMemory>
+    requires routed { AreRouted (game_of game.now) (length game.now.graph.parts.items) }
+    requires position { IsPosition (game_of game.now) pos.0 }
+    requires before { AreSourcesTo (game_of game.now) sources.old pos.0 }
+    ensures { OnOk result (AreSourcesTo (game_of game.now) sources.new (pos.0 + 1)) }
+{
+    if !keeps(game, pos) {
+        return Ok(());
+    }
+    let moves = moves_at(game, pos);
+    add_source(game, sources, pos, moves.0)?;
+    match moves.1 {
+        None => Ok(()),
+        Some(by) => {
+            add_source(game, sources, pos, by)?;
+            Ok(())
+        }
+    }
+}
+
+/// For each position those that keep the state and lead there.
+fn make_sources(alloc: Global, game: &Game) -> Result<Chains<PosId>, NoMemory>
+    requires routed { AreRouted (game_of game.now) (length game.now.graph.parts.items) }
+    ensures { IfOk result (AreSources (game_of game.now)) }
+{
+    let mut sources = Chains::make(alloc, game.positions())?;
+    for p in 0..game.positions() {
+        add_sources(game, &mut sources, PosId(p))?;
+    }
+    Ok(sources)
 }
 
 /// Puts a pair into the list of the one to which a move leads, if there is one.
 fn add_move(
     game: &Game,
-    waits: &mut Chains<Pair>,
+    changes: &mut Changes,
     pos: PosId,
     state: StateId,
     by: Move,
@@ -41,12 +138,15 @@ fn add_move(
     requires routed { AreRouted (game_of game.now) (length game.now.graph.parts.items) }
     requires position { IsPosition (game_of game.now) pos.0 }
     requires state { IsState (game_of game.now) state.0 }
-    requires lists { length waits.old.lists ≡ length (game_of game.now).spots * (game_of game.now).states.count }
-    requires few { length waits.old.values ≤ 16777216 }
-    ensures { OnOk result (AddsMove (game_of game.now) waits.old waits.new pos.0 state.0 by) }
+    requires lists { length changes.old.pairs.lists ≡ length (game_of game.now).spots * (game_of game.now).states.count }
+    requires marks { length changes.old.marks.items ≡ length (game_of game.now).spots }
+    requires few { length changes.old.pairs.values ≤ 16777216 }
+    ensures { OnOk result (AddsMove (game_of game.now) changes.old changes.new pos.0 state.0 by) }
 {
     if let Some((to, then)) = game.next(pos, state, by) {
-        waits.push_front(pair_number(game, to, then), Pair { pos, state })?;
+        let list = pair_number(game, to, then);
+        changes.pairs.push_front(list, Pair { pos, state })?;
+        changes.marks[to.0 as usize] = true;
     }
     Ok(())
 }
@@ -54,53 +154,60 @@ fn add_move(
 /// Puts a pair into the lists of those to which its moves lead.
 fn add_moves(
     game: &Game,
-    waits: &mut Chains<Pair>,
+    changes: &mut Changes,
     pos: PosId,
     state: StateId,
+    moves: &(Move, Option<Move>),
 ) -> Result<(), NoMemory>
     requires routed { AreRouted (game_of game.now) (length game.now.graph.parts.items) }
     requires position { IsPosition (game_of game.now) pos.0 }
     requires state { IsState (game_of game.now) state.0 }
-    requires lists { length waits.old.lists ≡ length (game_of game.now).spots * (game_of game.now).states.count }
-    requires few { length waits.old.values ≤ 16777200 }
-    ensures { OnOk result (AddsMoves (game_of game.now) waits.old waits.new pos.0 state.0) }
+    requires first { first_move (slice_get (game_of game.now).spots pos.0) ≡ moves.now.0 }
+    requires second { second_move (slice_get (game_of game.now).spots pos.0) ≡ moves.now.1 }
+    requires lists { length changes.old.pairs.lists ≡ length (game_of game.now).spots * (game_of game.now).states.count }
+    requires marks { length changes.old.marks.items ≡ length (game_of game.now).spots }
+    requires few { length changes.old.pairs.values ≤ 16777200 }
+    ensures { OnOk result (AddsMoves (game_of game.now) changes.old changes.new pos.0 state.0) }
 {
-    add_move(game, waits, pos, state, Move::Skip)?;
-    add_move(game, waits, pos, state, Move::Try)?;
-    add_move(game, waits, pos, state, Move::Grant)?;
-    add_move(game, waits, pos, state, Move::Refuse)?;
-    add_move(game, waits, pos, state, Move::On)?;
-    add_move(game, waits, pos, state, Move::Left)?;
-    add_move(game, waits, pos, state, Move::Right)?;
-    add_move(game, waits, pos, state, Move::Opened)?;
-    add_move(game, waits, pos, state, Move::Failed)?;
-    add_move(game, waits, pos, state, Move::Stop)?;
-    Ok(())
+    add_move(game, changes, pos, state, moves.0)?;
+    match moves.1 {
+        None => Ok(()),
+        Some(by) => {
+            add_move(game, changes, pos, state, by)?;
+            Ok(())
+        }
+    }
 }
 
-/// Puts the pairs of a position into the lists of those to which their moves lead.
-fn add_pairs(game: &Game, waits: &mut Chains<Pair>, pos: PosId) -> Result<(), NoMemory>
+/// Puts the pairs of a position that may change the state into the lists of those to which their moves lead.
+fn add_pairs(game: &Game, changes: &mut Changes, pos: PosId) -> Result<(), NoMemory>
     requires routed { AreRouted (game_of game.now) (length game.now.graph.parts.items) }
     requires position { IsPosition (game_of game.now) pos.0 }
-    requires before { AreWaitsTo (game_of game.now) waits.old pos.0 0 }
-    ensures { OnOk result (AreWaitsTo (game_of game.now) waits.new (pos.0 + 1) 0) }
+    requires before { AreChangesTo (game_of game.now) changes.old pos.0 0 }
+    ensures { OnOk result (AreChangesTo (game_of game.now) changes.new (pos.0 + 1) 0) }
 {
+    if keeps(game, pos) {
+        return Ok(());
+    }
+    let moves = moves_at(game, pos);
     for q in 0..game.states() {
-        add_moves(game, waits, pos, StateId(q))?;
+        add_moves(game, changes, pos, StateId(q), &moves)?;
     }
     Ok(())
 }
 
-/// For each pair those from which a move leads there.
-fn make_waits(alloc: Global, game: &Game) -> Result<Chains<Pair>, NoMemory>
+/// For each pair those at positions that may change the state, from which a move leads there.
+fn make_changes(alloc: Global, game: &Game) -> Result<Changes, NoMemory>
     requires routed { AreRouted (game_of game.now) (length game.now.graph.parts.items) }
-    ensures { IfOk result (AreWaits (game_of game.now)) }
+    ensures { IfOk result (AreChanges (game_of game.now)) }
 {
-    let mut waits = Chains::make(alloc, game.positions() * u32::from(game.states()))?;
+    let pairs = Chains::make(alloc, game.positions() * u32::from(game.states()))?;
+    let marks = vec![in alloc; false; game.positions() as usize]?;
+    let mut changes = Changes { pairs, marks };
     for p in 0..game.positions() {
-        add_pairs(game, &mut waits, PosId(p))?;
+        add_pairs(game, &mut changes, PosId(p))?;
     }
-    Ok(waits)
+    Ok(changes)
 }
 
 /// Puts a position into the list of the one to which it returns, if a call stands there.
@@ -136,7 +243,7 @@ fn make_returns(alloc: Global, game: &Game) -> Result<Chains<PosId>, NoMemory>
 impl Edges {
     ghost use Rattle.std.specs.Prelude.{length, IfOk};
     ghost use Rattle.cw_product.specs.Product.{game_of};
-    ghost use Rattle.cw_solve.specs.Routes.{AreRouted};
+    ghost use Rattle.cw_product.specs.Routed.{AreRouted};
     ghost use Rattle.cw_linked.specs.Returns.{AreReturns};
     ghost use Rattle.cw_linked.specs.Waiting.{AreWaits};
 
@@ -146,8 +253,12 @@ impl Edges {
         ensures waits { IfOk result (λ edges. AreWaits (game_of game.now) edges.waits) }
         ensures returns { IfOk result (λ edges. AreReturns (game_of game.now) edges.returns) }
     {
-        let waits = make_waits(alloc, game)?;
+        let sources = make_sources(alloc, game)?;
+        let changes = make_changes(alloc, game)?;
         let returns = make_returns(alloc, game)?;
-        Ok(Edges { waits, returns })
+        Ok(Edges {
+            waits: Waits { sources, changes },
+            returns,
+        })
     }
 }

@@ -1,9 +1,9 @@
-//! A link that is out of the buckets is taken.
+//! A link that waits no more is taken.
 
 ghost use Rattle.std.specs.Prelude.{◌<◌, length, slice_index, IfOk};
 ghost use Rattle.cw_product.specs.Product.{game_of};
 ghost use Rattle.cw_solve.specs.Contexts.{IsNeeded};
-ghost use Rattle.cw_solve.specs.Routes.{AreRouted};
+ghost use Rattle.cw_product.specs.Routed.{AreRouted};
 ghost use Rattle.cw_linked.specs.Links.{NumbersContext, TakesLink};
 ghost use Rattle.cw_linked.specs.Tied.{IsFirm, IsFreed};
 
@@ -62,7 +62,7 @@ pub(crate) fn take_link(
 ) -> Result<Stepped, NoMemory>
     requires routed { AreRouted (game_of game.now) (length game.now.graph.parts.items) }
     requires freed { IsFreed (game_of game.now) work.old link.now place moves }
-    requires some { 0 < slice_index work.old.to.items place → 0 < moves }
+    requires some { 0 < slice_index work.old.store.to place → 0 < moves }
     ensures { IfOk result (λ stepped. TakesLink (game_of game.now) work.old work.new stepped) }
 {
     let Turn::Call {

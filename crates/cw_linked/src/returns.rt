@@ -3,11 +3,10 @@
 ghost use Rattle.std.specs.Prelude.{◌≡◌, ◌<◌, true, false, length, OnOk};
 ghost use Rattle.cw_product.specs.Product.{game_of};
 ghost use Rattle.cw_product.specs.Moves.{IsPosition};
-ghost use Rattle.cw_solve.specs.Contexts.{IsOf};
-ghost use Rattle.cw_solve.specs.Routes.{AreRouted};
+ghost use Rattle.cw_product.specs.Routed.{AreRouted, IsOf};
 ghost use Rattle.cw_solve.specs.Tables.{IsTable, HasCell};
 ghost use Rattle.cw_linked.specs.Founds.{AreRight, AllStanding};
-ghost use Rattle.cw_linked.specs.Queues.{found_of, AreQueued, AreLong, AreHigh};
+ghost use Rattle.cw_linked.specs.Queues.{found_of, AreMarked, AreLong, AreHigh};
 ghost use Rattle.cw_linked.specs.Returns.{AreReturns, AreFew, IsPromised, Returns, AsksReturn, AsksReturns};
 ghost use Rattle.cw_linked.specs.Steps.{ReturnsThere};
 ghost use Rattle.cw_linked.specs.Works.{heights_of};
@@ -29,7 +28,7 @@ fn is_promised(work: &Work, link: usize, state: StateId) -> bool
     ensures is { result ≡ true → IsPromised work.now link state.0 }
     ensures not { result ≡ false → IsPromised work.now link state.0 → ⊥ }
 {
-    let to = work.to[link] as usize;
+    let to = work.store.to(link) as usize;
     if to == 0 {
         false
     } else {
@@ -67,8 +66,8 @@ fn ask_own(
     requires of { IsOf (game_of game.now) cell.now.at.context.function pos.0 }
     requires returns { Returns (game_of game.now) pos.0 cell.now.pos.0 }
     requires few { AreFew work.old }
+    requires marked { AreMarked (game_of game.now) work.old }
     requires long { AreLong work.old }
-    requires queued { AreQueued work.old }
     requires high { AreHigh work.old }
     requires right { AreRight (game_of game.now) work.old.table.contexts.items (found_of (game_of game.now) work.old) }
     ensures { OnOk result (AsksReturn (game_of game.now) work.old work.new cell.now pos.0) }
@@ -102,8 +101,8 @@ pub(crate) fn ask_return(
     requires some { 0 < height }
     requires position { IsPosition (game_of game.now) pos.0 }
     requires few { AreFew work.old }
+    requires marked { AreMarked (game_of game.now) work.old }
     requires long { AreLong work.old }
-    requires queued { AreQueued work.old }
     requires high { AreHigh work.old }
     requires right { AreRight (game_of game.now) work.old.table.contexts.items (found_of (game_of game.now) work.old) }
     ensures { OnOk result (AsksReturn (game_of game.now) work.old work.new cell.now pos.0) }
@@ -133,8 +132,8 @@ pub(crate) fn ask_returns(
     requires taken { heights_of (game_of game.now) work.old.table cell.now.at.number cell.now.pos.0 cell.now.state.0 ≡ height }
     requires some { 0 < height }
     requires few { AreFew work.old }
+    requires marked { AreMarked (game_of game.now) work.old }
     requires long { AreLong work.old }
-    requires queued { AreQueued work.old }
     requires high { AreHigh work.old }
     requires right { AreRight (game_of game.now) work.old.table.contexts.items (found_of (game_of game.now) work.old) }
     requires standing { AllStanding (game_of game.now) work.old.table.contexts.items (found_of (game_of game.now) work.old)

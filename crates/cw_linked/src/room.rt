@@ -1,119 +1,77 @@
-//! One more context: room for it, and its cells.
+//! One more context: its cells and its links.
 
-ghost use Rattle.std.specs.Prelude.{◌≡◌, ℕ, ◌≤◌, ◌<◌, ◌+◌, ◌*◌, None, length, slice_index, OnOk, IfOk};
-ghost use Rattle.cw_links.specs.Heights.{height_at};
-ghost use Rattle.cw_linked.specs.Added.{Fills, Widens, PushesLinks, AreLinkedBy, Lengthens, Pushes};
-ghost use Rattle.cw_linked.specs.Calls.{AreCallers};
-ghost use Rattle.cw_linked.specs.Queues.{AreQueued, AreLong};
+ghost use Rattle.std.specs.Prelude.{◌≡◌, ◌++◌, ◌∷◌, [], ◌≤◌, ◌<◌, ◌+◌, true, Some, length, replicate, slice_get, OnOk};
+ghost use Rattle.cw_game.specs.Pairs.{Called, call_in};
+ghost use Rattle.cw_product.specs.Product.{game_of};
+ghost use Rattle.cw_product.specs.Moves.{IsPosition, IsState};
+ghost use Rattle.cw_solve.specs.Contexts.{size};
+ghost use Rattle.cw_solve.specs.Rounds.{positions};
+ghost use Rattle.cw_product.specs.Routed.{IsThere, AreRouted};
+ghost use Rattle.cw_linked.specs.Added.{PushesPlaces, PushesContext, MarksState, MarksLinks};
+ghost use Rattle.cw_linked.specs.Founds.{class_of};
+ghost use Rattle.cw_linked.specs.Queues.{AreLong};
 
+use crate::calls::class_at;
 use crate::work::Work;
-use cw_core::NoMemory;
-use cw_links::{Buckets, Chains};
+use cw_core::{NoMemory, PosId, StateId};
+use cw_product::Game;
 use cw_solve::Context;
-use std::alloc::Global;
+use cw_store::Store;
 
-/// Puts an element that isn't in under a key, unless the key is 0.
-fn fill(buckets: &mut Buckets, element: u32, key: u32) -> Result<(), NoMemory>
-    requires within { element < length buckets.old }
-    requires out { height_at buckets.old element ≡ None }
-    ensures { OnOk result (Fills buckets.old buckets.new element key) }
+/// Whether a link stands at a position and a state: a call, and the state that stands for those that are alike there.
+fn is_link(game: &Game, pos: PosId, state: StateId) -> bool
+    requires position { IsPosition (game_of game.now) pos.0 }
+    requires state { IsState (game_of game.now) state.0 }
+    ensures { (call : Called) → call_in (slice_get (game_of game.now).spots pos.0) ≡ Some call → class_of (game_of game.now) call.split state.0 ≡ state.0
+        → result ≡ true }
 {
-    if key != 0 {
-        buckets.put(element, key)?;
+    match class_at(game, pos, state) {
+        None => false,
+        Some(class) => class.0 == state.0,
+    }
+}
+
+/// Adds the places of a function's positions in one state, of which nothing waits.
+fn push_state(game: &Game, store: &mut Store, function: u16, state: StateId) -> Result<(), NoMemory>
+    requires routed { AreRouted (game_of game.now) (length game.now.graph.parts.items) }
+    requires there { IsThere (game_of game.now) (length game.now.graph.parts.items) function }
+    requires state { IsState (game_of game.now) state.0 }
+    requires few { length store.old.marks + positions (game_of game.now) function ≤ 4194304 }
+    ensures places { OnOk result (PushesPlaces store.old store.new (positions (game_of game.now) function)) }
+    ensures marked { OnOk result (MarksState (game_of game.now) store.old.marks store.new.marks function state.0 (positions (game_of game.now) function)) }
+{
+    for p in game.entry(function).0..game.exit(function).0 + 1 {
+        store.push(is_link(game, PosId(p), state))?;
     }
     Ok(())
 }
 
-/// Makes room in the buckets for so many cells.
-pub(crate) fn widen(alloc: Global, work: &mut Work, cells: u32) -> Result<(), NoMemory>
-    requires long { AreLong work.old }
-    requires queued { AreQueued work.old }
-    requires more { length work.old.table.heights.items ≤ cells }
-    requires few { cells ≤ 4194304 }
-    ensures { OnOk result (Widens work.old work.new cells) }
+/// Adds the places of a function, of which nothing waits.
+pub(crate) fn push_places(game: &Game, store: &mut Store, function: u16) -> Result<(), NoMemory>
+    requires routed { AreRouted (game_of game.now) (length game.now.graph.parts.items) }
+    requires there { IsThere (game_of game.now) (length game.now.graph.parts.items) function }
+    requires few { length store.old.marks + size (game_of game.now) function ≤ 4194304 }
+    ensures places { OnOk result (PushesPlaces store.old store.new (size (game_of game.now) function)) }
+    ensures marked { OnOk result (MarksLinks (game_of game.now) store.old.marks store.new.marks function (size (game_of game.now) function)) }
 {
-    if cells <= work.room {
-        return Ok(());
-    }
-    let room = cells
-        .max(work.table.heights.len() as u32 * 2)
-        .min(4_194_304);
-    let mut buckets = Buckets::make(alloc, 2 * room)?;
-    for place in 0..work.table.heights.len() {
-        fill(&mut buckets, 2 * place as u32, work.asked[place])?;
-        fill(&mut buckets, 2 * place as u32 + 1, work.due[place])?;
-    }
-    work.buckets = buckets;
-    work.room = room;
-    Ok(())
-}
-
-/// Adds links that go nowhere.
-fn push_links(callers: &mut Chains<u8>, more: u32) -> Result<(), NoMemory>
-    requires some { 0 < length callers.old.lists }
-    requires few { length callers.old.values + more ≤ 4194304 }
-    ensures { OnOk result (PushesLinks callers.old callers.new more) }
-{
-    callers.reserve(more)?;
-    for _ in 0..more {
-        callers.push_front(0, 0)?;
+    for x in 0..game.states() {
+        push_state(game, store, function, StateId(x))?;
     }
     Ok(())
 }
 
-/// The links of the contexts' numbers that a vector has, each in its list.
-fn refill(alloc: Global, work: &Work, lists: u32) -> Result<Chains<u8>, NoMemory>
-    requires few { length work.now.to.items ≤ 4194304 }
-    requires within { (k : ℕ) → k < length work.now.to.items → slice_index work.now.to.items k < lists }
-    ensures { IfOk result (λ callers. AreLinkedBy callers work.now.to.items lists (length work.now.to.items)) }
-{
-    let mut callers = Chains::make(alloc, lists)?;
-    callers.reserve(work.to.len() as u32)?;
-    for k in 0..work.to.len() {
-        callers.push_front(work.to[k], 0)?;
-    }
-    Ok(callers)
-}
-
-/// Makes room for the list of one more context.
-pub(crate) fn lengthen(alloc: Global, work: &mut Work) -> Result<(), NoMemory>
-    requires long { AreLong work.old }
-    requires few { length work.old.table.heights.items ≤ 4194304 }
-    requires contexts { length work.old.table.contexts.items ≤ 4194304 }
-    requires callers { AreCallers work.old }
-    ensures { OnOk result (Lengthens work.old work.new) }
-{
-    let contexts = work.table.contexts.len() as u32;
-    if contexts + 1 < work.lists {
-        return Ok(());
-    }
-    let lists = 2 * contexts + 4;
-    let callers = refill(alloc, work, lists)?;
-    work.callers = callers;
-    work.lists = lists;
-    Ok(())
-}
-
-/// Adds a context with so many cells, of which none has a height or waits, and links that go nowhere.
+/// Adds a context with so many cells, of which none has a height, beside the store.
 pub(crate) fn push(work: &mut Work, context: Context, many: u32) -> Result<(), NoMemory>
-    requires long { AreLong work.old }
-    requires queued { AreQueued work.old }
-    requires callers { AreCallers work.old }
     requires few { length work.old.table.heights.items + many ≤ 4194304 }
-    requires room { length work.old.table.heights.items + many ≤ work.old.room }
-    requires lists { length work.old.table.contexts.items + 1 < work.old.lists }
-    ensures { OnOk result (Pushes work.old work.new context many) }
+    requires owners { length work.old.owners.items ≡ length work.old.table.heights.items }
+    requires contexts { length work.old.table.contexts.items ≤ 4194304 }
+    ensures { OnOk result (PushesContext work.old work.new context many) }
 {
     let cells = work.table.heights.len();
     let number = work.table.contexts.len() as u32;
     let end = cells + many as usize;
-    push_links(&mut work.callers, many)?;
     work.table.heights.resize(end, 0)?;
     work.owners.resize(end, number)?;
-    work.asked.resize(end, 0)?;
-    work.due.resize(end, 0)?;
-    work.to.resize(end, 0)?;
-    work.waves.resize(end, 0)?;
     work.table.bases.push(cells as u32)?;
     work.table.contexts.push(context)?;
     Ok(())

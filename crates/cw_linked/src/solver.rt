@@ -3,13 +3,13 @@
 ghost use Rattle.std.specs.Prelude.{◌≡◌, ◌<◌, ◌≤◌, ◌++◌, ◌∷◌, [], length, IfOk, IfErr};
 ghost use Rattle.cw_product.specs.Product.{game_of};
 ghost use Rattle.cw_solve.specs.Contexts.{cells_of, AreTheNeeded};
-ghost use Rattle.cw_solve.specs.Made.{IsMade};
-ghost use Rattle.cw_solve.specs.Routes.{AreRouted};
+ghost use Rattle.cw_product.specs.Made.{IsMade};
+ghost use Rattle.cw_product.specs.Routed.{AreRouted};
 ghost use Rattle.cw_solve.specs.Solved.{IsCause};
 ghost use Rattle.cw_solve.specs.Tables.{IsTable, IsDone};
 ghost use Rattle.cw_linked.specs.Popped.{IsWork};
 ghost use Rattle.cw_linked.specs.Returns.{AreReturns};
-ghost use Rattle.cw_linked.specs.Solving.{IsBlank, Steps, Ends};
+ghost use Rattle.cw_linked.specs.Solving.{IsBlankWork, Steps, Ends};
 ghost use Rattle.cw_linked.specs.Waiting.{AreWaits};
 
 use crate::added::add;
@@ -19,10 +19,10 @@ use crate::links::{Stepped, take_link};
 use crate::popped::{Popped, pop};
 use crate::work::{Work, cell_at};
 use cw_core::NoMemory;
-use cw_links::{Buckets, Chains};
 use cw_product::Game;
 use cw_solve::table::{Table, main_context};
 use cw_solve::{Context, SolveFault, Solved};
+use cw_store::Store;
 use std::alloc::{AllocError, Global};
 
 /// Takes what waits under the least key.
@@ -72,7 +72,7 @@ fn steps(
 
 /// Nothing is found yet.
 fn blank(alloc: Global) -> Result<Work, NoMemory>
-    ensures { IfOk result IsBlank }
+    ensures { IfOk result IsBlankWork }
 {
     Ok(Work {
         table: Table {
@@ -82,14 +82,7 @@ fn blank(alloc: Global) -> Result<Work, NoMemory>
             written: 0,
         },
         owners: Vec::new(alloc),
-        asked: Vec::new(alloc),
-        due: Vec::new(alloc),
-        to: Vec::new(alloc),
-        waves: Vec::new(alloc),
-        buckets: Buckets::make(alloc, 0)?,
-        room: 0,
-        callers: Chains::make(alloc, 2)?,
-        lists: 2,
+        store: Store::make(alloc)?,
     })
 }
 

@@ -1,22 +1,23 @@
-//! A link that is out of the buckets is tied to a context.
+//! A link that waits no more is tied to a context.
 
-ghost use Rattle.std.specs.Prelude.{◌≡◌, ◌+◌, ◌<◌, ◌≤◌, suc, Some, length, slice_get, slice_index, slice_set, OnOk};
+ghost use Rattle.std.specs.Prelude.{◌≡◌, ◌+◌, ◌<◌, ◌≤◌, suc, true, Some, length, slice_get, slice_index, slice_set, OnOk};
 ghost use Rattle.cw_game.specs.Games.{returned};
 ghost use Rattle.cw_game.specs.Pairs.{kept_at};
+ghost use Rattle.cw_marks.specs.Marks.{is_marked};
 ghost use Rattle.cw_product.specs.Product.{game_of};
 ghost use Rattle.cw_product.specs.Moves.{IsPosition};
-ghost use Rattle.cw_solve.specs.Contexts.{IsOf, IsSetOf};
-ghost use Rattle.cw_solve.specs.Routes.{AreRouted};
+ghost use Rattle.cw_product.specs.Routed.{AreRouted, IsOf};
+ghost use Rattle.cw_solve.specs.Contexts.{IsSetOf};
 ghost use Rattle.cw_solve.specs.Rounds.{IsCell, holds_by};
 ghost use Rattle.cw_solve.specs.Tables.{IsTable, IsTabled, HasCell};
 ghost use Rattle.cw_linked.specs.Calls.{AreCallers, AsksCaller};
 ghost use Rattle.cw_linked.specs.Founds.{AreRight, AllCalled, AllStanding, IsTied};
 ghost use Rattle.cw_linked.specs.Popped.{Finishes};
-ghost use Rattle.cw_linked.specs.Queues.{found_of, AreQueued, AreLong, AreOwners, AreHigh, IsCellAt};
+ghost use Rattle.cw_linked.specs.Queues.{found_of, AreMarked, AreLong, AreOwners, AreHigh, IsCellAt};
 ghost use Rattle.cw_linked.specs.Returns.{AreFew, Returns, AsksReturn};
 ghost use Rattle.cw_linked.specs.Steps.{CallsBy, IsIt};
 ghost use Rattle.cw_linked.specs.Tied.{IsTieable, TiesLink, AsksCalls, AsksAgain};
-ghost use Rattle.cw_linked.specs.Works.{heights_of};
+ghost use Rattle.cw_linked.specs.Works.{heights_of, cell_of};
 
 use crate::calls::ask_call;
 use crate::returns::ask_return;
@@ -75,38 +76,47 @@ pub(crate) fn promise_of(
 /// Ties the link at a place to the context of a number, with a promise for so many moves.
 fn tie(work: &mut Work, place: usize, number: usize, moves: u32)
     requires long { AreLong work.old }
-    requires queued { AreQueued work.old }
     requires callers { AreCallers work.old }
     requires few { length work.old.table.heights.items ≤ 4194304 }
     requires within { place < length work.old.table.heights.items }
+    requires marked { is_marked work.old.store.marks place ≡ true }
+    requires contexts { length work.old.table.contexts.items ≤ 4194304 }
     requires number { number < length work.old.table.contexts.items }
     ensures { TiesLink work.old work.new place number moves }
 {
-    let to = number as u32 + 1;
-    work.callers.move_to(place as u32, to);
-    work.to[place] = to;
-    work.waves[place] = moves;
+    work.store.tie(place, number as u32 + 1, moves);
 }
 
 /// Asks for the call of a link, if the callee is lost from the cell's state.
-fn ask_lost(game: &Game, work: &mut Work, cell: &Cell, place: usize) -> Result<(), NoMemory>
+fn ask_lost(
+    game: &Game,
+    work: &mut Work,
+    at: &Tabled,
+    pos: PosId,
+    state: StateId,
+    place: usize,
+) -> Result<(), NoMemory>
     requires routed { AreRouted (game_of game.now) (length game.now.graph.parts.items) }
     requires table { IsTable (game_of game.now) work.old.table }
-    requires cell { HasCell (game_of game.now) work.old.table cell.now.at cell.now.pos.0 cell.now.state.0 }
-    requires entry { cell.now.pos.0 ≡ (game_of game.now).entry cell.now.at.context.function }
+    requires cell { HasCell (game_of game.now) work.old.table at.now pos.0 state.0 }
+    requires entry { pos.0 ≡ (game_of game.now).entry at.now.context.function }
     requires within { place < length work.old.table.heights.items }
     requires owners { AreOwners (game_of game.now) work.old }
     requires long { AreLong work.old }
-    requires queued { AreQueued work.old }
     requires high { AreHigh work.old }
     requires right { AreRight (game_of game.now) work.old.table.contexts.items (found_of (game_of game.now) work.old) }
-    ensures { OnOk result (AsksCaller (game_of game.now) work.old work.new place cell.now) }
+    ensures { OnOk result (AsksCaller (game_of game.now) work.old work.new place (cell_of at.now pos state)) }
 {
-    let height = height_at(game, &work.table, &cell.at, cell.pos, cell.state);
+    let height = height_at(game, &work.table, at, pos, state);
     if height == 0 {
         return Ok(());
     }
-    ask_call(game, work, cell, height, place)?;
+    let cell = Cell {
+        at: *at,
+        pos,
+        state,
+    };
+    ask_call(game, work, &cell, height, place)?;
     Ok(())
 }
 
@@ -122,10 +132,9 @@ fn ask_calls(
     requires table { IsTable (game_of game.now) work.old.table }
     requires at { IsCellAt (game_of game.now) work.old place link.now }
     requires callee { IsTabled work.old.table callee.now }
-    requires goes { slice_index work.old.to.items place ≡ suc callee.now.number }
+    requires goes { slice_index work.old.store.to place ≡ suc callee.now.number }
     requires owners { AreOwners (game_of game.now) work.old }
     requires long { AreLong work.old }
-    requires queued { AreQueued work.old }
     requires high { AreHigh work.old }
     requires right { AreRight (game_of game.now) work.old.table.contexts.items (found_of (game_of game.now) work.old) }
     requires called { AllCalled (game_of game.now) work.old.table.contexts.items (found_of (game_of game.now) work.old)
@@ -134,34 +143,41 @@ fn ask_calls(
 {
     let entry = game.entry(callee.context.function);
     for q in 0..game.states() {
-        let cell = Cell {
-            at: *callee,
-            pos: entry,
-            state: StateId(q),
-        };
-        ask_lost(game, work, &cell, place)?;
+        ask_lost(game, work, callee, entry, StateId(q), place)?;
     }
     Ok(())
 }
 
 /// Asks for the link at a position that returns to the cell, if the cell is lost.
-fn ask_back(game: &Game, work: &mut Work, cell: &Cell, pos: PosId) -> Result<(), NoMemory>
+fn ask_back(
+    game: &Game,
+    work: &mut Work,
+    at: &Tabled,
+    back: PosId,
+    state: StateId,
+    pos: PosId,
+) -> Result<(), NoMemory>
     requires routed { AreRouted (game_of game.now) (length game.now.graph.parts.items) }
     requires table { IsTable (game_of game.now) work.old.table }
-    requires cell { HasCell (game_of game.now) work.old.table cell.now.at cell.now.pos.0 cell.now.state.0 }
+    requires cell { HasCell (game_of game.now) work.old.table at.now back.0 state.0 }
     requires position { IsPosition (game_of game.now) pos.0 }
     requires few { AreFew work.old }
+    requires marked { AreMarked (game_of game.now) work.old }
     requires long { AreLong work.old }
-    requires queued { AreQueued work.old }
     requires high { AreHigh work.old }
     requires right { AreRight (game_of game.now) work.old.table.contexts.items (found_of (game_of game.now) work.old) }
-    ensures { OnOk result (AsksReturn (game_of game.now) work.old work.new cell.now pos.0) }
+    ensures { OnOk result (AsksReturn (game_of game.now) work.old work.new (cell_of at.now back state) pos.0) }
 {
-    let height = height_at(game, &work.table, &cell.at, cell.pos, cell.state);
+    let height = height_at(game, &work.table, at, back, state);
     if height == 0 {
         return Ok(());
     }
-    ask_return(game, work, cell, height, pos)?;
+    let cell = Cell {
+        at: *at,
+        pos: back,
+        state,
+    };
+    ask_return(game, work, &cell, height, pos)?;
     Ok(())
 }
 
@@ -174,8 +190,8 @@ fn ask_again(game: &Game, work: &mut Work, link: &Cell, back: PosId) -> Result<(
     requires returns { Returns (game_of game.now) link.now.pos.0 back.0 }
     requires tied { IsTied (found_of (game_of game.now) work.old) link.now.at.number link.now.pos.0 link.now.state.0 }
     requires few { AreFew work.old }
+    requires marked { AreMarked (game_of game.now) work.old }
     requires long { AreLong work.old }
-    requires queued { AreQueued work.old }
     requires high { AreHigh work.old }
     requires right { AreRight (game_of game.now) work.old.table.contexts.items (found_of (game_of game.now) work.old) }
     requires standing { AllStanding (game_of game.now) work.old.table.contexts.items (found_of (game_of game.now) work.old)
@@ -183,12 +199,7 @@ fn ask_again(game: &Game, work: &mut Work, link: &Cell, back: PosId) -> Result<(
     ensures { OnOk result (AsksAgain (game_of game.now) work.old work.new) }
 {
     for q in 0..game.states() {
-        let cell = Cell {
-            at: link.at,
-            pos: back,
-            state: StateId(q),
-        };
-        ask_back(game, work, &cell, link.pos)?;
+        ask_back(game, work, &link.at, back, StateId(q), link.pos)?;
     }
     Ok(())
 }
@@ -205,7 +216,7 @@ pub(crate) fn tie_link(
 ) -> Result<(), NoMemory>
     requires routed { AreRouted (game_of game.now) (length game.now.graph.parts.items) }
     requires tieable { IsTieable (game_of game.now) work.old link.now place moves callee.now.number back.0 callee.now.context }
-    ensures { OnOk result (Finishes (game_of game.now) work.old work.new (slice_set work.old.to.items place (callee.now.number + 1))) }
+    ensures { OnOk result (Finishes (game_of game.now) work.old work.new (slice_set work.old.store.to place (callee.now.number + 1))) }
 {
     tie(work, place, callee.number, moves);
     ask_calls(game, work, place, link, callee)?;

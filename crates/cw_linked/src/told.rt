@@ -2,33 +2,38 @@
 
 ghost use Rattle.std.specs.Prelude.{length, OnOk};
 ghost use Rattle.cw_product.specs.Product.{game_of};
-ghost use Rattle.cw_solve.specs.Routes.{AreRouted};
+ghost use Rattle.cw_product.specs.Routed.{AreRouted};
 ghost use Rattle.cw_solve.specs.Tables.{IsTable, HasCell};
 ghost use Rattle.cw_linked.specs.Founds.{AreRight};
-ghost use Rattle.cw_linked.specs.Queues.{found_of, AreQueued, AreLong, AreHigh, AsksTold};
+ghost use Rattle.cw_linked.specs.Queues.{found_of, AreLong, AreHigh, AsksTold};
 
 use crate::bounds::bound;
-use crate::work::{Cell, Work, ask_cell};
-use cw_core::NoMemory;
+use crate::work::{Work, ask_cell};
+use cw_core::{NoMemory, PosId, StateId};
 use cw_product::Game;
-use cw_solve::table::slot;
+use cw_solve::table::{Tabled, slot};
 
 /// Asks for a cell that is no call, where the taken heights tell that it is lost.
-pub(crate) fn ask_told(game: &Game, work: &mut Work, cell: &Cell) -> Result<(), NoMemory>
+pub(crate) fn ask_told(
+    game: &Game,
+    work: &mut Work,
+    at: &Tabled,
+    pos: PosId,
+    state: StateId,
+) -> Result<(), NoMemory>
     requires routed { AreRouted (game_of game.now) (length game.now.graph.parts.items) }
     requires table { IsTable (game_of game.now) work.old.table }
-    requires cell { HasCell (game_of game.now) work.old.table cell.now.at cell.now.pos.0 cell.now.state.0 }
+    requires cell { HasCell (game_of game.now) work.old.table at.now pos.0 state.0 }
     requires long { AreLong work.old }
-    requires queued { AreQueued work.old }
     requires high { AreHigh work.old }
     requires right { AreRight (game_of game.now) work.old.table.contexts.items (found_of (game_of game.now) work.old) }
-    ensures { OnOk result (AsksTold (game_of game.now) work.old work.new cell.now) }
+    ensures { OnOk result (AsksTold (game_of game.now) work.old work.new at.now pos.0 state.0) }
 {
-    let within = bound(game, &work.table, &cell.at, cell.pos, cell.state);
+    let within = bound(game, &work.table, at, pos, state);
     if within == 0 {
         return Ok(());
     }
-    let place = slot(game, &work.table, &cell.at, cell.pos, cell.state);
+    let place = slot(game, &work.table, at, pos, state);
     ask_cell(work, place, 2 * within)?;
     Ok(())
 }

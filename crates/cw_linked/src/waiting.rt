@@ -1,17 +1,16 @@
 //! Pairs that wait for a cell are asked for.
 
-ghost use Rattle.std.specs.Prelude.{◌≡◌, ◌<◌, ◌+◌, ◌*◌, ◌↔◌, IsTrue, length, slice_get, OnOk};
+ghost use Rattle.std.specs.Prelude.{◌≡◌, ◌<◌, ◌+◌, ◌*◌, ◌↔◌, IsTrue, false, length, slice_get, slice_index_or, OnOk};
 ghost use Rattle.cw_product.specs.Product.{game_of};
 ghost use Rattle.cw_product.specs.Moves.{IsPosition, IsState};
-ghost use Rattle.cw_solve.specs.Contexts.{IsOf};
-ghost use Rattle.cw_solve.specs.Routes.{AreRouted};
+ghost use Rattle.cw_product.specs.Routed.{AreRouted, IsOf};
 ghost use Rattle.cw_solve.specs.Tables.{IsTable, HasCell};
 ghost use Rattle.cw_linked.specs.Founds.{AreRight, AllClosed};
-ghost use Rattle.cw_linked.specs.Queues.{found_of, AreQueued, AreLong, AreHigh, AsksPair, AsksWaiting};
+ghost use Rattle.cw_linked.specs.Queues.{found_of, AreLong, AreHigh, AsksPair, AsksWaiting};
 ghost use Rattle.cw_linked.specs.Steps.{WaitsFor};
-ghost use Rattle.cw_linked.specs.Waiting.{AreWaits, pair_number};
+ghost use Rattle.cw_linked.specs.Waiting.{pair_number, AreSources, AreChanges, AreWaits, ChangesFor, AsksSources};
 
-use crate::edges::Pair;
+use crate::edges::{Changes, Pair, Waits};
 use crate::told::ask_told;
 use crate::work::{Cell, Work};
 use cw_core::{NoMemory, PosId, StateId};
@@ -44,28 +43,84 @@ fn ask_pair(game: &Game, work: &mut Work, cell: &Cell, pair: Pair) -> Result<(),
     requires cell { HasCell (game_of game.now) work.old.table cell.now.at cell.now.pos.0 cell.now.state.0 }
     requires state { IsState (game_of game.now) pair.state.0 }
     requires long { AreLong work.old }
-    requires queued { AreQueued work.old }
     requires high { AreHigh work.old }
     requires right { AreRight (game_of game.now) work.old.table.contexts.items (found_of (game_of game.now) work.old) }
     ensures { OnOk result (AsksPair (game_of game.now) work.old work.new cell.now pair) }
 {
     if is_of(game, cell.at.context.function, pair.pos) {
-        let waiting = Cell {
-            at: cell.at,
-            pos: pair.pos,
-            state: pair.state,
-        };
-        ask_told(game, work, &waiting)?;
+        ask_told(game, work, &cell.at, pair.pos, pair.state)?;
         Ok(())
     } else {
         Ok(())
     }
 }
 
+/// Asks for the pairs of the same context that lead to a cell and keep its state.
+fn ask_sources(
+    game: &Game,
+    sources: &Chains<PosId>,
+    work: &mut Work,
+    cell: &Cell,
+) -> Result<(), NoMemory>
+    requires routed { AreRouted (game_of game.now) (length game.now.graph.parts.items) }
+    requires sources { AreSources (game_of game.now) sources.now }
+    requires table { IsTable (game_of game.now) work.old.table }
+    requires cell { HasCell (game_of game.now) work.old.table cell.now.at cell.now.pos.0 cell.now.state.0 }
+    requires long { AreLong work.old }
+    requires high { AreHigh work.old }
+    requires right { AreRight (game_of game.now) work.old.table.contexts.items (found_of (game_of game.now) work.old) }
+    requires closed { AllClosed (game_of game.now) work.old.table.contexts.items (found_of (game_of game.now) work.old)
+        (WaitsFor (game_of game.now) cell.now.at.number cell.now.pos.0 cell.now.state.0) }
+    ensures { OnOk result (AsksSources (game_of game.now) work.old work.new cell.now) }
+{
+    let mut next = sources.first(cell.pos.0);
+    'walk: while let Some(edge) = next {
+        let waiting = Pair {
+            pos: *sources.get(edge),
+            state: cell.state,
+        };
+        ask_pair(game, work, cell, waiting)?;
+        next = sources.next(edge);
+    }
+    Ok(())
+}
+
+/// Whether pairs of a position are waited for by some that may change the state.
+fn is_marked(changes: &Changes, pos: PosId) -> bool
+    requires { pos.0 < length changes.now.marks.items }
+    ensures { result ≡ slice_index_or changes.now.marks.items pos.0 false }
+{
+    changes.marks[pos.0 as usize]
+}
+
+/// Asks for the pairs of the same context that lead to a cell and may change the state.
+fn ask_changes(game: &Game, changes: &Changes, work: &mut Work, cell: &Cell) -> Result<(), NoMemory>
+    requires routed { AreRouted (game_of game.now) (length game.now.graph.parts.items) }
+    requires changes { AreChanges (game_of game.now) changes.now }
+    requires table { IsTable (game_of game.now) work.old.table }
+    requires cell { HasCell (game_of game.now) work.old.table cell.now.at cell.now.pos.0 cell.now.state.0 }
+    requires long { AreLong work.old }
+    requires high { AreHigh work.old }
+    requires right { AreRight (game_of game.now) work.old.table.contexts.items (found_of (game_of game.now) work.old) }
+    requires closed { AllClosed (game_of game.now) work.old.table.contexts.items (found_of (game_of game.now) work.old)
+        (ChangesFor (game_of game.now) cell.now.at.number cell.now.pos.0 cell.now.state.0) }
+    ensures { OnOk result (AsksWaiting (game_of game.now) work.old work.new) }
+{
+    if !is_marked(changes, cell.pos) {
+        return Ok(());
+    }
+    let mut next = changes.pairs.first(pair_number(game, cell.pos, cell.state));
+    'walk: while let Some(edge) = next {
+        ask_pair(game, work, cell, *changes.pairs.get(edge))?;
+        next = changes.pairs.next(edge);
+    }
+    Ok(())
+}
+
 /// Asks for the pairs of the same context that wait for a cell.
 pub(crate) fn ask_waiting(
     game: &Game,
-    waits: &Chains<Pair>,
+    waits: &Waits,
     work: &mut Work,
     cell: &Cell,
 ) -> Result<(), NoMemory>
@@ -74,17 +129,13 @@ pub(crate) fn ask_waiting(
     requires table { IsTable (game_of game.now) work.old.table }
     requires cell { HasCell (game_of game.now) work.old.table cell.now.at cell.now.pos.0 cell.now.state.0 }
     requires long { AreLong work.old }
-    requires queued { AreQueued work.old }
     requires high { AreHigh work.old }
     requires right { AreRight (game_of game.now) work.old.table.contexts.items (found_of (game_of game.now) work.old) }
     requires closed { AllClosed (game_of game.now) work.old.table.contexts.items (found_of (game_of game.now) work.old)
         (WaitsFor (game_of game.now) cell.now.at.number cell.now.pos.0 cell.now.state.0) }
     ensures { OnOk result (AsksWaiting (game_of game.now) work.old work.new) }
 {
-    let mut next = waits.first(pair_number(game, cell.pos, cell.state));
-    'walk: while let Some(edge) = next {
-        ask_pair(game, work, cell, *waits.get(edge))?;
-        next = waits.next(edge);
-    }
+    ask_sources(game, &waits.sources, work, cell)?;
+    ask_changes(game, &waits.changes, work, cell)?;
     Ok(())
 }

@@ -4,7 +4,7 @@ ghost use Rattle.std.specs.Prelude.{◌≤◌, length, IfSome};
 ghost use Rattle.cw_rights.specs.Policies.{policy_of};
 ghost use Rattle.cw_rights.specs.Valid.{IsValid};
 ghost use Rattle.cw_product.specs.Product.{IsProgramsGraph};
-ghost use Rattle.cw_solve.specs.Made.{LeavesMain};
+ghost use Rattle.cw_product.specs.Made.{LeavesMain};
 
 use cw_calls::laws::read_programs_leave_main;
 use cw_points::Graph;

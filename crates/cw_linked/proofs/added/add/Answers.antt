@@ -1,10 +1,9 @@
-use Rattle.std.proofs.Common.{◌≡◌, ◌+◌, ℕ, Some, length, sym, subst, arith}
+use Rattle.std.proofs.Common.{◌≡◌, ℕ, Some, length, sym, subst, arith}
 use Rattle.std.specs.Prelude.{slice_get}
 use Rattle.cw_product.specs.Product.{game_of}
-use Rattle.cw_solve.specs.Rounds.{slot}
-use Rattle.cw_linked.specs.Added.{FreesLinks, AsksCells}
+use Rattle.cw_linked.specs.Added.{Each, FreesLinks, HasNoHeights, AsksCells}
 use Rattle.cw_linked.proofs.Alike.{alike}
-use Rattle.cw_linked.proofs.Joining.{is_pushed_table, is_pushed_long, pushed_there, is_freed_table, is_freed_long, is_freed_high, is_freed_right, freed_there, joined}
+use Rattle.cw_linked.proofs.Joining.{is_pushed_table, is_pushed_long, is_pushed_marked, pushed_there, is_freed_table, is_freed_long, is_freed_high, is_freed_right, is_freed_fresh, freed_there, joined}
 use Rattle.cw_linked.proofs.added.add.Goals as goal
 
 pub free_all-requires : goal.free_all-requires
@@ -20,7 +19,7 @@ free_all-requires c =
       tabled = subst (λ (n : ℕ). slice_get pushed.table.contexts.items n ≡ Some c.args.context) (sym here)
           (pushed_there g functions c.requires.routed (alike c.args.game.now) w pushed c.args.context c.requires.kept c.requires.contexts c.in_ok-enlarge.ensures);
       long = is_pushed_long g functions c.requires.routed (alike c.args.game.now) w pushed c.args.context c.requires.kept c.requires.contexts c.in_ok-enlarge.ensures;
-      queued = c.in_ok-enlarge.ensures.queued;
+      marked = is_pushed_marked g functions c.requires.routed (alike c.args.game.now) w pushed c.args.context c.requires.kept c.requires.contexts c.in_ok-enlarge.ensures;
     }
 
 pub ask_all-requires : goal.ask_all-requires
@@ -32,17 +31,17 @@ ask_all-requires c =
     let freed = c.free_all.new.work in
     let d = c.args.context in
     let here : c.len-number.result ≡ length w.table.contexts.items = omega (arith, c.len-number.ensures, w.table.contexts.ok.0) in
-    let frees = subst (λ (n : ℕ). FreesLinks g pushed freed n d (slot g pushed.table.contexts.items n d.function (g.entry d.function) 0) (slot g pushed.table.contexts.items n d.function (g.exit d.function + 1) 0)) here
-    c.in_ok-free_all.ensures in
+    let frees = subst (λ (n : ℕ). FreesLinks g pushed freed n d Each) here c.in_ok-free_all.ensures in
     record {
       routed = c.requires.routed;
       table = is_freed_table g functions c.requires.routed (alike c.args.game.now) w pushed d c.requires.kept c.requires.contexts c.in_ok-enlarge.ensures freed frees;
       tabled = subst (λ (n : ℕ). slice_get freed.table.contexts.items n ≡ Some d) (sym here)
           (freed_there g functions c.requires.routed (alike c.args.game.now) w pushed d c.requires.kept c.requires.contexts c.in_ok-enlarge.ensures freed frees);
       long = is_freed_long g functions c.requires.routed (alike c.args.game.now) w pushed d c.requires.kept c.requires.contexts c.in_ok-enlarge.ensures freed frees;
-      queued = frees.queued;
       high = is_freed_high g functions c.requires.routed (alike c.args.game.now) w pushed d c.requires.kept c.requires.contexts c.in_ok-enlarge.ensures freed frees;
       right = is_freed_right g functions c.requires.routed (alike c.args.game.now) w pushed d c.requires.kept c.requires.contexts c.in_ok-enlarge.ensures freed frees;
+      fresh = subst (λ (n : ℕ). HasNoHeights g freed.table (record { number = n; context = d })) (sym here)
+          (is_freed_fresh g functions c.requires.routed (alike c.args.game.now) w pushed d c.requires.kept c.requires.contexts c.in_ok-enlarge.ensures freed frees);
     }
 
 pub returns : goal.returns
@@ -54,8 +53,6 @@ returns c =
     let freed = c.free_all.new.work in
     let d = c.args.context in
     let here : c.len-number.result ≡ length w.table.contexts.items = omega (arith, c.len-number.ensures, w.table.contexts.ok.0) in
-    let frees = subst (λ (n : ℕ). FreesLinks g pushed freed n d (slot g pushed.table.contexts.items n d.function (g.entry d.function) 0) (slot g pushed.table.contexts.items n d.function (g.exit d.function + 1) 0)) here
-    c.in_ok-free_all.ensures in
+    let frees = subst (λ (n : ℕ). FreesLinks g pushed freed n d Each) here c.in_ok-free_all.ensures in
     joined g functions c.requires.routed (alike c.args.game.now) w pushed d c.requires.kept c.requires.contexts c.in_ok-enlarge.ensures freed frees c.ask_all.new.work
-    (subst (λ (n : ℕ). AsksCells g freed c.ask_all.new.work n (slot g freed.table.contexts.items n d.function (g.entry d.function) 0) (slot g freed.table.contexts.items n d.function (g.exit d.function + 1) 0)) here
-    c.in_ok-ask_all.ensures)
+    (subst (λ (n : ℕ). AsksCells g freed c.ask_all.new.work n d Each) here c.in_ok-ask_all.ensures)

@@ -1,25 +1,52 @@
-use Rattle.std.proofs.Common.{◌≤◌, ℕ, length, sym, subst, arith}
+use Rattle.std.proofs.Common.{length, refl, ap, arith}
 use Rattle.cw_product.specs.Product.{game_of}
-use Rattle.cw_solve.specs.declared.table.Table.{Table}
-use Rattle.cw_linked.specs.Added.{Pushes}
-use Rattle.cw_linked.proofs.Widening.{widened_callers, pushes_then, last_there, few_contexts}
+use Rattle.cw_store.specs.Stores.{Stored}
+use Rattle.cw_linked.proofs.Widening.{last_there, few_contexts, few_cells, pushes_then}
 use Rattle.cw_linked.proofs.added.enlarge.Goals as goal
 
-pub size-many-requires-clause-there : goal.size-many-requires-clause-there
-size-many-requires-clause-there c = last_there (game_of c.args.game.now) (length c.args.game.now.graph.parts.items) c.requires.routed c.args.work.now.table.contexts.items c.args.context.now c.requires.contexts
-
-pub lengthen-requires-clause-contexts : goal.lengthen-requires-clause-contexts
-lengthen-requires-clause-contexts c =
+pub overflow_cast-lists : goal.overflow_cast-lists
+overflow_cast-lists c =
     let few = few_contexts (game_of c.args.game.now) (length c.args.game.now.graph.parts.items) c.requires.routed c.args.work.now.table.contexts.items c.args.context.now c.requires.contexts in
-    subst (λ (t : Table). length t.contexts.items ≤ 4194304) (sym c.in_ok-widen.ensures.table) (omega (arith, few))
+    omega (arith, few, c.len.ensures, c.args.work.now.table.contexts.ok.0)
 
-pub lengthen-requires-clause-callers : goal.lengthen-requires-clause-callers
-lengthen-requires-clause-callers c = widened_callers c.args.work.now c.widen.new.work _ c.in_ok-widen.ensures c.requires.kept.callers
+pub overflow_add-lists : goal.overflow_add-lists
+overflow_add-lists c =
+    let few = few_contexts (game_of c.args.game.now) (length c.args.game.now.graph.parts.items) c.requires.routed c.args.work.now.table.contexts.items c.args.context.now c.requires.contexts in
+    omega (arith, few, c.len.ensures, c.args.work.now.table.contexts.ok.0)
+
+pub reach-requires : goal.reach-requires
+reach-requires c =
+    let few = few_contexts (game_of c.args.game.now) (length c.args.game.now.graph.parts.items) c.requires.routed c.args.work.now.table.contexts.items c.args.context.now c.requires.contexts in
+    record { few = omega (arith, few, c.len.ensures, c.args.work.now.table.contexts.ok.0) }
+
+pub push_places-requires-clause-there : goal.push_places-requires-clause-there
+push_places-requires-clause-there c =
+    last_there (game_of c.args.game.now) (length c.args.game.now.graph.parts.items) c.requires.routed c.args.work.now.table.contexts.items c.args.context.now c.requires.contexts
+
+pub push_places-requires-clause-few : goal.push_places-requires-clause-few
+push_places-requires-clause-few c =
+    let few = few_cells (game_of c.args.game.now) c.args.work.now c.args.context.now c.requires.kept c.requires.contexts in
+    let marks = ap (λ (s : Stored). length s.marks) c.reach.ensures.rest in
+    omega (arith, few, c.requires.kept.long.marks, marks)
+
+pub size-requires-clause-there : goal.size-requires-clause-there
+size-requires-clause-there c =
+    last_there (game_of c.args.game.now) (length c.args.game.now.graph.parts.items) c.requires.routed c.args.work.now.table.contexts.items c.args.context.now c.requires.contexts
+
+pub push-requires : goal.push-requires
+push-requires c =
+    let g = game_of c.args.game.now in
+    let few = few_contexts g (length c.args.game.now.graph.parts.items) c.requires.routed c.args.work.now.table.contexts.items c.args.context.now c.requires.contexts in
+    let cells = few_cells g c.args.work.now c.args.context.now c.requires.kept c.requires.contexts in
+    record {
+      few = omega (arith, cells, c.size.ensures.is);
+      owners = c.requires.kept.long.owners;
+      contexts = omega (arith, few);
+    }
 
 pub returns : goal.returns
 returns c =
-    let g = game_of c.args.game.now in
     let w = c.args.work.now in
-    let d = c.args.context.now in
-    subst (λ (n : ℕ). Pushes w c.push.new.work d n) c.size-many.ensures.is
-    (pushes_then w c.widen.new.work _ c.in_ok-widen.ensures c.lengthen.new.work c.in_ok-lengthen.ensures c.push.new.work d c.size-many.result c.in_ok-push.ensures)
+    let lists = c.in_ok-reach.ensures.enough in
+    pushes_then (game_of c.args.game.now) w _ c.push.new.work c.args.context.now c.reach.new.self c.size.result c.reach.ensures.rest c.reach.ensures.more
+    (omega (arith, lists, c.len.ensures, w.table.contexts.ok.0)) c.in_ok-push_places.ensures.places c.in_ok-push_places.ensures.marked refl refl c.in_ok-push.ensures c.size.ensures.is

@@ -1,12 +1,13 @@
-use Rattle.std.proofs.Common.{◌≡◌, ◌+◌, ℕ, Some, length, sym, ap, subst, arith}
+use Rattle.std.proofs.Common.{◌≡◌, ◌+◌, Some, length, sym, ap, subst, arith}
 use Rattle.std.specs.Prelude.{slice_get}
 use Rattle.cw_product.specs.Product.{game_of}
 use Rattle.cw_solve.specs.declared.table.Table.{Table}
-use Rattle.cw_solve.specs.Rounds.{slot}
 use Rattle.cw_solve.specs.Tables.{IsTable}
 use Rattle.cw_solve.proofs.Tabling.{there_at}
-use Rattle.cw_linked.specs.Added.{FreesLinks}
-use Rattle.cw_linked.proofs.Freeing.{frees_none, frees_more, frees_long}
+use Rattle.cw_linked.specs.Added.{AllOf, Before, Each}
+use Rattle.cw_linked.proofs.Askings.{one_more_position}
+use Rattle.cw_linked.proofs.Freeing.{frees_nothing, frees_more, frees_these, frees_long}
+use Rattle.cw_linked.proofs.Staying.{marked_on}
 use Rattle.cw_linked.proofs.added.free_all.Goals as goal
 
 pub entry-p-requires : goal.entry-p-requires
@@ -24,12 +25,8 @@ overflow_add-p-end c = let lt = c.exit-p-end.ensures.within in let short = c.req
 
 pub loop-p-init : goal.loop-p-init
 loop-p-init c =
-    let g = game_of c.args.game.now in
-    let w = c.args.work.now in
     let at = c.args.at.now in
-    let start = slot g w.table.contexts.items at.number at.context.function (g.entry at.context.function) 0 in
-    subst (λ (y : ℕ). FreesLinks g w w at.number at.context start y) (ap (λ (p : ℕ). slot g w.table.contexts.items at.number at.context.function p 0) (sym c.entry-p.ensures.is))
-    (frees_none g at.number at.context w start c.requires.queued)
+    frees_nothing (game_of c.args.game.now) at.number at.context c.args.work.now (Before c.entry-p.result.0) (λ p x call is lt. absurd (omega (arith, lt, is.cell.of.0, c.entry-p.ensures.is)))
 
 pub free_links-requires : goal.free_links-requires
 free_links-requires c =
@@ -41,33 +38,20 @@ free_links-requires c =
       table = subst (IsTable g) (sym inv.others.table) c.requires.table;
       tabled = subst (λ (t : Table). slice_get t.contexts.items at.number ≡ Some at.context) (sym inv.others.table) c.requires.tabled;
       of = (omega (arith, c.loop-p.auto.p, c.entry-p.ensures.is), omega (arith, c.loop-p-test.true, c.exit-p-end.ensures.is));
-      long = frees_long g at.number at.context c.args.work.now c.loop-p.work _ _ inv c.requires.long;
-      queued = inv.queued;
+      long = frees_long g at.number at.context c.args.work.now c.loop-p.work (Before c.loop-p.p) inv c.requires.long;
+      marked = marked_on g c.args.work.now c.loop-p.work (ap (λ (t : Table). t.contexts.items) inv.others.table) inv.others.marks c.requires.marked;
     }
 
 pub loop-p-preserved : goal.loop-p-preserved
 loop-p-preserved c =
-    let g = game_of c.args.game.now in
-    let w = c.args.work.now in
-    let mid = c.loop-p.work in
-    let new = c.free_links.new.work in
     let at = c.args.at.now in
-    let inv = c.loop-p.invariant in
-    let start = slot g w.table.contexts.items at.number at.context.function (g.entry at.context.function) 0 in
-    let here = slot g w.table.contexts.items at.number at.context.function c.loop-p.p 0 in
-    let next = slot g w.table.contexts.items at.number at.context.function (c.loop-p.p + 1) 0 in
-    let step : FreesLinks g mid new at.number at.context here next
-    = subst (λ (t : Table). FreesLinks g mid new at.number at.context (slot g t.contexts.items at.number at.context.function c.loop-p.p 0) (slot g t.contexts.items at.number at.context.function (c.loop-p.p + 1) 0)) inv.others.table
-    c.in_ok-free_links.ensures in
-    frees_more g at.number at.context w mid new start here next inv step
+    let p = c.loop-p.p in
+    frees_more (game_of c.args.game.now) at.number at.context c.args.work.now c.loop-p.work c.free_links.new.work (Before p) (AllOf p) (Before (p + 1)) c.loop-p.invariant c.in_ok-free_links.ensures
+    (λ r y is. one_more_position p r y)
 
 pub returns : goal.returns
 returns c =
     let g = game_of c.args.game.now in
-    let w = c.args.work.now in
     let at = c.args.at.now in
-    let start = slot g w.table.contexts.items at.number at.context.function (g.entry at.context.function) 0 in
-    let th = there_at g (length c.args.game.now.graph.parts.items) c.requires.routed w.table c.requires.table at.number at.context c.requires.tabled in
-    let le = c.loop-p.auto.p-end in
-    let e : c.loop-p.p ≡ g.exit at.context.function + 1 = omega (arith, c.loop-p-test.false, le, th.begins, c.entry-p.ensures.is, c.exit-p-end.ensures.is) in
-    subst (λ (y : ℕ). FreesLinks g w c.loop-p.work at.number at.context start y) (ap (λ (p : ℕ). slot g w.table.contexts.items at.number at.context.function p 0) e) c.loop-p.invariant
+    frees_these g at.number at.context c.args.work.now c.loop-p.work (Before c.loop-p.p) Each c.loop-p.invariant
+    (λ r y is e. omega (arith, is.of.1, c.loop-p-test.false, c.exit-p-end.ensures.is))

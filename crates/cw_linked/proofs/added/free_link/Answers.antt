@@ -1,9 +1,12 @@
-use Rattle.std.proofs.Common.{ℕ, ◌+◌, ◌∙◌, length, refl, subst, arith}
+use Rattle.std.proofs.Common.{◌≡◌, ℕ, Some, ◌∙◌, length, sym, subst, arith}
+use Rattle.std.specs.Prelude.{slice_get}
+use Rattle.cw_game.specs.Pairs.{call_in}
 use Rattle.cw_product.specs.Product.{game_of}
-use Rattle.cw_solve.specs.Rounds.{slot}
 use Rattle.cw_solve.proofs.Calling.{cell_within}
-use Rattle.cw_linked.specs.Added.{FreesLinks}
-use Rattle.cw_linked.proofs.Freeing.{frees_one, frees_nothing, link_here, called_here, class_here}
+use Rattle.cw_linked.specs.Added.{ThePair}
+use Rattle.cw_linked.specs.Founds.{class_of}
+use Rattle.cw_linked.proofs.Bounding.{place_is}
+use Rattle.cw_linked.proofs.Freeing.{frees_nothing, frees_one, link_here, class_here}
 use Rattle.cw_linked.proofs.added.free_link.Goals as goal
 
 pub class_at-requires-clause-position : goal.class_at-requires-clause-position
@@ -15,19 +18,30 @@ returns-in-None c =
     let g = game_of c.args.game.now in
     let w = c.args.work.now in
     let at = c.args.at.now in
-    let place = slot g w.table.contexts.items at.number at.context.function c.args.pos.0 c.args.state.0 in
-    frees_nothing g at.number at.context w place c.requires.queued
-    (λ l. let h = called_here g at.number at.context w.table.contexts.items c.args.pos.0 c.args.state.0 place c.requires.cell refl l in c.in-None.ensures.none h.0 h.1)
+    frees_nothing g at.number at.context w (ThePair c.args.pos.0 c.args.state.0)
+    (λ p x call is e. c.in-None.ensures.none call (subst (λ (y : ℕ). call_in (slice_get g.spots y) ≡ Some call) e.0 is.calls))
 
 pub returns-else-is_same : goal.returns-else-is_same
 returns-else-is_same c =
     let g = game_of c.args.game.now in
     let w = c.args.work.now in
     let at = c.args.at.now in
-    let place = slot g w.table.contexts.items at.number at.context.function c.args.pos.0 c.args.state.0 in
     let s = c.in-Some.ensures.some in
-    frees_nothing g at.number at.context w place c.requires.queued
-    (class_here g at.number at.context w.table.contexts.items c.args.pos.0 c.args.state.0 place c.requires.cell refl s.0 c.in-Some.class.0 s.1 s.2 (c.is_same.ensures.not c.if-is_same.false))
+    frees_nothing g at.number at.context w (ThePair c.args.pos.0 c.args.state.0)
+    (λ p x call is e.
+    let there = subst (λ (y : ℕ). call_in (slice_get g.spots y) ≡ Some call) e.0 is.calls in
+    let class = subst (λ (y : ℕ). class_of g call.split y ≡ y) e.1 is.class in
+    class_here g c.args.pos.0 c.args.state.0 c.in-Some.class.0 s.0 call s.1 s.2 (c.is_same.ensures.not c.if-is_same.false) there class)
+
+pub ask_link-requires-clause-marked : goal.ask_link-requires-clause-marked
+ask_link-requires-clause-marked c =
+    let g = game_of c.args.game.now in
+    let at = c.args.at.now in
+    let place = c.slot-place.result in
+    let s = c.in-Some.ensures.some in
+    let l = link_here g at.number at.context c.args.work.now.table.contexts.items c.args.pos.0 c.args.state.0 place c.requires.cell c.slot-place.ensures.is s.0 s.1
+    (s.2 ∙ c.is_same.ensures.is c.if-is_same.true) in
+    c.requires.marked place (at.number, at.context, l.0, l.1, l.2, l.3, l.4)
 
 pub returns-in_ok-ask_link-in-Some : goal.returns-in_ok-ask_link-in-Some
 returns-in_ok-ask_link-in-Some c =
@@ -36,6 +50,7 @@ returns-in_ok-ask_link-in-Some c =
     let at = c.args.at.now in
     let place = c.slot-place.result in
     let s = c.in-Some.ensures.some in
-    subst (λ (y : ℕ). FreesLinks g w c.ask_link.new.work at.number at.context y (y + 1)) c.slot-place.ensures.is
-    (frees_one g at.number at.context w c.ask_link.new.work place (omega (arith, c.slot-place.ensures.within, c.requires.long.due))
-    (link_here g at.number at.context w.table.contexts.items c.args.pos.0 c.args.state.0 place c.requires.cell c.slot-place.ensures.is s.0 s.1 (s.2 ∙ c.is_same.ensures.is c.if-is_same.true)) c.in_ok-ask_link-in-Some.ensures)
+    frees_one g at.number at.context w c.ask_link.new.work c.args.pos.0 c.args.state.0 place (omega (arith, c.slot-place.ensures.within, c.requires.long.due))
+    (c.slot-place.ensures.is ∙ sym (place_is g w.table.contexts.items at.number at.context c.args.pos.0 c.args.state.0 c.requires.cell.at))
+    (link_here g at.number at.context w.table.contexts.items c.args.pos.0 c.args.state.0 place c.requires.cell c.slot-place.ensures.is s.0 s.1 (s.2 ∙ c.is_same.ensures.is c.if-is_same.true))
+    c.in_ok-ask_link-in-Some.ensures

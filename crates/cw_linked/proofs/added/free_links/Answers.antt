@@ -1,19 +1,37 @@
-use Rattle.std.proofs.Common.{◌≡◌, ◌+◌, ◌∙◌, ℕ, Some, sym, ap, subst, arith}
+use Rattle.std.proofs.Common.{◌≡◌, ◌+◌, ◌∙◌, Some, length, sym, ap, subst, arith}
 use Rattle.std.specs.Prelude.{slice_get}
+use Rattle.cw_game.specs.Pairs.{is_call_in}
 use Rattle.cw_product.specs.Product.{game_of}
 use Rattle.cw_solve.specs.declared.table.Table.{Table}
-use Rattle.cw_solve.specs.Rounds.{slot}
 use Rattle.cw_solve.specs.Tables.{IsTable}
-use Rattle.cw_solve.proofs.Slots.{slot_next, slot_row}
-use Rattle.cw_linked.specs.Added.{FreesLinks}
-use Rattle.cw_linked.proofs.Freeing.{frees_none, frees_more, frees_long}
+use Rattle.cw_solve.proofs.Falls.{not_both}
+use Rattle.cw_solve.proofs.Tabling.{there_at}
+use Rattle.cw_linked.specs.Added.{ThePair, FirstOf, AllOf}
+use Rattle.cw_linked.proofs.Askings.{one_more_state}
+use Rattle.cw_linked.proofs.Freeing.{frees_nothing, frees_more, frees_these, frees_long}
+use Rattle.cw_linked.proofs.Passing.{frees_position}
+use Rattle.cw_linked.proofs.Staying.{marked_on}
+use Rattle.cw_linked.proofs.Taking.{is_a_call}
 use Rattle.cw_linked.proofs.added.free_links.Goals as goal
+
+pub is_call-requires : goal.is_call-requires
+is_call-requires c =
+    let at = c.args.at.now in
+    let th = there_at (game_of c.args.game.now) (length c.args.game.now.graph.parts.items) c.requires.routed c.args.work.now.table c.requires.table at.number at.context c.requires.tabled in
+    omega (arith, th.ends, c.requires.of.1)
+
+pub returns-then-not-is_call : goal.returns-then-not-is_call
+returns-then-not-is_call c =
+    let g = game_of c.args.game.now in
+    let at = c.args.at.now in
+    let o = slice_get g.spots c.args.pos.0 in
+    frees_position g c.args.work.now at.number at.context c.args.pos.0
+    (λ call is. not_both (is_call_in o) (is_a_call o call is) (sym c.is_call.ensures ∙ c.if-not-is_call.true))
 
 pub loop-x-init : goal.loop-x-init
 loop-x-init c =
-    let g = game_of c.args.game.now in
     let at = c.args.at.now in
-    frees_none g at.number at.context c.args.work.now (slot g c.args.work.now.table.contexts.items at.number at.context.function c.args.pos.0 0) c.requires.queued
+    frees_nothing (game_of c.args.game.now) at.number at.context c.args.work.now (FirstOf c.args.pos.0 0) (λ p x call is e. absurd (omega (arith, e.1)))
 
 pub free_link-requires : goal.free_link-requires
 free_link-requires c =
@@ -27,30 +45,22 @@ free_link-requires c =
         of = c.requires.of;
         state = omega (arith, c.loop-x-test.true, c.states-x-end.ensures);
       };
-      long = frees_long (game_of c.args.game.now) at.number at.context c.args.work.now c.loop-x.work _ _ inv c.requires.long;
-      queued = inv.queued;
+      long = frees_long (game_of c.args.game.now) at.number at.context c.args.work.now c.loop-x.work (FirstOf c.args.pos.0 c.loop-x.x) inv c.requires.long;
+      marked = marked_on (game_of c.args.game.now) c.args.work.now c.loop-x.work (ap (λ (t : Table). t.contexts.items) inv.others.table) inv.others.marks c.requires.marked;
     }
 
 pub loop-x-preserved : goal.loop-x-preserved
 loop-x-preserved c =
     let g = game_of c.args.game.now in
-    let w = c.args.work.now in
     let at = c.args.at.now in
-    let inv = c.loop-x.invariant in
-    let place = slot g w.table.contexts.items at.number at.context.function c.args.pos.0 c.loop-x.x in
-    let step : FreesLinks g c.loop-x.work c.free_link.new.work at.number at.context place (place + 1)
-    = subst (λ (t : Table). FreesLinks g c.loop-x.work c.free_link.new.work at.number at.context (slot g t.contexts.items at.number at.context.function c.args.pos.0 c.loop-x.x)
-    (slot g t.contexts.items at.number at.context.function c.args.pos.0 c.loop-x.x + 1)) inv.others.table c.in_ok-free_link.ensures in
-    let start = slot g w.table.contexts.items at.number at.context.function c.args.pos.0 0 in
-    subst (λ (y : ℕ). FreesLinks g w c.free_link.new.work at.number at.context start y) (slot_next g w.table.contexts.items at.number at.context.function c.args.pos.0 c.loop-x.x)
-    (frees_more g at.number at.context w c.loop-x.work c.free_link.new.work start place (place + 1) inv step)
+    let p = c.args.pos.0 in
+    let x = c.loop-x.x in
+    frees_more g at.number at.context c.args.work.now c.loop-x.work c.free_link.new.work (FirstOf p x) (ThePair p x) (FirstOf p (x + 1)) c.loop-x.invariant c.in_ok-free_link.ensures
+    (λ r y is. one_more_state p x r y)
 
 pub returns : goal.returns
 returns c =
     let g = game_of c.args.game.now in
-    let w = c.args.work.now in
     let at = c.args.at.now in
-    let start = slot g w.table.contexts.items at.number at.context.function c.args.pos.0 0 in
     let all : c.loop-x.x ≡ g.states.count = omega (arith, c.loop-x-test.false, c.loop-x.auto.x-end, c.states-x-end.ensures) in
-    subst (λ (y : ℕ). FreesLinks g w c.loop-x.work at.number at.context start y)
-    (ap (λ (y : ℕ). slot g w.table.contexts.items at.number at.context.function c.args.pos.0 y) all ∙ slot_row g w.table.contexts.items at.number at.context.function c.args.pos.0 c.requires.of.0) c.loop-x.invariant
+    frees_these g at.number at.context c.args.work.now c.loop-x.work (FirstOf c.args.pos.0 c.loop-x.x) (AllOf c.args.pos.0) c.loop-x.invariant (λ r y is e. (e, omega (arith, all, is.state)))

@@ -1,45 +1,74 @@
-use Rattle.std.proofs.Common.{◌≡◌, ◌<◌, ◌+◌, ◌∷◌, ◌++◌, ◌∙◌, ℕ, List, Option, Some, length, subst, sym, ap, arith}
+use Rattle.std.proofs.Common.{◌≡◌, ◌<◌, ◌+◌, ◌∷◌, ◌++◌, ◌∙◌, ℕ, Bool, List, Option, Some, length, subst, sym, ap, arith}
 use Rattle.std.specs.Prelude.{slice_get, IfSome}
-use Rattle.cw_links.specs.Lists.{Chained, list_at, AreApart}
+use Rattle.cw_links.specs.Lists.{list_at, AreApart}
+use Rattle.cw_marks.specs.Marks.{number}
 use Rattle.cw_product.specs.Product.{game_of}
+use Rattle.cw_solve.proofs.Keeping.{few}
 use Rattle.cw_linked.specs.Calls.{CallsLeft}
 use Rattle.cw_linked.specs.Founds.{AllCalled}
 use Rattle.cw_linked.specs.Queues.{found_of}
 use Rattle.cw_linked.specs.Walks.{from, rest_of}
 use Rattle.cw_linked.proofs.Alike.{alike}
 use Rattle.cw_linked.proofs.Callers.{all_calls}
+use Rattle.cw_linked.proofs.Finishing.{next_right}
 use Rattle.cw_linked.proofs.Returning.{asked_call_left, no_calls_left}
+use Rattle.cw_linked.proofs.Takings.{few_number}
 use Rattle.cw_linked.proofs.Telling.{nothing, two_steps}
 use Rattle.cw_linked.proofs.Walking.{walk_begins, walk_steps}
 use Rattle.cw_linked.proofs.calls.ask_callers.Goals as goal
+
+pub overflow_cast-cell : goal.overflow_cast-cell
+overflow_cast-cell c =
+    let w = c.args.work.now in
+    let at = c.args.cell.now.at in
+    let most = few (game_of c.args.game.now) (length c.args.game.now.graph.parts.items) c.requires.routed w.table c.requires.table in
+    omega (arith, most, few_number w.table.contexts.items at.number at.context c.requires.cell.at)
+
+pub overflow_add-cell : goal.overflow_add-cell
+overflow_add-cell c =
+    let w = c.args.work.now in
+    let at = c.args.cell.now.at in
+    let most = few (game_of c.args.game.now) (length c.args.game.now.graph.parts.items) c.requires.routed w.table c.requires.table in
+    omega (arith, most, few_number w.table.contexts.items at.number at.context c.requires.cell.at)
 
 pub walk-init : goal.walk-init
 walk-init c =
     let g = game_of c.args.game.now in
     let w = c.args.work.now in
     let cell = c.args.cell.now in
-    let list = list_at w.callers.lists (cell.at.number + 1) in
-    let begins = walk_begins list c.first-next.result c.first-next.ensures.first in
+    let begins = walk_begins (list_at w.store.lists (cell.at.number + 1)) c.first-next.result c.first-next.ensures.first in
     record {
-      known = subst (λ (n : ℕ). IfSome c.first-next.result (λ link. link < n)) c.requires.callers.values c.first-next.ensures.known;
-      step = nothing g w c.requires.long c.requires.queued c.requires.high c.requires.right;
+      known = c.first-next.ensures.known;
+      step = nothing g w c.requires.long c.requires.high c.requires.right;
       at = begins.1;
-      left = subst (λ (ys : List ℕ). AllCalled g w.table.contexts.items (found_of g w) (CallsLeft g w.table.contexts.items (found_of g w) ys cell.at.number cell.pos.0 cell.state.0)) (sym begins.0)
-          (all_calls g (length c.args.game.now.graph.parts.items) c.requires.routed (alike c.args.game.now) w c.requires.table c.requires.callers cell.at.number cell.pos.0 cell.state.0 c.requires.called);
+      left = subst (λ (ys : List ℕ). AllCalled g w.table.contexts.items (found_of g w) (CallsLeft g w.table.contexts.items w.store.marks (found_of g w) ys cell.at.number cell.pos.0 cell.state.0))
+          (sym begins.0)
+          (all_calls g (length c.args.game.now.graph.parts.items) c.requires.routed (alike c.args.game.now) w c.requires.table
+          c.requires.marked c.first-next.ensures.there cell.at.number cell.pos.0 cell.state.0 c.requires.called);
     }
+
+pub next-next-requires : goal.next-next-requires
+next-next-requires c =
+    subst (λ (ms : List Bool). c.in-Some.link < number ms) (sym c.in_ok-ask_call.ensures.step.others.marks)
+    (subst (λ (o : Option ℕ). IfSome o (λ link. link < number c.walk.work.store.marks)) c.in-Some.is c.walk.invariant.known)
+
+pub ask_call-requires-clause-right : goal.ask_call-requires-clause-right
+ask_call-requires-clause-right c =
+    next_right (game_of c.args.game.now) (length c.args.game.now.graph.parts.items) c.requires.routed (alike c.args.game.now) c.args.work.now c.walk.work c.requires.table c.walk.invariant.step
 
 pub walk-smaller : goal.walk-smaller
 walk-smaller c =
     let w = c.args.work.now in
-    let cell = c.args.cell.now in
-    let l = cell.at.number + 1 in
-    let same = c.in_ok-ask_call.ensures.step.others.callers ∙ c.walk.invariant.step.others.callers in
-    let apart : AreApart w.callers.lists (length w.callers.values) = subst (λ (y : Chained ℕ). AreApart y.lists (length y.values)) same c.next-next.ensures.apart in
-    let within : (list : ℕ) (front back : List ℕ) → list_at w.callers.lists list ≡ front ++ c.in-Some.link ∷ back → c.next-next.result ≡ slice_get back 0
-    = subst (λ (y : Chained ℕ). (list : ℕ) (front back : List ℕ) → list_at y.lists list ≡ front ++ c.in-Some.link ∷ back → c.next-next.result ≡ slice_get back 0) same c.next-next.ensures.within in
-    let at : slice_get (from (list_at w.callers.lists l) c.in-Some.link) 0 ≡ Some c.in-Some.link = subst (λ (o : Option ℕ). slice_get (rest_of (list_at w.callers.lists l) o) 0 ≡ o) c.in-Some.is c.walk.invariant.at in
-    let s = walk_steps w.callers.lists (length w.callers.values) l c.in-Some.link c.next-next.result apart at within in
-    let before = ap (λ (o : Option ℕ). length (rest_of (list_at w.callers.lists l) o)) c.in-Some.is in
+    let l = c.args.cell.now.at.number + 1 in
+    let link = c.in-Some.link in
+    let same = c.in_ok-ask_call.ensures.step.others.lists ∙ c.walk.invariant.step.others.lists in
+    let links = number c.ask_call.new.work.store.marks in
+    let apart : AreApart w.store.lists links = subst (λ (ls : List (List ℕ)). AreApart ls links) same c.next-next.ensures.apart in
+    let within : (list : ℕ) (front back : List ℕ) → list_at w.store.lists list ≡ front ++ link ∷ back → c.next-next.result ≡ slice_get back 0
+    = subst (λ (ls : List (List ℕ)). (list : ℕ) (front back : List ℕ) → list_at ls list ≡ front ++ link ∷ back → c.next-next.result ≡ slice_get back 0) same c.next-next.ensures.within in
+    let at : slice_get (from (list_at w.store.lists l) link) 0 ≡ Some link = subst (λ (o : Option ℕ). slice_get (rest_of (list_at w.store.lists l) o) 0 ≡ o) c.in-Some.is c.walk.invariant.at in
+    let s = walk_steps w.store.lists links l link c.next-next.result apart at within in
+    let before = ap (λ (o : Option ℕ). length (rest_of (list_at w.store.lists l) o)) c.in-Some.is in
     let old = ap (λ (ys : List ℕ). length ys) s.1 in
     let new = ap (λ (ys : List ℕ). length ys) s.2 in
     omega (arith, before, old, new)
@@ -51,20 +80,25 @@ walk-preserved c =
     let w = c.args.work.now in
     let cell = c.args.cell.now in
     let l = cell.at.number + 1 in
-    let same = c.in_ok-ask_call.ensures.step.others.callers ∙ c.walk.invariant.step.others.callers in
-    let apart : AreApart w.callers.lists (length w.callers.values) = subst (λ (y : Chained ℕ). AreApart y.lists (length y.values)) same c.next-next.ensures.apart in
-    let within : (list : ℕ) (front back : List ℕ) → list_at w.callers.lists list ≡ front ++ c.in-Some.link ∷ back → c.next-next.result ≡ slice_get back 0
-    = subst (λ (y : Chained ℕ). (list : ℕ) (front back : List ℕ) → list_at y.lists list ≡ front ++ c.in-Some.link ∷ back → c.next-next.result ≡ slice_get back 0) same c.next-next.ensures.within in
-    let at : slice_get (from (list_at w.callers.lists l) c.in-Some.link) 0 ≡ Some c.in-Some.link = subst (λ (o : Option ℕ). slice_get (rest_of (list_at w.callers.lists l) o) 0 ≡ o) c.in-Some.is c.walk.invariant.at in
-    let s = walk_steps w.callers.lists (length w.callers.values) l c.in-Some.link c.next-next.result apart at within in
-    let rest : rest_of (list_at w.callers.lists l) c.walk.next ≡ c.in-Some.link ∷ s.0 = ap (rest_of (list_at w.callers.lists l)) c.in-Some.is ∙ s.1 in
+    let link = c.in-Some.link in
+    let same = c.in_ok-ask_call.ensures.step.others.lists ∙ c.walk.invariant.step.others.lists in
+    let links = number c.ask_call.new.work.store.marks in
+    let apart : AreApart w.store.lists links = subst (λ (ls : List (List ℕ)). AreApart ls links) same c.next-next.ensures.apart in
+    let within : (list : ℕ) (front back : List ℕ) → list_at w.store.lists list ≡ front ++ link ∷ back → c.next-next.result ≡ slice_get back 0
+    = subst (λ (ls : List (List ℕ)). (list : ℕ) (front back : List ℕ) → list_at ls list ≡ front ++ link ∷ back → c.next-next.result ≡ slice_get back 0) same c.next-next.ensures.within in
+    let at : slice_get (from (list_at w.store.lists l) link) 0 ≡ Some link = subst (λ (o : Option ℕ). slice_get (rest_of (list_at w.store.lists l) o) 0 ≡ o) c.in-Some.is c.walk.invariant.at in
+    let s = walk_steps w.store.lists links l link c.next-next.result apart at within in
+    let rest : rest_of (list_at w.store.lists l) c.walk.next ≡ link ∷ s.0 = ap (rest_of (list_at w.store.lists l)) c.in-Some.is ∙ s.1 in
     record {
-      known = subst (λ (n : ℕ). IfSome c.next-next.result (λ link. link < n)) (ap (λ (y : Chained ℕ). length y.values) same ∙ c.requires.callers.values) c.next-next.ensures.known;
+      known = c.next-next.ensures.known;
       step = two_steps g w c.walk.work c.ask_call.new.work c.walk.invariant.step c.in_ok-ask_call.ensures.step;
       at = s.3;
-      left = subst (λ (ys : List ℕ). AllCalled g w.table.contexts.items (found_of g c.ask_call.new.work) (CallsLeft g w.table.contexts.items (found_of g w) ys cell.at.number cell.pos.0 cell.state.0)) (sym s.2)
-          (asked_call_left g functions c.requires.routed (alike c.args.game.now) w c.walk.work c.ask_call.new.work c.requires.table c.walk.invariant.step c.in-Some.link s.0 cell c.in_ok-ask_call.ensures
-          (subst (λ (ys : List ℕ). AllCalled g w.table.contexts.items (found_of g c.walk.work) (CallsLeft g w.table.contexts.items (found_of g w) ys cell.at.number cell.pos.0 cell.state.0)) rest c.walk.invariant.left));
+      left = subst (λ (ys : List ℕ). AllCalled g w.table.contexts.items (found_of g c.ask_call.new.work)
+          (CallsLeft g w.table.contexts.items w.store.marks (found_of g w) ys cell.at.number cell.pos.0 cell.state.0)) (sym s.2)
+          (asked_call_left g functions c.requires.routed (alike c.args.game.now) w c.walk.work c.ask_call.new.work c.requires.table c.walk.invariant.step link c.place-place.result s.0 cell
+          c.requires.marked c.place-place.ensures.marked c.place-place.ensures.rank c.in_ok-ask_call.ensures
+          (subst (λ (ys : List ℕ). AllCalled g w.table.contexts.items (found_of g c.walk.work)
+          (CallsLeft g w.table.contexts.items w.store.marks (found_of g w) ys cell.at.number cell.pos.0 cell.state.0)) rest c.walk.invariant.left));
     }
 
 pub returns : goal.returns
@@ -75,7 +109,7 @@ returns c =
     let l = cell.at.number + 1 in
     record {
       step = c.walk.invariant.step;
-      called = no_calls_left g w.table.contexts.items (found_of g c.walk.work) (found_of g w) cell.at.number cell.pos.0 cell.state.0
-          (subst (λ (o : Option ℕ). AllCalled g w.table.contexts.items (found_of g c.walk.work) (CallsLeft g w.table.contexts.items (found_of g w) (rest_of (list_at w.callers.lists l) o) cell.at.number cell.pos.0 cell.state.0))
-          c.in_default.is c.walk.invariant.left);
+      called = no_calls_left g w.table.contexts.items w.store.marks (found_of g c.walk.work) (found_of g w) cell.at.number cell.pos.0 cell.state.0
+          (subst (λ (o : Option ℕ). AllCalled g w.table.contexts.items (found_of g c.walk.work)
+          (CallsLeft g w.table.contexts.items w.store.marks (found_of g w) (rest_of (list_at w.store.lists l) o) cell.at.number cell.pos.0 cell.state.0)) c.in_default.is c.walk.invariant.left);
     }

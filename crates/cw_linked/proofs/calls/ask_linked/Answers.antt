@@ -17,14 +17,14 @@ class_at-requires-clause-position c =
 pub returns-in-None : goal.returns-in-None
 returns-in-None c =
     let g = game_of c.args.game.now in
-    call_unasked g (length c.args.game.now.graph.parts.items) c.requires.routed (alike c.args.game.now) c.args.work.now c.requires.table c.args.link c.cell_at-caller.result c.requires.long c.requires.queued c.requires.high c.requires.right
+    call_unasked g (length c.args.game.now.graph.parts.items) c.requires.routed (alike c.args.game.now) c.args.work.now c.requires.table c.args.link c.cell_at-caller.result c.requires.long c.requires.high c.requires.right
     c.cell_at-caller.ensures c.args.cell.now (λ call es class. c.in-None.ensures.none call es)
 
 pub returns-else-is_same : goal.returns-else-is_same
 returns-else-is_same c =
     let g = game_of c.args.game.now in
     let s = c.in-Some.ensures.some in
-    call_unasked g (length c.args.game.now.graph.parts.items) c.requires.routed (alike c.args.game.now) c.args.work.now c.requires.table c.args.link c.cell_at-caller.result c.requires.long c.requires.queued c.requires.high c.requires.right
+    call_unasked g (length c.args.game.now.graph.parts.items) c.requires.routed (alike c.args.game.now) c.args.work.now c.requires.table c.args.link c.cell_at-caller.result c.requires.long c.requires.high c.requires.right
     c.cell_at-caller.ensures c.args.cell.now (other_class g (slice_get g.spots c.cell_at-caller.result.pos.0) c.args.cell.now.state.0 c.in-Some.class.0 c.cell_at-caller.result.state.0 s.0 s.1 s.2 (c.is_same.ensures.not c.if-is_same.false))
 
 pub returns-in_ok-ask_cell-in-Some : goal.returns-in_ok-ask_cell-in-Some
@@ -37,7 +37,7 @@ returns-in_ok-ask_cell-in-Some c =
     call_asked g (length c.args.game.now.graph.parts.items) c.requires.routed (alike c.args.game.now) w c.requires.table c.ask_cell.new.work c.requires.long c.requires.high c.requires.right cell c.requires.cell c.args.height
     c.requires.some c.requires.taken c.args.link c.cell_at-caller.result c.cell_at-caller.ensures s.0 s.1 (s.2 ∙ c.is_same.ensures.is c.if-is_same.true) c.requires.goes c.requires.entry most (most + 1) c.slot-place.result
     (omega arith) c.greater-most.ensures.one c.greater-most.ensures.moves c.greater-most.ensures.high
-    (greater_low most c.args.height (slice_index w.waves.items c.args.link) w.table.written c.greater-most.ensures.one (c.requires.high.waves c.args.link)
+    (greater_low most c.args.height (slice_index w.store.waves c.args.link) w.table.written c.greater-most.ensures.one (c.requires.high.waves c.args.link)
     (let h = c.requires.high.heights (place_at g w.table.contexts.items cell.at.number cell.pos.0 cell.state.0) in omega (arith, h, c.requires.taken)))
     c.slot-place.ensures.is c.in_ok-ask_cell-in-Some.ensures
 
@@ -47,7 +47,7 @@ overflow_add-within c =
     let w = c.args.work.now in
     let cell = c.args.cell.now in
     let most = c.greater-most.result in
-    let l = (greater_low most c.args.height (slice_index w.waves.items c.args.link) w.table.written c.greater-most.ensures.one (c.requires.high.waves c.args.link)
+    let l = (greater_low most c.args.height (slice_index w.store.waves c.args.link) w.table.written c.greater-most.ensures.one (c.requires.high.waves c.args.link)
     (let h = c.requires.high.heights (place_at g w.table.contexts.items cell.at.number cell.pos.0 cell.state.0) in omega (arith, h, c.requires.taken))) in
     let f = few_written g w.table c.requires.table in
     omega (arith, l, f)
@@ -58,7 +58,7 @@ overflow_mul-within c =
     let w = c.args.work.now in
     let cell = c.args.cell.now in
     let most = c.greater-most.result in
-    let l = (greater_low most c.args.height (slice_index w.waves.items c.args.link) w.table.written c.greater-most.ensures.one (c.requires.high.waves c.args.link)
+    let l = (greater_low most c.args.height (slice_index w.store.waves c.args.link) w.table.written c.greater-most.ensures.one (c.requires.high.waves c.args.link)
     (let h = c.requires.high.heights (place_at g w.table.contexts.items cell.at.number cell.pos.0 cell.state.0) in omega (arith, h, c.requires.taken))) in
     let f = few_written g w.table c.requires.table in
     omega (arith, l, f)

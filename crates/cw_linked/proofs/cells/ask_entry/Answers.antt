@@ -17,7 +17,7 @@ returns-else-cell-entry c =
     let w = c.args.work.now in
     let cell = c.args.cell.now in
     record {
-      step = nothing g w c.requires.long c.requires.queued c.requires.high c.requires.right;
+      step = nothing g w c.requires.long c.requires.high c.requires.right;
       called = no_entry g (length c.args.game.now.graph.parts.items) c.requires.routed (alike c.args.game.now) w c.requires.table c.requires.right cell.at.number cell.at.context cell.pos.0 cell.state.0 c.requires.cell.at
           (λ e. c.if-cell-entry.false (e ∙ sym c.entry.ensures.is)) c.requires.called;
     }

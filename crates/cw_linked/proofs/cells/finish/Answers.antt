@@ -1,7 +1,7 @@
 use Rattle.std.proofs.Common.{length}
 use Rattle.cw_product.specs.Product.{game_of}
 use Rattle.cw_linked.proofs.Alike.{alike}
-use Rattle.cw_linked.proofs.Finishing.{next_owners, next_callers, next_right, next_cell, next_height, one_table, one_called, two_table, two_few, two_standing, finished}
+use Rattle.cw_linked.proofs.Finishing.{next_owners, next_callers, next_marked, next_right, next_cell, next_height, one_table, one_called, two_table, two_few, two_standing, finished}
 use Rattle.cw_linked.proofs.Telling.{two_steps}
 use Rattle.cw_linked.proofs.cells.finish.Goals as goal
 
@@ -14,7 +14,6 @@ ask_waiting-requires c =
       table = t.table;
       cell = t.there;
       long = t.long;
-      queued = t.queued;
       high = t.high;
       right = t.right;
       closed = t.closed;
@@ -37,8 +36,8 @@ ask_entry-requires c =
       some = t.some;
       owners = next_owners g functions c.requires.routed (alike c.args.game.now) w one t.table waiting.step t.owners;
       callers = next_callers g functions c.requires.routed (alike c.args.game.now) w one t.table waiting.step t.callers;
+      marked = next_marked g functions c.requires.routed (alike c.args.game.now) w one t.table waiting.step t.marked;
       long = waiting.step.long;
-      queued = waiting.step.queued;
       high = waiting.step.high;
       right = next_right g functions c.requires.routed (alike c.args.game.now) w one t.table waiting.step;
       called = one_called g functions c.requires.routed (alike c.args.game.now) w one one one cell c.args.height t waiting;
@@ -64,8 +63,8 @@ ask_returns-requires c =
       taken = next_height g functions c.requires.routed (alike c.args.game.now) w two t.table step cell c.args.height t.taken;
       some = t.some;
       few = two_few g functions c.requires.routed (alike c.args.game.now) w one two two cell c.args.height t waiting callers;
+      marked = next_marked g functions c.requires.routed (alike c.args.game.now) w two t.table step t.marked;
       long = step.long;
-      queued = step.queued;
       high = step.high;
       right = next_right g functions c.requires.routed (alike c.args.game.now) w two t.table step;
       standing = two_standing g functions c.requires.routed (alike c.args.game.now) w one two two cell c.args.height t waiting callers;

@@ -8,6 +8,7 @@ use Rattle.cw_linked.specs.Queues.{found_of}
 use Rattle.cw_linked.specs.Walks.{from, rest_of}
 use Rattle.cw_linked.proofs.Alike.{alike}
 use Rattle.cw_linked.proofs.Backs.{ReturnsLeft, all_returns, no_returns}
+use Rattle.cw_linked.proofs.Finishing.{next_marked}
 use Rattle.cw_linked.proofs.Returning.{asked_return_left}
 use Rattle.cw_linked.proofs.Telling.{nothing, two_steps}
 use Rattle.cw_linked.proofs.Walking.{walk_begins, walk_steps}
@@ -28,12 +29,17 @@ walk-init c =
     let begins = walk_begins (list_at returns.lists cell.pos.0) c.first-next.result c.first-next.ensures.first in
     record {
       known = c.first-next.ensures.known;
-      step = nothing g w c.requires.long c.requires.queued c.requires.high c.requires.right;
+      step = nothing g w c.requires.long c.requires.high c.requires.right;
       at = begins.1;
       left = subst (λ (ys : List ℕ). AllStanding g w.table.contexts.items (found_of g w) (ReturnsLeft g w.table.contexts.items (found_of g w) returns ys cell.at.number cell.pos.0 cell.state.0)) (sym begins.0)
           (all_returns g w.table.contexts.items (found_of g w) returns c.requires.returns (found_of g w) cell.at.number cell.pos.0 cell.state.0
           (λ i d p q is. cell_within g (length c.args.game.now.graph.parts.items) c.requires.routed w.table c.requires.table (record { number = i; context = d }) p q is) c.requires.standing);
     }
+
+pub ask_return-requires-clause-marked : goal.ask_return-requires-clause-marked
+ask_return-requires-clause-marked c =
+    next_marked (game_of c.args.game.now) (length c.args.game.now.graph.parts.items) c.requires.routed (alike c.args.game.now) c.args.work.now c.walk.work c.requires.table
+    c.walk.invariant.step c.requires.marked
 
 pub walk-smaller : goal.walk-smaller
 walk-smaller c =

@@ -2,8 +2,11 @@ use Rattle.std.proofs.Common.{◌++◌, ◌∷◌, [], List, length, ap₂}
 use Rattle.cw_product.specs.Product.{game_of}
 use Rattle.cw_solve.specs.declared.contexts.Context.{Context}
 use Rattle.cw_solve.proofs.Fresh.{start_tabled}
-use Rattle.cw_linked.proofs.Solving.{begun_work}
+use Rattle.cw_linked.proofs.Solving.{blank_open, begun_work}
 use Rattle.cw_linked.proofs.solver.begun.Goals as goal
+
+pub add-requires-clause-kept : goal.add-requires-clause-kept
+add-requires-clause-kept c = blank_open (game_of c.args.game.now) c.in_ok-work.work c.in_ok-work.ensures
 
 pub add-requires-clause-contexts : goal.add-requires-clause-contexts
 add-requires-clause-contexts c =

@@ -20,7 +20,7 @@ loop-q-init c =
     let w = c.args.work.now in
     let link = c.args.link.now in
     record {
-      step = nothing g w c.requires.long c.requires.queued c.requires.high c.requires.right;
+      step = nothing g w c.requires.long c.requires.high c.requires.right;
       left = all_from g (length c.args.game.now.graph.parts.items) c.requires.routed (alike c.args.game.now) w.table.contexts.items (found_of g w) link.at.number link.pos.0 link.state.0 c.requires.called;
     }
 

@@ -1,8 +1,9 @@
 use Rattle.std.proofs.Common.{length}
 use Rattle.cw_product.specs.Product.{game_of}
+use Rattle.cw_solve.proofs.Keeping.{few}
 use Rattle.cw_linked.proofs.Alike.{alike}
 use Rattle.cw_linked.proofs.Takings.{few_number}
-use Rattle.cw_linked.proofs.Tightening.{within, mid_firm, mid_goes, mid_called, back_of_link, one_few, one_tied, one_standing, tied_all}
+use Rattle.cw_linked.proofs.Tightening.{within, link_marked, mid_firm, mid_goes, mid_called, back_of_link, one_few, one_marked, one_tied, one_standing, tied_all}
 use Rattle.cw_linked.proofs.ties.tie_link.Goals as goal
 
 pub tie-requires-clause-within : goal.tie-requires-clause-within
@@ -10,6 +11,16 @@ tie-requires-clause-within c =
     let g = game_of c.args.game.now in
     let functions = length c.args.game.now.graph.parts.items in
     within g functions c.requires.routed (alike c.args.game.now) c.args.work.now c.args.work.now c.args.link.now c.args.place c.args.moves c.args.callee.now.number c.args.back.0 c.args.callee.now.context c.requires.tieable
+
+pub tie-requires-clause-marked : goal.tie-requires-clause-marked
+tie-requires-clause-marked c =
+    let g = game_of c.args.game.now in
+    let functions = length c.args.game.now.graph.parts.items in
+    link_marked g functions c.requires.routed (alike c.args.game.now) c.args.work.now c.args.work.now c.args.link.now
+    c.args.place c.args.moves c.args.callee.now.number c.args.back.0 c.args.callee.now.context c.requires.tieable
+
+pub tie-requires-clause-contexts : goal.tie-requires-clause-contexts
+tie-requires-clause-contexts c = few (game_of c.args.game.now) (length c.args.game.now.graph.parts.items) c.requires.routed c.args.work.now.table c.requires.tieable.firm.table
 
 pub tie-requires-clause-number : goal.tie-requires-clause-number
 tie-requires-clause-number c = few_number c.args.work.now.table.contexts.items c.args.callee.now.number c.args.callee.now.context c.requires.tieable.there
@@ -61,6 +72,13 @@ ask_again-requires-clause-few c =
     let g = game_of c.args.game.now in
     let functions = length c.args.game.now.graph.parts.items in
     one_few g functions c.requires.routed (alike c.args.game.now) c.args.work.now c.tie.new.work c.args.link.now c.args.place c.args.moves c.args.callee.now.number c.args.back.0 c.args.callee.now.context c.requires.tieable c.tie.ensures c.ask_calls.new.work c.in_ok-ask_calls.ensures
+
+pub ask_again-requires-clause-marked : goal.ask_again-requires-clause-marked
+ask_again-requires-clause-marked c =
+    let g = game_of c.args.game.now in
+    let functions = length c.args.game.now.graph.parts.items in
+    one_marked g functions c.requires.routed (alike c.args.game.now) c.args.work.now c.tie.new.work c.args.link.now c.args.place
+    c.args.moves c.args.callee.now.number c.args.back.0 c.args.callee.now.context c.requires.tieable c.tie.ensures c.ask_calls.new.work c.in_ok-ask_calls.ensures
 
 pub ask_again-requires-clause-standing : goal.ask_again-requires-clause-standing
 ask_again-requires-clause-standing c =

@@ -13,16 +13,21 @@ pub returns-then-within-eq0 : goal.returns-then-within-eq0
 returns-then-within-eq0 c =
     let g = game_of c.args.game.now in
     let w = c.args.work.now in
-    let cell = c.args.cell.now in
-    told_none g (length c.args.game.now.graph.parts.items) c.requires.routed (alike c.args.game.now) w c.requires.table c.requires.long c.requires.queued c.requires.high c.requires.right cell
-    (λ plain. subst (λ (y : ℕ). IsBound g (heights_of g w.table) cell.at.number cell.pos.0 cell.state.0 cell.at.context.promise y) c.if-within-eq0.true (c.bound-within.ensures.told plain))
+    let at = c.args.at.now in
+    let p = c.args.pos.0 in
+    let q = c.args.state.0 in
+    told_none g (length c.args.game.now.graph.parts.items) c.requires.routed (alike c.args.game.now) w c.requires.table c.requires.long c.requires.high c.requires.right at p q
+    (λ plain. subst (λ (y : ℕ). IsBound g (heights_of g w.table) at.number p q at.context.promise y) c.if-within-eq0.true (c.bound-within.ensures.told plain))
 
 pub returns : goal.returns
 returns c =
     let g = game_of c.args.game.now in
     let w = c.args.work.now in
-    let cell = c.args.cell.now in
-    let plain : is_call_in (slice_get g.spots cell.pos.0) ≡ false = false_of (is_call_in (slice_get g.spots cell.pos.0)) (λ y. c.if-within-eq0.false (c.bound-within.ensures.call y)) in
+    let at = c.args.at.now in
+    let p = c.args.pos.0 in
+    let q = c.args.state.0 in
+    let plain : is_call_in (slice_get g.spots p) ≡ false = false_of (is_call_in (slice_get g.spots p)) (λ y. c.if-within-eq0.false (c.bound-within.ensures.call y)) in
     let some : 0 < c.bound-within.result = omega (arith, c.if-within-eq0.false) in
-    told_asked g (length c.args.game.now.graph.parts.items) c.requires.routed (alike c.args.game.now) w c.ask_cell.new.work c.requires.table c.requires.long c.requires.high c.requires.right cell c.requires.cell
-    c.bound-within.result c.slot-place.result (c.bound-within.ensures.told plain) plain some (c.bound-within.ensures.high w.table.written c.requires.high.heights) c.slot-place.ensures.is c.in_ok-ask_cell.ensures
+    told_asked g (length c.args.game.now.graph.parts.items) c.requires.routed (alike c.args.game.now) w c.ask_cell.new.work c.requires.table c.requires.long c.requires.high c.requires.right
+    at p q c.requires.cell c.bound-within.result c.slot-place.result (c.bound-within.ensures.told plain) plain some (c.bound-within.ensures.high w.table.written c.requires.high.heights)
+    c.slot-place.ensures.is c.in_ok-ask_cell.ensures

@@ -1,90 +1,18 @@
-use Rattle.std.proofs.Common.{◌≡◌, ◌<◌, ◌∷◌, ◌∙◌, ℕ, List, Option, Some, length, subst, sym, ap, arith}
-use Rattle.std.specs.Prelude.{slice_get, IfSome}
-use Rattle.cw_links.specs.Lists.{list_at}
+use Rattle.std.proofs.Common.{sym, subst}
 use Rattle.cw_product.specs.Product.{game_of}
-use Rattle.cw_solve.proofs.Calling.{cell_within}
+use Rattle.cw_solve.specs.declared.table.Table.{Table}
 use Rattle.cw_linked.specs.Founds.{AllClosed}
 use Rattle.cw_linked.specs.Queues.{found_of}
-use Rattle.cw_linked.specs.Waiting.{pair_number}
-use Rattle.cw_linked.specs.Walks.{from, rest_of}
-use Rattle.cw_linked.proofs.Alike.{alike}
-use Rattle.cw_linked.proofs.Telling.{nothing, two_steps}
-use Rattle.cw_linked.proofs.Waits.{AreLeft, all_left, asked_left, none_left}
-use Rattle.cw_linked.proofs.Walking.{walk_begins, walk_steps}
+use Rattle.cw_linked.specs.Waiting.{ChangesFor}
+use Rattle.cw_linked.proofs.Waits.{asked_both}
 use Rattle.cw_linked.proofs.waiting.ask_waiting.Goals as goal
 
-pub pair_number-requires-clause-position : goal.pair_number-requires-clause-position
-pair_number-requires-clause-position c =
-    let g = game_of c.args.game.now in
-    cell_within g (length c.args.game.now.graph.parts.items) c.requires.routed c.args.work.now.table c.requires.table c.args.cell.now.at c.args.cell.now.pos.0 c.args.cell.now.state.0 c.requires.cell
-
-pub walk-init : goal.walk-init
-walk-init c =
-    let g = game_of c.args.game.now in
-    let w = c.args.work.now in
-    let cell = c.args.cell.now in
-    let waits = c.args.waits.now in
-    let list = list_at waits.lists (pair_number g cell.pos.0 cell.state.0) in
-    let first : c.first-next.result ≡ slice_get list 0 = c.first-next.ensures.first ∙ ap (λ (y : ℕ). slice_get (list_at waits.lists y) 0) c.pair_number.ensures.is in
-    let begins = walk_begins list c.first-next.result first in
-    record {
-      known = c.first-next.ensures.known;
-      step = nothing g w c.requires.long c.requires.queued c.requires.high c.requires.right;
-      at = begins.1;
-      left = subst (λ (ys : List ℕ). AllClosed g w.table.contexts.items (found_of g w) (AreLeft waits cell.at.number ys)) (sym begins.0)
-          (all_left g w.table.contexts.items waits (found_of g w) c.requires.waits cell.at.number cell.pos.0 cell.state.0
-          (λ i d p q is. cell_within g (length c.args.game.now.graph.parts.items) c.requires.routed w.table c.requires.table (record { number = i; context = d }) p q is) c.requires.closed);
-    }
-
-pub get-requires : goal.get-requires
-get-requires c = subst (λ o. IfSome o (λ edge. edge < length c.args.waits.now.values)) c.in-Some.is c.walk.invariant.known
-
-pub next-next-requires : goal.next-next-requires
-next-next-requires c = subst (λ o. IfSome o (λ edge. edge < length c.args.waits.now.values)) c.in-Some.is c.walk.invariant.known
-
-pub walk-smaller : goal.walk-smaller
-walk-smaller c =
+pub ask_changes-requires-clause-closed : goal.ask_changes-requires-clause-closed
+ask_changes-requires-clause-closed c =
     let g = game_of c.args.game.now in
     let cell = c.args.cell.now in
-    let waits = c.args.waits.now in
-    let l = pair_number g cell.pos.0 cell.state.0 in
-    let at : slice_get (from (list_at waits.lists l) c.in-Some.edge) 0 ≡ Some c.in-Some.edge = subst (λ (o : Option ℕ). slice_get (rest_of (list_at waits.lists l) o) 0 ≡ o) c.in-Some.is c.walk.invariant.at in
-    let s = walk_steps waits.lists (length waits.values) l c.in-Some.edge c.next-next.result c.next-next.ensures.apart at c.next-next.ensures.within in
-    let before = ap (λ (o : Option ℕ). length (rest_of (list_at waits.lists l) o)) c.in-Some.is in
-    let old = ap (λ (ys : List ℕ). length ys) s.1 in
-    let new = ap (λ (ys : List ℕ). length ys) s.2 in
-    omega (arith, before, old, new)
-
-pub walk-preserved : goal.walk-preserved
-walk-preserved c =
-    let g = game_of c.args.game.now in
-    let functions = length c.args.game.now.graph.parts.items in
-    let w = c.args.work.now in
-    let cell = c.args.cell.now in
-    let waits = c.args.waits.now in
-    let l = pair_number g cell.pos.0 cell.state.0 in
-    let at : slice_get (from (list_at waits.lists l) c.in-Some.edge) 0 ≡ Some c.in-Some.edge = subst (λ (o : Option ℕ). slice_get (rest_of (list_at waits.lists l) o) 0 ≡ o) c.in-Some.is c.walk.invariant.at in
-    let s = walk_steps waits.lists (length waits.values) l c.in-Some.edge c.next-next.result c.next-next.ensures.apart at c.next-next.ensures.within in
-    let rest : rest_of (list_at waits.lists l) c.walk.next ≡ c.in-Some.edge ∷ s.0 = ap (rest_of (list_at waits.lists l)) c.in-Some.is ∙ s.1 in
-    record {
-      known = c.next-next.ensures.known;
-      step = two_steps g w c.walk.work c.ask_pair.new.work c.walk.invariant.step c.in_ok-ask_pair.ensures.step;
-      at = s.3;
-      left = subst (λ (ys : List ℕ). AllClosed g w.table.contexts.items (found_of g c.ask_pair.new.work) (AreLeft waits cell.at.number ys)) (sym s.2)
-          (asked_left g functions c.requires.routed (alike c.args.game.now) w c.walk.work c.ask_pair.new.work c.requires.table c.walk.invariant.step waits cell c.requires.cell.at c.in-Some.edge s.0 c.get.result.now
-          c.get.ensures c.in_ok-ask_pair.ensures
-          (subst (λ (ys : List ℕ). AllClosed g w.table.contexts.items (found_of g c.walk.work) (AreLeft waits cell.at.number ys)) rest c.walk.invariant.left));
-    }
+    let first = c.in_ok-ask_sources.ensures in
+    subst (λ (t : Table). AllClosed g t.contexts.items (found_of g c.ask_sources.new.work) (ChangesFor g cell.at.number cell.pos.0 cell.state.0)) (sym first.step.others.table) first.closed
 
 pub returns : goal.returns
-returns c =
-    let g = game_of c.args.game.now in
-    let w = c.args.work.now in
-    let cell = c.args.cell.now in
-    let waits = c.args.waits.now in
-    let l = pair_number g cell.pos.0 cell.state.0 in
-    record {
-      step = c.walk.invariant.step;
-      closed = none_left g w.table.contexts.items waits (found_of g c.walk.work) cell.at.number
-          (subst (λ (o : Option ℕ). AllClosed g w.table.contexts.items (found_of g c.walk.work) (AreLeft waits cell.at.number (rest_of (list_at waits.lists l) o))) c.in_default.is c.walk.invariant.left);
-    }
+returns c = asked_both (game_of c.args.game.now) c.args.work.now c.ask_sources.new.work c.ask_changes.new.work c.args.cell.now c.in_ok-ask_sources.ensures c.in_ok-ask_changes.ensures

@@ -1,0 +1,52 @@
+-- A position of a context is passed over where there is nothing to do.
+use Rattle.std.proofs.Common.{◌≡◌, ℕ, List, Bool, true, false, not, ◌||◌, Option, Some, None, refl, subst}
+use Rattle.std.specs.Prelude.{◌<◌, slice_get}
+use Rattle.cw_rights.specs.declared.capabilities.Primitive.TheVariants.{Limit, Enter, Split}
+use Rattle.cw_game.specs.declared.spots.Spot.{Spot}
+use Rattle.cw_game.specs.declared.spots.Spot.TheVariants.{Visit, Asked, Step, Branch, Label, Open, Close, Call, SplitCall, Exit}
+use Rattle.cw_game.specs.Games.{Game, refuses_in, Promise, holds_in}
+use Rattle.cw_game.specs.Pairs.{has, Called, call_in, is_call_in}
+use Rattle.cw_solve.specs.declared.contexts.Context.{Context}
+use Rattle.cw_product.specs.Routed.{AreRouted}
+use Rattle.cw_solve.specs.Rounds.{IsCell}
+use Rattle.cw_solve.proofs.Falls.{not_both}
+use Rattle.cw_linked.specs.declared.work.Work.{Work}
+use Rattle.cw_linked.specs.Added.{AllOf, loss_begins_in, FreesLinks}
+use Rattle.cw_linked.specs.Founds.{Found, tells, IsClosed}
+use Rattle.cw_linked.proofs.Freeing.{frees_nothing}
+use Rattle.cw_linked.proofs.Leading.{in_gives, next_cell}
+use Rattle.cw_linked.proofs.Least.{tells_none}
+
+-- no link is at a position where no call stands
+pub frees_position : (g : Game) (w : Work) (j : ℕ) (d : Context) (r : ℕ) → ((call : Called) → call_in (slice_get g.spots r) ≡ Some call → ⊥) → FreesLinks g w w j d (AllOf r)
+frees_position g w j d r none = frees_nothing g j d w (AllOf r) (λ p x call is e. none call (subst (λ (y : ℕ). call_in (slice_get g.spots y) ≡ Some call) e is.calls))
+
+or_true : (b : Bool) → (b || true) ≡ true
+or_true true = refl
+or_true false = refl
+
+-- Where all later pairs hold, a pair holds that is no call, no label and no exit.
+all_hold : (g : Game) (p q : ℕ) (e : Promise) (o : Option Spot) → is_call_in o ≡ false → loss_begins_in o ≡ false → holds_in g (λ r x f. true) p q e o ≡ true
+all_hold g p q e None plain quiet = refl
+all_hold g p q e (Some (Visit j i a)) plain quiet = refl
+all_hold g p q e (Some (Asked j i Split)) plain quiet = rw (or_true (not (g.states.may_grant q Split))) (or_true (not (refuses_in g q Split)))
+all_hold g p q e (Some (Asked j i Enter)) plain quiet = rw (or_true (not (g.states.may_grant q Enter))) (or_true (not (refuses_in g q Enter)))
+all_hold g p q e (Some (Asked j i (Limit l))) plain quiet = rw (or_true (not (g.states.may_grant q (Limit l)))) (or_true (not (refuses_in g q (Limit l))))
+all_hold g p q e (Some (Step n)) plain quiet = refl
+all_hold g p q e (Some (Branch m n)) plain quiet = refl
+all_hold g p q e (Some (Label j l n)) plain quiet = cc
+all_hold g p q e (Some (Open j d n)) plain quiet = refl
+all_hold g p q e (Some (Close j d n)) plain quiet = refl
+all_hold g p q e (Some (Call j f n)) plain quiet = cc
+all_hold g p q e (Some (SplitCall j f n)) plain quiet = cc
+all_hold g p q e (Some (Exit f)) plain quiet = cc
+
+-- So in a context in which no cell has a height nothing is missing there.
+pub closed_fresh : (g : Game) (functions : ℕ) → AreRouted g functions → (contexts : List Context) (s : Found) (i : ℕ) (c : Context) (p q : ℕ) → c.function < functions
+    → IsCell g contexts i c p q → loss_begins_in (slice_get g.spots p) ≡ false → ((r x : ℕ) → IsCell g contexts i c r x → s.height i r x ≡ 0) → IsClosed g s i c p q
+closed_fresh g functions routed contexts s i c p q below is quiet fresh none plain n lost =
+    absurd (not_both (holds_in g (tells s i n) p q (has c.promise) (slice_get g.spots p))
+    (in_gives g (λ r x e. true) (tells s i n) (has c.promise) p q (slice_get g.spots p) plain
+    (λ by r m e y. tells_none n (s.height i r.0 r.1) (fresh r.0 r.1 (next_cell g functions routed contexts i c p q by r below is e)))
+    (all_hold g p q (has c.promise) (slice_get g.spots p) plain quiet))
+    lost)
