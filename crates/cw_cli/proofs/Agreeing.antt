@@ -49,7 +49,8 @@ fits_once source file whole (NoLabel i) fits e = none-some i (sym fits.0 ∙ e)
 fits_once source file whole (NoFunction i) fits (labels, e) = none-some i (sym fits.1 ∙ e)
 fits_once source file whole (NotSplittable i place) fits (labels, functions, first) =
     let within = slice_get_within whole.split i first.name first.named in
-    let may : MayBeSplit source file (names_of whole) first.name = subst (MayBeSplit source file (names_of whole)) (get_or_from_slice_get whole.split i first.name [] first.named) (fits.2 i [] within) in
+    let may : MayBeSplit source file (names_of whole) first.name =
+    subst (MayBeSplit source file (names_of whole)) (get_or_from_slice_get whole.split i first.name [] first.named) (fits.2 i [] within) in
     once (may first.function first.defined) first.least
   where
     once : IsLeast (Forbids (names_of whole) source file first.function) None → IsLeast (Forbids (names_of whole) source file first.function) (Some place) → ⊥

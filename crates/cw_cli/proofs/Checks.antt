@@ -20,11 +20,13 @@ use Rattle.cw_woven.specs.declared.fault.WovenFault.{WovenFault}
 use Rattle.cw_woven.specs.declared.fault.WovenFault.TheVariants as fault
 use Rattle.cw_woven.specs.Held.{IsUnopened}
 use Rattle.cw_woven.specs.Reading.{IsFaultOver}
+use Rattle.cw_commands.specs.declared.outcome.Cause.{Cause}
+use Rattle.cw_commands.specs.declared.outcome.Cause.TheVariants.{Source, Policy, Limit, Grammar}
 use Rattle.cw_commands.specs.declared.outcome.Outcome.{Outcome}
 use Rattle.cw_commands.specs.declared.outcome.Reply.TheVariants.{No}
-use Rattle.cw_commands.specs.Outcomes.{due_of, Due, Told}
-use Rattle.cw_cli.specs.Checking.{part_name, told, woven_refusal, IsChecked, IsWovenRefusal}
-use Rattle.cw_cli.specs.CheckingHeld.{list_name, told_row, IsCheckedBy}
+use Rattle.cw_commands.specs.Outcomes.{due_of, Due, Told, Refused}
+use Rattle.cw_cli.specs.Checking.{of_woven, part_name, told, woven_refusal, IsChecked, IsWovenRefusal}
+use Rattle.cw_cli.specs.CheckingHeld.{list_name, told_row, woven_cause, woven_words, IsCheckedBy}
 use Rattle.cw_cli.proofs.Refused.{if_ok}
 
 name_is : (part : Part) → list_name (table_of part) ≡ part_name part
@@ -56,7 +58,14 @@ memories_many n (m ∷ ms) = ap suc (memories_many (n + 1) ms)
 
 closed_many : (t : Table) → length (from_closed t) ≡ length t.closed + (length t.into + length t.back)
 closed_many t =
-    omega (arith, length-append (map Closed t.closed) (map Into t.into ++ map Back t.back), length-append (map Into t.into) (map Back t.back), length-map t.closed Closed, length-map t.into Into, length-map t.back Back)
+    omega (
+      arith,
+      length-append (map Closed t.closed) (map Into t.into ++ map Back t.back),
+      length-append (map Into t.into) (map Back t.back),
+      length-map t.closed Closed,
+      length-map t.into Into,
+      length-map t.back Back,
+    )
 
 tries_many : (t : Table) → length (from_tries t) ≡ length t.tries + (length t.ats + (length t.opened + (length t.closed + (length t.into + length t.back))))
 tries_many t =
@@ -98,10 +107,17 @@ unopened policy text fault.NoMemory h = tt
 unopened policy text (fault.Source why) h = absurd h
 unopened policy text (fault.Misplaced n) h = absurd h
 
-pub woven_refused : {O E : Type 0} (policy : PlainPolicy) (text source s : List ℕ) (f : WovenFault) (result : Result (Outcome O) E) → IsFaultOver policy text source f → s ≡ source
+pub woven_refused : {O N E : Type 0} (policy : PlainPolicy) (text source s : List ℕ) (f : WovenFault) (result : Result (Outcome O N) E) → IsFaultOver policy text source f → s ≡ source
     → IfOk result (λ o. (f ≢ fault.NoMemory) × (due_of o ≡ woven_refusal policy s f)) → IfOk result (λ o. IsWovenRefusal policy text (due_of o))
 woven_refused policy text source s f result is same h = if_ok result h (λ o p. (source, f, is, p.0, p.1 ∙ ap (λ (z : List ℕ). woven_refusal policy z f) same))
 
 pub where_none : {A P : Type 0} (o : Option A) → o ≡ None → IfNone o P → P
 where_none None e h = h
 where_none (Some a) e h = absurd (none-some a (sym e))
+
+-- the refusal of a woven text by that of its source
+pub woven_is : (cause : Cause) (line : List ℕ) → Refused (woven_cause cause) (woven_words cause ++ line) ≡ of_woven (Refused cause line)
+woven_is Source line = refl
+woven_is Policy line = refl
+woven_is Limit line = refl
+woven_is Grammar line = refl

@@ -51,7 +51,7 @@ module _ {A : Type 0} (f : A → List ℕ) where
 pub wished : (P : Wish → Type 0) (asked : Option Wish) (wish : Wish) → Some wish ≡ asked → P wish → IfSome asked P
 wished P asked wish e p = subst (λ o. IfSome o P) e p
 
-module _ {O E : Type 0} (command : Command) (files : List (List ℕ)) (result : Result (Outcome O) E) where
+module _ {O N E : Type 0} (command : Command) (files : List (List ℕ)) (result : Result (Outcome O N) E) where
   pub weave_is_due : (policy source p s : List ℕ) → command ≡ Weave → files ≡ policy ∷ (source ∷ []) → p ≡ policy → s ≡ source
       → IfOk result (λ o. IsWeaveDue p s (due_of o)) → IfOk result (λ o. IsDue command files (due_of o))
   weave_is_due policy source p s is are same_p same_s h =

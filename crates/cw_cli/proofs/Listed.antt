@@ -1,6 +1,6 @@
 -- The lines of a program's graph are due for its source.
-use Rattle.std.proofs.Common.{◌≡◌, ℕ, suc, ◌+◌, ◌≤◌, ◌<◌, List, [], ◌∷◌, length, map, Vec, Global, Some, refl, sym, ap, ap₂, ◌∙◌, subst, arith, Result, inl}
-use Rattle.std.specs.Prelude.{IfOk, slice_get}
+use Rattle.std.proofs.Common.{◌≡◌, ℕ, suc, ◌+◌, ◌≤◌, ◌<◌, List, [], ◌∷◌, length, map, Vec, Global, Some, refl, sym, ap, ap₂, ◌∙◌, subst, arith, inl}
+use Rattle.std.specs.Prelude.{slice_get}
 use Rattle.std.specs.List.{range_with_len}
 use Rattle.std.proofs.lemmas.List.{length-map}
 use Rattle.cw_syntax.specs.declared.program.Program.{Program}
@@ -22,7 +22,6 @@ use Rattle.cw_commands.specs.declared.outcome.Outcome.{Outcome}
 use Rattle.cw_commands.specs.Outcomes.{due_of}
 use Rattle.cw_cli.specs.Listings.{call_lists, own_names, IsListed, IsListing}
 use Rattle.cw_cli.specs.Refusals.{over as over_limit}
-use Rattle.cw_cli.proofs.Refused.{if_ok}
 
 rows_from : (plan : Plan) (k : ℕ) (rows : List (Vec ℕ Global)) → ((f : ℕ) (row : Vec ℕ Global) → slice_get rows f ≡ Some row → row.items ≡ calls plan (k + f))
     → lists rows ≡ map (calls plan) (range_with_len k (length rows))
@@ -58,10 +57,12 @@ module _ (names : Names) (source : List ℕ) where
       → IsListing source (file_of p) bytes
   is_listing p g bytes e is t =
       let file = file_of p in
-      let both = subst (λ (x : Names). IsGraph x source file g × (bytes ≡ graph_text (function_names source file) x.labels [] (call_lists (plan_of x source file) (length p.functions.items)) g)) e (is, t) in
+      let calls : Names → List (List ℕ) = λ x. call_lists (plan_of x source file) (length p.functions.items) in
+      let both = subst (λ (x : Names). IsGraph x source file g × (bytes ≡ graph_text (function_names source file) x.labels [] (calls x) g)) e (is, t) in
       let many = sym (length-map p.functions.items definition_of) in
       (g, both.0, both.1 ∙ ap (λ k. graph_text (function_names source file) (label_names source file) [] (call_lists (plan_of (own_names source file) source file) k) g) many)
 
 -- too many points are due as a limit of the source
-pub over : {O E : Type 0} (source : List ℕ) (file : File) → 8192 < point_count (plan_of (own_names source file) source file) → (result : Result (Outcome O) E) → IfOk result (λ o. due_of o ≡ over_limit Points) → IfOk result (λ o. IsListed source file (due_of o))
-over source file h result is = if_ok result is (λ o e. inl (h, e))
+pub over : {O N : Type 0} (source : List ℕ) (file : File) → 8192 < point_count (plan_of (own_names source file) source file) → (outcome : Outcome O N) → due_of outcome ≡ over_limit Points
+    → IsListed source file (due_of outcome)
+over source file h outcome is = inl (h, is)

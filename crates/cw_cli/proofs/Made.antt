@@ -8,7 +8,7 @@ use Rattle.cw_states.specs.States.{AreLists, AreFew, lists_of}
 use Rattle.cw_product.specs.Product.{Held, game_of, IsProgramsGraph}
 use Rattle.cw_product.specs.Uses.{uses_of}
 use Rattle.cw_solve.specs.Contexts.{context, HeightIs, AreTheNeeded}
-use Rattle.cw_solve.specs.Made.{IsMade, LeavesMain}
+use Rattle.cw_product.specs.Made.{IsMade, LeavesMain}
 use Rattle.cw_solve.specs.Solved.{Held as Solved, IsNumbered, IsHeightIn}
 use Rattle.cw_solve.proofs.Routing.{routed_of}
 
@@ -18,18 +18,21 @@ is_made h policy graph e f valid drawn leaves lists few pairs = record {
   valid = subst IsValid (sym f) valid;
   graph = subst (IsProgramsGraph (policy_of h.states.policy)) (sym e) (subst (λ p. IsProgramsGraph p graph) (sym f) drawn);
   leaves = subst (LeavesMain (policy_of h.states.policy)) (sym e) (subst (λ p. LeavesMain p graph) (sym f) leaves);
-  lists = subst (λ (k : Graph). AreLists (uses_of (policy_of h.states.policy) k.nodes.items) (lists_of h.states)) (sym e) (subst (λ p. AreLists (uses_of p graph.nodes.items) (lists_of h.states)) (sym f) lists);
+  lists = subst (λ (k : Graph). AreLists (uses_of (policy_of h.states.policy) k.nodes.items) (lists_of h.states)) (sym e)
+      (subst (λ p. AreLists (uses_of p graph.nodes.items) (lists_of h.states)) (sym f) lists);
   few = few;
   pairs = pairs;
 }
 
-numbered_at : (s : Solved) (p q : ℕ) → IsMade s.game → AreTheNeeded (game_of s.game) s.contexts → p ≡ (game_of s.game).entry (game_of s.game).main → q < (game_of s.game).states.count → IsNumbered s 0 p q
+numbered_at : (s : Solved) (p q : ℕ) → IsMade s.game → AreTheNeeded (game_of s.game) s.contexts → p ≡ (game_of s.game).entry (game_of s.game).main
+    → q < (game_of s.game).states.count → IsNumbered s 0 p q
 numbered_at s p q made needed e lt =
     let begins = (routed_of s.game made).main.begins in
     (context (game_of s.game).main (all_states (game_of s.game)), needed.first, (omega (arith, e), omega (arith, e, begins)), lt)
 
 -- the start is a cell of the first context
-pub start_numbered : (s : Solved) (h : Held) (p q : ℕ) → s.game ≡ h → IsMade h → AreTheNeeded (game_of s.game) s.contexts → p ≡ (game_of h).entry (game_of h).main → q < (game_of h).states.count → IsNumbered s 0 p q
+pub start_numbered : (s : Solved) (h : Held) (p q : ℕ) → s.game ≡ h → IsMade h → AreTheNeeded (game_of s.game) s.contexts → p ≡ (game_of h).entry (game_of h).main
+    → q < (game_of h).states.count → IsNumbered s 0 p q
 start_numbered s h p q e made needed at lt =
     numbered_at s p q (subst IsMade (sym e) made) needed (at ∙ ap (λ (k : Held). (game_of k).entry (game_of k).main) (sym e)) (subst (λ (k : Held). q < (game_of k).states.count) (sym e) lt)
 

@@ -1,10 +1,9 @@
 -- A graph and a policy have one game, and it is over no limit where one is made.
-use Rattle.std.proofs.Common.{◌≡◌, ◌≢◌, ℕ, ◌*◌, ◌<◌, ◌≤◌, List, [], ◌∷◌, length, option_map, refl, sym, ap, ap₂, ◌∙◌, subst, arith, inl, inr, ⊎_elim}
+use Rattle.std.proofs.Common.{◌≡◌, ◌≢◌, ℕ, ◌*◌, ◌<◌, ◌≤◌, List, [], ◌∷◌, length, option_map, refl, sym, ap, ◌∙◌, subst, arith, inl, inr, ⊎_elim}
 use Rattle.std.specs.Prelude.{slice_get}
 use Rattle.std.specs.Cmp.{IsTotalOrder}
-use Rattle.std.specs.List.{AllByRecursion}
 use Rattle.std.specs.List.Sorted.{IsStrictlySortedBy}
-use Rattle.std.specs.Ordering.{nat_cmp, ordering_reverse}
+use Rattle.std.specs.Ordering.{nat_cmp}
 use Rattle.std.specs.declared.cmp.Ordering.{Ordering}
 use Rattle.std.specs.declared.cmp.Ordering.TheVariants.{Less}
 use Rattle.std.proofs.lemmas.Cmp.{nat_cmp_total}
@@ -19,6 +18,8 @@ use Rattle.cw_points.specs.declared.graph.Node.{Node}
 use Rattle.cw_points.specs.declared.graph.Part.{Part}
 use Rattle.cw_game.specs.Games.{Game}
 use Rattle.cw_lazy.proofs.Finding.{In, in_of, of_in}
+use Rattle.cw_lazy.proofs.Sameness.{among, one}
+use Rattle.cw_ordered.proofs.Numbers.{apart}
 use Rattle.cw_positions.specs.Positions.{base, spots, spots_in, to}
 use Rattle.cw_states.specs.declared.uses.Uses.{Uses}
 use Rattle.cw_states.specs.Rights.{IsRightsState, caps_cmp}
@@ -28,22 +29,14 @@ use Rattle.cw_product.specs.declared.fault.GameFault.{GameFault}
 use Rattle.cw_product.specs.declared.fault.GameFault.TheVariants.{TooManyCaps, TooManyWords, TooManyStates, TooManyPositions, NoMemory}
 use Rattle.cw_product.specs.Product.{Held, game_of, IsCause}
 use Rattle.cw_product.specs.Uses.{uses_of}
-use Rattle.cw_solve.specs.Made.{IsMade}
+use Rattle.cw_product.specs.Made.{IsMade}
 use Rattle.cw_cli.specs.Refuting.{IsGame}
 
 -- ---- lists that ascend
 
 module _ {A : Type 0} (cmp : A → A → Ordering) (total : IsTotalOrder cmp) where
-  apart : (x : A) → cmp x x ≡ Less → ⊥
-  apart x h = let e : Less ≡ ordering_reverse Less = sym h ∙ total.antisymm x x ∙ ap ordering_reverse h in cc
-
-  crossed : (x y : A) → cmp x y ≡ Less → cmp y x ≡ Less → ⊥
-  crossed x y h k = let e : Less ≡ ordering_reverse Less = sym h ∙ total.antisymm x y ∙ ap ordering_reverse k in cc
-
-  among : (P : A → Type 0) (xs : List A) (x : A) → AllByRecursion P xs → In xs x → P x
-  among P [] x h n = absurd n
-  among P (y ∷ ys) x h (inl e) = subst P e h.0
-  among P (y ∷ ys) x h (inr n) = among P ys x h.1 n
+  alone : (x : A) → cmp x x ≡ Less → ⊥
+  alone x h = apart cmp total x x h h
 
   -- one whose elements another has isn't longer
   fewer : (xs ys : List A) → IsStrictlySortedBy cmp xs → IsStrictlySortedBy cmp ys → ((x : A) → In xs x → In ys x) → length xs ≤ length ys
@@ -53,38 +46,17 @@ module _ {A : Type 0} (cmp : A → A → Ordering) (total : IsTotalOrder cmp) wh
   fewer (x ∷ xs) (y ∷ ys) s r f = by (f x (inl refl)) (λ on. fewer xs ys s.1 r.1 on) (λ on. fewer (x ∷ xs) ys s r.1 on)
     where
       behind : y ≡ x → (z : A) → In xs z → In ys z
-      behind e z n = ⊎_elim (λ h. absurd (apart z (subst (λ w. cmp w z ≡ Less) (sym e ∙ h) (among (λ v. cmp x v ≡ Less) xs z s.0 n)))) (λ m. m) (f z (inr n))
+      behind e z n = ⊎_elim (λ h. absurd (alone z (subst (λ w. cmp w z ≡ Less) (sym e ∙ h) (among cmp total (λ v. cmp x v ≡ Less) xs z s.0 n)))) (λ m. m) (f z (inr n))
 
       within : In ys x → (z : A) → In (x ∷ xs) z → In ys z
       within m z (inl e) = subst (In ys) e m
       within m z (inr n) =
-          ⊎_elim (λ h. absurd (crossed y x (among (λ v. cmp y v ≡ Less) ys x r.0 m) (subst (λ w. cmp x w ≡ Less) (sym h) (among (λ v. cmp x v ≡ Less) xs z s.0 n)))) (λ k. k) (f z (inr n))
+          let front = among cmp total (λ v. cmp y v ≡ Less) ys x r.0 m in
+          ⊎_elim (λ h. absurd (apart cmp total y x front (subst (λ w. cmp x w ≡ Less) (sym h) (among cmp total (λ v. cmp x v ≡ Less) xs z s.0 n)))) (λ k. k) (f z (inr n))
 
       by : In (y ∷ ys) x → (((z : A) → In xs z → In ys z) → length xs ≤ length ys) → (((z : A) → In (x ∷ xs) z → In ys z) → length (x ∷ xs) ≤ length ys) → length (x ∷ xs) ≤ length (y ∷ ys)
       by (inl e) less more = let le = less (behind e) in omega (arith, le)
       by (inr m) less more = let le = more (within m) in omega (arith, le)
-
-  -- lists that have the same elements are one
-  same_lists : (xs ys : List A) → IsStrictlySortedBy cmp xs → IsStrictlySortedBy cmp ys → ((x : A) → In xs x → In ys x) → ((x : A) → In ys x → In xs x) → xs ≡ ys
-  unfolding IsStrictlySortedBy
-  same_lists [] [] s r f h = refl
-  same_lists [] (y ∷ ys) s r f h = absurd (h y (inl refl))
-  same_lists (x ∷ xs) [] s r f h = absurd (f x (inl refl))
-  same_lists (x ∷ xs) (y ∷ ys) s r f h = ap₂ (λ a b. a ∷ b) heads (same_lists xs ys s.1 r.1 (λ z n. on z n (f z (inr n))) (λ z n. back z n (h z (inr n))))
-    where
-      heads : x ≡ y
-      heads = ⊎_elim (λ e. sym e) (λ n. ⊎_elim (λ e. e) (λ m. absurd (crossed x y (among (λ z. cmp x z ≡ Less) xs y s.0 m) (among (λ z. cmp y z ≡ Less) ys x r.0 n))) (h y (inl refl))) (f x (inl refl))
-
-      on : (z : A) → In xs z → In (y ∷ ys) z → In ys z
-      on z n (inl e) = absurd (apart z (subst (λ w. cmp w z ≡ Less) (heads ∙ e) (among (λ z. cmp x z ≡ Less) xs z s.0 n)))
-      on z n (inr m) = m
-
-      back : (z : A) → In ys z → In (x ∷ xs) z → In xs z
-      back z n (inl e) = absurd (apart z (subst (λ w. cmp w z ≡ Less) (sym heads ∙ e) (among (λ z. cmp y z ≡ Less) ys z r.0 n)))
-      back z n (inr m) = m
-
-  pub one : (P : A → Type 0) (xs ys : List A) → Exactly cmp P xs → Exactly cmp P ys → xs ≡ ys
-  one P xs ys a b = same_lists xs ys a.0 b.0 (λ x n. in_of ys x ((b.1 x).1 ((a.1 x).0 (of_in xs x n)))) (λ x n. in_of xs x ((a.1 x).1 ((b.1 x).0 (of_in ys x n))))
 
   pub no_more : (P : A → Type 0) (xs : List A) (n : ℕ) → Exactly cmp P xs → HasMore cmp P n → n < length xs
   no_more P xs n a more =

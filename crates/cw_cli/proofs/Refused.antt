@@ -21,15 +21,15 @@ pub if_ok : {A E : Type 0} {P Q : A → Type 0} (result : Result A E) → IfOk r
 if_ok (Ok a) h f = f a h
 if_ok (Err e) h f = tt
 
-pub policy_refused : {O E : Type 0} (text : List ℕ) (f : PolicyFault) (result : Result (Outcome O) E) → IsFault text f
+pub policy_refused : {O N E : Type 0} (text : List ℕ) (f : PolicyFault) (result : Result (Outcome O N) E) → IsFault text f
     → IfOk result (λ o. (f ≢ policy.NoMemory) × (due_of o ≡ policy_refusal f)) → IfOk result (λ o. IsPolicyRefusal text (due_of o))
 policy_refused text f result is h = if_ok result h (λ o p. (f, is, p.0, p.1))
 
-pub source_refused : {O E : Type 0} (text : List ℕ) (f : SourceFault) (result : Result (Outcome O) E) → IsFaultOf text f
+pub source_refused : {O N E : Type 0} (text : List ℕ) (f : SourceFault) (result : Result (Outcome O N) E) → IsFaultOf text f
     → IfOk result (λ o. (f ≢ source.NoMemory) × (due_of o ≡ source_refusal text f)) → IfOk result (λ o. IsSourceRefusal text (due_of o))
 source_refused text f result is h = if_ok result h (λ o p. (f, is, p.0, p.1))
 
-pub descriptor_refused : {O E : Type 0} (text : List ℕ) (whole : PlainPolicy) (file : File) (f : DescriptorFault) (result : Result (Outcome O) E)
+pub descriptor_refused : {O N E : Type 0} (text : List ℕ) (whole : PlainPolicy) (file : File) (f : DescriptorFault) (result : Result (Outcome O N) E)
     → ReadsAs text file → IsDueDescriptor (descriptor_fault text file whole) f
     → IfOk result (λ o. (f ≢ descriptor.NoMemory) × (due_of o ≡ Refused Source (descriptor_line text whole f))) → IfOk result (λ o. IsDescriptorRefusal text whole (due_of o))
 descriptor_refused text whole file f result reads due h = if_ok result h (λ o p. (file, reads, (f, first p.0, p.1)))

@@ -33,7 +33,10 @@ module _ (source : List ℕ) (whole : PlainPolicy) (file : File) where
     end = end;
     steps = played.steps;
     play = played.play;
-    due_is = e ∙ ap (λ (p : PlainPolicy). play_told p end lines) same ∙ ap (play_told whole end) (played.told ∙ ap (λ (o : List ℕ). o ++ trace names (problem_of whole source file) played.steps) empty ∙ ap (λ (n : Names). trace n (problem_of whole source file) played.steps) named);
+    due_is =
+        e ∙ ap (λ (p : PlainPolicy). play_told p end lines) same
+        ∙ ap (play_told whole end) (played.told ∙ ap (λ (o : List ℕ). o ++ trace names (problem_of whole source file) played.steps) empty
+        ∙ ap (λ (n : Names). trace n (problem_of whole source file) played.steps) named);
   }
 
   pub run_is_told : (t : Table) (tape : List Move) (end : End) (old lines : List ℕ) (due : Due)

@@ -14,7 +14,7 @@ use Rattle.cw_game.specs.Standing.{IsGameOf}
 use Rattle.cw_product.specs.declared.fault.GameFault.{GameFault}
 use Rattle.cw_product.specs.declared.fault.GameFault.TheVariants.{TooManyCaps, TooManyWords, TooManyStates, TooManyPositions, NoMemory}
 use Rattle.cw_product.specs.Product.{Held, game_of}
-use Rattle.cw_solve.specs.Made.{IsMade}
+use Rattle.cw_product.specs.Made.{IsMade}
 use Rattle.cw_callgraph.specs.Fitting.{Fits}
 use Rattle.cw_spelled.specs.Spelled.{IsGameMade}
 use Rattle.cw_commands.specs.declared.outcome.Reply.{Reply}
@@ -75,7 +75,8 @@ won policy source r text (inr (whole, file, are, inr (fits, inr (none, inr (few,
   verdict = verdict;
 }
 
-pub game_made : (whole : PlainPolicy) (source : List ℕ) (file : File) (graph : Graph) (held : Held) → IsGraph (names_of whole) source file graph → point_count (plan_of (names_of whole) source file) ≤ 8192
+pub game_made : (whole : PlainPolicy) (source : List ℕ) (file : File) (graph : Graph) (held : Held) → IsGraph (names_of whole) source file graph
+    → point_count (plan_of (names_of whole) source file) ≤ 8192
     → IsGame whole graph held → IsMade held → IsGameMade held
 game_made whole source file graph held drawn few is made = record {
   made = made;

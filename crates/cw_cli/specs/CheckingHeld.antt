@@ -13,6 +13,8 @@ use Rattle.cw_game.specs.Standing.{IsGameOf}
 use Rattle.cw_wcheck.specs.declared.fault.BadRow.{BadRow}
 use Rattle.cw_wcheck.specs.Checking.{told as told_of}
 use Rattle.cw_woven.specs.declared.reading.Opened.{Opened}
+use Rattle.cw_commands.specs.declared.outcome.Cause.{Cause}
+use Rattle.cw_commands.specs.declared.outcome.Cause.TheVariants.{Grammar, Source}
 use Rattle.cw_commands.specs.declared.outcome.Reply.TheVariants.{Yes, No}
 use Rattle.cw_commands.specs.Outcomes.{Due, Told}
 use Rattle.cw_cli.specs.Refuting.{yes}
@@ -33,6 +35,15 @@ list_name n =
 
 abbrev pub told_row : BadRow → List ℕ
 told_row bad = list_name bad.table ++ (codes " " ++ decimal bad.number) ++ (codes " condition " ++ decimal bad.condition) ++ (10 ∷ [])
+
+-- the cause of a source's refusal, and what stands before its line, where it is the source of a woven text
+abbrev pub woven_cause : Cause → Cause
+woven_cause Source = Grammar
+woven_cause cause = cause
+
+abbrev pub woven_words : Cause → List ℕ
+woven_words Source = codes "woven: "
+woven_words cause = []
 
 -- the table is sound for every program of which that is the game
 abbrev pub IsSoundBy : Game → Table → Type 0

@@ -18,6 +18,7 @@ use Rattle.cw_source.specs.declared.fault.SourceFault.{SourceFault}
 use Rattle.cw_source.specs.declared.fault.SourceFault.TheVariants as source
 use Rattle.cw_source.specs.Read.{IsFaultOf, ReadsAs}
 use Rattle.cw_source.specs.Lines.{at_place, fault_line as source_line}
+use Rattle.cw_commands.specs.declared.outcome.Cause.{Cause}
 use Rattle.cw_commands.specs.declared.outcome.Cause.TheVariants.{Source, Policy, Limit}
 use Rattle.cw_commands.specs.Outcomes.{Due, Refused}
 
@@ -31,9 +32,12 @@ is_limit (OverLimit quantity) = true
 is_limit (Regex index TooDeep) = true
 is_limit _ = false
 
--- the refusal by a policy's fault
+-- its cause, and the refusal by it
+abbrev pub policy_cause : PolicyFault → Cause
+policy_cause f = if is_limit f then Limit else Policy
+
 abbrev pub policy_refusal : PolicyFault → Due
-policy_refusal f = Refused (if is_limit f then Limit else Policy) (fault_line f)
+policy_refusal f = Refused (policy_cause f) (fault_line f)
 
 -- the policy is refused, by its first fault
 abbrev pub IsPolicyRefusal : List ℕ → Due → Type 0
@@ -45,8 +49,11 @@ is_source_limit source.TooDeep = true
 is_source_limit (source.Scope (scope.Limit quantity)) = true
 is_source_limit _ = false
 
+abbrev pub source_cause : SourceFault → Cause
+source_cause f = if is_source_limit f then Limit else Source
+
 abbrev pub source_refusal : List ℕ → SourceFault → Due
-source_refusal text f = Refused (if is_source_limit f then Limit else Source) (source_line text f)
+source_refusal text f = Refused (source_cause f) (source_line text f)
 
 abbrev pub IsSourceRefusal : List ℕ → Due → Type 0
 IsSourceRefusal text due = (f : SourceFault) × IsFaultOf text f × (f ≢ source.NoMemory) × (due ≡ source_refusal text f)

@@ -13,7 +13,7 @@ use Rattle.cw_model.specs.Boards.{problem_of}
 use Rattle.cw_game.specs.Games.{Game}
 use Rattle.cw_game.specs.Standing.{IsGameOf}
 use Rattle.cw_product.specs.Product.{Held, game_of}
-use Rattle.cw_solve.specs.Made.{IsMade}
+use Rattle.cw_product.specs.Made.{IsMade}
 use Rattle.cw_callgraph.specs.Fitting.{Fits}
 use Rattle.cw_commands.specs.Outcomes.{Due}
 use Rattle.cw_cli.specs.Reading.{AfterReading}

@@ -1,27 +1,28 @@
 //! What is due for `check`.
 
-ghost use Rattle.std.specs.Prelude.{◌≡◌, ◌≢◌, ◌≤◌, ◌++◌, length, IfOk};
-ghost use Rattle.std.specs.Fmt.{decimal};
+ghost use Rattle.std.specs.Prelude.{◌≡◌, ◌≢◌, ◌≤◌, length, IfOk};
 ghost use Rattle.cw_rights.specs.Policies.{policy_of};
 ghost use Rattle.cw_rights.specs.Valid.{IsValid};
 ghost use Rattle.cw_syntax.specs.Trees.{file_of};
 ghost use Rattle.cw_actions.specs.Scenes.{names_of};
-ghost use Rattle.cw_commands.specs.declared.outcome.Cause.TheVariants.{Grammar};
 ghost use Rattle.cw_commands.specs.declared.outcome.Reply.TheVariants.{No};
-ghost use Rattle.cw_commands.specs.Outcomes.{due_of, Refused, Told};
-ghost use Rattle.cw_commands.specs.Starts.{Begins, IsRefused, Starts};
+ghost use Rattle.cw_commands.specs.Outcomes.{due_of, Told};
+ghost use Rattle.cw_commands.specs.Starts.{Begins, IsRefused, IsTold, Starts, StartsLine};
 ghost use Rattle.cw_points.specs.Graphs.{IsGraph};
 ghost use Rattle.cw_source.specs.Read.{ReadsAs};
 ghost use Rattle.cw_product.specs.Product.{game_of};
 ghost use Rattle.cw_wcheck.specs.Checking.{HasFewRows};
 ghost use Rattle.cw_woven.specs.Held.{IsOpened};
 ghost use Rattle.cw_cli.specs.Checking.{cut_refusal, of_woven, table_refusal, woven_refusal, AfterGraph, AfterPolicy, AfterWoven, IsCheckDue};
-ghost use Rattle.cw_cli.specs.CheckingHeld.{list_name, told_row, AfterOpening, IsCheckedBy};
+ghost use Rattle.cw_cli.specs.CheckingHeld.{list_name, told_row, woven_cause, woven_words, AfterOpening, IsCheckedBy};
+ghost use Rattle.cw_cli.specs.Refusals.{source_refusal};
 
 use crate::fitting::fit_refusal;
 use crate::putting;
-use crate::refusals::{descriptor_refusal, over, policy_refusal, source_refusal, worded};
-use crate::refuting::{game_refusal, numbered};
+use crate::refusals::{
+    descriptor_refusal_behind, numbered, over, policy_refusal, source_cause, source_refusal_behind,
+};
+use crate::refuting::game_refusal;
 use cw_certs::WeaverCert;
 use cw_commands::{Cause, Outcome, Reply};
 use cw_core::{NoMemory, Quantity};
@@ -32,90 +33,107 @@ use cw_points::Graph;
 use cw_policies::read_policy;
 use cw_product::Game;
 use cw_rights::Policy;
+use cw_source::SourceFault;
 use cw_syntax::checked::Checked;
 use cw_wcheck::{BadRow, check_weaver};
 use cw_woven::{Accepted, CutFault, Opened, WovenFault, accept_woven, open_woven};
 use std::alloc::Global;
 
-/// That a woven text isn't of its grammar, with a number.
-fn ungrammatical<O: Sink>(alloc: Global, words: &[u8], number: u32) -> Result<Outcome<O>, NoMemory>
-    ensures due { IfOk result (λ outcome. due_of outcome ≡ Refused Grammar (words.now ++ decimal number)) }
-    ensures refused { IfOk result IsRefused }
-{
-    let line = numbered(alloc, words, number)?;
-    Ok(Outcome::Refused(Cause::Grammar, line))
-}
-
 /// The refusal by the first fault of a table's lines.
-fn table_refusal<O: Sink>(alloc: Global, fault: &TextFault) -> Result<Outcome<O>, NoMemory>
+fn table_refusal<O: Sink, N: Sink>(
+    fault: &TextFault,
+    note: &mut N,
+) -> Result<Outcome<O, N>, NoMemory>
     ensures due { IfOk result (λ outcome. due_of outcome ≡ table_refusal fault.now) }
     ensures refused { IfOk result IsRefused }
+    ensures notes { StartsLine N.taken N.faults N.refused note.old note.new result }
 {
     match fault {
-        TextFault::Line(number) => ungrammatical(alloc, b"woven: line ", *number),
-        TextFault::Order(number) => ungrammatical(alloc, b"woven: order ", *number),
-        TextFault::Limit(_) => over(alloc, Quantity::Rows),
+        TextFault::Line(number) => Ok(numbered(Cause::Grammar, b"woven: line ", *number, note)),
+        TextFault::Order(number) => Ok(numbered(Cause::Grammar, b"woven: order ", *number, note)),
+        TextFault::Limit(_) => Ok(over(Quantity::Rows, note)),
         TextFault::NoMemory => Err(NoMemory),
     }
 }
 
-/// What is due for a woven text whose source is refused so.
-fn of_woven<O: Sink>(alloc: Global, outcome: Outcome<O>) -> Result<Outcome<O>, NoMemory>
-    requires { IsRefused outcome }
-    ensures due { IfOk result (λ woven. due_of woven ≡ of_woven (due_of outcome)) }
-    ensures refused { IfOk result IsRefused }
+/// Which cause that of a source is for the woven text which has it.
+fn woven_cause(cause: Cause) -> Cause
+    ensures { result ≡ woven_cause cause }
 {
-    match outcome {
-        Outcome::Refused(Cause::Source, line) => {
-            let line = worded(alloc, b"woven: ", &line)?;
-            Ok(Outcome::Refused(Cause::Grammar, line))
-        }
-        Outcome::Refused(Cause::Policy, line) => Ok(Outcome::Refused(Cause::Policy, line)),
-        Outcome::Refused(Cause::Limit, line) => Ok(Outcome::Refused(Cause::Limit, line)),
-        Outcome::Refused(Cause::Grammar, line) => Ok(Outcome::Refused(Cause::Grammar, line)),
-        Outcome::Told(_, _) => unreachable!(),
+    match cause {
+        Cause::Source => Cause::Grammar,
+        Cause::Policy | Cause::Limit | Cause::Grammar => cause,
     }
 }
 
+/// What stands there before the line of a source's refusal.
+fn woven_words(cause: Cause) -> &'static [u8]
+    ensures { result.now ≡ woven_words cause }
+{
+    match cause {
+        Cause::Source => b"woven: ",
+        Cause::Policy | Cause::Limit | Cause::Grammar => b"",
+    }
+}
+
+/// The refusal of a woven text by a fault of its source.
+fn read_refusal<O: Sink, N: Sink>(
+    source: &[u8],
+    fault: &SourceFault,
+    note: &mut N,
+) -> Result<Outcome<O, N>, NoMemory>
+    ensures due { IfOk result (λ outcome. due_of outcome ≡ of_woven (source_refusal source.now fault.now)) }
+    ensures refused { IfOk result IsRefused }
+    ensures notes { StartsLine N.taken N.faults N.refused note.old note.new result }
+{
+    let cause = source_cause(fault)?;
+    Ok(source_refusal_behind(woven_cause(cause), woven_words(cause), source, fault, note))
+}
+
 /// The refusal by the first fault of the source of a woven text.
-fn cut_refusal<O: Sink>(
-    alloc: Global,
+fn cut_refusal<O: Sink, N: Sink>(
     policy: &Policy,
     source: &[u8],
     fault: &CutFault,
-) -> Result<Outcome<O>, NoMemory>
+    note: &mut N,
+) -> Result<Outcome<O, N>, NoMemory>
     ensures due { IfOk result (λ outcome. due_of outcome ≡ cut_refusal (policy_of policy.now) source.now fault.now) }
     ensures refused { IfOk result IsRefused }
+    ensures notes { StartsLine N.taken N.faults N.refused note.old note.new result }
 {
     match fault {
-        CutFault::TooLong => over(alloc, Quantity::SourceBytes),
-        CutFault::Read(fault) => {
-            let outcome = source_refusal(alloc, source, fault)?;
-            of_woven(alloc, outcome)
-        }
-        CutFault::Descriptors(fault) => {
-            let outcome = descriptor_refusal(alloc, source, policy, fault)?;
-            of_woven(alloc, outcome)
-        }
-        CutFault::TooManyPoints => over(alloc, Quantity::Points),
+        CutFault::TooLong => Ok(over(Quantity::SourceBytes, note)),
+        CutFault::Read(fault) => read_refusal(source, fault, note),
+        CutFault::Descriptors(fault) => descriptor_refusal_behind(
+            Cause::Grammar,
+            b"woven: ",
+            source,
+            policy,
+            fault,
+            note,
+        ),
+        CutFault::TooManyPoints => Ok(over(Quantity::Points, note)),
     }
 }
 
 /// The refusal by the first fault of a woven text, which without its parts is this source.
-pub(crate) fn woven_refusal<O: Sink>(
-    alloc: Global,
+pub(crate) fn woven_refusal<O: Sink, N: Sink>(
     policy: &Policy,
     source: &[u8],
     fault: &WovenFault,
-) -> Result<Outcome<O>, NoMemory>
+    note: &mut N,
+) -> Result<Outcome<O, N>, NoMemory>
     ensures due { IfOk result (λ outcome. (fault.now ≢ WovenFault.NoMemory) × (due_of outcome ≡ woven_refusal (policy_of policy.now) source.now fault.now)) }
     ensures refused { IfOk result IsRefused }
+    ensures notes { StartsLine N.taken N.faults N.refused note.old note.new result }
 {
     match fault {
-        WovenFault::Mark(at) => ungrammatical(alloc, b"woven: mark ", *at),
-        WovenFault::Table(fault) => table_refusal(alloc, fault),
-        WovenFault::Source(fault) => cut_refusal(alloc, policy, source, fault),
-        WovenFault::Misplaced(number) => ungrammatical(alloc, b"woven: misplaced ", *number),
+        WovenFault::Mark(at) => Ok(numbered(Cause::Grammar, b"woven: mark ", *at, note)),
+        WovenFault::Table(fault) => table_refusal(fault, note),
+        WovenFault::Source(fault) => cut_refusal(policy, source, fault, note),
+        WovenFault::Misplaced(number) => {
+            Ok(numbered(Cause::Grammar, b"woven: misplaced ", *number, note))
+        }
         WovenFault::NoMemory => Err(NoMemory),
     }
 }
@@ -144,9 +162,10 @@ fn list_name(table: u8) -> &'static [u8]
 }
 
 /// The line that tells which row fails which condition.
-pub(crate) fn told<O: Sink>(bad: &BadRow, out: &mut O) -> Outcome<O>
+pub(crate) fn told<O: Sink, N: Sink>(bad: &BadRow, out: &mut O) -> Outcome<O, N>
     ensures due { due_of result ≡ Told No (told_row bad.now) }
     ensures puts { Begins O.taken O.faults O.refused out.old out.new result }
+    ensures told { IsTold result }
 {
     let mut writer = Writer::begin(out);
     writer.put(list_name(bad.table), out);
@@ -159,10 +178,11 @@ pub(crate) fn told<O: Sink>(bad: &BadRow, out: &mut O) -> Outcome<O>
 }
 
 /// What is told of a table.
-fn judged<O: Sink>(game: &Game, table: &WeaverCert, out: &mut O) -> Outcome<O>
+fn judged<O: Sink, N: Sink>(game: &Game, table: &WeaverCert, out: &mut O) -> Outcome<O, N>
     requires few { HasFewRows table.now }
     ensures due { IsCheckedBy (game_of game.now) table.now (due_of result) }
     ensures puts { Begins O.taken O.faults O.refused out.old out.new result }
+    ensures told { IsTold result }
 {
     match check_weaver(game, table) {
         Ok(()) => putting::told(Reply::Yes, b"yes\n", out),
@@ -171,14 +191,15 @@ fn judged<O: Sink>(game: &Game, table: &WeaverCert, out: &mut O) -> Outcome<O>
 }
 
 /// That the game is over one of its numbers, or what is told of the table.
-fn played<O: Sink>(
+fn played<O: Sink, N: Sink>(
     alloc: Global,
     policy: &Policy,
     checked: &Checked,
     graph: &Graph,
     table: &WeaverCert,
     out: &mut O,
-) -> Result<Outcome<O>, NoMemory>
+    note: &mut N,
+) -> Result<Outcome<O, N>, NoMemory>
     requires valid { IsValid (policy_of policy.now) }
     requires reads { ReadsAs checked.now.source.now (file_of checked.now.program) }
     requires graph { IsGraph (names_of (policy_of policy.now)) checked.now.source.now (file_of checked.now.program) graph.now }
@@ -187,21 +208,23 @@ fn played<O: Sink>(
     ensures due { IfOk result (λ outcome.
         AfterGraph checked.now.source.now (policy_of policy.now) (file_of checked.now.program) table.now graph.now (due_of outcome)) }
     ensures puts { Starts O.taken O.faults O.refused out.old out.new result }
+    ensures notes { StartsLine N.taken N.faults N.refused note.old note.new result }
 {
     match Game::make(alloc, graph, policy) {
         Ok(game) => Ok(judged(&game, table, out)),
-        Err(fault) => game_refusal(alloc, &fault),
+        Err(fault) => game_refusal(&fault, note),
     }
 }
 
 /// That the policy doesn't fit the program, or what comes behind that.
-fn fitted<O: Sink>(
+fn fitted<O: Sink, N: Sink>(
     alloc: Global,
     policy: &Policy,
     accepted: &Accepted,
     table: &WeaverCert,
     out: &mut O,
-) -> Result<Outcome<O>, NoMemory>
+    note: &mut N,
+) -> Result<Outcome<O, N>, NoMemory>
     requires valid { IsValid (policy_of policy.now) }
     requires reads { ReadsAs accepted.now.checked.source.now (file_of accepted.now.checked.program) }
     requires graph { IsGraph (names_of (policy_of policy.now)) accepted.now.checked.source.now (file_of accepted.now.checked.program) accepted.now.graph }
@@ -210,8 +233,9 @@ fn fitted<O: Sink>(
     ensures due { IfOk result (λ outcome.
         AfterWoven accepted.now.checked.source.now (policy_of policy.now) (file_of accepted.now.checked.program) table.now (due_of outcome)) }
     ensures puts { Starts O.taken O.faults O.refused out.old out.new result }
+    ensures notes { StartsLine N.taken N.faults N.refused note.old note.new result }
 {
-    match fit_refusal(alloc, policy, &accepted.checked)? {
+    match fit_refusal(alloc, policy, &accepted.checked, note)? {
         Some(outcome) => Ok(outcome),
         None => played(
             alloc,
@@ -220,59 +244,66 @@ fn fitted<O: Sink>(
             &accepted.graph,
             table,
             out,
+            note,
         ),
     }
 }
 
 /// That the source of a text in parts isn't accepted, or a mark isn't that of its seam, or what comes behind that.
-fn accepted<O: Sink>(
+fn accepted<O: Sink, N: Sink>(
     alloc: Global,
     policy: &Policy,
     opened: &Opened,
     out: &mut O,
-) -> Result<Outcome<O>, NoMemory>
+    note: &mut N,
+) -> Result<Outcome<O, N>, NoMemory>
     requires valid { IsValid (policy_of policy.now) }
     requires opened { IsOpened (policy_of policy.now) opened.now }
     ensures due { IfOk result (λ outcome. AfterOpening (policy_of policy.now) opened.now (due_of outcome)) }
     ensures puts { Starts O.taken O.faults O.refused out.old out.new result }
+    ensures notes { StartsLine N.taken N.faults N.refused note.old note.new result }
 {
     match accept_woven(alloc, opened, policy) {
-        Ok(program) => fitted(alloc, policy, &program, &opened.table, out),
-        Err(fault) => woven_refusal(alloc, policy, &opened.source, &fault),
+        Ok(program) => fitted(alloc, policy, &program, &opened.table, out, note),
+        Err(fault) => woven_refusal(policy, &opened.source, &fault, note),
     }
 }
 
 /// That a text is no woven text, or what is due for the source and the table that it is read as.
-fn opened<O: Sink>(
+fn opened<O: Sink, N: Sink>(
     alloc: Global,
     policy: &Policy,
     text: &[u8],
     out: &mut O,
-) -> Result<Outcome<O>, NoMemory>
+    note: &mut N,
+) -> Result<Outcome<O, N>, NoMemory>
     requires valid { IsValid (policy_of policy.now) }
     requires short { length text.now ≤ 33554432 }
     ensures due { IfOk result (λ outcome. AfterPolicy text.now (policy_of policy.now) (due_of outcome)) }
     ensures puts { Starts O.taken O.faults O.refused out.old out.new result }
+    ensures notes { StartsLine N.taken N.faults N.refused note.old note.new result }
 {
     match open_woven(alloc, text, policy) {
-        Ok(parts) => accepted(alloc, policy, &parts, out),
-        Err(fault) => woven_refusal(alloc, policy, b"", &fault),
+        Ok(parts) => accepted(alloc, policy, &parts, out, note),
+        Err(fault) => woven_refusal(policy, b"", &fault, note),
     }
 }
 
 /// What is due for `check`, by the bytes of a policy and of a woven text.
-pub fn check_due<O: Sink>(
+pub fn check_due<O: Sink, N: Sink>(
     alloc: Global,
     policy: &[u8],
     text: &[u8],
     out: &mut O,
-) -> Result<Outcome<O>, NoMemory>
+    note: &mut N,
+) -> Result<Outcome<O, N>, NoMemory>
     requires short { length text.now ≤ 33554432 }
     ensures due { IfOk result (λ outcome. IsCheckDue policy.now text.now (due_of outcome)) }
     ensures puts { Starts O.taken O.faults O.refused out.old out.new result }
+    ensures notes { StartsLine N.taken N.faults N.refused note.old note.new result }
 {
     match read_policy(alloc, policy) {
-        Ok(whole) => opened(alloc, &whole, text, out),
-        Err(fault) => policy_refusal(alloc, &fault),
+        Ok(whole) => opened(alloc, &whole, text, out, note),
+        Err(fault) => policy_refusal(&fault, note),
     }
 }

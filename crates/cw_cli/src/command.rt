@@ -6,7 +6,7 @@ ghost use Rattle.cw_commands.specs.Endings.{line_of, status_of, usage_line, IsNo
 ghost use Rattle.cw_commands.specs.Files.{AreSized};
 ghost use Rattle.cw_commands.specs.Outcomes.{due_of};
 ghost use Rattle.cw_commands.specs.Runs.{Ends};
-ghost use Rattle.cw_commands.specs.Starts.{Starts};
+ghost use Rattle.cw_commands.specs.Starts.{noted_from, EndsLine, Starts, StartsLine};
 ghost use Rattle.cw_commands.specs.Words.{first_command, requested};
 ghost use Rattle.cw_cli.specs.Due.{IsDue};
 
@@ -28,56 +28,72 @@ use std::alloc::Global;
 const USAGE: u8 = 2;
 
 /// What is due for a command, by the bytes of its files in the order of its words, or for a sample by its number.
-fn due<O: Sink>(
+fn due<O: Sink, N: Sink>(
     alloc: Global,
     command: Command,
     files: &[Vec<u8>],
     out: &mut O,
-) -> Result<Outcome<O>, NoMemory>
+    note: &mut N,
+) -> Result<Outcome<O, N>, NoMemory>
     requires numbered { IsNumbered command }
     requires sized { AreSized (quantities_of command) (map (λ file. file.items) files.now) }
     ensures due { IfOk result (λ outcome. IsDue command (map (λ file. file.items) files.now) (due_of outcome)) }
     ensures puts { Starts O.taken O.faults O.refused out.old out.new result }
+    ensures notes { StartsLine N.taken N.faults N.refused note.old note.new result }
 {
     match (command, files) {
-        (Command::Weave, [policy, source]) => weave_due(alloc, policy, source, out),
-        (Command::Graph, [source]) => listing_due(alloc, source, out),
+        (Command::Weave, [policy, source]) => weave_due(alloc, policy, source, out, note),
+        (Command::Graph, [source]) => listing_due(alloc, source, out, note),
         (Command::Refute, [policy, source, strategy]) => refute_due(
-            alloc, policy, source, strategy, out,
+            alloc, policy, source, strategy, out, note,
         ),
-        (Command::Check, [policy, text]) => check_due(alloc, policy, text, out),
+        (Command::Check, [policy, text]) => check_due(alloc, policy, text, out, note),
         (Command::Play, [policy, source, strategy, tape]) => play_due(
-            alloc, policy, source, strategy, tape, out,
+            alloc, policy, source, strategy, tape, out, note,
         ),
-        (Command::Run, [policy, text, tape]) => run_due(alloc, policy, text, tape, out),
-        (Command::Sample(number), []) => sample_due(alloc, number, out),
+        (Command::Run, [policy, text, tape]) => run_due(alloc, policy, text, tape, out, note),
+        (Command::Sample(number), []) => sample_due(alloc, number, out, note),
         _ => unreachable!(),
     }
 }
 
 /// Reads a command's files, and puts what is due for them.
-fn perform<'w, F: Shelf, O: Sink>(
+fn perform<'w, F: Shelf, O: Sink, N: Sink>(
     alloc: Global,
     command: Command,
     names: &[&'w str],
     shelf: &mut F,
     out: &mut O,
-) -> Ending<'w>
+    note: &mut N,
+) -> Ending<'w, N>
     requires many { length names.now ≡ length (quantities_of command) }
     requires numbered { IsNumbered command }
     ensures same { F.files shelf.new ≡ F.files shelf.old }
     ensures ends { Ends (IsDue command) (F.files shelf.old) (F.faults shelf.old) (F.faults shelf.new)
         (O.taken out.old) (O.taken out.new) (O.faults out.old) (O.faults out.new)
         (quantities_of command) (map (λ name. name.now) names.now) result }
+    ensures notes { EndsLine N.taken N.faults N.refused note.old note.new result }
 {
     let files = match read_files(alloc, command.quantities(), names, shelf) {
         Ok(files) => files,
         Err(ending) => return ending,
     };
-    match due(alloc, command, &files, out) {
+    match due(alloc, command, &files, out, note) {
         Ok(outcome) => deliver(outcome, out),
         Err(NoMemory) => Ending::Memory,
     }
+}
+
+/// Puts the line of an ending, and answers its status. What the note answers changes no status.
+fn end<N: Sink>(ending: Ending<'_, N>, note: &mut N) -> u8
+    requires begun { EndsLine N.taken N.faults N.refused (noted_from note.old ending) note.old ending }
+    ensures status { result ≡ status_of ending.entry }
+    ensures noted { IsNoted (N.taken (noted_from note.old ending.entry)) (N.taken note.new) (line_of ending.entry) }
+    ensures whole { IsNotedWhole N.taken N.faults N.refused (noted_from note.old ending.entry) note.new (line_of ending.entry) }
+{
+    let status = ending.status();
+    let _ = put_ending(note, ending);
+    status
 }
 
 /// Does what the words of a command line ask for, and answers the status.
@@ -103,30 +119,26 @@ pub fn capweave<F: Shelf, O: Sink, N: Sink>(
     ensures usage { requested words.now ≡ None → (O.taken out.new ≡ O.taken out.old)
         × (((result ≡ 2) × IsNoted (N.taken note.old) (N.taken note.new) (Some (usage_line (first_command words.now)))
         × IsNotedWhole N.taken N.faults N.refused note.old note.new (Some (usage_line (first_command words.now))))
-        ⊎ ((result ≡ 8) × IsNoted (N.taken note.old) (N.taken note.new) (line_of Ending.Memory)
-        × IsNotedWhole N.taken N.faults N.refused note.old note.new (line_of Ending.Memory))) }
+        ⊎ ((result ≡ 8) × IsNoted (N.taken note.old) (N.taken note.new) (line_of {N = N} Ending.Memory)
+        × IsNotedWhole N.taken N.faults N.refused note.old note.new (line_of {N = N} Ending.Memory))) }
     ensures misused { result ≡ 2 → requested words.now ≡ None }
 
     // The words of a command: its ending, with its status, what it leaves on the output and its line on the note.
-    ensures ends { IfSome (requested words.now) (λ wish. (ending : Ending) × (result ≡ status_of ending)
+    ensures ends { IfSome (requested words.now) (λ wish. (ending : Ending N) × (result ≡ status_of ending)
         × Ends (IsDue wish.0) (F.files shelf.old) (F.faults shelf.old) (F.faults shelf.new)
         (O.taken out.old) (O.taken out.new) (O.faults out.old) (O.faults out.new) (quantities_of wish.0) wish.1 ending
         × IsNoted (N.taken note.old) (N.taken note.new) (line_of ending)
         × IsNotedWhole N.taken N.faults N.refused note.old note.new (line_of ending)) }
 {
-    // What the note answers changes no status.
     let request = match requested(alloc, words) {
         Ok(request) => request,
-        Err(NoMemory) => {
-            let _ = put_ending(note, &Ending::Memory);
-            return Ending::Memory.status();
-        }
+        Err(NoMemory) => return end(Ending::Memory, note),
     };
     let Some(request) = request else {
+        // What the note answers changes no status.
         let _ = put_usage(note, first_command(words));
         return USAGE;
     };
-    let ending = perform(alloc, request.command, &request.names, shelf, out);
-    let _ = put_ending(note, &ending);
-    ending.status()
+    let ending = perform(alloc, request.command, &request.names, shelf, out, note);
+    end(ending, note)
 }

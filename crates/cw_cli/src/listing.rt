@@ -12,7 +12,7 @@ ghost use Rattle.cw_points.specs.Graphs.{IsGraph};
 ghost use Rattle.cw_source.specs.Read.{ReadsAs};
 ghost use Rattle.cw_commands.specs.declared.outcome.Reply.TheVariants.{Yes};
 ghost use Rattle.cw_commands.specs.Outcomes.{due_of, Told};
-ghost use Rattle.cw_commands.specs.Starts.{Starts};
+ghost use Rattle.cw_commands.specs.Starts.{Starts, StartsLine};
 ghost use Rattle.cw_cli.specs.Listings.{call_lists, own_names, IsListed, IsListingDue};
 
 use crate::refusals::{over, source_refusal};
@@ -61,18 +61,20 @@ fn call_lists(alloc: Global, checked: &Checked, policy: &Policy) -> Result<Vec<V
 }
 
 /// The lines of a program's graph, which is built under a policy that has its labels alone.
-fn listed<O: Sink>(
+fn listed<O: Sink, N: Sink>(
     alloc: Global,
     checked: &Checked,
     policy: &Policy,
     graph: &Graph,
     out: &mut O,
-) -> Result<Outcome<O>, NoMemory>
+    note: &mut N,
+) -> Result<Outcome<O, N>, NoMemory>
     requires few { length checked.now.program.functions.items ≤ 65535 }
     ensures due { IfOk result (λ outcome. due_of outcome
         ≡ Told Yes (graph_text (function_names checked.now.source.now (file_of checked.now.program)) (lists policy.now.labels.items) []
         (call_lists (plan_in checked.now (policy_of policy.now)) (length checked.now.program.functions.items)) graph.now)) }
     ensures puts { Starts O.taken O.faults O.refused out.old out.new result }
+    ensures notes { StartsLine N.taken N.faults N.refused note.old note.new result }
 {
     let functions = function_names(alloc, checked.source, &checked.program)?;
     let calls = call_lists(alloc, checked, policy)?;
@@ -87,54 +89,60 @@ fn listed<O: Sink>(
 }
 
 /// What is due for a program, under a policy that has its labels and nothing else.
-fn drawn<O: Sink>(
+fn drawn<O: Sink, N: Sink>(
     alloc: Global,
     checked: &Checked,
     policy: &Policy,
     out: &mut O,
-) -> Result<Outcome<O>, NoMemory>
+    note: &mut N,
+) -> Result<Outcome<O, N>, NoMemory>
     requires reads { ReadsAs checked.now.source.now (file_of checked.now.program) }
     requires names { names_of (policy_of policy.now) ≡ own_names checked.now.source.now (file_of checked.now.program) }
     requires labels { length (policy_of policy.now).labels ≤ 65535 }
     ensures due { IfOk result (λ outcome. IsListed checked.now.source.now (file_of checked.now.program) (due_of outcome)) }
     ensures puts { Starts O.taken O.faults O.refused out.old out.new result }
+    ensures notes { StartsLine N.taken N.faults N.refused note.old note.new result }
 {
     match build(alloc, checked, policy) {
-        Ok(graph) => listed(alloc, checked, policy, &graph, out),
-        Err(PointsFault::TooManyPoints) => over(alloc, Quantity::Points),
+        Ok(graph) => listed(alloc, checked, policy, &graph, out, note),
+        Err(PointsFault::TooManyPoints) => Ok(over(Quantity::Points, note)),
         Err(PointsFault::NoMemory) => Err(NoMemory),
     }
 }
 
 /// What is due for a program whose graph is asked for.
-fn of_program<O: Sink>(
+fn of_program<O: Sink, N: Sink>(
     alloc: Global,
     checked: &Checked,
     out: &mut O,
-) -> Result<Outcome<O>, NoMemory>
+    note: &mut N,
+) -> Result<Outcome<O, N>, NoMemory>
     requires reads { ReadsAs checked.now.source.now (file_of checked.now.program) }
     ensures due { IfOk result (λ outcome. IsListed checked.now.source.now (file_of checked.now.program) (due_of outcome)) }
     ensures puts { Starts O.taken O.faults O.refused out.old out.new result }
+    ensures notes { StartsLine N.taken N.faults N.refused note.old note.new result }
 {
     let labels = label_names(alloc, checked.source, &checked.program)?;
     if labels.len() > LABELS {
-        return over(alloc, Quantity::Points);
+        return Ok(over(Quantity::Points, note));
     }
-    drawn(alloc, checked, &with_labels(alloc, labels), out)
+    drawn(alloc, checked, &with_labels(alloc, labels), out, note)
 }
 
 /// What is due for the bytes of a source whose graph is asked for.
-pub fn listing_due<O: Sink>(
+pub fn listing_due<O: Sink, N: Sink>(
     alloc: Global,
     source: &[u8],
     out: &mut O,
-) -> Result<Outcome<O>, NoMemory>
+    note: &mut N,
+) -> Result<Outcome<O, N>, NoMemory>
     requires short { length source.now ≤ 262144 }
     ensures due { IfOk result (λ outcome. IsListingDue source.now (due_of outcome)) }
     ensures puts { Starts O.taken O.faults O.refused out.old out.new result }
+    ensures notes { StartsLine N.taken N.faults N.refused note.old note.new result }
 {
     match read_source(alloc, source) {
-        Ok(checked) => of_program(alloc, &checked, out),
-        Err(fault) => source_refusal(alloc, source, &fault),
+        Ok(checked) => of_program(alloc, &checked, out, note),
+        Err(fault) => source_refusal(source, &fault, note),
     }
 }

@@ -15,7 +15,7 @@ ghost use Rattle.cw_product.specs.Product.{game_of};
 ghost use Rattle.cw_product.specs.Uses.{uses_of};
 ghost use Rattle.cw_tapes.specs.Tapes.{IsIn};
 ghost use Rattle.cw_commands.specs.Outcomes.{due_of};
-ghost use Rattle.cw_commands.specs.Starts.{Begins, Starts};
+ghost use Rattle.cw_commands.specs.Starts.{Begins, IsTold, Starts, StartsLine};
 ghost use Rattle.cw_cli.specs.Refuting.{WhereFits, WithGame, WithGraph};
 ghost use Rattle.cw_cli.specs.Tapes.{WithTape};
 ghost use Rattle.cw_cli.specs.Playing.{play_told, rule_name, AfterPair, IsPlayDue, IsPlayTold, IsShown};
@@ -52,10 +52,16 @@ fn rule_name(policy: &Policy, number: u8) -> &[u8]
 }
 
 /// The trace of a play, and behind it how the play ends.
-fn play_told<O: Sink>(policy: &Policy, end: PlayEnd, trace: Writer<O>, out: &mut O) -> Outcome<O>
+fn play_told<O: Sink, N: Sink>(
+    policy: &Policy,
+    end: PlayEnd,
+    trace: Writer<O>,
+    out: &mut O,
+) -> Outcome<O, N>
     requires follows { Follows O.taken O.faults O.refused trace out.old }
     ensures due { due_of result ≡ play_told (policy_of policy.now) end trace.text }
     ensures puts { Begins O.taken O.faults O.refused trace.begun out.new result }
+    ensures told { IsTold result }
 {
     let mut writer = trace;
     match end {
@@ -73,14 +79,15 @@ fn play_told<O: Sink>(policy: &Policy, end: PlayEnd, trace: Writer<O>, out: &mut
 }
 
 /// The play of a good strategy by a tape.
-fn shown<O: Sink>(
+fn shown<O: Sink, N: Sink>(
     alloc: Global,
     checked: &Checked,
     game: &Game,
     strategy: &EnvCert,
     tape: &[Move],
     out: &mut O,
-) -> Result<Outcome<O>, NoMemory>
+    note: &mut N,
+) -> Result<Outcome<O, N>, NoMemory>
     requires valid { IsValid (policy_of game.now.states.policy) }
     requires lists { AreLists (uses_of (policy_of game.now.states.policy) game.now.graph.nodes.items) (lists_of game.now.states) }
     requires reads { ReadsAs checked.now.source.now (file_of checked.now.program) }
@@ -91,6 +98,7 @@ fn shown<O: Sink>(
     ensures due { IfOk result (λ outcome. IsPlayTold checked.now.source.now (policy_of game.now.states.policy) (file_of checked.now.program)
         (game_of game.now) (strategy_of strategy.now) tape.now (due_of outcome)) }
     ensures puts { Starts O.taken O.faults O.refused out.old out.new result }
+    ensures notes { StartsLine N.taken N.faults N.refused note.old note.new result }
 {
     let names = trace_names(alloc, checked, game.graph())?;
     let mut writer = Writer::begin(out);
@@ -99,14 +107,15 @@ fn shown<O: Sink>(
 }
 
 /// What is told of a strategy: its play by a tape, or the first row that fails a condition.
-fn judged<O: Sink>(
+fn judged<O: Sink, N: Sink>(
     alloc: Global,
     checked: &Checked,
     game: &Game,
     strategy: &EnvCert,
     tape: &[Move],
     out: &mut O,
-) -> Result<Outcome<O>, NoMemory>
+    note: &mut N,
+) -> Result<Outcome<O, N>, NoMemory>
     requires valid { IsValid (policy_of game.now.states.policy) }
     requires lists { AreLists (uses_of (policy_of game.now.states.policy) game.now.graph.nodes.items) (lists_of game.now.states) }
     requires reads { ReadsAs checked.now.source.now (file_of checked.now.program) }
@@ -116,15 +125,16 @@ fn judged<O: Sink>(
     ensures due { IfOk result (λ outcome. IsShown checked.now.source.now (policy_of game.now.states.policy) (file_of checked.now.program)
         (strategy_of strategy.now) tape.now (game_of game.now) (due_of outcome)) }
     ensures puts { Starts O.taken O.faults O.refused out.old out.new result }
+    ensures notes { StartsLine N.taken N.faults N.refused note.old note.new result }
 {
     match check_env(game, strategy) {
-        Ok(()) => shown(alloc, checked, game, strategy, tape, out),
+        Ok(()) => shown(alloc, checked, game, strategy, tape, out, note),
         Err(bad) => Ok(told(&bad, out)),
     }
 }
 
 /// That the game is over one of its numbers, or what is told of the strategy.
-fn played<O: Sink>(
+fn played<O: Sink, N: Sink>(
     alloc: Global,
     policy: &Policy,
     checked: &Checked,
@@ -132,7 +142,8 @@ fn played<O: Sink>(
     strategy: &EnvCert,
     tape: &[Move],
     out: &mut O,
-) -> Result<Outcome<O>, NoMemory>
+    note: &mut N,
+) -> Result<Outcome<O, N>, NoMemory>
     requires valid { IsValid (policy_of policy.now) }
     requires reads { ReadsAs checked.now.source.now (file_of checked.now.program) }
     requires graph { IsGraph (names_of (policy_of policy.now)) checked.now.source.now (file_of checked.now.program) graph.now }
@@ -142,22 +153,24 @@ fn played<O: Sink>(
     ensures due { IfOk result (λ outcome. let source = checked.now.source.now in let whole = policy_of policy.now in let file = file_of checked.now.program in
         WithGame (IsShown source whole file (strategy_of strategy.now) tape.now) source whole file graph.now (due_of outcome)) }
     ensures puts { Starts O.taken O.faults O.refused out.old out.new result }
+    ensures notes { StartsLine N.taken N.faults N.refused note.old note.new result }
 {
     match Game::make(alloc, graph, policy) {
-        Ok(game) => judged(alloc, checked, &game, strategy, tape, out),
-        Err(fault) => game_refusal(alloc, &fault),
+        Ok(game) => judged(alloc, checked, &game, strategy, tape, out, note),
+        Err(fault) => game_refusal(&fault, note),
     }
 }
 
 /// That the program has too many points, or what comes behind that.
-fn drawn<O: Sink>(
+fn drawn<O: Sink, N: Sink>(
     alloc: Global,
     policy: &Policy,
     checked: &Checked,
     strategy: &EnvCert,
     tape: &[Move],
     out: &mut O,
-) -> Result<Outcome<O>, NoMemory>
+    note: &mut N,
+) -> Result<Outcome<O, N>, NoMemory>
     requires valid { IsValid (policy_of policy.now) }
     requires reads { ReadsAs checked.now.source.now (file_of checked.now.program) }
     requires few { length strategy.now.rows.items < 2 ^ 32 }
@@ -165,23 +178,25 @@ fn drawn<O: Sink>(
     ensures due { IfOk result (λ outcome. let source = checked.now.source.now in let whole = policy_of policy.now in let file = file_of checked.now.program in
         WithGraph (IsShown source whole file (strategy_of strategy.now) tape.now) source whole file (due_of outcome)) }
     ensures puts { Starts O.taken O.faults O.refused out.old out.new result }
+    ensures notes { StartsLine N.taken N.faults N.refused note.old note.new result }
 {
     match build(alloc, checked, policy) {
-        Ok(graph) => played(alloc, policy, checked, &graph, strategy, tape, out),
-        Err(PointsFault::TooManyPoints) => over(alloc, Quantity::Points),
+        Ok(graph) => played(alloc, policy, checked, &graph, strategy, tape, out, note),
+        Err(PointsFault::TooManyPoints) => Ok(over(Quantity::Points, note)),
         Err(PointsFault::NoMemory) => Err(NoMemory),
     }
 }
 
 /// That the policy doesn't fit the program, or what comes behind that.
-fn fitted<O: Sink>(
+fn fitted<O: Sink, N: Sink>(
     alloc: Global,
     policy: &Policy,
     checked: &Checked,
     strategy: &EnvCert,
     tape: &[Move],
     out: &mut O,
-) -> Result<Outcome<O>, NoMemory>
+    note: &mut N,
+) -> Result<Outcome<O, N>, NoMemory>
     requires valid { IsValid (policy_of policy.now) }
     requires reads { ReadsAs checked.now.source.now (file_of checked.now.program) }
     requires few { length strategy.now.rows.items < 2 ^ 32 }
@@ -189,22 +204,24 @@ fn fitted<O: Sink>(
     ensures due { IfOk result (λ outcome. let source = checked.now.source.now in let whole = policy_of policy.now in let file = file_of checked.now.program in
         WhereFits (IsShown source whole file (strategy_of strategy.now) tape.now) source whole file (due_of outcome)) }
     ensures puts { Starts O.taken O.faults O.refused out.old out.new result }
+    ensures notes { StartsLine N.taken N.faults N.refused note.old note.new result }
 {
-    match fit_refusal(alloc, policy, checked)? {
+    match fit_refusal(alloc, policy, checked, note)? {
         Some(outcome) => Ok(outcome),
-        None => drawn(alloc, policy, checked, strategy, tape, out),
+        None => drawn(alloc, policy, checked, strategy, tape, out, note),
     }
 }
 
 /// That the tape isn't one of the weaver's moves, or what comes behind that.
-fn taped<O: Sink>(
+fn taped<O: Sink, N: Sink>(
     alloc: Global,
     policy: &Policy,
     checked: &Checked,
     strategy: &EnvCert,
     tape: &[u8],
     out: &mut O,
-) -> Result<Outcome<O>, NoMemory>
+    note: &mut N,
+) -> Result<Outcome<O, N>, NoMemory>
     requires valid { IsValid (policy_of policy.now) }
     requires reads { ReadsAs checked.now.source.now (file_of checked.now.program) }
     requires few { length strategy.now.rows.items < 2 ^ 32 }
@@ -212,50 +229,63 @@ fn taped<O: Sink>(
     ensures due { IfOk result (λ outcome. let source = checked.now.source.now in let whole = policy_of policy.now in let file = file_of checked.now.program in
         WithTape (λ moves. WhereFits (IsShown source whole file (strategy_of strategy.now) moves) source whole file) true tape.now (due_of outcome)) }
     ensures puts { Starts O.taken O.faults O.refused out.old out.new result }
+    ensures notes { StartsLine N.taken N.faults N.refused note.old note.new result }
 {
-    match moves_of(alloc, tape, true) {
-        Ok(moves) => fitted(alloc, policy, checked, strategy, &moves, out),
+    match moves_of(alloc, tape, true, note) {
+        Ok(moves) => fitted(alloc, policy, checked, strategy, &moves, out, note),
         Err(answer) => answer,
     }
 }
 
 /// That the strategy isn't spelled in the policy's format, or what comes behind that.
-fn spelled<O: Sink>(
+fn spelled<O: Sink, N: Sink>(
     alloc: Global,
     policy: &Policy,
     checked: &Checked,
     text: &[u8],
     tape: &[u8],
     out: &mut O,
-) -> Result<Outcome<O>, NoMemory>
+    note: &mut N,
+) -> Result<Outcome<O, N>, NoMemory>
     requires valid { IsValid (policy_of policy.now) }
     requires reads { ReadsAs checked.now.source.now (file_of checked.now.program) }
     requires short { length tape.now ≤ 33554432 }
     ensures due { IfOk result (λ outcome. AfterPair checked.now.source.now text.now tape.now (policy_of policy.now) (file_of checked.now.program) (due_of outcome)) }
     ensures puts { Starts O.taken O.faults O.refused out.old out.new result }
+    ensures notes { StartsLine N.taken N.faults N.refused note.old note.new result }
 {
     match read_env(alloc, text, policy.format) {
-        Ok(strategy) => taped(alloc, policy, checked, &strategy, tape, out),
-        Err(fault) => strategy_refusal(alloc, &fault),
+        Ok(strategy) => taped(alloc, policy, checked, &strategy, tape, out, note),
+        Err(fault) => strategy_refusal(&fault, note),
     }
 }
 
 /// What is due for `play`, by the bytes of a policy, of a source, of a strategy and of a tape.
-pub fn play_due<O: Sink>(
+pub fn play_due<O: Sink, N: Sink>(
     alloc: Global,
     policy: &[u8],
     source: &[u8],
     strategy: &[u8],
     tape: &[u8],
     out: &mut O,
-) -> Result<Outcome<O>, NoMemory>
+    note: &mut N,
+) -> Result<Outcome<O, N>, NoMemory>
     requires short { length source.now ≤ 262144 }
     requires short_tape { length tape.now ≤ 33554432 }
     ensures due { IfOk result (λ outcome. IsPlayDue policy.now source.now strategy.now tape.now (due_of outcome)) }
     ensures puts { Starts O.taken O.faults O.refused out.old out.new result }
+    ensures notes { StartsLine N.taken N.faults N.refused note.old note.new result }
 {
-    match read_both(alloc, policy, source) {
-        Ok(pair) => spelled(alloc, &pair.policy, &pair.checked, strategy, tape, out),
+    match read_both(alloc, policy, source, note) {
+        Ok(pair) => spelled(
+            alloc,
+            &pair.policy,
+            &pair.checked,
+            strategy,
+            tape,
+            out,
+            note,
+        ),
         Err(answer) => answer,
     }
 }

@@ -7,7 +7,7 @@ ghost use Rattle.cw_syntax.specs.Trees.{file_of};
 ghost use Rattle.cw_scope.specs.Descriptors.{descriptor_fault};
 ghost use Rattle.cw_source.specs.Read.{ReadsAs};
 ghost use Rattle.cw_commands.specs.Outcomes.{due_of};
-ghost use Rattle.cw_commands.specs.Starts.{IsRefused};
+ghost use Rattle.cw_commands.specs.Starts.{IsRefused, PassesOrStartsLine};
 ghost use Rattle.cw_cli.specs.Reading.{AreRead, IsSourceUnread, IsUnread};
 
 use crate::refusals::{Answer, descriptor_refusal, policy_refusal, source_refusal};
@@ -27,11 +27,12 @@ pub(crate) struct Pair<'s> {
 }
 
 /// The program of a source that keeps the rules of a policy's descriptors; or the refusal that is due.
-fn read_under<'s, O: Sink>(
+fn read_under<'s, O: Sink, N: Sink>(
     alloc: Global,
     policy: &Policy,
     source: &'s [u8],
-) -> Result<Checked<'s>, Answer<O>>
+    note: &mut N,
+) -> Result<Checked<'s>, Answer<O, N>>
     requires short { length source.now ≤ 262144 }
     requires valid { IsValid (policy_of policy.now) }
     ensures source { IfOk result (λ checked. checked.source.now ≡ source.now) }
@@ -39,37 +40,40 @@ fn read_under<'s, O: Sink>(
     ensures descriptors { IfOk result (λ checked. descriptor_fault checked.source.now (file_of checked.program) (policy_of policy.now) ≡ None) }
     ensures refused { IfErr result (λ answer. IfOk answer (λ outcome. IsSourceUnread source.now (policy_of policy.now) (due_of outcome))) }
     ensures untold { IfErr result (λ answer. IfOk answer IsRefused) }
+    ensures notes { PassesOrStartsLine N.taken N.faults N.refused note.old note.new result }
 {
     match read_source(alloc, source) {
         Ok(checked) => match check_descriptors(alloc, &checked, policy) {
             Ok(()) => Ok(checked),
-            Err(fault) => Err(descriptor_refusal(alloc, source, policy, &fault)),
+            Err(fault) => Err(descriptor_refusal(source, policy, &fault, note)),
         },
-        Err(fault) => Err(source_refusal(alloc, source, &fault)),
+        Err(fault) => Err(source_refusal(source, &fault, note)),
     }
 }
 
 /// A policy and a source, read in this order; or the refusal that is due.
-pub(crate) fn read_both<'s, O: Sink>(
+pub(crate) fn read_both<'s, O: Sink, N: Sink>(
     alloc: Global,
     policy: &[u8],
     source: &'s [u8],
-) -> Result<Pair<'s>, Answer<O>>
+    note: &mut N,
+) -> Result<Pair<'s>, Answer<O, N>>
     requires short { length source.now ≤ 262144 }
     ensures source { IfOk result (λ pair. pair.checked.source.now ≡ source.now) }
     ensures valid { IfOk result (λ pair. IsValid (policy_of pair.policy)) }
     ensures read { IfOk result (λ pair. AreRead policy.now source.now (policy_of pair.policy) (file_of pair.checked.program)) }
     ensures refused { IfErr result (λ answer. IfOk answer (λ outcome. IsUnread policy.now source.now (due_of outcome))) }
     ensures untold { IfErr result (λ answer. IfOk answer IsRefused) }
+    ensures notes { PassesOrStartsLine N.taken N.faults N.refused note.old note.new result }
 {
     match read_policy(alloc, policy) {
-        Ok(whole) => match read_under(alloc, &whole, source) {
+        Ok(whole) => match read_under(alloc, &whole, source, note) {
             Ok(checked) => Ok(Pair {
                 policy: whole,
                 checked,
             }),
             Err(answer) => Err(answer),
         },
-        Err(fault) => Err(policy_refusal(alloc, &fault)),
+        Err(fault) => Err(policy_refusal(&fault, note)),
     }
 }

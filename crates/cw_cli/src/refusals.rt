@@ -1,115 +1,219 @@
 //! Why a policy or a source is refused, with the line that tells it.
 
-ghost use Rattle.std.specs.Prelude.{◌≡◌, ◌≢◌, ◌++◌, codes, IfOk};
+ghost use Rattle.std.specs.Prelude.{◌≡◌, ◌≢◌, ◌++◌, IfOk};
+ghost use Rattle.std.specs.Fmt.{decimal};
+ghost use Rattle.cw_pieces.specs.Written.{Follows};
 ghost use Rattle.cw_rights.specs.Policies.{policy_of};
-ghost use Rattle.cw_text.specs.LimitsText.{descriptor_name as name_of};
+ghost use Rattle.cw_source.specs.Lines.{fault_line as source_line};
 ghost use Rattle.cw_commands.specs.declared.outcome.Cause.TheVariants.{Source};
 ghost use Rattle.cw_commands.specs.Outcomes.{due_of, Refused};
-ghost use Rattle.cw_commands.specs.Starts.{IsRefused};
-ghost use Rattle.cw_cli.specs.Refusals.{descriptor_line, over, policy_refusal, source_refusal};
+ghost use Rattle.cw_commands.specs.Starts.{BeginsLine, IsRefused, StartsLine};
+ghost use Rattle.cw_cli.specs.Refusals.{descriptor_line, over, policy_cause, policy_refusal, source_cause, source_refusal};
 
 use cw_commands::{Cause, Outcome};
 use cw_core::{NoMemory, Quantity};
 use cw_io::Sink;
+use cw_pieces::Writer;
 use cw_policies::{PolicyFault, put_fault};
 use cw_regex::RegexFault;
 use cw_rights::Policy;
 use cw_scope::{DescriptorFault, ScopeFault};
-use cw_source::{SourceFault, fault_line, place_line};
+use cw_source::{SourceFault, put_fault_line, put_place_line};
 use cw_text::descriptor_name;
-use std::alloc::Global;
 
 /// What is due, or want of memory.
-pub(crate) type Answer<O> = Result<Outcome<O>, NoMemory>;
+pub(crate) type Answer<O, N> = Result<Outcome<O, N>, NoMemory>;
 
-/// Some words, and others behind them.
-pub(crate) fn worded(alloc: Global, words: &[u8], rest: &[u8]) -> Result<Vec<u8>, NoMemory>
-    ensures { IfOk result (λ line. line.items ≡ words.now ++ rest.now) }
+/// The refusal whose line is some words, and others behind them.
+pub(crate) fn worded<O: Sink, N: Sink>(
+    cause: Cause,
+    words: &[u8],
+    rest: &[u8],
+    note: &mut N,
+) -> Outcome<O, N>
+    ensures due { due_of result ≡ Refused cause (words.now ++ rest.now) }
+    ensures refused { IsRefused result }
+    ensures notes { BeginsLine N.taken N.faults N.refused note.old note.new result }
 {
-    let mut line = Vec::new(alloc);
-    line.extend_from_slice(words)?;
-    line.extend_from_slice(rest)?;
-    Ok(line)
+    let mut line = Writer::begin(note);
+    line.put(words, note);
+    line.put(rest, note);
+    Outcome::Refused(cause, line)
+}
+
+/// The refusal whose line is some words and a number.
+pub(crate) fn numbered<O: Sink, N: Sink>(
+    cause: Cause,
+    words: &[u8],
+    number: u32,
+    note: &mut N,
+) -> Outcome<O, N>
+    ensures due { due_of result ≡ Refused cause (words.now ++ decimal number) }
+    ensures refused { IsRefused result }
+    ensures notes { BeginsLine N.taken N.faults N.refused note.old note.new result }
+{
+    let mut line = Writer::begin(note);
+    line.put(words, note);
+    line.put_number(u64::from(number), note);
+    Outcome::Refused(cause, line)
 }
 
 /// That a quantity is over its limit.
-pub(crate) fn over<O: Sink>(alloc: Global, quantity: Quantity) -> Result<Outcome<O>, NoMemory>
-    ensures due { IfOk result (λ outcome. due_of outcome ≡ over quantity) }
-    ensures refused { IfOk result IsRefused }
+pub(crate) fn over<O: Sink, N: Sink>(quantity: Quantity, note: &mut N) -> Outcome<O, N>
+    ensures due { due_of result ≡ over quantity }
+    ensures refused { IsRefused result }
+    ensures notes { BeginsLine N.taken N.faults N.refused note.old note.new result }
 {
-    let line = worded(alloc, b"limit: ", quantity.name().as_bytes())?;
-    Ok(Outcome::Refused(Cause::Limit, line))
+    worded(Cause::Limit, b"limit: ", quantity.name().as_bytes(), note)
 }
 
-/// The refusal by a policy's fault.
-pub(crate) fn policy_refusal<O: Sink>(
-    alloc: Global,
-    fault: &PolicyFault,
-) -> Result<Outcome<O>, NoMemory>
-    ensures due { IfOk result (λ outcome. (fault.now ≢ PolicyFault.NoMemory) × (due_of outcome ≡ policy_refusal fault.now)) }
-    ensures refused { IfOk result IsRefused }
+/// Which cause a policy's fault is, or want of memory.
+fn policy_cause(fault: &PolicyFault) -> Result<Cause, NoMemory>
+    ensures known { IfOk result (λ _. fault.now ≢ PolicyFault.NoMemory) }
+    ensures cause { IfOk result (λ cause. cause ≡ policy_cause fault.now) }
 {
-    let mut line = Vec::new(alloc);
-    put_fault(fault, &mut line)?;
     match fault {
         PolicyFault::NoMemory => Err(NoMemory),
-        PolicyFault::Limit(_) => Ok(Outcome::Refused(Cause::Limit, line)),
-        PolicyFault::Regex(_, RegexFault::TooDeep) => Ok(Outcome::Refused(Cause::Limit, line)),
-        PolicyFault::Regex(_, _) => Ok(Outcome::Refused(Cause::Policy, line)),
-        PolicyFault::Toml
+        PolicyFault::Limit(_) | PolicyFault::Regex(_, RegexFault::TooDeep) => Ok(Cause::Limit),
+        PolicyFault::Regex(_, _)
+        | PolicyFault::Toml
         | PolicyFault::Missing(_)
         | PolicyFault::Unknown(_)
         | PolicyFault::Kind(_)
-        | PolicyFault::Twice(_) => Ok(Outcome::Refused(Cause::Policy, line)),
+        | PolicyFault::Twice(_) => Ok(Cause::Policy),
     }
+}
+
+/// The refusal by a policy's fault.
+pub(crate) fn policy_refusal<O: Sink, N: Sink>(
+    fault: &PolicyFault,
+    note: &mut N,
+) -> Result<Outcome<O, N>, NoMemory>
+    ensures due { IfOk result (λ outcome. (fault.now ≢ PolicyFault.NoMemory) × (due_of outcome ≡ policy_refusal fault.now)) }
+    ensures refused { IfOk result IsRefused }
+    ensures notes { StartsLine N.taken N.faults N.refused note.old note.new result }
+{
+    let cause = policy_cause(fault)?;
+    let mut line = Writer::begin(note);
+    put_fault(fault, &mut line, note);
+    Ok(Outcome::Refused(cause, line))
+}
+
+/// Which cause a source's fault is, or want of memory.
+pub(crate) fn source_cause(fault: &SourceFault) -> Result<Cause, NoMemory>
+    ensures known { IfOk result (λ _. fault.now ≢ SourceFault.NoMemory) }
+    ensures cause { IfOk result (λ cause. cause ≡ source_cause fault.now) }
+{
+    match fault {
+        SourceFault::NoMemory => Err(NoMemory),
+        SourceFault::TooDeep | SourceFault::Scope(ScopeFault::Limit(_)) => Ok(Cause::Limit),
+        SourceFault::Scope(_) | SourceFault::Lex(_) | SourceFault::Syntax(_) => Ok(Cause::Source),
+    }
+}
+
+/// The refusal by a source's fault, with its line behind some words.
+pub(crate) fn source_refusal_behind<O: Sink, N: Sink>(
+    cause: Cause,
+    words: &[u8],
+    source: &[u8],
+    fault: &SourceFault,
+    note: &mut N,
+) -> Outcome<O, N>
+    ensures due { due_of result ≡ Refused cause (words.now ++ source_line source.now fault.now) }
+    ensures refused { IsRefused result }
+    ensures notes { BeginsLine N.taken N.faults N.refused note.old note.new result }
+{
+    let mut line = Writer::begin(note);
+    line.put(words, note);
+    put_fault_line(source, fault, &mut line, note);
+    Outcome::Refused(cause, line)
 }
 
 /// The refusal by a source's fault.
-pub(crate) fn source_refusal<O: Sink>(
-    alloc: Global,
+pub(crate) fn source_refusal<O: Sink, N: Sink>(
     source: &[u8],
     fault: &SourceFault,
-) -> Result<Outcome<O>, NoMemory>
+    note: &mut N,
+) -> Result<Outcome<O, N>, NoMemory>
     ensures due { IfOk result (λ outcome. (fault.now ≢ SourceFault.NoMemory) × (due_of outcome ≡ source_refusal source.now fault.now)) }
     ensures refused { IfOk result IsRefused }
+    ensures notes { StartsLine N.taken N.faults N.refused note.old note.new result }
 {
-    let line = fault_line(alloc, source, fault)?;
+    let cause = source_cause(fault)?;
+    Ok(source_refusal_behind(cause, b"", source, fault, note))
+}
+
+/// Want of memory, where a fault of descriptors is that.
+fn descriptor_known(fault: &DescriptorFault) -> Result<(), NoMemory>
+    ensures { IfOk result (λ _. fault.now ≢ DescriptorFault.NoMemory) }
+{
     match fault {
-        SourceFault::NoMemory => Err(NoMemory),
-        SourceFault::TooDeep => Ok(Outcome::Refused(Cause::Limit, line)),
-        SourceFault::Scope(ScopeFault::Limit(_)) => Ok(Outcome::Refused(Cause::Limit, line)),
-        SourceFault::Scope(_) | SourceFault::Lex(_) | SourceFault::Syntax(_) => {
-            Ok(Outcome::Refused(Cause::Source, line))
-        }
+        DescriptorFault::NoMemory => Err(NoMemory),
+        DescriptorFault::NoVariable(_)
+        | DescriptorFault::Shadowed(_)
+        | DescriptorFault::Misuse(_) => Ok(()),
     }
 }
 
-/// The refusal by the first rule that a policy's descriptors break in a source.
-pub(crate) fn descriptor_refusal<O: Sink>(
-    alloc: Global,
+/// Appends the line that tells which rule a policy's descriptors break in a source.
+fn put_descriptor_fault<N: Sink>(
     source: &[u8],
     policy: &Policy,
     fault: &DescriptorFault,
-) -> Result<Outcome<O>, NoMemory>
-    ensures due { IfOk result (λ outcome. (fault.now ≢ DescriptorFault.NoMemory)
-        × (due_of outcome ≡ Refused Source (descriptor_line source.now (policy_of policy.now) fault.now))) }
-    ensures refused { IfOk result IsRefused }
+    line: &mut Writer<N>,
+    note: &mut N,
+)
+    requires follows { Follows N.taken N.faults N.refused line.old note.old }
+    ensures text { line.new.text ≡ line.old.text ++ descriptor_line source.now (policy_of policy.now) fault.now }
+    ensures begun { line.new.begun ≡ line.old.begun }
+    ensures follows { Follows N.taken N.faults N.refused line.new note.new }
 {
     match fault {
         DescriptorFault::NoVariable(descriptor) => {
-            let name = descriptor_name(policy, *descriptor);
-            let line = worded(alloc, b"source: no variable ", name)?;
-            Ok(Outcome::Refused(Cause::Source, line))
+            line.put(b"source: no variable ", note);
+            line.put(descriptor_name(policy, *descriptor), note);
         }
         DescriptorFault::Shadowed(descriptor) => {
-            let name = descriptor_name(policy, *descriptor);
-            let line = worded(alloc, b"source: shadowed ", name)?;
-            Ok(Outcome::Refused(Cause::Source, line))
+            line.put(b"source: shadowed ", note);
+            line.put(descriptor_name(policy, *descriptor), note);
         }
-        DescriptorFault::Misuse(at) => {
-            let line = place_line(alloc, source, *at, "misuse")?;
-            Ok(Outcome::Refused(Cause::Source, line))
-        }
-        DescriptorFault::NoMemory => Err(NoMemory),
+        DescriptorFault::Misuse(at) => put_place_line(source, *at, "misuse", line, note),
+        DescriptorFault::NoMemory => line.put(b"memory", note),
     }
+}
+
+/// The refusal by the first rule that a policy's descriptors break in a source, with its line behind some words.
+pub(crate) fn descriptor_refusal_behind<O: Sink, N: Sink>(
+    cause: Cause,
+    words: &[u8],
+    source: &[u8],
+    policy: &Policy,
+    fault: &DescriptorFault,
+    note: &mut N,
+) -> Result<Outcome<O, N>, NoMemory>
+    ensures due { IfOk result (λ outcome. (fault.now ≢ DescriptorFault.NoMemory)
+        × (due_of outcome ≡ Refused cause (words.now ++ descriptor_line source.now (policy_of policy.now) fault.now))) }
+    ensures refused { IfOk result IsRefused }
+    ensures notes { StartsLine N.taken N.faults N.refused note.old note.new result }
+{
+    descriptor_known(fault)?;
+    let mut line = Writer::begin(note);
+    line.put(words, note);
+    put_descriptor_fault(source, policy, fault, &mut line, note);
+    Ok(Outcome::Refused(cause, line))
+}
+
+/// The refusal by the first rule that a policy's descriptors break in a source.
+pub(crate) fn descriptor_refusal<O: Sink, N: Sink>(
+    source: &[u8],
+    policy: &Policy,
+    fault: &DescriptorFault,
+    note: &mut N,
+) -> Result<Outcome<O, N>, NoMemory>
+    ensures due { IfOk result (λ outcome. (fault.now ≢ DescriptorFault.NoMemory)
+        × (due_of outcome ≡ Refused Source (descriptor_line source.now (policy_of policy.now) fault.now))) }
+    ensures refused { IfOk result IsRefused }
+    ensures notes { StartsLine N.taken N.faults N.refused note.old note.new result }
+{
+    descriptor_refusal_behind(Cause::Source, b"", source, policy, fault, note)
 }

@@ -1,7 +1,6 @@
 //! What is due for `refute`.
 
-ghost use Rattle.std.specs.Prelude.{◌≡◌, ◌≢◌, ◌≤◌, ◌<◌, ◌^◌, ◌++◌, length, IfOk};
-ghost use Rattle.std.specs.Fmt.{decimal};
+ghost use Rattle.std.specs.Prelude.{◌≡◌, ◌≢◌, ◌≤◌, ◌<◌, ◌^◌, length, IfOk};
 ghost use Rattle.cw_rights.specs.Policies.{policy_of};
 ghost use Rattle.cw_rights.specs.Valid.{IsValid};
 ghost use Rattle.cw_syntax.specs.Trees.{file_of};
@@ -14,16 +13,16 @@ ghost use Rattle.cw_echeck.specs.Checks.{fault_of};
 ghost use Rattle.cw_product.specs.Product.{game_of};
 ghost use Rattle.cw_commands.specs.declared.outcome.Reply.TheVariants.{No};
 ghost use Rattle.cw_commands.specs.Outcomes.{due_of, Told};
-ghost use Rattle.cw_commands.specs.Starts.{Begins, IsRefused, Starts};
+ghost use Rattle.cw_commands.specs.Starts.{Begins, IsRefused, IsTold, Starts, StartsLine};
 ghost use Rattle.cw_cli.specs.Refuting.{game_refusal, strategy_refusal, told, yes, AfterFitting, AfterGraph, AfterPair, AfterStrategy, IsJudgedBy, IsRefuteDue};
 
 use crate::fitting::fit_refusal;
 use crate::putting;
 use crate::reading::read_both;
-use crate::refusals::{over, worded};
+use crate::refusals::{numbered, over};
 use cw_certs::EnvCert;
 use cw_commands::{Cause, Outcome, Reply};
-use cw_core::{NoMemory, Quantity, put_dec};
+use cw_core::{NoMemory, Quantity};
 use cw_echeck::{BadEnvRow, check_env};
 use cw_io::Sink;
 use cw_lines::TextFault;
@@ -36,58 +35,50 @@ use cw_strategies::read_env;
 use cw_syntax::checked::Checked;
 use std::alloc::Global;
 
-/// Some words and a number.
-pub(crate) fn numbered(alloc: Global, words: &[u8], number: u32) -> Result<Vec<u8>, NoMemory>
-    ensures { IfOk result (λ line. line.items ≡ words.now ++ decimal number) }
-{
-    let mut line = worded(alloc, words, b"")?;
-    put_dec(u64::from(number), &mut line)?;
-    Ok(line)
-}
-
 /// The refusal by the first fault of a strategy's text.
-pub(crate) fn strategy_refusal<O: Sink>(
-    alloc: Global,
+pub(crate) fn strategy_refusal<O: Sink, N: Sink>(
     fault: &TextFault,
-) -> Result<Outcome<O>, NoMemory>
+    note: &mut N,
+) -> Result<Outcome<O, N>, NoMemory>
     ensures due { IfOk result (λ outcome. (fault.now ≢ TextFault.NoMemory) × (due_of outcome ≡ strategy_refusal fault.now)) }
     ensures refused { IfOk result IsRefused }
+    ensures notes { StartsLine N.taken N.faults N.refused note.old note.new result }
 {
     match fault {
         TextFault::Line(number) => {
-            let line = numbered(alloc, b"strategy: line ", *number)?;
-            Ok(Outcome::Refused(Cause::Grammar, line))
+            Ok(numbered(Cause::Grammar, b"strategy: line ", *number, note))
         }
         TextFault::Order(number) => {
-            let line = numbered(alloc, b"strategy: order ", *number)?;
-            Ok(Outcome::Refused(Cause::Grammar, line))
+            Ok(numbered(Cause::Grammar, b"strategy: order ", *number, note))
         }
-        TextFault::Limit(_) => over(alloc, Quantity::Rows),
+        TextFault::Limit(_) => Ok(over(Quantity::Rows, note)),
         TextFault::NoMemory => Err(NoMemory),
     }
 }
 
 /// That the game is over one of its numbers.
-pub(crate) fn game_refusal<O: Sink>(
-    alloc: Global,
+pub(crate) fn game_refusal<O: Sink, N: Sink>(
     fault: &GameFault,
-) -> Result<Outcome<O>, NoMemory>
+    note: &mut N,
+) -> Result<Outcome<O, N>, NoMemory>
     ensures due { IfOk result (λ outcome. (fault.now ≢ GameFault.NoMemory) × (due_of outcome ≡ game_refusal fault.now)) }
     ensures refused { IfOk result IsRefused }
+    ensures notes { StartsLine N.taken N.faults N.refused note.old note.new result }
 {
     match fault {
-        GameFault::TooManyCaps => over(alloc, Quantity::RightsStates),
-        GameFault::TooManyWords => over(alloc, Quantity::PolicyStates),
-        GameFault::TooManyStates => over(alloc, Quantity::ProductStates),
-        GameFault::TooManyPositions => over(alloc, Quantity::PositionsTimesStates),
+        GameFault::TooManyCaps => Ok(over(Quantity::RightsStates, note)),
+        GameFault::TooManyWords => Ok(over(Quantity::PolicyStates, note)),
+        GameFault::TooManyStates => Ok(over(Quantity::ProductStates, note)),
+        GameFault::TooManyPositions => Ok(over(Quantity::PositionsTimesStates, note)),
         GameFault::NoMemory => Err(NoMemory),
     }
 }
 
 /// The line that tells which row fails which condition.
-pub(crate) fn told<O: Sink>(bad: &BadEnvRow, out: &mut O) -> Outcome<O>
+pub(crate) fn told<O: Sink, N: Sink>(bad: &BadEnvRow, out: &mut O) -> Outcome<O, N>
     ensures due { due_of result ≡ Told No (told (fault_of bad.now)) }
     ensures puts { Begins O.taken O.faults O.refused out.old out.new result }
+    ensures told { IsTold result }
 {
     let mut writer = Writer::begin(out);
     writer.put(b"row ", out);
@@ -99,10 +90,11 @@ pub(crate) fn told<O: Sink>(bad: &BadEnvRow, out: &mut O) -> Outcome<O>
 }
 
 /// The judgement of a strategy.
-fn judged<O: Sink>(game: &Game, strategy: &EnvCert, out: &mut O) -> Outcome<O>
+fn judged<O: Sink, N: Sink>(game: &Game, strategy: &EnvCert, out: &mut O) -> Outcome<O, N>
     requires few { length strategy.now.rows.items < 2 ^ 32 }
     ensures due { IsJudgedBy (game_of game.now) (strategy_of strategy.now) (due_of result) }
     ensures puts { Begins O.taken O.faults O.refused out.old out.new result }
+    ensures told { IsTold result }
 {
     match check_env(game, strategy) {
         Ok(()) => putting::told(Reply::Yes, b"yes\n", out),
@@ -111,14 +103,15 @@ fn judged<O: Sink>(game: &Game, strategy: &EnvCert, out: &mut O) -> Outcome<O>
 }
 
 /// That the game is over one of its numbers, or the judgement.
-fn played<O: Sink>(
+fn played<O: Sink, N: Sink>(
     alloc: Global,
     policy: &Policy,
     checked: &Checked,
     graph: &Graph,
     strategy: &EnvCert,
     out: &mut O,
-) -> Result<Outcome<O>, NoMemory>
+    note: &mut N,
+) -> Result<Outcome<O, N>, NoMemory>
     requires valid { IsValid (policy_of policy.now) }
     requires reads { ReadsAs checked.now.source.now (file_of checked.now.program) }
     requires graph { IsGraph (names_of (policy_of policy.now)) checked.now.source.now (file_of checked.now.program) graph.now }
@@ -127,89 +120,98 @@ fn played<O: Sink>(
     ensures due { IfOk result (λ outcome.
         AfterGraph checked.now.source.now (policy_of policy.now) (file_of checked.now.program) (strategy_of strategy.now) graph.now (due_of outcome)) }
     ensures puts { Starts O.taken O.faults O.refused out.old out.new result }
+    ensures notes { StartsLine N.taken N.faults N.refused note.old note.new result }
 {
     match Game::make(alloc, graph, policy) {
         Ok(game) => Ok(judged(&game, strategy, out)),
-        Err(fault) => game_refusal(alloc, &fault),
+        Err(fault) => game_refusal(&fault, note),
     }
 }
 
 /// That the program has too many points, or what comes behind that.
-fn drawn<O: Sink>(
+fn drawn<O: Sink, N: Sink>(
     alloc: Global,
     policy: &Policy,
     checked: &Checked,
     strategy: &EnvCert,
     out: &mut O,
-) -> Result<Outcome<O>, NoMemory>
+    note: &mut N,
+) -> Result<Outcome<O, N>, NoMemory>
     requires valid { IsValid (policy_of policy.now) }
     requires reads { ReadsAs checked.now.source.now (file_of checked.now.program) }
     requires few { length strategy.now.rows.items < 2 ^ 32 }
     ensures due { IfOk result (λ outcome.
         AfterFitting checked.now.source.now (policy_of policy.now) (file_of checked.now.program) (strategy_of strategy.now) (due_of outcome)) }
     ensures puts { Starts O.taken O.faults O.refused out.old out.new result }
+    ensures notes { StartsLine N.taken N.faults N.refused note.old note.new result }
 {
     match build(alloc, checked, policy) {
-        Ok(graph) => played(alloc, policy, checked, &graph, strategy, out),
-        Err(PointsFault::TooManyPoints) => over(alloc, Quantity::Points),
+        Ok(graph) => played(alloc, policy, checked, &graph, strategy, out, note),
+        Err(PointsFault::TooManyPoints) => Ok(over(Quantity::Points, note)),
         Err(PointsFault::NoMemory) => Err(NoMemory),
     }
 }
 
 /// That the policy doesn't fit the program, or what comes behind that.
-fn fitted<O: Sink>(
+fn fitted<O: Sink, N: Sink>(
     alloc: Global,
     policy: &Policy,
     checked: &Checked,
     strategy: &EnvCert,
     out: &mut O,
-) -> Result<Outcome<O>, NoMemory>
+    note: &mut N,
+) -> Result<Outcome<O, N>, NoMemory>
     requires valid { IsValid (policy_of policy.now) }
     requires reads { ReadsAs checked.now.source.now (file_of checked.now.program) }
     requires few { length strategy.now.rows.items < 2 ^ 32 }
     ensures due { IfOk result (λ outcome.
         AfterStrategy checked.now.source.now (policy_of policy.now) (file_of checked.now.program) (strategy_of strategy.now) (due_of outcome)) }
     ensures puts { Starts O.taken O.faults O.refused out.old out.new result }
+    ensures notes { StartsLine N.taken N.faults N.refused note.old note.new result }
 {
-    match fit_refusal(alloc, policy, checked)? {
+    match fit_refusal(alloc, policy, checked, note)? {
         Some(outcome) => Ok(outcome),
-        None => drawn(alloc, policy, checked, strategy, out),
+        None => drawn(alloc, policy, checked, strategy, out, note),
     }
 }
 
 /// That the strategy isn't spelled in the policy's format, or what comes behind that.
-fn spelled<O: Sink>(
+fn spelled<O: Sink, N: Sink>(
     alloc: Global,
     policy: &Policy,
     checked: &Checked,
     text: &[u8],
     out: &mut O,
-) -> Result<Outcome<O>, NoMemory>
+    note: &mut N,
+) -> Result<Outcome<O, N>, NoMemory>
     requires valid { IsValid (policy_of policy.now) }
     requires reads { ReadsAs checked.now.source.now (file_of checked.now.program) }
     ensures due { IfOk result (λ outcome. AfterPair checked.now.source.now text.now (policy_of policy.now) (file_of checked.now.program) (due_of outcome)) }
     ensures puts { Starts O.taken O.faults O.refused out.old out.new result }
+    ensures notes { StartsLine N.taken N.faults N.refused note.old note.new result }
 {
     match read_env(alloc, text, policy.format) {
-        Ok(strategy) => fitted(alloc, policy, checked, &strategy, out),
-        Err(fault) => strategy_refusal(alloc, &fault),
+        Ok(strategy) => fitted(alloc, policy, checked, &strategy, out, note),
+        Err(fault) => strategy_refusal(&fault, note),
     }
 }
 
 /// What is due for `refute`, by the bytes of a policy, of a source and of a strategy.
-pub fn refute_due<O: Sink>(
+pub fn refute_due<O: Sink, N: Sink>(
     alloc: Global,
     policy: &[u8],
     source: &[u8],
     strategy: &[u8],
     out: &mut O,
-) -> Result<Outcome<O>, NoMemory>
+    note: &mut N,
+) -> Result<Outcome<O, N>, NoMemory>
     requires short { length source.now ≤ 262144 }
     ensures due { IfOk result (λ outcome. IsRefuteDue policy.now source.now strategy.now (due_of outcome)) }
     ensures puts { Starts O.taken O.faults O.refused out.old out.new result }
+    ensures notes { StartsLine N.taken N.faults N.refused note.old note.new result }
 {
-    match read_both(alloc, policy, source) {
-        Ok(pair) => spelled(alloc, &pair.policy, &pair.checked, strategy, out),
+    match read_both(alloc, policy, source, note) {
+        Ok(pair) => spelled(alloc, &pair.policy, &pair.checked, strategy, out, note),
         Err(answer) => answer,
     }
 }

@@ -16,7 +16,7 @@ ghost use Rattle.cw_run.specs.Woven.{end_of};
 ghost use Rattle.cw_wcheck.specs.Checking.{HasFewRows};
 ghost use Rattle.cw_woven.specs.Held.{IsOpened};
 ghost use Rattle.cw_commands.specs.Outcomes.{due_of};
-ghost use Rattle.cw_commands.specs.Starts.{Begins, Starts};
+ghost use Rattle.cw_commands.specs.Starts.{Begins, IsTold, Starts, StartsLine};
 ghost use Rattle.cw_cli.specs.Checking.{WhereWovenFits};
 ghost use Rattle.cw_cli.specs.CheckingHeld.{IsRunShownBy};
 ghost use Rattle.cw_cli.specs.Refuting.{WithGame};
@@ -43,10 +43,11 @@ use cw_woven::{Accepted, Opened, accept_woven, open_woven};
 use std::alloc::Global;
 
 /// The trace of a run, and behind it how the run ends.
-fn run_told<O: Sink>(end: RunEnd, trace: Writer<O>, out: &mut O) -> Outcome<O>
+fn run_told<O: Sink, N: Sink>(end: RunEnd, trace: Writer<O>, out: &mut O) -> Outcome<O, N>
     requires follows { Follows O.taken O.faults O.refused trace out.old }
     ensures due { due_of result ≡ run_told (end_of end) trace.text }
     ensures puts { Begins O.taken O.faults O.refused trace.begun out.new result }
+    ensures told { IsTold result }
 {
     let mut writer = trace;
     match end {
@@ -68,14 +69,15 @@ fn run_told<O: Sink>(end: RunEnd, trace: Writer<O>, out: &mut O) -> Outcome<O>
 }
 
 /// The woven run of a good table by a tape.
-fn shown<O: Sink>(
+fn shown<O: Sink, N: Sink>(
     alloc: Global,
     checked: &Checked,
     game: &Game,
     table: &WeaverCert,
     tape: &[Move],
     out: &mut O,
-) -> Result<Outcome<O>, NoMemory>
+    note: &mut N,
+) -> Result<Outcome<O, N>, NoMemory>
     requires valid { IsValid (policy_of game.now.states.policy) }
     requires lists { AreLists (uses_of (policy_of game.now.states.policy) game.now.graph.nodes.items) (lists_of game.now.states) }
     requires reads { ReadsAs checked.now.source.now (file_of checked.now.program) }
@@ -85,6 +87,7 @@ fn shown<O: Sink>(
     ensures due { IfOk result (λ outcome.
         IsRunTold checked.now.source.now (policy_of game.now.states.policy) (file_of checked.now.program) table.now tape.now (due_of outcome)) }
     ensures puts { Starts O.taken O.faults O.refused out.old out.new result }
+    ensures notes { StartsLine N.taken N.faults N.refused note.old note.new result }
 {
     let mut writer = Writer::begin(out);
     let end = run_woven(alloc, checked, game, table, tape, &mut writer, out)?;
@@ -92,14 +95,15 @@ fn shown<O: Sink>(
 }
 
 /// What is told of a table: its run by a tape, or the first row that fails a condition.
-fn judged<O: Sink>(
+fn judged<O: Sink, N: Sink>(
     alloc: Global,
     checked: &Checked,
     game: &Game,
     table: &WeaverCert,
     tape: &[Move],
     out: &mut O,
-) -> Result<Outcome<O>, NoMemory>
+    note: &mut N,
+) -> Result<Outcome<O, N>, NoMemory>
     requires valid { IsValid (policy_of game.now.states.policy) }
     requires lists { AreLists (uses_of (policy_of game.now.states.policy) game.now.graph.nodes.items) (lists_of game.now.states) }
     requires reads { ReadsAs checked.now.source.now (file_of checked.now.program) }
@@ -109,15 +113,16 @@ fn judged<O: Sink>(
     ensures due { IfOk result (λ outcome.
         IsRunShownBy checked.now.source.now (policy_of game.now.states.policy) (file_of checked.now.program) table.now tape.now (game_of game.now) (due_of outcome)) }
     ensures puts { Starts O.taken O.faults O.refused out.old out.new result }
+    ensures notes { StartsLine N.taken N.faults N.refused note.old note.new result }
 {
     match check_weaver(game, table) {
-        Ok(()) => shown(alloc, checked, game, table, tape, out),
+        Ok(()) => shown(alloc, checked, game, table, tape, out, note),
         Err(bad) => Ok(told(&bad, out)),
     }
 }
 
 /// That the game is over one of its numbers, or what is told of the table.
-fn played<O: Sink>(
+fn played<O: Sink, N: Sink>(
     alloc: Global,
     policy: &Policy,
     checked: &Checked,
@@ -125,7 +130,8 @@ fn played<O: Sink>(
     table: &WeaverCert,
     tape: &[Move],
     out: &mut O,
-) -> Result<Outcome<O>, NoMemory>
+    note: &mut N,
+) -> Result<Outcome<O, N>, NoMemory>
     requires valid { IsValid (policy_of policy.now) }
     requires reads { ReadsAs checked.now.source.now (file_of checked.now.program) }
     requires graph { IsGraph (names_of (policy_of policy.now)) checked.now.source.now (file_of checked.now.program) graph.now }
@@ -135,22 +141,24 @@ fn played<O: Sink>(
     ensures due { IfOk result (λ outcome. let source = checked.now.source.now in let whole = policy_of policy.now in let file = file_of checked.now.program in
         WithGame (IsRunShown source whole file table.now tape.now) source whole file graph.now (due_of outcome)) }
     ensures puts { Starts O.taken O.faults O.refused out.old out.new result }
+    ensures notes { StartsLine N.taken N.faults N.refused note.old note.new result }
 {
     match Game::make(alloc, graph, policy) {
-        Ok(game) => judged(alloc, checked, &game, table, tape, out),
-        Err(fault) => game_refusal(alloc, &fault),
+        Ok(game) => judged(alloc, checked, &game, table, tape, out, note),
+        Err(fault) => game_refusal(&fault, note),
     }
 }
 
 /// That the policy doesn't fit the program, or what comes behind that.
-fn fitted<O: Sink>(
+fn fitted<O: Sink, N: Sink>(
     alloc: Global,
     policy: &Policy,
     accepted: &Accepted,
     table: &WeaverCert,
     tape: &[Move],
     out: &mut O,
-) -> Result<Outcome<O>, NoMemory>
+    note: &mut N,
+) -> Result<Outcome<O, N>, NoMemory>
     requires valid { IsValid (policy_of policy.now) }
     requires reads { ReadsAs accepted.now.checked.source.now (file_of accepted.now.checked.program) }
     requires graph { IsGraph (names_of (policy_of policy.now)) accepted.now.checked.source.now (file_of accepted.now.checked.program) accepted.now.graph }
@@ -161,8 +169,9 @@ fn fitted<O: Sink>(
         let source = accepted.now.checked.source.now in let whole = policy_of policy.now in let file = file_of accepted.now.checked.program in
         WhereWovenFits (IsRunShown source whole file table.now tape.now) source whole file (due_of outcome)) }
     ensures puts { Starts O.taken O.faults O.refused out.old out.new result }
+    ensures notes { StartsLine N.taken N.faults N.refused note.old note.new result }
 {
-    match fit_refusal(alloc, policy, &accepted.checked)? {
+    match fit_refusal(alloc, policy, &accepted.checked, note)? {
         Some(outcome) => Ok(outcome),
         None => played(
             alloc,
@@ -172,19 +181,21 @@ fn fitted<O: Sink>(
             table,
             tape,
             out,
+            note,
         ),
     }
 }
 
 /// That the tape isn't one of the environment's moves, or what comes behind that.
-fn taped<O: Sink>(
+fn taped<O: Sink, N: Sink>(
     alloc: Global,
     policy: &Policy,
     accepted: &Accepted,
     table: &WeaverCert,
     tape: &[u8],
     out: &mut O,
-) -> Result<Outcome<O>, NoMemory>
+    note: &mut N,
+) -> Result<Outcome<O, N>, NoMemory>
     requires valid { IsValid (policy_of policy.now) }
     requires reads { ReadsAs accepted.now.checked.source.now (file_of accepted.now.checked.program) }
     requires graph { IsGraph (names_of (policy_of policy.now)) accepted.now.checked.source.now (file_of accepted.now.checked.program) accepted.now.graph }
@@ -194,68 +205,75 @@ fn taped<O: Sink>(
     ensures due { IfOk result (λ outcome.
         AfterWoven tape.now accepted.now.checked.source.now (policy_of policy.now) (file_of accepted.now.checked.program) table.now (due_of outcome)) }
     ensures puts { Starts O.taken O.faults O.refused out.old out.new result }
+    ensures notes { StartsLine N.taken N.faults N.refused note.old note.new result }
 {
-    match moves_of(alloc, tape, false) {
-        Ok(moves) => fitted(alloc, policy, accepted, table, &moves, out),
+    match moves_of(alloc, tape, false, note) {
+        Ok(moves) => fitted(alloc, policy, accepted, table, &moves, out, note),
         Err(answer) => answer,
     }
 }
 
 /// That the source of a text in parts isn't accepted, or a mark isn't that of its seam, or what comes behind that.
-fn accepted<O: Sink>(
+fn accepted<O: Sink, N: Sink>(
     alloc: Global,
     policy: &Policy,
     opened: &Opened,
     tape: &[u8],
     out: &mut O,
-) -> Result<Outcome<O>, NoMemory>
+    note: &mut N,
+) -> Result<Outcome<O, N>, NoMemory>
     requires valid { IsValid (policy_of policy.now) }
     requires opened { IsOpened (policy_of policy.now) opened.now }
     requires short { length tape.now ≤ 33554432 }
     ensures due { IfOk result (λ outcome. AfterPolicy opened.now.text.now tape.now (policy_of policy.now) (due_of outcome)) }
     ensures puts { Starts O.taken O.faults O.refused out.old out.new result }
+    ensures notes { StartsLine N.taken N.faults N.refused note.old note.new result }
 {
     match accept_woven(alloc, opened, policy) {
-        Ok(program) => taped(alloc, policy, &program, &opened.table, tape, out),
-        Err(fault) => woven_refusal(alloc, policy, &opened.source, &fault),
+        Ok(program) => taped(alloc, policy, &program, &opened.table, tape, out, note),
+        Err(fault) => woven_refusal(policy, &opened.source, &fault, note),
     }
 }
 
 /// That a text is no woven text, or what is due for the source and the table that it is read as.
-fn opened<O: Sink>(
+fn opened<O: Sink, N: Sink>(
     alloc: Global,
     policy: &Policy,
     text: &[u8],
     tape: &[u8],
     out: &mut O,
-) -> Result<Outcome<O>, NoMemory>
+    note: &mut N,
+) -> Result<Outcome<O, N>, NoMemory>
     requires valid { IsValid (policy_of policy.now) }
     requires short { length text.now ≤ 33554432 }
     requires short_tape { length tape.now ≤ 33554432 }
     ensures due { IfOk result (λ outcome. AfterPolicy text.now tape.now (policy_of policy.now) (due_of outcome)) }
     ensures puts { Starts O.taken O.faults O.refused out.old out.new result }
+    ensures notes { StartsLine N.taken N.faults N.refused note.old note.new result }
 {
     match open_woven(alloc, text, policy) {
-        Ok(parts) => accepted(alloc, policy, &parts, tape, out),
-        Err(fault) => woven_refusal(alloc, policy, b"", &fault),
+        Ok(parts) => accepted(alloc, policy, &parts, tape, out, note),
+        Err(fault) => woven_refusal(policy, b"", &fault, note),
     }
 }
 
 /// What is due for `run`, by the bytes of a policy, of a woven text and of a tape.
-pub fn run_due<O: Sink>(
+pub fn run_due<O: Sink, N: Sink>(
     alloc: Global,
     policy: &[u8],
     text: &[u8],
     tape: &[u8],
     out: &mut O,
-) -> Result<Outcome<O>, NoMemory>
+    note: &mut N,
+) -> Result<Outcome<O, N>, NoMemory>
     requires short { length text.now ≤ 33554432 }
     requires short_tape { length tape.now ≤ 33554432 }
     ensures due { IfOk result (λ outcome. IsRunDue policy.now text.now tape.now (due_of outcome)) }
     ensures puts { Starts O.taken O.faults O.refused out.old out.new result }
+    ensures notes { StartsLine N.taken N.faults N.refused note.old note.new result }
 {
     match read_policy(alloc, policy) {
-        Ok(whole) => opened(alloc, &whole, text, tape, out),
-        Err(fault) => policy_refusal(alloc, &fault),
+        Ok(whole) => opened(alloc, &whole, text, tape, out, note),
+        Err(fault) => policy_refusal(&fault, note),
     }
 }

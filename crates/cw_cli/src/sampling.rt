@@ -4,7 +4,7 @@ ghost use Rattle.std.specs.Prelude.{◌≡◌, ◌≢◌, ◌≤◌, ◌++◌, [
 ghost use Rattle.cw_sample.specs.Samples.{sample_policy, sample_source, HasSample};
 ghost use Rattle.cw_commands.specs.declared.outcome.Reply.TheVariants.{Yes, No};
 ghost use Rattle.cw_commands.specs.Outcomes.{due_of, Told};
-ghost use Rattle.cw_commands.specs.Starts.{Begins, Starts};
+ghost use Rattle.cw_commands.specs.Starts.{Begins, IsTold, Starts, StartsLine};
 ghost use Rattle.cw_pieces.specs.Written.{Follows};
 ghost use Rattle.cw_cli.specs.Sampling.{number_line, reply_line, summary, IsSampleDue};
 ghost use Rattle.cw_cli.specs.Weaving.{IsWeaveDue};
@@ -38,7 +38,7 @@ fn texts_of(alloc: Global, number: u32) -> Result<(Vec<u8>, Vec<u8>), NoMemory>
 }
 
 /// Whether a command answers yes.
-fn is_yes(outcome: &Outcome<SureSink>) -> bool
+fn is_yes(outcome: &Outcome<SureSink, SureSink>) -> bool
     ensures { result ≡ false → (text : List ℕ) → due_of outcome.now ≢ Told Yes text }
 {
     match outcome {
@@ -58,7 +58,7 @@ fn check_text(alloc: Global, policy: &[u8], source: &[u8], text: &[u8]) -> Resul
         return Ok(());
     }
     let mut answer = SureSink::make(alloc);
-    let outcome = check_due(alloc, policy, text, &mut answer)?;
+    let outcome = check_due(alloc, policy, text, &mut answer, &mut SureSink::make(alloc))?;
     if is_yes(&outcome) {
         Ok(())
     } else {
@@ -75,7 +75,14 @@ fn refute_text(alloc: Global, policy: &[u8], source: &[u8], text: &[u8]) -> Resu
         return Ok(());
     }
     let mut answer = SureSink::make(alloc);
-    let outcome = refute_due(alloc, policy, source, text, &mut answer)?;
+    let outcome = refute_due(
+        alloc,
+        policy,
+        source,
+        text,
+        &mut answer,
+        &mut SureSink::make(alloc),
+    )?;
     if is_yes(&outcome) {
         Ok(())
     } else {
@@ -124,9 +131,15 @@ fn reply_line(reply: Reply) -> &'static [u8]
 }
 
 /// The eight lines of a sample.
-fn summary<O: Sink>(number: u32, numbers: &Numbers, reply: Reply, out: &mut O) -> Outcome<O>
+fn summary<O: Sink, N: Sink>(
+    number: u32,
+    numbers: &Numbers,
+    reply: Reply,
+    out: &mut O,
+) -> Outcome<O, N>
     ensures due { due_of result ≡ Told reply (summary number numbers.now reply) }
     ensures puts { Begins O.taken O.faults O.refused out.old out.new result }
+    ensures told { IsTold result }
 {
     let mut writer = Writer::begin(out);
     put_number(b"sample", u64::from(number), &mut writer, out);
@@ -154,15 +167,21 @@ fn finished(writer: Writer<SureSink>, sink: &mut SureSink) -> Result<(), NoMemor
 }
 
 /// What is due for `sample`, by its number, from 1 to 400: its policy and its source are woven, what is written is checked, and the numbers are told.
-pub fn sample_due<O: Sink>(alloc: Global, number: u32, out: &mut O) -> Result<Outcome<O>, NoMemory>
+pub fn sample_due<O: Sink, N: Sink>(
+    alloc: Global,
+    number: u32,
+    out: &mut O,
+    note: &mut N,
+) -> Result<Outcome<O, N>, NoMemory>
     requires { HasSample number }
     ensures due { IfOk result (λ outcome. IsSampleDue number (due_of outcome)) }
     ensures puts { Starts O.taken O.faults O.refused out.old out.new result }
+    ensures notes { StartsLine N.taken N.faults N.refused note.old note.new result }
 {
     let (policy, source) = texts_of(alloc, number)?;
     let mut numbers = Numbers::none();
     let mut sink = SureSink::make(alloc);
-    let outcome = counted_due(alloc, &policy, &source, &mut numbers, &mut sink)?;
+    let outcome = counted_due(alloc, &policy, &source, &mut numbers, &mut sink, note)?;
     match outcome {
         Outcome::Refused(cause, line) => Ok(Outcome::Refused(cause, line)),
         Outcome::Told(reply, writer) => {

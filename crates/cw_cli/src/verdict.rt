@@ -11,9 +11,9 @@ ghost use Rattle.cw_game.specs.Pairs.{all_states};
 ghost use Rattle.cw_game.specs.Standing.{IsGameOf};
 ghost use Rattle.cw_product.specs.Product.{game_of};
 ghost use Rattle.cw_solve.specs.Contexts.{HeightIs};
-ghost use Rattle.cw_solve.specs.Made.{IsMade};
+ghost use Rattle.cw_product.specs.Made.{IsMade};
 ghost use Rattle.cw_commands.specs.Outcomes.{due_of};
-ghost use Rattle.cw_commands.specs.Starts.{Starts};
+ghost use Rattle.cw_commands.specs.Starts.{Starts, StartsLine};
 ghost use Rattle.cw_cli.specs.Counting.{IsCounted};
 ghost use Rattle.cw_cli.specs.Verdicts.{AfterCells, AfterGame, StartHolds, StartIsLost};
 
@@ -46,14 +46,15 @@ fn start_height(game: &Game, solved: &Solved) -> Option<u32>
 }
 
 /// The woven text with the lazy table, or that this has too many rows.
-fn woven<O: Sink>(
+fn woven<O: Sink, N: Sink>(
     alloc: Global,
     checked: &Checked,
     game: &Game,
     solved: &Solved,
     numbers: &mut Numbers,
     out: &mut O,
-) -> Result<Outcome<O>, NoMemory>
+    note: &mut N,
+) -> Result<Outcome<O, N>, NoMemory>
     requires reads { ReadsAs checked.now.source.now (file_of checked.now.program) }
     requires made { IsMade game.now }
     requires graph { IsGraph (names_of (policy_of game.now.states.policy)) checked.now.source.now (file_of checked.now.program) game.now.graph }
@@ -63,6 +64,7 @@ fn woven<O: Sink>(
     ensures due { IfOk result (λ outcome.
         AfterCells (IsCounted numbers.new (policy_of game.now.states.policy) checked.now.source.now (file_of checked.now.program)) (game_of game.now) (due_of outcome)) }
     ensures puts { Starts O.taken O.faults O.refused out.old out.new result }
+    ensures notes { StartsLine N.taken N.faults N.refused note.old note.new result }
 {
     match weaver_table(alloc, game, solved) {
         Ok(table) => {
@@ -80,20 +82,21 @@ fn woven<O: Sink>(
             *numbers = Numbers::make(game, solved, table_rows(&table));
             Ok(Outcome::Told(Reply::Yes, writer))
         }
-        Err(TableFault::TooManyRows) => over(alloc, Quantity::Rows),
+        Err(TableFault::TooManyRows) => Ok(over(Quantity::Rows, note)),
         Err(TableFault::NoMemory) => Err(NoMemory),
     }
 }
 
 /// The text of the strategy by least heights, or that this has too many rows.
-fn refuted<O: Sink>(
+fn refuted<O: Sink, N: Sink>(
     alloc: Global,
     checked: &Checked,
     game: &Game,
     solved: &Solved,
     numbers: &mut Numbers,
     out: &mut O,
-) -> Result<Outcome<O>, NoMemory>
+    note: &mut N,
+) -> Result<Outcome<O, N>, NoMemory>
     requires made { IsMade game.now }
     requires graph { IsGraph (names_of (policy_of game.now.states.policy)) checked.now.source.now (file_of checked.now.program) game.now.graph }
     requires is_game { IsGameOf (problem_of (policy_of game.now.states.policy) checked.now.source.now (file_of checked.now.program)) (game_of game.now) }
@@ -102,6 +105,7 @@ fn refuted<O: Sink>(
     ensures due { IfOk result (λ outcome.
         AfterCells (IsCounted numbers.new (policy_of game.now.states.policy) checked.now.source.now (file_of checked.now.program)) (game_of game.now) (due_of outcome)) }
     ensures puts { Starts O.taken O.faults O.refused out.old out.new result }
+    ensures notes { StartsLine N.taken N.faults N.refused note.old note.new result }
 {
     let _ = checked;
     match env_table(alloc, game, solved) {
@@ -112,20 +116,21 @@ fn refuted<O: Sink>(
             *numbers = Numbers::make(game, solved, strategy_rows(&strategy));
             Ok(Outcome::Told(Reply::No, writer))
         }
-        Err(TableFault::TooManyRows) => over(alloc, Quantity::Rows),
+        Err(TableFault::TooManyRows) => Ok(over(Quantity::Rows, note)),
         Err(TableFault::NoMemory) => Err(NoMemory),
     }
 }
 
 /// That the rows are too many, or the verdict.
-fn told<O: Sink>(
+fn told<O: Sink, N: Sink>(
     alloc: Global,
     checked: &Checked,
     game: &Game,
     solved: &Solved,
     numbers: &mut Numbers,
     out: &mut O,
-) -> Result<Outcome<O>, NoMemory>
+    note: &mut N,
+) -> Result<Outcome<O, N>, NoMemory>
     requires reads { ReadsAs checked.now.source.now (file_of checked.now.program) }
     requires made { IsMade game.now }
     requires graph { IsGraph (names_of (policy_of game.now.states.policy)) checked.now.source.now (file_of checked.now.program) game.now.graph }
@@ -134,21 +139,23 @@ fn told<O: Sink>(
     ensures due { IfOk result (λ outcome.
         AfterCells (IsCounted numbers.new (policy_of game.now.states.policy) checked.now.source.now (file_of checked.now.program)) (game_of game.now) (due_of outcome)) }
     ensures puts { Starts O.taken O.faults O.refused out.old out.new result }
+    ensures notes { StartsLine N.taken N.faults N.refused note.old note.new result }
 {
     match start_height(game, solved) {
-        None => woven(alloc, checked, game, solved, numbers, out),
-        Some(_) => refuted(alloc, checked, game, solved, numbers, out),
+        None => woven(alloc, checked, game, solved, numbers, out, note),
+        Some(_) => refuted(alloc, checked, game, solved, numbers, out, note),
     }
 }
 
 /// What is due for the game of a program: that its cells are too many, or what comes behind that.
-pub(crate) fn judged<O: Sink>(
+pub(crate) fn judged<O: Sink, N: Sink>(
     alloc: Global,
     checked: &Checked,
     game: &Game,
     numbers: &mut Numbers,
     out: &mut O,
-) -> Result<Outcome<O>, NoMemory>
+    note: &mut N,
+) -> Result<Outcome<O, N>, NoMemory>
     requires reads { ReadsAs checked.now.source.now (file_of checked.now.program) }
     requires made { IsMade game.now }
     requires graph { IsGraph (names_of (policy_of game.now.states.policy)) checked.now.source.now (file_of checked.now.program) game.now.graph }
@@ -156,10 +163,11 @@ pub(crate) fn judged<O: Sink>(
     ensures due { IfOk result (λ outcome.
         AfterGame (IsCounted numbers.new (policy_of game.now.states.policy) checked.now.source.now (file_of checked.now.program)) (game_of game.now) (due_of outcome)) }
     ensures puts { Starts O.taken O.faults O.refused out.old out.new result }
+    ensures notes { StartsLine N.taken N.faults N.refused note.old note.new result }
 {
     match solve(alloc, game) {
-        Ok(solution) => told(alloc, checked, game, &solution, numbers, out),
-        Err(SolveFault::TooManyCells(_)) => over(alloc, Quantity::Cells),
+        Ok(solution) => told(alloc, checked, game, &solution, numbers, out, note),
+        Err(SolveFault::TooManyCells(_)) => Ok(over(Quantity::Cells, note)),
         Err(SolveFault::NoMemory) => Err(NoMemory),
     }
 }

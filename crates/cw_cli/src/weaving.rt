@@ -8,7 +8,7 @@ ghost use Rattle.cw_actions.specs.Scenes.{names_of};
 ghost use Rattle.cw_points.specs.Graphs.{IsGraph};
 ghost use Rattle.cw_source.specs.Read.{ReadsAs};
 ghost use Rattle.cw_commands.specs.Outcomes.{due_of};
-ghost use Rattle.cw_commands.specs.Starts.{Starts};
+ghost use Rattle.cw_commands.specs.Starts.{Starts, StartsLine};
 ghost use Rattle.cw_cli.specs.Counting.{IsCounted};
 ghost use Rattle.cw_cli.specs.Weaving.{AfterFit, AfterFitting, AfterGraph, AfterPair, IsWeaveDue, Weaves};
 
@@ -29,14 +29,15 @@ use cw_syntax::checked::Checked;
 use std::alloc::Global;
 
 /// That the game is over one of its numbers, or what comes behind that.
-fn played<O: Sink>(
+fn played<O: Sink, N: Sink>(
     alloc: Global,
     policy: &Policy,
     checked: &Checked,
     graph: &Graph,
     numbers: &mut Numbers,
     out: &mut O,
-) -> Result<Outcome<O>, NoMemory>
+    note: &mut N,
+) -> Result<Outcome<O, N>, NoMemory>
     requires valid { IsValid (policy_of policy.now) }
     requires reads { ReadsAs checked.now.source.now (file_of checked.now.program) }
     requires graph { IsGraph (names_of (policy_of policy.now)) checked.now.source.now (file_of checked.now.program) graph.now }
@@ -45,31 +46,34 @@ fn played<O: Sink>(
         AfterGraph (IsCounted numbers.new (policy_of policy.now) checked.now.source.now (file_of checked.now.program))
         checked.now.source.now (policy_of policy.now) (file_of checked.now.program) graph.now (due_of outcome)) }
     ensures puts { Starts O.taken O.faults O.refused out.old out.new result }
+    ensures notes { StartsLine N.taken N.faults N.refused note.old note.new result }
 {
     match Game::make(alloc, graph, policy) {
-        Ok(game) => judged(alloc, checked, &game, numbers, out),
-        Err(fault) => game_refusal(alloc, &fault),
+        Ok(game) => judged(alloc, checked, &game, numbers, out, note),
+        Err(fault) => game_refusal(&fault, note),
     }
 }
 
 /// That the program has too many points, or what comes behind that.
-fn drawn<O: Sink>(
+fn drawn<O: Sink, N: Sink>(
     alloc: Global,
     policy: &Policy,
     checked: &Checked,
     numbers: &mut Numbers,
     out: &mut O,
-) -> Result<Outcome<O>, NoMemory>
+    note: &mut N,
+) -> Result<Outcome<O, N>, NoMemory>
     requires valid { IsValid (policy_of policy.now) }
     requires reads { ReadsAs checked.now.source.now (file_of checked.now.program) }
     ensures due { IfOk result (λ outcome.
         AfterFitting (IsCounted numbers.new (policy_of policy.now) checked.now.source.now (file_of checked.now.program))
         checked.now.source.now (policy_of policy.now) (file_of checked.now.program) (due_of outcome)) }
     ensures puts { Starts O.taken O.faults O.refused out.old out.new result }
+    ensures notes { StartsLine N.taken N.faults N.refused note.old note.new result }
 {
     match build(alloc, checked, policy) {
-        Ok(graph) => played(alloc, policy, checked, &graph, numbers, out),
-        Err(PointsFault::TooManyPoints) => over(alloc, Quantity::Points),
+        Ok(graph) => played(alloc, policy, checked, &graph, numbers, out, note),
+        Err(PointsFault::TooManyPoints) => Ok(over(Quantity::Points, note)),
         Err(PointsFault::NoMemory) => Err(NoMemory),
     }
 }
@@ -83,77 +87,84 @@ fn detaches_none(policy: &Policy) -> bool
 }
 
 /// That the policy detaches functions, or what comes behind that.
-fn waited<O: Sink>(
+fn waited<O: Sink, N: Sink>(
     alloc: Global,
     policy: &Policy,
     checked: &Checked,
     numbers: &mut Numbers,
     out: &mut O,
-) -> Result<Outcome<O>, NoMemory>
+    note: &mut N,
+) -> Result<Outcome<O, N>, NoMemory>
     requires valid { IsValid (policy_of policy.now) }
     requires reads { ReadsAs checked.now.source.now (file_of checked.now.program) }
     ensures due { IfOk result (λ outcome.
         AfterFit (IsCounted numbers.new (policy_of policy.now) checked.now.source.now (file_of checked.now.program))
         checked.now.source.now (policy_of policy.now) (file_of checked.now.program) (due_of outcome)) }
     ensures puts { Starts O.taken O.faults O.refused out.old out.new result }
+    ensures notes { StartsLine N.taken N.faults N.refused note.old note.new result }
 {
     if detaches_none(policy) {
-        drawn(alloc, policy, checked, numbers, out)
+        drawn(alloc, policy, checked, numbers, out, note)
     } else {
-        let line = worded(alloc, b"policy: detached", b"")?;
-        Ok(Outcome::Refused(Cause::Policy, line))
+        Ok(worded(Cause::Policy, b"policy: detached", b"", note))
     }
 }
 
 /// What is due for a policy and a program that are read.
-fn fitted<O: Sink>(
+fn fitted<O: Sink, N: Sink>(
     alloc: Global,
     policy: &Policy,
     checked: &Checked,
     numbers: &mut Numbers,
     out: &mut O,
-) -> Result<Outcome<O>, NoMemory>
+    note: &mut N,
+) -> Result<Outcome<O, N>, NoMemory>
     requires valid { IsValid (policy_of policy.now) }
     requires reads { ReadsAs checked.now.source.now (file_of checked.now.program) }
     ensures due { IfOk result (λ outcome.
         AfterPair (IsCounted numbers.new (policy_of policy.now) checked.now.source.now (file_of checked.now.program))
         checked.now.source.now (policy_of policy.now) (file_of checked.now.program) (due_of outcome)) }
     ensures puts { Starts O.taken O.faults O.refused out.old out.new result }
+    ensures notes { StartsLine N.taken N.faults N.refused note.old note.new result }
 {
-    match fit_refusal(alloc, policy, checked)? {
+    match fit_refusal(alloc, policy, checked, note)? {
         Some(outcome) => Ok(outcome),
-        None => waited(alloc, policy, checked, numbers, out),
+        None => waited(alloc, policy, checked, numbers, out, note),
     }
 }
 
 /// What is due for `weave`, by the bytes of a policy and of a source; where it is a text, with its numbers.
-pub(crate) fn counted_due<O: Sink>(
+pub(crate) fn counted_due<O: Sink, N: Sink>(
     alloc: Global,
     policy: &[u8],
     source: &[u8],
     numbers: &mut Numbers,
     out: &mut O,
-) -> Result<Outcome<O>, NoMemory>
+    note: &mut N,
+) -> Result<Outcome<O, N>, NoMemory>
     requires short { length source.now ≤ 262144 }
     ensures due { IfOk result (λ outcome. Weaves (λ whole file. IsCounted numbers.new whole source.now file) policy.now source.now (due_of outcome)) }
     ensures puts { Starts O.taken O.faults O.refused out.old out.new result }
+    ensures notes { StartsLine N.taken N.faults N.refused note.old note.new result }
 {
-    match read_both(alloc, policy, source) {
-        Ok(pair) => fitted(alloc, &pair.policy, &pair.checked, numbers, out),
+    match read_both(alloc, policy, source, note) {
+        Ok(pair) => fitted(alloc, &pair.policy, &pair.checked, numbers, out, note),
         Err(answer) => answer,
     }
 }
 
 /// What is due for `weave`, by the bytes of a policy and of a source.
-pub fn weave_due<O: Sink>(
+pub fn weave_due<O: Sink, N: Sink>(
     alloc: Global,
     policy: &[u8],
     source: &[u8],
     out: &mut O,
-) -> Result<Outcome<O>, NoMemory>
+    note: &mut N,
+) -> Result<Outcome<O, N>, NoMemory>
     requires short { length source.now ≤ 262144 }
     ensures due { IfOk result (λ outcome. IsWeaveDue policy.now source.now (due_of outcome)) }
     ensures puts { Starts O.taken O.faults O.refused out.old out.new result }
+    ensures notes { StartsLine N.taken N.faults N.refused note.old note.new result }
 {
-    counted_due(alloc, policy, source, &mut Numbers::none(), out)
+    counted_due(alloc, policy, source, &mut Numbers::none(), out, note)
 }

@@ -46,7 +46,7 @@ module _ (counts mid new : List ℕ → ℕ) (later : (other : List ℕ) → cou
   rose_later : (name : List ℕ) → Rose (mid name) (new name) → Rose (counts name) (new name)
   rose_later name r = omega (arith, later name, r)
 
-  fault_from : (files : Option FilesByName) (policy : List ℕ) (q : Quantity) (n : List ℕ) (e : Ending) → IsFileFault files mid new policy q n e → IsFileFault files counts new policy q n e
+  fault_from : {N : Type 0} (files : Option FilesByName) (policy : List ℕ) (q : Quantity) (n : List ℕ) (e : Ending N) → IsFileFault files mid new policy q n e → IsFileFault files counts new policy q n e
   fault_from files policy q n (TooLong told) h = h
   fault_from files policy q n (Unread told) h = (h.0, rose_later n h.1)
   fault_from files policy q n (Put reply) h = absurd h
@@ -54,7 +54,7 @@ module _ (counts mid new : List ℕ → ℕ) (later : (other : List ℕ) → cou
   fault_from files policy q n Unwritten h = absurd h
   fault_from files policy q n Memory h = absurd h
 
-  pub fault_later : (files files' : Option FilesByName) (policy policy' : List ℕ) (q : Quantity) (n n' : List ℕ) (e : Ending) → files' ≡ files → policy' ≡ policy → n' ≡ n
+  pub fault_later : {N : Type 0} (files files' : Option FilesByName) (policy policy' : List ℕ) (q : Quantity) (n n' : List ℕ) (e : Ending N) → files' ≡ files → policy' ≡ policy → n' ≡ n
       → IsFileFault files' mid new policy' q n' e → IsFileFault files counts new policy q n e
   fault_later files files' policy policy' q n n' e same first named h =
       let one = subst (λ x. IsFileFault x mid new policy' q n' e) same h in

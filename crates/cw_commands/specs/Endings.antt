@@ -9,7 +9,7 @@ use Rattle.cw_commands.specs.declared.ending.Ending.TheVariants.{Put, Refused, T
 use Rattle.cw_commands.specs.Commands.{usage_of}
 use Rattle.cw_commands.specs.Outcomes.{cause_status, reply_status}
 
-abbrev pub status_of : Ending → ℕ
+abbrev pub status_of : {N : Type 0} → Ending N → ℕ
 status_of (Put reply) = reply_status reply
 status_of (Refused cause words) = cause_status cause
 status_of (TooLong quantity) = 5
@@ -27,9 +27,9 @@ usage_line (Some name) = line (codes "usage: capweave ") (usage_of name)
 usage_line None = line (codes "usage: capweave ") (codes "COMMAND ARGUMENTS")
 
 -- the line of an ending; where a text was put there is none
-abbrev pub line_of : Ending → Option (List ℕ)
+abbrev pub line_of : {N : Type 0} → Ending N → Option (List ℕ)
 line_of (Put reply) = None
-line_of (Refused cause words) = Some (line words.items [])
+line_of (Refused cause words) = Some (line words.text [])
 line_of (TooLong quantity) = Some (line (codes "limit: ") (name_of quantity))
 line_of (Unread name) = Some (line (codes "read: ") name.now)
 line_of Unwritten = Some (line (codes "write") [])

@@ -42,13 +42,13 @@ HaveBytes files before (quantity ∷ quantities) (name ∷ names) (bytes ∷ oth
 HaveBytes files before quantities names others = ⊥
 
 -- why one file wasn't read: it is longer than its quantity allows, or the shelf's count of its name rose
-abbrev pub IsFileFault : Option FilesByName → (List ℕ → ℕ) → (List ℕ → ℕ) → List ℕ → Quantity → List ℕ → Ending → Type 0
+abbrev pub IsFileFault : {N : Type 0} → Option FilesByName → (List ℕ → ℕ) → (List ℕ → ℕ) → List ℕ → Quantity → List ℕ → Ending N → Type 0
 IsFileFault files counts counts' policy quantity name (TooLong told) = (told ≡ quantity) × IsLonger files policy quantity name
 IsFileFault files counts counts' policy quantity name (Unread told) = (told.now ≡ name) × Rose (counts name) (counts' name)
 IsFileFault files counts counts' policy quantity name ending = ⊥
 
 -- the files were read up to one that wasn't, and why, by the shelf's files and its counts before and after
-pub record IsUnread (files : Option FilesByName) (counts counts' : List ℕ → ℕ) (quantities : List Quantity) (names : List (List ℕ)) (ending : Ending) : Type 0 where
+pub record IsUnread {N : Type 0} (files : Option FilesByName) (counts counts' : List ℕ → ℕ) (quantities : List Quantity) (names : List (List ℕ)) (ending : Ending N) : Type 0 where
   pub place : ℕ
   pub quantity : Quantity
   pub name : List ℕ

@@ -12,9 +12,9 @@ pub data Due : Type 0 where
   Told : (reply : Reply) → (text : List ℕ) → Due
   Refused : (cause : Cause) → (line : List ℕ) → Due
 
-abbrev pub due_of : {O : Type 0} → Outcome O → Due
+abbrev pub due_of : {O N : Type 0} → Outcome O N → Due
 due_of (ToldData reply writer) = Told reply writer.text
-due_of (RefusedData cause line) = Refused cause line.items
+due_of (RefusedData cause line) = Refused cause line.text
 
 -- the status of a text that was put whole, and of a refusal
 abbrev pub reply_status : Reply → ℕ

@@ -6,14 +6,16 @@ ghost use Rattle.cw_commands.specs.Outcomes.{cause_status, reply_status};
 
 use crate::outcome::{Cause, Reply};
 use cw_core::Quantity;
+use cw_io::Sink;
+use cw_pieces::Writer;
 
 /// How a command ends: a text was put whole, or why none was.
 #[derive(Drop)]
-pub enum Ending<'w> {
+pub enum Ending<'w, N: Sink> {
     /// The text was put whole.
     Put(Reply),
-    /// The files are refused, by this line.
-    Refused(Cause, Vec<u8>),
+    /// The files are refused, by this line, which was put to the note but for what waits in its writer.
+    Refused(Cause, Writer<N>),
     /// A file has more bytes than its quantity allows.
     TooLong(Quantity),
     /// The file of this name can't be read.
@@ -44,7 +46,7 @@ fn cause_status(cause: Cause) -> u8
     }
 }
 
-impl Ending<'_> {
+impl<N: Sink> Ending<'_, N> {
     /// Its status.
     pub fn status(&self) -> u8
         ensures { result ≡ status_of self.now }

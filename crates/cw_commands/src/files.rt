@@ -6,7 +6,7 @@ ghost use Rattle.cw_commands.specs.Files.{first, HasBytes, HaveBytes, IsFileFaul
 
 use crate::ending::Ending;
 use cw_core::{NoMemory, Quantity};
-use cw_io::{ReadFault, Shelf};
+use cw_io::{ReadFault, Shelf, Sink};
 use cw_policies::{PolicyFault, read_policy};
 use std::alloc::Global;
 
@@ -58,13 +58,13 @@ fn is_over(alloc: Global, policy: &[u8], quantity: Quantity, count: usize) -> Re
 }
 
 /// The bytes of one file, read behind the policy of these bytes.
-fn read_file<'w, F: Shelf>(
+fn read_file<'w, F: Shelf, N: Sink>(
     alloc: Global,
     policy: &[u8],
     quantity: Quantity,
     name: &'w str,
     shelf: &mut F,
-) -> Result<Vec<u8>, Ending<'w>>
+) -> Result<Vec<u8>, Ending<'w, N>>
     ensures same { F.files shelf.new ≡ F.files shelf.old }
     ensures later { (other : List ℕ) → F.faults shelf.old other ≤ F.faults shelf.new other }
     ensures read { IfOk result (λ bytes. HasBytes (F.files shelf.old) policy.now quantity name.now bytes.items) }
@@ -94,12 +94,12 @@ fn first(files: &[Vec<u8>]) -> &[u8]
 }
 
 /// The bytes of the files of these names, read one after the other, or why the first that wasn't read wasn't.
-pub fn read_files<'w, F: Shelf>(
+pub fn read_files<'w, F: Shelf, N: Sink>(
     alloc: Global,
     quantities: &[Quantity],
     names: &[&'w str],
     shelf: &mut F,
-) -> Result<Vec<Vec<u8>>, Ending<'w>>
+) -> Result<Vec<Vec<u8>>, Ending<'w, N>>
     requires many { length names.now ≡ length quantities.now }
     ensures same { F.files shelf.new ≡ F.files shelf.old }
     ensures read { IfOk result (λ files. HaveBytes (F.files shelf.old) [] quantities.now (map (λ name. name.now) names.now) (map (λ file. file.items) files.items)) }

@@ -1,10 +1,12 @@
 //! The one line on the note.
 
-ghost use Rattle.std.specs.Prelude.{◌≡◌, codes, Some};
+ghost use Rattle.std.specs.Prelude.{◌≡◌, [], codes, Some};
 ghost use Rattle.cw_io.specs.Causes.{HasCause};
 ghost use Rattle.cw_io.specs.Pieces.{Puts};
 ghost use Rattle.cw_io.specs.declared.fault.SinkFault.TheVariants as SinkFault;
+ghost use Rattle.cw_pieces.specs.Written.{Follows};
 ghost use Rattle.cw_commands.specs.Endings.{line, line_of, usage_line, IsNoted, IsNotedWhole, PutsLine};
+ghost use Rattle.cw_commands.specs.Starts.{noted_from, EndsLine};
 
 use crate::ending::Ending;
 use crate::name::Name;
@@ -43,14 +45,27 @@ pub fn put_usage<N: Sink>(note: &mut N, first: Option<Name>) -> Result<(), SinkF
     put_line(note, b"usage: capweave ", usage(first))
 }
 
-fn put_line_of<N: Sink>(note: &mut N, ending: &Ending) -> Result<(), SinkFault>
-    ensures puts { PutsLine (N.taken note.old) (N.taken note.new) (line_of ending.now) result }
-    ensures failed { HasCause SinkFault.Failed (N.faults note.old) (N.faults note.new) result }
-    ensures refused { HasCause SinkFault.NoMemory (N.refused note.old) (N.refused note.new) result }
+/// Ends a line that was begun.
+fn end_line<N: Sink>(words: Writer<N>, note: &mut N) -> Result<(), SinkFault>
+    requires follows { Follows N.taken N.faults N.refused words note.old }
+    ensures puts { Puts (N.taken words.begun) (N.taken note.new) (line words.text []) result }
+    ensures failed { HasCause SinkFault.Failed (N.faults words.begun) (N.faults note.new) result }
+    ensures refused { HasCause SinkFault.NoMemory (N.refused words.begun) (N.refused note.new) result }
+{
+    let mut writer = words;
+    writer.put(b"\n", note);
+    writer.finish(note)
+}
+
+fn put_line_of<N: Sink>(note: &mut N, ending: Ending<'_, N>) -> Result<(), SinkFault>
+    requires begun { EndsLine N.taken N.faults N.refused (noted_from note.old ending) note.old ending }
+    ensures puts { PutsLine (N.taken (noted_from note.old ending.entry)) (N.taken note.new) (line_of ending.entry) result }
+    ensures failed { HasCause SinkFault.Failed (N.faults (noted_from note.old ending.entry)) (N.faults note.new) result }
+    ensures refused { HasCause SinkFault.NoMemory (N.refused (noted_from note.old ending.entry)) (N.refused note.new) result }
 {
     match ending {
         Ending::Put(_) => Ok(()),
-        Ending::Refused(_, words) => put_line(note, words, b""),
+        Ending::Refused(_, words) => end_line(words, note),
         Ending::TooLong(quantity) => put_line(note, b"limit: ", quantity.name().as_bytes()),
         Ending::Unread(name) => put_line(note, b"read: ", name.as_bytes()),
         Ending::Unwritten => put_line(note, b"write", b""),
@@ -58,11 +73,13 @@ fn put_line_of<N: Sink>(note: &mut N, ending: &Ending) -> Result<(), SinkFault>
     }
 }
 
-/// Puts the line of an ending, if it has one. After an error a front of it was put, maybe all of it; where neither of the note's counts rises, all of it.
-pub fn put_ending<N: Sink>(note: &mut N, ending: &Ending) -> Result<(), SinkFault>
-    ensures puts { PutsLine (N.taken note.old) (N.taken note.new) (line_of ending.now) result }
-    ensures noted { IsNoted (N.taken note.old) (N.taken note.new) (line_of ending.now) }
-    ensures whole { IsNotedWhole N.taken N.faults N.refused note.old note.new (line_of ending.now) }
+/// Puts the line of an ending, if it has one, or what is left of it. After an error a front of it was put, maybe all of it; where neither of the note's
+/// counts rises since the line began, all of it.
+pub fn put_ending<N: Sink>(note: &mut N, ending: Ending<'_, N>) -> Result<(), SinkFault>
+    requires begun { EndsLine N.taken N.faults N.refused (noted_from note.old ending) note.old ending }
+    ensures puts { PutsLine (N.taken (noted_from note.old ending.entry)) (N.taken note.new) (line_of ending.entry) result }
+    ensures noted { IsNoted (N.taken (noted_from note.old ending.entry)) (N.taken note.new) (line_of ending.entry) }
+    ensures whole { IsNotedWhole N.taken N.faults N.refused (noted_from note.old ending.entry) note.new (line_of ending.entry) }
 {
     put_line_of(note, ending)
 }

@@ -27,9 +27,9 @@ pub enum Cause {
 
 /// What is due for the bytes of a command's files.
 #[derive(Drop)]
-pub enum Outcome<O: Sink> {
+pub enum Outcome<O: Sink, N: Sink> {
     /// A text for the output, to which it was put, but for what waits in its writer.
     Told(Reply, Writer<O>),
-    /// A refusal: the line on the note.
-    Refused(Cause, Vec<u8>),
+    /// A refusal: its line for the note, likewise, without the line feed.
+    Refused(Cause, Writer<N>),
 }

@@ -22,7 +22,7 @@ use Rattle.cw_product.specs.declared.fault.GameFault.{GameFault}
 use Rattle.cw_product.specs.declared.fault.GameFault.TheVariants.{TooManyCaps, TooManyWords, TooManyStates, TooManyPositions, NoMemory}
 use Rattle.cw_product.specs.Product.{Held, game_of, IsCause}
 use Rattle.cw_product.specs.Uses.{uses_of}
-use Rattle.cw_solve.specs.Made.{IsMade}
+use Rattle.cw_product.specs.Made.{IsMade}
 use Rattle.cw_lazy.proofs.Sameness.{one}
 use Rattle.cw_stopless.specs.Unrefused.{varied}
 use Rattle.cw_stopless.proofs.Listed.{rights_forth, rights_back, spots_same}

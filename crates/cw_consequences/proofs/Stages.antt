@@ -17,7 +17,7 @@ use Rattle.cw_game.specs.Standing.{IsGameOf}
 use Rattle.cw_product.specs.declared.fault.GameFault.{GameFault}
 use Rattle.cw_product.specs.declared.fault.GameFault.TheVariants.{TooManyCaps, TooManyWords, TooManyStates, TooManyPositions, NoMemory}
 use Rattle.cw_product.specs.Product.{Held, game_of}
-use Rattle.cw_solve.specs.Made.{IsMade}
+use Rattle.cw_product.specs.Made.{IsMade}
 use Rattle.cw_source.specs.Read.{ReadsAs}
 use Rattle.cw_lazy.proofs.Made.{can_begin}
 use Rattle.cw_stopless.specs.Unrefused.{under, varied}

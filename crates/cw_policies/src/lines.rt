@@ -1,19 +1,23 @@
 //! The lines of refusals.
 
-ghost use Rattle.std.specs.Prelude.{◌≡◌, ◌++◌, OnOk, OnErr};
+ghost use Rattle.std.specs.Prelude.{◌≡◌, ◌++◌};
 ghost use Rattle.std.specs.Option.{option_copied};
+ghost use Rattle.cw_pieces.specs.Written.{Follows};
 ghost use Rattle.cw_policies.specs.Lines as spec;
 
 use crate::fault::{Path, PolicyFault};
 use crate::keys::{Key, Section, key_text, keys_of};
-use cw_core::{NoMemory, put_dec};
+use cw_io::Sink;
+use cw_pieces::Writer;
 use cw_regex::RegexFault;
 
-fn put(text: &mut Vec<u8>, piece: &str) -> Result<(), NoMemory>
-    ensures put { OnOk result (text.new.items ≡ text.old.items ++ piece.now) }
+fn put<S: Sink>(piece: &str, line: &mut Writer<S>, out: &mut S)
+    requires follows { Follows S.taken S.faults S.refused line.old out.old }
+    ensures text { line.new.text ≡ line.old.text ++ piece.now }
+    ensures begun { line.new.begun ≡ line.old.begun }
+    ensures follows { Follows S.taken S.faults S.refused line.new out.new }
 {
-    text.extend_from_slice(piece.as_bytes())?;
-    Ok(())
+    line.put(piece.as_bytes(), out);
 }
 
 fn section_of(number: u8) -> Section
@@ -40,12 +44,15 @@ fn section_text(section: Section) -> &'static str
     }
 }
 
-fn put_in_brackets(text: &mut Vec<u8>, number: u32) -> Result<(), NoMemory>
-    ensures put { OnOk result (text.new.items ≡ text.old.items ++ spec.in_brackets number) }
+fn put_in_brackets<S: Sink>(number: u32, line: &mut Writer<S>, out: &mut S)
+    requires follows { Follows S.taken S.faults S.refused line.old out.old }
+    ensures text { line.new.text ≡ line.old.text ++ spec.in_brackets number }
+    ensures begun { line.new.begun ≡ line.old.begun }
+    ensures follows { Follows S.taken S.faults S.refused line.new out.new }
 {
-    put(text, "[")?;
-    put_dec(u64::from(number), text)?;
-    put(text, "]")
+    put("[", line, out);
+    line.put_number(u64::from(number), out);
+    put("]", line, out);
 }
 
 fn text_of_key(key: Option<&Key>) -> &'static str
@@ -63,132 +70,141 @@ fn key_named(section: Section, key: u8) -> &'static str
     text_of_key(keys_of(section).get(key.saturating_sub(1) as usize))
 }
 
-fn put_item(text: &mut Vec<u8>, item: u32) -> Result<(), NoMemory>
-    ensures put { OnOk result (text.new.items ≡ text.old.items ++ spec.item_text item) }
+fn put_item<S: Sink>(item: u32, line: &mut Writer<S>, out: &mut S)
+    requires follows { Follows S.taken S.faults S.refused line.old out.old }
+    ensures text { line.new.text ≡ line.old.text ++ spec.item_text item }
+    ensures begun { line.new.begun ≡ line.old.begun }
+    ensures follows { Follows S.taken S.faults S.refused line.new out.new }
 {
     if item == 0 {
-        return Ok(());
+        return;
     }
-    put_in_brackets(text, item - 1)
+    put_in_brackets(item - 1, line, out);
 }
 
-fn put_root_key(text: &mut Vec<u8>, key: u8) -> Result<(), NoMemory>
-    ensures put { OnOk result (text.new.items ≡ text.old.items ++ spec.root_key key) }
+fn put_root_key<S: Sink>(key: u8, line: &mut Writer<S>, out: &mut S)
+    requires follows { Follows S.taken S.faults S.refused line.old out.old }
+    ensures text { line.new.text ≡ line.old.text ++ spec.root_key key }
+    ensures begun { line.new.begun ≡ line.old.begun }
+    ensures follows { Follows S.taken S.faults S.refused line.new out.new }
 {
     if key == 0 {
-        return put(text, "root");
+        return put("root", line, out);
     }
-    put(text, key_named(Section::Root, key))
+    put(key_named(Section::Root, key), line, out);
 }
 
-fn put_dotted_key(text: &mut Vec<u8>, section: Section, key: u8) -> Result<(), NoMemory>
-    ensures put { OnOk result (text.new.items ≡ text.old.items ++ spec.dotted_key section key) }
+fn put_dotted_key<S: Sink>(section: Section, key: u8, line: &mut Writer<S>, out: &mut S)
+    requires follows { Follows S.taken S.faults S.refused line.old out.old }
+    ensures text { line.new.text ≡ line.old.text ++ spec.dotted_key section key }
+    ensures begun { line.new.begun ≡ line.old.begun }
+    ensures follows { Follows S.taken S.faults S.refused line.new out.new }
 {
     if key == 0 {
-        return Ok(());
+        return;
     }
-    put(text, ".")?;
-    put(text, key_named(section, key))
+    put(".", line, out);
+    put(key_named(section, key), line, out);
 }
 
-fn put_table_key(text: &mut Vec<u8>, section: Section, index: u32, key: u8) -> Result<(), NoMemory>
-    ensures put { OnOk result (text.new.items ≡ text.old.items ++ spec.table_key section index key) }
+fn put_table_key<S: Sink>(section: Section, index: u32, key: u8, line: &mut Writer<S>, out: &mut S)
+    requires follows { Follows S.taken S.faults S.refused line.old out.old }
+    ensures text { line.new.text ≡ line.old.text ++ spec.table_key section index key }
+    ensures begun { line.new.begun ≡ line.old.begun }
+    ensures follows { Follows S.taken S.faults S.refused line.new out.new }
 {
-    put(text, section_text(section))?;
-    put_in_brackets(text, index)?;
-    put_dotted_key(text, section, key)
+    put(section_text(section), line, out);
+    put_in_brackets(index, line, out);
+    put_dotted_key(section, key, line, out);
 }
 
-fn put_key(text: &mut Vec<u8>, section: Section, index: u32, key: u8) -> Result<(), NoMemory>
-    ensures put { OnOk result (text.new.items ≡ text.old.items ++ spec.key_part section index key) }
+fn put_key<S: Sink>(section: Section, index: u32, key: u8, line: &mut Writer<S>, out: &mut S)
+    requires follows { Follows S.taken S.faults S.refused line.old out.old }
+    ensures text { line.new.text ≡ line.old.text ++ spec.key_part section index key }
+    ensures begun { line.new.begun ≡ line.old.begun }
+    ensures follows { Follows S.taken S.faults S.refused line.new out.new }
 {
     match section {
-        Section::Root => put_root_key(text, key),
-        _ => put_table_key(text, section, index, key),
+        Section::Root => put_root_key(key, line, out),
+        _ => put_table_key(section, index, key, line, out),
     }
 }
 
-fn put_place(text: &mut Vec<u8>, path: Path) -> Result<(), NoMemory>
-    ensures put { OnOk result (text.new.items ≡ text.old.items ++ spec.path_text path) }
+/// Appends a path, as `root`, `format`, `split[2]`, `limit[1]`, `limit[1].keep` or `limit[1].keep[0]`.
+pub fn put_path<S: Sink>(path: Path, line: &mut Writer<S>, out: &mut S)
+    requires follows { Follows S.taken S.faults S.refused line.old out.old }
+    ensures text { line.new.text ≡ line.old.text ++ spec.path_text path }
+    ensures begun { line.new.begun ≡ line.old.begun }
+    ensures follows { Follows S.taken S.faults S.refused line.new out.new }
 {
-    put_key(text, section_of(path.array), path.index, path.key)?;
-    put_item(text, path.item)
+    put_key(section_of(path.array), path.index, path.key, line, out);
+    put_item(path.item, line, out);
 }
 
-/// Appends a path, as `root`, `format`, `split[2]`, `limit[1]`, `limit[1].keep` or `limit[1].keep[0]`. Where memory is
-/// wanted, the text is as before.
-pub fn put_path(path: Path, text: &mut Vec<u8>) -> Result<(), NoMemory>
-    ensures put { OnOk result (text.new.items ≡ text.old.items ++ spec.path_text path) }
-    ensures same { OnErr result (text.new.items ≡ text.old.items) }
+fn put_rule<S: Sink>(index: u32, line: &mut Writer<S>, out: &mut S)
+    requires follows { Follows S.taken S.faults S.refused line.old out.old }
+    ensures text { line.new.text ≡ line.old.text ++ spec.rule_text index }
+    ensures begun { line.new.begun ≡ line.old.begun }
+    ensures follows { Follows S.taken S.faults S.refused line.new out.new }
 {
-    let mut path_text = Vec::new(*text.allocator());
-    put_place(&mut path_text, path)?;
-    text.extend_from_slice(&path_text)?;
-    Ok(())
+    put("policy: regex rule", line, out);
+    put_in_brackets(index, line, out);
 }
 
-#[tactic(auto, unfolding(crate::specs::Lines::rule_text))]
-fn put_rule(text: &mut Vec<u8>, index: u32) -> Result<(), NoMemory>
-    ensures put { OnOk result (text.new.items ≡ text.old.items ++ spec.rule_text index) }
+fn put_refused<S: Sink>(index: u32, word: &str, at: u32, line: &mut Writer<S>, out: &mut S)
+    requires follows { Follows S.taken S.faults S.refused line.old out.old }
+    ensures text { line.new.text ≡ line.old.text ++ spec.refused index word.now at }
+    ensures begun { line.new.begun ≡ line.old.begun }
+    ensures follows { Follows S.taken S.faults S.refused line.new out.new }
 {
-    put(text, "policy: regex rule")?;
-    put_in_brackets(text, index)
+    put_rule(index, line, out);
+    put(word, line, out);
+    line.put_number(u64::from(at), out);
 }
 
-fn put_refused(text: &mut Vec<u8>, index: u32, word: &str, at: u32) -> Result<(), NoMemory>
-    ensures put { OnOk result (text.new.items ≡ text.old.items ++ spec.refused index word.now at) }
-{
-    put_rule(text, index)?;
-    put(text, word)?;
-    put_dec(u64::from(at), text)?;
-    Ok(())
-}
-
-fn put_regex(text: &mut Vec<u8>, index: u32, fault: &RegexFault) -> Result<(), NoMemory>
-    ensures put { OnOk result (text.new.items ≡ text.old.items ++ spec.regex_text index fault.now) }
+fn put_regex<S: Sink>(index: u32, fault: &RegexFault, line: &mut Writer<S>, out: &mut S)
+    requires follows { Follows S.taken S.faults S.refused line.old out.old }
+    ensures text { line.new.text ≡ line.old.text ++ spec.regex_text index fault.now }
+    ensures begun { line.new.begun ≡ line.old.begun }
+    ensures follows { Follows S.taken S.faults S.refused line.new out.new }
 {
     match fault {
-        RegexFault::At(at) => put_refused(text, index, " at ", *at),
-        RegexFault::UnknownDescriptor(at) => put_refused(text, index, " descriptor ", *at),
-        RegexFault::UnknownRight(at) => put_refused(text, index, " right ", *at),
-        RegexFault::TooDeep => put(text, "limit: nesting"),
-        RegexFault::NoMemory => put(text, "memory"),
+        RegexFault::At(at) => put_refused(index, " at ", *at, line, out),
+        RegexFault::UnknownDescriptor(at) => put_refused(index, " descriptor ", *at, line, out),
+        RegexFault::UnknownRight(at) => put_refused(index, " right ", *at, line, out),
+        RegexFault::TooDeep => put("limit: nesting", line, out),
+        RegexFault::NoMemory => put("memory", line, out),
     }
 }
 
-fn put_at(text: &mut Vec<u8>, word: &str, path: Path) -> Result<(), NoMemory>
-    ensures put { OnOk result (text.new.items ≡ text.old.items ++ spec.at_path word.now path) }
+fn put_at<S: Sink>(word: &str, path: Path, line: &mut Writer<S>, out: &mut S)
+    requires follows { Follows S.taken S.faults S.refused line.old out.old }
+    ensures text { line.new.text ≡ line.old.text ++ spec.at_path word.now path }
+    ensures begun { line.new.begun ≡ line.old.begun }
+    ensures follows { Follows S.taken S.faults S.refused line.new out.new }
 {
-    put(text, word)?;
-    put_place(text, path)
+    put(word, line, out);
+    put_path(path, line, out);
 }
 
-fn put_line(text: &mut Vec<u8>, fault: &PolicyFault) -> Result<(), NoMemory>
-    ensures put { OnOk result (text.new.items ≡ text.old.items ++ spec.fault_line fault.now) }
+/// Appends the line of a refusal, without its end, as `policy: missing limit[1].keep` or `limit: rules`.
+pub fn put_fault<S: Sink>(fault: &PolicyFault, line: &mut Writer<S>, out: &mut S)
+    requires follows { Follows S.taken S.faults S.refused line.old out.old }
+    ensures text { line.new.text ≡ line.old.text ++ spec.fault_line fault.now }
+    ensures begun { line.new.begun ≡ line.old.begun }
+    ensures follows { Follows S.taken S.faults S.refused line.new out.new }
 {
     match fault {
-        PolicyFault::Toml => put(text, "policy: toml"),
-        PolicyFault::Missing(path) => put_at(text, "policy: missing ", *path),
-        PolicyFault::Unknown(path) => put_at(text, "policy: unknown ", *path),
-        PolicyFault::Kind(path) => put_at(text, "policy: kind ", *path),
-        PolicyFault::Regex(index, fault) => put_regex(text, *index, fault),
+        PolicyFault::Toml => put("policy: toml", line, out),
+        PolicyFault::Missing(path) => put_at("policy: missing ", *path, line, out),
+        PolicyFault::Unknown(path) => put_at("policy: unknown ", *path, line, out),
+        PolicyFault::Kind(path) => put_at("policy: kind ", *path, line, out),
+        PolicyFault::Regex(index, fault) => put_regex(*index, fault, line, out),
         PolicyFault::Limit(quantity) => {
-            put(text, "limit: ")?;
-            put(text, quantity.name())
+            put("limit: ", line, out);
+            put(quantity.name(), line, out);
         }
-        PolicyFault::Twice(path) => put_at(text, "policy: twice ", *path),
-        PolicyFault::NoMemory => put(text, "memory"),
+        PolicyFault::Twice(path) => put_at("policy: twice ", *path, line, out),
+        PolicyFault::NoMemory => put("memory", line, out),
     }
-}
-
-/// Appends the line of a refusal, without its end, as `policy: missing limit[1].keep` or `limit: rules`. Where memory is
-/// wanted, the text is as before.
-pub fn put_fault(fault: &PolicyFault, text: &mut Vec<u8>) -> Result<(), NoMemory>
-    ensures put { OnOk result (text.new.items ≡ text.old.items ++ spec.fault_line fault.now) }
-    ensures same { OnErr result (text.new.items ≡ text.old.items) }
-{
-    let mut line = Vec::new(*text.allocator());
-    put_line(&mut line, fault)?;
-    text.extend_from_slice(&line)?;
-    Ok(())
 }

@@ -4,18 +4,29 @@ use crate::fault::PolicyFault;
 use crate::lines::put_fault;
 use crate::read::read_policy;
 use cw_core::{NoMemory, put_dec};
+use cw_io::SureSink;
+use cw_pieces::Writer;
 use cw_rights::{Descriptor, Limit, Policy, Regex, Rule, Test};
 use std::alloc::{AllocError, Global};
 use std::test::Fail;
 
+/// The line of a fault.
+fn line_of(alloc: Global, fault: &PolicyFault) -> Result<Vec<u8>, NoMemory> {
+    let mut sink = SureSink::make(alloc);
+    let mut line = Writer::begin(&sink);
+    put_fault(fault, &mut line, &mut sink);
+    if line.finish(&mut sink).is_err() {
+        return Err(NoMemory);
+    }
+    Ok(sink.bytes().to_vec(alloc)?)
+}
+
 /// The line of a text's refusal, or `ok`.
 fn line(alloc: Global, text: &[u8]) -> Result<Vec<u8>, NoMemory> {
-    let mut line = Vec::new(alloc);
     match read_policy(alloc, text) {
-        Ok(_) => line.extend_from_slice(b"ok")?,
-        Err(fault) => put_fault(&fault, &mut line)?,
+        Ok(_) => Ok(b"ok".to_vec(alloc)?),
+        Err(fault) => line_of(alloc, &fault),
     }
-    Ok(line)
 }
 
 /// A piece of text that stands many times between a front and a back.
@@ -414,8 +425,7 @@ rule = [{ name = \"one\", bad = \"b a (d | c)\" }, { name = \"two\", bad = \".\"
 
 #[test]
 fn want_of_memory_has_a_line(rt: HostRuntime) -> Result<(), Fail> {
-    let mut line = Vec::new(rt.alloc());
-    put_fault(&PolicyFault::NoMemory, &mut line)?;
+    let line = line_of(rt.alloc(), &PolicyFault::NoMemory)?;
     assert_eq!(rt; line.as_slice(), b"memory".as_slice());
     Ok(())
 }

@@ -8,3 +8,4 @@ pub mod Starting
 pub mod Runnable
 mod Held
 pub mod Named
+pub mod Pieces

@@ -8,5 +8,5 @@ pub mod place;
 pub mod read;
 
 pub use fault::SourceFault;
-pub use line::{fault_line, place_line};
+pub use line::{put_fault_line, put_place_line};
 pub use read::read_source;

@@ -1,83 +1,98 @@
 //! The line that tells why a source is refused.
 
-ghost use Rattle.std.specs.Prelude.{◌≡◌, ◌++◌, OnOk, IfOk};
+ghost use Rattle.std.specs.Prelude.{◌≡◌, ◌++◌};
+ghost use Rattle.cw_pieces.specs.Written.{Follows};
 ghost use Rattle.cw_source.specs.Lines.{at_place, fault_line, lex_line, scope_line};
 
 use crate::fault::SourceFault;
 use crate::place::{column_of, line_of};
-use cw_core::{NoMemory, put_dec};
+use cw_io::Sink;
 use cw_lex::LexFault;
+use cw_pieces::Writer;
 use cw_scope::ScopeFault;
-use std::alloc::Global;
 
-fn copied(alloc: Global, words: &str) -> Result<Vec<u8>, NoMemory>
-    ensures { IfOk result (λ line. line.items ≡ words.now) }
-{
-    let mut line = Vec::new(alloc);
-    line.extend_from_slice(words.as_bytes())?;
-    Ok(line)
-}
-
-/// The line `source LINE:COLUMN: WORDS`, without its line feed, for a place that is counted in bytes from the front of the source. Lines and
+/// Appends the line `source LINE:COLUMN: WORDS`, without its line feed, for a place that is counted in bytes from the front of the source. Lines and
 /// columns are counted from 1, columns in bytes.
-#[tactic(auto, unfolding(crate::specs::Lines::at_place))]
-pub fn place_line(alloc: Global, source: &[u8], at: u32, words: &str) -> Result<Vec<u8>, NoMemory>
-    ensures line { IfOk result (λ line. line.items ≡ at_place source.now at words.now) }
+pub fn put_place_line<S: Sink>(
+    source: &[u8],
+    at: u32,
+    words: &str,
+    line: &mut Writer<S>,
+    out: &mut S,
+)
+    requires follows { Follows S.taken S.faults S.refused line.old out.old }
+    ensures text { line.new.text ≡ line.old.text ++ at_place source.now at words.now }
+    ensures begun { line.new.begun ≡ line.old.begun }
+    ensures follows { Follows S.taken S.faults S.refused line.new out.new }
 {
-    let mut line = copied(alloc, "source ")?;
-    put_dec(line_of(source, at) as u64, &mut line)?;
-    line.extend_from_slice(b":")?;
-    put_dec(column_of(source, at) as u64, &mut line)?;
-    line.extend_from_slice(b": ")?;
-    line.extend_from_slice(words.as_bytes())?;
-    Ok(line)
+    line.put(b"source ", out);
+    line.put_number(line_of(source, at) as u64, out);
+    line.put(b":", out);
+    line.put_number(column_of(source, at) as u64, out);
+    line.put(b": ", out);
+    line.put(words.as_bytes(), out);
 }
 
-fn of_tokens(alloc: Global, source: &[u8], fault: &LexFault) -> Result<Vec<u8>, NoMemory>
-    ensures { IfOk result (λ line. line.items ≡ lex_line source.now fault.now) }
+fn put_lex_fault<S: Sink>(source: &[u8], fault: &LexFault, line: &mut Writer<S>, out: &mut S)
+    requires follows { Follows S.taken S.faults S.refused line.old out.old }
+    ensures text { line.new.text ≡ line.old.text ++ lex_line source.now fault.now }
+    ensures begun { line.new.begun ≡ line.old.begun }
+    ensures follows { Follows S.taken S.faults S.refused line.new out.new }
 {
     match fault {
-        LexFault::BadByte(at) => place_line(alloc, source, *at, "bad byte"),
-        LexFault::OpenComment(at) => place_line(alloc, source, *at, "open comment"),
-        LexFault::OpenString(at) => place_line(alloc, source, *at, "open string"),
-        LexFault::Number(at) => place_line(alloc, source, *at, "number"),
-        LexFault::Directive(at) => place_line(alloc, source, *at, "directive"),
-        LexFault::Marker(at) => place_line(alloc, source, *at, "marker"),
-        LexFault::NoMemory => copied(alloc, "memory"),
+        LexFault::BadByte(at) => put_place_line(source, *at, "bad byte", line, out),
+        LexFault::OpenComment(at) => put_place_line(source, *at, "open comment", line, out),
+        LexFault::OpenString(at) => put_place_line(source, *at, "open string", line, out),
+        LexFault::Number(at) => put_place_line(source, *at, "number", line, out),
+        LexFault::Directive(at) => put_place_line(source, *at, "directive", line, out),
+        LexFault::Marker(at) => put_place_line(source, *at, "marker", line, out),
+        LexFault::NoMemory => line.put(b"memory", out),
     }
 }
 
-fn of_scope(alloc: Global, source: &[u8], fault: &ScopeFault) -> Result<Vec<u8>, NoMemory>
-    ensures { IfOk result (λ line. line.items ≡ scope_line source.now fault.now) }
+fn put_scope_fault<S: Sink>(source: &[u8], fault: &ScopeFault, line: &mut Writer<S>, out: &mut S)
+    requires follows { Follows S.taken S.faults S.refused line.old out.old }
+    ensures text { line.new.text ≡ line.old.text ++ scope_line source.now fault.now }
+    ensures begun { line.new.begun ≡ line.old.begun }
+    ensures follows { Follows S.taken S.faults S.refused line.new out.new }
 {
     match fault {
-        ScopeFault::NoMain => copied(alloc, "source: no main"),
-        ScopeFault::TwoFunctions(name) => place_line(alloc, source, name.from, "two functions"),
-        ScopeFault::TwoLabels(name) => place_line(alloc, source, name.from, "two labels"),
-        ScopeFault::Arity(at) => place_line(alloc, source, *at, "arity"),
-        ScopeFault::CallForm(at) => place_line(alloc, source, *at, "call form"),
-        ScopeFault::MainCalled(at) => place_line(alloc, source, *at, "main called"),
-        ScopeFault::Reserved(at) => place_line(alloc, source, *at, "reserved"),
-        ScopeFault::Jump(at) => place_line(alloc, source, *at, "jump"),
-        ScopeFault::Limit(quantity) => {
-            let mut line = copied(alloc, "limit: ")?;
-            line.extend_from_slice(quantity.name().as_bytes())?;
-            Ok(line)
+        ScopeFault::NoMain => line.put(b"source: no main", out),
+        ScopeFault::TwoFunctions(name) => {
+            put_place_line(source, name.from, "two functions", line, out)
         }
-        ScopeFault::NoMemory => copied(alloc, "memory"),
+        ScopeFault::TwoLabels(name) => put_place_line(source, name.from, "two labels", line, out),
+        ScopeFault::Arity(at) => put_place_line(source, *at, "arity", line, out),
+        ScopeFault::CallForm(at) => put_place_line(source, *at, "call form", line, out),
+        ScopeFault::MainCalled(at) => put_place_line(source, *at, "main called", line, out),
+        ScopeFault::Reserved(at) => put_place_line(source, *at, "reserved", line, out),
+        ScopeFault::Jump(at) => put_place_line(source, *at, "jump", line, out),
+        ScopeFault::Limit(quantity) => {
+            line.put(b"limit: ", out);
+            line.put(quantity.name().as_bytes(), out);
+        }
+        ScopeFault::NoMemory => line.put(b"memory", out),
     }
 }
 
-/// The line that tells why a source is refused, without a line feed: `source LINE:COLUMN: WORDS` where the fault has a place (lines
+/// Appends the line that tells why a source is refused, without a line feed: `source LINE:COLUMN: WORDS` where the fault has a place (lines
 /// and columns are counted from 1, columns in bytes), `limit: QUANTITY` where something is more than it may be.
-pub fn fault_line(alloc: Global, source: &[u8], fault: &SourceFault) -> Result<Vec<u8>, NoMemory>
-    ensures line { IfOk result (λ line. line.items ≡ fault_line source.now fault.now) }
+pub fn put_fault_line<S: Sink>(
+    source: &[u8],
+    fault: &SourceFault,
+    line: &mut Writer<S>,
+    out: &mut S,
+)
+    requires follows { Follows S.taken S.faults S.refused line.old out.old }
+    ensures text { line.new.text ≡ line.old.text ++ fault_line source.now fault.now }
+    ensures begun { line.new.begun ≡ line.old.begun }
+    ensures follows { Follows S.taken S.faults S.refused line.new out.new }
 {
     match fault {
-        SourceFault::Lex(fault) => of_tokens(alloc, source, fault),
-        SourceFault::Syntax(at) => place_line(alloc, source, *at, "syntax"),
-        SourceFault::TooDeep => copied(alloc, "limit: nesting"),
-        SourceFault::Scope(fault) => of_scope(alloc, source, fault),
-        SourceFault::NoMemory => copied(alloc, "memory"),
+        SourceFault::Lex(fault) => put_lex_fault(source, fault, line, out),
+        SourceFault::Syntax(at) => put_place_line(source, *at, "syntax", line, out),
+        SourceFault::TooDeep => line.put(b"limit: nesting", out),
+        SourceFault::Scope(fault) => put_scope_fault(source, fault, line, out),
+        SourceFault::NoMemory => line.put(b"memory", out),
     }
 }

@@ -1,8 +1,10 @@
 //! Lines of refusals.
 use cw_core::Quantity;
+use cw_io::SureSink;
 use cw_lex::LexFault;
+use cw_pieces::Writer;
 use cw_scope::ScopeFault;
-use cw_source::{SourceFault, fault_line};
+use cw_source::{SourceFault, put_fault_line};
 use cw_syntax::program::Name;
 use std::test::Fail;
 
@@ -41,10 +43,11 @@ fn lines_tell_the_place(rt: HostRuntime) -> Result<(), Fail> {
             "limit: functions",
         ),
     ] {
-        assert_eq!(rt;
-            fault_line(alloc, source, &fault)?.as_slice(),
-            line.as_bytes()
-        );
+        let mut sink = SureSink::make(alloc);
+        let mut writer = Writer::begin(&sink);
+        put_fault_line(source, &fault, &mut writer, &mut sink);
+        assert!(rt; writer.finish(&mut sink).is_ok());
+        assert_eq!(rt; sink.bytes(), line.as_bytes());
     }
     Ok(())
 }

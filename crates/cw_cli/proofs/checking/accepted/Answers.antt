@@ -21,7 +21,8 @@ fitted-requires-clause-graph g c =
 
 pub fitted-requires-clause-points : goal.fitted-requires-clause-points
 fitted-requires-clause-points g c =
-    nodes_few (names_of (policy_of c.args.policy.now)) c.args.opened.now.source.items (file_of c.in-Ok.program.checked.program) c.in-Ok.program.graph c.in-Ok.ensures.graph c.in-Ok.ensures.reads.accepted.few
+    nodes_few (names_of (policy_of c.args.policy.now)) c.args.opened.now.source.items
+    (file_of c.in-Ok.program.checked.program) c.in-Ok.program.graph c.in-Ok.ensures.graph c.in-Ok.ensures.reads.accepted.few
 
 pub fitted-requires-clause-few : goal.fitted-requires-clause-few
 fitted-requires-clause-few g c = few_rows (policy_of c.args.policy.now) c.requires.opened.has.lines c.args.opened.now.table c.requires.opened.has.spells
@@ -38,7 +39,8 @@ pub returns-in-Err-clause-due : goal.returns-in-Err-clause-due
 returns-in-Err-clause-due g c =
     let whole = policy_of c.args.policy.now in
     let o = c.args.opened.now in
-    if_ok c.woven_refusal.result (woven_refused whole o.text.now o.source.items c.deref.result.now c.in-Err.fault c.woven_refusal.result c.in-Err.ensures.fault c.deref.ensures.value c.woven_refusal.ensures.due) (λ outcome d. inl d)
+    if_ok c.woven_refusal.result (woven_refused whole o.text.now o.source.items c.deref.result.now c.in-Err.fault c.woven_refusal.result
+    c.in-Err.ensures.fault c.deref.ensures.value c.woven_refusal.ensures.due) (λ outcome d. inl d)
 
 pub returns-in-Err-clause-puts : goal.returns-in-Err-clause-puts
 returns-in-Err-clause-puts g c = unput g.O.Sink.taken g.O.Sink.faults g.O.Sink.refused c.args.out.now c.woven_refusal.result c.woven_refusal.ensures.refused

@@ -8,14 +8,16 @@ returns-in-Weave-len2-clause-due g c =
     let files = c.args.files.now in
     let many : length files ≡ 2 = omega (arith, c.in-Weave-len2.len_at_least, c.in-Weave-len2.len_below) in
     let are = two_of (λ file. file.items) files c.policy-item.result c.source-item.result many c.policy-item.is c.source-item.is in
-    weave_is_due c.args.command (map (λ file. file.items) files) c.weave_due.result c.policy-item.result.items c.source-item.result.items c.deref.result.now c.deref-in-Weave-len2.result.now c.in-Weave-len2.is-0 are c.deref.ensures.value c.deref-in-Weave-len2.ensures.value c.weave_due.ensures.due
+    weave_is_due c.args.command (map (λ file. file.items) files) c.weave_due.result c.policy-item.result.items c.source-item.result.items c.deref.result.now c.deref-in-Weave-len2.result.now
+    c.in-Weave-len2.is-0 are c.deref.ensures.value c.deref-in-Weave-len2.ensures.value c.weave_due.ensures.due
 
 pub returns-in-Graph-len1-clause-due : goal.returns-in-Graph-len1-clause-due
 returns-in-Graph-len1-clause-due g c =
     let files = c.args.files.now in
     let many : length files ≡ 1 = omega (arith, c.in-Graph-len1.len_at_least, c.in-Graph-len1.len_below) in
     let are = one_of (λ file. file.items) files c.source-item-then-this-lt2.result many c.source-item-then-this-lt2.is in
-    listing_is_due c.args.command (map (λ file. file.items) files) c.listing_due.result c.source-item-then-this-lt2.result.items c.deref-in-Graph-len1.result.now c.in-Graph-len1.is-0 are c.deref-in-Graph-len1.ensures.value c.listing_due.ensures.due
+    listing_is_due c.args.command (map (λ file. file.items) files) c.listing_due.result c.source-item-then-this-lt2.result.items c.deref-in-Graph-len1.result.now
+    c.in-Graph-len1.is-0 are c.deref-in-Graph-len1.ensures.value c.listing_due.ensures.due
 
 pub returns-in-Refute-len3-clause-due : goal.returns-in-Refute-len3-clause-due
 returns-in-Refute-len3-clause-due g c =

@@ -6,7 +6,7 @@ use Rattle.cw_syntax.specs.Plans.{plan_of, function_names}
 use Rattle.cw_syntax.specs.Trees.{file_of}
 use Rattle.cw_actions.specs.Scenes.{names_of}
 use Rattle.cw_listing.specs.Listing.{graph_text}
-use Rattle.cw_commands.proofs.Starting.{unput}
+use Rattle.cw_commands.proofs.Starting.{unput_one}
 use Rattle.cw_cli.specs.Listings.{call_lists}
 use Rattle.cw_cli.proofs.Listed.{few_functions, is_listing}
 use Rattle.cw_cli.proofs.Refused.{if_ok}
@@ -30,4 +30,4 @@ returns-in-Ok-clause-due g c =
     if_ok c.listed.result c.listed.ensures.due (λ o e. inr (text, is, e))
 
 pub returns-in-Err-TooManyPoints-clause-puts : goal.returns-in-Err-TooManyPoints-clause-puts
-returns-in-Err-TooManyPoints-clause-puts g c = unput g.O.Sink.taken g.O.Sink.faults g.O.Sink.refused c.args.out.now c.over.result c.over.ensures.refused
+returns-in-Err-TooManyPoints-clause-puts g c = unput_one g.O.Sink.taken g.O.Sink.faults g.O.Sink.refused c.args.out.now c.over.result c.over.ensures.refused

@@ -1,7 +1,7 @@
 use Rattle.std.proofs.Common.{length, ap, sym, ◌∙◌, arith}
 use Rattle.std.proofs.lemmas.List.{length-map}
 use Rattle.cw_syntax.specs.Trees.{file_of}
-use Rattle.cw_commands.proofs.Starting.{unput}
+use Rattle.cw_commands.proofs.Starting.{unput_one}
 use Rattle.cw_cli.specs.Listings.{own_names}
 use Rattle.cw_cli.proofs.Labelled.{many_labels}
 use Rattle.cw_cli.proofs.Listed.{over}
@@ -16,4 +16,4 @@ returns-then-len-gt-LABELS-clause-due g c =
     over source file (many_labels (own_names source file) source file (length labels) many (omega (arith, c.len.ensures, c.if-len-gt-LABELS.true))) c.over.result c.over.ensures.due
 
 pub returns-then-len-gt-LABELS-clause-puts : goal.returns-then-len-gt-LABELS-clause-puts
-returns-then-len-gt-LABELS-clause-puts g c = unput g.O.Sink.taken g.O.Sink.faults g.O.Sink.refused c.args.out.now c.over.result c.over.ensures.refused
+returns-then-len-gt-LABELS-clause-puts g c = unput_one g.O.Sink.taken g.O.Sink.faults g.O.Sink.refused c.args.out.now c.over.result c.over.ensures.refused

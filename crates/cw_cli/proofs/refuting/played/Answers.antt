@@ -8,7 +8,7 @@ use Rattle.cw_model.specs.Boards.{problem_of}
 use Rattle.cw_opens.proofs.Stated.{read_programs_assign}
 use Rattle.cw_product.specs.Product.{game_of}
 use Rattle.cw_source.proofs.Runnable.{runnable}
-use Rattle.cw_commands.proofs.Starting.{unput}
+use Rattle.cw_commands.proofs.Starting.{unnoted, unput}
 use Rattle.cw_cli.specs.Refuting.{IsGame}
 use Rattle.cw_cli.proofs.Judging.{judged_for}
 use Rattle.cw_cli.proofs.Refused.{if_ok}
@@ -35,3 +35,6 @@ returns-in-Err-clause-due g c = if_ok c.game_refusal.result c.game_refusal.ensur
 
 pub returns-in-Err-clause-puts : goal.returns-in-Err-clause-puts
 returns-in-Err-clause-puts g c = unput g.O.Sink.taken g.O.Sink.faults g.O.Sink.refused c.args.out.now c.game_refusal.result c.game_refusal.ensures.refused
+
+pub returns-in-Ok-clause-notes : goal.returns-in-Ok-clause-notes
+returns-in-Ok-clause-notes g c = unnoted g.N.Sink.taken g.N.Sink.faults g.N.Sink.refused c.args.note.now c.judged.result c.judged.ensures.told

@@ -14,7 +14,8 @@ pub returns-in-Err-clause-due : goal.returns-in-Err-clause-due
 returns-in-Err-clause-due g c =
     let whole = policy_of c.args.policy.now in
     let text = c.args.text.now in
-    if_ok c.woven_refusal.result (woven_refused whole text [] [] c.in-Err.fault c.woven_refusal.result (unopened whole text c.in-Err.fault c.in-Err.ensures.fault) refl c.woven_refusal.ensures.due) (λ o d. inl d)
+    if_ok c.woven_refusal.result (woven_refused whole text [] [] c.in-Err.fault c.woven_refusal.result
+    (unopened whole text c.in-Err.fault c.in-Err.ensures.fault) refl c.woven_refusal.ensures.due) (λ o d. inl d)
 
 pub returns-in-Err-clause-puts : goal.returns-in-Err-clause-puts
 returns-in-Err-clause-puts g c = unput g.O.Sink.taken g.O.Sink.faults g.O.Sink.refused c.args.out.now c.woven_refusal.result c.woven_refusal.ensures.refused

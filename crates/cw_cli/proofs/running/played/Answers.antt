@@ -52,7 +52,13 @@ returns-in-Ok-clause-due g c =
     let policy_is = ap policy_of c.in-Ok.ensures.policy in
     let is_game = c.in-Ok.ensures.is_game source file c.requires.graph runs (read_programs_assign source file c.requires.reads) in
     let is : IsGame whole c.args.graph.now held = record { graph_is = c.in-Ok.ensures.graph; policy_is = policy_is; lists = c.in-Ok.ensures.lists } in
-    if_ok c.judged.result c.judged.ensures.due (λ o d. inr (held, is, is_game, run_shown_for source whole file t tape (game_of held) (due_of o) (subst (λ (p : PlainPolicy). IsRunShownBy source p file t tape (game_of held) (due_of o)) policy_is d)))
+    if_ok c.judged.result c.judged.ensures.due (λ o d. inr (
+      held,
+      is,
+      is_game,
+      run_shown_for source whole file t tape (game_of held) (due_of o)
+          (subst (λ (p : PlainPolicy). IsRunShownBy source p file t tape (game_of held) (due_of o)) policy_is d),
+    ))
 
 pub returns-in-Err-clause-due : goal.returns-in-Err-clause-due
 returns-in-Err-clause-due g c = if_ok c.game_refusal.result c.game_refusal.ensures.due (λ o p. inl (c.in-Err.fault, p.0, c.in-Err.ensures.cause, p.1))

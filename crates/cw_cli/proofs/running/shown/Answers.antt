@@ -6,6 +6,7 @@ use Rattle.cw_opens.proofs.Stated.{read_programs_assign}
 use Rattle.cw_run.specs.Woven.{end_of}
 use Rattle.cw_source.proofs.Runnable.{runnable}
 use Rattle.cw_cli.proofs.Shown.{run_is_told}
+use Rattle.cw_commands.proofs.Starting.{unnoted}
 use Rattle.cw_cli.proofs.running.shown.Goals as goal
 
 pub run_woven-requires-clause-runnable : goal.run_woven-requires-clause-runnable
@@ -19,4 +20,8 @@ returns-clause-due g c =
     let source = c.args.checked.now.source.now in
     let file = file_of c.args.checked.now.program in
     let whole = policy_of c.args.game.now.states.policy in
-    run_is_told source whole file c.args.table.now c.args.tape.now (end_of c.in_ok-end.end) c.begin-writer.result.text c.run_woven.new.writer.text (due_of c.run_told.result) c.begin-writer.ensures.text c.in_ok-end.ensures.run c.run_told.ensures.due
+    run_is_told source whole file c.args.table.now c.args.tape.now (end_of c.in_ok-end.end) c.begin-writer.result.text c.run_woven.new.writer.text (due_of c.run_told.result)
+    c.begin-writer.ensures.text c.in_ok-end.ensures.run c.run_told.ensures.due
+
+pub returns-clause-notes : goal.returns-clause-notes
+returns-clause-notes g c = unnoted g.N.Sink.taken g.N.Sink.faults g.N.Sink.refused c.args.note.now c.run_told.result c.run_told.ensures.told

@@ -12,3 +12,6 @@ returns-in-Ok-clause-due g c = if_ok c.fitted.result c.fitted.ensures.due (λ o 
 
 pub returns-in-Err-clause-puts : goal.returns-in-Err-clause-puts
 returns-in-Err-clause-puts g c = unput g.O.Sink.taken g.O.Sink.faults g.O.Sink.refused c.args.out.now c.in-Err.answer c.in-Err.ensures.untold
+
+pub returns-in-Ok-clause-notes : goal.returns-in-Ok-clause-notes
+returns-in-Ok-clause-notes g c = rw c.in-Ok.ensures.notes at c.fitted.ensures.notes

@@ -5,4 +5,5 @@ use Rattle.cw_cli.proofs.sampling.check_text.Goals as goal
 
 pub unreachable-requires : goal.unreachable-requires
 unreachable-requires c =
-    c.is_yes.ensures c.if-is_yes.false yes (checked_yes c.args.policy.now c.args.source.now c.args.text.now (due_of c.in_ok-outcome.outcome) c.requires.short c.requires.due c.in_ok-outcome.ensures.due)
+    c.is_yes.ensures c.if-is_yes.false yes (checked_yes c.args.policy.now c.args.source.now c.args.text.now (due_of c.in_ok-outcome.outcome)
+    c.requires.short c.requires.due c.in_ok-outcome.ensures.due)

@@ -1,4 +1,4 @@
-use Rattle.std.proofs.Common.{ℕ, List, ◌++◌, ap, sym, inr, ◌∙◌}
+use Rattle.std.proofs.Common.{ℕ, List, ◌++◌, ap, sym, inl, inr, ◌∙◌}
 use Rattle.cw_rights.specs.declared.policy.Policy.{Policy}
 use Rattle.cw_rights.specs.Policies.{policy_of}
 use Rattle.cw_syntax.specs.Trees.{file_of}
@@ -6,7 +6,7 @@ use Rattle.cw_certs.specs.Strategies.{strategy_of}
 use Rattle.cw_least.specs.Strategies.{rows_of}
 use Rattle.cw_product.specs.Product.{game_of}
 use Rattle.cw_strategies.specs.StrategyText.{strategy_text}
-use Rattle.cw_commands.proofs.Starting.{unput}
+use Rattle.cw_commands.proofs.Starting.{unput_one}
 use Rattle.cw_cli.proofs.Counted.{AreKept, are_numbers}
 use Rattle.cw_cli.proofs.Weaves.{IsMadeStrategy, is_refuted}
 use Rattle.cw_cli.proofs.verdict.refuted.Goals as goal
@@ -18,7 +18,8 @@ returns-in-Ok-clause-due g c =
     let game = c.args.game.now in
     let whole = policy_of game.states.policy in
     let strategy = strategy_of c.in-Ok.strategy in
-    let spelled = c.put_strategy.ensures.text ∙ ap (λ (t : List ℕ). t ++ strategy_text c.policy.result.now.format strategy) c.begin-writer.ensures.text ∙ ap (λ (p : Policy). strategy_text p.format strategy) c.policy.ensures in
+    let spelled = c.put_strategy.ensures.text ∙ ap (λ (t : List ℕ). t ++ strategy_text c.policy.result.now.format strategy) c.begin-writer.ensures.text
+    ∙ ap (λ (p : Policy). strategy_text p.format strategy) c.policy.ensures in
     let made : IsMadeStrategy (game_of game) strategy = record { is_least = c.in-Ok.ensures.least; ascend = c.in-Ok.ensures.ascend; few = c.in-Ok.ensures.few; good = c.in-Ok.ensures.good } in
     let kept : AreKept game c.args.solved.now c.make.result (rows_of strategy) = record {
       same = c.requires.solved;
@@ -37,5 +38,8 @@ returns-in-Ok-clause-due g c =
       are_numbers game c.args.solved.now c.make.result (rows_of strategy) whole source file c.requires.graph kept,
     )
 
+pub returns-in-Err-TooManyRows-clause-due : goal.returns-in-Err-TooManyRows-clause-due
+returns-in-Err-TooManyRows-clause-due g c = inl (inr (c.requires.lost, c.in-Err-TooManyRows.ensures.many c.in-Err-TooManyRows.field-0-is), c.over.ensures.due)
+
 pub returns-in-Err-TooManyRows-clause-puts : goal.returns-in-Err-TooManyRows-clause-puts
-returns-in-Err-TooManyRows-clause-puts g c = unput g.O.Sink.taken g.O.Sink.faults g.O.Sink.refused c.args.out.now c.over.result c.over.ensures.refused
+returns-in-Err-TooManyRows-clause-puts g c = unput_one g.O.Sink.taken g.O.Sink.faults g.O.Sink.refused c.args.out.now c.over.result c.over.ensures.refused

@@ -11,9 +11,8 @@ use Rattle.cw_emit.specs.Cut.{cut}
 use Rattle.cw_emit.specs.Woven.{woven_text, Stands}
 use Rattle.cw_lazy.specs.Lazy.{table_rows}
 use Rattle.cw_source.proofs.Marking.{marks_in_order}
-use Rattle.cw_commands.proofs.Starting.{unput}
+use Rattle.cw_commands.proofs.Starting.{unput_one}
 use Rattle.cw_cli.proofs.Counted.{AreKept, are_numbers}
-use Rattle.cw_cli.proofs.Refused.{if_ok}
 use Rattle.cw_cli.proofs.Weaves.{IsMadeTable, IsWritten, is_sound, is_woven}
 use Rattle.cw_cli.proofs.verdict.woven.Goals as goal
 
@@ -40,7 +39,13 @@ returns-in_ok-marks-in-Ok-clause-due g c =
     let text = c.put_woven.ensures.text ∙ ap (λ (t : List ℕ). t ++ woven_text source (map mark_of marks) table (policy_of c.policy.result.now)) c.begin-writer.ensures.text in
     let stands = subst (λ (p : Policy). Stands bytes source (map mark_of marks) table (policy_of p)) c.policy.ensures text in
     let written : IsWritten whole source marks table bytes = record { stands = stands; cuts = λ none plain. ap cut text ∙ c.put_woven.ensures.cut none plain } in
-    let made : IsMadeTable (game_of game) table = record { is_lazy = c.in-Ok.ensures.lazy; ascends = c.in-Ok.ensures.ascends; few = c.in-Ok.ensures.few; good = c.in-Ok.ensures.good; lost = c.in-Ok.ensures.lost } in
+    let made : IsMadeTable (game_of game) table = record {
+      is_lazy = c.in-Ok.ensures.lazy;
+      ascends = c.in-Ok.ensures.ascends;
+      few = c.in-Ok.ensures.few;
+      good = c.in-Ok.ensures.good;
+      lost = c.in-Ok.ensures.lost;
+    } in
     let sound = is_sound (problem_of whole source file) (game_of game) table c.requires.is_game made.good c.requires.made.valid.few_limits in
     let kept : AreKept game c.args.solved.now c.make.result (table_rows table) = record {
       same = c.requires.solved;
@@ -61,7 +66,7 @@ returns-in_ok-marks-in-Ok-clause-due g c =
 
 pub returns-in-Err-TooManyRows-clause-due : goal.returns-in-Err-TooManyRows-clause-due
 returns-in-Err-TooManyRows-clause-due g c =
-    if_ok c.over.result c.over.ensures.due (λ o e. inl (inl (c.requires.kept, c.in-Err-TooManyRows.ensures.many c.in-Err-TooManyRows.field-0-is), e))
+    inl (inl (c.requires.kept, c.in-Err-TooManyRows.ensures.many c.in-Err-TooManyRows.field-0-is), c.over.ensures.due)
 
 pub returns-in-Err-TooManyRows-clause-puts : goal.returns-in-Err-TooManyRows-clause-puts
-returns-in-Err-TooManyRows-clause-puts g c = unput g.O.Sink.taken g.O.Sink.faults g.O.Sink.refused c.args.out.now c.over.result c.over.ensures.refused
+returns-in-Err-TooManyRows-clause-puts g c = unput_one g.O.Sink.taken g.O.Sink.faults g.O.Sink.refused c.args.out.now c.over.result c.over.ensures.refused

@@ -12,7 +12,11 @@ pub returns-in-Ok-clause-due : goal.returns-in-Ok-clause-due
 returns-in-Ok-clause-due g c =
     let whole = policy_of c.in-Ok.pair.policy in
     let file = file_of c.in-Ok.pair.checked.program in
-    if_ok c.fitted.result c.fitted.ensures.due (λ o d. inr (whole, file, c.in-Ok.ensures.read, subst (λ s. AfterPair (IsCounted c.fitted.new.numbers whole s file) s whole file (due_of o)) c.in-Ok.ensures.source d))
+    if_ok c.fitted.result c.fitted.ensures.due
+    (λ o d. inr (whole, file, c.in-Ok.ensures.read, subst (λ s. AfterPair (IsCounted c.fitted.new.numbers whole s file) s whole file (due_of o)) c.in-Ok.ensures.source d))
 
 pub returns-in-Err-clause-puts : goal.returns-in-Err-clause-puts
 returns-in-Err-clause-puts g c = unput g.O.Sink.taken g.O.Sink.faults g.O.Sink.refused c.args.out.now c.in-Err.answer c.in-Err.ensures.untold
+
+pub returns-in-Ok-clause-notes : goal.returns-in-Ok-clause-notes
+returns-in-Ok-clause-notes g c = rw c.in-Ok.ensures.notes at c.fitted.ensures.notes

@@ -30,7 +30,8 @@ judged-requires-clause-made g c =
     let file = file_of c.args.checked.now.program in
     let whole = policy_of c.args.policy.now in
     is_made c.in-Ok.game whole c.args.graph.now c.in-Ok.ensures.graph (ap policy_of c.in-Ok.ensures.policy) c.requires.valid
-    (record { source = source; file = file; runnable = runnable (names_of whole) source file c.requires.reads; drawn = c.requires.graph }) (leaves_main (names_of whole) whole source file c.args.graph.now c.requires.reads c.requires.graph) c.in-Ok.ensures.lists c.in-Ok.ensures.few c.in-Ok.ensures.pairs
+    (record { source = source; file = file; runnable = runnable (names_of whole) source file c.requires.reads; drawn = c.requires.graph })
+    (leaves_main (names_of whole) whole source file c.args.graph.now c.requires.reads c.requires.graph) c.in-Ok.ensures.lists c.in-Ok.ensures.few c.in-Ok.ensures.pairs
 
 pub judged-requires-clause-graph : goal.judged-requires-clause-graph
 judged-requires-clause-graph g c =
@@ -58,8 +59,10 @@ returns-in-Ok-clause-due g c =
     let policy_is = ap policy_of c.in-Ok.ensures.policy in
     let is_game = c.in-Ok.ensures.is_game source file c.requires.graph runs (read_programs_assign source file c.requires.reads) in
     let is : IsGame whole c.args.graph.now held = record { graph_is = c.in-Ok.ensures.graph; policy_is = policy_is; lists = c.in-Ok.ensures.lists } in
-    let made = is_made held whole c.args.graph.now c.in-Ok.ensures.graph policy_is c.requires.valid (record { source = source; file = file; runnable = runs; drawn = c.requires.graph }) (leaves_main (names_of whole) whole source file c.args.graph.now c.requires.reads c.requires.graph) c.in-Ok.ensures.lists c.in-Ok.ensures.few c.in-Ok.ensures.pairs in
-    if_ok c.judged.result c.judged.ensures.due (λ o d. inr (held, is, made, is_game, subst (λ (p : PlainPolicy). AfterGame (IsCounted c.judged.new.numbers p source file) (game_of held) (due_of o)) policy_is d))
+    let made = is_made held whole c.args.graph.now c.in-Ok.ensures.graph policy_is c.requires.valid (record { source = source; file = file; runnable = runs; drawn = c.requires.graph })
+    (leaves_main (names_of whole) whole source file c.args.graph.now c.requires.reads c.requires.graph) c.in-Ok.ensures.lists c.in-Ok.ensures.few c.in-Ok.ensures.pairs in
+    if_ok c.judged.result c.judged.ensures.due
+    (λ o d. inr (held, is, made, is_game, subst (λ (p : PlainPolicy). AfterGame (IsCounted c.judged.new.numbers p source file) (game_of held) (due_of o)) policy_is d))
 
 pub returns-in-Err-clause-due : goal.returns-in-Err-clause-due
 returns-in-Err-clause-due g c = if_ok c.game_refusal.result c.game_refusal.ensures.due (λ o p. inl (c.in-Err.fault, p.0, c.in-Err.ensures.cause, p.1))

@@ -1,0 +1,12 @@
+use Rattle.std.proofs.Common.{map}
+use Rattle.cw_commands.specs.Commands.{quantities_of}
+use Rattle.cw_commands.proofs.Starting.{unread_line}
+use Rattle.cw_cli.proofs.command.perform.Goals as goal
+
+pub returns-in-Err-clause-notes : goal.returns-in-Err-clause-notes
+returns-in-Err-clause-notes g c =
+    unread_line g.N.Sink.taken g.N.Sink.faults g.N.Sink.refused (g.F.Shelf.files c.args.shelf.now) (g.F.Shelf.faults c.args.shelf.now) (g.F.Shelf.faults c.read_files.new.shelf)
+    (quantities_of c.args.command) (map (λ name. name.now) c.args.names.now) c.args.note.now c.in-Err.ending (rw c.quantities.ensures at c.in-Err.ensures.unread)
+
+pub returns-in-Ok-due-clause-notes : goal.returns-in-Ok-due-clause-notes
+returns-in-Ok-due-clause-notes g c = c.deliver.ensures.line c.args.note.now c.due.new.note c.in-Ok-due.ensures.notes
