@@ -1,12 +1,13 @@
 -- How a sink follows the text when a piece comes, and what it has taken at the end.
-use Rattle.std.proofs.Common.{◌≡◌, ℕ, ◌+◌, ◌-◌, ◌<◌, ◌≤◌, true, false, length, length-append, take, drop, List, [], ◌++◌, Option, Some, None, Result, Ok, Err, sym, ap, ◌∙◌, append_assoc, arith}
+use Rattle.std.proofs.Common.{◌≡◌, ℕ, ◌+◌, ◌-◌, ◌<◌, ◌≤◌, ◌&&◌, Bool, true, false, not, eqb, ltb, refl, length, length-append, take, drop, List, [], ◌++◌, Option, Some, None, Result, Ok, Err, sym, ap, ◌∙◌, append_assoc, arith}
 use Rattle.std.specs.Option.{is_some}
 use Rattle.std.specs.Result.{result_err}
 use Rattle.std.proofs.Math.Seq.{take-add, drop-append_seam}
 use Rattle.std.proofs.lemmas.List.{append-nil, take_rest}
 use Rattle.cw_core.specs.Numerals.{hexadecimal}
+use Rattle.cw_core.specs.Ranges.{ranges, set_spelling}
 use Rattle.cw_core.specs.StateSet.{IsBelow}
-use Rattle.cw_core.proofs.SetTexts.{mask_length}
+use Rattle.cw_core.proofs.SetTexts.{mask_length, runs_length, spelled_by}
 use Rattle.cw_io.specs.Causes.{HasCause}
 use Rattle.cw_io.specs.Pieces.{Puts}
 use Rattle.cw_io.specs.declared.fault.SinkFault.{SinkFault}
@@ -43,12 +44,20 @@ took_on old new text waiting piece (Some fault) none took = cc
 pub last_piece : (waiting piece now all front : List ℕ) → now ≡ waiting ++ piece → all ≡ now → front ≡ waiting → take (length all - length front) (drop (length front) all) ≡ piece
 last_piece waiting piece now all front e f g = rw (g, f, e) (take_rest (waiting ++ piece) (length waiting) ∙ drop-append_seam waiting piece)
 
--- the spelling of a set for which there is more room than it needs
-pub short_with_mask : (waiting : List ℕ) (set : ℕ) → IsBelow 1024 set → length waiting + 258 < 4096 → length (waiting ++ hexadecimal set) < 4096
-short_with_mask waiting set below more =
-    let p = mask_length set below in
-    let q = length-append waiting (hexadecimal set) in
-    omega (arith, p, q, more)
+-- a spelling for which there is more room than any needs
+pub short_with : (waiting spelling : List ℕ) → length spelling ≤ 258 → length waiting + 258 < 4096 → length (waiting ++ spelling) < 4096
+short_with waiting spelling short more = let q = length-append waiting spelling in omega (arith, short, q, more)
+
+-- the spelling of a set in format 2 is no longer than its hexadecimal may be
+pub spelling_length : (set : ℕ) → IsBelow 1024 set → length (set_spelling set) ≤ 258
+spelling_length set below = by_test (not (eqb set 0) && ltb (length (ranges set)) (length (hexadecimal set))) refl
+  where
+    by_test : (t : Bool) → t ≡ (not (eqb set 0) && ltb (length (ranges set)) (length (hexadecimal set))) → length (set_spelling set) ≤ 258
+    by_test true is =
+        let less = runs_length (not (eqb set 0)) (length (ranges set)) (length (hexadecimal set)) is in
+        let mask = mask_length set below in
+        rw (spelled_by set true (ranges set) (hexadecimal set) refl refl is) (omega (arith, less, mask))
+    by_test false is = rw (spelled_by set false (ranges set) (hexadecimal set) refl refl is) (mask_length set below)
 
 -- at the end: what the sink took, and the put of all that waits
 pub took_last : (old mid new : Option (List ℕ)) (text waiting : List ℕ) (answer : Result (Unit {0}) SinkFault)

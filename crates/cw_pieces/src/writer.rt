@@ -59,7 +59,23 @@ impl<S: Sink> Writer<S> {
     }
 
     /// Appends a piece to the text. What is full of it is put.
+    #[inline]
     pub fn put(&mut self, piece: &[u8], out: &mut S)
+        requires follows { Follows S.taken S.faults S.refused self.old out.old }
+        ensures text { self.new.text ≡ self.old.text ++ piece.now }
+        ensures begun { self.new.begun ≡ self.old.begun }
+        ensures follows { Follows S.taken S.faults S.refused self.new out.new }
+    {
+        if !self.has_room_for(piece.len()) {
+            self.put_in_fronts(piece, out);
+            return;
+        }
+        self.said.more(piece);
+        self.line.put_text(piece);
+    }
+
+    /// Appends a piece, as much at a time as there is room for.
+    fn put_in_fronts(&mut self, piece: &[u8], out: &mut S)
         requires follows { Follows S.taken S.faults S.refused self.old out.old }
         ensures text { self.new.text ≡ self.old.text ++ piece.now }
         ensures begun { self.new.begun ≡ self.old.begun }
@@ -91,7 +107,7 @@ impl<S: Sink> Writer<S> {
         ensures begun { self.new.begun ≡ self.old.begun }
         ensures follows { Follows S.taken S.faults S.refused self.new out.new }
     {
-        if !self.has_room_for_mask() {
+        if !self.has_room_for(258) {
             self.put_mask_apart(set, out);
             return;
         }
@@ -101,12 +117,13 @@ impl<S: Sink> Writer<S> {
         self.said.more(&self.line.bytes()[from..]);
     }
 
-    /// Whether no fault came, and there is more room than the spelling of a set needs.
-    fn has_room_for_mask(&self) -> bool
-        ensures room { IsTrue result → length self.now.waiting + 258 < 4096 }
+    /// Whether no fault came, and there is more room than so many bytes need.
+    #[inline(always)]
+    fn has_room_for(&self, count: usize) -> bool
+        ensures room { IsTrue result → length self.now.waiting + count < 4096 }
         ensures none { IsTrue result → is_some self.now.fault ≡ false }
     {
-        self.fault.is_none() && self.line.room() > 258
+        self.fault.is_none() && count < self.line.room()
     }
 
     /// Appends the same where the line may be too short for it.
@@ -124,6 +141,23 @@ impl<S: Sink> Writer<S> {
     /// Appends a set as format 2 spells it: as ranges, where that text is shorter than the hexadecimal, and as
     /// hexadecimal otherwise.
     pub fn put_ranges(&mut self, set: &StateSet, out: &mut S)
+        requires follows { Follows S.taken S.faults S.refused self.old out.old }
+        ensures text { self.new.text ≡ self.old.text ++ set_spelling set.now }
+        ensures begun { self.new.begun ≡ self.old.begun }
+        ensures follows { Follows S.taken S.faults S.refused self.new out.new }
+    {
+        if !self.has_room_for(258) {
+            self.put_ranges_apart(set, out);
+            return;
+        }
+        set.members_are_below_1024();
+        let from = self.line.bytes().len();
+        self.line.put_ranges(set);
+        self.said.more(&self.line.bytes()[from..]);
+    }
+
+    /// Appends the same where the line may be too short for it.
+    fn put_ranges_apart(&mut self, set: &StateSet, out: &mut S)
         requires follows { Follows S.taken S.faults S.refused self.old out.old }
         ensures text { self.new.text ≡ self.old.text ++ set_spelling set.now }
         ensures begun { self.new.begun ≡ self.old.begun }

@@ -1,6 +1,6 @@
 use Rattle.std.proofs.Common.{◌≡◌, length, take, ◌++◌, ◌-◌, ◌≤◌}
 use Rattle.cw_pieces.specs.Written.{Follows}
-use Rattle.cw_pieces.proofs.writer.Writer.put.Given as goal
+use Rattle.cw_pieces.proofs.writer.Writer.put_in_fronts.Given as goal
 
 -- the text has gone on with the front of the piece
 abbrev pub invariant-fronts : goal.invariant-fronts

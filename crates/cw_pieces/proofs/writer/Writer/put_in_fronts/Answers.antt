@@ -1,6 +1,6 @@
 use Rattle.std.proofs.Common.{◌≤◌, ◌∙◌, arith}
 use Rattle.cw_pieces.proofs.Following.{text_on}
-use Rattle.cw_pieces.proofs.writer.Writer.put.Goals as goal
+use Rattle.cw_pieces.proofs.writer.Writer.put_in_fronts.Goals as goal
 
 pub fronts-preserved : goal.fronts-preserved
 fronts-preserved g c =
