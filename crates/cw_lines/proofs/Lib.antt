@@ -1,4 +1,5 @@
 pub mod Cuts
 pub mod Fields
 pub mod Free
+pub mod Names
 pub mod OneSet

@@ -28,7 +28,8 @@ use Rattle.cw_states.specs.States.{Lists, AreLists, lists_of}
 use Rattle.cw_product.specs.Product.{Held, game_of}
 use Rattle.cw_product.specs.Uses.{uses_of}
 use Rattle.cw_product.proofs.Holding.{game_is}
-use Rattle.cw_tapes.specs.Tapes.{IsIn, IsWeavers}
+use Rattle.cw_lines.specs.Moves.{IsWeavers}
+use Rattle.cw_tapes.specs.Tapes.{IsIn}
 use Rattle.cw_trace.specs.Traces.{Names}
 use Rattle.cw_play.specs.declared.end.PlayEnd.{PlayEnd}
 use Rattle.cw_play.specs.Played.{IsPlayed}

@@ -23,7 +23,8 @@ use Rattle.cw_game.proofs.Goods.{taken, rows_hold, parts, good_strategy_closed}
 use Rattle.cw_least.specs.Backs.{back_cmp, Ascends}
 use Rattle.cw_least.specs.Strategies.{backs_in, rows_of}
 use Rattle.cw_product.specs.Product.{Held, game_of}
-use Rattle.cw_strategies.specs.StrategyText.{row_count, rows_in, AreBacks, Fits, FitsHow, FitsRow, IsEnvironments}
+use Rattle.cw_lines.specs.Moves.{IsEnvironments}
+use Rattle.cw_strategies.specs.StrategyText.{row_count, rows_in, AreBacks, Fits, FitsHow, FitsRow}
 use Rattle.cw_spelled.specs.Spelled.{IsGameMade, StrategiesHaveTexts}
 use Rattle.cw_spelled.proofs.Bounds.{few_states, state_small, position_small, set_within}
 

@@ -1,9 +1,10 @@
 -- What a row does and its words.
 use Rattle.std.proofs.Common.{◌≡◌, ℕ, cond, List, [], ◌∷◌, length, refl, sym, ap, ◌∙◌, arith}
-use Rattle.std.specs.Prelude.{Option, None, Some, codes, bytes_eq}
+use Rattle.std.specs.Prelude.{None, Some, Option, codes, bytes_eq}
 use Rattle.cw_certs.specs.declared.moves.Move.TheVariants.{Skip, Try, Grant, Refuse, On, Left, Right, Opened, Failed, Stop}
 use Rattle.cw_certs.specs.Strategies.{How, Bad, Out, Both, Go, Into}
 use Rattle.cw_lines.specs.Lines.{Reads}
+use Rattle.cw_lines.proofs.Names.{move_of}
 use Rattle.cw_strategies.specs.declared.kind.Kind.{Kind}
 use Rattle.cw_strategies.specs.declared.kind.Kind.TheVariants as kind
 use Rattle.cw_strategies.specs.StrategyText.{how_words, FitsHow}
@@ -24,40 +25,30 @@ fits_kind (Go by row) fits = fits.0
 fits_kind (Into callee backs) fits = tt
 
 -- the kind of a word
-kind_from : List ℕ → Option Kind
+kind_from : List ℕ → Kind
 kind_from word =
-    cond (bytes_eq word (codes "bad")) (Some kind.Bad)
-    (cond (bytes_eq word (codes "out")) (Some kind.Out) (cond (bytes_eq word (codes "both")) (Some kind.Both) (cond (bytes_eq word (codes "into")) (Some kind.Into)
-    (cond (bytes_eq word (codes "grant")) (Some (kind.Go Grant)) (cond (bytes_eq word (codes "refuse")) (Some (kind.Go Refuse)) (cond (bytes_eq word (codes "on")) (Some (kind.Go On))
-    (cond (bytes_eq word (codes "left")) (Some (kind.Go Left))
-    (cond (bytes_eq word (codes "right")) (Some (kind.Go Right)) (cond (bytes_eq word (codes "opened")) (Some (kind.Go Opened)) (Some (kind.Go Failed)))))))))))
+    cond (bytes_eq word (codes "bad")) kind.Bad (cond (bytes_eq word (codes "out")) kind.Out (cond (bytes_eq word (codes "both")) kind.Both
+    (cond (bytes_eq word (codes "into")) kind.Into (kind.Go (move_of word)))))
 
-kind_back : (k : Kind) → FitsKind k → kind_from (kind_word k) ≡ Some k
-unfolding kind_from
-kind_back kind.Bad fits = refl
-kind_back kind.Out fits = refl
-kind_back kind.Both fits = refl
-kind_back kind.Into fits = refl
-kind_back (kind.Go Grant) fits = refl
-kind_back (kind.Go Refuse) fits = refl
-kind_back (kind.Go On) fits = refl
-kind_back (kind.Go Left) fits = refl
-kind_back (kind.Go Right) fits = refl
-kind_back (kind.Go Opened) fits = refl
-kind_back (kind.Go Failed) fits = refl
-kind_back (kind.Go Skip) fits = absurd fits
-kind_back (kind.Go Try) fits = absurd fits
-kind_back (kind.Go Stop) fits = absurd fits
+kind_back : (k : Kind) → kind_from (kind_word k) ≡ k
+unfolding kind_from move_of
+kind_back kind.Bad = refl
+kind_back kind.Out = refl
+kind_back kind.Both = refl
+kind_back kind.Into = refl
+kind_back (kind.Go Skip) = refl
+kind_back (kind.Go Try) = refl
+kind_back (kind.Go Grant) = refl
+kind_back (kind.Go Refuse) = refl
+kind_back (kind.Go On) = refl
+kind_back (kind.Go Left) = refl
+kind_back (kind.Go Right) = refl
+kind_back (kind.Go Opened) = refl
+kind_back (kind.Go Failed) = refl
+kind_back (kind.Go Stop) = refl
 
-some_injective : (a b : Kind) → ◌≡◌ {A = Option Kind} (Some a) (Some b) → a ≡ b
-some_injective a b e = ap (or_else a) e
-  where
-    or_else : Kind → Option Kind → Kind
-    or_else k None = k
-    or_else k (Some other) = other
-
-pub one_kind : (a b : Kind) → FitsKind a → FitsKind b → kind_word a ≡ kind_word b → a ≡ b
-one_kind a b fits also e = some_injective a b (sym (kind_back a fits) ∙ ap kind_from e ∙ kind_back b also)
+pub one_kind : (a b : Kind) → kind_word a ≡ kind_word b → a ≡ b
+one_kind a b e = sym (kind_back a) ∙ ap kind_from e ∙ kind_back b
 
 first : List (List ℕ) → List ℕ
 first [] = []
@@ -83,7 +74,7 @@ of_kind whole word rest k None e named reads = record {
   some = tt;
   none = λ how fits is.
       let p = first_word how word rest (is ∙ e) in
-      reads.none how (record { fits = fits; kind = one_kind (kind_of_how how) k (fits_kind how fits) named.some.0 (p.0 ∙ sym named.some.1) }) p.1;
+      reads.none how (record { fits = fits; kind = one_kind (kind_of_how how) k (p.0 ∙ sym named.some.1) }) p.1;
 }
 of_kind whole word rest k (Some how) e named reads = record {
   some = (

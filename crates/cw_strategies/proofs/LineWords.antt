@@ -11,9 +11,10 @@ use Rattle.cw_certs.specs.declared.moves.Move.{Move}
 use Rattle.cw_certs.specs.declared.moves.Move.TheVariants.{Skip, Try, Grant, Refuse, On, Left, Right, Opened, Failed, Stop}
 use Rattle.cw_certs.specs.Strategies.{How, Bad, Out, Both, Go, Into, Row}
 use Rattle.cw_lines.specs.Lines.{IsFree, line, joined, words_of, set_text}
+use Rattle.cw_lines.specs.Moves.{move_name, IsEnvironments}
 use Rattle.cw_lines.proofs.Cuts.{words-joined, joined-words}
 use Rattle.cw_lines.proofs.Free.{free_from_test, one_line, no_line, decimal_free, set_text_free, joined_free}
-use Rattle.cw_strategies.specs.StrategyText.{move_word, back_word, how_words, row_words, head_line, states_line, IsEnvironments, AreBacks, FitsHow, FitsRow}
+use Rattle.cw_strategies.specs.StrategyText.{back_word, how_words, row_words, head_line, states_line, AreBacks, FitsHow, FitsRow}
 
 -- a byte that isn't in any word of a line
 pub record Separates (mark : ℕ) : Type 0 where
@@ -35,7 +36,7 @@ name_free mark s name all = free_from_test is_spelling_byte mark name s.letter a
 pub number_free : (mark : ℕ) → Separates mark → (n : ℕ) → n < 2 ^ 32 → IsFree mark (decimal n)
 number_free mark s n small = decimal_free mark n s.digit (omega (arith, small))
 
-pub move_free : (mark : ℕ) → Separates mark → (by : Move) → IsEnvironments by → IsFree mark (move_word by)
+pub move_free : (mark : ℕ) → Separates mark → (by : Move) → IsEnvironments by → IsFree mark (move_name by)
 move_free mark s Grant fits = name_free mark s (codes "grant") refl
 move_free mark s Refuse fits = name_free mark s (codes "refuse") refl
 move_free mark s On fits = name_free mark s (codes "on") refl
@@ -67,7 +68,7 @@ how_free mark s Out fits = one mark (codes "out") (name_free mark s (codes "out"
 how_free mark s (Both skip tried) fits =
     All-cons (IsFree mark) (codes "both") (decimal skip ∷ decimal tried ∷ []) (name_free mark s (codes "both") refl)
     (two mark (decimal skip) (decimal tried) (number_free mark s skip fits.0) (number_free mark s tried fits.1))
-how_free mark s (Go by row) fits = two mark (move_word by) (decimal row) (move_free mark s by fits.0) (number_free mark s row fits.1)
+how_free mark s (Go by row) fits = two mark (move_name by) (decimal row) (move_free mark s by fits.0) (number_free mark s row fits.1)
 how_free mark s (Into callee backs) fits =
     All-cons (IsFree mark) (codes "into") (decimal callee ∷ map back_word backs) (name_free mark s (codes "into") refl)
     (All-cons (IsFree mark) (decimal callee) (map back_word backs) (number_free mark s callee fits.0) (backs_free mark s 0 backs fits.1))

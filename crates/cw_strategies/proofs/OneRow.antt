@@ -13,7 +13,7 @@ use Rattle.cw_strategies.specs.StrategyText.{back_word, how_words, row_words, st
 use Rattle.cw_strategies.specs.Words.{kind_of_how, kind_word, rest_words, row_text, FitsNamed}
 use Rattle.cw_strategies.specs.Faults.{HasRow}
 use Rattle.cw_strategies.proofs.Backs.{one_back}
-use Rattle.cw_strategies.proofs.Hows.{one_kind, fits_kind, first_word, how_words-kind}
+use Rattle.cw_strategies.proofs.Hows.{one_kind, first_word, how_words-kind}
 use Rattle.cw_strategies.proofs.LineWords.{space, lf, states_free, states_words, is_states_line, line_end}
 use Rattle.cw_strategies.proofs.RowLines.{words_of_row, line_of_row, line_of_end, row_text_free, end_free}
 
@@ -76,7 +76,7 @@ one_rest (Into c bs) (Into d ds) fits also k e = same_into c d bs ds (one_number
 one_how : (a b : How) → FitsHow a → FitsHow b → how_words a ≡ how_words b → a ≡ b
 one_how a b fits also e =
     let p = first_word a (kind_word (kind_of_how b)) (rest_words b) (e ∙ how_words-kind b) in
-    one_rest a b fits also (one_kind (kind_of_how a) (kind_of_how b) (fits_kind a fits) (fits_kind b also) p.0) p.1
+    one_rest a b fits also (one_kind (kind_of_how a) (kind_of_how b) p.0) p.1
 
 same_row : (a b : Row) → a.pos ≡ b.pos → a.state ≡ b.state → a.aim ≡ b.aim → a.how ≡ b.how → a ≡ b
 same_row a b e f g h = rw (e, f, g, h) refl

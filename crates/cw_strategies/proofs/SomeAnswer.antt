@@ -13,6 +13,8 @@ use Rattle.cw_certs.specs.Strategies.{How, Bad, Out, Both, Go, Into, Row, Strate
 use Rattle.cw_lines.specs.declared.fault.TextFault.{TextFault}
 use Rattle.cw_lines.specs.declared.fault.TextFault.TheVariants.{Line, Order, Limit}
 use Rattle.cw_lines.specs.Lines.{IsFree, words_of, set_text, IsSetIn, Reads}
+use Rattle.cw_lines.specs.Moves.{move_name, IsEnvironments}
+use Rattle.cw_lines.proofs.Names.{move_of, told}
 use Rattle.cw_strategies.specs.declared.kind.Kind.{Kind}
 use Rattle.cw_strategies.specs.declared.kind.Kind.TheVariants as kind
 use Rattle.cw_strategies.specs.StrategyText.{head_line, states_line, end_line, back_word, how_words, rows_in, row_count, AreBacks, FitsHow, Fits}
@@ -181,6 +183,32 @@ backs_readable low (w ∷ words) = by_read (back_readable w).0 (back_readable w)
 
 -- ---- what a row does
 
+is_environments : (by : Move) → IsEnvironments by ⊎ (IsEnvironments by → ⊥)
+is_environments Skip = inr (λ h. h)
+is_environments Try = inr (λ h. h)
+is_environments StopMove = inr (λ h. h)
+is_environments Grant = inl tt
+is_environments Refuse = inl tt
+is_environments On = inl tt
+is_environments Left = inl tt
+is_environments Right = inl tt
+is_environments Opened = inl tt
+is_environments Failed = inl tt
+
+-- only the move that a name tells can have it
+move_readable : (word : List ℕ) → Readable IsEnvironments move_name word
+move_readable word =
+    elim (same_text (move_name (move_of word)) word) [
+      | inl e ↦ elim (is_environments (move_of word)) [
+        | inl fits ↦ (Some (move_of word), record { some = (fits, e); none = tt })
+        | inr not ↦ (None, record { some = tt; none = λ by fits is. not (subst IsEnvironments (one by is) fits) })
+      ]
+      | inr differs ↦ (None, record { some = tt; none = λ by fits is. differs (ap move_name (sym (one by is)) ∙ is) })
+    ]
+  where
+    one : (by : Move) → move_name by ≡ word → by ≡ move_of word
+    one by is = sym (told by) ∙ ap move_of is
+
 kind_readable : (word : List ℕ) → Readable FitsKind kind_word word
 kind_readable word =
     elim (same_text (codes "bad") word) [
@@ -194,36 +222,7 @@ kind_readable word =
                   | inr both ↦
                       elim (same_text (codes "into") word) [
                         | inl e ↦ found kind.Into tt e
-                        | inr into ↦
-                            elim (same_text (codes "grant") word) [
-                              | inl e ↦ found (kind.Go Grant) tt e
-                              | inr grant ↦
-                                  elim (same_text (codes "refuse") word) [
-                                    | inl e ↦ found (kind.Go Refuse) tt e
-                                    | inr refuse ↦
-                                        elim (same_text (codes "on") word) [
-                                          | inl e ↦ found (kind.Go On) tt e
-                                          | inr on ↦
-                                              elim (same_text (codes "left") word) [
-                                                | inl e ↦ found (kind.Go Left) tt e
-                                                | inr left ↦
-                                                    elim (same_text (codes "right") word) [
-                                                      | inl e ↦ found (kind.Go Right) tt e
-                                                      | inr right ↦
-                                                          elim (same_text (codes "opened") word) [
-                                                            | inl e ↦ found (kind.Go Opened) tt e
-                                                            | inr opened ↦
-                                                                elim (same_text (codes "failed") word) [
-                                                                  | inl e ↦ found (kind.Go Failed) tt e
-                                                                  | inr failed ↦
-                                                                      (None, record { some = tt; none = missing bad out both into grant refuse on left right opened failed })
-                                                                ]
-                                                          ]
-                                                    ]
-                                              ]
-                                        ]
-                                  ]
-                            ]
+                        | inr into ↦ by_move bad out both into (move_readable word).0 (move_readable word).1
                       ]
                 ]
           ]
@@ -232,23 +231,18 @@ kind_readable word =
     found : (k : Kind) → FitsKind k → kind_word k ≡ word → Readable FitsKind kind_word word
     found k fits e = (Some k, record { some = (fits, e); none = tt })
 
-    missing : codes "bad" ≢ word → codes "out" ≢ word → codes "both" ≢ word → codes "into" ≢ word → codes "grant" ≢ word → codes "refuse" ≢ word → codes "on" ≢ word
-        → codes "left" ≢ word → codes "right" ≢ word → codes "opened" ≢ word → codes "failed" ≢ word
+    missing : codes "bad" ≢ word → codes "out" ≢ word → codes "both" ≢ word → codes "into" ≢ word → ((by : Move) → IsEnvironments by → move_name by ≢ word)
         → (k : Kind) → FitsKind k → kind_word k ≢ word
-    missing bad out both into grant refuse on left right opened failed kind.Bad fits = bad
-    missing bad out both into grant refuse on left right opened failed kind.Out fits = out
-    missing bad out both into grant refuse on left right opened failed kind.Both fits = both
-    missing bad out both into grant refuse on left right opened failed kind.Into fits = into
-    missing bad out both into grant refuse on left right opened failed (kind.Go Grant) fits = grant
-    missing bad out both into grant refuse on left right opened failed (kind.Go Refuse) fits = refuse
-    missing bad out both into grant refuse on left right opened failed (kind.Go On) fits = on
-    missing bad out both into grant refuse on left right opened failed (kind.Go Left) fits = left
-    missing bad out both into grant refuse on left right opened failed (kind.Go Right) fits = right
-    missing bad out both into grant refuse on left right opened failed (kind.Go Opened) fits = opened
-    missing bad out both into grant refuse on left right opened failed (kind.Go Failed) fits = failed
-    missing bad out both into grant refuse on left right opened failed (kind.Go Skip) fits = absurd fits
-    missing bad out both into grant refuse on left right opened failed (kind.Go Try) fits = absurd fits
-    missing bad out both into grant refuse on left right opened failed (kind.Go StopMove) fits = absurd fits
+    missing bad out both into go kind.Bad fits = bad
+    missing bad out both into go kind.Out fits = out
+    missing bad out both into go kind.Both fits = both
+    missing bad out both into go kind.Into fits = into
+    missing bad out both into go (kind.Go by) fits = go by fits
+
+    by_move : codes "bad" ≢ word → codes "out" ≢ word → codes "both" ≢ word → codes "into" ≢ word → (r : Option Move) → Reads IsEnvironments move_name word r
+        → Readable FitsKind kind_word word
+    by_move bad out both into (Some by) reads = found (kind.Go by) reads.some.0 reads.some.1
+    by_move bad out both into None reads = (None, record { some = tt; none = missing bad out both into reads.none })
 
 -- the other words of what is of a kind
 only_bad : (how : How) → kind_of_how how ≡ kind.Bad → rest_words how ≡ []

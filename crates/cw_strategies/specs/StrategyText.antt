@@ -2,23 +2,9 @@
 use Rattle.std.specs.Prelude.{◌≡◌, ℕ, ◌+◌, ◌^◌, ◌<◌, ◌≤◌, List, [], ◌∷◌, ◌++◌, map, length, codes}
 use Rattle.std.specs.Fmt.{decimal}
 use Rattle.std.specs.List.{All}
-use Rattle.cw_certs.specs.declared.moves.Move.{Move}
-use Rattle.cw_certs.specs.declared.moves.Move.TheVariants.{Skip, Try, Grant, Refuse, On, Left, Right, Opened, Failed, Stop}
 use Rattle.cw_certs.specs.Strategies.{How, Bad, Out, Both, Go, Into, Row, Strategy}
 use Rattle.cw_lines.specs.Lines.{line, joined, set_text, IsSetIn}
-
--- A move of the environment by its name. The weaver's moves have none, since no row makes one.
-abbrev pub move_word : Move → List ℕ
-move_word Grant = codes "grant"
-move_word Refuse = codes "refuse"
-move_word On = codes "on"
-move_word Left = codes "left"
-move_word Right = codes "right"
-move_word Opened = codes "opened"
-move_word Failed = codes "failed"
-move_word Skip = []
-move_word Try = []
-move_word Stop = []
+use Rattle.cw_lines.specs.Moves.{move_name, IsEnvironments}
 
 -- `EXIT=ROW`
 abbrev pub back_word : ℕ × ℕ → List ℕ
@@ -28,7 +14,7 @@ abbrev pub how_words : How → List (List ℕ)
 how_words Bad = codes "bad" ∷ []
 how_words Out = codes "out" ∷ []
 how_words (Both skip tried) = codes "both" ∷ decimal skip ∷ decimal tried ∷ []
-how_words (Go by row) = move_word by ∷ decimal row ∷ []
+how_words (Go by row) = move_name by ∷ decimal row ∷ []
 how_words (Into callee backs) = codes "into" ∷ decimal callee ∷ map back_word backs
 
 -- `NUMBER POSITION STATE AIM HOW`
@@ -55,13 +41,6 @@ row_lines format number (r ∷ rows) = row_line format number r ++ row_lines for
 
 unfoldable pub strategy_text : (format : ℕ) → Strategy → List ℕ
 strategy_text format s = head_line format ++ (states_line s.states ++ (row_lines format 0 s.rows ++ end_line))
-
--- a move of the environment
-abbrev pub IsEnvironments : Move → Type 0
-IsEnvironments Skip = ⊥
-IsEnvironments Try = ⊥
-IsEnvironments Stop = ⊥
-IsEnvironments by = Unit {0}
 
 -- The exit states ascend strictly, from a number on. Each number fits its field, here and below: a state 16 bits, a row 32.
 abbrev pub AreBacks : (low : ℕ) → List (ℕ × ℕ) → Type 0

@@ -5,9 +5,10 @@ use Rattle.std.specs.Fmt.{decimal}
 use Rattle.cw_core.specs.declared.ids.StateId.{StateId}
 use Rattle.cw_certs.specs.Strategies.{How, Bad, Out, Both, Go, Into, Row}
 use Rattle.cw_lines.specs.Lines.{joined, line, set_text}
+use Rattle.cw_lines.specs.Moves.{move_name, IsEnvironments}
 use Rattle.cw_strategies.specs.declared.kind.Kind.{Kind}
 use Rattle.cw_strategies.specs.declared.kind.Kind.TheVariants as kind
-use Rattle.cw_strategies.specs.StrategyText.{back_word, how_words, move_word, row_words, FitsHow, FitsRow, IsEnvironments}
+use Rattle.cw_strategies.specs.StrategyText.{back_word, how_words, row_words, FitsHow, FitsRow}
 
 -- what a row does without its numbers, its first word, and the others
 abbrev pub kind_of_how : How → Kind
@@ -21,7 +22,7 @@ abbrev pub kind_word : Kind → List ℕ
 kind_word kind.Bad = codes "bad"
 kind_word kind.Out = codes "out"
 kind_word kind.Both = codes "both"
-kind_word (kind.Go by) = move_word by
+kind_word (kind.Go by) = move_name by
 kind_word kind.Into = codes "into"
 
 abbrev pub rest_words : How → List (List ℕ)

@@ -4,17 +4,18 @@ ghost use Rattle.std.specs.Prelude.{◌≡◌, ◌++◌, ◌∷◌, [], codes, m
 ghost use Rattle.std.specs.Fmt.{decimal};
 ghost use Rattle.std.specs.List.{flat_map};
 ghost use Rattle.cw_lines.specs.Lines.{set_text};
+ghost use Rattle.cw_lines.specs.Moves.{move_name};
 ghost use Rattle.cw_certs.specs.Strategies.{how_of, row_of, strategy_of};
 ghost use Rattle.cw_io.specs.Causes.{HasCause};
 ghost use Rattle.cw_io.specs.Pieces.{Puts};
 ghost use Rattle.cw_pieces.specs.Written.{Follows};
-ghost use Rattle.cw_strategies.specs.StrategyText.{back_word, how_words, move_word, row_lines, strategy_text};
+ghost use Rattle.cw_strategies.specs.StrategyText.{back_word, how_words, row_lines, strategy_text};
 ghost use Rattle.cw_strategies.specs.Words.{backs_of, put_line};
 
 use cw_certs::{EnvCert, EnvRow, How, Move};
 use cw_core::StateId;
 use cw_io::{Sink, SinkFault};
-use cw_lines::put_set;
+use cw_lines::{move_name, put_set};
 use cw_pieces::Writer;
 
 /// Puts the text of a strategy, in a text of this format, piece by piece. After a fault of the sink a front of it is put, and
@@ -116,7 +117,7 @@ fn put_both<S: Sink>(skip: u32, tried: u32, writer: &mut Writer<S>, out: &mut S)
 /// Appends ` MOVE ROW`.
 fn put_go<S: Sink>(by: Move, row: u32, writer: &mut Writer<S>, out: &mut S)
     requires follows { Follows S.taken S.faults S.refused writer.old out.old }
-    ensures text { writer.new.text ≡ writer.old.text ++ flat_map (λ word. 32 ∷ word) (move_word by ∷ decimal row ∷ []) }
+    ensures text { writer.new.text ≡ writer.old.text ++ flat_map (λ word. 32 ∷ word) (move_name by ∷ decimal row ∷ []) }
     ensures begun { writer.new.begun ≡ writer.old.begun }
     ensures follows { Follows S.taken S.faults S.refused writer.new out.new }
 {
@@ -161,20 +162,4 @@ fn put_back<S: Sink>(back: (StateId, u32), writer: &mut Writer<S>, out: &mut S)
     writer.put_number(u64::from(back.0.0), out);
     writer.put(b"=", out);
     writer.put_number(u64::from(back.1), out);
-}
-
-/// A move of the environment by its name. The weaver's moves have none.
-fn move_name(by: Move) -> &'static str
-    ensures { result.now ≡ move_word by }
-{
-    match by {
-        Move::Grant => "grant",
-        Move::Refuse => "refuse",
-        Move::On => "on",
-        Move::Left => "left",
-        Move::Right => "right",
-        Move::Opened => "opened",
-        Move::Failed => "failed",
-        Move::Skip | Move::Try | Move::Stop => "",
-    }
 }

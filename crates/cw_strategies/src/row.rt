@@ -4,7 +4,8 @@ ghost use Rattle.std.specs.Prelude.{◌≡◌, ◌≢◌, ℕ, ◌^◌, ◌<◌,
 ghost use Rattle.std.specs.Fmt.{decimal};
 ghost use Rattle.cw_certs.specs.Strategies.{how_of, row_of};
 ghost use Rattle.cw_lines.specs.Lines.{joined, set_text, IsSetIn, Reads};
-ghost use Rattle.cw_strategies.specs.StrategyText.{back_word, how_words, AreBacks, FitsHow, IsEnvironments};
+ghost use Rattle.cw_lines.specs.Moves.{IsEnvironments};
+ghost use Rattle.cw_strategies.specs.StrategyText.{back_word, how_words, AreBacks, FitsHow};
 ghost use Rattle.cw_strategies.specs.Words.{backs_of, rest_words, row_text, FitsBack, FitsKind, FitsNamed, IsOf};
 ghost use Rattle.cw_strategies.specs.declared.kind.Kind.TheVariants as kind;
 

@@ -6,7 +6,8 @@ use Rattle.std.proofs.Math.Seq.{drop-cons}
 use Rattle.std.proofs.lemmas.List.Elements.{All-append, All-cons, All-nil, Contains-get_or}
 use Rattle.std.proofs.lemmas.Grind.{flat_map-append}
 use Rattle.cw_certs.specs.declared.moves.Move.{Move}
-use Rattle.cw_tapes.specs.Tapes.{words, lines, move_name, IsIn, AreNames, IsOther, IsFirstOther, IsTape, IsFault}
+use Rattle.cw_lines.specs.Moves.{move_name}
+use Rattle.cw_tapes.specs.Tapes.{words, lines, IsIn, AreNames, IsOther, IsFirstOther, IsTape, IsFault}
 use Rattle.cw_tapes.specs.Lines.{Adds, HasOther, IsLineFault}
 use Rattle.cw_lines.specs.declared.fault.TextFault.{TextFault}
 use Rattle.cw_lines.specs.declared.fault.TextFault.TheVariants as fault

@@ -5,7 +5,8 @@ use Rattle.std.specs.List.{flat_map, slice_split, onto_first}
 use Rattle.std.proofs.lemmas.List.{length-map}
 use Rattle.std.proofs.lemmas.List.Sums.{length-filter, count_by-le-length}
 use Rattle.cw_certs.specs.declared.moves.Move.{Move}
-use Rattle.cw_tapes.specs.Tapes.{is_white, lines, move_name, words, IsTape}
+use Rattle.cw_lines.specs.Moves.{move_name}
+use Rattle.cw_tapes.specs.Tapes.{is_white, lines, words, IsTape}
 
 -- the bytes of these parts, and one for each
 abbrev room : List (List ℕ) → ℕ

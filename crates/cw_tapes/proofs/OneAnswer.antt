@@ -1,34 +1,14 @@
 -- A text is the tape of one list of moves at most, or has one first line with another word, and not both.
-use Rattle.std.proofs.Common.{◌≡◌, ℕ, zero, suc, ◌<◌, ◌≤◌, List, [], ◌∷◌, ◌++◌, map, length, Bool, cond, Ok, Err, refl, sym, ap, ap₂, ◌∙◌, subst, ⊎_elim, arith}
-use Rattle.std.specs.Prelude.{Contains, codes}
+use Rattle.std.proofs.Common.{◌≡◌, ℕ, zero, suc, ◌<◌, ◌≤◌, List, [], ◌∷◌, ◌++◌, map, length, Bool, Ok, Err, refl, sym, ap, ap₂, ◌∙◌, subst, ⊎_elim, arith}
+use Rattle.std.specs.Prelude.{Contains}
 use Rattle.std.specs.List.{All, flat_map}
-use Rattle.std.specs.Str.{bytes_eq}
 use Rattle.std.proofs.lemmas.Bool.{cases_lt}
 use Rattle.std.proofs.lemmas.List.Elements.{All-head, All-tail, Contains-append_left, Contains-append_right}
 use Rattle.cw_certs.specs.declared.moves.Move.{Move}
-use Rattle.cw_certs.specs.declared.moves.Move.TheVariants.{Skip, Try, Grant, Refuse, On, Left, Right, Opened, Failed, Stop}
 use Rattle.cw_lines.specs.declared.fault.TextFault.TheVariants as fault
-use Rattle.cw_tapes.specs.Tapes.{words, lines, move_name, IsIn, AreNames, IsTape, IsOther, IsFirstOther, OneAnswer}
-
--- Names tell their moves.
-move_of : List ℕ → Move
-move_of w =
-    cond (bytes_eq w (codes "skip")) Skip (cond (bytes_eq w (codes "try")) Try (cond (bytes_eq w (codes "grant")) Grant
-    (cond (bytes_eq w (codes "refuse")) Refuse (cond (bytes_eq w (codes "on")) On (cond (bytes_eq w (codes "left")) Left
-    (cond (bytes_eq w (codes "right")) Right (cond (bytes_eq w (codes "opened")) Opened (cond (bytes_eq w (codes "failed")) Failed Stop))))))))
-
-told : (by : Move) → move_of (move_name by) ≡ by
-unfolding move_of
-told Skip = refl
-told Try = refl
-told Grant = refl
-told Refuse = refl
-told On = refl
-told Left = refl
-told Right = refl
-told Opened = refl
-told Failed = refl
-told Stop = refl
+use Rattle.cw_lines.specs.Moves.{move_name}
+use Rattle.cw_lines.proofs.Names.{move_of, told}
+use Rattle.cw_tapes.specs.Tapes.{words, lines, IsIn, AreNames, IsTape, IsOther, IsFirstOther, OneAnswer}
 
 all_told : (moves : List Move) → map move_of (map move_name moves) ≡ moves
 all_told [] = refl

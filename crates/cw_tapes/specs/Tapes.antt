@@ -1,9 +1,9 @@
 -- Tapes: the moves of one party as a text, words with white space between.
-use Rattle.std.specs.Prelude.{◌≡◌, ◌≢◌, ℕ, ◌+◌, ◌==◌, nat_le, List, [], ◌∷◌, ◌++◌, map, filter, length, Bool, true, false, not, ◌&&◌, ◌||◌, codes, Contains, Result, Ok, Err}
+use Rattle.std.specs.Prelude.{◌≡◌, ◌≢◌, ℕ, ◌+◌, ◌==◌, nat_le, List, ◌∷◌, ◌++◌, map, filter, length, Bool, true, false, not, ◌&&◌, ◌||◌, Contains, Result, Ok, Err}
 use Rattle.std.specs.List.{All, slice_split, flat_map}
 use Rattle.cw_certs.specs.declared.moves.Move.{Move}
-use Rattle.cw_certs.specs.declared.moves.Move.TheVariants.{Skip, Try, Grant, Refuse, On, Left, Right, Opened, Failed, Stop}
 use Rattle.cw_lines.specs.Lines.{words_of}
+use Rattle.cw_lines.specs.Moves.{move_name, IsWeavers, IsEnvironments}
 use Rattle.cw_lines.specs.declared.fault.TextFault.{TextFault}
 use Rattle.cw_lines.specs.declared.fault.TextFault.TheVariants as fault
 
@@ -18,31 +18,6 @@ lines text = words_of 10 text
 -- the words of a line: what stands between its white space and isn't empty
 abbrev pub words : List ℕ → List (List ℕ)
 words line = filter (λ word. not (length word == 0)) (slice_split is_white line)
-
--- The name of a move. A stop has none: no tape has one.
-abbrev pub move_name : Move → List ℕ
-move_name Skip = codes "skip"
-move_name Try = codes "try"
-move_name Grant = codes "grant"
-move_name Refuse = codes "refuse"
-move_name On = codes "on"
-move_name Left = codes "left"
-move_name Right = codes "right"
-move_name Opened = codes "opened"
-move_name Failed = codes "failed"
-move_name Stop = []
-
--- the weaver's moves, and the environment's
-abbrev pub IsWeavers : Move → Type 0
-IsWeavers Skip = Unit {0}
-IsWeavers Try = Unit {0}
-IsWeavers by = ⊥
-
-abbrev pub IsEnvironments : Move → Type 0
-IsEnvironments Skip = ⊥
-IsEnvironments Try = ⊥
-IsEnvironments Stop = ⊥
-IsEnvironments by = Unit {0}
 
 -- the moves that a play's tape can have, and those that a run's can
 abbrev pub IsIn : (play : Bool) → Move → Type 0
