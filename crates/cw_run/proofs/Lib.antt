@@ -1,4 +1,5 @@
 mod Waits
+mod Entries
 mod Sees
 mod Sits
 mod Calls

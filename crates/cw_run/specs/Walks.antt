@@ -1,5 +1,5 @@
 -- Working definitions: a run over the positions and states of the game, and over the rows of the table.
-use Rattle.std.specs.Prelude.{◌≡◌, ℕ, ◌+◌, List, [], ◌∷◌, ◌++◌, map, reverse, Bool, true, false, Option, Some, None, option_map, option_and_then, is_some, slice_get}
+use Rattle.std.specs.Prelude.{◌≡◌, ℕ, ◌+◌, List, [], ◌∷◌, ◌++◌, map, reverse, count_by, Bool, true, false, cond, Option, Some, None, option_map, option_and_then, is_some, slice_get}
 use Rattle.cw_core.specs.declared.ids.MemId.{MemId}
 use Rattle.cw_rights.specs.declared.capabilities.Caps.{Caps}
 use Rattle.cw_certs.specs.declared.moves.Move.{Move}
@@ -171,6 +171,21 @@ abbrev pub asked_memory : Table → (m seam stage : ℕ) → Move → Option ℕ
 asked_memory t m seam stage Grant = option_and_then (λ r. option_and_then (mem_in t) r.granted) (try_at t seam stage m)
 asked_memory t m seam stage Refuse = refused_with t (try_at t seam stage m)
 asked_memory t m seam stage _ = None
+
+-- how many calls begin to wait: none, or one; and how many may by a word, and by the words of a tape
+abbrev pub entered : Next → ℕ
+entered (Into h w) = 1
+entered _ = 0
+
+abbrev pub is_on : Move → Bool
+is_on On = true
+is_on _ = false
+
+abbrev pub enters : Move → ℕ
+enters by = cond (is_on by) 1 0
+
+abbrev pub entries : List Move → ℕ
+entries tape = count_by is_on tape
 
 -- positions and states of the game
 abbrev pub IsHere : Game → Here → Type 0

@@ -19,7 +19,7 @@ ghost use Rattle.cw_game.specs.Conditions.{IsGoodTable};
 ghost use Rattle.cw_pieces.specs.Written.{Follows};
 ghost use Rattle.cw_trace.specs.Labels.{told, names_of as trace_names_of};
 ghost use Rattle.cw_run.specs.Woven.{end_of, Tells};
-ghost use Rattle.cw_run.specs.Walks.{here_of, wait_of, next_is, innermost, IsHere, IsWait, IsNextIn, IsPlace, Arrives, Goes, Answered, place_in, start_here, without_first};
+ghost use Rattle.cw_run.specs.Walks.{here_of, wait_of, next_is, innermost, entered, enters, entries, is_on, IsHere, IsWait, IsNextIn, IsPlace, Arrives, Goes, Answered, place_in, start_here, without_first};
 ghost use Rattle.cw_game.specs.Games.{Game as GameOf};
 
 use crate::walk::{Here, Next, Wait, lead, rest};
@@ -42,6 +42,20 @@ pub enum RunEnd {
     TapeSpent,
     /// The word with this number, from 0, is no move of the board there.
     BadMove(u32),
+}
+
+/// Whether a word can enter a function.
+fn is_on(by: Move) -> bool
+    ensures { result ≡ is_on by }
+{
+    matches!(by, Move::On)
+}
+
+/// How many words of a tape can enter a function.
+fn entries(tape: &[Move]) -> usize
+    ensures { result ≡ entries tape.now }
+{
+    tape.iter().filter(|by| is_on(**by)).count()
 }
 
 /// Where the run comes to rest after a move to a place, with the label that is reached there.
@@ -143,12 +157,12 @@ fn go<S: Sink>(
 ) -> Place
     requires next { IsNextIn (game_of game.now) (next_is next) }
     requires waits { All (λ w. IsWait (game_of game.now) (wait_of w)) waits.old.items }
-    requires room { vec_len waits.old < vec_capacity waits.old }
+    requires room { vec_len waits.old + entered (next_is next) ≤ vec_capacity waits.old }
     requires follows { Follows S.taken S.faults S.refused writer.old out.old }
     ensures goes { Goes (told names.now) (game_of game.now) table.now (caps_at (lists_of game.now.states)) (next_is next) (innermost waits.old.items) (innermost waits.new.items) (place_in result) writer.old.text writer.new.text }
     ensures range { IsPlace (game_of game.now) (place_in result) }
     ensures waits { All (λ w. IsWait (game_of game.now) (wait_of w)) waits.new.items }
-    ensures length { vec_len waits.new ≤ vec_len waits.old + 1 }
+    ensures length { vec_len waits.new ≤ vec_len waits.old + entered (next_is next) }
     ensures capacity { vec_capacity waits.new ≡ vec_capacity waits.old }
     ensures begun { writer.new.begun ≡ writer.old.begun }
     ensures follows { Follows S.taken S.faults S.refused writer.new out.new }
@@ -184,12 +198,12 @@ fn answer<S: Sink>(
 ) -> Option<Place>
     requires here { IsHere (game_of game.now) (here_of here) }
     requires waits { All (λ w. IsWait (game_of game.now) (wait_of w)) waits.old.items }
-    requires room { vec_len waits.old < vec_capacity waits.old }
+    requires room { vec_len waits.old + enters by ≤ vec_capacity waits.old }
     requires follows { Follows S.taken S.faults S.refused writer.old out.old }
     ensures answered { Answered (told names.now) (game_of game.now) table.now (caps_at (lists_of game.now.states)) (here_of here) by result (innermost waits.old.items) (innermost waits.new.items) writer.old.text writer.new.text }
     ensures range { IfSome result (λ place. IsPlace (game_of game.now) (place_in place)) }
     ensures waits { All (λ w. IsWait (game_of game.now) (wait_of w)) waits.new.items }
-    ensures length { vec_len waits.new ≤ vec_len waits.old + 1 }
+    ensures length { vec_len waits.new ≤ vec_len waits.old + enters by }
     ensures capacity { vec_capacity waits.new ≡ vec_capacity waits.old }
     ensures begun { writer.new.begun ≡ writer.old.begun }
     ensures follows { Follows S.taken S.faults S.refused writer.new out.new }
@@ -236,7 +250,7 @@ pub fn run_woven<S: Sink>(
     ensures follows { Follows S.taken S.faults S.refused writer.new out.new }
 {
     let names = trace_names(alloc, checked, game.graph())?;
-    let mut waits = Vec::with_capacity(alloc, tape.len())?;
+    let mut waits = Vec::with_capacity(alloc, entries(tape))?;
     let mut place = Place::At(begin(game, table, &names, writer, out));
     for i in 0..tape.len() {
         match place {

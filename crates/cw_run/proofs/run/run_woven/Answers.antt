@@ -9,6 +9,7 @@ use Rattle.cw_trace.specs.Labels.{told}
 use Rattle.std.specs.Prelude.{IfSome}
 use Rattle.cw_product.specs.Product.{game_of}
 use Rattle.cw_run.specs.Walks.{IsPlace, place_in}
+use Rattle.cw_run.proofs.Entries.{few_after, room_for}
 use Rattle.cw_run.proofs.Looping.{loop_begun, loop_went, loop_bad, loop_past, loop_spent, loop_over}
 use Rattle.cw_run.proofs.run.run_woven.Goals as goal
 
@@ -19,14 +20,14 @@ loop-i-init g c =
       run = loop_begun c.args.game.now c.args.checked.now.source.now (file_of c.args.checked.now.program) c.args.table.now (told c.in_ok-names.names) q.valid q.lists q.drawn q.runnable q.assigns q.good
           c.begin.result c.in_ok-waits.waits.items _ _ c.begin.ensures.arrives c.begin.ensures.range c.in_ok-waits.ensures.items;
       few = omega (arith, c.in_ok-waits.ensures.len);
-      room = c.in_ok-waits.ensures.capacity;
+      room = omega (arith, c.in_ok-waits.ensures.capacity, c.entries.ensures);
       begun = c.begin.ensures.begun;
       follows = c.begin.ensures.follows;
     }
 
 pub answer-requires-clause-room : goal.answer-requires-clause-room
 answer-requires-clause-room g c =
-    omega (arith, c.loop-i.invariant.few, c.loop-i.invariant.room, c.loop-i-test.true)
+    room_for c.args.tape.now c.loop-i.i _ _ _ c.loop-i-test.true (get_or_default c.args.tape.now c.loop-i.i _ _ c.loop-i-test.true) c.loop-i.invariant.few c.loop-i.invariant.room
 
 pub returns-in-Over-clause-run : goal.returns-in-Over-clause-run
 returns-in-Over-clause-run g c =
@@ -58,7 +59,8 @@ loop-i-preserved g c =
           c.loop-i.invariant.run c.answer.ensures.answered
           (subst (λ o. IfSome o (λ place. IsPlace (game_of c.args.game.now) (place_in place))) c.in-Some.is c.answer.ensures.range)
           c.answer.ensures.waits;
-      few = omega (arith, c.loop-i.invariant.few, c.answer.ensures.length);
+      few = few_after c.args.tape.now c.loop-i.i _ _ _ c.loop-i-test.true (get_or_default c.args.tape.now c.loop-i.i _ _ c.loop-i-test.true)
+          c.loop-i.invariant.few c.answer.ensures.length;
       room = omega (arith, c.loop-i.invariant.room, c.answer.ensures.capacity);
       begun = c.answer.ensures.begun ∙ c.loop-i.invariant.begun;
       follows = c.answer.ensures.follows;
