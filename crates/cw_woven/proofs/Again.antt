@@ -1,9 +1,8 @@
 -- What stands for an accepted source and a table is read as these.
-use Rattle.std.proofs.Common.{◌≡◌, ℕ, zero, suc, ◌+◌, ◌-◌, ◌<◌, ◌≤◌, ◌^◌, true, false, min, List, [], ◌∷◌, ◌++◌, Option, Some, None, length, take, drop, map, refl, sym, ap, subst, ◌∙◌, append_assoc, arith, drop-drop, length-take, length-drop, inl, inr, eqb, not}
+use Rattle.std.proofs.Common.{◌≡◌, ℕ, zero, suc, ◌+◌, ◌-◌, ◌<◌, ◌^◌, true, false, min, List, [], ◌∷◌, ◌++◌, Option, Some, None, length, take, drop, map, refl, sym, ap, subst, ◌∙◌, append_assoc, arith, drop-drop, length-take, length-drop, inl, inr, eqb, not}
 use Rattle.std.specs.Prelude.{codes, slice_get, nat_eq, option_map, IsTrue}
 use Rattle.std.specs.Fmt.{decimal}
 use Rattle.std.specs.List.{All, AllByRecursion, starts_with, range_with_len}
-use Rattle.std.proofs.Math.Seq.{drop-append_seam}
 use Rattle.std.proofs.lemmas.Bool.{and_parts, and_left, false_from_ne_true, not-true, ne_eqb, eq-eqb, true≢false}
 use Rattle.std.proofs.lemmas.List.{append-nil, take-append-drop}
 use Rattle.std.proofs.lemmas.List.Elements.{All-head, All-tail}
@@ -13,7 +12,7 @@ use Rattle.cw_rights.specs.Valid.{is_name, IsValid}
 use Rattle.cw_syntax.specs.Names.{text}
 use Rattle.cw_syntax.specs.Trees.{File}
 use Rattle.cw_syntax.specs.Plans.{plan_of}
-use Rattle.cw_syntax.specs.Marks.{MarkKind, EntryMark, LabelMark, OpenMark, CloseMark, CallMark, SeamMark, marks_of, AreInOrder}
+use Rattle.cw_syntax.specs.Marks.{MarkKind, EntryMark, LabelMark, OpenMark, CloseMark, CallMark, SeamMark, AreInOrder}
 use Rattle.cw_syntax.proofs.Counting.{in_order}
 use Rattle.cw_actions.specs.Scenes.{names_of}
 use Rattle.cw_certs.specs.Tables.{Table}
@@ -31,8 +30,8 @@ use Rattle.cw_source.proofs.Unmarked.{no_marker}
 use Rattle.cw_named.specs.Marked.{IsNamedKind}
 use Rattle.cw_named.proofs.Marked.{marks_named, plain_marks}
 use Rattle.cw_woven.specs.Parts.{Piece, IsCutAt, NoneBefore, AreParts, without, places_from}
-use Rattle.cw_woven.specs.Woven.{IsNumbered, IsNamed, IsSpelling}
-use Rattle.cw_woven.specs.Reading.{the_prologue, BeginsParted, IsParted, HasTable, IsAccepted, ReadsWoven, seam_marks}
+use Rattle.cw_woven.specs.Woven.{IsSpelling}
+use Rattle.cw_woven.specs.Reading.{the_prologue, IsAccepted, ReadsWoven, seam_marks}
 use Rattle.cw_woven.proofs.Few.{few_marks}
 
 -- ---- where an opening and a closing first stand

@@ -1,5 +1,5 @@
 -- What is read is read as one source and one table, and has no fault.
-use Rattle.std.proofs.Common.{◌≡◌, ◌≢◌, ℕ, ◌<◌, List, [], ◌∷◌, ◌++◌, None, Some, length, drop, map, refl, sym, ap, subst, ◌∙◌, arith, append_assoc, inl, inr, nat_eq}
+use Rattle.std.proofs.Common.{◌≡◌, ◌≢◌, ℕ, List, [], ◌∷◌, ◌++◌, length, drop, map, refl, sym, ap, subst, ◌∙◌, arith, inl, inr, nat_eq}
 use Rattle.std.specs.Prelude.{codes, slice_get}
 use Rattle.std.specs.List.{AllByRecursion, starts_with}
 use Rattle.std.proofs.Math.Seq.{drop-append_seam}
@@ -10,7 +10,6 @@ use Rattle.cw_rights.specs.Policies.{PlainPolicy}
 use Rattle.cw_rights.specs.Valid.{IsValid}
 use Rattle.cw_syntax.specs.Trees.{File}
 use Rattle.cw_certs.specs.Tables.{Table}
-use Rattle.cw_lines.specs.declared.fault.TextFault.{TextFault}
 use Rattle.cw_scope.specs.Descriptors.{descriptor_fault}
 use Rattle.cw_source.specs.declared.fault.SourceFault.{SourceFault}
 use Rattle.cw_source.specs.declared.fault.SourceFault.TheVariants as read

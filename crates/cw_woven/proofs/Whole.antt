@@ -1,19 +1,12 @@
 -- What each step answers, as an answer of the whole.
-use Rattle.std.proofs.Common.{◌≡◌, ℕ, suc, ◌<◌, List, [], ◌∷◌, length, map, refl, ap, subst, ◌∙◌, arith}
+use Rattle.std.proofs.Common.{◌≡◌, ℕ, suc, ◌<◌, List, [], ◌∷◌, length, map, refl, ap, arith}
 use Rattle.cw_rights.specs.Policies.{PlainPolicy}
 use Rattle.cw_actions.specs.Scenes.{names_of}
 use Rattle.cw_syntax.specs.Plans.{plan_of}
-use Rattle.cw_syntax.specs.Marks.{SeamMark, mark_of}
+use Rattle.cw_syntax.specs.Marks.{mark_of}
 use Rattle.cw_syntax.specs.declared.marks.SeamMark.{SeamMark as Held}
-use Rattle.cw_certs.specs.Tables.{Table}
-use Rattle.cw_emit.specs.Woven.{placed}
-use Rattle.cw_tabletext.specs.Grammar.{Spells}
-use Rattle.cw_woven.specs.declared.fault.WovenFault.{WovenFault}
-use Rattle.cw_woven.specs.declared.fault.WovenFault.TheVariants as fault
-use Rattle.cw_woven.specs.Parts.{Piece, without, places}
-use Rattle.cw_woven.specs.Reading.{IsParted, IsAccepted, Reads, IsFault, seam_marks}
-use Rattle.cw_woven.specs.Accepting.{HasMarks, IsRefused}
-use Rattle.cw_woven.specs.Comparing.{IsDifference}
+use Rattle.cw_woven.specs.Reading.{seam_marks}
+use Rattle.cw_woven.specs.Accepting.{HasMarks}
 use Rattle.cw_woven.proofs.Few.{few_marks}
 
 as_many : (ms : List Held) → length (map mark_of ms) ≡ length ms
