@@ -17,7 +17,7 @@ ones_has n s = by (nat_lt s n) refl
     by true t = let l : s < n = grind (arith, nat_tests) in ap (λ b. b == 1) (bit_at_ones n s l)
     by false t = let l : n ≤ s = grind (arith, nat_tests) in ap (λ b. b == 1) (bit_at_ones_above n s l)
 
-and_true : (b : Bool) → (b && true) ≡ b
+pub and_true : (b : Bool) → (b && true) ≡ b
 and_true true = refl
 and_true false = refl
 

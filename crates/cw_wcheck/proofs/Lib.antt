@@ -2,6 +2,7 @@ pub mod Alls
 pub mod Faults
 pub mod Judged
 pub mod Lives
+pub mod Near
 pub mod Kept
 pub mod Runs
 pub mod Sounds

@@ -1,5 +1,6 @@
 -- Working definitions: what the parts of the checker say of one row.
-use Rattle.std.specs.Prelude.{◌≡◌, ℕ, ◌<◌, true, Bool, Option, Some, None, slice_get, length}
+use Rattle.std.specs.Prelude.{◌≡◌, ℕ, ◌<◌, ◌&&◌, true, false, Bool, Option, Some, None, nat_eq, slice_get, length}
+use Rattle.cw_core.specs.declared.ids.PosId.{PosId}
 use Rattle.cw_core.specs.declared.ids.MemId.{MemId}
 use Rattle.cw_core.specs.declared.ids.StateId.{StateId}
 use Rattle.cw_certs.specs.Tables.{Table}
@@ -7,6 +8,11 @@ use Rattle.cw_game.specs.Games.{Game}
 use Rattle.cw_game.specs.Pairs.{Called, is_live, leads_if}
 use Rattle.cw_wcheck.specs.declared.rows.LiveRow.{LiveRow}
 use Rattle.cw_wcheck.specs.declared.calls.CallAt.{CallAt}
+
+-- what stands at a place of the list of live rows is this position with this memory
+abbrev pub stands_there : ℕ → ℕ → Option (PosId × MemId) → Bool
+stands_there p m None = false
+stands_there p m (Some r) = nat_eq r.0.0 p && nat_eq r.1.0 m
 
 -- where the game gives a pair, the memory is there, means its state with the promise, and is live at its position
 abbrev pub takes_pair : Table → ℕ → Option MemId → Option (ℕ × ℕ) → Bool

@@ -77,7 +77,7 @@ fn means_state(cert: &WeaverCert, mem: MemId, state: StateId) -> bool
     ensures { result ≡ means_state (slice_get cert.now.mems mem.0) state.0 }
 {
     match meaning(cert, mem) {
-        Some((meant, _)) => meant == state,
+        Some((meant, _)) => *meant == state,
         None => false,
     }
 }
@@ -107,8 +107,8 @@ pub fn calls_on(game: &Game, cert: &WeaverCert, row: &LiveRow) -> bool
 }
 
 /// The promise of the memory with which the called function begins.
-fn promise_of(cert: &WeaverCert, mem: MemId, call: CallAt) -> Option<StateSet>
-    ensures { result ≡ promise_of cert.now (into_at cert.now call.seam.0 call.split mem.0) }
+fn promise_of(cert: &WeaverCert, mem: MemId, call: CallAt) -> Option<&StateSet>
+    ensures { option_map (λ promise. promise.now) result ≡ promise_of cert.now (into_at cert.now call.seam.0 call.split mem.0) }
 {
     let into = into_at(cert, call.seam, call.split, mem)?;
     let (_, promise) = meaning(cert, into.callee)?;
@@ -125,7 +125,7 @@ fn goes_back(game: &Game, cert: &WeaverCert, row: &LiveRow, call: CallAt, exit: 
     match back_at(cert, call.seam, call.split, row.mem, exit) {
         Some(back) => {
             let state = game.returned(row.state, exit, call.split);
-            leads(cert, call.back, back.after, state, &row.promise)
+            leads(cert, row.near, call.back, back.after, state, &row.promise)
         }
         None => false,
     }
@@ -146,7 +146,7 @@ fn returns_by(
         promise.now (slice_get cert.now.mems mem.0) }
 {
     match meaning(cert, mem) {
-        Some((exit, promised)) => promised != *promise || goes_back(game, cert, row, call, exit),
+        Some((exit, promised)) => *promised != *promise || goes_back(game, cert, row, call, *exit),
         None => true,
     }
 }
@@ -177,7 +177,7 @@ fn all_return(game: &Game, cert: &WeaverCert, row: &LiveRow, call: CallAt) -> bo
     match promise_of(cert, row.mem, call) {
         Some(promise) => {
             let ends = live_at(cert, exit_of(game, call.function));
-            each_returns(game, cert, row, call, &promise, ends)
+            each_returns(game, cert, row, call, promise, ends)
         }
         None => true,
     }

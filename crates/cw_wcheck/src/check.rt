@@ -27,8 +27,8 @@ fn begins(game: &Game, cert: &WeaverCert) -> bool
     let (pos, start) = game.start();
     match meaning(cert, cert.start()) {
         Some((state, promise)) => {
-            state == start
-                && has_all_states(&promise, game.states())
+            *state == start
+                && has_all_states(promise, game.states())
                 && is_live(cert, pos, cert.start())
         }
         None => false,
@@ -45,7 +45,7 @@ fn row_fault(game: &Game, cert: &WeaverCert) -> Option<BadRow>
     let rows = cert.live();
     for i in 0..rows.len() {
         let (pos, mem) = rows[i];
-        if let Some(condition) = failing_condition(game, cert, pos, mem) {
+        if let Some(condition) = failing_condition(game, cert, i + 1, pos, mem) {
             return Some(BadRow {
                 table: 2,
                 number: i as u32,

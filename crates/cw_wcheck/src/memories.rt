@@ -1,10 +1,10 @@
 //! What the memories of a table mean, where they are live, and what they are followed by.
 
-ghost use Rattle.std.specs.Prelude.{◌≡◌, ◌-◌, ◌^◌, nat_eq, nat_lt, slice_get};
-ghost use Rattle.cw_game.specs.Pairs.{has, leads};
+ghost use Rattle.std.specs.Prelude.{◌≡◌, ◌-◌, ◌^◌, nat_eq, nat_lt, option_map, slice_get};
+ghost use Rattle.cw_game.specs.Pairs.{has, is_live, leads, means_it};
 ghost use Rattle.cw_game.specs.Conditions.{is_memory, is_memory_if, memory_after, takes_on};
 ghost use Rattle.cw_product.specs.Moves.{numbers};
-ghost use Rattle.cw_wcheck.specs.Working.{takes_pair};
+ghost use Rattle.cw_wcheck.specs.Working.{stands_there, takes_pair};
 
 use cw_certs::{Move, WeaverCert};
 use cw_core::{MemId, PosId, SeamId, StateId, StateSet};
@@ -12,10 +12,10 @@ use cw_game::Spot;
 use cw_rows::{after_close, after_label, is_live, open_at};
 
 /// The state and the promise that a memory means; None where the memory isn't there.
-pub fn meaning(cert: &WeaverCert, mem: MemId) -> Option<(StateId, StateSet)>
-    ensures { result ≡ slice_get cert.now.mems mem.0 }
+pub fn meaning(cert: &WeaverCert, mem: MemId) -> Option<&(StateId, StateSet)>
+    ensures { option_map (λ meant. meant.now) result ≡ slice_get cert.now.mems mem.0 }
 {
-    cert.mems().get(mem.0 as usize).copied()
+    cert.mems().get(mem.0 as usize)
 }
 
 /// Whether a memory is there.
@@ -32,22 +32,52 @@ pub fn is_memory_if(cert: &WeaverCert, mem: Option<MemId>) -> bool
     mem.is_none_or(|mem| is_memory(cert, mem))
 }
 
-/// Whether a memory means this state with this promise and is live at this position.
-pub fn leads(cert: &WeaverCert, pos: PosId, mem: MemId, state: StateId, promise: &StateSet) -> bool
-    ensures { result ≡ leads cert.now pos.0 mem.0 state.0 promise.now }
+/// Whether a memory is live at a position. The list of live rows is searched only where the pair doesn't stand at this place of it.
+pub fn is_live_near(cert: &WeaverCert, near: usize, pos: PosId, mem: MemId) -> bool
+    ensures { result ≡ is_live cert.now pos.0 mem.0 }
 {
-    match meaning(cert, mem) {
-        Some((meant, promised)) => meant == state
-            && promised == *promise
-            && is_live(cert, pos, mem),
+    stands_at(cert, near, pos, mem) || is_live(cert, pos, mem)
+}
+
+/// Whether a position and a memory stand at a place of the list of live rows.
+fn stands_at(cert: &WeaverCert, place: usize, pos: PosId, mem: MemId) -> bool
+    ensures { result ≡ stands_there pos.0 mem.0 (slice_get cert.now.live place) }
+{
+    match cert.live().get(place) {
+        Some((there, with)) => *there == pos && *with == mem,
         None => false,
     }
 }
 
+/// Whether a memory means this state with this promise.
+fn means(cert: &WeaverCert, mem: MemId, state: StateId, promise: &StateSet) -> bool
+    ensures { result ≡ means_it (slice_get cert.now.mems mem.0) state.0 promise.now }
+{
+    match meaning(cert, mem) {
+        Some((meant, promised)) => *meant == state && *promised == *promise,
+        None => false,
+    }
+}
+
+/// Whether a memory means this state with this promise and is live at this position, with a row that may stand at this place.
+pub fn leads(
+    cert: &WeaverCert,
+    near: usize,
+    pos: PosId,
+    mem: MemId,
+    state: StateId,
+    promise: &StateSet,
+) -> bool
+    ensures { result ≡ leads cert.now pos.0 mem.0 state.0 promise.now }
+{
+    means(cert, mem, state, promise) && is_live_near(cert, near, pos, mem)
+}
+
 /// Whether the pair to which the game leads, if it does, is taken: the memory is there, means its state with the promise, and is
-/// live at its position.
+/// live at its position, with a row that may stand at this place.
 pub fn takes(
     cert: &WeaverCert,
+    near: usize,
     promise: &StateSet,
     mem: Option<MemId>,
     to: Option<(PosId, StateId)>,
@@ -57,13 +87,14 @@ pub fn takes(
     match (to, mem) {
         (None, _) => true,
         (Some(_), None) => false,
-        (Some((pos, state)), Some(mem)) => leads(cert, pos, mem, state, promise),
+        (Some((pos, state)), Some(mem)) => leads(cert, near, pos, mem, state, promise),
     }
 }
 
 /// Whether the pair at which going on arrives, if it does, is taken where there is a memory for it.
 pub fn takes_on(
     cert: &WeaverCert,
+    near: usize,
     promise: &StateSet,
     mem: Option<MemId>,
     to: Option<(PosId, StateId)>,
@@ -71,7 +102,7 @@ pub fn takes_on(
     ensures { result ≡ takes_on cert.now promise.now mem (numbers to) }
 {
     match (to, mem) {
-        (Some((pos, state)), Some(mem)) => leads(cert, pos, mem, state, promise),
+        (Some((pos, state)), Some(mem)) => leads(cert, near, pos, mem, state, promise),
         (Some(_), None) | (None, _) => true,
     }
 }

@@ -10,16 +10,18 @@ ghost use Rattle.cw_game.specs.Pairs.{call_in};
 ghost use Rattle.cw_wcheck.specs.Working.{IsRowOf, MeanStates, lands_live};
 
 use crate::calls::{calls_on, returns_on};
-use crate::memories::{is_promised, meaning, memory_after, takes, takes_on};
+use crate::memories::{is_live_near, is_promised, meaning, memory_after, takes, takes_on};
 use cw_certs::{Move, TryRow, WeaverCert};
 use cw_core::{MemId, PosId, SeamId, StateId, StateSet};
 use cw_game::Spot;
 use cw_product::Game;
-use cw_rows::{is_live, try_at};
+use cw_rows::try_at;
 
-/// A live row: its position and what stands there, its memory, and the state and the promise that the memory means.
+/// A live row: its position and what stands there, its memory, and the state and the promise that the memory means. Where it leads,
+/// the row behind it often stands: at this place of the list.
 #[derive(Drop)]
 pub struct LiveRow {
+    pub near: usize,
     pub pos: PosId,
     pub spot: Spot,
     pub mem: MemId,
@@ -33,7 +35,7 @@ fn lands_live(game: &Game, cert: &WeaverCert, row: &LiveRow, by: Move) -> bool
     ensures { result ≡ lands_live cert.now row.now.mem.0 (next_at (game_of game.now) row.now.pos.0 row.now.state.0 by) }
 {
     match game.next(row.pos, row.state, by) {
-        Some((pos, _)) => is_live(cert, pos, row.mem),
+        Some((pos, _)) => is_live_near(cert, row.near, pos, row.mem),
         None => true,
     }
 }
@@ -60,6 +62,7 @@ fn takes_grant(game: &Game, cert: &WeaverCert, row: &LiveRow, mem: Option<MemId>
 {
     takes(
         cert,
+        row.near,
         &row.promise,
         mem,
         game.next(row.pos, row.state, Move::Grant),
@@ -74,6 +77,7 @@ fn takes_refusal(game: &Game, cert: &WeaverCert, row: &LiveRow, mem: Option<MemI
 {
     takes(
         cert,
+        row.near,
         &row.promise,
         mem,
         game.next(row.pos, row.state, Move::Refuse),
@@ -86,7 +90,13 @@ fn takes_resumed(game: &Game, cert: &WeaverCert, row: &LiveRow, mem: Option<MemI
     ensures { result ≡ takes_on cert.now row.now.promise mem
         (resumed_in (game_of game.now) row.now.pos.0 row.now.state.0 (Some row.now.spot)) }
 {
-    takes_on(cert, &row.promise, mem, game.resumed(row.pos, row.state))
+    takes_on(
+        cert,
+        row.near,
+        &row.promise,
+        mem,
+        game.resumed(row.pos, row.state),
+    )
 }
 
 /// Whether each answer to what is asked is taken by its memory of a row, and going on after a refusal that a stop can answer too.
@@ -115,18 +125,6 @@ fn answers_on(game: &Game, cert: &WeaverCert, row: &LiveRow) -> bool
     }
 }
 
-/// Whether this is no visit, nothing asked, no call and no exit.
-fn is_passing(spot: Spot) -> bool
-    ensures { result ≡ is_passing spot }
-{
-    match spot {
-        Spot::Step(_) | Spot::Branch(_, _) | Spot::Label(_, _, _) => true,
-        Spot::Open(_, _, _) | Spot::Close(_, _, _) => true,
-        Spot::Visit(_, _, _) | Spot::Asked(_, _, _) => false,
-        Spot::Call(_, _, _) | Spot::SplitCall(_, _, _) | Spot::Exit(_) => false,
-    }
-}
-
 /// Whether a move is taken by the memory after it.
 fn moves_by(game: &Game, cert: &WeaverCert, row: &LiveRow, by: Move) -> bool
     requires row { IsRowOf (game_of game.now) row.now }
@@ -135,24 +133,37 @@ fn moves_by(game: &Game, cert: &WeaverCert, row: &LiveRow, by: Move) -> bool
     ensures { result ≡ moves_by (game_of game.now) cert.now row.now.pos.0 row.now.state.0 row.now.mem.0 row.now.promise row.now.spot by }
 {
     let mem = memory_after(cert, row.mem, row.spot, by);
-    takes(cert, &row.promise, mem, game.next(row.pos, row.state, by))
+    takes(
+        cert,
+        row.near,
+        &row.promise,
+        mem,
+        game.next(row.pos, row.state, by),
+    )
 }
 
-/// The sixth condition: at any other position that is no call and no exit, each move is taken by the memory after it.
+/// The sixth condition: at any other position that is no call and no exit, each move is taken by the memory after it. Tried are those
+/// that lead on there.
+#[tactic(auto, using(crate::proofs::Alls::and_true))]
 fn moves_on(game: &Game, cert: &WeaverCert, row: &LiveRow) -> bool
     requires row { IsRowOf (game_of game.now) row.now }
     requires good { bad_in (game_of game.now) row.now.state.0 (Some row.now.spot) ≡ false }
     ensures { result ≡ moves_on (game_of game.now) cert.now row.now.pos.0 row.now.state.0 row.now.mem.0 row.now.promise
         (Some row.now.spot) }
 {
-    if !is_passing(row.spot) {
-        return true;
+    match row.spot {
+        Spot::Step(_) => moves_by(game, cert, row, Move::On),
+        Spot::Label(_, _, _) => moves_by(game, cert, row, Move::On),
+        Spot::Close(_, _, _) => moves_by(game, cert, row, Move::On),
+        Spot::Branch(_, _) => {
+            moves_by(game, cert, row, Move::Left) && moves_by(game, cert, row, Move::Right)
+        }
+        Spot::Open(_, _, _) => {
+            moves_by(game, cert, row, Move::Opened) && moves_by(game, cert, row, Move::Failed)
+        }
+        Spot::Visit(_, _, _) | Spot::Asked(_, _, _) => true,
+        Spot::Call(_, _, _) | Spot::SplitCall(_, _, _) | Spot::Exit(_) => true,
     }
-    moves_by(game, cert, row, Move::On)
-        && moves_by(game, cert, row, Move::Left)
-        && moves_by(game, cert, row, Move::Right)
-        && moves_by(game, cert, row, Move::Opened)
-        && moves_by(game, cert, row, Move::Failed)
 }
 
 /// The ninth condition: at the exit of a function other than `main` the state is promised.
@@ -197,14 +208,22 @@ fn condition_of(game: &Game, cert: &WeaverCert, row: &LiveRow) -> Option<u8>
     None
 }
 
-/// The number of the first condition from the third on that fails of a position and a memory; None where the memory isn't there.
-pub fn failing_condition(game: &Game, cert: &WeaverCert, pos: PosId, mem: MemId) -> Option<u8>
+/// The number of the first condition from the third on that fails of a position and a memory, before this place of the list of live
+/// rows; None where the memory isn't there.
+pub fn failing_condition(
+    game: &Game,
+    cert: &WeaverCert,
+    near: usize,
+    pos: PosId,
+    mem: MemId,
+) -> Option<u8>
     requires position { IsPosition (game_of game.now) pos.0 }
     requires mems { MeanStates (game_of game.now) cert.now }
     ensures { result ≡ first_failing (live_by (game_of game.now) cert.now pos.0 mem.0 (slice_get cert.now.mems mem.0)) }
 {
-    let (state, promise) = meaning(cert, mem)?;
+    let (state, promise) = *meaning(cert, mem)?;
     let row = LiveRow {
+        near,
         pos,
         spot: game.spot(pos),
         mem,
