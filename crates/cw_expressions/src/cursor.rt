@@ -7,6 +7,7 @@ use crate::refusal::Refusal;
 use cw_grammar::words::{Lexeme, Word, is_same};
 
 /// Whether a token of this kind is next.
+#[inline(always)]
 pub fn begins_with(tokens: &[Lexeme], word: Word) -> bool
     ensures begins { result ≡ begins word tokens.now }
 {
@@ -17,6 +18,7 @@ pub fn begins_with(tokens: &[Lexeme], word: Word) -> bool
 }
 
 /// The tokens after the first.
+#[inline(always)]
 pub fn past(tokens: &[Lexeme]) -> &[Lexeme]
     ensures after { result.now ≡ after tokens.now }
 {
@@ -27,6 +29,7 @@ pub fn past(tokens: &[Lexeme]) -> &[Lexeme]
 }
 
 /// The first token, and the tokens after it. Syntax where there is none.
+#[inline(always)]
 pub fn first_of(tokens: &[Lexeme]) -> Result<(Lexeme, &[Lexeme]), Refusal>
     ensures first { Gives (λ x. (x.0, x.1.now)) result (first tokens.now) }
 {
@@ -37,6 +40,7 @@ pub fn first_of(tokens: &[Lexeme]) -> Result<(Lexeme, &[Lexeme]), Refusal>
 }
 
 /// The token of this kind that is next, and the tokens after it. Syntax where another is next.
+#[inline(always)]
 #[tactic(auto, unfolding(crate::specs::Cursor::expect))]
 pub fn take(tokens: &[Lexeme], word: Word) -> Result<(Lexeme, &[Lexeme]), Refusal>
     ensures token { Gives (λ x. (x.0, x.1.now)) result (expect word tokens.now) }

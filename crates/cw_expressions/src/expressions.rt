@@ -26,6 +26,7 @@ use cw_syntax::program::{Expr, Name, Op};
 use std::alloc::Global;
 
 /// Whether a type in parentheses is next.
+#[inline(always)]
 fn is_cast_next(tokens: &[Lexeme]) -> bool
     ensures { result ≡ begins_cast tokens.now }
 {
@@ -53,6 +54,7 @@ fn strings_end(to: u32, tokens: &[Lexeme]) -> (u32, &[Lexeme])
 }
 
 /// Whether a word is one of the marks that follow an expression.
+#[inline(always)]
 fn is_end(word: Word) -> bool
     ensures { result ≡ ends word }
 {
@@ -63,6 +65,7 @@ fn is_end(word: Word) -> bool
 }
 
 /// Whether `[`, `++` or `--` is next.
+#[inline(always)]
 fn has_suffix(tokens: &[Lexeme]) -> bool
     ensures { result ≡ is_suffixed tokens.now }
 {
@@ -70,6 +73,7 @@ fn has_suffix(tokens: &[Lexeme]) -> bool
 }
 
 /// Whether a word ends what this rule reads, if an operand stands before it.
+#[inline(always)]
 fn is_behind(rule: Rule, word: Word) -> bool
     ensures { result ≡ is_behind rule word }
 {
@@ -132,6 +136,7 @@ fn read<'t>(
     }
 }
 
+#[inline(always)]
 #[cycle(parser)]
 fn by_rule_at<'t>(
     alloc: Global,
@@ -152,6 +157,7 @@ fn by_rule_at<'t>(
     }
 }
 
+#[inline(always)]
 #[cycle(parser)]
 #[tactic(auto, unfolding(crate::specs::Reading::expression, cw_grammar::specs::Expressions::loosest))]
 fn expression_at<'t>(alloc: Global, depth: u32, tokens: &'t [Lexeme]) -> Result<Found<'t>, Refusal>
@@ -173,6 +179,7 @@ fn expression_at<'t>(alloc: Global, depth: u32, tokens: &'t [Lexeme]) -> Result<
 }
 
 /// Behind the target of an assignment.
+#[inline(always)]
 #[cycle(parser)]
 #[tactic(auto, unfolding(crate::specs::Reading::assigned))]
 fn assigned_at<'t>(
@@ -216,6 +223,7 @@ fn level_at<'t>(
 }
 
 /// Behind the first operand of a binary operator.
+#[inline(always)]
 #[cycle(parser)]
 #[tactic(auto, unfolding(crate::specs::Reading::joined))]
 fn joined_at<'t>(
@@ -240,6 +248,7 @@ fn joined_at<'t>(
     join(alloc, Op::Binary(number), false, first, second)
 }
 
+#[inline(always)]
 #[cycle(parser)]
 #[tactic(auto, unfolding(crate::specs::Reading::operand))]
 fn operand_at<'t>(alloc: Global, depth: u32, tokens: &'t [Lexeme]) -> Result<Found<'t>, Refusal>
@@ -335,6 +344,7 @@ fn size_of_at<'t>(
     over(alloc, Op::SizeOf, true, keyword.from, part)
 }
 
+#[inline(always)]
 #[cycle(parser)]
 #[tactic(auto, unfolding(crate::specs::Reading::postfix))]
 fn postfix_at<'t>(alloc: Global, depth: u32, tokens: &'t [Lexeme]) -> Result<Found<'t>, Refusal>
@@ -346,6 +356,7 @@ fn postfix_at<'t>(alloc: Global, depth: u32, tokens: &'t [Lexeme]) -> Result<Fou
     suffixed_all(alloc, depth, first)
 }
 
+#[inline(always)]
 #[cycle(parser)]
 fn suffixed_all<'t>(alloc: Global, depth: u32, first: Found<'t>) -> Result<Found<'t>, Refusal>
     requires deep { depth < 64 }
@@ -361,6 +372,7 @@ fn suffixed_all<'t>(alloc: Global, depth: u32, first: Found<'t>) -> Result<Found
 }
 
 /// Behind a postfix: an index, `++` or `--`.
+#[inline(always)]
 #[cycle(parser)]
 #[tactic(auto, unfolding(crate::specs::Reading::suffixed))]
 fn suffixed_at<'t>(alloc: Global, depth: u32, first: Found<'t>) -> Result<Found<'t>, Refusal>
@@ -396,6 +408,7 @@ fn suffixed_at<'t>(alloc: Global, depth: u32, first: Found<'t>) -> Result<Found<
     )
 }
 
+#[inline(always)]
 #[cycle(parser)]
 #[tactic(auto, unfolding(crate::specs::Reading::primary))]
 fn primary_at<'t>(alloc: Global, depth: u32, tokens: &'t [Lexeme]) -> Result<Found<'t>, Refusal>
@@ -426,6 +439,7 @@ fn primary_at<'t>(alloc: Global, depth: u32, tokens: &'t [Lexeme]) -> Result<Fou
 }
 
 /// Behind a parenthesis.
+#[inline(always)]
 #[cycle(parser)]
 #[tactic(auto, unfolding(crate::specs::Reading::between))]
 fn between_at<'t>(
@@ -451,6 +465,7 @@ fn between_at<'t>(
 }
 
 /// Behind a name: the name, or a call of it.
+#[inline(always)]
 #[cycle(parser)]
 #[tactic(auto, unfolding(crate::specs::Reading::named))]
 fn named_at<'t>(
@@ -546,6 +561,7 @@ fn argument_at<'t>(
     })
 }
 
+#[inline(always)]
 #[tactic(auto, unfolding(crate::specs::Next::next_expression, cw_grammar::specs::Expressions::nesting_limit))]
 fn expression_next<'t>(alloc: Global, tokens: &'t [Lexeme]) -> Result<(Expr, &'t [Lexeme]), Refusal>
     ensures { Gives seen result (next_expression tokens.now) }

@@ -33,6 +33,7 @@ pub struct FoundList<'t> {
 }
 
 /// An expression without parts.
+#[inline(always)]
 pub(crate) fn leaf(alloc: Global, op: Op, from: u32, to: u32, rest: &[Lexeme]) -> Found<'_>
     ensures { got result ≡ built op [] true 1 from to rest.now }
 {
@@ -52,6 +53,7 @@ pub(crate) fn leaf(alloc: Global, op: Op, from: u32, to: u32, rest: &[Lexeme]) -
 }
 
 /// An expression of one part.
+#[inline(always)]
 pub(crate) fn over<'t>(
     alloc: Global,
     op: Op,
@@ -79,6 +81,7 @@ pub(crate) fn over<'t>(
 }
 
 /// An expression of two parts.
+#[inline(always)]
 pub(crate) fn join<'t>(
     alloc: Global,
     op: Op,
@@ -107,6 +110,7 @@ pub(crate) fn join<'t>(
 }
 
 /// A call.
+#[inline(always)]
 pub(crate) fn call<'t>(
     name: Name,
     to: u32,

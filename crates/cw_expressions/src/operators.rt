@@ -31,6 +31,7 @@ pub(crate) fn step_of(word: Word) -> Option<u8>
     }
 }
 
+#[inline(always)]
 pub(crate) fn suffix_of(word: Word) -> Option<u8>
     ensures { result ≡ suffix word }
 {
@@ -41,6 +42,7 @@ pub(crate) fn suffix_of(word: Word) -> Option<u8>
     }
 }
 
+#[inline(always)]
 fn binary_of(word: Word) -> Option<(u8, u32)>
     ensures { result ≡ binary word }
 {
@@ -67,6 +69,7 @@ fn binary_of(word: Word) -> Option<(u8, u32)>
     }
 }
 
+#[inline(always)]
 fn assign_of(word: Word) -> Option<u8>
     ensures { result ≡ assign word }
 {
@@ -87,6 +90,7 @@ fn assign_of(word: Word) -> Option<u8>
 }
 
 /// Whether a word is an assignment's operator.
+#[inline(always)]
 pub(crate) fn is_assign(word: Word) -> bool
     ensures { result ≡ is_some (assign word) }
 {
@@ -94,6 +98,7 @@ pub(crate) fn is_assign(word: Word) -> bool
 }
 
 /// Whether a word is a binary operator of a looser level than this one.
+#[inline(always)]
 pub(crate) fn is_looser(level: u32, word: Word) -> bool
     ensures { result ≡ is_looser level (binary word) }
 {
@@ -103,6 +108,7 @@ pub(crate) fn is_looser(level: u32, word: Word) -> bool
     }
 }
 
+#[inline(always)]
 pub(crate) fn suffix_next(tokens: &[Lexeme]) -> Option<u8>
     ensures { result ≡ next_of suffix tokens.now }
 {
@@ -112,6 +118,7 @@ pub(crate) fn suffix_next(tokens: &[Lexeme]) -> Option<u8>
     }
 }
 
+#[inline(always)]
 pub(crate) fn assign_next(tokens: &[Lexeme]) -> Option<u8>
     ensures { result ≡ next_of assign tokens.now }
 {
@@ -121,6 +128,7 @@ pub(crate) fn assign_next(tokens: &[Lexeme]) -> Option<u8>
     }
 }
 
+#[inline(always)]
 fn binary_next(tokens: &[Lexeme]) -> Option<(u8, u32)>
     ensures { result ≡ next_of binary tokens.now }
 {
@@ -131,6 +139,7 @@ fn binary_next(tokens: &[Lexeme]) -> Option<(u8, u32)>
 }
 
 /// A binary operator of this level that is next.
+#[inline(always)]
 pub(crate) fn binary_next_at(level: u32, tokens: &[Lexeme]) -> Option<u8>
     ensures { result ≡ binary_at level tokens.now }
 {
@@ -141,6 +150,7 @@ pub(crate) fn binary_next_at(level: u32, tokens: &[Lexeme]) -> Option<u8>
 }
 
 /// The level below that of the binary operator that is next, if that is a level past `below` and up to `level`.
+#[inline(always)]
 pub(crate) fn operator_next(below: u32, level: u32, tokens: &[Lexeme]) -> Option<u32>
     ensures { MatchOption result ((l : ℕ) → below < l → l ≤ level → goes_on_at l tokens.now ≡ false)
         (λ next. (below ≤ next) × (next < level) × (goes_on_at (suc next) tokens.now ≡ true)

@@ -125,6 +125,7 @@ ghost use Rattle.std.specs.Prelude.{◌≡◌};
 ghost use Rattle.cw_grammar.specs.Words.{code, same};
 
 /// A number for each kind of word.
+#[inline(always)]
 fn number_of(word: Word) -> u8
     ensures { result ≡ code word }
 {
@@ -197,6 +198,7 @@ fn number_of(word: Word) -> u8
 }
 
 /// Whether two words are of one kind. Numbers are, and characters, whatever their values are.
+#[inline(always)]
 pub fn is_same(a: Word, b: Word) -> bool
     ensures same { result ≡ same a b }
 {

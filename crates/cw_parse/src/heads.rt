@@ -75,6 +75,7 @@ pub(crate) fn declared_at<'t>(
 }
 
 /// An expression before a semicolon, as a statement.
+#[inline(always)]
 #[tactic(auto, unfolding(crate::specs::StatementReading::evaluated))]
 pub(crate) fn evaluated_at<'t>(
     alloc: Global,

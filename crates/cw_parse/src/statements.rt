@@ -33,6 +33,7 @@ fn read<'t>(
     statement_at(alloc, depth - 1, in_block, tokens)
 }
 
+#[inline(always)]
 #[cycle(parser)]
 #[tactic(auto, unfolding(crate::specs::StatementReading::statement))]
 fn statement_at<'t>(
@@ -51,6 +52,7 @@ fn statement_at<'t>(
 }
 
 /// By its first word.
+#[inline(always)]
 #[cycle(parser)]
 #[tactic(auto, unfolding(crate::specs::StatementReading::stated))]
 fn stated_at<'t>(
