@@ -70,7 +70,6 @@ module _ (g : Game) (functions : ℕ) (routed : AreRouted g functions) (alike : 
     is_long =
         let same = ap (λ (t : Table). length t.heights.items) asks.others.table in
         record {
-          owners = ap (λ (y : List ℕ). length y) asks.others.owners ∙ long.owners ∙ sym same;
           marks = ap (λ (ms : List Bool). length ms) asks.others.marks ∙ long.marks ∙ sym same;
           asked = ap (λ (y : List ℕ). length y) asks.asked ∙ long.asked ∙ sym same;
           due = ap (λ (y : List ℕ). length y) asks.due ∙ due_length old.store.due place (2 * n + 1) ∙ long.due ∙ sym same;

@@ -14,14 +14,14 @@ use Rattle.cw_linked.specs.declared.work.Work.{Work}
 use Rattle.cw_linked.specs.Calls.{AreCallers, AsksCallers}
 use Rattle.cw_linked.specs.Founds.{Found, class_of, AreAlike, IsLink, AreRight, Nothing, AllClosed, AllCalled, AllStanding}
 use Rattle.cw_linked.specs.Popped.{IsTaken, Finishes}
-use Rattle.cw_linked.specs.Queues.{found_of, AreMarked, AreOwners, LowersKeys, AsksWaiting}
+use Rattle.cw_linked.specs.Queues.{found_of, AreMarked, LowersKeys, AsksWaiting}
 use Rattle.cw_linked.specs.Returns.{AreFew, AsksReturns}
 use Rattle.cw_linked.specs.Steps.{CallsThere, ReturnsThere}
 use Rattle.cw_linked.specs.Works.{heights_of, value_at}
 use Rattle.cw_linked.proofs.Backs.{stands_on, fresh_on}
 use Rattle.cw_linked.proofs.Callers.{tied_or_not, is_tied, untied_called}
 use Rattle.cw_linked.proofs.Least.{link_of}
-use Rattle.cw_linked.proofs.Staying.{owners_on, callers_on, marked_on}
+use Rattle.cw_linked.proofs.Staying.{callers_on, marked_on}
 use Rattle.cw_linked.proofs.Telling.{below, still_closed, still_called, still_standing, two_steps}
 use Rattle.cw_linked.proofs.Working.{found_keys}
 
@@ -38,9 +38,6 @@ module _ (g : Game) (functions : ℕ) (routed : AreRouted g functions) (alike : 
 
   pub next_table : IsTable g new.table
   next_table = subst (IsTable g) tables table
-
-  pub next_owners : AreOwners g old → AreOwners g new
-  next_owners = owners_on g old new step.others.table step.others.owners
 
   pub next_marked : AreMarked g old → AreMarked g new
   next_marked = marked_on g old new (ap (λ (t : Table). t.contexts.items) step.others.table) step.others.marks
@@ -151,7 +148,6 @@ module _ (g : Game) (functions : ℕ) (routed : AreRouted g functions) (alike : 
         kept = record {
           table = next_table g functions routed alike old new taken.table third;
           long = third.long;
-          owners = next_owners g functions routed alike old new taken.table third taken.owners;
           marked = next_marked g functions routed alike old new taken.table third taken.marked;
           high = third.high;
           callers = next_callers g functions routed alike old new taken.table third taken.callers;

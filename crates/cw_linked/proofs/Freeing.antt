@@ -21,7 +21,7 @@ use Rattle.cw_linked.proofs.Taking.{one_call}
 
 -- nothing changes
 pub same_but : (w : Work) → AreSameBut w w
-same_but w = record { table = refl; owners = refl; to = refl; waves = refl; marks = refl; lists = refl }
+same_but w = record { table = refl; to = refl; waves = refl; marks = refl; lists = refl }
 
 -- a key of 1 is written or was there
 due_one : (due : List ℕ) (place : ℕ) → place < length due → slice_index (lowered due place 1) place ≡ 1
@@ -59,7 +59,6 @@ module _ (g : Game) (i : ℕ) (c : Context) where
   frees_more old mid new These Those All one two parts = record {
     others = record {
       table = two.others.table ∙ one.others.table;
-      owners = two.others.owners ∙ one.others.owners;
       to = two.others.to ∙ one.others.to;
       waves = two.others.waves ∙ one.others.waves;
       marks = two.others.marks ∙ one.others.marks;
@@ -97,7 +96,6 @@ module _ (g : Game) (i : ℕ) (c : Context) where
   frees_long old new These frees long =
       let same = ap (λ (t : Table). length t.heights.items) frees.others.table in
       record {
-        owners = ap (λ (ys : List ℕ). length ys) frees.others.owners ∙ long.owners ∙ sym same;
         marks = ap (λ (ms : List Bool). length ms) frees.others.marks ∙ long.marks ∙ sym same;
         asked = ap (λ (ys : List ℕ). length ys) frees.asked ∙ long.asked ∙ sym same;
         due = frees.long ∙ long.due ∙ sym same;

@@ -22,11 +22,11 @@ use Rattle.cw_linked.specs.Works.{AreUpTo, place_at, value_at}
 use Rattle.cw_linked.proofs.Adding.{after_push, added_right, added_closed, added_called, added_standing}
 use Rattle.cw_linked.proofs.Askings.{stays_closed}
 use Rattle.cw_linked.proofs.Bounding.{place_is}
-use Rattle.cw_linked.proofs.Finishing.{next_table, next_owners, next_callers, next_marked, next_right, next_called}
+use Rattle.cw_linked.proofs.Finishing.{next_table, next_callers, next_marked, next_right, next_called}
 use Rattle.cw_linked.proofs.Freeing.{frees_long}
 use Rattle.cw_linked.proofs.Lengthening.{grown_length, grown_before, grown_after}
-use Rattle.cw_linked.proofs.Pushing.{base_end, cell_on, value_on, value_new, pushed_table, pushed_long, pushed_high, pushed_owners, pushed_dues, pushed_marked, pushed_callers}
-use Rattle.cw_linked.proofs.Staying.{owners_on, callers_on, marked_on}
+use Rattle.cw_linked.proofs.Pushing.{base_end, cell_on, value_on, value_new, pushed_table, pushed_long, pushed_high, pushed_dues, pushed_marked, pushed_callers}
+use Rattle.cw_linked.proofs.Staying.{callers_on, marked_on}
 use Rattle.cw_linked.proofs.Telling.{still_standing}
 
 module _ (g : Game) (functions : ℕ) (routed : AreRouted g functions) (alike : AreAlike g) (old pushed : Work) (c : Context) (kept : IsOpen g old) (tabled : AreTabled g (old.table.contexts.items ++ c ∷ []))
@@ -226,8 +226,6 @@ module _ (g : Game) (functions : ℕ) (routed : AreRouted g functions) (alike : 
         firm = record {
           table = next_table g functions routed alike freed new is_freed_table asks.step;
           long = asks.step.long;
-          owners = next_owners g functions routed alike freed new is_freed_table asks.step
-              (owners_on g pushed freed frees.others.table frees.others.owners (pushed_owners g old pushed c kept.blocks pushes kept.long kept.owners));
           marked = next_marked g functions routed alike freed new is_freed_table asks.step
               (marked_on g pushed freed (ap (λ (t : Table). t.contexts.items) frees.others.table) frees.others.marks is_pushed_marked);
           high = asks.step.high;

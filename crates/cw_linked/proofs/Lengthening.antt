@@ -1,16 +1,16 @@
 -- Vectors grow by a context's places.
-use Rattle.std.proofs.Common.{◌≡◌, ℕ, ◌+◌, ◌-◌, ◌*◌, ◌<◌, ◌≤◌, Bool, true, false, List, [], ◌∷◌, ◌++◌, length, take, replicate, refl, sym, ap, ◌∙◌, subst, arith, inl, inr}
+use Rattle.std.proofs.Common.{◌≡◌, ℕ, ◌+◌, ◌-◌, ◌*◌, ◌<◌, ◌≤◌, Bool, true, false, List, [], ◌∷◌, ◌++◌, length, take, replicate, refl, sym, ap, ap₂, ◌∙◌, subst, arith, inl, inr}
 use Rattle.std.specs.Prelude.{slice_get, slice_index, Some}
 use Rattle.std.proofs.lemmas.Bool.{cases_lt}
 use Rattle.std.proofs.lemmas.Nat.{mul-add-lt}
 use Rattle.std.proofs.Math.Nat.{mul-le-mul}
 use Rattle.std.proofs.lemmas.List.{length-replicate, length-append, length_push, get_or-replicate, get_or_append_left, get_or-append_right, take_all, append_assoc, append-nil, replicate-append-replicate}
 use Rattle.cw_game.specs.Games.{Game}
-use Rattle.cw_game.specs.Pairs.{Called, call_in}
+use Rattle.cw_game.specs.Pairs.{call_in}
 use Rattle.cw_marks.specs.Marks.{is_marked}
-use Rattle.cw_store.specs.Stores.{Stored, Pushes}
+use Rattle.cw_store.specs.Stores.{Stored, Pushes, PushesPlain}
 use Rattle.cw_solve.specs.Rounds.{positions}
-use Rattle.cw_linked.specs.Added.{PushesPlaces, MarksState, MarksLinks}
+use Rattle.cw_linked.specs.Added.{PushesPlaces, MarksState, MarksLinks, PushesNext, ArePushed}
 use Rattle.cw_linked.specs.Founds.{class_of}
 
 -- a vector that grows
@@ -57,6 +57,17 @@ one_place old new mark pushes = record {
   lists = omega (arith, pushes.lists);
 }
 
+pub plain_places : (old new : Stored) (many : ℕ) → PushesPlain old new many → PushesPlaces old new many
+plain_places old new many pushes = record {
+  asked = pushes.asked;
+  due = pushes.due;
+  to = pushes.to;
+  waves = pushes.waves;
+  long = ap (λ (ms : List Bool). length ms) pushes.marks ∙ length-append old.marks (replicate many false) ∙ ap (λ (n : ℕ). length old.marks + n) (length-replicate {A = Bool} many false);
+  kept = λ k lt. ap (λ (ms : List Bool). is_marked ms k) pushes.marks ∙ get_or_append_left old.marks (replicate many false) false k lt;
+  lists = (let e = ap (λ (ls : List (List ℕ)). length ls) pushes.lists in omega (arith, e));
+}
+
 more_zeros : (old mid new : List ℕ) (m n : ℕ) → mid ≡ old ++ replicate m 0 → new ≡ mid ++ replicate n 0 → new ≡ old ++ replicate (m + n) 0
 more_zeros old mid new m n one two =
     two ∙ ap (λ (ys : List ℕ). ys ++ replicate n 0) one ∙ append_assoc old (replicate m 0) (replicate n 0) ∙ ap (λ (ys : List ℕ). old ++ ys) (replicate-append-replicate m n 0)
@@ -72,26 +83,72 @@ more_places old mid new m n one two = record {
   lists = omega (arith, one.lists, two.lists);
 }
 
--- Of no new places none is to be marked ..
-pub none_marked_in : (g : Game) (marks : List Bool) (function x : ℕ) → MarksState g marks marks function x 0
-none_marked_in g marks function x p call of is class less = absurd (omega (arith, less))
+-- the last mark
+pub last_mark : (mid new : List Bool) (k : ℕ) → new ≡ mid ++ true ∷ [] → k ≡ length mid → is_marked new k ≡ true
+last_mark mid new k is at =
+    let first : length mid - length mid ≡ 0 = omega arith in
+    ap₂ (λ (ms : List Bool) (n : ℕ). is_marked ms n) is at
+    ∙ get_or-append_right mid (true ∷ []) (length mid) (length mid) false refl (omega arith)
+    ∙ ap (λ (n : ℕ). is_marked (true ∷ []) n) first
 
--- .. and of one more where it is that of a link.
-pub one_marked : (g : Game) (old mid new : List Bool) (function x m : ℕ) (mark : Bool) → g.entry function ≤ m → new ≡ mid ++ mark ∷ [] → length mid ≡ length old + (m - g.entry function)
-    → ((call : Called) → call_in (slice_get g.spots m) ≡ Some call → class_of g call.split x ≡ x → mark ≡ true) → MarksState g old mid function x (m - g.entry function)
-    → MarksState g old new function x (m + 1 - g.entry function)
-one_marked g old mid new function x m mark from pushed long link marked p call of is class less =
-    ap (λ (ms : List Bool). is_marked ms (length old + (p - g.entry function))) pushed
-    ∙ elim (cases_lt p m) [
-      | inl before ↦
-          let row : p - g.entry function < m - g.entry function = omega (arith, before, of.0) in
-          get_or_append_left mid (mark ∷ []) false (length old + (p - g.entry function)) (omega (arith, row, long)) ∙ marked p call of is class row
-      | inr after ↦
-          let here : p ≡ m = omega (arith, less, after, from) in
-          let first : length old + (p - g.entry function) - length mid ≡ 0 = omega (arith, here, long) in
-          get_or-append_right mid (mark ∷ []) (length mid) (length old + (p - g.entry function)) false refl (omega (arith, here, long))
-          ∙ ap (λ (k : ℕ). is_marked (mark ∷ []) k) first ∙ link call (subst (λ (y : ℕ). call_in (slice_get g.spots y) ≡ Some call) here is) class
+-- The places of a function in one state: none yet, those of one position more, and all.
+pub none_pushed : (g : Game) (old : Stored) (function x : ℕ) → ArePushed g old old function x (g.entry function) 0
+none_pushed g old function x =
+    let none : 0 ≡ g.entry function - g.entry function - 0 = omega arith in
+    record {
+      ahead = omega arith;
+      places = subst (λ (n : ℕ). PushesPlaces old old n) none (no_places old);
+      marked = λ r call of lt. absurd (omega (arith, lt, of.0));
+      rest = λ r call lt le. absurd (omega (arith, lt, le));
+    }
+
+pub more_pushed : (g : Game) (old mid new : Stored) (function x p plain more : ℕ) → ArePushed g old mid function x p plain → PushesNext g mid new p x plain more
+    → ArePushed g old new function x (p + 1) more
+more_pushed g old mid new function x p plain more are next =
+    elim next [
+      | inl link ↦
+          let many : p - g.entry function - plain + (plain + 1) ≡ p + 1 - g.entry function - more = omega (arith, are.ahead, link.0) in
+          record {
+            ahead = omega (arith, are.ahead, link.0);
+            places = subst (λ (n : ℕ). PushesPlaces old new n) many (more_places old mid new (p - g.entry function - plain) (plain + 1) are.places link.1);
+            marked = λ r call of lt is class. elim (cases_lt (r + plain) p) [
+              | inl before ↦
+                  link.1.kept (length old.marks + (r - g.entry function)) (omega (arith, before, of.0, are.places.long, are.ahead)) ∙ are.marked r call of before is class
+              | inr after ↦ elim (cases_lt r p) [
+                | inl inside ↦ absurd (are.rest r call inside after is class)
+                | inr past ↦
+                    let here : length mid.marks + plain ≡ length old.marks + (r - g.entry function) = omega (arith, past, lt, link.0, are.places.long, are.ahead) in
+                    subst (λ (k : ℕ). is_marked new.marks k ≡ true) here link.2
+              ]
+            ];
+            rest = λ r call lt le. absurd (omega (arith, lt, le, link.0));
+          }
+      | inr none ↦
+          let many : p - g.entry function - plain ≡ p + 1 - g.entry function - more = omega (arith, are.ahead, none.0) in
+          record {
+            ahead = omega (arith, are.ahead, none.0);
+            places = subst (λ (s : Stored). PushesPlaces old s (p + 1 - g.entry function - more)) (sym none.1) (subst (λ (n : ℕ). PushesPlaces old mid n) many are.places);
+            marked = λ r call of lt is class. subst (λ (s : Stored). is_marked s.marks (length old.marks + (r - g.entry function)) ≡ true) (sym none.1)
+                (are.marked r call of (omega (arith, lt, none.0)) is class);
+            rest = λ r call lt le is class. elim (cases_lt r p) [
+              | inl before ↦ are.rest r call before (omega (arith, le, none.0)) is class
+              | inr past ↦ let here : r ≡ p = omega (arith, lt, past) in none.2 call (subst (λ (y : ℕ). call_in (slice_get g.spots y) ≡ Some call) here is) class
+            ];
+          }
     ]
+
+module _ (g : Game) (old mid new : Stored) (function x plain : ℕ) (are : ArePushed g old mid function x (g.exit function + 1) plain) (pushes : PushesPlain mid new plain) where
+  pub all_pushed : PushesPlaces old new (positions g function)
+  all_pushed =
+      let many : g.exit function + 1 - g.entry function - plain + plain ≡ positions g function = omega (arith, are.ahead) in
+      subst (λ (n : ℕ). PushesPlaces old new n) many (more_places old mid new (g.exit function + 1 - g.entry function - plain) plain are.places (plain_places mid new plain pushes))
+
+  pub all_marked : MarksState g old.marks new.marks function x (positions g function)
+  all_marked p call of is class less = elim (cases_lt (p + plain) (g.exit function + 1)) [
+    | inl before ↦
+        (plain_places mid new plain pushes).kept (length old.marks + (p - g.entry function)) (omega (arith, before, of.0, are.places.long, are.ahead)) ∙ are.marked p call of before is class
+    | inr after ↦ absurd (are.rest p call (omega (arith, of.1)) after is class)
+  ]
 
 pub none_marked : (g : Game) (marks : List Bool) (function : ℕ) → MarksLinks g marks marks function 0
 none_marked g marks function p x call of is class less = absurd (omega (arith, less))

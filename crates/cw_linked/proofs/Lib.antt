@@ -41,3 +41,4 @@ pub mod Widening
 pub mod Joining
 pub mod Targets
 pub mod Solving
+pub mod Dividing

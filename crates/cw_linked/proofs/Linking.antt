@@ -17,13 +17,13 @@ use Rattle.cw_linked.specs.declared.work.Cell.{Cell}
 use Rattle.cw_linked.specs.declared.work.Work.{Work}
 use Rattle.cw_linked.specs.Founds.{Found, class_of, AreAlike, IsLink, height_back, IsShrinking, AreRight, Nothing, AllClosed, AllCalled, AllStanding, AreAbove}
 use Rattle.cw_linked.specs.Popped.{FreesLink, IsWork}
-use Rattle.cw_linked.specs.Queues.{found_of, AreLong, AreOwners, AreHigh, IsLinkAt, AreDue, IsCellAt}
+use Rattle.cw_linked.specs.Queues.{found_of, AreLong, AreHigh, IsLinkAt, AreDue, IsCellAt}
 use Rattle.cw_linked.specs.Steps.{with_keys, Frees, IsReady, IsIt}
 use Rattle.cw_linked.specs.Tied.{IsFreed}
 use Rattle.cw_linked.specs.Works.{AreUpTo, place_at, value_at}
 use Rattle.cw_linked.proofs.Bounding.{place_is}
 use Rattle.cw_linked.proofs.Popping.{least_above}
-use Rattle.cw_linked.proofs.Staying.{owners_on, callers_on, marked_on}
+use Rattle.cw_linked.proofs.Staying.{callers_on, marked_on}
 use Rattle.cw_linked.proofs.Telling.{below, up_to_set}
 use Rattle.cw_linked.proofs.Tying.{ready, freed_right, freed_standing}
 use Rattle.cw_linked.proofs.Working.{found_keys}
@@ -51,16 +51,12 @@ module _ (g : Game) (functions : ℕ) (routed : AreRouted g functions) (alike : 
 
   pub freed_long : AreLong new
   freed_long = record {
-    owners = ap (λ (ys : List ℕ). length ys) frees.others.owners ∙ work.long.owners ∙ sym lengths;
     marks = ap (λ (ms : List Bool). length ms) frees.others.marks ∙ work.long.marks ∙ sym lengths;
     asked = ap (λ (ys : List ℕ). length ys) frees.asked ∙ work.long.asked ∙ sym lengths;
     due = ap (λ (ys : List ℕ). length ys) frees.due ∙ length-set old.store.due place 0 ∙ work.long.due ∙ sym lengths;
     to = ap (λ (ys : List ℕ). length ys) frees.others.to ∙ work.long.to ∙ sym lengths;
     waves = ap (λ (ys : List ℕ). length ys) frees.others.waves ∙ work.long.waves ∙ sym lengths;
   }
-
-  pub freed_owners : AreOwners g new
-  freed_owners = owners_on g old new frees.others.table frees.others.owners work.owners
 
   freed_high : AreHigh new
   freed_high =
@@ -167,7 +163,6 @@ module _ (g : Game) (functions : ℕ) (routed : AreRouted g functions) (alike : 
       firm = record {
         table = freed_table;
         long = freed_long;
-        owners = freed_owners;
         marked = marked_on g old new (ap (λ (t : Table). t.contexts.items) frees.others.table) frees.others.marks work.marked;
         high = freed_high;
         callers = callers_on old new frees.others.table frees.others.to frees.others.lists work.callers;

@@ -18,7 +18,7 @@ use Rattle.cw_linked.specs.declared.work.Work.{Work}
 use Rattle.cw_linked.specs.Added.{AreBlocks, Pushes}
 use Rattle.cw_linked.specs.Calls.{AreCallers}
 use Rattle.cw_linked.specs.Founds.{IsLink}
-use Rattle.cw_linked.specs.Queues.{AreLong, IsOwner, AreOwners, AreHigh, IsLinkAt, AreMarked, AreDue}
+use Rattle.cw_linked.specs.Queues.{AreLong, AreHigh, IsLinkAt, AreMarked, AreDue}
 use Rattle.cw_linked.specs.Works.{AreUpTo, place_at, value_at}
 use Rattle.cw_linked.proofs.Adding.{before_push, after_push, push_cases}
 use Rattle.cw_linked.proofs.Bounding.{place_is}
@@ -128,7 +128,6 @@ module _ (g : Game) (old new : Work) (c : Context) (blocks : AreBlocks g old.tab
   pub pushed_long : AreLong old → AreLong new
   pushed_long long = record {
     marks = pushes.places.long ∙ ap (λ (n : ℕ). n + many) long.marks ∙ sym cells;
-    owners = longer_by old.owners.items new.owners.items (length Contexts) long.owners pushes.owners;
     asked = longer_by old.store.asked new.store.asked 0 long.asked pushes.places.asked;
     due = longer_by old.store.due new.store.due 0 long.due pushes.places.due;
     to = longer_by old.store.to new.store.to 0 long.to pushes.places.to;
@@ -146,36 +145,6 @@ module _ (g : Game) (old new : Work) (c : Context) (blocks : AreBlocks g old.tab
     waves = subst (λ (n : ℕ). AreUpTo new.store.waves n) (sym pushes.written) (subst (λ (ys : List ℕ). AreUpTo ys old.table.written) (sym pushes.places.waves)
         (up_to_append old.store.waves many 0 old.table.written (omega arith) high.waves));
   }
-
-  -- each new place is one of the new context
-  pub pushed_owners : AreLong old → AreOwners g old → AreOwners g new
-  pushed_owners long owners k lt =
-      subst (λ (cs : List Context). IsOwner g cs (slice_index new.owners.items k) k) (sym pushes.contexts)
-      (subst (λ (ys : List ℕ). IsOwner g More (slice_index ys k) k) (sym pushes.owners)
-      (elim (cases_lt k (length old.table.heights.items)) [
-        | inl before ↦
-            let o = owners k before in
-            let e = get_or_append_left old.owners.items (replicate many (length Contexts)) 0 k (omega (arith, before, long.owners)) in
-            subst (λ (i : ℕ). IsOwner g More i k) (sym e) (owner_on (slice_index old.owners.items k) k o)
-        | inr after ↦
-            let e = get_or-append_right old.owners.items (replicate many (length Contexts)) (length old.owners.items) k 0 refl (omega (arith, after, long.owners)) in
-            let v = get_or-replicate many (k - length old.owners.items) (length Contexts) 0 (omega (arith, after, long.owners, lt, cells)) in
-            subst (λ (i : ℕ). IsOwner g More i k) (sym (e ∙ v)) (
-              omega (arith, length_push Contexts c),
-              (let b = base_end g Contexts c in omega (arith, b, after, blocks.cells)),
-              (let b = base_past in omega (arith, b, lt, cells, blocks.cells, cells_longer g Contexts c)),
-            )
-      ]))
-    where
-      base_past : base g More (length Contexts + 1) ≡ cells_of g More
-      base_past = ap (λ (cs : List Context). cells_of g cs) (take_all (length Contexts + 1) More (omega (arith, length_push Contexts c)))
-
-      owner_on : (i k : ℕ) → IsOwner g Contexts i k → IsOwner g More i k
-      owner_on i k o = (
-        omega (arith, o.0, length_push Contexts c),
-        (let b = base_before g Contexts c i (omega (arith, o.0)) in omega (arith, b, o.1)),
-        (let b = base_before g Contexts c (i + 1) (omega (arith, o.0)) in omega (arith, b, o.2)),
-      )
 
   -- and each of its links' places is marked
   pub pushed_marked : AreLong old → AreMarked g old → AreMarked g new

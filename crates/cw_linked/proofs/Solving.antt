@@ -74,14 +74,12 @@ module _ (g : Game) (w : Work) (blank : IsBlankWork w) where
           omega (arith, written, none, length_is));
     };
     long = record {
-      owners = long_as w.owners.items blank.owners;
       marks = ap (λ (ms : List Bool). length ms) blank.store.marks ∙ sym (ap (λ (ys : List ℕ). length ys) blank.heights);
       asked = long_as w.store.asked blank.store.asked;
       due = long_as w.store.due blank.store.due;
       to = long_as w.store.to blank.store.to;
       waves = long_as w.store.waves blank.store.waves;
     };
-    owners = λ k lt. absurd (no_place k lt);
     marked = λ k l. absurd (no_cell g Contexts blank.contexts l.0 l.1 l.2 l.3 l.5.cell);
     high = record {
       heights = up_to_none w.table.heights.items w.table.written blank.heights;
@@ -101,7 +99,6 @@ module _ (g : Game) (w : Work) (blank : IsBlankWork w) where
   begun_work new c adds = record {
     table = adds.firm.table;
     long = adds.firm.long;
-    owners = adds.firm.owners;
     marked = adds.firm.marked;
     high = adds.firm.high;
     callers = adds.firm.callers;

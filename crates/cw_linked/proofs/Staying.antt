@@ -7,13 +7,7 @@ use Rattle.cw_solve.specs.declared.contexts.Context.{Context}
 use Rattle.cw_solve.specs.declared.table.Table.{Table}
 use Rattle.cw_linked.specs.declared.work.Work.{Work}
 use Rattle.cw_linked.specs.Calls.{AreCallers}
-use Rattle.cw_linked.specs.Queues.{IsOwner, AreOwners, IsLinkAt, AreMarked}
-
-pub owners_on : (g : Game) (old new : Work) → new.table ≡ old.table → new.owners.items ≡ old.owners.items → AreOwners g old → AreOwners g new
-owners_on g old new table same owners k lt =
-    subst (λ (t : Table). IsOwner g t.contexts.items (slice_index new.owners.items k) k) (sym table)
-    (subst (λ (ys : List ℕ). IsOwner g old.table.contexts.items (slice_index ys k) k) (sym same)
-    (owners k (subst (λ (t : Table). k < length t.heights.items) table lt)))
+use Rattle.cw_linked.specs.Queues.{IsLinkAt, AreMarked}
 
 -- each link's place is marked still
 pub marked_on : (g : Game) (old new : Work) → new.table.contexts.items ≡ old.table.contexts.items → new.store.marks ≡ old.store.marks → AreMarked g old → AreMarked g new

@@ -1,11 +1,11 @@
 -- The cell of the least key is taken from the vectors: what the solver keeps then.
-use Rattle.std.proofs.Common.{◌≡◌, ℕ, zero, suc, ◌+◌, ◌-◌, ◌*◌, ◌/◌, ◌%◌, ◌<◌, ◌≤◌, List, [], ◌∷◌, Bool, cond, not, Some, length, get_or, set, take, refl, sym, ap, ◌∙◌, subst, arith}
+use Rattle.std.proofs.Common.{◌≡◌, ℕ, zero, suc, ◌+◌, ◌-◌, ◌*◌, ◌/◌, ◌<◌, ◌≤◌, List, [], ◌∷◌, Bool, cond, not, Some, length, get_or, set, take, refl, sym, ap, ◌∙◌, subst, arith}
 use Rattle.std.specs.Prelude.{slice_get, slice_index, nat_eq, count_by}
 use Rattle.std.proofs.lemmas.Bool.{eq-eqb, ne_eqb}
 use Rattle.std.proofs.lemmas.Nat.{div-mul-add}
 use Rattle.std.proofs.lemmas.List.{length-set, get_or_default}
 use Rattle.std.proofs.lemmas.List.Sums.{sum_by-set}
-use Rattle.std.proofs.lemmas.Option.{get_or_from_slice_get, slice_get_within}
+use Rattle.std.proofs.lemmas.Option.{slice_get_within}
 use Rattle.cw_game.specs.Games.{Game}
 use Rattle.cw_solve.specs.declared.contexts.Context.{Context}
 use Rattle.cw_solve.specs.declared.table.Table.{Table}
@@ -18,11 +18,11 @@ use Rattle.cw_linked.specs.declared.work.Work.{Work}
 use Rattle.cw_linked.specs.Calls.{AreCallers}
 use Rattle.cw_linked.specs.Founds.{Found, AreAlike, AreRight, AllClosed, AllCalled, AllStanding, AreAbove}
 use Rattle.cw_linked.specs.Popped.{TakesCell, IsWork, IsTaken}
-use Rattle.cw_linked.specs.Queues.{found_of, AreLong, IsOwner, AreOwners, AreHigh, IsLinkAt, AreDue, IsCellAt}
+use Rattle.cw_linked.specs.Queues.{found_of, AreLong, AreHigh, IsLinkAt, AreDue, IsCellAt}
 use Rattle.cw_linked.specs.Steps.{with_heights, Takes, WaitsFor, CallsThere, ReturnsThere}
 use Rattle.cw_linked.specs.Works.{AreUpTo, place_at, value_at}
 use Rattle.cw_linked.proofs.Bounding.{place_is}
-use Rattle.cw_linked.proofs.Placing.{cell_is}
+use Rattle.cw_linked.proofs.Placing.{owned, cell_is}
 use Rattle.cw_linked.proofs.Popping.{least_above}
 use Rattle.cw_linked.proofs.Staying.{marked_on}
 use Rattle.cw_linked.proofs.Taking.{taken_right, taken_closed, taken_called, taken_standing}
@@ -45,17 +45,18 @@ pub few_number : (contexts : List Context) (i : ℕ) (c : Context) → slice_get
 few_number contexts i c at = slice_get_within contexts i c at
 
 -- each place is that of a cell
-pub cell_for : (g : Game) (functions : ℕ) (routed : AreRouted g functions) (w : Work) → IsTable g w.table → AreLong w → AreOwners g w → (k : ℕ) → k < length w.table.heights.items → (cell : Cell) × IsCellAt g w k cell
-cell_for g functions routed w table long owners k lt =
-    let i = slice_index w.owners.items k in
-    let owner = owners k lt in
+pub cell_for : (g : Game) (functions : ℕ) (routed : AreRouted g functions) (w : Work) → IsTable g w.table → (k : ℕ) → k < length w.table.heights.items → (cell : Cell) × IsCellAt g w k cell
+cell_for g functions routed w table k lt =
+    let own = owned g w.table table k lt in
+    let i = own.0 in
+    let owner = own.1 in
     let c = there_is w.table.contexts.items i owner.0 in
-    let from : i ≡ get_or w.owners.items k i = sym (get_or_default w.owners.items k i 0 (omega (arith, lt, long.owners))) in
-    let read : c.0 ≡ get_or w.table.contexts.items i c.0 = sym (get_or_from_slice_get w.table.contexts.items i c.0 c.0 c.1) in
     let b = slice_index w.table.bases.items i in
-    let begins : b ≡ get_or w.table.bases.items i b = sym (get_or_default w.table.bases.items i b 0 (omega (arith, owner.0, table.bases))) in (
-      record { at = record { number = i; context = c.0 }; pos = record { 0 = g.entry c.0.function + (k - b) % positions g c.0.function }; state = record { 0 = (k - b) / positions g c.0.function } },
-      cell_is g functions routed w table long owners k i c.0 lt from read b (positions g c.0.function) (g.entry c.0.function) begins refl refl,
+    let begins : b ≡ get_or w.table.bases.items i b = sym (get_or_default w.table.bases.items i b 0 (omega (arith, owner.0, table.bases))) in
+    let run = positions g c.0.function in
+    let state = (k - b) / run in (
+      record { at = record { number = i; context = c.0 }; pos = record { 0 = g.entry c.0.function + (k - b - state * run) }; state = record { 0 = state } },
+      cell_is g functions routed w table k i (record { number = i; context = c.0 }) owner refl c.1 b run (g.entry c.0.function) state begins refl refl refl,
     )
 
 pub up_more : (values : List ℕ) (a b : ℕ) → a ≤ b → AreUpTo values a → AreUpTo values b
@@ -93,7 +94,7 @@ module _ (g : Game) (functions : ℕ) (routed : AreRouted g functions) (alike : 
   Contexts = old.table.contexts.items
 
   here : (cell : Cell) × IsCellAt g old place cell
-  here = cell_for g functions routed old work.table work.long work.owners place takes.within
+  here = cell_for g functions routed old work.table place takes.within
 
   lost : (slice_index old.table.heights.items place ≡ 0) × (slice_index old.store.asked place ≡ 2 * height)
   lost =
@@ -129,18 +130,12 @@ module _ (g : Game) (functions : ℕ) (routed : AreRouted g functions) (alike : 
 
   pub is_long : AreLong new
   is_long = record {
-    owners = ap (λ (ys : List ℕ). length ys) takes.owners ∙ work.long.owners ∙ sym same_length;
     marks = ap (λ (ms : List Bool). length ms) takes.marks ∙ work.long.marks ∙ sym same_length;
     asked = ap (λ (ys : List ℕ). length ys) takes.asked ∙ length-set old.store.asked place 0 ∙ work.long.asked ∙ sym same_length;
     due = ap (λ (ys : List ℕ). length ys) takes.due ∙ work.long.due ∙ sym same_length;
     to = ap (λ (ys : List ℕ). length ys) takes.to ∙ work.long.to ∙ sym same_length;
     waves = ap (λ (ys : List ℕ). length ys) takes.waves ∙ work.long.waves ∙ sym same_length;
   }
-
-  pub are_owners : AreOwners g new
-  are_owners k lt =
-      let old_is = work.owners k (omega (arith, lt, same_length)) in
-      subst (λ (cs : List Context). IsOwner g cs (slice_index new.owners.items k) k) (sym takes.contexts) (subst (λ (ys : List ℕ). IsOwner g Contexts (slice_index ys k) k) (sym takes.owners) old_is)
 
   are_high : AreHigh new
   are_high =
@@ -224,7 +219,6 @@ module _ (g : Game) (functions : ℕ) (routed : AreRouted g functions) (alike : 
     is_taken = record {
       table = is_table;
       long = is_long;
-      owners = are_owners;
       marked = marked_on g old new takes.contexts takes.marks work.marked;
       high = are_high;
       callers = are_callers;

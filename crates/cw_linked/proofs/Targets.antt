@@ -39,7 +39,6 @@ pub firm_open : (g : Game) (w : Work) → IsFirm g w → IsOpen g w
 firm_open g w firm = record {
   blocks = record { begins = firm.table.begins; bases = firm.table.bases; cells = firm.table.cells; counted = firm.table.counted };
   long = firm.long;
-  owners = firm.owners;
   marked = firm.marked;
   high = firm.high;
   callers = firm.callers;

@@ -6,7 +6,7 @@ use Rattle.cw_game.specs.Games.{Game, Holds}
 use Rattle.cw_game.specs.Pairs.{has, is_call_in}
 use Rattle.cw_solve.specs.declared.contexts.Context.{Context}
 use Rattle.cw_solve.specs.declared.table.Table.{Table}
-use Rattle.cw_solve.specs.declared.table.Tabled.{Tabled}
+use Rattle.cw_solve.specs.Tabled.{Tabled}
 use Rattle.cw_product.specs.Routed.{AreRouted}
 use Rattle.cw_solve.specs.Rounds.{slot, IsCell}
 use Rattle.cw_solve.specs.Tables.{IsTable, HasCell}
@@ -91,7 +91,6 @@ module _ (g : Game) (functions : ℕ) (routed : AreRouted g functions) (alike : 
     is_long =
         let same = ap (λ (t : Table). length t.heights.items) asks.others.table in
         record {
-          owners = ap (λ (y : List ℕ). length y) asks.others.owners ∙ long.owners ∙ sym same;
           marks = ap (λ (ms : List Bool). length ms) asks.others.marks ∙ long.marks ∙ sym same;
           asked = ap (λ (y : List ℕ). length y) asks.asked ∙ asked_length old.table.heights.items old.store.asked place (2 * n) ∙ long.asked ∙ sym same;
           due = ap (λ (y : List ℕ). length y) asks.due ∙ long.due ∙ sym same;
@@ -140,7 +139,7 @@ module _ (g : Game) (functions : ℕ) (routed : AreRouted g functions) (alike : 
 -- nothing changes
 pub nothing : (g : Game) (old : Work) → AreLong old → AreHigh old → AreRight g old.table.contexts.items (found_of g old) → LowersKeys g old old
 nothing g old long high right = record {
-  others = record { table = refl; owners = refl; to = refl; waves = refl; marks = refl; lists = refl };
+  others = record { table = refl; to = refl; waves = refl; marks = refl; lists = refl };
   long = long;
   high = high;
   lowers = record { cells = λ i c p q is lt. (lt, omega arith); links = λ i c p k call is lt. (lt, omega arith) };
@@ -163,7 +162,6 @@ pub two_steps : (g : Game) (old mid new : Work) → LowersKeys g old mid → Low
 two_steps g old mid new a b = record {
   others = record {
     table = b.others.table ∙ a.others.table;
-    owners = b.others.owners ∙ a.others.owners;
     to = b.others.to ∙ a.others.to;
     waves = b.others.waves ∙ a.others.waves;
     marks = b.others.marks ∙ a.others.marks;

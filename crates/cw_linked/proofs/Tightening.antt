@@ -23,8 +23,8 @@ use Rattle.cw_linked.specs.Steps.{with_links, Ties, CallsBy, IsIt}
 use Rattle.cw_linked.specs.Tied.{IsFirm, IsTieable, TiesLink, AsksCalls, AsksAgain}
 use Rattle.cw_linked.specs.Works.{AreUpTo, place_at, value_at}
 use Rattle.cw_linked.proofs.Bounding.{place_is}
-use Rattle.cw_linked.proofs.Finishing.{next_table, next_owners, next_callers, next_marked, next_right, next_cell, next_closed, next_called}
-use Rattle.cw_linked.proofs.Staying.{owners_on, marked_on}
+use Rattle.cw_linked.proofs.Finishing.{next_table, next_callers, next_marked, next_right, next_cell, next_closed, next_called}
+use Rattle.cw_linked.proofs.Staying.{marked_on}
 use Rattle.cw_linked.proofs.Takings.{found_in}
 use Rattle.cw_linked.proofs.Telling.{below, up_to_set, still_standing, two_steps}
 use Rattle.cw_linked.proofs.Tying.{tied_right, tied_called, tied_standing}
@@ -116,14 +116,12 @@ module _ (g : Game) (functions : ℕ) (routed : AreRouted g functions) (alike : 
     mid_firm = record {
       table = subst (IsTable g) tables tieable.firm.table;
       long = record {
-        owners = ap (λ (ys : List ℕ). length ys) ties.owners ∙ tieable.firm.long.owners ∙ sym lengths;
         marks = ap (λ (ms : List Bool). length ms) ties.marks ∙ tieable.firm.long.marks ∙ sym lengths;
         asked = ap (λ (ys : List ℕ). length ys) ties.asked ∙ tieable.firm.long.asked ∙ sym lengths;
         due = ap (λ (ys : List ℕ). length ys) ties.due ∙ tieable.firm.long.due ∙ sym lengths;
         to = ap (λ (ys : List ℕ). length ys) ties_to ∙ length-set old.store.to place (suc callee) ∙ tieable.firm.long.to ∙ sym lengths;
         waves = ap (λ (ys : List ℕ). length ys) ties.waves ∙ length-set old.store.waves place moves ∙ tieable.firm.long.waves ∙ sym lengths;
       };
-      owners = owners_on g old mid ties.table ties.owners tieable.firm.owners;
       high = record {
         heights = subst (λ (t : Table). AreUpTo t.heights.items t.written) tables tieable.firm.high.heights;
         asked = subst (λ (t : Table). AreUpTo mid.store.asked (2 * t.written + 2)) tables (subst (λ (ys : List ℕ). AreUpTo ys (2 * old.table.written + 2)) (sym ties.asked) tieable.firm.high.asked);
@@ -215,7 +213,6 @@ module _ (g : Game) (functions : ℕ) (routed : AreRouted g functions) (alike : 
           kept = record {
             table = next_table g functions routed alike mid new mid_firm.table both;
             long = both.long;
-            owners = next_owners g functions routed alike mid new mid_firm.table both mid_firm.owners;
             marked = next_marked g functions routed alike mid new mid_firm.table both mid_firm.marked;
             high = both.high;
             callers = next_callers g functions routed alike mid new mid_firm.table both mid_firm.callers;

@@ -48,8 +48,8 @@ few_cells g w c kept tabled = omega (arith, kept.blocks.cells, tabled.few, cells
 -- Lists are made, places are added to the store, and the context to the table.
 pub pushes_then : (g : Game) (old mid new : Work) (c : Context) (reached : Stored) (many : ℕ) → reached ≡ with_lists old.store reached.lists → length old.store.lists ≤ length reached.lists
     → length old.table.contexts.items + 2 ≤ length reached.lists → PushesPlaces reached mid.store (size g c.function) → MarksLinks g reached.marks mid.store.marks c.function (size g c.function)
-    → mid.table ≡ old.table → mid.owners.items ≡ old.owners.items → PushesContext mid new c many → many ≡ size g c.function → Pushes g old new c (size g c.function)
-pushes_then g old mid new c reached many same more enough added marked table owners pushes size_is =
+    → mid.table ≡ old.table → PushesContext mid new c many → many ≡ size g c.function → Pushes g old new c (size g c.function)
+pushes_then g old mid new c reached many same more enough added marked table pushes size_is =
     let places = subst (λ (s : Stored). PushesPlaces s mid.store (size g c.function)) same added in
     let there : PushesContext mid new c (size g c.function) = subst (λ (n : ℕ). PushesContext mid new c n) size_is pushes in
     let all : PushesPlaces old.store mid.store (size g c.function) = record {
@@ -66,8 +66,6 @@ pushes_then g old mid new c reached many same more enough added marked table own
       bases = there.bases ∙ ap (λ (t : Table). t.bases.items ++ length t.heights.items ∷ []) table;
       written = there.written ∙ ap (λ (t : Table). t.written) table;
       heights = there.heights ∙ ap (λ (t : Table). t.heights.items ++ replicate (size g c.function) 0) table;
-      owners = there.owners ∙ ap (λ (t : Table). mid.owners.items ++ replicate (size g c.function) (length t.contexts.items)) table
-          ∙ ap (λ (ys : List ℕ). ys ++ replicate (size g c.function) (length old.table.contexts.items)) owners;
       places = subst (λ (s : Stored). PushesPlaces old.store s (size g c.function)) (sym there.store) all;
       marked = subst (λ (s : Stored). MarksLinks g old.store.marks s.marks c.function (size g c.function)) (sym there.store)
           (subst (λ (s : Stored). MarksLinks g s.marks mid.store.marks c.function (size g c.function)) same marked);

@@ -8,7 +8,7 @@ use Rattle.cw_marks.specs.Marks.{is_marked}
 use Rattle.cw_store.specs.Stores.{Stored}
 use Rattle.cw_solve.specs.declared.contexts.Context.{Context}
 use Rattle.cw_solve.specs.declared.table.Table.{Table}
-use Rattle.cw_solve.specs.declared.table.Tabled.{Tabled}
+use Rattle.cw_solve.specs.Tabled.{Tabled}
 use Rattle.cw_product.specs.Routed.{IsOf}
 use Rattle.cw_solve.specs.Contexts.{size, cells_of}
 use Rattle.cw_solve.specs.Rounds.{positions, IsCell}
@@ -16,7 +16,7 @@ use Rattle.cw_solve.specs.Tables.{is_none, HasCell}
 use Rattle.cw_linked.specs.declared.work.Work.{Work}
 use Rattle.cw_linked.specs.Calls.{AreCallers}
 use Rattle.cw_linked.specs.Founds.{class_of, IsLink, AreRight, IsClosed, Nothing, AllClosed, AllCalled, AllStanding}
-use Rattle.cw_linked.specs.Queues.{found_of, AreMarked, AreLong, AreOwners, AreHigh, AreDue, AreSameBut, LowersKeys}
+use Rattle.cw_linked.specs.Queues.{found_of, AreMarked, AreLong, AreHigh, AreDue, AreSameBut, LowersKeys}
 use Rattle.cw_linked.specs.Steps.{IsIt}
 use Rattle.cw_linked.specs.Tied.{IsFirm}
 use Rattle.cw_linked.specs.Works.{place_at, heights_of}
@@ -50,13 +50,26 @@ MarksLinks g old new function many =
     (p x : ℕ) (call : Called) → IsOf g function p → call_in (slice_get g.spots p) ≡ Some call → class_of g call.split x ≡ x
     → x * positions g function + (p - g.entry function) < many → is_marked new (length old + (x * positions g function + (p - g.entry function))) ≡ true
 
+-- So many places before a position are still to be added, and then so many before the next: none, where it is a link's, which is added behind them; or one more, where it isn't.
+abbrev pub PushesNext : Game → (old new : Stored) → (p x plain more : ℕ) → Type 0
+PushesNext g old new p x plain more =
+    ((more ≡ 0) × PushesPlaces old new (plain + 1) × (is_marked new.marks (length old.marks + plain) ≡ true))
+    ⊎ ((more ≡ plain + 1) × (new ≡ old) × ((call : Called) → call_in (slice_get g.spots p) ≡ Some call → class_of g call.split x ≡ x → ⊥))
+
+-- a function's places in one state up to a position, but for so many before it, which are no links'
+pub record ArePushed (g : Game) (old new : Stored) (function x p plain : ℕ) : Type 0 where
+  pub ahead : g.entry function + plain ≤ p
+  pub places : PushesPlaces old new (p - g.entry function - plain)
+  pub marked : (r : ℕ) (call : Called) → IsOf g function r → r + plain < p → call_in (slice_get g.spots r) ≡ Some call → class_of g call.split x ≡ x
+      → is_marked new.marks (length old.marks + (r - g.entry function)) ≡ true
+  pub rest : (r : ℕ) (call : Called) → r < p → p ≤ r + plain → call_in (slice_get g.spots r) ≡ Some call → class_of g call.split x ≡ x → ⊥
+
 -- a context is added to the table, and the rest is the same
 pub record PushesContext (old new : Work) (context : Context) (many : ℕ) : Type 0 where
   pub contexts : new.table.contexts.items ≡ old.table.contexts.items ++ context ∷ []
   pub bases : new.table.bases.items ≡ old.table.bases.items ++ length old.table.heights.items ∷ []
   pub written : new.table.written ≡ old.table.written
   pub heights : new.table.heights.items ≡ old.table.heights.items ++ replicate many 0
-  pub owners : new.owners.items ≡ old.owners.items ++ replicate many (length old.table.contexts.items)
   pub store : new.store ≡ old.store
 
 -- a context is added, with so many cells of which none has a height or waits, and links that go nowhere
@@ -65,7 +78,6 @@ pub record Pushes (g : Game) (old new : Work) (context : Context) (many : ℕ) :
   pub bases : new.table.bases.items ≡ old.table.bases.items ++ length old.table.heights.items ∷ []
   pub written : new.table.written ≡ old.table.written
   pub heights : new.table.heights.items ≡ old.table.heights.items ++ replicate many 0
-  pub owners : new.owners.items ≡ old.owners.items ++ replicate many (length old.table.contexts.items)
   pub places : PushesPlaces old.store new.store many
   pub marked : MarksLinks g old.store.marks new.store.marks context.function many
   pub lists : length old.table.contexts.items + 1 < length new.store.lists
@@ -118,7 +130,6 @@ pub record AsksCells (g : Game) (old new : Work) (j : ℕ) (c : Context) (These 
 pub record IsOpen (g : Game) (w : Work) : Type 0 where
   pub blocks : AreBlocks g w.table
   pub long : AreLong w
-  pub owners : AreOwners g w
   pub marked : AreMarked g w
   pub high : AreHigh w
   pub callers : AreCallers w

@@ -14,3 +14,4 @@ pub mod Edges
 pub mod Measures
 pub mod Solving
 pub mod Links
+pub mod Runs

@@ -9,7 +9,7 @@ use Rattle.cw_linked.specs.declared.work.Cell.{Cell}
 use Rattle.cw_linked.specs.declared.work.Work.{Work}
 use Rattle.cw_linked.specs.Calls.{AreCallers}
 use Rattle.cw_linked.specs.Founds.{AreRight, AllClosed, AllCalled, AllStanding, AreFound}
-use Rattle.cw_linked.specs.Queues.{found_of, AreMarked, AreLong, AreSameBut, AreOwners, AreHigh, AreDue}
+use Rattle.cw_linked.specs.Queues.{found_of, AreMarked, AreLong, AreSameBut, AreHigh, AreDue}
 use Rattle.cw_linked.specs.Steps.{WaitsFor, CallsThere, ReturnsThere}
 use Rattle.cw_linked.specs.Works.{heights_of}
 
@@ -23,7 +23,6 @@ pub record TakesCell (old new : Work) (place height : ℕ) : Type 0 where
   pub bases : new.table.bases.items ≡ old.table.bases.items
   pub heights : new.table.heights.items ≡ slice_set old.table.heights.items place height
   pub written : new.table.written ≡ old.table.written + 1
-  pub owners : new.owners.items ≡ old.owners.items
   pub marks : new.store.marks ≡ old.store.marks
   pub asked : new.store.asked ≡ slice_set old.store.asked place 0
   pub due : new.store.due ≡ old.store.due
@@ -51,7 +50,6 @@ Pops old new (OfLink place moves) = FreesLink old new place moves
 pub record IsWork (g : Game) (w : Work) : Type 0 where
   pub table : IsTable g w.table
   pub long : AreLong w
-  pub owners : AreOwners g w
   pub marked : AreMarked g w
   pub high : AreHigh w
   pub callers : AreCallers w
@@ -62,7 +60,6 @@ pub record IsWork (g : Game) (w : Work) : Type 0 where
 pub record IsTaken (g : Game) (w : Work) (cell : Cell) (height : ℕ) : Type 0 where
   pub table : IsTable g w.table
   pub long : AreLong w
-  pub owners : AreOwners g w
   pub marked : AreMarked g w
   pub high : AreHigh w
   pub callers : AreCallers w

@@ -5,7 +5,7 @@ use Rattle.cw_game.specs.Pairs.{Called}
 use Rattle.cw_marks.specs.Marks.{is_marked}
 use Rattle.cw_store.specs.Keys.{lowered}
 use Rattle.cw_solve.specs.declared.contexts.Context.{Context}
-use Rattle.cw_solve.specs.declared.table.Tabled.{Tabled}
+use Rattle.cw_solve.specs.Tabled.{Tabled}
 use Rattle.cw_product.specs.Routed.{IsOf}
 use Rattle.cw_solve.specs.Rounds.{base, slot}
 use Rattle.cw_solve.specs.Tables.{HasCell}
@@ -29,7 +29,6 @@ found_of g w = record {
 
 -- each vector has a number for each cell
 pub record AreLong (w : Work) : Type 0 where
-  pub owners : length w.owners.items ≡ length w.table.heights.items
   pub marks : length w.store.marks ≡ length w.table.heights.items
   pub asked : length w.store.asked ≡ length w.table.heights.items
   pub due : length w.store.due ≡ length w.table.heights.items
@@ -39,7 +38,6 @@ pub record AreLong (w : Work) : Type 0 where
 -- all but the keys of cells and of links is the same
 pub record AreSameBut (old new : Work) : Type 0 where
   pub table : new.table ≡ old.table
-  pub owners : new.owners.items ≡ old.owners.items
   pub marks : new.store.marks ≡ old.store.marks
   pub to : new.store.to ≡ old.store.to
   pub waves : new.store.waves ≡ old.store.waves
@@ -68,9 +66,6 @@ pub record IsCellAt (g : Game) (w : Work) (k : ℕ) (cell : Cell) : Type 0 where
 -- a context whose cells have the place among theirs
 abbrev pub IsOwner : Game → List Context → (i place : ℕ) → Type 0
 IsOwner g contexts i place = (i < length contexts) × (base g contexts i ≤ place) × (place < base g contexts (i + 1))
-
-abbrev pub AreOwners : Game → Work → Type 0
-AreOwners g w = (k : ℕ) → k < length w.table.heights.items → IsOwner g w.table.contexts.items (slice_index w.owners.items k) k
 
 -- heights, numbers of moves and keys are no higher than so many cells have heights
 pub record AreHigh (w : Work) : Type 0 where

@@ -19,7 +19,6 @@ pub record IsBlankWork (w : Work) : Type 0 where
   pub bases : w.table.bases.items ≡ []
   pub heights : w.table.heights.items ≡ []
   pub written : w.table.written ≡ 0
-  pub owners : w.owners.items ≡ []
   pub store : IsBlank w.store
 
 -- a context that is needed and not tabled, and whose cells are too many beside those that are there

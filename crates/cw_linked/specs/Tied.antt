@@ -10,14 +10,13 @@ use Rattle.cw_linked.specs.declared.work.Cell.{Cell}
 use Rattle.cw_linked.specs.declared.work.Work.{Work}
 use Rattle.cw_linked.specs.Calls.{AreCallers}
 use Rattle.cw_linked.specs.Founds.{IsLink, height_back, IsShrinking, AreRight, Nothing, AllClosed, AllCalled, AllStanding}
-use Rattle.cw_linked.specs.Queues.{found_of, AreMarked, AreLong, AreOwners, AreHigh, AreDue, LowersKeys, IsCellAt}
+use Rattle.cw_linked.specs.Queues.{found_of, AreMarked, AreLong, AreHigh, AreDue, LowersKeys, IsCellAt}
 use Rattle.cw_linked.specs.Steps.{IsReady, CallsBy, IsIt}
 
 -- what the solver keeps but for what waits
 pub record IsFirm (g : Game) (w : Work) : Type 0 where
   pub table : IsTable g w.table
   pub long : AreLong w
-  pub owners : AreOwners g w
   pub marked : AreMarked g w
   pub high : AreHigh w
   pub callers : AreCallers w
@@ -56,7 +55,6 @@ pub record IsTieable (g : Game) (w : Work) (link : Cell) (place moves callee bac
 -- the link at a place goes to a context, with a promise for so many moves
 pub record TiesLink (old new : Work) (place number moves : ℕ) : Type 0 where
   pub table : new.table ≡ old.table
-  pub owners : new.owners.items ≡ old.owners.items
   pub marks : new.store.marks ≡ old.store.marks
   pub asked : new.store.asked ≡ old.store.asked
   pub due : new.store.due ≡ old.store.due

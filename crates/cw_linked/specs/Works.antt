@@ -5,7 +5,7 @@ use Rattle.cw_core.specs.declared.ids.StateId.{StateId}
 use Rattle.cw_game.specs.Games.{Game}
 use Rattle.cw_solve.specs.declared.contexts.Context.{Context}
 use Rattle.cw_solve.specs.declared.table.Table.{Table}
-use Rattle.cw_solve.specs.declared.table.Tabled.{Tabled}
+use Rattle.cw_solve.specs.Tabled.{Tabled}
 use Rattle.cw_solve.specs.Rounds.{slot}
 use Rattle.cw_linked.specs.declared.work.Cell.{Cell}
 

@@ -15,7 +15,7 @@ use crate::work::{Work, ask_link};
 use cw_core::{NoMemory, PosId, StateId};
 use cw_product::Game;
 use cw_solve::Context;
-use cw_solve::table::{Tabled, size, slot};
+use cw_solve::table::{Tabled, numbered, size, slot};
 use std::alloc::Global;
 
 /// Has the link of a cell wait to be tied, if the cell is that of one.
@@ -75,7 +75,8 @@ fn free_all(game: &Game, work: &mut Work, at: &Tabled) -> Result<(), NoMemory>
     requires marked { AreMarked (game_of game.now) work.old }
     ensures { OnOk result (FreesLinks (game_of game.now) work.old work.new at.now.number at.now.context Each) }
 {
-    for p in game.entry(at.context.function).0..game.exit(at.context.function).0 + 1 {
+    let function = at.function();
+    for p in game.entry(function).0..game.exit(function).0 + 1 {
         free_links(game, work, at, PosId(p))?;
     }
     Ok(())
@@ -109,7 +110,7 @@ pub(crate) fn add(
 {
     let number = work.table.contexts.len();
     enlarge(alloc, game, work, &context)?;
-    let at = Tabled { number, context };
+    let at = numbered(game, &work.table, number);
     free_all(game, work, &at)?;
     ask_all(game, work, &at)?;
     Ok(())

@@ -59,7 +59,8 @@ pub(crate) fn ask_all(game: &Game, work: &mut Work, at: &Tabled) -> Result<(), N
     requires fresh { HasNoHeights (game_of game.now) work.old.table at.now }
     ensures { OnOk result (AsksCells (game_of game.now) work.old work.new at.now.number at.now.context Each) }
 {
-    for p in game.entry(at.context.function).0..game.exit(at.context.function).0 + 1 {
+    let function = at.function();
+    for p in game.entry(function).0..game.exit(function).0 + 1 {
         ask_position(game, work, at, PosId(p))?;
     }
     Ok(())

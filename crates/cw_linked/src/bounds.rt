@@ -7,7 +7,7 @@ ghost use Rattle.cw_product.specs.Moves.{IsState, next_at};
 ghost use Rattle.cw_solve.specs.Asking.{holds_after, holds_by_moves};
 ghost use Rattle.cw_product.specs.Routed.{AreRouted};
 ghost use Rattle.cw_solve.specs.Rounds.{holds_by};
-ghost use Rattle.cw_solve.specs.Tables.{IsTable, HasCell};
+ghost use Rattle.cw_solve.specs.Tables.{IsTable, IsTabled, HasCell};
 ghost use Rattle.cw_linked.specs.Founds.{told};
 ghost use Rattle.cw_linked.specs.Steps.{IsBound};
 ghost use Rattle.cw_linked.specs.Works.{heights_of, AreUpTo};
@@ -16,7 +16,6 @@ use cw_certs::Move;
 use cw_core::{PosId, StateId};
 use cw_game::Spot;
 use cw_product::Game;
-use cw_solve::Context;
 use cw_solve::table::{Table, Tabled, slot};
 
 /// The height of the pair to which a move leads, 0 where none is taken or the move isn't there.
@@ -107,13 +106,14 @@ fn moves_bound(
 
 /// The number of moves within which the end of a function is lost: 1 where it isn't the end of `main` and the context doesn't
 /// promise the state, else 0.
-fn exit_bound(game: &Game, context: &Context, function: u32, state: StateId) -> u32
+fn exit_bound(game: &Game, table: &Table, at: &Tabled, function: u32, state: StateId) -> u32
+    requires tabled { IsTabled table.now at.now }
     requires state { IsState (game_of game.now) state.0 }
     requires few { (game_of game.now).states.count ≤ 1024 }
-    ensures tells { (n : ℕ) → holds_by (suc n) result ≡ (nat_eq function (game_of game.now).main || has context.now.promise state.0) }
+    ensures tells { (n : ℕ) → holds_by (suc n) result ≡ (nat_eq function (game_of game.now).main || has at.now.context.promise state.0) }
     ensures most { result ≤ 1 }
 {
-    if function == u32::from(game.main()) || context.promise.contains(state) {
+    if function == u32::from(game.main()) || table.contexts[at.number()].promise.contains(state) {
         0
     } else {
         1
@@ -135,7 +135,7 @@ pub(crate) fn bound(game: &Game, table: &Table, at: &Tabled, pos: PosId, state: 
     let spot = game.spot(pos);
     match spot {
         Spot::Call(_, _, _) | Spot::SplitCall(_, _, _) => 0,
-        Spot::Exit(function) => exit_bound(game, &at.context, function, state),
+        Spot::Exit(function) => exit_bound(game, table, at, function, state),
         Spot::Label(_, _, _) => {
             if game.bad(pos, state) {
                 1

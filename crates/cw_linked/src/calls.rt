@@ -8,14 +8,14 @@ ghost use Rattle.cw_product.specs.Routed.{AreRouted};
 ghost use Rattle.cw_solve.specs.Tables.{IsTable, HasCell};
 ghost use Rattle.cw_linked.specs.Calls.{AreCallers, AsksCaller, AsksCallers};
 ghost use Rattle.cw_linked.specs.Founds.{class_of, AreRight, AllCalled};
-ghost use Rattle.cw_linked.specs.Queues.{found_of, AreMarked, AreLong, AreOwners, AreHigh};
+ghost use Rattle.cw_linked.specs.Queues.{found_of, AreMarked, AreLong, AreHigh};
 ghost use Rattle.cw_linked.specs.Steps.{CallsThere};
-ghost use Rattle.cw_linked.specs.Works.{heights_of};
+ghost use Rattle.cw_linked.specs.Works.{heights_of, cell_of};
 
 use crate::work::{Cell, Work, ask_cell, cell_at};
 use cw_core::{NoMemory, PosId, StateId};
 use cw_product::{Game, Turn};
-use cw_solve::table::slot;
+use cw_solve::table::{Tabled, slot};
 
 /// The state that stands for those that are alike at the call at a position; none where no call is.
 pub(crate) fn class_at(game: &Game, pos: PosId, state: StateId) -> Option<StateId>
@@ -65,45 +65,50 @@ fn greater(work: &Work, link: usize, height: u32) -> u32
     if moves < height { height } else { moves }
 }
 
-/// Whether the link at a place goes to the context of a number.
-fn goes_to(work: &Work, link: usize, number: usize) -> bool
+/// Whether the link at a place goes to a context.
+fn goes_to(work: &Work, link: usize, at: &Tabled) -> bool
     requires long { AreLong work.now }
     requires within { link < length work.now.table.heights.items }
-    ensures is { result ≡ true → slice_index work.now.store.to link ≡ suc number }
-    ensures not { result ≡ false → slice_index work.now.store.to link ≡ suc number → ⊥ }
+    ensures is { result ≡ true → slice_index work.now.store.to link ≡ suc at.now.number }
+    ensures not { result ≡ false → slice_index work.now.store.to link ≡ suc at.now.number → ⊥ }
 {
     let to = work.store.to(link) as usize;
-    if to == 0 { false } else { to - 1 == number }
+    if to == 0 {
+        false
+    } else {
+        to - 1 == at.number()
+    }
 }
 
 /// Asks for the call of a link that goes to the context of this cell of an entry, if the state of the cell is of its class.
 fn ask_linked(
     game: &Game,
     work: &mut Work,
-    cell: &Cell,
+    at: &Tabled,
+    pos: PosId,
+    state: StateId,
     height: u32,
     link: usize,
 ) -> Result<(), NoMemory>
     requires routed { AreRouted (game_of game.now) (length game.now.graph.parts.items) }
     requires table { IsTable (game_of game.now) work.old.table }
-    requires cell { HasCell (game_of game.now) work.old.table cell.now.at cell.now.pos.0 cell.now.state.0 }
-    requires entry { cell.now.pos.0 ≡ (game_of game.now).entry cell.now.at.context.function }
-    requires taken { heights_of (game_of game.now) work.old.table cell.now.at.number cell.now.pos.0 cell.now.state.0 ≡ height }
+    requires cell { HasCell (game_of game.now) work.old.table at.now pos.0 state.0 }
+    requires entry { pos.0 ≡ (game_of game.now).entry at.now.context.function }
+    requires taken { heights_of (game_of game.now) work.old.table at.now.number pos.0 state.0 ≡ height }
     requires some { 0 < height }
     requires within { link < length work.old.table.heights.items }
-    requires goes { slice_index work.old.store.to link ≡ suc cell.now.at.number }
-    requires owners { AreOwners (game_of game.now) work.old }
+    requires goes { slice_index work.old.store.to link ≡ suc at.now.number }
     requires long { AreLong work.old }
     requires high { AreHigh work.old }
     requires right { AreRight (game_of game.now) work.old.table.contexts.items (found_of (game_of game.now) work.old) }
-    ensures { OnOk result (AsksCaller (game_of game.now) work.old work.new link cell.now) }
+    ensures { OnOk result (AsksCaller (game_of game.now) work.old work.new link (cell_of at.now pos state)) }
 {
     let caller = cell_at(game, work, link);
-    match class_at(game, caller.pos, cell.state) {
+    match class_at(game, caller.pos, state) {
         None => Ok(()),
         Some(class) => {
             if is_same(class, caller.state) {
-                let place = slot(game, &work.table, &caller.at, caller.pos, cell.state);
+                let place = slot(game, &work.table, &caller.at, caller.pos, state);
                 let most = greater(work, link, height);
                 let within = most + 1;
                 ask_cell(work, place, 2 * within)?;
@@ -119,25 +124,26 @@ fn ask_linked(
 pub(crate) fn ask_call(
     game: &Game,
     work: &mut Work,
-    cell: &Cell,
+    at: &Tabled,
+    pos: PosId,
+    state: StateId,
     height: u32,
     link: usize,
 ) -> Result<(), NoMemory>
     requires routed { AreRouted (game_of game.now) (length game.now.graph.parts.items) }
     requires table { IsTable (game_of game.now) work.old.table }
-    requires cell { HasCell (game_of game.now) work.old.table cell.now.at cell.now.pos.0 cell.now.state.0 }
-    requires entry { cell.now.pos.0 ≡ (game_of game.now).entry cell.now.at.context.function }
-    requires taken { heights_of (game_of game.now) work.old.table cell.now.at.number cell.now.pos.0 cell.now.state.0 ≡ height }
+    requires cell { HasCell (game_of game.now) work.old.table at.now pos.0 state.0 }
+    requires entry { pos.0 ≡ (game_of game.now).entry at.now.context.function }
+    requires taken { heights_of (game_of game.now) work.old.table at.now.number pos.0 state.0 ≡ height }
     requires some { 0 < height }
     requires within { link < length work.old.table.heights.items }
-    requires owners { AreOwners (game_of game.now) work.old }
     requires long { AreLong work.old }
     requires high { AreHigh work.old }
     requires right { AreRight (game_of game.now) work.old.table.contexts.items (found_of (game_of game.now) work.old) }
-    ensures { OnOk result (AsksCaller (game_of game.now) work.old work.new link cell.now) }
+    ensures { OnOk result (AsksCaller (game_of game.now) work.old work.new link (cell_of at.now pos state)) }
 {
-    if goes_to(work, link, cell.at.number) {
-        ask_linked(game, work, cell, height, link)?;
+    if goes_to(work, link, at) {
+        ask_linked(game, work, at, pos, state, height, link)?;
         Ok(())
     } else {
         Ok(())
@@ -157,7 +163,6 @@ pub(crate) fn ask_callers(
     requires entry { cell.now.pos.0 ≡ (game_of game.now).entry cell.now.at.context.function }
     requires taken { heights_of (game_of game.now) work.old.table cell.now.at.number cell.now.pos.0 cell.now.state.0 ≡ height }
     requires some { 0 < height }
-    requires owners { AreOwners (game_of game.now) work.old }
     requires callers { AreCallers work.old }
     requires marked { AreMarked (game_of game.now) work.old }
     requires long { AreLong work.old }
@@ -167,10 +172,10 @@ pub(crate) fn ask_callers(
         (CallsThere (game_of game.now) (found_of (game_of game.now) work.old) cell.now.at.number cell.now.pos.0 cell.now.state.0) }
     ensures { OnOk result (AsksCallers (game_of game.now) work.old work.new) }
 {
-    let mut next = work.store.first(cell.at.number as u32 + 1);
+    let mut next = work.store.first(cell.at.number() as u32 + 1);
     'walk: while let Some(link) = next {
         let place = work.store.place(link);
-        ask_call(game, work, cell, height, place)?;
+        ask_call(game, work, &cell.at, cell.pos, cell.state, height, place)?;
         next = work.store.next(link);
     }
     Ok(())

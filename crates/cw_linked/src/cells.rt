@@ -7,7 +7,7 @@ ghost use Rattle.cw_solve.specs.Tables.{IsTable, HasCell};
 ghost use Rattle.cw_linked.specs.Calls.{AreCallers, AsksCallers};
 ghost use Rattle.cw_linked.specs.Founds.{AreRight, AllCalled};
 ghost use Rattle.cw_linked.specs.Popped.{IsTaken, Finishes};
-ghost use Rattle.cw_linked.specs.Queues.{found_of, AreMarked, AreLong, AreOwners, AreHigh};
+ghost use Rattle.cw_linked.specs.Queues.{found_of, AreMarked, AreLong, AreHigh};
 ghost use Rattle.cw_linked.specs.Returns.{AreReturns};
 ghost use Rattle.cw_linked.specs.Steps.{CallsThere};
 ghost use Rattle.cw_linked.specs.Waiting.{AreWaits};
@@ -28,7 +28,6 @@ fn ask_entry(game: &Game, work: &mut Work, cell: &Cell, height: u32) -> Result<(
     requires cell { HasCell (game_of game.now) work.old.table cell.now.at cell.now.pos.0 cell.now.state.0 }
     requires taken { heights_of (game_of game.now) work.old.table cell.now.at.number cell.now.pos.0 cell.now.state.0 ≡ height }
     requires some { 0 < height }
-    requires owners { AreOwners (game_of game.now) work.old }
     requires callers { AreCallers work.old }
     requires marked { AreMarked (game_of game.now) work.old }
     requires long { AreLong work.old }
@@ -38,7 +37,7 @@ fn ask_entry(game: &Game, work: &mut Work, cell: &Cell, height: u32) -> Result<(
         (CallsThere (game_of game.now) (found_of (game_of game.now) work.old) cell.now.at.number cell.now.pos.0 cell.now.state.0) }
     ensures { OnOk result (AsksCallers (game_of game.now) work.old work.new) }
 {
-    if cell.pos.0 == game.entry(cell.at.context.function).0 {
+    if cell.pos.0 == game.entry(cell.at.function()).0 {
         ask_callers(game, work, cell, height)
     } else {
         Ok(())

@@ -1,20 +1,24 @@
 //! What waits for a pair, and which calls return to a position, the same in all contexts.
 
-ghost use Rattle.std.specs.Prelude.{◌≡◌, ◌≤◌, ◌+◌, ◌*◌, length, slice_get, OnOk, IfOk};
+ghost use Rattle.std.specs.Prelude.{◌≡◌, ◌<◌, ◌≤◌, ◌+◌, ◌*◌, length, slice_get, OnOk, IfOk};
 ghost use Rattle.cw_product.specs.Product.{game_of};
 ghost use Rattle.cw_product.specs.Moves.{IsPosition, IsState};
 ghost use Rattle.cw_product.specs.Routed.{AreRouted};
+ghost use Rattle.cw_solve.specs.Rounds.{positions};
 ghost use Rattle.cw_linked.specs.Edges.{AddsSource, AddsMove, AddsMoves, AreSourcesTo, AreChangesTo, AreReturnsTo};
 ghost use Rattle.cw_linked.specs.Returns.{AreReturns};
+ghost use Rattle.cw_linked.specs.Runs.{AreRuns};
 ghost use Rattle.cw_linked.specs.Steps.{first_move, second_move};
 ghost use Rattle.cw_linked.specs.Waiting.{keeps_state, AreSources, AreChanges, AreWaits};
 
+use crate::divisor::Divisor;
 use crate::waiting::pair_number;
 use cw_certs::Move;
 use cw_core::{NoMemory, PosId, StateId};
 use cw_game::Spot;
 use cw_links::Chains;
 use cw_product::{Game, Turn};
+use cw_solve::table::positions;
 use std::alloc::Global;
 
 /// A position and a state.
@@ -39,11 +43,12 @@ pub(crate) struct Waits {
     pub changes: Changes,
 }
 
-/// What waits for a pair; for each position those of the calls that return there.
+/// What waits for a pair; for each position those of the calls that return there; for each function its number of positions.
 #[derive(Drop)]
 pub(crate) struct Edges {
     pub waits: Waits,
     pub returns: Chains<PosId>,
+    pub runs: Vec<Divisor>,
 }
 
 /// The moves at a position, one or two.
@@ -240,11 +245,34 @@ fn make_returns(alloc: Global, game: &Game) -> Result<Chains<PosId>, NoMemory>
     Ok(returns)
 }
 
+/// The divisor by the number of positions of a function.
+fn run(game: &Game, function: u16) -> Divisor
+    requires routed { AreRouted (game_of game.now) (length game.now.graph.parts.items) }
+    requires there { function < length game.now.graph.parts.items }
+    ensures { result ≡ positions (game_of game.now) function }
+{
+    game.is_closed();
+    Divisor::of(positions(game, function))
+}
+
+/// For each function its number of positions.
+fn make_runs(alloc: Global, game: &Game) -> Result<Vec<Divisor>, NoMemory>
+    requires routed { AreRouted (game_of game.now) (length game.now.graph.parts.items) }
+    ensures { IfOk result (λ runs. AreRuns (game_of game.now) (length game.now.graph.parts.items) runs.items) }
+{
+    let mut runs = Vec::new(alloc);
+    for f in 0..game.graph().parts.len().min(65536) {
+        runs.push(run(game, f as u16))?;
+    }
+    Ok(runs)
+}
+
 impl Edges {
     ghost use Rattle.std.specs.Prelude.{length, IfOk};
     ghost use Rattle.cw_product.specs.Product.{game_of};
     ghost use Rattle.cw_product.specs.Routed.{AreRouted};
     ghost use Rattle.cw_linked.specs.Returns.{AreReturns};
+    ghost use Rattle.cw_linked.specs.Runs.{AreRuns};
     ghost use Rattle.cw_linked.specs.Waiting.{AreWaits};
 
     /// The edges of a game. The one error is want of memory.
@@ -252,13 +280,16 @@ impl Edges {
         requires routed { AreRouted (game_of game.now) (length game.now.graph.parts.items) }
         ensures waits { IfOk result (λ edges. AreWaits (game_of game.now) edges.waits) }
         ensures returns { IfOk result (λ edges. AreReturns (game_of game.now) edges.returns) }
+        ensures runs { IfOk result (λ edges. AreRuns (game_of game.now) (length game.now.graph.parts.items) edges.runs.items) }
     {
         let sources = make_sources(alloc, game)?;
         let changes = make_changes(alloc, game)?;
         let returns = make_returns(alloc, game)?;
+        let runs = make_runs(alloc, game)?;
         Ok(Edges {
             waits: Waits { sources, changes },
             returns,
+            runs,
         })
     }
 }

@@ -6,6 +6,7 @@ mod asked;
 mod bounds;
 mod calls;
 mod cells;
+mod divisor;
 mod edges;
 mod links;
 mod popped;

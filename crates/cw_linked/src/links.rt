@@ -13,7 +13,7 @@ use crate::work::{Cell, Work};
 use cw_core::NoMemory;
 use cw_product::{Game, Turn};
 use cw_solve::Context;
-use cw_solve::table::{Tabled, place_of, size};
+use cw_solve::table::{numbered, place_of, size};
 use std::alloc::Global;
 
 /// What comes of a step.
@@ -80,7 +80,7 @@ pub(crate) fn take_link(
     let Some(number) = number_of(alloc, game, work, &context)? else {
         return Ok(Stepped::TooMany(context));
     };
-    let to = Tabled { number, context };
+    let to = numbered(game, &work.table, number);
     tie_link(game, work, place, link, back, moves, &to)?;
     Ok(Stepped::More)
 }

@@ -9,7 +9,7 @@ ghost use Rattle.cw_linked.specs.Founds.{AreRight, AllStanding};
 ghost use Rattle.cw_linked.specs.Queues.{found_of, AreMarked, AreLong, AreHigh};
 ghost use Rattle.cw_linked.specs.Returns.{AreReturns, AreFew, IsPromised, Returns, AsksReturn, AsksReturns};
 ghost use Rattle.cw_linked.specs.Steps.{ReturnsThere};
-ghost use Rattle.cw_linked.specs.Works.{heights_of};
+ghost use Rattle.cw_linked.specs.Works.{heights_of, cell_of};
 
 use crate::calls::class_at;
 use crate::waiting::is_of;
@@ -17,7 +17,7 @@ use crate::work::{Cell, Work, ask_link};
 use cw_core::{NoMemory, PosId, StateId};
 use cw_links::Chains;
 use cw_product::{Game, Turn};
-use cw_solve::table::slot;
+use cw_solve::table::{Tabled, slot};
 
 /// Whether the link at a place goes to a context whose promise has the state.
 fn is_promised(work: &Work, link: usize, state: StateId) -> bool
@@ -53,30 +53,32 @@ fn returns_to(game: &Game, pos: PosId, to: PosId) -> bool
 fn ask_own(
     game: &Game,
     work: &mut Work,
-    cell: &Cell,
+    at: &Tabled,
+    back: PosId,
+    state: StateId,
     height: u32,
     pos: PosId,
 ) -> Result<(), NoMemory>
     requires routed { AreRouted (game_of game.now) (length game.now.graph.parts.items) }
     requires table { IsTable (game_of game.now) work.old.table }
-    requires cell { HasCell (game_of game.now) work.old.table cell.now.at cell.now.pos.0 cell.now.state.0 }
-    requires taken { heights_of (game_of game.now) work.old.table cell.now.at.number cell.now.pos.0 cell.now.state.0 ≡ height }
+    requires cell { HasCell (game_of game.now) work.old.table at.now back.0 state.0 }
+    requires taken { heights_of (game_of game.now) work.old.table at.now.number back.0 state.0 ≡ height }
     requires some { 0 < height }
     requires position { IsPosition (game_of game.now) pos.0 }
-    requires of { IsOf (game_of game.now) cell.now.at.context.function pos.0 }
-    requires returns { Returns (game_of game.now) pos.0 cell.now.pos.0 }
+    requires of { IsOf (game_of game.now) at.now.context.function pos.0 }
+    requires returns { Returns (game_of game.now) pos.0 back.0 }
     requires few { AreFew work.old }
     requires marked { AreMarked (game_of game.now) work.old }
     requires long { AreLong work.old }
     requires high { AreHigh work.old }
     requires right { AreRight (game_of game.now) work.old.table.contexts.items (found_of (game_of game.now) work.old) }
-    ensures { OnOk result (AsksReturn (game_of game.now) work.old work.new cell.now pos.0) }
+    ensures { OnOk result (AsksReturn (game_of game.now) work.old work.new (cell_of at.now back state) pos.0) }
 {
-    match class_at(game, pos, cell.state) {
+    match class_at(game, pos, state) {
         None => Ok(()),
         Some(class) => {
-            let link = slot(game, &work.table, &cell.at, pos, class);
-            if is_promised(work, link, cell.state) {
+            let link = slot(game, &work.table, at, pos, class);
+            if is_promised(work, link, state) {
                 ask_link(work, link, 2 * height + 1)?;
                 Ok(())
             } else {
@@ -90,14 +92,16 @@ fn ask_own(
 pub(crate) fn ask_return(
     game: &Game,
     work: &mut Work,
-    cell: &Cell,
+    at: &Tabled,
+    back: PosId,
+    state: StateId,
     height: u32,
     pos: PosId,
 ) -> Result<(), NoMemory>
     requires routed { AreRouted (game_of game.now) (length game.now.graph.parts.items) }
     requires table { IsTable (game_of game.now) work.old.table }
-    requires cell { HasCell (game_of game.now) work.old.table cell.now.at cell.now.pos.0 cell.now.state.0 }
-    requires taken { heights_of (game_of game.now) work.old.table cell.now.at.number cell.now.pos.0 cell.now.state.0 ≡ height }
+    requires cell { HasCell (game_of game.now) work.old.table at.now back.0 state.0 }
+    requires taken { heights_of (game_of game.now) work.old.table at.now.number back.0 state.0 ≡ height }
     requires some { 0 < height }
     requires position { IsPosition (game_of game.now) pos.0 }
     requires few { AreFew work.old }
@@ -105,15 +109,15 @@ pub(crate) fn ask_return(
     requires long { AreLong work.old }
     requires high { AreHigh work.old }
     requires right { AreRight (game_of game.now) work.old.table.contexts.items (found_of (game_of game.now) work.old) }
-    ensures { OnOk result (AsksReturn (game_of game.now) work.old work.new cell.now pos.0) }
+    ensures { OnOk result (AsksReturn (game_of game.now) work.old work.new (cell_of at.now back state) pos.0) }
 {
-    if !is_of(game, cell.at.context.function, pos) {
+    if !is_of(game, at, pos) {
         return Ok(());
     }
-    if !returns_to(game, pos, cell.pos) {
+    if !returns_to(game, pos, back) {
         return Ok(());
     }
-    ask_own(game, work, cell, height, pos)?;
+    ask_own(game, work, at, back, state, height, pos)?;
     Ok(())
 }
 
@@ -142,7 +146,15 @@ pub(crate) fn ask_returns(
 {
     let mut next = returns.first(cell.pos.0);
     'walk: while let Some(edge) = next {
-        ask_return(game, work, cell, height, *returns.get(edge))?;
+        ask_return(
+            game,
+            work,
+            &cell.at,
+            cell.pos,
+            cell.state,
+            height,
+            *returns.get(edge),
+        )?;
         next = returns.next(edge);
     }
     Ok(())

@@ -1,13 +1,13 @@
 //! One more context: its cells and its links.
 
-ghost use Rattle.std.specs.Prelude.{◌≡◌, ◌++◌, ◌∷◌, [], ◌≤◌, ◌<◌, ◌+◌, true, Some, length, replicate, slice_get, OnOk};
+ghost use Rattle.std.specs.Prelude.{◌≡◌, ◌++◌, ◌∷◌, [], ◌≤◌, ◌<◌, ◌+◌, true, Some, length, replicate, slice_get, OnOk, IfOk};
 ghost use Rattle.cw_game.specs.Pairs.{Called, call_in};
 ghost use Rattle.cw_product.specs.Product.{game_of};
 ghost use Rattle.cw_product.specs.Moves.{IsPosition, IsState};
 ghost use Rattle.cw_solve.specs.Contexts.{size};
 ghost use Rattle.cw_solve.specs.Rounds.{positions};
 ghost use Rattle.cw_product.specs.Routed.{IsThere, AreRouted};
-ghost use Rattle.cw_linked.specs.Added.{PushesPlaces, PushesContext, MarksState, MarksLinks};
+ghost use Rattle.cw_linked.specs.Added.{PushesPlaces, PushesNext, PushesContext, MarksState, MarksLinks};
 ghost use Rattle.cw_linked.specs.Founds.{class_of};
 ghost use Rattle.cw_linked.specs.Queues.{AreLong};
 
@@ -31,6 +31,29 @@ fn is_link(game: &Game, pos: PosId, state: StateId) -> bool
     }
 }
 
+/// Adds the link of a position, where one stands there, behind so many places before it that are none. How many places are still
+/// to be added then.
+fn push_next(
+    game: &Game,
+    store: &mut Store,
+    pos: PosId,
+    state: StateId,
+    plain: u32,
+) -> Result<u32, NoMemory>
+    requires position { IsPosition (game_of game.now) pos.0 }
+    requires state { IsState (game_of game.now) state.0 }
+    requires few { length store.old.marks + (plain + 1) ≤ 4194304 }
+    ensures { IfOk result (λ more. PushesNext (game_of game.now) store.old store.new pos.0 state.0 plain more) }
+{
+    if is_link(game, pos, state) {
+        store.push_plain(plain)?;
+        store.push(true)?;
+        Ok(0)
+    } else {
+        Ok(plain + 1)
+    }
+}
+
 /// Adds the places of a function's positions in one state, of which nothing waits.
 fn push_state(game: &Game, store: &mut Store, function: u16, state: StateId) -> Result<(), NoMemory>
     requires routed { AreRouted (game_of game.now) (length game.now.graph.parts.items) }
@@ -40,9 +63,11 @@ fn push_state(game: &Game, store: &mut Store, function: u16, state: StateId) -> 
     ensures places { OnOk result (PushesPlaces store.old store.new (positions (game_of game.now) function)) }
     ensures marked { OnOk result (MarksState (game_of game.now) store.old.marks store.new.marks function state.0 (positions (game_of game.now) function)) }
 {
+    let mut plain = 0;
     for p in game.entry(function).0..game.exit(function).0 + 1 {
-        store.push(is_link(game, PosId(p), state))?;
+        plain = push_next(game, store, PosId(p), state, plain)?;
     }
+    store.push_plain(plain)?;
     Ok(())
 }
 
@@ -63,15 +88,11 @@ pub(crate) fn push_places(game: &Game, store: &mut Store, function: u16) -> Resu
 /// Adds a context with so many cells, of which none has a height, beside the store.
 pub(crate) fn push(work: &mut Work, context: Context, many: u32) -> Result<(), NoMemory>
     requires few { length work.old.table.heights.items + many ≤ 4194304 }
-    requires owners { length work.old.owners.items ≡ length work.old.table.heights.items }
-    requires contexts { length work.old.table.contexts.items ≤ 4194304 }
     ensures { OnOk result (PushesContext work.old work.new context many) }
 {
     let cells = work.table.heights.len();
-    let number = work.table.contexts.len() as u32;
     let end = cells + many as usize;
     work.table.heights.resize(end, 0)?;
-    work.owners.resize(end, number)?;
     work.table.bases.push(cells as u32)?;
     work.table.contexts.push(context)?;
     Ok(())

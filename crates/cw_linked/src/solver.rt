@@ -9,6 +9,7 @@ ghost use Rattle.cw_solve.specs.Solved.{IsCause};
 ghost use Rattle.cw_solve.specs.Tables.{IsTable, IsDone};
 ghost use Rattle.cw_linked.specs.Popped.{IsWork};
 ghost use Rattle.cw_linked.specs.Returns.{AreReturns};
+ghost use Rattle.cw_linked.specs.Runs.{AreRuns};
 ghost use Rattle.cw_linked.specs.Solving.{IsBlankWork, Steps, Ends};
 ghost use Rattle.cw_linked.specs.Waiting.{AreWaits};
 
@@ -17,7 +18,7 @@ use crate::cells::finish;
 use crate::edges::Edges;
 use crate::links::{Stepped, take_link};
 use crate::popped::{Popped, pop};
-use crate::work::{Work, cell_at};
+use crate::work::{Work, cell_by};
 use cw_core::NoMemory;
 use cw_product::Game;
 use cw_solve::table::{Table, main_context};
@@ -25,23 +26,32 @@ use cw_solve::{Context, SolveFault, Solved};
 use cw_store::Store;
 use std::alloc::{AllocError, Global};
 
-/// Takes what waits under the least key.
-fn step(alloc: Global, game: &Game, edges: &Edges, work: &mut Work) -> Result<Stepped, NoMemory>
+/// Takes what waits under the least key, maybe of the context that is near, which is that of what is taken then.
+fn step(
+    alloc: Global,
+    game: &Game,
+    edges: &Edges,
+    work: &mut Work,
+    near: &mut usize,
+) -> Result<Stepped, NoMemory>
     requires routed { AreRouted (game_of game.now) (length game.now.graph.parts.items) }
     requires waits { AreWaits (game_of game.now) edges.now.waits }
     requires returns { AreReturns (game_of game.now) edges.now.returns }
+    requires runs { AreRuns (game_of game.now) (length game.now.graph.parts.items) edges.now.runs.items }
     requires work { IsWork (game_of game.now) work.old }
     ensures { IfOk result (λ stepped. Steps (game_of game.now) work.old work.new stepped) }
 {
     match pop(work) {
         Popped::Nothing => Ok(Stepped::Done),
         Popped::Cell(place, height) => {
-            let cell = cell_at(game, work, place);
+            let cell = cell_by(game, &edges.runs, work, *near, place);
+            *near = cell.at.number();
             finish(game, edges, work, &cell, height)?;
             Ok(Stepped::More)
         }
         Popped::Link(place, moves) => {
-            let link = cell_at(game, work, place);
+            let link = cell_by(game, &edges.runs, work, *near, place);
+            *near = link.at.number();
             let stepped = take_link(alloc, game, work, place, &link, moves)?;
             Ok(stepped)
         }
@@ -58,11 +68,13 @@ fn steps(
     requires routed { AreRouted (game_of game.now) (length game.now.graph.parts.items) }
     requires waits { AreWaits (game_of game.now) edges.now.waits }
     requires returns { AreReturns (game_of game.now) edges.now.returns }
+    requires runs { AreRuns (game_of game.now) (length game.now.graph.parts.items) edges.now.runs.items }
     requires work { IsWork (game_of game.now) work.old }
     ensures { IfOk result (λ more. Ends (game_of game.now) work.new.table more) }
 {
+    let mut near = 0;
     'steps: loop {
-        match step(alloc, game, edges, work)? {
+        match step(alloc, game, edges, work, &mut near)? {
             Stepped::Done => return Ok(None),
             Stepped::More => {}
             Stepped::TooMany(context) => return Ok(Some(context)),
@@ -81,7 +93,6 @@ fn blank(alloc: Global) -> Result<Work, NoMemory>
             heights: Vec::new(alloc),
             written: 0,
         },
-        owners: Vec::new(alloc),
         store: Store::make(alloc)?,
     })
 }

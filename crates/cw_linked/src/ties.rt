@@ -13,7 +13,7 @@ ghost use Rattle.cw_solve.specs.Tables.{IsTable, IsTabled, HasCell};
 ghost use Rattle.cw_linked.specs.Calls.{AreCallers, AsksCaller};
 ghost use Rattle.cw_linked.specs.Founds.{AreRight, AllCalled, AllStanding, IsTied};
 ghost use Rattle.cw_linked.specs.Popped.{Finishes};
-ghost use Rattle.cw_linked.specs.Queues.{found_of, AreMarked, AreLong, AreOwners, AreHigh, IsCellAt};
+ghost use Rattle.cw_linked.specs.Queues.{found_of, AreMarked, AreLong, AreHigh, IsCellAt};
 ghost use Rattle.cw_linked.specs.Returns.{AreFew, Returns, AsksReturn};
 ghost use Rattle.cw_linked.specs.Steps.{CallsBy, IsIt};
 ghost use Rattle.cw_linked.specs.Tied.{IsTieable, TiesLink, AsksCalls, AsksAgain};
@@ -73,18 +73,18 @@ pub(crate) fn promise_of(
     set
 }
 
-/// Ties the link at a place to the context of a number, with a promise for so many moves.
-fn tie(work: &mut Work, place: usize, number: usize, moves: u32)
+/// Ties the link at a place to a context, with a promise for so many moves.
+fn tie(work: &mut Work, place: usize, callee: &Tabled, moves: u32)
     requires long { AreLong work.old }
     requires callers { AreCallers work.old }
     requires few { length work.old.table.heights.items ≤ 4194304 }
     requires within { place < length work.old.table.heights.items }
     requires marked { is_marked work.old.store.marks place ≡ true }
     requires contexts { length work.old.table.contexts.items ≤ 4194304 }
-    requires number { number < length work.old.table.contexts.items }
-    ensures { TiesLink work.old work.new place number moves }
+    requires number { callee.now.number < length work.old.table.contexts.items }
+    ensures { TiesLink work.old work.new place callee.now.number moves }
 {
-    work.store.tie(place, number as u32 + 1, moves);
+    work.store.tie(place, callee.number() as u32 + 1, moves);
 }
 
 /// Asks for the call of a link, if the callee is lost from the cell's state.
@@ -101,7 +101,6 @@ fn ask_lost(
     requires cell { HasCell (game_of game.now) work.old.table at.now pos.0 state.0 }
     requires entry { pos.0 ≡ (game_of game.now).entry at.now.context.function }
     requires within { place < length work.old.table.heights.items }
-    requires owners { AreOwners (game_of game.now) work.old }
     requires long { AreLong work.old }
     requires high { AreHigh work.old }
     requires right { AreRight (game_of game.now) work.old.table.contexts.items (found_of (game_of game.now) work.old) }
@@ -111,12 +110,7 @@ fn ask_lost(
     if height == 0 {
         return Ok(());
     }
-    let cell = Cell {
-        at: *at,
-        pos,
-        state,
-    };
-    ask_call(game, work, &cell, height, place)?;
+    ask_call(game, work, at, pos, state, height, place)?;
     Ok(())
 }
 
@@ -133,7 +127,6 @@ fn ask_calls(
     requires at { IsCellAt (game_of game.now) work.old place link.now }
     requires callee { IsTabled work.old.table callee.now }
     requires goes { slice_index work.old.store.to place ≡ suc callee.now.number }
-    requires owners { AreOwners (game_of game.now) work.old }
     requires long { AreLong work.old }
     requires high { AreHigh work.old }
     requires right { AreRight (game_of game.now) work.old.table.contexts.items (found_of (game_of game.now) work.old) }
@@ -141,7 +134,7 @@ fn ask_calls(
         (CallsBy (game_of game.now) link.now.at.number link.now.pos.0 link.now.state.0) }
     ensures { OnOk result (AsksCalls (game_of game.now) work.old work.new) }
 {
-    let entry = game.entry(callee.context.function);
+    let entry = game.entry(callee.function());
     for q in 0..game.states() {
         ask_lost(game, work, callee, entry, StateId(q), place)?;
     }
@@ -172,12 +165,7 @@ fn ask_back(
     if height == 0 {
         return Ok(());
     }
-    let cell = Cell {
-        at: *at,
-        pos: back,
-        state,
-    };
-    ask_return(game, work, &cell, height, pos)?;
+    ask_return(game, work, at, back, state, height, pos)?;
     Ok(())
 }
 
@@ -218,7 +206,7 @@ pub(crate) fn tie_link(
     requires tieable { IsTieable (game_of game.now) work.old link.now place moves callee.now.number back.0 callee.now.context }
     ensures { OnOk result (Finishes (game_of game.now) work.old work.new (slice_set work.old.store.to place (callee.now.number + 1))) }
 {
-    tie(work, place, callee.number, moves);
+    tie(work, place, callee, moves);
     ask_calls(game, work, place, link, callee)?;
     ask_again(game, work, link, back)?;
     Ok(())

@@ -16,6 +16,7 @@ use crate::work::{Cell, Work};
 use cw_core::{NoMemory, PosId, StateId};
 use cw_links::Chains;
 use cw_product::Game;
+use cw_solve::table::Tabled;
 
 /// The number of a pair.
 pub(crate) fn pair_number(game: &Game, pos: PosId, state: StateId) -> u32
@@ -28,11 +29,12 @@ pub(crate) fn pair_number(game: &Game, pos: PosId, state: StateId) -> u32
     pos.0 * u32::from(game.states()) + u32::from(state.0)
 }
 
-/// Whether the position is one of the function.
-pub(crate) fn is_of(game: &Game, function: u16, pos: PosId) -> bool
-    requires { function < length game.now.graph.parts.items }
-    ensures { IsTrue result ↔ IsOf (game_of game.now) function pos.0 }
+/// Whether the position is one of the context's function.
+pub(crate) fn is_of(game: &Game, at: &Tabled, pos: PosId) -> bool
+    requires { at.now.context.function < length game.now.graph.parts.items }
+    ensures { IsTrue result ↔ IsOf (game_of game.now) at.now.context.function pos.0 }
 {
+    let function = at.function();
     game.entry(function).0 <= pos.0 && pos.0 <= game.exit(function).0
 }
 
@@ -47,7 +49,7 @@ fn ask_pair(game: &Game, work: &mut Work, cell: &Cell, pair: Pair) -> Result<(),
     requires right { AreRight (game_of game.now) work.old.table.contexts.items (found_of (game_of game.now) work.old) }
     ensures { OnOk result (AsksPair (game_of game.now) work.old work.new cell.now pair) }
 {
-    if is_of(game, cell.at.context.function, pair.pos) {
+    if is_of(game, &cell.at, pair.pos) {
         ask_told(game, work, &cell.at, pair.pos, pair.state)?;
         Ok(())
     } else {

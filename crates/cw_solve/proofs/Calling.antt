@@ -16,7 +16,7 @@ use Rattle.cw_game.specs.Pairs.{has, Called, call_in, is_call_in, is_exit_in, ca
 use Rattle.cw_product.specs.Moves.{pair_of, is_left_in, next_in, next_at}
 use Rattle.cw_solve.specs.declared.contexts.Context.{Context}
 use Rattle.cw_solve.specs.declared.table.Table.{Table}
-use Rattle.cw_solve.specs.declared.table.Tabled.{Tabled}
+use Rattle.cw_solve.specs.Tabled.{Tabled}
 use Rattle.cw_product.specs.Routed.{IsState, targets, IsThere, AreRouted, IsOf}
 use Rattle.cw_solve.specs.Contexts.{context, promise_at, IsSetOf, of_call}
 use Rattle.cw_solve.specs.Rounds.{IsAsked}

@@ -3,15 +3,16 @@ use Rattle.std.proofs.Common.{◌≡◌, ℕ, suc, ◌+◌, ◌-◌, ◌<◌, �
 use Rattle.std.specs.Prelude.{slice_get, slice_index, Contains}
 use Rattle.std.proofs.Math.Nat.{mul-le-mul}
 use Rattle.std.proofs.lemmas.List.Sums.{sum_by-cons}
-use Rattle.std.proofs.lemmas.Option.{same_Some}
+use Rattle.std.proofs.lemmas.Option.{same_Some, slice_get_within}
 use Rattle.cw_game.specs.Games.{Game}
 use Rattle.cw_product.specs.Product.{Held as HeldGame, game_of}
 use Rattle.cw_solve.specs.declared.contexts.Context.{Context}
 use Rattle.cw_solve.specs.declared.table.Table.{Table}
+use Rattle.cw_solve.specs.Tabled.{Tabled}
 use Rattle.cw_product.specs.Routed.{IsThere, AreRouted, IsOf}
 use Rattle.cw_solve.specs.Contexts.{context, size, cells_of, HeightIs, IsNeeded, AreTheNeeded}
 use Rattle.cw_solve.specs.Rounds.{slot, height_by, IsCell}
-use Rattle.cw_solve.specs.Tables.{IsTable}
+use Rattle.cw_solve.specs.Tables.{IsTable, IsTabled, HasCell}
 use Rattle.cw_solve.specs.Solved.{Held, IsKept, IsNumbered, IsHeightIn}
 use Rattle.cw_solve.proofs.Still.{number_of}
 use Rattle.cw_solve.proofs.Tabling.{there}
@@ -73,9 +74,23 @@ numbered_cell h t v e number p q =
     let same : n.0 ≡ d = same_Some n.0 d (sym n.1 ∙ at) in
     (at, record { at = at; of = subst (λ (x : Context). IsOf (game_of h) x.function p) same n.2; state = n.3 }))
 
-pub seen_height : (h : HeldGame) (t : Table) (v : Held) → held h t ≡ v → IsKept h t → (number p q k : ℕ) (d : Context) → IsNumbered v number p q → Some d ≡ slice_get v.contexts number
-    → k ≡ slice_index t.heights.items (slot (game_of h) t.contexts.items number d.function p q) → (o : Option ℕ) → o ≡ height_by k → IsHeightIn v number p q o
-seen_height h t v view kept number p q k d n at e o written =
-    let cell = numbered_cell h t v view number p q n d (sym at) in
+-- the number of a context is below how many there are
+pub number_within : (h : HeldGame) (t : Table) (v : Held) → held h t ≡ v → (number p q : ℕ) → IsNumbered v number p q → number < length t.contexts.items
+number_within h t v e number p q = subst (λ (v : Held). IsNumbered v number p q → number < length t.contexts.items) e (λ n. slice_get_within t.contexts.items number n.0 n.1)
+
+-- the cell of a pair in a context that is read by its number
+pub read_cell : (h : HeldGame) (t : Table) (v : Held) → held h t ≡ v → (number p q : ℕ) → IsNumbered v number p q → (at : Tabled) → at.number ≡ number → IsTabled t at → HasCell (game_of h) t at p q
+read_cell h t v e number p q n at same there =
+    let here = subst (λ (i : ℕ). slice_get t.contexts.items i ≡ Some at.context) same there in
+    let cell = (numbered_cell h t v e number p q n at.context (subst (λ (v : Held). slice_get v.contexts number ≡ Some at.context) e here)).1 in
+    subst (λ (i : ℕ). IsCell (game_of h) t.contexts.items i at.context p q) (sym same) cell
+
+pub seen_height : (h : HeldGame) (t : Table) (v : Held) → held h t ≡ v → IsKept h t → (number p q k : ℕ) (at : Tabled) → IsNumbered v number p q → at.number ≡ number → IsTabled t at
+    → k ≡ slice_index t.heights.items (slot (game_of h) t.contexts.items at.number at.context.function p q) → (o : Option ℕ) → o ≡ height_by k → IsHeightIn v number p q o
+seen_height h t v view kept number p q k at n same there e o written =
+    let here = subst (λ (i : ℕ). slice_get t.contexts.items i ≡ Some at.context) same there in
+    let seen = subst (λ (v : Held). slice_get v.contexts number ≡ Some at.context) view here in
+    let cell = numbered_cell h t v view number p q n at.context seen in
+    let read = subst (λ (i : ℕ). k ≡ slice_index t.heights.items (slot (game_of h) t.contexts.items i at.context.function p q)) same e in
     subst (λ (v : Held). IsHeightIn v number p q o) view
-    (subst (λ (x : Option ℕ). IsHeightIn (held h t) number p q x) (sym written) (kept_height h t kept number p q k d cell.0 cell.1 e))
+    (subst (λ (x : Option ℕ). IsHeightIn (held h t) number p q x) (sym written) (kept_height h t kept number p q k at.context cell.0 cell.1 read))

@@ -1,19 +1,33 @@
 -- What a table keeps tells of its contexts and cells.
-use Rattle.std.proofs.Common.{◌≡◌, ℕ, suc, ◌<◌, Some, length, get_or, take, sym, ap, ◌∙◌, arith}
+use Rattle.std.proofs.Common.{◌≡◌, ℕ, suc, ◌<◌, Some, length, get_or, take, sym, ap, ap₂, ◌∙◌, arith}
 use Rattle.std.specs.Prelude.{slice_get, slice_index, nat_lt, ◌||◌}
 use Rattle.std.proofs.lemmas.Bool.{ne_eqb}
 use Rattle.std.proofs.lemmas.List.{get_or_default}
-use Rattle.std.proofs.lemmas.Option.{slice_get_within, get_or_from_slice_get}
+use Rattle.std.proofs.lemmas.Option.{slice_get_within, get_or_from_slice_get, same_Some}
 use Rattle.cw_game.specs.Games.{Game, Holds}
 use Rattle.cw_game.specs.Pairs.{has}
 use Rattle.cw_solve.specs.declared.contexts.Context.{Context}
 use Rattle.cw_solve.specs.declared.table.Table.{Table}
-use Rattle.cw_solve.specs.declared.table.Tabled.{Tabled}
+use Rattle.cw_solve.specs.Tabled.{Tabled}
 use Rattle.cw_solve.specs.Contexts.{cells_of, IsNeeded, of_main, of_call}
 use Rattle.cw_product.specs.Routed.{IsThere, AreRouted}
 use Rattle.cw_solve.specs.Rounds.{slot, holds_by, AreWritten}
-use Rattle.cw_solve.specs.Tables.{IsTable, HasCell}
+use Rattle.cw_solve.specs.Tables.{IsTable, IsTabled, HasCell}
 use Rattle.cw_solve.proofs.Written.{reads}
+
+-- a context that is tabled under a number is the one that stands there
+pub same_context : (t : Table) (at : Tabled) (i : ℕ) (c : Context) → at.number ≡ i → IsTabled t at → slice_get t.contexts.items i ≡ Some c → at.context ≡ c
+same_context t at i c number there is = same_Some at.context c (sym there ∙ ap (slice_get t.contexts.items) number ∙ is)
+
+abbrev numbered : ℕ → Context → Tabled
+numbered i c = record { number = i; context = c }
+
+pub same_tabled : (t : Table) (at : Tabled) (i : ℕ) (c : Context) → at.number ≡ i → IsTabled t at → slice_get t.contexts.items i ≡ Some c → at ≡ record { number = i; context = c }
+same_tabled t at i c number there is = ap₂ numbered number (same_context t at i c number there is)
+
+-- .. and the one that is read there
+pub read_context : (t : Table) (at : Tabled) (n : ℕ) (c : Context) → n ≡ at.number → IsTabled t at → c ≡ get_or t.contexts.items n c → c ≡ at.context
+read_context t at n c number there read = read ∙ ap (λ (y : ℕ). get_or t.contexts.items y c) number ∙ get_or_from_slice_get t.contexts.items at.number at.context c there
 
 module _ (g : Game) (functions : ℕ) (routed : AreRouted g functions) where
   pub there : (c : Context) → IsNeeded g c → IsThere g functions c.function

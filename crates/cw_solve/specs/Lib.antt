@@ -5,5 +5,6 @@ pub mod Low
 pub mod Numbering
 pub mod Rounds
 pub mod Solved
+pub mod Tabled
 pub mod Tables
 pub mod Trying

@@ -4,7 +4,7 @@ use Rattle.cw_game.specs.Games.{Game}
 use Rattle.cw_game.specs.Pairs.{all_states, call_spot}
 use Rattle.cw_solve.specs.declared.contexts.Context.{Context}
 use Rattle.cw_solve.specs.declared.table.Table.{Table}
-use Rattle.cw_solve.specs.declared.table.Tabled.{Tabled}
+use Rattle.cw_solve.specs.Tabled.{Tabled}
 use Rattle.cw_solve.specs.Contexts.{context, cells_of, HeightIs, IsNeeded, AreNeeded}
 use Rattle.cw_solve.specs.Rounds.{slot, height_by, IsCell, AreWritten, AreLooked, WereAsked}
 

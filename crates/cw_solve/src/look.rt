@@ -12,7 +12,7 @@ ghost use Rattle.cw_solve.specs.Rounds.{base, slot, AreWritten, IsAsked};
 ghost use Rattle.cw_solve.specs.Tables.{IsTable, IsTabled, HasCell, IsInRound, IsLater, IsMissing, HasCall, Writes, is_none};
 
 use crate::contexts::Context;
-use crate::table::{Table, Tabled, holds, place_of, promised, slot};
+use crate::table::{Table, Tabled, holds, numbered, place_of, promised, slot};
 use cw_certs::Move;
 use cw_core::{PosId, StateId};
 use cw_game::Spot;
@@ -65,10 +65,7 @@ fn call_holds(
     match place_of(&table.contexts, function, &promise) {
         None => Err(Context { function, promise }),
         Some(number) => {
-            let callee = Tabled {
-                number,
-                context: table.contexts[number],
-            };
+            let callee = numbered(game, table, number);
             Ok(holds(game, table, n, &callee, game.entry(function), state))
         }
     }
@@ -116,7 +113,7 @@ fn next_holds(
             split,
             back,
         } => call_holds(game, table, n, at, pos, state, callee, back, split),
-        Turn::Exit { main } => Ok(main || at.context.promise.contains(state)),
+        Turn::Exit { main } => Ok(main || table.contexts[at.number()].promise.contains(state)),
         Turn::Weaver | Turn::Environment => {
             Ok(!game.bad(pos, state) && moves_hold(game, table, n, at, pos, state))
         }
@@ -190,7 +187,7 @@ fn look_state(
         (slot (game_of game.now) table.new.contexts.items at.now.number at.now.context.function ((game_of game.now).entry at.now.context.function) (state.0 + 1))) }
     ensures missing { IfSome result (λ c. IsMissing (game_of game.now) table.new c) }
 {
-    let function = at.context.function;
+    let function = at.function();
     for p in game.entry(function).0..game.exit(function).0 + 1 {
         if let Some(context) = look_at(game, table, n, at, PosId(p), state) {
             return Some(context);
@@ -230,10 +227,7 @@ pub(crate) fn look_all(game: &Game, table: &mut Table, n: u32) -> Option<Context
     ensures missing { IfSome result (λ c. IsMissing (game_of game.now) table.new c) }
 {
     for number in 0..table.contexts.len() {
-        let at = Tabled {
-            number,
-            context: table.contexts[number],
-        };
+        let at = numbered(game, table, number);
         if let Some(context) = look_context(game, table, n, &at) {
             return Some(context);
         }

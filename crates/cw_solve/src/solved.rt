@@ -8,7 +8,7 @@ ghost use Rattle.cw_solve.specs.Solved.{IsCause};
 
 use crate::contexts::Context;
 use crate::fault::SolveFault;
-use crate::table::{Table, Tabled, fit, height_in, place_of, slot};
+use crate::table::{Table, fit, height_in, numbered, place_of, slot};
 use crate::tries::solve_table;
 use cw_core::{PosId, StateId, StateSet};
 use cw_product::Game;
@@ -148,10 +148,7 @@ impl<'g> Solved<'g> {
         requires cell { IsNumbered self.now number pos.0 state.0 }
         ensures { IsHeightIn self.now number pos.0 state.0 result }
     {
-        let at = Tabled {
-            number: number as usize,
-            context: *self.context(number),
-        };
+        let at = numbered(self.game, &self.table, number as usize);
         height_in(self.table.heights[slot(self.game, &self.table, &at, pos, state)])
     }
 }

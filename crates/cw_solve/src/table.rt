@@ -7,11 +7,13 @@ ghost use Rattle.cw_product.specs.Product.{game_of};
 ghost use Rattle.cw_product.specs.Routed.{IsState, AreRouted, IsThere, IsOf};
 ghost use Rattle.cw_solve.specs.Contexts.{context, size, promise_at, IsSetOf};
 ghost use Rattle.cw_solve.specs.Rounds.{positions, slot, height_by, AreWritten};
-ghost use Rattle.cw_solve.specs.Tables.{IsTable, HasCell};
+ghost use Rattle.cw_solve.specs.Tables.{IsTable, IsTabled, HasCell};
 
 use crate::contexts::Context;
 use cw_core::{PosId, StateId, StateSet};
 use cw_product::Game;
+use std::marker::Model;
+use std::snapshot::Snapshot;
 
 /// Contexts, where the cells of each begin, the height of each cell (0 where none is written) and how many are written.
 #[derive(Drop)]
@@ -22,11 +24,60 @@ pub struct Table {
     pub written: u32,
 }
 
-/// A context of a table, with its number.
-#[derive(Clone, Copy, Drop)]
+/// A context of a table, with its number. Contracts see both; of the context there is its function alone when the code runs, as
+/// copies of promises would cost time.
+#[derive(Drop)]
 pub struct Tabled {
-    pub number: usize,
-    pub context: Context,
+    number: u32,
+    function: u16,
+    context: Snapshot<Context>,
+}
+
+impl Model for Tabled {
+    ghost use Rattle.std.specs.Prelude.{◌≡◌};
+    ghost use Rattle.cw_solve.specs.Tabled.{Tabled};
+
+    ghost Value = { Tabled };
+
+    ghost view = { λ s. record { number = s.number; context = s.context.value } };
+
+    ghost invariant = { λ s. s.function ≡ s.context.value.function };
+}
+
+impl Tabled {
+    ghost use Rattle.std.specs.Prelude.{◌≡◌};
+
+    /// The number.
+    #[inline(always)]
+    pub fn number(&self) -> usize
+        ensures { result ≡ self.now.number }
+    {
+        self.number as usize
+    }
+
+    /// The function of the context.
+    #[inline(always)]
+    pub fn function(&self) -> u16
+        ensures { result ≡ self.now.context.function }
+    {
+        self.function
+    }
+}
+
+/// The context of a number.
+pub fn numbered(game: &Game, table: &Table, number: usize) -> Tabled
+    requires routed { AreRouted (game_of game.now) (length game.now.graph.parts.items) }
+    requires table { IsTable (game_of game.now) table.now }
+    requires within { number < length table.now.contexts.items }
+    ensures number { result.number ≡ number }
+    ensures there { IsTabled table.now result }
+{
+    let context = &table.contexts[number];
+    Tabled {
+        number: number as u32,
+        function: context.function,
+        context: Snapshot::of(context),
+    }
 }
 
 /// How many positions a function has.
@@ -69,9 +120,9 @@ pub fn slot(game: &Game, table: &Table, at: &Tabled, pos: PosId, state: StateId)
     ensures is { result ≡ slot (game_of game.now) table.now.contexts.items at.now.number at.now.context.function pos.0 state.0 }
     ensures within { result < length table.now.heights.items }
 {
-    let function = at.context.function;
+    let function = at.function();
     let run = state.0 as usize * positions(game, function) as usize;
-    table.bases[at.number] as usize + (run + (pos.0 - game.entry(function).0) as usize)
+    table.bases[at.number()] as usize + (run + (pos.0 - game.entry(function).0) as usize)
 }
 
 /// Whether a pair holds for n moves.

@@ -1,10 +1,27 @@
-use Rattle.std.proofs.Common.{◌≡◌, ℕ, Some, length, sym, subst, arith}
-use Rattle.std.specs.Prelude.{slice_get}
+use Rattle.std.proofs.Common.{◌≡◌, ◌∙◌, length, sym, subst, arith}
 use Rattle.cw_product.specs.Product.{game_of}
+use Rattle.cw_solve.specs.Tabled.{Tabled}
+use Rattle.cw_solve.specs.Tables.{IsTabled}
+use Rattle.cw_solve.proofs.Tabling.{same_tabled}
 use Rattle.cw_linked.specs.Added.{Each, FreesLinks, HasNoHeights, AsksCells}
 use Rattle.cw_linked.proofs.Alike.{alike}
 use Rattle.cw_linked.proofs.Joining.{is_pushed_table, is_pushed_long, is_pushed_marked, pushed_there, is_freed_table, is_freed_long, is_freed_high, is_freed_right, is_freed_fresh, freed_there, joined}
+use Rattle.cw_linked.proofs.Takings.{few_number}
 use Rattle.cw_linked.proofs.added.add.Goals as goal
+
+pub numbered-at-requires : goal.numbered-at-requires
+numbered-at-requires c =
+    let g = game_of c.args.game.now in
+    let functions = length c.args.game.now.graph.parts.items in
+    let w = c.args.work.now in
+    let pushed = c.enlarge.new.work in
+    let there = pushed_there g functions c.requires.routed (alike c.args.game.now) w pushed c.args.context c.requires.kept c.requires.contexts c.in_ok-enlarge.ensures in
+    let lt = few_number pushed.table.contexts.items (length w.table.contexts.items) c.args.context there in
+    record {
+      routed = c.requires.routed;
+      table = is_pushed_table g functions c.requires.routed (alike c.args.game.now) w pushed c.args.context c.requires.kept c.requires.contexts c.in_ok-enlarge.ensures;
+      within = omega (arith, lt, c.len-number.ensures, w.table.contexts.ok.0);
+    }
 
 pub free_all-requires : goal.free_all-requires
 free_all-requires c =
@@ -12,12 +29,10 @@ free_all-requires c =
     let functions = length c.args.game.now.graph.parts.items in
     let w = c.args.work.now in
     let pushed = c.enlarge.new.work in
-    let here : c.len-number.result ≡ length w.table.contexts.items = omega (arith, c.len-number.ensures, w.table.contexts.ok.0) in
     record {
       routed = c.requires.routed;
       table = is_pushed_table g functions c.requires.routed (alike c.args.game.now) w pushed c.args.context c.requires.kept c.requires.contexts c.in_ok-enlarge.ensures;
-      tabled = subst (λ (n : ℕ). slice_get pushed.table.contexts.items n ≡ Some c.args.context) (sym here)
-          (pushed_there g functions c.requires.routed (alike c.args.game.now) w pushed c.args.context c.requires.kept c.requires.contexts c.in_ok-enlarge.ensures);
+      tabled = c.numbered-at.ensures.there;
       long = is_pushed_long g functions c.requires.routed (alike c.args.game.now) w pushed c.args.context c.requires.kept c.requires.contexts c.in_ok-enlarge.ensures;
       marked = is_pushed_marked g functions c.requires.routed (alike c.args.game.now) w pushed c.args.context c.requires.kept c.requires.contexts c.in_ok-enlarge.ensures;
     }
@@ -30,17 +45,20 @@ ask_all-requires c =
     let pushed = c.enlarge.new.work in
     let freed = c.free_all.new.work in
     let d = c.args.context in
-    let here : c.len-number.result ≡ length w.table.contexts.items = omega (arith, c.len-number.ensures, w.table.contexts.ok.0) in
-    let frees = subst (λ (n : ℕ). FreesLinks g pushed freed n d Each) here c.in_ok-free_all.ensures in
+    let last = length w.table.contexts.items in
+    let here : c.len-number.result ≡ last = omega (arith, c.len-number.ensures, w.table.contexts.ok.0) in
+    let same = same_tabled pushed.table c.numbered-at.result last d (c.numbered-at.ensures.number ∙ here) c.numbered-at.ensures.there
+    (pushed_there g functions c.requires.routed (alike c.args.game.now) w pushed d c.requires.kept c.requires.contexts c.in_ok-enlarge.ensures) in
+    let frees = subst (λ (a : Tabled). FreesLinks g pushed freed a.number a.context Each) same c.in_ok-free_all.ensures in
     record {
       routed = c.requires.routed;
       table = is_freed_table g functions c.requires.routed (alike c.args.game.now) w pushed d c.requires.kept c.requires.contexts c.in_ok-enlarge.ensures freed frees;
-      tabled = subst (λ (n : ℕ). slice_get freed.table.contexts.items n ≡ Some d) (sym here)
+      tabled = subst (IsTabled freed.table) (sym same)
           (freed_there g functions c.requires.routed (alike c.args.game.now) w pushed d c.requires.kept c.requires.contexts c.in_ok-enlarge.ensures freed frees);
       long = is_freed_long g functions c.requires.routed (alike c.args.game.now) w pushed d c.requires.kept c.requires.contexts c.in_ok-enlarge.ensures freed frees;
       high = is_freed_high g functions c.requires.routed (alike c.args.game.now) w pushed d c.requires.kept c.requires.contexts c.in_ok-enlarge.ensures freed frees;
       right = is_freed_right g functions c.requires.routed (alike c.args.game.now) w pushed d c.requires.kept c.requires.contexts c.in_ok-enlarge.ensures freed frees;
-      fresh = subst (λ (n : ℕ). HasNoHeights g freed.table (record { number = n; context = d })) (sym here)
+      fresh = subst (HasNoHeights g freed.table) (sym same)
           (is_freed_fresh g functions c.requires.routed (alike c.args.game.now) w pushed d c.requires.kept c.requires.contexts c.in_ok-enlarge.ensures freed frees);
     }
 
@@ -52,7 +70,10 @@ returns c =
     let pushed = c.enlarge.new.work in
     let freed = c.free_all.new.work in
     let d = c.args.context in
-    let here : c.len-number.result ≡ length w.table.contexts.items = omega (arith, c.len-number.ensures, w.table.contexts.ok.0) in
-    let frees = subst (λ (n : ℕ). FreesLinks g pushed freed n d Each) here c.in_ok-free_all.ensures in
+    let last = length w.table.contexts.items in
+    let here : c.len-number.result ≡ last = omega (arith, c.len-number.ensures, w.table.contexts.ok.0) in
+    let same = same_tabled pushed.table c.numbered-at.result last d (c.numbered-at.ensures.number ∙ here) c.numbered-at.ensures.there
+    (pushed_there g functions c.requires.routed (alike c.args.game.now) w pushed d c.requires.kept c.requires.contexts c.in_ok-enlarge.ensures) in
+    let frees = subst (λ (a : Tabled). FreesLinks g pushed freed a.number a.context Each) same c.in_ok-free_all.ensures in
     joined g functions c.requires.routed (alike c.args.game.now) w pushed d c.requires.kept c.requires.contexts c.in_ok-enlarge.ensures freed frees c.ask_all.new.work
-    (subst (λ (n : ℕ). AsksCells g freed c.ask_all.new.work n d Each) here c.in_ok-ask_all.ensures)
+    (subst (λ (a : Tabled). AsksCells g freed c.ask_all.new.work a.number a.context Each) same c.in_ok-ask_all.ensures)

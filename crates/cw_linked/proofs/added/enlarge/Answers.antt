@@ -40,8 +40,6 @@ push-requires c =
     let cells = few_cells g c.args.work.now c.args.context.now c.requires.kept c.requires.contexts in
     record {
       few = omega (arith, cells, c.size.ensures.is);
-      owners = c.requires.kept.long.owners;
-      contexts = omega (arith, few);
     }
 
 pub returns : goal.returns
@@ -49,4 +47,4 @@ returns c =
     let w = c.args.work.now in
     let lists = c.in_ok-reach.ensures.enough in
     pushes_then (game_of c.args.game.now) w _ c.push.new.work c.args.context.now c.reach.new.self c.size.result c.reach.ensures.rest c.reach.ensures.more
-    (omega (arith, lists, c.len.ensures, w.table.contexts.ok.0)) c.in_ok-push_places.ensures.places c.in_ok-push_places.ensures.marked refl refl c.in_ok-push.ensures c.size.ensures.is
+    (omega (arith, lists, c.len.ensures, w.table.contexts.ok.0)) c.in_ok-push_places.ensures.places c.in_ok-push_places.ensures.marked refl c.in_ok-push.ensures c.size.ensures.is

@@ -1,4 +1,4 @@
-use Rattle.std.proofs.Common.{◌≡◌, ◌+◌, Some, length, sym, subst, arith}
+use Rattle.std.proofs.Common.{◌≡◌, ◌+◌, Some, length, sym, subst, arith, ap, ◌∙◌}
 use Rattle.std.specs.Prelude.{slice_get}
 use Rattle.cw_product.specs.Product.{game_of}
 use Rattle.cw_solve.specs.declared.table.Table.{Table}
@@ -12,12 +12,12 @@ use Rattle.cw_linked.proofs.asked.ask_all.Goals as goal
 pub entry-p-requires : goal.entry-p-requires
 entry-p-requires c =
     let at = c.args.at.now in
-    (there_at (game_of c.args.game.now) (length c.args.game.now.graph.parts.items) c.requires.routed c.args.work.now.table c.requires.table at.number at.context c.requires.tabled).below
+    rw c.function-function.ensures (there_at (game_of c.args.game.now) (length c.args.game.now.graph.parts.items) c.requires.routed c.args.work.now.table c.requires.table at.number at.context c.requires.tabled).below
 
 pub exit-p-end-requires : goal.exit-p-end-requires
 exit-p-end-requires c =
     let at = c.args.at.now in
-    (there_at (game_of c.args.game.now) (length c.args.game.now.graph.parts.items) c.requires.routed c.args.work.now.table c.requires.table at.number at.context c.requires.tabled).below
+    rw c.function-function.ensures (there_at (game_of c.args.game.now) (length c.args.game.now.graph.parts.items) c.requires.routed c.args.work.now.table c.requires.table at.number at.context c.requires.tabled).below
 
 pub overflow_add-p-end : goal.overflow_add-p-end
 overflow_add-p-end c = let lt = c.exit-p-end.ensures.within in let short = c.requires.routed.short in omega (arith, lt, short)
@@ -26,7 +26,7 @@ pub loop-p-init : goal.loop-p-init
 loop-p-init c =
     let at = c.args.at.now in
     asks_nothing (game_of c.args.game.now) c.args.work.now c.requires.long c.requires.high c.requires.right at.number at.context (Before c.entry-p.result.0)
-    (λ p q is lt. absurd (omega (arith, lt, is.of.0, c.entry-p.ensures.is)))
+    (λ p q is lt. absurd (omega (arith, lt, is.of.0, c.entry-p.ensures.is ∙ ap (game_of c.args.game.now).entry c.function-function.ensures)))
 
 pub ask_position-requires : goal.ask_position-requires
 ask_position-requires c =
@@ -38,7 +38,7 @@ ask_position-requires c =
       routed = c.requires.routed;
       table = next_table g functions c.requires.routed (alike c.args.game.now) c.args.work.now c.loop-p.work c.requires.table inv.step;
       tabled = subst (λ (t : Table). slice_get t.contexts.items at.number ≡ Some at.context) (sym inv.step.others.table) c.requires.tabled;
-      of = (omega (arith, c.loop-p.auto.p, c.entry-p.ensures.is), omega (arith, c.loop-p-test.true, c.exit-p-end.ensures.is));
+      of = (omega (arith, c.loop-p.auto.p, c.entry-p.ensures.is ∙ ap (game_of c.args.game.now).entry c.function-function.ensures), omega (arith, c.loop-p-test.true, c.exit-p-end.ensures.is ∙ ap (game_of c.args.game.now).exit c.function-function.ensures));
       long = inv.step.long;
       high = inv.step.high;
       right = next_right g functions c.requires.routed (alike c.args.game.now) c.args.work.now c.loop-p.work c.requires.table inv.step;
@@ -56,4 +56,4 @@ pub returns : goal.returns
 returns c =
     let at = c.args.at.now in
     asks_these (game_of c.args.game.now) c.args.work.now c.loop-p.work at.number at.context (Before c.loop-p.p) Each c.loop-p.invariant
-    (λ r y is e. omega (arith, is.of.1, c.loop-p-test.false, c.exit-p-end.ensures.is))
+    (λ r y is e. omega (arith, is.of.1, c.loop-p-test.false, c.exit-p-end.ensures.is ∙ ap (game_of c.args.game.now).exit c.function-function.ensures))

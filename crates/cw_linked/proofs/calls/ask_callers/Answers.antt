@@ -17,26 +17,27 @@ use Rattle.cw_linked.proofs.Telling.{nothing, two_steps}
 use Rattle.cw_linked.proofs.Walking.{walk_begins, walk_steps}
 use Rattle.cw_linked.proofs.calls.ask_callers.Goals as goal
 
-pub overflow_cast-cell : goal.overflow_cast-cell
-overflow_cast-cell c =
+pub overflow_cast-number : goal.overflow_cast-number
+overflow_cast-number c =
     let w = c.args.work.now in
     let at = c.args.cell.now.at in
     let most = few (game_of c.args.game.now) (length c.args.game.now.graph.parts.items) c.requires.routed w.table c.requires.table in
-    omega (arith, most, few_number w.table.contexts.items at.number at.context c.requires.cell.at)
+    omega (arith, most, c.number.ensures, few_number w.table.contexts.items at.number at.context c.requires.cell.at)
 
-pub overflow_add-cell : goal.overflow_add-cell
-overflow_add-cell c =
+pub overflow_add-number : goal.overflow_add-number
+overflow_add-number c =
     let w = c.args.work.now in
     let at = c.args.cell.now.at in
     let most = few (game_of c.args.game.now) (length c.args.game.now.graph.parts.items) c.requires.routed w.table c.requires.table in
-    omega (arith, most, few_number w.table.contexts.items at.number at.context c.requires.cell.at)
+    omega (arith, most, c.number.ensures, few_number w.table.contexts.items at.number at.context c.requires.cell.at)
 
 pub walk-init : goal.walk-init
 walk-init c =
     let g = game_of c.args.game.now in
     let w = c.args.work.now in
     let cell = c.args.cell.now in
-    let begins = walk_begins (list_at w.store.lists (cell.at.number + 1)) c.first-next.result c.first-next.ensures.first in
+    let begins = walk_begins (list_at w.store.lists (cell.at.number + 1)) c.first-next.result
+    (subst (λ (n : ℕ). c.first-next.result ≡ slice_get (list_at w.store.lists (n + 1)) 0) c.number.ensures c.first-next.ensures.first) in
     record {
       known = c.first-next.ensures.known;
       step = nothing g w c.requires.long c.requires.high c.requires.right;

@@ -1,7 +1,7 @@
 use Rattle.std.proofs.Common.{length}
 use Rattle.cw_product.specs.Product.{game_of}
 use Rattle.cw_linked.proofs.Alike.{alike}
-use Rattle.cw_linked.proofs.Finishing.{next_owners, next_callers, next_marked, next_right, next_cell, next_height, one_table, one_called, two_table, two_few, two_standing, finished}
+use Rattle.cw_linked.proofs.Finishing.{next_callers, next_marked, next_right, next_cell, next_height, one_table, one_called, two_table, two_few, two_standing, finished}
 use Rattle.cw_linked.proofs.Telling.{two_steps}
 use Rattle.cw_linked.proofs.cells.finish.Goals as goal
 
@@ -34,7 +34,6 @@ ask_entry-requires c =
       cell = next_cell g functions c.requires.routed (alike c.args.game.now) w one t.table waiting.step cell t.there;
       taken = next_height g functions c.requires.routed (alike c.args.game.now) w one t.table waiting.step cell c.args.height t.taken;
       some = t.some;
-      owners = next_owners g functions c.requires.routed (alike c.args.game.now) w one t.table waiting.step t.owners;
       callers = next_callers g functions c.requires.routed (alike c.args.game.now) w one t.table waiting.step t.callers;
       marked = next_marked g functions c.requires.routed (alike c.args.game.now) w one t.table waiting.step t.marked;
       long = waiting.step.long;

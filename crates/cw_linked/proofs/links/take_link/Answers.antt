@@ -1,9 +1,14 @@
-use Rattle.std.proofs.Common.{ℕ, Option, length, subst}
+use Rattle.std.proofs.Common.{ℕ, ◌+◌, List, Option, length, sym, subst}
+use Rattle.std.specs.Prelude.{slice_set}
 use Rattle.cw_product.specs.Product.{game_of}
 use Rattle.cw_solve.specs.declared.contexts.Context.{Context}
+use Rattle.cw_solve.specs.Tabled.{Tabled}
 use Rattle.cw_solve.specs.Contexts.{context}
+use Rattle.cw_solve.proofs.Tabling.{same_tabled}
 use Rattle.cw_linked.specs.Links.{IsNumbered, NumbersContext}
+use Rattle.cw_linked.specs.Popped.{Finishes}
 use Rattle.cw_linked.specs.Tied.{IsTieable}
+use Rattle.cw_linked.proofs.Takings.{few_number}
 use Rattle.cw_linked.proofs.Targets.{call_here, back_here, read_here, is_needed, is_tieable, is_less}
 use Rattle.cw_linked.proofs.links.take_link.Goals as goal
 
@@ -27,6 +32,23 @@ number_of-requires-clause-needed c =
     let read = read_here g functions c.requires.routed w link c.args.place c.args.moves c.requires.freed call.0 c.in-Call.split c.in-Call.back.0 c.promise_of.result call.2 call.4 c.promise_of.ensures in
     is_needed g functions c.requires.routed w link c.args.place c.args.moves c.requires.freed call.0 call.1 to call.3 read
 
+pub numbered-to-requires : goal.numbered-to-requires
+numbered-to-requires c =
+    let g = game_of c.args.game.now in
+    let functions = length c.args.game.now.graph.parts.items in
+    let w = c.args.work.now in
+    let link = c.args.link.now in
+    let call = call_here g functions c.requires.routed w link c.args.place c.args.moves c.requires.freed c.in-Call.callee c.in-Call.split c.in-Call.back c.in-Call.ensures in
+    let to : Context = context c.in-Call.callee c.promise_of.result in
+    let read = read_here g functions c.requires.routed w link c.args.place c.args.moves c.requires.freed call.0 c.in-Call.split c.in-Call.back.0 c.promise_of.result call.2 call.4 c.promise_of.ensures in
+    let numbered : IsNumbered g w c.number_of.new.work to c.in-Some.number = subst (λ (o : Option ℕ). NumbersContext g w c.number_of.new.work to o) c.in-Some.is c.in_ok-number.ensures in
+    let tieable = is_tieable g functions c.requires.routed w link c.args.place c.args.moves c.requires.freed call.0 call.1 to call.3 read c.number_of.new.work c.in-Some.number numbered in
+    record {
+      routed = c.requires.routed;
+      table = tieable.firm.table;
+      within = few_number c.number_of.new.work.table.contexts.items c.in-Some.number to numbered.there;
+    }
+
 pub tie_link-requires-clause-tieable : goal.tie_link-requires-clause-tieable
 tie_link-requires-clause-tieable c =
     let g = game_of c.args.game.now in
@@ -37,8 +59,10 @@ tie_link-requires-clause-tieable c =
     let to : Context = context c.in-Call.callee c.promise_of.result in
     let read = read_here g functions c.requires.routed w link c.args.place c.args.moves c.requires.freed call.0 c.in-Call.split c.in-Call.back.0 c.promise_of.result call.2 call.4 c.promise_of.ensures in
     let numbered : IsNumbered g w c.number_of.new.work to c.in-Some.number = subst (λ (o : Option ℕ). NumbersContext g w c.number_of.new.work to o) c.in-Some.is c.in_ok-number.ensures in
-    subst (λ (b : ℕ). IsTieable g c.number_of.new.work link c.args.place c.args.moves c.in-Some.number b to) call.4
-    (is_tieable g functions c.requires.routed w link c.args.place c.args.moves c.requires.freed call.0 call.1 to call.3 read c.number_of.new.work c.in-Some.number numbered)
+    let same = same_tabled c.number_of.new.work.table c.numbered-to.result c.in-Some.number to c.numbered-to.ensures.number c.numbered-to.ensures.there numbered.there in
+    subst (λ (a : Tabled). IsTieable g c.number_of.new.work link c.args.place c.args.moves a.number c.in-Call.back.0 a.context) (sym same)
+    (subst (λ (b : ℕ). IsTieable g c.number_of.new.work link c.args.place c.args.moves c.in-Some.number b to) call.4
+    (is_tieable g functions c.requires.routed w link c.args.place c.args.moves c.requires.freed call.0 call.1 to call.3 read c.number_of.new.work c.in-Some.number numbered))
 
 pub returns : goal.returns
 returns c =
@@ -50,7 +74,8 @@ returns c =
     let to : Context = context c.in-Call.callee c.promise_of.result in
     let read = read_here g functions c.requires.routed w link c.args.place c.args.moves c.requires.freed call.0 c.in-Call.split c.in-Call.back.0 c.promise_of.result call.2 call.4 c.promise_of.ensures in
     let numbered : IsNumbered g w c.number_of.new.work to c.in-Some.number = subst (λ (o : Option ℕ). NumbersContext g w c.number_of.new.work to o) c.in-Some.is c.in_ok-number.ensures in
-    let finishes = c.in_ok-tie_link.ensures in (
+    let to_number : ℕ → List ℕ = λ n. slice_set c.number_of.new.work.store.to c.args.place (n + 1) in
+    let finishes = subst (λ (n : ℕ). Finishes g c.number_of.new.work c.tie_link.new.work (to_number n)) c.numbered-to.ensures.number c.in_ok-tie_link.ensures in (
       finishes.kept,
       is_less g functions c.requires.routed w link c.args.place c.args.moves c.requires.freed call.0 call.1 to call.3 read c.number_of.new.work c.in-Some.number numbered c.requires.some c.tie_link.new.work
           finishes,

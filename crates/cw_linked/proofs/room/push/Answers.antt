@@ -8,18 +8,13 @@ returns c =
     let w = c.args.work.now in
     let many = c.args.many in
     let cells : c.len-cells.result ≡ length w.table.heights.items = omega (arith, c.len-cells.ensures, w.table.heights.ok.0) in
-    let number : c.len-number.result ≡ length w.table.contexts.items = omega (arith, c.len-number.ensures, w.table.contexts.ok.0) in
     let heights : c.resize.new.self.items ≡ w.table.heights.items ++ replicate many 0
     = resized w.table.heights.items c.resize.new.self.items (c.len-cells.result + many) (vec_len w.table.heights) many 0 c.in_ok-resize.ensures.items
     (omega (arith, w.table.heights.ok.0)) (omega (arith, cells, w.table.heights.ok.0)) in
-    let owners : c.resize-2.new.self.items ≡ w.owners.items ++ replicate many c.len-number.result
-    = resized w.owners.items c.resize-2.new.self.items (c.len-cells.result + many) (vec_len w.owners) many c.len-number.result c.in_ok-resize-2.ensures.items
-    (omega (arith, w.owners.ok.0)) (omega (arith, cells, w.owners.ok.0, c.requires.owners)) in
     record {
       contexts = c.in_ok-push-2.ensures.items;
       bases = c.in_ok-push.ensures.items ∙ ap (λ (n : ℕ). w.table.bases.items ++ n ∷ []) cells;
       written = refl;
       heights = heights;
-      owners = owners ∙ ap (λ (n : ℕ). w.owners.items ++ replicate many n) number;
       store = refl;
     }

@@ -1,4 +1,4 @@
-use Rattle.std.proofs.Common.{◌≡◌, Some, length, subst, sym, arith}
+use Rattle.std.proofs.Common.{◌≡◌, ◌∙◌, Some, length, subst, sym, ap, arith}
 use Rattle.std.specs.Prelude.{slice_get}
 use Rattle.cw_product.specs.Product.{game_of}
 use Rattle.cw_solve.specs.declared.table.Table.{Table}
@@ -12,7 +12,7 @@ use Rattle.cw_linked.proofs.ties.ask_calls.Goals as goal
 pub entry-entry-requires : goal.entry-entry-requires
 entry-entry-requires c =
     let at = c.args.callee.now in
-    (there_at (game_of c.args.game.now) (length c.args.game.now.graph.parts.items) c.requires.routed c.args.work.now.table c.requires.table at.number at.context c.requires.callee).below
+    rw c.function.ensures (there_at (game_of c.args.game.now) (length c.args.game.now.graph.parts.items) c.requires.routed c.args.work.now.table c.requires.table at.number at.context c.requires.callee).below
 
 pub loop-q-init : goal.loop-q-init
 loop-q-init c =
@@ -29,12 +29,16 @@ ask_lost-requires-clause-cell c =
     let g = game_of c.args.game.now in
     let w = c.args.work.now in
     let callee = c.args.callee.now in
+    let entry = c.entry-entry.ensures.is ∙ ap g.entry c.function.ensures in
     let begins = (there_at g (length c.args.game.now.graph.parts.items) c.requires.routed w.table c.requires.table callee.number callee.context c.requires.callee).begins in
     record {
       at = subst (λ (t : Table). slice_get t.contexts.items callee.number ≡ Some callee.context) (sym c.loop-q.invariant.step.others.table) c.requires.callee;
-      of = (omega (arith, c.entry-entry.ensures.is), omega (arith, begins, c.entry-entry.ensures.is));
+      of = (omega (arith, entry), omega (arith, begins, entry));
       state = omega (arith, c.loop-q-test.true, c.states-q-end.ensures);
     }
+
+pub ask_lost-requires-clause-entry : goal.ask_lost-requires-clause-entry
+ask_lost-requires-clause-entry c = c.entry-entry.ensures.is ∙ ap (game_of c.args.game.now).entry c.function.ensures
 
 pub loop-q-preserved : goal.loop-q-preserved
 loop-q-preserved c =
@@ -46,7 +50,7 @@ loop-q-preserved c =
     record {
       step = two_steps g w mid new c.loop-q.invariant.step c.in_ok-ask_lost.ensures.step;
       left = one_from g functions c.requires.routed (alike c.args.game.now) w mid new c.requires.table c.loop-q.invariant.step c.args.place c.args.link.now c.requires.at
-          (record { at = c.args.callee.now; pos = c.entry-entry.result; state = record { 0 = c.loop-q.q } }) c.requires.callee c.entry-entry.ensures.is c.requires.goes c.in_ok-ask_lost.ensures c.loop-q.invariant.left;
+          (record { at = c.args.callee.now; pos = c.entry-entry.result; state = record { 0 = c.loop-q.q } }) c.requires.callee (c.entry-entry.ensures.is ∙ ap g.entry c.function.ensures) c.requires.goes c.in_ok-ask_lost.ensures c.loop-q.invariant.left;
     }
 
 pub returns : goal.returns

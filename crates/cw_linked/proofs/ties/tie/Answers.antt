@@ -1,4 +1,5 @@
-use Rattle.std.proofs.Common.{refl}
+use Rattle.std.proofs.Common.{◌≡◌, ◌+◌, ℕ, refl, subst}
+use Rattle.std.specs.Prelude.{slice_set}
 use Rattle.cw_linked.proofs.Tieing.{tied_callers}
 use Rattle.cw_linked.proofs.ties.tie.Goals as goal
 
@@ -6,13 +7,13 @@ pub returns : goal.returns
 returns c =
     let w = c.args.work.now in
     let t = c.tie.ensures in
+    let to = subst (λ (n : ℕ). c.tie.new.self.to ≡ slice_set w.store.to c.args.place (n + 1)) c.number.ensures t.to in
     record {
       table = refl;
-      owners = refl;
       marks = t.marks;
       asked = t.asked;
       due = t.due;
-      to = t.to;
+      to = to;
       waves = t.waves;
-      callers = tied_callers w _ c.args.place c.args.number c.requires.callers c.requires.within c.requires.number c.requires.long.to refl t.lists t.to;
+      callers = tied_callers w _ c.args.place c.args.callee.now.number c.requires.callers c.requires.within c.requires.number c.requires.long.to refl t.lists to;
     }

@@ -31,12 +31,6 @@ ask_calls-requires-clause-goes c =
     let functions = length c.args.game.now.graph.parts.items in
     mid_goes g functions c.requires.routed (alike c.args.game.now) c.args.work.now c.tie.new.work c.args.link.now c.args.place c.args.moves c.args.callee.now.number c.args.back.0 c.args.callee.now.context c.requires.tieable c.tie.ensures
 
-pub ask_calls-requires-clause-owners : goal.ask_calls-requires-clause-owners
-ask_calls-requires-clause-owners c =
-    let g = game_of c.args.game.now in
-    let functions = length c.args.game.now.graph.parts.items in
-    (mid_firm g functions c.requires.routed (alike c.args.game.now) c.args.work.now c.tie.new.work c.args.link.now c.args.place c.args.moves c.args.callee.now.number c.args.back.0 c.args.callee.now.context c.requires.tieable c.tie.ensures).owners
-
 pub ask_calls-requires-clause-high : goal.ask_calls-requires-clause-high
 ask_calls-requires-clause-high c =
     let g = game_of c.args.game.now in

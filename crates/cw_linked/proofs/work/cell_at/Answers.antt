@@ -1,30 +1,18 @@
-use Rattle.std.proofs.Common.{length, arith}
+use Rattle.std.proofs.Common.{length, ap, ◌∙◌}
 use Rattle.cw_product.specs.Product.{game_of}
-use Rattle.cw_linked.proofs.Placing.{function_there, state_below, cell_is}
+use Rattle.cw_solve.specs.Rounds.{positions}
+use Rattle.cw_linked.proofs.Placing.{function_there, few_run}
 use Rattle.cw_linked.proofs.work.cell_at.Goals as goal
 
-pub positions-run-requires-clause-there : goal.positions-run-requires-clause-there
-positions-run-requires-clause-there c =
+pub positions-requires-clause-there : goal.positions-requires-clause-there
+positions-requires-clause-there c =
     let g = game_of c.args.game.now in
-    function_there g (length c.args.game.now.graph.parts.items) c.requires.routed c.args.work.now c.requires.table c.requires.long c.requires.owners c.args.place c.index.result.now c.index-context.result.now
-    c.requires.within c.index.ensures c.index-context.ensures
+    rw c.function.ensures (function_there g (length c.args.game.now.graph.parts.items) c.requires.routed c.args.work.now c.requires.table
+    c.args.place c.owner.result c.numbered-at.result c.owner.ensures c.numbered-at.ensures.number c.numbered-at.ensures.there)
 
-pub entry-entry-requires : goal.entry-entry-requires
-entry-entry-requires c =
+pub of-run-requires-clause-few : goal.of-run-requires-clause-few
+of-run-requires-clause-few c =
     let g = game_of c.args.game.now in
-    let there = function_there g (length c.args.game.now.graph.parts.items) c.requires.routed c.args.work.now c.requires.table c.requires.long c.requires.owners c.args.place c.index.result.now
-    c.index-context.result.now c.requires.within c.index.ensures c.index-context.ensures in
-    there.below
-
-pub overflow_cast-result-2 : goal.overflow_cast-result-2
-overflow_cast-result-2 c =
-    let g = game_of c.args.game.now in
-    let below = state_below g (length c.args.game.now.graph.parts.items) c.requires.routed c.args.work.now c.requires.table c.requires.long c.requires.owners c.args.place c.index.result.now
-    c.index-context.result.now c.requires.within c.index.ensures c.index-context.ensures c.index-2.result.now c.positions-run.result c.index-2.ensures c.positions-run.ensures.is in
-    omega (arith, below, c.requires.routed.few)
-
-pub returns : goal.returns
-returns c =
-    let g = game_of c.args.game.now in
-    cell_is g (length c.args.game.now.graph.parts.items) c.requires.routed c.args.work.now c.requires.table c.requires.long c.requires.owners c.args.place c.index.result.now c.index-context.result.now
-    c.requires.within c.index.ensures c.index-context.ensures c.index-2.result.now c.positions-run.result c.entry-entry.result.0 c.index-2.ensures c.positions-run.ensures.is c.entry-entry.ensures.is
+    few_run g (length c.args.game.now.graph.parts.items) c.requires.routed c.args.work.now c.requires.table
+    c.args.place c.owner.result c.numbered-at.result c.owner.ensures c.numbered-at.ensures.number c.numbered-at.ensures.there
+    c.positions.result (c.positions.ensures.is ∙ ap (positions g) c.function.ensures)

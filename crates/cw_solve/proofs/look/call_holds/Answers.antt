@@ -1,13 +1,12 @@
 use Rattle.std.proofs.Common.{◌≡◌, ℕ, ◌&&◌, nat_eq, Some, length, sym, ap, ap₂, ◌∙◌}
 use Rattle.std.specs.Prelude.{position}
-use Rattle.std.proofs.lemmas.Option.{get_or_from_slice_get}
 use Rattle.cw_game.specs.Games.{Holds}
 use Rattle.cw_game.specs.Pairs.{has}
 use Rattle.cw_product.specs.Product.{game_of}
 use Rattle.cw_solve.specs.declared.contexts.Context.{Context}
-use Rattle.cw_solve.specs.declared.table.Tabled.{Tabled}
 use Rattle.cw_solve.specs.Contexts.{context}
 use Rattle.cw_solve.proofs.Calling.{back_cell, callee_there, callee_cell, call_missing, call_asked, call_holds, place_is, place_none}
+use Rattle.cw_solve.proofs.Tabling.{same_context}
 use Rattle.cw_solve.proofs.look.call_holds.Goals as goal
 
 pub promised-promise-requires-clause-cell : goal.promised-promise-requires-clause-cell
@@ -33,10 +32,10 @@ holds-requires-clause-cell c =
     let found : position (λ (x : Context). nat_eq x.function f && nat_eq x.promise set) contexts ≡ Some i
     = sym (c.in-Some.ensures.place ∙ ap (position (λ (x : Context). nat_eq x.function f && nat_eq x.promise set)) c.deref.ensures.value) in
     let at = place_is contexts f set i found in
-    let same : c.index.result.now ≡ context f set = c.index.ensures ∙ get_or_from_slice_get contexts i (context f set) c.index.result.now at in
-    let callee : Tabled = record { number = i; context = c.index.result.now } in
+    let callee = c.numbered-callee.result in
+    let same = same_context c.args.table.now callee i (context f set) c.numbered-callee.ensures.number c.numbered-callee.ensures.there at in
     rw c.entry.ensures.is (callee_cell g functions c.requires.routed c.args.table.now c.requires.table c.args.pos.0 c.args.state.0 f c.args.back.0 c.args.split callee c.requires.cell.state c.requires.call
-    (at ∙ ap (λ (x : Context). Some x) (sym same)) (ap (λ (x : Context). x.function) same))
+    c.numbered-callee.ensures.there (ap (λ (x : Context). x.function) same))
 
 pub returns-in-None-clause-missing : goal.returns-in-None-clause-missing
 returns-in-None-clause-missing c =
@@ -60,7 +59,7 @@ returns-in-Some-clause-holds c =
     let found : position (λ (x : Context). nat_eq x.function f && nat_eq x.promise set) contexts ≡ Some i
     = sym (c.in-Some.ensures.place ∙ ap (position (λ (x : Context). nat_eq x.function f && nat_eq x.promise set)) c.deref.ensures.value) in
     let at = place_is contexts f set i found in
-    let same : c.index.result.now ≡ context f set = c.index.ensures ∙ get_or_from_slice_get contexts i (context f set) c.index.result.now at in
+    let same = same_context c.args.table.now c.numbered-callee.result i (context f set) c.numbered-callee.ensures.number c.numbered-callee.ensures.there at in
     c.holds.ensures ∙ ap₂ (λ (p : ℕ) (x : Context). Holds g c.args.n p c.args.state.0 (has x.promise)) c.entry.ensures.is same
     ∙ call_holds g functions c.requires.routed c.args.table.now c.requires.table c.args.at.now c.args.n c.args.pos.0 c.args.state.0 f c.args.back.0 set c.args.split c.requires.cell c.requires.call
     c.promised-promise.ensures

@@ -1,4 +1,4 @@
-use Rattle.std.proofs.Common.{length, arith, refl}
+use Rattle.std.proofs.Common.{◌≡◌, ℕ, length, get_or, subst, arith, refl}
 use Rattle.std.proofs.lemmas.Option.{slice_get_within}
 use Rattle.cw_product.specs.Product.{game_of}
 use Rattle.cw_solve.proofs.Slots.{slot_within}
@@ -8,24 +8,26 @@ use Rattle.cw_solve.proofs.table.slot.Goals as goal
 pub entry-requires : goal.entry-requires
 entry-requires c =
     let at = c.args.at.now in
-    (there_at (game_of c.args.game.now) (length c.args.game.now.graph.parts.items) c.requires.routed c.args.table.now c.requires.table at.number at.context c.requires.cell.at).below
+    rw c.function-function.ensures (there_at (game_of c.args.game.now) (length c.args.game.now.graph.parts.items) c.requires.routed c.args.table.now c.requires.table at.number at.context c.requires.cell.at).below
 
 pub positions-requires-clause-there : goal.positions-requires-clause-there
 positions-requires-clause-there c =
     let at = c.args.at.now in
-    there_at (game_of c.args.game.now) (length c.args.game.now.graph.parts.items) c.requires.routed c.args.table.now c.requires.table at.number at.context c.requires.cell.at
+    rw c.function-function.ensures (there_at (game_of c.args.game.now) (length c.args.game.now.graph.parts.items) c.requires.routed c.args.table.now c.requires.table at.number at.context c.requires.cell.at)
 
 pub index-requires : goal.index-requires
 index-requires c =
     let t = c.args.table.now in
-    omega (arith, slice_get_within t.contexts.items c.args.at.now.number c.args.at.now.context c.requires.cell.at, c.requires.table.bases, t.bases.ok.0)
+    omega (arith, slice_get_within t.contexts.items c.args.at.now.number c.args.at.now.context c.requires.cell.at, c.requires.table.bases, t.bases.ok.0, c.number.ensures)
 
 pub returns-clause-is : goal.returns-clause-is
 returns-clause-is c =
     let at = c.args.at.now in
     let g = game_of c.args.game.now in
-    let b = base_at g (length c.args.game.now.graph.parts.items) c.requires.routed c.args.table.now c.requires.table at.number at.context c.requires.cell.at c.index.result.now c.index.ensures in
-    rw (b, c.entry.ensures.is, c.positions.ensures.is) refl
+    let k = c.index.result.now in
+    let read = subst (λ (n : ℕ). k ≡ get_or c.args.table.now.bases.items n k) c.number.ensures c.index.ensures in
+    let b = base_at g (length c.args.game.now.graph.parts.items) c.requires.routed c.args.table.now c.requires.table at.number at.context c.requires.cell.at k read in
+    rw (b, c.entry.ensures.is, c.positions.ensures.is, c.function-function.ensures) refl
 
 pub returns-clause-within : goal.returns-clause-within
 returns-clause-within c =
