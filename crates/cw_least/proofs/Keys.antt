@@ -28,10 +28,13 @@ key_exact x y e =
     same_key x.height x.pos x.state x.aim y.height y.pos y.state y.aim (nat_cmp-IsAntisymmetric _ _ a.0) (nat_cmp-IsAntisymmetric _ _ b.0) (nat_cmp-IsAntisymmetric _ _ c.0)
     (nat_cmp-IsAntisymmetric _ _ c.1)
 
--- a key of a lesser height stands before
+-- a key of a lesser height is less, and stands before
+pub lower_less : (a k : Key) → a.height < k.height → key_cmp a k ≡ Less
+lower_less a k l =
+    let n : nat_cmp a.height k.height ≡ Less = grind (arith, nat_tests, l) in
+    ap (λ o. ordering_then o (ordering_then (nat_cmp a.pos k.pos) (ordering_then (nat_cmp a.state k.state) (nat_cmp a.aim k.aim)))) n
+
 pub before : (keys : List Key) → IsStrictlySortedBy key_cmp keys → (i : ℕ) (a k : Key) → Contains keys a → slice_get keys i ≡ Some k → a.height < k.height → number keys a < i
 before keys o i a k c f l =
-    let n : nat_cmp a.height k.height ≡ Less = grind (arith, nat_tests, l) in
-    let less : key_cmp a k ≡ Less = ap (λ o. ordering_then o (ordering_then (nat_cmp a.pos k.pos) (ordering_then (nat_cmp a.state k.state) (nat_cmp a.aim k.aim)))) n in
     subst (λ (j : ℕ). number keys a < j) (number_at key_cmp key_total key_exact keys i k o f)
-    (number_less key_cmp key_total key_exact keys a k o c (contained key_cmp key_total key_exact keys i k f) less)
+    (number_less key_cmp key_total key_exact keys a k o c (contained key_cmp key_total key_exact keys i k f) (lower_less a k l))

@@ -3,6 +3,7 @@ pub mod Sets
 pub mod Lowest
 pub mod Keys
 pub mod Moving
+pub mod FewMoves
 pub mod Naming
 pub mod Good
 pub mod Counting

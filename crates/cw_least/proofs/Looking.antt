@@ -8,7 +8,7 @@ use Rattle.cw_game.specs.Games.{Game}
 use Rattle.cw_game.specs.Pairs.{has}
 use Rattle.cw_product.specs.Product.{game_of}
 use Rattle.cw_product.specs.Routed.{AreRouted, targets, IsOf}
-use Rattle.cw_solve.specs.Contexts.{context, HeightIs, AreTheNeeded}
+use Rattle.cw_solve.specs.Contexts.{HeightIs, AreTheNeeded}
 use Rattle.cw_solve.specs.Numbering.{IsNumberOf}
 use Rattle.cw_solve.proofs.Numbering.{function_there}
 use Rattle.cw_least.specs.declared.key.Key.{Key}

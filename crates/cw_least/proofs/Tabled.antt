@@ -4,6 +4,7 @@ use Rattle.std.specs.Prelude.{sum_by}
 use Rattle.std.specs.List.{Contains}
 use Rattle.std.specs.List.Sorted.{IsStrictlySortedBy}
 use Rattle.std.specs.Ordering.{eq_by_cmp, is_eq}
+use Rattle.std.specs.declared.cmp.Ordering.TheVariants.{Less}
 use Rattle.std.specs.Bool.{Decides}
 use Rattle.std.specs.Cmp.{eq_by_cmp_equiv, tied_itself}
 use Rattle.std.proofs.lemmas.Map.Keys.{IsDistinct-from_sorted}
@@ -20,14 +21,14 @@ use Rattle.cw_solve.specs.Solved.{Held, IsNumbered, IsHeightIn}
 use Rattle.cw_solve.proofs.Routing.{routed_of}
 use Rattle.cw_least.specs.declared.key.Key.{Key}
 use Rattle.cw_least.specs.Acts.{backs_of, IsLost, IsStartHeight, IsStartKey}
-use Rattle.cw_least.specs.Kept.{IsKey, IsFollowed}
+use Rattle.cw_least.specs.Kept.{IsKey, IsFollowed, here}
 use Rattle.cw_least.specs.Strategies.{key_cmp, named, row_at, start_key, rows_of, IsLeastStrategy}
 use Rattle.cw_ordered.proofs.Numbers.{equal_is}
-use Rattle.cw_least.proofs.Keys.{key_total, key_exact, same_key}
+use Rattle.cw_least.proofs.Keys.{key_total, key_exact, same_key, lower_less}
 use Rattle.cw_least.proofs.Counting.{exactly_same, count_is}
 use Rattle.cw_least.proofs.Lowest as lowest
 use Rattle.cw_least.proofs.Made.{start_state}
-use Rattle.cw_least.proofs.Naming.{none_in, first_or_later, all_keys, reached_keys, start_is}
+use Rattle.cw_least.proofs.Naming.{none_in, first_or_later, named_lower, all_keys, reached_keys, start_is}
 
 decides_key : (a b : Key) → Decides (eq_by_cmp key_cmp a b) (a ≡ b)
 decides_key a b = (λ e. equal_is key_cmp key_total key_exact a b e, λ e. subst (λ y. eq_by_cmp key_cmp a y ≡ true) e (ap is_eq (tied_itself key_total a)))
@@ -98,6 +99,10 @@ module _ (h : Held) (made : IsMade h.game) where
     | inl e ↦ subst (IsFollowed h) e (start_followed k s)
     | inr d ↦ absurd (none_in b d)
   ]
+
+  -- what a key names is less
+  pub descends : (k q : Key) → IsFollowed h k → Contains (named g k) q → key_cmp q k ≡ Less
+  descends k q f i = lower_less q k (named_lower g functions f.routed k (f.keys k (here k)) q i).1
 
   -- what is reached from it are keys
   pub reached_are : (k : Key) → IsStartKey g k → (keys : List Key) → AreFrom g k keys → (b : Key) → Contains keys b → IsKey g functions b

@@ -1,19 +1,26 @@
 -- Working definitions, for proofs and contracts inside: what the code's values stand for, and where it looks a height up.
-use Rattle.std.specs.Prelude.{◌≡◌, ℕ, ◌<◌, List, map, Bool, Some, length, slice_get}
+use Rattle.std.specs.Prelude.{◌≡◌, ℕ, ◌<◌, List, map, Bool, Option, Some, None, length, slice_get}
+use Rattle.cw_certs.specs.declared.moves.Move.{Move}
+use Rattle.cw_certs.specs.declared.moves.Move.TheVariants.{Skip, Try, Grant, Refuse, On, Left, Right, Opened, Failed}
 use Rattle.cw_game.specs.Games.{Game}
+use Rattle.cw_game.specs.declared.spots.Spot.{Spot}
+use Rattle.cw_game.specs.declared.spots.Spot.TheVariants.{Visit, Asked, Branch, Open}
 use Rattle.cw_game.specs.Pairs.{Called, all_states}
 use Rattle.cw_product.specs.Product.{game_of}
 use Rattle.cw_solve.specs.declared.contexts.Context.{Context}
 use Rattle.cw_product.specs.Routed.{IsOf}
-use Rattle.cw_solve.specs.Contexts.{context, IsHeight}
+use Rattle.cw_solve.specs.Contexts.{IsHeight}
 use Rattle.cw_solve.specs.Numbering.{IsUnder}
 use Rattle.cw_solve.specs.Solved.{Held}
 use Rattle.cw_solve.specs.Tables.{HasCall}
 use Rattle.cw_least.specs.declared.acts.Act.{Act as ActData}
 use Rattle.cw_least.specs.declared.acts.Act.TheVariants as given
+use Rattle.cw_least.specs.declared.acts.Lead.{Lead}
+use Rattle.cw_least.specs.declared.heights.Lower.{Lower}
 use Rattle.cw_least.specs.Heights.{others}
 use Rattle.cw_core.specs.declared.ids.StateId.{StateId}
 use Rattle.cw_least.specs.declared.key.Key.{Key}
+use Rattle.cw_least.specs.declared.key.Way.{Way}
 use Rattle.cw_least.specs.Strategies.{backs_in, row_at, start_key, Act, Bad, Out, Both, Go, Into}
 
 abbrev pub act_of : ActData → Act
@@ -43,6 +50,28 @@ IsCall g p back split = (function : ℕ) × HasCall g p function back split
 -- a call that returns to this position, as far as its return goes
 abbrev pub returning : ℕ → Bool → Called
 returning back split = record { seam = 0; function = 0; back = back; split = split }
+
+-- the key of a pair below a key, for an aim, and the way of a move that leads there
+abbrev pub key_at : ℕ → Lower → Key
+key_at aim to = record { height = to.height; pos = to.pos.0; state = to.state.0; aim = aim }
+
+abbrev pub way_at : ℕ → Lead → Way
+way_at aim lead = record { by = lead.by; to = key_at aim lead.to }
+
+-- the moves that there are where this stands, one or two
+abbrev pub first_move : Option Spot → Move
+first_move (Some (Visit j i a)) = Skip
+first_move (Some (Asked j i a)) = Grant
+first_move (Some (Branch m n)) = Left
+first_move (Some (Open j d n)) = Opened
+first_move _ = On
+
+abbrev pub second_move : Option Spot → Option Move
+second_move (Some (Visit j i a)) = Some Try
+second_move (Some (Asked j i a)) = Some Refuse
+second_move (Some (Branch m n)) = Some Right
+second_move (Some (Open j d n)) = Some Failed
+second_move _ = None
 
 -- how many backs a key's row has
 abbrev pub backs_of : Game → List Key → Key → ℕ

@@ -1,19 +1,22 @@
 //! What is done at a key.
 
-ghost use Rattle.std.specs.Prelude.{◌≡◌, ◌<◌, [], List, map, length, slice_get, IfOk, option_map, Some};
-ghost use Rattle.std.specs.List.{filter_map, range_with_len};
+ghost use Rattle.std.specs.Prelude.{◌≡◌, ℕ, ◌<◌, [], List, map, length, slice_get, IfOk, option_map, Some};
+ghost use Rattle.std.specs.List.{cons_option, filter_map, range_with_len};
+ghost use Rattle.cw_product.specs.Moves.{IsPosition};
 ghost use Rattle.cw_product.specs.Product.{game_of};
 ghost use Rattle.cw_product.specs.Routed.{AreRouted};
-ghost use Rattle.cw_least.specs.Acts.{act_of, IsIn, IsCall, returning};
+ghost use Rattle.cw_least.specs.Acts.{act_of, first_move, second_move, key_at, way_at, IsIn, IsCall, returning};
 ghost use Rattle.cw_solve.specs.Tables.{HasCall};
 ghost use Rattle.cw_least.specs.Kept.{IsKey};
 ghost use Rattle.cw_least.specs.Strategies.{way, sooner, best, moves, after_return, aim_at, backs_at, act};
 
-use crate::heights::{below, context_of};
+use crate::contexts::Entries;
+use crate::heights::{Lower, below, lower_pair};
 use crate::key::{Key, Way};
 use cw_certs::Move;
 use cw_core::{PosId, StateId, StateSet};
-use cw_product::Turn;
+use cw_game::Spot;
+use cw_product::{Game, Turn};
 use cw_solve::Solved;
 use std::alloc::{AllocError, Global};
 
@@ -33,38 +36,48 @@ pub(crate) enum Act {
     },
 }
 
-/// The environment's moves and the weaver's, in their order.
-const MOVES: [Move; 9] = [
-    Move::Skip,
-    Move::Try,
-    Move::Grant,
-    Move::Refuse,
-    Move::On,
-    Move::Left,
-    Move::Right,
-    Move::Opened,
-    Move::Failed,
-];
+/// A move of the environment, and the pair to which it leads.
+#[derive(Clone, Copy, Drop)]
+struct Lead {
+    by: Move,
+    to: Lower,
+}
+
+/// The moves at a position, one or two.
+fn moves_at(game: &Game, pos: PosId) -> (Move, Option<Move>)
+    requires position { IsPosition (game_of game.now) pos.0 }
+    ensures first { result.0 ≡ first_move (slice_get (game_of game.now).spots pos.0) }
+    ensures second { result.1 ≡ second_move (slice_get (game_of game.now).spots pos.0) }
+{
+    match game.spot(pos) {
+        Spot::Visit(_, _, _) => (Move::Skip, Some(Move::Try)),
+        Spot::Asked(_, _, _) => (Move::Grant, Some(Move::Refuse)),
+        Spot::Branch(_, _) => (Move::Left, Some(Move::Right)),
+        Spot::Open(_, _, _) => (Move::Opened, Some(Move::Failed)),
+        Spot::Step(_) | Spot::Label(_, _, _) | Spot::Close(_, _, _) => (Move::On, None),
+        Spot::Call(_, _, _) | Spot::SplitCall(_, _, _) | Spot::Exit(_) => (Move::On, None),
+    }
+}
 
 /// Where a move leads from a key.
-fn way_by(solved: &Solved, number: u32, key: &Key, by: Move) -> Option<Way>
+fn lead_by(solved: &Solved, number: u32, key: &Key, by: Move) -> Option<Lead>
     requires routed { AreRouted (game_of solved.now.game) (length solved.now.game.graph.parts.items) }
     requires key { IsKey (game_of solved.now.game) (length solved.now.game.graph.parts.items) key.now }
     requires here { IsIn solved.now number key.now.aim key.now.pos key.now.state }
-    ensures { result ≡ way (game_of solved.now.game) key.now by }
+    ensures { option_map (way_at key.now.aim) result ≡ way (game_of solved.now.game) key.now by }
 {
     match solved.game().next(PosId(key.pos), StateId(key.state), by) {
         None => None,
-        Some((pos, state)) => Some(Way {
+        Some((pos, state)) => Some(Lead {
             by,
-            to: below(solved, number, key, pos, state, key.aim),
+            to: lower_pair(solved, number, key, pos, state),
         }),
     }
 }
 
-/// Of two ways that of the least height, and the first on a tie.
-fn sooner(a: Option<Way>, b: Option<Way>) -> Option<Way>
-    ensures { result ≡ sooner a b }
+/// Of two moves that to the pair of the least height, and the first on a tie.
+fn sooner(a: Option<Lead>, b: Option<Lead>) -> Option<Lead>
+    ensures { (aim : ℕ) → option_map (way_at aim) result ≡ sooner (option_map (way_at aim) a) (option_map (way_at aim) b) }
 {
     match a {
         None => b,
@@ -79,35 +92,53 @@ fn sooner(a: Option<Way>, b: Option<Way>) -> Option<Way>
     }
 }
 
-/// The way of the least height among those of some moves.
-fn best(solved: &Solved, number: u32, key: &Key, moves: &[Move]) -> Option<Way>
+/// The move to the pair of the least height, where there is one move at most.
+fn lead_of(solved: &Solved, number: u32, key: &Key, by: Option<Move>) -> Option<Lead>
     requires routed { AreRouted (game_of solved.now.game) (length solved.now.game.graph.parts.items) }
     requires key { IsKey (game_of solved.now.game) (length solved.now.game.graph.parts.items) key.now }
     requires here { IsIn solved.now number key.now.aim key.now.pos key.now.state }
-    ensures { result ≡ best (game_of solved.now.game) key.now moves.now }
+    ensures { option_map (way_at key.now.aim) result ≡ best (game_of solved.now.game) key.now (cons_option by []) }
 {
-    match moves {
-        [] => None,
-        [by, later @ ..] => sooner(
-            way_by(solved, number, key, *by),
-            best(solved, number, key, later),
-        ),
+    match by {
+        None => None,
+        Some(by) => sooner(lead_by(solved, number, key, by), None),
     }
 }
 
-/// The key after the return of a call at an exit state.
-fn after_return(solved: &Solved, number: u32, key: &Key, back: PosId, split: bool, exit: u16) -> Key
+/// The move to the pair of the least height.
+fn best(solved: &Solved, number: u32, key: &Key) -> Option<Lead>
+    requires routed { AreRouted (game_of solved.now.game) (length solved.now.game.graph.parts.items) }
+    requires key { IsKey (game_of solved.now.game) (length solved.now.game.graph.parts.items) key.now }
+    requires here { IsIn solved.now number key.now.aim key.now.pos key.now.state }
+    ensures { option_map (way_at key.now.aim) result ≡ best (game_of solved.now.game) key.now moves }
+{
+    let moves = moves_at(solved.game(), PosId(key.pos));
+    sooner(
+        lead_by(solved, number, key, moves.0),
+        lead_of(solved, number, key, moves.1),
+    )
+}
+
+/// The pair after the return of a call at an exit state.
+fn after_return(
+    solved: &Solved,
+    number: u32,
+    key: &Key,
+    back: PosId,
+    split: bool,
+    exit: u16,
+) -> Lower
     requires routed { AreRouted (game_of solved.now.game) (length solved.now.game.graph.parts.items) }
     requires key { IsKey (game_of solved.now.game) (length solved.now.game.graph.parts.items) key.now }
     requires here { IsIn solved.now number key.now.aim key.now.pos key.now.state }
     requires exit { exit < (game_of solved.now.game).states.count }
     requires call { IsCall (game_of solved.now.game) key.now.pos back.0 split }
-    ensures { result ≡ after_return (game_of solved.now.game) key.now (returning back.0 split) exit }
+    ensures { key_at key.now.aim result ≡ after_return (game_of solved.now.game) key.now (returning back.0 split) exit }
 {
     let state = solved
         .game()
         .returned(StateId(key.state), StateId(exit), split);
-    below(solved, number, key, back, state, key.aim)
+    lower_pair(solved, number, key, back, state)
 }
 
 /// The exit states whose return's pair has a height below the call's.
@@ -146,7 +177,7 @@ fn backs_at(
     for x in 0..solved.game().states() {
         let to = after_return(solved, number, key, back, split, x);
         if 0 < to.height {
-            backs.push((StateId(x), to))?;
+            backs.push((StateId(x), to.key(key.aim)))?;
         }
     }
     Ok(backs)
@@ -156,6 +187,7 @@ fn backs_at(
 fn into(
     alloc: Global,
     solved: &Solved,
+    entries: &Entries,
     number: u32,
     key: &Key,
     function: u16,
@@ -173,7 +205,7 @@ fn into(
     let pos = solved.game().entry(function);
     let callee = below(
         solved,
-        context_of(solved, pos, state, &aim),
+        entries.context_of(solved, pos, state, &aim),
         key,
         pos,
         state,
@@ -184,14 +216,19 @@ fn into(
 }
 
 /// What is done at a key.
-pub(crate) fn act_at(alloc: Global, solved: &Solved, key: &Key) -> Result<Act, AllocError>
+pub(crate) fn act_at(
+    alloc: Global,
+    solved: &Solved,
+    entries: &Entries,
+    key: &Key,
+) -> Result<Act, AllocError>
     requires routed { AreRouted (game_of solved.now.game) (length solved.now.game.graph.parts.items) }
     requires key { IsKey (game_of solved.now.game) (length solved.now.game.graph.parts.items) key.now }
     ensures { IfOk result (λ a. act_of a ≡ act (game_of solved.now.game) key.now) }
 {
     let pos = PosId(key.pos);
     let state = StateId(key.state);
-    let number = context_of(solved, pos, state, &key.aim);
+    let number = entries.context_of(solved, pos, state, &key.aim);
     match solved.game().turn(pos) {
         Turn::Exit { .. } => Ok(Act::Out),
         Turn::Weaver => Ok(Act::Both {
@@ -202,10 +239,13 @@ pub(crate) fn act_at(alloc: Global, solved: &Solved, key: &Key) -> Result<Act, A
             callee,
             split,
             back,
-        } => into(alloc, solved, number, key, callee, back, split),
-        Turn::Environment => match best(solved, number, key, &MOVES) {
+        } => into(alloc, solved, entries, number, key, callee, back, split),
+        Turn::Environment => match best(solved, number, key) {
             None => Ok(Act::Bad),
-            Some(way) => Ok(Act::Go(way)),
+            Some(lead) => Ok(Act::Go(Way {
+                by: lead.by,
+                to: lead.to.key(key.aim),
+            })),
         },
     }
 }

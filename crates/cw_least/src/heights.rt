@@ -4,7 +4,7 @@ ghost use Rattle.std.specs.Prelude.{◌≡◌, ◌-◌, ◌<◌, length};
 ghost use Rattle.cw_product.specs.Product.{game_of};
 ghost use Rattle.cw_product.specs.Routed.{AreRouted};
 ghost use Rattle.cw_game.specs.Pairs.{has};
-ghost use Rattle.cw_least.specs.Acts.{IsIn, IsThere};
+ghost use Rattle.cw_least.specs.Acts.{IsIn, key_at};
 ghost use Rattle.cw_least.specs.Heights.{others, height_within};
 ghost use Rattle.cw_least.specs.Strategies.{below};
 
@@ -14,7 +14,7 @@ use cw_product::Game;
 use cw_solve::Solved;
 
 /// All states but those of a set.
-fn others(game: &Game, set: &StateSet) -> StateSet
+pub(crate) fn others(game: &Game, set: &StateSet) -> StateSet
     requires routed { AreRouted (game_of game.now) (length game.now.graph.parts.items) }
     ensures { result ≡ others (game_of game.now) set.now }
 {
@@ -63,15 +63,44 @@ pub(crate) fn below(
     }
 }
 
-/// The number of a context that has a position and promises all states but those of an aim.
-pub(crate) fn context_of(solved: &Solved, pos: PosId, state: StateId, aim: &StateSet) -> u32
+/// A pair one move below a key, with its height.
+#[derive(Clone, Copy, Drop)]
+pub(crate) struct Lower {
+    pub pos: PosId,
+    pub state: StateId,
+    pub height: u32,
+}
+
+impl Lower {
+    /// Its key for an aim.
+    pub(crate) fn key(self, aim: StateSet) -> Key
+        ensures { result ≡ key_at aim self }
+    {
+        Key {
+            height: self.height,
+            pos: self.pos.0,
+            state: self.state.0,
+            aim,
+        }
+    }
+}
+
+/// A pair one move below a key, with its height for the key's aim.
+pub(crate) fn lower_pair(
+    solved: &Solved,
+    number: u32,
+    key: &Key,
+    pos: PosId,
+    state: StateId,
+) -> Lower
     requires routed { AreRouted (game_of solved.now.game) (length solved.now.game.graph.parts.items) }
-    requires there { IsThere (game_of solved.now.game) pos.0 aim.now }
-    requires state { state.0 < (game_of solved.now.game).states.count }
-    ensures { IsIn solved.now result aim.now pos.0 state.0 }
+    requires here { IsIn solved.now number key.now.aim pos.0 state.0 }
+    requires positive { 0 < key.now.height }
+    ensures { key_at key.now.aim result ≡ below (game_of solved.now.game) key.now pos.0 state.0 key.now.aim }
 {
-    let _ = state;
-    solved.contexts_are_needed();
-    let promise = others(solved.game(), aim);
-    solved.number_of(pos, &promise)
+    Lower {
+        pos,
+        state,
+        height: height_within(solved, number, key.height - 1, pos, state, &key.aim),
+    }
 }

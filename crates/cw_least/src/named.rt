@@ -8,6 +8,7 @@ ghost use Rattle.cw_least.specs.Kept.{IsKey};
 ghost use Rattle.cw_least.specs.Strategies.{keys_in, named};
 
 use crate::acts::{Act, act_at};
+use crate::contexts::Entries;
 use crate::key::Key;
 use cw_closure::Steps;
 use cw_core::StateId;
@@ -46,6 +47,7 @@ fn put_keys(act: &Act, keys: &mut Vec<Key>) -> Result<(), AllocError>
 pub(crate) struct Named<'g> {
     pub alloc: Global,
     pub solved: &'g Solved<'g>,
+    pub entries: Entries,
 }
 
 impl<'g> Steps<Key> for Named<'g> {
@@ -58,7 +60,7 @@ impl<'g> Steps<Key> for Named<'g> {
     ghost can_follow = { λ s k. IsFollowed s.solved.now k };
 
     fn put_after(&self, key: Key, keys: &mut Vec<Key>) -> Result<(), AllocError> {
-        let act = act_at(self.alloc, self.solved, &key)?;
+        let act = act_at(self.alloc, self.solved, &self.entries, &key)?;
         put_keys(&act, keys)?;
         Ok(())
     }

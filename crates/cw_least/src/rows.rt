@@ -10,6 +10,7 @@ ghost use Rattle.cw_least.specs.Kept.{IsKey};
 ghost use Rattle.cw_least.specs.Strategies.{key_cmp, number, how_by, row_at, backs_in};
 
 use crate::acts::{Act, act_at};
+use crate::contexts::Entries;
 use crate::key::Key;
 use cw_certs::{EnvRow, How};
 use cw_core::{PosId, StateId};
@@ -70,14 +71,20 @@ fn how_by(alloc: Global, keys: &[Key], act: Act) -> Result<How, AllocError>
     }
 }
 
-fn row_at(alloc: Global, solved: &Solved, keys: &[Key], key: &Key) -> Result<EnvRow, AllocError>
+fn row_at(
+    alloc: Global,
+    solved: &Solved,
+    entries: &Entries,
+    keys: &[Key],
+    key: &Key,
+) -> Result<EnvRow, AllocError>
     requires routed { AreRouted (game_of solved.now.game) (length solved.now.game.graph.parts.items) }
     requires key { IsKey (game_of solved.now.game) (length solved.now.game.graph.parts.items) key.now }
     requires order { IsStrictlySortedBy key_cmp keys.now }
     requires few { length keys.now ≤ 65536 }
     ensures { IfOk result (λ r. row_of r ≡ row_at (game_of solved.now.game) keys.now key.now) }
 {
-    let how = how_by(alloc, keys, act_at(alloc, solved, key)?)?;
+    let how = how_by(alloc, keys, act_at(alloc, solved, entries, key)?)?;
     Ok(EnvRow {
         pos: PosId(key.pos),
         state: StateId(key.state),
@@ -100,6 +107,7 @@ fn backs_in(how: &How) -> usize
 pub(crate) fn rows_within(
     alloc: Global,
     solved: &Solved,
+    entries: &Entries,
     keys: &[Key],
 ) -> Result<Option<Vec<EnvRow>>, AllocError>
     requires routed { AreRouted (game_of solved.now.game) (length solved.now.game.graph.parts.items) }
@@ -113,7 +121,7 @@ pub(crate) fn rows_within(
     let mut rows = Vec::new(alloc);
     let mut left = 65536 - keys.len();
     for key in keys {
-        let row = row_at(alloc, solved, keys, key)?;
+        let row = row_at(alloc, solved, entries, keys, key)?;
         let backs = backs_in(&row.how);
         if left < backs {
             return Ok(None);

@@ -11,12 +11,13 @@ ghost use Rattle.cw_least.specs.Acts.{IsLost, IsStartHeight, IsStartKey};
 ghost use Rattle.cw_least.specs.Backs.{BacksAscend};
 ghost use Rattle.cw_least.specs.Strategies.{IsLeastStrategy, rows_of};
 
+use crate::contexts::Entries;
 use crate::key::Key;
 use crate::named::Named;
 use crate::rows::rows_within;
 use cw_certs::EnvCert;
-use cw_closure::closed_up_to;
 use cw_core::StateSet;
+use cw_ordered::descended_up_to;
 use cw_product::Game;
 use cw_solve::{Solved, TableFault};
 use std::alloc::{AllocError, Global};
@@ -59,9 +60,14 @@ fn strategy_within(alloc: Global, solved: &Solved) -> Result<Option<EnvCert>, Al
     ensures many { IfOk result (λ o. IfNone o ((s : Strategy) → IsLeastStrategy (game_of solved.now.game) s → 65536 < rows_of s)) }
 {
     let start = start_key(solved);
-    match closed_up_to(alloc, &Named { alloc, solved }, &[start], 65536)? {
+    let named = Named {
+        alloc,
+        solved,
+        entries: Entries::make(alloc, solved)?,
+    };
+    match descended_up_to(alloc, &named, &[start], 65536)? {
         None => Ok(None),
-        Some(keys) => match rows_within(alloc, solved, &keys)? {
+        Some(keys) => match rows_within(alloc, solved, &named.entries, &keys)? {
             None => Ok(None),
             Some(rows) => Ok(Some(EnvCert {
                 states: solved.game().states(),

@@ -1,2 +1,3 @@
 -- The proofs.
+pub mod Descending
 pub mod Numbers

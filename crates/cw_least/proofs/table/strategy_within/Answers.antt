@@ -6,16 +6,22 @@ use Rattle.cw_product.specs.Product.{Held, game_of}
 use Rattle.cw_least.specs.declared.key.Key.{Key}
 use Rattle.cw_least.specs.Acts.{backs_of}
 use Rattle.cw_least.specs.Strategies.{key_cmp, named, row_at}
-use Rattle.cw_least.proofs.Tabled.{AreFrom, routed, starts_followed, reached_are, least_of, keys_many, rows_many}
+use Rattle.cw_least.proofs.Tabled.{AreFrom, routed, starts_followed, descends, reached_are, least_of, keys_many, rows_many}
 use Rattle.cw_least.proofs.table.strategy_within.Goals as goal
 
-pub closed_up_to-requires-clause-can : goal.closed_up_to-requires-clause-can
-closed_up_to-requires-clause-can c = starts_followed c.args.solved.now c.requires.made c.start_key-start.result c.start_key-start.ensures
+pub descended_up_to-requires-clause-descend : goal.descended_up_to-requires-clause-descend
+descended_up_to-requires-clause-descend c = descends c.args.solved.now c.requires.made
+
+pub descended_up_to-requires-clause-can : goal.descended_up_to-requires-clause-can
+descended_up_to-requires-clause-can c = starts_followed c.args.solved.now c.requires.made c.start_key-start.result c.start_key-start.ensures
 
 pub returns-in-None-clause-many : goal.returns-in-None-clause-many
 returns-in-None-clause-many c =
     let more : HasMore key_cmp (Reached (named (game_of c.args.solved.now.game)) (c.start_key-start.result ∷ [])) 65536 = search rules in
     keys_many c.args.solved.now c.requires.made c.start_key-start.result c.start_key-start.ensures 65536 more
+
+pub make-requires : goal.make-requires
+make-requires c = record { routed = routed c.args.solved.now c.requires.made }
 
 pub rows_within-requires-clause-routed : goal.rows_within-requires-clause-routed
 rows_within-requires-clause-routed c = routed c.args.solved.now c.requires.made

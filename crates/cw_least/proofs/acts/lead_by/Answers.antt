@@ -3,10 +3,10 @@ use Rattle.cw_product.specs.Product.{Held, game_of}
 use Rattle.cw_product.specs.Moves.{next_at}
 use Rattle.cw_least.proofs.Acting.{pos_within}
 use Rattle.cw_least.proofs.Looking.{move_in}
-use Rattle.cw_least.proofs.acts.way_by.Goals as goal
+use Rattle.cw_least.proofs.acts.lead_by.Goals as goal
 
-pub below-requires-clause-here : goal.below-requires-clause-here
-below-requires-clause-here c =
+pub lower_pair-requires-clause-here : goal.lower_pair-requires-clause-here
+lower_pair-requires-clause-here c =
     let k = c.args.key.now in
     move_in c.args.solved.now c.requires.routed c.args.number k.aim k.pos k.state c.args.by (c.in-Some.pos.0, c.in-Some.state.0) c.requires.here
     (ap (λ (x : Held). next_at (game_of x) k.pos k.state c.args.by) (sym c.game.ensures) ∙ sym c.in-Some.ensures.is)
