@@ -1,6 +1,6 @@
 -- What is told of a table, for a program; and of a text that is read.
 use Rattle.std.proofs.Common.{◌≡◌, ◌≢◌, ℕ, ◌+◌, ◌≤◌, suc, List, [], ◌∷◌, ◌++◌, length, map, Option, Some, None, Result, refl, sym, ap, ◌∙◌, ⊎_elim, inl, inr, arith, length-append}
-use Rattle.std.specs.Prelude.{codes, option_map, IfNone, IfOk}
+use Rattle.std.specs.Prelude.{codes, option_map, IfOk}
 use Rattle.std.specs.Fmt.{decimal}
 use Rattle.std.proofs.lemmas.List.{length-map}
 use Rattle.std.proofs.lemmas.Option.{none-some, same_Some}
@@ -110,10 +110,6 @@ unopened policy text (fault.Misplaced n) h = absurd h
 pub woven_refused : {O N E : Type 0} (policy : PlainPolicy) (text source s : List ℕ) (f : WovenFault) (result : Result (Outcome O N) E) → IsFaultOver policy text source f → s ≡ source
     → IfOk result (λ o. (f ≢ fault.NoMemory) × (due_of o ≡ woven_refusal policy s f)) → IfOk result (λ o. IsWovenRefusal policy text (due_of o))
 woven_refused policy text source s f result is same h = if_ok result h (λ o p. (source, f, is, p.0, p.1 ∙ ap (λ (z : List ℕ). woven_refusal policy z f) same))
-
-pub where_none : {A P : Type 0} (o : Option A) → o ≡ None → IfNone o P → P
-where_none None e h = h
-where_none (Some a) e h = absurd (none-some a (sym e))
 
 -- the refusal of a woven text by that of its source
 pub woven_is : (cause : Cause) (line : List ℕ) → Refused (woven_cause cause) (woven_words cause ++ line) ≡ of_woven (Refused cause line)

@@ -9,6 +9,7 @@ mod Refused
 mod Rowed
 mod Sampled
 mod Shown
+mod Unmade
 mod Weaves
 mod Withins
 pub mod Agreeing

@@ -1,6 +1,6 @@
 -- Refusals that are due.
 use Rattle.std.proofs.Common.{◌≡◌, ◌≢◌, ℕ, List, Result, Ok, Err, Some, ⊎_elim}
-use Rattle.std.specs.Prelude.{IfOk}
+use Rattle.std.specs.Prelude.{IfErr, IfOk}
 use Rattle.cw_rights.specs.Policies.{PlainPolicy}
 use Rattle.cw_syntax.specs.Trees.{File}
 use Rattle.cw_policies.specs.declared.fault.PolicyFault.{PolicyFault}
@@ -20,6 +20,10 @@ use Rattle.cw_cli.specs.Refusals.{descriptor_line, policy_refusal, source_refusa
 pub if_ok : {A E : Type 0} {P Q : A → Type 0} (result : Result A E) → IfOk result P → ((a : A) → P a → Q a) → IfOk result Q
 if_ok (Ok a) h f = f a h
 if_ok (Err e) h f = tt
+
+pub if_err : {A E : Type 0} {P Q : E → Type 0} (result : Result A E) → IfErr result P → ((e : E) → P e → Q e) → IfErr result Q
+if_err (Ok a) h f = tt
+if_err (Err e) h f = f e h
 
 pub policy_refused : {O N E : Type 0} (text : List ℕ) (f : PolicyFault) (result : Result (Outcome O N) E) → IsFault text f
     → IfOk result (λ o. (f ≢ policy.NoMemory) × (due_of o ≡ policy_refusal f)) → IfOk result (λ o. IsPolicyRefusal text (due_of o))

@@ -90,9 +90,6 @@ WithWoven Next text whole due =
     ⊎ ((source : List ℕ) × (file : File) × (t : Table) × ReadsWoven whole text source file t × Next source file t due)
 
 -- These stages of `check`, with what is told of the table behind them.
-abbrev pub AfterGraph : List ℕ → PlainPolicy → File → Table → Graph → Due → Type 0
-AfterGraph source whole file t = WithGame (λ g due. IsChecked (problem_of whole source file) g t due) source whole file
-
 abbrev pub AfterWoven : List ℕ → PlainPolicy → File → Table → Due → Type 0
 AfterWoven source whole file t = WhereWovenFits (λ g due. IsChecked (problem_of whole source file) g t due) source whole file
 

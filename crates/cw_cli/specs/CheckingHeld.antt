@@ -12,13 +12,11 @@ use Rattle.cw_game.specs.Conditions.{table_fault, IsGoodTable}
 use Rattle.cw_game.specs.Standing.{IsGameOf}
 use Rattle.cw_wcheck.specs.declared.fault.BadRow.{BadRow}
 use Rattle.cw_wcheck.specs.Checking.{told as told_of}
-use Rattle.cw_woven.specs.declared.reading.Opened.{Opened}
 use Rattle.cw_commands.specs.declared.outcome.Cause.{Cause}
 use Rattle.cw_commands.specs.declared.outcome.Cause.TheVariants.{Grammar, Source}
 use Rattle.cw_commands.specs.declared.outcome.Reply.TheVariants.{Yes, No}
 use Rattle.cw_commands.specs.Outcomes.{Due, Told}
 use Rattle.cw_cli.specs.Refuting.{yes}
-use Rattle.cw_cli.specs.Checking.{AfterPolicy}
 use Rattle.cw_cli.specs.Running.{IsRunTold}
 
 -- the name of a list, by its number
@@ -53,9 +51,6 @@ abbrev pub IsCheckedBy : Game → Table → Due → Type 0
 IsCheckedBy g t due =
     (IsGoodTable g t × (due ≡ Told Yes yes) × IsSoundBy g t)
     ⊎ ((bad : BadRow) × (option_map told_of (table_fault g t) ≡ Some bad) × (due ≡ Told No (told_row bad)))
-
-abbrev pub AfterOpening : PlainPolicy → Opened → Due → Type 0
-AfterOpening whole opened due = AfterPolicy opened.text.now whole due
 
 -- the same for a run of the table
 abbrev pub IsRunShownBy : List ℕ → PlainPolicy → File → Table → List Move → Game → Due → Type 0

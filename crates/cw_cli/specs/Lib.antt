@@ -2,6 +2,7 @@ pub mod Refusals
 pub mod Reading
 pub mod Fitting
 pub mod Refuting
+pub mod Games
 pub mod Verdicts
 pub mod Weaving
 pub mod Counting

@@ -90,23 +90,20 @@ WithGame Next source whole file graph due =
     IsGameRefusal whole graph due
     ⊎ ((held : Held) × IsGame whole graph held × IsGameOf (problem_of whole source file) (game_of held) × Next (game_of held) due)
 
+-- the program has too many points
+abbrev pub IsPointsRefusal : List ℕ → PlainPolicy → File → Due → Type 0
+IsPointsRefusal source whole file due = (limit_of Points < point_count (plan_of (names_of whole) source file)) × (due ≡ over Points)
+
 -- That the program has too many points, or what comes behind that.
 abbrev pub WithGraph : (Game → Due → Type 0) → List ℕ → PlainPolicy → File → Due → Type 0
 WithGraph Next source whole file due =
-    ((limit_of Points < point_count (plan_of (names_of whole) source file)) × (due ≡ over Points))
-    ⊎ ((graph : Graph) × IsGraph (names_of whole) source file graph × WithGame Next source whole file graph due)
+    IsPointsRefusal source whole file due ⊎ ((graph : Graph) × IsGraph (names_of whole) source file graph × WithGame Next source whole file graph due)
 
 -- That the policy doesn't fit the program, or what comes behind that.
 abbrev pub WhereFits : (Game → Due → Type 0) → List ℕ → PlainPolicy → File → Due → Type 0
 WhereFits Next source whole file due = IsFitRefusal source file whole due ⊎ (Fits source file whole × WithGraph Next source whole file due)
 
 -- These stages of `refute`, with the judgement behind them.
-abbrev pub AfterGraph : List ℕ → PlainPolicy → File → Strategy → Graph → Due → Type 0
-AfterGraph source whole file s = WithGame (λ g due. IsJudged (problem_of whole source file) g s due) source whole file
-
-abbrev pub AfterFitting : List ℕ → PlainPolicy → File → Strategy → Due → Type 0
-AfterFitting source whole file s = WithGraph (λ g due. IsJudged (problem_of whole source file) g s due) source whole file
-
 abbrev pub AfterStrategy : List ℕ → PlainPolicy → File → Strategy → Due → Type 0
 AfterStrategy source whole file s = WhereFits (λ g due. IsJudged (problem_of whole source file) g s due) source whole file
 

@@ -1,5 +1,5 @@
 -- What is due for `weave`, by the bytes of a policy and of a source.
-use Rattle.std.specs.Prelude.{◌≡◌, ◌≢◌, ◌⊎◌, ℕ, ◌<◌, ◌≤◌, List, []}
+use Rattle.std.specs.Prelude.{◌≡◌, ◌≢◌, ◌⊎◌, ℕ, ◌≤◌, List, []}
 use Rattle.cw_core.specs.Quantities.{limit_of}
 use Rattle.cw_core.specs.declared.quantity.Quantity.TheVariants.{Points}
 use Rattle.cw_rights.specs.Policies.{PlainPolicy}
@@ -18,8 +18,8 @@ use Rattle.cw_callgraph.specs.Fitting.{Fits}
 use Rattle.cw_commands.specs.Outcomes.{Due}
 use Rattle.cw_cli.specs.Reading.{AfterReading}
 use Rattle.cw_cli.specs.Fitting.{IsFitRefusal}
-use Rattle.cw_cli.specs.Refusals.{over, policy_detached}
-use Rattle.cw_cli.specs.Refuting.{IsGame, IsGameRefusal}
+use Rattle.cw_cli.specs.Refusals.{policy_detached}
+use Rattle.cw_cli.specs.Refuting.{IsGame, IsGameRefusal, IsPointsRefusal}
 use Rattle.cw_cli.specs.Verdicts.{AfterGame, IsVerdict}
 
 -- That the game is over one of its numbers, or what comes behind that: the game of the graph and the policy, which is that of the program.
@@ -31,7 +31,7 @@ AfterGraph Next source whole file graph due =
 -- That the program has too many points, or what comes behind that.
 abbrev pub AfterFitting : (Game → Due → Type 0) → List ℕ → PlainPolicy → File → Due → Type 0
 AfterFitting Next source whole file due =
-    ((limit_of Points < point_count (plan_of (names_of whole) source file)) × (due ≡ over Points))
+    IsPointsRefusal source whole file due
     ⊎ ((point_count (plan_of (names_of whole) source file) ≤ limit_of Points)
     × (graph : Graph) × IsGraph (names_of whole) source file graph × AfterGraph Next source whole file graph due)
 

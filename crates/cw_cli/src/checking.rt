@@ -1,40 +1,39 @@
 //! What is due for `check`.
 
-ghost use Rattle.std.specs.Prelude.{◌≡◌, ◌≢◌, ◌≤◌, length, IfOk};
+ghost use Rattle.std.specs.Prelude.{◌≡◌, ◌≢◌, ◌≤◌, length, IfErr, IfOk};
 ghost use Rattle.cw_rights.specs.Policies.{policy_of};
 ghost use Rattle.cw_rights.specs.Valid.{IsValid};
 ghost use Rattle.cw_syntax.specs.Trees.{file_of};
 ghost use Rattle.cw_actions.specs.Scenes.{names_of};
 ghost use Rattle.cw_commands.specs.declared.outcome.Reply.TheVariants.{No};
 ghost use Rattle.cw_commands.specs.Outcomes.{due_of, Told};
-ghost use Rattle.cw_commands.specs.Starts.{Begins, IsRefused, IsTold, Starts, StartsLine};
+ghost use Rattle.cw_commands.specs.Starts.{Begins, IsRefused, IsTold, PassesOrStartsLine, Starts, StartsLine};
 ghost use Rattle.cw_points.specs.Graphs.{IsGraph};
 ghost use Rattle.cw_source.specs.Read.{ReadsAs};
 ghost use Rattle.cw_product.specs.Product.{game_of};
 ghost use Rattle.cw_wcheck.specs.Checking.{HasFewRows};
 ghost use Rattle.cw_woven.specs.Held.{IsOpened};
-ghost use Rattle.cw_cli.specs.Checking.{cut_refusal, of_woven, table_refusal, woven_refusal, AfterGraph, AfterPolicy, AfterWoven, IsCheckDue};
-ghost use Rattle.cw_cli.specs.CheckingHeld.{list_name, told_row, woven_cause, woven_words, AfterOpening, IsCheckedBy};
+ghost use Rattle.cw_woven.specs.Reading.{ReadsWoven};
+ghost use Rattle.cw_cli.specs.Checking.{cut_refusal, of_woven, table_refusal, woven_refusal, AfterPolicy, AfterWoven, IsCheckDue, IsWovenRefusal};
+ghost use Rattle.cw_cli.specs.CheckingHeld.{list_name, told_row, woven_cause, woven_words, IsCheckedBy};
 ghost use Rattle.cw_cli.specs.Refusals.{source_refusal};
 
-use crate::fitting::fit_refusal;
+use crate::games::make_woven_game;
 use crate::putting;
 use crate::refusals::{
-    descriptor_refusal_behind, numbered, over, policy_refusal, source_cause, source_refusal_behind,
+    Answer, descriptor_refusal_behind, numbered, over, policy_refusal, source_cause,
+    source_refusal_behind,
 };
-use crate::refuting::game_refusal;
 use cw_certs::WeaverCert;
 use cw_commands::{Cause, Outcome, Reply};
 use cw_core::{NoMemory, Quantity};
 use cw_io::Sink;
 use cw_lines::TextFault;
 use cw_pieces::Writer;
-use cw_points::Graph;
 use cw_policies::read_policy;
 use cw_product::Game;
 use cw_rights::Policy;
 use cw_source::SourceFault;
-use cw_syntax::checked::Checked;
 use cw_wcheck::{BadRow, check_weaver};
 use cw_woven::{Accepted, CutFault, Opened, WovenFault, accept_woven, open_woven};
 use std::alloc::Global;
@@ -117,7 +116,7 @@ fn cut_refusal<O: Sink, N: Sink>(
 }
 
 /// The refusal by the first fault of a woven text, which without its parts is this source.
-pub(crate) fn woven_refusal<O: Sink, N: Sink>(
+fn woven_refusal<O: Sink, N: Sink>(
     policy: &Policy,
     source: &[u8],
     fault: &WovenFault,
@@ -135,6 +134,52 @@ pub(crate) fn woven_refusal<O: Sink, N: Sink>(
             Ok(numbered(Cause::Grammar, b"woven: misplaced ", *number, note))
         }
         WovenFault::NoMemory => Err(NoMemory),
+    }
+}
+
+/// The parts of a woven text; or the refusal that is due.
+pub(crate) fn open<'t, O: Sink, N: Sink>(
+    alloc: Global,
+    policy: &Policy,
+    text: &'t [u8],
+    note: &mut N,
+) -> Result<Opened<'t>, Answer<O, N>>
+    requires valid { IsValid (policy_of policy.now) }
+    requires short { length text.now ≤ 33554432 }
+    ensures text { IfOk result (λ parts. parts.text.now ≡ text.now) }
+    ensures opened { IfOk result (λ parts. IsOpened (policy_of policy.now) parts) }
+    ensures refused { IfErr result (λ answer. IfOk answer (λ outcome. IsWovenRefusal (policy_of policy.now) text.now (due_of outcome))) }
+    ensures untold { IfErr result (λ answer. IfOk answer IsRefused) }
+    ensures notes { PassesOrStartsLine N.taken N.faults N.refused note.old note.new result }
+{
+    match open_woven(alloc, text, policy) {
+        Ok(parts) => Ok(parts),
+        Err(fault) => Err(woven_refusal(policy, b"", &fault, note)),
+    }
+}
+
+/// The program and the graph of a woven text in parts; or the refusal that is due.
+pub(crate) fn accept<'s, O: Sink, N: Sink>(
+    alloc: Global,
+    policy: &Policy,
+    opened: &'s Opened,
+    note: &mut N,
+) -> Result<Accepted<'s>, Answer<O, N>>
+    requires valid { IsValid (policy_of policy.now) }
+    requires opened { IsOpened (policy_of policy.now) opened.now }
+    ensures read { IfOk result (λ program.
+        ReadsWoven (policy_of policy.now) opened.now.text.now program.checked.source.now (file_of program.checked.program) opened.now.table) }
+    ensures reads { IfOk result (λ program. ReadsAs program.checked.source.now (file_of program.checked.program)) }
+    ensures graph { IfOk result (λ program. IsGraph (names_of (policy_of policy.now)) program.checked.source.now (file_of program.checked.program) program.graph) }
+    ensures points { IfOk result (λ program. length program.graph.nodes.items ≤ 8192) }
+    ensures few { IfOk result (λ _. HasFewRows opened.now.table) }
+    ensures refused { IfErr result (λ answer. IfOk answer (λ outcome. IsWovenRefusal (policy_of policy.now) opened.now.text.now (due_of outcome))) }
+    ensures untold { IfErr result (λ answer. IfOk answer IsRefused) }
+    ensures notes { PassesOrStartsLine N.taken N.faults N.refused note.old note.new result }
+{
+    match accept_woven(alloc, opened, policy) {
+        Ok(program) => Ok(program),
+        Err(fault) => Err(woven_refusal(policy, &opened.source, &fault, note)),
     }
 }
 
@@ -190,33 +235,7 @@ fn judged<O: Sink, N: Sink>(game: &Game, table: &WeaverCert, out: &mut O) -> Out
     }
 }
 
-/// That the game is over one of its numbers, or what is told of the table.
-fn played<O: Sink, N: Sink>(
-    alloc: Global,
-    policy: &Policy,
-    checked: &Checked,
-    graph: &Graph,
-    table: &WeaverCert,
-    out: &mut O,
-    note: &mut N,
-) -> Result<Outcome<O, N>, NoMemory>
-    requires valid { IsValid (policy_of policy.now) }
-    requires reads { ReadsAs checked.now.source.now (file_of checked.now.program) }
-    requires graph { IsGraph (names_of (policy_of policy.now)) checked.now.source.now (file_of checked.now.program) graph.now }
-    requires points { length graph.now.nodes.items ≤ 8192 }
-    requires few { HasFewRows table.now }
-    ensures due { IfOk result (λ outcome.
-        AfterGraph checked.now.source.now (policy_of policy.now) (file_of checked.now.program) table.now graph.now (due_of outcome)) }
-    ensures puts { Starts O.taken O.faults O.refused out.old out.new result }
-    ensures notes { StartsLine N.taken N.faults N.refused note.old note.new result }
-{
-    match Game::make(alloc, graph, policy) {
-        Ok(game) => Ok(judged(&game, table, out)),
-        Err(fault) => game_refusal(&fault, note),
-    }
-}
-
-/// That the policy doesn't fit the program, or what comes behind that.
+/// That the policy doesn't fit the program, or that the game is over one of its numbers, or what is told of the table.
 fn fitted<O: Sink, N: Sink>(
     alloc: Global,
     policy: &Policy,
@@ -235,37 +254,9 @@ fn fitted<O: Sink, N: Sink>(
     ensures puts { Starts O.taken O.faults O.refused out.old out.new result }
     ensures notes { StartsLine N.taken N.faults N.refused note.old note.new result }
 {
-    match fit_refusal(alloc, policy, &accepted.checked, note)? {
-        Some(outcome) => Ok(outcome),
-        None => played(
-            alloc,
-            policy,
-            &accepted.checked,
-            &accepted.graph,
-            table,
-            out,
-            note,
-        ),
-    }
-}
-
-/// That the source of a text in parts isn't accepted, or a mark isn't that of its seam, or what comes behind that.
-fn accepted<O: Sink, N: Sink>(
-    alloc: Global,
-    policy: &Policy,
-    opened: &Opened,
-    out: &mut O,
-    note: &mut N,
-) -> Result<Outcome<O, N>, NoMemory>
-    requires valid { IsValid (policy_of policy.now) }
-    requires opened { IsOpened (policy_of policy.now) opened.now }
-    ensures due { IfOk result (λ outcome. AfterOpening (policy_of policy.now) opened.now (due_of outcome)) }
-    ensures puts { Starts O.taken O.faults O.refused out.old out.new result }
-    ensures notes { StartsLine N.taken N.faults N.refused note.old note.new result }
-{
-    match accept_woven(alloc, opened, policy) {
-        Ok(program) => fitted(alloc, policy, &program, &opened.table, out, note),
-        Err(fault) => woven_refusal(policy, &opened.source, &fault, note),
+    match make_woven_game(alloc, policy, accepted, note) {
+        Ok(game) => Ok(judged(&game, table, out)),
+        Err(answer) => answer,
     }
 }
 
@@ -283,9 +274,12 @@ fn opened<O: Sink, N: Sink>(
     ensures puts { Starts O.taken O.faults O.refused out.old out.new result }
     ensures notes { StartsLine N.taken N.faults N.refused note.old note.new result }
 {
-    match open_woven(alloc, text, policy) {
-        Ok(parts) => accepted(alloc, policy, &parts, out, note),
-        Err(fault) => woven_refusal(policy, b"", &fault, note),
+    match open(alloc, policy, text, note) {
+        Ok(parts) => match accept(alloc, policy, &parts, note) {
+            Ok(program) => fitted(alloc, policy, &program, &parts.table, out, note),
+            Err(answer) => answer,
+        },
+        Err(answer) => answer,
     }
 }
 

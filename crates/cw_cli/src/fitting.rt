@@ -1,16 +1,16 @@
 //! Whether a policy fits a program.
 
-ghost use Rattle.std.specs.Prelude.{◌≡◌, map, IfNone, IfOk, IfSome};
+ghost use Rattle.std.specs.Prelude.{◌≡◌, map, IfErr, IfOk};
 ghost use Rattle.cw_rights.specs.Policies.{policy_of};
 ghost use Rattle.cw_rights.specs.Valid.{IsValid};
 ghost use Rattle.cw_syntax.specs.Trees.{file_of};
 ghost use Rattle.cw_callgraph.specs.Fitting.{Fits};
 ghost use Rattle.cw_source.specs.Read.{ReadsAs};
 ghost use Rattle.cw_commands.specs.Outcomes.{due_of, Refused};
-ghost use Rattle.cw_commands.specs.Starts.{BeginsLine, FindsLine, IsRefused};
+ghost use Rattle.cw_commands.specs.Starts.{BeginsLine, IsRefused, PassesOrStartsLine};
 ghost use Rattle.cw_cli.specs.Fitting.{fit_line, name_at, splitting_line, IsFitRefusal};
 
-use crate::refusals::worded;
+use crate::refusals::{Answer, worded};
 use cw_callgraph::{FitFault, fit_fault};
 use cw_commands::{Cause, Outcome};
 use cw_core::NoMemory;
@@ -82,23 +82,24 @@ fn unfitting<O: Sink, N: Sink>(
     }
 }
 
-/// The refusal of a policy that doesn't fit a program, or None where it does.
-pub(crate) fn fit_refusal<O: Sink, N: Sink>(
+/// That a policy fits a program; or the refusal that is due.
+pub(crate) fn fits<O: Sink, N: Sink>(
     alloc: Global,
     policy: &Policy,
     checked: &Checked,
     note: &mut N,
-) -> Result<Option<Outcome<O, N>>, NoMemory>
+) -> Result<(), Answer<O, N>>
     requires valid { IsValid (policy_of policy.now) }
     requires reads { ReadsAs checked.now.source.now (file_of checked.now.program) }
-    ensures fits { IfOk result (λ found. IfNone found (Fits checked.now.source.now (file_of checked.now.program) (policy_of policy.now))) }
-    ensures first { IfOk result (λ found. IfSome found (λ outcome.
+    ensures fits { IfOk result (λ _. Fits checked.now.source.now (file_of checked.now.program) (policy_of policy.now)) }
+    ensures refused { IfErr result (λ answer. IfOk answer (λ outcome.
         IsFitRefusal checked.now.source.now (file_of checked.now.program) (policy_of policy.now) (due_of outcome))) }
-    ensures refused { IfOk result (λ found. IfSome found IsRefused) }
-    ensures notes { FindsLine N.taken N.faults N.refused note.old note.new result }
+    ensures untold { IfErr result (λ answer. IfOk answer IsRefused) }
+    ensures notes { PassesOrStartsLine N.taken N.faults N.refused note.old note.new result }
 {
-    match fit_fault(alloc, policy, checked)? {
-        None => Ok(None),
-        Some(fault) => Ok(Some(unfitting(policy, checked.source, fault, note))),
+    match fit_fault(alloc, policy, checked) {
+        Ok(None) => Ok(()),
+        Ok(Some(fault)) => Err(Ok(unfitting(policy, checked.source, fault, note))),
+        Err(NoMemory) => Err(Err(NoMemory)),
     }
 }

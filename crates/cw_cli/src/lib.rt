@@ -4,6 +4,7 @@
 mod checking;
 mod command;
 mod fitting;
+mod games;
 pub mod laws;
 mod listing;
 mod numbers;

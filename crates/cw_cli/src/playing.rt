@@ -16,27 +16,23 @@ ghost use Rattle.cw_product.specs.Uses.{uses_of};
 ghost use Rattle.cw_tapes.specs.Tapes.{IsIn};
 ghost use Rattle.cw_commands.specs.Outcomes.{due_of};
 ghost use Rattle.cw_commands.specs.Starts.{Begins, IsTold, Starts, StartsLine};
-ghost use Rattle.cw_cli.specs.Refuting.{WhereFits, WithGame, WithGraph};
+ghost use Rattle.cw_cli.specs.Refuting.{WhereFits};
 ghost use Rattle.cw_cli.specs.Tapes.{WithTape};
 ghost use Rattle.cw_cli.specs.Playing.{play_told, rule_name, AfterPair, IsPlayDue, IsPlayTold, IsShown};
 
-use crate::fitting::fit_refusal;
+use crate::games::{fit_and_draw, make_game};
 use crate::reading::read_both;
-use crate::refusals::over;
-use crate::refuting::{game_refusal, strategy_refusal, told};
+use crate::refuting::{read_strategy, told};
 use crate::tapes::moves_of;
 use cw_certs::{EnvCert, Move};
 use cw_commands::{Outcome, Reply};
-use cw_core::{NoMemory, Quantity};
+use cw_core::NoMemory;
 use cw_echeck::check_env;
 use cw_io::Sink;
 use cw_pieces::Writer;
 use cw_play::{PlayEnd, play_env};
-use cw_points::build::build;
-use cw_points::{Graph, PointsFault};
 use cw_product::Game;
 use cw_rights::Policy;
-use cw_strategies::read_env;
 use cw_syntax::checked::Checked;
 use cw_trace::trace_names;
 use std::alloc::Global;
@@ -133,61 +129,7 @@ fn judged<O: Sink, N: Sink>(
     }
 }
 
-/// That the game is over one of its numbers, or what is told of the strategy.
-fn played<O: Sink, N: Sink>(
-    alloc: Global,
-    policy: &Policy,
-    checked: &Checked,
-    graph: &Graph,
-    strategy: &EnvCert,
-    tape: &[Move],
-    out: &mut O,
-    note: &mut N,
-) -> Result<Outcome<O, N>, NoMemory>
-    requires valid { IsValid (policy_of policy.now) }
-    requires reads { ReadsAs checked.now.source.now (file_of checked.now.program) }
-    requires graph { IsGraph (names_of (policy_of policy.now)) checked.now.source.now (file_of checked.now.program) graph.now }
-    requires points { length graph.now.nodes.items ≤ 8192 }
-    requires few { length strategy.now.rows.items < 2 ^ 32 }
-    requires tape { All (IsIn true) tape.now }
-    ensures due { IfOk result (λ outcome. let source = checked.now.source.now in let whole = policy_of policy.now in let file = file_of checked.now.program in
-        WithGame (IsShown source whole file (strategy_of strategy.now) tape.now) source whole file graph.now (due_of outcome)) }
-    ensures puts { Starts O.taken O.faults O.refused out.old out.new result }
-    ensures notes { StartsLine N.taken N.faults N.refused note.old note.new result }
-{
-    match Game::make(alloc, graph, policy) {
-        Ok(game) => judged(alloc, checked, &game, strategy, tape, out, note),
-        Err(fault) => game_refusal(&fault, note),
-    }
-}
-
-/// That the program has too many points, or what comes behind that.
-fn drawn<O: Sink, N: Sink>(
-    alloc: Global,
-    policy: &Policy,
-    checked: &Checked,
-    strategy: &EnvCert,
-    tape: &[Move],
-    out: &mut O,
-    note: &mut N,
-) -> Result<Outcome<O, N>, NoMemory>
-    requires valid { IsValid (policy_of policy.now) }
-    requires reads { ReadsAs checked.now.source.now (file_of checked.now.program) }
-    requires few { length strategy.now.rows.items < 2 ^ 32 }
-    requires tape { All (IsIn true) tape.now }
-    ensures due { IfOk result (λ outcome. let source = checked.now.source.now in let whole = policy_of policy.now in let file = file_of checked.now.program in
-        WithGraph (IsShown source whole file (strategy_of strategy.now) tape.now) source whole file (due_of outcome)) }
-    ensures puts { Starts O.taken O.faults O.refused out.old out.new result }
-    ensures notes { StartsLine N.taken N.faults N.refused note.old note.new result }
-{
-    match build(alloc, checked, policy) {
-        Ok(graph) => played(alloc, policy, checked, &graph, strategy, tape, out, note),
-        Err(PointsFault::TooManyPoints) => Ok(over(Quantity::Points, note)),
-        Err(PointsFault::NoMemory) => Err(NoMemory),
-    }
-}
-
-/// That the policy doesn't fit the program, or what comes behind that.
+/// That the policy doesn't fit the program, that no game of theirs comes, or what is told of the strategy.
 fn fitted<O: Sink, N: Sink>(
     alloc: Global,
     policy: &Policy,
@@ -206,9 +148,12 @@ fn fitted<O: Sink, N: Sink>(
     ensures puts { Starts O.taken O.faults O.refused out.old out.new result }
     ensures notes { StartsLine N.taken N.faults N.refused note.old note.new result }
 {
-    match fit_refusal(alloc, policy, checked, note)? {
-        Some(outcome) => Ok(outcome),
-        None => drawn(alloc, policy, checked, strategy, tape, out, note),
+    match fit_and_draw(alloc, policy, checked, note) {
+        Ok(graph) => match make_game(alloc, policy, checked, &graph, note) {
+            Ok(game) => judged(alloc, checked, &game, strategy, tape, out, note),
+            Err(answer) => answer,
+        },
+        Err(answer) => answer,
     }
 }
 
@@ -254,9 +199,9 @@ fn spelled<O: Sink, N: Sink>(
     ensures puts { Starts O.taken O.faults O.refused out.old out.new result }
     ensures notes { StartsLine N.taken N.faults N.refused note.old note.new result }
 {
-    match read_env(alloc, text, policy.format) {
+    match read_strategy(alloc, policy, text, note) {
         Ok(strategy) => taped(alloc, policy, checked, &strategy, tape, out, note),
-        Err(fault) => strategy_refusal(&fault, note),
+        Err(answer) => answer,
     }
 }
 

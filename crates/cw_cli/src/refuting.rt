@@ -1,25 +1,23 @@
 //! What is due for `refute`.
 
-ghost use Rattle.std.specs.Prelude.{◌≡◌, ◌≢◌, ◌≤◌, ◌<◌, ◌^◌, length, IfOk};
+ghost use Rattle.std.specs.Prelude.{◌≡◌, ◌≢◌, ◌≤◌, ◌<◌, ◌^◌, length, IfErr, IfOk};
 ghost use Rattle.cw_rights.specs.Policies.{policy_of};
 ghost use Rattle.cw_rights.specs.Valid.{IsValid};
 ghost use Rattle.cw_syntax.specs.Trees.{file_of};
-ghost use Rattle.cw_actions.specs.Scenes.{names_of};
 ghost use Rattle.cw_certs.specs.Strategies.{strategy_of};
-ghost use Rattle.cw_points.specs.Graphs.{IsGraph};
 ghost use Rattle.cw_source.specs.Read.{ReadsAs};
 ghost use Rattle.cw_strategies.specs.StrategyText.{Spells};
 ghost use Rattle.cw_echeck.specs.Checks.{fault_of};
 ghost use Rattle.cw_product.specs.Product.{game_of};
 ghost use Rattle.cw_commands.specs.declared.outcome.Reply.TheVariants.{No};
 ghost use Rattle.cw_commands.specs.Outcomes.{due_of, Told};
-ghost use Rattle.cw_commands.specs.Starts.{Begins, IsRefused, IsTold, Starts, StartsLine};
-ghost use Rattle.cw_cli.specs.Refuting.{game_refusal, strategy_refusal, told, yes, AfterFitting, AfterGraph, AfterPair, AfterStrategy, IsJudgedBy, IsRefuteDue};
+ghost use Rattle.cw_commands.specs.Starts.{Begins, IsRefused, IsTold, PassesOrStartsLine, Starts, StartsLine};
+ghost use Rattle.cw_cli.specs.Refuting.{strategy_refusal, told, yes, AfterPair, AfterStrategy, IsJudgedBy, IsRefuteDue, IsStrategyRefusal};
 
-use crate::fitting::fit_refusal;
+use crate::games::{fit_and_draw, make_game};
 use crate::putting;
 use crate::reading::read_both;
-use crate::refusals::{numbered, over};
+use crate::refusals::{Answer, numbered, over};
 use cw_certs::EnvCert;
 use cw_commands::{Cause, Outcome, Reply};
 use cw_core::{NoMemory, Quantity};
@@ -27,16 +25,14 @@ use cw_echeck::{BadEnvRow, check_env};
 use cw_io::Sink;
 use cw_lines::TextFault;
 use cw_pieces::Writer;
-use cw_points::build::build;
-use cw_points::{Graph, PointsFault};
-use cw_product::{Game, GameFault};
+use cw_product::Game;
 use cw_rights::Policy;
 use cw_strategies::read_env;
 use cw_syntax::checked::Checked;
 use std::alloc::Global;
 
 /// The refusal by the first fault of a strategy's text.
-pub(crate) fn strategy_refusal<O: Sink, N: Sink>(
+fn strategy_refusal<O: Sink, N: Sink>(
     fault: &TextFault,
     note: &mut N,
 ) -> Result<Outcome<O, N>, NoMemory>
@@ -56,21 +52,22 @@ pub(crate) fn strategy_refusal<O: Sink, N: Sink>(
     }
 }
 
-/// That the game is over one of its numbers.
-pub(crate) fn game_refusal<O: Sink, N: Sink>(
-    fault: &GameFault,
+/// The strategy that is spelled in the policy's format; or the refusal that is due.
+pub(crate) fn read_strategy<O: Sink, N: Sink>(
+    alloc: Global,
+    policy: &Policy,
+    text: &[u8],
     note: &mut N,
-) -> Result<Outcome<O, N>, NoMemory>
-    ensures due { IfOk result (λ outcome. (fault.now ≢ GameFault.NoMemory) × (due_of outcome ≡ game_refusal fault.now)) }
-    ensures refused { IfOk result IsRefused }
-    ensures notes { StartsLine N.taken N.faults N.refused note.old note.new result }
+) -> Result<EnvCert, Answer<O, N>>
+    ensures spells { IfOk result (λ strategy. Spells (policy_of policy.now).format text.now (strategy_of strategy)) }
+    ensures few { IfOk result (λ strategy. length strategy.rows.items < 2 ^ 32) }
+    ensures refused { IfErr result (λ answer. IfOk answer (λ outcome. IsStrategyRefusal (policy_of policy.now).format text.now (due_of outcome))) }
+    ensures untold { IfErr result (λ answer. IfOk answer IsRefused) }
+    ensures notes { PassesOrStartsLine N.taken N.faults N.refused note.old note.new result }
 {
-    match fault {
-        GameFault::TooManyCaps => Ok(over(Quantity::RightsStates, note)),
-        GameFault::TooManyWords => Ok(over(Quantity::PolicyStates, note)),
-        GameFault::TooManyStates => Ok(over(Quantity::ProductStates, note)),
-        GameFault::TooManyPositions => Ok(over(Quantity::PositionsTimesStates, note)),
-        GameFault::NoMemory => Err(NoMemory),
+    match read_env(alloc, text, policy.format) {
+        Ok(strategy) => Ok(strategy),
+        Err(fault) => Err(strategy_refusal(&fault, note)),
     }
 }
 
@@ -102,57 +99,7 @@ fn judged<O: Sink, N: Sink>(game: &Game, strategy: &EnvCert, out: &mut O) -> Out
     }
 }
 
-/// That the game is over one of its numbers, or the judgement.
-fn played<O: Sink, N: Sink>(
-    alloc: Global,
-    policy: &Policy,
-    checked: &Checked,
-    graph: &Graph,
-    strategy: &EnvCert,
-    out: &mut O,
-    note: &mut N,
-) -> Result<Outcome<O, N>, NoMemory>
-    requires valid { IsValid (policy_of policy.now) }
-    requires reads { ReadsAs checked.now.source.now (file_of checked.now.program) }
-    requires graph { IsGraph (names_of (policy_of policy.now)) checked.now.source.now (file_of checked.now.program) graph.now }
-    requires points { length graph.now.nodes.items ≤ 8192 }
-    requires few { length strategy.now.rows.items < 2 ^ 32 }
-    ensures due { IfOk result (λ outcome.
-        AfterGraph checked.now.source.now (policy_of policy.now) (file_of checked.now.program) (strategy_of strategy.now) graph.now (due_of outcome)) }
-    ensures puts { Starts O.taken O.faults O.refused out.old out.new result }
-    ensures notes { StartsLine N.taken N.faults N.refused note.old note.new result }
-{
-    match Game::make(alloc, graph, policy) {
-        Ok(game) => Ok(judged(&game, strategy, out)),
-        Err(fault) => game_refusal(&fault, note),
-    }
-}
-
-/// That the program has too many points, or what comes behind that.
-fn drawn<O: Sink, N: Sink>(
-    alloc: Global,
-    policy: &Policy,
-    checked: &Checked,
-    strategy: &EnvCert,
-    out: &mut O,
-    note: &mut N,
-) -> Result<Outcome<O, N>, NoMemory>
-    requires valid { IsValid (policy_of policy.now) }
-    requires reads { ReadsAs checked.now.source.now (file_of checked.now.program) }
-    requires few { length strategy.now.rows.items < 2 ^ 32 }
-    ensures due { IfOk result (λ outcome.
-        AfterFitting checked.now.source.now (policy_of policy.now) (file_of checked.now.program) (strategy_of strategy.now) (due_of outcome)) }
-    ensures puts { Starts O.taken O.faults O.refused out.old out.new result }
-    ensures notes { StartsLine N.taken N.faults N.refused note.old note.new result }
-{
-    match build(alloc, checked, policy) {
-        Ok(graph) => played(alloc, policy, checked, &graph, strategy, out, note),
-        Err(PointsFault::TooManyPoints) => Ok(over(Quantity::Points, note)),
-        Err(PointsFault::NoMemory) => Err(NoMemory),
-    }
-}
-
-/// That the policy doesn't fit the program, or what comes behind that.
+/// That the policy doesn't fit the program, that no game of theirs comes, or the judgement.
 fn fitted<O: Sink, N: Sink>(
     alloc: Global,
     policy: &Policy,
@@ -169,9 +116,12 @@ fn fitted<O: Sink, N: Sink>(
     ensures puts { Starts O.taken O.faults O.refused out.old out.new result }
     ensures notes { StartsLine N.taken N.faults N.refused note.old note.new result }
 {
-    match fit_refusal(alloc, policy, checked, note)? {
-        Some(outcome) => Ok(outcome),
-        None => drawn(alloc, policy, checked, strategy, out, note),
+    match fit_and_draw(alloc, policy, checked, note) {
+        Ok(graph) => match make_game(alloc, policy, checked, &graph, note) {
+            Ok(game) => Ok(judged(&game, strategy, out)),
+            Err(answer) => answer,
+        },
+        Err(answer) => answer,
     }
 }
 
@@ -190,9 +140,9 @@ fn spelled<O: Sink, N: Sink>(
     ensures puts { Starts O.taken O.faults O.refused out.old out.new result }
     ensures notes { StartsLine N.taken N.faults N.refused note.old note.new result }
 {
-    match read_env(alloc, text, policy.format) {
+    match read_strategy(alloc, policy, text, note) {
         Ok(strategy) => fitted(alloc, policy, checked, &strategy, out, note),
-        Err(fault) => strategy_refusal(&fault, note),
+        Err(answer) => answer,
     }
 }
 

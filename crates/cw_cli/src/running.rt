@@ -14,32 +14,28 @@ ghost use Rattle.cw_product.specs.Product.{game_of};
 ghost use Rattle.cw_product.specs.Uses.{uses_of};
 ghost use Rattle.cw_run.specs.Woven.{end_of};
 ghost use Rattle.cw_wcheck.specs.Checking.{HasFewRows};
-ghost use Rattle.cw_woven.specs.Held.{IsOpened};
 ghost use Rattle.cw_commands.specs.Outcomes.{due_of};
 ghost use Rattle.cw_commands.specs.Starts.{Begins, IsTold, Starts, StartsLine};
 ghost use Rattle.cw_cli.specs.Checking.{WhereWovenFits};
 ghost use Rattle.cw_cli.specs.CheckingHeld.{IsRunShownBy};
-ghost use Rattle.cw_cli.specs.Refuting.{WithGame};
 ghost use Rattle.cw_cli.specs.Running.{run_told, AfterPolicy, AfterWoven, IsRunDue, IsRunShown, IsRunTold};
 
-use crate::checking::{told, woven_refusal};
-use crate::fitting::fit_refusal;
+use crate::checking::{accept, open, told};
+use crate::games::make_woven_game;
 use crate::refusals::policy_refusal;
-use crate::refuting::game_refusal;
 use crate::tapes::moves_of;
 use cw_certs::{Move, WeaverCert};
 use cw_commands::{Outcome, Reply};
 use cw_core::NoMemory;
 use cw_io::Sink;
 use cw_pieces::Writer;
-use cw_points::Graph;
 use cw_policies::read_policy;
 use cw_product::Game;
 use cw_rights::Policy;
 use cw_run::{RunEnd, run_woven};
 use cw_syntax::checked::Checked;
 use cw_wcheck::check_weaver;
-use cw_woven::{Accepted, Opened, accept_woven, open_woven};
+use cw_woven::Accepted;
 use std::alloc::Global;
 
 /// The trace of a run, and behind it how the run ends.
@@ -121,35 +117,7 @@ fn judged<O: Sink, N: Sink>(
     }
 }
 
-/// That the game is over one of its numbers, or what is told of the table.
-fn played<O: Sink, N: Sink>(
-    alloc: Global,
-    policy: &Policy,
-    checked: &Checked,
-    graph: &Graph,
-    table: &WeaverCert,
-    tape: &[Move],
-    out: &mut O,
-    note: &mut N,
-) -> Result<Outcome<O, N>, NoMemory>
-    requires valid { IsValid (policy_of policy.now) }
-    requires reads { ReadsAs checked.now.source.now (file_of checked.now.program) }
-    requires graph { IsGraph (names_of (policy_of policy.now)) checked.now.source.now (file_of checked.now.program) graph.now }
-    requires points { length graph.now.nodes.items ≤ 8192 }
-    requires few { HasFewRows table.now }
-    requires tape { length tape.now < 2 ^ 32 }
-    ensures due { IfOk result (λ outcome. let source = checked.now.source.now in let whole = policy_of policy.now in let file = file_of checked.now.program in
-        WithGame (IsRunShown source whole file table.now tape.now) source whole file graph.now (due_of outcome)) }
-    ensures puts { Starts O.taken O.faults O.refused out.old out.new result }
-    ensures notes { StartsLine N.taken N.faults N.refused note.old note.new result }
-{
-    match Game::make(alloc, graph, policy) {
-        Ok(game) => judged(alloc, checked, &game, table, tape, out, note),
-        Err(fault) => game_refusal(&fault, note),
-    }
-}
-
-/// That the policy doesn't fit the program, or what comes behind that.
+/// That the policy doesn't fit the program, or that the game is over one of its numbers, or what is told of the table.
 fn fitted<O: Sink, N: Sink>(
     alloc: Global,
     policy: &Policy,
@@ -171,18 +139,9 @@ fn fitted<O: Sink, N: Sink>(
     ensures puts { Starts O.taken O.faults O.refused out.old out.new result }
     ensures notes { StartsLine N.taken N.faults N.refused note.old note.new result }
 {
-    match fit_refusal(alloc, policy, &accepted.checked, note)? {
-        Some(outcome) => Ok(outcome),
-        None => played(
-            alloc,
-            policy,
-            &accepted.checked,
-            &accepted.graph,
-            table,
-            tape,
-            out,
-            note,
-        ),
+    match make_woven_game(alloc, policy, accepted, note) {
+        Ok(game) => judged(alloc, &accepted.checked, &game, table, tape, out, note),
+        Err(answer) => answer,
     }
 }
 
@@ -213,28 +172,6 @@ fn taped<O: Sink, N: Sink>(
     }
 }
 
-/// That the source of a text in parts isn't accepted, or a mark isn't that of its seam, or what comes behind that.
-fn accepted<O: Sink, N: Sink>(
-    alloc: Global,
-    policy: &Policy,
-    opened: &Opened,
-    tape: &[u8],
-    out: &mut O,
-    note: &mut N,
-) -> Result<Outcome<O, N>, NoMemory>
-    requires valid { IsValid (policy_of policy.now) }
-    requires opened { IsOpened (policy_of policy.now) opened.now }
-    requires short { length tape.now ≤ 33554432 }
-    ensures due { IfOk result (λ outcome. AfterPolicy opened.now.text.now tape.now (policy_of policy.now) (due_of outcome)) }
-    ensures puts { Starts O.taken O.faults O.refused out.old out.new result }
-    ensures notes { StartsLine N.taken N.faults N.refused note.old note.new result }
-{
-    match accept_woven(alloc, opened, policy) {
-        Ok(program) => taped(alloc, policy, &program, &opened.table, tape, out, note),
-        Err(fault) => woven_refusal(policy, &opened.source, &fault, note),
-    }
-}
-
 /// That a text is no woven text, or what is due for the source and the table that it is read as.
 fn opened<O: Sink, N: Sink>(
     alloc: Global,
@@ -251,9 +188,12 @@ fn opened<O: Sink, N: Sink>(
     ensures puts { Starts O.taken O.faults O.refused out.old out.new result }
     ensures notes { StartsLine N.taken N.faults N.refused note.old note.new result }
 {
-    match open_woven(alloc, text, policy) {
-        Ok(parts) => accepted(alloc, policy, &parts, tape, out, note),
-        Err(fault) => woven_refusal(policy, b"", &fault, note),
+    match open(alloc, policy, text, note) {
+        Ok(parts) => match accept(alloc, policy, &parts, note) {
+            Ok(program) => taped(alloc, policy, &program, &parts.table, tape, out, note),
+            Err(answer) => answer,
+        },
+        Err(answer) => answer,
     }
 }
 

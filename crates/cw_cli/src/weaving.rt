@@ -4,57 +4,26 @@ ghost use Rattle.std.specs.Prelude.{◌≡◌, ◌≢◌, ◌≤◌, [], true, f
 ghost use Rattle.cw_rights.specs.Policies.{policy_of};
 ghost use Rattle.cw_rights.specs.Valid.{IsValid};
 ghost use Rattle.cw_syntax.specs.Trees.{file_of};
-ghost use Rattle.cw_actions.specs.Scenes.{names_of};
-ghost use Rattle.cw_points.specs.Graphs.{IsGraph};
 ghost use Rattle.cw_source.specs.Read.{ReadsAs};
 ghost use Rattle.cw_commands.specs.Outcomes.{due_of};
 ghost use Rattle.cw_commands.specs.Starts.{Starts, StartsLine};
 ghost use Rattle.cw_cli.specs.Counting.{IsCounted};
-ghost use Rattle.cw_cli.specs.Weaving.{AfterFit, AfterFitting, AfterGraph, AfterPair, IsWeaveDue, Weaves};
+ghost use Rattle.cw_cli.specs.Weaving.{AfterFit, AfterFitting, AfterPair, IsWeaveDue, Weaves};
 
-use crate::fitting::fit_refusal;
+use crate::fitting::fits;
+use crate::games::{draw, make_game};
 use crate::numbers::Numbers;
 use crate::reading::read_both;
-use crate::refusals::{over, worded};
-use crate::refuting::game_refusal;
+use crate::refusals::worded;
 use crate::verdict::judged;
 use cw_commands::{Cause, Outcome};
-use cw_core::{NoMemory, Quantity};
+use cw_core::NoMemory;
 use cw_io::Sink;
-use cw_points::build::build;
-use cw_points::{Graph, PointsFault};
-use cw_product::Game;
 use cw_rights::Policy;
 use cw_syntax::checked::Checked;
 use std::alloc::Global;
 
-/// That the game is over one of its numbers, or what comes behind that.
-fn played<O: Sink, N: Sink>(
-    alloc: Global,
-    policy: &Policy,
-    checked: &Checked,
-    graph: &Graph,
-    numbers: &mut Numbers,
-    out: &mut O,
-    note: &mut N,
-) -> Result<Outcome<O, N>, NoMemory>
-    requires valid { IsValid (policy_of policy.now) }
-    requires reads { ReadsAs checked.now.source.now (file_of checked.now.program) }
-    requires graph { IsGraph (names_of (policy_of policy.now)) checked.now.source.now (file_of checked.now.program) graph.now }
-    requires points { length graph.now.nodes.items ≤ 8192 }
-    ensures due { IfOk result (λ outcome.
-        AfterGraph (IsCounted numbers.new (policy_of policy.now) checked.now.source.now (file_of checked.now.program))
-        checked.now.source.now (policy_of policy.now) (file_of checked.now.program) graph.now (due_of outcome)) }
-    ensures puts { Starts O.taken O.faults O.refused out.old out.new result }
-    ensures notes { StartsLine N.taken N.faults N.refused note.old note.new result }
-{
-    match Game::make(alloc, graph, policy) {
-        Ok(game) => judged(alloc, checked, &game, numbers, out, note),
-        Err(fault) => game_refusal(&fault, note),
-    }
-}
-
-/// That the program has too many points, or what comes behind that.
+/// That the program has too many points, that its game is over one of its numbers, or what comes behind that.
 fn drawn<O: Sink, N: Sink>(
     alloc: Global,
     policy: &Policy,
@@ -71,10 +40,12 @@ fn drawn<O: Sink, N: Sink>(
     ensures puts { Starts O.taken O.faults O.refused out.old out.new result }
     ensures notes { StartsLine N.taken N.faults N.refused note.old note.new result }
 {
-    match build(alloc, checked, policy) {
-        Ok(graph) => played(alloc, policy, checked, &graph, numbers, out, note),
-        Err(PointsFault::TooManyPoints) => Ok(over(Quantity::Points, note)),
-        Err(PointsFault::NoMemory) => Err(NoMemory),
+    match draw(alloc, policy, checked, note) {
+        Ok(graph) => match make_game(alloc, policy, checked, &graph, note) {
+            Ok(game) => judged(alloc, checked, &game, numbers, out, note),
+            Err(answer) => answer,
+        },
+        Err(answer) => answer,
     }
 }
 
@@ -127,9 +98,9 @@ fn fitted<O: Sink, N: Sink>(
     ensures puts { Starts O.taken O.faults O.refused out.old out.new result }
     ensures notes { StartsLine N.taken N.faults N.refused note.old note.new result }
 {
-    match fit_refusal(alloc, policy, checked, note)? {
-        Some(outcome) => Ok(outcome),
-        None => waited(alloc, policy, checked, numbers, out, note),
+    match fits(alloc, policy, checked, note) {
+        Ok(()) => waited(alloc, policy, checked, numbers, out, note),
+        Err(answer) => answer,
     }
 }
 

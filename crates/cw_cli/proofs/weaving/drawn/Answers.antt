@@ -1,21 +1,62 @@
-use Rattle.std.proofs.Common.{inl, inr}
-use Rattle.cw_rights.specs.Policies.{policy_of}
+use Rattle.std.proofs.Common.{inl, inr, sym, subst}
+use Rattle.cw_rights.specs.Policies.{PlainPolicy, policy_of}
 use Rattle.cw_syntax.specs.Trees.{file_of}
 use Rattle.cw_actions.specs.Scenes.{names_of}
-use Rattle.cw_commands.proofs.Starting.{unput_one}
+use Rattle.cw_commands.specs.Outcomes.{due_of}
+use Rattle.cw_model.specs.Boards.{problem_of}
+use Rattle.cw_game.specs.Standing.{IsGameOf}
+use Rattle.cw_points.specs.Graphs.{IsGraph}
+use Rattle.cw_product.specs.Product.{game_of}
+use Rattle.cw_commands.proofs.Starting.{unput}
+use Rattle.cw_cli.specs.Counting.{IsCounted}
+use Rattle.cw_cli.specs.Verdicts.{AfterGame}
 use Rattle.cw_cli.proofs.Refused.{if_ok}
-use Rattle.cw_cli.proofs.Withins.{nodes_few}
 use Rattle.cw_cli.proofs.weaving.drawn.Goals as goal
 
-pub played-requires-clause-points : goal.played-requires-clause-points
-played-requires-clause-points g c =
-    nodes_few (names_of (policy_of c.args.policy.now)) c.args.checked.now.source.now (file_of c.args.checked.now.program) c.in-Ok.graph c.in-Ok.ensures.graph c.in-Ok.ensures.few
+pub judged-requires-clause-made : goal.judged-requires-clause-made
+judged-requires-clause-made g c = c.in-Ok-make_game.ensures.made
+
+pub judged-requires-clause-graph : goal.judged-requires-clause-graph
+judged-requires-clause-graph g c =
+    let source = c.args.checked.now.source.now in
+    let file = file_of c.args.checked.now.program in
+    let is = c.in-Ok-make_game.ensures.game in
+    subst (IsGraph (names_of (policy_of c.in-Ok-make_game.game.states.policy)) source file) (sym is.graph_is)
+    (subst (λ (p : PlainPolicy). IsGraph (names_of p) source file c.in-Ok.graph) (sym is.policy_is) c.in-Ok.ensures.graph)
+
+pub judged-requires-clause-is_game : goal.judged-requires-clause-is_game
+judged-requires-clause-is_game g c =
+    let source = c.args.checked.now.source.now in
+    let file = file_of c.args.checked.now.program in
+    let held = c.in-Ok-make_game.game in
+    subst (λ (p : PlainPolicy). IsGameOf (problem_of p source file) (game_of held)) (sym c.in-Ok-make_game.ensures.game.policy_is) c.in-Ok-make_game.ensures.is_game
+
+pub returns-in-Ok-make_game-clause-due : goal.returns-in-Ok-make_game-clause-due
+returns-in-Ok-make_game-clause-due g c =
+    let source = c.args.checked.now.source.now in
+    let file = file_of c.args.checked.now.program in
+    let held = c.in-Ok-make_game.game in
+    let made = c.in-Ok-make_game.ensures in
+    if_ok c.judged.result c.judged.ensures.due (λ o d.
+    let due = subst (λ (p : PlainPolicy). AfterGame (IsCounted c.judged.new.numbers p source file) (game_of held) (due_of o)) made.game.policy_is d in
+    inr (c.in-Ok.ensures.few, c.in-Ok.graph, c.in-Ok.ensures.graph, inr (held, made.game, made.made, made.is_game, due)))
+
+pub returns-in-Ok-make_game-clause-notes : goal.returns-in-Ok-make_game-clause-notes
+returns-in-Ok-make_game-clause-notes g c = rw (c.in-Ok-make_game.ensures.notes, c.in-Ok.ensures.notes) at c.judged.ensures.notes
 
 pub returns-in-Ok-clause-due : goal.returns-in-Ok-clause-due
-returns-in-Ok-clause-due g c = if_ok c.played.result c.played.ensures.due (λ o d. inr (c.in-Ok.ensures.few, c.in-Ok.graph, c.in-Ok.ensures.graph, d))
+returns-in-Ok-clause-due g c =
+    if_ok c.in-Err-make_game.answer c.in-Err-make_game.ensures.refused (λ o d. inr (c.in-Ok.ensures.few, c.in-Ok.graph, c.in-Ok.ensures.graph, inl d))
 
-pub returns-in-Err-TooManyPoints-clause-due : goal.returns-in-Err-TooManyPoints-clause-due
-returns-in-Err-TooManyPoints-clause-due g c = inl (c.in-Err-TooManyPoints.ensures.many c.in-Err-TooManyPoints.field-0-is, c.over.ensures.due)
+pub returns-in-Ok-clause-puts : goal.returns-in-Ok-clause-puts
+returns-in-Ok-clause-puts g c =
+    unput g.O.Sink.taken g.O.Sink.faults g.O.Sink.refused c.args.out.now c.in-Err-make_game.answer c.in-Err-make_game.ensures.untold
 
-pub returns-in-Err-TooManyPoints-clause-puts : goal.returns-in-Err-TooManyPoints-clause-puts
-returns-in-Err-TooManyPoints-clause-puts g c = unput_one g.O.Sink.taken g.O.Sink.faults g.O.Sink.refused c.args.out.now c.over.result c.over.ensures.refused
+pub returns-in-Ok-clause-notes : goal.returns-in-Ok-clause-notes
+returns-in-Ok-clause-notes g c = rw c.in-Ok.ensures.notes at c.in-Err-make_game.ensures.notes
+
+pub returns-clause-due : goal.returns-clause-due
+returns-clause-due g c = if_ok c.in-Err.answer c.in-Err.ensures.refused (λ o d. inl d)
+
+pub returns-clause-puts : goal.returns-clause-puts
+returns-clause-puts g c = unput g.O.Sink.taken g.O.Sink.faults g.O.Sink.refused c.args.out.now c.in-Err.answer c.in-Err.ensures.untold
