@@ -50,7 +50,8 @@ def main():
     if asked.against:
         commands.append(shlex.split(asked.against))
     wrong = False
-    print("| Input | Cells | Milliseconds | Bytes a cell |" + (" Other's milliseconds | Times |" if asked.against else ""))
+    others = " Other's milliseconds | Times | Other's bytes a cell |" if asked.against else ""
+    print("| Input | Cells | Milliseconds | Bytes a cell |" + others)
     with tempfile.TemporaryDirectory() as folder:
         with open(os.path.join(folder, "p.toml"), "w") as policy:
             policy.write(POLICY)
@@ -61,7 +62,7 @@ def main():
             wrong |= told[0][0][0] != status or any(one[0] != told[0][0] for one in told)
             line = f"| {name} | {cells:,} | {told[0][1]:.0f} | {told[0][2] * 1024 / cells:.1f} |"
             if asked.against:
-                line += f" {told[1][1]:.0f} | {told[0][1] / told[1][1]:.1f} |"
+                line += f" {told[1][1]:.0f} | {told[0][1] / told[1][1]:.1f} | {told[1][2] * 1024 / cells:.1f} |"
             print(line, flush=True)
     if wrong:
         print("an answer isn't the one that is due")
