@@ -60,7 +60,7 @@ digits_of-number base d ds two pos all =
       digits_of-after base d ds two pos all.1 ∙ ap (λ (z : List ℕ). z ++ ds) (digits_of_one base d two pos all.0),
     )
 
-hexadecimal_digits_positive : (n : ℕ) → 0 < n → hexadecimal_digits n ≡ map digit_char (digits_of 16 n)
+pub hexadecimal_digits_positive : (n : ℕ) → 0 < n → hexadecimal_digits n ≡ map digit_char (digits_of 16 n)
 unfolding hexadecimal_digits
 hexadecimal_digits_positive n pos = rw (ne_eqb n 0 (λ e. omega (arith, pos, e))) refl
 

@@ -1,8 +1,8 @@
 mod Bits
 mod Decimals
+mod Digits
 mod Glyphs
 mod Hexadecimals
-mod Masks
 mod Nibbles
 mod Readings
 mod RunTexts

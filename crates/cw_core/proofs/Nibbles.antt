@@ -1,18 +1,16 @@
 -- Four bits at a time.
-use Rattle.std.proofs.Common.{◌≡◌, ℕ, zero, suc, ◌+◌, ◌*◌, ◌-◌, ◌/◌, ◌%◌, ◌^◌, ◌<◌, ◌≤◌, Bool, true, false, eqb, cond, List, [], ◌∷◌, ◌++◌, length, get_or, refl, sym, ap, ◌∙◌, arith, inl, inr, map, not, ◌||◌, append_assoc, bit_or}
+use Rattle.std.proofs.Common.{◌≡◌, ℕ, zero, suc, ◌+◌, ◌*◌, ◌-◌, ◌/◌, ◌%◌, ◌^◌, ◌<◌, ◌≤◌, List, [], ◌∷◌, ◌++◌, length, get_or, refl, sym, ap, ◌∙◌, arith, inl, inr, bit_or}
 use Rattle.std.proofs.Math.ListN.{set}
 use Rattle.std.proofs.Math.Nat.{mul_assoc, add_comm, mul-le-mul_right}
 use Rattle.std.specs.Int.Bits.{or_shifted_r}
 use Rattle.std.specs.Int.Digits.{digits_of}
 use Rattle.std.proofs.lemmas.Int.Digits.{digits_of_step}
-use Rattle.std.proofs.lemmas.Bool.{cases_lt, ne_eqb, eqb-true, not-false}
-use Rattle.std.proofs.lemmas.List.{map_push}
+use Rattle.std.proofs.lemmas.Bool.{cases_lt}
 use Rattle.std.proofs.lemmas.Nat.{shr-shr, shr_le, field_of, or_lt, pow-add}
 use Rattle.std.proofs.Math.Pow.{mod-mod-pow}
 use Rattle.std.proofs.lemmas.Nat as nat
 use Rattle.cw_core.specs.Words.{number_of, AreWords}
 use Rattle.cw_core.proofs.Words.{AreWords-at}
-use Rattle.std.specs.Char.{digit_char}
 
 zero_shr : (k : ℕ) → 0 / 2 ^ k ≡ 0
 zero_shr k = let p = shr_le 0 k in omega (arith, p)
@@ -40,6 +38,37 @@ nibble_is (w ∷ ws) i fit =
           rw (q, r, up) (nibble_is ws (i - 16) fit.1)
     ]
 
+pub byte_is : (ws : List ℕ) (i : ℕ) → AreWords ws → number_of ws / 2 ^ (8 * i) % 2 ^ 8 ≡ get_or ws (i / 8) 0 / 2 ^ (8 * (i % 8)) % 2 ^ 8
+unfolding number_of
+byte_is [] i fit = rw (zero_shr (8 * i), zero_shr (8 * (i % 8))) refl
+byte_is (w ∷ ws) i fit =
+    elim (cases_lt i 8) [
+      | inl lt ↦
+          let q : i / 8 ≡ 0 = omega arith in
+          let r : i % 8 ≡ i = omega arith in
+          rw (q, r) (sym (field_of (number_of ws * 2 ^ 64 + w) 8 (8 * i)) ∙ ap (λ (z : ℕ). z / 2 ^ (8 * i)) (low (number_of ws) w (8 + 8 * i) fit.0 (omega arith)) ∙ field_of w 8 (8 * i))
+      | inr le ↦
+          let q : i / 8 ≡ suc ((i - 8) / 8) = omega arith in
+          let r : i % 8 ≡ (i - 8) % 8 = omega arith in
+          let e : 64 + 8 * (i - 8) ≡ 8 * i = omega arith in
+          let past = ap (λ (z : ℕ). z / 2 ^ (8 * (i - 8))) (nat.shr_high (number_of ws) 64 w fit.0) in
+          let up : (number_of ws * 2 ^ 64 + w) / 2 ^ (8 * i) ≡ number_of ws / 2 ^ (8 * (i - 8)) = rw (← e) (sym (shr-shr (number_of ws * 2 ^ 64 + w) 64 (8 * (i - 8))) ∙ past) in
+          rw (q, r, up) (byte_is ws (i - 8) fit.1)
+    ]
+
+pub word_is : (ws : List ℕ) (i : ℕ) → AreWords ws → number_of ws / 2 ^ (64 * i) % 2 ^ 64 ≡ get_or ws i 0
+unfolding number_of
+word_is [] i fit = rw (zero_shr (64 * i)) refl
+word_is (w ∷ ws) zero fit =
+    let e : (number_of ws * 2 ^ 64 + w) / 2 ^ (64 * 0) ≡ number_of ws * 2 ^ 64 + w = omega arith in
+    ap (λ (z : ℕ). z % 2 ^ 64) e ∙ nat.mod_low (number_of ws) 64 w fit.0
+word_is (w ∷ ws) (suc i) fit =
+    let e : 64 * suc i ≡ 64 + 64 * i = omega arith in
+    let whole = number_of ws * 2 ^ 64 + w in
+    ap (λ (k : ℕ). whole / 2 ^ k % 2 ^ 64) e
+    ∙ ap (λ (z : ℕ). z % 2 ^ 64) (sym (shr-shr whole 64 (64 * i)) ∙ ap (λ (z : ℕ). z / 2 ^ (64 * i)) (nat.shr_high (number_of ws) 64 w fit.0))
+    ∙ word_is ws i fit.1
+
 -- one digit more
 pub digits_more : (n i : ℕ) → 0 < n / 2 ^ (4 * i) → digits_of 16 (n / 2 ^ (4 * i)) ≡ digits_of 16 (n / 2 ^ (4 * (i + 1))) ++ (n / 2 ^ (4 * i) % 2 ^ 4 ∷ [])
 digits_more n i pos =
@@ -47,43 +76,9 @@ digits_more n i pos =
     let f : n / 2 ^ (4 * i) / 16 ≡ n / 2 ^ (4 * (i + 1)) = shr-shr n (4 * i) 4 ∙ ap (λ (z : ℕ). n / 2 ^ z) e in
     digits_of_step 16 (n / 2 ^ (4 * i)) (omega arith) pos ∙ ap (λ (z : ℕ). digits_of 16 z ++ (n / 2 ^ (4 * i) % 2 ^ 4 ∷ [])) f
 
--- the number so far is the one before, and a digit
-pub number_more : (n i : ℕ) → n / 2 ^ (4 * i) ≡ n / 2 ^ (4 * (i + 1)) * 16 + n / 2 ^ (4 * i) % 2 ^ 4
-number_more n i =
-    let e : 4 * i + 4 ≡ 4 * (i + 1) = omega arith in
-    let f : n / 2 ^ (4 * i) / 16 ≡ n / 2 ^ (4 * (i + 1)) = shr-shr n (4 * i) 4 ∙ ap (λ (z : ℕ). n / 2 ^ z) e in
-    rw (← f) (omega arith)
-
-not_zero : (n : ℕ) → not (eqb n 0) ≡ true → 0 < n
-not_zero zero e = absurd cc
-not_zero (suc n) e = omega arith
-
-pub one_digit : (s : Bool) (m d k : ℕ) → s ≡ not (eqb m 0) → k ≡ m * 16 + d → (s || not (eqb d 0)) ≡ not (eqb k 0)
-one_digit s zero zero k e f = rw (e, f) refl
-one_digit s zero (suc d) k e f = let g : k ≡ suc d = omega arith in rw (e, g) refl
-one_digit s (suc m) d zero e f = absurd (omega arith)
-one_digit s (suc m) d (suc k) e f =
-    let p : eqb (suc m) 0 ≡ false = ne_eqb (suc m) 0 (λ h. omega arith) in
-    let q : eqb (suc k) 0 ≡ false = ne_eqb (suc k) 0 (λ h. omega arith) in
-    rw (e, p, q) refl
-
--- what is written after one nibble more
-pub text_more : (n i : ℕ) (front : List ℕ) (old : List ℕ) (some r : Bool) (d : ℕ) → d ≡ n / 2 ^ (4 * i) % 2 ^ 4 → some ≡ not (eqb (n / 2 ^ (4 * (i + 1))) 0) → r ≡ (some || not (eqb d 0))
-    → old ≡ front ++ map digit_char (digits_of 16 (n / 2 ^ (4 * (i + 1)))) → cond r (old ++ digit_char d ∷ []) old ≡ front ++ map digit_char (digits_of 16 (n / 2 ^ (4 * i)))
-text_more n i front old some true d is s r e =
-    let more : n / 2 ^ (4 * i) ≡ n / 2 ^ (4 * (i + 1)) * 16 + d = rw is (number_more n i) in
-    let pos : 0 < n / 2 ^ (4 * i) = not_zero (n / 2 ^ (4 * i)) (sym (one_digit some (n / 2 ^ (4 * (i + 1))) d (n / 2 ^ (4 * i)) s more) ∙ sym r) in
-    rw (digits_more n i pos, ← is, e) (append_assoc front (map digit_char (digits_of 16 (n / 2 ^ (4 * (i + 1))))) (digit_char d ∷ []) ∙ ap (λ (z : List ℕ). front ++ z) (sym (map_push digit_char (digits_of 16 (n / 2 ^ (4 * (i + 1)))) d)))
-text_more n i front old some false d is s r e =
-    let more : n / 2 ^ (4 * i) ≡ n / 2 ^ (4 * (i + 1)) * 16 + d = rw is (number_more n i) in
-    let zero_now : eqb (n / 2 ^ (4 * i)) 0 ≡ true = not-false (eqb (n / 2 ^ (4 * i)) 0) (sym (one_digit some (n / 2 ^ (4 * (i + 1))) d (n / 2 ^ (4 * i)) s more) ∙ sym r) in
-    let k : n / 2 ^ (4 * i) ≡ 0 = eqb-true (n / 2 ^ (4 * i)) 0 zero_now in
-    let m : n / 2 ^ (4 * (i + 1)) ≡ 0 = omega arith in
-    rw (k, e, m) refl
-
 -- ---- four bits more, above all others
 
-word-le : (ws : List ℕ) (k : ℕ) → get_or ws k 0 * 2 ^ (64 * k) ≤ number_of ws
+pub word-le : (ws : List ℕ) (k : ℕ) → get_or ws k 0 * 2 ^ (64 * k) ≤ number_of ws
 unfolding number_of
 word-le [] k = omega arith
 word-le (w ∷ ws) zero = omega arith

@@ -144,11 +144,11 @@ runs_first (suc d) set least greatest count total sum e all out =
     ∙ ap (in_front least) rest
     ∙ rw (eq-eqb (least + 1) (least + 1) refl) refl)
 
--- no number from 1,024 on is a member
-pub runs_past : (set at count : ℕ) → IsBelow 1024 set → 1024 ≤ at → runs_from set at count ≡ []
-runs_past set at zero below le = runs_none set at
-runs_past set at (suc count) below le =
-    let rest = runs_past set (at + 1) count below (omega (arith, le)) in
+-- no number from the bound on is a member
+pub runs_past : (bound set at count : ℕ) → IsBelow bound set → bound ≤ at → runs_from set at count ≡ []
+runs_past bound set at zero below le = runs_none set at
+runs_past bound set at (suc count) below le =
+    let rest = runs_past bound set (at + 1) count below (omega (arith, le)) in
     by_test (has set at) refl rest
   where
     by_test : (t : Bool) → has set at ≡ t → runs_from set (at + 1) count ≡ [] → runs_from set at (suc count) ≡ []

@@ -26,9 +26,6 @@ mask_length set below =
     let few = length-hexadecimal_digits 256 set (omega arith) (IsBelow-lt 1024 set below) in
     omega (arith, e, few)
 
-pub mask_room : (text mask bytes : List ℕ) (set : ℕ) → IsBelow 1024 set → mask ≡ hexadecimal set → bytes ≡ mask → length text + 258 ≤ 4096 → length text + length bytes ≤ 4096
-mask_room text mask bytes set below e f le = let p = mask_length set below in omega (arith, ap length (f ∙ e), p, le)
-
 pub runs_length : (a : Bool) (x y : ℕ) → true ≡ (a && ltb x y) → x < y
 runs_length true x y e = lt_from (ltb x y) refl e
   where

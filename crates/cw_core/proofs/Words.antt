@@ -7,7 +7,6 @@ use lib.Pointwise.{pointwise}
 use Rattle.std.proofs.Math.ListN.{set}
 use Rattle.std.proofs.lemmas.List.{length-set, ext_get_or}
 use Rattle.std.proofs.lemmas.Nat.{pow_pos, pow-add, leading_length}
-use Rattle.std.proofs.Math.Nat.{pow-le-pow_right, div-eq_of_lt}
 use Rattle.std.specs.Int.Count.{count_leading_zeros}
 use Rattle.cw_core.specs.Words.{number_of, words_of, AreWords, AreSixteenWords, words_of-number_of}
 
@@ -93,13 +92,10 @@ top_word (w ∷ ws) (suc i) m fit above lt =
     let low = fit.0 in
     rw p (omega (arith, less, low))
 
--- no bit stands from its highest nibble on
-pub above_top : (ws : List ℕ) (i empty place : ℕ) → AreWords ws → ((k : ℕ) → i < k → get_or ws k 0 ≡ 0) → empty ≡ count_leading_zeros 64 (get_or ws i 0)
-    → place ≡ 16 * i + (67 - empty) / 4 → number_of ws / 2 ^ (4 * place) ≡ 0
-above_top ws i empty place fit above is e =
+-- it has as many bits as it has itself, behind those of the words below
+pub below_top : (ws : List ℕ) (i empty bits : ℕ) → AreWords ws → ((k : ℕ) → i < k → get_or ws k 0 ≡ 0) → empty ≡ count_leading_zeros 64 (get_or ws i 0)
+    → bits ≡ 64 * i + 64 - empty → number_of ws < 2 ^ bits
+below_top ws i empty bits fit above is e =
     let (m, whole, lt, _) = leading_length 64 (get_or ws i 0) (AreWords-at ws i fit) in
-    let wide : 64 * i + m ≤ 4 * place = omega (arith, is, e, whole) in
-    let less = top_word ws i m fit above lt in
-    let more : 2 ^ (64 * i + m) ≤ 2 ^ (4 * place) = pow-le-pow_right (omega arith) wide in
-    let within : number_of ws < 2 ^ (4 * place) = omega (arith, less, more) in
-    div-eq_of_lt within
+    let same : 64 * i + m ≡ bits = omega (arith, is, e, whole) in
+    rw (← same) (top_word ws i m fit above lt)

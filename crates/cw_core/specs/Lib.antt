@@ -1,3 +1,4 @@
+pub mod Digits
 pub mod Numerals
 pub mod Quantities
 pub mod Ranges

@@ -24,6 +24,6 @@ pub use laws::{
 pub use line::Line;
 pub use memory::NoMemory;
 pub use quantity::Quantity;
-pub use ranges::put_ranges;
+pub use ranges::{mask_length, put_ranges};
 pub use reading_ranges::read_ranges;
 pub use state_set::StateSet;

@@ -30,15 +30,13 @@ impl Line {
         requires room { length self.old + 258 ≤ 4096 }
         ensures text { self.new ≡ self.old ++ set_spelling set.now }
     {
-        let mut mask = Line::new();
-        mask.put_mask(set);
         let mut runs = Line::new();
         runs.put_runs(set);
         set.members_are_below_1024();
-        if is_shorter(set, runs.bytes(), mask.bytes()) {
+        if is_shorter(set, runs.bytes()) {
             self.put_text(runs.bytes());
         } else {
-            self.put_text(mask.bytes());
+            self.put_mask(set);
         }
     }
 
@@ -48,8 +46,9 @@ impl Line {
         ensures text { self.new ≡ ranges set.now }
     {
         set.members_are_below_1024();
+        let bound = set.bit_count() as u16;
         let mut at: u16 = 0;
-        'numbers: while at < 1024 {
+        'numbers: while at < bound {
             if set.contains(StateId(at)) {
                 let greatest = greatest_of_run(set, at);
                 self.put_run(at, greatest);
@@ -89,10 +88,17 @@ impl Line {
 }
 
 /// Whether a set has a member and its ranges are shorter than its hexadecimal.
-fn is_shorter(set: &StateSet, runs: &[u8], mask: &[u8]) -> bool
-    ensures shorter { result ≡ (not (set.now == 0) && nat_lt (length runs.now) (length mask.now)) }
+fn is_shorter(set: &StateSet, runs: &[u8]) -> bool
+    ensures shorter { result ≡ (not (set.now == 0) && nat_lt (length runs.now) (length (hexadecimal set.now))) }
 {
-    *set != StateSet::empty() && runs.len() < mask.len()
+    *set != StateSet::empty() && runs.len() < mask_length(set)
+}
+
+/// How long the hexadecimal of a set is: `0x` and a byte for each digit.
+pub fn mask_length(set: &StateSet) -> usize
+    ensures length { result ≡ length (hexadecimal set.now) }
+{
+    2 + set.digit_count()
 }
 
 /// The greatest number of the maximal run of a set that a number is in, above that number.

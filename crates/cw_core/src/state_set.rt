@@ -1,7 +1,10 @@
 //! Sets of states.
 
-ghost use Rattle.std.specs.Prelude.{◌≡◌, ℕ, ◌+◌, ◌-◌, ◌*◌, ◌/◌, ◌%◌, ◌^◌, ◌<◌, ◌≤◌, ◌↔◌, ◌==◌, ◌||◌, ◌&&◌, false, not, nat_lt, min, bit_and, slice_index, IsTrue};
+ghost use Rattle.std.specs.Prelude.{◌≡◌, ℕ, ◌+◌, ◌-◌, ◌*◌, ◌/◌, ◌%◌, ◌^◌, ◌<◌, ◌≤◌, ◌↔◌, ◌==◌, ◌||◌, ◌&&◌, false, not, nat_lt, min, map, bit_and, slice_index, IsTrue};
+ghost use Rattle.cw_core.specs.Digits.{lowest_digits};
+ghost use Rattle.cw_core.specs.Numerals.{hexadecimal_digits};
 ghost use Rattle.cw_core.specs.StateSet.{has, IsSubset, IsBelow, sum_of_powers};
+ghost use Rattle.std.specs.Char.{digit_char};
 ghost use Rattle.std.proofs.Common.{rules};
 ghost use Rattle.std.specs.Cmp.{partial_order_from_own_ties};
 ghost use Rattle.std.specs.Cmp.Rules.{comparing, hashing};
@@ -165,18 +168,47 @@ impl StateSet {
         ((self.words[place / 16] >> (4 * (place % 16))) & 15) as u8
     }
 
-    /// How many places of four bits there are up to the greatest member, and none in the empty set.
-    pub(crate) fn nibble_count(&self) -> usize
-        ensures within { result ≤ 256 }
-        ensures above { self.now / 2 ^ (4 * result) ≡ 0 }
+    /// The eight bits from 8 times a place on.
+    pub(crate) fn byte(&self, place: usize) -> u8
+        requires in_range { place < 128 }
+        ensures value { result ≡ self.now / 2 ^ (8 * place) % 2 ^ 8 }
+    {
+        ((self.words[place / 8] >> (8 * (place % 8))) & 255) as u8
+    }
+
+    /// The 64 bits from 64 times a place on.
+    pub(crate) fn word(&self, place: usize) -> u64
+        requires in_range { place < 16 }
+        ensures value { result ≡ self.now / 2 ^ (64 * place) % 2 ^ 64 }
+    {
+        self.words[place]
+    }
+
+    /// How many binary digits the set's number has: one more than the greatest member, and none for the empty set.
+    pub(crate) fn bit_count(&self) -> usize
+        ensures within { result ≤ 1024 }
+        ensures above { self.now < 2 ^ result }
+        ensures first { 0 < result → 2 ^ (result - 1) ≤ self.now }
     {
         for i in (0..16).rev() {
             let word = self.words[i];
             if word != 0 {
-                return 16 * i + (67 - word.leading_zeros() as usize) / 4;
+                return 64 * i + 64 - word.leading_zeros() as usize;
             }
         }
         0
+    }
+
+    /// How many hexadecimal digits the set's number has, and one for the empty set.
+    pub(crate) fn digit_count(&self) -> usize
+        ensures within { result ≤ 256 }
+        ensures digits { hexadecimal_digits self.now ≡ map digit_char (lowest_digits result self.now) }
+    {
+        let bits = self.bit_count();
+        if bits == 0 {
+            return 1;
+        }
+        (bits + 3) / 4
     }
 
     /// Puts four bits from 4 times a place on, above all that the set has.

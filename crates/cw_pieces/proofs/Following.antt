@@ -45,8 +45,8 @@ pub last_piece : (waiting piece now all front : List ℕ) → now ≡ waiting ++
 last_piece waiting piece now all front e f g = rw (g, f, e) (take_rest (waiting ++ piece) (length waiting) ∙ drop-append_seam waiting piece)
 
 -- a spelling for which there is more room than any needs
-pub short_with : (waiting spelling : List ℕ) → length spelling ≤ 258 → length waiting + 258 < 4096 → length (waiting ++ spelling) < 4096
-short_with waiting spelling short more = let q = length-append waiting spelling in omega (arith, short, q, more)
+pub short_with : (waiting spelling : List ℕ) (most : ℕ) → length spelling ≤ most → length waiting + most < 4096 → length (waiting ++ spelling) < 4096
+short_with waiting spelling most short more = let q = length-append waiting spelling in omega (arith, short, q, more)
 
 -- the spelling of a set in format 2 is no longer than its hexadecimal may be
 pub spelling_length : (set : ℕ) → IsBelow 1024 set → length (set_spelling set) ≤ 258

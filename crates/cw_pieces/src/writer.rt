@@ -10,7 +10,7 @@ ghost use Rattle.cw_io.specs.declared.fault.SinkFault.TheVariants as SinkFault;
 ghost use Rattle.cw_pieces.specs.Written.{Follows};
 
 use crate::said::Said;
-use cw_core::{Line, StateSet};
+use cw_core::{Line, StateSet, mask_length};
 use cw_io::{Sink, SinkFault};
 use itoa::Buffer;
 use std::marker::Model;
@@ -75,6 +75,8 @@ impl<S: Sink> Writer<S> {
     }
 
     /// Appends a piece, as much at a time as there is room for.
+    #[cold]
+    #[inline(never)]
     fn put_in_fronts(&mut self, piece: &[u8], out: &mut S)
         requires follows { Follows S.taken S.faults S.refused self.old out.old }
         ensures text { self.new.text ≡ self.old.text ++ piece.now }
@@ -90,7 +92,26 @@ impl<S: Sink> Writer<S> {
     }
 
     /// Appends the decimal of a number, without leading zeros.
+    #[inline]
     pub fn put_number(&mut self, n: u64, out: &mut S)
+        requires follows { Follows S.taken S.faults S.refused self.old out.old }
+        ensures text { self.new.text ≡ self.old.text ++ decimal n }
+        ensures begun { self.new.begun ≡ self.old.begun }
+        ensures follows { Follows S.taken S.faults S.refused self.new out.new }
+    {
+        if !self.has_room_for(20) {
+            self.put_number_apart(n, out);
+            return;
+        }
+        let from = self.line.bytes().len();
+        self.line.put_number(n);
+        self.said.more(&self.line.bytes()[from..]);
+    }
+
+    /// Appends the same where the line may be too short for it.
+    #[cold]
+    #[inline(never)]
+    fn put_number_apart(&mut self, n: u64, out: &mut S)
         requires follows { Follows S.taken S.faults S.refused self.old out.old }
         ensures text { self.new.text ≡ self.old.text ++ decimal n }
         ensures begun { self.new.begun ≡ self.old.begun }
@@ -127,12 +148,20 @@ impl<S: Sink> Writer<S> {
     }
 
     /// Appends the same where the line may be too short for it.
+    #[cold]
+    #[inline(never)]
     fn put_mask_apart(&mut self, set: &StateSet, out: &mut S)
         requires follows { Follows S.taken S.faults S.refused self.old out.old }
         ensures text { self.new.text ≡ self.old.text ++ hexadecimal set.now }
         ensures begun { self.new.begun ≡ self.old.begun }
         ensures follows { Follows S.taken S.faults S.refused self.new out.new }
     {
+        if self.has_room_for(mask_length(set)) {
+            let from = self.line.bytes().len();
+            self.line.put_fitting_mask(set);
+            self.said.more(&self.line.bytes()[from..]);
+            return;
+        }
         let mut spelling = Line::new();
         spelling.put_mask(set);
         self.put(spelling.bytes(), out);
@@ -157,6 +186,8 @@ impl<S: Sink> Writer<S> {
     }
 
     /// Appends the same where the line may be too short for it.
+    #[cold]
+    #[inline(never)]
     fn put_ranges_apart(&mut self, set: &StateSet, out: &mut S)
         requires follows { Follows S.taken S.faults S.refused self.old out.old }
         ensures text { self.new.text ≡ self.old.text ++ set_spelling set.now }

@@ -1,29 +1,21 @@
-use Rattle.std.proofs.Common.{◌≡◌, ◌++◌, ◌∙◌, sym, ap, List, ℕ, arith, length, refl, true, false, not, eqb}
+use Rattle.std.proofs.Common.{◌++◌, ◌∙◌, sym, ap, List, ℕ, arith, length, refl, true, false, not, eqb}
 use Rattle.cw_core.specs.Numerals.{hexadecimal}
-use Rattle.cw_core.proofs.SetTexts.{mask_room, runs_length, spelled_by}
+use Rattle.cw_core.proofs.SetTexts.{mask_length, runs_length, spelled_by}
 use Rattle.cw_core.proofs.line.Line.put_ranges.Goals as goal
 
 pub put_text-requires : goal.put_text-requires
 put_text-requires c =
-    let short = runs_length (not (eqb c.args.set.now 0)) (length c.bytes.result.now) (length c.bytes-2.result.now) c.if-is_shorter.ensures.shorter in
-    let mask : c.put_mask.new.self ≡ hexadecimal c.args.set.now = c.put_mask.ensures.text ∙ rw c.new-mask.ensures.empty refl in
-    let whole = mask_room c.args.self.now c.put_mask.new.self c.bytes-2.result.now c.args.set.now c.members_are_below_1024.ensures.below mask c.bytes-2.ensures.bytes c.requires.room in
+    let short = runs_length (not (eqb c.args.set.now 0)) (length c.bytes.result.now) (length (hexadecimal c.args.set.now)) c.if-is_shorter.ensures.shorter in
+    let mask = mask_length c.args.set.now c.members_are_below_1024.ensures.below in
     let e = ap length (c.bytes-then-is_shorter.ensures.bytes ∙ sym c.bytes.ensures.bytes) in
-    record { room = omega (arith, short, whole, e) }
-
-pub put_text-requires-else-is_shorter : goal.put_text-requires-else-is_shorter
-put_text-requires-else-is_shorter c =
-    let mask : c.put_mask.new.self ≡ hexadecimal c.args.set.now = c.put_mask.ensures.text ∙ rw c.new-mask.ensures.empty refl in
-    record { room = mask_room c.args.self.now c.put_mask.new.self c.bytes-else-is_shorter.result.now c.args.set.now c.members_are_below_1024.ensures.below mask c.bytes-else-is_shorter.ensures.bytes c.requires.room }
+    record { room = omega (arith, short, mask, e, c.requires.room) }
 
 pub returns-then-is_shorter : goal.returns-then-is_shorter
 returns-then-is_shorter c =
-    let mask : c.put_mask.new.self ≡ hexadecimal c.args.set.now = c.put_mask.ensures.text ∙ rw c.new-mask.ensures.empty refl in
-    let spelled = spelled_by c.args.set.now true c.bytes.result.now c.bytes-2.result.now (c.bytes.ensures.bytes ∙ c.put_runs.ensures.text) (c.bytes-2.ensures.bytes ∙ mask) c.if-is_shorter.ensures.shorter in
+    let spelled = spelled_by c.args.set.now true c.bytes.result.now (hexadecimal c.args.set.now) (c.bytes.ensures.bytes ∙ c.put_runs.ensures.text) refl c.if-is_shorter.ensures.shorter in
     record { text = c.put_text.ensures.text ∙ ap (λ (z : List ℕ). c.args.self.now ++ z) (c.bytes-then-is_shorter.ensures.bytes ∙ sym c.bytes.ensures.bytes ∙ sym spelled) }
 
 pub returns-else-is_shorter : goal.returns-else-is_shorter
 returns-else-is_shorter c =
-    let mask : c.put_mask.new.self ≡ hexadecimal c.args.set.now = c.put_mask.ensures.text ∙ rw c.new-mask.ensures.empty refl in
-    let spelled = spelled_by c.args.set.now false c.bytes.result.now c.bytes-2.result.now (c.bytes.ensures.bytes ∙ c.put_runs.ensures.text) (c.bytes-2.ensures.bytes ∙ mask) c.if-is_shorter.ensures.shorter in
-    record { text = c.put_text-else-is_shorter.ensures.text ∙ ap (λ (z : List ℕ). c.args.self.now ++ z) (c.bytes-else-is_shorter.ensures.bytes ∙ sym c.bytes-2.ensures.bytes ∙ sym spelled) }
+    let spelled = spelled_by c.args.set.now false c.bytes.result.now (hexadecimal c.args.set.now) (c.bytes.ensures.bytes ∙ c.put_runs.ensures.text) refl c.if-is_shorter.ensures.shorter in
+    record { text = c.put_mask.ensures.text ∙ ap (λ (z : List ℕ). c.args.self.now ++ z) (sym spelled) }

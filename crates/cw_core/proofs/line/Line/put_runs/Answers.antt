@@ -2,6 +2,7 @@ use Rattle.std.proofs.Common.{◌≡◌, ◌+◌, ◌-◌, ◌∷◌, false, suc
 use Rattle.cw_core.specs.Ranges.{Run}
 use Rattle.cw_core.specs.StateSet.{has}
 use Rattle.cw_core.proofs.Runs.{runs_from, runs_without, runs_first, ranges_whole, runs_past}
+use Rattle.cw_core.proofs.Sets.{IsBelow_from_lt}
 use Rattle.cw_core.proofs.RunTexts.{continued-none, continued-start, continued-more, run_room, some_text}
 use Rattle.cw_core.proofs.line.Line.put_runs.Goals as goal
 
@@ -29,16 +30,17 @@ numbers-preserved-then-contains c =
 pub numbers-preserved : goal.numbers-preserved
 numbers-preserved c =
     let at = c.numbers.at in
-    let e : 1025 - at ≡ suc (1025 - (at + 1)) = omega (arith, c.numbers-test.true) in
+    let e : 1025 - at ≡ suc (1025 - (at + 1)) = omega (arith, c.numbers-test.true, c.bit_count-bound.ensures.within) in
     let out : has c.args.set.now at ≡ false = sym c.if-contains.ensures.member in
     let skip : runs_from c.args.set.now at (1025 - at) ≡ runs_from c.args.set.now (at + 1) (1025 - (at + 1)) = rw e (runs_without c.args.set.now at (1025 - (at + 1)) out) in
     record {
       text = rw skip at c.numbers.invariant.text;
       room = omega (arith, c.numbers.invariant.room);
-      small = omega (arith, c.numbers-test.true);
+      small = omega (arith, c.numbers-test.true, c.bit_count-bound.ensures.within);
     }
 
 pub returns : goal.returns
 returns c =
-    let none = runs_past c.args.set.now c.numbers.at (1025 - c.numbers.at) c.members_are_below_1024.ensures.below c.numbers-test.false in
+    let below = IsBelow_from_lt c.bit_count-bound.result c.args.set.now c.bit_count-bound.ensures.above in
+    let none = runs_past c.bit_count-bound.result c.args.set.now c.numbers.at (1025 - c.numbers.at) below c.numbers-test.false in
     record { text = sym (continued-none c.numbers.self) ∙ (rw none at c.numbers.invariant.text) }

@@ -1,0 +1,53 @@
+use Rattle.std.proofs.Common.{arith, ◌∙◌, ◌-◌, ◌+◌, ap, length, take}
+use Rattle.cw_core.proofs.Digits.{PAIRS_at, kept, take_two, pair_put, take_word, word_kept, word_put, length-lowest_glyphs, none_left}
+use Rattle.cw_core.proofs.line.write_pairs.Goals as goal
+
+pub pairs-preserved : goal.pairs-preserved
+pairs-preserved c =
+    let some = c.pairs-test.true in
+    let place = c.pairs.left - 1 in
+    let glyphs = PAIRS_at c.from-pair.result (omega (arith, c.from-pair.ensures, c.byte.ensures.value)) in
+    let sum = c.pairs.invariant.end in
+    let room = c.pairs.invariant.room in
+    record {
+      end = omega (arith, sum, some);
+      small = omega (arith, c.pairs.invariant.small);
+      room = kept c.pairs.text c.pairs.at (c.pairs.at + 1) _ _ _ room;
+      text = pair_put (take c.pairs.at c.pairs.text) _ _ c.args.set.now c.pairs.left place c.from-pair.result _ _ (omega (arith, some)) (c.from-pair.ensures ∙ c.byte.ensures.value) glyphs.0 glyphs.1
+          (take_two c.pairs.text c.pairs.at _ _ (omega (arith, sum, room, some))) c.pairs.invariant.text;
+    }
+
+pub words-init : goal.words-init
+words-init c =
+    let so_far = c.pairs.invariant in
+    record {
+      end = so_far.end;
+      whole = omega (arith, c.pairs-test.false);
+      small = so_far.small;
+      room = so_far.room;
+      text = so_far.text;
+    }
+
+pub words-preserved : goal.words-preserved
+words-preserved c =
+    let some = c.words-test.true in
+    let place = c.words.left - 8 in
+    let sum = c.words.invariant.end in
+    let room = c.words.invariant.room in
+    let even = c.words.invariant.whole in
+    let digits = c.write_word.ensures.digits in
+    let long = ap length digits ∙ length-lowest_glyphs 16 c.word.result in
+    record {
+      end = omega (arith, sum, some, even);
+      whole = omega (arith, some, even);
+      small = omega (arith, c.words.invariant.small);
+      room = word_kept c.words.text c.write_word.new.text c.words.at _ _ long (omega arith) (omega (arith, sum, some, even, room)) room;
+      text = word_put (take c.words.at c.words.text) _ _ _ c.args.set.now c.words.left place c.word.result (omega (arith, some, even)) (omega (arith, some, even)) c.word.ensures.value digits
+          (take_word c.words.text _ _ c.words.at (omega (arith, sum, room)) long) c.words.invariant.text;
+    }
+
+pub returns-clause-text : goal.returns-clause-text
+returns-clause-text c = none_left _ _ c.args.set.now c.words.left (omega (arith, c.words-test.false)) c.words.invariant.text
+
+pub returns-clause-end : goal.returns-clause-end
+returns-clause-end c = omega (arith, c.words-test.false, c.words.invariant.end)
