@@ -13,7 +13,7 @@ ghost use Rattle.cw_expressions.specs.Reading.{rest_of, rest_of_arguments, begin
 ghost use Rattle.cw_expressions.specs.View.{got, got_arguments, seen, IsInRange};
 
 use crate::cursor::{begins_with, first_of, past, take};
-use crate::found::{Found, FoundList, call, join, leaf, over};
+use crate::found::{Found, FoundList, begun, call, join, leaf, over};
 use crate::operators::{
     assign_next, binary_next_at, is_assign, is_looser, operator_next, sign_of, step_of,
     suffix_next, suffix_of,
@@ -114,7 +114,9 @@ fn alone_next<'t>(alloc: Global, rule: Rule, tokens: &'t [Lexeme]) -> Option<Fou
     }
 }
 
-/// What stands at the front by this rule, with at most this nesting.
+/// What stands at the front by this rule, with at most this nesting. It stands in its callers, so that a token that is all of what is
+/// read costs no call.
+#[inline(always)]
 #[cycle(parser)]
 fn read<'t>(
     alloc: Global,
@@ -151,13 +153,48 @@ fn by_rule_at<'t>(
 {
     match rule {
         Rule::Expression => expression_at(alloc, depth, tokens),
-        Rule::Level(level) => level_at(alloc, depth, level, tokens),
-        Rule::Unary => unary_at(alloc, depth, tokens),
-        Rule::Postfix => postfix_at(alloc, depth, tokens),
+        Rule::Level(level) => level_called(alloc, depth, level, tokens),
+        Rule::Unary => unary_called(alloc, depth, tokens),
+        Rule::Postfix => postfix_called(alloc, depth, tokens),
     }
 }
 
-#[inline(always)]
+/// `level_at` by a call. It stands itself in its callers, as all do that aren't called by `by_rule_at`.
+#[cycle(parser)]
+fn level_called<'t>(
+    alloc: Global,
+    depth: u32,
+    level: u32,
+    tokens: &'t [Lexeme],
+) -> Result<Found<'t>, Refusal>
+    requires deep { depth < 64 }
+    requires level { level ≤ 10 }
+    ensures gives { Gives got result (chain (read_at depth) depth level tokens.now) }
+    ensures fits { IfOk result (λ x. x.depth ≤ depth + 1) }
+{
+    level_at(alloc, depth, level, tokens)
+}
+
+/// `unary_at` by a call.
+#[cycle(parser)]
+fn unary_called<'t>(alloc: Global, depth: u32, tokens: &'t [Lexeme]) -> Result<Found<'t>, Refusal>
+    requires deep { depth < 64 }
+    ensures gives { Gives got result (unary (read_at depth) depth tokens.now) }
+    ensures fits { IfOk result (λ x. x.depth ≤ depth + 1) }
+{
+    unary_at(alloc, depth, tokens)
+}
+
+/// `postfix_at` by a call.
+#[cycle(parser)]
+fn postfix_called<'t>(alloc: Global, depth: u32, tokens: &'t [Lexeme]) -> Result<Found<'t>, Refusal>
+    requires deep { depth < 64 }
+    ensures gives { Gives got result (postfix (read_at depth) depth tokens.now) }
+    ensures fits { IfOk result (λ x. x.depth ≤ depth + 1) }
+{
+    postfix_at(alloc, depth, tokens)
+}
+
 #[cycle(parser)]
 #[tactic(auto, unfolding(crate::specs::Reading::expression, cw_grammar::specs::Expressions::loosest))]
 fn expression_at<'t>(alloc: Global, depth: u32, tokens: &'t [Lexeme]) -> Result<Found<'t>, Refusal>
@@ -201,6 +238,7 @@ fn assigned_at<'t>(
 }
 
 /// A chain of binary operators of this level. Behind what was read so far is no operator that binds tighter than the last.
+#[inline(always)]
 #[cycle(parser)]
 fn level_at<'t>(
     alloc: Global,
@@ -278,6 +316,7 @@ fn cast_at<'t>(alloc: Global, depth: u32, tokens: &'t [Lexeme]) -> Result<Found<
     over(alloc, Op::Cast(kind), false, from, part)
 }
 
+#[inline(always)]
 #[cycle(parser)]
 #[tactic(auto, unfolding(crate::specs::Reading::unary))]
 fn unary_at<'t>(alloc: Global, depth: u32, tokens: &'t [Lexeme]) -> Result<Found<'t>, Refusal>
@@ -510,7 +549,7 @@ fn arguments_at<'t>(
         });
     }
     let first = read(alloc, depth, Rule::Expression, tokens)?;
-    let list = Vec::from_array(alloc, [first.tree])?;
+    let list = begun(alloc, first.tree)?;
     let first = FoundList {
         list,
         depth: first.depth,

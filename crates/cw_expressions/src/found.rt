@@ -1,6 +1,6 @@
 //! What was read, and the tokens after it.
 
-ghost use Rattle.std.specs.Prelude.{◌≡◌, ◌+◌, ◌<◌, max, [], ◌∷◌, Ok, true, map};
+ghost use Rattle.std.specs.Prelude.{◌≡◌, ◌+◌, ◌<◌, max, [], ◌∷◌, Ok, true, map, IfOk};
 ghost use Rattle.cw_syntax.specs.declared.program.Op.TheVariants as op;
 ghost use Rattle.cw_syntax.specs.Trees.{tree_of};
 ghost use Rattle.cw_expressions.specs.Cursor.{Gives};
@@ -10,7 +10,7 @@ ghost use Rattle.cw_expressions.specs.View.{got};
 use crate::refusal::Refusal;
 use cw_grammar::words::Lexeme;
 use cw_syntax::program::{Expr, Name, Op};
-use std::alloc::Global;
+use std::alloc::{AllocError, Global};
 
 /// An expression that was read: whether it is a unary, how deep it nests, where its first token begins and its last ends (a
 /// parenthesis counts), and the tokens after it.
@@ -30,6 +30,37 @@ pub struct FoundList<'t> {
     pub list: Vec<Expr>,
     pub depth: u32,
     pub rest: &'t [Lexeme],
+}
+
+/// The list of this tree alone, with no room to spare.
+#[inline(always)]
+fn only(alloc: Global, tree: Expr) -> Result<Vec<Expr>, AllocError>
+    ensures items { IfOk result (λ list. list.items ≡ tree ∷ []) }
+{
+    let mut list = Vec::with_capacity(alloc, 1)?;
+    list.push_reserved(tree);
+    Ok(list)
+}
+
+/// The list of these two trees, with no room to spare. They are moved into it one by one: an array of both would be one more copy.
+#[inline(always)]
+fn pair(alloc: Global, first: Expr, second: Expr) -> Result<Vec<Expr>, AllocError>
+    ensures items { IfOk result (λ list. list.items ≡ first ∷ second ∷ []) }
+{
+    let mut list = Vec::with_capacity(alloc, 2)?;
+    list.push_reserved(first);
+    list.push_reserved(second);
+    Ok(list)
+}
+
+/// The list of this tree, with room for the arguments that most calls have.
+#[inline(always)]
+pub(crate) fn begun(alloc: Global, tree: Expr) -> Result<Vec<Expr>, AllocError>
+    ensures items { IfOk result (λ list. list.items ≡ tree ∷ []) }
+{
+    let mut list = Vec::with_capacity(alloc, 4)?;
+    list.push_reserved(tree);
+    Ok(list)
 }
 
 /// An expression without parts.
@@ -64,7 +95,7 @@ pub(crate) fn over<'t>(
     requires { part.depth < 65 }
     ensures { Gives got result (Ok (built op (tree_of part.entry.tree ∷ []) unary (part.entry.depth + 1) from part.entry.to part.entry.rest.now)) }
 {
-    let parts = Vec::from_array(alloc, [part.tree])?;
+    let parts = only(alloc, part.tree)?;
     Ok(Found {
         tree: Expr {
             op,
@@ -93,7 +124,7 @@ pub(crate) fn join<'t>(
     requires second { second.depth < 65 }
     ensures { Gives got result (Ok (built op (tree_of first.entry.tree ∷ tree_of second.entry.tree ∷ []) unary (max first.entry.depth second.entry.depth + 1) first.entry.from second.entry.to second.entry.rest.now)) }
 {
-    let parts = Vec::from_array(alloc, [first.tree, second.tree])?;
+    let parts = pair(alloc, first.tree, second.tree)?;
     Ok(Found {
         tree: Expr {
             op,

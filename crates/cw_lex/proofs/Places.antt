@@ -22,7 +22,7 @@ starts_front [] rest = refl
 starts_front (x ∷ w) rest = rw (eq-eqb x x refl, starts_front w rest) refl
 
 -- a word of some bytes begins within the source
-begins_within : (source word : List ℕ) (at : ℕ) → 0 < length word → starts_with nat_eq (drop at source) word ≡ true → at + length word ≤ length source
+pub begins_within : (source word : List ℕ) (at : ℕ) → 0 < length word → starts_with nat_eq (drop at source) word ≡ true → at + length word ≤ length source
 begins_within source word at some e =
     let is = starts_is (drop at source) word e in
     let sum = length-append word (drop (length word) (drop at source)) in

@@ -67,6 +67,7 @@ fn begins_one(bytes: &[u8]) -> bool
 }
 
 /// The length of the longest punctuation at the front, and 0 where none stands there.
+#[inline(always)]
 #[tactic(auto, unfolding(crate::specs::Marks::mark_len))]
 pub(crate) fn mark_length(bytes: &[u8]) -> usize
     ensures { result ≡ mark_len bytes.now }
@@ -83,7 +84,7 @@ pub(crate) fn mark_length(bytes: &[u8]) -> usize
 }
 
 /// The least place where a word begins.
-fn first_place(source: &[u8], word: &[u8]) -> Option<usize>
+pub(crate) fn first_place(source: &[u8], word: &[u8]) -> Option<usize>
     requires some { 0 < length word.now }
     ensures found { IfSome result (λ at. starts_with nat_eq (drop at source.now) word.now ≡ true) }
     ensures least { IfSome result (λ at. (k : ℕ) → k < at → starts_with nat_eq (drop k source.now) word.now ≡ false) }

@@ -1,7 +1,7 @@
 //! What stands at the front of some bytes.
 
-ghost use Rattle.std.specs.Prelude.{◌≡◌, ◌+◌, ◌^◌, ◌<◌, ◌≤◌, ◌==◌, true, nat_eq, length, drop, codes, IfSome};
-ghost use Rattle.std.specs.List.{prefix_len, take_while, starts_with, list_any};
+ghost use Rattle.std.specs.Prelude.{◌≡◌, ◌+◌, ◌^◌, ◌<◌, ◌≤◌, ◌==◌, length, IfSome};
+ghost use Rattle.std.specs.List.{prefix_len, take_while, list_any};
 ghost use Rattle.cw_lex.specs.declared.tokens.TokenKind.TheVariants as kind;
 ghost use Rattle.cw_lex.specs.Characters.{character_len, text_len};
 ghost use Rattle.cw_lex.specs.Marks.{mark_len};
@@ -10,12 +10,10 @@ ghost use Rattle.cw_lex.specs.Pieces.{word, number, quoted, to_close, comment, i
 ghost use Rattle.cw_lex.specs.declared.piece.Piece.TheVariants as piece;
 ghost use Rattle.cw_lex.specs.Tokens.{fresh_behind};
 
-use crate::bytes::{
-    is_blank, is_digit, is_letter, is_line_byte, is_name_byte, is_number_byte, is_white, tail,
-};
+use crate::bytes::{is_blank, is_line_byte, is_name_byte, is_number_byte, is_white, tail};
 use crate::characters::{character_length, text_length};
 use crate::keywords::is_keyword;
-use crate::marks::mark_length;
+use crate::marks::{first_place, mark_length};
 use crate::numbers::is_number;
 use crate::tokens::TokenKind;
 
@@ -38,11 +36,28 @@ pub enum Piece {
     Fault(Defect),
 }
 
-fn white_length(bytes: &[u8]) -> usize
+fn white_run(bytes: &[u8]) -> usize
     ensures value { result ≡ prefix_len is_white bytes.now }
     ensures within { result ≤ length bytes.now }
 {
     bytes.iter().take_while(|b| is_white(**b)).count()
+}
+
+/// The white space at the front, where the first byte has been looked at.
+fn white_length(bytes: &[u8]) -> usize
+    ensures value { result ≡ prefix_len is_white bytes.now }
+    ensures within { result ≤ length bytes.now }
+{
+    match bytes {
+        [first, rest @ ..] => {
+            if is_white(*first) {
+                1 + white_run(rest)
+            } else {
+                0
+            }
+        }
+        [] => 0,
+    }
 }
 
 fn blank_length(bytes: &[u8]) -> usize
@@ -59,18 +74,50 @@ fn line_length(bytes: &[u8]) -> usize
     bytes.iter().take_while(|b| is_line_byte(**b)).count()
 }
 
-fn name_length(bytes: &[u8]) -> usize
+fn name_run(bytes: &[u8]) -> usize
     ensures value { result ≡ prefix_len is_name_byte bytes.now }
     ensures within { result ≤ length bytes.now }
 {
     bytes.iter().take_while(|b| is_name_byte(**b)).count()
 }
 
-fn number_length(bytes: &[u8]) -> usize
+fn name_length(bytes: &[u8]) -> usize
+    ensures value { result ≡ prefix_len is_name_byte bytes.now }
+    ensures within { result ≤ length bytes.now }
+{
+    match bytes {
+        [first, rest @ ..] => {
+            if is_name_byte(*first) {
+                1 + name_run(rest)
+            } else {
+                0
+            }
+        }
+        [] => 0,
+    }
+}
+
+fn number_run(bytes: &[u8]) -> usize
     ensures value { result ≡ prefix_len is_number_byte bytes.now }
     ensures within { result ≤ length bytes.now }
 {
     bytes.iter().take_while(|b| is_number_byte(**b)).count()
+}
+
+fn number_length(bytes: &[u8]) -> usize
+    ensures value { result ≡ prefix_len is_number_byte bytes.now }
+    ensures within { result ≤ length bytes.now }
+{
+    match bytes {
+        [first, rest @ ..] => {
+            if is_number_byte(*first) {
+                1 + number_run(rest)
+            } else {
+                0
+            }
+        }
+        [] => 0,
+    }
 }
 
 fn word_text(bytes: &[u8]) -> &[u8]
@@ -127,28 +174,15 @@ fn text(rest: &[u8]) -> Piece
     }
 }
 
-fn closes_from(bytes: &[u8], at: usize) -> bool
-    requires { at ≤ length bytes.now }
-    ensures value { result ≡ starts_with nat_eq (drop at bytes.now) (codes "*/") }
-    ensures within { result ≡ true → at + 2 ≤ length bytes.now }
-{
-    match tail(bytes, at) {
-        [b'*', b'/', ..] => true,
-        _ => false,
-    }
-}
-
 /// How many bytes there are up to and with the first `*/`.
 fn close_length(bytes: &[u8]) -> Option<usize>
     ensures value { result ≡ to_close bytes.now }
     ensures within { IfSome result (λ n. n ≤ length bytes.now) }
 {
-    for at in 0..bytes.len() {
-        if closes_from(bytes, at) {
-            return Some(at + 2);
-        }
+    match first_place(bytes, b"*/") {
+        None => None,
+        Some(at) => Some(at + 2),
     }
-    None
 }
 
 /// A comment, given what follows its first two bytes.
@@ -187,6 +221,8 @@ fn directive(fresh: bool, bytes: &[u8]) -> Piece
     }
 }
 
+// It stands in both of its callers' arms: a call would zero and copy its answer for each piece.
+#[inline(always)]
 fn mark(bytes: &[u8]) -> Piece
     ensures { result ≡ mark (mark_len bytes.now) }
 {
@@ -197,7 +233,7 @@ fn mark(bytes: &[u8]) -> Piece
 }
 
 /// The piece at the front, given whether no token stands before it on its line.
-#[tactic(auto, unfolding(crate::specs::Pieces::piece_at))]
+#[tactic(auto, unfolding(crate::specs::Pieces::piece_at, crate::specs::Marks::mark_len))]
 pub(crate) fn front_piece(fresh: bool, bytes: &[u8]) -> Piece
     requires { length bytes.now < 2 ^ 32 }
     ensures { result ≡ piece_at fresh bytes.now }
@@ -205,31 +241,41 @@ pub(crate) fn front_piece(fresh: bool, bytes: &[u8]) -> Piece
     let [first, rest @ ..] = bytes else {
         return Piece::Gap(0);
     };
-    if is_white(*first) {
-        Piece::Gap(white_length(bytes))
-    } else if is_letter(*first) {
-        word(word_text(bytes))
-    } else if is_digit(*first) {
-        number(number_text(bytes))
-    } else if *first == b'\'' {
-        character(rest)
-    } else if *first == b'"' {
-        text(rest)
-    } else if *first == b'#' {
-        directive(fresh, bytes)
-    } else if *first == b'/' && bytes.starts_with(b"/*") {
-        comment(tail(bytes, 2))
-    } else if *first == b'/' && bytes.starts_with(b"//") {
-        line(bytes)
-    } else {
-        mark(bytes)
+    match *first {
+        b' ' | 9..=13 => Piece::Gap(white_length(bytes)),
+        b'a'..=b'z' | b'A'..=b'Z' | b'_' => word(word_text(bytes)),
+        b'0'..=b'9' => number(number_text(bytes)),
+        b'\'' => character(rest),
+        b'"' => text(rest),
+        b'#' => directive(fresh, bytes),
+        b'/' => {
+            if bytes.starts_with(b"/*") {
+                comment(tail(bytes, 2))
+            } else if bytes.starts_with(b"//") {
+                line(bytes)
+            } else {
+                mark(bytes)
+            }
+        }
+        b'(' => Piece::Token(TokenKind::Punctuation, 1),
+        b')' => Piece::Token(TokenKind::Punctuation, 1),
+        b'[' => Piece::Token(TokenKind::Punctuation, 1),
+        b']' => Piece::Token(TokenKind::Punctuation, 1),
+        b'{' => Piece::Token(TokenKind::Punctuation, 1),
+        b'}' => Piece::Token(TokenKind::Punctuation, 1),
+        b';' => Piece::Token(TokenKind::Punctuation, 1),
+        b',' => Piece::Token(TokenKind::Punctuation, 1),
+        _ => mark(bytes),
     }
 }
 
 fn has_line_end(bytes: &[u8]) -> bool
     ensures { result ≡ list_any (λ b. b == 10) bytes.now }
 {
-    bytes.iter().any(|b| *b == b'\n')
+    match bytes {
+        [byte] => *byte == b'\n',
+        _ => bytes.iter().any(|b| *b == b'\n'),
+    }
 }
 
 /// Whether no token stands on the line so far, behind so many bytes at the front that hold no token.

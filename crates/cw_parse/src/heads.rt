@@ -17,6 +17,7 @@ use cw_syntax::program::{Expr, Stmt, What};
 use std::alloc::Global;
 
 /// An expression in parentheses.
+#[inline(always)]
 #[tactic(auto, unfolding(crate::specs::StatementReading::condition))]
 pub(crate) fn test_at<'t>(
     alloc: Global,
@@ -116,6 +117,7 @@ pub(crate) fn start_at<'t>(
 }
 
 /// `break` or `continue`, behind the word.
+#[inline(always)]
 #[tactic(auto, unfolding(crate::specs::StatementReading::short))]
 pub(crate) fn short_at(
     what: What,

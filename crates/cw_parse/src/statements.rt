@@ -17,7 +17,8 @@ use cw_grammar::words::{Lexeme, Word};
 use cw_syntax::program::{Expr, Head, Name, Stmt, What};
 use std::alloc::Global;
 
-/// A statement at the front, with at most this nesting.
+/// A statement at the front, with at most this nesting. It stands in its callers, so that a statement is moved once to where it is kept.
+#[inline(always)]
 #[cycle(parser)]
 fn read<'t>(
     alloc: Global,
@@ -117,6 +118,7 @@ fn block_at<'t>(
 }
 
 /// Statements up to a brace, in a list with no room to spare.
+#[inline(always)]
 #[cycle(parser)]
 fn listed_at<'t>(
     alloc: Global,
@@ -125,7 +127,8 @@ fn listed_at<'t>(
 ) -> Result<(Vec<Stmt>, &'t [Lexeme]), Refusal>
     ensures { Gives several result (many (read_statement depth true) goes_on ([], tokens.now)) }
 {
-    let mut list = Vec::new(alloc);
+    // A list of two, as many blocks are, is never moved.
+    let mut list = Vec::with_capacity(alloc, 2)?;
     let mut rest = tokens;
     'statements: while !begins_with(rest, Word::CloseBrace) {
         let (statement, behind) = read(alloc, depth, true, rest)?;
@@ -177,6 +180,7 @@ fn branched_at<'t>(
 }
 
 /// Behind the first arm of an `if`.
+#[inline(always)]
 #[cycle(parser)]
 #[tactic(auto, unfolding(crate::specs::StatementReading::chosen))]
 fn chosen_at<'t>(

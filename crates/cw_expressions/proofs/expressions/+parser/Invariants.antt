@@ -36,11 +36,17 @@ decreases-joined_at l = 40 * l.depth + 1
 abbrev pub decreases-level_at : goal.decreases-level_at
 decreases-level_at l = 40 * l.depth + 15
 
+abbrev pub decreases-level_called : goal.decreases-level_called
+decreases-level_called l = 40 * l.depth + 22
+
 abbrev pub decreases-named_at : goal.decreases-named_at
 decreases-named_at l = 40 * l.depth + 10
 
 abbrev pub decreases-operand_at : goal.decreases-operand_at
 decreases-operand_at l = 40 * l.depth + 14
+
+abbrev pub decreases-postfix_called : goal.decreases-postfix_called
+decreases-postfix_called l = 40 * l.depth + 20
 
 abbrev pub decreases-postfix_at : goal.decreases-postfix_at
 decreases-postfix_at l = 40 * l.depth + 12
@@ -62,6 +68,9 @@ decreases-suffixed_all l = 40 * l.depth + 2
 
 abbrev pub decreases-suffixed_at : goal.decreases-suffixed_at
 decreases-suffixed_at l = 40 * l.depth + 1
+
+abbrev pub decreases-unary_called : goal.decreases-unary_called
+decreases-unary_called l = 40 * l.depth + 21
 
 abbrev pub decreases-unary_at : goal.decreases-unary_at
 decreases-unary_at l = 40 * l.depth + 13

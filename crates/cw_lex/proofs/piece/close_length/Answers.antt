@@ -1,22 +1,15 @@
-use Rattle.std.proofs.Common.{◌≡◌, ◌∙◌, sym, drop, false, true}
-use Rattle.std.specs.Prelude.{nat_eq, codes}
-use Rattle.std.specs.List.{starts_with}
-use Rattle.cw_lex.proofs.Close.{close_more, close_here, close_none, more_zero}
-use Rattle.cw_lex.specs.Pieces.{to_close}
+use Rattle.std.proofs.Common.{◌<◌, ◌∷◌, [], sym, arith}
+use Rattle.cw_lex.proofs.Close.{close_here, close_none}
+use Rattle.cw_lex.proofs.Places.{begins_within}
 use Rattle.cw_lex.proofs.piece.close_length.Goals as goal
 
-pub loop-at-init : goal.loop-at-init
-loop-at-init c = more_zero (to_close c.args.bytes.now)
+pub returns-in-None-clause-value : goal.returns-in-None-clause-value
+returns-in-None-clause-value c = sym (close_none c.args.bytes.now c.in-None.ensures.none)
 
-pub loop-at-preserved : goal.loop-at-preserved
-loop-at-preserved c =
-    let e : starts_with nat_eq (drop c.loop-at.at c.args.bytes.now) (codes "*/") ≡ false = sym c.closes_from.ensures.value ∙ c.if-closes_from.false in
-    close_more c.args.bytes.now c.loop-at.at c.loop-at-test.true e ∙ c.loop-at.invariant
+pub returns-in-Some-clause-value : goal.returns-in-Some-clause-value
+returns-in-Some-clause-value c = sym (close_here c.args.bytes.now c.in-Some.at c.in-Some.ensures.found c.in-Some.ensures.least)
 
-pub returns-then-closes_from-clause-value : goal.returns-then-closes_from-clause-value
-returns-then-closes_from-clause-value c =
-    let e : starts_with nat_eq (drop c.loop-at.at c.args.bytes.now) (codes "*/") ≡ true = sym c.closes_from.ensures.value ∙ c.if-closes_from.true in
-    sym (close_here c.args.bytes.now c.loop-at.at c.loop-at-test.true e) ∙ c.loop-at.invariant
-
-pub returns-clause-value : goal.returns-clause-value
-returns-clause-value c = sym (close_none c.args.bytes.now c.loop-at.at c.loop-at-test.false) ∙ c.loop-at.invariant
+pub returns-in-Some-clause-within : goal.returns-in-Some-clause-within
+returns-in-Some-clause-within c =
+    let two : 0 < 2 = omega arith in
+    begins_within c.args.bytes.now (42 ∷ 47 ∷ []) c.in-Some.at two c.in-Some.ensures.found

@@ -27,7 +27,7 @@ block_at-returns t c =
 
 pub listed_at-returns-in_err-statement : goal.listed_at-returns-in_err-statement
 listed_at-returns-in_err-statement t c =
-    let p = err_from_is_err_and c.from_residual.result c.from_residual.ensures.1 in
+    let p = err_from_is_err_and c.from_residual-in_err-statement.result c.from_residual-in_err-statement.ensures.1 in
     let stay : begins w.CloseBrace c.statements.rest.now ≡ false = sym c.begins_with.ensures.begins ∙ c.statements-test.true in
     rw (p.1, p.2, ← c.statements.invariant) (many_fails (read_statement c.args.depth true) goes_on c.in_err-statement.field-0.0
     (map statement_of c.statements.list.items, c.statements.rest.now) (ap not stay)
