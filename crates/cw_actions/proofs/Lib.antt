@@ -4,3 +4,4 @@ pub mod Shapes
 pub mod Bounds
 pub mod Places
 mod Digits
+pub mod Ends

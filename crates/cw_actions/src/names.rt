@@ -1,6 +1,6 @@
 //! Names by their bytes, and the numbers that stand for them.
 
-ghost use Rattle.std.specs.Prelude.{◌≡◌, ◌≢◌, true, false, map, is_some, ◌≤◌, length};
+ghost use Rattle.std.specs.Prelude.{◌≡◌, true, false, map, is_some, ◌≤◌, length};
 ghost use Rattle.std.specs.Fmt.{decimal};
 ghost use Rattle.std.specs.Str.{bytes_eq};
 ghost use Rattle.cw_syntax.specs.Names.{text, number_in, number_or_other};
@@ -105,31 +105,61 @@ pub fn text<'s>(checked: &Checked<'s>, name: Name) -> &'s [u8]
     names::text(checked.source, name)
 }
 
-/// Whether a name may have so many bytes: a span that ends in the source has as many as it tells.
-fn may_have(source: &[u8], name: Name, count: usize) -> bool
-    ensures apart { result ≡ false → length (text source.now name) ≢ count }
+/// Whether a name's last byte stands in the source and isn't the last of these bytes.
+#[tactic(auto, using(crate::proofs::Ends::apart))]
+fn ends_apart(source: &[u8], name: Name, bytes: &[u8]) -> bool
+    requires some { 1 ≤ length bytes.now }
+    ensures apart { result ≡ true → bytes_eq bytes.now (text source.now name) ≡ false }
 {
-    if source.len() < name.to as usize {
-        return true;
+    let end = name.to as usize;
+    if end == 0 || source.len() < end {
+        return false;
     }
-    name.to.saturating_sub(name.from) as usize == count
+    source[end - 1] != bytes[bytes.len() - 1]
 }
 
-/// Whether a name has these bytes. Most that haven't are told apart by their lengths.
-fn is_named(checked: &Checked, name: Name, bytes: &[u8]) -> bool
-    ensures { result ≡ bytes_eq bytes.now (text checked.now.source.now name) }
+/// Whether a name has these bytes, of which there are some. Most that haven't are told apart by their ends, with no look at where they begin.
+fn is_named(source: &[u8], name: Name, bytes: &[u8]) -> bool
+    requires some { 1 ≤ length bytes.now }
+    ensures { result ≡ bytes_eq bytes.now (text source.now name) }
 {
-    may_have(checked.source, name, bytes.len()) && is_same(bytes, text(checked, name))
+    !ends_apart(source, name, bytes) && bytes == names::text(source, name)
+}
+
+/// The number of the first function whose name has these bytes, of which there are some.
+fn first_named(checked: &Checked, name: &[u8]) -> Option<usize>
+    requires some { 1 ≤ length name.now }
+    ensures { result ≡ number_in (function_names checked.now.source.now (file_of checked.now.program)) name.now }
+{
+    let source = checked.source;
+    for (i, f) in checked.program.functions.iter().enumerate() {
+        if is_named(source, f.name, name) {
+            return Some(i);
+        }
+    }
+    None
+}
+
+/// The number of the first function whose name is the same, as long or short as it may be.
+fn first_alike(checked: &Checked, name: &[u8]) -> Option<usize>
+    ensures { result ≡ number_in (function_names checked.now.source.now (file_of checked.now.program)) name.now }
+{
+    let source = checked.source;
+    for (i, f) in checked.program.functions.iter().enumerate() {
+        if is_same(name, names::text(source, f.name)) {
+            return Some(i);
+        }
+    }
+    None
 }
 
 /// The number of the defined function with this name, in the order of definition.
 pub fn function_named(checked: &Checked, name: &[u8]) -> Option<usize>
     ensures number { result ≡ number_in (function_names checked.now.source.now (file_of checked.now.program)) name.now }
 {
-    for (i, f) in checked.program.functions.iter().enumerate() {
-        if is_named(checked, f.name, name) {
-            return Some(i);
-        }
+    if name.is_empty() {
+        first_alike(checked, name)
+    } else {
+        first_named(checked, name)
     }
-    None
 }

@@ -9,3 +9,6 @@ pub mod Starting
 pub mod Firsts
 pub mod Seen
 pub mod Without
+pub mod Calling
+pub mod Beginnings
+pub mod Mentioned

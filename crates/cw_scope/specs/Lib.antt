@@ -6,3 +6,4 @@ pub mod Faults
 pub mod Descriptors
 pub mod Held
 pub mod Known
+pub mod Mentions

@@ -5,10 +5,12 @@ ghost use Rattle.cw_syntax.specs.Trees.{definition_of, file_of};
 ghost use Rattle.cw_scope.specs.Rules.{least, second_label, wrong_form};
 ghost use Rattle.cw_scope.specs.Faults.{no_main, two_functions, two_labels, arity, call_form, main_called, reserved_name, jump, limit, scope_fault, IsDue};
 ghost use Rattle.cw_scope.specs.Held.{placed_of, whole_of, tree_at};
+ghost use Rattle.cw_scope.specs.Mentions.{every_call};
+ghost use Rattle.cw_scope.specs.Walks.{every_node};
 ghost use Rattle.cw_scope.specs.Known.{IsKnown};
 
 use crate::faults::ScopeFault;
-use crate::forms::every_node;
+use crate::forms::every_mention;
 use crate::functions::{Functions, by_names};
 use crate::lists::{body_of, every_statement, every_whole};
 use crate::names::{every_name, function_names, labels, uses};
@@ -79,11 +81,12 @@ fn two_labels(
 }
 
 #[tactic(auto, unfolding(crate::specs::Faults::arity))]
-fn arity(known: &Functions, nodes: &[&Expr]) -> Option<ScopeFault>
+fn arity(known: &Functions, calls: &[&Expr]) -> Option<ScopeFault>
     requires known { IsKnown known.now }
-    ensures { result ≡ arity known.now.source.now (file_of known.now.program.now) (map tree_at nodes.now) }
+    requires calls { map tree_at calls.now ≡ every_call (file_of known.now.program.now) }
+    ensures { result ≡ arity known.now.source.now (file_of known.now.program.now) (every_node (file_of known.now.program.now)) }
 {
-    match places::wrong_arities(known, nodes) {
+    match places::wrong_arity(known, calls) {
         None => None,
         Some(place) => Some(ScopeFault::Arity(place)),
     }
@@ -108,10 +111,11 @@ fn call_form(
 }
 
 #[tactic(auto, unfolding(crate::specs::Faults::main_called))]
-fn main_called(source: &[u8], nodes: &[&Expr]) -> Option<ScopeFault>
-    ensures { result ≡ main_called source.now (map tree_at nodes.now) }
+fn main_called(known: &Functions, calls: &[&Expr]) -> Option<ScopeFault>
+    requires calls { map tree_at calls.now ≡ every_call (file_of known.now.program.now) }
+    ensures { result ≡ main_called known.now.source.now (every_node (file_of known.now.program.now)) }
 {
-    match places::main_calls(source, nodes) {
+    match places::main_call(known, calls) {
         None => None,
         Some(place) => Some(ScopeFault::MainCalled(place)),
     }
@@ -167,18 +171,18 @@ fn scope_fault(
     let statements = every_statement(alloc, program)?;
     let wholes = every_whole(alloc, program, &statements)?;
     let known = by_names(alloc, source, program)?;
-    let (nodes, misformed) = every_node(alloc, &known, &wholes)?;
-    let used = uses(alloc, program, &statements, &nodes)?;
-    let called = call_form(&known, &used, &wholes, misformed);
-    let names = every_name(program, used, &nodes)?;
+    let mentioned = every_mention(alloc, &known, &wholes)?;
+    let used = uses(alloc, program, &statements, &mentioned.names)?;
+    let called = call_form(&known, &used, &wholes, mentioned.misformed);
+    let names = every_name(program, used, &mentioned.calls)?;
     let labels = labels(alloc, &statements)?;
     Ok(
         no_main(source, program)
             .or(two_functions(alloc, source, program)?)
             .or(two_labels(alloc, source, program)?)
-            .or(arity(&known, &nodes))
+            .or(arity(&known, &mentioned.calls))
             .or(called)
-            .or(main_called(source, &nodes))
+            .or(main_called(&known, &mentioned.calls))
             .or(reserved_name(source, &names))
             .or(jump(&statements))
             .or(limit(alloc, source, program, &labels)?),

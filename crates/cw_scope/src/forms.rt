@@ -1,19 +1,20 @@
 //! The forms in which calls may stand.
 
-ghost use Rattle.std.specs.Prelude.{◌≡◌, ℕ, cond, None, map, IfOk, slice_get};
+ghost use Rattle.std.specs.Prelude.{◌≡◌, ℕ, None, Some, map, IfOk, slice_get};
 ghost use Rattle.std.specs.List.{list_any, filter_map, flat_map};
 ghost use Rattle.std.specs.Option.{option_map};
-ghost use Rattle.cw_syntax.specs.Trees.{Node, none, more, tree_of, trees_of, file_of};
-ghost use Rattle.cw_scope.specs.Walks.{nodes};
-ghost use Rattle.cw_scope.specs.Rules.{least, is_call, defined_call, external_call, statement_call, standing_call, misplaced, wrong_form};
+ghost use Rattle.cw_syntax.specs.Trees.{Tree, Node, none, more, tree_of, trees_of, file_of};
+ghost use Rattle.cw_scope.specs.Walks.{nodes, nodes_in};
+ghost use Rattle.cw_scope.specs.Rules.{least, is_call, defined_call, external_call, statement_call, standing_call, misplaced, second_external, wrong_form};
 ghost use Rattle.cw_scope.specs.Held.{tree_at, whole_of};
 ghost use Rattle.cw_scope.specs.Known.{IsKnown};
+ghost use Rattle.cw_scope.specs.Mentions.{names_at, calls_at};
 
 use crate::functions::Functions;
 use crate::places::defined_calls;
 use crate::rules::{defined_call, external_call, is_call, sooner};
-use crate::walks::{Whole, put_nodes, put_parts};
-use cw_syntax::program::{Expr, Op};
+use crate::walks::{Whole, put_mentions, put_parts};
+use cw_syntax::program::{Expr, Name, Op};
 use std::alloc::{AllocError, Global};
 
 /// The call of an assignment of these two parts.
@@ -65,58 +66,65 @@ fn standing_call<'p>(whole: Whole<'p>) -> Option<&'p Expr>
     }
 }
 
-fn has_call(nodes: &[&Expr]) -> bool
-    ensures { result ≡ list_any is_call (map tree_at nodes.now) }
+/// Whether an expression is a call or holds one.
+#[cycle(calls)]
+fn is_calling(e: &Expr) -> bool
+    ensures { result ≡ list_any is_call (nodes (tree_of e.now)) }
 {
-    for e in nodes {
-        if is_call(e) {
+    is_call(e) || are_calling(&e.parts)
+}
+
+/// Whether a call is in these expressions.
+#[cycle(calls)]
+fn are_calling(parts: &[Expr]) -> bool
+    ensures { result ≡ list_any is_call (nodes_in (trees_of parts.now)) }
+{
+    for e in parts {
+        if is_calling(e) {
             return true;
         }
     }
     false
 }
 
-/// The place of a statement's call of a defined function, where a call is among these, which are in its arguments.
-fn holding_call(known: &Functions, call: &Expr, inner: &[&Expr]) -> Option<u32>
+/// The least place in a statement's call at which a call of a defined function may not stand. Few calls hold another one, and
+/// only of these the expressions are listed.
+fn misplaced_in(alloc: Global, known: &Functions, call: &Expr) -> Result<Option<u32>, AllocError>
     requires known { IsKnown known.now }
-    ensures { result ≡ cond (list_any is_call (map tree_at inner.now)) (defined_call known.now.source.now (file_of known.now.program.now) (tree_of call.now)) None }
+    ensures { (tree : Tree) → IfOk result (λ place. place ≡ least (misplaced known.now.source.now (file_of known.now.program.now) (Some (tree_of call.now)) tree)) }
 {
-    if has_call(inner) {
-        defined_call(known, call)
-    } else {
-        None
+    if !are_calling(&call.parts) {
+        return Ok(None);
     }
+    let mut inner = Vec::new(alloc);
+    put_parts(&call.parts, &mut inner)?;
+    let own = defined_call(known, call);
+    Ok(sooner(own, defined_calls(known, &inner)))
 }
 
-/// The least place of a call of a defined function that may not stand where it does in a whole expression, all of whose expressions
-/// these are.
+/// The least place of a call of a defined function that may not stand where it does in a whole expression, whose calls these are.
 fn misplaced(
     alloc: Global,
     known: &Functions,
     whole: Whole,
-    all: &[&Expr],
+    calls: &[&Expr],
 ) -> Result<Option<u32>, AllocError>
     requires known { IsKnown known.now }
-    requires all { map tree_at all.now ≡ nodes (whole_of whole).tree }
+    requires calls { map tree_at calls.now ≡ calls_at (whole_of whole).tree }
     ensures { IfOk result (λ place. place ≡ least (misplaced known.now.source.now (file_of known.now.program.now) (standing_call (whole_of whole.entry)) (whole_of whole.entry).tree)) }
 {
     match standing_call(whole) {
-        None => Ok(defined_calls(known, all)),
-        Some(call) => {
-            let mut inner = Vec::new(alloc);
-            put_parts(&call.parts, &mut inner)?;
-            let own = holding_call(known, call, &inner);
-            Ok(sooner(own, defined_calls(known, &inner)))
-        }
+        None => Ok(defined_calls(known, calls)),
+        Some(call) => misplaced_in(alloc, known, call),
     }
 }
 
-fn second_call(known: &Functions, nodes: &[&Expr]) -> Option<u32>
+fn second_call(known: &Functions, calls: &[&Expr]) -> Option<u32>
     requires known { IsKnown known.now }
-    ensures { result ≡ slice_get (filter_map (external_call known.now.source.now (file_of known.now.program.now)) (map tree_at nodes.now)) 1 }
+    ensures { result ≡ slice_get (filter_map (external_call known.now.source.now (file_of known.now.program.now)) (map tree_at calls.now)) 1 }
 {
     let mut seen = false;
-    for e in nodes {
+    for e in calls {
         if let Some(place) = external_call(known, e) {
             if seen {
                 return Some(place);
@@ -127,38 +135,62 @@ fn second_call(known: &Functions, nodes: &[&Expr]) -> Option<u32>
     None
 }
 
-/// The least place at which a whole expression, all of whose expressions these are, breaks the rule on the forms of calls.
+/// The second call of another name in an expression, whose calls these are.
+fn second_external(known: &Functions, _tree: &Expr, calls: &[&Expr]) -> Option<u32>
+    requires known { IsKnown known.now }
+    requires calls { map tree_at calls.now ≡ calls_at (tree_of _tree.now) }
+    ensures { result ≡ second_external known.now.source.now (file_of known.now.program.now) (tree_of _tree.now) }
+{
+    second_call(known, calls)
+}
+
+/// The least place at which a whole expression, whose calls these are, breaks the rule on the forms of calls.
 fn wrong_form(
     alloc: Global,
     known: &Functions,
     whole: Whole,
-    all: &[&Expr],
+    calls: &[&Expr],
 ) -> Result<Option<u32>, AllocError>
     requires known { IsKnown known.now }
-    requires all { map tree_at all.now ≡ nodes (whole_of whole).tree }
+    requires calls { map tree_at calls.now ≡ calls_at (whole_of whole).tree }
     ensures { IfOk result (λ place. place ≡ wrong_form known.now.source.now (file_of known.now.program.now) (whole_of whole.entry)) }
 {
-    let own = misplaced(alloc, known, whole, all)?;
-    Ok(sooner(own, second_call(known, all)))
+    let own = misplaced(alloc, known, whole, calls)?;
+    Ok(sooner(own, second_external(known, whole.tree, calls)))
 }
 
-/// All expressions of a program, whose whole expressions these are, and the least place at which one of these breaks the rule.
+/// What a program's expressions mention: plain names and calls, and the least place at which a call breaks the rule on their forms.
+#[derive(Drop)]
+pub(crate) struct Mentioned<'p> {
+    pub names: Vec<Name>,
+    pub calls: Vec<&'p Expr>,
+    pub misformed: Option<u32>,
+}
+
+/// What these whole expressions mention.
 #[tactic(auto, using(crate::proofs::Lesser::sooner_assoc))]
-pub(crate) fn every_node<'p>(
+pub(crate) fn every_mention<'p>(
     alloc: Global,
     known: &Functions,
     wholes: &[Whole<'p>],
-) -> Result<(Vec<&'p Expr>, Option<u32>), AllocError>
+) -> Result<Mentioned<'p>, AllocError>
     requires known { IsKnown known.now }
-    ensures every { IfOk result (λ found. map tree_at found.0.items ≡ flat_map (λ w. nodes w.tree) (map whole_of wholes.now)) }
-    ensures place { IfOk result (λ found. found.1 ≡ least (map (wrong_form known.now.source.now (file_of known.now.program.now)) (map whole_of wholes.now))) }
+    ensures names { IfOk result (λ found. found.names.items ≡ flat_map (λ w. names_at w.tree) (map whole_of wholes.now)) }
+    ensures calls { IfOk result (λ found. map tree_at found.calls.items ≡ flat_map (λ w. calls_at w.tree) (map whole_of wholes.now)) }
+    ensures place { IfOk result (λ found. found.misformed ≡ least (map (wrong_form known.now.source.now (file_of known.now.program.now)) (map whole_of wholes.now))) }
 {
-    let mut every = Vec::new(alloc);
-    let mut place = None;
+    let mut names = Vec::new(alloc);
+    let mut calls = Vec::new(alloc);
+    let mut misformed = None;
     for whole in wholes {
-        let from = every.len();
-        put_nodes(whole.tree, &mut every)?;
-        place = sooner(place, wrong_form(alloc, known, *whole, &every[from..])?);
+        let from = calls.len();
+        put_mentions(whole.tree, &mut names, &mut calls)?;
+        let own = wrong_form(alloc, known, *whole, &calls[from..])?;
+        misformed = sooner(misformed, own);
     }
-    Ok((every, place))
+    Ok(Mentioned {
+        names,
+        calls,
+        misformed,
+    })
 }

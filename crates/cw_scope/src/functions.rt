@@ -1,6 +1,6 @@
 //! The functions of a program by their names.
 
-ghost use Rattle.std.specs.Prelude.{◌≡◌, [], map, slice_index, IfOk};
+ghost use Rattle.std.specs.Prelude.{◌≡◌, [], map, slice_index, true, None, IfOk};
 ghost use Rattle.std.specs.Option.{option_map};
 ghost use Rattle.cw_syntax.specs.Trees.{definition_of, file_of};
 ghost use Rattle.cw_scope.specs.Rules.{defined, is_defined};
@@ -99,10 +99,23 @@ pub(crate) fn found<'p>(known: &Functions<'p>, name: &[u8]) -> Option<&'p Functi
     }
 }
 
+/// Whether a name begins in the source with a byte with which no function's name begins.
+#[tactic(auto, using(crate::proofs::Beginnings::unfound))]
+fn begins_apart(known: &Functions, name: Name) -> bool
+    requires known { IsKnown known.now }
+    ensures { result ≡ true → defined known.now.source.now (file_of known.now.program.now) (text known.now.source.now name) ≡ None }
+{
+    let from = name.from as usize;
+    if name.to <= name.from || known.source.len() <= from {
+        return false;
+    }
+    !known.first_bytes[known.source[from] as usize]
+}
+
 /// Whether a function with this name is defined.
 pub(crate) fn is_defined(known: &Functions, name: Name) -> bool
     requires known { IsKnown known.now }
     ensures { result ≡ is_defined known.now.source.now (file_of known.now.program.now) (text known.now.source.now name) }
 {
-    found(known, text(known.source, name)).is_some()
+    !begins_apart(known, name) && found(known, text(known.source, name)).is_some()
 }

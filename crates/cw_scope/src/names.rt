@@ -7,6 +7,7 @@ ghost use Rattle.cw_syntax.specs.Trees.{tree_of, statement_of, declared_of, decl
 ghost use Rattle.cw_scope.specs.Walks.{every_statement, every_node};
 ghost use Rattle.cw_scope.specs.Names.{declared_names, param_names, local_names, init_names, globals, locals, label_of, labels_of, plain_name, called_name, uses, function_places, every_name};
 ghost use Rattle.cw_scope.specs.Held.{placed_of, tree_at, perhaps_of};
+ghost use Rattle.cw_scope.specs.Mentions.{every_plain, every_call};
 ghost use Rattle.cw_syntax.specs.declared.program.Head.{out-Head};
 
 use crate::walks::Placed;
@@ -147,26 +148,36 @@ pub(crate) fn called_name(e: &Expr) -> Option<Name>
     }
 }
 
-fn put_plain_names(nodes: &[&Expr], out: &mut Vec<Name>) -> Result<(), AllocError>
-    ensures { IfOk result (λ _. out.new.items ≡ out.old.items ++ filter_map plain_name (map tree_at nodes.now)) }
+/// Appends the plain names of a program's expressions, which these are.
+fn put_plain_names(
+    _program: &Program,
+    plain: &[Name],
+    out: &mut Vec<Name>,
+) -> Result<(), AllocError>
+    requires plain { plain.now ≡ every_plain (file_of _program.now) }
+    ensures { IfOk result (λ _. out.new.items ≡ out.old.items ++ filter_map plain_name (every_node (file_of _program.now))) }
 {
-    for e in nodes {
-        if let Some(name) = plain_name(e) {
+    out.extend_from_slice(plain)?;
+    Ok(())
+}
+
+fn put_called_names(calls: &[&Expr], out: &mut Vec<Name>) -> Result<(), AllocError>
+    ensures { IfOk result (λ _. out.new.items ≡ out.old.items ++ filter_map called_name (map tree_at calls.now)) }
+{
+    for e in calls {
+        if let Some(name) = called_name(e) {
             out.push(name)?;
         }
     }
     Ok(())
 }
 
-fn put_called_names(nodes: &[&Expr], out: &mut Vec<Name>) -> Result<(), AllocError>
-    ensures { IfOk result (λ _. out.new.items ≡ out.old.items ++ filter_map called_name (map tree_at nodes.now)) }
+/// Appends the names that a program calls. These are its calls.
+fn put_callees(_program: &Program, calls: &[&Expr], out: &mut Vec<Name>) -> Result<(), AllocError>
+    requires calls { map tree_at calls.now ≡ every_call (file_of _program.now) }
+    ensures { IfOk result (λ _. out.new.items ≡ out.old.items ++ filter_map called_name (every_node (file_of _program.now))) }
 {
-    for e in nodes {
-        if let Some(name) = called_name(e) {
-            out.push(name)?;
-        }
-    }
-    Ok(())
+    put_called_names(calls, out)
 }
 
 fn put_prototype_names(protos: &[Proto], out: &mut Vec<Name>) -> Result<(), AllocError>
@@ -214,15 +225,15 @@ pub(crate) fn labels(alloc: Global, statements: &[Placed]) -> Result<Vec<Name>, 
 }
 
 /// The names of variables, parameters and labels, where they are declared and where they stand in expressions. The statements and
-/// the expressions are those of the program.
+/// the plain names of expressions are those of the program.
 pub(crate) fn uses(
     alloc: Global,
     program: &Program,
     statements: &[Placed],
-    nodes: &[&Expr],
+    plain: &[Name],
 ) -> Result<Vec<Name>, AllocError>
     requires statements { map placed_of statements.now ≡ every_statement (file_of program.now) }
-    requires nodes { map tree_at nodes.now ≡ every_node (file_of program.now) }
+    requires plain { plain.now ≡ every_plain (file_of program.now) }
     ensures { IfOk result (λ names. names.items ≡ uses (file_of program.now)) }
 {
     let mut names = Vec::new(alloc);
@@ -231,24 +242,24 @@ pub(crate) fn uses(
     put_functions(&program.functions, &mut names)?;
     put_all_local_names(statements, &mut names)?;
     put_labels(statements, &mut names)?;
-    put_plain_names(nodes, &mut names)?;
+    put_plain_names(program, plain, &mut names)?;
     Ok(names)
 }
 
-/// All names of a program. Those of `uses` are there.
+/// All names of a program. Those of `uses` are there, and these are its calls.
 pub(crate) fn every_name(
     program: &Program,
     used: Vec<Name>,
-    nodes: &[&Expr],
+    calls: &[&Expr],
 ) -> Result<Vec<Name>, AllocError>
     requires uses { used.items ≡ uses (file_of program.now) }
-    requires nodes { map tree_at nodes.now ≡ every_node (file_of program.now) }
+    requires calls { map tree_at calls.now ≡ every_call (file_of program.now) }
     ensures { IfOk result (λ names. names.items ≡ every_name (file_of program.now)) }
 {
     let mut names = used;
     put_prototype_names(&program.protos, &mut names)?;
     put_function_names(&program.functions, &mut names)?;
-    put_called_names(nodes, &mut names)?;
+    put_callees(program, calls, &mut names)?;
     Ok(names)
 }
 

@@ -5,6 +5,8 @@ ghost use Rattle.cw_syntax.specs.Trees.{file_of};
 ghost use Rattle.cw_scope.specs.Rules.{least, wrong_arity, function_name, defined_call, main_call, reserved, loose_jump};
 ghost use Rattle.cw_scope.specs.Held.{placed_of, tree_at};
 ghost use Rattle.cw_scope.specs.Known.{IsKnown};
+ghost use Rattle.cw_scope.specs.Mentions.{every_call};
+ghost use Rattle.cw_scope.specs.Walks.{every_node};
 
 use crate::functions::Functions;
 use crate::rules;
@@ -13,15 +15,24 @@ use crate::walks::Placed;
 use cw_syntax::program::{Expr, Name};
 
 #[tactic(auto, using(crate::proofs::Lesser::sooner_assoc))]
-pub(crate) fn wrong_arities(known: &Functions, nodes: &[&Expr]) -> Option<u32>
+fn wrong_arities(known: &Functions, calls: &[&Expr]) -> Option<u32>
     requires known { IsKnown known.now }
-    ensures { result ≡ least (map (wrong_arity known.now.source.now (file_of known.now.program.now)) (map tree_at nodes.now)) }
+    ensures { result ≡ least (map (wrong_arity known.now.source.now (file_of known.now.program.now)) (map tree_at calls.now)) }
 {
     let mut place = None;
-    for e in nodes {
+    for e in calls {
         place = sooner(place, rules::wrong_arity(known, e));
     }
     place
+}
+
+/// That of a program, whose calls these are.
+pub(crate) fn wrong_arity(known: &Functions, calls: &[&Expr]) -> Option<u32>
+    requires known { IsKnown known.now }
+    requires calls { map tree_at calls.now ≡ every_call (file_of known.now.program.now) }
+    ensures { result ≡ least (map (wrong_arity known.now.source.now (file_of known.now.program.now)) (every_node (file_of known.now.program.now))) }
+{
+    wrong_arities(known, calls)
 }
 
 #[tactic(auto, using(crate::proofs::Lesser::sooner_assoc))]
@@ -49,14 +60,22 @@ pub(crate) fn defined_calls(known: &Functions, nodes: &[&Expr]) -> Option<u32>
 }
 
 #[tactic(auto, using(crate::proofs::Lesser::sooner_assoc))]
-pub(crate) fn main_calls(source: &[u8], nodes: &[&Expr]) -> Option<u32>
-    ensures { result ≡ least (map (main_call source.now) (map tree_at nodes.now)) }
+fn main_calls(source: &[u8], calls: &[&Expr]) -> Option<u32>
+    ensures { result ≡ least (map (main_call source.now) (map tree_at calls.now)) }
 {
     let mut place = None;
-    for e in nodes {
+    for e in calls {
         place = sooner(place, rules::main_call(source, e));
     }
     place
+}
+
+/// That of a program, whose calls these are.
+pub(crate) fn main_call(known: &Functions, calls: &[&Expr]) -> Option<u32>
+    requires calls { map tree_at calls.now ≡ every_call (file_of known.now.program.now) }
+    ensures { result ≡ least (map (main_call known.now.source.now) (every_node (file_of known.now.program.now))) }
+{
+    main_calls(known.source, calls)
 }
 
 #[tactic(auto, using(crate::proofs::Lesser::sooner_assoc))]

@@ -1,6 +1,6 @@
 //! The scope rules, each for one thing that stands in a program.
 
-ghost use Rattle.std.specs.Prelude.{◌≡◌, [], map, IfOk, length, nat_lt, codes};
+ghost use Rattle.std.specs.Prelude.{◌≡◌, [], true, false, map, IfOk, length, nat_lt, codes};
 ghost use Rattle.std.specs.List.{list_any};
 ghost use Rattle.std.specs.Option.{option_map};
 ghost use Rattle.cw_syntax.specs.Names.{text};
@@ -175,11 +175,22 @@ fn is_reserved(name: &[u8]) -> bool
     }
 }
 
+/// Whether a name is shorter than `cw_`.
+#[tactic(auto, using(crate::proofs::Beginnings::unreserved))]
+fn is_short(_source: &[u8], name: Name) -> bool
+    ensures { result ≡ true → is_reserved (text _source.now name) ≡ false }
+{
+    name.to.saturating_sub(name.from) < 3
+}
+
 /// A name that begins with `cw_` or `CW_`.
 pub(crate) fn reserved(source: &[u8], name: Name) -> Option<u32>
     ensures { result ≡ reserved source.now name }
 {
-    at_if(is_reserved(text(source, name)), name.from)
+    at_if(
+        !is_short(source, name) && is_reserved(text(source, name)),
+        name.from,
+    )
 }
 
 /// A `break` or `continue` that stands in no loop.

@@ -4,8 +4,11 @@ ghost use Rattle.std.specs.Prelude.{◌≡◌, ◌++◌, map, IfOk};
 ghost use Rattle.cw_syntax.specs.Trees.{tree_of, trees_of, statement_of, statements_of};
 ghost use Rattle.cw_scope.specs.Walks.{nodes, nodes_in, placed, placed_all};
 ghost use Rattle.cw_scope.specs.Held.{placed_of, tree_at};
+ghost use Rattle.cw_scope.specs.Mentions.{own_name, own_call, names_at, names_all, calls_at, calls_all};
 
-use cw_syntax::program::{Expr, Stmt, What};
+use crate::names::plain_name;
+use crate::rules::is_call;
+use cw_syntax::program::{Expr, Name, Stmt, What};
 use std::alloc::AllocError;
 
 /// A statement, and whether it stands in a loop.
@@ -38,6 +41,61 @@ pub(crate) fn put_parts<'p>(parts: &'p [Expr], out: &mut Vec<&'p Expr>) -> Resul
 {
     for e in parts {
         put_nodes(e, out)?;
+    }
+    Ok(())
+}
+
+/// Appends the name that an expression is.
+fn put_name(e: &Expr, out: &mut Vec<Name>) -> Result<(), AllocError>
+    ensures { IfOk result (λ _. out.new.items ≡ out.old.items ++ own_name (tree_of e.now)) }
+{
+    match plain_name(e) {
+        None => Ok(()),
+        Some(name) => {
+            out.push(name)?;
+            Ok(())
+        }
+    }
+}
+
+/// Appends an expression that is a call.
+fn put_call<'p>(e: &'p Expr, out: &mut Vec<&'p Expr>) -> Result<(), AllocError>
+    ensures { IfOk result (λ _. map tree_at out.new.items ≡ map tree_at out.old.items ++ own_call (tree_of e.now)) }
+{
+    if !is_call(e) {
+        return Ok(());
+    }
+    out.push(e)?;
+    Ok(())
+}
+
+/// Appends the plain names and the calls of an expression, in the order of `put_nodes`.
+#[cycle(mentions)]
+pub(crate) fn put_mentions<'p>(
+    e: &'p Expr,
+    names: &mut Vec<Name>,
+    calls: &mut Vec<&'p Expr>,
+) -> Result<(), AllocError>
+    ensures names { IfOk result (λ _. names.new.items ≡ names.old.items ++ names_at (tree_of e.now)) }
+    ensures calls { IfOk result (λ _. map tree_at calls.new.items ≡ map tree_at calls.old.items ++ calls_at (tree_of e.now)) }
+{
+    put_name(e, names)?;
+    put_call(e, calls)?;
+    put_all_mentions(&e.parts, names, calls)
+}
+
+/// Appends the plain names and the calls of these expressions.
+#[cycle(mentions)]
+fn put_all_mentions<'p>(
+    parts: &'p [Expr],
+    names: &mut Vec<Name>,
+    calls: &mut Vec<&'p Expr>,
+) -> Result<(), AllocError>
+    ensures names { IfOk result (λ _. names.new.items ≡ names.old.items ++ names_all (trees_of parts.now)) }
+    ensures calls { IfOk result (λ _. map tree_at calls.new.items ≡ map tree_at calls.old.items ++ calls_all (trees_of parts.now)) }
+{
+    for e in parts {
+        put_mentions(e, names, calls)?;
     }
     Ok(())
 }

@@ -4,4 +4,4 @@ use Rattle.cw_scope.specs.Held.{tree_at}
 use Rattle.cw_scope.proofs.places.main_calls.Given as goal
 
 abbrev pub invariant-loop-e : goal.invariant-loop-e
-invariant-loop-e l = sooner l.place (least (map (main_call l.source) (map tree_at (drop l.e-index l.nodes)))) ≡ least (map (main_call l.source) (map tree_at l.nodes))
+invariant-loop-e l = sooner l.place (least (map (main_call l.source) (map tree_at (drop l.e-index l.calls)))) ≡ least (map (main_call l.source) (map tree_at l.calls))

@@ -5,5 +5,5 @@ use Rattle.cw_scope.specs.Held.{tree_at}
 use Rattle.cw_scope.proofs.places.wrong_arities.Given as goal
 
 abbrev pub invariant-loop-e : goal.invariant-loop-e
-invariant-loop-e l = sooner l.place (least (map (wrong_arity l.known.source.now (file_of l.known.program.now)) (map tree_at (drop l.e-index l.nodes)))) ≡ least
-    (map (wrong_arity l.known.source.now (file_of l.known.program.now)) (map tree_at l.nodes))
+invariant-loop-e l = sooner l.place (least (map (wrong_arity l.known.source.now (file_of l.known.program.now)) (map tree_at (drop l.e-index l.calls)))) ≡ least
+    (map (wrong_arity l.known.source.now (file_of l.known.program.now)) (map tree_at l.calls))

@@ -1,0 +1,30 @@
+use Rattle.std.proofs.Common.{◌≡◌, ◌++◌, map, ap, ap₂, sym, ◌∙◌, subst}
+use Rattle.std.specs.Result.{IfOk}
+use Rattle.std.proofs.lemmas.List.{append_assoc}
+use Rattle.cw_syntax.specs.declared.program.Expr.{out-Expr}
+use Rattle.cw_syntax.specs.Trees.{tree_of, trees_of}
+use Rattle.cw_scope.specs.Held.{tree_at}
+use Rattle.cw_scope.specs.Mentions.{own_name, own_call, names_all, calls_all}
+use Rattle.cw_scope.proofs.Mentioned.{names_of, calls_of}
+use Rattle.cw_scope.proofs.walks.+mentions.Goals as goal
+
+pub put_mentions-returns : goal.put_mentions-returns
+put_mentions-returns t c =
+    let e = c.args.e.now in
+    let parts = (out-Expr e).parts.items in
+    let old_names = c.args.names.now.items in
+    let old_calls = map tree_at c.args.calls.now.items in
+    let names =
+    ap₂ (λ l ps. l ++ names_all (trees_of ps)) c.in_ok-put_name.ensures c.deref.ensures.value
+    ∙ append_assoc old_names (own_name (tree_of e)) (names_all (trees_of parts))
+    ∙ ap (λ l. old_names ++ l) (sym (names_of e))
+    in
+    let calls =
+    ap₂ (λ l ps. l ++ calls_all (trees_of ps)) c.in_ok-put_call.ensures c.deref.ensures.value
+    ∙ append_assoc old_calls (own_call (tree_of e)) (calls_all (trees_of parts))
+    ∙ ap (λ l. old_calls ++ l) (sym (calls_of e))
+    in
+    record {
+      names = subst (λ l. IfOk c.put_all_mentions.result (λ _. c.put_all_mentions.new.names.items ≡ l)) names c.put_all_mentions.ensures.names;
+      calls = subst (λ l. IfOk c.put_all_mentions.result (λ _. map tree_at c.put_all_mentions.new.calls.items ≡ l)) calls c.put_all_mentions.ensures.calls;
+    }
