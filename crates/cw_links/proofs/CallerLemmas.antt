@@ -70,7 +70,7 @@ Once-from_IsDistinct (x ∷ xs) o = (absent_all x xs o.0, Once-from_IsDistinct x
 true_either : (a b : Bool) → b ≡ true → cond a true b ≡ true
 true_either a b e = grind arith
 
-has_concat_list : (ms : List (List ℕ)) (h y : ℕ) → has (list_at ms h) y ≡ true → has (concat ms) y ≡ true
+pub has_concat_list : (ms : List (List ℕ)) (h y : ℕ) → has (list_at ms h) y ≡ true → has (concat ms) y ≡ true
 has_concat_list [] h y k = absurd (false≢true k)
 has_concat_list (xs ∷ ms) zero y k = has-append xs (concat ms) y ∙ rw k refl
 has_concat_list (xs ∷ ms) (suc h) y k = has-append xs (concat ms) y ∙ true_either (has xs y) (has (concat ms) y) (has_concat_list ms h y k)

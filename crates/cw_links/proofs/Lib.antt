@@ -7,3 +7,4 @@ pub mod CallerLemmas
 pub mod Piles
 pub mod Stacks
 pub mod Moved
+pub mod Entries

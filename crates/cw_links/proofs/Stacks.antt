@@ -9,6 +9,7 @@ use Rattle.cw_links.specs.Lists.{list_at, without, with_front, AreApart}
 use Rattle.cw_links.specs.Queues.{waiting, stacks_of, AreNone, Puts, Takes, IsQueue}
 use Rattle.cw_links.specs.Rows.{has, Once}
 use Rattle.cw_links.proofs.CallerLemmas.{length-without, length-with_front, list_at-without, list_at-with_front_other, same_list, Once-from_IsDistinct}
+use Rattle.cw_links.proofs.Entries.{others_of_first, entries_of_moved, entries_of_spared}
 use Rattle.cw_links.proofs.Moved.{moved, moved_here}
 use Rattle.cw_links.proofs.Rows.{less, has-less_same, less_absent, has-first, absent_tail, Once-append_left, Once-append_right}
 
@@ -66,6 +67,25 @@ none_at : (els : List ℕ) (ls : List (List ℕ)) (k : ℕ) → k ≡ 0 → list
 none_at els [] k e = refl
 none_at els (xs ∷ ls) zero e = refl
 none_at els (xs ∷ ls) (suc k) e = absurd (omega (arith, e))
+
+zero_more : (els : List ℕ) (k : ℕ) → slice_index (els ++ 0 ∷ []) k ≡ slice_index els k
+zero_more [] zero = refl
+zero_more [] (suc k) = refl
+zero_more (x ∷ els) zero = refl
+zero_more (x ∷ els) (suc k) = zero_more els k
+
+zero_more_in : (els : List ℕ) (xs : List ℕ) → map (slice_index (els ++ 0 ∷ [])) xs ≡ map (slice_index els) xs
+zero_more_in els [] = refl
+zero_more_in els (x ∷ xs) = rw (zero_more els x, zero_more_in els xs) refl
+
+zero_more_under : (els : List ℕ) (ls : List (List ℕ)) → map (map (slice_index (els ++ 0 ∷ []))) ls ≡ map (map (slice_index els)) ls
+zero_more_under els [] = refl
+zero_more_under els (xs ∷ ls) = rw (zero_more_in els xs, zero_more_under els ls) refl
+
+-- a spare entry more, whose element is 0, waits under no key
+pub spare_more : (els : List ℕ) (ls : List (List ℕ)) (c : ℕ) → 0 < length ls → stacks_of (els ++ 0 ∷ []) (with_front ls 0 c) ≡ stacks_of els ls
+spare_more els [] c some = absurd (omega (arith, some))
+spare_more els (xs ∷ ls) c some = ap (λ (ss : List (List ℕ)). [] ∷ ss) (zero_more_under els ls)
 
 -- stacks are the same where the lists are, but for spare entries
 same_stack : (els fs : List ℕ) (ls ms : List (List ℕ)) (k : ℕ) → (0 < k → map (slice_index fs) (list_at ms k) ≡ map (slice_index els) (list_at ls k))
@@ -134,10 +154,11 @@ module _ (els : List ℕ) (ls : List (List ℕ)) (n c key v : ℕ) (within : c <
         ∙ map-absent els c v (list_at ls k) (absent k at));
   }
 
-  pub puts_queue : (floor : ℕ) → 0 < floor → ((k : ℕ) → k < floor → list_at (stacks_of els ls) k ≡ [])
+  pub puts_queue : (floor : ℕ) → 0 < floor → length (concat (without ls c)) + 1 ≡ length els → ((k : ℕ) → k < floor → list_at (stacks_of els ls) k ≡ [])
       → IsQueue (with_front (without (ls ++ replicate n []) c) key c) (length els) (set els c v) (min floor key)
-  puts_queue floor above lowest = record {
+  puts_queue floor above others lowest = record {
     known = sym (length-set els c v);
+    filled = entries_of_moved ls n key c (length els) there others;
     some = omega (arith, there, length-with_front (without (ls ++ replicate n []) c) key c, length-without (ls ++ replicate n []) c);
     above = omega (arith, above, some);
     lowest = λ k lt. puts_stack.others k (λ e. omega (arith, e, lt)) ∙ lowest k (omega (arith, lt));
@@ -176,6 +197,7 @@ module _ (els : List ℕ) (ls : List (List ℕ)) (cells floor c key : ℕ) (q : 
   pub takes_queue : IsQueue (with_front (without ls c) 0 c) cells els key
   takes_queue = record {
     known = q.known;
+    filled = entries_of_spared ls c cells q.some (others_of_first ls cells key c apart first ∙ q.filled);
     some = omega (arith, q.some, length-with_front (without ls c) 0 c, length-without ls c);
     above = omega (arith, q.above, from);
     lowest = λ k lt. sym (takes_stack.undone.others k (λ e. omega (arith, e, lt))) ∙ takes_stack.least k lt;
@@ -197,6 +219,7 @@ none_left els ls cells floor q none k =
 pub none_above : (els : List ℕ) (ls : List (List ℕ)) (cells floor : ℕ) → IsQueue ls cells els floor → ((h : ℕ) → floor ≤ h → list_at ls h ≡ []) → IsQueue ls cells els (length ls)
 none_above els ls cells floor q none = record {
   known = q.known;
+  filled = q.filled;
   some = q.some;
   above = q.some;
   lowest = λ k lt. none_left els ls cells floor q none k;

@@ -27,9 +27,10 @@ abbrev pub stacks_of : (elements : List ℕ) → (lists : List (List ℕ)) → L
 stacks_of elements [] = []
 stacks_of elements (spare ∷ lists) = [] ∷ map (map (slice_index elements)) lists
 
--- each entry has an element, and nothing waits below the floor
+-- each entry has an element and stands in a list, and nothing waits below the floor
 pub record IsQueue (lists : List (List ℕ)) (entries : ℕ) (elements : List ℕ) (floor : ℕ) : Type 0 where
   pub known : entries ≡ length elements
+  pub filled : length (concat lists) ≡ entries
   pub some : 0 < length lists
   pub above : 0 < floor
   pub lowest : (key : ℕ) → key < floor → list_at (stacks_of elements lists) key ≡ []

@@ -1,6 +1,7 @@
 //! Elements that wait under keys, the least key first.
-ghost use Rattle.std.specs.Prelude.{◌≡◌, ℕ, ◌<◌, ◌↔◌, length, IsNone, IfOk, OnOk, OnErr, IfSome, IfNone, false};
-ghost use Rattle.cw_links.specs.Lists.{list_at};
+ghost use Rattle.std.specs.Prelude.{◌≡◌, ℕ, ◌+◌, ◌<◌, ◌↔◌, length, IsNone, IfOk, OnOk, OnErr, IfSome, IfNone, false};
+ghost use Rattle.std.specs.List.{concat};
+ghost use Rattle.cw_links.specs.Lists.{list_at, without};
 ghost use Rattle.cw_links.specs.Queues.{AreNone, Puts, Takes, stacks_of};
 ghost use Rattle.cw_links.specs.Rows.{has};
 
@@ -85,13 +86,17 @@ impl Queue {
     }
 }
 
-/// A spare entry, which is made if there is none.
+/// A spare entry, which is made where there is none. It stands in a list, as each of the others does.
 fn spare_entry(links: &mut Links, elements: &mut Vec<u32>) -> Result<u32, NoMemory>
     requires known { links.old.cells ≡ length elements.old.items }
+    requires filled { length (concat links.old.lists) ≡ links.old.cells }
     requires some { 0 < length links.old.lists }
     ensures within { IfOk result (λ entry. entry < links.new.cells) }
     ensures unkeyed { IfOk result (λ entry. (key : ℕ) → 0 < key → has (list_at links.new.lists key) entry ≡ false) }
+    ensures others { IfOk result (λ entry. length (concat (without links.new.lists entry)) + 1 ≡ links.new.cells) }
+    ensures reused { 0 < length (list_at links.old.lists 0) → links.new.cells ≡ links.old.cells }
     ensures known { links.new.cells ≡ length elements.new.items }
+    ensures filled { length (concat links.new.lists) ≡ links.new.cells }
     ensures lists { length links.new.lists ≡ length links.old.lists }
     ensures kept { stacks_of elements.new.items links.new.lists ≡ stacks_of elements.old.items links.old.lists }
 {

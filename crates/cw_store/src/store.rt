@@ -86,21 +86,25 @@ impl Store {
         }
     }
 
-    /// Has the cell at a place wait under a key, unless it waits under a lower one.
+    /// Has the cell at a place wait under a key, unless it waits under a lower one. The one error is want of memory, which changes
+    /// nothing.
     pub fn ask_cell(&mut self, place: usize, key: u32) -> Result<(), NoMemory>
         requires within { place < length self.old.marks }
         requires some { 0 < key }
-        ensures { OnOk result (self.new ≡ with_asked self.old (lowered self.old.asked place key)) }
+        ensures asked { OnOk result (self.new ≡ with_asked self.old (lowered self.old.asked place key)) }
+        ensures refused { OnErr result (self.new ≡ self.old) }
     {
         self.keys.ask_cell(place, key)?;
         Ok(())
     }
 
-    /// Has the link at a place wait under a key, unless it waits under a lower one.
+    /// Has the link at a place wait under a key, unless it waits under a lower one. The one error is want of memory, which changes
+    /// nothing.
     pub fn ask_link(&mut self, place: usize, key: u32) -> Result<(), NoMemory>
         requires marked { is_marked self.old.marks place ≡ true }
         requires some { 0 < key }
-        ensures { OnOk result (self.new ≡ with_due self.old (lowered self.old.due place key)) }
+        ensures asked { OnOk result (self.new ≡ with_due self.old (lowered self.old.due place key)) }
+        ensures refused { OnErr result (self.new ≡ self.old) }
     {
         let link = self.marks.rank(place) as usize;
         self.keys.ask_link(link, key)?;

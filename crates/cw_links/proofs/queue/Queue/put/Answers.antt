@@ -15,6 +15,7 @@ invariant_of-self-2 c =
     rw (c.move_to.ensures.lists, c.move_to.ensures.cells, c.in_ok-reach.ensures.lists, c.reach.ensures.cells, c.spare_entry.ensures.known, c.min-self-inside.ensures)
     (puts_queue els ls (c.args.key + 1 - length ls) c.in_ok-entry.entry c.args.key c.args.element (omega (arith, c.in_ok-entry.ensures.within, c.spare_entry.ensures.known)) c.requires
     (there ls c.args.key) c.in_ok-entry.ensures.unkeyed c.self.inside.floor c.self.invariant.above
+    (c.in_ok-entry.ensures.others ∙ c.spare_entry.ensures.known)
     (λ k lt. ap (λ (ss : List (List ℕ)). list_at ss k) c.spare_entry.ensures.kept ∙ c.self.invariant.lowest k lt))
 
 pub returns-clause-put : goal.returns-clause-put

@@ -13,8 +13,8 @@ ask_link-requires-clause-within c =
     let below = rank_below s.marks c.args.place marked in
     omega (arith, below, c.rank-link.ensures, c.self.invariant.keys_of_links)
 
-pub returns : goal.returns
-returns c =
+pub returns-clause-asked : goal.returns-clause-asked
+returns-clause-asked c =
     let s = c.self.inside in
     let marked : is_marked s.marks c.args.place ≡ true = ap (λ (v : Stored). is_marked v.marks c.args.place) c.self.view_is ∙ c.requires.marked in
     let due : spread s.marks c.ask_link.new.self.due ≡ lowered (spread s.marks s.keys.due) c.args.place c.args.key
