@@ -1,5 +1,6 @@
 pub mod Cuts
 pub mod Fields
+mod Finding
 pub mod Free
 pub mod Names
 pub mod OneSet

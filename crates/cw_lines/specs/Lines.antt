@@ -1,5 +1,5 @@
 -- What lines are made of: words with a mark between each two, numbers and sets as words.
-use Rattle.std.specs.Prelude.{◌≡◌, ◌≢◌, ℕ, ◌==◌, false, if◌then◌else◌, List, ◌∷◌, ◌++◌, codes, Option, IfSome, IfNone}
+use Rattle.std.specs.Prelude.{◌≡◌, ◌≢◌, ℕ, ◌==◌, false, if◌then◌else◌, List, ◌∷◌, ◌++◌, drop, codes, Option, IfSome, IfNone}
 use Rattle.std.specs.List.{All, join_with_byte, slice_split}
 use Rattle.cw_core.specs.Numerals.{hexadecimal}
 use Rattle.cw_core.specs.Ranges.{set_spelling}
@@ -34,7 +34,8 @@ pub record Reads {A W : Type 0} (Fits : A → Type 0) (text_of : A → W) (word 
   pub some : IfSome result (λ value. Fits value × (text_of value ≡ word))
   pub none : IfNone result ((value : A) → Fits value → text_of value ≢ word)
 
--- the same of the first of some words, which is taken
+-- the same of the first of some words, which is taken; where it is none, that word is passed over, if there is one
 pub record Takes {A : Type 0} (Fits : A → Type 0) (text_of : A → List ℕ) (old new : List (List ℕ)) (result : Option A) : Type 0 where
   pub some : IfSome result (λ value. Fits value × (old ≡ text_of value ∷ new))
   pub none : IfNone result ((value : A) (rest : List (List ℕ)) → Fits value → old ≢ text_of value ∷ rest)
+  pub left : IfNone result (new ≡ drop 1 old)

@@ -3,6 +3,8 @@
 ghost use Rattle.std.specs.Prelude.{◌≡◌, ◌++◌, ◌∷◌, IfSome, IfNone};
 ghost use Rattle.cw_lines.specs.Lines.{IsFree};
 
+use memchr::memchr;
+
 /// What stands before the first mark of a text, and what stands after it; none where the text has no mark.
 pub fn cut(text: &[u8], mark: u8) -> Option<(&[u8], &[u8])>
     ensures parts { IfSome result (λ (front, rest). text.now ≡ front.now ++ (mark ∷ rest.now)) }
@@ -19,5 +21,7 @@ pub fn next_line(text: &[u8]) -> Option<(&[u8], &[u8])>
     ensures first { IfSome result (λ (line, _). IsFree 10 line.now) }
     ensures none { IfNone result (IsFree 10 text.now) }
 {
-    cut(text, b'\n')
+    // Lines are long beside words, so their end is searched many bytes at a time.
+    let at = memchr(b'\n', text)?;
+    Some((&text[..at], &text[at + 1..]))
 }

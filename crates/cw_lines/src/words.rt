@@ -42,6 +42,7 @@ impl<'t> Words<'t> {
     pub fn take(&mut self) -> Option<&'t [u8]>
         ensures some { IfSome result (λ word. self.old ≡ word.now ∷ self.new) }
         ensures none { IfNone result (self.old ≡ []) }
+        ensures left { IfNone result (self.new ≡ self.old) }
     {
         if !self.more {
             return None;

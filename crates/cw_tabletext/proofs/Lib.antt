@@ -5,6 +5,7 @@ pub mod Pieces
 pub mod Same
 pub mod Faults
 pub mod HeadLines
+mod LiveLines
 pub mod OneAnswer
 pub mod PlainLimits
 pub mod SomeAnswer

@@ -64,6 +64,13 @@ impl Draft {
         self.tries.is_empty() && self.ats.is_empty() && self.has_none_from_opened()
     }
 
+    /// Whether a live row may stand behind the rows that the table has.
+    pub(crate) fn is_next_live(&self, pair: &(PosId, MemId)) -> bool
+        ensures { result ≡ is_next (table_of self.now) (Row.Live pair.now) }
+    {
+        is_above(&self.live, pair) && self.has_none_from_tries()
+    }
+
     /// Whether a row may stand behind those that the table has.
     pub(crate) fn is_next(&self, row: &Row) -> bool
         ensures { result ≡ is_next (table_of self.now) row.now }
@@ -75,7 +82,7 @@ impl Draft {
                     && self.live.is_empty()
                     && self.has_none_from_tries()
             }
-            Row::Live(pair) => is_above(&self.live, pair) && self.has_none_from_tries(),
+            Row::Live(pair) => self.is_next_live(pair),
             Row::Try(row) => {
                 is_above(&self.tries, row) && self.ats.is_empty() && self.has_none_from_opened()
             }
@@ -89,13 +96,21 @@ impl Draft {
         }
     }
 
+    /// Appends a live row.
+    pub(crate) fn push_live(&mut self, pair: (PosId, MemId)) -> Result<(), NoMemory>
+        ensures { OnOk result (table_of self.new ≡ with_row (table_of self.old) (Row.Live pair)) }
+    {
+        self.live.push(pair)?;
+        Ok(())
+    }
+
     /// Appends a row to the list of its kind.
     pub(crate) fn push(&mut self, row: Row) -> Result<(), NoMemory>
         ensures { OnOk result (table_of self.new ≡ with_row (table_of self.old) row) }
     {
         match row {
             Row::Memory(_, memory) => self.mems.push(memory)?,
-            Row::Live(pair) => self.live.push(pair)?,
+            Row::Live(pair) => self.push_live(pair)?,
             Row::Try(row) => self.tries.push(row)?,
             Row::At(row) => self.ats.push(row)?,
             Row::Opened(row) => self.opened.push(row)?,

@@ -1,6 +1,6 @@
 //! The lines before the rows of a table.
 
-ghost use Rattle.std.specs.Prelude.{◌≡◌, ◌≢◌, ℕ, List, ◌++◌, IfSome, IfNone, codes, IfOk};
+ghost use Rattle.std.specs.Prelude.{◌≡◌, IfOk};
 ghost use Rattle.cw_rights.specs.Policies.{policy_of};
 ghost use Rattle.cw_lines.specs.Lines.{line, Reads};
 ghost use Rattle.cw_text.specs.LimitsText.{limits_line};
@@ -9,7 +9,7 @@ ghost use Rattle.cw_tabletext.specs.Working.{head_fields, table_of, FitsHead, He
 
 use crate::draft::Draft;
 use crate::fields::take_mem;
-use crate::line::{is_same, name_and_inner};
+use crate::line::{behind, is_same, name_and_inner};
 use cw_core::{MemId, NoMemory};
 use cw_io::SureSink;
 use cw_lines::{TextFault, Words, next_line};
@@ -17,21 +17,6 @@ use cw_pieces::Writer;
 use cw_rights::Policy;
 use cw_text::put_limits;
 use std::alloc::Global;
-
-/// What follows a front of a text; none where the text has another front.
-fn behind<'t>(text: &'t [u8], front: &[u8]) -> Option<&'t [u8]>
-    ensures some { IfSome result (λ rest. text.now ≡ front.now ++ rest.now) }
-    ensures none { IfNone result ((rest : List ℕ) → text.now ≢ front.now ++ rest) }
-{
-    if text.len() < front.len() {
-        return None;
-    }
-    let (head, rest) = text.split_at(front.len());
-    if !is_same(head, front) {
-        return None;
-    }
-    Some(rest)
-}
 
 /// The line of a policy's limits, with its LF, put into a sink in memory.
 fn limits_of(alloc: Global, policy: &Policy) -> Result<SureSink, NoMemory>

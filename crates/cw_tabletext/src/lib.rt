@@ -7,6 +7,7 @@ mod head;
 mod keys;
 pub mod laws;
 mod line;
+mod live;
 mod reading;
 mod row;
 mod rows;

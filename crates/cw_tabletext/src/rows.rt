@@ -6,11 +6,12 @@ ghost use Rattle.cw_tabletext.specs.Working.{table_of, IsGood, IsEmpty, RowsRead
 
 use crate::draft::Draft;
 use crate::line::{is_same, read_row};
+use crate::live::next_live;
 use crate::row::Row;
 use cw_lines::{TextFault, next_line};
 
 /// The most rows that a text has.
-const MOST_ROWS: u32 = 65_536;
+pub(crate) const MOST_ROWS: u32 = 65_536;
 
 /// What comes next in the text of a table, and what is left behind it.
 pub(crate) enum Next<'t> {
@@ -62,13 +63,19 @@ pub(crate) fn read_rows<'t>(
     let mut rest = text;
     let mut count = 0;
     'rows: loop {
-        match next_row(rest, format, count, draft) {
-            Err(fault) => return Err(fault),
-            Ok(Next::Done(after)) => return Ok((count, after)),
-            Ok(Next::Row(row, after)) => {
-                draft.push(row)?;
-                count += 1;
-                rest = after;
+        if let Some((pair, after)) = next_live(rest, count, draft) {
+            draft.push_live(pair)?;
+            count += 1;
+            rest = after;
+        } else {
+            match next_row(rest, format, count, draft) {
+                Err(fault) => return Err(fault),
+                Ok(Next::Done(after)) => return Ok((count, after)),
+                Ok(Next::Row(row, after)) => {
+                    draft.push(row)?;
+                    count += 1;
+                    rest = after;
+                }
             }
         }
     }

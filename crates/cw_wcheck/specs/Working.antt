@@ -1,5 +1,5 @@
 -- Working definitions: what the parts of the checker say of one row.
-use Rattle.std.specs.Prelude.{◌≡◌, ℕ, ◌<◌, ◌&&◌, true, false, Bool, Option, Some, None, nat_eq, slice_get, length}
+use Rattle.std.specs.Prelude.{◌≡◌, ℕ, ◌<◌, ◌&&◌, true, false, Bool, cond, Option, Some, None, nat_eq, slice_get, length}
 use Rattle.cw_core.specs.declared.ids.PosId.{PosId}
 use Rattle.cw_core.specs.declared.ids.MemId.{MemId}
 use Rattle.cw_core.specs.declared.ids.StateId.{StateId}
@@ -23,6 +23,10 @@ takes_pair t e m (Some pair) = leads_if t pair.0 m pair.1 e
 abbrev pub lands_live : Table → ℕ → Option (ℕ × ℕ) → Bool
 lands_live t m None = true
 lands_live t m (Some pair) = is_live t pair.0 m
+
+-- the condition that fails where a step leads to this position, if one does
+abbrev pub step_fault : Table → ℕ → ℕ → Option ℕ
+step_fault t next m = cond (is_live t next m) None (Some 6)
 
 -- the row's position is one of the game's, with what stands there, and its state is one of the game's
 pub record IsRowOf (g : Game) (r : LiveRow) : Type 0 where

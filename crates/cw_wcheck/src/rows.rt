@@ -7,7 +7,7 @@ ghost use Rattle.cw_certs.specs.declared.moves.Move.TheVariants as Move;
 ghost use Rattle.cw_game.specs.Games.{bad_in, leads_in, resumed_in};
 ghost use Rattle.cw_game.specs.Conditions.{first_failing, live_by, live_conditions, visits_on, takes, takes_on, takes_answers, answers_on, is_passing, moves_by, moves_on, keeps_promise, calls_on, returns_on};
 ghost use Rattle.cw_game.specs.Pairs.{call_in};
-ghost use Rattle.cw_wcheck.specs.Working.{IsRowOf, MeanStates, lands_live};
+ghost use Rattle.cw_wcheck.specs.Working.{IsRowOf, MeanStates, lands_live, step_fault};
 
 use crate::calls::{calls_on, returns_on};
 use crate::memories::{is_live_near, is_promised, meaning, memory_after, takes, takes_on};
@@ -208,6 +208,17 @@ fn condition_of(game: &Game, cert: &WeaverCert, row: &LiveRow) -> Option<u8>
     None
 }
 
+/// The same at a step, where most rows stand: a step keeps the memory and what it means, so the row behind it alone is asked for.
+fn step_fault(cert: &WeaverCert, near: usize, next: PosId, mem: MemId) -> Option<u8>
+    ensures { result ≡ step_fault cert.now next.0 mem.0 }
+{
+    if is_live_near(cert, near, next, mem) {
+        None
+    } else {
+        Some(6)
+    }
+}
+
 /// The number of the first condition from the third on that fails of a position and a memory, before this place of the list of live
 /// rows; None where the memory isn't there.
 pub fn failing_condition(
@@ -221,14 +232,18 @@ pub fn failing_condition(
     requires mems { MeanStates (game_of game.now) cert.now }
     ensures { result ≡ first_failing (live_by (game_of game.now) cert.now pos.0 mem.0 (slice_get cert.now.mems mem.0)) }
 {
-    let (state, promise) = *meaning(cert, mem)?;
+    let (state, promise) = meaning(cert, mem)?;
+    let spot = game.spot(pos);
+    if let Spot::Step(next) = spot {
+        return step_fault(cert, near, PosId(next), mem);
+    }
     let row = LiveRow {
         near,
         pos,
-        spot: game.spot(pos),
+        spot,
         mem,
-        state,
-        promise,
+        state: *state,
+        promise: *promise,
     };
     condition_of(game, cert, &row)
 }
