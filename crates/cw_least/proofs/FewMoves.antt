@@ -8,9 +8,9 @@ use Rattle.cw_game.specs.declared.spots.Spot.{Spot}
 use Rattle.cw_game.specs.declared.spots.Spot.TheVariants.{Visit, Asked, Step, Branch, Label, Open, Close, Call, SplitCall, Exit}
 use Rattle.cw_game.specs.Games.{Game}
 use Rattle.cw_product.specs.Moves.{next_in, is_left_in}
+use Rattle.cw_product.specs.MovesAt.{first_move, second_move}
 use Rattle.cw_least.specs.declared.key.Key.{Key}
 use Rattle.cw_least.specs.declared.key.Way.{Way}
-use Rattle.cw_least.specs.Acts.{first_move, second_move}
 use Rattle.cw_least.specs.Strategies.{below, moves, way, sooner, best}
 
 abbrev is_move : Option Spot → Move → Bool

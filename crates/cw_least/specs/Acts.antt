@@ -1,10 +1,6 @@
 -- Working definitions, for proofs and contracts inside: what the code's values stand for, and where it looks a height up.
-use Rattle.std.specs.Prelude.{◌≡◌, ℕ, ◌<◌, List, map, Bool, Option, Some, None, length, slice_get}
-use Rattle.cw_certs.specs.declared.moves.Move.{Move}
-use Rattle.cw_certs.specs.declared.moves.Move.TheVariants.{Skip, Try, Grant, Refuse, On, Left, Right, Opened, Failed}
+use Rattle.std.specs.Prelude.{◌≡◌, ℕ, ◌<◌, List, map, Bool, Some, length, slice_get}
 use Rattle.cw_game.specs.Games.{Game}
-use Rattle.cw_game.specs.declared.spots.Spot.{Spot}
-use Rattle.cw_game.specs.declared.spots.Spot.TheVariants.{Visit, Asked, Branch, Open}
 use Rattle.cw_game.specs.Pairs.{Called, all_states}
 use Rattle.cw_product.specs.Product.{game_of}
 use Rattle.cw_solve.specs.declared.contexts.Context.{Context}
@@ -57,21 +53,6 @@ key_at aim to = record { height = to.height; pos = to.pos.0; state = to.state.0;
 
 abbrev pub way_at : ℕ → Lead → Way
 way_at aim lead = record { by = lead.by; to = key_at aim lead.to }
-
--- the moves that there are where this stands, one or two
-abbrev pub first_move : Option Spot → Move
-first_move (Some (Visit j i a)) = Skip
-first_move (Some (Asked j i a)) = Grant
-first_move (Some (Branch m n)) = Left
-first_move (Some (Open j d n)) = Opened
-first_move _ = On
-
-abbrev pub second_move : Option Spot → Option Move
-second_move (Some (Visit j i a)) = Some Try
-second_move (Some (Asked j i a)) = Some Refuse
-second_move (Some (Branch m n)) = Some Right
-second_move (Some (Open j d n)) = Some Failed
-second_move _ = None
 
 -- how many backs a key's row has
 abbrev pub backs_of : Game → List Key → Key → ℕ

@@ -1,11 +1,10 @@
 //! What is done at a key.
 
-ghost use Rattle.std.specs.Prelude.{◌≡◌, ℕ, ◌<◌, [], List, map, length, slice_get, IfOk, option_map, Some};
-ghost use Rattle.std.specs.List.{cons_option, filter_map, range_with_len};
-ghost use Rattle.cw_product.specs.Moves.{IsPosition};
+ghost use Rattle.std.specs.Prelude.{◌≡◌, ℕ, ◌<◌, [], map, length, IfOk, option_map, Some};
+ghost use Rattle.std.specs.List.{cons_option};
 ghost use Rattle.cw_product.specs.Product.{game_of};
 ghost use Rattle.cw_product.specs.Routed.{AreRouted};
-ghost use Rattle.cw_least.specs.Acts.{act_of, first_move, second_move, key_at, way_at, IsIn, IsCall, returning};
+ghost use Rattle.cw_least.specs.Acts.{act_of, key_at, way_at, IsIn, IsCall, returning};
 ghost use Rattle.cw_solve.specs.Tables.{HasCall};
 ghost use Rattle.cw_least.specs.Kept.{IsKey};
 ghost use Rattle.cw_least.specs.Strategies.{way, sooner, best, moves, after_return, aim_at, backs_at, act};
@@ -15,8 +14,7 @@ use crate::heights::{Lower, below, lower_pair};
 use crate::key::{Key, Way};
 use cw_certs::Move;
 use cw_core::{PosId, StateId, StateSet};
-use cw_game::Spot;
-use cw_product::{Game, Turn};
+use cw_product::Turn;
 use cw_solve::Solved;
 use std::alloc::{AllocError, Global};
 
@@ -41,22 +39,6 @@ pub(crate) enum Act {
 struct Lead {
     by: Move,
     to: Lower,
-}
-
-/// The moves at a position, one or two.
-fn moves_at(game: &Game, pos: PosId) -> (Move, Option<Move>)
-    requires position { IsPosition (game_of game.now) pos.0 }
-    ensures first { result.0 ≡ first_move (slice_get (game_of game.now).spots pos.0) }
-    ensures second { result.1 ≡ second_move (slice_get (game_of game.now).spots pos.0) }
-{
-    match game.spot(pos) {
-        Spot::Visit(_, _, _) => (Move::Skip, Some(Move::Try)),
-        Spot::Asked(_, _, _) => (Move::Grant, Some(Move::Refuse)),
-        Spot::Branch(_, _) => (Move::Left, Some(Move::Right)),
-        Spot::Open(_, _, _) => (Move::Opened, Some(Move::Failed)),
-        Spot::Step(_) | Spot::Label(_, _, _) | Spot::Close(_, _, _) => (Move::On, None),
-        Spot::Call(_, _, _) | Spot::SplitCall(_, _, _) | Spot::Exit(_) => (Move::On, None),
-    }
 }
 
 /// Where a move leads from a key.
@@ -112,7 +94,7 @@ fn best(solved: &Solved, number: u32, key: &Key) -> Option<Lead>
     requires here { IsIn solved.now number key.now.aim key.now.pos key.now.state }
     ensures { option_map (way_at key.now.aim) result ≡ best (game_of solved.now.game) key.now moves }
 {
-    let moves = moves_at(solved.game(), PosId(key.pos));
+    let moves = solved.game().moves(PosId(key.pos));
     sooner(
         lead_by(solved, number, key, moves.0),
         lead_of(solved, number, key, moves.1),

@@ -1,9 +1,8 @@
 //! The contexts of a solved game, looked up.
 
-ghost use Rattle.std.specs.Prelude.{◌≡◌, ◌<◌, length, IsTrue};
+ghost use Rattle.std.specs.Prelude.{◌<◌, length};
 ghost use Rattle.cw_product.specs.Product.{game_of};
 ghost use Rattle.cw_product.specs.Routed.{AreRouted};
-ghost use Rattle.cw_solve.specs.Numbering.{IsNumberOf};
 ghost use Rattle.cw_least.specs.Acts.{IsIn, IsThere};
 ghost use Rattle.cw_least.specs.Heights.{others};
 
@@ -38,21 +37,6 @@ fn entry_of(solved: &Solved, number: u32) -> Entry
         last: solved.game().exit(context.function).0,
         number,
     }
-}
-
-/// Whether this is the number of a context that has a position and a promise.
-fn is_number_of(solved: &Solved, number: u32, pos: PosId, promise: &StateSet) -> bool
-    requires routed { AreRouted (game_of solved.now.game) (length solved.now.game.graph.parts.items) }
-    ensures { IsTrue result → IsNumberOf (game_of solved.now.game) solved.now.contexts number promise.now pos.0 }
-{
-    solved.contexts_are_needed();
-    if number >= solved.contexts() {
-        return false;
-    }
-    let context = solved.context(number);
-    let first = solved.game().entry(context.function);
-    let last = solved.game().exit(context.function);
-    context.promise == *promise && first.0 <= pos.0 && pos.0 <= last.0
 }
 
 impl Entries {
@@ -101,7 +85,7 @@ impl Entries {
         solved.contexts_are_needed();
         let promise = others(solved.game(), aim);
         let number = self.number_at(pos, aim);
-        if is_number_of(solved, number, pos, &promise) {
+        if solved.has_position(number, pos, &promise) {
             number
         } else {
             solved.number_of(pos, &promise)

@@ -1,10 +1,8 @@
 //! The keys that a key names.
 
-ghost use Rattle.std.specs.Prelude.{◌≡◌, ◌++◌, map, length, OnOk};
+ghost use Rattle.std.specs.Prelude.{◌≡◌, ◌++◌, map, OnOk};
 ghost use Rattle.cw_product.specs.Product.{game_of};
-ghost use Rattle.cw_product.specs.Routed.{AreRouted};
 ghost use Rattle.cw_least.specs.Acts.{act_of, key_of_back};
-ghost use Rattle.cw_least.specs.Kept.{IsKey};
 ghost use Rattle.cw_least.specs.Strategies.{keys_in, named};
 
 use crate::acts::{Act, act_at};

@@ -55,8 +55,10 @@ module _ (g : Game) (functions : ℕ) (routed : AreRouted g functions) (alike : 
   Contexts = old.table.contexts.items
 
   -- A link whose promise shrinks for so many moves is asked for.
-  module _ (long : AreLong old) (high : AreHigh old) (right : AreRight g Contexts (found_of g old)) (j : ℕ) (d : Context) (r x : ℕ) (call : Called) (link : IsLink g Contexts j d r x call) (n place : ℕ)
-      (some : 0 < n) (low : n ≤ old.table.written) (at : place ≡ slot g Contexts j d.function r x) (shrinks : IsShrinking g Contexts (found_of g old) j r x call n) (tied_there : 0 < slice_index old.store.to place) (asks : AsksForLink old new place (2 * n + 1)) where
+  module _ (long : AreLong old) (high : AreHigh old) (right : AreRight g Contexts (found_of g old)) (j : ℕ) (d : Context) (r x : ℕ) (call : Called)
+      (link : IsLink g Contexts j d r x call) (n place : ℕ)
+      (some : 0 < n) (low : n ≤ old.table.written) (at : place ≡ slot g Contexts j d.function r x) (shrinks : IsShrinking g Contexts (found_of g old) j r x call n)
+      (tied_there : 0 < slice_index old.store.to place) (asks : AsksForLink old new place (2 * n + 1)) where
     here : place ≡ place_at g Contexts j r x
     here = at ∙ sym (place_is g Contexts j d r x link.cell.at)
 
@@ -83,7 +85,8 @@ module _ (g : Game) (functions : ℕ) (routed : AreRouted g functions) (alike : 
         = due_up_to old.store.due place (2 * n + 1) (2 * old.table.written + 1) (omega (arith, inside, long.due)) (omega (arith, low)) high.due in
         record {
           heights = subst (λ (t : Table). AreUpTo t.heights.items t.written) (sym asks.others.table) high.heights;
-          asked = subst (λ (t : Table). AreUpTo new.store.asked (2 * t.written + 2)) (sym asks.others.table) (subst (λ (y : List ℕ). AreUpTo y (2 * old.table.written + 2)) (sym asks.asked) high.asked);
+          asked = subst (λ (t : Table). AreUpTo new.store.asked (2 * t.written + 2)) (sym asks.others.table)
+              (subst (λ (y : List ℕ). AreUpTo y (2 * old.table.written + 2)) (sym asks.asked) high.asked);
           due = subst (λ (t : Table). AreUpTo new.store.due (2 * t.written + 1)) (sym asks.others.table) (subst (λ (y : List ℕ). AreUpTo y (2 * old.table.written + 1)) (sym asks.due) few);
           waves = subst (λ (t : Table). AreUpTo new.store.waves t.written) (sym asks.others.table) (subst (λ (y : List ℕ). AreUpTo y old.table.written) (sym asks.others.waves) high.waves);
         }

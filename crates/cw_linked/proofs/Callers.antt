@@ -69,7 +69,8 @@ module _ (g : Game) (functions : ℕ) (routed : AreRouted g functions) (alike : 
       ]
 
   -- the place of a link is that of one
-  module _ (link : ℕ) (caller : Cell) (at : IsCellAt g old link caller) (i : ℕ) (c : Context) (p q : ℕ) (call : Called) (is : IsCell g Contexts i c p q) (es : call_in (slice_get g.spots p) ≡ Some call)
+  module _ (link : ℕ) (caller : Cell) (at : IsCellAt g old link caller) (i : ℕ) (c : Context) (p q : ℕ) (call : Called) (is : IsCell g Contexts i c p q)
+      (es : call_in (slice_get g.spots p) ≡ Some call)
       (place : link ≡ place_at g Contexts i p (class_of g call.split q)) where
     pub same_link : IsSame i p (class_of g call.split q) caller.at.number caller.pos.0 caller.state.0
     same_link =
@@ -95,7 +96,8 @@ module _ (g : Game) (functions : ℕ) (routed : AreRouted g functions) (alike : 
     asked_cell = record { at = at.is.at; of = at.is.of; state = is_cell.state }
 
     here : link ≡ place_at g Contexts caller.at.number caller.pos.0 k
-    here = at.place ∙ sym (place_is g Contexts caller.at.number caller.at.context caller.pos.0 caller.state.0 at.is.at) ∙ ap (λ (y : ℕ). place_at g Contexts caller.at.number caller.pos.0 y) (sym class)
+    here = at.place ∙ sym (place_is g Contexts caller.at.number caller.at.context caller.pos.0 caller.state.0 at.is.at)
+        ∙ ap (λ (y : ℕ). place_at g Contexts caller.at.number caller.pos.0 y) (sym class)
 
     number : value_at g Contexts old.store.to caller.at.number caller.pos.0 k ≡ suc cell.at.number
     number = ap (slice_index old.store.to) (sym here) ∙ goes
@@ -123,7 +125,8 @@ module _ (g : Game) (functions : ℕ) (routed : AreRouted g functions) (alike : 
 
     lost : Holds g n caller.pos.0 cell.state.0 (has caller.at.context.promise) ≡ false
     lost = subst (λ (y : ℕ). Holds g y caller.pos.0 cell.state.0 (has caller.at.context.promise) ≡ false) (sym more)
-        (call_lost g functions routed alike Contexts (below g functions routed alike old old table) (found_of g old) right most caller.at.number caller.at.context caller.pos.0 cell.state.0 called asked_cell calls tied
+        (call_lost g functions routed alike Contexts (below g functions routed alike old old table)
+        (found_of g old) right most caller.at.number caller.at.context caller.pos.0 cell.state.0 called asked_cell calls tied
         (omega (arith, wave, waves)) (omega (arith, callee_height, some)) (omega (arith, callee_height, heights)))
 
     step : LowersKeys g old new
@@ -158,7 +161,8 @@ module _ (g : Game) (functions : ℕ) (routed : AreRouted g functions) (alike : 
   }
 
   -- and a link that goes elsewhere isn't asked for
-  pub call_elsewhere : (link : ℕ) → AreLong old → AreHigh old → AreRight g Contexts (found_of g old) → (cell : Cell) → (slice_index old.store.to link ≡ suc cell.at.number → ⊥) → AsksCaller g old old link cell
+  pub call_elsewhere : (link : ℕ) → AreLong old → AreHigh old → AreRight g Contexts (found_of g old) → (cell : Cell) → (slice_index old.store.to link ≡ suc cell.at.number → ⊥)
+      → AsksCaller g old old link cell
   call_elsewhere link long high right cell other = record {
     step = nothing g old long high right;
     called = λ i c p q call is es goes place. elim (tied_or_not (value_at g Contexts old.store.to i p (class_of g call.split q)) cell.at.number goes.0) [

@@ -12,11 +12,12 @@ use Rattle.cw_game.specs.Pairs.{Called, call_in}
 use Rattle.cw_links.specs.Lists.{Chained, list_at, with_front}
 use Rattle.cw_links.proofs.CallerLemmas.{length-with_front, list_at-with_front_same, list_at-with_front_other}
 use Rattle.cw_product.specs.Moves.{pos_id, next_at}
+use Rattle.cw_product.specs.MovesAt.{first_move, second_move}
 use Rattle.cw_linked.specs.declared.edges.Pair.{Pair}
 use Rattle.cw_linked.specs.declared.edges.Changes.{Changes}
 use Rattle.cw_linked.specs.Edges.{AddsMove, AddsMoves, AreChangesTo, AreReturnsTo}
 use Rattle.cw_linked.specs.Returns.{HasReturn}
-use Rattle.cw_linked.specs.Steps.{first_move, second_move, IsMoveIn, Leads}
+use Rattle.cw_linked.specs.Steps.{IsMoveIn, Leads}
 use Rattle.cw_linked.specs.Waiting.{pair_of, pair_number, HasIn, keeps_state, IsChange, AreChanges}
 use Rattle.cw_linked.proofs.Adding.{before_push, after_push, push_cases}
 

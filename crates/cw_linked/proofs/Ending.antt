@@ -40,7 +40,8 @@ module _ (g : Game) (functions : ℕ) (routed : AreRouted g functions) (alike : 
             (λ x u. same_promise g functions routed alike n call.back q call.split c.promise is.state x u),
       )
     where
-      at_link : (k : ℕ) → IsLink g contexts i c p k call → IsTied s i p k → (set : ℕ) × Contains contexts (context call.function set) × IsSetOf g set (promise_at g n call.back (kept_at call.split k) c.promise)
+      at_link : (k : ℕ) → IsLink g contexts i c p k call → IsTied s i p k → (set : ℕ) × Contains contexts (context call.function set)
+          × IsSetOf g set (promise_at g n call.back (kept_at call.split k) c.promise)
       at_link k link t =
           elim (cases_lt (s.wave i p k) n) [
             | inr before ↦ found.right.past i c p k call link t n before call es

@@ -90,7 +90,8 @@ module _ (g : Game) (functions : ℕ) (routed : AreRouted g functions) (alike : 
       is_class i c p k call other is es = subst (λ (y : Called). class_of g y.split k ≡ k) (same_Some call other (sym is.calls ∙ es)) is.class
 
 -- A cell that is none of its context's entry is no call's callee.
-pub no_entry : (g : Game) (functions : ℕ) (routed : AreRouted g functions) (alike : AreAlike g) (w : Work) → IsTable g w.table → AreRight g w.table.contexts.items (found_of g w) → (j : ℕ) (d : Context) (r x : ℕ)
+pub no_entry : (g : Game) (functions : ℕ) (routed : AreRouted g functions) (alike : AreAlike g) (w : Work) → IsTable g w.table → AreRight g w.table.contexts.items (found_of g w)
+    → (j : ℕ) (d : Context) (r x : ℕ)
     → slice_get w.table.contexts.items j ≡ Some d → (r ≡ g.entry d.function → ⊥) → AllCalled g w.table.contexts.items (found_of g w) (CallsThere g (found_of g w) j r x)
     → AllCalled g w.table.contexts.items (found_of g w) Nothing
 no_entry g functions routed alike w table right j d r x at other all i c p q is =

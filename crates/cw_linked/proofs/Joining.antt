@@ -29,7 +29,8 @@ use Rattle.cw_linked.proofs.Pushing.{base_end, cell_on, value_on, value_new, pus
 use Rattle.cw_linked.proofs.Staying.{callers_on, marked_on}
 use Rattle.cw_linked.proofs.Telling.{still_standing}
 
-module _ (g : Game) (functions : ℕ) (routed : AreRouted g functions) (alike : AreAlike g) (old pushed : Work) (c : Context) (kept : IsOpen g old) (tabled : AreTabled g (old.table.contexts.items ++ c ∷ []))
+module _ (g : Game) (functions : ℕ) (routed : AreRouted g functions) (alike : AreAlike g) (old pushed : Work) (c : Context) (kept : IsOpen g old)
+    (tabled : AreTabled g (old.table.contexts.items ++ c ∷ []))
     (pushes : Pushes g old pushed c (size g c.function)) where
   abbrev Contexts : List Context
   Contexts = old.table.contexts.items
@@ -96,7 +97,8 @@ module _ (g : Game) (functions : ℕ) (routed : AreRouted g functions) (alike : 
     links p x call = subst (λ (cs : List Context). IsLink g cs number c p x call → slice_index freed.store.due (place_at g cs number p x) ≡ 1) pushes.contexts (λ is. frees.links p x call is tt)
 
     rest : (k : ℕ) → (slice_index freed.store.due k ≡ slice_index pushed.store.due k) ⊎ (IsLinkOf g More number c k × (slice_index freed.store.due k ≡ 1))
-    rest = subst (λ (cs : List Context). (k : ℕ) → (slice_index freed.store.due k ≡ slice_index pushed.store.due k) ⊎ (IsLinkOf g cs number c k × (slice_index freed.store.due k ≡ 1))) pushes.contexts frees.rest
+    rest = subst (λ (cs : List Context). (k : ℕ) → (slice_index freed.store.due k ≡ slice_index pushed.store.due k) ⊎ (IsLinkOf g cs number c k × (slice_index freed.store.due k ≡ 1)))
+        pushes.contexts frees.rest
 
     -- what the vectors say of a cell that was there, and of a new one
     module _ (now before : List ℕ) (long : length before ≡ length old.table.heights.items) (is_now : now ≡ before ++ none) where

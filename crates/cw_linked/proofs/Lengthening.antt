@@ -4,7 +4,8 @@ use Rattle.std.specs.Prelude.{slice_get, slice_index, Some}
 use Rattle.std.proofs.lemmas.Bool.{cases_lt}
 use Rattle.std.proofs.lemmas.Nat.{mul-add-lt}
 use Rattle.std.proofs.Math.Nat.{mul-le-mul}
-use Rattle.std.proofs.lemmas.List.{length-replicate, length-append, length_push, get_or-replicate, get_or_append_left, get_or-append_right, take_all, append_assoc, append-nil, replicate-append-replicate}
+use Rattle.std.proofs.lemmas.List.{length-replicate, length-append, length_push, get_or-replicate, get_or_append_left, get_or-append_right, take_all, append_assoc, append-nil}
+use Rattle.std.proofs.lemmas.List.{replicate-append-replicate}
 use Rattle.cw_game.specs.Games.{Game}
 use Rattle.cw_game.specs.Pairs.{call_in}
 use Rattle.cw_marks.specs.Marks.{is_marked}
@@ -32,7 +33,8 @@ module _ (old new : List ℕ) (more : ℕ) (is : new ≡ old ++ replicate more 0
   grown_before k lt = ap (λ (ys : List ℕ). slice_index ys k) is ∙ get_or_append_left old (replicate more 0) 0 k lt
 
   pub grown_after : (k : ℕ) → length old ≤ k → k < length old + more → slice_index new k ≡ 0
-  grown_after k le lt = ap (λ (ys : List ℕ). slice_index ys k) is ∙ get_or-append_right old (replicate more 0) (length old) k 0 refl le ∙ get_or-replicate more (k - length old) 0 0 (omega (arith, le, lt))
+  grown_after k le lt = ap (λ (ys : List ℕ). slice_index ys k) is ∙ get_or-append_right old (replicate more 0) (length old) k 0 refl le
+      ∙ get_or-replicate more (k - length old) 0 0 (omega (arith, le, lt))
 
 -- no place yet, one, and so many more
 pub no_places : (old : Stored) → PushesPlaces old old 0

@@ -138,7 +138,8 @@ module _ (g : Game) (functions : ℕ) (routed : AreRouted g functions) (alike : 
 
     is_free : Frees g Contexts (found_of g old) Due link.at.number link.pos.0 link.state.0
     is_free = subst (λ (k : ℕ). Frees g Contexts (found_of g old) (value_at g Contexts (set old.store.due k 0)) link.at.number link.pos.0 link.state.0) (sym place_here)
-        (frees_written g Contexts (found_of g old) link.at.number link.at.context link.pos.0 link.state.0 is_link.0 is_link.1 old.store.due (omega (arith, place_here, frees.within, work.long.due)) (λ i p k. refl))
+        (frees_written g Contexts (found_of g old) link.at.number link.at.context link.pos.0 link.state.0 is_link.0 is_link.1 old.store.due
+        (omega (arith, place_here, frees.within, work.long.due)) (λ i p k. refl))
 
     was_ready : (call : Called) (set_is : ℕ) → IsLink g Contexts link.at.number link.at.context link.pos.0 link.state.0 call
         → IsSetOf g set_is (λ y. holds_by moves (height_back g (found_of g old) link.at.number call link.state.0 y))
@@ -188,7 +189,9 @@ module _ (g : Game) (functions : ℕ) (routed : AreRouted g functions) (alike : 
           → IsReady g Contexts s link.at.number link.at.context link.pos.0 link.state.0 call moves set_is) (sym found_new)
           (λ here read. was_ready call set_is here read)) is;
       shrinks = λ call is tied.
-          subst (λ (t : Table). IsLink g t.contexts.items link.at.number link.at.context link.pos.0 link.state.0 call → IsShrinking g t.contexts.items (found_of g new) link.at.number link.pos.0 link.state.0 call moves) tables
-          (subst (λ (s : Found). IsLink g Contexts link.at.number link.at.context link.pos.0 link.state.0 call → IsShrinking g Contexts s link.at.number link.pos.0 link.state.0 call moves) (sym found_new)
+          subst (λ (t : Table). IsLink g t.contexts.items link.at.number link.at.context link.pos.0 link.state.0 call
+          → IsShrinking g t.contexts.items (found_of g new) link.at.number link.pos.0 link.state.0 call moves) tables
+          (subst (λ (s : Found). IsLink g Contexts link.at.number link.at.context link.pos.0 link.state.0 call
+          → IsShrinking g Contexts s link.at.number link.pos.0 link.state.0 call moves) (sym found_new)
           (λ here. was_shrinking call here (subst (λ (ys : List ℕ). 0 < slice_index ys place) frees.others.to tied))) is;
     }

@@ -49,7 +49,13 @@ module _ (g : Game) (functions : ℕ) (routed : AreRouted g functions) (alike : 
     lowers_all_called Rest all i c p q is = elim (all i c p q is) [ inl h ↦ inl (lowers_called i c p q is h) | inr rest ↦ inr rest ]
 
     pub lowers_all_standing : (Rest : ℕ → ℕ → ℕ → Type 0) → AllStanding g contexts s Rest → AllStanding g contexts After Rest
-    lowers_all_standing Rest all i c p k call is = elim (all i c p k call is) [ inl h ↦ inl (λ free. waits_less (s.due i p k) (due i p k) 1 (lowers.links i c p k call is) (h.0 free), λ x t. lowers_standing i c p k call x is (h.1 x t)) | inr rest ↦ inr rest ]
+    lowers_all_standing Rest all i c p k call is = elim (all i c p k call is) [
+      | inl h ↦ inl (
+        λ free. waits_less (s.due i p k) (due i p k) 1 (lowers.links i c p k call is) (h.0 free),
+        λ x t. lowers_standing i c p k call x is (h.1 x t),
+      )
+      | inr rest ↦ inr rest
+    ]
 
     -- what is right stays right, where each new key is
     pub lowers_right : AreRight g contexts s
@@ -105,9 +111,10 @@ module _ (g : Game) (functions : ℕ) (routed : AreRouted g functions) (alike : 
       pub link_right : AreRight g contexts s → (n : ℕ) → key ≡ 2 * n + 1 → 0 < n → IsShrinking g contexts s j r x call n → AreRight g contexts (with_keys s s.asked due)
       link_right right n e some shrinks = lowers_right s s.asked due link_lowers right right.lost
           (λ i c p k other is. elim (same_or_other i p k j r x) [
-            | inl same ↦ link_is g contexts j d r x call link i c p k other is same (λ i c p k other. 0 < due i p k → (n : ℕ) × (due i p k ≡ 2 * n + 1) × (0 < n → IsShrinking g contexts s i p k other n)) (λ lt. elim asks.is [
-              | inl new ↦ (n, new ∙ e, λ more. shrinks)
-              | inr old ↦ let l = right.due j d r x call link (omega (arith, lt, old)) in (l.0, old ∙ l.1, l.2)
-            ])
+            | inl same ↦ link_is g contexts j d r x call link i c p k other is same
+                (λ i c p k other. 0 < due i p k → (n : ℕ) × (due i p k ≡ 2 * n + 1) × (0 < n → IsShrinking g contexts s i p k other n)) (λ lt. elim asks.is [
+                  | inl new ↦ (n, new ∙ e, λ more. shrinks)
+                  | inr old ↦ let l = right.due j d r x call link (omega (arith, lt, old)) in (l.0, old ∙ l.1, l.2)
+                ])
             | inr o ↦ λ lt. let same = asks.others i c p k other is o in let l = right.due i c p k other is (omega (arith, lt, same)) in (l.0, same ∙ l.1, l.2)
           ])

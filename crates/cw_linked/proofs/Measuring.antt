@@ -1,5 +1,6 @@
 -- What is left to do becomes less where a cell is taken or a link is tied, and no more where a context is added.
-use Rattle.std.proofs.Common.{◌≡◌, ℕ, zero, suc, ◌+◌, ◌-◌, ◌*◌, ◌<◌, ◌≤◌, List, [], ◌∷◌, ◌++◌, Bool, true, false, cond, ◌&&◌, ◌||◌, Some, length, set, replicate, refl, sym, ap, ◌∙◌, subst, arith, inl, inr}
+use Rattle.std.proofs.Common.{◌≡◌, ℕ, zero, suc, ◌+◌, ◌-◌, ◌*◌, ◌<◌, ◌≤◌, List, [], ◌∷◌, ◌++◌, Bool, true, false, cond, ◌&&◌, ◌||◌, Some, length, set, replicate, refl, sym, ap}
+use Rattle.std.proofs.Common.{◌∙◌, subst, arith, inl, inr}
 use Rattle.std.specs.Prelude.{slice_get, slice_index, nat_lt, count_by, sum_by}
 use Rattle.std.specs.List.{range_with_len}
 use Rattle.std.proofs.lemmas.Bool.{cases_lt, le-ltb, ne_eqb}
@@ -109,7 +110,8 @@ kept_left g old new table to =
 pub tied_less : (g : Game) (old new : Work) (place number : ℕ) → new.table ≡ old.table → new.store.to ≡ set old.store.to place (number + 1) → place < length old.store.to
     → promised_in g (slice_get old.table.contexts.items number) < ties_left g old.table.contexts.items (slice_index old.store.to place) → work_left g new < work_left g old
 tied_less g old new place number table to within less =
-    let now : work_left g new ≡ (4194304 - length old.table.heights.items) * (g.states.count + 2) + count_by is_none old.table.heights.items + sum_by (ties_left g old.table.contexts.items) (set old.store.to place (suc number))
+    let now : work_left g new ≡ (4194304 - length old.table.heights.items) * (g.states.count + 2) + count_by is_none old.table.heights.items + sum_by (ties_left g old.table.contexts.items)
+    (set old.store.to place (suc number))
     = ap (λ (t : Table). (4194304 - length t.heights.items) * (g.states.count + 2) + count_by is_none t.heights.items + sum_by (ties_left g t.contexts.items) new.store.to) table
     ∙ ap (λ (ys : List ℕ). (4194304 - length old.table.heights.items) * (g.states.count + 2) + count_by is_none old.table.heights.items + sum_by (ties_left g old.table.contexts.items) ys)
     (to ∙ ap (λ (n : ℕ). set old.store.to place n) (next number)) in
@@ -147,7 +149,8 @@ added_left g old new c many contexts heights to room long few =
     = ap (λ (ys : List Context). sum_by (ties_left g ys) new.store.to) contexts ∙ ap (λ (ys : List ℕ). sum_by (ties_left g (cs ++ c ∷ [])) ys) to
     ∙ sum_by-append (ties_left g (cs ++ c ∷ [])) old.store.to (replicate many 0) ∙ both _ _ _ _ same (sum_by-replicate (ties_left g (cs ++ c ∷ [])) many 0) in
     let rooms = room_for (length hs) many (g.states.count) room in
-    let less : (4194304 - length new.table.heights.items) * (g.states.count + 2) ≡ (4194304 - (length hs + many)) * (g.states.count + 2) = ap (λ (n : ℕ). (4194304 - n) * (g.states.count + 2)) longer in
+    let less : (4194304 - length new.table.heights.items) * (g.states.count + 2) ≡ (4194304 - (length hs + many)) * (g.states.count + 2) =
+    ap (λ (n : ℕ). (4194304 - n) * (g.states.count + 2)) longer in
     let product : many * (g.states.count + 2) ≡ many * (g.states.count + 1) + many = times many g.states.count in
     omega (arith, none, ties, rooms, less, product)
   where
@@ -162,7 +165,8 @@ added_left g old new c many contexts heights to room long few =
 
 -- A link stops waiting: the promise of its call has fewer states than the link has ties left.
 
-module _ (g : Game) (functions : ℕ) (routed : AreRouted g functions) (w : Work) (link : Cell) (place moves : ℕ) (freed : IsFreed g w link place moves) (more : 0 < slice_index w.store.to place → 0 < moves) where
+module _ (g : Game) (functions : ℕ) (routed : AreRouted g functions) (w : Work) (link : Cell) (place moves : ℕ) (freed : IsFreed g w link place moves)
+    (more : 0 < slice_index w.store.to place → 0 < moves) where
   abbrev Contexts : List Context
   Contexts = w.table.contexts.items
 
@@ -182,7 +186,8 @@ module _ (g : Game) (functions : ℕ) (routed : AreRouted g functions) (w : Work
         let x = s.1 in
         let value : (found_of g w).to link.at.number link.pos.0 link.state.0 ≡ to = (let v = ap (slice_index w.store.to) (sym place_here) in omega (arith, v, e)) in
         let goes : slice_get Contexts to ≡ Some (context call.function before) = ap (slice_get Contexts) (sym value) ∙ s.2 in
-        let is_tied_here : IsTied (found_of g w) link.at.number link.pos.0 link.state.0 = is_tied (slice_index w.store.to (place_at g Contexts link.at.number link.pos.0 link.state.0)) to (ap (slice_index w.store.to) (sym place_here) ∙ e) in
+        let is_tied_here : IsTied (found_of g w) link.at.number link.pos.0 link.state.0 = is_tied (slice_index w.store.to (place_at g Contexts link.at.number link.pos.0 link.state.0)) to
+        (ap (slice_index w.store.to) (sym place_here) ∙ e) in
         let l = freed.firm.right.linked link.at.number link.at.context link.pos.0 link.state.0 call is is_tied_here in
         let same : l.0 ≡ before = ap (λ (c : Context). c.promise) (same_Some (context call.function l.0) (context call.function before) (sym l.1 ∙ s.2)) in
         let wave = (found_of g w).wave link.at.number link.pos.0 link.state.0 in
@@ -209,7 +214,8 @@ module _ (g : Game) (functions : ℕ) (routed : AreRouted g functions) (w : Work
               | inl lt ↦
                   let holds = sym (member_is g states _ now y lt) ∙ member in
                   member_is g before _ promised y lt ∙ sooner g functions routed wave moves call.back _ (has link.at.context.promise) le (back_state y lt) holds
-              | inr past ↦ absurd (not_both (has states y) member (now y ∙ ap (λ (b : Bool). b && promise_at g moves call.back (kept_at call.split link.state.0) link.at.context.promise y) (le-ltb y g.states.count past)))
+              | inr past ↦ absurd (not_both (has states y) member (now y ∙ ap (λ (b : Bool). b && promise_at g moves call.back (kept_at call.split link.state.0) link.at.context.promise y)
+                  (le-ltb y g.states.count past)))
             ]
 
     -- fewer than are left

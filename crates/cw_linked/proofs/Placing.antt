@@ -121,7 +121,8 @@ module _ (g : Game) (t : Table) (table : IsTable g t) where
               rw e (omega (arith, within, all_base))
         ]
 
-module _ (g : Game) (functions : ℕ) (routed : AreRouted g functions) (w : Work) (table : IsTable g w.table) (k i : ℕ) (at : Tabled) (owner : IsOwner g w.table.contexts.items i k) (number : at.number ≡ i)
+module _ (g : Game) (functions : ℕ) (routed : AreRouted g functions) (w : Work) (table : IsTable g w.table) (k i : ℕ) (at : Tabled)
+    (owner : IsOwner g w.table.contexts.items i k) (number : at.number ≡ i)
     (there : IsTabled w.table at) where
   own : IsOwner g w.table.contexts.items at.number k
   own = subst (λ (y : ℕ). IsOwner g w.table.contexts.items y k) (sym number) owner

@@ -58,7 +58,8 @@ module _ (w : Work) (link x to : ℕ) (c : Context) (value : to ≡ slice_index 
       ap (λ (y : Context). has y.promise x) same ∙ p.3
 
 -- a call returns to a position
-pub back_within : (g : Game) (functions p : ℕ) (call : Called) → ((p : ℕ) (s : Spot) → slice_get g.spots p ≡ Some s → LeadsWithin (length g.spots) functions p s) → call_in (slice_get g.spots p) ≡ Some call
+pub back_within : (g : Game) (functions p : ℕ) (call : Called) → ((p : ℕ) (s : Spot) → slice_get g.spots p ≡ Some s → LeadsWithin (length g.spots) functions p s)
+    → call_in (slice_get g.spots p) ≡ Some call
     → call.back < length g.spots
 back_within g functions p call leads es = by call.split (call_is (slice_get g.spots p) call es)
   where

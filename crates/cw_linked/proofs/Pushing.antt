@@ -93,7 +93,8 @@ module _ (g : Game) (old new : Work) (c : Context) (blocks : AreBlocks g old.tab
   many = size g c.function
 
   cells : length new.table.heights.items ≡ length old.table.heights.items + many
-  cells = ap (λ (ys : List ℕ). length ys) pushes.heights ∙ length-append old.table.heights.items (replicate many 0) ∙ ap (λ (n : ℕ). length old.table.heights.items + n) (length-replicate {A = ℕ} many 0)
+  cells = ap (λ (ys : List ℕ). length ys) pushes.heights ∙ length-append old.table.heights.items (replicate many 0)
+      ∙ ap (λ (n : ℕ). length old.table.heights.items + n) (length-replicate {A = ℕ} many 0)
 
   counted : new.table.written + count_by is_none new.table.heights.items ≡ length new.table.heights.items
   counted =
@@ -173,7 +174,8 @@ module _ (g : Game) (old new : Work) (c : Context) (blocks : AreBlocks g old.tab
     more = omega (arith, longer, pushes.lists);
     few = λ k lt. elim (cases_lt k (length old.table.heights.items)) [
       | inl before ↦
-          let e : slice_index new.store.to k ≡ slice_index old.store.to k = ap (λ (ys : List ℕ). slice_index ys k) pushes.places.to ∙ get_or_append_left old.store.to (replicate many 0) 0 k (omega (arith, before, long.to)) in
+          let e : slice_index new.store.to k ≡ slice_index old.store.to k = ap (λ (ys : List ℕ). slice_index ys k) pushes.places.to
+          ∙ get_or_append_left old.store.to (replicate many 0) 0 k (omega (arith, before, long.to)) in
           let f = callers.few k before in
           omega (arith, e, f, longer)
       | inr after ↦
@@ -188,8 +190,10 @@ module _ (g : Game) (old new : Work) (c : Context) (blocks : AreBlocks g old.tab
   pushed_dues long dues k lt some =
       elim (cases_lt k (length old.table.heights.items)) [
         | inl before ↦
-            let e : slice_index new.store.due k ≡ slice_index old.store.due k = ap (λ (ys : List ℕ). slice_index ys k) pushes.places.due ∙ get_or_append_left old.store.due (replicate many 0) 0 k (omega (arith, before, long.due)) in
-            let t : slice_index new.store.to k ≡ slice_index old.store.to k = ap (λ (ys : List ℕ). slice_index ys k) pushes.places.to ∙ get_or_append_left old.store.to (replicate many 0) 0 k (omega (arith, before, long.to)) in
+            let e : slice_index new.store.due k ≡ slice_index old.store.due k = ap (λ (ys : List ℕ). slice_index ys k) pushes.places.due
+            ∙ get_or_append_left old.store.due (replicate many 0) 0 k (omega (arith, before, long.due)) in
+            let t : slice_index new.store.to k ≡ slice_index old.store.to k = ap (λ (ys : List ℕ). slice_index ys k) pushes.places.to
+            ∙ get_or_append_left old.store.to (replicate many 0) 0 k (omega (arith, before, long.to)) in
             let h = dues k before (omega (arith, some, e)) in (
               subst (λ (cs : List Context). IsLinkAt g cs k) (sym pushes.contexts) (link_there k h.0),
               λ tied. let low = h.1 (omega (arith, tied, t)) in omega (arith, low, e),

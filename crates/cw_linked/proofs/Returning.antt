@@ -92,7 +92,8 @@ module _ (g : Game) (functions : ℕ) (routed : AreRouted g functions) (alike : 
     standing : (k : ℕ) (call : Called) → IsLink g Contexts cell.at.number cell.at.context pos.0 k call → call.back ≡ cell.pos.0
         → (y : ℕ) → y < g.states.count → returned g.states (kept_at call.split k) y ≡ cell.state.0 → IsStanding g Contexts (found_of g new) cell.at.number pos.0 k call y
     standing = subst (λ (t : Table). (k : ℕ) (call : Called) → IsLink g t.contexts.items cell.at.number cell.at.context pos.0 k call → call.back ≡ cell.pos.0
-        → (y : ℕ) → y < g.states.count → returned g.states (kept_at call.split k) y ≡ cell.state.0 → IsStanding g t.contexts.items (found_of g new) cell.at.number pos.0 k call y) (sym tables) asks.standing
+        → (y : ℕ) → y < g.states.count → returned g.states (kept_at call.split k) y ≡ cell.state.0 → IsStanding g t.contexts.items (found_of g new) cell.at.number pos.0 k call y)
+        (sym tables) asks.standing
 
     -- what stood but for the states that return to the cell
     stood : (p k : ℕ) (call other : Called) → IsLink g Contexts cell.at.number cell.at.context p k call → call_in (slice_get g.spots p) ≡ Some other → pos.0 ≡ p → other.back ≡ cell.pos.0
@@ -129,14 +130,16 @@ module _ (g : Game) (functions : ℕ) (routed : AreRouted g functions) (alike : 
             (still_standing g functions routed alike mid new (subst (IsTable g) tables table) asks.step.others asks.step.lowers _
             (subst (λ (t : Table). AllStanding g t.contexts.items (found_of g mid) (ReturnsLeft g Contexts (found_of g w) returns (edge ∷ back) cell.at.number cell.pos.0 cell.state.0)) tables all))
 
-        each : (i : ℕ) (c : Context) (p k : ℕ) (call : Called) → IsLink g Contexts i c p k call → ReturnsThere g Contexts (found_of g w) cell.at.number cell.pos.0 cell.state.0 i p k → pos.0 ≡ p → cell.at.context ≡ c
+        each : (i : ℕ) (c : Context) (p k : ℕ) (call : Called) → IsLink g Contexts i c p k call → ReturnsThere g Contexts (found_of g w) cell.at.number cell.pos.0 cell.state.0 i p k
+            → pos.0 ≡ p → cell.at.context ≡ c
             → (y : ℕ) → y < g.states.count → IsStanding g Contexts (found_of g new) i p k call y
         each i c p k call is there same context y lt =
             let link : IsLink g Contexts cell.at.number cell.at.context p k call
             = subst (λ (z : ℕ). IsLink g Contexts z cell.at.context p k call) there.2 (subst (λ (z : Context). IsLink g Contexts i z p k call) (sym context) is) in
             subst (λ (z : ℕ). IsStanding g Contexts (found_of g new) z p k call y) (sym there.2)
             (stood p k call there.0 link there.1 same there.3
-            (subst (λ (z : ℕ). (y : ℕ) → y < g.states.count → (returned g.states (kept_at there.0.split k) y ≡ cell.state.0 → ⊥) → IsStanding g Contexts (found_of g w) z p k there.0 y) there.2 there.5) y lt)
+            (subst (λ (z : ℕ). (y : ℕ) → y < g.states.count → (returned g.states (kept_at there.0.split k) y ≡ cell.state.0 → ⊥)
+            → IsStanding g Contexts (found_of g w) z p k there.0 y) there.2 there.5) y lt)
 
 -- at last no call is left
 pub no_calls_left : (g : Game) (contexts : List Context) (marks : List Bool) (t s : Found) (j r x : ℕ) → AllCalled g contexts t (CallsLeft g contexts marks s [] j r x) → AllCalled g contexts t Nothing
@@ -190,7 +193,8 @@ module _ (g : Game) (functions : ℕ) (routed : AreRouted g functions) (alike : 
     goes : slice_get Cells ((found_of g w).to cell.at.number p k) ≡ Some promised.0
     goes = ap (λ (y : ℕ). slice_get Cells (slice_index w.store.to y - 1)) (sym spot) ∙ promised.2
 
-    linked : (set_of : ℕ) × GoesTo Cells (found_of g w) cell.at.number p k call set_of × IsSetOf g set_of (promise_at g ((found_of g w).wave cell.at.number p k) call.back (kept_at call.split k) cell.at.context.promise)
+    linked : (set_of : ℕ) × GoesTo Cells (found_of g w) cell.at.number p k call set_of
+        × IsSetOf g set_of (promise_at g ((found_of g w).wave cell.at.number p k) call.back (kept_at call.split k) cell.at.context.promise)
     linked = right.linked cell.at.number cell.at.context p k call link (is_tied (value_at g Cells w.store.to cell.at.number p k) _ value)
 
     shrinks : IsShrinking g Cells (found_of g w) cell.at.number p k call height

@@ -11,8 +11,9 @@ use Rattle.cw_game.specs.declared.spots.Spot.TheVariants.{Visit, Step, Branch}
 use Rattle.cw_game.specs.Games.{Game}
 use Rattle.cw_links.specs.Lists.{Chained, with_front}
 use Rattle.cw_product.specs.Moves.{pos_id, next_in, next_at}
+use Rattle.cw_product.specs.MovesAt.{first_move, second_move}
 use Rattle.cw_linked.specs.Edges.{AddsSource, AreSourcesTo}
-use Rattle.cw_linked.specs.Steps.{first_move, second_move, Leads}
+use Rattle.cw_linked.specs.Steps.{Leads}
 use Rattle.cw_linked.specs.Waiting.{HasIn, keeps_state, AreSources}
 use Rattle.cw_linked.proofs.Edging.{lists_kept, one_more, kept_in, new_in, each_move}
 

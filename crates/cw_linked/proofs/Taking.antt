@@ -9,6 +9,7 @@ use Rattle.cw_game.specs.declared.spots.Spot.TheVariants.{Call, SplitCall}
 use Rattle.cw_game.specs.Games.{Game, returned, holds_in, Holds}
 use Rattle.cw_game.specs.Pairs.{has, Called, call_in, is_call_in, kept_at}
 use Rattle.cw_product.specs.Moves.{next_at}
+use Rattle.cw_product.specs.MovesAt.{first_move, second_move}
 use Rattle.cw_solve.specs.declared.contexts.Context.{Context}
 use Rattle.cw_solve.specs.Contexts.{context, IsHeight}
 use Rattle.cw_product.specs.Routed.{AreRouted}
@@ -16,7 +17,7 @@ use Rattle.cw_solve.specs.Rounds.{IsCell, holds_by}
 use Rattle.cw_solve.proofs.Falls.{not_both}
 use Rattle.cw_solve.proofs.Still.{call_or_not, entry_cell}
 use Rattle.cw_linked.specs.Founds.{Found, class_of, AreAlike, IsTied, AreRight, tells, Waits, IsClosed, IsCalled, IsStanding, IsFresh, AllClosed, AllCalled, AllStanding, AreFound, AreAbove}
-use Rattle.cw_linked.specs.Steps.{IsSame, IsOther, with_heights, Takes, first_move, second_move, IsMoveIn, Leads, WaitsFor, CallsThere, ReturnsThere}
+use Rattle.cw_linked.specs.Steps.{IsSame, IsOther, with_heights, Takes, IsMoveIn, Leads, WaitsFor, CallsThere, ReturnsThere}
 use Rattle.cw_linked.proofs.Leading.{in_same, next_cell}
 use Rattle.cw_linked.proofs.Least.{all_of, least, link_of, back_of}
 

@@ -120,7 +120,8 @@ module _ (g : Game) (functions : ℕ) (routed : AreRouted g functions) (alike : 
       record {
         first = ap (λ (cs : List Context). slice_get cs 0) takes.contexts ∙ work.table.first;
         needed = subst (λ (cs : List Context). AreNeeded g cs) (sym takes.contexts) work.table.needed;
-        begins = λ i lt. ap (λ (bs : List ℕ). slice_index bs i) takes.bases ∙ work.table.begins i (omega (arith, lt, lengths)) ∙ ap (λ (cs : List Context). cells_of g (take i cs)) (sym takes.contexts);
+        begins = λ i lt. ap (λ (bs : List ℕ). slice_index bs i) takes.bases ∙ work.table.begins i (omega (arith, lt, lengths))
+            ∙ ap (λ (cs : List Context). cells_of g (take i cs)) (sym takes.contexts);
         bases = ap (λ (bs : List ℕ). length bs) takes.bases ∙ work.table.bases ∙ sym lengths;
         cells = same_length ∙ work.table.cells ∙ ap (λ (cs : List Context). cells_of g cs) (sym takes.contexts);
         few = subst (λ (cs : List Context). cells_of g cs ≤ 4194304) (sym takes.contexts) work.table.few;
@@ -142,7 +143,8 @@ module _ (g : Game) (functions : ℕ) (routed : AreRouted g functions) (alike : 
       let key = work.high.asked place in
       let low : height ≤ old.table.written + 1 = omega (arith, key, lost.1) in
       let heights : AreUpTo (set old.table.heights.items place height) (old.table.written + 1)
-      = up_to_set old.table.heights.items place height (old.table.written + 1) takes.within low (up_more old.table.heights.items old.table.written (old.table.written + 1) (omega arith) work.high.heights) in
+      = up_to_set old.table.heights.items place height (old.table.written + 1) takes.within low
+      (up_more old.table.heights.items old.table.written (old.table.written + 1) (omega arith) work.high.heights) in
       let asked : AreUpTo (set old.store.asked place 0) (2 * (old.table.written + 1) + 2)
       = up_to_set old.store.asked place 0 (2 * (old.table.written + 1) + 2) (omega (arith, takes.within, work.long.asked)) (omega arith)
       (up_more old.store.asked (2 * old.table.written + 2) (2 * (old.table.written + 1) + 2) (omega arith) work.high.asked) in
@@ -201,7 +203,8 @@ module _ (g : Game) (functions : ℕ) (routed : AreRouted g functions) (alike : 
 
     is_taken_there : Takes g Contexts (found_of g old) Heights Asked cell.at.number cell.pos.0 cell.state.0 height
     is_taken_there =
-        subst (λ (k : ℕ). Takes g Contexts (found_of g old) (value_at g Contexts (set old.table.heights.items k height)) (value_at g Contexts (set old.store.asked k 0)) cell.at.number cell.pos.0 cell.state.0 height)
+        subst (λ (k : ℕ). Takes g Contexts (found_of g old) (value_at g Contexts (set old.table.heights.items k height))
+        (value_at g Contexts (set old.store.asked k 0)) cell.at.number cell.pos.0 cell.state.0 height)
         (sym place_here)
         (takes_written g Contexts (found_of g old) cell.at.number cell.at.context cell.pos.0 cell.state.0 old.table.heights.items old.store.asked height is_cell
         (omega (arith, place_here, takes.within)) (omega (arith, place_here, takes.within, work.long.asked)) (λ i p q. refl) (λ i p q. refl))
@@ -227,14 +230,18 @@ module _ (g : Game) (functions : ℕ) (routed : AreRouted g functions) (alike : 
       some = some;
       taken = ap (λ (s : Found). s.height cell.at.number cell.pos.0 cell.state.0) found_new ∙ is_taken_there.here;
       right = subst (λ (cs : List Context). AreRight g cs (found_of g new)) (sym takes.contexts) (subst (λ (s : Found). AreRight g Contexts s) (sym found_new)
-          (taken_right g functions routed alike Contexts functions_below (found_of g old) work.found height some above cell.at.number cell.at.context cell.pos.0 cell.state.0 is_cell key Heights Asked is_taken_there));
+          (taken_right g functions routed alike Contexts functions_below (found_of g old) work.found height some above cell.at.number cell.at.context cell.pos.0 cell.state.0 is_cell key
+          Heights Asked is_taken_there));
       closed = subst (λ (cs : List Context). AllClosed g cs (found_of g new) (WaitsFor g cell.at.number cell.pos.0 cell.state.0)) (sym takes.contexts)
           (subst (λ (s : Found). AllClosed g Contexts s (WaitsFor g cell.at.number cell.pos.0 cell.state.0)) (sym found_new)
-          (taken_closed g functions routed alike Contexts functions_below (found_of g old) work.found height some above cell.at.number cell.at.context cell.pos.0 cell.state.0 is_cell key Heights Asked is_taken_there));
+          (taken_closed g functions routed alike Contexts functions_below (found_of g old) work.found height some above cell.at.number cell.at.context cell.pos.0 cell.state.0 is_cell key
+          Heights Asked is_taken_there));
       called = subst (λ (cs : List Context). AllCalled g cs (found_of g new) (CallsThere g (found_of g new) cell.at.number cell.pos.0 cell.state.0)) (sym takes.contexts)
           (subst (λ (s : Found). AllCalled g Contexts s (CallsThere g s cell.at.number cell.pos.0 cell.state.0)) (sym found_new)
-          (taken_called g functions routed alike Contexts functions_below (found_of g old) work.found height some above cell.at.number cell.at.context cell.pos.0 cell.state.0 is_cell key Heights Asked is_taken_there));
+          (taken_called g functions routed alike Contexts functions_below (found_of g old) work.found height some above cell.at.number cell.at.context cell.pos.0 cell.state.0 is_cell key
+          Heights Asked is_taken_there));
       standing = subst (λ (cs : List Context). AllStanding g cs (found_of g new) (ReturnsThere g cs (found_of g new) cell.at.number cell.pos.0 cell.state.0)) (sym takes.contexts)
           (subst (λ (s : Found). AllStanding g Contexts s (ReturnsThere g Contexts s cell.at.number cell.pos.0 cell.state.0)) (sym found_new)
-          (taken_standing g functions routed alike Contexts functions_below (found_of g old) work.found height some above cell.at.number cell.at.context cell.pos.0 cell.state.0 is_cell key Heights Asked is_taken_there));
+          (taken_standing g functions routed alike Contexts functions_below (found_of g old) work.found height some above cell.at.number cell.at.context cell.pos.0 cell.state.0 is_cell key
+          Heights Asked is_taken_there));
     }

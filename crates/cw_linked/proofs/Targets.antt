@@ -65,7 +65,8 @@ module _ (g : Game) (functions : ℕ) (routed : AreRouted g functions) (old : Wo
   back_here call is back e = record {
     at = freed.at.is.at;
     of = subst (λ (y : ℕ). IsOf g link.at.context.function y) e
-        (back_stays g functions routed link.at.context.function link.pos.0 call (there_at g functions routed old.table freed.firm.table link.at.number link.at.context freed.at.is.at).below freed.at.is.of is.calls);
+        (back_stays g functions routed link.at.context.function link.pos.0 call (there_at g functions routed old.table freed.firm.table link.at.number link.at.context freed.at.is.at).below
+        freed.at.is.of is.calls);
     state = freed.at.is.state;
   }
 
@@ -148,7 +149,8 @@ module _ (g : Game) (functions : ℕ) (routed : AreRouted g functions) (old : Wo
     -- as much is left to do
     left_then : work_left g mid ≡ work_left g old
     left_then = added_left g old mid to (size g to.function) adds.contexts adds.heights adds.to
-        (let more = grown_length old.table.heights.items mid.table.heights.items (size g to.function) 0 adds.heights in let t = adds.firm.table in omega (arith, more, t.cells, t.few)) freed.firm.long.to freed.firm.callers.few
+        (let more = grown_length old.table.heights.items mid.table.heights.items (size g to.function) 0 adds.heights in let t = adds.firm.table in omega (arith, more, t.cells, t.few))
+        freed.firm.long.to freed.firm.callers.few
 
     ties_then : ties_left g mid.table.contexts.items (slice_index mid.store.to place) ≡ ties_left g Contexts (slice_index old.store.to place)
     ties_then =

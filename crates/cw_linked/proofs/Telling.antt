@@ -1,5 +1,6 @@
 -- What is told of a cell is asked for.
-use Rattle.std.proofs.Common.{◌≡◌, ℕ, ◌+◌, ◌*◌, ◌<◌, ◌≤◌, List, false, ◌&&◌, ◌||◌, Some, length, get_or, set, refl, sym, ap, ◌∙◌, subst, arith, inl, inr, length-set, get_or-set_same, get_or-set_other, Bool}
+use Rattle.std.proofs.Common.{◌≡◌, ℕ, ◌+◌, ◌*◌, ◌<◌, ◌≤◌, List, false, ◌&&◌, ◌||◌, Some, length, get_or, set, refl, sym, ap, ◌∙◌, subst, arith, inl, inr, length-set}
+use Rattle.std.proofs.Common.{get_or-set_same, get_or-set_other, Bool}
 use Rattle.std.specs.Prelude.{slice_get, slice_index, nat_eq, nat_lt}
 use Rattle.std.proofs.lemmas.Bool.{cases_eq}
 use Rattle.cw_game.specs.Games.{Game, Holds}
@@ -115,7 +116,8 @@ module _ (g : Game) (functions : ℕ) (routed : AreRouted g functions) (alike : 
       long = is_long;
       high = is_high;
       lowers = cell_lowers g functions routed alike old new below long j d r x place (2 * n) is here inside twice asks;
-      right = subst (λ (y : Found). AreRight g Contexts y) (sym (found_keys g old new asks.others)) (cell_right g functions routed alike old new below long j d r x place (2 * n) is here inside twice asks right n refl lost);
+      right = subst (λ (y : Found). AreRight g Contexts y) (sym (found_keys g old new asks.others))
+          (cell_right g functions routed alike old new below long j d r x place (2 * n) is here inside twice asks right n refl lost);
       dues = same_dues g old new asks.others asks.due;
     }
 
@@ -148,7 +150,8 @@ nothing g old long high right = record {
 }
 
 -- nothing is told of the cell
-pub told_none : (g : Game) (functions : ℕ) (routed : AreRouted g functions) (alike : AreAlike g) (old : Work) → IsTable g old.table → AreLong old → AreHigh old → AreRight g old.table.contexts.items (found_of g old)
+pub told_none : (g : Game) (functions : ℕ) (routed : AreRouted g functions) (alike : AreAlike g) (old : Work) → IsTable g old.table → AreLong old → AreHigh old
+    → AreRight g old.table.contexts.items (found_of g old)
     → (at : Tabled) (p q : ℕ) → (is_call_in (slice_get g.spots p) ≡ false → IsBound g (heights_of g old.table) at.number p q at.context.promise 0) → AsksTold g old old at p q
 told_none g functions routed alike old table long high right at p q bound = record {
   step = nothing g old long high right;
@@ -185,5 +188,6 @@ two_steps g old mid new a b = record {
   where
     later : Lowers g old.table.contexts.items (with_keys (found_of g old) (value_at g old.table.contexts.items mid.store.asked) (value_at g old.table.contexts.items mid.store.due))
         (value_at g old.table.contexts.items new.store.asked) (value_at g old.table.contexts.items new.store.due)
-    later = subst (λ (s : Found). Lowers g old.table.contexts.items s (value_at g old.table.contexts.items new.store.asked) (value_at g old.table.contexts.items new.store.due)) (found_keys g old mid a.others)
+    later = subst (λ (s : Found). Lowers g old.table.contexts.items s (value_at g old.table.contexts.items new.store.asked) (value_at g old.table.contexts.items new.store.due))
+        (found_keys g old mid a.others)
         (subst (λ (t : Table). Lowers g t.contexts.items (found_of g mid) (value_at g t.contexts.items new.store.asked) (value_at g t.contexts.items new.store.due)) a.others.table b.lowers)

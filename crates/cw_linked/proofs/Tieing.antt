@@ -33,14 +33,16 @@ use Rattle.cw_linked.proofs.Taking.{one_call}
 use Rattle.cw_linked.proofs.Telling.{below, still_standing, still_called, nothing}
 use Rattle.cw_linked.proofs.Working.{found_keys}
 
-pub tied_callers : (old new : Work) (place number : ℕ) → AreCallers old → place < length old.table.heights.items → number < length old.table.contexts.items → length old.store.to ≡ length old.table.heights.items
+pub tied_callers : (old new : Work) (place number : ℕ) → AreCallers old → place < length old.table.heights.items → number < length old.table.contexts.items
+    → length old.store.to ≡ length old.table.heights.items
     → new.table ≡ old.table → length new.store.lists ≡ length old.store.lists → new.store.to ≡ set old.store.to place (number + 1) → AreCallers new
 tied_callers old new place number c inside few long table lists to = record {
   more = (let e = ap (λ (t : Table). length t.contexts.items) table in omega (arith, e, lists, c.more));
   few = λ k lt. subst (λ (ys : List ℕ). slice_index ys k ≤ length new.table.contexts.items) (sym to)
       (subst (λ (t : Table). slice_index (set old.store.to place (number + 1)) k ≤ length t.contexts.items) (sym table)
       (elim (cases_eq k place) [
-        | inl e ↦ let v : slice_index (set old.store.to place (number + 1)) k ≡ number + 1 = ap (slice_index (set old.store.to place (number + 1))) e ∙ get_or-set_same old.store.to place (number + 1) 0 (omega (arith, inside, long)) in omega (arith, v, few)
+        | inl e ↦ let v : slice_index (set old.store.to place (number + 1)) k ≡ number + 1 = ap (slice_index (set old.store.to place (number + 1))) e
+            ∙ get_or-set_same old.store.to place (number + 1) 0 (omega (arith, inside, long)) in omega (arith, v, few)
         | inr ne ↦ let v = get_or-set_other old.store.to place k (number + 1) 0 ne in let f = c.few k (old_length k lt) in omega (arith, v, f)
       ]));
 }
@@ -50,7 +52,8 @@ tied_callers old new place number c inside few long table lists to = record {
 
 module _ (g : Game) (functions : ℕ) (routed : AreRouted g functions) (alike : AreAlike g) where
   -- A callee that isn't lost from a state has no call to ask for.
-  pub unlost_call : (w : Work) → IsTable g w.table → AreLong w → AreHigh w → AreRight g w.table.contexts.items (found_of g w) → (place : ℕ) (cell : Cell) → heights_of g w.table cell.at.number cell.pos.0 cell.state.0 ≡ 0 → AsksCaller g w w place cell
+  pub unlost_call : (w : Work) → IsTable g w.table → AreLong w → AreHigh w → AreRight g w.table.contexts.items (found_of g w) → (place : ℕ) (cell : Cell)
+      → heights_of g w.table cell.at.number cell.pos.0 cell.state.0 ≡ 0 → AsksCaller g w w place cell
   unlost_call w table long high right place cell none = record {
     step = nothing g w long high right;
     called = λ i c p q call is es goes at.
@@ -60,7 +63,8 @@ module _ (g : Game) (functions : ℕ) (routed : AreRouted g functions) (alike : 
   }
 
   -- and no link
-  pub unlost_return : (w : Work) → AreLong w → AreHigh w → AreRight g w.table.contexts.items (found_of g w) → (cell : Cell) (p : ℕ) → heights_of g w.table cell.at.number cell.pos.0 cell.state.0 ≡ 0 → AsksReturn g w w cell p
+  pub unlost_return : (w : Work) → AreLong w → AreHigh w → AreRight g w.table.contexts.items (found_of g w) → (cell : Cell) (p : ℕ) → heights_of g w.table cell.at.number cell.pos.0 cell.state.0 ≡ 0
+      → AsksReturn g w w cell p
   unlost_return w long high right cell p none = record {
     step = nothing g w long high right;
     standing = λ k call link back x lt same tied set goes member some.
@@ -104,15 +108,18 @@ module _ (g : Game) (functions : ℕ) (routed : AreRouted g functions) (alike : 
             (still_called g functions routed alike mid new mid_table asks.step.others asks.step.lowers _
             (subst (λ (t : Table). AllCalled g t.contexts.items (found_of g mid) (CallsFrom g link.at.number link.pos.0 link.state.0 cell.state.0)) tables all))
 
-        asked : (call : Called) → call_in (slice_get g.spots p) ≡ Some call → IsSame i p (class_of g call.split q) link.at.number link.pos.0 link.state.0 → q ≡ cell.state.0 → IsCalled g (found_of g new) i p q
+        asked : (call : Called) → call_in (slice_get g.spots p) ≡ Some call → IsSame i p (class_of g call.split q) link.at.number link.pos.0 link.state.0 → q ≡ cell.state.0
+            → IsCalled g (found_of g new) i p q
         asked call es same state =
             let k = class_of g call.split q in
             let spot : place_at g Contexts i p k ≡ place_at g Contexts link.at.number link.pos.0 link.state.0
-            = ap (λ (y : ℕ). place_at g Contexts y p k) same.0 ∙ ap (λ (y : ℕ). place_at g Contexts link.at.number y k) same.1 ∙ ap (λ (y : ℕ). place_at g Contexts link.at.number link.pos.0 y) same.2 in
+            = ap (λ (y : ℕ). place_at g Contexts y p k) same.0 ∙ ap (λ (y : ℕ). place_at g Contexts link.at.number y k) same.1
+            ∙ ap (λ (y : ℕ). place_at g Contexts link.at.number link.pos.0 y) same.2 in
             let here : place ≡ place_at g Contexts i p k = at.place ∙ sym (place_is g Contexts link.at.number link.at.context link.pos.0 link.state.0 at.is.at) ∙ sym spot in
             let value : value_at g Contexts w.store.to i p k ≡ suc cell.at.number = ap (slice_index w.store.to) (sym here) ∙ goes in
             let now : value_at g Contexts mid.store.to i p k ≡ suc cell.at.number = ap (λ (ys : List ℕ). value_at g Contexts ys i p k) step.others.to ∙ value in
-            let there : value_at g mid.table.contexts.items mid.store.to i p k ≡ suc cell.at.number = subst (λ (t : Table). value_at g t.contexts.items mid.store.to i p k ≡ suc cell.at.number) tables now in
+            let there : value_at g mid.table.contexts.items mid.store.to i p k ≡ suc cell.at.number =
+            subst (λ (t : Table). value_at g t.contexts.items mid.store.to i p k ≡ suc cell.at.number) tables now in
             let to : (found_of g mid).to i p k ≡ cell.at.number = omega (arith, there) in
             let is_mid : IsCell g mid.table.contexts.items i c p q = subst (λ (t : Table). IsCell g t.contexts.items i c p q) tables is in
             let linked : IsLink g Contexts i c p k call = link_of g functions routed alike Contexts (below g functions routed alike w w table) i c p q call is es in
@@ -139,7 +146,8 @@ module _ (g : Game) (functions : ℕ) (routed : AreRouted g functions) (alike : 
                 let one : returns.0 ≡ call = one_call (slice_get g.spots link.pos.0) returns.0 call returns.1 is.calls in
                 let behind : call.back ≡ cell.pos.0 = ap (λ (c : Called). c.back) (sym one) ∙ returns.2 ∙ sym pos in
                 subst (λ (t : Table). IsStanding g t.contexts.items (found_of g new) link.at.number link.pos.0 link.state.0 call y) (sym tables)
-                (subst (λ (a : Tabled). IsLink g mid.table.contexts.items a.number a.context link.pos.0 link.state.0 call → IsStanding g mid.table.contexts.items (found_of g new) a.number link.pos.0 link.state.0 call y) at
+                (subst (λ (a : Tabled). IsLink g mid.table.contexts.items a.number a.context link.pos.0 link.state.0 call
+                → IsStanding g mid.table.contexts.items (found_of g new) a.number link.pos.0 link.state.0 call y) at
                 (λ l. asks.standing link.state.0 call l behind y lt same) is_mid)
           ]
         where
@@ -151,7 +159,8 @@ module _ (g : Game) (functions : ℕ) (routed : AreRouted g functions) (alike : 
           (still_standing g functions routed alike mid new mid_table asks.step.others asks.step.lowers _
           (subst (λ (t : Table). AllStanding g t.contexts.items (found_of g mid) (IsIt link.at.number link.pos.0 link.state.0)) tables all))
 
-  pub all_again : (w new : Work) → IsTable g w.table → LowersKeys g w new → (link : Cell) → HasCell g w.table link.at link.pos.0 link.state.0 → IsTied (found_of g w) link.at.number link.pos.0 link.state.0
+  pub all_again : (w new : Work) → IsTable g w.table → LowersKeys g w new → (link : Cell) → HasCell g w.table link.at link.pos.0 link.state.0
+      → IsTied (found_of g w) link.at.number link.pos.0 link.state.0
       → (from : ℕ) → g.states.count ≤ from → AllStanding g w.table.contexts.items (found_of g new) (IsIt link.at.number link.pos.0 link.state.0)
       → ((call : Called) → IsLink g w.table.contexts.items link.at.number link.at.context link.pos.0 link.state.0 call
       → (y : ℕ) → y < g.states.count → returned g.states (kept_at call.split link.state.0) y < from
@@ -162,12 +171,14 @@ module _ (g : Game) (functions : ℕ) (routed : AreRouted g functions) (alike : 
         | inl stands ↦ inl stands
         | inr same ↦
             let mine : IsLink g w.table.contexts.items link.at.number link.at.context link.pos.0 link.state.0 call = at_link same in
-            let is_tied_now : IsTied (found_of g new) link.at.number link.pos.0 link.state.0 = subst (λ (s : Found). IsTied s link.at.number link.pos.0 link.state.0) (sym (found_keys g w new step.others)) tied in
+            let is_tied_now : IsTied (found_of g new) link.at.number link.pos.0 link.state.0 = subst (λ (s : Found). IsTied s link.at.number link.pos.0 link.state.0)
+            (sym (found_keys g w new step.others)) tied in
             inl (link_is g w.table.contexts.items link.at.number link.at.context link.pos.0 link.state.0 call mine i c p k call is same
             (λ i c p k call. IsFresh (found_of g new) i p k × ((y : ℕ) → y < g.states.count → IsStanding g w.table.contexts.items (found_of g new) i p k call y)) (
               λ free. absurd (not_both ((found_of g new).tied link.at.number link.pos.0 link.state.0) is_tied_now free),
               λ y lt. before call mine y lt
-                  (let b = (back_of g functions routed alike w.table.contexts.items (below g functions routed alike w w table) link.at.number link.at.context link.pos.0 link.state.0 call y mine lt).state in omega (arith, b, most)),
+                  (let b = (back_of g functions routed alike w.table.contexts.items
+                  (below g functions routed alike w w table) link.at.number link.at.context link.pos.0 link.state.0 call y mine lt).state in omega (arith, b, most)),
             ))
       ]
     where

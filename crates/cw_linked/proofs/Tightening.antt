@@ -133,7 +133,8 @@ module _ (g : Game) (functions : ℕ) (routed : AreRouted g functions) (alike : 
       callers = ties.callers;
       dues = dues;
       right = subst (λ (t : Table). AreRight g t.contexts.items (found_of g mid)) tables (subst (λ (s : Found). AreRight g Contexts s) (sym found_mid)
-          (tied_right g functions routed alike Contexts functions_below (found_of g old) tieable.firm.right link.at.number link.at.context link.pos.0 link.state.0 call is_link free moves target.promise tieable.ready.4
+          (tied_right g functions routed alike Contexts functions_below (found_of g old) tieable.firm.right link.at.number link.at.context link.pos.0 link.state.0 call is_link free moves
+          target.promise tieable.ready.4
           callee there To Wave Tied is_tied_there));
     }
 
@@ -143,7 +144,8 @@ module _ (g : Game) (functions : ℕ) (routed : AreRouted g functions) (alike : 
       is = subst (λ (t : Table). HasCell g t link.at link.pos.0 link.state.0) tables tieable.at.is;
       place = tieable.at.place ∙ sym (place_is g Contexts link.at.number link.at.context link.pos.0 link.state.0 tieable.at.is.at)
           ∙ ap (λ (t : Table). place_at g t.contexts.items link.at.number link.pos.0 link.state.0) tables
-          ∙ place_is g mid.table.contexts.items link.at.number link.at.context link.pos.0 link.state.0 (subst (λ (t : Table). slice_get t.contexts.items link.at.number ≡ Some link.at.context) tables tieable.at.is.at);
+          ∙ place_is g mid.table.contexts.items link.at.number link.at.context link.pos.0 link.state.0
+          (subst (λ (t : Table). slice_get t.contexts.items link.at.number ≡ Some link.at.context) tables tieable.at.is.at);
     }
 
     pub mid_goes : slice_index mid.store.to place ≡ suc callee
@@ -155,7 +157,8 @@ module _ (g : Game) (functions : ℕ) (routed : AreRouted g functions) (alike : 
     pub mid_called : AllCalled g mid.table.contexts.items (found_of g mid) (CallsBy g link.at.number link.pos.0 link.state.0)
     mid_called = subst (λ (t : Table). AllCalled g t.contexts.items (found_of g mid) (CallsBy g link.at.number link.pos.0 link.state.0)) tables
         (subst (λ (s : Found). AllCalled g Contexts s (CallsBy g link.at.number link.pos.0 link.state.0)) (sym found_mid)
-        (tied_called g functions routed alike Contexts functions_below (found_of g old) tieable.firm.right link.at.number link.at.context link.pos.0 link.state.0 call is_link free moves target.promise tieable.ready.4
+        (tied_called g functions routed alike Contexts functions_below (found_of g old) tieable.firm.right link.at.number link.at.context link.pos.0 link.state.0 call is_link free moves
+        target.promise tieable.ready.4
         callee there To Wave Tied is_tied_there tieable.called))
 
     mid_closed : AllClosed g mid.table.contexts.items (found_of g mid) Nothing
@@ -164,7 +167,8 @@ module _ (g : Game) (functions : ℕ) (routed : AreRouted g functions) (alike : 
     mid_standing : AllStanding g mid.table.contexts.items (found_of g mid) (IsIt link.at.number link.pos.0 link.state.0)
     mid_standing = subst (λ (t : Table). AllStanding g t.contexts.items (found_of g mid) (IsIt link.at.number link.pos.0 link.state.0)) tables
         (subst (λ (s : Found). AllStanding g Contexts s (IsIt link.at.number link.pos.0 link.state.0)) (sym found_mid)
-        (tied_standing g functions routed alike Contexts functions_below (found_of g old) tieable.firm.right link.at.number link.at.context link.pos.0 link.state.0 call is_link free moves target.promise tieable.ready.4
+        (tied_standing g functions routed alike Contexts functions_below (found_of g old) tieable.firm.right link.at.number link.at.context link.pos.0 link.state.0 call is_link free moves
+        target.promise tieable.ready.4
         callee there To Wave Tied is_tied_there tieable.standing))
 
     mid_tied : IsTied (found_of g mid) link.at.number link.pos.0 link.state.0

@@ -53,7 +53,8 @@ module _ (g : Game) (functions : ℕ) (routed : AreRouted g functions) (alike : 
 
     asked_before : (m : ℕ) → m < n → IsAsked g contexts m r x d.promise
     asked_before m less other es =
-        subst (λ (y : Called). (set : ℕ) × Contains contexts (context y.function set) × IsSetOf g set (promise_at g m y.back (kept_at y.split x) d.promise)) (one_call (slice_get g.spots r) call other link.calls es)
+        subst (λ (y : Called). (set : ℕ) × Contains contexts (context y.function set) × IsSetOf g set (promise_at g m y.back (kept_at y.split x) d.promise))
+        (one_call (slice_get g.spots r) call other link.calls es)
         (let tied = tied_before m less in
         elim (cases_lt (s.wave j r x) m) [
           | inr before ↦ found.right.past j d r x call link tied m before call link.calls
@@ -75,7 +76,8 @@ module _ (g : Game) (functions : ℕ) (routed : AreRouted g functions) (alike : 
     }
 
   -- The link waits no more.
-  module _ (s : Found) (found : AreFound g contexts s) (j : ℕ) (d : Context) (r x : ℕ) (call : Called) (link : IsLink g contexts j d r x call) (due : ℕ → ℕ → ℕ → ℕ) (frees : Frees g contexts s due j r x) where
+  module _ (s : Found) (found : AreFound g contexts s) (j : ℕ) (d : Context) (r x : ℕ) (call : Called) (link : IsLink g contexts j d r x call) (due : ℕ → ℕ → ℕ → ℕ)
+      (frees : Frees g contexts s due j r x) where
     pub freed_right : AreRight g contexts (with_keys s s.asked due)
     freed_right = record {
       taken = found.right.taken;
@@ -123,7 +125,8 @@ module _ (g : Game) (functions : ℕ) (routed : AreRouted g functions) (alike : 
           | inl less ↦ ready.past m less
           | inr more ↦ λ other es.
               let e : n ≡ m = omega (arith, le, more) in
-              subst (λ (y : Called). (set : ℕ) × Contains contexts (context y.function set) × IsSetOf g set (promise_at g m y.back (kept_at y.split x) d.promise)) (one_call (slice_get g.spots r) call other link.calls es)
+              subst (λ (y : Called). (set : ℕ) × Contains contexts (context y.function set) × IsSetOf g set (promise_at g m y.back (kept_at y.split x) d.promise))
+              (one_call (slice_get g.spots r) call other link.calls es)
               (set, contained contexts callee (context call.function set) at, subst (λ (y : ℕ). IsSetOf g set (promise_at g y call.back (kept_at call.split x) d.promise)) e ready.promise)
         ]
 
@@ -132,7 +135,8 @@ module _ (g : Game) (functions : ℕ) (routed : AreRouted g functions) (alike : 
       taken = right.taken;
       lost = right.lost;
       linked = λ i c p k other is t. elim (same_or_other i p k j r x) [
-        | inl e ↦ at_link i c p k other is e (λ i c p k other. (set : ℕ) × GoesTo contexts After i p k other set × IsSetOf g set (promise_at g (wave i p k) other.back (kept_at other.split k) c.promise))
+        | inl e ↦ at_link i c p k other is e (λ i c p k other. (set : ℕ) × GoesTo contexts After i p k other set
+            × IsSetOf g set (promise_at g (wave i p k) other.back (kept_at other.split k) c.promise))
             (set, ap (slice_get contexts) ties.here ∙ at, subst (λ (y : ℕ). IsSetOf g set (promise_at g y call.back (kept_at call.split x) d.promise)) (sym ties.now) ready.promise)
         | inr o ↦
             let l = right.linked i c p k other is (was_tied i c p k other is o t) in (
@@ -177,7 +181,8 @@ module _ (g : Game) (functions : ℕ) (routed : AreRouted g functions) (alike : 
               let k = class_of g other.split q in
               let here = link_of g functions routed alike contexts below i c p q other is es in
               let tos = ap (λ (y : ℕ). s.height y (g.entry other.function) q) (ties.tos i c p k other here o) in
-              all_of (IsCalled g s i p q) (called i c p q is) other es (was_tied i c p k other here o t) none m (omega (arith, le, ties.waves i c p k other here o)) (omega (arith, some, tos)) (omega (arith, within, tos))))
+              all_of (IsCalled g s i p q) (called i c p q is) other es (was_tied i c p k other here o t) none m (omega (arith, le, ties.waves i c p k other here o)) (omega (arith, some, tos))
+              (omega (arith, within, tos))))
         ])
         (λ plain. inl (λ other es. absurd (not_both (is_call_in (slice_get g.spots p)) (is_a_call (slice_get g.spots p) other es) plain)))
 

@@ -1,5 +1,5 @@
 -- A walk along a list of links: what is left of it, and its next step.
-use Rattle.std.proofs.Common.{◌≡◌, ◌≢◌, ℕ, zero, suc, inl, inr, Bool, true, false, List, [], ◌∷◌, ◌++◌, eqb, Option, Some, refl, sym, ap, ◌∙◌, subst, arith}
+use Rattle.std.proofs.Common.{◌≡◌, ◌≢◌, ◌<◌, ℕ, zero, suc, inl, inr, Bool, true, false, List, [], ◌∷◌, ◌++◌, eqb, Option, Some, length, refl, sym, ap, ◌∙◌, subst, arith}
 use Rattle.std.specs.Prelude.{slice_get, if◌then◌else◌}
 use Rattle.std.specs.List.{concat, IsDistinct, AllByRecursion}
 use Rattle.std.proofs.lemmas.Bool.{cases_eq, eq-eqb, ne_eqb, eqb-true}
@@ -85,12 +85,29 @@ walk_begins xs next is =
     let whole : rest_of xs next ≡ xs = ap (rest_of xs) is ∙ rest_whole xs in
     (whole, ap (λ (ys : List ℕ). slice_get ys 0) whole ∙ sym is)
 
--- one step of a walk
-pub walk_steps : (lists : List (List ℕ)) (cells l edge : ℕ) (next : Option ℕ) → AreApart lists cells → slice_get (from (list_at lists l) edge) 0 ≡ Some edge
-    → ((list : ℕ) (front back : List ℕ) → list_at lists list ≡ front ++ edge ∷ back → next ≡ slice_get back 0)
-    → (back : List ℕ) × (from (list_at lists l) edge ≡ edge ∷ back) × (rest_of (list_at lists l) next ≡ back) × (slice_get (rest_of (list_at lists l) next) 0 ≡ next)
-walk_steps lists cells l edge next apart at within =
-    let s = split_at (list_at lists l) edge at in
+-- a step of a walk that stands at a cell: what is left behind it, and with the next one
+pub record StepsOn (xs : List ℕ) (edge : ℕ) (now next : Option ℕ) : Type 0 where
+  pub back : List ℕ
+  pub rest : rest_of xs now ≡ edge ∷ back
+  pub left : rest_of xs next ≡ back
+  pub at : slice_get (rest_of xs next) 0 ≡ next
+  pub fewer : length (rest_of xs next) < length (rest_of xs now)
+
+pub walk_steps : (lists : List (List ℕ)) (cells l edge : ℕ) (now next : Option ℕ) → now ≡ Some edge → slice_get (rest_of (list_at lists l) now) 0 ≡ now → AreApart lists cells
+    → ((list : ℕ) (front back : List ℕ) → list_at lists list ≡ front ++ edge ∷ back → next ≡ slice_get back 0) → StepsOn (list_at lists l) edge now next
+walk_steps lists cells l edge now next here at apart within =
+    let xs = list_at lists l in
+    let s = split_at xs edge (subst (λ (o : Option ℕ). slice_get (rest_of xs o) 0 ≡ o) here at) in
     let is = within l s.0 s.1 s.2 in
-    let rest : rest_of (list_at lists l) next ≡ s.1 = ap (rest_of (list_at lists l)) is ∙ rest_after (list_at lists l) s.0 s.1 edge (apart_once lists cells l apart) s.2 in
-    (s.1, s.3, rest, ap (λ (ys : List ℕ). slice_get ys 0) rest ∙ sym is)
+    let rest : rest_of xs now ≡ edge ∷ s.1 = ap (rest_of xs) here ∙ s.3 in
+    let left : rest_of xs next ≡ s.1 = ap (rest_of xs) is ∙ rest_after xs s.0 s.1 edge (apart_once lists cells l apart) s.2 in
+    let old = ap (λ (ys : List ℕ). length ys) rest in
+    let new = ap (λ (ys : List ℕ). length ys) left in
+    record { back = s.1; rest = rest; left = left; at = ap (λ (ys : List ℕ). slice_get ys 0) left ∙ sym is; fewer = omega (arith, old, new) }
+
+-- the same, where the lists are those with which the walk began
+pub walk_goes_on : (lists before : List (List ℕ)) → lists ≡ before → (cells l edge : ℕ) (now next : Option ℕ) → now ≡ Some edge → slice_get (rest_of (list_at before l) now) 0 ≡ now
+    → AreApart lists cells → ((list : ℕ) (front back : List ℕ) → list_at lists list ≡ front ++ edge ∷ back → next ≡ slice_get back 0) → StepsOn (list_at before l) edge now next
+walk_goes_on lists before same cells l edge now next here at apart within =
+    subst (λ (ls : List (List ℕ)). StepsOn (list_at ls l) edge now next) same
+    (walk_steps lists cells l edge now next here (subst (λ (ls : List (List ℕ)). slice_get (rest_of (list_at ls l) now) 0 ≡ now) (sym same) at) apart within)

@@ -57,8 +57,10 @@ module _ (g : Game) (functions : ℕ) (routed : AreRouted g functions) (alike : 
     asked = value_at g old.table.contexts.items new.store.asked
 
     pub is_asked : AsksCell g old.table.contexts.items (found_of g old) asked j r x key
-    is_asked = subst (λ (y : List ℕ). AsksCell g old.table.contexts.items (found_of g old) (value_at g old.table.contexts.items y) j r x key) (sym (asks.asked ∙ ap (λ (y : ℕ). asked_with old.table.heights.items old.store.asked y key) at))
-        (asks_for_cell g old.table.contexts.items (found_of g old) old.table.heights.items old.store.asked old.store.due j d r x key some cell (omega (arith, at, within, long.asked)) refl (λ i p q. refl))
+    is_asked = subst (λ (y : List ℕ). AsksCell g old.table.contexts.items (found_of g old) (value_at g old.table.contexts.items y) j r x key)
+        (sym (asks.asked ∙ ap (λ (y : ℕ). asked_with old.table.heights.items old.store.asked y key) at))
+        (asks_for_cell g old.table.contexts.items (found_of g old) old.table.heights.items old.store.asked old.store.due j d r x key some cell
+        (omega (arith, at, within, long.asked)) refl (λ i p q. refl))
 
     same_due : (i p k : ℕ) → value_at g old.table.contexts.items new.store.due i p k ≡ (found_of g old).due i p k
     same_due i p k = ap (λ (y : List ℕ). value_at g old.table.contexts.items y i p k) asks.due
@@ -83,7 +85,8 @@ module _ (g : Game) (functions : ℕ) (routed : AreRouted g functions) (alike : 
     pub is_due : AsksLink g old.table.contexts.items (found_of g old) due j r x key
     is_due = subst (λ (y : List ℕ). AsksLink g old.table.contexts.items (found_of g old) (value_at g old.table.contexts.items y) j r x key)
         (sym (asks.due ∙ ap (λ (y : ℕ). lowered old.store.due y key) at))
-        (asks_for_link g old.table.contexts.items (found_of g old) old.table.heights.items old.store.asked old.store.due j d r x key some call link (omega (arith, at, within, long.due)) (λ i p q. refl))
+        (asks_for_link g old.table.contexts.items (found_of g old) old.table.heights.items old.store.asked old.store.due j d r x key some call link
+        (omega (arith, at, within, long.due)) (λ i p q. refl))
 
     abbrev Asked : List ℕ → Found
     Asked asked = with_keys (found_of g old) (value_at g old.table.contexts.items asked) due

@@ -1,12 +1,11 @@
 -- Working definitions: what a step of the solver changes, and what it leaves to do.
-use Rattle.std.specs.Prelude.{◌≡◌, ◌⊎◌, ℕ, suc, ◌<◌, List, [], ◌∷◌, ◌++◌, Bool, true, false, Option, Some, None, length, slice_get}
+use Rattle.std.specs.Prelude.{◌≡◌, ◌⊎◌, ℕ, suc, ◌<◌, List, [], ◌∷◌, ◌++◌, Bool, true, false, Option, Some, length, slice_get}
 use Rattle.cw_certs.specs.declared.moves.Move.{Move}
-use Rattle.cw_certs.specs.declared.moves.Move.TheVariants.{Skip, Try, Grant, Refuse, On, Left, Right, Opened, Failed}
 use Rattle.cw_game.specs.declared.spots.Spot.{Spot}
-use Rattle.cw_game.specs.declared.spots.Spot.TheVariants.{Visit, Asked, Branch, Open}
 use Rattle.cw_game.specs.Games.{Game, returned, holds_in, Holds}
 use Rattle.cw_game.specs.Pairs.{has, Called, call_in, kept_at}
 use Rattle.cw_product.specs.Moves.{next_at}
+use Rattle.cw_product.specs.MovesAt.{first_move, second_move}
 use Rattle.cw_solve.specs.declared.contexts.Context.{Context}
 use Rattle.cw_solve.specs.Contexts.{promise_at, IsSetOf}
 use Rattle.cw_solve.specs.Rounds.{IsCell, IsAsked, holds_by}
@@ -31,21 +30,6 @@ pub record Takes (g : Game) (contexts : List Context) (s : Found) (height asked 
   pub done : asked j r x ≡ 0
   pub heights : (i : ℕ) (c : Context) (p q : ℕ) → IsCell g contexts i c p q → IsOther i p q j r x → height i p q ≡ s.height i p q
   pub askeds : (i : ℕ) (c : Context) (p q : ℕ) → IsCell g contexts i c p q → IsOther i p q j r x → asked i p q ≡ s.asked i p q
-
--- the moves that there are where this stands, one or two
-abbrev pub first_move : Option Spot → Move
-first_move (Some (Visit j i a)) = Skip
-first_move (Some (Asked j i a)) = Grant
-first_move (Some (Branch m n)) = Left
-first_move (Some (Open j d n)) = Opened
-first_move _ = On
-
-abbrev pub second_move : Option Spot → Option Move
-second_move (Some (Visit j i a)) = Some Try
-second_move (Some (Asked j i a)) = Some Refuse
-second_move (Some (Branch m n)) = Some Right
-second_move (Some (Open j d n)) = Some Failed
-second_move _ = None
 
 abbrev pub IsMoveIn : Option Spot → Move → Type 0
 IsMoveIn s by = (first_move s ≡ by) ⊎ (second_move s ≡ Some by)

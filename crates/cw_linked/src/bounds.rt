@@ -1,6 +1,6 @@
 //! What the heights that are taken tell of a cell.
 
-ghost use Rattle.std.specs.Prelude.{◌≡◌, ◌⊎◌, ℕ, suc, false, true, ◌+◌, ◌<◌, ◌≤◌, ◌&&◌, ◌||◌, nat_eq, Some, length, slice_get};
+ghost use Rattle.std.specs.Prelude.{◌≡◌, ◌⊎◌, ℕ, suc, false, true, ◌+◌, ◌≤◌, ◌&&◌, ◌||◌, nat_eq, Some, length, slice_get};
 ghost use Rattle.cw_game.specs.Pairs.{has, is_call_in};
 ghost use Rattle.cw_product.specs.Product.{game_of};
 ghost use Rattle.cw_product.specs.Moves.{IsState, next_at};

@@ -3,12 +3,12 @@
 ghost use Rattle.std.specs.Prelude.{◌≡◌, ◌<◌, ◌≤◌, ◌+◌, ◌*◌, length, slice_get, OnOk, IfOk};
 ghost use Rattle.cw_product.specs.Product.{game_of};
 ghost use Rattle.cw_product.specs.Moves.{IsPosition, IsState};
+ghost use Rattle.cw_product.specs.MovesAt.{first_move, second_move};
 ghost use Rattle.cw_product.specs.Routed.{AreRouted};
 ghost use Rattle.cw_solve.specs.Rounds.{positions};
 ghost use Rattle.cw_linked.specs.Edges.{AddsSource, AddsMove, AddsMoves, AreSourcesTo, AreChangesTo, AreReturnsTo};
 ghost use Rattle.cw_linked.specs.Returns.{AreReturns};
 ghost use Rattle.cw_linked.specs.Runs.{AreRuns};
-ghost use Rattle.cw_linked.specs.Steps.{first_move, second_move};
 ghost use Rattle.cw_linked.specs.Waiting.{keeps_state, AreSources, AreChanges, AreWaits};
 
 use crate::divisor::Divisor;
@@ -49,22 +49,6 @@ pub(crate) struct Edges {
     pub waits: Waits,
     pub returns: Chains<PosId>,
     pub runs: Vec<Divisor>,
-}
-
-/// The moves at a position, one or two.
-fn moves_at(game: &Game, pos: PosId) -> (Move, Option<Move>)
-    requires position { IsPosition (game_of game.now) pos.0 }
-    ensures first { first_move (slice_get (game_of game.now).spots pos.0) ≡ result.0 }
-    ensures second { second_move (slice_get (game_of game.now).spots pos.0) ≡ result.1 }
-{
-    match game.spot(pos) {
-        Spot::Visit(_, _, _) => (Move::Skip, Some(Move::Try)),
-        Spot::Asked(_, _, _) => (Move::Grant, Some(Move::Refuse)),
-        Spot::Branch(_, _) => (Move::Left, Some(Move::Right)),
-        Spot::Open(_, _, _) => (Move::Opened, Some(Move::Failed)),
-        Spot::Step(_) | Spot::Label(_, _, _) | Spot::Close(_, _, _) => (Move::On, None),
-        Spot::Call(_, _, _) | Spot::SplitCall(_, _, _) | Spot::Exit(_) => (Move::On, None),
-    }
 }
 
 /// Whether the moves at a position keep the state.
@@ -109,7 +93,7 @@ fn add_sources(game: &Game, sources: &mut Chains<PosId>, pos: PosId) -> Result<(
     if !keeps(game, pos) {
         return Ok(());
     }
-    let moves = moves_at(game, pos);
+    let moves = game.moves(pos);
     add_source(game, sources, pos, moves.0)?;
     match moves.1 {
         None => Ok(()),
@@ -167,8 +151,8 @@ fn add_moves(
     requires routed { AreRouted (game_of game.now) (length game.now.graph.parts.items) }
     requires position { IsPosition (game_of game.now) pos.0 }
     requires state { IsState (game_of game.now) state.0 }
-    requires first { first_move (slice_get (game_of game.now).spots pos.0) ≡ moves.now.0 }
-    requires second { second_move (slice_get (game_of game.now).spots pos.0) ≡ moves.now.1 }
+    requires first { moves.now.0 ≡ first_move (slice_get (game_of game.now).spots pos.0) }
+    requires second { moves.now.1 ≡ second_move (slice_get (game_of game.now).spots pos.0) }
     requires lists { length changes.old.pairs.lists ≡ length (game_of game.now).spots * (game_of game.now).states.count }
     requires marks { length changes.old.marks.items ≡ length (game_of game.now).spots }
     requires few { length changes.old.pairs.values ≤ 16777200 }
@@ -194,7 +178,7 @@ fn add_pairs(game: &Game, changes: &mut Changes, pos: PosId) -> Result<(), NoMem
     if keeps(game, pos) {
         return Ok(());
     }
-    let moves = moves_at(game, pos);
+    let moves = game.moves(pos);
     for q in 0..game.states() {
         add_moves(game, changes, pos, StateId(q), &moves)?;
     }

@@ -1,6 +1,6 @@
 //! One more context: its cells and its links.
 
-ghost use Rattle.std.specs.Prelude.{◌≡◌, ◌++◌, ◌∷◌, [], ◌≤◌, ◌<◌, ◌+◌, true, Some, length, replicate, slice_get, OnOk, IfOk};
+ghost use Rattle.std.specs.Prelude.{◌≡◌, ◌≤◌, ◌<◌, ◌+◌, true, Some, length, slice_get, OnOk, IfOk};
 ghost use Rattle.cw_game.specs.Pairs.{Called, call_in};
 ghost use Rattle.cw_product.specs.Product.{game_of};
 ghost use Rattle.cw_product.specs.Moves.{IsPosition, IsState};
@@ -9,7 +9,6 @@ ghost use Rattle.cw_solve.specs.Rounds.{positions};
 ghost use Rattle.cw_product.specs.Routed.{IsThere, AreRouted};
 ghost use Rattle.cw_linked.specs.Added.{PushesPlaces, PushesNext, PushesContext, MarksState, MarksLinks};
 ghost use Rattle.cw_linked.specs.Founds.{class_of};
-ghost use Rattle.cw_linked.specs.Queues.{AreLong};
 
 use crate::calls::class_at;
 use crate::work::Work;

@@ -1,6 +1,6 @@
 //! A link that waits no more is tied to a context.
 
-ghost use Rattle.std.specs.Prelude.{◌≡◌, ◌+◌, ◌<◌, ◌≤◌, suc, true, Some, length, slice_get, slice_index, slice_set, OnOk};
+ghost use Rattle.std.specs.Prelude.{◌≡◌, ◌+◌, ◌<◌, ◌≤◌, suc, true, length, slice_index, slice_set, OnOk};
 ghost use Rattle.cw_game.specs.Games.{returned};
 ghost use Rattle.cw_game.specs.Pairs.{kept_at};
 ghost use Rattle.cw_marks.specs.Marks.{is_marked};
@@ -8,7 +8,7 @@ ghost use Rattle.cw_product.specs.Product.{game_of};
 ghost use Rattle.cw_product.specs.Moves.{IsPosition};
 ghost use Rattle.cw_product.specs.Routed.{AreRouted, IsOf};
 ghost use Rattle.cw_solve.specs.Contexts.{IsSetOf};
-ghost use Rattle.cw_solve.specs.Rounds.{IsCell, holds_by};
+ghost use Rattle.cw_solve.specs.Rounds.{holds_by};
 ghost use Rattle.cw_solve.specs.Tables.{IsTable, IsTabled, HasCell};
 ghost use Rattle.cw_linked.specs.Calls.{AreCallers, AsksCaller};
 ghost use Rattle.cw_linked.specs.Founds.{AreRight, AllCalled, AllStanding, IsTied};

@@ -3,6 +3,7 @@ pub mod Faults
 pub mod Kept
 pub mod Made
 pub mod Moves
+pub mod MovesAt
 pub mod Places
 pub mod Product
 pub mod Routed

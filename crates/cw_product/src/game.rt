@@ -64,6 +64,7 @@ impl<'g> Game<'g> {
     ghost use Rattle.cw_model.specs.Boards.{problem_of};
     ghost use Rattle.cw_game.specs.Standing.{IsGameOf};
     ghost use Rattle.cw_product.specs.Moves.{IsPosition, IsState, pair_of, numbers, next_in, next_at, turn_in, violated_at};
+    ghost use Rattle.cw_product.specs.MovesAt.{first_move, second_move};
     ghost use Rattle.cw_product.specs.Places.{IsPointOf, stage_in, is_asked_in, is_split_in};
     ghost use Rattle.cw_product.specs.Kept.{IsSound, IsFine, IsPart, IsPrimitive, IsDescriptor, IsLabel};
     ghost use Rattle.cw_game.specs.Conditions.{is_seam, is_stage};
@@ -437,6 +438,22 @@ impl<'g> Game<'g> {
                 state,
             )),
             _ => None,
+        }
+    }
+
+    /// The moves at a position, one or two.
+    pub fn moves(&self, pos: PosId) -> (Move, Option<Move>)
+        requires { IsPosition (game_of self.now) pos.0 }
+        ensures first { result.0 ≡ first_move (slice_get (game_of self.now).spots pos.0) }
+        ensures second { result.1 ≡ second_move (slice_get (game_of self.now).spots pos.0) }
+    {
+        match self.spot(pos) {
+            Spot::Visit(_, _, _) => (Move::Skip, Some(Move::Try)),
+            Spot::Asked(_, _, _) => (Move::Grant, Some(Move::Refuse)),
+            Spot::Branch(_, _) => (Move::Left, Some(Move::Right)),
+            Spot::Open(_, _, _) => (Move::Opened, Some(Move::Failed)),
+            Spot::Step(_) | Spot::Label(_, _, _) | Spot::Close(_, _, _) => (Move::On, None),
+            Spot::Call(_, _, _) | Spot::SplitCall(_, _, _) | Spot::Exit(_) => (Move::On, None),
         }
     }
 

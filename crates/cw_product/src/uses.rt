@@ -1,7 +1,6 @@
 //! What a program has that the states of a policy ask for.
 
-ghost use Rattle.std.specs.Prelude.{◌≡◌, length};
-ghost use Rattle.std.specs.List.{list_any};
+ghost use Rattle.std.specs.Prelude.{◌≡◌};
 ghost use Rattle.cw_rights.specs.Policies.{policy_of};
 ghost use Rattle.cw_product.specs.Uses.{is_close, is_label, closes_in, has_label, uses_of};
 

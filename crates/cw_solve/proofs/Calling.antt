@@ -48,7 +48,8 @@ module _ (g : Game) where
   target : (p q : ℕ) (s : Option Spot) (by : Move) (c : Config) → is_call_in s ≡ false → leads_in g p q [] s by ≡ Some c → Contains (targets p s) c.pos
   target p q (Some (Visit j i a)) Skip c k e = subst (λ (y : Config). Contains (targets p (Some (Visit j i a))) y.pos) (same_Some _ c e) (first_of_two (p + 2) (p + 1))
   target p q (Some (Visit j i a)) Try c k e = subst (λ (y : Config). Contains (targets p (Some (Visit j i a))) y.pos) (same_Some _ c e) (second_of_two (p + 2) (p + 1))
-  target p q (Some (Asked j i Split)) Grant c k e = subst (λ (y : Config). Contains (targets p (Some (Asked j i Split))) y.pos) (chosen (g.states.may_grant q Split) _ c e) (first_of_two (p + 2) (p + 1))
+  target p q (Some (Asked j i Split)) Grant c k e = subst (λ (y : Config). Contains (targets p (Some (Asked j i Split))) y.pos) (chosen (g.states.may_grant q Split) _ c e)
+      (first_of_two (p + 2) (p + 1))
   target p q (Some (Asked j i Enter)) Grant c k e = subst (λ (y : Config). Contains (targets p (Some (Asked j i Enter))) y.pos) (chosen (g.states.may_grant q Enter) _ c e) (only (p + 1))
   target p q (Some (Asked j i (Limit l))) Grant c k e = subst (λ (y : Config). Contains (targets p (Some (Asked j i (Limit l)))) y.pos) (chosen (g.states.may_grant q (Limit l)) _ c e) (only (p + 1))
   target p q (Some (Asked j i Split)) Refuse c k e = subst (λ (y : Config). Contains (targets p (Some (Asked j i Split))) y.pos) (chosen (refuses_in g q Split) _ c e) (second_of_two (p + 2) (p + 1))
@@ -131,7 +132,8 @@ module _ (g : Game) (functions : ℕ) (routed : AreRouted g functions) (t : Tabl
   pub back_cell : (at : Tabled) (p q f back : ℕ) (split : Bool) → HasCell g t at p q → HasCall g p f back split → HasCell g t at back q
   back_cell at p q f back split is call = record {
     at = is.at;
-    of = back_stays g functions routed at.context.function p (the_call call.0 f back split) (there_at g functions routed t table at.number at.context is.at).below is.of (called (slice_get g.spots p) split call.0 f back call.1);
+    of = back_stays g functions routed at.context.function p (the_call call.0 f back split) (there_at g functions routed t table at.number at.context is.at).below is.of
+        (called (slice_get g.spots p) split call.0 f back call.1);
     state = is.state;
   }
 

@@ -23,8 +23,10 @@ not_both b t f = let y : true ≡ false = sym t ∙ f in cc
 
 -- what stands where there is a call
 pub call_is : (o : Option Spot) (call : Called) → call_in o ≡ Some call → o ≡ Some (call_spot call.split call.seam call.function call.back)
-call_is (Some (Call j f n)) call e = let h : record { seam = j; function = f; back = n; split = false } ≡ call = same_Some _ _ e in subst (λ (c : Called). Some (Call j f n) ≡ Some (call_spot c.split c.seam c.function c.back)) h refl
-call_is (Some (SplitCall j f n)) call e = let h : record { seam = j; function = f; back = n; split = true } ≡ call = same_Some _ _ e in subst (λ (c : Called). Some (SplitCall j f n) ≡ Some (call_spot c.split c.seam c.function c.back)) h refl
+call_is (Some (Call j f n)) call e = let h : record { seam = j; function = f; back = n; split = false } ≡ call = same_Some _ _ e in
+    subst (λ (c : Called). Some (Call j f n) ≡ Some (call_spot c.split c.seam c.function c.back)) h refl
+call_is (Some (SplitCall j f n)) call e = let h : record { seam = j; function = f; back = n; split = true } ≡ call = same_Some _ _ e in
+    subst (λ (c : Called). Some (SplitCall j f n) ≡ Some (call_spot c.split c.seam c.function c.back)) h refl
 call_is None call e = cc
 call_is (Some _) call e = cc
 

@@ -55,7 +55,8 @@ first_stays (x ∷ xs) ys c e = e
 module _ (g : Game) (functions : ℕ) (routed : AreRouted g functions) where
   -- a table in which nothing is written
   pub is_table : (t : Table) → AreTabled g t.contexts.items → length t.bases.items ≡ length t.contexts.items
-      → ((i : ℕ) → i < length t.contexts.items → slice_index t.bases.items i ≡ cells_of g (take i t.contexts.items)) → t.heights.items ≡ replicate (cells_of g t.contexts.items) 0 → t.written ≡ 0 → IsTable g t
+      → ((i : ℕ) → i < length t.contexts.items → slice_index t.bases.items i ≡ cells_of g (take i t.contexts.items)) → t.heights.items ≡ replicate (cells_of g t.contexts.items) 0
+      → t.written ≡ 0 → IsTable g t
   is_table t are bases begins none zero_written =
       let cells : length t.heights.items ≡ cells_of g t.contexts.items = ap length none ∙ length-replicate {A = ℕ} (cells_of g t.contexts.items) 0 in
       let all : count_by is_none t.heights.items ≡ cells_of g t.contexts.items = ap (count_by is_none) none ∙ none_written (cells_of g t.contexts.items) in
@@ -80,7 +81,8 @@ module _ (g : Game) (functions : ℕ) (routed : AreRouted g functions) where
   pub there_in : (contexts : List Context) → AreTabled g contexts → (i : ℕ) (c : Context) → i < length contexts → c ≡ get_or contexts i c → IsThere g functions c.function
   there_in contexts are i c lt e = there g functions routed c (are.needed.needed c (i, lt, sym e))
 
-  pub cells_more : (contexts : List Context) (i : ℕ) (c : Context) → i < length contexts → c ≡ get_or contexts i c → cells_of g (take (i + 1) contexts) ≡ cells_of g (take i contexts) + size g c.function
+  pub cells_more : (contexts : List Context) (i : ℕ) (c : Context) → i < length contexts → c ≡ get_or contexts i c
+      → cells_of g (take (i + 1) contexts) ≡ cells_of g (take i contexts) + size g c.function
   cells_more contexts i c lt e = base_more g contexts i c (slice_get_read contexts (length contexts) i c refl lt e)
 
   pub cells_few : (contexts : List Context) → AreTabled g contexts → (i : ℕ) → cells_of g (take i contexts) ≤ 4194304
@@ -108,7 +110,8 @@ module _ (g : Game) (functions : ℕ) (routed : AreRouted g functions) where
       )
 
   -- and where there is none
-  pub longer_too_many : (t : Table) → IsTable g t → (c : Context) → IsMissing g t c → (longer : List Context) → longer ≡ t.contexts.items ++ c ∷ [] → 4194304 < length t.heights.items + size g c.function
+  pub longer_too_many : (t : Table) → IsTable g t → (c : Context) → IsMissing g t c → (longer : List Context) → longer ≡ t.contexts.items ++ c ∷ []
+      → 4194304 < length t.heights.items + size g c.function
       → AreTooMany g longer
   longer_too_many t table c missing longer e room =
       let cells = cells_of_longer t.contexts.items longer c e in

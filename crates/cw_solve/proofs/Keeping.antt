@@ -69,7 +69,8 @@ kept_known h t kept f p q e need of lt =
 pub numbered_cell : (h : HeldGame) (t : Table) (v : Held) → held h t ≡ v → (number p q : ℕ) → IsNumbered v number p q → (d : Context) → slice_get v.contexts number ≡ Some d
     → (slice_get t.contexts.items number ≡ Some d) × IsCell (game_of h) t.contexts.items number d p q
 numbered_cell h t v e number p q =
-    subst (λ (v : Held). IsNumbered v number p q → (d : Context) → slice_get v.contexts number ≡ Some d → (slice_get t.contexts.items number ≡ Some d) × IsCell (game_of h) t.contexts.items number d p q) e
+    subst (λ (v : Held). IsNumbered v number p q → (d : Context) → slice_get v.contexts number ≡ Some d → (slice_get t.contexts.items number ≡ Some d)
+    × IsCell (game_of h) t.contexts.items number d p q) e
     (λ n d at.
     let same : n.0 ≡ d = same_Some n.0 d (sym n.1 ∙ at) in
     (at, record { at = at; of = subst (λ (x : Context). IsOf (game_of h) x.function p) same n.2; state = n.3 }))

@@ -56,7 +56,8 @@ module _ (g : Game) (functions : ℕ) (routed : AreRouted g functions) (contexts
             let value : get_or (set heights (slot g contexts i c.function p q) v) (slot g contexts j d.function r x) 0 ≡ v = rw e (rw get_or-set_same refl) in
             carry g contexts i j c d p r q x v (Value (set heights (slot g contexts i c.function p q) v) j d r x) F (same_slot g contexts i j c d p r q x is are (sym e)) (sym value) here
         | inr ne ↦
-            let value : get_or (set heights (slot g contexts i c.function p q) v) (slot g contexts j d.function r x) 0 ≡ get_or heights (slot g contexts j d.function r x) 0 = rw get_or-set_other refl in
+            let value : get_or (set heights (slot g contexts i c.function p q) v) (slot g contexts j d.function r x) 0 ≡ get_or heights (slot g contexts j d.function r x) 0 =
+            rw get_or-set_other refl in
             subst (λ (y : ℕ). F d r x y) (sym value) (old ne)
       ]
 

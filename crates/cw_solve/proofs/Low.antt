@@ -1,13 +1,12 @@
 -- Each needed pair has its height, or none, below 2^32.
-use Rattle.std.proofs.Common.{ℕ, zero, suc, ◌<◌, Some, sym, subst, arith}
-use Rattle.std.specs.Prelude.{slice_get, slice_index}
+use Rattle.std.proofs.Common.{ℕ, zero, suc, ◌<◌}
+use Rattle.std.specs.Prelude.{slice_index}
 use Rattle.cw_product.specs.Product.{Held as HeldGame, game_of}
 use Rattle.cw_solve.specs.declared.table.Table.{Table}
 use Rattle.cw_solve.specs.Contexts.{context}
 use Rattle.cw_solve.specs.Low.{IsLow, HeightsAreLow}
 use Rattle.cw_solve.specs.Rounds.{slot, height_by}
-use Rattle.cw_solve.specs.Solved.{Held, IsKept}
-use Rattle.cw_solve.proofs.Keeping.{held}
+use Rattle.cw_solve.specs.Solved.{IsKept}
 use Rattle.cw_solve.proofs.Still.{number_of}
 
 low : (k : ℕ) → k < 4294967296 → IsLow (height_by k)

@@ -50,7 +50,8 @@ module _ (g : Game) (functions : ℕ) (routed : AreRouted g functions) where
           → IsInRound g new n (slot g t.contexts.items at.number at.context.function p q + 1)
       written none e =
           let one : n + 1 ≡ suc n = omega arith in
-          let heights : set t.heights.items (slot g t.contexts.items at.number at.context.function p q) (suc n) ≡ new.heights.items = ap₂ (λ (k v : ℕ). set t.heights.items k v) (sym place) (sym one) ∙ sym e.0 in
+          let heights : set t.heights.items (slot g t.contexts.items at.number at.context.function p q) (suc n) ≡ new.heights.items = ap₂ (λ (k v : ℕ). set t.heights.items k v)
+          (sym place) (sym one) ∙ sym e.0 in
           let a = written_more g functions routed t.contexts.items t.heights.items n at.number at.context p q is within round.written (held none) h in
           let b = looked_written g functions routed t.contexts.items t.heights.items n at.number at.context p q is within round.looked asked in
           record {
@@ -65,7 +66,8 @@ module _ (g : Game) (functions : ℕ) (routed : AreRouted g functions) where
       kept some e =
           let b = looked_more g functions routed t.contexts.items t.heights.items n at.number at.context p q is round.looked (record { asked = asked; holds = λ z. absurd (some z) }) in
           record {
-            written = subst (λ (cs : List Context). AreWritten g cs new.heights.items n (suc n)) (sym w.contexts) (subst (λ (hs : List ℕ). AreWritten g t.contexts.items hs n (suc n)) (sym e.0) round.written);
+            written = subst (λ (cs : List Context). AreWritten g cs new.heights.items n (suc n)) (sym w.contexts)
+                (subst (λ (hs : List ℕ). AreWritten g t.contexts.items hs n (suc n)) (sym e.0) round.written);
             looked = subst (λ (cs : List Context). AreLooked g cs new.heights.items n (slot g t.contexts.items at.number at.context.function p q + 1)) (sym w.contexts)
                 (subst (λ (hs : List ℕ). AreLooked g t.contexts.items hs n (slot g t.contexts.items at.number at.context.function p q + 1)) (sym e.0) b);
             low = omega (arith, e.1, round.low);
@@ -74,7 +76,10 @@ module _ (g : Game) (functions : ℕ) (routed : AreRouted g functions) where
   -- before the first cell of a round
   pub round_begins : (t : Table) (n : ℕ) → IsAtRound g t n → IsInRound g t n 0
   round_begins t n at = record {
-    written = record { each = λ i c p q is. widens g functions routed n n (suc n) p q c.promise (get_or t.heights.items (slot g t.contexts.items i c.function p q) 0) (omega arith) (at.written.each i c p q is) };
+    written = record {
+      each = λ i c p q is. widens g functions routed n n (suc n) p q c.promise (get_or t.heights.items (slot g t.contexts.items i c.function p q) 0) (omega arith)
+          (at.written.each i c p q is);
+    };
     looked = nothing_looked g t.contexts.items t.heights.items n;
     low = at.low;
   }

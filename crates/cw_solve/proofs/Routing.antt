@@ -131,7 +131,8 @@ record StaysIn (ns : List Node) (q : Part) : Type 0 where
 abbrev PartsStay : List Node → List Part → ℕ → Type 0
 PartsStay ns ps m = (f : ℕ) (q : Part) → slice_get ps f ≡ Some q → StaysIn ns q
 
-plan_stays : (names : Names) (source : List ℕ) (file : File) → IsRunnable (plan_of names source file) → PartsStay (nodes (plan_of names source file)) (parts_of names source file) (plan_of names source file).main
+plan_stays : (names : Names) (source : List ℕ) (file : File) → IsRunnable (plan_of names source file)
+    → PartsStay (nodes (plan_of names source file)) (parts_of names source file) (plan_of names source file).main
 plan_stays names source file runs f q e =
     let rs = (plan_of names source file).routines in
     let splits = splits_of names source file in

@@ -94,7 +94,8 @@ module _ (lo hi f : ℕ) where
         let ha : In lo hi (n + one_if_some init + one_if stepped) = (omega (arith, l), omega (arith, h)) in
         let body = nodes_in f s (a + 1) a x (Some k) (Some a) in
         let hm = first_in (count s) (a + 1) a (omega (arith, l)) (omega (arith, h)) ha in
-        let rest = each_two lo hi (step_nodes f stepped t) body (step_stays stepped t ht) (stays true s (a + 1) a x (Some k) (Some a) ld (omega (arith, l)) (omega (arith, h)) ha hx (λ y. hk) (λ y. ha)) in
+        let rest = each_two lo hi (step_nodes f stepped t) body (step_stays stepped t ht)
+        (stays true s (a + 1) a x (Some k) (Some a) ld (omega (arith, l)) (omega (arith, h)) ha hx (λ y. hk) (λ y. ha)) in
         each_two lo hi (init_nodes f init t) (turns f decided stepped m k t body) (init_stays init t ht) (test_stays decided m k hm hk, rest)
 
     stays_all : (looped : Bool) (ss : Stms) (n k x : ℕ) (b c : Option ℕ) → LandsAll looped ss → lo ≤ n → n + count_all ss ≤ hi + 1 → In lo hi k → In lo hi x → (looped ≡ true → IsBetween lo hi b)
@@ -147,7 +148,8 @@ parts_rise (r ∷ rs) (split ∷ splits) n zero q e = subst (λ (y : Part). (n �
 parts_rise (r ∷ rs) (split ∷ splits) n (suc i) q e = let h = parts_rise rs splits (exit_of r n + 1) i q e in (omega (arith, h.0), h.1)
 
 -- each point of a part leads to points of the part
-pub part_stays : (rs : List Routine) (splits : List Bool) (f n i k : ℕ) (q : Part) (w : Node) → ((g : ℕ) (r : Routine) → slice_get rs g ≡ Some r → LandsAll false r.body) → slice_get (parts_from rs splits n) i ≡ Some q → slice_get (nodes_from f rs n) k ≡ Some w
+pub part_stays : (rs : List Routine) (splits : List Bool) (f n i k : ℕ) (q : Part) (w : Node) → ((g : ℕ) (r : Routine) → slice_get rs g ≡ Some r → LandsAll false r.body)
+    → slice_get (parts_from rs splits n) i ≡ Some q → slice_get (nodes_from f rs n) k ≡ Some w
     → q.entry.0 ≤ n + k → n + k ≤ q.exit.0 → Stays q.entry.0 q.exit.0 w
 part_stays [] [] f n i k q w ld e d lo hi = absurd (none-some q e)
 part_stays [] (split ∷ splits) f n i k q w ld e d lo hi = absurd (none-some q e)
@@ -163,7 +165,8 @@ part_stays (r ∷ rs) (split ∷ splits) f n (suc i) k q w ld e d lo hi =
     let len = length_of f r n in
     let back : length (nodes_of f r n) + (k - length (nodes_of f r n)) ≡ k = omega (arith, len, rise.0, lo) in
     let at : exit_of r n + 1 + (k - length (nodes_of f r n)) ≡ n + k = omega (arith, len, back) in
-    let there = sym (two_past (nodes_of f r n) (nodes_from (f + 1) rs (exit_of r n + 1)) (k - length (nodes_of f r n))) ∙ ap (slice_get (nodes_of f r n ++ nodes_from (f + 1) rs (exit_of r n + 1))) back ∙ d in
+    let there = sym (two_past (nodes_of f r n) (nodes_from (f + 1) rs (exit_of r n + 1)) (k - length (nodes_of f r n)))
+    ∙ ap (slice_get (nodes_of f r n ++ nodes_from (f + 1) rs (exit_of r n + 1))) back ∙ d in
     part_stays rs splits (f + 1) (exit_of r n + 1) i (k - length (nodes_of f r n)) q w (λ g o at. ld (suc g) o at) e there (omega (arith, at, lo)) (omega (arith, at, hi))
 
 pub part_rises : (rs : List Routine) (splits : List Bool) (i : ℕ) (q : Part) → slice_get (parts_from rs splits 0) i ≡ Some q → q.entry.0 ≤ q.exit.0

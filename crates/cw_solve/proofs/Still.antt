@@ -50,7 +50,8 @@ module _ (g : Game) (functions : ℕ) (routed : AreRouted g functions) where
       (ap (λ y. not (refuses_in g q Split) || y) (to (p + 1) q (second_of_two (p + 2) (p + 1)) s))
   same_in h h' p q e s (Some (Asked j i a)) es k to =
       ap₂ (λ y z. y && z)
-      (same_where (g.states.may_grant q a) (h (p + 1) (g.states.granted q a) e) (h' (p + 1) (g.states.granted q a) e) (λ y. to (p + 1) (g.states.granted q a) (only (p + 1)) (routed.closed.granted p j i q a es y s)))
+      (same_where (g.states.may_grant q a) (h (p + 1) (g.states.granted q a) e) (h' (p + 1) (g.states.granted q a) e)
+      (λ y. to (p + 1) (g.states.granted q a) (only (p + 1)) (routed.closed.granted p j i q a es y s)))
       (ap (λ y. not (refuses_in g q a) || y) (to (p + 1) q (only (p + 1)) s))
   same_in h h' p q e s (Some (Step n)) es k to = to n q (only n) s
   same_in h h' p q e s (Some (Branch m n)) es k to = ap₂ (λ y z. y && z) (to m q (first_of_two m n) s) (to n q (second_of_two m n) s)
@@ -107,7 +108,12 @@ module _ (g : Game) (functions : ℕ) (routed : AreRouted g functions) where
         let there = entry_cell contexts p q a.0 call es is.state j.0 j.1 in
         let promised : ℕ → Promise = λ m. promise_at g m call.back (kept_at call.split q) c.promise in
         let back : (x : ℕ) → IsState g x → promised (n + d) x ≡ promised n x
-        = λ x s. ih i c call.back (returned g.states (kept_at call.split q) x) (record { at = is.at; of = back_stays g functions routed c.function p call (below i c is.at) is.of es; state = return_state g functions routed p x q call es s is.state }) in
+        = λ x s. ih i c call.back (returned g.states (kept_at call.split q) x) (record {
+          at = is.at;
+          of = back_stays g functions routed c.function p call
+              (below i c is.at) is.of es;
+          state = return_state g functions routed p x q call es s is.state;
+        }) in
         let set : (x : ℕ) → IsState g x → promised n x ≡ has a.0 x = λ x s. sym (member_is g a.0 (promised n) a.2 x s) in
         holds_call (Holds g (n + d)) p q (has c.promise) call es
         ∙ holds_same g functions routed (n + d) (g.entry call.function) q (promised (n + d)) (has a.0) is.state (λ x s. back x s ∙ set x s)
@@ -140,7 +146,8 @@ module _ (g : Game) (functions : ℕ) (routed : AreRouted g functions) where
                 a.0,
                 a.1,
                 set_as g a.0 (promise_at g n call.back (kept_at call.split q) c.promise) (promise_at g m call.back (kept_at call.split q) c.promise) a.2
-                    (λ x s. sym (still_at m le i c call.back (returned g.states (kept_at call.split q) x) (record { at = is.at; of = back_stays g functions routed c.function p call (below i c is.at) is.of es; state = return_state g functions routed p x q call es s is.state }))),
+                    (λ x s. sym (still_at m le i c call.back (returned g.states (kept_at call.split q) x)
+                    (record { at = is.at; of = back_stays g functions routed c.function p call (below i c is.at) is.of es; state = return_state g functions routed p x q call es s is.state }))),
               )
         ]
 

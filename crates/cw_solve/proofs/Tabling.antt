@@ -40,7 +40,8 @@ module _ (g : Game) (functions : ℕ) (routed : AreRouted g functions) where
   -- what is written tells whether a pair holds
   pub read : (t : Table) (n : ℕ) → AreWritten g t.contexts.items t.heights.items n (suc n) → (at : Tabled) (p q k : ℕ) → HasCell g t at p q
       → k ≡ slice_index t.heights.items (slot g t.contexts.items at.number at.context.function p q) → holds_by n k ≡ Holds g n p q (has at.context.promise)
-  read t n w at p q k is e = ap (holds_by n) e ∙ reads g functions routed n (suc n) p q at.context.promise (slice_index t.heights.items (slot g t.contexts.items at.number at.context.function p q)) is.state (w.each at.number at.context p q is)
+  read t n w at p q k is e = ap (holds_by n) e ∙ reads g functions routed n (suc n) p q at.context.promise
+      (slice_index t.heights.items (slot g t.contexts.items at.number at.context.function p q)) is.state (w.each at.number at.context p q is)
 
   pub read_some : (t : Table) (n : ℕ) → AreWritten g t.contexts.items t.heights.items n (suc n) → (at : Tabled) (p q k : ℕ) → HasCell g t at p q
       → k ≡ slice_index t.heights.items (slot g t.contexts.items at.number at.context.function p q) → (k ≡ 0 → ⊥) → nat_lt n k ≡ Holds g n p q (has at.context.promise)

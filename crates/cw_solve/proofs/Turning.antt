@@ -44,7 +44,8 @@ module _ (g : Game) where
   turns None t e = absurd (none-some t (sym e))
   turns (Some s) t e = (s, refl, same_Some (turn_in g s) t (sym e))
 
-  call_spot_is : (s : Spot) (f n : ℕ) (split : Bool) (t : Turn) → turn_in g s ≡ t → callee_in t ≡ f → split_in t ≡ split → back_in t ≡ n → is_call t ≡ true → (seam : ℕ) × (s ≡ call_spot split seam f n)
+  call_spot_is : (s : Spot) (f n : ℕ) (split : Bool) (t : Turn) → turn_in g s ≡ t → callee_in t ≡ f → split_in t ≡ split → back_in t ≡ n → is_call t ≡ true → (seam : ℕ)
+      × (s ≡ call_spot split seam f n)
   call_spot_is (Call j h m) f n split t e a b c k =
       let x = ap callee_in e ∙ a in
       let y = ap split_in e ∙ b in
@@ -105,7 +106,8 @@ module _ (g : Game) where
   turn_inner (Some s) t e k = inner s (ap is_inner (same_Some (turn_in g s) t (sym e)) ∙ k)
 
   -- where no call is nothing is asked for, and what holds is read off the moves
-  pub inner_holds : (h : ℕ → ℕ → Promise → Bool) (p q : ℕ) (e : Promise) (o : Option Spot) (bad held : Bool) → (is_call_in o ≡ false) × (is_exit_in o ≡ false) → bad ≡ bad_in g q o → held ≡ holds_by_moves g h p q e o
+  pub inner_holds : (h : ℕ → ℕ → Promise → Bool) (p q : ℕ) (e : Promise) (o : Option Spot) (bad held : Bool) → (is_call_in o ≡ false) × (is_exit_in o ≡ false) → bad ≡ bad_in g q o
+      → held ≡ holds_by_moves g h p q e o
       → (not bad && held) ≡ holds_in g h p q e o
   inner_holds h p q e o true held k b m = sym (bad_fails g h p q e o (sym b))
   inner_holds h p q e o false held k b m = m ∙ by_moves g h p q e o (sym b) k.0 k.1

@@ -1,6 +1,6 @@
 -- The heights of pairs, and the contexts that a game needs: what each function is promised where it is called. Public source: the summaries of
 -- visibly pushdown games of Löding, Madhusudan and Serre (2004).
-use Rattle.std.specs.Prelude.{◌≡◌, ℕ, ◌+◌, ◌-◌, ◌*◌, ◌<◌, ◌≤◌, List, true, false, ◌&&◌, Option, Some, None, nat_lt, slice_get, sum_by, Contains, AllPairs, ◌≢◌}
+use Rattle.std.specs.Prelude.{◌≡◌, ℕ, ◌+◌, ◌-◌, ◌*◌, ◌<◌, List, true, false, ◌&&◌, Option, Some, None, nat_lt, slice_get, sum_by, Contains, AllPairs, ◌≢◌}
 use Rattle.cw_solve.specs.declared.contexts.Context.{Context}
 use Rattle.cw_game.specs.Games.{Game, returned, Promise, Holds}
 use Rattle.cw_product.specs.Routed.{IsOf}

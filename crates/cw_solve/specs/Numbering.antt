@@ -16,7 +16,7 @@ pub record IsNumberOf (g : Game) (contexts : List Context) (number promise p : �
   pub of : IsOf g context.function p
   pub promise_is : context.promise ≡ promise
 
--- a working definition: whether a context has the position and the promise
+-- whether a context has the position and the promise
 abbrev pub has_position : Game → (p promise : ℕ) → Option Context → Bool
 has_position g p promise None = false
 has_position g p promise (Some c) = nat_eq c.promise promise && (nat_le (g.entry c.function) p && nat_le p (g.exit c.function))

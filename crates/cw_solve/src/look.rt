@@ -1,13 +1,13 @@
 //! A round looks at each cell once: whether its pair holds for one move more.
 
-ghost use Rattle.std.specs.Prelude.{◌≡◌, ◌+◌, ◌<◌, ◌≤◌, suc, false, count_by, length, slice_get, Contains, Some, OnErr, IfOk, IfErr, IfSome, IfNone};
-ghost use Rattle.cw_game.specs.Games.{Holds, bad_in};
-ghost use Rattle.cw_game.specs.Pairs.{has, is_call_in, is_exit_in, kept_at, call_in, Called};
+ghost use Rattle.std.specs.Prelude.{◌≡◌, ◌+◌, ◌<◌, ◌≤◌, suc, false, count_by, length, slice_get, Some, IfOk, IfErr, IfSome, IfNone};
+ghost use Rattle.cw_game.specs.Games.{Holds};
+ghost use Rattle.cw_game.specs.Pairs.{has};
 ghost use Rattle.cw_product.specs.Product.{game_of};
 ghost use Rattle.cw_product.specs.Moves.{next_at};
 ghost use Rattle.cw_solve.specs.Asking.{holds_after, holds_by_moves};
 ghost use Rattle.cw_product.specs.Routed.{AreRouted, IsState};
-ghost use Rattle.cw_solve.specs.Contexts.{cells_of, context, promise_at, IsSetOf};
+ghost use Rattle.cw_solve.specs.Contexts.{cells_of, context};
 ghost use Rattle.cw_solve.specs.Rounds.{base, slot, AreWritten, IsAsked};
 ghost use Rattle.cw_solve.specs.Tables.{IsTable, IsTabled, HasCell, IsInRound, IsLater, IsMissing, HasCall, Writes, is_none};
 

@@ -12,16 +12,18 @@ fn is_between(first: PosId, pos: PosId, last: PosId) -> bool
 }
 
 impl<'g> Solved<'g> {
-    ghost use Rattle.std.specs.Prelude.{◌≡◌, ◌<◌, length, slice_get};
+    ghost use Rattle.std.specs.Prelude.{◌≡◌, ◌<◌, slice_get};
     ghost use Rattle.cw_product.specs.Product.{game_of};
     ghost use Rattle.cw_solve.specs.Numbering.{has_position, IsUnder, IsNumberOf};
 
-    // Whether a context has a position and this promise.
-    fn has_position(&self, number: u32, pos: PosId, promise: &StateSet) -> bool
-        requires number { number < length self.now.contexts }
+    /// Whether there is a context of this number, with a position and this promise.
+    pub fn has_position(&self, number: u32, pos: PosId, promise: &StateSet) -> bool
         ensures { result ≡ has_position (game_of self.now.game) pos.0 promise.now (slice_get self.now.contexts number) }
     {
         self.is_kept();
+        if number >= self.contexts() {
+            return false;
+        }
         let game = self.game();
         let context = self.context(number);
         let first = game.entry(context.function);

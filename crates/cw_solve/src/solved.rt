@@ -61,9 +61,8 @@ impl<'g> Solved<'g> {
     ghost use Rattle.cw_product.specs.Product.{game_of};
     ghost use Rattle.cw_product.specs.Routed.{AreRouted, IsOf};
     ghost use Rattle.cw_solve.specs.Contexts.{context, cells_of, HeightIs, IsNeeded, AreTheNeeded};
-    ghost use Rattle.cw_solve.specs.Rounds.{IsCell, slot, height_by};
+    ghost use Rattle.cw_solve.specs.Rounds.{slot};
     ghost use Rattle.cw_solve.specs.Solved.{IsKept, IsNumbered, IsHeightIn};
-    ghost use Rattle.cw_solve.specs.Tables.{IsTable, IsDone};
 
     /// The solved game of a table that is done, for solvers.
     pub fn of(game: &'g Game<'g>, table: Table) -> Solved<'g>

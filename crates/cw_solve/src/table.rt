@@ -4,7 +4,7 @@ ghost use Rattle.std.specs.Prelude.{◌≡◌, ℕ, ◌<◌, ◌≤◌, suc, nat
 ghost use Rattle.cw_game.specs.Games.{Holds};
 ghost use Rattle.cw_game.specs.Pairs.{has, kept_at, all_states};
 ghost use Rattle.cw_product.specs.Product.{game_of};
-ghost use Rattle.cw_product.specs.Routed.{IsState, AreRouted, IsThere, IsOf};
+ghost use Rattle.cw_product.specs.Routed.{AreRouted, IsThere};
 ghost use Rattle.cw_solve.specs.Contexts.{context, size, promise_at, IsSetOf};
 ghost use Rattle.cw_solve.specs.Rounds.{positions, slot, height_by, AreWritten};
 ghost use Rattle.cw_solve.specs.Tables.{IsTable, IsTabled, HasCell};

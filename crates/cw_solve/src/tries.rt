@@ -1,8 +1,8 @@
 //! Tries to solve a game, each with one context more.
 
-ghost use Rattle.std.specs.Prelude.{◌≡◌, ◌<◌, ◌≤◌, ◌++◌, ◌∷◌, [], length, slice_get, IfOk, IfErr, IfSome, IfNone};
+ghost use Rattle.std.specs.Prelude.{◌≡◌, ◌<◌, ◌++◌, ◌∷◌, [], length, IfOk, IfErr};
 ghost use Rattle.cw_product.specs.Product.{game_of};
-ghost use Rattle.cw_solve.specs.Contexts.{context, cells_of, AreNeeded, AreTheNeeded};
+ghost use Rattle.cw_solve.specs.Contexts.{context};
 ghost use Rattle.cw_product.specs.Routed.{AreRouted};
 ghost use Rattle.cw_solve.specs.Tables.{IsTable, IsDone, AreTabled};
 ghost use Rattle.cw_solve.specs.Trying.{IsTried};

@@ -13,12 +13,14 @@ use Rattle.cw_linked.proofs.added.free_all.Goals as goal
 pub entry-p-requires : goal.entry-p-requires
 entry-p-requires c =
     let at = c.args.at.now in
-    rw c.function-function.ensures (there_at (game_of c.args.game.now) (length c.args.game.now.graph.parts.items) c.requires.routed c.args.work.now.table c.requires.table at.number at.context c.requires.tabled).below
+    rw c.function-function.ensures (there_at (game_of c.args.game.now) (length c.args.game.now.graph.parts.items) c.requires.routed c.args.work.now.table c.requires.table at.number
+    at.context c.requires.tabled).below
 
 pub exit-p-end-requires : goal.exit-p-end-requires
 exit-p-end-requires c =
     let at = c.args.at.now in
-    rw c.function-function.ensures (there_at (game_of c.args.game.now) (length c.args.game.now.graph.parts.items) c.requires.routed c.args.work.now.table c.requires.table at.number at.context c.requires.tabled).below
+    rw c.function-function.ensures (there_at (game_of c.args.game.now) (length c.args.game.now.graph.parts.items) c.requires.routed c.args.work.now.table c.requires.table at.number
+    at.context c.requires.tabled).below
 
 pub overflow_add-p-end : goal.overflow_add-p-end
 overflow_add-p-end c = let lt = c.exit-p-end.ensures.within in let short = c.requires.routed.short in omega (arith, lt, short)
@@ -26,7 +28,8 @@ overflow_add-p-end c = let lt = c.exit-p-end.ensures.within in let short = c.req
 pub loop-p-init : goal.loop-p-init
 loop-p-init c =
     let at = c.args.at.now in
-    frees_nothing (game_of c.args.game.now) at.number at.context c.args.work.now (Before c.entry-p.result.0) (λ p x call is lt. absurd (omega (arith, lt, is.cell.of.0, c.entry-p.ensures.is ∙ ap (game_of c.args.game.now).entry c.function-function.ensures)))
+    frees_nothing (game_of c.args.game.now) at.number at.context c.args.work.now (Before c.entry-p.result.0)
+    (λ p x call is lt. absurd (omega (arith, lt, is.cell.of.0, c.entry-p.ensures.is ∙ ap (game_of c.args.game.now).entry c.function-function.ensures)))
 
 pub free_links-requires : goal.free_links-requires
 free_links-requires c =
@@ -37,7 +40,15 @@ free_links-requires c =
       routed = c.requires.routed;
       table = subst (IsTable g) (sym inv.others.table) c.requires.table;
       tabled = subst (λ (t : Table). slice_get t.contexts.items at.number ≡ Some at.context) (sym inv.others.table) c.requires.tabled;
-      of = (omega (arith, c.loop-p.auto.p, c.entry-p.ensures.is ∙ ap (game_of c.args.game.now).entry c.function-function.ensures), omega (arith, c.loop-p-test.true, c.exit-p-end.ensures.is ∙ ap (game_of c.args.game.now).exit c.function-function.ensures));
+      of = (
+        omega (arith, c.loop-p.auto.p, c.entry-p.ensures.is ∙ ap (game_of c.args.game.now).entry c.function-function.ensures),
+        omega (
+          arith,
+          c.loop-p-test.true,
+          c.exit-p-end.ensures.is
+              ∙ ap (game_of c.args.game.now).exit c.function-function.ensures,
+        ),
+      );
       long = frees_long g at.number at.context c.args.work.now c.loop-p.work (Before c.loop-p.p) inv c.requires.long;
       marked = marked_on g c.args.work.now c.loop-p.work (ap (λ (t : Table). t.contexts.items) inv.others.table) inv.others.marks c.requires.marked;
     }

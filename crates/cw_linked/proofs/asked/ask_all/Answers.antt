@@ -12,12 +12,14 @@ use Rattle.cw_linked.proofs.asked.ask_all.Goals as goal
 pub entry-p-requires : goal.entry-p-requires
 entry-p-requires c =
     let at = c.args.at.now in
-    rw c.function-function.ensures (there_at (game_of c.args.game.now) (length c.args.game.now.graph.parts.items) c.requires.routed c.args.work.now.table c.requires.table at.number at.context c.requires.tabled).below
+    rw c.function-function.ensures (there_at (game_of c.args.game.now) (length c.args.game.now.graph.parts.items) c.requires.routed c.args.work.now.table c.requires.table at.number
+    at.context c.requires.tabled).below
 
 pub exit-p-end-requires : goal.exit-p-end-requires
 exit-p-end-requires c =
     let at = c.args.at.now in
-    rw c.function-function.ensures (there_at (game_of c.args.game.now) (length c.args.game.now.graph.parts.items) c.requires.routed c.args.work.now.table c.requires.table at.number at.context c.requires.tabled).below
+    rw c.function-function.ensures (there_at (game_of c.args.game.now) (length c.args.game.now.graph.parts.items) c.requires.routed c.args.work.now.table c.requires.table at.number
+    at.context c.requires.tabled).below
 
 pub overflow_add-p-end : goal.overflow_add-p-end
 overflow_add-p-end c = let lt = c.exit-p-end.ensures.within in let short = c.requires.routed.short in omega (arith, lt, short)
@@ -38,7 +40,15 @@ ask_position-requires c =
       routed = c.requires.routed;
       table = next_table g functions c.requires.routed (alike c.args.game.now) c.args.work.now c.loop-p.work c.requires.table inv.step;
       tabled = subst (λ (t : Table). slice_get t.contexts.items at.number ≡ Some at.context) (sym inv.step.others.table) c.requires.tabled;
-      of = (omega (arith, c.loop-p.auto.p, c.entry-p.ensures.is ∙ ap (game_of c.args.game.now).entry c.function-function.ensures), omega (arith, c.loop-p-test.true, c.exit-p-end.ensures.is ∙ ap (game_of c.args.game.now).exit c.function-function.ensures));
+      of = (
+        omega (arith, c.loop-p.auto.p, c.entry-p.ensures.is ∙ ap (game_of c.args.game.now).entry c.function-function.ensures),
+        omega (
+          arith,
+          c.loop-p-test.true,
+          c.exit-p-end.ensures.is
+              ∙ ap (game_of c.args.game.now).exit c.function-function.ensures,
+        ),
+      );
       long = inv.step.long;
       high = inv.step.high;
       right = next_right g functions c.requires.routed (alike c.args.game.now) c.args.work.now c.loop-p.work c.requires.table inv.step;

@@ -28,7 +28,8 @@ returns-then-not-loss_begins c =
     asks_nothing g w c.requires.long c.requires.high c.requires.right at.number at.context (AllOf c.args.pos.0)
     (λ p q is e.
     subst (λ (y : ℕ). IsClosed g (found_of g w) at.number at.context y q) (sym e)
-    (closed_fresh g functions c.requires.routed w.table.contexts.items (found_of g w) at.number at.context c.args.pos.0 q th.below (record { at = c.requires.tabled; of = c.requires.of; state = is.state })
+    (closed_fresh g functions c.requires.routed w.table.contexts.items (found_of g w) at.number at.context c.args.pos.0 q th.below
+    (record { at = c.requires.tabled; of = c.requires.of; state = is.state })
     (sym c.loss_begins.ensures ∙ c.if-not-loss_begins.true) c.requires.fresh))
 
 pub loop-x-init : goal.loop-x-init

@@ -1,20 +1,20 @@
-use Rattle.std.proofs.Common.{◌≡◌, ◌<◌, ◌+◌, ◌∷◌, ◌++◌, ◌∙◌, ℕ, Bool, List, Option, Some, length, subst, sym, ap, arith}
+use Rattle.std.proofs.Common.{◌≡◌, ◌<◌, ◌+◌, ◌∙◌, ℕ, Bool, List, Option, length, subst, sym, arith}
 use Rattle.std.specs.Prelude.{slice_get, IfSome}
-use Rattle.cw_links.specs.Lists.{list_at, AreApart}
+use Rattle.cw_links.specs.Lists.{list_at}
 use Rattle.cw_marks.specs.Marks.{number}
 use Rattle.cw_product.specs.Product.{game_of}
 use Rattle.cw_solve.proofs.Keeping.{few}
 use Rattle.cw_linked.specs.Calls.{CallsLeft}
 use Rattle.cw_linked.specs.Founds.{AllCalled}
 use Rattle.cw_linked.specs.Queues.{found_of}
-use Rattle.cw_linked.specs.Walks.{from, rest_of}
+use Rattle.cw_linked.specs.Walks.{rest_of}
 use Rattle.cw_linked.proofs.Alike.{alike}
 use Rattle.cw_linked.proofs.Callers.{all_calls}
 use Rattle.cw_linked.proofs.Finishing.{next_right}
 use Rattle.cw_linked.proofs.Returning.{asked_call_left, no_calls_left}
 use Rattle.cw_linked.proofs.Takings.{few_number}
 use Rattle.cw_linked.proofs.Telling.{nothing, two_steps}
-use Rattle.cw_linked.proofs.Walking.{walk_begins, walk_steps}
+use Rattle.cw_linked.proofs.Walking.{walk_begins, walk_goes_on}
 use Rattle.cw_linked.proofs.calls.ask_callers.Goals as goal
 
 pub overflow_cast-number : goal.overflow_cast-number
@@ -59,20 +59,9 @@ ask_call-requires-clause-right c =
 
 pub walk-smaller : goal.walk-smaller
 walk-smaller c =
-    let w = c.args.work.now in
-    let l = c.args.cell.now.at.number + 1 in
-    let link = c.in-Some.link in
-    let same = c.in_ok-ask_call.ensures.step.others.lists ∙ c.walk.invariant.step.others.lists in
-    let links = number c.ask_call.new.work.store.marks in
-    let apart : AreApart w.store.lists links = subst (λ (ls : List (List ℕ)). AreApart ls links) same c.next-next.ensures.apart in
-    let within : (list : ℕ) (front back : List ℕ) → list_at w.store.lists list ≡ front ++ link ∷ back → c.next-next.result ≡ slice_get back 0
-    = subst (λ (ls : List (List ℕ)). (list : ℕ) (front back : List ℕ) → list_at ls list ≡ front ++ link ∷ back → c.next-next.result ≡ slice_get back 0) same c.next-next.ensures.within in
-    let at : slice_get (from (list_at w.store.lists l) link) 0 ≡ Some link = subst (λ (o : Option ℕ). slice_get (rest_of (list_at w.store.lists l) o) 0 ≡ o) c.in-Some.is c.walk.invariant.at in
-    let s = walk_steps w.store.lists links l link c.next-next.result apart at within in
-    let before = ap (λ (o : Option ℕ). length (rest_of (list_at w.store.lists l) o)) c.in-Some.is in
-    let old = ap (λ (ys : List ℕ). length ys) s.1 in
-    let new = ap (λ (ys : List ℕ). length ys) s.2 in
-    omega (arith, before, old, new)
+    (walk_goes_on c.ask_call.new.work.store.lists c.args.work.now.store.lists (c.in_ok-ask_call.ensures.step.others.lists ∙ c.walk.invariant.step.others.lists)
+    (number c.ask_call.new.work.store.marks) (c.args.cell.now.at.number + 1) c.in-Some.link c.walk.next c.next-next.result
+    c.in-Some.is c.walk.invariant.at c.next-next.ensures.apart c.next-next.ensures.within).fewer
 
 pub walk-preserved : goal.walk-preserved
 walk-preserved c =
@@ -82,24 +71,19 @@ walk-preserved c =
     let cell = c.args.cell.now in
     let l = cell.at.number + 1 in
     let link = c.in-Some.link in
-    let same = c.in_ok-ask_call.ensures.step.others.lists ∙ c.walk.invariant.step.others.lists in
-    let links = number c.ask_call.new.work.store.marks in
-    let apart : AreApart w.store.lists links = subst (λ (ls : List (List ℕ)). AreApart ls links) same c.next-next.ensures.apart in
-    let within : (list : ℕ) (front back : List ℕ) → list_at w.store.lists list ≡ front ++ link ∷ back → c.next-next.result ≡ slice_get back 0
-    = subst (λ (ls : List (List ℕ)). (list : ℕ) (front back : List ℕ) → list_at ls list ≡ front ++ link ∷ back → c.next-next.result ≡ slice_get back 0) same c.next-next.ensures.within in
-    let at : slice_get (from (list_at w.store.lists l) link) 0 ≡ Some link = subst (λ (o : Option ℕ). slice_get (rest_of (list_at w.store.lists l) o) 0 ≡ o) c.in-Some.is c.walk.invariant.at in
-    let s = walk_steps w.store.lists links l link c.next-next.result apart at within in
-    let rest : rest_of (list_at w.store.lists l) c.walk.next ≡ link ∷ s.0 = ap (rest_of (list_at w.store.lists l)) c.in-Some.is ∙ s.1 in
+    let s = walk_goes_on c.ask_call.new.work.store.lists c.args.work.now.store.lists (c.in_ok-ask_call.ensures.step.others.lists ∙ c.walk.invariant.step.others.lists)
+    (number c.ask_call.new.work.store.marks) l c.in-Some.link c.walk.next c.next-next.result
+    c.in-Some.is c.walk.invariant.at c.next-next.ensures.apart c.next-next.ensures.within in
     record {
       known = c.next-next.ensures.known;
       step = two_steps g w c.walk.work c.ask_call.new.work c.walk.invariant.step c.in_ok-ask_call.ensures.step;
-      at = s.3;
+      at = s.at;
       left = subst (λ (ys : List ℕ). AllCalled g w.table.contexts.items (found_of g c.ask_call.new.work)
-          (CallsLeft g w.table.contexts.items w.store.marks (found_of g w) ys cell.at.number cell.pos.0 cell.state.0)) (sym s.2)
-          (asked_call_left g functions c.requires.routed (alike c.args.game.now) w c.walk.work c.ask_call.new.work c.requires.table c.walk.invariant.step link c.place-place.result s.0 cell
+          (CallsLeft g w.table.contexts.items w.store.marks (found_of g w) ys cell.at.number cell.pos.0 cell.state.0)) (sym s.left)
+          (asked_call_left g functions c.requires.routed (alike c.args.game.now) w c.walk.work c.ask_call.new.work c.requires.table c.walk.invariant.step link c.place-place.result s.back cell
           c.requires.marked c.place-place.ensures.marked c.place-place.ensures.rank c.in_ok-ask_call.ensures
           (subst (λ (ys : List ℕ). AllCalled g w.table.contexts.items (found_of g c.walk.work)
-          (CallsLeft g w.table.contexts.items w.store.marks (found_of g w) ys cell.at.number cell.pos.0 cell.state.0)) rest c.walk.invariant.left));
+          (CallsLeft g w.table.contexts.items w.store.marks (found_of g w) ys cell.at.number cell.pos.0 cell.state.0)) s.rest c.walk.invariant.left));
     }
 
 pub returns : goal.returns

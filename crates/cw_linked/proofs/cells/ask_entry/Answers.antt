@@ -9,7 +9,8 @@ use Rattle.cw_linked.proofs.cells.ask_entry.Goals as goal
 pub entry-requires : goal.entry-requires
 entry-requires c =
     let at = c.args.cell.now.at in
-    rw c.function.ensures (there_at (game_of c.args.game.now) (length c.args.game.now.graph.parts.items) c.requires.routed c.args.work.now.table c.requires.table at.number at.context c.requires.cell.at).below
+    rw c.function.ensures (there_at (game_of c.args.game.now) (length c.args.game.now.graph.parts.items) c.requires.routed c.args.work.now.table c.requires.table at.number at.context
+    c.requires.cell.at).below
 
 pub ask_callers-requires-clause-entry : goal.ask_callers-requires-clause-entry
 ask_callers-requires-clause-entry c = c.if-cell-entry.true ∙ c.entry.ensures.is ∙ ap (game_of c.args.game.now).entry c.function.ensures
@@ -21,6 +22,7 @@ returns-else-cell-entry c =
     let cell = c.args.cell.now in
     record {
       step = nothing g w c.requires.long c.requires.high c.requires.right;
-      called = no_entry g (length c.args.game.now.graph.parts.items) c.requires.routed (alike c.args.game.now) w c.requires.table c.requires.right cell.at.number cell.at.context cell.pos.0 cell.state.0 c.requires.cell.at
+      called = no_entry g (length c.args.game.now.graph.parts.items) c.requires.routed
+          (alike c.args.game.now) w c.requires.table c.requires.right cell.at.number cell.at.context cell.pos.0 cell.state.0 c.requires.cell.at
           (λ e. c.if-cell-entry.false (e ∙ sym (c.entry.ensures.is ∙ ap g.entry c.function.ensures))) c.requires.called;
     }

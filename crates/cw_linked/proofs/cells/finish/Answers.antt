@@ -71,5 +71,6 @@ ask_returns-requires c =
 
 pub returns : goal.returns
 returns c =
-    finished (game_of c.args.game.now) (length c.args.game.now.graph.parts.items) c.requires.routed (alike c.args.game.now) c.args.work.now c.ask_waiting.new.work c.ask_entry.new.work c.ask_returns.new.work
+    finished (game_of c.args.game.now) (length c.args.game.now.graph.parts.items) c.requires.routed
+    (alike c.args.game.now) c.args.work.now c.ask_waiting.new.work c.ask_entry.new.work c.ask_returns.new.work
     c.args.cell.now c.args.height c.requires.taken c.in_ok-ask_waiting.ensures c.in_ok-ask_entry.ensures c.in_ok-ask_returns.ensures

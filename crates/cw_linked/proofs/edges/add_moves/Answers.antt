@@ -8,11 +8,11 @@ use Rattle.cw_linked.proofs.edges.add_moves.Goals as goal
 pub returns-in-None : goal.returns-in-None
 returns-in-None c =
     let g = game_of c.args.game.now in
-    one_move g c.args.changes.now c.add_move.new.changes c.args.pos.0 c.args.state.0 (c.requires.second ∙ c.in-None.is)
-    (subst (λ (m : Move). AddsMove g c.args.changes.now c.add_move.new.changes c.args.pos.0 c.args.state.0 m) (sym c.requires.first) c.in_ok-add_move.ensures)
+    one_move g c.args.changes.now c.add_move.new.changes c.args.pos.0 c.args.state.0 (sym c.requires.second ∙ c.in-None.is)
+    (subst (λ (m : Move). AddsMove g c.args.changes.now c.add_move.new.changes c.args.pos.0 c.args.state.0 m) c.requires.first c.in_ok-add_move.ensures)
 
 pub returns-in_ok-add_move-in-Some : goal.returns-in_ok-add_move-in-Some
 returns-in_ok-add_move-in-Some c =
     let g = game_of c.args.game.now in
-    two_moves g c.args.changes.now c.add_move.new.changes c.add_move-in-Some.new.changes c.args.pos.0 c.args.state.0 c.in-Some.by (c.requires.second ∙ c.in-Some.is)
-    (subst (λ (m : Move). AddsMove g c.args.changes.now c.add_move.new.changes c.args.pos.0 c.args.state.0 m) (sym c.requires.first) c.in_ok-add_move.ensures) c.in_ok-add_move-in-Some.ensures
+    two_moves g c.args.changes.now c.add_move.new.changes c.add_move-in-Some.new.changes c.args.pos.0 c.args.state.0 c.in-Some.by (sym c.requires.second ∙ c.in-Some.is)
+    (subst (λ (m : Move). AddsMove g c.args.changes.now c.add_move.new.changes c.args.pos.0 c.args.state.0 m) c.requires.first c.in_ok-add_move.ensures) c.in_ok-add_move-in-Some.ensures

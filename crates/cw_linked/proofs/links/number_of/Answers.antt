@@ -29,7 +29,8 @@ returns-then-len-size-gt4194304 c =
       record {
         missing = record {
           needed = c.requires.needed;
-          new = place_none w.table.contexts.items d.function d.promise (sym (c.in-None.ensures.place ∙ ap (position (λ (x : Context). nat_eq x.function d.function && nat_eq x.promise d.promise)) c.deref.ensures.value));
+          new = place_none w.table.contexts.items d.function d.promise (sym (c.in-None.ensures.place
+              ∙ ap (position (λ (x : Context). nat_eq x.function d.function && nat_eq x.promise d.promise)) c.deref.ensures.value));
         };
         many = omega (arith, c.len.ensures, w.table.heights.ok.0, c.size.ensures.is, c.if-len-size-gt4194304.true);
       },
@@ -43,8 +44,10 @@ add-requires-clause-contexts c =
     let g = game_of c.args.game.now in
     let w = c.args.work.now in
     let d = c.args.context.now in
-    let new = place_none w.table.contexts.items d.function d.promise (sym (c.in-None.ensures.place ∙ ap (position (λ (x : Context). nat_eq x.function d.function && nat_eq x.promise d.promise)) c.deref.ensures.value)) in
-    (longer_tabled g (length c.args.game.now.graph.parts.items) c.requires.routed w.table c.requires.firm.table d (record { needed = c.requires.needed; new = new }) (w.table.contexts.items ++ d ∷ []) refl
+    let new = place_none w.table.contexts.items d.function d.promise (sym (c.in-None.ensures.place
+    ∙ ap (position (λ (x : Context). nat_eq x.function d.function && nat_eq x.promise d.promise)) c.deref.ensures.value)) in
+    (longer_tabled g (length c.args.game.now.graph.parts.items) c.requires.routed w.table c.requires.firm.table d (record { needed = c.requires.needed; new = new })
+    (w.table.contexts.items ++ d ∷ []) refl
     (omega (arith, c.len.ensures, w.table.heights.ok.0, c.size.ensures.is, c.if-len-size-gt4194304.false)) (omega (arith, c.size.ensures.is, c.size.ensures.some))).0
 
 pub returns-in_ok-add-in-None : goal.returns-in_ok-add-in-None
@@ -54,6 +57,7 @@ returns-in_ok-add-in-None c =
     let d = c.args.context.now in
     let here : c.len-number.result ≡ length w.table.contexts.items = omega (arith, c.len-number.ensures, w.table.contexts.ok.0) in
     record {
-      there = ap (slice_get new.table.contexts.items) here ∙ ap (λ (cs : List Context). slice_get cs (length w.table.contexts.items)) c.in_ok-add-in-None.ensures.contexts ∙ after_push w.table.contexts.items d;
+      there = ap (slice_get new.table.contexts.items) here ∙ ap (λ (cs : List Context). slice_get cs (length w.table.contexts.items)) c.in_ok-add-in-None.ensures.contexts
+          ∙ after_push w.table.contexts.items d;
       grows = inr c.in_ok-add-in-None.ensures;
     }

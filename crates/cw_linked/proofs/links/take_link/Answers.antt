@@ -29,7 +29,8 @@ number_of-requires-clause-needed c =
     let link = c.args.link.now in
     let call = call_here g functions c.requires.routed w link c.args.place c.args.moves c.requires.freed c.in-Call.callee c.in-Call.split c.in-Call.back c.in-Call.ensures in
     let to : Context = context c.in-Call.callee c.promise_of.result in
-    let read = read_here g functions c.requires.routed w link c.args.place c.args.moves c.requires.freed call.0 c.in-Call.split c.in-Call.back.0 c.promise_of.result call.2 call.4 c.promise_of.ensures in
+    let read = read_here g functions c.requires.routed w link c.args.place c.args.moves c.requires.freed call.0 c.in-Call.split c.in-Call.back.0 c.promise_of.result call.2
+    call.4 c.promise_of.ensures in
     is_needed g functions c.requires.routed w link c.args.place c.args.moves c.requires.freed call.0 call.1 to call.3 read
 
 pub numbered-to-requires : goal.numbered-to-requires
@@ -40,7 +41,8 @@ numbered-to-requires c =
     let link = c.args.link.now in
     let call = call_here g functions c.requires.routed w link c.args.place c.args.moves c.requires.freed c.in-Call.callee c.in-Call.split c.in-Call.back c.in-Call.ensures in
     let to : Context = context c.in-Call.callee c.promise_of.result in
-    let read = read_here g functions c.requires.routed w link c.args.place c.args.moves c.requires.freed call.0 c.in-Call.split c.in-Call.back.0 c.promise_of.result call.2 call.4 c.promise_of.ensures in
+    let read = read_here g functions c.requires.routed w link c.args.place c.args.moves c.requires.freed call.0 c.in-Call.split c.in-Call.back.0 c.promise_of.result call.2
+    call.4 c.promise_of.ensures in
     let numbered : IsNumbered g w c.number_of.new.work to c.in-Some.number = subst (λ (o : Option ℕ). NumbersContext g w c.number_of.new.work to o) c.in-Some.is c.in_ok-number.ensures in
     let tieable = is_tieable g functions c.requires.routed w link c.args.place c.args.moves c.requires.freed call.0 call.1 to call.3 read c.number_of.new.work c.in-Some.number numbered in
     record {
@@ -57,7 +59,8 @@ tie_link-requires-clause-tieable c =
     let link = c.args.link.now in
     let call = call_here g functions c.requires.routed w link c.args.place c.args.moves c.requires.freed c.in-Call.callee c.in-Call.split c.in-Call.back c.in-Call.ensures in
     let to : Context = context c.in-Call.callee c.promise_of.result in
-    let read = read_here g functions c.requires.routed w link c.args.place c.args.moves c.requires.freed call.0 c.in-Call.split c.in-Call.back.0 c.promise_of.result call.2 call.4 c.promise_of.ensures in
+    let read = read_here g functions c.requires.routed w link c.args.place c.args.moves c.requires.freed call.0 c.in-Call.split c.in-Call.back.0 c.promise_of.result call.2
+    call.4 c.promise_of.ensures in
     let numbered : IsNumbered g w c.number_of.new.work to c.in-Some.number = subst (λ (o : Option ℕ). NumbersContext g w c.number_of.new.work to o) c.in-Some.is c.in_ok-number.ensures in
     let same = same_tabled c.number_of.new.work.table c.numbered-to.result c.in-Some.number to c.numbered-to.ensures.number c.numbered-to.ensures.there numbered.there in
     subst (λ (a : Tabled). IsTieable g c.number_of.new.work link c.args.place c.args.moves a.number c.in-Call.back.0 a.context) (sym same)
@@ -72,11 +75,13 @@ returns c =
     let link = c.args.link.now in
     let call = call_here g functions c.requires.routed w link c.args.place c.args.moves c.requires.freed c.in-Call.callee c.in-Call.split c.in-Call.back c.in-Call.ensures in
     let to : Context = context c.in-Call.callee c.promise_of.result in
-    let read = read_here g functions c.requires.routed w link c.args.place c.args.moves c.requires.freed call.0 c.in-Call.split c.in-Call.back.0 c.promise_of.result call.2 call.4 c.promise_of.ensures in
+    let read = read_here g functions c.requires.routed w link c.args.place c.args.moves c.requires.freed call.0 c.in-Call.split c.in-Call.back.0 c.promise_of.result call.2
+    call.4 c.promise_of.ensures in
     let numbered : IsNumbered g w c.number_of.new.work to c.in-Some.number = subst (λ (o : Option ℕ). NumbersContext g w c.number_of.new.work to o) c.in-Some.is c.in_ok-number.ensures in
     let to_number : ℕ → List ℕ = λ n. slice_set c.number_of.new.work.store.to c.args.place (n + 1) in
     let finishes = subst (λ (n : ℕ). Finishes g c.number_of.new.work c.tie_link.new.work (to_number n)) c.numbered-to.ensures.number c.in_ok-tie_link.ensures in (
       finishes.kept,
-      is_less g functions c.requires.routed w link c.args.place c.args.moves c.requires.freed call.0 call.1 to call.3 read c.number_of.new.work c.in-Some.number numbered c.requires.some c.tie_link.new.work
+      is_less g functions c.requires.routed w link c.args.place c.args.moves c.requires.freed call.0 call.1 to call.3 read c.number_of.new.work c.in-Some.number numbered
+          c.requires.some c.tie_link.new.work
           finishes,
     )

@@ -10,4 +10,5 @@ returns-clause-cause c =
     let g = game_of c.args.game.now in
     let t = c.in-Ok.work.table in
     let last = subst (λ (o : Option Context). Ends g t o) c.in-Some.is c.in-Ok.ensures in
-    longer_too_many g (length c.args.game.now.graph.parts.items) c.requires.routed t last.0 c.in-Some.context last.1.missing c.in_ok-longer-in-Some.field-0.items c.in_ok-longer-in-Some.ensures last.1.many
+    longer_too_many g (length c.args.game.now.graph.parts.items) c.requires.routed t last.0 c.in-Some.context last.1.missing c.in_ok-longer-in-Some.field-0.items
+    c.in_ok-longer-in-Some.ensures last.1.many

@@ -23,9 +23,11 @@ loop-q-preserved c =
     let cell : Cell = record { at = link.at; pos = c.args.back; state = record { 0 = c.loop-q.q } } in
     record {
       step = two_steps g w mid new c.loop-q.invariant.step c.in_ok-ask_back.ensures.step;
-      others = others_again g functions c.requires.routed (alike c.args.game.now) w mid new c.requires.table c.loop-q.invariant.step link c.args.back.0 c.requires.returns cell c.in_ok-ask_back.ensures refl refl
+      others = others_again g functions c.requires.routed (alike c.args.game.now) w mid new c.requires.table c.loop-q.invariant.step link c.args.back.0 c.requires.returns cell
+          c.in_ok-ask_back.ensures refl refl
           c.loop-q.invariant.others;
-      before = one_again g functions c.requires.routed (alike c.args.game.now) w mid new c.requires.table c.loop-q.invariant.step link c.args.back.0 c.requires.returns cell c.in_ok-ask_back.ensures refl refl
+      before = one_again g functions c.requires.routed (alike c.args.game.now) w mid new c.requires.table c.loop-q.invariant.step link c.args.back.0 c.requires.returns cell
+          c.in_ok-ask_back.ensures refl refl
           c.loop-q.invariant.before;
     }
 
@@ -35,6 +37,7 @@ returns c =
     let w = c.args.work.now in
     record {
       step = c.loop-q.invariant.step;
-      standing = all_again g (length c.args.game.now.graph.parts.items) c.requires.routed (alike c.args.game.now) w c.loop-q.work c.requires.table c.loop-q.invariant.step c.args.link.now c.requires.cell c.requires.tied
+      standing = all_again g (length c.args.game.now.graph.parts.items) c.requires.routed
+          (alike c.args.game.now) w c.loop-q.work c.requires.table c.loop-q.invariant.step c.args.link.now c.requires.cell c.requires.tied
           c.loop-q.q (omega (arith, c.loop-q-test.false, c.states-q-end.ensures)) c.loop-q.invariant.others c.loop-q.invariant.before;
     }

@@ -12,7 +12,8 @@ use Rattle.cw_linked.proofs.ties.ask_calls.Goals as goal
 pub entry-entry-requires : goal.entry-entry-requires
 entry-entry-requires c =
     let at = c.args.callee.now in
-    rw c.function.ensures (there_at (game_of c.args.game.now) (length c.args.game.now.graph.parts.items) c.requires.routed c.args.work.now.table c.requires.table at.number at.context c.requires.callee).below
+    rw c.function.ensures (there_at (game_of c.args.game.now) (length c.args.game.now.graph.parts.items) c.requires.routed c.args.work.now.table c.requires.table at.number
+    at.context c.requires.callee).below
 
 pub loop-q-init : goal.loop-q-init
 loop-q-init c =
@@ -21,7 +22,8 @@ loop-q-init c =
     let link = c.args.link.now in
     record {
       step = nothing g w c.requires.long c.requires.high c.requires.right;
-      left = all_from g (length c.args.game.now.graph.parts.items) c.requires.routed (alike c.args.game.now) w.table.contexts.items (found_of g w) link.at.number link.pos.0 link.state.0 c.requires.called;
+      left = all_from g (length c.args.game.now.graph.parts.items) c.requires.routed (alike c.args.game.now) w.table.contexts.items
+          (found_of g w) link.at.number link.pos.0 link.state.0 c.requires.called;
     }
 
 pub ask_lost-requires-clause-cell : goal.ask_lost-requires-clause-cell
@@ -50,7 +52,8 @@ loop-q-preserved c =
     record {
       step = two_steps g w mid new c.loop-q.invariant.step c.in_ok-ask_lost.ensures.step;
       left = one_from g functions c.requires.routed (alike c.args.game.now) w mid new c.requires.table c.loop-q.invariant.step c.args.place c.args.link.now c.requires.at
-          (record { at = c.args.callee.now; pos = c.entry-entry.result; state = record { 0 = c.loop-q.q } }) c.requires.callee (c.entry-entry.ensures.is ∙ ap g.entry c.function.ensures) c.requires.goes c.in_ok-ask_lost.ensures c.loop-q.invariant.left;
+          (record { at = c.args.callee.now; pos = c.entry-entry.result; state = record { 0 = c.loop-q.q } }) c.requires.callee
+          (c.entry-entry.ensures.is ∙ ap g.entry c.function.ensures) c.requires.goes c.in_ok-ask_lost.ensures c.loop-q.invariant.left;
     }
 
 pub returns : goal.returns
@@ -60,6 +63,7 @@ returns c =
     let link = c.args.link.now in
     record {
       step = c.loop-q.invariant.step;
-      called = none_from g (length c.args.game.now.graph.parts.items) c.requires.routed (alike c.args.game.now) w.table.contexts.items (found_of g c.loop-q.work) link.at.number link.pos.0 link.state.0 c.loop-q.q
+      called = none_from g (length c.args.game.now.graph.parts.items) c.requires.routed (alike c.args.game.now) w.table.contexts.items
+          (found_of g c.loop-q.work) link.at.number link.pos.0 link.state.0 c.loop-q.q
           (omega (arith, c.loop-q-test.false, c.states-q-end.ensures)) c.loop-q.invariant.left;
     }

@@ -26,4 +26,5 @@ returns c =
     let g = game_of c.args.game.now in
     let e : c.loop-x.x ≡ c.states-x-end.result = omega (arith, c.loop-x-test.false, c.loop-x.auto.x-end) in
     λ x. c.loop-x.invariant x
-    ∙ ap (λ k. nat_lt x k && holds_by c.args.moves (heights_of g c.args.table.now c.args.link.now.at.number c.args.back.0 (returned g.states (kept_at c.args.split c.args.link.now.state.0) x))) (e ∙ c.states-x-end.ensures)
+    ∙ ap (λ k. nat_lt x k && holds_by c.args.moves (heights_of g c.args.table.now c.args.link.now.at.number c.args.back.0 (returned g.states (kept_at c.args.split c.args.link.now.state.0) x)))
+    (e ∙ c.states-x-end.ensures)

@@ -10,7 +10,8 @@ pub tie-requires-clause-within : goal.tie-requires-clause-within
 tie-requires-clause-within c =
     let g = game_of c.args.game.now in
     let functions = length c.args.game.now.graph.parts.items in
-    within g functions c.requires.routed (alike c.args.game.now) c.args.work.now c.args.work.now c.args.link.now c.args.place c.args.moves c.args.callee.now.number c.args.back.0 c.args.callee.now.context c.requires.tieable
+    within g functions c.requires.routed (alike c.args.game.now) c.args.work.now c.args.work.now c.args.link.now c.args.place c.args.moves c.args.callee.now.number c.args.back.0
+    c.args.callee.now.context c.requires.tieable
 
 pub tie-requires-clause-marked : goal.tie-requires-clause-marked
 tie-requires-clause-marked c =
@@ -29,43 +30,50 @@ pub ask_calls-requires-clause-goes : goal.ask_calls-requires-clause-goes
 ask_calls-requires-clause-goes c =
     let g = game_of c.args.game.now in
     let functions = length c.args.game.now.graph.parts.items in
-    mid_goes g functions c.requires.routed (alike c.args.game.now) c.args.work.now c.tie.new.work c.args.link.now c.args.place c.args.moves c.args.callee.now.number c.args.back.0 c.args.callee.now.context c.requires.tieable c.tie.ensures
+    mid_goes g functions c.requires.routed (alike c.args.game.now) c.args.work.now c.tie.new.work c.args.link.now c.args.place c.args.moves c.args.callee.now.number c.args.back.0
+    c.args.callee.now.context c.requires.tieable c.tie.ensures
 
 pub ask_calls-requires-clause-high : goal.ask_calls-requires-clause-high
 ask_calls-requires-clause-high c =
     let g = game_of c.args.game.now in
     let functions = length c.args.game.now.graph.parts.items in
-    (mid_firm g functions c.requires.routed (alike c.args.game.now) c.args.work.now c.tie.new.work c.args.link.now c.args.place c.args.moves c.args.callee.now.number c.args.back.0 c.args.callee.now.context c.requires.tieable c.tie.ensures).high
+    (mid_firm g functions c.requires.routed (alike c.args.game.now) c.args.work.now c.tie.new.work c.args.link.now c.args.place c.args.moves c.args.callee.now.number c.args.back.0
+    c.args.callee.now.context c.requires.tieable c.tie.ensures).high
 
 pub ask_calls-requires-clause-right : goal.ask_calls-requires-clause-right
 ask_calls-requires-clause-right c =
     let g = game_of c.args.game.now in
     let functions = length c.args.game.now.graph.parts.items in
-    (mid_firm g functions c.requires.routed (alike c.args.game.now) c.args.work.now c.tie.new.work c.args.link.now c.args.place c.args.moves c.args.callee.now.number c.args.back.0 c.args.callee.now.context c.requires.tieable c.tie.ensures).right
+    (mid_firm g functions c.requires.routed (alike c.args.game.now) c.args.work.now c.tie.new.work c.args.link.now c.args.place c.args.moves c.args.callee.now.number c.args.back.0
+    c.args.callee.now.context c.requires.tieable c.tie.ensures).right
 
 pub ask_calls-requires-clause-called : goal.ask_calls-requires-clause-called
 ask_calls-requires-clause-called c =
     let g = game_of c.args.game.now in
     let functions = length c.args.game.now.graph.parts.items in
-    mid_called g functions c.requires.routed (alike c.args.game.now) c.args.work.now c.tie.new.work c.args.link.now c.args.place c.args.moves c.args.callee.now.number c.args.back.0 c.args.callee.now.context c.requires.tieable c.tie.ensures
+    mid_called g functions c.requires.routed (alike c.args.game.now) c.args.work.now c.tie.new.work c.args.link.now c.args.place c.args.moves c.args.callee.now.number c.args.back.0
+    c.args.callee.now.context c.requires.tieable c.tie.ensures
 
 pub ask_again-requires-clause-back : goal.ask_again-requires-clause-back
 ask_again-requires-clause-back c =
     let g = game_of c.args.game.now in
     let functions = length c.args.game.now.graph.parts.items in
-    back_of_link g functions c.requires.routed (alike c.args.game.now) c.args.work.now c.tie.new.work c.args.link.now c.args.place c.args.moves c.args.callee.now.number c.args.back.0 c.args.callee.now.context c.requires.tieable c.tie.ensures
+    back_of_link g functions c.requires.routed (alike c.args.game.now) c.args.work.now c.tie.new.work c.args.link.now c.args.place c.args.moves c.args.callee.now.number c.args.back.0
+    c.args.callee.now.context c.requires.tieable c.tie.ensures
 
 pub ask_again-requires-clause-tied : goal.ask_again-requires-clause-tied
 ask_again-requires-clause-tied c =
     let g = game_of c.args.game.now in
     let functions = length c.args.game.now.graph.parts.items in
-    one_tied g functions c.requires.routed (alike c.args.game.now) c.args.work.now c.tie.new.work c.args.link.now c.args.place c.args.moves c.args.callee.now.number c.args.back.0 c.args.callee.now.context c.requires.tieable c.tie.ensures c.ask_calls.new.work c.in_ok-ask_calls.ensures
+    one_tied g functions c.requires.routed (alike c.args.game.now) c.args.work.now c.tie.new.work c.args.link.now c.args.place c.args.moves c.args.callee.now.number c.args.back.0
+    c.args.callee.now.context c.requires.tieable c.tie.ensures c.ask_calls.new.work c.in_ok-ask_calls.ensures
 
 pub ask_again-requires-clause-few : goal.ask_again-requires-clause-few
 ask_again-requires-clause-few c =
     let g = game_of c.args.game.now in
     let functions = length c.args.game.now.graph.parts.items in
-    one_few g functions c.requires.routed (alike c.args.game.now) c.args.work.now c.tie.new.work c.args.link.now c.args.place c.args.moves c.args.callee.now.number c.args.back.0 c.args.callee.now.context c.requires.tieable c.tie.ensures c.ask_calls.new.work c.in_ok-ask_calls.ensures
+    one_few g functions c.requires.routed (alike c.args.game.now) c.args.work.now c.tie.new.work c.args.link.now c.args.place c.args.moves c.args.callee.now.number c.args.back.0
+    c.args.callee.now.context c.requires.tieable c.tie.ensures c.ask_calls.new.work c.in_ok-ask_calls.ensures
 
 pub ask_again-requires-clause-marked : goal.ask_again-requires-clause-marked
 ask_again-requires-clause-marked c =
@@ -78,10 +86,12 @@ pub ask_again-requires-clause-standing : goal.ask_again-requires-clause-standing
 ask_again-requires-clause-standing c =
     let g = game_of c.args.game.now in
     let functions = length c.args.game.now.graph.parts.items in
-    one_standing g functions c.requires.routed (alike c.args.game.now) c.args.work.now c.tie.new.work c.args.link.now c.args.place c.args.moves c.args.callee.now.number c.args.back.0 c.args.callee.now.context c.requires.tieable c.tie.ensures c.ask_calls.new.work c.in_ok-ask_calls.ensures
+    one_standing g functions c.requires.routed (alike c.args.game.now) c.args.work.now c.tie.new.work c.args.link.now c.args.place c.args.moves c.args.callee.now.number c.args.back.0
+    c.args.callee.now.context c.requires.tieable c.tie.ensures c.ask_calls.new.work c.in_ok-ask_calls.ensures
 
 pub returns : goal.returns
 returns c =
     let g = game_of c.args.game.now in
     let functions = length c.args.game.now.graph.parts.items in
-    tied_all g functions c.requires.routed (alike c.args.game.now) c.args.work.now c.tie.new.work c.args.link.now c.args.place c.args.moves c.args.callee.now.number c.args.back.0 c.args.callee.now.context c.requires.tieable c.tie.ensures c.ask_calls.new.work c.in_ok-ask_calls.ensures c.ask_again.new.work c.in_ok-ask_again.ensures
+    tied_all g functions c.requires.routed (alike c.args.game.now) c.args.work.now c.tie.new.work c.args.link.now c.args.place c.args.moves c.args.callee.now.number c.args.back.0
+    c.args.callee.now.context c.requires.tieable c.tie.ensures c.ask_calls.new.work c.in_ok-ask_calls.ensures c.ask_again.new.work c.in_ok-ask_again.ensures

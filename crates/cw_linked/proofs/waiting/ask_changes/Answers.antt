@@ -1,4 +1,4 @@
-use Rattle.std.proofs.Common.{◌≡◌, ◌<◌, ◌∷◌, ◌∙◌, ℕ, List, Option, Some, length, subst, sym, ap, arith}
+use Rattle.std.proofs.Common.{◌≡◌, ◌<◌, ◌∙◌, ℕ, List, Option, length, subst, sym, ap, arith}
 use Rattle.std.specs.Prelude.{slice_get, IfSome}
 use Rattle.cw_links.specs.Lists.{list_at}
 use Rattle.cw_product.specs.Product.{game_of}
@@ -6,7 +6,7 @@ use Rattle.cw_solve.proofs.Calling.{cell_within}
 use Rattle.cw_linked.specs.Founds.{Nothing, AllClosed}
 use Rattle.cw_linked.specs.Queues.{found_of}
 use Rattle.cw_linked.specs.Waiting.{pair_number}
-use Rattle.cw_linked.specs.Walks.{from, rest_of}
+use Rattle.cw_linked.specs.Walks.{rest_of}
 use Rattle.cw_linked.proofs.Alike.{alike}
 use Rattle.cw_linked.proofs.Telling.{nothing, two_steps}
 use Rattle.cw_linked.proofs.Waits.{AreLeft, change_pairs, changes_left, unmarked_left, asked_left, none_left}
@@ -63,17 +63,10 @@ next-next-requires c = subst (λ o. IfSome o (λ edge. edge < length c.args.chan
 
 pub walk-smaller : goal.walk-smaller
 walk-smaller c =
-    let g = game_of c.args.game.now in
     let cell = c.args.cell.now in
     let changes = c.args.changes.now in
-    let l = pair_number g cell.pos.0 cell.state.0 in
-    let at : slice_get (from (list_at changes.pairs.lists l) c.in-Some.edge) 0 ≡ Some c.in-Some.edge
-    = subst (λ (o : Option ℕ). slice_get (rest_of (list_at changes.pairs.lists l) o) 0 ≡ o) c.in-Some.is c.walk.invariant.at in
-    let s = walk_steps changes.pairs.lists (length changes.pairs.values) l c.in-Some.edge c.next-next.result c.next-next.ensures.apart at c.next-next.ensures.within in
-    let before = ap (λ (o : Option ℕ). length (rest_of (list_at changes.pairs.lists l) o)) c.in-Some.is in
-    let old = ap (λ (ys : List ℕ). length ys) s.1 in
-    let new = ap (λ (ys : List ℕ). length ys) s.2 in
-    omega (arith, before, old, new)
+    (walk_steps changes.pairs.lists (length changes.pairs.values) (pair_number (game_of c.args.game.now) cell.pos.0 cell.state.0) c.in-Some.edge c.walk.next c.next-next.result
+    c.in-Some.is c.walk.invariant.at c.next-next.ensures.apart c.next-next.ensures.within).fewer
 
 pub walk-preserved : goal.walk-preserved
 walk-preserved c =
@@ -83,19 +76,17 @@ walk-preserved c =
     let cell = c.args.cell.now in
     let changes = c.args.changes.now in
     let l = pair_number g cell.pos.0 cell.state.0 in
-    let at : slice_get (from (list_at changes.pairs.lists l) c.in-Some.edge) 0 ≡ Some c.in-Some.edge
-    = subst (λ (o : Option ℕ). slice_get (rest_of (list_at changes.pairs.lists l) o) 0 ≡ o) c.in-Some.is c.walk.invariant.at in
-    let s = walk_steps changes.pairs.lists (length changes.pairs.values) l c.in-Some.edge c.next-next.result c.next-next.ensures.apart at c.next-next.ensures.within in
-    let rest : rest_of (list_at changes.pairs.lists l) c.walk.next ≡ c.in-Some.edge ∷ s.0 = ap (rest_of (list_at changes.pairs.lists l)) c.in-Some.is ∙ s.1 in
+    let s = walk_steps changes.pairs.lists (length changes.pairs.values) l c.in-Some.edge c.walk.next c.next-next.result
+    c.in-Some.is c.walk.invariant.at c.next-next.ensures.apart c.next-next.ensures.within in
     record {
       known = c.next-next.ensures.known;
       step = two_steps g w c.walk.work c.ask_pair.new.work c.walk.invariant.step c.in_ok-ask_pair.ensures.step;
-      at = s.3;
-      left = subst (λ (ys : List ℕ). AllClosed g w.table.contexts.items (found_of g c.ask_pair.new.work) (AreLeft (change_pairs changes) Nothing cell.at.number ys)) (sym s.2)
+      at = s.at;
+      left = subst (λ (ys : List ℕ). AllClosed g w.table.contexts.items (found_of g c.ask_pair.new.work) (AreLeft (change_pairs changes) Nothing cell.at.number ys)) (sym s.left)
           (asked_left g functions c.requires.routed (alike c.args.game.now) w c.walk.work c.ask_pair.new.work c.requires.table c.walk.invariant.step (change_pairs changes) Nothing cell
-          c.requires.cell.at c.in-Some.edge s.0 c.get.result.now
+          c.requires.cell.at c.in-Some.edge s.back c.get.result.now
           c.get.ensures c.in_ok-ask_pair.ensures
-          (subst (λ (ys : List ℕ). AllClosed g w.table.contexts.items (found_of g c.walk.work) (AreLeft (change_pairs changes) Nothing cell.at.number ys)) rest c.walk.invariant.left));
+          (subst (λ (ys : List ℕ). AllClosed g w.table.contexts.items (found_of g c.walk.work) (AreLeft (change_pairs changes) Nothing cell.at.number ys)) s.rest c.walk.invariant.left));
     }
 
 pub returns : goal.returns

@@ -34,7 +34,8 @@ holds-requires-clause-cell c =
     let at = place_is contexts f set i found in
     let callee = c.numbered-callee.result in
     let same = same_context c.args.table.now callee i (context f set) c.numbered-callee.ensures.number c.numbered-callee.ensures.there at in
-    rw c.entry.ensures.is (callee_cell g functions c.requires.routed c.args.table.now c.requires.table c.args.pos.0 c.args.state.0 f c.args.back.0 c.args.split callee c.requires.cell.state c.requires.call
+    rw c.entry.ensures.is (callee_cell g functions c.requires.routed c.args.table.now c.requires.table c.args.pos.0 c.args.state.0 f c.args.back.0 c.args.split callee
+    c.requires.cell.state c.requires.call
     c.numbered-callee.ensures.there (ap (λ (x : Context). x.function) same))
 
 pub returns-in-None-clause-missing : goal.returns-in-None-clause-missing

@@ -37,7 +37,8 @@ loop-context-preserved c =
     record {
       bases = ap length pushed ∙ length_push c.loop-context.bases.items c.loop-context.cells ∙ ap (λ (n : ℕ). n + 1) c.loop-context.invariant.bases;
       begins = λ k below. ap (λ (xs : List ℕ). slice_index xs k) pushed
-          ∙ values_more (λ n. cells_of g (take n contexts)) c.loop-context.bases.items i c.loop-context.cells c.loop-context.invariant.bases c.loop-context.invariant.begins c.loop-context.invariant.cells k below;
+          ∙ values_more (λ n. cells_of g (take n contexts)) c.loop-context.bases.items i c.loop-context.cells c.loop-context.invariant.bases c.loop-context.invariant.begins
+          c.loop-context.invariant.cells k below;
       cells = omega (arith, more, c.loop-context.invariant.cells, c.size-cells.ensures.is);
     }
 

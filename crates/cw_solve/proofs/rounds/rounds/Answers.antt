@@ -17,5 +17,6 @@ rounds-preserved c =
     record {
       table = c.in_default.ensures.table;
       contexts = c.in_default.ensures.later.contexts ∙ c.rounds.invariant.contexts;
-      round = round_ends g functions c.requires.routed c.rounds.table c.look_all.new.table c.rounds.n c.rounds.invariant.round c.in_default.ensures.later c.in_default.ensures.round c.if-table-written.false;
+      round = round_ends g functions c.requires.routed c.rounds.table c.look_all.new.table c.rounds.n c.rounds.invariant.round c.in_default.ensures.later c.in_default.ensures.round
+          c.if-table-written.false;
     }

@@ -12,4 +12,5 @@ pub returns : goal.returns
 returns c =
     let g = game_of c.args.game.now in
     ap₂ context c.main.ensures
-    (all_is g c.complement_in.result (λ i. c.complement_in.ensures.members i ∙ ap₂ (λ (n : ℕ) (b : Bool). nat_lt i n && not b) c.states.ensures (c.empty.ensures.members i) ∙ only (nat_lt i g.states.count)))
+    (all_is g c.complement_in.result (λ i. c.complement_in.ensures.members i ∙ ap₂ (λ (n : ℕ) (b : Bool). nat_lt i n && not b) c.states.ensures (c.empty.ensures.members i)
+    ∙ only (nat_lt i g.states.count)))

@@ -8,12 +8,14 @@ use Rattle.cw_solve.proofs.table.slot.Goals as goal
 pub entry-requires : goal.entry-requires
 entry-requires c =
     let at = c.args.at.now in
-    rw c.function-function.ensures (there_at (game_of c.args.game.now) (length c.args.game.now.graph.parts.items) c.requires.routed c.args.table.now c.requires.table at.number at.context c.requires.cell.at).below
+    rw c.function-function.ensures (there_at (game_of c.args.game.now) (length c.args.game.now.graph.parts.items) c.requires.routed c.args.table.now c.requires.table at.number at.context
+    c.requires.cell.at).below
 
 pub positions-requires-clause-there : goal.positions-requires-clause-there
 positions-requires-clause-there c =
     let at = c.args.at.now in
-    rw c.function-function.ensures (there_at (game_of c.args.game.now) (length c.args.game.now.graph.parts.items) c.requires.routed c.args.table.now c.requires.table at.number at.context c.requires.cell.at)
+    rw c.function-function.ensures (there_at (game_of c.args.game.now) (length c.args.game.now.graph.parts.items) c.requires.routed c.args.table.now c.requires.table at.number
+    at.context c.requires.cell.at)
 
 pub index-requires : goal.index-requires
 index-requires c =

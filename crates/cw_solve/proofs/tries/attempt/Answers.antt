@@ -15,7 +15,8 @@ returns-then-cells-le4194304 c =
     let g = game_of c.args.game.now in
     let t = c.rounds.new.table in
     let f = c.in-Some.context.function in
-    let more = longer_tabled g (length c.args.game.now.graph.parts.items) c.requires.routed t c.in-Some.ensures.table c.in-Some.context c.in-Some.ensures.missing c.in_ok-contexts-in-Some.contexts.items
+    let more = longer_tabled g (length c.args.game.now.graph.parts.items) c.requires.routed t c.in-Some.ensures.table c.in-Some.context c.in-Some.ensures.missing
+    c.in_ok-contexts-in-Some.contexts.items
     c.in_ok-contexts-in-Some.ensures (omega (arith, c.len.ensures, t.heights.ok.0, c.size.ensures.is, c.if-cells-le4194304.true)) (omega (arith, c.size.ensures.is, c.size.ensures.some)) in
     let same : t.contexts.items ≡ c.args.contexts.items = c.in-Some.ensures.contexts ∙ c.in_ok-table.ensures.same in
     (more.0, subst (λ (xs : List Context). cells_of g xs < cells_of g c.in_ok-contexts-in-Some.contexts.items) same more.1)

@@ -1,7 +1,14 @@
-use Rattle.std.proofs.Common.{◌≡◌, length, ap, sym, ◌∙◌, true, false, eqb-true, eq-eqb}
+use Rattle.std.proofs.Common.{◌≡◌, length, ap, sym, ◌∙◌, true, false, eqb-true, eq-eqb, arith}
+use Rattle.std.proofs.lemmas.Option.{slice_get_past}
 use Rattle.cw_product.specs.Product.{Held, game_of}
+use Rattle.cw_solve.specs.Numbering.{has_position}
 use Rattle.cw_solve.proofs.Numbering.{function_there, has_is, has_not}
 use Rattle.cw_solve.proofs.solved.Solved.has_position.Goals as goal
+
+pub returns-then-number-contexts : goal.returns-then-number-contexts
+returns-then-number-contexts c =
+    ap (has_position (game_of c.args.self.now.game) c.args.pos.0 c.args.promise.now)
+    (sym (slice_get_past c.args.self.now.contexts c.args.number (omega (arith, c.contexts.ensures, c.if-number-contexts.true))))
 
 pub entry-first-requires : goal.entry-first-requires
 entry-first-requires c =
