@@ -10,6 +10,7 @@ mod Rowed
 mod Sampled
 mod Shown
 mod Unmade
+mod Wanting
 mod Weaves
 mod Withins
 pub mod Agreeing

@@ -1,8 +1,11 @@
 -- A game that is made, and the height of its start.
-use Rattle.std.proofs.Common.{◌≡◌, ℕ, ◌*◌, ◌<◌, ◌≤◌, Option, length, sym, ap, ◌∙◌, subst, arith}
+use Rattle.std.proofs.Common.{◌≡◌, ℕ, ◌*◌, ◌<◌, ◌≤◌, List, Option, length, sym, ap, ◌∙◌, subst, arith}
 use Rattle.cw_rights.specs.Policies.{PlainPolicy, policy_of}
 use Rattle.cw_rights.specs.Valid.{IsValid}
+use Rattle.cw_syntax.specs.Trees.{File}
+use Rattle.cw_actions.specs.Scenes.{names_of}
 use Rattle.cw_points.specs.declared.graph.Graph.{Graph}
+use Rattle.cw_points.specs.Graphs.{IsGraph}
 use Rattle.cw_game.specs.Pairs.{all_states}
 use Rattle.cw_states.specs.States.{AreLists, AreFew, lists_of}
 use Rattle.cw_product.specs.Product.{Held, game_of, IsProgramsGraph}
@@ -11,6 +14,7 @@ use Rattle.cw_solve.specs.Contexts.{context, HeightIs, AreTheNeeded}
 use Rattle.cw_product.specs.Made.{IsMade, LeavesMain}
 use Rattle.cw_solve.specs.Solved.{Held as Solved, IsNumbered, IsHeightIn}
 use Rattle.cw_solve.proofs.Routing.{routed_of}
+use Rattle.cw_cli.specs.Refuting.{IsGame}
 
 pub is_made : (h : Held) (policy : PlainPolicy) (graph : Graph) → h.graph ≡ graph → policy_of h.states.policy ≡ policy → IsValid policy → IsProgramsGraph policy graph → LeavesMain policy graph
     → AreLists (uses_of policy graph.nodes.items) (lists_of h.states) → AreFew (lists_of h.states) → length (game_of h).spots * (game_of h).states.count ≤ 1048576 → IsMade h
@@ -23,6 +27,12 @@ is_made h policy graph e f valid drawn leaves lists few pairs = record {
   few = few;
   pairs = pairs;
 }
+
+-- the program's graph is the game's, under the names of the game's policy
+pub graph_over : {h : Held} {policy : PlainPolicy} {graph : Graph} {source : List ℕ} {file : File} → IsGame policy graph h → IsGraph (names_of policy) source file graph
+    → IsGraph (names_of (policy_of h.states.policy)) source file h.graph
+graph_over {h} {policy} {graph} {source} {file} is drawn =
+    subst (IsGraph (names_of (policy_of h.states.policy)) source file) (sym is.graph_is) (subst (λ (p : PlainPolicy). IsGraph (names_of p) source file graph) (sym is.policy_is) drawn)
 
 numbered_at : (s : Solved) (p q : ℕ) → IsMade s.game → AreTheNeeded (game_of s.game) s.contexts → p ≡ (game_of s.game).entry (game_of s.game).main
     → q < (game_of s.game).states.count → IsNumbered s 0 p q

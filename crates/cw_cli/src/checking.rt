@@ -37,6 +37,7 @@ use cw_source::SourceFault;
 use cw_wcheck::{BadRow, check_weaver};
 use cw_woven::{Accepted, CutFault, Opened, WovenFault, accept_woven, open_woven};
 use std::alloc::Global;
+use std::mem::forget;
 
 /// The refusal by the first fault of a table's lines.
 fn table_refusal<O: Sink, N: Sink>(
@@ -276,7 +277,12 @@ fn opened<O: Sink, N: Sink>(
 {
     match open(alloc, policy, text, note) {
         Ok(parts) => match accept(alloc, policy, &parts, note) {
-            Ok(program) => fitted(alloc, policy, &program, &parts.table, out, note),
+            Ok(program) => {
+                let outcome = fitted(alloc, policy, &program, &parts.table, out, note);
+                // Nearly each expression has a block of memory of its own. No process checks twice, so its end gives all of them back at once.
+                forget(program);
+                outcome
+            }
             Err(answer) => answer,
         },
         Err(answer) => answer,

@@ -1,6 +1,7 @@
 //! The commands.
 
 ghost use Rattle.std.specs.Prelude.{◌≡◌, map, length, None, Some, IfOk, IfSome, ◌⊎◌};
+ghost use Rattle.cw_io.specs.Causes.{Rose};
 ghost use Rattle.cw_commands.specs.Commands.{quantities_of, IsNumbered};
 ghost use Rattle.cw_commands.specs.Endings.{line_of, status_of, usage_line, IsNoted, IsNotedWhole};
 ghost use Rattle.cw_commands.specs.Files.{AreSized};
@@ -72,6 +73,7 @@ fn perform<'w, F: Shelf, O: Sink, N: Sink>(
     ensures ends { Ends (IsDue command) (F.files shelf.old) (F.faults shelf.old) (F.faults shelf.new)
         (O.taken out.old) (O.taken out.new) (O.faults out.old) (O.faults out.new)
         (quantities_of command) (map (λ name. name.now) names.now) result }
+    ensures memory { result ≡ Ending.Memory → (O.taken out.new ≡ O.taken out.old) ⊎ Rose (O.refused out.old) (O.refused out.new) }
     ensures notes { EndsLine N.taken N.faults N.refused note.old note.new result }
 {
     let files = match read_files(alloc, command.quantities(), names, shelf) {
@@ -129,6 +131,9 @@ pub fn capweave<F: Shelf, O: Sink, N: Sink>(
         (O.taken out.old) (O.taken out.new) (O.faults out.old) (O.faults out.new) (quantities_of wish.0) wish.1 ending
         × IsNoted (N.taken note.old) (N.taken note.new) (line_of ending)
         × IsNotedWhole N.taken N.faults N.refused note.old note.new (line_of ending)) }
+
+    // Want of memory: nothing is appended to the output, or its count of refused memory rose.
+    ensures memory { result ≡ 8 → (O.taken out.new ≡ O.taken out.old) ⊎ Rose (O.refused out.old) (O.refused out.new) }
 {
     let request = match requested(alloc, words) {
         Ok(request) => request,

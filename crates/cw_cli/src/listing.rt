@@ -1,6 +1,6 @@
 //! What is due for a source whose graph is asked for.
 
-ghost use Rattle.std.specs.Prelude.{◌≡◌, ◌≤◌, [], length, map, IfOk};
+ghost use Rattle.std.specs.Prelude.{◌≡◌, ◌≤◌, [], length, IfOk};
 ghost use Rattle.cw_rights.specs.Policies.{policy_of};
 ghost use Rattle.cw_syntax.specs.Trees.{file_of};
 ghost use Rattle.cw_actions.specs.Scenes.{names_of, plan_in};
@@ -8,7 +8,6 @@ ghost use Rattle.cw_syntax.specs.Plans.{function_names};
 ghost use Rattle.cw_listing.specs.Listing.{graph_text};
 ghost use Rattle.cw_listing.specs.Held.{lists};
 ghost use Rattle.cw_listing.specs.Labels.{label_names};
-ghost use Rattle.cw_points.specs.Graphs.{IsGraph};
 ghost use Rattle.cw_source.specs.Read.{ReadsAs};
 ghost use Rattle.cw_commands.specs.declared.outcome.Reply.TheVariants.{Yes};
 ghost use Rattle.cw_commands.specs.Outcomes.{due_of, Told};

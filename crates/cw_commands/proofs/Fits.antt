@@ -10,10 +10,13 @@ use Rattle.clap.specs.Facts.{parser_of_value, unwrap_or_range}
 use Rattle.clap.specs.ValueTests.{accepts}
 use Rattle.clap.specs.Values.{refused_kind}
 use Rattle.clap.specs.Walk.{Held, Row, Rule, Step, Text, Waiting, Walk, action_of, idle, option, positional, next, trailing, subcommand, value}
-use Rattle.clap.specs.Walk.{arg_by_id, arg_by_index, arg_by_long, arg_by_short, finished, has_row, is_pending, most_values, settled, takes_several, values_or_missing, nothing_held, walk, walk_from, walked, word_met}
+use Rattle.clap.specs.Walk.{arg_by_id, arg_by_index, arg_by_long, arg_by_short, finished, has_row, is_pending, most_values, settled, takes_several, values_or_missing, nothing_held}
+use Rattle.clap.specs.Walk.{walk, walk_from, walked, word_met}
 use Rattle.clap.specs.Simple.{Shape}
-use Rattle.clap.specs.Takes.{action_passes, bundle_step_passes, default_passes, flag_word_passes, flags_pass, is_given, is_valid, level_passes, other_passes, positional_passes, set_passes, settle_passes, step_passes, turn_passes, use_passes, values_pass, walk_passes, word_passes}
-use Rattle.clap.specs.Faults.{action_fault, bundle_step_fault, check_fault, defaults_fault, flag_word_fault, flags_fault, level_fault, other_fault, positional_fault, repeat_fault, set_fault, settle_fault, step_fault, stray_fault, turn_fault, use_fault, values_fault, walk_fault, word_fault}
+use Rattle.clap.specs.Takes.{action_passes, bundle_step_passes, default_passes, flag_word_passes, flags_pass, is_given, is_valid, level_passes, other_passes, positional_passes}
+use Rattle.clap.specs.Takes.{set_passes, settle_passes, step_passes, turn_passes, use_passes, values_pass, walk_passes, word_passes}
+use Rattle.clap.specs.Faults.{action_fault, bundle_step_fault, check_fault, defaults_fault, flag_word_fault, flags_fault, level_fault, other_fault, positional_fault, repeat_fault}
+use Rattle.clap.specs.Faults.{set_fault, settle_fault, step_fault, stray_fault, turn_fault, use_fault, values_fault, walk_fault, word_fault}
 use Rattle.clap.specs.Kinds.{Kinds, or_else, range_kinds, value_kinds, values_kinds}
 use Rattle.clap.specs.declared.builder.action.ArgAction.{ArgAction}
 use Rattle.clap.specs.declared.builder.action.ArgAction.TheVariants.{Set, Append, SetTrue, SetFalse, Count, Help, HelpShort, HelpLong, Version}
@@ -93,7 +96,8 @@ use_ok again a vs rows e =
     let acts = action_ok (action_of a) again a (values_or_missing a vs) rows b.1 in
     and_true (nat_le lo (length vs)) _ r.0 (and_true (nat_le (length vs) (most_values a)) _ r.1 acts)
 
-settle_by : (again : Bool) (vs : List Text) (rows : List Row) (o : Option Rule) → option_map_or (λ a. use_fault again a vs rows) o [] ≡ [] → option_map_or (λ a. use_passes again a vs rows) o true ≡ true
+settle_by : (again : Bool) (vs : List Text) (rows : List Row) (o : Option Rule) → option_map_or (λ a. use_fault again a vs rows) o [] ≡ []
+    → option_map_or (λ a. use_passes again a vs rows) o true ≡ true
 settle_by again vs rows None e = refl
 settle_by again vs rows (Some a) e = use_ok again a vs rows e
 

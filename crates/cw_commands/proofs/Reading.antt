@@ -46,7 +46,8 @@ module _ (counts mid new : List ℕ → ℕ) (later : (other : List ℕ) → cou
   rose_later : (name : List ℕ) → Rose (mid name) (new name) → Rose (counts name) (new name)
   rose_later name r = omega (arith, later name, r)
 
-  fault_from : {N : Type 0} (files : Option FilesByName) (policy : List ℕ) (q : Quantity) (n : List ℕ) (e : Ending N) → IsFileFault files mid new policy q n e → IsFileFault files counts new policy q n e
+  fault_from : {N : Type 0} (files : Option FilesByName) (policy : List ℕ) (q : Quantity) (n : List ℕ) (e : Ending N) → IsFileFault files mid new policy q n e
+      → IsFileFault files counts new policy q n e
   fault_from files policy q n (TooLong told) h = h
   fault_from files policy q n (Unread told) h = (h.0, rose_later n h.1)
   fault_from files policy q n (Put reply) h = absurd h
@@ -61,7 +62,8 @@ module _ (counts mid new : List ℕ → ℕ) (later : (other : List ℕ) → cou
       let two = subst (λ x. IsFileFault files mid new x q n' e) first one in
       fault_from files policy q n e (subst (λ x. IsFileFault files mid new policy q x e) named two)
 
-pub has_same : (files files' : Option FilesByName) (policy policy' : List ℕ) (q : Quantity) (n n' b : List ℕ) → files' ≡ files → policy' ≡ policy → n' ≡ n → HasBytes files' policy' q n' b → HasBytes files policy q n b
+pub has_same : (files files' : Option FilesByName) (policy policy' : List ℕ) (q : Quantity) (n n' b : List ℕ) → files' ≡ files → policy' ≡ policy → n' ≡ n → HasBytes files' policy' q n' b
+    → HasBytes files policy q n b
 has_same files files' policy policy' q n n' b same first named h =
     let one = subst (λ x. HasBytes x policy' q n' b) same h in
     let two = subst (λ x. HasBytes files x q n' b) first one in

@@ -1,5 +1,5 @@
 -- How what is due begins to be put: a text to the output, and the line of a refusal to the note.
-use Rattle.std.specs.Prelude.{◌≡◌, ℕ, List, Option, Some, None, Result, Ok, Err}
+use Rattle.std.specs.Prelude.{◌≡◌, ℕ, List, Option, Result, Ok, Err}
 use Rattle.cw_pieces.specs.Written.{Follows}
 use Rattle.cw_commands.specs.declared.ending.Ending.{Ending}
 use Rattle.cw_commands.specs.declared.ending.Ending.TheVariants.{Refused as RefusedEnd}
@@ -30,12 +30,6 @@ StartsLine taken faults refused old new (Err fault) = new ≡ old
 abbrev pub PassesOrStartsLine : {A O N E : Type 0} → (taken : N → Option (List ℕ)) → (faults refused : N → ℕ) → (old new : N) → Result A (Result (Outcome O N) E) → Type 0
 PassesOrStartsLine taken faults refused old new (Ok passed) = new ≡ old
 PassesOrStartsLine taken faults refused old new (Err answer) = StartsLine taken faults refused old new answer
-
--- the same of a step that finds a refusal or none
-abbrev pub FindsLine : {O N E : Type 0} → (taken : N → Option (List ℕ)) → (faults refused : N → ℕ) → (old new : N) → Result (Option (Outcome O N)) E → Type 0
-FindsLine taken faults refused old new (Ok (Some outcome)) = BeginsLine taken faults refused old new outcome
-FindsLine taken faults refused old new (Ok None) = new ≡ old
-FindsLine taken faults refused old new (Err fault) = new ≡ old
 
 -- the same of an ending: the line of a refusal began at the old note; for another nothing was noted
 abbrev pub EndsLine : {N : Type 0} → (taken : N → Option (List ℕ)) → (faults refused : N → ℕ) → (old new : N) → Ending N → Type 0

@@ -1,5 +1,7 @@
 //! What becomes of what is due.
 
+ghost use Rattle.std.specs.Prelude.{◌≡◌};
+ghost use Rattle.cw_io.specs.Causes.{Rose};
 ghost use Rattle.cw_commands.specs.Outcomes.{due_of};
 ghost use Rattle.cw_commands.specs.Runs.{Delivered};
 ghost use Rattle.cw_commands.specs.Starts.{begun_of, Begins, BeginsLine, EndsLine};
@@ -13,6 +15,7 @@ pub fn deliver<'w, O: Sink, N: Sink>(outcome: Outcome<O, N>, out: &mut O) -> End
     requires { Begins O.taken O.faults O.refused (begun_of out.old outcome) out.old outcome }
     ensures due { let begun = begun_of out.old outcome in
         Delivered (O.taken begun) (O.taken out.new) (O.faults begun) (O.faults out.new) (due_of outcome) result }
+    ensures memory { let begun = begun_of out.old outcome in result ≡ Ending.Memory → Rose (O.refused begun) (O.refused out.new) }
     ensures line { (old new : N) → BeginsLine N.taken N.faults N.refused old new outcome → EndsLine N.taken N.faults N.refused old new result }
 {
     match outcome {

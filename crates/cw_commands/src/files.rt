@@ -1,6 +1,6 @@
 //! The files of a command, read in the order of its words.
 
-ghost use Rattle.std.specs.Prelude.{◌≡◌, ◌≢◌, ◌⊎◌, ◌≤◌, ◌<◌, ℕ, List, [], IfErr, IfOk, true, false, length, map, slice_get, Some};
+ghost use Rattle.std.specs.Prelude.{◌≡◌, ◌≢◌, ◌⊎◌, ◌≤◌, ◌<◌, ℕ, List, [], IfErr, IfOk, true, false, length, map};
 ghost use Rattle.cw_core.specs.Quantities.{limit_in};
 ghost use Rattle.cw_commands.specs.Files.{first, HasBytes, HaveBytes, IsFileFault, IsOfFormatTwo, IsOver, IsUnread, IsWithin};
 

@@ -41,6 +41,8 @@ pub fn put_usage<N: Sink>(note: &mut N, first: Option<Name>) -> Result<(), SinkF
     ensures puts { Puts (N.taken note.old) (N.taken note.new) (usage_line first) result }
     ensures noted { IsNoted (N.taken note.old) (N.taken note.new) (Some (usage_line first)) }
     ensures whole { IsNotedWhole N.taken N.faults N.refused note.old note.new (Some (usage_line first)) }
+    ensures failed { HasCause SinkFault.Failed (N.faults note.old) (N.faults note.new) result }
+    ensures refused { HasCause SinkFault.NoMemory (N.refused note.old) (N.refused note.new) result }
 {
     put_line(note, b"usage: capweave ", usage(first))
 }
@@ -80,6 +82,8 @@ pub fn put_ending<N: Sink>(note: &mut N, ending: Ending<'_, N>) -> Result<(), Si
     ensures puts { PutsLine (N.taken (noted_from note.old ending.entry)) (N.taken note.new) (line_of ending.entry) result }
     ensures noted { IsNoted (N.taken (noted_from note.old ending.entry)) (N.taken note.new) (line_of ending.entry) }
     ensures whole { IsNotedWhole N.taken N.faults N.refused (noted_from note.old ending.entry) note.new (line_of ending.entry) }
+    ensures failed { HasCause SinkFault.Failed (N.faults (noted_from note.old ending.entry)) (N.faults note.new) result }
+    ensures refused { HasCause SinkFault.NoMemory (N.refused (noted_from note.old ending.entry)) (N.refused note.new) result }
 {
     put_line_of(note, ending)
 }

@@ -1,6 +1,6 @@
 //! The words of a command line.
 
-ghost use Rattle.std.specs.Prelude.{◌≡◌, map, option_map, string_bytes, IfOk, IfSome, length};
+ghost use Rattle.std.specs.Prelude.{◌≡◌, map, option_map, IfOk, IfSome, length};
 ghost use Rattle.cw_commands.specs.Commands.{places_of, quantities_of, IsNumbered};
 ghost use Rattle.cw_commands.specs.Words.{asked, requested, first_command, sample_of, wish_of};
 

@@ -1,6 +1,6 @@
 -- A program's graph and a policy have one answer to whether their game is over one of its numbers; and under a policy that allows more product states
 -- it is the same, but where these are over their number under the other.
-use Rattle.std.proofs.Common.{◌≡◌, ◌≢◌, ◌⊎◌, inl, inr, ℕ, ◌*◌, ◌<◌, ◌≤◌, List, length, refl, sym, ap, ap₂, ◌∙◌, subst, arith}
+use Rattle.std.proofs.Common.{◌≡◌, ◌≢◌, ◌⊎◌, inl, inr, ℕ, ◌*◌, ◌<◌, ◌≤◌, List, length, refl, sym, ap₂, ◌∙◌, subst, arith}
 use Rattle.std.specs.Prelude.{Bool}
 use Rattle.std.specs.Ordering.{nat_cmp}
 use Rattle.std.proofs.lemmas.Cmp.{nat_cmp_total}
@@ -16,11 +16,11 @@ use Rattle.cw_points.specs.declared.graph.Part.{Part}
 use Rattle.cw_positions.specs.Positions.{spots, spots_in}
 use Rattle.cw_states.specs.declared.uses.Uses.{Uses}
 use Rattle.cw_states.specs.Rights.{IsRightsState, caps_cmp}
-use Rattle.cw_states.specs.States.{Lists, AreLists, AreFew, count, letters_of, lists_of}
+use Rattle.cw_states.specs.States.{Lists, AreLists, count, letters_of, lists_of}
 use Rattle.cw_states.proofs.Ordered.{caps_total}
 use Rattle.cw_product.specs.declared.fault.GameFault.{GameFault}
 use Rattle.cw_product.specs.declared.fault.GameFault.TheVariants.{TooManyCaps, TooManyWords, TooManyStates, TooManyPositions, NoMemory}
-use Rattle.cw_product.specs.Product.{Held, game_of, IsCause}
+use Rattle.cw_product.specs.Product.{Held, IsCause}
 use Rattle.cw_product.specs.Uses.{uses_of}
 use Rattle.cw_product.specs.Made.{IsMade}
 use Rattle.cw_lazy.proofs.Sameness.{one}

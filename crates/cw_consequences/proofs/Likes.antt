@@ -1,18 +1,16 @@
 -- Policies under which a game is played alike: the same one, under a stop the one of which nothing can be refused, and the same one in another format.
-use Rattle.std.proofs.Common.{◌≡◌, ℕ, ◌+◌, List, Bool, true, cond, not, ◌&&◌, ◌||◌, Option, Some, None, refl, sym, ap, ◌∙◌, subst}
+use Rattle.std.proofs.Common.{◌≡◌, ℕ, ◌+◌, List, true, cond, not, ◌&&◌, ◌||◌, Option, Some, None, refl, sym, ap, ◌∙◌, subst}
 use Rattle.std.specs.Prelude.{slice_get}
 use Rattle.cw_core.specs.declared.ids.StateId.{StateId}
 use Rattle.cw_core.specs.declared.ids.MemId.{MemId}
 use Rattle.cw_rights.specs.declared.capabilities.Primitive.{Primitive}
 use Rattle.cw_rights.specs.declared.capabilities.Primitive.TheVariants.{Limit, Enter, Split}
 use Rattle.cw_rights.specs.Policies.{PlainPolicy, is_refusable}
-use Rattle.cw_certs.specs.Tables.{Table}
 use Rattle.cw_game.specs.declared.spots.Spot.{Spot}
 use Rattle.cw_game.specs.declared.spots.Spot.TheVariants.{Asked}
-use Rattle.cw_game.specs.Games.{Game, refuses_in, can_stop_in, resumed, resumed_in, IsLost}
+use Rattle.cw_game.specs.Games.{Game, refuses_in, resumed, resumed_in}
 use Rattle.cw_game.specs.Pairs.{has}
-use Rattle.cw_lazy.specs.Laws.{CanBegin}
-use Rattle.cw_lazy.specs.Lazy.{Means, GoesOn, IsLazyTable}
+use Rattle.cw_lazy.specs.Lazy.{GoesOn}
 use Rattle.cw_lazy.specs.Live.{IsLive, goes_on}
 use Rattle.cw_stopless.specs.Unrefused.{under, unrefused}
 use Rattle.cw_stopless.proofs.Alike.{lost_same, refuse_alike, refuse_back}

@@ -1,5 +1,5 @@
 -- A game comes to one outcome: too many cells, too many rows, its lazy table, or its strategy by least heights.
-use Rattle.std.proofs.Common.{◌≡◌, ◌⊎◌, inl, inr, ℕ, ◌<◌, ◌≤◌, List, [], ◌∷◌, Bool, true, false, map, refl, sym, ap, ap₂, ◌∙◌, subst, arith, eq-eqb}
+use Rattle.std.proofs.Common.{◌≡◌, inl, inr, ℕ, ◌<◌, ◌≤◌, List, [], ◌∷◌, Bool, true, false, map, refl, sym, ap, ap₂, ◌∙◌, subst, arith, eq-eqb}
 use Rattle.std.specs.Int.{bit_at}
 use Rattle.std.proofs.lemmas.Bool.{cases_lt}
 use Rattle.std.proofs.lemmas.Nat.Bits.{bit_at_ones}
@@ -19,8 +19,7 @@ use Rattle.cw_game.specs.Standing.{IsGameOf}
 use Rattle.cw_game.proofs.Link.{start_stands}
 use Rattle.cw_game.proofs.Necessity.{all_owed}
 use Rattle.cw_game.proofs.Standing.{IsStanding, lost_board, standing_on, state_below}
-use Rattle.cw_solve.specs.Contexts.{cells_of, IsHeight, AreNeeded, AreTheNeeded, AreTooMany}
-use Rattle.cw_solve.specs.declared.contexts.Context.{Context}
+use Rattle.cw_solve.specs.Contexts.{cells_of, IsHeight}
 use Rattle.cw_solve.proofs.Counts.{too_many}
 use Rattle.cw_lazy.specs.Laws.{CanBegin}
 use Rattle.cw_lazy.specs.Lazy.{IsLazyTable, table_rows}
@@ -36,7 +35,7 @@ use Rattle.cw_emit.specs.Woven.{Stands}
 use Rattle.cw_commands.specs.declared.outcome.Reply.TheVariants.{Yes, No}
 use Rattle.cw_commands.specs.Outcomes.{Due, Told, Refused}
 use Rattle.cw_cli.specs.Refusals.{over}
-use Rattle.cw_cli.specs.Verdicts.{AfterGame, HasFewCells, HasManyCells, HasManyRows, IsVerdict, StartHolds, StartIsLost}
+use Rattle.cw_cli.specs.Verdicts.{AfterGame, HasFewCells, HasManyCells, HasManyRows, IsVerdict, StartHolds}
 
 pub data Outcome : Type 0 where
   ManyCells : Outcome

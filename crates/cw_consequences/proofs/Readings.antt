@@ -1,5 +1,5 @@
 -- What is due for the texts of a policy and of the policy varied says the same.
-use Rattle.std.proofs.Common.{◌≡◌, ◌⊎◌, inl, inr, ⊎_elim, ℕ, ◌<◌, ◌≤◌, List, Bool, true, false, None, Some, refl, sym, ap, ap₂, ◌∙◌, subst, arith}
+use Rattle.std.proofs.Common.{◌≡◌, ◌⊎◌, inl, inr, ⊎_elim, ℕ, ◌<◌, ◌≤◌, List, Bool, false, None, refl, sym, ap, ◌∙◌, subst, arith}
 use Rattle.std.proofs.lemmas.Option.{none-some, same_Some}
 use Rattle.cw_core.specs.Quantities.{limit_in}
 use Rattle.cw_core.specs.declared.quantity.Quantity.TheVariants.{ProductStates}
@@ -10,7 +10,6 @@ use Rattle.cw_policies.proofs.Same.{one_fault as one_policy_fault, one_policy, r
 use Rattle.cw_scope.specs.declared.descriptors.DescriptorFault.{DescriptorFault}
 use Rattle.cw_scope.specs.declared.descriptors.DescriptorFault.TheVariants as descriptor
 use Rattle.cw_scope.specs.Descriptors.{descriptor_fault}
-use Rattle.cw_source.specs.declared.fault.SourceFault.{SourceFault}
 use Rattle.cw_source.specs.Read.{ReadsAs}
 use Rattle.cw_source.proofs.OneAnswer.{never_both, one_fault, one_program}
 use Rattle.cw_game.specs.Games.{Game}

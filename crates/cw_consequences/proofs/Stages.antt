@@ -1,13 +1,12 @@
 -- What is due behind the reading for a policy and for the policy varied says the same, stage by stage.
-use Rattle.std.proofs.Common.{◌≡◌, ◌≢◌, ◌⊎◌, inl, inr, ⊎_elim, ℕ, ◌<◌, ◌≤◌, List, [], Bool, length, refl, sym, ap, ap₂, ◌∙◌, subst, arith}
+use Rattle.std.proofs.Common.{◌≡◌, ◌⊎◌, inl, inr, ⊎_elim, ℕ, ◌<◌, ◌≤◌, List, Bool, length, sym, ap, ◌∙◌, subst, arith}
 use Rattle.cw_core.specs.Quantities.{limit_in, limit_of}
-use Rattle.cw_core.specs.declared.quantity.Quantity.TheVariants.{Cells, Points, ProductStates, Rows}
+use Rattle.cw_core.specs.declared.quantity.Quantity.TheVariants.{Points, ProductStates}
 use Rattle.cw_rights.specs.Policies.{PlainPolicy, policy_of}
 use Rattle.cw_syntax.specs.Plans.{plan_of}
 use Rattle.cw_syntax.specs.Trees.{File}
 use Rattle.cw_actions.specs.Scenes.{names_of}
 use Rattle.cw_callgraph.specs.declared.fit.FitFault.{FitFault}
-use Rattle.cw_callgraph.specs.Fitting.{Fits, IsFitFault}
 use Rattle.cw_points.specs.declared.graph.Graph.{Graph}
 use Rattle.cw_points.specs.Graphs.{IsGraph}
 use Rattle.cw_points.specs.Points.{point_count}
@@ -23,7 +22,7 @@ use Rattle.cw_lazy.proofs.Made.{can_begin}
 use Rattle.cw_stopless.specs.Unrefused.{under, varied}
 use Rattle.cw_stopless.proofs.Listed.{game_varied}
 use Rattle.cw_commands.specs.declared.outcome.Cause.{Cause}
-use Rattle.cw_commands.specs.declared.outcome.Cause.TheVariants.{Grammar, Limit, Policy}
+use Rattle.cw_commands.specs.declared.outcome.Cause.TheVariants.{Policy}
 use Rattle.cw_commands.specs.declared.outcome.Reply.TheVariants.{Yes, No}
 use Rattle.cw_commands.specs.Outcomes.{Due, Told, Refused}
 use Rattle.cw_cli.specs.Fitting.{fit_line}

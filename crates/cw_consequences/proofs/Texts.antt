@@ -1,5 +1,5 @@
 -- A table has one text under a policy and under the policy varied in the same format, and so has a strategy.
-use Rattle.std.proofs.Common.{◌≡◌, ℕ, ◌-◌, List, [], ◌∷◌, ◌++◌, Bool, Option, Some, None, take, drop, refl, sym, ap, ap₂, ◌∙◌, subst}
+use Rattle.std.proofs.Common.{◌≡◌, ℕ, ◌-◌, List, [], ◌∷◌, ◌++◌, Bool, Some, None, take, drop, refl, sym, ap, ap₂, ◌∙◌}
 use Rattle.std.specs.Prelude.{codes}
 use Rattle.cw_rights.specs.Policies.{PlainPolicy}
 use Rattle.cw_syntax.specs.Marks.{MarkKind, EntryMark, LabelMark, OpenMark, CloseMark, CallMark, SeamMark, marks_of}
@@ -7,7 +7,7 @@ use Rattle.cw_certs.specs.Tables.{Table}
 use Rattle.cw_model.specs.Boards.{problem_of}
 use Rattle.cw_tabletext.specs.TablesText.{limits_words, tables_text}
 use Rattle.cw_emit.specs.Cut.{part}
-use Rattle.cw_emit.specs.Woven.{prologue, spelled, spelling, woven_from, Stands}
+use Rattle.cw_emit.specs.Woven.{spelling, woven_from, Stands}
 use Rattle.cw_commands.specs.declared.outcome.Reply.TheVariants.{Yes, No}
 use Rattle.cw_commands.specs.Outcomes.{Due, Told}
 use Rattle.cw_stopless.specs.Unrefused.{varied}

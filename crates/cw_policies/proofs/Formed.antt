@@ -12,7 +12,8 @@ use Rattle.cw_policies.specs.declared.keys.Key.{Key}
 use Rattle.cw_policies.specs.declared.keys.Key.TheVariants.{Descriptors, Limits, Ats, Rules, Name, Label}
 use Rattle.cw_policies.specs.Keys.{keys_of, key_text, is_required}
 use Rattle.cw_policies.specs.Form.{or_else, first_in, items_at, text_at, array_at, format_of}
-use Rattle.cw_policies.specs.Form.{is_item, is_single, is_value, wrong_item, wrong_array, wrong_at, or_wrong, wrong_key, is_missing, missing_key, has_only, fault_of, table_fault, element_fault, array_fault, form_fault}
+use Rattle.cw_policies.specs.Form.{is_item, is_single, is_value, wrong_item, wrong_array, wrong_at, or_wrong, wrong_key, is_missing, missing_key, has_only, fault_of, table_fault}
+use Rattle.cw_policies.specs.Form.{element_fault, array_fault, form_fault}
 use Rattle.cw_policies.specs.Names.{name_of}
 use Rattle.cw_policies.proofs.Whole.{both_none}
 

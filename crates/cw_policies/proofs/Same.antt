@@ -22,7 +22,8 @@ use Rattle.cw_policies.specs.declared.keys.Key.TheVariants.{Limits}
 use Rattle.cw_policies.specs.Form.{array_at, format_of}
 use Rattle.cw_policies.specs.Names.{count}
 use Rattle.cw_policies.specs.Rules.{TestText, ExpressionText, RuleText, tested, written, regex_fault, HasTest, HasExpression, HasRule, HaveRules, IsRuleFault, FirstRefused, rule_texts}
-use Rattle.cw_policies.specs.Answer.{descriptor_names, at_labels, quantity_fault, policy_with, HasPolicy, Spells, IsFault, IsFaultOf, IsLateFault, SpellsOnePolicy, RefusedSpellsNone, RefusedHasOneFault}
+use Rattle.cw_policies.specs.Answer.{descriptor_names, at_labels, quantity_fault, policy_with, HasPolicy, Spells, IsFault, IsFaultOf, IsLateFault, SpellsOnePolicy}
+use Rattle.cw_policies.specs.Answer.{RefusedSpellsNone, RefusedHasOneFault}
 
 -- ---- one rule, and one list of rules
 

@@ -1,7 +1,6 @@
 //! The parts of the policy that a tree of the form has, but for its rules.
 
 ghost use Rattle.std.specs.Prelude.{◌≡◌, ◌≤◌, [], length, map, option_map, IfOk, OnOk};
-ghost use Rattle.toml.specs.Data.{get};
 ghost use Rattle.cw_core.specs.Quantities.{limit_of};
 ghost use Rattle.toml.specs.View.{view, items_view, table_view};
 ghost use Rattle.cw_rights.specs.Policies.{descriptor_of};

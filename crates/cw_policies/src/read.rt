@@ -1,7 +1,7 @@
 //! Policies, read from their texts.
 
-ghost use Rattle.std.specs.Prelude.{◌≡◌, ◌≤◌, None, [], map, length, nat_lt, IfOk, IfErr, OnOk};
-ghost use Rattle.toml.specs.View.{items_view, table_view};
+ghost use Rattle.std.specs.Prelude.{◌≡◌, ◌≤◌, None, map, length, nat_lt, IfOk, IfErr, OnOk};
+ghost use Rattle.toml.specs.View.{table_view};
 ghost use Rattle.indexmap.specs.IndexSet.{index_set_len};
 ghost use Rattle.cw_core.specs.Quantities.{limit_of};
 ghost use Rattle.cw_rights.specs.Policies.{descriptor_of, policy_of, rule_of};

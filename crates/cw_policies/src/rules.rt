@@ -1,11 +1,10 @@
 //! The rules of a policy, read from their texts.
 
-ghost use Rattle.std.specs.Prelude.{◌≡◌, ◌⊎◌, ◌+◌, ◌≤◌, List, [], ◌∷◌, ◌++◌, length, map, IfOk, IfErr, OnOk};
+ghost use Rattle.std.specs.Prelude.{◌≡◌, ◌⊎◌, ◌≤◌, length, map, IfOk, IfErr, OnOk};
 ghost use Rattle.indexmap.specs.IndexSet.{index_set_len};
 ghost use Rattle.cw_core.specs.Quantities.{limit_of};
 ghost use Rattle.cw_rights.specs.Policies.{rule_of};
 ghost use Rattle.cw_rights.specs.Trees.{tree_of};
-ghost use Rattle.cw_regex.specs.Causes.{IsRegexFault};
 ghost use Rattle.cw_regex.specs.Labels.{names_in};
 ghost use Rattle.cw_regex.specs.Meaning.{names_of, number_in};
 ghost use Rattle.cw_policies.specs.Rules as spec;

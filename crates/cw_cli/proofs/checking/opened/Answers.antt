@@ -15,10 +15,10 @@ returns-in-Ok-accept-clause-due g c =
     let file = file_of c.in-Ok-accept.program.checked.program in
     let t = c.in-Ok.parts.table in
     let read = subst (λ text. ReadsWoven whole text source file t) c.in-Ok.ensures.text c.in-Ok-accept.ensures.read in
-    if_ok c.fitted.result c.fitted.ensures.due (λ o d. inr (source, file, t, read, d))
+    if_ok c.fitted-outcome.result c.fitted-outcome.ensures.due (λ o d. inr (source, file, t, read, d))
 
 pub returns-in-Ok-accept-clause-notes : goal.returns-in-Ok-accept-clause-notes
-returns-in-Ok-accept-clause-notes g c = rw (c.in-Ok-accept.ensures.notes, c.in-Ok.ensures.notes) at c.fitted.ensures.notes
+returns-in-Ok-accept-clause-notes g c = rw (c.in-Ok-accept.ensures.notes, c.in-Ok.ensures.notes) at c.fitted-outcome.ensures.notes
 
 pub returns-in-Ok-clause-due : goal.returns-in-Ok-clause-due
 returns-in-Ok-clause-due g c =

@@ -3,6 +3,7 @@ use Rattle.std.specs.Prelude.{option_map}
 use Rattle.cw_commands.specs.Words.{wish_of}
 use Rattle.cw_commands.proofs.Starting.{ends_line, noted_is}
 use Rattle.cw_cli.proofs.Dues.{wished}
+use Rattle.cw_cli.proofs.Wanting.{is_memory}
 use Rattle.cw_cli.proofs.command.capweave.Goals as goal
 
 pub end-requires-2 : goal.end-requires-2
@@ -16,3 +17,6 @@ returns-clause-ends g c =
     let ending = c.perform-ending.result in
     let began = noted_is g.N.Sink.taken g.N.Sink.faults g.N.Sink.refused c.args.note.now c.perform-ending.new.note ending c.perform-ending.ensures.notes in
     wished _ _ _ wish (ending, c.end-2.ensures.status, ends, rw began at c.end-2.ensures.noted, rw began at c.end-2.ensures.whole)
+
+pub returns-clause-memory : goal.returns-clause-memory
+returns-clause-memory g c wants = c.perform-ending.ensures.memory (is_memory c.perform-ending.result (sym c.end-2.ensures.status ∙ wants))

@@ -1,6 +1,7 @@
 use Rattle.std.proofs.Common.{map}
 use Rattle.cw_commands.specs.Commands.{quantities_of}
 use Rattle.cw_commands.proofs.Starting.{unread_line}
+use Rattle.cw_cli.proofs.Wanting.{rose_since}
 use Rattle.cw_cli.proofs.command.perform.Goals as goal
 
 pub returns-in-Err-clause-notes : goal.returns-in-Err-clause-notes
@@ -10,3 +11,7 @@ returns-in-Err-clause-notes g c =
 
 pub returns-in-Ok-due-clause-notes : goal.returns-in-Ok-due-clause-notes
 returns-in-Ok-due-clause-notes g c = c.deliver.ensures.line c.args.note.now c.due.new.note c.in-Ok-due.ensures.notes
+
+pub returns-in-Ok-due-clause-memory : goal.returns-in-Ok-due-clause-memory
+returns-in-Ok-due-clause-memory g c wants =
+    rose_since g.O.Sink.taken g.O.Sink.faults g.O.Sink.refused c.args.out.now c.due.new.out c.deliver.new.out c.in-Ok-due.outcome c.in-Ok-due.ensures.puts (c.deliver.ensures.memory wants)

@@ -1,13 +1,12 @@
-use Rattle.std.proofs.Common.{inl, inr, sym, subst}
+use Rattle.std.proofs.Common.{inl, inr, subst}
 use Rattle.cw_rights.specs.Policies.{PlainPolicy, policy_of}
 use Rattle.cw_syntax.specs.Trees.{file_of}
-use Rattle.cw_actions.specs.Scenes.{names_of}
 use Rattle.cw_certs.specs.Strategies.{strategy_of}
-use Rattle.cw_points.specs.Graphs.{IsGraph}
 use Rattle.cw_product.specs.Product.{game_of}
 use Rattle.cw_commands.specs.Outcomes.{due_of}
 use Rattle.cw_commands.proofs.Starting.{unput}
 use Rattle.cw_cli.specs.Playing.{IsShown}
+use Rattle.cw_cli.proofs.Made.{graph_over}
 use Rattle.cw_cli.proofs.Refused.{if_ok}
 use Rattle.cw_cli.proofs.Unmade.{undrawn}
 use Rattle.cw_cli.proofs.playing.fitted.Goals as goal
@@ -19,12 +18,7 @@ pub judged-requires-clause-lists : goal.judged-requires-clause-lists
 judged-requires-clause-lists g c = c.in-Ok-make_game.ensures.made.lists
 
 pub judged-requires-clause-graph : goal.judged-requires-clause-graph
-judged-requires-clause-graph g c =
-    let source = c.args.checked.now.source.now in
-    let file = file_of c.args.checked.now.program in
-    let is = c.in-Ok-make_game.ensures.game in
-    subst (IsGraph (names_of (policy_of c.in-Ok-make_game.game.states.policy)) source file) (sym is.graph_is)
-    (subst (λ (p : PlainPolicy). IsGraph (names_of p) source file c.in-Ok.graph) (sym is.policy_is) c.in-Ok.ensures.graph)
+judged-requires-clause-graph g c = graph_over c.in-Ok-make_game.ensures.game c.in-Ok.ensures.graph
 
 pub returns-in-Ok-make_game-clause-due : goal.returns-in-Ok-make_game-clause-due
 returns-in-Ok-make_game-clause-due g c =

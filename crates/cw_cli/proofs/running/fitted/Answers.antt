@@ -1,13 +1,12 @@
-use Rattle.std.proofs.Common.{inr, sym, subst}
+use Rattle.std.proofs.Common.{inr, subst}
 use Rattle.cw_rights.specs.Policies.{PlainPolicy, policy_of}
 use Rattle.cw_syntax.specs.Trees.{file_of}
-use Rattle.cw_actions.specs.Scenes.{names_of}
 use Rattle.cw_commands.specs.Outcomes.{due_of}
-use Rattle.cw_points.specs.Graphs.{IsGraph}
 use Rattle.cw_product.specs.Product.{game_of}
 use Rattle.cw_commands.proofs.Starting.{unput}
 use Rattle.cw_cli.specs.CheckingHeld.{IsRunShownBy}
 use Rattle.cw_cli.specs.Running.{IsRunShown}
+use Rattle.cw_cli.proofs.Made.{graph_over}
 use Rattle.cw_cli.proofs.Refused.{if_ok}
 use Rattle.cw_cli.proofs.Shown.{run_shown_for}
 use Rattle.cw_cli.proofs.Unmade.{unmade}
@@ -20,11 +19,7 @@ pub judged-requires-clause-lists : goal.judged-requires-clause-lists
 judged-requires-clause-lists g c = c.in-Ok.ensures.made.lists
 
 pub judged-requires-clause-graph : goal.judged-requires-clause-graph
-judged-requires-clause-graph g c =
-    let source = c.args.accepted.now.checked.source.now in
-    let file = file_of c.args.accepted.now.checked.program in
-    subst (IsGraph (names_of (policy_of c.in-Ok.game.states.policy)) source file) (sym c.in-Ok.ensures.game.graph_is)
-    (subst (λ (p : PlainPolicy). IsGraph (names_of p) source file c.args.accepted.now.graph) (sym c.in-Ok.ensures.game.policy_is) c.requires.graph)
+judged-requires-clause-graph g c = graph_over c.in-Ok.ensures.game c.requires.graph
 
 pub returns-in-Ok-clause-due : goal.returns-in-Ok-clause-due
 returns-in-Ok-clause-due g c =

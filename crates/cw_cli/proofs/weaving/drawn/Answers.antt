@@ -1,15 +1,14 @@
 use Rattle.std.proofs.Common.{inl, inr, sym, subst}
-use Rattle.cw_rights.specs.Policies.{PlainPolicy, policy_of}
+use Rattle.cw_rights.specs.Policies.{PlainPolicy}
 use Rattle.cw_syntax.specs.Trees.{file_of}
-use Rattle.cw_actions.specs.Scenes.{names_of}
 use Rattle.cw_commands.specs.Outcomes.{due_of}
 use Rattle.cw_model.specs.Boards.{problem_of}
 use Rattle.cw_game.specs.Standing.{IsGameOf}
-use Rattle.cw_points.specs.Graphs.{IsGraph}
 use Rattle.cw_product.specs.Product.{game_of}
 use Rattle.cw_commands.proofs.Starting.{unput}
 use Rattle.cw_cli.specs.Counting.{IsCounted}
 use Rattle.cw_cli.specs.Verdicts.{AfterGame}
+use Rattle.cw_cli.proofs.Made.{graph_over}
 use Rattle.cw_cli.proofs.Refused.{if_ok}
 use Rattle.cw_cli.proofs.weaving.drawn.Goals as goal
 
@@ -17,12 +16,7 @@ pub judged-requires-clause-made : goal.judged-requires-clause-made
 judged-requires-clause-made g c = c.in-Ok-make_game.ensures.made
 
 pub judged-requires-clause-graph : goal.judged-requires-clause-graph
-judged-requires-clause-graph g c =
-    let source = c.args.checked.now.source.now in
-    let file = file_of c.args.checked.now.program in
-    let is = c.in-Ok-make_game.ensures.game in
-    subst (IsGraph (names_of (policy_of c.in-Ok-make_game.game.states.policy)) source file) (sym is.graph_is)
-    (subst (λ (p : PlainPolicy). IsGraph (names_of p) source file c.in-Ok.graph) (sym is.policy_is) c.in-Ok.ensures.graph)
+judged-requires-clause-graph g c = graph_over c.in-Ok-make_game.ensures.game c.in-Ok.ensures.graph
 
 pub judged-requires-clause-is_game : goal.judged-requires-clause-is_game
 judged-requires-clause-is_game g c =

@@ -24,6 +24,7 @@ loop-place-preserved c =
     let grown = ap (map (λ (name : Bor (List ℕ)). name.now)) c.in_ok-push-in-Some.ensures.items ∙ map-append (λ (name : Bor (List ℕ)). name.now) old (c.in-Some.name ∷ []) in
     let more = ap length c.in_ok-push-in-Some.ensures.items ∙ length-append old (c.in-Some.name ∷ []) in
     record {
-      found = one_found (rows_of found) places k lt (map (λ name. name.now) old) _ _ c.in-Some.name.now grown (c.in-Some.ensures ∙ first_value-rows found (place_at places k).now) c.loop-place.invariant.found;
+      found = one_found (rows_of found) places k lt (map (λ name. name.now) old) _ _ c.in-Some.name.now grown
+          (c.in-Some.ensures ∙ first_value-rows found (place_at places k).now) c.loop-place.invariant.found;
       many = omega (arith, more, c.loop-place.invariant.many);
     }
