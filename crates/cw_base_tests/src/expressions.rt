@@ -2,6 +2,7 @@ use cw_regex::{RegexFault, read_regex, read_test};
 use cw_rights::{Descriptor, Regex, Rights, Test};
 use indexmap::IndexSet;
 use std::alloc::{AllocError, Global};
+use std::process::Abort;
 
 #[derive(Clone, Copy, Drop, PartialEq, Eq)]
 enum Answer {
@@ -42,6 +43,18 @@ fn outcome(alloc: Global, text: &str, descriptors: &[Descriptor; 2]) -> Answer {
     }
 }
 
+/// Asserts what reading each of these expressions comes to.
+fn all_read(
+    rt: &impl Abort,
+    alloc: Global,
+    descriptors: &[Descriptor; 2],
+    texts: &[(&str, Answer)],
+) {
+    for (text, expected) in texts {
+        assert!(rt; outcome(alloc, text, descriptors) == *expected, "{text}");
+    }
+}
+
 #[test]
 fn offsets_of_faults(rt: HostRuntime) -> Result<(), AllocError> {
     let alloc = rt.alloc();
@@ -49,48 +62,50 @@ fn offsets_of_faults(rt: HostRuntime) -> Result<(), AllocError> {
         descriptor(alloc, b"0".as_slice(), Some(0))?,
         descriptor(alloc, b"log".as_slice(), None)?,
     ];
-    let cases = [
-        ("", Answer::At(0)),
-        (" a", Answer::At(0)),
-        ("a ", Answer::At(2)),
-        ("a\n", Answer::At(1)),
-        ("3a", Answer::At(0)),
-        ("a[", Answer::At(2)),
-        ("a[]", Answer::At(2)),
-        ("a[3:CAP_READ]", Answer::At(2)),
-        ("a[00:CAP_READ]", Answer::At(3)),
-        ("a[0:0]", Answer::At(4)),
-        ("a[0 CAP_READ]", Answer::At(4)),
-        ("a[ambx]", Answer::At(6)),
-        ("a[amb,]", Answer::At(6)),
-        ("a[!!amb]", Answer::At(3)),
-        ("a[nil:CAP_NONE", Answer::At(14)),
-        (".[amb][amb]", Answer::At(6)),
-        ("a**", Answer::At(2)),
-        ("a||b", Answer::At(2)),
-        ("(a", Answer::At(2)),
-        ("()", Answer::At(1)),
-        ("a)", Answer::At(1)),
-        ("a[nil:CAP_NONE]", Answer::UnknownDescriptor(2)),
-        ("a[0:CAP_NONE, nil:CAP_READ]", Answer::UnknownRight(4)),
-        ("a[0:CAP_READ, log:CAP_PWRITE]", Answer::UnknownRight(18)),
-        (
-            "(((((((((((((((((((((((((((((((((((((((((((((((((((((((((((((((((a)))))))))))))))))))))))))))))))))))))))))))))))))))))))))))))))))",
-            Answer::TooDeep,
-        ),
-        (
-            "((((((((((((((((((((((((((((((((((((((((((((((((((((((((((((((((a))))))))))))))))))))))))))))))))))))))))))))))))))))))))))))))))",
-            Answer::Read,
-        ),
-        (
-            "a\t| amb ( 0x [ ! amb , log : CAP_SEEK ] ) ?",
-            Answer::At(10),
-        ),
-        ("a\t| amb ( x0 [ ! amb , log : CAP_SEEK ] ) ?", Answer::Read),
-    ];
-    for (text, expected) in cases {
-        assert!(rt; outcome(alloc, text, &descriptors) == expected, "{text}");
-    }
+    all_read(
+        &rt,
+        alloc,
+        &descriptors,
+        &[
+            ("", Answer::At(0)),
+            (" a", Answer::At(0)),
+            ("a ", Answer::At(2)),
+            ("a\n", Answer::At(1)),
+            ("3a", Answer::At(0)),
+            ("a[", Answer::At(2)),
+            ("a[]", Answer::At(2)),
+            ("a[3:CAP_READ]", Answer::At(2)),
+            ("a[00:CAP_READ]", Answer::At(3)),
+            ("a[0:0]", Answer::At(4)),
+            ("a[0 CAP_READ]", Answer::At(4)),
+            ("a[ambx]", Answer::At(6)),
+            ("a[amb,]", Answer::At(6)),
+            ("a[!!amb]", Answer::At(3)),
+            ("a[nil:CAP_NONE", Answer::At(14)),
+            (".[amb][amb]", Answer::At(6)),
+            ("a**", Answer::At(2)),
+            ("a||b", Answer::At(2)),
+            ("(a", Answer::At(2)),
+            ("()", Answer::At(1)),
+            ("a)", Answer::At(1)),
+            ("a[nil:CAP_NONE]", Answer::UnknownDescriptor(2)),
+            ("a[0:CAP_NONE, nil:CAP_READ]", Answer::UnknownRight(4)),
+            ("a[0:CAP_READ, log:CAP_PWRITE]", Answer::UnknownRight(18)),
+            (
+                "(((((((((((((((((((((((((((((((((((((((((((((((((((((((((((((((((a)))))))))))))))))))))))))))))))))))))))))))))))))))))))))))))))))",
+                Answer::TooDeep,
+            ),
+            (
+                "((((((((((((((((((((((((((((((((((((((((((((((((((((((((((((((((a))))))))))))))))))))))))))))))))))))))))))))))))))))))))))))))))",
+                Answer::Read,
+            ),
+            (
+                "a\t| amb ( 0x [ ! amb , log : CAP_SEEK ] ) ?",
+                Answer::At(10),
+            ),
+            ("a\t| amb ( x0 [ ! amb , log : CAP_SEEK ] ) ?", Answer::Read),
+        ],
+    );
     Ok(())
 }
 

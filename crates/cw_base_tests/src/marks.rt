@@ -4,6 +4,7 @@ ghost use Rattle.std.specs.Prelude.{◌≡◌, length, IfOk};
 use cw_core::NoMemory;
 use cw_marks::Marks;
 use std::alloc::Global;
+use std::process::Abort;
 use std::test::Fail;
 
 /// Marks of 130 places, of which 0, 63, 64 and 128 are marked.
@@ -15,6 +16,26 @@ fn four_marks(alloc: Global) -> Result<Marks, NoMemory>
         marks.push(place == 0 || place == 63 || place == 64 || place == 128)?;
     }
     Ok(marks)
+}
+
+/// Asserts how many marks stand before each of these places.
+fn all_ranks(rt: &impl Abort, marks: &Marks, ranks: &[(usize, u32)]) {
+    for (place, rank) in ranks {
+        assert!(rt;
+            *place <= marks.len() && marks.rank(*place) == *rank,
+            "rank of {place}"
+        );
+    }
+}
+
+/// Asserts where the mark stands that so many stand before.
+fn all_places(rt: &impl Abort, marks: &Marks, places: &[(u32, usize)]) {
+    for (before, place) in places {
+        assert!(rt;
+            *before < marks.marked() && marks.place(*before) == *place,
+            "place of {before}"
+        );
+    }
 }
 
 #[test]
@@ -33,20 +54,10 @@ fn counts_and_finds_marks(rt: HostRuntime) -> Result<(), Fail> {
         (129, 4),
         (130, 4),
     ];
-    for (place, rank) in ranks {
-        assert!(rt;
-            place <= 130 && marks.rank(place) == rank,
-            "rank of {place}"
-        );
-    }
+    all_ranks(&rt, &marks, &ranks);
     assert!(rt; marks.is_marked(128) && !marks.is_marked(129));
     let places = [(0, 0), (1, 63), (2, 64), (3, 128)];
-    for (before, place) in places {
-        assert!(rt;
-            before < marks.marked() && marks.place(before) == place,
-            "place of {before}"
-        );
-    }
+    all_places(&rt, &marks, &places);
     Ok(())
 }
 
@@ -79,19 +90,9 @@ fn places_without_marks_stand_between(rt: HostRuntime) -> Result<(), Fail> {
         (134, 2),
         (135, 3),
     ];
-    for (place, rank) in ranks {
-        assert!(rt;
-            place <= 135 && marks.rank(place) == rank,
-            "rank of {place}"
-        );
-    }
+    all_ranks(&rt, &marks, &ranks);
     assert!(rt; marks.is_marked(63) && !marks.is_marked(64) && !marks.is_marked(133));
     let places = [(0, 0), (1, 63), (2, 134)];
-    for (before, place) in places {
-        assert!(rt;
-            before < marks.marked() && marks.place(before) == place,
-            "place of {before}"
-        );
-    }
+    all_places(&rt, &marks, &places);
     Ok(())
 }

@@ -17,6 +17,7 @@ use cw_source::laws::programs_are_runnable;
 use cw_source::read_source;
 use cw_wcheck::{BadRow, check_weaver};
 use std::alloc::{AllocError, Global};
+use std::process::Abort;
 
 /// A line of a table: its head, with the number of states and the memory with which `main` begins, or a row of one of its lists.
 #[derive(Clone, Copy, Drop, Debug, PartialEq, Eq)]
@@ -452,270 +453,347 @@ fn outcome_of(
     }
 }
 
-/// The table of two promises with one line changed, and with two.
-fn two(alloc: Global, was: Line, now: &[Line]) -> Result<Outcome, AllocError> {
+/// Asserts what there is of the table of these lines, for a source under a policy.
+fn expect(
+    rt: &impl Abort,
+    alloc: Global,
+    source: &str,
+    policy: &str,
+    lines: &[Line],
+    want: Outcome,
+) -> Result<(), AllocError> {
+    let outcome = outcome_of(alloc, source, policy, lines)?;
+    assert_eq!(rt; outcome, want, "{source}");
+    Ok(())
+}
+
+/// Asserts what there is of the table of two promises with one line changed, and with two.
+fn two(
+    rt: &impl Abort,
+    alloc: Global,
+    was: Line,
+    now: &[Line],
+    want: Outcome,
+) -> Result<(), AllocError> {
     let lines = change(alloc, &TWO_PROMISES, was, now)?;
-    outcome_of(alloc, TWO_PROMISES_SOURCE, TWO_PROMISES_POLICY, &lines)
+    let outcome = outcome_of(alloc, TWO_PROMISES_SOURCE, TWO_PROMISES_POLICY, &lines)?;
+    assert_eq!(rt; outcome, want, "{was:?}");
+    Ok(())
 }
 
 fn two_twice(
+    rt: &impl Abort,
     alloc: Global,
     was: Line,
     now: &[Line],
     other: Line,
     then: &[Line],
-) -> Result<Outcome, AllocError> {
+    want: Outcome,
+) -> Result<(), AllocError> {
     let lines = change(alloc, &TWO_PROMISES, was, now)?;
     let lines = change(alloc, &lines, other, then)?;
-    outcome_of(alloc, TWO_PROMISES_SOURCE, TWO_PROMISES_POLICY, &lines)
+    let outcome = outcome_of(alloc, TWO_PROMISES_SOURCE, TWO_PROMISES_POLICY, &lines)?;
+    assert_eq!(rt; outcome, want, "{was:?} {other:?}");
+    Ok(())
 }
 
-fn file(alloc: Global, was: Line, now: &[Line]) -> Result<Outcome, AllocError> {
+/// The same of the table of a file, with one line changed, and of that of a recursion.
+fn file(
+    rt: &impl Abort,
+    alloc: Global,
+    was: Line,
+    now: &[Line],
+    want: Outcome,
+) -> Result<(), AllocError> {
     let lines = change(alloc, &FILE, was, now)?;
-    outcome_of(alloc, FILE_SOURCE, FILE_POLICY, &lines)
+    let outcome = outcome_of(alloc, FILE_SOURCE, FILE_POLICY, &lines)?;
+    assert_eq!(rt; outcome, want, "{was:?}");
+    Ok(())
 }
 
-fn recursion(alloc: Global, was: Line, now: &[Line]) -> Result<Outcome, AllocError> {
+fn recursion(
+    rt: &impl Abort,
+    alloc: Global,
+    was: Line,
+    now: &[Line],
+    want: Outcome,
+) -> Result<(), AllocError> {
     let lines = change(alloc, &RECURSION, was, now)?;
-    outcome_of(alloc, RECURSION_SOURCE, RECURSION_POLICY, &lines)
+    let outcome = outcome_of(alloc, RECURSION_SOURCE, RECURSION_POLICY, &lines)?;
+    assert_eq!(rt; outcome, want, "{was:?}");
+    Ok(())
 }
 
 #[test]
 fn tables_are_good(rt: HostRuntime) -> Result<(), AllocError> {
     let alloc = rt.alloc();
-    assert_eq!(rt;
-        outcome_of(
-            alloc,
-            TWO_PROMISES_SOURCE,
-            TWO_PROMISES_POLICY,
-            &TWO_PROMISES
-        )?,
-        Outcome::Good
-    );
-    assert_eq!(rt;
-        outcome_of(alloc, FILE_SOURCE, FILE_POLICY, &FILE)?,
-        Outcome::Good
-    );
-    assert_eq!(rt;
-        outcome_of(alloc, RECURSION_SOURCE, RECURSION_POLICY, &RECURSION)?,
-        Outcome::Good
-    );
-    assert_eq!(rt;
-        outcome_of(alloc, SPLIT_SOURCE, SPLIT_POLICY, &SPLIT)?,
-        Outcome::Good
-    );
-    assert_eq!(rt;
-        outcome_of(alloc, STOP_SOURCE, STOP_POLICY, &STOP)?,
-        Outcome::Good
-    );
-    Ok(())
+    expect(
+        &rt,
+        alloc,
+        TWO_PROMISES_SOURCE,
+        TWO_PROMISES_POLICY,
+        &TWO_PROMISES,
+        Outcome::Good,
+    )?;
+    expect(&rt, alloc, FILE_SOURCE, FILE_POLICY, &FILE, Outcome::Good)?;
+    expect(
+        &rt,
+        alloc,
+        RECURSION_SOURCE,
+        RECURSION_POLICY,
+        &RECURSION,
+        Outcome::Good,
+    )?;
+    expect(
+        &rt,
+        alloc,
+        SPLIT_SOURCE,
+        SPLIT_POLICY,
+        &SPLIT,
+        Outcome::Good,
+    )?;
+    expect(&rt, alloc, STOP_SOURCE, STOP_POLICY, &STOP, Outcome::Good)
 }
 
 #[test]
 fn a_smaller_promise_is_told_where_it_is_led_to(rt: HostRuntime) -> Result<(), AllocError> {
     let alloc = rt.alloc();
-    assert_eq!(rt;
-        two(alloc, Line::Mem(2, 5), &[Line::Mem(2, 1)])?,
-        bad(2, 6, 6)
-    );
-    Ok(())
+    two(
+        &rt,
+        alloc,
+        Line::Mem(2, 5),
+        &[Line::Mem(2, 1)],
+        bad(2, 6, 6),
+    )
 }
 
 #[test]
 fn two_equal_rows_make_no_table(rt: HostRuntime) -> Result<(), AllocError> {
     let alloc = rt.alloc();
     let twice = [Line::Live(3, 0), Line::Live(3, 0)];
-    assert_eq!(rt; two(alloc, Line::Live(3, 0), &twice)?, Outcome::NoTable);
-    Ok(())
+    two(&rt, alloc, Line::Live(3, 0), &twice, Outcome::NoTable)
 }
 
 #[test]
 fn each_condition_is_told_alone(rt: HostRuntime) -> Result<(), AllocError> {
     let alloc = rt.alloc();
-    assert_eq!(rt;
-        two(alloc, Line::At(1, 0, 2), &[Line::At(1, 0, 9)])?,
-        bad(4, 0, 1)
-    );
-    assert_eq!(rt; two(alloc, Line::Live(8, 1), &[])?, bad(2, 0, 2));
+    two(
+        &rt,
+        alloc,
+        Line::At(1, 0, 2),
+        &[Line::At(1, 0, 9)],
+        bad(4, 0, 1),
+    )?;
+    two(&rt, alloc, Line::Live(8, 1), &[], bad(2, 0, 2))?;
     let ambient = [Line::Live(20, 1), Line::Live(20, 4)];
-    assert_eq!(rt; two(alloc, Line::Live(20, 4), &ambient)?, bad(2, 21, 3));
-    assert_eq!(rt; two(alloc, Line::Live(2, 0), &[])?, bad(2, 0, 4));
+    two(&rt, alloc, Line::Live(20, 4), &ambient, bad(2, 21, 3))?;
+    two(&rt, alloc, Line::Live(2, 0), &[], bad(2, 0, 4))?;
     let other = Line::Try(5, 0, 3, Some(3), None);
-    assert_eq!(rt;
-        two(alloc, Line::Try(5, 0, 3, Some(4), None), &[other])?,
-        bad(2, 20, 5)
-    );
-    assert_eq!(rt; two(alloc, Line::At(4, 3, 3), &[])?, bad(2, 17, 6));
-    assert_eq!(rt; two(alloc, Line::Into(3, false, 1, 0), &[])?, bad(2, 15, 7));
-    assert_eq!(rt;
-        two(alloc, Line::Back(3, false, 1, 2, 3), &[])?,
-        bad(2, 15, 8)
-    );
-    assert_eq!(rt;
-        two_twice(
-            alloc,
-            Line::Mem(0, 5),
-            &[Line::Mem(0, 1)],
-            Line::Mem(2, 5),
-            &[Line::Mem(2, 1)]
-        )?,
-        bad(2, 10, 9)
-    );
-    Ok(())
+    two(
+        &rt,
+        alloc,
+        Line::Try(5, 0, 3, Some(4), None),
+        &[other],
+        bad(2, 20, 5),
+    )?;
+    two(&rt, alloc, Line::At(4, 3, 3), &[], bad(2, 17, 6))?;
+    two(&rt, alloc, Line::Into(3, false, 1, 0), &[], bad(2, 15, 7))?;
+    two(
+        &rt,
+        alloc,
+        Line::Back(3, false, 1, 2, 3),
+        &[],
+        bad(2, 15, 8),
+    )?;
+    two_twice(
+        &rt,
+        alloc,
+        Line::Mem(0, 5),
+        &[Line::Mem(0, 1)],
+        Line::Mem(2, 5),
+        &[Line::Mem(2, 1)],
+        bad(2, 10, 9),
+    )
 }
 
 #[test]
 fn each_condition_is_told_before_a_later_one(rt: HostRuntime) -> Result<(), AllocError> {
     let alloc = rt.alloc();
-    assert_eq!(rt;
-        two_twice(
-            alloc,
-            Line::At(1, 0, 2),
-            &[Line::At(1, 0, 9)],
-            Line::Live(8, 1),
-            &[]
-        )?,
-        bad(4, 0, 1)
-    );
-    assert_eq!(rt;
-        two(alloc, Line::Live(8, 1), &[Line::Live(8, 0)])?,
-        bad(2, 0, 2)
-    );
+    two_twice(
+        &rt,
+        alloc,
+        Line::At(1, 0, 2),
+        &[Line::At(1, 0, 9)],
+        Line::Live(8, 1),
+        &[],
+        bad(4, 0, 1),
+    )?;
+    two(
+        &rt,
+        alloc,
+        Line::Live(8, 1),
+        &[Line::Live(8, 0)],
+        bad(2, 0, 2),
+    )?;
     let ambient = [Line::Live(20, 1), Line::Live(20, 4)];
-    assert_eq!(rt;
-        two_twice(
-            alloc,
-            Line::Live(20, 4),
-            &ambient,
-            Line::Back(6, false, 4, 3, 4),
-            &[]
-        )?,
-        bad(2, 21, 3)
-    );
-    assert_eq!(rt;
-        two_twice(
-            alloc,
-            Line::Live(2, 0),
-            &[],
-            Line::Live(0, 4),
-            &[Line::Live(0, 4), Line::Live(1, 0)]
-        )?,
-        bad(2, 0, 4)
-    );
-    assert_eq!(rt;
-        two(alloc, Line::Live(0, 4), &[Line::Live(1, 4)])?,
-        bad(2, 1, 5)
-    );
-    assert_eq!(rt;
-        two(alloc, Line::Live(7, 2), &[Line::Live(7, 0)])?,
-        bad(2, 8, 6)
-    );
-    assert_eq!(rt;
-        two(
-            alloc,
-            Line::Into(3, false, 1, 0),
-            &[Line::Into(3, false, 1, 1)]
-        )?,
-        bad(2, 15, 7)
-    );
-    assert_eq!(rt;
-        two(alloc, Line::Mem(2, 15), &[Line::Mem(2, 6)])?,
-        bad(2, 15, 8)
-    );
-    assert_eq!(rt;
-        two(alloc, Line::Mem(3, 15), &[Line::Mem(3, 0)])?,
-        bad(2, 11, 9)
-    );
-    Ok(())
+    two_twice(
+        &rt,
+        alloc,
+        Line::Live(20, 4),
+        &ambient,
+        Line::Back(6, false, 4, 3, 4),
+        &[],
+        bad(2, 21, 3),
+    )?;
+    two_twice(
+        &rt,
+        alloc,
+        Line::Live(2, 0),
+        &[],
+        Line::Live(0, 4),
+        &[Line::Live(0, 4), Line::Live(1, 0)],
+        bad(2, 0, 4),
+    )?;
+    two(
+        &rt,
+        alloc,
+        Line::Live(0, 4),
+        &[Line::Live(1, 4)],
+        bad(2, 1, 5),
+    )?;
+    two(
+        &rt,
+        alloc,
+        Line::Live(7, 2),
+        &[Line::Live(7, 0)],
+        bad(2, 8, 6),
+    )?;
+    two(
+        &rt,
+        alloc,
+        Line::Into(3, false, 1, 0),
+        &[Line::Into(3, false, 1, 1)],
+        bad(2, 15, 7),
+    )?;
+    two(
+        &rt,
+        alloc,
+        Line::Mem(2, 15),
+        &[Line::Mem(2, 6)],
+        bad(2, 15, 8),
+    )?;
+    two(
+        &rt,
+        alloc,
+        Line::Mem(3, 15),
+        &[Line::Mem(3, 0)],
+        bad(2, 11, 9),
+    )
 }
 
 #[test]
 fn ranges_are_told_list_by_list(rt: HostRuntime) -> Result<(), AllocError> {
     let alloc = rt.alloc();
-    assert_eq!(rt;
-        file(alloc, Line::Table(12, 0), &[Line::Table(11, 0)])?,
-        bad(1, 0, 1)
-    );
-    assert_eq!(rt;
-        file(alloc, Line::Table(12, 0), &[Line::Table(12, 5)])?,
-        bad(1, 0, 1)
-    );
-    assert_eq!(rt;
-        file(alloc, Line::Mem(7, 4095), &[Line::Mem(7, 4096)])?,
-        bad(1, 4, 1)
-    );
-    assert_eq!(rt;
-        file(alloc, Line::Mem(7, 4095), &[Line::Mem(12, 4095)])?,
-        bad(1, 4, 1)
-    );
-    assert_eq!(rt;
-        file(
-            alloc,
-            Line::Live(20, 3),
-            &[Line::Live(20, 3), Line::Live(99, 0)]
-        )?,
-        bad(2, 21, 1)
-    );
-    assert_eq!(rt;
-        file(
-            alloc,
-            Line::Try(2, 0, 2, Some(1), None),
-            &[Line::Try(2, 0, 2, Some(1), Some(9))]
-        )?,
-        bad(3, 0, 1)
-    );
-    assert_eq!(rt;
-        file(alloc, Line::At(4, 3, 3), &[Line::At(5, 3, 3)])?,
-        bad(4, 2, 1)
-    );
-    assert_eq!(rt;
-        file(alloc, Line::Opened(1, 0, 2, 0), &[Line::Opened(1, 0, 9, 0)])?,
-        bad(5, 0, 1)
-    );
-    assert_eq!(rt;
-        file(alloc, Line::Closed(3, 4, 3), &[Line::Closed(3, 4, 9)])?,
-        bad(6, 1, 1)
-    );
-    assert_eq!(rt;
-        recursion(
-            alloc,
-            Line::Into(1, false, 0, 0),
-            &[Line::Into(1, false, 0, 9)]
-        )?,
-        bad(7, 0, 1)
-    );
-    assert_eq!(rt;
-        recursion(
-            alloc,
-            Line::Back(1, false, 0, 3, 2),
-            &[Line::Back(1, false, 0, 4, 2)]
-        )?,
-        bad(8, 1, 1)
-    );
-    Ok(())
+    file(
+        &rt,
+        alloc,
+        Line::Table(12, 0),
+        &[Line::Table(11, 0)],
+        bad(1, 0, 1),
+    )?;
+    file(
+        &rt,
+        alloc,
+        Line::Table(12, 0),
+        &[Line::Table(12, 5)],
+        bad(1, 0, 1),
+    )?;
+    file(
+        &rt,
+        alloc,
+        Line::Mem(7, 4095),
+        &[Line::Mem(7, 4096)],
+        bad(1, 4, 1),
+    )?;
+    file(
+        &rt,
+        alloc,
+        Line::Mem(7, 4095),
+        &[Line::Mem(12, 4095)],
+        bad(1, 4, 1),
+    )?;
+    file(
+        &rt,
+        alloc,
+        Line::Live(20, 3),
+        &[Line::Live(20, 3), Line::Live(99, 0)],
+        bad(2, 21, 1),
+    )?;
+    file(
+        &rt,
+        alloc,
+        Line::Try(2, 0, 2, Some(1), None),
+        &[Line::Try(2, 0, 2, Some(1), Some(9))],
+        bad(3, 0, 1),
+    )?;
+    file(
+        &rt,
+        alloc,
+        Line::At(4, 3, 3),
+        &[Line::At(5, 3, 3)],
+        bad(4, 2, 1),
+    )?;
+    file(
+        &rt,
+        alloc,
+        Line::Opened(1, 0, 2, 0),
+        &[Line::Opened(1, 0, 9, 0)],
+        bad(5, 0, 1),
+    )?;
+    file(
+        &rt,
+        alloc,
+        Line::Closed(3, 4, 3),
+        &[Line::Closed(3, 4, 9)],
+        bad(6, 1, 1),
+    )?;
+    recursion(
+        &rt,
+        alloc,
+        Line::Into(1, false, 0, 0),
+        &[Line::Into(1, false, 0, 9)],
+        bad(7, 0, 1),
+    )?;
+    recursion(
+        &rt,
+        alloc,
+        Line::Back(1, false, 0, 3, 2),
+        &[Line::Back(1, false, 0, 4, 2)],
+        bad(8, 1, 1),
+    )
 }
 
 #[test]
 fn opens_closes_and_returns_ask_for_their_rows(rt: HostRuntime) -> Result<(), AllocError> {
     let alloc = rt.alloc();
-    assert_eq!(rt; file(alloc, Line::Opened(1, 0, 2, 0), &[])?, bad(2, 3, 6));
-    assert_eq!(rt; file(alloc, Line::Closed(3, 4, 3), &[])?, bad(2, 14, 6));
+    file(&rt, alloc, Line::Opened(1, 0, 2, 0), &[], bad(2, 3, 6))?;
+    file(&rt, alloc, Line::Closed(3, 4, 3), &[], bad(2, 14, 6))?;
     // the second of two memories at the function's end
-    assert_eq!(rt;
-        recursion(alloc, Line::Back(1, false, 0, 3, 2), &[])?,
-        bad(2, 4, 8)
-    );
+    recursion(&rt, alloc, Line::Back(1, false, 0, 3, 2), &[], bad(2, 4, 8))?;
     let lines = change(
         alloc,
         &SPLIT,
         Line::Into(3, true, 0, 0),
         &[Line::Into(3, false, 0, 0)],
     )?;
-    assert_eq!(rt;
-        outcome_of(alloc, SPLIT_SOURCE, SPLIT_POLICY, &lines)?,
-        bad(2, 14, 7)
-    );
-    Ok(())
+    expect(
+        &rt,
+        alloc,
+        SPLIT_SOURCE,
+        SPLIT_POLICY,
+        &lines,
+        bad(2, 14, 7),
+    )
 }
 
 #[test]
@@ -729,9 +807,5 @@ fn going_on_is_checked_after_a_refusal_that_a_stop_answers(
         Line::Try(1, 0, 0, Some(1), None),
         &[Line::Try(1, 0, 0, Some(1), Some(0))],
     )?;
-    assert_eq!(rt;
-        outcome_of(alloc, STOP_SOURCE, STOP_POLICY, &lines)?,
-        bad(2, 3, 5)
-    );
-    Ok(())
+    expect(&rt, alloc, STOP_SOURCE, STOP_POLICY, &lines, bad(2, 3, 5))
 }

@@ -1,8 +1,6 @@
 //! Whole runs of `check` over files and sinks in memory.
-use crate::given::{files, words};
+use crate::given::{ends, repeated};
 use crate::texts::NEVER_AMBIENT;
-use cw_cli::capweave;
-use cw_io::{SureShelf, SureSink};
 use std::alloc::{AllocError, Global};
 use std::process::Abort;
 use std::test::Fail;
@@ -66,191 +64,177 @@ fn edited(alloc: Global, text: &str, old: &str, new: &str) -> Result<String, All
     Ok(other)
 }
 
-fn ends(
+/// An edit of a text, by the words that are put in the place of others, and how the check of the text then ends.
+type Edit<'t> = (&'t str, &'t str, u8, &'t str, &'t str);
+
+/// Asserts that the checks of a text with these edits end so.
+fn all_check(
     rt: &impl Abort,
     alloc: Global,
     policy: &str,
     text: &str,
-    status: u8,
-    told: &str,
-    line: &str,
+    edits: &[Edit],
 ) -> Result<(), Fail> {
-    let check = words(alloc, &["check", "p.toml", "s.c"])?;
-    let mut shelf = SureShelf::make(files(alloc, policy, text)?);
-    let mut out = SureSink::make(alloc);
-    let mut note = SureSink::make(alloc);
-    assert_eq!(rt;
-        capweave(alloc, &check, &mut shelf, &mut out, &mut note),
-        status,
-        "{told}{line}"
-    );
-    assert_eq!(rt; out.bytes(), told.as_bytes(), "{told}");
-    assert_eq!(rt; note.bytes(), line.as_bytes(), "{line}");
+    for (old, new, status, told, noted) in edits {
+        let text = edited(alloc, text, old, new)?;
+        let line = ["check", "p.toml", "s.c"];
+        ends(rt, alloc, &line, &[policy, &text], *status, told, noted)?;
+    }
     Ok(())
 }
 
 const NEVER: &str = "format = 1\n[[at]]\nlabel = \"a\"\nnever = [\"amb\"]\n";
 
+const PROMISES: &str =
+    "format = 1\n[[at]]\nlabel = \"m\"\nmust = [\"amb\"]\n[[at]]\nlabel = \"k\"\nnever = [\"amb\"]\n";
+
+const SPLITS: &str = "format = 1\nsplit = [\"f\"]\n[[at]]\nlabel = \"m\"\nmust = [\"amb\"]\n";
+
+const STOPS: &str =
+    "format = 1\nrefusable = [\"enter\"]\non_refusal = \"stop\"\n[[at]]\nlabel = \"a\"\nnever = [\"amb\"]\n";
+
+const DESCRIPTOR: &str = "format = 1\n[[descriptor]]\nname = \"fd\"\n";
+
 #[test]
 fn checks_tables_or_tells_why_not(rt: HostRuntime) -> Result<(), Fail> {
     let alloc = rt.alloc();
-    let promises =
-        "format = 1\n[[at]]\nlabel = \"m\"\nmust = [\"amb\"]\n[[at]]\nlabel = \"k\"\nnever = [\"amb\"]\n";
-    let splits = "format = 1\nsplit = [\"f\"]\n[[at]]\nlabel = \"m\"\nmust = [\"amb\"]\n";
-    let stops =
-        "format = 1\nrefusable = [\"enter\"]\non_refusal = \"stop\"\n[[at]]\nlabel = \"a\"\nnever = [\"amb\"]\n";
-    for (policy, text, old, new, status, told, line) in [
-        (promises, TWO_PROMISES, "", "", 0, "yes\n", ""),
-        (
-            promises,
-            TWO_PROMISES,
-            "CW_MEM(2,2,0x5)",
-            "CW_MEM(2,2,0x1)",
-            1,
-            "live 6 condition 6\n",
-            "",
-        ),
-        (
-            promises,
-            TWO_PROMISES,
-            "CW_ENTRY(0);",
-            "CW_ENTRX(0);",
-            9,
-            "",
-            "woven: mark 689\n",
-        ),
-        (splits, TWO_PROMISES, "", "", 1, "live 15 condition 4\n", ""),
-        (stops, NEVER_AMBIENT, "", "", 0, "yes\n", ""),
-        (
-            stops,
-            NEVER_AMBIENT,
-            "1,CW_NONE)",
-            "1,0)",
-            1,
-            "live 3 condition 5\n",
-            "",
-        ),
-        (NEVER, NEVER_AMBIENT, "", "", 0, "yes\n", ""),
-        (
-            NEVER,
-            NEVER_AMBIENT,
-            "CW_TABLE(1,4,0)",
-            "CW_TABLE(1,5,0)",
-            1,
-            "mems 0 condition 1\n",
-            "",
-        ),
-        (
-            NEVER,
-            NEVER_AMBIENT,
-            "CW_AT(1,1,2)",
-            "CW_AT(1,1,3)",
-            1,
-            "ats 0 condition 1\n",
-            "",
-        ),
-        (
-            NEVER,
-            NEVER_AMBIENT,
-            "CW_TRY(1,0,0,1,CW_NONE)\n",
-            "",
-            1,
-            "live 2 condition 4\n",
-            "",
-        ),
-        ("format = 3\n", "", "", "", 4, "", "policy: kind format\n"),
-        (
-            "format = 1\n[[at]]\nlabel = \"z\"\n",
-            NEVER_AMBIENT,
-            "",
-            "",
-            4,
-            "",
-            "policy: no label z\n",
-        ),
-    ] {
-        ends(
-            &rt,
-            alloc,
-            policy,
-            &edited(alloc, text, old, new)?,
-            status,
-            told,
-            line,
-        )?;
-    }
-    Ok(())
+    all_check(
+        &rt,
+        alloc,
+        PROMISES,
+        TWO_PROMISES,
+        &[
+            ("", "", 0, "yes\n", ""),
+            (
+                "CW_MEM(2,2,0x5)",
+                "CW_MEM(2,2,0x1)",
+                1,
+                "live 6 condition 6\n",
+                "",
+            ),
+            ("CW_ENTRY(0);", "CW_ENTRX(0);", 9, "", "woven: mark 689\n"),
+        ],
+    )?;
+    all_check(
+        &rt,
+        alloc,
+        SPLITS,
+        TWO_PROMISES,
+        &[("", "", 1, "live 15 condition 4\n", "")],
+    )?;
+    all_check(
+        &rt,
+        alloc,
+        STOPS,
+        NEVER_AMBIENT,
+        &[
+            ("", "", 0, "yes\n", ""),
+            ("1,CW_NONE)", "1,0)", 1, "live 3 condition 5\n", ""),
+        ],
+    )?;
+    all_check(
+        &rt,
+        alloc,
+        NEVER,
+        NEVER_AMBIENT,
+        &[
+            ("", "", 0, "yes\n", ""),
+            (
+                "CW_TABLE(1,4,0)",
+                "CW_TABLE(1,5,0)",
+                1,
+                "mems 0 condition 1\n",
+                "",
+            ),
+            ("CW_AT(1,1,2)", "CW_AT(1,1,3)", 1, "ats 0 condition 1\n", ""),
+            (
+                "CW_TRY(1,0,0,1,CW_NONE)\n",
+                "",
+                1,
+                "live 2 condition 4\n",
+                "",
+            ),
+        ],
+    )?;
+    all_check(
+        &rt,
+        alloc,
+        "format = 3\n",
+        "",
+        &[("", "", 4, "", "policy: kind format\n")],
+    )?;
+    all_check(
+        &rt,
+        alloc,
+        "format = 1\n[[at]]\nlabel = \"z\"\n",
+        NEVER_AMBIENT,
+        &[("", "", 4, "", "policy: no label z\n")],
+    )
 }
 
 #[test]
 fn tells_what_is_wrong_with_woven_texts(rt: HostRuntime) -> Result<(), Fail> {
     let alloc = rt.alloc();
-    let mut points = String::from_str(alloc, "")?;
-    for _ in 0..8192 {
-        points.push_str(";")?;
-    }
-    points.push_str("return ")?;
-    let mut blanks = String::from_str(alloc, "")?;
-    for _ in 0..262_144 {
-        blanks.push_str(" ")?;
-    }
-    let mut nested = String::from_str(alloc, "")?;
-    for _ in 0..70 {
-        nested.push_str("(")?;
-    }
-    nested.push_str("0")?;
-    for _ in 0..70 {
-        nested.push_str(")")?;
-    }
-    nested.push_str(";}")?;
-    for (old, new, status, line) in [
-        ("0xf)\nCW_MEM(2", "0x0f)\nCW_MEM(2", 9, "woven: line 5\n"),
-        (
-            "CW_LIVE(0,0)\nCW_LIVE(2,0)",
-            "CW_LIVE(2,0)\nCW_LIVE(0,0)",
-            9,
-            "woven: order 8\n",
-        ),
-        (
-            "CW_LIMITS(X)",
-            "CW_LIMITS(X) X(0,0,0x1)",
-            9,
-            "woven: line 2\n",
-        ),
-        ("/*cw{*/\n", "", 9, "woven: mark 0\n"),
-        (
-            "/*cw{*/CW_LABEL(1)/*}cw*/;",
-            ";/*cw{*/CW_LABEL(1)/*}cw*/",
-            9,
-            "woven: misplaced 1\n",
-        ),
-        ("CW_LABEL(1)", "CW_LABEL(2)", 9, "woven: misplaced 1\n"),
-        ("0;}", "0;", 9, "woven: source 1:28: syntax\n"),
-        ("return 0", "return @", 9, "woven: source 1:26: bad byte\n"),
-        ("0;}", "0;}/*}cw*/", 9, "woven: source 1:30: marker\n"),
-        ("main", "mainy", 9, "woven: source: no main\n"),
-        ("0;}", &nested, 5, "limit: nesting\n"),
-        ("0;}", &blanks, 5, "limit: source bytes\n"),
-        ("return ", &points, 5, "limit: points\n"),
-    ] {
-        ends(
-            &rt,
-            alloc,
-            NEVER,
-            &edited(alloc, NEVER_AMBIENT, old, new)?,
-            status,
-            "",
-            line,
-        )?;
-    }
-    let descriptor = "format = 1\n[[descriptor]]\nname = \"fd\"\n";
-    ends(
+    let points = repeated(alloc, "", ";", 8_192, "return ")?;
+    let blanks = repeated(alloc, "", " ", 262_144, "")?;
+    let open = repeated(alloc, "", "(", 70, "0")?;
+    let nested = repeated(alloc, &open, ")", 70, ";}")?;
+    all_check(
         &rt,
         alloc,
-        descriptor,
+        NEVER,
         NEVER_AMBIENT,
-        9,
-        "",
-        "woven: source: no variable fd\n",
+        &[
+            (
+                "0xf)\nCW_MEM(2",
+                "0x0f)\nCW_MEM(2",
+                9,
+                "",
+                "woven: line 5\n",
+            ),
+            (
+                "CW_LIVE(0,0)\nCW_LIVE(2,0)",
+                "CW_LIVE(2,0)\nCW_LIVE(0,0)",
+                9,
+                "",
+                "woven: order 8\n",
+            ),
+            (
+                "CW_LIMITS(X)",
+                "CW_LIMITS(X) X(0,0,0x1)",
+                9,
+                "",
+                "woven: line 2\n",
+            ),
+            ("/*cw{*/\n", "", 9, "", "woven: mark 0\n"),
+            (
+                "/*cw{*/CW_LABEL(1)/*}cw*/;",
+                ";/*cw{*/CW_LABEL(1)/*}cw*/",
+                9,
+                "",
+                "woven: misplaced 1\n",
+            ),
+            ("CW_LABEL(1)", "CW_LABEL(2)", 9, "", "woven: misplaced 1\n"),
+            ("0;}", "0;", 9, "", "woven: source 1:28: syntax\n"),
+            (
+                "return 0",
+                "return @",
+                9,
+                "",
+                "woven: source 1:26: bad byte\n",
+            ),
+            ("0;}", "0;}/*}cw*/", 9, "", "woven: source 1:30: marker\n"),
+            ("main", "mainy", 9, "", "woven: source: no main\n"),
+            ("0;}", &nested, 5, "", "limit: nesting\n"),
+            ("0;}", &blanks, 5, "", "limit: source bytes\n"),
+            ("return ", &points, 5, "", "limit: points\n"),
+        ],
+    )?;
+    all_check(
+        &rt,
+        alloc,
+        DESCRIPTOR,
+        NEVER_AMBIENT,
+        &[("", "", 9, "", "woven: source: no variable fd\n")],
     )
 }

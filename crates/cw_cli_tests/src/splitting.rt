@@ -1,8 +1,10 @@
 //! Runs of the command line under policies that split functions off. The texts are another implementation's.
-use crate::given::{files, words};
-use cw_cli::capweave;
-use cw_io::{SureShelf, SureSink};
+use crate::given::ends;
 use std::test::Fail;
+
+const WEAVE: [&str; 3] = ["weave", "p.toml", "s.c"];
+
+const CHECK: [&str; 3] = ["check", "p.toml", "s.c"];
 
 const SOURCE: &str = "int f(int x){a:;return x;}\nint main(void){int y;y=f(1);b:;return 0;}\n";
 
@@ -106,63 +108,59 @@ fn functions_are_split_or_told_why_not(rt: HostRuntime) -> Result<(), Fail> {
     let splits = format!(in alloc; "format = 1\n{RULES}")?;
     let refusable = format!(in alloc; "format = 1\nrefusable = [\"split\"]\n{RULES}")?;
     let writes = "int g;void f(int x){g=x;}int main(void){f(1);return 0;}";
-    let weave = words(alloc, &["weave", "p.toml", "s.c"])?;
-    for (policy, source, status, text, line) in [
-        (splits.as_str(), SOURCE, 0, WOVEN, ""),
-        (refusable.as_str(), SOURCE, 1, STRATEGY, ""),
-        (
-            "format = 1\nsplit = [\"f\"]\n",
-            writes,
-            4,
-            "",
-            "policy: not splittable f 1:21\n",
-        ),
-        (
-            "format = 1\nsplit = [\"f\", \"h\"]\n",
-            writes,
-            4,
-            "",
-            "policy: no function h\n",
-        ),
-        (
-            "format = 2\nsplit = [\"f\"]\ndetached = [\"f\"]\n",
-            writes,
-            4,
-            "",
-            "policy: not splittable f 1:21\n",
-        ),
-    ] {
-        let mut shelf = SureShelf::make(files(alloc, policy, source)?);
-        let mut out = SureSink::make(alloc);
-        let mut note = SureSink::make(alloc);
-        assert_eq!(rt;
-            capweave(alloc, &weave, &mut shelf, &mut out, &mut note),
-            status,
-            "{policy}"
-        );
-        assert_eq!(rt; out.bytes(), text.as_bytes(), "{policy}");
-        assert_eq!(rt; note.bytes(), line.as_bytes(), "{policy}");
-    }
-    let check = words(alloc, &["check", "p.toml", "s.c"])?;
-    for (policy, text, status, line) in [
-        (splits.as_str(), "yes\n", 0, ""),
-        (
-            "format = 1\nsplit = [\"f\", \"h\"]\n",
-            "",
-            4,
-            "policy: no function h\n",
-        ),
-    ] {
-        let mut shelf = SureShelf::make(files(alloc, policy, WOVEN)?);
-        let mut out = SureSink::make(alloc);
-        let mut note = SureSink::make(alloc);
-        assert_eq!(rt;
-            capweave(alloc, &check, &mut shelf, &mut out, &mut note),
-            status,
-            "{policy}"
-        );
-        assert_eq!(rt; out.bytes(), text.as_bytes(), "{policy}");
-        assert_eq!(rt; note.bytes(), line.as_bytes(), "{policy}");
-    }
-    Ok(())
+    ends(&rt, alloc, &WEAVE, &[splits.as_str(), SOURCE], 0, WOVEN, "")?;
+    ends(
+        &rt,
+        alloc,
+        &WEAVE,
+        &[refusable.as_str(), SOURCE],
+        1,
+        STRATEGY,
+        "",
+    )?;
+    ends(
+        &rt,
+        alloc,
+        &WEAVE,
+        &["format = 1\nsplit = [\"f\"]\n", writes],
+        4,
+        "",
+        "policy: not splittable f 1:21\n",
+    )?;
+    ends(
+        &rt,
+        alloc,
+        &WEAVE,
+        &["format = 1\nsplit = [\"f\", \"h\"]\n", writes],
+        4,
+        "",
+        "policy: no function h\n",
+    )?;
+    ends(
+        &rt,
+        alloc,
+        &WEAVE,
+        &["format = 2\nsplit = [\"f\"]\ndetached = [\"f\"]\n", writes],
+        4,
+        "",
+        "policy: not splittable f 1:21\n",
+    )?;
+    ends(
+        &rt,
+        alloc,
+        &CHECK,
+        &[splits.as_str(), WOVEN],
+        0,
+        "yes\n",
+        "",
+    )?;
+    ends(
+        &rt,
+        alloc,
+        &CHECK,
+        &["format = 1\nsplit = [\"f\", \"h\"]\n", WOVEN],
+        4,
+        "",
+        "policy: no function h\n",
+    )
 }

@@ -280,6 +280,14 @@ fn turn(game: &Game, pos: u32) -> Option<Turn> {
     }
 }
 
+fn moves(game: &Game, pos: u32) -> Option<(Move, Option<Move>)> {
+    if pos < game.positions() {
+        Some(game.moves(PosId(pos)))
+    } else {
+        None
+    }
+}
+
 fn next(game: &Game, pos: u32, state: u16, by: Move) -> Option<(u32, u16)> {
     if pos >= game.positions() || state >= game.states() {
         return None;
@@ -323,6 +331,8 @@ fn a_split_call_has_two_free_positions(rt: HostRuntime) -> Result<(), AllocError
     };
     assert!(rt; game.states() == 4 && game.positions() == 25);
     assert!(rt; turn(&game, 17) == called(false) && turn(&game, 18) == called(true));
+    assert!(rt; moves(&game, 16) == Some((Move::Grant, Some(Move::Refuse))));
+    assert!(rt; moves(&game, 18) == Some((Move::On, None)));
     // granted, the split goes to the second; refused, to the first
     assert!(rt; next(&game, 16, 1, Move::Grant) == Some((18, 1)));
     assert!(rt; next(&game, 16, 1, Move::Refuse) == Some((17, 1)));

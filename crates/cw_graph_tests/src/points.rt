@@ -6,12 +6,13 @@ ghost use Rattle.cw_rights.specs.Policies.{policy_of};
 use cw_core::{PointId, SeamId};
 use cw_points::build::build;
 use cw_points::marks::marks;
-use cw_points::{Node, Part, Point, PointsFault};
+use cw_points::{Graph, Node, Part, Point, PointsFault};
 use cw_rights::{Descriptor, Policy, Rights};
 use cw_syntax::checked::Checked;
 use cw_syntax::marks::{MarkKind, SeamMark};
 use cw_syntax::program::{Base, CType, Expr, Function, Head, Name, Op, Program, Stmt, What};
 use std::alloc::{AllocError, Global};
+use std::process::Abort;
 use std::test::Fail;
 
 const SOURCE: &[u8] = b"main g open close a b x";
@@ -168,6 +169,37 @@ fn mark(place: u32, number: u32, kind: MarkKind) -> SeamMark {
     }
 }
 
+/// The graph of a program under `policy`, or why it has none.
+fn built(alloc: Global, program: &Checked) -> Result<Result<Graph, PointsFault>, AllocError> {
+    let policy = policy(alloc)?;
+    Ok(build(alloc, program, &policy))
+}
+
+/// Asserts that a program's graph has these nodes.
+fn expect_nodes(
+    rt: &impl Abort,
+    alloc: Global,
+    program: &Checked,
+    nodes: &[Node],
+) -> Result<(), Fail> {
+    let graph = built(alloc, program)??;
+    assert!(rt; graph.nodes.as_slice() == nodes);
+    Ok(())
+}
+
+/// Asserts that a program's graph has these marks.
+fn expect_marks(
+    rt: &impl Abort,
+    alloc: Global,
+    program: &Checked,
+    wanted: &[SeamMark],
+) -> Result<(), Fail> {
+    let policy = policy(alloc)?;
+    let graph = build(alloc, program, &policy)?;
+    assert!(rt; marks(alloc, &graph)?.as_slice() == wanted);
+    Ok(())
+}
+
 /// `a: ; return;`
 fn labelled(alloc: Global) -> Result<Vec<Stmt>, AllocError> {
     let last = stmt(What::Return(None), 18);
@@ -178,23 +210,16 @@ fn labelled(alloc: Global) -> Result<Vec<Stmt>, AllocError> {
 fn a_label_is_a_seam(rt: HostRuntime) -> Result<(), Fail> {
     let alloc = rt.alloc();
     let program = only_main(alloc, labelled(alloc)?)?;
-    let graph = build(alloc, &program, &policy(alloc)?)?;
-    assert!(rt;
-        graph.nodes.as_slice()
-            == [
-                seam(Point::Entry, 0, 1, 0),
-                seam(Point::Label(1), 0, 2, 1),
-                step(3),
-                step(4),
-                exit()
-            ]
-            .as_slice()
-    );
-    assert!(rt;
-        marks(alloc, &graph)?.as_slice()
-            == [mark(15, 0, MarkKind::Entry), mark(17, 1, MarkKind::Label)].as_slice()
-    );
-    Ok(())
+    let nodes = [
+        seam(Point::Entry, 0, 1, 0),
+        seam(Point::Label(1), 0, 2, 1),
+        step(3),
+        step(4),
+        exit(),
+    ];
+    expect_nodes(&rt, alloc, &program, &nodes)?;
+    let wanted = [mark(15, 0, MarkKind::Entry), mark(17, 1, MarkKind::Label)];
+    expect_marks(&rt, alloc, &program, &wanted)
 }
 
 /// `for (; x; x) { if (x) continue; b: ; }`
@@ -216,23 +241,18 @@ fn a_for_goes_on_at_its_step(rt: HostRuntime) -> Result<(), Fail> {
     let alloc = rt.alloc();
     let last = stmt(What::Return(None), 4);
     let program = only_main(alloc, Vec::from_array(alloc, [turning(alloc)?, last])?)?;
-    let graph = build(alloc, &program, &policy(alloc)?)?;
-    assert!(rt;
-        graph.nodes.as_slice()
-            == [
-                seam(Point::Entry, 0, 1, 0),
-                branch(3, 7),
-                step(1),
-                branch(4, 5),
-                step(2),
-                seam(Point::Label(0), 0, 6, 1),
-                step(2),
-                step(8),
-                exit(),
-            ]
-            .as_slice()
-    );
-    Ok(())
+    let nodes = [
+        seam(Point::Entry, 0, 1, 0),
+        branch(3, 7),
+        step(1),
+        branch(4, 5),
+        step(2),
+        seam(Point::Label(0), 0, 6, 1),
+        step(2),
+        step(8),
+        exit(),
+    ];
+    expect_nodes(&rt, alloc, &program, &nodes)
 }
 
 /// `do ; while (x);` and `while (x) {}`
@@ -247,19 +267,14 @@ fn looping(alloc: Global) -> Result<Vec<Stmt>, AllocError> {
 fn a_do_is_tested_behind_its_body(rt: HostRuntime) -> Result<(), Fail> {
     let alloc = rt.alloc();
     let program = only_main(alloc, looping(alloc)?)?;
-    let graph = build(alloc, &program, &policy(alloc)?)?;
-    assert!(rt;
-        graph.nodes.as_slice()
-            == [
-                seam(Point::Entry, 0, 1, 0),
-                step(2),
-                branch(1, 3),
-                branch(3, 4),
-                exit()
-            ]
-            .as_slice()
-    );
-    Ok(())
+    let nodes = [
+        seam(Point::Entry, 0, 1, 0),
+        step(2),
+        branch(1, 3),
+        branch(3, 4),
+        exit(),
+    ];
+    expect_nodes(&rt, alloc, &program, &nodes)
 }
 
 /// `x = open(); x = g(); close(x);`
@@ -302,21 +317,17 @@ fn two_functions(alloc: Global) -> Result<Checked<'static>, AllocError> {
 fn a_call_leads_on_to_its_return(rt: HostRuntime) -> Result<(), Fail> {
     let alloc = rt.alloc();
     let program = two_functions(alloc)?;
-    let graph = build(alloc, &program, &policy(alloc)?)?;
-    assert!(rt;
-        graph.nodes.as_slice()
-            == [
-                seam(Point::Entry, 0, 1, 0),
-                seam(Point::Open(0), 0, 2, 1),
-                seam(Point::Call(1), 0, 3, 2),
-                seam(Point::Close(0), 0, 4, 3),
-                exit(),
-                seam(Point::Entry, 1, 6, 4),
-                node(Point::Step, 1, Some(7), None),
-                node(Point::Exit, 1, None, None),
-            ]
-            .as_slice()
-    );
+    let nodes = [
+        seam(Point::Entry, 0, 1, 0),
+        seam(Point::Open(0), 0, 2, 1),
+        seam(Point::Call(1), 0, 3, 2),
+        seam(Point::Close(0), 0, 4, 3),
+        exit(),
+        seam(Point::Entry, 1, 6, 4),
+        node(Point::Step, 1, Some(7), None),
+        node(Point::Exit, 1, None, None),
+    ];
+    expect_nodes(&rt, alloc, &program, &nodes)?;
     let first = Part {
         entry: PointId(0),
         exit: PointId(4),
@@ -327,6 +338,7 @@ fn a_call_leads_on_to_its_return(rt: HostRuntime) -> Result<(), Fail> {
         exit: PointId(7),
         split: true,
     };
+    let graph = built(alloc, &program)??;
     assert!(rt; graph.parts.as_slice() == [first, second].as_slice() && graph.main == 0);
     Ok(())
 }
@@ -335,19 +347,14 @@ fn a_call_leads_on_to_its_return(rt: HostRuntime) -> Result<(), Fail> {
 fn a_call_has_the_mark_of_its_result(rt: HostRuntime) -> Result<(), Fail> {
     let alloc = rt.alloc();
     let program = two_functions(alloc)?;
-    let graph = build(alloc, &program, &policy(alloc)?)?;
-    assert!(rt;
-        marks(alloc, &graph)?.as_slice()
-            == [
-                mark(15, 0, MarkKind::Entry),
-                mark(20, 1, MarkKind::Open(0)),
-                mark(30, 2, MarkKind::Call(Some(X))),
-                mark(40, 3, MarkKind::Close),
-                mark(50, 4, MarkKind::Entry),
-            ]
-            .as_slice()
-    );
-    Ok(())
+    let wanted = [
+        mark(15, 0, MarkKind::Entry),
+        mark(20, 1, MarkKind::Open(0)),
+        mark(30, 2, MarkKind::Call(Some(X))),
+        mark(40, 3, MarkKind::Close),
+        mark(50, 4, MarkKind::Entry),
+    ];
+    expect_marks(&rt, alloc, &program, &wanted)
 }
 
 /// A `main` of so many empty statements.
@@ -362,13 +369,9 @@ fn long(alloc: Global, count: u32) -> Result<Checked<'static>, AllocError> {
 #[test]
 fn a_program_has_at_most_8192_points(rt: HostRuntime) -> Result<(), Fail> {
     let alloc = rt.alloc();
-    let policy = policy(alloc)?;
-    let graph = build(alloc, &long(alloc, 8190)?, &policy)?;
+    let graph = built(alloc, &long(alloc, 8190)?)??;
     assert!(rt; graph.nodes.len() == 8192);
-    let refused = matches!(
-        build(alloc, &long(alloc, 8191)?, &policy),
-        Err(PointsFault::TooManyPoints)
-    );
-    assert!(rt; refused);
+    let refused = built(alloc, &long(alloc, 8191)?)?;
+    assert!(rt; matches!(refused, Err(PointsFault::TooManyPoints)));
     Ok(())
 }

@@ -1,5 +1,12 @@
-//! The texts that are edited, and how a run is made ready.
+//! The texts that are edited, and how a run is made ready and ends.
+use cw_cli::capweave;
+use cw_io::{Shelf, Sink, SureShelf, SureSink};
 use std::alloc::{AllocError, Global};
+use std::process::Abort;
+use std::test::Fail;
+
+/// A shelf's files, each with its name.
+pub(crate) type Files = Vec<(Vec<u8>, Vec<u8>)>;
 
 /// That `a` is never ambient.
 pub(crate) const NEVER: &str = "format = 1\n[[at]]\nlabel = \"a\"\nnever = [\"amb\"]\n";
@@ -99,8 +106,7 @@ CW_BACK(6,0,4,3,4)
 CW_DONE
 /*}cw*/void f(int x){/*cw{*/CW_ENTRY(0);/*}cw*/l:/*cw{*/CW_LABEL(1)/*}cw*/;}int main(void){/*cw{*/CW_ENTRY(2);/*}cw*//*cw{*/CW_CALL(3)/*}cw*/f(1);m:/*cw{*/CW_LABEL(4)/*}cw*/;k:/*cw{*/CW_LABEL(5)/*}cw*/;/*cw{*/CW_CALL(6)/*}cw*/f(2);return 0;}";
 
-/// The words of a command line.
-pub(crate) fn words(alloc: Global, line: &[&str]) -> Result<Vec<String>, AllocError> {
+fn words(alloc: Global, line: &[&str]) -> Result<Vec<String>, AllocError> {
     let mut words = Vec::new(alloc);
     for word in line {
         words.push(String::from_str(alloc, word)?)?;
@@ -108,19 +114,62 @@ pub(crate) fn words(alloc: Global, line: &[&str]) -> Result<Vec<String>, AllocEr
     Ok(words)
 }
 
-/// Three files, named by the numbers `0`, `1` and `2`.
-pub(crate) fn files(
-    alloc: Global,
-    texts: [&[u8]; 3],
-) -> Result<Vec<(Vec<u8>, Vec<u8>)>, AllocError> {
+/// Files named by the numbers from `0` on, at most three.
+pub(crate) fn files(alloc: Global, texts: &[&str]) -> Result<Files, AllocError> {
     let mut files = Vec::new(alloc);
-    for (name, text) in [("0", texts[0]), ("1", texts[1]), ("2", texts[2])] {
+    for (name, text) in ["0", "1", "2"].iter().zip(texts) {
         files.push((
             Vec::from_slice(alloc, name.as_bytes())?,
-            Vec::from_slice(alloc, text)?,
+            Vec::from_slice(alloc, text.as_bytes())?,
         ))?;
     }
     Ok(files)
+}
+
+/// The status of a run of these words. It promises nothing, so that no proof of a test reads what the command promises.
+pub(crate) fn status_of<F: Shelf, O: Sink, N: Sink>(
+    alloc: Global,
+    line: &[&str],
+    shelf: &mut F,
+    out: &mut O,
+    note: &mut N,
+) -> Result<u8, AllocError> {
+    let words = words(alloc, line)?;
+    Ok(capweave(alloc, &words, shelf, out, note))
+}
+
+/// Asserts that a run of these words over these files ends with this status, this text on the output and this line on the note.
+pub(crate) fn ends_over(
+    rt: &impl Abort,
+    alloc: Global,
+    line: &[&str],
+    held: Files,
+    status: u8,
+    told: &str,
+    noted: &str,
+) -> Result<(), Fail> {
+    let mut shelf = SureShelf::make(held);
+    let mut out = SureSink::make(alloc);
+    let mut note = SureSink::make(alloc);
+    let ended = status_of(alloc, line, &mut shelf, &mut out, &mut note)?;
+    assert_eq!(rt; ended, status, "{told}{noted}");
+    assert_eq!(rt; out.bytes(), told.as_bytes(), "{told}");
+    assert_eq!(rt; note.bytes(), noted.as_bytes(), "{noted}");
+    Ok(())
+}
+
+/// `ends_over` files with these texts, as `files` names them.
+pub(crate) fn ends(
+    rt: &impl Abort,
+    alloc: Global,
+    line: &[&str],
+    texts: &[&str],
+    status: u8,
+    told: &str,
+    noted: &str,
+) -> Result<(), Fail> {
+    let held = files(alloc, texts)?;
+    ends_over(rt, alloc, line, held, status, told, noted)
 }
 
 /// A text with other words in the place of the first that are `old`, or nothing where it has none.
@@ -137,4 +186,12 @@ pub(crate) fn edited(
         other.push_str(back)?;
     }
     Ok(other)
+}
+
+/// Puts a piece so many times behind a text.
+pub(crate) fn push_times(text: &mut String, piece: &str, times: usize) -> Result<(), AllocError> {
+    for _ in 0..times {
+        text.push_str(piece)?;
+    }
+    Ok(())
 }

@@ -1,7 +1,8 @@
 //! A long text goes out in pieces, of which each fails in turn.
-use crate::ground::{files, words};
-use cw_cli::capweave;
+use crate::ground::{files, status_of};
 use cw_io::{MemSink, PIECE, SureShelf, SureSink};
+use std::alloc::Global;
+use std::process::Abort;
 use std::test::Fail;
 
 /// A tool that sums numbers, with a log.
@@ -111,36 +112,42 @@ label = "done"
 never = ["in:CAP_READ"]
 "#;
 
+const WEAVE: [&str; 3] = ["weave", "0", "1"];
+
+/// Asserts what a run answers of which one put, counted from 0, fails: the whole text has five pieces.
+fn goes_out(rt: &impl Abort, alloc: Global, whole: &[u8], failing: u32) -> Result<(), Fail> {
+    let texts = [SUMS_POLICY, SUMS];
+    let mut shelf = SureShelf::make(files(alloc, &texts)?);
+    let mut out = MemSink::make(alloc, vec![in alloc; failing; 1]?);
+    let mut note = SureSink::make(alloc);
+    let status = status_of(alloc, &WEAVE, &mut shelf, &mut out, &mut note)?;
+    assert!(rt; whole.starts_with(out.bytes()), "put {failing}");
+    let (wanted, line) = if failing < 5 { (7, "write\n") } else { (0, "") };
+    assert_eq!(rt; status, wanted, "put {failing}");
+    assert_eq!(rt; note.bytes(), line.as_bytes(), "put {failing}");
+    if failing < 4 {
+        assert_eq!(rt; out.longest(), PIECE, "put {failing}");
+        assert_eq!(rt;
+            out.bytes().len(),
+            failing as usize * PIECE + PIECE / 2,
+            "put {failing}"
+        );
+    }
+    Ok(())
+}
+
 #[test]
 fn a_long_text_goes_out_in_pieces_each_of_which_may_fail(rt: HostRuntime) -> Result<(), Fail> {
     let alloc = rt.alloc();
-    let weave = words(alloc, &["weave", "0", "1"])?;
-    let texts = [SUMS_POLICY.as_bytes(), SUMS.as_bytes(), b"".as_slice()];
-    let mut shelf = SureShelf::make(files(alloc, texts)?);
+    let texts = [SUMS_POLICY, SUMS];
+    let mut shelf = SureShelf::make(files(alloc, &texts)?);
     let mut whole = SureSink::make(alloc);
     let mut note = SureSink::make(alloc);
-    assert_eq!(rt;
-        capweave(alloc, &weave, &mut shelf, &mut whole, &mut note),
-        0
-    );
+    let status = status_of(alloc, &WEAVE, &mut shelf, &mut whole, &mut note)?;
+    assert_eq!(rt; status, 0);
     assert_eq!(rt; whole.bytes().len(), 19_793);
     for failing in 0..6_u32 {
-        let mut shelf = SureShelf::make(files(alloc, texts)?);
-        let mut out = MemSink::make(alloc, vec![in alloc; failing; 1]?);
-        let mut note = SureSink::make(alloc);
-        let status = capweave(alloc, &weave, &mut shelf, &mut out, &mut note);
-        assert!(rt; whole.bytes().starts_with(out.bytes()), "put {failing}");
-        let (wanted, line) = if failing < 5 { (7, "write\n") } else { (0, "") };
-        assert_eq!(rt; status, wanted, "put {failing}");
-        assert_eq!(rt; note.bytes(), line.as_bytes(), "put {failing}");
-        if failing < 4 {
-            assert_eq!(rt; out.longest(), PIECE, "put {failing}");
-            assert_eq!(rt;
-                out.bytes().len(),
-                failing as usize * PIECE + PIECE / 2,
-                "put {failing}"
-            );
-        }
+        goes_out(&rt, alloc, whole.bytes(), failing)?;
     }
     Ok(())
 }

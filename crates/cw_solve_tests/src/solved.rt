@@ -70,12 +70,23 @@ fn is_as_wanted(solved: &Solved, wanted: Wanted) -> bool {
     }
 }
 
+/// Whether the first context has the program's start under this promise, and the number past the last has not.
+fn is_first_at_start(solved: &Solved, promise: u64) -> bool {
+    let (start, _) = solved.game().start();
+    let promise = StateSet::from_bits(promise);
+    let past = solved.contexts();
+    solved.has_position(0, start, &promise) && !solved.has_position(past, start, &promise)
+}
+
 /// Whether these are the contexts: the first that is wanted has the number 0.
 fn are_as_wanted(solved: &Solved, wanted: &[Wanted]) -> bool {
     let same_number = solved.contexts() as usize == wanted.len();
     let same_first = match wanted.first() {
         None => false,
-        Some(first) => solved.find(first.function, &StateSet::from_bits(first.promise)) == Some(0),
+        Some(first) => {
+            solved.find(first.function, &StateSet::from_bits(first.promise)) == Some(0)
+                && is_first_at_start(solved, first.promise)
+        }
     };
     same_number && same_first && wanted.iter().all(|w| is_as_wanted(solved, *w))
 }

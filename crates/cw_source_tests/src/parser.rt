@@ -8,7 +8,7 @@ use std::alloc::{AllocError, Global};
 use std::test::Fail;
 
 /// What the parser answers for a source.
-fn answer(alloc: Global, source: &[u8]) -> Result<Result<Program, ParseFault>, Fail> {
+pub(crate) fn answer(alloc: Global, source: &[u8]) -> Result<Result<Program, ParseFault>, Fail> {
     if source.len() > 262144 {
         return Err(Fail::new("a source that is too long"));
     }

@@ -4,6 +4,7 @@ use cw_core::NoMemory;
 use cw_grammar::words::{Lexeme, Word};
 use cw_recogniser::recognise;
 use std::alloc::{AllocError, Global};
+use std::process::Abort;
 use std::test::Fail;
 
 /// A token of this word, at no place.
@@ -15,12 +16,24 @@ fn token(word: Word) -> Lexeme {
     }
 }
 
+/// `recognise`, of which the tests read no promise.
+fn recognised(alloc: Global, tokens: &[Lexeme]) -> Result<Option<usize>, NoMemory> {
+    recognise(alloc, tokens)
+}
+
 fn fault(alloc: Global, words: &[Word]) -> Result<Option<usize>, NoMemory> {
     let mut tokens = Vec::new(alloc);
     for word in words {
         tokens.push(token(*word))?;
     }
-    recognise(alloc, &tokens)
+    recognised(alloc, &tokens)
+}
+
+/// Asserts where the fault of these words stands, or that they have none.
+fn expect(rt: &impl Abort, alloc: Global, words: &[Word], want: Option<usize>) -> Result<(), Fail> {
+    let found = fault(alloc, words)?;
+    assert_eq!(rt; found, want, "{words:?}");
+    Ok(())
 }
 
 /// Some words so many times behind others.
@@ -36,14 +49,21 @@ fn repeated(tokens: &mut Vec<Lexeme>, words: &[Word], count: usize) -> Result<()
 #[test]
 fn texts_are_accepted(rt: HostRuntime) -> Result<(), Fail> {
     use Word::*;
-    for words in [
-        [].as_slice(),
-        [Int, Name, Semicolon].as_slice(),
-        [
+    let alloc = rt.alloc();
+    expect(&rt, alloc, &[], None)?;
+    expect(&rt, alloc, &[Int, Name, Semicolon], None)?;
+    expect(
+        &rt,
+        alloc,
+        &[
             Static, Const, Unsigned, Long, Int, Star, Star, Name, Comma, Name, Semicolon,
-        ]
-        .as_slice(),
-        [
+        ],
+        None,
+    )?;
+    expect(
+        &rt,
+        alloc,
+        &[
             Int,
             Name,
             OpenBracket,
@@ -54,10 +74,19 @@ fn texts_are_accepted(rt: HostRuntime) -> Result<(), Fail> {
             Comma,
             CloseBrace,
             Semicolon,
-        ]
-        .as_slice(),
-        [Int, Name, Open, Void, Comma, Int, Close, Semicolon].as_slice(),
-        [
+        ],
+        None,
+    )?;
+    expect(
+        &rt,
+        alloc,
+        &[Int, Name, Open, Void, Comma, Int, Close, Semicolon],
+        None,
+    )?;
+    expect(
+        &rt,
+        alloc,
+        &[
             Int,
             Name,
             Open,
@@ -68,14 +97,22 @@ fn texts_are_accepted(rt: HostRuntime) -> Result<(), Fail> {
             Number(0),
             Semicolon,
             CloseBrace,
-        ]
-        .as_slice(),
-        [
+        ],
+        None,
+    )?;
+    expect(
+        &rt,
+        alloc,
+        &[
             Int, Name, Assign, SizeOf, Open, Int, Close, Minus, Open, Char, Close, Minus, Name,
             Semicolon,
-        ]
-        .as_slice(),
-        [
+        ],
+        None,
+    )?;
+    expect(
+        &rt,
+        alloc,
+        &[
             Char,
             Star,
             Name,
@@ -86,9 +123,13 @@ fn texts_are_accepted(rt: HostRuntime) -> Result<(), Fail> {
             Number(0),
             CloseBracket,
             Semicolon,
-        ]
-        .as_slice(),
-        [
+        ],
+        None,
+    )?;
+    expect(
+        &rt,
+        alloc,
+        &[
             Int,
             Name,
             Assign,
@@ -100,74 +141,100 @@ fn texts_are_accepted(rt: HostRuntime) -> Result<(), Fail> {
             Assign,
             Number(3),
             Semicolon,
-        ]
-        .as_slice(),
-    ] {
-        assert_eq!(rt; fault(rt.alloc(), words)?, None);
-    }
-    Ok(())
+        ],
+        None,
+    )
 }
 
 #[test]
 fn faults_stand_at_the_first_token_that_no_text_goes_on_with(rt: HostRuntime) -> Result<(), Fail> {
     use Word::*;
-    for (words, want) in [
-        ([Int, Name].as_slice(), 2),
-        ([Int, Star, Star, Star, Name, Semicolon].as_slice(), 3),
-        ([Unsigned, Unsigned].as_slice(), 1),
-        (
-            [Int, Name, Open, Int, Close, OpenBrace, CloseBrace].as_slice(),
-            5,
-        ),
-        (
-            [Int, Name, Open, Void, Comma, Int, Name, Close, OpenBrace].as_slice(),
-            8,
-        ),
-        (
-            [Int, Name, Assign, Name, Plus, Name, Assign, Name, Semicolon].as_slice(),
-            6,
-        ),
-        (
-            [
-                Int, Name, Assign, Open, Int, Close, Name, Assign, Name, Semicolon,
-            ]
-            .as_slice(),
-            7,
-        ),
-        (
-            [Int, Name, Assign, SizeOf, Open, Int, Close, OpenBracket].as_slice(),
-            7,
-        ),
-        (
-            [Int, Name, Assign, PlusPlus, Open, Int, Close, Name].as_slice(),
-            5,
-        ),
-        ([Int, Name, Assign, OpenBrace, CloseBrace].as_slice(), 4),
-        (
-            [Int, Name, Assign, Name, Open, Name, Comma, Close].as_slice(),
-            7,
-        ),
-        ([Void, Name, Open, Close, OpenBrace, Else].as_slice(), 5),
-        (
-            [
-                Void, Name, Open, Close, OpenBrace, If, Open, Name, Close, Int,
-            ]
-            .as_slice(),
-            9,
-        ),
-        (
-            [Void, Name, Open, Close, OpenBrace, Do, Semicolon, Semicolon].as_slice(),
-            7,
-        ),
-        (
-            [Void, Name, Open, Close, OpenBrace, Name, Colon, CloseBrace].as_slice(),
-            7,
-        ),
-        ([OtherKeyword].as_slice(), 0),
-    ] {
-        assert_eq!(rt; fault(rt.alloc(), words)?, Some(want), "at {want}");
-    }
-    Ok(())
+    let alloc = rt.alloc();
+    expect(&rt, alloc, &[Int, Name], Some(2))?;
+    expect(
+        &rt,
+        alloc,
+        &[Int, Star, Star, Star, Name, Semicolon],
+        Some(3),
+    )?;
+    expect(&rt, alloc, &[Unsigned, Unsigned], Some(1))?;
+    expect(
+        &rt,
+        alloc,
+        &[Int, Name, Open, Int, Close, OpenBrace, CloseBrace],
+        Some(5),
+    )?;
+    expect(
+        &rt,
+        alloc,
+        &[Int, Name, Open, Void, Comma, Int, Name, Close, OpenBrace],
+        Some(8),
+    )?;
+    expect(
+        &rt,
+        alloc,
+        &[Int, Name, Assign, Name, Plus, Name, Assign, Name, Semicolon],
+        Some(6),
+    )?;
+    expect(
+        &rt,
+        alloc,
+        &[
+            Int, Name, Assign, Open, Int, Close, Name, Assign, Name, Semicolon,
+        ],
+        Some(7),
+    )?;
+    expect(
+        &rt,
+        alloc,
+        &[Int, Name, Assign, SizeOf, Open, Int, Close, OpenBracket],
+        Some(7),
+    )?;
+    expect(
+        &rt,
+        alloc,
+        &[Int, Name, Assign, PlusPlus, Open, Int, Close, Name],
+        Some(5),
+    )?;
+    expect(
+        &rt,
+        alloc,
+        &[Int, Name, Assign, OpenBrace, CloseBrace],
+        Some(4),
+    )?;
+    expect(
+        &rt,
+        alloc,
+        &[Int, Name, Assign, Name, Open, Name, Comma, Close],
+        Some(7),
+    )?;
+    expect(
+        &rt,
+        alloc,
+        &[Void, Name, Open, Close, OpenBrace, Else],
+        Some(5),
+    )?;
+    expect(
+        &rt,
+        alloc,
+        &[
+            Void, Name, Open, Close, OpenBrace, If, Open, Name, Close, Int,
+        ],
+        Some(9),
+    )?;
+    expect(
+        &rt,
+        alloc,
+        &[Void, Name, Open, Close, OpenBrace, Do, Semicolon, Semicolon],
+        Some(7),
+    )?;
+    expect(
+        &rt,
+        alloc,
+        &[Void, Name, Open, Close, OpenBrace, Name, Colon, CloseBrace],
+        Some(7),
+    )?;
+    expect(&rt, alloc, &[OtherKeyword], Some(0))
 }
 
 #[test]
@@ -176,15 +243,15 @@ fn deep_nesting_is_no_trouble(rt: HostRuntime) -> Result<(), Fail> {
     let mut opened = Vec::new(rt.alloc());
     repeated(&mut opened, &[Int, Name, Assign], 1)?;
     repeated(&mut opened, &[Open], 100000)?;
-    assert_eq!(rt; recognise(rt.alloc(), &opened)?, Some(100003));
+    assert_eq!(rt; recognised(rt.alloc(), &opened)?, Some(100003));
     repeated(&mut opened, &[Name], 1)?;
     repeated(&mut opened, &[Close], 100000)?;
     repeated(&mut opened, &[Semicolon], 1)?;
-    assert_eq!(rt; recognise(rt.alloc(), &opened)?, None);
+    assert_eq!(rt; recognised(rt.alloc(), &opened)?, None);
     let mut choices = Vec::new(rt.alloc());
     repeated(&mut choices, &[Void, Name, Open, Close, OpenBrace], 1)?;
     repeated(&mut choices, &[If, Open, Name, Close], 100000)?;
     repeated(&mut choices, &[Semicolon, CloseBrace], 1)?;
-    assert_eq!(rt; recognise(rt.alloc(), &choices)?, None);
+    assert_eq!(rt; recognised(rt.alloc(), &choices)?, None);
     Ok(())
 }

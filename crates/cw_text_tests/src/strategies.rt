@@ -6,6 +6,7 @@ use cw_io::{MemSink, SinkFault, SureSink};
 use cw_lines::TextFault;
 use cw_strategies::{print_env, read_again, read_env};
 use std::alloc::Global;
+use std::process::Abort;
 use std::test::Fail;
 
 const FIRST: &str = "capweave strategy 1\nstates 4\n";
@@ -34,215 +35,238 @@ fn fault_of(alloc: Global, text: &[u8], format: u8) -> Result<Option<TextFault>,
     }
 }
 
+/// Asserts that a text is a strategy's of this format, or has this fault; `rows` is told where it isn't so.
+fn expect_fault(
+    rt: &impl Abort,
+    alloc: Global,
+    text: &[u8],
+    format: u8,
+    want: Option<TextFault>,
+    rows: &str,
+) -> Result<(), Fail> {
+    let fault = fault_of(alloc, text, format)?;
+    assert_eq!(rt; fault, want, "format {format}: {rows}");
+    Ok(())
+}
+
+/// Asserts that each of these texts, behind this head, is a strategy's of this format, or has this fault.
+fn all_read(
+    rt: &impl Abort,
+    alloc: Global,
+    format: u8,
+    head: &str,
+    texts: &[(&str, Option<TextFault>)],
+) -> Result<(), Fail> {
+    for (rows, want) in texts {
+        let text = format!(in alloc; "{head}{rows}")?;
+        expect_fault(rt, alloc, text.as_bytes(), format, *want, rows)?;
+    }
+    Ok(())
+}
+
 #[test]
 fn first_lines(rt: HostRuntime) -> Result<(), Fail> {
     let alloc = rt.alloc();
-    for (format, text, want) in [
-        (1, "", Some(TextFault::Line(1))),
-        (1, "capweave strategy 1", Some(TextFault::Line(1))),
-        (
-            1,
-            "capweave strategy 2\nstates 4\nend\n",
-            Some(TextFault::Line(1)),
-        ),
-        (
-            2,
+    all_read(
+        &rt,
+        alloc,
+        1,
+        "",
+        &[
+            ("", Some(TextFault::Line(1))),
+            ("capweave strategy 1", Some(TextFault::Line(1))),
+            (
+                "capweave strategy 2\nstates 4\nend\n",
+                Some(TextFault::Line(1)),
+            ),
+            (
+                "capweave strategy 01\nstates 4\nend\n",
+                Some(TextFault::Line(1)),
+            ),
+            (
+                "Capweave strategy 1\nstates 4\nend\n",
+                Some(TextFault::Line(1)),
+            ),
+            (
+                " capweave strategy 1\nstates 4\nend\n",
+                Some(TextFault::Line(1)),
+            ),
+            (
+                "capweave strategy 1 \nstates 4\nend\n",
+                Some(TextFault::Line(1)),
+            ),
+            (
+                "capweave strategy 1\r\nstates 4\nend\n",
+                Some(TextFault::Line(1)),
+            ),
+            ("capweave strategy 1\n", Some(TextFault::Line(2))),
+            ("capweave strategy 1\nstates 4", Some(TextFault::Line(2))),
+            (
+                "capweave strategy 1\nstates 04\nend\n",
+                Some(TextFault::Line(2)),
+            ),
+            (
+                "capweave strategy 1\nstates 65536\nend\n",
+                Some(TextFault::Line(2)),
+            ),
+            ("capweave strategy 1\nstates 65535\nend\n", None),
+            (
+                "capweave strategy 1\nstates  4\nend\n",
+                Some(TextFault::Line(2)),
+            ),
+            (
+                "capweave strategy 1\nstates\nend\n",
+                Some(TextFault::Line(2)),
+            ),
+            (
+                "capweave strategy 1\nstates 4 4\nend\n",
+                Some(TextFault::Line(2)),
+            ),
+            (
+                "capweave strategy 1\nstate 4\nend\n",
+                Some(TextFault::Line(2)),
+            ),
+        ],
+    )?;
+    all_read(
+        &rt,
+        alloc,
+        2,
+        "",
+        &[(
             "capweave strategy 1\nstates 4\nend\n",
             Some(TextFault::Line(1)),
-        ),
-        (
-            1,
-            "capweave strategy 01\nstates 4\nend\n",
-            Some(TextFault::Line(1)),
-        ),
-        (
-            1,
-            "Capweave strategy 1\nstates 4\nend\n",
-            Some(TextFault::Line(1)),
-        ),
-        (
-            1,
-            " capweave strategy 1\nstates 4\nend\n",
-            Some(TextFault::Line(1)),
-        ),
-        (
-            1,
-            "capweave strategy 1 \nstates 4\nend\n",
-            Some(TextFault::Line(1)),
-        ),
-        (
-            1,
-            "capweave strategy 1\r\nstates 4\nend\n",
-            Some(TextFault::Line(1)),
-        ),
-        (1, "capweave strategy 1\n", Some(TextFault::Line(2))),
-        (1, "capweave strategy 1\nstates 4", Some(TextFault::Line(2))),
-        (
-            1,
-            "capweave strategy 1\nstates 04\nend\n",
-            Some(TextFault::Line(2)),
-        ),
-        (
-            1,
-            "capweave strategy 1\nstates 65536\nend\n",
-            Some(TextFault::Line(2)),
-        ),
-        (1, "capweave strategy 1\nstates 65535\nend\n", None),
-        (
-            1,
-            "capweave strategy 1\nstates  4\nend\n",
-            Some(TextFault::Line(2)),
-        ),
-        (
-            1,
-            "capweave strategy 1\nstates\nend\n",
-            Some(TextFault::Line(2)),
-        ),
-        (
-            1,
-            "capweave strategy 1\nstates 4 4\nend\n",
-            Some(TextFault::Line(2)),
-        ),
-        (
-            1,
-            "capweave strategy 1\nstate 4\nend\n",
-            Some(TextFault::Line(2)),
-        ),
-    ] {
-        assert_eq!(rt;
-            fault_of(alloc, text.as_bytes(), format)?,
-            want,
-            "{format} {text}"
-        );
-    }
-    Ok(())
+        )],
+    )
 }
 
 #[test]
 fn rows_of_the_first_format(rt: HostRuntime) -> Result<(), Fail> {
-    let alloc = rt.alloc();
-    for (rows, want) in [
-        ("end\n", None),
-        ("", Some(TextFault::Line(3))),
-        ("end", Some(TextFault::Line(3))),
-        ("end\n\n", Some(TextFault::Line(4))),
-        ("end\nx", Some(TextFault::Line(4))),
-        ("end\nend\n", Some(TextFault::Line(4))),
-        ("0 1 2 0x0 bad\n", Some(TextFault::Line(4))),
-        ("0 1 2 0x0 bad", Some(TextFault::Line(3))),
-        ("0 1 2 0x0 bad\nend\n", None),
-        ("00 1 2 0x0 bad\nend\n", Some(TextFault::Line(3))),
-        ("0 01 2 0x0 bad\nend\n", Some(TextFault::Line(3))),
-        ("0 1 02 0x0 bad\nend\n", Some(TextFault::Line(3))),
-        ("0 1 2 0x00 bad\nend\n", Some(TextFault::Line(3))),
-        ("0 1 2 0x bad\nend\n", Some(TextFault::Line(3))),
-        ("0 1 2 0xA bad\nend\n", Some(TextFault::Line(3))),
-        ("0 1 2 0X0 bad\nend\n", Some(TextFault::Line(3))),
-        ("0 1 2 0 bad\nend\n", Some(TextFault::Line(3))),
-        (
-            "0 1 2 0x100000000000000000000000000000000000000000000000000000000000000000000000000000000000000000000000000000000000000000000000000000000 bad\nend\n",
-            Some(TextFault::Line(3)),
-        ),
-        (
-            "0 1 2 0x80000000000000000000000000000000000000000000000000000000000000000000000000000000000000000000000000000000000000000000000000000000 out\nend\n",
-            None,
-        ),
-        ("0 1 2 0-11 bad\nend\n", Some(TextFault::Line(3))),
-        ("0 4294967295 65535 0x0 bad\nend\n", None),
-        ("0 4294967296 2 0x0 bad\nend\n", Some(TextFault::Line(3))),
-        ("0 1 65536 0x0 bad\nend\n", Some(TextFault::Line(3))),
-        ("1 1 2 0x0 bad\nend\n", Some(TextFault::Order(3))),
-        ("4294967295 1 2 0x0 bad\nend\n", Some(TextFault::Order(3))),
-        ("4294967296 1 2 0x0 bad\nend\n", Some(TextFault::Line(3))),
-        (
-            "18446744073709551616 1 2 0x0 bad\nend\n",
-            Some(TextFault::Line(3)),
-        ),
-        (
-            "0 1 2 0x0 bad\n0 1 2 0x0 bad\nend\n",
-            Some(TextFault::Order(4)),
-        ),
-        (
-            "0 1 2 0x0 bad\n2 1 2 0x0 bad\nend\n",
-            Some(TextFault::Order(4)),
-        ),
-        (
-            "0 1 2 0x0 bad\n2 1 2 0x0 Bad\nend\n",
-            Some(TextFault::Line(4)),
-        ),
-        ("0 1 2 0x0 bad\nend\nend\n", Some(TextFault::Line(5))),
-        ("0 1 2 0x0 bad\n\nend\n", Some(TextFault::Line(4))),
-        ("0 1 2 0x0 bad \nend\n", Some(TextFault::Line(3))),
-        ("0 1 2 0x0  bad\nend\n", Some(TextFault::Line(3))),
-        ("0 1 2 0x0 bad 1\nend\n", Some(TextFault::Line(3))),
-        ("0 1 2 0x0 out 1\nend\n", Some(TextFault::Line(3))),
-        ("0 1 2 0x0\nend\n", Some(TextFault::Line(3))),
-        ("0 1 2\nend\n", Some(TextFault::Line(3))),
-        ("0 1 2 0x0 both 1\nend\n", Some(TextFault::Line(3))),
-        ("0 1 2 0x0 both 1 2\nend\n", None),
-        ("0 1 2 0x0 both 1 2 3\nend\n", Some(TextFault::Line(3))),
-        ("0 1 2 0x0 both 01 2\nend\n", Some(TextFault::Line(3))),
-        (
-            "0 1 2 0x0 both 1 4294967296\nend\n",
-            Some(TextFault::Line(3)),
-        ),
-        ("0 1 2 0x0 skip 1\nend\n", Some(TextFault::Line(3))),
-        ("0 1 2 0x0 try 1\nend\n", Some(TextFault::Line(3))),
-        ("0 1 2 0x0 stop 1\nend\n", Some(TextFault::Line(3))),
-        ("0 1 2 0x0 grant\nend\n", Some(TextFault::Line(3))),
-        ("0 1 2 0x0 grant 1 2\nend\n", Some(TextFault::Line(3))),
-        (
-            "0 1 2 0x0 left 1\n1 1 2 0x0 right 0\n2 1 2 0x0 opened 0\n3 1 2 0x0 failed 0\n4 1 2 0x0 refuse 0\n5 1 2 0x0 on 0\n6 1 2 0x0 grant 9\nend\n",
-            None,
-        ),
-        ("0 1 2 0x0 into\nend\n", Some(TextFault::Line(3))),
-        ("0 1 2 0x0 into 7\nend\n", None),
-        ("0 1 2 0x1a into 7 1=5 12=3\nend\n", None),
-        ("0 1 2 0x0 into 7 1=5 1=3\nend\n", Some(TextFault::Line(3))),
-        ("0 1 2 0x0 into 7 12=5 1=3\nend\n", Some(TextFault::Line(3))),
-        ("0 1 2 0x0 into 7 1=5=6\nend\n", Some(TextFault::Line(3))),
-        ("0 1 2 0x0 into 7 1\nend\n", Some(TextFault::Line(3))),
-        ("0 1 2 0x0 into 7 01=5\nend\n", Some(TextFault::Line(3))),
-        ("0 1 2 0x0 into 7 1=05\nend\n", Some(TextFault::Line(3))),
-        ("0 1 2 0x0 into 7 65535=4294967295\nend\n", None),
-        ("0 1 2 0x0 into 7 65536=5\nend\n", Some(TextFault::Line(3))),
-        (
-            "0 1 2 0x0 into 7 1=4294967296\nend\n",
-            Some(TextFault::Line(3)),
-        ),
-        ("0 1 2 0x0 into 7 1=5 \nend\n", Some(TextFault::Line(3))),
-        ("1 1 2 0x0 into 7 2=5 1=5\nend\n", Some(TextFault::Line(3))),
-    ] {
-        let text = format!(in alloc; "{FIRST}{rows}")?;
-        assert_eq!(rt; fault_of(alloc, text.as_bytes(), 1)?, want, "{rows}");
-    }
-    Ok(())
+    all_read(
+        &rt,
+        rt.alloc(),
+        1,
+        FIRST,
+        &[
+            ("end\n", None),
+            ("", Some(TextFault::Line(3))),
+            ("end", Some(TextFault::Line(3))),
+            ("end\n\n", Some(TextFault::Line(4))),
+            ("end\nx", Some(TextFault::Line(4))),
+            ("end\nend\n", Some(TextFault::Line(4))),
+            ("0 1 2 0x0 bad\n", Some(TextFault::Line(4))),
+            ("0 1 2 0x0 bad", Some(TextFault::Line(3))),
+            ("0 1 2 0x0 bad\nend\n", None),
+            ("00 1 2 0x0 bad\nend\n", Some(TextFault::Line(3))),
+            ("0 01 2 0x0 bad\nend\n", Some(TextFault::Line(3))),
+            ("0 1 02 0x0 bad\nend\n", Some(TextFault::Line(3))),
+            ("0 1 2 0x00 bad\nend\n", Some(TextFault::Line(3))),
+            ("0 1 2 0x bad\nend\n", Some(TextFault::Line(3))),
+            ("0 1 2 0xA bad\nend\n", Some(TextFault::Line(3))),
+            ("0 1 2 0X0 bad\nend\n", Some(TextFault::Line(3))),
+            ("0 1 2 0 bad\nend\n", Some(TextFault::Line(3))),
+            (
+                "0 1 2 0x100000000000000000000000000000000000000000000000000000000000000000000000000000000000000000000000000000000000000000000000000000000 bad\nend\n",
+                Some(TextFault::Line(3)),
+            ),
+            (
+                "0 1 2 0x80000000000000000000000000000000000000000000000000000000000000000000000000000000000000000000000000000000000000000000000000000000 out\nend\n",
+                None,
+            ),
+            ("0 1 2 0-11 bad\nend\n", Some(TextFault::Line(3))),
+            ("0 4294967295 65535 0x0 bad\nend\n", None),
+            ("0 4294967296 2 0x0 bad\nend\n", Some(TextFault::Line(3))),
+            ("0 1 65536 0x0 bad\nend\n", Some(TextFault::Line(3))),
+            ("1 1 2 0x0 bad\nend\n", Some(TextFault::Order(3))),
+            ("4294967295 1 2 0x0 bad\nend\n", Some(TextFault::Order(3))),
+            ("4294967296 1 2 0x0 bad\nend\n", Some(TextFault::Line(3))),
+            (
+                "18446744073709551616 1 2 0x0 bad\nend\n",
+                Some(TextFault::Line(3)),
+            ),
+            (
+                "0 1 2 0x0 bad\n0 1 2 0x0 bad\nend\n",
+                Some(TextFault::Order(4)),
+            ),
+            (
+                "0 1 2 0x0 bad\n2 1 2 0x0 bad\nend\n",
+                Some(TextFault::Order(4)),
+            ),
+            (
+                "0 1 2 0x0 bad\n2 1 2 0x0 Bad\nend\n",
+                Some(TextFault::Line(4)),
+            ),
+            ("0 1 2 0x0 bad\nend\nend\n", Some(TextFault::Line(5))),
+            ("0 1 2 0x0 bad\n\nend\n", Some(TextFault::Line(4))),
+            ("0 1 2 0x0 bad \nend\n", Some(TextFault::Line(3))),
+            ("0 1 2 0x0  bad\nend\n", Some(TextFault::Line(3))),
+            ("0 1 2 0x0 bad 1\nend\n", Some(TextFault::Line(3))),
+            ("0 1 2 0x0 out 1\nend\n", Some(TextFault::Line(3))),
+            ("0 1 2 0x0\nend\n", Some(TextFault::Line(3))),
+            ("0 1 2\nend\n", Some(TextFault::Line(3))),
+            ("0 1 2 0x0 both 1\nend\n", Some(TextFault::Line(3))),
+            ("0 1 2 0x0 both 1 2\nend\n", None),
+            ("0 1 2 0x0 both 1 2 3\nend\n", Some(TextFault::Line(3))),
+            ("0 1 2 0x0 both 01 2\nend\n", Some(TextFault::Line(3))),
+            (
+                "0 1 2 0x0 both 1 4294967296\nend\n",
+                Some(TextFault::Line(3)),
+            ),
+            ("0 1 2 0x0 skip 1\nend\n", Some(TextFault::Line(3))),
+            ("0 1 2 0x0 try 1\nend\n", Some(TextFault::Line(3))),
+            ("0 1 2 0x0 stop 1\nend\n", Some(TextFault::Line(3))),
+            ("0 1 2 0x0 grant\nend\n", Some(TextFault::Line(3))),
+            ("0 1 2 0x0 grant 1 2\nend\n", Some(TextFault::Line(3))),
+            (
+                "0 1 2 0x0 left 1\n1 1 2 0x0 right 0\n2 1 2 0x0 opened 0\n3 1 2 0x0 failed 0\n4 1 2 0x0 refuse 0\n5 1 2 0x0 on 0\n6 1 2 0x0 grant 9\nend\n",
+                None,
+            ),
+            ("0 1 2 0x0 into\nend\n", Some(TextFault::Line(3))),
+            ("0 1 2 0x0 into 7\nend\n", None),
+            ("0 1 2 0x1a into 7 1=5 12=3\nend\n", None),
+            ("0 1 2 0x0 into 7 1=5 1=3\nend\n", Some(TextFault::Line(3))),
+            ("0 1 2 0x0 into 7 12=5 1=3\nend\n", Some(TextFault::Line(3))),
+            ("0 1 2 0x0 into 7 1=5=6\nend\n", Some(TextFault::Line(3))),
+            ("0 1 2 0x0 into 7 1\nend\n", Some(TextFault::Line(3))),
+            ("0 1 2 0x0 into 7 01=5\nend\n", Some(TextFault::Line(3))),
+            ("0 1 2 0x0 into 7 1=05\nend\n", Some(TextFault::Line(3))),
+            ("0 1 2 0x0 into 7 65535=4294967295\nend\n", None),
+            ("0 1 2 0x0 into 7 65536=5\nend\n", Some(TextFault::Line(3))),
+            (
+                "0 1 2 0x0 into 7 1=4294967296\nend\n",
+                Some(TextFault::Line(3)),
+            ),
+            ("0 1 2 0x0 into 7 1=5 \nend\n", Some(TextFault::Line(3))),
+            ("1 1 2 0x0 into 7 2=5 1=5\nend\n", Some(TextFault::Line(3))),
+        ],
+    )
 }
 
 #[test]
 fn rows_of_the_second_format(rt: HostRuntime) -> Result<(), Fail> {
-    let alloc = rt.alloc();
-    for (rows, want) in [
-        (
-            "0 1 2 0x100000000000000000000000000000000000000000000000000000000000000000000000000000000000000000000000000000000000000000000000000000000 bad\nend\n",
-            Some(TextFault::Line(3)),
-        ),
-        ("0 1 2 512 bad\nend\n", None),
-        ("0 1 2 1023 bad\nend\n", None),
-        ("0 1 2 1024 bad\nend\n", Some(TextFault::Line(3))),
-        (
-            "0 1 2 0xf bad\n1 1 2 0-11 bad\n2 1 2 0+2+640-1023 bad\n3 1 2 0x0 out\nend\n",
-            None,
-        ),
-        ("0 1 2 0-3 bad\nend\n", Some(TextFault::Line(3))),
-        ("0 1 2 0xfff bad\nend\n", Some(TextFault::Line(3))),
-        ("0 1 2 11-0 bad\nend\n", Some(TextFault::Line(3))),
-        ("0 1 2 2+0 bad\nend\n", Some(TextFault::Line(3))),
-    ] {
-        let text = format!(in alloc; "{SECOND}{rows}")?;
-        assert_eq!(rt; fault_of(alloc, text.as_bytes(), 2)?, want, "{rows}");
-    }
-    Ok(())
+    all_read(
+        &rt,
+        rt.alloc(),
+        2,
+        SECOND,
+        &[
+            (
+                "0 1 2 0x100000000000000000000000000000000000000000000000000000000000000000000000000000000000000000000000000000000000000000000000000000000 bad\nend\n",
+                Some(TextFault::Line(3)),
+            ),
+            ("0 1 2 512 bad\nend\n", None),
+            ("0 1 2 1023 bad\nend\n", None),
+            ("0 1 2 1024 bad\nend\n", Some(TextFault::Line(3))),
+            (
+                "0 1 2 0xf bad\n1 1 2 0-11 bad\n2 1 2 0+2+640-1023 bad\n3 1 2 0x0 out\nend\n",
+                None,
+            ),
+            ("0 1 2 0-3 bad\nend\n", Some(TextFault::Line(3))),
+            ("0 1 2 0xfff bad\nend\n", Some(TextFault::Line(3))),
+            ("0 1 2 11-0 bad\nend\n", Some(TextFault::Line(3))),
+            ("0 1 2 2+0 bad\nend\n", Some(TextFault::Line(3))),
+        ],
+    )
 }
 
 /// A set with the number 511 is one of format 1, a set with the number 512 one of format 2 alone.
@@ -260,7 +284,20 @@ fn largest_numbers_of_a_set(rt: HostRuntime) -> Result<(), Fail> {
             text.push('0')?;
         }
         text.push_str(" bad\nend\n")?;
-        assert_eq!(rt; fault_of(alloc, text.as_bytes(), format)?, want, "{text}");
+        expect_fault(&rt, alloc, text.as_bytes(), format, want, &text)?;
+    }
+    Ok(())
+}
+
+/// Asserts that these rows are a strategy's in both formats, and that its text in the other format and without its last LF is none.
+fn reads_whole(rt: &impl Abort, alloc: Global, rows: &str, last: u32) -> Result<(), Fail> {
+    for (head, format, other) in [(FIRST, 1, 2), (SECOND, 2, 1)] {
+        let text = format!(in alloc; "{head}{rows}end\n")?;
+        let bytes = text.as_bytes();
+        expect_fault(rt, alloc, bytes, format, None, rows)?;
+        expect_fault(rt, alloc, bytes, other, Some(TextFault::Line(1)), rows)?;
+        let cut = &bytes[..bytes.len() - 1];
+        expect_fault(rt, alloc, cut, format, Some(TextFault::Line(last)), rows)?;
     }
     Ok(())
 }
@@ -270,26 +307,18 @@ fn largest_numbers_of_a_set(rt: HostRuntime) -> Result<(), Fail> {
 #[test]
 fn whole_strategies(rt: HostRuntime) -> Result<(), Fail> {
     let alloc = rt.alloc();
-    for (rows, last) in [
-        (
-            "0 5 0 0x0 bad\n1 9 3 0x0 bad\n2 8 3 0x0 grant 1\n3 7 3 0x0 both 1 2\n4 6 3 0x0 on 3\n5 5 1 0x0 on 4\n6 4 0 0x0 grant 5\n7 4 1 0x0 grant 5\n8 3 0 0x0 both 0 6\n9 3 1 0x0 both 5 7\n10 2 0 0x0 on 8\n11 2 1 0x0 on 9\n12 1 0 0x0 grant 11\n13 0 0 0x0 both 10 12\n",
-            17,
-        ),
-        (
-            "0 5 0 0x0 bad\n1 4 0 0x0 refuse 0\n2 3 0 0x0 both 0 1\n3 2 0 0x0 on 2\n4 1 0 0x0 refuse 3\n5 0 0 0x0 both 3 4\n",
-            9,
-        ),
-    ] {
-        for (head, format, other) in [(FIRST, 1, 2), (SECOND, 2, 1)] {
-            let text = format!(in alloc; "{head}{rows}end\n")?;
-            let bytes = text.as_bytes();
-            assert_eq!(rt; fault_of(alloc, bytes, format)?, None);
-            assert_eq!(rt; fault_of(alloc, bytes, other)?, Some(TextFault::Line(1)));
-            let cut = &bytes[..bytes.len() - 1];
-            assert_eq!(rt; fault_of(alloc, cut, format)?, Some(TextFault::Line(last)));
-        }
-    }
-    Ok(())
+    reads_whole(
+        &rt,
+        alloc,
+        "0 5 0 0x0 bad\n1 9 3 0x0 bad\n2 8 3 0x0 grant 1\n3 7 3 0x0 both 1 2\n4 6 3 0x0 on 3\n5 5 1 0x0 on 4\n6 4 0 0x0 grant 5\n7 4 1 0x0 grant 5\n8 3 0 0x0 both 0 6\n9 3 1 0x0 both 5 7\n10 2 0 0x0 on 8\n11 2 1 0x0 on 9\n12 1 0 0x0 grant 11\n13 0 0 0x0 both 10 12\n",
+        17,
+    )?;
+    reads_whole(
+        &rt,
+        alloc,
+        "0 5 0 0x0 bad\n1 4 0 0x0 refuse 0\n2 3 0 0x0 both 0 1\n3 2 0 0x0 on 2\n4 1 0 0x0 refuse 3\n5 0 0 0x0 both 3 4\n",
+        9,
+    )
 }
 
 /// A text of so many rows that are bad, and of one more row with so many backs.
@@ -323,7 +352,8 @@ fn most_rows(rt: HostRuntime) -> Result<(), Fail> {
         (65530, 6, Some(TextFault::Limit(65533))),
     ] {
         let text = long_text(alloc, bad, backs)?;
-        assert_eq!(rt; fault_of(alloc, &text, 1)?, want, "{bad} {backs}");
+        let fault = fault_of(alloc, &text, 1)?;
+        assert_eq!(rt; fault, want, "{bad} {backs}");
     }
     Ok(())
 }

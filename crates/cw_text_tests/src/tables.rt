@@ -6,6 +6,7 @@ use cw_lines::TextFault;
 use cw_rights::{Descriptor, Limit, Policy, Rights};
 use cw_tabletext::{print_tables, read_tables};
 use std::alloc::Global;
+use std::process::Abort;
 use std::test::Fail;
 
 /// A policy of one descriptor, by its name, with these rights kept by its limits.
@@ -91,206 +92,206 @@ fn edited(alloc: Global, format: u8, at: usize, new: &str) -> Result<Vec<u8>, Fa
     Ok(text)
 }
 
-/// The lines before the rows.
-#[test]
-fn lines_of_the_head(rt: HostRuntime) -> Result<(), Fail> {
-    let alloc = rt.alloc();
-    for (at, new, want) in [
-        (1, "", Some(TextFault::Line(1))),
-        (1, "#include \"capweave.h\" \n", Some(TextFault::Line(1))),
-        (1, "#include <capweave.h>\n", Some(TextFault::Line(1))),
-        (1, "\n#include \"capweave.h\"\n", Some(TextFault::Line(1))),
-        (2, "#define CW_LIMITS(X)\n", Some(TextFault::Line(2))),
-        (
-            2,
-            "#define CW_LIMITS(X) X(0,fd,0x2)\n",
-            Some(TextFault::Line(2)),
-        ),
-        (
-            2,
-            "#define CW_LIMITS(X) X(0,df,0x1)\n",
-            Some(TextFault::Line(2)),
-        ),
-        (
-            2,
-            "#define CW_LIMITS(X) X(1,fd,0x1)\n",
-            Some(TextFault::Line(2)),
-        ),
-        (
-            2,
-            "#define CW_LIMITS(X) X(0,fd,0x1) X(1,fd,0x1)\n",
-            Some(TextFault::Line(2)),
-        ),
-        (3, "CW_TABLE(3,4,0)\n", Some(TextFault::Line(3))),
-        (3, "CW_TABLE(12,4,0)\n", Some(TextFault::Line(3))),
-        (3, "CW_TABLE(0,4,0)\n", Some(TextFault::Line(3))),
-    ] {
-        for format in [1, 2] {
-            let text = edited(alloc, format, at, new)?;
-            let policy = policy(alloc, format, "fd", &[1])?;
-            assert_eq!(rt;
-                fault_of(alloc, &text, &policy)?,
-                want,
-                "{format} {at} {new}"
-            );
+/// Asserts that the table's text with this line put in for that of this number is a table's in these formats, or has this fault.
+fn all_read(
+    rt: &impl Abort,
+    alloc: Global,
+    formats: &[u8],
+    edits: &[(usize, &str, Option<TextFault>)],
+) -> Result<(), Fail> {
+    for format in formats {
+        let policy = policy(alloc, *format, "fd", &[1])?;
+        for (at, new, want) in edits {
+            let text = edited(alloc, *format, *at, new)?;
+            let fault = fault_of(alloc, &text, &policy)?;
+            assert_eq!(rt; fault, *want, "{format} {at} {new}");
         }
     }
     Ok(())
+}
+
+/// The lines before the rows.
+#[test]
+fn lines_of_the_head(rt: HostRuntime) -> Result<(), Fail> {
+    all_read(
+        &rt,
+        rt.alloc(),
+        &[1, 2],
+        &[
+            (1, "", Some(TextFault::Line(1))),
+            (1, "#include \"capweave.h\" \n", Some(TextFault::Line(1))),
+            (1, "#include <capweave.h>\n", Some(TextFault::Line(1))),
+            (1, "\n#include \"capweave.h\"\n", Some(TextFault::Line(1))),
+            (2, "#define CW_LIMITS(X)\n", Some(TextFault::Line(2))),
+            (
+                2,
+                "#define CW_LIMITS(X) X(0,fd,0x2)\n",
+                Some(TextFault::Line(2)),
+            ),
+            (
+                2,
+                "#define CW_LIMITS(X) X(0,df,0x1)\n",
+                Some(TextFault::Line(2)),
+            ),
+            (
+                2,
+                "#define CW_LIMITS(X) X(1,fd,0x1)\n",
+                Some(TextFault::Line(2)),
+            ),
+            (
+                2,
+                "#define CW_LIMITS(X) X(0,fd,0x1) X(1,fd,0x1)\n",
+                Some(TextFault::Line(2)),
+            ),
+            (3, "CW_TABLE(3,4,0)\n", Some(TextFault::Line(3))),
+            (3, "CW_TABLE(12,4,0)\n", Some(TextFault::Line(3))),
+            (3, "CW_TABLE(0,4,0)\n", Some(TextFault::Line(3))),
+        ],
+    )
 }
 
 /// Memories by number, state and promise, and places.
 #[test]
 fn lines_of_memories(rt: HostRuntime) -> Result<(), Fail> {
-    let alloc = rt.alloc();
-    for (at, new, want) in [
-        (4, "CW_MEM(1,0,0xf)\n", Some(TextFault::Order(4))),
-        (4, "CW_MEM(0,65536,0xf)\n", Some(TextFault::Line(4))),
-        (4, "CW_MEM(4294967296,0,0xf)\n", Some(TextFault::Line(4))),
-        (4, "CW_MEM(4294967295,0,0xf)\n", Some(TextFault::Order(4))),
-        (4, "CW_MEM(0,0,0xF)\n", Some(TextFault::Line(4))),
-        (4, "CW_MEM(0,0,0x0f)\n", Some(TextFault::Line(4))),
-        (4, "CW_MEM(0,0,0-3)\n", Some(TextFault::Line(4))),
-        (4, "CW_MEM(0,0,1024)\n", Some(TextFault::Line(4))),
-        (4, "CW_MEM(00,0,0xf)\n", Some(TextFault::Line(4))),
-        (5, "CW_MEM(1,0,0xf)\n", Some(TextFault::Order(5))),
-        (5, "CW_MEM(2,1,0xf)\n", Some(TextFault::Order(5))),
-        (5, "CW_MEM(1,0,0xe)\n", Some(TextFault::Order(5))),
-        (6, "CW_LIVE(2,0)\n", Some(TextFault::Order(7))),
-        (6, "CW_LIVE(3,0)\n", Some(TextFault::Order(7))),
-        (
-            6,
-            "CW_LIVE(0,0)\nCW_MEM(2,2,0xf)\n",
-            Some(TextFault::Order(7)),
-        ),
-        (6, "CW_LIVE(4294967296,0)\n", Some(TextFault::Line(6))),
-        (6, "CW_LIVE(-1,0)\n", Some(TextFault::Line(6))),
-        (6, "CW_LIVE( 0,0)\n", Some(TextFault::Line(6))),
-        (6, "CW_LIVE(0,0);\n", Some(TextFault::Line(6))),
-        (6, "CW_LIFE(0,0)\n", Some(TextFault::Line(6))),
-        (6, "CW_LIVE(0)\n", Some(TextFault::Line(6))),
-        (6, "CW_LIVE()\n", Some(TextFault::Line(6))),
-        (6, "CW_LIVE\n", Some(TextFault::Line(6))),
-        (6, "CW_LIVE(0,0\n", Some(TextFault::Line(6))),
-        (6, "CW_LIVE(0,CW_NONE)\n", Some(TextFault::Line(6))),
-        (6, "", None),
-    ] {
-        for format in [1, 2] {
-            let text = edited(alloc, format, at, new)?;
-            let policy = policy(alloc, format, "fd", &[1])?;
-            assert_eq!(rt;
-                fault_of(alloc, &text, &policy)?,
-                want,
-                "{format} {at} {new}"
-            );
-        }
-    }
-    Ok(())
+    all_read(
+        &rt,
+        rt.alloc(),
+        &[1, 2],
+        &[
+            (4, "CW_MEM(1,0,0xf)\n", Some(TextFault::Order(4))),
+            (4, "CW_MEM(0,65536,0xf)\n", Some(TextFault::Line(4))),
+            (4, "CW_MEM(4294967296,0,0xf)\n", Some(TextFault::Line(4))),
+            (4, "CW_MEM(4294967295,0,0xf)\n", Some(TextFault::Order(4))),
+            (4, "CW_MEM(0,0,0xF)\n", Some(TextFault::Line(4))),
+            (4, "CW_MEM(0,0,0x0f)\n", Some(TextFault::Line(4))),
+            (4, "CW_MEM(0,0,0-3)\n", Some(TextFault::Line(4))),
+            (4, "CW_MEM(0,0,1024)\n", Some(TextFault::Line(4))),
+            (4, "CW_MEM(00,0,0xf)\n", Some(TextFault::Line(4))),
+            (5, "CW_MEM(1,0,0xf)\n", Some(TextFault::Order(5))),
+            (5, "CW_MEM(2,1,0xf)\n", Some(TextFault::Order(5))),
+            (5, "CW_MEM(1,0,0xe)\n", Some(TextFault::Order(5))),
+            (6, "CW_LIVE(2,0)\n", Some(TextFault::Order(7))),
+            (6, "CW_LIVE(3,0)\n", Some(TextFault::Order(7))),
+            (
+                6,
+                "CW_LIVE(0,0)\nCW_MEM(2,2,0xf)\n",
+                Some(TextFault::Order(7)),
+            ),
+            (6, "CW_LIVE(4294967296,0)\n", Some(TextFault::Line(6))),
+            (6, "CW_LIVE(-1,0)\n", Some(TextFault::Line(6))),
+            (6, "CW_LIVE( 0,0)\n", Some(TextFault::Line(6))),
+            (6, "CW_LIVE(0,0);\n", Some(TextFault::Line(6))),
+            (6, "CW_LIFE(0,0)\n", Some(TextFault::Line(6))),
+            (6, "CW_LIVE(0)\n", Some(TextFault::Line(6))),
+            (6, "CW_LIVE()\n", Some(TextFault::Line(6))),
+            (6, "CW_LIVE\n", Some(TextFault::Line(6))),
+            (6, "CW_LIVE(0,0\n", Some(TextFault::Line(6))),
+            (6, "CW_LIVE(0,CW_NONE)\n", Some(TextFault::Line(6))),
+            (6, "", None),
+        ],
+    )
 }
 
 /// Rows by kind and key, and the end.
 #[test]
 fn lines_of_rows(rt: HostRuntime) -> Result<(), Fail> {
-    let alloc = rt.alloc();
-    for (at, new, want) in [
-        (8, "CW_TRY(1,256,0,1,0)\n", Some(TextFault::Line(8))),
-        (8, "CW_TRY(1,255,0,CW_NONE,CW_NONE)\n", None),
-        (8, "CW_TRY(1,0,0,cw_none,0)\n", Some(TextFault::Line(8))),
-        (
-            8,
-            "CW_TRY(1,0,0,1,CW_NONE)\nCW_TRY(1,0,0,0,CW_NONE)\n",
-            Some(TextFault::Order(9)),
-        ),
-        (
-            8,
-            "CW_TRY(1,0,0,1,CW_NONE)\nCW_LIVE(1,0)\n",
-            Some(TextFault::Order(9)),
-        ),
-        (
-            8,
-            "CW_TRY(1,0,0,1,CW_NONE)\nCW_TRY(0,1,2,1,0)\n",
-            Some(TextFault::Order(9)),
-        ),
-        (
-            9,
-            "CW_AT(1,1,1)\nCW_AT(1,1,2)\n",
-            Some(TextFault::Order(10)),
-        ),
-        (9, "CW_CLOSED(1,1,1)\n", Some(TextFault::Order(10))),
-        (12, "CW_INTO(4,2,0,0)\n", Some(TextFault::Line(12))),
-        (12, "CW_INTO(4,01,0,0)\n", Some(TextFault::Line(12))),
-        (
-            12,
-            "CW_INTO(4,1,0,0)\nCW_INTO(4,0,0,0)\n",
-            Some(TextFault::Order(13)),
-        ),
-        (12, "CW_INTO(4,0,0,0)\nCW_INTO(4,1,0,0)\n", None),
-        (13, "CW_BACK(4,1,0,65536,1)\n", Some(TextFault::Line(13))),
-        (
-            13,
-            "CW_BACK(4,1,0,3,1)\nCW_BACK(4,1,0,3,2)\n",
-            Some(TextFault::Order(14)),
-        ),
-        (13, "CW_BACK(4,1,0,3,1)\nCW_BACK(4,1,0,4,2)\n", None),
-        (
-            13,
-            "CW_BACK(4,1,0,3,1)\nCW_MEM(02,2,0xf)\n",
-            Some(TextFault::Line(14)),
-        ),
-        (14, "", Some(TextFault::Line(14))),
-        (14, "CW_DONE", Some(TextFault::Line(14))),
-        (14, "CW_DONE\n\n", Some(TextFault::Line(15))),
-        (14, "CW_DONE\nx", Some(TextFault::Line(15))),
-        (14, "CW_DONE\nCW_DONE\n", Some(TextFault::Line(15))),
-        (14, "CW_DONE()\n", Some(TextFault::Line(14))),
-        (14, "cw_done\n", Some(TextFault::Line(14))),
-    ] {
-        for format in [1, 2] {
-            let text = edited(alloc, format, at, new)?;
-            let policy = policy(alloc, format, "fd", &[1])?;
-            assert_eq!(rt;
-                fault_of(alloc, &text, &policy)?,
-                want,
-                "{format} {at} {new}"
-            );
-        }
-    }
-    Ok(())
+    all_read(
+        &rt,
+        rt.alloc(),
+        &[1, 2],
+        &[
+            (8, "CW_TRY(1,256,0,1,0)\n", Some(TextFault::Line(8))),
+            (8, "CW_TRY(1,255,0,CW_NONE,CW_NONE)\n", None),
+            (8, "CW_TRY(1,0,0,cw_none,0)\n", Some(TextFault::Line(8))),
+            (
+                8,
+                "CW_TRY(1,0,0,1,CW_NONE)\nCW_TRY(1,0,0,0,CW_NONE)\n",
+                Some(TextFault::Order(9)),
+            ),
+            (
+                8,
+                "CW_TRY(1,0,0,1,CW_NONE)\nCW_LIVE(1,0)\n",
+                Some(TextFault::Order(9)),
+            ),
+            (
+                8,
+                "CW_TRY(1,0,0,1,CW_NONE)\nCW_TRY(0,1,2,1,0)\n",
+                Some(TextFault::Order(9)),
+            ),
+            (
+                9,
+                "CW_AT(1,1,1)\nCW_AT(1,1,2)\n",
+                Some(TextFault::Order(10)),
+            ),
+            (9, "CW_CLOSED(1,1,1)\n", Some(TextFault::Order(10))),
+            (12, "CW_INTO(4,2,0,0)\n", Some(TextFault::Line(12))),
+            (12, "CW_INTO(4,01,0,0)\n", Some(TextFault::Line(12))),
+            (
+                12,
+                "CW_INTO(4,1,0,0)\nCW_INTO(4,0,0,0)\n",
+                Some(TextFault::Order(13)),
+            ),
+            (12, "CW_INTO(4,0,0,0)\nCW_INTO(4,1,0,0)\n", None),
+            (13, "CW_BACK(4,1,0,65536,1)\n", Some(TextFault::Line(13))),
+            (
+                13,
+                "CW_BACK(4,1,0,3,1)\nCW_BACK(4,1,0,3,2)\n",
+                Some(TextFault::Order(14)),
+            ),
+            (13, "CW_BACK(4,1,0,3,1)\nCW_BACK(4,1,0,4,2)\n", None),
+            (
+                13,
+                "CW_BACK(4,1,0,3,1)\nCW_MEM(02,2,0xf)\n",
+                Some(TextFault::Line(14)),
+            ),
+            (14, "", Some(TextFault::Line(14))),
+            (14, "CW_DONE", Some(TextFault::Line(14))),
+            (14, "CW_DONE\n\n", Some(TextFault::Line(15))),
+            (14, "CW_DONE\nx", Some(TextFault::Line(15))),
+            (14, "CW_DONE\nCW_DONE\n", Some(TextFault::Line(15))),
+            (14, "CW_DONE()\n", Some(TextFault::Line(14))),
+            (14, "cw_done\n", Some(TextFault::Line(14))),
+        ],
+    )
 }
 
 /// Versions, and sets as each format spells them.
 #[test]
 fn lines_of_one_format(rt: HostRuntime) -> Result<(), Fail> {
     let alloc = rt.alloc();
-    for (format, at, new, want) in [
-        (1, 3, "CW_TABLE(1,65536,0)\n", Some(TextFault::Line(3))),
-        (1, 3, "CW_TABLE(1,04,0)\n", Some(TextFault::Line(3))),
-        (1, 3, "CW_TABLE(1,4,4294967296)\n", Some(TextFault::Line(3))),
-        (1, 3, "CW_TABLE(1,4)\n", Some(TextFault::Line(3))),
-        (1, 3, "CW_TABLE(1,4,0,0)\n", Some(TextFault::Line(3))),
-        (1, 3, "CW_TABLE(1,4,0) \n", Some(TextFault::Line(3))),
-        (1, 4, "CW_MEM(0,0,15)\n", Some(TextFault::Line(4))),
-        (2, 4, "CW_MEM(0,0,15)\n", None),
-        (1, 4, "CW_MEM(0,0,512)\n", Some(TextFault::Line(4))),
-        (2, 4, "CW_MEM(0,0,512)\n", None),
-        (1, 4, "CW_MEM(0,0,0-11)\n", Some(TextFault::Line(4))),
-        (2, 4, "CW_MEM(0,0,0-11)\n", None),
-        (1, 4, "CW_MEM(0,0,0xfff)\n", None),
-        (2, 4, "CW_MEM(0,0,0xfff)\n", Some(TextFault::Line(4))),
-        (1, 5, "CW_MEM(1,0,0x10)\n", None),
-        (2, 5, "CW_MEM(1,0,0x10)\n", Some(TextFault::Line(5))),
-        (2, 3, "CW_TABLE(2,65536,0)\n", Some(TextFault::Line(3))),
-        (2, 3, "CW_TABLE(2,04,0)\n", Some(TextFault::Line(3))),
-        (2, 3, "CW_TABLE(2,4,4294967296)\n", Some(TextFault::Line(3))),
-    ] {
-        let text = edited(alloc, format, at, new)?;
-        let policy = policy(alloc, format, "fd", &[1])?;
-        assert_eq!(rt;
-            fault_of(alloc, &text, &policy)?,
-            want,
-            "{format} {at} {new}"
-        );
-    }
-    Ok(())
+    all_read(
+        &rt,
+        alloc,
+        &[1],
+        &[
+            (3, "CW_TABLE(1,65536,0)\n", Some(TextFault::Line(3))),
+            (3, "CW_TABLE(1,04,0)\n", Some(TextFault::Line(3))),
+            (3, "CW_TABLE(1,4,4294967296)\n", Some(TextFault::Line(3))),
+            (3, "CW_TABLE(1,4)\n", Some(TextFault::Line(3))),
+            (3, "CW_TABLE(1,4,0,0)\n", Some(TextFault::Line(3))),
+            (3, "CW_TABLE(1,4,0) \n", Some(TextFault::Line(3))),
+            (4, "CW_MEM(0,0,15)\n", Some(TextFault::Line(4))),
+            (4, "CW_MEM(0,0,512)\n", Some(TextFault::Line(4))),
+            (4, "CW_MEM(0,0,0-11)\n", Some(TextFault::Line(4))),
+            (4, "CW_MEM(0,0,0xfff)\n", None),
+            (5, "CW_MEM(1,0,0x10)\n", None),
+        ],
+    )?;
+    all_read(
+        &rt,
+        alloc,
+        &[2],
+        &[
+            (4, "CW_MEM(0,0,15)\n", None),
+            (4, "CW_MEM(0,0,512)\n", None),
+            (4, "CW_MEM(0,0,0-11)\n", None),
+            (4, "CW_MEM(0,0,0xfff)\n", Some(TextFault::Line(4))),
+            (5, "CW_MEM(1,0,0x10)\n", Some(TextFault::Line(5))),
+            (3, "CW_TABLE(2,65536,0)\n", Some(TextFault::Line(3))),
+            (3, "CW_TABLE(2,04,0)\n", Some(TextFault::Line(3))),
+            (3, "CW_TABLE(2,4,4294967296)\n", Some(TextFault::Line(3))),
+        ],
+    )
 }
 
 /// So many rows, the last three of returns.
@@ -345,23 +346,32 @@ const WIDE: &str =
 const KEPT: &str =
     "#include \"capweave.h\"\n#define CW_LIMITS(X) X(0,0,0x5) X(1,0,0x6)\nCW_TABLE(2,12,1)\nCW_MEM(0,1,0-11)\nCW_MEM(1,2,0-11)\nCW_MEM(2,7,0-11)\nCW_LIVE(0,1)\nCW_LIVE(2,1)\nCW_LIVE(4,1)\nCW_LIVE(6,1)\nCW_LIVE(7,1)\nCW_LIVE(9,1)\nCW_LIVE(10,1)\nCW_LIVE(11,0)\nCW_LIVE(13,0)\nCW_LIVE(14,2)\nCW_LIVE(15,2)\nCW_LIVE(16,2)\nCW_TRY(1,1,1,0,CW_NONE)\nCW_AT(1,0,2)\nCW_DONE\n";
 
+/// Asserts that a text is a table's under a policy, or has this fault.
+fn expect_table(
+    rt: &impl Abort,
+    alloc: Global,
+    text: &str,
+    policy: &Policy,
+    want: Option<TextFault>,
+) -> Result<(), Fail> {
+    let fault = fault_of(alloc, text.as_bytes(), policy)?;
+    assert_eq!(rt; fault, want, "{text}");
+    Ok(())
+}
+
 /// Tables of woven programs, in both formats.
 #[test]
 fn tables_of_programs(rt: HostRuntime) -> Result<(), Fail> {
     let alloc = rt.alloc();
-    for text in [ENTERED, SPLIT, PROMISED] {
-        let policy = policy(alloc, 1, "fd", &[])?;
-        assert_eq!(rt; fault_of(alloc, text.as_bytes(), &policy)?, None);
-    }
+    let none = policy(alloc, 1, "fd", &[])?;
+    expect_table(&rt, alloc, ENTERED, &none, None)?;
+    expect_table(&rt, alloc, SPLIT, &none, None)?;
+    expect_table(&rt, alloc, PROMISED, &none, None)?;
     let wide = policy(alloc, 2, "0", &[1, 2, 0, 3])?;
-    assert_eq!(rt; fault_of(alloc, WIDE.as_bytes(), &wide)?, None);
+    expect_table(&rt, alloc, WIDE, &wide, None)?;
     let kept = policy(alloc, 2, "0", &[5, 6])?;
-    assert_eq!(rt; fault_of(alloc, KEPT.as_bytes(), &kept)?, None);
-    assert_eq!(rt;
-        fault_of(alloc, KEPT.as_bytes(), &wide)?,
-        Some(TextFault::Line(2))
-    );
-    Ok(())
+    expect_table(&rt, alloc, KEPT, &kept, None)?;
+    expect_table(&rt, alloc, KEPT, &wide, Some(TextFault::Line(2)))
 }
 
 /// A sink gets the whole of a short text in one piece, or half of it where it fails.
