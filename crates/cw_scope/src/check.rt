@@ -3,10 +3,11 @@
 ghost use Rattle.std.specs.Prelude.{◌≡◌, None, map, IfOk, IfErr};
 ghost use Rattle.cw_syntax.specs.Trees.{definition_of, file_of};
 ghost use Rattle.cw_scope.specs.Rules.{least, second_label, wrong_form};
-ghost use Rattle.cw_scope.specs.Faults.{no_main, two_functions, two_labels, arity, call_form, main_called, reserved_name, jump, limit, scope_fault, IsDue};
+ghost use Rattle.cw_scope.specs.Faults.{no_main, two_functions, two_labels, arity, call_form, main_called, reserved_name, jump, limit, ◌or_else◌, scope_fault, IsDue};
 ghost use Rattle.cw_scope.specs.Held.{placed_of, whole_of, tree_at};
 ghost use Rattle.cw_scope.specs.Mentions.{every_call};
-ghost use Rattle.cw_scope.specs.Walks.{every_node};
+ghost use Rattle.cw_scope.specs.Names.{uses, every_name};
+ghost use Rattle.cw_scope.specs.Walks.{every_node, every_statement, every_whole};
 ghost use Rattle.cw_scope.specs.Known.{IsKnown};
 
 use crate::faults::ScopeFault;
@@ -160,6 +161,72 @@ fn limit(
     }
 }
 
+/// The fault of the first rule on whole functions that the program breaks.
+fn early_fault(
+    alloc: Global,
+    source: &[u8],
+    program: &Program,
+) -> Result<Option<ScopeFault>, AllocError>
+    ensures { IfOk result (λ fault. fault ≡ no_main source.now (file_of program.now)
+        or_else two_functions source.now (file_of program.now)
+        or_else two_labels source.now (file_of program.now)) }
+{
+    let functions = two_functions(alloc, source, program)?;
+    let labels = two_labels(alloc, source, program)?;
+    Ok(no_main(source, program).or(functions).or(labels))
+}
+
+/// The fault that an earlier rule has, or else that of the first rule on calls and names that the program breaks. The statements and
+/// whole expressions are those of the program.
+fn mention_fault(
+    alloc: Global,
+    known: Functions,
+    statements: &[Placed],
+    wholes: &[Whole],
+    early: Option<ScopeFault>,
+) -> Result<Option<ScopeFault>, AllocError>
+    requires known { IsKnown known }
+    requires statements { map placed_of statements.now ≡ every_statement (file_of known.program.now) }
+    requires wholes { map whole_of wholes.now ≡ every_whole (file_of known.program.now) }
+    ensures { IfOk result (λ fault. fault ≡ early
+        or_else arity known.entry.source.now (file_of known.entry.program.now) (every_node (file_of known.entry.program.now))
+        or_else call_form known.entry.source.now (file_of known.entry.program.now) (uses (file_of known.entry.program.now)) (every_whole (file_of known.entry.program.now))
+        or_else main_called known.entry.source.now (every_node (file_of known.entry.program.now))
+        or_else reserved_name known.entry.source.now (every_name (file_of known.entry.program.now))) }
+{
+    let mentioned = every_mention(alloc, &known, wholes)?;
+    let used = uses(alloc, known.program, statements, &mentioned.names)?;
+    let called = call_form(&known, &used, wholes, mentioned.misformed);
+    let names = every_name(known.program, used, &mentioned.calls)?;
+    Ok(
+        early
+            .or(arity(&known, &mentioned.calls))
+            .or(called)
+            .or(main_called(&known, &mentioned.calls))
+            .or(reserved_name(known.source, &names)),
+    )
+}
+
+/// The same, of a program whose statements these are.
+fn called_fault(
+    alloc: Global,
+    source: &[u8],
+    program: &Program,
+    statements: &[Placed],
+    early: Option<ScopeFault>,
+) -> Result<Option<ScopeFault>, AllocError>
+    requires { map placed_of statements.now ≡ every_statement (file_of program.now) }
+    ensures { IfOk result (λ fault. fault ≡ early
+        or_else arity source.now (file_of program.now) (every_node (file_of program.now))
+        or_else call_form source.now (file_of program.now) (uses (file_of program.now)) (every_whole (file_of program.now))
+        or_else main_called source.now (every_node (file_of program.now))
+        or_else reserved_name source.now (every_name (file_of program.now))) }
+{
+    let wholes = every_whole(alloc, program, statements)?;
+    let known = by_names(alloc, source, program)?;
+    mention_fault(alloc, known, statements, &wholes, early)
+}
+
 /// The fault of the first rule that the program breaks.
 fn scope_fault(
     alloc: Global,
@@ -169,24 +236,11 @@ fn scope_fault(
     ensures { IfOk result (λ fault. fault ≡ scope_fault source.now (file_of program.now)) }
 {
     let statements = every_statement(alloc, program)?;
-    let wholes = every_whole(alloc, program, &statements)?;
-    let known = by_names(alloc, source, program)?;
-    let mentioned = every_mention(alloc, &known, &wholes)?;
-    let used = uses(alloc, program, &statements, &mentioned.names)?;
-    let called = call_form(&known, &used, &wholes, mentioned.misformed);
-    let names = every_name(program, used, &mentioned.calls)?;
+    let early = early_fault(alloc, source, program)?;
+    let called = called_fault(alloc, source, program, &statements, early)?;
     let labels = labels(alloc, &statements)?;
-    Ok(
-        no_main(source, program)
-            .or(two_functions(alloc, source, program)?)
-            .or(two_labels(alloc, source, program)?)
-            .or(arity(&known, &mentioned.calls))
-            .or(called)
-            .or(main_called(&known, &mentioned.calls))
-            .or(reserved_name(source, &names))
-            .or(jump(&statements))
-            .or(limit(alloc, source, program, &labels)?),
-    )
+    let limited = limit(alloc, source, program, &labels)?;
+    Ok(called.or(jump(&statements)).or(limited))
 }
 
 /// A program with its source, where the scope rules hold.

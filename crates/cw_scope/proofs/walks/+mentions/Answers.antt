@@ -1,10 +1,11 @@
-use Rattle.std.proofs.Common.{◌≡◌, ◌++◌, map, ap, ap₂, sym, ◌∙◌, subst}
+use Rattle.std.proofs.Common.{◌≡◌, ◌++◌, map, refl, ap, ap₂, sym, ◌∙◌, subst}
 use Rattle.std.specs.Result.{IfOk}
 use Rattle.std.proofs.lemmas.List.{append_assoc}
 use Rattle.cw_syntax.specs.declared.program.Expr.{out-Expr}
 use Rattle.cw_syntax.specs.Trees.{tree_of, trees_of}
 use Rattle.cw_scope.specs.Held.{tree_at}
-use Rattle.cw_scope.specs.Mentions.{own_name, own_call, names_all, calls_all}
+use Rattle.cw_scope.specs.Mentions.{own_name, own_call, names_at, calls_at, names_all, calls_all}
+use Rattle.cw_scope.proofs.Pushed.{further}
 use Rattle.cw_scope.proofs.Mentioned.{names_of, calls_of}
 use Rattle.cw_scope.proofs.walks.+mentions.Goals as goal
 
@@ -27,4 +28,14 @@ put_mentions-returns t c =
     record {
       names = subst (λ l. IfOk c.put_all_mentions.result (λ _. c.put_all_mentions.new.names.items ≡ l)) names c.put_all_mentions.ensures.names;
       calls = subst (λ l. IfOk c.put_all_mentions.result (λ _. map tree_at c.put_all_mentions.new.calls.items ≡ l)) calls c.put_all_mentions.ensures.calls;
+    }
+
+pub put_all_mentions-loop-e-preserved : goal.put_all_mentions-loop-e-preserved
+put_all_mentions-loop-e-preserved t c =
+    let x = c.e-item.result in
+    record {
+      names = further (λ l. names_all (trees_of l)) c.args.parts.now c.loop-e.e-index x _ _ (names_at (tree_of x)) _ c.loop-e-test.true c.e-item.is (λ ys. refl) c.in_ok-put_mentions.ensures.names
+          c.loop-e.invariant.names;
+      calls = further (λ l. calls_all (trees_of l)) c.args.parts.now c.loop-e.e-index x _ _ (calls_at (tree_of x)) _ c.loop-e-test.true c.e-item.is (λ ys. refl) c.in_ok-put_mentions.ensures.calls
+          c.loop-e.invariant.calls;
     }

@@ -1,10 +1,10 @@
-use Rattle.std.proofs.Common.{◌≡◌, ◌++◌, map, ap, sym, ◌∙◌, subst}
+use Rattle.std.proofs.Common.{◌≡◌, ◌++◌, map, refl, ap, sym, ◌∙◌, subst}
 use Rattle.std.specs.Result.{IfOk}
 use Rattle.cw_syntax.specs.declared.program.Expr.{out-Expr}
-use Rattle.cw_syntax.specs.Trees.{trees_of}
-use Rattle.cw_scope.specs.Walks.{nodes_in}
+use Rattle.cw_syntax.specs.Trees.{tree_of, trees_of}
+use Rattle.cw_scope.specs.Walks.{nodes, nodes_in}
 use Rattle.cw_scope.specs.Held.{tree_at}
-use Rattle.cw_scope.proofs.Pushed.{pushed}
+use Rattle.cw_scope.proofs.Pushed.{pushed, further}
 use Rattle.cw_scope.proofs.Shapes.{nodes_of}
 use Rattle.cw_scope.proofs.walks.+nodes.Goals as goal
 
@@ -19,3 +19,8 @@ put_nodes-returns t c =
     ∙ ap (λ l. map tree_at old ++ l) (sym (nodes_of e))
     in
     subst (λ l. IfOk c.put_parts.result (λ _. new ≡ l)) is c.put_parts.ensures
+
+pub put_parts-loop-e-preserved : goal.put_parts-loop-e-preserved
+put_parts-loop-e-preserved t c =
+    let x = c.e-item.result in
+    further (λ l. nodes_in (trees_of l)) c.args.parts.now c.loop-e.e-index x _ _ (nodes (tree_of x)) _ c.loop-e-test.true c.e-item.is (λ ys. refl) c.in_ok-put_nodes.ensures c.loop-e.invariant
