@@ -12,8 +12,6 @@ mod reach;
 mod scopes;
 mod statements;
 mod table;
-#[cfg(test)]
-mod tests;
 
 pub use fit::{FitFault, fit_fault, fits};
 pub use table::{Effect, EffectTable, call_table, effects};

@@ -10,6 +10,8 @@ mod given;
 #[cfg(test)]
 mod listing;
 #[cfg(test)]
+mod pieces;
+#[cfg(test)]
 mod playing;
 #[cfg(test)]
 mod refuting;

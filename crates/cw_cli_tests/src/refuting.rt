@@ -1,31 +1,20 @@
 //! Whole runs of `refute` over files and sinks in memory.
-use crate::given::{ends, ends_over, files, repeated};
-use crate::texts::{REFUSED_ENTER, TWO_LABELS};
+use crate::given::{all_end, all_end_edited};
+use crate::texts::{BOTH, NO_LABEL, ONE_LABEL, REFUSABLE, REFUSED_ENTER, STOPPABLE, TWO_LABELS};
 use std::test::Fail;
 
 const REFUTE: [&str; 4] = ["refute", "p.toml", "s.c", "t"];
 
-const BOTH: &str =
-    "format = 1\n[[at]]\nlabel = \"a\"\nnever = [\"amb\"]\n[[at]]\nlabel = \"b\"\nmust = [\"amb\"]\n";
-
 const BOTH_IN_2: &str =
     "format = 2\n[[at]]\nlabel = \"a\"\nnever = [\"amb\"]\n[[at]]\nlabel = \"b\"\nmust = [\"amb\"]\n";
 
-const REFUSABLE: &str =
-    "format = 1\nrefusable = [\"enter\"]\n[[at]]\nlabel = \"a\"\nnever = [\"amb\"]\n";
-
-const STOPS: &str =
-    "format = 1\nrefusable = [\"enter\"]\non_refusal = \"stop\"\n[[at]]\nlabel = \"a\"\nnever = [\"amb\"]\n";
-
 const SPLITS: &str = "format = 1\nsplit = [\"f\"]\n[[at]]\nlabel = \"a\"\nnever = [\"amb\"]\n";
-
-const ONE: &str = "int main(void){a:;return 0;}";
 
 const TWO: &str = "int main(void){a:;b:;return 0;}";
 
 const CALLS: &str = "void f(int x){;}int main(void){a:;f(1);return 0;}";
 
-/// A policy of four limits, up to the first letter of its rule.
+/// A policy of four limits, with a mark behind the first letter of its rule.
 const FOUR_LIMITS: &str = r#"format = 1
 [[descriptor]]
 name = "0"
@@ -44,163 +33,189 @@ descriptor = "0"
 keep = ["CAP_READ", "CAP_WRITE"]
 [[rule]]
 name = "r"
-bad = "a"#;
+bad = "a@"
+"#;
+
+/// Sixty-four digits.
+const DIGITS: &str = "0000000000000000000000000000000000000000000000000000000000000000";
 
 #[test]
 fn judges_strategies_or_tells_why_not(rt: HostRuntime) -> Result<(), Fail> {
-    let alloc = rt.alloc();
-    let many = repeated(alloc, FOUR_LIMITS, " a", 62, "\"\n")?;
-    let rows = TWO_LABELS.strip_suffix("end\n").unwrap_or("");
-    let mut names_itself = String::from_str(alloc, rows.strip_suffix("12\n").unwrap_or(""))?;
-    names_itself.push_str("13\nend\n")?;
-    let mut in_2 = String::from_str(alloc, "capweave strategy 2")?;
-    in_2.push_str(TWO_LABELS.strip_prefix("capweave strategy 1").unwrap_or(""))?;
-    ends(
+    all_end(
         &rt,
-        alloc,
-        &REFUTE,
-        &[BOTH, TWO, TWO_LABELS],
-        0,
-        "yes\n",
-        "",
-    )?;
-    ends(
-        &rt,
-        alloc,
-        &REFUTE,
-        &[BOTH_IN_2, TWO, &in_2],
-        0,
-        "yes\n",
-        "",
-    )?;
-    ends(
-        &rt,
-        alloc,
-        &REFUTE,
-        &[REFUSABLE, ONE, REFUSED_ENTER],
-        0,
-        "yes\n",
-        "",
-    )?;
-    ends(
-        &rt,
-        alloc,
-        &REFUTE,
-        &[STOPS, ONE, REFUSED_ENTER],
-        1,
-        "row 1 condition 5\n",
-        "",
-    )?;
-    ends(
-        &rt,
-        alloc,
-        &REFUTE,
-        &[BOTH, TWO, &names_itself],
-        1,
-        "row 13 condition 1\n",
-        "",
-    )?;
-    ends(
-        &rt,
-        alloc,
-        &REFUTE,
-        &[BOTH, TWO, "capweave strategy 1\nstates 4\nend\n"],
-        1,
-        "row 0 condition 8\n",
-        "",
-    )?;
-    ends(
-        &rt,
-        alloc,
-        &REFUTE,
-        &[BOTH, TWO, rows],
-        9,
-        "",
-        "strategy: line 17\n",
-    )?;
-    ends(
-        &rt,
-        alloc,
-        &REFUTE,
-        &[BOTH_IN_2, TWO, TWO_LABELS],
-        9,
-        "",
-        "strategy: line 1\n",
-    )?;
-    ends(
-        &rt,
-        alloc,
-        &REFUTE,
+        rt.alloc(),
         &[
-            BOTH,
-            ONE,
-            "capweave strategy 1\nstates 4\n1 5 0 0x0 bad\nend\n",
+            (&REFUTE, &[BOTH, TWO, TWO_LABELS], 0, "yes\n", ""),
+            (
+                &REFUTE,
+                &[REFUSABLE, ONE_LABEL, REFUSED_ENTER],
+                0,
+                "yes\n",
+                "",
+            ),
+            (
+                &REFUTE,
+                &[STOPPABLE, ONE_LABEL, REFUSED_ENTER],
+                1,
+                "row 1 condition 5\n",
+                "",
+            ),
+            (
+                &REFUTE,
+                &[BOTH, TWO, "capweave strategy 1\nstates 4\nend\n"],
+                1,
+                "row 0 condition 8\n",
+                "",
+            ),
+            (
+                &REFUTE,
+                &[BOTH_IN_2, TWO, TWO_LABELS],
+                9,
+                "",
+                "strategy: line 1\n",
+            ),
+            (
+                &REFUTE,
+                &[
+                    BOTH,
+                    ONE_LABEL,
+                    "capweave strategy 1\nstates 4\n1 5 0 0x0 bad\nend\n",
+                ],
+                9,
+                "",
+                "strategy: order 3\n",
+            ),
+            (
+                &REFUTE,
+                &[BOTH, ONE_LABEL, TWO_LABELS],
+                4,
+                "",
+                "policy: no label b\n",
+            ),
+            (
+                &REFUTE,
+                &[SPLITS, CALLS, REFUSED_ENTER],
+                1,
+                "row 0 condition 2\n",
+                "",
+            ),
+            (
+                &REFUTE,
+                &[BOTH, "int main(void){", ""],
+                3,
+                "",
+                "source 1:16: syntax\n",
+            ),
+            (
+                &REFUTE,
+                &["format = 3\n", "", ""],
+                4,
+                "",
+                "policy: kind format\n",
+            ),
         ],
-        9,
-        "",
-        "strategy: order 3\n",
-    )?;
-    ends(
-        &rt,
-        alloc,
-        &REFUTE,
-        &[BOTH, ONE, TWO_LABELS],
-        4,
-        "",
-        "policy: no label b\n",
-    )?;
-    ends(
-        &rt,
-        alloc,
-        &REFUTE,
-        &[&many, TWO, REFUSED_ENTER],
-        5,
-        "",
-        "limit: product states\n",
-    )?;
-    ends(
-        &rt,
-        alloc,
-        &REFUTE,
-        &[SPLITS, CALLS, REFUSED_ENTER],
-        1,
-        "row 0 condition 2\n",
-        "",
-    )?;
-    ends(
-        &rt,
-        alloc,
-        &REFUTE,
-        &[BOTH, "int main(void){", ""],
-        3,
-        "",
-        "source 1:16: syntax\n",
-    )?;
-    ends(
-        &rt,
-        alloc,
-        &REFUTE,
-        &["format = 3\n", "", ""],
-        4,
-        "",
-        "policy: kind format\n",
     )
 }
 
 #[test]
+fn judges_edits_of_a_strategy_of_two_promises(rt: HostRuntime) -> Result<(), Fail> {
+    all_end_edited(
+        &rt,
+        rt.alloc(),
+        &REFUTE,
+        &[BOTH, TWO, TWO_LABELS],
+        &[
+            ("12\nend\n", "13\nend\n", 1, 1, "row 13 condition 1\n", ""),
+            ("end\n", "", 1, 9, "", "strategy: line 17\n"),
+        ],
+    )?;
+    all_end_edited(
+        &rt,
+        rt.alloc(),
+        &REFUTE,
+        &[BOTH_IN_2, TWO, TWO_LABELS],
+        &[("strategy 1", "strategy 2", 1, 0, "yes\n", "")],
+    )?;
+    all_end_edited(
+        &rt,
+        rt.alloc(),
+        &REFUTE,
+        &[FOUR_LIMITS, TWO, REFUSED_ENTER],
+        &[("@", " a", 62, 5, "", "limit: product states\n")],
+    )
+}
+
+#[test]
+fn strategies_are_refused_or_told_by_row_and_condition(rt: HostRuntime) -> Result<(), Fail> {
+    all_end_edited(
+        &rt,
+        rt.alloc(),
+        &REFUTE,
+        &[REFUSABLE, ONE_LABEL, REFUSED_ENTER],
+        &[
+            (
+                "0 5 0 0x0 bad",
+                "0 5 0 0x00 bad",
+                1,
+                9,
+                "",
+                "strategy: line 3\n",
+            ),
+            ("1 4 0", "2 4 0", 1, 9, "", "strategy: order 4\n"),
+            (
+                "0 5 0 0x0 bad",
+                "0 5 1 0x0 bad",
+                1,
+                1,
+                "row 0 condition 2\n",
+                "",
+            ),
+            (
+                "0 5 0 0x0 bad",
+                "0 5 0 0x0 out",
+                1,
+                1,
+                "row 0 condition 3\n",
+                "",
+            ),
+            ("refuse 0", "grant 0", 1, 1, "row 1 condition 5\n", ""),
+            ("both 0 1", "both 1 0", 1, 1, "row 2 condition 4\n", ""),
+        ],
+    )
+}
+
+/// Files of 16,777,216 bytes, one more, and one more than 33,554,432.
+#[test]
 fn files_of_a_strategy_have_the_limit_of_the_policys_format(rt: HostRuntime) -> Result<(), Fail> {
-    let alloc = rt.alloc();
-    for (policy, length, status, line) in [
-        ("format = 1\n", 16_777_216, 9, "strategy: line 1\n"),
-        ("format = 1\n", 16_777_217, 5, "limit: file bytes\n"),
-        ("format = 2\n", 16_777_217, 9, "strategy: line 1\n"),
-        ("format = 2\n", 33_554_433, 5, "limit: file bytes\n"),
-        ("format = 3\n", 16_777_217, 5, "limit: file bytes\n"),
-    ] {
-        let long = vec![in alloc; b'0'; length]?;
-        let mut held = files(alloc, &[policy, "int main(void){return 0;}"])?;
-        held.push((Vec::from_slice(alloc, b"t")?, long))?;
-        ends_over(&rt, alloc, &REFUTE, held, status, "", line)?;
-    }
-    Ok(())
+    all_end_edited(
+        &rt,
+        rt.alloc(),
+        &REFUTE,
+        &["format = 1\n", NO_LABEL, "@"],
+        &[("@", DIGITS, 262_144, 9, "", "strategy: line 1\n")],
+    )?;
+    all_end_edited(
+        &rt,
+        rt.alloc(),
+        &REFUTE,
+        &["format = 1\n", NO_LABEL, "@0"],
+        &[("@", DIGITS, 262_144, 5, "", "limit: file bytes\n")],
+    )?;
+    all_end_edited(
+        &rt,
+        rt.alloc(),
+        &REFUTE,
+        &["format = 2\n", NO_LABEL, "@0"],
+        &[
+            ("@", DIGITS, 262_144, 9, "", "strategy: line 1\n"),
+            ("@", DIGITS, 524_288, 5, "", "limit: file bytes\n"),
+        ],
+    )?;
+    all_end_edited(
+        &rt,
+        rt.alloc(),
+        &REFUTE,
+        &["format = 3\n", NO_LABEL, "@0"],
+        &[("@", DIGITS, 262_144, 5, "", "limit: file bytes\n")],
+    )
 }

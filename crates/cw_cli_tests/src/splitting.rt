@@ -1,5 +1,5 @@
 //! Runs of the command line under policies that split functions off. The texts are another implementation's.
-use crate::given::ends;
+use crate::given::all_end;
 use std::test::Fail;
 
 const WEAVE: [&str; 3] = ["weave", "p.toml", "s.c"];
@@ -99,68 +99,41 @@ states 4
 end
 ";
 
-const RULES: &str =
-    "split = [\"f\"]\n[[at]]\nlabel = \"a\"\nnever = [\"amb\"]\n[[at]]\nlabel = \"b\"\nmust = [\"amb\"]\n";
+const SPLITS: &str =
+    "format = 1\nsplit = [\"f\"]\n[[at]]\nlabel = \"a\"\nnever = [\"amb\"]\n[[at]]\nlabel = \"b\"\nmust = [\"amb\"]\n";
+
+const REFUSABLE: &str =
+    "format = 1\nrefusable = [\"split\"]\nsplit = [\"f\"]\n[[at]]\nlabel = \"a\"\nnever = [\"amb\"]\n[[at]]\nlabel = \"b\"\nmust = [\"amb\"]\n";
+
+const TWO: &str = "format = 1\nsplit = [\"f\", \"h\"]\n";
+
+const WRITES: &str = "int g;void f(int x){g=x;}int main(void){f(1);return 0;}";
 
 #[test]
 fn functions_are_split_or_told_why_not(rt: HostRuntime) -> Result<(), Fail> {
-    let alloc = rt.alloc();
-    let splits = format!(in alloc; "format = 1\n{RULES}")?;
-    let refusable = format!(in alloc; "format = 1\nrefusable = [\"split\"]\n{RULES}")?;
-    let writes = "int g;void f(int x){g=x;}int main(void){f(1);return 0;}";
-    ends(&rt, alloc, &WEAVE, &[splits.as_str(), SOURCE], 0, WOVEN, "")?;
-    ends(
+    all_end(
         &rt,
-        alloc,
-        &WEAVE,
-        &[refusable.as_str(), SOURCE],
-        1,
-        STRATEGY,
-        "",
-    )?;
-    ends(
-        &rt,
-        alloc,
-        &WEAVE,
-        &["format = 1\nsplit = [\"f\"]\n", writes],
-        4,
-        "",
-        "policy: not splittable f 1:21\n",
-    )?;
-    ends(
-        &rt,
-        alloc,
-        &WEAVE,
-        &["format = 1\nsplit = [\"f\", \"h\"]\n", writes],
-        4,
-        "",
-        "policy: no function h\n",
-    )?;
-    ends(
-        &rt,
-        alloc,
-        &WEAVE,
-        &["format = 2\nsplit = [\"f\"]\ndetached = [\"f\"]\n", writes],
-        4,
-        "",
-        "policy: not splittable f 1:21\n",
-    )?;
-    ends(
-        &rt,
-        alloc,
-        &CHECK,
-        &[splits.as_str(), WOVEN],
-        0,
-        "yes\n",
-        "",
-    )?;
-    ends(
-        &rt,
-        alloc,
-        &CHECK,
-        &["format = 1\nsplit = [\"f\", \"h\"]\n", WOVEN],
-        4,
-        "",
-        "policy: no function h\n",
+        rt.alloc(),
+        &[
+            (&WEAVE, &[SPLITS, SOURCE], 0, WOVEN, ""),
+            (&WEAVE, &[REFUSABLE, SOURCE], 1, STRATEGY, ""),
+            (
+                &WEAVE,
+                &["format = 1\nsplit = [\"f\"]\n", WRITES],
+                4,
+                "",
+                "policy: not splittable f 1:21\n",
+            ),
+            (&WEAVE, &[TWO, WRITES], 4, "", "policy: no function h\n"),
+            (
+                &WEAVE,
+                &["format = 2\nsplit = [\"f\"]\ndetached = [\"f\"]\n", WRITES],
+                4,
+                "",
+                "policy: not splittable f 1:21\n",
+            ),
+            (&CHECK, &[SPLITS, WOVEN], 0, "yes\n", ""),
+            (&CHECK, &[TWO, WOVEN], 4, "", "policy: no function h\n"),
+        ],
     )
 }

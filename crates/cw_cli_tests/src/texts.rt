@@ -1,5 +1,35 @@
-//! Woven texts and strategies, for the tests of several commands.
+//! Policies, sources, woven texts and strategies, for the tests of several commands.
 
+/// That `a` is never ambient.
+pub(crate) const NEVER: &str = "format = 1\n[[at]]\nlabel = \"a\"\nnever = [\"amb\"]\n";
+
+/// The same, where the environment may refuse to enter.
+pub(crate) const REFUSABLE: &str =
+    "format = 1\nrefusable = [\"enter\"]\n[[at]]\nlabel = \"a\"\nnever = [\"amb\"]\n";
+
+/// The same, where a program that is refused may stop.
+pub(crate) const STOPPABLE: &str =
+    "format = 1\nrefusable = [\"enter\"]\non_refusal = \"stop\"\n[[at]]\nlabel = \"a\"\nnever = [\"amb\"]\n";
+
+/// That `a` is never ambient, and `b` always.
+pub(crate) const BOTH: &str =
+    "format = 1\n[[at]]\nlabel = \"a\"\nnever = [\"amb\"]\n[[at]]\nlabel = \"b\"\nmust = [\"amb\"]\n";
+
+/// That `m` is always ambient, and `k` never.
+pub(crate) const TWO_PROMISES: &str =
+    "format = 1\n[[at]]\nlabel = \"m\"\nmust = [\"amb\"]\n[[at]]\nlabel = \"k\"\nnever = [\"amb\"]\n";
+
+/// That a descriptor is held whose variable no source here has.
+pub(crate) const DESCRIPTOR: &str = "format = 1\n[[descriptor]]\nname = \"fd\"\n";
+
+pub(crate) const NO_LABEL: &str = "int main(void){return 0;}";
+
+pub(crate) const ONE_LABEL: &str = "int main(void){a:;return 0;}";
+
+/// A function that is called twice.
+pub(crate) const TWO_CALLS: &str = "void f(int x){l:;}int main(void){f(1);m:;k:;f(2);return 0;}";
+
+/// `NO_LABEL`, woven for no promise.
 pub(crate) const NO_RULES: &str = "/*cw{*/
 #include \"capweave.h\"
 #define CW_LIMITS(X)
@@ -12,6 +42,7 @@ CW_LIVE(4,0)
 CW_DONE
 /*}cw*/int main(void){/*cw{*/CW_ENTRY(0);/*}cw*/return 0;}";
 
+/// `ONE_LABEL`, woven for `NEVER`.
 pub(crate) const NEVER_AMBIENT: &str = "/*cw{*/
 #include \"capweave.h\"
 #define CW_LIMITS(X)
@@ -96,6 +127,7 @@ CW_DONE
 int main(void){/*cw{*/CW_ENTRY(1);/*}cw*/int i;for(i=0;i<3;i++){if(i==2)break;a:/*cw{*/CW_LABEL(2)/*}cw*/g2(i);}return 0;}
 ";
 
+/// The strategy for two labels under `BOTH`.
 pub(crate) const TWO_LABELS: &str = "capweave strategy 1
 states 4
 0 5 0 0x0 bad
@@ -264,6 +296,7 @@ CW_BACK(3,0,2,2,2)
 CW_DONE
 /*}cw*/int fd;int f(void){/*cw{*/CW_ENTRY(0);/*}cw*/return 0;}int main(void){/*cw{*/CW_ENTRY(1);/*}cw*/int x;/*cw{*/CW_OPEN(2,fd)/*}cw*/fd=open(0);/*cw{*/CW_CALLV(3,x)/*}cw*/x=f();a:/*cw{*/CW_LABEL(4)/*}cw*/;/*cw{*/CW_CLOSE(5)/*}cw*/close(fd);return 0;}";
 
+/// The strategy for `ONE_LABEL` under `REFUSABLE`.
 pub(crate) const REFUSED_ENTER: &str = "capweave strategy 1
 states 4
 0 5 0 0x0 bad
@@ -274,3 +307,52 @@ states 4
 5 0 0 0x0 both 3 4
 end
 ";
+
+/// `TWO_CALLS`, woven for `TWO_PROMISES`.
+pub(crate) const TWO_CALLS_WOVEN: &str = "/*cw{*/
+#include \"capweave.h\"
+#define CW_LIMITS(X)
+CW_TABLE(1,4,1)
+CW_MEM(0,0,0x5)
+CW_MEM(1,0,0xf)
+CW_MEM(2,2,0x5)
+CW_MEM(3,2,0xf)
+CW_MEM(4,3,0xf)
+CW_LIVE(0,0)
+CW_LIVE(0,4)
+CW_LIVE(2,0)
+CW_LIVE(2,4)
+CW_LIVE(3,0)
+CW_LIVE(3,4)
+CW_LIVE(5,0)
+CW_LIVE(5,4)
+CW_LIVE(6,2)
+CW_LIVE(6,4)
+CW_LIVE(7,2)
+CW_LIVE(7,4)
+CW_LIVE(8,1)
+CW_LIVE(10,1)
+CW_LIVE(11,1)
+CW_LIVE(13,1)
+CW_LIVE(14,3)
+CW_LIVE(16,3)
+CW_LIVE(17,3)
+CW_LIVE(18,3)
+CW_LIVE(19,3)
+CW_LIVE(20,4)
+CW_LIVE(21,4)
+CW_LIVE(22,4)
+CW_LIVE(24,4)
+CW_LIVE(25,4)
+CW_LIVE(26,4)
+CW_TRY(5,0,3,4,CW_NONE)
+CW_AT(1,0,2)
+CW_AT(1,4,4)
+CW_AT(4,3,3)
+CW_AT(5,4,4)
+CW_INTO(3,0,1,0)
+CW_INTO(6,0,4,4)
+CW_BACK(3,0,1,2,3)
+CW_BACK(6,0,4,3,4)
+CW_DONE
+/*}cw*/void f(int x){/*cw{*/CW_ENTRY(0);/*}cw*/l:/*cw{*/CW_LABEL(1)/*}cw*/;}int main(void){/*cw{*/CW_ENTRY(2);/*}cw*//*cw{*/CW_CALL(3)/*}cw*/f(1);m:/*cw{*/CW_LABEL(4)/*}cw*/;k:/*cw{*/CW_LABEL(5)/*}cw*/;/*cw{*/CW_CALL(6)/*}cw*/f(2);return 0;}";

@@ -1,377 +1,225 @@
-//! Graphs of small programs, which are built by hand from the places of names in a source text, and their marks.
+//! Graphs of small programs, which are read from their texts, and their marks.
 
-ghost use Rattle.std.specs.Prelude.{◌≡◌, ◌≤◌, length, IfOk};
-ghost use Rattle.cw_rights.specs.Policies.{policy_of};
-
+use crate::ground::{policy, read};
 use cw_core::{PointId, SeamId};
 use cw_points::build::build;
 use cw_points::marks::marks;
 use cw_points::{Graph, Node, Part, Point, PointsFault};
-use cw_rights::{Descriptor, Policy, Rights};
-use cw_syntax::checked::Checked;
 use cw_syntax::marks::{MarkKind, SeamMark};
-use cw_syntax::program::{Base, CType, Expr, Function, Head, Name, Op, Program, Stmt, What};
-use std::alloc::{AllocError, Global};
+use cw_syntax::program::Name;
+use std::alloc::Global;
 use std::process::Abort;
 use std::test::Fail;
 
-const SOURCE: &[u8] = b"main g open close a b x";
+/// A point, its function, the points that it leads to, and its seam.
+type Row = (Point, u16, Option<u32>, Option<u32>, Option<u32>);
 
-const MAIN: Name = Name { from: 0, to: 4 };
+/// The first and the last point of a function, and whether its calls may be split off.
+type Span = (u32, u32, bool);
 
-const G: Name = Name { from: 5, to: 6 };
+/// The place of a mark, its seam, and what it stands at.
+type Mark = (u32, u32, MarkKind);
 
-const OPEN: Name = Name { from: 7, to: 11 };
-
-const CLOSE: Name = Name { from: 12, to: 17 };
-
-const A: Name = Name { from: 18, to: 19 };
-
-const B: Name = Name { from: 20, to: 21 };
-
-const X: Name = Name { from: 22, to: 23 };
-
-fn bytes(alloc: Global, text: &[u8]) -> Result<Vec<u8>, AllocError>
-    ensures { IfOk result (λ v. v.items ≡ text.now) }
-{
-    let mut v = Vec::new(alloc);
-    v.extend_from_slice(text)?;
-    Ok(v)
-}
-
-/// One descriptor, `x`, that is a variable; calls of `g` may be split off; one label, `b`; no rule.
-fn policy(alloc: Global) -> Result<Policy, AllocError>
-    ensures labels { IfOk result (λ p. length (policy_of p).labels ≤ 65535) }
-    ensures descriptors { IfOk result (λ p. length (policy_of p).descriptors ≤ 255) }
-{
-    let x = Descriptor {
-        name: bytes(alloc, b"x".as_slice())?,
-        number: None,
-        rights: Rights(3),
-    };
-    Ok(Policy {
-        descriptors: Vec::from_array(alloc, [x])?,
-        limits: Vec::new(alloc),
-        refuse_limit: true,
-        refuse_enter: false,
-        refuse_split: false,
-        split: Vec::from_array(alloc, [bytes(alloc, b"g".as_slice())?])?,
-        labels: Vec::from_array(alloc, [bytes(alloc, b"b".as_slice())?])?,
-        rules: Vec::new(alloc),
-        stop: false,
-        format: 1,
-        detached: Vec::new(alloc),
-    })
-}
-
-fn stmt(what: What, at: u32) -> Stmt {
-    Stmt {
-        what,
-        from: at,
-        to: at,
+fn leads_to(found: Option<PointId>, want: Option<u32>) -> bool {
+    match (found, want) {
+        (None, None) => true,
+        (Some(found), Some(want)) => found.0 == want,
+        _ => false,
     }
 }
 
-fn expr(op: Op, parts: Vec<Expr>, name: Name) -> Expr {
-    Expr {
-        op,
-        parts,
-        from: name.from,
-        to: name.to,
+fn is_seam(found: Option<SeamId>, want: Option<u32>) -> bool {
+    match (found, want) {
+        (None, None) => true,
+        (Some(found), Some(want)) => found.0 == want,
+        _ => false,
     }
 }
 
-fn variable(alloc: Global) -> Expr {
-    expr(Op::Name, Vec::new(alloc), X)
+fn is_node(node: &Node, row: &Row) -> bool {
+    let (point, function, first, second, seam) = *row;
+    node.point == point
+        && node.function == function
+        && leads_to(node.next[0], first)
+        && leads_to(node.next[1], second)
+        && is_seam(node.seam, seam)
 }
 
-fn empty(alloc: Global, at: u32) -> Result<Box<Stmt>, AllocError> {
-    Ok(Box::new(alloc, stmt(What::Empty, at))?)
-}
-
-/// `name: ;`, with the place of its mark.
-fn label(alloc: Global, name: Name, mark: u32) -> Result<Stmt, AllocError> {
-    Ok(stmt(What::Label(name, mark, empty(alloc, mark)?), 0))
-}
-
-fn function(alloc: Global, name: Name, brace: u32, body: Vec<Stmt>) -> Function {
-    Function {
-        name,
-        result: CType {
-            base: Base::Int,
-            unsigned: false,
-            stars: 0,
-        },
-        params: Vec::new(alloc),
-        brace,
-        body,
+fn are_nodes(nodes: &[Node], rows: &[Row]) -> bool {
+    if nodes.len() != rows.len() {
+        return false;
     }
-}
-
-fn checked(alloc: Global, functions: Vec<Function>) -> Checked<'static> {
-    Checked {
-        source: SOURCE,
-        program: Program {
-            protos: Vec::new(alloc),
-            globals: Vec::new(alloc),
-            functions,
-        },
+    for (node, row) in nodes.iter().zip(rows) {
+        if !is_node(node, row) {
+            return false;
+        }
     }
+    true
 }
 
-fn only_main(alloc: Global, body: Vec<Stmt>) -> Result<Checked<'static>, AllocError> {
-    let main = function(alloc, MAIN, 15, body);
-    Ok(checked(alloc, Vec::from_array(alloc, [main])?))
-}
-
-fn point(next: Option<u32>) -> Option<PointId> {
-    match next {
-        None => None,
-        Some(next) => Some(PointId(next)),
+fn are_parts(parts: &[Part], spans: &[Span]) -> bool {
+    if parts.len() != spans.len() {
+        return false;
     }
-}
-
-fn node(point_there: Point, function: u16, first: Option<u32>, second: Option<u32>) -> Node {
-    Node {
-        point: point_there,
-        function,
-        next: [point(first), point(second)],
-        seam: None,
+    for (part, span) in parts.iter().zip(spans) {
+        if part.entry.0 != span.0 || part.exit.0 != span.1 || part.split != span.2 {
+            return false;
+        }
     }
+    true
 }
 
-fn seam(point_there: Point, function: u16, next: u32, number: u32) -> Node {
-    Node {
-        point: point_there,
-        function,
-        next: [Some(PointId(next)), None],
-        seam: Some(SeamId(number)),
+fn are_marks(marks: &[SeamMark], wanted: &[Mark]) -> bool {
+    if marks.len() != wanted.len() {
+        return false;
     }
-}
-
-fn step(next: u32) -> Node {
-    node(Point::Step, 0, Some(next), None)
-}
-
-fn branch(holds: u32, fails: u32) -> Node {
-    node(Point::Branch, 0, Some(holds), Some(fails))
-}
-
-fn exit() -> Node {
-    node(Point::Exit, 0, None, None)
-}
-
-fn mark(place: u32, number: u32, kind: MarkKind) -> SeamMark {
-    SeamMark {
-        place,
-        seam: number,
-        kind,
+    for (mark, want) in marks.iter().zip(wanted) {
+        if mark.place != want.0 || mark.seam != want.1 || mark.kind != want.2 {
+            return false;
+        }
     }
+    true
 }
 
-/// The graph of a program under `policy`, or why it has none.
-fn built(alloc: Global, program: &Checked) -> Result<Result<Graph, PointsFault>, AllocError> {
-    let policy = policy(alloc)?;
-    Ok(build(alloc, program, &policy))
+/// The graph of a program, or why it has none, under a policy with the descriptor variable `x` and the label `b` that may split off calls of
+/// `g`.
+fn drawn(alloc: Global, source: &[u8]) -> Result<Result<Graph, PointsFault>, Fail> {
+    let policy = policy(alloc, "x", &["b"], &["g"])?;
+    if policy.labels.len() > 65535 || policy.descriptors.len() > 255 {
+        return Err(Fail::new("a policy that is too long"));
+    }
+    let checked = read(alloc, source)?;
+    Ok(build(alloc, &checked, &policy))
 }
 
-/// Asserts that a program's graph has these nodes.
-fn expect_nodes(
+/// Asserts the points of a program, its parts and its marks; `main` is its first function.
+fn draws(
     rt: &impl Abort,
     alloc: Global,
-    program: &Checked,
-    nodes: &[Node],
+    source: &str,
+    rows: &[Row],
+    spans: &[Span],
+    wanted: &[Mark],
 ) -> Result<(), Fail> {
-    let graph = built(alloc, program)??;
-    assert!(rt; graph.nodes.as_slice() == nodes);
+    let graph = drawn(alloc, source.as_bytes())??;
+    assert!(rt; are_nodes(&graph.nodes, rows), "{source}");
+    assert!(rt;
+        are_parts(&graph.parts, spans) && graph.main == 0,
+        "{source}"
+    );
+    let marks = marks(alloc, &graph)?;
+    assert!(rt; are_marks(&marks, wanted), "{source}");
     Ok(())
-}
-
-/// Asserts that a program's graph has these marks.
-fn expect_marks(
-    rt: &impl Abort,
-    alloc: Global,
-    program: &Checked,
-    wanted: &[SeamMark],
-) -> Result<(), Fail> {
-    let policy = policy(alloc)?;
-    let graph = build(alloc, program, &policy)?;
-    assert!(rt; marks(alloc, &graph)?.as_slice() == wanted);
-    Ok(())
-}
-
-/// `a: ; return;`
-fn labelled(alloc: Global) -> Result<Vec<Stmt>, AllocError> {
-    let last = stmt(What::Return(None), 18);
-    Ok(Vec::from_array(alloc, [label(alloc, A, 17)?, last])?)
 }
 
 #[test]
 fn a_label_is_a_seam(rt: HostRuntime) -> Result<(), Fail> {
-    let alloc = rt.alloc();
-    let program = only_main(alloc, labelled(alloc)?)?;
-    let nodes = [
-        seam(Point::Entry, 0, 1, 0),
-        seam(Point::Label(1), 0, 2, 1),
-        step(3),
-        step(4),
-        exit(),
-    ];
-    expect_nodes(&rt, alloc, &program, &nodes)?;
-    let wanted = [mark(15, 0, MarkKind::Entry), mark(17, 1, MarkKind::Label)];
-    expect_marks(&rt, alloc, &program, &wanted)
-}
-
-/// `for (; x; x) { if (x) continue; b: ; }`
-fn turning(alloc: Global) -> Result<Stmt, AllocError> {
-    let again = Box::new(alloc, stmt(What::Continue, 2))?;
-    let choice = stmt(What::If(variable(alloc), again, None), 1);
-    let block = What::Block(Vec::from_array(alloc, [choice, label(alloc, B, 3)?])?);
-    let head = Head {
-        init: None,
-        test: Some(variable(alloc)),
-        step: Some(variable(alloc)),
-    };
-    let body = Box::new(alloc, stmt(block, 1))?;
-    Ok(stmt(What::For(Box::new(alloc, head)?, body), 0))
+    draws(
+        &rt,
+        rt.alloc(),
+        "int main(void){a:;return;}",
+        &[
+            (Point::Entry, 0, Some(1), None, Some(0)),
+            (Point::Label(1), 0, Some(2), None, Some(1)),
+            (Point::Step, 0, Some(3), None, None),
+            (Point::Step, 0, Some(4), None, None),
+            (Point::Exit, 0, None, None, None),
+        ],
+        &[(0, 4, false)],
+        &[(15, 0, MarkKind::Entry), (17, 1, MarkKind::Label)],
+    )
 }
 
 #[test]
 fn a_for_goes_on_at_its_step(rt: HostRuntime) -> Result<(), Fail> {
-    let alloc = rt.alloc();
-    let last = stmt(What::Return(None), 4);
-    let program = only_main(alloc, Vec::from_array(alloc, [turning(alloc)?, last])?)?;
-    let nodes = [
-        seam(Point::Entry, 0, 1, 0),
-        branch(3, 7),
-        step(1),
-        branch(4, 5),
-        step(2),
-        seam(Point::Label(0), 0, 6, 1),
-        step(2),
-        step(8),
-        exit(),
-    ];
-    expect_nodes(&rt, alloc, &program, &nodes)
-}
-
-/// `do ; while (x);` and `while (x) {}`
-fn looping(alloc: Global) -> Result<Vec<Stmt>, AllocError> {
-    let first = What::Do(empty(alloc, 1)?, variable(alloc));
-    let block = stmt(What::Block(Vec::new(alloc)), 3);
-    let second = What::While(variable(alloc), Box::new(alloc, block)?);
-    Ok(Vec::from_array(alloc, [stmt(first, 0), stmt(second, 2)])?)
+    draws(
+        &rt,
+        rt.alloc(),
+        "int main(void){for(;x;x){if(x)continue;b:;}return;}",
+        &[
+            (Point::Entry, 0, Some(1), None, Some(0)),
+            (Point::Branch, 0, Some(3), Some(7), None),
+            (Point::Step, 0, Some(1), None, None),
+            (Point::Branch, 0, Some(4), Some(5), None),
+            (Point::Step, 0, Some(2), None, None),
+            (Point::Label(0), 0, Some(6), None, Some(1)),
+            (Point::Step, 0, Some(2), None, None),
+            (Point::Step, 0, Some(8), None, None),
+            (Point::Exit, 0, None, None, None),
+        ],
+        &[(0, 8, false)],
+        &[(15, 0, MarkKind::Entry), (41, 1, MarkKind::Label)],
+    )
 }
 
 #[test]
 fn a_do_is_tested_behind_its_body(rt: HostRuntime) -> Result<(), Fail> {
-    let alloc = rt.alloc();
-    let program = only_main(alloc, looping(alloc)?)?;
-    let nodes = [
-        seam(Point::Entry, 0, 1, 0),
-        step(2),
-        branch(1, 3),
-        branch(3, 4),
-        exit(),
-    ];
-    expect_nodes(&rt, alloc, &program, &nodes)
-}
-
-/// `x = open(); x = g(); close(x);`
-fn calling(alloc: Global) -> Result<Vec<Stmt>, AllocError> {
-    let opened = expr(Op::Call(OPEN), Vec::new(alloc), OPEN);
-    let open = expr(
-        Op::Assign(0),
-        Vec::from_array(alloc, [variable(alloc), opened])?,
-        X,
-    );
-    let called = expr(Op::Call(G), Vec::new(alloc), G);
-    let call = expr(
-        Op::Assign(0),
-        Vec::from_array(alloc, [variable(alloc), called])?,
-        X,
-    );
-    let close = expr(
-        Op::Call(CLOSE),
-        Vec::from_array(alloc, [variable(alloc)])?,
-        CLOSE,
-    );
-    Ok(Vec::from_array(
-        alloc,
-        [
-            stmt(What::Expr(open), 20),
-            stmt(What::Expr(call), 30),
-            stmt(What::Expr(close), 40),
+    draws(
+        &rt,
+        rt.alloc(),
+        "int main(void){do;while(x);while(x){}}",
+        &[
+            (Point::Entry, 0, Some(1), None, Some(0)),
+            (Point::Step, 0, Some(2), None, None),
+            (Point::Branch, 0, Some(1), Some(3), None),
+            (Point::Branch, 0, Some(3), Some(4), None),
+            (Point::Exit, 0, None, None, None),
         ],
-    )?)
+        &[(0, 4, false)],
+        &[(15, 0, MarkKind::Entry)],
+    )
 }
 
-fn two_functions(alloc: Global) -> Result<Checked<'static>, AllocError> {
-    let main = function(alloc, MAIN, 15, calling(alloc)?);
-    let body = Vec::from_array(alloc, [stmt(What::Empty, 60)])?;
-    let g = function(alloc, G, 50, body);
-    Ok(checked(alloc, Vec::from_array(alloc, [main, g])?))
-}
+/// The variable that takes the result of the call below.
+const TAKEN: Name = Name { from: 30, to: 31 };
 
 #[test]
-fn a_call_leads_on_to_its_return(rt: HostRuntime) -> Result<(), Fail> {
-    let alloc = rt.alloc();
-    let program = two_functions(alloc)?;
-    let nodes = [
-        seam(Point::Entry, 0, 1, 0),
-        seam(Point::Open(0), 0, 2, 1),
-        seam(Point::Call(1), 0, 3, 2),
-        seam(Point::Close(0), 0, 4, 3),
-        exit(),
-        seam(Point::Entry, 1, 6, 4),
-        node(Point::Step, 1, Some(7), None),
-        node(Point::Exit, 1, None, None),
-    ];
-    expect_nodes(&rt, alloc, &program, &nodes)?;
-    let first = Part {
-        entry: PointId(0),
-        exit: PointId(4),
-        split: false,
-    };
-    let second = Part {
-        entry: PointId(5),
-        exit: PointId(7),
-        split: true,
-    };
-    let graph = built(alloc, &program)??;
-    assert!(rt; graph.parts.as_slice() == [first, second].as_slice() && graph.main == 0);
-    Ok(())
+fn a_call_leads_on_to_its_return_and_has_the_mark_of_its_result(
+    rt: HostRuntime,
+) -> Result<(), Fail> {
+    draws(
+        &rt,
+        rt.alloc(),
+        "int main(void){     x=open(); x=g();    close(x);}int g(void){;}",
+        &[
+            (Point::Entry, 0, Some(1), None, Some(0)),
+            (Point::Open(0), 0, Some(2), None, Some(1)),
+            (Point::Call(1), 0, Some(3), None, Some(2)),
+            (Point::Close(0), 0, Some(4), None, Some(3)),
+            (Point::Exit, 0, None, None, None),
+            (Point::Entry, 1, Some(6), None, Some(4)),
+            (Point::Step, 1, Some(7), None, None),
+            (Point::Exit, 1, None, None, None),
+        ],
+        &[(0, 4, false), (5, 7, true)],
+        &[
+            (15, 0, MarkKind::Entry),
+            (20, 1, MarkKind::Open(0)),
+            (30, 2, MarkKind::Call(Some(TAKEN))),
+            (40, 3, MarkKind::Close),
+            (62, 4, MarkKind::Entry),
+        ],
+    )
 }
 
-#[test]
-fn a_call_has_the_mark_of_its_result(rt: HostRuntime) -> Result<(), Fail> {
-    let alloc = rt.alloc();
-    let program = two_functions(alloc)?;
-    let wanted = [
-        mark(15, 0, MarkKind::Entry),
-        mark(20, 1, MarkKind::Open(0)),
-        mark(30, 2, MarkKind::Call(Some(X))),
-        mark(40, 3, MarkKind::Close),
-        mark(50, 4, MarkKind::Entry),
-    ];
-    expect_marks(&rt, alloc, &program, &wanted)
-}
-
-/// A `main` of so many empty statements.
-fn long(alloc: Global, count: u32) -> Result<Checked<'static>, AllocError> {
-    let mut body = Vec::new(alloc);
+/// Asserts how many points a `main` of so many empty statements has, or that there are too many.
+fn long(rt: &impl Abort, alloc: Global, count: usize, want: Option<usize>) -> Result<(), Fail> {
+    let mut text = b"int main(void){".to_vec(alloc)?;
     for _ in 0..count {
-        body.push(stmt(What::Empty, 0))?;
+        text.push(b';')?;
     }
-    only_main(alloc, body)
+    text.push(b'}')?;
+    let found = match drawn(alloc, &text)? {
+        Ok(graph) => Some(graph.nodes.len()),
+        Err(PointsFault::TooManyPoints) => None,
+        Err(_) => Some(0),
+    };
+    assert!(rt; found == want);
+    Ok(())
 }
 
 #[test]
 fn a_program_has_at_most_8192_points(rt: HostRuntime) -> Result<(), Fail> {
-    let alloc = rt.alloc();
-    let graph = built(alloc, &long(alloc, 8190)?)??;
-    assert!(rt; graph.nodes.len() == 8192);
-    let refused = built(alloc, &long(alloc, 8191)?)?;
-    assert!(rt; matches!(refused, Err(PointsFault::TooManyPoints)));
-    Ok(())
+    long(&rt, rt.alloc(), 8190, Some(8192))?;
+    long(&rt, rt.alloc(), 8191, None)
 }

@@ -9,8 +9,6 @@ mod lexer;
 mod marks;
 mod numbers;
 mod piece;
-#[cfg(test)]
-mod tests;
 mod tokens;
 
 pub use characters::character_value;

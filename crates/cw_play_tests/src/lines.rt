@@ -1,41 +1,45 @@
 //! Lists of tapes, a line each: the tape, how it ends, and the trace with `;` for each line feed.
 
 use cw_core::NoMemory;
-use std::alloc::Global;
+use std::alloc::{AllocError, Global};
 
-/// Appends the line of a tape.
-pub fn put_line(tape: &[u8], end: &[u8], trace: &[u8], list: &mut Vec<u8>) -> Result<(), NoMemory> {
-    list.extend_from_slice(tape)?;
-    list.push(b':')?;
-    list.extend_from_slice(end)?;
-    list.push(b':')?;
+/// The moves of the environment, as a tape of a run has them.
+const MOVES: [&str; 7] = ["grant", "refuse", "on", "left", "right", "opened", "failed"];
+
+/// A tape, and how it ends with its trace.
+pub type Line<'t> = (String, &'t str);
+
+/// Appends a trace behind how it ends.
+pub fn put_trace(trace: &[u8], told: &mut Vec<u8>) -> Result<(), NoMemory> {
+    told.push(b':')?;
     for byte in trace {
-        list.push(if *byte == b'\n' { b';' } else { *byte })?;
+        told.push(if *byte == b'\n' { b';' } else { *byte })?;
     }
-    list.push(b'\n')?;
     Ok(())
 }
 
 /// A tape with one word more.
-pub fn longer(alloc: Global, tape: &[u8], word: &str) -> Result<Vec<u8>, NoMemory> {
-    let mut text = Vec::new(alloc);
-    text.extend_from_slice(tape)?;
+fn longer(alloc: Global, tape: &str, word: &str) -> Result<String, AllocError> {
+    let mut text = String::from_str(alloc, tape)?;
     if !tape.is_empty() {
-        text.push(b' ')?;
+        text.push_str(" ")?;
     }
-    text.extend_from_slice(word.as_bytes())?;
+    text.push_str(word)?;
     Ok(text)
 }
 
-/// Appends the tapes that have one word more, for each of these words.
-pub fn put_longer(
-    alloc: Global,
-    tape: &[u8],
-    words: &[&str],
-    tapes: &mut Vec<Vec<u8>>,
-) -> Result<(), NoMemory> {
-    for word in words {
-        tapes.push(longer(alloc, tape, word)?)?;
+/// The tapes of a list. One that is told a bad move is told the same with one word more, whichever.
+pub fn lines_of<'t>(alloc: Global, list: &'t str) -> Result<Vec<Line<'t>>, AllocError> {
+    let mut lines = Vec::new(alloc);
+    for line in list.lines() {
+        if let Some((tape, told)) = line.split_once(":") {
+            lines.push((String::from_str(alloc, tape)?, told))?;
+            if told.starts_with("bad move") {
+                for word in &MOVES {
+                    lines.push((longer(alloc, tape, word)?, told))?;
+                }
+            }
+        }
     }
-    Ok(())
+    Ok(lines)
 }

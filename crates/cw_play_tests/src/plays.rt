@@ -9,7 +9,7 @@ ghost use Rattle.cw_states.specs.States.{AreLists, lists_of};
 ghost use Rattle.cw_product.specs.Product.{game_of};
 ghost use Rattle.cw_product.specs.Uses.{uses_of};
 
-use crate::lines::{put_line, put_longer};
+use crate::lines::{Line, lines_of, put_trace};
 use crate::lists::{CALL_PLAYS, ONE_PLAYS, TWO_PLAYS};
 use crate::made::{graph_of, names_of};
 use crate::texts::{
@@ -27,31 +27,25 @@ use cw_strategies::read_env;
 use cw_tapes::read_tape;
 use cw_trace::Names;
 use std::alloc::Global;
+use std::process::Abort;
+use std::test::Fail;
 
-/// How a play ends, as the program tells it.
-fn end_text(alloc: Global, game: &Game, end: PlayEnd) -> Result<Vec<u8>, NoMemory> {
-    let mut text = Vec::new(alloc);
+/// Appends how a play ends, as the program tells it.
+fn put_end(game: &Game, end: PlayEnd, told: &mut Vec<u8>) -> Result<(), NoMemory> {
     match end {
-        PlayEnd::TapeSpent => text.extend_from_slice(b"tape spent")?,
+        PlayEnd::TapeSpent => told.extend_from_slice(b"tape spent")?,
         PlayEnd::Violation(number) => {
-            text.extend_from_slice(b"violation ")?;
+            told.extend_from_slice(b"violation ")?;
             if let Some(rule) = game.policy().rules.get(usize::from(number)) {
-                text.extend_from_slice(rule.name.as_slice())?;
+                told.extend_from_slice(rule.name.as_slice())?;
             }
         }
     }
-    Ok(text)
+    Ok(())
 }
 
-/// Appends the line of a tape that is played against a good strategy.
-fn put_play(
-    alloc: Global,
-    names: &Names,
-    game: &Game,
-    cert: &EnvCert,
-    tape: &[u8],
-    list: &mut Vec<u8>,
-) -> Option<()>
+/// How the play of a tape against a good strategy ends, with its trace.
+fn told_of(alloc: Global, names: &Names, game: &Game, cert: &EnvCert, tape: &str) -> Option<Vec<u8>>
     requires valid { IsValid (policy_of game.now.states.policy) }
     requires lists { AreLists (uses_of (policy_of game.now.states.policy) game.now.graph.nodes.items) (lists_of game.now.states) }
     requires good { IsGoodStrategy (game_of game.now) (strategy_of cert.now) }
@@ -60,78 +54,84 @@ fn put_play(
     if tape.len() > 65536 {
         return None;
     }
-    let Ok(moves) = read_tape(alloc, tape, true) else {
-        return None;
-    };
+    let moves = read_tape(alloc, tape.as_bytes(), true).ok()?;
     let mut out = SureSink::make(alloc);
     let mut writer = Writer::begin(&out);
-    let Ok(end) = play_env(alloc, names, game, cert, &moves, &mut writer, &mut out) else {
-        return None;
-    };
+    let end = play_env(alloc, names, game, cert, &moves, &mut writer, &mut out).ok()?;
     writer.finish(&mut out).ok()?;
-    let end = end_text(alloc, game, end).ok()?;
-    put_line(tape, &end, out.bytes(), list).ok()
+    let mut told = Vec::new(alloc);
+    put_end(game, end, &mut told).ok()?;
+    put_trace(out.bytes(), &mut told).ok()?;
+    Some(told)
 }
 
-/// The lines of every tape of up to six words that is played against a good strategy, the shorter ones first.
-fn every_play(alloc: Global, names: &Names, game: &Game, cert: &EnvCert) -> Option<Vec<u8>>
+/// Whether each of these tapes, played against a good strategy, ends so.
+fn every_play(alloc: Global, names: &Names, game: &Game, cert: &EnvCert, lines: &[Line]) -> bool
     requires valid { IsValid (policy_of game.now.states.policy) }
     requires lists { AreLists (uses_of (policy_of game.now.states.policy) game.now.graph.nodes.items) (lists_of game.now.states) }
     requires good { IsGoodStrategy (game_of game.now) (strategy_of cert.now) }
     requires rows { length cert.now.rows.items < 2 ^ 32 }
 {
-    let mut list = Vec::new(alloc);
-    let mut tapes = Vec::new(alloc);
-    tapes.push(Vec::new(alloc)).ok()?;
-    for _ in 0..7 {
-        let mut next = Vec::new(alloc);
-        for tape in &tapes {
-            put_play(alloc, names, game, cert, tape, &mut list)?;
-            put_longer(alloc, tape, &["skip", "try"], &mut next).ok()?;
+    for (tape, wanted) in lines {
+        match told_of(alloc, names, game, cert, tape) {
+            None => return false,
+            Some(told) => {
+                if told.as_slice() != wanted.as_bytes() {
+                    return false;
+                }
+            }
         }
-        tapes = next;
     }
-    Some(list)
+    true
 }
 
-/// The lines of a strategy by texts, where it is good.
-fn played(alloc: Global, policy: &str, source: &str, strategy: &str) -> Option<Vec<u8>> {
-    let Ok(policy) = read_policy(alloc, policy.as_bytes()) else {
-        return None;
-    };
-    let Some(graph) = graph_of(alloc, &policy, source.as_bytes()) else {
-        return None;
-    };
-    let Some(names) = names_of(alloc, source.as_bytes(), &graph) else {
-        return None;
-    };
-    let Ok(cert) = read_env(alloc, strategy.as_bytes(), 1) else {
-        return None;
-    };
+/// Whether a strategy by texts is good, and each of these tapes ends so.
+fn played(
+    alloc: Global,
+    policy: &str,
+    source: &str,
+    strategy: &str,
+    lines: &[Line],
+) -> Result<bool, Fail> {
+    let policy = read_policy(alloc, policy.as_bytes())?;
+    let graph = graph_of(alloc, &policy, source.as_bytes()).ok_or("no graph")?;
+    let names = names_of(alloc, source.as_bytes(), &graph).ok_or("no names")?;
+    let cert = read_env(alloc, strategy.as_bytes(), 1)?;
     if cert.rows.len() > 65536 {
-        return None;
+        return Ok(false);
     }
-    let Ok(game) = Game::make(alloc, &graph, &policy) else {
-        return None;
-    };
+    let game = Game::make(alloc, &graph, &policy)?;
     match check_env(&game, &cert) {
-        Ok(()) => every_play(alloc, &names, &game, &cert),
-        Err(_) => None,
+        Ok(()) => Ok(every_play(alloc, &names, &game, &cert, lines)),
+        Err(_) => Ok(false),
     }
 }
 
-/// Whether a strategy by texts has these lines.
-fn plays(alloc: Global, policy: &str, source: &str, strategy: &str, list: &str) -> bool {
-    match played(alloc, policy, source, strategy) {
-        Some(lines) => lines.as_slice() == list.as_bytes(),
-        None => false,
-    }
+/// Asserts that a strategy is good, and that each of the so many tapes of a list ends as the list has it.
+fn plays(
+    rt: &impl Abort,
+    alloc: Global,
+    texts: (&str, &str, &str),
+    list: &str,
+    tapes: usize,
+) -> Result<(), Fail> {
+    let (policy, source, strategy) = texts;
+    let lines = lines_of(alloc, list)?;
+    assert_eq!(rt; lines.len(), tapes);
+    assert!(rt; played(alloc, policy, source, strategy, &lines)?);
+    Ok(())
 }
 
 #[test]
-fn every_tape_of_up_to_six_words_is_played(rt: HostRuntime) {
+fn every_tape_of_up_to_six_words_is_played(rt: HostRuntime) -> Result<(), Fail> {
     let alloc = rt.alloc();
-    assert!(rt; plays(alloc, ONE_POLICY, ONE, ONE_STRATEGY, ONE_PLAYS));
-    assert!(rt; plays(alloc, TWO_POLICY, TWO, TWO_STRATEGY, TWO_PLAYS));
-    assert!(rt; plays(alloc, CALL_POLICY, CALL, CALL_STRATEGY, CALL_PLAYS));
+    plays(&rt, alloc, (ONE_POLICY, ONE, ONE_STRATEGY), ONE_PLAYS, 127)?;
+    plays(&rt, alloc, (TWO_POLICY, TWO, TWO_STRATEGY), TWO_PLAYS, 127)?;
+    plays(
+        &rt,
+        alloc,
+        (CALL_POLICY, CALL, CALL_STRATEGY),
+        CALL_PLAYS,
+        127,
+    )
 }

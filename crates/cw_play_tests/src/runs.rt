@@ -14,7 +14,7 @@ ghost use Rattle.cw_product.specs.Product.{game_of};
 ghost use Rattle.cw_product.specs.Uses.{uses_of};
 ghost use Rattle.cw_wcheck.specs.Checking.{HasFewRows};
 
-use crate::lines::{longer, put_line, put_longer};
+use crate::lines::{Line, lines_of, put_trace};
 use crate::lists::{RETURN_RUNS, STOP_RUNS, STORED_RUNS};
 use crate::texts::{RETURN, STOP, STOP_POLICY, STORED, STORED_POLICY};
 use cw_certs::WeaverCert;
@@ -31,31 +31,30 @@ use cw_tapes::read_tape;
 use cw_wcheck::check_weaver;
 use cw_woven::{accept_woven, open_woven};
 use std::alloc::Global;
+use std::process::Abort;
+use std::test::Fail;
 
-const MOVES: [&str; 7] = ["grant", "refuse", "on", "left", "right", "opened", "failed"];
-
-/// How a run ends, as the program tells it.
-fn end_text(alloc: Global, end: RunEnd) -> Result<Vec<u8>, NoMemory> {
-    let mut text = Vec::new(alloc);
+/// Appends how a run ends, as the program tells it.
+fn put_end(end: RunEnd, told: &mut Vec<u8>) -> Result<(), NoMemory> {
     match end {
-        RunEnd::Ended => text.extend_from_slice(b"ended")?,
-        RunEnd::TapeSpent => text.extend_from_slice(b"tape spent")?,
+        RunEnd::Ended => told.extend_from_slice(b"ended")?,
+        RunEnd::TapeSpent => told.extend_from_slice(b"tape spent")?,
         RunEnd::BadMove(number) => {
-            text.extend_from_slice(b"bad move ")?;
-            put_dec(u64::from(number), &mut text)?;
+            told.extend_from_slice(b"bad move ")?;
+            put_dec(u64::from(number), told)?;
         }
     }
-    Ok(text)
+    Ok(())
 }
 
-/// The run of a good table by a tape: how it ends, with its trace.
+/// How the run of a good table by a tape ends, with its trace.
 fn run_by(
     alloc: Global,
     checked: &Checked,
     game: &Game,
     table: &WeaverCert,
-    tape: &[u8],
-) -> Option<(RunEnd, SureSink)>
+    tape: &str,
+) -> Option<Vec<u8>>
     requires valid { IsValid (policy_of game.now.states.policy) }
     requires lists { AreLists (uses_of (policy_of game.now.states.policy) game.now.graph.nodes.items) (lists_of game.now.states) }
     requires reads { ReadsAs checked.now.source.now (file_of checked.now.program) }
@@ -65,29 +64,27 @@ fn run_by(
     if tape.len() > 65536 {
         return None;
     }
-    let Ok(moves) = read_tape(alloc, tape, false) else {
-        return None;
-    };
+    let moves = read_tape(alloc, tape.as_bytes(), false).ok()?;
     if moves.len() > 65536 {
         return None;
     }
     let mut out = SureSink::make(alloc);
     let mut writer = Writer::begin(&out);
-    let Ok(end) = run_woven(alloc, checked, game, table, &moves, &mut writer, &mut out) else {
-        return None;
-    };
+    let end = run_woven(alloc, checked, game, table, &moves, &mut writer, &mut out).ok()?;
     writer.finish(&mut out).ok()?;
-    Some((end, out))
+    let mut told = Vec::new(alloc);
+    put_end(end, &mut told).ok()?;
+    put_trace(out.bytes(), &mut told).ok()?;
+    Some(told)
 }
 
-/// Whether a tape with one word more, whichever, is told the same.
-fn stays(
+/// Whether the run of a good table by each of these tapes ends so.
+fn every_run(
     alloc: Global,
     checked: &Checked,
     game: &Game,
     table: &WeaverCert,
-    tape: &[u8],
-    told: &(RunEnd, SureSink),
+    lines: &[Line],
 ) -> bool
     requires valid { IsValid (policy_of game.now.states.policy) }
     requires lists { AreLists (uses_of (policy_of game.now.states.policy) game.now.graph.nodes.items) (lists_of game.now.states) }
@@ -95,50 +92,17 @@ fn stays(
     requires graph { IsGraph (names_of (policy_of game.now.states.policy)) checked.now.source.now (file_of checked.now.program) game.now.graph }
     requires good { IsGoodTable (game_of game.now) table.now }
 {
-    for word in &MOVES {
-        let Ok(tape) = longer(alloc, tape, word) else {
-            return false;
-        };
-        let Some((end, trace)) = run_by(alloc, checked, game, table, &tape) else {
-            return false;
-        };
-        if end != told.0 || trace.bytes() != told.1.bytes() {
-            return false;
+    for (tape, wanted) in lines {
+        match run_by(alloc, checked, game, table, tape) {
+            None => return false,
+            Some(told) => {
+                if told.as_slice() != wanted.as_bytes() {
+                    return false;
+                }
+            }
         }
     }
     true
-}
-
-/// The lines of every tape of up to six words by which a good table is run, the shorter ones first, but for those whose front is told a bad move; none where one of
-/// these is told otherwise.
-fn every_run(alloc: Global, checked: &Checked, game: &Game, table: &WeaverCert) -> Option<Vec<u8>>
-    requires valid { IsValid (policy_of game.now.states.policy) }
-    requires lists { AreLists (uses_of (policy_of game.now.states.policy) game.now.graph.nodes.items) (lists_of game.now.states) }
-    requires reads { ReadsAs checked.now.source.now (file_of checked.now.program) }
-    requires graph { IsGraph (names_of (policy_of game.now.states.policy)) checked.now.source.now (file_of checked.now.program) game.now.graph }
-    requires good { IsGoodTable (game_of game.now) table.now }
-{
-    let mut list = Vec::new(alloc);
-    let mut tapes = Vec::new(alloc);
-    tapes.push(Vec::new(alloc)).ok()?;
-    for _ in 0..7 {
-        let mut next = Vec::new(alloc);
-        for tape in &tapes {
-            let told = run_by(alloc, checked, game, table, tape)?;
-            let end = end_text(alloc, told.0).ok()?;
-            put_line(tape, &end, told.1.bytes(), &mut list).ok()?;
-            match told.0 {
-                RunEnd::BadMove(_) => {
-                    if !stays(alloc, checked, game, table, tape, &told) {
-                        return None;
-                    }
-                }
-                _ => put_longer(alloc, tape, &MOVES, &mut next).ok()?,
-            }
-        }
-        tapes = next;
-    }
-    Some(list)
 }
 
 /// Whether the numbers of a table's rows fit 32 bits.
@@ -155,47 +119,48 @@ fn has_few_rows(table: &WeaverCert) -> bool
         && table.back_rows().len() < 4294967296
 }
 
-/// The lines of a table for a program's graph, where it is good.
+/// Whether a table for a program's graph is good, and each of these tapes ends so.
 fn judged(
     alloc: Global,
     policy: &Policy,
     checked: &Checked,
     graph: &Graph,
     table: &WeaverCert,
-) -> Option<Vec<u8>>
+    lines: &[Line],
+) -> bool
     requires valid { IsValid (policy_of policy.now) }
     requires reads { ReadsAs checked.now.source.now (file_of checked.now.program) }
     requires graph { IsGraph (names_of (policy_of policy.now)) checked.now.source.now (file_of checked.now.program) graph.now }
     requires points { length graph.now.nodes.items ≤ 8192 }
 {
     if !has_few_rows(table) {
-        return None;
+        return false;
     }
     let Ok(game) = Game::make(alloc, graph, policy) else {
-        return None;
+        return false;
     };
     match check_weaver(&game, table) {
-        Ok(()) => every_run(alloc, checked, &game, table),
-        Err(_) => None,
+        Ok(()) => every_run(alloc, checked, &game, table, lines),
+        Err(_) => false,
     }
 }
 
-/// The lines of a woven text, where its table is good.
-fn run(alloc: Global, policy: &str, text: &str) -> Option<Vec<u8>> {
+/// Whether the table of a woven text is good, and each of these tapes ends so.
+fn run(alloc: Global, policy: &str, text: &str, lines: &[Line]) -> bool {
     if text.len() > 65536 {
-        return None;
+        return false;
     }
     let Ok(policy) = read_policy(alloc, policy.as_bytes()) else {
-        return None;
+        return false;
     };
     let Ok(opened) = open_woven(alloc, text.as_bytes(), &policy) else {
-        return None;
+        return false;
     };
     let Ok(program) = accept_woven(alloc, &opened, &policy) else {
-        return None;
+        return false;
     };
     if program.graph.nodes.len() > 8192 {
-        return None;
+        return false;
     }
     judged(
         alloc,
@@ -203,21 +168,29 @@ fn run(alloc: Global, policy: &str, text: &str) -> Option<Vec<u8>> {
         &program.checked,
         &program.graph,
         &opened.table,
+        lines,
     )
 }
 
-/// Whether a woven text has these lines.
-fn runs(alloc: Global, policy: &str, text: &str, list: &str) -> bool {
-    match run(alloc, policy, text) {
-        Some(lines) => lines.as_slice() == list.as_bytes(),
-        None => false,
-    }
+/// Asserts that a table is good, and that each of the so many tapes of a list, with those of one word more, ends as the list has it.
+fn runs(
+    rt: &impl Abort,
+    alloc: Global,
+    texts: (&str, &str),
+    list: &str,
+    tapes: usize,
+) -> Result<(), Fail> {
+    let (policy, text) = texts;
+    let lines = lines_of(alloc, list)?;
+    assert_eq!(rt; lines.len(), tapes);
+    assert!(rt; run(alloc, policy, text, &lines));
+    Ok(())
 }
 
 #[test]
-fn every_tape_of_up_to_six_words_is_run(rt: HostRuntime) {
+fn every_tape_of_up_to_six_words_is_run(rt: HostRuntime) -> Result<(), Fail> {
     let alloc = rt.alloc();
-    assert!(rt; runs(alloc, STORED_POLICY, STORED, STORED_RUNS));
-    assert!(rt; runs(alloc, STOP_POLICY, STOP, STOP_RUNS));
-    assert!(rt; runs(alloc, STORED_POLICY, RETURN, RETURN_RUNS));
+    runs(&rt, alloc, (STORED_POLICY, STORED), STORED_RUNS, 295)?;
+    runs(&rt, alloc, (STOP_POLICY, STOP), STOP_RUNS, 631)?;
+    runs(&rt, alloc, (STORED_POLICY, RETURN), RETURN_RUNS, 386)
 }

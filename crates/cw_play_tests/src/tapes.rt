@@ -4,59 +4,72 @@ use cw_certs::Move;
 use cw_lines::TextFault;
 use cw_tapes::read_tape;
 use std::alloc::Global;
+use std::process::Abort;
+use std::test::Fail;
 
-/// What is read of a text: the moves, or the line at fault.
-fn line_of(alloc: Global, text: &str, play: bool) -> Option<u32> {
+/// A text, whether it is a play's, and its moves, or the line at fault.
+type Tape<'t> = (&'t str, bool, &'t [Move], u32);
+
+/// The moves of a text, and the line at fault, if any.
+fn read(alloc: Global, text: &str, play: bool) -> (Vec<Move>, u32) {
     if text.len() > 16777216 {
-        return None;
+        return (Vec::new(alloc), 4294967295);
     }
     match read_tape(alloc, text.as_bytes(), play) {
-        Err(TextFault::Line(number)) => Some(number),
-        _ => None,
+        Ok(moves) => (moves, 0),
+        Err(TextFault::Line(number)) => (Vec::new(alloc), number),
+        Err(_) => (Vec::new(alloc), 4294967295),
     }
 }
 
-fn reads(alloc: Global, text: &str, play: bool, moves: &[Move]) -> bool {
-    if text.len() > 16777216 {
-        return false;
+/// Asserts what is read of texts.
+fn are_read(rt: &impl Abort, alloc: Global, tapes: &[Tape]) -> Result<(), Fail> {
+    for (text, play, wanted, line) in tapes {
+        let (moves, fault) = read(alloc, text, *play);
+        assert_eq!(rt; moves.as_slice(), *wanted, "{text}");
+        assert_eq!(rt; fault, *line, "{text}");
     }
-    match read_tape(alloc, text.as_bytes(), play) {
-        Ok(read) => read.as_slice() == moves,
-        Err(_) => false,
-    }
+    Ok(())
 }
 
 #[test]
-fn tapes_are_read(rt: HostRuntime) {
-    let alloc = rt.alloc();
-    let run = [
-        Move::On,
-        Move::Grant,
-        Move::Refuse,
-        Move::Left,
-        Move::Right,
-        Move::Opened,
-        Move::Failed,
-    ];
-    assert!(rt;
-        reads(
-            alloc,
-            "on grant\n\n refuse\tleft\r\nright\x0bopened\x0cfailed",
-            false,
-            &run
-        )
-    );
-    assert!(rt; reads(alloc, " try\nskip \n", true, &[Move::Try, Move::Skip]));
-    assert!(rt; reads(alloc, "", true, &[]));
-    assert!(rt; reads(alloc, " \n\t\n", false, &[]));
+fn tapes_are_read(rt: HostRuntime) -> Result<(), Fail> {
+    are_read(
+        &rt,
+        rt.alloc(),
+        &[
+            (
+                "on grant\n\n refuse\tleft\r\nright\x0bopened\x0cfailed",
+                false,
+                &[
+                    Move::On,
+                    Move::Grant,
+                    Move::Refuse,
+                    Move::Left,
+                    Move::Right,
+                    Move::Opened,
+                    Move::Failed,
+                ],
+                0,
+            ),
+            (" try\nskip \n", true, &[Move::Try, Move::Skip], 0),
+            ("", true, &[], 0),
+            (" \n\t\n", false, &[], 0),
+            ("try skip", true, &[Move::Try, Move::Skip], 0),
+        ],
+    )
 }
 
 #[test]
-fn the_first_other_word_is_told(rt: HostRuntime) {
-    let alloc = rt.alloc();
-    assert_eq!(rt; line_of(alloc, "on grnat", false), Some(1));
-    assert_eq!(rt; line_of(alloc, "skip\r\ntry\n\n on stop", true), Some(4));
-    assert_eq!(rt; line_of(alloc, "skip", false), Some(1));
-    assert_eq!(rt; line_of(alloc, "try,try", true), Some(1));
-    assert_eq!(rt; line_of(alloc, "try skip", true), None);
+fn the_first_other_word_is_told(rt: HostRuntime) -> Result<(), Fail> {
+    are_read(
+        &rt,
+        rt.alloc(),
+        &[
+            ("on grnat", false, &[], 1),
+            ("skip\r\ntry\n\n on stop", true, &[], 4),
+            ("skip", false, &[], 1),
+            ("try,try", true, &[], 1),
+        ],
+    )
 }

@@ -17,8 +17,6 @@ mod parts;
 mod read;
 mod rules;
 mod sources;
-#[cfg(test)]
-mod tests;
 
 pub use fault::{Path, PolicyFault};
 pub use lines::{put_fault, put_path};

@@ -2,8 +2,6 @@
 #![tactic(auto)]
 
 mod sample;
-#[cfg(test)]
-mod tests;
 mod word;
 
 pub use sample::{SampleFault, make_sample};

@@ -1,13 +1,25 @@
-//! Tests of the solver: programs and policies by their texts, with contexts, cells and heights from outside.
+//! Tests of games, of the check of strategies, and of both solvers: programs, policies and strategies by their texts, with numbers from outside.
 #![tactic(auto)]
 
 #[cfg(test)]
-mod limit;
+mod drawn;
+#[cfg(test)]
+mod games;
+#[cfg(test)]
+mod large;
 #[cfg(test)]
 mod made;
 #[cfg(test)]
-mod rows;
+mod products;
 #[cfg(test)]
 mod slow;
 #[cfg(test)]
+mod small;
+#[cfg(test)]
 mod solved;
+#[cfg(test)]
+mod strategies;
+#[cfg(test)]
+mod texts;
+#[cfg(test)]
+mod told;

@@ -2,6 +2,8 @@
 #![tactic(auto)]
 
 #[cfg(test)]
+mod calls;
+#[cfg(test)]
 mod expressions;
 #[cfg(test)]
 mod lines;
@@ -11,5 +13,9 @@ mod parser;
 mod recogniser;
 #[cfg(test)]
 mod scope;
+#[cfg(test)]
+mod tokens;
+#[cfg(test)]
+mod trees;
 #[cfg(test)]
 mod words;

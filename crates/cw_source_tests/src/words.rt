@@ -1,116 +1,119 @@
-//! The words of texts, each written out by hand.
+//! The words of texts, each written out by hand, with the values of numbers and characters.
 
-use cw_core::NoMemory;
-use cw_grammar::spelling::lexemes;
+use crate::calls::{Call, all_tell};
 use cw_grammar::words::{Word, is_same};
-use cw_lex::lex;
-use std::alloc::Global;
-use std::process::Abort;
-use std::test::Fail;
-
-/// The word of the first token of a text.
-fn first_word(alloc: Global, source: &[u8]) -> Result<Option<Word>, NoMemory> {
-    if source.len() > 262144 {
-        return Ok(None);
-    }
-    match lex(alloc, source) {
-        Ok(tokens) => {
-            let words = lexemes(alloc, source, &tokens)?;
-            match words.as_slice() {
-                [] => Ok(None),
-                [first, ..] => Ok(Some(first.word)),
-            }
-        }
-        Err(_) => Ok(None),
-    }
-}
-
-/// Asserts that each of these texts begins with its word.
-fn all_begin(rt: &impl Abort, alloc: Global, texts: &[(&str, Word)]) -> Result<(), Fail> {
-    for (source, want) in texts {
-        let word = first_word(alloc, source.as_bytes())?;
-        assert_eq!(rt; word, Some(*want), "at {source}");
-    }
-    Ok(())
-}
+use std::alloc::AllocError;
 
 #[test]
-fn texts_have_these_words(rt: HostRuntime) -> Result<(), Fail> {
-    let alloc = rt.alloc();
-    all_begin(
-        &rt,
-        alloc,
-        &[
-            ("extern x", Word::Extern),
-            ("static x", Word::Static),
-            ("const x", Word::Const),
-            ("void x", Word::Void),
-            ("unsigned x", Word::Unsigned),
-            ("char x", Word::Char),
-            ("int x", Word::Int),
-            ("long x", Word::Long),
-            ("if x", Word::If),
-            ("else x", Word::Else),
-            ("while x", Word::While),
-            ("do x", Word::Do),
-            ("for x", Word::For),
-            ("break x", Word::Break),
-            ("continue x", Word::Continue),
-            ("return x", Word::Return),
-            ("sizeof x", Word::SizeOf),
-            ("<<= x", Word::LeftShiftAssign),
-            (">>= x", Word::RightShiftAssign),
-            ("<< x", Word::LeftShift),
-            (">> x", Word::RightShift),
-            ("<= x", Word::LessEqual),
-            (">= x", Word::GreaterEqual),
-            ("== x", Word::Equal),
-            ("!= x", Word::NotEqual),
-            ("&& x", Word::AmpersandAmpersand),
-            ("|| x", Word::BarBar),
-            ("++ x", Word::PlusPlus),
-            ("-- x", Word::MinusMinus),
-            ("+= x", Word::AddAssign),
-            ("-= x", Word::SubtractAssign),
-            ("*= x", Word::MultiplyAssign),
-            ("/= x", Word::DivideAssign),
-            ("%= x", Word::RemainderAssign),
-            ("&= x", Word::AndAssign),
-            ("|= x", Word::OrAssign),
-            ("^= x", Word::XorAssign),
-            ("( x", Word::Open),
-            (") x", Word::Close),
-            ("[ x", Word::OpenBracket),
-            ("] x", Word::CloseBracket),
-            ("{ x", Word::OpenBrace),
-            ("} x", Word::CloseBrace),
-            ("; x", Word::Semicolon),
-            (", x", Word::Comma),
-            (": x", Word::Colon),
-            ("= x", Word::Assign),
-            ("+ x", Word::Plus),
-            ("- x", Word::Minus),
-            ("* x", Word::Star),
-            ("/ x", Word::Slash),
-            ("% x", Word::Percent),
-            ("& x", Word::Ampersand),
-            ("| x", Word::Bar),
-            ("^ x", Word::Caret),
-            ("~ x", Word::Tilde),
-            ("! x", Word::Exclamation),
-            ("< x", Word::Less),
-            ("> x", Word::Greater),
-            ("x", Word::Name),
-            ("_int", Word::Name),
-            ("struct", Word::OtherKeyword),
-            ("0x10u", Word::Number(16)),
-            ("18446744073709551615", Word::Number(18446744073709551615)),
-            ("'a'", Word::Character(97)),
-            ("'\\n'", Word::Character(10)),
-            ("\"a\"", Word::Text),
-        ],
-    )?;
-    assert_eq!(rt; first_word(alloc, b" /* none */ ")?, None);
+fn texts_have_these_words(rt: HostRuntime) -> Result<(), AllocError> {
     assert!(rt; is_same(Word::Number(1), Word::Number(2)) && !is_same(Word::Open, Word::Close));
-    Ok(())
+    all_tell(
+        &rt,
+        rt.alloc(),
+        Call::FirstWord,
+        &[
+            ("extern x", "Extern"),
+            ("static x", "Static"),
+            ("const x", "Const"),
+            ("void x", "Void"),
+            ("unsigned x", "Unsigned"),
+            ("char x", "Char"),
+            ("int x", "Int"),
+            ("long x", "Long"),
+            ("if x", "If"),
+            ("else x", "Else"),
+            ("while x", "While"),
+            ("do x", "Do"),
+            ("for x", "For"),
+            ("break x", "Break"),
+            ("continue x", "Continue"),
+            ("return x", "Return"),
+            ("sizeof x", "SizeOf"),
+            ("<<= x", "LeftShiftAssign"),
+            (">>= x", "RightShiftAssign"),
+            ("<< x", "LeftShift"),
+            (">> x", "RightShift"),
+            ("<= x", "LessEqual"),
+            (">= x", "GreaterEqual"),
+            ("== x", "Equal"),
+            ("!= x", "NotEqual"),
+            ("&& x", "AmpersandAmpersand"),
+            ("|| x", "BarBar"),
+            ("++ x", "PlusPlus"),
+            ("-- x", "MinusMinus"),
+            ("+= x", "AddAssign"),
+            ("-= x", "SubtractAssign"),
+            ("*= x", "MultiplyAssign"),
+            ("/= x", "DivideAssign"),
+            ("%= x", "RemainderAssign"),
+            ("&= x", "AndAssign"),
+            ("|= x", "OrAssign"),
+            ("^= x", "XorAssign"),
+            ("( x", "Open"),
+            (") x", "Close"),
+            ("[ x", "OpenBracket"),
+            ("] x", "CloseBracket"),
+            ("{ x", "OpenBrace"),
+            ("} x", "CloseBrace"),
+            ("; x", "Semicolon"),
+            (", x", "Comma"),
+            (": x", "Colon"),
+            ("= x", "Assign"),
+            ("+ x", "Plus"),
+            ("- x", "Minus"),
+            ("* x", "Star"),
+            ("/ x", "Slash"),
+            ("% x", "Percent"),
+            ("& x", "Ampersand"),
+            ("| x", "Bar"),
+            ("^ x", "Caret"),
+            ("~ x", "Tilde"),
+            ("! x", "Exclamation"),
+            ("< x", "Less"),
+            ("> x", "Greater"),
+            ("x", "Name"),
+            ("_int", "Name"),
+            ("struct", "OtherKeyword"),
+            ("0x10u", "Number(16)"),
+            ("18446744073709551615", "Number(18446744073709551615)"),
+            ("'a'", "Character(97)"),
+            ("'\\n'", "Character(10)"),
+            ("\"a\"", "Text"),
+            (" /* none */ ", "none"),
+            ("0", "Number(0)"),
+            ("00", "Number(0)"),
+            ("07", "Number(7)"),
+            ("0377u", "Number(255)"),
+            ("10", "Number(10)"),
+            ("10uL", "Number(10)"),
+            ("10LLu", "Number(10)"),
+            ("1ULL", "Number(1)"),
+            ("1l", "Number(1)"),
+            ("0x1F", "Number(31)"),
+            ("0xabcdefl", "Number(11259375)"),
+            ("18446744073709551615", "Number(18446744073709551615)"),
+            ("01777777777777777777777", "Number(18446744073709551615)"),
+            ("0xffffffffffffffffUll", "Number(18446744073709551615)"),
+            ("000000000000000000000000000000001", "Number(1)"),
+            ("'a'", "Character(97)"),
+            ("' '", "Character(32)"),
+            ("'\"'", "Character(34)"),
+            ("'\\''", "Character(39)"),
+            ("'\\\"'", "Character(34)"),
+            ("'\\?'", "Character(63)"),
+            ("'\\\\'", "Character(92)"),
+            ("'\\a'", "Character(7)"),
+            ("'\\b'", "Character(8)"),
+            ("'\\f'", "Character(12)"),
+            ("'\\n'", "Character(10)"),
+            ("'\\r'", "Character(13)"),
+            ("'\\t'", "Character(9)"),
+            ("'\\v'", "Character(11)"),
+            ("'\\0'", "Character(0)"),
+            ("'\\12'", "Character(10)"),
+            ("'\\377'", "Character(255)"),
+            ("'\\x7'", "Character(7)"),
+            ("'\\xfF'", "Character(255)"),
+        ],
+    )
 }

@@ -7,6 +7,8 @@ use cw_policies::read_policy;
 use cw_rights::{Hold, Policy, Primitive, Rights};
 use cw_states::{States, StatesFault, Uses};
 use std::alloc::{AllocError, Global};
+use std::process::Abort;
+use std::test::Fail;
 
 /// The source closes no number, and every label is the policy's.
 const PLAIN: Uses = Uses {
@@ -25,6 +27,30 @@ const CLOSING: Uses = Uses {
     closes: [true, true, true, false, false, false, false, false],
     has_other: false,
 };
+
+/// Six variables, and one before them.
+const SIX: &str = "[[descriptor]]
+name = \"u\"
+[[descriptor]]
+name = \"v\"
+[[descriptor]]
+name = \"w\"
+[[descriptor]]
+name = \"x\"
+[[descriptor]]
+name = \"y\"
+[[descriptor]]
+name = \"z\"
+";
+
+const ONE: &str = "[[descriptor]]
+name = \"t\"
+";
+
+/// A rule of any words, then `a`, and where it goes on.
+const LATE: &str = "[[rule]]
+name = \"late\"
+bad = \".* a";
 
 /// Three limits of one number, and a rule of 63 labels: 8 rights states and 64 policy states.
 const LONG: &str = "[[descriptor]]
@@ -78,97 +104,83 @@ label = \"done\"
 never = [\"in:CAP_READ\"]
 ";
 
-/// Variables of these names.
-fn variables(alloc: Global, names: &str) -> Result<Vec<u8>, AllocError> {
-    let mut text = b"format = 1\n".to_vec(alloc)?;
-    for name in names.bytes() {
-        text.extend_from_slice(b"[[descriptor]]\nname = \"")?;
-        text.push(name)?;
-        text.extend_from_slice(b"\"\n")?;
-    }
-    Ok(text)
-}
-
-/// A rule of any words, then `a`, then so many letters.
-fn before_the_last(alloc: Global, letters: usize) -> Result<Vec<u8>, AllocError> {
-    let mut text = b"format = 1\n[[rule]]\nname = \"late\"\nbad = \".* a".to_vec(alloc)?;
-    for _ in 0..letters {
-        text.extend_from_slice(b" .")?;
-    }
-    text.extend_from_slice(b"\"\n")?;
-    Ok(text)
-}
-
-fn joined(alloc: Global, parts: &[&str]) -> Result<Vec<u8>, AllocError> {
-    let mut text = Vec::new(alloc);
+/// A text of these parts.
+fn joined(alloc: Global, parts: &[&str]) -> Result<String, AllocError> {
+    let mut text = String::from_str(alloc, "")?;
     for part in parts {
-        text.extend_from_slice(part.as_bytes())?;
+        text.push_str(part)?;
     }
     Ok(text)
 }
 
-/// What there is of a policy: how many states, or why none.
-#[derive(Clone, Copy, Debug, PartialEq, Eq)]
-enum Outcome {
-    Unread,
-    Fault(StatesFault),
-    Count(u16),
-}
-
-fn states_of(alloc: Global, text: &[u8], uses: Uses) -> Outcome {
+/// How many states a policy has, or why none. There is no answer where it isn't read.
+fn states_of(alloc: Global, text: &[u8], uses: Uses) -> Option<Result<u16, StatesFault>> {
     match read_policy(alloc, text) {
-        Err(_) => Outcome::Unread,
+        Err(_) => None,
         Ok(policy) => match States::make(alloc, &policy, uses) {
-            Err(fault) => Outcome::Fault(fault),
-            Ok(states) => Outcome::Count(states.count()),
+            Err(fault) => Some(Err(fault)),
+            Ok(states) => Some(Ok(states.count())),
         },
     }
 }
 
+/// The parts of a policy's text, what its source closes, and how many states it has, or why none.
+type Counted<'t> = (&'t [&'t str], Uses, Result<u16, StatesFault>);
+
+/// Asserts how many states these policies have.
+fn all_count(rt: &impl Abort, alloc: Global, rows: &[Counted]) -> Result<(), AllocError> {
+    for (parts, uses, want) in rows {
+        let text = joined(alloc, parts)?;
+        assert!(rt;
+            states_of(alloc, text.as_bytes(), *uses) == Some(*want),
+            "{text}"
+        );
+    }
+    Ok(())
+}
+
+/// The number 1 is closed too in the last row.
 #[test]
 fn states_are_counted(rt: HostRuntime) -> Result<(), AllocError> {
-    let alloc = rt.alloc();
-    assert_eq!(rt; states_of(alloc, b"format = 1\n", PLAIN), Outcome::Count(2));
-    assert_eq!(rt; states_of(alloc, b"format = 1\n", OTHER), Outcome::Count(4));
-    assert_eq!(rt;
-        states_of(alloc, TOOL.as_bytes(), PLAIN),
-        Outcome::Count(72)
-    );
-    // closed, too: the number 1
-    assert_eq!(rt;
-        states_of(alloc, TOOL.as_bytes(), CLOSING),
-        Outcome::Count(108)
-    );
-    Ok(())
+    all_count(
+        &rt,
+        rt.alloc(),
+        &[
+            (&["format = 1\n"], PLAIN, Ok(2)),
+            (&["format = 1\n"], OTHER, Ok(4)),
+            (&[TOOL], PLAIN, Ok(72)),
+            (&[TOOL], CLOSING, Ok(108)),
+        ],
+    )
 }
 
 #[test]
 fn the_first_limit_is_told(rt: HostRuntime) -> Result<(), AllocError> {
-    let alloc = rt.alloc();
-    let long = joined(alloc, &["format = 1\n", LONG])?;
-    assert_eq!(rt; states_of(alloc, &long, OTHER), Outcome::Count(512));
-    let more = joined(alloc, &["format = 1\n", LONG, FOURTH])?;
-    assert_eq!(rt;
-        states_of(alloc, &more, OTHER),
-        Outcome::Fault(StatesFault::TooManyStates)
-    );
-    let twice = joined(alloc, &["format = 2\n", LONG, FOURTH])?;
-    assert_eq!(rt; states_of(alloc, &twice, OTHER), Outcome::Count(640));
-    let six = variables(alloc, "uvwxyz")?;
-    assert_eq!(rt; states_of(alloc, &six, PLAIN), Outcome::Count(128));
-    let seven = variables(alloc, "tuvwxyz")?;
-    assert_eq!(rt;
-        states_of(alloc, &seven, PLAIN),
-        Outcome::Fault(StatesFault::TooManyCaps)
-    );
-    let few = before_the_last(alloc, 5)?;
-    assert_eq!(rt; states_of(alloc, &few, OTHER), Outcome::Count(66));
-    let many = before_the_last(alloc, 6)?;
-    assert_eq!(rt;
-        states_of(alloc, &many, OTHER),
-        Outcome::Fault(StatesFault::TooManyWords)
-    );
-    Ok(())
+    all_count(
+        &rt,
+        rt.alloc(),
+        &[
+            (&["format = 1\n", LONG], OTHER, Ok(512)),
+            (
+                &["format = 1\n", LONG, FOURTH],
+                OTHER,
+                Err(StatesFault::TooManyStates),
+            ),
+            (&["format = 2\n", LONG, FOURTH], OTHER, Ok(640)),
+            (&["format = 1\n", SIX], PLAIN, Ok(128)),
+            (
+                &["format = 1\n", ONE, SIX],
+                PLAIN,
+                Err(StatesFault::TooManyCaps),
+            ),
+            (&["format = 1\n", LATE, " . . . . .\"\n"], OTHER, Ok(66)),
+            (
+                &["format = 1\n", LATE, " . . . . . .\"\n"],
+                OTHER,
+                Err(StatesFault::TooManyWords),
+            ),
+        ],
+    )
 }
 
 /// The state after the policy's limit with this number, where it may be granted.
@@ -186,47 +198,54 @@ fn limited(states: &States, policy: &Policy, state: u16, limit: usize) -> Option
     }
 }
 
-fn entered(states: &States, state: u16) -> Option<u16> {
+/// What leads from a state to another: a limit of the policy, an enter, an open or a close of a descriptor, a label, a return to the state of the
+/// call.
+#[derive(Clone, Copy)]
+enum Move {
+    Limit(usize),
+    Enter,
+    Open(u8),
+    Close(u8),
+    Label(u16),
+    Return(u16),
+}
+
+/// The state after a move, where it may be granted, or its letter isn't bad.
+fn moved(states: &States, policy: &Policy, state: u16, by: Move) -> Option<u16>
+    requires { states.now.policy ≡ policy.now }
+{
     if state >= states.count() {
         return None;
     }
-    if states.may_grant(StateId(state), Primitive::Enter) {
-        Some(states.granted(StateId(state), Primitive::Enter).0)
-    } else {
-        None
+    match by {
+        Move::Limit(limit) => limited(states, policy, state, limit),
+        Move::Enter if states.may_grant(StateId(state), Primitive::Enter) => {
+            Some(states.granted(StateId(state), Primitive::Enter).0)
+        }
+        Move::Open(descriptor) if (descriptor as usize) < policy.descriptors.len() => {
+            Some(states.opened(StateId(state), descriptor).0)
+        }
+        Move::Close(descriptor) if (descriptor as usize) < policy.descriptors.len() => {
+            Some(states.closed(StateId(state), descriptor).0)
+        }
+        Move::Label(label)
+            if label as usize <= policy.labels.len() && !states.bad(StateId(state), label) => {
+            Some(states.lettered(StateId(state), label).0)
+        }
+        Move::Return(call) if call < states.count() => {
+            Some(states.with_rights(StateId(state), StateId(call)).0)
+        }
+        _ => None,
     }
 }
 
-/// The states after an open of a descriptor, and after a close.
-fn held(states: &States, policy: &Policy, state: u16, descriptor: u8) -> Option<(u16, u16)>
+/// Asserts what these moves lead to.
+fn all_move(rt: &impl Abort, states: &States, policy: &Policy, rows: &[(u16, Move, Option<u16>)])
     requires { states.now.policy ≡ policy.now }
 {
-    if state >= states.count() || descriptor as usize >= policy.descriptors.len() {
-        return None;
+    for (state, by, want) in rows {
+        assert!(rt; moved(states, policy, *state, *by) == *want, "{state}");
     }
-    let opened = states.opened(StateId(state), descriptor);
-    Some((opened.0, states.closed(StateId(state), descriptor).0))
-}
-
-/// The state after a label, where its letter isn't bad.
-fn lettered(states: &States, policy: &Policy, state: u16, label: u16) -> Option<u16>
-    requires { states.now.policy ≡ policy.now }
-{
-    if state >= states.count() || label as usize > policy.labels.len() {
-        return None;
-    }
-    if states.bad(StateId(state), label) {
-        None
-    } else {
-        Some(states.lettered(StateId(state), label).0)
-    }
-}
-
-fn returned(states: &States, exit: u16, call: u16) -> Option<u16> {
-    if exit >= states.count() || call >= states.count() {
-        return None;
-    }
-    Some(states.with_rights(StateId(exit), StateId(call)).0)
 }
 
 fn first_hold(states: &States, state: u16) -> Option<Hold> {
@@ -236,34 +255,40 @@ fn first_hold(states: &States, state: u16) -> Option<Hold> {
     Some(states.caps(StateId(state)).holds[0])
 }
 
+/// At the start there is ambient authority, in and logfd are closed, 1 has all rights. As in is closed, its limit may not be granted; 1 keeps
+/// two rights. start wants ambient authority, parse wants none.
 #[test]
-fn the_tool_goes_from_state_to_state(rt: HostRuntime) -> Result<(), AllocError> {
-    let alloc = rt.alloc();
-    let Ok(policy) = read_policy(alloc, TOOL.as_bytes()) else {
-        assert!(rt; false, "the policy is read");
-        return Ok(());
+fn the_tool_goes_from_state_to_state(rt: HostRuntime) -> Result<(), Fail> {
+    let Ok(policy) = read_policy(rt.alloc(), TOOL.as_bytes()) else {
+        return Err(Fail::new("the policy is read"));
     };
-    let Ok(states) = States::make(alloc, &policy, PLAIN) else {
-        assert!(rt; false, "72 states are few");
-        return Ok(());
+    let Ok(states) = States::make(rt.alloc(), &policy, PLAIN) else {
+        return Err(Fail::new("72 states are few"));
     };
-    // with ambient authority, in and logfd closed, 1 with all rights
     assert_eq!(rt; states.start().0, 1);
-    assert!(rt; entered(&states, 1) == Some(19));
-    // the limits: in is closed; 1 keeps two rights
-    assert!(rt; limited(&states, &policy, 1, 0) == None);
-    assert!(rt; limited(&states, &policy, 1, 2) == Some(0));
-    assert!(rt; limited(&states, &policy, 13, 0) == Some(7));
-    assert!(rt; held(&states, &policy, 1, 0) == Some((13, 1)));
-    assert!(rt; held(&states, &policy, 13, 1) == Some((17, 13)));
-    assert!(rt; held(&states, &policy, 49, 0) == Some((49, 37)));
+    all_move(
+        &rt,
+        &states,
+        &policy,
+        &[
+            (1, Move::Enter, Some(19)),
+            (1, Move::Limit(0), None),
+            (1, Move::Limit(2), Some(0)),
+            (13, Move::Limit(0), Some(7)),
+            (1, Move::Open(0), Some(13)),
+            (1, Move::Close(0), Some(1)),
+            (13, Move::Open(1), Some(17)),
+            (13, Move::Close(1), Some(13)),
+            (49, Move::Open(0), Some(49)),
+            (49, Move::Close(0), Some(37)),
+            (1, Move::Label(0), Some(37)),
+            (19, Move::Label(0), None),
+            (1, Move::Label(1), None),
+            (18, Move::Label(1), Some(54)),
+            (37, Move::Return(19), Some(55)),
+        ],
+    );
     assert!(rt; first_hold(&states, 13) == Some(Hold::Open(Rights(0xfff))));
     assert!(rt; first_hold(&states, 43) == Some(Hold::Open(Rights(0x9))));
-    // start wants ambient authority, parse wants none
-    assert!(rt; lettered(&states, &policy, 1, 0) == Some(37));
-    assert!(rt; lettered(&states, &policy, 19, 0) == None);
-    assert!(rt; lettered(&states, &policy, 1, 1) == None);
-    assert!(rt; lettered(&states, &policy, 18, 1) == Some(54));
-    assert!(rt; returned(&states, 37, 19) == Some(55));
     Ok(())
 }

@@ -2,6 +2,10 @@
 #![tactic(auto)]
 
 #[cfg(test)]
+mod given;
+#[cfg(test)]
+mod samples;
+#[cfg(test)]
 mod strategies;
 #[cfg(test)]
 mod tables;

@@ -1,11 +1,12 @@
 //! Strategies as text: each fault with its line, both formats.
 
+use crate::given::{put_numbered, put_rows};
 use cw_certs::{EnvCert, EnvRow, How};
-use cw_core::{PosId, StateId, StateSet, put_dec};
+use cw_core::{NoMemory, PosId, StateId, StateSet};
 use cw_io::{MemSink, SinkFault, SureSink};
 use cw_lines::TextFault;
 use cw_strategies::{print_env, read_again, read_env};
-use std::alloc::Global;
+use std::alloc::{AllocError, Global};
 use std::process::Abort;
 use std::test::Fail;
 
@@ -13,64 +14,45 @@ const FIRST: &str = "capweave strategy 1\nstates 4\n";
 
 const SECOND: &str = "capweave strategy 2\nstates 4\n";
 
-/// A sink that took the text of a strategy.
-fn printed(alloc: Global, cert: &EnvCert, format: u8) -> Result<SureSink, Fail> {
-    let mut sink = SureSink::make(alloc);
-    print_env(cert, format, &mut sink)?;
-    Ok(sink)
-}
-
-/// The fault of a text, or none where it is a strategy's, which is then printed as the same text.
-fn fault_of(alloc: Global, text: &[u8], format: u8) -> Result<Option<TextFault>, Fail> {
+/// The fault of a text, or none where it is a strategy's, which is then printed as the same text; NoMemory where it isn't.
+fn fault_of(alloc: Global, text: &[u8], format: u8) -> Option<TextFault> {
     match read_env(alloc, text, format) {
-        Err(fault) => Ok(Some(fault)),
+        Err(fault) => Some(fault),
         Ok(cert) => {
-            let again = printed(alloc, &cert, format)?;
-            if again.bytes() == text {
-                Ok(None)
-            } else {
-                Ok(Some(TextFault::NoMemory))
+            let mut again = SureSink::make(alloc);
+            match print_env(&cert, format, &mut again) {
+                Ok(()) if again.bytes() == text => None,
+                _ => Some(TextFault::NoMemory),
             }
         }
     }
 }
 
-/// Asserts that a text is a strategy's of this format, or has this fault; `rows` is told where it isn't so.
-fn expect_fault(
-    rt: &impl Abort,
-    alloc: Global,
-    text: &[u8],
-    format: u8,
-    want: Option<TextFault>,
-    rows: &str,
-) -> Result<(), Fail> {
-    let fault = fault_of(alloc, text, format)?;
-    assert_eq!(rt; fault, want, "format {format}: {rows}");
-    Ok(())
-}
-
-/// Asserts that each of these texts, behind this head, is a strategy's of this format, or has this fault.
+/// Asserts that each of these texts, behind this head and before this tail, is a strategy's of this format, or has this fault.
 fn all_read(
     rt: &impl Abort,
     alloc: Global,
     format: u8,
     head: &str,
+    tail: &str,
     texts: &[(&str, Option<TextFault>)],
-) -> Result<(), Fail> {
+) -> Result<(), AllocError> {
     for (rows, want) in texts {
-        let text = format!(in alloc; "{head}{rows}")?;
-        expect_fault(rt, alloc, text.as_bytes(), format, *want, rows)?;
+        let text = format!(in alloc; "{head}{rows}{tail}")?;
+        let fault = fault_of(alloc, text.as_bytes(), format);
+        assert_eq!(rt; fault, *want, "format {format}: {rows}");
     }
     Ok(())
 }
 
 #[test]
-fn first_lines(rt: HostRuntime) -> Result<(), Fail> {
+fn first_lines(rt: HostRuntime) -> Result<(), AllocError> {
     let alloc = rt.alloc();
     all_read(
         &rt,
         alloc,
         1,
+        "",
         "",
         &[
             ("", Some(TextFault::Line(1))),
@@ -133,6 +115,7 @@ fn first_lines(rt: HostRuntime) -> Result<(), Fail> {
         alloc,
         2,
         "",
+        "",
         &[(
             "capweave strategy 1\nstates 4\nend\n",
             Some(TextFault::Line(1)),
@@ -141,12 +124,13 @@ fn first_lines(rt: HostRuntime) -> Result<(), Fail> {
 }
 
 #[test]
-fn rows_of_the_first_format(rt: HostRuntime) -> Result<(), Fail> {
+fn rows_of_the_first_format(rt: HostRuntime) -> Result<(), AllocError> {
     all_read(
         &rt,
         rt.alloc(),
         1,
         FIRST,
+        "",
         &[
             ("end\n", None),
             ("", Some(TextFault::Line(3))),
@@ -243,12 +227,13 @@ fn rows_of_the_first_format(rt: HostRuntime) -> Result<(), Fail> {
 }
 
 #[test]
-fn rows_of_the_second_format(rt: HostRuntime) -> Result<(), Fail> {
+fn rows_of_the_second_format(rt: HostRuntime) -> Result<(), AllocError> {
     all_read(
         &rt,
         rt.alloc(),
         2,
         SECOND,
+        "",
         &[
             (
                 "0 1 2 0x100000000000000000000000000000000000000000000000000000000000000000000000000000000000000000000000000000000000000000000000000000000 bad\nend\n",
@@ -271,41 +256,60 @@ fn rows_of_the_second_format(rt: HostRuntime) -> Result<(), Fail> {
 
 /// A set with the number 511 is one of format 1, a set with the number 512 one of format 2 alone.
 #[test]
-fn largest_numbers_of_a_set(rt: HostRuntime) -> Result<(), Fail> {
+fn largest_numbers_of_a_set(rt: HostRuntime) -> Result<(), AllocError> {
     let alloc = rt.alloc();
-    for (head, first, zeros, format, want) in [
-        (FIRST, "8", 127, 1, None),
-        (FIRST, "1", 128, 1, Some(TextFault::Line(3))),
-        (SECOND, "8", 127, 2, Some(TextFault::Line(3))),
-        (SECOND, "c", 127, 2, Some(TextFault::Line(3))),
-    ] {
-        let mut text = format!(in alloc; "{head}0 1 2 0x{first}")?;
-        for _ in 0..zeros {
-            text.push('0')?;
-        }
-        text.push_str(" bad\nend\n")?;
-        expect_fault(&rt, alloc, text.as_bytes(), format, want, &text)?;
-    }
-    Ok(())
+    all_read(
+        &rt,
+        alloc,
+        1,
+        FIRST,
+        " bad\nend\n",
+        &[
+            (
+                "0 1 2 0x80000000000000000000000000000000000000000000000000000000000000000000000000000000000000000000000000000000000000000000000000000000",
+                None,
+            ),
+            (
+                "0 1 2 0x100000000000000000000000000000000000000000000000000000000000000000000000000000000000000000000000000000000000000000000000000000000",
+                Some(TextFault::Line(3)),
+            ),
+        ],
+    )?;
+    all_read(
+        &rt,
+        alloc,
+        2,
+        SECOND,
+        " bad\nend\n",
+        &[
+            (
+                "0 1 2 0x80000000000000000000000000000000000000000000000000000000000000000000000000000000000000000000000000000000000000000000000000000000",
+                Some(TextFault::Line(3)),
+            ),
+            (
+                "0 1 2 0xc0000000000000000000000000000000000000000000000000000000000000000000000000000000000000000000000000000000000000000000000000000000",
+                Some(TextFault::Line(3)),
+            ),
+        ],
+    )
 }
 
 /// Asserts that these rows are a strategy's in both formats, and that its text in the other format and without its last LF is none.
-fn reads_whole(rt: &impl Abort, alloc: Global, rows: &str, last: u32) -> Result<(), Fail> {
-    for (head, format, other) in [(FIRST, 1, 2), (SECOND, 2, 1)] {
-        let text = format!(in alloc; "{head}{rows}end\n")?;
-        let bytes = text.as_bytes();
-        expect_fault(rt, alloc, bytes, format, None, rows)?;
-        expect_fault(rt, alloc, bytes, other, Some(TextFault::Line(1)), rows)?;
-        let cut = &bytes[..bytes.len() - 1];
-        expect_fault(rt, alloc, cut, format, Some(TextFault::Line(last)), rows)?;
-    }
-    Ok(())
+fn reads_whole(rt: &impl Abort, alloc: Global, rows: &str, last: u32) -> Result<(), AllocError> {
+    let other = Some(TextFault::Line(1));
+    let cut = Some(TextFault::Line(last));
+    all_read(rt, alloc, 1, FIRST, "end\n", &[(rows, None)])?;
+    all_read(rt, alloc, 2, FIRST, "end\n", &[(rows, other)])?;
+    all_read(rt, alloc, 1, FIRST, "end", &[(rows, cut)])?;
+    all_read(rt, alloc, 2, SECOND, "end\n", &[(rows, None)])?;
+    all_read(rt, alloc, 1, SECOND, "end\n", &[(rows, other)])?;
+    all_read(rt, alloc, 2, SECOND, "end", &[(rows, cut)])
 }
 
 /// A label must be passed with ambient authority, a later one without, and nothing stands between both; and a refused
 /// enter. Without its last LF, and in the other format, neither is a strategy's text.
 #[test]
-fn whole_strategies(rt: HostRuntime) -> Result<(), Fail> {
+fn whole_strategies(rt: HostRuntime) -> Result<(), AllocError> {
     let alloc = rt.alloc();
     reads_whole(
         &rt,
@@ -321,94 +325,109 @@ fn whole_strategies(rt: HostRuntime) -> Result<(), Fail> {
     )
 }
 
-/// A text of so many rows that are bad, and of one more row with so many backs.
-fn long_text(alloc: Global, bad: u64, backs: u64) -> Result<Vec<u8>, Fail> {
-    let mut text = FIRST.as_bytes().to_vec(alloc)?;
-    for number in 0..bad {
-        put_dec(number, &mut text)?;
-        text.extend_from_slice(b" 0 0 0x0 bad\n")?;
-    }
-    put_dec(bad, &mut text)?;
-    text.extend_from_slice(b" 0 0 0x0 into 0")?;
-    for exit in 0..backs {
-        text.extend_from_slice(b" ")?;
-        put_dec(exit, &mut text)?;
-        text.extend_from_slice(b"=0")?;
-    }
+/// Appends a text of so many rows that are bad, and of one more row with so many backs.
+fn put_long(bad: u64, backs: u64, text: &mut Vec<u8>) -> Result<(), NoMemory> {
+    text.extend_from_slice(FIRST.as_bytes())?;
+    put_rows(b"", 0, bad, b" 0 0 0x0 bad\n", text)?;
+    put_numbered(b"", bad, b" 0 0 0x0 into 0", text)?;
+    put_rows(b" ", 0, backs, b"=0", text)?;
     text.extend_from_slice(b"\nend\n")?;
-    Ok(text)
+    Ok(())
+}
+
+/// Asserts that a text of so many rows and backs is a strategy's, or has this fault.
+fn expect_long(
+    rt: &impl Abort,
+    alloc: Global,
+    bad: u64,
+    backs: u64,
+    want: Option<TextFault>,
+) -> Result<(), NoMemory> {
+    let mut text = Vec::new(alloc);
+    put_long(bad, backs, &mut text)?;
+    assert_eq!(rt; fault_of(alloc, &text, 1), want, "{bad} {backs}");
+    Ok(())
 }
 
 /// Rows and backs together are at most 65,536.
 #[test]
 fn most_rows(rt: HostRuntime) -> Result<(), Fail> {
     let alloc = rt.alloc();
-    for (bad, backs, want) in [
-        (65535, 0, None),
-        (65536, 0, Some(TextFault::Limit(65539))),
-        (0, 65535, None),
-        (0, 65536, Some(TextFault::Limit(3))),
-        (65530, 5, None),
-        (65530, 6, Some(TextFault::Limit(65533))),
-    ] {
-        let text = long_text(alloc, bad, backs)?;
-        let fault = fault_of(alloc, &text, 1)?;
-        assert_eq!(rt; fault, want, "{bad} {backs}");
-    }
+    expect_long(&rt, alloc, 65535, 0, None)?;
+    expect_long(&rt, alloc, 65536, 0, Some(TextFault::Limit(65539)))?;
+    expect_long(&rt, alloc, 0, 65535, None)?;
+    expect_long(&rt, alloc, 0, 65536, Some(TextFault::Limit(3)))?;
+    expect_long(&rt, alloc, 65530, 5, None)?;
+    expect_long(&rt, alloc, 65530, 6, Some(TextFault::Limit(65533)))?;
     Ok(())
 }
 
-/// A strategy of one row.
-fn one_row(alloc: Global) -> Result<EnvCert, Fail> {
+/// A strategy of so many rows, whose positions are numbered from the first.
+fn rows_from(alloc: Global, first: u32, count: u32) -> Result<EnvCert, AllocError> {
     let mut rows = Vec::new(alloc);
-    rows.push(EnvRow {
-        pos: PosId(1),
-        state: StateId(2),
-        aim: StateSet::from_bits(0xfff),
-        how: How::Both { skip: 3, tried: 4 },
-    })?;
+    for number in 0..count {
+        rows.push(EnvRow {
+            pos: PosId(first.saturating_add(number)),
+            state: StateId(2),
+            aim: StateSet::from_bits(0xfff),
+            how: How::Both { skip: 3, tried: 4 },
+        })?;
+    }
     Ok(EnvCert { states: 5, rows })
+}
+
+/// Asserts what a sink answers whose puts of these numbers fail, what it has then, and that the longest piece has at least so many
+/// bytes and at most 4,096.
+fn expect_printed(
+    rt: &impl Abort,
+    cert: &EnvCert,
+    format: u8,
+    sink: &mut MemSink,
+    want: Result<(), SinkFault>,
+    bytes: &[u8],
+    least: usize,
+) {
+    assert_eq!(rt; print_env(cert, format, sink), want);
+    assert!(rt; sink.bytes() == bytes);
+    assert!(rt; least <= sink.longest() && sink.longest() <= 4096);
 }
 
 #[test]
 fn put_to_sinks(rt: HostRuntime) -> Result<(), Fail> {
     let alloc = rt.alloc();
-    let cert = one_row(alloc)?;
+    let cert = rows_from(alloc, 1, 1)?;
     let want = "capweave strategy 2\nstates 5\n0 1 2 0-11 both 3 4\nend\n";
     let mut sure = SureSink::make(alloc);
     assert_eq!(rt; print_env(&cert, 2, &mut sure), Ok(()));
     assert_eq!(rt; sure.bytes(), want.as_bytes());
-    let mut failing = MemSink::make(alloc, Vec::from_array(alloc, [0])?);
-    assert_eq!(rt; print_env(&cert, 1, &mut failing), Err(SinkFault::Failed));
-    assert_eq!(rt; failing.bytes(), "capweave strategy 1\nstates ".as_bytes());
+    let mut sink = MemSink::make(alloc, Vec::from_array(alloc, [0])?);
+    let half = b"capweave strategy 1\nstates ";
+    expect_printed(&rt, &cert, 1, &mut sink, Err(SinkFault::Failed), half, 0);
     Ok(())
+}
+
+/// So many bytes at the front, or all where there are fewer.
+fn front_of(bytes: &[u8], count: usize) -> &[u8] {
+    match bytes.get(..count) {
+        Some(front) => front,
+        None => bytes,
+    }
 }
 
 /// A long text is put in pieces of 4,096 bytes; after one that fails nothing more is put.
 #[test]
 fn put_in_pieces(rt: HostRuntime) -> Result<(), Fail> {
     let alloc = rt.alloc();
-    let mut rows = Vec::new(alloc);
-    for number in 0..600u32 {
-        rows.push(EnvRow {
-            pos: PosId(number),
-            state: StateId(2),
-            aim: StateSet::from_bits(0xfff),
-            how: How::Both { skip: 3, tried: 4 },
-        })?;
-    }
-    let cert = EnvCert { states: 5, rows };
-    let whole = printed(alloc, &cert, 1)?;
-    assert!(rt; whole.bytes().len() > 3 * 4096);
+    let cert = rows_from(alloc, 0, 600)?;
+    let mut whole = SureSink::make(alloc);
+    assert_eq!(rt; print_env(&cert, 1, &mut whole), Ok(()));
+    let bytes = whole.bytes();
+    assert!(rt; bytes.len() > 3 * 4096);
     let mut sink = MemSink::make(alloc, Vec::new(alloc));
-    assert_eq!(rt; print_env(&cert, 1, &mut sink), Ok(()));
-    assert_eq!(rt; sink.bytes(), whole.bytes());
-    assert_eq!(rt; sink.longest(), 4096);
+    expect_printed(&rt, &cert, 1, &mut sink, Ok(()), bytes, 4096);
     let mut failing = MemSink::make(alloc, Vec::from_array(alloc, [1])?);
-    let answer = print_env(&cert, 1, &mut failing);
-    assert_eq!(rt; answer, Err(SinkFault::Failed));
-    assert!(rt; whole.bytes().starts_with(failing.bytes()));
-    assert_eq!(rt; failing.bytes().len(), 4096 + 2048);
+    let half = front_of(bytes, 4096 + 2048);
+    expect_printed(&rt, &cert, 1, &mut failing, Err(SinkFault::Failed), half, 0);
     Ok(())
 }
 
@@ -416,11 +435,11 @@ fn put_in_pieces(rt: HostRuntime) -> Result<(), Fail> {
 #[test]
 fn read_twice(rt: HostRuntime) -> Result<(), Fail> {
     let alloc = rt.alloc();
-    let text = "capweave strategy 2\nstates 5\n0 1 2 0-11 into 3 4=5\nend\n";
-    let Ok(cert) = read_env(alloc, text.as_bytes(), 2) else {
-        panic!(rt; "not read");
-    };
+    let text = b"capweave strategy 2\nstates 5\n0 1 2 0-11 into 3 4=5\nend\n";
+    let cert = read_env(alloc, text, 2)?;
     let again = read_again(alloc, &cert, 2)?;
-    assert_eq!(rt; printed(alloc, &again, 2)?.bytes(), text.as_bytes());
+    let mut sink = SureSink::make(alloc);
+    assert_eq!(rt; print_env(&again, 2, &mut sink), Ok(()));
+    assert!(rt; sink.bytes() == text.as_slice());
     Ok(())
 }

@@ -1,11 +1,12 @@
 //! Tables as text: each fault with its line, both formats.
 
-use cw_core::put_dec;
+use crate::given::put_rows;
+use cw_core::NoMemory;
 use cw_io::{MemSink, SinkFault, SureSink};
 use cw_lines::TextFault;
 use cw_rights::{Descriptor, Limit, Policy, Rights};
 use cw_tabletext::{print_tables, read_tables};
-use std::alloc::Global;
+use std::alloc::{AllocError, Global};
 use std::process::Abort;
 use std::test::Fail;
 
@@ -24,7 +25,16 @@ fn policy(alloc: Global, format: u8, name: &str, kept: &[u16]) -> Result<Policy,
             keep: Rights(*keep),
         })?;
     }
-    Ok(Policy {
+    Ok(policy_of(alloc, format, descriptors, limits))
+}
+
+fn policy_of(
+    alloc: Global,
+    format: u8,
+    descriptors: Vec<Descriptor>,
+    limits: Vec<Limit>,
+) -> Policy {
+    Policy {
         descriptors,
         limits,
         refuse_limit: false,
@@ -36,20 +46,18 @@ fn policy(alloc: Global, format: u8, name: &str, kept: &[u16]) -> Result<Policy,
         stop: false,
         format,
         detached: Vec::new(alloc),
-    })
+    }
 }
 
 /// The fault of a text, or none where it is a table's, which is then put as the same text; NoMemory where it isn't.
-fn fault_of(alloc: Global, text: &[u8], policy: &Policy) -> Result<Option<TextFault>, Fail> {
+fn fault_of(alloc: Global, text: &[u8], policy: &Policy) -> Option<TextFault> {
     match read_tables(alloc, text, policy) {
-        Err(fault) => Ok(Some(fault)),
+        Err(fault) => Some(fault),
         Ok(cert) => {
             let mut again = SureSink::make(alloc);
-            print_tables(&cert, policy, &mut again)?;
-            if again.bytes() == text {
-                Ok(None)
-            } else {
-                Ok(Some(TextFault::NoMemory))
+            match print_tables(&cert, policy, &mut again) {
+                Ok(()) if again.bytes() == text => None,
+                _ => Some(TextFault::NoMemory),
             }
         }
     }
@@ -73,41 +81,59 @@ const LINES: [&str; 14] = [
     "CW_DONE",
 ];
 
-/// That table's text for a format, with another text for the line of this number.
-fn edited(alloc: Global, format: u8, at: usize, new: &str) -> Result<Vec<u8>, Fail> {
-    let mut text = Vec::new(alloc);
+/// The line of this index for a format.
+fn line_of(format: u8, index: usize) -> &'static str {
+    match (format, index) {
+        (1, 2) => "CW_TABLE(1,4,0)",
+        (2, 2) => "CW_TABLE(2,4,0)",
+        _ => match LINES.get(index) {
+            Some(line) => *line,
+            None => "",
+        },
+    }
+}
+
+/// Appends that table's text for a format, with another text for the line of this number.
+fn put_edited(format: u8, at: usize, new: &str, text: &mut Vec<u8>) -> Result<(), AllocError> {
     for index in 0..LINES.len() {
-        let number = index + 1;
-        if number == at {
+        if index + 1 == at {
             text.extend_from_slice(new.as_bytes())?;
-        } else if number == 3 {
-            text.extend_from_slice(b"CW_TABLE(")?;
-            put_dec(u64::from(format), &mut text)?;
-            text.extend_from_slice(b",4,0)\n")?;
         } else {
-            text.extend_from_slice(LINES[index].as_bytes())?;
+            text.extend_from_slice(line_of(format, index).as_bytes())?;
             text.extend_from_slice(b"\n")?;
         }
     }
-    Ok(text)
+    Ok(())
 }
 
-/// Asserts that the table's text with this line put in for that of this number is a table's in these formats, or has this fault.
+/// Asserts that the table's text with this line put in for that of this number is a table's in this format, or has this fault.
+fn all_edited(
+    rt: &impl Abort,
+    alloc: Global,
+    format: u8,
+    edits: &[(usize, &str, Option<TextFault>)],
+) -> Result<(), Fail> {
+    let policy = policy(alloc, format, "fd", &[1])?;
+    for (at, new, want) in edits {
+        let mut text = Vec::new(alloc);
+        put_edited(format, *at, new, &mut text)?;
+        assert_eq!(rt;
+            fault_of(alloc, &text, &policy),
+            *want,
+            "{format} {at} {new}"
+        );
+    }
+    Ok(())
+}
+
+/// Asserts this in both formats.
 fn all_read(
     rt: &impl Abort,
     alloc: Global,
-    formats: &[u8],
     edits: &[(usize, &str, Option<TextFault>)],
 ) -> Result<(), Fail> {
-    for format in formats {
-        let policy = policy(alloc, *format, "fd", &[1])?;
-        for (at, new, want) in edits {
-            let text = edited(alloc, *format, *at, new)?;
-            let fault = fault_of(alloc, &text, &policy)?;
-            assert_eq!(rt; fault, *want, "{format} {at} {new}");
-        }
-    }
-    Ok(())
+    all_edited(rt, alloc, 1, edits)?;
+    all_edited(rt, alloc, 2, edits)
 }
 
 /// The lines before the rows.
@@ -116,7 +142,6 @@ fn lines_of_the_head(rt: HostRuntime) -> Result<(), Fail> {
     all_read(
         &rt,
         rt.alloc(),
-        &[1, 2],
         &[
             (1, "", Some(TextFault::Line(1))),
             (1, "#include \"capweave.h\" \n", Some(TextFault::Line(1))),
@@ -156,7 +181,6 @@ fn lines_of_memories(rt: HostRuntime) -> Result<(), Fail> {
     all_read(
         &rt,
         rt.alloc(),
-        &[1, 2],
         &[
             (4, "CW_MEM(1,0,0xf)\n", Some(TextFault::Order(4))),
             (4, "CW_MEM(0,65536,0xf)\n", Some(TextFault::Line(4))),
@@ -198,7 +222,6 @@ fn lines_of_rows(rt: HostRuntime) -> Result<(), Fail> {
     all_read(
         &rt,
         rt.alloc(),
-        &[1, 2],
         &[
             (8, "CW_TRY(1,256,0,1,0)\n", Some(TextFault::Line(8))),
             (8, "CW_TRY(1,255,0,CW_NONE,CW_NONE)\n", None),
@@ -259,10 +282,10 @@ fn lines_of_rows(rt: HostRuntime) -> Result<(), Fail> {
 #[test]
 fn lines_of_one_format(rt: HostRuntime) -> Result<(), Fail> {
     let alloc = rt.alloc();
-    all_read(
+    all_edited(
         &rt,
         alloc,
-        &[1],
+        1,
         &[
             (3, "CW_TABLE(1,65536,0)\n", Some(TextFault::Line(3))),
             (3, "CW_TABLE(1,04,0)\n", Some(TextFault::Line(3))),
@@ -277,10 +300,10 @@ fn lines_of_one_format(rt: HostRuntime) -> Result<(), Fail> {
             (5, "CW_MEM(1,0,0x10)\n", None),
         ],
     )?;
-    all_read(
+    all_edited(
         &rt,
         alloc,
-        &[2],
+        2,
         &[
             (4, "CW_MEM(0,0,15)\n", None),
             (4, "CW_MEM(0,0,512)\n", None),
@@ -294,41 +317,38 @@ fn lines_of_one_format(rt: HostRuntime) -> Result<(), Fail> {
     )
 }
 
-/// So many rows, the last three of returns.
-fn many(alloc: Global, count: u32) -> Result<Vec<u8>, Fail> {
-    let mut text =
-        b"#include \"capweave.h\"\n#define CW_LIMITS(X) X(0,fd,0x1)\nCW_TABLE(1,4,0)\n".to_vec(
-            alloc,
-        )?;
-    for number in 0..count {
-        if count - number > 3 {
-            text.extend_from_slice(b"CW_LIVE(")?;
-            put_dec(u64::from(number), &mut text)?;
-            text.extend_from_slice(b",0)\n")?;
-        } else {
-            text.extend_from_slice(b"CW_BACK(")?;
-            put_dec(u64::from(number), &mut text)?;
-            text.extend_from_slice(b",0,0,0,0)\n")?;
-        }
-    }
+/// Appends so many rows, the last three of returns.
+fn put_many(count: u64, text: &mut Vec<u8>) -> Result<(), NoMemory> {
+    text.extend_from_slice(
+        b"#include \"capweave.h\"\n#define CW_LIMITS(X) X(0,fd,0x1)\nCW_TABLE(1,4,0)\n",
+    )?;
+    let returns = count.saturating_sub(3);
+    put_rows(b"CW_LIVE(", 0, returns, b",0)\n", text)?;
+    put_rows(b"CW_BACK(", returns, count, b",0,0,0,0)\n", text)?;
     text.extend_from_slice(b"CW_DONE\n")?;
-    Ok(text)
+    Ok(())
+}
+
+/// Asserts that a text of so many rows is a table's, or has this fault.
+fn expect_many(
+    rt: &impl Abort,
+    alloc: Global,
+    count: u64,
+    want: Option<TextFault>,
+) -> Result<(), Fail> {
+    let policy = policy(alloc, 1, "fd", &[1])?;
+    let mut text = Vec::new(alloc);
+    put_many(count, &mut text)?;
+    assert_eq!(rt; fault_of(alloc, &text, &policy), want, "{count}");
+    Ok(())
 }
 
 /// 65,536 rows and one more.
 #[test]
 fn too_many_rows(rt: HostRuntime) -> Result<(), Fail> {
-    let alloc = rt.alloc();
-    let policy = policy(alloc, 1, "fd", &[1])?;
-    for (count, want) in [
-        (65_536, None),
-        (65_537, Some(TextFault::Limit(65_540))),
-        (65_538, Some(TextFault::Limit(65_540))),
-    ] {
-        let text = many(alloc, count)?;
-        assert_eq!(rt; fault_of(alloc, &text, &policy)?, want, "{count}");
-    }
-    Ok(())
+    expect_many(&rt, rt.alloc(), 65_536, None)?;
+    expect_many(&rt, rt.alloc(), 65_537, Some(TextFault::Limit(65_540)))?;
+    expect_many(&rt, rt.alloc(), 65_538, Some(TextFault::Limit(65_540)))
 }
 
 const ENTERED: &str =
@@ -346,16 +366,18 @@ const WIDE: &str =
 const KEPT: &str =
     "#include \"capweave.h\"\n#define CW_LIMITS(X) X(0,0,0x5) X(1,0,0x6)\nCW_TABLE(2,12,1)\nCW_MEM(0,1,0-11)\nCW_MEM(1,2,0-11)\nCW_MEM(2,7,0-11)\nCW_LIVE(0,1)\nCW_LIVE(2,1)\nCW_LIVE(4,1)\nCW_LIVE(6,1)\nCW_LIVE(7,1)\nCW_LIVE(9,1)\nCW_LIVE(10,1)\nCW_LIVE(11,0)\nCW_LIVE(13,0)\nCW_LIVE(14,2)\nCW_LIVE(15,2)\nCW_LIVE(16,2)\nCW_TRY(1,1,1,0,CW_NONE)\nCW_AT(1,0,2)\nCW_DONE\n";
 
-/// Asserts that a text is a table's under a policy, or has this fault.
+/// Asserts that a text is a table's under the policy of this format with these rights kept of this descriptor, or has this fault.
 fn expect_table(
     rt: &impl Abort,
     alloc: Global,
     text: &str,
-    policy: &Policy,
+    format: u8,
+    name: &str,
+    kept: &[u16],
     want: Option<TextFault>,
 ) -> Result<(), Fail> {
-    let fault = fault_of(alloc, text.as_bytes(), policy)?;
-    assert_eq!(rt; fault, want, "{text}");
+    let policy = policy(alloc, format, name, kept)?;
+    assert_eq!(rt; fault_of(alloc, text.as_bytes(), &policy), want, "{text}");
     Ok(())
 }
 
@@ -363,15 +385,13 @@ fn expect_table(
 #[test]
 fn tables_of_programs(rt: HostRuntime) -> Result<(), Fail> {
     let alloc = rt.alloc();
-    let none = policy(alloc, 1, "fd", &[])?;
-    expect_table(&rt, alloc, ENTERED, &none, None)?;
-    expect_table(&rt, alloc, SPLIT, &none, None)?;
-    expect_table(&rt, alloc, PROMISED, &none, None)?;
-    let wide = policy(alloc, 2, "0", &[1, 2, 0, 3])?;
-    expect_table(&rt, alloc, WIDE, &wide, None)?;
-    let kept = policy(alloc, 2, "0", &[5, 6])?;
-    expect_table(&rt, alloc, KEPT, &kept, None)?;
-    expect_table(&rt, alloc, KEPT, &wide, Some(TextFault::Line(2)))
+    expect_table(&rt, alloc, ENTERED, 1, "fd", &[], None)?;
+    expect_table(&rt, alloc, SPLIT, 1, "fd", &[], None)?;
+    expect_table(&rt, alloc, PROMISED, 1, "fd", &[], None)?;
+    expect_table(&rt, alloc, WIDE, 2, "0", &[1, 2, 0, 3], None)?;
+    expect_table(&rt, alloc, KEPT, 2, "0", &[5, 6], None)?;
+    let limits = Some(TextFault::Line(2));
+    expect_table(&rt, alloc, KEPT, 2, "0", &[1, 2, 0, 3], limits)
 }
 
 /// A sink gets the whole of a short text in one piece, or half of it where it fails.

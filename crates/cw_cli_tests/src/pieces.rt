@@ -1,8 +1,5 @@
 //! A long text goes out in pieces, of which each fails in turn.
-use crate::ground::{files, status_of};
-use cw_io::{MemSink, PIECE, SureShelf, SureSink};
-use std::alloc::Global;
-use std::process::Abort;
+use crate::given::{NO_EDIT, all_fail};
 use std::test::Fail;
 
 /// A tool that sums numbers, with a log.
@@ -112,42 +109,26 @@ label = "done"
 never = ["in:CAP_READ"]
 "#;
 
-const WEAVE: [&str; 3] = ["weave", "0", "1"];
+const WEAVE: [&str; 3] = ["weave", "p.toml", "s.c"];
 
-/// Asserts what a run answers of which one put, counted from 0, fails: the whole text has five pieces.
-fn goes_out(rt: &impl Abort, alloc: Global, whole: &[u8], failing: u32) -> Result<(), Fail> {
-    let texts = [SUMS_POLICY, SUMS];
-    let mut shelf = SureShelf::make(files(alloc, &texts)?);
-    let mut out = MemSink::make(alloc, vec![in alloc; failing; 1]?);
-    let mut note = SureSink::make(alloc);
-    let status = status_of(alloc, &WEAVE, &mut shelf, &mut out, &mut note)?;
-    assert!(rt; whole.starts_with(out.bytes()), "put {failing}");
-    let (wanted, line) = if failing < 5 { (7, "write\n") } else { (0, "") };
-    assert_eq!(rt; status, wanted, "put {failing}");
-    assert_eq!(rt; note.bytes(), line.as_bytes(), "put {failing}");
-    if failing < 4 {
-        assert_eq!(rt; out.longest(), PIECE, "put {failing}");
-        assert_eq!(rt;
-            out.bytes().len(),
-            failing as usize * PIECE + PIECE / 2,
-            "put {failing}"
-        );
-    }
-    Ok(())
-}
+/// How a woven text begins.
+const FRONT: &str = "/*cw{*/\n#include \"capweave.h\"\n";
 
+/// The text has 19,793 bytes, which are four pieces of 4,096 and one of 3,409: of a piece that fails the first half is put.
 #[test]
 fn a_long_text_goes_out_in_pieces_each_of_which_may_fail(rt: HostRuntime) -> Result<(), Fail> {
-    let alloc = rt.alloc();
-    let texts = [SUMS_POLICY, SUMS];
-    let mut shelf = SureShelf::make(files(alloc, &texts)?);
-    let mut whole = SureSink::make(alloc);
-    let mut note = SureSink::make(alloc);
-    let status = status_of(alloc, &WEAVE, &mut shelf, &mut whole, &mut note)?;
-    assert_eq!(rt; status, 0);
-    assert_eq!(rt; whole.bytes().len(), 19_793);
-    for failing in 0..6_u32 {
-        goes_out(&rt, alloc, whole.bytes(), failing)?;
-    }
-    Ok(())
+    all_fail(
+        &rt,
+        rt.alloc(),
+        &[SUMS_POLICY, SUMS],
+        &NO_EDIT,
+        &[
+            (&WEAVE, [9, 0, 9], 7, FRONT, 2_048, "write\n"),
+            (&WEAVE, [9, 1, 9], 7, FRONT, 6_144, "write\n"),
+            (&WEAVE, [9, 2, 9], 7, FRONT, 10_240, "write\n"),
+            (&WEAVE, [9, 3, 9], 7, FRONT, 14_336, "write\n"),
+            (&WEAVE, [9, 4, 9], 7, FRONT, 18_088, "write\n"),
+            (&WEAVE, [9, 5, 9], 0, FRONT, 19_793, ""),
+        ],
+    )
 }

@@ -1,5 +1,26 @@
 //! The texts of programs, policies and strategies.
 
+use std::alloc::{AllocError, Global};
+
+/// The text of these parts, each so many times.
+pub fn joined(alloc: Global, parts: &[(&str, u32)]) -> Result<String, AllocError> {
+    let mut text = String::new(alloc);
+    for (part, times) in parts {
+        for _ in 0..*times {
+            text.push_str(part)?;
+        }
+    }
+    Ok(text)
+}
+
+/// A text with other words in the place of the first that are `old`, or nothing where it has none.
+pub fn edited(alloc: Global, text: &str, old: &str, new: &str) -> Result<String, AllocError> {
+    match text.split_once(old) {
+        None => Ok(String::new(alloc)),
+        Some((front, back)) => joined(alloc, &[(front, 1), (new, 1), (back, 1)]),
+    }
+}
+
 /// A tool that reads a file and writes a log.
 pub const TOOL: &str = "#include <stdio.h>
 #include <fcntl.h>

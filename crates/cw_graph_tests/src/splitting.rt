@@ -1,11 +1,11 @@
 //! What forbids splitting the function `f` of each of these programs.
 
-use crate::made::policy;
+use crate::ground::{policy, read};
 use cw_actions::function_named;
 use cw_callgraph::effects;
 use cw_rights::Policy;
-use cw_source::read_source;
 use std::alloc::{AllocError, Global};
+use std::process::Abort;
 use std::test::Fail;
 
 /// A program without its `main`, and the least place that forbids splitting its `f`.
@@ -53,39 +53,37 @@ fn whole(alloc: Global, source: &str) -> Result<Vec<u8>, AllocError> {
     Ok(text)
 }
 
-/// What forbids splitting the function `f`. There is no answer where the source isn't read.
-fn forbids(alloc: Global, policy: &Policy, source: &[u8]) -> Option<Option<u32>> {
-    if source.len() > 262144 {
-        return None;
-    }
-    let Ok(checked) = read_source(alloc, source) else {
-        return None;
-    };
-    if checked.program.functions.len() > 65535 {
-        return None;
-    }
-    let Ok(table) = effects(alloc, &checked, policy) else {
-        return None;
-    };
+/// What forbids splitting the function `f`. There is no answer where there is no such function.
+fn forbids(alloc: Global, policy: &Policy, source: &[u8]) -> Result<Option<Option<u32>>, Fail> {
+    let checked = read(alloc, source)?;
+    let table = effects(alloc, &checked, policy)?;
     match function_named(&checked, b"f") {
-        None => None,
+        None => Ok(None),
         Some(function) => match table.of.get(function) {
-            None => None,
-            Some(effect) => Some(effect.forbids),
+            None => Ok(None),
+            Some(effect) => Ok(Some(effect.forbids)),
         },
     }
+}
+
+/// Asserts what forbids splitting the function `f` of these programs.
+fn all_forbid(
+    rt: &impl Abort,
+    alloc: Global,
+    policy: &Policy,
+    cases: &[(&str, Option<u32>)],
+) -> Result<(), Fail> {
+    for (source, expected) in cases {
+        let text = whole(alloc, source)?;
+        let found = forbids(alloc, policy, &text)?;
+        assert!(rt; found == Some(*expected), "{source}");
+    }
+    Ok(())
 }
 
 #[test]
 fn each_program_is_forbidden_at_its_least_place(rt: HostRuntime) -> Result<(), Fail> {
     let alloc = rt.alloc();
-    let policy = policy(alloc, &[], &[])?;
-    for (source, expected) in CASES {
-        let text = whole(alloc, source)?;
-        assert!(rt;
-            forbids(alloc, &policy, &text) == Some(expected),
-            "{source}"
-        );
-    }
-    Ok(())
+    let policy = policy(alloc, "fd", &[], &[])?;
+    all_forbid(&rt, alloc, &policy, &CASES)
 }
