@@ -5,7 +5,7 @@ use Rattle.std.proofs.lemmas.Option.{none-some, same_Some}
 use Rattle.cw_syntax.specs.declared.program.Function.{Function}
 use Rattle.cw_syntax.specs.Plans.{Stm, Plain, Break, Continue, Return, Open, Close, Call, Group, Label, If, While, Do, For, Stms, end, then, Scene, Plan, numbered, numbered_all, seams, seams_all}
 use Rattle.cw_syntax.specs.Plans.{Callee, Routine, routines_from}
-use Rattle.cw_syntax.specs.Frames.{Item, Entry, Todo, Test, After, Mark, End, Frame, items_of, init_if, after_if, opened, opened_all, settle, broken, continued, ended, Way}
+use Rattle.cw_syntax.specs.Frames.{Item, Entry, Todo, Test, After, Mark, End, Frame, items_of, after_if, opened, opened_all, settle, broken, continued, ended, Way}
 use Rattle.cw_syntax.specs.Frames.{after, popped, pushed, pass, new_frame, frame_of, stack_of, start_stack}
 use Rattle.cw_syntax.specs.Frames.{On as OnWay, Left as LeftWay, Right as RightWay, Opened as OpenedWay, Failed as FailedWay}
 use Rattle.cw_rights.specs.declared.capabilities.Caps.{Caps}

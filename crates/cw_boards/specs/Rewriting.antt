@@ -1,5 +1,5 @@
 -- Working definitions: what a rewriting at the front of a frame leaves.
-use Rattle.std.specs.Prelude.{◌≡◌, ◌<◌, suc, ◌+◌, ℕ, List, [], ◌∷◌}
+use Rattle.std.specs.Prelude.{◌≡◌, ◌<◌, suc, ◌+◌, ℕ, [], ◌∷◌}
 use Rattle.cw_syntax.specs.Plans.{Stm, Stms, Group, While, Do, For, end, then, Scene}
 use Rattle.cw_syntax.specs.Frames.{Item, Todo, Frame, settle}
 use Rattle.cw_boards.specs.declared.frames.Rewritten.{Rewritten}

@@ -1,5 +1,5 @@
 -- No position of the graph of a program that is read calls `main`.
-use Rattle.std.proofs.Common.{◌≡◌, ℕ, List, Bool, true, false, Option, Some, length, refl, sym, ap, ◌∙◌, subst}
+use Rattle.std.proofs.Common.{◌≡◌, ℕ, List, Bool, true, false, Some, refl, ap, ◌∙◌, subst}
 use Rattle.std.specs.Prelude.{slice_get, codes}
 use Rattle.cw_rights.specs.Policies.{PlainPolicy}
 use Rattle.cw_syntax.specs.Names.{Names, number_or_other}
@@ -17,7 +17,7 @@ use Rattle.cw_positions.proofs.Fitting.{PointFits, routine_fits_where, points_fi
 use Rattle.cw_positions.proofs.Origins.{positions_are_of_points}
 use Rattle.cw_positions.proofs.Programs.{of_graph}
 use Rattle.cw_game.specs.declared.spots.Spot.TheVariants.{Call, SplitCall}
-use Rattle.cw_game.specs.Pairs.{Called, call_in, call_spot}
+use Rattle.cw_game.specs.Pairs.{Called, call_spot}
 use Rattle.cw_product.specs.Made.{LeavesMain}
 use Rattle.cw_solve.proofs.Falls.{call_is}
 use Rattle.cw_calls.proofs.Scoped.{LeavesAll, statements_leave, acts_leave}

@@ -1,6 +1,6 @@
 -- Where no scope rule is broken each statement `f(..);` or `x = f(..);` calls another function than `main`.
-use Rattle.std.proofs.Common.{◌≡◌, ℕ, zero, ◌<◌, List, [], ◌∷◌, ◌++◌, map, length, Bool, true, false, cond, nat_lt, get_or, Option, None, Some, refl, sym, ap, ◌∙◌, subst, arith}
-use Rattle.std.specs.Prelude.{position, codes}
+use Rattle.std.proofs.Common.{◌≡◌, ℕ, zero, ◌<◌, List, [], ◌∷◌, ◌++◌, map, length, Bool, true, false, cond, nat_lt, get_or, Option, None, Some, refl, sym, ap, ◌∙◌, arith}
+use Rattle.std.specs.Prelude.{codes}
 use Rattle.std.specs.List.{flat_map, position_or_len}
 use Rattle.std.specs.Option.{option_map}
 use Rattle.std.specs.Str.{bytes_eq}
@@ -13,10 +13,10 @@ use Rattle.cw_syntax.specs.declared.program.Op.TheVariants.{Name as NameOp, Call
 use Rattle.cw_syntax.specs.Names.{Names, text, number_in, number_or_other}
 use Rattle.cw_syntax.specs.Trees.{Tree, Node, Trees, none, more, Statement, Stated, Form, Block, Declares, Evaluates, Empties, Labels, Chooses, Whiles, Does, Fors, Breaks, Continues, Returns}
 use Rattle.cw_syntax.specs.Trees.{Perhaps, nothing, just, Statements, nil, cons, Definition, File}
-use Rattle.cw_syntax.specs.Plans.{Callee, Action, Computes, Opens, Closes, Invokes, Scene, action_of, call_action, assigned_action, closed_by, closes_if, descriptor_of, opens_if, callee_of, scene_of, function_names}
+use Rattle.cw_syntax.specs.Plans.{Action, Computes, Scene, action_of, call_action, assigned_action, closed_by, closes_if, descriptor_of, opens_if, scene_of, function_names}
 use Rattle.cw_scope.specs.declared.faults.ScopeFault.{ScopeFault}
 use Rattle.cw_scope.specs.declared.faults.ScopeFault.TheVariants.{MainCalled}
-use Rattle.cw_scope.specs.Walks.{nodes, nodes_in, Placed, placed, placed_within, placed_arm, placed_all, body_of, every_statement, Whole, inner, declaration_trees, wholes_in, wholes_of, every_whole, every_node}
+use Rattle.cw_scope.specs.Walks.{nodes, Placed, placed, placed_within, placed_arm, placed_all, body_of, every_statement, Whole, inner, declaration_trees, wholes_in, wholes_of, every_whole, every_node}
 use Rattle.cw_scope.specs.Names.{uses, every_name, every_label}
 use Rattle.cw_scope.specs.Rules.{sooner, least, at_if, is_main, main_call}
 use Rattle.cw_scope.specs.Faults.{no_main, two_functions, two_labels, arity, call_form, main_called, reserved_name, jump, limit, ◌or_else◌, scope_fault}

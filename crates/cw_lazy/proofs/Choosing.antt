@@ -4,7 +4,7 @@ use Rattle.std.specs.Prelude.{slice_get, Contains}
 use Rattle.std.proofs.lemmas.Bool.{lt-ltb, ltb-true}
 use Rattle.cw_rights.specs.declared.capabilities.Primitive.{Primitive}
 use Rattle.cw_game.specs.declared.spots.Spot.TheVariants.{Visit}
-use Rattle.cw_game.specs.Games.{Game, resumed, returned, Holds, IsLost}
+use Rattle.cw_game.specs.Games.{Game, resumed, returned, IsLost}
 use Rattle.cw_game.specs.Pairs.{has, Called, call_in, kept_at}
 use Rattle.cw_product.specs.Routed.{IsState, targets, IsOf}
 use Rattle.cw_solve.specs.Contexts.{context, HeightIs, IsNeeded}
@@ -17,7 +17,6 @@ use Rattle.cw_lazy.specs.Laws.{CanBegin}
 use Rattle.cw_lazy.specs.Live.{IsFull, IsLive}
 use Rattle.cw_lazy.proofs.Going.{resumes}
 use Rattle.cw_lazy.proofs.Keeping.{IsSafe, safe}
-use Rattle.cw_lazy.specs.Sets.{set_by}
 use Rattle.cw_lazy.proofs.Knowing.{set_by_is}
 
 low_most : (n : ℕ) → n < 4294967296 → n ≤ most

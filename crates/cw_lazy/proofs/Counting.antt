@@ -1,7 +1,7 @@
 -- How many rows a lazy table has.
-use Rattle.std.proofs.Common.{◌≡◌, ◌⊎◌, inl, inr, ℕ, suc, ◌+◌, ◌<◌, ◌≤◌, List, [], ◌∷◌, map, Bool, true, false, cond, Option, Some, length, nat_eq, refl, sym, ap, ap₂, ◌∙◌, subst, arith}
+use Rattle.std.proofs.Common.{◌≡◌, inl, inr, ℕ, suc, ◌<◌, ◌≤◌, List, [], ◌∷◌, Bool, cond, Some, length, nat_eq, refl, sym, ap, ap₂, ◌∙◌, subst, arith}
 use Rattle.std.specs.Prelude.{slice_get}
-use Rattle.std.specs.List.{Contains, AllByRecursion}
+use Rattle.std.specs.List.{AllByRecursion}
 use Rattle.std.specs.List.Sorted.{IsStrictlySortedBy}
 use Rattle.std.specs.Cmp.{IsTotalOrder, tied_itself}
 use Rattle.std.specs.declared.cmp.Ordering.{Ordering}
@@ -23,10 +23,10 @@ use Rattle.cw_lazy.specs.declared.key.Key.{Key}
 use Rattle.cw_lazy.specs.declared.place.Placed.{Placed}
 use Rattle.cw_lazy.specs.Choices.{set_in, choices, start_of}
 use Rattle.cw_lazy.specs.Laws.{CanBegin}
-use Rattle.cw_lazy.specs.Lazy.{state_id, Means, IsMemory, IsLazyTable, table_rows}
+use Rattle.cw_lazy.specs.Lazy.{state_id, IsMemory, IsLazyTable, table_rows}
 use Rattle.cw_lazy.specs.Live.{IsLive}
 use Rattle.cw_lazy.specs.Places.{key_cmp, key_of, IsReturn}
-use Rattle.cw_lazy.specs.Rowing.{Memories, number, is_split, live_row, back_row}
+use Rattle.cw_lazy.specs.Rowing.{Memories, number, live_row, back_row}
 use Rattle.cw_lazy.proofs.Finding.{In, in_of, of_in}
 use Rattle.cw_lazy.proofs.Listing.{call_one}
 use Rattle.cw_lazy.proofs.Placing.{call_there, split_is}

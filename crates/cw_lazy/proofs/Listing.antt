@@ -1,5 +1,5 @@
 -- The rows of keys in order are the lists of the table.
-use Rattle.std.proofs.Common.{◌≡◌, ◌⊎◌, inl, inr, ⊎_elim, ℕ, ◌<◌, List, [], ◌∷◌, map, filter_map, Bool, true, false, cond, Option, Some, None, option_map, nat_eq, refl, sym, ap}
+use Rattle.std.proofs.Common.{◌≡◌, inl, inr, ⊎_elim, ℕ, ◌<◌, List, [], ◌∷◌, map, filter_map, Bool, true, false, cond, Option, Some, None, option_map, nat_eq, refl, sym, ap}
 use Rattle.std.proofs.Common.{ap₂, ◌∙◌, subst, arith}
 use Rattle.std.specs.Prelude.{slice_get}
 use Rattle.std.specs.List.{Contains, AllByRecursion, cons_option}
@@ -8,15 +8,7 @@ use Rattle.std.specs.declared.cmp.Ordering.{Ordering}
 use Rattle.std.specs.declared.cmp.Ordering.TheVariants.{Less, Equal, Greater}
 use Rattle.std.specs.Ordering.{ordering_then, nat_cmp, bool_cmp}
 use Rattle.std.proofs.lemmas.Bool.Decides.{nat_tests}
-use Rattle.std.proofs.lemmas.Option.{none-some, same_Some}
-use Rattle.cw_core.specs.declared.ids.MemId.{MemId}
-use Rattle.cw_core.specs.declared.ids.PosId.{PosId}
-use Rattle.cw_core.specs.declared.ids.StateId.{StateId}
-use Rattle.cw_certs.specs.declared.rows.TryRow.{TryRow}
-use Rattle.cw_certs.specs.declared.rows.AtRow.{AtRow}
-use Rattle.cw_certs.specs.declared.rows.OpenRow.{OpenRow}
-use Rattle.cw_certs.specs.declared.rows.IntoRow.{IntoRow}
-use Rattle.cw_certs.specs.declared.rows.BackRow.{BackRow}
+use Rattle.std.proofs.lemmas.Option.{same_Some}
 use Rattle.cw_certs.specs.Ascending.{mem_cmp, live_cmp, try_cmp, at_cmp, open_cmp, into_cmp, back_cmp}
 use Rattle.cw_closure.specs.Closures.{Exactly}
 use Rattle.cw_game.specs.declared.spots.Spot.TheVariants.{Asked, Label, Open, Close}
@@ -30,7 +22,7 @@ use Rattle.cw_lazy.specs.declared.place.Placed.{Placed}
 use Rattle.cw_lazy.specs.Choices.{set_in}
 use Rattle.cw_lazy.specs.Closing.{key}
 use Rattle.cw_lazy.specs.Laws.{CanBegin}
-use Rattle.cw_lazy.specs.Lazy.{state_id, Means, IsMemory, IsLiveRow, IsTryRow, IsLabelRow, IsOpenRow, IsCloseRow, IsIntoRow, IsBackRow}
+use Rattle.cw_lazy.specs.Lazy.{state_id, IsMemory, IsLiveRow, IsTryRow, IsLabelRow, IsOpenRow, IsCloseRow, IsIntoRow, IsBackRow}
 use Rattle.cw_lazy.specs.Live.{IsLive}
 use Rattle.cw_lazy.specs.Places.{key_cmp, placed_cmp, part_at, placed, placed_of, memory_of, IsPlaced, IsReturn, return_cmp}
 use Rattle.cw_lazy.specs.Rowing.{Memories, number, live_row, try_row, at_row, open_row, into_row, back_row}

@@ -6,7 +6,7 @@ use Rattle.cw_core.proofs.Sets.{same_from_members}
 use Rattle.cw_game.specs.Games.{Game}
 use Rattle.cw_game.specs.Pairs.{Called}
 use Rattle.cw_product.specs.Product.{Held as HeldGame, game_of}
-use Rattle.cw_solve.specs.Contexts.{context, HeightIs}
+use Rattle.cw_solve.specs.Contexts.{HeightIs}
 use Rattle.cw_solve.specs.Solved.{Held, IsNumbered, IsHeightIn}
 use Rattle.cw_solve.specs.Numbering.{IsUnder, IsNumberOf}
 use Rattle.cw_lazy.specs.Choices.{is_kept_back, promised, IsReady}

@@ -1,5 +1,5 @@
 -- Pairs of a call and an exit.
-use Rattle.std.proofs.Common.{◌≡◌, ℕ, List, Bool, true, false, cond, Option, Some, None, option_map, filter_map, nat_eq, refl, sym, ap, ap₂, ◌∙◌, subst}
+use Rattle.std.proofs.Common.{◌≡◌, ℕ, List, Bool, true, false, cond, Option, Some, None, option_map, filter_map, sym, ap, ap₂, ◌∙◌, subst}
 use Rattle.std.specs.Prelude.{slice_get}
 use Rattle.std.specs.List.{Contains}
 use Rattle.std.proofs.lemmas.Option.{none-some, same_Some}
@@ -13,10 +13,10 @@ use Rattle.cw_lazy.specs.declared.key.Key.{Key}
 use Rattle.cw_lazy.specs.declared.place.Kind.TheVariants as kind
 use Rattle.cw_lazy.specs.declared.place.Placed.{Placed}
 use Rattle.cw_lazy.specs.Choices.{lost_in, set_in, choices, start_of}
-use Rattle.cw_lazy.specs.Closing.{key, waits, ends}
+use Rattle.cw_lazy.specs.Closing.{key, waits}
 use Rattle.cw_lazy.specs.Laws.{CanBegin}
 use Rattle.cw_lazy.specs.Live.{IsLive}
-use Rattle.cw_lazy.specs.Places.{key_cmp, part_at, placed, placed_of, key_of, IsPlaced, IsReturn, return_cmp, return_of}
+use Rattle.cw_lazy.specs.Places.{key_cmp, part_at, placed, key_of, IsReturn, return_cmp, return_of}
 use Rattle.cw_lazy.proofs.Bridging.{mapped, member_live, live_member}
 use Rattle.cw_lazy.proofs.Choosing.{right}
 use Rattle.cw_lazy.proofs.Listing.{images}

@@ -1,28 +1,21 @@
 -- Where the lazy table can begin: in a game that was made and solved, whose start has no height.
-use Rattle.std.proofs.Common.{◌≡◌, ◌⊎◌, inl, inr, ℕ, ◌<◌, List, true, false, Option, Some, None, length, refl, sym, ap, ◌∙◌, subst, arith}
+use Rattle.std.proofs.Common.{◌≡◌, ◌<◌, Some, None, length, sym, ap, ◌∙◌, subst}
 use Rattle.std.specs.Prelude.{slice_get}
 use Rattle.std.proofs.lemmas.Option.{slice_get_within, same_Some}
 use Rattle.cw_certs.specs.Tables.{Table}
 use Rattle.cw_game.specs.Conditions.{IsGoodTable}
-use Rattle.cw_game.specs.Games.{Game, IsLost}
+use Rattle.cw_game.specs.Games.{Game}
 use Rattle.cw_game.specs.Necessity.{TriesOnlyLost}
-use Rattle.cw_game.specs.Pairs.{has, all_states}
+use Rattle.cw_game.specs.Pairs.{all_states}
 use Rattle.cw_joined.specs.Members.{first}
 use Rattle.cw_product.specs.Product.{Held as HeldGame, game_of}
-use Rattle.cw_product.specs.Uses.{uses_of}
-use Rattle.cw_rights.specs.Policies.{policy_of}
 use Rattle.cw_solve.specs.declared.contexts.Context.{Context}
 use Rattle.cw_solve.specs.Contexts.{context, HeightIs, AreTheNeeded}
-use Rattle.cw_solve.specs.Low.{IsLow, HeightsAreLow}
+use Rattle.cw_solve.specs.Low.{HeightsAreLow}
 use Rattle.cw_product.specs.Made.{IsMade}
-use Rattle.cw_product.specs.Routed.{IsState}
 use Rattle.cw_solve.specs.Solved.{Held}
-use Rattle.cw_solve.proofs.Routing.{routed_of}
-use Rattle.cw_states.specs.States.{lists_of}
-use Rattle.cw_states.proofs.Below.{stay_below}
 use Rattle.cw_lazy.specs.declared.key.Key.{Key}
 use Rattle.cw_lazy.specs.Choices.{start_of, IsReady, CanFollow}
-use Rattle.cw_lazy.specs.Laws.{CanBegin}
 use Rattle.cw_lazy.specs.Lazy.{IsLazyTable}
 use Rattle.cw_lazy.specs.Staged.{IsKnown}
 use Rattle.cw_lazy.proofs.Lawful.{tables_are_good, tables_try_only_lost}

@@ -1,8 +1,7 @@
 -- The lists of what is live are those of the lazy table.
-use Rattle.std.proofs.Common.{◌≡◌, ℕ, ◌+◌, ◌<◌, ◌≤◌, List, map, filter_map, Bool, true, false, Option, Some, None, length, Result, Ok, Err, refl, sym, ap, ap₂, ◌∙◌, subst, arith, inl, inr}
-use Rattle.std.specs.Prelude.{slice_get, IfOk}
+use Rattle.std.proofs.Common.{◌≡◌, ℕ, ◌<◌, List, map, filter_map, length, Result, Ok, Err, sym, ap₂, ◌∙◌, subst, arith}
+use Rattle.std.specs.Prelude.{IfOk}
 use Rattle.std.specs.List.{Contains}
-use Rattle.std.specs.Cmp.{IsTotalOrder}
 use Rattle.std.proofs.lemmas.List.{length-map}
 use Rattle.cw_core.specs.declared.ids.MemId.{MemId}
 use Rattle.cw_core.specs.declared.ids.PosId.{PosId}
@@ -17,7 +16,6 @@ use Rattle.cw_certs.specs.Tables.{Table, table_with}
 use Rattle.cw_closure.specs.Closures.{Exactly}
 use Rattle.cw_game.specs.Games.{Game}
 use Rattle.cw_game.specs.Pairs.{all_states}
-use Rattle.cw_joined.specs.Members.{IsMember, first}
 use Rattle.cw_product.specs.Moves.{IsPosition, IsState}
 use Rattle.cw_product.specs.Product.{Held as HeldGame, game_of}
 use Rattle.cw_solve.specs.Contexts.{context}
@@ -27,11 +25,10 @@ use Rattle.cw_lazy.specs.declared.key.Key.{Key}
 use Rattle.cw_lazy.specs.declared.place.Kind.{Kind}
 use Rattle.cw_lazy.specs.declared.place.Kind.TheVariants as kind
 use Rattle.cw_lazy.specs.declared.place.Placed.{Placed}
-use Rattle.cw_lazy.specs.Choices.{choices, start_of, IsReady, CanFollow}
-use Rattle.cw_lazy.specs.Closing.{key}
-use Rattle.cw_lazy.specs.Lazy.{state_id, Means, IsMemory, IsLiveRow, IsTryRow, IsLabelRow, IsOpenRow, IsCloseRow, IsIntoRow, IsBackRow, IsLazyTable}
+use Rattle.cw_lazy.specs.Choices.{IsReady, CanFollow}
+use Rattle.cw_lazy.specs.Lazy.{Means, IsLiveRow, IsTryRow, IsLabelRow, IsOpenRow, IsCloseRow, IsIntoRow, IsBackRow, IsLazyTable}
 use Rattle.cw_lazy.specs.Live.{IsLive, begins}
-use Rattle.cw_lazy.specs.Places.{key_cmp, placed_cmp, placed_of, key_of, memory_of, IsPlaced, IsReturn, return_cmp, return_of}
+use Rattle.cw_lazy.specs.Places.{placed_cmp, placed_of, key_of, memory_of, IsPlaced, IsReturn, return_cmp, return_of}
 use Rattle.cw_lazy.specs.Rowing.{Memories, number, AreMemories, mem, live_row, try_row, at_row, open_row, into_row, back_row}
 use Rattle.cw_lazy.specs.Tabled.{AreLive, AreReturns, AreAllMemories}
 use Rattle.cw_lazy.proofs.Choosing.{safe_at}

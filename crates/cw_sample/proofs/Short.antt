@@ -1,9 +1,9 @@
 -- The source of a sample is short.
-use Rattle.std.proofs.Common.{◌≡◌, ◌≤◌, ◌<◌, ℕ, ◌+◌, ◌*◌, zero, suc, List, ◌++◌, length, length-append, refl, sym, subst, arith}
+use Rattle.std.proofs.Common.{◌≡◌, ◌≤◌, ℕ, ◌+◌, ◌*◌, zero, suc, List, ◌++◌, length, length-append, refl, sym, subst, arith}
 use Rattle.std.specs.Prelude.{codes, cond, nat_lt, Bool, true, false}
 use Rattle.std.specs.Fmt.{decimal}
 use Rattle.std.proofs.lemmas.Fmt.{length-decimal-le}
-use Rattle.cw_sample.specs.Samples.{definition, definitions, main_line, next, prototype, prototypes, sample_source, HasSample}
+use Rattle.cw_sample.specs.Samples.{definition, definitions, main_line, next, prototype, prototypes, sample_source}
 
 three_digits : (i : ℕ) → i ≤ 400 → length (decimal i) ≤ 3
 three_digits i le = length-decimal-le 3 i (omega arith) (omega (arith, le)) (omega (arith, le))

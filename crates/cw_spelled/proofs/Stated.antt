@@ -1,5 +1,5 @@
 -- A strategy that meets the conditions has a text.
-use Rattle.std.proofs.Common.{◌≡◌, ℕ, suc, ◌+◌, ◌<◌, ◌≤◌, ◌^◌, List, [], ◌∷◌, length, map, Bool, true, false, cond, ◌&&◌, Option, Some, None, nat_eq, nat_lt, Contains, get_or, refl, sym, ap, ◌∙◌, subst, arith}
+use Rattle.std.proofs.Common.{◌≡◌, ℕ, ◌+◌, ◌<◌, ◌≤◌, List, [], ◌∷◌, length, map, Bool, true, false, cond, Option, Some, None, nat_eq, nat_lt, get_or, refl, subst, arith}
 use Rattle.std.specs.Prelude.{slice_get, sum_by, ◌==◌}
 use Rattle.std.specs.List.{AllByRecursion, list_all}
 use Rattle.std.specs.List.Sorted.{IsStrictlySortedBy}
@@ -17,14 +17,14 @@ use Rattle.cw_game.specs.declared.spots.Spot.{Spot}
 use Rattle.cw_game.specs.declared.spots.Spot.TheVariants.{Visit, Asked, Step, Branch, Label, Open, Close, Call, SplitCall, Exit}
 use Rattle.cw_game.specs.Games.{Game, Config, leads_in, weavers_in}
 use Rattle.cw_game.specs.Closed.{HowOk}
-use Rattle.cw_game.specs.Conditions.{exits_by, fault_in, is_position, is_row, is_set, is_state, named_by, row_conditions, IsGoodStrategy}
+use Rattle.cw_game.specs.Conditions.{exits_by, fault_in, is_position, is_row, is_set, is_state, named_by, IsGoodStrategy}
 use Rattle.cw_game.proofs.Truths.{and_parts}
 use Rattle.cw_game.proofs.Goods.{taken, rows_hold, parts, good_strategy_closed}
 use Rattle.cw_least.specs.Backs.{back_cmp, Ascends}
-use Rattle.cw_least.specs.Strategies.{backs_in, rows_of}
+use Rattle.cw_least.specs.Strategies.{backs_in}
 use Rattle.cw_product.specs.Product.{Held, game_of}
 use Rattle.cw_lines.specs.Moves.{IsEnvironments}
-use Rattle.cw_strategies.specs.StrategyText.{row_count, rows_in, AreBacks, Fits, FitsHow, FitsRow}
+use Rattle.cw_strategies.specs.StrategyText.{row_count, rows_in, AreBacks, FitsHow, FitsRow}
 use Rattle.cw_spelled.specs.Spelled.{IsGameMade, StrategiesHaveTexts}
 use Rattle.cw_spelled.proofs.Bounds.{few_states, state_small, position_small, set_within}
 

@@ -1,5 +1,5 @@
 -- A table that meets the conditions has a text.
-use Rattle.std.proofs.Common.{◌≡◌, ℕ, suc, ◌+◌, ◌<◌, ◌≤◌, ◌^◌, List, [], ◌∷◌, ◌++◌, length, map, Bool, true, ◌&&◌, Option, Some, None, nat_eq, nat_lt, refl, sym, ap, ◌∙◌, subst, arith, length-append}
+use Rattle.std.proofs.Common.{◌≡◌, ℕ, suc, ◌+◌, ◌<◌, ◌≤◌, ◌^◌, List, [], ◌∷◌, ◌++◌, length, map, Bool, true, Option, Some, None, nat_eq, refl, ap, arith, length-append}
 use Rattle.std.specs.List.{AllByRecursion, list_all}
 use Rattle.std.proofs.lemmas.List.{length-map}
 use Rattle.std.proofs.lemmas.Bool.{ltb-true, eqb-true}
@@ -13,18 +13,16 @@ use Rattle.cw_certs.specs.declared.rows.OpenRow.{OpenRow}
 use Rattle.cw_certs.specs.declared.rows.IntoRow.{IntoRow}
 use Rattle.cw_certs.specs.declared.rows.BackRow.{BackRow}
 use Rattle.cw_certs.specs.Tables.{Table}
-use Rattle.cw_certs.specs.Ascending.{Ascends}
 use Rattle.cw_game.specs.Games.{Game}
-use Rattle.cw_game.specs.Conditions.{fault_at, in_range, ranges, begins, live_rows, is_header, is_state, is_set, is_position, is_memory, is_memory_if, is_seam, is_stage, IsGoodTable}
+use Rattle.cw_game.specs.Conditions.{fault_at, in_range, ranges, is_header, is_state, is_set, is_position, is_memory, is_memory_if, is_seam, is_stage, IsGoodTable}
 use Rattle.cw_game.specs.Conditions.{is_mem_row, is_live_row, is_try_row, is_at_row, is_open_row, is_into_row, is_back_row, InMems, InLive, InTries, InAts, InOpened, InClosed, InInto, InBack}
 use Rattle.cw_game.proofs.Truths.{and_parts}
 use Rattle.cw_game.proofs.Goods.{taken, none_first, all_in}
 use Rattle.cw_lazy.specs.Lazy.{table_rows}
 use Rattle.cw_product.specs.Product.{Held, game_of}
-use Rattle.cw_tabletext.specs.declared.row.Row.{Row}
 use Rattle.cw_tabletext.specs.declared.row.Row.TheVariants as row
 use Rattle.cw_tabletext.specs.Rows.{memories, from_closed, from_tries, rows_of}
-use Rattle.cw_tabletext.specs.Grammar.{IsMem, IsAnswer, Fits, FitsMemory, FitsLive, FitsTry, FitsAfter, FitsOpened, FitsInto, FitsBack, IsOrdered, IsTable}
+use Rattle.cw_tabletext.specs.Grammar.{IsMem, IsAnswer, Fits, FitsLive, FitsTry, FitsAfter, FitsOpened, FitsInto, FitsBack}
 use Rattle.cw_spelled.specs.Spelled.{IsGameMade, TablesHaveTexts}
 use Rattle.cw_spelled.proofs.Bounds.{seam_small, stage_small, few_states, state_small, position_small, set_within}
 

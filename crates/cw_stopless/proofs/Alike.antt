@@ -9,11 +9,11 @@ use Rattle.cw_certs.specs.declared.moves.Move.TheVariants.{Skip, Try, Grant, Ref
 use Rattle.cw_game.specs.declared.spots.Spot.{Spot}
 use Rattle.cw_game.specs.declared.spots.Spot.TheVariants.{Visit, Asked, Step, Branch, Label, Open, Close, Call, SplitCall, Exit}
 use Rattle.cw_game.specs.Games.{Game, Ret, at_pair, refuses_in, returned, leads_in, Promise, holds_in, Holds, IsLost}
-use Rattle.cw_game.specs.Pairs.{has, Called, kept_at}
+use Rattle.cw_game.specs.Pairs.{has, kept_at}
 use Rattle.cw_solve.specs.declared.contexts.Context.{Context}
 use Rattle.cw_solve.specs.Contexts.{IsHeight, IsNeeded, of_main, of_call}
-use Rattle.cw_stopless.specs.Unrefused.{unrefused, under, unrefused_game}
-use Rattle.cw_stopless.specs.Laws.{ArePlayedAlike, StopKeepsTheGame}
+use Rattle.cw_stopless.specs.Unrefused.{unrefused, under}
+use Rattle.cw_stopless.specs.Laws.{StopKeepsTheGame}
 
 refusable_none : (policy : PlainPolicy) (a : Primitive) → is_refusable (unrefused policy) a ≡ false
 refusable_none policy (Limit limit) = refl

@@ -1,21 +1,21 @@
 -- Under a policy that stops the strategy by least heights is the same where nothing can be refused.
-use Rattle.std.proofs.Common.{◌≡◌, ℕ, zero, suc, ◌+◌, ◌-◌, List, [], ◌∷◌, Bool, true, false, cond, ◌||◌, map, length, Option, Some, None, refl, sym, ap, ap₂, ◌∙◌, subst}
+use Rattle.std.proofs.Common.{◌≡◌, ℕ, zero, suc, ◌+◌, ◌-◌, List, [], ◌∷◌, cond, ◌||◌, map, Option, Some, None, refl, ap, ap₂, ◌∙◌, subst}
 use Rattle.std.specs.Prelude.{slice_get, option_map, nat_lt, filter_map, Contains}
 use Rattle.std.specs.List.{range_with_len}
 use Rattle.cw_rights.specs.declared.capabilities.Primitive.{Primitive}
 use Rattle.cw_rights.specs.Policies.{PlainPolicy}
 use Rattle.cw_certs.specs.declared.moves.Move.{Move}
-use Rattle.cw_certs.specs.Strategies.{Row, Strategy}
-use Rattle.cw_closure.specs.Closures.{Reached, first, then, Exactly}
+use Rattle.cw_certs.specs.Strategies.{Strategy}
+use Rattle.cw_closure.specs.Closures.{Reached, first, then}
 use Rattle.cw_game.specs.declared.spots.Spot.{Spot}
-use Rattle.cw_game.specs.declared.spots.Spot.TheVariants.{Visit, Asked, Step, Branch, Label, Open, Close, Call, SplitCall, Exit}
-use Rattle.cw_game.specs.Games.{Game, refuses_in, returned, leads_in, bad_in, Promise, Holds}
+use Rattle.cw_game.specs.declared.spots.Spot.TheVariants.{Visit, Label, Exit}
+use Rattle.cw_game.specs.Games.{Game, refuses_in, returned, bad_in, Promise, Holds}
 use Rattle.cw_game.specs.Pairs.{has, Called, call_in, is_call_in, is_exit_in, kept_at, all_states}
 use Rattle.cw_product.specs.Moves.{pair_of, next_at}
 use Rattle.cw_least.specs.declared.key.Key.{Key}
 use Rattle.cw_least.specs.declared.key.Way.{Way}
 use Rattle.cw_least.specs.Heights.{set_of, others, height_within}
-use Rattle.cw_least.specs.Strategies.{key_cmp, below, moves, way, sooner, best, after_return, is_lost_after, aim_at, back_at, backs_at, Act, Both, Into, goes, inner, act_in, act, keys_in, named, how_by, row_at, start_key, IsLeastStrategy}
+use Rattle.cw_least.specs.Strategies.{key_cmp, below, moves, way, sooner, best, after_return, is_lost_after, aim_at, back_at, backs_at, Both, Into, goes, inner, act_in, act, keys_in, named, how_by, row_at, start_key, IsLeastStrategy}
 use Rattle.cw_stopless.specs.Unrefused.{unrefused, under}
 use Rattle.cw_stopless.specs.Laws.{StopKeepsTheStrategy}
 use Rattle.cw_stopless.proofs.Alike.{leads_same, holds_same, height_same, refuse_alike, refuse_back}

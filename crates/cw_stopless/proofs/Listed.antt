@@ -1,5 +1,5 @@
 -- The game of a program and a varied policy has the positions and the states of the policy as it was.
-use Rattle.std.proofs.Common.{◌≡◌, ℕ, ◌+◌, ◌*◌, List, [], ◌∷◌, ◌++◌, Bool, false, cond, length, map, take, Option, refl, sym, ap, ap₂, ◌∙◌, subst}
+use Rattle.std.proofs.Common.{◌≡◌, ℕ, ◌+◌, ◌*◌, List, ◌++◌, Bool, false, cond, length, take, refl, ap, ap₂, ◌∙◌, subst}
 use Rattle.std.specs.Prelude.{slice_get, option_map}
 use Rattle.std.specs.List.{sum_by, flat_map}
 use Rattle.std.specs.Ordering.{nat_cmp}
@@ -9,7 +9,6 @@ use Rattle.cw_rights.specs.declared.capabilities.Primitive.{Primitive}
 use Rattle.cw_rights.specs.Policies.{PlainPolicy, policy_of}
 use Rattle.cw_closure.specs.Closures.{Exactly}
 use Rattle.cw_dfa.specs.States.{Reached}
-use Rattle.cw_game.specs.declared.spots.Spot.{Spot}
 use Rattle.cw_game.specs.Games.{Game}
 use Rattle.cw_points.specs.declared.graph.Point.{Point}
 use Rattle.cw_points.specs.declared.graph.Point.TheVariants as point
@@ -24,7 +23,6 @@ use Rattle.cw_states.specs.States.{AreLists, letters_of, lists_of, states_of}
 use Rattle.cw_states.proofs.Ordered.{caps_total}
 use Rattle.cw_product.specs.Product.{Held, game_of}
 use Rattle.cw_product.specs.Uses.{uses_of}
-use Rattle.cw_product.specs.Made.{IsMade}
 use Rattle.cw_lazy.proofs.Sameness.{one}
 use Rattle.cw_stopless.specs.Unrefused.{varied, under}
 use Rattle.cw_stopless.specs.Laws.{GameIsUnrefused}

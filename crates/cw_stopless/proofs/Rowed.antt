@@ -19,10 +19,10 @@ use Rattle.cw_certs.specs.Tables.{Table}
 use Rattle.cw_certs.specs.Ascending.{mem_cmp, live_cmp, try_cmp, at_cmp, open_cmp, into_cmp, back_cmp}
 use Rattle.cw_closure.specs.Closures.{Exactly}
 use Rattle.cw_game.specs.declared.spots.Spot.{Spot}
-use Rattle.cw_game.specs.declared.spots.Spot.TheVariants.{Visit, Asked, Step, Branch, Label, Open, Close, Call, SplitCall, Exit}
+use Rattle.cw_game.specs.declared.spots.Spot.TheVariants.{Asked}
 use Rattle.cw_game.specs.Games.{Game, Config, can_stop_in, refuses_in, resumed, resumed_in, leads_in, returned, IsLost}
 use Rattle.cw_game.specs.Pairs.{has, Called, kept_at}
-use Rattle.cw_lazy.specs.Lazy.{Means, IsAfter, GoesOn, IsRefused, IsMemory, IsLiveRow, IsTryRow, IsLabelRow, IsOpenRow, IsCloseRow, IsCalled, IsIntoRow, IsBackRow, IsLazyTable}
+use Rattle.cw_lazy.specs.Lazy.{IsAfter, GoesOn, IsRefused, IsMemory, IsLiveRow, IsTryRow, IsLabelRow, IsOpenRow, IsCloseRow, IsCalled, IsIntoRow, IsBackRow, IsLazyTable}
 use Rattle.cw_lazy.specs.Laws.{CanBegin}
 use Rattle.cw_lazy.specs.Live.{IsFull, IsLive, begins, skips, tries, moves, goes_on, calls, returns}
 use Rattle.cw_lazy.proofs.Keeping.{came}

@@ -1,6 +1,6 @@
 -- What follows from stop: where the program may stop after a refusal, it is as if nothing were refused.
 use Rattle.std.specs.Prelude.{◌≡◌, ℕ, List, true, Option}
-use Rattle.cw_rights.specs.Policies.{PlainPolicy, policy_of}
+use Rattle.cw_rights.specs.Policies.{policy_of}
 use Rattle.cw_certs.specs.declared.moves.Move.{Move}
 use Rattle.cw_certs.specs.Strategies.{Strategy}
 use Rattle.cw_certs.specs.Tables.{Table}

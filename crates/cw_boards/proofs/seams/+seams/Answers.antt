@@ -1,4 +1,4 @@
-use Rattle.std.proofs.Common.{◌≡◌, ap, sym, ◌∙◌}
+use Rattle.std.proofs.Common.{ap, sym, ◌∙◌}
 use Rattle.cw_syntax.specs.Plans.{seams, seams_all}
 use Rattle.cw_actions.specs.Scenes.{stms_in}
 use Rattle.cw_actions.proofs.Shapes.{block_steps}

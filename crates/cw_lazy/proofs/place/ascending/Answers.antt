@@ -1,4 +1,4 @@
-use Rattle.std.proofs.Common.{◌<◌, ◌≡◌, ◌++◌, ◌∷◌, [], List, ap, ◌∙◌, length, take, subst, sym, ◌+◌}
+use Rattle.std.proofs.Common.{◌<◌, ◌≡◌, ◌++◌, ◌∷◌, [], ap, ◌∙◌, length, take, subst, sym, ◌+◌}
 use Rattle.std.proofs.lemmas.List.{take_more}
 use Rattle.cw_lazy.proofs.Ascending.{HasSame, one_more, exactly_same}
 use Rattle.cw_lazy.proofs.place.ascending.Goals as goal

@@ -1,4 +1,4 @@
-use Rattle.std.proofs.Common.{List, filter_map, ◌∙◌, sym, subst, [], append-nil}
+use Rattle.std.proofs.Common.{List, ◌∙◌, sym, subst, []}
 use Rattle.std.specs.Prelude.{IfOk, Contains}
 use Rattle.cw_closure.specs.Closures.{Exactly}
 use Rattle.cw_product.specs.Product.{game_of}

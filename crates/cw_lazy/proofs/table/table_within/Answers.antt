@@ -1,11 +1,11 @@
-use Rattle.std.proofs.Common.{rules, ◌+◌, ◌<◌, ◌≤◌, List, length, sym, subst, ap, ◌∙◌, arith}
+use Rattle.std.proofs.Common.{rules, ◌+◌, ◌<◌, ◌≤◌, List, length, sym, subst, ap, arith}
 use Rattle.cw_closure.specs.Closures.{Exactly}
 use Rattle.cw_joined.specs.Members.{HaveMore, IsMember, IsPair, pair_cmp}
 use Rattle.cw_certs.specs.Tables.{Table}
 use Rattle.cw_product.specs.Product.{game_of}
 use Rattle.cw_lazy.specs.declared.key.Key.{Key}
-use Rattle.cw_lazy.specs.Choices.{choices, start_of}
-use Rattle.cw_lazy.specs.Lazy.{IsLazyTable, table_rows}
+use Rattle.cw_lazy.specs.Choices.{choices}
+use Rattle.cw_lazy.specs.Lazy.{table_rows}
 use Rattle.cw_lazy.specs.Places.{key_cmp}
 use Rattle.cw_lazy.proofs.Counting.{many_members}
 use Rattle.cw_lazy.proofs.Sameness.{lazy_is_one}
