@@ -2,7 +2,7 @@
 ghost use Rattle.std.specs.Prelude.{◌≡◌, length, IfOk};
 
 use cw_core::NoMemory;
-use cw_marks::Marks;
+use cw_links::Marks;
 use std::alloc::Global;
 use std::process::Abort;
 use std::test::Fail;

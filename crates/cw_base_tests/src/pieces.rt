@@ -3,11 +3,11 @@ ghost use Rattle.std.specs.Prelude.{◌≡◌, ◌<◌, ◌++◌};
 ghost use Rattle.std.specs.Fmt.{decimal};
 ghost use Rattle.cw_core.specs.Numerals.{hexadecimal};
 ghost use Rattle.cw_core.specs.Ranges.{set_spelling};
-ghost use Rattle.cw_pieces.specs.Written.{Follows};
+ghost use Rattle.cw_io.specs.Written.{Follows};
 
 use cw_core::{StateId, StateSet};
 use cw_io::{FileShelf, MemSink, Shelf, Sink, SinkFault, StreamSink};
-use cw_pieces::Writer;
+use cw_io::Writer;
 use std::alloc::{AllocError, Global};
 use std::fs;
 use std::process::Abort;

@@ -11,7 +11,7 @@ use Rattle.cw_syntax.specs.Frames.{On as OnWay, Left as LeftWay, Right as RightW
 use Rattle.cw_rights.specs.declared.capabilities.Caps.{Caps}
 use Rattle.cw_syntax.specs.Trees.{definition_of}
 use Rattle.cw_certs.specs.declared.moves.Move.{Move}
-use Rattle.cw_actions.specs.Scenes.{stms_in}
+use Rattle.cw_resolve.specs.Scenes.{stms_in}
 use Rattle.cw_model.specs.Boards.{Problem, Board, landed, stepped, way_of}
 use Rattle.cw_boards.specs.declared.choices.Choice.{Choice}
 use Rattle.cw_boards.specs.declared.choices.Choice.TheVariants.{Forbidden, To, Grants, Steps}

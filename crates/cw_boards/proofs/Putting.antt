@@ -4,7 +4,7 @@ use Rattle.std.proofs.lemmas.List.{drop_all}
 use Rattle.cw_syntax.specs.declared.program.Stmt.{Stmt}
 use Rattle.cw_syntax.specs.Plans.{Scene, numbered, numbered_all, seams, seams_all}
 use Rattle.cw_syntax.specs.Frames.{Frame, Todo, items_of}
-use Rattle.cw_actions.specs.Scenes.{stm_in, stms_in}
+use Rattle.cw_resolve.specs.Scenes.{stm_in, stms_in}
 use Rattle.cw_boards.proofs.Having.{from_here}
 
 pub record Puts (s : Scene) (xs : List Stmt) (seam : ℕ) (rest : Frame) (i at : ℕ) (frame : Frame) : Type 0 where

@@ -5,7 +5,7 @@ use Rattle.cw_syntax.specs.declared.program.Function.{Function}
 use Rattle.cw_syntax.specs.Trees.{definition_of}
 use Rattle.cw_syntax.specs.Plans.{Scene, Routine, routines_from, numbered_all, seams_all}
 use Rattle.cw_syntax.specs.Frames.{Frame, Entry, End, items_of, new_frame}
-use Rattle.cw_actions.specs.Scenes.{stms_in}
+use Rattle.cw_resolve.specs.Scenes.{stms_in}
 use Rattle.cw_boards.specs.Held.{seams_before}
 
 abbrev pub routine : Scene → Function → ℕ → Routine

@@ -11,10 +11,10 @@ use Rattle.cw_syntax.specs.Plans.{Action, Computes, Opens, Closes, Invokes, acti
 use Rattle.cw_syntax.specs.Frames.{Todo, Test, Mark, Frame, items_of, init_if, opened, opened_all, settle}
 use Rattle.cw_boards.specs.declared.items.Item.{Item as Held}
 use Rattle.cw_boards.specs.declared.frames.Rewritten.TheVariants.{Last, More}
-use Rattle.cw_actions.specs.Scenes.{stm_in, stms_in}
+use Rattle.cw_resolve.specs.Scenes.{stm_in, stms_in}
 use Rattle.cw_boards.specs.Held.{frame_in}
 use Rattle.cw_boards.specs.Rewriting.{weights, frame_weight, Rewrites}
-use Rattle.cw_actions.proofs.Shapes.{block_steps, for_by, for_steps}
+use Rattle.cw_resolve.proofs.Shapes.{block_steps, for_by, for_steps}
 
 settle_all : (ss : Stms) (rest : Frame) → opened_all ss rest (settle rest) ≡ settle (items_of ss rest)
 settle_all end rest = refl

@@ -11,7 +11,7 @@ use Rattle.cw_syntax.specs.Trees.{file_of}
 use Rattle.cw_syntax.specs.declared.program.Function.{Function}
 use Rattle.cw_syntax.specs.Plans.{Plain, Group, end, Scene, numbered, seams_all}
 use Rattle.cw_syntax.specs.Frames.{Item, Entry, Todo, Test, After as AfterItem, Mark, End, Frame}
-use Rattle.cw_actions.specs.Scenes.{scene_in, stm_in, stms_in}
+use Rattle.cw_resolve.specs.Scenes.{scene_in, stm_in, stms_in}
 use Rattle.cw_model.specs.Boards.{Problem, problem_of, Phase, Asked, Refused, FreeSplit, Over, Board, primitives_in, onward, Violates, Moves}
 use Rattle.cw_boards.specs.Numbered.{most_seams, StackBelow}
 use Rattle.cw_boards.specs.declared.items.Item.{Item as Held}

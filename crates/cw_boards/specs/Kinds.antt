@@ -2,8 +2,8 @@
 use Rattle.std.specs.Prelude.{Option, Some, None, List, [], ◌∷◌}
 use Rattle.cw_syntax.specs.Plans.{Stm, Plain, Break, Continue, Return, Open, Close, Call, Group, Label, If, While, Do, For}
 use Rattle.cw_syntax.specs.Frames.{Item, Entry, Todo, Test, After, Mark, End, Frame}
-use Rattle.cw_actions.specs.declared.actions.Act.{Act}
-use Rattle.cw_actions.specs.declared.actions.Act.TheVariants.{Computes as ComputesAct, Opens as OpensAct, Closes as ClosesAct, Invokes as InvokesAct}
+use Rattle.cw_resolve.specs.declared.actions.Act.{Act}
+use Rattle.cw_resolve.specs.declared.actions.Act.TheVariants.{Computes as ComputesAct, Opens as OpensAct, Closes as ClosesAct, Invokes as InvokesAct}
 use Rattle.cw_boards.specs.declared.kinds.Kind.{Kind}
 use Rattle.cw_boards.specs.declared.kinds.Kind.TheVariants.{Entry as EntryKind, Plain as PlainKind, Break as BreakKind, Continue as ContinueKind, Return as ReturnKind, Open as OpenKind}
 use Rattle.cw_boards.specs.declared.kinds.Kind.TheVariants.{Close as CloseKind, Call as CallKind, Group as GroupKind, Label as LabelKind, If as IfKind, Loop as LoopKind, Test as TestKind}

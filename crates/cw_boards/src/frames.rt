@@ -5,7 +5,7 @@ ghost use Rattle.cw_syntax.specs.Plans.{Scene, numbered, numbered_all};
 ghost use Rattle.cw_syntax.specs.Frames.{Todo, Test, Mark, items_of, init_if, settle, broken, continued, ended};
 ghost use Rattle.cw_syntax.specs.declared.program.Head.{out-Head};
 ghost use Rattle.cw_rights.specs.Policies.{policy_of};
-ghost use Rattle.cw_actions.specs.Scenes.{stm_in, stms_in};
+ghost use Rattle.cw_resolve.specs.Scenes.{stm_in, stms_in};
 ghost use Rattle.cw_boards.specs.Held.{scene, item_of, frame_in};
 ghost use Rattle.cw_boards.specs.Numbered.{most_seams, SeamsBelow, AllSeamsBelow, ItemBelow, FrameBelow};
 ghost use Rattle.cw_boards.specs.Rewriting.{Rewrites};

@@ -9,7 +9,7 @@ ghost use Rattle.cw_boards.specs.Held.{scene, item_of, stack_in};
 ghost use Rattle.cw_boards.specs.Kinds.{act_kind, kind_of, item_kind, front_kind};
 
 use crate::items::Item;
-use cw_actions::{Act, action_of, label_number, text};
+use cw_resolve::{Act, action_of, label_number, text};
 use cw_rights::Policy;
 use cw_syntax::checked::Checked;
 use cw_syntax::program::What;

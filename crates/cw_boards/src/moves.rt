@@ -8,7 +8,7 @@ ghost use Rattle.cw_syntax.specs.Frames.{broken, continued, frame_of, pass, popp
 ghost use Rattle.cw_model.specs.Boards.{moved, way_of, IsWeavers};
 ghost use Rattle.cw_boards.specs.Held.{scene, primitives_at, phase_by, frame_in, stack_in, board_in, board_of, problem, IsBoard, HasMove};
 ghost use Rattle.cw_boards.specs.Changes.{may_turn, may_step};
-ghost use Rattle.cw_actions.specs.Scenes.{plan_in};
+ghost use Rattle.cw_resolve.specs.Scenes.{plan_in};
 ghost use Rattle.cw_boards.specs.Turns.{way_in};
 
 use crate::boards::{Board, State};

@@ -6,9 +6,9 @@ ghost use Rattle.cw_boards.specs.Held.{seams_before};
 ghost use Rattle.std.specs.Prelude.{◌≡◌};
 ghost use Rattle.cw_syntax.specs.Plans.{acting, action_of, seams, seams_all};
 ghost use Rattle.cw_syntax.specs.Trees.{tree_of};
-ghost use Rattle.cw_actions.specs.Scenes.{stm_in, stms_in};
+ghost use Rattle.cw_resolve.specs.Scenes.{stm_in, stms_in};
 
-use cw_actions::{Act, action_of};
+use cw_resolve::{Act, action_of};
 use cw_rights::Policy;
 use cw_syntax::checked::Checked;
 use cw_syntax::program::{Expr, Function, Stmt, What};

@@ -10,8 +10,8 @@ use Rattle.cw_syntax.specs.Names.{text, number_in}
 use Rattle.cw_syntax.specs.Trees.{definition_of, file_of}
 use Rattle.cw_syntax.specs.Plans.{function_names}
 use Rattle.cw_rights.specs.Policies.{PlainPolicy}
-use Rattle.cw_actions.specs.Scenes.{names_of}
-use Rattle.cw_actions.proofs.Bounds.{place_within}
+use Rattle.cw_resolve.specs.Scenes.{names_of}
+use Rattle.cw_resolve.proofs.Bounds.{place_within}
 use Rattle.cw_callgraph.specs.declared.table.Effect.{Effect}
 use Rattle.cw_callgraph.specs.Lowest.{at}
 use Rattle.cw_callgraph.specs.Forbidding.{IsLeast, Forbids}

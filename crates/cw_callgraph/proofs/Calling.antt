@@ -7,7 +7,7 @@ use Rattle.std.proofs.lemmas.Option.{none-some, same_Some}
 use Rattle.cw_syntax.specs.declared.program.Function.{Function}
 use Rattle.cw_syntax.specs.Trees.{definition_of}
 use Rattle.cw_syntax.specs.Plans.{Stm, Plain, Break, Continue, Return, Open, Close, Call, Group, Label, If, While, Do, For, Stms, end, then, Scene, routines_from, numbered, numbered_all, seams, seams_all}
-use Rattle.cw_actions.specs.Scenes.{stms_in}
+use Rattle.cw_resolve.specs.Scenes.{stms_in}
 use Rattle.cw_callgraph.specs.declared.table.Effect.{Effect}
 use Rattle.cw_callgraph.specs.Effects.{callees, callees_all, firsts, calls_of, calls, Each}
 use Rattle.cw_callgraph.specs.Finding.{direct, next_in, IsReach, AreEffects, lists_of}

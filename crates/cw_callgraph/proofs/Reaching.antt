@@ -4,8 +4,8 @@ use Rattle.std.specs.List.{All, Contains}
 use Rattle.std.specs.Ordering.{nat_cmp}
 use Rattle.std.proofs.lemmas.List.Elements.{Contains-get_or}
 use Rattle.std.proofs.lemmas.Map.Views.{length-le_from_below}
-use Rattle.cw_closure.specs.Closures.{Reached, first, then, AtMost}
-use Rattle.cw_closure.proofs.Reach.{kept}
+use Rattle.cw_fixpoint.specs.Closures.{Reached, first, then, AtMost}
+use Rattle.cw_fixpoint.proofs.Reach.{kept}
 use Rattle.cw_syntax.specs.Plans.{Plan}
 use Rattle.cw_callgraph.specs.Effects.{calls, Reaches, directly, further}
 use Rattle.cw_callgraph.specs.Finding.{AreBelow, lists_of, next_in, IsRow, IsReach}

@@ -3,7 +3,7 @@ use Rattle.std.proofs.Common.{◌≡◌, ℕ, List, [], ◌∷◌, length, None,
 use Rattle.std.specs.List.{All}
 use Rattle.cw_syntax.specs.Trees.{File}
 use Rattle.cw_rights.specs.Policies.{PlainPolicy}
-use Rattle.cw_actions.specs.Scenes.{names_of}
+use Rattle.cw_resolve.specs.Scenes.{names_of}
 use Rattle.cw_callgraph.specs.Fitting.{first_unlabelled, first_undefined, MayBeSplit, Fits}
 
 none_split : (names : List (List ℕ)) → length names ≡ 0 → names ≡ []

@@ -3,11 +3,11 @@
 use Rattle.std.specs.Prelude.{◌≡◌, ◌<◌, ◌==◌, ℕ, List, [], ◌∷◌, ◌++◌, Bool, true, false, cond, length, map, Vec, Option, slice_index_or}
 use Rattle.std.specs.List.{Contains, list_any, IsDistinct}
 use Rattle.std.specs.Ordering.{nat_cmp}
-use Rattle.cw_closure.specs.Closures.{Exactly, Reached}
+use Rattle.cw_fixpoint.specs.Closures.{Exactly, Reached}
 use Rattle.std.specs.declared.alloc.Global.{Global}
 use Rattle.cw_syntax.specs.declared.program.Function.{Function}
 use Rattle.cw_syntax.specs.Plans.{Scene}
-use Rattle.cw_actions.specs.Scenes.{stms_in}
+use Rattle.cw_resolve.specs.Scenes.{stms_in}
 use Rattle.cw_callgraph.specs.declared.found.Found.{Found}
 use Rattle.cw_callgraph.specs.declared.table.Effect.{Effect}
 use Rattle.cw_callgraph.specs.Effects.{callees_all, firsts, Each}

@@ -5,7 +5,7 @@ use Rattle.std.specs.List.Sorted.{IsStrictlyIncreasing}
 use Rattle.cw_syntax.specs.declared.checked.Checked.{Checked}
 use Rattle.cw_syntax.specs.Trees.{file_of}
 use Rattle.cw_rights.specs.Policies.{PlainPolicy}
-use Rattle.cw_actions.specs.Scenes.{names_of, plan_in}
+use Rattle.cw_resolve.specs.Scenes.{names_of, plan_in}
 use Rattle.cw_callgraph.specs.declared.table.Effect.{Effect}
 use Rattle.cw_callgraph.specs.Effects.{calls, Reaches, Each}
 use Rattle.cw_callgraph.specs.Forbidding.{Forbids, IsLeast}

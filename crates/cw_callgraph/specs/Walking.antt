@@ -6,7 +6,7 @@ use Rattle.cw_syntax.specs.declared.program.Function.{Function}
 use Rattle.cw_syntax.specs.Trees.{definition_of, Tree, Declared, Perhaps, nothing, just, statement_of, tree_of, Definition}
 use Rattle.cw_syntax.specs.Plans.{Scene, action_of}
 use Rattle.cw_rights.specs.Policies.{policy_of}
-use Rattle.cw_actions.specs.Scenes.{scene_in}
+use Rattle.cw_resolve.specs.Scenes.{scene_in}
 use Rattle.cw_callgraph.specs.declared.scopes.Known.{Known}
 use Rattle.cw_callgraph.specs.declared.statements.Setting.{Setting}
 use Rattle.cw_callgraph.specs.declared.expressions.Role.TheVariants.{Value}

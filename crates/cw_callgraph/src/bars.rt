@@ -3,7 +3,7 @@
 ghost use Rattle.std.specs.Prelude.{◌≡◌, map, IfOk};
 ghost use Rattle.cw_syntax.specs.Trees.{definition_of, file_of};
 ghost use Rattle.cw_rights.specs.Policies.{policy_of};
-ghost use Rattle.cw_actions.specs.Scenes.{scene_in};
+ghost use Rattle.cw_resolve.specs.Scenes.{scene_in};
 ghost use Rattle.cw_callgraph.specs.Lowest.{lowest};
 ghost use Rattle.cw_callgraph.specs.Forbidding.{body_places};
 ghost use Rattle.cw_callgraph.specs.Walking.{scene_at, file_at, head_bar, body_bar};

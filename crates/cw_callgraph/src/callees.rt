@@ -5,12 +5,12 @@ ghost use Rattle.std.specs.List.{All};
 ghost use Rattle.cw_syntax.specs.Plans.{acting, action_of};
 ghost use Rattle.cw_syntax.specs.Trees.{tree_of};
 ghost use Rattle.cw_rights.specs.Policies.{policy_of};
-ghost use Rattle.cw_actions.specs.Scenes.{scene_in, stm_in, stms_in};
+ghost use Rattle.cw_resolve.specs.Scenes.{scene_in, stm_in, stms_in};
 ghost use Rattle.cw_callgraph.specs.Effects.{callees, callees_all};
 ghost use Rattle.cw_callgraph.specs.Finding.{IsFound, Finds, AreBelow, lists_of, direct};
 
 use crate::found::{Found, find, nothing};
-use cw_actions::{Act, action_of};
+use cw_resolve::{Act, action_of};
 use cw_core::NoMemory;
 use cw_rights::Policy;
 use cw_syntax::checked::Checked;

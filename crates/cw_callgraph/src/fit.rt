@@ -9,9 +9,9 @@ ghost use Rattle.cw_callgraph.specs.Fitting.{first_unlabelled, first_undefined, 
 ghost use Rattle.cw_callgraph.specs.Barring.{barred, first_barred};
 
 use crate::table::{Effect, EffectTable, effects};
-use cw_actions::function_named;
+use cw_resolve::function_named;
 use cw_core::NoMemory;
-use cw_listing::is_label;
+use cw_resolve::is_label;
 use cw_rights::Policy;
 use cw_syntax::checked::Checked;
 use std::alloc::Global;

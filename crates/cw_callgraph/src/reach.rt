@@ -4,7 +4,7 @@ ghost use Rattle.std.specs.Prelude.{◌<◌, length, IfOk};
 ghost use Rattle.std.specs.List.{All};
 ghost use Rattle.cw_callgraph.specs.Finding.{AreBelow, lists_of, next_in, IsReach};
 
-use cw_closure::{Steps, closed_within};
+use cw_fixpoint::{Steps, closed_within};
 use cw_core::NoMemory;
 use std::alloc::{AllocError, Global};
 

@@ -4,7 +4,7 @@ ghost use Rattle.std.specs.Prelude.{◌≡◌, ◌<◌, ◌≤◌, ◌↔◌, �
 ghost use Rattle.std.specs.List.{All, Contains};
 ghost use Rattle.std.specs.List.Sorted.{IsStrictlyIncreasing};
 ghost use Rattle.cw_rights.specs.Policies.{policy_of};
-ghost use Rattle.cw_actions.specs.Scenes.{names_of, plan_in};
+ghost use Rattle.cw_resolve.specs.Scenes.{names_of, plan_in};
 ghost use Rattle.cw_callgraph.specs.Effects.{calls, Reaches, Each};
 ghost use Rattle.cw_callgraph.specs.Tabled.{AreEffectsOf};
 ghost use Rattle.cw_callgraph.specs.Forbidding.{Forbids, IsLeast};

@@ -6,7 +6,7 @@ use Rattle.cw_core.specs.declared.quantity.Quantity.TheVariants.{SourceBytes}
 use Rattle.cw_rights.specs.Policies.{PlainPolicy}
 use Rattle.cw_rights.specs.Valid.{IsValid}
 use Rattle.cw_syntax.specs.Trees.{File}
-use Rattle.cw_actions.specs.Scenes.{names_of}
+use Rattle.cw_resolve.specs.Scenes.{names_of}
 use Rattle.cw_callgraph.specs.declared.fit.FitFault.{FitFault}
 use Rattle.cw_callgraph.specs.declared.fit.FitFault.TheVariants.{NoLabel, NoFunction, NotSplittable}
 use Rattle.cw_callgraph.specs.Fitting.{Fits, IsFitFault, MayBeSplit}
@@ -17,15 +17,15 @@ use Rattle.cw_certs.specs.Strategies.{Strategy}
 use Rattle.cw_certs.specs.Tables.{Table}
 use Rattle.cw_game.specs.Games.{Game}
 use Rattle.cw_game.specs.Conditions.{strategy_fault, table_fault}
-use Rattle.cw_policies.proofs.Kept.{is_valid}
-use Rattle.cw_policies.proofs.Same.{one_policy, refused_spells_none}
+use Rattle.cw_policy.proofs.Kept.{is_valid}
+use Rattle.cw_policy.proofs.Same.{one_policy, refused_spells_none}
 use Rattle.cw_scope.specs.Descriptors.{descriptor_fault}
 use Rattle.cw_source.proofs.OneAnswer.{never_both, one_program}
-use Rattle.cw_strategies.specs.StrategyText.{Spells, Fits as StrategyFits}
-use Rattle.cw_strategies.proofs.OneAnswer.{one_answer}
-use Rattle.cw_tabletext.specs.Grammar.{IsTable}
-use Rattle.cw_spelled.proofs.Stated.{strategies_have_texts}
-use Rattle.cw_spelled.proofs.Tabled.{tables_have_texts}
+use Rattle.cw_strategy_text.specs.StrategyText.{Spells, Fits as StrategyFits}
+use Rattle.cw_strategy_text.proofs.OneAnswer.{one_answer}
+use Rattle.cw_table_text.specs.Grammar.{IsTable}
+use Rattle.cw_answer_texts.proofs.Stated.{strategies_have_texts}
+use Rattle.cw_answer_texts.proofs.Tabled.{tables_have_texts}
 use Rattle.cw_woven.specs.Reading.{IsAccepted, ReadsWoven}
 use Rattle.cw_woven.proofs.Again.{reads}
 use Rattle.cw_woven.proofs.Apart.{no_fault, one_reading}

@@ -11,9 +11,9 @@ use Rattle.cw_model.specs.Boards.{Problem}
 use Rattle.cw_game.specs.Games.{Game}
 use Rattle.cw_game.specs.Conditions.{Part, InMems, InLive, InTries, InAts, InOpened, InClosed, InInto, InBack, TableFault, table_fault}
 use Rattle.cw_game.specs.Standing.{IsGameOf}
-use Rattle.cw_tabletext.specs.declared.row.Row.TheVariants.{Live, Try, At, Opened, Closed, Into, Back}
-use Rattle.cw_tabletext.specs.Rows.{from_closed, from_tries, memories, rows_of}
-use Rattle.cw_tabletext.specs.Grammar.{Spells}
+use Rattle.cw_table_text.specs.declared.row.Row.TheVariants.{Live, Try, At, Opened, Closed, Into, Back}
+use Rattle.cw_table_text.specs.Rows.{from_closed, from_tries, memories, rows_of}
+use Rattle.cw_table_text.specs.Grammar.{Spells}
 use Rattle.cw_wcheck.specs.declared.fault.BadRow.{BadRow}
 use Rattle.cw_wcheck.specs.Checking.{table_of, HasFewRows, told as told_of}
 use Rattle.cw_woven.specs.declared.fault.WovenFault.{WovenFault}

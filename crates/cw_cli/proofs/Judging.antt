@@ -4,10 +4,10 @@ use Rattle.cw_certs.specs.Strategies.{How, Bad, Out, Both, Go, Into, Row, Strate
 use Rattle.cw_model.specs.Boards.{Problem}
 use Rattle.cw_game.specs.Games.{Game}
 use Rattle.cw_game.specs.Standing.{IsGameOf}
-use Rattle.cw_lines.specs.declared.fault.TextFault.{TextFault}
-use Rattle.cw_lines.specs.declared.fault.TextFault.TheVariants.{Line, Order, Limit, NoMemory}
-use Rattle.cw_strategies.specs.Faults.{IsCause, IsFault}
-use Rattle.cw_strategies.specs.StrategyText.{row_count, rows_in, Spells}
+use Rattle.cw_text.specs.declared.fault.TextFault.{TextFault}
+use Rattle.cw_text.specs.declared.fault.TextFault.TheVariants.{Line, Order, Limit, NoMemory}
+use Rattle.cw_strategy_text.specs.Faults.{IsCause, IsFault}
+use Rattle.cw_strategy_text.specs.StrategyText.{row_count, rows_in, Spells}
 use Rattle.cw_commands.specs.Outcomes.{Due}
 use Rattle.cw_cli.specs.Refuting.{IsJudged, IsJudgedBy}
 

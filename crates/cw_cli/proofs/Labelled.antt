@@ -7,8 +7,8 @@ use Rattle.cw_syntax.specs.Trees.{Statement, Stated, Form, Block, Declares, Eval
 use Rattle.cw_syntax.specs.Trees.{Perhaps, nothing, just, Statements, nil, cons, Definition, File}
 use Rattle.cw_syntax.specs.Plans.{Scene, steps_of, steps_of_form, steps_of_arm, steps_of_all, seams, seams_all, numbered, numbered_all, routines_from, scene_of, plan_of}
 use Rattle.cw_points.specs.Points.{count, count_all, count_from, point_count}
-use Rattle.cw_listing.specs.declared.names.Labelled.{Labelled}
-use Rattle.cw_listing.specs.Labels.{labels_of, labels_in, labels_of_arm, labels_of_all, labels_in_file, label_names}
+use Rattle.cw_resolve.specs.declared.labelled.Labelled.{Labelled}
+use Rattle.cw_resolve.specs.Labels.{labels_of, labels_in, labels_of_arm, labels_of_all, labels_in_file, label_names}
 
 module _ (c : Scene) where
   mutual

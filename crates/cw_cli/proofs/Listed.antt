@@ -12,8 +12,8 @@ use Rattle.cw_points.specs.Graphs.{IsGraph, splits_of}
 use Rattle.cw_points.specs.Points.{point_count}
 use Rattle.cw_points.proofs.Laying.{splits_length}
 use Rattle.cw_callgraph.specs.Effects.{calls, Each}
-use Rattle.cw_listing.specs.Held.{lists}
-use Rattle.cw_listing.specs.Labels.{label_names}
+use Rattle.cw_resolve.specs.Held.{lists}
+use Rattle.cw_resolve.specs.Labels.{label_names}
 use Rattle.cw_listing.specs.Listing.{graph_text}
 use Rattle.cw_source.proofs.Starting.{functions_few}
 use Rattle.cw_source.specs.Read.{ReadsAs}

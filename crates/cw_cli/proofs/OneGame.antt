@@ -12,14 +12,14 @@ use Rattle.cw_core.specs.declared.quantity.Quantity.TheVariants.{ProductStates, 
 use Rattle.cw_rights.specs.declared.capabilities.Caps.{Caps}
 use Rattle.cw_rights.specs.Policies.{PlainPolicy, policy_of}
 use Rattle.cw_dfa.specs.States.{Reached}
-use Rattle.cw_closure.specs.Closures.{Exactly, HasMore}
+use Rattle.cw_fixpoint.specs.Closures.{Exactly, HasMore}
 use Rattle.cw_points.specs.declared.graph.Graph.{Graph}
 use Rattle.cw_points.specs.declared.graph.Node.{Node}
 use Rattle.cw_points.specs.declared.graph.Part.{Part}
 use Rattle.cw_game.specs.Games.{Game}
-use Rattle.cw_lazy.proofs.Finding.{In, in_of, of_in}
-use Rattle.cw_lazy.proofs.Sameness.{among, one}
-use Rattle.cw_ordered.proofs.Numbers.{apart}
+use Rattle.cw_lazy_table.proofs.Finding.{In, in_of, of_in}
+use Rattle.cw_lazy_table.proofs.Sameness.{among, one}
+use Rattle.cw_fixpoint.proofs.Numbers.{apart}
 use Rattle.cw_positions.specs.Positions.{base, spots, spots_in, to}
 use Rattle.cw_states.specs.declared.uses.Uses.{Uses}
 use Rattle.cw_states.specs.Rights.{IsRightsState, caps_cmp}

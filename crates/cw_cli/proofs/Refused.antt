@@ -3,9 +3,9 @@ use Rattle.std.proofs.Common.{◌≡◌, ◌≢◌, ℕ, List, Result, Ok, Err, 
 use Rattle.std.specs.Prelude.{IfErr, IfOk}
 use Rattle.cw_rights.specs.Policies.{PlainPolicy}
 use Rattle.cw_syntax.specs.Trees.{File}
-use Rattle.cw_policies.specs.declared.fault.PolicyFault.{PolicyFault}
-use Rattle.cw_policies.specs.declared.fault.PolicyFault.TheVariants as policy
-use Rattle.cw_policies.specs.Answer.{IsFault}
+use Rattle.cw_policy.specs.declared.fault.PolicyFault.{PolicyFault}
+use Rattle.cw_policy.specs.declared.fault.PolicyFault.TheVariants as policy
+use Rattle.cw_policy.specs.Answer.{IsFault}
 use Rattle.cw_scope.specs.declared.descriptors.DescriptorFault.{DescriptorFault}
 use Rattle.cw_scope.specs.declared.descriptors.DescriptorFault.TheVariants as descriptor
 use Rattle.cw_scope.specs.Descriptors.{descriptor_fault, IsDueDescriptor}

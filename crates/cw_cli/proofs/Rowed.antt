@@ -6,7 +6,7 @@ use Rattle.std.proofs.lemmas.List.Sums.{sum_by-cons}
 use Rattle.cw_certs.specs.declared.strategy.EnvCert.{EnvCert}
 use Rattle.cw_certs.specs.declared.strategy.EnvRow.{EnvRow}
 use Rattle.cw_certs.specs.Strategies.{how_of, row_of, strategy_of, Row}
-use Rattle.cw_least.specs.Strategies.{backs_in, rows_of}
+use Rattle.cw_least_strategy.specs.Strategies.{backs_in, rows_of}
 
 abbrev pub backs : EnvRow → ℕ
 backs r = backs_in (how_of r.how)

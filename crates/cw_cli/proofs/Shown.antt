@@ -3,7 +3,7 @@ use Rattle.std.proofs.Common.{◌≡◌, ℕ, List, [], ◌++◌, ap, ◌∙◌,
 use Rattle.cw_rights.specs.Policies.{PlainPolicy}
 use Rattle.cw_syntax.specs.Trees.{File}
 use Rattle.cw_syntax.specs.Plans.{plan_of}
-use Rattle.cw_actions.specs.Scenes.{names_of}
+use Rattle.cw_resolve.specs.Scenes.{names_of}
 use Rattle.cw_certs.specs.declared.moves.Move.{Move}
 use Rattle.cw_certs.specs.Strategies.{Strategy}
 use Rattle.cw_certs.specs.Tables.{Table}

@@ -6,7 +6,7 @@ use Rattle.cw_syntax.specs.declared.marks.SeamMark.{SeamMark as MarkData}
 use Rattle.cw_syntax.specs.Marks.{mark_of, marks_of}
 use Rattle.cw_syntax.specs.Plans.{plan_of}
 use Rattle.cw_syntax.specs.Trees.{File}
-use Rattle.cw_actions.specs.Scenes.{names_of}
+use Rattle.cw_resolve.specs.Scenes.{names_of}
 use Rattle.cw_certs.specs.Ascending.{Ascends}
 use Rattle.cw_certs.specs.Strategies.{Strategy}
 use Rattle.cw_certs.specs.Tables.{Table}
@@ -19,15 +19,17 @@ use Rattle.cw_game.specs.Reached.{Reached}
 use Rattle.cw_game.specs.Standing.{IsGameOf}
 use Rattle.cw_game.proofs.Goods.{good_closed}
 use Rattle.cw_echeck.proofs.Laws.{all_beat}
-use Rattle.cw_emit.specs.Cut.{HasNone, cut}
-use Rattle.cw_emit.specs.Woven.{ArePlainMarks, Stands}
-use Rattle.cw_lazy.specs.Lazy.{IsLazyTable, table_rows}
-use Rattle.cw_least.specs.Backs.{BacksAscend}
-use Rattle.cw_least.specs.Strategies.{IsLeastStrategy, rows_of}
-use Rattle.cw_named.proofs.Marked.{plain_marks}
+use Rattle.cw_emit.specs.Cut.{cut}
+use Rattle.cw_syntax.specs.PlainMarks.{HasNone}
+use Rattle.cw_emit.specs.Woven.{Stands}
+use Rattle.cw_syntax.specs.PlainMarks.{ArePlainMarks}
+use Rattle.cw_lazy_table.specs.Lazy.{IsLazyTable, table_rows}
+use Rattle.cw_least_strategy.specs.Backs.{BacksAscend}
+use Rattle.cw_least_strategy.specs.Strategies.{IsLeastStrategy, rows_of}
+use Rattle.cw_source_laws.proofs.Marked.{plain_marks}
 use Rattle.cw_source.proofs.Unmarked.{no_marker}
 use Rattle.cw_source.specs.Read.{ReadsAs}
-use Rattle.cw_strategies.specs.StrategyText.{strategy_text}
+use Rattle.cw_strategy_text.specs.StrategyText.{strategy_text}
 use Rattle.cw_model.proofs.Beaten.{beaten_is_forced}
 use Rattle.cw_wcheck.proofs.Lazies.{lazy}
 use Rattle.cw_model.proofs.Running.{never_forced}

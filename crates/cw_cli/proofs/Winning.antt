@@ -5,7 +5,7 @@ use Rattle.cw_core.specs.declared.quantity.Quantity.TheVariants.{Points}
 use Rattle.cw_rights.specs.Policies.{PlainPolicy}
 use Rattle.cw_syntax.specs.Plans.{plan_of}
 use Rattle.cw_syntax.specs.Trees.{File}
-use Rattle.cw_actions.specs.Scenes.{names_of}
+use Rattle.cw_resolve.specs.Scenes.{names_of}
 use Rattle.cw_model.specs.Boards.{problem_of}
 use Rattle.cw_points.specs.declared.graph.Graph.{Graph}
 use Rattle.cw_points.specs.Graphs.{IsGraph}
@@ -16,7 +16,7 @@ use Rattle.cw_product.specs.declared.fault.GameFault.TheVariants.{TooManyCaps, T
 use Rattle.cw_product.specs.Product.{Held, game_of}
 use Rattle.cw_product.specs.Made.{IsMade}
 use Rattle.cw_callgraph.specs.Fitting.{Fits}
-use Rattle.cw_spelled.specs.Spelled.{IsGameMade}
+use Rattle.cw_answer_texts.specs.Spelled.{IsGameMade}
 use Rattle.cw_commands.specs.declared.outcome.Reply.{Reply}
 use Rattle.cw_commands.specs.Outcomes.{Told}
 use Rattle.cw_cli.specs.Reading.{AreRead, IsUnread}

@@ -4,7 +4,7 @@ use Rattle.std.specs.Fmt.{decimal}
 use Rattle.cw_core.specs.declared.quantity.Quantity.TheVariants.{Points, SourceBytes, Rows}
 use Rattle.cw_rights.specs.Policies.{PlainPolicy}
 use Rattle.cw_syntax.specs.Trees.{File}
-use Rattle.cw_actions.specs.Scenes.{names_of}
+use Rattle.cw_resolve.specs.Scenes.{names_of}
 use Rattle.cw_points.specs.declared.graph.Graph.{Graph}
 use Rattle.cw_points.specs.Graphs.{IsGraph}
 use Rattle.cw_certs.specs.Tables.{Table}
@@ -13,9 +13,9 @@ use Rattle.cw_model.specs.Runs.{Sound}
 use Rattle.cw_game.specs.Games.{Game}
 use Rattle.cw_game.specs.Conditions.{Part, InMems, InLive, InTries, InAts, InOpened, InClosed, InInto, InBack, TableFault, table_fault, IsGoodTable}
 use Rattle.cw_callgraph.specs.Fitting.{Fits}
-use Rattle.cw_lines.specs.declared.fault.TextFault.{TextFault}
-use Rattle.cw_lines.specs.declared.fault.TextFault.TheVariants as fault
-use Rattle.cw_policies.specs.Answer.{Spells}
+use Rattle.cw_text.specs.declared.fault.TextFault.{TextFault}
+use Rattle.cw_text.specs.declared.fault.TextFault.TheVariants as fault
+use Rattle.cw_policy.specs.Answer.{Spells}
 use Rattle.cw_woven.specs.declared.fault.CutFault.{CutFault}
 use Rattle.cw_woven.specs.declared.fault.CutFault.TheVariants as cut
 use Rattle.cw_woven.specs.declared.fault.WovenFault.{WovenFault}

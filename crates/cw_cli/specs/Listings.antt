@@ -10,7 +10,7 @@ use Rattle.cw_points.specs.declared.graph.Graph.{Graph}
 use Rattle.cw_points.specs.Points.{point_count}
 use Rattle.cw_points.specs.Graphs.{IsGraph}
 use Rattle.cw_callgraph.specs.Effects.{calls}
-use Rattle.cw_listing.specs.Labels.{label_names}
+use Rattle.cw_resolve.specs.Labels.{label_names}
 use Rattle.cw_listing.specs.Listing.{graph_text}
 use Rattle.cw_source.specs.Read.{ReadsAs}
 use Rattle.cw_commands.specs.declared.outcome.Reply.TheVariants.{Yes}

@@ -3,14 +3,14 @@ use Rattle.std.specs.Prelude.{◌≡◌, ◌⊎◌, ℕ, List, [], ◌∷◌, �
 use Rattle.cw_rights.specs.Policies.{PlainPolicy}
 use Rattle.cw_syntax.specs.Trees.{File}
 use Rattle.cw_syntax.specs.Plans.{plan_of}
-use Rattle.cw_actions.specs.Scenes.{names_of}
+use Rattle.cw_resolve.specs.Scenes.{names_of}
 use Rattle.cw_certs.specs.declared.moves.Move.{Move}
 use Rattle.cw_certs.specs.Strategies.{Strategy}
 use Rattle.cw_model.specs.Boards.{problem_of}
 use Rattle.cw_game.specs.Games.{Game}
 use Rattle.cw_game.specs.Conditions.{RowFault, strategy_fault, IsGoodStrategy}
 use Rattle.cw_echeck.specs.Beating.{IsStartRow}
-use Rattle.cw_strategies.specs.StrategyText.{Spells}
+use Rattle.cw_strategy_text.specs.StrategyText.{Spells}
 use Rattle.cw_trace.specs.Labels.{names_of as told_names}
 use Rattle.cw_trace.specs.Traces.{Taken, trace}
 use Rattle.cw_play.specs.declared.end.PlayEnd.{PlayEnd}

@@ -2,7 +2,7 @@
 use Rattle.std.specs.Prelude.{◌≡◌, ◌⊎◌, ℕ, List, None}
 use Rattle.cw_rights.specs.Policies.{PlainPolicy}
 use Rattle.cw_syntax.specs.Trees.{File}
-use Rattle.cw_policies.specs.Answer.{Spells}
+use Rattle.cw_policy.specs.Answer.{Spells}
 use Rattle.cw_scope.specs.Descriptors.{descriptor_fault}
 use Rattle.cw_source.specs.Read.{ReadsAs}
 use Rattle.cw_commands.specs.Outcomes.{Due}

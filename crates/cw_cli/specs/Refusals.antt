@@ -6,10 +6,10 @@ use Rattle.cw_rights.specs.Policies.{PlainPolicy}
 use Rattle.cw_syntax.specs.Trees.{File}
 use Rattle.cw_text.specs.LimitsText.{descriptor_name}
 use Rattle.cw_regex.specs.declared.read.RegexFault.TheVariants.{TooDeep}
-use Rattle.cw_policies.specs.declared.fault.PolicyFault.{PolicyFault}
-use Rattle.cw_policies.specs.declared.fault.PolicyFault.TheVariants.{Limit as OverLimit, Regex, NoMemory}
-use Rattle.cw_policies.specs.Answer.{IsFault}
-use Rattle.cw_policies.specs.Lines.{fault_line}
+use Rattle.cw_policy.specs.declared.fault.PolicyFault.{PolicyFault}
+use Rattle.cw_policy.specs.declared.fault.PolicyFault.TheVariants.{Limit as OverLimit, Regex, NoMemory}
+use Rattle.cw_policy.specs.Answer.{IsFault}
+use Rattle.cw_policy.specs.Lines.{fault_line}
 use Rattle.cw_scope.specs.declared.faults.ScopeFault.TheVariants as scope
 use Rattle.cw_scope.specs.declared.descriptors.DescriptorFault.{DescriptorFault}
 use Rattle.cw_scope.specs.declared.descriptors.DescriptorFault.TheVariants as descriptor

@@ -6,7 +6,7 @@ use Rattle.cw_core.specs.declared.quantity.Quantity.TheVariants.{Points, RightsS
 use Rattle.cw_rights.specs.Policies.{PlainPolicy, policy_of}
 use Rattle.cw_syntax.specs.Trees.{File}
 use Rattle.cw_syntax.specs.Plans.{plan_of}
-use Rattle.cw_actions.specs.Scenes.{names_of}
+use Rattle.cw_resolve.specs.Scenes.{names_of}
 use Rattle.cw_points.specs.declared.graph.Graph.{Graph}
 use Rattle.cw_points.specs.Graphs.{IsGraph}
 use Rattle.cw_points.specs.Points.{point_count}
@@ -23,10 +23,10 @@ use Rattle.cw_product.specs.declared.fault.GameFault.TheVariants.{TooManyCaps, T
 use Rattle.cw_product.specs.Product.{Held, game_of, IsCause}
 use Rattle.cw_product.specs.Uses.{uses_of}
 use Rattle.cw_callgraph.specs.Fitting.{Fits}
-use Rattle.cw_lines.specs.declared.fault.TextFault.{TextFault}
-use Rattle.cw_lines.specs.declared.fault.TextFault.TheVariants as fault
-use Rattle.cw_strategies.specs.Faults.{IsFault}
-use Rattle.cw_strategies.specs.StrategyText.{Spells}
+use Rattle.cw_text.specs.declared.fault.TextFault.{TextFault}
+use Rattle.cw_text.specs.declared.fault.TextFault.TheVariants as fault
+use Rattle.cw_strategy_text.specs.Faults.{IsFault}
+use Rattle.cw_strategy_text.specs.StrategyText.{Spells}
 use Rattle.cw_commands.specs.declared.outcome.Cause.TheVariants.{Grammar}
 use Rattle.cw_commands.specs.declared.outcome.Reply.TheVariants.{Yes, No}
 use Rattle.cw_commands.specs.Outcomes.{Due, Told, Refused}

@@ -4,13 +4,13 @@ use Rattle.std.specs.Fmt.{decimal}
 use Rattle.cw_rights.specs.Policies.{PlainPolicy}
 use Rattle.cw_syntax.specs.Trees.{File}
 use Rattle.cw_syntax.specs.Plans.{plan_of}
-use Rattle.cw_actions.specs.Scenes.{names_of}
+use Rattle.cw_resolve.specs.Scenes.{names_of}
 use Rattle.cw_certs.specs.declared.moves.Move.{Move}
 use Rattle.cw_certs.specs.Tables.{Table}
 use Rattle.cw_model.specs.Boards.{problem_of}
 use Rattle.cw_game.specs.Games.{Game}
 use Rattle.cw_game.specs.Conditions.{TableFault, table_fault, IsGoodTable}
-use Rattle.cw_policies.specs.Answer.{Spells}
+use Rattle.cw_policy.specs.Answer.{Spells}
 use Rattle.cw_trace.specs.Labels.{names_of as told_names}
 use Rattle.cw_trace.specs.Steps.{Step, End, Ended, TapeSpent, BadMove, IsRunBy, run_trace}
 use Rattle.cw_commands.specs.declared.outcome.Reply.TheVariants.{Yes, No}

@@ -2,8 +2,8 @@
 use Rattle.std.specs.Prelude.{◌≡◌, ◌⊎◌, ℕ, List, ◌++◌, Bool, codes}
 use Rattle.std.specs.Fmt.{decimal}
 use Rattle.cw_certs.specs.declared.moves.Move.{Move}
-use Rattle.cw_lines.specs.declared.fault.TextFault.TheVariants as fault
-use Rattle.cw_tapes.specs.Tapes.{IsFault, IsTape}
+use Rattle.cw_text.specs.declared.fault.TextFault.TheVariants as fault
+use Rattle.cw_text.specs.Tapes.{IsFault, IsTape}
 use Rattle.cw_commands.specs.declared.outcome.Cause.TheVariants.{Grammar}
 use Rattle.cw_commands.specs.Outcomes.{Due, Refused}
 

@@ -15,10 +15,10 @@ use Rattle.cw_game.specs.Pairs.{all_states}
 use Rattle.cw_game.specs.Conditions.{IsGoodTable, IsGoodStrategy}
 use Rattle.cw_solve.specs.declared.contexts.Context.{Context}
 use Rattle.cw_solve.specs.Contexts.{cells_of, IsHeight, HeightIs, AreTheNeeded, AreTooMany}
-use Rattle.cw_lazy.specs.Lazy.{IsLazyTable, table_rows}
-use Rattle.cw_least.specs.Backs.{BacksAscend}
-use Rattle.cw_least.specs.Strategies.{IsLeastStrategy, rows_of}
-use Rattle.cw_strategies.specs.StrategyText.{strategy_text}
+use Rattle.cw_lazy_table.specs.Lazy.{IsLazyTable, table_rows}
+use Rattle.cw_least_strategy.specs.Backs.{BacksAscend}
+use Rattle.cw_least_strategy.specs.Strategies.{IsLeastStrategy, rows_of}
+use Rattle.cw_strategy_text.specs.StrategyText.{strategy_text}
 use Rattle.cw_emit.specs.Cut.{cut}
 use Rattle.cw_emit.specs.Woven.{Stands}
 use Rattle.cw_commands.specs.declared.outcome.Reply.TheVariants.{Yes, No}

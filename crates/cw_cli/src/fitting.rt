@@ -15,7 +15,7 @@ use cw_callgraph::{FitFault, fit_fault};
 use cw_commands::{Cause, Outcome};
 use cw_core::NoMemory;
 use cw_io::Sink;
-use cw_pieces::Writer;
+use cw_io::Writer;
 use cw_rights::Policy;
 use cw_source::place::{column_of, line_of};
 use cw_syntax::checked::Checked;

@@ -7,7 +7,7 @@ ghost use Rattle.cw_rights.specs.Policies.{policy_of};
 ghost use Rattle.cw_rights.specs.Valid.{IsValid};
 ghost use Rattle.cw_syntax.specs.Trees.{file_of};
 ghost use Rattle.cw_syntax.specs.Plans.{plan_of};
-ghost use Rattle.cw_actions.specs.Scenes.{names_of};
+ghost use Rattle.cw_resolve.specs.Scenes.{names_of};
 ghost use Rattle.cw_points.specs.Graphs.{IsGraph};
 ghost use Rattle.cw_points.specs.Points.{point_count};
 ghost use Rattle.cw_source.specs.Read.{ReadsAs};

@@ -4,8 +4,8 @@ ghost use Rattle.std.specs.Prelude.{◌≡◌, ◌≤◌, length};
 ghost use Rattle.cw_certs.specs.Strategies.{how_of, strategy_of};
 ghost use Rattle.cw_product.specs.Product.{game_of};
 ghost use Rattle.cw_solve.specs.Contexts.{cells_of};
-ghost use Rattle.cw_lazy.specs.Lazy.{table_rows};
-ghost use Rattle.cw_least.specs.Strategies.{backs_in, rows_of};
+ghost use Rattle.cw_lazy_table.specs.Lazy.{table_rows};
+ghost use Rattle.cw_least_strategy.specs.Strategies.{backs_in, rows_of};
 
 use cw_certs::{EnvCert, How, WeaverCert};
 use cw_product::Game;

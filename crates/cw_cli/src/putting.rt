@@ -6,7 +6,7 @@ ghost use Rattle.cw_commands.specs.Starts.{Begins, IsTold};
 
 use cw_commands::{Outcome, Reply};
 use cw_io::Sink;
-use cw_pieces::Writer;
+use cw_io::Writer;
 
 /// A text that is due, as it stands.
 pub(crate) fn told<O: Sink, N: Sink>(reply: Reply, text: &[u8], out: &mut O) -> Outcome<O, N>

@@ -12,7 +12,7 @@ ghost use Rattle.cw_cli.specs.Reading.{AreRead, IsSourceUnread, IsUnread};
 
 use crate::refusals::{Answer, descriptor_refusal, policy_refusal, source_refusal};
 use cw_io::Sink;
-use cw_policies::read_policy;
+use cw_policy::read_policy;
 use cw_rights::Policy;
 use cw_scope::check_descriptors;
 use cw_source::read_source;

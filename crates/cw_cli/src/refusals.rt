@@ -2,7 +2,7 @@
 
 ghost use Rattle.std.specs.Prelude.{◌≡◌, ◌≢◌, ◌++◌, IfOk};
 ghost use Rattle.std.specs.Fmt.{decimal};
-ghost use Rattle.cw_pieces.specs.Written.{Follows};
+ghost use Rattle.cw_io.specs.Written.{Follows};
 ghost use Rattle.cw_rights.specs.Policies.{policy_of};
 ghost use Rattle.cw_source.specs.Lines.{fault_line as source_line};
 ghost use Rattle.cw_commands.specs.declared.outcome.Cause.TheVariants.{Source};
@@ -13,8 +13,8 @@ ghost use Rattle.cw_cli.specs.Refusals.{descriptor_line, over, policy_cause, pol
 use cw_commands::{Cause, Outcome};
 use cw_core::{NoMemory, Quantity};
 use cw_io::Sink;
-use cw_pieces::Writer;
-use cw_policies::{PolicyFault, put_fault};
+use cw_io::Writer;
+use cw_policy::{PolicyFault, put_fault};
 use cw_regex::RegexFault;
 use cw_rights::Policy;
 use cw_scope::{DescriptorFault, ScopeFault};

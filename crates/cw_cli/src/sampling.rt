@@ -5,7 +5,7 @@ ghost use Rattle.cw_sample.specs.Samples.{sample_policy, sample_source, HasSampl
 ghost use Rattle.cw_commands.specs.declared.outcome.Reply.TheVariants.{Yes, No};
 ghost use Rattle.cw_commands.specs.Outcomes.{due_of, Told};
 ghost use Rattle.cw_commands.specs.Starts.{Begins, IsTold, Starts, StartsLine};
-ghost use Rattle.cw_pieces.specs.Written.{Follows};
+ghost use Rattle.cw_io.specs.Written.{Follows};
 ghost use Rattle.cw_cli.specs.Sampling.{number_line, reply_line, summary, IsSampleDue};
 ghost use Rattle.cw_cli.specs.Weaving.{IsWeaveDue};
 
@@ -16,7 +16,7 @@ use crate::weaving::counted_due;
 use cw_commands::{Outcome, Reply};
 use cw_core::NoMemory;
 use cw_io::{Sink, SinkFault, SureSink};
-use cw_pieces::Writer;
+use cw_io::Writer;
 use cw_sample::{SampleFault, make_sample};
 use std::alloc::Global;
 

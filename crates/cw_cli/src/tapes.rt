@@ -1,7 +1,7 @@
 //! Tapes as files of a command.
 
 ghost use Rattle.std.specs.Prelude.{◌≤◌, length, IfErr, IfOk};
-ghost use Rattle.cw_tapes.specs.Tapes.{IsTape};
+ghost use Rattle.cw_text.specs.Tapes.{IsTape};
 ghost use Rattle.cw_commands.specs.Outcomes.{due_of};
 ghost use Rattle.cw_commands.specs.Starts.{IsRefused, PassesOrStartsLine};
 ghost use Rattle.cw_cli.specs.Tapes.{IsTapeRefusal};
@@ -11,8 +11,8 @@ use cw_certs::Move;
 use cw_commands::Cause;
 use cw_core::NoMemory;
 use cw_io::Sink;
-use cw_lines::TextFault;
-use cw_tapes::read_tape;
+use cw_text::TextFault;
+use cw_text::read_tape;
 use std::alloc::Global;
 
 /// The moves of a tape, a play's or a run's; or the refusal that is due, by its first line that has another word.

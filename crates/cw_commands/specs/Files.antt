@@ -5,7 +5,7 @@ use Rattle.cw_core.specs.Quantities.{limit_in, limit_of}
 use Rattle.cw_io.specs.Causes.{Rose}
 use Rattle.cw_io.specs.Files.{FilesByName, IsAnswer}
 use Rattle.cw_rights.specs.Policies.{PlainPolicy}
-use Rattle.cw_policies.specs.Answer.{Spells}
+use Rattle.cw_policy.specs.Answer.{Spells}
 use Rattle.cw_commands.specs.declared.ending.Ending.{Ending}
 use Rattle.cw_commands.specs.declared.ending.Ending.TheVariants.{TooLong, Unread}
 

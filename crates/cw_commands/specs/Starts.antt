@@ -1,6 +1,6 @@
 -- How what is due begins to be put: a text to the output, and the line of a refusal to the note.
 use Rattle.std.specs.Prelude.{◌≡◌, ℕ, List, Option, Result, Ok, Err}
-use Rattle.cw_pieces.specs.Written.{Follows}
+use Rattle.cw_io.specs.Written.{Follows}
 use Rattle.cw_commands.specs.declared.ending.Ending.{Ending}
 use Rattle.cw_commands.specs.declared.ending.Ending.TheVariants.{Refused as RefusedEnd}
 use Rattle.cw_commands.specs.declared.outcome.Outcome.{Outcome}

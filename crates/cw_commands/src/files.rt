@@ -7,7 +7,7 @@ ghost use Rattle.cw_commands.specs.Files.{first, HasBytes, HaveBytes, IsFileFaul
 use crate::ending::Ending;
 use cw_core::{NoMemory, Quantity};
 use cw_io::{ReadFault, Shelf, Sink};
-use cw_policies::{PolicyFault, read_policy};
+use cw_policy::{PolicyFault, read_policy};
 use std::alloc::Global;
 
 /// Whether a fault is want of memory.

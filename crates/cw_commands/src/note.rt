@@ -4,14 +4,14 @@ ghost use Rattle.std.specs.Prelude.{◌≡◌, [], codes, Some};
 ghost use Rattle.cw_io.specs.Causes.{HasCause};
 ghost use Rattle.cw_io.specs.Pieces.{Puts};
 ghost use Rattle.cw_io.specs.declared.fault.SinkFault.TheVariants as SinkFault;
-ghost use Rattle.cw_pieces.specs.Written.{Follows};
+ghost use Rattle.cw_io.specs.Written.{Follows};
 ghost use Rattle.cw_commands.specs.Endings.{line, line_of, usage_line, IsNoted, IsNotedWhole, PutsLine};
 ghost use Rattle.cw_commands.specs.Starts.{noted_from, EndsLine};
 
 use crate::ending::Ending;
 use crate::name::Name;
 use cw_io::{Sink, SinkFault};
-use cw_pieces::Writer;
+use cw_io::Writer;
 
 /// Puts some words, others behind them and a line feed.
 fn put_line<N: Sink>(note: &mut N, words: &[u8], rest: &[u8]) -> Result<(), SinkFault>

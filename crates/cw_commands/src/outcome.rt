@@ -1,7 +1,7 @@
 //! What is due for the bytes of a command's files.
 
 use cw_io::Sink;
-use cw_pieces::Writer;
+use cw_io::Writer;
 
 /// Which of a command's two answers a text is.
 #[derive(Clone, Copy, Debug, PartialEq, Eq, Drop)]

@@ -8,7 +8,7 @@ use Rattle.cw_core.specs.Quantities.{limit_in}
 use Rattle.cw_core.specs.declared.quantity.Quantity.TheVariants.{ProductStates}
 use Rattle.cw_rights.specs.declared.capabilities.Caps.{Caps}
 use Rattle.cw_rights.specs.Policies.{PlainPolicy, policy_of}
-use Rattle.cw_closure.specs.Closures.{Exactly, HasMore}
+use Rattle.cw_fixpoint.specs.Closures.{Exactly, HasMore}
 use Rattle.cw_dfa.specs.States.{Reached}
 use Rattle.cw_points.specs.declared.graph.Graph.{Graph}
 use Rattle.cw_points.specs.declared.graph.Node.{Node}
@@ -23,10 +23,10 @@ use Rattle.cw_product.specs.declared.fault.GameFault.TheVariants.{TooManyCaps, T
 use Rattle.cw_product.specs.Product.{Held, IsCause}
 use Rattle.cw_product.specs.Uses.{uses_of}
 use Rattle.cw_product.specs.Made.{IsMade}
-use Rattle.cw_lazy.proofs.Sameness.{one}
-use Rattle.cw_stopless.specs.Unrefused.{varied}
-use Rattle.cw_stopless.proofs.Listed.{rights_forth, rights_back, spots_same}
-use Rattle.cw_stopless.proofs.Rowed.{exactly}
+use Rattle.cw_lazy_table.proofs.Sameness.{one}
+use Rattle.cw_consequences.specs.Unrefused.{varied}
+use Rattle.cw_consequences.proofs.Listed.{rights_forth, rights_back, spots_same}
+use Rattle.cw_consequences.proofs.Rowed.{exactly}
 use Rattle.cw_cli.specs.Refuting.{IsGame}
 use Rattle.cw_cli.proofs.OneGame.{AreAlike, no_more}
 

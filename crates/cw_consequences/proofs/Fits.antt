@@ -7,12 +7,12 @@ use Rattle.cw_rights.specs.Policies.{PlainPolicy}
 use Rattle.cw_syntax.specs.Names.{Names, number_in}
 use Rattle.cw_syntax.specs.Plans.{function_names}
 use Rattle.cw_syntax.specs.Trees.{File}
-use Rattle.cw_actions.specs.Scenes.{names_of}
+use Rattle.cw_resolve.specs.Scenes.{names_of}
 use Rattle.cw_callgraph.specs.declared.fit.FitFault.{FitFault}
 use Rattle.cw_callgraph.specs.declared.fit.FitFault.TheVariants.{NoLabel, NoFunction, NotSplittable}
 use Rattle.cw_callgraph.specs.Fitting.{IsFitFault, IsFirstForbidden}
 use Rattle.cw_callgraph.specs.Forbidding.{Forbids, IsLeast}
-use Rattle.cw_stopless.specs.Unrefused.{varied}
+use Rattle.cw_consequences.specs.Unrefused.{varied}
 use Rattle.cw_cli.specs.Fitting.{fit_line}
 
 module _ (source : List ℕ) (file : File) (names : Names) (split : List (List ℕ)) where

@@ -1,3 +1,7 @@
+pub mod Alike
+pub mod Listed
+pub mod Rowed
+pub mod Least
 mod Causes
 mod Fits
 mod Likes

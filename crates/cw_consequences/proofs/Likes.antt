@@ -10,11 +10,11 @@ use Rattle.cw_game.specs.declared.spots.Spot.{Spot}
 use Rattle.cw_game.specs.declared.spots.Spot.TheVariants.{Asked}
 use Rattle.cw_game.specs.Games.{Game, refuses_in, resumed, resumed_in}
 use Rattle.cw_game.specs.Pairs.{has}
-use Rattle.cw_lazy.specs.Lazy.{GoesOn}
-use Rattle.cw_lazy.specs.Live.{IsLive, goes_on}
-use Rattle.cw_stopless.specs.Unrefused.{under, unrefused}
-use Rattle.cw_stopless.proofs.Alike.{lost_same, refuse_alike, refuse_back}
-use Rattle.cw_stopless.proofs.Rowed.{live_same, table_kept, table_same}
+use Rattle.cw_lazy_table.specs.Lazy.{GoesOn}
+use Rattle.cw_lazy_table.specs.Live.{IsLive, goes_on}
+use Rattle.cw_consequences.specs.Unrefused.{under, unrefused}
+use Rattle.cw_consequences.proofs.Alike.{lost_same, refuse_alike, refuse_back}
+use Rattle.cw_consequences.proofs.Rowed.{live_same, table_kept, table_same}
 use Rattle.cw_consequences.specs.Alike.{in_format}
 use Rattle.cw_consequences.proofs.Outcomes.{IsLike}
 

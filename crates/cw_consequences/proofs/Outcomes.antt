@@ -10,7 +10,7 @@ use Rattle.cw_syntax.specs.Marks.{marks_of}
 use Rattle.cw_syntax.specs.Trees.{File}
 use Rattle.cw_certs.specs.Strategies.{Row, Strategy}
 use Rattle.cw_certs.specs.Tables.{Table}
-use Rattle.cw_closure.specs.Closures.{Exactly, Reached}
+use Rattle.cw_fixpoint.specs.Closures.{Exactly, Reached}
 use Rattle.cw_model.specs.Boards.{Problem, problem_of, start_board, Forced}
 use Rattle.cw_game.specs.Games.{Game, refuses_in, Holds, IsLost}
 use Rattle.cw_game.specs.Pairs.{all_states, has}
@@ -21,16 +21,16 @@ use Rattle.cw_game.proofs.Necessity.{all_owed}
 use Rattle.cw_game.proofs.Standing.{IsStanding, lost_board, standing_on, state_below}
 use Rattle.cw_solve.specs.Contexts.{cells_of, IsHeight}
 use Rattle.cw_solve.proofs.Counts.{too_many}
-use Rattle.cw_lazy.specs.Laws.{CanBegin}
-use Rattle.cw_lazy.specs.Lazy.{IsLazyTable, table_rows}
-use Rattle.cw_lazy.proofs.Sameness.{lazy_is_one, one}
-use Rattle.cw_least.specs.declared.key.Key.{Key}
-use Rattle.cw_least.specs.Strategies.{IsLeastStrategy, key_cmp, named, row_at, rows_of, start_key}
-use Rattle.cw_least.proofs.Keys.{key_total}
-use Rattle.cw_stopless.specs.Unrefused.{under}
-use Rattle.cw_stopless.proofs.Alike.{height_same, holds_same, needed_same}
-use Rattle.cw_stopless.proofs.Least.{strategy_same}
-use Rattle.cw_strategies.specs.StrategyText.{strategy_text}
+use Rattle.cw_lazy_table.specs.Laws.{CanBegin}
+use Rattle.cw_lazy_table.specs.Lazy.{IsLazyTable, table_rows}
+use Rattle.cw_lazy_table.proofs.Sameness.{lazy_is_one, one}
+use Rattle.cw_least_strategy.specs.declared.key.Key.{Key}
+use Rattle.cw_least_strategy.specs.Strategies.{IsLeastStrategy, key_cmp, named, row_at, rows_of, start_key}
+use Rattle.cw_least_strategy.proofs.Keys.{key_total}
+use Rattle.cw_consequences.specs.Unrefused.{under}
+use Rattle.cw_consequences.proofs.Alike.{height_same, holds_same, needed_same}
+use Rattle.cw_consequences.proofs.Least.{strategy_same}
+use Rattle.cw_strategy_text.specs.StrategyText.{strategy_text}
 use Rattle.cw_emit.specs.Woven.{Stands}
 use Rattle.cw_commands.specs.declared.outcome.Reply.TheVariants.{Yes, No}
 use Rattle.cw_commands.specs.Outcomes.{Due, Told, Refused}

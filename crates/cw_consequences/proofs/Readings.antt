@@ -5,15 +5,15 @@ use Rattle.cw_core.specs.Quantities.{limit_in}
 use Rattle.cw_core.specs.declared.quantity.Quantity.TheVariants.{ProductStates}
 use Rattle.cw_rights.specs.Policies.{PlainPolicy}
 use Rattle.cw_syntax.specs.Trees.{File}
-use Rattle.cw_policies.specs.Answer.{Spells}
-use Rattle.cw_policies.proofs.Same.{one_fault as one_policy_fault, one_policy, refused_spells_none}
+use Rattle.cw_policy.specs.Answer.{Spells}
+use Rattle.cw_policy.proofs.Same.{one_fault as one_policy_fault, one_policy, refused_spells_none}
 use Rattle.cw_scope.specs.declared.descriptors.DescriptorFault.{DescriptorFault}
 use Rattle.cw_scope.specs.declared.descriptors.DescriptorFault.TheVariants as descriptor
 use Rattle.cw_scope.specs.Descriptors.{descriptor_fault}
 use Rattle.cw_source.specs.Read.{ReadsAs}
 use Rattle.cw_source.proofs.OneAnswer.{never_both, one_fault, one_program}
 use Rattle.cw_game.specs.Games.{Game}
-use Rattle.cw_stopless.specs.Unrefused.{unrefused, varied}
+use Rattle.cw_consequences.specs.Unrefused.{unrefused, varied}
 use Rattle.cw_commands.specs.declared.outcome.Cause.TheVariants.{Source}
 use Rattle.cw_commands.specs.Outcomes.{Due, Refused}
 use Rattle.cw_cli.specs.Reading.{IsSourceUnread}

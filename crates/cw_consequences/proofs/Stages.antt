@@ -5,7 +5,7 @@ use Rattle.cw_core.specs.declared.quantity.Quantity.TheVariants.{Points, Product
 use Rattle.cw_rights.specs.Policies.{PlainPolicy, policy_of}
 use Rattle.cw_syntax.specs.Plans.{plan_of}
 use Rattle.cw_syntax.specs.Trees.{File}
-use Rattle.cw_actions.specs.Scenes.{names_of}
+use Rattle.cw_resolve.specs.Scenes.{names_of}
 use Rattle.cw_callgraph.specs.declared.fit.FitFault.{FitFault}
 use Rattle.cw_points.specs.declared.graph.Graph.{Graph}
 use Rattle.cw_points.specs.Graphs.{IsGraph}
@@ -18,9 +18,9 @@ use Rattle.cw_product.specs.declared.fault.GameFault.TheVariants.{TooManyCaps, T
 use Rattle.cw_product.specs.Product.{Held, game_of}
 use Rattle.cw_product.specs.Made.{IsMade}
 use Rattle.cw_source.specs.Read.{ReadsAs}
-use Rattle.cw_lazy.proofs.Made.{can_begin}
-use Rattle.cw_stopless.specs.Unrefused.{under, varied}
-use Rattle.cw_stopless.proofs.Listed.{game_varied}
+use Rattle.cw_lazy_table.proofs.Made.{can_begin}
+use Rattle.cw_consequences.specs.Unrefused.{under, varied}
+use Rattle.cw_consequences.proofs.Listed.{game_varied}
 use Rattle.cw_commands.specs.declared.outcome.Cause.{Cause}
 use Rattle.cw_commands.specs.declared.outcome.Cause.TheVariants.{Policy}
 use Rattle.cw_commands.specs.declared.outcome.Reply.TheVariants.{Yes, No}

@@ -5,12 +5,12 @@ use Rattle.cw_rights.specs.Policies.{PlainPolicy}
 use Rattle.cw_syntax.specs.Marks.{MarkKind, EntryMark, LabelMark, OpenMark, CloseMark, CallMark, SeamMark, marks_of}
 use Rattle.cw_certs.specs.Tables.{Table}
 use Rattle.cw_model.specs.Boards.{problem_of}
-use Rattle.cw_tabletext.specs.TablesText.{limits_words, tables_text}
+use Rattle.cw_table_text.specs.TablesText.{limits_words, tables_text}
 use Rattle.cw_emit.specs.Cut.{part}
 use Rattle.cw_emit.specs.Woven.{spelling, woven_from, Stands}
 use Rattle.cw_commands.specs.declared.outcome.Reply.TheVariants.{Yes, No}
 use Rattle.cw_commands.specs.Outcomes.{Due, Told}
-use Rattle.cw_stopless.specs.Unrefused.{varied}
+use Rattle.cw_consequences.specs.Unrefused.{varied}
 use Rattle.cw_consequences.specs.Alike.{AreAlike, refused, woven, refuted}
 
 module _ (p : PlainPolicy) (limit enter split stop : Bool) where

@@ -6,8 +6,8 @@ use Rattle.cw_syntax.specs.Marks.{marks_of}
 use Rattle.cw_certs.specs.Tables.{Table}
 use Rattle.cw_certs.specs.Strategies.{Strategy}
 use Rattle.cw_model.specs.Boards.{problem_of}
-use Rattle.cw_stopless.specs.Unrefused.{varied}
-use Rattle.cw_strategies.specs.StrategyText.{strategy_text}
+use Rattle.cw_consequences.specs.Unrefused.{varied}
+use Rattle.cw_strategy_text.specs.StrategyText.{strategy_text}
 use Rattle.cw_emit.specs.Woven.{Stands}
 use Rattle.cw_source.specs.Read.{ReadsAs}
 use Rattle.cw_commands.specs.declared.outcome.Cause.{Cause}

@@ -2,8 +2,8 @@
 use Rattle.std.specs.Prelude.{◌≡◌, ◌⊎◌, ℕ, List, true}
 use Rattle.cw_core.specs.declared.quantity.Quantity.TheVariants.{ProductStates}
 use Rattle.cw_rights.specs.Policies.{PlainPolicy}
-use Rattle.cw_policies.specs.Answer.{Spells}
-use Rattle.cw_stopless.specs.Unrefused.{unrefused}
+use Rattle.cw_policy.specs.Answer.{Spells}
+use Rattle.cw_consequences.specs.Unrefused.{unrefused}
 use Rattle.cw_commands.specs.Outcomes.{Due}
 use Rattle.cw_cli.specs.Refusals.{over}
 use Rattle.cw_cli.specs.Weaving.{IsWeaveDue}

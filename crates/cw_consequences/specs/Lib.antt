@@ -1,2 +1,4 @@
+pub mod Stopping
+pub mod Unrefused
 pub mod Alike
 pub mod Laws

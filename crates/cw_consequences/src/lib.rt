@@ -1,4 +1,5 @@
-//! What follows of what is due for `weave`: laws over the definitions.
+//! What follows of what is due for the commands: laws over the definitions.
 #![tactic(auto)]
 
 pub mod laws;
+pub mod stopping;

@@ -4,7 +4,7 @@ use Rattle.std.specs.Prelude.{IfNone}
 use Rattle.std.specs.List.{Contains}
 use Rattle.std.specs.Ordering.{nat_cmp}
 use Rattle.std.proofs.lemmas.List.Elements.{Contains-push, Contains-push_cases}
-use Rattle.cw_closure.specs.Closures.{Reached as Found, first as begins, then as goes, Exactly as ExactlyBy, HasMore as HasMoreBy}
+use Rattle.cw_fixpoint.specs.Closures.{Reached as Found, first as begins, then as goes, Exactly as ExactlyBy, HasMore as HasMoreBy}
 use Rattle.cw_dfa.specs.States.{Least, first, then, Exactly, HasMore}
 
 module _ (step next : ℕ → List ℕ) (start : ℕ) (there : (k b : ℕ) → Contains (step k) b → Contains (next k) b) (back : (k b : ℕ) → Contains (next k) b → Contains (step k) b) where

@@ -9,7 +9,7 @@ ghost use Rattle.cw_dfa.specs.Verdicts.{rules_of};
 ghost use Rattle.cw_dfa.specs.States.{AreReached, AreMany, Exactly, HasMore, after_mask, Reached};
 
 use crate::rules::{DfaFault, Rules, start};
-use cw_closure::{Steps, closed_up_to};
+use cw_fixpoint::{Steps, closed_up_to};
 use cw_rights::Letter;
 use std::alloc::{AllocError, Global};
 

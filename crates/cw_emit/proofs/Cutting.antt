@@ -6,9 +6,11 @@ use Rattle.std.proofs.lemmas.List.{append-nil, append_cancel_left, take-append-d
 use Rattle.cw_rights.specs.Policies.{PlainPolicy}
 use Rattle.cw_syntax.specs.Marks.{SeamMark, AreInOrder}
 use Rattle.cw_certs.specs.Tables.{Table}
-use Rattle.cw_tabletext.specs.TablesText.{tables_text}
-use Rattle.cw_emit.specs.Cut.{closing, cut_from, cut, part, HasNone}
-use Rattle.cw_emit.specs.Woven.{spelled, woven_from, woven, prologue, ArePlainNames, ArePlainMarks, StandsPlainly}
+use Rattle.cw_table_text.specs.TablesText.{tables_text}
+use Rattle.cw_emit.specs.Cut.{closing, cut_from, cut, part}
+use Rattle.cw_syntax.specs.PlainMarks.{HasNone}
+use Rattle.cw_emit.specs.Woven.{spelled, woven_from, woven, prologue, ArePlainNames, StandsPlainly}
+use Rattle.cw_syntax.specs.PlainMarks.{ArePlainMarks}
 use Rattle.cw_emit.proofs.Slashes.{is_plain, plain_spelled, plain_lines}
 use Rattle.cw_emit.proofs.Openings.{is_free, free_from_none, free_cut, free_drop, free_take, part_cut}
 

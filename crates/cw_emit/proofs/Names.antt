@@ -6,10 +6,10 @@ use Rattle.std.proofs.lemmas.Bool.{and_parts, false_from_ne_true, true≢false, 
 use Rattle.std.proofs.lemmas.List.Elements.{All-nil, All-head, All-tail}
 use Rattle.cw_rights.specs.Policies.{PlainDescriptor, PlainPolicy}
 use Rattle.cw_rights.specs.Valid.{is_name, is_name_byte, is_name_start, IsDescriptorName, IsValidDescriptor, IsValid}
-use Rattle.cw_lines.specs.Lines.{IsFree}
-use Rattle.cw_lines.proofs.Free.{free_from_test}
+use Rattle.cw_text.specs.Lines.{IsFree}
+use Rattle.cw_text.proofs.Free.{free_from_test}
 use Rattle.cw_text.specs.LimitsText.{name_if}
-use Rattle.cw_emit.specs.Cut.{HasNone}
+use Rattle.cw_syntax.specs.PlainMarks.{HasNone}
 use Rattle.cw_emit.specs.Woven.{ArePlainNames}
 
 digit_free : (name : List ℕ) (n : ℕ) → n < 3 → name ≡ (48 + n) ∷ [] → IsFree 47 name

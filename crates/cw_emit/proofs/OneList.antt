@@ -8,9 +8,10 @@ use Rattle.std.proofs.lemmas.List.{append_cancel_left}
 use Rattle.cw_rights.specs.Policies.{PlainPolicy}
 use Rattle.cw_syntax.specs.Marks.{SeamMark, AreInOrder}
 use Rattle.cw_certs.specs.Tables.{Table}
-use Rattle.cw_tabletext.specs.TablesText.{tables_text}
+use Rattle.cw_table_text.specs.TablesText.{tables_text}
 use Rattle.cw_emit.specs.Cut.{opening, part}
-use Rattle.cw_emit.specs.Woven.{spelled, placed, woven_from, woven, prologue, ArePlainNames, ArePlainMarks, StandsPlainly}
+use Rattle.cw_emit.specs.Woven.{spelled, placed, woven_from, woven, prologue, ArePlainNames, StandsPlainly}
+use Rattle.cw_syntax.specs.PlainMarks.{ArePlainMarks}
 use Rattle.cw_emit.proofs.Slashes.{plain_spelled, plain_lines}
 use Rattle.cw_emit.proofs.Openings.{is_free, free_from_none, free_drop, free_take, no_opening, starts_again}
 use Rattle.cw_emit.proofs.Cutting.{others_plain, same_part, source_is_one}

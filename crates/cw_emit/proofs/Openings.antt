@@ -4,7 +4,8 @@ use Rattle.std.specs.Prelude.{nat_eq, ◌&&◌, codes}
 use Rattle.std.specs.List.{starts_with}
 use Rattle.std.proofs.lemmas.Bool.{and_parts, and_left, false_from_ne_true, not-true, true≢false, ne_eqb, eqb-true, eq-eqb, both_ways, and_from, not_from_false}
 use Rattle.std.proofs.lemmas.List.{take-append-drop}
-use Rattle.cw_emit.specs.Cut.{opening, closing, cut_from, part, HasNone}
+use Rattle.cw_emit.specs.Cut.{opening, closing, cut_from, part}
+use Rattle.cw_syntax.specs.PlainMarks.{HasNone}
 use Rattle.cw_emit.proofs.Slashes.{is_plain}
 
 -- no `cw{*` stands in the bytes

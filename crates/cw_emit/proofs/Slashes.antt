@@ -14,17 +14,18 @@ use Rattle.cw_rights.specs.Policies.{PlainPolicy}
 use Rattle.cw_syntax.specs.Names.{text}
 use Rattle.cw_syntax.specs.Marks.{MarkKind, EntryMark, LabelMark, OpenMark, CloseMark, CallMark, SeamMark}
 use Rattle.cw_certs.specs.Tables.{Table}
-use Rattle.cw_lines.specs.Lines.{line, set_text}
-use Rattle.cw_lines.specs.Lines.{joined as joined_by}
-use Rattle.cw_text.specs.Lines.{with_fields, joined, numbered}
+use Rattle.cw_text.specs.Lines.{line, set_text}
+use Rattle.cw_text.specs.Lines.{joined as joined_by}
+use Rattle.cw_text.specs.RowLines.{with_fields, joined, numbered}
 use Rattle.cw_text.specs.TableText.{answer, mode}
 use Rattle.cw_text.specs.LimitsText.{descriptor_name, limit_word}
-use Rattle.cw_tabletext.specs.declared.row.Row.{Row}
-use Rattle.cw_tabletext.specs.declared.row.Row.TheVariants.{Memory, Live, Try, At, Opened, Closed, Into, Back}
-use Rattle.cw_tabletext.specs.Rows.{rows_of, row_words, called, name_of, fields_of}
-use Rattle.cw_tabletext.specs.TablesText.{header, limits_words, table_words, done, tables_lines, text_of, tables_text}
-use Rattle.cw_emit.specs.Cut.{HasNone}
-use Rattle.cw_emit.specs.Woven.{spelling, spelled, ArePlainNames, IsPlainKind}
+use Rattle.cw_table_text.specs.declared.row.Row.{Row}
+use Rattle.cw_table_text.specs.declared.row.Row.TheVariants.{Memory, Live, Try, At, Opened, Closed, Into, Back}
+use Rattle.cw_table_text.specs.Rows.{rows_of, row_words, called, name_of, fields_of}
+use Rattle.cw_table_text.specs.TablesText.{header, limits_words, table_words, done, tables_lines, text_of, tables_text}
+use Rattle.cw_syntax.specs.PlainMarks.{HasNone}
+use Rattle.cw_emit.specs.Woven.{spelling, spelled, ArePlainNames}
+use Rattle.cw_syntax.specs.PlainMarks.{IsPlainKind}
 
 -- no byte is a slash
 abbrev pub is_plain : List ℕ → Bool

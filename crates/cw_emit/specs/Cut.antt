@@ -22,7 +22,3 @@ cut_from zero true (b ∷ bs) = if starts_with nat_eq (b ∷ bs) closing then cu
 
 abbrev pub cut : List ℕ → List ℕ
 cut text = cut_from 0 false text
-
--- the word begins at no place of the text
-abbrev pub HasNone : List ℕ → List ℕ → Type 0
-HasNone word text = (at : ℕ) → starts_with nat_eq (drop at text) word ≡ false

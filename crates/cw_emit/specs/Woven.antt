@@ -1,15 +1,15 @@
 -- The woven text: a prologue with the table, and the source with the marks of its seams.
 use Rattle.std.specs.Prelude.{◌≡◌, ℕ, ◌-◌, List, [], ◌∷◌, ◌++◌, None, Some, length, take, drop, codes}
 use Rattle.std.specs.Fmt.{decimal}
-use Rattle.std.specs.List.{All}
 use Rattle.cw_rights.specs.Policies.{PlainPolicy}
 use Rattle.cw_syntax.specs.Names.{text}
 use Rattle.cw_syntax.specs.Marks.{MarkKind, EntryMark, LabelMark, OpenMark, CloseMark, CallMark, SeamMark, AreInOrder}
 use Rattle.cw_certs.specs.Tables.{Table}
-use Rattle.cw_text.specs.Lines.{with_fields}
+use Rattle.cw_text.specs.RowLines.{with_fields}
 use Rattle.cw_text.specs.LimitsText.{descriptor_name}
-use Rattle.cw_tabletext.specs.TablesText.{tables_text}
-use Rattle.cw_emit.specs.Cut.{HasNone, part}
+use Rattle.cw_table_text.specs.TablesText.{tables_text}
+use Rattle.cw_emit.specs.Cut.{part}
+use Rattle.cw_syntax.specs.PlainMarks.{HasNone}
 
 -- A mark as it is spelled. That of an entry is a statement of its own, the others are prefixes of one. An open has the
 -- descriptor's name in the policy, a call whose result is taken the variable that takes it.
@@ -51,13 +51,6 @@ Stands text source marks table policy = text ≡ woven_text source marks table p
 -- no name that is spelled has a slash: a name has letters, digits and `_`
 abbrev pub ArePlainNames : PlainPolicy → Type 0
 ArePlainNames policy = (d : ℕ) → HasNone (codes "/") (descriptor_name policy d)
-
-abbrev pub IsPlainKind : List ℕ → MarkKind → Type 0
-IsPlainKind source (CallMark (Some x)) = HasNone (codes "/") (text source x)
-IsPlainKind source _ = Unit {0}
-
-abbrev pub ArePlainMarks : List ℕ → List SeamMark → Type 0
-ArePlainMarks source marks = All (λ m. IsPlainKind source m.kind) marks
 
 -- the text stands for the source, the marks and the table, and these are such that the weaver's parts can be told from the rest
 pub record StandsPlainly (text source : List ℕ) (marks : List SeamMark) (table : Table) (policy : PlainPolicy) : Type 0 where

@@ -4,7 +4,7 @@ ghost use Rattle.std.specs.Prelude.{◌≡◌, ℕ, List, map};
 ghost use Rattle.cw_rights.specs.Policies.{PlainPolicy};
 ghost use Rattle.cw_syntax.specs.Marks.{SeamMark};
 ghost use Rattle.cw_certs.specs.Tables.{Table};
-ghost use Rattle.cw_tabletext.specs.TablesText.{tables_text};
+ghost use Rattle.cw_table_text.specs.TablesText.{tables_text};
 ghost use Rattle.cw_emit.specs.Woven.{StandsPlainly, placed};
 
 /// A text stands for one source.

@@ -2,7 +2,7 @@
 
 ghost use Rattle.std.specs.Prelude.{◌≡◌, ◌++◌, codes};
 ghost use Rattle.std.specs.Fmt.{decimal};
-ghost use Rattle.cw_pieces.specs.Written.{Follows};
+ghost use Rattle.cw_io.specs.Written.{Follows};
 ghost use Rattle.cw_rights.specs.Policies.{policy_of};
 ghost use Rattle.cw_syntax.specs.Marks.{kind_of, mark_of};
 ghost use Rattle.cw_syntax.specs.Names.{text as name_text};
@@ -10,7 +10,7 @@ ghost use Rattle.cw_emit.specs.Cut.{part};
 ghost use Rattle.cw_emit.specs.Woven.{spelled, spelling};
 
 use cw_io::Sink;
-use cw_pieces::Writer;
+use cw_io::Writer;
 use cw_rights::Policy;
 use cw_syntax::marks::{MarkKind, SeamMark};
 use cw_syntax::program::Name;

@@ -3,20 +3,22 @@
 ghost use Rattle.std.specs.Prelude.{◌≡◌, ◌≤◌, ◌++◌, codes, drop, length, map, take, ◌-◌};
 ghost use Rattle.cw_io.specs.Causes.{HasCause};
 ghost use Rattle.cw_io.specs.Pieces.{Puts};
-ghost use Rattle.cw_pieces.specs.Written.{Follows};
+ghost use Rattle.cw_io.specs.Written.{Follows};
 ghost use Rattle.cw_rights.specs.Policies.{policy_of};
 ghost use Rattle.cw_rights.specs.Valid.{IsValid};
 ghost use Rattle.cw_syntax.specs.Marks.{mark_of, AreInOrder};
-ghost use Rattle.cw_emit.specs.Cut.{HasNone, cut};
-ghost use Rattle.cw_emit.specs.Woven.{ArePlainMarks, prologue, woven, woven_text};
+ghost use Rattle.cw_emit.specs.Cut.{cut};
+ghost use Rattle.cw_syntax.specs.PlainMarks.{HasNone};
+ghost use Rattle.cw_emit.specs.Woven.{prologue, woven, woven_text};
+ghost use Rattle.cw_syntax.specs.PlainMarks.{ArePlainMarks};
 
 use crate::marks::put_mark;
 use cw_certs::WeaverCert;
 use cw_io::{Sink, SinkFault};
-use cw_pieces::Writer;
+use cw_io::Writer;
 use cw_rights::Policy;
 use cw_syntax::marks::SeamMark;
-use cw_tabletext::put_tables;
+use cw_table_text::put_tables;
 
 /// Puts the woven text in the policy's format, piece by piece: the prologue with the lines of the table, and then the source
 /// with each mark at its place, in bytes. Where the source has no `cw{*` and no name of it that a mark spells has a slash, the

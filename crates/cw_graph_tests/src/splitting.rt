@@ -1,7 +1,7 @@
 //! What forbids splitting the function `f` of each of these programs.
 
 use crate::ground::{policy, read};
-use cw_actions::function_named;
+use cw_resolve::function_named;
 use cw_callgraph::effects;
 use cw_rights::Policy;
 use std::alloc::{AllocError, Global};

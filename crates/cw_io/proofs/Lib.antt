@@ -3,3 +3,4 @@ pub mod TwoPuts
 mod Places
 mod Reading
 mod Writing
+mod Following

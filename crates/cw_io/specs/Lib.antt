@@ -6,3 +6,4 @@ pub mod Streams
 pub mod Answers
 pub mod Files
 pub mod Shelves
+pub mod Written

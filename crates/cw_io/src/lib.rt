@@ -12,11 +12,13 @@ mod file_shelf;
 mod files;
 mod mem_shelf;
 mod mem_sink;
+mod said;
 mod shelf;
 mod sink;
 mod stream_sink;
 mod sure_shelf;
 mod sure_sink;
+mod writer;
 
 pub use fault::{ReadFault, SinkFault};
 pub use file_shelf::FileShelf;
@@ -27,3 +29,4 @@ pub use sink::{PIECE, Sink};
 pub use stream_sink::StreamSink;
 pub use sure_shelf::SureShelf;
 pub use sure_sink::SureSink;
+pub use writer::Writer;

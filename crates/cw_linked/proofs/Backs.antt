@@ -8,7 +8,7 @@ use Rattle.cw_core.specs.declared.ids.PosId.{PosId}
 use Rattle.cw_game.specs.Games.{Game}
 use Rattle.cw_game.specs.Pairs.{has, Called, call_in}
 use Rattle.cw_links.specs.Lists.{Chained, list_at}
-use Rattle.cw_store.specs.Keys.{lowered}
+use Rattle.cw_links.specs.Keys.{lowered}
 use Rattle.cw_solve.specs.declared.contexts.Context.{Context}
 use Rattle.cw_solve.specs.declared.table.Table.{Table}
 use Rattle.cw_product.specs.Routed.{AreRouted, IsOf}

@@ -6,8 +6,8 @@ use Rattle.std.proofs.lemmas.Option.{same_Some}
 use Rattle.cw_game.specs.Games.{Game, Holds}
 use Rattle.cw_game.specs.Pairs.{has, Called, call_in}
 use Rattle.cw_links.specs.Lists.{list_at}
-use Rattle.cw_marks.specs.Marks.{is_marked, rank}
-use Rattle.cw_marks.proofs.Ranks.{same_from_rank}
+use Rattle.cw_links.specs.Marks.{is_marked, rank}
+use Rattle.cw_links.proofs.Ranks.{same_from_rank}
 use Rattle.cw_solve.specs.declared.contexts.Context.{Context}
 use Rattle.cw_solve.specs.Contexts.{context}
 use Rattle.cw_product.specs.Routed.{AreRouted}

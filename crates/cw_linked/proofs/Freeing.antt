@@ -5,7 +5,7 @@ use Rattle.std.proofs.lemmas.Bool.{cases_eq}
 use Rattle.std.proofs.lemmas.List.{get_or-set_same}
 use Rattle.cw_game.specs.Games.{Game}
 use Rattle.cw_game.specs.Pairs.{Called, call_in}
-use Rattle.cw_store.specs.Keys.{lowered}
+use Rattle.cw_links.specs.Keys.{lowered}
 use Rattle.cw_solve.specs.declared.contexts.Context.{Context}
 use Rattle.cw_solve.specs.declared.table.Table.{Table}
 use Rattle.cw_solve.specs.Rounds.{slot, IsCell}

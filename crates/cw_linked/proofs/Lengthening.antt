@@ -8,8 +8,8 @@ use Rattle.std.proofs.lemmas.List.{length-replicate, length-append, length_push,
 use Rattle.std.proofs.lemmas.List.{replicate-append-replicate}
 use Rattle.cw_game.specs.Games.{Game}
 use Rattle.cw_game.specs.Pairs.{call_in}
-use Rattle.cw_marks.specs.Marks.{is_marked}
-use Rattle.cw_store.specs.Stores.{Stored, Pushes, PushesPlain}
+use Rattle.cw_links.specs.Marks.{is_marked}
+use Rattle.cw_links.specs.Stores.{Stored, Pushes, PushesPlain}
 use Rattle.cw_solve.specs.Rounds.{positions}
 use Rattle.cw_linked.specs.Added.{PushesPlaces, MarksState, MarksLinks, PushesNext, ArePushed}
 use Rattle.cw_linked.specs.Founds.{class_of}

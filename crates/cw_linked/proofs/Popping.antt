@@ -1,7 +1,7 @@
 -- What the least key tells.
 use Rattle.std.proofs.Common.{ℕ, arith}
 use Rattle.cw_game.specs.Games.{Game}
-use Rattle.cw_store.specs.Keys.{AreFrom, AreEmpty}
+use Rattle.cw_links.specs.Keys.{AreFrom, AreEmpty}
 use Rattle.cw_solve.specs.Tables.{IsTable}
 use Rattle.cw_linked.specs.declared.work.Work.{Work}
 use Rattle.cw_linked.specs.Founds.{AreAbove}

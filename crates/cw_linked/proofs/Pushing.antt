@@ -7,7 +7,7 @@ use Rattle.std.proofs.lemmas.List.Sums.{sum_by-append, sum_by_push}
 use Rattle.std.proofs.lemmas.Option.{slice_get_within}
 use Rattle.cw_game.specs.Games.{Game}
 use Rattle.cw_game.specs.Pairs.{Called}
-use Rattle.cw_marks.specs.Marks.{is_marked}
+use Rattle.cw_links.specs.Marks.{is_marked}
 use Rattle.cw_solve.specs.declared.contexts.Context.{Context}
 use Rattle.cw_solve.specs.Contexts.{size, cells_of, AreNeeded}
 use Rattle.cw_solve.specs.Rounds.{base, positions, IsCell}

@@ -8,7 +8,7 @@ use Rattle.cw_game.specs.declared.spots.Spot.{Spot}
 use Rattle.cw_game.specs.Games.{Game, returned}
 use Rattle.cw_game.specs.Pairs.{has, Called, call_in, kept_at}
 use Rattle.cw_links.specs.Lists.{Chained}
-use Rattle.cw_marks.specs.Marks.{is_marked, rank}
+use Rattle.cw_links.specs.Marks.{is_marked, rank}
 use Rattle.cw_product.specs.declared.turn.Turn.{Turn}
 use Rattle.cw_product.specs.Moves.{pos_id, turn_in}
 use Rattle.cw_solve.specs.declared.contexts.Context.{Context}

@@ -4,7 +4,7 @@ use Rattle.std.specs.Prelude.{slice_get, slice_index, count_by}
 use Rattle.std.proofs.lemmas.List.{get_or_past}
 use Rattle.std.proofs.lemmas.Option.{none-some}
 use Rattle.cw_game.specs.Games.{Game}
-use Rattle.cw_store.specs.Keys.{AreEmpty}
+use Rattle.cw_links.specs.Keys.{AreEmpty}
 use Rattle.cw_solve.specs.declared.contexts.Context.{Context}
 use Rattle.cw_solve.specs.Contexts.{cells_of, HeightIs}
 use Rattle.cw_product.specs.Routed.{AreRouted}

@@ -2,7 +2,7 @@
 use Rattle.std.proofs.Common.{◌≡◌, ℕ, ◌<◌, ◌≤◌, Bool, true, List, length, sym, subst}
 use Rattle.std.specs.Prelude.{slice_index}
 use Rattle.cw_game.specs.Games.{Game}
-use Rattle.cw_marks.specs.Marks.{is_marked}
+use Rattle.cw_links.specs.Marks.{is_marked}
 use Rattle.cw_solve.specs.declared.contexts.Context.{Context}
 use Rattle.cw_solve.specs.declared.table.Table.{Table}
 use Rattle.cw_linked.specs.declared.work.Work.{Work}

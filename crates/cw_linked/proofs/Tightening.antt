@@ -5,7 +5,7 @@ use Rattle.std.proofs.lemmas.Bool.{cases_eq}
 use Rattle.std.proofs.lemmas.List.{length-set, get_or-set_same, get_or-set_other}
 use Rattle.cw_game.specs.Games.{Game}
 use Rattle.cw_game.specs.Pairs.{Called}
-use Rattle.cw_marks.specs.Marks.{is_marked}
+use Rattle.cw_links.specs.Marks.{is_marked}
 use Rattle.cw_solve.specs.declared.contexts.Context.{Context}
 use Rattle.cw_solve.specs.declared.table.Table.{Table}
 use Rattle.cw_product.specs.Routed.{AreRouted, IsOf}

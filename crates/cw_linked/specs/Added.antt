@@ -4,8 +4,8 @@ use Rattle.cw_game.specs.declared.spots.Spot.{Spot}
 use Rattle.cw_game.specs.declared.spots.Spot.TheVariants.{Label, Exit}
 use Rattle.cw_game.specs.Games.{Game}
 use Rattle.cw_game.specs.Pairs.{Called, call_in}
-use Rattle.cw_marks.specs.Marks.{is_marked}
-use Rattle.cw_store.specs.Stores.{Stored}
+use Rattle.cw_links.specs.Marks.{is_marked}
+use Rattle.cw_links.specs.Stores.{Stored}
 use Rattle.cw_solve.specs.declared.contexts.Context.{Context}
 use Rattle.cw_solve.specs.declared.table.Table.{Table}
 use Rattle.cw_solve.specs.Tabled.{Tabled}

@@ -2,7 +2,7 @@
 use Rattle.std.specs.Prelude.{◌≡◌, ℕ, ◌<◌, ◌≤◌, List, Bool, Some, length, slice_get, slice_index, Contains}
 use Rattle.cw_game.specs.Games.{Game}
 use Rattle.cw_game.specs.Pairs.{Called, call_in}
-use Rattle.cw_marks.specs.Marks.{rank}
+use Rattle.cw_links.specs.Marks.{rank}
 use Rattle.cw_solve.specs.declared.contexts.Context.{Context}
 use Rattle.cw_solve.specs.Rounds.{IsCell}
 use Rattle.cw_linked.specs.declared.work.Cell.{Cell}

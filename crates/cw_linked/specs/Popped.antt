@@ -1,7 +1,7 @@
 -- Working definitions: what waits under the least key is taken.
 use Rattle.std.specs.Prelude.{◌≡◌, ℕ, ◌+◌, ◌/◌, ◌<◌, List, length, slice_index, slice_set}
 use Rattle.cw_game.specs.Games.{Game}
-use Rattle.cw_store.specs.Keys.{AreFrom, AreEmpty}
+use Rattle.cw_links.specs.Keys.{AreFrom, AreEmpty}
 use Rattle.cw_solve.specs.Tables.{IsTable, HasCell}
 use Rattle.cw_linked.specs.declared.popped.Popped.{Popped}
 use Rattle.cw_linked.specs.declared.popped.Popped.TheVariants.{Nothing as Empty, Cell as OfCell, Link as OfLink}

@@ -2,8 +2,8 @@
 use Rattle.std.specs.Prelude.{◌≡◌, ℕ, ◌+◌, ◌-◌, ◌*◌, ◌<◌, ◌≤◌, List, not, ◌&&◌, ◌||◌, if◌then◌else◌, true, nat_eq, nat_lt, length, slice_index, slice_set}
 use Rattle.cw_game.specs.Games.{Game}
 use Rattle.cw_game.specs.Pairs.{Called}
-use Rattle.cw_marks.specs.Marks.{is_marked}
-use Rattle.cw_store.specs.Keys.{lowered}
+use Rattle.cw_links.specs.Marks.{is_marked}
+use Rattle.cw_links.specs.Keys.{lowered}
 use Rattle.cw_solve.specs.declared.contexts.Context.{Context}
 use Rattle.cw_solve.specs.Tabled.{Tabled}
 use Rattle.cw_product.specs.Routed.{IsOf}

@@ -4,8 +4,8 @@ use Rattle.cw_game.specs.Games.{Game}
 use Rattle.cw_solve.specs.declared.contexts.Context.{Context}
 use Rattle.cw_solve.specs.declared.table.Table.{Table}
 use Rattle.cw_solve.specs.Contexts.{size}
-use Rattle.cw_store.specs.Keys.{AreEmpty}
-use Rattle.cw_store.specs.Stores.{IsBlank}
+use Rattle.cw_links.specs.Keys.{AreEmpty}
+use Rattle.cw_links.specs.Stores.{IsBlank}
 use Rattle.cw_solve.specs.Tables.{IsTable, IsDone, IsMissing}
 use Rattle.cw_linked.specs.declared.links.Stepped.{Stepped}
 use Rattle.cw_linked.specs.declared.links.Stepped.TheVariants.{Done, More, TooMany}

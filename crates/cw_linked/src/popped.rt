@@ -5,7 +5,7 @@ ghost use Rattle.cw_linked.specs.Popped.{Pops};
 ghost use Rattle.cw_linked.specs.Queues.{AreLong};
 
 use crate::work::Work;
-use cw_store::Popped as Taken;
+use cw_links::Popped as Taken;
 
 /// What waited under the least key.
 #[derive(Drop)]

@@ -3,7 +3,7 @@
 ghost use Rattle.std.specs.Prelude.{◌≡◌, ◌+◌, ◌<◌, ◌≤◌, suc, true, length, slice_index, slice_set, OnOk};
 ghost use Rattle.cw_game.specs.Games.{returned};
 ghost use Rattle.cw_game.specs.Pairs.{kept_at};
-ghost use Rattle.cw_marks.specs.Marks.{is_marked};
+ghost use Rattle.cw_links.specs.Marks.{is_marked};
 ghost use Rattle.cw_product.specs.Product.{game_of};
 ghost use Rattle.cw_product.specs.Moves.{IsPosition};
 ghost use Rattle.cw_product.specs.Routed.{AreRouted, IsOf};

@@ -1,7 +1,7 @@
 //! What the solver has found so far, and what waits.
 
 ghost use Rattle.std.specs.Prelude.{◌≡◌, ◌<◌, true, length, IsTrue, OnOk};
-ghost use Rattle.cw_marks.specs.Marks.{is_marked};
+ghost use Rattle.cw_links.specs.Marks.{is_marked};
 ghost use Rattle.cw_product.specs.Product.{game_of};
 ghost use Rattle.cw_product.specs.Routed.{AreRouted};
 ghost use Rattle.cw_solve.specs.Rounds.{positions};
@@ -13,7 +13,7 @@ use crate::divisor::Divisor;
 use cw_core::{NoMemory, PosId, StateId};
 use cw_product::Game;
 use cw_solve::table::{Table, Tabled, numbered, positions};
-use cw_store::Store;
+use cw_links::Store;
 
 /// The heights that are taken, and by each cell's place the key under which the cell waits, 0 where it doesn't. A link, a call of a context with a class of states, has the place of its call and the state that
 /// stands for the class. It has the number of the context to which it goes plus 1, 0 where it isn't tied; the number of moves

@@ -8,3 +8,11 @@ pub mod Piles
 pub mod Stacks
 pub mod Moved
 pub mod Entries
+pub mod Ranks
+pub mod Spreads
+pub mod Blocks
+mod Bits
+pub mod Plain
+pub mod Queueing
+pub mod Linking
+pub mod Spreading

@@ -2,3 +2,9 @@ pub mod Lists
 pub mod Heights
 pub mod Rows
 pub mod Queues
+pub mod Marks
+pub mod Words
+pub mod Blocks
+pub mod Keys
+pub mod Callers
+pub mod Stores

@@ -1,11 +1,20 @@
-//! Lists of cells that are linked by index, cells in buckets by height, and elements that wait under keys.
+//! What a solver keeps by index: lists of cells that are linked, cells in buckets by height, elements that wait under keys, marks of
+//! places with how many come before a place, and keys of cells and of the few places that are links.
 #![tactic(auto)]
 
 mod buckets;
+mod callers;
 mod chains;
+mod keys;
 mod links;
+mod marks;
+mod popped;
 mod queue;
+mod store;
 
 pub use buckets::Buckets;
 pub use chains::Chains;
+pub use marks::Marks;
+pub use popped::Popped;
 pub use queue::Queue;
+pub use store::Store;

@@ -1,3 +1,1 @@
-mod Shapes
-mod Joined
 mod Arrows

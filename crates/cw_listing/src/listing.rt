@@ -3,14 +3,14 @@
 ghost use Rattle.std.specs.Prelude.{◌≡◌, [], ◌++◌, map, is_some, unwrap_or, slice_get, codes};
 ghost use Rattle.std.specs.Fmt.{decimal};
 ghost use Rattle.std.specs.List.{list_any};
-ghost use Rattle.cw_pieces.specs.Written.{Follows};
-ghost use Rattle.cw_text.specs.Lines.{numbered};
-ghost use Rattle.cw_listing.specs.Held.{lists};
+ghost use Rattle.cw_io.specs.Written.{Follows};
+ghost use Rattle.cw_text.specs.RowLines.{numbered};
+ghost use Rattle.cw_resolve.specs.Held.{lists};
 ghost use Rattle.cw_listing.specs.Listing.{name_in, spaced, marked, successors, kind, ends, point_line, function_line, graph_text};
 
 use cw_core::PointId;
 use cw_io::Sink;
-use cw_pieces::Writer;
+use cw_io::Writer;
 use cw_points::{Graph, Node, Part, Point};
 
 /// The names of functions, labels and descriptors, each by its number.

@@ -12,7 +12,7 @@ use Rattle.cw_rights.specs.Words.{Word}
 use Rattle.cw_rights.specs.Policies.{PlainDescriptor, PlainPolicy, IsBad, is_refusable, primitives, start_caps}
 use Rattle.cw_certs.specs.declared.moves.Move.{Move}
 use Rattle.cw_certs.specs.declared.moves.Move.TheVariants.{Skip, Try, Grant, Refuse, On, Left, Right, Opened, Failed, Stop}
-use Rattle.cw_actions.specs.Scenes.{names_of}
+use Rattle.cw_resolve.specs.Scenes.{names_of}
 use Rattle.cw_syntax.specs.Trees.{File}
 use Rattle.cw_syntax.specs.Plans.{Open, Close, Call, Label, Plan, plan_of}
 use Rattle.cw_syntax.specs.Frames.{Entry, Todo, End, Frame, Way, pass, start_stack}

@@ -16,8 +16,8 @@ use Rattle.cw_echeck.proofs.Boards.{problem_in, moves_to}
 use Rattle.cw_states.specs.States.{Lists, caps_at}
 use Rattle.cw_trace.specs.Traces.{Names, Taken, trace, step_lines}
 use Rattle.cw_trace.proofs.Grown.{lines_grown, board_grown}
-use Rattle.cw_told.specs.Told.{lines_at, label_at}
-use Rattle.cw_told.proofs.Boards.{step_told}
+use Rattle.cw_trace.specs.Told.{lines_at, label_at}
+use Rattle.cw_trace.proofs.Boards.{step_told}
 use Rattle.cw_play.specs.Plays.{Follows, IsPlayBy}
 use Rattle.cw_play.proofs.Held.{Tells, Sofar, place}
 

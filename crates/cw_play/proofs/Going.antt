@@ -13,7 +13,7 @@ use Rattle.cw_game.proofs.Link.{not_both}
 use Rattle.cw_echeck.proofs.Leads.{empty, local_over, calls_to, weavers_to}
 use Rattle.cw_echeck.proofs.Boards.{problem_in, environments, at_call, at_end, starts}
 use Rattle.cw_states.specs.States.{Lists}
-use Rattle.cw_lines.specs.Moves.{IsWeavers}
+use Rattle.cw_text.specs.Moves.{IsWeavers}
 use Rattle.cw_trace.specs.Traces.{Names}
 use Rattle.cw_play.specs.Rows.{backs_if, backs_at, move_in, after_in, moves_below, moves_left}
 use Rattle.cw_play.proofs.Held.{IsInRange, Owed, Sofar, Kept}

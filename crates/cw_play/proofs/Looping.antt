@@ -16,7 +16,7 @@ use Rattle.cw_rights.specs.Valid.{IsValid}
 use Rattle.cw_syntax.specs.Trees.{File}
 use Rattle.cw_syntax.specs.Plans.{plan_of}
 use Rattle.cw_syntax.specs.Runnable.{IsRunnable}
-use Rattle.cw_actions.specs.Scenes.{names_of}
+use Rattle.cw_resolve.specs.Scenes.{names_of}
 use Rattle.cw_points.specs.Graphs.{IsGraph}
 use Rattle.cw_model.specs.Boards.{problem_of}
 use Rattle.cw_game.specs.Games.{Game, bad_in}
@@ -28,8 +28,8 @@ use Rattle.cw_states.specs.States.{Lists, AreLists, lists_of}
 use Rattle.cw_product.specs.Product.{Held, game_of}
 use Rattle.cw_product.specs.Uses.{uses_of}
 use Rattle.cw_product.proofs.Holding.{game_is}
-use Rattle.cw_lines.specs.Moves.{IsWeavers}
-use Rattle.cw_tapes.specs.Tapes.{IsIn}
+use Rattle.cw_text.specs.Moves.{IsWeavers}
+use Rattle.cw_text.specs.Tapes.{IsIn}
 use Rattle.cw_trace.specs.Traces.{Names}
 use Rattle.cw_play.specs.declared.end.PlayEnd.{PlayEnd}
 use Rattle.cw_play.specs.Played.{IsPlayed}

@@ -5,7 +5,7 @@ use Rattle.cw_rights.specs.Policies.{PlainPolicy, policy_of}
 use Rattle.cw_rights.specs.Valid.{IsValid}
 use Rattle.cw_rights.specs.Words.{Word}
 use Rattle.cw_syntax.specs.Trees.{File}
-use Rattle.cw_actions.specs.Scenes.{names_of}
+use Rattle.cw_resolve.specs.Scenes.{names_of}
 use Rattle.cw_points.specs.Graphs.{IsGraph}
 use Rattle.cw_game.specs.Reached.{Reached}
 use Rattle.cw_game.proofs.Reached.{reached_means}

@@ -4,7 +4,7 @@ ghost use Rattle.std.specs.Prelude.{◌≡◌, ◌+◌, ◌≤◌, ℕ, length, 
 ghost use Rattle.cw_syntax.specs.Trees.{Stated, Evaluates, tree_of, statement_of, statements_of};
 ghost use Rattle.cw_syntax.specs.declared.program.Head.{out-Head};
 ghost use Rattle.cw_rights.specs.Policies.{policy_of};
-ghost use Rattle.cw_actions.specs.Scenes.{scene_in};
+ghost use Rattle.cw_resolve.specs.Scenes.{scene_in};
 ghost use Rattle.cw_points.specs.Points.{one_if};
 ghost use Rattle.cw_points.specs.Sizes.{size, size_all};
 ghost use Rattle.cw_points.specs.Graphs.{first, step_nodes, test_node};
@@ -13,7 +13,7 @@ ghost use Rattle.cw_points.specs.Drawing.{drawn_of, looped, before, with_nodes, 
 use crate::count::{count, count_all};
 use crate::draft::{Draft, Ways, first};
 use crate::graph::Point;
-use cw_actions::{Act, action_of, label_number, text};
+use cw_resolve::{Act, action_of, label_number, text};
 use cw_rights::Policy;
 use cw_syntax::checked::Checked;
 use cw_syntax::program::{Expr, Head, Stmt, What};

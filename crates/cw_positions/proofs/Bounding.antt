@@ -9,8 +9,8 @@ use Rattle.cw_syntax.specs.declared.program.Name.{Name}
 use Rattle.cw_syntax.specs.Names.{text, number_or_other}
 use Rattle.cw_syntax.specs.Trees.{File}
 use Rattle.cw_syntax.specs.Plans.{Callee, Action, Computes, Opens, Closes, Invokes, action_of, Routine, plan_of, scene_of}
-use Rattle.cw_actions.specs.Scenes.{names_of}
-use Rattle.cw_actions.proofs.Bounds.{IsWithin, acts_within}
+use Rattle.cw_resolve.specs.Scenes.{names_of}
+use Rattle.cw_resolve.proofs.Bounds.{IsWithin, acts_within}
 use Rattle.cw_points.specs.declared.graph.Point.{Point}
 use Rattle.cw_points.specs.declared.graph.Point.TheVariants as point
 use Rattle.cw_points.specs.declared.graph.Node.{Node}

@@ -7,8 +7,8 @@ use Rattle.cw_syntax.specs.Trees.{File}
 use Rattle.cw_syntax.specs.Plans.{Callee, Action, Computes, Opens, Closes, Invokes, action_of, Routine, plan_of, scene_of}
 use Rattle.cw_syntax.specs.Frames.{new_frame}
 use Rattle.cw_syntax.specs.Runnable.{IsRunnable}
-use Rattle.cw_actions.specs.Scenes.{names_of}
-use Rattle.cw_actions.proofs.Bounds.{IsWithin, acts_within}
+use Rattle.cw_resolve.specs.Scenes.{names_of}
+use Rattle.cw_resolve.proofs.Bounds.{IsWithin, acts_within}
 use Rattle.cw_game.specs.declared.spots.Spot.{Spot}
 use Rattle.cw_game.specs.declared.spots.Spot.TheVariants.{Call, SplitCall}
 use Rattle.cw_game.specs.Games.{Game}

@@ -11,7 +11,7 @@ use Rattle.cw_syntax.specs.Names.{text, number_in}
 use Rattle.cw_syntax.specs.Trees.{Tree, Node as TreeNode, Trees, none, more, File}
 use Rattle.cw_syntax.specs.Plans.{Callee, Action, Computes, action_of, call_action, assigned_action, closed_by, closes_if, opens_if, descriptor_of}
 use Rattle.cw_syntax.specs.Plans.{Routine, scene_of, plan_of}
-use Rattle.cw_actions.specs.Scenes.{names_of}
+use Rattle.cw_resolve.specs.Scenes.{names_of}
 use Rattle.cw_points.specs.declared.graph.Point.{Point}
 use Rattle.cw_points.specs.declared.graph.Point.TheVariants as point
 use Rattle.cw_points.specs.declared.graph.Node.{Node}

@@ -8,7 +8,7 @@ use Rattle.cw_syntax.specs.Names.{Names, text, number_in}
 use Rattle.cw_syntax.specs.Trees.{Definition, File}
 use Rattle.cw_syntax.specs.Plans.{Callee, Action, Computes, Opens, Closes, Invokes, action_of, Scene, Routine, Plan, routines_from, plan_of}
 use Rattle.cw_syntax.specs.Plans.{scene_of, seams_all, steps_of_all}
-use Rattle.cw_actions.proofs.Bounds.{IsWithin, acts_within}
+use Rattle.cw_resolve.proofs.Bounds.{IsWithin, acts_within}
 use Rattle.cw_game.specs.declared.spots.Spot.{Spot}
 use Rattle.cw_syntax.specs.Runnable.{IsRunnable}
 use Rattle.cw_points.specs.declared.graph.Point.{Point}

@@ -4,7 +4,7 @@ use Rattle.cw_rights.specs.Policies.{PlainPolicy}
 use Rattle.cw_syntax.specs.Trees.{File}
 use Rattle.cw_syntax.specs.Plans.{plan_of}
 use Rattle.cw_syntax.specs.Runnable.{IsRunnable}
-use Rattle.cw_actions.specs.Scenes.{names_of}
+use Rattle.cw_resolve.specs.Scenes.{names_of}
 use Rattle.cw_game.specs.Games.{Game}
 use Rattle.cw_game.specs.Places.{IsLaidOut, HasRoutines}
 use Rattle.cw_points.specs.declared.graph.Graph.{Graph}

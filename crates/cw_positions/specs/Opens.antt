@@ -8,7 +8,7 @@ use Rattle.cw_syntax.specs.Names.{text}
 use Rattle.cw_syntax.specs.Trees.{Tree, Node as TreeNode, none, more, Statement, Stated, Form, Block, Declares, Evaluates, Empties, Labels, Chooses}
 use Rattle.cw_syntax.specs.Trees.{Whiles, Does, Fors, Breaks, Continues, Returns}
 use Rattle.cw_syntax.specs.Trees.{Perhaps, nothing, just, Statements, nil, cons, Definition, File}
-use Rattle.cw_actions.specs.Scenes.{names_of}
+use Rattle.cw_resolve.specs.Scenes.{names_of}
 use Rattle.cw_points.specs.declared.graph.Point.TheVariants as point
 use Rattle.cw_points.specs.declared.graph.Node.{Node}
 use Rattle.cw_points.specs.declared.graph.Graph.{Graph}

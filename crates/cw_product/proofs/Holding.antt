@@ -11,7 +11,7 @@ use Rattle.cw_rights.specs.Valid.{IsValid}
 use Rattle.cw_syntax.specs.Trees.{File}
 use Rattle.cw_syntax.specs.Plans.{plan_of}
 use Rattle.cw_syntax.specs.Runnable.{IsRunnable}
-use Rattle.cw_actions.specs.Scenes.{names_of}
+use Rattle.cw_resolve.specs.Scenes.{names_of}
 use Rattle.cw_model.specs.Boards.{problem_of}
 use Rattle.cw_game.specs.declared.spots.Spot.TheVariants.{Label, Open, Close}
 use Rattle.cw_game.specs.Games.{IsOpenedIn}

@@ -5,7 +5,7 @@ use Rattle.cw_core.specs.declared.quantity.Quantity.TheVariants.{PositionsTimesS
 use Rattle.cw_core.specs.Quantities.{limit_of}
 use Rattle.cw_rights.specs.declared.policy.Policy.{Policy}
 use Rattle.cw_rights.specs.Policies.{PlainPolicy, policy_of}
-use Rattle.cw_actions.specs.Scenes.{names_of}
+use Rattle.cw_resolve.specs.Scenes.{names_of}
 use Rattle.cw_points.specs.declared.graph.Graph.{Graph}
 use Rattle.cw_positions.specs.declared.layout.Positions.{Positions}
 use Rattle.cw_positions.specs.Positions.{bases, spots}

@@ -6,7 +6,7 @@ use Rattle.cw_rights.specs.Policies.{PlainPolicy, policy_of}
 use Rattle.cw_syntax.specs.Trees.{File}
 use Rattle.cw_syntax.specs.Plans.{plan_of}
 use Rattle.cw_syntax.specs.Runnable.{IsRunnable}
-use Rattle.cw_actions.specs.Scenes.{names_of}
+use Rattle.cw_resolve.specs.Scenes.{names_of}
 use Rattle.cw_points.specs.declared.graph.Graph.{Graph}
 use Rattle.cw_points.specs.Graphs.{IsGraph}
 use Rattle.cw_game.specs.Games.{Game}

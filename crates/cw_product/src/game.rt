@@ -59,7 +59,7 @@ impl<'g> Game<'g> {
     ghost use Rattle.cw_syntax.specs.Trees.{File};
     ghost use Rattle.cw_syntax.specs.Plans.{plan_of};
     ghost use Rattle.cw_syntax.specs.Runnable.{IsRunnable};
-    ghost use Rattle.cw_actions.specs.Scenes.{names_of};
+    ghost use Rattle.cw_resolve.specs.Scenes.{names_of};
     ghost use Rattle.cw_points.specs.Graphs.{IsGraph};
     ghost use Rattle.cw_model.specs.Boards.{problem_of};
     ghost use Rattle.cw_game.specs.Standing.{IsGameOf};

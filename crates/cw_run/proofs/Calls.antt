@@ -22,7 +22,7 @@ use Rattle.cw_game.specs.Standing.{StandsOn}
 use Rattle.cw_game.proofs.Moves.{step_of}
 use Rattle.cw_game.proofs.Link.{not_both, violates_bad, board_moves}
 use Rattle.cw_trace.specs.Traces.{Names, step_lines}
-use Rattle.cw_told.specs.Told.{spot_lines}
+use Rattle.cw_trace.specs.Told.{spot_lines}
 use Rattle.cw_run.specs.Walks.{Here, Wait, ret_of, config_of, mems_of, place}
 use Rattle.cw_run.proofs.Sees.{Sees, sees_visit, sees_asked, sees_step, sees_branch, sees_label, sees_open, sees_close, sees_call, sees_split, sees_end, see, below, board_on}
 use Rattle.cw_run.proofs.Sits.{IsCallOf, Waiting, Least, Sits, Stepped, arrived, told_by}

@@ -13,7 +13,7 @@ use Rattle.cw_certs.specs.Tables.{Table}
 use Rattle.cw_syntax.specs.Trees.{File}
 use Rattle.cw_syntax.specs.Plans.{Plan, plan_of}
 use Rattle.cw_syntax.specs.Runnable.{IsRunnable}
-use Rattle.cw_actions.specs.Scenes.{names_of}
+use Rattle.cw_resolve.specs.Scenes.{names_of}
 use Rattle.cw_points.specs.Graphs.{IsGraph}
 use Rattle.cw_positions.specs.Opens.{AssignsNames}
 use Rattle.cw_positions.specs.Positions.{spots}

@@ -22,7 +22,7 @@ use Rattle.cw_game.proofs.Link.{starts_at, environments_turn}
 use Rattle.cw_trace.specs.Traces.{Names, reached_lines}
 use Rattle.cw_trace.specs.Steps.{Step, state_after, End, Ended, TapeSpent, BadMove, IsNoMove}
 use Rattle.cw_trace.proofs.Grown.{follows_grown, state_grown}
-use Rattle.cw_told.specs.Told.{spot_lines, lines_at, label_at}
+use Rattle.cw_trace.specs.Told.{spot_lines, lines_at, label_at}
 use Rattle.cw_run.specs.Walks.{at_pos, Here, Wait, ret_of, config_of, Next, place_of, stop_lines, waits_after, next_of, Stopped, with_stop, next_here, Arrives, LandsAt, Goes, start_here}
 use Rattle.cw_run.specs.Woven.{Tells}
 use Rattle.cw_run.proofs.Sees.{see, below}

@@ -28,7 +28,7 @@ use Rattle.cw_trace.specs.Lines.{try_line, stop_line}
 use Rattle.cw_trace.specs.Traces.{Names, step_lines, lines_from}
 use Rattle.cw_trace.specs.Steps.{Step, Follows, state_after, word_by, words_of, taken_of, run_trace}
 use Rattle.cw_trace.proofs.Grown.{lines_grown, follows_grown, state_grown, words_grown, board_of_run, taken_grown}
-use Rattle.cw_told.specs.Told.{spot_lines, label_at}
+use Rattle.cw_trace.specs.Told.{spot_lines, label_at}
 use Rattle.cw_run.specs.Walks.{Here, Wait, ret_of, config_of, mems_of, place, within, Next, To, Into, Back, Over as AllOver, Resumed, Stopped, at_pos}
 use Rattle.cw_run.specs.Walks.{called, ended, going_on, refusing, asked, next_of, stop_lines, place_of, waits_after, Rests, stays as rests_stays, tries as rests_tries, skips as rests_skips}
 use Rattle.cw_run.proofs.Sees.{is_inner, Sees, sees_visit, sees_asked, sees_step, sees_branch, sees_label, sees_open, sees_close, sees_call, sees_split, sees_end, see, below, board_on, stays}

@@ -23,8 +23,8 @@ use Rattle.cw_game.specs.Standing.{Meaning, StandsOn}
 use Rattle.cw_game.proofs.Link.{Stands, board_moves, environments_turn}
 use Rattle.cw_product.specs.Moves.{pair_of, is_left_in, next_in, next_at}
 use Rattle.cw_trace.specs.Traces.{Names, move_lines, reached_lines, step_lines}
-use Rattle.cw_told.specs.Told.{spot_lines, lines_at, label_at}
-use Rattle.cw_told.proofs.Boards.{moved_on, reached_on}
+use Rattle.cw_trace.specs.Told.{spot_lines, lines_at, label_at}
+use Rattle.cw_trace.proofs.Boards.{moved_on, reached_on}
 use Rattle.cw_run.specs.Walks.{Here, Wait, ret_of, config_of, mems_of, place, mem_after, within}
 use Rattle.cw_run.proofs.Sees.{Sees, see, means_in, is_inner, below}
 use Rattle.cw_run.proofs.Sees.{board_on, remembered, stays}

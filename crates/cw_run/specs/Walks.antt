@@ -15,7 +15,7 @@ use Rattle.cw_game.specs.Pairs.{Called, kept_at}
 use Rattle.cw_product.specs.Moves.{IsPosition, IsState, next_at}
 use Rattle.cw_trace.specs.Lines.{stop_line}
 use Rattle.cw_trace.specs.Traces.{Names}
-use Rattle.cw_told.specs.Told.{lines_at, label_at}
+use Rattle.cw_trace.specs.Told.{lines_at, label_at}
 use Rattle.cw_run.specs.declared.walk.Here.{Here as HereData}
 use Rattle.cw_run.specs.declared.walk.CallAt.{CallAt}
 use Rattle.cw_run.specs.declared.run.Place.{Place as PlaceData}

@@ -14,7 +14,7 @@ use cw_certs::{Move, OpenRow, WeaverCert};
 use cw_core::{MemId, PosId, SeamId, StateId};
 use cw_game::Spot;
 use cw_product::{Game, Turn};
-use cw_rows::{after_close, after_label, back_at, into_at, open_at, try_at};
+use cw_certs::{after_close, after_label, back_at, into_at, open_at, try_at};
 
 /// Where the top frame stands: its position, the state, its memory.
 #[derive(Clone, Copy, Drop)]

@@ -3,7 +3,7 @@
 ghost use Rattle.std.specs.Prelude.{◌≡◌, IfSome};
 ghost use Rattle.cw_sample.specs.Samples.{sample_number, HasSample};
 
-use cw_lines::number_of;
+use cw_text::number_of;
 
 /// The number from 1 to 400 whose decimal, without leading zeros, a word is; none where it is that of none of them.
 pub fn sample_number(word: &[u8]) -> Option<u32>

@@ -14,7 +14,7 @@ use Rattle.cw_syntax.specs.Names.{slice, text, number_in}
 use Rattle.cw_syntax.specs.Trees.{Tree, Node, Trees, none, more, Declared, Declaration, Definition, File}
 use Rattle.cw_syntax.specs.Plans.{Scene, scene_of, Action, Opens, Closes, action_of, descriptor_of}
 use Rattle.cw_rights.specs.Policies.{PlainPolicy, PlainDescriptor}
-use Rattle.cw_actions.specs.Scenes.{names_of}
+use Rattle.cw_resolve.specs.Scenes.{names_of}
 use Rattle.cw_scope.specs.declared.descriptors.DescriptorFault.{DescriptorFault}
 use Rattle.cw_scope.specs.declared.descriptors.DescriptorFault.TheVariants.{NoVariable, Shadowed, Misuse, NoMemory}
 use Rattle.cw_scope.specs.Walks.{nodes, nodes_in, listed, Whole, every_whole}

@@ -6,14 +6,14 @@ ghost use Rattle.std.specs.Str.{bytes_eq};
 ghost use Rattle.cw_syntax.specs.Plans.{action_of};
 ghost use Rattle.cw_syntax.specs.Trees.{tree_of, trees_of};
 ghost use Rattle.cw_rights.specs.Policies.{policy_of};
-ghost use Rattle.cw_actions.specs.Scenes.{scene_in};
+ghost use Rattle.cw_resolve.specs.Scenes.{scene_in};
 ghost use Rattle.cw_scope.specs.Rules.{least};
 ghost use Rattle.cw_scope.specs.Descriptors.{names_variable, first_is_variable, names_some, is_change, misuse, is_own, used};
 ghost use Rattle.cw_scope.specs.Held.{tree_at, whole_of};
 
 use crate::rules::{at_if, sooner};
 use crate::walks::{Whole, put_nodes, put_parts};
-use cw_actions::{Act, action_of, descriptor_named, descriptor_of};
+use cw_resolve::{Act, action_of, descriptor_named, descriptor_of};
 use cw_rights::Policy;
 use cw_syntax::checked::Checked;
 use cw_syntax::names::{slice, text};

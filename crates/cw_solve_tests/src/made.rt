@@ -6,7 +6,7 @@ ghost use Rattle.cw_rights.specs.Valid.{IsValid};
 ghost use Rattle.cw_product.specs.Product.{IsProgramsGraph};
 ghost use Rattle.cw_product.specs.Made.{LeavesMain};
 
-use cw_calls::laws::read_programs_leave_main;
+use cw_source_laws::calls::read_programs_leave_main;
 use cw_points::Graph;
 use cw_points::build::build;
 use cw_rights::Policy;

@@ -7,7 +7,7 @@ use crate::texts::{
 use crate::told::{Answer, Question, told};
 use cw_echeck::check_env;
 use cw_product::Game;
-use cw_strategies::read_env;
+use cw_strategy_text::read_env;
 use std::alloc::Global;
 use std::process::Abort;
 use std::test::Fail;

@@ -7,7 +7,7 @@ use crate::products::{has_tools_numbers, is_split};
 use crate::solved::{both, linked, small, unsolved};
 use crate::strategies::judged;
 use cw_linked::solve as solve_linked;
-use cw_policies::read_policy;
+use cw_policy::read_policy;
 use cw_product::{Game, GameFault};
 use cw_solve::solve;
 use std::alloc::{AllocError, Global};

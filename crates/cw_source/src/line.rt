@@ -1,14 +1,14 @@
 //! The line that tells why a source is refused.
 
 ghost use Rattle.std.specs.Prelude.{◌≡◌, ◌++◌};
-ghost use Rattle.cw_pieces.specs.Written.{Follows};
+ghost use Rattle.cw_io.specs.Written.{Follows};
 ghost use Rattle.cw_source.specs.Lines.{at_place, fault_line, lex_line, scope_line};
 
 use crate::fault::SourceFault;
 use crate::place::{column_of, line_of};
 use cw_io::Sink;
 use cw_lex::LexFault;
-use cw_pieces::Writer;
+use cw_io::Writer;
 use cw_scope::ScopeFault;
 
 /// Appends the line `source LINE:COLUMN: WORDS`, without its line feed, for a place that is counted in bytes from the front of the source. Lines and

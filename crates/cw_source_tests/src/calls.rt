@@ -7,7 +7,7 @@ use cw_grammar::spelling::lexemes;
 use cw_grammar::words::Lexeme;
 use cw_lex::{Token, TokenKind, lex};
 use cw_parse::{ParseFault, parse};
-use cw_policies::read_policy;
+use cw_policy::read_policy;
 use cw_recogniser::recognise;
 use cw_scope::descriptors::check_descriptors;
 use cw_source::{SourceFault, read_source};

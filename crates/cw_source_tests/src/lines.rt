@@ -3,7 +3,7 @@
 use cw_core::Quantity;
 use cw_io::SureSink;
 use cw_lex::LexFault;
-use cw_pieces::Writer;
+use cw_io::Writer;
 use cw_scope::ScopeFault;
 use cw_source::{SourceFault, put_fault_line};
 use cw_syntax::program::Name;

@@ -8,7 +8,7 @@ use Rattle.std.specs.declared.cmp.Ordering.TheVariants.{Less}
 use Rattle.std.proofs.lemmas.List.{get_or-map, length-map}
 use Rattle.std.proofs.lemmas.List.Elements.{Contains-append_left, Contains-append_right, Contains-append_cases}
 use Rattle.std.proofs.lemmas.Option.{none-some, same_Some}
-use Rattle.cw_closure.specs.Closures.{Reached, first, then, Exactly, HasMore}
+use Rattle.cw_fixpoint.specs.Closures.{Reached, first, then, Exactly, HasMore}
 use Rattle.cw_rights.specs.declared.capabilities.Rights.{Rights}
 use Rattle.cw_rights.specs.declared.capabilities.Caps.{Caps}
 use Rattle.cw_rights.specs.declared.capabilities.Limit.{Limit as ALimit}
@@ -21,7 +21,7 @@ use Rattle.cw_model.specs.Boards.{is_yes, may_grant}
 use Rattle.cw_states.specs.declared.order.Ranked.{Ranked}
 use Rattle.cw_states.specs.declared.uses.Uses.{Uses}
 use Rattle.cw_states.specs.Rights.{IsRightsState, at_start, by_enter, by_limit, by_open, by_close, caps_cmp}
-use Rattle.cw_closure.proofs.Members.{contains_none, contains_one, contains_first}
+use Rattle.cw_fixpoint.proofs.Members.{contains_none, contains_one, contains_first}
 use Rattle.cw_states.specs.Growing.{ranked, all_caps, after_limit, after_limits, after_open, is_true, is_closed, after_close, after_held, after}
 
 yes_is : (a : Allowed) → is_yes a ≡ true → a ≡ Yes

@@ -3,7 +3,7 @@ use Rattle.std.proofs.Common.{◌≡◌, ℕ, zero, suc, ◌<◌, ◌≤◌, Lis
 use Rattle.std.specs.Int.RustNames.{bit_and}
 use Rattle.std.specs.List.{Contains}
 use Rattle.std.specs.Ordering.{nat_cmp}
-use Rattle.cw_closure.specs.Closures.{Exactly, HasMore}
+use Rattle.cw_fixpoint.specs.Closures.{Exactly, HasMore}
 use Rattle.std.proofs.lemmas.Bool.Decides.{nat_tests}
 use Rattle.std.proofs.lemmas.List.{get_or-map, length-map}
 use Rattle.std.proofs.lemmas.List.Elements.{Contains-append_left, Contains-append_right, Contains-append_cases}
@@ -23,7 +23,7 @@ use Rattle.cw_states.specs.Masks.{HaveSame, met}
 use Rattle.cw_states.specs.Rights.{IsRightsState, caps_cmp}
 use Rattle.cw_states.specs.States.{IsCause, letters_below, letters_of, label_count}
 use Rattle.cw_states.specs.Tables.{tabled}
-use Rattle.cw_closure.proofs.Members.{contains_none, contains_one, contains_first}
+use Rattle.cw_fixpoint.proofs.Members.{contains_none, contains_one, contains_first}
 use Rattle.cw_states.proofs.Tabled.{tabled_length, tabled_at}
 
 letter_in : (rights : List Caps) (c : Caps) (label : ℕ) → Contains rights c → Contains (map (letter_of label) rights) (letter_of label c)

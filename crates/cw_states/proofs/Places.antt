@@ -14,7 +14,7 @@ use Rattle.std.proofs.lemmas.List.Elements.{Contains-append_cases}
 use Rattle.std.proofs.lemmas.Bool.Decides.{nat_tests}
 use Rattle.cw_rights.specs.declared.capabilities.Caps.{Caps}
 use Rattle.cw_states.specs.Rights.{caps_cmp}
-use Rattle.cw_closure.proofs.Members.{contains_none, contains_one}
+use Rattle.cw_fixpoint.proofs.Members.{contains_none, contains_one}
 use Rattle.cw_states.proofs.Ordered.{caps_exact, caps_total}
 
 module _ {A : Type 0} (test : A → Bool) where

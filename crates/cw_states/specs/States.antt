@@ -1,7 +1,7 @@
 -- The states of a policy for a source: pairs of a policy state and a rights state, by number.
 use Rattle.std.specs.Prelude.{◌≡◌, ℕ, zero, suc, ◌+◌, ◌*◌, ◌/◌, ◌%◌, ◌<◌, ◌≤◌, List, [], ◌++◌, Option, cond, is_some, nat_eq, length, map, position, slice_get, slice_index, slice_index_or, unwrap_or}
 use Rattle.std.specs.Ordering.{eq_by_cmp, nat_cmp}
-use Rattle.cw_closure.specs.Closures.{Exactly, HasMore}
+use Rattle.cw_fixpoint.specs.Closures.{Exactly, HasMore}
 use Rattle.cw_core.specs.declared.quantity.Quantity.TheVariants.{ProductStates}
 use Rattle.cw_core.specs.Quantities.{limit_in}
 use Rattle.cw_rights.specs.declared.capabilities.Caps.{Caps}

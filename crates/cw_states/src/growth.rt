@@ -1,7 +1,7 @@
 //! The rights states: what follows capabilities, and all that is reached.
 
 ghost use Rattle.std.specs.Prelude.{◌≡◌, ◌+◌, ◌<◌, ◌≤◌, ◌++◌, length, map, slice_get, IfOk, OnOk, IfSome, IfNone};
-ghost use Rattle.cw_closure.specs.Closures.{Exactly, HasMore};
+ghost use Rattle.cw_fixpoint.specs.Closures.{Exactly, HasMore};
 ghost use Rattle.cw_rights.specs.declared.capabilities.Primitive.TheVariants.{Limit as ALimit};
 ghost use Rattle.cw_rights.specs.Capabilities.{IsDescriptorBelow};
 ghost use Rattle.cw_rights.specs.Policies.{descriptor_of, policy_of};
@@ -11,7 +11,7 @@ ghost use Rattle.cw_states.specs.Growing.{all_caps, after_limit, after_limits, a
 
 use crate::order::Ranked;
 use crate::uses::Uses;
-use cw_closure::{Steps, closed_up_to};
+use cw_fixpoint::{Steps, closed_up_to};
 use cw_rights::policy::start_caps;
 use cw_rights::{
     Allowed, Caps, Descriptor, Limit, Policy, Primitive, apply, close_hold, limit_allowed,

@@ -2,8 +2,8 @@
 
 use cw_core::NoMemory;
 use cw_io::SureSink;
-use cw_pieces::Writer;
-use cw_policies::{PolicyFault, put_fault, read_policy};
+use cw_io::Writer;
+use cw_policy::{PolicyFault, put_fault, read_policy};
 use cw_rights::{Policy, Regex, Rights, Test};
 use std::alloc::{AllocError, Global};
 use std::process::Abort;

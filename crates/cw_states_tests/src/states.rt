@@ -3,7 +3,7 @@
 ghost use Rattle.std.specs.Prelude.{◌≡◌};
 
 use cw_core::StateId;
-use cw_policies::read_policy;
+use cw_policy::read_policy;
 use cw_rights::{Hold, Policy, Primitive, Rights};
 use cw_states::{States, StatesFault, Uses};
 use std::alloc::{AllocError, Global};

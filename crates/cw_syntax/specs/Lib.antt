@@ -5,3 +5,4 @@ pub mod Frames
 pub mod Marks
 pub mod Steps
 pub mod Runnable
+pub mod PlainMarks

@@ -1,1 +1,10 @@
+pub mod Cuts
+pub mod Fields
+mod Finding
+pub mod Free
+pub mod Names
+pub mod OneSet
 pub mod Numbered
+pub mod Added
+pub mod OneAnswer
+pub mod Few

@@ -1,7 +1,7 @@
 -- One line more of numbered lines.
 use Rattle.std.proofs.Common.{◌≡◌, ℕ, zero, suc, ◌+◌, ◌<◌, List, [], ◌∷◌, ◌++◌, length, take, map, get_or, sym, ap, ◌∙◌, append_assoc, append-nil, add-one, arith}
 use Rattle.std.specs.List.{flat_map, enumerate_from}
-use Rattle.cw_text.specs.Lines.{numbered}
+use Rattle.cw_text.specs.RowLines.{numbered}
 
 from : {A : Type 0} → (ℕ → A → List ℕ) → ℕ → List A → List ℕ
 from f n xs = flat_map (λ row. f row.0 row.1) (enumerate_from n xs)

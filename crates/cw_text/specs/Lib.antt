@@ -1,3 +1,7 @@
 pub mod Lines
+pub mod Moves
+pub mod RowLines
 pub mod TableText
 pub mod LimitsText
+pub mod Tapes
+pub mod TapeLines

@@ -1,19 +1,41 @@
--- What lines are made of: words, a name with its fields, the end of a line.
-use Rattle.std.specs.Prelude.{ℕ, List, ◌++◌, codes}
-use Rattle.std.specs.List.{flat_map, join_by, enumerate_from}
+-- What lines are made of: words with a mark between each two, numbers and sets as words.
+use Rattle.std.specs.Prelude.{◌≡◌, ◌≢◌, ℕ, ◌==◌, false, if◌then◌else◌, List, ◌∷◌, ◌++◌, drop, codes, Option, IfSome, IfNone}
+use Rattle.std.specs.List.{All, join_with_byte, slice_split}
+use Rattle.cw_core.specs.Numerals.{hexadecimal}
+use Rattle.cw_core.specs.Ranges.{set_spelling}
+use Rattle.cw_core.specs.StateSet.{IsBelow}
 
--- the words in a row, with a mark between each two
-abbrev pub joined : List ℕ → List (List ℕ) → List ℕ
-joined mark words = join_by (λ word. word) mark words
+-- the mark isn't among the bytes
+abbrev pub IsFree : (mark : ℕ) → List ℕ → Type 0
+IsFree mark bytes = All (λ byte. (byte == mark) ≡ false) bytes
 
--- a name with its fields: `NAME(A,B)`
-abbrev pub with_fields : List ℕ → List (List ℕ) → List ℕ
-with_fields name fields = name ++ codes "(" ++ joined (codes ",") fields ++ codes ")"
+-- words in a row, with a mark between each two
+abbrev pub joined : (mark : ℕ) → List (List ℕ) → List ℕ
+joined mark words = join_with_byte mark words
+
+-- what stands between the marks of a text; one word where it has none
+abbrev pub words_of : (mark : ℕ) → List ℕ → List (List ℕ)
+words_of mark text = slice_split (λ byte. byte == mark) text
 
 -- a line ends with LF
 abbrev pub line : List ℕ → List ℕ
-line words = words ++ codes "\n"
+line text = text ++ codes "\n"
 
--- one line for each row, by the number of the row, from 0
-abbrev pub numbered : {A : Type 0} → (ℕ → A → List ℕ) → List A → List ℕ
-numbered line_of rows = flat_map (λ row. line_of row.0 row.1) (enumerate_from 0 rows)
+-- How a text of a format spells a set: in format 1 as hexadecimal; in format 2 as ranges where that is shorter.
+unfoldable pub set_text : (format set : ℕ) → List ℕ
+set_text format set = if format == 2 then set_spelling set else hexadecimal set
+
+-- In a text of format 1 a set has numbers below 512, in one of format 2 below 1,024.
+abbrev pub IsSetIn : (format set : ℕ) → Type 0
+IsSetIn format set = IsBelow (if format == 2 then 1024 else 512) set
+
+-- the value that fits and whose text the word is, or whose words these are; none where that is so of none that fits
+pub record Reads {A W : Type 0} (Fits : A → Type 0) (text_of : A → W) (word : W) (result : Option A) : Type 0 where
+  pub some : IfSome result (λ value. Fits value × (text_of value ≡ word))
+  pub none : IfNone result ((value : A) → Fits value → text_of value ≢ word)
+
+-- the same of the first of some words, which is taken; where it is none, that word is passed over, if there is one
+pub record Takes {A : Type 0} (Fits : A → Type 0) (text_of : A → List ℕ) (old new : List (List ℕ)) (result : Option A) : Type 0 where
+  pub some : IfSome result (λ value. Fits value × (old ≡ text_of value ∷ new))
+  pub none : IfNone result ((value : A) (rest : List (List ℕ)) → Fits value → old ≢ text_of value ∷ rest)
+  pub left : IfNone result (new ≡ drop 1 old)

@@ -1,6 +1,23 @@
-//! What tables and woven texts spell alike: limits, descriptors' names, the fields of rows.
+//! What texts of tables, strategies, woven programs and tapes are made of: lines and their words, numbers, sets and moves as words, the
+//! fields of rows, limits and descriptors' names, and the faults that a reader of such a text answers; tapes whole.
 #![tactic(auto)]
 
+mod cutting;
+mod fault;
+mod field;
+pub mod laws;
 mod limits;
+mod moves;
+mod sets;
+mod tape_moves;
+mod tapes;
+mod words;
 
+pub use cutting::{cut, next_line};
+pub use fault::TextFault;
+pub use field::{number_of, set_of};
 pub use limits::{descriptor_name, put_limits};
+pub use moves::{environments_move, move_name, weavers_move};
+pub use sets::put_set;
+pub use tapes::read_tape;
+pub use words::Words;

@@ -1,14 +1,14 @@
 //! The limits of a policy as text.
 
 ghost use Rattle.std.specs.Prelude.{◌≡◌, ◌++◌};
-ghost use Rattle.cw_pieces.specs.Written.{Follows};
+ghost use Rattle.cw_io.specs.Written.{Follows};
 ghost use Rattle.cw_rights.specs.Policies.{policy_of};
-ghost use Rattle.cw_text.specs.Lines.{numbered};
+ghost use Rattle.cw_text.specs.RowLines.{numbered};
 ghost use Rattle.cw_text.specs.LimitsText.{descriptor_name, limit_word, limits_line};
 
 use cw_core::StateSet;
 use cw_io::Sink;
-use cw_pieces::Writer;
+use cw_io::Writer;
 use cw_rights::{Limit, Policy};
 
 /// Appends the line of a policy's limits, `#define CW_LIMITS(X)` with ` X(INDEX,DESCRIPTOR,MASK)` for each limit and LF: the

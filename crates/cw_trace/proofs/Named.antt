@@ -9,8 +9,8 @@ use Rattle.cw_points.specs.declared.graph.Seam.{Seam}
 use Rattle.cw_points.specs.declared.graph.Graph.{Graph}
 use Rattle.cw_points.specs.Points.{count}
 use Rattle.cw_points.specs.Graphs.{turn_of, exit_of, seams_in, seams_in_all, seams_from, IsGraph}
-use Rattle.cw_listing.specs.declared.names.Labelled.{Labelled}
-use Rattle.cw_listing.specs.Labels.{labels_in_file}
+use Rattle.cw_resolve.specs.declared.labelled.Labelled.{Labelled}
+use Rattle.cw_resolve.specs.Labels.{labels_in_file}
 use Rattle.cw_trace.proofs.Lists.{cons_head, cons_tail}
 use Rattle.cw_trace.specs.Traces.{Names}
 use Rattle.cw_trace.specs.Labels.{label_at, names_of}

@@ -4,9 +4,9 @@ use Rattle.cw_syntax.specs.Names.{text}
 use Rattle.cw_syntax.specs.Trees.{File}
 use Rattle.cw_syntax.specs.Plans.{Plan, function_names}
 use Rattle.cw_syntax.specs.Marks.{marks_of}
-use Rattle.cw_listing.specs.declared.names.Labelled.{Labelled}
-use Rattle.cw_listing.specs.Held.{lists}
-use Rattle.cw_listing.specs.Labels.{labels_in_file}
+use Rattle.cw_resolve.specs.declared.labelled.Labelled.{Labelled}
+use Rattle.cw_resolve.specs.Held.{lists}
+use Rattle.cw_resolve.specs.Labels.{labels_in_file}
 use Rattle.cw_trace.specs.declared.names.Names.{Names as NamesData}
 use Rattle.cw_trace.specs.Traces.{Names}
 

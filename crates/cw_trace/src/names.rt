@@ -5,12 +5,12 @@ ghost use Rattle.cw_syntax.specs.Names.{Names as PolicyNames};
 ghost use Rattle.cw_syntax.specs.Trees.{file_of};
 ghost use Rattle.cw_syntax.specs.Plans.{plan_of};
 ghost use Rattle.cw_points.specs.Graphs.{IsGraph};
-ghost use Rattle.cw_listing.specs.Held.{lists};
+ghost use Rattle.cw_resolve.specs.Held.{lists};
 ghost use Rattle.cw_trace.specs.Traces.{name_in};
 ghost use Rattle.cw_trace.specs.Labels.{label_at, names_of, told};
 
 use cw_core::{NoMemory, SeamId};
-use cw_listing::{Labelled, function_names, labels_in};
+use cw_resolve::{Labelled, function_names, labels_in};
 use cw_points::{Graph, Seam};
 use cw_syntax::checked::Checked;
 use cw_syntax::names::text;

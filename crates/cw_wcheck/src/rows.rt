@@ -15,7 +15,7 @@ use cw_certs::{Move, TryRow, WeaverCert};
 use cw_core::{MemId, PosId, SeamId, StateId, StateSet};
 use cw_game::Spot;
 use cw_product::Game;
-use cw_rows::try_at;
+use cw_certs::try_at;
 
 /// A live row: its position and what stands there, its memory, and the state and the promise that the memory means. Where it leads,
 /// the row behind it often stands: at this place of the list.

@@ -14,21 +14,23 @@ use Rattle.cw_syntax.specs.Trees.{File}
 use Rattle.cw_syntax.specs.Plans.{plan_of}
 use Rattle.cw_syntax.specs.Marks.{MarkKind, EntryMark, LabelMark, OpenMark, CloseMark, CallMark, SeamMark, AreInOrder}
 use Rattle.cw_syntax.proofs.Counting.{in_order}
-use Rattle.cw_actions.specs.Scenes.{names_of}
+use Rattle.cw_resolve.specs.Scenes.{names_of}
 use Rattle.cw_certs.specs.Tables.{Table}
 use Rattle.cw_text.specs.LimitsText.{descriptor_name, name_if}
-use Rattle.cw_tabletext.specs.Grammar.{IsTable}
-use Rattle.cw_tabletext.specs.TablesText.{tables_text}
-use Rattle.cw_emit.specs.Cut.{opening, closing, part, HasNone}
-use Rattle.cw_emit.specs.Woven.{placed, spelled, spelling, woven_from, Stands, ArePlainNames, ArePlainMarks}
+use Rattle.cw_table_text.specs.Grammar.{IsTable}
+use Rattle.cw_table_text.specs.TablesText.{tables_text}
+use Rattle.cw_emit.specs.Cut.{opening, closing, part}
+use Rattle.cw_syntax.specs.PlainMarks.{HasNone}
+use Rattle.cw_emit.specs.Woven.{placed, spelled, spelling, woven_from, Stands, ArePlainNames}
+use Rattle.cw_syntax.specs.PlainMarks.{ArePlainMarks}
 use Rattle.cw_emit.proofs.Names.{valid_names}
 use Rattle.cw_emit.proofs.Openings.{is_free, free_from_none, free_drop, free_take, no_opening, Slash}
 use Rattle.cw_emit.proofs.Slashes.{is_plain, plain_spelled, plain_lines}
 use Rattle.cw_emit.proofs.Cutting.{others_plain}
 use Rattle.cw_source.proofs.Marking.{marks_in_order}
 use Rattle.cw_source.proofs.Unmarked.{no_marker}
-use Rattle.cw_named.specs.Marked.{IsNamedKind}
-use Rattle.cw_named.proofs.Marked.{marks_named, plain_marks}
+use Rattle.cw_source_laws.specs.Marked.{IsNamedKind}
+use Rattle.cw_source_laws.proofs.Marked.{marks_named, plain_marks}
 use Rattle.cw_woven.specs.Parts.{Piece, IsCutAt, NoneBefore, AreParts, without, places_from}
 use Rattle.cw_woven.specs.Woven.{IsSpelling}
 use Rattle.cw_woven.specs.Reading.{the_prologue, IsAccepted, ReadsWoven, seam_marks}

@@ -15,10 +15,11 @@ use Rattle.cw_source.specs.declared.fault.SourceFault.{SourceFault}
 use Rattle.cw_source.specs.declared.fault.SourceFault.TheVariants as read
 use Rattle.cw_source.specs.Read.{ReadsAs}
 use Rattle.cw_source.proofs.OneAnswer.{one_program, never_both}
-use Rattle.cw_tabletext.specs.Grammar.{Spells}
-use Rattle.cw_tabletext.proofs.OneAnswer.{one_table, not_both}
-use Rattle.cw_tabletext.proofs.PlainLimits.{limits_free, small_format}
-use Rattle.cw_emit.specs.Cut.{opening, closing, HasNone}
+use Rattle.cw_table_text.specs.Grammar.{Spells}
+use Rattle.cw_table_text.proofs.OneAnswer.{one_table, not_both}
+use Rattle.cw_table_text.proofs.PlainLimits.{limits_free, small_format}
+use Rattle.cw_emit.specs.Cut.{opening, closing}
+use Rattle.cw_syntax.specs.PlainMarks.{HasNone}
 use Rattle.cw_emit.specs.Woven.{placed}
 use Rattle.cw_emit.proofs.Openings.{starts_again}
 use Rattle.cw_woven.specs.declared.fault.CutFault.{CutFault}

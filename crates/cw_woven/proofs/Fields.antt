@@ -4,8 +4,8 @@ use Rattle.std.specs.Prelude.{codes, IsTrue}
 use Rattle.std.specs.Fmt.{decimal}
 use Rattle.std.proofs.lemmas.List.{append_cancel_left, append_cancel_right}
 use Rattle.cw_rights.specs.Valid.{is_name}
-use Rattle.cw_lines.specs.Lines.{IsFree}
-use Rattle.cw_lines.proofs.Free.{one_line, no_line, decimal_free}
+use Rattle.cw_text.specs.Lines.{IsFree}
+use Rattle.cw_text.proofs.Free.{one_line, no_line, decimal_free}
 use Rattle.cw_woven.specs.Woven.{IsNumber, IsNumbered, IsNamed}
 
 pub same_middle : (front a b back : List ℕ) → front ++ (a ++ back) ≡ front ++ (b ++ back) → a ≡ b

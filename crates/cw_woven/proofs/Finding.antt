@@ -6,7 +6,8 @@ use Rattle.std.proofs.lemmas.Bool.{and_parts, eqb-true, false_from_ne_true, case
 use Rattle.std.proofs.lemmas.List.{take-append-drop}
 use Rattle.memchr.specs.Find.{OccursAt, FindsNeedle, Nowhere}
 use Rattle.memchr.proofs.lemmas.MatchLemmas.{OccursAt-split, OccursAt-from_part}
-use Rattle.cw_emit.specs.Cut.{closing, HasNone}
+use Rattle.cw_emit.specs.Cut.{closing}
+use Rattle.cw_syntax.specs.PlainMarks.{HasNone}
 use Rattle.cw_woven.specs.Parts.{IsCutAt, NoneBefore}
 
 -- what begins with a word is the word and the rest

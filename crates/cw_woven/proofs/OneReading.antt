@@ -7,10 +7,11 @@ use Rattle.std.proofs.lemmas.List.{append_cancel_left}
 use Rattle.cw_rights.specs.Policies.{PlainPolicy}
 use Rattle.cw_syntax.specs.Trees.{File}
 use Rattle.cw_certs.specs.Tables.{Table}
-use Rattle.cw_emit.specs.Cut.{opening, closing, HasNone}
+use Rattle.cw_emit.specs.Cut.{opening, closing}
+use Rattle.cw_syntax.specs.PlainMarks.{HasNone}
 use Rattle.cw_emit.proofs.Openings.{starts_again}
 use Rattle.cw_emit.specs.Woven.{placed}
-use Rattle.cw_tabletext.specs.TablesText.{tables_text}
+use Rattle.cw_table_text.specs.TablesText.{tables_text}
 use Rattle.cw_woven.specs.Parts.{Piece, IsCutAt, AreParts, without, places}
 use Rattle.cw_woven.specs.Reading.{the_prologue, ReadsWoven, seam_marks}
 

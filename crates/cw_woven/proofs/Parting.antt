@@ -3,7 +3,8 @@ use Rattle.std.proofs.Common.{◌≡◌, ◌≢◌, ℕ, ◌+◌, ◌<◌, ◌�
 use Rattle.std.specs.Prelude.{codes, IfSome, IfNone, option_map}
 use Rattle.std.proofs.lemmas.List.{append_cancel_left}
 use Rattle.std.specs.List.{AllByRecursion}
-use Rattle.cw_emit.specs.Cut.{opening, closing, HasNone}
+use Rattle.cw_emit.specs.Cut.{opening, closing}
+use Rattle.cw_syntax.specs.PlainMarks.{HasNone}
 use Rattle.cw_woven.specs.declared.parts.Piece.{Piece as Held}
 use Rattle.cw_woven.specs.Held.{piece_of, IsPrologue}
 use Rattle.cw_woven.specs.Parts.{Piece, IsCutAt, AreParts}

@@ -1,7 +1,7 @@
 -- What each step answers, as an answer of the whole.
 use Rattle.std.proofs.Common.{◌≡◌, ℕ, suc, ◌<◌, List, [], ◌∷◌, length, map, refl, ap, arith}
 use Rattle.cw_rights.specs.Policies.{PlainPolicy}
-use Rattle.cw_actions.specs.Scenes.{names_of}
+use Rattle.cw_resolve.specs.Scenes.{names_of}
 use Rattle.cw_syntax.specs.Plans.{plan_of}
 use Rattle.cw_syntax.specs.Marks.{mark_of}
 use Rattle.cw_syntax.specs.declared.marks.SeamMark.{SeamMark as Held}

@@ -5,7 +5,7 @@ use Rattle.cw_syntax.specs.Trees.{File}
 use Rattle.cw_syntax.specs.Marks.{SeamMark}
 use Rattle.cw_woven.specs.declared.fault.WovenFault.{WovenFault}
 use Rattle.cw_woven.specs.declared.fault.WovenFault.TheVariants as fault
-use Rattle.cw_tabletext.specs.Grammar.{IsFault as IsTableFault}
+use Rattle.cw_table_text.specs.Grammar.{IsFault as IsTableFault}
 use Rattle.cw_woven.specs.Reading.{IsAccepted, IsCutFault, seam_marks}
 
 -- the source is accepted, and these are the marks of its seams

@@ -1,6 +1,7 @@
 -- Working definitions: what the program's data stand for, and what its functions answer.
 use Rattle.std.specs.Prelude.{◌≡◌, ℕ, List, [], ◌∷◌, map, Option, None, Some}
-use Rattle.cw_emit.specs.Cut.{opening, closing, HasNone}
+use Rattle.cw_emit.specs.Cut.{opening, closing}
+use Rattle.cw_syntax.specs.PlainMarks.{HasNone}
 use Rattle.cw_woven.specs.declared.fault.WovenFault.{WovenFault}
 use Rattle.cw_woven.specs.declared.fault.WovenFault.TheVariants as fault
 use Rattle.cw_woven.specs.declared.parts.Piece.{Piece as Held}

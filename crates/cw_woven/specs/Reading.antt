@@ -7,15 +7,16 @@ use Rattle.cw_rights.specs.Policies.{PlainPolicy}
 use Rattle.cw_syntax.specs.Trees.{File}
 use Rattle.cw_syntax.specs.Plans.{plan_of}
 use Rattle.cw_syntax.specs.Marks.{SeamMark, marks_of}
-use Rattle.cw_actions.specs.Scenes.{names_of}
+use Rattle.cw_resolve.specs.Scenes.{names_of}
 use Rattle.cw_certs.specs.Tables.{Table}
-use Rattle.cw_tabletext.specs.Grammar.{Spells, IsFault as IsTableFault}
+use Rattle.cw_table_text.specs.Grammar.{Spells, IsFault as IsTableFault}
 use Rattle.cw_scope.specs.Descriptors.{descriptor_fault}
 use Rattle.cw_source.specs.declared.fault.SourceFault.{SourceFault}
 use Rattle.cw_source.specs.declared.fault.SourceFault.TheVariants as read
 use Rattle.cw_source.specs.Read.{ReadsAs, IsFaultOf}
 use Rattle.cw_points.specs.Points.{point_count}
-use Rattle.cw_emit.specs.Cut.{opening, closing, HasNone}
+use Rattle.cw_emit.specs.Cut.{opening, closing}
+use Rattle.cw_syntax.specs.PlainMarks.{HasNone}
 use Rattle.cw_emit.specs.Woven.{placed}
 use Rattle.cw_woven.specs.Parts.{Piece, IsCutAt, AreParts, without, places}
 use Rattle.cw_woven.specs.Woven.{IsSpelling}

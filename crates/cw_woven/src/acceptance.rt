@@ -5,7 +5,7 @@ ghost use Rattle.cw_core.specs.Quantities.{limit_of};
 ghost use Rattle.cw_core.specs.declared.quantity.Quantity.TheVariants.{SourceBytes};
 ghost use Rattle.cw_rights.specs.Policies.{policy_of};
 ghost use Rattle.cw_rights.specs.Valid.{IsValid};
-ghost use Rattle.cw_actions.specs.Scenes.{names_of};
+ghost use Rattle.cw_resolve.specs.Scenes.{names_of};
 ghost use Rattle.cw_points.specs.Graphs.{IsGraph};
 ghost use Rattle.cw_syntax.specs.Trees.{file_of};
 ghost use Rattle.cw_scope.specs.Descriptors.{descriptor_fault};

@@ -14,7 +14,7 @@ use crate::parts::Piece;
 use cw_core::NoMemory;
 use cw_emit::put_spelling;
 use cw_io::SureSink;
-use cw_pieces::Writer;
+use cw_io::Writer;
 use cw_rights::Policy;
 use cw_syntax::marks::SeamMark;
 use std::alloc::Global;

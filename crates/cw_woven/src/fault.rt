@@ -4,7 +4,7 @@ ghost use Rattle.std.specs.Prelude.{◌≡◌};
 ghost use Rattle.cw_woven.specs.declared.fault.WovenFault.TheVariants as fault;
 
 use cw_core::NoMemory;
-use cw_lines::TextFault;
+use cw_text::TextFault;
 use cw_scope::DescriptorFault;
 use cw_source::SourceFault;
 use std::alloc::{AllocError, AllocFailed};

@@ -2,12 +2,12 @@
 
 ghost use Rattle.std.specs.Prelude.{◌≡◌, ◌≢◌, ℕ, List, map};
 ghost use Rattle.cw_emit.specs.Woven.{placed, Stands};
-ghost use Rattle.cw_tabletext.specs.TablesText.{tables_text};
+ghost use Rattle.cw_table_text.specs.TablesText.{tables_text};
 ghost use Rattle.cw_rights.specs.Policies.{PlainPolicy};
 ghost use Rattle.cw_syntax.specs.Trees.{File};
 ghost use Rattle.cw_certs.specs.Tables.{Table};
 ghost use Rattle.cw_rights.specs.Valid.{IsValid};
-ghost use Rattle.cw_tabletext.specs.Grammar.{IsTable};
+ghost use Rattle.cw_table_text.specs.Grammar.{IsTable};
 ghost use Rattle.cw_woven.specs.declared.fault.WovenFault.{WovenFault};
 ghost use Rattle.cw_woven.specs.declared.fault.WovenFault.TheVariants.{NoMemory};
 ghost use Rattle.cw_woven.specs.Reading.{IsAccepted, IsFault, ReadsWoven, seam_marks};

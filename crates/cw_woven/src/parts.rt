@@ -1,7 +1,7 @@
 //! The parts of a text.
 
 ghost use Rattle.std.specs.Prelude.{◌≡◌, ◌≢◌, ◌↔◌, ◌++◌, ℕ, List, IfSome, IfNone, IfOk, IsTrue, map};
-ghost use Rattle.cw_emit.specs.Cut.{HasNone};
+ghost use Rattle.cw_syntax.specs.PlainMarks.{HasNone};
 ghost use Rattle.cw_woven.specs.Parts.{IsCutAt, without};
 ghost use Rattle.cw_woven.specs.Held.{piece_of};
 

@@ -4,9 +4,9 @@ ghost use Rattle.std.specs.Prelude.{◌≡◌, ◌≤◌, length, IfOk, IfErr};
 ghost use Rattle.cw_rights.specs.Policies.{policy_of};
 ghost use Rattle.cw_rights.specs.Valid.{IsValid};
 ghost use Rattle.cw_syntax.specs.Trees.{file_of};
-ghost use Rattle.cw_actions.specs.Scenes.{names_of};
+ghost use Rattle.cw_resolve.specs.Scenes.{names_of};
 ghost use Rattle.cw_points.specs.Graphs.{IsGraph};
-ghost use Rattle.cw_tabletext.specs.Grammar.{Spells};
+ghost use Rattle.cw_table_text.specs.Grammar.{Spells};
 ghost use Rattle.cw_woven.specs.Accepting.{IsRefusedTable};
 ghost use Rattle.cw_woven.specs.Held.{IsOpened, IsUnopened};
 ghost use Rattle.cw_woven.specs.Reading.{IsFault, IsFaultOver, Reads, ReadsWoven};
@@ -17,10 +17,10 @@ use crate::fault::WovenFault;
 use crate::parts::{Piece, without};
 use crate::scanning::{Scanned, scan};
 use cw_certs::WeaverCert;
-use cw_lines::TextFault;
+use cw_text::TextFault;
 use cw_points::marks::marks;
 use cw_rights::Policy;
-use cw_tabletext::read_tables;
+use cw_table_text::read_tables;
 use std::alloc::Global;
 
 /// What a woven text stands for.

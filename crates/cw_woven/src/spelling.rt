@@ -4,7 +4,7 @@ ghost use Rattle.std.specs.Prelude.{◌≡◌, ◌↔◌, ◌++◌, IsTrue, IfSo
 ghost use Rattle.cw_woven.specs.Woven.{IsNumber, IsNumbered, IsNamed, IsNumberedMark, IsNamedMark, IsSpelling};
 
 use crate::parts::{behind, is_same};
-use cw_lines::{cut, number_of};
+use cw_text::{cut, number_of};
 use cw_rights::is_name;
 
 /// What stands between a front and a back; none where the bytes aren't these with something between them.

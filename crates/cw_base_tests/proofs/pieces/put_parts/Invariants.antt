@@ -1,5 +1,5 @@
 use Rattle.std.proofs.Common.{length, ◌-◌, ◌≤◌}
-use Rattle.cw_pieces.specs.Written.{Follows}
+use Rattle.cw_io.specs.Written.{Follows}
 use Rattle.cw_base_tests.proofs.pieces.put_parts.Given as goal
 
 abbrev pub invariant-parts : goal.invariant-parts

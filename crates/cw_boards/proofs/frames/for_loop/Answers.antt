@@ -4,7 +4,7 @@ use Rattle.cw_syntax.specs.declared.program.Head.{out-Head}
 use Rattle.cw_syntax.specs.declared.program.Stmt.{Stmt}
 use Rattle.cw_syntax.specs.Plans.{numbered}
 use Rattle.cw_syntax.specs.Frames.{Test, Mark, init_if}
-use Rattle.cw_actions.specs.Scenes.{stm_in}
+use Rattle.cw_resolve.specs.Scenes.{stm_in}
 use Rattle.cw_boards.specs.Held.{frame_in}
 use Rattle.cw_boards.proofs.frames.for_loop.Goals as goal
 

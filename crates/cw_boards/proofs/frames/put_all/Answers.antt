@@ -1,7 +1,7 @@
 use Rattle.std.proofs.Common.{◌≡◌, ◌<◌, ◌≤◌, ◌+◌, ◌-◌, ◌∷◌, length, get_or, arith, rules}
 use Rattle.cw_syntax.specs.Plans.{numbered, seams, seams_all}
 use Rattle.cw_syntax.specs.Frames.{Todo}
-use Rattle.cw_actions.specs.Scenes.{stm_in, stms_in}
+use Rattle.cw_resolve.specs.Scenes.{stm_in, stms_in}
 use Rattle.cw_boards.specs.Held.{scene, frame_in}
 use Rattle.cw_boards.specs.Numbered.{most_seams, capped}
 use Rattle.cw_boards.proofs.Below.{all_fit, whole}

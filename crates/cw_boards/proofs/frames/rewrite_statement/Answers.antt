@@ -4,9 +4,9 @@ use Rattle.cw_syntax.specs.declared.program.Head.{Head, out-Head}
 use Rattle.cw_syntax.specs.declared.program.Stmt.{Stmt}
 use Rattle.cw_syntax.specs.Plans.{numbered, numbered_all}
 use Rattle.cw_syntax.specs.Frames.{Test, Mark, items_of, init_if}
-use Rattle.cw_actions.specs.Scenes.{stm_in, stms_in}
+use Rattle.cw_resolve.specs.Scenes.{stm_in, stms_in}
 use Rattle.cw_boards.specs.Held.{scene, frame_in}
-use Rattle.cw_actions.proofs.Shapes.{block_steps}
+use Rattle.cw_resolve.proofs.Shapes.{block_steps}
 use Rattle.cw_boards.specs.Numbered.{most_seams, SeamsBelow, AllSeamsBelow}
 use Rattle.cw_boards.proofs.Settled.{a_block, a_for}
 use Rattle.cw_boards.proofs.frames.rewrite_statement.Goals as goal

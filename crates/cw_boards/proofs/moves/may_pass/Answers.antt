@@ -1,6 +1,6 @@
 use Rattle.std.proofs.Common.{◌≡◌, ◌<◌, length, get_or, map, drop, ap, ◌∙◌, rules}
 use Rattle.cw_rights.specs.Policies.{policy_of}
-use Rattle.cw_actions.specs.Scenes.{plan_in}
+use Rattle.cw_resolve.specs.Scenes.{plan_in}
 use Rattle.cw_boards.specs.Held.{scene, frame_in}
 use Rattle.cw_boards.specs.Changes.{may_turn}
 use Rattle.cw_boards.specs.Turns.{turn_of}

@@ -1,6 +1,6 @@
 use Rattle.std.proofs.Common.{ap, sym, map, drop, ◌∙◌}
 use Rattle.cw_rights.specs.Policies.{policy_of}
-use Rattle.cw_actions.specs.Scenes.{plan_in}
+use Rattle.cw_resolve.specs.Scenes.{plan_in}
 use Rattle.cw_boards.specs.Held.{scene, frame_in}
 use Rattle.cw_boards.specs.Changes.{may_turn}
 use Rattle.cw_boards.proofs.moves.may_turn.Goals as goal

@@ -1,7 +1,7 @@
 use Rattle.std.proofs.Common.{ap, sym, ◌∙◌}
 use Rattle.cw_syntax.specs.Plans.{seams, seams_all}
-use Rattle.cw_actions.specs.Scenes.{stms_in}
-use Rattle.cw_actions.proofs.Shapes.{block_steps}
+use Rattle.cw_resolve.specs.Scenes.{stms_in}
+use Rattle.cw_resolve.proofs.Shapes.{block_steps}
 use Rattle.cw_boards.specs.Held.{scene}
 use Rattle.cw_boards.specs.Numbered.{capped}
 use Rattle.cw_boards.proofs.seams.+seams.Goals as goal

@@ -1,6 +1,6 @@
 use Rattle.std.proofs.Common.{◌≡◌, ◌+◌, ◌≤◌, drop}
 use Rattle.cw_syntax.specs.Plans.{seams_all}
-use Rattle.cw_actions.specs.Scenes.{stms_in}
+use Rattle.cw_resolve.specs.Scenes.{stms_in}
 use Rattle.cw_boards.specs.Held.{scene}
 use Rattle.cw_boards.specs.Numbered.{most_seams, capped}
 use Rattle.cw_boards.proofs.seams.+seams.Given as goal

@@ -1,6 +1,6 @@
 use Rattle.std.proofs.Common.{◌+◌, sym, subst}
 use Rattle.cw_syntax.specs.Plans.{numbered_all}
-use Rattle.cw_actions.specs.Scenes.{stms_in}
+use Rattle.cw_resolve.specs.Scenes.{stms_in}
 use Rattle.cw_boards.specs.Held.{scene}
 use Rattle.cw_boards.specs.Numbered.{most_seams, AllSeamsBelow}
 use Rattle.cw_boards.proofs.Below.{all_numbered_below}

@@ -5,7 +5,7 @@ use Rattle.std.proofs.lemmas.List.{length-map}
 use Rattle.cw_syntax.specs.Names.{text}
 use Rattle.cw_syntax.specs.Trees.{definition_of, Definition, file_of}
 use Rattle.cw_syntax.specs.Plans.{function_names}
-use Rattle.cw_actions.proofs.Places.{no_place}
+use Rattle.cw_resolve.proofs.Places.{no_place}
 use Rattle.cw_boards.proofs.steps.main_number.Goals as goal
 
 pub returns-in-None : goal.returns-in-None

@@ -2,7 +2,7 @@ use Rattle.std.proofs.Common.{◌≤◌, ◌+◌, ◌∷◌, map, ap, ◌∙◌,
 use Rattle.std.proofs.lemmas.Result.{IfOk-weaker}
 use Rattle.cw_syntax.specs.Plans.{numbered, seams}
 use Rattle.cw_syntax.specs.Frames.{Todo}
-use Rattle.cw_actions.specs.Scenes.{stm_in}
+use Rattle.cw_resolve.specs.Scenes.{stm_in}
 use Rattle.cw_boards.specs.Held.{scene, item_of, frame_in}
 use Rattle.cw_boards.specs.Numbered.{most_seams}
 use Rattle.cw_boards.proofs.Below.{fits, whole}

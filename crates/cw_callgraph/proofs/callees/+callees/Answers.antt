@@ -3,8 +3,8 @@ use Rattle.std.specs.Result.{IfOk}
 use Rattle.std.proofs.lemmas.List.{at_drop_more}
 use Rattle.cw_syntax.specs.declared.program.Stmt.{Stmt}
 use Rattle.cw_rights.specs.Policies.{policy_of}
-use Rattle.cw_actions.specs.Scenes.{scene_in, stm_in, stms_in}
-use Rattle.cw_actions.proofs.Shapes.{block_steps}
+use Rattle.cw_resolve.specs.Scenes.{scene_in, stm_in, stms_in}
+use Rattle.cw_resolve.proofs.Shapes.{block_steps}
 use Rattle.cw_syntax.specs.Trees.{form_of}
 use Rattle.cw_syntax.specs.Plans.{steps_of_form}
 use Rattle.cw_callgraph.specs.Effects.{callees, callees_all}

@@ -1,6 +1,6 @@
 use Rattle.std.proofs.Common.{◌≡◌, length, drop}
 use Rattle.cw_rights.specs.Policies.{policy_of}
-use Rattle.cw_actions.specs.Scenes.{scene_in, stms_in}
+use Rattle.cw_resolve.specs.Scenes.{scene_in, stms_in}
 use Rattle.cw_callgraph.specs.Effects.{callees_all}
 use Rattle.cw_callgraph.specs.Finding.{IsFound, with_all}
 use Rattle.cw_callgraph.proofs.callees.+callees.Given as goal

@@ -1,7 +1,7 @@
 use Rattle.std.proofs.Common.{◌≡◌, ◌<◌, List, length, ap, ◌∙◌, subst, rules}
 use Rattle.cw_rights.specs.Policies.{policy_of}
 use Rattle.cw_syntax.specs.declared.program.Stmt.{Stmt}
-use Rattle.cw_actions.specs.Scenes.{scene_in, stms_in}
+use Rattle.cw_resolve.specs.Scenes.{scene_in, stms_in}
 use Rattle.cw_callgraph.specs.Effects.{callees_all, firsts}
 use Rattle.cw_callgraph.specs.Finding.{Finds, with_all}
 use Rattle.cw_callgraph.proofs.Kept.{firsts_from, found_below}

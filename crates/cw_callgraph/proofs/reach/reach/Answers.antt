@@ -1,7 +1,7 @@
 use Rattle.std.proofs.Common.{rules, ◌≡◌, ℕ, List, length, subst, arith}
 use Rattle.std.specs.List.{Contains}
 use Rattle.std.specs.Ordering.{nat_cmp}
-use Rattle.cw_closure.specs.Closures.{Reached, Exactly}
+use Rattle.cw_fixpoint.specs.Closures.{Reached, Exactly}
 use Rattle.cw_callgraph.specs.Finding.{next_in}
 use Rattle.cw_callgraph.proofs.Rows.{row_is, is_row, row_keeps}
 use Rattle.cw_callgraph.proofs.Reaching.{at_most}

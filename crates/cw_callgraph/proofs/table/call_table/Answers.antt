@@ -1,6 +1,6 @@
 use Rattle.std.proofs.Common.{sym, ◌∙◌}
 use Rattle.cw_rights.specs.Policies.{policy_of}
-use Rattle.cw_actions.specs.Scenes.{scene_in, plan_in}
+use Rattle.cw_resolve.specs.Scenes.{scene_in, plan_in}
 use Rattle.cw_callgraph.proofs.Calling.{same_calls, rows_count, row_at}
 use Rattle.cw_callgraph.proofs.table.call_table.Goals as goal
 

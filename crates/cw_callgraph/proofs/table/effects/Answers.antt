@@ -2,7 +2,7 @@ use Rattle.std.proofs.Common.{◌≡◌, map, refl, sym, subst, ◌∙◌}
 use Rattle.std.proofs.lemmas.Map.Keys.{IsStrictlyIncreasing-from_sorted}
 use Rattle.cw_rights.specs.Policies.{policy_of}
 use Rattle.cw_syntax.specs.Trees.{file_of}
-use Rattle.cw_actions.specs.Scenes.{names_of, scene_in, plan_in}
+use Rattle.cw_resolve.specs.Scenes.{names_of, scene_in, plan_in}
 use Rattle.cw_callgraph.specs.Finding.{lists_of, next_in, direct}
 use Rattle.cw_callgraph.proofs.Calling.{same_calls, rows_count}
 use Rattle.cw_callgraph.proofs.Reaching.{reached, led}

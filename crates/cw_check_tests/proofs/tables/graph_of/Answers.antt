@@ -1,7 +1,7 @@
 -- What is read can be run.
 use Rattle.std.proofs.Common.{sym, subst}
 use Rattle.cw_rights.specs.Policies.{policy_of}
-use Rattle.cw_actions.specs.Scenes.{names_of}
+use Rattle.cw_resolve.specs.Scenes.{names_of}
 use Rattle.cw_syntax.specs.Trees.{file_of}
 use Rattle.cw_source.specs.Read.{ReadsAs}
 use Rattle.cw_check_tests.proofs.tables.graph_of.Goals as goal

@@ -1,5 +1,5 @@
 use Rattle.cw_rights.specs.Policies.{policy_of}
-use Rattle.cw_actions.specs.Scenes.{names_of}
+use Rattle.cw_resolve.specs.Scenes.{names_of}
 use Rattle.cw_cli.proofs.Listed.{few_functions}
 use Rattle.cw_cli.proofs.fitting.fits.Goals as goal
 

@@ -1,6 +1,6 @@
 use Rattle.cw_rights.specs.Policies.{policy_of}
 use Rattle.cw_syntax.specs.Trees.{file_of}
-use Rattle.cw_actions.specs.Scenes.{names_of}
+use Rattle.cw_resolve.specs.Scenes.{names_of}
 use Rattle.cw_cli.proofs.Withins.{nodes_few}
 use Rattle.cw_cli.proofs.games.draw.Goals as goal
 

@@ -1,9 +1,9 @@
 use Rattle.std.proofs.Common.{ap}
 use Rattle.cw_rights.specs.Policies.{policy_of}
 use Rattle.cw_syntax.specs.Trees.{file_of}
-use Rattle.cw_actions.specs.Scenes.{names_of}
-use Rattle.cw_calls.proofs.Leaving.{leaves_main}
-use Rattle.cw_opens.proofs.Stated.{read_programs_assign}
+use Rattle.cw_resolve.specs.Scenes.{names_of}
+use Rattle.cw_source_laws.proofs.Leaving.{leaves_main}
+use Rattle.cw_source_laws.proofs.Opening.{read_programs_assign}
 use Rattle.cw_source.proofs.Runnable.{runnable}
 use Rattle.cw_cli.proofs.Made.{is_made}
 use Rattle.cw_cli.proofs.Refused.{if_ok}

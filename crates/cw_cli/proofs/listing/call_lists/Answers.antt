@@ -1,6 +1,6 @@
 use Rattle.std.proofs.Common.{length}
 use Rattle.cw_rights.specs.Policies.{policy_of}
-use Rattle.cw_actions.specs.Scenes.{plan_in}
+use Rattle.cw_resolve.specs.Scenes.{plan_in}
 use Rattle.cw_cli.proofs.Listed.{rows_are}
 use Rattle.cw_cli.proofs.listing.call_lists.Goals as goal
 

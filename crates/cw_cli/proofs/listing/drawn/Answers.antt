@@ -4,7 +4,7 @@ use Rattle.cw_rights.specs.Policies.{PlainDescriptor, policy_of}
 use Rattle.cw_syntax.specs.Names.{Names}
 use Rattle.cw_syntax.specs.Plans.{plan_of, function_names}
 use Rattle.cw_syntax.specs.Trees.{file_of}
-use Rattle.cw_actions.specs.Scenes.{names_of}
+use Rattle.cw_resolve.specs.Scenes.{names_of}
 use Rattle.cw_listing.specs.Listing.{graph_text}
 use Rattle.cw_commands.proofs.Starting.{unput_one}
 use Rattle.cw_cli.specs.Listings.{call_lists}

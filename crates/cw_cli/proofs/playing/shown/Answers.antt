@@ -1,10 +1,10 @@
 use Rattle.std.proofs.Common.{ap, sym, subst}
 use Rattle.cw_rights.specs.Policies.{policy_of}
 use Rattle.cw_syntax.specs.Trees.{file_of}
-use Rattle.cw_actions.specs.Scenes.{names_of}
+use Rattle.cw_resolve.specs.Scenes.{names_of}
 use Rattle.cw_certs.specs.Strategies.{strategy_of}
 use Rattle.cw_commands.specs.Outcomes.{due_of}
-use Rattle.cw_opens.proofs.Stated.{read_programs_assign}
+use Rattle.cw_source_laws.proofs.Opening.{read_programs_assign}
 use Rattle.cw_points.specs.Graphs.{IsGraph}
 use Rattle.cw_product.specs.Product.{game_of}
 use Rattle.cw_source.proofs.Runnable.{runnable}

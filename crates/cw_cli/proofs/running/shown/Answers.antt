@@ -1,8 +1,8 @@
 use Rattle.cw_rights.specs.Policies.{policy_of}
 use Rattle.cw_syntax.specs.Trees.{file_of}
-use Rattle.cw_actions.specs.Scenes.{names_of}
+use Rattle.cw_resolve.specs.Scenes.{names_of}
 use Rattle.cw_commands.specs.Outcomes.{due_of}
-use Rattle.cw_opens.proofs.Stated.{read_programs_assign}
+use Rattle.cw_source_laws.proofs.Opening.{read_programs_assign}
 use Rattle.cw_run.specs.Woven.{end_of}
 use Rattle.cw_source.proofs.Runnable.{runnable}
 use Rattle.cw_cli.proofs.Shown.{run_is_told}

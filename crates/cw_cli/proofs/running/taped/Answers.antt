@@ -1,5 +1,5 @@
 use Rattle.std.proofs.Common.{false, arith, inr}
-use Rattle.cw_tapes.proofs.Few.{moves_few}
+use Rattle.cw_text.proofs.Few.{moves_few}
 use Rattle.cw_commands.proofs.Starting.{unput}
 use Rattle.cw_cli.proofs.Refused.{if_ok}
 use Rattle.cw_cli.proofs.running.taped.Goals as goal

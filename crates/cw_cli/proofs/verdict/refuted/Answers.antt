@@ -3,9 +3,9 @@ use Rattle.cw_rights.specs.declared.policy.Policy.{Policy}
 use Rattle.cw_rights.specs.Policies.{policy_of}
 use Rattle.cw_syntax.specs.Trees.{file_of}
 use Rattle.cw_certs.specs.Strategies.{strategy_of}
-use Rattle.cw_least.specs.Strategies.{rows_of}
+use Rattle.cw_least_strategy.specs.Strategies.{rows_of}
 use Rattle.cw_product.specs.Product.{game_of}
-use Rattle.cw_strategies.specs.StrategyText.{strategy_text}
+use Rattle.cw_strategy_text.specs.StrategyText.{strategy_text}
 use Rattle.cw_commands.proofs.Starting.{unput_one}
 use Rattle.cw_cli.proofs.Counted.{AreKept, are_numbers}
 use Rattle.cw_cli.proofs.Weaves.{IsMadeStrategy, is_refuted}

@@ -3,13 +3,13 @@ use Rattle.cw_rights.specs.declared.policy.Policy.{Policy}
 use Rattle.cw_rights.specs.Policies.{policy_of}
 use Rattle.cw_syntax.specs.Marks.{mark_of, AreInOrder}
 use Rattle.cw_syntax.specs.Trees.{file_of}
-use Rattle.cw_actions.specs.Scenes.{names_of}
+use Rattle.cw_resolve.specs.Scenes.{names_of}
 use Rattle.cw_model.specs.Boards.{problem_of}
 use Rattle.cw_points.specs.Graphs.{IsGraph}
 use Rattle.cw_product.specs.Product.{game_of}
 use Rattle.cw_emit.specs.Cut.{cut}
 use Rattle.cw_emit.specs.Woven.{woven_text, Stands}
-use Rattle.cw_lazy.specs.Lazy.{table_rows}
+use Rattle.cw_lazy_table.specs.Lazy.{table_rows}
 use Rattle.cw_source.proofs.Marking.{marks_in_order}
 use Rattle.cw_commands.proofs.Starting.{unput_one}
 use Rattle.cw_cli.proofs.Counted.{AreKept, are_numbers}

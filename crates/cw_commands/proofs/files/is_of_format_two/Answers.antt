@@ -1,4 +1,4 @@
-use Rattle.cw_policies.proofs.Same.{refused_spells_none}
+use Rattle.cw_policy.proofs.Same.{refused_spells_none}
 use Rattle.cw_commands.proofs.files.is_of_format_two.Goals as goal
 
 pub returns-else-is_memory-clause-other : goal.returns-else-is_memory-clause-other

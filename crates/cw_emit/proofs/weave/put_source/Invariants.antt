@@ -1,5 +1,5 @@
 use Rattle.std.proofs.Common.{◌≡◌, ◌++◌, length, drop, map}
-use Rattle.cw_pieces.specs.Written.{Follows}
+use Rattle.cw_io.specs.Written.{Follows}
 use Rattle.cw_rights.specs.Policies.{policy_of}
 use Rattle.cw_syntax.specs.Marks.{mark_of, AreInOrder}
 use Rattle.cw_emit.specs.Woven.{woven, woven_from}

@@ -1,6 +1,6 @@
 use Rattle.std.proofs.Common.{length, refl, ap, arith}
 use Rattle.cw_product.specs.Product.{game_of}
-use Rattle.cw_store.specs.Stores.{Stored}
+use Rattle.cw_links.specs.Stores.{Stored}
 use Rattle.cw_linked.proofs.Widening.{last_there, few_contexts, few_cells, pushes_then}
 use Rattle.cw_linked.proofs.added.enlarge.Goals as goal
 

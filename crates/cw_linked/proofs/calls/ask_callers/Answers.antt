@@ -1,7 +1,7 @@
 use Rattle.std.proofs.Common.{◌≡◌, ◌<◌, ◌+◌, ◌∙◌, ℕ, Bool, List, Option, length, subst, sym, arith}
 use Rattle.std.specs.Prelude.{slice_get, IfSome}
 use Rattle.cw_links.specs.Lists.{list_at}
-use Rattle.cw_marks.specs.Marks.{number}
+use Rattle.cw_links.specs.Marks.{number}
 use Rattle.cw_product.specs.Product.{game_of}
 use Rattle.cw_solve.proofs.Keeping.{few}
 use Rattle.cw_linked.specs.Calls.{CallsLeft}

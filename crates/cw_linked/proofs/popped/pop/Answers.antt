@@ -1,6 +1,6 @@
 use Rattle.std.proofs.Common.{ℕ, ◌/◌, refl, sym, ap, subst, arith}
-use Rattle.cw_store.specs.Keys.{AreFrom}
-use Rattle.cw_store.specs.Stores.{Stored}
+use Rattle.cw_links.specs.Keys.{AreFrom}
+use Rattle.cw_links.specs.Stores.{Stored}
 use Rattle.cw_linked.proofs.popped.pop.Goals as goal
 
 pub returns-in-Cell : goal.returns-in-Cell

@@ -1,7 +1,7 @@
 use Rattle.std.proofs.Common.{◌∙◌}
 use Rattle.std.proofs.lemmas.List.{get_or_default}
 use Rattle.cw_text.proofs.Numbered.{numbered_step, one_more}
-use Rattle.cw_listing.specs.Held.{lists}
+use Rattle.cw_resolve.specs.Held.{lists}
 use Rattle.cw_listing.specs.Listing.{function_line}
 use Rattle.cw_listing.proofs.listing.put_functions.Goals as goal
 

@@ -1,7 +1,7 @@
 use Rattle.std.proofs.Common.{◌≡◌, ◌++◌, take}
-use Rattle.cw_text.specs.Lines.{numbered}
-use Rattle.cw_listing.specs.Held.{lists}
-use Rattle.cw_pieces.specs.Written.{Follows}
+use Rattle.cw_text.specs.RowLines.{numbered}
+use Rattle.cw_resolve.specs.Held.{lists}
+use Rattle.cw_io.specs.Written.{Follows}
 use Rattle.cw_listing.specs.Listing.{function_line}
 use Rattle.cw_listing.proofs.listing.put_functions.Given as goal
 

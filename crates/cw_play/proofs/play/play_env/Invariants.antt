@@ -2,7 +2,7 @@ use Rattle.std.proofs.Common.{◌≡◌, ◌≤◌, length, drop, reverse}
 use Rattle.std.specs.Prelude.{vec_capacity}
 use Rattle.cw_certs.specs.Strategies.{strategy_of}
 use Rattle.cw_states.specs.States.{lists_of}
-use Rattle.cw_pieces.specs.Written.{Follows}
+use Rattle.cw_io.specs.Written.{Follows}
 use Rattle.cw_product.specs.Product.{game_of}
 use Rattle.cw_trace.specs.Labels.{told}
 use Rattle.cw_play.specs.Rows.{moves_left}

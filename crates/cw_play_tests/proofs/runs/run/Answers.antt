@@ -1,7 +1,7 @@
 use Rattle.std.proofs.Common.{sym, subst}
 use Rattle.cw_rights.specs.Policies.{policy_of}
 use Rattle.cw_syntax.specs.Trees.{file_of}
-use Rattle.cw_actions.specs.Scenes.{names_of}
+use Rattle.cw_resolve.specs.Scenes.{names_of}
 use Rattle.cw_points.specs.Graphs.{IsGraph}
 use Rattle.cw_source.specs.Read.{ReadsAs}
 use Rattle.cw_play_tests.proofs.runs.run.Goals as goal

@@ -1,7 +1,7 @@
 use Rattle.cw_rights.specs.Policies.{policy_of}
 use Rattle.cw_syntax.specs.Trees.{file_of}
-use Rattle.cw_actions.specs.Scenes.{names_of}
-use Rattle.cw_opens.proofs.Stated.{read_programs_assign}
+use Rattle.cw_resolve.specs.Scenes.{names_of}
+use Rattle.cw_source_laws.proofs.Opening.{read_programs_assign}
 use Rattle.cw_source.proofs.Runnable.{runnable}
 use Rattle.cw_play_tests.proofs.runs.run_by.Goals as goal
 

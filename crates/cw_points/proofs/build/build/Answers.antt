@@ -1,7 +1,7 @@
 use Rattle.std.proofs.Common.{map, ap, ◌∙◌}
 use Rattle.cw_syntax.specs.Trees.{definition_of}
 use Rattle.cw_rights.specs.Policies.{policy_of}
-use Rattle.cw_actions.specs.Scenes.{scene_in}
+use Rattle.cw_resolve.specs.Scenes.{scene_in}
 use Rattle.cw_points.specs.Sizes.{size_from, capped}
 use Rattle.cw_points.proofs.Counting.{few_functions, few_points, few_sizes, many_points}
 use Rattle.cw_points.proofs.build.build.Goals as goal

@@ -2,7 +2,7 @@ use Rattle.std.proofs.Common.{◌≡◌, ◌+◌, [], ◌∷◌, ◌++◌, lengt
 use Rattle.std.proofs.lemmas.List.{drop_all}
 use Rattle.cw_syntax.specs.Trees.{definition_of, file_of}
 use Rattle.cw_rights.specs.Policies.{policy_of}
-use Rattle.cw_actions.specs.Scenes.{scene_in}
+use Rattle.cw_resolve.specs.Scenes.{scene_in}
 use Rattle.cw_points.specs.Drawing.{drawn_of, nothing_drawn, laid_one, laid_from, parted}
 use Rattle.cw_points.proofs.Functions.{one_function, one_part, no_function, no_part, all_nodes, all_seams, all_parts, one_definition}
 use Rattle.cw_points.proofs.Room.{first_function, rest_functions}

@@ -1,7 +1,7 @@
 use Rattle.std.proofs.Common.{◌≡◌, ◌+◌, ◌≤◌, [], length, drop, map}
 use Rattle.cw_syntax.specs.Trees.{definition_of, file_of}
 use Rattle.cw_rights.specs.Policies.{policy_of}
-use Rattle.cw_actions.specs.Scenes.{scene_in}
+use Rattle.cw_resolve.specs.Scenes.{scene_in}
 use Rattle.cw_points.specs.Sizes.{size_from}
 use Rattle.cw_points.specs.Drawing.{drawn_of, nothing_drawn, laid_from, parted}
 use Rattle.cw_points.proofs.build.draw.Given as goal

@@ -1,7 +1,7 @@
 use Rattle.std.proofs.Common.{◌+◌, length, ap, refl, ◌∙◌}
 use Rattle.cw_syntax.specs.Trees.{statements_of, definition_of}
 use Rattle.cw_rights.specs.Policies.{policy_of}
-use Rattle.cw_actions.specs.Scenes.{scene_in}
+use Rattle.cw_resolve.specs.Scenes.{scene_in}
 use Rattle.cw_points.specs.Sizes.{size_all, capped}
 use Rattle.cw_points.specs.Drawing.{drawn_of, laid_all}
 use Rattle.cw_points.proofs.Functions.{laid_function, function_ways}

@@ -7,7 +7,7 @@ use Rattle.std.specs.Prelude.{option_map, is_some}
 use Rattle.cw_syntax.specs.declared.program.Head.{Head, out-Head}
 use Rattle.cw_syntax.specs.Names.{number_or_other}
 use Rattle.cw_rights.specs.Policies.{policy_of}
-use Rattle.cw_actions.specs.Scenes.{scene_in}
+use Rattle.cw_resolve.specs.Scenes.{scene_in}
 use Rattle.cw_points.specs.Graphs.{branch, first}
 use Rattle.cw_points.specs.Sizes.{size, capped}
 use Rattle.cw_points.specs.Drawing.{drawn_of, laid_all}

@@ -4,9 +4,9 @@ use Rattle.cw_syntax.specs.Names.{text}
 use Rattle.cw_syntax.specs.Trees.{Definition, definition_of, tree_of}
 use Rattle.cw_syntax.specs.Plans.{Callee, Opens, Closes, Invokes, action_of}
 use Rattle.cw_rights.specs.Policies.{PlainDescriptor, policy_of}
-use Rattle.cw_actions.specs.Scenes.{scene_in}
-use Rattle.cw_actions.proofs.Acting.{action_in, acts_back}
-use Rattle.cw_actions.proofs.Bounds.{IsWithin, acts_within}
+use Rattle.cw_resolve.specs.Scenes.{scene_in}
+use Rattle.cw_resolve.proofs.Acting.{action_in, acts_back}
+use Rattle.cw_resolve.proofs.Bounds.{IsWithin, acts_within}
 use Rattle.cw_points.specs.declared.graph.Point.TheVariants as point
 use Rattle.cw_points.specs.Drawing.{drawn_of, with_seam}
 use Rattle.cw_points.proofs.Adding.{laid_computes, laid_opens, laid_closes, laid_invokes}

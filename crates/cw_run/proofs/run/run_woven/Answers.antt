@@ -2,7 +2,7 @@ use Rattle.std.proofs.Common.{◌∙◌, sym, subst, arith, get_or}
 use Rattle.std.proofs.lemmas.List.{get_or_default}
 use Rattle.cw_certs.specs.declared.moves.Move.TheVariants.{On}
 use Rattle.cw_rights.specs.Policies.{policy_of}
-use Rattle.cw_actions.specs.Scenes.{names_of}
+use Rattle.cw_resolve.specs.Scenes.{names_of}
 use Rattle.cw_syntax.specs.Trees.{file_of}
 use Rattle.cw_points.specs.Graphs.{IsGraph}
 use Rattle.cw_trace.specs.Labels.{told}

@@ -1,7 +1,7 @@
 use Rattle.std.proofs.Common.{◌≡◌, ◌≤◌, take}
 use Rattle.std.specs.Prelude.{vec_len, vec_capacity}
 use Rattle.cw_syntax.specs.Trees.{file_of}
-use Rattle.cw_pieces.specs.Written.{Follows}
+use Rattle.cw_io.specs.Written.{Follows}
 use Rattle.cw_trace.specs.Labels.{told}
 use Rattle.cw_run.specs.Walks.{entries}
 use Rattle.cw_run.proofs.Looping.{plan_here, LoopKeeps}

@@ -5,7 +5,7 @@ use Rattle.cw_syntax.specs.declared.program.Op.TheVariants.{Call as CallOp, Pref
 use Rattle.cw_syntax.specs.Trees.{trees_of}
 use Rattle.cw_scope.specs.Rules.{at_if}
 use Rattle.cw_scope.specs.Descriptors.{misuse, is_change, first_is_variable, names_some}
-use Rattle.cw_actions.specs.Scenes.{scene_in}
+use Rattle.cw_resolve.specs.Scenes.{scene_in}
 use Rattle.cw_rights.specs.Policies.{policy_of}
 use Rattle.cw_scope.proofs.Operators.{at_operator, isnt_misuse}
 use Rattle.cw_scope.proofs.misuses.misuse.Goals as goal

@@ -2,7 +2,7 @@ use Rattle.std.proofs.Common.{◌≡◌, map, drop}
 use Rattle.cw_scope.specs.Rules.{sooner, least}
 use Rattle.cw_scope.specs.Descriptors.{misuse}
 use Rattle.cw_scope.specs.Held.{tree_at}
-use Rattle.cw_actions.specs.Scenes.{scene_in}
+use Rattle.cw_resolve.specs.Scenes.{scene_in}
 use Rattle.cw_rights.specs.Policies.{policy_of}
 use Rattle.cw_scope.proofs.misuses.misuses.Given as goal
 

@@ -1,7 +1,7 @@
 use Rattle.std.proofs.Common.{◌≡◌, drop}
 use Rattle.cw_syntax.specs.Trees.{trees_of}
 use Rattle.cw_scope.specs.Descriptors.{names_some}
-use Rattle.cw_actions.specs.Scenes.{scene_in}
+use Rattle.cw_resolve.specs.Scenes.{scene_in}
 use Rattle.cw_rights.specs.Policies.{policy_of}
 use Rattle.cw_scope.proofs.misuses.names_some.Given as goal
 

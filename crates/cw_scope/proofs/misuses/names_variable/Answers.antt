@@ -2,7 +2,7 @@ use Rattle.std.proofs.Common.{is_some, sym, ap, ◌∙◌}
 use Rattle.cw_rights.specs.Policies.{policy_of}
 use Rattle.cw_syntax.specs.declared.program.Op.TheVariants.{Name as NameOp}
 use Rattle.cw_syntax.specs.Names.{number_in}
-use Rattle.cw_actions.specs.Scenes.{scene_in}
+use Rattle.cw_resolve.specs.Scenes.{scene_in}
 use Rattle.cw_scope.specs.Descriptors.{names_variable}
 use Rattle.cw_scope.proofs.Operators.{at_operator, isnt_variable}
 use Rattle.cw_scope.proofs.misuses.names_variable.Goals as goal

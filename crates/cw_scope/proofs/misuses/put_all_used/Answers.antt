@@ -1,6 +1,6 @@
 use Rattle.std.proofs.Common.{map, refl}
 use Rattle.std.specs.List.{flat_map}
-use Rattle.cw_actions.specs.Scenes.{scene_in}
+use Rattle.cw_resolve.specs.Scenes.{scene_in}
 use Rattle.cw_rights.specs.Policies.{policy_of}
 use Rattle.cw_scope.specs.Descriptors.{used}
 use Rattle.cw_scope.specs.Held.{whole_of}

@@ -2,7 +2,7 @@ use Rattle.std.proofs.Common.{◌≡◌, ◌++◌, map, drop}
 use Rattle.std.specs.List.{flat_map}
 use Rattle.cw_scope.specs.Descriptors.{used}
 use Rattle.cw_scope.specs.Held.{tree_at, whole_of}
-use Rattle.cw_actions.specs.Scenes.{scene_in}
+use Rattle.cw_resolve.specs.Scenes.{scene_in}
 use Rattle.cw_rights.specs.Policies.{policy_of}
 use Rattle.cw_scope.proofs.misuses.put_all_used.Given as goal
 

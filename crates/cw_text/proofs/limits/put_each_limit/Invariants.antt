@@ -1,7 +1,7 @@
 use Rattle.std.proofs.Common.{◌≡◌, ◌++◌, take}
-use Rattle.cw_pieces.specs.Written.{Follows}
+use Rattle.cw_io.specs.Written.{Follows}
 use Rattle.cw_rights.specs.Policies.{policy_of}
-use Rattle.cw_text.specs.Lines.{numbered}
+use Rattle.cw_text.specs.RowLines.{numbered}
 use Rattle.cw_text.specs.LimitsText.{limit_word}
 use Rattle.cw_text.proofs.limits.put_each_limit.Given as goal
 

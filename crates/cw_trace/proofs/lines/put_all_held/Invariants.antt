@@ -1,7 +1,7 @@
 use Rattle.std.proofs.Common.{◌≡◌, ◌++◌, map, take}
 use Rattle.cw_rights.specs.Policies.{descriptor_of}
-use Rattle.cw_pieces.specs.Written.{Follows}
-use Rattle.cw_text.specs.Lines.{numbered}
+use Rattle.cw_io.specs.Written.{Follows}
+use Rattle.cw_text.specs.RowLines.{numbered}
 use Rattle.cw_trace.specs.Lines.{held_text}
 use Rattle.cw_trace.proofs.lines.put_all_held.Given as goal
 

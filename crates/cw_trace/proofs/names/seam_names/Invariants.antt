@@ -1,5 +1,5 @@
 use Rattle.std.proofs.Common.{◌≡◌, ◌++◌, map, drop}
-use Rattle.cw_listing.specs.Held.{lists}
+use Rattle.cw_resolve.specs.Held.{lists}
 use Rattle.cw_trace.specs.Labels.{label_at}
 use Rattle.cw_trace.proofs.names.seam_names.Given as goal
 

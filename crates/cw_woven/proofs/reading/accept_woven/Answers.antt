@@ -1,7 +1,7 @@
 -- Each step's answer is an answer of the whole.
 use Rattle.std.proofs.Common.{map}
 use Rattle.cw_rights.specs.Policies.{policy_of}
-use Rattle.cw_actions.specs.Scenes.{names_of}
+use Rattle.cw_resolve.specs.Scenes.{names_of}
 use Rattle.cw_syntax.specs.Trees.{file_of}
 use Rattle.cw_syntax.specs.Marks.{mark_of}
 use Rattle.cw_woven.specs.Held.{piece_of}

@@ -4,7 +4,7 @@ use Rattle.cw_states.specs.declared.order.Ranked.{Ranked}
 use Rattle.cw_rights.specs.Policies.{PlainPolicy, policy_of}
 use Rattle.cw_dfa.specs.Verdicts.{rules_of as rules_in}
 use Rattle.cw_states.specs.Growing.{all_caps}
-use Rattle.cw_closure.specs.Closures.{Exactly}
+use Rattle.cw_fixpoint.specs.Closures.{Exactly}
 use Rattle.cw_states.specs.Rights.{IsRightsState, caps_cmp}
 use Rattle.cw_states.specs.States.{Lists, AreLists, IsCause, count}
 use Rattle.cw_states.proofs.Letters.{sets_reached, many_cause}

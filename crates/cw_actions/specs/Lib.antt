@@ -1,3 +1,0 @@
--- What a statement does that is an expression.
-pub mod Scenes
-pub mod Acts

@@ -1,4 +1,0 @@
-//! What a program that is read calls.
-#![tactic(auto)]
-
-pub mod laws;

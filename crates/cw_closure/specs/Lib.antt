@@ -1,2 +1,0 @@
-pub mod Closures
-pub mod Seen

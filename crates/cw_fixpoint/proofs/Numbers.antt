@@ -1,0 +1,134 @@
+-- The number of an item in a list that ascends strictly.
+use Rattle.std.proofs.Common.{◌≡◌, ℕ, zero, suc, ◌+◌, ◌<◌, ◌≤◌, List, [], ◌∷◌, Bool, true, false, cond, Some, length, get_or, nat_lt, refl, sym, ap, ap₂, ◌∙◌, arith, inl, inr}
+use Rattle.std.specs.Prelude.{slice_get}
+use Rattle.std.specs.FinMap.{IsAntisymmetric}
+use Rattle.std.specs.List.{Contains}
+use Rattle.std.specs.List.Sorted.{IsStrictlySortedBy, IsNonDecreasingBy, IsPartitionPoint, IsSortedBy}
+use Rattle.std.specs.declared.cmp.Ordering.{Ordering}
+use Rattle.std.specs.declared.cmp.Ordering.TheVariants.{Less, Equal, Greater}
+use Rattle.std.specs.Ordering.{ordering_index, ordering_reverse, ordering_then, is_eq, is_lt, eq_by_cmp}
+use Rattle.std.specs.Cmp.{IsTotalOrder, tied_itself}
+use Rattle.std.proofs.lemmas.Bool.{cases_lt}
+use Rattle.std.proofs.lemmas.Bool.Decides.{nat_tests}
+use Rattle.std.proofs.lemmas.Map.Keys.{Less-from_sorted}
+use Rattle.std.proofs.lemmas.List.Sorted.{searchable_from_sorted}
+use Rattle.std.proofs.lemmas.Option.{slice_get-get_or, slice_get_within, get_or_from_slice_get}
+use Rattle.cw_fixpoint.specs.Numbers.{number_in}
+
+at_equal : (o : Ordering) → is_eq o ≡ true → o ≡ Equal
+at_equal Less e = cc
+at_equal Equal e = refl
+at_equal Greater e = cc
+
+not_less : (r s : Ordering) → s ≡ ordering_reverse r → r ≡ Less → is_lt s ≡ false
+not_less Less s e f = ap is_lt e
+not_less Equal s e f = cc
+not_less Greater s e f = cc
+
+-- two keys of which the second tells where the first ties
+pub both_equal : (a b : Ordering) → ordering_then a b ≡ Equal → (a ≡ Equal) × (b ≡ Equal)
+both_equal Less b e = cc
+both_equal Equal b e = (refl, e)
+both_equal Greater b e = cc
+
+module _ {A : Type 0} (cmp : A → A → Ordering) (total : IsTotalOrder cmp) where
+  -- of two items one can't be both before and after the other
+  pub apart : (x y : A) → cmp x y ≡ Less → cmp y x ≡ Less → ⊥
+  apart x y h k = let e : Less ≡ ordering_reverse Less = sym h ∙ total.antisymm x y ∙ ap ordering_reverse k in cc
+
+module _ {A : Type 0} (cmp : A → A → Ordering) (total : IsTotalOrder cmp) (exact : IsAntisymmetric cmp) where
+  abbrev number : List A → A → ℕ
+  number xs x = number_in cmp xs x
+
+  pub equal_is : (x y : A) → eq_by_cmp cmp x y ≡ true → x ≡ y
+  equal_is x y e = exact x y (at_equal (cmp x y) e)
+
+  itself : (x : A) → eq_by_cmp cmp x x ≡ true
+  itself x = ap is_eq (tied_itself total x)
+
+  pub contained : (xs : List A) (i : ℕ) (x : A) → slice_get xs i ≡ Some x → Contains xs x
+  contained xs i x e = (i, slice_get_within xs i x e, get_or_from_slice_get xs i x x e)
+
+  -- an item of the list stands at its number
+  pub at_number : (xs : List A) (x : A) → Contains xs x → slice_get xs (number xs x) ≡ Some x
+  at_number [] x (i, lt, e) = absurd (omega (arith, lt))
+  at_number (y ∷ ys) x (i, lt, e) = by (eq_by_cmp cmp y x) refl i lt e (at_number ys x)
+    where
+      by : (b : Bool) → eq_by_cmp cmp y x ≡ b → (i : ℕ) → i < length (y ∷ ys) → get_or (y ∷ ys) i x ≡ x → (Contains ys x → slice_get ys (number_in cmp ys x) ≡ Some x)
+          → slice_get (y ∷ ys) (number_in cmp (y ∷ ys) x) ≡ Some x
+      by true t i lt e rec = ap (λ b. slice_get (y ∷ ys) (cond b 0 (number_in cmp ys x + 1))) t ∙ ap Some (equal_is y x t)
+      by false f zero lt e rec = let w : true ≡ false = sym (itself x) ∙ ap (λ z. eq_by_cmp cmp z x) (sym e) ∙ f in cc
+      by false f (suc i) lt e rec =
+          let n : number_in cmp ys x + 1 ≡ suc (number_in cmp ys x) = omega arith in
+          ap (λ b. slice_get (y ∷ ys) (cond b 0 (number_in cmp ys x + 1))) f ∙ ap (slice_get (y ∷ ys)) n ∙ rec (i, omega (arith, lt), e)
+
+  -- where an item has a place this is its number
+  pub number_at : (xs : List A) (i : ℕ) (x : A) → IsStrictlySortedBy cmp xs → slice_get xs i ≡ Some x → number xs x ≡ i
+  number_at xs i x s e =
+      let n = number xs x in
+      let at = at_number xs x (contained xs i x e) in
+      elim (cases_lt i n) [
+        | inl lt ↦
+            let w : Less ≡ Equal =
+            sym (Less-from_sorted cmp xs i n x s lt (slice_get_within xs n x at)) ∙ ap₂ cmp (get_or_from_slice_get xs i x x e) (get_or_from_slice_get xs n x x at) ∙ tied_itself total x in
+            cc
+        | inr ge ↦ elim (cases_lt n i) [
+          | inl lt ↦
+              let w : Less ≡ Equal =
+              sym (Less-from_sorted cmp xs n i x s lt (slice_get_within xs i x e)) ∙ ap₂ cmp (get_or_from_slice_get xs n x x at) (get_or_from_slice_get xs i x x e) ∙ tied_itself total x in
+              cc
+          | inr le ↦ omega (arith, ge, le)
+        ]
+      ]
+
+  -- a lesser item has a lesser number
+  pub number_less : (xs : List A) (x y : A) → IsStrictlySortedBy cmp xs → Contains xs x → Contains xs y → cmp x y ≡ Less → number xs x < number xs y
+  number_less xs x y s c d l =
+      let m = number xs x in
+      let n = number xs y in
+      let a = at_number xs x c in
+      let b = at_number xs y d in
+      elim (cases_lt m n) [
+        | inl lt ↦ lt
+        | inr ge ↦ elim (cases_lt n m) [
+          | inl lt ↦
+              let back : cmp y x ≡ Less =
+              sym (ap₂ cmp (get_or_from_slice_get xs n y x b) (get_or_from_slice_get xs m x x a)) ∙ Less-from_sorted cmp xs n m x s lt (slice_get_within xs m x a) in
+              absurd (apart cmp total x y l back)
+          | inr le ↦
+              let same : m ≡ n = omega (arith, ge, le) in
+              let one : x ≡ y = sym (get_or_from_slice_get xs m x x a) ∙ ap (λ k. get_or xs k x) same ∙ get_or_from_slice_get xs n y x b in
+              let w : Less ≡ Equal = sym l ∙ ap (λ z. cmp z y) one ∙ tied_itself total y in
+              cc
+        ]
+      ]
+
+  -- by a binary search
+  pub found_at : (xs : List A) (x : A) (i : ℕ) → IsStrictlySortedBy cmp xs → i < length xs → ((d : A) → cmp (get_or xs i d) x ≡ Equal) → number xs x ≡ i
+  found_at xs x i s l h = number_at xs i x s (slice_get-get_or xs i x l ∙ ap (λ (y : A). Some y) (exact (get_or xs i x) x (h x)))
+
+  -- an item that is none of the list
+  none_number : (xs : List A) (x : A) → ((j : ℕ) (d : A) → j < length xs → eq_by_cmp cmp (get_or xs j d) x ≡ false) → number xs x ≡ length xs
+  none_number [] x f = refl
+  none_number (y ∷ ys) x f =
+      let n : length ys + 1 ≡ suc (length ys) = omega arith in
+      ap (λ b. cond b 0 (number_in cmp ys x + 1)) (f 0 y (omega arith)) ∙ ap (λ m. m + 1) (none_number ys x (λ j d l. f (suc j) d (omega (arith, l)))) ∙ n
+
+  sorted_weakly : (xs : List A) → IsStrictlySortedBy cmp xs → IsSortedBy (λ a b. is_lt (cmp a b)) xs
+  sorted_weakly xs s k d l b =
+      not_less (cmp (get_or xs k d) (get_or xs (k + 1) d)) (cmp (get_or xs (k + 1) d) (get_or xs k d)) (total.antisymm (get_or xs (k + 1) d) (get_or xs k d))
+      (Less-from_sorted cmp xs k (k + 1) d s (omega (arith, l)) b)
+
+  pub lost_at : (xs : List A) (x : A) (i : ℕ) → IsStrictlySortedBy cmp xs
+      → (IsNonDecreasingBy (λ y. ordering_index (cmp y x)) xs → IsPartitionPoint (λ y. cmp y x ≡ Less) (λ y. cmp y x ≡ Greater) xs i) → number xs x ≡ length xs
+  lost_at xs x i s h = none_number xs x (λ j d l. by j d l (p.0 j d (omega (arith, l))) (p.1 j d))
+    where
+      p : IsPartitionPoint (λ y. cmp y x ≡ Less) (λ y. cmp y x ≡ Greater) xs i
+      p = h (searchable_from_sorted total (λ y. y) xs x (sorted_weakly xs s))
+
+      by : (j : ℕ) (d : A) → j < length xs → (j < i → cmp (get_or xs j d) x ≡ Less) → (i ≤ j → j < length xs → cmp (get_or xs j d) x ≡ Greater) → eq_by_cmp cmp (get_or xs j d) x ≡ false
+      by j d l a b = cases (nat_lt j i) refl
+        where
+          cases : (t : Bool) → nat_lt j i ≡ t → eq_by_cmp cmp (get_or xs j d) x ≡ false
+          cases true t = let lt : j < i = grind (arith, nat_tests) in ap is_eq (a lt)
+          cases false t = let le : i ≤ j = grind (arith, nat_tests) in ap is_eq (b le l)

@@ -1,0 +1,6 @@
+pub mod Closures
+pub mod Seen
+pub mod Descents
+pub mod Numbers
+pub mod Members
+pub mod Working

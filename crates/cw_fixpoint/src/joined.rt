@@ -1,0 +1,155 @@
+//! The least set that has a key, is closed under steps, and has the join of each two members of one group.
+
+ghost use Rattle.std.specs.Prelude.{◌≡◌, ◌+◌, ◌<◌, ◌≤◌, ◌++◌, [], ◌∷◌, List, length, map, nat_lt, IfOk, OnOk, IfSome, IfNone};
+ghost use Rattle.std.specs.FinMap.{IsAntisymmetric};
+ghost use Rattle.std.specs.List.{Contains};
+ghost use Rattle.cw_fixpoint.specs.Closures.{Exactly};
+ghost use Rattle.cw_fixpoint.specs.Members.{IsMember, IsPair, HaveMore, pair_cmp};
+ghost use Rattle.cw_fixpoint.specs.Working.{join_of, Keeps, Searched};
+
+use crate::holds::{hold_in, met_by};
+use crate::joins::Joins;
+use crate::sees::{in_order, see, see_all};
+use std::alloc::{AllocError, Global};
+use std::collections::{BTreeMap, BTreeSet};
+
+/// The members, ascending, and the pairs of a member that waits for a group and one that ends it, ascending by the first,
+/// then by the second.
+#[derive(Drop)]
+pub struct Joined<K> {
+    pub members: Vec<K>,
+    pub pairs: Vec<(K, K)>,
+}
+
+/// What a search saw: keys and pairs, each once, in the order in which they came, and what waits for a group and ended it
+/// among the keys that were worked off.
+#[derive(Drop)]
+pub(crate) struct Search<K: Ord + Copy + Drop, G: Ord + Copy + Drop> {
+    pub(crate) seen: Vec<K>,
+    pub(crate) set: BTreeSet<K>,
+    pub(crate) pairs: Vec<(K, K)>,
+    pub(crate) pair_set: BTreeSet<(K, K)>,
+    pub(crate) waiting: BTreeMap<G, Vec<K>>,
+    pub(crate) ended: BTreeMap<G, Vec<K>>,
+}
+
+/// The members and the pairs, each once and in order; none where they are together more than so many. The one error is
+/// want of memory.
+pub fn joined_up_to<K: Ord + Copy + Drop, G: Ord + Copy + Drop, J: Joins<K, G>>(
+    alloc: Global,
+    joins: &J,
+    start: K,
+    most: usize,
+) -> Result<Option<Joined<K>>, AllocError>
+    requires exact { IsAntisymmetric K.cmp }
+    requires groups { IsAntisymmetric G.cmp }
+    requires can { J.can_follow joins.now start }
+    ensures members { IfOk result (λ joined. IfSome joined
+        (λ j. Exactly K.cmp (IsMember (J.rules joins.now) start) j.members.items)) }
+    ensures pairs { IfOk result (λ joined. IfSome joined
+        (λ j. Exactly (pair_cmp K.cmp) (IsPair (J.rules joins.now) start) j.pairs.items)) }
+    ensures few { IfOk result (λ joined. IfSome joined (λ j. length j.members.items + length j.pairs.items ≤ most)) }
+    ensures many { IfOk result (λ joined. IfNone joined (HaveMore K.cmp (J.rules joins.now) start most)) }
+{
+    let search = search_all(alloc, joins, start, most)?;
+    if are_more(&search.seen, &search.pairs, most) {
+        return Ok(None);
+    }
+    let members = in_order(alloc, search.set)?;
+    let pairs = in_order(alloc, search.pair_set)?;
+    Ok(Some(Joined { members, pairs }))
+}
+
+/// Whether keys and pairs are together more than so many.
+fn are_more<K>(keys: &Vec<K>, pairs: &Vec<(K, K)>, most: usize) -> bool
+    ensures more { result ≡ nat_lt most (length keys.now.items + length pairs.now.items) }
+{
+    most < keys.len() || most - keys.len() < pairs.len()
+}
+
+/// Works off what is seen, until that and its pairs are more than so many.
+fn search_all<K: Ord + Copy + Drop, G: Ord + Copy + Drop, J: Joins<K, G>>(
+    alloc: Global,
+    joins: &J,
+    start: K,
+    most: usize,
+) -> Result<Search<K, G>, AllocError>
+    requires exact { IsAntisymmetric K.cmp }
+    requires groups { IsAntisymmetric G.cmp }
+    requires can { J.can_follow joins.now start }
+    ensures searched { IfOk result (λ search. Searched K.cmp G.cmp (J.rules joins.now) start search most) }
+{
+    let mut search = begun(alloc, joins, start)?;
+    let mut at: usize = 0;
+    'keys: while at < search.seen.len() && !are_more(&search.seen, &search.pairs, most) {
+        work(alloc, joins, start, &mut search, at)?;
+        at += 1;
+    }
+    Ok(search)
+}
+
+/// The start alone is seen.
+fn begun<K: Ord + Copy + Drop, G: Ord + Copy + Drop, J: Joins<K, G>>(
+    alloc: Global,
+    joins: &J,
+    start: K,
+) -> Result<Search<K, G>, AllocError>
+    requires exact { IsAntisymmetric K.cmp }
+    ensures keeps { IfOk result (λ search. Keeps K.cmp G.cmp (J.rules joins.now) start search 0) }
+{
+    let mut seen = Vec::new(alloc);
+    let mut set = BTreeSet::new(alloc);
+    see(&mut seen, &mut set, start)?;
+    Ok(Search {
+        seen,
+        set,
+        pairs: Vec::new(alloc),
+        pair_set: BTreeSet::new(alloc),
+        waiting: BTreeMap::new(alloc),
+        ended: BTreeMap::new(alloc),
+    })
+}
+
+/// Works off the next key: holds it for its groups, and sees what follows it, its pairs and their joins.
+fn work<K: Ord + Copy + Drop, G: Ord + Copy + Drop, J: Joins<K, G>>(
+    alloc: Global,
+    joins: &J,
+    start: K,
+    search: &mut Search<K, G>,
+    at: usize,
+) -> Result<(), AllocError>
+    requires exact { IsAntisymmetric K.cmp }
+    requires groups { IsAntisymmetric G.cmp }
+    requires can { J.can_follow joins.now start }
+    requires keeps { Keeps K.cmp G.cmp (J.rules joins.now) start search.old at }
+    requires within { at < length search.old.seen.items }
+    ensures keeps { OnOk result (Keeps K.cmp G.cmp (J.rules joins.now) start search.new (at + 1)) }
+{
+    let key = search.seen[at];
+    let waits = joins.waits(key);
+    let ends = joins.ends(key);
+    hold_in(alloc, &mut search.waiting, waits, key)?;
+    hold_in(alloc, &mut search.ended, ends, key)?;
+    let met = met_by(alloc, &search.waiting, &search.ended, waits, ends, key)?;
+    let mut next = Vec::new(alloc);
+    joins.put_after(key, &mut next)?;
+    put_joins(joins, &met, &mut next)?;
+    see_all(&mut search.seen, &mut search.set, &next)?;
+    see_all(&mut search.pairs, &mut search.pair_set, &met)?;
+    Ok(())
+}
+
+/// Appends the join of each of some pairs.
+fn put_joins<K: Copy + Drop, G: Copy + Drop, J: Joins<K, G>>(
+    joins: &J,
+    met: &[(K, K)],
+    next: &mut Vec<K>,
+) -> Result<(), AllocError>
+    requires can { (ab : K × K) → Contains met.now ab → J.can_follow joins.now ab.0 × J.can_follow joins.now ab.1 }
+    ensures put { OnOk result (next.new.items ≡ next.old.items ++ map (join_of (J.rules joins.now)) met.now) }
+{
+    for pair in met {
+        next.push(joins.join(pair.0, pair.1))?;
+    }
+    Ok(())
+}

@@ -1,0 +1,19 @@
+//! Least sets: keys that are reached by steps, where steps descend, and where some keys wait for the ends of others; the number of an
+//! item in a list that ascends.
+#![tactic(auto)]
+
+mod closure;
+mod descent;
+mod holds;
+mod joined;
+mod joins;
+mod number;
+mod sees;
+mod steps;
+
+pub use closure::{closed_up_to, closed_within};
+pub use descent::descended_up_to;
+pub use joined::{Joined, joined_up_to};
+pub use joins::Joins;
+pub use number::number_of;
+pub use steps::Steps;

@@ -1,3 +1,0 @@
-mod Holding
-mod Orders
-pub mod Reaching

@@ -1,5 +1,0 @@
-use Rattle.cw_lazy.proofs.Looking.{under}
-use Rattle.cw_lazy.proofs.choice.is_lost.Goals as goal
-
-pub number_of-number-requires : goal.number_of-number-requires
-number_of-number-requires c = record { under = under c.args.game.now c.args.solved.now c.requires.ready c.args.pos.0 c.args.promise.now c.requires.there }

@@ -1,8 +1,0 @@
-use Rattle.cw_lazy.proofs.Following.{position, callee_below}
-use Rattle.cw_lazy.proofs.follow.waits.Goals as goal
-
-pub turn-requires : goal.turn-requires
-turn-requires c = position c.args.game.now c.args.solved.now c.args.key.now c.requires.can
-
-pub exit-requires : goal.exit-requires
-exit-requires c = callee_below c.args.game.now c.args.solved.now c.args.key.now c.requires.can c.in-Call.callee c.in-Call.split c.in-Call.back c.in-Call.ensures

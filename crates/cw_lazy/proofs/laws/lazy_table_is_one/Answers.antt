@@ -1,5 +1,0 @@
-use Rattle.cw_lazy.proofs.Sameness.{lazy_is_one}
-use Rattle.cw_lazy.proofs.laws.lazy_table_is_one.Goals as goal
-
-pub returns : goal.returns
-returns c = lazy_is_one

@@ -1,5 +1,0 @@
-use Rattle.cw_lazy.proofs.Lawful.{live_is_kept}
-use Rattle.cw_lazy.proofs.laws.live_is_kept.Goals as goal
-
-pub returns : goal.returns
-returns c = live_is_kept

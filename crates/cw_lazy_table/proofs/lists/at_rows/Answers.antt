@@ -1,0 +1,8 @@
+use Rattle.std.proofs.Common.{sym}
+use Rattle.cw_lazy_table.proofs.lists.at_rows.Goals as goal
+
+pub moved-requires-clause-position : goal.moved-requires-clause-position
+moved-requires-clause-position c = (c.requires.there c.placed-item.result (c.loop-placed.placed-index, c.loop-placed-test.true, sym c.placed-item.is)).0
+
+pub moved-requires-clause-state : goal.moved-requires-clause-state
+moved-requires-clause-state c = (c.requires.there c.placed-item.result (c.loop-placed.placed-index, c.loop-placed-test.true, sym c.placed-item.is)).1

@@ -1,0 +1,21 @@
+use Rattle.std.proofs.Common.{rules}
+use Rattle.cw_product.specs.Product.{game_of}
+use Rattle.cw_lazy_table.specs.Lazy.{IsLazyTable}
+use Rattle.cw_lazy_table.proofs.Starting.{is_ready, ready_good, ready_lost}
+use Rattle.cw_lazy_table.proofs.table.weaver_table.Goals as goal
+
+pub table_within-requires : goal.table_within-requires
+table_within-requires c =
+    record { ready = is_ready c.args.game.now c.args.solved.now c.requires.made c.requires.solved c.requires.kept c.contexts_are_needed.ensures c.heights_are_low.ensures }
+
+pub returns-in-Ok-Some-clause-good : goal.returns-in-Ok-Some-clause-good
+returns-in-Ok-Some-clause-good c =
+    let lazy : IsLazyTable (game_of c.args.game.now) c.in-Ok-Some.table = search rules in
+    ready_good c.args.game.now c.args.solved.now (is_ready c.args.game.now c.args.solved.now c.requires.made c.requires.solved c.requires.kept c.contexts_are_needed.ensures
+    c.heights_are_low.ensures) c.in-Ok-Some.table lazy
+
+pub returns-in-Ok-Some-clause-lost : goal.returns-in-Ok-Some-clause-lost
+returns-in-Ok-Some-clause-lost c =
+    let lazy : IsLazyTable (game_of c.args.game.now) c.in-Ok-Some.table = search rules in
+    ready_lost c.args.game.now c.args.solved.now (is_ready c.args.game.now c.args.solved.now c.requires.made c.requires.solved c.requires.kept c.contexts_are_needed.ensures
+    c.heights_are_low.ensures) c.in-Ok-Some.table lazy

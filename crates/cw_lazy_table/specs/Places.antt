@@ -1,0 +1,83 @@
+-- Working definitions: keys by what stands at their positions.
+use Rattle.std.specs.Prelude.{◌≡◌, ℕ, List, ◌∷◌, [], ◌++◌, Option, Some, None, option_map, slice_get}
+use Rattle.std.specs.declared.cmp.Ordering.{Ordering}
+use Rattle.std.specs.Ordering.{ordering_then, nat_cmp}
+use Rattle.cw_core.specs.declared.ids.StateId.{StateId}
+use Rattle.cw_game.specs.declared.spots.Spot.{Spot}
+use Rattle.cw_game.specs.declared.spots.Spot.TheVariants as spot
+use Rattle.cw_game.specs.Games.{Game}
+use Rattle.cw_game.specs.Pairs.{Called, call_in}
+use Rattle.cw_lazy_table.specs.declared.key.Key.{Key}
+use Rattle.cw_lazy_table.specs.declared.place.Kind.{Kind}
+use Rattle.cw_lazy_table.specs.declared.place.Kind.TheVariants.{Asked, Label, Open, Close, Call}
+use Rattle.cw_lazy_table.specs.declared.place.Placed.{Placed}
+use Rattle.cw_lazy_table.specs.Choices.{set_in}
+use Rattle.cw_lazy_table.specs.Closing.{key}
+use Rattle.cw_lazy_table.specs.Lazy.{state_id}
+use Rattle.cw_lazy_table.specs.Live.{IsLive}
+
+-- keys ascend by position, state, and promise as a number
+abbrev pub key_cmp : Key → Key → Ordering
+key_cmp x y = ordering_then (nat_cmp x.pos y.pos) (ordering_then (nat_cmp x.state y.state) (nat_cmp x.promise y.promise))
+
+abbrev pub placed_cmp : Placed → Placed → Ordering
+placed_cmp x y =
+    ordering_then (nat_cmp x.seam y.seam)
+    (ordering_then (nat_cmp x.part y.part) (ordering_then (nat_cmp x.state y.state) (ordering_then (nat_cmp x.promise y.promise) (nat_cmp x.pos y.pos))))
+
+-- seam and part of what stands there, where it is of this kind
+abbrev pub part_in : Kind → Spot → Option (ℕ × ℕ)
+part_in Asked (spot.Asked j i a) = Some (j, i)
+part_in Label (spot.Label j l n) = Some (j, 0)
+part_in Open (spot.Open j d n) = Some (j, 0)
+part_in Close (spot.Close j d n) = Some (j, 0)
+part_in Call (spot.Call j f n) = Some (j, 0)
+part_in Call (spot.SplitCall j f n) = Some (j, 1)
+part_in _ _ = None
+
+abbrev pub part_there : Kind → Option Spot → Option (ℕ × ℕ)
+part_there kind None = None
+part_there kind (Some s) = part_in kind s
+
+abbrev pub part_at : Game → Kind → ℕ → Option (ℕ × ℕ)
+part_at g kind p = part_there kind (slice_get g.spots p)
+
+abbrev pub placed : Key → ℕ × ℕ → Placed
+placed k at = record { seam = at.0; part = at.1; state = k.state; promise = k.promise; pos = k.pos }
+
+abbrev pub placed_of : Game → Kind → Key → Option Placed
+placed_of g kind k = option_map (placed k) (part_at g kind k.pos)
+
+abbrev pub key_of : Placed → Key
+key_of x = key x.pos x.state x.promise
+
+abbrev pub memory_of : Key → StateId × ℕ
+memory_of k = (state_id k.state, k.promise)
+
+abbrev pub put_placed : List Placed → Option Placed → List Placed
+put_placed xs None = xs
+put_placed xs (Some x) = xs ++ x ∷ []
+
+-- something with rows stands at a key that is live
+pub record IsPlaced (g : Game) (kind : Kind) (x : Placed) : Type 0 where
+  pub live : IsLive g x.pos x.state x.promise
+  pub at : part_at g kind x.pos ≡ Some (x.seam, x.part)
+
+-- a call, and a key where its callee ends
+pub record IsReturn (g : Game) (xb : Placed × Key) : Type 0 where
+  pub placed : IsPlaced g Call xb.0
+  pub call : Called
+  pub is_call : call_in (slice_get g.spots xb.0.pos) ≡ Some call
+  pub pos : xb.1.pos ≡ g.exit call.function
+  pub promise : xb.1.promise ≡ set_in g xb.0.pos xb.0.state xb.0.promise
+  pub ended : IsLive g xb.1.pos xb.1.state xb.1.promise
+
+abbrev pub return_cmp : Placed × Key → Placed × Key → Ordering
+return_cmp x y = ordering_then (placed_cmp x.0 y.0) (key_cmp x.1 y.1)
+
+abbrev pub return_of : Game → Key × Key → Option (Placed × Key)
+return_of g ab = option_map (λ x. (x, ab.1)) (placed_of g Call ab.0)
+
+abbrev pub put_return : List (Placed × Key) → Option Placed → Key → List (Placed × Key)
+put_return xs None b = xs
+put_return xs (Some x) b = xs ++ (x, b) ∷ []

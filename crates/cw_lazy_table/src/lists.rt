@@ -1,0 +1,258 @@
+//! The rows of keys.
+
+ghost use Rattle.std.specs.Prelude.{◌≡◌, map, Contains, IfOk};
+ghost use Rattle.cw_game.specs.Games.{resumed};
+ghost use Rattle.cw_product.specs.Moves.{IsPosition, IsState, next_at};
+ghost use Rattle.cw_product.specs.Product.{game_of};
+ghost use Rattle.cw_lazy_table.specs.Choices.{CanFollow};
+ghost use Rattle.cw_lazy_table.specs.Places.{key_of};
+ghost use Rattle.cw_lazy_table.specs.Rowing.{AreMemories, mem, moved, mem_after, going_on, refused_by, live_row, try_row, at_row, open_row, into_row, back_row};
+ghost use Rattle.cw_certs.specs.declared.moves.Move.TheVariants.{Refuse};
+
+use crate::choice::is_lost;
+use crate::follow::set_at;
+use crate::key::Key;
+use crate::place::Placed;
+use cw_certs::{AtRow, BackRow, IntoRow, Move, OpenRow, TryRow};
+use cw_core::{MemId, PosId, SeamId, StateId, StateSet};
+use cw_fixpoint::number_of;
+use cw_product::Game;
+use cw_solve::Solved;
+use std::alloc::{AllocError, Global};
+
+/// The number of a memory, and how many they are where it is none of them.
+#[tactic(auto, using(crate::proofs::Numbers::mem_exact))]
+pub(crate) fn mem(mems: &[(StateId, StateSet)], state: StateId, promise: StateSet) -> MemId
+    requires mems { AreMemories mems.now }
+    ensures { result ≡ mem mems.now state.0 promise }
+{
+    MemId(number_of(mems, &(state, promise)) as u32)
+}
+
+pub(crate) fn live_rows(
+    alloc: Global,
+    mems: &[(StateId, StateSet)],
+    keys: &[Key],
+) -> Result<Vec<(PosId, MemId)>, AllocError>
+    requires mems { AreMemories mems.now }
+    ensures { IfOk result (λ v. v.items ≡ map (live_row mems.now) keys.now) }
+{
+    let mut rows = Vec::new(alloc);
+    for key in keys {
+        rows.push((PosId(key.pos), mem(mems, StateId(key.state), key.promise)))?;
+    }
+    Ok(rows)
+}
+
+/// The memory after a move, if there is one.
+fn after(game: &Game, mems: &[(StateId, StateSet)], placed: &Placed, by: Move) -> Option<MemId>
+    requires mems { AreMemories mems.now }
+    requires position { IsPosition (game_of game.now) placed.now.pos }
+    requires state { IsState (game_of game.now) placed.now.state }
+    ensures { result ≡ mem_after mems.now placed.now.promise (next_at (game_of game.now) placed.now.pos placed.now.state by) }
+{
+    match game.next(PosId(placed.pos), StateId(placed.state), by) {
+        None => None,
+        Some((_, state)) => Some(mem(mems, state, placed.promise)),
+    }
+}
+
+/// The memory after a move, the same where there is none.
+fn moved(game: &Game, mems: &[(StateId, StateSet)], placed: &Placed, by: Move) -> MemId
+    requires mems { AreMemories mems.now }
+    requires position { IsPosition (game_of game.now) placed.now.pos }
+    requires state { IsState (game_of game.now) placed.now.state }
+    ensures { result ≡ moved (game_of game.now) mems.now placed.now by }
+{
+    match game.next(PosId(placed.pos), StateId(placed.state), by) {
+        None => mem(mems, StateId(placed.state), placed.promise),
+        Some((_, state)) => mem(mems, state, placed.promise),
+    }
+}
+
+/// The memory with which the program goes on after a refusal that a stop can answer; none where that is lost.
+fn going_on(
+    game: &Game,
+    solved: &Solved,
+    mems: &[(StateId, StateSet)],
+    placed: &Placed,
+) -> Option<MemId>
+    requires mems { AreMemories mems.now }
+    requires can { CanFollow game.now solved.now (key_of placed.now) }
+    ensures { result ≡ going_on (game_of game.now) mems.now placed.now.promise (resumed (game_of game.now) placed.now.pos placed.now.state) }
+{
+    match game.resumed(PosId(placed.pos), StateId(placed.state)) {
+        None => None,
+        Some((pos, state)) => {
+            if is_lost(game, solved, pos, state, &placed.promise) {
+                None
+            } else {
+                Some(mem(mems, state, placed.promise))
+            }
+        }
+    }
+}
+
+fn refused(
+    game: &Game,
+    solved: &Solved,
+    mems: &[(StateId, StateSet)],
+    placed: &Placed,
+) -> Option<MemId>
+    requires mems { AreMemories mems.now }
+    requires can { CanFollow game.now solved.now (key_of placed.now) }
+    ensures { result ≡ refused_by (game_of game.now) mems.now placed.now.promise (next_at (game_of game.now) placed.now.pos placed.now.state Refuse)
+        (resumed (game_of game.now) placed.now.pos placed.now.state) }
+{
+    match game.next(PosId(placed.pos), StateId(placed.state), Move::Refuse) {
+        None => going_on(game, solved, mems, placed),
+        Some((_, state)) => Some(mem(mems, state, placed.promise)),
+    }
+}
+
+fn try_row(game: &Game, solved: &Solved, mems: &[(StateId, StateSet)], placed: &Placed) -> TryRow
+    requires mems { AreMemories mems.now }
+    requires can { CanFollow game.now solved.now (key_of placed.now) }
+    ensures { result ≡ try_row (game_of game.now) mems.now placed.now }
+{
+    TryRow {
+        seam: SeamId(placed.seam),
+        stage: placed.part,
+        mem: mem(mems, StateId(placed.state), placed.promise),
+        granted: after(game, mems, placed, Move::Grant),
+        refused: refused(game, solved, mems, placed),
+    }
+}
+
+pub(crate) fn try_rows(
+    alloc: Global,
+    game: &Game,
+    solved: &Solved,
+    mems: &[(StateId, StateSet)],
+    places: &[Placed],
+) -> Result<Vec<TryRow>, AllocError>
+    requires mems { AreMemories mems.now }
+    requires can { (x : Placed) → Contains places.now x → CanFollow game.now solved.now (key_of x) }
+    ensures { IfOk result (λ v. v.items ≡ map (try_row (game_of game.now) mems.now) places.now) }
+{
+    let mut rows = Vec::new(alloc);
+    for placed in places {
+        rows.push(try_row(game, solved, mems, placed))?;
+    }
+    Ok(rows)
+}
+
+pub(crate) fn at_rows(
+    alloc: Global,
+    game: &Game,
+    mems: &[(StateId, StateSet)],
+    places: &[Placed],
+) -> Result<Vec<AtRow>, AllocError>
+    requires mems { AreMemories mems.now }
+    requires there { (x : Placed) → Contains places.now x → IsPosition (game_of game.now) x.pos × IsState (game_of game.now) x.state }
+    ensures { IfOk result (λ v. v.items ≡ map (at_row (game_of game.now) mems.now) places.now) }
+{
+    let mut rows = Vec::new(alloc);
+    for placed in places {
+        rows.push(AtRow {
+            seam: SeamId(placed.seam),
+            mem: mem(mems, StateId(placed.state), placed.promise),
+            after: moved(game, mems, placed, Move::On),
+        })?;
+    }
+    Ok(rows)
+}
+
+pub(crate) fn open_rows(
+    alloc: Global,
+    game: &Game,
+    mems: &[(StateId, StateSet)],
+    places: &[Placed],
+) -> Result<Vec<OpenRow>, AllocError>
+    requires mems { AreMemories mems.now }
+    requires there { (x : Placed) → Contains places.now x → IsPosition (game_of game.now) x.pos × IsState (game_of game.now) x.state }
+    ensures { IfOk result (λ v. v.items ≡ map (open_row (game_of game.now) mems.now) places.now) }
+{
+    let mut rows = Vec::new(alloc);
+    for placed in places {
+        rows.push(OpenRow {
+            seam: SeamId(placed.seam),
+            mem: mem(mems, StateId(placed.state), placed.promise),
+            opened: moved(game, mems, placed, Move::Opened),
+            failed: moved(game, mems, placed, Move::Failed),
+        })?;
+    }
+    Ok(rows)
+}
+
+fn into_row(game: &Game, solved: &Solved, mems: &[(StateId, StateSet)], placed: &Placed) -> IntoRow
+    requires mems { AreMemories mems.now }
+    requires can { CanFollow game.now solved.now (key_of placed.now) }
+    ensures { result ≡ into_row (game_of game.now) mems.now placed.now }
+{
+    let key = Key {
+        pos: placed.pos,
+        state: placed.state,
+        promise: placed.promise,
+    };
+    let promise = set_at(game, solved, &key);
+    IntoRow {
+        seam: SeamId(placed.seam),
+        split: placed.part == 1,
+        mem: mem(mems, StateId(placed.state), placed.promise),
+        callee: mem(mems, StateId(placed.state), promise),
+    }
+}
+
+pub(crate) fn into_rows(
+    alloc: Global,
+    game: &Game,
+    solved: &Solved,
+    mems: &[(StateId, StateSet)],
+    places: &[Placed],
+) -> Result<Vec<IntoRow>, AllocError>
+    requires mems { AreMemories mems.now }
+    requires can { (x : Placed) → Contains places.now x → CanFollow game.now solved.now (key_of x) }
+    ensures { IfOk result (λ v. v.items ≡ map (into_row (game_of game.now) mems.now) places.now) }
+{
+    let mut rows = Vec::new(alloc);
+    for placed in places {
+        rows.push(into_row(game, solved, mems, placed))?;
+    }
+    Ok(rows)
+}
+
+fn back_row(game: &Game, mems: &[(StateId, StateSet)], placed: &Placed, exit: &Key) -> BackRow
+    requires mems { AreMemories mems.now }
+    requires state { IsState (game_of game.now) placed.now.state }
+    requires exit { IsState (game_of game.now) exit.now.state }
+    ensures { result ≡ back_row (game_of game.now) mems.now (placed.now, exit.now) }
+{
+    let split = placed.part == 1;
+    let exit = StateId(exit.state);
+    let state = game.returned(StateId(placed.state), exit, split);
+    BackRow {
+        seam: SeamId(placed.seam),
+        split,
+        mem: mem(mems, StateId(placed.state), placed.promise),
+        exit,
+        after: mem(mems, state, placed.promise),
+    }
+}
+
+pub(crate) fn back_rows(
+    alloc: Global,
+    game: &Game,
+    mems: &[(StateId, StateSet)],
+    returns: &[(Placed, Key)],
+) -> Result<Vec<BackRow>, AllocError>
+    requires mems { AreMemories mems.now }
+    requires states { (x : Placed × Key) → Contains returns.now x → IsState (game_of game.now) x.0.state × IsState (game_of game.now) x.1.state }
+    ensures { IfOk result (λ v. v.items ≡ map (back_row (game_of game.now) mems.now) returns.now) }
+{
+    let mut rows = Vec::new(alloc);
+    for back in returns {
+        rows.push(back_row(game, mems, &back.0, &back.1))?;
+    }
+    Ok(rows)
+}

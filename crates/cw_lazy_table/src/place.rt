@@ -1,0 +1,160 @@
+//! Keys by what stands at their positions, in the order of rows.
+
+ghost use Rattle.std.specs.Prelude.{◌≡◌, map, filter_map, slice_get, length, Contains, IfOk, OnOk};
+ghost use Rattle.std.specs.FinMap.{IsAntisymmetric};
+ghost use Rattle.std.specs.List.Sorted.{IsStrictlySortedBy};
+ghost use Rattle.cw_fixpoint.specs.Closures.{Exactly};
+ghost use Rattle.cw_product.specs.Moves.{IsPosition};
+ghost use Rattle.cw_product.specs.Product.{game_of};
+ghost use Rattle.cw_lazy_table.specs.Places.{placed_cmp, part_in, placed_of, memory_of, put_placed, return_cmp, return_of, put_return};
+
+use crate::key::Key;
+use cw_core::{PosId, StateId, StateSet};
+use cw_game::Spot;
+use cw_product::Game;
+use std::alloc::{AllocError, Global};
+use std::collections::BTreeSet;
+
+/// What stands at a position that has rows.
+#[derive(Clone, Copy, Drop, PartialEq, Eq)]
+pub(crate) enum Kind {
+    Asked,
+    Label,
+    Open,
+    Close,
+    Call,
+}
+
+/// A key where something with rows stands: by seam, part (the stage of what is asked, 1 for a split call, else 0),
+/// state, promise and position.
+#[derive(Clone, Copy, Drop, PartialEq, Eq, PartialOrd, Ord)]
+pub(crate) struct Placed {
+    pub(crate) seam: u32,
+    pub(crate) part: u8,
+    pub(crate) state: u16,
+    pub(crate) promise: StateSet,
+    pub(crate) pos: u32,
+}
+
+/// The different items of some, ascending.
+pub(crate) fn ascending<T: Ord + Copy + Drop>(
+    alloc: Global,
+    items: &[T],
+) -> Result<Vec<T>, AllocError>
+    requires exact { IsAntisymmetric T.cmp }
+    ensures { IfOk result (λ v. Exactly T.cmp (Contains items.now) v.items) }
+{
+    let mut set = BTreeSet::new(alloc);
+    for item in items {
+        set.insert(*item)?;
+    }
+    let found = in_order(alloc, set)?;
+    Ok(found)
+}
+
+fn in_order<T: Ord + Copy + Drop>(alloc: Global, set: BTreeSet<T>) -> Result<Vec<T>, AllocError>
+    ensures items { IfOk result (λ v. v.items ≡ set.keys) }
+    ensures order { IfOk result (λ v. IsStrictlySortedBy T.cmp v.items) }
+{
+    set.into_iter().collect(alloc)
+}
+
+/// The state and the promise of each key.
+pub(crate) fn memories_of(
+    alloc: Global,
+    keys: &[Key],
+) -> Result<Vec<(StateId, StateSet)>, AllocError>
+    ensures { IfOk result (λ v. v.items ≡ map memory_of keys.now) }
+{
+    let mut memories = Vec::new(alloc);
+    for key in keys {
+        memories.push((StateId(key.state), key.promise))?;
+    }
+    Ok(memories)
+}
+
+/// The seam and the part of what stands there, if it is of this kind.
+fn part_of(kind: Kind, spot: Spot) -> Option<(u32, u8)>
+    ensures { result ≡ part_in kind spot }
+{
+    match (kind, spot) {
+        (Kind::Asked, Spot::Asked(seam, stage, _)) => Some((seam, stage)),
+        (Kind::Label, Spot::Label(seam, _, _)) => Some((seam, 0)),
+        (Kind::Open, Spot::Open(seam, _, _)) => Some((seam, 0)),
+        (Kind::Close, Spot::Close(seam, _, _)) => Some((seam, 0)),
+        (Kind::Call, Spot::Call(seam, _, _)) => Some((seam, 0)),
+        (Kind::Call, Spot::SplitCall(seam, _, _)) => Some((seam, 1)),
+        _ => None,
+    }
+}
+
+pub(crate) fn place(game: &Game, kind: Kind, key: &Key) -> Option<Placed>
+    requires { IsPosition (game_of game.now) key.now.pos }
+    ensures { result ≡ placed_of (game_of game.now) kind key.now }
+{
+    match part_of(kind, game.spot(PosId(key.pos))) {
+        None => None,
+        Some((seam, part)) => Some(Placed {
+            seam,
+            part,
+            state: key.state,
+            promise: key.promise,
+            pos: key.pos,
+        }),
+    }
+}
+
+fn put_place(placed: Option<Placed>, places: &mut Vec<Placed>) -> Result<(), AllocError>
+    ensures { OnOk result (places.new.items ≡ put_placed places.old.items placed) }
+{
+    if let Some(placed) = placed {
+        places.push(placed)?;
+    }
+    Ok(())
+}
+
+/// The keys at positions of a kind, in the order of rows.
+pub(crate) fn places(
+    alloc: Global,
+    game: &Game,
+    kind: Kind,
+    keys: &[Key],
+) -> Result<Vec<Placed>, AllocError>
+    requires { (k : Key) → Contains keys.now k → IsPosition (game_of game.now) k.pos }
+    ensures { IfOk result (λ v. Exactly placed_cmp (Contains (filter_map (placed_of (game_of game.now) kind) keys.now)) v.items) }
+{
+    let mut found = Vec::new(alloc);
+    for key in keys {
+        put_place(place(game, kind, key), &mut found)?;
+    }
+    ascending(alloc, &found)
+}
+
+fn put_return(
+    placed: Option<Placed>,
+    exit: &Key,
+    returns: &mut Vec<(Placed, Key)>,
+) -> Result<(), AllocError>
+    ensures { OnOk result (returns.new.items ≡ put_return returns.old.items placed exit.now) }
+{
+    if let Some(placed) = placed {
+        returns.push((placed, *exit))?;
+    }
+    Ok(())
+}
+
+/// Pairs of a call and an exit, in the order of rows.
+pub(crate) fn returns(
+    alloc: Global,
+    game: &Game,
+    pairs: &[(Key, Key)],
+) -> Result<Vec<(Placed, Key)>, AllocError>
+    requires { (ab : Key × Key) → Contains pairs.now ab → IsPosition (game_of game.now) ab.0.pos }
+    ensures { IfOk result (λ v. Exactly return_cmp (Contains (filter_map (return_of (game_of game.now)) pairs.now)) v.items) }
+{
+    let mut found = Vec::new(alloc);
+    for pair in pairs {
+        put_return(place(game, Kind::Call, &pair.0), &pair.1, &mut found)?;
+    }
+    ascending(alloc, &found)
+}

@@ -1,0 +1,227 @@
+//! The lazy table of a solved game.
+
+ghost use Rattle.std.specs.Prelude.{◌≡◌, ◌<◌, ◌≤◌, None, length, nat_lt, IfOk, IfErr, IfSome, IfNone};
+ghost use Rattle.cw_certs.specs.Ascending.{try_cmp, at_cmp, open_cmp, into_cmp, back_cmp, Ascends};
+ghost use Rattle.cw_certs.specs.Tables.{Table};
+ghost use Rattle.cw_fixpoint.specs.Closures.{Exactly};
+ghost use Rattle.cw_game.specs.Conditions.{IsGoodTable};
+ghost use Rattle.cw_game.specs.Necessity.{TriesOnlyLost};
+ghost use Rattle.cw_game.specs.Pairs.{all_states};
+ghost use Rattle.cw_product.specs.Product.{game_of};
+ghost use Rattle.cw_solve.specs.Contexts.{HeightIs};
+ghost use Rattle.cw_product.specs.Made.{IsMade};
+ghost use Rattle.cw_lazy_table.specs.Choices.{start_of, IsReady};
+ghost use Rattle.cw_lazy_table.specs.Lazy.{IsTryRow, IsLabelRow, IsOpenRow, IsCloseRow, IsIntoRow, IsBackRow, IsLazyTable, table_rows};
+ghost use Rattle.cw_lazy_table.specs.Tabled.{AreLive, AreReturns, AreAllMemories};
+
+use crate::follow::Choices;
+use crate::key::Key;
+use crate::lists::{at_rows, back_rows, into_rows, live_rows, mem, open_rows, try_rows};
+use crate::place::{Kind, ascending, memories_of, places, returns};
+use cw_certs::{AtRow, BackRow, IntoRow, OpenRow, TryRow, WeaverCert};
+use cw_core::{StateId, StateSet};
+use cw_fixpoint::joined_up_to;
+use cw_product::Game;
+use cw_solve::{Solved, TableFault};
+use std::alloc::{AllocError, Global};
+
+/// The key at which the program begins.
+fn start_key(game: &Game, solved: &Solved) -> Key
+    requires ready { IsReady game.now solved.now }
+    ensures { result ≡ start_of (game_of game.now) }
+{
+    let (pos, state) = game.start();
+    Key {
+        pos: pos.0,
+        state: state.0,
+        promise: solved.context(0).promise,
+    }
+}
+
+fn tries(
+    alloc: Global,
+    game: &Game,
+    solved: &Solved,
+    mems: &[(StateId, StateSet)],
+    keys: &[Key],
+) -> Result<Vec<TryRow>, AllocError>
+    requires ready { IsReady game.now solved.now }
+    requires live { AreLive game.now keys.now }
+    requires mems { AreAllMemories (game_of game.now) mems.now }
+    ensures { IfOk result (λ v. Exactly try_cmp (IsTryRow (game_of game.now) mems.now) v.items) }
+{
+    let asked = places(alloc, game, Kind::Asked, keys)?;
+    try_rows(alloc, game, solved, mems, &asked)
+}
+
+fn labels(
+    alloc: Global,
+    game: &Game,
+    mems: &[(StateId, StateSet)],
+    keys: &[Key],
+) -> Result<Vec<AtRow>, AllocError>
+    requires live { AreLive game.now keys.now }
+    requires mems { AreAllMemories (game_of game.now) mems.now }
+    ensures { IfOk result (λ v. Exactly at_cmp (IsLabelRow (game_of game.now) mems.now) v.items) }
+{
+    let labels = places(alloc, game, Kind::Label, keys)?;
+    at_rows(alloc, game, mems, &labels)
+}
+
+fn opens(
+    alloc: Global,
+    game: &Game,
+    mems: &[(StateId, StateSet)],
+    keys: &[Key],
+) -> Result<Vec<OpenRow>, AllocError>
+    requires live { AreLive game.now keys.now }
+    requires mems { AreAllMemories (game_of game.now) mems.now }
+    ensures { IfOk result (λ v. Exactly open_cmp (IsOpenRow (game_of game.now) mems.now) v.items) }
+{
+    let opens = places(alloc, game, Kind::Open, keys)?;
+    open_rows(alloc, game, mems, &opens)
+}
+
+fn closes(
+    alloc: Global,
+    game: &Game,
+    mems: &[(StateId, StateSet)],
+    keys: &[Key],
+) -> Result<Vec<AtRow>, AllocError>
+    requires live { AreLive game.now keys.now }
+    requires mems { AreAllMemories (game_of game.now) mems.now }
+    ensures { IfOk result (λ v. Exactly at_cmp (IsCloseRow (game_of game.now) mems.now) v.items) }
+{
+    let closes = places(alloc, game, Kind::Close, keys)?;
+    at_rows(alloc, game, mems, &closes)
+}
+
+fn calls(
+    alloc: Global,
+    game: &Game,
+    solved: &Solved,
+    mems: &[(StateId, StateSet)],
+    keys: &[Key],
+) -> Result<Vec<IntoRow>, AllocError>
+    requires ready { IsReady game.now solved.now }
+    requires live { AreLive game.now keys.now }
+    requires mems { AreAllMemories (game_of game.now) mems.now }
+    ensures { IfOk result (λ v. Exactly into_cmp (IsIntoRow (game_of game.now) mems.now) v.items) }
+{
+    let calls = places(alloc, game, Kind::Call, keys)?;
+    into_rows(alloc, game, solved, mems, &calls)
+}
+
+fn backs(
+    alloc: Global,
+    game: &Game,
+    mems: &[(StateId, StateSet)],
+    pairs: &[(Key, Key)],
+) -> Result<Vec<BackRow>, AllocError>
+    requires returns { AreReturns game.now pairs.now }
+    requires mems { AreAllMemories (game_of game.now) mems.now }
+    ensures { IfOk result (λ v. Exactly back_cmp (IsBackRow (game_of game.now) mems.now) v.items) }
+{
+    let returns = returns(alloc, game, pairs)?;
+    back_rows(alloc, game, mems, &returns)
+}
+
+/// The table of what is live.
+fn table_of(
+    alloc: Global,
+    game: &Game,
+    solved: &Solved,
+    keys: &[Key],
+    pairs: &[(Key, Key)],
+) -> Result<WeaverCert, AllocError>
+    requires ready { IsReady game.now solved.now }
+    requires live { AreLive game.now keys.now }
+    requires returns { AreReturns game.now pairs.now }
+    ensures { IfOk result (λ t. IsLazyTable (game_of game.now) t) }
+{
+    let all = memories_of(alloc, keys)?;
+    let found = ascending(alloc, &all)?;
+    let mems = found.as_slice();
+    let start = start_key(game, solved);
+    let start = mem(mems, StateId(start.state), start.promise);
+    let live = live_rows(alloc, mems, keys)?;
+    let tries = tries(alloc, game, solved, mems, keys)?;
+    let labels = labels(alloc, game, mems, keys)?;
+    let opens = opens(alloc, game, mems, keys)?;
+    let closes = closes(alloc, game, mems, keys)?;
+    let calls = calls(alloc, game, solved, mems, keys)?;
+    let backs = backs(alloc, game, mems, pairs)?;
+    let states = game.states();
+    match WeaverCert::make(
+        states, start, found, live, tries, labels, opens, closes, calls, backs,
+    ) {
+        Some(table) => Ok(table),
+        None => unreachable!(),
+    }
+}
+
+/// Whether a table has more than 65,536 rows in all its lists.
+fn is_long(table: &WeaverCert) -> bool
+    ensures { result ≡ nat_lt 65536 (table_rows table.now) }
+{
+    let rows = table.mems().len();
+    let rows = rows.saturating_add(table.live().len());
+    let rows = rows.saturating_add(table.tries().len());
+    let rows = rows.saturating_add(table.ats().len());
+    let rows = rows.saturating_add(table.opened().len());
+    let rows = rows.saturating_add(table.closed().len());
+    let rows = rows.saturating_add(table.into_rows().len());
+    let rows = rows.saturating_add(table.back_rows().len());
+    65536 < rows
+}
+
+/// The lazy table; none where it has more than 65,536 rows.
+fn table_within(
+    alloc: Global,
+    game: &Game,
+    solved: &Solved,
+) -> Result<Option<WeaverCert>, AllocError>
+    requires ready { IsReady game.now solved.now }
+    ensures lazy { IfOk result (λ o. IfSome o (λ t. IsLazyTable (game_of game.now) t)) }
+    ensures few { IfOk result (λ o. IfSome o (λ t. table_rows t ≤ 65536)) }
+    ensures many { IfOk result (λ o. IfNone o ((t : Table) → IsLazyTable (game_of game.now) t → 65536 < table_rows t)) }
+{
+    let start = start_key(game, solved);
+    match joined_up_to(alloc, &Choices { game, solved }, start, 65536)? {
+        None => Ok(None),
+        Some(joined) => {
+            let table = table_of(alloc, game, solved, &joined.members, &joined.pairs)?;
+            if is_long(&table) {
+                Ok(None)
+            } else {
+                Ok(Some(table))
+            }
+        }
+    }
+}
+
+/// The lazy table of a solved game whose start isn't lost: it tries a primitive, and stops after a refusal, only where
+/// the pair after it is lost, and a call promises all exit states from which the return isn't lost.
+///
+/// TooManyRows comes exactly where it has more than 65,536 rows, backs counted. NoMemory is want of memory.
+///
+/// Public source: the weaver's strategies of Harris, Jha, Reps, Anderson and Watson (2013).
+pub fn weaver_table(alloc: Global, game: &Game, solved: &Solved) -> Result<WeaverCert, TableFault>
+    requires made { IsMade game.now }
+    requires solved { solved.now.game ≡ game.now }
+    requires kept { HeightIs (game_of game.now) ((game_of game.now).entry (game_of game.now).main) (game_of game.now).states.start (all_states (game_of game.now)) None }
+    ensures lazy { IfOk result (λ t. IsLazyTable (game_of game.now) t) }
+    ensures ascends { IfOk result (λ t. Ascends t) }
+    ensures good { IfOk result (λ t. IsGoodTable (game_of game.now) t) }
+    ensures lost { IfOk result (λ t. TriesOnlyLost (game_of game.now) t) }
+    ensures few { IfOk result (λ t. table_rows t ≤ 65536) }
+    ensures many { IfErr result (λ fault. fault ≡ TableFault.TooManyRows → (t : Table) → IsLazyTable (game_of game.now) t → 65536 < table_rows t) }
+{
+    solved.contexts_are_needed();
+    solved.heights_are_low();
+    match table_within(alloc, game, solved) {
+        Err(_) => Err(TableFault::NoMemory),
+        Ok(None) => Err(TableFault::TooManyRows),
+        Ok(Some(table)) => Ok(table),
+    }
+}

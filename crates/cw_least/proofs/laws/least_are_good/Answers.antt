@@ -1,5 +1,0 @@
-use Rattle.cw_least.proofs.Made.{made_good}
-use Rattle.cw_least.proofs.laws.least_are_good.Goals as goal
-
-pub returns : goal.returns
-returns c = made_good

@@ -1,6 +1,0 @@
-use Rattle.std.proofs.Common.{◌≡◌, ◌++◌, map, take}
-use Rattle.cw_least.specs.Acts.{key_of_back}
-use Rattle.cw_least.proofs.named.put_backs.Given as goal
-
-abbrev pub invariant-loop-back : goal.invariant-loop-back
-invariant-loop-back l = l.keys.items ≡ l.initial.keys.items ++ map key_of_back (take l.back-index l.backs)

@@ -1,6 +1,0 @@
-use Rattle.std.proofs.Common.{◌≡◌, map, take}
-use Rattle.cw_least.specs.Strategies.{number}
-use Rattle.cw_least.proofs.rows.numbered.Given as goal
-
-abbrev pub invariant-loop-back : goal.invariant-loop-back
-invariant-loop-back l = l.numbers.items ≡ map (λ b. (b.0, number l.keys b.1)) (take l.back-index l.backs)

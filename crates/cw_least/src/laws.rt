@@ -1,8 +1,0 @@
-//! What holds of every strategy by least heights.
-
-ghost use Rattle.cw_least.specs.Laws.{LeastAreGood};
-
-/// A law: the strategy by least heights of a game that was made meets the eight conditions of a strategy.
-pub fn least_are_good()
-    ensures { LeastAreGood }
-{}

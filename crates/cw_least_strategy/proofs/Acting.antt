@@ -1,0 +1,126 @@
+-- What is done at a key, by whose turn it is.
+use Rattle.std.proofs.Common.{◌≡◌, ℕ, ◌+◌, ◌<◌, ◌≤◌, List, [], ◌∷◌, ◌++◌, Bool, true, false, cond, Option, Some, None, map, filter_map, append_assoc, length, nat_lt, refl, sym, ap, ap₂, ◌∙◌, arith}
+use Rattle.std.specs.Prelude.{slice_get, option_map}
+use Rattle.std.specs.List.{range_with_len, cons_option}
+use Rattle.std.proofs.lemmas.Bool.{lt-ltb, le-ltb}
+use Rattle.cw_core.specs.declared.ids.StateId.{StateId}
+use Rattle.cw_game.specs.declared.spots.Spot.{Spot}
+use Rattle.cw_game.specs.declared.spots.Spot.TheVariants.{Visit, Asked, Step, Branch, Label, Open, Close, Call, SplitCall, Exit}
+use Rattle.cw_game.specs.Games.{Game}
+use Rattle.cw_game.specs.Pairs.{Called, call_in}
+use Rattle.cw_product.specs.declared.turn.Turn.TheVariants as turn
+use Rattle.cw_product.specs.Moves.{turn_in}
+use Rattle.cw_solve.specs.Contexts.{context}
+use Rattle.cw_product.specs.Routed.{AreRouted}
+use Rattle.cw_solve.proofs.Tabling.{there}
+use Rattle.cw_least_strategy.specs.declared.key.Key.{Key}
+use Rattle.cw_least_strategy.specs.Acts.{IsThere, key_of_back}
+use Rattle.cw_least_strategy.specs.Heights.{others}
+use Rattle.cw_least_strategy.specs.Kept.{IsKey}
+use Rattle.cw_least_strategy.specs.Strategies.{below, moves, best, after_return, is_lost_after, aim_at, back_at, backs_at, Out, Both, Into, goes, act_in, act}
+use Rattle.cw_least_strategy.proofs.Naming.{callee_lower}
+use Rattle.cw_least_strategy.proofs.Looking.{kept_more}
+
+module _ (g : Game) (k : Key) where
+  exit_in : (o : Option Spot) (main : Bool) → Some (turn.Exit main) ≡ option_map (turn_in g) o → Out ≡ act_in g k o (call_in o)
+  exit_in (Some (Exit f)) main e = refl
+  exit_in None main e = cc
+  exit_in (Some (Visit j i a)) main e = cc
+  exit_in (Some (Asked j i a)) main e = cc
+  exit_in (Some (Step m)) main e = cc
+  exit_in (Some (Branch l m)) main e = cc
+  exit_in (Some (Label j l m)) main e = cc
+  exit_in (Some (Open j d m)) main e = cc
+  exit_in (Some (Close j d m)) main e = cc
+  exit_in (Some (Call j f m)) main e = cc
+  exit_in (Some (SplitCall j f m)) main e = cc
+
+  pub exit_act : (main : Bool) → Some (turn.Exit main) ≡ option_map (turn_in g) (slice_get g.spots k.pos) → Out ≡ act g k
+  exit_act main e = exit_in (slice_get g.spots k.pos) main e
+
+  environment_in : (o : Option Spot) → Some turn.Environment ≡ option_map (turn_in g) o → goes (best g k moves) ≡ act_in g k o (call_in o)
+  environment_in None e = cc
+  environment_in (Some (Exit f)) e = cc
+  environment_in (Some (Visit j i a)) e = cc
+  environment_in (Some (Asked j i a)) e = refl
+  environment_in (Some (Step m)) e = refl
+  environment_in (Some (Branch l m)) e = refl
+  environment_in (Some (Label j l m)) e = refl
+  environment_in (Some (Open j d m)) e = refl
+  environment_in (Some (Close j d m)) e = refl
+  environment_in (Some (Call j f m)) e = cc
+  environment_in (Some (SplitCall j f m)) e = cc
+
+  pub environment_act : Some turn.Environment ≡ option_map (turn_in g) (slice_get g.spots k.pos) → goes (best g k moves) ≡ act g k
+  environment_act e = environment_in (slice_get g.spots k.pos) e
+
+  visit_in_turn : (o : Option Spot) → Some turn.Weaver ≡ option_map (turn_in g) o → (j : ℕ) × (i : ℕ) × (a : _) × (o ≡ Some (Visit j i a))
+  visit_in_turn (Some (Visit j i a)) e = (j, i, a, refl)
+  visit_in_turn None e = cc
+  visit_in_turn (Some (Exit f)) e = cc
+  visit_in_turn (Some (Asked j i a)) e = cc
+  visit_in_turn (Some (Step m)) e = cc
+  visit_in_turn (Some (Branch l m)) e = cc
+  visit_in_turn (Some (Label j l m)) e = cc
+  visit_in_turn (Some (Open j d m)) e = cc
+  visit_in_turn (Some (Close j d m)) e = cc
+  visit_in_turn (Some (Call j f m)) e = cc
+  visit_in_turn (Some (SplitCall j f m)) e = cc
+
+  pub weaver_at : Some turn.Weaver ≡ option_map (turn_in g) (slice_get g.spots k.pos) → (j : ℕ) × (i : ℕ) × (a : _) × (slice_get g.spots k.pos ≡ Some (Visit j i a))
+  weaver_at e = visit_in_turn (slice_get g.spots k.pos) e
+
+  pub weaver_act : Some turn.Weaver ≡ option_map (turn_in g) (slice_get g.spots k.pos) → Both (below g k (k.pos + 2) k.state k.aim) (below g k (k.pos + 1) k.state k.aim) ≡ act g k
+  weaver_act e = let v = weaver_at e in sym (ap (λ o. act_in g k o (call_in o)) v.3)
+
+  pub into_act : (c : Called) (callee : Key) (backs : List (ℕ × Key)) → call_in (slice_get g.spots k.pos) ≡ Some c → callee ≡ below g k (g.entry c.function) k.state (aim_at g k c)
+      → backs ≡ backs_at g k c
+      → Into callee backs ≡ act g k
+  into_act c callee backs es a b = ap₂ Into a b ∙ sym (ap (act_in g k (slice_get g.spots k.pos)) es)
+
+  pub back_some : (c : Called) (x : ℕ) (to : Key) → to ≡ after_return g k c x → 0 < to.height → back_at g k c x ≡ Some (x, to)
+  back_some c x to e l =
+      let t : is_lost_after g k c x ≡ true = ap (λ (b : Key). nat_lt 0 b.height) (sym e) ∙ lt-ltb 0 to.height l in
+      ap (λ b. cond b (Some (x, after_return g k c x)) None) t ∙ ap (λ (b : Key). Some (x, b)) (sym e)
+
+  pub back_none : (c : Called) (x : ℕ) (to : Key) → to ≡ after_return g k c x → to.height ≤ 0 → back_at g k c x ≡ None
+  back_none c x to e l =
+      let t : is_lost_after g k c x ≡ false = ap (λ (b : Key). nat_lt 0 b.height) (sym e) ∙ le-ltb 0 to.height l in
+      ap (λ b. cond b (Some (x, after_return g k c x)) None) t
+
+  module _ (functions : ℕ) (routed : AreRouted g functions) (is : IsKey g functions k) where
+    pub pos_within : k.pos < length g.spots
+    pos_within = let th = there g functions routed (context is.function (others g k.aim)) is.needed in omega (arith, is.of.1, th.ends)
+
+    pub callee_in : (c : Called) → call_in (slice_get g.spots k.pos) ≡ Some c → IsThere g (g.entry c.function) (aim_at g k c)
+    callee_in c es = let b = (callee_lower g functions routed k is c es).0 in (b.function, b.of, b.needed)
+
+abbrev pub plain : StateId × Key → ℕ × Key
+plain b = (b.0.0, b.1)
+
+plain_more : (old : List (StateId × Key)) (b : StateId × Key) → map plain (old ++ b ∷ []) ≡ map plain old ++ (b.0.0, b.1) ∷ []
+plain_more [] b = refl
+plain_more (x ∷ old) b = ap (λ (l : List (ℕ × Key)). (x.0.0, x.1) ∷ l) (plain_more old b)
+
+-- one exit state more
+pub backs_more : (f : ℕ → Option (ℕ × Key)) (x : ℕ) (old new : List (StateId × Key)) (b : StateId × Key) → map plain old ≡ filter_map f (range_with_len 0 x) → new ≡ old ++ b ∷ []
+    → f x ≡ Some (b.0.0, b.1) → map plain new ≡ filter_map f (range_with_len 0 (x + 1))
+backs_more f x old new b h e s =
+    ap (map plain) e ∙ plain_more old b ∙ ap (λ (l : List (ℕ × Key)). l ++ (b.0.0, b.1) ∷ []) h
+    ∙ sym (kept_more f x ∙ ap (λ o. filter_map f (range_with_len 0 x) ++ cons_option o []) s)
+
+pub backs_same : (f : ℕ → Option (ℕ × Key)) (x : ℕ) (old : List (ℕ × Key)) → old ≡ filter_map f (range_with_len 0 x) → f x ≡ None → old ≡ filter_map f (range_with_len 0 (x + 1))
+backs_same f x old h s = h ∙ sym (kept_more f x ∙ ap (λ o. filter_map f (range_with_len 0 x) ++ cons_option o []) s ∙ nothing (filter_map f (range_with_len 0 x)))
+  where
+    nothing : (l : List (ℕ × Key)) → l ++ [] ≡ l
+    nothing [] = refl
+    nothing (y ∷ ys) = ap (λ (l : List (ℕ × Key)). y ∷ l) (nothing ys)
+
+keys_plain : (backs : List (StateId × Key)) → map key_of_back backs ≡ map (λ (b : ℕ × Key). b.1) (map plain backs)
+keys_plain [] = refl
+keys_plain (b ∷ backs) = ap (λ (l : List Key). b.1 ∷ l) (keys_plain backs)
+
+-- what is named at a call, put behind other keys
+pub into_keys : (old : List Key) (callee : Key) (backs : List (StateId × Key)) {new : List Key} → new ≡ (old ++ callee ∷ []) ++ map key_of_back backs
+    → new ≡ old ++ callee ∷ map (λ (b : ℕ × Key). b.1) (map plain backs)
+into_keys old callee backs e = e ∙ append_assoc old (callee ∷ []) (map key_of_back backs) ∙ ap (λ (l : List Key). old ++ callee ∷ l) (keys_plain backs)

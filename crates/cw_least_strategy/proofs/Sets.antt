@@ -1,0 +1,52 @@
+-- Sets of states as numbers.
+use Rattle.std.proofs.Common.{◌≡◌, ℕ, zero, suc, ◌+◌, ◌*◌, ◌/◌, ◌^◌, ◌<◌, Bool, true, false, not, ◌&&◌, nat_lt, nat_eq, refl, sym, ap, ◌∙◌, arith, inl, inr}
+use Rattle.std.specs.Int.{bit_at}
+use Rattle.std.proofs.lemmas.Bool.{lt-ltb, le-ltb, ltb-true, cases_lt}
+use Rattle.cw_core.specs.StateSet.{has as has_member}
+use Rattle.cw_core.proofs.Sets.{has-zero, has-suc, same_from_members, IsBelow-lt}
+use Rattle.cw_game.specs.Games.{Game}
+use Rattle.cw_game.specs.Pairs.{has, all_states}
+use Rattle.cw_game.proofs.Truths.{and_parts}
+use Rattle.cw_solve.proofs.Fresh.{all_is}
+use Rattle.cw_least_strategy.specs.Heights.{one_if, set_of, others}
+
+half : (b : Bool) (m : ℕ) → (one_if b + 2 * m) / 2 ≡ m
+half true m = omega arith
+half false m = omega arith
+
+last : (b : Bool) (m : ℕ) → has (one_if b + 2 * m) 0 ≡ b
+last true m = let e : bit_at (1 + 2 * m) 0 ≡ 1 = omega arith in ap (λ k. nat_eq k 1) e
+last false m = let e : bit_at (0 + 2 * m) 0 ≡ 0 = omega arith in ap (λ k. nat_eq k 1) e
+
+less_suc : (x n : ℕ) → nat_lt (suc x) (suc n) ≡ nat_lt x n
+less_suc x n = elim (cases_lt x n) [
+  | inl lt ↦ lt-ltb (suc x) (suc n) (omega (arith, lt)) ∙ sym (lt-ltb x n lt)
+  | inr le ↦ le-ltb (suc x) (suc n) (omega (arith, le)) ∙ sym (le-ltb x n le)
+]
+
+-- the members are the states below n that pass
+pub has_set : (passes : ℕ → Bool) (n x : ℕ) → has (set_of passes n) x ≡ (nat_lt x n && passes x)
+unfolding has_member
+has_set passes zero x = has-zero x ∙ sym (ap (λ b. b && passes x) (le-ltb x 0 (omega arith)))
+has_set passes (suc n) zero = last (passes 0) (set_of (λ x. passes (suc x)) n) ∙ sym (ap (λ b. b && passes 0) (lt-ltb 0 (suc n) (omega arith)))
+has_set passes (suc n) (suc x) =
+    let m = set_of (λ x. passes (suc x)) n in
+    has-suc (one_if (passes 0) + 2 * m) x ∙ ap (λ s. has s x) (half (passes 0) m) ∙ has_set (λ x. passes (suc x)) n x ∙ sym (ap (λ b. b && passes (suc x)) (less_suc x n))
+
+-- and it is a set of states
+pub set_within : (passes : ℕ → Bool) (n : ℕ) → set_of passes n < 2 ^ n
+unfolding has_member
+set_within passes n = IsBelow-lt n (set_of passes n) (λ s h. ltb-true s n (and_parts (nat_lt s n) (passes s) (sym (has_set passes n s) ∙ h)).0)
+
+pub same_set : (a b : ℕ) → ((x : ℕ) → has a x ≡ has b x) → a ≡ b
+unfolding has_member
+same_set a b h = same_from_members a b h
+
+-- where nothing is aimed at all states are promised
+pub none_aimed : (g : Game) → others g 0 ≡ all_states g
+unfolding has_member
+none_aimed g = all_is g (others g 0) (λ i. has_set (λ x. not (has 0 x)) g.states.count i ∙ by i (nat_lt i g.states.count))
+  where
+    by : (i : ℕ) (b : Bool) → (b && not (has 0 i)) ≡ b
+    by i true = ap not (has-zero i)
+    by i false = refl

@@ -1,0 +1,22 @@
+use Rattle.std.proofs.Common.{rules, sym, subst}
+use Rattle.cw_certs.specs.Strategies.{strategy_of}
+use Rattle.cw_product.specs.Product.{Held, game_of}
+use Rattle.cw_least_strategy.specs.Acts.{IsLost}
+use Rattle.cw_least_strategy.specs.Strategies.{IsLeastStrategy}
+use Rattle.cw_least_strategy.proofs.Backs.{least_ascend}
+use Rattle.cw_least_strategy.proofs.Made.{made_good}
+use Rattle.cw_least_strategy.proofs.table.env_table.Goals as goal
+
+pub strategy_within-requires-clause-lost : goal.strategy_within-requires-clause-lost
+strategy_within-requires-clause-lost c = subst (λ (x : Held). IsLost (game_of x)) (sym c.requires.solved) c.requires.lost
+
+pub returns-in-Ok-Some-clause-good : goal.returns-in-Ok-Some-clause-good
+returns-in-Ok-Some-clause-good c =
+    let least : IsLeastStrategy (game_of c.args.solved.now.game) (strategy_of c.in-Ok-Some.strategy) = search rules in
+    made_good c.args.game.now c.requires.made (strategy_of c.in-Ok-Some.strategy)
+    (subst (λ (x : Held). IsLeastStrategy (game_of x) (strategy_of c.in-Ok-Some.strategy)) c.requires.solved least)
+
+pub returns-in-Ok-Some-clause-ascend : goal.returns-in-Ok-Some-clause-ascend
+returns-in-Ok-Some-clause-ascend c =
+    let least : IsLeastStrategy (game_of c.args.solved.now.game) (strategy_of c.in-Ok-Some.strategy) = search rules in
+    least_ascend (game_of c.args.solved.now.game) (strategy_of c.in-Ok-Some.strategy) least

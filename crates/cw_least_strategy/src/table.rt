@@ -1,0 +1,105 @@
+//! The strategy by least heights of a solved game.
+
+ghost use Rattle.std.specs.Prelude.{◌≡◌, ℕ, ◌<◌, ◌≤◌, IfOk, IfErr, IfSome, IfNone};
+ghost use Rattle.cw_certs.specs.Strategies.{Strategy, strategy_of};
+ghost use Rattle.cw_game.specs.Conditions.{IsGoodStrategy};
+ghost use Rattle.cw_game.specs.Pairs.{all_states};
+ghost use Rattle.cw_product.specs.Product.{game_of};
+ghost use Rattle.cw_solve.specs.Contexts.{IsHeight};
+ghost use Rattle.cw_product.specs.Made.{IsMade};
+ghost use Rattle.cw_least_strategy.specs.Acts.{IsLost, IsStartHeight, IsStartKey};
+ghost use Rattle.cw_least_strategy.specs.Backs.{BacksAscend};
+ghost use Rattle.cw_least_strategy.specs.Strategies.{IsLeastStrategy, rows_of};
+
+use crate::contexts::Entries;
+use crate::key::Key;
+use crate::named::Named;
+use crate::rows::rows_within;
+use cw_certs::EnvCert;
+use cw_core::StateSet;
+use cw_fixpoint::descended_up_to;
+use cw_product::Game;
+use cw_solve::{Solved, TableFault};
+use std::alloc::{AllocError, Global};
+
+/// The height of the start under the promise of all states.
+fn start_height(solved: &Solved) -> u32
+    requires made { IsMade solved.now.game }
+    requires lost { IsLost (game_of solved.now.game) }
+    ensures { IsStartHeight (game_of solved.now.game) result }
+{
+    solved.contexts_are_needed();
+    let (pos, state) = solved.game().start();
+    match solved.height(0, pos, state) {
+        None => 0,
+        Some(height) => height,
+    }
+}
+
+/// The key of the start.
+fn start_key(solved: &Solved) -> Key
+    requires made { IsMade solved.now.game }
+    requires lost { IsLost (game_of solved.now.game) }
+    ensures { IsStartKey (game_of solved.now.game) result }
+{
+    let (pos, state) = solved.game().start();
+    Key {
+        height: start_height(solved),
+        pos: pos.0,
+        state: state.0,
+        aim: StateSet::empty(),
+    }
+}
+
+/// The strategy by least heights; none where its rows and their backs are more than 65,536.
+fn strategy_within(alloc: Global, solved: &Solved) -> Result<Option<EnvCert>, AllocError>
+    requires made { IsMade solved.now.game }
+    requires lost { IsLost (game_of solved.now.game) }
+    ensures least { IfOk result (λ o. IfSome o (λ c. IsLeastStrategy (game_of solved.now.game) (strategy_of c))) }
+    ensures few { IfOk result (λ o. IfSome o (λ c. rows_of (strategy_of c) ≤ 65536)) }
+    ensures many { IfOk result (λ o. IfNone o ((s : Strategy) → IsLeastStrategy (game_of solved.now.game) s → 65536 < rows_of s)) }
+{
+    let start = start_key(solved);
+    let named = Named {
+        alloc,
+        solved,
+        entries: Entries::make(alloc, solved)?,
+    };
+    match descended_up_to(alloc, &named, &[start], 65536)? {
+        None => Ok(None),
+        Some(keys) => match rows_within(alloc, solved, &named.entries, &keys)? {
+            None => Ok(None),
+            Some(rows) => Ok(Some(EnvCert {
+                states: solved.game().states(),
+                rows,
+            })),
+        },
+    }
+}
+
+/// The strategy by least heights of a solved game whose start is lost (`IsLeastStrategy`): of the right number of
+/// states, a row for each key that the start's names, by height, position, state and aim, and the backs of each by exit
+/// state. It meets the eight conditions of a strategy; by the last of them a row stands at the start, with an empty aim.
+///
+/// TooManyRows comes only where its rows, and the backs of each, are more than 65,536 together, and an answer only where
+/// they are not. NoMemory is want of memory.
+///
+/// Public source: the environment's strategies of Harris, Jha, Reps, Anderson and Watson (2013).
+pub fn env_table(alloc: Global, game: &Game, solved: &Solved) -> Result<EnvCert, TableFault>
+    requires made { IsMade game.now }
+    requires solved { solved.now.game ≡ game.now }
+    requires lost { (n : ℕ) × IsHeight (game_of game.now) ((game_of game.now).entry (game_of game.now).main)
+        (game_of game.now).states.start (all_states (game_of game.now)) n }
+    ensures least { IfOk result (λ s. IsLeastStrategy (game_of game.now) (strategy_of s)) }
+    ensures ascend { IfOk result (λ s. BacksAscend (strategy_of s)) }
+    ensures good { IfOk result (λ s. IsGoodStrategy (game_of game.now) (strategy_of s)) }
+    ensures few { IfOk result (λ s. rows_of (strategy_of s) ≤ 65536) }
+    ensures many { IfErr result (λ fault. fault ≡ TableFault.TooManyRows → (s : Strategy) → IsLeastStrategy (game_of game.now) s → 65536 < rows_of s) }
+{
+    let _ = game;
+    match strategy_within(alloc, solved) {
+        Err(_) => Err(TableFault::NoMemory),
+        Ok(None) => Err(TableFault::TooManyRows),
+        Ok(Some(strategy)) => Ok(strategy),
+    }
+}

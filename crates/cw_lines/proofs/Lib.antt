@@ -1,6 +1,0 @@
-pub mod Cuts
-pub mod Fields
-mod Finding
-pub mod Free
-pub mod Names
-pub mod OneSet

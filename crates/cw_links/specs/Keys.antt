@@ -1,0 +1,67 @@
+-- Keys of cells and of links, by number, and the queue in which they wait.
+use Rattle.std.specs.Prelude.{◌≡◌, ℕ, ◌/◌, ◌%◌, ◌<◌, ◌≤◌, ◌||◌, if◌then◌else◌, nat_eq, nat_lt, List, length, slice_index, slice_set, Contains}
+use Rattle.cw_links.specs.Lists.{list_at}
+use Rattle.cw_links.specs.declared.popped.Popped.{Popped}
+use Rattle.cw_links.specs.declared.popped.Popped.TheVariants.{Nothing as Empty, Cell as OfCell, Link as OfLink}
+
+-- the key of each cell and of each link, 0 where it doesn't wait, and how many more of each have their memory already
+pub record Keyed : Type 0 where
+  pub asked : List ℕ
+  pub due : List ℕ
+  pub spare_cells : ℕ
+  pub spare_links : ℕ
+
+-- the key of an element of the queue: the even ones are those of cells, and the odd ones those of links
+abbrev pub key_of : (asked due : List ℕ) (element : ℕ) → ℕ
+key_of asked due element = if nat_eq (element % 2) 0 then slice_index asked (element / 2) else slice_index due (element / 2)
+
+-- the element is that of a cell or of a link
+abbrev pub IsElement : (asked due : List ℕ) (element : ℕ) → Type 0
+IsElement asked due element = element / 2 < (if nat_eq (element % 2) 0 then length asked else length due)
+
+-- each element that has a key is under it, and maybe under others too
+pub record AreWaiting (asked due : List ℕ) (stacks : List (List ℕ)) : Type 0 where
+  pub waits : (element : ℕ) → 0 < key_of asked due element → Contains (list_at stacks (key_of asked due element)) element
+  pub known : (key element : ℕ) → Contains (list_at stacks key) element → IsElement asked due element
+
+-- these are few, and the queue has their elements
+pub record AreQueued (asked due : List ℕ) (stacks : List (List ℕ)) : Type 0 where
+  pub few_cells : length asked ≤ 4194304
+  pub few_links : length due ≤ 4194304
+  pub waiting : AreWaiting asked due stacks
+
+-- the keys with this one at a place, unless a lower one stands there
+abbrev pub lowered : (keys : List ℕ) (place key : ℕ) → List ℕ
+lowered keys place key = if nat_eq (slice_index keys place) 0 || nat_lt key (slice_index keys place) then slice_set keys place key else keys
+
+-- no key of a cell or a link is below this one, but for those that don't wait
+pub record AreFrom (asked due : List ℕ) (key : ℕ) : Type 0 where
+  pub cells : (k : ℕ) → 0 < slice_index asked k → key ≤ slice_index asked k
+  pub links : (k : ℕ) → 0 < slice_index due k → key ≤ slice_index due k
+
+-- nothing waits
+pub record AreEmpty (asked due : List ℕ) : Type 0 where
+  pub cells : (k : ℕ) → slice_index asked k ≡ 0
+  pub links : (k : ℕ) → slice_index due k ≡ 0
+
+-- the least key is that of this number, which doesn't wait any more
+pub record Takes (old new : List ℕ) (number key : ℕ) : Type 0 where
+  pub within : number < length old
+  pub is : slice_index old number ≡ key
+  pub some : 0 < key
+  pub taken : new ≡ slice_set old number 0
+
+-- an element was taken under its key, the least one, and the others that have a key are still under it
+pub record IsNext (asked due : List ℕ) (stacks : List (List ℕ)) (element key : ℕ) : Type 0 where
+  pub some : 0 < key
+  pub is : key_of asked due element ≡ key
+  pub is_element : IsElement asked due element
+  pub from : AreFrom asked due key
+  pub others : (e : ℕ) → (e ≡ element → ⊥) → 0 < key_of asked due e → Contains (list_at stacks (key_of asked due e)) e
+  pub known : (k e : ℕ) → Contains (list_at stacks k) e → IsElement asked due e
+
+-- what is taken from under the least key
+abbrev pub Pops : (old new : Keyed) → Popped → Type 0
+Pops old new Empty = AreEmpty old.asked old.due × (new ≡ old)
+Pops old new (OfCell number key) = AreFrom old.asked old.due key × Takes old.asked new.asked number key × (new.due ≡ old.due)
+Pops old new (OfLink number key) = AreFrom old.asked old.due key × Takes old.due new.due number key × (new.asked ≡ old.asked)

@@ -1,0 +1,186 @@
+//! Keys of cells and of links, the least key first.
+
+ghost use Rattle.std.specs.Prelude.{◌≡◌, ◌+◌, ◌<◌, ◌≤◌, [], ◌∷◌, ◌++◌, length, replicate, slice_index, OnOk, OnErr, IfOk, IfSome, IfNone};
+ghost use Rattle.cw_links.specs.Keys.{AreEmpty, AreWaiting, IsElement, IsNext, Pops, key_of, lowered};
+
+use crate::popped::Popped;
+use cw_core::NoMemory;
+use crate::Queue;
+use std::alloc::Global;
+use std::marker::Model;
+
+/// Cells and links by number, which wait each under a key, or don't wait, under 0.
+///
+/// Contracts see the list of the cells' keys and that of the links', and how many more of each have their memory already. In the
+/// queue the cell c is the element 2 * c, and the link l is 2 * l + 1. Where a key is lowered, the element stays under the older
+/// key too; what is taken there is passed over, since it isn't the key that is written.
+#[derive(Drop)]
+pub(crate) struct Keys {
+    asked: Vec<u32>,
+    due: Vec<u32>,
+    queue: Queue,
+}
+
+impl Model for Keys {
+    ghost use Rattle.std.specs.Prelude.{◌-◌, length, min, vec_len, vec_capacity};
+    ghost use Rattle.cw_links.specs.Keys.{Keyed, AreQueued};
+
+    ghost Value = { Keyed };
+
+    ghost view = { λ k. record {
+      asked = k.asked.items;
+      due = k.due.items;
+      spare_cells = min (4194304 - length k.asked.items) (vec_capacity k.asked - vec_len k.asked);
+      spare_links = min (4194304 - length k.due.items) (vec_capacity k.due - vec_len k.due);
+    } };
+
+    ghost invariant = { λ k. AreQueued k.asked.items k.due.items k.queue };
+}
+
+impl Keys {
+    /// No cells and no links.
+    pub(crate) fn make(alloc: Global) -> Result<Keys, NoMemory>
+        ensures asked { IfOk result (λ keys. keys.asked ≡ []) }
+        ensures due { IfOk result (λ keys. keys.due ≡ []) }
+    {
+        Ok(Keys {
+            asked: Vec::new(alloc),
+            due: Vec::new(alloc),
+            queue: Queue::make(alloc)?,
+        })
+    }
+
+    /// The key of a link.
+    pub(crate) fn due(&self, link: usize) -> u32
+        requires { link < length self.now.due }
+        ensures { result ≡ slice_index self.now.due link }
+    {
+        self.due[link]
+    }
+
+    /// Has the cell wait under a key, unless it waits under a lower one.
+    pub(crate) fn ask_cell(&mut self, cell: usize, key: u32) -> Result<(), NoMemory>
+        requires within { cell < length self.old.asked }
+        requires some { 0 < key }
+        ensures asked { OnOk result (self.new.asked ≡ lowered self.old.asked cell key) }
+        ensures refused { OnErr result (self.new.asked ≡ self.old.asked) }
+        ensures due { self.new.due ≡ self.old.due }
+    {
+        let asked = self.asked[cell];
+        if asked == 0 || key < asked {
+            self.queue.put(2 * cell as u32, key)?;
+            self.asked[cell] = key;
+        }
+        Ok(())
+    }
+
+    /// Has the link wait under a key, unless it waits under a lower one.
+    pub(crate) fn ask_link(&mut self, link: usize, key: u32) -> Result<(), NoMemory>
+        requires within { link < length self.old.due }
+        requires some { 0 < key }
+        ensures due { OnOk result (self.new.due ≡ lowered self.old.due link key) }
+        ensures refused { OnErr result (self.new.due ≡ self.old.due) }
+        ensures asked { self.new.asked ≡ self.old.asked }
+    {
+        let due = self.due[link];
+        if due == 0 || key < due {
+            self.queue.put(2 * link as u32 + 1, key)?;
+            self.due[link] = key;
+        }
+        Ok(())
+    }
+
+    /// Takes what waits under the least key.
+    pub(crate) fn pop(&mut self) -> Popped
+        ensures { Pops self.old self.new result }
+    {
+        match next(&mut self.queue, &self.asked, &self.due) {
+            None => Popped::Nothing,
+            Some((element, key)) => {
+                let number = (element / 2) as usize;
+                if element % 2 == 0 {
+                    self.asked[number] = 0;
+                    Popped::Cell(number, key)
+                } else {
+                    self.due[number] = 0;
+                    Popped::Link(number, key)
+                }
+            }
+        }
+    }
+
+    /// Takes the memory of so many more cells. The one error is want of memory; keys stay as they are.
+    pub(crate) fn reserve_cells(&mut self, more: usize) -> Result<(), NoMemory>
+        requires few { length self.old.asked + more ≤ 4194304 }
+        ensures room { OnOk result (more ≤ self.new.spare_cells) }
+        ensures links { self.new.spare_links ≡ self.old.spare_links }
+        ensures asked { self.new.asked ≡ self.old.asked }
+        ensures due { self.new.due ≡ self.old.due }
+    {
+        self.asked.reserve(more)?;
+        Ok(())
+    }
+
+    /// Takes the memory of one more link. The one error is want of memory; keys stay as they are.
+    pub(crate) fn reserve_link(&mut self) -> Result<(), NoMemory>
+        requires few { length self.old.due < 4194304 }
+        ensures room { OnOk result (0 < self.new.spare_links) }
+        ensures cells { self.new.spare_cells ≡ self.old.spare_cells }
+        ensures asked { self.new.asked ≡ self.old.asked }
+        ensures due { self.new.due ≡ self.old.due }
+    {
+        self.due.reserve(1)?;
+        Ok(())
+    }
+
+    /// Adds so many cells, which don't wait.
+    pub(crate) fn push_cells(&mut self, many: usize)
+        requires room { many ≤ self.old.spare_cells }
+        ensures asked { self.new.asked ≡ self.old.asked ++ replicate many 0 }
+        ensures due { self.new.due ≡ self.old.due }
+        ensures links { self.new.spare_links ≡ self.old.spare_links }
+    {
+        // There is room, so this is not refused.
+        let cells = self.asked.len() + many;
+        let _ = self.asked.resize(cells, 0);
+    }
+
+    /// Adds a link, which doesn't wait.
+    pub(crate) fn push_link(&mut self)
+        requires room { 0 < self.old.spare_links }
+        ensures due { self.new.due ≡ self.old.due ++ 0 ∷ [] }
+        ensures asked { self.new.asked ≡ self.old.asked }
+        ensures cells { self.new.spare_cells ≡ self.old.spare_cells }
+    {
+        // There is room, so the push is not refused.
+        let _ = self.due.push(0);
+    }
+}
+
+/// Takes elements until one is taken under the key that it has.
+fn next(queue: &mut Queue, asked: &[u32], due: &[u32]) -> Option<(u32, u32)>
+    requires { AreWaiting asked.now due.now queue.old }
+    ensures next { IfSome result (λ taken. IsNext asked.now due.now queue.new taken.0 taken.1) }
+    ensures none { IfNone result (AreEmpty asked.now due.now) }
+    ensures waiting { IfNone result (AreWaiting asked.now due.now queue.new) }
+{
+    while let Some((element, key)) = queue.take() {
+        if key_of(asked, due, element) == key {
+            return Some((element, key));
+        }
+    }
+    None
+}
+
+/// The key of an element.
+fn key_of(asked: &[u32], due: &[u32], element: u32) -> u32
+    requires { IsElement asked.now due.now element }
+    ensures { result ≡ key_of asked.now due.now element }
+{
+    let number = (element / 2) as usize;
+    if element % 2 == 0 {
+        asked[number]
+    } else {
+        due[number]
+    }
+}

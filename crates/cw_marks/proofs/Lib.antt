@@ -1,5 +1,0 @@
-pub mod Ranks
-pub mod Spreads
-pub mod Blocks
-mod Bits
-pub mod Plain

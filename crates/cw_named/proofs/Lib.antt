@@ -1,4 +1,0 @@
-mod Lexed
-mod Derived
-pub mod Stated
-pub mod Marked

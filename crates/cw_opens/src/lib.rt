@@ -1,4 +1,0 @@
-//! What a program that is read opens.
-#![tactic(auto)]
-
-pub mod laws;

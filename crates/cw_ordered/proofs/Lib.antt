@@ -1,3 +1,0 @@
--- The proofs.
-pub mod Descending
-pub mod Numbers

@@ -1,5 +1,0 @@
-use Rattle.cw_policies.proofs.Formats.{detaches_none}
-use Rattle.cw_policies.proofs.laws.format_1_detaches_no_function.Goals as goal
-
-pub returns : goal.returns
-returns c = detaches_none

@@ -1,5 +1,0 @@
-use Rattle.cw_policies.proofs.Same.{one_fault}
-use Rattle.cw_policies.proofs.laws.refused_texts_have_one_fault.Goals as goal
-
-pub returns : goal.returns
-returns c = one_fault

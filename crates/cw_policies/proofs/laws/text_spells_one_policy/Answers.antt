@@ -1,5 +1,0 @@
-use Rattle.cw_policies.proofs.Same.{one_policy}
-use Rattle.cw_policies.proofs.laws.text_spells_one_policy.Goals as goal
-
-pub returns : goal.returns
-returns c = one_policy

@@ -1,6 +1,0 @@
-use Rattle.std.proofs.Common.{sym}
-use Rattle.cw_policies.proofs.Items.{count_view}
-use Rattle.cw_policies.proofs.names.count.Goals as goal
-
-pub returns : goal.returns
-returns c = sym (count_view c.args.items.now)

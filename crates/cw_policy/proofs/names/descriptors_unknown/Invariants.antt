@@ -1,0 +1,10 @@
+use Rattle.std.proofs.Common.{◌≡◌, drop}
+use Rattle.toml.specs.View.{items_view}
+use Rattle.cw_policy.specs.Form as form
+use Rattle.cw_policy.specs.Names as spec
+use Rattle.cw_policy.proofs.names.descriptors_unknown.Given as goal
+
+abbrev pub invariant-items : goal.invariant-items
+invariant-items l =
+    (form.first_in (spec.descriptor_unknown l.format) l.index (items_view (drop l.item-index l.items)) ≡ form.first_in (spec.descriptor_unknown l.format) 0 (items_view l.items)) ×
+    (l.index ≡ l.item-index)

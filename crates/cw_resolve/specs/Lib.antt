@@ -1,0 +1,5 @@
+-- What a statement does that is an expression.
+pub mod Scenes
+pub mod Acts
+pub mod Held
+pub mod Labels

@@ -1,0 +1,146 @@
+//! What a statement does that is an expression.
+
+ghost use Rattle.std.specs.Prelude.{◌≡◌, ℕ, codes};
+ghost use Rattle.std.specs.Str.{bytes_eq};
+ghost use Rattle.cw_syntax.specs.Plans.{action_of, call_action, closed_by, closes_if, opens_if, assigned_action, descriptor_of};
+ghost use Rattle.cw_syntax.specs.Trees.{Node, none, more, tree_of, trees_of};
+ghost use Rattle.cw_syntax.specs.Names.{number_in};
+ghost use Rattle.cw_rights.specs.Policies.{policy_of};
+ghost use Rattle.cw_resolve.specs.Scenes.{scene_in};
+ghost use Rattle.cw_resolve.specs.Acts.{act_of};
+
+use crate::names::{descriptor_named, descriptor_numbered, function_named, is_split, text};
+use cw_rights::Policy;
+use cw_syntax::checked::Checked;
+use cw_syntax::names::slice;
+use cw_syntax::program::{Expr, Name, Op};
+
+/// What an expression statement does: an open or a close of a descriptor of the policy, the call of a defined
+/// function (with whether the policy lets it be split off, and the variable that takes its result), or none of these.
+#[derive(Clone, Copy, Drop)]
+pub enum Act {
+    Computes,
+    Opens(usize),
+    Closes(usize),
+    Invokes {
+        function: usize,
+        split: bool,
+        result: Option<Name>,
+    },
+}
+
+/// The number of the descriptor that an expression names: a variable by its name, a number by its value.
+pub fn descriptor_of(checked: &Checked, policy: &Policy, e: &Expr) -> Option<usize>
+    ensures number { result ≡ descriptor_of (scene_in checked.now (policy_of policy.now)) (tree_of e.now) }
+{
+    match e.op {
+        Op::Name => descriptor_named(policy, slice(checked.source, e.from, e.to)),
+        Op::Number(n) => descriptor_numbered(policy, n),
+        _ => None,
+    }
+}
+
+fn closes_if(descriptor: Option<usize>) -> Act
+    ensures { result ≡ act_of (closes_if descriptor) }
+{
+    match descriptor {
+        None => Act::Computes,
+        Some(d) => Act::Closes(d),
+    }
+}
+
+fn opens_if(descriptor: Option<usize>) -> Act
+    ensures { result ≡ act_of (opens_if descriptor) }
+{
+    match descriptor {
+        None => Act::Computes,
+        Some(d) => Act::Opens(d),
+    }
+}
+
+fn is_close(name: &[u8]) -> bool
+    ensures { result ≡ bytes_eq name.now (codes "close") }
+{
+    name == b"close".as_slice()
+}
+
+/// `close(d);`, with `close` external.
+fn closed_by(checked: &Checked, policy: &Policy, name: &[u8], arguments: &[Expr]) -> Act
+    ensures { result ≡ act_of (closed_by (scene_in checked.now (policy_of policy.now)) name.now (trees_of arguments.now)) }
+{
+    match arguments {
+        [argument] if is_close(name) => closes_if(descriptor_of(checked, policy, argument)),
+        _ => Act::Computes,
+    }
+}
+
+/// `f(..);`
+fn call_action(checked: &Checked, policy: &Policy, name: &[u8], arguments: &[Expr]) -> Act
+    ensures { result ≡ act_of (call_action (scene_in checked.now (policy_of policy.now)) name.now (trees_of arguments.now) (number_in (scene_in checked.now (policy_of policy.now)).functions name.now)) }
+{
+    match function_named(checked, name) {
+        Some(function) => Act::Invokes {
+            function,
+            split: is_split(policy, name),
+            result: None,
+        },
+        None => closed_by(checked, policy, name, arguments),
+    }
+}
+
+/// `x = f(..);`
+fn assigned_action(checked: &Checked, policy: &Policy, x: Name, name: &[u8]) -> Act
+    ensures { result ≡ act_of (assigned_action (scene_in checked.now (policy_of policy.now)) x name.now (number_in (scene_in checked.now (policy_of policy.now)).functions name.now)) }
+{
+    match function_named(checked, name) {
+        Some(function) => Act::Invokes {
+            function,
+            split: is_split(policy, name),
+            result: Some(x),
+        },
+        None => opens_if(descriptor_named(policy, text(checked, x))),
+    }
+}
+
+/// An assignment of these two parts.
+fn assigned(checked: &Checked, policy: &Policy, x: &Expr, value: &Expr) -> Act
+    ensures { (from to : ℕ) → result ≡ act_of (action_of (scene_in checked.now (policy_of policy.now)) (Node (Op.Assign 0) (more (tree_of x.now) (more (tree_of value.now) none)) from to)) }
+{
+    match x.op {
+        Op::Name => match value.op {
+            Op::Call(f) => {
+                let name = Name {
+                    from: x.from,
+                    to: x.to,
+                };
+                assigned_action(checked, policy, name, text(checked, f))
+            }
+            _ => Act::Computes,
+        },
+        _ => Act::Computes,
+    }
+}
+
+/// An assignment by an operator of this number: 0 is `=`.
+fn assignment(checked: &Checked, policy: &Policy, by: u8, parts: &[Expr]) -> Act
+    ensures { (from to : ℕ) → result ≡ act_of (action_of (scene_in checked.now (policy_of policy.now)) (Node (Op.Assign by) (trees_of parts.now) from to)) }
+{
+    if by != 0 {
+        return Act::Computes;
+    }
+    match parts {
+        [x, value] => assigned(checked, policy, x, value),
+        _ => Act::Computes,
+    }
+}
+
+/// What an expression statement does.
+pub fn action_of(checked: &Checked, policy: &Policy, e: &Expr) -> Act
+    ensures act { result ≡ act_of (action_of (scene_in checked.now (policy_of policy.now)) (tree_of e.now)) }
+{
+    match e.op {
+        Op::Call(f) => call_action(checked, policy, text(checked, f), &e.parts),
+        Op::Assign(by) => assignment(checked, policy, by, &e.parts),
+        _ => Act::Computes,
+    }
+}

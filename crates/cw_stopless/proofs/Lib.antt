@@ -1,4 +1,0 @@
-pub mod Alike
-pub mod Listed
-pub mod Rowed
-pub mod Least

@@ -1,4 +1,0 @@
-//! Where a policy stops after a refusal, nothing is refused: the same game, table and strategy.
-#![tactic(auto)]
-
-pub mod laws;

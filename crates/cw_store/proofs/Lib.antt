@@ -1,3 +1,0 @@
-pub mod Queueing
-pub mod Linking
-pub mod Spreading

@@ -1,5 +1,0 @@
-use Rattle.cw_strategies.proofs.OneAnswer.{one_answer}
-use Rattle.cw_strategies.proofs.laws.one_answer.Goals as goal
-
-pub returns : goal.returns
-returns c = record { one = one_answer c.args.format c.args.text.now }

@@ -1,5 +1,0 @@
-use Rattle.cw_strategies.proofs.SomeAnswer.{some_answer}
-use Rattle.cw_strategies.proofs.laws.some_answer.Goals as goal
-
-pub returns : goal.returns
-returns c = record { some = some_answer c.args.format c.args.text.now }

@@ -1,5 +1,0 @@
-use Rattle.cw_strategies.proofs.Hows.{no_kind}
-use Rattle.cw_strategies.proofs.row.read_how.Goals as goal
-
-pub returns-in_default-kind_of : goal.returns-in_default-kind_of
-returns-in_default-kind_of c = no_kind c.args.words.now c.in-Some.word.now c.take.new.self c.in-Some.ensures.some c.in_default-kind_of.ensures

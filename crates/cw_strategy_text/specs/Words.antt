@@ -1,0 +1,63 @@
+-- Working definitions, for proofs and the contracts of code alone: a row's words, by what the row does.
+use Rattle.std.specs.Prelude.{◌≡◌, ℕ, ◌^◌, ◌<◌, List, [], ◌∷◌, ◌++◌, map, codes}
+use Rattle.std.specs.List.{flat_map}
+use Rattle.std.specs.Fmt.{decimal}
+use Rattle.cw_core.specs.declared.ids.StateId.{StateId}
+use Rattle.cw_certs.specs.Strategies.{How, Bad, Out, Both, Go, Into, Row}
+use Rattle.cw_text.specs.Lines.{joined, line, set_text}
+use Rattle.cw_text.specs.Moves.{move_name, IsEnvironments}
+use Rattle.cw_strategy_text.specs.declared.kind.Kind.{Kind}
+use Rattle.cw_strategy_text.specs.declared.kind.Kind.TheVariants as kind
+use Rattle.cw_strategy_text.specs.StrategyText.{back_word, how_words, row_words, FitsHow, FitsRow}
+
+-- what a row does without its numbers, its first word, and the others
+abbrev pub kind_of_how : How → Kind
+kind_of_how Bad = kind.Bad
+kind_of_how Out = kind.Out
+kind_of_how (Both skip tried) = kind.Both
+kind_of_how (Go by row) = kind.Go by
+kind_of_how (Into callee backs) = kind.Into
+
+abbrev pub kind_word : Kind → List ℕ
+kind_word kind.Bad = codes "bad"
+kind_word kind.Out = codes "out"
+kind_word kind.Both = codes "both"
+kind_word (kind.Go by) = move_name by
+kind_word kind.Into = codes "into"
+
+abbrev pub rest_words : How → List (List ℕ)
+rest_words Bad = []
+rest_words Out = []
+rest_words (Both skip tried) = decimal skip ∷ decimal tried ∷ []
+rest_words (Go by row) = decimal row ∷ []
+rest_words (Into callee backs) = decimal callee ∷ map back_word backs
+
+abbrev pub FitsKind : Kind → Type 0
+FitsKind kind.Bad = Unit {0}
+FitsKind kind.Out = Unit {0}
+FitsKind kind.Both = Unit {0}
+FitsKind (kind.Go by) = IsEnvironments by
+FitsKind kind.Into = Unit {0}
+
+pub record IsOf (k : Kind) (how : How) : Type 0 where
+  pub fits : FitsHow how
+  pub kind : kind_of_how how ≡ k
+
+-- the program's backs as pairs of numbers
+abbrev pub backs_of : List (StateId × ℕ) → List (ℕ × ℕ)
+backs_of backs = map (λ b. (b.0.0, b.1)) backs
+
+abbrev pub FitsBack : ℕ × ℕ → Type 0
+FitsBack back = (back.0 < 2 ^ 16) × (back.1 < 2 ^ 32)
+
+-- a row under a number, and its line without its LF
+pub record FitsNamed (format : ℕ) (named : ℕ × Row) : Type 0 where
+  pub number : named.0 < 2 ^ 32
+  pub row : FitsRow format named.1
+
+unfoldable pub row_text : (format : ℕ) → ℕ × Row → List ℕ
+row_text format named = joined 32 (row_words format named.0 named.1)
+
+-- a row's line as it is put, each word but the first after a space
+abbrev pub put_line : (format number : ℕ) → Row → List ℕ
+put_line format number r = line (decimal number ++ flat_map (λ word. 32 ∷ word) (decimal r.pos ∷ decimal r.state ∷ set_text format r.aim ∷ how_words r.how))

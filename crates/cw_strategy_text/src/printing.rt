@@ -1,0 +1,165 @@
+//! Strategies written.
+
+ghost use Rattle.std.specs.Prelude.{◌≡◌, ◌++◌, ◌∷◌, [], codes, map};
+ghost use Rattle.std.specs.Fmt.{decimal};
+ghost use Rattle.std.specs.List.{flat_map};
+ghost use Rattle.cw_text.specs.Lines.{set_text};
+ghost use Rattle.cw_text.specs.Moves.{move_name};
+ghost use Rattle.cw_certs.specs.Strategies.{how_of, row_of, strategy_of};
+ghost use Rattle.cw_io.specs.Causes.{HasCause};
+ghost use Rattle.cw_io.specs.Pieces.{Puts};
+ghost use Rattle.cw_io.specs.Written.{Follows};
+ghost use Rattle.cw_strategy_text.specs.StrategyText.{back_word, how_words, row_lines, strategy_text};
+ghost use Rattle.cw_strategy_text.specs.Words.{backs_of, put_line};
+
+use cw_certs::{EnvCert, EnvRow, How, Move};
+use cw_core::StateId;
+use cw_io::{Sink, SinkFault};
+use cw_text::{move_name, put_set};
+use cw_io::Writer;
+
+/// Puts the text of a strategy, in a text of this format, piece by piece. After a fault of the sink a front of it is put, and
+/// nothing after the fault.
+pub fn print_env<S: Sink>(cert: &EnvCert, format: u8, out: &mut S) -> Result<(), SinkFault>
+    ensures bytes { Puts (S.taken out.old) (S.taken out.new) (strategy_text format (strategy_of cert.now)) result }
+    ensures failed { HasCause SinkFault.Failed (S.faults out.old) (S.faults out.new) result }
+    ensures refused { HasCause SinkFault.NoMemory (S.refused out.old) (S.refused out.new) result }
+{
+    let mut writer = Writer::begin(out);
+    put_strategy(cert, format, &mut writer, out);
+    writer.finish(out)
+}
+
+/// Appends the text of a strategy, in a text of this format.
+pub fn put_strategy<S: Sink>(cert: &EnvCert, format: u8, writer: &mut Writer<S>, out: &mut S)
+    requires follows { Follows S.taken S.faults S.refused writer.old out.old }
+    ensures text { writer.new.text ≡ writer.old.text ++ strategy_text format (strategy_of cert.now) }
+    ensures begun { writer.new.begun ≡ writer.old.begun }
+    ensures follows { Follows S.taken S.faults S.refused writer.new out.new }
+{
+    writer.put(b"capweave strategy ", out);
+    writer.put_number(u64::from(format), out);
+    writer.put(b"\nstates ", out);
+    writer.put_number(u64::from(cert.states), out);
+    writer.put(b"\n", out);
+    put_rows(&cert.rows, format, writer, out);
+    writer.put(b"end\n", out);
+}
+
+fn put_rows<S: Sink>(rows: &[EnvRow], format: u8, writer: &mut Writer<S>, out: &mut S)
+    requires follows { Follows S.taken S.faults S.refused writer.old out.old }
+    ensures text { writer.new.text ≡ writer.old.text ++ row_lines format 0 (map row_of rows.now) }
+    ensures begun { writer.new.begun ≡ writer.old.begun }
+    ensures follows { Follows S.taken S.faults S.refused writer.new out.new }
+{
+    for number in 0..rows.len() {
+        put_row(number, &rows[number], format, writer, out);
+    }
+}
+
+/// Appends a row's line.
+fn put_row<S: Sink>(number: usize, row: &EnvRow, format: u8, writer: &mut Writer<S>, out: &mut S)
+    requires follows { Follows S.taken S.faults S.refused writer.old out.old }
+    ensures text { writer.new.text ≡ writer.old.text ++ put_line format number (row_of row.now) }
+    ensures begun { writer.new.begun ≡ writer.old.begun }
+    ensures follows { Follows S.taken S.faults S.refused writer.new out.new }
+{
+    writer.put_number(number as u64, out);
+    put_place(row, format, writer, out);
+    put_how(&row.how, writer, out);
+    writer.put(b"\n", out);
+}
+
+/// Appends a row's position, state and aim, each after a space.
+fn put_place<S: Sink>(row: &EnvRow, format: u8, writer: &mut Writer<S>, out: &mut S)
+    requires follows { Follows S.taken S.faults S.refused writer.old out.old }
+    ensures text { writer.new.text ≡ writer.old.text ++ flat_map (λ word. 32 ∷ word) (decimal row.now.pos.0 ∷ decimal row.now.state.0 ∷ set_text format row.now.aim ∷ []) }
+    ensures begun { writer.new.begun ≡ writer.old.begun }
+    ensures follows { Follows S.taken S.faults S.refused writer.new out.new }
+{
+    writer.put(b" ", out);
+    writer.put_number(u64::from(row.pos.0), out);
+    writer.put(b" ", out);
+    writer.put_number(u64::from(row.state.0), out);
+    writer.put(b" ", out);
+    put_set(&row.aim, format, writer, out);
+}
+
+/// Appends what a row does, each word after a space.
+fn put_how<S: Sink>(how: &How, writer: &mut Writer<S>, out: &mut S)
+    requires follows { Follows S.taken S.faults S.refused writer.old out.old }
+    ensures text { writer.new.text ≡ writer.old.text ++ flat_map (λ word. 32 ∷ word) (how_words (how_of how.now)) }
+    ensures begun { writer.new.begun ≡ writer.old.begun }
+    ensures follows { Follows S.taken S.faults S.refused writer.new out.new }
+{
+    match how {
+        How::Bad => writer.put(b" bad", out),
+        How::Out => writer.put(b" out", out),
+        How::Both { skip, tried } => put_both(*skip, *tried, writer, out),
+        How::Go { by, row } => put_go(*by, *row, writer, out),
+        How::Into { callee, backs } => put_into(*callee, backs, writer, out),
+    }
+}
+
+/// Appends ` both SKIP TRIED`.
+fn put_both<S: Sink>(skip: u32, tried: u32, writer: &mut Writer<S>, out: &mut S)
+    requires follows { Follows S.taken S.faults S.refused writer.old out.old }
+    ensures text { writer.new.text ≡ writer.old.text ++ flat_map (λ word. 32 ∷ word) (codes "both" ∷ decimal skip ∷ decimal tried ∷ []) }
+    ensures begun { writer.new.begun ≡ writer.old.begun }
+    ensures follows { Follows S.taken S.faults S.refused writer.new out.new }
+{
+    writer.put(b" both ", out);
+    writer.put_number(u64::from(skip), out);
+    writer.put(b" ", out);
+    writer.put_number(u64::from(tried), out);
+}
+
+/// Appends ` MOVE ROW`.
+fn put_go<S: Sink>(by: Move, row: u32, writer: &mut Writer<S>, out: &mut S)
+    requires follows { Follows S.taken S.faults S.refused writer.old out.old }
+    ensures text { writer.new.text ≡ writer.old.text ++ flat_map (λ word. 32 ∷ word) (move_name by ∷ decimal row ∷ []) }
+    ensures begun { writer.new.begun ≡ writer.old.begun }
+    ensures follows { Follows S.taken S.faults S.refused writer.new out.new }
+{
+    writer.put(b" ", out);
+    writer.put(move_name(by).as_bytes(), out);
+    writer.put(b" ", out);
+    writer.put_number(u64::from(row), out);
+}
+
+/// Appends ` into CALLEE` and the backs.
+fn put_into<S: Sink>(callee: u32, backs: &[(StateId, u32)], writer: &mut Writer<S>, out: &mut S)
+    requires follows { Follows S.taken S.faults S.refused writer.old out.old }
+    ensures text { writer.new.text ≡ writer.old.text ++ flat_map (λ word. 32 ∷ word) (codes "into" ∷ decimal callee ∷ map back_word (backs_of backs.now)) }
+    ensures begun { writer.new.begun ≡ writer.old.begun }
+    ensures follows { Follows S.taken S.faults S.refused writer.new out.new }
+{
+    writer.put(b" into ", out);
+    writer.put_number(u64::from(callee), out);
+    put_backs(backs, writer, out);
+}
+
+/// Appends ` EXIT=ROW` for each exit state.
+fn put_backs<S: Sink>(backs: &[(StateId, u32)], writer: &mut Writer<S>, out: &mut S)
+    requires follows { Follows S.taken S.faults S.refused writer.old out.old }
+    ensures text { writer.new.text ≡ writer.old.text ++ flat_map (λ word. 32 ∷ word) (map back_word (backs_of backs.now)) }
+    ensures begun { writer.new.begun ≡ writer.old.begun }
+    ensures follows { Follows S.taken S.faults S.refused writer.new out.new }
+{
+    for back in backs {
+        put_back(*back, writer, out);
+    }
+}
+
+/// Appends ` EXIT=ROW`.
+fn put_back<S: Sink>(back: (StateId, u32), writer: &mut Writer<S>, out: &mut S)
+    requires follows { Follows S.taken S.faults S.refused writer.old out.old }
+    ensures text { writer.new.text ≡ writer.old.text ++ (32 ∷ back_word (back.0.0, back.1)) }
+    ensures begun { writer.new.begun ≡ writer.old.begun }
+    ensures follows { Follows S.taken S.faults S.refused writer.new out.new }
+{
+    writer.put(b" ", out);
+    writer.put_number(u64::from(back.0.0), out);
+    writer.put(b"=", out);
+    writer.put_number(u64::from(back.1), out);
+}

@@ -1,0 +1,186 @@
+//! A row read from its line.
+
+ghost use Rattle.std.specs.Prelude.{◌≡◌, ◌≢◌, ℕ, ◌^◌, ◌<◌, ◌∷◌, [], List, map, option_map, IfOk, IfSome, IfNone};
+ghost use Rattle.std.specs.Fmt.{decimal};
+ghost use Rattle.cw_certs.specs.Strategies.{how_of, row_of};
+ghost use Rattle.cw_text.specs.Lines.{joined, set_text, IsSetIn, Reads};
+ghost use Rattle.cw_text.specs.Moves.{IsEnvironments};
+ghost use Rattle.cw_strategy_text.specs.StrategyText.{back_word, how_words, AreBacks, FitsHow};
+ghost use Rattle.cw_strategy_text.specs.Words.{backs_of, rest_words, row_text, FitsBack, FitsKind, FitsNamed, IsOf};
+ghost use Rattle.cw_strategy_text.specs.declared.kind.Kind.TheVariants as kind;
+
+use crate::kind::{Kind, kind_of};
+use cw_certs::{EnvRow, How, Move};
+use cw_core::{NoMemory, PosId, StateId, StateSet};
+use cw_text::Words;
+use std::alloc::Global;
+
+/// Where a row stands, under which number.
+#[derive(Drop)]
+struct Place {
+    number: u32,
+    pos: u32,
+    state: u16,
+    aim: StateSet,
+}
+
+/// The row that a line is, with its number, in a text of this format; none where it is none.
+pub(crate) fn read_row(
+    alloc: Global,
+    line: &[u8],
+    format: u8,
+) -> Result<Option<(u32, EnvRow)>, NoMemory>
+    ensures { IfOk result (λ read. Reads (FitsNamed format) (row_text format) line.now (option_map (λ named. (named.0, row_of named.1)) read)) }
+{
+    let mut words = Words::of(line, b' ');
+    let Some(place) = take_place(&mut words, format) else {
+        return Ok(None);
+    };
+    let Some(how) = read_how(alloc, &mut words)? else {
+        return Ok(None);
+    };
+    let row = EnvRow {
+        pos: PosId(place.pos),
+        state: StateId(place.state),
+        aim: place.aim,
+        how,
+    };
+    Ok(Some((place.number, row)))
+}
+
+/// Takes a row's number, position, state and aim.
+fn take_place(words: &mut Words, format: u8) -> Option<Place>
+    ensures some { IfSome result (λ place. words.old ≡ decimal place.number ∷ decimal place.pos ∷ decimal place.state ∷ set_text format place.aim ∷ words.new) }
+    ensures fits { IfSome result (λ place. IsSetIn format place.aim) }
+    ensures none { IfNone result ((number pos state aim : ℕ) (rest : List (List ℕ)) → number < 2 ^ 32 → pos < 2 ^ 32 → state < 2 ^ 16 → IsSetIn format aim
+        → words.old ≢ decimal number ∷ decimal pos ∷ decimal state ∷ set_text format aim ∷ rest) }
+{
+    let number = words.take_u32()?;
+    let pos = words.take_u32()?;
+    let state = words.take_u16()?;
+    let aim = words.take_set(format)?;
+    Some(Place {
+        number,
+        pos,
+        state,
+        aim,
+    })
+}
+
+/// What a row does, of the words that are left.
+fn read_how(alloc: Global, words: &mut Words) -> Result<Option<How>, NoMemory>
+    ensures { IfOk result (λ read. Reads FitsHow how_words words.old (option_map how_of read)) }
+{
+    let Some(word) = words.take() else {
+        return Ok(None);
+    };
+    let Some(kind) = kind_of(word) else {
+        return Ok(None);
+    };
+    read_as(alloc, kind, words)
+}
+
+/// What a row of this kind does, of the words after its first.
+fn read_as(alloc: Global, kind: Kind, words: &mut Words) -> Result<Option<How>, NoMemory>
+    requires named { FitsKind kind }
+    ensures { IfOk result (λ read. Reads (IsOf kind) rest_words words.old (option_map how_of read)) }
+{
+    match kind {
+        Kind::Bad => Ok(read_bad(words)),
+        Kind::Out => Ok(read_out(words)),
+        Kind::Both => Ok(read_both(words)),
+        Kind::Go(by) => Ok(read_go(by, words)),
+        Kind::Into => read_into(alloc, words),
+    }
+}
+
+fn read_bad(words: &Words) -> Option<How>
+    ensures { Reads (IsOf kind.Bad) rest_words words.now (option_map how_of result) }
+{
+    if words.is_done() {
+        Some(How::Bad)
+    } else {
+        None
+    }
+}
+
+fn read_out(words: &Words) -> Option<How>
+    ensures { Reads (IsOf kind.Out) rest_words words.now (option_map how_of result) }
+{
+    if words.is_done() {
+        Some(How::Out)
+    } else {
+        None
+    }
+}
+
+fn read_both(words: &mut Words) -> Option<How>
+    ensures { Reads (IsOf kind.Both) rest_words words.old (option_map how_of result) }
+{
+    let skip = words.take_u32()?;
+    let tried = words.take_u32()?;
+    if words.is_done() {
+        Some(How::Both { skip, tried })
+    } else {
+        None
+    }
+}
+
+fn read_go(by: Move, words: &mut Words) -> Option<How>
+    requires environments { IsEnvironments by }
+    ensures { Reads (IsOf (kind.Go by)) rest_words words.old (option_map how_of result) }
+{
+    let row = words.take_u32()?;
+    if words.is_done() {
+        Some(How::Go { by, row })
+    } else {
+        None
+    }
+}
+
+fn read_into(alloc: Global, words: &mut Words) -> Result<Option<How>, NoMemory>
+    ensures { IfOk result (λ read. Reads (IsOf kind.Into) rest_words words.old (option_map how_of read)) }
+{
+    let Some(callee) = words.take_u32() else {
+        return Ok(None);
+    };
+    let Some(backs) = read_backs(alloc, words)? else {
+        return Ok(None);
+    };
+    Ok(Some(How::Into { callee, backs }))
+}
+
+/// The backs that all words that are left are, ascending strictly by exit state.
+fn read_backs(alloc: Global, words: &mut Words) -> Result<Option<Vec<(StateId, u32)>>, NoMemory>
+    ensures { IfOk result (λ read. Reads (AreBacks 0) (map back_word) words.old (option_map (λ backs. backs_of backs.items) read)) }
+{
+    let mut backs = Vec::new(alloc);
+    let mut low: u32 = 0;
+    'backs: loop {
+        let Some(word) = words.take() else {
+            return Ok(Some(backs));
+        };
+        let Some((exit, row)) = read_back(word) else {
+            return Ok(None);
+        };
+        if u32::from(exit) < low {
+            return Ok(None);
+        }
+        backs.push((StateId(exit), row))?;
+        low = u32::from(exit) + 1;
+    }
+}
+
+/// The exit state and the row of a back.
+fn read_back(word: &[u8]) -> Option<(u16, u32)>
+    ensures { Reads FitsBack back_word word.now result }
+{
+    let mut parts = Words::of(word, b'=');
+    let exit = parts.take_u16()?;
+    let row = parts.take_u32()?;
+    if parts.is_done() {
+        Some((exit, row))
+    } else {
+        None
+    }
+}

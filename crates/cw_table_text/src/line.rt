@@ -1,0 +1,140 @@
+//! The line of a row.
+
+ghost use Rattle.std.specs.Prelude.{◌≡◌, ◌≢◌, ◌↔◌, ◌++◌, IfSome, IfNone, IsTrue, ℕ, List, codes, option_map};
+ghost use Rattle.cw_text.specs.Lines.{Reads};
+ghost use Rattle.cw_table_text.specs.Grammar.{Fits};
+ghost use Rattle.cw_table_text.specs.Rows.{row_words};
+ghost use Rattle.cw_table_text.specs.Working.{IsCalled, TakesNamed};
+
+use crate::fields::{
+    take_after, take_back, take_into, take_live, take_memory, take_opened, take_try,
+};
+use crate::row::Row;
+use cw_text::{Words, cut};
+
+/// The name before the first `(` of a line, and what stands between that and a `)` at its end.
+pub(crate) fn name_and_inner(line: &[u8]) -> Option<(&[u8], &[u8])>
+    ensures { IsCalled line.now (option_map (λ parts. (parts.0.now, parts.1.now)) result) }
+{
+    let (name, rest) = cut(line, b'(')?;
+    let (last, inner) = rest.split_last()?;
+    if *last != b')' {
+        return None;
+    }
+    Some((name, inner))
+}
+
+/// Whether two texts have the same bytes.
+pub(crate) fn is_same(text: &[u8], other: &[u8]) -> bool
+    ensures { IsTrue result ↔ (text.now ≡ other.now) }
+{
+    text == other
+}
+
+/// What follows a front of a text; none where the text has another front.
+pub(crate) fn behind<'t>(text: &'t [u8], front: &[u8]) -> Option<&'t [u8]>
+    ensures some { IfSome result (λ rest. text.now ≡ front.now ++ rest.now) }
+    ensures none { IfNone result ((rest : List ℕ) → text.now ≢ front.now ++ rest) }
+{
+    if text.len() < front.len() {
+        return None;
+    }
+    let (head, rest) = text.split_at(front.len());
+    if !is_same(head, front) {
+        return None;
+    }
+    Some(rest)
+}
+
+/// The row whose fields stand first among the words.
+fn take_row(name: &[u8], words: &mut Words, format: u8) -> Option<Row>
+    ensures { TakesNamed format name.now words.old words.new result }
+{
+    if name == b"CW_MEM".as_slice() {
+        return memory_row(words, format);
+    }
+    if name == b"CW_LIVE".as_slice() {
+        return live_row(words, format);
+    }
+    if name == b"CW_TRY".as_slice() {
+        return try_row(words, format);
+    }
+    if name == b"CW_AT".as_slice() {
+        return at_row(words, format);
+    }
+    if name == b"CW_OPENED".as_slice() {
+        return opened_row(words, format);
+    }
+    if name == b"CW_CLOSED".as_slice() {
+        return closed_row(words, format);
+    }
+    if name == b"CW_INTO".as_slice() {
+        return into_row(words, format);
+    }
+    if name == b"CW_BACK".as_slice() {
+        return back_row(words, format);
+    }
+    None
+}
+
+fn memory_row(words: &mut Words, format: u8) -> Option<Row>
+    ensures { TakesNamed format (codes "CW_MEM") words.old words.new result }
+{
+    let (number, memory) = take_memory(words, format)?;
+    Some(Row::Memory(number, memory))
+}
+
+fn live_row(words: &mut Words, _format: u8) -> Option<Row>
+    ensures { TakesNamed _format (codes "CW_LIVE") words.old words.new result }
+{
+    Some(Row::Live(take_live(words)?))
+}
+
+fn try_row(words: &mut Words, _format: u8) -> Option<Row>
+    ensures { TakesNamed _format (codes "CW_TRY") words.old words.new result }
+{
+    Some(Row::Try(take_try(words)?))
+}
+
+fn at_row(words: &mut Words, _format: u8) -> Option<Row>
+    ensures { TakesNamed _format (codes "CW_AT") words.old words.new result }
+{
+    Some(Row::At(take_after(words)?))
+}
+
+fn opened_row(words: &mut Words, _format: u8) -> Option<Row>
+    ensures { TakesNamed _format (codes "CW_OPENED") words.old words.new result }
+{
+    Some(Row::Opened(take_opened(words)?))
+}
+
+fn closed_row(words: &mut Words, _format: u8) -> Option<Row>
+    ensures { TakesNamed _format (codes "CW_CLOSED") words.old words.new result }
+{
+    Some(Row::Closed(take_after(words)?))
+}
+
+fn into_row(words: &mut Words, _format: u8) -> Option<Row>
+    ensures { TakesNamed _format (codes "CW_INTO") words.old words.new result }
+{
+    Some(Row::Into(take_into(words)?))
+}
+
+fn back_row(words: &mut Words, _format: u8) -> Option<Row>
+    ensures { TakesNamed _format (codes "CW_BACK") words.old words.new result }
+{
+    Some(Row::Back(take_back(words)?))
+}
+
+/// The row of a line; none where the line is that of no row.
+pub(crate) fn read_row(line: &[u8], format: u8) -> Option<Row>
+    ensures { Reads (Fits format) (row_words format) line.now result }
+{
+    let (name, inner) = name_and_inner(line)?;
+    let mut words = Words::of(inner, b',');
+    let row = take_row(name, &mut words, format)?;
+    if !words.is_done() {
+        return None;
+    }
+    Some(row)
+}

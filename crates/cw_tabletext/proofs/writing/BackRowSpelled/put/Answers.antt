@@ -1,7 +1,0 @@
--- The pieces of a line, one after another.
-use Rattle.cw_tabletext.proofs.Pieces.{five_fields}
-use Rattle.cw_tabletext.proofs.writing.BackRowSpelled.put.Goals as goal
-
-pub returns-clause-text : goal.returns-clause-text
-returns-clause-text g c = five_fields _ _ _ _ _ _ _ _ _ _ _ _ _ _ c.put_name.ensures.text c.put_field.ensures.text c.put_mode.ensures.text c.put_field-2.ensures.text (rw c.from.ensures at c.put_field-3.ensures.text) c.put_field-4.ensures.text
-    c.put.ensures.text

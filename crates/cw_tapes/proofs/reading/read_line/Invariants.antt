@@ -1,7 +1,0 @@
-use Rattle.std.proofs.Common.{length, take}
-use Rattle.cw_tapes.specs.Tapes.{words}
-use Rattle.cw_tapes.specs.Lines.{Adds}
-use Rattle.cw_tapes.proofs.reading.read_line.Given as goal
-
-abbrev pub invariant-loop-word : goal.invariant-loop-word
-invariant-loop-word l = Adds l.play (take (length l.yielded) (words l.line)) l.fn.moves.items l.moves.items

@@ -1,0 +1,119 @@
+-- Words without a mark.
+use Rattle.std.proofs.Common.{◌≡◌, ℕ, ◌^◌, ◌<◌, ◌&&◌, ◌||◌, Bool, true, false, cond, eqb, leb, List, [], ◌∷◌, ◌++◌, drop, refl, sym, ap, ◌∙◌, arith, subst}
+use Rattle.std.specs.Char.{is_ascii_digit}
+use Rattle.std.specs.Fmt.{decimal}
+use Rattle.std.specs.Int.{is_in_range}
+use Rattle.std.specs.List.{All, list_all, take_while}
+use Rattle.std.proofs.lemmas.List.Sums.{take_while-cons}
+use Rattle.std.proofs.lemmas.Bool.{false≢true, ne_eqb, eqb-false, le-leb, leb-true}
+use Rattle.std.proofs.lemmas.List.Elements.{All-nil, All-cons, All-head, All-tail, All-append}
+use Rattle.cw_core.specs.Numerals.{hexadecimal, hexadecimal_digits, is_hexadecimal_digit}
+use Rattle.cw_core.specs.Ranges.{set_spelling, is_spelling_byte}
+use Rattle.cw_core.specs.StateSet.{IsBelow}
+use Rattle.cw_core.proofs.SetTexts.{spelling_bytes}
+use Rattle.cw_core.proofs.Spellings.{decimal_has_digits, set_within}
+use Rattle.cw_text.specs.Lines.{IsFree, joined, set_text, IsSetIn}
+
+both_pass : (s t : Bool) → (s && t) ≡ true → (s ≡ true) × (t ≡ true)
+both_pass true t e = (refl, e)
+both_pass false t e = absurd (false≢true e)
+
+-- bytes that pass a test are free of a mark that doesn't
+pub free_from_test : (p : ℕ → Bool) (mark : ℕ) (bytes : List ℕ) → p mark ≡ false → list_all p bytes ≡ true → IsFree mark bytes
+free_from_test p mark [] differs all = All-nil (λ (b : ℕ). eqb b mark ≡ false)
+free_from_test p mark (b ∷ bytes) differs all = All-cons (λ (x : ℕ). eqb x mark ≡ false) b bytes
+    (ne_eqb b mark (λ e. false≢true (sym differs ∙ ap p (sym e) ∙ (both_pass (p b) (list_all p bytes) all).0)))
+    (free_from_test p mark bytes differs ((both_pass (p b) (list_all p bytes) all).1))
+
+-- two texts that begin with a line each, and are one text
+pub one_line : (mark : ℕ) (a b rest more : List ℕ) → IsFree mark a → IsFree mark b → a ++ (mark ∷ rest) ≡ b ++ (mark ∷ more) → (a ≡ b) × (rest ≡ more)
+one_line mark [] [] rest more f g e = (refl, ap tail_of e)
+  where
+    tail_of : List ℕ → List ℕ
+    tail_of [] = []
+    tail_of (x ∷ xs) = xs
+one_line mark [] (y ∷ b) rest more f g e = absurd (eqb-false y mark (All-head (λ (x : ℕ). eqb x mark ≡ false) y b g) (sym (ap (λ (t : List ℕ). first_of_bytes t) e)))
+  where
+    first_of_bytes : List ℕ → ℕ
+    first_of_bytes [] = 0
+    first_of_bytes (x ∷ xs) = x
+one_line mark (x ∷ a) [] rest more f g e = absurd (eqb-false x mark (All-head (λ (x : ℕ). eqb x mark ≡ false) x a f) (ap (λ (t : List ℕ). first_of_bytes t) e))
+  where
+    first_of_bytes : List ℕ → ℕ
+    first_of_bytes [] = 0
+    first_of_bytes (x ∷ xs) = x
+one_line mark (x ∷ a) (y ∷ b) rest more f g e =
+    let heads : x ≡ y = ap first_byte e in
+    let tails : a ++ (mark ∷ rest) ≡ b ++ (mark ∷ more) = ap other_bytes e in
+    let p = one_line mark a b rest more (All-tail (λ (z : ℕ). eqb z mark ≡ false) x a f) (All-tail (λ (z : ℕ). eqb z mark ≡ false) y b g) tails in
+    (rw (heads, p.0) refl, p.1)
+  where
+    first_byte : List ℕ → ℕ
+    first_byte [] = 0
+    first_byte (z ∷ zs) = z
+
+    other_bytes : List ℕ → List ℕ
+    other_bytes [] = []
+    other_bytes (z ∷ zs) = zs
+
+-- a text without LF begins with no line
+pub no_line : (mark : ℕ) (text a rest : List ℕ) → IsFree mark text → text ≡ a ++ (mark ∷ rest) → ⊥
+no_line mark text [] rest free e = eqb-false mark mark (All-head (λ (b : ℕ). eqb b mark ≡ false) mark rest (subst (IsFree mark) e free)) refl
+no_line mark text (x ∷ a) rest free e = no_line mark (a ++ (mark ∷ rest)) a rest (All-tail (λ (b : ℕ). eqb b mark ≡ false) x (a ++ (mark ∷ rest)) (subst (IsFree mark) e free)) refl
+
+pub decimal_free : (mark n : ℕ) → is_ascii_digit mark ≡ false → n < 2 ^ 64 → IsFree mark (decimal n)
+decimal_free mark n differs small = free_from_test is_ascii_digit mark (decimal n) differs (decimal_has_digits n small)
+
+letters : (b : ℕ) → is_hexadecimal_digit b ≡ true → is_spelling_byte b ≡ true
+letters b e = by_digit (is_ascii_digit b) refl
+  where
+    by_digit : (t : Bool) → is_ascii_digit b ≡ t → is_spelling_byte b ≡ true
+    by_digit true f = rw f refl
+    by_digit false f =
+        let letter : is_in_range 97 102 b ≡ true = rw f at e in
+        let q = both_pass (leb 97 b) (leb b 102) letter in
+        let low = leb-true 97 b q.0 in
+        let high = leb-true b 102 q.1 in
+        rw (f, le-leb 97 b low, le-leb b 122 (omega (arith, high))) (or_true (is_in_range 65 90 b))
+      where
+        or_true : (t : Bool) → ((t || true) || eqb b 43 || eqb b 45) ≡ true
+        or_true true = refl
+        or_true false = refl
+
+passing : (p : ℕ → Bool) (bytes : List ℕ) → list_all p (take_while p bytes) ≡ true
+passing p [] = refl
+passing p (b ∷ bytes) = rw (take_while-cons p b bytes) (by_test (take_while p bytes) (passing p bytes) (p b) refl)
+  where
+    by_test : (rest : List ℕ) → list_all p rest ≡ true → (t : Bool) → p b ≡ t → list_all p (cond t (b ∷ rest) []) ≡ true
+    by_test rest all true e = rw (e, all) refl
+    by_test rest all false e = refl
+
+digits_spell : (ds : List ℕ) → list_all is_hexadecimal_digit ds ≡ true → list_all is_spelling_byte ds ≡ true
+digits_spell [] all = refl
+digits_spell (d ∷ ds) all = let q = both_pass (is_hexadecimal_digit d) (list_all is_hexadecimal_digit ds) all in rw (letters d q.0, digits_spell ds q.1) refl
+
+mask_bytes : (set : ℕ) → IsBelow 1024 set → list_all is_spelling_byte (hexadecimal set) ≡ true
+unfolding hexadecimal
+mask_bytes set below =
+    let stands = set_within [] [] set below refl in
+    let digits : hexadecimal_digits set ≡ take_while is_hexadecimal_digit (hexadecimal_digits set ++ []) = ap (drop 2) stands.spelled in
+    digits_spell (hexadecimal_digits set) (rw (sym digits) at (passing is_hexadecimal_digit (hexadecimal_digits set ++ [])))
+
+-- a mark that is no digit, no letter, no `+` and no `-` isn't in the text of a set
+pub set_text_free : (mark format set : ℕ) → is_spelling_byte mark ≡ false → IsSetIn format set → IsFree mark (set_text format set)
+unfolding set_text
+set_text_free mark format set differs fits = by_format (eqb format 2) refl
+  where
+    by_format : (t : Bool) → eqb format 2 ≡ t → IsFree mark (set_text format set)
+    by_format true is = rw is (free_from_test is_spelling_byte mark (set_spelling set) differs (spelling_bytes set (rw is at fits)))
+    by_format false is =
+        let narrow : IsBelow 512 set = rw is at fits in
+        rw is (free_from_test is_spelling_byte mark (hexadecimal set) differs (mask_bytes set (λ s member. let p = narrow s member in omega (arith, p))))
+
+-- words without a byte, joined by another
+pub joined_free : (mark other : ℕ) → eqb mark other ≡ false → (words : List (List ℕ)) → All (IsFree other) words → IsFree other (joined mark words)
+joined_free mark other differs [] free = All-nil (λ (b : ℕ). eqb b other ≡ false)
+joined_free mark other differs (word ∷ []) free = All-head (IsFree other) word [] free
+joined_free mark other differs (word ∷ next ∷ words) free =
+    All-append (λ (b : ℕ). eqb b other ≡ false) word (mark ∷ joined mark (next ∷ words)) (All-head (IsFree other) word (next ∷ words) free)
+    (All-cons (λ (b : ℕ). eqb b other ≡ false) mark (joined mark (next ∷ words)) differs (joined_free mark other differs (next ∷ words) (All-tail (IsFree other) word (next ∷ words) free)))

@@ -1,0 +1,19 @@
+-- What lines are made of: words, a name with its fields, the end of a line.
+use Rattle.std.specs.Prelude.{ℕ, List, ◌++◌, codes}
+use Rattle.std.specs.List.{flat_map, join_by, enumerate_from}
+
+-- the words in a row, with a mark between each two
+abbrev pub joined : List ℕ → List (List ℕ) → List ℕ
+joined mark words = join_by (λ word. word) mark words
+
+-- a name with its fields: `NAME(A,B)`
+abbrev pub with_fields : List ℕ → List (List ℕ) → List ℕ
+with_fields name fields = name ++ codes "(" ++ joined (codes ",") fields ++ codes ")"
+
+-- a line ends with LF
+abbrev pub line : List ℕ → List ℕ
+line words = words ++ codes "\n"
+
+-- one line for each row, by the number of the row, from 0
+abbrev pub numbered : {A : Type 0} → (ℕ → A → List ℕ) → List A → List ℕ
+numbered line_of rows = flat_map (λ row. line_of row.0 row.1) (enumerate_from 0 rows)
