@@ -19,7 +19,7 @@ use Rattle.cw_game.specs.declared.spots.Spot.{Spot}
 use Rattle.cw_game.specs.declared.spots.Spot.TheVariants.{Visit, Asked, Step, Branch, Label, Open, Close, Call, SplitCall, Exit}
 use Rattle.cw_game.specs.Games.{Game}
 use Rattle.cw_game.specs.Conditions.{has_seam, has_stage, is_position, is_set, is_state}
-use Rattle.cw_game.proofs.Truths.{and_parts}
+use Rattle.std.proofs.lemmas.Bool.{and_parts}
 use Rattle.cw_positions.specs.Positions.{is_split, primitives_at}
 use Rattle.cw_positions.specs.Seams.{node_of, stages_at, stages_of}
 use Rattle.cw_positions.proofs.Lengths.{length_primitives}

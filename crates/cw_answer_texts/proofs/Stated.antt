@@ -18,7 +18,7 @@ use Rattle.cw_game.specs.declared.spots.Spot.TheVariants.{Visit, Asked, Step, Br
 use Rattle.cw_game.specs.Games.{Game, Config, leads_in, weavers_in}
 use Rattle.cw_game.specs.Closed.{HowOk}
 use Rattle.cw_game.specs.Conditions.{exits_by, fault_in, is_position, is_row, is_set, is_state, named_by, IsGoodStrategy}
-use Rattle.cw_game.proofs.Truths.{and_parts}
+use Rattle.std.proofs.lemmas.Bool.{and_parts}
 use Rattle.cw_game.proofs.Goods.{taken, rows_hold, parts, good_strategy_closed}
 use Rattle.cw_least_strategy.specs.Backs.{back_cmp, Ascends}
 use Rattle.cw_least_strategy.specs.Strategies.{backs_in}

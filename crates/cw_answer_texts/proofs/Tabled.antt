@@ -16,7 +16,7 @@ use Rattle.cw_certs.specs.Tables.{Table}
 use Rattle.cw_game.specs.Games.{Game}
 use Rattle.cw_game.specs.Conditions.{fault_at, in_range, ranges, is_header, is_state, is_set, is_position, is_memory, is_memory_if, is_seam, is_stage, IsGoodTable}
 use Rattle.cw_game.specs.Conditions.{is_mem_row, is_live_row, is_try_row, is_at_row, is_open_row, is_into_row, is_back_row, InMems, InLive, InTries, InAts, InOpened, InClosed, InInto, InBack}
-use Rattle.cw_game.proofs.Truths.{and_parts}
+use Rattle.std.proofs.lemmas.Bool.{and_parts}
 use Rattle.cw_game.proofs.Goods.{taken, none_first, all_in}
 use Rattle.cw_lazy_table.specs.Lazy.{table_rows}
 use Rattle.cw_product.specs.Product.{Held, game_of}

@@ -18,6 +18,7 @@ use Rattle.cw_callgraph.specs.Forbidding.{IsLeast, Forbids}
 use Rattle.cw_callgraph.specs.Barring.{place_at, barred, or_later, first_barred}
 use Rattle.cw_callgraph.specs.Tabled.{AreEffectsOf}
 use Rattle.cw_callgraph.specs.Fitting.{MayBeSplit, IsFirstForbidden}
+use Rattle.std.proofs.lemmas.Option.{slice_get-get_or as got}
 
 none_now : (o : Option ℕ) (i : ℕ) (later : Option (ℕ × ℕ)) → or_later o i later ≡ None → o ≡ None
 none_now None i later e = refl
@@ -30,11 +31,6 @@ none_later (Some p) i later e = let z : Some (i, p) ≡ None = e in absurd (cc)
 pub isnt_some : (o : Option ℕ) → ((n : ℕ) → o ≢ Some n) → o ≡ None
 isnt_some None h = refl
 isnt_some (Some n) h = absurd (h n refl)
-
-got : {A : Type 0} (xs : List A) (k : ℕ) (d : A) → k < length xs → slice_get xs k ≡ Some (get_or xs k d)
-got [] k d l = absurd (omega (arith, l))
-got (x ∷ xs) zero d l = refl
-got (x ∷ xs) (suc k) d l = got xs k d (omega (arith, l))
 
 -- the places of effects, where there are so many
 at_entry : (effects : List Effect) (f : ℕ) → f < length effects → (e : Effect) × (slice_get effects f ≡ Some e) × (e.forbids ≡ at (map (λ e. e.forbids) effects) f)

@@ -12,21 +12,12 @@ use Rattle.std.proofs.lemmas.Cmp.{nat_eq_equiv}
 use Rattle.cw_callgraph.specs.declared.found.Found.{Found}
 use Rattle.cw_callgraph.specs.Finding.{has, with_one, with_all, IsFound, Finds, AreBelow}
 use Rattle.cw_callgraph.specs.Effects.{firsts}
+use Rattle.cw_lemmas.proofs.Truths.{and_false, and_true, or_false}
+use Rattle.std.proofs.lemmas.Bool.{or_left, or_right}
 
 or_assoc : (a b c : Bool) → ((a || b) || c) ≡ (a || (b || c))
 or_assoc true b c = refl
 or_assoc false b c = refl
-
-or_false : (a : Bool) → (a || false) ≡ a
-or_false true = refl
-or_false false = refl
-
-pub or_left : (a b : Bool) → a ≡ true → (a || b) ≡ true
-or_left a b e = rw e refl
-
-pub or_right : (a b : Bool) → b ≡ true → (a || b) ≡ true
-or_right true b e = refl
-or_right false b e = e
 
 -- between tests and membership
 pub contained : (xs : List ℕ) (g : ℕ) → has xs g ≡ true → Contains xs g
@@ -89,14 +80,6 @@ both_filters p q r (x ∷ xs) h = by (p x) refl (q x) refl (both_filters p q r x
     by false e true f k = let z : r x ≡ false = h x ∙ ap₂ (λ a b. a && b) e f in rw f (rw e (rw z k))
     by true e false f k = let z : r x ≡ false = h x ∙ ap₂ (λ a b. a && b) e f in rw f (rw z k)
     by false e false f k = let z : r x ≡ false = h x ∙ ap₂ (λ a b. a && b) e f in rw f (rw z k)
-
-and_true : (a : Bool) → (a && true) ≡ a
-and_true true = refl
-and_true false = refl
-
-and_false : (a : Bool) → (a && false) ≡ false
-and_false true = refl
-and_false false = refl
 
 -- of what is outside, the number itself
 same_outside : (found : List ℕ) (g q : ℕ) → has found g ≡ true → outside found q ≡ (outside found q && not (nat_eq g q))

@@ -3,14 +3,7 @@ use Rattle.std.proofs.Common.{◌≡◌, ℕ, suc, ◌+◌, List, [], ◌∷◌,
 use Rattle.std.specs.Prelude.{find, slice_get}
 use Rattle.std.specs.List.{position_from}
 use Rattle.std.proofs.lemmas.Option.{same_Some}
-
-pub none_found : {X : Type 0} (t : X → Bool) (i : ℕ) (xs : List X) → position_from t i xs ≡ None → find t xs ≡ None
-none_found t i [] e = refl
-none_found t i (x ∷ xs) e = by (t x) refl e (none_found t (i + 1) xs)
-  where
-    by : (b : Bool) → t x ≡ b → cond b (Some i) (position_from t (i + 1) xs) ≡ None → (position_from t (i + 1) xs ≡ None → find t xs ≡ None) → find t (x ∷ xs) ≡ None
-    by true is e r = let z : Some i ≡ None = e in absurd (cc)
-    by false is e r = ap (λ b. cond b (Some x) (find t xs)) is ∙ r e
+use Rattle.cw_lemmas.proofs.Options.{position_none as none_found}
 
 -- what is found, where the places are counted from i
 pub record IsFoundAt {X : Type 0} (t : X → Bool) (i : ℕ) (xs : List X) (k : ℕ) : Type 0 where

@@ -11,6 +11,7 @@ use Rattle.cw_syntax.specs.Plans.{scene_of, plan_of}
 use Rattle.cw_callgraph.specs.Effects.{Reaches}
 use Rattle.cw_callgraph.specs.Forbidding.{IsLeast, Forbids, by_head, by_body, by_callee, places_of, head_places, body_places}
 use Rattle.cw_callgraph.specs.Lowest.{sooner, soonest, lowest, at, forbidden}
+use Rattle.cw_lemmas.proofs.Lists.{contains_none as not_in}
 
 either : {A B C : Type 0} → (A → C) → (B → C) → A ⊎ B → C
 either f g (inl a) = f a
@@ -32,9 +33,6 @@ both P Q (Some a) (Some b) h k = (
   lesser P Q a b h.0 k.0 (cases_lt a b),
   λ p. either (λ x. let l : a ≤ p = h.1 p x in omega (arith, l)) (λ y. let l : b ≤ p = k.1 p y in omega (arith, l)),
 )
-
-not_in : (g : ℕ) → Contains [] g → ⊥
-not_in g (k, l, e) = absurd (omega (arith, l))
 
 is_one : (x g : ℕ) → Contains (x ∷ []) g → x ≡ g
 is_one x g (zero, l, e) = e

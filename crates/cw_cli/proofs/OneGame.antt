@@ -31,6 +31,7 @@ use Rattle.cw_product.specs.Product.{Held, game_of, IsCause}
 use Rattle.cw_product.specs.Uses.{uses_of}
 use Rattle.cw_product.specs.Made.{IsMade}
 use Rattle.cw_cli.specs.Refuting.{IsGame}
+use Rattle.cw_lemmas.proofs.Numbers.{lt_not_le as never}
 
 -- ---- lists that ascend
 
@@ -92,9 +93,6 @@ parts_game policy parts ns main v = record {
   policy = policy;
   states = states_of v;
 }
-
-never : (a b : ℕ) → a < b → b ≤ a → ⊥
-never a b lt le = omega (arith, lt, le)
 
 -- two graphs that have the same points and parts
 pub record AreAlike (g k : Graph) : Type 0 where

@@ -8,7 +8,8 @@ use Rattle.clap.specs.Takes.{default_passes, takes}
 use Rattle.clap.specs.Faults.{entered_fault, fault_of, is_simple_and_free, level_fault}
 use Rattle.clap.proofs.TakesLemmas.{leaf_takes}
 use Rattle.cw_commands.specs.Lines.{line_app, word_rule}
-use Rattle.cw_commands.proofs.Fits.{and_true, level_ok}
+use Rattle.cw_commands.proofs.Fits.{level_ok}
+use Rattle.std.proofs.lemmas.Bool.{and_from as and_true}
 
 abbrev rules : ℕ → List Text → List Rule
 rules i places = filled_from i (map word_rule places)

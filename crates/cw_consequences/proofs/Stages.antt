@@ -35,9 +35,7 @@ use Rattle.cw_consequences.specs.Alike.{AreAlike, refused, refuted, woven}
 use Rattle.cw_consequences.proofs.Causes.{both_refused, first_refused, second_refused}
 use Rattle.cw_consequences.proofs.Fits.{fit_same, line_same, one_fit}
 use Rattle.cw_consequences.proofs.Outcomes.{Outcome, ManyCells, ManyRows, Woven, Refuted, Ends, Says, IsLike, ends, moved, one_outcome}
-
-apart : (a b : ℕ) → a < b → b ≤ a → ⊥
-apart a b lt le = omega (arith, lt, le)
+use Rattle.cw_lemmas.proofs.Numbers.{lt_not_le as apart}
 
 module _ (source : List ℕ) (x y : PlainPolicy) where
   -- the same refusal

@@ -6,11 +6,7 @@ use Rattle.std.proofs.Math.Bool.{or-true}
 use Rattle.std.proofs.lemmas.Bool.{leb-true, le-leb, lt-ltb, le-ltb, cases_lt}
 use Rattle.std.proofs.lemmas.Str.{digit_value_digit, digit_value-digit_char}
 use Rattle.cw_core.specs.Numerals.{is_hexadecimal_digit}
-
-pub both_from_and : (s t : Bool) → (s && t) ≡ true → (s ≡ true) × (t ≡ true)
-both_from_and true true e = (refl, refl)
-both_from_and true false e = absurd (cc)
-both_from_and false t e = absurd (cc)
+use Rattle.std.proofs.lemmas.Bool.{and_parts as both_from_and}
 
 -- the test of a range, and the range
 pub bounds : (lo hi b : ℕ) → is_in_range lo hi b ≡ true → (lo ≤ b) × (b ≤ hi)

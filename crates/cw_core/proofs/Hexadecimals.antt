@@ -12,7 +12,8 @@ use Rattle.std.proofs.lemmas.Nat.{div-mul-add, mod-mul-add, pow-add}
 use Rattle.std.proofs.lemmas.Str.{digit_value-digit_char}
 use Rattle.cw_core.specs.Numerals.{is_hexadecimal_digit, hexadecimal_digits}
 use Rattle.cw_core.specs.StateSet.{IsBelow}
-use Rattle.cw_core.proofs.Glyphs.{both_from_and, digit_value-lt, digit_char-digit_value, is_digit-digit_char, zero_from_char, char_from_zero}
+use Rattle.cw_core.proofs.Glyphs.{digit_value-lt, digit_char-digit_value, is_digit-digit_char, zero_from_char, char_from_zero}
+use Rattle.std.proofs.lemmas.Bool.{and_parts as both_from_and}
 use Rattle.cw_core.proofs.Sets.{IsBelow-lt}
 
 -- ---- all digits

@@ -11,7 +11,7 @@ use Rattle.std.proofs.lemmas.List.Folds.{list_all-append}
 use Rattle.cw_core.specs.Numerals.{hexadecimal, hexadecimal_digits, is_hexadecimal_digit}
 use Rattle.cw_core.specs.Ranges.{Run, run_text, runs_text, ranges, set_spelling, is_spelling_byte, IsSpellingAt, Ascend, IsIn}
 use Rattle.cw_core.specs.StateSet.{IsBelow}
-use Rattle.cw_core.proofs.Glyphs.{both_from_and}
+use Rattle.std.proofs.lemmas.Bool.{and_parts as both_from_and}
 use Rattle.cw_core.proofs.Hexadecimals.{length-hexadecimal_digits, hexadecimal_digits_are_digits}
 use Rattle.cw_core.proofs.Readings.{tail, runs_split, reads_first, run_up, run_below, run_spelled}
 use Rattle.cw_core.proofs.Runs.{runs_from, runs_ascend, runs_have_only, whole_runs}

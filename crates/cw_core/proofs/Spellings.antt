@@ -14,7 +14,7 @@ use Rattle.std.proofs.lemmas.Str.Parse.{digit_from_value}
 use Rattle.cw_core.specs.Numerals.{is_hexadecimal_digit, hexadecimal, hexadecimal_digits, IsDecimalAt, IsSetAt}
 use Rattle.cw_core.specs.StateSet.{IsBelow}
 use Rattle.cw_core.proofs.Decimals.{own}
-use Rattle.cw_core.proofs.Glyphs.{both_from_and}
+use Rattle.std.proofs.lemmas.Bool.{and_parts as both_from_and}
 use Rattle.cw_core.proofs.Hexadecimals.{hexadecimal_digits_are_digits, same_from_digits}
 use Rattle.cw_core.proofs.Texts.{mark_and_run, set_at, length-hexadecimal, hexadecimal-parts}
 

@@ -7,15 +7,7 @@ use Rattle.std.proofs.lemmas.List.Sums.{take_while-cons}
 use Rattle.cw_core.specs.Numerals.{is_hexadecimal_digit, hexadecimal, hexadecimal_digits, IsSetAt}
 use Rattle.cw_core.specs.StateSet.{IsBelow}
 use Rattle.cw_core.proofs.Hexadecimals.{same_from_digits}
-
--- the run of digits at the front has digits alone
-pub list_all-take_while : (p : ℕ → Bool) (bs : List ℕ) → list_all p (take_while p bs) ≡ true
-list_all-take_while p [] = refl
-list_all-take_while p (b ∷ bs) = rw (take_while-cons p b bs) (by_test (take_while p bs) (list_all-take_while p bs) (p b) refl)
-  where
-    by_test : (rest : List ℕ) → list_all p rest ≡ true → (t : Bool) → p b ≡ t → list_all p (cond t (b ∷ rest) []) ≡ true
-    by_test rest all true e = rw (e, all) refl
-    by_test rest all false e = refl
+use Rattle.cw_lemmas.proofs.Lists.{all_taken as list_all-take_while}
 
 -- the two bytes and the run of a spelling
 two_bytes : (p : ℕ → Bool) (bs ds : List ℕ) → codes "0x" ++ ds ≡ take 2 bs ++ take_while p (drop 2 bs) → (take 2 bs ≡ codes "0x") × (ds ≡ take_while p (drop 2 bs))

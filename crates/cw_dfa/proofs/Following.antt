@@ -18,10 +18,7 @@ use Rattle.cw_dfa.proofs.Sums.{or_assoc}
 use Rattle.cw_dfa.proofs.Linear.{goes_none, goes_apart, goes_united, ends_none, below, Marks, reads_masked, has_or}
 use Rattle.cw_dfa.proofs.Meeting.{ends_pow}
 use Rattle.cw_dfa.proofs.Picked.{picked_within}
-
-or_false : (a : Bool) → (a || false) ≡ a
-or_false true = refl
-or_false false = refl
+use Rattle.cw_lemmas.proofs.Truths.{or_false}
 
 -- what may stand first
 pub goes_start : (r : Tree) (k : ℕ) (e : Bool) → goes r k e 0 ≡ cond e (firsts r k) 0

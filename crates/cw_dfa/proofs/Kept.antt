@@ -10,7 +10,7 @@ use Rattle.std.proofs.lemmas.Nat.Bits.{bit_at-lt, same_from_bits}
 use Rattle.cw_rights.specs.declared.words.Letter.{Letter}
 use Rattle.cw_rights.specs.Words.{Word}
 use Rattle.cw_rights.specs.Policies.{PlainRule, Breaks}
-use Rattle.cw_fixpoint.proofs.Members.{contains_none, contains_one}
+use Rattle.cw_lemmas.proofs.Lists.{contains_none, contains_one}
 use Rattle.cw_dfa.specs.Kept.{KeepsRules}
 use Rattle.cw_dfa.specs.Positions.{IsSetOf}
 use Rattle.cw_dfa.specs.Sets.{has}

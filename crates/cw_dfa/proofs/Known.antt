@@ -5,7 +5,8 @@ use Rattle.cw_rights.specs.Trees.{Tree, nothing, never, one, seq, alt, star, plu
 use Rattle.cw_rights.specs.Words.{Word, Matches, fits}
 use Rattle.cw_dfa.specs.Positions.{Reads}
 use Rattle.cw_dfa.specs.Sets.{has, skips, ends, reads}
-use Rattle.cw_rights.proofs.Bools.{or_cases, or_left, or_right, and_left, and_right, and_both}
+use Rattle.std.proofs.lemmas.Bool.{or_cases, or_left, or_right, and_from as and_both}
+use Rattle.cw_lemmas.proofs.Truths.{and_first as and_left, and_second as and_right}
 use Rattle.cw_dfa.proofs.Bools.{has_or_cases, has_or_left, has_or_right, has_none, has_pow, has_pow_only}
 use Rattle.cw_rights.proofs.Pieces.{NotNil, nil_or_not, not_nil_right, not_nil, cut_again, cut_before, last_cut, plus_of, star_of, last_of}
 

@@ -10,14 +10,10 @@ use Rattle.cw_rights.specs.Trees.{Tree, nothing, never, one, seq, alt, star, plu
 use Rattle.cw_dfa.specs.Sets.{has, skips, ends, reads}
 use Rattle.cw_dfa.proofs.Sums.{or_zero}
 use Rattle.cw_dfa.specs.Tables.{goes, unite}
-use Rattle.cw_rights.proofs.Bools.{or_cases, or_left, or_right}
+use Rattle.std.proofs.lemmas.Bool.{or_cases, or_left, or_right}
 use Rattle.cw_dfa.proofs.Bools.{has_or_cases, has_or_left, has_or_right, has_none}
-
--- two truth values that say the same
-same_bool : (a b : Bool) → (a ≡ true → b ≡ true) → (b ≡ true → a ≡ true) → a ≡ b
-same_bool true b f g = sym (f refl)
-same_bool false true f g = g refl
-same_bool false false f g = refl
+use Rattle.cw_lemmas.proofs.Numbers.{zero_mul as zero_times}
+use Rattle.cw_lemmas.proofs.Truths.{truths_same as same_bool}
 
 pub has_or : (a b i : ℕ) → has (bit_or a b) i ≡ (has a i || has b i)
 has_or a b i = same_bool _ _ (λ e. ⊎_elim (λ x. or_left _ _ x) (λ x. or_right _ _ x) (has_or_cases a b i e))
@@ -113,9 +109,6 @@ and_or a b m = same_from_bits _ _ (λ i.
 
 zero_and : (m : ℕ) → 0 ≡ bit_and 0 m
 zero_and m = same_from_bits _ _ (λ i. let x = bit_at_and 0 m i in let y = bit_at-zero i in omega arith)
-
-zero_times : (n : ℕ) → 0 * n ≡ 0
-zero_times n = omega arith
 
 one_times : (n : ℕ) → 1 * n ≡ n
 one_times n = omega arith

@@ -11,7 +11,7 @@ use Rattle.cw_dfa.specs.Sets.{has}
 use Rattle.cw_dfa.specs.Tables.{goes, matching}
 use Rattle.cw_dfa.specs.Verdicts.{verdict}
 use Rattle.cw_dfa.specs.States.{AreMasks, unless_bad, after_mask, after_masks, steps}
-use Rattle.cw_fixpoint.proofs.Members.{contains_one}
+use Rattle.cw_lemmas.proofs.Lists.{contains_one}
 use Rattle.cw_dfa.proofs.Following.{next_masked}
 
 pub steps_masked : (rules : List PlainRule) (letters : List Letter) (set : ℕ) → filter_map (after_mask rules (goes (bad_of rules) 1 (has set 0) set))

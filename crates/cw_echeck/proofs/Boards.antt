@@ -16,7 +16,8 @@ use Rattle.cw_game.specs.Pairs.{is_call_in, is_exit_in}
 use Rattle.cw_game.specs.Standing.{Meaning, StandsOn, IsGameOf}
 use Rattle.cw_game.specs.Reached.{Reached}
 use Rattle.cw_game.proofs.Fronts.{Front, is_step, is_branch, is_label, is_open, is_close, is_call, is_end, front_of}
-use Rattle.cw_game.proofs.Link.{Stands, not_both, bad_violates, environments_turn, unanswered, board_moves, start_stands}
+use Rattle.cw_game.proofs.Link.{Stands, bad_violates, environments_turn, unanswered, board_moves, start_stands}
+use Rattle.cw_lemmas.proofs.Truths.{not_both}
 use Rattle.cw_game.proofs.Link.{state_within as state_below}
 
 -- At the position of a call stands a call, and at that of an exit an end.

@@ -19,7 +19,7 @@ use Rattle.cw_game.specs.Games.{Game, Config, bad_in, leads_in, weavers_in}
 use Rattle.cw_game.specs.Pairs.{Called, has, call_in, is_call_in, is_exit_in}
 use Rattle.cw_game.specs.Conditions.{RowFault, fault_in, first_failing, is_position, is_state, is_set, is_row, row_conditions, all_rows, is_start, strategy_fault, stands_after, enters, are_backs}
 use Rattle.cw_game.proofs.Failing.{first_mapped, append_none, append_some}
-use Rattle.cw_game.proofs.Truths.{and_parts, both}
+use Rattle.std.proofs.lemmas.Bool.{and_parts, and_from as both}
 use Rattle.cw_positions.specs.Closed.{LeadsWithin}
 use Rattle.cw_product.specs.declared.turn.Turn.{Turn}
 use Rattle.cw_product.specs.declared.turn.Turn.TheVariants as turn

@@ -26,6 +26,7 @@ use Rattle.cw_game.proofs.Reached.{are_reached}
 use Rattle.cw_echeck.specs.Beating.{IsStartRow}
 use Rattle.cw_echeck.proofs.LastLetters.{LetterTest, bad_words, is_bad, AreOfTests, bad_last, last_bad}
 use Rattle.cw_echeck.proofs.Laws.{good_starts, good_beat, good_lose}
+use Rattle.std.proofs.lemmas.Bool.{and_parts as parts}
 
 abbrev tests : List LetterTest
 tests = record { label = 0; wanted = true } ∷ []
@@ -135,10 +136,6 @@ abbrev called : Spot → ℕ
 called (CallSpot j f n) = f
 called (SplitCall j f n) = f
 called _ = 1
-
-parts : (a b : Bool) → (a && b) ≡ true → (a ≡ true) × (b ≡ true)
-parts true b h = (refl, h)
-parts false b h = cc
 
 each_called : (list : List Spot) → list_all (λ s. nat_eq (called s) 1) list ≡ true → (p : ℕ) (s : Spot) → slice_get list p ≡ Some s → called s ≡ 1
 each_called [] h p s e = absurd (none-some s e)

@@ -13,8 +13,10 @@ use Rattle.cw_core.specs.StateSet.{has as has_in, IsSubset, IsBelow}
 use Rattle.cw_core.proofs.Sets.{IsBelow-lt, IsBelow_from_lt}
 use Rattle.cw_certs.specs.Strategies.{back_of}
 use Rattle.cw_game.specs.Pairs.{has}
-use Rattle.cw_game.proofs.Truths.{and_parts, both, or_parts, is_false}
+use Rattle.cw_game.proofs.Truths.{or_parts}
+use Rattle.std.proofs.lemmas.Bool.{and_parts, and_from as both, not-true as is_false}
 use Rattle.cw_echeck.specs.Checks.{backs_of, is_for}
+use Rattle.cw_lemmas.proofs.Lists.{all_range}
 
 -- members as the program's sets and as the game tell them
 pub has_is : (set s : ℕ) → has_in set s ≡ has set s
@@ -55,14 +57,6 @@ below_is set all none n t below empty rest told = ltb_from_iff (forth, back)
 
     back : set < 2 ^ n → t ≡ true
     back l = told.1 (λ s h. in_rest all none (min n 1024) s rest (le-min (IsBelow_from_lt n set l s h) (below s h)) (sym (has_is none s) ∙ empty s))
-
--- a test of each number of a range
-all_range : (test : ℕ → Bool) (a n : ℕ) → list_all test (range_with_len a n) ≡ true → (x : ℕ) → a ≤ x → x < a + n → test x ≡ true
-all_range test a zero h x le lt = absurd (omega (arith, le, lt))
-all_range test a (suc n) h x le lt = by (nat_eq a x) refl (all_range test (a + 1) n k.1 x)
-  where
-    k : (test a ≡ true) × (list_all test (range_with_len (a + 1) n) ≡ true)
-    k = and_parts (test a) (list_all test (range_with_len (a + 1) n)) h
 
     by : (b : Bool) → nat_eq a x ≡ b → (a + 1 ≤ x → x < a + 1 + n → test x ≡ true) → test x ≡ true
     by true e rec = ap test (sym (eqb-true a x e)) ∙ k.0

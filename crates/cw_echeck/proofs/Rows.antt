@@ -17,21 +17,10 @@ use Rattle.cw_game.specs.Closed.{CallsIn, HowOk, IsClosedStrategy}
 use Rattle.cw_game.specs.Standing.{IsGameOf}
 use Rattle.cw_echeck.proofs.Boards.{problem_in, Rests, moves_to, state_within, starts}
 use Rattle.cw_syntax.specs.Plans.{Plan}
-use Rattle.cw_game.proofs.Link.{not_both}
+use Rattle.cw_lemmas.proofs.Truths.{not_both}
 use Rattle.cw_echeck.proofs.Leads.{empty, local_over, calls_to, weavers_to}
-
-fails_left : (a b : Bool) → a ≡ false → (a && b) ≡ false
-fails_left a b e = ap (λ y. y && b) e
-
-fails_right : (a b : Bool) → b ≡ false → (a && b) ≡ false
-fails_right true b e = e
-fails_right false b e = refl
-
-fails_both : (a b : Bool) → a ≡ false → b ≡ false → (a || b) ≡ false
-fails_both a b e f = ap₂ (λ y z. y || z) e f
-
-fails_where : (can b : Bool) → can ≡ true → b ≡ false → (not can || b) ≡ false
-fails_where can b e f = fails_both (not can) b (ap not e) f
+use Rattle.cw_lemmas.proofs.Truths.{not_or as fails_where}
+use Rattle.std.proofs.lemmas.Bool.{and_left as fails_left, and_right as fails_right, or_from as fails_both}
 
 module _ (g : Game) (h : ℕ → ℕ → Promise → Bool) where
   bad_lost : (p q : ℕ) (e : Promise) (spot : Option Spot) → bad_in g q spot ≡ true → holds_in g h p q e spot ≡ false

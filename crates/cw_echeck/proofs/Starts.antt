@@ -7,15 +7,10 @@ use Rattle.cw_certs.specs.Strategies.{How, Row, Strategy}
 use Rattle.cw_game.specs.Games.{Game}
 use Rattle.cw_game.specs.Conditions.{is_start, IsGoodStrategy}
 use Rattle.cw_game.proofs.Goods.{good_strategy_starts}
-use Rattle.cw_game.proofs.Link.{not_both}
+use Rattle.cw_lemmas.proofs.Truths.{not_both}
 use Rattle.cw_echeck.specs.Beating.{IsStartRow}
-
-both_true : (a b : Bool) → (a && b) ≡ true → (a ≡ true) × (b ≡ true)
-both_true true b h = (refl, h)
-both_true false b h = cc
-
-same_number : (n : ℕ) → nat_eq n n ≡ true
-same_number n = grind (arith, nat_tests)
+use Rattle.cw_lemmas.proofs.Numbers.{nat_eq_self as same_number}
+use Rattle.std.proofs.lemmas.Bool.{and_parts as both_true}
 
 module _ (g : Game) where
   abbrev Start : How → Row

@@ -12,7 +12,7 @@ use Rattle.cw_game.specs.Pairs.{has, IsAt, is_exit_in}
 use Rattle.cw_game.specs.Closed.{HowOk, IsClosedStrategy}
 use Rattle.cw_game.specs.Standing.{IsGameOf}
 use Rattle.cw_syntax.specs.Plans.{Plan}
-use Rattle.cw_game.proofs.Link.{not_both}
+use Rattle.cw_lemmas.proofs.Truths.{not_both}
 use Rattle.cw_echeck.proofs.Leads.{empty, local_over, calls_to, weavers_to}
 use Rattle.cw_echeck.proofs.Boards.{problem_in, Rests, violates, moves_to, environments, at_call, at_end, state_within, starts}
 

@@ -13,7 +13,8 @@ use Rattle.cw_emit.specs.Cut.{opening, part}
 use Rattle.cw_emit.specs.Woven.{spelled, placed, woven_from, woven, prologue, ArePlainNames, StandsPlainly}
 use Rattle.cw_syntax.specs.PlainMarks.{ArePlainMarks}
 use Rattle.cw_emit.proofs.Slashes.{plain_spelled, plain_lines}
-use Rattle.cw_emit.proofs.Openings.{is_free, free_from_none, free_drop, free_take, no_opening, starts_again}
+use Rattle.cw_emit.proofs.Openings.{is_free, free_from_none, free_drop, free_take, no_opening}
+use Rattle.cw_lemmas.proofs.Texts.{starts_front as starts_again}
 use Rattle.cw_emit.proofs.Cutting.{others_plain, same_part, source_is_one}
 
 free_tail : (b : ℕ) (bs : List ℕ) → is_free (b ∷ bs) ≡ true → is_free bs ≡ true

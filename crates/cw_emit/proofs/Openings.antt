@@ -7,6 +7,7 @@ use Rattle.std.proofs.lemmas.List.{take-append-drop}
 use Rattle.cw_emit.specs.Cut.{opening, closing, cut_from, part}
 use Rattle.cw_syntax.specs.PlainMarks.{HasNone}
 use Rattle.cw_emit.proofs.Slashes.{is_plain}
+use Rattle.cw_lemmas.proofs.Texts.{starts_front as starts_again, starts_is}
 
 -- no `cw{*` stands in the bytes
 abbrev pub is_free : List ℕ → Bool
@@ -49,20 +50,6 @@ part_cut spelling rest plain =
 abbrev pub Slash : List ℕ → Type 0
 Slash [] = Unit {0}
 Slash (b ∷ bs) = b ≡ 47
-
--- what begins with a word is the word and the rest
-starts_is : (t w : List ℕ) → starts_with nat_eq t w ≡ true → t ≡ w ++ drop (length w) t
-starts_is t [] e = refl
-starts_is [] (x ∷ w) e = absurd cc
-starts_is (b ∷ t) (x ∷ w) e =
-    let p = and_parts (eqb x b) (starts_with nat_eq t w) e in
-    let first : x ≡ b = eqb-true x b p.0 in
-    let others : t ≡ w ++ drop (length w) t = starts_is t w p.1 in
-    cc
-
-pub starts_again : (w t : List ℕ) → starts_with nat_eq (w ++ t) w ≡ true
-starts_again [] t = refl
-starts_again (x ∷ w) t = rw (eq-eqb x x refl) (starts_again w t)
 
 apart : (rest t : List ℕ) (k : ℕ) → Slash rest → rest ≡ k ∷ t → (k ≡ 47 → ⊥) → ⊥
 apart [] t k slash e ne = absurd cc

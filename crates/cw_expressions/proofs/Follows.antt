@@ -17,10 +17,8 @@ use Rattle.cw_expressions.specs.Cursor.{begins}
 use Rattle.cw_expressions.specs.TypeReading.{starts_type}
 use Rattle.cw_expressions.specs.Next.{ends}
 use Rattle.cw_expressions.specs.Reading.{begins_cast, next_of, goes_on_at, is_suffixed}
-
-pub is_false : (b : Bool) → (b ≡ true → ⊥) → b ≡ false
-is_false true h = absurd (h refl)
-is_false false h = refl
+use Rattle.cw_lemmas.proofs.Truths.{and_false}
+use Rattle.std.proofs.lemmas.Bool.{false_from_ne_true as is_false}
 
 -- a word that a test takes isn't one that it refuses
 pub differs : (f : Word → Bool) (a b : Word) → is_plain b ≡ true → f a ≡ true → f b ≡ false → same a b ≡ false
@@ -284,10 +282,6 @@ derived_some n rule ts e h = starts_some starts_expression ts (derived_starts n 
 no_open : (o : Lexeme) (ts : List Lexeme) → same o.word w.Open ≡ false → begins_cast (o ∷ ts) ≡ false
 no_open o [] e = refl
 no_open o (t ∷ ts) e = rw e refl
-
-and_false : (b : Bool) → (b && false) ≡ false
-and_false true = refl
-and_false false = refl
 
 inner_first : (o : Lexeme) (ts rest : List Lexeme) → Starts starts_expression ts → begins_cast (o ∷ ts ++ rest) ≡ false
 inner_first o [] rest h = absurd h

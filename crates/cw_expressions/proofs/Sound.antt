@@ -27,6 +27,7 @@ use Rattle.cw_expressions.proofs.Steps.{if_bind, if_cond, known_is, first_takes,
 use Rattle.cw_expressions.proofs.Repeat.{repeat_keeps}
 use Rattle.cw_expressions.proofs.TypesSound.{type_between_takes}
 use Rattle.cw_expressions.proofs.Deeper.{separated_weaker, derived_deeper, postfix_unary, unary_operand, level_above, loosest_expression}
+use Rattle.cw_lemmas.proofs.Numbers.{add_one as one_deeper}
 
 -- A front of the tokens derives what was read by this rule, with at most this nesting.
 pub record IsRead (n : ℕ) (rule : Rule) (ts : List Lexeme) (x : Got) : Type 0 where
@@ -38,9 +39,6 @@ pub record IsRead (n : ℕ) (rule : Rule) (ts : List Lexeme) (x : Got) : Type 0 
   pub to : x.to ≡ to_of front
   pub derived : IsDerived x.depth rule front x.tree
   pub unary : x.unary ≡ true → IsDerived x.depth Unary front x.tree
-
-one_deeper : (d : ℕ) → d + 1 ≡ suc d
-one_deeper d = omega arith
 
 -- read by one rule, and so by another
 pub read_as : (n : ℕ) (rule wider : Rule) (ts : List Lexeme) (x : Got) → ((front : List Lexeme) → IsDerived x.depth rule front x.tree → IsDerived x.depth wider front x.tree)

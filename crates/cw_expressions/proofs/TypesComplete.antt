@@ -15,7 +15,8 @@ use Rattle.cw_expressions.specs.Cursor.{begins}
 use Rattle.cw_expressions.specs.TypeReading.{starts_type, skip, Based, based, unsigned_base, base_of, stars_of, type_name, type_between}
 use Rattle.cw_expressions.specs.Reading.{begins_cast}
 use Rattle.cw_expressions.proofs.Steps.{expect_again, begins_again, to_of_append}
-use Rattle.cw_expressions.proofs.Follows.{is_false, Starts, starts_append, starts_never}
+use Rattle.cw_expressions.proofs.Follows.{Starts, starts_append, starts_never}
+use Rattle.std.proofs.lemmas.Bool.{false_from_ne_true as is_false}
 
 -- whether the next word is such a one
 abbrev pub next_is : (Word → Bool) → List Lexeme → Bool

@@ -13,7 +13,7 @@ use Rattle.std.proofs.lemmas.List.Elements.{Contains-push, Contains-push_cases, 
 use Rattle.std.proofs.lemmas.List.Elements.{All-contains, All-contains_itself, All-weaker, recursion_from_All}
 use Rattle.cw_fixpoint.specs.Closures.{Reached, first, then, Exactly, HasMore}
 use Rattle.cw_fixpoint.proofs.Keys.{inserted_old, inserted_new, inserted_from}
-use Rattle.cw_fixpoint.proofs.Members.{contains_none, contains_one}
+use Rattle.cw_lemmas.proofs.Lists.{contains_none, contains_one}
 use Rattle.cw_fixpoint.proofs.Reach.{kept}
 use Rattle.cw_fixpoint.specs.Descents.{Joins}
 

@@ -9,7 +9,7 @@ use Rattle.std.proofs.lemmas.Cmp.{tied_itself}
 use Rattle.std.proofs.lemmas.Option.{same_Some}
 use Rattle.std.proofs.lemmas.List.Elements.{Contains-push, Contains-push_cases, Contains-append_left}
 use Rattle.cw_fixpoint.specs.Working.{PutsIn}
-use Rattle.cw_fixpoint.proofs.Keys.{at_equal}
+use Rattle.cw_lemmas.proofs.Orders.{is_eq_equal as at_equal}
 
 differ : true ≡ false → ⊥
 differ e = cc

@@ -11,17 +11,9 @@ use Rattle.std.specs.BTreeSet.{BTreeSet, contains, Updates, IsOrdered}
 use Rattle.std.proofs.lemmas.Map.Views.{btree_set_contains_iff}
 use Rattle.std.proofs.lemmas.List.Elements.{Contains-push, Contains-push_cases, Contains-append_left, Contains-append_right, Contains-append_cases}
 use Rattle.cw_fixpoint.specs.Seen.{SeenIs, Adds}
-use Rattle.cw_fixpoint.proofs.Members.{contains_none, contains_one}
-
--- what a set has after an insert
-cond_true : (b c : Bool) → c ≡ true → cond b true c ≡ true
-cond_true true c e = refl
-cond_true false c e = e
-
-pub at_equal : (o : Ordering) → is_eq o ≡ true → o ≡ Equal
-at_equal Less e = cc
-at_equal Equal e = refl
-at_equal Greater e = cc
+use Rattle.cw_lemmas.proofs.Lists.{contains_none, contains_one}
+use Rattle.cw_lemmas.proofs.Orders.{is_eq_equal as at_equal}
+use Rattle.cw_lemmas.proofs.Truths.{cond_true}
 
 module _ {K : Type 0} (cmp : K → K → Ordering) (total : IsTotalOrder cmp) (exact : IsAntisymmetric cmp) (s n : BTreeSet K) (k : K) (u : Updates cmp s n k true) where
   pub inserted_old : (q : K) → Contains s.keys q → Contains n.keys q

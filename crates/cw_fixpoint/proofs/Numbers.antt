@@ -14,22 +14,12 @@ use Rattle.std.proofs.lemmas.Map.Keys.{Less-from_sorted}
 use Rattle.std.proofs.lemmas.List.Sorted.{searchable_from_sorted}
 use Rattle.std.proofs.lemmas.Option.{slice_get-get_or, slice_get_within, get_or_from_slice_get}
 use Rattle.cw_fixpoint.specs.Numbers.{number_in}
-
-at_equal : (o : Ordering) → is_eq o ≡ true → o ≡ Equal
-at_equal Less e = cc
-at_equal Equal e = refl
-at_equal Greater e = cc
+use Rattle.cw_lemmas.proofs.Orders.{is_eq_equal as at_equal, then_equal as both_equal}
 
 not_less : (r s : Ordering) → s ≡ ordering_reverse r → r ≡ Less → is_lt s ≡ false
 not_less Less s e f = ap is_lt e
 not_less Equal s e f = cc
 not_less Greater s e f = cc
-
--- two keys of which the second tells where the first ties
-pub both_equal : (a b : Ordering) → ordering_then a b ≡ Equal → (a ≡ Equal) × (b ≡ Equal)
-both_equal Less b e = cc
-both_equal Equal b e = (refl, e)
-both_equal Greater b e = cc
 
 module _ {A : Type 0} (cmp : A → A → Ordering) (total : IsTotalOrder cmp) where
   -- of two items one can't be both before and after the other

@@ -5,11 +5,7 @@ use Rattle.std.specs.declared.cmp.Ordering.{Ordering}
 use Rattle.std.specs.declared.cmp.Ordering.TheVariants.{Less, Equal, Greater}
 use Rattle.std.specs.Ordering.{ordering_then}
 use Rattle.cw_fixpoint.specs.Members.{pair_cmp}
-
-then_equal : (a b : Ordering) → ordering_then a b ≡ Equal → (a ≡ Equal) × (b ≡ Equal)
-then_equal Less b e = cc
-then_equal Equal b e = (refl, e)
-then_equal Greater b e = cc
+use Rattle.cw_lemmas.proofs.Orders.{then_equal}
 
 -- pairs that compare as equal are identical
 pub pair_exact : {K : Type 0} (cmp : K → K → Ordering) → IsAntisymmetric cmp → IsAntisymmetric (pair_cmp cmp)

@@ -11,7 +11,9 @@ use Rattle.cw_fixpoint.specs.Closures.{Exactly}
 use Rattle.cw_fixpoint.specs.Seen.{SeenIs, Adds}
 use Rattle.cw_fixpoint.specs.Members.{Rules, IsMember, first, then, joins, AreMet, IsPair, pair_cmp, HaveMore}
 use Rattle.cw_fixpoint.specs.Working.{PutsIn, held_if, met_by, join_of, Below, Reached}
-use Rattle.cw_fixpoint.proofs.Members.{contains_none, contains_one, contains_first}
+use Rattle.cw_fixpoint.proofs.Members.{contains_first}
+use Rattle.cw_lemmas.proofs.Lists.{contains_none, contains_one}
+use Rattle.cw_lemmas.proofs.Lists.{contains_map}
 
 -- elements of a mapped list
 abbrev pub In : {A : Type 0} → List A → A → Type 0
@@ -36,9 +38,6 @@ map_of : {A B : Type 0} (f : A → B) (xs : List A) (y : B) → In (map f xs) y 
 map_of f [] y n = absurd n
 map_of f (x ∷ xs) y (inl i) = (x, inl refl, sym i)
 map_of f (x ∷ xs) y (inr n) = let z = map_of f xs y n in (z.0, inr z.1, z.2)
-
-pub contains_map : {A B : Type 0} (f : A → B) (xs : List A) (x : A) → Contains xs x → Contains (map f xs) (f x)
-contains_map f xs x c = of_in (map f xs) (f x) (map_in f xs x (in_of xs x c))
 
 pub contains_mapped : {A B : Type 0} (f : A → B) (xs : List A) (y : B) → Contains (map f xs) y → (x : A) × Contains xs x × (y ≡ f x)
 contains_mapped f xs y c = let z = map_of f xs y (in_of (map f xs) y c) in (z.0, of_in xs z.0 z.1, z.2)

@@ -19,6 +19,7 @@ use Rattle.cw_game.specs.declared.spots.Spot.TheVariants.{Step, Branch, Exit, La
 use Rattle.cw_game.specs.Places.{Visits, CallsAt, AtIn, At}
 use Rattle.cw_game.specs.Standing.{settled, FreeAt, IsSplitCall, Within, Stage}
 use Rattle.cw_game.proofs.Places.{at_broken, at_continued, at_ended, at_body}
+use Rattle.cw_lemmas.proofs.Lists.{contains_none as none_in}
 
 -- Nothing is left to rewrite at the front.
 settled_init : (init : Option ℕ) (at : ℕ) (decided stepped : Bool) (s : Stm) (rest : Frame) → settled (init_if init (Test at decided stepped s ∷ rest)) ≡ true
@@ -90,9 +91,6 @@ among_all pol is_split a h =
     let limits = map (λ (limit : ALimit). Limit limit) pol.limits in
     ⊎_elim (λ l. Contains-append_left limits (Enter ∷ (Split ∷ [])) a l) (λ r. Contains-append_right limits (Enter ∷ (Split ∷ [])) a (with_split a is_split r))
     (Contains-append_cases limits (Enter ∷ cond is_split (Split ∷ []) []) a h)
-
-none_in : {A : Type 0} (a : A) → Contains [] a → ⊥
-none_in a h = absurd (omega (arith, h.1))
 
 -- each is one of the policy's
 pub in_policy : (pol : PlainPolicy) (frame : Frame) (a : Primitive) → Contains (primitives_in pol frame) a → Contains (primitives pol true) a

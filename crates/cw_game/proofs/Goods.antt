@@ -30,7 +30,9 @@ use Rattle.cw_game.specs.Conditions.{back_by, returns_by, all_return, promise_of
 use Rattle.cw_game.specs.Conditions.{live_by, live_conditions, live_rows, is_header, IsGoodTable, named_by, is_row, is_exit, is_row_at, stands_after, enters, is_back, are_backs}
 use Rattle.cw_game.specs.Conditions.{is_violated, ends_well, weaver_moves, environment_moves, callee_stands, backs_stand, row_conditions, fault_in, all_rows, is_start, IsGoodStrategy}
 use Rattle.cw_game.specs.Conditions.{is_mem_row, is_try_row, is_at_row, is_open_row, is_into_row, is_back_row, InMems, InLive, InTries, InAts, InOpened, InClosed, InInto, InBack, Part}
-use Rattle.cw_game.proofs.Truths.{and_parts, both, or_parts, not_true, neither, is_false}
+use Rattle.cw_game.proofs.Truths.{or_parts, not_true, neither}
+use Rattle.std.proofs.lemmas.Bool.{and_parts, and_from as both, not-true as is_false}
+use Rattle.cw_lemmas.proofs.Lists.{all_range, any_get as any_at}
 
 -- Where no condition fails each holds.
 pub taken : {A : Type 0} (b : Bool) (rest : Option A) (a : A) → cond b rest (Some a) ≡ None → (b ≡ true) × (rest ≡ None)
@@ -230,28 +232,12 @@ module _ (g : Game) (t : Table) where
       let b = taken (begins g t) _ (fault_at InLive 0 2) r.1 in
       both (begins g t) (rows_ok g t t.live) b.0 (rows_good 0 t.live (live_in_range r.0) b.1)
 
-all_range : (test : ℕ → Bool) (a n : ℕ) → list_all test (range_with_len a n) ≡ true → (x : ℕ) → a ≤ x → x < a + n → test x ≡ true
-all_range test a zero h x le lt = absurd (omega (arith, le, lt))
-all_range test a (suc n) h x le lt = by (nat_eq a x) refl (all_range test (a + 1) n k.1 x)
-  where
-    k : (test a ≡ true) × (list_all test (range_with_len (a + 1) n) ≡ true)
-    k = and_parts (test a) (list_all test (range_with_len (a + 1) n)) h
-
     by : (b : Bool) → nat_eq a x ≡ b → (a + 1 ≤ x → x < a + 1 + n → test x ≡ true) → test x ≡ true
     by true e rec = ap test (sym (eqb-true a x e)) ∙ k.0
     by false e rec =
         let ne : a ≡ x → ⊥ = λ y. let w : true ≡ false = sym (eq-eqb a x y) ∙ e in cc in
         let past : a + 1 ≤ x = omega (arith, le, ne) in
         rec past (omega (arith, lt))
-
-any_at : {A : Type 0} (test : A → Bool) (xs : List A) → list_any test xs ≡ true → (i : ℕ) × (x : A) × (slice_get xs i ≡ Some x) × (test x ≡ true)
-any_at test [] h = cc
-any_at {A} test (y ∷ ys) h = by (test y) refl h (any_at test ys)
-  where
-    by : (b : Bool) → test y ≡ b → (b || list_any test ys) ≡ true → (list_any test ys ≡ true → (i : ℕ) × (x : A) × (slice_get ys i ≡ Some x) × (test x ≡ true))
-        → (i : ℕ) × (x : A) × (slice_get (y ∷ ys) i ≡ Some x) × (test x ≡ true)
-    by true e h rec = (0, y, refl, e)
-    by false e h rec = let z = rec h in (suc z.0, z.1, z.2, z.3)
 
 module _ (g : Game) (s : Strategy) where
   stands_at : (row p q e : ℕ) (r : Row) → slice_get s.rows row ≡ Some r → (nat_eq r.pos p && (nat_eq r.state q && nat_eq r.aim e)) ≡ true → IsAt s row p q e

@@ -26,6 +26,7 @@ use Rattle.cw_game.specs.Pairs.{call_spot, kept_at}
 use Rattle.cw_game.specs.Standing.{Meaning, Stage, Resumes, Under, StandsIn, StandsOn}
 use Rattle.cw_game.proofs.Fronts.{next_stage, IsQuiet, Front, is_step, is_branch, is_label, is_open, is_close, is_call, is_end, front_of}
 use Rattle.cw_game.proofs.Stands.{mode_of, mode_kept, no_letter, stage_at, lands_at, refused_at, grants_is, refuses_is, stops_is, granted_at, given_is, enters_at}
+use Rattle.cw_lemmas.proofs.Truths.{not_both}
 
 -- the board stands at the configuration, and isn't in Refused
 abbrev pub Stands : Meaning → Game → Board → Config → Type 0
@@ -45,10 +46,6 @@ board_in stack kept caps word phase = record { stack = stack; kept = kept; caps 
 abbrev pub party_of : Bool → Party
 party_of true = Weaver
 party_of false = Environment
-
-pub not_both : (b : Bool) → b ≡ true → b ≡ false → ⊥
-not_both true h k = cc
-not_both false h k = cc
 
 -- an exit leads somewhere by On alone
 exit_only : (g : Game) (p q f : ℕ) (rets : List Ret) (by : Move) → (by ≡ On → ⊥) → leads_in g p q rets (Some (Exit f)) by ≡ None

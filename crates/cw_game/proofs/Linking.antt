@@ -25,7 +25,8 @@ use Rattle.cw_game.specs.Laws.{spot_at, is_bad_at, IsLastEnd, AreLinked}
 use Rattle.cw_game.proofs.Moves.{move_of, step_of}
 use Rattle.cw_game.proofs.Fronts.{Front, is_step, is_branch, is_label, is_open, is_close, is_call, is_end, front_of}
 use Rattle.cw_game.proofs.Stands.{refused_at, stops_is}
-use Rattle.cw_game.proofs.Link.{Stands, IsTied, not_both, tied, violates_bad, bad_violates, unrefused, board_moves, starts_at}
+use Rattle.cw_game.proofs.Link.{Stands, IsTied, tied, violates_bad, bad_violates, unrefused, board_moves, starts_at}
+use Rattle.cw_lemmas.proofs.Truths.{not_both}
 
 -- a board that isn't in Refused stands where its phase is
 steady : (phase : Phase) → is_refused phase ≡ false → standing phase ≡ phase

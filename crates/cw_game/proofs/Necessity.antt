@@ -10,14 +10,7 @@ use Rattle.cw_game.specs.declared.spots.Spot.{Spot}
 use Rattle.cw_game.specs.declared.spots.Spot.TheVariants.{Visit, Asked, Step, Branch, Label, Open, Close, Call, SplitCall, Exit}
 use Rattle.cw_game.specs.Games.{Game, refuses_in, returned, Ret, Config, at_pair, leads_in, bad_in, weavers_in, Promise, holds_in, Holds, IsLost, leads_to, ForcedAt}
 use Rattle.cw_game.specs.Necessity.{LeavesOutLost}
-
-either_false : (a b : Bool) → (a && b) ≡ false → (a ≡ false) ⊎ (b ≡ false)
-either_false true b h = inr h
-either_false false b h = inl refl
-
-both_false : (a b : Bool) → (a || b) ≡ false → (a ≡ false) × (b ≡ false)
-both_false true b h = cc
-both_false false b h = (refl, h)
+use Rattle.std.proofs.lemmas.Bool.{and_cases as either_false, or_parts as both_false}
 
 -- where the choice is there, and what it leads to doesn't hold
 chosen : (yes b : Bool) → (not yes || b) ≡ false → (yes ≡ true) × (b ≡ false)

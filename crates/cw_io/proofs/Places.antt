@@ -6,6 +6,7 @@ use Rattle.std.proofs.lemmas.Iterator.Adapters.{position_from-zero}
 use Rattle.std.proofs.Math.ListN.{get_or-map}
 use Rattle.std.proofs.lemmas.List.Quantifiers.{position-Some}
 use Rattle.cw_io.specs.Shelves.{listed, content_of, place_of}
+use Rattle.cw_lemmas.proofs.Options.{position_none as find_none}
 
 -- places in a list that was mapped
 position_from-map : {X Y : Type 0} (f : X → Y) (p : Y → Bool) (i : ℕ) (xs : List X) → position_from p i (map f xs) ≡ position_from (λ x. p (f x)) i xs
@@ -18,15 +19,6 @@ position-map f p xs = position_from-zero p (map f xs) ∙ position_from-map f p 
 -- the place among the files as they are kept is that among the names and bytes
 pub place_listed : (files : List (Vec ℕ × Vec ℕ)) (name : List ℕ) → position (λ (file : Vec ℕ × Vec ℕ). bytes_eq file.0.items name) files ≡ place_of (listed files) name
 place_listed files name = sym (position-map (λ (file : Vec ℕ × Vec ℕ). (file.0.items, file.1.items)) (λ (file : List ℕ × List ℕ). bytes_eq file.0 name) files)
-
--- no place passes, so nothing is found
-find_none : {X : Type 0} (p : X → Bool) (i : ℕ) (xs : List X) → position_from p i xs ≡ None → find p xs ≡ None
-find_none p i [] none = refl
-find_none {X} p i (x ∷ xs) none = found (p x) (find_none p (i + 1) xs) none
-  where
-    found : (b : Bool) → (position_from p (i + 1) xs ≡ None → find p xs ≡ None) → cond b (Some i) (position_from p (i + 1) xs) ≡ None → cond b (Some x) (find p xs) ≡ None
-    found true rest e = cc
-    found false rest e = rest e
 
 -- what is found is what stands at the first place that passes
 find_first : {X : Type 0} (p : X → Bool) (xs : List X) (i : ℕ) (d : X) → i < length xs → p (get_or xs i d) ≡ true → ((k : ℕ) → k < i → p (get_or xs k d) ≡ false) → find p xs ≡ Some (get_or xs i d)

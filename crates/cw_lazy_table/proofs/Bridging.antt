@@ -14,12 +14,14 @@ use Rattle.cw_game.specs.declared.spots.Spot.TheVariants.{Visit}
 use Rattle.cw_game.specs.Games.{Game, Config, resumed, leads_in, weavers_in}
 use Rattle.cw_game.specs.Pairs.{has, all_states, Called, call_in, is_call_in, is_exit_in}
 use Rattle.cw_fixpoint.specs.Members.{IsMember, first, then, joins}
-use Rattle.cw_solve.proofs.Falls.{same_bools}
+use Rattle.cw_lemmas.proofs.Truths.{truths_same as same_bools}
 use Rattle.cw_lazy_table.specs.Live.{IsFull, IsLive, begins, skips, tries, moves, goes_on, calls, returns}
 use Rattle.cw_lazy_table.specs.declared.key.Key.{Key}
 use Rattle.cw_lazy_table.specs.Closing.{key, moves_on, visited, begun, answered, gone_on, after, waits, ends, back, rules, AreRight}
 use Rattle.cw_lazy_table.specs.Staged.{AreStaged}
 use Rattle.cw_lazy_table.proofs.Finding.{In, in_of, of_in}
+use Rattle.cw_lemmas.proofs.Lists.{contains_none as nothing, contains_one as only_one}
+use Rattle.cw_lemmas.proofs.Options.{option_map_some as mapped}
 
 pub kept_in : {A B : Type 0} (f : A → Option B) (xs : List A) (x : A) (y : B) → In xs x → f x ≡ Some y → In (filter_map f xs) y
 kept_in f [] x y n e = absurd n
@@ -38,20 +40,6 @@ kept_from {A = A} {B = B} f (z ∷ zs) y n = by (f z) refl n (kept_from f zs y)
     by None e n h = h n
     by (Some v) e (inl i) h = (z, e ∙ ap Some i)
     by (Some v) e (inr n) h = h n
-
-pub mapped : {A B : Type 0} (f : A → B) (o : Option A) (y : B) → option_map f o ≡ Some y → (x : A) × (o ≡ Some x) × (f x ≡ y)
-mapped f None y e = absurd (none-some y e)
-mapped f (Some x) y e = (x, refl, same_Some (f x) y e)
-
-only_one : {A : Type 0} (x y : A) → Contains (x ∷ []) y → x ≡ y
-only_one x y c = by (in_of (x ∷ []) y c)
-  where
-    by : In (x ∷ []) y → x ≡ y
-    by (inl e) = e
-    by (inr n) = absurd n
-
-nothing : {A : Type 0} (y : A) → Contains [] y → ⊥
-nothing y c = in_of [] y c
 
 the_one : {A : Type 0} (x : A) → Contains (x ∷ []) x
 the_one x = of_in (x ∷ []) x (inl refl)

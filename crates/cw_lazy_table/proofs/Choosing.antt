@@ -18,26 +18,12 @@ use Rattle.cw_lazy_table.specs.Live.{IsFull, IsLive}
 use Rattle.cw_lazy_table.proofs.Going.{resumes}
 use Rattle.cw_lazy_table.proofs.Keeping.{IsSafe, safe}
 use Rattle.cw_lazy_table.proofs.Knowing.{set_by_is}
+use Rattle.cw_lemmas.proofs.Truths.{and_first as first_and, and_second as second_and}
+use Rattle.std.proofs.lemmas.Bool.{not-false as not_false, not-true as not_true}
 
 low_most : (n : ℕ) → n < 4294967296 → n ≤ most
 unfolding most
 low_most n l = omega (arith, l)
-
-not_true : (b : Bool) → not b ≡ true → b ≡ false
-not_true true h = cc
-not_true false h = refl
-
-not_false : (b : Bool) → not b ≡ false → b ≡ true
-not_false true h = refl
-not_false false h = cc
-
-first_and : (a b : Bool) → (a && b) ≡ true → a ≡ true
-first_and true b h = refl
-first_and false b h = cc
-
-second_and : (a b : Bool) → (a && b) ≡ true → b ≡ true
-second_and true b h = h
-second_and false b h = cc
 
 out_and : (a b : Bool) → a ≡ true → (a && b) ≡ false → b ≡ false
 out_and true b h k = k

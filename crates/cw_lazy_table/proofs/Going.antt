@@ -12,22 +12,12 @@ use Rattle.cw_game.specs.Pairs.{is_call_in}
 use Rattle.cw_game.proofs.Holding.{AreClosed}
 use Rattle.cw_product.specs.Routed.{IsState, targets}
 use Rattle.cw_solve.proofs.Still.{first_of_two, second_of_two, only}
+use Rattle.cw_lemmas.proofs.Truths.{not_or as given}
+use Rattle.std.proofs.lemmas.Bool.{and_left, and_right}
 
 chosen : (b : Bool) (x c : Config) → cond b (Some x) None ≡ Some c → (b ≡ true) × (x ≡ c)
 chosen true x c e = (refl, same_Some x c e)
 chosen false x c e = absurd (none-some c e)
-
-and_left : (a b : Bool) → a ≡ false → (a && b) ≡ false
-and_left true b e = cc
-and_left false b e = refl
-
-and_right : (a b : Bool) → b ≡ false → (a && b) ≡ false
-and_right true b e = e
-and_right false b e = refl
-
-given : (b x : Bool) → b ≡ true → x ≡ false → (not b || x) ≡ false
-given true x e f = f
-given false x e f = cc
 
 -- one of the position's targets, a state, and where what it leads to is lost so is the pair
 pub record GoesTo (g : Game) (p q : ℕ) (o : Option Spot) (c : Config) : Type 0 where

@@ -17,11 +17,7 @@ use Rattle.cw_solve.proofs.Moves.{bad_fails}
 use Rattle.cw_lazy_table.specs.Live.{IsFull, IsLive, begins, skips, tries, moves, goes_on, calls, returns}
 use Rattle.cw_lazy_table.specs.Staged.{IsAsked, AreStaged}
 use Rattle.cw_lazy_table.proofs.Going.{goes_to, resumes}
-
--- what isn't false is true
-pub is_true : (b : Bool) → (b ≡ false → ⊥) → b ≡ true
-is_true true h = refl
-is_true false h = absurd (h refl)
+use Rattle.std.proofs.lemmas.Bool.{true_from_ne_false as is_true}
 
 -- A state of the game, at a position of a function under a promise that is needed, and not lost.
 pub record IsSafe (g : Game) (functions p q e : ℕ) : Type 0 where

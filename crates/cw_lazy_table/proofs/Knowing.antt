@@ -8,11 +8,13 @@ use Rattle.cw_core.proofs.Sets.{has-zero, has-suc}
 use Rattle.cw_game.specs.Games.{Game, returned}
 use Rattle.cw_game.specs.Pairs.{has, Called, call_in, kept_at}
 use Rattle.cw_product.specs.Routed.{AreRouted}
-use Rattle.cw_solve.proofs.Falls.{same_bools, return_state, back_stays}
+use Rattle.cw_solve.proofs.Falls.{return_state, back_stays}
+use Rattle.cw_lemmas.proofs.Truths.{truths_same as same_bools}
 use Rattle.cw_lazy_table.specs.Live.{IsLostBack, IsFull}
 use Rattle.cw_lazy_table.specs.Sets.{set_by}
 use Rattle.cw_lazy_table.specs.Staged.{IsKnown}
 use Rattle.cw_lazy_table.proofs.Keeping.{IsSafe}
+use Rattle.cw_lemmas.proofs.Numbers.{nat_lt_suc as lt_suc}
 
 low : (b : Bool) (n : ℕ) → has (cond b 1 0 + 2 * n) 0 ≡ b
 low true n = let h : (1 + 2 * n) % 2 ≡ 1 = omega arith in ap (λ y. nat_eq y 1) (bit_at_lowest (1 + 2 * n) ∙ h)
@@ -26,10 +28,6 @@ high false n s = let h : (0 + 2 * n) / 2 ≡ n = omega arith in has-suc (0 + 2 *
 none_in : (x : ℕ) → has 0 x ≡ false
 unfolding has_member
 none_in x = has-zero x
-
-lt_suc : (x n : ℕ) → nat_lt (suc x) (suc n) ≡ nat_lt x n
-lt_suc x n = same_bools (nat_lt (suc x) (suc n)) (nat_lt x n) (λ h. let l : suc x < suc n = ltb-true (suc x) (suc n) h in lt-ltb x n (omega (arith, l)))
-    (λ h. let l : x < n = ltb-true x n h in lt-ltb (suc x) (suc n) (omega (arith, l)))
 
 lt_none : (x : ℕ) → nat_lt x 0 ≡ false
 lt_none x = same_bools (nat_lt x 0) false (λ h. let l : x < 0 = ltb-true x 0 h in absurd (omega (arith, l))) (λ h. cc)

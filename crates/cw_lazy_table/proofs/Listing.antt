@@ -26,11 +26,12 @@ use Rattle.cw_lazy_table.specs.Lazy.{state_id, IsMemory, IsLiveRow, IsTryRow, Is
 use Rattle.cw_lazy_table.specs.Live.{IsLive}
 use Rattle.cw_lazy_table.specs.Places.{key_cmp, placed_cmp, part_at, placed, placed_of, memory_of, IsPlaced, IsReturn, return_cmp}
 use Rattle.cw_lazy_table.specs.Rowing.{Memories, number, live_row, try_row, at_row, open_row, into_row, back_row}
-use Rattle.cw_lazy_table.proofs.Bridging.{mapped}
+use Rattle.cw_lemmas.proofs.Options.{option_map_some as mapped}
 use Rattle.cw_lazy_table.proofs.Finding.{In, in_of, of_in}
 use Rattle.cw_lazy_table.proofs.Numbers.{mem_less}
 use Rattle.cw_lazy_table.proofs.Placing.{asked_there, label_there, open_there, close_there, call_there, less_then, less_first, then_equal, same_nat, tied_nat, not_less_same, split_parts}
 use Rattle.cw_lazy_table.proofs.Rowing.{meant, try_to, try_from, label_to, label_from, close_to, close_from, open_to, open_from, into_to, into_from, back_to, back_from, live_to, live_from}
+use Rattle.cw_lemmas.proofs.Orders.{then_equal as both_equal}
 
 module _ {A : Type 0} where
   all_by : (P : A → Type 0) (xs : List A) → ((x : A) → In xs x → P x) → AllByRecursion P xs
@@ -128,11 +129,6 @@ without s p m e h = ap (λ o. ordering_then s o) (sym (then_equal p m e)) ∙ h
 
 less_nat : (a b : ℕ) → a < b → nat_cmp a b ≡ Less
 less_nat a b l = grind (arith, nat_tests)
-
-both_equal : (a b : Ordering) → ordering_then a b ≡ Equal → (a ≡ Equal) × (b ≡ Equal)
-both_equal Less b e = cc
-both_equal Equal b e = (refl, e)
-both_equal Greater b e = cc
 
 same_placed : (a b c d e k l m n o : ℕ) → a ≡ k → b ≡ l → c ≡ m → d ≡ n → e ≡ o
     → ◌≡◌ {A = Placed} (record { seam = a; part = b; state = c; promise = d; pos = e }) (record { seam = k; part = l; state = m; promise = n; pos = o })

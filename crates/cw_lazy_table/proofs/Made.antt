@@ -14,7 +14,7 @@ use Rattle.cw_points.specs.declared.graph.Point.TheVariants as point
 use Rattle.cw_points.specs.Graphs.{node, nodes, seams_from}
 use Rattle.cw_points.specs.Walks.{parts_of}
 use Rattle.cw_positions.specs.Positions.{base, to}
-use Rattle.cw_positions.proofs.Closing.{get_below}
+use Rattle.cw_lemmas.proofs.Lists.{get_below}
 use Rattle.cw_positions.proofs.Programs.{of_graph, routine_of}
 use Rattle.cw_positions.proofs.Seaming.{AreSeams, seams_of_plan}
 use Rattle.cw_game.specs.declared.spots.Spot.TheVariants.{Asked, Label, Open, Close, Call, SplitCall, Exit}

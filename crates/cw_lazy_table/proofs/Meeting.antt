@@ -17,26 +17,24 @@ use Rattle.cw_game.specs.declared.spots.Spot.TheVariants.{Visit, Asked, Step, Br
 use Rattle.cw_game.specs.Games.{Game, Config, at_pair, can_stop_in, may_refuse_in, resumed_in, resumed, leads_in, weavers_in, holds_in, Holds, IsLost}
 use Rattle.cw_game.specs.Pairs.{has, all_states, is_live, means_it, leads, is_call_in}
 use Rattle.cw_game.specs.Conditions.{is_good_pair, takes, takes_on, takes_answers, answers_on, moves_on, keeps_promise}
-use Rattle.cw_game.proofs.Truths.{both}
+use Rattle.std.proofs.lemmas.Bool.{and_from as both}
 use Rattle.cw_product.specs.Routed.{IsState, targets, AreRouted}
 use Rattle.cw_lazy_table.specs.Live.{IsLive, moves, goes_on}
 use Rattle.cw_lazy_table.specs.Lazy.{Means, IsAfter, GoesOn, IsRefused, IsLazyTable}
 use Rattle.cw_lazy_table.specs.Staged.{AreStaged, IsKnown}
 use Rattle.cw_lazy_table.proofs.Finding.{In}
 use Rattle.cw_lazy_table.proofs.Going.{resumes}
-use Rattle.cw_lazy_table.proofs.Keeping.{is_true, IsSafe, good, safe}
+use Rattle.cw_lazy_table.proofs.Keeping.{IsSafe, good, safe}
+use Rattle.std.proofs.lemmas.Bool.{true_from_ne_false as is_true}
 use Rattle.cw_lazy_table.proofs.Only.{tried_at}
 use Rattle.cw_lazy_table.proofs.Reading.{means_to, same_means, live_to, memory, try_to, label_of, label_to, close_of, close_to, open_of, open_to}
+use Rattle.cw_lemmas.proofs.Truths.{and_false}
 
 abbrev pub seam_id : ℕ → SeamId
 seam_id j = record { 0 = j }
 
 abbrev pub mem_id : ℕ → MemId
 mem_id m = record { 0 = m }
-
-and_false : (b : Bool) → (b && false) ≡ false
-and_false true = refl
-and_false false = refl
 
 -- all of a list pass, where each element does
 pub all_pass : {A : Type 0} (test : A → Bool) (xs : List A) → ((x : A) → In xs x → test x ≡ true) → list_all test xs ≡ true

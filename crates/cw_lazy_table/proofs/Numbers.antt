@@ -7,7 +7,8 @@ use Rattle.std.specs.declared.cmp.Ordering.TheVariants.{Less}
 use Rattle.cw_core.specs.declared.ids.StateId.{StateId}
 use Rattle.cw_certs.specs.Ascending.{mem_cmp}
 use Rattle.cw_certs.proofs.Orders.{mem_total}
-use Rattle.cw_fixpoint.proofs.Numbers.{both_equal, contained, at_number, number_at, number_less}
+use Rattle.cw_fixpoint.proofs.Numbers.{contained, at_number, number_at, number_less}
+use Rattle.cw_lemmas.proofs.Orders.{then_equal as both_equal}
 use Rattle.cw_lazy_table.specs.Lazy.{state_id, Means}
 use Rattle.cw_lazy_table.specs.Rowing.{Memories, number}
 

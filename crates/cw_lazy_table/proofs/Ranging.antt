@@ -24,7 +24,7 @@ use Rattle.cw_game.specs.Conditions.{first_failing, is_state, is_set, is_positio
 use Rattle.cw_game.specs.Conditions.{is_live_row, is_try_row, is_at_row, is_open_row, is_into_row, is_back_row, begins, fault_at, in_range, ranges, live_rows, InMems, InLive}
 use Rattle.cw_game.specs.Conditions.{InTries, InAts, InOpened, InClosed, InInto, InBack, TableFault, IsGoodTable}
 use Rattle.cw_game.proofs.Failing.{none_more, none_append}
-use Rattle.cw_game.proofs.Truths.{both}
+use Rattle.std.proofs.lemmas.Bool.{and_from as both}
 use Rattle.cw_solve.specs.Contexts.{context}
 use Rattle.cw_product.specs.Routed.{IsState, AreRouted}
 use Rattle.cw_solve.proofs.Falls.{call_is}
@@ -36,15 +36,7 @@ use Rattle.cw_lazy_table.proofs.Finding.{of_in, below}
 use Rattle.cw_lazy_table.proofs.Keeping.{safe, came}
 use Rattle.cw_lazy_table.proofs.Meeting.{leads_to}
 use Rattle.cw_lazy_table.proofs.Rows.{none_in_range, rows_good}
-
-any_of : {A : Type 0} (test : A → Bool) (xs : List A) (i : ℕ) (x : A) → slice_get xs i ≡ Some x → test x ≡ true → list_any test xs ≡ true
-any_of test [] i x e h = absurd (none-some x e)
-any_of test (y ∷ xs) zero x e h = ap (λ b. b || list_any test xs) (ap test (same_Some y x e) ∙ h)
-any_of test (y ∷ xs) (suc i) x e h = by (test y) (any_of test xs i x e h)
-  where
-    by : (b : Bool) → list_any test xs ≡ true → (b || list_any test xs) ≡ true
-    by true k = refl
-    by false k = k
+use Rattle.std.proofs.lemmas.Map.Keys.{any_passes_from_place as any_of}
 
 module _ (g : Game) (functions : ℕ) (routed : AreRouted g functions) (staged : AreStaged g) (first : IsState g g.states.start)
     (start : IsLost g (g.entry g.main) g.states.start (has (all_states g)) → ⊥)

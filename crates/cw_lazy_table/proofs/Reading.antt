@@ -13,7 +13,7 @@ use Rattle.cw_certs.specs.declared.rows.BackRow.{BackRow}
 use Rattle.cw_certs.specs.Tables.{Table, same, try_at, after_at, open_at, into_at, back_at}
 use Rattle.cw_game.specs.Games.{Game}
 use Rattle.cw_game.specs.Pairs.{is_live, means_it}
-use Rattle.cw_game.proofs.Truths.{and_parts, both}
+use Rattle.std.proofs.lemmas.Bool.{and_parts, and_from as both}
 use Rattle.cw_lazy_table.specs.Live.{IsLive}
 use Rattle.cw_lazy_table.specs.Lazy.{state_id, Means, IsTryRow, IsLabelRow, IsOpenRow, IsCloseRow, IsIntoRow, IsBackRow, IsLazyTable}
 use Rattle.cw_lazy_table.proofs.Finding.{found, is_found, somewhere, numbered}

@@ -17,7 +17,8 @@ use Rattle.cw_lazy_table.specs.Closing.{key, waits}
 use Rattle.cw_lazy_table.specs.Laws.{CanBegin}
 use Rattle.cw_lazy_table.specs.Live.{IsLive}
 use Rattle.cw_lazy_table.specs.Places.{key_cmp, part_at, placed, key_of, IsReturn, return_cmp, return_of}
-use Rattle.cw_lazy_table.proofs.Bridging.{mapped, member_live, live_member}
+use Rattle.cw_lazy_table.proofs.Bridging.{member_live, live_member}
+use Rattle.cw_lemmas.proofs.Options.{option_map_some as mapped}
 use Rattle.cw_lazy_table.proofs.Choosing.{right}
 use Rattle.cw_lazy_table.proofs.Listing.{images}
 use Rattle.cw_lazy_table.proofs.Placing.{there_call}

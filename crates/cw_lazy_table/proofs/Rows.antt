@@ -14,7 +14,7 @@ use Rattle.cw_game.specs.Pairs.{has, all_states, is_live, Called, call_in, kept_
 use Rattle.cw_game.specs.Conditions.{first_failing, visits_on, begins_by, calls_on, promise_of, means_state, returns_by, all_return, returns_on, back_by, live_conditions, live_by}
 use Rattle.cw_game.specs.Conditions.{live_rows, fault_at, InLive, Part}
 use Rattle.cw_game.proofs.Failing.{none_more, none_append, none_mapped}
-use Rattle.cw_game.proofs.Truths.{both}
+use Rattle.std.proofs.lemmas.Bool.{and_from as both}
 use Rattle.cw_product.specs.Routed.{IsState, targets, AreRouted}
 use Rattle.cw_solve.proofs.Still.{first_of_two}
 use Rattle.cw_lazy_table.specs.Live.{IsFull, IsLive, skips, tries, calls, returns}

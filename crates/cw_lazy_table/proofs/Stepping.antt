@@ -18,7 +18,7 @@ use Rattle.cw_points.specs.declared.graph.Part.{Part}
 use Rattle.cw_points.specs.Walks.{first_of, second_of}
 use Rattle.cw_positions.specs.Positions.{is_split, primitives_at, width, base, visits, free, number, to, spots_at, spots_in}
 use Rattle.cw_positions.proofs.Begins.{begin_more}
-use Rattle.cw_positions.proofs.Closing.{get_below}
+use Rattle.cw_lemmas.proofs.Lists.{get_below}
 use Rattle.cw_positions.proofs.Lengths.{width_at, length_all}
 use Rattle.cw_positions.proofs.Standing.{found}
 use Rattle.cw_product.proofs.Placing.{rise}

@@ -16,7 +16,7 @@ use Rattle.cw_least_strategy.specs.declared.key.Key.{Key}
 use Rattle.cw_least_strategy.specs.declared.key.Way.{Way}
 use Rattle.cw_least_strategy.specs.Backs.{back_cmp, Ascends, BacksAscend}
 use Rattle.cw_least_strategy.specs.Strategies.{moves, best, after_return, is_lost_after, back_at, goes, inner, act_in, number, how_by, row_at, IsLeastStrategy}
-use Rattle.cw_least_strategy.proofs.Naming.{from_mapped}
+use Rattle.cw_lemmas.proofs.Lists.{map_contains as from_mapped}
 
 -- numbered backs of ascending exit states
 module _ (keys : List Key) (f : ℕ → Option (ℕ × Key)) (at : (x : ℕ) (b : ℕ × Key) → f x ≡ Some b → b.0 ≡ x) where

@@ -17,7 +17,7 @@ use Rattle.cw_game.specs.Pairs.{has, Called, call_in, is_call_in, is_exit_in, ke
 use Rattle.cw_game.specs.Conditions.{first_failing, is_state, named_by, exits_by, is_row, is_violated, is_exit, ends_well, is_row_at, stands_after, weaver_moves, environment_moves}
 use Rattle.cw_game.specs.Conditions.{callee_stands, is_back, are_backs, backs_stand, row_conditions, fault_in, all_rows, is_start, IsGoodStrategy}
 use Rattle.cw_game.proofs.Failing.{none_more, none_append, none_mapped}
-use Rattle.cw_game.proofs.Truths.{both}
+use Rattle.std.proofs.lemmas.Bool.{and_from as both}
 use Rattle.cw_product.specs.Moves.{next_in}
 use Rattle.cw_solve.specs.Asking.{holds_after, after, holds_by_moves}
 use Rattle.cw_solve.specs.Contexts.{context}
@@ -35,7 +35,12 @@ use Rattle.cw_least_strategy.proofs.Lowest as lowest
 use Rattle.cw_fixpoint.proofs.Numbers.{at_number}
 use Rattle.cw_least_strategy.proofs.Keys.{key_total, key_exact, before}
 use Rattle.cw_least_strategy.proofs.Moving.{moved}
-use Rattle.cw_least_strategy.proofs.Naming.{none_in, first_or_later, is_first, is_later, from_mapped, in_range, named_lower, fails, best_taken, best_some, taken_at, backs_lower, reached_keys, start_is}
+use Rattle.cw_least_strategy.proofs.Naming.{none_in, first_or_later, is_first, is_later, in_range, named_lower, fails, best_taken, best_some, taken_at, backs_lower, reached_keys, start_is}
+use Rattle.cw_lemmas.proofs.Lists.{map_contains as from_mapped}
+use Rattle.std.proofs.lemmas.Bool.{and_cases as one_fails, not-false as not_false, or_parts as both_fail}
+use Rattle.cw_lemmas.proofs.Numbers.{nat_eq_self as itself}
+use Rattle.cw_lemmas.proofs.Lists.{contains_map as to_mapped}
+use Rattle.std.proofs.lemmas.Map.Keys.{any_passes_from_place as any_at}
 
 -- no condition fails
 seven : (a b c d e f h : Bool) → a ≡ true → b ≡ true → c ≡ true → d ≡ true → e ≡ true → f ≡ true → h ≡ true
@@ -56,23 +61,6 @@ rows_none g s (r ∷ rows) n h =
 all_of : {A : Type 0} (test : A → Bool) (xs : List A) → ((x : A) → Contains xs x → test x ≡ true) → list_all test xs ≡ true
 all_of test [] h = refl
 all_of test (x ∷ xs) h = both (test x) (list_all test xs) (h x (is_first x xs)) (all_of test xs (λ y c. h y (is_later x xs y c)))
-
-any_at : {A : Type 0} (test : A → Bool) (xs : List A) (i : ℕ) (x : A) → slice_get xs i ≡ Some x → test x ≡ true → list_any test xs ≡ true
-any_at test [] i x e t = absurd (none-some x e)
-any_at test (y ∷ ys) zero x e t = ap (λ b. b || list_any test ys) (ap test (same_Some y x e) ∙ t)
-any_at test (y ∷ ys) (suc i) x e t = by (test y) (any_at test ys i x e t)
-  where
-    by : (b : Bool) → list_any test ys ≡ true → (b || list_any test ys) ≡ true
-    by true h = refl
-    by false h = h
-
-to_mapped : {A B : Type 0} (f : A → B) (xs : List A) (x : A) → Contains xs x → Contains (map f xs) (f x)
-to_mapped f [] x c = absurd (none_in x c)
-to_mapped f (y ∷ ys) x c = by (first_or_later y ys x c) (to_mapped f ys x)
-  where
-    by : (y ≡ x) ⊎ Contains ys x → (Contains ys x → Contains (map f ys) (f x)) → Contains (map f (y ∷ ys)) (f x)
-    by (inl e) rec = subst (λ z. Contains (map f (y ∷ ys)) (f z)) e (is_first (f y) (map f ys))
-    by (inr d) rec = is_later (f y) (map f ys) (f x) (rec d)
 
 to_kept : {A B : Type 0} (f : A → Option B) (xs : List A) (x : A) (y : B) → Contains xs x → f x ≡ Some y → Contains (filter_map f xs) y
 to_kept f [] x y c e = absurd (none_in x c)
@@ -105,23 +93,8 @@ back_there (y ∷ backs) x b c = by (nat_eq y.0 x) refl (first_or_later y backs 
     by false t (inl e) rec = let w : true ≡ false = sym (eq-eqb y.0 x (ap (λ (b : ℕ × ℕ). b.0) e)) ∙ t in cc
     by false t (inr d) rec = rec d
 
-itself : (n : ℕ) → nat_eq n n ≡ true
-itself n = eq-eqb n n refl
-
 is_same : (p q e : ℕ) → (nat_eq p p && (nat_eq q q && nat_eq e e)) ≡ true
 is_same p q e = both (nat_eq p p) (nat_eq q q && nat_eq e e) (itself p) (both (nat_eq q q) (nat_eq e e) (itself q) (itself e))
-
-one_fails : (a b : Bool) → (a && b) ≡ false → (a ≡ false) ⊎ (b ≡ false)
-one_fails true b e = inr e
-one_fails false b e = inl refl
-
-both_fail : (a b : Bool) → (a || b) ≡ false → (a ≡ false) × (b ≡ false)
-both_fail true b e = cc
-both_fail false b e = (refl, e)
-
-not_false : (b : Bool) → not b ≡ false → b ≡ true
-not_false true e = refl
-not_false false e = cc
 
 after_false : (h : ℕ → ℕ → Promise → Bool) (e : Promise) (o : Option (ℕ × ℕ)) → holds_after h e o ≡ false → (r : ℕ × ℕ) × (o ≡ Some r) × (h r.0 r.1 e ≡ false)
 after_false h e None f = cc

@@ -8,7 +8,8 @@ use Rattle.std.specs.declared.cmp.Ordering.TheVariants.{Less}
 use Rattle.std.specs.Ordering.{ordering_then, nat_cmp}
 use Rattle.std.specs.Cmp.{IsTotalOrder, nat_cmp_total, then_total, on_total}
 use Rattle.std.proofs.lemmas.Bool.Decides.{nat_tests}
-use Rattle.cw_fixpoint.proofs.Numbers.{both_equal, contained, number_at, number_less}
+use Rattle.cw_fixpoint.proofs.Numbers.{contained, number_at, number_less}
+use Rattle.cw_lemmas.proofs.Orders.{then_equal as both_equal}
 use Rattle.cw_least_strategy.specs.declared.key.Key.{Key}
 use Rattle.cw_least_strategy.specs.Strategies.{key_cmp, number}
 

@@ -13,18 +13,8 @@ use Rattle.cw_game.proofs.Holding.{AreClosed}
 use Rattle.cw_product.specs.Moves.{pair_of, is_left_in, next_in}
 use Rattle.cw_product.specs.Routed.{IsState, targets}
 use Rattle.cw_solve.proofs.Still.{first_of_two, second_of_two, only}
-
-chosen : {X : Type 0} (b : Bool) (a x : X) → cond b (Some a) None ≡ Some x → (b ≡ true) × (a ≡ x)
-chosen true a x e = (refl, same_Some a x e)
-chosen false a x e = absurd (none-some x e)
-
-left : {X : Type 0} (b : Bool) (o : Option X) (x : X) → cond b None o ≡ Some x → (b ≡ false) × (o ≡ Some x)
-left true o x e = absurd (none-some x e)
-left false o x e = (refl, e)
-
-mapped : {X Y : Type 0} (f : X → Y) (o : Option X) (y : Y) → option_map f o ≡ Some y → (x : X) × (o ≡ Some x) × (f x ≡ y)
-mapped f None y e = absurd (none-some y e)
-mapped f (Some x) y e = (x, refl, same_Some (f x) y e)
+use Rattle.cw_lemmas.proofs.Options.{cond_none_some as left, option_map_some as mapped}
+use Rattle.std.proofs.lemmas.Option.{cond_some as chosen}
 
 pub parts : (a b c : Bool) → (a || (b || c)) ≡ false → (a ≡ false) × (b ≡ false) × (c ≡ false)
 parts true b c e = cc

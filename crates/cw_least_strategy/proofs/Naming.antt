@@ -25,6 +25,8 @@ use Rattle.cw_least_strategy.specs.Strategies.{below, moves, way, sooner, best, 
 use Rattle.cw_least_strategy.proofs.Sets.{has_set, set_within, none_aimed}
 use Rattle.cw_least_strategy.proofs.Lowest as lowest
 use Rattle.cw_least_strategy.proofs.Moving.{moved}
+use Rattle.std.proofs.lemmas.Bool.{or_parts as neither}
+use Rattle.cw_lemmas.proofs.Lists.{map_contains as from_mapped}
 
 -- members of lists
 module _ {A : Type 0} where
@@ -40,14 +42,6 @@ module _ {A : Type 0} where
 
   pub is_later : (y : A) (ys : List A) (x : A) → Contains ys x → Contains (y ∷ ys) x
   is_later y ys x (k, l, e) = (suc k, omega (arith, l), e)
-
-pub from_mapped : {A B : Type 0} (f : A → B) (xs : List A) (y : B) → Contains (map f xs) y → (x : A) × Contains xs x × (f x ≡ y)
-from_mapped f [] y c = absurd (none_in y c)
-from_mapped {A} f (x ∷ xs) y c = by (first_or_later (f x) (map f xs) y c) (from_mapped f xs y)
-  where
-    by : (f x ≡ y) ⊎ Contains (map f xs) y → (Contains (map f xs) y → (z : A) × Contains xs z × (f z ≡ y)) → (z : A) × Contains (x ∷ xs) z × (f z ≡ y)
-    by (inl e) rec = (x, is_first x xs, e)
-    by (inr c) rec = let r = rec c in (r.0, is_later x xs r.0 r.1, r.2)
 
 pub from_kept : {A B : Type 0} (f : A → Option B) (xs : List A) (y : B) → Contains (filter_map f xs) y → (x : A) × Contains xs x × (f x ≡ Some y)
 from_kept f [] y c = absurd (none_in y c)
@@ -69,11 +63,6 @@ in_range n x (i, l, e) =
     let lt : i < n = omega (arith, l, w) in
     let v = get_or-range_with_len 0 n i x lt in
     omega (arith, lt, v, e)
-
-neither : (a b : Bool) → (a || b) ≡ false → (a ≡ false) × (b ≡ false)
-neither true b e = cc
-neither false true e = cc
-neither false false e = (refl, refl)
 
 module _ (g : Game) (functions : ℕ) (routed : AreRouted g functions) where
   -- a height is positive

@@ -6,9 +6,10 @@ use Rattle.cw_core.specs.StateSet.{has as has_member}
 use Rattle.cw_core.proofs.Sets.{has-zero, has-suc, same_from_members, IsBelow-lt}
 use Rattle.cw_game.specs.Games.{Game}
 use Rattle.cw_game.specs.Pairs.{has, all_states}
-use Rattle.cw_game.proofs.Truths.{and_parts}
+use Rattle.std.proofs.lemmas.Bool.{and_parts}
 use Rattle.cw_solve.proofs.Fresh.{all_is}
 use Rattle.cw_least_strategy.specs.Heights.{one_if, set_of, others}
+use Rattle.cw_lemmas.proofs.Numbers.{nat_lt_suc as less_suc}
 
 half : (b : Bool) (m : ℕ) → (one_if b + 2 * m) / 2 ≡ m
 half true m = omega arith
@@ -18,10 +19,6 @@ last : (b : Bool) (m : ℕ) → has (one_if b + 2 * m) 0 ≡ b
 last true m = let e : bit_at (1 + 2 * m) 0 ≡ 1 = omega arith in ap (λ k. nat_eq k 1) e
 last false m = let e : bit_at (0 + 2 * m) 0 ≡ 0 = omega arith in ap (λ k. nat_eq k 1) e
 
-less_suc : (x n : ℕ) → nat_lt (suc x) (suc n) ≡ nat_lt x n
-less_suc x n = elim (cases_lt x n) [
-  | inl lt ↦ lt-ltb (suc x) (suc n) (omega (arith, lt)) ∙ sym (lt-ltb x n lt)
-  | inr le ↦ le-ltb (suc x) (suc n) (omega (arith, le)) ∙ sym (le-ltb x n le)
 ]
 
 -- the members are the states below n that pass

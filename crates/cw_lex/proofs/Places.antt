@@ -6,20 +6,7 @@ use Rattle.std.proofs.Math.Seq.{take-append_seam}
 use Rattle.std.proofs.lemmas.Bool.{and_parts, eqb-true, eq-eqb, false_from_ne_true}
 use Rattle.memchr.specs.Find.{OccursAt, FindsNeedle}
 use Rattle.memchr.proofs.lemmas.MatchLemmas.{OccursAt-split, OccursAt-from_part}
-
--- what begins with a word is the word and the rest, and the other way round
-starts_is : (t w : List ℕ) → starts_with nat_eq t w ≡ true → t ≡ w ++ drop (length w) t
-starts_is t [] e = refl
-starts_is [] (x ∷ w) e = absurd cc
-starts_is (b ∷ t) (x ∷ w) e =
-    let p = and_parts (eqb x b) (starts_with nat_eq t w) e in
-    let first : x ≡ b = eqb-true x b p.0 in
-    let others : t ≡ w ++ drop (length w) t = starts_is t w p.1 in
-    cc
-
-starts_front : (w rest : List ℕ) → starts_with nat_eq (w ++ rest) w ≡ true
-starts_front [] rest = refl
-starts_front (x ∷ w) rest = rw (eq-eqb x x refl, starts_front w rest) refl
+use Rattle.cw_lemmas.proofs.Texts.{starts_front, starts_is}
 
 -- a word of some bytes begins within the source
 pub begins_within : (source word : List ℕ) (at : ℕ) → 0 < length word → starts_with nat_eq (drop at source) word ≡ true → at + length word ≤ length source

@@ -9,7 +9,7 @@ use Rattle.cw_solve.specs.declared.contexts.Context.{Context}
 use Rattle.cw_solve.specs.Contexts.{context, IsHeight, promise_at, IsSetOf}
 use Rattle.cw_product.specs.Routed.{AreRouted}
 use Rattle.cw_solve.specs.Rounds.{IsCell, holds_by}
-use Rattle.cw_solve.proofs.Falls.{not_both}
+use Rattle.cw_lemmas.proofs.Truths.{not_both}
 use Rattle.cw_solve.proofs.Still.{entry_cell}
 use Rattle.cw_linked.specs.Founds.{Found, class_of, AreAlike, IsLink, IsTied, height_back, GoesTo, AreRight, tells, IsClosed, IsCalled, IsStanding, Nothing, AllClosed, AllCalled, AllStanding}
 use Rattle.cw_linked.specs.Steps.{IsReady, Adds, IsNew}

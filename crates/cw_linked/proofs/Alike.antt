@@ -5,6 +5,7 @@ use Rattle.std.proofs.lemmas.Nat.{div-add-mod', mod-mul-add, mod_below}
 use Rattle.cw_states.specs.States.{lists_of}
 use Rattle.cw_product.specs.Product.{Held, game_of}
 use Rattle.cw_linked.specs.Founds.{AreAlike}
+use Rattle.cw_lemmas.proofs.Numbers.{mul_positive as some_rights}
 
 -- a state and its rights
 halves : (n x : ℕ) → x / n * n + x % n ≡ x
@@ -12,11 +13,6 @@ halves n x = div-add-mod' x n
 
 rights_of : (n x q : ℕ) → 0 < n → (x / n * n + q % n) % n ≡ q % n
 rights_of n x q some = mod-mul-add (x / n) n (q % n) (mod_below q n some)
-
--- where there is a state there are rights
-some_rights : (sets n q : ℕ) → q < sets * n → 0 < n
-some_rights sets zero q lt = absurd (let z : sets * 0 ≡ 0 = omega arith in omega (arith, lt, z))
-some_rights sets (suc n) q lt = omega arith
 
 pub alike : (h : Held) → AreAlike (game_of h)
 alike h = record {

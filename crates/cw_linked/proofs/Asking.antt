@@ -13,6 +13,7 @@ use Rattle.cw_linked.specs.Queues.{asked_with}
 use Rattle.cw_linked.specs.Steps.{IsOther, AsksCell, AsksLink}
 use Rattle.cw_linked.specs.Works.{place_at, value_at}
 use Rattle.cw_linked.proofs.Bounding.{place_is}
+use Rattle.std.proofs.lemmas.Bool.{and_parts as both_are, cases_Bool as decide, or_cases as either_is, or_parts as neither_is}
 
 module _ (g : Game) (contexts : List Context) where
   -- two cells with one place are the same
@@ -30,25 +31,9 @@ module _ (g : Game) (contexts : List Context) where
       → value_at g contexts (set values (place_at g contexts j r x) v) i p q ≡ value_at g contexts values i p q
   value_other values v i c p q j d r x is are other = get_or-set_other values (place_at g contexts j r x) (place_at g contexts i p q) v 0 (other_place i c p q j d r x is are other)
 
-pub decide : (b : Bool) → (b ≡ true) ⊎ (b ≡ false)
-decide true = inl refl
-decide false = inr refl
-
-both_are : (a b : Bool) → (a && b) ≡ true → (a ≡ true) × (b ≡ true)
-both_are true b h = (refl, h)
-both_are false b h = cc
-
 one_isnt : (a b : Bool) → (a && b) ≡ false → a ≡ true → b ≡ false
 one_isnt true b h k = h
 one_isnt false b h k = cc
-
-neither_is : (a b : Bool) → (a || b) ≡ false → (a ≡ false) × (b ≡ false)
-neither_is true b h = cc
-neither_is false b h = (refl, h)
-
-either_is : (a b : Bool) → (a || b) ≡ true → (a ≡ true) ⊎ (b ≡ true)
-either_is true b h = inl refl
-either_is false b h = inr h
 
 -- a key that isn't written waits under no more already
 pub kept_low : (old key : ℕ) → (nat_eq old 0 || nat_lt key old) ≡ false → Waits old key

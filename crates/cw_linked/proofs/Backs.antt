@@ -22,7 +22,8 @@ use Rattle.cw_linked.specs.Queues.{found_of, AreLong, AreHigh, IsLinkAt, AreDue,
 use Rattle.cw_linked.specs.Returns.{HasReturn, AreReturns, AsksReturn}
 use Rattle.cw_linked.specs.Steps.{ReturnsThere}
 use Rattle.cw_linked.specs.Works.{AreUpTo, place_at}
-use Rattle.cw_linked.proofs.Asking.{decide, kept_low, chosen_then, chosen_else}
+use Rattle.cw_linked.proofs.Asking.{kept_low, chosen_then, chosen_else}
+use Rattle.std.proofs.lemmas.Bool.{cases_Bool as decide}
 use Rattle.cw_linked.proofs.Bounding.{place_is}
 use Rattle.cw_linked.proofs.Closing.{standing_asked, own_link}
 use Rattle.cw_linked.proofs.Lowering.{lowers_standing, waits_less}

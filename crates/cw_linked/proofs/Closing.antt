@@ -9,7 +9,8 @@ use Rattle.cw_solve.specs.declared.contexts.Context.{Context}
 use Rattle.cw_solve.specs.Contexts.{promise_at}
 use Rattle.cw_product.specs.Routed.{AreRouted}
 use Rattle.cw_solve.specs.Rounds.{IsCell, holds_by}
-use Rattle.cw_solve.proofs.Falls.{not_both, member_is}
+use Rattle.cw_solve.proofs.Falls.{member_is}
+use Rattle.cw_lemmas.proofs.Truths.{not_both}
 use Rattle.cw_linked.specs.Founds.{Found, class_of, AreAlike, IsLink, IsTied, height_back, GoesTo, AreRight, Waits, IsClosed, IsCalled, IsStanding}
 use Rattle.cw_linked.specs.Steps.{IsBound}
 use Rattle.cw_linked.proofs.Least.{tells_none, tells_above}

@@ -14,7 +14,8 @@ use Rattle.cw_linked.specs.Added.{ThePair, IsLinkOf, FreesLinks}
 use Rattle.cw_linked.specs.Founds.{class_of, IsLink}
 use Rattle.cw_linked.specs.Queues.{AreLong, AreSameBut, AsksForLink}
 use Rattle.cw_linked.specs.Works.{place_at}
-use Rattle.cw_linked.proofs.Asking.{decide, kept_low, chosen_then, chosen_else}
+use Rattle.cw_linked.proofs.Asking.{kept_low, chosen_then, chosen_else}
+use Rattle.std.proofs.lemmas.Bool.{cases_Bool as decide}
 use Rattle.cw_linked.proofs.Backs.{due_other, due_length}
 use Rattle.cw_linked.proofs.Bounding.{place_is}
 use Rattle.cw_linked.proofs.Taking.{one_call}

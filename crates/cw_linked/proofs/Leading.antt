@@ -16,9 +16,12 @@ use Rattle.cw_solve.specs.Asking.{holds_after, holds_by_moves}
 use Rattle.cw_product.specs.Routed.{IsState, AreRouted}
 use Rattle.cw_solve.specs.Rounds.{IsCell}
 use Rattle.cw_solve.proofs.Calling.{next_target}
-use Rattle.cw_solve.proofs.Falls.{same_bools}
+use Rattle.cw_lemmas.proofs.Truths.{truths_same as same_bools}
 use Rattle.cw_solve.proofs.Moves.{by_moves, bad_fails}
 use Rattle.cw_linked.specs.Steps.{IsMoveIn}
+use Rattle.cw_lemmas.proofs.Truths.{or_first as neither}
+use Rattle.cw_lemmas.proofs.Options.{cond_none_some as not_left, option_map_some as mapped}
+use Rattle.std.proofs.lemmas.Option.{cond_some as made}
 
 gives_or : (a b c d : Bool) → Gives a c → Gives b d → Gives (a || b) (c || d)
 gives_or true b c d f g h = ap (λ z. z || d) (f refl)
@@ -30,23 +33,6 @@ gives_and : (a b c d : Bool) → Gives a c → Gives b d → Gives (a && b) (c &
 gives_and true true c d f g h = ap₂ (λ y z. y && z) (f refl) (g refl)
 gives_and true false c d f g h = cc
 gives_and false b c d f g h = cc
-
--- a choice that is made, and the other one
-made : {X : Type 0} (b : Bool) (a x : X) → cond b (Some a) None ≡ Some x → (b ≡ true) × (a ≡ x)
-made true a x e = (refl, same_Some a x e)
-made false a x e = absurd (none-some x e)
-
-not_left : {X : Type 0} (b : Bool) (o : Option X) (x : X) → cond b None o ≡ Some x → (b ≡ false) × (o ≡ Some x)
-not_left true o x e = absurd (none-some x e)
-not_left false o x e = (refl, e)
-
-mapped : {X Y : Type 0} (f : X → Y) (o : Option X) (y : Y) → option_map f o ≡ Some y → (x : X) × (o ≡ Some x) × (f x ≡ y)
-mapped f None y e = absurd (none-some y e)
-mapped f (Some x) y e = (x, refl, same_Some (f x) y e)
-
-neither : (a b : Bool) → (a || b) ≡ false → a ≡ false
-neither true b h = cc
-neither false b h = refl
 
 module _ (g : Game) where
   module _ (h h' : ℕ → ℕ → Promise → Bool) (e : Promise) where

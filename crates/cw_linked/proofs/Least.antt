@@ -14,19 +14,12 @@ use Rattle.cw_solve.proofs.Still.{holds_call, call_or_not, entry_cell}
 use Rattle.cw_solve.proofs.Written.{reads}
 use Rattle.cw_linked.specs.Founds.{Found, class_of, AreAlike, IsLink, IsTied, height_back, GoesTo, AreRight, tells, IsClosed, IsCalled, AreFound, AreAbove}
 use Rattle.cw_linked.proofs.Leading.{in_same, next_cell}
+use Rattle.std.proofs.lemmas.Bool.{false_from_ne_true as false_of, true_from_ne_false as true_of}
 
 -- what stands where nothing is left to do
 pub all_of : (A : Type 0) → A ⊎ ⊥ → A
 all_of A (inl a) = a
 all_of A (inr n) = absurd n
-
-pub false_of : (b : Bool) → (b ≡ true → ⊥) → b ≡ false
-false_of true h = absurd (h refl)
-false_of false h = refl
-
-pub true_of : (b : Bool) → (b ≡ false → ⊥) → b ≡ true
-true_of true h = refl
-true_of false h = absurd (h refl)
 
 -- no height, or one above, says that the pair holds
 pub tells_none : (n k : ℕ) → k ≡ 0 → holds_by n k ≡ true

@@ -9,11 +9,13 @@ use Rattle.cw_solve.specs.declared.contexts.Context.{Context}
 use Rattle.cw_solve.specs.Contexts.{context, promise_at}
 use Rattle.cw_product.specs.Routed.{IsState, AreRouted}
 use Rattle.cw_solve.specs.Rounds.{IsCell, holds_by}
-use Rattle.cw_solve.proofs.Falls.{not_both, sooner, member_is}
+use Rattle.cw_solve.proofs.Falls.{sooner, member_is}
+use Rattle.cw_lemmas.proofs.Truths.{not_both}
 use Rattle.cw_solve.proofs.Still.{entry_cell}
 use Rattle.cw_linked.specs.Founds.{Found, class_of, AreAlike, IsTied, AreRight, tells}
 use Rattle.cw_linked.proofs.Leading.{in_gives, next_cell}
-use Rattle.cw_linked.proofs.Least.{false_of, tells_none, link_of, back_of, call_holds, taken_reads}
+use Rattle.cw_linked.proofs.Least.{tells_none, link_of, back_of, call_holds, taken_reads}
+use Rattle.std.proofs.lemmas.Bool.{false_from_ne_true as false_of}
 
 module _ (g : Game) (functions : ℕ) (routed : AreRouted g functions) (alike : AreAlike g) (contexts : List Context)
     (below : (i : ℕ) (c : Context) → slice_get contexts i ≡ Some c → c.function < functions) (s : Found) (right : AreRight g contexts s) where

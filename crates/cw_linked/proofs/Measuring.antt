@@ -17,7 +17,8 @@ use Rattle.cw_solve.specs.Contexts.{context, promise_at, IsSetOf}
 use Rattle.cw_product.specs.Routed.{IsState, AreRouted}
 use Rattle.cw_solve.specs.Rounds.{holds_by}
 use Rattle.cw_solve.specs.Tables.{is_none}
-use Rattle.cw_solve.proofs.Falls.{not_both, sooner, return_state, member_is}
+use Rattle.cw_solve.proofs.Falls.{sooner, return_state, member_is}
+use Rattle.cw_lemmas.proofs.Truths.{not_both}
 use Rattle.cw_solve.proofs.Fresh.{none_written}
 use Rattle.cw_linked.specs.declared.work.Cell.{Cell}
 use Rattle.cw_linked.specs.declared.work.Work.{Work}

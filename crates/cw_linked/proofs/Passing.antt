@@ -9,7 +9,7 @@ use Rattle.cw_game.specs.Pairs.{has, Called, call_in, is_call_in}
 use Rattle.cw_solve.specs.declared.contexts.Context.{Context}
 use Rattle.cw_product.specs.Routed.{AreRouted}
 use Rattle.cw_solve.specs.Rounds.{IsCell}
-use Rattle.cw_solve.proofs.Falls.{not_both}
+use Rattle.cw_lemmas.proofs.Truths.{not_both}
 use Rattle.cw_linked.specs.declared.work.Work.{Work}
 use Rattle.cw_linked.specs.Added.{AllOf, loss_begins_in, FreesLinks}
 use Rattle.cw_linked.specs.Founds.{Found, tells, IsClosed}

@@ -14,7 +14,7 @@ use Rattle.cw_solve.specs.declared.contexts.Context.{Context}
 use Rattle.cw_solve.specs.Contexts.{context, IsHeight}
 use Rattle.cw_product.specs.Routed.{AreRouted}
 use Rattle.cw_solve.specs.Rounds.{IsCell, holds_by}
-use Rattle.cw_solve.proofs.Falls.{not_both}
+use Rattle.cw_lemmas.proofs.Truths.{not_both}
 use Rattle.cw_solve.proofs.Still.{call_or_not, entry_cell}
 use Rattle.cw_linked.specs.Founds.{Found, class_of, AreAlike, IsTied, AreRight, tells, Waits, IsClosed, IsCalled, IsStanding, IsFresh, AllClosed, AllCalled, AllStanding, AreFound, AreAbove}
 use Rattle.cw_linked.specs.Steps.{IsSame, IsOther, with_heights, Takes, IsMoveIn, Leads, WaitsFor, CallsThere, ReturnsThere}

@@ -28,11 +28,7 @@ use Rattle.cw_linked.proofs.Staying.{marked_on}
 use Rattle.cw_linked.proofs.Taking.{taken_right, taken_closed, taken_called, taken_standing}
 use Rattle.cw_linked.proofs.Telling.{below, up_to_set}
 use Rattle.cw_linked.proofs.Writing.{takes_written}
-
-pub there_is : {X : Type 0} (xs : List X) (i : ℕ) → i < length xs → (x : X) × (slice_get xs i ≡ Some x)
-there_is [] i lt = absurd (omega (arith, lt))
-there_is (x ∷ xs) zero lt = (x, refl)
-there_is (x ∷ xs) (suc i) lt = there_is xs i (omega (arith, lt))
+use Rattle.cw_lemmas.proofs.Lists.{get_below as there_is}
 
 -- cells are few
 pub few_cells : (g : Game) (t : Table) → IsTable g t → length t.heights.items ≤ 4194304

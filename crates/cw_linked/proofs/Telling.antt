@@ -18,7 +18,8 @@ use Rattle.cw_linked.specs.Founds.{Found, AreAlike, AreRight, Waits, IsClosed, A
 use Rattle.cw_linked.specs.Queues.{found_of, AreLong, AreSameBut, asked_with, AsksForCell, AreHigh, IsLinkAt, AreDue, LowersKeys, AsksTold}
 use Rattle.cw_linked.specs.Steps.{with_keys, Lowers, IsBound}
 use Rattle.cw_linked.specs.Works.{heights_of, AreUpTo, place_at, value_at}
-use Rattle.cw_linked.proofs.Asking.{decide, chosen_then, chosen_else}
+use Rattle.cw_linked.proofs.Asking.{chosen_then, chosen_else}
+use Rattle.std.proofs.lemmas.Bool.{cases_Bool as decide}
 use Rattle.cw_linked.proofs.Bounding.{place_is}
 use Rattle.cw_linked.proofs.Closing.{closed_untold, closed_asked, bound_is_lost}
 use Rattle.cw_linked.proofs.Lowering.{lowers_all_closed, lowers_all_called, lowers_all_standing}

@@ -13,7 +13,7 @@ use Rattle.cw_solve.specs.Contexts.{context}
 use Rattle.cw_product.specs.Routed.{AreRouted}
 use Rattle.cw_solve.specs.Rounds.{IsCell}
 use Rattle.cw_solve.specs.Tables.{IsTable, HasCell}
-use Rattle.cw_solve.proofs.Falls.{not_both}
+use Rattle.cw_lemmas.proofs.Truths.{not_both}
 use Rattle.cw_linked.specs.declared.work.Cell.{Cell}
 use Rattle.cw_linked.specs.declared.work.Work.{Work}
 use Rattle.cw_linked.specs.Calls.{AreCallers, AsksCaller}

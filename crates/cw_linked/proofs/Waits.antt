@@ -20,7 +20,7 @@ use Rattle.cw_linked.specs.Founds.{Found, AreAlike, IsClosed, Nothing, AllClosed
 use Rattle.cw_linked.specs.Queues.{found_of, LowersKeys, AsksPair, AsksWaiting}
 use Rattle.cw_linked.specs.Steps.{WaitsFor}
 use Rattle.cw_linked.specs.Waiting.{pair_of, pair_number, keeps_state, HasIn, AreSources, AreChanges, ChangesFor, AsksSources}
-use Rattle.cw_linked.proofs.Asking.{decide}
+use Rattle.std.proofs.lemmas.Bool.{cases_Bool as decide}
 use Rattle.cw_linked.proofs.Sourcing.{leads_alike}
 use Rattle.cw_linked.proofs.Telling.{still_closed, two_steps}
 

@@ -9,6 +9,7 @@ use Rattle.cw_links.specs.Rows.{has, Once}
 use Rattle.cw_links.specs.Heights.{height_at}
 use Rattle.cw_links.proofs.Rows.{less, has-less_same, has-less_other, has-less_within, has_tail, has-append, apart-append, Once-append_right}
 use Rattle.cw_links.proofs.Moves.{contains_from_has, has_place}
+use Rattle.cw_lemmas.proofs.Truths.{cond_true as true_either}
 
 -- lengths
 
@@ -66,9 +67,6 @@ pub Once-from_IsDistinct : (xs : List ℕ) → IsDistinct eqb xs → Once xs
 unfolding IsDistinct
 Once-from_IsDistinct [] o = tt
 Once-from_IsDistinct (x ∷ xs) o = (absent_all x xs o.0, Once-from_IsDistinct xs o.1)
-
-true_either : (a b : Bool) → b ≡ true → cond a true b ≡ true
-true_either a b e = grind arith
 
 pub has_concat_list : (ms : List (List ℕ)) (h y : ℕ) → has (list_at ms h) y ≡ true → has (concat ms) y ≡ true
 has_concat_list [] h y k = absurd (false≢true k)

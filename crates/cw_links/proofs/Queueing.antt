@@ -6,6 +6,7 @@ use Rattle.std.proofs.lemmas.List.{get_or-set_same, get_or-set_other, get_or_pas
 use Rattle.cw_links.specs.Lists.{list_at}
 use Rattle.cw_links.specs.Queues.{AreNone, Puts, Takes}
 use Rattle.cw_links.specs.Keys.{key_of, IsElement, AreWaiting, AreQueued, IsNext, AreEmpty}
+use Rattle.cw_lemmas.proofs.Lists.{contains_none as in_none}
 
 -- 0 more at the end are read as none
 zeros : (many k : ℕ) → slice_index (replicate {A = ℕ} many 0) k ≡ 0
@@ -94,9 +95,6 @@ link_others asked due element key e odd ne =
 in_cons : (x : ℕ) (xs : List ℕ) (y : ℕ) → Contains (x ∷ xs) y → (y ≡ x) ⊎ Contains xs y
 in_cons x xs y (zero, lt, is) = inl (sym is)
 in_cons x xs y (suc i, lt, is) = inr (i, omega (arith, lt), is)
-
-in_none : (y : ℕ) → Contains [] y → ⊥
-in_none y h = omega (arith, h.1)
 
 -- what an element more under a key leaves
 module _ (old new : List (List ℕ)) (element key : ℕ) (p : Puts old new element key) where

@@ -25,14 +25,9 @@ use Rattle.cw_model.specs.Boards.{with_opened, caps_after, landed, stepped, gran
 use Rattle.cw_model.specs.Runs.{top_by, try_of, refused_with, State, start_state, WovenStep, Goes, last}
 use Rattle.cw_model.specs.Laws.{party_of, OnePartyMoves, OverHasNoMove, Follow, last_board, WithoutStop, RefusedIsSkipped, GoingOnIsSkipping, StopsAfterRefusal, EndsSplit}
 use Rattle.cw_model.specs.Laws.{CapabilityModeStays, RightsNeverGrow}
-
-pub cond_some : {A : Type 0} (c : Bool) (x y : A) → cond c (Some x) None ≡ Some y → (c ≡ true) × (x ≡ y)
-cond_some true x y e = (refl, same_Some x y e)
-cond_some false x y e = absurd (none-some y e)
-
-pub map_some : {A B : Type 0} (f : A → B) (o : Option A) (y : B) → option_map f o ≡ Some y → (x : A) × (o ≡ Some x) × (f x ≡ y)
-map_some f None y e = absurd (none-some y e)
-map_some f (Some x) y e = (x, refl, same_Some (f x) y e)
+use Rattle.std.proofs.lemmas.Bool.{false_from_ne_true as not_true}
+use Rattle.cw_lemmas.proofs.Options.{option_map_some as map_some}
+use Rattle.std.proofs.lemmas.Option.{cond_some}
 
 party : (p : Problem) (b : Board) (phase : Phase) (m : Move) (next : Board) → moved p b phase m ≡ Some next → turn_of phase ≡ Some (party_of m)
 party p b (Visit i a later) Skip next e = refl
@@ -130,10 +125,6 @@ goes_on p b i a later e = ap (λ c. record b { phase = cond c (Refused i a later
 unanswered : (policy : PlainPolicy) → policy.stop ≡ false → (caps : Caps) (phase : Phase) (m : Move) → stop_answers policy caps phase m ≡ false
 unanswered policy e caps (Asked i a later) Refuse = no_stop policy caps a e
 unanswered policy e caps _ _ = refl
-
-not_true : (c : Bool) → (c ≡ true → ⊥) → c ≡ false
-not_true true h = absurd (h refl)
-not_true false h = refl
 
 never_refused : (p : Problem) (b : Board) (boards : List Board) → p.policy.stop ≡ false → is_refused b.phase ≡ false → Follow p b boards → is_refused (last_board b boards).phase ≡ false
 never_refused p b [] e h f = h

@@ -19,7 +19,8 @@ use Rattle.cw_expressions.specs.declared.refusal.Refusal.TheVariants as refusal
 use Rattle.cw_expressions.specs.Cursor.{begins, expect}
 use Rattle.cw_expressions.specs.TypeReading.{base_of, type_name}
 use Rattle.cw_expressions.proofs.Steps.{begins_again}
-use Rattle.cw_expressions.proofs.Follows.{is_false, Starts, starts_never}
+use Rattle.cw_expressions.proofs.Follows.{Starts, starts_never}
+use Rattle.std.proofs.lemmas.Bool.{false_from_ne_true as is_false}
 use Rattle.cw_expressions.proofs.TypesComplete.{next_is, continues_type, type_name_again}
 use Rattle.cw_parse.specs.Lists.{Read}
 use Rattle.cw_parse.specs.DeclarationReading.{optional_name, brackets, param, is_void, params, front, header, begins_header}
@@ -28,6 +29,7 @@ use Rattle.cw_parse.proofs.Listed.{Several, not_longer, separated_all, separated
 use Rattle.cw_parse.proofs.DeclarationsSound.{param_sound, HasHeader}
 use Rattle.cw_parse.proofs.Wording.{one_token, two_tokens, starts_declarator, ends_item, ends_param, follows_name, param_follows, stars_again, stars_start}
 use Rattle.cw_parse.proofs.DeclarationsComplete.{specifiers_again, name_again, name_starts, three, four, between_again, Any, initialiser_next, array_next}
+use Rattle.cw_lemmas.proofs.Truths.{and_first as both_true}
 
 abbrev ok_prototype : Prototype → List Lexeme → Read Prototype
 ok_prototype p rest = Ok (p, rest)
@@ -187,10 +189,6 @@ param_stops c rest is = rw is refl
 
 comma_on : (c : Lexeme) (a : List Lexeme) (p : Param) (rest : List Lexeme) → Is w.Comma c → IsParam a p → begins w.Comma (c ∷ a ++ rest) ≡ true
 comma_on c a p rest is h = rw is refl
-
-both_true : (a b : Bool) → (a && b) ≡ true → a ≡ true
-both_true true b f = refl
-both_true false b f = absurd (false≢true f)
 
 -- more than `void` stands there
 never_void : (a : List Lexeme) (c : Lexeme) (rest : List Lexeme) → IsOpen a → words a ≢ w.Void ∷ [] → begins w.Close (a ++ c ∷ rest) ≡ false → Is w.Close c → is_void (a ++ c ∷ rest) ≡ false

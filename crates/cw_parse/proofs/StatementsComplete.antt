@@ -24,7 +24,8 @@ use Rattle.cw_expressions.proofs.Steps.{begins_again, begins_takes, to_of_cons, 
 use Rattle.cw_expressions.proofs.Deeper.{level_above, loosest_expression}
 use Rattle.cw_expressions.proofs.Again.{Again}
 use Rattle.cw_expressions.proofs.Complete.{read_again}
-use Rattle.cw_expressions.proofs.Follows.{is_false, Starts, starts_some, starts_append, starts_never, starts_expression, derived_starts, StopsAt, stops_all}
+use Rattle.cw_expressions.proofs.Follows.{Starts, starts_some, starts_append, starts_never, starts_expression, derived_starts, StopsAt, stops_all}
+use Rattle.std.proofs.lemmas.Bool.{false_from_ne_true as is_false}
 use Rattle.cw_parse.specs.Lists.{Read, Reader, many}
 use Rattle.cw_parse.specs.DeclarationReading.{optional_expression, declaration, starts_declaration}
 use Rattle.cw_parse.proofs.BothWays.{Reads, reads_bind, reads_then, reads_else, reads_of, reads_expect}

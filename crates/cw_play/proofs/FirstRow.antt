@@ -8,9 +8,10 @@ use Rattle.cw_certs.specs.declared.strategy.EnvRow.{EnvRow}
 use Rattle.cw_certs.specs.Strategies.{How, Row, Strategy, row_of}
 use Rattle.cw_game.specs.Games.{Game}
 use Rattle.cw_game.specs.Conditions.{is_start, IsGoodStrategy}
-use Rattle.cw_game.proofs.Link.{not_both}
+use Rattle.cw_lemmas.proofs.Truths.{not_both}
 use Rattle.cw_echeck.specs.Beating.{IsStartRow}
 use Rattle.cw_echeck.proofs.Starts.{good_start}
+use Rattle.std.proofs.lemmas.Bool.{and_parts as both_true}
 
 -- a row of the program's data
 pub row_at : (rows : List EnvRow) (i : ℕ) (x : EnvRow) → i < length rows → x ≡ get_or rows i x → slice_get (map row_of rows) i ≡ Some (row_of x)
@@ -18,10 +19,6 @@ row_at rows i x lt e = slice_get-map row_of rows i ∙ ap (λ (o : Option EnvRow
 
 below_or_at : (j i : ℕ) → j < i + 1 → (j < i) ⊎ (j ≡ i)
 below_or_at j i lt = ⊎_elim (λ l. inl l) (λ (g : i ≤ j). inr (omega (arith, lt, g))) (cases_lt j i)
-
-both_true : (a b : Bool) → (a && b) ≡ true → (a ≡ true) × (b ≡ true)
-both_true true b h = (refl, h)
-both_true false b h = cc
 
 module _ (g : Game) where
   abbrev Start : How → Row

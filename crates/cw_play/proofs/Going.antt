@@ -9,7 +9,7 @@ use Rattle.cw_model.specs.Boards.{start_board}
 use Rattle.cw_game.specs.Games.{Game, Ret, Config, at_pair, returned, leads_in, bad_in}
 use Rattle.cw_game.specs.Pairs.{has, IsAt, is_exit_in}
 use Rattle.cw_game.specs.Closed.{HowOk, IsClosedStrategy}
-use Rattle.cw_game.proofs.Link.{not_both}
+use Rattle.cw_lemmas.proofs.Truths.{not_both}
 use Rattle.cw_echeck.proofs.Leads.{empty, local_over, calls_to, weavers_to}
 use Rattle.cw_echeck.proofs.Boards.{problem_in, environments, at_call, at_end, starts}
 use Rattle.cw_states.specs.States.{Lists}

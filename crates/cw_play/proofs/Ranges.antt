@@ -5,7 +5,7 @@ use Rattle.std.proofs.lemmas.Bool.{ltb-true}
 use Rattle.cw_certs.specs.Strategies.{Row, Strategy}
 use Rattle.cw_game.specs.Games.{Game}
 use Rattle.cw_game.specs.Conditions.{first_failing, is_position, is_state, is_row, row_conditions, IsGoodStrategy}
-use Rattle.cw_game.proofs.Truths.{and_parts}
+use Rattle.std.proofs.lemmas.Bool.{and_parts}
 use Rattle.cw_game.proofs.Goods.{taken, rows_hold, parts}
 use Rattle.cw_play.proofs.Held.{IsInRange}
 

@@ -8,6 +8,7 @@ use Rattle.cw_syntax.specs.Plans.{Stm, Plain, Break, Continue, Return, Open, Clo
 use Rattle.cw_syntax.specs.Frames.{Item, Test, init_if, after_if}
 use Rattle.cw_points.specs.Points.{points_in, points_in_all, one_if, one_if_some, count, count_all}
 use Rattle.cw_points.specs.Graphs.{first}
+use Rattle.cw_lemmas.proofs.Numbers.{add_one as one_up}
 
 -- these stand at this place
 abbrev pub HasAt : {A : Type 0} → List A → ℕ → List A → Type 0
@@ -53,9 +54,6 @@ first_last (suc z) n = refl
 
 length_two : {A : Type 0} (a b : List A) (m n : ℕ) → length a ≡ m → length b ≡ n → length (a ++ b) ≡ m + n
 length_two a b m n e h = length-append a b ∙ ap₂ (λ u v. u + v) e h
-
-one_up : (n : ℕ) → n + 1 ≡ suc n
-one_up n = omega arith
 
 length_init_if : (init : Option ℕ) (is : List Item) (n : ℕ) → length is ≡ n → length (init_if init is) ≡ one_if_some init + n
 length_init_if None is n e = e ∙ sym (zero-add n)

@@ -24,6 +24,8 @@ use Rattle.cw_policy.specs.Parts.{with_rights, rights_of, rights_at, digit_of, d
 use Rattle.cw_policy.proofs.Formed.{EachItem, IsNamed, IsLabelled, label_in}
 use Rattle.cw_policy.proofs.Rights.{within_both}
 use Rattle.cw_policy.proofs.Whole.{both_none}
+use Rattle.cw_lemmas.proofs.Numbers.{below_or_zero as some_below}
+use Rattle.std.proofs.lemmas.Bool.{or_parts as either_false}
 
 -- ---- sets of rights
 
@@ -103,10 +105,6 @@ valid_descriptors format (item d ds) h =
 
 -- ---- names that don't stand twice
 
-either_false : (a b : Bool) → (a || b) ≡ false → (a ≡ false) × (b ≡ false)
-either_false false b e = (refl, e)
-either_false true b e = absurd (true≢false e)
-
 others : (names : List (List ℕ)) (w : List ℕ) → is_among names w ≡ false → All (λ v. v ≢ w) names
 others [] w e = All-nil (λ v. v ≢ w)
 others (n ∷ names) w e =
@@ -150,10 +148,6 @@ labels_apart labels no_items a = a
 labels_apart labels (item d ds) a = labels_apart (with_name labels (label_in d)) ds (apart_kept labels (label_in d) a)
 
 -- ---- limits
-
-some_below : (b : Bool) (n m : ℕ) → nat_lt n m ≡ b → 0 < m → unwrap_or (cond b (Some n) None) 0 < m
-some_below true n m e l = let k : n < m = grind (arith, nat_tests) in k
-some_below false n m e l = l
 
 pub number_below : (w : List ℕ) (names : List (List ℕ)) → 0 < length names → number_in names w < length names
 number_below w names l = some_below (nat_lt (position_or_len (bytes_eq w) names) (length names)) (position_or_len (bytes_eq w) names) (length names) refl l

@@ -20,6 +20,7 @@ use Rattle.cw_positions.proofs.Begins.{begin_below}
 use Rattle.cw_positions.proofs.Lengths.{width_at, length_all}
 use Rattle.cw_positions.proofs.Leading.{IsBelow, EachLeads, leads_at}
 use Rattle.cw_positions.proofs.Standing.{found}
+use Rattle.cw_lemmas.proofs.Lists.{get_below}
 
 -- what is called is a function that is there
 abbrev pub CallsWithin : ℕ → Point → Type 0
@@ -118,11 +119,6 @@ module _ (size functions : ℕ) where
         visits_closed j 0 (primitives policy (is_split parts m)) rest p (primitives_room policy (is_split parts m) (length rest) n) (omega (arith, n))
         (call_closed (is_split parts m) (p + 2 * length (primitives policy (is_split parts m))) j m l (Call j m l) (c, hl) c hl)
     point_closed point.Exit f j l r p c hl hr h = (tt, tt)
-
-pub get_below : {A : Type 0} (ns : List A) (p : ℕ) → p < length ns → (n : A) × (slice_get ns p ≡ Some n)
-get_below [] p h = absurd (omega arith)
-get_below (n ∷ ns) zero h = (n, refl)
-get_below (n ∷ ns) (suc p) h = get_below ns p (omega arith)
 
 module _ (policy : PlainPolicy) (parts : List Part) (ns : List Node) (functions : ℕ) where
   abbrev size : ℕ

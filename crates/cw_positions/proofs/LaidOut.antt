@@ -21,7 +21,7 @@ use Rattle.cw_points.specs.Walks.{parts_of}
 use Rattle.cw_positions.specs.Positions.{is_split, base, to, spots_in, spots}
 use Rattle.cw_positions.specs.Closed.{LeadsWithin}
 use Rattle.cw_positions.specs.Laid.{IsGameOn}
-use Rattle.cw_positions.proofs.Closing.{get_below}
+use Rattle.cw_lemmas.proofs.Lists.{get_below}
 use Rattle.cw_positions.proofs.Fitting.{ActFits, AllFit, routine_fits}
 use Rattle.cw_positions.proofs.Placing.{at_routine}
 use Rattle.cw_positions.proofs.Programs.{of_graph, part_of, parts_length, routines_length, begin_in, end_in, is_closed}

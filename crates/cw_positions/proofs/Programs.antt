@@ -25,7 +25,8 @@ use Rattle.cw_positions.specs.Positions.{base, to, spots_in}
 use Rattle.cw_positions.specs.Closed.{IsClosed, IsWhole, LeadsWithin}
 use Rattle.cw_positions.proofs.Leading.{all_lead, length_nodes}
 use Rattle.cw_positions.proofs.Fitting.{ActFits, PointFits, routine_fits, points_fit_from, point_fits}
-use Rattle.cw_positions.proofs.Closing.{CallsWithin, get_below, base_below, leads_within}
+use Rattle.cw_positions.proofs.Closing.{CallsWithin, base_below, leads_within}
+use Rattle.cw_lemmas.proofs.Lists.{get_below}
 
 length_routines : (c : Scene) (j : ℕ) (fs : List Definition) → length (routines_from c j fs) ≡ length fs
 length_routines c j [] = refl

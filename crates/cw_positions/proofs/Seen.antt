@@ -16,7 +16,7 @@ use Rattle.cw_syntax.specs.Plans.{plan_of}
 use Rattle.cw_game.specs.declared.spots.Spot.{Spot}
 use Rattle.cw_game.specs.declared.spots.Spot.TheVariants as spot
 use Rattle.cw_game.specs.Conditions.{has_seam, has_stage}
-use Rattle.cw_game.proofs.Truths.{and_parts, both}
+use Rattle.std.proofs.lemmas.Bool.{and_parts, and_from as both}
 use Rattle.cw_points.specs.declared.graph.Point.{Point}
 use Rattle.cw_points.specs.declared.graph.Point.TheVariants as point
 use Rattle.cw_points.specs.declared.graph.Node.{Node}
@@ -31,32 +31,12 @@ use Rattle.cw_positions.specs.Origins.{IsOf}
 use Rattle.cw_positions.specs.Seams.{stages_at, node_of, stages_of}
 use Rattle.cw_positions.proofs.Lengths.{width_at}
 use Rattle.cw_positions.proofs.Standing.{stands}
-use Rattle.cw_positions.proofs.Closing.{get_below}
+use Rattle.cw_lemmas.proofs.Lists.{get_below}
 use Rattle.cw_positions.proofs.Origins.{positions_are_of_points}
 use Rattle.cw_positions.proofs.Seaming.{is_seam_point, AreSeams, seams_of_plan, seam_at, point_at}
-
-any_at : {A : Type 0} (p : A → Bool) (xs : List A) → list_any p xs ≡ true → (i : ℕ) × (x : A) × (slice_get xs i ≡ Some x) × (p x ≡ true)
-any_at {A = A} p [] h = cc
-any_at {A = A} p (x ∷ xs) h = by (p x) refl h (any_at p xs)
-  where
-    by : (b : Bool) → p x ≡ b → (b || list_any p xs) ≡ true → (list_any p xs ≡ true → (i : ℕ) × (y : A) × (slice_get xs i ≡ Some y) × (p y ≡ true))
-        → (i : ℕ) × (y : A) × (slice_get (x ∷ xs) i ≡ Some y) × (p y ≡ true)
-    by true e k rest = (0, x, refl, e)
-    by false e k rest = let r = rest k in (suc r.0, r.1, r.2, r.3)
-
-at_any : {A : Type 0} (p : A → Bool) (xs : List A) (i : ℕ) (x : A) → slice_get xs i ≡ Some x → p x ≡ true → list_any p xs ≡ true
-at_any p [] i x e h = absurd (none-some x e)
-at_any p (y ∷ xs) zero x e h = ap (λ b. b || list_any p xs) (ap p (same_Some y x e) ∙ h)
-at_any p (y ∷ xs) (suc i) x e h = by (p y) (at_any p xs i x e h)
-  where
-    by : (b : Bool) → list_any p xs ≡ true → (b || list_any p xs) ≡ true
-    by true k = refl
-    by false k = k
-
-bool_same : (a b : Bool) → (a ≡ true → b ≡ true) → (b ≡ true → a ≡ true) → a ≡ b
-bool_same true b f g = sym (f refl)
-bool_same false true f g = g refl
-bool_same false false f g = refl
+use Rattle.cw_lemmas.proofs.Truths.{truths_same as bool_same}
+use Rattle.std.proofs.lemmas.Map.Keys.{any_passes_from_place as at_any}
+use Rattle.cw_lemmas.proofs.Lists.{any_get as any_at}
 
 lt_true : (m n : ℕ) → m < n → nat_lt m n ≡ true
 lt_true m n h = grind (arith, nat_tests)

@@ -24,7 +24,7 @@ use Rattle.cw_positions.specs.Positions.{spots}
 use Rattle.cw_positions.specs.Laid.{IsGameOn}
 use Rattle.cw_positions.specs.Opens.{AssignsNames}
 use Rattle.cw_positions.specs.Origins.{IsPointWithin}
-use Rattle.cw_positions.proofs.Closing.{get_below}
+use Rattle.cw_lemmas.proofs.Lists.{get_below}
 use Rattle.cw_positions.proofs.LaidOut.{laid_out, has_routines}
 use Rattle.cw_positions.proofs.Opening.{programs_open_variables}
 use Rattle.cw_positions.proofs.Origins.{positions_are_of_points}
@@ -35,16 +35,7 @@ use Rattle.cw_states.specs.Spots.{Have}
 use Rattle.cw_states.proofs.Meaning.{states_are_reached}
 use Rattle.cw_product.specs.Uses.{is_close, is_label, closes_at, labels_at, closes_in, has_label, uses_of}
 use Rattle.cw_product.specs.Product.{Held, game_of}
-
--- a test that an element passes some element passes
-any_at : {A : Type 0} (test : A → Bool) (xs : List A) (i : ℕ) (x : A) → slice_get xs i ≡ Some x → test x ≡ true → list_any test xs ≡ true
-any_at test [] i x e t = absurd (none-some x e)
-any_at test (y ∷ ys) zero x e t = ap (λ b. b || list_any test ys) (ap test (same_Some y x e) ∙ t)
-any_at test (y ∷ ys) (suc i) x e t = either (test y) (list_any test ys) (any_at test ys i x e t)
-  where
-    either : (a b : Bool) → b ≡ true → a || b ≡ true
-    either true b e = refl
-    either false b e = e
+use Rattle.std.proofs.lemmas.Map.Keys.{any_passes_from_place as any_at}
 
 eight : (f : ℕ → Bool) (d : ℕ) → d < 8 → slice_get (map f (0 ∷ 1 ∷ 2 ∷ 3 ∷ 4 ∷ 5 ∷ 6 ∷ 7 ∷ [])) d ≡ Some (f d)
 eight f zero l = refl

@@ -13,6 +13,7 @@ use Rattle.cw_positions.proofs.Lengths.{length_all}
 use Rattle.cw_product.specs.Places.{IsPointOf}
 use Rattle.cw_product.specs.Product.{Held, game_of}
 use Rattle.cw_product.proofs.Begun.{bases_length}
+use Rattle.cw_lemmas.proofs.Numbers.{le_from_not_lt as not_more}
 
 module _ {A : Type 0} (w : A → ℕ) where
   pub rise : (ns : List A) (p q : ℕ) → p ≤ q → sum_by w (take p ns) ≤ sum_by w (take q ns)
@@ -20,9 +21,6 @@ module _ {A : Type 0} (w : A → ℕ) where
   rise ns (suc p) zero l = absurd (omega (arith, l))
   rise [] (suc p) (suc q) l = omega arith
   rise (n ∷ ns) (suc p) (suc q) l = omega (arith, begin_next w n ns p, begin_next w n ns q, rise ns p q (omega (arith, l)))
-
-not_more : (m n : ℕ) → (n < m → ⊥) → m ≤ n
-not_more m n f = elim (leb_tells m n) [ inl h ↦ h.1 | inr h ↦ absurd (f h.1) ]
 
 nothing_below : (p : ℕ) → p < 0 → ⊥
 nothing_below p l = omega (arith, l)

@@ -13,7 +13,7 @@ use Rattle.cw_points.specs.declared.graph.Part.{Part}
 use Rattle.cw_points.specs.declared.graph.Graph.{Graph}
 use Rattle.cw_points.specs.Graphs.{IsGraph, node, splits_of}
 use Rattle.cw_positions.specs.Positions.{base_of, to, width, entry_of, exit_of}
-use Rattle.cw_positions.proofs.Closing.{get_below}
+use Rattle.cw_lemmas.proofs.Lists.{get_below}
 use Rattle.cw_positions.proofs.Programs.{of_graph, routine_of, positions_are_closed}
 use Rattle.cw_product.specs.Routes.{IsBetween, LeadsBetween, IsRoute}
 use Rattle.cw_product.specs.Product.{Held, IsProgramsGraph, game_of}

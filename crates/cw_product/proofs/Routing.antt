@@ -22,6 +22,7 @@ use Rattle.cw_positions.proofs.Standing.{found}
 use Rattle.cw_product.specs.Routes.{IsBetween, LeadsBetween}
 use Rattle.cw_product.proofs.Between.{Goes, GoesTo, NodeGoes}
 use Rattle.cw_product.proofs.Placing.{rise}
+use Rattle.cw_lemmas.proofs.Numbers.{le_from_not_lt as not_below}
 
 module _ (low high : ℕ) where
   -- these stand from p on, and lead to positions between
@@ -115,9 +116,6 @@ module _ (low high : ℕ) where
         visits_route j 0 (primitives policy (is_split parts m)) rest p (primitives_room policy (is_split parts m) (length rest) n) (omega (arith, n))
         (call_route (is_split parts m) (p + 2 * length (primitives policy (is_split parts m))) j m (to at a) (at_between at from last lands a g))
     point_route at from last lands point.Exit f j a b p g h = (tt, tt)
-
-not_below : (m n : ℕ) → (n < m → ⊥) → m ≤ n
-not_below m n f = elim (leb_tells m n) [ inl h ↦ h.1 | inr h ↦ absurd (f h.1) ]
 
 -- The points from one to another lead to such points; at the last an exit stands. So their positions lead to theirs.
 module _ (policy : PlainPolicy) (parts : List Part) (ns : List Node) (from last : ℕ) (exit : Node) (ends : slice_get ns last ≡ Some exit)

@@ -23,6 +23,7 @@ use Rattle.cw_recogniser.proofs.Heads.{head, head_is, untaken, one_word, two_wor
 use Rattle.cw_recogniser.proofs.TypesRead.{EndsType, reads_stars, stars_end, reads_type_name, Declares as DeclaresSymbol, reads_specifiers}
 use Rattle.cw_recogniser.proofs.DeclarationsRead.{FirstItem, first_of_items, first_ends}
 use Rattle.cw_recogniser.proofs.StatementsRead.{reads_statements, reads_items}
+use Rattle.cw_lemmas.proofs.Truths.{and_false, and_true}
 
 abbrev pub is_named : Param → Bool
 is_named p = is_some p.name
@@ -80,14 +81,6 @@ param_begins named k.Int e = refl
 param_begins named k.Long e = refl
 param_begins named k.Unsigned e = refl
 param_begins named _ e = absurd cc
-
-pub and_false : (b : Bool) → (b && false) ≡ false
-and_false true = refl
-and_false false = refl
-
-pub and_true : (b : Bool) → (b && true) ≡ b
-and_true true = refl
-and_true false = refl
 
 pub and_assoc : (a b c : Bool) → ((a && b) && c) ≡ (a && (b && c))
 and_assoc true b c = refl

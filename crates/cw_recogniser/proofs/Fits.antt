@@ -14,6 +14,7 @@ use Rattle.cw_recogniser.specs.Machine.{array, initialiser, initial, more_elemen
 use Rattle.cw_recogniser.specs.Machine.{ending, statement, after_name, maybe_else, for_init, opening, closing, close_bracket, close_brace, semicolon, while_word, name}
 use Rattle.cw_recogniser.proofs.Accepting.{Accepts, takes, step, skip}
 use Rattle.cw_recogniser.proofs.Heads.{head, untaken}
+use Rattle.std.proofs.lemmas.Bool.{not-true as is_false}
 
 -- ---- completions
 
@@ -117,10 +118,6 @@ Fit [] = Unit {0}
 Fit (s ∷ below) = (fits s (completed below) ≡ true) × Fit below
 
 -- ---- what fits isn't taken
-
-is_false : (b : Bool) → not b ≡ true → b ≡ false
-is_false true e = absurd cc
-is_false false e = refl
 
 no_call : (kind : Kind) → is_tight kind ≡ true → is_some (after s.Call kind) ≡ false
 no_call k.Close e = refl

@@ -1,10 +1,4 @@
 -- Truth values.
 use Rattle.std.proofs.Common.{◌≡◌, ◌⊎◌, inl, inr, Bool, true, false, refl}
-
--- a truth value is one of two
-pub which : (b : Bool) → (b ≡ true) ⊎ (b ≡ false)
-which true = inl refl
-which false = inr refl
-
-pub not_both : (b : Bool) → b ≡ true → b ≡ false → ⊥
-not_both b e f = absurd (cc)
+use Rattle.cw_lemmas.proofs.Truths.{not_both}
+use Rattle.std.proofs.lemmas.Bool.{cases_Bool as which}

@@ -4,8 +4,9 @@ use Rattle.std.specs.List.{list_all}
 use Rattle.cw_rights.specs.Valid.{is_name_byte}
 use Rattle.cw_regex.specs.Parts.{Part, word, mark, is_blank, mark_of, begins_word, grown, parts, grown_at, placed}
 use Rattle.cw_regex.specs.Scans.{Apart}
-use Rattle.cw_rights.proofs.Bools.{or_cases, and_left, and_right}
-use Rattle.cw_regex.proofs.Bools.{which}
+use Rattle.std.proofs.lemmas.Bool.{or_cases}
+use Rattle.cw_lemmas.proofs.Truths.{and_first as and_left, and_second as and_right}
+use Rattle.std.proofs.lemmas.Bool.{cases_Bool as which}
 
 -- a byte of a word is no blank
 pub word_no_blank : (b : ℕ) → is_name_byte b ≡ true → is_blank b ≡ false

@@ -12,8 +12,9 @@ use Rattle.cw_regex.specs.declared.phase.Phase.TheVariants.{Begin, Label, Whole,
 use Rattle.cw_regex.specs.Parts.{Part, word, mark, begins_word, parts, starts_blank, ends_blank}
 use Rattle.cw_regex.specs.Grammar.{is_descriptor, amb, Name, DescriptorName, Subject, ambient, holds, TestForm, spelled_subject, spelled_test, IsExpression, IsTest}
 use Rattle.cw_regex.specs.Machine.{in_test, step_word, is_end, is_test_end, step, run, start, ends_here, In}
-use Rattle.cw_rights.proofs.Bools.{and_left, and_right, and_both}
-use Rattle.cw_regex.proofs.Bools.{which}
+use Rattle.cw_lemmas.proofs.Truths.{and_first as and_left, and_second as and_right}
+use Rattle.std.proofs.lemmas.Bool.{and_from as and_both}
+use Rattle.std.proofs.lemmas.Bool.{cases_Bool as which}
 use Rattle.cw_regex.proofs.Cutting.{parts_cut}
 use Rattle.cw_regex.specs.Scans.{ends_word, Apart, May}
 use Rattle.cw_regex.proofs.Running.{after_subject, after, expression_end, run_word, run_expression, run_test, run_close}

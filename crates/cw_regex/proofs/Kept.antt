@@ -9,6 +9,7 @@ use Rattle.cw_rights.specs.Valid.{is_name, IsDistinct}
 use Rattle.cw_regex.specs.Labels.{AreNames}
 use Rattle.cw_regex.specs.Grammar.{Expression, only, either, Term, single, then, Factor, plain, star, plus, maybe, Atom, literal, group, Spells, IsExpression}
 use Rattle.cw_regex.specs.Meaning.{labels_of, labels_of_term, labels_of_factor, labels_of_atom, with_name, with_names}
+use Rattle.std.proofs.lemmas.Bool.{or_parts as either_false}
 
 name_kept : (names : List (List ℕ)) (w : List ℕ) → AreNames names → IsTrue (is_name w) → AreNames (with_name names w)
 name_kept names w a n = by (list_any (bytes_eq w) names)
@@ -22,10 +23,6 @@ names_kept [] names a n = a
 names_kept (w ∷ ws) names a n =
     let first = All-head (λ w. IsTrue (is_name w)) w ws n in
     names_kept ws (with_name names w) (name_kept names w a first) (All-tail (λ w. IsTrue (is_name w)) w ws n)
-
-either_false : (a b : Bool) → (a || b) ≡ false → (a ≡ false) × (b ≡ false)
-either_false false b e = (refl, e)
-either_false true b e = absurd (cc)
 
 others : (names : List (List ℕ)) (w : List ℕ) → list_any (bytes_eq w) names ≡ false → All (λ v. v ≢ w) names
 others [] w e = All-nil (λ v. v ≢ w)

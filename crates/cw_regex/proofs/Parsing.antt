@@ -13,7 +13,7 @@ use Rattle.cw_regex.specs.Grammar.{maybe, Atom, literal, group, spelled_subject,
 use Rattle.cw_regex.specs.Grammar.{spelled_atom}
 use Rattle.cw_regex.specs.Machine.{is_test_start, in_test, step_word, takes_atom, is_end, run}
 use Rattle.cw_regex.specs.Tokens.{begins_bracket, Settled}
-use Rattle.cw_regex.proofs.Bools.{which}
+use Rattle.std.proofs.lemmas.Bool.{cases_Bool as which}
 use Rattle.cw_regex.proofs.Running.{after_subject, after_atom, after_factor, is_atom_end, factor_end, takes_of_end, run_word, run_open, run_label, run_again, atom_end}
 
 -- from here the rest runs through

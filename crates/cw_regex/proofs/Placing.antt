@@ -10,7 +10,7 @@ use Rattle.cw_regex.specs.Grammar.{IsFaultAt}
 use Rattle.cw_regex.specs.Machine.{step_word, step, kept, start, ends_here, In, deepest}
 use Rattle.cw_regex.specs.Pieces.{IsBlankAt, IsMarkAt, IsWordAt}
 use Rattle.cw_regex.specs.Scans.{is_held, Scan, ScanAt}
-use Rattle.cw_rights.proofs.Bools.{and_left, and_right}
+use Rattle.cw_lemmas.proofs.Truths.{and_first as and_left, and_second as and_right}
 use Rattle.cw_regex.proofs.Runs.{take_drop, take_on}
 use Rattle.cw_regex.proofs.Scanned.{scan_start, scan_blank, scan_mark, scan_word, Stuck, fault_by, front_scan, stuck_front, stuck_held, stuck_mark, stuck_word, later_word, scan_ends, stuck_end}
 

@@ -9,7 +9,7 @@ use Rattle.cw_regex.specs.Parts.{Part, word, mark}
 use Rattle.cw_regex.specs.Grammar.{is_descriptor, amb, Name, Subject, ambient, holds, TestForm, Expression, only, either, Term, single, then, Factor, plain, star, plus, maybe, Atom, literal}
 use Rattle.cw_regex.specs.Grammar.{group, spelled_subject, spelled_if, spelled_test, spelled_more, spelled_tests, spelled_label, spelled, spelled_term, spelled_factor, spelled_atom}
 use Rattle.cw_regex.specs.Machine.{is_test_start, in_test, step_word, takes_atom, is_end, run}
-use Rattle.cw_regex.proofs.Bools.{which}
+use Rattle.std.proofs.lemmas.Bool.{cases_Bool as which}
 
 -- the phase after each
 abbrev pub after_subject : Subject → Phase

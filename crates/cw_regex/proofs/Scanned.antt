@@ -12,8 +12,9 @@ use Rattle.cw_regex.specs.declared.phase.Phase.TheVariants.{Begin, Label, Whole,
 use Rattle.cw_regex.specs.Parts.{Part, word, mark, is_blank, mark_of, begins_word, grown, parts, ends_blank}
 use Rattle.cw_regex.specs.Grammar.{is_digit, amb, IsFaultAt}
 use Rattle.cw_regex.specs.Machine.{is_test_start, kept, in_test, step_word, step_mark, closed_one, takes_atom, is_end, step, run, start, ends_here, In, deepest}
-use Rattle.cw_rights.proofs.Bools.{or_cases, and_left, and_right}
-use Rattle.cw_regex.proofs.Bools.{which}
+use Rattle.std.proofs.lemmas.Bool.{or_cases}
+use Rattle.cw_lemmas.proofs.Truths.{and_first as and_left, and_second as and_right}
+use Rattle.std.proofs.lemmas.Bool.{cases_Bool as which}
 use Rattle.cw_regex.proofs.Cutting.{word_no_blank, parts_blank, parts_mark, parts_byte, parts_word, parts_cut}
 use Rattle.cw_regex.specs.Scans.{ends_word, Apart, Scan}
 use Rattle.cw_regex.proofs.Runs.{take_front}

@@ -28,6 +28,8 @@ use Rattle.cw_rights.specs.declared.policy.Descriptor.{Descriptor as AnyDescript
 use Rattle.cw_regex.specs.Labels.{names_in}
 use Rattle.cw_regex.specs.Tokens.{Settled}
 use Rattle.cw_regex.specs.Faults.{is_known, is_colon_part, colon_next, unknown_word, unknown_part, or_else, first_unknown}
+use Rattle.std.proofs.lemmas.Bool.{or_left as any_left, or_right as any_right}
+use Rattle.cw_lemmas.proofs.Numbers.{below_or_zero as some_below}
 
 -- a name's rights are some of the twelve
 need_within : (format : ℕ) (w : List ℕ) → (need_of format w).0 ≤ 0xfff
@@ -36,11 +38,6 @@ need_within format w = by (right_mask format w) (mask_within format w)
     by : (o : Option ℕ) → IfSome o (λ n. n ≤ 0xfff) → unwrap_or o 0 ≤ 0xfff
     by None h = omega arith
     by (Some n) h = h
-
--- the number of a name is that of one of the list, if it isn't empty
-some_below : (b : Bool) (n m : ℕ) → nat_lt n m ≡ b → 0 < m → unwrap_or (cond b (Some n) None) 0 < m
-some_below true n m e l = let k : n < m = grind (arith, nat_tests) in k
-some_below false n m e l = l
 
 number_below : (w : List ℕ) (names : List (List ℕ)) → 0 < length names → number_in names w < length names
 number_below w names l = some_below (nat_lt (position_or_len (bytes_eq w) names) (length names)) (position_or_len (bytes_eq w) names) (length names) refl l
@@ -53,14 +50,6 @@ not_empty w (n ∷ names) e = omega arith
 abbrev pub AllIn : List (List ℕ) → List (List ℕ) → Type 0
 AllIn names [] = Unit {0}
 AllIn names (w ∷ ws) = (list_any (bytes_eq w) names ≡ true) × AllIn names ws
-
-any_left : (a b : Bool) → a ≡ true → (a || b) ≡ true
-any_left true b e = refl
-any_left false b e = absurd (cc)
-
-any_right : (a b : Bool) → b ≡ true → (a || b) ≡ true
-any_right true b e = refl
-any_right false b e = e
 
 kept_name : (names : List (List ℕ)) (v w : List ℕ) → list_any (bytes_eq v) names ≡ true → list_any (bytes_eq v) (with_name names w) ≡ true
 kept_name names v w e = by (list_any (bytes_eq w) names)

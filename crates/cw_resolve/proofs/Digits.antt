@@ -11,11 +11,7 @@ use Rattle.std.proofs.lemmas.List.Folds.{length-prefix_len}
 use Rattle.std.proofs.lemmas.Slice.Eq.{bytes_eq-Decides}
 use Rattle.std.proofs.lemmas.Bool.Decides.{nat_tests}
 use Rattle.cw_core.specs.Numerals.{IsDecimalAt}
-
-bool_same : (a b : Bool) → (a ≡ true → b ≡ true) → (b ≡ true → a ≡ true) → a ≡ b
-bool_same true b f g = sym (f refl)
-bool_same false true f g = g refl
-bool_same false false f g = refl
+use Rattle.cw_lemmas.proofs.Truths.{truths_same as bool_same}
 
 digit_test : (n : ℕ) → n < 10 → is_ascii_digit (48 + n) ≡ true
 digit_test n l = grind (arith, nat_tests)

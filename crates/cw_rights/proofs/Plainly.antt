@@ -6,7 +6,8 @@ use Rattle.std.proofs.Math.Nat.{mul-le-mul_left, mul-le-mul_right}
 use Rattle.cw_rights.specs.Trees.{Literal, Tree, nothing, never, one, seq, alt, star, plus, maybe}
 use Rattle.cw_rights.specs.Words.{Word, Pieces, Matches}
 use Rattle.cw_rights.specs.Plain.{is_nil, is_letter, some_below, chain, if_nil, plain, cost}
-use Rattle.cw_rights.proofs.Bools.{or_cases, or_left, or_right, and_left, and_right, and_both}
+use Rattle.std.proofs.lemmas.Bool.{or_cases, or_left, or_right, and_from as and_both}
+use Rattle.cw_lemmas.proofs.Truths.{and_first as and_left, and_second as and_right}
 use Rattle.cw_rights.proofs.Pieces.{NotNil, not_nil}
 
 -- some number below n

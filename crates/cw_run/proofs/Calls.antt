@@ -20,7 +20,8 @@ use Rattle.cw_game.specs.Places.{IsLaidOut, HasRoutines}
 use Rattle.cw_game.specs.Pairs.{call_spot, kept_at}
 use Rattle.cw_game.specs.Standing.{StandsOn}
 use Rattle.cw_game.proofs.Moves.{step_of}
-use Rattle.cw_game.proofs.Link.{not_both, violates_bad, board_moves}
+use Rattle.cw_game.proofs.Link.{violates_bad, board_moves}
+use Rattle.cw_lemmas.proofs.Truths.{not_both}
 use Rattle.cw_trace.specs.Traces.{Names, step_lines}
 use Rattle.cw_trace.specs.Told.{spot_lines}
 use Rattle.cw_run.specs.Walks.{Here, Wait, ret_of, config_of, mems_of, place}

@@ -33,9 +33,11 @@ use Rattle.cw_trace.specs.Traces.{Names}
 use Rattle.cw_trace.specs.Steps.{IsNoMove}
 use Rattle.cw_run.specs.Walks.{Here, Wait, ret_of, config_of, mems_of, place, mem_after, within, To, Over as AllOver, Back, Stopped, called, returning, ended, going_on, refusing, asked, next_of}
 use Rattle.cw_run.proofs.Sees.{Sees, see, is_inner, below, board_on, remembered}
-use Rattle.cw_run.proofs.Sits.{same_lead, with_rets, mapped, Waiting, Least, Sits}
+use Rattle.cw_run.proofs.Sits.{same_lead, with_rets, Waiting, Least, Sits}
+use Rattle.cw_lemmas.proofs.Options.{option_map_some as mapped}
 use Rattle.cw_run.proofs.Calls.{call_here, called_memory, end_here}
 use Rattle.cw_run.proofs.Refusals.{refusal_step, asked_here}
+use Rattle.std.proofs.lemmas.Bool.{or_from as no_or}
 
 steady : (phase : Phase) → is_refused phase ≡ false → standing phase ≡ phase
 steady (Refused i a later) e = cc
@@ -44,9 +46,6 @@ steady _ e = refl
 none_mapped : {A B : Type 0} (f : A → B) (o : Option A) → option_map f o ≡ None → o ≡ None
 none_mapped f None e = refl
 none_mapped f (Some x) e = absurd (none-some (f x) (sym e))
-
-no_or : (a b : Bool) → a ≡ false → b ≡ false → (a || b) ≡ false
-no_or a b e f = ap₂ (λ x y. x || y) e f
 
 inner_calls : (s : Spot) → is_inner s ≡ true → (is_call_in (Some s) || is_exit_in (Some s)) ≡ false
 inner_calls (CallSpot j f n) e = cc

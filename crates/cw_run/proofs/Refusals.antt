@@ -21,7 +21,8 @@ use Rattle.cw_game.specs.Reached.{Reached}
 use Rattle.cw_game.specs.Places.{IsLaidOut, HasRoutines}
 use Rattle.cw_game.specs.Standing.{StandsOn}
 use Rattle.cw_game.proofs.Stands.{refused_at, stops_is}
-use Rattle.cw_game.proofs.Link.{not_both, violates_bad}
+use Rattle.cw_game.proofs.Link.{violates_bad}
+use Rattle.cw_lemmas.proofs.Truths.{not_both}
 use Rattle.cw_trace.specs.Traces.{Names, step_lines, answered_lines, stopped_lines}
 use Rattle.cw_trace.specs.Lines.{try_line, stop_line}
 use Rattle.cw_run.specs.Walks.{Here, Wait, ret_of, mems_of, place}

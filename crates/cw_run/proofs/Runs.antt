@@ -32,7 +32,8 @@ use Rattle.cw_trace.specs.Told.{spot_lines, label_at}
 use Rattle.cw_run.specs.Walks.{Here, Wait, ret_of, config_of, mems_of, place, within, Next, To, Into, Back, Over as AllOver, Resumed, Stopped, at_pos}
 use Rattle.cw_run.specs.Walks.{called, ended, going_on, refusing, asked, next_of, stop_lines, place_of, waits_after, Rests, stays as rests_stays, tries as rests_tries, skips as rests_skips}
 use Rattle.cw_run.proofs.Sees.{is_inner, Sees, sees_visit, sees_asked, sees_step, sees_branch, sees_label, sees_open, sees_close, sees_call, sees_split, sees_end, see, below, board_on, stays}
-use Rattle.cw_run.proofs.Sits.{mapped, chained, Waiting, Least, Sits, Stepped, label_of, arrived, told_by, inner_step}
+use Rattle.cw_run.proofs.Sits.{chained, Waiting, Least, Sits, Stepped, label_of, arrived, told_by, inner_step}
+use Rattle.cw_lemmas.proofs.Options.{option_map_some as mapped}
 use Rattle.cw_run.proofs.Calls.{Finishes, call_step, return_step, end_step}
 use Rattle.cw_run.proofs.Refusals.{Refuses, Resumes, Stops, resume_step, stop_step}
 use Rattle.cw_run.proofs.Moveless.{Safe}

@@ -28,26 +28,16 @@ use Rattle.cw_trace.proofs.Boards.{moved_on, reached_on}
 use Rattle.cw_run.specs.Walks.{Here, Wait, ret_of, config_of, mems_of, place, mem_after, within}
 use Rattle.cw_run.proofs.Sees.{Sees, see, means_in, is_inner, below}
 use Rattle.cw_run.proofs.Sees.{board_on, remembered, stays}
+use Rattle.cw_lemmas.proofs.Truths.{or_first as left_of}
+use Rattle.cw_lemmas.proofs.Options.{cond_none_some as kept_only, option_map_some as mapped}
 
 -- Where a move leads within a function, whatever waits.
 abbrev pub with_rets : List Ret → Config → Config
 with_rets rets c = at_pair c.pos c.state rets
 
-pub mapped : {A B : Type 0} (f : A → B) (o : Option A) (y : B) → option_map f o ≡ Some y → (x : A) × (o ≡ Some x) × (f x ≡ y)
-mapped f None y e = absurd (none-some y e)
-mapped f (Some x) y e = (x, refl, same_Some (f x) y e)
-
 pub chained : {A B : Type 0} (f : A → Option B) (o : Option A) (y : B) → option_and_then f o ≡ Some y → (x : A) × (o ≡ Some x) × (f x ≡ Some y)
 chained f None y e = absurd (none-some y e)
 chained f (Some x) y e = (x, refl, e)
-
-kept_only : {A : Type 0} (b : Bool) (o : Option A) (y : A) → cond b None o ≡ Some y → (b ≡ false) × (o ≡ Some y)
-kept_only true o y e = absurd (none-some y e)
-kept_only false o y e = (refl, e)
-
-left_of : (a b : Bool) → (a || b) ≡ false → a ≡ false
-left_of true b e = e
-left_of false b e = refl
 
 module _ (g : Game) (p q : ℕ) (rets : List Ret) where
   granted_lead : (a : Primitive) (yes : Bool) → cond yes (Some (past_asked g p q a rets)) None ≡ option_map (with_rets rets) (cond yes (Some (past_asked g p q a [])) None)

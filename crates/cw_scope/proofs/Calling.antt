@@ -8,10 +8,7 @@ use Rattle.cw_syntax.specs.declared.program.Op.TheVariants.{Call as CallOp}
 use Rattle.cw_syntax.specs.Names.{text}
 use Rattle.cw_syntax.specs.Trees.{Tree, Node, Trees, File}
 use Rattle.cw_scope.specs.Rules.{sooner, least, call_if, is_call, defined_call, is_defined}
-
-first_isnt : (a b : Bool) → (a || b) ≡ false → a ≡ false
-first_isnt true b e = e
-first_isnt false b e = refl
+use Rattle.cw_lemmas.proofs.Truths.{or_first as first_isnt}
 
 second_isnt : (a b : Bool) → (a || b) ≡ false → b ≡ false
 second_isnt true b e = absurd (false≢true (sym e))

@@ -9,6 +9,7 @@ use Rattle.std.proofs.lemmas.List.Folds.{list_any-append}
 use Rattle.cw_syntax.specs.declared.program.Name.{Name}
 use Rattle.cw_syntax.specs.Names.{text}
 use Rattle.cw_scope.specs.Rules.{repeated, different}
+use Rattle.cw_lemmas.proofs.Truths.{or_false}
 
 abbrev pub texts : List (Bor (List ℕ)) → List (List ℕ)
 texts keys = map (λ k. k.now) keys
@@ -90,10 +91,6 @@ repeated_at source name names key old at present =
     let seen : list_any (bytes_eq (text source name)) (texts old) ≡ true = ap (λ t. list_any (bytes_eq t) (texts old)) (sym at) ∙ held key.now old
     ∙ is_there (list_any (λ k. bytes_eq key.now k.now) old) present in
     ap (λ b. cond b (Some name) (repeated source (texts old ++ text source name ∷ []) names)) seen
-
-or_false : (b : Bool) → (b || false) ≡ b
-or_false true = refl
-or_false false = refl
 
 by_text : (t u : List ℕ) (before : List (List ℕ)) (b : Bool) → bytes_eq u t ≡ b → list_any (bytes_eq t) before ≡ true → (list_any (bytes_eq u) before || (b || false)) ≡ list_any (bytes_eq u) before
 by_text t u before true e there = let a : list_any (bytes_eq u) before ≡ true = list_any_congr nat_list_eq_equiv u t before e ∙ there in rw a refl

@@ -16,10 +16,7 @@ use Rattle.cw_scope.specs.declared.descriptors.DescriptorFault.TheVariants.{NoVa
 use Rattle.cw_scope.specs.Names.{locals}
 use Rattle.cw_scope.specs.Walks.{every_whole}
 use Rattle.cw_scope.specs.Descriptors.{scene_under, entries, first_undeclared, first_shadowed, names_variable, first_is_variable, is_change, names_some, misuse, used, descriptor_fault}
-
-and_false : (a : Bool) → (a && false) ≡ false
-and_false true = refl
-and_false false = refl
+use Rattle.cw_lemmas.proofs.Truths.{and_false}
 
 module _ (s : Scene) (unnamed : s.names.descriptors ≡ []) where
   no_variable_at : (op : Op) (parts : Trees) (from to : ℕ) → names_variable s (Node op parts from to) ≡ false

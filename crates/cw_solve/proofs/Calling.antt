@@ -24,19 +24,13 @@ use Rattle.cw_solve.specs.Tables.{IsTable, HasCell, HasCall, IsMissing}
 use Rattle.cw_solve.proofs.Falls.{holds_same, back_stays, member_is}
 use Rattle.cw_solve.proofs.Still.{first_of_two, second_of_two, only, holds_call}
 use Rattle.cw_solve.proofs.Tabling.{there_at}
+use Rattle.std.proofs.lemmas.Bool.{and_parts as both}
+use Rattle.cw_lemmas.proofs.Options.{cond_none_some as left, option_map_some as mapped}
 
 -- a choice that is made
 chosen : {X : Type 0} (b : Bool) (a x : X) → cond b (Some a) None ≡ Some x → a ≡ x
 chosen true a x e = same_Some a x e
 chosen false a x e = absurd (none-some x e)
-
-left : {X : Type 0} (b : Bool) (o : Option X) (x : X) → cond b None o ≡ Some x → (b ≡ false) × (o ≡ Some x)
-left true o x e = absurd (none-some x e)
-left false o x e = (refl, e)
-
-mapped : {X Y : Type 0} (f : X → Y) (o : Option X) (y : Y) → option_map f o ≡ Some y → (x : X) × (o ≡ Some x) × (f x ≡ y)
-mapped f None y e = absurd (none-some y e)
-mapped f (Some x) y e = (x, refl, same_Some (f x) y e)
 
 neither : (a b c : Bool) → (a || (b || c)) ≡ false → b ≡ false
 neither true b c e = cc
@@ -84,10 +78,6 @@ called o false j f n e = ap call_in e
 -- the context with a number, and where none is
 is_context : ℕ → ℕ → Context → Bool
 is_context f e c = nat_eq c.function f && nat_eq c.promise e
-
-both : (a b : Bool) → (a && b) ≡ true → (a ≡ true) × (b ≡ true)
-both true b h = (refl, h)
-both false b h = cc
 
 pub place_is : (contexts : List Context) (f e i : ℕ) → position (λ (c : Context). nat_eq c.function f && nat_eq c.promise e) contexts ≡ Some i → slice_get contexts i ≡ Some (context f e)
 place_is contexts f e i h =

@@ -12,14 +12,7 @@ use Rattle.cw_game.specs.Pairs.{has, Called, call_in, call_spot, kept_at}
 use Rattle.cw_game.proofs.Holding.{holds_rises, lost_rises}
 use Rattle.cw_product.specs.Routed.{IsState, targets, AreRouted, IsOf}
 use Rattle.cw_solve.specs.Contexts.{IsSetOf}
-
-pub same_bools : (a b : Bool) → (a ≡ true → b ≡ true) → (b ≡ true → a ≡ true) → a ≡ b
-same_bools true b f h = sym (f refl)
-same_bools false true f h = h refl
-same_bools false false f h = refl
-
-pub not_both : (b : Bool) → b ≡ true → b ≡ false → ⊥
-not_both b t f = let y : true ≡ false = sym t ∙ f in cc
+use Rattle.cw_lemmas.proofs.Truths.{not_both, truths_same as same_bools}
 
 -- what stands where there is a call
 pub call_is : (o : Option Spot) (call : Called) → call_in o ≡ Some call → o ≡ Some (call_spot call.split call.seam call.function call.back)

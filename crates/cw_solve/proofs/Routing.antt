@@ -21,7 +21,7 @@ use Rattle.cw_points.specs.Walks.{first_of, second_of, parts_of}
 use Rattle.cw_positions.specs.Positions.{width, base, number, to, spots_at, spots_in, base_of}
 use Rattle.cw_positions.specs.Closed.{IsClosed}
 use Rattle.cw_positions.proofs.Begins.{begin_more}
-use Rattle.cw_positions.proofs.Closing.{get_below}
+use Rattle.cw_lemmas.proofs.Lists.{get_below}
 use Rattle.cw_positions.proofs.Lengths.{width_at}
 use Rattle.cw_positions.proofs.Standing.{found}
 use Rattle.cw_positions.proofs.Programs.{of_graph, routine_of, positions_are_closed, main_is_there}

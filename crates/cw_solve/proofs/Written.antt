@@ -7,7 +7,8 @@ use Rattle.cw_game.specs.Pairs.{has}
 use Rattle.cw_solve.specs.Contexts.{IsHeight, HeightIs}
 use Rattle.cw_product.specs.Routed.{IsState, AreRouted}
 use Rattle.cw_solve.specs.Rounds.{holds_by, height_by, IsWritten}
-use Rattle.cw_solve.proofs.Falls.{not_both, sooner, later}
+use Rattle.cw_solve.proofs.Falls.{sooner, later}
+use Rattle.cw_lemmas.proofs.Truths.{not_both}
 
 -- a height is positive
 pub height_positive : (g : Game) (p q e k : ℕ) → IsHeight g p q e k → 0 < k

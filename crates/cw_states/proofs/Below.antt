@@ -13,17 +13,13 @@ use Rattle.cw_states.specs.Rights.{caps_cmp}
 use Rattle.cw_states.specs.States.{Lists, AreLists, count, pair, set_place, caps_place, states_of}
 use Rattle.cw_states.specs.Below.{StayBelow}
 use Rattle.cw_states.proofs.Meaning.{start_below}
+use Rattle.cw_lemmas.proofs.Numbers.{mul_positive as right_positive}
 
 -- a place, or 0 where there is none, is below the length of a list that isn't empty
 module _ {A : Type 0} (test : A → Bool) (xs : List A) (some : 0 < length xs) (d : A) where
   place_below : (o : Option ℕ) → position test xs ≡ o → unwrap_or o 0 < length xs
   place_below None e = some
   place_below (Some i) e = (position-Some test xs i d e).0
-
--- a product that something is below has no factor 0
-right_positive : (m n q : ℕ) → q < m * n → 0 < n
-right_positive m zero q l = let z : m * 0 ≡ 0 = mul-zero m in absurd (omega (arith, l, z))
-right_positive m (suc n) q l = omega arith
 
 left_positive : (m n q : ℕ) → q < m * n → 0 < m
 left_positive zero n q l = let z : 0 * n ≡ 0 = zero-mul n in absurd (omega (arith, l, z))

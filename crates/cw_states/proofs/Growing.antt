@@ -21,7 +21,8 @@ use Rattle.cw_model.specs.Boards.{is_yes, may_grant}
 use Rattle.cw_states.specs.declared.order.Ranked.{Ranked}
 use Rattle.cw_states.specs.declared.uses.Uses.{Uses}
 use Rattle.cw_states.specs.Rights.{IsRightsState, at_start, by_enter, by_limit, by_open, by_close, caps_cmp}
-use Rattle.cw_fixpoint.proofs.Members.{contains_none, contains_one, contains_first}
+use Rattle.cw_fixpoint.proofs.Members.{contains_first}
+use Rattle.cw_lemmas.proofs.Lists.{contains_none, contains_one}
 use Rattle.cw_states.specs.Growing.{ranked, all_caps, after_limit, after_limits, after_open, is_true, is_closed, after_close, after_held, after}
 
 yes_is : (a : Allowed) → is_yes a ≡ true → a ≡ Yes

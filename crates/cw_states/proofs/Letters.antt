@@ -23,8 +23,10 @@ use Rattle.cw_states.specs.Masks.{HaveSame, met}
 use Rattle.cw_states.specs.Rights.{IsRightsState, caps_cmp}
 use Rattle.cw_states.specs.States.{IsCause, letters_below, letters_of, label_count}
 use Rattle.cw_states.specs.Tables.{tabled}
-use Rattle.cw_fixpoint.proofs.Members.{contains_none, contains_one, contains_first}
+use Rattle.cw_fixpoint.proofs.Members.{contains_first}
+use Rattle.cw_lemmas.proofs.Lists.{contains_none, contains_one}
 use Rattle.cw_states.proofs.Tabled.{tabled_length, tabled_at}
+use Rattle.cw_lemmas.proofs.Lists.{contains_map as map_by, map_contains as map_from}
 
 letter_in : (rights : List Caps) (c : Caps) (label : ℕ) → Contains rights c → Contains (map (letter_of label) rights) (letter_of label c)
 letter_in rights c label (k, l, e) =
@@ -43,15 +45,6 @@ letter_below rights c label (suc n) l h = by (nat_eq label n) refl (letter_below
     by false e rec =
         let below : label < n = grind (arith, nat_tests) in
         Contains-append_left (letters_below n rights) (map (letter_of n) rights) (letter_of label c) (rec below h)
-
--- the members of a mapped list
-map_by : {A B : Type 0} (f : A → B) (xs : List A) (x : A) → Contains xs x → Contains (map f xs) (f x)
-map_by f xs x (k, l, e) = let n = length-map xs f in (k, omega (arith, l, n), get_or-map f xs k x (f x) l ∙ ap f e)
-
-map_from : {A B : Type 0} (f : A → B) (xs : List A) (y : B) → Contains (map f xs) y → (x : A) × Contains xs x × (f x ≡ y)
-map_from f [] y c = absurd (contains_none y c)
-map_from f (x ∷ xs) y c = ⊎_elim (λ h. (x, contains_first x xs, contains_one (f x) y h))
-    (λ h. let r = map_from f xs y h in (r.0, Contains-append_right (x ∷ []) xs r.0 r.1, r.2)) (Contains-append_cases (f x ∷ []) (map f xs) y c)
 
 -- the first values of a function
 table_by : (f : ℕ → ℕ) (n i : ℕ) → i < n → Contains (tabled f n) (f i)

@@ -11,7 +11,7 @@ use Rattle.cw_rights.specs.Policies.{PlainPolicy, PlainRule, primitives}
 use Rattle.cw_rights.specs.Valid.{IsValid, IsLimitWithin}
 use Rattle.cw_dfa.specs.Positions.{bad_of}
 use Rattle.cw_states.specs.Growing.{IsNarrow}
-use Rattle.cw_fixpoint.proofs.Members.{contains_none, contains_one}
+use Rattle.cw_lemmas.proofs.Lists.{contains_none, contains_one}
 
 pub narrow : (policy : PlainPolicy) → IsValid policy → IsNarrow policy
 narrow policy v =

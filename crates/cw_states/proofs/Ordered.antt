@@ -14,11 +14,7 @@ use Rattle.cw_rights.specs.declared.capabilities.Caps.{Caps}
 use Rattle.cw_states.specs.declared.order.Ranked.{Ranked}
 use Rattle.cw_states.specs.Rights.{mode_number, hold_number, caps_cmp}
 use Rattle.cw_states.specs.Growing.{ranked}
-
-both_equal : (a b : Ordering) → ordering_then a b ≡ Equal → (a ≡ Equal) × (b ≡ Equal)
-both_equal Less b e = cc
-both_equal Equal b e = (refl, e)
-both_equal Greater b e = cc
+use Rattle.cw_lemmas.proofs.Orders.{then_equal as both_equal}
 
 same_mode : (a b : Bool) → mode_number a ≡ mode_number b → a ≡ b
 same_mode true true e = refl

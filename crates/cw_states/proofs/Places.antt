@@ -14,8 +14,11 @@ use Rattle.std.proofs.lemmas.List.Elements.{Contains-append_cases}
 use Rattle.std.proofs.lemmas.Bool.Decides.{nat_tests}
 use Rattle.cw_rights.specs.declared.capabilities.Caps.{Caps}
 use Rattle.cw_states.specs.Rights.{caps_cmp}
-use Rattle.cw_fixpoint.proofs.Members.{contains_none, contains_one}
+use Rattle.cw_lemmas.proofs.Lists.{contains_none, contains_one}
 use Rattle.cw_states.proofs.Ordered.{caps_exact, caps_total}
+use Rattle.std.proofs.lemmas.Bool.{and_from as true_both, and_parts as both_true}
+use Rattle.cw_lemmas.proofs.Numbers.{nat_eq_self as same_nat}
+use Rattle.cw_lemmas.proofs.Orders.{is_eq_equal as at_equal}
 
 module _ {A : Type 0} (test : A → Bool) where
   abbrev FoundFrom : ℕ → List A → Type 0
@@ -44,12 +47,6 @@ module _ {A : Type 0} (test : A → Bool) where
       let e : 0 + f.0 ≡ f.0 = omega arith in
       (f.0, ap (λ o. unwrap_or o 0) (position_from-zero test xs ∙ f.1) ∙ e, f.2, f.3)
 
--- the place of capabilities and of a number, where they are there
-at_equal : (o : Ordering) → is_eq o ≡ true → o ≡ Equal
-at_equal Less e = cc
-at_equal Equal e = refl
-at_equal Greater e = cc
-
 pub caps_found : (xs : List Caps) (c : Caps) → Contains xs c → (unwrap_or (position (λ x. eq_by_cmp caps_cmp x c) xs) 0 < length xs)
     × ((d : Caps) → get_or xs (unwrap_or (position (λ x. eq_by_cmp caps_cmp x c) xs) 0) d ≡ c)
 caps_found xs c h =
@@ -59,18 +56,11 @@ caps_found xs c h =
           ∙ caps_exact (get_or xs f.0 d) c (at_equal (caps_cmp (get_or xs f.0 d) c) (f.3 d)),
     )
 
-same_nat : (q : ℕ) → nat_eq q q ≡ true
-same_nat q = grind (arith, nat_tests)
-
 pub number_found : (xs : List ℕ) (q : ℕ) → Contains xs q → (unwrap_or (position (λ x. nat_eq x q) xs) 0 < length xs)
     × ((d : ℕ) → get_or xs (unwrap_or (position (λ x. nat_eq x q) xs) 0) d ≡ q)
 number_found xs q h =
     let f = found (λ x. nat_eq x q) xs q h (same_nat q) in
     (subst (λ j. j < length xs) (sym f.1) f.2, λ d. ap (λ j. get_or xs j d) f.1 ∙ eqb-true (get_or xs f.0 d) q (f.3 d))
-
-both_true : (a b : Bool) → (a && b) ≡ true → (a ≡ true) × (b ≡ true)
-both_true true b e = (refl, e)
-both_true false b e = cc
 
 same_limit : (d n k l : ℕ) → d ≡ n → k ≡ l
     → (◌≡◌ {A = ALimit} (record { descriptor = d; keep = record { 0 = k } }) (record { descriptor = n; keep = record { 0 = l } }))
@@ -81,10 +71,6 @@ limit_is limit x e =
     let both = both_true (nat_eq x.descriptor limit.descriptor) (nat_eq x.keep.0 limit.keep.0) e in
     same_limit x.descriptor limit.descriptor x.keep.0 limit.keep.0 (eqb-true x.descriptor limit.descriptor both.0)
     (eqb-true x.keep.0 limit.keep.0 both.1)
-
-true_both : (a b : Bool) → a ≡ true → b ≡ true → (a && b) ≡ true
-true_both true b e f = f
-true_both false b e f = cc
 
 is_itself : (limit : ALimit) → is_limit limit limit ≡ true
 is_itself limit =

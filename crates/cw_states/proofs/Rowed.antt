@@ -14,6 +14,7 @@ use Rattle.cw_states.specs.declared.masks.Masks.{Masks}
 use Rattle.cw_states.specs.Masks.{IsMasks, ahead_of, row, rows}
 use Rattle.cw_states.specs.States.{Lists, caps_at, set_at}
 use Rattle.cw_states.specs.Tables.{tabled, place_of, entry, entries}
+use Rattle.cw_lemmas.proofs.Numbers.{zero_mul as no_times}
 
 module _ {A : Type 0} where
   tabled_same : (f g : ℕ → A) (n : ℕ) → ((i : ℕ) → i < n → f i ≡ g i) → tabled f n ≡ tabled g n
@@ -43,9 +44,6 @@ map_tabled (x ∷ xs) h f d e = ap₂ (λ y l. y ∷ l) (e 0 (omega arith)) (map
 
 row_more : (k n q : ℕ) → k * n + (n + q) ≡ (k + 1) * n + q
 row_more k n q = omega arith
-
-no_times : (n : ℕ) → 0 * n ≡ 0
-no_times n = omega arith
 
 suc_times : (m n : ℕ) → suc m * n ≡ n + m * n
 suc_times m n = omega arith

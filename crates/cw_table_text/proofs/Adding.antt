@@ -21,6 +21,7 @@ use Rattle.cw_table_text.specs.declared.row.Row.TheVariants.{Memory, Live, Try, 
 use Rattle.cw_table_text.specs.Rows.{memories, rows_of}
 use Rattle.cw_table_text.specs.Working.{is_nil, is_above, none_from_into, none_from_opened, none_from_tries, is_next, with_row}
 use Rattle.cw_table_text.proofs.Orders.{sorted_push, above_from_sorted}
+use Rattle.std.proofs.lemmas.Bool.{and_from as both_true, and_parts as both_pass}
 
 -- ---- the rows of one kind
 
@@ -422,13 +423,6 @@ nil_is xs e = rw e refl
 pub is_nil_then : {A : Type 0} (xs : List A) → is_nil xs ≡ true → xs ≡ []
 is_nil_then [] e = refl
 is_nil_then (x ∷ xs) e = let no_more = eqb-true (length (x ∷ xs)) 0 e in absurd (omega (arith, no_more))
-
-both_pass : (s t : Bool) → (s && t) ≡ true → (s ≡ true) × (t ≡ true)
-both_pass true t e = (refl, e)
-both_pass false t e = absurd (cc)
-
-both_true : (s t : Bool) → s ≡ true → t ≡ true → (s && t) ≡ true
-both_true s t e f = rw (e, f) refl
 
 -- the kinds up to k alone
 abbrev UpTo : ℕ → Table → Type 0

@@ -13,6 +13,7 @@ use Rattle.cw_text.specs.Lines.{IsFree, set_text}
 use Rattle.cw_text.proofs.Free.{free_from_test, decimal_free, set_text_free}
 use Rattle.cw_text.specs.LimitsText.{name_if, descriptor_name, limit_word}
 use Rattle.cw_table_text.specs.TablesText.{limits_words}
+use Rattle.std.proofs.lemmas.Bool.{and_parts as both_pass}
 
 cat : (a b : List ℕ) → IsFree 10 a → IsFree 10 b → IsFree 10 (a ++ b)
 cat a b p q = All-append (λ (x : ℕ). eqb x 10 ≡ false) a b p q
@@ -22,10 +23,6 @@ digit_free name zero lt e = subst (IsFree 10) (sym e) (free_from_test (λ b. ltb
 digit_free name (suc zero) lt e = subst (IsFree 10) (sym e) (free_from_test (λ b. ltb 44 b) 10 (49 ∷ []) refl refl)
 digit_free name (suc (suc zero)) lt e = subst (IsFree 10) (sym e) (free_from_test (λ b. ltb 44 b) 10 (50 ∷ []) refl refl)
 digit_free name (suc (suc (suc n))) lt e = absurd (omega (arith, lt))
-
-both_pass : (s t : Bool) → (s && t) ≡ true → (s ≡ true) × (t ≡ true)
-both_pass true t e = (refl, e)
-both_pass false t e = absurd (cc)
 
 start_passes : (b : ℕ) → is_name_start b ≡ true → is_name_byte b ≡ true
 start_passes b e = rw e refl

@@ -13,10 +13,8 @@ use Rattle.cw_core.specs.StateSet.{IsBelow}
 use Rattle.cw_core.proofs.SetTexts.{spelling_bytes}
 use Rattle.cw_core.proofs.Spellings.{decimal_has_digits, set_within}
 use Rattle.cw_text.specs.Lines.{IsFree, joined, set_text, IsSetIn}
-
-both_pass : (s t : Bool) → (s && t) ≡ true → (s ≡ true) × (t ≡ true)
-both_pass true t e = (refl, e)
-both_pass false t e = absurd (false≢true e)
+use Rattle.cw_lemmas.proofs.Lists.{all_taken as passing}
+use Rattle.std.proofs.lemmas.Bool.{and_parts as both_pass}
 
 -- bytes that pass a test are free of a mark that doesn't
 pub free_from_test : (p : ℕ → Bool) (mark : ℕ) (bytes : List ℕ) → p mark ≡ false → list_all p bytes ≡ true → IsFree mark bytes
@@ -79,14 +77,6 @@ letters b e = by_digit (is_ascii_digit b) refl
         or_true : (t : Bool) → ((t || true) || eqb b 43 || eqb b 45) ≡ true
         or_true true = refl
         or_true false = refl
-
-passing : (p : ℕ → Bool) (bytes : List ℕ) → list_all p (take_while p bytes) ≡ true
-passing p [] = refl
-passing p (b ∷ bytes) = rw (take_while-cons p b bytes) (by_test (take_while p bytes) (passing p bytes) (p b) refl)
-  where
-    by_test : (rest : List ℕ) → list_all p rest ≡ true → (t : Bool) → p b ≡ t → list_all p (cond t (b ∷ rest) []) ≡ true
-    by_test rest all true e = rw (e, all) refl
-    by_test rest all false e = refl
 
 digits_spell : (ds : List ℕ) → list_all is_hexadecimal_digit ds ≡ true → list_all is_spelling_byte ds ≡ true
 digits_spell [] all = refl

@@ -17,6 +17,7 @@ use Rattle.cw_text.specs.Lines.{IsFree, words_of, set_text, IsSetIn}
 use Rattle.cw_text.proofs.Cuts.{words_first, words_last, words-joined}
 use Rattle.cw_text.proofs.Fields.{mask_stands}
 use Rattle.cw_text.proofs.Free.{decimal_free}
+use Rattle.cw_lemmas.proofs.Truths.{truths_same as same_bool}
 
 -- ---- numbers in a list
 
@@ -49,11 +50,6 @@ in_range s at (suc count) low high =
       | inl e ↦ inl e
       | inr differs ↦ inr (in_range s (at + 1) count (omega (arith, low, differs)) (omega (arith, high)))
     ]
-
-same_bool : (x y : Bool) → (x ≡ true → y ≡ true) → (y ≡ true → x ≡ true) → x ≡ y
-same_bool true y to from = sym (to refl)
-same_bool false true to from = from refl
-same_bool false false to from = refl
 
 in_members : (set s : ℕ) → IsBelow 1024 set → has set s ≡ true → In s (members set)
 unfolding members

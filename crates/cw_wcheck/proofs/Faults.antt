@@ -12,6 +12,7 @@ use Rattle.cw_game.proofs.Failing.{first_append}
 use Rattle.cw_wcheck.specs.declared.fault.BadRow.{BadRow}
 use Rattle.cw_wcheck.specs.Checking.{table_of, told}
 use Rattle.cw_wcheck.specs.Working.{MeanStates}
+use Rattle.cw_lemmas.proofs.Truths.{and_first as first_part, and_second as second_part}
 
 pub map_or : {A B : Type 0} (f : A → B) (o p : Option A) → option_map f (option_or o p) ≡ option_or (option_map f o) (option_map f p)
 map_or f None p = refl
@@ -121,14 +122,6 @@ in_range_all g t h =
     let two = none_first (mems ++ live) tries three in
     let one = none_first mems live two in
     (none_in InMems (is_mem_row g) 0 t.mems one, none_in InLive (is_live_row g t) 0 t.live (none_later mems live two))
-
-pub first_part : (a b : Bool) → (a && b) ≡ true → a ≡ true
-first_part true b h = refl
-first_part false b h = h
-
-pub second_part : (a b : Bool) → (a && b) ≡ true → b ≡ true
-second_part true b h = h
-second_part false b h = cc
 
 pub mean_states : (g : Game) (t : Table) → list_all (is_mem_row g) t.mems ≡ true → MeanStates g t
 mean_states g t h = record { each = among t.mems h }

@@ -36,7 +36,8 @@ use Rattle.cw_game.specs.Standing.{Meaning, Resumes, StandsIn, Stage}
 use Rattle.cw_game.specs.Closed.{leads_where, asked_ok, row_leads, open_leads, back_leads, returns_in, returns_ok, enters, call_ok, row_ok_in, row_ok_by, row_ok, rows_ok}
 use Rattle.cw_game.proofs.Moves.{move_of, step_of}
 use Rattle.cw_game.proofs.Fronts.{next_stage, IsQuiet, on_only, either, Front, is_step, is_branch, is_label, is_open, is_close, is_call, is_end, front_of}
-use Rattle.cw_game.proofs.Truths.{and_parts, both, or_parts, not_true}
+use Rattle.cw_game.proofs.Truths.{or_parts, not_true}
+use Rattle.std.proofs.lemmas.Bool.{and_parts, and_from as both}
 use Rattle.cw_game.proofs.Stands.{mode_of, mode_kept, same_kept, no_letter, stage_at, lands_at, refused_at, grants_is, refuses_is, stops_is, granted_at, given_is, enters_at}
 
 found : {A : Type 0} (b : Bool) (x : A) (o : Option A) → is_some (cond b (Some x) o) ≡ true → (b ≡ true) ⊎ (is_some o ≡ true)

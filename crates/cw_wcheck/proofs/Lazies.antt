@@ -21,7 +21,7 @@ use Rattle.cw_game.specs.Closed.{rows_ok, is_closed_table}
 use Rattle.cw_game.specs.Necessity.{TriesOnlyLost}
 use Rattle.cw_game.specs.Standing.{Meaning, StandsOn}
 use Rattle.cw_game.proofs.Stands.{refused_at, stops_is}
-use Rattle.cw_game.proofs.Truths.{and_parts}
+use Rattle.std.proofs.lemmas.Bool.{and_parts}
 use Rattle.cw_game.proofs.Necessity.{Owed, call_owed, all_owed}
 use Rattle.cw_game.proofs.Standing.{IsStanding, standing_on, state_below, lost_board}
 use Rattle.cw_wcheck.proofs.Kept.{KeptOn, Hands}

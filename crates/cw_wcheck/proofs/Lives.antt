@@ -14,7 +14,7 @@ use Rattle.cw_game.specs.Conditions.{first_failing, InMems, InLive, TableFault, 
 use Rattle.cw_game.proofs.Failing.{first_append, first_mapped}
 use Rattle.cw_wcheck.specs.declared.fault.BadRow.{BadRow}
 use Rattle.cw_wcheck.specs.Checking.{told}
-use Rattle.cw_wcheck.proofs.Faults.{first_part, second_part}
+use Rattle.cw_lemmas.proofs.Truths.{and_first as first_part, and_second as second_part}
 
 module _ (g : Game) (t : Table) where
   -- the first condition that fails of a row, and of the rows from one on

@@ -24,7 +24,8 @@ use Rattle.cw_game.specs.Closed.{rows_ok, is_closed_table}
 use Rattle.cw_game.specs.Standing.{Meaning}
 use Rattle.cw_game.proofs.Moves.{move_of, way_is}
 use Rattle.cw_game.proofs.Stands.{enters_at, stops_is}
-use Rattle.cw_game.proofs.Truths.{and_parts, not_true}
+use Rattle.cw_game.proofs.Truths.{not_true}
+use Rattle.std.proofs.lemmas.Bool.{and_parts}
 use Rattle.cw_model.proofs.Moving.{stops_after_refusal}
 use Rattle.cw_wcheck.proofs.Kept.{rests, IsMeant, Kept, KeptOn, Hands, row_in, leads_to, asked_row, halted_some, advances, free_advances, split_advances, keeps}
 use Rattle.cw_model.proofs.Running.{goes_append}

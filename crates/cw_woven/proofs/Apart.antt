@@ -21,7 +21,7 @@ use Rattle.cw_table_text.proofs.PlainLimits.{limits_free, small_format}
 use Rattle.cw_emit.specs.Cut.{opening, closing}
 use Rattle.cw_syntax.specs.PlainMarks.{HasNone}
 use Rattle.cw_emit.specs.Woven.{placed}
-use Rattle.cw_emit.proofs.Openings.{starts_again}
+use Rattle.cw_lemmas.proofs.Texts.{starts_front as starts_again}
 use Rattle.cw_woven.specs.declared.fault.CutFault.{CutFault}
 use Rattle.cw_woven.specs.declared.fault.CutFault.TheVariants as cut
 use Rattle.cw_woven.specs.declared.fault.WovenFault.{WovenFault}

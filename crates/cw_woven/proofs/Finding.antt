@@ -9,16 +9,7 @@ use Rattle.memchr.proofs.lemmas.MatchLemmas.{OccursAt-split, OccursAt-from_part}
 use Rattle.cw_emit.specs.Cut.{closing}
 use Rattle.cw_syntax.specs.PlainMarks.{HasNone}
 use Rattle.cw_woven.specs.Parts.{IsCutAt, NoneBefore}
-
--- what begins with a word is the word and the rest
-pub starts_is : (t w : List ℕ) → starts_with nat_eq t w ≡ true → t ≡ w ++ drop (length w) t
-starts_is t [] e = refl
-starts_is [] (x ∷ w) e = absurd cc
-starts_is (b ∷ t) (x ∷ w) e =
-    let p = and_parts (eqb x b) (starts_with nat_eq t w) e in
-    let first : x ≡ b = eqb-true x b p.0 in
-    let others : t ≡ w ++ drop (length w) t = starts_is t w p.1 in
-    cc
+use Rattle.cw_lemmas.proofs.Texts.{starts_is}
 
 occurs : (text word : List ℕ) (at : ℕ) → at ≤ length text → starts_with nat_eq (drop at text) word ≡ true → OccursAt text word at
 occurs text word at le e =

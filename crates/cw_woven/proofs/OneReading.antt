@@ -9,7 +9,7 @@ use Rattle.cw_syntax.specs.Trees.{File}
 use Rattle.cw_certs.specs.Tables.{Table}
 use Rattle.cw_emit.specs.Cut.{opening, closing}
 use Rattle.cw_syntax.specs.PlainMarks.{HasNone}
-use Rattle.cw_emit.proofs.Openings.{starts_again}
+use Rattle.cw_lemmas.proofs.Texts.{starts_front as starts_again}
 use Rattle.cw_emit.specs.Woven.{placed}
 use Rattle.cw_table_text.specs.TablesText.{tables_text}
 use Rattle.cw_woven.specs.Parts.{Piece, IsCutAt, AreParts, without, places}

@@ -1,7 +1,8 @@
 use Rattle.std.proofs.Common.{refl, drop, ◌+◌}
 use Rattle.cw_core.specs.Numerals.{is_hexadecimal_digit}
 use Rattle.std.proofs.lemmas.Bool.{true≢false}
-use Rattle.cw_core.proofs.Texts.{list_all-take_while, set_at, end_of, same_set, no_mark, no_set}
+use Rattle.cw_core.proofs.Texts.{set_at, end_of, same_set, no_mark, no_set}
+use Rattle.cw_lemmas.proofs.Lists.{all_taken as list_all-take_while}
 use Rattle.cw_core.proofs.hexadecimal.read_hex.Goals as goal
 
 pub returns-in_err-digits-clause-found : goal.returns-in_err-digits-clause-found

@@ -4,7 +4,7 @@ use Rattle.cw_game.specs.Pairs.{is_call_in}
 use Rattle.cw_product.specs.Product.{game_of}
 use Rattle.cw_solve.specs.declared.table.Table.{Table}
 use Rattle.cw_solve.specs.Tables.{IsTable}
-use Rattle.cw_solve.proofs.Falls.{not_both}
+use Rattle.cw_lemmas.proofs.Truths.{not_both}
 use Rattle.cw_solve.proofs.Tabling.{there_at}
 use Rattle.cw_linked.specs.Added.{ThePair, FirstOf, AllOf}
 use Rattle.cw_linked.proofs.Askings.{one_more_state}

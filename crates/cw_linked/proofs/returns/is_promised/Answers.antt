@@ -1,6 +1,6 @@
 use Rattle.std.proofs.Common.{sym, ◌∙◌, arith}
 use Rattle.cw_core.specs.StateSet.{has as has_member}
-use Rattle.cw_solve.proofs.Falls.{not_both}
+use Rattle.cw_lemmas.proofs.Truths.{not_both}
 use Rattle.cw_linked.proofs.Promising.{is_promised, was_promised}
 use Rattle.cw_linked.proofs.returns.is_promised.Goals as goal
 

@@ -1,5 +1,5 @@
 use Rattle.std.proofs.Common.{refl, inr}
-use Rattle.cw_solve.proofs.Falls.{not_both}
+use Rattle.cw_lemmas.proofs.Truths.{not_both}
 use Rattle.cw_linked.proofs.room.push_next.Goals as goal
 
 pub returns-else-is_link : goal.returns-else-is_link

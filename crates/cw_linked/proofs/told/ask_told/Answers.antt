@@ -5,7 +5,7 @@ use Rattle.cw_product.specs.Product.{game_of}
 use Rattle.cw_linked.specs.Steps.{IsBound}
 use Rattle.cw_linked.specs.Works.{heights_of}
 use Rattle.cw_linked.proofs.Alike.{alike}
-use Rattle.cw_linked.proofs.Least.{false_of}
+use Rattle.std.proofs.lemmas.Bool.{false_from_ne_true as false_of}
 use Rattle.cw_linked.proofs.Telling.{told_none, told_asked}
 use Rattle.cw_linked.proofs.told.ask_told.Goals as goal
 

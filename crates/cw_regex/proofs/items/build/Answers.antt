@@ -1,5 +1,5 @@
 use Rattle.std.proofs.Common.{◌∙◌, ◌≢◌, ◌≤◌, ◌<◌, ◌+◌, [], drop, arith}
-use Rattle.cw_regex.proofs.Bools.{not_both}
+use Rattle.cw_lemmas.proofs.Truths.{not_both}
 use Rattle.cw_regex.specs.Parts.{parts}
 use Rattle.cw_regex.specs.Labels.{names_in}
 use Rattle.cw_regex.specs.Meaning.{names_of}

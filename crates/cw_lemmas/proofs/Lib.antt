@@ -1,0 +1,6 @@
+pub mod Truths
+pub mod Options
+pub mod Orders
+pub mod Numbers
+pub mod Lists
+pub mod Texts

@@ -1,0 +1,22 @@
+-- Options, besides what std has of them.
+use Rattle.std.proofs.Common.{◌≡◌, ℕ, ◌+◌, Bool, true, false, cond, List, [], ◌∷◌, Option, None, Some, option_map, refl, ap, ◌∙◌}
+use Rattle.std.specs.Prelude.{find}
+use Rattle.std.specs.List.{position_from}
+use Rattle.std.proofs.lemmas.Option.{none-some, same_Some}
+
+pub option_map_some : {A B : Type 0} (f : A → B) (o : Option A) (y : B) → option_map f o ≡ Some y → (x : A) × (o ≡ Some x) × (f x ≡ y)
+option_map_some f None y e = absurd (none-some y e)
+option_map_some f (Some x) y e = (x, refl, same_Some (f x) y e)
+
+pub cond_none_some : {X : Type 0} (b : Bool) (o : Option X) (x : X) → cond b None o ≡ Some x → (b ≡ false) × (o ≡ Some x)
+cond_none_some true o x e = absurd (none-some x e)
+cond_none_some false o x e = (refl, e)
+
+-- what has no place isn't found
+pub position_none : {X : Type 0} (t : X → Bool) (i : ℕ) (xs : List X) → position_from t i xs ≡ None → find t xs ≡ None
+position_none t i [] e = refl
+position_none t i (x ∷ xs) e = by (t x) refl e (position_none t (i + 1) xs)
+  where
+    by : (b : Bool) → t x ≡ b → cond b (Some i) (position_from t (i + 1) xs) ≡ None → (position_from t (i + 1) xs ≡ None → find t xs ≡ None) → find t (x ∷ xs) ≡ None
+    by true is e r = let z : Some i ≡ None = e in absurd (cc)
+    by false is e r = ap (λ b. cond b (Some x) (find t xs)) is ∙ r e

@@ -1,0 +1,44 @@
+-- Truths: `and`, `or` and `not`, besides what std has of them.
+use Rattle.std.proofs.Common.{◌≡◌, Bool, true, false, not, ◌&&◌, ◌||◌, cond, refl, sym}
+
+pub and_true : (b : Bool) → (b && true) ≡ b
+and_true true = refl
+and_true false = refl
+
+pub and_false : (b : Bool) → (b && false) ≡ false
+and_false true = refl
+and_false false = refl
+
+pub or_false : (b : Bool) → (b || false) ≡ b
+or_false true = refl
+or_false false = refl
+
+pub and_first : (a b : Bool) → (a && b) ≡ true → a ≡ true
+and_first true b h = refl
+and_first false b h = h
+
+pub and_second : (a b : Bool) → (a && b) ≡ true → b ≡ true
+and_second true b h = h
+and_second false b h = cc
+
+pub or_first : (a b : Bool) → (a || b) ≡ false → a ≡ false
+or_first true b h = cc
+or_first false b h = refl
+
+pub not_or : (a b : Bool) → a ≡ true → b ≡ false → (not a || b) ≡ false
+not_or true b e f = f
+not_or false b e f = cc
+
+pub cond_true : (a b : Bool) → b ≡ true → cond a true b ≡ true
+cond_true true b e = refl
+cond_true false b e = e
+
+pub not_both : (b : Bool) → b ≡ true → b ≡ false → ⊥
+not_both true h k = cc
+not_both false h k = cc
+
+-- each follows from the other
+pub truths_same : (a b : Bool) → (a ≡ true → b ≡ true) → (b ≡ true → a ≡ true) → a ≡ b
+truths_same true b f g = sym (f refl)
+truths_same false true f g = g refl
+truths_same false false f g = refl
