@@ -57,6 +57,7 @@ fn words_of(rt: &HostRuntime) -> Result<Vec<String>, NoMemory> {
     Ok(words)
 }
 
+/// Runs the command that the words say over the files and streams of the system, and exits with its status.
 fn main(rt: HostRuntime) -> ExitCode {
     let Ok(words) = words_of(&rt) else {
         return end_without_memory(&rt);

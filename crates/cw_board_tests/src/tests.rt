@@ -19,6 +19,7 @@ use cw_syntax::checked::Checked;
 use std::alloc::{AllocError, Global};
 use std::test::Fail;
 
+/// A copy of a text.
 fn bytes(alloc: Global, text: &[u8]) -> Result<Vec<u8>, AllocError>
     ensures { IfOk result (λ v. v.items ≡ text.now) }
 {

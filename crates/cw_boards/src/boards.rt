@@ -58,6 +58,7 @@ fn begin(stack: &VecDeque<VecDeque<Item>>) -> Phase
     }
 }
 
+/// What a call keeps for its return: what was held, where it runs in a process of its own.
 fn mode_of(split: bool, caps: Caps) -> Option<Caps>
     ensures { result ≡ mode_of split caps }
 {

@@ -58,6 +58,7 @@ pub(crate) fn kept_after(
     }
 }
 
+/// What is held after a close.
 fn closed(caps: Caps, descriptor: usize) -> Caps
     ensures { result ≡ closed caps descriptor }
 {
@@ -68,6 +69,7 @@ fn closed(caps: Caps, descriptor: usize) -> Caps
     after
 }
 
+/// What is held after an open that succeeded: all rights that the policy gives the descriptor.
 fn opened(policy: &Policy, caps: Caps, descriptor: usize) -> Caps
     requires { IsValid (policy_of policy.now) }
     ensures { result ≡ with_opened caps descriptor (slice_get (policy_of policy.now).descriptors descriptor) }
@@ -80,6 +82,7 @@ fn opened(policy: &Policy, caps: Caps, descriptor: usize) -> Caps
     after
 }
 
+/// What is held after an open: where it failed the variable holds nothing.
 fn after_open(policy: &Policy, caps: Caps, descriptor: usize, way: Way) -> Caps
     requires { IsValid (policy_of policy.now) }
     ensures { result ≡ after_open (policy_of policy.now) caps descriptor (way_in way) }
@@ -90,6 +93,7 @@ fn after_open(policy: &Policy, caps: Caps, descriptor: usize, way: Way) -> Caps
     }
 }
 
+/// What is held behind a call: what its caller held, where it ran in a process of its own.
 fn given_back(kept: &VecDeque<Option<Caps>>, caps: Caps) -> Caps
     ensures { result ≡ given_back kept.now.items caps }
 {
@@ -166,6 +170,7 @@ pub(crate) fn reached_letter(
     }
 }
 
+/// Whether no primitive is left before the front item is passed.
 fn is_free(policy: &Policy, kind: Option<Kind>, phase: Phase) -> bool
     requires { IsValid (policy_of policy.now) }
     ensures { result ≡ is_free (phase_by (primitives_by (policy_of policy.now) kind) phase) }

@@ -36,6 +36,7 @@ pub(crate) enum Choice {
     Steps { split: bool },
 }
 
+/// The primitive at a stage: the policy's limits in their order, then entering, then splitting at a call that may be split.
 fn primitive(policy: &Policy, split: bool, stage: usize) -> Option<Primitive>
     requires { IsValid (policy_of policy.now) }
     ensures same { result ≡ slice_get (primitives (policy_of policy.now) split) stage }
@@ -66,6 +67,7 @@ pub(crate) fn primitive_at(policy: &Policy, kind: Option<Kind>, stage: usize) ->
     }
 }
 
+/// Whether the kernel can grant a primitive (cap_rights_limit(2), cap_enter(2)).
 fn may_grant(caps: &Caps, prim: Primitive) -> bool
     requires { IsDescriptorBelow 8 prim }
     ensures { result ≡ may_grant caps.now prim }
@@ -79,6 +81,7 @@ fn may_grant(caps: &Caps, prim: Primitive) -> bool
     }
 }
 
+/// Whether it can refuse a primitive: where it can't grant it, or the policy says that it is refusable.
 fn may_refuse(policy: &Policy, caps: &Caps, prim: Primitive) -> bool
     requires { IsDescriptorBelow 8 prim }
     ensures { result ≡ may_refuse (policy_of policy.now) caps.now prim }
@@ -106,6 +109,7 @@ fn refused_phase(stops: bool, stage: usize) -> Phase
     }
 }
 
+/// What a grant leads to: the next stage, or the call in a process of its own.
 fn granted(prim: Primitive, next: usize) -> Choice
     ensures { result ≡ granted_choice prim next }
 {
@@ -115,6 +119,7 @@ fn granted(prim: Primitive, next: usize) -> Choice
     }
 }
 
+/// The weaver's moves where a stage is visited: skip or try.
 fn visited(stage: usize, by: Move) -> Choice
     requires { stage < 14 }
     ensures { result ≡ visited_choice stage by }
@@ -127,6 +132,7 @@ fn visited(stage: usize, by: Move) -> Choice
     }
 }
 
+/// The environment's moves where a primitive is asked for: grant or refuse.
 fn answered(policy: &Policy, caps: &Caps, stage: usize, prim: Primitive, by: Move) -> Choice
     requires stage { stage < 14 }
     requires below { IsDescriptorBelow 8 prim }
@@ -152,6 +158,7 @@ fn answered(policy: &Policy, caps: &Caps, stage: usize, prim: Primitive, by: Mov
     }
 }
 
+/// The weaver's moves after a refusal that a stop can answer: skip or stop.
 fn resumed(stage: usize, by: Move) -> Choice
     requires { stage < 14 }
     ensures { result ≡ resumed_choice stage by }

@@ -82,6 +82,7 @@ fn rewrite<'s>(
     }
 }
 
+/// A statement at the front taken apart, where it is made of others; its seams are numbered from `seam`.
 fn rewrite_statement<'s>(
     checked: &Checked<'s>,
     policy: &Policy,

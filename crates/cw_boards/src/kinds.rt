@@ -36,6 +36,7 @@ pub(crate) enum Kind {
     End,
 }
 
+/// The kind of a statement that is an expression, by what it does.
 fn act_kind(act: Act) -> Kind
     ensures { result ≡ act_kind act }
 {

@@ -73,12 +73,14 @@ fn has_below(stack: &VecDeque<VecDeque<Item>>) -> bool
     }
 }
 
+/// Whether the program has a function with this number.
 fn has_function(checked: &Checked, policy: &Policy, number: usize) -> bool
     ensures { result ≡ is_some (frame_of (plan_in checked.now (policy_of policy.now)) number) }
 {
     number < checked.program.functions.len()
 }
 
+/// Whether the stack has what a turn goes to: a loop, a function, a caller.
 fn may_turn(
     checked: &Checked,
     policy: &Policy,
@@ -98,6 +100,7 @@ fn may_turn(
     }
 }
 
+/// Whether the front item can be passed on this way.
 fn may_pass(checked: &Checked, policy: &Policy, stack: &VecDeque<VecDeque<Item>>, way: Way) -> bool
     requires { IsValid (policy_of policy.now) }
     ensures { result ≡ is_some (pass (plan_in checked.now (policy_of policy.now)) (stack_in (scene checked.now policy.now) stack.now) (way_in way)) }
@@ -114,6 +117,7 @@ fn may_pass(checked: &Checked, policy: &Policy, stack: &VecDeque<VecDeque<Item>>
     }
 }
 
+/// Whether a move passes the front item.
 fn may_step(checked: &Checked, policy: &Policy, stack: &VecDeque<VecDeque<Item>>, by: Move) -> bool
     requires { IsValid (policy_of policy.now) }
     ensures { result ≡ may_step (problem checked.now policy.now) (stack_in (scene checked.now policy.now) stack.now) (way_of by) }
@@ -124,6 +128,7 @@ fn may_step(checked: &Checked, policy: &Policy, stack: &VecDeque<VecDeque<Item>>
     }
 }
 
+/// Whether a board that keeps the policy has this move.
 fn may_move(checked: &Checked, policy: &Policy, state: &State, by: Move) -> bool
     requires { IsValid (policy_of policy.now) }
     ensures { result ≡ is_some (moved (problem checked.now policy.now) (board_in checked.now policy.now state.now) (phase_by (primitives_at (policy_of policy.now) (stack_in (scene checked.now policy.now) state.now.stack)) state.now.phase) by) }
@@ -137,6 +142,7 @@ fn may_move(checked: &Checked, policy: &Policy, state: &State, by: Move) -> bool
     }
 }
 
+/// Whether a board has this move; where the policy is violated it has none.
 fn has_move(checked: &Checked, policy: &Policy, board: &Board, by: Move) -> bool
     requires valid { IsValid (policy_of policy.now) }
     requires board { IsBoard checked.now policy.now board.now }
@@ -148,6 +154,7 @@ fn has_move(checked: &Checked, policy: &Policy, board: &Board, by: Move) -> bool
     may_move(checked, policy, &board.state, by)
 }
 
+/// Whether the weaver is to move.
 fn is_weavers(checked: &Checked, policy: &Policy, state: &State) -> bool
     requires { IsValid (policy_of policy.now) }
     ensures { IsTrue result ↔ IsWeavers (board_in checked.now policy.now state.now) }

@@ -37,6 +37,7 @@ pub struct Seen {
     pub front: Option<Front>,
 }
 
+/// The front item that is passed at a state of a run, if one is.
 fn passed(seen: Seen) -> Option<Front>
     ensures { result ≡ passed_by seen }
 {
@@ -46,6 +47,7 @@ fn passed(seen: Seen) -> Option<Front>
     }
 }
 
+/// The front items that are passed, in their order.
 fn passed_all(alloc: Global, states: &[Seen]) -> Result<Vec<Front>, AllocError>
     ensures { IfOk result (λ path. path.items ≡ filter_map passed_by states.now) }
 {

@@ -13,6 +13,7 @@ use cw_rights::Policy;
 use cw_syntax::checked::Checked;
 use cw_syntax::program::{Expr, Function, Stmt, What};
 
+/// How many seams an expression has as a statement: one where it opens, closes or calls.
 fn expression_seams(checked: &Checked, policy: &Policy, e: &Expr) -> usize
     ensures { result ≡ capped (seams (acting (action_of (scene checked.now policy.now) (tree_of e.now)) 0)) }
 {

@@ -214,6 +214,7 @@ fn enter<'s>(
     }
 }
 
+/// A loop's test: goes into its body where the way does, else None.
 fn enter_test<'s>(
     at: u32,
     decided: bool,

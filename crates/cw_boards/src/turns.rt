@@ -33,6 +33,7 @@ pub(crate) enum Turn {
     Stops,
 }
 
+/// How an item is passed that has one way.
 fn on(kind: Kind) -> Turn
     ensures { result ≡ turn_of kind Way.On }
 {

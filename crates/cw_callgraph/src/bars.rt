@@ -25,6 +25,7 @@ pub(crate) struct Bars {
     pub bodies: Vec<Option<u32>>,
 }
 
+/// For each function the place in its head that forbids splitting it, if there is one.
 fn head_bars(alloc: Global, functions: &[Function]) -> Result<Vec<Option<u32>>, NoMemory>
     ensures { IfOk result (λ heads. heads.items ≡ map head_bar functions.now) }
 {
@@ -35,6 +36,7 @@ fn head_bars(alloc: Global, functions: &[Function]) -> Result<Vec<Option<u32>>, 
     Ok(heads)
 }
 
+/// The least place in the body of a function that forbids splitting it, and what reaches it.
 fn body_bar(alloc: Global, setting: &Setting, function: &Function) -> Result<Option<u32>, NoMemory>
     ensures { IfOk result (λ place. place ≡ body_bar (scene_at setting.now) (file_at setting.now) function.now) }
 {
@@ -42,6 +44,7 @@ fn body_bar(alloc: Global, setting: &Setting, function: &Function) -> Result<Opt
     Ok(lowest(&places))
 }
 
+/// The same for each function.
 fn body_bars(
     alloc: Global,
     setting: &Setting,

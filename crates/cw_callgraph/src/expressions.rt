@@ -40,12 +40,14 @@ fn first_role(role: Role, op: Op) -> Role
     }
 }
 
+/// What an expression that is a name means there.
 fn meaning_of(scope: &Scope, e: &Expr) -> Option<Meaning>
     ensures { result ≡ meaning_of scope.now.source.now scope.now.file.now scope.now.inner.now (tree_of e.now) }
 {
     meaning_at(scope, e.op, e.from, e.to)
 }
 
+/// What the first part of an expression means, where it is a name.
 fn first_means(scope: &Scope, parts: &[Expr]) -> Option<Meaning>
     ensures { result ≡ first_means scope.now.source.now scope.now.file.now scope.now.inner.now (trees_of parts.now) }
 {
@@ -65,12 +67,14 @@ fn element_at(scope: &Scope, op: Op, parts: &[Expr]) -> bool
     }
 }
 
+/// Whether an expression is an element of an array of file scope.
 fn is_element(scope: &Scope, e: &Expr) -> bool
     ensures { result ≡ is_element scope.now.source.now scope.now.file.now scope.now.inner.now (tree_of e.now) }
 {
     element_at(scope, e.op, &e.parts)
 }
 
+/// Whether the first part of an expression is one.
 fn first_is_element(scope: &Scope, parts: &[Expr]) -> bool
     ensures { result ≡ first_is_element scope.now.source.now scope.now.file.now scope.now.inner.now (trees_of parts.now) }
 {

@@ -8,6 +8,7 @@ ghost use Rattle.cw_callgraph.specs.Lowest.{lowest};
 
 use cw_syntax::program::{Base, CType, Function, Param};
 
+/// Whether the result of a function that is split may have this word: `void`, or `int` that isn't `unsigned`.
 fn is_result(base: Base, unsigned: bool) -> bool
     ensures { result ≡ is_result base unsigned }
 {
@@ -18,6 +19,7 @@ fn is_result(base: Base, unsigned: bool) -> bool
     }
 }
 
+/// Whether a function with this result may be split: what a process can give back by its exit status.
 fn may_be_result(kind: CType) -> bool
     ensures { result ≡ may_be_result kind }
 {
@@ -33,12 +35,14 @@ fn is_void(base: Base) -> bool
     }
 }
 
+/// Whether a function with this parameter may be split: a number, no pointer and no array.
 fn may_be_parameter(param: &Param) -> bool
     ensures { result ≡ may_be_parameter param.now }
 {
     !is_void(param.kind.base) && param.kind.stars == 0 && !param.array
 }
 
+/// Whether a function with these parameters may be split.
 fn may_be_parameters(params: &[Param]) -> bool
     ensures { result ≡ list_all may_be_parameter params.now }
 {

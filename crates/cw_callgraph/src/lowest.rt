@@ -17,6 +17,7 @@ pub(crate) fn sooner(place: Option<u32>, other: Option<u32>) -> Option<u32>
     }
 }
 
+/// The least of some places; None of none.
 #[tactic(auto, using(crate::proofs::Lesser::sooner_assoc))]
 pub(crate) fn lowest(places: &[u32]) -> Option<u32>
     ensures { result ≡ lowest places.now }

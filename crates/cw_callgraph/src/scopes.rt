@@ -34,6 +34,7 @@ pub(crate) struct Scope<'a> {
     pub inner: &'a [Known],
 }
 
+/// What a name means by the last of some names that is the same, and what it meant before where none is.
 fn latest(source: &[u8], before: Option<Meaning>, known: &[Known], name: &[u8]) -> Option<Meaning>
     ensures { result ≡ latest source.now before known.now name.now }
 {
@@ -46,6 +47,7 @@ fn latest(source: &[u8], before: Option<Meaning>, known: &[Known], name: &[u8]) 
     means
 }
 
+/// What a name means in a function: the names known within it stand before those of file scope.
 fn name_means(scope: &Scope, name: &[u8]) -> Option<Meaning>
     ensures { result ≡ name_means scope.now.source.now scope.now.file.now scope.now.inner.now name.now }
 {
@@ -83,6 +85,7 @@ pub(crate) fn is_array(means: Option<Meaning>) -> bool
     }
 }
 
+/// Whether what a name means is a parameter of the function.
 pub(crate) fn is_parameter(means: Option<Meaning>) -> bool
     ensures { result ≡ is_parameter means }
 {
@@ -92,6 +95,7 @@ pub(crate) fn is_parameter(means: Option<Meaning>) -> bool
     }
 }
 
+/// Whether a declared name is an array, or whether it is none.
 fn has_kind(arrays: bool, item: &Item) -> bool
     ensures { result ≡ has_kind arrays (declared_of item.now) }
 {
@@ -102,6 +106,7 @@ fn has_kind(arrays: bool, item: &Item) -> bool
     }
 }
 
+/// What a name that is declared outside functions means.
 fn global(arrays: bool, item: &Item) -> Known
     ensures { result ≡ global arrays (declared_of item.now) }
 {
@@ -115,6 +120,7 @@ fn global(arrays: bool, item: &Item) -> Known
     }
 }
 
+/// Appends the arrays of a declaration, or its other names.
 fn put_items(arrays: bool, items: &[Item], out: &mut Vec<Known>) -> Result<(), NoMemory>
     ensures { IfOk result (λ _. out.new.items ≡ out.old.items ++ map (global arrays) (filter (has_kind arrays) (map declared_of items.now))) }
 {
@@ -126,6 +132,7 @@ fn put_items(arrays: bool, items: &[Item], out: &mut Vec<Known>) -> Result<(), N
     Ok(())
 }
 
+/// Appends the arrays of all declarations outside functions, or their other names.
 fn put_globals(arrays: bool, declarations: &[Decl], out: &mut Vec<Known>) -> Result<(), NoMemory>
     ensures { IfOk result (λ _. out.new.items ≡ out.old.items ++ flat_map (globals_in arrays) (map declaration_of declarations.now)) }
 {

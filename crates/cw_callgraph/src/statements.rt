@@ -43,6 +43,7 @@ fn put_value(
     put_places(&scope, Role::Value, e, out)
 }
 
+/// Appends the places in expressions whose values are taken.
 fn put_values(
     setting: &Setting,
     inner: &[Known],
@@ -59,6 +60,7 @@ fn put_values(
     put_places_in(&scope, Role::Value, es, out)
 }
 
+/// Appends the places in an expression, if there is one, whose value is taken.
 fn put_given(
     setting: &Setting,
     inner: &[Known],
@@ -73,6 +75,7 @@ fn put_given(
     }
 }
 
+/// Appends the places in the size of an array, if it has one.
 fn put_size(
     setting: &Setting,
     inner: &[Known],
@@ -87,6 +90,7 @@ fn put_size(
     }
 }
 
+/// What a name means that is declared in a function: `extern` means what is so called at file scope.
 fn local(setting: &Setting, external: bool, item: &Item) -> Known
     ensures { result ≡ local (source_at setting.now) (file_at setting.now) external (declared_of item.now) }
 {
@@ -112,6 +116,7 @@ fn put_item(
     put_values(setting, inner, &item.init, out)
 }
 
+/// Appends the places in the names of a declaration; each is known from the end of its declarator on (ISO C11, 6.2.1).
 fn put_items(
     setting: &Setting,
     external: bool,

@@ -32,7 +32,7 @@ use std::alloc::Global;
 /// The most labels that have numbers of 16 bits; a program with more of them has more than 8,192 points.
 const LABELS: usize = 65_535;
 
-/// A policy that has these labels and nothing else.
+/// A policy of format 1 that has these labels, numbered in their order, and nothing else.
 fn with_labels(alloc: Global, labels: Vec<Vec<u8>>) -> Policy
     ensures names { names_of (policy_of result) ≡ record { descriptors = []; labels = lists labels.items; splits = [] } }
 {

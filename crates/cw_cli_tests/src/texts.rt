@@ -22,8 +22,10 @@ pub(crate) const TWO_PROMISES: &str =
 /// That a descriptor is held whose variable no source here has.
 pub(crate) const DESCRIPTOR: &str = "format = 1\n[[descriptor]]\nname = \"fd\"\n";
 
+/// A source without labels.
 pub(crate) const NO_LABEL: &str = "int main(void){return 0;}";
 
+/// A source with one label, `a`.
 pub(crate) const ONE_LABEL: &str = "int main(void){a:;return 0;}";
 
 /// A function that is called twice.
@@ -63,6 +65,7 @@ CW_AT(1,1,2)
 CW_DONE
 /*}cw*/int main(void){/*cw{*/CW_ENTRY(0);/*}cw*/a:/*cw{*/CW_LABEL(1)/*}cw*/;return 0;}";
 
+/// A loop with two labels, woven where no call is tried.
 pub(crate) const LOOP: &str = "/*cw{*/
 #include \"capweave.h\"
 #define CW_LIMITS(X)
@@ -91,6 +94,7 @@ CW_AT(2,0,0)
 CW_DONE
 /*}cw*/int main(void){/*cw{*/CW_ENTRY(0);/*}cw*/while(c){o:/*cw{*/CW_LABEL(1)/*}cw*/;p:/*cw{*/CW_LABEL(2)/*}cw*/;}return 0;}";
 
+/// A source woven so that a call is tried at its second seam.
 pub(crate) const SECOND_OF_TWO: &str = "/*cw{*/
 #include \"capweave.h\"
 #define CW_LIMITS(X)
@@ -147,6 +151,7 @@ states 4
 end
 ";
 
+/// The strategy for two labels in a loop.
 pub(crate) const TWO_LABELS_IN_A_LOOP: &str = "capweave strategy 1
 states 4
 0 6 1 0x0 bad
@@ -174,6 +179,7 @@ states 4
 end
 ";
 
+/// `ONE_LABEL`, woven for a policy of format 2 without rules.
 pub(crate) const FORMAT_TWO: &str = "/*cw{*/
 #include \"capweave.h\"
 #define CW_LIMITS(X)
@@ -191,6 +197,7 @@ CW_AT(1,1,0)
 CW_DONE
 /*}cw*/int main(void){/*cw{*/CW_ENTRY(0);/*}cw*/a:/*cw{*/CW_LABEL(1)/*}cw*/;return 0;}";
 
+/// A source with a call before its label, woven.
 pub(crate) const OVER_A_CALL: &str = "/*cw{*/
 #include \"capweave.h\"
 #define CW_LIMITS(X)
@@ -218,6 +225,7 @@ CW_BACK(2,0,0,0,0)
 CW_DONE
 /*}cw*/void f(void){/*cw{*/CW_ENTRY(0);/*}cw*/}int main(void){/*cw{*/CW_ENTRY(1);/*}cw*//*cw{*/CW_CALL(2)/*}cw*/f();a:/*cw{*/CW_LABEL(3)/*}cw*/;return 0;}";
 
+/// `ONE_LABEL`, woven for `STOPPABLE`: it stops where it is refused.
 pub(crate) const STOPS: &str = "/*cw{*/
 #include \"capweave.h\"
 #define CW_LIMITS(X)
@@ -238,6 +246,7 @@ CW_AT(1,1,2)
 CW_DONE
 /*}cw*/int main(void){/*cw{*/CW_ENTRY(0);/*}cw*/a:/*cw{*/CW_LABEL(1)/*}cw*/;return 0;}";
 
+/// A source that opens, takes a result and closes, woven under a limit.
 pub(crate) const OPENED_AND_TAKEN: &str = "/*cw{*/
 #include \"capweave.h\"
 #define CW_LIMITS(X) X(0,fd,0x0)

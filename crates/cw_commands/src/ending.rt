@@ -26,6 +26,7 @@ pub enum Ending<'w, N: Sink> {
     Memory,
 }
 
+/// The status of an answer: 0 for yes, 1 for no.
 fn reply_status(reply: Reply) -> u8
     ensures { result ≡ reply_status reply }
 {
@@ -35,6 +36,7 @@ fn reply_status(reply: Reply) -> u8
     }
 }
 
+/// The status of a refusal, by what is refused.
 fn cause_status(cause: Cause) -> u8
     ensures { result ≡ cause_status cause }
 {

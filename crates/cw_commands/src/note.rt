@@ -26,6 +26,7 @@ fn put_line<N: Sink>(note: &mut N, words: &[u8], rest: &[u8]) -> Result<(), Sink
     writer.finish(note)
 }
 
+/// The words of a command, or of all, for the line on usage.
 fn usage(first: Option<Name>) -> &'static [u8]
     ensures { usage_line first ≡ line (codes "usage: capweave ") result.now }
 {
@@ -59,6 +60,7 @@ fn end_line<N: Sink>(words: Writer<N>, note: &mut N) -> Result<(), SinkFault>
     writer.finish(note)
 }
 
+/// Puts the rest of an ending's line, and its end: nothing where something was put out.
 fn put_line_of<N: Sink>(note: &mut N, ending: Ending<'_, N>) -> Result<(), SinkFault>
     requires begun { EndsLine N.taken N.faults N.refused (noted_from note.old ending) note.old ending }
     ensures puts { PutsLine (N.taken (noted_from note.old ending.entry)) (N.taken note.new) (line_of ending.entry) result }

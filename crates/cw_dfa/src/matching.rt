@@ -24,6 +24,7 @@ pub fn spare(r: &Regex, budget: u32) -> Option<u32>
     }
 }
 
+/// What is left of a budget of literals after all parts, and None where they are more.
 #[cycle(spare)]
 fn spare_row(parts: &[Regex], budget: u32) -> Option<u32>
     ensures some { IfSome result (λ left. left + count (seq_of parts.now) ≡ budget) }
@@ -62,6 +63,7 @@ fn tests_hold(lit: &Lit, caps: Caps) -> bool
     lit_matches(lit, &Letter { label, caps })
 }
 
+/// Whether a literal is sought: it may stand for the label, or its tests hold of what is held.
 fn picks(lit: &Lit, sought: Sought) -> bool
     ensures { result ≡ picks sought (literal_of lit.now) }
 {
@@ -78,6 +80,7 @@ pub struct Marked {
     pub set: u64,
 }
 
+/// The set of a literal's own position `k` where it is sought, else the empty set.
 fn literal(lit: &Lit, k: u32, sought: Sought) -> u64
     requires { k < 64 }
     ensures { result ≡ cond (picks sought (literal_of lit.now)) (2 ^ k) 0 }
@@ -85,6 +88,8 @@ fn literal(lit: &Lit, k: u32, sought: Sought) -> u64
     if picks(lit, sought) { single(k) } else { 0 }
 }
 
+/// The literals of an expression that are sought, as a set of positions, where its first literal has position `k`,
+/// and the position after its last one. Positions are below 64.
 #[cycle(picked)]
 #[tactic(auto, using(crate::proofs::Rows::cat_is, crate::proofs::Rows::or_picked, crate::proofs::Rows::or_count))]
 pub fn picked(r: &Regex, k: u32, sought: Sought) -> Marked
@@ -102,6 +107,7 @@ pub fn picked(r: &Regex, k: u32, sought: Sought) -> Marked
     }
 }
 
+/// The same for parts that stand one after the other.
 #[cycle(picked)]
 fn picked_row(parts: &[Regex], k: u32, sought: Sought) -> Marked
     requires { k + count (seq_of parts.now) ≤ 64 }

@@ -13,6 +13,7 @@ use cw_fixpoint::{Steps, closed_up_to};
 use cw_rights::Letter;
 use std::alloc::{AllocError, Global};
 
+/// For each letter the set of positions whose literals match it.
 fn masks(alloc: Global, rules: &Rules, letters: &[Letter]) -> Result<Vec<u64>, AllocError>
     ensures { IfOk result (λ v. v.items ≡ map (matching (bad_of (rules_of rules.now)) 1) letters.now) }
 {
@@ -71,6 +72,7 @@ fn put_after_all(
     Ok(())
 }
 
+/// Appends a set, if there is one.
 fn put_some(keys: &mut Vec<u64>, next: Option<u64>) -> Result<(), AllocError>
     ensures { OnOk result (keys.new.items ≡ keys.old.items ++ option_to_list next) }
 {

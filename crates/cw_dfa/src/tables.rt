@@ -29,6 +29,7 @@ pub fn has(set: u64, position: u32) -> bool
     set >> position & 1 == 1
 }
 
+/// The set of one position, below 64.
 #[tactic(auto, using(crate::proofs::Sums::one_shl))]
 pub fn single(position: u32) -> u64
     requires { position < 64 }
@@ -37,12 +38,14 @@ pub fn single(position: u32) -> u64
     1 << position
 }
 
+/// The set where it is wanted, else the empty set.
 fn only_if(wanted: bool, set: u64) -> u64
     ensures { result ≡ cond wanted set 0 }
 {
     if wanted { set } else { 0 }
 }
 
+/// Lets each position of `to` follow each position of `from`.
 fn link(follow: &mut [u64], from: u64, to: u64)
     requires { length follow.old ≡ 64 }
     ensures { (p : ℕ) → p < 64 →
@@ -53,6 +56,7 @@ fn link(follow: &mut [u64], from: u64, to: u64)
     }
 }
 
+/// A literal at position `k`: it is the first, the last, and not skipped.
 fn literal(k: u32) -> Part
     requires { k < 64 }
     ensures next { result.next ≡ k + 1 }
@@ -68,6 +72,7 @@ fn literal(k: u32) -> Part
     }
 }
 
+/// One part and then another: what may stand first and last in both together.
 fn sequence(p: Part, q: Part) -> Part
     ensures next { result.next ≡ q.next }
     ensures skips { result.skips ≡ (p.skips && q.skips) }
@@ -82,6 +87,7 @@ fn sequence(p: Part, q: Part) -> Part
     }
 }
 
+/// One part or another.
 fn alternative(p: Part, q: Part) -> Part
     ensures next { result.next ≡ q.next }
     ensures skips { result.skips ≡ (p.skips || q.skips) }
@@ -127,6 +133,7 @@ pub fn add_part(r: &Regex, k: u32, follow: &mut [u64]) -> Part
     }
 }
 
+/// Parts one after the other, the first literal at position `k`; what may follow what is added to `follow`.
 #[cycle(part)]
 fn sequence_of(parts: &[Regex], k: u32, follow: &mut [u64]) -> Part
     requires room { k + count (seq_of parts.now) ≤ 64 }
@@ -150,6 +157,7 @@ fn sequence_of(parts: &[Regex], k: u32, follow: &mut [u64]) -> Part
     }
 }
 
+/// Parts of which one is taken, the first literal at position `k`; what may follow what is added to `follow`.
 #[cycle(part)]
 fn alternative_of(parts: &[Regex], k: u32, follow: &mut [u64]) -> Part
     requires room { k + count (alt_of parts.now) ≤ 64 }

@@ -200,6 +200,7 @@ fn is_start(game: &Game, row: &EnvRow) -> bool
     row.pos.0 == pos.0 && row.state.0 == state.0 && row.aim == StateSet::empty()
 }
 
+/// Whether a row of the strategy stands at the game's start.
 fn has_start(game: &Game, cert: &EnvCert) -> bool
     ensures { result ≡ list_any (is_start (game_of game.now)) (strategy_of cert.now).rows }
 {

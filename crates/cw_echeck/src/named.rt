@@ -10,6 +10,7 @@ ghost use Rattle.cw_echeck.specs.Checks.{stands_by};
 use cw_certs::{EnvCert, EnvRow, How};
 use cw_core::{PosId, StateId, StateSet};
 
+/// Whether all rows that are named for returns stand before the row with this number.
 fn are_named_below(backs: &[(StateId, u32)], number: u32) -> bool
     ensures { result ≡ list_all (λ b. nat_lt b.1 number) backs.now }
 {
@@ -28,6 +29,7 @@ pub(crate) fn names_below(how: &How, number: u32) -> bool
     }
 }
 
+/// Whether all exit states that have a row for the return are states of the game.
 fn are_states(backs: &[(StateId, u32)], count: u16) -> bool
     ensures { result ≡ list_all (λ b. nat_lt b.0.0 count) backs.now }
 {

@@ -63,6 +63,7 @@ pub fn put_spelling<S: Sink>(
     }
 }
 
+/// Puts a seam's number between two texts.
 fn put_seam<S: Sink>(before: &[u8], seam: u32, after: &[u8], writer: &mut Writer<S>, out: &mut S)
     requires follows { Follows S.taken S.faults S.refused writer.old out.old }
     ensures text { writer.new.text ≡ writer.old.text ++ (before.now ++ (decimal seam ++ after.now)) }
@@ -74,6 +75,7 @@ fn put_seam<S: Sink>(before: &[u8], seam: u32, after: &[u8], writer: &mut Writer
     writer.put(after, out);
 }
 
+/// Puts a seam's number and a name, as a mark's arguments.
 fn put_named<S: Sink>(before: &[u8], seam: u32, name: &[u8], writer: &mut Writer<S>, out: &mut S)
     requires follows { Follows S.taken S.faults S.refused writer.old out.old }
     ensures text { writer.new.text ≡ writer.old.text ++ (before.now ++ (decimal seam ++ (codes "," ++ (name.now ++ codes ")")))) }

@@ -66,6 +66,7 @@ pub fn put_woven<S: Sink>(
     put_source(source, marks, policy, writer, out);
 }
 
+/// Puts the first part of a woven text: the table between its markers.
 fn put_prologue<S: Sink>(policy: &Policy, cert: &WeaverCert, writer: &mut Writer<S>, out: &mut S)
     requires follows { Follows S.taken S.faults S.refused writer.old out.old }
     ensures text { writer.new.text ≡ writer.old.text ++ prologue (policy_of policy.now) cert.now }
@@ -101,6 +102,7 @@ fn put_source<S: Sink>(
     writer.put(after(source, at), out);
 }
 
+/// The bytes from one place up to another.
 fn between(source: &[u8], from: usize, to: usize) -> &[u8]
     requires order { from ≤ to }
     requires within { to ≤ length source.now }
@@ -109,6 +111,7 @@ fn between(source: &[u8], from: usize, to: usize) -> &[u8]
     &source[from..to]
 }
 
+/// The bytes from a place on.
 fn after(source: &[u8], from: usize) -> &[u8]
     requires { from ≤ length source.now }
     ensures { result.now ≡ drop from source.now }

@@ -138,6 +138,7 @@ fn read<'t>(
     }
 }
 
+/// What the tokens begin with by a rule of the grammar, with `depth` nestings left.
 #[inline(always)]
 #[cycle(parser)]
 fn by_rule_at<'t>(
@@ -195,6 +196,7 @@ fn postfix_called<'t>(alloc: Global, depth: u32, tokens: &'t [Lexeme]) -> Result
     postfix_at(alloc, depth, tokens)
 }
 
+/// An expression, or an assignment where its target is a unary (ISO C11, 6.5.16).
 #[cycle(parser)]
 #[tactic(auto, unfolding(crate::specs::Reading::expression, cw_grammar::specs::Expressions::loosest))]
 fn expression_at<'t>(alloc: Global, depth: u32, tokens: &'t [Lexeme]) -> Result<Found<'t>, Refusal>
@@ -286,6 +288,7 @@ fn joined_at<'t>(
     join(alloc, Op::Binary(number), false, first, second)
 }
 
+/// A cast, or a unary (ISO C11, 6.5.4).
 #[inline(always)]
 #[cycle(parser)]
 #[tactic(auto, unfolding(crate::specs::Reading::operand))]
@@ -304,6 +307,7 @@ fn operand_at<'t>(alloc: Global, depth: u32, tokens: &'t [Lexeme]) -> Result<Fou
     }
 }
 
+/// A type in parentheses and the operand behind it (ISO C11, 6.5.4).
 #[cycle(parser)]
 #[tactic(auto, unfolding(crate::specs::Reading::cast))]
 fn cast_at<'t>(alloc: Global, depth: u32, tokens: &'t [Lexeme]) -> Result<Found<'t>, Refusal>
@@ -316,6 +320,7 @@ fn cast_at<'t>(alloc: Global, depth: u32, tokens: &'t [Lexeme]) -> Result<Found<
     over(alloc, Op::Cast(kind), false, from, part)
 }
 
+/// An operand with the operator before it, if there is one (ISO C11, 6.5.3).
 #[inline(always)]
 #[cycle(parser)]
 #[tactic(auto, unfolding(crate::specs::Reading::unary))]
@@ -383,6 +388,7 @@ fn size_of_at<'t>(
     over(alloc, Op::SizeOf, true, keyword.from, part)
 }
 
+/// A primary and what stands behind it (ISO C11, 6.5.2).
 #[inline(always)]
 #[cycle(parser)]
 #[tactic(auto, unfolding(crate::specs::Reading::postfix))]
@@ -395,6 +401,7 @@ fn postfix_at<'t>(alloc: Global, depth: u32, tokens: &'t [Lexeme]) -> Result<Fou
     suffixed_all(alloc, depth, first)
 }
 
+/// An operand with all indexes and operators that stand behind it.
 #[inline(always)]
 #[cycle(parser)]
 fn suffixed_all<'t>(alloc: Global, depth: u32, first: Found<'t>) -> Result<Found<'t>, Refusal>
@@ -447,6 +454,7 @@ fn suffixed_at<'t>(alloc: Global, depth: u32, first: Found<'t>) -> Result<Found<
     )
 }
 
+/// A name, a call, a number, a character, strings, or an expression in parentheses (ISO C11, 6.5.1).
 #[inline(always)]
 #[cycle(parser)]
 #[tactic(auto, unfolding(crate::specs::Reading::primary))]
@@ -558,6 +566,7 @@ fn arguments_at<'t>(
     arguments_all(alloc, depth, first)
 }
 
+/// The arguments of a call behind the first.
 #[cycle(parser)]
 fn arguments_all<'t>(
     alloc: Global,
@@ -600,6 +609,7 @@ fn argument_at<'t>(
     })
 }
 
+/// An expression, nested within the limit of 64.
 #[inline(always)]
 #[tactic(auto, unfolding(crate::specs::Next::next_expression, cw_grammar::specs::Expressions::nesting_limit))]
 fn expression_next<'t>(alloc: Global, tokens: &'t [Lexeme]) -> Result<(Expr, &'t [Lexeme]), Refusal>

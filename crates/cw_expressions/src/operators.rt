@@ -7,6 +7,7 @@ ghost use Rattle.cw_expressions.specs.Reading.{next_of, at_level, binary_at, goe
 
 use cw_grammar::words::{Lexeme, Word};
 
+/// The number of `+ - ! ~ * &` as an operator before an operand (ISO C11, 6.5.3).
 pub(crate) fn sign_of(word: Word) -> Option<u8>
     ensures { result ≡ sign word }
 {
@@ -21,6 +22,7 @@ pub(crate) fn sign_of(word: Word) -> Option<u8>
     }
 }
 
+/// The number of `++` or `--` as an operator before a unary (ISO C11, 6.5.3.1).
 pub(crate) fn step_of(word: Word) -> Option<u8>
     ensures { result ≡ step word }
 {
@@ -31,6 +33,7 @@ pub(crate) fn step_of(word: Word) -> Option<u8>
     }
 }
 
+/// The number of `++` or `--` as an operator behind (ISO C11, 6.5.2.4).
 #[inline(always)]
 pub(crate) fn suffix_of(word: Word) -> Option<u8>
     ensures { result ≡ suffix word }
@@ -42,6 +45,7 @@ pub(crate) fn suffix_of(word: Word) -> Option<u8>
     }
 }
 
+/// The number of a binary operator and its level, 1 to 10, of which 1 binds tightest (ISO C11, 6.5.5 to 6.5.14).
 #[inline(always)]
 fn binary_of(word: Word) -> Option<(u8, u32)>
     ensures { result ≡ binary word }
@@ -69,6 +73,7 @@ fn binary_of(word: Word) -> Option<(u8, u32)>
     }
 }
 
+/// The number of an operator that assigns (ISO C11, 6.5.16).
 #[inline(always)]
 fn assign_of(word: Word) -> Option<u8>
     ensures { result ≡ assign word }
@@ -108,6 +113,7 @@ pub(crate) fn is_looser(level: u32, word: Word) -> bool
     }
 }
 
+/// The number of the operator behind that the next token is, if it is one.
 #[inline(always)]
 pub(crate) fn suffix_next(tokens: &[Lexeme]) -> Option<u8>
     ensures { result ≡ next_of suffix tokens.now }
@@ -118,6 +124,7 @@ pub(crate) fn suffix_next(tokens: &[Lexeme]) -> Option<u8>
     }
 }
 
+/// The number of the operator that assigns that the next token is, if it is one.
 #[inline(always)]
 pub(crate) fn assign_next(tokens: &[Lexeme]) -> Option<u8>
     ensures { result ≡ next_of assign tokens.now }
@@ -128,6 +135,7 @@ pub(crate) fn assign_next(tokens: &[Lexeme]) -> Option<u8>
     }
 }
 
+/// The number and the level of the binary operator that the next token is, if it is one.
 #[inline(always)]
 fn binary_next(tokens: &[Lexeme]) -> Option<(u8, u32)>
     ensures { result ≡ next_of binary tokens.now }

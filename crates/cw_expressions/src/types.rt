@@ -19,6 +19,7 @@ pub(crate) fn begins_type(word: Word) -> bool
     }
 }
 
+/// The tokens behind this word, if it stands there.
 fn past_word(tokens: &[Lexeme], word: Word) -> &[Lexeme]
     ensures { result.now ≡ skip word tokens.now }
 {
@@ -29,6 +30,7 @@ fn past_word(tokens: &[Lexeme], word: Word) -> &[Lexeme]
     }
 }
 
+/// What stands behind `unsigned`: `char`, `int`, `long`, `long int`, or nothing, which is `int` (ISO C11, 6.7.2).
 #[tactic(auto, unfolding(crate::specs::TypeReading::unsigned_base))]
 fn unsigned_base_at(tokens: &[Lexeme]) -> Result<((Base, bool), &[Lexeme]), Refusal>
     ensures { Gives (λ x. (x.0, x.1.now)) result (unsigned_base tokens.now) }

@@ -66,6 +66,7 @@ fn of_group<'a, K: Copy + Drop, G: Ord + Copy + Drop>(
     }
 }
 
+/// Appends the pairs of a key with all that have ended.
 fn put_ended<K: Copy + Drop>(met: &mut Vec<(K, K)>, key: K, ended: &[K]) -> Result<(), AllocError>
     ensures put { OnOk result (met.new.items ≡ met.old.items ++ map (λ b. (key, b)) ended.now) }
 {
@@ -75,6 +76,7 @@ fn put_ended<K: Copy + Drop>(met: &mut Vec<(K, K)>, key: K, ended: &[K]) -> Resu
     Ok(())
 }
 
+/// Appends the pairs of all that wait with a key that ends.
 fn put_waiting<K: Copy + Drop>(
     met: &mut Vec<(K, K)>,
     key: K,

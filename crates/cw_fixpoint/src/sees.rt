@@ -42,6 +42,7 @@ pub(crate) fn see<K: Ord + Copy + Drop>(
     Ok(())
 }
 
+/// The items of a set, ascending.
 pub(crate) fn in_order<K: Ord + Copy + Drop>(
     alloc: Global,
     set: BTreeSet<K>,

@@ -137,6 +137,7 @@ fn short_punctuator(byte: u8) -> Option<Word>
     }
 }
 
+/// The word of a punctuator, by its bytes (ISO C11, 6.4.6).
 fn punctuator_of(text: &[u8]) -> Option<Word>
     ensures { result ≡ punctuator text.now }
 {
@@ -162,6 +163,7 @@ fn word_at(kind: TokenKind, text: &[u8]) -> Word
     }
 }
 
+/// A token with its word.
 fn lexeme_at(source: &[u8], token: Token) -> Lexeme
     requires order { token.from ≤ token.to }
     requires within { token.to ≤ length source.now }

@@ -29,6 +29,7 @@ const MOVES: [Move; 7] = [
     Move::Failed,
 ];
 
+/// Appends the key of a pair under a promise, if there is a pair.
 fn put_pair(
     pair: Option<(PosId, StateId)>,
     promise: &StateSet,
@@ -162,6 +163,7 @@ fn waits(game: &Game, solved: &Solved, key: &Key) -> Option<(u32, StateSet)>
     }
 }
 
+/// For which calls a key ends, by its exit and its promise; None where it stands at no exit.
 fn ends(game: &Game, key: &Key) -> Option<(u32, StateSet)>
     requires position { IsPosition (game_of game.now) key.now.pos }
     ensures { result ≡ (choices (game_of game.now)).ends key.now }

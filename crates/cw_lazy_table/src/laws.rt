@@ -3,7 +3,6 @@
 ghost use Rattle.cw_lazy_table.specs.Laws.{LiveIsKept, LazyTablesAreGood, LazyTablesTryOnlyLost, LazyTableIsOne};
 
 /// What is live isn't lost, where the start isn't, and stands in a function under a promise that the game needs.
-
 pub fn live_is_kept()
     ensures { LiveIsKept }
 {}
@@ -11,14 +10,12 @@ pub fn live_is_kept()
 /// The lazy table meets the nine conditions.
 ///
 /// Public source: the weaver's strategies of Harris, Jha, Reps, Anderson and Watson (2013).
-
 pub fn lazy_tables_are_good()
     ensures { LazyTablesAreGood }
 {}
 
 /// The lazy table tries a primitive, and stops after a refusal, only where the pair after it is lost, and at each call
 /// leaves only exit states out of its promise from which the return is lost.
-
 pub fn lazy_tables_try_only_lost()
     ensures { LazyTablesTryOnlyLost }
 {}

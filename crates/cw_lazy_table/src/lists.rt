@@ -29,6 +29,7 @@ pub(crate) fn mem(mems: &[(StateId, StateSet)], state: StateId, promise: StateSe
     MemId(number_of(mems, &(state, promise)) as u32)
 }
 
+/// The rows of live pairs: each key's position and the number of its memory.
 pub(crate) fn live_rows(
     alloc: Global,
     mems: &[(StateId, StateSet)],
@@ -93,6 +94,7 @@ fn going_on(
     }
 }
 
+/// The memory after a refusal; where a stop can answer, the one with which the program goes on, None where that is lost.
 fn refused(
     game: &Game,
     solved: &Solved,
@@ -110,6 +112,7 @@ fn refused(
     }
 }
 
+/// The row of a primitive that is tried: the memories after a grant and after a refusal.
 fn try_row(game: &Game, solved: &Solved, mems: &[(StateId, StateSet)], placed: &Placed) -> TryRow
     requires mems { AreMemories mems.now }
     requires can { CanFollow game.now solved.now (key_of placed.now) }
@@ -124,6 +127,7 @@ fn try_row(game: &Game, solved: &Solved, mems: &[(StateId, StateSet)], placed: &
     }
 }
 
+/// The rows of all primitives that are tried.
 pub(crate) fn try_rows(
     alloc: Global,
     game: &Game,
@@ -142,6 +146,7 @@ pub(crate) fn try_rows(
     Ok(rows)
 }
 
+/// The rows of labels or of closes: the memory after each.
 pub(crate) fn at_rows(
     alloc: Global,
     game: &Game,
@@ -163,6 +168,7 @@ pub(crate) fn at_rows(
     Ok(rows)
 }
 
+/// The rows of opens: the memory after one that succeeds and after one that fails.
 pub(crate) fn open_rows(
     alloc: Global,
     game: &Game,
@@ -185,6 +191,7 @@ pub(crate) fn open_rows(
     Ok(rows)
 }
 
+/// The row of a call: the memory with which its function begins.
 fn into_row(game: &Game, solved: &Solved, mems: &[(StateId, StateSet)], placed: &Placed) -> IntoRow
     requires mems { AreMemories mems.now }
     requires can { CanFollow game.now solved.now (key_of placed.now) }
@@ -204,6 +211,7 @@ fn into_row(game: &Game, solved: &Solved, mems: &[(StateId, StateSet)], placed: 
     }
 }
 
+/// The rows of all calls.
 pub(crate) fn into_rows(
     alloc: Global,
     game: &Game,
@@ -222,6 +230,7 @@ pub(crate) fn into_rows(
     Ok(rows)
 }
 
+/// The row of a return: the memory behind the call, by the exit state with which the function ends.
 fn back_row(game: &Game, mems: &[(StateId, StateSet)], placed: &Placed, exit: &Key) -> BackRow
     requires mems { AreMemories mems.now }
     requires state { IsState (game_of game.now) placed.now.state }
@@ -240,6 +249,7 @@ fn back_row(game: &Game, mems: &[(StateId, StateSet)], placed: &Placed, exit: &K
     }
 }
 
+/// The rows of all returns.
 pub(crate) fn back_rows(
     alloc: Global,
     game: &Game,

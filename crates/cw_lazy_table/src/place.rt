@@ -52,6 +52,7 @@ pub(crate) fn ascending<T: Ord + Copy + Drop>(
     Ok(found)
 }
 
+/// The items of a set, ascending.
 fn in_order<T: Ord + Copy + Drop>(alloc: Global, set: BTreeSet<T>) -> Result<Vec<T>, AllocError>
     ensures items { IfOk result (λ v. v.items ≡ set.keys) }
     ensures order { IfOk result (λ v. IsStrictlySortedBy T.cmp v.items) }
@@ -88,6 +89,7 @@ fn part_of(kind: Kind, spot: Spot) -> Option<(u32, u8)>
     }
 }
 
+/// A key by what stands at its position, where that is of this kind.
 pub(crate) fn place(game: &Game, kind: Kind, key: &Key) -> Option<Placed>
     requires { IsPosition (game_of game.now) key.now.pos }
     ensures { result ≡ placed_of (game_of game.now) kind key.now }
@@ -104,6 +106,7 @@ pub(crate) fn place(game: &Game, kind: Kind, key: &Key) -> Option<Placed>
     }
 }
 
+/// Appends a key by what stands at it, if there is one.
 fn put_place(placed: Option<Placed>, places: &mut Vec<Placed>) -> Result<(), AllocError>
     ensures { OnOk result (places.new.items ≡ put_placed places.old.items placed) }
 {
@@ -130,6 +133,7 @@ pub(crate) fn places(
     ascending(alloc, &found)
 }
 
+/// Appends the exit for a call, if there is one.
 fn put_return(
     placed: Option<Placed>,
     exit: &Key,

@@ -38,6 +38,7 @@ fn start_key(game: &Game, solved: &Solved) -> Key
     }
 }
 
+/// The rows of the primitives that are tried.
 fn tries(
     alloc: Global,
     game: &Game,
@@ -54,6 +55,7 @@ fn tries(
     try_rows(alloc, game, solved, mems, &asked)
 }
 
+/// The rows of labels.
 fn labels(
     alloc: Global,
     game: &Game,
@@ -68,6 +70,7 @@ fn labels(
     at_rows(alloc, game, mems, &labels)
 }
 
+/// The rows of opens.
 fn opens(
     alloc: Global,
     game: &Game,
@@ -82,6 +85,7 @@ fn opens(
     open_rows(alloc, game, mems, &opens)
 }
 
+/// The rows of closes.
 fn closes(
     alloc: Global,
     game: &Game,
@@ -96,6 +100,7 @@ fn closes(
     at_rows(alloc, game, mems, &closes)
 }
 
+/// The rows of calls.
 fn calls(
     alloc: Global,
     game: &Game,
@@ -112,6 +117,7 @@ fn calls(
     into_rows(alloc, game, solved, mems, &calls)
 }
 
+/// The rows of returns.
 fn backs(
     alloc: Global,
     game: &Game,

@@ -13,6 +13,7 @@ use cw_core::StateId;
 use cw_solve::Solved;
 use std::alloc::{AllocError, Global};
 
+/// Appends the keys that are named for returns.
 fn put_backs(backs: &[(StateId, Key)], keys: &mut Vec<Key>) -> Result<(), AllocError>
     ensures { OnOk result (keys.new.items ≡ keys.old.items ++ map key_of_back backs.now) }
 {
@@ -22,6 +23,7 @@ fn put_backs(backs: &[(StateId, Key)], keys: &mut Vec<Key>) -> Result<(), AllocE
     Ok(())
 }
 
+/// Appends the keys that an act names.
 fn put_keys(act: &Act, keys: &mut Vec<Key>) -> Result<(), AllocError>
     ensures { OnOk result (keys.new.items ≡ keys.old.items ++ keys_in (act_of act.now)) }
 {

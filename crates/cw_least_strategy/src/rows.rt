@@ -28,6 +28,7 @@ fn number(keys: &[Key], key: &Key) -> u32
     number_of(keys, key) as u32
 }
 
+/// The rows for the returns by their numbers among all keys.
 fn numbered(
     alloc: Global,
     keys: &[Key],
@@ -71,6 +72,7 @@ fn how_by(alloc: Global, keys: &[Key], act: Act) -> Result<How, AllocError>
     }
 }
 
+/// The row of a key: its pair, what it aims at, and how it gets there.
 fn row_at(
     alloc: Global,
     solved: &Solved,

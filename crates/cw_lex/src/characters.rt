@@ -8,6 +8,7 @@ ghost use Rattle.cw_lex.specs.Characters.{simple_escape, longer, spelled, escape
 use crate::bytes::{is_hexadecimal_digit, is_octal_digit, tail};
 use crate::numbers::value;
 
+/// The value of the escape with this letter, if there is one (ISO C11, 6.4.4.4).
 #[tactic(auto, unfolding(crate::specs::Characters::simple_escape))]
 fn simple_escape(byte: u8) -> Option<u8>
     ensures { result ≡ simple_escape byte }
@@ -41,6 +42,7 @@ fn front(bytes: &[u8], most: usize) -> &[u8]
     }
 }
 
+/// How many octal digits stand in front.
 fn octal_run(bytes: &[u8]) -> usize
     ensures value { result ≡ prefix_len is_octal_digit bytes.now }
     ensures within { result ≤ length bytes.now }
@@ -48,6 +50,7 @@ fn octal_run(bytes: &[u8]) -> usize
     bytes.iter().take_while(|b| is_octal_digit(**b)).count()
 }
 
+/// How many hexadecimal digits stand in front.
 fn hexadecimal_run(bytes: &[u8]) -> usize
     ensures value { result ≡ prefix_len is_hexadecimal_digit bytes.now }
     ensures within { result ≤ length bytes.now }
@@ -181,6 +184,7 @@ pub(crate) fn text_length(bytes: &[u8]) -> Option<usize>
     None
 }
 
+/// The bytes behind the first.
 fn behind_first(text: &[u8]) -> &[u8]
     ensures { result.now ≡ drop 1 text.now }
 {

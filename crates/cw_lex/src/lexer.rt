@@ -56,6 +56,7 @@ impl<T: Drop> From<AllocFailed<T>> for LexFault {
     }
 }
 
+/// The fault for what is wrong at this place, in bytes from 0.
 fn fault_at(defect: Defect, at: u32) -> LexFault
     ensures { result ≡ fault_at defect at }
 {
@@ -86,6 +87,7 @@ fn is_fresh(source: &[u8], at: usize, fresh: bool, count: usize) -> bool
     is_fresh_behind(fresh, tail(source, at), count)
 }
 
+/// The tokens of a source of at most 262,144 bytes without markers, or what is wrong first.
 fn read(alloc: Global, source: &[u8]) -> Result<Vec<Token>, LexFault>
     requires short { length source.now ≤ 262144 }
     requires unmarked { HasNoMarker source.now }

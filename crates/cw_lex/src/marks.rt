@@ -6,6 +6,7 @@ ghost use Rattle.cw_lex.specs.Marks.{three_byte_marks, two_byte_marks, one_byte_
 
 use memchr::memmem;
 
+/// Whether a punctuator of three bytes stands in front.
 fn begins_three(bytes: &[u8]) -> bool
     ensures { result ≡ begins three_byte_marks bytes.now }
 {
@@ -15,6 +16,7 @@ fn begins_three(bytes: &[u8]) -> bool
     }
 }
 
+/// Whether a punctuator of two bytes stands in front.
 fn begins_two(bytes: &[u8]) -> bool
     ensures { result ≡ begins two_byte_marks bytes.now }
 {
@@ -33,6 +35,7 @@ fn begins_two(bytes: &[u8]) -> bool
     }
 }
 
+/// Whether a punctuator of one byte stands in front.
 fn begins_one(bytes: &[u8]) -> bool
     ensures { result ≡ begins one_byte_marks bytes.now }
 {

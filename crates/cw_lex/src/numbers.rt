@@ -9,6 +9,7 @@ ghost use Rattle.cw_lex.specs.Numbers.{is_hexadecimal, base_of, body_of, digit_c
 
 use crate::bytes::{is_digit, is_hexadecimal_digit, tail};
 
+/// Whether a number begins with `0x`; `0X` isn't taken.
 fn is_hexadecimal(text: &[u8]) -> bool
     ensures value { result ≡ is_hexadecimal text.now }
     ensures long { result ≡ true → 2 ≤ length text.now }
@@ -19,6 +20,7 @@ fn is_hexadecimal(text: &[u8]) -> bool
     }
 }
 
+/// The base of a number: 16, 8 behind a `0`, or 10 (ISO C11, 6.4.4.1).
 fn base(text: &[u8]) -> u64
     ensures value { result ≡ base_of text.now }
     ensures within { (2 ≤ result) × (result ≤ 16) }
@@ -30,6 +32,7 @@ fn base(text: &[u8]) -> u64
     }
 }
 
+/// A number without its `0x`.
 fn body(text: &[u8]) -> &[u8]
     ensures { result.now ≡ body_of text.now }
 {
@@ -40,6 +43,7 @@ fn body(text: &[u8]) -> &[u8]
     }
 }
 
+/// How many decimal digits stand in front.
 fn decimal_run(text: &[u8]) -> usize
     ensures value { result ≡ prefix_len is_digit text.now }
     ensures within { result ≤ length text.now }
@@ -47,6 +51,7 @@ fn decimal_run(text: &[u8]) -> usize
     text.iter().take_while(|b| is_digit(**b)).count()
 }
 
+/// How many hexadecimal digits stand in front.
 fn hexadecimal_run(text: &[u8]) -> usize
     ensures value { result ≡ prefix_len is_hexadecimal_digit text.now }
     ensures within { result ≤ length text.now }
@@ -56,6 +61,7 @@ fn hexadecimal_run(text: &[u8]) -> usize
         .count()
 }
 
+/// How many digits a number has in front of its suffix, behind its `0x`.
 fn digit_count(text: &[u8]) -> usize
     ensures value { result ≡ digit_count text.now }
     ensures within { result ≤ length (body_of text.now) }
@@ -78,6 +84,7 @@ fn parts(text: &[u8]) -> (&[u8], &[u8])
     (&body[..count], tail(body, count))
 }
 
+/// Whether this is the suffix of a number, or nothing: `u`, `l` and `ll`, in either order and case (ISO C11, 6.4.4.1).
 fn is_suffix(text: &[u8]) -> bool
     ensures { result ≡ is_suffix text.now }
 {
@@ -151,6 +158,7 @@ pub(crate) fn value(base: u64, digits: &[u8]) -> Option<u64>
     Some(number)
 }
 
+/// Whether all digits are of this base: no 8 or 9 in an octal number.
 fn are_of_base(base: u64, digits: &[u8]) -> bool
     ensures { result ≡ list_all (λ digit. nat_lt (digit_value digit) base) digits.now }
 {

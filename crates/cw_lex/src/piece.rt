@@ -36,6 +36,7 @@ pub enum Piece {
     Fault(Defect),
 }
 
+/// How many bytes of white space stand in front.
 fn white_run(bytes: &[u8]) -> usize
     ensures value { result ≡ prefix_len is_white bytes.now }
     ensures within { result ≤ length bytes.now }
@@ -60,6 +61,7 @@ fn white_length(bytes: &[u8]) -> usize
     }
 }
 
+/// How many spaces and tabs stand in front.
 fn blank_length(bytes: &[u8]) -> usize
     ensures value { result ≡ prefix_len is_blank bytes.now }
     ensures within { result ≤ length bytes.now }
@@ -67,6 +69,7 @@ fn blank_length(bytes: &[u8]) -> usize
     bytes.iter().take_while(|b| is_blank(**b)).count()
 }
 
+/// How many bytes stand before the end of the line.
 fn line_length(bytes: &[u8]) -> usize
     ensures value { result ≡ prefix_len is_line_byte bytes.now }
     ensures within { result ≤ length bytes.now }
@@ -74,6 +77,7 @@ fn line_length(bytes: &[u8]) -> usize
     bytes.iter().take_while(|b| is_line_byte(**b)).count()
 }
 
+/// How many bytes of a name stand in front.
 fn name_run(bytes: &[u8]) -> usize
     ensures value { result ≡ prefix_len is_name_byte bytes.now }
     ensures within { result ≤ length bytes.now }
@@ -81,6 +85,7 @@ fn name_run(bytes: &[u8]) -> usize
     bytes.iter().take_while(|b| is_name_byte(**b)).count()
 }
 
+/// The same, with the first byte asked apart: most names are short.
 fn name_length(bytes: &[u8]) -> usize
     ensures value { result ≡ prefix_len is_name_byte bytes.now }
     ensures within { result ≤ length bytes.now }
@@ -97,6 +102,7 @@ fn name_length(bytes: &[u8]) -> usize
     }
 }
 
+/// How many bytes of a number stand in front.
 fn number_run(bytes: &[u8]) -> usize
     ensures value { result ≡ prefix_len is_number_byte bytes.now }
     ensures within { result ≤ length bytes.now }
@@ -104,6 +110,7 @@ fn number_run(bytes: &[u8]) -> usize
     bytes.iter().take_while(|b| is_number_byte(**b)).count()
 }
 
+/// The same, with the first byte asked apart: most numbers are short.
 fn number_length(bytes: &[u8]) -> usize
     ensures value { result ≡ prefix_len is_number_byte bytes.now }
     ensures within { result ≤ length bytes.now }
@@ -120,12 +127,14 @@ fn number_length(bytes: &[u8]) -> usize
     }
 }
 
+/// The word that stands in front.
 fn word_text(bytes: &[u8]) -> &[u8]
     ensures { result.now ≡ take_while is_name_byte bytes.now }
 {
     &bytes[..name_length(bytes)]
 }
 
+/// The bytes in front that may be of a number.
 fn number_text(bytes: &[u8]) -> &[u8]
     ensures { result.now ≡ take_while is_number_byte bytes.now }
 {
@@ -144,6 +153,7 @@ fn word(text: &[u8]) -> Piece
     }
 }
 
+/// A number, if it is one of the subset with a value below 2^64.
 fn number(text: &[u8]) -> Piece
     ensures { result ≡ number text.now }
 {
@@ -154,6 +164,7 @@ fn number(text: &[u8]) -> Piece
     }
 }
 
+/// A character, whose opening quote was passed.
 fn character(rest: &[u8]) -> Piece
     requires { length rest.now < 2 ^ 32 }
     ensures { result ≡ quoted kind.Character (character_len rest.now) }
@@ -164,6 +175,7 @@ fn character(rest: &[u8]) -> Piece
     }
 }
 
+/// A string, whose opening quote was passed.
 fn text(rest: &[u8]) -> Piece
     requires { length rest.now < 2 ^ 32 }
     ensures { result ≡ quoted kind.Text (text_len 0 rest.now) }
@@ -196,18 +208,21 @@ fn comment(rest: &[u8]) -> Piece
     }
 }
 
+/// Whether `include` stands behind the `#`, blanks aside.
 fn is_include(bytes: &[u8]) -> bool
     ensures { result ≡ is_include bytes.now }
 {
     word_text(tail(bytes, blank_length(bytes))) == b"include".as_slice()
 }
 
+/// A gap to the end of the line.
 fn line(bytes: &[u8]) -> Piece
     ensures { result ≡ line bytes.now }
 {
     Piece::Gap(line_length(bytes))
 }
 
+/// A `#`: at the start of a line that of an include, which is passed over; else a fault (ISO C11, 6.10).
 fn directive(fresh: bool, bytes: &[u8]) -> Piece
     requires { 1 ≤ length bytes.now }
     ensures { result ≡ directive fresh bytes.now }
@@ -269,6 +284,7 @@ pub(crate) fn front_piece(fresh: bool, bytes: &[u8]) -> Piece
     }
 }
 
+/// Whether a line feed is among the bytes.
 fn has_line_end(bytes: &[u8]) -> bool
     ensures { result ≡ list_any (λ b. b == 10) bytes.now }
 {

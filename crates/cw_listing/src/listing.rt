@@ -104,6 +104,7 @@ fn put_function<S: Sink>(
     writer.put(b"\n", out);
 }
 
+/// Puts a line a function: its name and what it calls.
 fn put_functions<S: Sink>(
     names: &[Vec<u8>],
     calls: &[Vec<u16>],
@@ -224,6 +225,7 @@ fn put_point<S: Sink>(names: Names, number: usize, node: &Node, writer: &mut Wri
     writer.put(b"\n", out);
 }
 
+/// Puts a line a point.
 fn put_points<S: Sink>(names: Names, nodes: &[Node], writer: &mut Writer<S>, out: &mut S)
     requires follows { Follows S.taken S.faults S.refused writer.old out.old }
     ensures text { writer.new.text ≡ writer.old.text ++ numbered (point_line (lists names.entry.functions.now) (lists names.entry.labels.now) (lists names.entry.descriptors.now)) nodes.now }

@@ -16,6 +16,7 @@ use cw_grammar::words::{Lexeme, Word};
 use cw_syntax::program::{CType, Decl, Item};
 use std::alloc::Global;
 
+/// One name of a declaration: stars, name, size, initialiser (ISO C11, 6.7).
 #[tactic(auto, unfolding(crate::specs::DeclarationReading::item))]
 fn item_at<'t>(
     alloc: Global,
@@ -75,6 +76,7 @@ fn items_after<'t>(
     Ok(so_far)
 }
 
+/// The names of a declaration, with commas between them.
 #[tactic(auto, unfolding(crate::specs::Lists::separated))]
 fn items_at<'t>(
     alloc: Global,

@@ -78,6 +78,7 @@ fn headed_at<'t>(alloc: Global, tokens: &'t [Lexeme]) -> Result<(Piece, &'t [Lex
     }
 }
 
+/// A prototype or a function, or a declaration outside functions (ISO C11, 6.9).
 #[tactic(auto, unfolding(crate::specs::StatementReading::part, crate::specs::StatementReading::held))]
 fn part_at<'t>(alloc: Global, tokens: &'t [Lexeme]) -> Result<(Piece, &'t [Lexeme]), Refusal>
     ensures { Gives piece result (part tokens.now) }
@@ -126,6 +127,7 @@ fn part_after<'t>(
     Ok((program, rest))
 }
 
+/// Whether a token is left.
 fn has_more(tokens: &[Lexeme]) -> bool
     ensures { result ≡ some_left tokens.now }
 {
@@ -168,6 +170,7 @@ fn fitted(program: Program) -> Program
     }
 }
 
+/// All parts of a file, up to the last token.
 #[tactic(auto, unfolding(crate::specs::StatementReading::file))]
 fn file_at(alloc: Global, lexemes: &[Lexeme]) -> Result<Program, Refusal>
     ensures { Gives file_of result (file lexemes.now) }

@@ -28,6 +28,7 @@ fn brackets_at(tokens: &[Lexeme]) -> Result<(bool, &[Lexeme]), Refusal>
     }
 }
 
+/// A parameter (ISO C11, 6.7.6.3).
 #[tactic(auto, unfolding(crate::specs::DeclarationReading::param))]
 fn param_at(tokens: &[Lexeme]) -> Result<(Param, &[Lexeme]), Refusal>
     ensures { Gives plain result (param tokens.now) }
@@ -64,6 +65,7 @@ fn params_after<'t>(
     Ok(so_far)
 }
 
+/// Parameters with commas between them.
 #[tactic(auto, unfolding(crate::specs::Lists::separated))]
 fn separated_params_at<'t>(
     alloc: Global,

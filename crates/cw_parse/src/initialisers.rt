@@ -31,6 +31,7 @@ pub(crate) fn optional_expression_at<'t>(
     Ok((Some(expression), rest))
 }
 
+/// `[ ]` or `[ size ]`, if it stands there (ISO C11, 6.7.6.2).
 #[tactic(auto, unfolding(crate::specs::DeclarationReading::array))]
 pub(crate) fn array_at<'t>(
     alloc: Global,
@@ -82,6 +83,7 @@ fn elements_after<'t>(
     Ok(so_far)
 }
 
+/// Expressions with commas between them, up to the brace or a last comma (ISO C11, 6.7.9).
 #[tactic(auto, unfolding(crate::specs::Lists::separated))]
 fn separated_elements_at<'t>(
     alloc: Global,

@@ -38,6 +38,7 @@ pub(crate) fn begins_declaration(word: Word) -> bool
     }
 }
 
+/// Whether `extern` or `static` stands there, in this order (ISO C11, 6.7.1).
 fn storage_at(tokens: &[Lexeme]) -> ((bool, bool), &[Lexeme])
     ensures { plain result ≡ storage tokens.now }
 {

@@ -34,6 +34,7 @@ fn read<'t>(
     statement_at(alloc, depth - 1, in_block, tokens)
 }
 
+/// A statement, or in a block a declaration, with `depth` nestings left (ISO C11, 6.8).
 #[inline(always)]
 #[cycle(parser)]
 #[tactic(auto, unfolding(crate::specs::StatementReading::statement))]

@@ -30,6 +30,7 @@ pub(crate) fn words_at(how: &How) -> usize
     }
 }
 
+/// The rows for the returns from a call, none where a row makes no call.
 fn backs_of(how: &How) -> &[(StateId, u32)]
     ensures { backs_of result.now ≡ backs_in (how_of how.now) }
 {

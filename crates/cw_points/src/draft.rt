@@ -32,6 +32,7 @@ pub(crate) fn first(count: u32, at: u32, next: u32) -> u32
     if count == 0 { next } else { at }
 }
 
+/// A point by its number, if there is one.
 fn point_id(number: Option<u32>) -> Option<PointId>
     ensures { result ≡ option_map point_id number }
 {
@@ -44,6 +45,7 @@ fn point_id(number: Option<u32>) -> Option<PointId>
 impl Draft {
     ghost use Rattle.cw_points.specs.Drawing.{drawn_of, nothing_drawn, with_nodes, with_node, with_seam};
 
+    /// A graph without points.
     pub(crate) fn new(alloc: Global) -> Draft
         ensures { drawn_of result ≡ nothing_drawn }
     {
@@ -69,6 +71,7 @@ impl Draft {
         self.seams.len() as u32
     }
 
+    /// Draws a node before all that are drawn.
     fn put(&mut self, node: Node) -> Result<(), AllocError>
         ensures { OnOk result (drawn_of self.new ≡ with_node node (drawn_of self.old)) }
     {

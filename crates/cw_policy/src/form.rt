@@ -13,18 +13,21 @@ use cw_rights::{is_name, is_name_byte, is_name_start};
 use toml::value::Array;
 use toml::{Table, Value};
 
+/// A byte that may stand in a rule's name: of a C name, or `-`.
 fn is_rule_byte(byte: u8) -> bool
     ensures { result ≡ spec.is_rule_byte byte }
 {
     is_name_byte(byte) || byte == 45
 }
 
+/// Whether all bytes may stand in a rule's name.
 fn are_rule_bytes(bytes: &[u8]) -> bool
     ensures { result ≡ list_all spec.is_rule_byte bytes.now }
 {
     bytes.iter().all(|byte| is_rule_byte(*byte))
 }
 
+/// Whether a text is a rule's name: a letter or `_`, and then letters, digits, `_` and `-`.
 fn is_rule_name(text: &str) -> bool
     ensures { result ≡ spec.is_rule_name text.now }
 {
@@ -34,30 +37,35 @@ fn is_rule_name(text: &str) -> bool
     }
 }
 
+/// Whether a text is the number of a descriptor that is open at the start: `0`, `1` or `2`.
 fn is_digit(text: &[u8]) -> bool
     ensures { result ≡ grammar.is_digit text.now }
 {
     text.len() == 1 && (text[0] == 48 || text[0] == 49 || text[0] == 50)
 }
 
+/// Whether a text may name a descriptor: a C name, or `0`, `1` or `2`.
 fn is_descriptor(text: &str) -> bool
     ensures { result ≡ grammar.is_descriptor text.now }
 {
     is_name(text.as_bytes()) || is_digit(text.as_bytes())
 }
 
+/// Whether a text is a kind of primitive, as `refusable` lists them.
 fn is_kind(text: &str) -> bool
     ensures { result ≡ spec.is_kind text.now }
 {
     text == "limit" || text == "enter" || text == "split"
 }
 
+/// Whether a text is a value of `on_refusal`.
 fn is_answer(text: &str) -> bool
     ensures { result ≡ spec.is_answer text.now }
 {
     text == "go" || text == "stop"
 }
 
+/// Whether a value may name a function.
 fn is_function(value: &Value) -> bool
     ensures { result ≡ spec.is_item Key.Split (view value.now) }
 {
@@ -67,6 +75,7 @@ fn is_function(value: &Value) -> bool
     }
 }
 
+/// Whether a value has the form of an item of this key's array.
 fn is_item(key: Key, value: &Value) -> bool
     ensures { result ≡ spec.is_item key (view value.now) }
 {
@@ -89,6 +98,7 @@ fn is_item(key: Key, value: &Value) -> bool
     }
 }
 
+/// Whether a key's value stands alone; else it is an array of items.
 fn is_single(key: Key) -> bool
     ensures { result ≡ spec.is_single key }
 {
@@ -104,6 +114,7 @@ fn is_single(key: Key) -> bool
     }
 }
 
+/// Whether a value has the form that its key says, where it stands alone.
 fn is_value(key: Key, value: &Value) -> bool
     ensures { result ≡ spec.is_value key (view value.now) }
 {
@@ -134,6 +145,7 @@ fn is_value(key: Key, value: &Value) -> bool
     }
 }
 
+/// The number of the first item of an array that has not its form, from 1.
 fn wrong_item(key: Key, array: &Array) -> Option<usize>
     ensures { result ≡ spec.first_in (spec.wrong_item key) 1 (array_view array.now) }
 {
@@ -147,6 +159,7 @@ fn wrong_item(key: Key, array: &Array) -> Option<usize>
     None
 }
 
+/// The same, and 0 where the value is no array.
 fn wrong_array(key: Key, value: &Value) -> Option<usize>
     ensures { result ≡ spec.wrong_array key (view value.now) }
 {
@@ -156,6 +169,7 @@ fn wrong_array(key: Key, value: &Value) -> Option<usize>
     }
 }
 
+/// What is wrong with a key's value: 0 for the value itself, else the number of its item, from 1; None where nothing is.
 fn wrong(key: Key, value: &Value) -> Option<usize>
     ensures { result ≡ spec.wrong key (view value.now) }
 {
@@ -193,6 +207,7 @@ pub fn array_at<'a>(table: &'a Table, key: Key) -> &'a [Value]
     items_at(member(table, key_text(key)))
 }
 
+/// The format that a value says: 2 for the number 2, and 1 for anything else and for none.
 fn format_in(value: Option<&Value>) -> u8
     ensures { result ≡ spec.format_in (option_map (λ x. view x.now) value.entry) }
 {
@@ -213,12 +228,14 @@ pub fn format_of(table: &Table) -> u8
     format_in(member(table, key_text(Key::Format)))
 }
 
+/// Whether a table lacks this key, though it must have it.
 fn is_missing(key: Key, table: &Table) -> bool
     ensures { result ≡ spec.is_missing key (table_view table.now) }
 {
     is_required(key) && member(table, key_text(key)).is_none()
 }
 
+/// The first of some keys that a table lacks.
 fn missing_key(keys: &[Key], table: &Table) -> Option<Key>
     ensures { result ≡ spec.missing_key keys.now (table_view table.now) }
 {
@@ -230,6 +247,7 @@ fn missing_key(keys: &[Key], table: &Table) -> Option<Key>
     None
 }
 
+/// Whether a text is one of these keys, and one that the format knows.
 fn is_listed(format: u8, keys: &[Key], text: &str) -> bool
     ensures { result ≡ spec.is_listed format keys.now text.now }
 {
@@ -241,6 +259,7 @@ fn is_listed(format: u8, keys: &[Key], text: &str) -> bool
     false
 }
 
+/// Whether a table has no other keys than these.
 fn has_only(format: u8, keys: &[Key], table: &Table) -> bool
     ensures { result ≡ spec.has_only format keys.now (table_view table.now) }
 {
@@ -252,6 +271,7 @@ fn has_only(format: u8, keys: &[Key], table: &Table) -> bool
     true
 }
 
+/// What is wrong with a key's value, where the table has the key.
 fn wrong_at(key: Key, value: Option<&Value>) -> Option<usize>
     ensures { result ≡ spec.wrong_at key (option_map (λ x. view x.now) value.entry) }
 {
@@ -261,6 +281,7 @@ fn wrong_at(key: Key, value: Option<&Value>) -> Option<usize>
     }
 }
 
+/// The first of some keys whose value is wrong, with what is wrong.
 fn wrong_key(keys: &[Key], table: &Table) -> Option<(Key, usize)>
     ensures { result ≡ spec.wrong_key keys.now (table_view table.now) }
 {
@@ -291,6 +312,7 @@ fn table_fault(format: u8, section: Section, index: usize, table: &Table) -> Opt
     }
 }
 
+/// What is wrong with a table in an array of tables.
 fn element_fault(format: u8, section: Section, index: usize, value: &Value) -> Option<PolicyFault>
     ensures { result ≡ spec.element_fault format section index (view value.now) }
 {
@@ -300,6 +322,7 @@ fn element_fault(format: u8, section: Section, index: usize, value: &Value) -> O
     }
 }
 
+/// What is wrong first in an array of tables.
 fn array_fault(format: u8, section: Section, items: &[Value]) -> Option<PolicyFault>
     ensures { result ≡ spec.array_fault format section (items_view items.now) }
 {

@@ -58,6 +58,7 @@ const AT: [Key; 3] = [Key::Label, Key::Must, Key::Never];
 
 const RULE: [Key; 2] = [Key::RuleName, Key::Bad];
 
+/// The number of a kind of table, as a path holds it.
 fn section_number(section: Section) -> u8
     ensures { result ≡ spec.section_number section }
 {

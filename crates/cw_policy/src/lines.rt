@@ -11,6 +11,7 @@ use cw_io::Sink;
 use cw_io::Writer;
 use cw_regex::RegexFault;
 
+/// Appends a text.
 fn put<S: Sink>(piece: &str, line: &mut Writer<S>, out: &mut S)
     requires follows { Follows S.taken S.faults S.refused line.old out.old }
     ensures text { line.new.text ≡ line.old.text ++ piece.now }
@@ -20,6 +21,7 @@ fn put<S: Sink>(piece: &str, line: &mut Writer<S>, out: &mut S)
     line.put(piece.as_bytes(), out);
 }
 
+/// The kind of table that a path's number stands for.
 fn section_of(number: u8) -> Section
     ensures { result ≡ spec.section_of number }
 {
@@ -32,6 +34,7 @@ fn section_of(number: u8) -> Section
     }
 }
 
+/// The name of a kind of table.
 fn section_text(section: Section) -> &'static str
     ensures { result.now ≡ spec.section_text section }
 {
@@ -44,6 +47,7 @@ fn section_text(section: Section) -> &'static str
     }
 }
 
+/// Appends a number between brackets.
 fn put_in_brackets<S: Sink>(number: u32, line: &mut Writer<S>, out: &mut S)
     requires follows { Follows S.taken S.faults S.refused line.old out.old }
     ensures text { line.new.text ≡ line.old.text ++ spec.in_brackets number }
@@ -55,6 +59,7 @@ fn put_in_brackets<S: Sink>(number: u32, line: &mut Writer<S>, out: &mut S)
     put("]", line, out);
 }
 
+/// The name of a key, empty where there is none.
 fn text_of_key(key: Option<&Key>) -> &'static str
     ensures { result.now ≡ spec.text_of_key (option_copied key.entry) }
 {
@@ -64,12 +69,14 @@ fn text_of_key(key: Option<&Key>) -> &'static str
     }
 }
 
+/// The name of the key with this number among the keys of its table, from 1.
 fn key_named(section: Section, key: u8) -> &'static str
     ensures { result.now ≡ spec.key_named section key }
 {
     text_of_key(keys_of(section).get(key.saturating_sub(1) as usize))
 }
 
+/// Appends an item's number from 0 in brackets; `item` counts from 1, and 0 is the value itself, for which nothing stands.
 fn put_item<S: Sink>(item: u32, line: &mut Writer<S>, out: &mut S)
     requires follows { Follows S.taken S.faults S.refused line.old out.old }
     ensures text { line.new.text ≡ line.old.text ++ spec.item_text item }
@@ -82,6 +89,7 @@ fn put_item<S: Sink>(item: u32, line: &mut Writer<S>, out: &mut S)
     put_in_brackets(item - 1, line, out);
 }
 
+/// Appends the name of a key of the root; for key 0, the root itself, `root`.
 fn put_root_key<S: Sink>(key: u8, line: &mut Writer<S>, out: &mut S)
     requires follows { Follows S.taken S.faults S.refused line.old out.old }
     ensures text { line.new.text ≡ line.old.text ++ spec.root_key key }
@@ -94,6 +102,7 @@ fn put_root_key<S: Sink>(key: u8, line: &mut Writer<S>, out: &mut S)
     put(key_named(Section::Root, key), line, out);
 }
 
+/// Appends `.` and the name of a key; `key` counts from 1 along its table's keys, and 0 is the table itself, for which nothing stands.
 fn put_dotted_key<S: Sink>(section: Section, key: u8, line: &mut Writer<S>, out: &mut S)
     requires follows { Follows S.taken S.faults S.refused line.old out.old }
     ensures text { line.new.text ≡ line.old.text ++ spec.dotted_key section key }
@@ -107,6 +116,7 @@ fn put_dotted_key<S: Sink>(section: Section, key: u8, line: &mut Writer<S>, out:
     put(key_named(section, key), line, out);
 }
 
+/// Appends a table of an array by its number from 0, and the key in it.
 fn put_table_key<S: Sink>(section: Section, index: u32, key: u8, line: &mut Writer<S>, out: &mut S)
     requires follows { Follows S.taken S.faults S.refused line.old out.old }
     ensures text { line.new.text ≡ line.old.text ++ spec.table_key section index key }
@@ -118,6 +128,7 @@ fn put_table_key<S: Sink>(section: Section, index: u32, key: u8, line: &mut Writ
     put_dotted_key(section, key, line, out);
 }
 
+/// Appends a table and a key in it.
 fn put_key<S: Sink>(section: Section, index: u32, key: u8, line: &mut Writer<S>, out: &mut S)
     requires follows { Follows S.taken S.faults S.refused line.old out.old }
     ensures text { line.new.text ≡ line.old.text ++ spec.key_part section index key }
@@ -141,6 +152,7 @@ pub fn put_path<S: Sink>(path: Path, line: &mut Writer<S>, out: &mut S)
     put_item(path.item, line, out);
 }
 
+/// Appends the words for the expression of the rule with this number.
 fn put_rule<S: Sink>(index: u32, line: &mut Writer<S>, out: &mut S)
     requires follows { Follows S.taken S.faults S.refused line.old out.old }
     ensures text { line.new.text ≡ line.old.text ++ spec.rule_text index }
@@ -151,6 +163,7 @@ fn put_rule<S: Sink>(index: u32, line: &mut Writer<S>, out: &mut S)
     put_in_brackets(index, line, out);
 }
 
+/// The same, with what is refused and its offset in the expression, in bytes.
 fn put_refused<S: Sink>(index: u32, word: &str, at: u32, line: &mut Writer<S>, out: &mut S)
     requires follows { Follows S.taken S.faults S.refused line.old out.old }
     ensures text { line.new.text ≡ line.old.text ++ spec.refused index word.now at }
@@ -162,6 +175,7 @@ fn put_refused<S: Sink>(index: u32, word: &str, at: u32, line: &mut Writer<S>, o
     line.put_number(u64::from(at), out);
 }
 
+/// Appends the line of an expression that is refused.
 fn put_regex<S: Sink>(index: u32, fault: &RegexFault, line: &mut Writer<S>, out: &mut S)
     requires follows { Follows S.taken S.faults S.refused line.old out.old }
     ensures text { line.new.text ≡ line.old.text ++ spec.regex_text index fault.now }
@@ -177,6 +191,7 @@ fn put_regex<S: Sink>(index: u32, fault: &RegexFault, line: &mut Writer<S>, out:
     }
 }
 
+/// Appends what is wrong and where.
 fn put_at<S: Sink>(word: &str, path: Path, line: &mut Writer<S>, out: &mut S)
     requires follows { Follows S.taken S.faults S.refused line.old out.old }
     ensures text { line.new.text ≡ line.old.text ++ spec.at_path word.now path }

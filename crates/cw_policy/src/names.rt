@@ -60,12 +60,14 @@ pub fn is_among(items: &[Value], name: &str) -> bool
     false
 }
 
+/// Whether this format knows a right by this name.
 fn is_right(format: u8, name: &str) -> bool
     ensures { result ≡ is_some (right_mask format name.now) }
 {
     right_named(name.as_bytes(), format).is_some()
 }
 
+/// The number of the first item that names no right, from 1.
 fn unknown_right(format: u8, items: &[Value]) -> Option<usize>
     ensures { result ≡ form.first_in (spec.unknown_right format) 1 (items_view items.now) }
 {
@@ -79,6 +81,7 @@ fn unknown_right(format: u8, items: &[Value]) -> Option<usize>
     None
 }
 
+/// The fault of the item with this number, if there is one.
 fn unknown_item(section: Section, index: usize, key: u8, item: Option<usize>) -> Option<PolicyFault>
     ensures { result ≡ spec.unknown_item section index key item }
 {
@@ -88,6 +91,7 @@ fn unknown_item(section: Section, index: usize, key: u8, item: Option<usize>) ->
     }
 }
 
+/// What is not known first among the rights at a key.
 fn rights_fault(
     format: u8,
     section: Section,
@@ -100,6 +104,7 @@ fn rights_fault(
     unknown_item(section, index, key, unknown_right(format, items_at(value)))
 }
 
+/// What is not known in the table of a descriptor.
 fn descriptor_unknown(format: u8, index: usize, value: &Value) -> Option<PolicyFault>
     ensures { result ≡ spec.descriptor_unknown format index (view value.now) }
 {
@@ -112,6 +117,7 @@ fn descriptor_unknown(format: u8, index: usize, value: &Value) -> Option<PolicyF
     )
 }
 
+/// What is not known first in the tables of descriptors.
 fn descriptors_unknown(format: u8, items: &[Value]) -> Option<PolicyFault>
     ensures { result ≡ form.first_in (spec.descriptor_unknown format) 0 (items_view items.now) }
 {
@@ -126,6 +132,7 @@ fn descriptors_unknown(format: u8, items: &[Value]) -> Option<PolicyFault>
     None
 }
 
+/// What is not known in the table of a limit: its descriptor, or a right.
 fn limit_unknown(
     format: u8,
     descriptors: &[Value],
@@ -140,6 +147,7 @@ fn limit_unknown(
     rights_fault(format, Section::Limit, index, 2, field(value, "keep"))
 }
 
+/// What is not known first in the tables of limits.
 fn limits_unknown(format: u8, descriptors: &[Value], items: &[Value]) -> Option<PolicyFault>
     ensures { result ≡ form.first_in (spec.limit_unknown format (spec.names_of (items_view descriptors.now))) 0 (items_view items.now) }
 {
@@ -154,6 +162,7 @@ fn limits_unknown(format: u8, descriptors: &[Value], items: &[Value]) -> Option<
     None
 }
 
+/// What is not known first in a policy: in its descriptors, and then in its limits.
 #[tactic(auto, unfolding(crate::specs::Names::unknown_fault))]
 fn unknown_fault(table: &Table) -> Option<PolicyFault>
     ensures { result ≡ spec.unknown_fault (table_view table.now) }
@@ -180,6 +189,7 @@ fn repeated(items: &[Value]) -> Option<usize>
     None
 }
 
+/// The fault of a table whose name stands twice.
 fn twice_table(section: Section, index: Option<usize>) -> Option<PolicyFault>
     ensures { result ≡ spec.twice_table section index }
 {
@@ -189,6 +199,7 @@ fn twice_table(section: Section, index: Option<usize>) -> Option<PolicyFault>
     }
 }
 
+/// The fault of an item that stands twice.
 fn twice_item(key: Key, index: Option<usize>) -> Option<PolicyFault>
     ensures { result ≡ spec.twice_item key index }
 {
@@ -203,6 +214,7 @@ fn twice_item(key: Key, index: Option<usize>) -> Option<PolicyFault>
     }
 }
 
+/// What stands twice first: descriptors, functions to split, functions to detach, rules.
 #[tactic(auto, unfolding(crate::specs::Names::twice_fault))]
 fn twice_fault(table: &Table) -> Option<PolicyFault>
     ensures { result ≡ spec.twice_fault (table_view table.now) }
@@ -232,6 +244,7 @@ pub fn count(items: &[Value]) -> usize
     items.len()
 }
 
+/// Whether there are too many descriptors.
 fn count_fault(table: &Table) -> Option<PolicyFault>
     ensures { result ≡ spec.count_fault (table_view table.now) }
 {

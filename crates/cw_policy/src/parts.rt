@@ -19,6 +19,7 @@ use indexmap::IndexSet;
 use std::alloc::Global;
 use toml::{Table, Value};
 
+/// A set of rights with those of one name more.
 fn with_rights(format: u8, rights: u16, name: &str) -> u16
     requires within { rights ≤ 0xfff }
     ensures rights { result ≡ spec.with_rights rights (right_mask format name.now) }
@@ -30,6 +31,7 @@ fn with_rights(format: u8, rights: u16, name: &str) -> u16
     }
 }
 
+/// The set of the rights that some items name.
 fn rights_of(format: u8, items: &[Value]) -> u16
     ensures rights { result ≡ spec.rights_of format 0 (items_view items.now) }
     ensures within { result ≤ 0xfff }
@@ -41,6 +43,7 @@ fn rights_of(format: u8, items: &[Value]) -> u16
     rights
 }
 
+/// The set of rights at a key, all where the key isn't there.
 fn rights_at(format: u8, value: Option<&Value>) -> Rights
     ensures rights { result ≡ spec.rights_at format (option_map (λ x. view x.now) value.entry) }
     ensures within { result.0 ≤ 0xfff }
@@ -51,6 +54,7 @@ fn rights_at(format: u8, value: Option<&Value>) -> Rights
     }
 }
 
+/// The number of a descriptor that is open at the start, by its name.
 fn digit_of(name: &str) -> Option<u8>
     ensures { result ≡ spec.digit_of name.now }
 {
@@ -65,6 +69,7 @@ fn digit_of(name: &str) -> Option<u8>
     }
 }
 
+/// A copy of a text.
 fn copied(alloc: Global, text: &str) -> Result<Vec<u8>, NoMemory>
     ensures bytes { IfOk result (λ copy. copy.items ≡ text.now) }
 {
@@ -73,6 +78,7 @@ fn copied(alloc: Global, text: &str) -> Result<Vec<u8>, NoMemory>
     Ok(copy)
 }
 
+/// A descriptor from its table.
 fn descriptor_in(alloc: Global, format: u8, value: &Value) -> Result<Descriptor, NoMemory>
     ensures descriptor { IfOk result (λ d. descriptor_of d ≡ spec.descriptor_in format (view value.now)) }
 {
@@ -99,6 +105,7 @@ pub fn descriptors_in(
     Ok(list)
 }
 
+/// The number of the descriptor with this name, 0 where none has it.
 fn descriptor_number(descriptors: &[Descriptor], name: &str) -> u8
     requires { length descriptors.now ≤ limit_of Quantity.Descriptors }
     ensures { result ≡ meaning.number_in (meaning.names_of descriptors.now) name.now }
@@ -111,6 +118,7 @@ fn descriptor_number(descriptors: &[Descriptor], name: &str) -> u8
     0
 }
 
+/// A limit from its table.
 fn limit_in(format: u8, descriptors: &[Descriptor], value: &Value) -> Limit
     requires { length descriptors.now ≤ limit_of Quantity.Descriptors }
     ensures { result ≡ spec.limit_in format (meaning.names_of descriptors.now) (view value.now) }
@@ -163,6 +171,7 @@ pub fn names_of(alloc: Global, items: &[Value]) -> Result<Vec<Vec<u8>>, NoMemory
     Ok(list)
 }
 
+/// Numbers a label, where it has no number yet.
 fn add_label(alloc: Global, labels: &mut IndexSet<Vec<u8>>, label: &str) -> Result<(), NoMemory>
     ensures added { OnOk result (names_in labels.new.keys ≡ meaning.with_name (names_in labels.old.keys) label.now) }
 {

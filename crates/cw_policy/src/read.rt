@@ -28,6 +28,7 @@ use indexmap::IndexSet;
 use std::alloc::Global;
 use toml::Table;
 
+/// Whether the rules have more literals than 64 in all.
 fn has_many_positions(rules: &[Rule]) -> bool
     requires { length rules.now ≤ limit_of Quantity.Rules }
     ensures { result ≡ nat_lt (limit_of Quantity.RulePositions) (spec.positions (map rule_of rules.now)) }
@@ -38,6 +39,7 @@ fn has_many_positions(rules: &[Rule]) -> bool
     }
 }
 
+/// The first quantity that is over its limit: limits, rules, literals of rules.
 fn quantity_fault(count: usize, rules: &[Rule]) -> Option<PolicyFault>
     ensures { result ≡ spec.quantity_fault count (map rule_of rules.now) }
 {
@@ -53,6 +55,7 @@ fn quantity_fault(count: usize, rules: &[Rule]) -> Option<PolicyFault>
     None
 }
 
+/// The labels of the tables `at`, numbered in their order.
 fn labels_from(alloc: Global, table: &Table) -> Result<IndexSet<Vec<u8>>, PolicyFault>
     ensures labels { IfOk result (λ labels. names_in labels.keys ≡ spec.at_labels (table_view table.now)) }
     ensures few { IfOk result (λ labels. index_set_len labels ≤ 65535) }
@@ -70,6 +73,7 @@ fn labels_from(alloc: Global, table: &Table) -> Result<IndexSet<Vec<u8>>, Policy
     }
 }
 
+/// The rules of a policy: its tests, and then its expressions, whose labels are numbered on.
 fn rules_from(
     alloc: Global,
     table: &Table,
@@ -89,6 +93,7 @@ fn rules_from(
     }
 }
 
+/// The policy of a tree, given its descriptors, labels and rules.
 #[tactic(auto, using(crate::proofs::Whole::names_are))]
 fn policy_with(
     alloc: Global,
@@ -134,6 +139,7 @@ fn policy_with(
     })
 }
 
+/// The same, where no quantity is over its limit.
 fn judged(
     alloc: Global,
     table: &Table,
@@ -161,6 +167,7 @@ fn judged(
     }
 }
 
+/// The policy of a tree that has the form and names what is known.
 fn policy_from(alloc: Global, table: &Table) -> Result<Policy, PolicyFault>
     requires early { names.early_fault (table_view table.now) ≡ None }
     ensures policy { IfOk result (λ p. spec.HasPolicy (table_view table.now) (policy_of p)) }
@@ -183,6 +190,7 @@ fn policy_from(alloc: Global, table: &Table) -> Result<Policy, PolicyFault>
     }
 }
 
+/// The policy of a tree, or what is wrong first.
 fn read_table(alloc: Global, table: &Table) -> Result<Policy, PolicyFault>
     ensures policy { IfOk result (λ p. spec.HasPolicy (table_view table.now) (policy_of p)) }
     ensures splits { IfOk result (λ p. length p.split.items ≤ 65535) }

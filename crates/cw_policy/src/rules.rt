@@ -18,6 +18,7 @@ use cw_rights::{Descriptor, Lit, Regex, Rule, Test};
 use indexmap::IndexSet;
 use std::alloc::Global;
 
+/// The number of a label, 0 where it has none.
 fn label_number(labels: &IndexSet<Vec<u8>>, label: &str) -> u16
     requires { index_set_len labels.now ≤ 65535 }
     ensures { result ≡ number_in (names_in labels.now.keys) label.now }
@@ -28,6 +29,7 @@ fn label_number(labels: &IndexSet<Vec<u8>>, label: &str) -> u16
     }
 }
 
+/// The name of the rule that a test makes: its label, `must` or `never`, and its text.
 fn test_name(alloc: Global, test: &TestSource) -> Result<Vec<u8>, NoMemory>
     ensures name { IfOk result (λ name. name.items ≡ spec.test_name (test_text test.now)) }
 {
@@ -39,6 +41,7 @@ fn test_name(alloc: Global, test: &TestSource) -> Result<Vec<u8>, NoMemory>
     Ok(name)
 }
 
+/// The words that a test forbids: any letters, and then its label where the test holds.
 fn bad_words(alloc: Global, label: u16, test: (bool, Test)) -> Result<Regex, NoMemory>
     ensures words { IfOk result (λ bad. tree_of bad ≡ spec.bad_words label test) }
 {
@@ -54,12 +57,14 @@ fn bad_words(alloc: Global, label: u16, test: (bool, Test)) -> Result<Regex, NoM
     Ok(Regex::Cat(parts))
 }
 
+/// A test as what is bad: one that must hold is bad where it doesn't.
 fn turned(must: bool, test: (bool, Test)) -> (bool, Test)
     ensures { result ≡ spec.turned must test }
 {
     if must { (!test.0, test.1) } else { test }
 }
 
+/// The rule of a test that was read.
 fn test_rule(
     alloc: Global,
     test: &TestSource,
@@ -75,6 +80,7 @@ fn test_rule(
     })
 }
 
+/// The rule of a test; its fault is `Kind` where the text is none.
 fn read_test_rule(
     alloc: Global,
     format: u8,
@@ -100,6 +106,7 @@ fn read_test_rule(
     }
 }
 
+/// The fault of an expression as one of its policy.
 fn regex_fault(index: u32, fault: RegexFault) -> PolicyFault
     ensures { result ≡ spec.regex_fault index fault }
 {
@@ -110,6 +117,7 @@ fn regex_fault(index: u32, fault: RegexFault) -> PolicyFault
     }
 }
 
+/// A copy of a text.
 fn copied(alloc: Global, text: &str) -> Result<Vec<u8>, PolicyFault>
     ensures bytes { IfOk result (λ copy. copy.items ≡ text.now) }
     ensures fault { IfErr result (λ f. f ≡ PolicyFault.NoMemory) }
@@ -120,6 +128,7 @@ fn copied(alloc: Global, text: &str) -> Result<Vec<u8>, PolicyFault>
     }
 }
 
+/// The rule of an expression; its labels are numbered on.
 fn read_expression(
     alloc: Global,
     format: u8,
@@ -143,6 +152,7 @@ fn read_expression(
     }
 }
 
+/// A rule from its text.
 fn read_rule(
     alloc: Global,
     format: u8,

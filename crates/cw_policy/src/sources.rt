@@ -37,12 +37,14 @@ pub enum Source<'a> {
     Expression(ExpressionSource<'a>),
 }
 
+/// The place of `must` or `never` among the keys of `at`, from 1.
 fn test_key(must: bool) -> u8
     ensures { result ≡ spec.test_key must }
 {
     if must { 2 } else { 3 }
 }
 
+/// Appends the tests of one key of a table `at`.
 fn add_tests<'a>(
     sources: &mut Vec<Source<'a>>,
     index: usize,
@@ -65,6 +67,7 @@ fn add_tests<'a>(
     Ok(())
 }
 
+/// Appends the tests of a table `at`: those that must hold, and then those that never may.
 fn add_table<'a>(
     sources: &mut Vec<Source<'a>>,
     index: usize,
@@ -77,6 +80,7 @@ fn add_table<'a>(
     add_tests(sources, index, label, false, items_at(field(item, "never")))
 }
 
+/// Appends the tests of all tables `at`.
 fn add_all_tests<'a>(sources: &mut Vec<Source<'a>>, items: &'a [Value]) -> Result<(), NoMemory>
     ensures added { OnOk result (map text_of sources.new.items ≡ map text_of sources.old.items ++ spec.test_texts 0 (items_view items.now)) }
 {
@@ -88,6 +92,7 @@ fn add_all_tests<'a>(sources: &mut Vec<Source<'a>>, items: &'a [Value]) -> Resul
     Ok(())
 }
 
+/// Appends the expressions of all tables `rule`.
 fn add_expressions<'a>(sources: &mut Vec<Source<'a>>, items: &'a [Value]) -> Result<(), NoMemory>
     ensures added { OnOk result (map text_of sources.new.items ≡ map text_of sources.old.items ++ spec.expression_texts 0 (items_view items.now)) }
 {

@@ -56,6 +56,7 @@ fn to(graph: &Graph, policy: &Policy, begins: &[u32], next: Option<PointId>) -> 
     }
 }
 
+/// The number of a point's seam, 0 where it has none.
 fn number(seam: Option<SeamId>) -> u32
     ensures { result ≡ number seam }
 {
@@ -65,6 +66,7 @@ fn number(seam: Option<SeamId>) -> u32
     }
 }
 
+/// Appends a position.
 fn put(spots: &mut Vec<Spot>, spot: Spot) -> Result<(), AllocError>
     ensures { OnOk result (spots.new.items ≡ spots.old.items ++ spot ∷ []) }
 {

@@ -17,6 +17,7 @@ pub struct Place {
     pub split: bool,
 }
 
+/// The stage at which a position visits or asks, from 0; None elsewhere.
 pub(crate) fn stage_of(spot: Spot) -> Option<u8>
     ensures { result ≡ stage_in spot }
 {
@@ -28,6 +29,7 @@ pub(crate) fn stage_of(spot: Spot) -> Option<u8>
     }
 }
 
+/// Whether a primitive is asked for there.
 pub(crate) fn is_asked(spot: Spot) -> bool
     ensures { result ≡ is_asked_in spot }
 {
@@ -37,6 +39,7 @@ pub(crate) fn is_asked(spot: Spot) -> bool
     }
 }
 
+/// Whether a call runs there in a process of its own.
 pub(crate) fn is_split(spot: Spot) -> bool
     ensures { result ≡ is_split_in spot }
 {

@@ -8,6 +8,7 @@ use cw_points::{Node, Point};
 use cw_rights::Policy;
 use cw_states::Uses;
 
+/// Whether a point closes the descriptor with this number.
 fn is_close(node: Node, descriptor: u8) -> bool
     ensures { result ≡ is_close descriptor node }
 {
@@ -17,6 +18,7 @@ fn is_close(node: Node, descriptor: u8) -> bool
     }
 }
 
+/// Whether a point is the label with this number in the policy.
 fn is_label(node: Node, label: usize) -> bool
     ensures { result ≡ is_label label node }
 {

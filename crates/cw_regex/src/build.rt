@@ -23,6 +23,7 @@ pub struct Building {
     pub outer: Vec<Frame>,
 }
 
+/// Factors one after the other; one alone is itself.
 fn sequence(mut factors: Vec<Regex>) -> Regex
     ensures { tree_of result ≡ joined_seq (map tree_of factors.items) }
 {
@@ -35,6 +36,7 @@ fn sequence(mut factors: Vec<Regex>) -> Regex
     }
 }
 
+/// Terms of which one is taken; one alone is itself.
 fn alternative(mut terms: Vec<Regex>) -> Regex
     ensures { tree_of result ≡ joined_alt (map tree_of terms.items) }
 {
@@ -66,6 +68,7 @@ pub fn nothing(alloc: Global) -> Building
     }
 }
 
+/// A level without terms and factors.
 fn new_frame(alloc: Global) -> Frame
     ensures { level_of result ≡ empty }
 {
@@ -75,6 +78,7 @@ fn new_frame(alloc: Global) -> Frame
     }
 }
 
+/// A level with one factor more.
 fn with_factor(frame: Frame, factor: Regex) -> Result<Frame, AllocError>
     ensures { IfOk result (λ f. level_of f ≡ with_factor (level_of frame) (tree_of factor)) }
 {
@@ -94,6 +98,7 @@ pub fn put_literal(building: Building, lit: Lit) -> Result<Building, AllocError>
     })
 }
 
+/// Begins a level, at `(`.
 fn put_begin(alloc: Global, building: Building) -> Result<Building, AllocError>
     ensures { IfOk result (λ b. levels_of b ≡ with_begin (levels_of building)) }
 {
@@ -105,6 +110,7 @@ fn put_begin(alloc: Global, building: Building) -> Result<Building, AllocError>
     })
 }
 
+/// Ends a level, at `)`: it becomes a factor of the level around it.
 fn put_close(alloc: Global, building: Building) -> Result<Building, AllocError>
     ensures { IfOk result (λ b. levels_of b ≡ with_close (levels_of building)) }
 {
@@ -120,6 +126,7 @@ fn put_close(alloc: Global, building: Building) -> Result<Building, AllocError>
     })
 }
 
+/// Begins a new term, at `|`.
 fn put_bar(alloc: Global, building: Building) -> Result<Building, AllocError>
     ensures { IfOk result (λ b. levels_of b ≡ with_bar (levels_of building)) }
 {
@@ -135,6 +142,7 @@ fn put_bar(alloc: Global, building: Building) -> Result<Building, AllocError>
     })
 }
 
+/// An expression under `*`, `+` or `?`.
 fn repeated(mark: Mark, body: Box<Regex>) -> Regex
     ensures { tree_of result ≡ repeated_by mark (tree_of body.value) }
 {
@@ -145,6 +153,7 @@ fn repeated(mark: Mark, body: Box<Regex>) -> Regex
     }
 }
 
+/// Repeats the last factor.
 fn repeat_last(alloc: Global, mut factors: Vec<Regex>, mark: Mark) -> Result<Vec<Regex>, AllocError>
     ensures { IfOk result (λ v. map tree_of v.items ≡ on_last (repeated_by mark) (map tree_of factors.items)) }
 {
@@ -157,6 +166,7 @@ fn repeat_last(alloc: Global, mut factors: Vec<Regex>, mark: Mark) -> Result<Vec
     }
 }
 
+/// Repeats the last factor of the innermost level, at `*`, `+` or `?`.
 fn put_repeat(alloc: Global, building: Building, mark: Mark) -> Result<Building, AllocError>
     ensures { IfOk result (λ b. levels_of b ≡ repeated (repeated_by mark) (levels_of building)) }
 {

@@ -17,6 +17,7 @@ use cw_rights::{Descriptor, Lit, Regex};
 use indexmap::IndexSet;
 use std::alloc::{AllocError, Global};
 
+/// The number of a label, 0 where it has none.
 fn label_number(labels: &IndexSet<Vec<u8>>, word: &[u8]) -> u16
     requires { index_set_len labels.now ≤ 65535 }
     ensures { result ≡ number_in (names_in labels.now.keys) word.now }
@@ -27,6 +28,7 @@ fn label_number(labels: &IndexSet<Vec<u8>>, word: &[u8]) -> u16
     }
 }
 
+/// A literal with the tests in brackets behind it, if there are some, and where the text goes on.
 fn literal(
     alloc: Global,
     text: &[u8],
@@ -51,6 +53,7 @@ fn literal(
     Ok((Lit { label, tests }, to))
 }
 
+/// The same, as a factor of what is built.
 fn put_label(
     alloc: Global,
     text: &[u8],
@@ -76,12 +79,14 @@ fn put_label(
     Ok((put_literal(building, lit)?, to))
 }
 
+/// Whether a mark is `.`.
 fn is_dot(mark: Mark) -> bool
     ensures { IsTrue result ↔ (mark ≡ Mark.Dot) }
 {
     matches!(mark, Mark::Dot)
 }
 
+/// Builds the next item in, and says where the text goes on.
 fn step(
     alloc: Global,
     text: &[u8],
@@ -129,6 +134,7 @@ fn step(
     }
 }
 
+/// Whether nothing but blanks is left.
 fn at_end(text: &[u8], at: usize) -> bool
     requires { at ≤ length text.now }
     ensures { IsTrue result ↔ (parts (drop at text.now) ≡ []) }
@@ -136,6 +142,7 @@ fn at_end(text: &[u8], at: usize) -> bool
     matches!(token_at(text, at), Token::End)
 }
 
+/// What was built.
 fn done(building: Building) -> Result<Regex, AllocError>
     ensures { IfOk result (λ r. tree_of r ≡ finished (levels_of building).inner) }
 {

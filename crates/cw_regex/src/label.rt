@@ -11,6 +11,7 @@ use crate::text::{Mark, Token, token_at};
 use indexmap::IndexSet;
 use std::alloc::{AllocError, Global};
 
+/// Numbers a label, where it has no number yet.
 fn add_label(alloc: Global, labels: &mut IndexSet<Vec<u8>>, name: &[u8]) -> Result<(), AllocError>
     ensures added { OnOk result (names_in labels.new.keys ≡ with_name (names_in labels.old.keys) name.now) }
     ensures one { OnOk result (index_set_len labels.new ≤ index_set_len labels.old + 1) }
@@ -31,6 +32,7 @@ struct Labelled {
     inside: bool,
 }
 
+/// Goes over one part of the text, and numbers it where it is a label: a word outside brackets. None at the end.
 fn label_token(
     alloc: Global,
     text: &[u8],

@@ -37,6 +37,7 @@ pub enum Phase {
     Right,
 }
 
+/// Whether a word is the number of a descriptor that is open at the start.
 fn is_digit(word: &[u8]) -> bool
     ensures { result ≡ is_digit word.now }
 {
@@ -46,6 +47,7 @@ fn is_digit(word: &[u8]) -> bool
     }
 }
 
+/// What comes after this word at the start of a test: `amb` or a descriptor.
 fn in_test(word: &[u8]) -> Option<Phase>
     ensures { result ≡ in_test word.now }
 {
@@ -58,6 +60,7 @@ fn in_test(word: &[u8]) -> Option<Phase>
     None
 }
 
+/// This phase, where the word is a name.
 fn if_name(word: &[u8], phase: Phase) -> Option<Phase>
     ensures { result ≡ cond (is_name word.now) (Some phase) None }
 {
@@ -97,6 +100,7 @@ pub fn step_mark(alone: bool, phase: Phase, mark: Mark) -> Option<Phase>
     }
 }
 
+/// Whether a label, `.` or `(` may come.
 fn takes_atom(phase: Phase) -> bool
     ensures { result ≡ takes_atom phase }
 {
@@ -106,6 +110,7 @@ fn takes_atom(phase: Phase) -> bool
     }
 }
 
+/// Whether an expression may end.
 fn is_end(phase: Phase) -> bool
     ensures { result ≡ is_end phase }
 {

@@ -41,6 +41,7 @@ pub enum RegexFault {
     NoMemory,
 }
 
+/// The fault of a name that isn't known, with its offset in bytes.
 fn unknown_fault(unknown: Unknown) -> RegexFault
     requires { place_of unknown < 2 ^ 32 }
     ensures { result ≡ fault_of unknown }
@@ -51,6 +52,7 @@ fn unknown_fault(unknown: Unknown) -> RegexFault
     }
 }
 
+/// Whether all names of a test are known, else the first that isn't.
 fn known(text: &[u8], descriptors: &[Descriptor], format: u8) -> Result<(), RegexFault>
     requires { length text.now ≤ 65535 }
     ensures ok { OnOk result (first_unknown format (names_of descriptors.now) false (placed 0 text.now) ≡ None) }
@@ -92,6 +94,7 @@ pub fn read_test(
     }
 }
 
+/// The same for an expression.
 fn all_known(text: &[u8], descriptors: &[Descriptor], format: u8) -> Result<(), RegexFault>
     requires short { length text.now ≤ 65535 }
     requires is { IsExpression text.now }
@@ -106,6 +109,7 @@ fn all_known(text: &[u8], descriptors: &[Descriptor], format: u8) -> Result<(), 
     }
 }
 
+/// Whether a text is an expression, not nested too deep, whose names are known; else its first fault.
 fn sound(text: &[u8], descriptors: &[Descriptor], format: u8) -> Result<(), RegexFault>
     requires { length text.now ≤ 65535 }
     ensures is { OnOk result (IsExpression text.now) }
@@ -124,6 +128,7 @@ fn sound(text: &[u8], descriptors: &[Descriptor], format: u8) -> Result<(), Rege
     }
 }
 
+/// Numbers the labels of an expression.
 fn named(alloc: Global, text: &[u8], labels: &mut IndexSet<Vec<u8>>) -> Result<(), RegexFault>
     ensures labels { OnOk result ((e : Expression) → parts text.now ≡ spelled e [] →
         names_in labels.new.keys ≡ with_names (names_in labels.old.keys) (labels_of e [])) }
@@ -137,6 +142,7 @@ fn named(alloc: Global, text: &[u8], labels: &mut IndexSet<Vec<u8>>) -> Result<(
     }
 }
 
+/// The tree of a text that is an expression.
 fn built(
     alloc: Global,
     text: &[u8],
@@ -156,6 +162,7 @@ fn built(
     }
 }
 
+/// An expression from its text, whose labels are numbered on.
 fn read_bytes(
     alloc: Global,
     text: &[u8],

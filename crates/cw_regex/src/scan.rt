@@ -20,6 +20,7 @@ pub struct Scanned {
     pub most: u32,
 }
 
+/// Goes over a blank.
 fn scan_blank(text: &[u8], alone: bool, scan: Scanned) -> Result<Scanned, usize>
     requires is { ScanAt alone text.now scan }
     requires blank { IsBlankAt text.now scan.at }
@@ -39,6 +40,7 @@ fn scan_blank(text: &[u8], alone: bool, scan: Scanned) -> Result<Scanned, usize>
     })
 }
 
+/// Goes over a word.
 fn scan_word(text: &[u8], alone: bool, scan: Scanned, end: usize) -> Result<Scanned, usize>
     requires is { ScanAt alone text.now scan }
     requires word { IsWordAt text.now scan.at end }
@@ -57,6 +59,7 @@ fn scan_word(text: &[u8], alone: bool, scan: Scanned, end: usize) -> Result<Scan
     }
 }
 
+/// Goes over a mark.
 fn scan_mark(text: &[u8], alone: bool, scan: Scanned, mark: Mark) -> Result<Scanned, usize>
     requires is { ScanAt alone text.now scan }
     requires mark { IsMarkAt text.now scan.at mark }
@@ -76,6 +79,7 @@ fn scan_mark(text: &[u8], alone: bool, scan: Scanned, mark: Mark) -> Result<Scan
     }
 }
 
+/// Goes over what stands next.
 fn scan_piece(text: &[u8], alone: bool, scan: Scanned) -> Result<Scanned, usize>
     requires is { ScanAt alone text.now scan }
     requires more { scan.at < length text.now }
@@ -91,6 +95,7 @@ fn scan_piece(text: &[u8], alone: bool, scan: Scanned) -> Result<Scanned, usize>
     }
 }
 
+/// Goes over the whole text.
 fn scan_all(text: &[u8], alone: bool) -> Result<Scanned, usize>
     requires { length text.now ≤ 65535 }
     ensures ok { IfOk result (λ all. ScanAt alone text.now all) }
@@ -109,6 +114,7 @@ fn scan_all(text: &[u8], alone: bool) -> Result<Scanned, usize>
     Ok(scan)
 }
 
+/// Whether a text that was gone over may end there.
 fn may_end(text: &[u8], alone: bool, all: Scanned) -> bool
     ensures { result ≡ (ends_here alone all.phase all.depth && cond (ends_blank text.now) false true) }
 {

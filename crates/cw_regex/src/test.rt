@@ -11,6 +11,7 @@ use crate::unknown::descriptor_number;
 use cw_rights::{Descriptor, Rights, Test, right_named};
 use std::alloc::{AllocError, Global};
 
+/// The set of rights that a word names, empty where it names none.
 fn right_or_none(name: &[u8], format: u8) -> Rights
     ensures { result ≡ need_of format name.now }
 {
@@ -20,6 +21,7 @@ fn right_or_none(name: &[u8], format: u8) -> Rights
     }
 }
 
+/// The right that the next word names, and where the text goes on.
 fn right_here(text: &[u8], at: usize, format: u8) -> (Rights, usize)
     requires { at ≤ length text.now }
     ensures within { result.1 ≤ length text.now }
@@ -35,6 +37,7 @@ fn right_here(text: &[u8], at: usize, format: u8) -> (Rights, usize)
     }
 }
 
+/// The right behind a `:`, and where the text goes on.
 fn right_after_colon(text: &[u8], at: usize, format: u8) -> (Rights, usize)
     requires { at ≤ length text.now }
     ensures within { result.1 ≤ length text.now }
@@ -50,6 +53,7 @@ fn right_after_colon(text: &[u8], at: usize, format: u8) -> (Rights, usize)
     }
 }
 
+/// What a test is about, `amb` or a descriptor with a right, and where the text goes on.
 fn subject(text: &[u8], at: usize, descriptors: &[Descriptor], format: u8) -> (Test, usize)
     requires inside { at ≤ length text.now }
     requires few { length descriptors.now ≤ 8 }
@@ -100,6 +104,7 @@ pub fn test(text: &[u8], at: usize, descriptors: &[Descriptor], format: u8) -> (
     }
 }
 
+/// Whether a `,` stands behind a test, and where the text goes on.
 fn after_test(text: &[u8], at: usize) -> (bool, usize)
     requires { at ≤ length text.now }
     ensures within { result.1 ≤ length text.now }
@@ -124,6 +129,7 @@ fn after_test(text: &[u8], at: usize) -> (bool, usize)
     }
 }
 
+/// Where the text goes on behind `[`, if it stands there.
 fn bracket_at(text: &[u8], at: usize) -> Option<usize>
     requires { at ≤ length text.now }
     ensures within { IfSome result (λ to. to ≤ length text.now) }
@@ -140,6 +146,7 @@ fn bracket_at(text: &[u8], at: usize) -> Option<usize>
     }
 }
 
+/// Tests with commas between them, and where the text goes on behind `]`.
 fn tests(
     alloc: Global,
     text: &[u8],

@@ -28,12 +28,14 @@ pub enum Mark {
     Other,
 }
 
+/// A space or a tab.
 fn is_blank(byte: u8) -> bool
     ensures { result ≡ is_blank byte }
 {
     byte == b' ' || byte == b'\t'
 }
 
+/// The mark that a byte is, `Other` where it is none.
 fn mark_of(byte: u8) -> Mark
     ensures { result ≡ mark_of byte }
 {
@@ -54,6 +56,7 @@ fn mark_of(byte: u8) -> Mark
     }
 }
 
+/// Where the word ends that begins there.
 fn word_end(text: &[u8], at: usize) -> usize
     requires inside { at < length text.now }
     requires begins { is_name_byte (slice_index text.now at) ≡ true }

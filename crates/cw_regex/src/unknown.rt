@@ -28,6 +28,7 @@ pub fn descriptor_number(descriptors: &[Descriptor], word: &[u8]) -> u8
     0
 }
 
+/// Whether a descriptor has this name.
 fn is_known(descriptors: &[Descriptor], word: &[u8]) -> bool
     ensures { result ≡ is_known (names_of descriptors.now) word.now }
 {
@@ -39,6 +40,7 @@ fn is_known(descriptors: &[Descriptor], word: &[u8]) -> bool
     false
 }
 
+/// Whether a word isn't known: behind a `:` it is a right, before one a descriptor.
 fn unknown_word(
     descriptors: &[Descriptor],
     format: u8,
@@ -69,6 +71,7 @@ struct Searched {
     after: bool,
 }
 
+/// Goes over one part of the text; None at its end, an error at a name that isn't known.
 fn search_token(
     text: &[u8],
     descriptors: &[Descriptor],

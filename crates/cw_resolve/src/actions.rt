@@ -40,6 +40,7 @@ pub fn descriptor_of(checked: &Checked, policy: &Policy, e: &Expr) -> Option<usi
     }
 }
 
+/// A close of the descriptor with this number, and a plain computation where the policy has none of that name.
 fn closes_if(descriptor: Option<usize>) -> Act
     ensures { result ≡ act_of (closes_if descriptor) }
 {
@@ -49,6 +50,7 @@ fn closes_if(descriptor: Option<usize>) -> Act
     }
 }
 
+/// An open of the descriptor with this number, and a plain computation where the policy has none of that name.
 fn opens_if(descriptor: Option<usize>) -> Act
     ensures { result ≡ act_of (opens_if descriptor) }
 {

@@ -73,6 +73,7 @@ fn put_all_labels(statements: &[Stmt], out: &mut Vec<Labelled>) -> Result<(), No
     Ok(())
 }
 
+/// Appends the labels of all functions, in the order of the text.
 fn put_function_labels(functions: &[Function], out: &mut Vec<Labelled>) -> Result<(), NoMemory>
     ensures { IfOk result (λ _. out.new.items ≡ out.old.items ++ flat_map (λ f. labels_of_all f.body) (map definition_of functions.now)) }
 {
@@ -82,6 +83,7 @@ fn put_function_labels(functions: &[Function], out: &mut Vec<Labelled>) -> Resul
     Ok(())
 }
 
+/// The names of all functions, in the order of the text.
 fn names_of(alloc: Global, source: &[u8], functions: &[Function]) -> Result<Vec<Vec<u8>>, NoMemory>
     ensures { IfOk result (λ names. lists names.items ≡ map (λ f. text source.now f.name) (map definition_of functions.now)) }
 {

@@ -33,6 +33,7 @@ fn has_label(source: &[u8], name: &[u8], statement: &Stmt) -> bool
     }
 }
 
+/// Whether a label in some statements has this name.
 #[cycle(has_label)]
 #[tactic(auto, using(crate::proofs::LabelJoins::any_join, crate::proofs::LabelJoins::any_label))]
 fn has_label_in(source: &[u8], name: &[u8], statements: &[Stmt]) -> bool

@@ -47,6 +47,7 @@ pub fn descriptor_named(policy: &Policy, name: &[u8]) -> Option<usize>
     None
 }
 
+/// Whether a text is the decimal numeral of a number.
 fn is_decimal(text: &[u8], n: u64) -> bool
     ensures { result ≡ bytes_eq (decimal n) text.now }
 {

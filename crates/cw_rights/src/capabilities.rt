@@ -47,6 +47,7 @@ pub enum Allowed {
     BadDescriptor,
 }
 
+/// Whether a descriptor may be limited to these rights: no more than it holds (cap_rights_limit(2), ENOTCAPABLE and EBADF).
 fn allowed_on(hold: Hold, keep: Rights) -> Allowed
     ensures { result ≡ allowed_on hold keep.0 }
 {

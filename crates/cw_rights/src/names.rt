@@ -21,6 +21,7 @@ pub fn is_name_byte(byte: u8) -> bool
     is_name_start(byte) || byte >= b'0' && byte <= b'9'
 }
 
+/// Whether all bytes may stand in a C name.
 fn all_name_bytes(bytes: &[u8]) -> bool
     ensures { result ≡ list_all is_name_byte bytes.now }
 {
@@ -68,6 +69,7 @@ pub fn right_named(name: &[u8], format: u8) -> Option<Rights>
     later_right_named(name, format)
 }
 
+/// The same for names from `CAP_FCNTL` on.
 fn later_right_named(name: &[u8], format: u8) -> Option<Rights>
     ensures { option_map (λ r. r.0) result ≡ mask_in (drop 6 (rights_in format)) name.now }
 {
@@ -96,6 +98,7 @@ fn later_right_named(name: &[u8], format: u8) -> Option<Rights>
     }
 }
 
+/// The same for the names of format 2 that stand for two rights.
 fn joint_rights_named(name: &[u8]) -> Option<Rights>
     ensures { option_map (λ r. r.0) result ≡ mask_in joint_rights name.now }
 {

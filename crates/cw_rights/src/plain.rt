@@ -7,6 +7,7 @@ ghost use Rattle.cw_rights.specs.Trees.{literal_of, tree_of, seq_of, alt_of};
 
 use crate::words::{Letter, Lit, Regex, lit_matches};
 
+/// Whether a word is one letter that a literal matches.
 fn is_letter(lit: &Lit, word: &[Letter]) -> bool
     ensures { result ≡ is_letter (literal_of lit.now) word.now }
 {
@@ -16,6 +17,7 @@ fn is_letter(lit: &Lit, word: &[Letter]) -> bool
     }
 }
 
+/// Whether an expression matches a word.
 #[cycle(plain)]
 #[tactic(auto, using(crate::proofs::Rows::cat_plain, crate::proofs::Rows::or_plain))]
 fn plain(r: &Regex, word: &[Letter]) -> bool
@@ -37,6 +39,7 @@ fn plain(r: &Regex, word: &[Letter]) -> bool
     }
 }
 
+/// Whether parts one after the other match a word.
 #[cycle(plain)]
 fn plain_cat(parts: &[Regex], word: &[Letter]) -> bool
     ensures { result ≡ plain (seq_of parts.now) word.now }
@@ -54,6 +57,7 @@ fn plain_cat(parts: &[Regex], word: &[Letter]) -> bool
     }
 }
 
+/// Whether one of some parts matches a word.
 #[cycle(plain)]
 fn plain_or(parts: &[Regex], word: &[Letter]) -> bool
     ensures { result ≡ plain (alt_of parts.now) word.now }
@@ -64,6 +68,7 @@ fn plain_or(parts: &[Regex], word: &[Letter]) -> bool
     }
 }
 
+/// Whether a word is cut into words, none of them empty, which all match.
 #[cycle(plain)]
 fn plain_star(body: &Regex, word: &[Letter]) -> bool
     ensures { result ≡ chain (plain (tree_of body.now)) (length word.now) word.now }

@@ -44,6 +44,7 @@ pub struct Policy {
     pub detached: Vec<Vec<u8>>,
 }
 
+/// What a descriptor holds at the start: its rights where it has a number, else it is closed.
 fn start_hold(descriptor: Option<&Descriptor>) -> Hold
     ensures { result ≡ start_hold (option_map descriptor_of (option_copied descriptor.entry)) }
 {

@@ -42,6 +42,7 @@ pub enum Regex {
     Maybe(Box<Regex>),
 }
 
+/// Whether a descriptor is open and holds these rights.
 fn is_open_with(hold: Hold, need: Rights) -> bool
     ensures { result ≡ is_open_with hold need.0 }
 {
@@ -51,6 +52,7 @@ fn is_open_with(hold: Hold, need: Rights) -> bool
     }
 }
 
+/// Whether a test holds of what is held.
 fn truth(test: Test, caps: &Caps) -> bool
     ensures { result ≡ truth caps.now test }
 {
@@ -63,6 +65,7 @@ fn truth(test: Test, caps: &Caps) -> bool
     }
 }
 
+/// Whether all tests have the truth that is asked of them.
 fn tests_hold(tests: &[(bool, Test)], caps: &Caps) -> bool
     ensures { result ≡ tests_hold caps.now tests.now }
 {

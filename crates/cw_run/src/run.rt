@@ -58,7 +58,8 @@ fn entries(tape: &[Move]) -> usize
     tape.iter().filter(|by| is_on(**by)).count()
 }
 
-/// Where the run comes to rest after a move to a place, with the label that is reached there.
+/// Goes on from where a move leads, over the visits at which the table tries nothing, to where the run rests; puts the line of
+/// the label that is reached there, if it is one.
 fn arrive<S: Sink>(
     game: &Game,
     table: &WeaverCert,

@@ -27,6 +27,7 @@ impl From<NoMemory> for SampleFault {
     }
 }
 
+/// Appends a text.
 fn put(piece: &[u8], text: &mut Vec<u8>) -> Result<(), NoMemory>
     ensures { OnOk result (text.new.items ≡ text.old.items ++ piece.now) }
 {
@@ -61,6 +62,7 @@ fn put_definition(n: u32, i: u32, text: &mut Vec<u8>) -> Result<(), NoMemory>
     put(b"(x);}}\n", text)
 }
 
+/// Appends the prototypes of `n` functions.
 fn put_prototypes(n: u32, text: &mut Vec<u8>) -> Result<(), NoMemory>
     ensures { OnOk result (text.new.items ≡ text.old.items ++ prototypes n) }
 {
@@ -70,6 +72,7 @@ fn put_prototypes(n: u32, text: &mut Vec<u8>) -> Result<(), NoMemory>
     Ok(())
 }
 
+/// Appends the definitions of `n` functions.
 fn put_definitions(n: u32, text: &mut Vec<u8>) -> Result<(), NoMemory>
     ensures { OnOk result (text.new.items ≡ text.old.items ++ definitions n n) }
 {
@@ -79,6 +82,7 @@ fn put_definitions(n: u32, text: &mut Vec<u8>) -> Result<(), NoMemory>
     Ok(())
 }
 
+/// The sample's policy.
 fn policy_text(alloc: Global) -> Result<Vec<u8>, NoMemory>
     ensures { IfOk result (λ text. text.items ≡ sample_policy) }
 {
@@ -90,6 +94,7 @@ fn policy_text(alloc: Global) -> Result<Vec<u8>, NoMemory>
     Ok(text)
 }
 
+/// The sample's source, of `n` functions beside `main`.
 fn source_text(alloc: Global, n: u32) -> Result<Vec<u8>, NoMemory>
     ensures { IfOk result (λ text. text.items ≡ sample_source n) }
 {

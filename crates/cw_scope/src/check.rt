@@ -23,6 +23,7 @@ use cw_syntax::checked::Checked;
 use cw_syntax::program::{Expr, Function, Name, Program};
 use std::alloc::{AllocError, Global};
 
+/// A program that doesn't define `main`.
 #[tactic(auto, unfolding(crate::specs::Faults::no_main))]
 fn no_main(source: &[u8], program: &Program) -> Option<ScopeFault>
     ensures { result ≡ no_main source.now (file_of program.now) }
@@ -34,6 +35,7 @@ fn no_main(source: &[u8], program: &Program) -> Option<ScopeFault>
     }
 }
 
+/// A function that is defined twice.
 #[tactic(auto, unfolding(crate::specs::Faults::two_functions))]
 fn two_functions(
     alloc: Global,
@@ -67,6 +69,7 @@ fn second_label(
     Ok(None)
 }
 
+/// A label that stands twice in one function.
 #[tactic(auto, unfolding(crate::specs::Faults::two_labels))]
 fn two_labels(
     alloc: Global,
@@ -81,6 +84,7 @@ fn two_labels(
     }
 }
 
+/// A call with another number of arguments than its function has parameters.
 #[tactic(auto, unfolding(crate::specs::Faults::arity))]
 fn arity(known: &Functions, calls: &[&Expr]) -> Option<ScopeFault>
     requires known { IsKnown known.now }
@@ -93,6 +97,7 @@ fn arity(known: &Functions, calls: &[&Expr]) -> Option<ScopeFault>
     }
 }
 
+/// A name of a function that is no call, or a call that stands where none may.
 #[tactic(auto, unfolding(crate::specs::Faults::call_form))]
 fn call_form(
     known: &Functions,
@@ -111,6 +116,7 @@ fn call_form(
     }
 }
 
+/// A call of `main`.
 #[tactic(auto, unfolding(crate::specs::Faults::main_called))]
 fn main_called(known: &Functions, calls: &[&Expr]) -> Option<ScopeFault>
     requires calls { map tree_at calls.now ≡ every_call (file_of known.now.program.now) }
@@ -122,6 +128,7 @@ fn main_called(known: &Functions, calls: &[&Expr]) -> Option<ScopeFault>
     }
 }
 
+/// A name that begins with `cw_` or `CW_`.
 #[tactic(auto, unfolding(crate::specs::Faults::reserved_name))]
 fn reserved_name(source: &[u8], names: &[Name]) -> Option<ScopeFault>
     ensures { result ≡ reserved_name source.now names.now }
@@ -132,6 +139,7 @@ fn reserved_name(source: &[u8], names: &[Name]) -> Option<ScopeFault>
     }
 }
 
+/// A `break` or `continue` outside loops.
 #[tactic(auto, unfolding(crate::specs::Faults::jump))]
 fn jump(statements: &[Placed]) -> Option<ScopeFault>
     ensures { result ≡ jump (map placed_of statements.now) }
@@ -142,6 +150,7 @@ fn jump(statements: &[Placed]) -> Option<ScopeFault>
     }
 }
 
+/// Too many functions, or labels of different names.
 #[tactic(auto, unfolding(crate::specs::Faults::limit))]
 fn limit(
     alloc: Global,

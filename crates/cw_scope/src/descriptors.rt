@@ -41,6 +41,7 @@ pub enum DescriptorFault {
     NoMemory,
 }
 
+/// Whether one of these names is this one.
 fn is_shadowed(source: &[u8], names: &[Name], name: &[u8]) -> bool
     ensures { result ≡ is_shadowed source.now names.now name.now }
 {
@@ -52,6 +53,7 @@ fn is_shadowed(source: &[u8], names: &[Name], name: &[u8]) -> bool
     false
 }
 
+/// Whether a descriptor is a variable's: it has no number.
 fn is_variable(descriptor: &Descriptor) -> bool
     ensures { result ≡ is_variable (descriptor_of descriptor.now) }
 {
@@ -84,6 +86,7 @@ fn first_shadowed(source: &[u8], names: &[Name], descriptors: &[Descriptor]) -> 
     None
 }
 
+/// The fault of a descriptor that no variable of file scope stands for.
 fn no_variable(descriptor: Option<u8>) -> Option<DescriptorFault>
     ensures { result ≡ option_map DescriptorFault.NoVariable descriptor }
 {
@@ -93,6 +96,7 @@ fn no_variable(descriptor: Option<u8>) -> Option<DescriptorFault>
     }
 }
 
+/// The fault of a descriptor whose name is declared again.
 fn shadowed(descriptor: Option<u8>) -> Option<DescriptorFault>
     ensures { result ≡ option_map DescriptorFault.Shadowed descriptor }
 {
@@ -102,6 +106,7 @@ fn shadowed(descriptor: Option<u8>) -> Option<DescriptorFault>
     }
 }
 
+/// The fault of a use that is neither an open nor a close.
 fn misused(place: Option<u32>) -> Option<DescriptorFault>
     ensures { result ≡ option_map DescriptorFault.Misuse place }
 {

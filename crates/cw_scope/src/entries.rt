@@ -20,6 +20,7 @@ pub(crate) struct Entry {
     pub fits: bool,
 }
 
+/// Whether an operator is this number.
 fn is_number(n: u64, op: Op) -> bool
     ensures { result ≡ is_number n op }
 {
@@ -29,6 +30,7 @@ fn is_number(n: u64, op: Op) -> bool
     }
 }
 
+/// Whether an operator is `-` before an operand.
 fn is_minus(op: Op) -> bool
     ensures { result ≡ is_minus op }
 {
@@ -38,6 +40,7 @@ fn is_minus(op: Op) -> bool
     }
 }
 
+/// Whether an expression is `-1`.
 fn is_minus_one_of(op: Op, parts: &[Expr]) -> bool
     ensures { (from to : ℕ) → result ≡ is_minus_one (Node op (trees_of parts.now) from to) }
 {
@@ -66,6 +69,7 @@ fn is_start(braces: bool, init: &[Expr]) -> bool
     }
 }
 
+/// Whether a type's word is `int`.
 fn is_int(base: Base) -> bool
     ensures { result ≡ is_int base }
 {
@@ -75,12 +79,14 @@ fn is_int(base: Base) -> bool
     }
 }
 
+/// Whether a type is `int`: not `unsigned`, and no pointer.
 fn is_plain_int(kind: CType) -> bool
     ensures { result ≡ is_plain_int kind }
 {
     is_int(kind.base) && !kind.unsigned && kind.stars == 0
 }
 
+/// Whether a place stands before the names of all functions.
 fn is_before(place: u32, functions: &[Function]) -> bool
     ensures { result ≡ is_before place (map definition_of functions.now) }
 {
@@ -92,6 +98,7 @@ fn is_before(place: u32, functions: &[Function]) -> bool
     true
 }
 
+/// Whether a declared name may be a descriptor's variable: a plain `int` of file scope, declared before all functions.
 fn may_be_variable(program: &Program, declaration: &Decl, item: &Item) -> bool
     ensures { result ≡ may_be_variable (file_of program.now) (declaration_of declaration.now) (declared_of item.now) }
 {
@@ -103,6 +110,7 @@ fn may_be_variable(program: &Program, declaration: &Decl, item: &Item) -> bool
         && is_before(item.name.from, &program.functions)
 }
 
+/// A declared name, and whether it may be a descriptor's variable.
 fn entry_in(program: &Program, declaration: &Decl, item: &Item) -> Entry
     ensures { entry_of result ≡ entry_in (file_of program.now) (declaration_of declaration.now) (declared_of item.now) }
 {
@@ -112,6 +120,7 @@ fn entry_in(program: &Program, declaration: &Decl, item: &Item) -> Entry
     }
 }
 
+/// Appends the names of a declaration.
 fn put_entries(
     program: &Program,
     declaration: &Decl,
@@ -136,6 +145,7 @@ pub(crate) fn entries(alloc: Global, program: &Program) -> Result<Vec<Entry>, Al
     Ok(out)
 }
 
+/// Whether a name is declared.
 fn has_entry(source: &[u8], entries: &[Entry], name: &[u8]) -> bool
     ensures { result ≡ list_any (λ e. bytes_eq name.now (text source.now e.name)) (map entry_of entries.now) }
 {

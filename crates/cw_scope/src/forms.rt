@@ -56,6 +56,7 @@ fn statement_call(e: &Expr) -> Option<&Expr>
     }
 }
 
+/// The call that a statement is, if it is one.
 fn standing_call<'p>(whole: Whole<'p>) -> Option<&'p Expr>
     ensures { option_map tree_at result ≡ standing_call (whole_of whole.entry) }
 {
@@ -119,6 +120,7 @@ fn misplaced(
     }
 }
 
+/// The place of the second call of an external function among some calls.
 fn second_call(known: &Functions, calls: &[&Expr]) -> Option<u32>
     requires known { IsKnown known.now }
     ensures { result ≡ slice_get (filter_map (external_call known.now.source.now (file_of known.now.program.now)) (map tree_at calls.now)) 1 }

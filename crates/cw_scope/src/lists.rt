@@ -23,6 +23,7 @@ pub(crate) fn body_of<'p>(
     Ok(statements)
 }
 
+/// Appends the statements of all functions.
 fn put_bodies<'p>(functions: &'p [Function], out: &mut Vec<Placed<'p>>) -> Result<(), AllocError>
     ensures { IfOk result (λ _. map placed_of out.new.items ≡ map placed_of out.old.items ++ flat_map body_of (map definition_of functions.now)) }
 {
@@ -55,6 +56,7 @@ fn put_inner<'p>(tree: &'p Expr, out: &mut Vec<Whole<'p>>) -> Result<(), AllocEr
     Ok(())
 }
 
+/// Appends an expression, if there is one.
 fn put_given<'p>(tree: &'p Option<Expr>, out: &mut Vec<Whole<'p>>) -> Result<(), AllocError>
     ensures { IfOk result (λ _. map whole_of out.new.items ≡ map whole_of out.old.items ++ map inner (given (option_map tree_of tree.now))) }
 {
@@ -64,6 +66,7 @@ fn put_given<'p>(tree: &'p Option<Expr>, out: &mut Vec<Whole<'p>>) -> Result<(),
     }
 }
 
+/// Appends the size of an array, if it has one.
 fn put_size<'p>(size: &'p Option<Option<Expr>>, out: &mut Vec<Whole<'p>>) -> Result<(), AllocError>
     ensures { IfOk result (λ _. map whole_of out.new.items ≡ map whole_of out.old.items ++ map inner (size_of (array_of size.now))) }
 {
@@ -73,6 +76,7 @@ fn put_size<'p>(size: &'p Option<Option<Expr>>, out: &mut Vec<Whole<'p>>) -> Res
     }
 }
 
+/// Appends some expressions.
 fn put_list<'p>(trees: &'p [Expr], out: &mut Vec<Whole<'p>>) -> Result<(), AllocError>
     ensures { IfOk result (λ _. map whole_of out.new.items ≡ map whole_of out.old.items ++ map inner (listed (trees_of trees.now))) }
 {
@@ -82,6 +86,7 @@ fn put_list<'p>(trees: &'p [Expr], out: &mut Vec<Whole<'p>>) -> Result<(), Alloc
     Ok(())
 }
 
+/// Appends the sizes and the initialisers of declared names.
 fn put_items<'p>(items: &'p [Item], out: &mut Vec<Whole<'p>>) -> Result<(), AllocError>
     ensures { IfOk result (λ _. map whole_of out.new.items ≡ map whole_of out.old.items ++ map inner (flat_map item_trees (map declared_of items.now))) }
 {
@@ -92,6 +97,7 @@ fn put_items<'p>(items: &'p [Item], out: &mut Vec<Whole<'p>>) -> Result<(), Allo
     Ok(())
 }
 
+/// Appends those of all declarations.
 fn put_declarations<'p>(
     declarations: &'p [Decl],
     out: &mut Vec<Whole<'p>>,
@@ -104,6 +110,7 @@ fn put_declarations<'p>(
     Ok(())
 }
 
+/// Appends the expressions of the init of a `for`, if it has one.
 fn put_init<'p>(init: &'p Option<Stmt>, out: &mut Vec<Whole<'p>>) -> Result<(), AllocError>
     ensures { IfOk result (λ _. map whole_of out.new.items ≡ map whole_of out.old.items ++ map inner (init_trees (perhaps_of init.now))) }
 {
@@ -120,6 +127,7 @@ fn put_init<'p>(init: &'p Option<Stmt>, out: &mut Vec<Whole<'p>>) -> Result<(), 
     }
 }
 
+/// Appends the expressions of the head of a `for`.
 fn put_head<'p>(head: &'p Head, out: &mut Vec<Whole<'p>>) -> Result<(), AllocError>
     ensures { IfOk result (λ _. map whole_of out.new.items ≡ map whole_of out.old.items ++ map inner (head_trees head.now)) }
 {
@@ -148,6 +156,7 @@ fn put_wholes<'p>(statement: &'p Stmt, out: &mut Vec<Whole<'p>>) -> Result<(), A
     }
 }
 
+/// Appends the whole expressions of some statements.
 fn put_all_wholes<'p>(statements: &[Placed<'p>], out: &mut Vec<Whole<'p>>) -> Result<(), AllocError>
     ensures { IfOk result (λ _. map whole_of out.new.items ≡ map whole_of out.old.items ++ flat_map (λ p. wholes_of p.statement) (map placed_of statements.now)) }
 {

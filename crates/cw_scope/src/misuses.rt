@@ -20,6 +20,7 @@ use cw_syntax::names::{slice, text};
 use cw_syntax::program::{Expr, Op};
 use std::alloc::{AllocError, Global};
 
+/// The name of close(2).
 fn close_text() -> &'static [u8]
     ensures { result.now ≡ codes "close" }
 {
@@ -47,6 +48,7 @@ fn is_own(checked: &Checked, policy: &Policy, e: &Expr) -> bool
     }
 }
 
+/// Whether the first part is the variable of a descriptor.
 fn first_is_variable(checked: &Checked, policy: &Policy, parts: &[Expr]) -> bool
     ensures { result ≡ first_is_variable (scene_in checked.now (policy_of policy.now)) (trees_of parts.now) }
 {
@@ -63,6 +65,7 @@ fn changes_variable(checked: &Checked, policy: &Policy, n: u8, parts: &[Expr]) -
     n >= 5 && n <= 7 && first_is_variable(checked, policy, parts)
 }
 
+/// Whether a part names a descriptor.
 fn names_some(checked: &Checked, policy: &Policy, parts: &[Expr]) -> bool
     ensures { result ≡ names_some (scene_in checked.now (policy_of policy.now)) (trees_of parts.now) }
 {
@@ -74,6 +77,7 @@ fn names_some(checked: &Checked, policy: &Policy, parts: &[Expr]) -> bool
     false
 }
 
+/// Whether a call is one of `close` with a descriptor among its arguments.
 fn is_close_of_some(checked: &Checked, policy: &Policy, name: &[u8], arguments: &[Expr]) -> bool
     ensures { result ≡ (bytes_eq name.now (codes "close") && names_some (scene_in checked.now (policy_of policy.now)) (trees_of arguments.now)) }
 {
@@ -113,6 +117,7 @@ fn put_used<'p>(
     Ok(())
 }
 
+/// Appends the parts of some expressions in which a descriptor may not stand.
 fn put_all_used<'p>(
     checked: &Checked,
     policy: &Policy,

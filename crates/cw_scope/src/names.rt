@@ -14,6 +14,7 @@ use crate::walks::Placed;
 use cw_syntax::program::{Decl, Expr, Function, Item, Name, Op, Param, Program, Proto, Stmt, What};
 use std::alloc::{AllocError, Global};
 
+/// Appends the names of a declaration.
 fn put_items(items: &[Item], out: &mut Vec<Name>) -> Result<(), AllocError>
     ensures { IfOk result (λ _. out.new.items ≡ out.old.items ++ map (λ i. i.name) (map declared_of items.now)) }
 {
@@ -23,6 +24,7 @@ fn put_items(items: &[Item], out: &mut Vec<Name>) -> Result<(), AllocError>
     Ok(())
 }
 
+/// Appends the names of all declarations.
 fn put_declarations(declarations: &[Decl], out: &mut Vec<Name>) -> Result<(), AllocError>
     ensures { IfOk result (λ _. out.new.items ≡ out.old.items ++ flat_map declared_names (map declaration_of declarations.now)) }
 {
@@ -32,6 +34,7 @@ fn put_declarations(declarations: &[Decl], out: &mut Vec<Name>) -> Result<(), Al
     Ok(())
 }
 
+/// Appends the names of parameters.
 fn put_params(params: &[Param], out: &mut Vec<Name>) -> Result<(), AllocError>
     ensures { IfOk result (λ _. out.new.items ≡ out.old.items ++ param_names params.now) }
 {
@@ -43,6 +46,7 @@ fn put_params(params: &[Param], out: &mut Vec<Name>) -> Result<(), AllocError>
     Ok(())
 }
 
+/// Appends the names of the parameters of all prototypes.
 fn put_prototypes(protos: &[Proto], out: &mut Vec<Name>) -> Result<(), AllocError>
     ensures { IfOk result (λ _. out.new.items ≡ out.old.items ++ flat_map (λ p. param_names p.params) (map prototype_of protos.now)) }
 {
@@ -52,6 +56,7 @@ fn put_prototypes(protos: &[Proto], out: &mut Vec<Name>) -> Result<(), AllocErro
     Ok(())
 }
 
+/// Appends the names of the parameters of all functions.
 fn put_functions(functions: &[Function], out: &mut Vec<Name>) -> Result<(), AllocError>
     ensures { IfOk result (λ _. out.new.items ≡ out.old.items ++ flat_map (λ f. param_names f.params) (map definition_of functions.now)) }
 {
@@ -61,6 +66,7 @@ fn put_functions(functions: &[Function], out: &mut Vec<Name>) -> Result<(), Allo
     Ok(())
 }
 
+/// Appends the names that the init of a `for` declares.
 fn put_init(init: &Option<Stmt>, out: &mut Vec<Name>) -> Result<(), AllocError>
     ensures { IfOk result (λ _. out.new.items ≡ out.old.items ++ init_names (perhaps_of init.now)) }
 {
@@ -77,6 +83,7 @@ fn put_init(init: &Option<Stmt>, out: &mut Vec<Name>) -> Result<(), AllocError>
     }
 }
 
+/// Appends the names that a statement itself declares.
 fn put_local_names(statement: &Stmt, out: &mut Vec<Name>) -> Result<(), AllocError>
     ensures { IfOk result (λ _. out.new.items ≡ out.old.items ++ local_names (statement_of statement.now)) }
 {
@@ -90,6 +97,7 @@ fn put_local_names(statement: &Stmt, out: &mut Vec<Name>) -> Result<(), AllocErr
     }
 }
 
+/// Appends the names that some statements declare.
 fn put_all_local_names(statements: &[Placed], out: &mut Vec<Name>) -> Result<(), AllocError>
     ensures { IfOk result (λ _. out.new.items ≡ out.old.items ++ flat_map (λ p. local_names p.statement) (map placed_of statements.now)) }
 {
@@ -99,6 +107,7 @@ fn put_all_local_names(statements: &[Placed], out: &mut Vec<Name>) -> Result<(),
     Ok(())
 }
 
+/// Appends the name of a label, where the statement is one.
 fn put_label(statement: &Stmt, out: &mut Vec<Name>) -> Result<(), AllocError>
     ensures { IfOk result (λ _. out.new.items ≡ out.old.items ++ label_of (statement_of statement.now)) }
 {
@@ -161,6 +170,7 @@ fn put_plain_names(
     Ok(())
 }
 
+/// Appends the names of called functions.
 fn put_called_names(calls: &[&Expr], out: &mut Vec<Name>) -> Result<(), AllocError>
     ensures { IfOk result (λ _. out.new.items ≡ out.old.items ++ filter_map called_name (map tree_at calls.now)) }
 {
@@ -180,6 +190,7 @@ fn put_callees(_program: &Program, calls: &[&Expr], out: &mut Vec<Name>) -> Resu
     put_called_names(calls, out)
 }
 
+/// Appends the names of all prototypes.
 fn put_prototype_names(protos: &[Proto], out: &mut Vec<Name>) -> Result<(), AllocError>
     ensures { IfOk result (λ _. out.new.items ≡ out.old.items ++ map (λ p. p.name) (map prototype_of protos.now)) }
 {

@@ -14,6 +14,7 @@ use crate::rules::sooner;
 use crate::walks::Placed;
 use cw_syntax::program::{Expr, Name};
 
+/// The least place of a call with a wrong number of arguments.
 #[tactic(auto, using(crate::proofs::Lesser::sooner_assoc))]
 fn wrong_arities(known: &Functions, calls: &[&Expr]) -> Option<u32>
     requires known { IsKnown known.now }
@@ -35,6 +36,7 @@ pub(crate) fn wrong_arity(known: &Functions, calls: &[&Expr]) -> Option<u32>
     wrong_arities(known, calls)
 }
 
+/// The least place of a name that is one of a defined function.
 #[tactic(auto, using(crate::proofs::Lesser::sooner_assoc))]
 pub(crate) fn function_names(known: &Functions, names: &[Name]) -> Option<u32>
     requires known { IsKnown known.now }
@@ -47,6 +49,7 @@ pub(crate) fn function_names(known: &Functions, names: &[Name]) -> Option<u32>
     place
 }
 
+/// The least place of a call of a defined function.
 #[tactic(auto, using(crate::proofs::Lesser::sooner_assoc))]
 pub(crate) fn defined_calls(known: &Functions, nodes: &[&Expr]) -> Option<u32>
     requires known { IsKnown known.now }
@@ -59,6 +62,7 @@ pub(crate) fn defined_calls(known: &Functions, nodes: &[&Expr]) -> Option<u32>
     place
 }
 
+/// The least place of a call of `main`.
 #[tactic(auto, using(crate::proofs::Lesser::sooner_assoc))]
 fn main_calls(source: &[u8], calls: &[&Expr]) -> Option<u32>
     ensures { result ≡ least (map (main_call source.now) (map tree_at calls.now)) }
@@ -78,6 +82,7 @@ pub(crate) fn main_call(known: &Functions, calls: &[&Expr]) -> Option<u32>
     main_calls(known.source, calls)
 }
 
+/// The least place of a name that is reserved.
 #[tactic(auto, using(crate::proofs::Lesser::sooner_assoc))]
 pub(crate) fn reserved_names(source: &[u8], names: &[Name]) -> Option<u32>
     ensures { result ≡ least (map (reserved source.now) names.now) }
@@ -89,6 +94,7 @@ pub(crate) fn reserved_names(source: &[u8], names: &[Name]) -> Option<u32>
     place
 }
 
+/// The least place of a `break` or `continue` outside loops.
 #[tactic(auto, using(crate::proofs::Lesser::sooner_assoc))]
 pub(crate) fn loose_jumps(statements: &[Placed]) -> Option<u32>
     ensures { result ≡ least (map (λ p. loose_jump p.looped p.statement) (map placed_of statements.now)) }

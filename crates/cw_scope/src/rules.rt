@@ -84,6 +84,7 @@ pub(crate) fn defined<'p>(source: &[u8], program: &'p Program, name: &[u8]) -> O
     None
 }
 
+/// The name of the first function.
 fn main_text() -> &'static [u8]
     ensures { result.now ≡ codes "main" }
 {
@@ -119,6 +120,7 @@ pub(crate) fn function_name(known: &Functions, name: Name) -> Option<u32>
     at_if(is_defined(known, name), name.from)
 }
 
+/// Whether an expression is a call.
 pub(crate) fn is_call(e: &Expr) -> bool
     ensures { result ≡ is_call (tree_of e.now) }
 {
@@ -150,6 +152,7 @@ pub(crate) fn external_call(known: &Functions, e: &Expr) -> Option<u32>
     }
 }
 
+/// Whether a name is `main`.
 fn is_main(name: &[u8]) -> bool
     ensures { result ≡ is_main name.now }
 {
@@ -166,6 +169,7 @@ pub(crate) fn main_call(source: &[u8], e: &Expr) -> Option<u32>
     }
 }
 
+/// Whether a name begins with `cw_` or `CW_`.
 fn is_reserved(name: &[u8]) -> bool
     ensures { result ≡ is_reserved name.now }
 {

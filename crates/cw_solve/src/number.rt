@@ -5,6 +5,7 @@ ghost use Rattle.std.specs.Prelude.{◌≡◌, ◌&&◌, nat_le};
 use crate::solved::Solved;
 use cw_core::{PosId, StateSet};
 
+/// Whether a position is among those of a function, by its first and its last.
 fn is_between(first: PosId, pos: PosId, last: PosId) -> bool
     ensures { result ≡ (nat_le first.0 pos.0 && nat_le pos.0 last.0) }
 {

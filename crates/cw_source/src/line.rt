@@ -33,6 +33,7 @@ pub fn put_place_line<S: Sink>(
     line.put(words.as_bytes(), out);
 }
 
+/// Appends the line of a source that has no tokens.
 fn put_lex_fault<S: Sink>(source: &[u8], fault: &LexFault, line: &mut Writer<S>, out: &mut S)
     requires follows { Follows S.taken S.faults S.refused line.old out.old }
     ensures text { line.new.text ≡ line.old.text ++ lex_line source.now fault.now }
@@ -50,6 +51,7 @@ fn put_lex_fault<S: Sink>(source: &[u8], fault: &LexFault, line: &mut Writer<S>,
     }
 }
 
+/// Appends the line of a program that breaks a scope rule.
 fn put_scope_fault<S: Sink>(source: &[u8], fault: &ScopeFault, line: &mut Writer<S>, out: &mut S)
     requires follows { Follows S.taken S.faults S.refused line.old out.old }
     ensures text { line.new.text ≡ line.old.text ++ scope_line source.now fault.now }

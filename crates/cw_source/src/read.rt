@@ -13,6 +13,7 @@ use cw_syntax::checked::Checked;
 use cw_syntax::program::Program;
 use std::alloc::Global;
 
+/// The tokens of a source.
 fn tokens_of(alloc: Global, source: &[u8]) -> Result<Vec<Token>, SourceFault>
     requires short { length source.now ≤ 262144 }
     ensures tokens { IfOk result (λ v. AreTokens source.now v.items) }

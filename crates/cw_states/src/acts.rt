@@ -16,6 +16,7 @@ pub(crate) enum Act {
     Closed(u8),
 }
 
+/// What is held after an open that succeeded.
 #[tactic(auto, using(crate::proofs::Listed::opened_is))]
 fn after_open(policy: &Policy, caps: Caps, descriptor: u8) -> Caps
     requires { descriptor < 8 }
@@ -31,6 +32,7 @@ fn after_open(policy: &Policy, caps: Caps, descriptor: u8) -> Caps
     }
 }
 
+/// What is held after a primitive was granted.
 fn after_grant(caps: Caps, prim: Primitive) -> Caps
     requires { IsDescriptorBelow 8 prim }
     ensures { result ≡ applied caps prim }

@@ -33,6 +33,7 @@ pub(crate) fn may_grant(caps: &Caps, prim: Primitive) -> bool
     }
 }
 
+/// Appends what is held after a limit, where it can be granted.
 fn put_limited(caps: &Caps, limit: Limit, keys: &mut Vec<Ranked>) -> Result<(), AllocError>
     requires { limit.descriptor < 8 }
     ensures { OnOk result (keys.new.items ≡ keys.old.items ++ after_limit caps.now limit) }
@@ -45,6 +46,7 @@ fn put_limited(caps: &Caps, limit: Limit, keys: &mut Vec<Ranked>) -> Result<(), 
     Ok(())
 }
 
+/// The same for each limit.
 fn put_all_limited(caps: &Caps, limits: &[Limit], keys: &mut Vec<Ranked>) -> Result<(), AllocError>
     requires { AreHolds limits.now }
     ensures { OnOk result (keys.new.items ≡ keys.old.items ++ after_limits caps.now limits.now) }
@@ -59,6 +61,7 @@ fn put_all_limited(caps: &Caps, limits: &[Limit], keys: &mut Vec<Ranked>) -> Res
     }
 }
 
+/// Appends what is held after an open of this descriptor; one with a number isn't opened.
 fn put_opened(
     caps: &Caps,
     descriptor: &Descriptor,
@@ -90,6 +93,7 @@ fn is_closed(uses: &Uses, descriptor: &Descriptor, number: u8) -> bool
     }
 }
 
+/// Appends what is held after a close of this descriptor, where the program closes it.
 fn put_closed(
     caps: &Caps,
     is_closed: bool,
@@ -107,6 +111,7 @@ fn put_closed(
     Ok(())
 }
 
+/// Appends what is held after opens and closes of the descriptors from this number on.
 fn put_held(
     caps: &Caps,
     uses: &Uses,

@@ -19,12 +19,14 @@ pub(crate) struct Ranked {
     pub caps: Caps,
 }
 
+/// 0 in ambient mode, 1 in capability mode.
 fn mode_number(amb: bool) -> u8
     ensures { result ≡ mode_number amb }
 {
     if amb { 0 } else { 1 }
 }
 
+/// 0 for a closed descriptor, else 1 more than its set of rights.
 fn hold_number(hold: Hold) -> u32
     ensures { result ≡ hold_number hold }
 {
@@ -56,6 +58,7 @@ fn order_holds(a: &[Hold], b: &[Hold]) -> Ordering
     }
 }
 
+/// Capabilities by their mode, and then by what each descriptor holds.
 fn order(a: &Caps, b: &Caps) -> Ordering
     ensures { result ≡ caps_cmp a.now b.now }
 {

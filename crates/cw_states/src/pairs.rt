@@ -73,6 +73,7 @@ fn find_ranked(rights: &[Ranked], sought: Ranked) -> Option<usize>
     rights.iter().position(|x| *x == sought)
 }
 
+/// The number of capabilities among the rights states.
 #[tactic(auto, using(crate::proofs::Listed::position_caps))]
 fn find_caps(rights: &[Ranked], caps: Caps) -> Option<usize>
     ensures place { result ≡ position (λ x. eq_by_cmp caps_cmp x caps) (all_caps rights.now) }
@@ -238,6 +239,7 @@ impl<'p> Pairs<'p> {
         self.caps_place(after_act(self.policy, act, caps))
     }
 
+    /// How many rights states there are.
     fn columns(&self) -> usize
         ensures { result ≡ length self.now.rights }
     {

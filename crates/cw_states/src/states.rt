@@ -84,6 +84,7 @@ impl<'p> States<'p> {
         }
     }
 
+    /// The number of the rights state after cap_enter.
     fn entered_place(&self, column: usize) -> u8
         requires column { column < length self.now.rights }
         ensures { result ≡ place_after (lists_of self.now) (act.Granted Enter) column }
@@ -91,6 +92,7 @@ impl<'p> States<'p> {
         read(&self.tables.entered, column)
     }
 
+    /// The number of the rights state after a split, which changes none.
     fn split_place(&self, column: usize) -> u8
         requires column { column < length self.now.rights }
         ensures { result ≡ place_after (lists_of self.now) (act.Granted Split) column }
@@ -98,6 +100,7 @@ impl<'p> States<'p> {
         read(&self.tables.split, column)
     }
 
+    /// The number of the rights state after a limit of the policy.
     fn limited_place(&self, limit: Limit, column: usize) -> u8
         requires limit { Contains (policy_of self.now.policy).limits limit }
         requires column { column < length self.now.rights }

@@ -26,6 +26,7 @@ pub(crate) struct Tables {
     pub lettered: Vec<Vec<u8>>,
 }
 
+/// For each limit where each rights state leads.
 fn limited(alloc: Global, pairs: &Pairs, limits: &[Limit]) -> Result<Vec<Vec<u8>>, AllocError>
     requires { AreHolds limits.now }
     ensures { IfOk result (λ v. all_items v.items ≡ map (λ limit. places_after (lists_of pairs.now) (act.Granted (ALimit limit))) limits.now) }
@@ -38,6 +39,7 @@ fn limited(alloc: Global, pairs: &Pairs, limits: &[Limit]) -> Result<Vec<Vec<u8>
     Ok(columns)
 }
 
+/// For each descriptor where each rights state leads when it is opened.
 fn opened(alloc: Global, pairs: &Pairs, descriptors: usize) -> Result<Vec<Vec<u8>>, AllocError>
     requires { descriptors ≤ 8 }
     ensures { IfOk result (λ v. all_items v.items ≡ tabled (λ d. places_after (lists_of pairs.now) (act.Opened d)) descriptors) }
@@ -49,6 +51,7 @@ fn opened(alloc: Global, pairs: &Pairs, descriptors: usize) -> Result<Vec<Vec<u8
     Ok(columns)
 }
 
+/// For each descriptor where each rights state leads when it is closed.
 fn closed(alloc: Global, pairs: &Pairs, descriptors: usize) -> Result<Vec<Vec<u8>>, AllocError>
     requires { descriptors ≤ 8 }
     ensures { IfOk result (λ v. all_items v.items ≡ tabled (λ d. places_after (lists_of pairs.now) (act.Closed d)) descriptors) }
@@ -60,6 +63,7 @@ fn closed(alloc: Global, pairs: &Pairs, descriptors: usize) -> Result<Vec<Vec<u8
     Ok(columns)
 }
 
+/// For each label where each state leads.
 fn lettered(alloc: Global, pairs: &Pairs, labels: usize) -> Result<Vec<Vec<u8>>, AllocError>
     requires { labels ≤ 65536 }
     ensures { IfOk result (λ v. all_items v.items ≡ tabled (entries (lists_of pairs.now)) labels) }

@@ -46,6 +46,7 @@ pub fn put_strategy<S: Sink>(cert: &EnvCert, format: u8, writer: &mut Writer<S>,
     writer.put(b"end\n", out);
 }
 
+/// Puts a line a row.
 fn put_rows<S: Sink>(rows: &[EnvRow], format: u8, writer: &mut Writer<S>, out: &mut S)
     requires follows { Follows S.taken S.faults S.refused writer.old out.old }
     ensures text { writer.new.text ≡ writer.old.text ++ row_lines format 0 (map row_of rows.now) }

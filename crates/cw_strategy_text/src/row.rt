@@ -94,6 +94,7 @@ fn read_as(alloc: Global, kind: Kind, words: &mut Words) -> Result<Option<How>, 
     }
 }
 
+/// A row where the policy is violated: no words more.
 fn read_bad(words: &Words) -> Option<How>
     ensures { Reads (IsOf kind.Bad) rest_words words.now (option_map how_of result) }
 {
@@ -104,6 +105,7 @@ fn read_bad(words: &Words) -> Option<How>
     }
 }
 
+/// A row where the aimed exit is reached: no words more.
 fn read_out(words: &Words) -> Option<How>
     ensures { Reads (IsOf kind.Out) rest_words words.now (option_map how_of result) }
 {
@@ -114,6 +116,7 @@ fn read_out(words: &Words) -> Option<How>
     }
 }
 
+/// A row where the weaver moves: the rows after a skip and after a try.
 fn read_both(words: &mut Words) -> Option<How>
     ensures { Reads (IsOf kind.Both) rest_words words.old (option_map how_of result) }
 {
@@ -126,6 +129,7 @@ fn read_both(words: &mut Words) -> Option<How>
     }
 }
 
+/// A row where the environment moves: the row after its move.
 fn read_go(by: Move, words: &mut Words) -> Option<How>
     requires environments { IsEnvironments by }
     ensures { Reads (IsOf (kind.Go by)) rest_words words.old (option_map how_of result) }
@@ -138,6 +142,7 @@ fn read_go(by: Move, words: &mut Words) -> Option<How>
     }
 }
 
+/// A row at a call: the row in its function, and those behind it by exit states.
 fn read_into(alloc: Global, words: &mut Words) -> Result<Option<How>, NoMemory>
     ensures { IfOk result (λ read. Reads (IsOf kind.Into) rest_words words.old (option_map how_of read)) }
 {

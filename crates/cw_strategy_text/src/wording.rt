@@ -44,6 +44,7 @@ pub(crate) fn after_states(text: &[u8]) -> Option<(u16, &[u8])>
     Some((states, rest))
 }
 
+/// The line that says how many states the game has.
 fn take_states(words: &mut Words) -> Option<u16>
     ensures some { IfSome result (λ states. words.old ≡ codes "states" ∷ decimal states ∷ []) }
     ensures none { IfNone result ((states : ℕ) → states < 2 ^ 16 → words.old ≢ codes "states" ∷ decimal states ∷ []) }

@@ -46,18 +46,21 @@ impl Draft {
         }
     }
 
+    /// Whether there are no rows yet of calls and returns.
     fn has_none_from_into(&self) -> bool
         ensures { result ≡ none_from_into (table_of self.now) }
     {
         self.into.is_empty() && self.back.is_empty()
     }
 
+    /// Whether there are no rows yet of opens and what comes after them.
     fn has_none_from_opened(&self) -> bool
         ensures { result ≡ none_from_opened (table_of self.now) }
     {
         self.opened.is_empty() && self.closed.is_empty() && self.has_none_from_into()
     }
 
+    /// Whether there are no rows yet of tries and what comes after them.
     fn has_none_from_tries(&self) -> bool
         ensures { result ≡ none_from_tries (table_of self.now) }
     {

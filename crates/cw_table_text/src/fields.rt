@@ -12,24 +12,28 @@ use cw_certs::{AtRow, BackRow, IntoRow, OpenRow, TryRow};
 use cw_core::{MemId, PosId, SeamId, StateId, StateSet};
 use cw_text::{Words, number_of};
 
+/// A memory's number.
 pub(crate) fn take_mem(words: &mut Words) -> Option<MemId>
     ensures { Takes IsMem (λ mem. decimal mem.0) words.old words.new result }
 {
     Some(MemId(words.take_u32()?))
 }
 
+/// A seam's number.
 fn take_seam(words: &mut Words) -> Option<SeamId>
     ensures { Takes (λ seam. seam.0 < 2 ^ 32) (λ seam. decimal seam.0) words.old words.new result }
 {
     Some(SeamId(words.take_u32()?))
 }
 
+/// A position's number.
 fn take_pos(words: &mut Words) -> Option<PosId>
     ensures { Takes (λ pos. pos.0 < 2 ^ 32) (λ pos. decimal pos.0) words.old words.new result }
 {
     Some(PosId(words.take_u32()?))
 }
 
+/// A state's number.
 fn take_state(words: &mut Words) -> Option<StateId>
     ensures { Takes (λ state. state.0 < 2 ^ 16) (λ state. decimal state.0) words.old words.new result }
 {
@@ -59,6 +63,7 @@ fn take_mode(words: &mut Words) -> Option<bool>
     Some(number == 1)
 }
 
+/// The fields of a memory: its number, its state and its promise.
 pub(crate) fn take_memory(words: &mut Words, format: u8) -> Option<(u32, (StateId, StateSet))>
     ensures { TakesRow (FitsMemory format) (memory_fields format) words.old words.new result }
 {
@@ -68,6 +73,7 @@ pub(crate) fn take_memory(words: &mut Words, format: u8) -> Option<(u32, (StateI
     Some((number, (state, promise)))
 }
 
+/// The fields of a live pair: position and memory.
 pub(crate) fn take_live(words: &mut Words) -> Option<(PosId, MemId)>
     ensures { TakesRow FitsLive live_fields words.old words.new result }
 {
@@ -76,6 +82,7 @@ pub(crate) fn take_live(words: &mut Words) -> Option<(PosId, MemId)>
     Some((pos, mem))
 }
 
+/// The fields of a try: seam, stage, memory, and the memories after a grant and after a refusal.
 pub(crate) fn take_try(words: &mut Words) -> Option<TryRow>
     ensures { TakesRow FitsTry try_fields words.old words.new result }
 {
@@ -93,6 +100,7 @@ pub(crate) fn take_try(words: &mut Words) -> Option<TryRow>
     })
 }
 
+/// The fields of a label or a close: seam, memory, and the memory after it.
 pub(crate) fn take_after(words: &mut Words) -> Option<AtRow>
     ensures { TakesRow FitsAfter after_fields words.old words.new result }
 {
@@ -102,6 +110,7 @@ pub(crate) fn take_after(words: &mut Words) -> Option<AtRow>
     Some(AtRow { seam, mem, after })
 }
 
+/// The fields of an open: seam, memory, and the memories after it succeeded and after it failed.
 pub(crate) fn take_opened(words: &mut Words) -> Option<OpenRow>
     ensures { TakesRow FitsOpened opened_fields words.old words.new result }
 {
@@ -117,6 +126,7 @@ pub(crate) fn take_opened(words: &mut Words) -> Option<OpenRow>
     })
 }
 
+/// The fields of a call: seam, whether it is split, memory, and the memory with which its function begins.
 pub(crate) fn take_into(words: &mut Words) -> Option<IntoRow>
     ensures { TakesRow FitsInto into_fields words.old words.new result }
 {
@@ -132,6 +142,7 @@ pub(crate) fn take_into(words: &mut Words) -> Option<IntoRow>
     })
 }
 
+/// The fields of a return: seam, whether the call is split, memory, exit state, and the memory behind the call.
 pub(crate) fn take_back(words: &mut Words) -> Option<BackRow>
     ensures { TakesRow FitsBack back_fields words.old words.new result }
 {

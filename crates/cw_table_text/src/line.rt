@@ -77,6 +77,7 @@ fn take_row(name: &[u8], words: &mut Words, format: u8) -> Option<Row>
     None
 }
 
+/// A row of `CW_MEM` behind its name.
 fn memory_row(words: &mut Words, format: u8) -> Option<Row>
     ensures { TakesNamed format (codes "CW_MEM") words.old words.new result }
 {
@@ -84,42 +85,49 @@ fn memory_row(words: &mut Words, format: u8) -> Option<Row>
     Some(Row::Memory(number, memory))
 }
 
+/// A row of `CW_LIVE` behind its name.
 fn live_row(words: &mut Words, _format: u8) -> Option<Row>
     ensures { TakesNamed _format (codes "CW_LIVE") words.old words.new result }
 {
     Some(Row::Live(take_live(words)?))
 }
 
+/// A row of `CW_TRY` behind its name.
 fn try_row(words: &mut Words, _format: u8) -> Option<Row>
     ensures { TakesNamed _format (codes "CW_TRY") words.old words.new result }
 {
     Some(Row::Try(take_try(words)?))
 }
 
+/// A row of `CW_AT` behind its name.
 fn at_row(words: &mut Words, _format: u8) -> Option<Row>
     ensures { TakesNamed _format (codes "CW_AT") words.old words.new result }
 {
     Some(Row::At(take_after(words)?))
 }
 
+/// A row of `CW_OPENED` behind its name.
 fn opened_row(words: &mut Words, _format: u8) -> Option<Row>
     ensures { TakesNamed _format (codes "CW_OPENED") words.old words.new result }
 {
     Some(Row::Opened(take_opened(words)?))
 }
 
+/// A row of `CW_CLOSED` behind its name.
 fn closed_row(words: &mut Words, _format: u8) -> Option<Row>
     ensures { TakesNamed _format (codes "CW_CLOSED") words.old words.new result }
 {
     Some(Row::Closed(take_after(words)?))
 }
 
+/// A row of `CW_INTO` behind its name.
 fn into_row(words: &mut Words, _format: u8) -> Option<Row>
     ensures { TakesNamed _format (codes "CW_INTO") words.old words.new result }
 {
     Some(Row::Into(take_into(words)?))
 }
 
+/// A row of `CW_BACK` behind its name.
 fn back_row(words: &mut Words, _format: u8) -> Option<Row>
     ensures { TakesNamed _format (codes "CW_BACK") words.old words.new result }
 {

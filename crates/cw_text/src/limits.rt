@@ -25,6 +25,7 @@ pub fn put_limits<S: Sink>(policy: &Policy, writer: &mut Writer<S>, out: &mut S)
     writer.put(b"\n", out);
 }
 
+/// Puts all limits, each with its number.
 fn put_each_limit<S: Sink>(policy: &Policy, limits: &[Limit], writer: &mut Writer<S>, out: &mut S)
     requires follows { Follows S.taken S.faults S.refused writer.old out.old }
     ensures text { writer.new.text ≡ writer.old.text ++ numbered (limit_word (policy_of policy.now)) limits.now }
@@ -36,6 +37,7 @@ fn put_each_limit<S: Sink>(policy: &Policy, limits: &[Limit], writer: &mut Write
     }
 }
 
+/// Puts one limit: its number, its descriptor and the rights that it keeps.
 fn put_limit<S: Sink>(
     policy: &Policy,
     index: usize,

@@ -14,6 +14,7 @@ use cw_io::Writer;
 use cw_rights::policy::Descriptor;
 use cw_rights::{Caps, Hold, Primitive, Rights};
 
+/// Puts the words for a primitive; a limit has its stage behind it.
 fn put_primitive<S: Sink>(stage: u8, prim: Primitive, writer: &mut Writer<S>, out: &mut S)
     requires follows { Follows S.taken S.faults S.refused writer.old out.old }
     ensures text { writer.new.text ≡ writer.old.text ++ primitive_text stage prim }
@@ -30,6 +31,7 @@ fn put_primitive<S: Sink>(stage: u8, prim: Primitive, writer: &mut Writer<S>, ou
     }
 }
 
+/// The word for an answer.
 fn answer_word(granted: bool) -> &'static [u8]
     ensures { result.now ≡ answer_text granted }
 {
@@ -74,6 +76,7 @@ pub fn put_stop<S: Sink>(seam: SeamId, writer: &mut Writer<S>, out: &mut S)
     writer.put(b"\n", out);
 }
 
+/// The word for how an open ended.
 fn success_words(opened: bool) -> &'static [u8]
     ensures { result.now ≡ success_text opened }
 {
@@ -107,6 +110,7 @@ pub fn put_close<S: Sink>(name: &[u8], writer: &mut Writer<S>, out: &mut S)
     writer.put(b"\n", out);
 }
 
+/// The word for a call in a process of its own, nothing for another.
 fn mode_words(split: bool) -> &'static [u8]
     ensures { result.now ≡ mode_text split }
 {
@@ -173,6 +177,7 @@ fn put_rights<S: Sink>(rights: Rights, writer: &mut Writer<S>, out: &mut S)
     );
 }
 
+/// Puts what a descriptor holds.
 fn put_hold<S: Sink>(hold: Hold, writer: &mut Writer<S>, out: &mut S)
     requires follows { Follows S.taken S.faults S.refused writer.old out.old }
     ensures text { writer.new.text ≡ writer.old.text ++ hold_text hold }
@@ -195,6 +200,7 @@ fn hold_of(caps: &Caps, number: usize) -> Hold
     }
 }
 
+/// Puts a descriptor's name and what it holds.
 fn put_held<S: Sink>(
     caps: &Caps,
     number: usize,
@@ -213,6 +219,7 @@ fn put_held<S: Sink>(
     put_hold(hold_of(caps, number), writer, out);
 }
 
+/// Puts that of all descriptors.
 fn put_all_held<S: Sink>(
     caps: &Caps,
     descriptors: &[Descriptor],
@@ -229,12 +236,14 @@ fn put_all_held<S: Sink>(
     }
 }
 
+/// The word for ambient or capability mode.
 fn authority_word(amb: bool) -> &'static [u8]
     ensures { result.now ≡ authority_text amb }
 {
     if amb { b"amb" } else { b"cap" }
 }
 
+/// Puts the mode and what all descriptors hold.
 #[tactic(auto, unfolding(crate::specs::Lines::caps_text))]
 fn put_caps<S: Sink>(caps: &Caps, descriptors: &[Descriptor], writer: &mut Writer<S>, out: &mut S)
     requires follows { Follows S.taken S.faults S.refused writer.old out.old }

@@ -20,6 +20,7 @@ use cw_rights::{Caps, Policy, Primitive};
 use cw_text::descriptor_name;
 use crate::{Names, put_call, put_close, put_label, put_open, put_return, put_try};
 
+/// Puts the line of an answer to a primitive; other moves have none here.
 fn put_answered<S: Sink>(
     seam: SeamId,
     stage: u8,
@@ -40,6 +41,7 @@ fn put_answered<S: Sink>(
     }
 }
 
+/// Puts the line of an open; other moves have none here.
 fn put_opened<S: Sink>(name: &[u8], by: Move, writer: &mut Writer<S>, out: &mut S)
     requires follows { Follows S.taken S.faults S.refused writer.old out.old }
     ensures text { writer.new.text ≡ writer.old.text ++ opened_lines name.now by }

@@ -19,18 +19,21 @@ pub fn is_header(game: &Game, cert: &WeaverCert) -> bool
     cert.states() == game.states() && is_memory(cert, cert.start())
 }
 
+/// Whether the numbers of a memory are in range.
 fn is_mem_row(game: &Game, row: &(StateId, StateSet)) -> bool
     ensures { result ≡ is_mem_row (game_of game.now) row.now }
 {
     row.0.0 < game.states() && has_states_alone(&row.1, game.states())
 }
 
+/// Whether those of a live pair are.
 fn is_live_row(game: &Game, cert: &WeaverCert, row: &(PosId, MemId)) -> bool
     ensures { result ≡ is_live_row (game_of game.now) cert.now row.now }
 {
     row.0.0 < game.positions() && is_memory(cert, row.1)
 }
 
+/// Whether those of a try are.
 fn is_try_row(game: &Game, cert: &WeaverCert, row: &TryRow) -> bool
     ensures { result ≡ is_try_row (game_of game.now) cert.now row.now }
 {
@@ -40,12 +43,14 @@ fn is_try_row(game: &Game, cert: &WeaverCert, row: &TryRow) -> bool
         && is_memory_if(cert, row.refused)
 }
 
+/// Whether those of a label or a close are.
 fn is_at_row(game: &Game, cert: &WeaverCert, row: &AtRow) -> bool
     ensures { result ≡ is_at_row (game_of game.now) cert.now row.now }
 {
     game.has_seam(row.seam) && is_memory(cert, row.mem) && is_memory(cert, row.after)
 }
 
+/// Whether those of an open are.
 fn is_open_row(game: &Game, cert: &WeaverCert, row: &OpenRow) -> bool
     ensures { result ≡ is_open_row (game_of game.now) cert.now row.now }
 {
@@ -55,12 +60,14 @@ fn is_open_row(game: &Game, cert: &WeaverCert, row: &OpenRow) -> bool
         && is_memory(cert, row.failed)
 }
 
+/// Whether those of a call are.
 fn is_into_row(game: &Game, cert: &WeaverCert, row: &IntoRow) -> bool
     ensures { result ≡ is_into_row (game_of game.now) cert.now row.now }
 {
     game.has_seam(row.seam) && is_memory(cert, row.mem) && is_memory(cert, row.callee)
 }
 
+/// Whether those of a return are.
 fn is_back_row(game: &Game, cert: &WeaverCert, row: &BackRow) -> bool
     ensures { result ≡ is_back_row (game_of game.now) cert.now row.now }
 {
@@ -70,6 +77,7 @@ fn is_back_row(game: &Game, cert: &WeaverCert, row: &BackRow) -> bool
         && is_memory(cert, row.after)
 }
 
+/// The first memory that is out of range, from 0.
 fn bad_mem(game: &Game, cert: &WeaverCert) -> Option<usize>
     ensures is { result ≡ position (λ r. not (is_mem_row (game_of game.now) r)) cert.now.mems }
     ensures within { IfSome result (λ n. n < length cert.now.mems) }
@@ -77,6 +85,7 @@ fn bad_mem(game: &Game, cert: &WeaverCert) -> Option<usize>
     cert.mems().iter().position(|row| !is_mem_row(game, row))
 }
 
+/// The first live pair that is.
 fn bad_live(game: &Game, cert: &WeaverCert) -> Option<usize>
     ensures is { result ≡ position (λ r. not (is_live_row (game_of game.now) cert.now r)) cert.now.live }
     ensures within { IfSome result (λ n. n < length cert.now.live) }
@@ -86,6 +95,7 @@ fn bad_live(game: &Game, cert: &WeaverCert) -> Option<usize>
         .position(|row| !is_live_row(game, cert, row))
 }
 
+/// The first try that is.
 fn bad_try(game: &Game, cert: &WeaverCert) -> Option<usize>
     ensures is { result ≡ position (λ r. not (is_try_row (game_of game.now) cert.now r)) cert.now.tries }
     ensures within { IfSome result (λ n. n < length cert.now.tries) }
@@ -95,6 +105,7 @@ fn bad_try(game: &Game, cert: &WeaverCert) -> Option<usize>
         .position(|row| !is_try_row(game, cert, row))
 }
 
+/// The first label, or close, that is.
 fn bad_at(game: &Game, cert: &WeaverCert, rows: &[AtRow]) -> Option<usize>
     ensures is { result ≡ position (λ r. not (is_at_row (game_of game.now) cert.now r)) rows.now }
     ensures within { IfSome result (λ n. n < length rows.now) }
@@ -102,6 +113,7 @@ fn bad_at(game: &Game, cert: &WeaverCert, rows: &[AtRow]) -> Option<usize>
     rows.iter().position(|row| !is_at_row(game, cert, row))
 }
 
+/// The first open that is.
 fn bad_open(game: &Game, cert: &WeaverCert) -> Option<usize>
     ensures is { result ≡ position (λ r. not (is_open_row (game_of game.now) cert.now r)) cert.now.opened }
     ensures within { IfSome result (λ n. n < length cert.now.opened) }
@@ -111,6 +123,7 @@ fn bad_open(game: &Game, cert: &WeaverCert) -> Option<usize>
         .position(|row| !is_open_row(game, cert, row))
 }
 
+/// The first call that is.
 fn bad_into(game: &Game, cert: &WeaverCert) -> Option<usize>
     ensures is { result ≡ position (λ r. not (is_into_row (game_of game.now) cert.now r)) cert.now.into }
     ensures within { IfSome result (λ n. n < length cert.now.into) }
@@ -120,6 +133,7 @@ fn bad_into(game: &Game, cert: &WeaverCert) -> Option<usize>
         .position(|row| !is_into_row(game, cert, row))
 }
 
+/// The first return that is.
 fn bad_back(game: &Game, cert: &WeaverCert) -> Option<usize>
     ensures is { result ≡ position (λ r. not (is_back_row (game_of game.now) cert.now r)) cert.now.back }
     ensures within { IfSome result (λ n. n < length cert.now.back) }

@@ -32,6 +32,7 @@ pub struct Woven {
     pub table: WeaverCert,
 }
 
+/// The table of a woven text, from the lines of its prologue.
 fn table_of(alloc: Global, lines: &[u8], policy: &Policy) -> Result<WeaverCert, WovenFault>
     ensures table { IfOk result (λ table. Spells (policy_of policy.now) lines.now table) }
     ensures fault { IfErr result (IsRefusedTable (policy_of policy.now) lines.now) }

@@ -64,6 +64,7 @@ fn is_named(bytes: &[u8], front: &[u8]) -> bool
     }
 }
 
+/// Whether the bytes are a mark with a seam's number alone.
 fn is_numbered_mark(bytes: &[u8]) -> bool
     ensures { IsTrue result ↔ IsNumberedMark bytes.now }
 {
@@ -73,6 +74,7 @@ fn is_numbered_mark(bytes: &[u8]) -> bool
         || is_numbered(bytes, b"CW_CALL(", b")")
 }
 
+/// Whether the bytes are a mark with a seam's number and a name.
 fn is_named_mark(bytes: &[u8]) -> bool
     ensures { IsTrue result ↔ IsNamedMark bytes.now }
 {
