@@ -1,7 +1,7 @@
 -- The quantities that have a limit.
 use Rattle.std.specs.Prelude.{ℕ, ◌==◌, if◌then◌else◌, List, codes}
 use Rattle.cw_core.specs.declared.quantity.Quantity.{Quantity}
-use Rattle.cw_core.specs.declared.quantity.Quantity.TheVariants.{PolicyBytes, SourceBytes, FileBytes, Descriptors, Limits, Rules, RulePositions, Nesting, Functions, Labels, Points, RightsStates, PolicyStates, ProductStates, PositionsTimesStates, Cells, Rows}
+use Rattle.cw_core.specs.declared.quantity.Quantity.TheVariants.{PolicyBytes, SourceBytes, FileBytes, Descriptors, Limits, Rules, RulePositions, Nesting, Functions, Labels, Points, RightsStates, PolicyStates, ProductStates, PositionsTimesStates, Cells, Rows, AuditMoves}
 
 -- its name, as a refusal prints it
 abbrev pub name_of : Quantity → List ℕ
@@ -22,6 +22,7 @@ name_of ProductStates = codes "product states"
 name_of PositionsTimesStates = codes "positions times states"
 name_of Cells = codes "cells"
 name_of Rows = codes "rows"
+name_of AuditMoves = codes "audit moves"
 
 -- the greatest number of it that is within the limit, for a policy of format 1
 abbrev pub limit_of : Quantity → ℕ
@@ -42,6 +43,7 @@ limit_of ProductStates = 512
 limit_of PositionsTimesStates = 1048576
 limit_of Cells = 4194304
 limit_of Rows = 65536
+limit_of AuditMoves = 65536
 
 -- in format 2 a file may have twice as many bytes, and the product twice as many states
 abbrev pub limit_in : (format : ℕ) → Quantity → ℕ

@@ -57,3 +57,6 @@ pub const CELLS: usize = 4_194_304;
 
 /// Rows of a certificate.
 pub const ROWS: usize = 65_536;
+
+/// Moves of the run that an audit writes.
+pub const AUDIT_MOVES: usize = 65_536;

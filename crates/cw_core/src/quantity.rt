@@ -39,8 +39,10 @@ pub enum Quantity {
     PositionsTimesStates,
     /// Cells that the solver tables, at most 4,194,304.
     Cells,
-    /// Rows of a certificate, at most 65,536.
+    /// Rows of a certificate or of an audit's table, at most 65,536.
     Rows,
+    /// Moves of the run that an audit writes, at most 65,536.
+    AuditMoves,
 }
 
 impl Quantity {
@@ -68,6 +70,7 @@ impl Quantity {
             Quantity::PositionsTimesStates => "positions times states",
             Quantity::Cells => "cells",
             Quantity::Rows => "rows",
+            Quantity::AuditMoves => "audit moves",
         }
     }
 
@@ -93,6 +96,7 @@ impl Quantity {
             Quantity::PositionsTimesStates => limits::POSITIONS_TIMES_STATES,
             Quantity::Cells => limits::CELLS,
             Quantity::Rows => limits::ROWS,
+            Quantity::AuditMoves => limits::AUDIT_MOVES,
         };
         most as u64
     }

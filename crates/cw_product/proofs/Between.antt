@@ -143,7 +143,7 @@ function_goes f r n lands =
       each_two n x body last (goes_all n x f r.body false (n + 1) x x None None lands (omega arith) (omega arith) hx hx tt tt) (tt, tt),
     )
 
-length_of : (f : ℕ) (r : Routine) (n : ℕ) → length (nodes_of f r n) ≡ suc (suc (count_all r.body))
+pub length_of : (f : ℕ) (r : Routine) (n : ℕ) → length (nodes_of f r n) ≡ suc (suc (count_all r.body))
 length_of f r n =
     let x = exit_of r n in
     let body = nodes_in_all f r.body (n + 1) x x None None in
@@ -151,7 +151,7 @@ length_of f r n =
     omega (arith, length-append body last, nodes_length_all f r.body (n + 1) x x None None)
 
 -- a part begins behind those before it
-part_low : (rs : List Routine) (splits : List Bool) (n i : ℕ) (p : Part) → slice_get (parts_from rs splits n) i ≡ Some p → n ≤ p.entry.0
+pub part_low : (rs : List Routine) (splits : List Bool) (n i : ℕ) (p : Part) → slice_get (parts_from rs splits n) i ≡ Some p → n ≤ p.entry.0
 part_low [] splits n i p e = absurd (none-some p e)
 part_low (r ∷ rs) [] n i p e = absurd (none-some p e)
 part_low (r ∷ rs) (split ∷ splits) n zero p e = let same = same_Some (part n (exit_of r n) split) p e in omega (

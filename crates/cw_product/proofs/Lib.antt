@@ -1,4 +1,5 @@
 -- The proofs.
+pub mod Alone
 pub mod Begun
 pub mod Between
 pub mod Fine

@@ -1,5 +1,5 @@
 -- Each function of a program's graph keeps to its own positions.
-use Rattle.std.proofs.Common.{◌≡◌, ℕ, ◌<◌, ◌≤◌, List, length, Some, None, refl, sym, ap, subst, arith}
+use Rattle.std.proofs.Common.{◌≡◌, ℕ, ◌<◌, ◌≤◌, List, length, false, Some, None, refl, sym, ap, ◌∙◌, subst, arith}
 use Rattle.std.specs.Prelude.{slice_get, option_map}
 use Rattle.cw_rights.specs.Policies.{policy_of}
 use Rattle.cw_syntax.specs.Names.{Names}
@@ -18,7 +18,8 @@ use Rattle.cw_positions.proofs.Programs.{of_graph, routine_of, positions_are_clo
 use Rattle.cw_product.specs.Routes.{IsBetween, LeadsBetween, IsRoute}
 use Rattle.cw_product.specs.Product.{Held, IsProgramsGraph, game_of}
 use Rattle.cw_product.proofs.Between.{NodeGoes, part_order, points_stay}
-use Rattle.cw_product.proofs.Routing.{positions_stay}
+use Rattle.cw_product.proofs.Alone.{goes_on, points_alone}
+use Rattle.cw_product.proofs.Routing.{positions_stay, exits_alone}
 use Rattle.cw_product.proofs.Placing.{rise}
 
 module _ (names : Names) (source : List ℕ) (file : File) (run : IsRunnable (plan_of names source file)) (g : Graph)
@@ -33,7 +34,17 @@ module _ (names : Names) (source : List ℕ) (file : File) (run : IsRunnable (pl
       (λ f p e q n s b. points_stay 0 (plan_of names source file).routines (splits_of names source file) 0 run.lands f p e q n s
       (omega (arith, b.0)) (omega (arith, b.1)))
 
-  -- and ends at an exit
+  -- none but the last is an exit
+  alone : (f : ℕ) (p : Part) → slice_get g.parts.items f ≡ Some p → (q : ℕ) (m : Node) → slice_get g.nodes.items q ≡ Some m
+      → IsBetween p.entry.0 p.exit.0 q → goes_on m.point ≡ false → q ≡ p.exit.0
+  alone =
+      of_graph names source file g
+      (λ ns ps m. (f : ℕ) (p : Part) → slice_get ps f ≡ Some p
+      → (q : ℕ) (n : Node) → slice_get ns q ≡ Some n → IsBetween p.entry.0 p.exit.0 q → goes_on n.point ≡ false → q ≡ p.exit.0) i
+      (λ f p e q n s b x. let z = points_alone 0 (plan_of names source file).routines (splits_of names source file) 0 f p e q n s
+      (omega (arith, b.0)) (omega (arith, b.1)) x in omega (arith, z))
+
+  -- and it ends at an exit
   ends : (f : ℕ) (p : Part) → slice_get g.parts.items f ≡ Some p → (n : Node) × (slice_get g.nodes.items p.exit.0 ≡ Some n) × (n.point ≡ point.Exit)
   ends =
       of_graph names source file g
@@ -67,4 +78,8 @@ routed h g f l =
           (positions_stay policy h.graph.parts.items h.graph.nodes.items p.entry.0 p.exit.0 last.0 last.1 last.2
           (stay names g.source g.file g.runnable h.graph g.drawn f p found.1) q s e
           (omega (arith, b.0, entry), omega (arith, b.1, exit))));
+      alone = λ q k b e.
+          exits_alone policy h.graph.parts.items h.graph.nodes.items p.entry.0 p.exit.0 last.0 last.1 last.2
+          (stay names g.source g.file g.runnable h.graph g.drawn f p found.1) (alone names g.source g.file g.runnable h.graph g.drawn f p found.1) q k e
+          (omega (arith, b.0, entry), omega (arith, b.1, exit)) ∙ exit;
     }

@@ -9,7 +9,7 @@ use Rattle.cw_rights.specs.declared.capabilities.Primitive.{Primitive}
 use Rattle.cw_rights.specs.declared.capabilities.Primitive.TheVariants.{Limit, Enter, Split}
 use Rattle.cw_rights.specs.Policies.{PlainPolicy, primitives}
 use Rattle.cw_game.specs.declared.spots.Spot.{Spot}
-use Rattle.cw_game.specs.declared.spots.Spot.TheVariants.{Visit, Asked, Call, SplitCall}
+use Rattle.cw_game.specs.declared.spots.Spot.TheVariants.{Visit, Asked, Call, SplitCall, Exit}
 use Rattle.cw_points.specs.declared.graph.Point.{Point}
 use Rattle.cw_points.specs.declared.graph.Point.TheVariants as point
 use Rattle.cw_points.specs.declared.graph.Node.{Node}
@@ -23,6 +23,7 @@ use Rattle.cw_product.specs.Routes.{IsBetween, LeadsBetween}
 use Rattle.cw_product.proofs.Between.{Goes, GoesTo, NodeGoes}
 use Rattle.cw_product.proofs.Placing.{rise}
 use Rattle.cw_lemmas.proofs.Numbers.{le_from_not_lt as not_below}
+use Rattle.cw_product.proofs.Alone.{goes_on, exit_point}
 
 module _ (low high : ℕ) where
   -- these stand from p on, and lead to positions between
@@ -150,3 +151,23 @@ module _ (policy : PlainPolicy) (parts : List Part) (ns : List Node) (from last 
       (second_of n.next) (at r.0) (stay r.0 n r.3 (low, top))
       (omega (arith, room, next, last_one)) in
       subst (λ p. LeadsBetween (at from) (at last) p s) (sym r.5) (route_at (at from) (at last) (at r.0) (spots_at policy parts at n) r.2 s all r.4)
+
+  -- an exit stands at the position of the last point
+  pub exits_alone : ((p : ℕ) (n : Node) → slice_get ns p ≡ Some n → IsBetween from last p → goes_on n.point ≡ false → p ≡ last)
+      → (q f : ℕ) → slice_get (spots_in policy parts ns) q ≡ Some (Exit f) → IsBetween (base policy parts ns from) (base policy parts ns last) q
+      → q ≡ base policy parts ns last
+  exits_alone alone q f e b =
+      let r = found (spots_at policy parts at) w (width_at policy parts at) ns q (Exit f) e in
+      let n = r.1 in
+      let inside = slice_get_within (spots_at policy parts at n) r.2 (Exit f) r.4 in
+      let wide = width_at policy parts at n in
+      let next = begin_more w ns r.0 n r.3 in
+      let here : at r.0 ≤ q = omega (arith, r.5) in
+      let ahead : q < at (r.0 + 1) = omega (arith, r.5, inside, wide, next) in
+      let low : from ≤ r.0 = not_below from r.0 (λ l. let m = rise w ns (r.0 + 1) from (omega (arith, l)) in omega (arith, m, ahead, b.0)) in
+      let top : r.0 ≤ last = not_below r.0 last (λ l. let m = rise w ns (last + 1) r.0 (omega (arith, l)) in omega
+      (arith, m, last_one, here, b.1)) in
+      let ex = exit_point parts (primitives_at policy parts n.point) n.point n.function (number n.seam) (to at (first_of n.next)) (to at (second_of n.next)) r.2 f r.4 in
+      let z : r.0 ≡ last = alone r.0 n r.3 (low, top) ex in
+      let low2 : at last ≤ q = subst (λ k. at k ≤ q) z here in
+      omega (arith, low2, b.1)

@@ -23,8 +23,9 @@ LeadsBetween low high p (Call j f n) = IsBetween low high n
 LeadsBetween low high p (SplitCall j f n) = IsBetween low high n
 LeadsBetween low high p (Exit f) = Unit {0}
 
--- The function begins and ends at positions, and those from the one to the other lead to one another.
+-- The function begins and ends at positions, and those from the one to the other lead to one another; an exit stands at the last alone.
 pub record IsRoute (g : Game) (f : ℕ) : Type 0 where
   pub begins : g.entry f ≤ g.exit f
   pub ends : g.exit f < length g.spots
   pub stays : (p : ℕ) (s : Spot) → IsBetween (g.entry f) (g.exit f) p → slice_get g.spots p ≡ Some s → LeadsBetween (g.entry f) (g.exit f) p s
+  pub alone : (p k : ℕ) → IsBetween (g.entry f) (g.exit f) p → slice_get g.spots p ≡ Some (Exit k) → p ≡ g.exit f

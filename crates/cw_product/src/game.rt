@@ -129,7 +129,7 @@ impl<'g> Game<'g> {
     }
 
     /// What holds of every game: each position leads to positions and calls functions that there are, `main` is one of them; each function begins and ends
-    /// at positions, and those from the one to the other lead to one another; from states each call leads to states; the rights
+    /// at positions, and those from the one to the other lead to one another, an exit at the last alone; from states each call leads to states; the rights
     /// states, the policy states and their pairs are within their limits, and so are the pairs of a position and a state.
     pub fn is_closed(&self)
         ensures leads { (p : ℕ) (s : SpotOf) → slice_get (game_of self.now).spots p ≡ Some s
