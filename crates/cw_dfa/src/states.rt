@@ -9,6 +9,7 @@ ghost use Rattle.cw_dfa.specs.Verdicts.{rules_of};
 ghost use Rattle.cw_dfa.specs.States.{AreReached, AreMany, Exactly, HasMore, after_mask, Reached};
 
 use crate::rules::{DfaFault, Rules, start};
+use cw_core::limits::POLICY_STATES;
 use cw_fixpoint::{Steps, closed_up_to};
 use cw_rights::Letter;
 use std::alloc::{AllocError, Global};
@@ -89,7 +90,7 @@ fn reach(alloc: Global, rules: &Rules, masks: &[u64]) -> Result<Option<Vec<u64>>
     ensures none { IfOk result (λ keys. IfNone keys (AreMany (rules_of rules.now) masks.now)) }
 {
     let following = Following { rules, masks };
-    let keys = closed_up_to(alloc, &following, &[start(rules)], 64)?;
+    let keys = closed_up_to(alloc, &following, &[start(rules)], POLICY_STATES)?;
     Ok(keys)
 }
 

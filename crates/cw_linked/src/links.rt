@@ -11,6 +11,7 @@ use crate::added::add;
 use crate::ties::{promise_of, tie_link};
 use crate::work::{Cell, Work};
 use cw_core::NoMemory;
+use cw_core::limits::CELLS;
 use cw_product::{Game, Turn};
 use cw_solve::Context;
 use cw_solve::table::{numbered, place_of, size};
@@ -42,7 +43,7 @@ fn number_of(
         Some(number) => Ok(Some(number)),
         None => {
             let number = work.table.contexts.len();
-            if work.table.heights.len() as u32 + size(game, context.function) > 4_194_304 {
+            if work.table.heights.len() as u32 + size(game, context.function) > CELLS as u32 {
                 return Ok(None);
             }
             add(alloc, game, work, *context)?;

@@ -5,7 +5,7 @@ use Rattle.toml.specs.Data.{Data, Items, no_items, item, Members, get, get_membe
 use Rattle.cw_rights.specs.declared.capabilities.Rights.{Rights}
 use Rattle.cw_rights.specs.declared.capabilities.Limit.{Limit as ALimit}
 use Rattle.cw_rights.specs.Policies.{PlainDescriptor}
-use Rattle.cw_rights.specs.Names.{right_mask}
+use Rattle.cw_rights.specs.Names.{all_rights, right_mask}
 use Rattle.cw_regex.specs.Meaning.{number_in, with_name}
 use Rattle.cw_policy.specs.declared.keys.Key.TheVariants.{Refusable, OnRefusal}
 use Rattle.cw_policy.specs.Keys.{key_text}
@@ -23,7 +23,7 @@ rights_of format rights (item d ds) = rights_of format (with_rights rights (righ
 
 -- without the key, all twelve
 abbrev pub rights_at : ℕ → Option Data → Rights
-rights_at format None = record { 0 = 0xfff }
+rights_at format None = record { 0 = all_rights }
 rights_at format (Some d) = record { 0 = rights_of format 0 (items_at (Some d)) }
 
 -- the digit that the name is

@@ -4,7 +4,7 @@ ghost use Rattle.std.specs.Prelude.{◌≡◌, ◌≤◌, [], length, map, optio
 ghost use Rattle.cw_core.specs.Quantities.{limit_of};
 ghost use Rattle.toml.specs.View.{view, items_view, table_view};
 ghost use Rattle.cw_rights.specs.Policies.{descriptor_of};
-ghost use Rattle.cw_rights.specs.Names.{right_mask};
+ghost use Rattle.cw_rights.specs.Names.{all_rights, right_mask};
 ghost use Rattle.cw_regex.specs.Labels.{names_in};
 ghost use Rattle.cw_regex.specs.Meaning as meaning;
 ghost use Rattle.cw_policy.specs.Names as names;
@@ -14,16 +14,16 @@ use crate::form::{array_at, items_at, member};
 use crate::keys::{Key, key_text};
 use crate::names::{field, is_among, name_of, text_at};
 use cw_core::{NoMemory, Quantity};
-use cw_rights::{Descriptor, Limit, Rights, right_named};
+use cw_rights::{ALL_RIGHTS, Descriptor, Limit, Rights, right_named};
 use indexmap::IndexSet;
 use std::alloc::Global;
 use toml::{Table, Value};
 
 /// A set of rights with those of one name more.
 fn with_rights(format: u8, rights: u16, name: &str) -> u16
-    requires within { rights ≤ 0xfff }
+    requires within { rights ≤ all_rights }
     ensures rights { result ≡ spec.with_rights rights (right_mask format name.now) }
-    ensures within { result ≤ 0xfff }
+    ensures within { result ≤ all_rights }
 {
     match right_named(name.as_bytes(), format) {
         None => rights,
@@ -34,7 +34,7 @@ fn with_rights(format: u8, rights: u16, name: &str) -> u16
 /// The set of the rights that some items name.
 fn rights_of(format: u8, items: &[Value]) -> u16
     ensures rights { result ≡ spec.rights_of format 0 (items_view items.now) }
-    ensures within { result ≤ 0xfff }
+    ensures within { result ≤ all_rights }
 {
     let mut rights = 0;
     'items: for item in items {
@@ -46,11 +46,11 @@ fn rights_of(format: u8, items: &[Value]) -> u16
 /// The set of rights at a key, all where the key isn't there.
 fn rights_at(format: u8, value: Option<&Value>) -> Rights
     ensures rights { result ≡ spec.rights_at format (option_map (λ x. view x.now) value.entry) }
-    ensures within { result.0 ≤ 0xfff }
+    ensures within { result.0 ≤ all_rights }
 {
     match value {
         Some(_) => Rights(rights_of(format, items_at(value))),
-        None => Rights(0xfff),
+        None => Rights(ALL_RIGHTS),
     }
 }
 

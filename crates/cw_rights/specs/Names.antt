@@ -2,6 +2,10 @@
 use Rattle.std.specs.Prelude.{ℕ, List, [], ◌∷◌, ◌++◌, codes, cond, nat_eq, Option, Some, None}
 use Rattle.std.specs.Str.{bytes_eq}
 
+-- all twelve rights
+abbrev pub all_rights : ℕ
+all_rights = 0xfff
+
 -- names of rights(4): the right of the nth is bit n
 abbrev pub single_rights : List (List ℕ × ℕ)
 single_rights =

@@ -4,6 +4,7 @@ use Rattle.std.specs.List.{list_all}
 use Rattle.cw_rights.specs.declared.capabilities.Limit.{Limit as ALimit}
 use Rattle.cw_rights.specs.declared.words.Test.{Test}
 use Rattle.cw_rights.specs.declared.words.Test.TheVariants.{Amb, Holds}
+use Rattle.cw_rights.specs.Names.{all_rights}
 use Rattle.cw_rights.specs.Trees.{Literal, Tree, count, nesting, AllLiterals}
 use Rattle.cw_rights.specs.Policies.{PlainDescriptor, PlainPolicy}
 
@@ -37,7 +38,7 @@ IsDistinct names = AllPairs (λ a b. a ≢ b) names
 -- the numbers of a test, a literal and a limit are those of descriptors and labels that there are, and the rights are some of the twelve
 abbrev pub IsTestWithin : ℕ → Test → Type 0
 IsTestWithin descriptors Amb = Unit {0}
-IsTestWithin descriptors (Holds descriptor need) = (descriptor < descriptors) × (need.0 ≤ 0xfff)
+IsTestWithin descriptors (Holds descriptor need) = (descriptor < descriptors) × (need.0 ≤ all_rights)
 
 abbrev pub IsLabelWithin : ℕ → Option ℕ → Type 0
 IsLabelWithin labels None = Unit {0}
@@ -51,12 +52,12 @@ abbrev pub IsTreeWithin : ℕ → ℕ → Tree → Type 0
 IsTreeWithin descriptors labels r = AllLiterals (IsLiteralWithin descriptors labels) r
 
 abbrev pub IsLimitWithin : ℕ → ALimit → Type 0
-IsLimitWithin descriptors limit = (limit.descriptor < descriptors) × (limit.keep.0 ≤ 0xfff)
+IsLimitWithin descriptors limit = (limit.descriptor < descriptors) × (limit.keep.0 ≤ all_rights)
 
 pub record IsValidDescriptor (d : PlainDescriptor) : Type 0 where
   pub name : IsDescriptorName d.name
   pub number : IsNumberOf d.name d.number
-  pub rights : d.rights.0 ≤ 0xfff
+  pub rights : d.rights.0 ≤ all_rights
 
 -- what a policy that was read meets
 pub record IsValid (p : PlainPolicy) : Type 0 where

@@ -10,6 +10,9 @@ ghost use Rattle.cw_rights.specs.Capabilities.{hold_of, allowed_on, allowed, IsA
 #[derive(Clone, Copy, Drop, PartialEq, Eq)]
 pub struct Rights(pub u16);
 
+/// All twelve rights, as bits.
+pub const ALL_RIGHTS: u16 = 0xfff;
+
 /// What a process holds of one descriptor.
 #[derive(Clone, Copy, Drop, PartialEq, Eq)]
 pub enum Hold {

@@ -12,7 +12,8 @@ pub mod policy;
 pub mod words;
 
 pub use capabilities::{
-    Allowed, Caps, Hold, Limit, Primitive, Rights, apply, close_hold, limit_allowed, open_hold,
+    ALL_RIGHTS, Allowed, Caps, Hold, Limit, Primitive, Rights, apply, close_hold, limit_allowed,
+    open_hold,
 };
 pub use names::{is_name, is_name_byte, is_name_start, right_named};
 pub use plain::matches_plain;

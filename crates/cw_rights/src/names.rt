@@ -2,7 +2,7 @@
 
 ghost use Rattle.std.specs.Prelude.{◌≡◌, ◌≤◌, drop, option_map, IfSome};
 ghost use Rattle.std.specs.List.{list_all};
-ghost use Rattle.cw_rights.specs.Names.{mask_in, joint_rights, rights_in, right_mask};
+ghost use Rattle.cw_rights.specs.Names.{all_rights, mask_in, joint_rights, rights_in, right_mask};
 ghost use Rattle.cw_rights.specs.Valid.{is_name_start, is_name_byte, is_name};
 
 use crate::capabilities::Rights;
@@ -46,7 +46,7 @@ pub fn is_name(word: &[u8]) -> bool
 #[tactic(auto, using(crate::proofs::Named::mask_within))]
 pub fn right_named(name: &[u8], format: u8) -> Option<Rights>
     ensures is { option_map (λ r. r.0) result ≡ right_mask format name.now }
-    ensures within { IfSome result (λ r. r.0 ≤ 0xfff) }
+    ensures within { IfSome result (λ r. r.0 ≤ all_rights) }
 {
     if name == b"CAP_READ".as_slice() {
         return Some(Rights(0x1));

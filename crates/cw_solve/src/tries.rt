@@ -12,6 +12,7 @@ use crate::contexts::Context;
 use crate::fault::SolveFault;
 use crate::rounds::{fresh, rounds};
 use crate::table::{Table, main_context, size};
+use cw_core::limits::CELLS;
 use cw_product::Game;
 use std::alloc::{AllocError, Global};
 
@@ -44,7 +45,7 @@ fn attempt(alloc: Global, game: &Game, contexts: Vec<Context>) -> Result<Tried, 
         Some(context) => {
             let cells = table.heights.len() as u32 + size(game, context.function);
             let contexts = longer(table, context)?;
-            if cells <= 4_194_304 {
+            if cells <= CELLS as u32 {
                 Ok(Tried::More(contexts))
             } else {
                 Ok(Tried::TooMany(contexts))

@@ -11,6 +11,7 @@ ghost use Rattle.cw_states.specs.Growing.{all_caps, after_limit, after_limits, a
 
 use crate::order::Ranked;
 use crate::uses::Uses;
+use cw_core::limits::RIGHTS_STATES;
 use cw_fixpoint::{Steps, closed_up_to};
 use cw_rights::policy::start_caps;
 use cw_rights::{
@@ -177,6 +178,6 @@ pub(crate) fn rights_states(
     let starts = [Ranked {
         caps: start_caps(policy),
     }];
-    let found = closed_up_to(alloc, &growth, &starts, 128)?;
+    let found = closed_up_to(alloc, &growth, &starts, RIGHTS_STATES)?;
     Ok(found)
 }
