@@ -36,7 +36,7 @@ all_mapped : {A B : Type 0} (P : B → Type 0) (f : A → B) (test : A → Bool)
 all_mapped P f test each [] h = tt
 all_mapped P f test each (x ∷ xs) h = let k = and_parts (test x) (list_all test xs) h in (each x k.0, all_mapped P f test each xs k.1)
 
-length_memories : (n : ℕ) (ms : List (StateId × ℕ)) → length (memories n ms) ≡ length ms
+pub length_memories : (n : ℕ) (ms : List (StateId × ℕ)) → length (memories n ms) ≡ length ms
 length_memories n [] = refl
 length_memories n (m ∷ ms) = ap suc (length_memories (n + 1) ms)
 

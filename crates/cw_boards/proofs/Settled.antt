@@ -15,10 +15,7 @@ use Rattle.cw_resolve.specs.Scenes.{stm_in, stms_in}
 use Rattle.cw_boards.specs.Held.{frame_in}
 use Rattle.cw_boards.specs.Rewriting.{weights, frame_weight, Rewrites}
 use Rattle.cw_resolve.proofs.Shapes.{block_steps, for_by, for_steps}
-
-settle_all : (ss : Stms) (rest : Frame) → opened_all ss rest (settle rest) ≡ settle (items_of ss rest)
-settle_all end rest = refl
-settle_all (then s ss) rest = ap (opened s (items_of ss rest)) (settle_all ss rest)
+use Rattle.cw_syntax.proofs.Settling.{settle_all}
 
 weigh_all : (ss : Stms) (rest : Frame) → frame_weight (items_of ss rest) ≡ weights ss + frame_weight rest
 weigh_all end rest = omega arith

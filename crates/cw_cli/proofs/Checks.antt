@@ -28,6 +28,7 @@ use Rattle.cw_commands.specs.Outcomes.{due_of, Due, Told, Refused}
 use Rattle.cw_cli.specs.Checking.{of_woven, part_name, told, woven_refusal, IsChecked, IsWovenRefusal}
 use Rattle.cw_cli.specs.CheckingHeld.{list_name, told_row, woven_cause, woven_words, IsCheckedBy}
 use Rattle.cw_cli.proofs.Refused.{if_ok}
+use Rattle.cw_answer_texts.proofs.Tabled.{length_memories as memories_many}
 
 name_is : (part : Part) → list_name (table_of part) ≡ part_name part
 name_is InMems = refl
@@ -51,10 +52,6 @@ module _ (p : Problem) (g : Game) (t : Table) (due : Due) where
   pub checked_for : IsGameOf p g → length p.policy.limits ≤ 12 → IsCheckedBy g t due → IsChecked p g t due
   checked_for is few h =
       ⊎_elim (λ a. inl (a.0, a.1, a.2 p is few)) (λ b. inr (failing b.0 b.2 (table_fault g t) refl b.1)) h
-
-memories_many : (n : ℕ) (ms : List (StateId × ℕ)) → length (memories n ms) ≡ length ms
-memories_many n [] = refl
-memories_many n (m ∷ ms) = ap suc (memories_many (n + 1) ms)
 
 closed_many : (t : Table) → length (from_closed t) ≡ length t.closed + (length t.into + length t.back)
 closed_many t =

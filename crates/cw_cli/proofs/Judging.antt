@@ -10,6 +10,7 @@ use Rattle.cw_strategy_text.specs.Faults.{IsCause, IsFault}
 use Rattle.cw_strategy_text.specs.StrategyText.{row_count, rows_in, Spells}
 use Rattle.cw_commands.specs.Outcomes.{Due}
 use Rattle.cw_cli.specs.Refuting.{IsJudged, IsJudgedBy}
+use Rattle.cw_strategy_text.proofs.Fronts.{some_rows}
 
 pub judged_for : (p : Problem) (g : Game) (s : Strategy) (due : Due) → IsGameOf p g → IsJudgedBy g s due → IsJudged p g s due
 judged_for p g s due is h = ⊎_elim (λ a. inl (a.0, a.1, a.2 p is)) (λ b. inr b) h
@@ -19,13 +20,6 @@ is_fault format text (Line n) other h = h
 is_fault format text (Order n) other h = h
 is_fault format text (Limit n) other h = h
 is_fault format text NoMemory other h = absurd (other refl)
-
-some_rows : (how : How) → 1 ≤ rows_in how
-some_rows Bad = omega arith
-some_rows Out = omega arith
-some_rows (Both skip tried) = omega arith
-some_rows (Go by row) = omega arith
-some_rows (Into callee backs) = omega arith
 
 counted : (rows : List Row) → length rows ≤ row_count rows
 unfolding row_count

@@ -136,7 +136,7 @@ spelling_some set below = by_test (not (eqb set 0) && ltb (length (ranges set)) 
 
 -- ---- a spelling that stands in a text
 
-letters : (b : ℕ) → is_hexadecimal_digit b ≡ true → is_spelling_byte b ≡ true
+pub letters : (b : ℕ) → is_hexadecimal_digit b ≡ true → is_spelling_byte b ≡ true
 letters b e = by_digit (is_ascii_digit b) refl
   where
     by_digit : (t : Bool) → is_ascii_digit b ≡ t → is_spelling_byte b ≡ true
@@ -152,7 +152,7 @@ letters b e = by_digit (is_ascii_digit b) refl
         or_true true = refl
         or_true false = refl
 
-digits_spell : (ds : List ℕ) → list_all is_hexadecimal_digit ds ≡ true → list_all is_spelling_byte ds ≡ true
+pub digits_spell : (ds : List ℕ) → list_all is_hexadecimal_digit ds ≡ true → list_all is_spelling_byte ds ≡ true
 digits_spell [] all = refl
 digits_spell (d ∷ ds) all = let q = both_from_and (is_hexadecimal_digit d) (list_all is_hexadecimal_digit ds) all in rw (letters d q.0, digits_spell ds q.1) refl
 

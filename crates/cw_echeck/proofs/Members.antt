@@ -58,13 +58,6 @@ below_is set all none n t below empty rest told = ltb_from_iff (forth, back)
     back : set < 2 ^ n → t ≡ true
     back l = told.1 (λ s h. in_rest all none (min n 1024) s rest (le-min (IsBelow_from_lt n set l s h) (below s h)) (sym (has_is none s) ∙ empty s))
 
-    by : (b : Bool) → nat_eq a x ≡ b → (a + 1 ≤ x → x < a + 1 + n → test x ≡ true) → test x ≡ true
-    by true e rec = ap test (sym (eqb-true a x e)) ∙ k.0
-    by false e rec =
-        let ne : a ≡ x → ⊥ = λ y. let w : true ≡ false = sym (eq-eqb a x y) ∙ e in cc in
-        let past : a + 1 ≤ x = omega (arith, le, ne) in
-        rec past (omega (arith, lt))
-
 range_all : (test : ℕ → Bool) (a n : ℕ) → ((x : ℕ) → a ≤ x → x < a + n → test x ≡ true) → list_all test (range_with_len a n) ≡ true
 range_all test a zero h = refl
 range_all test a (suc n) h =

@@ -11,15 +11,13 @@ use Rattle.cw_text.proofs.Free.{free_from_test}
 use Rattle.cw_text.specs.LimitsText.{name_if}
 use Rattle.cw_syntax.specs.PlainMarks.{HasNone}
 use Rattle.cw_emit.specs.Woven.{ArePlainNames}
+use Rattle.cw_table_text.proofs.PlainLimits.{start_passes}
 
 digit_free : (name : List ℕ) (n : ℕ) → n < 3 → name ≡ (48 + n) ∷ [] → IsFree 47 name
 digit_free name zero lt e = subst (IsFree 47) (sym e) (free_from_test (λ b. ltb 47 b) 47 (48 ∷ []) refl refl)
 digit_free name (suc zero) lt e = subst (IsFree 47) (sym e) (free_from_test (λ b. ltb 47 b) 47 (49 ∷ []) refl refl)
 digit_free name (suc (suc zero)) lt e = subst (IsFree 47) (sym e) (free_from_test (λ b. ltb 47 b) 47 (50 ∷ []) refl refl)
 digit_free name (suc (suc (suc n))) lt e = absurd (omega (arith, lt))
-
-start_passes : (b : ℕ) → is_name_start b ≡ true → is_name_byte b ≡ true
-start_passes b e = rw e refl
 
 letters_free : (name : List ℕ) → is_name name ≡ true → IsFree 47 name
 letters_free [] e = absurd (cc)

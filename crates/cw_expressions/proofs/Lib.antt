@@ -1,7 +1,7 @@
 pub mod Steps
 pub mod Repeat
 pub mod TypesSound
-pub mod Deeper
+pub mod Levels
 pub mod Sound
 pub mod Short
 pub mod Follows

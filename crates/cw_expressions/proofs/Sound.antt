@@ -26,7 +26,8 @@ use Rattle.cw_expressions.specs.Reading.{expression, by_rule, read_at}
 use Rattle.cw_expressions.proofs.Steps.{if_bind, if_cond, known_is, first_takes, expect_takes, begins_takes, from_of_append, to_of_cons, to_of_append}
 use Rattle.cw_expressions.proofs.Repeat.{repeat_keeps}
 use Rattle.cw_expressions.proofs.TypesSound.{type_between_takes}
-use Rattle.cw_expressions.proofs.Deeper.{separated_weaker, derived_deeper, postfix_unary, unary_operand, level_above, loosest_expression}
+use Rattle.cw_grammar.proofs.Deeper.{separated_weaker, derived_deeper}
+use Rattle.cw_expressions.proofs.Levels.{postfix_unary, unary_operand, level_above, loosest_expression}
 use Rattle.cw_lemmas.proofs.Numbers.{add_one as one_deeper}
 
 -- A front of the tokens derives what was read by this rule, with at most this nesting.

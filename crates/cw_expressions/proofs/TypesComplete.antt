@@ -17,6 +17,7 @@ use Rattle.cw_expressions.specs.Reading.{begins_cast}
 use Rattle.cw_expressions.proofs.Steps.{expect_again, begins_again, to_of_append}
 use Rattle.cw_expressions.proofs.Follows.{Starts, starts_append, starts_never}
 use Rattle.std.proofs.lemmas.Bool.{false_from_ne_true as is_false}
+use Rattle.cw_grammar.proofs.Wording.{first_word, no_words as nothing, one_word, three_words, two_words}
 
 -- whether the next word is such a one
 abbrev pub next_is : (Word → Bool) → List Lexeme → Bool
@@ -42,29 +43,6 @@ continues_base w.Long = true
 continues_base _ = false
 
 -- ---- words and tokens
-
-nothing : (a : List Lexeme) → words a ≡ [] → a ≡ []
-nothing [] e = refl
-nothing (t ∷ a) e = absurd (cc)
-
-first_word : (a : List Lexeme) (word : Word) (ws : List Word) → words a ≡ word ∷ ws → (t : Lexeme) × (b : List Lexeme) × (a ≡ t ∷ b) × Is word t × (words b ≡ ws)
-first_word [] word ws e = absurd (cc)
-first_word (t ∷ a) word ws e = (t, a, refl, cc, cc)
-
-one_word : (a : List Lexeme) (x : Word) → words a ≡ x ∷ [] → (t : Lexeme) × (a ≡ t ∷ []) × Is x t
-one_word a x e = let p = first_word a x [] e in (p.0, p.2 ∙ ap (λ (z : List Lexeme). p.0 ∷ z) (nothing p.1 p.4), p.3)
-
-two_words : (a : List Lexeme) (x y : Word) → words a ≡ x ∷ y ∷ [] → (t : Lexeme) × (u : Lexeme) × (a ≡ t ∷ u ∷ []) × Is x t × Is y u
-two_words a x y e =
-    let p = first_word a x (y ∷ []) e in
-    let q = one_word p.1 y p.4 in
-    (p.0, q.0, p.2 ∙ ap (λ (z : List Lexeme). p.0 ∷ z) q.1, p.3, q.2)
-
-three_words : (a : List Lexeme) (x y z : Word) → words a ≡ x ∷ y ∷ z ∷ [] → (t : Lexeme) × (u : Lexeme) × (v : Lexeme) × (a ≡ t ∷ u ∷ v ∷ []) × Is x t × Is y u × Is z v
-three_words a x y z e =
-    let p = first_word a x (y ∷ z ∷ []) e in
-    let q = two_words p.1 y z p.4 in
-    (p.0, q.0, q.1, p.2 ∙ ap (λ (k : List Lexeme). p.0 ∷ k) q.2, p.3, q.3, q.4)
 
 -- ---- past a word
 

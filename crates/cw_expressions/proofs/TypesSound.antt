@@ -14,6 +14,7 @@ use Rattle.cw_expressions.specs.declared.refusal.Refusal.TheVariants as refusal
 use Rattle.cw_expressions.specs.Cursor.{begins, after, expect}
 use Rattle.cw_expressions.specs.TypeReading.{skip, based, unsigned_base, base_of, stars_of, type_name, type_between}
 use Rattle.cw_expressions.proofs.Steps.{if_bind, expect_takes, begins_takes, to_of_append}
+use Rattle.cw_grammar.proofs.Wording.{words_one as alone, words_two as paired}
 
 -- past a word, where it is next
 abbrev pub Skips : Word → List Lexeme → List Lexeme → Type 0
@@ -30,13 +31,6 @@ skips word plain ts = skips_by word plain ts (begins word ts) refl
 
 abbrev pub TakesBase : List Lexeme → (Base × Bool) × List Lexeme → Type 0
 TakesBase ts x = (a : List Lexeme) × (ts ≡ a ++ x.1) × (0 < length a) × IsType a x.0.0 x.0.1
-
--- one word
-alone : (t : Lexeme) (word : Word) → Is word t → words (t ∷ []) ≡ word ∷ []
-alone t word is = ap (λ (z : Word). z ∷ []) is
-
-paired : (t u : Lexeme) (a b : Word) → Is a t → Is b u → words (t ∷ u ∷ []) ≡ a ∷ b ∷ []
-paired t u a b p q = cc
 
 abbrev known_type : List Word → Base → Bool → List Word × (Base × Bool)
 known_type ws b unsigned = (ws, (b, unsigned))

@@ -14,7 +14,7 @@ use Rattle.cw_expressions.specs.Reading.{Read, read_at}
 use Rattle.cw_expressions.specs.Next.{IsNext, IsEnd, Answer, answer, refused, next_expression}
 use Rattle.cw_expressions.specs.View.{seen}
 use Rattle.cw_expressions.proofs.Steps.{if_bind}
-use Rattle.cw_expressions.proofs.Deeper.{derived_deeper}
+use Rattle.cw_grammar.proofs.Deeper.{derived_deeper}
 use Rattle.cw_expressions.proofs.Sound.{read_sound}
 use Rattle.cw_expressions.proofs.Follows.{StopsAt, ended_at, ended_nothing}
 use Rattle.cw_expressions.proofs.Again.{Again}

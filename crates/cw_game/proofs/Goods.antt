@@ -232,13 +232,6 @@ module _ (g : Game) (t : Table) where
       let b = taken (begins g t) _ (fault_at InLive 0 2) r.1 in
       both (begins g t) (rows_ok g t t.live) b.0 (rows_good 0 t.live (live_in_range r.0) b.1)
 
-    by : (b : Bool) → nat_eq a x ≡ b → (a + 1 ≤ x → x < a + 1 + n → test x ≡ true) → test x ≡ true
-    by true e rec = ap test (sym (eqb-true a x e)) ∙ k.0
-    by false e rec =
-        let ne : a ≡ x → ⊥ = λ y. let w : true ≡ false = sym (eq-eqb a x y) ∙ e in cc in
-        let past : a + 1 ≤ x = omega (arith, le, ne) in
-        rec past (omega (arith, lt))
-
 module _ (g : Game) (s : Strategy) where
   stands_at : (row p q e : ℕ) (r : Row) → slice_get s.rows row ≡ Some r → (nat_eq r.pos p && (nat_eq r.state q && nat_eq r.aim e)) ≡ true → IsAt s row p q e
   stands_at row p q e r er h =

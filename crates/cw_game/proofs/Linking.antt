@@ -29,7 +29,7 @@ use Rattle.cw_game.proofs.Link.{Stands, IsTied, tied, violates_bad, bad_violates
 use Rattle.cw_lemmas.proofs.Truths.{not_both}
 
 -- a board that isn't in Refused stands where its phase is
-steady : (phase : Phase) → is_refused phase ≡ false → standing phase ≡ phase
+pub steady : (phase : Phase) → is_refused phase ≡ false → standing phase ≡ phase
 steady (Refused i a later) e = cc
 steady _ e = refl
 

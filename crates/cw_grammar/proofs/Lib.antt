@@ -3,3 +3,5 @@ pub mod TreeRows
 mod Placed
 mod Examples
 mod Spelled
+pub mod Deeper
+pub mod Wording

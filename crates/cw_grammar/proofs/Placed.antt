@@ -12,16 +12,13 @@ use Rattle.cw_lex.specs.Tokens.{AreTokens}
 use Rattle.cw_lex.specs.Listed.{AreInOrder, AreOfTheirKind}
 use Rattle.cw_lex.proofs.Ordered.{tokens_in_order, tokens_of_their_kind}
 use Rattle.cw_lex.proofs.Valued.{number_is_small, numbers}
+use Rattle.cw_lex.proofs.Each.{order_within as order_le}
 
 -- a token in the source, whose value 64 bits hold where it is a number
 pub record IsPlaced (source : List ℕ) (t : Token) : Type 0 where
   pub order : t.from ≤ t.to
   pub within : t.to ≤ length source
   pub small : t.kind ≡ kind.Number → number_of (slice source t.from t.to) < 2 ^ 64
-
-order_le : (from to : ℕ) (ts : List Token) → AreInOrder from to ts → from ≤ to
-order_le from to [] h = h
-order_le from to (t ∷ ts) h = let p = order_le t.to to ts h.2 in let q = h.0 in let r = h.1 in omega arith
 
 slice_length : (source : List ℕ) (from to : ℕ) → from ≤ to → to ≤ length source → length (slice source from to) ≡ to - from
 slice_length source from to p q = omega (arith, length-take (to - from) (drop from source), length-drop from source)

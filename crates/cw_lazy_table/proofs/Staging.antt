@@ -17,6 +17,7 @@ use Rattle.cw_positions.proofs.Lengths.{width_at}
 use Rattle.cw_positions.proofs.Seaming.{is_seam_point, AreSeams, seam_at}
 use Rattle.cw_points.specs.declared.graph.Seam.{Seam}
 use Rattle.cw_positions.proofs.Standing.{stands, found}
+use Rattle.cw_positions.proofs.Seen.{has_get}
 
 -- neither a visit nor what is asked
 abbrev pub is_quiet : Spot → Bool
@@ -186,11 +187,6 @@ free_there parts (point.Open d) f j l r = (spot.Open j d l, refl)
 free_there parts (point.Close d) f j l r = (spot.Close j d l, refl)
 free_there parts (point.Call m) f j l r = (spot.Call j m l, refl)
 free_there parts point.Exit f j l r = (spot.Exit f, refl)
-
-has_get : {A : Type 0} (g : List A) (p : ℕ) (ss : List A) (k : ℕ) (x : A) → HasAt g p ss → slice_get ss k ≡ Some x → slice_get g (p + k) ≡ Some x
-has_get g p [] k x h e = absurd (none-some x e)
-has_get g p (s ∷ ss) zero x h e = let z : p + 0 ≡ p = omega arith in ap (slice_get g) z ∙ h.0 ∙ e
-has_get g p (s ∷ ss) (suc k) x h e = let z : p + suc k ≡ p + 1 + k = omega arith in ap (slice_get g) z ∙ has_get g (p + 1) ss k x h.1 e
 
 module _ (policy : PlainPolicy) (parts : List Part) (ns : List Node) where
   abbrev pub at : ℕ → ℕ

@@ -33,7 +33,7 @@ each source from (t ∷ ts) h k = (record { some = h.1; within = order_within t.
 pub each_token : (source : List ℕ) (ts : List Token) → AreTokens source ts → AllByRecursion (IsTokenOf source) ts
 each_token source ts h = each source 0 ts (tokens_in_order source ts h) (tokens_of_their_kind source ts h)
 
-slice_long : (source : List ℕ) (t : Token) → IsTokenOf source t → length (slice source t.from t.to) ≡ t.to - t.from
+pub slice_long : (source : List ℕ) (t : Token) → IsTokenOf source t → length (slice source t.from t.to) ≡ t.to - t.from
 slice_long source t h =
     let some = h.some in
     let within = h.within in

@@ -9,11 +9,7 @@ use Rattle.cw_links.specs.Lists.{list_at, AreApart}
 use Rattle.cw_links.specs.Rows.{has, Once}
 use Rattle.cw_links.proofs.Rows.{Once-append_left, Once-append_right, apart-append}
 use Rattle.cw_linked.specs.Walks.{from, rest_of}
-
--- a list of apart cells has each once
-absent : (x : ℕ) (xs : List ℕ) → AllByRecursion (λ y. eqb x y ≡ false) xs → has xs x ≡ false
-absent x [] a = refl
-absent x (y ∷ ys) a = grind (arith, nat_tests, a.0, absent x ys a.1)
+use Rattle.cw_links.proofs.CallerLemmas.{absent_all as absent}
 
 once : (xs : List ℕ) → IsDistinct eqb xs → Once xs
 unfolding IsDistinct

@@ -59,7 +59,7 @@ Contains-with_front ls l c h y i k = ⊎_elim
 
 -- a cell stands in one list
 
-absent_all : (x : ℕ) (xs : List ℕ) → AllByRecursion (λ y. eqb x y ≡ false) xs → has xs x ≡ false
+pub absent_all : (x : ℕ) (xs : List ℕ) → AllByRecursion (λ y. eqb x y ≡ false) xs → has xs x ≡ false
 absent_all x [] a = refl
 absent_all x (y ∷ ys) a = grind (arith, nat_tests, a.0, absent_all x ys a.1)
 

@@ -12,6 +12,7 @@ use Rattle.cw_links.proofs.CallerLemmas.{length-without, length-with_front, list
 use Rattle.cw_links.proofs.Entries.{others_of_first, entries_of_moved, entries_of_spared}
 use Rattle.cw_links.proofs.Moved.{moved, moved_here}
 use Rattle.cw_links.proofs.Rows.{less, has-less_same, less_absent, has-first, absent_tail, Once-append_left, Once-append_right}
+use Rattle.cw_links.proofs.Queueing.{push_zero as zero_more}
 
 -- how many wait
 
@@ -67,12 +68,6 @@ none_at : (els : List ℕ) (ls : List (List ℕ)) (k : ℕ) → k ≡ 0 → list
 none_at els [] k e = refl
 none_at els (xs ∷ ls) zero e = refl
 none_at els (xs ∷ ls) (suc k) e = absurd (omega (arith, e))
-
-zero_more : (els : List ℕ) (k : ℕ) → slice_index (els ++ 0 ∷ []) k ≡ slice_index els k
-zero_more [] zero = refl
-zero_more [] (suc k) = refl
-zero_more (x ∷ els) zero = refl
-zero_more (x ∷ els) (suc k) = zero_more els k
 
 zero_more_in : (els : List ℕ) (xs : List ℕ) → map (slice_index (els ++ 0 ∷ [])) xs ≡ map (slice_index els) xs
 zero_more_in els [] = refl

@@ -24,7 +24,8 @@ use Rattle.cw_parse.specs.DeclarationReading.{storage, flag, specifiers, next_na
 use Rattle.cw_parse.proofs.BothWays.{Reads, reads_bind, reads_then, reads_else, reads_expect}
 use Rattle.cw_parse.proofs.Listed.{Several, not_longer, separated_all, separated_again}
 use Rattle.cw_parse.proofs.DeclarationsSound.{Allowed, more_comma, item_sound}
-use Rattle.cw_parse.proofs.Wording.{one_token, flag_again, first_again, starts_declarator, ends_item, ends_element, item_end, element_end, base_again, starts_base, type_starts}
+use Rattle.cw_parse.proofs.Wording.{flag_again, first_again, starts_declarator, ends_item, ends_element, item_end, element_end, base_again, starts_base, type_starts}
+use Rattle.cw_grammar.proofs.Wording.{one_word as one_token}
 use Rattle.cw_parse.proofs.Wording.{stars_again, stars_start}
 
 -- ---- specifiers

@@ -36,7 +36,7 @@ Allowed ts e = IsExpression nesting_limit ts e
 abbrev TakesStorage : List Lexeme → (Bool × Bool) × List Lexeme → Type 0
 TakesStorage ts x = (a : List Lexeme) × (ts ≡ a ++ x.1) × IsStorage a x.0.0 x.0.1
 
-one : (word : Word) (t : Lexeme) → Is word t → words (t ∷ []) ≡ word ∷ []
+pub one : (word : Word) (t : Lexeme) → Is word t → words (t ∷ []) ≡ word ∷ []
 one word t is = ap (λ (z : Word). z ∷ []) is
 
 storage_by : (ts : List Lexeme) (external fixed : Bool) → begins w.Extern ts ≡ external → begins w.Static ts ≡ fixed
@@ -193,7 +193,7 @@ optional_name_takes (t ∷ ts) = by_test (same t.word w.Name) refl where
   by_test true e = (t ∷ [], refl, (t, refl, same-true t.word w.Name refl e, refl))
   by_test false e = ([], refl, refl)
 
-two : (a b : Word) (t u : Lexeme) → Is a t → Is b u → words (t ∷ u ∷ []) ≡ a ∷ b ∷ []
+pub two : (a b : Word) (t u : Lexeme) → Is a t → Is b u → words (t ∷ u ∷ []) ≡ a ∷ b ∷ []
 two a b t u p q = cc
 
 brackets_sound : (ts : List Lexeme) → IfOk (brackets ts) (Took IsBrackets ts)

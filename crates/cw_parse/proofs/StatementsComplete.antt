@@ -21,7 +21,7 @@ use Rattle.cw_expressions.specs.Cursor.{◌>>=◌, begins, after, first, expect}
 use Rattle.cw_expressions.specs.Reading.{Read as ReadExpression, read_at}
 use Rattle.cw_expressions.specs.Next.{ends, next_expression}
 use Rattle.cw_expressions.proofs.Steps.{begins_again, begins_takes, to_of_cons, to_of_append}
-use Rattle.cw_expressions.proofs.Deeper.{level_above, loosest_expression}
+use Rattle.cw_expressions.proofs.Levels.{level_above, loosest_expression}
 use Rattle.cw_expressions.proofs.Again.{Again}
 use Rattle.cw_expressions.proofs.Complete.{read_again}
 use Rattle.cw_expressions.proofs.Follows.{Starts, starts_some, starts_append, starts_never, starts_expression, derived_starts, StopsAt, stops_all}
@@ -30,7 +30,8 @@ use Rattle.cw_parse.specs.Lists.{Read, Reader, many}
 use Rattle.cw_parse.specs.DeclarationReading.{optional_expression, declaration, starts_declaration}
 use Rattle.cw_parse.proofs.BothWays.{Reads, reads_bind, reads_then, reads_else, reads_of, reads_expect}
 use Rattle.cw_parse.proofs.Listed.{Shortening, many_again}
-use Rattle.cw_parse.proofs.Wording.{one_token, two_tokens, first_again, starts_base, starts_declarator, type_starts}
+use Rattle.cw_parse.proofs.Wording.{first_again, starts_base, starts_declarator, type_starts}
+use Rattle.cw_grammar.proofs.Wording.{one_word as one_token, two_words as two_tokens}
 use Rattle.cw_parse.proofs.DeclarationsComplete.{Deep, three, four, next_reads, optional_again, declaration_again, items_start, between_again}
 use Rattle.cw_parse.proofs.StatementsSound.{read_shortens}
 use Rattle.cw_parse.specs.StatementReading.{condition, ended, declares, declared, evaluated, start, short, returned, end_of, goes_on, block, labelled, chosen, branched, looped, done}

@@ -23,6 +23,7 @@ use Rattle.cw_parse.proofs.Listed.{Shortening, all_more, many_sound}
 use Rattle.cw_parse.proofs.DeclarationsSound.{Allowed, optional_sound, declaration_sound}
 use Rattle.cw_parse.specs.StatementReading.{condition, ended, declares, declared, evaluated, start, short, returned, end_of, goes_on, block, labelled, chosen, branched, looped, done}
 use Rattle.cw_parse.specs.StatementReading.{counted, stated, statement, read_statement}
+use Rattle.cw_parse.proofs.DeclarationsSound.{one, two as pair_words}
 
 -- ---- what is no statement
 
@@ -86,12 +87,6 @@ evaluated_sound ts =
     let to : s.0.to ≡ to_of whole = sym (to_of_append f.0 (s.0 ∷ []) (omega arith)) in
     let ends : IsEnded w.Semicolon Allowed whole e.0 = (f.0, s.0, refl, q.1, f.2) in
     (whole, parts, (some, (from, to, ends), λ n place. (from, to, ends))))))
-
-pair_words : (a b : Word) (t u : Lexeme) → Is a t → Is b u → words (t ∷ u ∷ []) ≡ a ∷ b ∷ []
-pair_words a b t u p q = cc
-
-one : (word : Word) (t : Lexeme) → Is word t → words (t ∷ []) ≡ word ∷ []
-one word t is = ap (λ (z : Word). z ∷ []) is
 
 pub start_sound : (ts : List Lexeme) → IfOk (start ts) (Took (IsInit Allowed) ts)
 unfolding start

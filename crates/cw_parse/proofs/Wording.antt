@@ -16,23 +16,7 @@ use Rattle.cw_expressions.specs.TypeReading.{skip, Based, based, unsigned_base, 
 use Rattle.cw_expressions.proofs.Follows.{Starts}
 use Rattle.cw_expressions.proofs.TypesComplete.{base_is}
 use Rattle.cw_parse.specs.DeclarationReading.{flag}
-
-pub no_tokens : (a : List Lexeme) → words a ≡ [] → a ≡ []
-no_tokens [] e = refl
-no_tokens (t ∷ a) e = absurd (cc)
-
-pub first_token : (a : List Lexeme) (word : Word) (ws : List Word) → words a ≡ word ∷ ws → (t : Lexeme) × (b : List Lexeme) × (a ≡ t ∷ b) × Is word t × (words b ≡ ws)
-first_token [] word ws e = absurd (cc)
-first_token (t ∷ a) word ws e = (t, a, refl, cc, cc)
-
-pub one_token : (a : List Lexeme) (word : Word) → words a ≡ word ∷ [] → (t : Lexeme) × (a ≡ t ∷ []) × Is word t
-one_token a word e = let p = first_token a word [] e in (p.0, p.2 ∙ ap (λ (z : List Lexeme). p.0 ∷ z) (no_tokens p.1 p.4), p.3)
-
-pub two_tokens : (a : List Lexeme) (x y : Word) → words a ≡ x ∷ y ∷ [] → (t : Lexeme) × (u : Lexeme) × (a ≡ t ∷ u ∷ []) × Is x t × Is y u
-two_tokens a x y e =
-    let p = first_token a x (y ∷ []) e in
-    let q = one_token p.1 y p.4 in
-    (p.0, q.0, p.2 ∙ ap (λ (z : List Lexeme). p.0 ∷ z) q.1, p.3, q.2)
+use Rattle.cw_grammar.proofs.Wording.{first_word as first_token, no_words as no_tokens, one_word as one_token, two_words as two_tokens}
 
 pub flag_again : (word : Word) (b : Bool) (a ts : List Lexeme) → IsFlag word a b → ((t : Lexeme) → Is word t → same t.word word ≡ true) → begins word ts ≡ false → flag word (a ++ ts) ≡ (b, ts)
 flag_again word true a ts h yes_word e = let p = one_token a word h in rw (p.1, yes_word p.0 p.2) refl

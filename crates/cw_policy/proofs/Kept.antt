@@ -29,7 +29,8 @@ use Rattle.cw_policy.specs.Rules.{TestText, ExpressionText, RuleText, tested, wr
 use Rattle.cw_policy.specs.Rules.{bad_words, turned, HasTest, HasExpression, HasRule, HaveRules}
 use Rattle.cw_policy.specs.Answer.{at_labels, positions, quantity_fault, policy_with, HasPolicy, SpelledAreValid}
 use Rattle.cw_policy.proofs.Formed.{label_in, formed}
-use Rattle.cw_policy.proofs.Valid.{valid_descriptors, not_twice, labels_named, labels_apart, number_below, limits_within}
+use Rattle.cw_policy.proofs.Valid.{valid_descriptors, not_twice, labels_named, labels_apart, limits_within}
+use Rattle.cw_regex.proofs.Within.{number_below}
 use Rattle.cw_policy.proofs.Whole.{both_none, early_parts, few_descriptors, table_names, count_in}
 
 -- ---- labels only grow

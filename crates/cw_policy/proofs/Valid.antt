@@ -26,6 +26,9 @@ use Rattle.cw_policy.proofs.Rights.{within_both}
 use Rattle.cw_policy.proofs.Whole.{both_none}
 use Rattle.cw_lemmas.proofs.Numbers.{below_or_zero as some_below}
 use Rattle.std.proofs.lemmas.Bool.{or_parts as either_false}
+use Rattle.cw_regex.proofs.Parsing.{same_bytes as same_text}
+use Rattle.cw_regex.proofs.Kept.{apart_kept}
+use Rattle.cw_regex.proofs.Within.{number_below}
 
 -- ---- sets of rights
 
@@ -70,9 +73,6 @@ below_three n l = by (nat_eq n 0) refl (nat_eq n 1) refl
     by true e y f = inl (eqb-true n 0 e)
     by false e true f = inr (inl (eqb-true n 1 f))
     by false e false f = let two : n ≡ 2 = grind (arith, nat_tests) in inr (inr two)
-
-same_text : (w v : List ℕ) → bytes_eq w v ≡ true → w ≡ v
-same_text w v e = (bytes_eq-Decides w v).0 e
 
 other_text : (w v : List ℕ) → bytes_eq w v ≡ false → w ≡ v → ⊥
 other_text w v e s = true≢false (sym ((bytes_eq-Decides w v).1 s) ∙ e)
@@ -132,13 +132,6 @@ name_kept names w a n = by (list_any (bytes_eq w) names)
     by true = a
     by false = All-push (λ w. IsTrue (is_name w)) names w a n
 
-apart_kept : (names : List (List ℕ)) (w : List ℕ) → IsDistinct names → IsDistinct (with_name names w)
-apart_kept names w a = by (list_any (bytes_eq w) names) refl
-  where
-    by : (b : Bool) → list_any (bytes_eq w) names ≡ b → IsDistinct (cond b names (names ++ w ∷ []))
-    by true e = a
-    by false e = one_more names w a e
-
 pub labels_named : (labels : List (List ℕ)) (ds : Items) → AreNames labels → EachItem IsLabelled ds → AreNames (labels_from labels ds)
 labels_named labels no_items a h = a
 labels_named labels (item d ds) a h = labels_named (with_name labels (label_in d)) ds (name_kept labels (label_in d) a h.0) h.1
@@ -148,9 +141,6 @@ labels_apart labels no_items a = a
 labels_apart labels (item d ds) a = labels_apart (with_name labels (label_in d)) ds (apart_kept labels (label_in d) a)
 
 -- ---- limits
-
-pub number_below : (w : List ℕ) (names : List (List ℕ)) → 0 < length names → number_in names w < length names
-number_below w names l = some_below (nat_lt (position_or_len (bytes_eq w) names) (length names)) (position_or_len (bytes_eq w) names) (length names) refl l
 
 not_empty : (w : List ℕ) (names : List (List ℕ)) → is_among names w ≡ true → 0 < length names
 not_empty w [] e = absurd (true≢false (sym e))

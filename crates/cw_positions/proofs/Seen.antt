@@ -49,7 +49,7 @@ get_front [] b i x e = absurd (none-some x e)
 get_front (y ∷ a) b zero x e = e
 get_front (y ∷ a) b (suc i) x e = get_front a b i x e
 
-has_get : {A : Type 0} (g : List A) (p : ℕ) (is : List A) (i : ℕ) (x : A) → HasAt g p is → slice_get is i ≡ Some x → slice_get g (p + i) ≡ Some x
+pub has_get : {A : Type 0} (g : List A) (p : ℕ) (is : List A) (i : ℕ) (x : A) → HasAt g p is → slice_get is i ≡ Some x → slice_get g (p + i) ≡ Some x
 has_get g p [] i x h e = absurd (none-some x e)
 has_get g p (y ∷ is) zero x h e = let z : p ≡ p + 0 = omega arith in subst (λ q. slice_get g q ≡ Some x) z (h.0 ∙ e)
 has_get g p (y ∷ is) (suc i) x h e =

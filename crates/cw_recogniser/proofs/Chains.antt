@@ -7,7 +7,7 @@ use Rattle.cw_grammar.specs.declared.rules.Rule.{Rule}
 use Rattle.cw_grammar.specs.declared.rules.Rule.TheVariants.{Level}
 use Rattle.cw_grammar.specs.Operators as operators
 use Rattle.cw_grammar.specs.Expressions.{node, IsLevel, IsDerived}
-use Rattle.cw_recogniser.proofs.Deeper.{derived_deeper}
+use Rattle.cw_grammar.proofs.Deeper.{derived_deeper}
 
 -- the tokens derive some tree by this rule
 pub record Stands (rule : Rule) (ts : List Lexeme) : Type 0 where

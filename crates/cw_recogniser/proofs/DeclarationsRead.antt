@@ -17,7 +17,8 @@ use Rattle.cw_recogniser.specs.declared.symbols.Symbol.TheVariants as s
 use Rattle.cw_recogniser.specs.Kinds.{kind_of_word}
 use Rattle.cw_recogniser.specs.Machine.{Next, onto, after, expression}
 use Rattle.cw_recogniser.proofs.Accepting.{Accepts, step, skip, pass, instead}
-use Rattle.cw_recogniser.proofs.Heads.{head, head_is, untaken, head_wider, is_end, one_word}
+use Rattle.cw_recogniser.proofs.Heads.{head, head_is, untaken, head_wider, is_end}
+use Rattle.cw_grammar.proofs.Wording.{one_word}
 use Rattle.cw_recogniser.proofs.TypesRead.{EndsType, reads_stars, stars_end, Declares, reads_specifiers}
 use Rattle.cw_recogniser.proofs.ExpressionsRead.{reads}
 

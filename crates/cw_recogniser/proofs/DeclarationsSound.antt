@@ -13,7 +13,7 @@ use Rattle.cw_recogniser.specs.declared.kinds.Kind.TheVariants as k
 use Rattle.cw_recogniser.specs.declared.symbols.Symbol.TheVariants as s
 use Rattle.cw_recogniser.specs.Kinds.{kind_of_word}
 use Rattle.cw_recogniser.specs.Machine.{after, array, initialiser, initial, more_elements, more_items, expression, specifiers, declaration}
-use Rattle.cw_recogniser.proofs.Deeper.{expression_deeper, separated_weaker, array_weaker, initialiser_weaker, item_weaker}
+use Rattle.cw_grammar.proofs.Deeper.{expression_deeper, separated_weaker, array_weaker, initialiser_weaker, item_weaker}
 use Rattle.cw_recogniser.proofs.Chains.{Stands}
 use Rattle.cw_recogniser.proofs.Meanings.{SomeStars, SomeSpecifiers, SomeArray, SomeInitialiser, SomeElements, SomeItem, SomeItems, Means, Follow, Given, split_follow, split_onto, exact}
 use Rattle.cw_recogniser.proofs.TypesSound.{specifiers_sound}

@@ -16,7 +16,7 @@ use Rattle.cw_recogniser.specs.declared.symbols.Symbol.TheVariants as s
 use Rattle.cw_recogniser.specs.Kinds.{kind_of_word}
 use Rattle.cw_recogniser.specs.Machine.{onto, unary, expression, operand, plain_unary, measured, call, texts, suffixes, operator, assignment, more_arguments, type_name, after}
 use Rattle.cw_recogniser.proofs.WordKinds.{is_constant, is_sign, is_step, is_suffix, is_binary, is_assign}
-use Rattle.cw_recogniser.proofs.Deeper.{derived_deeper, expression_deeper, separated_weaker}
+use Rattle.cw_grammar.proofs.Deeper.{derived_deeper, expression_deeper, separated_weaker}
 use Rattle.cw_recogniser.proofs.Chains.{Stands, stands, raise, joined}
 use Rattle.cw_recogniser.proofs.Meanings.{Mark, SomeTypeName, SomeArguments, Means, Given, split_onto, split_either, exact}
 use Rattle.cw_recogniser.proofs.TypesSound.{type_name_sound}

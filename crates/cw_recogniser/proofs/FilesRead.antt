@@ -19,7 +19,8 @@ use Rattle.cw_recogniser.specs.Kinds.{kind_of_word}
 use Rattle.cw_recogniser.specs.Language.{AreOfGrammar}
 use Rattle.cw_recogniser.specs.Machine.{onto, after, feed, qualified, start}
 use Rattle.cw_recogniser.proofs.Accepting.{then_done, accepts, Accepts, takes, step, skip, pass, instead}
-use Rattle.cw_recogniser.proofs.Heads.{head, head_is, untaken, one_word, two_words}
+use Rattle.cw_recogniser.proofs.Heads.{head, head_is, untaken}
+use Rattle.cw_grammar.proofs.Wording.{one_word, two_words}
 use Rattle.cw_recogniser.proofs.TypesRead.{EndsType, reads_stars, stars_end, reads_type_name, Declares as DeclaresSymbol, reads_specifiers}
 use Rattle.cw_recogniser.proofs.DeclarationsRead.{FirstItem, first_of_items, first_ends}
 use Rattle.cw_recogniser.proofs.StatementsRead.{reads_statements, reads_items}

@@ -13,7 +13,7 @@ use Rattle.cw_recogniser.specs.declared.kinds.Kind.TheVariants as k
 use Rattle.cw_recogniser.specs.declared.symbols.Symbol.TheVariants as s
 use Rattle.cw_recogniser.specs.Kinds.{kind_of_word}
 use Rattle.cw_recogniser.specs.Machine.{after, after_declared, specifiers}
-use Rattle.cw_recogniser.proofs.Deeper.{part_deeper, all_weaker}
+use Rattle.cw_grammar.proofs.Deeper.{part_deeper, all_weaker}
 use Rattle.cw_recogniser.proofs.FilesRead.{all_named}
 use Rattle.cw_recogniser.proofs.Meanings.{SomeStars, SomeSpecifiers, SomeArray, SomeInitialiser, SomeItems, SomeParams, SomePart, SomeParts, Ends, Mark, Means, Follow, Given}
 use Rattle.cw_recogniser.proofs.Meanings.{split_follow, split_onto, exact}

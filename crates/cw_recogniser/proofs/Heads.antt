@@ -11,6 +11,7 @@ use Rattle.cw_recogniser.specs.declared.symbols.Symbol.TheVariants as s
 use Rattle.cw_recogniser.specs.Kinds.{kind_of_word}
 use Rattle.cw_recogniser.specs.Machine.{after}
 use Rattle.cw_recogniser.proofs.Accepting.{takes}
+use Rattle.cw_grammar.proofs.Wording.{first_word, no_words, one_word, three_words, two_words}
 
 abbrev pub head : (Kind → Bool) → List Lexeme → Bool
 head p [] = false
@@ -107,29 +108,3 @@ no_text k.Text e = absurd cc
 no_text _ e = refl
 
 -- ---- tokens with these words
-
-pub first_word : (ts : List Lexeme) (x : Word) (xs : List Word) → words ts ≡ x ∷ xs → (t : Lexeme) × (us : List Lexeme) × (ts ≡ t ∷ us) × Is x t × (words us ≡ xs)
-first_word [] x xs e = absurd cc
-first_word (t ∷ us) x xs e = (t, us, refl, (cc), (cc))
-
-pub no_words : (ts : List Lexeme) → words ts ≡ [] → ts ≡ []
-no_words [] e = refl
-no_words (t ∷ ts) e = absurd cc
-
-pub one_word : (ts : List Lexeme) (x : Word) → words ts ≡ x ∷ [] → (t : Lexeme) × (ts ≡ t ∷ []) × Is x t
-one_word [] x e = absurd cc
-one_word (t ∷ []) x e = (t, refl, (cc))
-one_word (t ∷ u ∷ ts) x e = absurd cc
-
-pub two_words : (ts : List Lexeme) (x y : Word) → words ts ≡ x ∷ y ∷ [] → (t : Lexeme) × (u : Lexeme) × (ts ≡ t ∷ u ∷ []) × Is x t × Is y u
-two_words [] x y e = absurd cc
-two_words (t ∷ []) x y e = absurd cc
-two_words (t ∷ u ∷ []) x y e = (t, u, refl, (cc), (cc))
-two_words (t ∷ u ∷ v ∷ ts) x y e = absurd cc
-
-pub three_words : (ts : List Lexeme) (x y z : Word) → words ts ≡ x ∷ y ∷ z ∷ [] → (t : Lexeme) × (u : Lexeme) × (v : Lexeme) × (ts ≡ t ∷ u ∷ v ∷ []) × Is x t × Is y u × Is z v
-three_words [] x y z e = absurd cc
-three_words (t ∷ []) x y z e = absurd cc
-three_words (t ∷ u ∷ []) x y z e = absurd cc
-three_words (t ∷ u ∷ v ∷ []) x y z e = (t, u, v, refl, (cc), (cc), (cc))
-three_words (t ∷ u ∷ v ∷ a ∷ ts) x y z e = absurd cc

@@ -6,7 +6,6 @@ mod ExpressionsRead
 mod DeclarationsRead
 mod StatementsRead
 mod FilesRead
-mod Deeper
 mod Chains
 mod Meanings
 mod TypesSound

@@ -16,7 +16,7 @@ use Rattle.cw_recogniser.specs.declared.kinds.Kind.TheVariants as k
 use Rattle.cw_recogniser.specs.declared.symbols.Symbol.TheVariants as s
 use Rattle.cw_recogniser.specs.Kinds.{kind_of_word}
 use Rattle.cw_recogniser.specs.Machine.{param, params, after_type, after_void, brackets, more_params, ending, type_name}
-use Rattle.cw_recogniser.proofs.Heads.{one_word}
+use Rattle.cw_grammar.proofs.Wording.{one_word}
 use Rattle.cw_recogniser.proofs.FilesRead.{and_assoc, is_named, all_named}
 use Rattle.cw_lemmas.proofs.Truths.{and_true, and_false}
 use Rattle.cw_recogniser.proofs.Meanings.{SomeTypeName, SomeList, SomeParams, Ends, Means, Given, split_onto, exact}

@@ -16,7 +16,8 @@ use Rattle.cw_recogniser.specs.declared.symbols.Symbol.TheVariants as s
 use Rattle.cw_recogniser.specs.Kinds.{kind_of_word}
 use Rattle.cw_recogniser.specs.Machine.{onto, either, after, feed, expression, declaration, statement}
 use Rattle.cw_recogniser.proofs.Accepting.{then_done, accepts, Accepts, takes, step, skip, pass, instead}
-use Rattle.cw_recogniser.proofs.Heads.{head_is, is_end, one_word, two_words}
+use Rattle.cw_recogniser.proofs.Heads.{head_is, is_end}
+use Rattle.cw_grammar.proofs.Wording.{one_word, two_words}
 use Rattle.cw_recogniser.proofs.TypesRead.{Declares}
 use Rattle.cw_recogniser.proofs.ExpressionsRead.{reads}
 use Rattle.cw_recogniser.proofs.DeclarationsRead.{reads_optional, reads_declaration, behind}

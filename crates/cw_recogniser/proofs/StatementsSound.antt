@@ -16,7 +16,7 @@ use Rattle.cw_recogniser.specs.Kinds.{kind_of_word}
 use Rattle.cw_recogniser.specs.Machine.{onto, either, after, expression, assignment, declaration, statement, after_name, maybe_else, for_init}
 use Rattle.cw_recogniser.proofs.Accepting.{takes}
 use Rattle.cw_recogniser.proofs.WordKinds.{is_jump}
-use Rattle.cw_recogniser.proofs.Deeper.{expression_deeper, optional_weaker, init_weaker, declaration_weaker, all_weaker, statement_deeper}
+use Rattle.cw_grammar.proofs.Deeper.{expression_deeper, optional_weaker, init_weaker, declaration_weaker, all_weaker, statement_deeper}
 use Rattle.cw_recogniser.proofs.Chains.{Stands}
 use Rattle.cw_recogniser.proofs.Meanings.{Mark, Allows, OneStatement, SomeStatements, Means, Follow, Given, split_follow, split_onto, split_either, exact}
 use Rattle.cw_recogniser.proofs.ExpressionsSound.{postfix_unary, unary_operand, operand_chain, chain_expression, name_postfix, expression_sound, call_sound, suffixes_sound, assignment_sound}

@@ -16,7 +16,7 @@ use Rattle.cw_recogniser.specs.declared.symbols.Symbol.TheVariants as s
 use Rattle.cw_recogniser.specs.Kinds.{kind_of_word}
 use Rattle.cw_recogniser.specs.Machine.{onto, after, after_unsigned, after_long, qualified, specifiers}
 use Rattle.cw_recogniser.proofs.Accepting.{Accepts, takes, step, skip, instead}
-use Rattle.cw_recogniser.proofs.Heads.{first_word, no_words, one_word, two_words, three_words}
+use Rattle.cw_grammar.proofs.Wording.{first_word, no_words, one_word, two_words, three_words}
 
 -- behind a type
 abbrev pub EndsType : List Lexeme → Type 0

@@ -14,18 +14,10 @@ use Rattle.cw_recogniser.specs.Kinds.{kind_of_word}
 use Rattle.cw_recogniser.specs.Machine.{after_long, after_unsigned, bare_type, qualified, specifiers, type_name, two_stars, one_star}
 use Rattle.cw_recogniser.proofs.WordKinds.{is_storage}
 use Rattle.cw_recogniser.proofs.Meanings.{SomeType, SomeQualified, SomeStars, SomeTypeName, SomeSpecifiers, Means, Given, split_onto, exact}
+use Rattle.cw_grammar.proofs.Wording.{words_one as one, words_three as three, words_two as two}
 
 type_is : (ts : List Lexeme) (ws : List Word) (b : Base) (unsigned : Bool) → words ts ≡ ws → IsAmong (ws, (b, unsigned)) type_words → SomeType ts
 type_is ts ws b unsigned e h = (b, unsigned, subst (λ (z : List Word). IsAmong (z, (b, unsigned)) type_words) (sym e) h)
-
-one : (t : Lexeme) (word : Word) → Is word t → words (t ∷ []) ≡ word ∷ []
-one t word is = ap (λ (z : Word). z ∷ []) is
-
-two : (t u : Lexeme) (x y : Word) → Is x t → Is y u → words (t ∷ u ∷ []) ≡ x ∷ y ∷ []
-two t u x y p q = rw (p, q) refl
-
-three : (t u v : Lexeme) (x y z : Word) → Is x t → Is y u → Is z v → words (t ∷ u ∷ v ∷ []) ≡ x ∷ y ∷ z ∷ []
-three t u v x y z p q r = rw (p, q, r) refl
 
 is_long : (t : Lexeme) → Is w.Long t → SomeType (t ∷ [])
 is_long t is = type_is (t ∷ []) (w.Long ∷ []) base.Long false (one t w.Long is) (inr (inr (inr (inr (inr (inr (inl refl)))))))

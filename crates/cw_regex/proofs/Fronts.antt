@@ -19,6 +19,7 @@ use Rattle.cw_regex.proofs.Cutting.{parts_cut}
 use Rattle.cw_regex.specs.Scans.{ends_word, Apart, May}
 use Rattle.cw_regex.proofs.Running.{after_subject, after, expression_end, run_word, run_expression, run_test, run_close}
 use Rattle.cw_regex.proofs.Parsing.{parsed}
+use Rattle.cw_regex.proofs.Scanned.{apart_before as apart_ends}
 
 abbrev pub At : Type 0
 At = Phase × ℕ
@@ -130,9 +131,6 @@ apart_begins s t e = by (ends_word s)
     by : (b : Bool) → (b && begins_word t) ≡ false
     by true = e
     by false = refl
-
-apart_ends : (s t : List ℕ) → ends_word s ≡ false → Apart s t
-apart_ends s t e = rw e refl
 
 pub ends_append : (s : List ℕ) (b : ℕ) (t : List ℕ) → ends_blank (s ++ b ∷ t) ≡ ends_blank (b ∷ t)
 ends_append [] b t = refl

@@ -31,7 +31,7 @@ others (n ∷ names) w e =
     let other : n ≢ w = λ s. (let y : bytes_eq w n ≡ true = (bytes_eq-Decides w n).1 (sym s) in let z : bytes_eq w n ≡ false = x.0 in absurd (cc)) in
     All-cons (λ v. v ≢ w) n names other (others names w x.1)
 
-apart_kept : (names : List (List ℕ)) (w : List ℕ) → IsDistinct names → IsDistinct (with_name names w)
+pub apart_kept : (names : List (List ℕ)) (w : List ℕ) → IsDistinct names → IsDistinct (with_name names w)
 apart_kept names w a = by (list_any (bytes_eq w) names) refl
   where
     by : (b : Bool) → list_any (bytes_eq w) names ≡ b → IsDistinct (cond b names (names ++ w ∷ []))

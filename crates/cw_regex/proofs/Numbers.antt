@@ -5,12 +5,10 @@ use Rattle.std.specs.Str.{bytes_eq}
 use Rattle.std.proofs.lemmas.Iterator.Adapters.{position_from-zero}
 use Rattle.cw_rights.specs.declared.policy.Descriptor.{Descriptor}
 use Rattle.cw_regex.specs.Meaning.{names_of, number_in}
+use Rattle.cw_rights.proofs.Along.{drop_item}
 
 pub number_is : (names : List (List ℕ)) (w : List ℕ) → number_in names w ≡ unwrap_or (position_from (bytes_eq w) 0 names) 0
 number_is names w = ap (λ o. unwrap_or o 0) (position_from-zero (bytes_eq w) names)
-
-pub drop_item : {A : Type 0} (l : List A) (i : ℕ) (x : A) → i < length l → get_or l i x ≡ x → drop i l ≡ x ∷ drop (i + 1) l
-drop_item l i x lt is = drop-cons l i x lt ∙ ap₂ (λ y z. y ∷ drop z l) is (sym (add-one i))
 
 pub drop_end : {A : Type 0} (l : List A) (n : ℕ) → length l ≤ n → drop n l ≡ []
 drop_end [] zero h = refl

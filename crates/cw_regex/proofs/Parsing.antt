@@ -107,7 +107,7 @@ read_ambient d (mark Bang ∷ rest) h = (ambient, mark Bang ∷ rest, refl, h, r
 read_ambient d (mark Comma ∷ rest) h = (ambient, mark Comma ∷ rest, refl, h, refl)
 read_ambient d (mark Other ∷ rest) h = (ambient, mark Other ∷ rest, refl, h, refl)
 
-same_bytes : (a b : List ℕ) → bytes_eq a b ≡ true → a ≡ b
+pub same_bytes : (a b : List ℕ) → bytes_eq a b ≡ true → a ≡ b
 same_bytes a b e = (bytes_eq-Decides a b).0 e
 
 read_word : (q : Phase) (d : ℕ) (w : List ℕ) (rest : List Part) → is_test_start q ≡ true → Good q d (word w ∷ rest) → SubjectRead d (word w ∷ rest)

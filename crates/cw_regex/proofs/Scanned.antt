@@ -205,7 +205,7 @@ apart_of s c t e a = by (ends_word s) (subst (λ x. (ends_word s && x) ≡ false
     by true h = h
     by false h = refl
 
-apart_before : (s t : List ℕ) → ends_word s ≡ false → Apart s t
+pub apart_before : (s t : List ℕ) → ends_word s ≡ false → Apart s t
 apart_before s t e = rw e refl
 
 pub scan_word : (alone : Bool) (s : List ℕ) (c : ℕ) (w t : List ℕ) (q r : Phase) (d most : ℕ) → Scan alone s ((c ∷ w) ++ t) q d most → list_all is_name_byte (c ∷ w) ≡ true →

@@ -39,7 +39,7 @@ need_within format w = by (right_mask format w) (mask_within format w)
     by None h = omega arith
     by (Some n) h = h
 
-number_below : (w : List ℕ) (names : List (List ℕ)) → 0 < length names → number_in names w < length names
+pub number_below : (w : List ℕ) (names : List (List ℕ)) → 0 < length names → number_in names w < length names
 number_below w names l = some_below (nat_lt (position_or_len (bytes_eq w) names) (length names)) (position_or_len (bytes_eq w) names) (length names) refl l
 
 not_empty : (w : List ℕ) (names : List (List ℕ)) → list_any (bytes_eq w) names ≡ true → 0 < length names

@@ -12,6 +12,7 @@ use Rattle.std.proofs.lemmas.Slice.Eq.{bytes_eq-Decides}
 use Rattle.std.proofs.lemmas.Bool.Decides.{nat_tests}
 use Rattle.cw_core.specs.Numerals.{IsDecimalAt}
 use Rattle.cw_lemmas.proofs.Truths.{truths_same as bool_same}
+use Rattle.cw_core.proofs.Spellings.{decimal_has_digits as all_digits}
 
 digit_test : (n : ℕ) → n < 10 → is_ascii_digit (48 + n) ≡ true
 digit_test n l = grind (arith, nat_tests)
@@ -23,10 +24,6 @@ all_more p (x ∷ ds) d h k = by (p x) refl (λ z. all_more p ds d z k)
     by : (b : Bool) → p x ≡ b → (list_all p ds ≡ true → list_all p (ds ++ d ∷ []) ≡ true) → list_all p (x ∷ ds ++ d ∷ []) ≡ true
     by true e r = rw e (r (rw e at h))
     by false e r = let z : false ≡ true = rw e at h in absurd (cc)
-
-all_digits : (n : ℕ) → n < 2 ^ 64 → list_all is_ascii_digit (decimal n) ≡ true
-all_digits n small = decimal_by_steps (λ n ds. list_all is_ascii_digit ds ≡ true) (λ n l. rw (digit_test n l) refl)
-    (λ n ds l h. let m : n % 10 < 10 = omega arith in all_more is_ascii_digit ds (48 + n % 10) h (digit_test (n % 10) m)) n small
 
 while_all : (p : ℕ → Bool) (xs : List ℕ) → list_all p xs ≡ true → take_while p xs ≡ xs
 while_all p [] h = refl

@@ -38,10 +38,7 @@ use Rattle.cw_lemmas.proofs.Options.{option_map_some as mapped}
 use Rattle.cw_run.proofs.Calls.{call_here, called_memory, end_here}
 use Rattle.cw_run.proofs.Refusals.{refusal_step, asked_here}
 use Rattle.std.proofs.lemmas.Bool.{or_from as no_or}
-
-steady : (phase : Phase) → is_refused phase ≡ false → standing phase ≡ phase
-steady (Refused i a later) e = cc
-steady _ e = refl
+use Rattle.cw_game.proofs.Linking.{steady}
 
 none_mapped : {A B : Type 0} (f : A → B) (o : Option A) → option_map f o ≡ None → o ≡ None
 none_mapped f None e = refl

@@ -17,7 +17,7 @@ abbrev Clear : List Placed → Type 0
 Clear [] = Unit {0}
 Clear (p ∷ ps) = (loose_jump p.looped p.statement ≡ None) × Clear ps
 
-neither : (a b : Option ℕ) → sooner a b ≡ None → (a ≡ None) × (b ≡ None)
+pub neither : (a b : Option ℕ) → sooner a b ≡ None → (a ≡ None) × (b ≡ None)
 neither None b e = (refl, e)
 neither (Some a) None e = absurd (cc)
 neither (Some a) (Some b) e = absurd (cc)

@@ -25,6 +25,7 @@ use Rattle.cw_grammar.specs.declared.words.Word.{Word}
 use Rattle.cw_grammar.specs.declared.words.Word.TheVariants as w
 use Rattle.cw_grammar.specs.declared.words.Lexeme.{Lexeme}
 use Rattle.cw_grammar.specs.Spelling.{Spellings, keywords, long_punctuators, short_punctuators, spelled, punctuator, word_of, lexemes_of}
+use Rattle.cw_lex.proofs.Each.{slice_long}
 
 -- the word of names
 abbrev is_name_word : Word → Bool
@@ -133,12 +134,6 @@ name_named (b ∷ bs) e =
 abbrev pub EachNamed : List ℕ → List Lexeme → Type 0
 EachNamed source [] = Unit {0}
 EachNamed source (t ∷ ts) = (t.word ≡ w.Name → IsTrue (is_name (slice source t.from t.to))) × EachNamed source ts
-
-slice_long : (source : List ℕ) (t : Token) → IsTokenOf source t → length (slice source t.from t.to) ≡ t.to - t.from
-slice_long source t h =
-    let some = h.some in
-    let within = h.within in
-    omega (arith, length-take (t.to - t.from) (drop t.from source), length-drop t.from source)
 
 token_named : (source : List ℕ) (t : Token) → IsTokenOf source t → t.kind ≡ kind.Name → IsTrue (is_name (slice source t.from t.to))
 token_named source t h is =

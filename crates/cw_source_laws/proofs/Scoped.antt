@@ -22,6 +22,7 @@ use Rattle.cw_scope.specs.Rules.{sooner, least, at_if, is_main, main_call}
 use Rattle.cw_scope.specs.Faults.{no_main, two_functions, two_labels, arity, call_form, main_called, reserved_name, jump, limit, ◌or_else◌, scope_fault}
 use Rattle.cw_positions.specs.Opens.{EachStands, EachStandsIn, EachStandsArm, EachStandsAll, EachStandsFrom}
 use Rattle.cw_positions.proofs.Fitting.{ActFits}
+use Rattle.cw_source.proofs.Landing.{neither}
 
 -- the rule on `main` is kept where all are
 first_kept : (a b : Option ScopeFault) → a or_else b ≡ None → a ≡ None
@@ -50,11 +51,6 @@ main_kept source file kept =
     (sixth_kept (no_main source file) (two_functions source file) (two_labels source file) (arity source file (every_node file))
     (call_form source file (uses file) (every_whole file)) (main_called source (every_node file)) (reserved_name source (every_name file)) (jump (every_statement file))
     (limit source file (every_label file)) kept)
-
-neither : (a b : Option ℕ) → sooner a b ≡ None → (a ≡ None) × (b ≡ None)
-neither None b e = (refl, e)
-neither (Some a) None e = absurd (cc)
-neither (Some a) (Some b) e = absurd (cc)
 
 module _ (source : List ℕ) where
   -- none of these calls `main`

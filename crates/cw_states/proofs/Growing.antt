@@ -24,11 +24,7 @@ use Rattle.cw_states.specs.Rights.{IsRightsState, at_start, by_enter, by_limit, 
 use Rattle.cw_fixpoint.proofs.Members.{contains_first}
 use Rattle.cw_lemmas.proofs.Lists.{contains_none, contains_one}
 use Rattle.cw_states.specs.Growing.{ranked, all_caps, after_limit, after_limits, after_open, is_true, is_closed, after_close, after_held, after}
-
-yes_is : (a : Allowed) → is_yes a ≡ true → a ≡ Yes
-yes_is Yes e = refl
-yes_is NotCapable e = cc
-yes_is BadDescriptor e = cc
+use Rattle.cw_states.proofs.Meaning.{yes_is}
 
 true_is : (o : Option Bool) → is_true o ≡ true → o ≡ Some true
 true_is None e = cc

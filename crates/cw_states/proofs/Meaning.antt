@@ -35,7 +35,7 @@ use Rattle.cw_states.proofs.Letters.{letter_below}
 use Rattle.cw_states.proofs.Narrow.{limit_of}
 use Rattle.cw_states.proofs.Places.{caps_found, number_found}
 
-yes_is : (a : Allowed) → is_yes a ≡ true → a ≡ Yes
+pub yes_is : (a : Allowed) → is_yes a ≡ true → a ≡ Yes
 yes_is Yes e = refl
 yes_is NotCapable e = cc
 yes_is BadDescriptor e = cc

@@ -23,7 +23,7 @@ unfolding row_count
 row_count-append [] r = omega arith
 row_count-append (x ∷ rows) r = let e = row_count-append rows r in omega (arith, e)
 
-some_rows : (how : How) → 1 ≤ rows_in how
+pub some_rows : (how : How) → 1 ≤ rows_in how
 some_rows Bad = omega arith
 some_rows Out = omega arith
 some_rows (Both skip tried) = omega arith

@@ -61,7 +61,7 @@ settles (After at ∷ rest) = rests (After at ∷ rest) (λ x. x)
 settles (Mark ∷ rest) = rewritten (Mark ∷ rest) rest (settle rest) (a_mark rest) (settles rest)
 settles (End f ∷ rest) = rests (End f ∷ rest) (λ x. x)
 
-settle_all : (ss : Stms) (rest : Frame) → opened_all ss rest (settle rest) ≡ settle (items_of ss rest)
+pub settle_all : (ss : Stms) (rest : Frame) → opened_all ss rest (settle rest) ≡ settle (items_of ss rest)
 settle_all end rest = refl
 settle_all (then s ss) rest = ap (opened s (items_of ss rest)) (settle_all ss rest)
 

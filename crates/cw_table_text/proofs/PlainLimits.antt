@@ -24,7 +24,7 @@ digit_free name (suc zero) lt e = subst (IsFree 10) (sym e) (free_from_test (λ 
 digit_free name (suc (suc zero)) lt e = subst (IsFree 10) (sym e) (free_from_test (λ b. ltb 44 b) 10 (50 ∷ []) refl refl)
 digit_free name (suc (suc (suc n))) lt e = absurd (omega (arith, lt))
 
-start_passes : (b : ℕ) → is_name_start b ≡ true → is_name_byte b ≡ true
+pub start_passes : (b : ℕ) → is_name_start b ≡ true → is_name_byte b ≡ true
 start_passes b e = rw e refl
 
 letters_free : (name : List ℕ) → is_name name ≡ true → IsFree 10 name

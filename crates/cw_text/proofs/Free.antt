@@ -15,6 +15,7 @@ use Rattle.cw_core.proofs.Spellings.{decimal_has_digits, set_within}
 use Rattle.cw_text.specs.Lines.{IsFree, joined, set_text, IsSetIn}
 use Rattle.cw_lemmas.proofs.Lists.{all_taken as passing}
 use Rattle.std.proofs.lemmas.Bool.{and_parts as both_pass}
+use Rattle.cw_core.proofs.SetTexts.{digits_spell, letters}
 
 -- bytes that pass a test are free of a mark that doesn't
 pub free_from_test : (p : ℕ → Bool) (mark : ℕ) (bytes : List ℕ) → p mark ≡ false → list_all p bytes ≡ true → IsFree mark bytes
@@ -61,26 +62,6 @@ no_line mark text (x ∷ a) rest free e = no_line mark (a ++ (mark ∷ rest)) a 
 
 pub decimal_free : (mark n : ℕ) → is_ascii_digit mark ≡ false → n < 2 ^ 64 → IsFree mark (decimal n)
 decimal_free mark n differs small = free_from_test is_ascii_digit mark (decimal n) differs (decimal_has_digits n small)
-
-letters : (b : ℕ) → is_hexadecimal_digit b ≡ true → is_spelling_byte b ≡ true
-letters b e = by_digit (is_ascii_digit b) refl
-  where
-    by_digit : (t : Bool) → is_ascii_digit b ≡ t → is_spelling_byte b ≡ true
-    by_digit true f = rw f refl
-    by_digit false f =
-        let letter : is_in_range 97 102 b ≡ true = rw f at e in
-        let q = both_pass (leb 97 b) (leb b 102) letter in
-        let low = leb-true 97 b q.0 in
-        let high = leb-true b 102 q.1 in
-        rw (f, le-leb 97 b low, le-leb b 122 (omega (arith, high))) (or_true (is_in_range 65 90 b))
-      where
-        or_true : (t : Bool) → ((t || true) || eqb b 43 || eqb b 45) ≡ true
-        or_true true = refl
-        or_true false = refl
-
-digits_spell : (ds : List ℕ) → list_all is_hexadecimal_digit ds ≡ true → list_all is_spelling_byte ds ≡ true
-digits_spell [] all = refl
-digits_spell (d ∷ ds) all = let q = both_pass (is_hexadecimal_digit d) (list_all is_hexadecimal_digit ds) all in rw (letters d q.0, digits_spell ds q.1) refl
 
 mask_bytes : (set : ℕ) → IsBelow 1024 set → list_all is_spelling_byte (hexadecimal set) ≡ true
 unfolding hexadecimal

@@ -13,6 +13,7 @@ use Rattle.cw_wcheck.specs.declared.fault.BadRow.{BadRow}
 use Rattle.cw_wcheck.specs.Checking.{table_of, told}
 use Rattle.cw_wcheck.specs.Working.{MeanStates}
 use Rattle.cw_lemmas.proofs.Truths.{and_first as first_part, and_second as second_part}
+use Rattle.cw_game.proofs.Goods.{all_in as none_in}
 
 pub map_or : {A B : Type 0} (f : A → B) (o p : Option A) → option_map f (option_or o p) ≡ option_or (option_map f o) (option_map f p)
 map_or f None p = refl
@@ -91,17 +92,6 @@ none_first xs ys h = (none_or (first_failing xs) (first_failing ys) (sym (first_
 
 none_later : {A : Type 0} (xs ys : List (A × Bool)) → first_failing (xs ++ ys) ≡ None → first_failing ys ≡ None
 none_later xs ys h = (none_or (first_failing xs) (first_failing ys) (sym (first_append xs ys) ∙ h)).1
-
-none_in : {A : Type 0} (part : Part) (test : A → Bool) (n : ℕ) (rows : List A) → first_failing (map (λ r. (fault_at part r.0 1, test r.1)) (enumerate_from n rows)) ≡ None → list_all test rows ≡ true
-none_in part test n [] h = refl
-none_in part test n (r ∷ rows) h = by (test r) refl h (none_in part test (n + 1) rows)
-  where
-    later : Option TableFault
-    later = first_failing (map (λ r. (fault_at part r.0 1, test r.1)) (enumerate_from (n + 1) rows))
-
-    by : (b : Bool) → test r ≡ b → cond b later (Some (fault_at part n 1)) ≡ None → (later ≡ None → list_all test rows ≡ true) → (test r && list_all test rows) ≡ true
-    by true e k rec = ap₂ (λ x y. x && y) e (rec k)
-    by false e k rec = cc
 
 -- the memories and the live rows are in range
 pub in_range_all : (g : Game) (t : Table) → first_failing (ranges g t) ≡ None → (list_all (is_mem_row g) t.mems ≡ true) × (list_all (is_live_row g t) t.live ≡ true)

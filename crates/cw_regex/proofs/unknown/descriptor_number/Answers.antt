@@ -1,7 +1,8 @@
 use Rattle.std.proofs.Common.{rules, ◌≡◌, ◌<◌, ◌≤◌, ◌+◌, true, length, drop, get_or, sym, ◌∙◌}
 use Rattle.std.specs.Str.{bytes_eq}
 use Rattle.cw_regex.specs.Meaning.{names_of}
-use Rattle.cw_regex.proofs.Numbers.{number_is, drop_item, drop_end, found_here, found_none}
+use Rattle.cw_regex.proofs.Numbers.{number_is, drop_end, found_here, found_none}
+use Rattle.cw_rights.proofs.Along.{drop_item}
 use Rattle.cw_regex.proofs.unknown.descriptor_number.Goals as goal
 
 pub returns-then-eq : goal.returns-then-eq
