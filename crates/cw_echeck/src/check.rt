@@ -192,8 +192,8 @@ fn first_bad_row(game: &Game, cert: &EnvCert) -> Option<BadEnvRow>
     None
 }
 
-// Whether a row stands at the start with an empty aim.
-fn is_start(game: &Game, row: &EnvRow) -> bool
+/// Whether a row stands at the game's start with an empty aim.
+pub fn is_start(game: &Game, row: &EnvRow) -> bool
     ensures { result ≡ is_start (game_of game.now) (row_of row.now) }
 {
     let (pos, state) = game.start();

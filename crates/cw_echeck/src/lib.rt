@@ -6,4 +6,4 @@ mod named;
 mod sets;
 pub mod strategies;
 
-pub use check::{BadEnvRow, check_env};
+pub use check::{BadEnvRow, check_env, is_start};

@@ -5,8 +5,9 @@ ghost use Rattle.std.specs.FinMap.{IsAntisymmetric};
 ghost use Rattle.std.specs.List.{Contains};
 ghost use Rattle.std.specs.List.Sorted.{IsStrictlySortedBy};
 ghost use Rattle.cw_fixpoint.specs.Closures.{Reached, Exactly, AtMost, HasMore};
-ghost use Rattle.cw_fixpoint.specs.Seen.{SeenIs, Adds, Searched};
+ghost use Rattle.cw_fixpoint.specs.Seen.{SeenIs, Searched};
 
+use crate::sees::{in_order, see_all};
 use crate::steps::Steps;
 use std::alloc::{AllocError, Global};
 use std::collections::BTreeSet;
@@ -84,45 +85,4 @@ fn search<K: Ord + Copy + Drop, S: Steps<K>>(
         at += 1;
     }
     Ok(())
-}
-
-/// Sees keys, each where it is new.
-fn see_all<K: Ord + Copy + Drop>(
-    seen: &mut Vec<K>,
-    set: &mut BTreeSet<K>,
-    keys: &[K],
-) -> Result<(), AllocError>
-    requires exact { IsAntisymmetric K.cmp }
-    requires seen { SeenIs K.cmp seen.old.items set.old.keys }
-    ensures more { OnOk result (Adds seen.old.items seen.new.items keys.now) }
-    ensures same { OnOk result (SeenIs K.cmp seen.new.items set.new.keys) }
-{
-    for key in keys {
-        see(seen, set, *key)?;
-    }
-    Ok(())
-}
-
-/// Sees a key, where it is new.
-fn see<K: Ord + Copy + Drop>(
-    seen: &mut Vec<K>,
-    set: &mut BTreeSet<K>,
-    key: K,
-) -> Result<(), AllocError>
-    requires exact { IsAntisymmetric K.cmp }
-    requires seen { SeenIs K.cmp seen.old.items set.old.keys }
-    ensures more { OnOk result (Adds seen.old.items seen.new.items (key ∷ [])) }
-    ensures same { OnOk result (SeenIs K.cmp seen.new.items set.new.keys) }
-{
-    if set.insert(key)? {
-        seen.push(key)?;
-    }
-    Ok(())
-}
-
-fn in_order<K: Ord + Copy + Drop>(alloc: Global, set: BTreeSet<K>) -> Result<Vec<K>, AllocError>
-    ensures items { IfOk result (λ v. v.items ≡ set.keys) }
-    ensures order { IfOk result (λ v. IsStrictlySortedBy K.cmp v.items) }
-{
-    set.into_iter().collect(alloc)
 }
