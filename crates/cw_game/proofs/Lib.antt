@@ -8,6 +8,7 @@ pub mod Holding
 pub mod Necessity
 pub mod Standing
 pub mod Linking
+pub mod Together
 pub mod Truths
 pub mod Failing
 pub mod Goods

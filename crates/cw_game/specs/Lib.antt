@@ -6,4 +6,6 @@ pub mod Closed
 pub mod Conditions
 pub mod Necessity
 pub mod Standing
+pub mod Linked
 pub mod Laws
+pub mod Together

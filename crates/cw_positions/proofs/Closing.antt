@@ -39,7 +39,7 @@ module _ (size functions : ℕ) where
   ClosedFrom p [] = Unit {0}
   ClosedFrom p (s ∷ ss) = LeadsWithin size functions p s × ClosedFrom (p + 1) ss
 
-  closed_at : (p : ℕ) (ss : List Spot) (i : ℕ) (s : Spot) → ClosedFrom p ss → slice_get ss i ≡ Some s → LeadsWithin size functions (p + i) s
+  pub closed_at : (p : ℕ) (ss : List Spot) (i : ℕ) (s : Spot) → ClosedFrom p ss → slice_get ss i ≡ Some s → LeadsWithin size functions (p + i) s
   closed_at p [] i s h e = absurd (none-some s e)
   closed_at p (t ∷ ss) zero s h e =
       subst (λ q. LeadsWithin size functions q s) (sym (add-zero p)) (subst (LeadsWithin size functions p) (same_Some t s e) h.0)
@@ -103,7 +103,7 @@ module _ (size functions : ℕ) where
     call_closed false p j f l s h e k = (h, tt)
 
     -- the positions of a point, where it leads to positions that there are
-    point_closed : (w : Point) (f j l r p : ℕ) → CallsWithin functions w → l < size → r < size → p + width policy parts w ≤ size
+    pub point_closed : (w : Point) (f j l r p : ℕ) → CallsWithin functions w → l < size → r < size → p + width policy parts w ≤ size
         → ClosedFrom p (visits j 0 (primitives_at policy parts w) ++ free parts w f j l r)
     point_closed point.Entry f j l r p c hl hr h =
         visits_closed j 0 (primitives policy false) (free parts point.Entry f j l r) p (primitives_room policy false 1 refl) (omega arith) (hl, tt)

@@ -14,3 +14,4 @@ pub mod Bounding
 pub mod Seaming
 pub mod Seen
 pub mod Opening
+pub mod Items

@@ -4,3 +4,4 @@ pub mod Laid
 pub mod Origins
 pub mod Seams
 pub mod Opens
+pub mod Items

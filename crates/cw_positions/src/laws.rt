@@ -1,6 +1,7 @@
 //! What holds of the positions of each program.
 
 ghost use Rattle.cw_positions.specs.Closed.{PositionsAreClosed, GraphsAreWhole, MainIsThere};
+ghost use Rattle.cw_positions.specs.Items.{ItemsStandAtPositions, SpotsLead};
 ghost use Rattle.cw_positions.specs.Laid.{ProgramsAreLaidOut, GamesHaveRoutines};
 ghost use Rattle.cw_positions.specs.Opens.{ProgramsOpenVariables};
 ghost use Rattle.cw_positions.specs.Origins.{PositionsAreOfPoints, PointsAreWithin};
@@ -45,4 +46,17 @@ pub fn seams_are_seen()
 /// and no number: a digit begins no C name.
 pub fn programs_open_variables()
     ensures variables { ProgramsOpenVariables }
+{}
+
+/// What stands at a position leads as its point does: a visit within the point, all else to the first position of a point that is next.
+#[tactic(auto, using(crate::proofs::Items::spot_at_point))]
+pub fn spots_lead()
+    ensures spots { SpotsLead }
+{}
+
+/// At each position of a program's game stands one item of the program, and it is the front of each board that goes together with a pair
+/// at that position: so a position tells which statement is to be passed.
+#[tactic(auto, using(crate::proofs::Items::items_stand))]
+pub fn items_stand_at_positions()
+    ensures items { ItemsStandAtPositions }
 {}

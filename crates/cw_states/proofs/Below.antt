@@ -26,17 +26,17 @@ left_positive zero n q l = let z : 0 * n ≡ 0 = zero-mul n in absurd (omega (ar
 left_positive (suc m) n q l = omega arith
 
 module _ (v : Lists) where
-  pair_below : (i j : ℕ) → i < length v.sets → j < length v.rights → pair v i j < count v
+  pub pair_below : (i j : ℕ) → i < length v.sets → j < length v.rights → pair v i j < count v
   pair_below i j l r = subst (λ n. pair v i j < n) (mul_comm (length v.rights) (length v.sets)) (mul-add-lt i (length v.rights) j (length v.sets) l r)
 
   module _ (q : ℕ) (l : q < count v) where
     rights_there : 0 < length v.rights
     rights_there = right_positive (length v.sets) (length v.rights) q l
 
-    row_below : q / length v.rights < length v.sets
+    pub row_below : q / length v.rights < length v.sets
     row_below = div_below q (length v.rights) (length v.sets) rights_there l
 
-    column_below : q % length v.rights < length v.rights
+    pub column_below : q % length v.rights < length v.rights
     column_below = mod_below q (length v.rights) rights_there
 
     caps_below : (c : Caps) → caps_place v c < length v.rights

@@ -10,3 +10,4 @@ pub mod Ordered
 pub mod Places
 pub mod Rowed
 pub mod Tabled
+pub mod Told

@@ -46,7 +46,7 @@ module _ (rules : List PlainRule) (letters : List Letter) where
   nothing_kept : KeepsRules rules letters []
   nothing_kept = record { over = All-nil (Contains letters); fronts = λ m rule b. b.0 (take_all m [] (omega arith)) }
 
-  longer : (w : Word) (c : Letter) → KeepsRules rules letters w → Contains letters c → ((rule : ℕ) → Breaks rules (w ++ c ∷ []) rule → ⊥)
+  pub longer : (w : Word) (c : Letter) → KeepsRules rules letters w → Contains letters c → ((rule : ℕ) → Breaks rules (w ++ c ∷ []) rule → ⊥)
       → KeepsRules rules letters (w ++ c ∷ [])
   longer w c k l n = record { over = All-push (Contains letters) w c k.over l; fronts = λ m rule b. front m rule b (nat_lt (length w) m) refl }
     where
@@ -64,11 +64,11 @@ module _ (rules : List PlainRule) (word : Word) where
   abbrev Bad : Type 0
   Bad = (i : ℕ) × Breaks rules word i
 
-  verdict_bad : (o : Option ℕ) → IsVerdict rules word o → is_some o ≡ true → Bad
+  pub verdict_bad : (o : Option ℕ) → IsVerdict rules word o → is_some o ≡ true → Bad
   verdict_bad None v e = cc
   verdict_bad (Some i) v e = (i, v.0)
 
-  bad_verdict : (o : Option ℕ) → IsVerdict rules word o → Bad → is_some o ≡ true
+  pub bad_verdict : (o : Option ℕ) → IsVerdict rules word o → Bad → is_some o ≡ true
   bad_verdict None v b = absurd (v b.0 b.1)
   bad_verdict (Some i) v b = refl
 
@@ -101,10 +101,10 @@ module _ (uses : Uses) (v : Lists) (are : AreLists uses v) where
     caps_is =
         ap (λ j. get_or v.rights j (start_caps v.policy)) column_is ∙ (caps_found v.rights c ((are.rights.1 c).1 m.held)).1 (start_caps v.policy)
 
-    set_is : set_at v q ≡ m.set
+    pub set_is : set_at v q ≡ m.set
     set_is = ap (λ i. slice_index v.sets i) row_is ∙ (number_found v.sets m.set (in_sets w m.set m.keeps m.is_set)).1 0
 
-    below : q < count v
+    pub below : q < count v
     below = subst (λ p. p < count v) (sym m.is)
         (subst (λ n. pair v (set_place v m.set) (caps_place v c) < n) (mul_comm (length v.rights) (length v.sets))
         (mul-add-lt (set_place v m.set) (length v.rights) (caps_place v c) (length v.sets)
@@ -138,19 +138,19 @@ module _ (uses : Uses) (v : Lists) (are : AreLists uses v) where
 
   -- ---- the calls
 
-  applied_is : (c : Caps) (a : Primitive) → Contains (primitives v.policy true) a → may_grant c a ≡ true → Is c → Is (applied c a)
+  pub applied_is : (c : Caps) (a : Primitive) → Contains (primitives v.policy true) a → may_grant c a ≡ true → Is c → Is (applied c a)
   applied_is c (Limit limit) there e is = by_limit c limit (limit_of v.policy limit there) (yes_is (allowed c limit) e) is
   applied_is c Enter there e is = by_enter c is
   applied_is c Split there e is = is
 
-  begins : Means uses v (states_of v).start [] (start_caps v.policy)
+  pub begins : Means uses v (states_of v).start [] (start_caps v.policy)
   begins = record { keeps = nothing_kept rules letters; set = 1; is_set = start_set rules; held = at_start; is = refl }
 
   pub start_below : (states_of v).start < count v
   start_below = below (states_of v).start [] (start_caps v.policy) begins
 
   module _ (spots : List Spot) (have : Have v.policy uses spots) where
-    opened_is : (c : Caps) (d : ℕ) → IsOpenedIn spots d → Is c → Is (with_opened c d (slice_get v.policy.descriptors d))
+    pub opened_is : (c : Caps) (d : ℕ) → IsOpenedIn spots d → Is c → Is (with_opened c d (slice_get v.policy.descriptors d))
     opened_is c d o is =
         let x = have.opens d o in
         subst Is (ap (with_opened c d) (sym x.1.0)) (by_open c d x.0 x.1 is)

@@ -8,3 +8,4 @@ pub mod Rights
 pub mod Spots
 pub mod States
 pub mod Tables
+pub mod Told
