@@ -1,6 +1,6 @@
 -- The first name whose function may not be split, by the effects of a source's functions.
 use Rattle.std.proofs.Common.{◌≡◌, ◌≢◌, ◌<◌, ◌+◌, ℕ, zero, suc, List, [], ◌∷◌, map, length, get_or, Option, None, Some, refl, sym, ap, ◌∙◌, subst, arith}
-use Rattle.std.specs.Prelude.{slice_get}
+use Rattle.std.specs.Prelude.{slice_get, IfNone}
 use Rattle.std.specs.List.{All}
 use Rattle.std.specs.Str.{bytes_eq}
 use Rattle.std.proofs.lemmas.Option.{none-some, same_Some}
@@ -28,9 +28,10 @@ none_later : (o : Option ℕ) (i : ℕ) (later : Option (ℕ × ℕ)) → or_lat
 none_later None i later e = e
 none_later (Some p) i later e = let z : Some (i, p) ≡ None = e in absurd (cc)
 
-pub isnt_some : (o : Option ℕ) → ((n : ℕ) → o ≢ Some n) → o ≡ None
-isnt_some None h = refl
-isnt_some (Some n) h = absurd (h n refl)
+-- what holds where there is none
+pub at_none : {A : Type 0} (o : Option A) (P : Type 0) → ((n : A) → o ≢ Some n) → IfNone o P → P
+at_none None P h p = p
+at_none (Some n) P h p = absurd (h n refl)
 
 -- the places of effects, where there are so many
 at_entry : (effects : List Effect) (f : ℕ) → f < length effects → (e : Effect) × (slice_get effects f ≡ Some e) × (e.forbids ≡ at (map (λ e. e.forbids) effects) f)

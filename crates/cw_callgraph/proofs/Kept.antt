@@ -13,7 +13,7 @@ use Rattle.cw_callgraph.specs.declared.found.Found.{Found}
 use Rattle.cw_callgraph.specs.Finding.{has, with_one, with_all, IsFound, Finds, AreBelow}
 use Rattle.cw_callgraph.specs.Effects.{firsts}
 use Rattle.cw_lemmas.proofs.Truths.{and_false, and_true, or_false}
-use Rattle.std.proofs.lemmas.Bool.{or_left, or_right}
+use Rattle.std.proofs.lemmas.Bool.{or_right}
 
 or_assoc : (a b c : Bool) → ((a || b) || c) ≡ (a || (b || c))
 or_assoc true b c = refl

@@ -2,10 +2,12 @@
 pub mod Kept
 pub mod Calling
 mod Reaching
+mod Walked
 pub mod Rows
 mod Lesser
 mod Least
 mod Nodes
 mod Barred
 pub mod Labelled
-mod Unsplit
+mod Parted
+mod Forbidden

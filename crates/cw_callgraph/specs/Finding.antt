@@ -1,9 +1,9 @@
 -- Working definitions: numbers that are found one after the other, each kept once; and what is reached along the rows of a
 -- table.
-use Rattle.std.specs.Prelude.{◌≡◌, ◌<◌, ◌==◌, ℕ, List, [], ◌∷◌, ◌++◌, Bool, true, false, cond, length, map, Vec, Option, slice_index_or}
+use Rattle.std.specs.Prelude.{◌≡◌, ◌<◌, ◌≤◌, ◌==◌, ℕ, List, [], ◌∷◌, ◌++◌, Bool, true, false, cond, length, map, Vec, Option, slice_index_or}
 use Rattle.std.specs.List.{Contains, list_any, IsDistinct}
-use Rattle.std.specs.Ordering.{nat_cmp}
-use Rattle.cw_fixpoint.specs.Closures.{Exactly, Reached}
+use Rattle.std.specs.List.Sorted.{IsStrictlyIncreasing}
+use Rattle.cw_fixpoint.specs.Closures.{Reached}
 use Rattle.std.specs.declared.alloc.Global.{Global}
 use Rattle.cw_syntax.specs.declared.program.Function.{Function}
 use Rattle.cw_syntax.specs.Plans.{Scene}
@@ -44,13 +44,20 @@ lists_of rows = map (λ row. row.items) rows
 abbrev pub next_in : List (Vec ℕ Global) → ℕ → List ℕ
 next_in rows f = slice_index_or (lists_of rows) f []
 
--- f has a row, and every row has numbers of rows alone
-abbrev pub IsRow : List (Vec ℕ Global) → ℕ → Type 0
-IsRow rows f = (f < length rows) × ((h g : ℕ) → Contains (next_in rows h) g → g < length rows)
+-- just what f leads to
+abbrev pub AreReached : (ℕ → List ℕ) → ℕ → List ℕ → Type 0
+AreReached next f numbers = (g : ℕ) → (Contains numbers g → Reached next (next f) g) × (Reached next (next f) g → Contains numbers g)
+
+-- a walk from f came to these numbers, and went on from the first i of them
+pub record IsWalked (next : ℕ → List ℕ) (f : ℕ) (found : List ℕ) (i : ℕ) : Type 0 where
+  pub needed : (g : ℕ) → Contains found g → Reached next (next f) g
+  pub begins : (g : ℕ) → Contains (next f) g → Contains found g
+  pub closed : (j : ℕ) → j < i → (g : ℕ) → Contains (next (slice_index_or found j 0)) g → Contains found g
+  pub far : i ≤ length found
 
 -- ascending, each once, and just what f leads to
 abbrev pub IsReach : (ℕ → List ℕ) → ℕ → List ℕ → Type 0
-IsReach next f reach = Exactly nat_cmp (Reached next (next f)) reach
+IsReach next f reach = IsStrictlyIncreasing reach × AreReached next f reach
 
 -- what a function calls, by its statements
 abbrev pub direct : Scene → Function → List ℕ

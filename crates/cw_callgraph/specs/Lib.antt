@@ -8,3 +8,4 @@ pub mod Fitting
 pub mod Lowest
 pub mod Walking
 pub mod Barring
+pub mod Parts

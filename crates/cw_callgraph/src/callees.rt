@@ -10,8 +10,8 @@ ghost use Rattle.cw_callgraph.specs.Effects.{callees, callees_all};
 ghost use Rattle.cw_callgraph.specs.Finding.{IsFound, Finds, AreBelow, lists_of, direct};
 
 use crate::found::{Found, find, nothing};
-use cw_resolve::{Act, action_of};
 use cw_core::NoMemory;
+use cw_resolve::{Act, action_of};
 use cw_rights::Policy;
 use cw_syntax::checked::Checked;
 use cw_syntax::program::{Expr, Function, Stmt, What};

@@ -1,17 +1,19 @@
 //! Whether a policy fits a source.
 
-ghost use Rattle.std.specs.Prelude.{◌≡◌, ◌≤◌, length, map, IfOk, IfErr, IfNone, IfSome};
+ghost use Rattle.std.specs.Prelude.{◌≡◌, ◌≤◌, None, length, map, IfOk, IfErr, IfNone, IfSome};
+ghost use Rattle.std.specs.List.{All};
 ghost use Rattle.cw_syntax.specs.Plans.{function_names};
 ghost use Rattle.cw_syntax.specs.Trees.{file_of};
 ghost use Rattle.cw_rights.specs.Policies.{policy_of};
+ghost use Rattle.cw_resolve.specs.Scenes.{names_of};
 ghost use Rattle.cw_callgraph.specs.Tabled.{AreEffectsOf};
-ghost use Rattle.cw_callgraph.specs.Fitting.{first_unlabelled, first_undefined, Fits, IsFitFault};
+ghost use Rattle.cw_callgraph.specs.Fitting.{first_unlabelled, first_undefined, MayBeSplit, IsFirstForbidden, Fits, IsFitFault};
+ghost use Rattle.cw_callgraph.specs.Parts.{ArePartsOf, IsBarred};
 ghost use Rattle.cw_callgraph.specs.Barring.{barred, first_barred};
 
-use crate::table::{Effect, EffectTable, effects};
-use cw_resolve::function_named;
+use crate::table::{Effect, EffectTable, Parts, bar_of, parts_of};
 use cw_core::NoMemory;
-use cw_resolve::is_label;
+use cw_resolve::{function_named, is_label};
 use cw_rights::Policy;
 use cw_syntax::checked::Checked;
 use std::alloc::Global;
@@ -58,7 +60,24 @@ fn first_undefined(checked: &Checked, names: &[Vec<u8>]) -> Option<u16>
     None
 }
 
-/// The least place that forbids splitting the function of this name.
+/// The label or the function that a policy names and the source hasn't, first in the policy's order, labels before functions.
+fn missing(policy: &Policy, checked: &Checked) -> Option<FitFault>
+    requires labels { length (policy_of policy.now).labels ≤ 65535 }
+    requires split { length (policy_of policy.now).split ≤ 65535 }
+    ensures labelled { IfNone result (first_unlabelled checked.now.source.now (file_of checked.now.program) (policy_of policy.now).labels ≡ None) }
+    ensures defined { IfNone result (first_undefined checked.now.source.now (file_of checked.now.program) (policy_of policy.now).split ≡ None) }
+    ensures fault { IfSome result (IsFitFault checked.now.source.now (file_of checked.now.program) (policy_of policy.now)) }
+{
+    match first_unlabelled(checked, &policy.labels) {
+        Some(label) => Some(FitFault::NoLabel(label)),
+        None => match first_undefined(checked, &policy.split) {
+            Some(function) => Some(FitFault::NoFunction(function)),
+            None => None,
+        },
+    }
+}
+
+/// The least place that forbids splitting the function of this name, by its effects.
 fn barred(checked: &Checked, effects: &[Effect], name: &[u8]) -> Option<u32>
     requires count { length effects.now ≡ length checked.now.program.functions.items }
     ensures { result ≡ barred effects.now (function_names checked.now.source.now (file_of checked.now.program)) name.now }
@@ -69,7 +88,7 @@ fn barred(checked: &Checked, effects: &[Effect], name: &[u8]) -> Option<u32>
     }
 }
 
-/// The first of these names whose function may not be split, and the least place that forbids it.
+/// The first of these names whose function may not be split, and the least place that forbids it, by the effects.
 fn first_barred(checked: &Checked, effects: &[Effect], names: &[Vec<u8>]) -> Option<(u16, u32)>
     requires few { length names.now ≤ 65535 }
     requires count { length effects.now ≡ length checked.now.program.functions.items }
@@ -93,11 +112,8 @@ pub fn fits(policy: &Policy, checked: &Checked, effects: &EffectTable) -> Result
     ensures fits { IfOk result (λ _. Fits checked.now.source.now (file_of checked.now.program) (policy_of policy.now)) }
     ensures fault { IfErr result (λ fault. IsFitFault checked.now.source.now (file_of checked.now.program) (policy_of policy.now) fault) }
 {
-    if let Some(label) = first_unlabelled(checked, &policy.labels) {
-        return Err(FitFault::NoLabel(label));
-    }
-    if let Some(function) = first_undefined(checked, &policy.split) {
-        return Err(FitFault::NoFunction(function));
+    if let Some(fault) = missing(policy, checked) {
+        return Err(fault);
     }
     match first_barred(checked, &effects.of, &policy.split) {
         None => Ok(()),
@@ -105,21 +121,48 @@ pub fn fits(policy: &Policy, checked: &Checked, effects: &EffectTable) -> Result
     }
 }
 
-/// The label that a policy which splits nothing asks for and the source hasn't, first in the policy's order.
-fn missing_label(policy: &Policy, checked: &Checked) -> Option<FitFault>
-    requires labels { length (policy_of policy.now).labels ≤ 65535 }
-    requires whole { length policy.now.split.items ≡ 0 }
-    ensures fits { IfNone result (Fits checked.now.source.now (file_of checked.now.program) (policy_of policy.now)) }
-    ensures fault { IfSome result (IsFitFault checked.now.source.now (file_of checked.now.program) (policy_of policy.now)) }
+/// The least place that forbids splitting the function of this name.
+fn bar_of_name(
+    alloc: Global,
+    policy: &Policy,
+    checked: &Checked,
+    parts: &Parts,
+    name: &[u8],
+) -> Result<Option<u32>, NoMemory>
+    requires parts { ArePartsOf checked.now (policy_of policy.now) parts.now }
+    ensures none { IfOk result (λ place. IfNone place (MayBeSplit checked.now.source.now (file_of checked.now.program) (names_of (policy_of policy.now)) name.now)) }
+    ensures some { IfOk result (λ place. IfSome place (IsBarred checked.now.source.now (file_of checked.now.program) (names_of (policy_of policy.now)) name.now)) }
 {
-    match first_unlabelled(checked, &policy.labels) {
-        None => None,
-        Some(label) => Some(FitFault::NoLabel(label)),
+    let _ = policy;
+    match function_named(checked, name) {
+        None => Ok(None),
+        Some(function) => bar_of(alloc, &parts.calls, &parts.bars, function),
     }
 }
 
+/// The first of these names whose function may not be split, and the least place that forbids it.
+fn first_forbidden(
+    alloc: Global,
+    policy: &Policy,
+    checked: &Checked,
+    parts: &Parts,
+    names: &[Vec<u8>],
+) -> Result<Option<(u16, u32)>, NoMemory>
+    requires few { length names.now ≤ 65535 }
+    requires parts { ArePartsOf checked.now (policy_of policy.now) parts.now }
+    ensures none { IfOk result (λ found. IfNone found (All (MayBeSplit checked.now.source.now (file_of checked.now.program) (names_of (policy_of policy.now))) (map (λ n. n.items) names.now))) }
+    ensures some { IfOk result (λ found. IfSome found (λ w. IsFirstForbidden checked.now.source.now (file_of checked.now.program) (names_of (policy_of policy.now)) (map (λ n. n.items) names.now) w.0 w.1)) }
+{
+    for (i, name) in names.iter().enumerate() {
+        if let Some(place) = bar_of_name(alloc, policy, checked, parts, name)? {
+            return Ok(Some((i as u16, place)));
+        }
+    }
+    Ok(None)
+}
+
 /// What of a policy a source doesn't fit first, or None where it fits: what `fits` answers, with the effects found out where the
-/// policy splits functions, and only there.
+/// policy splits functions, and only there: what these functions reach, and no others.
 pub fn fit_fault(
     alloc: Global,
     policy: &Policy,
@@ -131,12 +174,15 @@ pub fn fit_fault(
     ensures fits { IfOk result (λ found. IfNone found (Fits checked.now.source.now (file_of checked.now.program) (policy_of policy.now))) }
     ensures fault { IfOk result (λ found. IfSome found (IsFitFault checked.now.source.now (file_of checked.now.program) (policy_of policy.now))) }
 {
-    if policy.split.is_empty() {
-        return Ok(missing_label(policy, checked));
+    if let Some(fault) = missing(policy, checked) {
+        return Ok(Some(fault));
     }
-    let table = effects(alloc, checked, policy)?;
-    match fits(policy, checked, &table) {
-        Ok(()) => Ok(None),
-        Err(fault) => Ok(Some(fault)),
+    if policy.split.is_empty() {
+        return Ok(None);
+    }
+    let parts = parts_of(alloc, checked, policy)?;
+    match first_forbidden(alloc, policy, checked, &parts, &policy.split)? {
+        None => Ok(None),
+        Some((function, place)) => Ok(Some(FitFault::NotSplittable(function, place))),
     }
 }

@@ -1,7 +1,7 @@
 //! Numbers that are found one after the other, each kept once.
 
 ghost use Rattle.std.specs.Prelude.{◌≡◌, ◌<◌, [], ◌∷◌, length, IfOk};
-ghost use Rattle.cw_callgraph.specs.Finding.{IsFound, Finds};
+ghost use Rattle.cw_callgraph.specs.Finding.{IsFound, Finds, AreBelow};
 
 use cw_core::NoMemory;
 use std::alloc::Global;
@@ -35,5 +35,17 @@ pub(crate) fn find(found: &mut Found, number: u16) -> Result<(), NoMemory>
     }
     found.marks[place] = true;
     found.numbers.push(number)?;
+    Ok(())
+}
+
+/// Numbers are found, one after the other.
+pub(crate) fn find_all(found: &mut Found, numbers: &[u16]) -> Result<(), NoMemory>
+    requires within { AreBelow (length found.old.marks.items) numbers.now }
+    requires sound { IsFound found.old }
+    ensures { IfOk result (λ _. Finds numbers.now found.old found.new) }
+{
+    for number in numbers {
+        find(found, *number)?;
+    }
     Ok(())
 }

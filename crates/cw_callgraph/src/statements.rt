@@ -11,8 +11,8 @@ ghost use Rattle.cw_callgraph.specs.Walking.{scene_at, source_at, file_at, perha
 
 use crate::expressions::{Role, put_if, put_places, put_places_in};
 use crate::scopes::{Known, Scope, local_meaning, parameters};
-use cw_resolve::{Act, action_of};
 use cw_core::NoMemory;
+use cw_resolve::{Act, action_of};
 use cw_rights::Policy;
 use cw_syntax::checked::Checked;
 use cw_syntax::program::{Decl, Expr, Function, Head, Item, Stmt, What};

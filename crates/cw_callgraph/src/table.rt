@@ -1,6 +1,6 @@
 //! What each function calls, what it reaches, and what forbids splitting it.
 
-ghost use Rattle.std.specs.Prelude.{◌≡◌, ◌<◌, ◌≤◌, ◌↔◌, ℕ, length, IfOk};
+ghost use Rattle.std.specs.Prelude.{◌≡◌, ◌<◌, ◌≤◌, ◌↔◌, ℕ, List, length, IfOk};
 ghost use Rattle.std.specs.List.{All, Contains};
 ghost use Rattle.std.specs.List.Sorted.{IsStrictlyIncreasing};
 ghost use Rattle.cw_rights.specs.Policies.{policy_of};
@@ -10,12 +10,13 @@ ghost use Rattle.cw_callgraph.specs.Tabled.{AreEffectsOf};
 ghost use Rattle.cw_callgraph.specs.Forbidding.{Forbids, IsLeast};
 ghost use Rattle.cw_callgraph.specs.Lowest.{forbidden};
 ghost use Rattle.cw_syntax.specs.Trees.{file_of};
-ghost use Rattle.cw_callgraph.specs.Finding.{AreBelow, lists_of, next_in, IsReach, AreEffects};
+ghost use Rattle.cw_callgraph.specs.Finding.{AreBelow, lists_of, next_in, AreReached, IsReach, AreEffects};
+ghost use Rattle.cw_callgraph.specs.Parts.{ArePartsOf};
 
 use crate::bars::{Bars, all_bars};
 use crate::callees::all_calls;
 use crate::lowest::{sooner, soonest_among};
-use crate::reach::{Calls, reach};
+use crate::reach::{Calls, reach, walked};
 use cw_core::NoMemory;
 use cw_rights::Policy;
 use cw_syntax::checked::Checked;
@@ -36,6 +37,26 @@ pub struct EffectTable {
     pub of: Vec<Effect>,
 }
 
+/// What the effects of a program's functions are found out from: what each calls, and what forbids splitting each by itself.
+#[derive(Drop)]
+pub(crate) struct Parts {
+    pub calls: Calls,
+    pub bars: Bars,
+}
+
+/// What each function calls, and what forbids splitting each by itself.
+pub(crate) fn parts_of(alloc: Global, checked: &Checked, policy: &Policy) -> Result<Parts, NoMemory>
+    requires few { length checked.now.program.functions.items ≤ 65535 }
+    ensures { IfOk result (λ parts. ArePartsOf checked.now (policy_of policy.now) parts) }
+{
+    let rows = all_calls(alloc, checked, policy)?;
+    let bars = all_bars(alloc, checked, policy)?;
+    Ok(Parts {
+        calls: Calls { rows },
+        bars,
+    })
+}
+
 fn copied(alloc: Global, numbers: &[u16]) -> Result<Vec<u16>, NoMemory>
     ensures { IfOk result (λ copy. copy.items ≡ numbers.now) }
 {
@@ -53,6 +74,24 @@ fn least_place(bars: &Bars, function: usize, reaches: &[u16]) -> Option<u32>
 {
     let body = sooner(bars.bodies[function], soonest_among(&bars.bodies, reaches));
     sooner(bars.heads[function], body)
+}
+
+/// The least place that forbids splitting a function, by what each function calls and what forbids each by itself.
+pub(crate) fn bar_of(
+    alloc: Global,
+    table: &Calls,
+    bars: &Bars,
+    function: usize,
+) -> Result<Option<u32>, NoMemory>
+    requires within { function < length table.now.rows.items }
+    requires below { All (AreBelow (length table.now.rows.items)) (lists_of table.now.rows.items) }
+    requires heads { length bars.now.heads.items ≡ length table.now.rows.items }
+    requires bodies { length bars.now.bodies.items ≡ length table.now.rows.items }
+    ensures { IfOk result (λ place. (reaches : List ℕ) × AreReached (next_in table.now.rows.items) function reaches
+        × (place ≡ forbidden bars.now.heads.items bars.now.bodies.items function reaches)) }
+{
+    let found = walked(alloc, table, function)?;
+    Ok(least_place(bars, function, &found.numbers))
 }
 
 /// The effect of one function, by what each function calls and what forbids each by itself.
@@ -102,11 +141,9 @@ pub fn effects(alloc: Global, checked: &Checked, policy: &Policy) -> Result<Effe
     ensures forbids { IfOk result (λ table. Each (λ f effect. IsLeast (Forbids (names_of (policy_of policy.now)) checked.now.source.now (file_of checked.now.program) f) effect.forbids) table.of.items) }
     ensures told { IfOk result (λ table. AreEffectsOf checked.now (policy_of policy.now) table.of.items) }
 {
-    let rows = all_calls(alloc, checked, policy)?;
-    let table = Calls { rows };
-    let bars = all_bars(alloc, checked, policy)?;
+    let parts = parts_of(alloc, checked, policy)?;
     Ok(EffectTable {
-        of: effects_of(alloc, &table, &bars)?,
+        of: effects_of(alloc, &parts.calls, &parts.bars)?,
     })
 }
 

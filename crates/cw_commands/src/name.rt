@@ -19,22 +19,15 @@ pub enum Name {
 pub(crate) fn named_by(word: &str) -> Option<Name>
     ensures { result ≡ named_by word.now }
 {
-    if word == "weave" {
-        Some(Name::Weave)
-    } else if word == "graph" {
-        Some(Name::Graph)
-    } else if word == "refute" {
-        Some(Name::Refute)
-    } else if word == "check" {
-        Some(Name::Check)
-    } else if word == "play" {
-        Some(Name::Play)
-    } else if word == "run" {
-        Some(Name::Run)
-    } else if word == "sample" {
-        Some(Name::Sample)
-    } else {
-        None
+    match word {
+        "weave" => Some(Name::Weave),
+        "graph" => Some(Name::Graph),
+        "refute" => Some(Name::Refute),
+        "check" => Some(Name::Check),
+        "play" => Some(Name::Play),
+        "run" => Some(Name::Run),
+        "sample" => Some(Name::Sample),
+        _ => None,
     }
 }
 

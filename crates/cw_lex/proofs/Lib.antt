@@ -13,3 +13,4 @@ pub mod Each
 pub mod Strings
 mod ShortWords
 mod Places
+mod LineEnds

@@ -1,7 +1,7 @@
 //! Kinds of bytes.
 
 ghost use Rattle.std.specs.Prelude.{◌≡◌, ◌+◌, ◌≤◌, length, drop};
-ghost use Rattle.cw_lex.specs.Bytes.{is_white, is_blank, is_line_byte, is_letter, is_digit, is_octal_digit, is_hexadecimal_digit, is_name_byte, is_number_byte};
+ghost use Rattle.cw_lex.specs.Bytes.{is_white, is_blank, is_letter, is_digit, is_octal_digit, is_hexadecimal_digit, is_name_byte, is_number_byte};
 
 /// White space (ISO C11, 6.4): space, tab, line feed, vertical tab, form feed, carriage return.
 pub(crate) fn is_white(byte: u8) -> bool
@@ -15,13 +15,6 @@ pub(crate) fn is_blank(byte: u8) -> bool
     ensures { result ≡ is_blank byte }
 {
     byte == b' ' || byte == b'\t'
-}
-
-/// Any byte but a line feed.
-pub(crate) fn is_line_byte(byte: u8) -> bool
-    ensures { result ≡ is_line_byte byte }
-{
-    byte != b'\n'
 }
 
 /// A byte that may begin a name: a letter or `_` (ISO C11, 6.4.2.1).

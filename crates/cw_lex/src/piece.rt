@@ -10,12 +10,13 @@ ghost use Rattle.cw_lex.specs.Pieces.{word, number, quoted, to_close, comment, i
 ghost use Rattle.cw_lex.specs.declared.piece.Piece.TheVariants as piece;
 ghost use Rattle.cw_lex.specs.Tokens.{fresh_behind};
 
-use crate::bytes::{is_blank, is_line_byte, is_name_byte, is_number_byte, is_white, tail};
+use crate::bytes::{is_blank, is_name_byte, is_number_byte, is_white, tail};
 use crate::characters::{character_length, text_length};
 use crate::keywords::is_keyword;
 use crate::marks::{first_place, mark_length};
 use crate::numbers::is_number;
 use crate::tokens::TokenKind;
+use memchr::memchr;
 
 /// Why no token can be read.
 #[derive(Clone, Copy, Drop)]
@@ -74,7 +75,10 @@ fn line_length(bytes: &[u8]) -> usize
     ensures value { result ≡ prefix_len is_line_byte bytes.now }
     ensures within { result ≤ length bytes.now }
 {
-    bytes.iter().take_while(|b| is_line_byte(**b)).count()
+    match memchr(b'\n', bytes) {
+        None => bytes.len(),
+        Some(at) => at,
+    }
 }
 
 /// How many bytes of a name stand in front.
@@ -263,15 +267,14 @@ pub(crate) fn front_piece(fresh: bool, bytes: &[u8]) -> Piece
         b'\'' => character(rest),
         b'"' => text(rest),
         b'#' => directive(fresh, bytes),
-        b'/' => {
-            if bytes.starts_with(b"/*") {
-                comment(tail(bytes, 2))
-            } else if bytes.starts_with(b"//") {
-                line(bytes)
-            } else {
-                mark(bytes)
-            }
-        }
+        b'/' => match rest {
+            [] => mark(bytes),
+            [next, inner @ ..] => match *next {
+                b'*' => comment(inner),
+                b'/' => line(bytes),
+                _ => mark(bytes),
+            },
+        },
         b'(' => Piece::Token(TokenKind::Punctuation, 1),
         b')' => Piece::Token(TokenKind::Punctuation, 1),
         b'[' => Piece::Token(TokenKind::Punctuation, 1),
@@ -290,7 +293,7 @@ fn has_line_end(bytes: &[u8]) -> bool
 {
     match bytes {
         [byte] => *byte == b'\n',
-        _ => bytes.iter().any(|b| *b == b'\n'),
+        _ => memchr(b'\n', bytes).is_some(),
     }
 }
 

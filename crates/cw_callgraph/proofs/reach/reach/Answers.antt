@@ -1,28 +1,14 @@
-use Rattle.std.proofs.Common.{rules, ◌≡◌, ℕ, List, length, subst, arith}
-use Rattle.std.specs.List.{Contains}
-use Rattle.std.specs.Ordering.{nat_cmp}
-use Rattle.cw_fixpoint.specs.Closures.{Reached, Exactly}
+use Rattle.std.proofs.lemmas.List.Sorted.{IsNonDecreasingBy-from_sort}
 use Rattle.cw_callgraph.specs.Finding.{next_in}
-use Rattle.cw_callgraph.proofs.Rows.{row_is, is_row, row_keeps}
-use Rattle.cw_callgraph.proofs.Reaching.{at_most}
+use Rattle.cw_callgraph.proofs.Walked.{in_order, below_in_order}
 use Rattle.cw_callgraph.proofs.reach.reach.Goals as goal
 
-pub closed_within-requires-clause-can : goal.closed_within-requires-clause-can
-closed_within-requires-clause-can c = λ k there.
-    let rows = c.args.calls.now.rows.items in
-    let e = row_is rows c.args.function c.index.result.now c.deref.result.now c.requires.within c.index.ensures c.deref.ensures.value in
-    row_keeps rows c.args.function k (is_row rows c.args.function c.requires.within c.requires.below) (subst (λ (l : List ℕ). Contains l k) e there)
+pub returns-clause-reach : goal.returns-clause-reach
+returns-clause-reach c =
+    let found = c.in_ok-found.found.numbers.items in
+    let sorted = c.sort_unstable.new.self.items in
+    in_order (next_in c.args.calls.now.rows.items) c.args.function found sorted c.in_ok-found.ensures.sound.apart c.in_ok-found.ensures.reached c.sort_unstable.ensures.permutation
+    (IsNonDecreasingBy-from_sort (λ x. x) sorted c.sort_unstable.ensures.sorted)
 
-pub closed_within-requires-clause-few : goal.closed_within-requires-clause-few
-closed_within-requires-clause-few c = λ xs sorted reached.
-    let rows = c.args.calls.now.rows.items in
-    let e = row_is rows c.args.function c.index.result.now c.deref.result.now c.requires.within c.index.ensures c.deref.ensures.value in
-    let few = at_most rows c.args.function (is_row rows c.args.function c.requires.within c.requires.below) xs sorted (λ x there. subst (λ (l : List ℕ). Reached (next_in rows) l x) e (reached x there)) in
-    let count : length rows ≡ c.len.result = search rules in
-    omega (arith, few, count)
-
-pub returns : goal.returns
-returns c =
-    let rows = c.args.calls.now.rows.items in
-    let e = row_is rows c.args.function c.index.result.now c.deref.result.now c.requires.within c.index.ensures c.deref.ensures.value in
-    subst (λ (l : List ℕ). Exactly nat_cmp (Reached (next_in rows) l) c.in_ok-numbers.numbers.items) e c.in_ok-numbers.ensures.reached
+pub returns-clause-within : goal.returns-clause-within
+returns-clause-within c = below_in_order _ c.in_ok-found.found.numbers.items c.sort_unstable.new.self.items c.in_ok-found.ensures.within c.sort_unstable.ensures.permutation
