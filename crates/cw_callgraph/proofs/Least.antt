@@ -10,7 +10,8 @@ use Rattle.cw_syntax.specs.Trees.{Definition, File, definition_of}
 use Rattle.cw_syntax.specs.Plans.{scene_of, plan_of}
 use Rattle.cw_callgraph.specs.Effects.{Reaches}
 use Rattle.cw_callgraph.specs.Forbidding.{IsLeast, Forbids, by_head, by_body, by_callee, places_of, head_places, body_places}
-use Rattle.cw_callgraph.specs.Lowest.{sooner, soonest, lowest, at, forbidden}
+use Rattle.cw_callgraph.specs.Lowest.{lowest, at, forbidden}
+use Rattle.cw_resolve.specs.Soonest.{sooner, soonest}
 use Rattle.cw_lemmas.proofs.Lists.{contains_none as not_in}
 
 either : {A B C : Type 0} → (A → C) → (B → C) → A ⊎ B → C

@@ -4,7 +4,6 @@ pub mod Calling
 mod Reaching
 mod Walked
 pub mod Rows
-mod Lesser
 mod Least
 mod Nodes
 mod Barred

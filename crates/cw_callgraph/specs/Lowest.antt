@@ -1,14 +1,6 @@
 -- The least of some places.
 use Rattle.std.specs.Prelude.{ℕ, List, [], ◌∷◌, map, min, Option, Some, None, slice_index_or}
-
-abbrev pub sooner : Option ℕ → Option ℕ → Option ℕ
-sooner None other = other
-sooner (Some a) None = Some a
-sooner (Some a) (Some b) = Some (min a b)
-
-abbrev pub soonest : List (Option ℕ) → Option ℕ
-soonest [] = None
-soonest (place ∷ places) = sooner place (soonest places)
+use Rattle.cw_resolve.specs.Soonest.{sooner, soonest}
 
 abbrev pub lowest : List ℕ → Option ℕ
 lowest places = soonest (map Some places)

@@ -2,23 +2,13 @@
 
 ghost use Rattle.std.specs.Prelude.{◌≡◌, ◌<◌, map, length};
 ghost use Rattle.std.specs.List.{All};
-ghost use Rattle.cw_callgraph.specs.Lowest.{sooner, soonest, lowest, at};
+ghost use Rattle.cw_callgraph.specs.Lowest.{lowest, at};
+ghost use Rattle.cw_resolve.specs.Soonest.{sooner, soonest};
 
-/// The lesser of two places, where there is one.
-pub(crate) fn sooner(place: Option<u32>, other: Option<u32>) -> Option<u32>
-    ensures { result ≡ sooner place other }
-{
-    match place {
-        None => other,
-        Some(a) => match other {
-            None => Some(a),
-            Some(b) => Some(a.min(b)),
-        },
-    }
-}
+use cw_resolve::sooner;
 
 /// The least of some places; None of none.
-#[tactic(auto, using(crate::proofs::Lesser::sooner_assoc))]
+#[tactic(auto, using(cw_resolve::proofs::Lesser::sooner_assoc))]
 pub(crate) fn lowest(places: &[u32]) -> Option<u32>
     ensures { result ≡ lowest places.now }
 {
@@ -30,7 +20,7 @@ pub(crate) fn lowest(places: &[u32]) -> Option<u32>
 }
 
 /// The least of the places at these numbers.
-#[tactic(auto, using(crate::proofs::Lesser::sooner_assoc))]
+#[tactic(auto, using(cw_resolve::proofs::Lesser::sooner_assoc))]
 pub(crate) fn soonest_among(places: &[Option<u32>], numbers: &[u16]) -> Option<u32>
     requires within { All (λ number. number < length places.now) numbers.now }
     ensures { result ≡ soonest (map (at places.now) numbers.now) }

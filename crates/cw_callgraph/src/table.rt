@@ -15,9 +15,10 @@ ghost use Rattle.cw_callgraph.specs.Parts.{ArePartsOf};
 
 use crate::bars::{Bars, all_bars};
 use crate::callees::all_calls;
-use crate::lowest::{sooner, soonest_among};
+use crate::lowest::soonest_among;
 use crate::reach::{Calls, reach, walked};
 use cw_core::NoMemory;
+use cw_resolve::sooner;
 use cw_rights::Policy;
 use cw_syntax::checked::Checked;
 use std::alloc::Global;

@@ -7,3 +7,4 @@ mod Digits
 pub mod Ends
 mod LabelShapes
 mod LabelJoins
+pub mod Lesser

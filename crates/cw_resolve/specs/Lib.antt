@@ -3,3 +3,4 @@ pub mod Scenes
 pub mod Acts
 pub mod Held
 pub mod Labels
+pub mod Soonest

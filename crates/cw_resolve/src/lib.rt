@@ -6,6 +6,7 @@ mod actions;
 mod labelled;
 mod labels;
 mod names;
+mod soonest;
 
 pub use actions::{Act, action_of, descriptor_of};
 pub use labelled::{Labelled, function_names, label_names, labels_in};
@@ -13,3 +14,4 @@ pub use labels::is_label;
 pub use names::{
     descriptor_named, descriptor_numbered, function_named, is_split, label_number, text,
 };
+pub use soonest::sooner;

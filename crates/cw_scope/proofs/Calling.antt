@@ -7,7 +7,8 @@ use Rattle.cw_syntax.specs.declared.program.Op.{Op}
 use Rattle.cw_syntax.specs.declared.program.Op.TheVariants.{Call as CallOp}
 use Rattle.cw_syntax.specs.Names.{text}
 use Rattle.cw_syntax.specs.Trees.{Tree, Node, Trees, File}
-use Rattle.cw_scope.specs.Rules.{sooner, least, call_if, is_call, defined_call, is_defined}
+use Rattle.cw_scope.specs.Rules.{call_if, is_call, defined_call, is_defined}
+use Rattle.cw_resolve.specs.Soonest.{sooner, soonest}
 use Rattle.cw_lemmas.proofs.Truths.{or_first as first_isnt}
 
 second_isnt : (a b : Bool) → (a || b) ≡ false → b ≡ false
@@ -23,7 +24,7 @@ pub no_place : (test : Name → Bool) (t : Tree) → is_call t ≡ false → cal
 no_place test (Node op ts from to) e = nothing_at test op ts from to e
 
 -- nor have expressions that hold none
-pub no_places : (source : List ℕ) (file : File) (ts : List Tree) → list_any is_call ts ≡ false → least (map (defined_call source file) ts) ≡ None
+pub no_places : (source : List ℕ) (file : File) (ts : List Tree) → list_any is_call ts ≡ false → soonest (map (defined_call source file) ts) ≡ None
 no_places source file [] e = refl
 no_places source file (t ∷ ts) e =
     ap₂ sooner (no_place (λ f. is_defined source file (text source f)) t (first_isnt (is_call t) (list_any is_call ts) e)) (no_places source file ts (second_isnt (is_call t) (list_any is_call ts) e))

@@ -2,7 +2,6 @@
 pub mod Shapes
 pub mod Pushed
 pub mod Operators
-pub mod Lesser
 pub mod Standing
 pub mod Once
 pub mod Starting

@@ -10,7 +10,8 @@ use Rattle.cw_syntax.specs.Trees.{Tree, Node, Trees, none, more, File, tree_of, 
 use Rattle.cw_syntax.proofs.Shapes.{node_is}
 use Rattle.cw_scope.specs.Walks.{nodes, nodes_in, Whole, every_whole, every_node}
 use Rattle.cw_scope.specs.Names.{plain_name, called_name}
-use Rattle.cw_scope.specs.Rules.{sooner, least, is_call, is_main, wrong_arity, main_call, defined_call, external_call, is_defined}
+use Rattle.cw_scope.specs.Rules.{is_call, is_main, wrong_arity, main_call, defined_call, external_call, is_defined}
+use Rattle.cw_resolve.specs.Soonest.{sooner, soonest}
 use Rattle.cw_scope.specs.Mentions.{own_name, own_call, names_at, names_all, calls_at, calls_all, every_plain, every_call}
 use Rattle.cw_scope.proofs.Calling.{no_place}
 
@@ -64,12 +65,12 @@ pub given_by_calls : {Y : Type 0} (h : Tree → Option Y) → ((t : Tree) → is
 given_by_calls h nothing [] = refl
 given_by_calls h nothing (t ∷ ts) = given_more h t ts (filter is_call ts) (nothing t) (given_by_calls h nothing ts) (is_call t) refl
 
-least_more : (rule : Tree → Option ℕ) (t : Tree) (ts kept : List Tree) → (is_call t ≡ false → rule t ≡ None) → least (map rule kept) ≡ least (map rule ts)
-    → (b : Bool) → is_call t ≡ b → least (map rule (cond b (t ∷ kept) kept)) ≡ least (map rule (t ∷ ts))
+least_more : (rule : Tree → Option ℕ) (t : Tree) (ts kept : List Tree) → (is_call t ≡ false → rule t ≡ None) → soonest (map rule kept) ≡ soonest (map rule ts)
+    → (b : Bool) → is_call t ≡ b → soonest (map rule (cond b (t ∷ kept) kept)) ≡ soonest (map rule (t ∷ ts))
 least_more rule t ts kept nothing same true e = ap (sooner (rule t)) same
-least_more rule t ts kept nothing same false e = same ∙ ap (λ o. sooner o (least (map rule ts))) (sym (nothing e))
+least_more rule t ts kept nothing same false e = same ∙ ap (λ o. sooner o (soonest (map rule ts))) (sym (nothing e))
 
-pub least_of_calls : (rule : Tree → Option ℕ) → ((t : Tree) → is_call t ≡ false → rule t ≡ None) → (ts : List Tree) → least (map rule (filter is_call ts)) ≡ least (map rule ts)
+pub least_of_calls : (rule : Tree → Option ℕ) → ((t : Tree) → is_call t ≡ false → rule t ≡ None) → (ts : List Tree) → soonest (map rule (filter is_call ts)) ≡ soonest (map rule ts)
 least_of_calls rule nothing [] = refl
 least_of_calls rule nothing (t ∷ ts) = least_more rule t ts (filter is_call ts) (nothing t) (least_of_calls rule nothing ts) (is_call t) refl
 
@@ -95,18 +96,18 @@ names_of_file file = names_listed (every_whole file)
 pub callees_of_file : (file : File) → filter_map called_name (every_call file) ≡ filter_map called_name (every_node file)
 callees_of_file file = ap (filter_map called_name) (calls_listed (every_whole file)) ∙ given_by_calls called_name uncalled (every_node file)
 
-pub arities_of_file : (source : List ℕ) (file : File) → least (map (wrong_arity source file) (every_call file)) ≡ least (map (wrong_arity source file) (every_node file))
+pub arities_of_file : (source : List ℕ) (file : File) → soonest (map (wrong_arity source file) (every_call file)) ≡ soonest (map (wrong_arity source file) (every_node file))
 arities_of_file source file =
-    ap (λ l. least (map (wrong_arity source file) l)) (calls_listed (every_whole file)) ∙ least_of_calls (wrong_arity source file) (uncounted source file) (every_node file)
+    ap (λ l. soonest (map (wrong_arity source file) l)) (calls_listed (every_whole file)) ∙ least_of_calls (wrong_arity source file) (uncounted source file) (every_node file)
 
-pub main_of_file : (source : List ℕ) (file : File) → least (map (main_call source) (every_call file)) ≡ least (map (main_call source) (every_node file))
+pub main_of_file : (source : List ℕ) (file : File) → soonest (map (main_call source) (every_call file)) ≡ soonest (map (main_call source) (every_node file))
 main_of_file source file =
-    ap (λ l. least (map (main_call source) l)) (calls_listed (every_whole file)) ∙ least_of_calls (main_call source) (no_place (λ f. is_main (text source f))) (every_node file)
+    ap (λ l. soonest (map (main_call source) l)) (calls_listed (every_whole file)) ∙ least_of_calls (main_call source) (no_place (λ f. is_main (text source f))) (every_node file)
 
 -- over one expression
-pub defined_in : (source : List ℕ) (file : File) (t : Tree) → least (map (defined_call source file) (calls_at t)) ≡ least (map (defined_call source file) (nodes t))
+pub defined_in : (source : List ℕ) (file : File) (t : Tree) → soonest (map (defined_call source file) (calls_at t)) ≡ soonest (map (defined_call source file) (nodes t))
 defined_in source file t =
-    ap (λ l. least (map (defined_call source file) l)) (calls_found t) ∙ least_of_calls (defined_call source file) (no_place (λ f. is_defined source file (text source f))) (nodes t)
+    ap (λ l. soonest (map (defined_call source file) l)) (calls_found t) ∙ least_of_calls (defined_call source file) (no_place (λ f. is_defined source file (text source f))) (nodes t)
 
 pub external_in : (source : List ℕ) (file : File) (t : Tree) → filter_map (external_call source file) (calls_at t) ≡ filter_map (external_call source file) (nodes t)
 external_in source file t =

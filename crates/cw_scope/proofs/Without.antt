@@ -11,7 +11,8 @@ use Rattle.cw_syntax.specs.Plans.{Scene, descriptor_of}
 use Rattle.cw_syntax.specs.Trees.{Tree, Node, Trees, none, more, File}
 use Rattle.cw_rights.specs.Policies.{PlainPolicy, PlainDescriptor, descriptor_of as descriptor_held}
 use Rattle.cw_rights.specs.declared.policy.Descriptor.{Descriptor}
-use Rattle.cw_scope.specs.Rules.{least, sooner, at_if}
+use Rattle.cw_scope.specs.Rules.{at_if}
+use Rattle.cw_resolve.specs.Soonest.{soonest, sooner}
 use Rattle.cw_scope.specs.declared.descriptors.DescriptorFault.TheVariants.{NoVariable, Shadowed, Misuse}
 use Rattle.cw_scope.specs.Names.{locals}
 use Rattle.cw_scope.specs.Walks.{every_whole}
@@ -55,7 +56,7 @@ module _ (s : Scene) (unnamed : s.names.descriptors ≡ []) where
   unused (Node op parts from to) = unused_at op parts from to
 
   -- the least place of a misuse among these expressions
-  pub all_unused : (ts : List Tree) → least (map (misuse s) ts) ≡ None
+  pub all_unused : (ts : List Tree) → soonest (map (misuse s) ts) ≡ None
   all_unused [] = refl
   all_unused (t ∷ ts) = ap₂ sooner (unused t) (all_unused ts)
 

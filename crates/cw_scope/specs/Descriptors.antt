@@ -19,7 +19,8 @@ use Rattle.cw_scope.specs.declared.descriptors.DescriptorFault.{DescriptorFault}
 use Rattle.cw_scope.specs.declared.descriptors.DescriptorFault.TheVariants.{NoVariable, Shadowed, Misuse, NoMemory}
 use Rattle.cw_scope.specs.Walks.{nodes, nodes_in, listed, Whole, every_whole}
 use Rattle.cw_scope.specs.Names.{locals}
-use Rattle.cw_scope.specs.Rules.{least, at_if, parts_of}
+use Rattle.cw_scope.specs.Rules.{at_if, parts_of}
+use Rattle.cw_resolve.specs.Soonest.{soonest}
 
 -- a source under the names that a policy has
 abbrev pub scene_under : PlainPolicy → List ℕ → File → Scene
@@ -138,7 +139,7 @@ abbrev pub used : Scene → Whole → List Tree
 used s w = cond (w.stands && is_own (action_of s w.tree)) (nodes_in (parts_of w.tree)) (nodes w.tree)
 
 abbrev pub least_misuse : Scene → File → Option ℕ
-least_misuse s file = least (map (misuse s) (flat_map (used s) (every_whole file)))
+least_misuse s file = soonest (map (misuse s) (flat_map (used s) (every_whole file)))
 
 -- The rules in their order: the first that is broken, with the descriptor's number or the place.
 abbrev pub descriptor_fault : List ℕ → File → PlainPolicy → Option DescriptorFault

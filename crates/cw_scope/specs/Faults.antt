@@ -9,7 +9,8 @@ use Rattle.cw_scope.specs.declared.faults.ScopeFault.{ScopeFault}
 use Rattle.cw_scope.specs.declared.faults.ScopeFault.TheVariants.{NoMain, TwoFunctions, TwoLabels, Arity, CallForm, MainCalled, Reserved, Jump, Limit, NoMemory}
 use Rattle.cw_scope.specs.Walks.{Placed, every_statement, Whole, every_whole, every_node}
 use Rattle.cw_scope.specs.Names.{uses, every_name, every_label}
-use Rattle.cw_scope.specs.Rules.{sooner, least, different, has_main, second_function, second_label, wrong_arity, function_name, wrong_form, main_call, reserved, loose_jump}
+use Rattle.cw_scope.specs.Rules.{different, has_main, second_function, second_label, wrong_arity, function_name, wrong_form, main_call, reserved, loose_jump}
+use Rattle.cw_resolve.specs.Soonest.{sooner, soonest}
 
 -- Each rule by the fault that is due where it is broken, over the lists of what stands in the file.
 unfoldable pub no_main : List ℕ → File → Option ScopeFault
@@ -22,19 +23,19 @@ unfoldable pub two_labels : List ℕ → File → Option ScopeFault
 two_labels source file = option_map TwoLabels (second_label source file.functions)
 
 unfoldable pub arity : List ℕ → File → List Tree → Option ScopeFault
-arity source file nodes = option_map Arity (least (map (wrong_arity source file) nodes))
+arity source file nodes = option_map Arity (soonest (map (wrong_arity source file) nodes))
 
 unfoldable pub call_form : List ℕ → File → List Name → List Whole → Option ScopeFault
-call_form source file names wholes = option_map CallForm (sooner (least (map (function_name source file) names)) (least (map (wrong_form source file) wholes)))
+call_form source file names wholes = option_map CallForm (sooner (soonest (map (function_name source file) names)) (soonest (map (wrong_form source file) wholes)))
 
 unfoldable pub main_called : List ℕ → List Tree → Option ScopeFault
-main_called source nodes = option_map MainCalled (least (map (main_call source) nodes))
+main_called source nodes = option_map MainCalled (soonest (map (main_call source) nodes))
 
 unfoldable pub reserved_name : List ℕ → List Name → Option ScopeFault
-reserved_name source names = option_map Reserved (least (map (reserved source) names))
+reserved_name source names = option_map Reserved (soonest (map (reserved source) names))
 
 unfoldable pub jump : List Placed → Option ScopeFault
-jump statements = option_map Jump (least (map (λ p. loose_jump p.looped p.statement) statements))
+jump statements = option_map Jump (soonest (map (λ p. loose_jump p.looped p.statement) statements))
 
 -- no more functions, and no more different names of labels, than a source may have
 unfoldable pub limit : List ℕ → File → List Name → Option ScopeFault

@@ -10,16 +10,7 @@ use Rattle.cw_syntax.specs.Names.{text}
 use Rattle.cw_syntax.specs.Trees.{Tree, Node, Trees, none, more, Statement, Stated, Form, Breaks, Continues, Definition, File}
 use Rattle.cw_scope.specs.Walks.{nodes, nodes_in, body_of, Whole}
 use Rattle.cw_scope.specs.Names.{labels_of}
-
--- The least of some places, where there is one.
-abbrev pub sooner : Option ℕ → Option ℕ → Option ℕ
-sooner None other = other
-sooner (Some a) None = Some a
-sooner (Some a) (Some b) = Some (min a b)
-
-abbrev pub least : List (Option ℕ) → Option ℕ
-least [] = None
-least (place ∷ places) = sooner place (least places)
+use Rattle.cw_resolve.specs.Soonest.{sooner, soonest}
 
 -- a place, where something fails there
 abbrev pub at_if : Bool → ℕ → Option ℕ
@@ -119,7 +110,7 @@ module _ (source : List ℕ) (file : File) where
   second_external t = slice_get (filter_map external_call (nodes t)) 1
 
   abbrev pub wrong_form : Whole → Option ℕ
-  wrong_form w = sooner (least (misplaced (standing_call w) w.tree)) (second_external w.tree)
+  wrong_form w = sooner (soonest (misplaced (standing_call w) w.tree)) (second_external w.tree)
 
 -- `main` isn't called.
 abbrev pub main_call : List ℕ → Tree → Option ℕ

@@ -2,7 +2,8 @@
 
 ghost use Rattle.std.specs.Prelude.{◌≡◌, None, map, IfOk, IfErr};
 ghost use Rattle.cw_syntax.specs.Trees.{definition_of, file_of};
-ghost use Rattle.cw_scope.specs.Rules.{least, second_label, wrong_form};
+ghost use Rattle.cw_scope.specs.Rules.{second_label, wrong_form};
+ghost use Rattle.cw_resolve.specs.Soonest.{soonest};
 ghost use Rattle.cw_scope.specs.Faults.{no_main, two_functions, two_labels, arity, call_form, main_called, reserved_name, jump, limit, ◌or_else◌, scope_fault, IsDue};
 ghost use Rattle.cw_scope.specs.Held.{placed_of, whole_of, tree_at};
 ghost use Rattle.cw_scope.specs.Mentions.{every_call};
@@ -16,9 +17,10 @@ use crate::functions::{Functions, by_names};
 use crate::lists::{body_of, every_statement, every_whole};
 use crate::names::{every_name, function_names, labels, uses};
 use crate::places;
-use crate::rules::{are_more, has_main, repeated, sooner};
+use crate::rules::{are_more, has_main, repeated};
 use crate::walks::{Placed, Whole};
 use cw_core::{Quantity, limits};
+use cw_resolve::sooner;
 use cw_syntax::checked::Checked;
 use cw_syntax::program::{Expr, Function, Name, Program};
 use std::alloc::{AllocError, Global};
@@ -106,7 +108,7 @@ fn call_form(
     misformed: Option<u32>,
 ) -> Option<ScopeFault>
     requires known { IsKnown known.now }
-    requires misformed { misformed ≡ least (map (wrong_form known.now.source.now (file_of known.now.program.now)) (map whole_of _wholes.now)) }
+    requires misformed { misformed ≡ soonest (map (wrong_form known.now.source.now (file_of known.now.program.now)) (map whole_of _wholes.now)) }
     ensures { result ≡ call_form known.now.source.now (file_of known.now.program.now) names.now (map whole_of _wholes.now) }
 {
     let named = places::function_names(known, names);

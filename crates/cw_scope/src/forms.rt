@@ -5,15 +5,17 @@ ghost use Rattle.std.specs.List.{list_any, filter_map, flat_map};
 ghost use Rattle.std.specs.Option.{option_map};
 ghost use Rattle.cw_syntax.specs.Trees.{Tree, Node, none, more, tree_of, trees_of, file_of};
 ghost use Rattle.cw_scope.specs.Walks.{nodes, nodes_in};
-ghost use Rattle.cw_scope.specs.Rules.{least, is_call, defined_call, external_call, statement_call, standing_call, misplaced, second_external, wrong_form};
+ghost use Rattle.cw_scope.specs.Rules.{is_call, defined_call, external_call, statement_call, standing_call, misplaced, second_external, wrong_form};
+ghost use Rattle.cw_resolve.specs.Soonest.{soonest};
 ghost use Rattle.cw_scope.specs.Held.{tree_at, whole_of};
 ghost use Rattle.cw_scope.specs.Known.{IsKnown};
 ghost use Rattle.cw_scope.specs.Mentions.{names_at, calls_at};
 
 use crate::functions::Functions;
 use crate::places::defined_calls;
-use crate::rules::{defined_call, external_call, is_call, sooner};
+use crate::rules::{defined_call, external_call, is_call};
 use crate::walks::{Whole, put_mentions, put_parts};
+use cw_resolve::sooner;
 use cw_syntax::program::{Expr, Name, Op};
 use std::alloc::{AllocError, Global};
 
@@ -88,11 +90,11 @@ fn are_calling(parts: &[Expr]) -> bool
     false
 }
 
-/// The least place in a statement's call at which a call of a defined function may not stand. Few calls hold another one, and
+/// The soonest place in a statement's call at which a call of a defined function may not stand. Few calls hold another one, and
 /// only of these the expressions are listed.
 fn misplaced_in(alloc: Global, known: &Functions, call: &Expr) -> Result<Option<u32>, AllocError>
     requires known { IsKnown known.now }
-    ensures { (tree : Tree) → IfOk result (λ place. place ≡ least (misplaced known.now.source.now (file_of known.now.program.now) (Some (tree_of call.now)) tree)) }
+    ensures { (tree : Tree) → IfOk result (λ place. place ≡ soonest (misplaced known.now.source.now (file_of known.now.program.now) (Some (tree_of call.now)) tree)) }
 {
     if !are_calling(&call.parts) {
         return Ok(None);
@@ -103,7 +105,7 @@ fn misplaced_in(alloc: Global, known: &Functions, call: &Expr) -> Result<Option<
     Ok(sooner(own, defined_calls(known, &inner)))
 }
 
-/// The least place of a call of a defined function that may not stand where it does in a whole expression, whose calls these are.
+/// The soonest place of a call of a defined function that may not stand where it does in a whole expression, whose calls these are.
 fn misplaced(
     alloc: Global,
     known: &Functions,
@@ -112,7 +114,7 @@ fn misplaced(
 ) -> Result<Option<u32>, AllocError>
     requires known { IsKnown known.now }
     requires calls { map tree_at calls.now ≡ calls_at (whole_of whole).tree }
-    ensures { IfOk result (λ place. place ≡ least (misplaced known.now.source.now (file_of known.now.program.now) (standing_call (whole_of whole.entry)) (whole_of whole.entry).tree)) }
+    ensures { IfOk result (λ place. place ≡ soonest (misplaced known.now.source.now (file_of known.now.program.now) (standing_call (whole_of whole.entry)) (whole_of whole.entry).tree)) }
 {
     match standing_call(whole) {
         None => Ok(defined_calls(known, calls)),
@@ -146,7 +148,7 @@ fn second_external(known: &Functions, _tree: &Expr, calls: &[&Expr]) -> Option<u
     second_call(known, calls)
 }
 
-/// The least place at which a whole expression, whose calls these are, breaks the rule on the forms of calls.
+/// The soonest place at which a whole expression, whose calls these are, breaks the rule on the forms of calls.
 fn wrong_form(
     alloc: Global,
     known: &Functions,
@@ -161,7 +163,7 @@ fn wrong_form(
     Ok(sooner(own, second_external(known, whole.tree, calls)))
 }
 
-/// What a program's expressions mention: plain names and calls, and the least place at which a call breaks the rule on their forms.
+/// What a program's expressions mention: plain names and calls, and the soonest place at which a call breaks the rule on their forms.
 #[derive(Drop)]
 pub(crate) struct Mentioned<'p> {
     pub names: Vec<Name>,
@@ -170,7 +172,7 @@ pub(crate) struct Mentioned<'p> {
 }
 
 /// What these whole expressions mention.
-#[tactic(auto, using(crate::proofs::Lesser::sooner_assoc))]
+#[tactic(auto, using(cw_resolve::proofs::Lesser::sooner_assoc))]
 pub(crate) fn every_mention<'p>(
     alloc: Global,
     known: &Functions,
@@ -179,7 +181,7 @@ pub(crate) fn every_mention<'p>(
     requires known { IsKnown known.now }
     ensures names { IfOk result (λ found. found.names.items ≡ flat_map (λ w. names_at w.tree) (map whole_of wholes.now)) }
     ensures calls { IfOk result (λ found. map tree_at found.calls.items ≡ flat_map (λ w. calls_at w.tree) (map whole_of wholes.now)) }
-    ensures place { IfOk result (λ found. found.misformed ≡ least (map (wrong_form known.now.source.now (file_of known.now.program.now)) (map whole_of wholes.now))) }
+    ensures place { IfOk result (λ found. found.misformed ≡ soonest (map (wrong_form known.now.source.now (file_of known.now.program.now)) (map whole_of wholes.now))) }
 {
     let mut names = Vec::new(alloc);
     let mut calls = Vec::new(alloc);

@@ -7,13 +7,13 @@ ghost use Rattle.cw_syntax.specs.Plans.{action_of};
 ghost use Rattle.cw_syntax.specs.Trees.{tree_of, trees_of};
 ghost use Rattle.cw_rights.specs.Policies.{policy_of};
 ghost use Rattle.cw_resolve.specs.Scenes.{scene_in};
-ghost use Rattle.cw_scope.specs.Rules.{least};
+ghost use Rattle.cw_resolve.specs.Soonest.{soonest};
 ghost use Rattle.cw_scope.specs.Descriptors.{names_variable, first_is_variable, names_some, is_change, misuse, is_own, used};
 ghost use Rattle.cw_scope.specs.Held.{tree_at, whole_of};
 
-use crate::rules::{at_if, sooner};
+use crate::rules::at_if;
 use crate::walks::{Whole, put_nodes, put_parts};
-use cw_resolve::{Act, action_of, descriptor_named, descriptor_of};
+use cw_resolve::{Act, action_of, descriptor_named, descriptor_of, sooner};
 use cw_rights::Policy;
 use cw_syntax::checked::Checked;
 use cw_syntax::names::{slice, text};
@@ -132,10 +132,10 @@ fn put_all_used<'p>(
     Ok(())
 }
 
-/// The least place of a misuse among these expressions.
-#[tactic(auto, using(crate::proofs::Lesser::sooner_assoc))]
+/// The soonest place of a misuse among these expressions.
+#[tactic(auto, using(cw_resolve::proofs::Lesser::sooner_assoc))]
 fn misuses(checked: &Checked, policy: &Policy, nodes: &[&Expr]) -> Option<u32>
-    ensures { result ≡ least (map (misuse (scene_in checked.now (policy_of policy.now))) (map tree_at nodes.now)) }
+    ensures { result ≡ soonest (map (misuse (scene_in checked.now (policy_of policy.now))) (map tree_at nodes.now)) }
 {
     let mut place = None;
     for e in nodes {
@@ -144,14 +144,14 @@ fn misuses(checked: &Checked, policy: &Policy, nodes: &[&Expr]) -> Option<u32>
     place
 }
 
-/// The least place of a misuse among these whole expressions.
+/// The soonest place of a misuse among these whole expressions.
 pub(crate) fn least_misuse(
     alloc: Global,
     checked: &Checked,
     policy: &Policy,
     wholes: &[Whole],
 ) -> Result<Option<u32>, AllocError>
-    ensures { IfOk result (λ place. place ≡ least (map (misuse (scene_in checked.now (policy_of policy.now))) (flat_map (used (scene_in checked.now (policy_of policy.now))) (map whole_of wholes.now)))) }
+    ensures { IfOk result (λ place. place ≡ soonest (map (misuse (scene_in checked.now (policy_of policy.now))) (flat_map (used (scene_in checked.now (policy_of policy.now))) (map whole_of wholes.now)))) }
 {
     let mut all = Vec::new(alloc);
     put_all_used(checked, policy, wholes, &mut all)?;

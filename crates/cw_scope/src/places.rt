@@ -1,8 +1,9 @@
-//! The least places of a program at which a scope rule fails.
+//! The soonest places of a program at which a scope rule fails.
 
 ghost use Rattle.std.specs.Prelude.{◌≡◌, map};
 ghost use Rattle.cw_syntax.specs.Trees.{file_of};
-ghost use Rattle.cw_scope.specs.Rules.{least, wrong_arity, function_name, defined_call, main_call, reserved, loose_jump};
+ghost use Rattle.cw_scope.specs.Rules.{wrong_arity, function_name, defined_call, main_call, reserved, loose_jump};
+ghost use Rattle.cw_resolve.specs.Soonest.{soonest};
 ghost use Rattle.cw_scope.specs.Held.{placed_of, tree_at};
 ghost use Rattle.cw_scope.specs.Known.{IsKnown};
 ghost use Rattle.cw_scope.specs.Mentions.{every_call};
@@ -10,15 +11,15 @@ ghost use Rattle.cw_scope.specs.Walks.{every_node};
 
 use crate::functions::Functions;
 use crate::rules;
-use crate::rules::sooner;
 use crate::walks::Placed;
+use cw_resolve::sooner;
 use cw_syntax::program::{Expr, Name};
 
-/// The least place of a call with a wrong number of arguments.
-#[tactic(auto, using(crate::proofs::Lesser::sooner_assoc))]
+/// The soonest place of a call with a wrong number of arguments.
+#[tactic(auto, using(cw_resolve::proofs::Lesser::sooner_assoc))]
 fn wrong_arities(known: &Functions, calls: &[&Expr]) -> Option<u32>
     requires known { IsKnown known.now }
-    ensures { result ≡ least (map (wrong_arity known.now.source.now (file_of known.now.program.now)) (map tree_at calls.now)) }
+    ensures { result ≡ soonest (map (wrong_arity known.now.source.now (file_of known.now.program.now)) (map tree_at calls.now)) }
 {
     let mut place = None;
     for e in calls {
@@ -31,16 +32,16 @@ fn wrong_arities(known: &Functions, calls: &[&Expr]) -> Option<u32>
 pub(crate) fn wrong_arity(known: &Functions, calls: &[&Expr]) -> Option<u32>
     requires known { IsKnown known.now }
     requires calls { map tree_at calls.now ≡ every_call (file_of known.now.program.now) }
-    ensures { result ≡ least (map (wrong_arity known.now.source.now (file_of known.now.program.now)) (every_node (file_of known.now.program.now))) }
+    ensures { result ≡ soonest (map (wrong_arity known.now.source.now (file_of known.now.program.now)) (every_node (file_of known.now.program.now))) }
 {
     wrong_arities(known, calls)
 }
 
-/// The least place of a name that is one of a defined function.
-#[tactic(auto, using(crate::proofs::Lesser::sooner_assoc))]
+/// The soonest place of a name that is one of a defined function.
+#[tactic(auto, using(cw_resolve::proofs::Lesser::sooner_assoc))]
 pub(crate) fn function_names(known: &Functions, names: &[Name]) -> Option<u32>
     requires known { IsKnown known.now }
-    ensures { result ≡ least (map (function_name known.now.source.now (file_of known.now.program.now)) names.now) }
+    ensures { result ≡ soonest (map (function_name known.now.source.now (file_of known.now.program.now)) names.now) }
 {
     let mut place = None;
     for name in names {
@@ -49,11 +50,11 @@ pub(crate) fn function_names(known: &Functions, names: &[Name]) -> Option<u32>
     place
 }
 
-/// The least place of a call of a defined function.
-#[tactic(auto, using(crate::proofs::Lesser::sooner_assoc))]
+/// The soonest place of a call of a defined function.
+#[tactic(auto, using(cw_resolve::proofs::Lesser::sooner_assoc))]
 pub(crate) fn defined_calls(known: &Functions, nodes: &[&Expr]) -> Option<u32>
     requires known { IsKnown known.now }
-    ensures { result ≡ least (map (defined_call known.now.source.now (file_of known.now.program.now)) (map tree_at nodes.now)) }
+    ensures { result ≡ soonest (map (defined_call known.now.source.now (file_of known.now.program.now)) (map tree_at nodes.now)) }
 {
     let mut place = None;
     for e in nodes {
@@ -62,10 +63,10 @@ pub(crate) fn defined_calls(known: &Functions, nodes: &[&Expr]) -> Option<u32>
     place
 }
 
-/// The least place of a call of `main`.
-#[tactic(auto, using(crate::proofs::Lesser::sooner_assoc))]
+/// The soonest place of a call of `main`.
+#[tactic(auto, using(cw_resolve::proofs::Lesser::sooner_assoc))]
 fn main_calls(source: &[u8], calls: &[&Expr]) -> Option<u32>
-    ensures { result ≡ least (map (main_call source.now) (map tree_at calls.now)) }
+    ensures { result ≡ soonest (map (main_call source.now) (map tree_at calls.now)) }
 {
     let mut place = None;
     for e in calls {
@@ -77,15 +78,15 @@ fn main_calls(source: &[u8], calls: &[&Expr]) -> Option<u32>
 /// That of a program, whose calls these are.
 pub(crate) fn main_call(known: &Functions, calls: &[&Expr]) -> Option<u32>
     requires calls { map tree_at calls.now ≡ every_call (file_of known.now.program.now) }
-    ensures { result ≡ least (map (main_call known.now.source.now) (every_node (file_of known.now.program.now))) }
+    ensures { result ≡ soonest (map (main_call known.now.source.now) (every_node (file_of known.now.program.now))) }
 {
     main_calls(known.source, calls)
 }
 
-/// The least place of a name that is reserved.
-#[tactic(auto, using(crate::proofs::Lesser::sooner_assoc))]
+/// The soonest place of a name that is reserved.
+#[tactic(auto, using(cw_resolve::proofs::Lesser::sooner_assoc))]
 pub(crate) fn reserved_names(source: &[u8], names: &[Name]) -> Option<u32>
-    ensures { result ≡ least (map (reserved source.now) names.now) }
+    ensures { result ≡ soonest (map (reserved source.now) names.now) }
 {
     let mut place = None;
     for name in names {
@@ -94,10 +95,10 @@ pub(crate) fn reserved_names(source: &[u8], names: &[Name]) -> Option<u32>
     place
 }
 
-/// The least place of a `break` or `continue` outside loops.
-#[tactic(auto, using(crate::proofs::Lesser::sooner_assoc))]
+/// The soonest place of a `break` or `continue` outside loops.
+#[tactic(auto, using(cw_resolve::proofs::Lesser::sooner_assoc))]
 pub(crate) fn loose_jumps(statements: &[Placed]) -> Option<u32>
-    ensures { result ≡ least (map (λ p. loose_jump p.looped p.statement) (map placed_of statements.now)) }
+    ensures { result ≡ soonest (map (λ p. loose_jump p.looped p.statement) (map placed_of statements.now)) }
 {
     let mut place = None;
     for placed in statements {

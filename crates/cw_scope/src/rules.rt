@@ -5,7 +5,8 @@ ghost use Rattle.std.specs.List.{list_any};
 ghost use Rattle.std.specs.Option.{option_map};
 ghost use Rattle.cw_syntax.specs.Names.{text};
 ghost use Rattle.cw_syntax.specs.Trees.{tree_of, definition_of, file_of};
-ghost use Rattle.cw_scope.specs.Rules.{sooner, at_if, repeated, different, is_main, is_reserved, is_call, defined, has_main, wrong_arity, function_name, defined_call, external_call, main_call, reserved, loose_jump};
+ghost use Rattle.cw_scope.specs.Rules.{at_if, repeated, different, is_main, is_reserved, is_call, defined, has_main, wrong_arity, function_name, defined_call, external_call, main_call, reserved, loose_jump};
+ghost use Rattle.cw_resolve.specs.Soonest.{sooner};
 ghost use Rattle.cw_scope.specs.Held.{placed_of};
 ghost use Rattle.cw_scope.specs.Known.{IsKnown};
 
@@ -15,19 +16,6 @@ use cw_syntax::names::text;
 use cw_syntax::program::{Expr, Function, Name, Op, Program, What};
 use std::alloc::{AllocError, Global};
 use std::collections::HashSet;
-
-/// The lesser of two places, where there is one.
-pub(crate) fn sooner(place: Option<u32>, other: Option<u32>) -> Option<u32>
-    ensures { result ≡ sooner place other }
-{
-    match place {
-        None => other,
-        Some(a) => match other {
-            None => Some(a),
-            Some(b) => Some(a.min(b)),
-        },
-    }
-}
 
 /// A place, where something fails there.
 pub(crate) fn at_if(fails: bool, place: u32) -> Option<u32>

@@ -8,7 +8,8 @@ use Rattle.cw_scope.specs.declared.faults.ScopeFault.{ScopeFault}
 use Rattle.cw_scope.specs.declared.faults.ScopeFault.TheVariants.{NoMain, Jump, Limit}
 use Rattle.cw_scope.specs.Walks.{every_statement, every_whole, every_node}
 use Rattle.cw_scope.specs.Names.{uses, every_name, every_label}
-use Rattle.cw_scope.specs.Rules.{least, different, has_main, loose_jump}
+use Rattle.cw_scope.specs.Rules.{different, has_main, loose_jump}
+use Rattle.cw_resolve.specs.Soonest.{soonest}
 use Rattle.cw_scope.specs.Faults.{no_main, two_functions, two_labels, arity, call_form, main_called, reserved_name, jump, limit, ◌or_else◌, scope_fault}
 
 neither : (a b : Option ScopeFault) → a or_else b ≡ None → (a ≡ None) × (b ≡ None)
@@ -46,9 +47,9 @@ module _ (source : List ℕ) (file : File) (kept : scope_fault source file ≡ N
   unmapped None e = refl
   unmapped (Some x) e = absurd (cc)
 
-  pub jumps_kept : least (map (λ p. loose_jump p.looped p.statement) (every_statement file)) ≡ None
+  pub jumps_kept : soonest (map (λ p. loose_jump p.looped p.statement) (every_statement file)) ≡ None
   unfolding jump
-  jumps_kept = unmapped (least (map (λ p. loose_jump p.looped p.statement) (every_statement file))) rules.1
+  jumps_kept = unmapped (soonest (map (λ p. loose_jump p.looped p.statement) (every_statement file))) rules.1
 
   at_most : (most n : ℕ) (rest : Option ScopeFault) (b : Bool) → nat_lt most n ≡ b → cond b (Some (Limit Functions)) rest ≡ None → n ≤ most
   at_most most n rest true is e = absurd (cc)

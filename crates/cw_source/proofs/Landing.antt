@@ -7,7 +7,8 @@ use Rattle.cw_syntax.specs.Trees.{just, Statements, nil, cons, Definition, File}
 use Rattle.cw_syntax.specs.Plans.{Scene, Action, Computes, Opens, Closes, Invokes, action_of, acting, steps_of, steps_of_form, steps_of_arm, steps_of_all, seams, seams_all}
 use Rattle.cw_syntax.specs.Plans.{numbered, numbered_all, Routine, routines_from, scene_of, plan_of}
 use Rattle.cw_scope.specs.Walks.{Placed, placed, placed_within, placed_arm, placed_all, body_of, every_statement}
-use Rattle.cw_scope.specs.Rules.{sooner, least, at_if, is_jump, loose_jump}
+use Rattle.cw_scope.specs.Rules.{at_if, is_jump, loose_jump}
+use Rattle.cw_resolve.specs.Soonest.{sooner, soonest}
 use Rattle.cw_syntax.specs.Runnable.{Lands, LandsAll}
 use Rattle.cw_source.specs.Read.{ReadsAs}
 use Rattle.cw_source.proofs.Kept.{jumps_kept}
@@ -22,10 +23,10 @@ neither None b e = (refl, e)
 neither (Some a) None e = absurd (cc)
 neither (Some a) (Some b) e = absurd (cc)
 
-clear_of : (ps : List Placed) → least (map (λ p. loose_jump p.looped p.statement) ps) ≡ None → Clear ps
+clear_of : (ps : List Placed) → soonest (map (λ p. loose_jump p.looped p.statement) ps) ≡ None → Clear ps
 clear_of [] e = tt
 clear_of (p ∷ ps) e =
-    let both = neither (loose_jump p.looped p.statement) (least (map (λ q. loose_jump q.looped q.statement) ps)) e in
+    let both = neither (loose_jump p.looped p.statement) (soonest (map (λ q. loose_jump q.looped q.statement) ps)) e in
     (both.0, clear_of ps both.1)
 
 split : (ps qs : List Placed) → Clear (ps ++ qs) → Clear ps × Clear qs

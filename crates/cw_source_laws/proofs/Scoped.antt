@@ -18,7 +18,8 @@ use Rattle.cw_scope.specs.declared.faults.ScopeFault.{ScopeFault}
 use Rattle.cw_scope.specs.declared.faults.ScopeFault.TheVariants.{MainCalled}
 use Rattle.cw_scope.specs.Walks.{nodes, Placed, placed, placed_within, placed_arm, placed_all, body_of, every_statement, Whole, inner, declaration_trees, wholes_in, wholes_of, every_whole, every_node}
 use Rattle.cw_scope.specs.Names.{uses, every_name, every_label}
-use Rattle.cw_scope.specs.Rules.{sooner, least, at_if, is_main, main_call}
+use Rattle.cw_scope.specs.Rules.{at_if, is_main, main_call}
+use Rattle.cw_resolve.specs.Soonest.{sooner, soonest}
 use Rattle.cw_scope.specs.Faults.{no_main, two_functions, two_labels, arity, call_form, main_called, reserved_name, jump, limit, ◌or_else◌, scope_fault}
 use Rattle.cw_positions.specs.Opens.{EachStands, EachStandsIn, EachStandsArm, EachStandsAll, EachStandsFrom}
 use Rattle.cw_positions.proofs.Fitting.{ActFits}
@@ -44,10 +45,10 @@ unmapped : (place : Option ℕ) → option_map MainCalled place ≡ None → pla
 unmapped None e = refl
 unmapped (Some x) e = absurd (cc)
 
-main_kept : (source : List ℕ) (file : File) → scope_fault source file ≡ None → least (map (main_call source) (every_node file)) ≡ None
+main_kept : (source : List ℕ) (file : File) → scope_fault source file ≡ None → soonest (map (main_call source) (every_node file)) ≡ None
 unfolding main_called
 main_kept source file kept =
-    unmapped (least (map (main_call source) (every_node file)))
+    unmapped (soonest (map (main_call source) (every_node file)))
     (sixth_kept (no_main source file) (two_functions source file) (two_labels source file) (arity source file (every_node file))
     (call_form source file (uses file) (every_whole file)) (main_called source (every_node file)) (reserved_name source (every_name file)) (jump (every_statement file))
     (limit source file (every_label file)) kept)
@@ -58,9 +59,9 @@ module _ (source : List ℕ) where
   Leave [] = Unit {0}
   Leave (t ∷ ts) = (main_call source t ≡ None) × Leave ts
 
-  leave_of : (ts : List Tree) → least (map (main_call source) ts) ≡ None → Leave ts
+  leave_of : (ts : List Tree) → soonest (map (main_call source) ts) ≡ None → Leave ts
   leave_of [] e = tt
-  leave_of (t ∷ ts) e = let both = neither (main_call source t) (least (map (main_call source) ts)) e in (both.0, leave_of ts both.1)
+  leave_of (t ∷ ts) e = let both = neither (main_call source t) (soonest (map (main_call source) ts)) e in (both.0, leave_of ts both.1)
 
   split : (ts us : List Tree) → Leave (ts ++ us) → Leave ts × Leave us
   split [] us h = (tt, h)

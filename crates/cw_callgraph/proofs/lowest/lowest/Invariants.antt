@@ -1,5 +1,6 @@
 use Rattle.std.proofs.Common.{◌≡◌, drop}
-use Rattle.cw_callgraph.specs.Lowest.{sooner, lowest}
+use Rattle.cw_callgraph.specs.Lowest.{lowest}
+use Rattle.cw_resolve.specs.Soonest.{sooner}
 use Rattle.cw_callgraph.proofs.lowest.lowest.Given as goal
 
 abbrev pub invariant-loop-place : goal.invariant-loop-place

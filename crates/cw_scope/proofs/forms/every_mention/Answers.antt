@@ -1,10 +1,11 @@
 use Rattle.std.proofs.Common.{◌≡◌, length, map, refl, ap, ◌∙◌, arith}
 use Rattle.std.specs.List.{flat_map}
 use Rattle.cw_syntax.specs.Trees.{tree_of, file_of}
-use Rattle.cw_scope.specs.Rules.{sooner, least, wrong_form}
+use Rattle.cw_scope.specs.Rules.{wrong_form}
+use Rattle.cw_resolve.specs.Soonest.{sooner, soonest}
 use Rattle.cw_scope.specs.Mentions.{names_at, calls_at}
 use Rattle.cw_scope.specs.Held.{tree_at, whole_of}
-use Rattle.cw_scope.proofs.Lesser.{lesser_further}
+use Rattle.cw_resolve.proofs.Lesser.{lesser_further}
 use Rattle.cw_scope.proofs.Pushed.{behind_old, further}
 use Rattle.cw_scope.proofs.forms.every_mention.Goals as goal
 
@@ -26,6 +27,6 @@ loop-whole-preserved c =
           c.in_ok-put_mentions.ensures.names c.loop-whole.invariant.names;
       calls = further (λ l. flat_map (λ w. calls_at w.tree) (map whole_of l)) xs i x _ _ (calls_at (whole_of x).tree) _ c.loop-whole-test.true c.whole-item.is (λ ys. refl)
           c.in_ok-put_mentions.ensures.calls c.loop-whole.invariant.calls;
-      place = lesser_further (λ l. least (map rule (map whole_of l))) xs i x _ _ (rule (whole_of x)) _ c.loop-whole-test.true c.whole-item.is (λ ys. refl)
+      place = lesser_further (λ l. soonest (map rule (map whole_of l))) xs i x _ _ (rule (whole_of x)) _ c.loop-whole-test.true c.whole-item.is (λ ys. refl)
           (c.sooner-misformed.ensures ∙ ap (sooner c.loop-whole.misformed) c.in_ok-own.ensures) c.loop-whole.invariant.place;
     }

@@ -2,7 +2,8 @@ use Rattle.std.proofs.Common.{◌≡◌, ◌++◌, Bool, cond, false, true, None
 use Rattle.std.specs.List.{list_any}
 use Rattle.cw_syntax.specs.Trees.{Tree, Trees, trees_of, tree_of, file_of}
 use Rattle.cw_scope.specs.Walks.{nodes_in}
-use Rattle.cw_scope.specs.Rules.{sooner, least, is_call, parts_of, defined_call}
+use Rattle.cw_scope.specs.Rules.{is_call, parts_of, defined_call}
+use Rattle.cw_resolve.specs.Soonest.{sooner, soonest}
 use Rattle.cw_scope.specs.Held.{tree_at}
 use Rattle.cw_scope.proofs.Operators.{parts_are}
 use Rattle.cw_scope.proofs.Calling.{no_places}
@@ -28,7 +29,7 @@ returns c = λ tree.
     let file = file_of c.args.known.now.program.now in
     let call = c.args.call.now in
     let own = λ (b : Bool). cond b (defined_call source file (tree_of call)) None in
-    let rest = λ (l : List Tree). least (map (defined_call source file) l) in
+    let rest = λ (l : List Tree). soonest (map (defined_call source file) l) in
     let some : true ≡ list_any is_call (nodes_in (parts_of (tree_of call))) =
     sym c.if-not-are_calling.false
     ∙ c.are_calling.ensures

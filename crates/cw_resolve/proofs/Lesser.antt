@@ -1,7 +1,7 @@
 -- The lesser of two places.
 use Rattle.std.proofs.Common.{◌≡◌, ℕ, ◌+◌, ◌<◌, min, List, ◌∷◌, drop, length, get_or, Option, None, Some, refl, sym, ap, ◌∙◌, arith}
 use Rattle.std.proofs.lemmas.List.{drop_more}
-use Rattle.cw_scope.specs.Rules.{sooner}
+use Rattle.cw_resolve.specs.Soonest.{sooner}
 
 min_assoc : (a b c : ℕ) → min (min a b) c ≡ min a (min b c)
 min_assoc a b c = omega arith
