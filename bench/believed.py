@@ -23,7 +23,7 @@ TOP = ("cw_cli", os.path.join("crates", "cw_cli", "src", "command.rt"), "capweav
 HEAD = "| Crate | Definitions (`specs/`), with their lines | Types of its code that they name |"
 
 WORD = re.compile(r"[^\W\d][\w'-]*(?:\.[^\W\d][\w'-]*)?|◌[^\s,{}()]*◌|[^\w\s,{}().◌]+")
-USE = re.compile(r"use Rattle\.(\w+)\.(specs|proofs)\.([\w.'-]+?)(?:\.\{([^}]*)\}| as ([\w'-]+))?;?\s*$")
+USE = re.compile(r"^[ \t]*(?:ghost )?(?:pub )?use Rattle\.(\w+)\.(?:specs|proofs)\.([\w.'-]+?)(?:\.\{([^}]*)\}| as ([\w'-]+))?;?[ \t]*(?:--.*)?$", re.M)
 DEFINED = re.compile(r"(?:abbrev |unfoldable )?(?:pub )?(?:(data|record) )?(◌[^\s,{}()]*◌|[^\W\d][\w'-]*)(?=\s|:|$)")
 GROUP = re.compile(r"(?:abbrev |unfoldable )?(?:mutual\s*$|module\b)")
 
@@ -31,17 +31,10 @@ GROUP = re.compile(r"(?:abbrev |unfoldable )?(?:mutual\s*$|module\b)")
 def uses_of(text):
     """The words that a file brings in, by their names here, and the modules that it gives a name."""
     words, modules = {}, {}
-    for line in text.splitlines():
-        line = line.strip()
-        if line.startswith("ghost "):
-            line = line[6:]
-        match = USE.match(line)
-        if not match:
-            continue
-        crate, _, module, names, alias = match.groups()
+    for crate, module, names, alias in USE.findall(text):
         if alias:
             modules[alias] = (crate, module)
-        for name in (names or "").split(","):
+        for name in names.split(","):
             there, _, here = name.strip().partition(" as ")
             if there:
                 words[(here or there).strip()] = (crate, module, there.strip())
@@ -63,10 +56,10 @@ class Definitions:
         self.lines = 0
         groups = [(0, set())]
         current, opened = None, False
-        for line in text.splitlines():
+        for line in re.sub(r"^use [^{\n]*(?:\{[^}]*\})?.*$", "", text, flags=re.M).splitlines():
             code = line.split("--")[0].rstrip()
             stripped = code.strip()
-            if not stripped or stripped.startswith("use "):
+            if not stripped:
                 continue
             self.lines += 1
             indent = len(code) - len(code.lstrip())

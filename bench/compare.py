@@ -6,7 +6,7 @@
 
 Each command gets a source's name behind its own words. Half of the sources are valid; of a quarter a few tokens are changed, and in a
 quarter something is put in that may break a rule of scope. Both commands must answer with one status and one first line on standard
-error; where the first takes a source, or says `source: not yet`, the other must take it too (status 0, 1 or 4). With --gcc,
+error; where the first takes a source the other must take it too (status 0, 1 or 4). With --gcc,
 `gcc -fsyntax-only -std=c11 -w` must take each valid source that the first command takes, and mustn't call another a syntax error. Each
 difference is printed, and --keep writes its source into a folder. The last lines count the answers.
 
@@ -90,7 +90,7 @@ class Batch:
 
 
 def takes(answer):
-    return answer[0] in (0, 1, 4) or answer[1] == "source: not yet"
+    return answer[0] in (0, 1, 4)
 
 
 def agree(ours, theirs):

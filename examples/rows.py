@@ -160,6 +160,10 @@ ROWS = [
     ("a run that stops", "run p t tape", {"p": STOPPED, "t": WOVEN_ONE, "tape": "on refuse"}, 0, "try 1 enter refused\nstop 1\nended\n", ""),
     ("a play", "play p s t tape", {"p": REFUSED, "s": ONE, "t": BEATEN_ONE, "tape": "try try"}, 0, "try 0 enter refused\ntry 1 enter refused\nlabel a amb\nviolation a never amb\n", ""),
     ("a play that ends early", "play p s t tape", {"p": REFUSED, "s": ONE, "t": BEATEN_ONE, "tape": "skip"}, 1, "tape spent\n", ""),
+    ("a sample", "sample 200", {}, 0, "sample 200\npoints 1206\npositions 2418\nstates 4\ncontexts 601\ncells 28896\nrows 2832\nwoven\n", ""),
+    ("no sample", "sample 0", {}, 2, "", "usage: capweave sample N\n"),
+    ("a sample past the last", "sample 401", {}, 2, "", "usage: capweave sample N\n"),
+    ("a number with a leading zero", "sample 01", {}, 2, "", "usage: capweave sample N\n"),
 ]
 
 

@@ -24,7 +24,7 @@ fn end_without_memory(rt: &HostRuntime) -> ExitCode {
     ExitCode::from(MEMORY)
 }
 
-/// A word as text. In place of one that isn't UTF-8 stands a dash, which names no command and is none of a command's files.
+/// A word as text. In place of one that isn't UTF-8 stands a dash: as the first word it names no command, behind it the file `-`.
 fn text_of(rt: &HostRuntime, word: &[u8]) -> Result<String, NoMemory> {
     match str::from_utf8(word) {
         Ok(text) => Ok(String::from_str(rt.alloc(), text)?),

@@ -48,7 +48,7 @@ party_of true = Weaver
 party_of false = Environment
 
 -- an exit leads somewhere by On alone
-exit_only : (g : Game) (p q f : ℕ) (rets : List Ret) (by : Move) → (by ≡ On → ⊥) → leads_in g p q rets (Some (Exit f)) by ≡ None
+pub exit_only : (g : Game) (p q f : ℕ) (rets : List Ret) (by : Move) → (by ≡ On → ⊥) → leads_in g p q rets (Some (Exit f)) by ≡ None
 exit_only g p q f [] by ne = refl
 exit_only g p q f (r ∷ rets) On ne = absurd (ne refl)
 exit_only g p q f (r ∷ rets) _ ne = refl

@@ -20,6 +20,7 @@ use Rattle.cw_game.specs.declared.spots.Spot.TheVariants as spot
 use Rattle.cw_game.specs.Games.{Game, refuses_in, can_stop_in, past_asked, resumed_in, Ret, Config, at_pair, leads_in}
 use Rattle.cw_game.specs.Games.{returned as returned_to}
 use Rattle.cw_game.specs.Together.{Together, at_start, by_move, by_refusal, by_going_on}
+use Rattle.cw_game.proofs.Link.{exit_only}
 use Rattle.cw_points.specs.declared.graph.Point.{Point}
 use Rattle.cw_points.specs.declared.graph.Point.TheVariants as point
 use Rattle.cw_points.specs.declared.graph.Node.{Node}
@@ -38,11 +39,13 @@ use Rattle.cw_positions.specs.Closed.{LeadsWithin}
 use Rattle.cw_positions.specs.Laid.{IsGameOn}
 use Rattle.cw_positions.specs.Items.{IsOfPoint, LeadsAs, StaysIn, IsAtPoint, HasItem, ItemsStand}
 use Rattle.cw_positions.proofs.Begins.{begin_next, begin_more}
-use Rattle.cw_positions.proofs.Closing.{CallsWithin, closed_at, point_closed, get_below}
+use Rattle.cw_lemmas.proofs.Lists.{get_below}
+use Rattle.cw_positions.proofs.Closing.{CallsWithin, closed_at, point_closed}
 use Rattle.cw_positions.proofs.Leading.{length_nodes}
 use Rattle.cw_positions.proofs.Lengths.{width_at}
 use Rattle.cw_positions.proofs.Origins.{spot_of}
 use Rattle.cw_positions.proofs.Programs.{of_graph}
+use Rattle.cw_positions.proofs.Seen.{get_front}
 use Rattle.cw_positions.proofs.Standing.{found, found_two}
 
 -- ---- a point's positions
@@ -116,11 +119,6 @@ unfolding is_visit
 free_quiet w f l r (spot.Visit j i a) h = absurd h
 free_quiet w f l r (spot.Asked j i a) h = absurd h
 free_quiet w f l r _ h = refl
-
-get_front : {A : Type 0} (a b : List A) (i : ℕ) (x : A) → slice_get a i ≡ Some x → slice_get (a ++ b) i ≡ Some x
-get_front [] b i x e = absurd (none-some x e)
-get_front (y ∷ a) b zero x e = e
-get_front (y ∷ a) b (suc i) x e = get_front a b i x e
 
 called_in : Point → ℕ
 called_in (point.Call f) = f
@@ -379,12 +377,6 @@ module _ (g : Graph) (policy : PlainPolicy) (plan : Plan) (has : (f : ℕ) → I
       → leads g.parts.items returns w n.next other ≡ Some here
   lead n w way other returns here e f h = sym (ap₂ (λ x y. leads g.parts.items returns x n.next y) e (sym f)) ∙ h
 
-  -- an exit leads somewhere by On alone
-  exit_only : (p q f : ℕ) (rets : List Ret) (by : Move) → (by ≡ On → ⊥) → leads_in game p q rets (Some (spot.Exit f)) by ≡ None
-  exit_only p q f [] by ne = refl
-  exit_only p q f (r ∷ rets) On ne = absurd (ne refl)
-  exit_only p q f (r ∷ rets) _ ne = refl
-
   way_leads : (s : Spot) (n : Node) (by : Move) (way : Way) (p q : ℕ) (rets : List Ret) (returns : List ℕ) (here : Option Stand) (d : Config) → way_of by ≡ Some way
       → LeadsAs (base_of g policy) n s → leads g.parts.items returns n.point n.next way ≡ Some here → leads_in game p q rets (Some s) by ≡ Some d → Places rets returns → Reaches here d
   way_leads (spot.Step k) n On way p q rets returns here d e h l m z =
@@ -426,7 +418,7 @@ module _ (g : Graph) (policy : PlainPolicy) (plan : Plan) (has : (f : ℕ) → I
   way_leads (spot.Exit f) n On way p q (r ∷ rets) returns here d e h l m z =
       subst (Reaches here) (same_Some _ d m) (to_back returns here (returned_to game.states r.kept q) r rets (lead n point.Exit way OnWay returns here h.0 (same_Some OnWay way e) l) z)
   way_leads (spot.Exit f) n On way p q [] returns here d e h l m z = absurd (none-some d m)
-  way_leads (spot.Exit f) n by way p q rets returns here d e h l m z = absurd (none-some d (sym (exit_only p q f rets by (λ e. cc)) ∙ m))
+  way_leads (spot.Exit f) n by way p q rets returns here d e h l m z = absurd (none-some d (sym (exit_only game p q f rets by (λ e. cc)) ∙ m))
   way_leads (spot.Visit j i a) n Skip way p q rets returns here d e h l m z = absurd (none-some way e)
   way_leads (spot.Visit j i a) n Try way p q rets returns here d e h l m z = absurd (none-some way e)
   way_leads (spot.Visit j i a) n _ way p q rets returns here d e h l m z = absurd (none-some d m)
@@ -474,7 +466,7 @@ module _ (g : Graph) (policy : PlainPolicy) (plan : Plan) (has : (f : ℕ) → I
   still_leads (spot.SplitCall j f k) On p q n rets d e m h = cc
   still_leads (spot.SplitCall j f k) _ p q n rets d e m h = absurd (none-some d m)
   still_leads (spot.Exit f) On p q n rets d e m h = cc
-  still_leads (spot.Exit f) by p q n rets d e m h = absurd (none-some d (sym (exit_only p q f rets by (λ e. cc)) ∙ m))
+  still_leads (spot.Exit f) by p q n rets d e m h = absurd (none-some d (sym (exit_only game p q f rets by (λ e. cc)) ∙ m))
 
   -- what the stack's step is in the graph
   of_tied : (next : List Frame) (o : Option (Option Stand)) → Tied g.nodes.items (points plan) (Some next) o → (here : Option Stand) × (o ≡ Some here) × StackAt g.nodes.items (points plan) next here

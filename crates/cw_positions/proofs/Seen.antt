@@ -1,5 +1,5 @@
 -- The seams of a program's graph are those of its positions, each with its stages.
-use Rattle.std.proofs.Common.{◌≡◌, ℕ, zero, suc, ◌+◌, ◌<◌, List, [], ◌∷◌, ◌++◌, length, map, Bool, true, false, ◌||◌, nat_eq, nat_lt, Option, Some}
+use Rattle.std.proofs.Common.{◌≡◌, ℕ, zero, suc, ◌+◌, ◌<◌, List, [], ◌∷◌, ◌++◌, length, map, Bool, true, false, nat_eq, nat_lt, Option, Some}
 use Rattle.std.proofs.Common.{None, refl, sym, ap, ◌∙◌, subst, arith, ⊎_elim, zero-add, eq-eqb}
 use Rattle.std.specs.Prelude.{slice_get}
 use Rattle.std.specs.List.{list_any}
@@ -44,7 +44,7 @@ lt_true m n h = grind (arith, nat_tests)
 true_lt : (m n : ℕ) → nat_lt m n ≡ true → m < n
 true_lt m n h = grind (arith, nat_tests)
 
-get_front : {A : Type 0} (a b : List A) (i : ℕ) (x : A) → slice_get a i ≡ Some x → slice_get (a ++ b) i ≡ Some x
+pub get_front : {A : Type 0} (a b : List A) (i : ℕ) (x : A) → slice_get a i ≡ Some x → slice_get (a ++ b) i ≡ Some x
 get_front [] b i x e = absurd (none-some x e)
 get_front (y ∷ a) b zero x e = e
 get_front (y ∷ a) b (suc i) x e = get_front a b i x e

@@ -19,7 +19,6 @@ use Rattle.cw_regex.proofs.Cutting.{parts_cut}
 use Rattle.cw_regex.specs.Scans.{ends_word, Apart, May}
 use Rattle.cw_regex.proofs.Running.{after_subject, after, expression_end, run_word, run_expression, run_test, run_close}
 use Rattle.cw_regex.proofs.Parsing.{parsed}
-use Rattle.cw_regex.proofs.Scanned.{apart_before as apart_ends}
 
 abbrev pub At : Type 0
 At = Phase × ℕ
@@ -132,6 +131,9 @@ apart_begins s t e = by (ends_word s)
     by true = e
     by false = refl
 
+pub apart_before : (s t : List ℕ) → ends_word s ≡ false → Apart s t
+apart_before s t e = rw e refl
+
 pub ends_append : (s : List ℕ) (b : ℕ) (t : List ℕ) → ends_blank (s ++ b ∷ t) ≡ ends_blank (b ∷ t)
 ends_append [] b t = refl
 ends_append (a ∷ []) b t = refl
@@ -178,7 +180,7 @@ front_expression : (s : List ℕ) (q : Phase) (d : ℕ) → starts_blank s ≡ f
 front_expression s q d b h =
     let more = tail q ++ closing d in
     let cut = parts_cut s more (apart_begins s more (tail_begins q (closing d))) in
-    let within = parts_cut (tail q) (closing d) (apart_ends (tail q) (closing d) (tail_apart q)) in
+    let within = parts_cut (tail q) (closing d) (apart_before (tail q) (closing d) (tail_apart q)) in
     let x = closing_runs (closed_by q) d (closed_end q) in
     let goes : run false Begin 0 (parts (s ++ more)) ≡ Some (x.0, 0) = ap (run false Begin 0) cut ∙ run_append false (parts s) (parts more) Begin q 0 d h ∙ ap (run false q d) within
     ∙ run_append false (parts (tail q)) (parts (closing d)) q (closed_by q) d d (tail_runs q d) ∙ x.1 in

@@ -18,7 +18,7 @@ use Rattle.std.proofs.lemmas.Bool.{cases_Bool as which}
 use Rattle.cw_regex.proofs.Cutting.{word_no_blank, parts_blank, parts_mark, parts_byte, parts_word, parts_cut}
 use Rattle.cw_regex.specs.Scans.{ends_word, Apart, Scan}
 use Rattle.cw_regex.proofs.Runs.{take_front}
-use Rattle.cw_regex.proofs.Fronts.{At, run_append, apart_begins, ends_append, starts_append, front_of, runs, accepted, rejected, stuck_part}
+use Rattle.cw_regex.proofs.Fronts.{At, run_append, apart_begins, ends_append, starts_append, front_of, runs, accepted, rejected, stuck_part, apart_before}
 
 pub scan_start : (alone : Bool) (t : List ℕ) → Scan alone [] t (start alone) 0 0
 scan_start alone t = record {
@@ -204,9 +204,6 @@ apart_of s c t e a = by (ends_word s) (subst (λ x. (ends_word s && x) ≡ false
     by : (b : Bool) → (b && true) ≡ false → b ≡ false
     by true h = h
     by false h = refl
-
-pub apart_before : (s t : List ℕ) → ends_word s ≡ false → Apart s t
-apart_before s t e = rw e refl
 
 pub scan_word : (alone : Bool) (s : List ℕ) (c : ℕ) (w t : List ℕ) (q r : Phase) (d most : ℕ) → Scan alone s ((c ∷ w) ++ t) q d most → list_all is_name_byte (c ∷ w) ≡ true →
     begins_word t ≡ false → step_word q (c ∷ w) ≡ Some r → Scan alone (s ++ c ∷ w) t r d most

@@ -10,11 +10,12 @@ use Rattle.cw_resolve.specs.Labels.{labels_in_file}
 use Rattle.cw_trace.specs.declared.names.Names.{Names as NamesData}
 use Rattle.cw_trace.specs.Traces.{Names}
 
--- the name of the label whose `:` ends at this place; there is none at the mark of another seam
+-- the name of the label whose `:` ends at this place, and the empty one where none does
 abbrev pub label_at : List ℕ → List Labelled → ℕ → List ℕ
 label_at source labels place = unwrap_or (option_map (λ l. text source l.name) (find (λ l. nat_eq l.mark place) labels)) []
 
--- Seams are numbered in the order of their marks: the name of the label of each seam, and no name for an entry, an open, a close and a call.
+-- Seams are numbered in the order of their marks: the name of the label at each seam's mark. An entry has none; an open, a close and a call have one
+-- only right behind a label's `:`, as in `a:f();`, and no line tells it.
 abbrev pub seam_names : List ℕ → File → Plan → List (List ℕ)
 seam_names source file plan = map (λ m. label_at source (labels_in_file file) m.place) (marks_of plan)
 
