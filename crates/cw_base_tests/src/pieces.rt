@@ -6,8 +6,7 @@ ghost use Rattle.cw_core.specs.Ranges.{set_spelling};
 ghost use Rattle.cw_io.specs.Written.{Follows};
 
 use cw_core::{StateId, StateSet};
-use cw_io::{FileShelf, MemSink, Shelf, Sink, SinkFault, StreamSink};
-use cw_io::Writer;
+use cw_io::{FileShelf, MemSink, Shelf, Sink, SinkFault, StreamSink, Writer};
 use std::alloc::{AllocError, Global};
 use std::fs;
 use std::process::Abort;

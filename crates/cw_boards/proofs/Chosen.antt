@@ -13,7 +13,7 @@ use Rattle.cw_certs.specs.declared.moves.Move.{Move}
 use Rattle.cw_certs.specs.declared.moves.Move.TheVariants.{Skip, Try, Grant, Refuse, On, Left, Right, Opened, Failed, Stop}
 use Rattle.cw_syntax.specs.Plans.{Plain, Break, Continue, Return, Open, Close, Call, Group, Label, If, While, Do, For}
 use Rattle.cw_syntax.specs.Frames.{Item, Entry, Todo, Test, After, Mark, End, Frame, Way, pass}
-use Rattle.cw_boards.specs.declared.kinds.Kind.{Kind}
+use Rattle.cw_boards.specs.declared.kinds.FrontKind.{FrontKind}
 use Rattle.cw_boards.specs.declared.choices.Phase.{Phase as HeldPhase}
 use Rattle.cw_boards.specs.declared.choices.Phase.TheVariants.{Visit as HeldVisit, Asked as HeldAsked, Refused as HeldRefused, Split as HeldSplit, Over as HeldOver}
 use Rattle.cw_boards.specs.declared.choices.Choice.{Choice}
@@ -209,7 +209,7 @@ letters_at (After at) is frames caps = refl
 letters_at Mark is frames caps = refl
 letters_at (End f) is frames caps = refl
 
-abbrev pub Changed : Problem → Board → Option Caps → Way → List Frame → Kind → Board
+abbrev pub Changed : Problem → Board → Option Caps → Way → List Frame → FrontKind → Board
 Changed p b mode way next k = record {
   stack = next;
   kept = kept_by k mode b.kept;
@@ -228,7 +228,7 @@ landed_at p b mode way next i is frames e =
     let f : List (Option Caps) → Caps → Word → Board = λ kept caps ls. record { stack = next; kept = kept; caps = caps; word = b.word ++ ls; phase = begin p.policy next } in
     ap₂ (λ x y. f x y (letters b.stack b.caps)) k c ∙ ap (λ z. f (kept_by (item_kind i) mode b.kept) (caps_by p.policy (item_kind i) b.kept way b.caps) z) l
 
-pub landed_is : (p : Problem) (b : Board) (mode : Option Caps) (way : Way) (next : List Frame) (k : Kind) → front_kind b.stack ≡ Some k → landed p mode b way next ≡ Changed p b mode way next k
+pub landed_is : (p : Problem) (b : Board) (mode : Option Caps) (way : Way) (next : List Frame) (k : FrontKind) → front_kind b.stack ≡ Some k → landed p mode b way next ≡ Changed p b mode way next k
 landed_is p b mode way next k h = by b.stack refl
   where
     by : (stack : List Frame) → b.stack ≡ stack → landed p mode b way next ≡ Changed p b mode way next k
@@ -299,7 +299,7 @@ the_letter x ((i ∷ is) ∷ frames) caps e = letter_at x i is frames caps e
 pub violates_not : (p : Problem) (b : Board) → None ≡ reached_letter b.phase (front_kind b.stack) b.caps → Violates p b → ⊥
 violates_not p b e v = v.1 (no_letter b.stack b.caps (e ∙ ap (λ f. reached_letter f (front_kind b.stack) b.caps) v.0))
 
-reached_free : (x : Letter) (phase : Phase) (k : Option Kind) (caps : Caps) → Some x ≡ reached_letter phase k caps → phase ≡ Free
+reached_free : (x : Letter) (phase : Phase) (k : Option FrontKind) (caps : Caps) → Some x ≡ reached_letter phase k caps → phase ≡ Free
 reached_free x (Visit stage a later) k caps e = absurd (cc)
 reached_free x (Asked stage a later) k caps e = absurd (cc)
 reached_free x (Refused stage a later) k caps e = absurd (cc)
@@ -316,7 +316,7 @@ violates_where p b x e =
       λ v. subst (λ ls. IsBad p.policy (b.word ++ ls)) l v.2,
     )
 
-pub changed_by : (p : Problem) (b : Board) (mode : Option Caps) (way : Way) (next : List Frame) (k : Kind) (kept : List (Option Caps)) (caps : Caps) (word : Word) (phase : Phase)
+pub changed_by : (p : Problem) (b : Board) (mode : Option Caps) (way : Way) (next : List Frame) (k : FrontKind) (kept : List (Option Caps)) (caps : Caps) (word : Word) (phase : Phase)
     → kept ≡ kept_by k mode b.kept → caps ≡ caps_by p.policy k b.kept way b.caps → word ≡ b.word ++ letters_by k b.caps → phase ≡ begin p.policy next
     → record { stack = next; kept = kept; caps = caps; word = word; phase = phase } ≡ Changed p b mode way next k
 changed_by p b mode way next k kept caps word phase e f g h =
@@ -324,14 +324,14 @@ changed_by p b mode way next k kept caps word phase e f g h =
     ap₂ (λ x y. build x y word phase) e f ∙ ap₂ (λ x y. build (kept_by k mode b.kept) (caps_by p.policy k b.kept way b.caps) x y) g h
 
 -- the same, by the kind of the front
-pub letter_by_kind : (p : Problem) (b : Board) (o : Option Letter) (k : Option Kind) (held : HeldPhase) → k ≡ front_kind b.stack → b.phase ≡ phase_by (primitives_at p.policy b.stack) held
+pub letter_by_kind : (p : Problem) (b : Board) (o : Option Letter) (k : Option FrontKind) (held : HeldPhase) → k ≡ front_kind b.stack → b.phase ≡ phase_by (primitives_at p.policy b.stack) held
     → o ≡ reached_letter (phase_by (primitives_by p.policy k) held) k b.caps → o ≡ reached_letter b.phase (front_kind b.stack) b.caps
 letter_by_kind p b o k held e f h =
     h ∙ ap (λ k. reached_letter (phase_by (primitives_by p.policy k) held) k b.caps) e
     ∙ ap (λ l. reached_letter (phase_by l held) (front_kind b.stack) b.caps) (sym (primitives_are p.policy b.stack))
     ∙ ap (λ g. reached_letter g (front_kind b.stack) b.caps) (sym f)
 
-pub moved_by_kind : (p : Problem) (b : Board) (k : Option Kind) (held : HeldPhase) (m : Move) (c : Choice) → k ≡ front_kind b.stack
+pub moved_by_kind : (p : Problem) (b : Board) (k : Option FrontKind) (held : HeldPhase) (m : Move) (c : Choice) → k ≡ front_kind b.stack
     → c ≡ choice_of p.policy (primitives_by p.policy k) b.caps held m → moved p b (phase_by (primitives_at p.policy b.stack) held) m ≡ chosen p b c m
 moved_by_kind p b k held m c e f =
     moved_is p b held m

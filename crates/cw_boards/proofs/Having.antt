@@ -17,7 +17,7 @@ use Rattle.cw_boards.specs.declared.items.Item.{Item as Held}
 use Rattle.cw_boards.specs.declared.turns.Way.{Way as HeldWay}
 use Rattle.cw_boards.specs.declared.turns.Way.TheVariants.{On}
 use Rattle.cw_model.specs.Boards.{Problem, Phase, Board, Weaver, Environment, landed, stepped, onward, turn_of as party_turn}
-use Rattle.cw_boards.specs.declared.kinds.Kind.{Kind}
+use Rattle.cw_boards.specs.declared.kinds.FrontKind.{FrontKind}
 use Rattle.cw_boards.specs.declared.choices.Phase.{Phase as HeldPhase}
 use Rattle.cw_boards.specs.Held.{refusing, primitives_at, phase_by, item_of, frame_in}
 use Rattle.cw_boards.specs.Choices.{primitives_by}
@@ -112,7 +112,7 @@ function_is s fs f = by (nat_lt f (length fs)) refl
 pub from_here : {A : Type 0} (xs : List A) (i : ℕ) (x : A) → i < length xs → x ≡ get_or xs i x → drop i xs ≡ x ∷ drop (i + 1) xs
 from_here xs i x l e = drop-cons xs i x l ∙ ap₂ (λ y ys. y ∷ ys) (sym e) (ap (λ n. drop n xs) (sym (add-one i)))
 
-pub phase_by_kind : (policy : PlainPolicy) (stack : List Frame) (k : Option Kind) (held : HeldPhase) → k ≡ front_kind stack
+pub phase_by_kind : (policy : PlainPolicy) (stack : List Frame) (k : Option FrontKind) (held : HeldPhase) → k ≡ front_kind stack
     → phase_by (primitives_at policy stack) held ≡ phase_by (primitives_by policy k) held
 phase_by_kind policy stack k held e = ap (λ l. phase_by l held) (primitives_are policy stack) ∙ ap (λ k. phase_by (primitives_by policy k) held) (sym e)
 

@@ -6,7 +6,7 @@ use Rattle.cw_syntax.specs.declared.program.Head.{Head, Head'}
 use Rattle.cw_syntax.specs.declared.program.What.TheVariants.{For as ForWhat}
 use Rattle.cw_syntax.specs.Trees.{Statement, form_of, for_of, Stated}
 use Rattle.cw_syntax.specs.Plans.{Stm, Plain, Break, Continue, Return, Open, Close, Call, Group, Label, If, While, Do, For, Scene, numbered, steps_of_form}
-use Rattle.cw_boards.specs.declared.kinds.Kind.TheVariants.{Loop as LoopKind}
+use Rattle.cw_boards.specs.declared.kinds.FrontKind.TheVariants.{Loop as LoopKind}
 use Rattle.cw_boards.specs.Kinds.{kind_of}
 use Rattle.cw_syntax.specs.Frames.{Frame, Todo, Way}
 use Rattle.std.specs.Prelude.{None}

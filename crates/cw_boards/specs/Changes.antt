@@ -10,27 +10,27 @@ use Rattle.cw_syntax.specs.Frames.{Frame, Way, broken, continued, frame_of, popp
 use Rattle.cw_model.specs.Boards.{Problem, Phase, Free, after_open, given_back}
 use Rattle.cw_boards.specs.declared.turns.Turn.{Turn}
 use Rattle.cw_boards.specs.declared.turns.Turn.TheVariants.{Breaks, Continues, Calls, Returns, Stops}
-use Rattle.cw_boards.specs.declared.kinds.Kind.{Kind}
-use Rattle.cw_boards.specs.declared.kinds.Kind.TheVariants.{Open, Close, Call, Label, End}
+use Rattle.cw_boards.specs.declared.kinds.FrontKind.{FrontKind}
+use Rattle.cw_boards.specs.declared.kinds.FrontKind.TheVariants.{Open, Close, Call, Label, End}
 
 -- what a step changes, by the kind of the front item
-abbrev pub kept_by : Kind → Option Caps → List (Option Caps) → List (Option Caps)
+abbrev pub kept_by : FrontKind → Option Caps → List (Option Caps) → List (Option Caps)
 kept_by (Call f split) mode kept = mode ∷ kept
 kept_by End mode kept = drop 1 kept
 kept_by _ mode kept = kept
 
-abbrev pub caps_by : PlainPolicy → Kind → List (Option Caps) → Way → Caps → Caps
+abbrev pub caps_by : PlainPolicy → FrontKind → List (Option Caps) → Way → Caps → Caps
 caps_by policy (Open d) kept way caps = after_open policy caps d way
 caps_by policy (Close d) kept way caps = closed caps d
 caps_by policy End kept way caps = given_back kept caps
 caps_by policy _ kept way caps = caps
 
-abbrev pub letters_by : Kind → Caps → Word
+abbrev pub letters_by : FrontKind → Caps → Word
 letters_by (Label l) caps = record { label = l; caps = caps } ∷ []
 letters_by _ caps = []
 
 -- the letter of a label that is reached, after its primitives
-abbrev pub reached_letter : Phase → Option Kind → Caps → Option Letter
+abbrev pub reached_letter : Phase → Option FrontKind → Caps → Option Letter
 reached_letter Free (Some (Label l)) caps = Some (record { label = l; caps = caps })
 reached_letter _ _ caps = None
 

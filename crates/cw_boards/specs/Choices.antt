@@ -8,8 +8,8 @@ use Rattle.cw_rights.specs.Policies.{PlainPolicy, primitives}
 use Rattle.cw_certs.specs.declared.moves.Move.{Move}
 use Rattle.cw_certs.specs.declared.moves.Move.TheVariants.{Skip, Try, Grant, Refuse, Stop}
 use Rattle.cw_model.specs.Boards.{Problem, Board, may_grant, may_refuse, can_stop, way_of, stepped}
-use Rattle.cw_boards.specs.declared.kinds.Kind.{Kind}
-use Rattle.cw_boards.specs.declared.kinds.Kind.TheVariants.{Entry, Label, Call}
+use Rattle.cw_boards.specs.declared.kinds.FrontKind.{FrontKind}
+use Rattle.cw_boards.specs.declared.kinds.FrontKind.TheVariants.{Entry, Label, Call}
 use Rattle.cw_boards.specs.declared.choices.Phase.{Phase as HeldPhase}
 use Rattle.cw_boards.specs.declared.choices.Phase.TheVariants.{Visit as HeldVisit, Asked as HeldAsked, Refused as HeldRefused, Split as HeldSplit, Over as HeldOver}
 use Rattle.cw_boards.specs.declared.choices.Choice.{Choice}
@@ -17,7 +17,7 @@ use Rattle.cw_boards.specs.declared.choices.Choice.TheVariants.{Forbidden, To, G
 use Rattle.cw_boards.specs.Held.{primitives_at, phase_by}
 
 -- the primitives that are passed at a front item of this kind
-abbrev pub primitives_by : PlainPolicy → Option Kind → List Primitive
+abbrev pub primitives_by : PlainPolicy → Option FrontKind → List Primitive
 primitives_by policy (Some Entry) = primitives policy false
 primitives_by policy (Some (Label l)) = primitives policy false
 primitives_by policy (Some (Call f split)) = primitives policy split

@@ -4,18 +4,18 @@ use Rattle.cw_syntax.specs.Plans.{Stm, Plain, Break, Continue, Return, Open, Clo
 use Rattle.cw_syntax.specs.Frames.{Item, Entry, Todo, Test, After, Mark, End, Frame}
 use Rattle.cw_resolve.specs.declared.actions.Act.{Act}
 use Rattle.cw_resolve.specs.declared.actions.Act.TheVariants.{Computes as ComputesAct, Opens as OpensAct, Closes as ClosesAct, Invokes as InvokesAct}
-use Rattle.cw_boards.specs.declared.kinds.Kind.{Kind}
-use Rattle.cw_boards.specs.declared.kinds.Kind.TheVariants.{Entry as EntryKind, Plain as PlainKind, Break as BreakKind, Continue as ContinueKind, Return as ReturnKind, Open as OpenKind}
-use Rattle.cw_boards.specs.declared.kinds.Kind.TheVariants.{Close as CloseKind, Call as CallKind, Group as GroupKind, Label as LabelKind, If as IfKind, Loop as LoopKind, Test as TestKind}
-use Rattle.cw_boards.specs.declared.kinds.Kind.TheVariants.{Step as StepKind, Mark as MarkKind, End as EndKind}
+use Rattle.cw_boards.specs.declared.kinds.FrontKind.{FrontKind}
+use Rattle.cw_boards.specs.declared.kinds.FrontKind.TheVariants.{Entry as EntryKind, Plain as PlainKind, Break as BreakKind, Continue as ContinueKind, Return as ReturnKind, Open as OpenKind}
+use Rattle.cw_boards.specs.declared.kinds.FrontKind.TheVariants.{Close as CloseKind, Call as CallKind, Group as GroupKind, Label as LabelKind, If as IfKind, Loop as LoopKind, Test as TestKind}
+use Rattle.cw_boards.specs.declared.kinds.FrontKind.TheVariants.{Step as StepKind, Mark as MarkKind, End as EndKind}
 
-abbrev pub act_kind : Act → Kind
+abbrev pub act_kind : Act → FrontKind
 act_kind ComputesAct = PlainKind
 act_kind (OpensAct d) = OpenKind d
 act_kind (ClosesAct d) = CloseKind d
 act_kind (InvokesAct number split result) = CallKind number split
 
-abbrev pub kind_of : Stm → Kind
+abbrev pub kind_of : Stm → FrontKind
 kind_of (Plain at) = PlainKind
 kind_of (Break at) = BreakKind
 kind_of (Continue at) = ContinueKind
@@ -30,7 +30,7 @@ kind_of (While at s) = LoopKind
 kind_of (Do at s) = LoopKind
 kind_of (For at init decided stepped s) = LoopKind
 
-abbrev pub item_kind : Item → Kind
+abbrev pub item_kind : Item → FrontKind
 item_kind (Entry f j) = EntryKind
 item_kind (Todo s) = kind_of s
 item_kind (Test at decided stepped s) = TestKind decided
@@ -39,10 +39,10 @@ item_kind Mark = MarkKind
 item_kind (End f) = EndKind
 
 -- the kind of the front item of the top frame
-abbrev pub frame_kind : Frame → Option Kind
+abbrev pub frame_kind : Frame → Option FrontKind
 frame_kind [] = None
 frame_kind (i ∷ is) = Some (item_kind i)
 
-abbrev pub front_kind : List Frame → Option Kind
+abbrev pub front_kind : List Frame → Option FrontKind
 front_kind [] = None
 front_kind (frame ∷ frames) = frame_kind frame

@@ -3,9 +3,9 @@ use Rattle.std.specs.Prelude.{true, false, List, ◌∷◌, Option, Some, None, 
 use Rattle.cw_syntax.specs.Plans.{Label, If, Plan}
 use Rattle.cw_syntax.specs.Frames.{Item, Todo, Test, Frame, after_if, broken, continued, ended, settle, popped, frame_of, Way}
 use Rattle.cw_syntax.specs.Frames.{On as OnWay, Left as LeftWay, Right as RightWay, Opened as OpenedWay, Failed as FailedWay}
-use Rattle.cw_boards.specs.declared.kinds.Kind.{Kind}
-use Rattle.cw_boards.specs.declared.kinds.Kind.TheVariants.{Entry as EntryKind, Plain as PlainKind, Break as BreakKind, Continue as ContinueKind, Return as ReturnKind, Open as OpenKind}
-use Rattle.cw_boards.specs.declared.kinds.Kind.TheVariants.{Close as CloseKind, Call as CallKind, Label as LabelKind, If as IfKind, Test as TestKind, Step as StepKind, End as EndKind}
+use Rattle.cw_boards.specs.declared.kinds.FrontKind.{FrontKind}
+use Rattle.cw_boards.specs.declared.kinds.FrontKind.TheVariants.{Entry as EntryKind, Plain as PlainKind, Break as BreakKind, Continue as ContinueKind, Return as ReturnKind, Open as OpenKind}
+use Rattle.cw_boards.specs.declared.kinds.FrontKind.TheVariants.{Close as CloseKind, Call as CallKind, Label as LabelKind, If as IfKind, Test as TestKind, Step as StepKind, End as EndKind}
 use Rattle.cw_boards.specs.declared.turns.Way.{Way as HeldWay}
 use Rattle.cw_boards.specs.declared.turns.Way.TheVariants.{On, Left, Right, Opened, Failed}
 use Rattle.cw_boards.specs.declared.turns.Turn.{Turn}
@@ -18,7 +18,7 @@ way_in Right = RightWay
 way_in Opened = OpenedWay
 way_in Failed = FailedWay
 
-abbrev pub turn_on : Kind → Turn
+abbrev pub turn_on : FrontKind → Turn
 turn_on EntryKind = Passes
 turn_on PlainKind = Passes
 turn_on BreakKind = Breaks
@@ -32,21 +32,21 @@ turn_on StepKind = Passes
 turn_on EndKind = Returns
 turn_on _ = Stops
 
-abbrev pub turn_left : Kind → Turn
+abbrev pub turn_left : FrontKind → Turn
 turn_left IfKind = Enters
 turn_left (TestKind true) = Enters
 turn_left _ = Stops
 
-abbrev pub turn_right : Kind → Turn
+abbrev pub turn_right : FrontKind → Turn
 turn_right IfKind = Enters
 turn_right (TestKind true) = Passes
 turn_right _ = Stops
 
-abbrev pub turn_open : Kind → Turn
+abbrev pub turn_open : FrontKind → Turn
 turn_open (OpenKind d) = Passes
 turn_open _ = Stops
 
-abbrev pub turn_of : Kind → HeldWay → Turn
+abbrev pub turn_of : FrontKind → HeldWay → Turn
 turn_of kind On = turn_on kind
 turn_of kind Left = turn_left kind
 turn_of kind Right = turn_right kind

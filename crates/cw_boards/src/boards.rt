@@ -18,7 +18,7 @@ use crate::changes::{caps_after, is_bad_with, kept_after, reached_letter, way_of
 use crate::choices::{Choice, Phase, choice_of};
 use crate::fault::BoardFault;
 use crate::items::Item;
-use crate::kinds::{Kind, front_kind};
+use crate::kinds::{FrontKind, front_kind};
 use crate::seams::seams_before;
 use crate::steps::{pass, start_stack};
 use crate::turns::Way;
@@ -72,7 +72,7 @@ fn landed<'s>(
     policy: &Policy,
     state: State<'s>,
     split: bool,
-    kind: Kind,
+    kind: FrontKind,
     way: Way,
 ) -> Result<Option<State<'s>>, AllocError>
     requires valid { IsValid (policy_of policy.now) }

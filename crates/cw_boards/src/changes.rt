@@ -11,7 +11,7 @@ ghost use Rattle.cw_boards.specs.Changes.{kept_by, caps_by, letters_by, reached_
 ghost use Rattle.cw_boards.specs.Turns.{way_in};
 
 use crate::choices::{Phase, primitive_at};
-use crate::kinds::Kind;
+use crate::kinds::FrontKind;
 use crate::turns::Way;
 use cw_certs::Move;
 use cw_rights::{Caps, Letter, Policy, close_hold, matches_plain, open_hold};
@@ -34,27 +34,32 @@ pub(crate) fn way_of(by: Move) -> Option<Way>
 
 /// A call keeps by its mode, and an end forgets.
 pub(crate) fn kept_after(
-    kind: Kind,
+    kind: FrontKind,
     mode: Option<Caps>,
     mut kept: VecDeque<Option<Caps>>,
 ) -> Result<VecDeque<Option<Caps>>, AllocError>
     ensures { IfOk result (λ next. next.items ≡ kept_by kind mode kept.items) }
 {
     match kind {
-        Kind::Call { .. } => {
+        FrontKind::Call { .. } => {
             kept.push_front(mode)?;
             Ok(kept)
         }
-        Kind::End => {
+        FrontKind::End => {
             let _ = kept.pop_front();
             Ok(kept)
         }
-        Kind::Entry | Kind::Plain | Kind::Break | Kind::Continue | Kind::Return => Ok(kept),
-        Kind::Open(_) => Ok(kept),
-        Kind::Close(_) => Ok(kept),
-        Kind::Label(_) => Ok(kept),
-        Kind::Test(_) => Ok(kept),
-        Kind::Group | Kind::If | Kind::Loop | Kind::Step | Kind::Mark => Ok(kept),
+        FrontKind::Entry
+        | FrontKind::Plain
+        | FrontKind::Break
+        | FrontKind::Continue
+        | FrontKind::Return => Ok(kept),
+        FrontKind::Open(_) => Ok(kept),
+        FrontKind::Close(_) => Ok(kept),
+        FrontKind::Label(_) => Ok(kept),
+        FrontKind::Test(_) => Ok(kept),
+        FrontKind::Group | FrontKind::If | FrontKind::Loop | FrontKind::Step | FrontKind::Mark =>
+            Ok(kept),
     }
 }
 
@@ -109,7 +114,7 @@ fn given_back(kept: &VecDeque<Option<Caps>>, caps: Caps) -> Caps
 /// The capabilities after a step.
 pub(crate) fn caps_after(
     policy: &Policy,
-    kind: Kind,
+    kind: FrontKind,
     kept: &VecDeque<Option<Caps>>,
     way: Way,
     caps: Caps,
@@ -118,43 +123,57 @@ pub(crate) fn caps_after(
     ensures { result ≡ caps_by (policy_of policy.now) kind kept.now.items (way_in way) caps }
 {
     match kind {
-        Kind::Open(d) => after_open(policy, caps, d, way),
-        Kind::Close(d) => closed(caps, d),
-        Kind::End => given_back(kept, caps),
-        Kind::Entry | Kind::Plain | Kind::Break | Kind::Continue | Kind::Return => caps,
-        Kind::Call { .. } => caps,
-        Kind::Label(_) => caps,
-        Kind::Test(_) => caps,
-        Kind::Group | Kind::If | Kind::Loop | Kind::Step | Kind::Mark => caps,
+        FrontKind::Open(d) => after_open(policy, caps, d, way),
+        FrontKind::Close(d) => closed(caps, d),
+        FrontKind::End => given_back(kept, caps),
+        FrontKind::Entry
+        | FrontKind::Plain
+        | FrontKind::Break
+        | FrontKind::Continue
+        | FrontKind::Return => caps,
+        FrontKind::Call { .. } => caps,
+        FrontKind::Label(_) => caps,
+        FrontKind::Test(_) => caps,
+        FrontKind::Group | FrontKind::If | FrontKind::Loop | FrontKind::Step | FrontKind::Mark =>
+            caps,
     }
 }
 
 /// A word with the letter of a label that is passed.
 pub(crate) fn with_letter(
-    kind: Kind,
+    kind: FrontKind,
     mut word: Vec<Letter>,
     caps: Caps,
 ) -> Result<Vec<Letter>, AllocError>
     ensures { IfOk result (λ next. next.items ≡ word.items ++ letters_by kind caps) }
 {
     match kind {
-        Kind::Label(label) => {
+        FrontKind::Label(label) => {
             word.push(Letter { label, caps })?;
             Ok(word)
         }
-        Kind::Entry | Kind::Plain | Kind::Break | Kind::Continue | Kind::Return => Ok(word),
-        Kind::Open(_) => Ok(word),
-        Kind::Close(_) => Ok(word),
-        Kind::Call { .. } => Ok(word),
-        Kind::Test(_) => Ok(word),
-        Kind::Group | Kind::If | Kind::Loop | Kind::Step | Kind::Mark | Kind::End => Ok(word),
+        FrontKind::Entry
+        | FrontKind::Plain
+        | FrontKind::Break
+        | FrontKind::Continue
+        | FrontKind::Return => Ok(word),
+        FrontKind::Open(_) => Ok(word),
+        FrontKind::Close(_) => Ok(word),
+        FrontKind::Call { .. } => Ok(word),
+        FrontKind::Test(_) => Ok(word),
+        FrontKind::Group
+        | FrontKind::If
+        | FrontKind::Loop
+        | FrontKind::Step
+        | FrontKind::Mark
+        | FrontKind::End => Ok(word),
     }
 }
 
 /// The letter of the label at the front, where its primitives have been passed.
 pub(crate) fn reached_letter(
     policy: &Policy,
-    kind: Option<Kind>,
+    kind: Option<FrontKind>,
     caps: Caps,
     phase: Phase,
 ) -> Option<Letter>
@@ -165,13 +184,13 @@ pub(crate) fn reached_letter(
         return None;
     }
     match kind {
-        Some(Kind::Label(label)) => Some(Letter { label, caps }),
+        Some(FrontKind::Label(label)) => Some(Letter { label, caps }),
         _ => None,
     }
 }
 
 /// Whether no primitive is left before the front item is passed.
-fn is_free(policy: &Policy, kind: Option<Kind>, phase: Phase) -> bool
+fn is_free(policy: &Policy, kind: Option<FrontKind>, phase: Phase) -> bool
     requires { IsValid (policy_of policy.now) }
     ensures { result ≡ is_free (phase_by (primitives_by (policy_of policy.now) kind) phase) }
 {

@@ -7,7 +7,7 @@ ghost use Rattle.cw_rights.specs.Capabilities.{IsDescriptorBelow};
 ghost use Rattle.cw_model.specs.Boards.{may_grant, may_refuse, can_stop};
 ghost use Rattle.cw_boards.specs.Choices.{primitives_by, choice_of, granted_choice, visited_choice, refused_phase, answered_choice, resumed_choice};
 
-use crate::kinds::Kind;
+use crate::kinds::FrontKind;
 use cw_certs::Move;
 use cw_rights::policy::is_refusable;
 use cw_rights::{Allowed, Caps, Policy, Primitive, limit_allowed};
@@ -54,15 +54,19 @@ fn primitive(policy: &Policy, split: bool, stage: usize) -> Option<Primitive>
 }
 
 /// The primitive of this stage at a front item of this kind.
-pub(crate) fn primitive_at(policy: &Policy, kind: Option<Kind>, stage: usize) -> Option<Primitive>
+pub(crate) fn primitive_at(
+    policy: &Policy,
+    kind: Option<FrontKind>,
+    stage: usize,
+) -> Option<Primitive>
     requires { IsValid (policy_of policy.now) }
     ensures same { result ≡ slice_get (primitives_by (policy_of policy.now) kind) stage }
     ensures fit { IfSome result (λ a. (stage < 14) × IsDescriptorBelow 8 a) }
 {
     match kind {
-        Some(Kind::Entry) => primitive(policy, false, stage),
-        Some(Kind::Label(_)) => primitive(policy, false, stage),
-        Some(Kind::Call { function: _, split }) => primitive(policy, split, stage),
+        Some(FrontKind::Entry) => primitive(policy, false, stage),
+        Some(FrontKind::Label(_)) => primitive(policy, false, stage),
+        Some(FrontKind::Call { function: _, split }) => primitive(policy, split, stage),
         _ => None,
     }
 }
@@ -174,7 +178,7 @@ fn resumed(stage: usize, by: Move) -> Choice
 /// What a move does in a phase, at a front item of this kind.
 pub(crate) fn choice_of(
     policy: &Policy,
-    kind: Option<Kind>,
+    kind: Option<FrontKind>,
     caps: &Caps,
     phase: Phase,
     by: Move,

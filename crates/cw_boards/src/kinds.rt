@@ -17,7 +17,7 @@ use std::collections::VecDeque;
 
 /// What an item does, without what stands in it.
 #[derive(Clone, Copy, Drop)]
-pub(crate) enum Kind {
+pub(crate) enum FrontKind {
     Entry,
     Plain,
     Break,
@@ -37,54 +37,54 @@ pub(crate) enum Kind {
 }
 
 /// The kind of a statement that is an expression, by what it does.
-fn act_kind(act: Act) -> Kind
+fn act_kind(act: Act) -> FrontKind
     ensures { result ≡ act_kind act }
 {
     match act {
-        Act::Computes => Kind::Plain,
-        Act::Opens(d) => Kind::Open(d),
-        Act::Closes(d) => Kind::Close(d),
+        Act::Computes => FrontKind::Plain,
+        Act::Opens(d) => FrontKind::Open(d),
+        Act::Closes(d) => FrontKind::Close(d),
         Act::Invokes {
             function,
             split,
             ..
-        } => Kind::Call { function, split },
+        } => FrontKind::Call { function, split },
     }
 }
 
 /// What a statement does.
-pub(crate) fn statement_kind(checked: &Checked, policy: &Policy, what: &What) -> Kind
+pub(crate) fn statement_kind(checked: &Checked, policy: &Policy, what: &What) -> FrontKind
     requires { IsValid (policy_of policy.now) }
     ensures { (at : ℕ) → result ≡ kind_of (steps_of_form (scene checked.now policy.now) at (form_of what.now)) }
 {
     match what {
-        What::Block(_) => Kind::Group,
-        What::Decl(_) | What::Empty => Kind::Plain,
+        What::Block(_) => FrontKind::Group,
+        What::Decl(_) | What::Empty => FrontKind::Plain,
         What::Expr(e) => act_kind(action_of(checked, policy, e)),
-        What::Label(name, _, _) => Kind::Label(label_number(policy, text(checked, *name))),
-        What::If(_, _, _) => Kind::If,
-        What::While(_, _) | What::Do(_, _) => Kind::Loop,
-        What::For(_, _) => Kind::Loop,
-        What::Break => Kind::Break,
-        What::Continue => Kind::Continue,
-        What::Return(_) => Kind::Return,
+        What::Label(name, _, _) => FrontKind::Label(label_number(policy, text(checked, *name))),
+        What::If(_, _, _) => FrontKind::If,
+        What::While(_, _) | What::Do(_, _) => FrontKind::Loop,
+        What::For(_, _) => FrontKind::Loop,
+        What::Break => FrontKind::Break,
+        What::Continue => FrontKind::Continue,
+        What::Return(_) => FrontKind::Return,
     }
 }
 
 /// What an item does.
-pub(crate) fn item_kind(checked: &Checked, policy: &Policy, item: &Item) -> Kind
+pub(crate) fn item_kind(checked: &Checked, policy: &Policy, item: &Item) -> FrontKind
     requires { IsValid (policy_of policy.now) }
     ensures { result ≡ item_kind (item_of (scene checked.now policy.now) item.now) }
 {
     match item {
-        Item::Entry { .. } => Kind::Entry,
+        Item::Entry { .. } => FrontKind::Entry,
         Item::Todo { statement, .. } => statement_kind(checked, policy, &statement.what),
-        Item::Nothing => Kind::Group,
-        Item::Init(_) => Kind::Plain,
-        Item::Test { decided, .. } => Kind::Test(*decided),
-        Item::After(_) => Kind::Step,
-        Item::Mark => Kind::Mark,
-        Item::End(_) => Kind::End,
+        Item::Nothing => FrontKind::Group,
+        Item::Init(_) => FrontKind::Plain,
+        Item::Test { decided, .. } => FrontKind::Test(*decided),
+        Item::After(_) => FrontKind::Step,
+        Item::Mark => FrontKind::Mark,
+        Item::End(_) => FrontKind::End,
     }
 }
 
@@ -93,7 +93,7 @@ pub(crate) fn front_kind(
     checked: &Checked,
     policy: &Policy,
     stack: &VecDeque<VecDeque<Item>>,
-) -> Option<Kind>
+) -> Option<FrontKind>
     requires { IsValid (policy_of policy.now) }
     ensures { result ≡ front_kind (stack_in (scene checked.now policy.now) stack.now) }
 {

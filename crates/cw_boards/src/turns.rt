@@ -3,7 +3,7 @@
 ghost use Rattle.std.specs.Prelude.{◌≡◌};
 ghost use Rattle.cw_boards.specs.Turns.{turn_of};
 
-use crate::kinds::Kind;
+use crate::kinds::FrontKind;
 
 /// A way on from an item.
 #[derive(Clone, Copy, Drop)]
@@ -34,41 +34,41 @@ pub(crate) enum Turn {
 }
 
 /// How an item is passed that has one way.
-fn on(kind: Kind) -> Turn
+fn on(kind: FrontKind) -> Turn
     ensures { result ≡ turn_of kind Way.On }
 {
     match kind {
-        Kind::Entry | Kind::Plain | Kind::Step => Turn::Passes,
-        Kind::Close(_) => Turn::Passes,
-        Kind::Break => Turn::Breaks,
-        Kind::Continue => Turn::Continues,
-        Kind::Return => Turn::Ends,
-        Kind::Label(_) => Turn::Enters,
-        Kind::Test(decided) => if decided { Turn::Stops } else { Turn::Enters },
-        Kind::Call { function, split: _ } => Turn::Calls(function),
-        Kind::End => Turn::Returns,
-        Kind::Open(_) => Turn::Stops,
-        Kind::Group | Kind::If | Kind::Loop | Kind::Mark => Turn::Stops,
+        FrontKind::Entry | FrontKind::Plain | FrontKind::Step => Turn::Passes,
+        FrontKind::Close(_) => Turn::Passes,
+        FrontKind::Break => Turn::Breaks,
+        FrontKind::Continue => Turn::Continues,
+        FrontKind::Return => Turn::Ends,
+        FrontKind::Label(_) => Turn::Enters,
+        FrontKind::Test(decided) => if decided { Turn::Stops } else { Turn::Enters },
+        FrontKind::Call { function, split: _ } => Turn::Calls(function),
+        FrontKind::End => Turn::Returns,
+        FrontKind::Open(_) => Turn::Stops,
+        FrontKind::Group | FrontKind::If | FrontKind::Loop | FrontKind::Mark => Turn::Stops,
     }
 }
 
 /// How an item of this kind is passed this way.
-pub(crate) fn turn_of(kind: Kind, way: Way) -> Turn
+pub(crate) fn turn_of(kind: FrontKind, way: Way) -> Turn
     ensures { result ≡ turn_of kind way }
 {
     match way {
         Way::On => on(kind),
         Way::Left => match kind {
-            Kind::If | Kind::Test(true) => Turn::Enters,
+            FrontKind::If | FrontKind::Test(true) => Turn::Enters,
             _ => Turn::Stops,
         },
         Way::Right => match kind {
-            Kind::If => Turn::Enters,
-            Kind::Test(true) => Turn::Passes,
+            FrontKind::If => Turn::Enters,
+            FrontKind::Test(true) => Turn::Passes,
             _ => Turn::Stops,
         },
         Way::Opened | Way::Failed => match kind {
-            Kind::Open(_) => Turn::Passes,
+            FrontKind::Open(_) => Turn::Passes,
             _ => Turn::Stops,
         },
     }

@@ -4,8 +4,8 @@ ghost use Rattle.std.specs.Prelude.{◌≡◌, ◌&&◌, ◌≤◌, true, false,
 ghost use Rattle.std.specs.List.Sorted.{IsStrictlySortedBy, IsPartitionPoint};
 ghost use Rattle.cw_certs.specs.Ascending.{live_cmp};
 
-use crate::keys::{Keyed, row_at};
 use crate::WeaverCert;
+use crate::keys::{Keyed, row_at};
 use cw_core::{MemId, PosId};
 
 impl Keyed for (PosId, MemId) {

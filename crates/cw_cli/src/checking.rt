@@ -27,13 +27,12 @@ use crate::refusals::{
 use cw_certs::WeaverCert;
 use cw_commands::{Cause, Outcome, Reply};
 use cw_core::{NoMemory, Quantity};
-use cw_io::Sink;
-use cw_text::TextFault;
-use cw_io::Writer;
+use cw_io::{Sink, Writer};
 use cw_policy::read_policy;
 use cw_product::Game;
 use cw_rights::Policy;
 use cw_source::SourceFault;
+use cw_text::TextFault;
 use cw_wcheck::{BadRow, check_weaver};
 use cw_woven::{Accepted, CutFault, Opened, WovenFault, accept_woven, open_woven};
 use std::alloc::Global;

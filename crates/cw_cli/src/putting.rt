@@ -5,8 +5,7 @@ ghost use Rattle.cw_commands.specs.Outcomes.{due_of, Told};
 ghost use Rattle.cw_commands.specs.Starts.{Begins, IsTold};
 
 use cw_commands::{Outcome, Reply};
-use cw_io::Sink;
-use cw_io::Writer;
+use cw_io::{Sink, Writer};
 
 /// A text that is due, as it stands.
 pub(crate) fn told<O: Sink, N: Sink>(reply: Reply, text: &[u8], out: &mut O) -> Outcome<O, N>

@@ -12,8 +12,7 @@ ghost use Rattle.cw_cli.specs.Refusals.{descriptor_line, over, policy_cause, pol
 
 use cw_commands::{Cause, Outcome};
 use cw_core::{NoMemory, Quantity};
-use cw_io::Sink;
-use cw_io::Writer;
+use cw_io::{Sink, Writer};
 use cw_policy::{PolicyFault, put_fault};
 use cw_regex::RegexFault;
 use cw_rights::Policy;

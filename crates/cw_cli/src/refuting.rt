@@ -22,13 +22,12 @@ use cw_certs::EnvCert;
 use cw_commands::{Cause, Outcome, Reply};
 use cw_core::{NoMemory, Quantity};
 use cw_echeck::{BadEnvRow, check_env};
-use cw_io::Sink;
-use cw_text::TextFault;
-use cw_io::Writer;
+use cw_io::{Sink, Writer};
 use cw_product::Game;
 use cw_rights::Policy;
 use cw_strategy_text::read_env;
 use cw_syntax::checked::Checked;
+use cw_text::TextFault;
 use std::alloc::Global;
 
 /// The refusal by the first fault of a strategy's text.

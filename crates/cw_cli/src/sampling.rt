@@ -15,8 +15,7 @@ use crate::refuting::refute_due;
 use crate::weaving::counted_due;
 use cw_commands::{Outcome, Reply};
 use cw_core::NoMemory;
-use cw_io::{Sink, SinkFault, SureSink};
-use cw_io::Writer;
+use cw_io::{Sink, SinkFault, SureSink, Writer};
 use cw_sample::{SampleFault, make_sample};
 use std::alloc::Global;
 

@@ -11,8 +11,7 @@ use cw_certs::Move;
 use cw_commands::Cause;
 use cw_core::NoMemory;
 use cw_io::Sink;
-use cw_text::TextFault;
-use cw_text::read_tape;
+use cw_text::{TextFault, read_tape};
 use std::alloc::Global;
 
 /// The moves of a tape, a play's or a run's; or the refusal that is due, by its first line that has another word.

@@ -6,8 +6,7 @@ ghost use Rattle.cw_commands.specs.Outcomes.{cause_status, reply_status};
 
 use crate::outcome::{Cause, Reply};
 use cw_core::Quantity;
-use cw_io::Sink;
-use cw_io::Writer;
+use cw_io::{Sink, Writer};
 
 /// How a command ends: a text was put whole, or why none was.
 #[derive(Drop)]

@@ -10,8 +10,7 @@ ghost use Rattle.cw_commands.specs.Starts.{noted_from, EndsLine};
 
 use crate::ending::Ending;
 use crate::name::Name;
-use cw_io::{Sink, SinkFault};
-use cw_io::Writer;
+use cw_io::{Sink, SinkFault, Writer};
 
 /// Puts some words, others behind them and a line feed.
 fn put_line<N: Sink>(note: &mut N, words: &[u8], rest: &[u8]) -> Result<(), SinkFault>

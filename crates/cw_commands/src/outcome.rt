@@ -1,7 +1,6 @@
 //! What is due for the bytes of a command's files.
 
-use cw_io::Sink;
-use cw_io::Writer;
+use cw_io::{Sink, Writer};
 
 /// Which of a command's two answers a text is.
 #[derive(Clone, Copy, Debug, PartialEq, Eq, Drop)]

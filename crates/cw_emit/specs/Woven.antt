@@ -9,7 +9,7 @@ use Rattle.cw_text.specs.RowLines.{with_fields}
 use Rattle.cw_text.specs.LimitsText.{descriptor_name}
 use Rattle.cw_table_text.specs.TablesText.{tables_text}
 use Rattle.cw_emit.specs.Cut.{part}
-use Rattle.cw_syntax.specs.PlainMarks.{HasNone}
+use Rattle.cw_syntax.specs.PlainMarks.{HasNone, ArePlainMarks}
 
 -- A mark as it is spelled. That of an entry is a statement of its own, the others are prefixes of one. An open has the
 -- descriptor's name in the policy, a call whose result is taken the variable that takes it.

@@ -9,8 +9,7 @@ ghost use Rattle.cw_syntax.specs.Names.{text as name_text};
 ghost use Rattle.cw_emit.specs.Cut.{part};
 ghost use Rattle.cw_emit.specs.Woven.{spelled, spelling};
 
-use cw_io::Sink;
-use cw_io::Writer;
+use cw_io::{Sink, Writer};
 use cw_rights::Policy;
 use cw_syntax::marks::{MarkKind, SeamMark};
 use cw_syntax::program::Name;

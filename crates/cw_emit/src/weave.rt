@@ -14,8 +14,7 @@ ghost use Rattle.cw_syntax.specs.PlainMarks.{ArePlainMarks};
 
 use crate::marks::put_mark;
 use cw_certs::WeaverCert;
-use cw_io::{Sink, SinkFault};
-use cw_io::Writer;
+use cw_io::{Sink, SinkFault, Writer};
 use cw_rights::Policy;
 use cw_syntax::marks::SeamMark;
 use cw_table_text::put_tables;

@@ -5,7 +5,7 @@ use Rattle.cw_lex.specs.declared.tokens.TokenKind.TheVariants as kind
 use Rattle.cw_lex.specs.declared.tokens.TokenKind.{TokenKind}
 use Rattle.cw_lex.specs.declared.tokens.Token.{Token}
 use Rattle.cw_syntax.specs.Names.{slice}
-use Rattle.cw_lex.specs.declared.piece.Piece.TheVariants as piece
+use Rattle.cw_lex.specs.declared.piece.Front.TheVariants as piece
 use Rattle.cw_lex.specs.Pieces.{piece_at}
 use Rattle.cw_lex.specs.Numbers.{number_of}
 use Rattle.cw_lex.specs.Tokens.{AreTokens}

@@ -2,12 +2,11 @@
 
 use crate::ground::{are, names, policy, read};
 use cw_callgraph::call_table;
-use cw_io::{SinkFault, SureSink};
+use cw_io::{SinkFault, SureSink, Writer};
 use cw_listing::{Names, put_graph};
-use cw_resolve::{function_names, is_label, label_names};
-use cw_io::Writer;
 use cw_points::Graph;
 use cw_points::build::build;
+use cw_resolve::{function_names, is_label, label_names};
 use cw_syntax::checked::Checked;
 use std::alloc::Global;
 use std::process::Abort;

@@ -1,8 +1,8 @@
 //! What forbids splitting the function `f` of each of these programs.
 
 use crate::ground::{policy, read};
-use cw_resolve::function_named;
 use cw_callgraph::effects;
+use cw_resolve::function_named;
 use cw_rights::Policy;
 use std::alloc::{AllocError, Global};
 use std::process::Abort;

@@ -10,8 +10,8 @@ ghost use Rattle.cw_io.specs.declared.fault.SinkFault.TheVariants as SinkFault;
 ghost use Rattle.cw_io.specs.Written.{Follows};
 
 use crate::said::Said;
-use cw_core::{Line, StateSet, mask_length};
 use crate::{Sink, SinkFault};
+use cw_core::{Line, StateSet, mask_length};
 use itoa::Buffer;
 use std::marker::Model;
 use std::snapshot::Snapshot;

@@ -19,8 +19,6 @@ last : (b : Bool) (m : ℕ) → has (one_if b + 2 * m) 0 ≡ b
 last true m = let e : bit_at (1 + 2 * m) 0 ≡ 1 = omega arith in ap (λ k. nat_eq k 1) e
 last false m = let e : bit_at (0 + 2 * m) 0 ≡ 0 = omega arith in ap (λ k. nat_eq k 1) e
 
-]
-
 -- the members are the states below n that pass
 pub has_set : (passes : ℕ → Bool) (n x : ℕ) → has (set_of passes n) x ≡ (nat_lt x n && passes x)
 unfolding has_member

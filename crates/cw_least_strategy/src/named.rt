@@ -8,8 +8,8 @@ ghost use Rattle.cw_least_strategy.specs.Strategies.{keys_in, named};
 use crate::acts::{Act, act_at};
 use crate::contexts::Entries;
 use crate::key::Key;
-use cw_fixpoint::Steps;
 use cw_core::StateId;
+use cw_fixpoint::Steps;
 use cw_solve::Solved;
 use std::alloc::{AllocError, Global};
 

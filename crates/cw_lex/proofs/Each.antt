@@ -4,7 +4,7 @@ use Rattle.std.specs.List.{AllByRecursion}
 use Rattle.cw_syntax.specs.Names.{slice}
 use Rattle.cw_lex.specs.declared.tokens.TokenKind.TheVariants as kind
 use Rattle.cw_lex.specs.declared.tokens.Token.{Token}
-use Rattle.cw_lex.specs.declared.piece.Piece.TheVariants as piece
+use Rattle.cw_lex.specs.declared.piece.Front.TheVariants as piece
 use Rattle.cw_lex.specs.Keywords.{is_keyword}
 use Rattle.cw_lex.specs.Numbers.{number_of}
 use Rattle.cw_lex.specs.Pieces.{piece_at}

@@ -4,8 +4,8 @@ use Rattle.std.proofs.lemmas.Bool.{cases_order, both_ways}
 use Rattle.std.specs.List.{sum_by}
 use Rattle.cw_lex.specs.declared.tokens.Token.{Token}
 use Rattle.cw_lex.specs.declared.piece.Defect.{Defect}
-use Rattle.cw_lex.specs.declared.piece.Piece.{Piece}
-use Rattle.cw_lex.specs.declared.piece.Piece.TheVariants as piece
+use Rattle.cw_lex.specs.declared.piece.Front.{Front}
+use Rattle.cw_lex.specs.declared.piece.Front.TheVariants as piece
 use Rattle.cw_lex.specs.declared.lexer.LexFault.{LexFault}
 use Rattle.cw_lex.specs.declared.lexer.LexFault.TheVariants as fault
 use Rattle.cw_lex.specs.Marks.{IsLeastMarker, HasNoMarker, is_marker}
@@ -13,24 +13,24 @@ use Rattle.cw_lex.specs.Pieces.{piece_at, size}
 use Rattle.cw_lex.specs.Tokens.{fresh_behind, Stand, tokens_of, AreTokens, fault_at, IsFirstDefect, IsFault}
 
 -- Pieces that stand one after the other up to what is none are determined by the bytes.
-record OneEnd (ps qs : List Piece) (g h : Bool) (rest other : List ℕ) : Type 0 where
+record OneEnd (ps qs : List Front) (g h : Bool) (rest other : List ℕ) : Type 0 where
   pieces : ps ≡ qs
   fresh : g ≡ h
   left : rest ≡ other
 
-no_more : (f : Bool) (bs : List ℕ) (p : Piece) → size (piece_at f bs) ≡ 0 → piece_at f bs ≡ p → 0 < size p → ⊥
+no_more : (f : Bool) (bs : List ℕ) (p : Front) → size (piece_at f bs) ≡ 0 → piece_at f bs ≡ p → 0 < size p → ⊥
 no_more f bs p none is some = let e : size p ≡ 0 = rw is at none in absurd (omega arith)
 
-one_end : (f : Bool) (bs : List ℕ) (ps qs : List Piece) (g h : Bool) (rest other : List ℕ) → Stand f bs ps g rest → size (piece_at g rest) ≡ 0 → Stand f bs qs h other
+one_end : (f : Bool) (bs : List ℕ) (ps qs : List Front) (g h : Bool) (rest other : List ℕ) → Stand f bs ps g rest → size (piece_at g rest) ≡ 0 → Stand f bs qs h other
     → size (piece_at h other) ≡ 0 → OneEnd ps qs g h rest other
 one_end f bs [] [] g h rest other s none t nothing = record { pieces = refl; fresh = s.0 ∙ sym t.0; left = s.1 ∙ sym t.1 }
 one_end f bs [] (q ∷ qs) g h rest other s none t nothing = absurd (no_more f bs q (rw (s.0, s.1) at none) t.0 t.1)
 one_end f bs (p ∷ ps) [] g h rest other s none t nothing = absurd (no_more f bs p (rw (t.0, t.1) at nothing) s.0 s.1)
 one_end f bs (p ∷ ps) (q ∷ qs) g h rest other s none t nothing =
     let same : q ≡ p = sym t.0 ∙ s.0 in
-    let behind : Stand (fresh_behind f p bs) (drop (size p) bs) qs h other = subst (λ (x : Piece). Stand (fresh_behind f x bs) (drop (size x) bs) qs h other) same t.2 in
+    let behind : Stand (fresh_behind f p bs) (drop (size p) bs) qs h other = subst (λ (x : Front). Stand (fresh_behind f x bs) (drop (size x) bs) qs h other) same t.2 in
     let more = one_end (fresh_behind f p bs) (drop (size p) bs) ps qs g h rest other s.2 none behind nothing in
-    record { pieces = ap (λ (x : Piece). x ∷ ps) (sym same) ∙ ap (λ (x : List Piece). q ∷ x) more.pieces; fresh = more.fresh; left = more.left }
+    record { pieces = ap (λ (x : Front). x ∷ ps) (sym same) ∙ ap (λ (x : List Front). q ∷ x) more.pieces; fresh = more.fresh; left = more.left }
 
 nothing_left : (f : Bool) → size (piece_at f []) ≡ 0
 unfolding piece_at
@@ -63,7 +63,7 @@ one_defect source f g s t =
     let one = one_end true source s.0 t.0 s.1 t.1 s.2 t.2 s.4 (defect_left s.1 s.2 s.3 s.5) t.4 (defect_left t.1 t.2 t.3 t.5) in
     let there : piece_at s.1 s.2 ≡ piece_at t.1 t.2 = ap (λ (x : Bool). piece_at x s.2) one.fresh ∙ ap (piece_at t.1) one.left in
     let same : s.3 ≡ t.3 = same_defect s.3 t.3 (sym s.5 ∙ there ∙ t.5) in
-    s.6 ∙ ap (λ (x : Defect). fault_at x (sum_by size s.0)) same ∙ ap (λ (x : List Piece). fault_at t.3 (sum_by size x)) one.pieces ∙ sym t.6
+    s.6 ∙ ap (λ (x : Defect). fault_at x (sum_by size s.0)) same ∙ ap (λ (x : List Front). fault_at t.3 (sum_by size x)) one.pieces ∙ sym t.6
 
 -- a marker, or a defect where there is none
 pub told : (source : List ℕ) (f : LexFault) → IsFault source f → ((at : ℕ) × (f ≡ fault.Marker at) × IsLeastMarker source at) ⊎ (HasNoMarker source × IsFirstDefect source f)

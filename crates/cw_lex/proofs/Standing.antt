@@ -8,21 +8,21 @@ use Rattle.cw_lex.specs.declared.tokens.TokenKind.{TokenKind}
 use Rattle.cw_lex.specs.declared.tokens.Token.{Token}
 use Rattle.cw_lex.specs.declared.piece.Defect.{Defect}
 use Rattle.cw_lex.specs.declared.piece.Defect.TheVariants as defect
-use Rattle.cw_lex.specs.declared.piece.Piece.{Piece}
-use Rattle.cw_lex.specs.declared.piece.Piece.TheVariants as piece
+use Rattle.cw_lex.specs.declared.piece.Front.{Front}
+use Rattle.cw_lex.specs.declared.piece.Front.TheVariants as piece
 use Rattle.cw_lex.specs.declared.lexer.LexFault.TheVariants as fault
 use Rattle.cw_lex.specs.Marks.{IsLeastMarker, HasNoMarker}
 use Rattle.cw_lex.specs.Pieces.{piece_at, size}
 use Rattle.cw_lex.specs.Tokens.{fresh_behind, Stand, tokens_of, AreTokens, fault_at, IsFirstDefect, IsFault}
 
 -- one piece more behind them
-stand_more : (f : Bool) (bs : List ℕ) (ps : List Piece) (g : Bool) (rest : List ℕ) (p : Piece) → Stand f bs ps g rest → piece_at g rest ≡ p → 0 < size p
+stand_more : (f : Bool) (bs : List ℕ) (ps : List Front) (g : Bool) (rest : List ℕ) (p : Front) → Stand f bs ps g rest → piece_at g rest ≡ p → 0 < size p
     → Stand f bs (ps ++ p ∷ []) (fresh_behind g p rest) (drop (size p) rest)
 stand_more f bs [] g rest p h is some = rw (sym h.0, sym h.1) (is, some, (refl, refl))
 stand_more f bs (q ∷ ps) g rest p h is some = (h.0, h.1, stand_more (fresh_behind f q bs) (drop (size q) bs) ps g rest p h.2 is some)
 
 -- the tokens of pieces and of those behind them
-tokens_more : (at : ℕ) (ps qs : List Piece) → tokens_of at (ps ++ qs) ≡ tokens_of at ps ++ tokens_of (at + sum_by size ps) qs
+tokens_more : (at : ℕ) (ps qs : List Front) → tokens_of at (ps ++ qs) ≡ tokens_of at ps ++ tokens_of (at + sum_by size ps) qs
 tokens_more at [] qs = rw add-zero refl
 tokens_more at (piece.Gap n ∷ ps) qs =
     let place : at + n + sum_by size ps ≡ at + sum_by size (piece.Gap n ∷ ps) = omega (arith, sum_by-cons size (piece.Gap n) ps) in
@@ -37,7 +37,7 @@ tokens_more at (piece.Fault d ∷ ps) qs =
 
 -- How far the source is read: pieces up to a place, whether no token stands on its line so far, and their tokens.
 pub record Reached (source : List ℕ) (at : ℕ) (fresh : Bool) (ts : List Token) : Type 0 where
-  pub pieces : List Piece
+  pub pieces : List Front
   pub stand : Stand true source pieces fresh (drop at source)
   pub place : at ≡ sum_by size pieces
   pub tokens : ts ≡ tokens_of 0 pieces
@@ -45,7 +45,7 @@ pub record Reached (source : List ℕ) (at : ℕ) (fresh : Bool) (ts : List Toke
 pub at_first : (source : List ℕ) → Reached source 0 true []
 at_first source = record { pieces = []; stand = (refl, refl); place = refl; tokens = refl }
 
-behind : (source : List ℕ) (at : ℕ) (fresh : Bool) (ts us : List Token) (p : Piece) → Reached source at fresh ts → piece_at fresh (drop at source) ≡ p → 0 < size p
+behind : (source : List ℕ) (at : ℕ) (fresh : Bool) (ts us : List Token) (p : Front) → Reached source at fresh ts → piece_at fresh (drop at source) ≡ p → 0 < size p
     → us ≡ ts ++ tokens_of at (p ∷ []) → Reached source (at + size p) (fresh_behind fresh p (drop at source)) us
 behind source at fresh ts us p r is some e = record {
   pieces = r.pieces ++ p ∷ [];

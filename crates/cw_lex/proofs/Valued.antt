@@ -8,7 +8,7 @@ use Rattle.std.proofs.lemmas.List.Folds.{length-prefix_len}
 use Rattle.std.proofs.lemmas.Bool.{ltb-true, and_parts, or_cases, both_ways, eqb-true}
 use Rattle.cw_lex.specs.declared.tokens.TokenKind.{TokenKind}
 use Rattle.cw_lex.specs.declared.tokens.TokenKind.TheVariants as kind
-use Rattle.cw_lex.specs.declared.piece.Piece.TheVariants as piece
+use Rattle.cw_lex.specs.declared.piece.Front.TheVariants as piece
 use Rattle.cw_lex.specs.Bytes.{is_white, is_letter, is_digit, is_name_byte, is_number_byte}
 use Rattle.cw_lex.specs.Keywords.{keywords, is_keyword}
 use Rattle.cw_lex.specs.Numbers.{is_number, number_of}

@@ -7,7 +7,7 @@ use Rattle.std.proofs.lemmas.List.Sums.{prefix_len-le-length}
 use Rattle.std.proofs.lemmas.List.Folds.{length-prefix_len}
 use Rattle.cw_lex.specs.declared.tokens.TokenKind.{TokenKind}
 use Rattle.cw_lex.specs.declared.tokens.TokenKind.TheVariants as kind
-use Rattle.cw_lex.specs.declared.piece.Piece.{Piece}
+use Rattle.cw_lex.specs.declared.piece.Front.{Front}
 use Rattle.cw_lex.specs.Bytes.{is_white, is_letter, is_digit, is_name_byte, is_number_byte, is_line_byte}
 use Rattle.cw_lex.specs.Keywords.{is_keyword}
 use Rattle.cw_lex.specs.Numbers.{is_number}
@@ -61,7 +61,7 @@ comment_within : (o : Option ℕ) (len : ℕ) → IfSome o (λ n. n ≤ len - 2)
 comment_within None len h le = tt
 comment_within (Some n) len h le = (omega arith, omega arith)
 
-choose : (len : ℕ) (t : Bool) (x y : Piece) → (t ≡ true → IsWithin len x) → (t ≡ false → IsWithin len y) → IsWithin len (cond t x y)
+choose : (len : ℕ) (t : Bool) (x y : Front) → (t ≡ true → IsWithin len x) → (t ≡ false → IsWithin len y) → IsWithin len (cond t x y)
 choose len true x y f g = f refl
 choose len false x y f g = g refl
 

@@ -6,8 +6,8 @@ use Rattle.std.specs.Str.{bytes_eq}
 use Rattle.cw_lex.specs.declared.tokens.TokenKind.{TokenKind}
 use Rattle.cw_lex.specs.declared.tokens.TokenKind.TheVariants as kind
 use Rattle.cw_lex.specs.declared.piece.Defect.TheVariants as defect
-use Rattle.cw_lex.specs.declared.piece.Piece.{Piece}
-use Rattle.cw_lex.specs.declared.piece.Piece.TheVariants as piece
+use Rattle.cw_lex.specs.declared.piece.Front.{Front}
+use Rattle.cw_lex.specs.declared.piece.Front.TheVariants as piece
 use Rattle.cw_lex.specs.Bytes.{is_white, is_blank, is_line_byte, is_letter, is_digit, is_name_byte, is_number_byte}
 use Rattle.cw_lex.specs.Keywords.{is_keyword}
 use Rattle.cw_lex.specs.Numbers.{is_number}
@@ -15,14 +15,14 @@ use Rattle.cw_lex.specs.Characters.{more_by, character_len, text_len}
 use Rattle.cw_lex.specs.Marks.{mark_len}
 
 -- a name or a keyword
-abbrev pub word : List ℕ → Piece
+abbrev pub word : List ℕ → Front
 word text = if is_keyword text then piece.Token kind.Keyword (length text) else piece.Token kind.Name (length text)
 
-abbrev pub number : List ℕ → Piece
+abbrev pub number : List ℕ → Front
 number text = if is_number text then piece.Token kind.Number (length text) else piece.Fault defect.Number
 
 -- a character or a string, given how many bytes it has behind its first quote
-abbrev pub quoted : TokenKind → Option ℕ → Piece
+abbrev pub quoted : TokenKind → Option ℕ → Front
 quoted k None = piece.Fault defect.OpenString
 quoted k (Some n) = piece.Token k (n + 1)
 
@@ -32,7 +32,7 @@ to_close [] = None
 to_close (b ∷ bs) = if starts_with nat_eq (b ∷ bs) (codes "*/") then Some 2 else more_by 1 (to_close bs)
 
 -- a comment, given how many bytes it has behind `/*`
-abbrev pub comment : Option ℕ → Piece
+abbrev pub comment : Option ℕ → Front
 comment None = piece.Fault defect.OpenComment
 comment (Some n) = piece.Gap (n + 2)
 
@@ -41,18 +41,18 @@ abbrev pub is_include : List ℕ → Bool
 is_include bs = bytes_eq (take_while is_name_byte (drop (prefix_len is_blank bs) bs)) (codes "include")
 
 -- the bytes up to LF or the end
-abbrev pub line : List ℕ → Piece
+abbrev pub line : List ℕ → Front
 line bs = piece.Gap (prefix_len is_line_byte bs)
 
 -- `#`, given whether no token stands before it on its line
-abbrev pub directive : Bool → List ℕ → Piece
+abbrev pub directive : Bool → List ℕ → Front
 directive fresh bs = if fresh then (if is_include (drop 1 bs) then line bs else piece.Fault defect.Directive) else piece.Fault defect.BadByte
 
-abbrev pub mark : ℕ → Piece
+abbrev pub mark : ℕ → Front
 mark n = if n == 0 then piece.Fault defect.BadByte else piece.Token kind.Punctuation n
 
 -- The piece at the front, given whether no token stands before it on its line.
-unfoldable pub piece_at : Bool → List ℕ → Piece
+unfoldable pub piece_at : Bool → List ℕ → Front
 piece_at fresh [] = piece.Gap 0
 piece_at fresh (b ∷ bs) =
     if is_white b then piece.Gap (prefix_len is_white (b ∷ bs))
@@ -66,13 +66,13 @@ piece_at fresh (b ∷ bs) =
     else mark (mark_len (b ∷ bs))
 
 -- how many bytes a piece takes
-abbrev pub size : Piece → ℕ
+abbrev pub size : Front → ℕ
 size (piece.Gap n) = n
 size (piece.Token k n) = n
 size (piece.Fault d) = 0
 
 -- a piece takes bytes, and no more than there are
-abbrev pub IsWithin : ℕ → Piece → Type 0
+abbrev pub IsWithin : ℕ → Front → Type 0
 IsWithin len (piece.Gap n) = (0 < n) × (n ≤ len)
 IsWithin len (piece.Token k n) = (0 < n) × (n ≤ len)
 IsWithin len (piece.Fault d) = Unit {0}

@@ -4,7 +4,7 @@ ghost use Rattle.std.specs.Prelude.{◌≡◌, ◌^◌, ◌<◌, ◌↔◌, ℕ,
 ghost use Rattle.cw_lex.specs.declared.tokens.Token.{Token};
 ghost use Rattle.cw_lex.specs.declared.tokens.TokenKind.{TokenKind};
 ghost use Rattle.cw_lex.specs.declared.tokens.TokenKind.TheVariants.{Keyword, Number, Character, Text};
-ghost use Rattle.cw_lex.specs.declared.piece.Piece.TheVariants as piece;
+ghost use Rattle.cw_lex.specs.declared.piece.Front.TheVariants as piece;
 ghost use Rattle.cw_lex.specs.declared.lexer.LexFault.{LexFault};
 ghost use Rattle.cw_lex.specs.Characters.{character_of};
 ghost use Rattle.cw_lex.specs.Forms.{IsCharacter, IsString};

@@ -2,7 +2,7 @@
 
 ghost use Rattle.std.specs.Prelude.{◌≡◌, ◌+◌, ◌^◌, ◌<◌, ◌≤◌, ◌-◌, ◌⊎◌, length, drop, IfOk, IfErr};
 ghost use Rattle.cw_lex.specs.declared.lexer.LexFault.TheVariants.{NoMemory};
-ghost use Rattle.cw_lex.specs.declared.piece.Piece.TheVariants as piece;
+ghost use Rattle.cw_lex.specs.declared.piece.Front.TheVariants as piece;
 ghost use Rattle.cw_lex.specs.Marks.{HasNoMarker};
 ghost use Rattle.cw_lex.specs.Pieces.{piece_at};
 ghost use Rattle.cw_lex.specs.Tokens.{fresh_behind, AreTokens, fault_at, IsFault};
@@ -10,7 +10,7 @@ ghost use Rattle.cw_lex.specs.Pieces.{IsWithin};
 
 use crate::bytes::tail;
 use crate::marks::first_marker;
-use crate::piece::{Defect, Piece, front_piece, is_fresh_behind};
+use crate::piece::{Defect, Front, front_piece, is_fresh_behind};
 use crate::tokens::Token;
 use std::alloc::{AllocError, AllocFailed, Global};
 use thiserror::Error;
@@ -70,7 +70,7 @@ fn fault_at(defect: Defect, at: u32) -> LexFault
 }
 
 /// The piece at an index, given whether no token stands before it on its line.
-fn piece_from(source: &[u8], at: usize, fresh: bool) -> Piece
+fn piece_from(source: &[u8], at: usize, fresh: bool) -> Front
     requires short { length source.now ≤ 262144 }
     requires in_range { at < length source.now }
     ensures value { result ≡ piece_at fresh (drop at source.now) }
@@ -99,11 +99,11 @@ fn read(alloc: Global, source: &[u8]) -> Result<Vec<Token>, LexFault>
     let mut fresh = true;
     'pieces: while at < source.len() {
         match piece_from(source, at, fresh) {
-            Piece::Gap(n) => {
+            Front::Gap(n) => {
                 fresh = is_fresh(source, at, fresh, n);
                 at += n;
             }
-            Piece::Token(kind, n) => {
+            Front::Token(kind, n) => {
                 let token = Token {
                     kind,
                     from: at as u32,
@@ -113,7 +113,7 @@ fn read(alloc: Global, source: &[u8]) -> Result<Vec<Token>, LexFault>
                 fresh = false;
                 at += n;
             }
-            Piece::Fault(defect) => return Err(fault_at(defect, at as u32)),
+            Front::Fault(defect) => return Err(fault_at(defect, at as u32)),
         }
     }
     Ok(tokens)

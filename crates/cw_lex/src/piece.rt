@@ -7,7 +7,7 @@ ghost use Rattle.cw_lex.specs.Characters.{character_len, text_len};
 ghost use Rattle.cw_lex.specs.Marks.{mark_len};
 ghost use Rattle.cw_lex.specs.Bytes.{is_white, is_blank, is_line_byte, is_name_byte, is_number_byte};
 ghost use Rattle.cw_lex.specs.Pieces.{word, number, quoted, to_close, comment, is_include, line, directive, mark, piece_at};
-ghost use Rattle.cw_lex.specs.declared.piece.Piece.TheVariants as piece;
+ghost use Rattle.cw_lex.specs.declared.piece.Front.TheVariants as piece;
 ghost use Rattle.cw_lex.specs.Tokens.{fresh_behind};
 
 use crate::bytes::{is_blank, is_name_byte, is_number_byte, is_white, tail};
@@ -30,7 +30,7 @@ pub enum Defect {
 
 /// What stands at the front of some bytes, and how many of them it takes.
 #[derive(Clone, Copy, Drop)]
-pub enum Piece {
+pub enum Front {
     /// White space, a comment or an include line.
     Gap(usize),
     Token(TokenKind, usize),
@@ -147,46 +147,46 @@ fn number_text(bytes: &[u8]) -> &[u8]
 
 /// A name or a keyword. Many names have one byte, and no keyword has.
 #[tactic(auto, using(crate::proofs::ShortWords::short_word))]
-fn word(text: &[u8]) -> Piece
+fn word(text: &[u8]) -> Front
     ensures { result ≡ word text.now }
 {
     if text.len() > 1 && is_keyword(text) {
-        Piece::Token(TokenKind::Keyword, text.len())
+        Front::Token(TokenKind::Keyword, text.len())
     } else {
-        Piece::Token(TokenKind::Name, text.len())
+        Front::Token(TokenKind::Name, text.len())
     }
 }
 
 /// A number, if it is one of the subset with a value below 2^64.
-fn number(text: &[u8]) -> Piece
+fn number(text: &[u8]) -> Front
     ensures { result ≡ number text.now }
 {
     if is_number(text) {
-        Piece::Token(TokenKind::Number, text.len())
+        Front::Token(TokenKind::Number, text.len())
     } else {
-        Piece::Fault(Defect::Number)
+        Front::Fault(Defect::Number)
     }
 }
 
 /// A character, whose opening quote was passed.
-fn character(rest: &[u8]) -> Piece
+fn character(rest: &[u8]) -> Front
     requires { length rest.now < 2 ^ 32 }
     ensures { result ≡ quoted kind.Character (character_len rest.now) }
 {
     match character_length(rest) {
-        None => Piece::Fault(Defect::OpenString),
-        Some(n) => Piece::Token(TokenKind::Character, n + 1),
+        None => Front::Fault(Defect::OpenString),
+        Some(n) => Front::Token(TokenKind::Character, n + 1),
     }
 }
 
 /// A string, whose opening quote was passed.
-fn text(rest: &[u8]) -> Piece
+fn text(rest: &[u8]) -> Front
     requires { length rest.now < 2 ^ 32 }
     ensures { result ≡ quoted kind.Text (text_len 0 rest.now) }
 {
     match text_length(rest) {
-        None => Piece::Fault(Defect::OpenString),
-        Some(n) => Piece::Token(TokenKind::Text, n + 1),
+        None => Front::Fault(Defect::OpenString),
+        Some(n) => Front::Token(TokenKind::Text, n + 1),
     }
 }
 
@@ -202,13 +202,13 @@ fn close_length(bytes: &[u8]) -> Option<usize>
 }
 
 /// A comment, given what follows its first two bytes.
-fn comment(rest: &[u8]) -> Piece
+fn comment(rest: &[u8]) -> Front
     requires { length rest.now < 2 ^ 32 }
     ensures { result ≡ comment (to_close rest.now) }
 {
     match close_length(rest) {
-        None => Piece::Fault(Defect::OpenComment),
-        Some(n) => Piece::Gap(n + 2),
+        None => Front::Fault(Defect::OpenComment),
+        Some(n) => Front::Gap(n + 2),
     }
 }
 
@@ -220,48 +220,48 @@ fn is_include(bytes: &[u8]) -> bool
 }
 
 /// A gap to the end of the line.
-fn line(bytes: &[u8]) -> Piece
+fn line(bytes: &[u8]) -> Front
     ensures { result ≡ line bytes.now }
 {
-    Piece::Gap(line_length(bytes))
+    Front::Gap(line_length(bytes))
 }
 
 /// A `#`: at the start of a line that of an include, which is passed over; else a fault (ISO C11, 6.10).
-fn directive(fresh: bool, bytes: &[u8]) -> Piece
+fn directive(fresh: bool, bytes: &[u8]) -> Front
     requires { 1 ≤ length bytes.now }
     ensures { result ≡ directive fresh bytes.now }
 {
     if !fresh {
-        Piece::Fault(Defect::BadByte)
+        Front::Fault(Defect::BadByte)
     } else if is_include(tail(bytes, 1)) {
         line(bytes)
     } else {
-        Piece::Fault(Defect::Directive)
+        Front::Fault(Defect::Directive)
     }
 }
 
 // It stands in both of its callers' arms: a call would zero and copy its answer for each piece.
 #[inline(always)]
-fn mark(bytes: &[u8]) -> Piece
+fn mark(bytes: &[u8]) -> Front
     ensures { result ≡ mark (mark_len bytes.now) }
 {
     match mark_length(bytes) {
-        0 => Piece::Fault(Defect::BadByte),
-        n => Piece::Token(TokenKind::Punctuation, n),
+        0 => Front::Fault(Defect::BadByte),
+        n => Front::Token(TokenKind::Punctuation, n),
     }
 }
 
 /// The piece at the front, given whether no token stands before it on its line.
 #[tactic(auto, unfolding(crate::specs::Pieces::piece_at, crate::specs::Marks::mark_len))]
-pub(crate) fn front_piece(fresh: bool, bytes: &[u8]) -> Piece
+pub(crate) fn front_piece(fresh: bool, bytes: &[u8]) -> Front
     requires { length bytes.now < 2 ^ 32 }
     ensures { result ≡ piece_at fresh bytes.now }
 {
     let [first, rest @ ..] = bytes else {
-        return Piece::Gap(0);
+        return Front::Gap(0);
     };
     match *first {
-        b' ' | 9..=13 => Piece::Gap(white_length(bytes)),
+        b' ' | 9..=13 => Front::Gap(white_length(bytes)),
         b'a'..=b'z' | b'A'..=b'Z' | b'_' => word(word_text(bytes)),
         b'0'..=b'9' => number(number_text(bytes)),
         b'\'' => character(rest),
@@ -275,14 +275,14 @@ pub(crate) fn front_piece(fresh: bool, bytes: &[u8]) -> Piece
                 _ => mark(bytes),
             },
         },
-        b'(' => Piece::Token(TokenKind::Punctuation, 1),
-        b')' => Piece::Token(TokenKind::Punctuation, 1),
-        b'[' => Piece::Token(TokenKind::Punctuation, 1),
-        b']' => Piece::Token(TokenKind::Punctuation, 1),
-        b'{' => Piece::Token(TokenKind::Punctuation, 1),
-        b'}' => Piece::Token(TokenKind::Punctuation, 1),
-        b';' => Piece::Token(TokenKind::Punctuation, 1),
-        b',' => Piece::Token(TokenKind::Punctuation, 1),
+        b'(' => Front::Token(TokenKind::Punctuation, 1),
+        b')' => Front::Token(TokenKind::Punctuation, 1),
+        b'[' => Front::Token(TokenKind::Punctuation, 1),
+        b']' => Front::Token(TokenKind::Punctuation, 1),
+        b'{' => Front::Token(TokenKind::Punctuation, 1),
+        b'}' => Front::Token(TokenKind::Punctuation, 1),
+        b';' => Front::Token(TokenKind::Punctuation, 1),
+        b',' => Front::Token(TokenKind::Punctuation, 1),
         _ => mark(bytes),
     }
 }

@@ -13,9 +13,9 @@ ghost use Rattle.cw_linked.specs.Founds.{class_of};
 use crate::calls::class_at;
 use crate::work::Work;
 use cw_core::{NoMemory, PosId, StateId};
+use cw_links::Store;
 use cw_product::Game;
 use cw_solve::Context;
-use cw_links::Store;
 
 /// Whether a link stands at a position and a state: a call, and the state that stands for those that are alike there.
 fn is_link(game: &Game, pos: PosId, state: StateId) -> bool

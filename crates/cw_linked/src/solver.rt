@@ -20,10 +20,10 @@ use crate::links::{Stepped, take_link};
 use crate::popped::{Popped, pop};
 use crate::work::{Work, cell_by};
 use cw_core::NoMemory;
+use cw_links::Store;
 use cw_product::Game;
 use cw_solve::table::{Table, main_context};
 use cw_solve::{Context, SolveFault, Solved};
-use cw_links::Store;
 use std::alloc::{AllocError, Global};
 
 /// Takes what waits under the least key, maybe of the context that is near, which is that of what is taken then.

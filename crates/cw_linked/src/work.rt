@@ -11,9 +11,9 @@ ghost use Rattle.cw_linked.specs.Runs.{AreRuns};
 
 use crate::divisor::Divisor;
 use cw_core::{NoMemory, PosId, StateId};
+use cw_links::Store;
 use cw_product::Game;
 use cw_solve::table::{Table, Tabled, numbered, positions};
-use cw_links::Store;
 
 /// The heights that are taken, and by each cell's place the key under which the cell waits, 0 where it doesn't. A link, a call of a context with a class of states, has the place of its call and the state that
 /// stands for the class. It has the number of the context to which it goes plus 1, 0 where it isn't tied; the number of moves

@@ -4,8 +4,8 @@ ghost use Rattle.std.specs.Prelude.{◌≡◌, ℕ, List, ◌+◌, ◌<◌, ◌�
 ghost use Rattle.cw_links.specs.Lists.{list_at, with_front, AreApart};
 ghost use Rattle.cw_links.specs.Callers.{AreLinkedBy};
 
-use cw_core::NoMemory;
 use crate::Chains;
+use cw_core::NoMemory;
 use std::alloc::Global;
 use std::marker::Model;
 

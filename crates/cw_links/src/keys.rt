@@ -3,9 +3,9 @@
 ghost use Rattle.std.specs.Prelude.{◌≡◌, ◌+◌, ◌<◌, ◌≤◌, [], ◌∷◌, ◌++◌, length, replicate, slice_index, OnOk, OnErr, IfOk, IfSome, IfNone};
 ghost use Rattle.cw_links.specs.Keys.{AreEmpty, AreWaiting, IsElement, IsNext, Pops, key_of, lowered};
 
+use crate::Queue;
 use crate::popped::Popped;
 use cw_core::NoMemory;
-use crate::Queue;
 use std::alloc::Global;
 use std::marker::Model;
 

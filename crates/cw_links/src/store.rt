@@ -6,11 +6,11 @@ ghost use Rattle.cw_links.specs.Marks.{is_marked, number, rank};
 ghost use Rattle.cw_links.specs.Keys.{lowered};
 ghost use Rattle.cw_links.specs.Stores.{IsBlank, IsKnown, IsAt, Pushes, PushesPlain, PopsPlace, Ties, with_asked, with_due, with_lists};
 
+use crate::Marks;
 use crate::callers::Callers;
 use crate::keys::Keys;
 use crate::popped::Popped;
 use cw_core::NoMemory;
-use crate::Marks;
 use std::alloc::Global;
 use std::marker::Model;
 

@@ -9,8 +9,7 @@ ghost use Rattle.cw_resolve.specs.Held.{lists};
 ghost use Rattle.cw_listing.specs.Listing.{name_in, spaced, marked, successors, kind, ends, point_line, function_line, graph_text};
 
 use cw_core::PointId;
-use cw_io::Sink;
-use cw_io::Writer;
+use cw_io::{Sink, Writer};
 use cw_points::{Graph, Node, Part, Point};
 
 /// The names of functions, labels and descriptors, each by its number.

@@ -8,8 +8,8 @@ use Rattle.cw_syntax.specs.declared.program.Program.{Program}
 use Rattle.cw_syntax.specs.Trees.{Tree, tree_of, Statement, statement_of, Perhaps, nothing, just, File, file_of, declaration_of, prototype_of, definition_of}
 use Rattle.cw_grammar.specs.declared.words.Lexeme.{Lexeme}
 use Rattle.cw_grammar.specs.Files.{Part, Declares, Holds, Defines}
-use Rattle.cw_parse.specs.declared.files.Piece.{Piece}
-use Rattle.cw_parse.specs.declared.files.Piece.TheVariants.{Prototype as ProtoPiece, Global as GlobalPiece, Function as FunctionPiece}
+use Rattle.cw_parse.specs.declared.files.FilePart.{FilePart}
+use Rattle.cw_parse.specs.declared.files.FilePart.TheVariants.{Prototype as ProtoPiece, Global as GlobalPiece, Function as FunctionPiece}
 
 abbrev pub tested : Expr × Bor (List Lexeme) → Tree × List Lexeme
 tested x = (tree_of x.0, x.1.now)
@@ -30,12 +30,12 @@ perhaps_of (Some s) = just (statement_of s)
 abbrev pub perhaps : Option Stmt × Bor (List Lexeme) → Perhaps × List Lexeme
 perhaps x = (perhaps_of x.0, x.1.now)
 
-abbrev pub part_of : Piece → Part
+abbrev pub part_of : FilePart → Part
 part_of (ProtoPiece p) = Declares (prototype_of p)
 part_of (GlobalPiece d) = Holds (declaration_of d)
 part_of (FunctionPiece f) = Defines (definition_of f)
 
-abbrev pub piece : Piece × Bor (List Lexeme) → Part × List Lexeme
+abbrev pub piece : FilePart × Bor (List Lexeme) → Part × List Lexeme
 piece x = (part_of x.0, x.1.now)
 
 abbrev pub filed : Program × Bor (List Lexeme) → File × List Lexeme

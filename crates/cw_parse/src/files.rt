@@ -19,7 +19,7 @@ use std::alloc::Global;
 
 /// What a file is made of.
 #[derive(Drop)]
-pub enum Piece {
+pub enum FilePart {
     Prototype(Proto),
     Global(Decl),
     Function(Function),
@@ -45,7 +45,7 @@ fn body_at<'t>(
     alloc: Global,
     header: Proto,
     tokens: &'t [Lexeme],
-) -> Result<(Piece, &'t [Lexeme]), Refusal>
+) -> Result<(FilePart, &'t [Lexeme]), Refusal>
     ensures { Gives piece result (body (prototype_of header) tokens.now) }
 {
     if has_names(header.params.as_slice()) {
@@ -59,7 +59,7 @@ fn body_at<'t>(
             brace: brace.to,
             body,
         };
-        Ok((Piece::Function(function), rest))
+        Ok((FilePart::Function(function), rest))
     } else {
         Err(Refusal::Syntax)
     }
@@ -67,12 +67,12 @@ fn body_at<'t>(
 
 /// A prototype or a function.
 #[tactic(auto, unfolding(crate::specs::StatementReading::headed))]
-fn headed_at<'t>(alloc: Global, tokens: &'t [Lexeme]) -> Result<(Piece, &'t [Lexeme]), Refusal>
+fn headed_at<'t>(alloc: Global, tokens: &'t [Lexeme]) -> Result<(FilePart, &'t [Lexeme]), Refusal>
     ensures { Gives piece result (headed tokens.now) }
 {
     let (header, rest) = header_at(alloc, tokens)?;
     if begins_with(rest, Word::Semicolon) {
-        Ok((Piece::Prototype(header), past(rest)))
+        Ok((FilePart::Prototype(header), past(rest)))
     } else {
         body_at(alloc, header, rest)
     }
@@ -80,7 +80,7 @@ fn headed_at<'t>(alloc: Global, tokens: &'t [Lexeme]) -> Result<(Piece, &'t [Lex
 
 /// A prototype or a function, or a declaration outside functions (ISO C11, 6.9).
 #[tactic(auto, unfolding(crate::specs::StatementReading::part, crate::specs::StatementReading::held))]
-fn part_at<'t>(alloc: Global, tokens: &'t [Lexeme]) -> Result<(Piece, &'t [Lexeme]), Refusal>
+fn part_at<'t>(alloc: Global, tokens: &'t [Lexeme]) -> Result<(FilePart, &'t [Lexeme]), Refusal>
     ensures { Gives piece result (part tokens.now) }
 {
     let is_header = is_header_next(tokens)?;
@@ -88,12 +88,12 @@ fn part_at<'t>(alloc: Global, tokens: &'t [Lexeme]) -> Result<(Piece, &'t [Lexem
         headed_at(alloc, tokens)
     } else {
         let (declaration, rest) = declaration_at(alloc, tokens)?;
-        Ok((Piece::Global(declaration), rest))
+        Ok((FilePart::Global(declaration), rest))
     }
 }
 
 /// A program with one part more, behind those of its kind.
-fn with_part(program: Program, part: Piece) -> Result<Program, Refusal>
+fn with_part(program: Program, part: FilePart) -> Result<Program, Refusal>
     ensures { Gives file_of result (Ok (added (file_of program) (part_of part))) }
 {
     let Program {
@@ -102,9 +102,9 @@ fn with_part(program: Program, part: Piece) -> Result<Program, Refusal>
         mut functions,
     } = program;
     match part {
-        Piece::Prototype(prototype) => protos.push(prototype)?,
-        Piece::Global(declaration) => globals.push(declaration)?,
-        Piece::Function(function) => functions.push(function)?,
+        FilePart::Prototype(prototype) => protos.push(prototype)?,
+        FilePart::Global(declaration) => globals.push(declaration)?,
+        FilePart::Function(function) => functions.push(function)?,
     }
     Ok(Program {
         protos,

@@ -28,11 +28,9 @@ use crate::rows::{move_at, next_row, words_at};
 use crate::start::start_row;
 use cw_certs::{EnvCert, EnvRow, How, Move};
 use cw_core::NoMemory;
-use cw_io::Sink;
-use cw_io::Writer;
+use cw_io::{Sink, Writer};
 use cw_product::Game;
-use cw_trace::put_step;
-use cw_trace::Names;
+use cw_trace::{Names, put_step};
 use std::alloc::Global;
 
 /// The least rule that the word breaks with the letter of the label that stands at a bad row.

@@ -18,8 +18,7 @@ use crate::texts::{
 use cw_certs::EnvCert;
 use cw_core::NoMemory;
 use cw_echeck::check_env;
-use cw_io::SureSink;
-use cw_io::Writer;
+use cw_io::{SureSink, Writer};
 use cw_play::{PlayEnd, play_env};
 use cw_policy::read_policy;
 use cw_product::Game;

@@ -1,8 +1,7 @@
 //! Tapes by their texts.
 
 use cw_certs::Move;
-use cw_text::TextFault;
-use cw_text::read_tape;
+use cw_text::{TextFault, read_tape};
 use std::alloc::Global;
 use std::process::Abort;
 use std::test::Fail;

@@ -7,8 +7,7 @@ ghost use Rattle.cw_policy.specs.Lines as spec;
 
 use crate::fault::{Path, PolicyFault};
 use crate::keys::{Key, Section, key_text, keys_of};
-use cw_io::Sink;
-use cw_io::Writer;
+use cw_io::{Sink, Writer};
 use cw_regex::RegexFault;
 
 /// Appends a text.

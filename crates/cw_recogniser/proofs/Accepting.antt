@@ -4,7 +4,7 @@ use Rattle.std.specs.Prelude.{is_some}
 use Rattle.cw_grammar.specs.declared.words.Word.{Word}
 use Rattle.cw_grammar.specs.declared.words.Lexeme.{Lexeme}
 use Rattle.cw_grammar.specs.Lexemes.{Is}
-use Rattle.cw_recogniser.specs.declared.kinds.Kind.{Kind}
+use Rattle.cw_recogniser.specs.declared.kinds.TerminalKind.{TerminalKind}
 use Rattle.cw_recogniser.specs.declared.symbols.Symbol.{Symbol}
 use Rattle.cw_recogniser.specs.Kinds.{kind_of_word}
 use Rattle.cw_recogniser.specs.Machine.{Next, onto, after, may_be_empty, fed, feed, is_done}
@@ -67,7 +67,7 @@ by_next None other new_below below more p q b go f h m = absurd cc
 by_next (Some new) other new_below below more p q b go f h m = rw (f refl) (m new h)
 
 put_instead : (first symbol : Symbol) (below : List Symbol) (ts : List Lexeme) (more : List Symbol) → may_be_empty first ≡ false
-    → ((kind : Kind) → is_some (after first kind) ≡ true → after symbol kind ≡ onto (after first kind) more) → Accepts (first ∷ (more ++ below)) ts → Accepts (symbol ∷ below) ts
+    → ((kind : TerminalKind) → is_some (after first kind) ≡ true → after symbol kind ≡ onto (after first kind) more) → Accepts (first ∷ (more ++ below)) ts → Accepts (symbol ∷ below) ts
 put_instead first symbol below [] more n f h = absurd (let g = rw n at h.ok in cc)
 put_instead first symbol below (t ∷ ts) more n f h = record {
   ok = by_next (after first (kind_of_word t.word)) (after symbol (kind_of_word t.word)) (more ++ below) below more (feed (more ++ below) (kind_of_word t.word))
@@ -76,5 +76,5 @@ put_instead first symbol below (t ∷ ts) more n f h = record {
 
 -- a symbol that begins as another one does, with more behind it
 pub instead : {first symbol : Symbol} {below : List Symbol} {ts : List Lexeme} (more : List Symbol) → may_be_empty first ≡ false
-    → ((kind : Kind) → is_some (after first kind) ≡ true → after symbol kind ≡ onto (after first kind) more) → Accepts (first ∷ (more ++ below)) ts → Accepts (symbol ∷ below) ts
+    → ((kind : TerminalKind) → is_some (after first kind) ≡ true → after symbol kind ≡ onto (after first kind) more) → Accepts (first ∷ (more ++ below)) ts → Accepts (symbol ∷ below) ts
 instead {first} {symbol} {below} {ts} more n f h = put_instead first symbol below ts more n f h

@@ -1,7 +1,7 @@
 -- What is to come behind a token, as the code puts it together.
 use Rattle.std.proofs.Common.{◌≡◌, Bool, true, false, List, [], ◌∷◌, ◌++◌, reverse, refl, sym, ap, ◌∙◌, append_assoc, Some, None}
 use Rattle.std.proofs.lemmas.List.{append-nil, reverse-append}
-use Rattle.cw_recogniser.specs.declared.kinds.Kind.{Kind}
+use Rattle.cw_recogniser.specs.declared.kinds.TerminalKind.{TerminalKind}
 use Rattle.cw_recogniser.specs.declared.symbols.Symbol.{Symbol}
 use Rattle.cw_recogniser.specs.declared.symbols.Symbol.TheVariants as s
 use Rattle.cw_recogniser.specs.Machine.{Next, onto, either, after, expression, qualified, specifiers, declaration, keyword, statement, params_front, semicolon, may_be_empty, fed, feed}
@@ -14,21 +14,21 @@ onto_either : (x y : Next) (a : List Symbol) → onto (either x y) a ≡ either 
 onto_either None y a = refl
 onto_either (Some new) y a = refl
 
-pub opened_is : (kind : Kind) → after s.Opened kind ≡ either (onto (qualified kind) (s.TwoStars ∷ s.Close ∷ s.Operand ∷ s.Tail false ∷ []))
+pub opened_is : (kind : TerminalKind) → after s.Opened kind ≡ either (onto (qualified kind) (s.TwoStars ∷ s.Close ∷ s.Operand ∷ s.Tail false ∷ []))
     (onto (expression kind) (s.Close ∷ s.Suffixes ∷ s.Tail true ∷ []))
 opened_is kind = ap (λ (z : Next). either z (onto (expression kind) (s.Close ∷ s.Suffixes ∷ s.Tail true ∷ [])))
     (onto_onto (qualified kind) (s.TwoStars ∷ []) (s.Close ∷ s.Operand ∷ s.Tail false ∷ []))
 
-pub opened_operand_is : (kind : Kind) → after s.OpenedOperand kind ≡ either (onto (qualified kind) (s.TwoStars ∷ s.Close ∷ s.Operand ∷ [])) (onto (expression kind) (s.Close ∷ s.Suffixes ∷ []))
+pub opened_operand_is : (kind : TerminalKind) → after s.OpenedOperand kind ≡ either (onto (qualified kind) (s.TwoStars ∷ s.Close ∷ s.Operand ∷ [])) (onto (expression kind) (s.Close ∷ s.Suffixes ∷ []))
 opened_operand_is kind = ap (λ (z : Next). either z (onto (expression kind) (s.Close ∷ s.Suffixes ∷ []))) (onto_onto (qualified kind) (s.TwoStars ∷ []) (s.Close ∷ s.Operand ∷ []))
 
-pub opened_measured_is : (kind : Kind) → after s.OpenedMeasured kind ≡ either (onto (qualified kind) (s.TwoStars ∷ s.Close ∷ [])) (onto (expression kind) (s.Close ∷ s.Suffixes ∷ []))
+pub opened_measured_is : (kind : TerminalKind) → after s.OpenedMeasured kind ≡ either (onto (qualified kind) (s.TwoStars ∷ s.Close ∷ [])) (onto (expression kind) (s.Close ∷ s.Suffixes ∷ []))
 opened_measured_is kind = ap (λ (z : Next). either z (onto (expression kind) (s.Close ∷ s.Suffixes ∷ []))) (onto_onto (qualified kind) (s.TwoStars ∷ []) (s.Close ∷ []))
 
-pub param_is : (named : Bool) (kind : Kind) → after (s.Param named) kind ≡ onto (qualified kind) (s.TwoStars ∷ s.AfterType named ∷ [])
+pub param_is : (named : Bool) (kind : TerminalKind) → after (s.Param named) kind ≡ onto (qualified kind) (s.TwoStars ∷ s.AfterType named ∷ [])
 param_is named kind = onto_onto (qualified kind) (s.TwoStars ∷ []) (s.AfterType named ∷ [])
 
-pub items_are : (kind : Kind) → after s.Items kind ≡ either (onto (specifiers kind) (s.TwoStars ∷ s.Name ∷ s.Array ∷ s.Initialiser ∷ s.MoreItems ∷ s.Semicolon ∷ s.Items ∷ []))
+pub items_are : (kind : TerminalKind) → after s.Items kind ≡ either (onto (specifiers kind) (s.TwoStars ∷ s.Name ∷ s.Array ∷ s.Initialiser ∷ s.MoreItems ∷ s.Semicolon ∷ s.Items ∷ []))
     (either (onto (keyword kind) (s.Items ∷ [])) (onto (expression kind) (s.Semicolon ∷ s.Items ∷ [])))
 items_are kind =
     onto_either (declaration kind) (statement kind) (s.Items ∷ [])
@@ -37,10 +37,10 @@ items_are kind =
     (onto_either (keyword kind) (onto (expression kind) (s.Semicolon ∷ [])) (s.Items ∷ [])
     ∙ ap (λ (z : Next). either (onto (keyword kind) (s.Items ∷ [])) z) (onto_onto (expression kind) (s.Semicolon ∷ []) (s.Items ∷ [])))
 
-pub params_are : (kind : Kind) → after s.Params kind ≡ either (params_front kind) (onto (qualified kind) (s.TwoStars ∷ s.AfterType true ∷ []))
+pub params_are : (kind : TerminalKind) → after s.Params kind ≡ either (params_front kind) (onto (qualified kind) (s.TwoStars ∷ s.AfterType true ∷ []))
 params_are kind = ap (λ (z : Next). either (params_front kind) z) (onto_onto (qualified kind) (s.TwoStars ∷ []) (s.AfterType true ∷ []))
 
-pub init_is : (kind : Kind) → after s.ForInit kind ≡ either (semicolon kind)
+pub init_is : (kind : TerminalKind) → after s.ForInit kind ≡ either (semicolon kind)
     (either (onto (specifiers kind) (s.TwoStars ∷ s.Name ∷ s.Array ∷ s.Initialiser ∷ s.MoreItems ∷ s.Semicolon ∷ [])) (onto (expression kind) (s.Semicolon ∷ [])))
 init_is kind = refl
 
@@ -61,20 +61,20 @@ reverse_push below s = rw (reverse-append below (s ∷ [])) refl
 
 -- ---- one step
 
-pub feed_some : (stack below : List Symbol) (symbol : Symbol) (kind : Kind) (new : List Symbol) → stack ≡ below ++ symbol ∷ [] → after symbol kind ≡ Some new
+pub feed_some : (stack below : List Symbol) (symbol : Symbol) (kind : TerminalKind) (new : List Symbol) → stack ≡ below ++ symbol ∷ [] → after symbol kind ≡ Some new
     → feed (reverse stack) kind ≡ Some (new ++ reverse below)
 feed_some stack below symbol kind new e f = rw (e, reverse_push below symbol) (ap (λ (z : Next). fed z (may_be_empty symbol) (reverse below) (feed (reverse below) kind)) f)
 
-pub feed_pass : (stack below : List Symbol) (symbol : Symbol) (kind : Kind) → stack ≡ below ++ symbol ∷ [] → after symbol kind ≡ None → may_be_empty symbol ≡ true
+pub feed_pass : (stack below : List Symbol) (symbol : Symbol) (kind : TerminalKind) → stack ≡ below ++ symbol ∷ [] → after symbol kind ≡ None → may_be_empty symbol ≡ true
     → feed (reverse stack) kind ≡ feed (reverse below) kind
 feed_pass stack below symbol kind e f g = rw (e, reverse_push below symbol)
     (ap (λ (z : Next). fed z (may_be_empty symbol) (reverse below) (feed (reverse below) kind)) f ∙ ap (λ (z : Bool). fed None z (reverse below) (feed (reverse below) kind)) g)
 
-pub feed_none : (stack below : List Symbol) (symbol : Symbol) (kind : Kind) → stack ≡ below ++ symbol ∷ [] → after symbol kind ≡ None → may_be_empty symbol ≡ false → feed (reverse stack) kind ≡ None
+pub feed_none : (stack below : List Symbol) (symbol : Symbol) (kind : TerminalKind) → stack ≡ below ++ symbol ∷ [] → after symbol kind ≡ None → may_be_empty symbol ≡ false → feed (reverse stack) kind ≡ None
 feed_none stack below symbol kind e f g = rw (e, reverse_push below symbol)
     (ap (λ (z : Next). fed z (may_be_empty symbol) (reverse below) (feed (reverse below) kind)) f ∙ ap (λ (z : Bool). fed None z (reverse below) (feed (reverse below) kind)) g)
 
-pub feed_empty : (stack : List Symbol) (kind : Kind) → stack ≡ [] → feed (reverse stack) kind ≡ None
+pub feed_empty : (stack : List Symbol) (kind : TerminalKind) → stack ≡ [] → feed (reverse stack) kind ≡ None
 feed_empty stack kind e = rw e refl
 
 pub put_both : (first second below middle stack : List Symbol) → reverse middle ≡ second ++ reverse below → reverse stack ≡ first ++ reverse middle

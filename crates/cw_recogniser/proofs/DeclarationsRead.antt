@@ -10,8 +10,8 @@ use Rattle.cw_grammar.specs.Lexemes.{Is, IsFlag, IsOptional, AreSeparated, IsBet
 use Rattle.cw_grammar.specs.Types.{AreStars}
 use Rattle.cw_grammar.specs.Expressions.{IsExpression}
 use Rattle.cw_grammar.specs.Declarations.{Specifiers, IsArray, AreElements, IsInitialiser, IsItem, IsDeclaration}
-use Rattle.cw_recogniser.specs.declared.kinds.Kind.{Kind}
-use Rattle.cw_recogniser.specs.declared.kinds.Kind.TheVariants as k
+use Rattle.cw_recogniser.specs.declared.kinds.TerminalKind.{TerminalKind}
+use Rattle.cw_recogniser.specs.declared.kinds.TerminalKind.TheVariants as k
 use Rattle.cw_recogniser.specs.declared.symbols.Symbol.{Symbol}
 use Rattle.cw_recogniser.specs.declared.symbols.Symbol.TheVariants as s
 use Rattle.cw_recogniser.specs.Kinds.{kind_of_word}
@@ -26,10 +26,10 @@ pub onto_none : (next : Next) → next ≡ onto next []
 onto_none None = refl
 onto_none (Some new) = ap Some (sym (append-nil new))
 
-pub maybe_begins : (kind : Kind) → is_some (expression kind) ≡ true → after s.MaybeExpression kind ≡ onto (expression kind) []
+pub maybe_begins : (kind : TerminalKind) → is_some (expression kind) ≡ true → after s.MaybeExpression kind ≡ onto (expression kind) []
 maybe_begins kind e = onto_none (expression kind)
 
-pub initial_begins : (kind : Kind) → is_some (expression kind) ≡ true → after s.Initial kind ≡ onto (expression kind) []
+pub initial_begins : (kind : TerminalKind) → is_some (expression kind) ≡ true → after s.Initial kind ≡ onto (expression kind) []
 initial_begins k.OpenBrace e = absurd cc
 initial_begins k.Open e = refl
 initial_begins k.Name e = refl
@@ -42,11 +42,11 @@ initial_begins k.Star e = refl
 initial_begins k.Step e = refl
 initial_begins _ e = absurd cc
 
-elements_begin : (kind : Kind) → is_some (expression kind) ≡ true → after s.Elements kind ≡ onto (expression kind) (s.MoreElements ∷ [])
+elements_begin : (kind : TerminalKind) → is_some (expression kind) ≡ true → after s.Elements kind ≡ onto (expression kind) (s.MoreElements ∷ [])
 elements_begin kind e = refl
 
 -- no expression begins with what ends one
-no_begin : (kind : Kind) → is_end kind ≡ true → is_some (after s.MaybeExpression kind) ≡ false
+no_begin : (kind : TerminalKind) → is_end kind ≡ true → is_some (after s.MaybeExpression kind) ≡ false
 no_begin k.Close e = refl
 no_begin k.CloseBracket e = refl
 no_begin k.CloseBrace e = refl
@@ -55,31 +55,31 @@ no_begin k.Comma e = refl
 no_begin _ e = absurd cc
 
 -- behind an item
-abbrev pub is_item_end : Kind → Bool
+abbrev pub is_item_end : TerminalKind → Bool
 is_item_end k.Comma = true
 is_item_end k.Semicolon = true
 is_item_end _ = false
 
-item_end_ends : (kind : Kind) → is_item_end kind ≡ true → is_end kind ≡ true
+item_end_ends : (kind : TerminalKind) → is_item_end kind ≡ true → is_end kind ≡ true
 item_end_ends k.Comma e = refl
 item_end_ends k.Semicolon e = refl
 item_end_ends _ e = absurd cc
 
 -- behind an array's brackets
-abbrev is_value_end : Kind → Bool
+abbrev is_value_end : TerminalKind → Bool
 is_value_end k.Assign = true
 is_value_end kind = is_item_end kind
 
-item_end_wider : (kind : Kind) → is_item_end kind ≡ true → is_value_end kind ≡ true
+item_end_wider : (kind : TerminalKind) → is_item_end kind ≡ true → is_value_end kind ≡ true
 item_end_wider k.Comma e = refl
 item_end_wider k.Semicolon e = refl
 item_end_wider _ e = absurd cc
 
-no_array : (kind : Kind) → is_value_end kind ≡ true → is_some (after s.Array kind) ≡ false
+no_array : (kind : TerminalKind) → is_value_end kind ≡ true → is_some (after s.Array kind) ≡ false
 no_array k.OpenBracket e = absurd cc
 no_array _ e = refl
 
-no_initialiser : (kind : Kind) → is_item_end kind ≡ true → is_some (after s.Initialiser kind) ≡ false
+no_initialiser : (kind : TerminalKind) → is_item_end kind ≡ true → is_some (after s.Initialiser kind) ≡ false
 no_initialiser k.Assign e = absurd cc
 no_initialiser _ e = refl
 

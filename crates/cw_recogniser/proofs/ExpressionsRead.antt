@@ -8,8 +8,8 @@ use Rattle.cw_grammar.specs.declared.words.Lexeme.{Lexeme}
 use Rattle.cw_grammar.specs.declared.rules.Rule.TheVariants.{Expression, Level, Unary, Postfix}
 use Rattle.cw_grammar.specs.Lexemes.{Is, AreSeparated}
 use Rattle.cw_grammar.specs.Expressions.{loosest, AreStrings, IsPrimary, IsPostfix, IsUnary, IsOperand, IsLevel, IsDerived}
-use Rattle.cw_recogniser.specs.declared.kinds.Kind.{Kind}
-use Rattle.cw_recogniser.specs.declared.kinds.Kind.TheVariants as k
+use Rattle.cw_recogniser.specs.declared.kinds.TerminalKind.{TerminalKind}
+use Rattle.cw_recogniser.specs.declared.kinds.TerminalKind.TheVariants as k
 use Rattle.cw_recogniser.specs.declared.symbols.Symbol.{Symbol}
 use Rattle.cw_recogniser.specs.declared.symbols.Symbol.TheVariants as s
 use Rattle.cw_recogniser.specs.Kinds.{kind_of_word}
@@ -21,7 +21,7 @@ use Rattle.cw_recogniser.proofs.TypesRead.{reads_type_name}
 
 -- ---- symbols that begin as others do
 
-opened_type : (kind : Kind) → is_some (qualified kind) ≡ true → after s.Opened kind ≡ onto (qualified kind) (s.TwoStars ∷ s.Close ∷ s.Operand ∷ s.Tail false ∷ [])
+opened_type : (kind : TerminalKind) → is_some (qualified kind) ≡ true → after s.Opened kind ≡ onto (qualified kind) (s.TwoStars ∷ s.Close ∷ s.Operand ∷ s.Tail false ∷ [])
 opened_type k.Const e = refl
 opened_type k.Void e = refl
 opened_type k.Char e = refl
@@ -30,7 +30,7 @@ opened_type k.Long e = refl
 opened_type k.Unsigned e = refl
 opened_type _ e = absurd cc
 
-opened_operand_type : (kind : Kind) → is_some (qualified kind) ≡ true → after s.OpenedOperand kind ≡ onto (qualified kind) (s.TwoStars ∷ s.Close ∷ s.Operand ∷ [])
+opened_operand_type : (kind : TerminalKind) → is_some (qualified kind) ≡ true → after s.OpenedOperand kind ≡ onto (qualified kind) (s.TwoStars ∷ s.Close ∷ s.Operand ∷ [])
 opened_operand_type k.Const e = refl
 opened_operand_type k.Void e = refl
 opened_operand_type k.Char e = refl
@@ -39,7 +39,7 @@ opened_operand_type k.Long e = refl
 opened_operand_type k.Unsigned e = refl
 opened_operand_type _ e = absurd cc
 
-opened_measured_type : (kind : Kind) → is_some (qualified kind) ≡ true → after s.OpenedMeasured kind ≡ onto (qualified kind) (s.TwoStars ∷ s.Close ∷ [])
+opened_measured_type : (kind : TerminalKind) → is_some (qualified kind) ≡ true → after s.OpenedMeasured kind ≡ onto (qualified kind) (s.TwoStars ∷ s.Close ∷ [])
 opened_measured_type k.Const e = refl
 opened_measured_type k.Void e = refl
 opened_measured_type k.Char e = refl
@@ -49,7 +49,7 @@ opened_measured_type k.Unsigned e = refl
 opened_measured_type _ e = absurd cc
 
 -- no expression begins as a type
-no_type : (kind : Kind) → is_some (expression kind) ≡ true → type_name kind ≡ None
+no_type : (kind : TerminalKind) → is_some (expression kind) ≡ true → type_name kind ≡ None
 no_type k.Const e = absurd cc
 no_type k.Void e = absurd cc
 no_type k.Char e = absurd cc
@@ -58,25 +58,25 @@ no_type k.Long e = absurd cc
 no_type k.Unsigned e = absurd cc
 no_type _ e = refl
 
-opened_expression : (kind : Kind) → is_some (expression kind) ≡ true → after s.Opened kind ≡ onto (expression kind) (s.Close ∷ s.Suffixes ∷ s.Tail true ∷ [])
+opened_expression : (kind : TerminalKind) → is_some (expression kind) ≡ true → after s.Opened kind ≡ onto (expression kind) (s.Close ∷ s.Suffixes ∷ s.Tail true ∷ [])
 opened_expression kind e = ap (λ z. either (onto z (s.Close ∷ s.Operand ∷ s.Tail false ∷ [])) (onto (expression kind) (s.Close ∷ s.Suffixes ∷ s.Tail true ∷ []))) (no_type kind e)
 
-opened_operand_expression : (kind : Kind) → is_some (expression kind) ≡ true → after s.OpenedOperand kind ≡ onto (expression kind) (s.Close ∷ s.Suffixes ∷ [])
+opened_operand_expression : (kind : TerminalKind) → is_some (expression kind) ≡ true → after s.OpenedOperand kind ≡ onto (expression kind) (s.Close ∷ s.Suffixes ∷ [])
 opened_operand_expression kind e = ap (λ z. either (onto z (s.Close ∷ s.Operand ∷ [])) (onto (expression kind) (s.Close ∷ s.Suffixes ∷ []))) (no_type kind e)
 
-opened_measured_expression : (kind : Kind) → is_some (expression kind) ≡ true → after s.OpenedMeasured kind ≡ onto (expression kind) (s.Close ∷ s.Suffixes ∷ [])
+opened_measured_expression : (kind : TerminalKind) → is_some (expression kind) ≡ true → after s.OpenedMeasured kind ≡ onto (expression kind) (s.Close ∷ s.Suffixes ∷ [])
 opened_measured_expression kind e = ap (λ z. either (onto z (s.Close ∷ [])) (onto (expression kind) (s.Close ∷ s.Suffixes ∷ []))) (no_type kind e)
 
 -- A symbol that begins as a unary does, with more behind it.
 pub record Starts (symbol : Symbol) (more : List Symbol) : Type 0 where
-  pub begins : (kind : Kind) → is_some (unary kind) ≡ true → after symbol kind ≡ onto (unary kind) more
+  pub begins : (kind : TerminalKind) → is_some (unary kind) ≡ true → after symbol kind ≡ onto (unary kind) more
   pub opens : (o : Lexeme) (ts : List Lexeme) (below : List Symbol) → Is w.Open o → Accepts (s.Expression ∷ s.Close ∷ s.Suffixes ∷ (more ++ below)) ts → Accepts (symbol ∷ below) (o ∷ ts)
 
-expression_begins : (kind : Kind) → is_some (unary kind) ≡ true → after s.Expression kind ≡ onto (unary kind) (s.Tail true ∷ [])
+expression_begins : (kind : TerminalKind) → is_some (unary kind) ≡ true → after s.Expression kind ≡ onto (unary kind) (s.Tail true ∷ [])
 expression_begins k.Open e = absurd cc
 expression_begins _ e = refl
 
-operand_begins : (kind : Kind) → is_some (unary kind) ≡ true → after s.Operand kind ≡ onto (unary kind) []
+operand_begins : (kind : TerminalKind) → is_some (unary kind) ≡ true → after s.Operand kind ≡ onto (unary kind) []
 operand_begins k.Name e = refl
 operand_begins k.Constant e = refl
 operand_begins k.Text e = refl
@@ -87,7 +87,7 @@ operand_begins k.Star e = refl
 operand_begins k.Step e = refl
 operand_begins _ e = absurd cc
 
-unary_begins : (kind : Kind) → is_some (unary kind) ≡ true → after s.Unary kind ≡ onto (unary kind) []
+unary_begins : (kind : TerminalKind) → is_some (unary kind) ≡ true → after s.Unary kind ≡ onto (unary kind) []
 unary_begins k.Name e = refl
 unary_begins k.Constant e = refl
 unary_begins k.Text e = refl
@@ -98,7 +98,7 @@ unary_begins k.Star e = refl
 unary_begins k.Step e = refl
 unary_begins _ e = absurd cc
 
-measured_begins : (kind : Kind) → is_some (unary kind) ≡ true → after s.Measured kind ≡ onto (unary kind) []
+measured_begins : (kind : TerminalKind) → is_some (unary kind) ≡ true → after s.Measured kind ≡ onto (unary kind) []
 measured_begins k.Name e = refl
 measured_begins k.Constant e = refl
 measured_begins k.Text e = refl
@@ -146,7 +146,7 @@ pub record Reads (n : ℕ) : Type 0 where
   pub postfix : (symbol : Symbol) (more : List Symbol) → Starts symbol more → (a : List Lexeme) (x : Tree) (rest : List Lexeme) (below : List Symbol) → IsDerived n Postfix a x
       → head is_follower rest ≡ true → Accepts (s.Suffixes ∷ (more ++ below)) rest → Accepts (symbol ∷ below) (a ++ rest)
 
-between_halts : (kind : Kind) → is_between kind ≡ true → is_halt kind ≡ true
+between_halts : (kind : TerminalKind) → is_between kind ≡ true → is_halt kind ≡ true
 between_halts k.Star e = refl
 between_halts k.Both e = refl
 between_halts k.Binary e = refl
@@ -154,7 +154,7 @@ between_halts k.Assign e = refl
 between_halts k.Update e = refl
 between_halts _ e = absurd cc
 
-arguments_begin : (kind : Kind) → is_some (expression kind) ≡ true → after s.Arguments kind ≡ onto (expression kind) (s.MoreArguments ∷ [])
+arguments_begin : (kind : TerminalKind) → is_some (expression kind) ≡ true → after s.Arguments kind ≡ onto (expression kind) (s.MoreArguments ∷ [])
 arguments_begin kind e = refl
 
 module _ (n : ℕ) (r : Reads n) where

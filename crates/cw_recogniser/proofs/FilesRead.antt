@@ -11,8 +11,8 @@ use Rattle.cw_grammar.specs.Lexemes.{Is, AreAll, IsOptional, AreSeparated}
 use Rattle.cw_grammar.specs.Expressions.{IsExpression}
 use Rattle.cw_grammar.specs.Declarations.{IsName, IsBrackets, IsParam, AreParams, IsHeader, IsDeclaration}
 use Rattle.cw_grammar.specs.Files.{AreNamed, Part, Declares, Holds, Defines, IsPart, IsOfGrammar}
-use Rattle.cw_recogniser.specs.declared.kinds.Kind.{Kind}
-use Rattle.cw_recogniser.specs.declared.kinds.Kind.TheVariants as k
+use Rattle.cw_recogniser.specs.declared.kinds.TerminalKind.{TerminalKind}
+use Rattle.cw_recogniser.specs.declared.kinds.TerminalKind.TheVariants as k
 use Rattle.cw_recogniser.specs.declared.symbols.Symbol.{Symbol}
 use Rattle.cw_recogniser.specs.declared.symbols.Symbol.TheVariants as s
 use Rattle.cw_recogniser.specs.Kinds.{kind_of_word}
@@ -44,27 +44,27 @@ are_named (p ∷ ps) h = rw (some_name p.name h.0) (are_named ps h.1)
 -- ---- parameters
 
 -- behind a parameter
-abbrev is_param_end : Kind → Bool
+abbrev is_param_end : TerminalKind → Bool
 is_param_end k.Comma = true
 is_param_end k.Close = true
 is_param_end _ = false
 
-no_brackets : (kind : Kind) → is_param_end kind ≡ true → is_some (after s.Brackets kind) ≡ false
+no_brackets : (kind : TerminalKind) → is_param_end kind ≡ true → is_some (after s.Brackets kind) ≡ false
 no_brackets k.OpenBracket e = absurd cc
 no_brackets _ e = refl
 
-param_end_type : (kind : Kind) → is_param_end kind ≡ true → is_some (after s.AfterUnsigned kind) ≡ false
+param_end_type : (kind : TerminalKind) → is_param_end kind ≡ true → is_some (after s.AfterUnsigned kind) ≡ false
 param_end_type k.Comma e = refl
 param_end_type k.Close e = refl
 param_end_type _ e = absurd cc
 
-param_end_stars : (kind : Kind) → is_param_end kind ≡ true → is_some (after s.TwoStars kind) ≡ false
+param_end_stars : (kind : TerminalKind) → is_param_end kind ≡ true → is_some (after s.TwoStars kind) ≡ false
 param_end_stars k.Comma e = refl
 param_end_stars k.Close e = refl
 param_end_stars _ e = absurd cc
 
 -- a nameless parameter ends with its type
-nameless_kind : (named : Bool) (below : List Symbol) (kind : Kind) (go : List Symbol → Bool) → then_done (feed (s.MoreParams false ∷ below) kind) go ≡ true
+nameless_kind : (named : Bool) (below : List Symbol) (kind : TerminalKind) (go : List Symbol → Bool) → then_done (feed (s.MoreParams false ∷ below) kind) go ≡ true
     → then_done (feed (s.AfterType named ∷ below) kind) go ≡ true
 nameless_kind named below k.Comma go h = h
 nameless_kind named below k.Close go h = h
@@ -74,7 +74,7 @@ nameless : (named : Bool) (below : List Symbol) (ts : List Lexeme) → Accepts (
 nameless named below [] h = absurd (let f = h.ok in cc)
 nameless named below (t ∷ ts) h = record { ok = nameless_kind named below (kind_of_word t.word) (λ next. accepts next ts) h.ok }
 
-param_begins : (named : Bool) (kind : Kind) → is_some (qualified kind) ≡ true → after (s.Param named) kind ≡ onto (qualified kind) (s.TwoStars ∷ s.AfterType named ∷ [])
+param_begins : (named : Bool) (kind : TerminalKind) → is_some (qualified kind) ≡ true → after (s.Param named) kind ≡ onto (qualified kind) (s.TwoStars ∷ s.AfterType named ∷ [])
 param_begins named k.Const e = refl
 param_begins named k.Void e = refl
 param_begins named k.Char e = refl
@@ -131,7 +131,7 @@ reads_list named (q ∷ ps) p ts c rest below (a, m, b, e, comma, d, g) is h =
     ))
 
 -- what may come behind a list with a nameless parameter may come behind any
-ending_kind : (below : List Symbol) (kind : Kind) (go : List Symbol → Bool) → then_done (feed (s.Ending false ∷ below) kind) go ≡ true → then_done (feed (s.Ending true ∷ below) kind) go ≡ true
+ending_kind : (below : List Symbol) (kind : TerminalKind) (go : List Symbol → Bool) → then_done (feed (s.Ending false ∷ below) kind) go ≡ true → then_done (feed (s.Ending true ∷ below) kind) go ≡ true
 ending_kind below k.Semicolon go h = h
 ending_kind below _ go h = absurd cc
 
@@ -139,7 +139,7 @@ ending_wider : (below : List Symbol) (ts : List Lexeme) → accepts (s.Ending fa
 ending_wider below [] h = absurd cc
 ending_wider below (t ∷ ts) h = ending_kind below (kind_of_word t.word) (λ next. accepts next ts) h
 
-void_kind : (below : List Symbol) (kind : Kind) (ts : List Lexeme) → then_done (feed (s.TwoStars ∷ s.AfterType true ∷ below) kind) (λ next. accepts next ts) ≡ true
+void_kind : (below : List Symbol) (kind : TerminalKind) (ts : List Lexeme) → then_done (feed (s.TwoStars ∷ s.AfterType true ∷ below) kind) (λ next. accepts next ts) ≡ true
     → then_done (feed (s.AfterVoid ∷ below) kind) (λ next. accepts next ts) ≡ true
 void_kind below k.Close ts h = ending_wider below ts h
 void_kind below k.Star ts h = h
@@ -152,7 +152,7 @@ behind_void : (below : List Symbol) (ts : List Lexeme) → accepts (s.TwoStars �
 behind_void below [] h = absurd cc
 behind_void below (t ∷ ts) h = void_kind below (kind_of_word t.word) ts h
 
-params_kind : (below : List Symbol) (kind : Kind) (ts : List Lexeme) → then_done (feed (s.Param true ∷ below) kind) (λ next. accepts next ts) ≡ true
+params_kind : (below : List Symbol) (kind : TerminalKind) (ts : List Lexeme) → then_done (feed (s.Param true ∷ below) kind) (λ next. accepts next ts) ≡ true
     → then_done (feed (s.Params ∷ below) kind) (λ next. accepts next ts) ≡ true
 params_kind below k.Void ts h = behind_void below ts h
 params_kind below k.Const ts h = h
@@ -191,7 +191,7 @@ reads_header ts rest name result ps below _ (a, b, c, d, specs, stars, e, are, s
     )
 
 -- the rest of a declaration behind its first name
-declared_kind : (below : List Symbol) (kind : Kind) (go : List Symbol → Bool) → then_done (feed (s.Array ∷ s.Initialiser ∷ s.MoreItems ∷ s.Semicolon ∷ below) kind) go ≡ true
+declared_kind : (below : List Symbol) (kind : TerminalKind) (go : List Symbol → Bool) → then_done (feed (s.Array ∷ s.Initialiser ∷ s.MoreItems ∷ s.Semicolon ∷ below) kind) go ≡ true
     → then_done (feed (s.AfterDeclared ∷ below) kind) go ≡ true
 declared_kind below k.OpenBracket go h = h
 declared_kind below k.Assign go h = h

@@ -4,8 +4,8 @@ use Rattle.std.specs.Prelude.{is_some, not}
 use Rattle.cw_grammar.specs.declared.words.Word.{Word}
 use Rattle.cw_grammar.specs.declared.words.Word.TheVariants as w
 use Rattle.cw_grammar.specs.declared.words.Lexeme.{Lexeme}
-use Rattle.cw_recogniser.specs.declared.kinds.Kind.{Kind}
-use Rattle.cw_recogniser.specs.declared.kinds.Kind.TheVariants as k
+use Rattle.cw_recogniser.specs.declared.kinds.TerminalKind.{TerminalKind}
+use Rattle.cw_recogniser.specs.declared.kinds.TerminalKind.TheVariants as k
 use Rattle.cw_recogniser.specs.declared.symbols.Symbol.{Symbol}
 use Rattle.cw_recogniser.specs.declared.symbols.Symbol.TheVariants as s
 use Rattle.cw_recogniser.specs.Machine.{Next, onto, either, after, may_be_empty, fed, feed, unary, expression, operand, plain_unary, measured, call, texts, suffixes, operator}
@@ -61,19 +61,19 @@ completed_both (s ∷ a) b = ap (λ (z : List Lexeme). completion s ++ z) (compl
 
 -- ---- what may follow
 
-abbrev is_tight : Kind → Bool
+abbrev is_tight : TerminalKind → Bool
 is_tight k.Close = true
 is_tight k.CloseBracket = true
 is_tight k.CloseBrace = true
 is_tight k.Semicolon = true
 is_tight _ = false
 
-abbrev is_type_end : Kind → Bool
+abbrev is_type_end : TerminalKind → Bool
 is_type_end k.Close = true
 is_type_end k.Name = true
 is_type_end _ = false
 
-abbrev is_brace : Kind → Bool
+abbrev is_brace : TerminalKind → Bool
 is_brace k.CloseBrace = true
 is_brace _ = false
 
@@ -119,118 +119,118 @@ Fit (s ∷ below) = (fits s (completed below) ≡ true) × Fit below
 
 -- ---- what fits isn't taken
 
-no_call : (kind : Kind) → is_tight kind ≡ true → is_some (after s.Call kind) ≡ false
+no_call : (kind : TerminalKind) → is_tight kind ≡ true → is_some (after s.Call kind) ≡ false
 no_call k.Close e = refl
 no_call k.CloseBracket e = refl
 no_call k.CloseBrace e = refl
 no_call k.Semicolon e = refl
 no_call _ e = absurd cc
 
-no_texts : (kind : Kind) → is_tight kind ≡ true → is_some (after s.Texts kind) ≡ false
+no_texts : (kind : TerminalKind) → is_tight kind ≡ true → is_some (after s.Texts kind) ≡ false
 no_texts k.Close e = refl
 no_texts k.CloseBracket e = refl
 no_texts k.CloseBrace e = refl
 no_texts k.Semicolon e = refl
 no_texts _ e = absurd cc
 
-no_suffixes : (kind : Kind) → is_tight kind ≡ true → is_some (after s.Suffixes kind) ≡ false
+no_suffixes : (kind : TerminalKind) → is_tight kind ≡ true → is_some (after s.Suffixes kind) ≡ false
 no_suffixes k.Close e = refl
 no_suffixes k.CloseBracket e = refl
 no_suffixes k.CloseBrace e = refl
 no_suffixes k.Semicolon e = refl
 no_suffixes _ e = absurd cc
 
-no_tail_true : (kind : Kind) → is_tight kind ≡ true → is_some (after (s.Tail true) kind) ≡ false
+no_tail_true : (kind : TerminalKind) → is_tight kind ≡ true → is_some (after (s.Tail true) kind) ≡ false
 no_tail_true k.Close e = refl
 no_tail_true k.CloseBracket e = refl
 no_tail_true k.CloseBrace e = refl
 no_tail_true k.Semicolon e = refl
 no_tail_true _ e = absurd cc
 
-no_tail_false : (kind : Kind) → is_tight kind ≡ true → is_some (after (s.Tail false) kind) ≡ false
+no_tail_false : (kind : TerminalKind) → is_tight kind ≡ true → is_some (after (s.Tail false) kind) ≡ false
 no_tail_false k.Close e = refl
 no_tail_false k.CloseBracket e = refl
 no_tail_false k.CloseBrace e = refl
 no_tail_false k.Semicolon e = refl
 no_tail_false _ e = absurd cc
 
-no_maybeexpression : (kind : Kind) → is_tight kind ≡ true → is_some (after s.MaybeExpression kind) ≡ false
+no_maybeexpression : (kind : TerminalKind) → is_tight kind ≡ true → is_some (after s.MaybeExpression kind) ≡ false
 no_maybeexpression k.Close e = refl
 no_maybeexpression k.CloseBracket e = refl
 no_maybeexpression k.CloseBrace e = refl
 no_maybeexpression k.Semicolon e = refl
 no_maybeexpression _ e = absurd cc
 
-no_arguments : (kind : Kind) → is_tight kind ≡ true → is_some (after s.Arguments kind) ≡ false
+no_arguments : (kind : TerminalKind) → is_tight kind ≡ true → is_some (after s.Arguments kind) ≡ false
 no_arguments k.Close e = refl
 no_arguments k.CloseBracket e = refl
 no_arguments k.CloseBrace e = refl
 no_arguments k.Semicolon e = refl
 no_arguments _ e = absurd cc
 
-no_morearguments : (kind : Kind) → is_tight kind ≡ true → is_some (after s.MoreArguments kind) ≡ false
+no_morearguments : (kind : TerminalKind) → is_tight kind ≡ true → is_some (after s.MoreArguments kind) ≡ false
 no_morearguments k.Close e = refl
 no_morearguments k.CloseBracket e = refl
 no_morearguments k.CloseBrace e = refl
 no_morearguments k.Semicolon e = refl
 no_morearguments _ e = absurd cc
 
-no_array : (kind : Kind) → is_tight kind ≡ true → is_some (after s.Array kind) ≡ false
+no_array : (kind : TerminalKind) → is_tight kind ≡ true → is_some (after s.Array kind) ≡ false
 no_array k.Close e = refl
 no_array k.CloseBracket e = refl
 no_array k.CloseBrace e = refl
 no_array k.Semicolon e = refl
 no_array _ e = absurd cc
 
-no_initialiser : (kind : Kind) → is_tight kind ≡ true → is_some (after s.Initialiser kind) ≡ false
+no_initialiser : (kind : TerminalKind) → is_tight kind ≡ true → is_some (after s.Initialiser kind) ≡ false
 no_initialiser k.Close e = refl
 no_initialiser k.CloseBracket e = refl
 no_initialiser k.CloseBrace e = refl
 no_initialiser k.Semicolon e = refl
 no_initialiser _ e = absurd cc
 
-no_moreelements : (kind : Kind) → is_tight kind ≡ true → is_some (after s.MoreElements kind) ≡ false
+no_moreelements : (kind : TerminalKind) → is_tight kind ≡ true → is_some (after s.MoreElements kind) ≡ false
 no_moreelements k.Close e = refl
 no_moreelements k.CloseBracket e = refl
 no_moreelements k.CloseBrace e = refl
 no_moreelements k.Semicolon e = refl
 no_moreelements _ e = absurd cc
 
-no_elements : (kind : Kind) → is_tight kind ≡ true → is_some (after s.Elements kind) ≡ false
+no_elements : (kind : TerminalKind) → is_tight kind ≡ true → is_some (after s.Elements kind) ≡ false
 no_elements k.Close e = refl
 no_elements k.CloseBracket e = refl
 no_elements k.CloseBrace e = refl
 no_elements k.Semicolon e = refl
 no_elements _ e = absurd cc
 
-no_moreitems : (kind : Kind) → is_tight kind ≡ true → is_some (after s.MoreItems kind) ≡ false
+no_moreitems : (kind : TerminalKind) → is_tight kind ≡ true → is_some (after s.MoreItems kind) ≡ false
 no_moreitems k.Close e = refl
 no_moreitems k.CloseBracket e = refl
 no_moreitems k.CloseBrace e = refl
 no_moreitems k.Semicolon e = refl
 no_moreitems _ e = absurd cc
 
-no_afterunsigned : (kind : Kind) → is_type_end kind ≡ true → is_some (after s.AfterUnsigned kind) ≡ false
+no_afterunsigned : (kind : TerminalKind) → is_type_end kind ≡ true → is_some (after s.AfterUnsigned kind) ≡ false
 no_afterunsigned k.Close e = refl
 no_afterunsigned k.Name e = refl
 no_afterunsigned _ e = absurd cc
 
-no_afterlong : (kind : Kind) → is_type_end kind ≡ true → is_some (after s.AfterLong kind) ≡ false
+no_afterlong : (kind : TerminalKind) → is_type_end kind ≡ true → is_some (after s.AfterLong kind) ≡ false
 no_afterlong k.Close e = refl
 no_afterlong k.Name e = refl
 no_afterlong _ e = absurd cc
 
-no_twostars : (kind : Kind) → is_type_end kind ≡ true → is_some (after s.TwoStars kind) ≡ false
+no_twostars : (kind : TerminalKind) → is_type_end kind ≡ true → is_some (after s.TwoStars kind) ≡ false
 no_twostars k.Close e = refl
 no_twostars k.Name e = refl
 no_twostars _ e = absurd cc
 
-no_onestar : (kind : Kind) → is_type_end kind ≡ true → is_some (after s.OneStar kind) ≡ false
+no_onestar : (kind : TerminalKind) → is_type_end kind ≡ true → is_some (after s.OneStar kind) ≡ false
 no_onestar k.Close e = refl
 no_onestar k.Name e = refl
 no_onestar _ e = absurd cc
 
-no_items : (kind : Kind) → is_brace kind ≡ true → is_some (after s.Items kind) ≡ false
+no_items : (kind : TerminalKind) → is_brace kind ≡ true → is_some (after s.Items kind) ≡ false
 no_items k.CloseBrace e = refl
 no_items _ e = absurd cc
 
@@ -346,14 +346,14 @@ fit_either : (x y : Next) (rest : List Lexeme) → FitNext x rest → FitNext y 
 fit_either None y rest f g = g
 fit_either (Some new) y rest f g = f
 
-no_else_at_brace : (kind : Kind) → is_brace kind ≡ true → is_some (after s.MaybeElse kind) ≡ false
+no_else_at_brace : (kind : TerminalKind) → is_brace kind ≡ true → is_some (after s.MaybeElse kind) ≡ false
 no_else_at_brace k.CloseBrace e = refl
 no_else_at_brace _ e = absurd cc
 
 brace_else : (rest : List Lexeme) → head is_brace rest ≡ true → not (takes s.MaybeElse rest) ≡ true
 brace_else rest f = ap not (untaken s.MaybeElse is_brace no_else_at_brace rest f)
 
-fit_unary : (kind : Kind) (rest : List Lexeme) → head is_tight rest ≡ true → FitNext (unary kind) rest
+fit_unary : (kind : TerminalKind) (rest : List Lexeme) → head is_tight rest ≡ true → FitNext (unary kind) rest
 fit_unary k.Name rest f = (f, (f, tt))
 fit_unary k.Constant rest f = (f, tt)
 fit_unary k.Text rest f = (f, (f, tt))
@@ -364,23 +364,23 @@ fit_unary k.Star rest f = (f, tt)
 fit_unary k.Step rest f = (f, tt)
 fit_unary _ rest f = tt
 
-fit_expression : (kind : Kind) (rest : List Lexeme) → head is_tight rest ≡ true → FitNext (expression kind) rest
+fit_expression : (kind : TerminalKind) (rest : List Lexeme) → head is_tight rest ≡ true → FitNext (expression kind) rest
 fit_expression k.Open rest f = (f, tt)
 fit_expression kind rest f = fit_onto (unary kind) (s.Tail true ∷ []) rest (fit_unary kind rest f) (f, tt)
 
-fit_operand : (kind : Kind) (rest : List Lexeme) → head is_tight rest ≡ true → FitNext (operand kind) rest
+fit_operand : (kind : TerminalKind) (rest : List Lexeme) → head is_tight rest ≡ true → FitNext (operand kind) rest
 fit_operand k.Open rest f = (f, tt)
 fit_operand kind rest f = fit_unary kind rest f
 
-fit_plain_unary : (kind : Kind) (rest : List Lexeme) → head is_tight rest ≡ true → FitNext (plain_unary kind) rest
+fit_plain_unary : (kind : TerminalKind) (rest : List Lexeme) → head is_tight rest ≡ true → FitNext (plain_unary kind) rest
 fit_plain_unary k.Open rest f = (refl, (refl, (f, tt)))
 fit_plain_unary kind rest f = fit_unary kind rest f
 
-fit_measured : (kind : Kind) (rest : List Lexeme) → head is_tight rest ≡ true → FitNext (measured kind) rest
+fit_measured : (kind : TerminalKind) (rest : List Lexeme) → head is_tight rest ≡ true → FitNext (measured kind) rest
 fit_measured k.Open rest f = (f, tt)
 fit_measured kind rest f = fit_unary kind rest f
 
-fit_type : (kind : Kind) (rest : List Lexeme) → head is_type_end rest ≡ true → FitNext (bare_type kind) rest
+fit_type : (kind : TerminalKind) (rest : List Lexeme) → head is_type_end rest ≡ true → FitNext (bare_type kind) rest
 fit_type k.Long rest f = (f, tt)
 fit_type k.Unsigned rest f = (f, tt)
 fit_type k.Void rest f = tt
@@ -388,88 +388,88 @@ fit_type k.Char rest f = tt
 fit_type k.Int rest f = tt
 fit_type _ rest f = tt
 
-fit_qualified : (kind : Kind) (rest : List Lexeme) → head is_type_end rest ≡ true → FitNext (qualified kind) rest
+fit_qualified : (kind : TerminalKind) (rest : List Lexeme) → head is_type_end rest ≡ true → FitNext (qualified kind) rest
 fit_qualified k.Const rest f = (f, tt)
 fit_qualified kind rest f = fit_type kind rest f
 
-fit_specifiers : (kind : Kind) (rest : List Lexeme) → head is_type_end rest ≡ true → FitNext (specifiers kind) rest
+fit_specifiers : (kind : TerminalKind) (rest : List Lexeme) → head is_type_end rest ≡ true → FitNext (specifiers kind) rest
 fit_specifiers k.Storage rest f = (f, tt)
 fit_specifiers kind rest f = fit_qualified kind rest f
 
-fit_type_name : (kind : Kind) (rest : List Lexeme) → head is_type_end rest ≡ true → FitNext (type_name kind) rest
+fit_type_name : (kind : TerminalKind) (rest : List Lexeme) → head is_type_end rest ≡ true → FitNext (type_name kind) rest
 fit_type_name kind rest f = fit_onto (qualified kind) (s.TwoStars ∷ []) rest (fit_qualified kind rest f) (f, tt)
 
-fit_call : (kind : Kind) (rest : List Lexeme) → FitNext (call kind) rest
+fit_call : (kind : TerminalKind) (rest : List Lexeme) → FitNext (call kind) rest
 fit_call k.Open rest = (refl, (refl, tt))
 fit_call _ rest = tt
 
-fit_texts : (kind : Kind) (rest : List Lexeme) → head is_tight rest ≡ true → FitNext (texts kind) rest
+fit_texts : (kind : TerminalKind) (rest : List Lexeme) → head is_tight rest ≡ true → FitNext (texts kind) rest
 fit_texts k.Text rest f = (f, tt)
 fit_texts _ rest f = tt
 
-fit_suffixes : (kind : Kind) (rest : List Lexeme) → head is_tight rest ≡ true → FitNext (suffixes kind) rest
+fit_suffixes : (kind : TerminalKind) (rest : List Lexeme) → head is_tight rest ≡ true → FitNext (suffixes kind) rest
 fit_suffixes k.OpenBracket rest f = (refl, (refl, (f, tt)))
 fit_suffixes k.Step rest f = (f, tt)
 fit_suffixes _ rest f = tt
 
-fit_operator : (kind : Kind) (rest : List Lexeme) → head is_tight rest ≡ true → FitNext (operator kind) rest
+fit_operator : (kind : TerminalKind) (rest : List Lexeme) → head is_tight rest ≡ true → FitNext (operator kind) rest
 fit_operator k.Star rest f = (f, (f, tt))
 fit_operator k.Both rest f = (f, (f, tt))
 fit_operator k.Binary rest f = (f, (f, tt))
 fit_operator _ rest f = tt
 
-fit_assignment : (kind : Kind) (rest : List Lexeme) → head is_tight rest ≡ true → FitNext (assignment kind) rest
+fit_assignment : (kind : TerminalKind) (rest : List Lexeme) → head is_tight rest ≡ true → FitNext (assignment kind) rest
 fit_assignment k.Assign rest f = (f, tt)
 fit_assignment k.Update rest f = (f, tt)
 fit_assignment kind rest f = fit_operator kind rest f
 
-fit_more_arguments : (kind : Kind) (rest : List Lexeme) → head is_tight rest ≡ true → FitNext (more_arguments kind) rest
+fit_more_arguments : (kind : TerminalKind) (rest : List Lexeme) → head is_tight rest ≡ true → FitNext (more_arguments kind) rest
 fit_more_arguments k.Comma rest f = (f, (f, tt))
 fit_more_arguments _ rest f = tt
 
-fit_after_unsigned : (kind : Kind) (rest : List Lexeme) → head is_type_end rest ≡ true → FitNext (after_unsigned kind) rest
+fit_after_unsigned : (kind : TerminalKind) (rest : List Lexeme) → head is_type_end rest ≡ true → FitNext (after_unsigned kind) rest
 fit_after_unsigned k.Long rest f = (f, tt)
 fit_after_unsigned k.Char rest f = tt
 fit_after_unsigned k.Int rest f = tt
 fit_after_unsigned _ rest f = tt
 
-fit_after_long : (kind : Kind) (rest : List Lexeme) → FitNext (after_long kind) rest
+fit_after_long : (kind : TerminalKind) (rest : List Lexeme) → FitNext (after_long kind) rest
 fit_after_long k.Int rest = tt
 fit_after_long _ rest = tt
 
-fit_two_stars : (kind : Kind) (rest : List Lexeme) → head is_type_end rest ≡ true → FitNext (two_stars kind) rest
+fit_two_stars : (kind : TerminalKind) (rest : List Lexeme) → head is_type_end rest ≡ true → FitNext (two_stars kind) rest
 fit_two_stars k.Star rest f = (f, tt)
 fit_two_stars _ rest f = tt
 
-fit_one_star : (kind : Kind) (rest : List Lexeme) → FitNext (one_star kind) rest
+fit_one_star : (kind : TerminalKind) (rest : List Lexeme) → FitNext (one_star kind) rest
 fit_one_star k.Star rest = tt
 fit_one_star _ rest = tt
 
-fit_declaration : (kind : Kind) (rest : List Lexeme) → FitNext (declaration kind) rest
+fit_declaration : (kind : TerminalKind) (rest : List Lexeme) → FitNext (declaration kind) rest
 fit_declaration kind rest = fit_onto (specifiers kind) (s.TwoStars ∷ s.Name ∷ s.Array ∷ s.Initialiser ∷ s.MoreItems ∷ s.Semicolon ∷ []) rest
     (fit_specifiers kind (plain w.Name ∷ plain w.Semicolon ∷ rest) refl) (refl, (refl, (refl, (refl, (refl, (refl, tt))))))
 
-fit_array : (kind : Kind) (rest : List Lexeme) → FitNext (array kind) rest
+fit_array : (kind : TerminalKind) (rest : List Lexeme) → FitNext (array kind) rest
 fit_array k.OpenBracket rest = (refl, (refl, tt))
 fit_array _ rest = tt
 
-fit_initialiser : (kind : Kind) (rest : List Lexeme) → head is_tight rest ≡ true → FitNext (initialiser kind) rest
+fit_initialiser : (kind : TerminalKind) (rest : List Lexeme) → head is_tight rest ≡ true → FitNext (initialiser kind) rest
 fit_initialiser k.Assign rest f = (f, tt)
 fit_initialiser _ rest f = tt
 
-fit_initial : (kind : Kind) (rest : List Lexeme) → head is_tight rest ≡ true → FitNext (initial kind) rest
+fit_initial : (kind : TerminalKind) (rest : List Lexeme) → head is_tight rest ≡ true → FitNext (initial kind) rest
 fit_initial k.OpenBrace rest f = (refl, (refl, (refl, tt)))
 fit_initial kind rest f = fit_expression kind rest f
 
-fit_more_elements : (kind : Kind) (rest : List Lexeme) → head is_tight rest ≡ true → FitNext (more_elements kind) rest
+fit_more_elements : (kind : TerminalKind) (rest : List Lexeme) → head is_tight rest ≡ true → FitNext (more_elements kind) rest
 fit_more_elements k.Comma rest f = (f, tt)
 fit_more_elements _ rest f = tt
 
-fit_more_items : (kind : Kind) (rest : List Lexeme) → head is_tight rest ≡ true → FitNext (more_items kind) rest
+fit_more_items : (kind : TerminalKind) (rest : List Lexeme) → head is_tight rest ≡ true → FitNext (more_items kind) rest
 fit_more_items k.Comma rest f = (refl, (refl, (f, (f, (f, tt)))))
 fit_more_items _ rest f = tt
 
-fit_after_declared : (kind : Kind) (rest : List Lexeme) → FitNext (after_declared kind) rest
+fit_after_declared : (kind : TerminalKind) (rest : List Lexeme) → FitNext (after_declared kind) rest
 fit_after_declared k.Open rest = (refl, tt)
 fit_after_declared k.OpenBracket rest = (refl, (refl, (refl, (refl, (refl, tt)))))
 fit_after_declared k.Assign rest = (refl, (refl, (refl, tt)))
@@ -477,43 +477,43 @@ fit_after_declared k.Comma rest = (refl, (refl, (refl, (refl, (refl, (refl, tt))
 fit_after_declared k.Semicolon rest = tt
 fit_after_declared _ rest = tt
 
-fit_param : (named : Bool) (kind : Kind) (rest : List Lexeme) → FitNext (param named kind) rest
+fit_param : (named : Bool) (kind : TerminalKind) (rest : List Lexeme) → FitNext (param named kind) rest
 fit_param named kind rest = fit_onto (type_name kind) (s.AfterType named ∷ []) rest (fit_type_name kind (plain w.Close ∷ plain w.Semicolon ∷ rest) refl) (refl, tt)
 
-fit_params : (kind : Kind) (rest : List Lexeme) → FitNext (params kind) rest
+fit_params : (kind : TerminalKind) (rest : List Lexeme) → FitNext (params kind) rest
 fit_params k.Close rest = (refl, tt)
 fit_params k.Void rest = (refl, tt)
 fit_params kind rest = fit_param true kind rest
 
-fit_after_type : (named : Bool) (kind : Kind) (rest : List Lexeme) → FitNext (after_type named kind) rest
+fit_after_type : (named : Bool) (kind : TerminalKind) (rest : List Lexeme) → FitNext (after_type named kind) rest
 fit_after_type named k.Name rest = (refl, (refl, tt))
 fit_after_type named k.OpenBracket rest = (refl, (refl, tt))
 fit_after_type named k.Comma rest = (refl, tt)
 fit_after_type named k.Close rest = (refl, tt)
 fit_after_type named _ rest = tt
 
-fit_after_void : (kind : Kind) (rest : List Lexeme) → FitNext (after_void kind) rest
+fit_after_void : (kind : TerminalKind) (rest : List Lexeme) → FitNext (after_void kind) rest
 fit_after_void k.Close rest = (refl, tt)
 fit_after_void k.Star rest = (refl, (refl, tt))
 fit_after_void kind rest = fit_after_type true kind rest
 
-fit_brackets : (kind : Kind) (rest : List Lexeme) → FitNext (brackets kind) rest
+fit_brackets : (kind : TerminalKind) (rest : List Lexeme) → FitNext (brackets kind) rest
 fit_brackets k.OpenBracket rest = (refl, tt)
 fit_brackets _ rest = tt
 
-fit_more_params : (named : Bool) (kind : Kind) (rest : List Lexeme) → FitNext (more_params named kind) rest
+fit_more_params : (named : Bool) (kind : TerminalKind) (rest : List Lexeme) → FitNext (more_params named kind) rest
 fit_more_params named k.Comma rest = (refl, tt)
 fit_more_params named k.Close rest = (refl, tt)
 fit_more_params named _ rest = tt
 
-fit_ending : (named : Bool) (kind : Kind) (rest : List Lexeme) → FitNext (ending named kind) rest
+fit_ending : (named : Bool) (kind : TerminalKind) (rest : List Lexeme) → FitNext (ending named kind) rest
 fit_ending true k.Semicolon rest = tt
 fit_ending false k.Semicolon rest = tt
 fit_ending true k.OpenBrace rest = (refl, (refl, tt))
 fit_ending true _ rest = tt
 fit_ending false _ rest = tt
 
-fit_statement : (kind : Kind) (rest : List Lexeme) → not (takes s.MaybeElse rest) ≡ true → FitNext (statement kind) rest
+fit_statement : (kind : TerminalKind) (rest : List Lexeme) → not (takes s.MaybeElse rest) ≡ true → FitNext (statement kind) rest
 fit_statement k.Semicolon rest f = tt
 fit_statement k.OpenBrace rest f = (refl, (refl, tt))
 fit_statement k.Name rest f = (f, tt)
@@ -525,7 +525,7 @@ fit_statement k.Jump rest f = (refl, tt)
 fit_statement k.Return rest f = (refl, (refl, tt))
 fit_statement kind rest f = fit_onto (expression kind) (s.Semicolon ∷ []) rest (fit_expression kind (plain w.Semicolon ∷ rest) refl) (refl, tt)
 
-fit_after_name : (kind : Kind) (rest : List Lexeme) → not (takes s.MaybeElse rest) ≡ true → FitNext (after_name kind) rest
+fit_after_name : (kind : TerminalKind) (rest : List Lexeme) → not (takes s.MaybeElse rest) ≡ true → FitNext (after_name kind) rest
 fit_after_name k.Colon rest f = (f, tt)
 fit_after_name k.Semicolon rest f = tt
 fit_after_name k.Open rest f = (refl, (refl, (refl, (refl, (refl, tt)))))
@@ -533,44 +533,44 @@ fit_after_name k.OpenBracket rest f = (refl, (refl, (refl, (refl, (refl, tt)))))
 fit_after_name k.Step rest f = (refl, (refl, (refl, tt)))
 fit_after_name kind rest f = fit_onto (assignment kind) (s.Semicolon ∷ []) rest (fit_assignment kind (plain w.Semicolon ∷ rest) refl) (refl, tt)
 
-fit_else : (kind : Kind) (rest : List Lexeme) → not (takes s.MaybeElse rest) ≡ true → FitNext (maybe_else kind) rest
+fit_else : (kind : TerminalKind) (rest : List Lexeme) → not (takes s.MaybeElse rest) ≡ true → FitNext (maybe_else kind) rest
 fit_else k.Else rest f = (f, tt)
 fit_else _ rest f = tt
 
-fit_init : (kind : Kind) (rest : List Lexeme) → FitNext (for_init kind) rest
+fit_init : (kind : TerminalKind) (rest : List Lexeme) → FitNext (for_init kind) rest
 fit_init k.Semicolon rest = tt
 fit_init kind rest = fit_either (declaration kind) (onto (expression kind) (s.Semicolon ∷ [])) rest (fit_declaration kind rest)
     (fit_onto (expression kind) (s.Semicolon ∷ []) rest (fit_expression kind (plain w.Semicolon ∷ rest) refl) (refl, tt))
 
-fit_opening : (kind : Kind) (rest : List Lexeme) → FitNext (opening kind) rest
+fit_opening : (kind : TerminalKind) (rest : List Lexeme) → FitNext (opening kind) rest
 fit_opening k.Open rest = tt
 fit_opening _ rest = tt
 
-fit_closing : (kind : Kind) (rest : List Lexeme) → FitNext (closing kind) rest
+fit_closing : (kind : TerminalKind) (rest : List Lexeme) → FitNext (closing kind) rest
 fit_closing k.Close rest = tt
 fit_closing _ rest = tt
 
-fit_close_bracket : (kind : Kind) (rest : List Lexeme) → FitNext (close_bracket kind) rest
+fit_close_bracket : (kind : TerminalKind) (rest : List Lexeme) → FitNext (close_bracket kind) rest
 fit_close_bracket k.CloseBracket rest = tt
 fit_close_bracket _ rest = tt
 
-fit_close_brace : (kind : Kind) (rest : List Lexeme) → FitNext (close_brace kind) rest
+fit_close_brace : (kind : TerminalKind) (rest : List Lexeme) → FitNext (close_brace kind) rest
 fit_close_brace k.CloseBrace rest = tt
 fit_close_brace _ rest = tt
 
-fit_semicolon : (kind : Kind) (rest : List Lexeme) → FitNext (semicolon kind) rest
+fit_semicolon : (kind : TerminalKind) (rest : List Lexeme) → FitNext (semicolon kind) rest
 fit_semicolon k.Semicolon rest = tt
 fit_semicolon _ rest = tt
 
-fit_while : (kind : Kind) (rest : List Lexeme) → FitNext (while_word kind) rest
+fit_while : (kind : TerminalKind) (rest : List Lexeme) → FitNext (while_word kind) rest
 fit_while k.While rest = tt
 fit_while _ rest = tt
 
-fit_name : (kind : Kind) (rest : List Lexeme) → FitNext (name kind) rest
+fit_name : (kind : TerminalKind) (rest : List Lexeme) → FitNext (name kind) rest
 fit_name k.Name rest = tt
 fit_name _ rest = tt
 
-kept : (symbol : Symbol) (kind : Kind) (rest : List Lexeme) → fits symbol rest ≡ true → FitNext (after symbol kind) rest
+kept : (symbol : Symbol) (kind : TerminalKind) (rest : List Lexeme) → fits symbol rest ≡ true → FitNext (after symbol kind) rest
 kept s.Open kind rest f = fit_opening kind rest
 kept s.Close kind rest f = fit_closing kind rest
 kept s.CloseBracket kind rest f = fit_close_bracket kind rest
@@ -634,7 +634,7 @@ fit_below : (new below : List Symbol) → FitAll new (completed below) → Fit b
 fit_below [] below f g = g
 fit_below (s ∷ new) below f g = (subst (λ (z : List Lexeme). fits s z ≡ true) (sym (completed_both new below)) f.0, fit_below new below f.1 g)
 
-by_next : (symbol : Symbol) (below : List Symbol) (kind : Kind) (passed next : Next) (b : Bool) → after symbol kind ≡ next → Fit (symbol ∷ below)
+by_next : (symbol : Symbol) (below : List Symbol) (kind : TerminalKind) (passed next : Next) (b : Bool) → after symbol kind ≡ next → Fit (symbol ∷ below)
     → ((stack : List Symbol) → passed ≡ Some stack → Fit stack) → (stack : List Symbol) → fed next b below passed ≡ Some stack → Fit stack
 by_next symbol below kind passed (Some new) b e f rec stack h =
     let g : FitAll new (completed below) = subst (λ (z : Next). FitNext z (completed below)) e (kept symbol kind (completed below) f.0) in
@@ -643,6 +643,6 @@ by_next symbol below kind passed (Some new) b e f rec stack h =
 by_next symbol below kind passed None true e f rec stack h = rec stack h
 by_next symbol below kind passed None false e f rec stack h = absurd cc
 
-pub fed_fits : (stack : List Symbol) (kind : Kind) → Fit stack → (next : List Symbol) → feed stack kind ≡ Some next → Fit next
+pub fed_fits : (stack : List Symbol) (kind : TerminalKind) → Fit stack → (next : List Symbol) → feed stack kind ≡ Some next → Fit next
 fed_fits [] kind f next h = absurd cc
 fed_fits (s ∷ below) kind f next h = by_next s below kind (feed below kind) (after s kind) (may_be_empty s) refl f (fed_fits below kind f.1) next h

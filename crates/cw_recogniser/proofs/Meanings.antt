@@ -15,7 +15,7 @@ use Rattle.cw_grammar.specs.Expressions.{AreStrings, IsExpression}
 use Rattle.cw_grammar.specs.Declarations.{Specifiers, AreSpecifiers, IsArray, AreElements, IsInitialiser, IsItem, IsBrackets, IsParam, AreParams}
 use Rattle.cw_grammar.specs.Statements.{Place, InBlock, BeforeElse, Elsewhere, IsInit, IsStatement}
 use Rattle.cw_grammar.specs.Files.{Part, IsPart}
-use Rattle.cw_recogniser.specs.declared.kinds.Kind.{Kind}
+use Rattle.cw_recogniser.specs.declared.kinds.TerminalKind.{TerminalKind}
 use Rattle.cw_recogniser.specs.declared.symbols.Symbol.{Symbol}
 use Rattle.cw_recogniser.specs.declared.symbols.Symbol.TheVariants as s
 use Rattle.cw_recogniser.specs.Kinds.{kind_of_word}
@@ -190,7 +190,7 @@ split_either None y a rest h = inr h
 split_either (Some new) y a rest h = inl h
 
 -- the word of a token, by its kind
-pub exact : (t : Lexeme) (kind : Kind) (word : Word) → kind_of_word t.word ≡ kind → word_of kind ≡ Some word → Is word t
+pub exact : (t : Lexeme) (kind : TerminalKind) (word : Word) → kind_of_word t.word ≡ kind → word_of kind ≡ Some word → Is word t
 exact t kind word e f =
     let g : word_of (kind_of_word t.word) ≡ Some word = ap word_of e ∙ f in
     let some : is_some (word_of (kind_of_word t.word)) ≡ true = ap (λ (z : Option Word). is_some z) g in

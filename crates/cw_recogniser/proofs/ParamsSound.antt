@@ -11,8 +11,8 @@ use Rattle.cw_grammar.specs.declared.words.Lexeme.{Lexeme}
 use Rattle.cw_grammar.specs.Lexemes.{Is, words, name_of}
 use Rattle.cw_grammar.specs.Types.{IsTypeName}
 use Rattle.cw_grammar.specs.Declarations.{IsBrackets, IsParam}
-use Rattle.cw_recogniser.specs.declared.kinds.Kind.{Kind}
-use Rattle.cw_recogniser.specs.declared.kinds.Kind.TheVariants as k
+use Rattle.cw_recogniser.specs.declared.kinds.TerminalKind.{TerminalKind}
+use Rattle.cw_recogniser.specs.declared.kinds.TerminalKind.TheVariants as k
 use Rattle.cw_recogniser.specs.declared.symbols.Symbol.TheVariants as s
 use Rattle.cw_recogniser.specs.Kinds.{kind_of_word}
 use Rattle.cw_recogniser.specs.Machine.{param, params, after_type, after_void, brackets, more_params, ending, type_name}
@@ -45,7 +45,7 @@ next_param before named b p c d is e q (x, xs, u, l, v, f, h, close, ends) = (
   subst (λ (z : Bool). Ends z v) (ap (λ (z : Bool). z && all_named (x ∷ xs)) e ∙ and_assoc before (is_named p) (all_named (x ∷ xs))) ends,
 )
 
-pub more_params_sound : (named : Bool) (kind : Kind) (t : Lexeme) (a rest : List Lexeme) → kind_of_word t.word ≡ kind → Given (more_params named kind) a rest → Means (s.MoreParams named) (t ∷ a) rest
+pub more_params_sound : (named : Bool) (kind : TerminalKind) (t : Lexeme) (a rest : List Lexeme) → kind_of_word t.word ≡ kind → Given (more_params named kind) a rest → Means (s.MoreParams named) (t ∷ a) rest
 more_params_sound named k.Comma t a rest e h = λ before b p is f. next_param before named b p t a is f (exact t k.Comma w.Comma e refl) h
 more_params_sound named k.Close t a rest e h = λ before b p is f. last_param before named b p t a is f (exact t k.Close w.Close e refl) h
 more_params_sound named _ t a rest e h = absurd h
@@ -56,7 +56,7 @@ brackets_none rest = (false, refl)
 brackets_are : (o c : Lexeme) → Is w.OpenBracket o → Is w.CloseBracket c → IsBrackets (o ∷ c ∷ []) true
 brackets_are o c p q = rw (p, q) refl
 
-pub brackets_sound : (kind : Kind) (t : Lexeme) (a rest : List Lexeme) → kind_of_word t.word ≡ kind → Given (brackets kind) a rest → Means s.Brackets (t ∷ a) rest
+pub brackets_sound : (kind : TerminalKind) (t : Lexeme) (a rest : List Lexeme) → kind_of_word t.word ≡ kind → Given (brackets kind) a rest → Means s.Brackets (t ∷ a) rest
 brackets_sound k.OpenBracket t a rest e (z, f, q) = (true, rw f (brackets_are t z (exact t k.OpenBracket w.OpenBracket e refl) q))
 brackets_sound _ t a rest e h = absurd h
 
@@ -65,7 +65,7 @@ brackets_sound _ t a rest e h = absurd h
 nameless : (b : List Lexeme) (kind : CType) → IsTypeName b kind → IsParam b (param_of kind None false)
 nameless b kind h = (b, [], [], sym (append-nil b), h, refl, refl)
 
-pub after_type_sound : (named : Bool) (kind : Kind) (t : Lexeme) (a rest : List Lexeme) → kind_of_word t.word ≡ kind → Given (after_type named kind) a rest → Means (s.AfterType named) (t ∷ a) rest
+pub after_type_sound : (named : Bool) (kind : TerminalKind) (t : Lexeme) (a rest : List Lexeme) → kind_of_word t.word ≡ kind → Given (after_type named kind) a rest → Means (s.AfterType named) (t ∷ a) rest
 after_type_sound named k.Name t a rest e (b, c, f, (array, d), others) = λ m n.
     let is : IsParam (m ++ (t ∷ b)) (param_of n.0 (Some (name_of t)) array) = (m, t ∷ [], b, refl, n.1, (t, refl, exact t k.Name w.Name e refl, refl), d) in
     subst (λ (z : List Lexeme). SomeList named z) (append_assoc m (t ∷ b) c ∙ ap (λ (z : List Lexeme). m ++ (t ∷ z)) (sym f))
@@ -78,7 +78,7 @@ after_type_sound named k.Comma t a rest e h = λ m n. next_param named false m (
 after_type_sound named k.Close t a rest e h = λ m n. last_param named false m (param_of n.0 None false) t a (nameless m n.0 n.1) (sym (and_false named)) (exact t k.Close w.Close e refl) h
 after_type_sound named _ t a rest e h = absurd h
 
-pub param_sound : (named : Bool) (kind : Kind) (t : Lexeme) (a rest : List Lexeme) → kind_of_word t.word ≡ kind → Given (param named kind) a rest → SomeList named (t ∷ a)
+pub param_sound : (named : Bool) (kind : TerminalKind) (t : Lexeme) (a rest : List Lexeme) → kind_of_word t.word ≡ kind → Given (param named kind) a rest → SomeList named (t ∷ a)
 param_sound named kind t a rest e h =
     let x = split_onto (type_name kind) (s.AfterType named) [] a rest h in
     subst (λ (z : List Lexeme). SomeList named (t ∷ z)) (sym x.2) (x.4 (t ∷ x.0) (type_name_sound kind t x.0 (x.1 ++ rest) e x.3))
@@ -109,7 +109,7 @@ kind_of t word is = ap kind_of_word is
 void_type : (t : Lexeme) → Is w.Void t → SomeTypeName (t ∷ [])
 void_type t is = type_name_sound k.Void t [] [] (kind_of t w.Void is) (0, (omega arith, refl))
 
-pub after_void_sound : (kind : Kind) (t : Lexeme) (a rest : List Lexeme) → kind_of_word t.word ≡ kind → Given (after_void kind) a rest → Means s.AfterVoid (t ∷ a) rest
+pub after_void_sound : (kind : TerminalKind) (t : Lexeme) (a rest : List Lexeme) → kind_of_word t.word ≡ kind → Given (after_void kind) a rest → Means s.AfterVoid (t ∷ a) rest
 after_void_sound k.Close t a rest e h = λ v is. ([], v ∷ [], t, a, refl, inl (rw is refl, refl), exact t k.Close w.Close e refl, h)
 after_void_sound k.Star t a rest e h = λ v is.
     listed (v ∷ t ∷ a) (not_void_alone v t a (λ p. let f = kind_of t w.Close p in absurd cc)) (param_sound true k.Void v (t ∷ a) rest (kind_of v w.Void is) (starred h)) where
@@ -118,14 +118,14 @@ after_void_sound k.Star t a rest e h = λ v is.
 after_void_sound kind t a rest e h = λ v is.
     listed (v ∷ t ∷ a) (not_void_alone v t a (λ p. let f = kind_of t w.Close p in absurd cc)) (after_type_sound true kind t a rest e h (v ∷ []) (void_type v is))
 
-pub params_sound : (kind : Kind) (t : Lexeme) (a rest : List Lexeme) → kind_of_word t.word ≡ kind → Given (params kind) a rest → SomeParams (t ∷ a)
+pub params_sound : (kind : TerminalKind) (t : Lexeme) (a rest : List Lexeme) → kind_of_word t.word ≡ kind → Given (params kind) a rest → SomeParams (t ∷ a)
 params_sound k.Close t a rest e h = ([], [], t, a, refl, inr (λ p. absurd cc, refl), exact t k.Close w.Close e refl, h)
 params_sound k.Void t a rest e h = h t (exact t k.Void w.Void e refl)
 params_sound kind t a rest e h = listed (t ∷ a) (not_void t a (λ p. let f = kind_of t w.Void p in absurd cc)) (param_sound true kind t a rest e h)
 
 -- ---- behind the list
 
-pub ending_sound : (named : Bool) (kind : Kind) (t : Lexeme) (a rest : List Lexeme) → kind_of_word t.word ≡ kind → Given (ending named kind) a rest → Ends named (t ∷ a)
+pub ending_sound : (named : Bool) (kind : TerminalKind) (t : Lexeme) (a rest : List Lexeme) → kind_of_word t.word ≡ kind → Given (ending named kind) a rest → Ends named (t ∷ a)
 ending_sound true k.Semicolon t a rest e h = inl (t, ap (λ (z : List Lexeme). t ∷ z) h, exact t k.Semicolon w.Semicolon e refl)
 ending_sound false k.Semicolon t a rest e h = inl (t, ap (λ (z : List Lexeme). t ∷ z) h, exact t k.Semicolon w.Semicolon e refl)
 ending_sound true k.OpenBrace t a rest e (b, c, f, items, (z, g, q)) = inr (refl, (t, b, z, rw (f, g) refl, exact t k.OpenBrace w.OpenBrace e refl, items, q))

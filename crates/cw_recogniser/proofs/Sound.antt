@@ -6,8 +6,8 @@ use Rattle.cw_grammar.specs.declared.words.Word.{Word}
 use Rattle.cw_grammar.specs.declared.words.Word.TheVariants as w
 use Rattle.cw_grammar.specs.declared.words.Lexeme.{Lexeme}
 use Rattle.cw_grammar.specs.Files.{IsOfGrammar, file_of}
-use Rattle.cw_recogniser.specs.declared.kinds.Kind.{Kind}
-use Rattle.cw_recogniser.specs.declared.kinds.Kind.TheVariants as k
+use Rattle.cw_recogniser.specs.declared.kinds.TerminalKind.{TerminalKind}
+use Rattle.cw_recogniser.specs.declared.kinds.TerminalKind.TheVariants as k
 use Rattle.cw_recogniser.specs.declared.symbols.Symbol.{Symbol}
 use Rattle.cw_recogniser.specs.declared.symbols.Symbol.TheVariants as s
 use Rattle.cw_recogniser.specs.Kinds.{kind_of_word}
@@ -28,40 +28,40 @@ use Rattle.cw_recogniser.proofs.FilesSound.{after_declared_sound, parts_sound}
 
 -- ---- marks
 
-marked : (t : Lexeme) (a : List Lexeme) (kind : Kind) (word : Word) → kind_of_word t.word ≡ kind → word_of kind ≡ Some word → a ≡ [] → Mark word (t ∷ a)
+marked : (t : Lexeme) (a : List Lexeme) (kind : TerminalKind) (word : Word) → kind_of_word t.word ≡ kind → word_of kind ≡ Some word → a ≡ [] → Mark word (t ∷ a)
 marked t a kind word e f h = (t, ap (λ (z : List Lexeme). t ∷ z) h, exact t kind word e f)
 
-opening_sound : (kind : Kind) (t : Lexeme) (a rest : List Lexeme) → kind_of_word t.word ≡ kind → Given (opening kind) a rest → Mark w.Open (t ∷ a)
+opening_sound : (kind : TerminalKind) (t : Lexeme) (a rest : List Lexeme) → kind_of_word t.word ≡ kind → Given (opening kind) a rest → Mark w.Open (t ∷ a)
 opening_sound k.Open t a rest e h = marked t a k.Open w.Open e refl h
 opening_sound _ t a rest e h = absurd h
 
-closing_sound : (kind : Kind) (t : Lexeme) (a rest : List Lexeme) → kind_of_word t.word ≡ kind → Given (closing kind) a rest → Mark w.Close (t ∷ a)
+closing_sound : (kind : TerminalKind) (t : Lexeme) (a rest : List Lexeme) → kind_of_word t.word ≡ kind → Given (closing kind) a rest → Mark w.Close (t ∷ a)
 closing_sound k.Close t a rest e h = marked t a k.Close w.Close e refl h
 closing_sound _ t a rest e h = absurd h
 
-close_bracket_sound : (kind : Kind) (t : Lexeme) (a rest : List Lexeme) → kind_of_word t.word ≡ kind → Given (close_bracket kind) a rest → Mark w.CloseBracket (t ∷ a)
+close_bracket_sound : (kind : TerminalKind) (t : Lexeme) (a rest : List Lexeme) → kind_of_word t.word ≡ kind → Given (close_bracket kind) a rest → Mark w.CloseBracket (t ∷ a)
 close_bracket_sound k.CloseBracket t a rest e h = marked t a k.CloseBracket w.CloseBracket e refl h
 close_bracket_sound _ t a rest e h = absurd h
 
-close_brace_sound : (kind : Kind) (t : Lexeme) (a rest : List Lexeme) → kind_of_word t.word ≡ kind → Given (close_brace kind) a rest → Mark w.CloseBrace (t ∷ a)
+close_brace_sound : (kind : TerminalKind) (t : Lexeme) (a rest : List Lexeme) → kind_of_word t.word ≡ kind → Given (close_brace kind) a rest → Mark w.CloseBrace (t ∷ a)
 close_brace_sound k.CloseBrace t a rest e h = marked t a k.CloseBrace w.CloseBrace e refl h
 close_brace_sound _ t a rest e h = absurd h
 
-semicolon_sound : (kind : Kind) (t : Lexeme) (a rest : List Lexeme) → kind_of_word t.word ≡ kind → Given (semicolon kind) a rest → Mark w.Semicolon (t ∷ a)
+semicolon_sound : (kind : TerminalKind) (t : Lexeme) (a rest : List Lexeme) → kind_of_word t.word ≡ kind → Given (semicolon kind) a rest → Mark w.Semicolon (t ∷ a)
 semicolon_sound k.Semicolon t a rest e h = marked t a k.Semicolon w.Semicolon e refl h
 semicolon_sound _ t a rest e h = absurd h
 
-while_word_sound : (kind : Kind) (t : Lexeme) (a rest : List Lexeme) → kind_of_word t.word ≡ kind → Given (while_word kind) a rest → Mark w.While (t ∷ a)
+while_word_sound : (kind : TerminalKind) (t : Lexeme) (a rest : List Lexeme) → kind_of_word t.word ≡ kind → Given (while_word kind) a rest → Mark w.While (t ∷ a)
 while_word_sound k.While t a rest e h = marked t a k.While w.While e refl h
 while_word_sound _ t a rest e h = absurd h
 
-name_sound : (kind : Kind) (t : Lexeme) (a rest : List Lexeme) → kind_of_word t.word ≡ kind → Given (name kind) a rest → Mark w.Name (t ∷ a)
+name_sound : (kind : TerminalKind) (t : Lexeme) (a rest : List Lexeme) → kind_of_word t.word ≡ kind → Given (name kind) a rest → Mark w.Name (t ∷ a)
 name_sound k.Name t a rest e h = marked t a k.Name w.Name e refl h
 name_sound _ t a rest e h = absurd h
 
 -- ---- each symbol
 
-taken : (symbol : Symbol) (kind : Kind) (t : Lexeme) (a rest : List Lexeme) → kind_of_word t.word ≡ kind → Given (after symbol kind) a rest → Means symbol (t ∷ a) rest
+taken : (symbol : Symbol) (kind : TerminalKind) (t : Lexeme) (a rest : List Lexeme) → kind_of_word t.word ≡ kind → Given (after symbol kind) a rest → Means symbol (t ∷ a) rest
 taken s.Open kind t a rest e h = opening_sound kind t a rest e h
 taken s.Close kind t a rest e h = closing_sound kind t a rest e h
 taken s.CloseBracket kind t a rest e h = close_bracket_sound kind t a rest e h

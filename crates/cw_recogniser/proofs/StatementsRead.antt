@@ -9,8 +9,8 @@ use Rattle.cw_grammar.specs.declared.words.Lexeme.{Lexeme}
 use Rattle.cw_grammar.specs.Lexemes.{AreAll, IsOptional, IsEnded}
 use Rattle.cw_grammar.specs.Expressions.{IsExpression}
 use Rattle.cw_grammar.specs.Statements.{Place, InBlock, BeforeElse, Elsewhere, last, IsTest, IsInit, IsForm, IsStatement}
-use Rattle.cw_recogniser.specs.declared.kinds.Kind.{Kind}
-use Rattle.cw_recogniser.specs.declared.kinds.Kind.TheVariants as k
+use Rattle.cw_recogniser.specs.declared.kinds.TerminalKind.{TerminalKind}
+use Rattle.cw_recogniser.specs.declared.kinds.TerminalKind.TheVariants as k
 use Rattle.cw_recogniser.specs.declared.symbols.Symbol.{Symbol}
 use Rattle.cw_recogniser.specs.declared.symbols.Symbol.TheVariants as s
 use Rattle.cw_recogniser.specs.Kinds.{kind_of_word}
@@ -25,7 +25,7 @@ use Rattle.cw_recogniser.proofs.DeclarationsRead.{reads_optional, reads_declarat
 -- ---- an expression in a statement's place
 
 -- behind a name at a statement's front
-after_call : (below : List Symbol) (kind : Kind) (go : List Symbol → Bool) → then_done (feed (s.Call ∷ s.Suffixes ∷ s.Tail true ∷ s.Semicolon ∷ below) kind) go ≡ true
+after_call : (below : List Symbol) (kind : TerminalKind) (go : List Symbol → Bool) → then_done (feed (s.Call ∷ s.Suffixes ∷ s.Tail true ∷ s.Semicolon ∷ below) kind) go ≡ true
     → then_done (feed (s.AfterName ∷ below) kind) go ≡ true
 after_call below k.Semicolon go h = h
 after_call below k.Open go h = h
@@ -42,7 +42,7 @@ after_call_at : (ts : List Lexeme) (below : List Symbol) → accepts (s.Call ∷
 after_call_at [] below h = absurd cc
 after_call_at (t ∷ ts) below h = after_call below (kind_of_word t.word) (λ next. accepts next ts) h
 
-by_kind : (below : List Symbol) (kind : Kind) (ts : List Lexeme) → then_done (feed (s.Expression ∷ s.Semicolon ∷ below) kind) (λ next. accepts next ts) ≡ true
+by_kind : (below : List Symbol) (kind : TerminalKind) (ts : List Lexeme) → then_done (feed (s.Expression ∷ s.Semicolon ∷ below) kind) (λ next. accepts next ts) ≡ true
     → then_done (feed (s.Statement ∷ below) kind) (λ next. accepts next ts) ≡ true
 by_kind below k.Name ts h = after_call_at ts below h
 by_kind below k.Open ts h = h
@@ -61,7 +61,7 @@ as_statement (t ∷ ts) below h = record { ok = by_kind below (kind_of_word t.wo
 
 -- ---- statements and declarations in a block
 
-no_declaration : (kind : Kind) → is_some (statement kind) ≡ true → declaration kind ≡ None
+no_declaration : (kind : TerminalKind) → is_some (statement kind) ≡ true → declaration kind ≡ None
 no_declaration k.Storage e = absurd cc
 no_declaration k.Const e = absurd cc
 no_declaration k.Void e = absurd cc
@@ -71,7 +71,7 @@ no_declaration k.Long e = absurd cc
 no_declaration k.Unsigned e = absurd cc
 no_declaration _ e = refl
 
-items_statement : (kind : Kind) → is_some (statement kind) ≡ true → after s.Items kind ≡ onto (statement kind) (s.Items ∷ [])
+items_statement : (kind : TerminalKind) → is_some (statement kind) ≡ true → after s.Items kind ≡ onto (statement kind) (s.Items ∷ [])
 items_statement kind e = ap (λ z. onto (either z (statement kind)) (s.Items ∷ [])) (no_declaration kind e)
 
 items_declare : Declares s.Items (behind 0 (s.Items ∷ []))
@@ -94,7 +94,7 @@ init_declares k.Long e = refl
 init_declares k.Unsigned e = refl
 init_declares _ e = absurd cc
 
-init_expression : (kind : Kind) → is_some (expression kind) ≡ true → after s.ForInit kind ≡ onto (expression kind) (s.Semicolon ∷ [])
+init_expression : (kind : TerminalKind) → is_some (expression kind) ≡ true → after s.ForInit kind ≡ onto (expression kind) (s.Semicolon ∷ [])
 init_expression k.Open e = refl
 init_expression k.Name e = refl
 init_expression k.Constant e = refl
@@ -124,7 +124,7 @@ follows_if BeforeElse rest d f = absurd (d refl)
 follows_if Elsewhere rest d f = f
 
 -- in a block that goes on no `else` comes
-else_kind : (below : List Symbol) (kind : Kind) (go : List Symbol → Bool) → then_done (feed (s.Items ∷ s.CloseBrace ∷ below) kind) go ≡ true → is_some (after s.MaybeElse kind) ≡ false
+else_kind : (below : List Symbol) (kind : TerminalKind) (go : List Symbol → Bool) → then_done (feed (s.Items ∷ s.CloseBrace ∷ below) kind) go ≡ true → is_some (after s.MaybeElse kind) ≡ false
 else_kind below k.Else go h = absurd cc
 else_kind below _ go h = refl
 

@@ -8,8 +8,8 @@ use Rattle.cw_grammar.specs.declared.rules.Rule.TheVariants.{Expression, Unary, 
 use Rattle.cw_grammar.specs.Lexemes.{Is, name_of, from_of, to_of, IsOptional, statements}
 use Rattle.cw_grammar.specs.Expressions.{IsExpression}
 use Rattle.cw_grammar.specs.Statements.{Place, InBlock, BeforeElse, Elsewhere, last, IsInit, IsStatement}
-use Rattle.cw_recogniser.specs.declared.kinds.Kind.{Kind}
-use Rattle.cw_recogniser.specs.declared.kinds.Kind.TheVariants as k
+use Rattle.cw_recogniser.specs.declared.kinds.TerminalKind.{TerminalKind}
+use Rattle.cw_recogniser.specs.declared.kinds.TerminalKind.TheVariants as k
 use Rattle.cw_recogniser.specs.declared.symbols.Symbol.{Symbol}
 use Rattle.cw_recogniser.specs.declared.symbols.Symbol.TheVariants as s
 use Rattle.cw_recogniser.specs.Kinds.{kind_of_word}
@@ -267,7 +267,7 @@ for_sound t a rest is (b0, c0, f0, (o, g0, p0), (b1, c1, f1, init, (b2, c2, f2, 
     (sym (ap (λ (e : List Lexeme). o ∷ (b1 ++ e)) (append_assoc b2 (y ∷ []) ((b4 ++ (z ∷ [])) ++ c5)
     ∙ ap (λ (e : List Lexeme). b2 ++ (y ∷ e)) (append_assoc b4 (z ∷ []) c5)))))) (fors t o y z b1 b2 b4 c5 rest is p0 init test p3 each p5 x)
 
-pub statement_sound : (kind : Kind) (t : Lexeme) (a rest : List Lexeme) → kind_of_word t.word ≡ kind → Given (statement kind) a rest → OneStatement (t ∷ a) rest
+pub statement_sound : (kind : TerminalKind) (t : Lexeme) (a rest : List Lexeme) → kind_of_word t.word ≡ kind → Given (statement kind) a rest → OneStatement (t ∷ a) rest
 statement_sound k.Semicolon t a rest e h = moved (ap (λ (z : List Lexeme). t ∷ z) h) (empty t rest (exact t k.Semicolon w.Semicolon e refl))
 statement_sound k.OpenBrace t a rest e (b, c, f, items, (z, g, q)) = moved (ap (λ (y : List Lexeme). t ∷ y) (rw (f, g) refl)) (block t z b rest (exact t k.OpenBrace w.OpenBrace e refl) q items)
 statement_sound k.Name t a rest e h = h t (exact t k.Name w.Name e refl)
@@ -292,13 +292,13 @@ suffixed m a rest h (b, c, f, suffixes, others) = moved (rw f (sym (append_assoc
 named_unary : (m : Lexeme) → Is w.Name m → Stands Unary (m ∷ [])
 named_unary m is = postfix_unary (m ∷ []) (name_postfix m is)
 
-by_assignment : (kind : Kind) (t : Lexeme) (a rest : List Lexeme) → kind_of_word t.word ≡ kind → Given (onto (assignment kind) (s.Semicolon ∷ [])) a rest → Means s.AfterName (t ∷ a) rest
+by_assignment : (kind : TerminalKind) (t : Lexeme) (a rest : List Lexeme) → kind_of_word t.word ≡ kind → Given (onto (assignment kind) (s.Semicolon ∷ [])) a rest → Means s.AfterName (t ∷ a) rest
 by_assignment kind t a rest e h m is =
     let x = split_onto (assignment kind) s.Semicolon [] a rest h in
     moved (ap (λ (z : List Lexeme). m ∷ t ∷ z) (x.2 ∙ ap (λ (z : List Lexeme). x.0 ++ z) x.4.1))
     (evaluates (m ∷ t ∷ x.0) x.4.0 rest (assignment_sound kind t x.0 (x.1 ++ rest) e x.3 (m ∷ []) (named_unary m is)) x.4.2)
 
-pub after_name_sound : (kind : Kind) (t : Lexeme) (a rest : List Lexeme) → kind_of_word t.word ≡ kind → Given (after_name kind) a rest → Means s.AfterName (t ∷ a) rest
+pub after_name_sound : (kind : TerminalKind) (t : Lexeme) (a rest : List Lexeme) → kind_of_word t.word ≡ kind → Given (after_name kind) a rest → Means s.AfterName (t ∷ a) rest
 after_name_sound k.Colon t a rest e h = λ m is. labels m t a rest is (exact t k.Colon w.Colon e refl) h
 after_name_sound k.Semicolon t a rest e h = λ m is. moved (ap (λ (z : List Lexeme). m ∷ t ∷ z) h)
     (evaluates (m ∷ []) t rest (chain_expression (m ∷ []) (operand_chain (m ∷ []) (unary_operand (m ∷ []) (named_unary m is)))) (exact t k.Semicolon w.Semicolon e refl))
@@ -314,7 +314,7 @@ after_name_sound k.Step t a rest e h = λ m is.
     moved (ap (λ (z : List Lexeme). m ∷ t ∷ z) x.2) (ended (m ∷ t ∷ x.0) x.1 rest (postfix_unary (m ∷ t ∷ x.0) (suffixes_sound k.Step t x.0 (x.1 ++ rest) e x.3 (m ∷ []) (name_postfix m is))) x.4)
 after_name_sound kind t a rest e h = by_assignment kind t a rest e h
 
-pub else_sound : (kind : Kind) (t : Lexeme) (a rest : List Lexeme) → kind_of_word t.word ≡ kind → Given (maybe_else kind) a rest → Means s.MaybeElse (t ∷ a) rest
+pub else_sound : (kind : TerminalKind) (t : Lexeme) (a rest : List Lexeme) → kind_of_word t.word ≡ kind → Given (maybe_else kind) a rest → Means s.MaybeElse (t ∷ a) rest
 else_sound k.Else t a rest e h = inr (t, a, refl, exact t k.Else w.Else e refl, h)
 else_sound _ t a rest e h = absurd h
 
@@ -338,12 +338,12 @@ one_more a b (m, x, h) (n, xs, d) =
       ),
     )
 
-by_form : (kind : Kind) (t : Lexeme) (a rest : List Lexeme) → kind_of_word t.word ≡ kind → Given (declaration kind) a rest ⊎ Given (statement kind) a rest → (n : ℕ)
+by_form : (kind : TerminalKind) (t : Lexeme) (a rest : List Lexeme) → kind_of_word t.word ≡ kind → Given (declaration kind) a rest ⊎ Given (statement kind) a rest → (n : ℕ)
     × (x : Statement) × IsStatement n n InBlock (t ∷ a) x
 by_form kind t a rest e (inl h) = declared (t ∷ a) rest (declaration_sound kind t a rest e h)
 by_form kind t a rest e (inr h) = let x = statement_sound kind t a rest e h in (x.nesting, x.tree, x.derives InBlock tt)
 
-pub items_sound : (kind : Kind) (t : Lexeme) (a rest : List Lexeme) → kind_of_word t.word ≡ kind → Given (after s.Items kind) a rest → SomeStatements (t ∷ a)
+pub items_sound : (kind : TerminalKind) (t : Lexeme) (a rest : List Lexeme) → kind_of_word t.word ≡ kind → Given (after s.Items kind) a rest → SomeStatements (t ∷ a)
 items_sound kind t a rest e h =
     let x = split_onto (either (declaration kind) (statement kind)) s.Items [] a rest h in
     subst (λ (z : List Lexeme). SomeStatements (t ∷ z)) (sym x.2)
@@ -351,7 +351,7 @@ items_sound kind t a rest e h =
 
 -- ---- the front of a `for`
 
-by_init : (kind : Kind) (t : Lexeme) (a rest : List Lexeme) → kind_of_word t.word ≡ kind → Given (declaration kind) a rest
+by_init : (kind : TerminalKind) (t : Lexeme) (a rest : List Lexeme) → kind_of_word t.word ≡ kind → Given (declaration kind) a rest
     ⊎ Given (onto (expression kind) (s.Semicolon ∷ [])) a rest → SomeInit (t ∷ a)
 by_init kind t a rest e (inl h) = let x = declaration_sound kind t a rest e h in (x.0, just (made (Declares x.1) (t ∷ a)), (refl, refl, x.2))
 by_init kind t a rest e (inr h) =
@@ -359,6 +359,6 @@ by_init kind t a rest e (inr h) =
     let y = expression_sound kind t x.0 (x.1 ++ rest) e x.3 in
     (y.nesting, just (made (Evaluates y.tree) (t ∷ a)), (refl, refl, (t ∷ x.0, x.4.0, ap (λ (z : List Lexeme). t ∷ z) (x.2 ∙ ap (λ (z : List Lexeme). x.0 ++ z) x.4.1), x.4.2, y.derives)))
 
-pub init_sound : (kind : Kind) (t : Lexeme) (a rest : List Lexeme) → kind_of_word t.word ≡ kind → Given (for_init kind) a rest → SomeInit (t ∷ a)
+pub init_sound : (kind : TerminalKind) (t : Lexeme) (a rest : List Lexeme) → kind_of_word t.word ≡ kind → Given (for_init kind) a rest → SomeInit (t ∷ a)
 init_sound k.Semicolon t a rest e h = (0, nothing, rw (h, exact t k.Semicolon w.Semicolon e refl) refl)
 init_sound kind t a rest e h = by_init kind t a rest e (split_either (declaration kind) (onto (expression kind) (s.Semicolon ∷ [])) a rest h)

@@ -9,8 +9,8 @@ use Rattle.cw_grammar.specs.declared.words.Lexeme.{Lexeme}
 use Rattle.cw_grammar.specs.Lexemes.{words, IsFlag}
 use Rattle.cw_grammar.specs.Types.{IsType, AreStars, IsTypeName}
 use Rattle.cw_grammar.specs.Declarations.{IsStorage, Specifiers, AreSpecifiers}
-use Rattle.cw_recogniser.specs.declared.kinds.Kind.{Kind}
-use Rattle.cw_recogniser.specs.declared.kinds.Kind.TheVariants as k
+use Rattle.cw_recogniser.specs.declared.kinds.TerminalKind.{TerminalKind}
+use Rattle.cw_recogniser.specs.declared.kinds.TerminalKind.TheVariants as k
 use Rattle.cw_recogniser.specs.declared.symbols.Symbol.{Symbol}
 use Rattle.cw_recogniser.specs.declared.symbols.Symbol.TheVariants as s
 use Rattle.cw_recogniser.specs.Kinds.{kind_of_word}
@@ -22,7 +22,7 @@ use Rattle.cw_grammar.proofs.Wording.{first_word, no_words, one_word, two_words,
 abbrev pub EndsType : List Lexeme → Type 0
 EndsType rest = takes s.AfterUnsigned rest ≡ false
 
-no_int : (kind : Kind) → is_some (after_unsigned kind) ≡ false → is_some (after_long kind) ≡ false
+no_int : (kind : TerminalKind) → is_some (after_unsigned kind) ≡ false → is_some (after_long kind) ≡ false
 no_int k.Int e = absurd cc
 no_int _ e = refl
 
@@ -76,7 +76,7 @@ reads_stars (suc zero) ts rest below a e h = let x = one_word ts w.Star a.1 in r
   one_less : (rest : List Lexeme) → takes s.TwoStars rest ≡ false → takes s.OneStar rest ≡ false
   one_less [] e = refl
   one_less (t ∷ ts) e = by_kind (kind_of_word t.word) e where
-    by_kind : (kind : Kind) → is_some (after s.TwoStars kind) ≡ false → is_some (after s.OneStar kind) ≡ false
+    by_kind : (kind : TerminalKind) → is_some (after s.TwoStars kind) ≡ false → is_some (after s.OneStar kind) ≡ false
     by_kind k.Star e = absurd cc
     by_kind _ e = refl
 reads_stars (suc (suc zero)) ts rest below a e h = let x = two_words ts w.Star w.Star a.1 in rw x.2 (step x.3 refl (step x.4 refl h))
@@ -89,7 +89,7 @@ stars_end (suc stars) ts rest a e = let x = first_word ts w.Star (replicate star
 
 -- ---- types with `const`, with stars, with a storage class
 
-not_const : (kind : Kind) → is_some (after s.Type kind) ≡ true → after s.Qualified kind ≡ onto (after s.Type kind) []
+not_const : (kind : TerminalKind) → is_some (after s.Type kind) ≡ true → after s.Qualified kind ≡ onto (after s.Type kind) []
 not_const k.Void e = refl
 not_const k.Char e = refl
 not_const k.Int e = refl
@@ -108,7 +108,7 @@ reads_type_name ts rest kind below (constant, c, t, stars, e, f, is, a) ends non
     rw (e, append_assoc, append_assoc) (reads_qualified constant c t (stars ++ rest) kind.base kind.unsigned (s.TwoStars ∷ below) f is (stars_end kind.stars stars rest a ends)
     (reads_stars kind.stars stars rest below a none h))
 
-plain_specifiers : (kind : Kind) → is_some (qualified kind) ≡ true → specifiers kind ≡ qualified kind
+plain_specifiers : (kind : TerminalKind) → is_some (qualified kind) ≡ true → specifiers kind ≡ qualified kind
 plain_specifiers k.Const e = refl
 plain_specifiers k.Void e = refl
 plain_specifiers k.Char e = refl
@@ -119,9 +119,9 @@ plain_specifiers _ e = absurd cc
 
 -- a symbol that begins as declarations do
 abbrev pub Declares : Symbol → List Symbol → Type 0
-Declares symbol more = (kind : Kind) → is_some (specifiers kind) ≡ true → after symbol kind ≡ onto (specifiers kind) more
+Declares symbol more = (kind : TerminalKind) → is_some (specifiers kind) ≡ true → after symbol kind ≡ onto (specifiers kind) more
 
-as_qualified : (symbol : Symbol) (more : List Symbol) → Declares symbol more → (kind : Kind) → is_some (qualified kind) ≡ true → after symbol kind ≡ onto (qualified kind) more
+as_qualified : (symbol : Symbol) (more : List Symbol) → Declares symbol more → (kind : TerminalKind) → is_some (qualified kind) ≡ true → after symbol kind ≡ onto (qualified kind) more
 as_qualified symbol more d kind e = let p = plain_specifiers kind e in d kind (rw p e) ∙ ap (λ z. onto z more) p
 
 module _ (symbol : Symbol) (more : List Symbol) (d : Declares symbol more) (rest : List Lexeme) (below : List Symbol) (ends : EndsType rest) (h : Accepts (more ++ below) rest) where

@@ -4,8 +4,8 @@ use Rattle.std.specs.Prelude.{is_some}
 use Rattle.cw_grammar.specs.declared.words.Word.{Word}
 use Rattle.cw_grammar.specs.declared.words.Word.TheVariants as w
 use Rattle.cw_grammar.specs.Operators as operators
-use Rattle.cw_recogniser.specs.declared.kinds.Kind.{Kind}
-use Rattle.cw_recogniser.specs.declared.kinds.Kind.TheVariants as k
+use Rattle.cw_recogniser.specs.declared.kinds.TerminalKind.{TerminalKind}
+use Rattle.cw_recogniser.specs.declared.kinds.TerminalKind.TheVariants as k
 use Rattle.cw_recogniser.specs.declared.symbols.Symbol.TheVariants as s
 use Rattle.cw_recogniser.specs.Kinds.{kind_of_word}
 use Rattle.cw_recogniser.specs.Machine.{unary, operator, assignment}
@@ -32,7 +32,7 @@ suffix_is w.MinusMinus number e = refl
 suffix_is _ number e = absurd cc
 
 -- what stands between two operands
-abbrev pub is_between : Kind → Bool
+abbrev pub is_between : TerminalKind → Bool
 is_between k.Star = true
 is_between k.Both = true
 is_between k.Binary = true
@@ -134,7 +134,7 @@ assign_between _ number e = absurd cc
 -- ---- from kinds to words
 
 -- the word of a kind that has one alone
-abbrev pub word_of : Kind → Option Word
+abbrev pub word_of : TerminalKind → Option Word
 word_of k.Const = Some w.Const
 word_of k.Void = Some w.Void
 word_of k.Unsigned = Some w.Unsigned

@@ -1,10 +1,10 @@
 -- Working definitions: the kind of each word.
 use Rattle.cw_grammar.specs.declared.words.Word.{Word}
 use Rattle.cw_grammar.specs.declared.words.Word.TheVariants as w
-use Rattle.cw_recogniser.specs.declared.kinds.Kind.{Kind}
-use Rattle.cw_recogniser.specs.declared.kinds.Kind.TheVariants as k
+use Rattle.cw_recogniser.specs.declared.kinds.TerminalKind.{TerminalKind}
+use Rattle.cw_recogniser.specs.declared.kinds.TerminalKind.TheVariants as k
 
-abbrev pub kind_of_word : Word → Kind
+abbrev pub kind_of_word : Word → TerminalKind
 kind_of_word w.Extern = k.Storage
 kind_of_word w.Static = k.Storage
 kind_of_word w.Const = k.Const

@@ -1,8 +1,8 @@
 -- Working definitions: the recogniser, a stack of what is still to come.
 use Rattle.std.specs.Prelude.{◌≡◌, ℕ, ◌+◌, ◌<◌, ◌≤◌, length, take, is_some, Bool, true, false, ◌&&◌, List, [], ◌∷◌, ◌++◌, reverse, Option, Some, None}
 use Rattle.cw_grammar.specs.declared.words.Lexeme.{Lexeme}
-use Rattle.cw_recogniser.specs.declared.kinds.Kind.{Kind}
-use Rattle.cw_recogniser.specs.declared.kinds.Kind.TheVariants as k
+use Rattle.cw_recogniser.specs.declared.kinds.TerminalKind.{TerminalKind}
+use Rattle.cw_recogniser.specs.declared.kinds.TerminalKind.TheVariants as k
 use Rattle.cw_recogniser.specs.declared.symbols.Symbol.{Symbol}
 use Rattle.cw_recogniser.specs.declared.symbols.Symbol.TheVariants as s
 use Rattle.cw_recogniser.specs.Kinds.{kind_of_word}
@@ -21,38 +21,38 @@ either (Some new) other = Some new
 
 -- ---- marks
 
-abbrev pub opening : Kind → Next
+abbrev pub opening : TerminalKind → Next
 opening k.Open = Some []
 opening _ = None
 
-abbrev pub closing : Kind → Next
+abbrev pub closing : TerminalKind → Next
 closing k.Close = Some []
 closing _ = None
 
-abbrev pub close_bracket : Kind → Next
+abbrev pub close_bracket : TerminalKind → Next
 close_bracket k.CloseBracket = Some []
 close_bracket _ = None
 
-abbrev pub close_brace : Kind → Next
+abbrev pub close_brace : TerminalKind → Next
 close_brace k.CloseBrace = Some []
 close_brace _ = None
 
-abbrev pub semicolon : Kind → Next
+abbrev pub semicolon : TerminalKind → Next
 semicolon k.Semicolon = Some []
 semicolon _ = None
 
-abbrev pub while_word : Kind → Next
+abbrev pub while_word : TerminalKind → Next
 while_word k.While = Some []
 while_word _ = None
 
-abbrev pub name : Kind → Next
+abbrev pub name : TerminalKind → Next
 name k.Name = Some []
 name _ = None
 
 -- ---- expressions: what is to come behind the first token, if one of its kind may be first
 
 -- a unary that doesn't begin with a parenthesis
-abbrev pub unary : Kind → Next
+abbrev pub unary : TerminalKind → Next
 unary k.Name = Some (s.Call ∷ s.Suffixes ∷ [])
 unary k.Constant = Some (s.Suffixes ∷ [])
 unary k.Text = Some (s.Texts ∷ s.Suffixes ∷ [])
@@ -63,53 +63,53 @@ unary k.Star = Some (s.Operand ∷ [])
 unary k.Step = Some (s.Unary ∷ [])
 unary _ = None
 
-abbrev pub expression : Kind → Next
+abbrev pub expression : TerminalKind → Next
 expression k.Open = Some (s.Opened ∷ [])
 expression kind = onto (unary kind) (s.Tail true ∷ [])
 
-abbrev pub operand : Kind → Next
+abbrev pub operand : TerminalKind → Next
 operand k.Open = Some (s.OpenedOperand ∷ [])
 operand kind = unary kind
 
-abbrev pub plain_unary : Kind → Next
+abbrev pub plain_unary : TerminalKind → Next
 plain_unary k.Open = Some (s.Expression ∷ s.Close ∷ s.Suffixes ∷ [])
 plain_unary kind = unary kind
 
-abbrev pub measured : Kind → Next
+abbrev pub measured : TerminalKind → Next
 measured k.Open = Some (s.OpenedMeasured ∷ [])
 measured kind = unary kind
 
-abbrev pub call : Kind → Next
+abbrev pub call : TerminalKind → Next
 call k.Open = Some (s.Arguments ∷ s.Close ∷ [])
 call _ = None
 
-abbrev pub texts : Kind → Next
+abbrev pub texts : TerminalKind → Next
 texts k.Text = Some (s.Texts ∷ [])
 texts _ = None
 
-abbrev pub suffixes : Kind → Next
+abbrev pub suffixes : TerminalKind → Next
 suffixes k.OpenBracket = Some (s.Expression ∷ s.CloseBracket ∷ s.Suffixes ∷ [])
 suffixes k.Step = Some (s.Suffixes ∷ [])
 suffixes _ = None
 
-abbrev pub operator : Kind → Next
+abbrev pub operator : TerminalKind → Next
 operator k.Star = Some (s.Operand ∷ s.Tail false ∷ [])
 operator k.Both = Some (s.Operand ∷ s.Tail false ∷ [])
 operator k.Binary = Some (s.Operand ∷ s.Tail false ∷ [])
 operator _ = None
 
-abbrev pub assignment : Kind → Next
+abbrev pub assignment : TerminalKind → Next
 assignment k.Assign = Some (s.Expression ∷ [])
 assignment k.Update = Some (s.Expression ∷ [])
 assignment kind = operator kind
 
-abbrev pub more_arguments : Kind → Next
+abbrev pub more_arguments : TerminalKind → Next
 more_arguments k.Comma = Some (s.Expression ∷ s.MoreArguments ∷ [])
 more_arguments _ = None
 
 -- ---- types
 
-abbrev pub bare_type : Kind → Next
+abbrev pub bare_type : TerminalKind → Next
 bare_type k.Void = Some []
 bare_type k.Char = Some []
 bare_type k.Int = Some []
@@ -117,63 +117,63 @@ bare_type k.Long = Some (s.AfterLong ∷ [])
 bare_type k.Unsigned = Some (s.AfterUnsigned ∷ [])
 bare_type _ = None
 
-abbrev pub after_long : Kind → Next
+abbrev pub after_long : TerminalKind → Next
 after_long k.Int = Some []
 after_long _ = None
 
-abbrev pub after_unsigned : Kind → Next
+abbrev pub after_unsigned : TerminalKind → Next
 after_unsigned k.Char = Some []
 after_unsigned k.Int = Some []
 after_unsigned k.Long = Some (s.AfterLong ∷ [])
 after_unsigned _ = None
 
-abbrev pub qualified : Kind → Next
+abbrev pub qualified : TerminalKind → Next
 qualified k.Const = Some (s.Type ∷ [])
 qualified kind = bare_type kind
 
-abbrev pub specifiers : Kind → Next
+abbrev pub specifiers : TerminalKind → Next
 specifiers k.Storage = Some (s.Qualified ∷ [])
 specifiers kind = qualified kind
 
-abbrev pub type_name : Kind → Next
+abbrev pub type_name : TerminalKind → Next
 type_name kind = onto (qualified kind) (s.TwoStars ∷ [])
 
-abbrev pub two_stars : Kind → Next
+abbrev pub two_stars : TerminalKind → Next
 two_stars k.Star = Some (s.OneStar ∷ [])
 two_stars _ = None
 
-abbrev pub one_star : Kind → Next
+abbrev pub one_star : TerminalKind → Next
 one_star k.Star = Some []
 one_star _ = None
 
 -- ---- declarations
 
-abbrev pub declaration : Kind → Next
+abbrev pub declaration : TerminalKind → Next
 declaration kind = onto (specifiers kind) (s.TwoStars ∷ s.Name ∷ s.Array ∷ s.Initialiser ∷ s.MoreItems ∷ s.Semicolon ∷ [])
 
-abbrev pub array : Kind → Next
+abbrev pub array : TerminalKind → Next
 array k.OpenBracket = Some (s.MaybeExpression ∷ s.CloseBracket ∷ [])
 array _ = None
 
-abbrev pub initialiser : Kind → Next
+abbrev pub initialiser : TerminalKind → Next
 initialiser k.Assign = Some (s.Initial ∷ [])
 initialiser _ = None
 
-abbrev pub initial : Kind → Next
+abbrev pub initial : TerminalKind → Next
 initial k.OpenBrace = Some (s.Expression ∷ s.MoreElements ∷ s.CloseBrace ∷ [])
 initial kind = expression kind
 
-abbrev pub more_elements : Kind → Next
+abbrev pub more_elements : TerminalKind → Next
 more_elements k.Comma = Some (s.Elements ∷ [])
 more_elements _ = None
 
-abbrev pub more_items : Kind → Next
+abbrev pub more_items : TerminalKind → Next
 more_items k.Comma = Some (s.TwoStars ∷ s.Name ∷ s.Array ∷ s.Initialiser ∷ s.MoreItems ∷ [])
 more_items _ = None
 
 -- ---- parts of a file
 
-abbrev pub after_declared : Kind → Next
+abbrev pub after_declared : TerminalKind → Next
 after_declared k.Open = Some (s.Params ∷ [])
 after_declared k.OpenBracket = Some (s.MaybeExpression ∷ s.CloseBracket ∷ s.Initialiser ∷ s.MoreItems ∷ s.Semicolon ∷ [])
 after_declared k.Assign = Some (s.Initial ∷ s.MoreItems ∷ s.Semicolon ∷ [])
@@ -181,40 +181,40 @@ after_declared k.Comma = Some (s.TwoStars ∷ s.Name ∷ s.Array ∷ s.Initialis
 after_declared k.Semicolon = Some []
 after_declared _ = None
 
-abbrev pub param : (named : Bool) → Kind → Next
+abbrev pub param : (named : Bool) → TerminalKind → Next
 param named kind = onto (type_name kind) (s.AfterType named ∷ [])
 
 -- parameters that are none or begin with `void`
-abbrev pub params_front : Kind → Next
+abbrev pub params_front : TerminalKind → Next
 params_front k.Close = Some (s.Ending true ∷ [])
 params_front k.Void = Some (s.AfterVoid ∷ [])
 params_front _ = None
 
-abbrev pub params : Kind → Next
+abbrev pub params : TerminalKind → Next
 params kind = either (params_front kind) (param true kind)
 
-abbrev pub after_type : (named : Bool) → Kind → Next
+abbrev pub after_type : (named : Bool) → TerminalKind → Next
 after_type named k.Name = Some (s.Brackets ∷ s.MoreParams named ∷ [])
 after_type named k.OpenBracket = Some (s.CloseBracket ∷ s.MoreParams false ∷ [])
 after_type named k.Comma = Some (s.Param false ∷ [])
 after_type named k.Close = Some (s.Ending false ∷ [])
 after_type named _ = None
 
-abbrev pub after_void : Kind → Next
+abbrev pub after_void : TerminalKind → Next
 after_void k.Close = Some (s.Ending true ∷ [])
 after_void k.Star = Some (s.OneStar ∷ s.AfterType true ∷ [])
 after_void kind = after_type true kind
 
-abbrev pub brackets : Kind → Next
+abbrev pub brackets : TerminalKind → Next
 brackets k.OpenBracket = Some (s.CloseBracket ∷ [])
 brackets _ = None
 
-abbrev pub more_params : (named : Bool) → Kind → Next
+abbrev pub more_params : (named : Bool) → TerminalKind → Next
 more_params named k.Comma = Some (s.Param named ∷ [])
 more_params named k.Close = Some (s.Ending named ∷ [])
 more_params named _ = None
 
-abbrev pub ending : (named : Bool) → Kind → Next
+abbrev pub ending : (named : Bool) → TerminalKind → Next
 ending named k.Semicolon = Some []
 ending true k.OpenBrace = Some (s.Items ∷ s.CloseBrace ∷ [])
 ending named _ = None
@@ -222,7 +222,7 @@ ending named _ = None
 -- ---- statements
 
 -- a statement that doesn't begin with an expression alone
-abbrev pub keyword : Kind → Next
+abbrev pub keyword : TerminalKind → Next
 keyword k.Semicolon = Some []
 keyword k.OpenBrace = Some (s.Items ∷ s.CloseBrace ∷ [])
 keyword k.Name = Some (s.AfterName ∷ [])
@@ -234,10 +234,10 @@ keyword k.Jump = Some (s.Semicolon ∷ [])
 keyword k.Return = Some (s.MaybeExpression ∷ s.Semicolon ∷ [])
 keyword _ = None
 
-abbrev pub statement : Kind → Next
+abbrev pub statement : TerminalKind → Next
 statement kind = either (keyword kind) (onto (expression kind) (s.Semicolon ∷ []))
 
-abbrev pub after_name : Kind → Next
+abbrev pub after_name : TerminalKind → Next
 after_name k.Colon = Some (s.Statement ∷ [])
 after_name k.Semicolon = Some []
 after_name k.Open = Some (s.Arguments ∷ s.Close ∷ s.Suffixes ∷ s.Tail true ∷ s.Semicolon ∷ [])
@@ -245,17 +245,17 @@ after_name k.OpenBracket = Some (s.Expression ∷ s.CloseBracket ∷ s.Suffixes 
 after_name k.Step = Some (s.Suffixes ∷ s.Tail true ∷ s.Semicolon ∷ [])
 after_name kind = onto (assignment kind) (s.Semicolon ∷ [])
 
-abbrev pub maybe_else : Kind → Next
+abbrev pub maybe_else : TerminalKind → Next
 maybe_else k.Else = Some (s.Statement ∷ [])
 maybe_else _ = None
 
-abbrev pub for_init : Kind → Next
+abbrev pub for_init : TerminalKind → Next
 for_init kind = either (semicolon kind) (either (declaration kind) (onto (expression kind) (s.Semicolon ∷ [])))
 
 -- ---- the machine
 
 -- What is to come in a symbol's place behind a token of this kind; none where it doesn't begin with one.
-abbrev pub after : Symbol → Kind → Next
+abbrev pub after : Symbol → TerminalKind → Next
 after s.Open kind = opening kind
 after s.Close kind = closing kind
 after s.CloseBracket kind = close_bracket kind
@@ -335,7 +335,7 @@ fed None true below passed = passed
 fed None false below passed = None
 
 -- the stack behind one more token, if that may come
-abbrev pub feed : List Symbol → Kind → Next
+abbrev pub feed : List Symbol → TerminalKind → Next
 feed [] kind = None
 feed (symbol ∷ below) kind = fed (after symbol kind) (may_be_empty symbol) below (feed below kind)
 

@@ -7,7 +7,7 @@ use cw_grammar::words::Word;
 
 /// Words that stand at the same places of the grammar are of one kind.
 #[derive(Clone, Copy, Drop, Debug)]
-pub enum Kind {
+pub enum TerminalKind {
     /// `extern` and `static`
     Storage,
     Const,
@@ -55,39 +55,39 @@ pub enum Kind {
 }
 
 /// The kind of a word.
-pub fn kind_of(word: Word) -> Kind
+pub fn kind_of(word: Word) -> TerminalKind
     ensures { result ≡ kind_of_word word }
 {
     match word {
-        Word::Extern | Word::Static => Kind::Storage,
-        Word::Const => Kind::Const,
-        Word::Void => Kind::Void,
-        Word::Unsigned => Kind::Unsigned,
-        Word::Char => Kind::Char,
-        Word::Int => Kind::Int,
-        Word::Long => Kind::Long,
-        Word::If => Kind::If,
-        Word::Else => Kind::Else,
-        Word::While => Kind::While,
-        Word::Do => Kind::Do,
-        Word::For => Kind::For,
-        Word::Break | Word::Continue => Kind::Jump,
-        Word::Return => Kind::Return,
-        Word::SizeOf => Kind::SizeOf,
-        Word::OtherKeyword => Kind::Other,
-        Word::Name => Kind::Name,
-        Word::Number(_) | Word::Character(_) => Kind::Constant,
-        Word::Text => Kind::Text,
-        Word::Open => Kind::Open,
-        Word::Close => Kind::Close,
-        Word::OpenBracket => Kind::OpenBracket,
-        Word::CloseBracket => Kind::CloseBracket,
-        Word::OpenBrace => Kind::OpenBrace,
-        Word::CloseBrace => Kind::CloseBrace,
-        Word::Semicolon => Kind::Semicolon,
-        Word::Comma => Kind::Comma,
-        Word::Colon => Kind::Colon,
-        Word::Assign => Kind::Assign,
+        Word::Extern | Word::Static => TerminalKind::Storage,
+        Word::Const => TerminalKind::Const,
+        Word::Void => TerminalKind::Void,
+        Word::Unsigned => TerminalKind::Unsigned,
+        Word::Char => TerminalKind::Char,
+        Word::Int => TerminalKind::Int,
+        Word::Long => TerminalKind::Long,
+        Word::If => TerminalKind::If,
+        Word::Else => TerminalKind::Else,
+        Word::While => TerminalKind::While,
+        Word::Do => TerminalKind::Do,
+        Word::For => TerminalKind::For,
+        Word::Break | Word::Continue => TerminalKind::Jump,
+        Word::Return => TerminalKind::Return,
+        Word::SizeOf => TerminalKind::SizeOf,
+        Word::OtherKeyword => TerminalKind::Other,
+        Word::Name => TerminalKind::Name,
+        Word::Number(_) | Word::Character(_) => TerminalKind::Constant,
+        Word::Text => TerminalKind::Text,
+        Word::Open => TerminalKind::Open,
+        Word::Close => TerminalKind::Close,
+        Word::OpenBracket => TerminalKind::OpenBracket,
+        Word::CloseBracket => TerminalKind::CloseBracket,
+        Word::OpenBrace => TerminalKind::OpenBrace,
+        Word::CloseBrace => TerminalKind::CloseBrace,
+        Word::Semicolon => TerminalKind::Semicolon,
+        Word::Comma => TerminalKind::Comma,
+        Word::Colon => TerminalKind::Colon,
+        Word::Assign => TerminalKind::Assign,
         Word::AddAssign
         | Word::SubtractAssign
         | Word::MultiplyAssign
@@ -97,7 +97,7 @@ pub fn kind_of(word: Word) -> Kind
         | Word::XorAssign
         | Word::OrAssign
         | Word::LeftShiftAssign
-        | Word::RightShiftAssign => Kind::Update,
+        | Word::RightShiftAssign => TerminalKind::Update,
         Word::BarBar
         | Word::AmpersandAmpersand
         | Word::Bar
@@ -111,10 +111,10 @@ pub fn kind_of(word: Word) -> Kind
         | Word::LeftShift
         | Word::RightShift
         | Word::Slash
-        | Word::Percent => Kind::Binary,
-        Word::Ampersand | Word::Plus | Word::Minus => Kind::Both,
-        Word::Star => Kind::Star,
-        Word::Exclamation | Word::Tilde => Kind::Sign,
-        Word::PlusPlus | Word::MinusMinus => Kind::Step,
+        | Word::Percent => TerminalKind::Binary,
+        Word::Ampersand | Word::Plus | Word::Minus => TerminalKind::Both,
+        Word::Star => TerminalKind::Star,
+        Word::Exclamation | Word::Tilde => TerminalKind::Sign,
+        Word::PlusPlus | Word::MinusMinus => TerminalKind::Step,
     }
 }

@@ -5,7 +5,7 @@ ghost use Rattle.cw_recogniser.specs.declared.symbols.Symbol.{Symbol};
 ghost use Rattle.cw_recogniser.specs.declared.symbols.Symbol.TheVariants as s;
 ghost use Rattle.cw_recogniser.specs.Machine.{Next, onto, either, after, expression, qualified, may_be_empty, feed, Steps};
 
-use crate::kinds::Kind;
+use crate::kinds::TerminalKind;
 use crate::marks::{
     after_long_of, array_of, brackets_of, call_of, close_brace_of, close_bracket_of, closing_of,
     ending_of, initial_of, initialiser_of, maybe_else_of, more_arguments_of, more_elements_of,
@@ -50,7 +50,7 @@ fn before(first: Option<&'static [Symbol]>, second: &'static [Symbol]) -> Option
 
 /// Either a type or an expression, with what is to come behind each.
 fn type_or_expression(
-    kind: Kind,
+    kind: TerminalKind,
     behind_type: &'static [Symbol],
     behind_expression: &'static [Symbol],
 ) -> Option<Coming>
@@ -73,7 +73,7 @@ fn type_or_expression(
 
 /// What stands in a block.
 #[tactic(auto, using(crate::proofs::Codes::items_are))]
-fn items_of(kind: Kind) -> Option<Coming>
+fn items_of(kind: TerminalKind) -> Option<Coming>
     ensures { MatchOption result (after s.Items kind ≡ None) (λ new. after s.Items kind ≡ Some (new.first.now ++ new.second.now)) }
 {
     match specifiers_of(kind) {
@@ -107,7 +107,7 @@ fn items_of(kind: Kind) -> Option<Coming>
 
 /// The parameters of a function or a prototype, behind the `(`.
 #[tactic(auto, using(crate::proofs::Codes::params_are, crate::proofs::Codes::whole_first))]
-fn params_of(kind: Kind) -> Option<Coming>
+fn params_of(kind: TerminalKind) -> Option<Coming>
     ensures { MatchOption result (after s.Params kind ≡ None) (λ new. after s.Params kind ≡ Some (new.first.now ++ new.second.now)) }
 {
     match params_front_of(kind) {
@@ -124,7 +124,7 @@ fn params_of(kind: Kind) -> Option<Coming>
 
 /// The first part of a `for`, with its semicolon.
 #[tactic(auto, using(crate::proofs::Codes::init_is, crate::proofs::Codes::whole_first))]
-fn for_init_of(kind: Kind) -> Option<Coming>
+fn for_init_of(kind: TerminalKind) -> Option<Coming>
     ensures { MatchOption result (after s.ForInit kind ≡ None) (λ new. after s.ForInit kind ≡ Some (new.first.now ++ new.second.now)) }
 {
     match semicolon_of(kind) {
@@ -153,7 +153,7 @@ fn for_init_of(kind: Kind) -> Option<Coming>
 }
 
 /// A statement.
-fn statement_of(kind: Kind) -> Option<Coming>
+fn statement_of(kind: TerminalKind) -> Option<Coming>
     ensures { MatchOption result (after s.Statement kind ≡ None) (λ new. after s.Statement kind ≡ Some (new.first.now ++ new.second.now)) }
 {
     match keyword_of(kind) {
@@ -170,7 +170,7 @@ fn statement_of(kind: Kind) -> Option<Coming>
 
 /// What is to come in a symbol's place behind its first token, if one of this kind may be first there.
 #[tactic(auto, using(crate::proofs::Codes::whole_first, crate::proofs::Codes::opened_is, crate::proofs::Codes::opened_operand_is, crate::proofs::Codes::opened_measured_is, crate::proofs::Codes::param_is))]
-fn after_of(symbol: Symbol, kind: Kind) -> Option<Coming>
+fn after_of(symbol: Symbol, kind: TerminalKind) -> Option<Coming>
     ensures { MatchOption result (after symbol kind ≡ None) (λ new. after symbol kind ≡ Some (new.first.now ++ new.second.now)) }
 {
     match symbol {
@@ -315,7 +315,7 @@ pub fn is_optional(symbol: Symbol) -> bool
 
 /// Takes one more token. `false`: it can't come.
 #[tactic(auto, using(crate::proofs::Codes::feed_some, crate::proofs::Codes::feed_pass, crate::proofs::Codes::feed_none, crate::proofs::Codes::feed_empty))]
-pub fn step(stack: &mut Vec<Symbol>, kind: Kind) -> Result<bool, NoMemory>
+pub fn step(stack: &mut Vec<Symbol>, kind: TerminalKind) -> Result<bool, NoMemory>
     ensures { IfOk result (Steps (feed (reverse stack.old.items) kind) stack.new.items) }
 {
     while let Some(symbol) = stack.pop() {

@@ -25,12 +25,10 @@ ghost use Rattle.cw_game.specs.Games.{Game as GameOf};
 use crate::walk::{Here, Next, Wait, lead, rest};
 use cw_certs::{Move, WeaverCert};
 use cw_core::NoMemory;
-use cw_io::Sink;
-use cw_io::Writer;
+use cw_io::{Sink, Writer};
 use cw_product::Game;
 use cw_syntax::checked::Checked;
-use cw_trace::{put_move, put_reached};
-use cw_trace::{Names, put_stop, trace_names};
+use cw_trace::{Names, put_move, put_reached, put_stop, trace_names};
 use std::alloc::Global;
 
 /// How a run by a tape ends.

@@ -10,11 +10,12 @@ ghost use Rattle.cw_game.specs.Games.{resumed};
 ghost use Rattle.cw_game.specs.Pairs.{call_in};
 ghost use Rattle.cw_run.specs.Walks.{Wait as WaitOf, here_of, wait_of, next_is, innermost, first_of, called_of, mem_after, within, called, returning, ended, refusing, next_of, Rests, IsHere, IsWait, IsNextIn, asked_memory, asked};
 
-use cw_certs::{Move, OpenRow, WeaverCert};
+use cw_certs::{
+    Move, OpenRow, WeaverCert, after_close, after_label, back_at, into_at, open_at, try_at,
+};
 use cw_core::{MemId, PosId, SeamId, StateId};
 use cw_game::Spot;
 use cw_product::{Game, Turn};
-use cw_certs::{after_close, after_label, back_at, into_at, open_at, try_at};
 
 /// Where the top frame stands: its position, the state, its memory.
 #[derive(Clone, Copy, Drop)]

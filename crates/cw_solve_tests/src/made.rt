@@ -6,12 +6,12 @@ ghost use Rattle.cw_rights.specs.Valid.{IsValid};
 ghost use Rattle.cw_product.specs.Product.{IsProgramsGraph};
 ghost use Rattle.cw_product.specs.Made.{LeavesMain};
 
-use cw_source_laws::calls::read_programs_leave_main;
 use cw_points::Graph;
 use cw_points::build::build;
 use cw_rights::Policy;
 use cw_source::laws::programs_are_runnable;
 use cw_source::read_source;
+use cw_source_laws::calls::read_programs_leave_main;
 use std::alloc::Global;
 
 /// The graph of a source that is read, under a policy's names.

@@ -6,9 +6,8 @@ ghost use Rattle.cw_source.specs.Lines.{at_place, fault_line, lex_line, scope_li
 
 use crate::fault::SourceFault;
 use crate::place::{column_of, line_of};
-use cw_io::Sink;
+use cw_io::{Sink, Writer};
 use cw_lex::LexFault;
-use cw_io::Writer;
 use cw_scope::ScopeFault;
 
 /// Appends the line `source LINE:COLUMN: WORDS`, without its line feed, for a place that is counted in bytes from the front of the source. Lines and

@@ -11,7 +11,7 @@ use Rattle.cw_syntax.specs.Names.{slice}
 use Rattle.cw_lex.specs.declared.tokens.TokenKind.{TokenKind}
 use Rattle.cw_lex.specs.declared.tokens.TokenKind.TheVariants as kind
 use Rattle.cw_lex.specs.declared.tokens.Token.{Token}
-use Rattle.cw_lex.specs.declared.piece.Piece.TheVariants as piece
+use Rattle.cw_lex.specs.declared.piece.Front.TheVariants as piece
 use Rattle.cw_lex.specs.Bytes.{is_letter, is_white}
 use Rattle.cw_lex.specs.Bytes.{is_name_byte as is_word_byte}
 use Rattle.cw_lex.specs.Characters.{character_len, text_len}

@@ -1,9 +1,8 @@
 //! Lines of refusals.
 
 use cw_core::Quantity;
-use cw_io::SureSink;
+use cw_io::{SureSink, Writer};
 use cw_lex::LexFault;
-use cw_io::Writer;
 use cw_scope::ScopeFault;
 use cw_source::{SourceFault, put_fault_line};
 use cw_syntax::program::Name;

@@ -1,8 +1,7 @@
 //! What no clause says of policies: that calls succeed where there is memory, and what the definitions make of known texts.
 
 use cw_core::NoMemory;
-use cw_io::SureSink;
-use cw_io::Writer;
+use cw_io::{SureSink, Writer};
 use cw_policy::{PolicyFault, put_fault, read_policy};
 use cw_rights::{Policy, Regex, Rights, Test};
 use std::alloc::{AllocError, Global};

@@ -5,8 +5,8 @@ use Rattle.cw_certs.specs.declared.moves.Move.TheVariants.{Skip, Try, Grant, Ref
 use Rattle.cw_certs.specs.Strategies.{How, Bad, Out, Both, Go, Into}
 use Rattle.cw_text.specs.Lines.{Reads}
 use Rattle.cw_text.proofs.Names.{move_of}
-use Rattle.cw_strategy_text.specs.declared.kind.Kind.{Kind}
-use Rattle.cw_strategy_text.specs.declared.kind.Kind.TheVariants as kind
+use Rattle.cw_strategy_text.specs.declared.kind.RowKind.{RowKind}
+use Rattle.cw_strategy_text.specs.declared.kind.RowKind.TheVariants as kind
 use Rattle.cw_strategy_text.specs.StrategyText.{how_words, FitsHow}
 use Rattle.cw_strategy_text.specs.Words.{kind_of_how, kind_word, rest_words, FitsKind, IsOf}
 
@@ -25,12 +25,12 @@ fits_kind (Go by row) fits = fits.0
 fits_kind (Into callee backs) fits = tt
 
 -- the kind of a word
-kind_from : List ℕ → Kind
+kind_from : List ℕ → RowKind
 kind_from word =
     cond (bytes_eq word (codes "bad")) kind.Bad (cond (bytes_eq word (codes "out")) kind.Out (cond (bytes_eq word (codes "both")) kind.Both
     (cond (bytes_eq word (codes "into")) kind.Into (kind.Go (move_of word)))))
 
-kind_back : (k : Kind) → kind_from (kind_word k) ≡ k
+kind_back : (k : RowKind) → kind_from (kind_word k) ≡ k
 unfolding kind_from move_of
 kind_back kind.Bad = refl
 kind_back kind.Out = refl
@@ -47,7 +47,7 @@ kind_back (kind.Go Opened) = refl
 kind_back (kind.Go Failed) = refl
 kind_back (kind.Go Stop) = refl
 
-pub one_kind : (a b : Kind) → kind_word a ≡ kind_word b → a ≡ b
+pub one_kind : (a b : RowKind) → kind_word a ≡ kind_word b → a ≡ b
 one_kind a b e = sym (kind_back a) ∙ ap kind_from e ∙ kind_back b
 
 first : List (List ℕ) → List ℕ
@@ -68,7 +68,7 @@ no_words whole e = record { some = tt; none = λ how fits is. let bad : kind_wor
 pub no_kind : (whole : List (List ℕ)) (word : List ℕ) (rest : List (List ℕ)) → whole ≡ word ∷ rest → Reads FitsKind kind_word word None → Reads FitsHow how_words whole None
 no_kind whole word rest e reads = record { some = tt; none = λ how fits is. reads.none (kind_of_how how) (fits_kind how fits) (first_word how word rest (is ∙ e)).0 }
 
-pub of_kind : (whole : List (List ℕ)) (word : List ℕ) (rest : List (List ℕ)) (k : Kind) (read : Option How) → whole ≡ word ∷ rest → Reads FitsKind kind_word word (Some k)
+pub of_kind : (whole : List (List ℕ)) (word : List ℕ) (rest : List (List ℕ)) (k : RowKind) (read : Option How) → whole ≡ word ∷ rest → Reads FitsKind kind_word word (Some k)
     → Reads (IsOf k) rest_words rest read → Reads FitsHow how_words whole read
 of_kind whole word rest k None e named reads = record {
   some = tt;

@@ -15,8 +15,8 @@ use Rattle.cw_text.specs.declared.fault.TextFault.TheVariants.{Line, Order, Limi
 use Rattle.cw_text.specs.Lines.{IsFree, words_of, set_text, IsSetIn, Reads}
 use Rattle.cw_text.specs.Moves.{move_name, IsEnvironments}
 use Rattle.cw_text.proofs.Names.{move_of, told}
-use Rattle.cw_strategy_text.specs.declared.kind.Kind.{Kind}
-use Rattle.cw_strategy_text.specs.declared.kind.Kind.TheVariants as kind
+use Rattle.cw_strategy_text.specs.declared.kind.RowKind.{RowKind}
+use Rattle.cw_strategy_text.specs.declared.kind.RowKind.TheVariants as kind
 use Rattle.cw_strategy_text.specs.StrategyText.{head_line, states_line, end_line, back_word, how_words, rows_in, row_count, AreBacks, FitsHow, Fits}
 use Rattle.cw_strategy_text.specs.Words.{kind_of_how, kind_word, rest_words, FitsKind, FitsBack, IsOf, FitsNamed, row_text}
 use Rattle.cw_strategy_text.specs.Faults.{Begins, HasRow, IsAnswer, no_head, no_states, no_row, no_end, no_order, no_room}
@@ -228,11 +228,11 @@ kind_readable word =
           ]
     ]
   where
-    found : (k : Kind) → FitsKind k → kind_word k ≡ word → Readable FitsKind kind_word word
+    found : (k : RowKind) → FitsKind k → kind_word k ≡ word → Readable FitsKind kind_word word
     found k fits e = (Some k, record { some = (fits, e); none = tt })
 
     missing : codes "bad" ≢ word → codes "out" ≢ word → codes "both" ≢ word → codes "into" ≢ word → ((by : Move) → IsEnvironments by → move_name by ≢ word)
-        → (k : Kind) → FitsKind k → kind_word k ≢ word
+        → (k : RowKind) → FitsKind k → kind_word k ≢ word
     missing bad out both into go kind.Bad fits = bad
     missing bad out both into go kind.Out fits = out
     missing bad out both into go kind.Both fits = both
@@ -299,7 +299,7 @@ only_into (Both s t) fits e = absurd (cc)
 only_into (Go by row) fits e = absurd (cc)
 only_into (Into c bs) fits e = record { callee = c; backs = bs; small = fits.0; good = fits.1; words = refl }
 
-rest_readable : (k : Kind) → FitsKind k → (words : List (List ℕ)) → Readable (IsOf k) rest_words words
+rest_readable : (k : RowKind) → FitsKind k → (words : List (List ℕ)) → Readable (IsOf k) rest_words words
 unfolding tail
 rest_readable kind.Bad fits words =
     elim (nothing_left words) [
@@ -354,7 +354,7 @@ how_readable : (words : List (List ℕ)) → Readable FitsHow how_words words
 how_readable [] = (None, no_words [] refl)
 how_readable (w ∷ words) = by_kind (kind_readable w).0 (kind_readable w).1
   where
-    by_kind : (r : Option Kind) → Reads FitsKind kind_word w r → Readable FitsHow how_words (w ∷ words)
+    by_kind : (r : Option RowKind) → Reads FitsKind kind_word w r → Readable FitsHow how_words (w ∷ words)
     by_kind None reads = (None, no_kind (w ∷ words) w words refl reads)
     by_kind (Some k) reads = let rest = rest_readable k reads.some.0 words in (rest.0, of_kind (w ∷ words) w words k rest.0 refl reads rest.1)
 

@@ -6,19 +6,19 @@ use Rattle.cw_core.specs.declared.ids.StateId.{StateId}
 use Rattle.cw_certs.specs.Strategies.{How, Bad, Out, Both, Go, Into, Row}
 use Rattle.cw_text.specs.Lines.{joined, line, set_text}
 use Rattle.cw_text.specs.Moves.{move_name, IsEnvironments}
-use Rattle.cw_strategy_text.specs.declared.kind.Kind.{Kind}
-use Rattle.cw_strategy_text.specs.declared.kind.Kind.TheVariants as kind
+use Rattle.cw_strategy_text.specs.declared.kind.RowKind.{RowKind}
+use Rattle.cw_strategy_text.specs.declared.kind.RowKind.TheVariants as kind
 use Rattle.cw_strategy_text.specs.StrategyText.{back_word, how_words, row_words, FitsHow, FitsRow}
 
 -- what a row does without its numbers, its first word, and the others
-abbrev pub kind_of_how : How → Kind
+abbrev pub kind_of_how : How → RowKind
 kind_of_how Bad = kind.Bad
 kind_of_how Out = kind.Out
 kind_of_how (Both skip tried) = kind.Both
 kind_of_how (Go by row) = kind.Go by
 kind_of_how (Into callee backs) = kind.Into
 
-abbrev pub kind_word : Kind → List ℕ
+abbrev pub kind_word : RowKind → List ℕ
 kind_word kind.Bad = codes "bad"
 kind_word kind.Out = codes "out"
 kind_word kind.Both = codes "both"
@@ -32,14 +32,14 @@ rest_words (Both skip tried) = decimal skip ∷ decimal tried ∷ []
 rest_words (Go by row) = decimal row ∷ []
 rest_words (Into callee backs) = decimal callee ∷ map back_word backs
 
-abbrev pub FitsKind : Kind → Type 0
+abbrev pub FitsKind : RowKind → Type 0
 FitsKind kind.Bad = Unit {0}
 FitsKind kind.Out = Unit {0}
 FitsKind kind.Both = Unit {0}
 FitsKind (kind.Go by) = IsEnvironments by
 FitsKind kind.Into = Unit {0}
 
-pub record IsOf (k : Kind) (how : How) : Type 0 where
+pub record IsOf (k : RowKind) (how : How) : Type 0 where
   pub fits : FitsHow how
   pub kind : kind_of_how how ≡ k
 

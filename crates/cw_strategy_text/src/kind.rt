@@ -9,7 +9,7 @@ use cw_text::environments_move;
 
 /// What a row does, without its numbers.
 #[derive(Clone, Copy, Drop)]
-pub(crate) enum Kind {
+pub(crate) enum RowKind {
     Bad,
     Out,
     Both,
@@ -18,20 +18,20 @@ pub(crate) enum Kind {
 }
 
 /// What a row does whose word this is.
-pub(crate) fn kind_of(word: &[u8]) -> Option<Kind>
+pub(crate) fn kind_of(word: &[u8]) -> Option<RowKind>
     ensures { Reads FitsKind kind_word word.now result }
 {
     if word == b"bad".as_slice() {
-        return Some(Kind::Bad);
+        return Some(RowKind::Bad);
     }
     if word == b"out".as_slice() {
-        return Some(Kind::Out);
+        return Some(RowKind::Out);
     }
     if word == b"both".as_slice() {
-        return Some(Kind::Both);
+        return Some(RowKind::Both);
     }
     if word == b"into".as_slice() {
-        return Some(Kind::Into);
+        return Some(RowKind::Into);
     }
-    Some(Kind::Go(environments_move(word)?))
+    Some(RowKind::Go(environments_move(word)?))
 }

@@ -14,9 +14,8 @@ ghost use Rattle.cw_strategy_text.specs.Words.{backs_of, put_line};
 
 use cw_certs::{EnvCert, EnvRow, How, Move};
 use cw_core::StateId;
-use cw_io::{Sink, SinkFault};
+use cw_io::{Sink, SinkFault, Writer};
 use cw_text::{move_name, put_set};
-use cw_io::Writer;
 
 /// Puts the text of a strategy, in a text of this format, piece by piece. After a fault of the sink a front of it is put, and
 /// nothing after the fault.

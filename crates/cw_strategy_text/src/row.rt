@@ -7,9 +7,9 @@ ghost use Rattle.cw_text.specs.Lines.{joined, set_text, IsSetIn, Reads};
 ghost use Rattle.cw_text.specs.Moves.{IsEnvironments};
 ghost use Rattle.cw_strategy_text.specs.StrategyText.{back_word, how_words, AreBacks, FitsHow};
 ghost use Rattle.cw_strategy_text.specs.Words.{backs_of, rest_words, row_text, FitsBack, FitsKind, FitsNamed, IsOf};
-ghost use Rattle.cw_strategy_text.specs.declared.kind.Kind.TheVariants as kind;
+ghost use Rattle.cw_strategy_text.specs.declared.kind.RowKind.TheVariants as kind;
 
-use crate::kind::{Kind, kind_of};
+use crate::kind::{RowKind, kind_of};
 use cw_certs::{EnvRow, How, Move};
 use cw_core::{NoMemory, PosId, StateId, StateSet};
 use cw_text::Words;
@@ -17,7 +17,7 @@ use std::alloc::Global;
 
 /// Where a row stands, under which number.
 #[derive(Drop)]
-struct Place {
+struct RowHead {
     number: u32,
     pos: u32,
     state: u16,
@@ -49,7 +49,7 @@ pub(crate) fn read_row(
 }
 
 /// Takes a row's number, position, state and aim.
-fn take_place(words: &mut Words, format: u8) -> Option<Place>
+fn take_place(words: &mut Words, format: u8) -> Option<RowHead>
     ensures some { IfSome result (λ place. words.old ≡ decimal place.number ∷ decimal place.pos ∷ decimal place.state ∷ set_text format place.aim ∷ words.new) }
     ensures fits { IfSome result (λ place. IsSetIn format place.aim) }
     ensures none { IfNone result ((number pos state aim : ℕ) (rest : List (List ℕ)) → number < 2 ^ 32 → pos < 2 ^ 32 → state < 2 ^ 16 → IsSetIn format aim
@@ -59,7 +59,7 @@ fn take_place(words: &mut Words, format: u8) -> Option<Place>
     let pos = words.take_u32()?;
     let state = words.take_u16()?;
     let aim = words.take_set(format)?;
-    Some(Place {
+    Some(RowHead {
         number,
         pos,
         state,
@@ -81,16 +81,16 @@ fn read_how(alloc: Global, words: &mut Words) -> Result<Option<How>, NoMemory>
 }
 
 /// What a row of this kind does, of the words after its first.
-fn read_as(alloc: Global, kind: Kind, words: &mut Words) -> Result<Option<How>, NoMemory>
+fn read_as(alloc: Global, kind: RowKind, words: &mut Words) -> Result<Option<How>, NoMemory>
     requires named { FitsKind kind }
     ensures { IfOk result (λ read. Reads (IsOf kind) rest_words words.old (option_map how_of read)) }
 {
     match kind {
-        Kind::Bad => Ok(read_bad(words)),
-        Kind::Out => Ok(read_out(words)),
-        Kind::Both => Ok(read_both(words)),
-        Kind::Go(by) => Ok(read_go(by, words)),
-        Kind::Into => read_into(alloc, words),
+        RowKind::Bad => Ok(read_bad(words)),
+        RowKind::Out => Ok(read_out(words)),
+        RowKind::Both => Ok(read_both(words)),
+        RowKind::Go(by) => Ok(read_go(by, words)),
+        RowKind::Into => read_into(alloc, words),
     }
 }
 

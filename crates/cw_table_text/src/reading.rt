@@ -7,8 +7,8 @@ ghost use Rattle.cw_table_text.specs.Grammar.{Answers};
 use crate::head::read_head;
 use crate::rows::read_rows;
 use cw_certs::WeaverCert;
-use cw_text::TextFault;
 use cw_rights::Policy;
+use cw_text::TextFault;
 use std::alloc::Global;
 
 /// The table whose text this is: the lines of a woven text's prologue after its first, up to and with `CW_DONE` and its

@@ -15,11 +15,9 @@ ghost use Rattle.cw_table_text.specs.Working.{row_lines};
 
 use cw_certs::{AtRow, BackRow, IntoRow, OpenRow, TryRow, WeaverCert};
 use cw_core::{MemId, PosId, StateId, StateSet};
-use cw_io::{Sink, SinkFault};
-use cw_text::put_set;
-use cw_io::Writer;
+use cw_io::{Sink, SinkFault, Writer};
 use cw_rights::Policy;
-use cw_text::put_limits;
+use cw_text::{put_limits, put_set};
 
 /// Appends a number and a mark.
 fn put_number<S: Sink>(number: u64, mark: u8, writer: &mut Writer<S>, out: &mut S)

@@ -7,8 +7,7 @@ ghost use Rattle.cw_text.specs.RowLines.{numbered};
 ghost use Rattle.cw_text.specs.LimitsText.{descriptor_name, limit_word, limits_line};
 
 use cw_core::StateSet;
-use cw_io::Sink;
-use cw_io::Writer;
+use cw_io::{Sink, Writer};
 use cw_rights::{Limit, Policy};
 
 /// Appends the line of a policy's limits, `#define CW_LIMITS(X)` with ` X(INDEX,DESCRIPTOR,MASK)` for each limit and LF: the

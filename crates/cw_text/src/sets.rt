@@ -5,8 +5,7 @@ ghost use Rattle.cw_io.specs.Written.{Follows};
 ghost use Rattle.cw_text.specs.Lines.{set_text};
 
 use cw_core::StateSet;
-use cw_io::Sink;
-use cw_io::Writer;
+use cw_io::{Sink, Writer};
 
 /// Appends a set as a text of this format spells it.
 #[tactic(auto, unfolding(crate::specs::Lines::set_text))]

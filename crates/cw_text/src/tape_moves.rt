@@ -5,8 +5,8 @@ ghost use Rattle.cw_text.specs.Lines.{Reads};
 ghost use Rattle.cw_text.specs.Moves.{move_name};
 ghost use Rattle.cw_text.specs.Tapes.{is_white, IsIn};
 
-use cw_certs::Move;
 use crate::{environments_move, weavers_move};
+use cw_certs::Move;
 
 /// Whether a byte is space, TAB, LF, VT, FF or CR.
 pub(crate) fn is_white(byte: u8) -> bool

@@ -4,9 +4,9 @@ ghost use Rattle.std.specs.Prelude.{◌≤◌, length, IfErr, IfOk, OnOk};
 ghost use Rattle.cw_text.specs.Tapes.{words, IsTape, IsFault};
 ghost use Rattle.cw_text.specs.TapeLines.{Adds, IsLineFault};
 
+use crate::TextFault;
 use crate::tape_moves::{is_white, move_of};
 use cw_certs::Move;
-use crate::TextFault;
 use std::alloc::Global;
 
 /// The moves of a tape, a play's or a run's: words with white space between, each the name of a move. Otherwise Line with the number

@@ -3,9 +3,9 @@
 use crate::given::put_rows;
 use cw_core::NoMemory;
 use cw_io::{MemSink, SinkFault, SureSink};
-use cw_text::TextFault;
 use cw_rights::{Descriptor, Limit, Policy, Rights};
 use cw_table_text::{print_tables, read_tables};
+use cw_text::TextFault;
 use std::alloc::{AllocError, Global};
 use std::process::Abort;
 use std::test::Fail;

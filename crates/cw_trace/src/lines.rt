@@ -9,8 +9,7 @@ ghost use Rattle.cw_text.specs.RowLines.{numbered};
 ghost use Rattle.cw_trace.specs.Lines.{primitive_text, answer_text, try_line, stop_line, success_text, open_line, close_line, mode_text, call_line, return_line, rights_text, hold_text, held_text, authority_text, caps_text, label_line};
 
 use cw_core::SeamId;
-use cw_io::Sink;
-use cw_io::Writer;
+use cw_io::{Sink, Writer};
 use cw_rights::policy::Descriptor;
 use cw_rights::{Caps, Hold, Primitive, Rights};
 

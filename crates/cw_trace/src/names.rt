@@ -10,8 +10,8 @@ ghost use Rattle.cw_trace.specs.Traces.{name_in};
 ghost use Rattle.cw_trace.specs.Labels.{label_at, names_of, told};
 
 use cw_core::{NoMemory, SeamId};
-use cw_resolve::{Labelled, function_names, labels_in};
 use cw_points::{Graph, Seam};
+use cw_resolve::{Labelled, function_names, labels_in};
 use cw_syntax::checked::Checked;
 use cw_syntax::names::text;
 use std::alloc::Global;

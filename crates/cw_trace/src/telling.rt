@@ -10,15 +10,14 @@ ghost use Rattle.cw_trace.specs.Traces.{answered_lines, opened_lines, returned_l
 ghost use Rattle.cw_trace.specs.Labels.{told};
 ghost use Rattle.cw_trace.specs.Told.{spot_lines, label_lines, lines_at, label_at};
 
+use crate::{Names, put_call, put_close, put_label, put_open, put_return, put_try};
 use cw_certs::Move;
 use cw_core::{PosId, SeamId, StateId};
 use cw_game::Spot;
-use cw_io::Sink;
-use cw_io::Writer;
+use cw_io::{Sink, Writer};
 use cw_product::Game;
 use cw_rights::{Caps, Policy, Primitive};
 use cw_text::descriptor_name;
-use crate::{Names, put_call, put_close, put_label, put_open, put_return, put_try};
 
 /// Puts the line of an answer to a primitive; other moves have none here.
 fn put_answered<S: Sink>(

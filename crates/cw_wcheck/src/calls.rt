@@ -11,11 +11,10 @@ ghost use Rattle.cw_wcheck.specs.Working.{IsRowOf, MeanStates, called_of};
 
 use crate::memories::{leads, meaning};
 use crate::rows::LiveRow;
-use cw_certs::WeaverCert;
+use cw_certs::{WeaverCert, back_at, into_at, is_live, live_at};
 use cw_core::{MemId, PosId, SeamId, StateId, StateSet};
 use cw_game::Spot;
 use cw_product::{Game, Turn};
-use cw_certs::{back_at, into_at, is_live, live_at};
 
 /// A call: its seam, the function that it calls, the position to which it returns, and whether it is split.
 #[derive(Clone, Copy, Drop)]

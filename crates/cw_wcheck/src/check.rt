@@ -16,9 +16,8 @@ use crate::fault::BadRow;
 use crate::memories::{has_all_states, meaning};
 use crate::ranges::{is_header, range_fault};
 use crate::rows::failing_condition;
-use cw_certs::WeaverCert;
+use cw_certs::{WeaverCert, is_live};
 use cw_product::Game;
-use cw_certs::is_live;
 
 /// The second condition: the start memory means the start state with all states as promise, and it is live at the start position.
 fn begins(game: &Game, cert: &WeaverCert) -> bool

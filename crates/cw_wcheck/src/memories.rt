@@ -6,10 +6,9 @@ ghost use Rattle.cw_game.specs.Conditions.{is_memory, is_memory_if, memory_after
 ghost use Rattle.cw_product.specs.Moves.{numbers};
 ghost use Rattle.cw_wcheck.specs.Working.{stands_there, takes_pair};
 
-use cw_certs::{Move, WeaverCert};
+use cw_certs::{Move, WeaverCert, after_close, after_label, is_live, open_at};
 use cw_core::{MemId, PosId, SeamId, StateId, StateSet};
 use cw_game::Spot;
-use cw_certs::{after_close, after_label, is_live, open_at};
 
 /// The state and the promise that a memory means; None where the memory isn't there.
 pub fn meaning(cert: &WeaverCert, mem: MemId) -> Option<&(StateId, StateSet)>

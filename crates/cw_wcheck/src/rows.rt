@@ -11,11 +11,10 @@ ghost use Rattle.cw_wcheck.specs.Working.{IsRowOf, MeanStates, lands_live, step_
 
 use crate::calls::{calls_on, returns_on};
 use crate::memories::{is_live_near, is_promised, meaning, memory_after, takes, takes_on};
-use cw_certs::{Move, TryRow, WeaverCert};
+use cw_certs::{Move, TryRow, WeaverCert, try_at};
 use cw_core::{MemId, PosId, SeamId, StateId, StateSet};
 use cw_game::Spot;
 use cw_product::Game;
-use cw_certs::try_at;
 
 /// A live row: its position and what stands there, its memory, and the state and the promise that the memory means. Where it leads,
 /// the row behind it often stands: at this place of the list.

@@ -4,9 +4,9 @@ ghost use Rattle.std.specs.Prelude.{◌≡◌};
 ghost use Rattle.cw_woven.specs.declared.fault.WovenFault.TheVariants as fault;
 
 use cw_core::NoMemory;
-use cw_text::TextFault;
 use cw_scope::DescriptorFault;
 use cw_source::SourceFault;
+use cw_text::TextFault;
 use std::alloc::{AllocError, AllocFailed};
 use thiserror::Error;
 

@@ -17,10 +17,10 @@ use crate::fault::WovenFault;
 use crate::parts::{Piece, without};
 use crate::scanning::{Scanned, scan};
 use cw_certs::WeaverCert;
-use cw_text::TextFault;
 use cw_points::marks::marks;
 use cw_rights::Policy;
 use cw_table_text::read_tables;
+use cw_text::TextFault;
 use std::alloc::Global;
 
 /// What a woven text stands for.

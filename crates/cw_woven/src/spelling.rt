@@ -4,8 +4,8 @@ ghost use Rattle.std.specs.Prelude.{◌≡◌, ◌↔◌, ◌++◌, IsTrue, IfSo
 ghost use Rattle.cw_woven.specs.Woven.{IsNumber, IsNumbered, IsNamed, IsNumberedMark, IsNamedMark, IsSpelling};
 
 use crate::parts::{behind, is_same};
-use cw_text::{cut, number_of};
 use cw_rights::is_name;
+use cw_text::{cut, number_of};
 
 /// What stands between a front and a back; none where the bytes aren't these with something between them.
 fn between<'t>(bytes: &'t [u8], front: &[u8], back: &[u8]) -> Option<&'t [u8]>
