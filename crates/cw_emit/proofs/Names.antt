@@ -46,7 +46,3 @@ none_from_free (b ∷ bytes) free (suc at) = none_from_free bytes (All-tail (λ 
 
 pub valid_names : (policy : PlainPolicy) → IsValid policy → ArePlainNames policy
 valid_names policy valid d = none_from_free (name_if (slice_get policy.descriptors d)) (named_free policy.descriptors d valid.descriptors)
-
--- and no C name
-pub name_plain : (name : List ℕ) → is_name name ≡ true → HasNone (codes "/") name
-name_plain name e = none_from_free name (letters_free name e)

@@ -8,3 +8,4 @@ pub mod Ends
 mod LabelShapes
 mod LabelJoins
 pub mod Lesser
+pub mod PlainNames

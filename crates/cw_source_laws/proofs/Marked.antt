@@ -13,7 +13,7 @@ use Rattle.cw_syntax.specs.Plans.{Callee, Action, Computes, action_of, call_acti
 use Rattle.cw_syntax.specs.Plans.{Stm, Plain, Break, Continue, Return, Open, Close, Call, Group, Label, If, While, Do, For, Stms, end, then, Routine, Scene, scene_of, plan_of}
 use Rattle.cw_syntax.specs.Marks.{MarkKind, EntryMark, LabelMark, OpenMark, CloseMark, CallMark, SeamMark, marks_in, marks_in_all, marks_from}
 use Rattle.cw_syntax.specs.PlainMarks.{IsPlainKind}
-use Rattle.cw_emit.proofs.Names.{name_plain}
+use Rattle.cw_resolve.proofs.PlainNames.{name_plain}
 use Rattle.cw_positions.proofs.Fitting.{ActFits, Fits, AllFit, routine_fits_where}
 use Rattle.cw_positions.proofs.Splitting.{named_at}
 use Rattle.cw_source_laws.specs.Marked.{AssignsName, IsNamedKind, ReadProgramsMarkNames, ReadProgramsMarkPlainly}
