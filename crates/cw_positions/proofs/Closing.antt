@@ -21,6 +21,7 @@ use Rattle.cw_positions.proofs.Lengths.{width_at, length_all}
 use Rattle.cw_positions.proofs.Leading.{IsBelow, EachLeads, leads_at}
 use Rattle.cw_positions.proofs.Standing.{found}
 use Rattle.cw_lemmas.proofs.Lists.{get_below}
+use Rattle.cw_positions.proofs.Rooms.{Room, AllRoom, LeadFrom, lead_at, visits_lead, primitives_room, call_length}
 
 -- what is called is a function that is there
 abbrev pub CallsWithin : ℕ → Point → Type 0
@@ -36,67 +37,23 @@ CallsWithin functions point.Exit = Unit {0}
 module _ (size functions : ℕ) where
   -- these stand from p on, and lead to positions that there are
   abbrev pub ClosedFrom : ℕ → List Spot → Type 0
-  ClosedFrom p [] = Unit {0}
-  ClosedFrom p (s ∷ ss) = LeadsWithin size functions p s × ClosedFrom (p + 1) ss
+  ClosedFrom = LeadFrom (LeadsWithin size functions)
 
   pub closed_at : (p : ℕ) (ss : List Spot) (i : ℕ) (s : Spot) → ClosedFrom p ss → slice_get ss i ≡ Some s → LeadsWithin size functions (p + i) s
-  closed_at p [] i s h e = absurd (none-some s e)
-  closed_at p (t ∷ ss) zero s h e =
-      subst (λ q. LeadsWithin size functions q s) (sym (add-zero p)) (subst (LeadsWithin size functions p) (same_Some t s e) h.0)
-  closed_at p (t ∷ ss) (suc i) s h e =
-      let z : p + 1 + i ≡ p + suc i = omega arith in subst (λ q. LeadsWithin size functions q s) z (closed_at (p + 1) ss i s h.1 e)
-
-  -- how many positions are needed behind what is asked
-  abbrev Room : ℕ → Primitive → Type 0
-  Room n Split = 2 ≤ n
-  Room n Enter = 1 ≤ n
-  Room n (Limit limit) = 1 ≤ n
-
-  abbrev AllRoom : ℕ → List Primitive → Type 0
-  AllRoom n [] = Unit {0}
-  AllRoom n (a ∷ later) = Room n a × AllRoom n later
+  closed_at = lead_at (LeadsWithin size functions)
 
   asked_closed : (p j i : ℕ) (a : Primitive) (n : ℕ) → Room n a → p + n < size → LeadsWithin size functions p (Asked j i a)
   asked_closed p j i Split n h e = omega arith
   asked_closed p j i Enter n h e = omega arith
   asked_closed p j i (Limit limit) n h e = omega arith
 
-  some_room : (n : ℕ) (a : Primitive) → Room n a → 1 ≤ n
-  some_room n Split h = omega arith
-  some_room n Enter h = h
-  some_room n (Limit limit) h = h
-
   -- the visits with what stands behind them
   visits_closed : (j i : ℕ) (later : List Primitive) (rest : List Spot) (p : ℕ) → AllRoom (length rest) later
       → p + (2 * length later + length rest) ≤ size → ClosedFrom (p + 2 * length later) rest
       → ClosedFrom p (visits j i later ++ rest)
-  visits_closed j i [] rest p room h c = let z : p + 0 ≡ p = add-zero p in subst (λ q. ClosedFrom q rest) z c
-  visits_closed j i (a ∷ later) rest p room h c =
-      let z : p + 2 * length (a ∷ later) ≡ p + 1 + 1 + 2 * length later = omega arith in
-      let some = some_room (length rest) a room.0 in
-      let first : LeadsWithin size functions p (Visit j i a) = omega (arith, some, h) in (
-        first,
-        (
-          asked_closed (p + 1) j i a (length rest) room.0 (omega arith),
-          visits_closed j (suc i) later rest (p + 1 + 1) room.1 (omega arith)
-              (subst (λ q. ClosedFrom q rest) z c),
-        ),
-      )
-
-  limits_room : (n : ℕ) (ls : List ALimit) (later : List Primitive) → 1 ≤ n → AllRoom n later → AllRoom n (map (λ limit. Limit limit) ls ++ later)
-  limits_room n [] later h r = r
-  limits_room n (l ∷ ls) later h r = (h, limits_room n ls later h r)
-
-  primitives_room : (policy : PlainPolicy) (split : Bool) (n : ℕ) → n ≡ 1 + cond split 1 0 → AllRoom n (primitives policy split)
-  primitives_room policy true n e =
-      let one : 1 ≤ n = omega arith in let two : 2 ≤ n = omega arith in limits_room n policy.limits (Enter ∷ (Split ∷ [])) one (one, (two, tt))
-  primitives_room policy false n e = let one : 1 ≤ n = omega arith in limits_room n policy.limits (Enter ∷ []) one (one, tt)
+  visits_closed = visits_lead (LeadsWithin size functions) size (λ p j i a h. h) asked_closed
 
   module _ (policy : PlainPolicy) (parts : List Part) where
-    call_length : (split : Bool) (s t : Spot) → length (s ∷ cond split (t ∷ []) []) ≡ 1 + cond split 1 0
-    call_length true s t = refl
-    call_length false s t = refl
-
     call_closed : (split : Bool) (p j f l : ℕ) (s : Spot) → LeadsWithin size functions p s → f < functions → l < size
         → ClosedFrom p (s ∷ cond split (SplitCall j f l ∷ []) [])
     call_closed true p j f l s h e k = (h, ((e, k), tt))

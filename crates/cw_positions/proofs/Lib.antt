@@ -15,3 +15,4 @@ pub mod Seaming
 pub mod Seen
 pub mod Opening
 pub mod Items
+pub mod Rooms

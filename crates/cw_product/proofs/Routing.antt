@@ -24,69 +24,30 @@ use Rattle.cw_product.proofs.Between.{Goes, GoesTo, NodeGoes}
 use Rattle.cw_product.proofs.Placing.{rise}
 use Rattle.cw_lemmas.proofs.Numbers.{le_from_not_lt as not_below}
 use Rattle.cw_product.proofs.Alone.{goes_on, exit_point}
+use Rattle.cw_positions.proofs.Rooms.{Room, AllRoom, LeadFrom, lead_at, visits_lead, primitives_room, call_length}
 
 module _ (low high : ℕ) where
   -- these stand from p on, and lead to positions between
   abbrev RouteFrom : ℕ → List Spot → Type 0
-  RouteFrom p [] = Unit {0}
-  RouteFrom p (s ∷ ss) = LeadsBetween low high p s × RouteFrom (p + 1) ss
+  RouteFrom = LeadFrom (LeadsBetween low high)
 
   route_at : (p : ℕ) (ss : List Spot) (i : ℕ) (s : Spot) → RouteFrom p ss → slice_get ss i ≡ Some s → LeadsBetween low high (p + i) s
-  route_at p [] i s h e = absurd (none-some s e)
-  route_at p (t ∷ ss) zero s h e = subst (λ q. LeadsBetween low high q s) (sym (add-zero p)) (subst (LeadsBetween low high p) (same_Some t s e) h.0)
-  route_at p (t ∷ ss) (suc i) s h e = let z : p + 1 + i ≡ p + suc i = omega arith in subst (λ q. LeadsBetween low high q s) z (route_at
-      (p + 1) ss i s h.1 e)
+  route_at = lead_at (LeadsBetween low high)
 
-  -- how many positions are needed behind what is asked
-  abbrev Room : ℕ → Primitive → Type 0
-  Room n Split = 2 ≤ n
-  Room n Enter = 1 ≤ n
-  Room n (Limit limit) = 1 ≤ n
-
-  abbrev AllRoom : ℕ → List Primitive → Type 0
-  AllRoom n [] = Unit {0}
-  AllRoom n (a ∷ later) = Room n a × AllRoom n later
-
-  asked_route : (p j i : ℕ) (a : Primitive) (n : ℕ) → Room n a → p + n ≤ high → LeadsBetween low high p (Asked j i a)
+  asked_route : (p j i : ℕ) (a : Primitive) (n : ℕ) → Room n a → p + n < high + 1 → LeadsBetween low high p (Asked j i a)
   asked_route p j i Split n h e = omega arith
   asked_route p j i Enter n h e = omega arith
   asked_route p j i (Limit limit) n h e = omega arith
 
-  some_room : (n : ℕ) (a : Primitive) → Room n a → 1 ≤ n
-  some_room n Split h = omega arith
-  some_room n Enter h = h
-  some_room n (Limit limit) h = h
+  visit_route : (p j i : ℕ) (a : Primitive) → p + 2 < high + 1 → LeadsBetween low high p (Visit j i a)
+  visit_route p j i a h = omega (arith, h)
 
   visits_route : (j i : ℕ) (later : List Primitive) (rest : List Spot) (p : ℕ) → AllRoom (length rest) later
       → p + (2 * length later + length rest) ≤ high + 1
       → RouteFrom (p + 2 * length later) rest → RouteFrom p (visits j i later ++ rest)
-  visits_route j i [] rest p room h c = let z : p + 0 ≡ p = add-zero p in subst (λ q. RouteFrom q rest) z c
-  visits_route j i (a ∷ later) rest p room h c =
-      let z : p + 2 * length (a ∷ later) ≡ p + 1 + 1 + 2 * length later = omega arith in
-      let some = some_room (length rest) a room.0 in
-      let first : LeadsBetween low high p (Visit j i a) = omega (arith, some, h) in (
-        first,
-        (
-          asked_route (p + 1) j i a (length rest) room.0 (omega arith),
-          visits_route j (suc i) later rest (p + 1 + 1) room.1 (omega arith)
-              (subst (λ q. RouteFrom q rest) z c),
-        ),
-      )
-
-  limits_room : (n : ℕ) (ls : List ALimit) (later : List Primitive) → 1 ≤ n → AllRoom n later → AllRoom n (map (λ limit. Limit limit) ls ++ later)
-  limits_room n [] later h r = r
-  limits_room n (l ∷ ls) later h r = (h, limits_room n ls later h r)
-
-  primitives_room : (policy : PlainPolicy) (split : Bool) (n : ℕ) → n ≡ 1 + cond split 1 0 → AllRoom n (primitives policy split)
-  primitives_room policy true n e = let one : 1 ≤ n = omega arith in let two : 2 ≤ n = omega arith in limits_room n policy.limits (Enter ∷
-      (Split ∷ [])) one (one, (two, tt))
-  primitives_room policy false n e = let one : 1 ≤ n = omega arith in limits_room n policy.limits (Enter ∷ []) one (one, tt)
+  visits_route = visits_lead (LeadsBetween low high) (high + 1) visit_route asked_route
 
   module _ (policy : PlainPolicy) (parts : List Part) where
-    call_length : (split : Bool) (s t : Spot) → length (s ∷ cond split (t ∷ []) []) ≡ 1 + cond split 1 0
-    call_length true s t = refl
-    call_length false s t = refl
-
     call_route : (split : Bool) (p j f l : ℕ) → IsBetween low high l → RouteFrom p (Call j f l ∷ cond split (SplitCall j f l ∷ []) [])
     call_route true p j f l h = (h, (h, tt))
     call_route false p j f l h = (h, tt)

@@ -13,6 +13,7 @@ use Rattle.cw_points.specs.declared.graph.Point.TheVariants as point
 use Rattle.cw_points.specs.declared.graph.Part.{Part}
 use Rattle.cw_positions.specs.Positions.{is_split, primitives_at, width, visits, free}
 use Rattle.cw_product.specs.Routed.{targets}
+use Rattle.cw_positions.proofs.Rooms.{Room, AllRoom, LeadFrom, lead_at, visits_lead, primitives_room, call_length}
 
 -- one of one, and of two
 pub one_is : (P : ℕ → Type 0) (a r : ℕ) → P a → Contains (a ∷ []) r → P r
@@ -58,54 +59,22 @@ module _ (lo hi : ℕ) where
 
   -- these stand from p on
   abbrev pub AllStay : ℕ → List Spot → Type 0
-  AllStay p [] = Unit {0}
-  AllStay p (s ∷ ss) = Stays p s × AllStay (p + 1) ss
+  AllStay = LeadFrom Stays
 
   pub stay_at : (p : ℕ) (ss : List Spot) (i : ℕ) (s : Spot) → AllStay p ss → slice_get ss i ≡ Some s → Stays (p + i) s
-  stay_at p [] i s h e = absurd (none-some s e)
-  stay_at p (t ∷ ss) zero s h e = subst (λ q. Stays q s) (sym (add-zero p)) (subst (Stays p) (same_Some t s e) h.0)
-  stay_at p (t ∷ ss) (suc i) s h e = let z : p + 1 + i ≡ p + suc i = omega arith in subst (λ q. Stays q s) z (stay_at (p + 1) ss i s h.1 e)
+  stay_at = lead_at Stays
 
-  -- how many positions are needed behind what is asked
-  abbrev Room : ℕ → Primitive → Type 0
-  Room n Split = 2 ≤ n
-  Room n Enter = 1 ≤ n
-  Room n (Limit limit) = 1 ≤ n
-
-  abbrev AllRoom : ℕ → List Primitive → Type 0
-  AllRoom n [] = Unit {0}
-  AllRoom n (a ∷ later) = Room n a × AllRoom n later
-
-  asked_stays : (p j i : ℕ) (a : Primitive) (n : ℕ) → Room n a → p + n ≤ hi → Stays p (Asked j i a)
+  asked_stays : (p j i : ℕ) (a : Primitive) (n : ℕ) → Room n a → p + n < hi + 1 → Stays p (Asked j i a)
   asked_stays p j i Split n h e = omega (arith, h, e)
   asked_stays p j i Enter n h e = omega (arith, h, e)
   asked_stays p j i (Limit limit) n h e = omega (arith, h, e)
 
-  some_room : (n : ℕ) (a : Primitive) → Room n a → 1 ≤ n
-  some_room n Split h = omega (arith, h)
-  some_room n Enter h = h
-  some_room n (Limit limit) h = h
+  visit_stays : (p j i : ℕ) (a : Primitive) → p + 2 < hi + 1 → Stays p (Visit j i a)
+  visit_stays p j i a h = omega (arith, h)
 
-  visits_stay : (j i : ℕ) (later : List Primitive) (rest : List Spot) (p : ℕ) → AllRoom (length rest) later → p + (2 * length later + length rest) ≤ hi + 1 → AllStay (p + 2 * length later) rest
-      → AllStay p (visits j i later ++ rest)
-  visits_stay j i [] rest p room h c = let z : p + 0 ≡ p = add-zero p in subst (λ q. AllStay q rest) z c
-  visits_stay j i (a ∷ later) rest p room h c =
-      let z : p + 2 * length (a ∷ later) ≡ p + 1 + 1 + 2 * length later = omega arith in
-      let some = some_room (length rest) a room.0 in
-      let first : Stays p (Visit j i a) = omega (arith, some, h) in
-      (first, (asked_stays (p + 1) j i a (length rest) room.0 (omega (arith, h)), visits_stay j (suc i) later rest (p + 1 + 1) room.1 (omega (arith, h)) (subst (λ q. AllStay q rest) z c)))
-
-  limits_room : (n : ℕ) (ls : List ALimit) (later : List Primitive) → 1 ≤ n → AllRoom n later → AllRoom n (map (λ limit. Limit limit) ls ++ later)
-  limits_room n [] later h r = r
-  limits_room n (l ∷ ls) later h r = (h, limits_room n ls later h r)
-
-  primitives_room : (policy : PlainPolicy) (split : Bool) (n : ℕ) → n ≡ 1 + cond split 1 0 → AllRoom n (primitives policy split)
-  primitives_room policy true n e = let one : 1 ≤ n = omega (arith, e) in let two : 2 ≤ n = omega (arith, e) in limits_room n policy.limits (Enter ∷ (Split ∷ [])) one (one, (two, tt))
-  primitives_room policy false n e = let one : 1 ≤ n = omega (arith, e) in limits_room n policy.limits (Enter ∷ []) one (one, tt)
-
-  call_length : (split : Bool) (s t : Spot) → length (s ∷ cond split (t ∷ []) []) ≡ 1 + cond split 1 0
-  call_length true s t = refl
-  call_length false s t = refl
+  visits_stay : (j i : ℕ) (later : List Primitive) (rest : List Spot) (p : ℕ) → AllRoom (length rest) later → p + (2 * length later + length rest) ≤ hi + 1
+      → AllStay (p + 2 * length later) rest → AllStay p (visits j i later ++ rest)
+  visits_stay = visits_lead Stays (hi + 1) visit_stays asked_stays
 
   call_stays : (split : Bool) (p j f l : ℕ) → In l → AllStay p (Call j f l ∷ cond split (SplitCall j f l ∷ []) [])
   call_stays true p j f l k = (k, (k, tt))
