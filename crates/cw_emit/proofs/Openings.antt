@@ -23,11 +23,11 @@ passes : (inside : Bool) (a b c d e f : ℕ) (rest : List ℕ) → cut_from 6 in
 unfolding cut_from
 passes inside a b c d e f rest = refl
 
-opens : (rest : List ℕ) → cut_from 0 false (opening ++ rest) ≡ cut_from 0 true rest
+pub opens : (rest : List ℕ) → cut_from 0 false (opening ++ rest) ≡ cut_from 0 true rest
 unfolding cut_from
 opens rest = refl
 
-closes : (rest : List ℕ) → cut_from 0 true (closing ++ rest) ≡ cut_from 0 false rest
+pub closes : (rest : List ℕ) → cut_from 0 true (closing ++ rest) ≡ cut_from 0 false rest
 unfolding cut_from
 closes rest = refl
 

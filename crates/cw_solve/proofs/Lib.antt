@@ -2,6 +2,7 @@
 pub mod Calling
 pub mod Counts
 pub mod Falls
+pub mod Few
 pub mod Fresh
 pub mod Keeping
 pub mod Looking

@@ -1,6 +1,7 @@
 -- The definitions.
 pub mod Asking
 pub mod Contexts
+pub mod Few
 pub mod Low
 pub mod Numbering
 pub mod Rounds

@@ -7,4 +7,5 @@ pub mod OneSet
 pub mod Numbered
 pub mod Added
 pub mod OneAnswer
+pub mod SomeAnswer
 pub mod Few

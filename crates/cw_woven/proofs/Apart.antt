@@ -28,10 +28,10 @@ use Rattle.cw_woven.specs.declared.fault.WovenFault.{WovenFault}
 use Rattle.cw_woven.specs.declared.fault.WovenFault.TheVariants as fault
 use Rattle.cw_woven.specs.Parts.{Piece, IsCutAt, AreParts, without, places}
 use Rattle.cw_woven.specs.Woven.{IsSpelling}
-use Rattle.cw_woven.specs.Reading.{the_prologue, Begins, IsAccepted, IsCutFault, IsFault, IsMark, IsNoMark, IsRead, ReadsWoven, seam_marks}
+use Rattle.cw_woven.specs.Reading.{the_prologue, Begins, IsAccepted, IsCutFault, IsFault, IsMark, IsNoMark, IsParted, IsRead, ReadsWoven, seam_marks}
 use Rattle.cw_woven.proofs.OneReading.{head_inner, one_front, one_rest, one_source, read_as_one}
 
-none_stands : (word text front rest : List ℕ) → IsCutAt word text front rest → HasNone word text → ⊥
+pub none_stands : (word text front rest : List ℕ) → IsCutAt word text front rest → HasNone word text → ⊥
 none_stands word text front rest c none =
     true≢false (sym (ap (λ (z : List ℕ). starts_with nat_eq z word) (ap (drop (length front)) c.cut ∙ drop-append_seam front (word ++ rest)) ∙ starts_again word rest) ∙ none (length front))
 
@@ -56,18 +56,18 @@ next_there text (p ∷ ps) (q ∷ qs) left other gap opened a b none spelled c =
     let after : a.1 ≡ b.1 = one_rest closing b.0 p.inner q.inner a.1 b.1 d b.3 in
     next_there b.1 ps qs left other gap opened (subst (λ (z : List ℕ). AreParts z ps left) after a.4) b.4 none spelled.1 c
 
-no_mark : (opened : List ℕ) → HasNext opened → IsNoMark opened → ⊥
+pub no_mark : (opened : List ℕ) → HasNext opened → IsNoMark opened → ⊥
 no_mark opened n (inl none) = none_stands closing opened n.inner n.after n.closes none
 no_mark opened n (inr (inner, after, c, not)) = not (subst IsSpelling (one_front closing opened n.inner inner n.after after n.closes c) n.spelled)
 
-no_read_fault : (source : List ℕ) (file : File) (f : SourceFault) → ReadsAs source file → IsRead source f → ⊥
+pub no_read_fault : (source : List ℕ) (file : File) (f : SourceFault) → ReadsAs source file → IsRead source f → ⊥
 no_read_fault source file (read.Lex l) reads h = never_both source file (read.Lex l) (λ e. cc) reads h
 no_read_fault source file (read.Syntax at) reads h = never_both source file (read.Syntax at) (λ e. cc) reads h
 no_read_fault source file read.TooDeep reads h = never_both source file read.TooDeep (λ e. cc) reads h
 no_read_fault source file (read.Scope s) reads h = never_both source file (read.Scope s) (λ e. cc) reads h
 no_read_fault source file read.NoMemory reads h = h
 
-no_cut_fault : (policy : PlainPolicy) (source : List ℕ) (file : File) (f : CutFault) → IsAccepted policy source file → IsCutFault policy source f → ⊥
+pub no_cut_fault : (policy : PlainPolicy) (source : List ℕ) (file : File) (f : CutFault) → IsAccepted policy source file → IsCutFault policy source f → ⊥
 no_cut_fault policy source file cut.TooLong a lt = let le = a.short in omega (arith, le, lt)
 no_cut_fault policy source file (cut.Read f) a h = no_read_fault source file f a.reads h.1
 no_cut_fault policy source file (cut.Descriptors f) a (other, short, reads, e) =
@@ -79,6 +79,28 @@ no_cut_fault policy source file cut.TooManyPoints a (other, short, reads, e, man
     let le = few.few in
     omega (arith, many, le)
 
+-- a text that is of parts begins as a prologue does, and no opening in it is at fault
+module _ (text lines : List ℕ) (own : List Piece) (end : List ℕ) (parted : IsParted text lines own end) where
+  begins : Begins text
+  begins =
+      let parts = parted.begins.parts in
+      (lines ++ (closing ++ parts.1), parts.2.cut ∙ ap (λ (z : List ℕ). opening ++ z) (parts.3.cut))
+
+  pub no_mark_fault : (at : ℕ) → IsMark text at → ⊥
+  no_mark_fault at (inl (e, none)) = none begins
+  no_mark_fault at (inr (inl (e, rest, is, none))) =
+      let parts = parted.begins.parts in
+      let opened : parts.0 ≡ codes "\n" ++ rest = append_cancel_left opening parts.0 (codes "\n" ++ rest) (sym (parts.2.cut) ∙ is) in
+      none_stands closing (codes "\n" ++ rest) (codes "\n" ++ lines) parts.1 (subst (λ (z : List ℕ). IsCutAt closing z (codes "\n" ++ lines) parts.1) opened parts.3) none
+  no_mark_fault at (inr (inr (lines2, marks, left, gap, opened, b, c, none, sum))) =
+      let first = parted.begins.parts in
+      let other = b.parts in
+      let same : first.0 ≡ other.0 = one_rest opening text [] [] first.0 other.0 first.2 other.2 in
+      let d : IsCutAt closing other.0 (codes "\n" ++ lines) first.1 = subst (λ (z : List ℕ). IsCutAt closing z (codes "\n" ++ lines) first.1) same first.3 in
+      let after : first.1 ≡ other.1 = one_rest closing other.0 (codes "\n" ++ lines) (codes "\n" ++ lines2) first.1 other.1 d other.3 in
+      no_mark opened
+      (next_there first.1 marks own left end gap opened (subst (λ (z : List ℕ). AreParts z marks left) (sym after) other.4) first.4 parted.whole parted.begins.spelled c) none
+
 module _ (policy : PlainPolicy) (valid : IsValid policy) (text source : List ℕ) (file : File) (t : Table) (r : ReadsWoven policy text source file t) where
   front_marks : (lines : List ℕ) (marks : List Piece) (left : List ℕ) → AreParts text (the_prologue lines ∷ marks) left → HasNone opening left → (r.has.lines ≡ lines) × (source ≡ without marks left) × (r.marks ≡ marks)
   unfolding head_inner
@@ -87,28 +109,8 @@ module _ (policy : PlainPolicy) (valid : IsValid policy) (text source : List ℕ
       let ms : r.marks ≡ marks = ap (drop 1) same.0 in
       (ap (λ (z : List Piece). drop 1 (head_inner z)) same.0, r.is ∙ ap (λ (z : List Piece). without z r.left) ms ∙ ap (without marks) same.1, ms)
 
-  begins : Begins text
-  begins =
-      let parts = r.has.parted.begins.parts in
-      (r.has.lines ++ (closing ++ parts.1), parts.2.cut ∙ ap (λ (z : List ℕ). opening ++ z) (parts.3.cut))
-
-  no_mark_fault : (at : ℕ) → IsMark text at → ⊥
-  no_mark_fault at (inl (e, none)) = none begins
-  no_mark_fault at (inr (inl (e, rest, is, none))) =
-      let parts = r.has.parted.begins.parts in
-      let opened : parts.0 ≡ codes "\n" ++ rest = append_cancel_left opening parts.0 (codes "\n" ++ rest) (sym (parts.2.cut) ∙ is) in
-      none_stands closing (codes "\n" ++ rest) (codes "\n" ++ r.has.lines) parts.1 (subst (λ (z : List ℕ). IsCutAt closing z (codes "\n" ++ r.has.lines) parts.1) opened parts.3) none
-  no_mark_fault at (inr (inr (lines, marks, left, gap, opened, b, c, none, sum))) =
-      let own = r.has.parted.begins.parts in
-      let other = b.parts in
-      let same : own.0 ≡ other.0 = one_rest opening text [] [] own.0 other.0 own.2 other.2 in
-      let d : IsCutAt closing other.0 (codes "\n" ++ r.has.lines) own.1 = subst (λ (z : List ℕ). IsCutAt closing z (codes "\n" ++ r.has.lines) own.1) same own.3 in
-      let after : own.1 ≡ other.1 = one_rest closing other.0 (codes "\n" ++ r.has.lines) (codes "\n" ++ lines) own.1 other.1 d other.3 in
-      no_mark opened
-      (next_there own.1 marks r.marks left r.left gap opened (subst (λ (z : List ℕ). AreParts z marks left) (sym after) other.4) own.4 r.has.parted.whole r.has.parted.begins.spelled c) none
-
   pub no_fault : (f : WovenFault) → f ≢ fault.NoMemory → IsFault policy text f → ⊥
-  no_fault (fault.Mark at) ne h = no_mark_fault at h
+  no_fault (fault.Mark at) ne h = no_mark_fault text r.has.lines r.marks r.left r.has.parted at h
   no_fault (fault.Table f) ne (lines, marks, left, parted, wrong) =
       let same = front_marks lines marks left parted.begins.parts parted.whole in
       not_both policy lines t f (small_format policy valid) (limits_free policy valid) (subst (λ (z : List ℕ). Spells policy z t) same.0 r.has.spells) wrong

@@ -9,3 +9,5 @@ pub mod OneReading
 pub mod Opening
 pub mod Again
 pub mod Apart
+pub mod Cutting
+pub mod OneFault

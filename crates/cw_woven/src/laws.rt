@@ -1,7 +1,9 @@
 //! What holds of every text that is read. The functions do nothing: their contracts are the laws.
 
-ghost use Rattle.std.specs.Prelude.{◌≡◌, ◌≢◌, ℕ, List, map};
+ghost use Rattle.std.specs.Prelude.{◌≡◌, ◌≢◌, ◌⊎◌, ℕ, List, map};
+ghost use Rattle.cw_emit.specs.Cut.{closing, cut, opening};
 ghost use Rattle.cw_emit.specs.Woven.{placed, Stands};
+ghost use Rattle.cw_syntax.specs.PlainMarks.{HasNone};
 ghost use Rattle.cw_table_text.specs.TablesText.{tables_text};
 ghost use Rattle.cw_rights.specs.Policies.{PlainPolicy};
 ghost use Rattle.cw_syntax.specs.Trees.{File};
@@ -10,6 +12,7 @@ ghost use Rattle.cw_rights.specs.Valid.{IsValid};
 ghost use Rattle.cw_table_text.specs.Grammar.{IsTable};
 ghost use Rattle.cw_woven.specs.declared.fault.WovenFault.{WovenFault};
 ghost use Rattle.cw_woven.specs.declared.fault.WovenFault.TheVariants.{NoMemory};
+ghost use Rattle.cw_woven.specs.Parts.{AreParts, IsCutAt, Piece, without};
 ghost use Rattle.cw_woven.specs.Reading.{IsAccepted, IsFault, ReadsWoven, seam_marks};
 
 /// What a text is read as it stands for: the text is the prologue with the table, and the source with the marks of its seams.
@@ -60,4 +63,34 @@ pub fn one_answer()
     ensures apart { (policy : PlainPolicy) (text source : List ℕ) (file : File) (table : Table) (fault : WovenFault)
         → IsValid policy → ReadsWoven policy text source file table
         → fault ≢ NoMemory → IsFault policy text fault → ⊥ }
+{}
+
+/// A text that is read is the source that it is read as, once each part from `/*cw{*/` to the next `/*}cw*/` is cut out.
+#[tactic(auto, using(crate::proofs::Cutting::read_is_cut))]
+pub fn what_is_read_is_cut()
+    ensures cut { (policy : PlainPolicy) (text source : List ℕ) (file : File) (table : Table)
+        → ReadsWoven policy text source file table
+        → cut text ≡ source }
+{}
+
+/// What `cut` leaves of a text is what stands before its parts, between them and behind them; where a part isn't closed, what stands before
+/// it. Each text is of the one kind or of the other.
+pub fn cut_leaves_what_is_outside()
+    ensures closed { (text : List ℕ) (parts : List Piece) (left : List ℕ)
+        → AreParts text parts left → HasNone opening left
+        → cut text ≡ without parts left }
+    ensures unclosed { (text : List ℕ) (parts : List Piece) (left gap opened : List ℕ)
+        → AreParts text parts left → IsCutAt opening left gap opened → HasNone closing opened
+        → cut text ≡ without parts gap }
+    ensures each { (text : List ℕ)
+        → ((parts : List Piece) × (left : List ℕ) × AreParts text parts left × HasNone opening left)
+        ⊎ ((parts : List Piece) × (left : List ℕ) × (gap : List ℕ) × (opened : List ℕ) × AreParts text parts left × IsCutAt opening left gap opened × HasNone closing opened) }
+{}
+
+/// For a valid policy a text has one fault at most, want of memory left aside.
+pub fn one_fault()
+    ensures fault { (policy : PlainPolicy) (text : List ℕ) (f g : WovenFault)
+        → IsValid policy → f ≢ NoMemory → g ≢ NoMemory
+        → IsFault policy text f → IsFault policy text g
+        → f ≡ g }
 {}
