@@ -27,6 +27,7 @@ use cw_rights::Policy;
 use cw_source::read_source;
 use cw_syntax::checked::Checked;
 use std::alloc::Global;
+use std::mem::forget;
 
 /// The most labels that have numbers of 16 bits; a program with more of them has more than 8,192 points.
 const LABELS: usize = 65_535;
@@ -141,7 +142,12 @@ pub fn listing_due<O: Sink, N: Sink>(
     ensures notes { StartsLine N.taken N.faults N.refused note.old note.new result }
 {
     match read_source(alloc, source) {
-        Ok(checked) => of_program(alloc, &checked, out, note),
+        Ok(checked) => {
+            let outcome = of_program(alloc, &checked, out, note);
+            // As in `check`: the end of the process gives the blocks of the tree back at once.
+            forget(checked);
+            outcome
+        }
         Err(fault) => source_refusal(source, &fault, note),
     }
 }

@@ -22,6 +22,7 @@ use cw_io::Sink;
 use cw_rights::Policy;
 use cw_syntax::checked::Checked;
 use std::alloc::Global;
+use std::mem::forget;
 
 /// That the program has too many points, that its game is over one of its numbers, or what comes behind that.
 fn drawn<O: Sink, N: Sink>(
@@ -119,7 +120,12 @@ pub(crate) fn counted_due<O: Sink, N: Sink>(
     ensures notes { StartsLine N.taken N.faults N.refused note.old note.new result }
 {
     match read_both(alloc, policy, source, note) {
-        Ok(pair) => fitted(alloc, &pair.policy, &pair.checked, numbers, out, note),
+        Ok(pair) => {
+            let outcome = fitted(alloc, &pair.policy, &pair.checked, numbers, out, note);
+            // As in `check`: the end of the process gives the blocks of the tree back at once.
+            forget(pair);
+            outcome
+        }
         Err(answer) => answer,
     }
 }

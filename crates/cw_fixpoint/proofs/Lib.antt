@@ -7,3 +7,4 @@ pub mod Numbers
 mod Holding
 mod Orders
 pub mod Reaching
+pub mod Existing

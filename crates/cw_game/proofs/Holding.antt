@@ -6,6 +6,7 @@ use Rattle.cw_rights.specs.declared.capabilities.Primitive.TheVariants.{Split}
 use Rattle.cw_game.specs.declared.spots.Spot.{Spot}
 use Rattle.cw_game.specs.declared.spots.Spot.TheVariants.{Visit, Asked, Step, Branch, Label, Open, Close, Call, SplitCall, Exit}
 use Rattle.cw_game.specs.Games.{Game, refuses_in, Promise, holds_in, Holds, IsLost}
+pub use Rattle.cw_game.specs.Staying.{AreClosed}
 
 -- if the one is true so is the other
 abbrev pub Gives : Bool → Bool → Type 0
@@ -30,15 +31,6 @@ gives_where false a b f h = refl
 gives_unless : (yes a b : Bool) → (yes ≡ false → Gives a b) → Gives (not yes && a) (not yes && b)
 gives_unless true a b f h = cc
 gives_unless false a b f h = f refl h
-
--- These states lead to such states wherever a position leads.
-pub record AreClosed (g : Game) (IsState : ℕ → Type 0) : Type 0 where
-  pub granted : (p j i q : ℕ) (a : Primitive) → slice_get g.spots p ≡ Some (Asked j i a) → g.states.may_grant q a ≡ true → IsState q → IsState (g.states.granted q a)
-  pub lettered : (p j l n q : ℕ) → slice_get g.spots p ≡ Some (Label j l n) → g.states.bad q l ≡ false → IsState q → IsState (g.states.lettered q l)
-  pub opened : (p j d n q : ℕ) → slice_get g.spots p ≡ Some (Open j d n) → IsState q → IsState (g.states.opened q d)
-  pub failed : (p j d n q : ℕ) → slice_get g.spots p ≡ Some (Open j d n) → IsState q → IsState (g.states.closed q d)
-  pub closed : (p j d n q : ℕ) → slice_get g.spots p ≡ Some (Close j d n) → IsState q → IsState (g.states.closed q d)
-  pub returned : (p j f n x q : ℕ) → slice_get g.spots p ≡ Some (SplitCall j f n) → IsState x → IsState q → IsState (g.states.with_rights x q)
 
 module _ (g : Game) (IsState : ℕ → Type 0) (closed : AreClosed g IsState) where
   -- the one promise has the states of the other

@@ -9,3 +9,4 @@ pub mod Standing
 pub mod Linked
 pub mod Laws
 pub mod Together
+pub mod Staying

@@ -5,7 +5,7 @@ use Rattle.cw_game.specs.declared.spots.Spot.{Spot}
 use Rattle.cw_game.specs.declared.spots.Spot.TheVariants.{Visit, Asked, Step, Branch, Label, Open, Close, Call, SplitCall, Exit}
 use Rattle.cw_game.specs.Games.{Game}
 use Rattle.cw_game.specs.Pairs.{Called, call_in}
-use Rattle.cw_game.proofs.Holding.{AreClosed}
+use Rattle.cw_game.specs.Staying.{AreClosed}
 
 -- a position of the function: its positions are those from where it begins to where it ends
 abbrev pub IsOf : Game → ℕ → ℕ → Type 0

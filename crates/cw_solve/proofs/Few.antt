@@ -57,8 +57,8 @@ bits_below k n none =
     let low : rest < 2 ^ k = mod_below n (2 ^ k) (omega (arith, some)) in
     let e : whole * 2 ^ k + rest ≡ n = ap (λ m. m + rest) (mul_comm whole (2 ^ k)) ∙ div-add-mod n (2 ^ k) in
     let gone : whole ≡ 0 = same_from_bits whole 0 (λ i.
-        let back : i + k - k ≡ i = omega arith in
-        sym (ap (bit_at whole) back) ∙ sym (bit_at_cat_high whole k rest (i + k) low (omega arith)) ∙ ap (λ m. bit_at m (i + k)) e ∙ none (i + k) (omega arith) ∙ sym (bit_at-zero i)) in
+    let back : i + k - k ≡ i = omega arith in
+    sym (ap (bit_at whole) back) ∙ sym (bit_at_cat_high whole k rest (i + k) low (omega arith)) ∙ ap (λ m. bit_at m (i + k)) e ∙ none (i + k) (omega arith) ∙ sym (bit_at-zero i)) in
     let nothing : whole * 2 ^ k ≡ 0 = ap (λ m. m * 2 ^ k) gone ∙ zero_mul (2 ^ k) in
     let same : rest ≡ n = omega (arith, e, nothing) in
     subst (λ m. m < 2 ^ k) same low

@@ -66,11 +66,11 @@ read_is_cut policy text source file table r =
 -- ---- each text has its parts
 
 pub find_word : (word text : List ℕ) → starts_with nat_eq [] word ≡ false → HasNone word text ⊎ ((front : List ℕ) × (rest : List ℕ) × IsCutAt word text front rest)
-find_word word [] e = inl (λ at. ap (λ (z : List ℕ). starts_with nat_eq z word) (nothing at) ∙ e)
+find_word word [] e = inl none
   where
-    nothing : (at : ℕ) → drop at ([] {A = ℕ}) ≡ []
-    nothing zero = refl
-    nothing (suc at) = refl
+    none : (at : ℕ) → starts_with nat_eq (drop at []) word ≡ false
+    none zero = e
+    none (suc at) = e
 find_word word (b ∷ bs) e = go (starts_with nat_eq (b ∷ bs) word) refl (find_word word bs e)
   where
     go : (here : Bool) → starts_with nat_eq (b ∷ bs) word ≡ here → HasNone word bs ⊎ ((front : List ℕ) × (rest : List ℕ) × IsCutAt word bs front rest)

@@ -174,9 +174,9 @@ module _ (policy : PlainPolicy) (valid : IsValid policy) (text : List ℕ) where
       let read : IsAccepted policy (without marks2 left2) file = subst (λ (z : List ℕ). IsAccepted policy z file) e accepted in
       let files = one_program (without marks2 left2) file file2 read.reads accepted2.reads in
       let there : map (placed policy (without marks left)) (seam_marks policy (without marks left) file) ≡ map (placed policy (without marks2 left2)) (seam_marks policy (without marks2 left2) file2) =
-          ap (λ (z : List ℕ). map (placed policy z) (seam_marks policy z file)) e ∙ ap (λ (z : File). map (placed policy (without marks2 left2)) (seam_marks policy (without marks2 left2) z)) files in
+      ap (λ (z : List ℕ). map (placed policy z) (seam_marks policy z file)) e ∙ ap (λ (z : File). map (placed policy (without marks2 left2)) (seam_marks policy (without marks2 left2) z)) files in
       let moved = subst (λ (z : List (ℕ × List ℕ)). IsFirstDifference z (map (placed policy (without marks2 left2)) (seam_marks policy (without marks2 left2) file2)) m) (ap places s.1)
-          (subst (λ (z : List (ℕ × List ℕ)). IsFirstDifference (places marks) z m) there differs) in
+      (subst (λ (z : List (ℕ × List ℕ)). IsFirstDifference (places marks) z m) there differs) in
       ap fault.Misplaced (one_difference (places marks2) (map (placed policy (without marks2 left2)) (seam_marks policy (without marks2 left2) file2)) m n moved differs2)
   one_fault fault.NoMemory g ne nf h k = absurd (ne refl)
   one_fault f fault.NoMemory ne nf h k = absurd (nf refl)

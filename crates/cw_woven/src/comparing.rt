@@ -3,7 +3,7 @@
 ghost use Rattle.std.specs.Prelude.{◌≡◌, ◌≤◌, ◌^◌, ◌<◌, ◌+◌, ◌↔◌, length, map, IfOk, IfErr, IsTrue, slice_get};
 ghost use Rattle.cw_rights.specs.Policies.{policy_of};
 ghost use Rattle.cw_syntax.specs.Marks.{mark_of};
-ghost use Rattle.cw_emit.specs.Woven.{placed, spelled};
+ghost use Rattle.cw_emit.specs.Woven.{placed};
 ghost use Rattle.cw_woven.specs.Parts.{places, without};
 ghost use Rattle.cw_woven.specs.Held.{piece_of};
 ghost use Rattle.cw_woven.specs.Reading.{IsFirstDifference};
@@ -11,49 +11,19 @@ ghost use Rattle.cw_woven.specs.Comparing.{IsDifference};
 
 use crate::fault::WovenFault;
 use crate::parts::Piece;
-use cw_core::NoMemory;
-use cw_emit::put_spelling;
-use cw_io::{SureSink, Writer};
+use crate::spelling::is_spelled;
 use cw_rights::Policy;
 use cw_syntax::marks::SeamMark;
-use std::alloc::Global;
-
-/// A mark as it is spelled, put into a sink in memory.
-fn spelling_of(
-    alloc: Global,
-    mark: &SeamMark,
-    source: &[u8],
-    policy: &Policy,
-) -> Result<SureSink, NoMemory>
-    ensures { IfOk result (λ sink. sink.bytes ≡ spelled (policy_of policy.now) source.now (mark_of mark.now)) }
-{
-    let mut sink = SureSink::make(alloc);
-    let mut writer = Writer::begin(&sink);
-    put_spelling(mark.seam, mark.kind, source, policy, &mut writer, &mut sink);
-    match writer.finish(&mut sink) {
-        Ok(()) => Ok(sink),
-        Err(_) => Err(NoMemory),
-    }
-}
 
 /// Whether these bytes stand at the place of a mark and are spelled as it is.
-fn is_due(
-    alloc: Global,
-    place: usize,
-    bytes: &[u8],
-    mark: &SeamMark,
-    source: &[u8],
-    policy: &Policy,
-) -> Result<bool, NoMemory>
-    ensures { IfOk result (λ same. IsTrue same ↔ ((place, bytes.now) ≡ placed (policy_of policy.now) source.now (mark_of mark.now))) }
+fn is_due(place: usize, bytes: &[u8], mark: &SeamMark, source: &[u8], policy: &Policy) -> bool
+    ensures { IsTrue result ↔ ((place, bytes.now) ≡ placed (policy_of policy.now) source.now (mark_of mark.now)) }
 {
-    let spelling = spelling_of(alloc, mark, source, policy)?;
-    Ok(place == mark.place as usize && bytes == spelling.bytes())
+    place == mark.place as usize && is_spelled(bytes, mark, source, policy)
 }
 
 /// That the parts of a text, with this behind the last, stand where the marks of a source do, and are spelled as these are; else the first that isn't.
 pub(crate) fn compare(
-    alloc: Global,
     pieces: &[Piece],
     left: &[u8],
     marks: &[SeamMark],
@@ -72,7 +42,7 @@ pub(crate) fn compare(
             return Err(WovenFault::Misplaced(n as u32));
         }
         place += piece.gap.len();
-        if is_due(alloc, place, piece.inner, &marks[n], source, policy)? {
+        if is_due(place, piece.inner, &marks[n], source, policy) {
             n += 1;
         } else {
             return Err(WovenFault::Misplaced(n as u32));

@@ -66,7 +66,6 @@ pub fn one_answer()
 {}
 
 /// A text that is read is the source that it is read as, once each part from `/*cw{*/` to the next `/*}cw*/` is cut out.
-#[tactic(auto, using(crate::proofs::Cutting::read_is_cut))]
 pub fn what_is_read_is_cut()
     ensures cut { (policy : PlainPolicy) (text source : List ℕ) (file : File) (table : Table)
         → ReadsWoven policy text source file table

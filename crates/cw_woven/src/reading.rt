@@ -105,14 +105,7 @@ pub fn accept_woven<'s>(
         Err(fault) => return Err(fault),
     };
     let marks = marks(alloc, &accepted.graph)?;
-    match compare(
-        alloc,
-        &opened.marks,
-        opened.left,
-        &marks,
-        &opened.source,
-        policy,
-    ) {
+    match compare(&opened.marks, opened.left, &marks, &opened.source, policy) {
         Ok(()) => Ok(accepted),
         Err(fault) => Err(fault),
     }

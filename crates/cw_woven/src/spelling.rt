@@ -1,11 +1,17 @@
-//! Which bytes are spelled as a mark.
+//! Which bytes are spelled as a mark, and as which.
 
 ghost use Rattle.std.specs.Prelude.{◌≡◌, ◌↔◌, ◌++◌, IsTrue, IfSome, IfNone, List, ℕ, ◌≢◌, codes};
+ghost use Rattle.std.specs.Fmt.{decimal};
+ghost use Rattle.cw_rights.specs.Policies.{policy_of};
+ghost use Rattle.cw_syntax.specs.Marks.{mark_of};
+ghost use Rattle.cw_emit.specs.Woven.{spelled};
 ghost use Rattle.cw_woven.specs.Woven.{IsNumber, IsNumbered, IsNamed, IsNumberedMark, IsNamedMark, IsSpelling};
 
 use crate::parts::{behind, is_same};
-use cw_rights::is_name;
-use cw_text::{cut, number_of};
+use cw_rights::{Policy, is_name};
+use cw_syntax::marks::{MarkKind, SeamMark};
+use cw_syntax::names::text;
+use cw_text::{cut, descriptor_name, number_of};
 
 /// What stands between a front and a back; none where the bytes aren't these with something between them.
 fn between<'t>(bytes: &'t [u8], front: &[u8], back: &[u8]) -> Option<&'t [u8]>
@@ -86,4 +92,59 @@ pub(crate) fn is_spelling(bytes: &[u8]) -> bool
     ensures { IsTrue result ↔ IsSpelling bytes.now }
 {
     is_numbered_mark(bytes) || is_named_mark(bytes)
+}
+
+/// Whether bytes are the decimal of this number.
+fn is_decimal(bytes: &[u8], number: u32) -> bool
+    ensures { IsTrue result ↔ (bytes.now ≡ decimal number) }
+{
+    match number_of(bytes, u64::from(u32::MAX)) {
+        Some(found) => found == u64::from(number),
+        None => false,
+    }
+}
+
+/// Whether bytes are a front, this number and a back.
+fn is_of_seam(bytes: &[u8], front: &[u8], seam: u32, back: &[u8]) -> bool
+    ensures { IsTrue result ↔ (bytes.now ≡ front.now ++ (decimal seam ++ back.now)) }
+{
+    match between(bytes, front, back) {
+        Some(number) => is_decimal(number, seam),
+        None => false,
+    }
+}
+
+/// Whether bytes are a front, this number, `,`, this name and `)`.
+fn is_of_name(bytes: &[u8], front: &[u8], seam: u32, name: &[u8]) -> bool
+    ensures { IsTrue result ↔ (bytes.now ≡ front.now ++ (decimal seam ++ (codes "," ++ (name.now ++ codes ")")))) }
+{
+    match between(bytes, front, b")") {
+        Some(fields) => match before(fields, name) {
+            Some(numbered) => match before(numbered, b",") {
+                Some(number) => is_decimal(number, seam),
+                None => false,
+            },
+            None => false,
+        },
+        None => false,
+    }
+}
+
+/// Whether bytes are spelled as this mark is.
+pub(crate) fn is_spelled(bytes: &[u8], mark: &SeamMark, source: &[u8], policy: &Policy) -> bool
+    ensures { IsTrue result ↔ (bytes.now ≡ spelled (policy_of policy.now) source.now (mark_of mark.now)) }
+{
+    match mark.kind {
+        MarkKind::Entry => is_of_seam(bytes, b"CW_ENTRY(", mark.seam, b");"),
+        MarkKind::Label => is_of_seam(bytes, b"CW_LABEL(", mark.seam, b")"),
+        MarkKind::Open(descriptor) => {
+            let name = descriptor_name(policy, descriptor);
+            is_of_name(bytes, b"CW_OPEN(", mark.seam, name)
+        }
+        MarkKind::Close => is_of_seam(bytes, b"CW_CLOSE(", mark.seam, b")"),
+        MarkKind::Call(None) => is_of_seam(bytes, b"CW_CALL(", mark.seam, b")"),
+        MarkKind::Call(Some(name)) => {
+            is_of_name(bytes, b"CW_CALLV(", mark.seam, text(source, name))
+        }
+    }
 }
