@@ -17,3 +17,49 @@ _capweave() {
     esac
 }
 complete -o filenames -F _capweave capweave
+
+# The companion: its own words and options, then those of capweave. The place of a word is counted without options and what belongs to them.
+_capweave_files() {
+    COMPREPLY=($(compgen -f -X "!$1" -- "$2") $(compgen -d -- "$2"))
+}
+
+_capweave_tell() {
+    local word=${COMP_WORDS[COMP_CWORD]} before=${COMP_WORDS[COMP_CWORD - 1]} place=0 said="" kind="" index
+    case $before in
+    --format) COMPREPLY=($(compgen -W "text json sarif" -- "$word")); return ;;
+    --color) COMPREPLY=($(compgen -W "auto always never" -- "$word")); return ;;
+    --as) COMPREPLY=($(compgen -W "svg dot mermaid html" -- "$word")); return ;;
+    --theme) COMPREPLY=($(compgen -W "auto light dark" -- "$word")); return ;;
+    -o) COMPREPLY=($(compgen -f -- "$word")); return ;;
+    esac
+    for ((index = 1; index < COMP_CWORD; index++)); do
+        case ${COMP_WORDS[index]} in
+        --format | --color | --as | --theme | -o) index=$((index + 1)) ;;
+        -*) ;;
+        *)
+            place=$((place + 1))
+            if [ $place -eq 1 ]; then said=${COMP_WORDS[index]}; fi
+            if [ $place -eq 2 ]; then kind=${COMP_WORDS[index]}; fi
+            ;;
+        esac
+    done
+    if [[ $word == -* ]]; then
+        case $said in
+        "") COMPREPLY=($(compgen -W "--format --color --help --version" -- "$word")) ;;
+        weave) COMPREPLY=($(compgen -W "-o --quiet --format --color --help" -- "$word")) ;;
+        warn) COMPREPLY=($(compgen -W "--strict --format --color --help" -- "$word")) ;;
+        draw) COMPREPLY=($(compgen -W "-o --as --theme --format --color --help" -- "$word")) ;;
+        explain | same) COMPREPLY=($(compgen -W "--format --color --help" -- "$word")) ;;
+        esac
+        return
+    fi
+    case $said:$place in
+    :0) COMPREPLY=($(compgen -W "weave explain warn same draw check refute run play graph sample" -- "$word")) ;;
+    weave:1 | explain:1 | warn:1 | check:1 | refute:1 | run:1 | play:1) _capweave_files '*.toml' "$word" ;;
+    graph:1 | weave:2 | explain:2 | warn:2 | same:[12]) _capweave_files '*.c' "$word" ;;
+    draw:1) COMPREPLY=($(compgen -W "graph table strategy play" -- "$word")) ;;
+    draw:2) if [ "$kind" = graph ]; then _capweave_files '*.c' "$word"; else _capweave_files '*.toml' "$word"; fi ;;
+    *) COMPREPLY=($(compgen -f -- "$word")) ;;
+    esac
+}
+complete -o filenames -F _capweave_tell capweave-tell

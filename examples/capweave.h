@@ -29,28 +29,39 @@ enum { cw_is_table, cw_is_mem, cw_is_try, cw_is_at, cw_is_opened, cw_is_closed, 
 #define CW_THE_MASK(index, descriptor, mask) mask,
 #define CW_THE_ONE(index, descriptor, mask) +1
 #define CW_SEAM(seam) \
-    cw_table, seam, 0 CW_LIMITS(CW_THE_ONE), (const int[]){ CW_LIMITS(CW_THE_DESCRIPTOR) -1 }, \
+    seam, 0 CW_LIMITS(CW_THE_ONE), (const int[]){ CW_LIMITS(CW_THE_DESCRIPTOR) -1 }, \
         (const unsigned[]){ CW_LIMITS(CW_THE_MASK) 0 }
 
 /* A call: plain; or in a process of its own, in the child or in the parent that waits for it. */
 struct cw_call {
-    const unsigned *table;
     unsigned seam, memory;
     int split, turn, pipe, child;
 };
 
 void cw_entry(const unsigned *table, unsigned seam, unsigned count, const int *descriptors, const unsigned *masks);
-int cw_label(const unsigned *table, unsigned seam, unsigned count, const int *descriptors, const unsigned *masks);
-void cw_opened(const unsigned *table, unsigned seam, int descriptor);
-void cw_closed(const unsigned *table, unsigned seam);
-struct cw_call cw_begin(const unsigned *table, unsigned seam, unsigned count, const int *descriptors, const unsigned *masks);
+void cw_label(unsigned seam, unsigned count, const int *descriptors, const unsigned *masks);
+void cw_opened(unsigned seam, int descriptor);
+void cw_closed(unsigned seam);
+struct cw_call cw_begin(unsigned seam, unsigned count, const int *descriptors, const unsigned *masks);
 int cw_runs(struct cw_call *call, void *result, unsigned size);
 void cw_end(struct cw_call *call, void *result, unsigned size);
 
-#define CW_ENTRY(seam) cw_entry(CW_SEAM(seam))
-#define CW_LABEL(seam) if (cw_label(CW_SEAM(seam))) ; else
-#define CW_OPEN(seam, variable) for (int cw_turn = 1; cw_turn; cw_turn = 0, cw_opened(cw_table, seam, variable))
-#define CW_CLOSE(seam) for (int cw_turn = 1; cw_turn; cw_turn = 0, cw_closed(cw_table, seam))
+/*
+ * A policy's labels are for no goto, and a label's mark is an if with an else, since its statement may be a break or the body of an if. What a
+ * compiler would say of both is about the marks. All else that it says of the source it says of the woven text.
+ */
+#ifdef __GNUC__
+#define CW_NO_GOTO __attribute__((unused))
+#pragma GCC diagnostic ignored "-Wdangling-else"
+#pragma GCC diagnostic ignored "-Wmisleading-indentation"
+#else
+#define CW_NO_GOTO
+#endif
+
+#define CW_ENTRY(seam) cw_entry(cw_table, CW_SEAM(seam))
+#define CW_LABEL(seam) CW_NO_GOTO if (cw_label(CW_SEAM(seam)), 0) { } else
+#define CW_OPEN(seam, variable) for (int cw_turn = 1; cw_turn; cw_turn = 0, cw_opened(seam, variable))
+#define CW_CLOSE(seam) for (int cw_turn = 1; cw_turn; cw_turn = 0, cw_closed(seam))
 #define CW_CALL(seam) \
     for (struct cw_call cw_this = cw_begin(CW_SEAM(seam)); cw_runs(&cw_this, (void *)0, 0); cw_end(&cw_this, (void *)0, 0))
 #define CW_CALLV(seam, variable) \

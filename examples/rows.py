@@ -3,7 +3,7 @@
 
     python3 examples/rows.py [CAPWEAVE]
 
-CAPWEAVE is the program; without it crates/capweave/out/capweave is taken. It takes a second. Needs Python 3.8 and no package.
+CAPWEAVE is the program; without it that of the environment's variable CAPWEAVE is taken, and else crates/capweave/out/capweave. It takes a second. Needs Python 3.8 and no package.
 """
 import os
 import subprocess
@@ -179,7 +179,7 @@ def fits(out, wanted):
 
 
 def main():
-    program = os.path.abspath(sys.argv[1] if len(sys.argv) > 1 else os.path.join(os.path.dirname(__file__), "../crates/capweave/out/capweave"))
+    program = os.path.abspath(sys.argv[1] if len(sys.argv) > 1 else os.environ.get("CAPWEAVE") or os.path.join(os.path.dirname(__file__), "../crates/capweave/out/capweave"))
     wrong = 0
     for name, words, files, status, out, note in ROWS:
         with tempfile.TemporaryDirectory() as folder:

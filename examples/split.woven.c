@@ -453,6 +453,7 @@ CW_DONE
  * split - reads log lines from standard input; errors go to the file errors.log and all others to others.log. A line's first byte tells which, as
  * `classify` reads it; that function sees bytes of strangers, so it runs in a process of its own, which can't change anything here.
  */
+#include <ctype.h>
 #include <fcntl.h>
 #include <stdio.h>
 #include <unistd.h>
@@ -461,17 +462,18 @@ static int errors = -1;
 static int others = -1;
 static char line[4096];
 static long kept, wrong, right;
+static int failed;
 
 /* 1 for an error, 0 for any other line, -1 for a line that is none */
 static int classify(int first, int second)
 {/*cw{*/CW_ENTRY(0);/*}cw*/
 judge:/*cw{*/CW_LABEL(1)/*}cw*/
+    if (!isprint(first))
+        return -1;
     if (first == '<')
         return second == '0' || second == '1' || second == '2' || second == '3';
     if (first == 'E' || first == 'F')
         return second == ' ';
-    if (first < ' ' || first > '~')
-        return -1;
     return 0;
 }
 
@@ -498,10 +500,10 @@ static void sort(void)
     /*cw{*/CW_CALLV(4,kind)/*}cw*/kind = classify(line[0], line[1]);
     if (kind > 0) {
         wrong++;
-        write(errors, line, kept + 1);
+        failed |= write(errors, line, kept + 1) < 0;
     } else if (kind == 0) {
         right++;
-        write(others, line, kept + 1);
+        failed |= write(others, line, kept + 1) < 0;
     }
 }
 
@@ -530,5 +532,5 @@ report:/*cw{*/CW_LABEL(13)/*}cw*/
     /*cw{*/CW_CLOSE(14)/*}cw*/close(errors);
     /*cw{*/CW_CLOSE(15)/*}cw*/close(others);
     printf("%ld errors, %ld others\n", wrong, right);
-    return 0;
+    return failed;
 }
