@@ -8,3 +8,4 @@ mod Holding
 mod Orders
 pub mod Reaching
 pub mod Existing
+mod Different

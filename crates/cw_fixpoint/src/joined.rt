@@ -80,9 +80,10 @@ fn search_all<K: Ord + Copy + Drop, G: Ord + Copy + Drop, J: Joins<K, G>>(
     ensures searched { IfOk result (λ search. Searched K.cmp G.cmp (J.rules joins.now) start search most) }
 {
     let mut search = begun(alloc, joins, start)?;
+    let mut next = Vec::new(alloc);
     let mut at: usize = 0;
     'keys: while at < search.seen.len() && !are_more(&search.seen, &search.pairs, most) {
-        work(alloc, joins, start, &mut search, at)?;
+        work(alloc, joins, start, &mut search, at, &mut next)?;
         at += 1;
     }
     Ok(search)
@@ -110,13 +111,14 @@ fn begun<K: Ord + Copy + Drop, G: Ord + Copy + Drop, J: Joins<K, G>>(
     })
 }
 
-/// Works off the next key: holds it for its groups, and sees what follows it, its pairs and their joins.
+/// Works off the next key: holds it for its groups, and sees what follows it, its pairs and their joins. Before that `next` may have any keys.
 fn work<K: Ord + Copy + Drop, G: Ord + Copy + Drop, J: Joins<K, G>>(
     alloc: Global,
     joins: &J,
     start: K,
     search: &mut Search<K, G>,
     at: usize,
+    next: &mut Vec<K>,
 ) -> Result<(), AllocError>
     requires exact { IsAntisymmetric K.cmp }
     requires groups { IsAntisymmetric G.cmp }
@@ -131,10 +133,10 @@ fn work<K: Ord + Copy + Drop, G: Ord + Copy + Drop, J: Joins<K, G>>(
     hold_in(alloc, &mut search.waiting, waits, key)?;
     hold_in(alloc, &mut search.ended, ends, key)?;
     let met = met_by(alloc, &search.waiting, &search.ended, waits, ends, key)?;
-    let mut next = Vec::new(alloc);
-    joins.put_after(key, &mut next)?;
-    put_joins(joins, &met, &mut next)?;
-    see_all(&mut search.seen, &mut search.set, &next)?;
+    next.clear();
+    joins.put_after(key, next)?;
+    put_joins(joins, &met, next)?;
+    see_all(&mut search.seen, &mut search.set, next)?;
     see_all(&mut search.pairs, &mut search.pair_set, &met)?;
     Ok(())
 }

@@ -8,6 +8,7 @@ mod holds;
 mod joined;
 mod joins;
 mod number;
+mod order;
 mod sees;
 mod steps;
 
@@ -16,4 +17,5 @@ pub use descent::descended_up_to;
 pub use joined::{Joined, joined_up_to};
 pub use joins::Joins;
 pub use number::number_of;
+pub use order::{ascending, ordered};
 pub use steps::Steps;

@@ -1,8 +1,6 @@
 //! Keys by what stands at their positions, in the order of rows.
 
 ghost use Rattle.std.specs.Prelude.{◌≡◌, map, filter_map, slice_get, length, Contains, IfOk, OnOk};
-ghost use Rattle.std.specs.FinMap.{IsAntisymmetric};
-ghost use Rattle.std.specs.List.Sorted.{IsStrictlySortedBy};
 ghost use Rattle.cw_fixpoint.specs.Closures.{Exactly};
 ghost use Rattle.cw_product.specs.Moves.{IsPosition};
 ghost use Rattle.cw_product.specs.Product.{game_of};
@@ -10,10 +8,10 @@ ghost use Rattle.cw_lazy_table.specs.Places.{placed_cmp, part_in, placed_of, mem
 
 use crate::key::Key;
 use cw_core::{PosId, StateId, StateSet};
+use cw_fixpoint::ascending;
 use cw_game::Spot;
 use cw_product::Game;
 use std::alloc::{AllocError, Global};
-use std::collections::BTreeSet;
 
 /// What stands at a position that has rows.
 #[derive(Clone, Copy, Drop, PartialEq, Eq)]
@@ -34,30 +32,6 @@ pub(crate) struct Placed {
     pub(crate) state: u16,
     pub(crate) promise: StateSet,
     pub(crate) pos: u32,
-}
-
-/// The different items of some, ascending.
-pub(crate) fn ascending<T: Ord + Copy + Drop>(
-    alloc: Global,
-    items: &[T],
-) -> Result<Vec<T>, AllocError>
-    requires exact { IsAntisymmetric T.cmp }
-    ensures { IfOk result (λ v. Exactly T.cmp (Contains items.now) v.items) }
-{
-    let mut set = BTreeSet::new(alloc);
-    for item in items {
-        set.insert(*item)?;
-    }
-    let found = in_order(alloc, set)?;
-    Ok(found)
-}
-
-/// The items of a set, ascending.
-fn in_order<T: Ord + Copy + Drop>(alloc: Global, set: BTreeSet<T>) -> Result<Vec<T>, AllocError>
-    ensures items { IfOk result (λ v. v.items ≡ set.keys) }
-    ensures order { IfOk result (λ v. IsStrictlySortedBy T.cmp v.items) }
-{
-    set.into_iter().collect(alloc)
 }
 
 /// The state and the promise of each key.
@@ -130,7 +104,7 @@ pub(crate) fn places(
     for key in keys {
         put_place(place(game, kind, key), &mut found)?;
     }
-    ascending(alloc, &found)
+    ascending(alloc, found)
 }
 
 /// Appends the exit for a call, if there is one.
@@ -160,5 +134,5 @@ pub(crate) fn returns(
     for pair in pairs {
         put_return(place(game, Kind::Call, &pair.0), &pair.1, &mut found)?;
     }
-    ascending(alloc, &found)
+    ascending(alloc, found)
 }

@@ -17,10 +17,10 @@ ghost use Rattle.cw_lazy_table.specs.Tabled.{AreLive, AreReturns, AreAllMemories
 use crate::follow::Choices;
 use crate::key::Key;
 use crate::lists::{at_rows, back_rows, into_rows, live_rows, mem, open_rows, try_rows};
-use crate::place::{Kind, ascending, memories_of, places, returns};
+use crate::place::{Kind, memories_of, places, returns};
 use cw_certs::{AtRow, BackRow, IntoRow, OpenRow, TryRow, WeaverCert};
 use cw_core::{StateId, StateSet};
-use cw_fixpoint::joined_up_to;
+use cw_fixpoint::{joined_up_to, ordered};
 use cw_product::Game;
 use cw_solve::{Solved, TableFault};
 use std::alloc::{AllocError, Global};
@@ -146,7 +146,7 @@ fn table_of(
     ensures { IfOk result (λ t. IsLazyTable (game_of game.now) t) }
 {
     let all = memories_of(alloc, keys)?;
-    let found = ascending(alloc, &all)?;
+    let found = ordered(alloc, &all)?;
     let mems = found.as_slice();
     let start = start_key(game, solved);
     let start = mem(mems, StateId(start.state), start.promise);

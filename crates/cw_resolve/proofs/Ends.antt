@@ -1,7 +1,7 @@
 -- Names that end in different bytes.
 use Rattle.std.proofs.Common.{◌≡◌, ◌≢◌, ◌∙◌, ◌≤◌, ◌<◌, ◌+◌, ◌-◌, ℕ, min, Bool, true, false, List, get_or, length, drop, refl, sym, ap, arith}
 use Rattle.std.specs.Str.{bytes_eq}
-use Rattle.std.proofs.lemmas.List.{get_or-drop, get_or-take, length-drop, length-take}
+use Rattle.std.proofs.lemmas.List.{ext_get_or, get_or-drop, get_or-take, length-drop, length-take}
 use Rattle.std.proofs.lemmas.Slice.Eq.{bytes_eq-Decides}
 use Rattle.cw_syntax.specs.declared.program.Name.{Name}
 use Rattle.cw_syntax.specs.Names.{text}
@@ -27,3 +27,7 @@ apart source name bytes some within differ = by (bytes_eq bytes (text source nam
         let same : bytes ≡ text source name = (bytes_eq-Decides bytes (text source name)).0 e in
         let many : 1 ≤ length (text source name) = omega (arith, some, ap length same) in
         absurd (differ (sym (ap (λ l. get_or l (length l - 1) 0) same ∙ last_byte source name many within)))
+
+-- texts of one length with the same bytes
+pub alike : (xs ys : List ℕ) → length xs ≡ length ys → ((k : ℕ) → k < length xs → get_or xs k 0 ≡ get_or ys k 0) → true ≡ bytes_eq xs ys
+alike xs ys many same = sym ((bytes_eq-Decides xs ys).1 (ext_get_or 0 xs ys many same))

@@ -7,6 +7,7 @@ ghost use Rattle.cw_syntax.specs.Names.{text};
 ghost use Rattle.cw_syntax.specs.Trees.{statement_of, statements_of, definition_of, file_of};
 ghost use Rattle.cw_resolve.specs.Labels.{labels_of, labels_of_all, label_names};
 
+use crate::names::is_same;
 use cw_syntax::names::text;
 use cw_syntax::program::{Function, Program, Stmt, What};
 
@@ -19,7 +20,7 @@ fn has_label(source: &[u8], name: &[u8], statement: &Stmt) -> bool
     match &statement.what {
         What::Block(statements) => has_label_in(source, name, statements),
         What::Label(label, _, body) => {
-            name == text(source, *label) || has_label(source, name, body)
+            is_same(name, text(source, *label)) || has_label(source, name, body)
         }
         What::If(_, arm, other) => match other {
             None => has_label(source, name, arm),

@@ -15,24 +15,21 @@ use cw_syntax::checked::Checked;
 use cw_syntax::names;
 use cw_syntax::program::Name;
 
-/// Whether two names end in different bytes.
-fn end_apart(name: &[u8], other: &[u8]) -> bool
-    ensures apart { result ≡ true → bytes_eq name.now other.now ≡ false }
-{
-    match name.last() {
-        None => false,
-        Some(last) => match other.last() {
-            None => false,
-            Some(end) => *last != *end,
-        },
-    }
-}
-
-/// Whether two names are the same. Most that aren't are told apart by their ends.
-fn is_same(name: &[u8], other: &[u8]) -> bool
+/// Whether two names are the same. Most that aren't are told apart by their lengths or their ends.
+pub(crate) fn is_same(name: &[u8], other: &[u8]) -> bool
     ensures { result ≡ bytes_eq name.now other.now }
 {
-    !end_apart(name, other) && name == other
+    let mut at = name.len();
+    if at != other.len() {
+        return false;
+    }
+    'bytes: while at > 0 {
+        at -= 1;
+        if name[at] != other[at] {
+            return false;
+        }
+    }
+    true
 }
 
 /// The number of the descriptor with this name.
@@ -124,7 +121,7 @@ fn is_named(source: &[u8], name: Name, bytes: &[u8]) -> bool
     requires some { 1 ≤ length bytes.now }
     ensures { result ≡ bytes_eq bytes.now (text source.now name) }
 {
-    !ends_apart(source, name, bytes) && bytes == names::text(source, name)
+    !ends_apart(source, name, bytes) && is_same(bytes, names::text(source, name))
 }
 
 /// The number of the first function whose name has these bytes, of which there are some.

@@ -11,3 +11,4 @@ pub mod Again
 pub mod Apart
 pub mod Cutting
 pub mod OneFault
+mod Due

@@ -54,7 +54,7 @@ returns g c =
             c.index-key.result.now c.requires.keeps.reached c.requires.within c.index-key.ensures
             c.waits-waits.result c.ends-ends.result c.waits-waits.ensures.waits c.ends-ends.ensures.ends c.in_ok-hold_in.ensures.puts c.in_ok-hold_in-2.ensures.puts c.in_ok-met.met.items
             c.deref.result.now c.deref-3.result.now c.in_ok-met.ensures.met c.deref.ensures.value c.deref-3.ensures.value
-            c.new-next.result.items c.put_after.new.keys.items c.put_joins.new.next.items c.deref-2.result.now c.new-next.ensures.items c.in_ok-put_after.ensures.after
+            c.clear.new.self.items c.put_after.new.keys.items c.put_joins.new.next.items c.deref-2.result.now c.clear.ensures.items c.in_ok-put_after.ensures.after
             c.in_ok-put_joins.ensures.put c.deref-2.ensures.value
             c.in_ok-see_all.ensures.more c.in_ok-see_all-2.ensures.more;
       };

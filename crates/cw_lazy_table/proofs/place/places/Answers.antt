@@ -1,4 +1,4 @@
-use Rattle.std.proofs.Common.{List, ◌∙◌, sym, subst, []}
+use Rattle.std.proofs.Common.{List, ◌∙◌, refl, sym, subst, []}
 use Rattle.std.specs.Prelude.{IfOk, Contains}
 use Rattle.cw_fixpoint.specs.Closures.{Exactly}
 use Rattle.cw_product.specs.Product.{game_of}
@@ -20,6 +20,6 @@ loop-key-preserved c =
 pub returns : goal.returns
 returns c =
     subst (λ (l : List Placed). IfOk c.ascending.result (λ v. Exactly placed_cmp (Contains l) v.items))
-    (at_end (placed_of (game_of c.args.game.now) c.args.kind) c.args.keys.now c.loop-key.key-index c.loop-key.found.items c.deref.result.now c.loop-key-test.false c.deref.ensures.value
+    (at_end (placed_of (game_of c.args.game.now) c.args.kind) c.args.keys.now c.loop-key.key-index c.loop-key.found.items c.loop-key.found.items c.loop-key-test.false refl
     c.loop-key.invariant)
     c.ascending.ensures

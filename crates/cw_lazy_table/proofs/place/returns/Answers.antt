@@ -1,4 +1,4 @@
-use Rattle.std.proofs.Common.{List, ◌∙◌, sym, subst, []}
+use Rattle.std.proofs.Common.{List, ◌∙◌, refl, sym, subst, []}
 use Rattle.std.specs.Prelude.{IfOk, Contains}
 use Rattle.cw_fixpoint.specs.Closures.{Exactly}
 use Rattle.cw_product.specs.Product.{game_of}
@@ -22,5 +22,5 @@ loop-pair-preserved c =
 pub returns : goal.returns
 returns c =
     subst (λ (l : List (Placed × Key)). IfOk c.ascending.result (λ v. Exactly return_cmp (Contains l) v.items))
-    (at_end (return_of (game_of c.args.game.now)) c.args.pairs.now c.loop-pair.pair-index c.loop-pair.found.items c.deref.result.now c.loop-pair-test.false c.deref.ensures.value c.loop-pair.invariant)
+    (at_end (return_of (game_of c.args.game.now)) c.args.pairs.now c.loop-pair.pair-index c.loop-pair.found.items c.loop-pair.found.items c.loop-pair-test.false refl c.loop-pair.invariant)
     c.ascending.ensures

@@ -10,20 +10,20 @@ pub size-requires-clause-there : goal.size-requires-clause-there
 size-requires-clause-there c =
     there (game_of c.args.game.now) (length c.args.game.now.graph.parts.items) c.requires.routed c.in-Some.context c.in-Some.ensures.missing.needed
 
-pub returns-then-cells-le4194304 : goal.returns-then-cells-le4194304
-returns-then-cells-le4194304 c =
+pub returns-then-cells : goal.returns-then-cells
+returns-then-cells c =
     let g = game_of c.args.game.now in
     let t = c.rounds.new.table in
     let f = c.in-Some.context.function in
     let more = longer_tabled g (length c.args.game.now.graph.parts.items) c.requires.routed t c.in-Some.ensures.table c.in-Some.context c.in-Some.ensures.missing
     c.in_ok-contexts-in-Some.contexts.items
-    c.in_ok-contexts-in-Some.ensures (omega (arith, c.len.ensures, t.heights.ok.0, c.size.ensures.is, c.if-cells-le4194304.true)) (omega (arith, c.size.ensures.is, c.size.ensures.some)) in
+    c.in_ok-contexts-in-Some.ensures (omega (arith, c.len.ensures, t.heights.ok.0, c.size.ensures.is, c.if-cells.true)) (omega (arith, c.size.ensures.is, c.size.ensures.some)) in
     let same : t.contexts.items ≡ c.args.contexts.items = c.in-Some.ensures.contexts ∙ c.in_ok-table.ensures.same in
     (more.0, subst (λ (xs : List Context). cells_of g xs < cells_of g c.in_ok-contexts-in-Some.contexts.items) same more.1)
 
-pub returns-else-cells-le4194304 : goal.returns-else-cells-le4194304
-returns-else-cells-le4194304 c =
+pub returns-else-cells : goal.returns-else-cells
+returns-else-cells c =
     let g = game_of c.args.game.now in
     let t = c.rounds.new.table in
     longer_too_many g (length c.args.game.now.graph.parts.items) c.requires.routed t c.in-Some.ensures.table c.in-Some.context c.in-Some.ensures.missing c.in_ok-contexts-in-Some.contexts.items
-    c.in_ok-contexts-in-Some.ensures (omega (arith, c.len.ensures, t.heights.ok.0, c.size.ensures.is, c.if-cells-le4194304.false))
+    c.in_ok-contexts-in-Some.ensures (omega (arith, c.len.ensures, t.heights.ok.0, c.size.ensures.is, c.if-cells.false))

@@ -21,11 +21,11 @@ returns-then-marks-n-clause-fault c =
     at_once _ _ (IsFirstDifference _ _) c.loop-piece.n c.loop-piece.invariant.differs
     (piece_alone (policy_of c.args.policy.now) c.args.source.now c.loop-piece.place _ _ _ _ (piece_next c.args.pieces.now i default_piece c.loop-piece-test.true) (no_mark c.args.marks.now c.loop-piece.n c.if-marks-n.true))
 
-pub returns-else-branch-clause-fault : goal.returns-else-branch-clause-fault
-returns-else-branch-clause-fault c =
+pub returns-else-is_due-clause-fault : goal.returns-else-is_due-clause-fault
+returns-else-is_due-clause-fault c =
     at_once _ _ (IsFirstDifference _ _) c.loop-piece.n c.loop-piece.invariant.differs
     (differs_here (policy_of c.args.policy.now) c.args.source.now c.loop-piece.place _ _ _ _ _ _ (piece_next c.args.pieces.now c.loop-piece.piece-index default_piece c.loop-piece-test.true) (mark_next c.args.marks.now c.loop-piece.n default_mark c.if-marks-n.false)
-    (λ e. true≢false (sym (c.in_ok-is_due.ensures.1 e) ∙ c.if-branch.false)))
+    (λ e. true≢false (sym (c.is_due.ensures.1 e) ∙ c.if-is_due.false)))
 
 pub loop-piece-preserved : goal.loop-piece-preserved
 loop-piece-preserved c =
@@ -34,7 +34,7 @@ loop-piece-preserved c =
     let inv = c.loop-piece.invariant in
     let pe = piece_next c.args.pieces.now c.loop-piece.piece-index default_piece c.loop-piece-test.true in
     let me = mark_next c.args.marks.now c.loop-piece.n default_mark c.if-marks-n.false in
-    let due = c.in_ok-is_due.ensures.0 c.if-branch.true in
+    let due = c.is_due.ensures.0 c.if-is_due.true in
     let count = inv.count in
     let less = c.if-marks-n.false in
     record {

@@ -1,7 +1,7 @@
 use Rattle.std.proofs.Common.{◌<◌, ◌≡◌, ◌++◌, ◌∷◌, [], ap, ◌∙◌, length, take, subst, sym, ◌+◌}
 use Rattle.std.proofs.lemmas.List.{take_more}
-use Rattle.cw_lazy_table.proofs.Ascending.{HasSame, one_more, exactly_same}
-use Rattle.cw_lazy_table.proofs.place.ascending.Goals as goal
+use Rattle.cw_fixpoint.proofs.Different.{HasSame, one_more, exactly_same}
+use Rattle.cw_fixpoint.proofs.order.ordered.Goals as goal
 
 pub loop-item-preserved : goal.loop-item-preserved
 loop-item-preserved g c =

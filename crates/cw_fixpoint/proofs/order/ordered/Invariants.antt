@@ -1,7 +1,7 @@
 use Rattle.std.proofs.Common.{take}
 use Rattle.std.specs.BTreeSet.{IsOrdered}
-use Rattle.cw_lazy_table.proofs.Ascending.{HasSame}
-use Rattle.cw_lazy_table.proofs.place.ascending.Given as goal
+use Rattle.cw_fixpoint.proofs.Different.{HasSame}
+use Rattle.cw_fixpoint.proofs.order.ordered.Given as goal
 
 abbrev pub invariant-loop-item : goal.invariant-loop-item
 invariant-loop-item g l = record {
