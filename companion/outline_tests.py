@@ -441,7 +441,7 @@ def part_csmith(folder, long):
 
     names["compiler_tree"] = remembered     # the tries of one program have one tree
     wanted = int(os.environ.get("OUTLINE_COUNT", "0")) or (1000 if long else 4)
-    counts = {"compared": 0, "tried": 0, "not prepared": 0, "plain fails": 0, "refuted at last": 0, "repeated": 0, "over a limit": 0, "seams": 0, "split": 0, "limited": 0, "undefined": 0}
+    counts = {"compared": 0, "tried": 0, "not prepared": 0, "plain fails": 0, "repeated": 0, "over a limit": 0, "seams": 0, "split": 0, "limited": 0, "undefined": 0}
     seed = int(os.environ.get("OUTLINE_SEED", "0"))
     wrong = 0
     until = time.time() + SHARE
@@ -583,6 +583,10 @@ def part_samples(folder, long):
             other = behaviour(os.path.join(folder, name + ".run"), words, folder, name)
             count += 1
             told(one == other, "%s %s" % (name, " ".join(words)), "%r %r" % (one[:3], other[:3]))
+        os.environ["CW_LOG"] = "1"
+        log = behaviour(os.path.join(folder, name + ".run"), RUNS[name][0], folder, name)[2]
+        del os.environ["CW_LOG"]
+        told(b" granted" in log, "something is granted in a run of " + name, log)
     print("samples: %d runs under %s" % (count, " ".join(standin_flags())))
 
 
@@ -618,10 +622,10 @@ REFUSALS = [    # (what stands in main, or a whole file; part of the text)
     ("    int (*p)(int) = @f;\n    r = p(n);", "the address of f"),
     ("    int (*p)(int);\n    p = &@f;\n    r = p(n);", "the address of f"),
     ("    if (@f(n))\n        r = 1;", "write 'r = f(..);' before the if"),
-    ("    while (@f(n) > 2)\n        n--;", "at the end of its body"),
-    ("    do\n        n--;\n    while (@f(n) > 2);", "at the end of its body"),
+    ("    while (@f(n) > 2)\n        n--;", "at the start of the loop's body"),
+    ("    do\n        n--;\n    while (@f(n) > 2);", "at the end of the loop's body and before each continue, and r"),
     ("    for (n = @f(3); n; n--)\n        r++;", "write it before the loop"),
-    ("    for (; @f(n); n--)\n        r++;", "before the loop"),
+    ("    for (; @f(n); n--)\n        r++;", "at the start of the loop's body"),
     ("    for (; n; n = @f(n) - 1)\n        r++;", "at the end of the loop's body"),
     ("    for (; n > 9; @g())\n        n--;", "at the end of the loop's body"),
     ("    switch (@f(n)) {\n    case 1:\n        r = 2;\n    }", "before the switch"),
@@ -638,7 +642,7 @@ REFUSALS = [    # (what stands in main, or a whole file; part of the text)
     ("    r = n ? @f(n) : 3;", "put it into an 'if'"),
     ("    r = 1, @g();", "write two statements"),
     ("    n && printf(\"%d\", @f(n));", "put it into an 'if'"),
-    ("    while (puts(argv[@f(n)]))\n        n--;", "at the end of its body"),
+    ("    while (puts(argv[@f(n)]))\n        n--;", "at the start of the loop's body"),
     ("    if (@vfork())\n        r = 1;", "vfork has no outline"),
     ("    argv[@f(0)][0] = 0;", "a call of f"),
     ("    char @v[f(n)];\n    r = sizeof v;", "stands in a type"),
@@ -770,7 +774,9 @@ def part_refusals(folder, long):
     for words, status, part in [(["outline"], 2, "usage"), (["outline", "none.c"], 6, "none.c:1:1: error: No such file"), (["weave", "ok.toml", "ok.c"], 2, "usage"),
                                 (["weave", "ok.toml", "ok.c", "-o", "ok.c"], 2, "can't go into"), (["weave", "none.toml", "ok.c", "-o", "w.c"], 6, "read"),
                                 (["weave", "ok.toml", "ok.c", "-o", "none/w.c"], 7, "none/w.c:1:1: error: No such file"), (["same", "ok.c", "ok.toml"], 1, "differs"),
-                                (["same", "ok.c", "none.c"], 6, "No such file"), (["weave", "ok.toml", "ok.c", "-o", "w.c", "--", "-Dmain=other"], 3, "there is no main")]:
+                                (["same", "ok.c", "none.c"], 6, "No such file"), (["weave", "ok.toml", "ok.c", "-o", "w.c", "--", "-Dmain=other"], 3, "there is no main"),
+                                (["outline", "ok.c", "--", "-fno-such-flag"], 3, "ok.c:1:1: error: the compiler refuses this file or its flags"),
+                                (["outline", "ok.c", "--", "-include", "none.h"], 3, "'none.h' file not found")]:
         run = outline(words, folder)
         told(run.returncode == status and part in run.stderr.decode(), "words %s" % words, "%d %s" % (run.returncode, run.stderr.decode()))
     for environment, part in [({"CAPWEAVE_CLANG": "/none/clang"}, "the compiler /none/clang can't be run"), ({"CAPWEAVE": "/none/capweave"}, "the program /none/capweave can't be run")]:
@@ -841,7 +847,7 @@ FAULTS = [      # (what is said, what stands there, what is put in its place)
     ("do is while", 'return [Item("do", at,', 'return [Item("while", at,'),
     ("while is if", 'return [Item("while", at, self.test_of(found, at), [self.loop_body(parts[1])])]', 'return [Item("if", at, self.test_of(found, at), [self.loop_body(parts[1]), None])]'),
     ("a for without condition may end", 'if test else None)', 'if test else [("test()", at)])'),
-    ("a for with a condition never ends", 'texts.append(self.test_of(self.condition(test, "for"), self.begin(test)) if test else None)', "texts.append(None)"),
+    ("a for with a condition never ends", 'texts.append(self.test_of(self.condition(test, "while"), self.begin(test)) if test else None)', "texts.append(None)"),
     ("continue is break", 'return [Item("continue", at)]', 'return [Item("break", at)]'),
     ("return goes on", 'return [Item("return", at,', 'return [Item("text", at,'),
     ("the last arm of an if is lost", "last = self.list_of(parts[2:3], ends)", "last = []"),

@@ -211,6 +211,29 @@ row("same: no woven text", "same s.c s.c", {"s.c": ONE}, 9, ["s.c:1:1: error: a 
 row("same: an open part", "same w.c s.c", {"w.c": "/*cw{*/\n/*}cw*/int x;/*cw{*/", "s.c": "int x;"}, 9, ["w.c:2:14: error: this insertion isn't closed by /*}cw*/"])
 row("same: a part of another hand", "same w.c s.c", {"w.c": "/*cw{*/\n/*}cw*/int x;/*cw{*/int y;/*}cw*/", "s.c": "int x;"}, 9, ["w.c:2:14: error: this is no mark that capweave writes"])
 
+# -- policies that can't be met, on the tools of examples/ that are there: (policy, a text in it, what comes in its place, the line that has to come first, and
+# a text that has to come with it)
+
+BROKEN = (
+    ("lines.toml", 'never = ["amb"', 'must = ["in:CAP_READ"]\nnever = ["amb"', "lines.toml:16:9: error: no placement of calls can meet this policy: 'parse must in:CAP_READ' can't be met",
+     "lines.c:36:5: note: in the model an open may fail and every branch behind it may go either way, whatever is tested there; `never` asks for less than `must`"),
+    ("lines.toml", 'label = "parse"', 'label = "parse"\nmust = ["amb"]', "lines.toml:17:10: error: no placement of calls can meet this policy: 'parse must amb' and 'parse never amb' can't both be met",
+     "lines.toml:16:9: note: it can be woven without the test 'parse must amb'"),
+    ("lines.toml", "format = 1", 'format = 1\nrefusable = ["enter"]', "lines.toml:17:10: error: no placement of calls can meet this policy: 'parse never amb' can't be met",
+     'lines.toml:2:1: note: it can be woven with `on_refusal = "stop"`: a refusal then ends the program'),
+    ("find.toml", '"1:CAP_READ"', '"1:CAP_FSTAT"', "find.toml:31:31: error: no placement of calls can meet this policy: 'parse never 1:CAP_FSTAT' can't be met",
+     "find.toml:31:31: note: no [[limit]] of the policy takes CAP_FSTAT from '1'"),
+    ("find.toml", 'must = ["amb"]', 'must = ["amb", "1:CAP_SEEK"]\nnever = ["0:CAP_READ"]\n[[rule]]\nname = "in-the-end"\nbad = ".* parse .* parse[!0:CAP_READ]"',
+     "find.toml:31:7: error: no placement of calls can meet this policy: 'ready never 0:CAP_READ' and 'in-the-end' can't both be met", "note: the rule 'ready never 0:CAP_READ'"),
+    ("split.toml", 'split = ["classify"]\n', "", "split.toml:29:9: error: no placement of calls can meet this policy: 'judge never amb' and 'report must amb' can't both be met", 'note: it can be woven with `split = ["classify"]`'),
+    ("split.toml", 'must = ["amb"]', 'must = ["amb", "errors:CAP_WRITE"]', "split.toml:20:16: error: no placement of calls can meet this policy: 'prepare must errors:CAP_WRITE' can't be met",
+     "split.toml:20:16: note: 'errors' is closed at this label: no open of it comes before in this run"),
+    ("head.toml", 'never = ["in:CAP_WRITE"', 'never = ["amb", "in:CAP_WRITE"', "head.toml:13:9: error: no placement of calls can meet this policy: 'openfile must amb' and 'show never amb' can't both be met",
+     'note: it can be woven with `split = ["top"]`'),
+    ("tee.toml", '[[at]]\nlabel = "copy"', '[[at]]\nlabel = "done"\nmust = ["amb"]\n\n[[at]]\nlabel = "copy"', "tee.toml:31:9: error: no placement of calls can meet this policy: 'done must amb' and 'copy never amb' can't both be met", "note: it can be woven without the test 'done must amb'"),
+    ("wc.toml", 'label = "count"', 'label = "count"\nmust = ["in:CAP_READ"]', "wc.toml:24:9: error: no placement of calls can meet this policy: 'count must in:CAP_READ' can't be met", "wc.toml:24:9: note: it can be woven without the test 'count must in:CAP_READ'"),
+)
+
 # -- refusals of sources, each line that the program has
 
 source("bad byte", "int main(void){return a?1:2;}", ["s.c:1:24: error: this byte begins no token; `x = a ? b : c;` is left out: write `if (a) x = b; else x = c;`"])
@@ -229,6 +252,8 @@ source("syntax: several", "int main(void){\n    int i, j;\n    size_t n;\n    st
     "s.c:8:13: error: 'FILE * f' is read as a product; write another file for what uses stdio's streams for FILE",
     "s.c:10:5: error: nothing of the subset goes on with 'j' here; is a ';' missing at the end of the line before?"])
 source("syntax: the end", "int main(void){\n    if (1) {\n    return 0;\n}\n", ["s.c:4:2: error: the text ends here, and something is still open", "s.c:1:15: note: this '{' isn't closed"])
+source("syntax: brackets", "int main(void){\n    if (f(1) {\n        g();\n    }\n    int i, j = 1, 2;\n    return 0;\n}\n", [
+    "s.c:2:14: error: nothing of the subset goes on with '{' here", "s.c:2:8: note: this '(' is still open where '}' stands on line 7"])
 source("two functions", "int f(void){return 0;}int f(void){return 0;}" + PLAIN, ["s.c:1:27: error: this function is defined a second time: 'f'", "s.c:1:5: note: it stands here before"])
 source("two labels", "int main(void){a:;a:;return 0;}", ["s.c:1:19: error: this label stands a second time in its function: 'a'; labels are unique in their function", "s.c:1:16: note: it stands here before"])
 source("arity", "int f(int a){return a;}int main(void){f();return 0;}", ["s.c:1:39: error: 'f' takes 1 argument"])
@@ -630,7 +655,20 @@ def check_picture(form, text):
         raise Failed("no Mermaid", text[:400], "")
 
 
-# -- the Makefile of examples/, and what is installed
+# -- tools of examples/ with policies that can't be met, the Makefile there, and what is installed
+
+def try_broken(case, program, folder):
+    name, before, after, first, part = case
+    tool = name.partition(".")[0] + ".c"
+    text = example(name)
+    if before not in text:
+        raise Failed("%s has no %r" % (name, before), "", "")
+    put_files({name: text.replace(before, after, 1), tool: example(tool)}, folder, program)
+    got, out, err = run(["explain", name, tool], folder, program)
+    if got != 1 or out.partition("\n")[0] != first or part not in out:
+        raise Failed("status %d, or what is told differs" % got, out + err, first + "\n" + part)
+
+
 
 def try_make(program, folder):
     """All tools are built by it; a policy that can't be met ends it and leaves no woven text, a second time too; mended, the tool is built again."""
@@ -706,6 +744,8 @@ def main():
         tests.append(("Makefile", lambda folder: try_make(program, folder)))
     else:
         print("left out: the Makefile, since make or cc isn't here")
+    there = [case for case in BROKEN if os.path.exists(os.path.join(EXAMPLES, case[0]))]
+    tests += [("broken: " + case[3], lambda folder, case=case: try_broken(case, program, folder)) for case in there]
     tests.append(("install.sh", lambda folder: try_install(program, folder)))
 
     def one(test):

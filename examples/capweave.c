@@ -8,7 +8,7 @@
  *     -DCW_BEFORE_ENTER=FUNCTION    void FUNCTION(void) is called before a process enters capability mode for the first time. No policy sees it.
  *     -DCW_ENOSYS_AS_GRANTED        where the kernel has no such primitive the program goes on as if it were granted: without what is promised.
  */
-#if defined CW_ENFORCE && !defined _GNU_SOURCE
+#if defined __linux__ && !defined _GNU_SOURCE
 #define _GNU_SOURCE
 #endif
 

@@ -131,7 +131,7 @@ int status(void) { printf("%d %d\\n", sum, taken); return 0; }""", 0, "1225 0\n"
     Trial("it ends by exit", 'int work(int x) { printf("bye %d\\n", x); exit(3); }', 3, "bye 0\n"),
     Trial("it ends by exit with 0", "int work(int x) { (void)x; exit(0); }", 0, ""),
     Trial("it crashes while a process that it made holds the pipe", """
-int work(int x) { if (fork() == 0) { usleep(300000); _exit(0); } raise(SIGKILL); return x; }""", 73, "", "capweave: seam 3: a process of its own was killed by signal 9\n"),
+int work(int x) { int one = getppid(); if (fork() == 0) { close(1); close(2); while (kill(one, 0) == 0) usleep(1000); _exit(0); } raise(SIGKILL); return x; }""", 73, "", "capweave: seam 3: a process of its own was killed by signal 9\n"),
     Trial("it ends while a process that it made holds the pipe", "int work(int x) { if (fork() == 0) { usleep(300000); _exit(0); } return x; }", 0, "0\n"),
     Trial("a program that it executes gets no end of the pipe", """
 int work(int x) {
@@ -139,7 +139,7 @@ int work(int x) {
     for (int number = 3; number < 1024; number++) { int flags = fcntl(number, F_GETFD); open_ones += flags >= 0 && (flags & FD_CLOEXEC) == 0; }
     (void)name; return x + open_ones; }""", 0, "0\n"),
     Trial("the numbers of descriptors are those of the plain tool", 'int work(int x) { return x + dup(2); }', 0, "3\n"),
-    Trial("standard output is closed", "int work(int x) { return x + 7; } void before(void) { close(1); close(0); } void after(int n) { fprintf(stderr, \"%d\\n\", n); }", 0, "", "7\n"),
+    Trial("standard output is closed", "int work(int x) { return x + 7 + 0 * (int)(write(0, \"junk\", 4) + write(1, \"junk\", 4)); } void before(void) { close(1); close(0); } void after(int n) { fprintf(stderr, \"%d\\n\", n); }", 0, "", "7\n"),
     Trial("no descriptor is free", """
 int work(int x) { return x; }
 void before(void) { while (open("/dev/null", O_RDONLY) >= 0) continue; printf("all taken\\n"); }""", 72, "all taken\n", "capweave: seam 3: split refused: pipe: Too many open files\n", limits=crowded),
@@ -178,6 +178,9 @@ int work(int x) { printf("two "); return x; }""", 0, "one two 0\n"),
     Trial("no such primitive, taken as granted", "", 0, "begun, gone on\n", policy=STOP, source=PLAIN, environment={"CW_REFUSE": "enter"}, flags="-DCW_STANDIN -DCW_ENOSYS_AS_GRANTED"),
     Trial("no such primitive, taken as granted, of limits", "", 0, "begun, gone on\n", policy=LIMITED, source=PLAIN, environment={"CW_REFUSE": "limit"}, flags="-DCW_STANDIN -DCW_ENOSYS_AS_GRANTED"),
     Trial("a hook before the first enter", "void ready(void) { printf(\"ready \"); errno = 5; } int work(int x) { return x + errno; } int turns(void) { return 2; } void before(void) { errno = 0; }", 0, "ready 0\nready 1\n", flags="-DCW_STANDIN -DCW_BEFORE_ENTER=ready"),
+    Trial("a hook is called once, though enter is tried twice", "void ready(void) { printf(\"ready \"); }", 0, "ready 3\n", flags="-DCW_STANDIN -DCW_BEFORE_ENTER=ready", environment={"CW_REFUSE": "enter"},
+          policy=NEVER.split("[[")[0], source='#include <stdio.h>\nint main(void)\n{\n    int n = 0;\n\n    while (n < 3)\na:\n        n++;\n    printf("%d\\n", n);\n    return 0;\n}\n',
+          changes=[("CW_AT(1,0,0)", "CW_TRY(1,0,0,0,0)\nCW_AT(1,0,0)")]),
     Trial("a hook is called once a process", "void ready(void) { printf(\"ready \"); }", 0, "ready ab\n", flags="-DCW_STANDIN -DCW_BEFORE_ENTER=ready",
           policy=NEVER.replace("[[at]]", '[[descriptor]]\nname = "0"\n[[at]]', 1), source='#include <stdio.h>\nint main(void)\n{\na:\n    printf("a");\n    printf("b\\n");\n    return 0;\n}\n'),
     Trial("enter is refused, and the table goes on", "", 0, "begun, gone on\n", "capweave: enter -1 0x0 refused\n", policy=NEVER.split("[[")[0], source=PLAIN, environment={"CW_REFUSE": "enter", "CW_LOG": "1"},

@@ -14,6 +14,7 @@
 #   faults      signals, full disks, crashes, exhausted tables: each ends with its message and its status (faults.py)
 #   model       random programs, compiled over a kernel that answers from a tape: they do what `run` prints (model.py)
 set -u
+from=$PWD
 cd "$(dirname "$0")" || exit 1
 programs=150
 keep=
@@ -25,7 +26,11 @@ while [ $# -gt 0 ]; do
     esac
     shift
 done
-program=${CAPWEAVE:-../crates/capweave/out/capweave}
+case ${CAPWEAVE:=$PWD/../crates/capweave/out/capweave} in
+/*) program=$CAPWEAVE ;;
+*/*) program=$from/$CAPWEAVE ;;
+*) program=$(command -v "$CAPWEAVE") ;;
+esac
 work=$(mktemp -d) || exit 1
 trap 'rm -rf "$work"' EXIT
 failed=0

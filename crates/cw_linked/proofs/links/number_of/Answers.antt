@@ -21,8 +21,8 @@ returns-in-Some c =
 pub size-requires-clause-there : goal.size-requires-clause-there
 size-requires-clause-there c = there (game_of c.args.game.now) (length c.args.game.now.graph.parts.items) c.requires.routed c.args.context.now c.requires.needed
 
-pub returns-then-len-size-gt4194304 : goal.returns-then-len-size-gt4194304
-returns-then-len-size-gt4194304 c =
+pub returns-then-len-size : goal.returns-then-len-size
+returns-then-len-size c =
     let w = c.args.work.now in
     let d = c.args.context.now in (
       refl,
@@ -32,7 +32,7 @@ returns-then-len-size-gt4194304 c =
           new = place_none w.table.contexts.items d.function d.promise (sym (c.in-None.ensures.place
               ∙ ap (position (λ (x : Context). nat_eq x.function d.function && nat_eq x.promise d.promise)) c.deref.ensures.value));
         };
-        many = omega (arith, c.len.ensures, w.table.heights.ok.0, c.size.ensures.is, c.if-len-size-gt4194304.true);
+        many = omega (arith, c.len.ensures, w.table.heights.ok.0, c.size.ensures.is, c.if-len-size.true);
       },
     )
 
@@ -48,7 +48,7 @@ add-requires-clause-contexts c =
     ∙ ap (position (λ (x : Context). nat_eq x.function d.function && nat_eq x.promise d.promise)) c.deref.ensures.value)) in
     (longer_tabled g (length c.args.game.now.graph.parts.items) c.requires.routed w.table c.requires.firm.table d (record { needed = c.requires.needed; new = new })
     (w.table.contexts.items ++ d ∷ []) refl
-    (omega (arith, c.len.ensures, w.table.heights.ok.0, c.size.ensures.is, c.if-len-size-gt4194304.false)) (omega (arith, c.size.ensures.is, c.size.ensures.some))).0
+    (omega (arith, c.len.ensures, w.table.heights.ok.0, c.size.ensures.is, c.if-len-size.false)) (omega (arith, c.size.ensures.is, c.size.ensures.some))).0
 
 pub returns-in_ok-add-in-None : goal.returns-in_ok-add-in-None
 returns-in_ok-add-in-None c =

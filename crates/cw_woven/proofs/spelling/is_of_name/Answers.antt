@@ -20,14 +20,14 @@ pub returns-in-None-before-2 : goal.returns-in-None-before-2
 returns-in-None-before-2 c = (
   λ t. absurd (false≢true t),
   λ h. absurd (c.in-None-before-2.ensures.none (decimal c.args.seam)
-  (numbered_is c.args.front.now c.args.bytes.now c.args.name.now c.in-Some.fields.now c.in-Some-before.numbered.now (decimal c.args.seam) c.in-Some.ensures.some c.in-Some-before.ensures.some h)),
+      (numbered_is c.args.front.now c.args.bytes.now c.args.name.now c.in-Some.fields.now c.in-Some-before.numbered.now (decimal c.args.seam) c.in-Some.ensures.some c.in-Some-before.ensures.some h)),
 )
 
 pub returns-in-None-before : goal.returns-in-None-before
 returns-in-None-before c = (
   λ t. absurd (false≢true t),
   λ h. absurd (c.in-None-before.ensures.none (decimal c.args.seam ++ codes ",")
-  (fields_is c.args.front.now c.args.bytes.now c.args.name.now c.in-Some.fields.now (decimal c.args.seam) c.in-Some.ensures.some h)),
+      (fields_is c.args.front.now c.args.bytes.now c.args.name.now c.in-Some.fields.now (decimal c.args.seam) c.in-Some.ensures.some h)),
 )
 
 pub returns-in-None : goal.returns-in-None
