@@ -1,0 +1,7 @@
+//! The table of an audit: its data, what it says of a source as it is, and its conditions.
+#![tactic(auto)]
+
+pub mod laws;
+mod table;
+
+pub use table::{AuditTable, Group};

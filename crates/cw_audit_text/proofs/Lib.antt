@@ -1,0 +1,4 @@
+-- The proofs.
+pub mod Puts
+pub mod Lines
+pub mod Behind

@@ -1,0 +1,47 @@
+-- Working definitions: a line by its first word.
+use Rattle.std.specs.Prelude.{◌≡◌, ℕ, List, [], ◌∷◌, codes}
+use Rattle.std.specs.Fmt.{decimal}
+use Rattle.cw_text.specs.Moves.{move_name, IsEnvironments}
+use Rattle.cw_audit_text.specs.declared.text_line.TextLine.{TextLine}
+use Rattle.cw_audit_text.specs.declared.text_line.TextLine.TheVariants.{Head, States, Meets, Violates, Go, In, At, End}
+use Rattle.cw_audit_text.specs.declared.text_line.Kind.{Kind}
+use Rattle.cw_audit_text.specs.declared.text_line.Kind.TheVariants as kind
+use Rattle.cw_audit_text.specs.TextLines.{FitsLine}
+
+abbrev pub kind_in : TextLine → Kind
+kind_in Head = kind.Head
+kind_in (States n) = kind.States
+kind_in Meets = kind.Meets
+kind_in (Violates T) = kind.Violates
+kind_in (Go by) = kind.Go by
+kind_in (In f q r) = kind.In
+kind_in (At p x a) = kind.At
+kind_in End = kind.End
+
+abbrev pub kind_word : Kind → List ℕ
+kind_word kind.Head = codes "capweave"
+kind_word kind.States = codes "states"
+kind_word kind.Meets = codes "meets"
+kind_word kind.Violates = codes "violates"
+kind_word (kind.Go by) = move_name by
+kind_word kind.In = codes "in"
+kind_word kind.At = codes "at"
+kind_word kind.End = codes "end"
+
+abbrev pub rest_words : TextLine → List (List ℕ)
+rest_words Head = codes "audit" ∷ codes "1" ∷ []
+rest_words (States n) = decimal n ∷ []
+rest_words Meets = []
+rest_words (Violates T) = decimal T ∷ []
+rest_words (Go by) = []
+rest_words (In f q r) = decimal f ∷ decimal q ∷ decimal r ∷ []
+rest_words (At p x a) = decimal p ∷ decimal x ∷ decimal a ∷ []
+rest_words End = []
+
+abbrev pub FitsKind : Kind → Type 0
+FitsKind (kind.Go by) = IsEnvironments by
+FitsKind k = Unit {0}
+
+pub record IsOf (k : Kind) (l : TextLine) : Type 0 where
+  pub fits : FitsLine l
+  pub kind : kind_in l ≡ k

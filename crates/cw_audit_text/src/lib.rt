@@ -1,0 +1,11 @@
+//! Audits as text, written and read.
+#![tactic(auto)]
+
+mod fault;
+mod printing;
+mod reading;
+mod text_line;
+
+pub use fault::AuditTextFault;
+pub use printing::{print_audit, put_audit};
+pub use reading::read_audit;
