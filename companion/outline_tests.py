@@ -30,7 +30,7 @@ CSMITH = ["/usr/include/csmith", "/usr/local/include/csmith"]
 passed, failed = 0, []
 
 
-def ran(words, folder, feed=b"", limit=60, **more):
+def ran(words, folder, feed=b"", limit=600, **more):
     return subprocess.run(words, cwd=folder, input=feed, stdout=subprocess.PIPE, stderr=subprocess.PIPE, timeout=limit, **more)
 
 
@@ -61,7 +61,7 @@ def standin_flags():
 
 
 def compiled(folder, source, program, flags=(), woven=False, enforce=False):
-    words = [os.environ.get("CC", "cc"), "-w", "-O1", "-o", program, source] + list(flags)
+    words = [os.environ.get("CC", "cc"), "-w", "-O0", "-o", program, source] + list(flags)
     if woven:
         words += ["-I" + EXAMPLES, os.path.join(EXAMPLES, "capweave.c")] + (standin_flags() if enforce else ["-DCW_STANDIN"])
     return ran(words, folder)
@@ -203,6 +203,8 @@ def part_flow(folder, long):
             break
         text = Flow(seed).text()
         gc.collect()
+        if long and seed % 50 == 0:
+            print("flow %d: %s" % (seed, counts), flush=True)
         put(folder, "flow.c", text)
         chance = random.Random(seed)
         labels = re.findall(r"(?m)^\s*(\w+):$", text)
@@ -499,7 +501,7 @@ def part_csmith(folder, long):
         counts["split"] += "CW_INTO(" in text and re.search(r"CW_INTO\(\d+,1,", text) is not None
         counts["limited"] += b"limit" in run.stdout
         woven = compiled(folder, "woven.c", "woven", flags + ["-O0"], woven=True)
-        other = ran([os.path.join(folder, "woven")], folder, limit=60) if woven.returncode == 0 else woven
+        other = ran([os.path.join(folder, "woven")], folder) if woven.returncode == 0 else woven
         counts["compared"] += 1
         if same.returncode or (one.returncode, one.stdout) != (other.returncode, other.stdout):
             if same.returncode == 0 and undefined(folder, flags):
@@ -1146,7 +1148,7 @@ def part_edges(folder, long):
             if not told(run.returncode == 0, "edges, weave %s, %s" % (label, form), run.stderr.decode()):
                 continue
             told(outline(["same", "e.woven.c", "e.c"], folder).returncode == 0, "edges, same, " + form)
-            for compiler in compilers if label in ("l12", "end") else compilers[:1]:
+            for compiler in compilers if label in ("l12", "end") and (long or not number) else compilers[:long or number < 2]:
                 plain = ran([compiler, "-w", "-o", "plain", "e.c"] + flags, folder)
                 woven = ran([compiler, "-w", "-o", "woven", "e.woven.c"] + flags + ["-DCW_STANDIN", "-I" + EXAMPLES, os.path.join(EXAMPLES, "capweave.c")], folder)
                 if not told(plain.returncode == 0 and woven.returncode == 0, "edges, %s, %s" % (compiler, form), (plain.stderr + woven.stderr).decode()[-800:]):

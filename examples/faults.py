@@ -21,7 +21,7 @@ import time
 
 HERE = os.path.dirname(os.path.abspath(__file__))
 HEADER = os.path.join(HERE, "capweave.c")
-SECONDS = 20
+SECONDS = 60
 
 # f sees what it isn't to see in a process of its own; `work` and `after` are in another file
 SPLIT = 'format = 1\nsplit = ["f"]\n[[at]]\nlabel = "a"\nnever = ["amb"]\n[[at]]\nlabel = "b"\nmust = ["amb"]\n'
@@ -267,7 +267,7 @@ class Trials:
 
     def left(self):
         """Whether processes are left that the woven program made. This process is their parent then."""
-        for _ in range(40):
+        for _ in range(200):
             try:
                 ended, _ = os.waitpid(-1, os.WNOHANG)
             except ChildProcessError:

@@ -308,7 +308,10 @@ class Model:
         told = done.stdout.split(".end\n")[:-1]
         if len(told) != len(jobs):
             raise RuntimeError("batch %d answered %d of %d tapes" % (batch, len(told), len(jobs)))
-        return [self.compare(programs[place], tape, text) for (place, tape), text in zip(jobs, told)]
+        counts = [self.compare(programs[place], tape, text) for (place, tape), text in zip(jobs, told)]
+        for name in [] if self.options.keep else ["%d.%s" % (number, kind) for number in numbers for kind in ("toml", "c", "woven.c", "tape")]:
+            os.remove(os.path.join(self.folder, name))
+        return counts
 
     def compare(self, program, tape, text):
         head, _, rest = text.partition("\n")
