@@ -123,8 +123,7 @@ row("explain", "explain lines.toml lines.c", {"lines.toml": LINES_POLICY, "lines
 row("explain: rules that want it together", "explain p.toml s.c", {"p.toml": policy(descriptor("0"), limit("0"), at("a", never="amb;0:CAP_READ"), at("b", must="amb;0:CAP_READ"),
     head='split = ["f"]\n'), "s.c": CALLED}, 0, [
     "s.c:1:14: note: label a: limit 0 (standard input) to nothing, enter; for p.toml:10 (never amb, never 0:CAP_READ)",
-    "s.c:2:22: note: call of f: run f in a process of its own; for p.toml:10 (never amb), p.toml:13 (must amb)",
-    "s.c:1:14: note: without what is inserted, the shortest run that violates the policy", "s.c:2:22: note: 1. call of f", "s.c:1:14: note: 2. label a: ambient, 0 open with all rights"], out=True, front=True)
+    "s.c:2:22: note: call of f: run f in a process of its own; for p.toml:10 (never amb), p.toml:13 (must amb)"], out=True, front=True)
 row("explain: refuted", "explain p.toml lines.c", {"p.toml": MUST_READ, "lines.c": LINES}, 1, [
     "p.toml:9:9: error: no placement of calls can meet this policy: 'parse must in:CAP_READ' can't be met",
     "lines.c:31:5: note: 1. the condition doesn't hold",

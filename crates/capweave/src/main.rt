@@ -24,34 +24,49 @@ fn end_without_memory(rt: &HostRuntime) -> ExitCode {
     ExitCode::from(MEMORY)
 }
 
-/// A word as text. In place of one that isn't UTF-8 stands a dash: as the first word it names no command, behind it the file `-`.
-fn text_of(rt: &HostRuntime, word: &[u8]) -> Result<String, NoMemory> {
+/// What stands at a place of the command line.
+#[derive(Drop)]
+enum Word {
+    /// Nothing: it is behind the last word.
+    Nothing,
+    /// A word of UTF-8.
+    Text(String),
+    /// A word of other bytes.
+    Bytes,
+}
+
+/// A word, if it is UTF-8.
+fn text_of(rt: &HostRuntime, word: &[u8]) -> Result<Word, NoMemory> {
     match str::from_utf8(word) {
-        Ok(text) => Ok(String::from_str(rt.alloc(), text)?),
-        Err(_) => Ok(String::from_str(rt.alloc(), "-")?),
+        Ok(text) => Ok(Word::Text(String::from_str(rt.alloc(), text)?)),
+        Err(_) => Ok(Word::Bytes),
     }
 }
 
-/// The word of a number, counted from the program's name, or None behind the last. A system's words are shorter than 2 GB.
-fn word_at(rt: &HostRuntime, number: usize) -> Result<Option<String>, NoMemory> {
+/// The word of a number, counted from the program's name. A system's words are shorter than 2 GB.
+fn word_at(rt: &HostRuntime, number: usize) -> Result<Word, NoMemory> {
     for bits in 8_u32..32 {
         let mut word = vec![in rt.alloc(); 0_u8; 1_usize << bits]?;
         match rt.arg(number, &mut word) {
-            Ok(length) => return Ok(Some(text_of(rt, &word[..length])?)),
-            Err(FillError::NotPresent) => return Ok(None),
+            Ok(length) => return text_of(rt, &word[..length]),
+            Err(FillError::NotPresent) => return Ok(Word::Nothing),
             Err(FillError::TooLong) => {}
         }
     }
     Err(NoMemory)
 }
 
-/// The words behind the program's name, which may be any bytes.
+/// The words behind the program's name. Where one isn't UTF-8, the first of them alone, if that is: one word fits no command.
 fn words_of(rt: &HostRuntime) -> Result<Vec<String>, NoMemory> {
     let mut words = Vec::new(rt.alloc());
     for number in 1..usize::MAX {
         match word_at(rt, number)? {
-            Some(word) => words.push(word)?,
-            None => break,
+            Word::Text(word) => words.push(word)?,
+            Word::Bytes => {
+                words.truncate(1);
+                break;
+            }
+            Word::Nothing => break,
         }
     }
     Ok(words)

@@ -34,9 +34,10 @@ use Rattle.cw_commands.specs.declared.outcome.Reply.TheVariants.{Yes, No}
 use Rattle.cw_commands.specs.Outcomes.{Due, Told}
 use Rattle.cw_cli.specs.Agreeing.{RefutedIsJudged, WovenIsChecked}
 use Rattle.cw_cli.specs.Checking.{AfterPolicy, AfterWoven, IsCheckDue}
-use Rattle.cw_cli.specs.Reading.{IsUnread}
-use Rattle.cw_cli.specs.Refuting.{yes, AfterPair as AfterRefutePair, AfterStrategy, IsRefuteDue}
-use Rattle.cw_cli.proofs.OneGame.{AreAlike, no_cause, one_game}
+use Rattle.cw_stages.specs.Reading.{IsUnread}
+use Rattle.cw_stages.specs.Refusals.{yes}
+use Rattle.cw_cli.specs.Refuting.{AfterPair as AfterRefutePair, AfterStrategy, IsRefuteDue}
+use Rattle.cw_stages.proofs.OneGame.{AreAlike, no_cause, one_game}
 use Rattle.cw_cli.proofs.Winning.{IsWon, game_made, won}
 
 -- the graphs of a program are alike
@@ -73,14 +74,14 @@ module _ (policy source text : List ℕ) where
 
     checked_won : IsCheckDue policy text (Told Yes yes)
     checked_won =
-        inr (w.whole, w.are.spelled, inr (source, w.file, table, read_won, inr (w.fits, w.graph, w.drawn, inr (w.held, w.is_game, w.of, inl (w.verdict.good, refl, w.verdict.sound)))))
+        inr (w.whole, w.are.spelled, inr (source, w.file, table, read_won, inr (w.fits, w.graph, w.drawn, inr (w.held, w.is_game, w.made, w.of, inl (w.verdict.good, refl, w.verdict.sound)))))
 
     after_reading : (due : Due) → AfterWoven source w.whole w.file table due → due ≡ Told Yes yes
     after_reading due (inl (f, is, e)) = absurd (fits_once source w.file w.whole f w.fits is)
     after_reading due (inr (fits, graph, drawn, inl (f, ne, cause, e))) =
         absurd (no_cause w.whole w.graph graph (alike w.whole source w.file w.graph graph w.drawn drawn) w.held f w.is_game w.made ne cause)
-    after_reading due (inr (fits, graph, drawn, inr (held, is, of, inl (good, e, sound)))) = e
-    after_reading due (inr (fits, graph, drawn, inr (held, is, of, inr (f, fails, e)))) =
+    after_reading due (inr (fits, graph, drawn, inr (held, is, made, of, inl (good, e, sound)))) = e
+    after_reading due (inr (fits, graph, drawn, inr (held, is, made, of, inr (f, fails, e)))) =
         let same = one_game w.whole w.graph graph (alike w.whole source w.file w.graph graph w.drawn drawn) w.held held w.is_game is in
         absurd (none-some f (sym w.verdict.good ∙ ap (λ (g : Game). table_fault g table) same ∙ fails))
 
@@ -107,15 +108,15 @@ module _ (policy source text : List ℕ) where
 
     judged_won : IsRefuteDue policy source text (Told Yes yes)
     judged_won =
-        inr (w.whole, w.file, w.are, inr (strategy, spelled_won, inr (w.fits, inr (w.graph, w.drawn, inr (w.held, w.is_game, w.of, inl (w.verdict.good, refl, w.verdict.wins))))))
+        inr (w.whole, w.file, w.are, inr (strategy, spelled_won, inr (w.fits, inr (w.few, w.graph, w.drawn, inr (w.held, w.is_game, w.made, w.of, inl (w.verdict.good, refl, w.verdict.wins))))))
 
     after_strategy : (due : Due) → AfterStrategy source w.whole w.file strategy due → due ≡ Told Yes yes
     after_strategy due (inl (f, is, e)) = absurd (fits_once source w.file w.whole f w.fits is)
     after_strategy due (inr (fits, inl (many, e))) = let few = w.few in absurd (omega (arith, many, few))
-    after_strategy due (inr (fits, inr (graph, drawn, inl (f, ne, cause, e)))) =
+    after_strategy due (inr (fits, inr (few, graph, drawn, inl (f, ne, cause, e)))) =
         absurd (no_cause w.whole w.graph graph (alike w.whole source w.file w.graph graph w.drawn drawn) w.held f w.is_game w.made ne cause)
-    after_strategy due (inr (fits, inr (graph, drawn, inr (held, is, of, inl (good, e, wins))))) = e
-    after_strategy due (inr (fits, inr (graph, drawn, inr (held, is, of, inr (f, fails, e))))) =
+    after_strategy due (inr (fits, inr (few, graph, drawn, inr (held, is, made, of, inl (good, e, wins))))) = e
+    after_strategy due (inr (fits, inr (few, graph, drawn, inr (held, is, made, of, inr (f, fails, e))))) =
         let same = one_game w.whole w.graph graph (alike w.whole source w.file w.graph graph w.drawn drawn) w.held held w.is_game is in
         absurd (none-some f (sym w.verdict.good ∙ ap (λ (g : Game). strategy_fault g strategy) same ∙ fails))
 

@@ -1,24 +1,31 @@
 -- What comes behind the stages of `weave`: the verdict with its numbers, the verdict alone, and the lines of a sample.
-use Rattle.std.proofs.Common.{◌≡◌, ℕ, List, length, ap, ◌∙◌, subst, inl, inr}
+use Rattle.std.proofs.Common.{◌≡◌, ℕ, ◌≤◌, List, [], inl, inr}
+use Rattle.cw_core.specs.Quantities.{limit_of}
+use Rattle.cw_core.specs.declared.quantity.Quantity.TheVariants.{Points}
 use Rattle.cw_rights.specs.Policies.{PlainPolicy}
 use Rattle.cw_syntax.specs.Plans.{plan_of}
 use Rattle.cw_syntax.specs.Trees.{File}
 use Rattle.cw_resolve.specs.Scenes.{names_of}
 use Rattle.cw_points.specs.declared.graph.Graph.{Graph}
 use Rattle.cw_points.specs.Graphs.{IsGraph}
-use Rattle.cw_positions.proofs.Leading.{length_nodes}
+use Rattle.cw_points.specs.Points.{point_count}
+use Rattle.cw_model.specs.Boards.{problem_of}
 use Rattle.cw_game.specs.Games.{Game}
+use Rattle.cw_game.specs.Standing.{IsGameOf}
+use Rattle.cw_product.specs.Made.{IsMade}
 use Rattle.cw_product.specs.Product.{Held, game_of}
-use Rattle.cw_solve.specs.Contexts.{cells_of, AreTheNeeded}
-use Rattle.cw_solve.specs.Solved.{Held as Solved}
+use Rattle.cw_callgraph.specs.Fitting.{Fits}
 use Rattle.cw_commands.specs.declared.outcome.Reply.{Reply}
 use Rattle.cw_commands.specs.declared.outcome.Reply.TheVariants.{Yes, No}
 use Rattle.cw_commands.specs.Outcomes.{Due, Told, Refused}
-use Rattle.cw_cli.specs.declared.numbers.Numbers.{Numbers}
-use Rattle.cw_cli.specs.Counting.{AreNumbers, IsCounted}
-use Rattle.cw_cli.specs.Verdicts.{AfterCells, AfterGame, IsVerdict}
-use Rattle.cw_cli.specs.Weaving.{AfterFit, AfterFitting, AfterGraph, AfterPair, IsWeaveDue, Weaves}
-use Rattle.cw_cli.proofs.Winning.{never_game, never_unread}
+use Rattle.cw_stages.specs.declared.numbers.Numbers.{Numbers}
+use Rattle.cw_stages.specs.Counting.{IsCounted}
+use Rattle.cw_stages.specs.Games.{IsGame, WithGame, WithGraph}
+use Rattle.cw_stages.specs.Reading.{IsSourceUnread, WithSource}
+use Rattle.cw_stages.specs.Stops.{Nothing}
+use Rattle.cw_stages.specs.Verdicts.{AfterCells, AfterGame, IsVerdict}
+use Rattle.cw_cli.specs.Weaving.{AfterFit, AfterPair}
+use Rattle.cw_cli.proofs.Winning.{never_game}
 
 -- what stands behind the stages gives way to what follows from it
 module _ (Next Other : Game → Due → Type 0) (due : Due) (to : (g : Game) → Next g due → Other g due) where
@@ -30,11 +37,11 @@ module _ (Next Other : Game → Due → Type 0) (due : Due) (to : (g : Game) →
   by_game g (inl many) = inl many
   by_game g (inr (few, next)) = inr (few, by_cells g next)
 
-  by_graph : (source : List ℕ) (whole : PlainPolicy) (file : File) (graph : Graph) → AfterGraph Next source whole file graph due → AfterGraph Other source whole file graph due
+  by_graph : (source : List ℕ) (whole : PlainPolicy) (file : File) (graph : Graph) → WithGame (AfterGame Next) source whole file graph due → WithGame (AfterGame Other) source whole file graph due
   by_graph source whole file graph (inl over) = inl over
   by_graph source whole file graph (inr (held, is, made, of, next)) = inr (held, is, made, of, by_game (game_of held) next)
 
-  by_fitting : (source : List ℕ) (whole : PlainPolicy) (file : File) → AfterFitting Next source whole file due → AfterFitting Other source whole file due
+  by_fitting : (source : List ℕ) (whole : PlainPolicy) (file : File) → WithGraph (AfterGame Next) source whole file due → WithGraph (AfterGame Other) source whole file due
   by_fitting source whole file (inl many) = inl many
   by_fitting source whole file (inr (few, graph, drawn, next)) = inr (few, graph, drawn, by_graph source whole file graph next)
 
@@ -63,40 +70,33 @@ verdict_of numbers whole source file (Told Yes text) g (woven, rows, are) = wove
 verdict_of numbers whole source file (Told No text) g (refuted, rows, are) = refuted
 verdict_of numbers whole source file (Refused cause line) g h = absurd h
 
-module _ (Next Other : PlainPolicy → File → Game → Due → Type 0) (policy source : List ℕ) where
-  pub weaves_by : (due : Due) → ((whole : PlainPolicy) (file : File) (g : Game) → Next whole file g due → Other whole file g due) → Weaves Next policy source due → Weaves Other policy source due
-  weaves_by due to (inl unread) = inl unread
-  weaves_by due to (inr (whole, file, are, next)) = inr (whole, file, are, by_pair (Next whole file) (Other whole file) due (to whole file) source whole file next)
+module _ (whole : PlainPolicy) (source : List ℕ) (Next Other : File → Game → Due → Type 0) where
+  by_source : (due : Due) → ((file : File) (g : Game) → Next file g due → Other file g due)
+      → WithSource (λ file. AfterPair (Next file) source whole file) source whole due → WithSource (λ file. AfterPair (Other file) source whole file) source whole due
+  by_source due to (inl unread) = inl unread
+  by_source due to (inr (file, reads, descriptors, next)) = inr (file, reads, descriptors, by_pair (Next file) (Other file) due (to file) source whole file next)
 
-  pub weaves_told : (r : Reply) (text told : List ℕ) → ((whole : PlainPolicy) (file : File) (g : Game) → Next whole file g (Told r text) → Other whole file g (Told r told))
-      → Weaves Next policy source (Told r text) → Weaves Other policy source (Told r told)
-  weaves_told r text told to (inl unread) = absurd (never_unread policy source r text unread)
-  weaves_told r text told to (inr (whole, file, are, next)) = inr (whole, file, are, tell_pair (Next whole file) (Other whole file) r text told (to whole file) source whole file next)
+  never_source : (r : Reply) (text : List ℕ) → IsSourceUnread source whole (Told r text) → ⊥
+  never_source r text (inl (f, is, ne, e)) = cc
+  never_source r text (inr (file, reads, (f, is, e))) = cc
 
--- what is due with its numbers is due for `weave`
-pub is_weave_due : (numbers : Numbers) (policy source : List ℕ) (due : Due) → Weaves (λ whole file. IsCounted numbers whole source file) policy source due → IsWeaveDue policy source due
-is_weave_due numbers policy source due h =
-    weaves_by (λ whole file. IsCounted numbers whole source file) (λ whole file. IsVerdict whole source file) policy source due (λ whole file g. verdict_of numbers whole source file due g) h
+  pub tell_source : (r : Reply) (text told : List ℕ) → ((file : File) (g : Game) → Next file g (Told r text) → Other file g (Told r told))
+      → WithSource (λ file. AfterPair (Next file) source whole file) source whole (Told r text) → WithSource (λ file. AfterPair (Other file) source whole file) source whole (Told r told)
+  tell_source r text told to (inl unread) = absurd (never_source r text unread)
+  tell_source r text told to (inr (file, reads, descriptors, next)) = inr (file, reads, descriptors, tell_pair (Next file) (Other file) r text told (to file) source whole file next)
 
--- what is known of the numbers of a solved game
-pub record AreKept (game : Held) (solved : Solved) (numbers : Numbers) (rows : ℕ) : Type 0 where
-  pub same : solved.game ≡ game
-  pub needed : AreTheNeeded (game_of solved.game) solved.contexts
-  pub points : numbers.points ≡ length game.graph.nodes.items
-  pub positions : numbers.positions ≡ length (game_of game).spots
-  pub states : numbers.states ≡ (game_of game).states.count
-  pub contexts : numbers.contexts ≡ length solved.contexts
-  pub cells : numbers.cells ≡ cells_of (game_of solved.game) solved.contexts
-  pub are_rows : numbers.rows ≡ rows
+-- what is due with its numbers is due for `weave`, and what is due with no verdict whatever that is
+pub verdict_due : (numbers : Numbers) (whole : PlainPolicy) (source : List ℕ) (due : Due) → WithSource (λ file. AfterPair (IsCounted numbers whole source file) source whole file) source whole due
+    → WithSource (λ file. AfterPair (IsVerdict whole source file) source whole file) source whole due
+verdict_due numbers whole source due h =
+    by_source whole source (λ file. IsCounted numbers whole source file) (λ file. IsVerdict whole source file) due (λ file g. verdict_of numbers whole source file due g) h
 
-pub are_numbers : (game : Held) (solved : Solved) (numbers : Numbers) (rows : ℕ) (whole : PlainPolicy) (source : List ℕ) (file : File) → IsGraph (names_of whole) source file game.graph
-    → AreKept game solved numbers rows → AreNumbers whole source file (game_of game) numbers
-are_numbers game solved numbers rows whole source file drawn kept = record {
-  contexts = solved.contexts;
-  needed = subst (λ (h : Held). AreTheNeeded (game_of h) solved.contexts) kept.same kept.needed;
-  are_points = kept.points ∙ ap length drawn.nodes ∙ length_nodes (plan_of (names_of whole) source file);
-  are_positions = kept.positions;
-  are_states = kept.states;
-  are_contexts = kept.contexts;
-  are_cells = kept.cells ∙ ap (λ (h : Held). cells_of (game_of h) solved.contexts) kept.same;
-}
+pub no_verdict : (Next : File → Game → Due → Type 0) (whole : PlainPolicy) (source : List ℕ) (due : Due) → WithSource (λ file. AfterPair Nothing source whole file) source whole due
+    → WithSource (λ file. AfterPair (Next file) source whole file) source whole due
+no_verdict Next whole source due h = by_source whole source (λ file. Nothing) Next due (λ file g never. absurd never) h
+
+-- what comes behind the game of a program comes behind the program
+pub behind_game : (Next : Game → Due → Type 0) (source : List ℕ) (whole : PlainPolicy) (file : File) (due : Due) → Fits source file whole → whole.detached ≡ []
+    → point_count (plan_of (names_of whole) source file) ≤ limit_of Points → (graph : Graph) → IsGraph (names_of whole) source file graph → (held : Held) → IsGame whole graph held → IsMade held
+    → IsGameOf (problem_of whole source file) (game_of held) → AfterGame Next (game_of held) due → AfterPair Next source whole file due
+behind_game Next source whole file due fits none few graph drawn held is made of h = inr (fits, inr (none, inr (few, graph, drawn, inr (held, is, made, of, h))))

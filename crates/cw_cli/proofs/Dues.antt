@@ -14,7 +14,7 @@ use Rattle.cw_cli.specs.Refuting.{IsRefuteDue}
 use Rattle.cw_cli.specs.Running.{IsRunDue}
 use Rattle.cw_cli.specs.Sampling.{IsSampleDue}
 use Rattle.cw_cli.specs.Weaving.{IsWeaveDue}
-use Rattle.cw_cli.proofs.Refused.{if_ok}
+use Rattle.cw_stages.proofs.Refusing.{if_ok}
 
 module _ {A : Type 0} (f : A → List ℕ) where
   pub none_of : (xs : List A) → length xs ≡ 0 → map f xs ≡ []

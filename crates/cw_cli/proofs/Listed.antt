@@ -1,5 +1,5 @@
 -- The lines of a program's graph are due for its source.
-use Rattle.std.proofs.Common.{◌≡◌, ℕ, suc, ◌+◌, ◌≤◌, ◌<◌, List, [], ◌∷◌, length, map, Vec, Global, Some, refl, sym, ap, ap₂, ◌∙◌, subst, arith, inl}
+use Rattle.std.proofs.Common.{◌≡◌, ℕ, suc, ◌+◌, ◌≤◌, ◌<◌, List, [], ◌∷◌, length, map, Vec, Global, Some, refl, sym, ap, ap₂, ◌∙◌, subst, inl, arith}
 use Rattle.std.specs.Prelude.{slice_get}
 use Rattle.std.specs.List.{range_with_len}
 use Rattle.std.proofs.lemmas.List.{length-map}
@@ -8,20 +8,17 @@ use Rattle.cw_syntax.specs.Names.{Names}
 use Rattle.cw_syntax.specs.Plans.{Plan, plan_of, function_names}
 use Rattle.cw_syntax.specs.Trees.{File, definition_of, file_of}
 use Rattle.cw_points.specs.declared.graph.Graph.{Graph}
-use Rattle.cw_points.specs.Graphs.{IsGraph, splits_of}
+use Rattle.cw_points.specs.Graphs.{IsGraph}
 use Rattle.cw_points.specs.Points.{point_count}
-use Rattle.cw_points.proofs.Laying.{splits_length}
 use Rattle.cw_callgraph.specs.Effects.{calls, Each}
 use Rattle.cw_resolve.specs.Held.{lists}
 use Rattle.cw_resolve.specs.Labels.{label_names}
 use Rattle.cw_listing.specs.Listing.{graph_text}
-use Rattle.cw_source.proofs.Starting.{functions_few}
-use Rattle.cw_source.specs.Read.{ReadsAs}
 use Rattle.cw_core.specs.declared.quantity.Quantity.TheVariants.{Points}
 use Rattle.cw_commands.specs.declared.outcome.Outcome.{Outcome}
 use Rattle.cw_commands.specs.Outcomes.{due_of}
 use Rattle.cw_cli.specs.Listings.{call_lists, own_names, IsListed, IsListing}
-use Rattle.cw_cli.specs.Refusals.{over as over_limit}
+use Rattle.cw_stages.specs.Refusals.{over as over_limit}
 
 rows_from : (plan : Plan) (k : ℕ) (rows : List (Vec ℕ Global)) → ((f : ℕ) (row : Vec ℕ Global) → slice_get rows f ≡ Some row → row.items ≡ calls plan (k + f))
     → lists rows ≡ map (calls plan) (range_with_len k (length rows))
@@ -39,19 +36,6 @@ rows_are plan n rows count h =
     rows_from plan 0 rows (λ f row s. h f row s ∙ ap (calls plan) (none f)) ∙ ap (λ k. map (calls plan) (range_with_len 0 k)) count
 
 module _ (names : Names) (source : List ℕ) where
-  -- a program that is read has few functions
-  pub few_functions : (p : Program) → ReadsAs source (file_of p) → length p.functions.items ≤ 65535
-  few_functions p reads =
-      omega (
-        arith,
-        functions_few names source (file_of p) reads,
-        splits_length names source (file_of p),
-        splits_many p,
-      )
-    where
-      splits_many : (q : Program) → length (splits_of names source (file_of q)) ≡ length q.functions.items
-      splits_many q = length-map (file_of q).functions _ ∙ length-map q.functions.items definition_of
-
   pub is_listing : (p : Program) (g : Graph) (bytes : List ℕ) → names ≡ own_names source (file_of p) → IsGraph names source (file_of p) g
       → bytes ≡ graph_text (function_names source (file_of p)) names.labels [] (call_lists (plan_of names source (file_of p)) (length p.functions.items)) g
       → IsListing source (file_of p) bytes

@@ -1,44 +1,46 @@
 -- What is due for a sample, from what is due for its texts.
-use Rattle.std.proofs.Common.{◌≡◌, ◌≤◌, ℕ, List, length, subst}
+use Rattle.std.proofs.Common.{◌≡◌, ◌≤◌, ℕ, List, length, refl, sym, subst}
 use Rattle.cw_rights.specs.Policies.{PlainPolicy}
-use Rattle.cw_syntax.specs.Trees.{File}
-use Rattle.cw_game.specs.Games.{Game}
+use Rattle.cw_policy.specs.Answer.{Spells}
 use Rattle.cw_sample.specs.Samples.{sample_policy, sample_source}
-use Rattle.cw_commands.specs.declared.outcome.Cause.{Cause}
 use Rattle.cw_commands.specs.declared.outcome.Reply.{Reply}
 use Rattle.cw_commands.specs.declared.outcome.Reply.TheVariants.{Yes, No}
-use Rattle.cw_commands.specs.Outcomes.{Due, Told, Refused}
-use Rattle.cw_cli.specs.declared.numbers.Numbers.{Numbers}
+use Rattle.cw_commands.specs.Outcomes.{Due, Told}
+use Rattle.cw_stages.specs.declared.numbers.Numbers.{Numbers}
+use Rattle.cw_stages.specs.Counting.{IsCounted}
+use Rattle.cw_stages.specs.Reading.{WithSource}
+use Rattle.cw_stages.specs.Refusals.{yes, IsPolicyRefusal}
+use Rattle.cw_stages.specs.Verdicts.{IsVerdict}
+use Rattle.cw_stages.proofs.Answering.{read_behind}
 use Rattle.cw_cli.specs.Checking.{IsCheckDue}
-use Rattle.cw_cli.specs.Counting.{IsCounted}
-use Rattle.cw_cli.specs.Refuting.{yes, IsRefuteDue}
-use Rattle.cw_cli.specs.Sampling.{summary, IsSampleDue, IsSummed}
-use Rattle.cw_cli.specs.Weaving.{IsWeaveDue, Weaves}
+use Rattle.cw_cli.specs.Refuting.{IsRefuteDue}
+use Rattle.cw_cli.specs.Sampling.{summary, AfterPolicy, IsSampleDue, IsSummed}
+use Rattle.cw_cli.specs.Weaving.{AfterPair, IsWeaveDue}
 use Rattle.cw_cli.proofs.Agreeing.{refuted_is_judged, woven_is_checked}
-use Rattle.cw_cli.proofs.Counted.{is_weave_due, weaves_by, weaves_told}
+use Rattle.cw_cli.proofs.Counted.{tell_source, verdict_due}
 
-module _ (number : ℕ) (numbers : Numbers) where
-  abbrev Counted : PlainPolicy → File → Game → Due → Type 0
-  Counted whole file = IsCounted numbers whole (sample_source number) file
+module _ (numbers : Numbers) (whole : PlainPolicy) (source : List ℕ) where
+  -- what is due with its numbers is told by them
+  pub summed_due : (number : ℕ) (r : Reply) (text : List ℕ) (due : Due) → due ≡ Told r (summary number numbers r)
+      → WithSource (λ file. AfterPair (IsCounted numbers whole source file) source whole file) source whole (Told r text) → AfterPolicy number source whole due
+  summed_due number r text due e h =
+      subst (AfterPolicy number source whole) (sym e)
+      (tell_source whole source (λ file. IsCounted numbers whole source file) (λ file. IsSummed number whole source file) r text (summary number numbers r)
+      (λ file g counted. (text, numbers, counted, refl)) h)
 
-  -- of the texts that code has, which are the sample's
-  of_texts : (policy source : List ℕ) (due : Due) → policy ≡ sample_policy → source ≡ sample_source number
-      → Weaves (λ whole file. IsCounted numbers whole source file) policy source due → Weaves Counted sample_policy (sample_source number) due
-  of_texts policy source due same_policy same_source h =
-      let one = subst (λ (s : List ℕ). Weaves (λ whole file. IsCounted numbers whole s file) policy s due) same_source h in
-      subst (λ (p : List ℕ). Weaves Counted p (sample_source number) due) same_policy one
+  -- and is due for `weave`, also where the same text is called otherwise
+  pub due_again : (policy : List ℕ) (r : Reply) (text other : List ℕ) → Spells policy whole → text ≡ other
+      → WithSource (λ file. AfterPair (IsCounted numbers whole source file) source whole file) source whole (Told r text) → IsWeaveDue policy source (Told r other)
+  due_again policy r text other spells e h =
+      subst (λ (t : List ℕ). IsWeaveDue policy source (Told r t)) e
+      (read_behind (λ p file. AfterPair (IsVerdict p source file) source p file) policy source whole (Told r text) spells (verdict_due numbers whole source (Told r text) h))
 
-  pub refused_due : (policy source : List ℕ) (cause : Cause) (line : List ℕ) → policy ≡ sample_policy → source ≡ sample_source number
-      → Weaves (λ whole file. IsCounted numbers whole source file) policy source (Refused cause line) → IsSampleDue number (Refused cause line)
-  refused_due policy source cause line same_policy same_source h =
-      weaves_by Counted (IsSummed number) sample_policy (sample_source number) (Refused cause line) (λ whole file g never. absurd never)
-      (of_texts policy source (Refused cause line) same_policy same_source h)
-
-  pub summed_due : (policy source : List ℕ) (r : Reply) (text told : List ℕ) → policy ≡ sample_policy → source ≡ sample_source number → told ≡ summary number numbers r
-      → Weaves (λ whole file. IsCounted numbers whole source file) policy source (Told r text) → IsSampleDue number (Told r told)
-  summed_due policy source r text told same_policy same_source is h =
-      weaves_told Counted (IsSummed number) sample_policy (sample_source number) r text told (λ whole file g counted. (text, numbers, counted, is))
-      (of_texts policy source (Told r text) same_policy same_source h)
+-- the policy and the source that the code has are the sample's
+pub sampled_due : (number : ℕ) (policy source : List ℕ) (whole : PlainPolicy) (due : Due) → policy ≡ sample_policy → source ≡ sample_source number → Spells policy whole
+    → AfterPolicy number source whole due → IsSampleDue number due
+sampled_due number policy source whole due same_policy same_source spells h =
+    read_behind (λ p file. AfterPair (IsSummed number p (sample_source number) file) (sample_source number) p file) sample_policy (sample_source number) whole due
+    (subst (λ (t : List ℕ). Spells t whole) same_policy spells) (subst (λ (s : List ℕ). AfterPolicy number s whole due) same_source h)
 
 -- what `weave` is due to write, `check` or `refute` is due to accept
 pub checked_yes : (policy source text : List ℕ) (due : Due) → length source ≤ 262144 → IsWeaveDue policy source (Told Yes text) → IsCheckDue policy text due → due ≡ Told Yes yes
@@ -46,11 +48,3 @@ checked_yes policy source text due short woven is = (woven_is_checked policy sou
 
 pub judged_yes : (policy source text : List ℕ) (due : Due) → IsWeaveDue policy source (Told No text) → IsRefuteDue policy source text due → due ≡ Told Yes yes
 judged_yes policy source text due refuted is = (refuted_is_judged policy source text refuted).1 due is
-
--- what is due with its numbers is due for `weave`, also where the same texts are called otherwise
-pub due_again : (numbers : Numbers) (p p' s s' text text' : List ℕ) (r : Reply) → p ≡ p' → s ≡ s' → text ≡ text'
-    → Weaves (λ whole file. IsCounted numbers whole s file) p s (Told r text) → IsWeaveDue p' s' (Told r text')
-due_again numbers p p' s s' text text' r ep es et h =
-    let one = subst (λ (x : List ℕ). IsWeaveDue x s (Told r text)) ep (is_weave_due numbers p s (Told r text) h) in
-    let two = subst (λ (x : List ℕ). IsWeaveDue p' x (Told r text)) es one in
-    subst (λ (x : List ℕ). IsWeaveDue p' s' (Told r x)) et two

@@ -19,11 +19,11 @@ use Rattle.cw_callgraph.specs.Fitting.{Fits}
 use Rattle.cw_answer_texts.specs.Spelled.{IsGameMade}
 use Rattle.cw_commands.specs.declared.outcome.Reply.{Reply}
 use Rattle.cw_commands.specs.Outcomes.{Told}
-use Rattle.cw_cli.specs.Reading.{AreRead, IsUnread}
-use Rattle.cw_cli.specs.Refuting.{game_refusal, IsGame}
-use Rattle.cw_cli.specs.Verdicts.{IsVerdict}
+use Rattle.cw_stages.specs.Reading.{AreRead, IsUnread}
+use Rattle.cw_stages.specs.Games.{game_refusal, IsGame}
+use Rattle.cw_stages.specs.Verdicts.{IsVerdict}
 use Rattle.cw_cli.specs.Weaving.{IsWeaveDue}
-use Rattle.cw_cli.proofs.Withins.{nodes_few}
+use Rattle.cw_stages.proofs.Withins.{nodes_few}
 
 pub never_game : (r : Reply) (text : List ℕ) (f : GameFault) → Told r text ≡ game_refusal f → ⊥
 never_game r text TooManyCaps e = cc

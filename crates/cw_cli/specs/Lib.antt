@@ -1,15 +1,8 @@
-pub mod Refusals
-pub mod Reading
-pub mod Fitting
 pub mod Refuting
-pub mod Games
-pub mod Verdicts
 pub mod Weaving
-pub mod Counting
 pub mod Sampling
 pub mod Listings
 pub mod Checking
-pub mod Tapes
 pub mod Playing
 pub mod Running
 pub mod CheckingHeld

@@ -1,5 +1,5 @@
 -- What is due for the bytes of a source whose graph is asked for.
-use Rattle.std.specs.Prelude.{◌≡◌, ◌⊎◌, ℕ, ◌<◌, List, [], length, map}
+use Rattle.std.specs.Prelude.{◌≡◌, ◌⊎◌, ℕ, ◌<◌, ◌≤◌, List, [], length, map}
 use Rattle.std.specs.List.{range_with_len}
 use Rattle.cw_core.specs.Quantities.{limit_of}
 use Rattle.cw_core.specs.declared.quantity.Quantity.TheVariants.{Points}
@@ -15,7 +15,7 @@ use Rattle.cw_listing.specs.Listing.{graph_text}
 use Rattle.cw_source.specs.Read.{ReadsAs}
 use Rattle.cw_commands.specs.declared.outcome.Reply.TheVariants.{Yes}
 use Rattle.cw_commands.specs.Outcomes.{Due, Told}
-use Rattle.cw_cli.specs.Refusals.{IsSourceRefusal, over}
+use Rattle.cw_stages.specs.Refusals.{IsSourceRefusal, over}
 
 -- no descriptors and no functions in processes of their own; a label's number is that of its name among the source's
 abbrev pub own_names : List ℕ → File → Names
@@ -32,11 +32,11 @@ IsListing source file text =
     × IsGraph (own_names source file) source file g
     × (text ≡ graph_text (function_names source file) (label_names source file) [] (call_lists (plan_of (own_names source file) source file) (length file.functions)) g)
 
--- That the program has too many points, or the lines of its graph.
+-- That the program has too many points; or it hasn't, and the lines of its graph.
 abbrev pub IsListed : List ℕ → File → Due → Type 0
 IsListed source file due =
     ((limit_of Points < point_count (plan_of (own_names source file) source file)) × (due ≡ over Points))
-    ⊎ ((text : List ℕ) × IsListing source file text × (due ≡ Told Yes text))
+    ⊎ ((point_count (plan_of (own_names source file) source file) ≤ limit_of Points) × (text : List ℕ) × IsListing source file text × (due ≡ Told Yes text))
 
 -- The source is read first.
 abbrev pub IsListingDue : List ℕ → Due → Type 0

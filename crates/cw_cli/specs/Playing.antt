@@ -10,7 +10,6 @@ use Rattle.cw_model.specs.Boards.{problem_of}
 use Rattle.cw_game.specs.Games.{Game}
 use Rattle.cw_game.specs.Conditions.{RowFault, strategy_fault, IsGoodStrategy}
 use Rattle.cw_echeck.specs.Beating.{IsStartRow}
-use Rattle.cw_strategy_text.specs.StrategyText.{Spells}
 use Rattle.cw_trace.specs.Labels.{names_of as told_names}
 use Rattle.cw_trace.specs.Traces.{Taken, trace}
 use Rattle.cw_play.specs.declared.end.PlayEnd.{PlayEnd}
@@ -18,9 +17,10 @@ use Rattle.cw_play.specs.declared.end.PlayEnd.TheVariants.{Violation, TapeSpent}
 use Rattle.cw_play.specs.Plays.{IsPlayBy}
 use Rattle.cw_commands.specs.declared.outcome.Reply.TheVariants.{Yes, No}
 use Rattle.cw_commands.specs.Outcomes.{Due, Told}
-use Rattle.cw_cli.specs.Reading.{AfterReading}
-use Rattle.cw_cli.specs.Refuting.{told, IsStrategyRefusal, WhereFits}
-use Rattle.cw_cli.specs.Tapes.{WithTape}
+use Rattle.cw_stages.specs.Reading.{AfterReading}
+use Rattle.cw_stages.specs.Games.{WhereFits}
+use Rattle.cw_stages.specs.Strategies.{told, WithStrategy}
+use Rattle.cw_stages.specs.Tapes.{WithTape}
 
 -- the name of the rule with this number; a number without a rule has the empty one
 abbrev pub rule_name : PlainPolicy → ℕ → List ℕ
@@ -46,11 +46,13 @@ IsShown source whole file s tape g due =
     (IsGoodStrategy g s × IsPlayTold source whole file g s tape due)
     ⊎ ((f : RowFault) × (strategy_fault g s ≡ Some f) × (due ≡ Told No (told f)))
 
--- That the strategy isn't spelled in the policy's format, that the tape isn't one of the weaver's moves, or what comes behind that.
+-- That the tape isn't one of the weaver's moves, that the policy doesn't fit the program, that no game of theirs comes, or what is told of the strategy.
+abbrev pub AfterStrategy : (source tape : List ℕ) → PlainPolicy → File → Strategy → Due → Type 0
+AfterStrategy source tape whole file s = WithTape (λ moves. WhereFits (IsShown source whole file s moves) source whole file) true tape
+
+-- That the strategy isn't spelled in the policy's format, or what comes behind that.
 abbrev pub AfterPair : (source text tape : List ℕ) → PlainPolicy → File → Due → Type 0
-AfterPair source text tape whole file due =
-    IsStrategyRefusal whole.format text due
-    ⊎ ((s : Strategy) × Spells whole.format text s × WithTape (λ moves. WhereFits (IsShown source whole file s moves) source whole file) true tape due)
+AfterPair source text tape whole file = WithStrategy (AfterStrategy source tape whole file) whole.format text
 
 -- The policy and the source are read first.
 abbrev pub IsPlayDue : (policy source text tape : List ℕ) → Due → Type 0

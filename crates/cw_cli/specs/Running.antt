@@ -15,9 +15,10 @@ use Rattle.cw_trace.specs.Labels.{names_of as told_names}
 use Rattle.cw_trace.specs.Steps.{Step, End, Ended, TapeSpent, BadMove, IsRunBy, run_trace}
 use Rattle.cw_commands.specs.declared.outcome.Reply.TheVariants.{Yes, No}
 use Rattle.cw_commands.specs.Outcomes.{Due, Told}
-use Rattle.cw_cli.specs.Checking.{told, WhereWovenFits, WithWoven}
-use Rattle.cw_cli.specs.Refusals.{IsPolicyRefusal}
-use Rattle.cw_cli.specs.Tapes.{WithTape}
+use Rattle.cw_stages.specs.Games.{WhereWovenFits}
+use Rattle.cw_stages.specs.Tables.{told, WithWoven}
+use Rattle.cw_stages.specs.Refusals.{IsPolicyRefusal}
+use Rattle.cw_stages.specs.Tapes.{WithTape}
 
 -- the trace of a run, and behind it how the run ends
 abbrev pub run_told : End → (lines : List ℕ) → Due

@@ -8,9 +8,10 @@ use Rattle.cw_sample.specs.Samples.{sample_policy, sample_source}
 use Rattle.cw_commands.specs.declared.outcome.Reply.{Reply}
 use Rattle.cw_commands.specs.declared.outcome.Reply.TheVariants.{Yes, No}
 use Rattle.cw_commands.specs.Outcomes.{Due, Told, Refused}
-use Rattle.cw_cli.specs.declared.numbers.Numbers.{Numbers}
-use Rattle.cw_cli.specs.Counting.{IsCounted}
-use Rattle.cw_cli.specs.Weaving.{Weaves}
+use Rattle.cw_stages.specs.declared.numbers.Numbers.{Numbers}
+use Rattle.cw_stages.specs.Counting.{IsCounted}
+use Rattle.cw_stages.specs.Reading.{WithSource}
+use Rattle.cw_cli.specs.Weaving.{AfterPair, Weaves}
 
 -- a line of a name and a number
 abbrev pub number_line : (name : List ℕ) → (number : ℕ) → List ℕ
@@ -33,12 +34,16 @@ summary number numbers reply =
     ++ (number_line (codes "rows") numbers.rows
     ++ reply_line reply))))))
 
--- The verdict on the sample's source is told by its numbers, with its own status.
-abbrev pub IsSummed : (number : ℕ) → PlainPolicy → File → Game → Due → Type 0
-IsSummed number whole file g (Told reply text) =
-    (written : List ℕ) × (numbers : Numbers) × IsCounted numbers whole (sample_source number) file g (Told reply written) × (text ≡ summary number numbers reply)
-IsSummed number whole file g (Refused cause line) = ⊥
+-- The verdict on a source is told by its numbers, with its own status.
+abbrev pub IsSummed : (number : ℕ) → PlainPolicy → List ℕ → File → Game → Due → Type 0
+IsSummed number whole source file g (Told reply text) =
+    (written : List ℕ) × (numbers : Numbers) × IsCounted numbers whole source file g (Told reply written) × (text ≡ summary number numbers reply)
+IsSummed number whole source file g (Refused cause line) = ⊥
 
--- The sample's policy and source go through the stages of `weave`.
+-- A source behind its policy goes through the stages of `weave`.
+abbrev pub AfterPolicy : (number : ℕ) → List ℕ → PlainPolicy → Due → Type 0
+AfterPolicy number source whole = WithSource (λ file. AfterPair (IsSummed number whole source file) source whole file) source whole
+
+-- So do the sample's policy and source.
 abbrev pub IsSampleDue : (number : ℕ) → Due → Type 0
-IsSampleDue number = Weaves (IsSummed number) sample_policy (sample_source number)
+IsSampleDue number = Weaves (λ whole file. IsSummed number whole (sample_source number) file) sample_policy (sample_source number)

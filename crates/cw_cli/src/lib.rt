@@ -3,20 +3,12 @@
 
 mod checking;
 mod command;
-mod fitting;
-mod games;
 pub mod laws;
 mod listing;
-mod numbers;
 mod playing;
-mod putting;
-mod reading;
-mod refusals;
 mod refuting;
 mod running;
 mod sampling;
-mod tapes;
-mod verdict;
 mod weaving;
 
 pub use checking::check_due;

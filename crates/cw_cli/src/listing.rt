@@ -14,7 +14,6 @@ ghost use Rattle.cw_commands.specs.Outcomes.{due_of, Told};
 ghost use Rattle.cw_commands.specs.Starts.{Starts, StartsLine};
 ghost use Rattle.cw_cli.specs.Listings.{call_lists, own_names, IsListed, IsListingDue};
 
-use crate::refusals::{over, source_refusal};
 use cw_callgraph::call_table;
 use cw_commands::{Outcome, Reply};
 use cw_core::{NoMemory, Quantity};
@@ -25,6 +24,7 @@ use cw_points::{Graph, PointsFault};
 use cw_resolve::{function_names, label_names};
 use cw_rights::Policy;
 use cw_source::read_source;
+use cw_stages::{over, source_refusal};
 use cw_syntax::checked::Checked;
 use std::alloc::Global;
 use std::mem::forget;

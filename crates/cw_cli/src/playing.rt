@@ -15,23 +15,25 @@ ghost use Rattle.cw_product.specs.Product.{game_of};
 ghost use Rattle.cw_product.specs.Uses.{uses_of};
 ghost use Rattle.cw_text.specs.Tapes.{IsIn};
 ghost use Rattle.cw_commands.specs.Outcomes.{due_of};
-ghost use Rattle.cw_commands.specs.Starts.{Begins, IsTold, Starts, StartsLine};
-ghost use Rattle.cw_cli.specs.Refuting.{WhereFits};
-ghost use Rattle.cw_cli.specs.Tapes.{WithTape};
+ghost use Rattle.cw_commands.specs.Starts.{Starts, StartsLine};
+ghost use Rattle.cw_stages.specs.Games.{WhereFits};
+ghost use Rattle.cw_stages.specs.Reading.{WithSource};
+ghost use Rattle.cw_stages.specs.Stops.{file_in, source_of, told_of, whole_of, Answers, BeginsText, IsReading, StartsText};
 ghost use Rattle.cw_cli.specs.Playing.{play_told, rule_name, AfterPair, IsPlayDue, IsPlayTold, IsShown};
 
-use crate::games::{fit_and_draw, make_game};
-use crate::reading::read_both;
-use crate::refuting::{read_strategy, told};
-use crate::tapes::moves_of;
 use cw_certs::{EnvCert, Move};
 use cw_commands::{Outcome, Reply};
 use cw_core::NoMemory;
 use cw_echeck::check_env;
 use cw_io::{Sink, Writer};
 use cw_play::{PlayEnd, play_env};
+use cw_policy::read_policy;
 use cw_product::Game;
 use cw_rights::Policy;
+use cw_stages::{
+    Reading, Stop, Text, draw, ended, fits, make_game, moves_of, policy_refusal, read_strategy,
+    read_under, tell_strategy_row,
+};
 use cw_syntax::checked::Checked;
 use cw_trace::trace_names;
 use std::alloc::Global;
@@ -47,16 +49,10 @@ fn rule_name(policy: &Policy, number: u8) -> &[u8]
 }
 
 /// The trace of a play, and behind it how the play ends.
-fn play_told<O: Sink, N: Sink>(
-    policy: &Policy,
-    end: PlayEnd,
-    trace: Writer<O>,
-    out: &mut O,
-) -> Outcome<O, N>
+fn play_told<O: Sink>(policy: &Policy, end: PlayEnd, trace: Writer<O>, out: &mut O) -> Text<O>
     requires follows { Follows O.taken O.faults O.refused trace out.old }
-    ensures due { due_of result ≡ play_told (policy_of policy.now) end trace.text }
-    ensures puts { Begins O.taken O.faults O.refused trace.begun out.new result }
-    ensures told { IsTold result }
+    ensures due { told_of result ≡ play_told (policy_of policy.now) end trace.text }
+    ensures puts { BeginsText O.taken O.faults O.refused trace.begun out.new result }
 {
     let mut writer = trace;
     match end {
@@ -64,25 +60,30 @@ fn play_told<O: Sink, N: Sink>(
             writer.put(b"violation ", out);
             writer.put(rule_name(policy, rule), out);
             writer.put(b"\n", out);
-            Outcome::Told(Reply::Yes, writer)
+            Text {
+                reply: Reply::Yes,
+                writer,
+            }
         }
         PlayEnd::TapeSpent => {
             writer.put(b"tape spent\n", out);
-            Outcome::Told(Reply::No, writer)
+            Text {
+                reply: Reply::No,
+                writer,
+            }
         }
     }
 }
 
 /// The play of a good strategy by a tape.
-fn shown<O: Sink, N: Sink>(
+fn shown<O: Sink>(
     alloc: Global,
     checked: &Checked,
     game: &Game,
     strategy: &EnvCert,
     tape: &[Move],
     out: &mut O,
-    note: &mut N,
-) -> Result<Outcome<O, N>, NoMemory>
+) -> Result<Text<O>, Stop>
     requires valid { IsValid (policy_of game.now.states.policy) }
     requires lists { AreLists (uses_of (policy_of game.now.states.policy) game.now.graph.nodes.items) (lists_of game.now.states) }
     requires reads { ReadsAs checked.now.source.now (file_of checked.now.program) }
@@ -90,10 +91,9 @@ fn shown<O: Sink, N: Sink>(
     requires good { IsGoodStrategy (game_of game.now) (strategy_of strategy.now) }
     requires few { length strategy.now.rows.items < 2 ^ 32 }
     requires tape { All (IsIn true) tape.now }
-    ensures due { IfOk result (λ outcome. IsPlayTold checked.now.source.now (policy_of game.now.states.policy) (file_of checked.now.program)
-        (game_of game.now) (strategy_of strategy.now) tape.now (due_of outcome)) }
-    ensures puts { Starts O.taken O.faults O.refused out.old out.new result }
-    ensures notes { StartsLine N.taken N.faults N.refused note.old note.new result }
+    ensures due { let whole = policy_of game.now.states.policy in
+        Answers whole checked.now.source.now (IsPlayTold checked.now.source.now whole (file_of checked.now.program) (game_of game.now) (strategy_of strategy.now) tape.now) result }
+    ensures puts { StartsText O.taken O.faults O.refused out.old out.new result }
 {
     let names = trace_names(alloc, checked, game.graph())?;
     let mut writer = Writer::begin(out);
@@ -102,106 +102,88 @@ fn shown<O: Sink, N: Sink>(
 }
 
 /// What is told of a strategy: its play by a tape, or the first row that fails a condition.
-fn judged<O: Sink, N: Sink>(
+fn judged<O: Sink>(
     alloc: Global,
     checked: &Checked,
     game: &Game,
     strategy: &EnvCert,
     tape: &[Move],
     out: &mut O,
-    note: &mut N,
-) -> Result<Outcome<O, N>, NoMemory>
+) -> Result<Text<O>, Stop>
     requires valid { IsValid (policy_of game.now.states.policy) }
     requires lists { AreLists (uses_of (policy_of game.now.states.policy) game.now.graph.nodes.items) (lists_of game.now.states) }
     requires reads { ReadsAs checked.now.source.now (file_of checked.now.program) }
     requires graph { IsGraph (names_of (policy_of game.now.states.policy)) checked.now.source.now (file_of checked.now.program) game.now.graph }
     requires few { length strategy.now.rows.items < 2 ^ 32 }
     requires tape { All (IsIn true) tape.now }
-    ensures due { IfOk result (λ outcome. IsShown checked.now.source.now (policy_of game.now.states.policy) (file_of checked.now.program)
-        (strategy_of strategy.now) tape.now (game_of game.now) (due_of outcome)) }
-    ensures puts { Starts O.taken O.faults O.refused out.old out.new result }
-    ensures notes { StartsLine N.taken N.faults N.refused note.old note.new result }
+    ensures due { let whole = policy_of game.now.states.policy in
+        Answers whole checked.now.source.now (IsShown checked.now.source.now whole (file_of checked.now.program) (strategy_of strategy.now) tape.now (game_of game.now)) result }
+    ensures puts { StartsText O.taken O.faults O.refused out.old out.new result }
 {
     match check_env(game, strategy) {
-        Ok(()) => shown(alloc, checked, game, strategy, tape, out, note),
-        Err(bad) => Ok(told(&bad, out)),
+        Ok(()) => shown(alloc, checked, game, strategy, tape, out),
+        Err(bad) => Ok(tell_strategy_row(&bad, out)),
     }
 }
 
 /// That the policy doesn't fit the program, that no game of theirs comes, or what is told of the strategy.
-fn fitted<O: Sink, N: Sink>(
+fn fitted<O: Sink>(
     alloc: Global,
-    policy: &Policy,
-    checked: &Checked,
+    reading: &Reading,
     strategy: &EnvCert,
     tape: &[Move],
     out: &mut O,
-    note: &mut N,
-) -> Result<Outcome<O, N>, NoMemory>
-    requires valid { IsValid (policy_of policy.now) }
-    requires reads { ReadsAs checked.now.source.now (file_of checked.now.program) }
+) -> Result<Text<O>, Stop>
+    requires is { IsReading reading.now }
     requires few { length strategy.now.rows.items < 2 ^ 32 }
     requires tape { All (IsIn true) tape.now }
-    ensures due { IfOk result (λ outcome. let source = checked.now.source.now in let whole = policy_of policy.now in let file = file_of checked.now.program in
-        WhereFits (IsShown source whole file (strategy_of strategy.now) tape.now) source whole file (due_of outcome)) }
-    ensures puts { Starts O.taken O.faults O.refused out.old out.new result }
-    ensures notes { StartsLine N.taken N.faults N.refused note.old note.new result }
+    ensures due { let whole = whole_of reading.now in let source = source_of reading.now in let file = file_in reading.now in
+        Answers whole source (WhereFits (IsShown source whole file (strategy_of strategy.now) tape.now) source whole file) result }
+    ensures puts { StartsText O.taken O.faults O.refused out.old out.new result }
 {
-    match fit_and_draw(alloc, policy, checked, note) {
-        Ok(graph) => match make_game(alloc, policy, checked, &graph, note) {
-            Ok(game) => judged(alloc, checked, &game, strategy, tape, out, note),
-            Err(answer) => answer,
-        },
-        Err(answer) => answer,
-    }
+    fits(alloc, reading)?;
+    let graph = draw(alloc, reading)?;
+    let game = make_game(alloc, reading, &graph)?;
+    judged(alloc, &reading.checked, &game, strategy, tape, out)
 }
 
-/// That the tape isn't one of the weaver's moves, or what comes behind that.
-fn taped<O: Sink, N: Sink>(
+/// That the strategy isn't spelled in the policy's format, that the tape isn't one of the weaver's moves, or what comes behind that.
+fn spelled<O: Sink>(
     alloc: Global,
-    policy: &Policy,
-    checked: &Checked,
-    strategy: &EnvCert,
-    tape: &[u8],
-    out: &mut O,
-    note: &mut N,
-) -> Result<Outcome<O, N>, NoMemory>
-    requires valid { IsValid (policy_of policy.now) }
-    requires reads { ReadsAs checked.now.source.now (file_of checked.now.program) }
-    requires few { length strategy.now.rows.items < 2 ^ 32 }
-    requires short { length tape.now ≤ 33554432 }
-    ensures due { IfOk result (λ outcome. let source = checked.now.source.now in let whole = policy_of policy.now in let file = file_of checked.now.program in
-        WithTape (λ moves. WhereFits (IsShown source whole file (strategy_of strategy.now) moves) source whole file) true tape.now (due_of outcome)) }
-    ensures puts { Starts O.taken O.faults O.refused out.old out.new result }
-    ensures notes { StartsLine N.taken N.faults N.refused note.old note.new result }
-{
-    match moves_of(alloc, tape, true, note) {
-        Ok(moves) => fitted(alloc, policy, checked, strategy, &moves, out, note),
-        Err(answer) => answer,
-    }
-}
-
-/// That the strategy isn't spelled in the policy's format, or what comes behind that.
-fn spelled<O: Sink, N: Sink>(
-    alloc: Global,
-    policy: &Policy,
-    checked: &Checked,
+    reading: &Reading,
     text: &[u8],
     tape: &[u8],
     out: &mut O,
-    note: &mut N,
-) -> Result<Outcome<O, N>, NoMemory>
-    requires valid { IsValid (policy_of policy.now) }
-    requires reads { ReadsAs checked.now.source.now (file_of checked.now.program) }
+) -> Result<Text<O>, Stop>
+    requires is { IsReading reading.now }
     requires short { length tape.now ≤ 33554432 }
-    ensures due { IfOk result (λ outcome. AfterPair checked.now.source.now text.now tape.now (policy_of policy.now) (file_of checked.now.program) (due_of outcome)) }
-    ensures puts { Starts O.taken O.faults O.refused out.old out.new result }
-    ensures notes { StartsLine N.taken N.faults N.refused note.old note.new result }
+    ensures due { let whole = whole_of reading.now in let source = source_of reading.now in
+        Answers whole source (AfterPair source text.now tape.now whole (file_in reading.now)) result }
+    ensures puts { StartsText O.taken O.faults O.refused out.old out.new result }
 {
-    match read_strategy(alloc, policy, text, note) {
-        Ok(strategy) => taped(alloc, policy, checked, &strategy, tape, out, note),
-        Err(answer) => answer,
-    }
+    let strategy = read_strategy(alloc, reading.policy, text)?;
+    let moves = moves_of(alloc, tape, true)?;
+    fitted(alloc, reading, &strategy, &moves, out)
+}
+
+/// That the source is refused under the policy, or what comes behind that.
+fn read<O: Sink>(
+    alloc: Global,
+    policy: &Policy,
+    source: &[u8],
+    text: &[u8],
+    tape: &[u8],
+    out: &mut O,
+) -> Result<Text<O>, Stop>
+    requires short { length source.now ≤ 262144 }
+    requires short_tape { length tape.now ≤ 33554432 }
+    requires valid { IsValid (policy_of policy.now) }
+    ensures due { let whole = policy_of policy.now in
+        Answers whole source.now (WithSource (AfterPair source.now text.now tape.now whole) source.now whole) result }
+    ensures puts { StartsText O.taken O.faults O.refused out.old out.new result }
+{
+    let reading = read_under(alloc, policy, source)?;
+    spelled(alloc, &reading, text, tape, out)
 }
 
 /// What is due for `play`, by the bytes of a policy, of a source, of a strategy and of a tape.
@@ -220,16 +202,13 @@ pub fn play_due<O: Sink, N: Sink>(
     ensures puts { Starts O.taken O.faults O.refused out.old out.new result }
     ensures notes { StartsLine N.taken N.faults N.refused note.old note.new result }
 {
-    match read_both(alloc, policy, source, note) {
-        Ok(pair) => spelled(
-            alloc,
-            &pair.policy,
-            &pair.checked,
-            strategy,
-            tape,
-            out,
+    match read_policy(alloc, policy) {
+        Ok(whole) => ended(
+            read(alloc, &whole, source, strategy, tape, out),
+            &whole,
+            source,
             note,
         ),
-        Err(answer) => answer,
+        Err(fault) => policy_refusal(&fault, note),
     }
 }

@@ -1,22 +1,29 @@
 //! What is due for `sample`.
 
 ghost use Rattle.std.specs.Prelude.{◌≡◌, ◌≢◌, ◌≤◌, ◌++◌, [], ℕ, List, false, length, IfOk};
+ghost use Rattle.cw_io.specs.Written.{Follows};
+ghost use Rattle.cw_rights.specs.Policies.{policy_of};
+ghost use Rattle.cw_rights.specs.Valid.{IsValid};
+ghost use Rattle.cw_policy.specs.Answer.{Spells};
 ghost use Rattle.cw_sample.specs.Samples.{sample_policy, sample_source, HasSample};
 ghost use Rattle.cw_commands.specs.declared.outcome.Reply.TheVariants.{Yes, No};
 ghost use Rattle.cw_commands.specs.Outcomes.{due_of, Told};
-ghost use Rattle.cw_commands.specs.Starts.{Begins, IsTold, Starts, StartsLine};
-ghost use Rattle.cw_io.specs.Written.{Follows};
-ghost use Rattle.cw_cli.specs.Sampling.{number_line, reply_line, summary, IsSampleDue};
+ghost use Rattle.cw_commands.specs.Starts.{Starts, StartsLine};
+ghost use Rattle.cw_stages.specs.Reading.{WithSource};
+ghost use Rattle.cw_stages.specs.Stops.{told_of, Answers, BeginsText, StartsText};
+ghost use Rattle.cw_cli.specs.Sampling.{number_line, reply_line, summary, AfterPolicy, IsSampleDue};
 ghost use Rattle.cw_cli.specs.Weaving.{IsWeaveDue};
 
 use crate::checking::check_due;
-use crate::numbers::Numbers;
 use crate::refuting::refute_due;
-use crate::weaving::counted_due;
+use crate::weaving::weave;
 use cw_commands::{Outcome, Reply};
 use cw_core::NoMemory;
 use cw_io::{Sink, SinkFault, SureSink, Writer};
+use cw_policy::read_policy;
+use cw_rights::Policy;
 use cw_sample::{SampleFault, make_sample};
+use cw_stages::{Numbers, Stop, Text, Verdict, ended, policy_refusal};
 use std::alloc::Global;
 
 /// Most bytes of a file.
@@ -130,15 +137,9 @@ fn reply_line(reply: Reply) -> &'static [u8]
 }
 
 /// The eight lines of a sample.
-fn summary<O: Sink, N: Sink>(
-    number: u32,
-    numbers: &Numbers,
-    reply: Reply,
-    out: &mut O,
-) -> Outcome<O, N>
-    ensures due { due_of result ≡ Told reply (summary number numbers.now reply) }
-    ensures puts { Begins O.taken O.faults O.refused out.old out.new result }
-    ensures told { IsTold result }
+fn summary<O: Sink>(number: u32, numbers: &Numbers, reply: Reply, out: &mut O) -> Text<O>
+    ensures due { told_of result ≡ Told reply (summary number numbers.now reply) }
+    ensures puts { BeginsText O.taken O.faults O.refused out.old out.new result }
 {
     let mut writer = Writer::begin(out);
     put_number(b"sample", u64::from(number), &mut writer, out);
@@ -149,7 +150,7 @@ fn summary<O: Sink, N: Sink>(
     put_number(b"cells", numbers.cells, &mut writer, out);
     put_number(b"rows", numbers.rows, &mut writer, out);
     writer.put(reply_line(reply), out);
-    Outcome::Told(reply, writer)
+    Text { reply, writer }
 }
 
 /// Finishes a text in memory, which began with nothing.
@@ -165,6 +166,30 @@ fn finished(writer: Writer<SureSink>, sink: &mut SureSink) -> Result<(), NoMemor
     }
 }
 
+/// Weaves a policy and a source, has what is written checked, and tells the numbers.
+fn sampled<O: Sink>(
+    alloc: Global,
+    number: u32,
+    policy: &[u8],
+    whole: &Policy,
+    source: &[u8],
+    out: &mut O,
+) -> Result<Text<O>, Stop>
+    requires short { length source.now ≤ 262144 }
+    requires valid { IsValid (policy_of whole.now) }
+    requires spells { Spells policy.now (policy_of whole.now) }
+    ensures due { Answers (policy_of whole.now) source.now (AfterPolicy number source.now (policy_of whole.now)) result }
+    ensures puts { StartsText O.taken O.faults O.refused out.old out.new result }
+{
+    let mut sink = SureSink::make(alloc);
+    let verdict = weave(alloc, whole, source, &mut sink)?;
+    let Verdict { text, numbers } = verdict;
+    let reply = text.reply;
+    finished(text.writer, &mut sink)?;
+    go_through(alloc, reply, policy, source, sink.bytes())?;
+    Ok(summary(number, &numbers, reply, out))
+}
+
 /// What is due for `sample`, by its number, from 1 to 400: its policy and its source are woven, what is written is checked, and the numbers are told.
 pub fn sample_due<O: Sink, N: Sink>(
     alloc: Global,
@@ -178,15 +203,13 @@ pub fn sample_due<O: Sink, N: Sink>(
     ensures notes { StartsLine N.taken N.faults N.refused note.old note.new result }
 {
     let (policy, source) = texts_of(alloc, number)?;
-    let mut numbers = Numbers::none();
-    let mut sink = SureSink::make(alloc);
-    let outcome = counted_due(alloc, &policy, &source, &mut numbers, &mut sink, note)?;
-    match outcome {
-        Outcome::Refused(cause, line) => Ok(Outcome::Refused(cause, line)),
-        Outcome::Told(reply, writer) => {
-            finished(writer, &mut sink)?;
-            go_through(alloc, reply, &policy, &source, sink.bytes())?;
-            Ok(summary(number, &numbers, reply, out))
-        }
+    match read_policy(alloc, &policy) {
+        Ok(whole) => ended(
+            sampled(alloc, number, &policy, &whole, &source, out),
+            &whole,
+            &source,
+            note,
+        ),
+        Err(fault) => policy_refusal(&fault, note),
     }
 }

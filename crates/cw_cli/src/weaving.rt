@@ -1,132 +1,82 @@
 //! What is due for `weave`.
 
-ghost use Rattle.std.specs.Prelude.{◌≡◌, ◌≢◌, ◌≤◌, [], true, false, length, IfOk};
+ghost use Rattle.std.specs.Prelude.{◌≤◌, length, IfOk};
 ghost use Rattle.cw_rights.specs.Policies.{policy_of};
 ghost use Rattle.cw_rights.specs.Valid.{IsValid};
-ghost use Rattle.cw_syntax.specs.Trees.{file_of};
-ghost use Rattle.cw_source.specs.Read.{ReadsAs};
 ghost use Rattle.cw_commands.specs.Outcomes.{due_of};
 ghost use Rattle.cw_commands.specs.Starts.{Starts, StartsLine};
-ghost use Rattle.cw_cli.specs.Counting.{IsCounted};
-ghost use Rattle.cw_cli.specs.Weaving.{AfterFit, AfterFitting, AfterPair, IsWeaveDue, Weaves};
+ghost use Rattle.cw_stages.specs.Counting.{IsCounted};
+ghost use Rattle.cw_stages.specs.Reading.{WithSource};
+ghost use Rattle.cw_stages.specs.Stops.{file_in, source_of, whole_of, Answers, Decides, IsReading, Nothing, StartsText, StartsVerdict};
+ghost use Rattle.cw_stages.specs.Verdicts.{IsVerdict};
+ghost use Rattle.cw_cli.specs.Weaving.{AfterPair, IsWeaveDue};
 
-use crate::fitting::fits;
-use crate::games::{draw, make_game};
-use crate::numbers::Numbers;
-use crate::reading::read_both;
-use crate::refusals::worded;
-use crate::verdict::judged;
-use cw_commands::{Cause, Outcome};
+use cw_commands::Outcome;
 use cw_core::NoMemory;
 use cw_io::Sink;
+use cw_policy::read_policy;
 use cw_rights::Policy;
-use cw_syntax::checked::Checked;
+use cw_stages::{
+    Reading, Stop, Text, Verdict, attaches, draw, ended, fits, judge, make_game, policy_refusal,
+    read_under,
+};
 use std::alloc::Global;
 use std::mem::forget;
 
-/// That the program has too many points, that its game is over one of its numbers, or what comes behind that.
-fn drawn<O: Sink, N: Sink>(
+/// Who wins the game of what has been read, with the text that says so.
+fn judged<O: Sink>(alloc: Global, reading: &Reading, out: &mut O) -> Result<Verdict<O>, Stop>
+    requires is { IsReading reading.now }
+    ensures due { let whole = whole_of reading.now in let source = source_of reading.now in let file = file_in reading.now in
+        Decides whole source (λ numbers. AfterPair (IsCounted numbers whole source file) source whole file) (AfterPair Nothing source whole file) result }
+    ensures puts { StartsVerdict O.taken O.faults O.refused out.old out.new result }
+{
+    fits(alloc, reading)?;
+    attaches(reading.policy)?;
+    let graph = draw(alloc, reading)?;
+    let game = make_game(alloc, reading, &graph)?;
+    judge(alloc, &reading.checked, &game, out)
+}
+
+/// Who wins the game of a policy and a source, with the text that says so and the numbers of the game.
+pub(crate) fn weave<O: Sink>(
     alloc: Global,
     policy: &Policy,
-    checked: &Checked,
-    numbers: &mut Numbers,
-    out: &mut O,
-    note: &mut N,
-) -> Result<Outcome<O, N>, NoMemory>
-    requires valid { IsValid (policy_of policy.now) }
-    requires reads { ReadsAs checked.now.source.now (file_of checked.now.program) }
-    ensures due { IfOk result (λ outcome.
-        AfterFitting (IsCounted numbers.new (policy_of policy.now) checked.now.source.now (file_of checked.now.program))
-        checked.now.source.now (policy_of policy.now) (file_of checked.now.program) (due_of outcome)) }
-    ensures puts { Starts O.taken O.faults O.refused out.old out.new result }
-    ensures notes { StartsLine N.taken N.faults N.refused note.old note.new result }
-{
-    match draw(alloc, policy, checked, note) {
-        Ok(graph) => match make_game(alloc, policy, checked, &graph, note) {
-            Ok(game) => judged(alloc, checked, &game, numbers, out, note),
-            Err(answer) => answer,
-        },
-        Err(answer) => answer,
-    }
-}
-
-/// Whether a policy detaches no function.
-fn detaches_none(policy: &Policy) -> bool
-    ensures none { result ≡ true → (policy_of policy.now).detached ≡ [] }
-    ensures some { result ≡ false → (policy_of policy.now).detached ≢ [] }
-{
-    policy.detached.is_empty()
-}
-
-/// That the policy detaches functions, or what comes behind that.
-fn waited<O: Sink, N: Sink>(
-    alloc: Global,
-    policy: &Policy,
-    checked: &Checked,
-    numbers: &mut Numbers,
-    out: &mut O,
-    note: &mut N,
-) -> Result<Outcome<O, N>, NoMemory>
-    requires valid { IsValid (policy_of policy.now) }
-    requires reads { ReadsAs checked.now.source.now (file_of checked.now.program) }
-    ensures due { IfOk result (λ outcome.
-        AfterFit (IsCounted numbers.new (policy_of policy.now) checked.now.source.now (file_of checked.now.program))
-        checked.now.source.now (policy_of policy.now) (file_of checked.now.program) (due_of outcome)) }
-    ensures puts { Starts O.taken O.faults O.refused out.old out.new result }
-    ensures notes { StartsLine N.taken N.faults N.refused note.old note.new result }
-{
-    if detaches_none(policy) {
-        drawn(alloc, policy, checked, numbers, out, note)
-    } else {
-        Ok(worded(Cause::Policy, b"policy: detached", b"", note))
-    }
-}
-
-/// What is due for a policy and a program that are read.
-fn fitted<O: Sink, N: Sink>(
-    alloc: Global,
-    policy: &Policy,
-    checked: &Checked,
-    numbers: &mut Numbers,
-    out: &mut O,
-    note: &mut N,
-) -> Result<Outcome<O, N>, NoMemory>
-    requires valid { IsValid (policy_of policy.now) }
-    requires reads { ReadsAs checked.now.source.now (file_of checked.now.program) }
-    ensures due { IfOk result (λ outcome.
-        AfterPair (IsCounted numbers.new (policy_of policy.now) checked.now.source.now (file_of checked.now.program))
-        checked.now.source.now (policy_of policy.now) (file_of checked.now.program) (due_of outcome)) }
-    ensures puts { Starts O.taken O.faults O.refused out.old out.new result }
-    ensures notes { StartsLine N.taken N.faults N.refused note.old note.new result }
-{
-    match fits(alloc, policy, checked, note) {
-        Ok(()) => waited(alloc, policy, checked, numbers, out, note),
-        Err(answer) => answer,
-    }
-}
-
-/// What is due for `weave`, by the bytes of a policy and of a source; where it is a text, with its numbers.
-pub(crate) fn counted_due<O: Sink, N: Sink>(
-    alloc: Global,
-    policy: &[u8],
     source: &[u8],
-    numbers: &mut Numbers,
     out: &mut O,
-    note: &mut N,
-) -> Result<Outcome<O, N>, NoMemory>
+) -> Result<Verdict<O>, Stop>
     requires short { length source.now ≤ 262144 }
-    ensures due { IfOk result (λ outcome. Weaves (λ whole file. IsCounted numbers.new whole source.now file) policy.now source.now (due_of outcome)) }
-    ensures puts { Starts O.taken O.faults O.refused out.old out.new result }
-    ensures notes { StartsLine N.taken N.faults N.refused note.old note.new result }
+    requires valid { IsValid (policy_of policy.now) }
+    ensures due { let whole = policy_of policy.now in
+        Decides whole source.now (λ numbers. WithSource (λ file. AfterPair (IsCounted numbers whole source.now file) source.now whole file) source.now whole)
+        (WithSource (λ file. AfterPair Nothing source.now whole file) source.now whole) result }
+    ensures puts { StartsVerdict O.taken O.faults O.refused out.old out.new result }
 {
-    match read_both(alloc, policy, source, note) {
-        Ok(pair) => {
-            let outcome = fitted(alloc, &pair.policy, &pair.checked, numbers, out, note);
-            // As in `check`: the end of the process gives the blocks of the tree back at once.
-            forget(pair);
-            outcome
+    let reading = read_under(alloc, policy, source)?;
+    let verdict = judged(alloc, &reading, out);
+    // As in `check`: the end of the process gives the blocks of the tree back at once.
+    forget(reading);
+    verdict
+}
+
+/// The text alone.
+fn woven<O: Sink>(
+    alloc: Global,
+    policy: &Policy,
+    source: &[u8],
+    out: &mut O,
+) -> Result<Text<O>, Stop>
+    requires short { length source.now ≤ 262144 }
+    requires valid { IsValid (policy_of policy.now) }
+    ensures due { let whole = policy_of policy.now in
+        Answers whole source.now (WithSource (λ file. AfterPair (IsVerdict whole source.now file) source.now whole file) source.now whole) result }
+    ensures puts { StartsText O.taken O.faults O.refused out.old out.new result }
+{
+    match weave(alloc, policy, source, out) {
+        Ok(verdict) => {
+            let Verdict { text, .. } = verdict;
+            Ok(text)
         }
-        Err(answer) => answer,
+        Err(stop) => Err(stop),
     }
 }
 
@@ -143,5 +93,8 @@ pub fn weave_due<O: Sink, N: Sink>(
     ensures puts { Starts O.taken O.faults O.refused out.old out.new result }
     ensures notes { StartsLine N.taken N.faults N.refused note.old note.new result }
 {
-    counted_due(alloc, policy, source, &mut Numbers::none(), out, note)
+    match read_policy(alloc, policy) {
+        Ok(whole) => ended(woven(alloc, &whole, source, out), &whole, source, note),
+        Err(fault) => policy_refusal(&fault, note),
+    }
 }

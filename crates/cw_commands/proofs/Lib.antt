@@ -1,5 +1,6 @@
 mod Collected
 mod Fits
+mod Lone
 mod Notes
 mod Placed
 mod Reading

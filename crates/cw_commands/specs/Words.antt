@@ -1,5 +1,5 @@
 -- The words of a command line.
-use Rattle.std.specs.Prelude.{ℕ, List, [], ◌∷◌, map, Option, Some, None, option_map, option_and_then}
+use Rattle.std.specs.Prelude.{◌≡◌, ℕ, List, [], ◌∷◌, map, Option, Some, None, option_map, option_and_then}
 use Rattle.std.specs.Prelude.{String, string_bytes}
 use Rattle.std.specs.declared.alloc.Global.{Global}
 use Rattle.cw_sample.specs.Samples.{sample_number}
@@ -47,3 +47,7 @@ requested (word ∷ rest) = request_of (named_by (string_bytes word)) rest
 -- the same as the code keeps it
 abbrev pub wish_of : Request → Wish
 wish_of a = (a.command, map (λ name. name.now) a.names.items)
+
+-- one word asks for nothing
+abbrev pub OneWordIsNoCommand : Type 0
+OneWordIsNoCommand = (word : String Global) → requested (word ∷ []) ≡ None

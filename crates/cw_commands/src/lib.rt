@@ -6,6 +6,7 @@ mod command;
 mod delivery;
 mod ending;
 mod files;
+pub mod laws;
 mod line;
 mod name;
 mod note;

@@ -27,8 +27,8 @@ use Rattle.cw_lazy_table.proofs.Sameness.{one}
 use Rattle.cw_consequences.specs.Unrefused.{varied}
 use Rattle.cw_consequences.proofs.Listed.{rights_forth, rights_back, spots_same}
 use Rattle.cw_consequences.proofs.Rowed.{exactly}
-use Rattle.cw_cli.specs.Refuting.{IsGame}
-use Rattle.cw_cli.proofs.OneGame.{AreAlike, no_more}
+use Rattle.cw_stages.specs.Games.{IsGame}
+use Rattle.cw_stages.proofs.OneGame.{AreAlike, no_more}
 
 -- the rights states and the policy states of a policy, within their numbers
 pub record AreListed (p : PlainPolicy) (uses : Uses) (rs : List Caps) (xs : List ℕ) : Type 0 where

@@ -13,7 +13,7 @@ use Rattle.cw_callgraph.specs.declared.fit.FitFault.TheVariants.{NoLabel, NoFunc
 use Rattle.cw_callgraph.specs.Fitting.{IsFitFault, IsFirstForbidden}
 use Rattle.cw_callgraph.specs.Forbidding.{Forbids, IsLeast}
 use Rattle.cw_consequences.specs.Unrefused.{varied}
-use Rattle.cw_cli.specs.Fitting.{fit_line}
+use Rattle.cw_stages.specs.Fitting.{fit_line}
 
 module _ (source : List ℕ) (file : File) (names : Names) (split : List (List ℕ)) where
   never_both : (f place : ℕ) → IsLeast (Forbids names source file f) None → IsLeast (Forbids names source file f) (Some place) → ⊥

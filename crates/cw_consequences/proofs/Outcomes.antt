@@ -34,8 +34,8 @@ use Rattle.cw_strategy_text.specs.StrategyText.{strategy_text}
 use Rattle.cw_emit.specs.Woven.{Stands}
 use Rattle.cw_commands.specs.declared.outcome.Reply.TheVariants.{Yes, No}
 use Rattle.cw_commands.specs.Outcomes.{Due, Told, Refused}
-use Rattle.cw_cli.specs.Refusals.{over}
-use Rattle.cw_cli.specs.Verdicts.{AfterGame, HasFewCells, HasManyCells, HasManyRows, IsVerdict, StartHolds}
+use Rattle.cw_stages.specs.Refusals.{over}
+use Rattle.cw_stages.specs.Verdicts.{AfterGame, HasFewCells, HasManyCells, HasManyRows, IsVerdict, StartHolds}
 
 pub data Outcome : Type 0 where
   ManyCells : Outcome
@@ -68,7 +68,7 @@ start_forced p g of lost =
     (all_owed g (IsStanding Means g) (standing_on Means g p of.policy of.states of.laid of.routines) (state_below Means g p of.policy of.states of.laid of.routines) (has (all_states g))
     (λ x lt. eq-eqb (bit_at (all_states g) x) 1 (bit_at_ones g.states.count x lt)) []) lost
 
-start_holds : (p : Problem) (g : Game) → IsGameOf p g → ((n : ℕ) → Forced p n (start_board p) → ⊥) → StartHolds g
+pub start_holds : (p : Problem) (g : Game) → IsGameOf p g → ((n : ℕ) → Forced p n (start_board p) → ⊥) → StartHolds g
 start_holds p g of never n = by (Holds g n (g.entry g.main) g.states.start (has (all_states g))) refl
   where
     by : (b : Bool) → Holds g n (g.entry g.main) g.states.start (has (all_states g)) ≡ b → b ≡ true

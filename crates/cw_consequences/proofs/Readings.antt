@@ -16,9 +16,9 @@ use Rattle.cw_game.specs.Games.{Game}
 use Rattle.cw_consequences.specs.Unrefused.{unrefused, varied}
 use Rattle.cw_commands.specs.declared.outcome.Cause.TheVariants.{Source}
 use Rattle.cw_commands.specs.Outcomes.{Due, Refused}
-use Rattle.cw_cli.specs.Reading.{IsSourceUnread}
-use Rattle.cw_cli.specs.Refusals.{descriptor_line, over, policy_refusal, source_refusal, IsPolicyRefusal}
-use Rattle.cw_cli.specs.Verdicts.{IsVerdict}
+use Rattle.cw_stages.specs.Reading.{IsSourceUnread}
+use Rattle.cw_stages.specs.Refusals.{descriptor_line, over, policy_refusal, source_refusal, IsPolicyRefusal}
+use Rattle.cw_stages.specs.Verdicts.{IsVerdict}
 use Rattle.cw_cli.specs.Weaving.{AfterPair, IsWeaveDue}
 use Rattle.cw_consequences.specs.Alike.{in_format, AreAlike}
 use Rattle.cw_consequences.specs.Laws.{FormatsAgree, StopGivesTheSame, WeaveHasOneAnswer}

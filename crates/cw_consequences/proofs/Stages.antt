@@ -25,11 +25,11 @@ use Rattle.cw_commands.specs.declared.outcome.Cause.{Cause}
 use Rattle.cw_commands.specs.declared.outcome.Cause.TheVariants.{Policy}
 use Rattle.cw_commands.specs.declared.outcome.Reply.TheVariants.{Yes, No}
 use Rattle.cw_commands.specs.Outcomes.{Due, Told, Refused}
-use Rattle.cw_cli.specs.Fitting.{fit_line}
-use Rattle.cw_cli.specs.Refusals.{over}
-use Rattle.cw_cli.specs.Refuting.{game_refusal, IsGame}
-use Rattle.cw_cli.specs.Verdicts.{AfterGame, IsVerdict}
-use Rattle.cw_cli.specs.Weaving.{AfterFit, AfterFitting, AfterGraph, AfterPair}
+use Rattle.cw_stages.specs.Fitting.{fit_line}
+use Rattle.cw_stages.specs.Refusals.{over}
+use Rattle.cw_stages.specs.Games.{game_refusal, IsGame, WithGame, WithGraph}
+use Rattle.cw_stages.specs.Verdicts.{AfterGame, IsVerdict}
+use Rattle.cw_cli.specs.Weaving.{AfterFit, AfterPair}
 use Rattle.cw_cli.proofs.Agreeing.{alike, fits_once}
 use Rattle.cw_consequences.specs.Alike.{AreAlike, refused, refuted, woven}
 use Rattle.cw_consequences.proofs.Causes.{both_refused, first_refused, second_refused}
@@ -98,7 +98,7 @@ module _ (source : List ℕ) (file : File) (reads : ReadsAs source file) (p : Pl
       says_alike source p y file second.0 due answer reads (subst (λ (o : Outcome). Says source file p o due) same first.2) second.2
 
   after_graphs : (g k : Graph) (due answer : Due) → IsGraph (names_of p) source file g → IsGraph (names_of p) source file k
-      → AfterGraph (IsVerdict p source file) source p file g due → AfterGraph (IsVerdict y source file) source y file k answer → Agree due answer
+      → WithGame (AfterGame (IsVerdict p source file)) source p file g due → WithGame (AfterGame (IsVerdict y source file)) source y file k answer → Agree due answer
   after_graphs g k due answer drawn draws (inl (f, ne, cause, a)) (inl (e, other, because, b)) =
       ⊎_elim (by_states f due answer a) (λ same. inr (fault_alike source p y e due answer (a ∙ ap game_refusal same) b))
       (both_refused p limit enter split stop format g k (alike p source file g k drawn draws) wide f e ne other cause because)
@@ -109,7 +109,7 @@ module _ (source : List ℕ) (file : File) (reads : ReadsAs source file) (p : Pl
   after_graphs g k due answer drawn draws (inr (h, is, made, of, after)) (inr (l, other, makes, ofs, behind)) =
       inr (after_games g k h l due answer drawn draws is made of after other makes ofs behind)
 
-  after_fitting : (due answer : Due) → AfterFitting (IsVerdict p source file) source p file due → AfterFitting (IsVerdict y source file) source y file answer → Agree due answer
+  after_fitting : (due answer : Due) → WithGraph (AfterGame (IsVerdict p source file)) source p file due → WithGraph (AfterGame (IsVerdict y source file)) source y file answer → Agree due answer
   after_fitting due answer (inl (many, a)) (inl (more, b)) = inr (refused_alike source p y _ _ due answer a b)
   after_fitting due answer (inl (many, a)) (inr (few, k, draws, behind)) = absurd (apart (limit_of Points) (point_count (plan_of (names_of p) source file)) many few)
   after_fitting due answer (inr (few, g, drawn, after)) (inl (many, b)) = absurd (apart (limit_of Points) (point_count (plan_of (names_of p) source file)) many few)

@@ -1,17 +1,23 @@
--- What follows of what is due for `weave`.
+-- What follows of what is due for the commands.
 use Rattle.std.specs.Prelude.{◌≡◌, ◌⊎◌, ℕ, List, true}
 use Rattle.cw_core.specs.declared.quantity.Quantity.TheVariants.{ProductStates}
 use Rattle.cw_rights.specs.Policies.{PlainPolicy}
 use Rattle.cw_policy.specs.Answer.{Spells}
 use Rattle.cw_consequences.specs.Unrefused.{unrefused}
+use Rattle.cw_commands.specs.declared.command.Command.{Command}
 use Rattle.cw_commands.specs.Outcomes.{Due}
-use Rattle.cw_cli.specs.Refusals.{over}
+use Rattle.cw_stages.specs.Refusals.{over}
+use Rattle.cw_cli.specs.Due.{IsDue}
 use Rattle.cw_cli.specs.Weaving.{IsWeaveDue}
 use Rattle.cw_consequences.specs.Alike.{in_format, AreAlike}
 
 -- For a policy and a source one answer is due.
 abbrev pub WeaveHasOneAnswer : Type 0
 WeaveHasOneAnswer = (policy source : List ℕ) (due answer : Due) → IsWeaveDue policy source due → IsWeaveDue policy source answer → due ≡ answer
+
+-- For the files of a command, whichever it is, and for the number of a sample one answer is due.
+abbrev pub EachHasOneAnswer : Type 0
+EachHasOneAnswer = (command : Command) (files : List (List ℕ)) (due answer : Due) → IsDue command files due → IsDue command files answer → due ≡ answer
 
 -- Where the policy stops after a refusal, the answer that is due for a source is due under the same policy of which nothing can be refused: with the
 -- same status, and the same bytes.

@@ -1,10 +1,15 @@
 //! Laws of the definitions: functions that do nothing, and whose contracts hold of every value.
 
-ghost use Rattle.cw_consequences.specs.Laws.{FormatsAgree, StopGivesTheSame, WeaveHasOneAnswer};
+ghost use Rattle.cw_consequences.specs.Laws.{EachHasOneAnswer, FormatsAgree, StopGivesTheSame, WeaveHasOneAnswer};
 
 /// For a policy and a source one answer of `weave` is due.
 pub fn weave_has_one_answer()
     ensures { WeaveHasOneAnswer }
+{}
+
+/// For the files of a command, whichever it is, and for the number of a sample one answer is due.
+pub fn each_has_one_answer()
+    ensures { EachHasOneAnswer }
 {}
 
 /// Under a policy that stops after a refusal status and bytes are those under the same policy of which nothing can be refused.

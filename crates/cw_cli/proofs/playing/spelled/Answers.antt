@@ -1,17 +1,33 @@
 use Rattle.std.proofs.Common.{inl, inr}
+use Rattle.std.proofs.lemmas.Result.{err_from_is_err_and}
 use Rattle.cw_certs.specs.Strategies.{strategy_of}
-use Rattle.cw_commands.proofs.Starting.{unput}
-use Rattle.cw_cli.proofs.Refused.{if_ok}
+use Rattle.cw_stages.specs.Games.{WhereFits}
+use Rattle.cw_stages.specs.Stops.{file_in, source_of, whole_of}
+use Rattle.cw_stages.proofs.Answering.{weaker}
+use Rattle.cw_cli.specs.Playing.{AfterPair, IsShown}
 use Rattle.cw_cli.proofs.playing.spelled.Goals as goal
 
-pub returns-in-Ok-clause-due : goal.returns-in-Ok-clause-due
-returns-in-Ok-clause-due g c = if_ok c.taped.result c.taped.ensures.due (λ o d. inr (strategy_of c.in-Ok.strategy, c.in-Ok.ensures.spells, d))
+pub returns-in_err-strategy-clause-due : goal.returns-in_err-strategy-clause-due
+returns-in_err-strategy-clause-due g c =
+    let p = err_from_is_err_and c.from_residual.result c.from_residual.ensures.1 in
+    rw (p.1, p.2) (λ due r. inl (c.in_err-strategy.ensures.stop (whole_of c.args.reading.now) (source_of c.args.reading.now) due r))
 
-pub returns-in-Ok-clause-notes : goal.returns-in-Ok-clause-notes
-returns-in-Ok-clause-notes g c = rw c.in-Ok.ensures.notes at c.taped.ensures.notes
+pub returns-in_err-moves-clause-due : goal.returns-in_err-moves-clause-due
+returns-in_err-moves-clause-due g c =
+    let p = err_from_is_err_and c.from_residual-in_err-moves.result c.from_residual-in_err-moves.ensures.1 in
+    rw (p.1, p.2) (λ due r.
+    inr (strategy_of c.in_ok-strategy.strategy, c.in_ok-strategy.ensures.spells, inl (c.in_err-moves.ensures.stop (whole_of c.args.reading.now) (source_of c.args.reading.now) due r)))
 
-pub returns-in-Err-clause-due : goal.returns-in-Err-clause-due
-returns-in-Err-clause-due g c = if_ok c.in-Err.answer c.in-Err.ensures.refused (λ o d. inl d)
+pub fitted-requires-clause-tape : goal.fitted-requires-clause-tape
+fitted-requires-clause-tape g c = rw c.deref.ensures.value c.in_ok-moves.ensures.moves.may
 
-pub returns-in-Err-clause-puts : goal.returns-in-Err-clause-puts
-returns-in-Err-clause-puts g c = unput g.O.Sink.taken g.O.Sink.faults g.O.Sink.refused c.args.out.now c.in-Err.answer c.in-Err.ensures.untold
+pub returns-clause-due : goal.returns-clause-due
+returns-clause-due g c =
+    let whole = whole_of c.args.reading.now in
+    let source = source_of c.args.reading.now in
+    let file = file_in c.args.reading.now in
+    let strategy = strategy_of c.in_ok-strategy.strategy in
+    let moves = c.in_ok-moves.moves.items in
+    let due = rw c.deref.ensures.value at c.fitted.ensures.due in
+    weaker whole source (WhereFits (IsShown source whole file strategy moves) source whole file) (AfterPair source c.args.text.now c.args.tape.now whole file) c.fitted.result
+    (λ due h. inr (strategy, c.in_ok-strategy.ensures.spells, inr (moves, c.in_ok-moves.ensures.moves, h))) due

@@ -1,5 +1,5 @@
 use Rattle.cw_commands.specs.Outcomes.{due_of}
-use Rattle.cw_cli.specs.Refuting.{yes}
+use Rattle.cw_stages.specs.Refusals.{yes}
 use Rattle.cw_cli.proofs.Sampled.{judged_yes}
 use Rattle.cw_cli.proofs.sampling.refute_text.Goals as goal
 

@@ -1,55 +1,38 @@
-use Rattle.std.proofs.Common.{ap, sym, ◌∙◌, refl, subst}
-use Rattle.cw_io.specs.Sinks.{SureSinkState}
-use Rattle.cw_commands.specs.declared.outcome.Outcome.{Outcome}
+use Rattle.std.proofs.Common.{inl}
+use Rattle.cw_rights.specs.Policies.{policy_of}
 use Rattle.cw_commands.specs.Outcomes.{due_of}
-use Rattle.cw_commands.proofs.Starting.{unnoted_since}
-use Rattle.cw_cli.specs.Counting.{IsCounted}
-use Rattle.cw_cli.specs.Sampling.{summary, IsSampleDue}
-use Rattle.cw_cli.specs.Weaving.{Weaves}
-use Rattle.cw_cli.proofs.Sampled.{due_again, refused_due, summed_due}
+use Rattle.cw_commands.proofs.Starting.{unput}
+use Rattle.cw_stages.proofs.Answering.{ended_due, ended_puts}
+use Rattle.cw_stages.proofs.Refusing.{if_ok}
+use Rattle.cw_cli.specs.Sampling.{AfterPolicy}
+use Rattle.cw_cli.proofs.Sampled.{sampled_due}
 use Rattle.cw_cli.proofs.sampling.sample_due.Goals as goal
 
-pub returns-in-Refused-clause-due : goal.returns-in-Refused-clause-due
-returns-in-Refused-clause-due g c =
-    let numbers = c.counted_due.new.numbers in
-    let policy = c.deref.result.now in
-    let source = c.deref-2.result.now in
-    let due = subst (λ (o : Outcome SureSinkState _). Weaves (λ whole file. IsCounted numbers whole source file) policy source (due_of o)) c.in-Refused.is c.in_ok-outcome.ensures.due in
-    refused_due c.args.number numbers policy source c.in-Refused.cause c.in-Refused.line.text
-    (c.deref.ensures.value ∙ c.in_ok-policy.ensures.policy) (c.deref-2.ensures.value ∙ c.in_ok-policy.ensures.source) due
+pub sampled-requires-clause-short : goal.sampled-requires-clause-short
+sampled-requires-clause-short g c = rw c.deref-in-Ok-2.ensures.value c.in_ok-policy.ensures.short
 
-pub finished-requires-clause-follows : goal.finished-requires-clause-follows
-finished-requires-clause-follows g c = (rw c.in-Told.is at c.in_ok-outcome.ensures.puts).1
+pub sampled-requires-clause-spells : goal.sampled-requires-clause-spells
+sampled-requires-clause-spells g c = rw c.deref-in-Ok.ensures.value (rw c.deref.ensures.value at c.in-Ok.ensures.policy)
 
-pub finished-requires-clause-empty : goal.finished-requires-clause-empty
-finished-requires-clause-empty g c =
-    let begun = (rw c.in-Told.is at c.in_ok-outcome.ensures.puts).0 in
-    ap (λ (s : SureSinkState). s.bytes) (begun ∙ c.make-sink.ensures)
+pub returns-in-Ok-clause-due : goal.returns-in-Ok-clause-due
+returns-in-Ok-clause-due g c =
+    let whole = policy_of c.in-Ok.whole in
+    let policy = c.in_ok-policy.policy.items in
+    let source = c.in_ok-policy.source.items in
+    let ended = rw c.deref-in-Ok-3.ensures.value at c.ended.ensures.ended in
+    let answer = rw c.deref-in-Ok-2.ensures.value at c.sampled.ensures.due in
+    let spells = rw c.deref.ensures.value at c.in-Ok.ensures.policy in
+    let due = ended_due whole source (AfterPolicy c.args.number source whole) c.sampled.result c.ended.result ended answer in
+    if_ok c.ended.result due (λ o d. sampled_due c.args.number policy source whole (due_of o) c.in_ok-policy.ensures.policy c.in_ok-policy.ensures.source spells d)
 
-pub go_through-requires-clause-due : goal.go_through-requires-clause-due
-go_through-requires-clause-due g c =
-    let numbers = c.counted_due.new.numbers in
-    let policy = c.deref.result.now in
-    let source = c.deref-2.result.now in
-    let due = subst (λ (o : Outcome SureSinkState _). Weaves (λ whole file. IsCounted numbers whole source file) policy source (due_of o)) c.in-Told.is c.in_ok-outcome.ensures.due in
-    due_again numbers policy c.deref-in-Told.result.now source c.deref-in-Told-2.result.now c.in-Told.writer.text c.bytes.result.now c.in-Told.reply
-    (c.deref.ensures.value ∙ sym c.deref-in-Told.ensures.value) (c.deref-2.ensures.value ∙ sym c.deref-in-Told-2.ensures.value) (sym (c.bytes.ensures ∙ c.in_ok-finished-in-Told.ensures)) due
+pub returns-in-Ok-clause-puts : goal.returns-in-Ok-clause-puts
+returns-in-Ok-clause-puts g c =
+    ended_puts (policy_of c.in-Ok.whole) c.deref-in-Ok-3.result.now g.O.Sink.taken g.O.Sink.faults g.O.Sink.refused c.args.out.now c.sampled.new.out c.sampled.result c.ended.result c.ended.ensures.ended c.sampled.ensures.puts
 
 pub returns-clause-due : goal.returns-clause-due
 returns-clause-due g c =
-    let numbers = c.counted_due.new.numbers in
-    let policy = c.deref.result.now in
-    let source = c.deref-2.result.now in
-    let due = subst (λ (o : Outcome SureSinkState _). Weaves (λ whole file. IsCounted numbers whole source file) policy source (due_of o)) c.in-Told.is c.in_ok-outcome.ensures.due in
-    let told = summed_due c.args.number numbers policy source c.in-Told.reply c.in-Told.writer.text (summary c.args.number numbers c.in-Told.reply)
-    (c.deref.ensures.value ∙ c.in_ok-policy.ensures.policy)
-    (c.deref-2.ensures.value ∙ c.in_ok-policy.ensures.source) refl due in
-    subst (IsSampleDue c.args.number) (sym c.summary.ensures.due) told
+    let fault = rw (c.deref.ensures.value, c.in_ok-policy.ensures.policy) at c.in-Err.ensures.fault in
+    if_ok c.policy_refusal.result c.policy_refusal.ensures.due (λ o p. inl (inl (c.in-Err.fault, fault, p.0, p.1)))
 
-pub returns-in-Refused-clause-notes : goal.returns-in-Refused-clause-notes
-returns-in-Refused-clause-notes g c = rw c.in-Refused.is at c.in_ok-outcome.ensures.notes
-
-pub returns-clause-notes : goal.returns-clause-notes
-returns-clause-notes g c =
-    let same = rw c.in-Told.is at c.in_ok-outcome.ensures.notes in
-    unnoted_since g.N.Sink.taken g.N.Sink.faults g.N.Sink.refused c.args.note.now c.counted_due.new.note c.summary.result same c.summary.ensures.told
+pub returns-clause-puts : goal.returns-clause-puts
+returns-clause-puts g c = unput g.O.Sink.taken g.O.Sink.faults g.O.Sink.refused c.args.out.now c.policy_refusal.result c.policy_refusal.ensures.refused

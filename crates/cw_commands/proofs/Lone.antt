@@ -1,0 +1,23 @@
+-- A name alone asks for nothing.
+use Rattle.std.proofs.Common.{◌≡◌, List, [], ◌∷◌, Option, Some, None, refl}
+use Rattle.std.specs.Prelude.{String, string_bytes}
+use Rattle.std.specs.declared.alloc.Global.{Global}
+use Rattle.clap.specs.Takes.{walk_passes}
+use Rattle.cw_commands.specs.declared.name.Name.{Name}
+use Rattle.cw_commands.specs.declared.name.Name.TheVariants as name
+use Rattle.cw_commands.specs.Commands.{named_by}
+use Rattle.cw_commands.specs.Words.{request_of, requested, Wish}
+
+alone : (o : Option Name) → request_of o [] ≡ None
+unfolding walk_passes
+alone None = refl
+alone (Some name.Weave) = refl
+alone (Some name.Graph) = refl
+alone (Some name.Refute) = refl
+alone (Some name.Check) = refl
+alone (Some name.Play) = refl
+alone (Some name.Run) = refl
+alone (Some name.Sample) = refl
+
+pub one_word : (word : String Global) → requested (word ∷ []) ≡ None
+one_word word = alone (named_by (string_bytes word))

@@ -1,0 +1,11 @@
+pub mod Refusals
+pub mod Reading
+pub mod Fitting
+pub mod Games
+pub mod Strategies
+pub mod Tables
+pub mod Tapes
+pub mod Verdicts
+pub mod Counting
+pub mod Stops
+pub mod Held

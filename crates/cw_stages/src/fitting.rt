@@ -1,0 +1,75 @@
+//! Why a policy that doesn't fit a program is refused, with the line that tells it.
+
+ghost use Rattle.std.specs.Prelude.{◌≡◌, map};
+ghost use Rattle.cw_rights.specs.Policies.{policy_of};
+ghost use Rattle.cw_commands.specs.Outcomes.{due_of, Refused};
+ghost use Rattle.cw_commands.specs.Starts.{BeginsLine, IsRefused};
+ghost use Rattle.cw_stages.specs.Fitting.{fit_line, name_at, splitting_line};
+
+use crate::refusals::worded;
+use cw_callgraph::FitFault;
+use cw_commands::{Cause, Outcome};
+use cw_io::{Sink, Writer};
+use cw_rights::Policy;
+use cw_source::place::{column_of, line_of};
+
+/// The name with this number in a list, or none.
+fn name_at(names: &[Vec<u8>], index: u16) -> &[u8]
+    ensures { result.now ≡ name_at (map (λ name. name.items) names.now) index }
+{
+    match names.get(usize::from(index)) {
+        Some(name) => name.as_slice(),
+        None => &[],
+    }
+}
+
+/// That a function may not be split, and the place that forbids it.
+fn splitting_refusal<O: Sink, N: Sink>(
+    source: &[u8],
+    name: &[u8],
+    place: u32,
+    note: &mut N,
+) -> Outcome<O, N>
+    ensures due { due_of result ≡ Refused Cause.Policy (splitting_line source.now name.now place) }
+    ensures refused { IsRefused result }
+    ensures notes { BeginsLine N.taken N.faults N.refused note.old note.new result }
+{
+    let mut line = Writer::begin(note);
+    line.put(b"policy: not splittable ", note);
+    line.put(name, note);
+    line.put(b" ", note);
+    line.put_number(line_of(source, place) as u64, note);
+    line.put(b":", note);
+    line.put_number(column_of(source, place) as u64, note);
+    Outcome::Refused(Cause::Policy, line)
+}
+
+/// That a policy doesn't fit, and why.
+pub(crate) fn unfitting<O: Sink, N: Sink>(
+    policy: &Policy,
+    source: &[u8],
+    fault: FitFault,
+    note: &mut N,
+) -> Outcome<O, N>
+    ensures due { due_of result ≡ Refused Cause.Policy (fit_line source.now (policy_of policy.now) fault) }
+    ensures refused { IsRefused result }
+    ensures notes { BeginsLine N.taken N.faults N.refused note.old note.new result }
+{
+    match fault {
+        FitFault::NoLabel(index) => worded(
+            Cause::Policy,
+            b"policy: no label ",
+            name_at(&policy.labels, index),
+            note,
+        ),
+        FitFault::NoFunction(index) => worded(
+            Cause::Policy,
+            b"policy: no function ",
+            name_at(&policy.split, index),
+            note,
+        ),
+        FitFault::NotSplittable(index, place) => {
+            splitting_refusal(source, name_at(&policy.split, index), place, note)
+        }
+    }
+}
