@@ -20,11 +20,6 @@ use Rattle.cw_audit_check.specs.declared.check.BadGroup.{BadGroup}
 abbrev pub fault_of : BadGroup → GroupFault
 fault_of bad = fault_at bad.group bad.row bad.condition
 
--- groups and rows can be numbered
-pub record AreFew (groups : List Group) : Type 0 where
-  pub groups_few : length groups < 2 ^ 32
-  pub rows_few : (i : ℕ) (grp : Group) → slice_get groups i ≡ Some grp → length grp.rows.items < 2 ^ 32
-
 -- What a yes gives: in each program of the game no play in which the weaver always skips violates by fewer moves than the distance, and none at all where
 -- the table has no distance.
 abbrev pub Bounds : Game → Audit → Type 0

@@ -4,9 +4,9 @@ ghost use Rattle.std.specs.Prelude.{◌≡◌, ◌<◌, ◌^◌, ℕ, Some, map,
 ghost use Rattle.std.specs.List.{enumerate_from};
 ghost use Rattle.cw_game.specs.Conditions.{first_failing};
 ghost use Rattle.cw_product.specs.Product.{game_of};
-ghost use Rattle.cw_audit_table.specs.Tables.{row_of, group_of, audit_of, group_at};
+ghost use Rattle.cw_audit_table.specs.Tables.{AreFew, row_of, group_of, audit_of, group_at};
 ghost use Rattle.cw_audit_table.specs.Conditions.{fault_at, begins, row_faults, group_faults, audit_fault, IsGoodAudit};
-ghost use Rattle.cw_audit_check.specs.Checks.{AreFew, Bounds, IsInRange, AreInRange, fault_of, group_conditions};
+ghost use Rattle.cw_audit_check.specs.Checks.{Bounds, IsInRange, AreInRange, fault_of, group_conditions};
 
 use crate::looked_up::{group_at, has_zero, skipped};
 use crate::ranges::first_bad_range;

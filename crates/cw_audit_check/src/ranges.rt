@@ -4,9 +4,8 @@ ghost use Rattle.std.specs.Prelude.{◌≡◌, ◌<◌, ◌^◌, ◌&&◌, ℕ, 
 ghost use Rattle.std.specs.List.{enumerate_from};
 ghost use Rattle.cw_game.specs.Conditions.{first_failing};
 ghost use Rattle.cw_product.specs.Product.{game_of};
-ghost use Rattle.cw_audit_table.specs.Tables.{row_of, group_of};
+ghost use Rattle.cw_audit_table.specs.Tables.{AreFew, row_of, group_of};
 ghost use Rattle.cw_audit_table.specs.Conditions.{fault_at, is_after, is_group, is_place, is_free, key_of, pair_of, places, ranges};
-ghost use Rattle.cw_audit_check.specs.Checks.{AreFew};
 
 use cw_audit_table::Group;
 use cw_core::{PosId, StateId};

@@ -1,5 +1,5 @@
 -- The table of an audit as plain data, and its rows by what they are asked for.
-use Rattle.std.specs.Prelude.{ℕ, List, Option, option_map, find, map, nat_eq, ◌&&◌}
+use Rattle.std.specs.Prelude.{◌≡◌, ℕ, ◌<◌, ◌^◌, List, Option, Some, option_map, find, map, nat_eq, ◌&&◌, length, slice_get}
 use Rattle.cw_core.specs.declared.ids.PosId.{PosId}
 use Rattle.cw_core.specs.declared.ids.StateId.{StateId}
 use Rattle.cw_certs.specs.declared.moves.Move.{Move}
@@ -33,6 +33,11 @@ group_of g = record { function = g.function; entered = g.entered.0; reach = g.re
 
 abbrev pub audit_of : AuditTable → Audit
 audit_of t = record { states = t.states; distance = t.distance; moves = t.moves.items; groups = map group_of t.groups.items }
+
+-- groups and rows can be numbered
+pub record AreFew (groups : List Group) : Type 0 where
+  pub groups_few : length groups < 2 ^ 32
+  pub rows_few : (i : ℕ) (grp : Group) → slice_get groups i ≡ Some grp → length grp.rows.items < 2 ^ 32
 
 -- the group of a function with the state in which it is entered; how many moves a group's row at a pair is from its entry
 abbrev pub group_at : List PlainGroup → (f q : ℕ) → Option PlainGroup

@@ -1,15 +1,16 @@
 -- A text read line by line.
 use Rattle.std.proofs.Common.{◌≡◌, ℕ, zero, suc, ◌+◌, ◌^◌, ◌<◌, ◌≤◌, List, [], ◌∷◌, ◌++◌, map, length, take, get_or, Bool, true, false, eqb, eqb-true, Option, Some, None, refl, sym, ap, ap₂, ◌∙◌, subst, arith, append-nil, append_assoc, length-append}
-use Rattle.std.specs.Prelude.{codes}
+use Rattle.std.specs.Prelude.{slice_get, codes}
 use Rattle.std.specs.List.{flat_map, All}
 use Rattle.std.proofs.lemmas.Bool.{false≢true}
+use Rattle.std.proofs.lemmas.Option.{none-some, same_Some}
 use Rattle.std.proofs.lemmas.List.{map-append, length-map, take_more}
 use Rattle.std.proofs.lemmas.List.Elements.{All-nil, All-cons, All-push}
 use Rattle.cw_core.specs.declared.ids.PosId.{PosId}
 use Rattle.cw_core.specs.declared.ids.StateId.{StateId}
 use Rattle.cw_certs.specs.declared.moves.Move.{Move}
 use Rattle.cw_audit_table.specs.declared.table.Group.{Group}
-use Rattle.cw_audit_table.specs.Tables.{PlainGroup, Audit, row_of, group_of}
+use Rattle.cw_audit_table.specs.Tables.{AreFew, PlainGroup, Audit, row_of, group_of}
 use Rattle.cw_audit_text.specs.declared.text_line.TextLine.{TextLine}
 use Rattle.cw_audit_text.specs.declared.text_line.TextLine.TheVariants.{Head, States, Go, In, At, End}
 use Rattle.cw_audit_text.specs.declared.fault.AuditTextFault.TheVariants.{Line}
@@ -141,6 +142,26 @@ lines_front (g ∷ groups) (suc i) =
 pub count_small : (groups : List Group) (i lines : ℕ) (g : Group) → i < length groups → g ≡ get_or groups i g → lines ≡ Lines (take i groups) → Lines groups < 2 ^ 32
     → lines + (1 + length g.rows.items) < 2 ^ 32
 count_small groups i lines g lt is e few = let a = count_more groups i lines g lt is e in let b = lines_front groups (i + 1) in omega (arith, a, b, few)
+
+lines_many : (groups : List Group) → length groups ≤ Lines groups
+lines_many [] = omega arith
+lines_many (g ∷ groups) = let a = length-append (group_lines (group_of g)) (groups_lines groups) in let b = lines_many groups in omega (arith, a, b)
+
+lines_of_group : (groups : List Group) (i : ℕ) (g : Group) → slice_get groups i ≡ Some g → length g.rows.items ≤ Lines groups
+lines_of_group [] i g e = absurd (none-some g e)
+lines_of_group (x ∷ groups) zero g e =
+    let a = length-append (group_lines (group_of x)) (groups_lines groups) in
+    let b = length-map (map row_of x.rows.items) row_line in
+    let d = length-map x.rows.items row_of in
+    let same = ap (λ (y : Group). length y.rows.items) (same_Some x g e) in
+    omega (arith, a, b, d, same)
+lines_of_group (x ∷ groups) (suc i) g e = let a = length-append (group_lines (group_of x)) (groups_lines groups) in let b = lines_of_group groups i g e in omega (arith, a, b)
+
+pub are_few : (groups : List Group) → Lines groups < 2 ^ 32 → AreFew groups
+are_few groups few = record {
+  groups_few = let a = lines_many groups in omega (arith, a, few);
+  rows_few = λ i g e. let a = lines_of_group groups i g e in omega (arith, a, few);
+}
 
 -- as many bytes as lines at least
 pub lines_short : (ls : List TextLine) (rest : List ℕ) → length ls + length rest ≤ length (whole_lines ls ++ rest)

@@ -3,7 +3,7 @@
 ghost use Rattle.std.specs.Prelude.{◌≡◌, ◌++◌, ◌+◌, ◌<◌, ◌≤◌, ◌^◌, ℕ, List, Option, Some, map, length, IfOk, IfErr, IfSome, IfNone};
 ghost use Rattle.std.specs.List.{flat_map, All};
 ghost use Rattle.cw_certs.specs.declared.moves.Move.{Move as MoveOf};
-ghost use Rattle.cw_audit_table.specs.Tables.{row_of, group_of, audit_of};
+ghost use Rattle.cw_audit_table.specs.Tables.{AreFew, row_of, group_of, audit_of};
 ghost use Rattle.cw_audit_text.specs.declared.text_line.TextLine.{TextLine as LineOf};
 ghost use Rattle.cw_audit_text.specs.declared.text_line.TextLine.TheVariants.{Head, States, Go, In, At, End};
 ghost use Rattle.cw_audit_text.specs.declared.fault.AuditTextFault.TheVariants.{NoMemory};
@@ -232,6 +232,7 @@ fn lines_in(groups: &[Group]) -> usize
 pub fn read_audit(alloc: Global, text: &[u8]) -> Result<AuditTable, AuditTextFault>
     requires { length text.now ≤ 33554432 }
     ensures spells { IfOk result (λ table. Spells text.now (audit_of table)) }
+    ensures few { IfOk result (λ table. AreFew table.groups.items) }
     ensures fault { IfErr result (λ fault. IsCause text.now fault) }
 {
     let Some(first) = after_head(text) else {

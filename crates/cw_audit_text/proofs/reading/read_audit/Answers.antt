@@ -2,7 +2,7 @@
 use Rattle.std.proofs.Common.{◌≡◌, ◌+◌, ◌≤◌, length, arith, subst}
 use Rattle.cw_audit_text.specs.declared.fault.AuditTextFault.TheVariants.{Line}
 use Rattle.cw_audit_text.specs.Faults.{IsCause, no_head, no_states, no_verdict}
-use Rattle.cw_audit_text.proofs.Behind.{few_lines, spelled_end, fault_end, fault_line, some_bytes, no_bytes, groups_lines}
+use Rattle.cw_audit_text.proofs.Behind.{few_lines, spelled_end, fault_end, fault_line, some_bytes, no_bytes, groups_lines, are_few}
 use Rattle.cw_audit_text.proofs.reading.read_audit.Goals as goal
 use Rattle.cw_audit_text.proofs.reading.read_audit.Goals.{In_ok-groups, After-lines_in}
 
@@ -85,3 +85,6 @@ returns-clause-spells c =
     c.in-Some-after_states.states c.in-Some-after_verdict.distance c.in_ok-moves.moves.items c.in_ok-groups.groups.items c.in-Some.ensures.some c.in-Some-after_states.ensures.some
     c.in-Some-after_verdict.ensures.some c.in_ok-moves.ensures.text c.in_ok-moves.ensures.fits c.in_ok-moves.ensures.none c.in_ok-groups.ensures.text c.in_ok-groups.ensures.fits
     c.in-Some-after_end.rest.now c.in-Some-after_end.ensures.some (no_bytes c.in-Some-after_end.rest.now c.is_empty.result c.is_empty.ensures c.if-not-is_empty.false)
+
+pub returns-clause-few : goal.returns-clause-few
+returns-clause-few c = are_few c.in_ok-groups.groups.items (let f = few (goal.at.returns-clause-few c).In_ok-groups in let r = c.requires in omega (arith, f, r))

@@ -1,0 +1,7 @@
+//! Tests of audits that are read and checked: with values from outside, where no clause says what is wanted.
+#![tactic(auto)]
+
+#[cfg(test)]
+mod audits;
+#[cfg(test)]
+mod played;
