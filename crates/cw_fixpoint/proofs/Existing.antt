@@ -1,12 +1,13 @@
 -- What is closed in a finite set has a list, and what a list has can be put in order: by what a list lacks of the set, which is less each time.
 use Rattle.std.proofs.Common.{◌≡◌, ◌⊎◌, ℕ, zero, suc, ◌<◌, ◌≤◌, List, [], ◌∷◌, length, refl, sym, ap, ◌∙◌, subst, inl, inr, arith}
-use Rattle.std.specs.List.{AllByRecursion, Contains}
+use Rattle.std.specs.List.{AllByRecursion, Contains, flat_map}
 use Rattle.std.specs.List.Sorted.{IsStrictlySortedBy}
 use Rattle.std.specs.FinMap.{IsAntisymmetric}
 use Rattle.std.specs.Cmp.{IsTotalOrder, tied_itself}
 use Rattle.std.specs.Ordering.{ordering_reverse}
 use Rattle.std.specs.declared.cmp.Ordering.{Ordering}
 use Rattle.std.specs.declared.cmp.Ordering.TheVariants.{Less, Equal, Greater}
+use Rattle.std.proofs.lemmas.List.Elements.{Contains-append_left, Contains-append_right, Contains-append_cases}
 use Rattle.cw_lemmas.proofs.Lists.{contains_none, contains_one}
 use Rattle.cw_fixpoint.specs.Closures.{Exactly}
 
@@ -36,6 +37,22 @@ module _ {K : Type 0} where
   all_more : (P Q : K → Type 0) (xs : List K) → AllByRecursion P xs → ((x : K) → P x → Q x) → AllByRecursion Q xs
   all_more P Q [] h f = tt
   all_more P Q (x ∷ xs) h f = (f x h.0, all_more P Q xs h.1 f)
+
+-- what is in a list of lists put one behind the other
+module _ {X A : Type 0} (f : X → List A) where
+  pub in_flat : (xs : List X) (x : X) (y : A) → Contains xs x → Contains (f x) y → Contains (flat_map f xs) y
+  in_flat [] x y h c = absurd (contains_none x h)
+  in_flat (z ∷ xs) x y h c = elim (in_either z xs x h) [
+    | inl e ↦ Contains-append_left (f z) (flat_map f xs) y (subst (λ w. Contains (f w) y) (sym e) c)
+    | inr m ↦ Contains-append_right (f z) (flat_map f xs) y (in_flat xs x y m c)
+  ]
+
+  pub of_flat : (xs : List X) (y : A) → Contains (flat_map f xs) y → (x : X) × Contains xs x × Contains (f x) y
+  of_flat [] y h = absurd (contains_none y h)
+  of_flat (z ∷ xs) y h = elim (Contains-append_cases (f z) (flat_map f xs) y h) [
+    | inl c ↦ (z, head_in z xs, c)
+    | inr m ↦ let k = of_flat xs y m in (k.0, Contains-append_right (z ∷ []) xs k.0 k.1, k.2)
+  ]
 
 put_by : {K : Type 0} → Ordering → K → K → List K → List K → List K
 put_by Less x y ys more = x ∷ (y ∷ ys)

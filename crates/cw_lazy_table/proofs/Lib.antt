@@ -25,3 +25,4 @@ pub mod Staging
 pub mod Starting
 pub mod Stepping
 pub mod Tabled
+pub mod Existing

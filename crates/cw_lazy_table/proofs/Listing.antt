@@ -134,7 +134,7 @@ same_placed : (a b c d e k l m n o : ℕ) → a ≡ k → b ≡ l → c ≡ m �
     → ◌≡◌ {A = Placed} (record { seam = a; part = b; state = c; promise = d; pos = e }) (record { seam = k; part = l; state = m; promise = n; pos = o })
 same_placed a b c d e k l m n o p q r s t = cc
 
-placed_exact : (x y : Placed) → placed_cmp x y ≡ Equal → x ≡ y
+pub placed_exact : (x y : Placed) → placed_cmp x y ≡ Equal → x ≡ y
 placed_exact x y e =
     let a = both_equal _ _ e in
     let b = both_equal _ _ a.1 in

@@ -9,3 +9,4 @@ pub mod Rowing
 pub mod Sets
 pub mod Staged
 pub mod Tabled
+pub mod There

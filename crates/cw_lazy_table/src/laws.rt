@@ -1,6 +1,7 @@
 //! Laws of the definitions: functions that do nothing, and whose contracts hold of every value.
 
 ghost use Rattle.cw_lazy_table.specs.Laws.{LiveIsKept, LazyTablesAreGood, LazyTablesTryOnlyLost, LazyTableIsOne};
+ghost use Rattle.cw_lazy_table.specs.There.{LazyTableIsThere};
 
 /// What is live isn't lost, where the start isn't, and stands in a function under a promise that the game needs.
 pub fn live_is_kept()
@@ -23,4 +24,9 @@ pub fn lazy_tables_try_only_lost()
 /// A game has one lazy table at most.
 pub fn lazy_table_is_one()
     ensures { LazyTableIsOne }
+{}
+
+/// A game in which the lazy table can begin, and whose heights are told in 32 bits, has one, however many rows that is.
+pub fn lazy_table_is_there()
+    ensures there { LazyTableIsThere }
 {}

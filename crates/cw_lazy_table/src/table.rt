@@ -209,7 +209,8 @@ fn table_within(
 /// The lazy table of a solved game whose start isn't lost: it tries a primitive, and stops after a refusal, only where
 /// the pair after it is lost, and a call promises all exit states from which the return isn't lost.
 ///
-/// TooManyRows comes exactly where it has more than 65,536 rows, backs counted. NoMemory is want of memory.
+/// TooManyRows comes exactly where it has more than 65,536 rows, backs counted (`many`); that there is such a table is said too (`there`).
+/// NoMemory is want of memory.
 ///
 /// Public source: the weaver's strategies of Harris, Jha, Reps, Anderson and Watson (2013).
 pub fn weaver_table(alloc: Global, game: &Game, solved: &Solved) -> Result<WeaverCert, TableFault>
@@ -222,6 +223,7 @@ pub fn weaver_table(alloc: Global, game: &Game, solved: &Solved) -> Result<Weave
     ensures lost { IfOk result (λ t. TriesOnlyLost (game_of game.now) t) }
     ensures few { IfOk result (λ t. table_rows t ≤ 65536) }
     ensures many { IfErr result (λ fault. fault ≡ TableFault.TooManyRows → (t : Table) → IsLazyTable (game_of game.now) t → 65536 < table_rows t) }
+    ensures there { IfErr result (λ fault. fault ≡ TableFault.TooManyRows → (t : Table) × IsLazyTable (game_of game.now) t × (65536 < table_rows t)) }
 {
     solved.contexts_are_needed();
     solved.heights_are_low();

@@ -13,3 +13,4 @@ pub mod Acting
 pub mod Made
 pub mod Tabled
 pub mod Backs
+pub mod Existing

@@ -5,3 +5,4 @@ pub mod Heights
 pub mod Kept
 pub mod Laws
 pub mod Strategies
+pub mod There

@@ -82,7 +82,7 @@ fn strategy_within(alloc: Global, solved: &Solved) -> Result<Option<EnvCert>, Al
 /// state. It meets the eight conditions of a strategy; by the last of them a row stands at the start, with an empty aim.
 ///
 /// TooManyRows comes only where its rows, and the backs of each, are more than 65,536 together, and an answer only where
-/// they are not. NoMemory is want of memory.
+/// they are not (`many`); that there is such a strategy is said too (`there`). NoMemory is want of memory.
 ///
 /// Public source: the environment's strategies of Harris, Jha, Reps, Anderson and Watson (2013).
 pub fn env_table(alloc: Global, game: &Game, solved: &Solved) -> Result<EnvCert, TableFault>
@@ -95,6 +95,7 @@ pub fn env_table(alloc: Global, game: &Game, solved: &Solved) -> Result<EnvCert,
     ensures good { IfOk result (λ s. IsGoodStrategy (game_of game.now) (strategy_of s)) }
     ensures few { IfOk result (λ s. rows_of (strategy_of s) ≤ 65536) }
     ensures many { IfErr result (λ fault. fault ≡ TableFault.TooManyRows → (s : Strategy) → IsLeastStrategy (game_of game.now) s → 65536 < rows_of s) }
+    ensures there { IfErr result (λ fault. fault ≡ TableFault.TooManyRows → (s : Strategy) × IsLeastStrategy (game_of game.now) s × (65536 < rows_of s)) }
 {
     let _ = game;
     match strategy_within(alloc, solved) {

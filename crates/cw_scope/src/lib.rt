@@ -7,13 +7,15 @@ mod entries;
 pub mod faults;
 mod forms;
 mod functions;
-mod lists;
+pub mod lists;
 mod misuses;
 mod names;
 mod places;
 mod rules;
-mod walks;
+pub mod walks;
 
 pub use check::check_scope;
 pub use descriptors::{DescriptorFault, check_descriptors};
 pub use faults::ScopeFault;
+pub use lists::{body_of, every_statement};
+pub use walks::Placed;

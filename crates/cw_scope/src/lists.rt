@@ -12,10 +12,7 @@ use cw_syntax::program::{Decl, Expr, Function, Head, Item, Program, Stmt, What};
 use std::alloc::{AllocError, Global};
 
 /// The statements of a function.
-pub(crate) fn body_of<'p>(
-    alloc: Global,
-    function: &'p Function,
-) -> Result<Vec<Placed<'p>>, AllocError>
+pub fn body_of<'p>(alloc: Global, function: &'p Function) -> Result<Vec<Placed<'p>>, AllocError>
     ensures { IfOk result (λ ps. map placed_of ps.items ≡ body_of (definition_of function.now)) }
 {
     let mut statements = Vec::new(alloc);
@@ -34,7 +31,7 @@ fn put_bodies<'p>(functions: &'p [Function], out: &mut Vec<Placed<'p>>) -> Resul
 }
 
 /// The statements of a program.
-pub(crate) fn every_statement<'p>(
+pub fn every_statement<'p>(
     alloc: Global,
     program: &'p Program,
 ) -> Result<Vec<Placed<'p>>, AllocError>

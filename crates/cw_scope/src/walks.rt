@@ -13,7 +13,7 @@ use std::alloc::AllocError;
 
 /// A statement, and whether it stands in a loop.
 #[derive(Clone, Copy, Drop)]
-pub(crate) struct Placed<'p> {
+pub struct Placed<'p> {
     pub statement: &'p Stmt,
     pub looped: bool,
 }

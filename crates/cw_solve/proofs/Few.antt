@@ -107,7 +107,7 @@ module _ (g : Game) where
   each_same n (x ∷ xs) = sum_by-cons (λ (c : Context). size g c.function) (context n x) (map (context n) xs) ∙ ap (λ k. size g n + k) (each_same n xs) ∙ one_more (length xs) (size g n)
 
   module _ (functions : ℕ) (routed : AreRouted g functions) where
-    there : (c : Context) → IsNeeded g c → (c.function < functions) × (c.promise < 2 ^ g.states.count)
+    pub there : (c : Context) → IsNeeded g c → (c.function < functions) × (c.promise < 2 ^ g.states.count)
     there _ of_main = (routed.main.below, all_below)
     there _ (of_call c n p q set call need of s es is) = ((routed.called p call es).below, set_below set (promise_at g n call.back _ c.promise) is)
 
