@@ -2,3 +2,5 @@
 pub mod Puts
 pub mod Lines
 pub mod Behind
+pub mod OneAnswer
+mod SomeAnswer

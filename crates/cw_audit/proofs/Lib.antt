@@ -1,0 +1,3 @@
+-- The proofs.
+pub mod Done
+pub mod Limits

@@ -1,0 +1,3 @@
+-- The definitions.
+pub mod Audits
+pub mod Bounds

@@ -1,0 +1,4 @@
+//! Laws of audits over tables that are searched for.
+#![tactic(auto)]
+
+pub mod laws;

@@ -1,0 +1,222 @@
+-- The places that are kept: in order, and all that are below the bound.
+use Rattle.std.proofs.Common.{◌≡◌, ℕ, zero, suc, ◌+◌, ◌<◌, List, [], ◌∷◌, ◌++◌, map, Bool, true, false, cond, Option}
+use Rattle.std.proofs.Common.{Some, None, option_map, eqb, length, take, get_or, append-nil, refl, sym, ap, ◌∙◌, subst, arith, ◌⊎◌, inl, inr}
+use Rattle.std.specs.Prelude.{slice_get, is_some, nat_lt}
+use Rattle.std.specs.declared.cmp.Ordering.{Ordering}
+use Rattle.std.specs.declared.cmp.Ordering.TheVariants.{Less, Equal, Greater}
+use Rattle.std.specs.Ordering.{ordering_then, nat_cmp, eq_by_cmp}
+use Rattle.std.specs.List.{AllByRecursion, IsDistinct, filter}
+use Rattle.std.specs.List.Sorted.{IsStrictlySortedBy}
+use Rattle.std.specs.Set.{is_member}
+use Rattle.std.specs.BTreeMap.{IsOrdered, get, keys as keys_of}
+use Rattle.std.specs.Prelude.{IfOk}
+use Rattle.std.proofs.Common.{Result, Ok, Err, Vec, Global}
+use Rattle.std.proofs.lemmas.Option.{none-some, same_Some, slice_get-map}
+use Rattle.std.proofs.lemmas.Bool.{ltb-true, lt-ltb, cases_Bool}
+use Rattle.std.proofs.lemmas.Bool.Decides.{nat_tests}
+use Rattle.std.proofs.lemmas.List.Elements.{filter_more}
+use Rattle.std.proofs.lemmas.List.Kept.{IsStrictlySortedBy-filter}
+use Rattle.std.proofs.lemmas.Map.Keys.{sorted_head, sorted_tail, IsDistinct-cons}
+use Rattle.cw_lemmas.proofs.Lists.{any_get}
+use Rattle.cw_lemmas.proofs.Orders.{is_eq_equal, then_equal}
+use Rattle.cw_audit_table.specs.Runs.{cut}
+use Rattle.cw_audit_table.specs.Conditions.{is_before}
+use Rattle.cw_audit_store.specs.declared.place.Place.{Place}
+use Rattle.cw_audit_store.specs.declared.place.Entered.{Entered}
+use Rattle.cw_audit_store.specs.declared.place.Row.{Row}
+use Rattle.cw_audit_store.specs.declared.store.Store.{Store}
+use Rattle.cw_audit_store.specs.Stores.{row_at, group_at, place_cmp, entrance_cmp}
+use Rattle.cw_audit_store.specs.Finding.{found_of, place, entrance}
+use Rattle.cw_audit_search.specs.Settled.{IsRowBelow}
+use Rattle.cw_audit_search.specs.Counted.{Place as PlainPlace, is_place}
+use Rattle.cw_audit_search.specs.Grouped.{IsAfter, IsPlaceAfter, Ascend}
+use Rattle.cw_audit_search.proofs.Counting.{place_same, apart}
+use Rattle.cw_audit_listing.specs.Lists.{plain, IsKnown, is_below_by, is_below, IsLimit, AreAllBelow}
+
+-- by the orders of numbers, entrances and places
+nat_less : (m n : ℕ) → nat_cmp m n ≡ Less → m < n
+nat_less m n e = elim (cases_Bool (nat_lt m n)) [
+  | inl h ↦ ltb-true m n h
+  | inr h ↦ absurd (by (eqb m n) (sym (ap (λ b. cond b Less (cond (eqb m n) Equal Greater)) h) ∙ e))
+]
+  where
+    by : (b : Bool) → cond b Equal Greater ≡ Less → ⊥
+    by true e = cc
+    by false e = cc
+
+nat_equal : (m n : ℕ) → nat_cmp m n ≡ Equal → m ≡ n
+nat_equal m n e = grind (arith, nat_tests, e)
+
+then_less : (a b : Ordering) → ordering_then a b ≡ Less → (a ≡ Less) ⊎ ((a ≡ Equal) × (b ≡ Less))
+then_less Less b e = inl refl
+then_less Equal b e = inr (refl, e)
+then_less Greater b e = cc
+
+pair_less : (a b c d : ℕ) → ordering_then (nat_cmp a b) (nat_cmp c d) ≡ Less → IsAfter (a, c) (b, d)
+pair_less a b c d e = elim (then_less (nat_cmp a b) (nat_cmp c d) e) [ inl h ↦ inl (nat_less a b h) | inr h ↦ inr (nat_equal a b h.0, nat_less c d h.1) ]
+
+place_less : (x y : Place) → place_cmp x y ≡ Less → IsPlaceAfter (plain x) (plain y)
+place_less x y e = elim (then_less (entrance_cmp x.entrance y.entrance) _ e) [
+  | inl h ↦ inl (pair_less x.entrance.function y.entrance.function x.entrance.state.0 y.entrance.state.0 h)
+  | inr h ↦ let z = then_equal (nat_cmp x.entrance.function y.entrance.function) (nat_cmp x.entrance.state.0 y.entrance.state.0) h.0 in
+      inr ((nat_equal x.entrance.function y.entrance.function z.0, nat_equal x.entrance.state.0 y.entrance.state.0 z.1), pair_less x.pos.0 y.pos.0 x.state.0 y.state.0 h.1)
+]
+
+place_equal : (x y : Place) → place_cmp x y ≡ Equal → x ≡ y
+place_equal x y e =
+    let k = then_equal (entrance_cmp x.entrance y.entrance) _ e in
+    let z = then_equal (nat_cmp x.entrance.function y.entrance.function) (nat_cmp x.entrance.state.0 y.entrance.state.0) k.0 in
+    let w = then_equal (nat_cmp x.pos.0 y.pos.0) (nat_cmp x.state.0 y.state.0) k.1 in
+    let f = nat_equal x.entrance.function y.entrance.function z.0 in
+    let q = nat_equal x.entrance.state.0 y.entrance.state.0 z.1 in
+    let p = nat_equal x.pos.0 y.pos.0 w.0 in
+    let s = nat_equal x.state.0 y.state.0 w.1 in
+    λ i. place (f i) (q i) (p i) (s i)
+
+-- in order
+mapped_after : (x : Place) (ys : List Place) → AllByRecursion (λ y. place_cmp x y ≡ Less) ys → AllByRecursion (IsPlaceAfter (plain x)) (map plain ys)
+mapped_after x [] h = tt
+mapped_after x (y ∷ ys) h = (place_less x y h.0, mapped_after x ys h.1)
+
+sorted_ascend : (xs : List Place) → IsStrictlySortedBy place_cmp xs → Ascend (map plain xs)
+sorted_ascend [] h = tt
+sorted_ascend (x ∷ xs) h = (mapped_after x xs (sorted_head place_cmp x xs h), sorted_ascend xs (sorted_tail place_cmp x xs h))
+
+not_same : (k j : PlainPlace) → IsPlaceAfter k j → is_place k j ≡ false
+not_same k j h = apart k j (λ e.
+    let same = place_same (λ i. (i.0 ≡ k.0) × (i.1 ≡ k.1) × (i.2 ≡ k.2) × (i.3 ≡ k.3)) k j e (refl, refl, refl, refl) in
+    elim h [
+      | inl a ↦ after_not (k.0, k.1) (j.0, j.1) a same.0 same.1
+      | inr a ↦ after_not (k.2, k.3) (j.2, j.3) a.1 same.2 same.3
+    ])
+  where
+    after_not : (a b : ℕ × ℕ) → IsAfter a b → b.0 ≡ a.0 → b.1 ≡ a.1 → ⊥
+    after_not a b h e f = elim h [ inl x ↦ omega (arith, x, e) | inr x ↦ let y = x.1 in omega (arith, y, f) ]
+
+all_apart : (k : PlainPlace) (ks : List PlainPlace) → AllByRecursion (IsPlaceAfter k) ks → AllByRecursion (λ j. is_place k j ≡ false) ks
+all_apart k [] h = tt
+all_apart k (j ∷ ks) h = (not_same k j h.0, all_apart k ks h.1)
+
+ascend_distinct : (ks : List PlainPlace) → Ascend ks → IsDistinct is_place ks
+unfolding IsDistinct
+ascend_distinct [] h = tt
+ascend_distinct (k ∷ ks) h = IsDistinct-cons is_place k ks (all_apart k ks h.0) (ascend_distinct ks h.1)
+
+-- what is kept passes the test, and what passes it is kept
+module _ (test : Place → Bool) where
+  kept_pass : (xs : List Place) (i : ℕ) (x : Place) → slice_get (filter test xs) i ≡ Some x → test x ≡ true
+  kept_pass [] i x e = absurd (none-some x e)
+  kept_pass (y ∷ xs) i x e = by (test y) refl i e (λ j. kept_pass xs j x)
+    where
+      by : (b : Bool) → test y ≡ b → (i : ℕ) → slice_get (cond b (y ∷ filter test xs) (filter test xs)) i ≡ Some x → ((j : ℕ) → slice_get (filter test xs) j ≡ Some x → test x ≡ true)
+          → test x ≡ true
+      by true t zero e k = sym (ap test (same_Some y x e)) ∙ t
+      by true t (suc i) e k = k i e
+      by false t i e k = k i e
+
+  pass_kept : (xs : List Place) (i : ℕ) (x : Place) → slice_get xs i ≡ Some x → test x ≡ true → (j : ℕ) × (slice_get (filter test xs) j ≡ Some x)
+  pass_kept [] i x e t = absurd (none-some x e)
+  pass_kept (y ∷ xs) zero x e t = (0, ap (λ b. slice_get (cond b (y ∷ filter test xs) (filter test xs)) 0) (ap test (same_Some y x e) ∙ t) ∙ e)
+  pass_kept (y ∷ xs) (suc i) x e t = by (test y) refl (pass_kept xs i x e t)
+    where
+      by : (b : Bool) → test y ≡ b → (j : ℕ) × (slice_get (filter test xs) j ≡ Some x) → (j : ℕ) × (slice_get (cond b (y ∷ filter test xs) (filter test xs)) j ≡ Some x)
+      by true e k = (suc k.0, k.1)
+      by false e k = k
+
+  all_kept : (P : Place → Type 0) → ((x : Place) → test x ≡ true → P x) → (xs : List Place) → AllByRecursion P (filter test xs)
+  all_kept P h [] = tt
+  all_kept P h (x ∷ xs) = by (test x) refl (all_kept P h xs)
+    where
+      by : (b : Bool) → test x ≡ b → AllByRecursion P (filter test xs) → AllByRecursion P (cond b (x ∷ filter test xs) (filter test xs))
+      by true e k = (h x e, k)
+      by false e k = k
+
+-- what is below the bound has its group and its row
+both_there : (bound : ℕ) (og : Option Entered) (ow : Option Row) → is_below_by bound og ow ≡ true → (e : Entered) × (r : Row) × (og ≡ Some e) × (ow ≡ Some r) × (cut (e.reach + r.inside) < bound)
+both_there bound None ow h = cc
+both_there bound (Some e) None h = cc
+both_there bound (Some e) (Some r) h = (e, r, refl, refl, ltb-true (cut (e.reach + r.inside)) bound h)
+
+module _ (s : Store) (bound : ℕ) where
+  there : (at : Place) → is_below s bound at ≡ true
+      → (e : Entered) × (r : Row) × (group_at s at.entrance ≡ Some e) × (row_at s at ≡ Some r) × (cut (e.reach + r.inside) < bound)
+  there at h = both_there bound (group_at s at.entrance) (row_at s at) h
+
+  is_known : (at : Place) → is_below s bound at ≡ true → IsKnown s at
+  is_known at h =
+      let z = there at h in
+      ((z.0.reach, ap (option_map (λ (e : Entered). e.reach)) z.2), (z.1.inside, ap (option_map (λ (r : Row). r.inside)) z.3))
+
+  before : (D : Option ℕ) → IsLimit bound D → (n : ℕ) → cut n < bound → is_before D n ≡ true
+  before None l n h = refl
+  before (Some d) l n h = lt-ltb (cut n) d (omega (arith, l, h))
+
+  low : (D : Option ℕ) → IsLimit bound D → (n : ℕ) → is_before D n ≡ true → cut n < bound
+  low None l n h = omega (arith, l)
+  low (Some d) l n h = let k = ltb-true (cut n) d h in omega (arith, l, k)
+
+  below_there : (e : Entered) (r : Row) (at : Place) → group_at s at.entrance ≡ Some e → row_at s at ≡ Some r → cut (e.reach + r.inside) < bound → is_below s bound at ≡ true
+  below_there e r at eg er l =
+      ap (λ o. is_below_by bound o (row_at s at)) eg ∙ ap (is_below_by bound (Some e)) er ∙ lt-ltb (cut (e.reach + r.inside)) bound l
+
+  -- The places of the keys that are below the bound.
+  pub all_below : (keys places : List Place) → IsStrictlySortedBy place_cmp keys → ((q : Place) → is_some (row_at s q) ≡ is_member (eq_by_cmp place_cmp) keys q)
+      → places ≡ filter (is_below s bound) keys → AreAllBelow s bound places
+  all_below keys places sorted has e = subst (AreAllBelow s bound) (sym e) (record {
+    known = all_kept (is_below s bound) (IsKnown s) is_known keys;
+    ascend = ascend;
+    distinct = ascend_distinct (map plain (filter (is_below s bound) keys)) ascend;
+    below = λ D l. record { found = found D l; whole = whole D l };
+  })
+    where
+      ascend : Ascend (map plain (filter (is_below s bound) keys))
+      ascend = sorted_ascend (filter (is_below s bound) keys) (IsStrictlySortedBy-filter place_cmp (is_below s bound) keys sorted)
+
+      from : (o : Option Place) (k : PlainPlace) → option_map plain o ≡ Some k → (at : Place) × (o ≡ Some at) × (plain at ≡ k)
+      from None k e = absurd (none-some k e)
+      from (Some at) k e = (at, refl, same_Some (plain at) k e)
+
+      found : (D : Option ℕ) → IsLimit bound D → (m : ℕ) (k : PlainPlace) → slice_get (map plain (filter (is_below s bound) keys)) m ≡ Some k
+          → (r : ℕ) × (a : ℕ) × IsRowBelow (found_of s) D k.0 k.1 r k.2 k.3 a
+      found D l m k e =
+          let z = from (slice_get (filter (is_below s bound) keys) m) k (sym (slice_get-map plain (filter (is_below s bound) keys) m) ∙ e) in
+          let t = there z.0 (kept_pass (is_below s bound) keys m z.0 z.1) in
+          subst (λ (k : PlainPlace). (r : ℕ) × (a : ℕ) × IsRowBelow (found_of s) D k.0 k.1 r k.2 k.3 a) z.2
+          (t.0.reach, t.1.inside, (ap (option_map (λ (e : Entered). e.reach)) t.2, ap (option_map (λ (r : Row). r.inside)) t.3, before D l (t.0.reach + t.1.inside) t.4))
+
+      some_mapped : {A : Type 0} (f : A → ℕ) (o : Option A) (a : ℕ) → option_map f o ≡ Some a → (x : A) × (o ≡ Some x) × (f x ≡ a)
+      some_mapped f None a e = absurd (none-some a e)
+      some_mapped f (Some x) a e = (x, refl, same_Some (f x) a e)
+
+      whole : (D : Option ℕ) → IsLimit bound D → (f q r p x a : ℕ) → IsRowBelow (found_of s) D f q r p x a
+          → (m : ℕ) × (slice_get (map plain (filter (is_below s bound) keys)) m ≡ Some (f, q, p, x))
+      whole D l f q r p x a w =
+          let at = place f q p x in
+          let g = some_mapped (λ (e : Entered). e.reach) (group_at s (entrance f q)) r w.0 in
+          let n = some_mapped (λ (r : Row). r.inside) (row_at s at) a w.1 in
+          let sum : cut (g.0.reach + n.0.inside) < bound = let k = low D l (r + a) w.2 in omega (arith, k, g.2, n.2) in
+          let z = any_get (eq_by_cmp place_cmp at) keys (sym (has at) ∙ ap is_some n.1) in
+          let same = place_equal at z.1 (is_eq_equal (place_cmp at z.1) z.3) in
+          let k = pass_kept (is_below s bound) keys z.0 at (z.2 ∙ ap (λ y. Some y) (sym same)) (below_there g.0 n.0 at g.1 n.1 sum) in
+          (k.0, slice_get-map plain (filter (is_below s bound) keys) k.0 ∙ ap (option_map plain) k.1)
+
+pub all_below_of : {E : Type 0} (s : Store) (bound : ℕ) (result : Result (Vec Place Global) E) (keys places : List Place) → keys ≡ keys_of s.rows → IsOrdered place_cmp s.rows
+    → ((q : Place) → is_some (get place_cmp s.rows q) ≡ is_member (eq_by_cmp place_cmp) keys q) → places ≡ keys_of s.rows
+    → IfOk result (λ v. v.items ≡ filter (is_below s bound) places) → IfOk result (λ v. AreAllBelow s bound v.items)
+all_below_of s bound (Ok v) keys places e ordered has ep h =
+    all_below s bound (keys_of s.rows) v.items ordered (λ q. has q ∙ ap (λ ks. is_member (eq_by_cmp place_cmp) ks q) e) (h ∙ ap (filter (is_below s bound)) ep)
+all_below_of s bound (Err x) keys places e ordered has ep h = tt
+
+-- one place more
+abbrev pub nowhere : Place
+nowhere = place 0 0 0 0
+
+pub kept_more : (test : Place → Bool) (xs below after : List Place) (i : ℕ) → i < length xs → below ≡ filter test (take i xs) → true ≡ test (get_or xs i nowhere)
+    → after ≡ below ++ get_or xs i nowhere ∷ [] → after ≡ filter test (take (i + 1) xs)
+kept_more test xs below after i l e t is =
+    is ∙ ap (λ ys. ys ++ get_or xs i nowhere ∷ []) e ∙ ap (λ b. filter test (take i xs) ++ cond b (get_or xs i nowhere ∷ []) []) t ∙ sym (filter_more test xs i nowhere l)
+
+pub kept_less : (test : Place → Bool) (xs below after : List Place) (i : ℕ) → i < length xs → below ≡ filter test (take i xs) → false ≡ test (get_or xs i nowhere) → after ≡ below
+    → after ≡ filter test (take (i + 1) xs)
+kept_less test xs below after i l e t is =
+    is ∙ e ∙ sym (append-nil (filter test (take i xs))) ∙ ap (λ b. filter test (take i xs) ++ cond b (get_or xs i nowhere ∷ []) []) t ∙ sym (filter_more test xs i nowhere l)

@@ -1,0 +1,4 @@
+-- The proofs.
+mod Reading
+mod Grouping
+mod Keeping

@@ -1,0 +1,9 @@
+-- The definitions.
+pub mod Searches
+pub mod Sound
+pub mod Settled
+pub mod Counted
+pub mod Ways
+pub mod Listing
+pub mod Grouped
+pub mod Laws

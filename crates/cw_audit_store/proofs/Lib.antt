@@ -1,0 +1,3 @@
+-- The proofs.
+pub mod Orders
+pub mod Work

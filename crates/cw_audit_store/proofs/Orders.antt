@@ -1,0 +1,45 @@
+-- Places and entrances are in order, and those that compare as equal are the same.
+use Rattle.std.proofs.Common.{◌≡◌, ℕ, ◌∙◌, Bool, true, false, refl, ap, arith}
+use Rattle.std.specs.Prelude.{nat_eq, ◌&&◌}
+use Rattle.std.specs.declared.cmp.Ordering.{Ordering}
+use Rattle.std.specs.declared.cmp.Ordering.TheVariants.{Less, Equal, Greater}
+use Rattle.std.specs.Ordering.{is_eq, nat_cmp, ordering_then}
+use Rattle.std.specs.BTreeMap.{is_at}
+use Rattle.std.specs.Cmp.{IsTotalOrder, both_ways, on_total, then_total, nat_cmp_total}
+use Rattle.cw_audit_store.specs.declared.place.Entrance.{Entrance}
+use Rattle.cw_audit_store.specs.declared.place.Place.{Place}
+use Rattle.cw_audit_store.specs.Stores.{entrance_cmp, place_cmp}
+
+pub entrance_total : IsTotalOrder entrance_cmp
+entrance_total = then_total (on_total (λ (a : Entrance). a.function) nat_cmp_total) (on_total (λ (a : Entrance). a.state.0) nat_cmp_total)
+
+pub place_total : IsTotalOrder place_cmp
+place_total =
+    then_total (on_total (λ (a : Place). a.entrance) entrance_total)
+    (then_total (on_total (λ (a : Place). a.pos.0) nat_cmp_total) (on_total (λ (a : Place). a.state.0) nat_cmp_total))
+
+eq_nat : (m n : ℕ) → is_eq (nat_cmp m n) ≡ nat_eq n m
+eq_nat m n = both_ways (is_eq (nat_cmp m n)) (nat_eq n m) (λ e. grind (arith, e)) (λ e. grind (arith, e))
+
+eq_then : (a b : Ordering) → is_eq (ordering_then a b) ≡ (is_eq a && is_eq b)
+eq_then Less b = refl
+eq_then Equal b = refl
+eq_then Greater b = refl
+
+-- entrances that compare as equal have the same numbers, and so have places
+pub same_entrance : (a b : Entrance) → is_at (entrance_cmp a) b ≡ (nat_eq b.function a.function && nat_eq b.state.0 a.state.0)
+same_entrance a b =
+    eq_then (nat_cmp a.function b.function) (nat_cmp a.state.0 b.state.0)
+    ∙ ap (λ s. s && is_eq (nat_cmp a.state.0 b.state.0)) (eq_nat a.function b.function)
+    ∙ ap (λ s. nat_eq b.function a.function && s) (eq_nat a.state.0 b.state.0)
+
+pub same_place : (a b : Place) → is_at (place_cmp a) b
+    ≡ ((nat_eq b.entrance.function a.entrance.function && nat_eq b.entrance.state.0 a.entrance.state.0) && (nat_eq b.pos.0 a.pos.0 && nat_eq b.state.0 a.state.0))
+same_place a b =
+    let pair = ordering_then (nat_cmp a.pos.0 b.pos.0) (nat_cmp a.state.0 b.state.0) in
+    eq_then (entrance_cmp a.entrance b.entrance) pair
+    ∙ ap (λ s. s && is_eq pair) (same_entrance a.entrance b.entrance)
+    ∙ ap (λ s. (nat_eq b.entrance.function a.entrance.function && nat_eq b.entrance.state.0 a.entrance.state.0) && s)
+    (eq_then (nat_cmp a.pos.0 b.pos.0) (nat_cmp a.state.0 b.state.0)
+    ∙ ap (λ s. s && is_eq (nat_cmp a.state.0 b.state.0)) (eq_nat a.pos.0 b.pos.0)
+    ∙ ap (λ s. nat_eq b.pos.0 a.pos.0 && s) (eq_nat a.state.0 b.state.0))

@@ -1,0 +1,3 @@
+-- The definitions.
+pub mod Stores
+pub mod Finding

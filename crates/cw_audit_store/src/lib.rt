@@ -1,0 +1,10 @@
+//! What a search for an audit has found so far: groups, rows and a violation, and what it visits next.
+#![tactic(auto)]
+
+mod frontier;
+mod place;
+mod store;
+
+pub use frontier::Frontier;
+pub use place::{Entered, Entrance, Hit, Place, Row, Way};
+pub use store::Store;

@@ -1,0 +1,160 @@
+-- Steps of a search, one after another.
+use Rattle.std.proofs.Common.{◌≡◌, ℕ, ◌+◌, ◌∙◌, ◌≤◌, ◌<◌, length, Bool, true, false, Option, Some, None, refl, sym, ap, subst, arith, inl, inr}
+use Rattle.std.specs.Prelude.{option_map, cond, ◌||◌}
+use Rattle.std.proofs.lemmas.Bool.Decides.{leb_tells}
+use Rattle.std.proofs.lemmas.Option.{none-some, same_Some}
+use Rattle.cw_game.specs.Games.{Game}
+use Rattle.cw_product.specs.Product.{Held, game_of}
+use Rattle.cw_audit_store.specs.declared.place.Entrance.{Entrance}
+use Rattle.cw_audit_store.specs.declared.place.Place.{Place}
+use Rattle.cw_core.specs.declared.ids.PosId.{PosId}
+use Rattle.cw_audit_store.specs.declared.place.Row.{Row}
+use Rattle.cw_audit_store.specs.declared.place.Way.TheVariants.{Begun, Returned}
+use Rattle.cw_audit_store.specs.declared.place.Entered.{Entered}
+use Rattle.cw_audit_store.specs.Stores.{row_at, group_at}
+use Rattle.cw_audit_table.specs.Runs.{cut, skipped}
+use Rattle.cw_audit_search.specs.Sound.{IsArrival, IsPlace, IsProposal}
+use Rattle.cw_audit_search.specs.Ways.{IsCaller}
+use Rattle.cw_audit_search.proofs.Ways.{reach_ways}
+use Rattle.cw_audit_search.specs.Settled.{IsCovered}
+use Rattle.cw_audit_search.proofs.Proposing.{entry_proposal, return_proposal, fallen_trans}
+use Rattle.cw_audit_search.proofs.Setting.{reach_sound, reach_falls, group_itself}
+use Rattle.cw_audit_visits.specs.declared.under_way.Search.{Search}
+use Rattle.cw_audit_visits.specs.Searching.{place, found_of, functions_of, IsFairGame, IsKept, IsGoneOn, IsTold, Tells, IsGroupNear, IsGroupFalling, IsGroupSet, IsEntranceTold, IsCallAt, IsReturnTold, IsDue, left, ways_of, caller_of}
+use Rattle.cw_audit_visits.proofs.Sets.{group_reach, group_call}
+use Rattle.cw_audit_visits.proofs.Oks.{by_truth}
+use Rattle.cw_audit_visits.proofs.Proposed.{behind, stays}
+
+pub gone_trans : (h : Held) (a b c : Search) → IsGoneOn h a b → IsGoneOn h b c → IsGoneOn h a c
+gone_trans h a b c x y = record { kept = y.kept; fallen = fallen_trans (found_of a.store) (found_of b.store) (found_of c.store) x.fallen y.fallen }
+
+module _ (h : Held) (s s2 : Search) (at : Entrance) (entered : Entered) where
+  abbrev g : Game
+  g = game_of h
+
+  -- a group is set
+  pub group_gone_on : IsFairGame h → IsKept (game_of h) (functions_of h) s → IsArrival (game_of h) at.function at.state.0 entered.reach → IsCaller (game_of h) (found_of s.store) at.function at.state.0 entered.reach (option_map caller_of entered.call) → IsGroupFalling s at entered.reach
+      → IsGroupSet s.store s2.store at entered → IsGoneOn h s s2
+  group_gone_on fair kept arrival caller falls set =
+      let set2 = group_reach s.store s2.store at.function at.state.0 entered set in
+      let falls2 : (a : ℕ) → (found_of s.store).reach at.function at.state.0 ≡ Some a → entered.reach ≤ a =
+      λ a e. let r = behind (λ (e : Entered). e.reach) (group_at s.store at) a e in subst (λ m. entered.reach ≤ m) r.2 (falls r.0 r.1) in
+      let fallen = reach_falls g (functions_of h) fair (found_of s.store) (found_of s2.store) kept.sound at.function at.state.0 entered.reach set2 falls2 in
+      record {
+        kept = record {
+          sound = reach_sound g (functions_of h) fair (found_of s.store) (found_of s2.store) kept.sound at.function at.state.0 entered.reach set2 falls2 arrival;
+          ways = reach_ways g (found_of s.store) (found_of s2.store) fallen (ways_of s.store) (ways_of s2.store) kept.ways at.function at.state.0 entered.reach (option_map caller_of entered.call)
+              set2 (group_call s.store s2.store at.function at.state.0 entered set) caller;
+        };
+        fallen = fallen;
+      }
+
+  pub group_step : IsFairGame h → IsKept (game_of h) (functions_of h) s → IsArrival (game_of h) at.function at.state.0 entered.reach → IsCaller (game_of h) (found_of s.store) at.function at.state.0 entered.reach (option_map caller_of entered.call) → (changed : Bool) → Tells s s2 changed
+      → (changed ≡ true → IsGroupFalling s at entered.reach) → (changed ≡ true → IsGroupSet s.store s2.store at entered) → IsGoneOn h s s2
+  group_step fair kept arrival caller changed tells falls set = by_truth {X = IsGoneOn h s s2} changed
+      (λ b. stays h s s2 (tells.same b).0 kept)
+      (λ b. group_gone_on fair kept arrival caller (falls b) (set b))
+
+  -- then it is there
+  pub group_there : IsGroupSet s.store s2.store at entered → (found_of s2.store).reach at.function at.state.0 ≡ Some entered.reach
+  group_there set =
+      (group_reach s.store s2.store at.function at.state.0 entered set).reach at.function at.state.0
+      ∙ ap (λ b. cond b (Some entered.reach) ((found_of s.store).reach at.function at.state.0)) (group_itself at.function at.state.0)
+
+  pub reached : (changed : Bool) → (changed ≡ false → (s2.store ≡ s.store) × IsGroupNear s at entered.reach) → (changed ≡ true → IsGroupSet s.store s2.store at entered)
+      → (r : ℕ) × ((found_of s2.store).reach at.function at.state.0 ≡ Some r)
+  reached changed near set = by_truth {X = (r : ℕ) × ((found_of s2.store).reach at.function at.state.0 ≡ Some r)} changed
+      (λ b. let z = near b in
+      (z.1.0.reach, subst (λ t. (found_of t).reach at.function at.state.0 ≡ Some z.1.0.reach) (sym z.0) (ap (option_map (λ (e : Entered). e.reach)) z.1.1)))
+      (λ b. (entered.reach, group_there (set b)))
+
+  -- where nothing was set, and the entry is told of
+  pub entrance_told : (entry : Place) → entry ≡ place at.function at.state.0 ((game_of h).entry at.function) at.state.0 → s2.store ≡ s.store → IsGroupNear s at entered.reach → IsTold h s2 entry 0
+      → IsEntranceTold h s at entered.reach
+  entrance_told entry is same near told =
+      let er : (found_of s.store).reach at.function at.state.0 ≡ Some near.0.reach = ap (option_map (λ (e : Entered). e.reach)) near.1 in
+      let told2 = subst (λ t. (r : ℕ) → (found_of t).reach at.function at.state.0 ≡ Some r → IsCovered (game_of h) (found_of t) at.function at.state.0 r ((game_of h).entry at.function) at.state.0 0)
+      same (subst (λ e. IsTold h s2 e 0) is told) in
+      (near.0.reach, er, near.2, told2 near.0.reach er)
+
+-- the entry of a group may be proposed
+pub entry_due : (h : Held) (s : Search) (f q : ℕ) (p : PosId) → IsFairGame h → IsKept (game_of h) (functions_of h) s → p.0 ≡ (game_of h).entry f → (r : ℕ) × ((found_of s.store).reach f q ≡ Some r)
+    → IsDue h s (place f q p.0 q) 0 Begun
+entry_due h s f q p fair kept is known = record {
+  proposal = subst (λ p. IsProposal (game_of h) (found_of s.store) f q p q 0) (sym is) (entry_proposal (game_of h) (functions_of h) fair (found_of s.store) kept.sound f q known.0 known.1);
+  leads = (ap (skipped (game_of h)) is, refl);
+}
+
+-- where a row isn't there, nothing is asked of it
+pub no_number : (s : Search) (at : Place) (a : ℕ) → row_at s.store at ≡ None → (found_of s.store).number at.entrance.function at.entrance.state.0 at.pos.0 at.state.0 ≡ Some a → ⊥
+no_number s at a e n = none-some a (sym (ap (option_map (λ (r : Row). r.inside)) e) ∙ n)
+
+module _ (h : Held) (s : Search) (at : Place) (f k y : ℕ) (call : IsCallAt h at f k) where
+  -- behind a return
+  pub return_due : (fair : IsFairGame h) (kept : IsKept (game_of h) (functions_of h) s) (row end : Row) (n : ℕ) → row_at s.store at ≡ Some row
+      → row_at s.store (place f at.state.0 ((game_of h).exit f) y) ≡ Some end → n ≡ cut (row.inside + end.inside + 2)
+      → IsDue h s (place at.entrance.function at.entrance.state.0 k y) n (Returned at.pos at.state f (record { 0 = y }))
+  return_due fair kept row end n er ee number =
+      let ra = ap (option_map (λ (r : Row). r.inside)) er in
+      let re = ap (option_map (λ (r : Row). r.inside)) ee in
+      record {
+        proposal = subst (λ n. IsProposal (game_of h) (found_of s.store) at.entrance.function at.entrance.state.0 k y n) (sym number)
+            (return_proposal (game_of h) (functions_of h) fair (found_of s.store) kept.sound at.entrance.function at.entrance.state.0 at.pos.0 at.state.0 row.inside call.0 f k y end.inside
+            ra call.1 re);
+        leads = (row.inside, end.inside, ra, re, omega (arith, number), (call.0, k, call.1, refl), refl);
+      }
+
+  pub return_told : (row end : Row) (n : ℕ) → row_at s.store at ≡ Some row → row_at s.store (place f at.state.0 ((game_of h).exit f) y) ≡ Some end → n ≡ cut (row.inside + end.inside + 2)
+      → IsTold h s (place at.entrance.function at.entrance.state.0 k y) n → IsReturnTold h s at f k y
+  return_told row end n er ee number told = λ r a e rr ra re.
+      let same_a = same_Some row.inside a (sym (ap (option_map (λ (r : Row). r.inside)) er) ∙ ra) in
+      let same_e = same_Some end.inside e (sym (ap (option_map (λ (r : Row). r.inside)) ee) ∙ re) in
+      subst (λ n. IsCovered (game_of h) (found_of s.store) at.entrance.function at.entrance.state.0 r k y n) (omega (arith, number, same_a, same_e)) (told r rr)
+
+-- the row at the callee's end
+pub end_there : (h : Held) (s : Search) (f x p y : ℕ) (o : Option Row) (end : Row) → p ≡ (game_of h).exit f → o ≡ row_at s.store (place f x p y) → o ≡ Some end
+    → row_at s.store (place f x ((game_of h).exit f) y) ≡ Some end
+end_there h s f x p y o end is at there = ap (λ (p : ℕ). row_at s.store (place f x p y)) (sym is) ∙ sym at ∙ there
+
+pub no_end : (h : Held) (s : Search) (f x p y e : ℕ) (o : Option Row) → p ≡ (game_of h).exit f → o ≡ row_at s.store (place f x p y) → ((r : Row) → o ≡ Some r → ⊥)
+    → (found_of s.store).number f x ((game_of h).exit f) y ≡ Some e → ⊥
+no_end h s f x p y e o is at none there =
+    let r = behind (λ (r : Row). r.inside) (row_at s.store (place f x ((game_of h).exit f) y)) e there in
+    none r.0 (at ∙ ap (λ (p : ℕ). row_at s.store (place f x p y)) is ∙ r.1)
+
+-- where a row is, its position and state are the game's
+pub row_placed : (h : Held) (s : Search) (at : Place) (row : Row) → IsFairGame h → IsKept (game_of h) (functions_of h) s → row_at s.store at ≡ Some row
+    → IsPlace (game_of h) (functions_of h) at.entrance.function at.entrance.state.0 at.pos.0 at.state.0
+row_placed h s at row fair kept e = kept.sound.placed at.entrance.function at.entrance.state.0 at.pos.0 at.state.0 row.inside (ap (option_map (λ (r : Row). r.inside)) e)
+
+pub row_position : (h : Held) (s : Search) (at : Place) (row : Row) → IsFairGame h → IsKept (game_of h) (functions_of h) s → row_at s.store at ≡ Some row
+    → at.pos.0 < length (game_of h).spots
+row_position h s at row fair kept e =
+    let z = row_placed h s at row fair kept e in
+    omega (arith, z.position.1, fair.short at.entrance.function z.function)
+
+-- whether either changed anything
+pub tells_both : (a b c : Search) (x y : Bool) → Tells a b x → Tells b c y → Tells a c (x || y)
+tells_both a b c true y h k = record {
+  same = λ e. cc;
+  less = λ e. by_truth {X = left c < left a} y
+      (λ n. let z = (k.same n).1 in omega (arith, z, h.less refl))
+      (λ n. omega (arith, k.less n, h.less refl));
+}
+tells_both a b c false y h k = record {
+  same = λ e. ((k.same e).0 ∙ (h.same refl).0, (k.same e).1 ∙ (h.same refl).1);
+  less = λ e. let z = (h.same refl).1 in omega (arith, z, k.less e);
+}
+
+pub neither : (x y : Bool) → (x || y) ≡ false → (x ≡ false) × (y ≡ false)
+neither true y e = cc
+neither false y e = (refl, e)
+
+-- the returns so far are told of, and one more is
+pub returns_more : (h : Held) (s s1 : Search) (at : Place) (f k n : ℕ) → s1.store ≡ s.store → ((y : ℕ) → y < n → IsReturnTold h s at f k y) → IsReturnTold h s1 at f k n
+    → (y : ℕ) → y < n + 1 → IsReturnTold h s at f k y
+returns_more h s s1 at f k n same before here y l = elim (leb_tells n y) [
+  | inl q ↦ let z : n ≡ y = omega (arith, q.1, l) in
+      subst (IsReturnTold h s at f k) z (subst (λ t. IsReturnTold h (record { store = t; frontier = s.frontier }) at f k n) same here)
+  | inr q ↦ before y q.1
+]

@@ -1,0 +1,9 @@
+-- The proofs.
+pub mod Oks
+pub mod Turns
+pub mod Gone
+pub mod Begun
+pub mod Stepping
+pub mod Swept
+pub mod Sets
+pub mod Proposed

@@ -1,0 +1,134 @@
+-- A proposal is told of where nothing changes; and what is set keeps the search sound.
+use Rattle.std.proofs.Common.{◌≡◌, ℕ, ◌+◌, ◌∙◌, ◌≤◌, Bool, true, false, Option, Some, None, refl, sym, ap, subst, arith}
+use Rattle.std.specs.Prelude.{option_map, slice_get}
+use Rattle.std.proofs.lemmas.Option.{none-some, same_Some}
+use Rattle.std.proofs.Math.Nat.{min-le_right}
+use Rattle.cw_lemmas.proofs.Truths.{not_both}
+use Rattle.cw_game.specs.Games.{Game, bad_in}
+use Rattle.cw_product.specs.Product.{Held, game_of}
+use Rattle.cw_audit_store.specs.declared.place.Entrance.{Entrance}
+use Rattle.cw_audit_store.specs.declared.place.Place.{Place}
+use Rattle.cw_audit_store.specs.declared.place.Row.{Row}
+use Rattle.cw_audit_store.specs.declared.place.Entered.{Entered}
+use Rattle.cw_audit_store.specs.declared.place.Hit.{Hit}
+use Rattle.cw_audit_store.specs.declared.place.Way.{Way}
+use Rattle.cw_audit_store.specs.Stores.{row_at, group_at}
+use Rattle.cw_audit_table.specs.Runs.{cut, skipped}
+use Rattle.cw_audit_search.specs.Sound.{IsSound, IsHitCut, HasFallen}
+use Rattle.cw_audit_search.proofs.Proposing.{proposal_hits, fallen_refl}
+use Rattle.cw_audit_search.specs.Ways.{AreWays}
+use Rattle.cw_audit_search.proofs.Ways.{number_ways, best_ways}
+use Rattle.cw_audit_search.proofs.Setting.{number_sound, number_falls, best_sound, best_falls}
+use Rattle.cw_audit_visits.specs.declared.under_way.Search.{Search}
+use Rattle.cw_audit_visits.specs.Searching.{place, found_of, functions_of, IsFairGame, IsKept, IsDue, IsTold, IsNear, IsHitNear, IsRowSet, IsHitSet, IsRowFalling, IsHitFalling, IsGoneOn, ways_of, way_of, bad_way_of}
+use Rattle.cw_audit_visits.proofs.Sets.{row_number, hit_best, row_way, hit_way}
+
+abbrev pub at_rest : Place → ℕ → Place
+at_rest at p = place at.entrance.function at.entrance.state.0 p at.state.0
+
+-- the number of a row that is there
+number_at : (s : Search) (at : Place) (r : Row) → row_at s.store at ≡ Some r
+    → (found_of s.store).number at.entrance.function at.entrance.state.0 at.pos.0 at.state.0 ≡ Some r.inside
+number_at s at r e = ap (option_map (λ (r : Row). r.inside)) e
+
+-- what a number stands for
+pub behind : {A : Type 0} (f : A → ℕ) (o : Option A) (a : ℕ) → option_map f o ≡ Some a → (r : A) × (o ≡ Some r) × (f r ≡ a)
+behind f None a e = absurd (none-some a e)
+behind f (Some r) a e = (r, refl, same_Some (f r) a e)
+
+module _ (h : Held) (s : Search) (at : Place) (n p : ℕ) (is : p ≡ skipped (game_of h) at.pos.0) where
+  abbrev bad_at : ℕ → Bool
+  bad_at p = bad_in (game_of h) at.state.0 (slice_get (game_of h).spots p)
+
+  -- no group is there
+  pub told_nothing : group_at s.store at.entrance ≡ None → IsTold h s at n
+  told_nothing e = λ r er. absurd (none-some r (sym (ap (option_map (λ (e : Entered). e.reach)) e) ∙ er))
+
+  -- a row that isn't greater is there
+  pub told_row : bad_at p ≡ false → IsNear s (at_rest at p) n → IsTold h s at n
+  told_row good near = λ r er. record {
+    bad = λ b. absurd (not_both (bad_at p) (ap bad_at is ∙ b) good);
+    good = λ b. (near.0.inside, subst (λ p. (found_of s.store).number at.entrance.function at.entrance.state.0 p at.state.0 ≡ Some near.0.inside) is (number_at s (at_rest at p) near.0 near.1), near.2);
+  }
+
+  -- a violation that isn't later is
+  pub told_hit : (entered : Entered) → group_at s.store at.entrance ≡ Some entered → bad_at p ≡ true → IsHitNear s (cut (entered.reach + n)) → IsTold h s at n
+  told_hit entered e bad near = λ r er. record {
+    bad = λ b.
+        let same = same_Some entered.reach r (sym (ap (option_map (λ (e : Entered). e.reach)) e) ∙ er) in
+        (near.0.distance, ap (option_map (λ (h : Hit). h.distance)) near.1, subst (λ m. near.0.distance ≤ cut (m + n)) same near.2);
+    good = λ b. absurd (not_both (bad_at p) bad (ap bad_at is ∙ b));
+  }
+
+  module _ (fair : IsFairGame h) (kept : IsKept (game_of h) (functions_of h) s) (by : Way) (due : IsDue h s at n by) (s2 : Search) where
+    abbrev g : Game
+    g = game_of h
+
+    abbrev f : ℕ
+    f = at.entrance.function
+
+    abbrev q : ℕ
+    q = at.entrance.state.0
+
+    -- a row is set
+    pub row_gone_on : bad_at p ≡ false → IsRowFalling s (at_rest at p) n → IsRowSet s.store s2.store (at_rest at p) (record { inside = n; way = by }) → IsGoneOn h s s2
+    row_gone_on good falls set =
+        let there = subst (λ p. IsRowSet s.store s2.store (at_rest at p) (record { inside = n; way = by })) is set in
+        let wset = row_way s.store s2.store f q (skipped g at.pos.0) at.state.0 (record { inside = n; way = by }) there in
+        let set2 = row_number s.store s2.store f q (skipped g at.pos.0) at.state.0 (record { inside = n; way = by }) there in
+        let falls2 : (a : ℕ) → (found_of s.store).number f q (skipped g at.pos.0) at.state.0 ≡ Some a → n ≤ a =
+        λ a e. subst (λ p. (found_of s.store).number f q p at.state.0 ≡ Some a → n ≤ a) is
+        (λ e. let r = behind (λ (r : Row). r.inside) (row_at s.store (at_rest at p)) a e in subst (λ m. n ≤ m) r.2 (falls r.0 r.1)) e in
+        let x = at.state.0 in
+        let fallen = number_falls g (functions_of h) fair (found_of s.store) (found_of s2.store) kept.sound f q at.pos.0 x n set2 falls2 in
+        record {
+          kept = record {
+            sound = number_sound g (functions_of h) fair (found_of s.store) (found_of s2.store) kept.sound f q at.pos.0 x n set2 falls2 due.proposal (sym (ap bad_at is) ∙ good);
+            ways = number_ways g (found_of s.store) (found_of s2.store) fallen (ways_of s.store) (ways_of s2.store) kept.ways f q (skipped g at.pos.0) x n (way_of by) set2 wset due.leads;
+          };
+          fallen = fallen;
+        }
+
+    -- a violation is set
+    pub hit_gone_on : (entered : Entered) (d : ℕ) → d ≡ cut (entered.reach + n) → group_at s.store at.entrance ≡ Some entered → bad_at p ≡ true → IsHitFalling s d
+        → IsHitSet s.store s2.store (record { distance = d; entrance = at.entrance; way = by }) → IsGoneOn h s s2
+    hit_gone_on entered d number e bad falls set =
+        let set2 = hit_best s.store s2.store (record { distance = d; entrance = at.entrance; way = by }) set in
+        let er : (found_of s.store).reach f q ≡ Some entered.reach = ap (option_map (λ (e : Entered). e.reach)) e in
+        let hit = proposal_hits g (functions_of h) fair (found_of s.store) kept.sound f q at.pos.0 at.state.0 n entered.reach due.proposal er (sym (ap bad_at is) ∙ bad) in
+        let fallen = best_falls g (functions_of h) fair (found_of s.store) (found_of s2.store) kept.sound d set2
+        (λ a e. let r = behind (λ (h : Hit). h.distance) s.store.hit a e in subst (λ m. d ≤ m) r.2 (falls r.0 r.1)) in
+        let to : Hit = record { distance = d; entrance = at.entrance; way = by } in
+        record {
+          kept = record {
+            sound = best_sound g (functions_of h) fair (found_of s.store) (found_of s2.store) kept.sound d set2 (subst (IsHitCut g) (sym number) hit);
+            ways = best_ways g (found_of s.store) (found_of s2.store) fallen (ways_of s.store) (ways_of s2.store) kept.ways d (bad_way_of to) set2 (hit_way s.store s2.store to set)
+                (record {
+                  reach = entered.reach;
+                  inside = n;
+                  pos = skipped g at.pos.0;
+                  state = at.state.0;
+                  group = er;
+                  leads = due.leads;
+                  bad = sym (ap bad_at is) ∙ bad;
+                  sum = omega (arith, number);
+                });
+          };
+          fallen = fallen;
+        }
+
+-- nothing is set
+pub stays : (h : Held) (s s2 : Search) → s2.store ≡ s.store → IsKept (game_of h) (functions_of h) s → IsGoneOn h s s2
+stays h s s2 e kept = record {
+  kept = record {
+    sound = subst (λ t. IsSound (game_of h) (functions_of h) (found_of t)) (sym e) kept.sound;
+    ways = subst (λ t. AreWays (game_of h) (found_of t) (ways_of t)) (sym e) kept.ways;
+  };
+  fallen = subst (λ t. HasFallen (found_of s.store) (found_of t)) (sym e) (fallen_refl (found_of s.store));
+}
+
+-- the reach of a group that is known
+pub reach_low : (h : Held) (s : Search) (at : Entrance) (entered : Entered) → IsKept (game_of h) (functions_of h) s → group_at s.store at ≡ Some entered → entered.reach ≤ 65537
+reach_low h s at entered kept e =
+    let a = kept.sound.entered at.function at.state.0 entered.reach (ap (option_map (λ (e : Entered). e.reach)) e) in
+    omega (arith, a.number, min-le_right a.moves 65537)

@@ -1,0 +1,39 @@
+use Rattle.std.proofs.Common.{◌∙◌, sym, ap, subst}
+use Rattle.std.proofs.lemmas.Option.{none-some, same_Some}
+use Rattle.cw_audit_table.specs.Runs.{is_step}
+use Rattle.cw_audit_visits.specs.Searching.{spot_at, IsStepTold}
+use Rattle.cw_audit_visits.proofs.Turns.{first_step, second_step}
+use Rattle.cw_product.specs.Product.{game_of}
+use Rattle.cw_audit_visits.proofs.Gone.{gone_trans, neither}
+use Rattle.cw_audit_visits.proofs.Stepping.{step_later, moves_told, told_same}
+use Rattle.cw_audit_visits.proofs.steps.steps.Goals as goal
+
+pub step-requires-clause-due : goal.step-requires-clause-due
+step-requires-clause-due c =
+    c.requires.due c.moves-first.result.0 (ap is_step c.moves-first.ensures.first ∙ first_step (game_of c.args.game.now) (spot_at c.args.game.now c.args.place) c.requires.inner)
+
+pub step-requires-in-Some-clause-due : goal.step-requires-in-Some-clause-due
+step-requires-in-Some-clause-due c =
+    let h = c.args.game.now in
+    step_later h c.args.search.now c.step.new.search c.args.place c.args.inside c.in-Some.by c.requires.fair c.in_ok-one.ensures.goes_on.fallen
+    (c.requires.due c.in-Some.by (second_step (game_of h) (spot_at h c.args.place) c.in-Some.by c.requires.inner (sym c.moves-first.ensures.second ∙ c.in-Some.is)))
+
+pub returns-in-None-clause-told : goal.returns-in-None-clause-told
+returns-in-None-clause-told c = λ b.
+    let h = c.args.game.now in
+    moves_told h c.args.search.now c.args.place c.args.inside c.requires.inner
+    (subst (IsStepTold h c.args.search.now c.args.place c.args.inside) c.moves-first.ensures.first (c.in_ok-one.ensures.told b))
+    (λ m e. absurd (none-some m (sym c.in-None.is ∙ c.moves-first.ensures.second ∙ e)))
+
+pub returns-in_ok-other-in-Some-clause-goes_on : goal.returns-in_ok-other-in-Some-clause-goes_on
+returns-in_ok-other-in-Some-clause-goes_on c =
+    gone_trans c.args.game.now c.args.search.now c.step.new.search c.step-in-Some.new.search c.in_ok-one.ensures.goes_on c.in_ok-other-in-Some.ensures.goes_on
+
+pub returns-in_ok-other-in-Some-clause-told : goal.returns-in_ok-other-in-Some-clause-told
+returns-in_ok-other-in-Some-clause-told c = λ b.
+    let h = c.args.game.now in
+    let n = neither c.in_ok-one.one c.in_ok-other-in-Some.other b in
+    moves_told h c.args.search.now c.args.place c.args.inside c.requires.inner
+    (subst (IsStepTold h c.args.search.now c.args.place c.args.inside) c.moves-first.ensures.first (c.in_ok-one.ensures.told n.0))
+    (λ m e. subst (IsStepTold h c.args.search.now c.args.place c.args.inside) (same_Some c.in-Some.by m (sym c.in-Some.is ∙ c.moves-first.ensures.second ∙ e))
+    (told_same h c.args.search.now c.step.new.search c.args.place c.args.inside c.in-Some.by (c.in_ok-one.ensures.tells.same n.0).0 (c.in_ok-other-in-Some.ensures.told n.1)))

@@ -1,0 +1,164 @@
+-- A search under way, by what it has found.
+use Rattle.std.specs.Prelude.{◌≡◌, ℕ, ◌+◌, ◌*◌, ◌<◌, ◌≤◌, List, [], Bool, true, false, cond, Option, Some, length, slice_get}
+use Rattle.std.specs.BinaryHeap.{heap_len}
+use Rattle.cw_certs.specs.declared.moves.Move.{Move}
+use Rattle.cw_game.specs.declared.spots.Spot.{Spot}
+use Rattle.cw_game.specs.declared.spots.Spot.TheVariants.{Call}
+use Rattle.cw_game.specs.Games.{Game, Config, leads_in}
+use Rattle.cw_audit_table.specs.Runs.{cut, skipped}
+use Rattle.cw_product.specs.Product.{Held, game_of}
+use Rattle.cw_audit_store.specs.declared.place.Entrance.{Entrance}
+use Rattle.cw_audit_store.specs.declared.place.Place.{Place}
+use Rattle.cw_audit_store.specs.declared.place.Row.{Row}
+use Rattle.cw_audit_store.specs.declared.place.Way.{Way}
+use Rattle.cw_audit_store.specs.declared.place.Entered.{Entered}
+use Rattle.cw_audit_store.specs.declared.place.Hit.{Hit}
+use Rattle.cw_audit_store.specs.declared.store.Store.{Store}
+use Rattle.std.specs.BTreeMap.{is_at}
+use Rattle.cw_audit_store.specs.Stores.{row_at, group_at, place_cmp, entrance_cmp, work}
+pub use Rattle.cw_audit_store.specs.Finding.{entrance, place, found_of, way_of, caller_of, bad_way_of, ways_of}
+use Rattle.cw_audit_search.specs.Sound.{IsFair, IsSound, IsProposal, HasFallen}
+use Rattle.cw_audit_search.specs.Ways as way
+use Rattle.cw_audit_search.specs.Ways.{IsWay, AreWays}
+use Rattle.cw_audit_search.specs.Settled.{IsCovered, IsClosedAt}
+use Rattle.cw_audit_visits.specs.declared.under_way.Search.{Search}
+
+-- what is left to do: each number that falls has one place more wait at most
+abbrev pub left : Search → ℕ
+left s = 2 * work s.store + heap_len s.frontier.places
+
+-- Whether a step changed anything is told: where not, all is as it was; else less is left.
+pub record Tells (old new : Search) (changed : Bool) : Type 0 where
+  pub same : changed ≡ false → (new.store ≡ old.store) × (left new ≡ left old)
+  pub less : changed ≡ true → left new < left old
+
+-- what a search keeps
+pub record IsKept (g : Game) (functions : ℕ) (s : Search) : Type 0 where
+  pub sound : IsSound g functions (found_of s.store)
+  pub ways : AreWays g (found_of s.store) (ways_of s.store)
+
+abbrev pub functions_of : Held → ℕ
+functions_of h = length h.graph.parts.items
+
+abbrev pub IsFairGame : Held → Type 0
+IsFairGame h = IsFair (game_of h) (functions_of h)
+
+-- it goes on: numbers only fall
+pub record IsGoneOn (h : Held) (old new : Search) : Type 0 where
+  pub kept : IsKept (game_of h) (functions_of h) new
+  pub fallen : HasFallen (found_of old.store) (found_of new.store)
+
+-- the place may be proposed, with so many moves and this way
+pub record IsDue (h : Held) (s : Search) (at : Place) (n : ℕ) (by : Way) : Type 0 where
+  pub proposal : IsProposal (game_of h) (found_of s.store) at.entrance.function at.entrance.state.0 at.pos.0 at.state.0 n
+  pub leads : IsWay (game_of h) (found_of s.store) at.entrance.function at.entrance.state.0 (skipped (game_of h) at.pos.0) at.state.0 n (way_of by)
+
+-- the place is told of by so many moves
+abbrev pub IsTold : Held → Search → Place → ℕ → Type 0
+IsTold h s at n =
+    (r : ℕ) → (found_of s.store).reach at.entrance.function at.entrance.state.0 ≡ Some r
+    → IsCovered (game_of h) (found_of s.store) at.entrance.function at.entrance.state.0 r at.pos.0 at.state.0 n
+
+-- the place has a row that isn't greater; the nearest violation isn't later
+abbrev pub IsNear : Search → Place → ℕ → Type 0
+IsNear s at n = (r : Row) × (row_at s.store at ≡ Some r) × (r.inside ≤ n)
+
+abbrev pub IsHitNear : Search → ℕ → Type 0
+IsHitNear s n = (h : Hit) × (s.store.hit ≡ Some h) × (h.distance ≤ n)
+
+-- one row is set, one group, the violation
+pub record IsRowSet (s s2 : Store) (at : Place) (row : Row) : Type 0 where
+  pub rows : (q : Place) → row_at s2 q ≡ cond (is_at (place_cmp at) q) (Some row) (row_at s q)
+  pub groups : s2.groups ≡ s.groups
+  pub hit : s2.hit ≡ s.hit
+
+pub record IsGroupSet (s s2 : Store) (at : Entrance) (entered : Entered) : Type 0 where
+  pub groups : (q : Entrance) → group_at s2 q ≡ cond (is_at (entrance_cmp at) q) (Some entered) (group_at s q)
+  pub rows : s2.rows ≡ s.rows
+  pub hit : s2.hit ≡ s.hit
+
+pub record IsHitSet (s s2 : Store) (to : Hit) : Type 0 where
+  pub hit : s2.hit ≡ Some to
+  pub rows : s2.rows ≡ s.rows
+  pub groups : s2.groups ≡ s.groups
+
+-- what is there isn't less
+abbrev pub IsRowFalling : Search → Place → ℕ → Type 0
+IsRowFalling s at n = (r : Row) → row_at s.store at ≡ Some r → n ≤ r.inside
+
+abbrev pub IsGroupFalling : Search → Entrance → ℕ → Type 0
+IsGroupFalling s at n = (e : Entered) → group_at s.store at ≡ Some e → n ≤ e.reach
+
+abbrev pub IsHitFalling : Search → ℕ → Type 0
+IsHitFalling s n = (h : Hit) → s.store.hit ≡ Some h → n ≤ h.distance
+
+abbrev pub IsGroupNear : Search → Entrance → ℕ → Type 0
+IsGroupNear s at n = (e : Entered) × (group_at s.store at ≡ Some e) × (e.reach ≤ n)
+
+-- the entrance is told of by so many moves from the start, and so is its entry
+abbrev pub IsEntranceTold : Held → Search → Entrance → ℕ → Type 0
+IsEntranceTold h s at n =
+    (r : ℕ) × ((found_of s.store).reach at.function at.state.0 ≡ Some r) × (r ≤ n)
+    × IsCovered (game_of h) (found_of s.store) at.function at.state.0 r ((game_of h).entry at.function) at.state.0 0
+
+-- where the move leads from the place may be proposed; and is told of
+abbrev pub reach_of : Search → Place → Option ℕ
+reach_of s at = (found_of s.store).reach at.entrance.function at.entrance.state.0
+
+abbrev pub number_of : Search → Place → Option ℕ
+number_of s at = (found_of s.store).number at.entrance.function at.entrance.state.0 at.pos.0 at.state.0
+
+abbrev pub spot_at : Held → Place → Option Spot
+spot_at h at = slice_get (game_of h).spots at.pos.0
+
+abbrev pub IsStepDue : Held → Search → Place → ℕ → Move → Type 0
+IsStepDue h s at a by =
+    (c : Config) → leads_in (game_of h) at.pos.0 at.state.0 [] (spot_at h at) by ≡ Some c
+    → IsProposal (game_of h) (found_of s.store) at.entrance.function at.entrance.state.0 c.pos c.state (cut (a + 1))
+    × IsWay (game_of h) (found_of s.store) at.entrance.function at.entrance.state.0 (skipped (game_of h) c.pos) c.state (cut (a + 1)) (way.Moved at.pos.0 at.state.0 by)
+
+abbrev pub IsStepTold : Held → Search → Place → ℕ → Move → Type 0
+IsStepTold h s at a by =
+    (r : ℕ) (c : Config) → reach_of s at ≡ Some r → leads_in (game_of h) at.pos.0 at.state.0 [] (spot_at h at) by ≡ Some c
+    → IsCovered (game_of h) (found_of s.store) at.entrance.function at.entrance.state.0 r c.pos c.state (cut (a + 1))
+
+-- the place is at a call of h that returns to k
+abbrev pub IsCallAt : Held → Place → (f k : ℕ) → Type 0
+IsCallAt h at f k = (j : ℕ) × (spot_at h at ≡ Some (Call j f k))
+
+abbrev pub IsEnteredAt : Held → Place → (f : ℕ) → Type 0
+IsEnteredAt h at f = (k : ℕ) × IsCallAt h at f k
+
+-- the entrance to which the call leads is told of, by one move more than the call's row
+abbrev pub IsCallTold : Held → Search → Place → (f : ℕ) → Type 0
+IsCallTold h s at f =
+    (r a : ℕ) → reach_of s at ≡ Some r → number_of s at ≡ Some a → IsEntranceTold h s (record { function = f; state = at.state }) (cut (r + a + 1))
+
+-- where the callee ends in y, what is behind the return is told of
+abbrev pub IsReturnTold : Held → Search → Place → (f k y : ℕ) → Type 0
+IsReturnTold h s at f k y =
+    (r a e : ℕ) → reach_of s at ≡ Some r → number_of s at ≡ Some a → (found_of s.store).number f at.state.0 ((game_of h).exit f) y ≡ Some e
+    → IsCovered (game_of h) (found_of s.store) at.entrance.function at.entrance.state.0 r k y (cut (a + e + 2))
+
+-- all that the place's row leads to is told of
+abbrev pub IsVisited : Held → Search → Place → Type 0
+IsVisited h s at =
+    (r a : ℕ) → reach_of s at ≡ Some r → number_of s at ≡ Some a
+    → IsClosedAt (game_of h) (found_of s.store) at.entrance.function at.entrance.state.0 r at.pos.0 at.state.0 a
+
+-- the start is told of
+abbrev pub IsBegunTold : Held → Search → Type 0
+IsBegunTold h s =
+    IsCovered (game_of h) (found_of s.store) (game_of h).main (game_of h).states.start 0 ((game_of h).entry (game_of h).main) (game_of h).states.start 0
+
+-- where the place's row is below the bound, all that it leads to is told of; and so of each place
+abbrev pub IsSettledAt : Held → Search → (bound : ℕ) → Place → Type 0
+IsSettledAt h s bound at =
+    (r a : ℕ) → reach_of s at ≡ Some r → number_of s at ≡ Some a → cut (r + a) < bound
+    → IsClosedAt (game_of h) (found_of s.store) at.entrance.function at.entrance.state.0 r at.pos.0 at.state.0 a
+
+abbrev pub AreSettledAt : Held → Search → (bound : ℕ) → List Place → (many : ℕ) → Type 0
+AreSettledAt h s bound places many = (i : ℕ) (at : Place) → i < many → slice_get places i ≡ Some at → IsSettledAt h s bound at
+
+abbrev pub AreSettledBelow : Held → Search → (bound : ℕ) → Type 0
+AreSettledBelow h s bound = (f q p x : ℕ) → IsSettledAt h s bound (place f q p x)

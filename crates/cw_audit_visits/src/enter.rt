@@ -1,0 +1,87 @@
+//! Functions that are entered.
+
+ghost use Rattle.std.specs.Prelude.{◌≡◌, ◌<◌, ◌≤◌, true, false, length, option_map, IfOk, OnOk};
+ghost use Rattle.cw_product.specs.Moves.{IsPosition, IsState};
+ghost use Rattle.cw_product.specs.Product.{game_of};
+ghost use Rattle.cw_audit_search.specs.Sound.{IsArrival};
+ghost use Rattle.cw_audit_search.specs.Ways.{IsCaller};
+ghost use Rattle.cw_audit_visits.specs.Searching.{IsEntranceTold, IsFairGame, IsGoneOn, IsGroupFalling, IsGroupNear, IsGroupSet, IsKept, Tells, functions_of, found_of, caller_of};
+
+use crate::propose::propose;
+use crate::under_way::Search;
+use cw_audit_store::{Entered, Entrance, Frontier, Place, Store, Way};
+use cw_core::NoMemory;
+use cw_product::Game;
+use std::alloc::Global;
+
+// The group of an entrance is made, or is nearer.
+fn reach(search: &mut Search, entrance: Entrance, entered: Entered) -> Result<bool, NoMemory>
+    requires { entered.reach ≤ 65537 }
+    ensures tells { IfOk result (λ changed. Tells search.old search.new changed) }
+    ensures near { IfOk result (λ changed. changed ≡ false → IsGroupNear search.old entrance entered.reach) }
+    ensures falls { IfOk result (λ changed. changed ≡ true → IsGroupFalling search.old entrance entered.reach) }
+    ensures set { IfOk result (λ changed. changed ≡ true → IsGroupSet search.old.store search.new.store entrance entered) }
+{
+    if let Some(old) = search.store.group(entrance)
+        && old.reach <= entered.reach
+    {
+        return Ok(false);
+    }
+    search.store.put_group(entrance, entered)?;
+    Ok(true)
+}
+
+/// A function is entered in a state by so many moves from the start.
+pub(crate) fn enter(
+    game: &Game,
+    search: &mut Search,
+    entrance: Entrance,
+    entered: Entered,
+) -> Result<bool, NoMemory>
+    requires function { entrance.function < length game.now.graph.parts.items }
+    requires fair { IsFairGame game.now }
+    requires kept { IsKept (game_of game.now) (functions_of game.now) search.old }
+    requires arrival { IsArrival (game_of game.now) entrance.function entrance.state.0 entered.reach }
+    requires caller { IsCaller (game_of game.now) (found_of search.old.store) entrance.function entrance.state.0 entered.reach (option_map caller_of entered.call) }
+    ensures tells { IfOk result (λ changed. Tells search.old search.new changed) }
+    ensures told { IfOk result (λ changed. changed ≡ false → IsEntranceTold game.now search.old entrance entered.reach) }
+    ensures goes_on { OnOk result (IsGoneOn game.now search.old search.new) }
+{
+    let sooner = reach(search, entrance, entered)?;
+    let entry = Place {
+        entrance,
+        pos: game.entry(entrance.function),
+        state: entrance.state,
+    };
+    let begun = propose(game, search, entry, 0, Way::Begun)?;
+    Ok(begun || sooner)
+}
+
+/// A search begins: `main` is entered at the start.
+pub fn begin(alloc: Global, game: &Game) -> Result<Search, NoMemory>
+    requires fair { IsFairGame game.now }
+    ensures kept { IfOk result (λ s. IsKept (game_of game.now) (functions_of game.now) s) }
+{
+    game.is_closed();
+    let mut search = Search {
+        store: Store::make(alloc),
+        frontier: Frontier::make(alloc),
+    };
+    let (pos, state) = game.start();
+    let entrance = Entrance {
+        function: game.main(),
+        state,
+    };
+    let entered = Entered {
+        reach: 0,
+        call: None,
+    };
+    search.store.put_group(entrance, entered)?;
+    let entry = Place {
+        entrance,
+        pos,
+        state,
+    };
+    propose(game, &mut search, entry, 0, Way::Begun)?;
+    Ok(search)
+}

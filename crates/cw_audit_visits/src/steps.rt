@@ -1,0 +1,84 @@
+//! Moves within a function.
+
+ghost use Rattle.std.specs.Prelude.{◌≡◌, ◌<◌, ◌+◌, ◌≤◌, [], true, false, Some, slice_get, IfOk, OnOk};
+ghost use Rattle.cw_certs.specs.declared.moves.Move.{Move};
+ghost use Rattle.cw_game.specs.Games.{bad_in};
+ghost use Rattle.cw_product.specs.Moves.{IsPosition, IsState};
+ghost use Rattle.cw_product.specs.Product.{game_of};
+ghost use Rattle.cw_audit_table.specs.Runs.{cut, is_step};
+ghost use Rattle.cw_audit_table.specs.Conditions.{is_inner};
+ghost use Rattle.cw_audit_visits.specs.Searching.{IsFairGame, IsGoneOn, IsKept, IsStepDue, IsStepTold, Tells, functions_of};
+
+use crate::look::cut;
+use crate::propose::propose;
+use crate::under_way::Search;
+use cw_audit_store::{Place, Way};
+use cw_certs::Move;
+use cw_core::NoMemory;
+use cw_product::Game;
+
+// A row within a function goes on by a move.
+fn step(
+    game: &Game,
+    search: &mut Search,
+    place: Place,
+    inside: u32,
+    by: Move,
+) -> Result<bool, NoMemory>
+    requires position { IsPosition (game_of game.now) place.pos.0 }
+    requires state { IsState (game_of game.now) place.state.0 }
+    requires inside { inside ≤ 65537 }
+    requires inner { is_inner (slice_get (game_of game.now).spots place.pos.0) ≡ true }
+    requires good { bad_in (game_of game.now) place.state.0 (slice_get (game_of game.now).spots place.pos.0) ≡ false }
+    requires fair { IsFairGame game.now }
+    requires kept { IsKept (game_of game.now) (functions_of game.now) search.old }
+    requires due { IsStepDue game.now search.old place inside by }
+    ensures tells { IfOk result (λ changed. Tells search.old search.new changed) }
+    ensures told { IfOk result (λ changed. changed ≡ false → IsStepTold game.now search.old place inside by) }
+    ensures goes_on { OnOk result (IsGoneOn game.now search.old search.new) }
+{
+    let Some((pos, state)) = game.next(place.pos, place.state, by) else {
+        return Ok(false);
+    };
+    propose(
+        game,
+        search,
+        Place {
+            pos,
+            state,
+            ..place
+        },
+        cut(u64::from(inside) + 1),
+        Way::Moved(place.pos, place.state, by),
+    )
+}
+
+/// A row within a function goes on by each move.
+pub(crate) fn steps(
+    game: &Game,
+    search: &mut Search,
+    place: Place,
+    inside: u32,
+) -> Result<bool, NoMemory>
+    requires position { IsPosition (game_of game.now) place.pos.0 }
+    requires state { IsState (game_of game.now) place.state.0 }
+    requires inside { inside ≤ 65537 }
+    requires inner { is_inner (slice_get (game_of game.now).spots place.pos.0) ≡ true }
+    requires good { bad_in (game_of game.now) place.state.0 (slice_get (game_of game.now).spots place.pos.0) ≡ false }
+    requires fair { IsFairGame game.now }
+    requires kept { IsKept (game_of game.now) (functions_of game.now) search.old }
+    requires due { (by : Move) → is_step by ≡ true → IsStepDue game.now search.old place inside by }
+    ensures tells { IfOk result (λ changed. Tells search.old search.new changed) }
+    ensures told { IfOk result (λ changed. changed ≡ false → (by : Move) → is_step by ≡ true → IsStepTold game.now search.old place inside by) }
+    ensures goes_on { OnOk result (IsGoneOn game.now search.old search.new) }
+{
+    let (first, second) = game.moves(place.pos);
+    let one = step(game, search, place, inside, first)?;
+    match second {
+        None => Ok(one),
+        Some(by) => {
+            let other = step(game, search, place, inside, by)?;
+            Ok(one | other)
+        }
+    }
+}
