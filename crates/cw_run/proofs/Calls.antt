@@ -1,5 +1,5 @@
 -- Calls, returns, the end of the program, and what follows a refusal that a stop can answer.
-use Rattle.std.proofs.Common.{◌≡◌, ℕ, List, [], ◌∷◌, ◌++◌, map, Bool, true, false, Option, Some, None, is_some, option_map, option_and_then, refl, sym, ap, ap₂, ◌∙◌, subst, append-nil}
+use Rattle.std.proofs.Common.{◌≡◌, ℕ, List, [], ◌∷◌, map, Bool, true, false, Option, Some, None, is_some, option_map, option_and_then, refl, sym, ap, ap₂, ◌∙◌, subst}
 use Rattle.std.specs.Prelude.{slice_get}
 use Rattle.std.proofs.lemmas.Option.{none-some, same_Some}
 use Rattle.cw_rights.specs.declared.capabilities.Caps.{Caps}
@@ -19,10 +19,11 @@ use Rattle.cw_game.specs.Reached.{Reached}
 use Rattle.cw_game.specs.Places.{IsLaidOut, HasRoutines}
 use Rattle.cw_game.specs.Pairs.{call_spot, kept_at}
 use Rattle.cw_game.specs.Standing.{StandsOn}
+use Rattle.cw_game.specs.Together.{Together, by_move}
 use Rattle.cw_game.proofs.Moves.{step_of}
 use Rattle.cw_game.proofs.Link.{violates_bad, board_moves}
 use Rattle.cw_lemmas.proofs.Truths.{not_both}
-use Rattle.cw_trace.specs.Traces.{Names, step_lines}
+use Rattle.cw_trace.specs.Traces.{Names, move_lines}
 use Rattle.cw_trace.specs.Told.{spot_lines}
 use Rattle.cw_run.specs.Walks.{Here, Wait, ret_of, config_of, mems_of, place}
 use Rattle.cw_run.proofs.Sees.{Sees, sees_visit, sees_asked, sees_step, sees_branch, sees_label, sees_open, sees_close, sees_call, sees_split, sees_end, see, below, board_on}
@@ -147,10 +148,10 @@ module _ (names : Names) (g : Game) (t : Table) (plan : Plan) (right : AreStates
   call_good false q j f n = refl
 
   call_on : (frame : Frame) (frames : List Frame) (kept : List (Option Caps)) (caps : Caps) (word : Word) (phase : Phase) (h : Here) (waits : List Wait) (split : Bool) (j f n m : ℕ)
-      → let b = board_on (frame ∷ frames) kept caps word phase in StandsOn (Least g) g (frame ∷ frames) kept caps word phase h.pos h.state (map ret_of waits)
+      → let b = board_on (frame ∷ frames) kept caps word phase in Together problem g b (config_of h waits) → StandsOn (Least g) g (frame ∷ frames) kept caps word phase h.pos h.state (map ret_of waits)
       → Waiting frames kept waits → slice_get g.spots h.pos ≡ Some (call_spot split j f n) → option_and_then (λ r. mem_in t r.callee) (into_at t j split h.mem) ≡ Some m
       → Step (state_of_board b (mems_of h waits)) On (spot_lines names g.policy g.main (call_spot split j f n) On) (place (g.entry f, h.state) m) (wait_at h j n split ∷ waits)
-  call_on frame frames kept caps word phase h waits split j f n m stands waiting es em =
+  call_on frame frames kept caps word phase h waits split j f n m goes stands waiting es em =
       let sn = see (Least g) g.spots g.policy (g.exit stands.0) frame caps word phase h.pos h.state stands.1 in
       let sees : Sees frame phase (call_spot split j f n) = subst (λ o. Sees frame phase o) (same_Some sn.0 (call_spot split j f n) (sym sn.1 ∙ es)) sn.2 in
       by (call_here j f n split frame phase (call_spot split j f n) refl sees)
@@ -178,27 +179,28 @@ module _ (names : Names) (g : Game) (t : Table) (plan : Plan) (right : AreStates
             next = state_of_board to.0 (m ∷ (h.mem ∷ ms));
             steps = (to.1, memory);
             sits = record {
+              goes = by_move b cf On to.0 d goes to.1 leads;
               stands = to.2;
               mems = refl;
               waiting = subst (λ fs. Waiting fs to.0.kept (wait_at h j n split ∷ waits)) (sym stay.0) (subst (λ k. Waiting (frame2 ∷ frames) k (wait_at h j n split ∷ waits)) (sym stay.1) waiting2);
             };
-            tells = ap₂ (λ x y. x ++ y) (told_by names g t plan right laid has held holds b h waits On (call_spot split j f n) stands es)
-                (arrived names g t plan right laid has held holds to.0 (place (g.entry f, h.state) m) (wait_at h j n split ∷ waits) to.2);
+            acts = told_by names g t plan right laid has held holds b h waits On (call_spot split j f n) stands es;
+            reaches = arrived names g t plan right laid has held holds to.0 (place (g.entry f, h.state) m) (wait_at h j n split ∷ waits) to.2;
           }
 
-  pub call_step : (s : State) (h : Here) (waits : List Wait) (split : Bool) (j f n m : ℕ) → Sits g s h waits → slice_get g.spots h.pos ≡ Some (call_spot split j f n)
+  pub call_step : (s : State) (h : Here) (waits : List Wait) (split : Bool) (j f n m : ℕ) → Sits plan g s h waits → slice_get g.spots h.pos ≡ Some (call_spot split j f n)
       → option_and_then (λ r. mem_in t r.callee) (into_at t j split h.mem) ≡ Some m
       → Step s On (spot_lines names g.policy g.main (call_spot split j f n) On) (place (g.entry f, h.state) m) (wait_at h j n split ∷ waits)
   call_step s h waits split j f n m sits es em =
       subst (λ ms. Step (state_of_board s.board ms) On (spot_lines names g.policy g.main (call_spot split j f n) On) (place (g.entry f, h.state) m) (wait_at h j n split ∷ waits))
-      (sym sits.mems) (on s.board.stack s.board.kept s.board.caps s.board.word s.board.phase sits.stands sits.waiting)
+      (sym sits.mems) (on s.board.stack s.board.kept s.board.caps s.board.word s.board.phase sits.goes sits.stands sits.waiting)
     where
-      on : (stack : List Frame) (kept : List (Option Caps)) (caps : Caps) (word : Word) (phase : Phase) → StandsOn (Least g) g stack kept caps word phase h.pos h.state (map ret_of waits)
-          → Waiting (below stack) kept waits
+      on : (stack : List Frame) (kept : List (Option Caps)) (caps : Caps) (word : Word) (phase : Phase) → Together problem g (board_on stack kept caps word phase) (config_of h waits)
+          → StandsOn (Least g) g stack kept caps word phase h.pos h.state (map ret_of waits) → Waiting (below stack) kept waits
           → Step (state_of_board (board_on stack kept caps word phase) (mems_of h waits)) On (spot_lines names g.policy g.main (call_spot split j f n) On) (place (g.entry f, h.state) m)
           (wait_at h j n split ∷ waits)
-      on [] kept caps word phase stands waiting = absurd stands
-      on (frame ∷ frames) kept caps word phase stands waiting = call_on frame frames kept caps word phase h waits split j f n m stands waiting es em
+      on [] kept caps word phase goes stands waiting = absurd stands
+      on (frame ∷ frames) kept caps word phase goes stands waiting = call_on frame frames kept caps word phase h waits split j f n m goes stands waiting es em
 
   -- what an end is at the front
   pub record IsEndHere (frame : Frame) (phase : Phase) : Type 0 where
@@ -233,13 +235,14 @@ module _ (names : Names) (g : Game) (t : Table) (plan : Plan) (right : AreStates
       (ap (λ (n : Board). below n.stack) (sym w.2.2) ∙ popped_way f is at j callee rest frames w.0 w.2.0 w.2.1, ap (λ (n : Board). n.kept) (sym w.2.2))
 
   return_on : (frame : Frame) (frames : List Frame) (kept : List (Option Caps)) (caps : Caps) (word : Word) (phase : Phase) (h : Here) (w : Wait) (waits : List Wait) (f exit m : ℕ)
-      → let b = board_on (frame ∷ frames) kept caps word phase in StandsOn (Least g) g (frame ∷ frames) kept caps word phase h.pos h.state (map ret_of (w ∷ waits))
+      → let b = board_on (frame ∷ frames) kept caps word phase in Together problem g b (config_of h (w ∷ waits))
+      → StandsOn (Least g) g (frame ∷ frames) kept caps word phase h.pos h.state (map ret_of (w ∷ waits))
       → Waiting frames kept (w ∷ waits) → slice_get g.spots h.pos ≡ Some (Exit f) → state_of t h.mem ≡ Some exit
       → option_and_then (λ r. mem_in t r.after) (back_at t w.seam w.split w.mem exit) ≡ Some m
       → Step (state_of_board b (mems_of h (w ∷ waits))) On (spot_lines names g.policy g.main (Exit f) On) (place (w.back, returned g.states (kept_at w.split w.state) h.state) m) waits
-  return_on frame [] kept caps word phase h w waits f exit m stands waiting es ex em = absurd waiting
-  return_on frame (frame2 ∷ frames) [] caps word phase h w waits f exit m stands waiting es ex em = absurd waiting
-  return_on frame (frame2 ∷ frames) (k ∷ kept) caps word phase h w waits f exit m stands waiting es ex em =
+  return_on frame [] kept caps word phase h w waits f exit m goes stands waiting es ex em = absurd waiting
+  return_on frame (frame2 ∷ frames) [] caps word phase h w waits f exit m goes stands waiting es ex em = absurd waiting
+  return_on frame (frame2 ∷ frames) (k ∷ kept) caps word phase h w waits f exit m goes stands waiting es ex em =
       let sn = see (Least g) g.spots g.policy (g.exit stands.0) frame caps word phase h.pos h.state stands.1 in
       let sees : Sees frame phase (Exit f) = subst (λ o. Sees frame phase o) (same_Some sn.0 (Exit f) (sym sn.1 ∙ es)) sn.2 in
       by (end_here f frame phase (Exit f) refl sees) waiting.0
@@ -273,34 +276,35 @@ module _ (names : Names) (g : Game) (t : Table) (plan : Plan) (right : AreStates
             next = state_of_board to.0 (m ∷ ms);
             steps = (to.1, memory);
             sits = record {
+              goes = by_move b cf On to.0 d goes to.1 leads;
               stands = to.2;
               mems = refl;
               waiting = subst (λ fs. Waiting fs to.0.kept waits) (sym stay.0) (subst (λ ks. Waiting frames ks waits) (sym stay.1) waiting.2);
             };
-            tells = ap₂ (λ x y. x ++ y) (told_by names g t plan right laid has held holds b h (w ∷ waits) On (Exit f) stands es)
-                (arrived names g t plan right laid has held holds to.0 (place (w.back, returned g.states (kept_at w.split w.state) h.state) m) waits to.2);
+            acts = told_by names g t plan right laid has held holds b h (w ∷ waits) On (Exit f) stands es;
+            reaches = arrived names g t plan right laid has held holds to.0 (place (w.back, returned g.states (kept_at w.split w.state) h.state) m) waits to.2;
           }
 
-  pub return_step : (s : State) (h : Here) (w : Wait) (waits : List Wait) (f exit m : ℕ) → Sits g s h (w ∷ waits) → slice_get g.spots h.pos ≡ Some (Exit f) → state_of t h.mem ≡ Some exit
+  pub return_step : (s : State) (h : Here) (w : Wait) (waits : List Wait) (f exit m : ℕ) → Sits plan g s h (w ∷ waits) → slice_get g.spots h.pos ≡ Some (Exit f) → state_of t h.mem ≡ Some exit
       → option_and_then (λ r. mem_in t r.after) (back_at t w.seam w.split w.mem exit) ≡ Some m
       → Step s On (spot_lines names g.policy g.main (Exit f) On) (place (w.back, returned g.states (kept_at w.split w.state) h.state) m) waits
   return_step s h w waits f exit m sits es ex em =
       subst (λ ms. Step (state_of_board s.board ms) On (spot_lines names g.policy g.main (Exit f) On) (place (w.back, returned g.states (kept_at w.split w.state) h.state) m) waits)
-      (sym sits.mems) (on s.board.stack s.board.kept s.board.caps s.board.word s.board.phase sits.stands sits.waiting)
+      (sym sits.mems) (on s.board.stack s.board.kept s.board.caps s.board.word s.board.phase sits.goes sits.stands sits.waiting)
     where
-      on : (stack : List Frame) (kept : List (Option Caps)) (caps : Caps) (word : Word) (phase : Phase) → StandsOn (Least g) g stack kept caps word phase h.pos h.state (map ret_of (w ∷ waits))
-          → Waiting (below stack) kept (w ∷ waits)
+      on : (stack : List Frame) (kept : List (Option Caps)) (caps : Caps) (word : Word) (phase : Phase) → Together problem g (board_on stack kept caps word phase) (config_of h (w ∷ waits))
+          → StandsOn (Least g) g stack kept caps word phase h.pos h.state (map ret_of (w ∷ waits)) → Waiting (below stack) kept (w ∷ waits)
           → Step (state_of_board (board_on stack kept caps word phase) (mems_of h (w ∷ waits))) On (spot_lines names g.policy g.main (Exit f) On)
           (place (w.back, returned g.states (kept_at w.split w.state) h.state) m) waits
-      on [] kept caps word phase stands waiting = absurd stands
-      on (frame ∷ frames) kept caps word phase stands waiting = return_on frame frames kept caps word phase h w waits f exit m stands waiting es ex em
+      on [] kept caps word phase goes stands waiting = absurd stands
+      on (frame ∷ frames) kept caps word phase goes stands waiting = return_on frame frames kept caps word phase h w waits f exit m goes stands waiting es ex em
 
   -- The end of the program: all is over.
   pub record Finishes (s : State) (by : Move) (lines : List ℕ) : Type 0 where
     pub next : State
     pub steps : WovenStep problem t s by next
     pub over : next.board.phase ≡ Over
-    pub tells : step_lines names problem s.board by next.board ≡ lines
+    pub acts : move_lines names problem s.board s.board.phase by ≡ lines
 
   end_on : (frame : Frame) (frames : List Frame) (kept : List (Option Caps)) (caps : Caps) (word : Word) (phase : Phase) (h : Here) (ms : List ℕ) (f : ℕ)
       → StandsOn (Least g) g (frame ∷ frames) kept caps word phase h.pos h.state [] → Waiting frames kept [] → slice_get g.spots h.pos ≡ Some (Exit f)
@@ -327,10 +331,10 @@ module _ (names : Names) (g : Game) (t : Table) (plan : Plan) (right : AreStates
           ap (λ (y : Board). memories problem t y ms y.phase On) eb,
         );
         over = refl;
-        tells = ap (λ l. l ++ []) (told_by names g t plan right laid has held holds b h [] On (Exit f) stands es) ∙ append-nil (spot_lines names g.policy g.main (Exit f) On);
+        acts = told_by names g t plan right laid has held holds b h [] On (Exit f) stands es;
       }
 
-  pub end_step : (s : State) (h : Here) (f : ℕ) → Sits g s h [] → slice_get g.spots h.pos ≡ Some (Exit f) → Finishes s On (spot_lines names g.policy g.main (Exit f) On)
+  pub end_step : (s : State) (h : Here) (f : ℕ) → Sits plan g s h [] → slice_get g.spots h.pos ≡ Some (Exit f) → Finishes s On (spot_lines names g.policy g.main (Exit f) On)
   end_step s h f sits es = on s.board.stack s.board.kept s.board.caps s.board.word s.board.phase sits.stands sits.waiting
     where
       on : (stack : List Frame) (kept : List (Option Caps)) (caps : Caps) (word : Word) (phase : Phase) → StandsOn (Least g) g stack kept caps word phase h.pos h.state []

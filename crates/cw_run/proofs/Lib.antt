@@ -1,10 +1,12 @@
-mod Waits
+pub mod Waits
 mod Entries
-mod Sees
-mod Sits
-mod Calls
-mod Refusals
-mod Moveless
-mod Runs
+pub mod Sees
+pub mod Sits
+pub mod Calls
+pub mod Refusals
+pub mod Moveless
+pub mod Runs
+pub mod Going
 mod Main
 mod Looping
+pub mod Prefixed

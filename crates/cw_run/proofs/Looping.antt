@@ -40,14 +40,15 @@ use Rattle.cw_run.specs.declared.walk.Here.{Here as HereData}
 use Rattle.cw_run.specs.declared.walk.Wait.{Wait as WaitData}
 use Rattle.cw_run.specs.Walks.{here_of, wait_of, innermost, place_in, start_here, IsHere, IsWait, IsPlace, Arrives, Answered}
 use Rattle.cw_run.specs.Woven.{Tells}
-use Rattle.cw_run.proofs.Main.{RunSoFar, begun, went, spent, over, bad_word, past_end}
+use Rattle.cw_run.proofs.Going.{begun, went}
+use Rattle.cw_run.proofs.Main.{same, start_on, Ran, spent, over, bad_word, past_end}
 
 abbrev pub plan_here : Held → List ℕ → File → Plan
 plan_here h source file = plan_of (names_of (policy_of h.states.policy)) source file
 
 -- what the loop keeps when so many words have been read
 pub record LoopKeeps (names : Names) (h : Held) (t : Table) (plan : Plan) (words : List Move) (place : PlaceData) (waits : List WaitData) (old new : List ℕ) : Type 0 where
-  pub run : RunSoFar names (game_of h) t plan words (place_in place) (innermost waits) old new
+  pub run : Ran names (game_of h) t plan words (place_in place) (innermost waits) old new
   pub there : IsPlace (game_of h) (place_in place)
   pub waiting : All (λ w. IsWait (game_of h) (wait_of w)) waits
 
@@ -95,23 +96,23 @@ module _ (h : Held) (source : List ℕ) (file : File) (t : Table) (names : Names
   abbrev Keeps : List Move → PlaceData → List WaitData → List ℕ → List ℕ → Type 0
   Keeps words place waits old new = LoopKeeps names h t plan words place waits old new
 
-  pub loop_begun : (here : HereData) (waits : List WaitData) (old new : List ℕ) → Arrives names g t held (start_here g t) (here_of here) old new → IsHere g (here_of here) → waits ≡ []
+  pub loop_begun : (here : HereData) (waits : List WaitData) (old new : List ℕ) → Arrives names g t held same (start_here g t) (here_of here) old new → IsHere g (here_of here) → waits ≡ []
       → Keeps [] (At here) waits old new
   loop_begun here waits old new a there none =
       subst (λ ws. Keeps [] (At here) ws old new) (sym none)
-      (record { run = begun names g t plan of.states of.laid of.routines held holds safe (here_of here) old new a; there = there; waiting = All-nil (λ w. IsWait g (wait_of w)) })
+      (record { run = begun names g t plan of.states of.laid of.routines held holds same refl (here_of here) old new a; there = there; waiting = All-nil (λ w. IsWait g (wait_of w)) })
 
   pub loop_went : (tape : List Move) (i : ℕ) (by : Move) (here : HereData) (p place : PlaceData) (o : Option PlaceData) (waits waits2 : List WaitData) (old mid new : List ℕ) → i < length tape
       → by ≡ get_or tape i by → p ≡ At here → o ≡ Some place → Keeps (take i tape) p waits old mid
-      → Answered names g t held (here_of here) by o (innermost waits) (innermost waits2) mid new
+      → Answered names g t held same (here_of here) by o (innermost waits) (innermost waits2) mid new
       → IsPlace g (place_in place) → All (λ w. IsWait g (wait_of w)) waits2 → Keeps (take (i + 1) tape) place waits2 old new
   loop_went tape i by here p place o waits waits2 old mid new lt is ep eo k0 a there all =
       let k = subst (λ z. Keeps (take i tape) z waits old mid) ep k0 in
-      let w = subst (λ z. Answered names g t held (here_of here) by z (innermost waits) (innermost waits2) mid new) eo a in
+      let w = subst (λ z. Answered names g t held same (here_of here) by z (innermost waits) (innermost waits2) mid new) eo a in
       let n = w.0 in
       subst (λ words. Keeps words place waits2 old new) (sym (one_more tape i by lt is))
       (record {
-        run = went names g t plan of.states of.laid of.routines held holds safe (take i tape) (here_of here) (innermost waits) (innermost waits2) (place_in place) old mid new by n k.run w.1 w.2;
+        run = went names g t plan of.states of.laid of.routines held holds same refl (start_on g t plan) (take i tape) (here_of here) (innermost waits) (innermost waits2) (place_in place) old mid new by n k.run w.1 w.2;
         there = there;
         waiting = all;
       })
@@ -124,10 +125,10 @@ module _ (h : Held) (source : List ℕ) (file : File) (t : Table) (names : Names
 
   pub loop_bad : (tape : List Move) (i : ℕ) (by : Move) (here : HereData) (p : PlaceData) (o : Option PlaceData) (waits waits2 : List WaitData) (old mid new : List ℕ)
       → names ≡ trace_names_of source file plan → i < length tape → by ≡ get_or tape i by → p ≡ At here → o ≡ None → Keeps (take i tape) p waits old mid
-      → Answered names g t held (here_of here) by o (innermost waits) (innermost waits2) mid new → Puts tape (BadMove i) old new
+      → Answered names g t held same (here_of here) by o (innermost waits) (innermost waits2) mid new → Puts tape (BadMove i) old new
   loop_bad tape i by here p o waits waits2 old mid new e lt is ep eo k0 a0 =
       let k = subst (λ z. Keeps (take i tape) z waits old mid) ep k0 in
-      let a = subst (λ z. Answered names g t held (here_of here) by z (innermost waits) (innermost waits2) mid new) eo a0 in
+      let a = subst (λ z. Answered names g t held same (here_of here) by z (innermost waits) (innermost waits2) mid new) eo a0 in
       named tape (BadMove i) old new e
       (subst (λ l. Tells (problem_of policy source file) names t tape (BadMove i) old l) (sym a.1)
       (bad_word names g t plan of.states of.laid of.routines held holds safe tape i by (here_of here) (innermost waits) old mid k.run (got tape i by lt is) a.0))

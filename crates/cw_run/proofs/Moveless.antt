@@ -14,7 +14,7 @@ use Rattle.cw_certs.specs.declared.rows.TryRow.{TryRow}
 use Rattle.cw_certs.specs.Tables.{Table, into_at, back_at, try_at, state_of}
 use Rattle.cw_syntax.specs.Plans.{Callee, Call, Plan}
 use Rattle.cw_syntax.specs.Frames.{Todo, Frame}
-use Rattle.cw_model.specs.Boards.{Problem, Phase, Asked, Refused, Board, Environment, moved, Moves, Violates, stop_answers, is_refused, turn_of, IsWeavers, IsEnvironments}
+use Rattle.cw_model.specs.Boards.{Problem, Phase, Asked, Refused, Board, Environment, moved, Moves, Violates, stop_answers, turn_of, IsWeavers, IsEnvironments}
 use Rattle.cw_model.specs.Runs.{front_seam, try_of, mem_in, try_in, refused_with, stops, stays_where, returned_with, memories, State, WovenStep}
 use Rattle.cw_game.specs.declared.spots.Spot.{Spot}
 use Rattle.cw_game.specs.declared.spots.Spot.TheVariants.{Step, Branch, Exit, Visit as VisitSpot, Asked as AskedSpot, Label as LabelSpot, Open as OpenSpot, Close as CloseSpot}
@@ -23,7 +23,7 @@ use Rattle.cw_game.specs.Games.{AreStates, Game, Ret, Config, leads_in, leads_to
 use Rattle.cw_game.specs.Reached.{Reached}
 use Rattle.cw_game.specs.Places.{IsLaidOut, HasRoutines}
 use Rattle.cw_game.specs.Pairs.{Called, call_in, is_call_in, is_exit_in, call_spot, kept_at}
-use Rattle.cw_game.specs.Standing.{StandsOn, standing, StandsAt, IsGameOf}
+use Rattle.cw_game.specs.Standing.{StandsOn, StandsAt, IsGameOf}
 use Rattle.cw_game.specs.Laws.{AreLinked}
 use Rattle.cw_game.proofs.Linking.{linked}
 use Rattle.cw_game.proofs.Stands.{stops_is}
@@ -124,7 +124,7 @@ module _ (names : Names) (g : Game) (t : Table) (plan : Plan) (right : AreStates
       let a = safe.answers by next turn mv in
       none-some a.0 (sym none ∙ ap (λ l. memories problem t s.board l s.board.phase by) (sym em) ∙ a.1.1)
 
-  inner_moveless : (s : State) (h : Here) (waits : List Wait) (by : Move) (spot : Spot) → Sits g s h waits → Safe problem t s → slice_get g.spots h.pos ≡ Some spot → is_inner spot ≡ true
+  inner_moveless : (s : State) (h : Here) (waits : List Wait) (by : Move) (spot : Spot) → Sits plan g s h waits → Safe problem t s → slice_get g.spots h.pos ≡ Some spot → is_inner spot ≡ true
       → weavers_in (Some spot) ≡ false → stop_answers g.policy s.board.caps s.board.phase by ≡ false → within g t h spot by ≡ None → IsNoMove problem s.board by
   inner_moveless s h waits by spot sits safe es inner env never none = λ next mv.
       let c = config_of h waits in
@@ -166,7 +166,7 @@ module _ (names : Names) (g : Game) (t : Table) (plan : Plan) (right : AreStates
   only_refusals policy caps _ _ other = refl
 
   -- A call: the one move is On, and its row is there.
-  call_moveless : (s : State) (h : Here) (waits : List Wait) (by : Move) (split : Bool) (j f n : ℕ) → Sits g s h waits → Safe problem t s
+  call_moveless : (s : State) (h : Here) (waits : List Wait) (by : Move) (split : Bool) (j f n : ℕ) → Sits plan g s h waits → Safe problem t s
       → slice_get g.spots h.pos ≡ Some (call_spot split j f n) → called g t h j f n split by ≡ None → IsNoMove problem s.board by
   call_moveless s h waits by split j f n sits safe es none = λ next mv.
       let c = config_of h waits in
@@ -230,7 +230,7 @@ module _ (names : Names) (g : Game) (t : Table) (plan : Plan) (right : AreStates
       by None e = refl
       by (Some exit) e = none_mapped _ (option_and_then (λ r. mem_in t r.after) (back_at t w.seam w.split w.mem exit)) e
 
-  end_moveless : (s : State) (h : Here) (waits : List Wait) (by : Move) (f : ℕ) → Sits g s h waits → Safe problem t s
+  end_moveless : (s : State) (h : Here) (waits : List Wait) (by : Move) (f : ℕ) → Sits plan g s h waits → Safe problem t s
       → slice_get g.spots h.pos ≡ Some (Exit f) → ended g t h waits by ≡ None → IsNoMove problem s.board by
   end_moveless s h [] by f sits safe es none = λ next mv.
       let c = config_of h [] in
@@ -274,7 +274,7 @@ module _ (names : Names) (g : Game) (t : Table) (plan : Plan) (right : AreStates
       let sn = see (Least g) g.spots g.policy (g.exit stands.0) frame caps word phase p q stands.1 in
       (asked_here j i a frame phase sn.0 (same_Some sn.0 (AskedSpot j i a) (sym sn.1 ∙ es)) sn.2).is_seam
 
-  refusing_moveless : (s : State) (h : Here) (waits : List Wait) (j i : ℕ) (a : Primitive) (pair : ℕ × ℕ) → Sits g s h waits
+  refusing_moveless : (s : State) (h : Here) (waits : List Wait) (j i : ℕ) (a : Primitive) (pair : ℕ × ℕ) → Sits plan g s h waits
       → ((next : State) → WovenStep problem t s Refuse next → Safe problem t next) → slice_get g.spots h.pos ≡ Some (AskedSpot j i a)
       → resumed g h.pos h.state ≡ Some pair → refusing t j pair (try_at t j i h.mem) ≡ None → ⊥
   refusing_moveless s h waits j i a pair sits safe es er none =
@@ -289,7 +289,7 @@ module _ (names : Names) (g : Game) (t : Table) (plan : Plan) (right : AreStates
       h.mem (map (λ (w : Wait). w.mem) waits) (r.same_mems ∙ sits.mems) (try_at t j i h.mem)
       (ap (λ o. try_in t o i h.mem) (ap front_seam r.same_stack ∙ seam)) gone.0 gone.1
 
-  asked_moveless : (s : State) (h : Here) (waits : List Wait) (by : Move) (j i : ℕ) (a : Primitive) → Sits g s h waits → Safe problem t s
+  asked_moveless : (s : State) (h : Here) (waits : List Wait) (by : Move) (j i : ℕ) (a : Primitive) → Sits plan g s h waits → Safe problem t s
       → ((next : State) → WovenStep problem t s Refuse next → Safe problem t next) → slice_get g.spots h.pos ≡ Some (AskedSpot j i a) → (o : Option (ℕ × ℕ)) → resumed g h.pos h.state ≡ o
       → asked g t h (AskedSpot j i a) j i by o ≡ None → IsNoMove problem s.board by
   asked_moveless s h waits Refuse j i a sits safe after es (Some pair) er none = λ next mv. refusing_moveless s h waits j i a pair sits after es er none
@@ -300,7 +300,7 @@ module _ (names : Names) (g : Game) (t : Table) (plan : Plan) (right : AreStates
       inner_moveless s h waits by (AskedSpot j i a) sits safe es refl refl (only_refusals g.policy s.board.caps s.board.phase by (λ e. cc)) (none_mapped To _ none)
 
   -- Where no move is found there is none.
-  pub moveless : (s : State) (h : Here) (waits : List Wait) (by : Move) (spot : Spot) → Sits g s h waits → Safe problem t s
+  pub moveless : (s : State) (h : Here) (waits : List Wait) (by : Move) (spot : Spot) → Sits plan g s h waits → Safe problem t s
       → ((next : State) → WovenStep problem t s Refuse next → Safe problem t next) → slice_get g.spots h.pos ≡ Some spot → weavers_in (Some spot) ≡ false
       → next_of g t h waits spot by ≡ None → IsNoMove problem s.board by
   moveless s h waits by (CallSpot j f n) sits safe after es env none = call_moveless s h waits by false j f n sits safe es none

@@ -1,5 +1,5 @@
 -- What follows a refusal that a stop can answer: going on, or the stop.
-use Rattle.std.proofs.Common.{◌≡◌, ℕ, suc, ◌+◌, List, [], ◌∷◌, map, Bool, true, false, cond, not, ◌&&◌, ◌||◌, Option, Some, None, is_some, option_map, refl, sym, ap, ap₂, ◌∙◌, subst, append-nil}
+use Rattle.std.proofs.Common.{◌≡◌, ℕ, suc, ◌+◌, List, [], ◌∷◌, map, Bool, true, false, cond, not, ◌&&◌, ◌||◌, Option, Some, None, is_some, option_map, refl, sym, ap, ap₂, ◌∙◌, subst}
 use Rattle.std.specs.Prelude.{slice_get}
 use Rattle.std.proofs.lemmas.Option.{same_Some, cond_some}
 use Rattle.cw_rights.specs.declared.capabilities.Caps.{Caps}
@@ -20,12 +20,13 @@ use Rattle.cw_game.specs.Games.{AreStates, Game, Ret, at_pair, bad_in, can_stop_
 use Rattle.cw_game.specs.Reached.{Reached}
 use Rattle.cw_game.specs.Places.{IsLaidOut, HasRoutines}
 use Rattle.cw_game.specs.Standing.{StandsOn}
+use Rattle.cw_game.specs.Together.{Together, by_refusal, by_going_on}
 use Rattle.cw_game.proofs.Stands.{refused_at, stops_is}
 use Rattle.cw_game.proofs.Link.{violates_bad}
 use Rattle.cw_lemmas.proofs.Truths.{not_both}
-use Rattle.cw_trace.specs.Traces.{Names, step_lines, answered_lines, stopped_lines}
+use Rattle.cw_trace.specs.Traces.{Names, move_lines, reached_lines, answered_lines, stopped_lines}
 use Rattle.cw_trace.specs.Lines.{try_line, stop_line}
-use Rattle.cw_run.specs.Walks.{Here, Wait, ret_of, mems_of, place}
+use Rattle.cw_run.specs.Walks.{Here, Wait, ret_of, config_of, mems_of, place}
 use Rattle.cw_run.proofs.Sees.{Sees, sees_visit, sees_asked, sees_step, sees_branch, sees_label, sees_open, sees_close, sees_call, sees_split, sees_end, see, below, board_on}
 use Rattle.cw_run.proofs.Sits.{Waiting, Least, Sits, Stepped, arrived}
 use Rattle.cw_run.proofs.Calls.{Finishes}
@@ -79,7 +80,8 @@ module _ (names : Names) (g : Game) (t : Table) (plan : Plan) (right : AreStates
   pub record Refuses (s : State) (j i : ℕ) (a : Primitive) : Type 0 where
     pub first : State
     pub refuses : WovenStep problem t s Refuse first
-    pub told : step_lines names problem s.board Refuse first.board ≡ try_line j i a false
+    pub acts : move_lines names problem s.board s.board.phase Refuse ≡ try_line j i a false
+    pub quiet : reached_lines names g.policy first.board first.board.phase ≡ []
     pub later : List Primitive
     pub is_refused : first.board.phase ≡ Refused i a later
     pub same_mems : first.mems ≡ s.mems
@@ -112,7 +114,8 @@ module _ (names : Names) (g : Game) (t : Table) (plan : Plan) (right : AreStates
           ),
           ap (λ y. cond y (Some ms) (top_by (λ m. refused_with t (try_in t (seam_in frame) i m)) ms)) can,
         );
-        told = append-nil (answered_lines (seam_in frame) i a Refuse) ∙ ap (λ s. answered_lines s i a Refuse) seam;
+        acts = ap (λ s. answered_lines s i a Refuse) seam;
+        quiet = refl;
         later = later;
         is_refused = refl;
         same_mems = refl;
@@ -129,26 +132,36 @@ module _ (names : Names) (g : Game) (t : Table) (plan : Plan) (right : AreStates
       (sym (stops_is (Least g) g right (g.exit stands.0) frame caps word i a later w.0 q w.1 w.3) ∙ k.0, k.1)
 
   resume_on : (frame : Frame) (frames : List Frame) (kept : List (Option Caps)) (caps : Caps) (word : Word) (i j : ℕ) (a : Primitive) (later : List Primitive) (h : Here) (waits : List Wait)
-      (m : ℕ) → StandsOn (Least g) g (frame ∷ frames) kept caps word (Asked i a later) h.pos h.state (map ret_of waits) → Waiting frames kept waits
+      (m : ℕ) → Together problem g (board_on (frame ∷ frames) kept caps word (Asked i a later)) (config_of h waits) → resumed g h.pos h.state ≡ Some (h.pos + 1, h.state)
+      → StandsOn (Least g) g (frame ∷ frames) kept caps word (Asked i a later) h.pos h.state (map ret_of waits) → Waiting frames kept waits
       → slice_get g.spots h.pos ≡ Some (AskedSpot j i a) → seam_in frame ≡ Some j → can_stop g.policy caps a ≡ true → refused_with t (try_at t j i h.mem) ≡ Some m
       → Resumes (state_of_board (board_on (frame ∷ frames) kept caps word (Asked i a later)) (mems_of h waits)) j i a (place (h.pos + 1, h.state) m) waits
-  resume_on frame frames kept caps word i j a later h waits m stands waiting es seam can em =
+  resume_on frame frames kept caps word i j a later h waits m goes er stands waiting es seam can em =
       let w = stands.1 in
+      let asked = board_on (frame ∷ frames) kept caps word (Asked i a later) in
+      let refusal = refusal_on frame frames kept caps word i j a later h.pos h.state (map ret_of waits) (mems_of h waits) stands es seam can in
       let ms : List ℕ = map (λ (w : Wait). w.mem) waits in
       let b = refused_board frame frames kept caps word i a later in
       let next = passed_by b i later in
       let there : StandsOn (Least g) g (frame ∷ frames) kept caps word (onward (suc i) later) (h.pos + 1) h.state (map ret_of waits) =
       (stands.0, refused_at (Least g) g.spots g.policy (g.exit stands.0) frame caps word i a later w.0 h.pos h.state w.1 w.2 w.3, stands.2) in
       record {
-        refusal = refusal_on frame frames kept caps word i j a later h.pos h.state (map ret_of waits) (mems_of h waits) stands es seam can;
+        refusal = refusal;
         then = record {
           next = state_of_board next (m ∷ ms);
           steps = (
             ((λ v. let e = v.0 in cc), refl),
             ap (λ s. option_map (λ n. n ∷ ms) (refused_with t (try_in t s i h.mem))) seam ∙ ap (option_map (λ n. n ∷ ms)) em,
           );
-          sits = record { stands = there; mems = refl; waiting = waiting };
-          tells = arrived names g t plan right laid has held holds next (place (h.pos + 1, h.state) m) waits there;
+          sits = record {
+            goes = by_going_on b (config_of h waits) (h.pos + 1, h.state) next
+                (by_refusal asked (config_of h waits) Refuse b goes can refusal.refuses.0) refl er ((λ v. let e = v.0 in cc), refl);
+            stands = there;
+            mems = refl;
+            waiting = waiting;
+          };
+          acts = refl;
+          reaches = arrived names g t plan right laid has held holds next (place (h.pos + 1, h.state) m) waits there;
         };
       }
 
@@ -169,29 +182,31 @@ module _ (names : Names) (g : Game) (t : Table) (plan : Plan) (right : AreStates
                 ∙ ap (λ y. option_map (λ n. n ∷ ms) (stays_where y h.mem)) (has_none (try_at t j i h.mem) r er en),
           );
           over = refl;
-          tells = append-nil (stopped_lines (seam_in frame) Stop) ∙ ap (λ s. stopped_lines s Stop) seam;
+          acts = ap (λ s. stopped_lines s Stop) seam;
         };
       }
 
-  pub resume_step : (s : State) (h : Here) (waits : List Wait) (j i m : ℕ) (a : Primitive) (pair : ℕ × ℕ) → Sits g s h waits → slice_get g.spots h.pos ≡ Some (AskedSpot j i a)
+  pub resume_step : (s : State) (h : Here) (waits : List Wait) (j i m : ℕ) (a : Primitive) (pair : ℕ × ℕ) → Sits plan g s h waits → slice_get g.spots h.pos ≡ Some (AskedSpot j i a)
       → resumed g h.pos h.state ≡ Some pair → refused_with t (try_at t j i h.mem) ≡ Some m → Resumes s j i a (place pair m) waits
   resume_step s h waits j i m a pair sits es er em =
       subst (λ ms. Resumes (state_of_board s.board ms) j i a (place pair m) waits) (sym sits.mems)
-      (on s.board.stack s.board.kept s.board.caps s.board.word s.board.phase sits.stands sits.waiting)
+      (on s.board.stack s.board.kept s.board.caps s.board.word s.board.phase sits.goes sits.stands sits.waiting)
     where
-      on : (stack : List Frame) (kept : List (Option Caps)) (caps : Caps) (word : Word) (phase : Phase) → StandsOn (Least g) g stack kept caps word phase h.pos h.state (map ret_of waits)
+      on : (stack : List Frame) (kept : List (Option Caps)) (caps : Caps) (word : Word) (phase : Phase) → Together problem g (board_on stack kept caps word phase) (config_of h waits)
+          → StandsOn (Least g) g stack kept caps word phase h.pos h.state (map ret_of waits)
           → Waiting (below stack) kept waits → Resumes (state_of_board (board_on stack kept caps word phase) (mems_of h waits)) j i a (place pair m) waits
-      on [] kept caps word phase stands waiting = absurd stands
-      on (frame ∷ frames) kept caps word phase stands waiting =
+      on [] kept caps word phase goes stands waiting = absurd stands
+      on (frame ∷ frames) kept caps word phase goes stands waiting =
           let sn = see (Least g) g.spots g.policy (g.exit stands.0) frame caps word phase h.pos h.state stands.1 in
           let k = asked_here j i a frame phase sn.0 (same_Some sn.0 (AskedSpot j i a) (sym sn.1 ∙ es)) sn.2 in
           let there = subst (λ ph. StandsOn (Least g) g (frame ∷ frames) kept caps word ph h.pos h.state (map ret_of waits)) k.is_phase stands in
           let c = can_of frame frames kept caps word i j a k.later h.pos h.state (map ret_of waits) pair there es er in
           subst (λ ph. Resumes (state_of_board (board_on (frame ∷ frames) kept caps word ph) (mems_of h waits)) j i a (place pair m) waits) (sym k.is_phase)
           (subst (λ z. Resumes (state_of_board (board_on (frame ∷ frames) kept caps word (Asked i a k.later)) (mems_of h waits)) j i a (place z m) waits) c.1
-          (resume_on frame frames kept caps word i j a k.later h waits m there waiting es k.is_seam c.0 em))
+          (resume_on frame frames kept caps word i j a k.later h waits m (subst (λ ph. Together problem g (board_on (frame ∷ frames) kept caps word ph) (config_of h waits)) k.is_phase goes)
+          (er ∙ ap Some (sym c.1)) there waiting es k.is_seam c.0 em))
 
-  pub stop_step : (s : State) (h : Here) (waits : List Wait) (j i : ℕ) (a : Primitive) (pair : ℕ × ℕ) (r : TryRow) → Sits g s h waits → slice_get g.spots h.pos ≡ Some (AskedSpot j i a)
+  pub stop_step : (s : State) (h : Here) (waits : List Wait) (j i : ℕ) (a : Primitive) (pair : ℕ × ℕ) (r : TryRow) → Sits plan g s h waits → slice_get g.spots h.pos ≡ Some (AskedSpot j i a)
       → resumed g h.pos h.state ≡ Some pair → try_at t j i h.mem ≡ Some r → r.refused ≡ None → Stops s j i a
   stop_step s h waits j i a pair r sits es er row en =
       subst (λ ms. Stops (state_of_board s.board ms) j i a) (sym sits.mems)
@@ -209,7 +224,7 @@ module _ (names : Names) (g : Game) (t : Table) (plan : Plan) (right : AreStates
           (stop_on frame frames kept caps word i j a k.later h waits r there es k.is_seam c.0 row en)
 
   -- a refusal that a stop can answer is a move, and the weaver's turn comes after it
-  pub refusal_step : (s : State) (h : Here) (waits : List Wait) (j i : ℕ) (a : Primitive) (pair : ℕ × ℕ) → Sits g s h waits → slice_get g.spots h.pos ≡ Some (AskedSpot j i a)
+  pub refusal_step : (s : State) (h : Here) (waits : List Wait) (j i : ℕ) (a : Primitive) (pair : ℕ × ℕ) → Sits plan g s h waits → slice_get g.spots h.pos ≡ Some (AskedSpot j i a)
       → resumed g h.pos h.state ≡ Some pair → Refuses s j i a
   refusal_step s h waits j i a pair sits es er = on s.board.stack s.board.kept s.board.caps s.board.word s.board.phase sits.stands
     where

@@ -23,16 +23,17 @@ use Rattle.cw_game.specs.Reached.{Reached}
 use Rattle.cw_game.specs.Places.{IsLaidOut, HasRoutines}
 use Rattle.cw_game.specs.Pairs.{call_spot, kept_at}
 use Rattle.cw_game.specs.Standing.{StandsOn}
+use Rattle.cw_game.specs.Together.{Together, by_move}
 use Rattle.cw_game.proofs.Link.{Stands, party_of, turn_is, board_moves, environments_turn, weavers_turn}
 use Rattle.cw_trace.specs.Lines.{try_line, stop_line}
-use Rattle.cw_trace.specs.Traces.{Names, step_lines, lines_from}
-use Rattle.cw_trace.specs.Steps.{Step, Follows, state_after, word_by, words_of, taken_of, run_trace}
-use Rattle.cw_trace.proofs.Grown.{lines_grown, follows_grown, state_grown, words_grown, board_of_run, taken_grown}
+use Rattle.cw_trace.specs.Traces.{Names, move_lines, reached_lines}
+use Rattle.cw_trace.specs.Steps.{Step, Follows, state_after, word_by, words_of}
+use Rattle.cw_trace.proofs.Grown.{follows_grown, state_grown, words_grown}
 use Rattle.cw_trace.specs.Told.{spot_lines, label_at}
 use Rattle.cw_run.specs.Walks.{Here, Wait, ret_of, config_of, mems_of, place, within, Next, To, Into, Back, Over as AllOver, Resumed, Stopped, at_pos}
 use Rattle.cw_run.specs.Walks.{called, ended, going_on, refusing, asked, next_of, stop_lines, place_of, waits_after, Rests, stays as rests_stays, tries as rests_tries, skips as rests_skips}
 use Rattle.cw_run.proofs.Sees.{is_inner, Sees, sees_visit, sees_asked, sees_step, sees_branch, sees_label, sees_open, sees_close, sees_call, sees_split, sees_end, see, below, board_on, stays}
-use Rattle.cw_run.proofs.Sits.{chained, Waiting, Least, Sits, Stepped, label_of, arrived, told_by, inner_step}
+use Rattle.cw_run.proofs.Sits.{chained, Waiting, Least, Sits, Stepped, arrived, told_by, inner_step}
 use Rattle.cw_lemmas.proofs.Options.{option_map_some as mapped}
 use Rattle.cw_run.proofs.Calls.{Finishes, call_step, return_step, end_step}
 use Rattle.cw_run.proofs.Refusals.{Refuses, Resumes, Stops, resume_step, stop_step}
@@ -87,22 +88,37 @@ safe_of p t sound steps h =
     subst (λ s. Safe p t s) (last_of (start_state p t) steps)
     (record { meets = sound.meets run w; answers = λ m next e mv. sound.answers run m next w e mv; chooses = λ e. sound.chooses run w e })
 
-module _ (names : Names) (g : Game) (t : Table) (plan : Plan) where
+module _ (names : Names) (g : Game) (t : Table) (plan : Plan) (from : State) (own : List ℕ → List ℕ) where
   abbrev problem_on : Problem
   problem_on = record { plan = plan; policy = g.policy }
+
+  -- what a step tells, and what some steps tell: each line as `own` has it
+  abbrev pub own_lines : Board → Move → Board → List ℕ
+  own_lines b by next = own (move_lines names problem_on b b.phase by) ++ own (reached_lines names g.policy next next.phase)
+
+  abbrev pub own_trace : State → List Step → List ℕ
+  own_trace s [] = []
+  own_trace s (step ∷ later) = own_lines s.board step.by step.next.board ++ own_trace step.next later
+
+  pub own_grown : (s : State) (before : List Step) (last : Step)
+      → own_trace s (before ++ last ∷ []) ≡ own_trace s before ++ own_lines (state_after s before).board last.by last.next.board
+  own_grown s [] last = append-nil (own_lines s.board last.by last.next.board)
+  own_grown s (one ∷ before) last =
+      ap (λ l. own_lines s.board one.by one.next.board ++ l) (own_grown one.next before last)
+      ∙ sym (append_assoc (own_lines s.board one.by one.next.board) (own_trace one.next before) (own_lines (state_after one.next before).board last.by last.next.board))
 
   -- The steps so far, with what they read and tell.
   pub record HasSteps (words : List Move) (text : List ℕ) (s : State) : Type 0 where
     pub steps : List Step
-    pub follows : Follows problem_on t (start_state problem_on t) steps
-    pub reads : words_of (start_state problem_on t) steps ≡ words
-    pub tells : run_trace names problem_on steps ≡ text
-    pub comes : state_after (start_state problem_on t) steps ≡ s
+    pub follows : Follows problem_on t from steps
+    pub reads : words_of from steps ≡ words
+    pub tells : own_trace from steps ≡ text
+    pub comes : state_after from steps ≡ s
 
   pub record IsRunAt (words : List Move) (text : List ℕ) (h : Here) (waits : List Wait) : Type 0 where
     pub state : State
     pub run : HasSteps words text state
-    pub sits : Sits g state h waits
+    pub sits : Sits plan g state h waits
 
   pub record IsOver (words : List Move) (text : List ℕ) : Type 0 where
     pub state : State
@@ -110,42 +126,39 @@ module _ (names : Names) (g : Game) (t : Table) (plan : Plan) where
     pub over : state.board.phase ≡ Over
 
 module _ (names : Names) (g : Game) (t : Table) (plan : Plan) (right : AreStates g.policy g.spots g.states (Reached g.policy g.spots g.states)) (laid : IsLaidOut plan g) (has : HasRoutines plan g)
-    (held : ℕ → Caps) (holds : (q : ℕ) (w : Word) (c : Caps) → Reached g.policy g.spots g.states q w c → held q ≡ c) where
+    (held : ℕ → Caps) (holds : (q : ℕ) (w : Word) (c : Caps) → Reached g.policy g.spots g.states q w c → held q ≡ c) (from : State) (own : List ℕ → List ℕ) (own_none : own [] ≡ []) where
   abbrev pub problem : Problem
   problem = record { plan = plan; policy = g.policy }
 
-  abbrev start : State
-  start = start_state problem t
-
   abbrev label : Here → List ℕ
-  label h = label_of names g t plan right laid has held holds h
+  label h = own (label_at names g.policy (held h.state) (slice_get g.spots h.pos))
 
   abbrev StepTo : State → Move → List ℕ → Here → List Wait → Type 0
   StepTo s by lines to waits = Stepped names g t plan right laid has held holds s by lines to waits
 
   abbrev Has : List Move → List ℕ → State → Type 0
-  Has words text s = HasSteps names g t plan words text s
+  Has words text s = HasSteps names g t plan from own words text s
 
   abbrev IsRun : List Move → List ℕ → Here → List Wait → Type 0
-  IsRun words text h waits = IsRunAt names g t plan words text h waits
+  IsRun words text h waits = IsRunAt names g t plan from own words text h waits
 
   abbrev step_by : Move → State → Step
   step_by by next = record { by = by; next = next }
 
   -- one step more
-  pub grown : (words : List Move) (text lines : List ℕ) (s next : State) (by : Move) → Has words text s → WovenStep problem t s by next → step_lines names problem s.board by next.board ≡ lines
-      → Has (words ++ word_by (turn_of s.board.phase) by) (text ++ lines) next
-  grown words text lines s next by h step e =
+  pub grown : (words : List Move) (text acted reached : List ℕ) (s next : State) (by : Move) → Has words text s → WovenStep problem t s by next
+      → move_lines names problem s.board s.board.phase by ≡ acted → reached_lines names g.policy next.board next.board.phase ≡ reached
+      → Has (words ++ word_by (turn_of s.board.phase) by) (text ++ (own acted ++ own reached)) next
+  grown words text acted reached s next by h step e f =
       let one = step_by by next in
       record {
         steps = h.steps ++ one ∷ [];
-        follows = follows_grown problem t start h.steps one h.follows (subst (λ z. WovenStep problem t z by next) (sym h.comes) step);
-        reads = words_grown start h.steps one ∙ ap₂ (λ l (z : State). l ++ word_by (turn_of z.board.phase) by) h.reads h.comes;
-        tells = ap (λ l. lines_from names problem start.board l) (taken_grown h.steps one)
-            ∙ lines_grown names problem start.board (map taken_of h.steps) (taken_of one)
-            ∙ ap₂ (λ l (b : Board). l ++ step_lines names problem b by next.board) h.tells (board_of_run start h.steps ∙ ap (λ (z : State). z.board) h.comes)
-            ∙ ap (λ l. text ++ l) e;
-        comes = state_grown start h.steps one;
+        follows = follows_grown problem t from h.steps one h.follows (subst (λ z. WovenStep problem t z by next) (sym h.comes) step);
+        reads = words_grown from h.steps one ∙ ap₂ (λ l (z : State). l ++ word_by (turn_of z.board.phase) by) h.reads h.comes;
+        tells = own_grown names g t plan from own from h.steps one
+            ∙ ap₂ (λ l (z : State). l ++ own_lines names g t plan from own z.board by next.board) h.tells h.comes
+            ∙ ap₂ (λ l m. text ++ (own l ++ own m)) e f;
+        comes = state_grown from h.steps one;
       }
 
   with_word : (words : List Move) (text : List ℕ) (s from : State) (by : Move) → turn_of from.board.phase ≡ Some Environment → Has (words ++ word_by (turn_of from.board.phase) by) text s
@@ -156,19 +169,22 @@ module _ (names : Names) (g : Game) (t : Table) (plan : Plan) (right : AreStates
       → Has words text s
   without_word words text s from by e h = subst (λ l. Has l text s) (append-nil words) (subst (λ o. Has (words ++ word_by o by) text s) e h)
 
+  abbrev label_of : Here → List ℕ
+  label_of h = label_at names g.policy (held h.state) (slice_get g.spots h.pos)
+
   abbrev step_text : List ℕ → List ℕ → List ℕ → List ℕ
   step_text text lines more = text ++ (lines ++ more)
 
   -- the environment's step
   moved_on : (words : List Move) (text lines : List ℕ) (s : State) (by : Move) (to : Here) (waits : List Wait) → turn_of s.board.phase ≡ Some Environment → Has words text s
       → StepTo s by lines to waits
-      → IsRun (words ++ by ∷ []) (step_text text lines (label to)) to waits
+      → IsRun (words ++ by ∷ []) (step_text text (own lines) (label to)) to waits
   moved_on words text lines s by to waits turn h k =
-      record { state = k.next; run = with_word words (step_text text lines (label to)) k.next s by turn (grown words text (lines ++ label to) s k.next by h k.steps k.tells); sits = k.sits }
+      record { state = k.next; run = with_word words (step_text text (own lines) (label to)) k.next s by turn (grown words text lines (label_of to) s k.next by h k.steps k.acts k.reaches); sits = k.sits }
 
   -- The weaver's steps.
   visited_on : (frame : Frame) (frames : List Frame) (kept : List (Option Caps)) (caps : Caps) (word : Word) (phase : Phase) (h : Here) (waits : List Wait) (j i : ℕ) (a : Primitive)
-      (by : Move) (n : ℕ) → let b = board_on (frame ∷ frames) kept caps word phase in StandsOn (Least g) g (frame ∷ frames) kept caps word phase h.pos h.state (map ret_of waits)
+      (by : Move) (n : ℕ) → let b = board_on (frame ∷ frames) kept caps word phase in Together problem g b (config_of h waits) → StandsOn (Least g) g (frame ∷ frames) kept caps word phase h.pos h.state (map ret_of waits)
       → Waiting frames kept waits → slice_get g.spots h.pos ≡ Some (VisitSpot j i a)
       → leads_in g h.pos h.state (map ret_of waits) (Some (VisitSpot j i a)) by ≡ Some (at_pair n h.state (map ret_of waits))
       → ((stage : ℕ) (what : Primitive) (later : List Primitive) (b : Board)
@@ -176,7 +192,7 @@ module _ (names : Names) (g : Game) (t : Table) (plan : Plan) (right : AreStates
       (weaver_memory by (is_some (try_of t b stage h.mem)) h.mem))
       → weaver_memory by (is_some (try_at t j i h.mem)) h.mem ≡ Some h.mem
       → StepTo (record { board = b; mems = mems_of h waits }) by [] (at_pos n h) waits
-  visited_on frame frames kept caps word phase h waits j i a by n stands waiting es leads memory there =
+  visited_on frame frames kept caps word phase h waits j i a by n goes stands waiting es leads memory there =
       let b = board_on (frame ∷ frames) kept caps word phase in
       let c = config_of h waits in
       let rets = map ret_of waits in
@@ -195,12 +211,17 @@ module _ (names : Names) (g : Game) (t : Table) (plan : Plan) (right : AreStates
       record {
         next = record { board = to.0; mems = h.mem ∷ ms };
         steps = (to.1, mem);
-        sits = record { stands = to.2; mems = refl; waiting = subst (λ f. Waiting f to.0.kept waits) (sym stay.0) (subst (λ k. Waiting frames k waits) (sym stay.1) waiting) };
-        tells = ap₂ (λ x y. x ++ y) (told_by names g t plan right laid has held holds b h waits by (VisitSpot j i a) stands es)
-            (arrived names g t plan right laid has held holds to.0 (at_pos n h) waits to.2);
+        sits = record {
+          goes = by_move b c by to.0 (at_pair n h.state rets) goes to.1 (ap (λ o. leads_in g h.pos h.state rets o by) es ∙ leads);
+          stands = to.2;
+          mems = refl;
+          waiting = subst (λ f. Waiting f to.0.kept waits) (sym stay.0) (subst (λ k. Waiting frames k waits) (sym stay.1) waiting);
+        };
+        acts = told_by names g t plan right laid has held holds b h waits by (VisitSpot j i a) stands es;
+        reaches = arrived names g t plan right laid has held holds to.0 (at_pos n h) waits to.2;
       }
 
-  visited : (s : State) (h : Here) (waits : List Wait) (j i : ℕ) (a : Primitive) (by : Move) (n : ℕ) → Sits g s h waits → slice_get g.spots h.pos ≡ Some (VisitSpot j i a)
+  visited : (s : State) (h : Here) (waits : List Wait) (j i : ℕ) (a : Primitive) (by : Move) (n : ℕ) → Sits plan g s h waits → slice_get g.spots h.pos ≡ Some (VisitSpot j i a)
       → leads_in g h.pos h.state (map ret_of waits) (Some (VisitSpot j i a)) by ≡ Some (at_pair n h.state (map ret_of waits))
       → ((stage : ℕ) (what : Primitive) (later : List Primitive) (b : Board)
       → memories problem t b (mems_of h waits) (Visit stage what later) by ≡ option_map (λ m. m ∷ map (λ (w : Wait). w.mem) waits)
@@ -208,20 +229,22 @@ module _ (names : Names) (g : Game) (t : Table) (plan : Plan) (right : AreStates
       → weaver_memory by (is_some (try_at t j i h.mem)) h.mem ≡ Some h.mem → StepTo s by [] (at_pos n h) waits
   visited s h waits j i a by n sits es leads memory there =
       subst (λ ms. StepTo (record { board = s.board; mems = ms }) by [] (at_pos n h) waits) (sym sits.mems)
-      (on s.board.stack s.board.kept s.board.caps s.board.word s.board.phase sits.stands sits.waiting)
+      (on s.board.stack s.board.kept s.board.caps s.board.word s.board.phase sits.goes sits.stands sits.waiting)
     where
-      on : (stack : List Frame) (kept : List (Option Caps)) (caps : Caps) (word : Word) (phase : Phase) → StandsOn (Least g) g stack kept caps word phase h.pos h.state (map ret_of waits)
+      on : (stack : List Frame) (kept : List (Option Caps)) (caps : Caps) (word : Word) (phase : Phase) → Together problem g (board_on stack kept caps word phase) (config_of h waits)
+          → StandsOn (Least g) g stack kept caps word phase h.pos h.state (map ret_of waits)
           → Waiting (below stack) kept waits → StepTo (record { board = board_on stack kept caps word phase; mems = mems_of h waits }) by [] (at_pos n h) waits
-      on [] kept caps word phase stands waiting = absurd stands
-      on (frame ∷ frames) kept caps word phase stands waiting = visited_on frame frames kept caps word phase h waits j i a by n stands waiting es leads memory there
+      on [] kept caps word phase goes stands waiting = absurd stands
+      on (frame ∷ frames) kept caps word phase goes stands waiting = visited_on frame frames kept caps word phase h waits j i a by n goes stands waiting es leads memory there
 
   weaved : (words : List Move) (text : List ℕ) (s : State) (h to : Here) (waits : List Wait) (by : Move) (j i : ℕ) (a : Primitive) → slice_get g.spots h.pos ≡ Some (VisitSpot j i a)
       → Stands (Least g) g s.board (config_of h waits) → Has words (text ++ label h) s → StepTo s by [] to waits → IsRun words (text ++ label to) to waits
   weaved words text s h to waits by j i a es stands run k =
       let turn = weavers_turn (Least g) g plan right laid has s.board (config_of h waits) stands (ap weavers_in es) in
-      let none : text ++ label h ≡ text = ap (λ o. text ++ label_at names g.policy (held h.state) o) es ∙ append-nil text in
+      let none : text ++ label h ≡ text = ap (λ o. text ++ own (label_at names g.policy (held h.state) o)) es ∙ ap (λ l. text ++ l) own_none ∙ append-nil text in
       let r = subst (λ l. Has words l s) none run in
-      record { state = k.next; run = without_word words (text ++ label to) k.next s by turn (grown words text (label to) s k.next by r k.steps k.tells); sits = k.sits }
+      let told = subst (λ l. Has (words ++ word_by (turn_of s.board.phase) by) (text ++ (l ++ label to)) k.next) own_none (grown words text [] (label_of to) s k.next by r k.steps k.acts k.reaches) in
+      record { state = k.next; run = without_word words (text ++ label to) k.next s by turn told; sits = k.sits }
 
   -- after a try it is the environment's turn
   tried_turn : (b next : Board) (phase : Phase) → moved problem b phase Try ≡ Some next → turn_of next.phase ≡ Some Environment
@@ -260,44 +283,55 @@ module _ (names : Names) (g : Game) (t : Table) (plan : Plan) (right : AreStates
   rested words text h here waits r w e =
       subst (λ z. AtRest words (text ++ label z) z waits) (sym e) (rested_from words text h waits h.pos here.pos w r)
 
+  -- a step after which nothing is reached
+  quiet_grown : (words : List Move) (text acted : List ℕ) (s next : State) (by : Move) → Has words text s → WovenStep problem t s by next
+      → move_lines names problem s.board s.board.phase by ≡ acted → reached_lines names g.policy next.board next.board.phase ≡ []
+      → Has (words ++ word_by (turn_of s.board.phase) by) (text ++ own acted) next
+  quiet_grown words text acted s next by h step e f =
+      subst (λ l. Has (words ++ word_by (turn_of s.board.phase) by) (text ++ l) next) (ap (λ l. own acted ++ l) own_none ∙ append-nil (own acted)) (grown words text acted [] s next by h step e f)
+
+  over_quiet : (s : State) → s.board.phase ≡ Over → reached_lines names g.policy s.board s.board.phase ≡ []
+  over_quiet s e = ap (reached_lines names g.policy s.board) e
+
   -- Where a move of the environment leads.
   finished : (words : List Move) (text lines : List ℕ) (s : State) (by : Move) → turn_of s.board.phase ≡ Some Environment → Has words text s
-      → Finishes names g t plan right laid has held holds s by lines → IsOver names g t plan (words ++ by ∷ []) (text ++ lines)
+      → Finishes names g t plan right laid has held holds s by lines → IsOver names g t plan from own (words ++ by ∷ []) (text ++ own lines)
   finished words text lines s by turn h k =
-      record { state = k.next; run = with_word words (text ++ lines) k.next s by turn (grown words text lines s k.next by h k.steps k.tells); over = k.over }
+      record { state = k.next; run = with_word words (text ++ own lines) k.next s by turn (quiet_grown words text lines s k.next by h k.steps k.acts (over_quiet k.next k.over)); over = k.over }
 
   -- what a refusal leaves, with the weaver's move after it
   refusal_grown : (words : List Move) (text : List ℕ) (s : State) (j i : ℕ) (a : Primitive) → turn_of s.board.phase ≡ Some Environment → Has words text s
-      → (r : Refuses names g t plan right laid has held holds s j i a) → Has (words ++ Refuse ∷ []) (text ++ try_line j i a false) r.first
+      → (r : Refuses names g t plan right laid has held holds s j i a) → Has (words ++ Refuse ∷ []) (text ++ own (try_line j i a false)) r.first
   refusal_grown words text s j i a turn h r =
-      with_word words _ r.first s Refuse turn (grown words text (try_line j i a false) s r.first Refuse h r.refuses r.told)
+      with_word words _ r.first s Refuse turn (quiet_grown words text (try_line j i a false) s r.first Refuse h r.refuses r.acts r.quiet)
 
   resumed_on : (words : List Move) (text : List ℕ) (s : State) (j i : ℕ) (a : Primitive) (to : Here) (waits : List Wait) → turn_of s.board.phase ≡ Some Environment → Has words text s
-      → Resumes names g t plan right laid has held holds s j i a to waits → IsRun (words ++ Refuse ∷ []) (step_text text (try_line j i a false) (label to)) to waits
+      → Resumes names g t plan right laid has held holds s j i a to waits → IsRun (words ++ Refuse ∷ []) (step_text text (own (try_line j i a false)) (label to)) to waits
   resumed_on words text s j i a to waits turn h k =
-      let line = try_line j i a false in
+      let line = own (try_line j i a false) in
       let first = refusal_grown words text s j i a turn h k.refusal in
       let all = words ++ Refuse ∷ [] in
-      let two = grown all (text ++ line) (label to) k.refusal.first k.then.next Skip first k.then.steps k.then.tells in
+      let two = subst (λ l. Has (all ++ word_by (turn_of k.refusal.first.board.phase) Skip) ((text ++ line) ++ (l ++ label to)) k.then.next) own_none
+      (grown all (text ++ line) [] (label_of to) k.refusal.first k.then.next Skip first k.then.steps k.then.acts k.then.reaches) in
       let three = without_word all ((text ++ line) ++ label to) k.then.next k.refusal.first Skip (ap turn_of k.refusal.is_refused) two in
       record { state = k.then.next; run = subst (λ l. Has all l k.then.next) (append_assoc text line (label to)) three; sits = k.then.sits }
 
   stopped_on : (words : List Move) (text : List ℕ) (s : State) (j i : ℕ) (a : Primitive) → turn_of s.board.phase ≡ Some Environment → Has words text s
       → Stops names g t plan right laid has held holds s j i a
-      → IsOver names g t plan (words ++ Refuse ∷ []) (step_text text (try_line j i a false) (stop_line j))
+      → IsOver names g t plan from own (words ++ Refuse ∷ []) (step_text text (own (try_line j i a false)) (own (stop_line j)))
   stopped_on words text s j i a turn h k =
-      let line = try_line j i a false in
+      let line = own (try_line j i a false) in
       let first = refusal_grown words text s j i a turn h k.refusal in
       let all = words ++ Refuse ∷ [] in
-      let halt = stop_line j in
-      let two = grown all (text ++ line) halt k.refusal.first k.then.next Stop first k.then.steps k.then.tells in
+      let halt = own (stop_line j) in
+      let two = quiet_grown all (text ++ line) (stop_line j) k.refusal.first k.then.next Stop first k.then.steps k.then.acts (over_quiet k.then.next k.then.over) in
       let three = without_word all ((text ++ line) ++ halt) k.then.next k.refusal.first Stop (ap turn_of k.refusal.is_refused) two in
       record { state = k.then.next; run = subst (λ l. Has all l k.then.next) (append_assoc text line halt) three; over = k.then.over }
 
   -- What the next place is told of: the run goes on there, or is over.
   abbrev pub LeadsTo : List Move → List ℕ → List ℕ → Next → Option Here → List Wait → Type 0
-  LeadsTo words text lines n (Some to) waits = IsRun words (text ++ (lines ++ (stop_lines n ++ label to))) to waits
-  LeadsTo words text lines n None waits = IsOver names g t plan words (text ++ (lines ++ stop_lines n))
+  LeadsTo words text lines n (Some to) waits = IsRun words (text ++ (own lines ++ (stop_lines own n ++ label to))) to waits
+  LeadsTo words text lines n None waits = IsOver names g t plan from own words (text ++ (own lines ++ stop_lines own n))
 
   abbrev Leads : List Move → List ℕ → Spot → Move → List Wait → Next → Type 0
   Leads words text spot by waits n = LeadsTo (words ++ by ∷ []) text (spot_lines names g.policy g.main spot by) n (place_of n) (waits_after n waits)
@@ -357,7 +391,7 @@ module _ (names : Names) (g : Game) (t : Table) (plan : Plan) (right : AreStates
       → ended g t h waits by ≡ Some n → Leads words text (Exit f) by waits n
   end_leads words text h [] run f On n es e =
       subst (λ z. Leads words text (Exit f) On [] z) (same_Some AllOver n e)
-      (subst (λ l. IsOver names g t plan (words ++ On ∷ []) (text ++ l)) (sym (append-nil (spot_lines names g.policy g.main (Exit f) On)))
+      (subst (λ l. IsOver names g t plan from own (words ++ On ∷ []) (text ++ l)) (sym (append-nil (own (spot_lines names g.policy g.main (Exit f) On))))
       (finished words text (spot_lines names g.policy g.main (Exit f) On) run.state On (turn_here words text h [] run (Exit f) es refl) run.run
       (end_step names g t plan right laid has held holds run.state h f run.sits es)))
   end_leads words text h (w ∷ waits) run f On n es e =

@@ -1,5 +1,5 @@
 -- A state of a woven run over the place where it stands in the game, and what each move of the environment leaves of both.
-use Rattle.std.proofs.Common.{◌≡◌, ℕ, ◌+◌, List, [], ◌∷◌, ◌++◌, map, Bool, true, false, cond, ◌||◌, Option, Some, None, is_some, option_map, option_and_then, refl, sym, ap, ap₂, ◌∙◌, subst}
+use Rattle.std.proofs.Common.{◌≡◌, ℕ, ◌+◌, List, [], ◌∷◌, map, Bool, true, false, cond, Option, Some, None, is_some, option_map, option_and_then, refl, sym, ap, ◌∙◌, subst}
 use Rattle.std.specs.Prelude.{slice_get}
 use Rattle.std.proofs.lemmas.Option.{none-some, same_Some}
 use Rattle.cw_rights.specs.declared.capabilities.Caps.{Caps}
@@ -20,9 +20,10 @@ use Rattle.cw_game.specs.Games.{AreStates, Game, Ret, Config, at_pair, past_aske
 use Rattle.cw_game.specs.Reached.{Reached}
 use Rattle.cw_game.specs.Places.{IsLaidOut, HasRoutines}
 use Rattle.cw_game.specs.Standing.{Meaning, StandsOn}
+use Rattle.cw_game.specs.Together.{Together, by_move}
 use Rattle.cw_game.proofs.Link.{Stands, board_moves, environments_turn}
 use Rattle.cw_product.specs.Moves.{pair_of, is_left_in, next_in, next_at}
-use Rattle.cw_trace.specs.Traces.{Names, move_lines, reached_lines, step_lines}
+use Rattle.cw_trace.specs.Traces.{Names, move_lines, reached_lines}
 use Rattle.cw_trace.specs.Told.{spot_lines, lines_at, label_at}
 use Rattle.cw_trace.proofs.Boards.{moved_on, reached_on}
 use Rattle.cw_run.specs.Walks.{Here, Wait, ret_of, config_of, mems_of, place, mem_after, within}
@@ -93,7 +94,9 @@ abbrev pub Least : Game → Meaning
 Least g = Reached g.policy g.spots g.states
 
 -- The state of a run is at this place, over these calls that wait.
-pub record Sits (g : Game) (s : State) (h : Here) (waits : List Wait) : Type 0 where
+pub record Sits (plan : Plan) (g : Game) (s : State) (h : Here) (waits : List Wait) : Type 0 where
+  -- by the same moves from the start
+  pub goes : Together (record { plan = plan; policy = g.policy }) g s.board (config_of h waits)
   pub stands : Stands (Least g) g s.board (config_of h waits)
   pub mems : s.mems ≡ mems_of h waits
   pub waiting : Waiting (below s.board.stack) s.board.kept waits
@@ -130,8 +133,9 @@ module _ (names : Names) (g : Game) (t : Table) (plan : Plan) (right : AreStates
   pub record Stepped (s : State) (by : Move) (lines : List ℕ) (to : Here) (waits : List Wait) : Type 0 where
     pub next : State
     pub steps : WovenStep problem t s by next
-    pub sits : Sits g next to waits
-    pub tells : step_lines names problem s.board by next.board ≡ lines ++ label_of to
+    pub sits : Sits plan g next to waits
+    pub acts : move_lines names problem s.board s.board.phase by ≡ lines
+    pub reaches : reached_lines names g.policy next.board next.board.phase ≡ label_of to
 
   abbrev state_of_board : Board → List ℕ → State
   state_of_board b ms = record { board = b; mems = ms }
@@ -141,10 +145,10 @@ module _ (names : Names) (g : Game) (t : Table) (plan : Plan) (right : AreStates
 
   -- Within a function.
   inner_on : (frame : Frame) (frames : List Frame) (kept : List (Option Caps)) (caps : Caps) (word : Word) (phase : Phase) (h : Here) (waits : List Wait) (by : Move) (spot : Spot)
-      (pair : ℕ × ℕ) (m : ℕ) → let b = board_on (frame ∷ frames) kept caps word phase in StandsOn (Least g) g (frame ∷ frames) kept caps word phase h.pos h.state (map ret_of waits)
-      → Waiting frames kept waits → slice_get g.spots h.pos ≡ Some spot → is_inner spot ≡ true → weavers_in (Some spot) ≡ false → next_at g h.pos h.state by ≡ Some pair
+      (pair : ℕ × ℕ) (m : ℕ) → let b = board_on (frame ∷ frames) kept caps word phase in Together problem g b (config_of h waits)
+      → StandsOn (Least g) g (frame ∷ frames) kept caps word phase h.pos h.state (map ret_of waits) → Waiting frames kept waits → slice_get g.spots h.pos ≡ Some spot → is_inner spot ≡ true → weavers_in (Some spot) ≡ false → next_at g h.pos h.state by ≡ Some pair
       → mem_after t h.mem spot by ≡ Some m → Stepped (state_of_board b (mems_of h waits)) by (spot_lines names g.policy g.main spot by) (place pair m) waits
-  inner_on frame frames kept caps word phase h waits by spot pair m stands waiting es inner env en em =
+  inner_on frame frames kept caps word phase h waits by spot pair m goes stands waiting es inner env en em =
       let rets = map ret_of waits in
       let b = board_on (frame ∷ frames) kept caps word phase in
       let c = config_of h waits in
@@ -161,22 +165,28 @@ module _ (names : Names) (g : Game) (t : Table) (plan : Plan) (right : AreStates
       record {
         next = state_of_board to.0 (m ∷ ms);
         steps = (to.1, memory);
-        sits = record { stands = to.2; mems = refl; waiting = subst (λ f. Waiting f to.0.kept waits) (sym stay.0) (subst (λ k. Waiting frames k waits) (sym stay.1) waiting) };
-        tells = ap₂ (λ x y. x ++ y) (told_by b h waits by spot stands es) (arrived to.0 (place pair m) waits to.2);
+        sits = record {
+          goes = by_move b c by to.0 (at_pair pair.0 pair.1 rets) goes to.1 leads;
+          stands = to.2;
+          mems = refl;
+          waiting = subst (λ f. Waiting f to.0.kept waits) (sym stay.0) (subst (λ k. Waiting frames k waits) (sym stay.1) waiting);
+        };
+        acts = told_by b h waits by spot stands es;
+        reaches = arrived to.0 (place pair m) waits to.2;
       }
 
-  pub inner_step : (s : State) (h : Here) (waits : List Wait) (by : Move) (spot : Spot) (to : Here) → Sits g s h waits → slice_get g.spots h.pos ≡ Some spot → is_inner spot ≡ true
+  pub inner_step : (s : State) (h : Here) (waits : List Wait) (by : Move) (spot : Spot) (to : Here) → Sits plan g s h waits → slice_get g.spots h.pos ≡ Some spot → is_inner spot ≡ true
       → weavers_in (Some spot) ≡ false → within g t h spot by ≡ Some to → Stepped s by (spot_lines names g.policy g.main spot by) to waits
   inner_step s h waits by spot to sits es inner env e =
       let one = chained (λ (pair : ℕ × ℕ). option_map (place pair) (mem_after t h.mem spot by)) (next_at g h.pos h.state by) to e in
       let two = mapped (place one.0) (mem_after t h.mem spot by) to one.2 in
       subst (λ z. Stepped s by (spot_lines names g.policy g.main spot by) z waits) two.2
       (subst (λ ms. Stepped (state_of_board s.board ms) by (spot_lines names g.policy g.main spot by) (place one.0 two.0) waits) (sym sits.mems)
-      (on s.board.stack s.board.kept s.board.caps s.board.word s.board.phase one.0 two.0 sits.stands sits.waiting one.1 two.1))
+      (on s.board.stack s.board.kept s.board.caps s.board.word s.board.phase one.0 two.0 sits.goes sits.stands sits.waiting one.1 two.1))
     where
       on : (stack : List Frame) (kept : List (Option Caps)) (caps : Caps) (word : Word) (phase : Phase) (pair : ℕ × ℕ) (m : ℕ)
-          → StandsOn (Least g) g stack kept caps word phase h.pos h.state (map ret_of waits) → Waiting (below stack) kept waits → next_at g h.pos h.state by ≡ Some pair
+          → Together problem g (board_on stack kept caps word phase) (config_of h waits) → StandsOn (Least g) g stack kept caps word phase h.pos h.state (map ret_of waits) → Waiting (below stack) kept waits → next_at g h.pos h.state by ≡ Some pair
           → mem_after t h.mem spot by ≡ Some m
           → Stepped (state_of_board (board_on stack kept caps word phase) (mems_of h waits)) by (spot_lines names g.policy g.main spot by) (place pair m) waits
-      on [] kept caps word phase pair m stands waiting en em = absurd stands
-      on (frame ∷ frames) kept caps word phase pair m stands waiting en em = inner_on frame frames kept caps word phase h waits by spot pair m stands waiting es inner env en em
+      on [] kept caps word phase pair m goes stands waiting en em = absurd stands
+      on (frame ∷ frames) kept caps word phase pair m goes stands waiting en em = inner_on frame frames kept caps word phase h waits by spot pair m goes stands waiting es inner env en em

@@ -1,18 +1,21 @@
 -- The calls that wait: the program has the innermost last.
 use Rattle.std.proofs.Common.{◌≡◌, ◌≢◌, false, ℕ, zero, suc, ◌-◌, ◌<◌, List, [], ◌∷◌, ◌++◌, map, reverse, length, get_or, Option, Some, None, option_map, refl, sym, ap, ◌∙◌, subst, arith}
-use Rattle.std.specs.Prelude.{slice_get, option_to_list}
+use Rattle.std.specs.Prelude.{slice_get, option_to_list, IfSome}
 use Rattle.std.proofs.lemmas.Option.{none-some, same_Some}
 use Rattle.std.proofs.lemmas.List.{reverse-append}
 use Rattle.std.proofs.lemmas.List.Elements.{All-get_or}
 use Rattle.std.specs.List.{All}
 use Rattle.cw_game.specs.declared.spots.Spot.{Spot}
-use Rattle.cw_game.specs.declared.spots.Spot.TheVariants.{Visit, Call, SplitCall}
+use Rattle.cw_game.specs.declared.spots.Spot.TheVariants.{Visit, Asked, Step, Branch, Label, Open, Close, Call, SplitCall, Exit}
 use Rattle.cw_rights.specs.declared.capabilities.Primitive.{Primitive}
 use Rattle.cw_game.specs.Games.{Game, weavers_in}
 use Rattle.cw_game.specs.Pairs.{Called, call_in}
 use Rattle.cw_positions.specs.Closed.{LeadsWithin}
 use Rattle.cw_run.specs.declared.walk.Wait.{Wait as WaitData}
-use Rattle.cw_run.specs.Walks.{Wait, wait_of, innermost, first_of, without_first, IsWait}
+use Rattle.cw_certs.specs.declared.moves.Move.{Move}
+use Rattle.cw_certs.specs.declared.moves.Move.TheVariants.{On}
+use Rattle.cw_certs.specs.Tables.{Table}
+use Rattle.cw_run.specs.Walks.{Here, Wait, wait_of, innermost, first_of, without_first, IsWait, ended, next_of}
 
 map_append : {A B : Type 0} (f : A → B) (xs ys : List A) → map f (xs ++ ys) ≡ map f xs ++ map f ys
 map_append f [] ys = refl
@@ -73,3 +76,30 @@ popped (x ∷ old) new None e none = absurd (omega (arith, none refl))
 pub not_visit : (s : Spot) → ((j i : ℕ) (a : Primitive) → s ≢ Visit j i a) → weavers_in (Some s) ≡ false
 not_visit (Visit j i a) n = absurd (n j i a refl)
 not_visit _ n = refl
+
+pub last_range : (g : Game) (xs : List WaitData) (o : Option WaitData) → option_map wait_of o ≡ first_of (innermost xs) → All (λ w. IsWait g (wait_of w)) xs
+    → IfSome o (λ w. IsWait g (wait_of w))
+last_range g xs None e all = tt
+last_range g xs (Some w) e all = last_in g xs all (wait_of w) (sym e)
+
+-- a move looks at the innermost call that waits alone
+pub first_leads : (g : Game) (t : Table) (h : Here) (waits : List Wait) (spot : Spot) (by : Move) (o : Option Wait) → o ≡ first_of waits
+    → next_of g t h (option_to_list o) spot by ≡ next_of g t h waits spot by
+first_leads g t h waits spot by o e = ap (λ o. next_of g t h (option_to_list o) spot by) e ∙ on waits spot by
+  where
+    ended_so : (waits : List Wait) (by : Move) → ended g t h (option_to_list (first_of waits)) by ≡ ended g t h waits by
+    ended_so [] by = refl
+    ended_so (w ∷ waits) On = refl
+    ended_so (w ∷ waits) _ = refl
+
+    on : (waits : List Wait) (spot : Spot) (by : Move) → next_of g t h (option_to_list (first_of waits)) spot by ≡ next_of g t h waits spot by
+    on waits (Exit f) by = ended_so waits by
+    on waits (Call j f n) by = refl
+    on waits (SplitCall j f n) by = refl
+    on waits (Asked j i a) by = refl
+    on waits (Visit j i a) by = refl
+    on waits (Step n) by = refl
+    on waits (Branch l r) by = refl
+    on waits (Label j l n) by = refl
+    on waits (Open j d n) by = refl
+    on waits (Close j d n) by = refl

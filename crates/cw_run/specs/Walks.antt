@@ -1,9 +1,9 @@
 -- Working definitions: a run over the positions and states of the game, and over the rows of the table.
-use Rattle.std.specs.Prelude.{◌≡◌, ℕ, ◌+◌, List, [], ◌∷◌, ◌++◌, map, reverse, count_by, Bool, true, false, cond, Option, Some, None, option_map, option_and_then, is_some, slice_get}
+use Rattle.std.specs.Prelude.{◌≡◌, ℕ, ◌+◌, List, [], ◌∷◌, ◌++◌, map, reverse, count_by, Bool, true, false, cond, not, nat_eq, Option, Some, None, option_map, option_and_then, is_some, slice_get}
 use Rattle.cw_core.specs.declared.ids.MemId.{MemId}
 use Rattle.cw_rights.specs.declared.capabilities.Caps.{Caps}
 use Rattle.cw_certs.specs.declared.moves.Move.{Move}
-use Rattle.cw_certs.specs.declared.moves.Move.TheVariants.{Grant, Refuse, On}
+use Rattle.cw_certs.specs.declared.moves.Move.TheVariants.{Grant, Refuse, On, Opened, Failed}
 use Rattle.cw_certs.specs.declared.rows.TryRow.{TryRow}
 use Rattle.cw_certs.specs.Tables.{Table, try_at, after_at, open_at, into_at, back_at, state_of}
 use Rattle.cw_model.specs.Runs.{mem_in, refused_with, by_success}
@@ -125,9 +125,9 @@ next_of g t h waits (Asked j i a) by = asked g t h (Asked j i a) j i by (resumed
 next_of g t h waits s by = option_map To (within g t h s by)
 
 -- the stop after a move
-abbrev pub stop_lines : Next → List ℕ
-stop_lines (Stopped seam) = stop_line seam
-stop_lines _ = []
+abbrev pub stop_lines : (List ℕ → List ℕ) → Next → List ℕ
+stop_lines own (Stopped seam) = own (stop_line seam)
+stop_lines own _ = []
 
 -- From a position the weaver comes to another by its own moves: it skips what has no try row, and tries what has one.
 pub data Rests (g : Game) (t : Table) (m : ℕ) : ℕ → ℕ → Type 0 where
@@ -210,11 +210,35 @@ called_of c = record { seam = c.seam.0; function = c.function; back = c.back.0; 
 abbrev pub innermost : List WaitData → List Wait
 innermost waits = reverse (map wait_of waits)
 
--- The weaver comes to rest, and the label that is reached there is told.
-pub record Arrives (names : Names) (g : Game) (t : Table) (held : ℕ → Caps) (to here : Here) (old new : List ℕ) : Type 0 where
+-- whether a move has a line that is made where this stands
+abbrev pub is_answer : Move → Bool
+is_answer Grant = true
+is_answer Refuse = true
+is_answer _ = false
+
+abbrev pub is_success : Move → Bool
+is_success Opened = true
+is_success Failed = true
+is_success _ = false
+
+abbrev pub has_line : (main : ℕ) → Spot → Move → Bool
+has_line main (Asked j i a) by = is_answer by
+has_line main (Open j d n) by = is_success by
+has_line main (Close j d n) by = true
+has_line main (Call j f n) by = true
+has_line main (SplitCall j f n) by = true
+has_line main (Exit f) by = not (nat_eq f main)
+has_line main _ by = false
+
+abbrev pub is_label : Spot → Bool
+is_label (Label j l n) = true
+is_label _ = false
+
+-- The weaver comes to rest, and the label that is reached there is told, as `own` has it.
+pub record Arrives (names : Names) (g : Game) (t : Table) (held : ℕ → Caps) (own : List ℕ → List ℕ) (to here : Here) (old new : List ℕ) : Type 0 where
   pub rests : Rests g t to.mem to.pos here.pos
   pub same : here ≡ at_pos here.pos to
-  pub told : new ≡ old ++ label_at names g.policy (held to.state) (slice_get g.spots here.pos)
+  pub told : new ≡ old ++ own (label_at names g.policy (held to.state) (slice_get g.spots here.pos))
 
 -- Where the run is: at a place, or over.
 abbrev pub place_in : PlaceData → Option Here
@@ -222,31 +246,31 @@ place_in (place_data.At h) = Some (here_of h)
 place_in place_data.Over = None
 
 -- what was told, and the stop after it
-abbrev pub with_stop : List ℕ → Next → List ℕ
-with_stop old (Stopped seam) = old ++ stop_line seam
-with_stop old _ = old
+abbrev pub with_stop : (List ℕ → List ℕ) → List ℕ → Next → List ℕ
+with_stop own old (Stopped seam) = old ++ own (stop_line seam)
+with_stop own old _ = old
 
 -- The run comes to rest after this, or is over, and what is told on the way.
-abbrev pub LandsAt : Names → Game → Table → (ℕ → Caps) → Next → Option Here → Option Here → List ℕ → List ℕ → Type 0
-LandsAt names g t held n (Some to) (Some here) old new = Arrives names g t held to here (with_stop old n) new
-LandsAt names g t held n None None old new = new ≡ with_stop old n
-LandsAt names g t held n _ _ old new = ⊥
+abbrev pub LandsAt : Names → Game → Table → (ℕ → Caps) → (List ℕ → List ℕ) → Next → Option Here → Option Here → List ℕ → List ℕ → Type 0
+LandsAt names g t held own n (Some to) (Some here) old new = Arrives names g t held own to here (with_stop own old n) new
+LandsAt names g t held own n None None old new = new ≡ with_stop own old n
+LandsAt names g t held own n _ _ old new = ⊥
 
 -- What the run is after a move that leads somewhere.
-pub record Goes (names : Names) (g : Game) (t : Table) (held : ℕ → Caps) (n : Next) (waits waits2 : List Wait) (place : Option Here) (old new : List ℕ) : Type 0 where
+pub record Goes (names : Names) (g : Game) (t : Table) (held : ℕ → Caps) (own : List ℕ → List ℕ) (n : Next) (waits waits2 : List Wait) (place : Option Here) (old new : List ℕ) : Type 0 where
   pub waiting : waits2 ≡ waits_after n waits
-  pub lands : LandsAt names g t held n (place_of n) place old new
+  pub lands : LandsAt names g t held own n (place_of n) place old new
 
 -- where a move leads from here
 abbrev pub next_here : Game → Table → Here → List Wait → Move → Option Next
 next_here g t h waits by = option_and_then (λ s. next_of g t h waits s by) (slice_get g.spots h.pos)
 
 -- An answer of the environment at a place: it is a move there, and the run goes on by it; or it is none.
-abbrev pub Answered : Names → Game → Table → (ℕ → Caps) → Here → Move → Option PlaceData → List Wait → List Wait → List ℕ → List ℕ → Type 0
-Answered names g t held h by None waits waits2 old new = (next_here g t h waits by ≡ None) × (new ≡ old)
-Answered names g t held h by (Some place) waits waits2 old new =
+abbrev pub Answered : Names → Game → Table → (ℕ → Caps) → (List ℕ → List ℕ) → Here → Move → Option PlaceData → List Wait → List Wait → List ℕ → List ℕ → Type 0
+Answered names g t held own h by None waits waits2 old new = (next_here g t h waits by ≡ None) × (new ≡ old)
+Answered names g t held own h by (Some place) waits waits2 old new =
     (n : Next) × (next_here g t h waits by ≡ Some n)
-    × Goes names g t held n waits waits2 (place_in place) (old ++ lines_at names g.policy g.main (slice_get g.spots h.pos) by) new
+    × Goes names g t held own n waits waits2 (place_in place) (old ++ own (lines_at names g.policy g.main (slice_get g.spots h.pos) by)) new
 
 abbrev pub IsPlace : Game → Option Here → Type 0
 IsPlace g None = Unit {0}

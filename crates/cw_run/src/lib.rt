@@ -1,7 +1,10 @@
 //! Woven runs by a tape.
 #![tactic(auto)]
 
+mod owned;
 mod run;
 mod walk;
 
-pub use run::{RunEnd, run_woven};
+pub use owned::{put_own_move, put_process};
+pub use run::{Place, RunEnd, begin, land, run_woven};
+pub use walk::{Here, Next, Wait, lead};

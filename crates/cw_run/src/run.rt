@@ -1,6 +1,6 @@
 //! The woven run by a tape.
 
-ghost use Rattle.std.specs.Prelude.{◌≡◌, ◌+◌, ◌∷◌, ◌<◌, ◌≤◌, ◌^◌, length, vec_len, vec_capacity, IfOk, IfSome, OnErr};
+ghost use Rattle.std.specs.Prelude.{◌≡◌, ◌+◌, ◌∷◌, option_map, ◌<◌, ◌≤◌, ◌^◌, Some, None, length, vec_len, vec_capacity, IfOk, IfSome, OnErr};
 ghost use Rattle.std.specs.List.{All};
 ghost use Rattle.cw_rights.specs.Policies.{policy_of};
 ghost use Rattle.cw_states.specs.States.{lists_of, caps_at};
@@ -19,16 +19,18 @@ ghost use Rattle.cw_game.specs.Conditions.{IsGoodTable};
 ghost use Rattle.cw_io.specs.Written.{Follows};
 ghost use Rattle.cw_trace.specs.Labels.{told, names_of as trace_names_of};
 ghost use Rattle.cw_run.specs.Woven.{end_of, Tells};
-ghost use Rattle.cw_run.specs.Walks.{here_of, wait_of, next_is, innermost, entered, enters, entries, is_on, IsHere, IsWait, IsNextIn, IsPlace, Arrives, Goes, Answered, place_in, start_here, without_first};
+ghost use Rattle.cw_run.specs.Lines.{own_of};
+ghost use Rattle.cw_run.specs.Walks.{here_of, wait_of, next_is, innermost, entered, enters, entries, is_on, IsHere, IsWait, IsNextIn, IsPlace, Arrives, LandsAt, Answered, place_in, place_of, waits_after, start_here, without_first, first_of};
 ghost use Rattle.cw_game.specs.Games.{Game as GameOf};
 
+use crate::owned::{put_own_move, put_own_reached, put_own_stop};
 use crate::walk::{Here, Next, Wait, lead, rest};
 use cw_certs::{Move, WeaverCert};
 use cw_core::NoMemory;
 use cw_io::{Sink, Writer};
 use cw_product::Game;
 use cw_syntax::checked::Checked;
-use cw_trace::{Names, put_move, put_reached, put_stop, trace_names};
+use cw_trace::{Names, trace_names};
 use std::alloc::Global;
 
 /// How a run by a tape ends.
@@ -62,13 +64,14 @@ fn arrive<S: Sink>(
     game: &Game,
     table: &WeaverCert,
     names: &Names,
+    process: Option<u32>,
     to: Here,
     writer: &mut Writer<S>,
     out: &mut S,
 ) -> Here
     requires here { IsHere (game_of game.now) (here_of to) }
     requires follows { Follows S.taken S.faults S.refused writer.old out.old }
-    ensures arrives { Arrives (told names.now) (game_of game.now) table.now (caps_at (lists_of game.now.states)) (here_of to) (here_of result) writer.old.text writer.new.text }
+    ensures arrives { Arrives (told names.now) (game_of game.now) table.now (caps_at (lists_of game.now.states)) (own_of process) (here_of to) (here_of result) writer.old.text writer.new.text }
     ensures range { IsHere (game_of game.now) (here_of result) }
     ensures begun { writer.new.begun ≡ writer.old.begun }
     ensures follows { Follows S.taken S.faults S.refused writer.new out.new }
@@ -78,7 +81,8 @@ fn arrive<S: Sink>(
         state: to.state,
         mem: to.mem,
     };
-    put_reached(
+    put_own_reached(
+        process,
         names,
         game.policy(),
         game.caps(here.state),
@@ -98,16 +102,17 @@ pub enum Place {
     Over,
 }
 
-/// Where a run is at its start, when the weaver has made its moves.
-fn begin<S: Sink>(
+/// Where a run is at its start, when the weaver has made its moves: a run, or the run of this process among others, as `land` tells them.
+pub fn begin<S: Sink>(
     game: &Game,
     table: &WeaverCert,
     names: &Names,
+    process: Option<u32>,
     writer: &mut Writer<S>,
     out: &mut S,
 ) -> Here
     requires follows { Follows S.taken S.faults S.refused writer.old out.old }
-    ensures arrives { Arrives (told names.now) (game_of game.now) table.now (caps_at (lists_of game.now.states)) (start_here (game_of game.now) table.now) (here_of result) writer.old.text writer.new.text }
+    ensures arrives { Arrives (told names.now) (game_of game.now) table.now (caps_at (lists_of game.now.states)) (own_of process) (start_here (game_of game.now) table.now) (here_of result) writer.old.text writer.new.text }
     ensures range { IsHere (game_of game.now) (here_of result) }
     ensures begun { writer.new.begun ≡ writer.old.begun }
     ensures follows { Follows S.taken S.faults S.refused writer.new out.new }
@@ -118,7 +123,7 @@ fn begin<S: Sink>(
         state,
         mem: table.start(),
     };
-    arrive(game, table, names, start, writer, out)
+    arrive(game, table, names, process, start, writer, out)
 }
 
 /// A call waits, for which there is room.
@@ -144,44 +149,58 @@ fn forget(waits: &mut Vec<Wait>)
     let _ = waits.pop();
 }
 
-/// The run goes on where a move leads.
-fn go<S: Sink>(
+/// Where a run is after a move, when the weaver has made its moves: it puts the line of a stop, and that of a label that is reached. A process
+/// among others has its number and a blank before each line.
+pub fn land<S: Sink>(
     game: &Game,
     table: &WeaverCert,
     names: &Names,
-    waits: &mut Vec<Wait>,
+    process: Option<u32>,
     next: Next,
     writer: &mut Writer<S>,
     out: &mut S,
 ) -> Place
     requires next { IsNextIn (game_of game.now) (next_is next) }
-    requires waits { All (λ w. IsWait (game_of game.now) (wait_of w)) waits.old.items }
-    requires room { vec_len waits.old + entered (next_is next) ≤ vec_capacity waits.old }
     requires follows { Follows S.taken S.faults S.refused writer.old out.old }
-    ensures goes { Goes (told names.now) (game_of game.now) table.now (caps_at (lists_of game.now.states)) (next_is next) (innermost waits.old.items) (innermost waits.new.items) (place_in result) writer.old.text writer.new.text }
+    ensures lands { LandsAt (told names.now) (game_of game.now) table.now (caps_at (lists_of game.now.states)) (own_of process) (next_is next) (place_of (next_is next)) (place_in result) writer.old.text writer.new.text }
     ensures range { IsPlace (game_of game.now) (place_in result) }
-    ensures waits { All (λ w. IsWait (game_of game.now) (wait_of w)) waits.new.items }
-    ensures length { vec_len waits.new ≤ vec_len waits.old + entered (next_is next) }
-    ensures capacity { vec_capacity waits.new ≡ vec_capacity waits.old }
     ensures begun { writer.new.begun ≡ writer.old.begun }
     ensures follows { Follows S.taken S.faults S.refused writer.new out.new }
 {
     match next {
-        Next::To(to) | Next::Resumed(to) => Place::At(arrive(game, table, names, to, writer, out)),
-        Next::Into(to, wait) => {
-            remember(waits, wait);
-            Place::At(arrive(game, table, names, to, writer, out))
-        }
-        Next::Back(to) => {
-            forget(waits);
-            Place::At(arrive(game, table, names, to, writer, out))
+        Next::To(to) | Next::Into(to, _) | Next::Back(to) | Next::Resumed(to) => {
+            Place::At(arrive(game, table, names, process, to, writer, out))
         }
         Next::Over => Place::Over,
         Next::Stopped(seam) => {
-            put_stop(seam, writer, out);
+            put_own_stop(process, seam, writer, out);
             Place::Over
         }
     }
+}
+
+/// The calls that wait after a move, for which there is room.
+fn follow(waits: &mut Vec<Wait>, next: Next)
+    requires room { vec_len waits.old + entered (next_is next) ≤ vec_capacity waits.old }
+    ensures waiting { innermost waits.new.items ≡ waits_after (next_is next) (innermost waits.old.items) }
+    ensures all { (g : GameOf) → IsNextIn g (next_is next) → All (λ w. IsWait g (wait_of w)) waits.old.items → All (λ w. IsWait g (wait_of w)) waits.new.items }
+    ensures length { vec_len waits.new ≤ vec_len waits.old + entered (next_is next) }
+    ensures capacity { vec_capacity waits.new ≡ vec_capacity waits.old }
+{
+    match next {
+        Next::Into(_, wait) => remember(waits, wait),
+        Next::Back(_) => forget(waits),
+        Next::To(_) | Next::Over | Next::Resumed(_) | Next::Stopped(_) => {}
+    }
+}
+
+/// The innermost call that waits.
+#[tactic(auto, using(crate::proofs::Waits::last_is))]
+fn last_call(waits: &[Wait]) -> Option<Wait>
+    ensures is { option_map wait_of result ≡ first_of (innermost waits.now) }
+    ensures range { (g : GameOf) → All (λ w. IsWait g (wait_of w)) waits.now → IfSome result (λ w. IsWait g (wait_of w)) }
+{
+    waits.last().copied()
 }
 
 /// One word of the tape: where the run is after it, or none where it is no move here.
@@ -199,7 +218,7 @@ fn answer<S: Sink>(
     requires waits { All (λ w. IsWait (game_of game.now) (wait_of w)) waits.old.items }
     requires room { vec_len waits.old + enters by ≤ vec_capacity waits.old }
     requires follows { Follows S.taken S.faults S.refused writer.old out.old }
-    ensures answered { Answered (told names.now) (game_of game.now) table.now (caps_at (lists_of game.now.states)) (here_of here) by result (innermost waits.old.items) (innermost waits.new.items) writer.old.text writer.new.text }
+    ensures answered { Answered (told names.now) (game_of game.now) table.now (caps_at (lists_of game.now.states)) (own_of None) (here_of here) by result (innermost waits.old.items) (innermost waits.new.items) writer.old.text writer.new.text }
     ensures range { IfSome result (λ place. IsPlace (game_of game.now) (place_in place)) }
     ensures waits { All (λ w. IsWait (game_of game.now) (wait_of w)) waits.new.items }
     ensures length { vec_len waits.new ≤ vec_len waits.old + enters by }
@@ -208,11 +227,21 @@ fn answer<S: Sink>(
     ensures follows { Follows S.taken S.faults S.refused writer.new out.new }
 {
     let spot = game.spot(here.pos);
-    match lead(game, table, here, waits, spot, by) {
+    match lead(game, table, here, last_call(waits), spot, by) {
         None => None,
         Some(next) => {
-            put_move(names, game.policy(), game.main(), spot, by, writer, out);
-            Some(go(game, table, names, waits, next, writer, out))
+            put_own_move(
+                None,
+                names,
+                game.policy(),
+                game.main(),
+                spot,
+                by,
+                writer,
+                out,
+            );
+            follow(waits, next);
+            Some(land(game, table, names, None, next, writer, out))
         }
     }
 }
@@ -250,7 +279,7 @@ pub fn run_woven<S: Sink>(
 {
     let names = trace_names(alloc, checked, game.graph())?;
     let mut waits = Vec::with_capacity(alloc, entries(tape))?;
-    let mut place = Place::At(begin(game, table, &names, writer, out));
+    let mut place = Place::At(begin(game, table, &names, None, writer, out));
     for i in 0..tape.len() {
         match place {
             Place::Over => return Ok(RunEnd::BadMove(i as u32)),

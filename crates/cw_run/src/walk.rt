@@ -1,14 +1,13 @@
 //! Where a run stands, and where each move leads: over the positions and states of the game, and the rows of the table.
 
-ghost use Rattle.std.specs.Prelude.{◌≡◌, ◌<◌, ◌∷◌, ℕ, List, Some, length, option_map, option_and_then, slice_get, IfSome};
-ghost use Rattle.std.specs.List.{All};
+ghost use Rattle.std.specs.Prelude.{◌≡◌, ◌<◌, ◌∷◌, ℕ, List, Some, length, option_map, option_and_then, option_to_list, slice_get, IfSome};
 ghost use Rattle.cw_certs.specs.Tables.{try_at, state_of};
 ghost use Rattle.cw_model.specs.Runs.{mem_in, by_success};
 ghost use Rattle.cw_product.specs.Moves.{IsPosition, IsState};
 ghost use Rattle.cw_product.specs.Product.{game_of};
 ghost use Rattle.cw_game.specs.Games.{resumed};
 ghost use Rattle.cw_game.specs.Pairs.{call_in};
-ghost use Rattle.cw_run.specs.Walks.{Wait as WaitOf, here_of, wait_of, next_is, innermost, first_of, called_of, mem_after, within, called, returning, ended, refusing, next_of, Rests, IsHere, IsWait, IsNextIn, asked_memory, asked};
+ghost use Rattle.cw_run.specs.Walks.{here_of, wait_of, next_is, called_of, mem_after, within, called, returning, ended, refusing, next_of, Rests, IsHere, IsWait, IsNextIn, asked_memory, asked};
 
 use cw_certs::{
     Move, OpenRow, WeaverCert, after_close, after_label, back_at, into_at, open_at, try_at,
@@ -214,35 +213,17 @@ fn returned(game: &Game, table: &WeaverCert, here: Here, wait: Wait) -> Option<N
     }))
 }
 
-/// The innermost call that waits.
-#[tactic(auto, using(crate::proofs::Waits::last_is))]
-fn last_call(waits: &[Wait]) -> Option<Wait>
-    ensures { option_map wait_of result ≡ first_of (innermost waits.now) }
-{
-    waits.last().copied()
-}
-
-/// The position to which a call returns, and its state, are the game's.
-fn last_range(game: &Game, waits: &[Wait])
-    requires waits { All (λ w. IsWait (game_of game.now) (wait_of w)) waits.now }
-    ensures range { (w : WaitOf) → first_of (innermost waits.now) ≡ Some w → IsWait (game_of game.now) w }
-{
-    let _ = game;
-    let _ = waits;
-}
-
 /// Where the end of a function leads: back to the innermost call that waits, or to the end of the program.
-fn ended(game: &Game, table: &WeaverCert, here: Here, waits: &[Wait], by: Move) -> Option<Next>
+fn ended(game: &Game, table: &WeaverCert, here: Here, call: Option<Wait>, by: Move) -> Option<Next>
     requires here { IsHere (game_of game.now) (here_of here) }
-    requires waits { All (λ w. IsWait (game_of game.now) (wait_of w)) waits.now }
-    ensures is { option_map next_is result ≡ ended (game_of game.now) table.now (here_of here) (innermost waits.now) by }
+    requires call { IfSome call (λ w. IsWait (game_of game.now) (wait_of w)) }
+    ensures is { option_map next_is result ≡ ended (game_of game.now) table.now (here_of here) (option_to_list (option_map wait_of call)) by }
     ensures range { IfSome result (λ next. IsNextIn (game_of game.now) (next_is next)) }
 {
     if by != Move::On {
         return None;
     }
-    last_range(game, waits);
-    match last_call(waits) {
+    match call {
         None => Some(Next::Over),
         Some(wait) => returned(game, table, here, wait),
     }
@@ -292,29 +273,28 @@ fn asked(
     }
 }
 
-/// Where a move of the environment leads; nowhere where the game has no such move, or the table no row for it. The calls that wait stand in their order,
-/// the innermost last.
+/// Where a move of the environment leads, over the innermost call that waits; nowhere where the game has no such move, or the table no row for it.
 pub fn lead(
     game: &Game,
     table: &WeaverCert,
     here: Here,
-    waits: &[Wait],
+    call: Option<Wait>,
     spot: Spot,
     by: Move,
 ) -> Option<Next>
     requires here { IsHere (game_of game.now) (here_of here) }
-    requires waits { All (λ w. IsWait (game_of game.now) (wait_of w)) waits.now }
+    requires call { IfSome call (λ w. IsWait (game_of game.now) (wait_of w)) }
     requires spot { Some spot ≡ slice_get (game_of game.now).spots here.pos.0 }
-    ensures is { option_map next_is result ≡ next_of (game_of game.now) table.now (here_of here) (innermost waits.now) spot by }
+    ensures is { option_map next_is result ≡ next_of (game_of game.now) table.now (here_of here) (option_to_list (option_map wait_of call)) spot by }
     ensures range { IfSome result (λ next. IsNextIn (game_of game.now) (next_is next)) }
 {
     match spot {
         Spot::Call(_, _, _) | Spot::SplitCall(_, _, _) => {
-            let call = call_at(game, here.pos, spot)?;
-            call_is_within(game, here.pos, spot, call);
-            called(game, table, here, call, by)
+            let called_here = call_at(game, here.pos, spot)?;
+            call_is_within(game, here.pos, spot, called_here);
+            called(game, table, here, called_here, by)
         }
-        Spot::Exit(_) => ended(game, table, here, waits, by),
+        Spot::Exit(_) => ended(game, table, here, call, by),
         Spot::Asked(seam, stage, _) => { asked(game, table, here, spot, SeamId(seam), stage, by) }
         _ => Some(Next::To(within(game, table, here, spot, by)?)),
     }
@@ -322,7 +302,7 @@ pub fn lead(
 
 /// The position at which the weaver comes to rest by its own moves.
 #[cycle(rest)]
-pub fn rest(game: &Game, table: &WeaverCert, pos: PosId, mem: MemId) -> PosId
+pub(crate) fn rest(game: &Game, table: &WeaverCert, pos: PosId, mem: MemId) -> PosId
     requires position { IsPosition (game_of game.now) pos.0 }
     ensures rests { Rests (game_of game.now) table.now mem.0 pos.0 result.0 }
     ensures range { IsPosition (game_of game.now) result.0 }

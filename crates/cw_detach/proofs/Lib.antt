@@ -1,0 +1,8 @@
+-- The proofs.
+mod Nodes
+mod Depths
+mod Placing
+pub mod Rules
+mod Kept
+mod Apart
+pub mod Plain

@@ -1,0 +1,4 @@
+pub mod Flagged
+pub mod Fronts
+pub mod Heads
+pub mod Operands

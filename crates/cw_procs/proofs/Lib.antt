@@ -1,0 +1,9 @@
+pub mod First
+pub mod OneWorld
+pub mod Segments
+pub mod Embedding
+pub mod Forking
+pub mod Holding
+pub mod Keeping
+pub mod Acting
+pub mod Looping

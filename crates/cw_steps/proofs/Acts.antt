@@ -1,0 +1,121 @@
+-- A step's words tell it.
+use Rattle.std.proofs.Common.{◌≡◌, ◌⊎◌, ℕ, ◌^◌, ◌<◌, cond, List, [], ◌∷◌, length, get_or, Bool, true, false, None, refl, sym, ap, ap₂, ◌∙◌, inl, inr, arith}
+use Rattle.std.specs.Prelude.{codes, bytes_eq}
+use Rattle.std.specs.List.{All, list_all}
+use Rattle.std.specs.Char.{is_ascii_digit}
+use Rattle.std.specs.Fmt.{decimal}
+use Rattle.std.specs.Str.Parse.{digits_value}
+use Rattle.std.proofs.lemmas.Fmt.{decimal_is_IsNumeral}
+use Rattle.std.proofs.lemmas.List.Elements.{All-nil, All-cons}
+use Rattle.cw_core.specs.Ranges.{is_spelling_byte}
+use Rattle.cw_certs.specs.declared.moves.Move.{Move}
+use Rattle.cw_certs.specs.declared.moves.Move.TheVariants.{Skip, Try, Grant, Refuse, On, Left, Right, Opened, Failed, Stop}
+use Rattle.cw_text.specs.Lines.{IsFree, Reads}
+use Rattle.cw_text.specs.Moves.{IsEnvironments}
+use Rattle.cw_text.proofs.Names.{move_of}
+use Rattle.cw_text.proofs.Free.{free_from_test, decimal_free}
+use Rattle.cw_text_lines.specs.Lines.{Tell, AreTold}
+use Rattle.cw_text_lines.proofs.Telling.{words_or_not, below_or_not, same_by, told_by}
+use Rattle.cw_steps.specs.declared.step.Step.{Step}
+use Rattle.cw_steps.specs.Steps.{act_word, FitsAct, step_words, FitsStep}
+
+-- ---- words without a mark
+
+name_free : (mark : ℕ) → is_spelling_byte mark ≡ false → (name : List ℕ) → list_all is_spelling_byte name ≡ true → IsFree mark name
+name_free mark differs name all = free_from_test is_spelling_byte mark name differs all
+
+act_free : (mark : ℕ) → is_spelling_byte mark ≡ false → (fork : Bool) (by : Move) → FitsAct fork by → IsFree mark (act_word fork by)
+act_free mark s true by fits = name_free mark s (codes "fork") refl
+act_free mark s false Grant fits = name_free mark s (codes "grant") refl
+act_free mark s false Refuse fits = name_free mark s (codes "refuse") refl
+act_free mark s false On fits = name_free mark s (codes "on") refl
+act_free mark s false Left fits = name_free mark s (codes "left") refl
+act_free mark s false Right fits = name_free mark s (codes "right") refl
+act_free mark s false Opened fits = name_free mark s (codes "opened") refl
+act_free mark s false Failed fits = name_free mark s (codes "failed") refl
+act_free mark s false Skip fits = absurd fits
+act_free mark s false Try fits = absurd fits
+act_free mark s false Stop fits = absurd fits
+
+step_free : (mark : ℕ) → is_ascii_digit mark ≡ false → is_spelling_byte mark ≡ false → (s : Step) → FitsStep s → All (IsFree mark) (step_words s)
+step_free mark digit letter s fits =
+    All-cons (IsFree mark) (decimal s.process) (act_word s.fork s.by ∷ []) (decimal_free mark s.process digit (let small = fits.process in omega (arith, small)))
+    (All-cons (IsFree mark) (act_word s.fork s.by) [] (act_free mark letter s.fork s.by fits.act) (All-nil (IsFree mark)))
+
+-- ---- a step from its words
+
+act_of : List ℕ → Bool × Move
+act_of w = cond (bytes_eq w (codes "fork")) (true, On) (false, move_of w)
+
+act_back : (fork : Bool) (by : Move) → FitsAct fork by → act_of (act_word fork by) ≡ (fork, by)
+unfolding act_of move_of
+act_back true by fits = ap (λ (m : Move). (true, m)) (sym fits)
+act_back false Grant fits = refl
+act_back false Refuse fits = refl
+act_back false On fits = refl
+act_back false Left fits = refl
+act_back false Right fits = refl
+act_back false Opened fits = refl
+act_back false Failed fits = refl
+act_back false Skip fits = absurd fits
+act_back false Try fits = absurd fits
+act_back false Stop fits = absurd fits
+
+step_of : List (List ℕ) → Step
+step_of words = let act = act_of (get_or words 1 []) in record { process = digits_value 10 (get_or words 0 []); fork = act.0; by = act.1 }
+
+step_back : (s : Step) → FitsStep s → step_of (step_words s) ≡ s
+unfolding step_of
+step_back s fits = ap₂ (λ (n : ℕ) (act : Bool × Move). record { process = n; fork = act.0; by = act.1 })
+    (decimal_is_IsNumeral s.process (let small = fits.process in omega (arith, small))).1 (act_back s.fork s.by fits.act)
+
+-- ---- whether a step fits
+
+environments_or_not : (by : Move) → IsEnvironments by ⊎ (IsEnvironments by → ⊥)
+environments_or_not Skip = inr (λ h. h)
+environments_or_not Try = inr (λ h. h)
+environments_or_not Stop = inr (λ h. h)
+environments_or_not _ = inl tt
+
+act_or_not : (fork : Bool) (by : Move) → FitsAct fork by ⊎ (FitsAct fork by → ⊥)
+act_or_not true by = go by
+  where
+    go : (by : Move) → FitsAct true by ⊎ (FitsAct true by → ⊥)
+    go On = inl refl
+    go Skip = inr (λ e. absurd (cc))
+    go Try = inr (λ e. absurd (cc))
+    go Grant = inr (λ e. absurd (cc))
+    go Refuse = inr (λ e. absurd (cc))
+    go Left = inr (λ e. absurd (cc))
+    go Right = inr (λ e. absurd (cc))
+    go Opened = inr (λ e. absurd (cc))
+    go Failed = inr (λ e. absurd (cc))
+    go Stop = inr (λ e. absurd (cc))
+act_or_not false by = environments_or_not by
+
+step_or_not : (s : Step) → FitsStep s ⊎ (FitsStep s → ⊥)
+step_or_not s = go (below_or_not s.process (2 ^ 32)) (act_or_not s.fork s.by)
+  where
+    go : (s.process < 2 ^ 32) ⊎ (s.process < 2 ^ 32 → ⊥) → FitsAct s.fork s.by ⊎ (FitsAct s.fork s.by → ⊥) → FitsStep s ⊎ (FitsStep s → ⊥)
+    go (inl small) (inl act) = inl (record { process = small; act = act })
+    go (inr large) act = inr (λ f. large f.process)
+    go (inl small) (inr never) = inr (λ f. never f.act)
+
+pub tell : Tell FitsStep step_words
+tell = record {
+  some = λ s e. omega (arith, ap length e);
+  spaceless = step_free 32 refl refl;
+  one_line = step_free 10 refl refl;
+  same = same_by FitsStep step_words step_of step_back;
+}
+
+pub told : AreTold FitsStep step_words
+told = told_by FitsStep step_words step_of step_back words_or_not step_or_not
+
+-- a second word that says no act
+pub no_act : (words later rest : List (List ℕ)) (process : ℕ) (word : List ℕ) → words ≡ decimal process ∷ later → later ≡ word ∷ rest
+    → Reads (λ (act : Bool × Move). FitsAct act.0 act.1) (λ act. act_word act.0 act.1) word None → Reads FitsStep step_words words None
+no_act words later rest process word e h reads = record {
+  some = tt;
+  none = λ s fits is. reads.none (s.fork, s.by) fits.act (ap (λ (ws : List (List ℕ)). get_or ws 1 []) (is ∙ e ∙ ap (λ ws. decimal process ∷ ws) h));
+}

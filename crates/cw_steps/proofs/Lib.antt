@@ -1,0 +1,4 @@
+-- The proofs.
+pub mod Acts
+pub mod Answered
+pub mod Behind

@@ -1,0 +1,36 @@
+-- Steps as text.
+use Rattle.std.specs.Prelude.{◌≡◌, ℕ, ◌^◌, ◌<◌, List, [], ◌∷◌, Bool, true, false, codes}
+use Rattle.std.specs.Fmt.{decimal}
+use Rattle.std.specs.List.{All}
+use Rattle.cw_certs.specs.declared.moves.Move.{Move}
+use Rattle.cw_certs.specs.declared.moves.Move.TheVariants.{On}
+use Rattle.cw_text.specs.Moves.{move_name, IsEnvironments}
+use Rattle.cw_text_lines.specs.Lines.{whole_lines}
+use Rattle.cw_steps.specs.declared.step.Step.{Step}
+
+-- `fork`, or the name of a move
+abbrev pub act_word : (fork : Bool) → Move → List ℕ
+act_word true by = codes "fork"
+act_word false by = move_name by
+
+-- A fork has the move On; any other step has one of the environment's seven.
+abbrev pub FitsAct : (fork : Bool) → Move → Type 0
+FitsAct true by = by ≡ On
+FitsAct false by = IsEnvironments by
+
+-- `PROCESS MOVE`
+abbrev pub step_words : Step → List (List ℕ)
+step_words s = decimal s.process ∷ act_word s.fork s.by ∷ []
+
+pub record FitsStep (s : Step) : Type 0 where
+  pub process : s.process < 2 ^ 32
+  pub act : FitsAct s.fork s.by
+
+-- a line for each step
+abbrev pub steps_text : List Step → List ℕ
+steps_text steps = whole_lines step_words steps
+
+-- the text is that of these steps
+pub record Spells (text : List ℕ) (steps : List Step) : Type 0 where
+  pub fits : All FitsStep steps
+  pub spelled : text ≡ steps_text steps

@@ -1,0 +1,4 @@
+-- The proofs.
+pub mod Starts
+pub mod Fronts
+pub mod Telling

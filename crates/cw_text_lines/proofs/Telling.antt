@@ -1,0 +1,54 @@
+-- Words from which what they say can be computed: two values that fit differ in their words, and of any words it can be told whether they are those of one.
+use Rattle.std.proofs.Common.{◌≡◌, ◌≢◌, ◌⊎◌, ℕ, ◌<◌, ◌≤◌, List, [], ◌∷◌, length, Bool, true, false, Option, Some, None, refl, sym, ap, ap₂, ◌∙◌, subst, inl, inr, arith}
+use Rattle.std.specs.Str.{bytes_eq}
+use Rattle.std.proofs.lemmas.Bool.{cases_lt, false≢true}
+use Rattle.std.proofs.lemmas.Slice.Eq.{bytes_eq-Decides}
+use Rattle.cw_text.specs.Lines.{Reads}
+
+pub bytes_or_not : (a b : List ℕ) → (a ≡ b) ⊎ (a ≢ b)
+bytes_or_not a b = go (bytes_eq a b) refl
+  where
+    go : (t : Bool) → bytes_eq a b ≡ t → (a ≡ b) ⊎ (a ≢ b)
+    go true is = inl ((bytes_eq-Decides a b).0 is)
+    go false is = inr (λ e. false≢true (sym is ∙ (bytes_eq-Decides a b).1 e))
+
+pub words_or_not : (a b : List (List ℕ)) → (a ≡ b) ⊎ (a ≢ b)
+words_or_not [] [] = inl refl
+words_or_not [] (y ∷ b) = inr (λ e. omega (arith, ap length e))
+words_or_not (x ∷ a) [] = inr (λ e. omega (arith, ap length e))
+words_or_not (x ∷ a) (y ∷ b) = go (bytes_or_not x y) (words_or_not a b)
+  where
+    first : List (List ℕ) → List ℕ
+    first [] = []
+    first (w ∷ ws) = w
+
+    others : List (List ℕ) → List (List ℕ)
+    others [] = []
+    others (w ∷ ws) = ws
+
+    go : (x ≡ y) ⊎ (x ≢ y) → (a ≡ b) ⊎ (a ≢ b) → (x ∷ a ≡ y ∷ b) ⊎ (x ∷ a ≢ y ∷ b)
+    go (inl e) (inl h) = inl (ap₂ (λ (w : List ℕ) (ws : List (List ℕ)). w ∷ ws) e h)
+    go (inr differs) h = inr (λ is. differs (ap first is))
+    go (inl e) (inr differ) = inr (λ is. differ (ap others is))
+
+pub below_or_not : (m n : ℕ) → (m < n) ⊎ (m < n → ⊥)
+below_or_not m n = go (cases_lt m n)
+  where
+    go : (m < n) ⊎ (n ≤ m) → (m < n) ⊎ (m < n → ⊥)
+    go (inl lt) = inl lt
+    go (inr le) = inr (λ lt. omega (arith, lt, le))
+
+module _ {B W : Type 0} (Fits : B → Type 0) (text_of : B → W) (back : W → B) (is_back : (b : B) → Fits b → back (text_of b) ≡ b) where
+  pub same_by : (a b : B) → Fits a → Fits b → text_of a ≡ text_of b → a ≡ b
+  same_by a b f g e = sym (is_back a f) ∙ ap back e ∙ is_back b g
+
+  only : (word : W) (b : B) → Fits b → text_of b ≡ word → back word ≡ b
+  only word b f is = ap back (sym is) ∙ is_back b f
+
+  pub told_by : ((a b : W) → (a ≡ b) ⊎ (a ≢ b)) → ((b : B) → Fits b ⊎ (Fits b → ⊥)) → (word : W) → (read : Option B) × Reads Fits text_of word read
+  told_by equal fits word = go (fits (back word)) (equal (text_of (back word)) word)
+    where
+      go : Fits (back word) ⊎ (Fits (back word) → ⊥) → (text_of (back word) ≡ word) ⊎ (text_of (back word) ≢ word) → (read : Option B) × Reads Fits text_of word read
+      go (inl f) (inl e) = (Some (back word), record { some = (f, e); none = tt })
+      go (inl f) (inr differs) = (None, record { some = tt; none = λ b g is. differs (ap text_of (only word b g is) ∙ is) })
+      go (inr never) e = (None, record { some = tt; none = λ b g is. never (subst Fits (sym (only word b g is)) g) })

@@ -1,0 +1,4 @@
+-- The definitions.
+pub mod Forks
+pub mod Worlds
+pub mod Laws
