@@ -1,0 +1,17 @@
+pub mod Keeps
+pub mod Grows
+pub mod Plain
+pub mod Paired
+pub mod Meanings
+pub mod Forbidden
+pub mod Bodies
+pub mod Calls
+pub mod Fenced
+pub mod Invariants
+pub mod Agreement
+pub mod Once
+pub mod Refusals
+pub mod Ways
+pub mod Standing
+pub mod Progress
+pub mod Untried

@@ -1,0 +1,104 @@
+-- Signed numbers as words.
+use Rattle.std.proofs.Common.{◌≡◌, ◌≢◌, ◌⊎◌, ℕ, zero, suc, ◌-◌, ◌^◌, ◌<◌, ◌≤◌, cond, eqb, ℤ, pos, negsuc, List, [], ◌∷◌, length, false, Option, Some, None, option_map, refl, sym, ap, ◌∙◌, subst, arith}
+use Rattle.std.specs.List.{list_all}
+use Rattle.std.specs.Char.{is_ascii_digit}
+use Rattle.std.specs.Fmt.{decimal, signed_decimal}
+use Rattle.std.specs.Str.Parse.{digits_value}
+use Rattle.std.proofs.lemmas.Bool.{false≢true, ne_eqb, and_parts}
+use Rattle.std.proofs.lemmas.Fmt.{decimal_is_IsNumeral, decimal_injective, decimal_nonempty}
+use Rattle.cw_core.proofs.Spellings.{decimal_has_digits}
+use Rattle.cw_text.specs.Lines.{IsFree, Reads}
+use Rattle.cw_text.proofs.Free.{decimal_free}
+use Rattle.cw_text_lines.proofs.Telling.{below_or_not}
+use Rattle.std.proofs.lemmas.List.Elements.{All-cons}
+use Rattle.cw_answers.specs.AnswerLines.{FitsValue}
+use Rattle.cw_answers.specs.Reading.{IsNegative, unsigned}
+
+abbrev tail_of : List ℕ → List ℕ
+tail_of [] = []
+tail_of (b ∷ bs) = bs
+
+abbrev head_of : List ℕ → ℕ
+head_of [] = 0
+head_of (b ∷ bs) = b
+
+no_decimal : (n : ℕ) → n < 2 ^ 64 → decimal n ≢ []
+no_decimal n small e = let some = decimal_nonempty n small in omega (arith, some, ap length e)
+
+-- a decimal begins with no sign
+no_sign : (n : ℕ) (bs : List ℕ) → n < 2 ^ 64 → decimal n ≢ 45 ∷ bs
+no_sign n bs small e = let digits = and_parts (is_ascii_digit 45) (list_all is_ascii_digit bs) (sym (ap (list_all is_ascii_digit) e) ∙ decimal_has_digits n small) in false≢true digits.0
+
+pub value_free : (mark : ℕ) → is_ascii_digit mark ≡ false → eqb 45 mark ≡ false → (z : ℤ) → FitsValue z → IsFree mark (signed_decimal z)
+value_free mark differs sign (pos n) fits = decimal_free mark n differs (omega (arith, fits))
+value_free mark differs sign (negsuc n) fits = All-cons (λ (b : ℕ). eqb b mark ≡ false) 45 (decimal (suc n)) sign (decimal_free mark (suc n) differs (omega (arith, fits)))
+
+-- ---- a number from its word
+
+abbrev pub value_from : List ℕ → ℤ
+value_from [] = pos 0
+value_from (b ∷ bs) = cond (eqb b 45) (negsuc (digits_value 10 bs - 1)) (pos (digits_value 10 (b ∷ bs)))
+
+plain : (word : List ℕ) → ((bs : List ℕ) → word ≢ 45 ∷ bs) → word ≢ [] → value_from word ≡ pos (digits_value 10 word)
+plain [] unsigned some = absurd (some refl)
+plain (b ∷ bs) unsigned some = ap (λ t. cond t (negsuc (digits_value 10 bs - 1)) (pos (digits_value 10 (b ∷ bs)))) (ne_eqb b 45 (λ e. unsigned bs (ap (λ c. c ∷ bs) e)))
+
+pub value_back : (z : ℤ) → FitsValue z → value_from (signed_decimal z) ≡ z
+value_back (pos n) fits =
+    let small : n < 2 ^ 64 = omega (arith, fits) in
+    plain (decimal n) (λ bs. no_sign n bs small) (no_decimal n small) ∙ ap pos (decimal_is_IsNumeral n small).1
+value_back (negsuc n) fits =
+    let small : suc n < 2 ^ 64 = omega (arith, fits) in
+    let one : suc n - 1 ≡ n = omega arith in
+    ap (λ (k : ℕ). negsuc (k - 1)) (decimal_is_IsNumeral (suc n) small).1 ∙ ap negsuc one
+
+pub value_or_not : (z : ℤ) → FitsValue z ⊎ (FitsValue z → ⊥)
+value_or_not (pos n) = below_or_not n (2 ^ 63)
+value_or_not (negsuc n) = below_or_not n (2 ^ 63)
+
+-- ---- what the reader answers
+
+pub no_bytes : (word : List ℕ) → length word ≡ 0 → Reads FitsValue signed_decimal word None
+no_bytes word empty = record { some = tt; none = by }
+  where
+    by : (z : ℤ) → FitsValue z → signed_decimal z ≢ word
+    by (pos n) fits e = let some = decimal_nonempty n (omega (arith, fits)) in omega (arith, some, ap length e, empty)
+    by (negsuc n) fits e = omega (arith, ap length e, empty)
+
+pub with_sign : (word digits : List ℕ) (first : ℕ) (read : Option ℤ) → word ≡ first ∷ digits → first ≡ 45 → Reads IsNegative unsigned digits read → Reads FitsValue signed_decimal word read
+with_sign word digits first (Some (pos n)) e sign reads = absurd reads.some.0
+with_sign word digits first (Some (negsuc n)) e sign reads = record { some = (reads.some.0, ap (λ t. 45 ∷ t) reads.some.1 ∙ ap (λ (b : ℕ). b ∷ digits) (sym sign) ∙ sym e); none = tt }
+with_sign word digits first None e sign reads = record { some = tt; none = by }
+  where
+    by : (z : ℤ) → FitsValue z → signed_decimal z ≢ word
+    by (pos n) fits is = no_sign n digits (omega (arith, fits)) (is ∙ e ∙ ap (λ (b : ℕ). b ∷ digits) sign)
+    by (negsuc n) fits is = reads.none (negsuc n) fits (ap tail_of (is ∙ e))
+
+pub without_sign : (word digits : List ℕ) (first : ℕ) (read : Option ℕ) (most : ℕ) → most ≡ 2 ^ 63 - 1 → word ≡ first ∷ digits → first ≢ 45 → Reads (λ n. n ≤ most) decimal word read
+    → Reads FitsValue signed_decimal word (option_map pos read)
+without_sign word digits first (Some n) most m e other reads = record { some = (let le = reads.some.0 in omega (arith, le, m), reads.some.1); none = tt }
+without_sign word digits first None most m e other reads = record { some = tt; none = by }
+  where
+    by : (z : ℤ) → FitsValue z → signed_decimal z ≢ word
+    by (pos n) fits is = reads.none n (omega (arith, fits, m)) is
+    by (negsuc n) fits is = other (sym (ap head_of (is ∙ e)))
+
+pub no_size : (digits : List ℕ) (most : ℕ) → most ≡ 2 ^ 63 → Reads (λ n. n ≤ most) decimal digits None → Reads IsNegative unsigned digits None
+no_size digits most m reads = record { some = tt; none = by }
+  where
+    by : (z : ℤ) → IsNegative z → unsigned z ≢ digits
+    by (pos n) fits is = fits
+    by (negsuc n) fits is = reads.none (suc n) (omega (arith, fits, m)) is
+
+pub size_zero : (digits : List ℕ) (size : ℕ) → size ≡ 0 → decimal size ≡ digits → Reads IsNegative unsigned digits None
+size_zero digits size zeroed e = record { some = tt; none = by }
+  where
+    by : (z : ℤ) → IsNegative z → unsigned z ≢ digits
+    by (pos n) fits is = fits
+    by (negsuc n) fits is = let same = decimal_injective (suc n) size (omega (arith, fits)) (omega (arith, zeroed)) (is ∙ sym e) in omega (arith, same, zeroed)
+
+pub size_some : (digits : List ℕ) (size most : ℕ) → most ≡ 2 ^ 63 → size ≢ 0 → size ≤ most → decimal size ≡ digits → Reads IsNegative unsigned digits (Some (negsuc (size - 1)))
+size_some digits zero most m some le e = absurd (some refl)
+size_some digits (suc n) most m some le e =
+    let one : suc n - 1 ≡ n = omega arith in
+    subst (λ k. Reads IsNegative unsigned digits (Some (negsuc k))) (sym one) (record { some = (omega (arith, le, m), e); none = tt })

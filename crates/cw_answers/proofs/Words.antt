@@ -1,0 +1,172 @@
+-- The words of a line tell it.
+use Rattle.std.proofs.Common.{◌≡◌, ◌≢◌, ◌⊎◌, ℕ, cond, eqb, ℤ, pos, negsuc, w64, FitsSigned, to_z, of_z, subst, ◌++◌, List, [], ◌∷◌, length, get_or, Bool, true, false, ◌&&◌, refl, sym, ap, ◌∙◌, inl, inr, arith}
+use Rattle.std.specs.Prelude.{codes, bytes_eq, IsTrue}
+use Rattle.std.specs.List.{All, list_all}
+use Rattle.std.specs.Char.{is_ascii_digit}
+use Rattle.std.specs.Fmt.{signed_decimal}
+use Rattle.std.proofs.Math.Facts.{to_z-of_z}
+use Rattle.std.proofs.lemmas.Bool.{false≢true, and_parts}
+use Rattle.std.proofs.lemmas.List.Elements.{All-nil, All-cons}
+use Rattle.cw_core.specs.Ranges.{is_spelling_byte}
+use Rattle.cw_certs.specs.declared.moves.Move.{Move}
+use Rattle.cw_certs.specs.declared.moves.Move.TheVariants.{Skip, Try, Grant, Refuse, On, Left, Right, Opened, Failed, Stop}
+use Rattle.cw_rights.specs.Valid.{is_name, is_name_start, is_name_byte}
+use Rattle.cw_text.specs.Lines.{IsFree, joined, words_of}
+use Rattle.cw_text.specs.Moves.{move_name}
+use Rattle.cw_text.proofs.Names.{move_of, told}
+use Rattle.cw_text.proofs.Cuts.{joined-words}
+use Rattle.cw_text.proofs.Free.{free_from_test}
+use Rattle.cw_text_lines.specs.Lines.{StartsWith, Tell, AreTold}
+use Rattle.cw_text_lines.proofs.Starts.{starts_like, starts_unlike, starts_nowhere}
+use Rattle.cw_text_lines.proofs.Telling.{words_or_not, same_by, told_by}
+use Rattle.cw_value.specs.Shown.{IsAnswer}
+use Rattle.cw_answers.specs.AnswerLines as line
+use Rattle.cw_answers.specs.AnswerLines.{AnswerLine, line_words, FitsValue, FitsLine}
+use Rattle.cw_answers.proofs.Numbers.{value_free, value_from, value_back, value_or_not}
+
+-- ---- words without a mark
+
+key_free : (mark : ℕ) → is_spelling_byte mark ≡ false → (key : List ℕ) → list_all is_spelling_byte key ≡ true → IsFree mark key
+key_free mark differs key all = free_from_test is_spelling_byte mark key differs all
+
+name_bytes : (name : List ℕ) → IsTrue (is_name name) → list_all is_name_byte name ≡ true
+name_bytes [] named = absurd (false≢true named)
+name_bytes (b ∷ rest) named =
+    let parts = and_parts (is_name_start b) (list_all is_name_byte rest) named in
+    both (is_name_byte b) (list_all is_name_byte rest) (start b parts.0) parts.1
+  where
+    both : (s t : Bool) → s ≡ true → t ≡ true → (s && t) ≡ true
+    both true true e f = refl
+    both false t e f = e
+    both true false e f = f
+
+    start : (b : ℕ) → is_name_start b ≡ true → is_name_byte b ≡ true
+    start b is = rw is refl
+
+name_free : (mark : ℕ) → is_name_byte mark ≡ false → (name : List ℕ) → IsTrue (is_name name) → IsFree mark name
+name_free mark differs name named = free_from_test is_name_byte mark name differs (name_bytes name named)
+
+answer_free : (mark : ℕ) → is_spelling_byte mark ≡ false → (by : Move) → IsAnswer by → IsFree mark (move_name by)
+answer_free mark s Grant fits = key_free mark s (codes "grant") refl
+answer_free mark s Refuse fits = key_free mark s (codes "refuse") refl
+answer_free mark s Skip fits = absurd fits
+answer_free mark s Try fits = absurd fits
+answer_free mark s On fits = absurd fits
+answer_free mark s Left fits = absurd fits
+answer_free mark s Right fits = absurd fits
+answer_free mark s Opened fits = absurd fits
+answer_free mark s Failed fits = absurd fits
+answer_free mark s Stop fits = absurd fits
+
+-- a mark that stands in no word
+record Parts (mark : ℕ) : Type 0 where
+  digit : is_ascii_digit mark ≡ false
+  sign : eqb 45 mark ≡ false
+  spelling : is_spelling_byte mark ≡ false
+  name : is_name_byte mark ≡ false
+
+more_free : (mark : ℕ) (a : List ℕ) (rest : List (List ℕ)) → IsFree mark a → All (IsFree mark) rest → All (IsFree mark) (a ∷ rest)
+more_free mark a rest h k = All-cons (IsFree mark) a rest h k
+
+none_free : (mark : ℕ) → All (IsFree mark) []
+none_free mark = All-nil (IsFree mark)
+
+line_free : (mark : ℕ) → Parts mark → (l : AnswerLine) → FitsLine l → All (IsFree mark) (line_words l)
+line_free mark p line.Head fits =
+    more_free mark (codes "capweave") (codes "answers" ∷ codes "1" ∷ []) (key_free mark p.spelling (codes "capweave") refl)
+    (more_free mark (codes "answers") (codes "1" ∷ []) (key_free mark p.spelling (codes "answers") refl) (more_free mark (codes "1") [] (key_free mark p.spelling (codes "1") refl) (none_free mark)))
+line_free mark p (line.Name name value) fits =
+    more_free mark (codes "name") (name ∷ signed_decimal value ∷ []) (key_free mark p.spelling (codes "name") refl)
+    (more_free mark name (signed_decimal value ∷ []) (name_free mark p.name name fits.0) (more_free mark (signed_decimal value) [] (value_free mark p.digit p.sign value fits.1) (none_free mark)))
+line_free mark p (line.Try by) fits =
+    more_free mark (codes "try") (move_name by ∷ []) (key_free mark p.spelling (codes "try") refl) (more_free mark (move_name by) [] (answer_free mark p.spelling by fits) (none_free mark))
+line_free mark p (line.Call value) fits =
+    more_free mark (codes "call") (signed_decimal value ∷ []) (key_free mark p.spelling (codes "call") refl) (more_free mark (signed_decimal value) [] (value_free mark p.digit p.sign value fits) (none_free mark))
+line_free mark p line.End fits = more_free mark (codes "end") [] (key_free mark p.spelling (codes "end") refl) (none_free mark)
+
+space : Parts 32
+space = record { digit = refl; sign = refl; spelling = refl; name = refl }
+
+lf : Parts 10
+lf = record { digit = refl; sign = refl; spelling = refl; name = refl }
+
+some_words : (l : AnswerLine) → line_words l ≢ []
+some_words line.Head e = omega (arith, ap length e)
+some_words (line.Name name value) e = omega (arith, ap length e)
+some_words (line.Try by) e = omega (arith, ap length e)
+some_words (line.Call value) e = omega (arith, ap length e)
+some_words line.End e = omega (arith, ap length e)
+
+-- ---- a line from its words
+
+line_by : (key a b : List ℕ) → AnswerLine
+line_by key a b =
+    cond (bytes_eq key (codes "name")) (line.Name a (value_from b)) (cond (bytes_eq key (codes "try")) (line.Try (move_of a))
+    (cond (bytes_eq key (codes "call")) (line.Call (value_from a)) (cond (bytes_eq key (codes "end")) line.End line.Head)))
+
+line_from : List (List ℕ) → AnswerLine
+line_from words = line_by (get_or words 0 []) (get_or words 1 []) (get_or words 2 [])
+
+line_back : (l : AnswerLine) → FitsLine l → line_from (line_words l) ≡ l
+unfolding line_from line_by
+line_back line.Head fits = refl
+line_back (line.Name name value) fits = ap (λ z. line.Name name z) (value_back value fits.1)
+line_back (line.Try by) fits = ap (λ m. line.Try m) (told by)
+line_back (line.Call value) fits = ap (λ z. line.Call z) (value_back value fits)
+line_back line.End fits = refl
+
+answer_or_not : (by : Move) → IsAnswer by ⊎ (IsAnswer by → ⊥)
+answer_or_not Grant = inl tt
+answer_or_not Refuse = inl tt
+answer_or_not Skip = inr (λ h. h)
+answer_or_not Try = inr (λ h. h)
+answer_or_not On = inr (λ h. h)
+answer_or_not Left = inr (λ h. h)
+answer_or_not Right = inr (λ h. h)
+answer_or_not Opened = inr (λ h. h)
+answer_or_not Failed = inr (λ h. h)
+answer_or_not Stop = inr (λ h. h)
+
+line_or_not : (l : AnswerLine) → FitsLine l ⊎ (FitsLine l → ⊥)
+line_or_not line.Head = inl tt
+line_or_not (line.Name name value) = go (is_name name) refl (value_or_not value)
+  where
+    go : (t : Bool) → is_name name ≡ t → FitsValue value ⊎ (FitsValue value → ⊥) → FitsLine (line.Name name value) ⊎ (FitsLine (line.Name name value) → ⊥)
+    go true is (inl fits) = inl (is, fits)
+    go true is (inr never) = inr (λ f. never f.1)
+    go false is v = inr (λ f. false≢true (sym is ∙ f.0))
+line_or_not (line.Try by) = answer_or_not by
+line_or_not (line.Call value) = value_or_not value
+line_or_not line.End = inl tt
+
+pub tell : Tell FitsLine line_words
+tell = record { some = some_words; spaceless = line_free 32 space; one_line = line_free 10 lf; same = same_by FitsLine line_words line_from line_back }
+
+pub are_told : AreTold FitsLine line_words
+are_told = told_by FitsLine line_words line_from line_back words_or_not line_or_not
+
+-- ---- what a text begins with
+
+pub said : (text front rest : List ℕ) (words : List (List ℕ)) (l shown : AnswerLine) → text ≡ front ++ (10 ∷ rest) → words ≡ words_of 32 front → FitsLine l → line_words l ≡ words → shown ≡ l
+    → StartsWith FitsLine line_words text shown rest
+said text front rest words l shown e w fits is same = subst (λ l. StartsWith FitsLine line_words text l rest) (sym same) (starts_like FitsLine line_words tell text front rest l e fits (is ∙ w))
+
+pub not_said : (text front rest more : List ℕ) (words : List (List ℕ)) (l : AnswerLine) → text ≡ front ++ (10 ∷ rest) → IsFree 10 front → words ≡ words_of 32 front → (FitsLine l → line_words l ≢ words)
+    → StartsWith FitsLine line_words text l more → ⊥
+not_said text front rest more words l e free w differ = starts_unlike FitsLine line_words tell text front rest more l e free (λ fits is. differ fits (is ∙ sym w))
+
+pub nothing_said : (text : List ℕ) → IsFree 10 text → (l : AnswerLine) (more : List ℕ) → StartsWith FitsLine line_words text l more → ⊥
+nothing_said text free l more = starts_nowhere FitsLine line_words tell text free l more
+
+-- a line of a whole text of its own
+pub not_text : (text front rest more word : List ℕ) (l : AnswerLine) → text ≡ front ++ (10 ∷ rest) → IsFree 10 front → joined 32 (line_words l) ≡ word → front ≢ word → StartsWith FitsLine line_words text l more → ⊥
+not_text text front rest more word l e free is differs =
+    starts_unlike FitsLine line_words tell text front rest more l e free (λ fits w. differs (sym (joined-words 32 front) ∙ ap (joined 32) (sym w) ∙ is))
+
+-- a value that is handed on
+pub stored : (z : ℤ) → FitsValue z → to_z w64 (of_z w64 z) ≡ z
+stored z fits = to_z-of_z {w = w64} {z = z} (signed z fits)
+  where
+    signed : (z : ℤ) → FitsValue z → FitsSigned w64 z
+    signed (pos n) fits = omega (arith, fits)
+    signed (negsuc n) fits = omega (arith, fits)

@@ -1,0 +1,4 @@
+pub mod AnswerLines
+pub mod AnswersText
+pub mod Faults
+pub mod Reading

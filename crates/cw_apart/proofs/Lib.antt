@@ -1,0 +1,3 @@
+-- The proofs.
+pub mod Between
+pub mod Apart

@@ -1,0 +1,4 @@
+//! Laws of the statements of a program that is read. No code.
+#![tactic(auto)]
+
+pub mod laws;

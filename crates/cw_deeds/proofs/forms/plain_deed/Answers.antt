@@ -1,0 +1,7 @@
+use Rattle.std.proofs.Common.{sym, ap}
+use Rattle.cw_value.specs.Deeds.{plain_deed}
+use Rattle.cw_deeds.proofs.Heads.{for_form}
+use Rattle.cw_deeds.proofs.forms.plain_deed.Goals as goal
+
+pub returns-in-For : goal.returns-in-For
+returns-in-For c = sym (ap plain_deed (for_form c.args.statement.now.what c.in-For.field-0 c.in-For.field-1 c.in-For.is).form_is)

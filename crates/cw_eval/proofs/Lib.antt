@@ -1,0 +1,3 @@
+pub mod Each
+pub mod Along
+pub mod Parts

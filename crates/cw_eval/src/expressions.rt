@@ -1,0 +1,303 @@
+//! What expressions give.
+
+ghost use Rattle.std.specs.Prelude.{◌≡◌, ◌++◌, ◌-◌};
+ghost use Rattle.cw_syntax.specs.Trees.{Node, more, none, tree_of, trees_of};
+ghost use Rattle.cw_value.specs.Expressions.{Nothing, ◌and◌, arguments, argued, assigned, base, before_first, by_one, element, first, first_place, from_of, gives, index, is_span, joined, op_of, parts_of, prefixed, second, stepped, target, target_of, to_of, value};
+ghost use Rattle.cw_slots.specs.Shown.{place_in, scope_of};
+ghost use Rattle.cw_eval.specs.Parts.{argument};
+ghost use Rattle.cw_eval.specs.Shown.{Shows, as_is, items_in, memory_of, target_in};
+
+use crate::halt::Halt;
+use crate::memory::{Memory, Target};
+use crate::operations::{
+    answered, by_one, changed, number, operated, put, signed, truth_of, updated,
+};
+use crate::reads::{
+    before_first, cell_read, element_in, first_place, is_array, is_span, name_target, read_name,
+};
+use cw_figures::{Joint, is_zero, joint_of};
+use cw_slots::Scope;
+use cw_syntax::program::{Expr, Name, Op};
+use cw_value::{Arg, Stop};
+
+/// What an expression gives.
+#[cycle(value)]
+pub fn value(scope: &Scope, e: &Expr, m: &mut Memory) -> Result<i64, Halt>
+    ensures { Shows as_is result (memory_of m.new) (value (scope_of scope.now) (tree_of e.now) (memory_of m.old)) }
+{
+    node(scope, e.op, &e.parts, e.from, e.to, m)
+}
+
+/// What an expression of this operator, these parts and this span gives.
+#[cycle(value)]
+fn node(
+    scope: &Scope,
+    op: Op,
+    parts: &[Expr],
+    from: u32,
+    to: u32,
+    m: &mut Memory,
+) -> Result<i64, Halt>
+    ensures { Shows as_is result (memory_of m.new) (value (scope_of scope.now) (Node op (trees_of parts.now) from to) (memory_of m.old)) }
+{
+    match op {
+        Op::Name => read_name(scope, from, to, m),
+        Op::Number(n) => number(n, from, m),
+        Op::Char(n) => Ok(i64::from(n)),
+        Op::Text => Err(Halt::Stop(Stop::Form(from))),
+        Op::Call(name) => {
+            let args = arguments(scope, parts, m)?;
+            answered(name, from, args, m)
+        }
+        Op::Index => {
+            let target = element(scope, from, parts, m)?;
+            cell_read(from, m.cell_at(target), m)
+        }
+        Op::Prefix(n) => prefixed(scope, n, from, parts, m),
+        Op::Suffix(n) => {
+            let target = target(scope, parts, m)?;
+            stepped(scope, false, from, by_one(n), parts, target, m)
+        }
+        Op::Binary(n) => {
+            let a = first(scope, parts, m)?;
+            joined(scope, joint_of(n), a, parts, from, m)
+        }
+        Op::Assign(n) => {
+            let target = target(scope, parts, m)?;
+            assigned(scope, n, from, parts, target, m)
+        }
+        Op::Cast(_) => first(scope, parts, m),
+        Op::SizeOf => {
+            first(scope, parts, m)?;
+            Err(Halt::Stop(Stop::Form(from)))
+        }
+        Op::SizeOfType(_) => Err(Halt::Stop(Stop::Form(from))),
+    }
+}
+
+/// What the first of these parts gives.
+#[cycle(value)]
+fn first(scope: &Scope, parts: &[Expr], m: &mut Memory) -> Result<i64, Halt>
+    ensures { Shows as_is result (memory_of m.new) (first (scope_of scope.now) (trees_of parts.now) (memory_of m.old)) }
+{
+    match parts {
+        [] => Err(Halt::Stop(Stop::Form(0))),
+        [e, ..] => value(scope, e, m),
+    }
+}
+
+/// What the second gives.
+#[cycle(value)]
+fn second(scope: &Scope, parts: &[Expr], m: &mut Memory) -> Result<i64, Halt>
+    ensures { Shows as_is result (memory_of m.new) (second (scope_of scope.now) (trees_of parts.now) (memory_of m.old)) }
+{
+    match parts {
+        [] => Err(Halt::Stop(Stop::Form(0))),
+        [_, rest @ ..] => match rest {
+            [] => Err(Halt::Stop(Stop::Form(0))),
+            [e, ..] => value(scope, e, m),
+        },
+    }
+}
+
+/// `||` and `&&` stop early; every other operator takes both operands.
+#[cycle(value)]
+fn joined(
+    scope: &Scope,
+    joint: Joint,
+    a: i64,
+    parts: &[Expr],
+    at: u32,
+    m: &mut Memory,
+) -> Result<i64, Halt>
+    ensures { Shows as_is result (memory_of m.new) (joined at joint a (second (scope_of scope.now) (trees_of parts.now)) (memory_of m.old)) }
+{
+    match joint {
+        Joint::Or => {
+            if is_zero(a) {
+                Ok(truth_of(second(scope, parts, m)?))
+            } else {
+                Ok(1)
+            }
+        }
+        Joint::And => {
+            if is_zero(a) {
+                Ok(0)
+            } else {
+                Ok(truth_of(second(scope, parts, m)?))
+            }
+        }
+        Joint::By(op) => {
+            let b = second(scope, parts, m)?;
+            operated(op, a, b, at, m)
+        }
+        Joint::Nothing => Err(Halt::Stop(Stop::Form(at))),
+    }
+}
+
+/// The element of an index: its base an array, its index in range.
+#[cycle(value)]
+fn element(scope: &Scope, at: u32, parts: &[Expr], m: &mut Memory) -> Result<Target, Halt>
+    ensures { Shows target_in result (memory_of m.new) (element at (first_place (scope_of scope.now) (trees_of parts.now)) (first (scope_of scope.now) (trees_of parts.now)) (second (scope_of scope.now) (trees_of parts.now)) (memory_of m.old)) }
+{
+    let place = first_place(scope, parts);
+    if is_array(place) {
+        let i = second(scope, parts, m)?;
+        return element_in(at, place, i, m);
+    }
+    first(scope, parts, m)?;
+    second(scope, parts, m)?;
+    Err(Halt::Stop(Stop::Form(at)))
+}
+
+/// Where the first of these parts can be changed.
+#[cycle(value)]
+fn target(scope: &Scope, parts: &[Expr], m: &mut Memory) -> Result<Target, Halt>
+    ensures { Shows target_in result (memory_of m.new) (target (scope_of scope.now) (trees_of parts.now) (memory_of m.old)) }
+{
+    match parts {
+        [] => Err(Halt::Stop(Stop::Form(0))),
+        [e, ..] => target_of(scope, e, m),
+    }
+}
+
+/// Where an expression can be changed.
+#[cycle(value)]
+fn target_of(scope: &Scope, e: &Expr, m: &mut Memory) -> Result<Target, Halt>
+    ensures { Shows target_in result (memory_of m.new) (target (scope_of scope.now) (more (tree_of e.now) none) (memory_of m.old)) }
+{
+    target_node(scope, e.op, &e.parts, e.from, e.to, m)
+}
+
+/// A name and an element of an array can be changed. Another operand is evaluated.
+#[cycle(value)]
+fn target_node(
+    scope: &Scope,
+    op: Op,
+    parts: &[Expr],
+    from: u32,
+    to: u32,
+    m: &mut Memory,
+) -> Result<Target, Halt>
+    ensures { Shows target_in result (memory_of m.new) (target (scope_of scope.now) (more (Node op (trees_of parts.now) from to) none) (memory_of m.old)) }
+{
+    match op {
+        Op::Name => Ok(name_target(scope, from, to)),
+        Op::Index => element(scope, from, parts, m),
+        Op::Number(_) => no_target(scope, op, parts, from, to, m),
+        Op::Char(_) => no_target(scope, op, parts, from, to, m),
+        Op::Text => no_target(scope, op, parts, from, to, m),
+        Op::Call(_) => no_target(scope, op, parts, from, to, m),
+        Op::Prefix(_) => no_target(scope, op, parts, from, to, m),
+        Op::Suffix(_) => no_target(scope, op, parts, from, to, m),
+        Op::Binary(_) => no_target(scope, op, parts, from, to, m),
+        Op::Assign(_) => no_target(scope, op, parts, from, to, m),
+        Op::Cast(_) => no_target(scope, op, parts, from, to, m),
+        Op::SizeOf => no_target(scope, op, parts, from, to, m),
+        Op::SizeOfType(_) => no_target(scope, op, parts, from, to, m),
+    }
+}
+
+#[cycle(value)]
+fn no_target(
+    scope: &Scope,
+    op: Op,
+    parts: &[Expr],
+    from: u32,
+    to: u32,
+    m: &mut Memory,
+) -> Result<Target, Halt>
+    ensures { Shows target_in result (memory_of m.new) (value (scope_of scope.now) (Node op (trees_of parts.now) from to) (memory_of m.old) and (λ z k. gives Nothing k)) }
+{
+    node(scope, op, parts, from, to, m)?;
+    Ok(Target::Nothing)
+}
+
+/// `++` and `--`, by what they change.
+fn stepped(
+    scope: &Scope,
+    after: bool,
+    at: u32,
+    by: i64,
+    parts: &[Expr],
+    target: Target,
+    m: &mut Memory,
+) -> Result<i64, Halt>
+    ensures { Shows as_is result (memory_of m.new) (stepped after at by (before_first (scope_of scope.now) (trees_of parts.now)) (target_in target) (memory_of m.old)) }
+{
+    let old = before_first(scope, parts, target, m)?;
+    changed(after, at, by, target, old, m)
+}
+
+/// An operator before its operand.
+#[cycle(value)]
+fn prefixed(scope: &Scope, n: u8, at: u32, parts: &[Expr], m: &mut Memory) -> Result<i64, Halt>
+    ensures { Shows as_is result (memory_of m.new) (prefixed n at (before_first (scope_of scope.now) (trees_of parts.now)) (target (scope_of scope.now) (trees_of parts.now)) (first (scope_of scope.now) (trees_of parts.now)) (memory_of m.old)) }
+{
+    if n == 6 || n == 7 {
+        let target = target(scope, parts, m)?;
+        return stepped(scope, true, at, by_one(n - 6), parts, target, m);
+    }
+    let z = first(scope, parts, m)?;
+    signed(n, at, z, m)
+}
+
+/// An assignment, by its target.
+#[cycle(value)]
+fn assigned(
+    scope: &Scope,
+    n: u8,
+    at: u32,
+    parts: &[Expr],
+    target: Target,
+    m: &mut Memory,
+) -> Result<i64, Halt>
+    ensures { Shows as_is result (memory_of m.new) (assigned n at (before_first (scope_of scope.now) (trees_of parts.now)) (second (scope_of scope.now) (trees_of parts.now)) (target_in target) (memory_of m.old)) }
+{
+    if n == 0 {
+        let z = second(scope, parts, m)?;
+        return put(at, target, z, m);
+    }
+    let a = before_first(scope, parts, target, m)?;
+    let b = second(scope, parts, m)?;
+    updated(n, at, target, a, b, m)
+}
+
+/// An argument of an external call.
+#[cycle(value)]
+fn argument(scope: &Scope, e: &Expr, m: &mut Memory) -> Result<Arg, Halt>
+    ensures { Shows as_is result (memory_of m.new) (argument (scope_of scope.now) (tree_of e.now) (memory_of m.old)) }
+{
+    argument_node(scope, e.op, &e.parts, e.from, e.to, m)
+}
+
+/// Its value, or its span where it is passed as that.
+#[cycle(value)]
+fn argument_node(
+    scope: &Scope,
+    op: Op,
+    parts: &[Expr],
+    from: u32,
+    to: u32,
+    m: &mut Memory,
+) -> Result<Arg, Halt>
+    ensures { Shows as_is result (memory_of m.new) (argument (scope_of scope.now) (Node op (trees_of parts.now) from to) (memory_of m.old)) }
+{
+    if is_span(scope, op, from, to) {
+        return Ok(Arg::Text(Name { from, to }));
+    }
+    let z = node(scope, op, parts, from, to, m)?;
+    Ok(Arg::Number(z))
+}
+
+/// The arguments of an external call, from left to right.
+#[cycle(value)]
+pub fn arguments(scope: &Scope, parts: &[Expr], m: &mut Memory) -> Result<Vec<Arg>, Halt>
+    ensures { Shows items_in result (memory_of m.new) (arguments (scope_of scope.now) (trees_of parts.now) (memory_of m.old)) }
+{
+    let mut args = Vec::new(scope.alloc);
+    for e in parts {
+        args.push(argument(scope, e, m)?)?;
+    }
+    Ok(args)
+}

@@ -1,0 +1,232 @@
+//! What is read: names, cells, elements.
+
+ghost use Rattle.std.specs.Prelude.{◌≡◌, ◌||◌, option_map};
+ghost use Rattle.cw_syntax.specs.Names.{slice};
+ghost use Rattle.cw_syntax.specs.Trees.{more, none, tree_of, trees_of};
+ghost use Rattle.cw_value.specs.Stores.{array_of};
+ghost use Rattle.cw_value.specs.Expressions.{OwnSpot, SharedSpot, bare_at, bare_place, before, before_first, cell_read, element_in, first_place, given_read, indexed, is_array, is_span, is_undeclared, name_if, name_read, name_target, old_value, place_of, read_name, spot_if, target_at};
+ghost use Rattle.cw_slots.specs.Shown.{place_in, scope_of};
+ghost use Rattle.cw_eval.specs.Shown.{Shows, as_is, memory_of, spot_in, store_of, target_in};
+
+use crate::halt::Halt;
+use crate::memory::{Memory, Target};
+use crate::store::{Spot, Store};
+use cw_slots::{Place, Scope};
+use cw_syntax::program::{Expr, Op};
+use cw_value::Stop;
+
+/// What stands in a cell.
+pub(crate) fn cell_read(at: u32, cell: Option<i64>, m: &Memory) -> Result<i64, Halt>
+    ensures { Shows as_is result (memory_of m.now) (cell_read at (memory_of m.now) cell) }
+{
+    match cell {
+        Some(z) => Ok(z),
+        None => Err(Halt::Stop(Stop::Unset(at))),
+    }
+}
+
+/// What is handed in for a name that nothing declares.
+fn given_read(at: u32, given: Option<i64>, m: &Memory) -> Result<i64, Halt>
+    ensures { Shows as_is result (memory_of m.now) (given_read at (memory_of m.now) given) }
+{
+    match given {
+        Some(z) => Ok(z),
+        None => Err(Halt::Stop(Stop::Unknown(at))),
+    }
+}
+
+/// The value of a name whose values are kept there.
+fn name_read(scope: &Scope, name: &[u8], at: u32, m: &Memory, place: Place) -> Result<i64, Halt>
+    ensures { Shows as_is result (memory_of m.now) (name_read (scope_of scope.now) name.now at (memory_of m.now) (place_in place)) }
+{
+    match place {
+        Place::Own(n) => cell_read(at, m.own.get(Spot::Plain(n)), m),
+        Place::Shared(n) => cell_read(at, m.shared.get(Spot::Plain(n)), m),
+        Place::Nowhere => given_read(at, scope.given(name), m),
+        Place::OwnArray(_) => Err(Halt::Stop(Stop::Form(at))),
+        Place::SharedArray(_) => Err(Halt::Stop(Stop::Form(at))),
+    }
+}
+
+/// The value of the name with this span.
+pub(crate) fn read_name(scope: &Scope, from: u32, to: u32, m: &Memory) -> Result<i64, Halt>
+    ensures { Shows as_is result (memory_of m.now) (read_name (scope_of scope.now) from to (memory_of m.now)) }
+{
+    let name = scope.text(from, to);
+    name_read(scope, name, from, m, scope.place(name))
+}
+
+/// Where a name is changed: nowhere where it isn't declared, or is an array.
+fn target_at(place: Place) -> Target
+    ensures { target_in result ≡ target_at (place_in place) }
+{
+    match place {
+        Place::Own(n) => Target::Own(Spot::Plain(n)),
+        Place::Shared(n) => Target::Shared(Spot::Plain(n)),
+        Place::OwnArray(_) => Target::Nothing,
+        Place::SharedArray(_) => Target::Nothing,
+        Place::Nowhere => Target::Nothing,
+    }
+}
+
+/// Where the name with this span is changed.
+pub fn name_target(scope: &Scope, from: u32, to: u32) -> Target
+    ensures target { target_in result ≡ name_target (scope_of scope.now) from to }
+{
+    target_at(scope.place(scope.text(from, to)))
+}
+
+/// The place of an expression that is a bare name.
+fn bare_at(scope: &Scope, op: Op, from: u32, to: u32) -> Place
+    ensures { place_in result ≡ bare_at (scope_of scope.now) op from to }
+{
+    match op {
+        Op::Name => scope.place(scope.text(from, to)),
+        Op::Number(_) | Op::Char(_) | Op::Text | Op::Call(_) => Place::Nowhere,
+        Op::Index | Op::Prefix(_) | Op::Suffix(_) | Op::Binary(_) => Place::Nowhere,
+        Op::Assign(_) | Op::Cast(_) | Op::SizeOf | Op::SizeOfType(_) => Place::Nowhere,
+    }
+}
+
+fn bare_place(scope: &Scope, e: &Expr) -> Place
+    ensures { place_in result ≡ bare_place (scope_of scope.now) (tree_of e.now) }
+{
+    bare_at(scope, e.op, e.from, e.to)
+}
+
+/// The place of the first of these parts, where it is a bare name.
+pub(crate) fn first_place(scope: &Scope, parts: &[Expr]) -> Place
+    ensures { place_in result ≡ first_place (scope_of scope.now) (trees_of parts.now) }
+{
+    match parts {
+        [] => Place::Nowhere,
+        [e, ..] => bare_place(scope, e),
+    }
+}
+
+/// Whether an array's elements are kept there.
+pub(crate) fn is_array(place: Place) -> bool
+    ensures { result ≡ is_array (place_in place) }
+{
+    match place {
+        Place::OwnArray(_) => true,
+        Place::SharedArray(_) => true,
+        Place::Own(_) | Place::Shared(_) | Place::Nowhere => false,
+    }
+}
+
+/// An element, where the number is one of the array's.
+fn spot_if(store: &Store, i: i64, array: usize) -> Option<Spot>
+    ensures { option_map spot_in result ≡ spot_if (array_of (store_of store.now) array) i array }
+{
+    if 0 <= i && (i as u64) < store.count(array) as u64 {
+        Some(Spot::Element(array, i as usize))
+    } else {
+        None
+    }
+}
+
+/// The element of the array that is kept there.
+pub(crate) fn element_in(at: u32, place: Place, i: i64, m: &Memory) -> Result<Target, Halt>
+    ensures { Shows target_in result (memory_of m.now) (element_in at (place_in place) i (memory_of m.now)) }
+{
+    match place {
+        Place::OwnArray(n) => match spot_if(&m.own, i, n) {
+            Some(spot) => Ok(Target::Own(spot)),
+            None => Err(Halt::Stop(Stop::Index(at))),
+        },
+        Place::SharedArray(n) => match spot_if(&m.shared, i, n) {
+            Some(spot) => Ok(Target::Shared(spot)),
+            None => Err(Halt::Stop(Stop::Index(at))),
+        },
+        Place::Own(_) => Err(Halt::Stop(Stop::Form(at))),
+        Place::Shared(_) => Err(Halt::Stop(Stop::Form(at))),
+        Place::Nowhere => Err(Halt::Stop(Stop::Form(at))),
+    }
+}
+
+/// Whether an undeclared name has no value.
+fn is_undeclared(scope: &Scope, name: &[u8], place: Place) -> bool
+    ensures { result ≡ is_undeclared (scope_of scope.now) name.now (place_in place) }
+{
+    match place {
+        Place::Nowhere => scope.given(name).is_none(),
+        Place::Own(_) => false,
+        Place::OwnArray(_) => false,
+        Place::Shared(_) => false,
+        Place::SharedArray(_) => false,
+    }
+}
+
+fn is_bare(scope: &Scope, name: &[u8]) -> bool
+    ensures { result ≡ (is_array (place_of (scope_of scope.now) name.now) || is_undeclared (scope_of scope.now) name.now (place_of (scope_of scope.now) name.now)) }
+{
+    let place = scope.place(name);
+    is_array(place) || is_undeclared(scope, name, place)
+}
+
+/// Whether an argument is passed as its span.
+pub(crate) fn is_span(scope: &Scope, op: Op, from: u32, to: u32) -> bool
+    ensures { result ≡ is_span (scope_of scope.now) op from to }
+{
+    match op {
+        Op::Text => true,
+        Op::Prefix(n) => n == 5,
+        Op::Name => is_bare(scope, scope.text(from, to)),
+        Op::Number(_) | Op::Char(_) | Op::Call(_) | Op::Index => false,
+        Op::Suffix(_) | Op::Binary(_) | Op::Assign(_) => false,
+        Op::Cast(_) | Op::SizeOf | Op::SizeOfType(_) => false,
+    }
+}
+
+/// The value of an expression that is a name, before a change that can't be made; 0 of what is no name.
+fn name_if(scope: &Scope, op: Op, from: u32, to: u32, m: &Memory) -> Result<i64, Halt>
+    ensures { Shows as_is result (memory_of m.now) (name_if (scope_of scope.now) op from to (memory_of m.now)) }
+{
+    match op {
+        Op::Name => read_name(scope, from, to, m),
+        Op::Number(_) | Op::Char(_) | Op::Text | Op::Call(_) => Ok(0),
+        Op::Index | Op::Prefix(_) | Op::Suffix(_) | Op::Binary(_) => Ok(0),
+        Op::Assign(_) | Op::Cast(_) | Op::SizeOf | Op::SizeOfType(_) => Ok(0),
+    }
+}
+
+/// The value before a change.
+fn old_value(
+    scope: &Scope,
+    op: Op,
+    from: u32,
+    to: u32,
+    target: Target,
+    m: &Memory,
+) -> Result<i64, Halt>
+    ensures { Shows as_is result (memory_of m.now) (before (scope_of scope.now) op from to (target_in target) (memory_of m.now)) }
+{
+    match target {
+        Target::Own(_) => cell_read(from, m.cell_at(target), m),
+        Target::Shared(_) => cell_read(from, m.cell_at(target), m),
+        Target::Nothing => name_if(scope, op, from, to, m),
+    }
+}
+
+/// The value of an expression before it is changed.
+fn before_change(scope: &Scope, e: &Expr, target: Target, m: &Memory) -> Result<i64, Halt>
+    ensures { Shows as_is result (memory_of m.now) (before_first (scope_of scope.now) (more (tree_of e.now) none) (target_in target) (memory_of m.now)) }
+{
+    old_value(scope, e.op, e.from, e.to, target, m)
+}
+
+/// The value of the first part before it is changed.
+pub(crate) fn before_first(
+    scope: &Scope,
+    parts: &[Expr],
+    target: Target,
+    m: &Memory,
+) -> Result<i64, Halt>
+    ensures { Shows as_is result (memory_of m.now) (before_first (scope_of scope.now) (trees_of parts.now) (target_in target) (memory_of m.now)) }
+{
+    match parts {
+        [] => Err(Halt::Stop(Stop::Form(0))),
+        [e, ..] => before_change(scope, e, target, m),
+    }
+}

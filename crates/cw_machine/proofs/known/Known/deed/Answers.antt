@@ -1,0 +1,30 @@
+use Rattle.std.proofs.Common.{◌∙◌, sym, ap, map, List, Option, arith, Vec, Global}
+use Rattle.std.specs.Borrow.{Bor}
+use Rattle.cw_syntax.specs.declared.program.Stmt.{Stmt}
+use Rattle.cw_syntax.specs.Trees.{Definition, Statement}
+use Rattle.cw_value.specs.Deeds.{said_all}
+use Rattle.cw_slots.specs.Texts.{statement_at}
+use Rattle.cw_deeds.specs.Forms.{deed_among}
+use Rattle.cw_starts.specs.Sources.{source_in}
+use Rattle.cw_machine.specs.Knowing.{deed_for, said_in}
+use Rattle.cw_machine.proofs.Kept.{at_known, past_known}
+use Rattle.cw_machine.proofs.known.Known.deed.Goals as goal
+
+pub returns-then-number-self : goal.returns-then-number-self
+returns-then-number-self c =
+    let k = c.args.self.now in
+    let none = past_known said_in (λ (f : Definition). said_all f.body) k.said.now (source_in k.source).file.functions c.args.number c.requires.known.said (omega arith) in
+    record { deed = sym (ap (λ (o : Option Definition). deed_for o c.args.row) none) }
+
+pub returns : goal.returns
+returns c =
+    let k = c.args.self.now in
+    let f = at_known said_in (λ (f : Definition). said_all f.body) k.said.now (source_in k.source).file.functions c.args.number c.index-self-number.result c.requires.known.said (omega arith) c.index-self-number.is in
+    record {
+      deed =
+          c.deed_by.ensures.deed
+          ∙ ap (λ l. (λ (l : List Statement). deed_among l c.args.row) (map statement_at l)) c.deref.ensures.value
+          ∙ ap (λ (v : Vec (Bor Stmt) Global). (λ (l : List Statement). deed_among l c.args.row) (said_in v)) (sym c.index-self-number.is)
+          ∙ ap (λ (l : List Statement). deed_among l c.args.row) f.2
+          ∙ sym (ap (λ (o : Option Definition). deed_for o c.args.row) f.1);
+    }

@@ -1,0 +1,32 @@
+-- What a run goes by, as the code holds it.
+use Rattle.std.specs.Prelude.{◌≡◌, ℕ, List, map, Option, Some, None, Vec}
+use Rattle.std.specs.Borrow.{Bor}
+use Rattle.std.specs.declared.alloc.Global.{Global}
+use Rattle.cw_syntax.specs.declared.program.Stmt.{Stmt}
+use Rattle.cw_syntax.specs.Trees.{Statement, Definition}
+use Rattle.cw_value.specs.Expressions.{Named}
+use Rattle.cw_value.specs.Deeds.{Deed, Rests, said_all}
+use Rattle.cw_value.specs.Machines.{Source, function, no_names, own_if, own_names, shared_names}
+use Rattle.cw_slots.specs.Texts.{statement_at}
+use Rattle.cw_deeds.specs.declared.items.Row.{Row}
+use Rattle.cw_deeds.specs.Forms.{deed_among}
+use Rattle.cw_starts.specs.Sources.{source_in}
+use Rattle.cw_machine.specs.declared.known.Known.{Known}
+
+abbrev pub said_in : Vec (Bor Stmt) Global → List Statement
+said_in said = map statement_at said.items
+
+-- the names are the file's and its functions', and the statements each function's
+pub record IsKnown (k : Known) : Type 0 where
+  pub shared : k.shared.now ≡ shared_names (source_in k.source).bytes (source_in k.source).file
+  pub none : k.none.now ≡ no_names
+  pub own : k.own.now ≡ map (own_names (source_in k.source).bytes) (source_in k.source).file.functions
+  pub said : map said_in k.said.now ≡ map (λ f. said_all f.body) (source_in k.source).file.functions
+
+abbrev pub names_for : Source → ℕ → Named
+names_for s number = own_if s.bytes (function s number)
+
+-- what passing a row does
+abbrev pub deed_for : Option Definition → Row → Deed
+deed_for None row = Rests
+deed_for (Some f) row = deed_among (said_all f.body) row

@@ -1,0 +1,25 @@
+-- Texts as the code holds them.
+use Rattle.std.specs.Prelude.{ℕ, List, map, Bool, true, false, Option, Some, None}
+use Rattle.std.specs.Borrow.{Bor}
+use Rattle.cw_syntax.specs.declared.program.Stmt.{Stmt}
+use Rattle.cw_syntax.specs.Trees.{Declared, Perhaps, Statement, just, nothing, statement_of}
+use Rattle.cw_value.specs.Machines.{is_array, is_plain}
+use Rattle.cw_value.specs.Expressions.{Named}
+
+abbrev pub text_at : Bor (List ℕ) → List ℕ
+text_at text = text.now
+
+abbrev pub named_of : List (Bor (List ℕ)) → List (Bor (List ℕ)) → Named
+named_of plain arrays = record { plain = map text_at plain; arrays = map text_at arrays }
+
+abbrev pub statement_at : Bor Stmt → Statement
+statement_at s = statement_of s.now
+
+abbrev pub perhaps_of : Option Stmt → Perhaps
+perhaps_of None = nothing
+perhaps_of (Some s) = just (statement_of s)
+
+-- whether a declared name is an array, or whether it is none
+abbrev pub of_kind : Bool → Declared → Bool
+of_kind true = is_array
+of_kind false = is_plain

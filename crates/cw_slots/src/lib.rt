@@ -1,0 +1,12 @@
+//! Names by their numbers: those of a function and of its file, and what a name stands for where it is used.
+#![tactic(auto)]
+
+mod declared;
+mod names;
+mod scope;
+mod statements;
+
+pub use declared::{own_names, shared_names};
+pub use names::Names;
+pub use scope::{Place, Scope};
+pub use statements::said;

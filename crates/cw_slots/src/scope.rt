@@ -1,0 +1,89 @@
+//! What a name stands for where it is used.
+ghost use Rattle.std.specs.Prelude.{◌≡◌, Some};
+ghost use Rattle.cw_syntax.specs.Names.{number_in, slice};
+ghost use Rattle.cw_value.specs.Expressions.{given_for, place_of, shared_by};
+ghost use Rattle.cw_slots.specs.Shown.{place_in, scope_of};
+
+use crate::names::Names;
+use cw_syntax::names::slice;
+use std::alloc::Global;
+
+/// Where the value of a name is kept: among those of its function or of the file, by its number there, or nowhere.
+#[derive(Clone, Copy, Drop, Debug, PartialEq, Eq)]
+pub enum Place {
+    Own(usize),
+    OwnArray(usize),
+    Shared(usize),
+    SharedArray(usize),
+    Nowhere,
+}
+
+/// What is known of names where an expression stands: the bytes of the source, the names of its function and those of the file, and
+/// the values that are handed in for names that nothing declares.
+#[derive(Clone, Copy, Drop)]
+pub struct Scope<'a, 's> {
+    pub alloc: Global,
+    pub source: &'a [u8],
+    pub own: &'a Names<'s>,
+    pub shared: &'a Names<'s>,
+    pub given: &'a [(Vec<u8>, i64)],
+}
+
+impl<'a, 's> Scope<'a, 's> {
+    /// The bytes of a span.
+    pub fn text(&self, from: u32, to: u32) -> &'a [u8]
+        ensures bytes { result.now ≡ slice (scope_of self.now).source from to }
+    {
+        slice(self.source, from, to)
+    }
+
+    /// Where the value of a name is kept. A name of the function hides one of the file.
+    pub fn place(&self, name: &[u8]) -> Place
+        ensures place { place_in result ≡ place_of (scope_of self.now) name.now }
+    {
+        match self.own.array(name) {
+            Some(n) => Place::OwnArray(n),
+            None => match self.own.plain(name) {
+                Some(n) => Place::Own(n),
+                None => shared_place(self.shared, name),
+            },
+        }
+    }
+
+    /// The value that is handed in for a name.
+    pub fn given(&self, name: &[u8]) -> Option<i64>
+        ensures value { result ≡ given_for (scope_of self.now) name.now }
+    {
+        for given in self.given {
+            if name == name_of(given) {
+                return value_of(given);
+            }
+        }
+        None
+    }
+}
+
+fn name_of(given: &(Vec<u8>, i64)) -> &[u8]
+    ensures { result.now ≡ given.now.0.items }
+{
+    &given.0
+}
+
+fn value_of(given: &(Vec<u8>, i64)) -> Option<i64>
+    ensures { result ≡ Some given.now.1 }
+{
+    Some(given.1)
+}
+
+/// Where the value of a name of the file is kept.
+fn shared_place(shared: &Names, name: &[u8]) -> Place
+    ensures { place_in result ≡ shared_by (number_in shared.now.arrays name.now) (number_in shared.now.plain name.now) }
+{
+    match shared.array(name) {
+        Some(n) => Place::SharedArray(n),
+        None => match shared.plain(name) {
+            Some(n) => Place::Shared(n),
+            None => Place::Nowhere,
+        },
+    }
+}

@@ -1,0 +1,4 @@
+pub mod Held
+pub mod Sources
+pub mod Turning
+pub mod Owning

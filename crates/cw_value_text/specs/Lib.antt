@@ -1,0 +1,2 @@
+pub mod ValuesText
+pub mod Working

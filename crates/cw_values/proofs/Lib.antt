@@ -1,0 +1,6 @@
+mod Fronts
+mod Following
+mod Reached
+mod Advancing
+mod Lasting
+mod Beginning
