@@ -2,12 +2,12 @@
 _capweave() {
     local word=${COMP_WORDS[COMP_CWORD]}
     if [ "$COMP_CWORD" -eq 1 ]; then
-        COMPREPLY=($(compgen -W "weave check refute run play graph sample" -- "$word"))
+        COMPREPLY=($(compgen -W "weave procs check refute audit reaudit run world play graph sample" -- "$word"))
         return
     fi
     case ${COMP_WORDS[1]} in
     graph) COMPREPLY=($(compgen -f -X '!*.c' -- "$word")) ;;
-    weave | check | refute | run | play)
+    weave | procs | check | refute | audit | reaudit | run | world | play)
         if [ "$COMP_CWORD" -eq 2 ]; then
             COMPREPLY=($(compgen -f -X '!*.toml' -- "$word"))
         else
@@ -54,9 +54,9 @@ _capweave_tell() {
         return
     fi
     case $said:$place in
-    :0) COMPREPLY=($(compgen -W "weave explain warn same draw check refute run play graph sample" -- "$word")) ;;
-    weave:1 | explain:1 | warn:1 | check:1 | refute:1 | run:1 | play:1) _capweave_files '*.toml' "$word" ;;
-    graph:1 | weave:2 | explain:2 | warn:2 | same:[12]) _capweave_files '*.c' "$word" ;;
+    :0) COMPREPLY=($(compgen -W "weave explain warn same draw check refute audit reaudit run play graph sample" -- "$word")) ;;
+    weave:1 | explain:1 | warn:1 | check:1 | refute:1 | audit:1 | reaudit:1 | run:1 | play:1) _capweave_files '*.toml' "$word" ;;
+    graph:1 | audit:2 | weave:2 | explain:2 | warn:2 | same:[12]) _capweave_files '*.c' "$word" ;;
     draw:1) COMPREPLY=($(compgen -W "graph table strategy play" -- "$word")) ;;
     draw:2) if [ "$kind" = graph ]; then _capweave_files '*.c' "$word"; else _capweave_files '*.toml' "$word"; fi ;;
     *) COMPREPLY=($(compgen -f -- "$word")) ;;

@@ -41,6 +41,16 @@ CALLED = "int f(int x){a:;return x;}\nint main(void){int y;y=f(1);b:;return 0;}"
 SPLIT = policy(at("a", never="amb"), at("b", must="amb"), head='split = ["f"]\n')
 TWICE = "void f(int x){l:;}int main(void){f(1);m:;k:;f(2);return 0;}"
 PROMISES = policy(at("m", must="amb"), at("k", never="amb"))
+LEAVES = "void f(int x){a:;}int main(void){f(1);b:;return 0;}"
+FORM = "void f(int x){a:;}int main(void){{if(!fork()){f(1);_exit(0);for(;;);}}b:;return 0;}"
+
+
+def detaching(*parts, names="f", more=""):
+    return policy(*parts, head=more + "detached = [%s]\n" % ", ".join('"%s"' % name for name in names.split()), version=2)
+
+
+LEFT = detaching(at("a", never="amb"), at("b", must="amb"))
+TORN = detaching(at("a", never="amb", must="amb"))
 READ_WRITE = descriptor("0", "CAP_READ", "CAP_WRITE")
 KEEPS = limit("0", "CAP_READ") + limit("0", "CAP_WRITE")
 
@@ -63,6 +73,9 @@ CW_TRY(1,0,0,1,CW_NONE)
 CW_AT(1,1,2)
 CW_DONE
 /*}cw*/int main(void){/*cw{*/CW_ENTRY(0);/*}cw*/a:/*cw{*/CW_LABEL(1)/*}cw*/;return 0;}"""
+AMBIENT = policy(at("a", must="amb"))
+VIOLATES = "capweave audit 1\nstates 4\nviolates 1\non\nin 0 0 0\nat 2 0 0\nend\n"
+MEETS = "capweave audit 1\nstates 4\nmeets\nin 0 0 0\nat 2 0 0\nat 5 0 1\nat 6 2 2\nat 7 2 3\nat 8 2 4\nend\n"
 BEATEN_TWO = """capweave strategy 1
 states 4
 0 5 0 0x0 bad
@@ -103,6 +116,42 @@ class Has(str):
 
 
 # what is shown; the words; the files by their names; the status; the output; the line on standard error
+WOVEN_LEAVES = """/*cw{*/
+#include "capweave.h"
+#define CW_LIMITS(X)
+CW_TABLE(2,4,0)
+CW_MEM(0,0,0xf)
+CW_MEM(1,1,0xf)
+CW_MEM(2,2,0xf)
+CW_MEM(3,3,0xf)
+CW_LIVE(0,0)
+CW_LIVE(2,0)
+CW_LIVE(3,0)
+CW_LIVE(4,0)
+CW_LIVE(5,1)
+CW_LIVE(6,3)
+CW_LIVE(7,3)
+CW_LIVE(8,0)
+CW_LIVE(10,0)
+CW_LIVE(11,0)
+CW_LIVE(12,0)
+CW_LIVE(14,0)
+CW_LIVE(15,3)
+CW_LIVE(16,3)
+CW_LIVE(17,3)
+CW_LIVE(18,0)
+CW_LIVE(20,0)
+CW_LIVE(21,2)
+CW_LIVE(22,2)
+CW_LIVE(23,2)
+CW_TRY(1,0,0,1,CW_NONE)
+CW_AT(1,1,3)
+CW_AT(4,0,2)
+CW_INTO(3,0,0,0)
+CW_BACK(3,0,0,3,3)
+CW_DONE
+/*}cw*/void f(int x){/*cw{*/CW_ENTRY(0);/*}cw*/a:/*cw{*/CW_LABEL(1)/*}cw*/;}int main(void){/*cw{*/CW_ENTRY(2);/*}cw*/{if(!fork()){/*cw{*/CW_CALL(3)/*}cw*/f(1);_exit(0);for(;;);}}b:/*cw{*/CW_LABEL(4)/*}cw*/;return 0;}"""
+
 ROWS = [
     ("a program without rules", "weave p s", {"p": "format = 1\n", "s": "int main(void){return 0;}"}, 0, Has("CW_TABLE(1,2,0)\nCW_MEM(0,0,0x3)\nCW_LIVE(4,0)\nCW_DONE"), ""),
     ("enter at the label and not at the entry", "weave p s", {"p": NEVER, "s": ONE}, 0, WOVEN_ONE, ""),
@@ -113,6 +162,14 @@ ROWS = [
     ("a strategy without its end", "refute p s t", {"p": BOTH, "s": TWO, "t": BEATEN_TWO[:-4]}, 9, "", "strategy: line 17\n"),
     ("a leading zero", "refute p s t", {"p": REFUSED, "s": ONE, "t": changed(BEATEN_ONE, "0x0 bad", "0x00 bad")}, 9, "", "strategy: line 3\n"),
     ("a row numbered twice", "refute p s t", {"p": REFUSED, "s": ONE, "t": changed(BEATEN_ONE, "\n1 4", "\n2 4")}, 9, "", "strategy: order 4\n"),
+    ("a source that violates", "audit p s", {"p": NEVER, "s": ONE}, 1, VIOLATES, ""),
+    ("a source that meets its policy", "audit p s", {"p": AMBIENT, "s": ONE}, 0, MEETS, ""),
+    ("a violation behind recursion", "audit p s", {"p": policy(at("u", never="amb"), at("d", must="amb")), "s": "void f(int n){if(n){f(n-1);u:;}else{d:;}}int main(void){f(9);return 0;}"}, 1, Has("violates 10\nin 0 0 2\nat 2 0 0\nin 1 0 0\nat 23 2 8\nend"), ""),
+    ("an audit is verified", "reaudit p s t", {"p": NEVER, "s": ONE, "t": VIOLATES}, 0, "yes\n", ""),
+    ("an audit of a source that meets its policy", "reaudit p s t", {"p": AMBIENT, "s": ONE, "t": MEETS}, 0, "yes\n", ""),
+    ("a row is missing", "reaudit p s t", {"p": AMBIENT, "s": ONE, "t": changed(MEETS, "at 8 2 4\n", "")}, 1, "group 0 row 3 condition 4\n", ""),
+    ("another move", "reaudit p s t", {"p": NEVER, "s": ONE, "t": changed(VIOLATES, "1\non\n", "1\nleft\n")}, 1, "group 1 row 0 condition 6\n", ""),
+    ("an audit without its end", "reaudit p s t", {"p": AMBIENT, "s": ONE, "t": MEETS[:-4]}, 9, "", "audit: line 10\n"),
     ("enter may be refused", "weave p s", {"p": REFUSED, "s": ONE}, 1, BEATEN_ONE, ""),
     ("and the program stops then", "weave p s", {"p": STOPPED, "s": ONE}, 0, WOVEN_ONE, ""),
     ("a woven text is verified", "check p t", {"p": NEVER, "t": WOVEN_ONE}, 0, "yes\n", ""),
@@ -160,6 +217,27 @@ ROWS = [
     ("a run that stops", "run p t tape", {"p": STOPPED, "t": WOVEN_ONE, "tape": "on refuse"}, 0, "try 1 enter refused\nstop 1\nended\n", ""),
     ("a play", "play p s t tape", {"p": REFUSED, "s": ONE, "t": BEATEN_ONE, "tape": "try try"}, 0, "try 0 enter refused\ntry 1 enter refused\nlabel a amb\nviolation a never amb\n", ""),
     ("a play that ends early", "play p s t tape", {"p": REFUSED, "s": ONE, "t": BEATEN_ONE, "tape": "skip"}, 1, "tape spent\n", ""),
+    ("a call that isn't waited for", "procs p s", {"p": LEFT, "s": LEAVES}, 0, Has("CW_TRY(1,0,0,1,CW_NONE)\nCW_AT(1,1,3)\nCW_AT(4,0,2)\nCW_INTO(3,0,0,0)\nCW_BACK(3,0,0,3,3)\n{if(!fork()){\nf(1);_exit(0);for(;;);}}b:"), ""),
+    ("such a call for weave", "weave p s", {"p": LEFT, "s": LEAVES}, 4, "", "policy: detached\n"),
+    ("the same call waited for", "weave p s", {"p": policy(at("a", never="amb"), at("b", must="amb"), version=2), "s": LEAVES}, 1, Has("capweave strategy 2"), ""),
+    ("a form that can't meet its policy", "procs p s", {"p": TORN, "s": LEAVES}, 1, Has("capweave strategy 2\nstates 4\n0 5 0 0x0 bad\n1 5 1 0x0 bad\nend"), ""),
+    ("a form without detached calls", "procs p s", {"p": NEVER, "s": ONE}, 0, WOVEN_ONE, ""),
+    ("main can't be detached", "procs p s", {"p": detaching(names="main"), "s": LEAVES}, 4, "", "policy: no function main\n"),
+    ("detached and split", "procs p s", {"p": detaching(more='split = ["f"]\n'), "s": LEAVES}, 4, "", "policy: detached f\n"),
+    ("a name of the form in the source", "procs p s", {"p": LEFT, "s": changed(LEAVES, "b:;", "b:;fork();")}, 3, "", "source 1:42: fork name\n"),
+    ("a detached call's result", "procs p s", {"p": LEFT, "s": "int f(int x){a:;return x;}int main(void){int y;y=f(1);b:;return 0;}"}, 3, "", "source 1:50: detached result\n"),
+    ("a function that isn't there, before a label", "procs p s", {"p": detaching(at("z", never="amb"), names="h"), "s": LEAVES}, 4, "", "policy: no function h\n"),
+    ("places are the form's", "procs p s", {"p": detaching(more='split = ["g"]\n'), "s": "int q;void f(int x){}void g(int x){f(x);q=1;}int main(void){g(1);return 0;}"}, 4, "", "policy: not splittable g 1:73\n"),
+    ("a form that nests too deep", "procs p s", {"p": LEFT, "s": changed(LEAVES, "f(1);", "{" * 60 + "f(1);" + "}" * 60)}, 5, "", "limit: nesting\n"),
+    ("a form that is too long", "procs p s", {"p": LEFT, "s": changed(LEAVES, "f(1);", " " * 262062 + "f(1);")}, 5, "", "limit: source bytes\n"),
+    ("a form of too many points", "procs p s", {"p": LEFT, "s": changed(LEAVES, "f(1);", "f(1);" * 1640)}, 5, "", "limit: points\n"),
+    ("the form's strategy is verified", "refute p s t", {"p": TORN, "s": FORM, "t": "capweave strategy 2\nstates 4\nend\n"}, 1, "row 0 condition 8\n", ""),
+    ("processes step by step", "world p t steps", {"p": LEFT, "t": WOVEN_LEAVES, "steps": "0 on\n0 fork\n1 on\n1 on\n1 grant\n"}, 0, "0 fork 1\n0 label b amb\n1 call f\n1 try 1 enter granted\n1 label a cap\ndone 2\n", ""),
+    ("no steps", "world p t steps", {"p": LEFT, "t": WOVEN_LEAVES, "steps": ""}, 0, "done 1\n", ""),
+    ("a step of no process", "world p t steps", {"p": LEFT, "t": WOVEN_LEAVES, "steps": "1 on\n"}, 1, "bad step 0\n", ""),
+    ("a fork goes neither way", "world p t steps", {"p": LEFT, "t": WOVEN_LEAVES, "steps": "0 on\n0 left\n"}, 1, "bad step 1\n", ""),
+    ("a line of no steps", "world p t steps", {"p": LEFT, "t": WOVEN_LEAVES, "steps": "0 on"}, 9, "", "steps: line 1\n"),
+    ("procs with too few words", "procs p", {}, 2, "", "usage: capweave procs POLICY SOURCE\n"),
     ("a sample", "sample 200", {}, 0, "sample 200\npoints 1206\npositions 2418\nstates 4\ncontexts 601\ncells 28896\nrows 2832\nwoven\n", ""),
     ("no sample", "sample 0", {}, 2, "", "usage: capweave sample N\n"),
     ("a sample past the last", "sample 401", {}, 2, "", "usage: capweave sample N\n"),

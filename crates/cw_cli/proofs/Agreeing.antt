@@ -72,7 +72,7 @@ module _ (policy source text : List ℕ) where
         let has = tables_have_texts w.held table (game_made w.whole source w.file w.graph w.held w.drawn w.few w.is_game w.made) w.verdict.good w.verdict.ascends w.verdict.few in
         reads w.whole text source w.file table valid_won accepted (subst (λ (p : PlainPolicy). IsTable p.format table) w.is_game.policy_is has) w.verdict.stands
 
-    checked_won : IsCheckDue policy text (Told Yes yes)
+    pub checked_won : IsCheckDue policy text (Told Yes yes)
     checked_won =
         inr (w.whole, w.are.spelled, inr (source, w.file, table, read_won, inr (w.fits, w.graph, w.drawn, inr (w.held, w.is_game, w.made, w.of, inl (w.verdict.good, refl, w.verdict.sound)))))
 
@@ -93,7 +93,7 @@ module _ (policy source text : List ℕ) where
         (subst (λ (s : List ℕ). AfterWoven s w.whole w.file table due) (sym same.0)
         (subst (λ (x : File). AfterWoven other w.whole x table due) (sym same.1) (subst (λ (u : Table). AfterWoven other w.whole file u due) (sym same.2) after)))
 
-    only_checked : (due : Due) → IsCheckDue policy text due → due ≡ Told Yes yes
+    pub only_checked : (due : Due) → IsCheckDue policy text due → due ≡ Told Yes yes
     only_checked due (inl (f, is, ne, e)) = absurd (ne (refused_spells_none policy w.whole f w.are.spelled is))
     only_checked due (inr (whole, spelled, after)) = after_policy due (subst (λ (p : PlainPolicy). AfterPolicy text p due) (one_policy policy whole w.whole spelled w.are.spelled) after)
 
@@ -106,7 +106,7 @@ module _ (policy source text : List ℕ) where
         let has = strategies_have_texts w.held strategy (game_made w.whole source w.file w.graph w.held w.drawn w.few w.is_game w.made) w.verdict.good w.verdict.ascend w.verdict.few in
         record { fits = subst (λ (p : PlainPolicy). StrategyFits p.format strategy) w.is_game.policy_is has; spelled = w.verdict.spelled }
 
-    judged_won : IsRefuteDue policy source text (Told Yes yes)
+    pub judged_won : IsRefuteDue policy source text (Told Yes yes)
     judged_won =
         inr (w.whole, w.file, w.are, inr (strategy, spelled_won, inr (w.fits, inr (w.few, w.graph, w.drawn, inr (w.held, w.is_game, w.made, w.of, inl (w.verdict.good, refl, w.verdict.wins))))))
 
@@ -135,7 +135,7 @@ module _ (policy source text : List ℕ) where
         let files = one_program source file w.file reads w.are.reads in
         none-some f (sym w.are.descriptors ∙ sym (ap (λ (p : PlainPolicy). descriptor_fault source w.file p) policies) ∙ sym (ap (λ (x : File). descriptor_fault source x whole) files) ∙ is)
 
-    only_judged : (due : Due) → IsRefuteDue policy source text due → due ≡ Told Yes yes
+    pub only_judged : (due : Due) → IsRefuteDue policy source text due → due ≡ Told Yes yes
     only_judged due (inl u) = absurd (never_unread_won due u)
     only_judged due (inr (whole, file, are, after)) =
         let policies = one_policy policy whole w.whole are.spelled w.are.spelled in

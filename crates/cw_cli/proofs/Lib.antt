@@ -1,11 +1,13 @@
+mod Dues
 mod Checks
 mod Counted
-mod Dues
 mod Judging
 mod Labelled
 mod Listed
+mod Audited
+mod Reaudited
 mod Sampled
 mod Shown
 mod Wanting
 pub mod Agreeing
-mod Winning
+pub mod Winning

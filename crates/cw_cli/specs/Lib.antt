@@ -6,5 +6,7 @@ pub mod Checking
 pub mod Playing
 pub mod Running
 pub mod CheckingHeld
+pub mod Reauditing
+pub mod Auditing
 pub mod Due
 pub mod Agreeing

@@ -1,6 +1,6 @@
 //! The commands.
 
-ghost use Rattle.std.specs.Prelude.{◌≡◌, map, length, None, Some, IfOk, IfSome, ◌⊎◌};
+ghost use Rattle.std.specs.Prelude.{◌≡◌, map, length, None, Some, IfOk, IfSome, ◌⊎◌, [], ◌∷◌};
 ghost use Rattle.cw_io.specs.Causes.{Rose};
 ghost use Rattle.cw_commands.specs.Commands.{quantities_of, IsNumbered};
 ghost use Rattle.cw_commands.specs.Endings.{line_of, status_of, usage_line, IsNoted, IsNotedWhole};
@@ -11,9 +11,11 @@ ghost use Rattle.cw_commands.specs.Starts.{noted_from, EndsLine, Starts, StartsL
 ghost use Rattle.cw_commands.specs.Words.{first_command, requested};
 ghost use Rattle.cw_cli.specs.Due.{IsDue};
 
+use crate::auditing::audit_due;
 use crate::checking::check_due;
 use crate::listing::listing_due;
 use crate::playing::play_due;
+use crate::reauditing::reaudit_due;
 use crate::refuting::refute_due;
 use crate::running::run_due;
 use crate::sampling::sample_due;
@@ -23,10 +25,119 @@ use cw_commands::{
 };
 use cw_core::NoMemory;
 use cw_io::{Shelf, Sink};
+use cw_parting::procs_due;
+use cw_worlding::world_due;
 use std::alloc::Global;
 
 /// The status of words that don't fit.
 const USAGE: u8 = 2;
+
+/// What is due for a command without files: a sample, by its number.
+fn of_none<O: Sink, N: Sink>(
+    alloc: Global,
+    command: Command,
+    out: &mut O,
+    note: &mut N,
+) -> Result<Outcome<O, N>, NoMemory>
+    requires numbered { IsNumbered command }
+    requires sized { AreSized (quantities_of command) ([]) }
+    ensures due { IfOk result (λ outcome. IsDue command ([]) (due_of outcome)) }
+    ensures puts { Starts O.taken O.faults O.refused out.old out.new result }
+    ensures notes { StartsLine N.taken N.faults N.refused note.old note.new result }
+{
+    match command {
+        Command::Sample(number) => sample_due(alloc, number, out, note),
+        _ => unreachable!(),
+    }
+}
+
+/// What is due for a command of one file.
+fn of_one<O: Sink, N: Sink>(
+    alloc: Global,
+    command: Command,
+    source: &[u8],
+    out: &mut O,
+    note: &mut N,
+) -> Result<Outcome<O, N>, NoMemory>
+    requires sized { AreSized (quantities_of command) (source.now ∷ []) }
+    ensures due { IfOk result (λ outcome. IsDue command (source.now ∷ []) (due_of outcome)) }
+    ensures puts { Starts O.taken O.faults O.refused out.old out.new result }
+    ensures notes { StartsLine N.taken N.faults N.refused note.old note.new result }
+{
+    match command {
+        Command::Graph => listing_due(alloc, source, out, note),
+        _ => unreachable!(),
+    }
+}
+
+/// What is due for a command of two files.
+fn of_two<O: Sink, N: Sink>(
+    alloc: Global,
+    command: Command,
+    policy: &[u8],
+    text: &[u8],
+    out: &mut O,
+    note: &mut N,
+) -> Result<Outcome<O, N>, NoMemory>
+    requires sized { AreSized (quantities_of command) (policy.now ∷ (text.now ∷ [])) }
+    ensures due { IfOk result (λ outcome. IsDue command (policy.now ∷ (text.now ∷ [])) (due_of outcome)) }
+    ensures puts { Starts O.taken O.faults O.refused out.old out.new result }
+    ensures notes { StartsLine N.taken N.faults N.refused note.old note.new result }
+{
+    match command {
+        Command::Weave => weave_due(alloc, policy, text, out, note),
+        Command::Procs => procs_due(alloc, policy, text, out, note),
+        Command::Check => check_due(alloc, policy, text, out, note),
+        Command::Audit => audit_due(alloc, policy, text, out, note),
+        _ => unreachable!(),
+    }
+}
+
+/// What is due for a command of three files.
+fn of_three<O: Sink, N: Sink>(
+    alloc: Global,
+    command: Command,
+    policy: &[u8],
+    text: &[u8],
+    behind: &[u8],
+    out: &mut O,
+    note: &mut N,
+) -> Result<Outcome<O, N>, NoMemory>
+    requires sized { AreSized (quantities_of command) (policy.now ∷ (text.now ∷ (behind.now ∷ []))) }
+    ensures due { IfOk result (λ outcome. IsDue command (policy.now ∷ (text.now ∷ (behind.now ∷ []))) (due_of outcome)) }
+    ensures puts { Starts O.taken O.faults O.refused out.old out.new result }
+    ensures notes { StartsLine N.taken N.faults N.refused note.old note.new result }
+{
+    match command {
+        Command::Refute => refute_due(alloc, policy, text, behind, out, note),
+        Command::Reaudit => reaudit_due(alloc, policy, text, behind, out, note),
+        Command::Run => run_due(alloc, policy, text, behind, out, note),
+        Command::World => world_due(alloc, policy, text, behind, out, note),
+        _ => unreachable!(),
+    }
+}
+
+/// What is due for a command of four files.
+fn of_four<O: Sink, N: Sink>(
+    alloc: Global,
+    command: Command,
+    policy: &[u8],
+    source: &[u8],
+    strategy: &[u8],
+    tape: &[u8],
+    out: &mut O,
+    note: &mut N,
+) -> Result<Outcome<O, N>, NoMemory>
+    requires sized { AreSized (quantities_of command) (policy.now ∷ (source.now ∷ (strategy.now ∷ (tape.now ∷ [])))) }
+    ensures due { IfOk result (λ outcome. IsDue command (policy.now ∷ (source.now ∷ (strategy.now ∷ (tape.now ∷ [])))) (due_of outcome)) }
+    ensures puts { Starts O.taken O.faults O.refused out.old out.new result }
+    ensures notes { StartsLine N.taken N.faults N.refused note.old note.new result }
+{
+    match command {
+        Command::Play => play_due(alloc, policy, source, strategy, tape, out, note),
+        _ => unreachable!(),
+    }
+}
 
 /// What is due for a command, by the bytes of its files in the order of its words, or for a sample by its number.
 fn due<O: Sink, N: Sink>(
@@ -42,18 +153,14 @@ fn due<O: Sink, N: Sink>(
     ensures puts { Starts O.taken O.faults O.refused out.old out.new result }
     ensures notes { StartsLine N.taken N.faults N.refused note.old note.new result }
 {
-    match (command, files) {
-        (Command::Weave, [policy, source]) => weave_due(alloc, policy, source, out, note),
-        (Command::Graph, [source]) => listing_due(alloc, source, out, note),
-        (Command::Refute, [policy, source, strategy]) => refute_due(
-            alloc, policy, source, strategy, out, note,
+    match files {
+        [] => of_none(alloc, command, out, note),
+        [source] => of_one(alloc, command, source, out, note),
+        [policy, text] => of_two(alloc, command, policy, text, out, note),
+        [policy, text, behind] => of_three(alloc, command, policy, text, behind, out, note),
+        [policy, source, strategy, tape] => of_four(
+            alloc, command, policy, source, strategy, tape, out, note,
         ),
-        (Command::Check, [policy, text]) => check_due(alloc, policy, text, out, note),
-        (Command::Play, [policy, source, strategy, tape]) => play_due(
-            alloc, policy, source, strategy, tape, out, note,
-        ),
-        (Command::Run, [policy, text, tape]) => run_due(alloc, policy, text, tape, out, note),
-        (Command::Sample(number), []) => sample_due(alloc, number, out, note),
         _ => unreachable!(),
     }
 }
@@ -100,13 +207,15 @@ fn end<N: Sink>(ending: Ending<'_, N>, note: &mut N) -> u8
 
 /// Does what the words of a command line ask for, and answers the status.
 ///
-/// `weave POLICY SOURCE` puts the woven text (0), or the strategy by which the environment beats every weaver (1); `graph SOURCE` puts the
+/// `weave POLICY SOURCE` puts the woven text (0), or the strategy by which the environment beats every weaver (1), `procs POLICY SOURCE` the same for the source's form; `graph SOURCE` puts the
 /// lines of the graph of the source's points (0); `refute POLICY SOURCE STRATEGY` puts `yes` where the strategy beats every weaver (0), or the
 /// first row that fails a condition (1); `check POLICY WOVEN` puts `yes` where the table is sound (0), or the first row that fails a condition (1);
 /// `play POLICY SOURCE STRATEGY TAPE` puts the trace of the strategy's play by the tape and `violation RULE` (0) or `tape spent` (1), and `run POLICY WOVEN TAPE` that of the
-/// woven run and `ended` (0), `tape spent` or `bad move I` (1), or each the first row that fails a condition (1); `sample N` weaves the sample of N, has it checked and puts its
+/// woven run and `ended` (0), `tape spent` or `bad move I` (1), or each the first row that fails a condition (1); `audit POLICY SOURCE` puts the audit of the source as it is,
+/// which meets the policy (0) or violates it (1); `reaudit POLICY SOURCE AUDIT` puts `yes`
+/// where the audit is exact (0), or the first group and row that fail a condition (1); `sample N` weaves the sample of N, has it checked and puts its
 /// numbers and `woven` (0) or `refuted` (1). Words that fit no command are 2, a refused source 3, a refused policy 4, a quantity over
-/// its limit 5, a file that can't be read 6, an output that can't be written 7, want of memory 8, a strategy or a woven text that isn't of its grammar 9.
+/// its limit 5, a file that can't be read 6, an output that can't be written 7, want of memory 8, a strategy, a woven text, a tape or an audit that isn't of its grammar 9.
 pub fn capweave<F: Shelf, O: Sink, N: Sink>(
     alloc: Global,
     words: &[String],

@@ -6,3 +6,4 @@ mod Placed
 mod Reading
 pub mod Sizes
 pub mod Starting
+pub mod Statuses

@@ -12,12 +12,16 @@ alone : (o : Option Name) → request_of o [] ≡ None
 unfolding walk_passes
 alone None = refl
 alone (Some name.Weave) = refl
+alone (Some name.Procs) = refl
 alone (Some name.Graph) = refl
 alone (Some name.Refute) = refl
 alone (Some name.Check) = refl
 alone (Some name.Play) = refl
 alone (Some name.Run) = refl
+alone (Some name.World) = refl
 alone (Some name.Sample) = refl
+alone (Some name.Reaudit) = refl
+alone (Some name.Audit) = refl
 
 pub one_word : (word : String Global) → requested (word ∷ []) ≡ None
 one_word word = alone (named_by (string_bytes word))

@@ -5,7 +5,7 @@ use Rattle.cw_core.specs.declared.quantity.Quantity.{Quantity}
 use Rattle.cw_core.specs.declared.quantity.Quantity.TheVariants.{PolicyBytes, SourceBytes, FileBytes}
 use Rattle.cw_sample.specs.Samples.{HasSample}
 use Rattle.cw_commands.specs.declared.command.Command.{Command}
-use Rattle.cw_commands.specs.declared.command.Command.TheVariants.{Weave, Graph, Refute, Check, Play, Run, Sample}
+use Rattle.cw_commands.specs.declared.command.Command.TheVariants.{Weave, Procs, Graph, Refute, Check, Play, Run, Sample, Reaudit, World, Audit}
 use Rattle.cw_commands.specs.declared.name.Name.{Name}
 use Rattle.cw_commands.specs.declared.name.Name.TheVariants as name
 
@@ -13,43 +13,59 @@ use Rattle.cw_commands.specs.declared.name.Name.TheVariants as name
 abbrev pub named_by : List ℕ → Option Name
 named_by word =
     if bytes_eq word (codes "weave") then Some name.Weave
+    else if bytes_eq word (codes "procs") then Some name.Procs
     else if bytes_eq word (codes "graph") then Some name.Graph
     else if bytes_eq word (codes "refute") then Some name.Refute
     else if bytes_eq word (codes "check") then Some name.Check
     else if bytes_eq word (codes "play") then Some name.Play
     else if bytes_eq word (codes "run") then Some name.Run
+    else if bytes_eq word (codes "world") then Some name.World
     else if bytes_eq word (codes "sample") then Some name.Sample
+    else if bytes_eq word (codes "reaudit") then Some name.Reaudit
+    else if bytes_eq word (codes "audit") then Some name.Audit
     else None
 
 -- the places of the words behind a name
 abbrev pub places_of : Name → List (List ℕ)
 places_of name.Weave = codes "POLICY" ∷ (codes "SOURCE" ∷ [])
+places_of name.Procs = codes "POLICY" ∷ (codes "SOURCE" ∷ [])
 places_of name.Graph = codes "SOURCE" ∷ []
 places_of name.Refute = codes "POLICY" ∷ (codes "SOURCE" ∷ (codes "STRATEGY" ∷ []))
 places_of name.Check = codes "POLICY" ∷ (codes "WOVEN" ∷ [])
 places_of name.Play = codes "POLICY" ∷ (codes "SOURCE" ∷ (codes "STRATEGY" ∷ (codes "TAPE" ∷ [])))
 places_of name.Run = codes "POLICY" ∷ (codes "WOVEN" ∷ (codes "TAPE" ∷ []))
+places_of name.World = codes "POLICY" ∷ (codes "WOVEN" ∷ (codes "STEPS" ∷ []))
 places_of name.Sample = codes "N" ∷ []
+places_of name.Audit = codes "POLICY" ∷ (codes "SOURCE" ∷ [])
+places_of name.Reaudit = codes "POLICY" ∷ (codes "SOURCE" ∷ (codes "AUDIT" ∷ []))
 
 -- the words of a command, as the line on usage tells them
 abbrev pub usage_of : Name → List ℕ
 usage_of name.Weave = codes "weave POLICY SOURCE"
+usage_of name.Procs = codes "procs POLICY SOURCE"
 usage_of name.Graph = codes "graph SOURCE"
 usage_of name.Refute = codes "refute POLICY SOURCE STRATEGY"
 usage_of name.Check = codes "check POLICY WOVEN"
 usage_of name.Play = codes "play POLICY SOURCE STRATEGY TAPE"
 usage_of name.Run = codes "run POLICY WOVEN TAPE"
+usage_of name.World = codes "world POLICY WOVEN STEPS"
 usage_of name.Sample = codes "sample N"
+usage_of name.Audit = codes "audit POLICY SOURCE"
+usage_of name.Reaudit = codes "reaudit POLICY SOURCE AUDIT"
 
 -- the quantities that the bytes of a command's files are, one a file, in the order of its words
 abbrev pub quantities_of : Command → List Quantity
 quantities_of Weave = PolicyBytes ∷ (SourceBytes ∷ [])
+quantities_of Procs = PolicyBytes ∷ (SourceBytes ∷ [])
 quantities_of Graph = SourceBytes ∷ []
 quantities_of Refute = PolicyBytes ∷ (SourceBytes ∷ (FileBytes ∷ []))
 quantities_of Check = PolicyBytes ∷ (FileBytes ∷ [])
 quantities_of Play = PolicyBytes ∷ (SourceBytes ∷ (FileBytes ∷ (FileBytes ∷ [])))
 quantities_of Run = PolicyBytes ∷ (FileBytes ∷ (FileBytes ∷ []))
+quantities_of World = PolicyBytes ∷ (FileBytes ∷ (FileBytes ∷ []))
 quantities_of (Sample number) = []
+quantities_of Audit = PolicyBytes ∷ (SourceBytes ∷ [])
+quantities_of Reaudit = PolicyBytes ∷ (SourceBytes ∷ (FileBytes ∷ []))
 
 -- the number of a sample is one that has a sample
 abbrev pub IsNumbered : Command → Type 0

@@ -6,3 +6,4 @@ pub mod Starts
 pub mod Files
 pub mod Endings
 pub mod Runs
+pub mod Statuses

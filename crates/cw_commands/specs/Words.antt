@@ -4,7 +4,7 @@ use Rattle.std.specs.Prelude.{String, string_bytes}
 use Rattle.std.specs.declared.alloc.Global.{Global}
 use Rattle.cw_sample.specs.Samples.{sample_number}
 use Rattle.cw_commands.specs.declared.command.Command.{Command}
-use Rattle.cw_commands.specs.declared.command.Command.TheVariants.{Weave, Graph, Refute, Check, Play, Run, Sample}
+use Rattle.cw_commands.specs.declared.command.Command.TheVariants.{Weave, Procs, Graph, Refute, Check, Play, Run, Sample, Reaudit, World, Audit}
 use Rattle.cw_commands.specs.declared.name.Name.{Name}
 use Rattle.cw_commands.specs.declared.name.Name.TheVariants as name
 use Rattle.cw_commands.specs.declared.words.Request.{Request}
@@ -28,12 +28,16 @@ sample_of words = None
 -- what a name asks for with the values of its places: they are the names of files, or the number of a sample
 abbrev pub asked : Name → List (List ℕ) → Option Wish
 asked name.Weave words = Some (Weave, words)
+asked name.Procs words = Some (Procs, words)
 asked name.Graph words = Some (Graph, words)
 asked name.Refute words = Some (Refute, words)
 asked name.Check words = Some (Check, words)
 asked name.Play words = Some (Play, words)
 asked name.Run words = Some (Run, words)
+asked name.World words = Some (World, words)
 asked name.Sample words = sample_of words
+asked name.Audit words = Some (Audit, words)
+asked name.Reaudit words = Some (Reaudit, words)
 
 abbrev pub request_of : Option Name → List (String Global) → Option Wish
 request_of None words = None

@@ -9,12 +9,16 @@ use cw_core::Quantity;
 #[derive(Clone, Copy, Debug, PartialEq, Eq, Drop)]
 pub enum Command {
     Weave,
+    Procs,
     Graph,
     Refute,
     Check,
     Play,
     Run,
+    World,
     Sample(u32),
+    Reaudit,
+    Audit,
 }
 
 impl Command {
@@ -24,6 +28,7 @@ impl Command {
     {
         match self {
             Command::Weave => &[Quantity::PolicyBytes, Quantity::SourceBytes],
+            Command::Procs => &[Quantity::PolicyBytes, Quantity::SourceBytes],
             Command::Graph => &[Quantity::SourceBytes],
             Command::Refute => &[
                 Quantity::PolicyBytes,
@@ -42,7 +47,18 @@ impl Command {
                 Quantity::FileBytes,
                 Quantity::FileBytes,
             ],
+            Command::World => &[
+                Quantity::PolicyBytes,
+                Quantity::FileBytes,
+                Quantity::FileBytes,
+            ],
             Command::Sample(_) => &[],
+            Command::Audit => &[Quantity::PolicyBytes, Quantity::SourceBytes],
+            Command::Reaudit => &[
+                Quantity::PolicyBytes,
+                Quantity::SourceBytes,
+                Quantity::FileBytes,
+            ],
         }
     }
 }

@@ -7,12 +7,16 @@ ghost use Rattle.cw_commands.specs.Commands.{named_by, places_of, usage_of};
 #[derive(Clone, Copy, Debug, PartialEq, Eq, Drop)]
 pub enum Name {
     Weave,
+    Procs,
     Graph,
     Refute,
     Check,
     Play,
     Run,
+    World,
     Sample,
+    Reaudit,
+    Audit,
 }
 
 /// The name that a word is.
@@ -21,12 +25,16 @@ pub(crate) fn named_by(word: &str) -> Option<Name>
 {
     match word {
         "weave" => Some(Name::Weave),
+        "procs" => Some(Name::Procs),
         "graph" => Some(Name::Graph),
         "refute" => Some(Name::Refute),
         "check" => Some(Name::Check),
         "play" => Some(Name::Play),
         "run" => Some(Name::Run),
+        "world" => Some(Name::World),
         "sample" => Some(Name::Sample),
+        "reaudit" => Some(Name::Reaudit),
+        "audit" => Some(Name::Audit),
         _ => None,
     }
 }
@@ -38,12 +46,16 @@ impl Name {
     {
         match self {
             Name::Weave => &["POLICY", "SOURCE"],
+            Name::Procs => &["POLICY", "SOURCE"],
             Name::Graph => &["SOURCE"],
             Name::Refute => &["POLICY", "SOURCE", "STRATEGY"],
             Name::Check => &["POLICY", "WOVEN"],
             Name::Play => &["POLICY", "SOURCE", "STRATEGY", "TAPE"],
             Name::Run => &["POLICY", "WOVEN", "TAPE"],
+            Name::World => &["POLICY", "WOVEN", "STEPS"],
             Name::Sample => &["N"],
+            Name::Audit => &["POLICY", "SOURCE"],
+            Name::Reaudit => &["POLICY", "SOURCE", "AUDIT"],
         }
     }
 
@@ -53,12 +65,16 @@ impl Name {
     {
         match self {
             Name::Weave => b"weave POLICY SOURCE",
+            Name::Procs => b"procs POLICY SOURCE",
             Name::Graph => b"graph SOURCE",
             Name::Refute => b"refute POLICY SOURCE STRATEGY",
             Name::Check => b"check POLICY WOVEN",
             Name::Play => b"play POLICY SOURCE STRATEGY TAPE",
             Name::Run => b"run POLICY WOVEN TAPE",
+            Name::World => b"world POLICY WOVEN STEPS",
             Name::Sample => b"sample N",
+            Name::Audit => b"audit POLICY SOURCE",
+            Name::Reaudit => b"reaudit POLICY SOURCE AUDIT",
         }
     }
 }

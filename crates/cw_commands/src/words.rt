@@ -53,12 +53,16 @@ fn asked<'w>(alloc: Global, name: Name, words: Vec<&'w str>) -> Option<Request<'
 {
     let command = match name {
         Name::Weave => Command::Weave,
+        Name::Procs => Command::Procs,
         Name::Graph => Command::Graph,
         Name::Refute => Command::Refute,
         Name::Check => Command::Check,
         Name::Play => Command::Play,
         Name::Run => Command::Run,
+        Name::World => Command::World,
         Name::Sample => return sample_of(alloc, &words),
+        Name::Reaudit => Command::Reaudit,
+        Name::Audit => Command::Audit,
     };
     Some(Request {
         command,

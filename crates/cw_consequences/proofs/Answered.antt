@@ -148,7 +148,7 @@ module _ (p : PlainPolicy) (valid : IsValid p) (text : List ℕ) where
       a ∙ cut_is s f is ∙ ap (woven_refusal p (cut text)) same ∙ sym (cut_is t g other) ∙ sym b
 
   module _ (Next : List ℕ → File → Table → Due → Type 0) (one : (source : List ℕ) (file : File) (t : Table) → IsOne (Next source file t)) where
-    one_with_woven : IsOne (WithWoven Next text p)
+    pub one_with_woven : IsOne (WithWoven Next text p)
     one_with_woven due answer (inl a) (inl b) = one_woven_refusal due answer a b
     one_with_woven due answer (inl (other, f, wrong, ne, a)) (inr (source, file, t, read, after)) =
         absurd (no_fault p valid text source file t read f ne (is_fault p text other f wrong))

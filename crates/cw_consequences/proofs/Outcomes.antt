@@ -115,12 +115,14 @@ module _ (g : Game) where
       ap₂ (λ (n : ℕ) (rs : List Row). record { states = n; rows = rs }) (a.states ∙ sym b.states) rows
 
   rows_woven : (t : Table) → HasManyRows g → StartHolds g → IsLazyTable g t → table_rows t ≤ 65536 → ⊥
-  rows_woven t (inl (holds, all)) starts lazy few = let lt : 65536 < table_rows t = all t lazy in omega (arith, lt, few)
+  rows_woven t (inl (holds, (u, is, many))) starts lazy few =
+      let lt : 65536 < table_rows t = subst (λ (x : Table). 65536 < table_rows x) (lazy_is_one g u t is lazy) many in omega (arith, lt, few)
   rows_woven t (inr ((n, is), all)) starts lazy few = height_clash n starts is
 
   rows_refuted : (s : Strategy) → HasManyRows g → IsLeastStrategy g s → rows_of s ≤ 65536 → ⊥
   rows_refuted s (inl (holds, all)) least few = height_clash least.height holds least.is_height
-  rows_refuted s (inr (lost, all)) least few = let lt : 65536 < rows_of s = all s least in omega (arith, lt, few)
+  rows_refuted s (inr (lost, (u, is, many))) least few =
+      let lt : 65536 < rows_of s = subst (λ (x : Strategy). 65536 < rows_of x) (least_is_one u s is least) many in omega (arith, lt, few)
 
   pub one_outcome : (o r : Outcome) → Ends g o → Ends g r → o ≡ r
   one_outcome ManyCells ManyCells a b = refl
@@ -174,10 +176,10 @@ module _ (g : Game) (y : PlainPolicy) (like : IsLike g y) (functions : ℕ) (beg
   holds_moved holds n = sym (holds_same g g.policy y like.forth n (g.entry g.main) g.states.start (has (all_states g))) ∙ holds n
 
   rows_moved : HasManyRows g → HasManyRows (under g y)
-  rows_moved (inl (holds, all)) = inl (holds_moved holds, λ t lazy. all t ((like.tables functions (begins holds) t).1 lazy))
-  rows_moved (inr ((n, is), all)) = inr (
+  rows_moved (inl (holds, (t, lazy, many))) = inl (holds_moved holds, (t, (like.tables functions (begins holds) t).0 lazy, many))
+  rows_moved (inr ((n, is), (s, least, many))) = inr (
     (n, height_same g g.policy y like.forth (g.entry g.main) g.states.start (all_states g) n is),
-    λ s least. all s (strategy_same g y g.policy like.back like.forth s least),
+    (s, strategy_same g g.policy y like.forth like.back s least, many),
   )
 
   pub moved : (o : Outcome) → Ends g o → Ends (under g y) o

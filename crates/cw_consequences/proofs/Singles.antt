@@ -73,7 +73,7 @@ module _ (source : List ℕ) (p : PlainPolicy) where
       none-some f (sym none ∙ sym (ap (λ (z : File). descriptor_fault source z p) files) ∙ some)
 
   module _ (Next : File → Due → Type 0) (one : (file : File) → IsOne (Next file)) where
-    one_source : IsOne (WithSource Next source p)
+    pub one_source : IsOne (WithSource Next source p)
     one_source due answer (inl u) (inl w) = one_unread due answer u w
     one_source due answer (inl u) (inr (file, reads, none, after)) = absurd (never_unread file due reads none u)
     one_source due answer (inr (file, reads, none, after)) (inl w) = absurd (never_unread file answer reads none w)

@@ -1,6 +1,6 @@
 //! Laws of the definitions: functions that do nothing, and whose contracts hold of every value.
 
-ghost use Rattle.cw_consequences.specs.Laws.{EachHasOneAnswer, FormatsAgree, StopGivesTheSame, WeaveHasOneAnswer};
+ghost use Rattle.cw_consequences.specs.Laws.{EachHasOneAnswer, FormIsChecked, FormIsJudged, FormatsAgree, ProcsIsWeave, StopGivesTheSame, WeaveHasOneAnswer};
 
 /// For a policy and a source one answer of `weave` is due.
 pub fn weave_has_one_answer()
@@ -10,6 +10,17 @@ pub fn weave_has_one_answer()
 /// For the files of a command, whichever it is, and for the number of a sample one answer is due.
 pub fn each_has_one_answer()
     ensures { EachHasOneAnswer }
+{}
+
+/// What `procs` writes is accepted: a woven text by `check`, and a strategy, for the form, by `refute`.
+pub fn what_procs_writes_is_accepted()
+    ensures checked { FormIsChecked }
+    ensures judged { FormIsJudged }
+{}
+
+/// Without detached functions, and without the names of a form in the source, `procs` is `weave`.
+pub fn procs_is_weave()
+    ensures { ProcsIsWeave }
 {}
 
 /// Under a policy that stops after a refusal status and bytes are those under the same policy of which nothing can be refused.

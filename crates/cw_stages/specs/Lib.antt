@@ -5,6 +5,7 @@ pub mod Games
 pub mod Strategies
 pub mod Tables
 pub mod Tapes
+pub mod Audits
 pub mod Verdicts
 pub mod Counting
 pub mod Stops

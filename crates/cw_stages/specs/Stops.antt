@@ -19,9 +19,10 @@ use Rattle.cw_commands.specs.Starts.{IsRefused}
 use Rattle.cw_stages.specs.declared.numbers.Numbers.{Numbers}
 use Rattle.cw_stages.specs.declared.reading.Reading.{Reading}
 use Rattle.cw_stages.specs.declared.stop.Stop.{Stop}
-use Rattle.cw_stages.specs.declared.stop.Stop.TheVariants.{Source, Descriptors, Fit, Detached, Strategy, Woven, Tape, Over, NoMemory}
+use Rattle.cw_stages.specs.declared.stop.Stop.TheVariants.{Source, Descriptors, Fit, Detached, Strategy, Woven, Tape, Audit, Over, NoMemory}
 use Rattle.cw_stages.specs.declared.told.Text.{Text}
 use Rattle.cw_stages.specs.declared.told.Verdict.{Verdict}
+use Rattle.cw_stages.specs.Audits.{audit_refusal}
 use Rattle.cw_stages.specs.Fitting.{fit_line}
 use Rattle.cw_stages.specs.Refusals.{descriptor_line, over, policy_detached, source_refusal}
 use Rattle.cw_stages.specs.Strategies.{strategy_refusal}
@@ -52,6 +53,7 @@ Refuses whole text Detached due = due ≡ policy_detached
 Refuses whole text (Strategy f) due = (f ≢ fault.NoMemory) × (due ≡ strategy_refusal f)
 Refuses whole text (Woven f) due = (f ≢ woven.NoMemory) × (due ≡ woven_refusal whole text f)
 Refuses whole text (Tape line) due = due ≡ tape_refusal line
+Refuses whole text (Audit line) due = due ≡ audit_refusal line
 Refuses whole text (Over quantity) due = due ≡ over quantity
 Refuses whole text NoMemory due = ⊥
 

@@ -66,11 +66,11 @@ IsVerdict whole source file g (Told Yes text) = IsWoven whole source file g text
 IsVerdict whole source file g (Told No text) = IsRefuted whole source file g text
 IsVerdict whole source file g (Refused cause line) = ⊥
 
--- the lazy table, or where the start is lost the strategy by least heights, has too many rows
+-- the game's lazy table, or where the start is lost its strategy by least heights, has too many rows
 abbrev pub HasManyRows : Game → Type 0
 HasManyRows g =
-    (StartHolds g × ((t : Table) → IsLazyTable g t → limit_of Rows < table_rows t))
-    ⊎ (StartIsLost g × ((s : Strategy) → IsLeastStrategy g s → limit_of Rows < rows_of s))
+    (StartHolds g × ((t : Table) × IsLazyTable g t × (limit_of Rows < table_rows t)))
+    ⊎ (StartIsLost g × ((s : Strategy) × IsLeastStrategy g s × (limit_of Rows < rows_of s)))
 
 -- That these rows are too many, or what comes next for the game, which is the verdict or stands on it.
 abbrev pub AfterCells : (Game → Due → Type 0) → Game → Due → Type 0

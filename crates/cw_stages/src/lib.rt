@@ -3,6 +3,7 @@
 //! Each stage gives what it made, or a `Stop`: why the command ends before what was asked for. A stop goes up by `?`, and `ended` puts its line.
 #![tactic(auto)]
 
+mod audits;
 mod ending;
 mod fitting;
 mod games;
@@ -17,6 +18,7 @@ mod tapes;
 mod told;
 mod verdict;
 
+pub use audits::{audit_in, tell_group};
 pub use ending::{ended, refused};
 pub use games::{attaches, draw, fits, make_game};
 pub use numbers::Numbers;

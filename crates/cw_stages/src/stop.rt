@@ -27,6 +27,8 @@ pub enum Stop {
     Woven(WovenFault),
     /// The line of the tape that has another word, counted from 1.
     Tape(u32),
+    /// The line of the audit that isn't of its form, counted from 1.
+    Audit(u32),
     /// A quantity is over its limit.
     Over(Quantity),
     /// There was no memory.

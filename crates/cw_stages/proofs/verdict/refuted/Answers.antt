@@ -38,4 +38,4 @@ returns-in-Ok-clause-due g c =
     )
 
 pub returns-in-Err-TooManyRows-clause-due : goal.returns-in-Err-TooManyRows-clause-due
-returns-in-Err-TooManyRows-clause-due g c = λ due e. inl (inr (c.requires.lost, c.in-Err-TooManyRows.ensures.many c.in-Err-TooManyRows.field-0-is), e)
+returns-in-Err-TooManyRows-clause-due g c = λ due e. inl (inr (c.requires.lost, c.in-Err-TooManyRows.ensures.there c.in-Err-TooManyRows.field-0-is), e)

@@ -65,4 +65,4 @@ returns-in_ok-marks-in-Ok-clause-due g c =
 
 pub returns-in-Err-TooManyRows-clause-due : goal.returns-in-Err-TooManyRows-clause-due
 returns-in-Err-TooManyRows-clause-due g c =
-    λ due e. inl (inl (c.requires.kept, c.in-Err-TooManyRows.ensures.many c.in-Err-TooManyRows.field-0-is), e)
+    λ due e. inl (inl (c.requires.kept, c.in-Err-TooManyRows.ensures.there c.in-Err-TooManyRows.field-0-is), e)

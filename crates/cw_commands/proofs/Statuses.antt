@@ -1,0 +1,94 @@
+-- Where no count rose no file went unread and nothing unwritten.
+use Rattle.std.proofs.Common.{◌≡◌, ◌≢◌, ◌⊎◌, ℕ, List, [], Option, Some, refl, sym, ◌∙◌, inl, inr, subst, arith}
+use Rattle.std.specs.Prelude.{Contains, slice_get}
+use Rattle.std.proofs.lemmas.Option.{slice_get_within, slice_get-get_or, same_Some}
+use Rattle.cw_core.specs.declared.quantity.Quantity.{Quantity}
+use Rattle.cw_io.specs.Causes.{Rose}
+use Rattle.cw_io.specs.Files.{FilesByName}
+use Rattle.cw_commands.specs.declared.ending.Ending.{Ending}
+use Rattle.cw_commands.specs.declared.ending.Ending.TheVariants.{Put, Refused as RefusedEnd, TooLong, Unread, Unwritten, Memory}
+use Rattle.cw_commands.specs.declared.outcome.Reply.TheVariants.{Yes, No}
+use Rattle.cw_commands.specs.declared.outcome.Cause.TheVariants.{Source, Policy, Limit, Grammar}
+use Rattle.cw_commands.specs.Endings.{status_of}
+use Rattle.cw_commands.specs.Files.{HaveBytes, IsFileFault, IsUnread, first}
+use Rattle.cw_commands.specs.Outcomes.{Due, Told, Refused}
+use Rattle.cw_commands.specs.Runs.{Delivered, Ends}
+use Rattle.cw_commands.specs.Statuses.{NoneRose, IsText, Accepts, NeverFails, EndsWell, NeverFailsForSure}
+
+got : {A : Type 0} (xs : List A) (i : ℕ) (x : A) → slice_get xs i ≡ Some x → Contains xs x
+got xs i x e = let lt = slice_get_within xs i x e in (i, lt, same_Some _ x (sym (slice_get-get_or xs i x lt) ∙ e))
+
+module _ {N : Type 0} (IsDue : List (List ℕ) → Due → Type 0) (files : Option FilesByName) (counts counts' : List ℕ → ℕ) (old new : Option (List ℕ)) (faults faults' : ℕ)
+    (quantities : List Quantity) (names : List (List ℕ)) (none : NoneRose counts counts' names faults faults') where
+  unread_fails : (policy : List ℕ) (quantity : Quantity) (name : List ℕ) (ending : Ending N) → Contains names name → IsFileFault files counts counts' policy quantity name ending
+      → (status_of ending ≢ 6) × (status_of ending ≢ 7)
+  unread_fails policy quantity name (TooLong told) c f = ((λ e. cc), (λ e. cc))
+  unread_fails policy quantity name (Unread told) c f = absurd (none.files name c f.1)
+  unread_fails policy quantity name (Put reply) c f = absurd f
+  unread_fails policy quantity name (RefusedEnd cause words) c f = absurd f
+  unread_fails policy quantity name Unwritten c f = absurd f
+  unread_fails policy quantity name Memory c f = absurd f
+
+  delivered_fails : (due : Due) (ending : Ending N) → Delivered old new faults faults' due ending → (status_of ending ≢ 6) × (status_of ending ≢ 7)
+  delivered_fails (Told reply text) (Put Yes) d = ((λ e. cc), (λ e. cc))
+  delivered_fails (Told reply text) (Put No) d = ((λ e. cc), (λ e. cc))
+  delivered_fails (Told reply text) Unwritten d = absurd (none.output d.1)
+  delivered_fails (Told reply text) Memory d = ((λ e. cc), (λ e. cc))
+  delivered_fails (Told reply text) (RefusedEnd cause words) d = absurd d
+  delivered_fails (Told reply text) (TooLong told) d = absurd d
+  delivered_fails (Told reply text) (Unread told) d = absurd d
+  delivered_fails (Refused cause line) (RefusedEnd Source words) d = ((λ e. cc), (λ e. cc))
+  delivered_fails (Refused cause line) (RefusedEnd Policy words) d = ((λ e. cc), (λ e. cc))
+  delivered_fails (Refused cause line) (RefusedEnd Limit words) d = ((λ e. cc), (λ e. cc))
+  delivered_fails (Refused cause line) (RefusedEnd Grammar words) d = ((λ e. cc), (λ e. cc))
+  delivered_fails (Refused cause line) (Put reply) d = absurd d
+  delivered_fails (Refused cause line) Unwritten d = absurd d
+  delivered_fails (Refused cause line) Memory d = absurd d
+  delivered_fails (Refused cause line) (TooLong told) d = absurd d
+  delivered_fails (Refused cause line) (Unread told) d = absurd d
+
+  never : (ending : Ending N) → Ends IsDue files counts counts' old new faults faults' quantities names ending → (status_of ending ≢ 6) × (status_of ending ≢ 7)
+  never ending (inl m) = subst (λ (x : Ending N). (status_of x ≢ 6) × (status_of x ≢ 7)) (sym m.0) ((λ e. cc), (λ e. cc))
+  never ending (inr (inl u)) = let w = u.0 in unread_fails (first w.before) w.quantity w.name ending (got names w.place w.name w.is_name) w.fault
+  never ending (inr (inr d)) = delivered_fails d.1 ending d.4
+
+  abbrev Well : Ending N → Type 0
+  Well ending = (status_of ending ≡ 0) ⊎ ((status_of ending ≡ 1) ⊎ (status_of ending ≡ 8))
+
+  module _ (accepts : Accepts IsDue files quantities names) where
+    unread_well : (policy : List ℕ) (quantity : Quantity) (name : List ℕ) (ending : Ending N) → Contains names name → IsFileFault files counts counts' policy quantity name ending → Well ending
+    unread_well policy quantity name (TooLong told) c f = absurd (accepts.short policy quantity name c f.1)
+    unread_well policy quantity name (Unread told) c f = absurd (none.files name c f.1)
+    unread_well policy quantity name (Put reply) c f = absurd f
+    unread_well policy quantity name (RefusedEnd cause words) c f = absurd f
+    unread_well policy quantity name Unwritten c f = absurd f
+    unread_well policy quantity name Memory c f = absurd f
+
+    delivered_well : (due : Due) (ending : Ending N) → IsText due → Delivered old new faults faults' due ending → Well ending
+    delivered_well (Refused cause line) ending t d = absurd t
+    delivered_well (Told reply text) (Put Yes) t d = inl refl
+    delivered_well (Told reply text) (Put No) t d = inr (inl refl)
+    delivered_well (Told reply text) Unwritten t d = absurd (none.output d.1)
+    delivered_well (Told reply text) Memory t d = inr (inr refl)
+    delivered_well (Told reply text) (RefusedEnd cause words) t d = absurd d
+    delivered_well (Told reply text) (TooLong told) t d = absurd d
+    delivered_well (Told reply text) (Unread told) t d = absurd d
+
+    well : (ending : Ending N) → Ends IsDue files counts counts' old new faults faults' quantities names ending → Well ending
+    well ending (inl m) = subst Well (sym m.0) (inr (inr refl))
+    well ending (inr (inl u)) = let w = u.0 in unread_well (first w.before) w.quantity w.name ending (got names w.place w.name w.is_name) w.fault
+    well ending (inr (inr d)) = delivered_well d.1 ending (accepts.told d.0 d.1 d.2 d.3) d.4
+
+pub never_fails : (N : Type 0) (IsDue : List (List ℕ) → Due → Type 0) → NeverFails N IsDue
+never_fails N IsDue files counts counts' old new faults faults' quantities names ending ends none = never IsDue files counts counts' old new faults faults' quantities names none ending ends
+
+pub ends_well : (N : Type 0) (IsDue : List (List ℕ) → Due → Type 0) → EndsWell N IsDue
+ends_well N IsDue files counts counts' old new faults faults' quantities names ending ends none accepts =
+    well IsDue files counts counts' old new faults faults' quantities names none accepts ending ends
+
+not_risen : Rose 0 0 → ⊥
+not_risen h = omega (arith, h)
+
+pub never_for_sure : (N : Type 0) (IsDue : List (List ℕ) → Due → Type 0) → NeverFailsForSure N IsDue
+never_for_sure N IsDue files old new quantities names ending ends =
+    never IsDue files (λ name. 0) (λ name. 0) old new 0 0 quantities names (record { files = λ name c h. not_risen h; output = not_risen }) ending ends

@@ -1,0 +1,3 @@
+-- What is due for `procs`.
+pub mod Refusals
+pub mod Parting

@@ -1,0 +1,2 @@
+pub mod Worlding
+pub mod Held
