@@ -18,8 +18,8 @@ import sys
 import tempfile
 import threading
 
-from nonsense import COMMANDS, FILES, PLAIN
-from running import written
+from nonsense import FILES, OF_WOVEN, PLAIN, known
+from running import prepared, written
 
 LIBRARY = r"""
 #define _GNU_SOURCE
@@ -94,6 +94,7 @@ READ, OUT, NOTE = 0, 1, 2
 class Program:
     def __init__(self, command, folder):
         self.command, self.folder, self.wrong = command, folder, 0
+        self.known = known(command, folder)
         self.library = os.path.join(folder, "cut.so")
         written(folder, {"cut.c": LIBRARY})
         subprocess.run(["cc", "-O1", "-shared", "-fPIC", "-o", self.library, os.path.join(folder, "cut.c"), "-ldl"], check=True)
@@ -171,13 +172,13 @@ def odd_files(program):
     os.makedirs(os.path.join(folder, "folder"), exist_ok=True)
     written(folder, dict(FILES, policy=PLAIN, empty=""))
     for name in ("folder", "missing", "", "folder/x", "n" * 300, "n" * 5_000, "two\nlines", "policy/x"):
-        for command, roles in COMMANDS.items():
+        for command, roles in program.known.items():
             for role in roles:
                 words = [command] + [name if one == role else one for one in roles]
                 told, out, note, _ = program.ran(words)
                 program.tell((told, out, note) == (6, b"", b"read: %s\n" % name.encode()), words[:1], role, name[:20], told, note[:60])
     quantities = {"policy": "policy bytes", "source": "source bytes"}
-    for command, roles in COMMANDS.items():
+    for command, roles in program.known.items():
         for role in roles:
             words = [command] + ["/dev/zero" if one == role else one for one in roles]
             told, out, note, _ = program.ran(words)
@@ -203,10 +204,11 @@ def odd_files(program):
 def main():
     if len(sys.argv) != 2:
         sys.exit(__doc__)
+    prepared()
     with tempfile.TemporaryDirectory() as folder:
         program = Program(shlex.split(sys.argv[1]), folder)
-        for command, roles in COMMANDS.items():
-            policy = PLAIN if command in ("check", "run") else FILES["policy"]
+        for command, roles in program.known.items():
+            policy = PLAIN if command in OF_WOVEN else FILES["policy"]
             written(folder, dict(FILES, policy=policy, tape="skip try" if command == "play" else FILES["tape"]))
             for last in ("", "missing"):
                 words = [command] + list(roles[:-1]) + [last or roles[-1]]

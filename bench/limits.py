@@ -15,6 +15,7 @@ import shlex
 import sys
 import tempfile
 
+from nonsense import known
 from running import prepared, ran, written
 
 RIGHTS = ["CAP_READ", "CAP_WRITE", "CAP_SEEK", "CAP_FSTAT", "CAP_FTRUNCATE", "CAP_FSYNC", "CAP_FCNTL", "CAP_IOCTL", "CAP_EVENT", "CAP_ACCEPT", "CAP_LISTEN", "CAP_LOOKUP"]
@@ -82,10 +83,10 @@ def nested(before, middle, after, count):
 
 
 class Woven:
-    """A run of `check` or `run` on what `weave` writes for a pair, edited."""
+    """A run of `check`, or with a tape of `run`, `values` or `world`, on what `weave` writes for a pair, edited."""
 
-    def __init__(self, text, source, edit=lambda woven: woven, tape=None):
-        self.text, self.source, self.edit, self.tape = text, source, edit, tape
+    def __init__(self, text, source, edit=lambda woven: woven, tape=None, command="run"):
+        self.text, self.source, self.edit, self.tape, self.command = text, source, edit, tape, command
 
 
 def bytes_of_files():
@@ -99,6 +100,12 @@ def bytes_of_files():
         yield "file bytes", [("check", {"p": text, "t": " " * size}) for size in (most, most + 1)]
         yield "file bytes", [Woven(text, EMPTY, tape=padded(" on grant" * (most // 9), size, "\n")) for size in (most, most + 1)]
     yield "file bytes", [refute(policy(version=version), EMPTY, " " * 16_777_217) for version in (2, 1)]
+    for version, most in ((1, 16_777_216), (2, 33_554_432)):
+        text = policy(version=version)
+        yield "file bytes", [Woven(text, EMPTY, tape=padded("0 on\n" * (most // 5), size, "\n"), command="world") for size in (most, most + 1)]
+        answers = "capweave answers 1\n" + "call -9\n" * ((most - 23) // 8)
+        yield "file bytes", [Woven(text, EMPTY, tape=padded(answers, size - 4, "x") + "end\n", command="values") for size in (most, most + 1)]
+        yield "file bytes", [("reaudit", {"p": text, "s": EMPTY, "t": "capweave audit 1\n" + " " * (size - 17)}) for size in (most, most + 1)]
 
 
 def parts_of_policies():
@@ -180,8 +187,56 @@ def rows():
     yield "rows", [("check", {"p": policy(), "t": table(live[:count])}) for count in (65_535, 65_536)]
 
 
+def forms():
+    """Calls that aren't waited for: each adds 32 bytes, four points, and four statements around it."""
+    text = policy('detached = ["f"]\n', version=2)
+    called = "void f(int x){}int main(void){"
+    one = called + "f(1);return 0;}"
+    yield "source bytes", [("procs", {"p": text, "s": padded(one, size, " ")}) for size in (262_112, 262_113)]
+    yield "nesting", [("procs", {"p": text, "s": called + "{" * deep + "f(1);" + "}" * deep + "return 0;}"}) for deep in (59, 60)]
+    yield "points", [("procs", {"p": text, "s": called + "f(1);" * calls + "return 0;}"}) for calls in (1_637, 1_638)]
+
+
+def doubling(functions, main):
+    """Functions each of which calls the next one twice, the last a step; `main` is told how many moves a call of each takes."""
+    made = ["void f%d(int x);" % number for number in range(functions)]
+    made += ["void f%d(int x){f%d(1);f%d(1);}" % (number, number + 1, number + 1) for number in range(functions - 1)] + ["void f%d(int x){;}" % (functions - 1)]
+    inside = [2]
+    while len(inside) < functions:
+        inside.insert(0, 1 + 2 * (inside[0] + 2))
+    return "\n".join(made) + "\n" + main(lambda number: inside[number] + 2)
+
+
+def nearest(moves, functions=14):
+    """A source whose one violation comes after so many moves: calls of doubling functions, and steps."""
+
+    def main(cost):
+        left, calls = moves - 1, ""
+        for number in range(functions):
+            while left >= cost(number):
+                calls, left = calls + "f%d(1);" % number, left - cost(number)
+        return "int main(void){%s%sa:;return 0;}\n" % (calls, ";" * left)
+
+    return doubling(functions, main)
+
+
+def looped(steps, behind, length, first=0, bad=False):
+    """A pair whose audit has first + (length + 2) * (steps + behind + 5) rows, none of which violates; or with `bad` a violation, and first + length * (steps + behind + 5) - 1 rows."""
+    source = "int main(void){%swhile(c){%sa:;}%sreturn 0;%s}\n" % (";" * first, ";" * steps, ";" * behind, "" if bad else "b:;")
+    return policy(rules(" ".join(["a"] * length) + ("" if bad else " b"))), source
+
+
+def audits():
+    for command in ("audit",):
+        yield "rows", [(command, dict(zip("ps", looped(1_000, 19, 62, first)))) for first in (0, 1)]
+        yield "rows", [(command, dict(zip("ps", looped(1_000, 35, 63, first, True)))) for first in (17, 18)]
+        yield "audit moves", [(command, {"p": policy(at("a", "never", "amb")), "s": nearest(moves)}) for moves in (65_536, 65_537)]
+        far = doubling(100, lambda cost: "int main(void){f0(1);%sa:;return 0;}\n" % (";" * 30))
+        yield "audit moves", [(command, {"p": policy(at("a", key, "amb")), "s": far}) for key in ("must", "never")]
+
+
 def gathered():
-    for make in (bytes_of_files, parts_of_policies, parts_of_sources, states, cells, rows):
+    for make in (bytes_of_files, parts_of_policies, parts_of_sources, states, cells, rows, forms, audits):
         yield from make()
 
 
@@ -191,6 +246,7 @@ class Run:
     def __init__(self, asked):
         self.asked, self.wrong = asked, 0
         self.folder = tempfile.mkdtemp(prefix="limits-")
+        self.takes = known(shlex.split(asked.program), self.folder)
         self.commands = [shlex.split(asked.program)] + ([shlex.split(asked.against)] if asked.against else [])
 
     def made(self, case):
@@ -202,10 +258,12 @@ class Run:
         files = {"p": case.text, "t": case.edit(woven.out)}
         if case.tape is None:
             return "check", files
-        return "run", dict(files, u=case.tape)
+        return case.command, dict(files, u=case.tape)
 
     def case(self, quantity, case, past):
         command, files = self.made(case)
+        if command not in self.takes:
+            return
         if command == "graph":
             files = {"s": files["s"]}
         written(self.folder, files)
@@ -227,8 +285,8 @@ def main():
     read.add_argument("--against")
     read.add_argument("--only", default="")
     read.add_argument("--seconds", type=float, default=900)
-    run = Run(read.parse_args())
     prepared()
+    run = Run(read.parse_args())
     pairs = 0
     for quantity, cases in gathered():
         if run.asked.only in quantity:

@@ -27,7 +27,11 @@ TABLE = '/*cw{*/\n#include "capweave.h"\n#define CW_LIMITS(X)\nCW_TABLE(1,4,0)\n
 LIVE = "".join("CW_LIVE(%d,%d)\n" % pair for pair in ((0, 0), (2, 0), (3, 0), (4, 0), (5, 1), (6, 2), (7, 2), (8, 2)))
 WOVEN = TABLE + LIVE + "CW_TRY(1,0,0,1,CW_NONE)\nCW_AT(1,1,2)\nCW_DONE\n/*}cw*/int main(void){/*cw{*/CW_ENTRY(0);/*}cw*/a:/*cw{*/CW_LABEL(1)/*}cw*/;return 0;}"
 
-FILES = {"policy": POLICY, "source": SOURCE, "strategy": STRATEGY, "woven": WOVEN, "tape": "on grant on on on on"}
+ANSWERS = "capweave answers 1\nname argc 1\nname argv -2\ntry grant\ntry refuse\ncall 7\ncall -9\nend\n"
+STEPS = "0 on\n0 grant\n0 on\n0 on\n"
+AUDIT = "capweave audit 1\nstates 4\nviolates 1\non\nin 0 0 0\nat 2 0 0\nend\n"
+FILES = {"policy": POLICY, "source": SOURCE, "strategy": STRATEGY, "woven": WOVEN, "tape": "on grant on on on on", "answers": ANSWERS, "steps": STEPS, "audit": AUDIT}
+OF_WOVEN = ("check", "run", "values", "world")
 COMMANDS = {
     "weave": ("policy", "source"),
     "graph": ("source",),
@@ -35,6 +39,11 @@ COMMANDS = {
     "refute": ("policy", "source", "strategy"),
     "run": ("policy", "woven", "tape"),
     "play": ("policy", "source", "strategy", "tape"),
+    "values": ("policy", "woven", "answers"),
+    "procs": ("policy", "source"),
+    "world": ("policy", "woven", "steps"),
+    "audit": ("policy", "source"),
+    "reaudit": ("policy", "source", "audit"),
 }
 LONGEST = {"policy": 65_536, "source": 262_144}
 BEGINNINGS = {
@@ -43,6 +52,9 @@ BEGINNINGS = {
     "strategy": ("", "capweave strategy 1\nstates 4\n", STRATEGY[: STRATEGY.index("end")], STRATEGY[:-5] + " "),
     "woven": ("", "/*cw{*/\n", TABLE, WOVEN[: WOVEN.index("return")], WOVEN),
     "tape": ("", "on grant "),
+    "answers": ("", "capweave answers 1\n", ANSWERS[: ANSWERS.index("try")], ANSWERS[: ANSWERS.index("end")], ANSWERS),
+    "steps": ("", "0 on\n", STEPS),
+    "audit": ("", "capweave audit 1\nstates 4\n", AUDIT[: AUDIT.index("in 0")], AUDIT[: AUDIT.index("end")], AUDIT),
 }
 PIECES = ["\0", "\x7f", "\x1b", " ", "\n", "\t", "\r\n", "\v", "a", "A_", "0", "9", "0x", "1e9", "1.", "0-1+", "#", "#include\n", "#define ", '"', "'", "\\", "/", "*", "/*", "*/", "//", "/* */"]
 PIECES += ["(", ")", "[", "]", "{", "}", "()", "[]", "{}", ";", ",", ":", "=", "-", "- ", "!", "~", "&", "|", "+", "*a", "<", "?", ".", "@", "a:", "a=", "a=1\n", "a,", "a ", "a.", "a|", "a\n", "(a", "(a)*"]
@@ -50,6 +62,7 @@ PIECES += ["if(c)", "if(c);else ", "else ", "while(c)", "do ", "for(;;)", "for("
 PIECES += ["{int x;", "int a;", "int*", "int f(void);", "int f(int x,", "void f(void){}", "static ", "const ", "unsigned ", "main", "main();", "close(0);", "cw_", "'a'", '"a"', '"""', "'''", '"a",']
 PIECES += ["[a]\n", "[[a]]\n", "[[rule]]\n", "[[at]]\n", "[[limit]]\nkeep=[]\n", "a={", "a=[", "a.b=", "a=1979-05-27T07:32:00Z\n", "\\u0041", "\\x41", "inf", "true,", "[!amb]", "0:CAP_READ,", "format = 1\n"]
 PIECES += ["0 0 0 0x0 bad\n", "0 0 0 0x", "0 0 0 0x0 into 0 0=0 ", " 0=0", "0x0f", "CW_LIVE(0,0)\n", "CW_MEM(0,0,0xf)\n", "CW_MEM(0,0,0x", "CW_DONE\n", "CW_NONE", "/*cw{*/", "/*}cw*/", "/*cw{*/\n", "/*cw{*/CW_ENTRY(0);/*}cw*/", "cw{*", "*}cw"]
+PIECES += ["0 on\n", "0 fork\n", "0 0\n", "name a 0\n", "name a -1\n", "try grant\n", "call 1\n", "call -9223372036854775808\n", "meets\n", "violates 1\n", "in 0 0 0\n", "at 2 0 0\n", "fork();", "_exit(0);"]
 PIECES += ["on ", "on\n", "grant ", "refuse ", "left right ", "skip ", "try ", "on\0", "capweave strategy 1\n", "end\n"]
 RAW = {"high": b"\xff", "tail": b"\x80", "two": "\u00e9".encode(), "four": "\U0001f600".encode(), "mark": b"\xef\xbb\xbf", "surrogate": b"\xed\xa0\x80", "long": b"\xc0\x80"}
 
@@ -64,6 +77,11 @@ def kinds(chance, size):
     yield "random text", bytes(chance.choices(range(32, 127), k=size))
     for blank in ("", " ", "\n"):
         yield "random pieces" + repr(blank), blank.join(chance.choices(PIECES, k=size // 2)).encode()[:size]
+
+
+def known(program, folder):
+    """The commands that a program takes."""
+    return {name: roles for name, roles in COMMANDS.items() if not ran(program + [name], folder).note.startswith(b"usage: capweave COMMAND")}
 
 
 def is_of_form(got):
@@ -88,12 +106,12 @@ def main():
     stacks = [int(size) for size in asked.stack.split(",")]
     folder = tempfile.mkdtemp(prefix="nonsense-")
     counts, wrong, slowest, largest = collections.Counter(), 0, (0, ""), (0, "")
-    for command, roles in COMMANDS.items():
-        written(folder, {role: PLAIN if role == "policy" and command in ("check", "run") else FILES[role] for role in roles})
+    for command, roles in known(program, folder).items():
+        written(folder, {role: PLAIN if role == "policy" and command in OF_WOVEN else FILES[role] for role in roles})
         for role in roles:
             if asked.only not in command + " " + role:
                 continue
-            good = PLAIN if role == "policy" and command in ("check", "run") else FILES[role]
+            good = PLAIN if role == "policy" and command in OF_WOVEN else FILES[role]
             for beginning in BEGINNINGS[role]:
                 most = min(asked.bytes, LONGEST.get(role, asked.bytes))
                 for size in {most, most if beginning else asked.bytes}:

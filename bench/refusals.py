@@ -62,7 +62,12 @@ SPLITS += '[[at]]\nlabel = "l"\nnever = ["amb"]\n[[at]]\nlabel = "m"\nmust = ["a
 OPENS = "int fd;int f(int x){l:;return x;}int main(void){int y;fd=o();y=f(1);m:;close(fd);return 0;}"
 STOPS = POLICY.replace("1\n", '1\nrefusable = ["enter"]\non_refusal = "stop"\n', 1)
 MOVES = "on on on left on grant on on on on"
-# A command, its policy and source, and for `check`, `refute`, `run` and `play` the tape and an edit of what `weave` writes for them.
+CALLS = "int k;int f(int x){l:;put(x,k);return x+1;}int main(int argc){int y=argc*2;int a[3]={1,2};y=f(y);m:;put(y,a[2],\"t\");return 0;}"
+ANSWERS = "capweave answers 1\nname argc 3\ntry grant\ntry grant\ncall 7\ncall -1\nend\n"
+DETACHED = 'format = 2\ndetached = ["f"]\n[[at]]\nlabel = "l"\nnever = ["amb"]\n[[at]]\nlabel = "m"\nmust = ["amb"]\n'
+LEAVES = "void f(int x){l:;}int main(void){f(1);m:;f(2);return 0;}"
+STEPS = "0 on\n0 fork\n0 on\n0 fork\n1 on\n1 on\n1 grant\n2 on\n"
+# A command, its policy and source, and for the others the last file and an edit of what `weave` writes for them (`procs` for `world`, `audit` for `reaudit`).
 RUNS = [
     ("weave", POLICY, GOOD),
     ("weave", POLICY, BAD),
@@ -90,6 +95,21 @@ RUNS = [
     ("play", POLICY, BAD, "skip try skip try skip try skip try", ("", "")),
     ("play", SPLITS.replace("limit", "split", 1), OPENS, "try " * 12, ("", "")),
     ("play", POLICY, BAD, "try\ntry\ngrant", ("", "")),
+    ("values", POLICY, GOOD, ANSWERS, ("", "")),
+    ("values", SPLITS.replace('refusable = ["limit"]\n', "").replace('[[descriptor]]\nname = "fd"\n[[limit]]\ndescriptor = "fd"\nkeep = ["CAP_READ"]\n', ""), CALLS, ANSWERS, ("", "")),
+    ("values", POLICY, GOOD, ANSWERS.replace("call 7", "call 07"), ("", "")),
+    ("procs", DETACHED, LEAVES),
+    ("procs", DETACHED.replace("never", "must", 1).replace("must = [\"amb\"]\n", "never = [\"amb\"]\n", 1), LEAVES.replace("m:;", "m:;fork();")),
+    ("world", DETACHED, LEAVES, STEPS, ("", "")),
+    ("world", DETACHED, LEAVES, STEPS + "9 on\n", ("", "")),
+    ("world", DETACHED, LEAVES, STEPS + "9 off\n", ("", "")),
+    ("audit", POLICY, GOOD),
+    ("audit", SPLITS, OPENS),
+    ("audit", POLICY.replace("never", "must", 1), BODY % ("opened:f(2);", "served:;")),
+    ("reaudit", POLICY, GOOD, "", ("", "")),
+    ("reaudit", SPLITS, OPENS, "", ("", "")),
+    ("reaudit", POLICY, GOOD, "", ("at 2 0 0", "at 2 0 1")),
+    ("reaudit", POLICY, GOOD, "", ("at 2 0 0", "at 2 0 00")),
 ]
 
 
@@ -100,10 +120,11 @@ def files_of(program, folder, policy, source, more):
     if not more:
         return list(texts)
     command, tape, (old, new) = more
-    woven = subprocess.run([program, "weave", "policy.toml", "source.c"], cwd=folder, stdout=subprocess.PIPE).stdout
+    maker = {"world": "procs", "reaudit": "audit"}.get(command, "weave")
+    woven = subprocess.run([program, maker, "policy.toml", "source.c"], cwd=folder, stdout=subprocess.PIPE).stdout
     written(folder, {"text": woven.replace(old.encode(), new.encode(), 1), "tape": tape})
-    names = ["policy.toml"] + (["source.c"] if command in ("refute", "play") else []) + ["text"]
-    return names + (["tape"] if command in ("run", "play") else [])
+    names = ["policy.toml"] + (["source.c"] if command in ("refute", "play", "reaudit") else []) + ["text"]
+    return names + (["tape"] if command in ("run", "play", "values", "world") else [])
 
 
 def ran(library, words, refused):
@@ -130,7 +151,8 @@ def main():
             file.write(LIBRARY)
         subprocess.run(["cc", "-O1", "-shared", "-fPIC", "-o", library, code, "-ldl"], check=True)
         for number, (command, policy, source, *more) in enumerate(RUNS):
-            if command not in (sys.argv[2:] or command):
+            usage = subprocess.run([program, command], stderr=subprocess.PIPE).stderr
+            if command not in (sys.argv[2:] or command) or usage.startswith(b"usage: capweave COMMAND"):
                 continue
             names = files_of(program, folder, policy, source, [command] + more if more else [])
             words = [program, command] + [os.path.join(folder, name) for name in names]
