@@ -171,7 +171,34 @@ tool_tried() {
     done
 }
 
-# One that leaves a process behind belongs here as soon as `detached` is woven.
+# One tool that leaves processes behind: what they wrote is compared once they have ended, which is within ten seconds.
+left_behind() {
+    local here=$work/serve woven=$work/serve.woven.c tried= compiler kind turn
+    mkdir -p "$here/plain.d"
+    "$program" procs serve.toml serve.c >"$woven" || fail "procs serve.toml serve.c"
+    [ "$("$program" check serve.toml "$woven")" = yes ] || fail "check serve.toml"
+    [ -z "$keep" ] || cp "$woven" serve.woven.c
+    cmp serve.woven.c "$woven" || fail "serve.woven.c is not what is woven today"
+    $first $flags -Wno-unused-label -o "$here/plain" serve.c || fail "$first serve.c"
+    printf 'one\ntwo words\n<three>\n\nfour\n' >"$here/requests"
+    (cd "$here/plain.d" && ../plain <../requests) || fail "serve"
+    for compiler in $compilers; do
+        for kind in books ${enforcing:+enforced}; do
+            rm -rf "$here/woven.d" && mkdir "$here/woven.d"
+            $compiler $flags -o "$here/$kind" "$woven" "$(header $compiler $kind)" || fail "$compiler serve $kind"
+            (cd "$here/woven.d" && "../$kind" <../requests) || fail "serve, $compiler, $kind"
+            for turn in $(seq 100); do
+                diff -r "$here/plain.d" "$here/woven.d" >"$here/differs" && break
+                sleep 0.1
+            done
+            diff -r "$here/plain.d" "$here/woven.d" || fail "serve, $compiler, $kind: what it writes differs"
+            tried="$tried $compiler/$kind"
+        done
+    done
+    echo "tool serve:$tried"
+}
+left_behind
+
 tools="lines find split head wc tee"
 for tool in $tools; do
     tool_tried $tool >"$work/$tool.told" 2>&1 &
