@@ -210,6 +210,193 @@ row("same: no woven text", "same s.c s.c", {"s.c": ONE}, 9, ["s.c:1:1: error: a 
 row("same: an open part", "same w.c s.c", {"w.c": "/*cw{*/\n/*}cw*/int x;/*cw{*/", "s.c": "int x;"}, 9, ["w.c:2:14: error: this insertion isn't closed by /*}cw*/"])
 row("same: a part of another hand", "same w.c s.c", {"w.c": "/*cw{*/\n/*}cw*/int x;/*cw{*/int y;/*}cw*/", "s.c": "int x;"}, 9, ["w.c:2:14: error: this is no mark that capweave writes"])
 
+# -- audits
+
+OPENS = "int fd = -1;\nint f(int x)\n{\nb:\n    return x;\n}\nint main(void)\n{\n    if (c)\n        return 1;\n    fd = get();\n    f(1);\na:\n    close(fd);\n    return 0;\n}\n"
+ALWAYS = policy(at("a", must="amb"))
+DOUBLED = "void f0(void){;}\n" + "".join("void f%d(void){f%d();f%d();}\n" % (number, number - 1, number - 1) for number in range(1, 16)) + "int main(void){f15();a:;return 0;}\n"
+ONE_AUDIT, ALWAYS_AUDIT = ("audit", NEVER, ONE), ("audit", ALWAYS, ONE)
+row("audit", "audit p.toml s.c", {"p.toml": NEVER, "s.c": ONE}, 1, [
+    "s.c:1:16: error: the label a is passed with amb held: violates p.toml:4 (never amb); 1 move from the start", "s.c:1:16: note: 1. label a: ambient"], out=True)
+row("audit: whole", "audit p.toml s.c", {"p.toml": NEVER, "s.c": ONE}, 1, [
+    "s.c:1:16: error: the label a is passed with amb held: violates p.toml:4 (never amb); 1 move from the start", "    1 | int main(void){a:;return 0;}", "      |                ^~",
+    "s.c:1:16: note: 1. label a: ambient", "    1 | int main(void){a:;return 0;}", "      |                ^~"], out=True, whole=True)
+row("audit: it meets", "audit p.toml s.c", {"p.toml": ALWAYS, "s.c": ONE}, 0, ["s.c: note: it meets the policy as it is: no run violates a rule"], out=True)
+row("audit: into a file", "audit p.toml s.c -o a", {"p.toml": NEVER, "s.c": ONE}, 1, ["s.c:1:16: error: the label a is passed with amb held .."], out=True, front=True, left=["a"])
+row("audit: into its policy", "audit p.toml s.c -o p.toml", {"p.toml": NEVER, "s.c": ONE}, 2, ["capweave-tell: error: 'p.toml' is read here, and can't be written too"])
+row("audit: moves in lines of the source", "audit p.toml s.c", {"p.toml": policy(descriptor("fd"), limit("fd"), at("a", never="fd:CAP_READ"), at("b", must="amb")), "s.c": OPENS}, 1, [
+    "s.c:13:1: error: the label a is passed with fd:CAP_READ held: violates p.toml:9 (never fd:CAP_READ); 8 moves from the start",
+    "s.c:9:5: note: 1. the condition doesn't hold",
+    "s.c:11:5: note: 2. open of fd: it succeeds",
+    "s.c:12:5: note: 3. call of f",
+    "s.c:4:1: note: 4. label b: ambient, fd open with all rights",
+    "s.c:6:1: note: 5. f ends",
+    "s.c:13:1: note: 6. label a: ambient, fd open with all rights"], out=True)
+row("audit: what is held and what isn't", "audit p.toml s.c", {"p.toml": policy(descriptor("fd"), at("a", never="amb;!fd:CAP_READ", must="fd:CAP_WRITE")), "s.c": "int fd = -1;" + ONE}, 1, [
+    "s.c:1:28: error: the label a is passed with amb held and without fd:CAP_WRITE and fd:CAP_READ: violates p.toml:7 (must fd:CAP_WRITE), p.toml:6 (never amb, never !fd:CAP_READ); 1 move from the start",
+    "s.c:1:28: note: 1. label a: ambient, fd closed"], out=True)
+row("audit: a rule", "audit p.toml s.c", {"p.toml": policy(rule("a b", "both")), "s.c": TWO}, 1, [
+    "s.c:1:19: error: the label b is passed: violates p.toml:4 (both); 3 moves from the start", "s.c:1:16: note: 1. label a: ambient", "s.c:1:19: note: 2. label b: ambient"], out=True)
+row("audit: a long way", "audit p.toml s.c", {"p.toml": NEVER, "s.c": "int main(void){" + "if(c){return 0;}" * 61 + "a:;return 0;}"}, 1, [
+    "s.c:1:992: error: the label a is passed with amb held: violates p.toml:4 (never amb); 62 moves from the start", "s.c:1:992: note: 62. label a: ambient"], out=True)
+row("audit: detached functions are called", "audit p.toml s.c", {"p.toml": policy(at("a", never="amb"), head='detached = ["f"]\n', version="2"), "s.c": CALLED.replace("y=f", "f")}, 1, [
+    "s.c:1:14: error: the label a is passed with amb held: violates p.toml:5 (never amb); 4 moves from the start", "s.c:2:22: note: 1. call of f", "s.c:1:14: note: 2. label a: ambient"], out=True)
+row("audit: faults", "audit p.toml s.c", {"p.toml": policy(at("z", never="amb"), head='detached = ["q"]\n', version="2"), "s.c": ONE}, 4, ["p.toml:4:9: error: no label 'z' in s.c; its labels are a"])
+row("audit: limit: audit moves", "audit p.toml s.c", {"p.toml": NEVER, "s.c": DOUBLED}, 5, ["s.c:1:1: error: over the limit of audit moves: the nearest violation is more than 65,536 moves away"])
+row("reaudit", "reaudit p.toml s.c a", {"p.toml": NEVER, "s.c": ONE, "a": ONE_AUDIT}, 0, [
+    "a: note: it is right: no run of s.c violates the policy in fewer moves than these",
+    "s.c:1:16: note: the label a is passed with amb held: violates p.toml:4 (never amb); 1 move from the start", "s.c:1:16: note: 1. label a: ambient"], out=True)
+row("reaudit: it meets", "reaudit p.toml s.c a", {"p.toml": ALWAYS, "s.c": ONE, "a": ALWAYS_AUDIT}, 0, ["a: note: it is right: no run of s.c violates the policy"], out=True)
+for name, before, after, told in (
+        ("1", "at 8 2 4\n", "at 8 4 4\n", ["a:9:1: error: condition 1: numbers are out of range or out of order, or the states aren't those of this policy and source", "s.c:1:28: note: the row stands for this: end of main, ambient"]),
+        ("1: the states", "states 4", "states 5", ["a:5:1: error: condition 1: numbers are out of range or out of order, or the states aren't those of this policy and source", "s.c:1:5: note: the row stands for this: entry of main, ambient"]),
+        ("2", "at 2 0 0\n", "at 2 0 1\n", ["a:5:1: error: condition 2: the function's own row is missing: its entry with the state of the group and 0, and for main a REACH of 0 .."]),
+        ("4", "at 8 2 4\n", "", ["a:8:1: error: condition 4: a move from here leads to a pair that has no row, or one whose number is more than one higher", "s.c:1:19: note: the row stands for this: return, ambient"])):
+    row("reaudit: condition " + name, "reaudit p.toml s.c a", {"p.toml": ALWAYS, "s.c": ONE, "a": ("audit", ALWAYS, ONE, before, after)}, 1, told, out=True, front=True)
+row("reaudit: condition 3", "reaudit p.toml s.c a", {"p.toml": NEVER, "s.c": ONE, "a": "capweave audit 1\nstates 4\nmeets\nin 0 0 0\nat 2 0 0\nat 5 0 1\nend\n"}, 1, [
+    "a:6:1: error: condition 3: the label there violates the policy", "s.c:1:16: note: the row stands for this: label a, ambient"], out=True)
+row("reaudit: condition 5", "reaudit p.toml s.c a", {"p.toml": ALWAYS, "s.c": CALLED.replace("y=f", "f"), "a": ("audit", ALWAYS, CALLED.replace("y=f", "f"), "in 0 0 3", "in 0 0 9")}, 1, [
+    "a:13:1: error: condition 5: the called function has no group here, or one that is farther; or the pair after its return has no row, or one that is farther",
+    "s.c:2:22: note: the row stands for this: call of f, ambient"], out=True)
+row("reaudit: condition 6", "reaudit p.toml s.c a", {"p.toml": NEVER, "s.c": ONE, "a": ("audit", NEVER, ONE, "1\non\n", "1\nleft\n")}, 1, ["a:3:1: error: condition 6: these moves don't come from the start to a violation"], out=True)
+row("reaudit: line", "reaudit p.toml s.c a", {"p.toml": NEVER, "s.c": ONE, "a": ("audit", NEVER, ONE, "in 0 0 0", "in 0 0")}, 9, ["a:5:1: error: this line isn't of the audit's form"])
+row("reaudit: a source's fault", "reaudit p.toml s.c a", {"p.toml": NEVER, "s.c": "int main(void){break;a:;return 0;}", "a": ONE_AUDIT}, 3, ["s.c:1:16: error: `break` stands in no loop"])
+row("reaudit: file bytes", "reaudit p.toml s.c a", {"p.toml": NEVER, "s.c": ONE, "a": " " * 16777217}, 5, ["a:1:1: error: over the limit of file bytes: the file is too long"])
+
+# -- processes that nobody waits for
+
+LEAVES = "#include <unistd.h>\nvoid f(int x)\n{\na:\n    work(x);\n}\nint main(void)\n{\n    f(1); b: ;\n    return 0;\n}\n"
+LEFT = policy(at("a", never="amb"), at("b", must="amb"), head='detached = ["f"]\n', version="2")
+TORN = policy(at("a", never="amb"), at("b", must="amb"), rule(".* a[!amb]", "never-tried"), head='detached = ["f"]\n', version="2")
+PROCS = ("procs", LEFT, LEAVES)
+LEFT_TOLD = ["s.c:4:1: note: label a: enter; for p.toml:5 (never amb)", "s.c:9:5: note: call of f: in a process of its own that nobody waits for"]
+
+
+def left_by(name, text, told, code=LEAVES, status=4, word="procs"):
+    row("procs: " + name, word + " p.toml s.c", {"p.toml": text, "s.c": code}, status, told, out=word == "explain")
+
+
+row("procs", "procs p.toml s.c -o w.c", {"p.toml": LEFT, "s.c": LEAVES}, 0, LEFT_TOLD, left=["w.c"], gone=["w.c.strategy"])
+row("procs: without -o", "procs -q p.toml s.c", {"p.toml": LEFT, "s.c": LEAVES}, 0, ["/*cw{*/", '#include "capweave.h"', "#define CW_LIMITS(X)", "CW_TABLE(2,4,0) .."], out=True, front=True)
+row("procs: nothing to leave", "procs p.toml s.c -o w.c", {"p.toml": NEVER, "s.c": ONE}, 0, ["s.c:1:16: note: label a: enter; for p.toml:4 (never amb)"], left=["w.c"])
+row("procs: refuted", "procs p.toml s.c -o w.c", {"p.toml": TORN, "s.c": LEAVES, "w.c": "old"}, 1, [
+    "p.toml:5:10: error: no placement of calls can meet this policy: 'a never amb' and 'never-tried' can't both be met",
+    "p.toml:11:7: note: the rule 'never-tried'",
+    "s.c:9:5: note: 1. fork: on in the new process",
+    "s.c:9:5: note: 2. call of f",
+    "s.c:4:1: note: 3. label a: ambient; that violates 'a never amb'",
+    "p.toml:5:10: note: it can be woven without the test 'a never amb'",
+    "p.toml:11:7: note: it can be woven without the rule 'never-tried'",
+    "capweave-tell: note: the strategy is in 'w.c.strategy'; 'w.c' was older, and is removed"], left=["w.c.strategy"], gone=["w.c"])
+row("procs: explain", "explain p.toml s.c", {"p.toml": LEFT, "s.c": LEAVES}, 0, LEFT_TOLD + [
+    "s.c:4:1: note: without what is inserted, the shortest run that violates the policy: the label a is passed with amb held: violates p.toml:5 (never amb); 4 moves from the start",
+    "s.c:9:5: note: 1. fork: on in the new process", "s.c:9:5: note: 2. call of f", "s.c:4:1: note: 3. label a: ambient"], out=True)
+row("procs: warn", "warn p.toml s.c", {"p.toml": LEFT, "s.c": LEAVES}, 0, [], out=True)
+row("procs: warn: what a form needs", "warn p.toml s.c", {"p.toml": LEFT, "s.c": LEAVES.replace("#include <unistd.h>", "").replace("work(x)", 'printf("%d", x)')}, 0, [
+    "s.c:5:5: warning: 'f' runs in a process that ends by `_exit`: what 'printf' leaves in a buffer is lost, unless `fflush` follows",
+    "s.c:7:5: warning: the form calls `fork` and `_exit`, and nothing declares them: write `#include <unistd.h>`"], out=True)
+row("procs: warn: it flushes", "warn p.toml s.c", {"p.toml": LEFT, "s.c": LEAVES.replace("work(x)", 'printf("%d", x);fflush(stdout)')}, 0, [], out=True)
+row("procs: an open behind the call", "warn p.toml s.c", {"p.toml": policy(descriptor("fd"), at("b", never="amb"), head='detached = ["f"]\n', version="2"),
+    "s.c": "#include <unistd.h>\nint fd = -1;\nvoid f(int x){work(x);}\nint main(void){f(1); b:; fd = get(); return 0;}\n"}, 0, [
+    "s.c:4:26: warning: the open of 'fd' is reached in capability mode, where it fails (ECAPMODE); no placement keeps a label before it ambient (`must = [\"amb\"]`)",
+    "p.toml:4:8: warning: no rule speaks of descriptor 'fd'"], out=True)
+left_by("names of the form", LEFT, ["s.c:5:5: error: `fork` and `_exit` stand in the form alone, which `procs` makes; leave the call to `detached`, or put what forks into another file",
+    "s.c:10:5: error: `fork` and `_exit` stand in the form alone, which `procs` makes; leave the call to `detached`, or put what forks into another file"], LEAVES.replace("work(x)", "fork()").replace("return 0", "_exit(0)"), 3)
+left_by("a result that is taken", LEFT, ["s.c:9:13: error: nobody waits for this call, so its result can't be taken; write `f(..);` alone, or leave 'f' out of `detached`"],
+        LEAVES.replace("void f", "int f").replace("f(1)", "int y; y = f(1)").replace("    int y; y", "int y;  y"), 3)
+left_by("several faults", policy(at("z", never="amb"), head='split = ["f"]\ndetached = ["f", "main", "k"]\n', version="2"), [
+    "p.toml:3:18: error: 'main' can't run in a process that nobody waits for",
+    "p.toml:3:26: error: no function 'k' in s.c; a function in `detached` has to be defined in the source",
+    "p.toml:3:13: error: 'f' is in `split` too, whose calls are waited for; leave it out of one of both",
+    "p.toml:2:10: note: `split` has it here",
+    "p.toml:5:9: error: no label 'z' in s.c; its labels are a, b"])
+left_by("a place that the form moves", policy(head='split = ["g"]\ndetached = ["f"]\n', version="2"), [
+    "s.c:1:41: error: 'g' can't run in a process of its own: it changes 'q', which is of the file's scope, and the change would stay in the child", "p.toml:2:10: note: `split` has it here"],
+        "int q;void f(int x){}void g(int x){f(x);q=1;}int main(void){g(1);return 0;}")
+left_by("a form that nests too deep", LEFT, ["s.c:9:66: error: over the limit of nesting: statements, expressions and the expressions of a policy nest at most 64 deep; in the form, which is woven, each call of a detached function has 4 levels more"],
+        LEAVES.replace("f(1);", "{" * 60 + "f(1);" + "}" * 60), 5)
+left_by("a form that is too long", LEFT, ["s.c:12:1: error: over the limit of source bytes: a source has at most 262,144 bytes; put a part of it into another file; in the form, which is woven, each call of a detached function has 32 bytes more"],
+        LEAVES.replace("f(1);", " " * 262020 + "f(1);"), 5)
+left_by("a form of too many points", LEFT, ["s.c:1:1: error: over the limit of points: a source has at most 8,192 points; put a part of it into another file; in the form, which is woven, each call of a detached function has 4 points more"],
+        LEAVES.replace("f(1);", "f(1);" * 1640), 5)
+row("form", "form p.toml s.c", {"p.toml": LEFT, "s.c": LEAVES}, 0, LEAVES.replace("f(1);", "{if(!fork()){f(1);_exit(0);for(;;);}}").split("\n")[:-1], out=True)
+row("form: into a file", "form p.toml s.c -o f.c", {"p.toml": LEFT, "s.c": LEAVES}, 0, [], left=["f.c"])
+row("form: into its source", "form p.toml s.c -o s.c", {"p.toml": LEFT, "s.c": LEAVES}, 2, ["capweave-tell: error: 's.c' is read here, and can't be written too"], left=["s.c"])
+row("form: of nothing", "form p.toml s.c", {"p.toml": NEVER, "s.c": ONE + "\n"}, 0, [ONE], out=True)
+row("form: a fault", "form p.toml s.c", {"p.toml": LEFT, "s.c": LEAVES.replace("work", "fork")}, 3, ["s.c:5:5: error: `fork` and `_exit` stand in the form alone .."], front=True)
+row("same: a form", "same w.c s.c", {"w.c": PROCS, "s.c": LEAVES}, 0, ["w.c: note: without its marks it is the form of s.c in which nobody waits for the call on line 9 (f)"], out=True)
+row("same: another form", "same w.c s.c", {"w.c": PROCS, "s.c": LEAVES.replace("0", "1")}, 1, ["w.c:43:5: error: the woven text isn't this source from here on", "s.c:9:5: note: the source has this here"], out=True)
+row("draw: a form's strategy", "draw strategy p.toml s.c --as mermaid", {"p.toml": TORN, "s.c": LEAVES}, 0, [], picture="mermaid")
+row("draw: a form's play", "draw play p.toml s.c", {"p.toml": TORN, "s.c": LEAVES}, 0, [], picture="svg")
+row("draw: a form's table", "draw table p.toml w.c --as html", {"p.toml": LEFT, "w.c": PROCS}, 0, [], picture="html")
+
+# -- worlds
+
+WOVEN_LEFT = {"p.toml": LEFT, "w.c": PROCS, "s.c": LEAVES}
+WORLD = "0 on\n0 fork\n1 on\n1 on\n1 grant\n1 on\n0 on\n1 on\n1 on\n1 on\n"
+
+
+def world(name, steps, status, told, **more):
+    row("world: " + name, "world p.toml w.c t" + (" --source s.c" if more.pop("given", True) else ""), dict(WOVEN_LEFT, t=steps), status, told, out=True, **more)
+
+
+world("processes in lines of the source", WORLD, 0, [
+    "s.c:9:5: note: process 0: fork: process 1 begins",
+    "s.c:9:11: note: process 0: label b: ambient",
+    "s.c:9:5: note: process 1: call of f",
+    "s.c:4:1: note: process 1: label a: try enter: granted",
+    "s.c:4:1: note: process 1: label a: in capability mode",
+    "s.c:6:1: note: process 1: f ends",
+    "s.c:9:10: note: process 1: it ends by _exit",
+    "t: note: 2 processes, of which 1 has ended",
+    "s.c:9:14: note: process 0 stands here"])
+world("in lines of the text", "0 on\n0 fork\n1 on\n", 0, [
+    "w.c:43:6: note: process 0: fork: process 1 begins", "w.c:43:67: note: process 0: label b: ambient", "w.c:43:42: note: process 1: call of f", "t: note: 2 processes",
+    "w.c:43:67: note: process 0 stands here", "w.c:36:6: note: process 1 stands here"], given=False)
+world("no steps", "", 0, ["t: note: 1 process", "s.c:7:5: note: process 0 stands here"])
+world("a process that isn't there", "0 on\n1 on\n", 1, ["t:2:1: error: this is no step: there is no process 1"])
+world("another move", "0 on\n0 left\n", 1, ["t:2:1: error: this is no step: process 0 doesn't do `left` here, but `fork`", "s.c:9:5: note: process 0 stands here"])
+world("an answer is due", "0 on\n0 fork\n1 on\n1 on\n1 on\n", 1, ["s.c:9:5: note: process 0: fork: process 1 begins", "s.c:9:11: note: process 0: label b: ambient", "s.c:9:5: note: process 1: call of f",
+      "t:5:1: error: this is no step: process 1 waits for `grant` or `refuse`: something is tried here", "s.c:4:1: note: process 1 stands here"])
+world("no answer is due", "0 on\n0 fork\n1 on\n1 on\n1 refuse\n", 1, ["s.c:9:5: note: process 0: fork: process 1 begins .."], front=True)
+world("it is over", "0 on\n0 fork\n0 on\n0 on\n0 on\n0 on\n0 on\n", 1, ["s.c:9:5: note: process 0: fork: process 1 begins", "s.c:9:11: note: process 0: label b: ambient", "s.c:11:1: note: process 0: it is over",
+      "t:7:1: error: this is no step: process 0 is over", "s.c:11:1: note: process 0 stands here"])
+row("world: line", "world p.toml w.c t", dict(WOVEN_LEFT, t="0 on\n0  on\n"), 9, ["t:2:1: error: this line isn't of the steps' form: a process's number, one blank, a move"])
+row("world: another source", "world p.toml w.c t --source s.c", dict(WOVEN_LEFT, **{"t": "0 on\n", "s.c": ONE}), 1, ["w.c: error: without its marks it isn't s.c, nor a form of it"])
+row("world: a table that isn't sound", "world p.toml w.c t", dict(WOVEN_LEFT, **{"t": "", "w.c": PROCS + ("CW_AT(4,0,2)", "CW_AT(4,0,0)")}), 1, ["w.c:1:1: error: the table isn't sound for its source: .."], front=True)
+row("world: woven: line", "world p.toml w.c t", dict(WOVEN_LEFT, **{"t": "", "w.c": PROCS + ("CW_MEM(1,1,", "CW_MEM(1,")}), 9, ["w.c:6:1: error: this line isn't of the table's form"])
+row("world: a policy of another text", "world p.toml w.c t", dict(WOVEN_LEFT, **{"t": "", "p.toml": LEFT.replace('"a"', '"z"')}), 4, ["p.toml:1:1: error: policy: no label z"])
+row("world: ended by a refusal", "world p.toml w.c t --source s.c", {"p.toml": policy(at("a", never="amb"), head='refusable = ["enter"]\non_refusal = "stop"\n'), "s.c": ONE,
+    "w.c": ("weave", policy(at("a", never="amb"), head='refusable = ["enter"]\non_refusal = "stop"\n'), ONE), "t": "0 on\n0 refuse\n"}, 0, [
+    "s.c:1:16: note: process 0: label a: try enter: refused", "s.c:1:16: note: process 0: it ends, since that was refused", "t: note: 1 process, of which 1 has ended"], out=True)
+
+# -- runs over numbers, where the program has them
+
+VALUED = "int f(int x)\n{\na:\n    return x + 1;\n}\nint main(void)\n{\n    int y;\n    y = f(get());\nb:\n    put(y);\n    put(1 / (y - 8));\n    return 0;\n}\n".replace("f(get())", "f(7)")
+WOVEN_VALUED = {"p.toml": SPLIT, "w.c": ("weave", SPLIT, VALUED), "s.c": VALUED}
+
+
+def valued(name, answers, status, told, code=VALUED, rules=SPLIT):
+    row("values: " + name, "values p.toml w.c n --source s.c", {"p.toml": rules, "w.c": ("weave", rules, code), "s.c": code, "n": "capweave answers 1\n" + answers + "end\n"}, status, told, out=True)
+
+
+valued("where it stops", "call 3\n", 1, ["s.c: note: put(8) = 3", "s.c:12:9: error: it stops here: this divides by 0; 2 tries are made"])
+valued("no answer is left", "", 1, ["s.c:11:5: error: it stops here: no answer is left for this call; it takes one line `call VALUE` more; 2 tries are made"])
+valued("to the end", "call 3\n", 0, ["s.c:3:5: note: put(2) = 3", "w.c: note: it ends; 0 tries are made"], "int main(void)\n{\n    put(2);\n    return 0;\n}\n", EMPTY)
+valued("steps", "", 1, ["w.c: error: it hasn't ended after 1,000,000 steps; 0 tries are made"], "int main(void){for(;;);return 0;}", EMPTY)
+valued("refused", "try refuse\n", 1, ["s.c:1:16: error: it ends here, since what is tried was refused; 1 try is made"], ONE, policy(at("a", never="amb"), head='refusable = ["enter"]\non_refusal = "stop"\n'))
+for name, code, told in (("form", "v = sizeof v;", "s.c:3:9: error: it stops here: this has no value: texts, `*`, `&`, `sizeof`, arrays as a whole and the results of functions that return none have none; 0 tries are made"),
+                         ("unset", "int k; v = k;", "s.c:3:16: error: it stops here: a value is read that nothing has set; 0 tries are made"),
+                         ("unknown", "v = BLOCK;", "s.c:3:9: error: it stops here: the file doesn't declare this name, and the answers have no line `name BLOCK VALUE`; 0 tries are made"),
+                         ("overflow", "v = 1 << 64;", "s.c:3:9: error: it stops here: the number doesn't fit into 64 bits, or a shift isn't by 0 to 63; 0 tries are made"),
+                         ("index", "v = w[4];", "s.c:3:9: error: it stops here: the index is outside its array; 0 tries are made")):
+    valued(name, "", 1, [told], "int v, w[4];\nint main(void)\n{   %s return 0; }\n".replace("{   %s", "{\n    %s") .replace("\nint main(void)\n{\n", "\nint main(void) {\n") % code, EMPTY)
+row("values: line", "values p.toml w.c n", dict(WOVEN_VALUED, n="capweave answers 1\ncall 1\nname a 1\nend\n"), 9, [
+    "n:3:1: error: this line isn't of the answers' form: `name NAME VALUE`, `try grant` or `try refuse`, `call VALUE`, in this order, and `end`"])
+row("values: value form", "values p.toml w.c n", {"p.toml": EMPTY, "w.c": ("weave", EMPTY, "int main(void){int y;{int y;}return 0;}"), "n": "capweave answers 1\nend\n"}, 9, [
+    "w.c:13:60: error: `values` can't tell this name's variables apart; a function declares a name once, none of the file's, and no `static` local"])
+row("no such word in this capweave", "values p.toml w.c n", dict(WOVEN_VALUED, n="", broken="#!/bin/sh\necho usage: capweave COMMAND ARGUMENTS >&2\nexit 2\n"), 2, ["capweave-tell: error: this capweave has no `values`"], program="./broken")
+
 # -- policies that can't be met, on the tools of examples/ that are there: (policy, a text in it, what comes in its place, the line that has to come first, and
 # a text that has to come with it)
 
@@ -360,7 +547,7 @@ for text, column, why in (
         ("int fd;void f(int x){fd=get();}", 22, "it opens a descriptor of the policy"), ("int fd;void f(int x){close(fd);}", 22, "it closes a descriptor of the policy")):
     refused("not splittable: " + text, policy(descriptor("fd") if "fd" in text else "", head='split = ["f"]\n'), [
         "s.c:1:%d: error: 'f' can't run in a process of its own: %s" % (column, why), "p.toml:2:10: note: `split` has it here"], text + PLAIN)
-refused("detached", policy(head='detached = ["f"]\n', version="2"), ["p.toml:2:1: error: a policy with detached functions can't be woven"], CALLED)
+refused("detached", policy(head='detached = ["f"]\n', version="2"), ["p.toml:2:1: error: `weave` waits for every call; a policy with detached functions is woven by `procs`"], CALLED)
 row("policy and source at once", "weave p.toml s.c", {"p.toml": policy(at("a", nevr="amb")), "s.c": "int main(void){break;a:;return 0;}"}, 4, [
     "p.toml:4:1: error: unknown key 'nevr' in at[0]; did you mean 'never'?", "s.c:1:16: error: `break` stands in no loop"])
 
@@ -496,11 +683,11 @@ def run_here(words, folder, environment):
 def put_files(files, folder, program):
     for name, text in files.items():
         path = os.path.join(folder, name)
-        if isinstance(text, tuple):                 # what weave writes for a policy and a source, with one text in it changed
+        if isinstance(text, tuple):                 # what a command writes for a policy and a source, with one text in it changed
             for part, data in zip(("made.toml", "made.c"), text[1:3]):
                 with open(os.path.join(folder, part), "w") as file:
                     file.write(data)
-            made = subprocess.run([program, "weave", "made.toml", "made.c"], cwd=folder, stdout=subprocess.PIPE).stdout.decode()
+            made = subprocess.run([program, text[0], "made.toml", "made.c"], cwd=folder, stdout=subprocess.PIPE).stdout.decode()
             text = made.replace(text[3], text[4]) if len(text) > 3 else made
         with open(path, "wb") as file:
             file.write(text.encode("utf-8"))
@@ -536,7 +723,7 @@ def try_row(number, program, folder):
         lines = [line for line in lines if not UNDER.match(line)]
     if not same_lines(lines, wanted, more.get("front")):
         raise Failed("what is told differs", text, "\n".join(wanted))
-    if "--format" not in words and words.split(" ")[0] in ("weave", "explain", "warn", "same") and status != 2 and "program" not in more and "--help" not in words:
+    if "--format" not in words and words.split(" ")[0] in ("weave", "procs", "explain", "warn", "same", "audit", "reaudit", "world", "values") and status != 2 and "program" not in more and "--help" not in words:
         form = ("json", "sarif")[number % 2]
         check_document(form, ["--format", form] + words.split(), status, folder, program, files)
 
@@ -620,7 +807,7 @@ def check_document(form, words, status, folder, program, files):
     got, out, err = run(words, folder, program)
     if got != status:
         raise Failed("status %d as %s, not %d" % (got, form, status), out, err)
-    if "-o" not in words and "weave" in words:
+    if "-o" not in words and ("weave" in words or "procs" in words):
         out = err                                   # the woven text, or the strategy, is on standard output
     if status == 7:
         return
@@ -738,7 +925,12 @@ def main():
         print("no program %s" % program)
         print("0 passed, 1 failed")
         return 1
-    tests = [(name, lambda folder, number=number: try_row(number, program, folder)) for number, (name, *_) in enumerate(ROWS)]
+    ran = subprocess.run([program, "values"], stdin=subprocess.DEVNULL, stdout=subprocess.DEVNULL, stderr=subprocess.PIPE)
+    has_values = b"values" in ran.stderr
+    if not has_values:
+        print("left out: the rows of `values`, which this capweave doesn't have")
+    tests = [(name, lambda folder, number=number: try_row(number, program, folder)) for number, (name, *_) in enumerate(ROWS)
+             if has_values or not name.startswith("values")]
     if shutil.which("make") and shutil.which("cc"):
         tests.append(("Makefile", lambda folder: try_make(program, folder)))
     else:
