@@ -30,11 +30,11 @@ _capweave_tell() {
     --color) COMPREPLY=($(compgen -W "auto always never" -- "$word")); return ;;
     --as) COMPREPLY=($(compgen -W "svg dot mermaid html" -- "$word")); return ;;
     --theme) COMPREPLY=($(compgen -W "auto light dark" -- "$word")); return ;;
-    -o) COMPREPLY=($(compgen -f -- "$word")); return ;;
+    -o | --source) COMPREPLY=($(compgen -f -- "$word")); return ;;
     esac
     for ((index = 1; index < COMP_CWORD; index++)); do
         case ${COMP_WORDS[index]} in
-        --format | --color | --as | --theme | -o) index=$((index + 1)) ;;
+        --format | --color | --as | --theme | --source | -o) index=$((index + 1)) ;;
         -*) ;;
         *)
             place=$((place + 1))
@@ -46,17 +46,19 @@ _capweave_tell() {
     if [[ $word == -* ]]; then
         case $said in
         "") COMPREPLY=($(compgen -W "--format --color --help --version" -- "$word")) ;;
-        weave) COMPREPLY=($(compgen -W "-o --quiet --format --color --help" -- "$word")) ;;
+        weave | procs) COMPREPLY=($(compgen -W "-o --quiet --format --color --help" -- "$word")) ;;
+        audit | form) COMPREPLY=($(compgen -W "-o --format --color --help" -- "$word")) ;;
+        world | values) COMPREPLY=($(compgen -W "--source --format --color --help" -- "$word")) ;;
         warn) COMPREPLY=($(compgen -W "--strict --format --color --help" -- "$word")) ;;
         draw) COMPREPLY=($(compgen -W "-o --as --theme --format --color --help" -- "$word")) ;;
-        explain | same) COMPREPLY=($(compgen -W "--format --color --help" -- "$word")) ;;
+        explain | same | reaudit) COMPREPLY=($(compgen -W "--format --color --help" -- "$word")) ;;
         esac
         return
     fi
     case $said:$place in
-    :0) COMPREPLY=($(compgen -W "weave explain warn same draw check refute audit reaudit run play graph sample" -- "$word")) ;;
-    weave:1 | explain:1 | warn:1 | check:1 | refute:1 | audit:1 | reaudit:1 | run:1 | play:1) _capweave_files '*.toml' "$word" ;;
-    graph:1 | audit:2 | weave:2 | explain:2 | warn:2 | same:[12]) _capweave_files '*.c' "$word" ;;
+    :0) COMPREPLY=($(compgen -W "weave explain warn same audit reaudit procs form world values draw check refute run play graph sample" -- "$word")) ;;
+    weave:1 | procs:1 | form:1 | explain:1 | warn:1 | check:1 | refute:1 | audit:1 | reaudit:1 | run:1 | play:1 | world:1 | values:1) _capweave_files '*.toml' "$word" ;;
+    graph:1 | audit:2 | reaudit:2 | weave:2 | procs:2 | form:2 | explain:2 | warn:2 | same:[12]) _capweave_files '*.c' "$word" ;;
     draw:1) COMPREPLY=($(compgen -W "graph table strategy play" -- "$word")) ;;
     draw:2) if [ "$kind" = graph ]; then _capweave_files '*.c' "$word"; else _capweave_files '*.toml' "$word"; fi ;;
     *) COMPREPLY=($(compgen -f -- "$word")) ;;
