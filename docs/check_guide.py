@@ -12,7 +12,8 @@ the tree's files and CAPWEAVE as the built program. Where this system lets no st
 told.
 
 In C-SUBSET the tables with the columns `Source`, `Told`, `Write` have code in the first and the last column, in code marks: of the first `capweave graph`
-(or `weave`, in the table of descriptors) tells what the second says, the last it takes; and a C compiler takes both, but for what breaks C's rules too.
+(or `weave`, in the table of descriptors, and `procs` in that of detached functions) tells what the second says, the last it takes; and a C compiler takes
+both, but for what breaks C's rules too.
 
 Needs bash, a C compiler as `cc`, Python 3.8 and no package.
 """
@@ -33,6 +34,7 @@ PART = re.compile(r"^## [^\n]*\n|^```(c|toml|make|console)\n(.*?)^```\n", re.S |
 BLOCK = re.compile(r"```console\n(.*?)```\n", re.S)           # for companion/outline_tests.py, which follows its own page
 ENFORCED = re.compile(r"-DCW_ENFORCE|^\$ (?:\w+=\S+ )*\./", re.M)     # a woven tool that is compiled over the stand-in, or run
 NAMED = re.compile(r"(?:/\* (\S+) \*/|# (\S+))\n")
+COMMANDS_OF = {"descriptor": ("weave", "fd.toml"), "detaches": ("procs", "own.toml")}     # what tells of a row, and by which policy
 HEADERS = "".join("#include <%s>\n" % name for name in (
     "assert.h", "ctype.h", "err.h", "errno.h", "fcntl.h", "getopt.h", "limits.h", "signal.h", "stdarg.h", "stdbool.h", "stddef.h", "stdint.h", "stdio.h",
     "pwd.h", "stdlib.h", "string.h", "sys/stat.h", "sys/types.h", "unistd.h"))
@@ -124,12 +126,12 @@ def follow(page, program, enforces, like_tree, write):
 
 def subset_rows():
     """Each row of C-SUBSET's tables of what is told and what to write: the number of its line, its columns, and where its code stands: `file`, `function`
-    or `descriptor`."""
+    `descriptor` or `detaches`."""
     inside, where = False, ""
     with open(os.path.join(ROOT, SUBSET), encoding="utf-8") as file:
         for number, line in enumerate(file, 1):
             if line.startswith("#"):
-                where = next((word for word in ("file", "descriptor") if word in line), "function")
+                where = next((word for word in ("file", "descriptor", "detaches") if word in line), "function")
             if line.startswith("| Source | Told | Write |"):
                 inside = True
             elif not line.startswith("|"):
@@ -161,7 +163,8 @@ def try_row(row, program, folder):
         name = os.path.join(folder, "row%d.%d.c" % (number, column))
         with open(name, "w", encoding="utf-8") as file:
             file.write(as_program("\n".join(texts), where))
-        words = ["weave", os.path.join(folder, "fd.toml"), name] if where == "descriptor" else ["graph", name]
+        command, policy = COMMANDS_OF.get(where, ("graph", None))
+        words = [command] + ([os.path.join(folder, policy)] if policy else []) + [name]
         run = subprocess.run([program] + words, stdout=subprocess.DEVNULL, stderr=subprocess.PIPE, universal_newlines=True)
         told = run.stderr.strip()
         if column == 0 and not (run.returncode == 3 and told.endswith(": " + code[1][0])):
@@ -213,7 +216,8 @@ def main():
     wrong, count = [], 0
     with concurrent.futures.ThreadPoolExecutor(max_workers=os.cpu_count() or 1) as pool, tempfile.TemporaryDirectory() as folder:
         followed = [pool.submit(follow, page, program, enforces, page in TREES, words.write) for page in pages if is_asked(page)]
-        for name, text in (("tool.h", "#define BLOCK 4096\n"), ("system.h", "#define __FBSDID(text) extern int own_id\n"), ("fd.toml", 'format = 1\n[[descriptor]]\nname = "fd"\n')):
+        for name, text in (("tool.h", "#define BLOCK 4096\n"), ("system.h", "#define __FBSDID(text) extern int own_id\n"), ("fd.toml", 'format = 1\n[[descriptor]]\nname = "fd"\n'),
+                           ("own.toml", 'format = 2\ndetached = ["own"]\n')):
             with open(os.path.join(folder, name), "w", encoding="utf-8") as file:
                 file.write(text)
         tried = [pool.submit(try_row, row, program, folder) for row in subset_rows()] if is_asked(SUBSET) else []
