@@ -427,8 +427,8 @@ source("open comment", "int main(void){return 0;} /* no end", ["s.c:1:27: error:
 source("open string", "int main(void){f(\"no end);\nreturn 0;}", ["s.c:1:18: error: this text has no end on its line, or an escape that C doesn't have"])
 source("number", "int main(void){return 08;}", ["s.c:1:23: error: this is no number of the subset; decimal, octal or 0x hexadecimal, at most 64 bits, with u and l or ll behind"])
 source("directives", "#define A 1\n#include <a.h>\n#pragma once\nint main(void){return A;}\n", [
-    "s.c:1:1: error: of all directives only #include is taken; run the preprocessor on your own macros first, or put them into a header",
-    "s.c:3:1: error: of all directives only #include is taken; run the preprocessor on your own macros first, or put them into a header"])
+    "s.c:1:1: error: of all directives only #include is taken; for a number write `static const int NAME = ..;`, other macros go into a header of your own",
+    "s.c:3:1: error: of all directives only #include is taken; for a number write `static const int NAME = ..;`, other macros go into a header of your own"])
 source("marker", "/*cw{*/int main(void){return 0;}", ["s.c:1:3: error: the source has 'cw{*' or '*}cw' in it, which mark insertions; take a source without insertions; `cut` them out of a woven text"])
 source("syntax: several", "int main(void){\n    int i, j;\n    size_t n;\n    struct s t;\n    for (i = 0, j = 0; i < 2; i++) {\n        switch (i) { case 1: break; }\n    }\n    FILE *f = g();\n    i = 1\n    j = 2;\n    return 0;\n}\n", [
     "s.c:3:12: error: 'size_t' is read as a name, and no name can follow it; write unsigned long for size_t",
@@ -437,6 +437,12 @@ source("syntax: several", "int main(void){\n    int i, j;\n    size_t n;\n    st
     "s.c:6:9: error: `switch` is left out of the subset; write a chain of `if`s",
     "s.c:8:13: error: 'FILE * f' is read as a product; write another file for what uses stdio's streams for FILE",
     "s.c:10:5: error: nothing of the subset goes on with 'j' here; is a ';' missing at the end of the line before?"])
+source("syntax: a type of a header first", "static size_t n;\nint main(void){\n    return 0;\n}\n", ["s.c:1:8: error: `size_t` is no type of the subset; write unsigned long for size_t"])
+source("call form: in a loop's condition", "int f(int a){return a;}\nint main(void){\n    int c;\n    while ((c = f(1)) > 0) c--;\n    return !f(2);\n}\n", [
+    "s.c:4:17: error: the call of 'f' isn't a statement of its own; write `x = f(..);` before the loop and at the end of each round, and test x",
+    "s.c:5:13: error: the call of 'f' isn't a statement of its own; write `x = f(..); return x;`"])
+row("a label that has a function's name, of which the policy speaks", "weave p.toml s.c", {"p.toml": policy(at("f", never="amb")), "s.c": "int f(int a){return a;}\nint main(void){\nf:\n    return 0;\n}\n"}, 3, [
+    "s.c:3:1: error: the label 'f' has the name of a function; give it another name"])
 source("syntax: the end", "int main(void){\n    if (1) {\n    return 0;\n}\n", ["s.c:4:2: error: the text ends here, and something is still open", "s.c:1:15: note: this '{' isn't closed"])
 source("syntax: brackets", "int main(void){\n    if (f(1) {\n        g();\n    }\n    int i, j = 1, 2;\n    return 0;\n}\n", [
     "s.c:2:14: error: nothing of the subset goes on with '{' here", "s.c:2:8: note: this '(' is still open where '}' stands on line 7"])
@@ -445,7 +451,7 @@ source("two labels", "int main(void){a:;a:;return 0;}", ["s.c:1:19: error: this 
 source("arity", "int f(int a){return a;}int main(void){f();return 0;}", ["s.c:1:39: error: 'f' takes 1 argument"])
 source("call form: several", "int f(int a){return a;}\nint main(void){\n    int x = f(1);\n    if (f(1)) x = 1;\n    x = a() + b();\n    f(g());\n    return f(2);\n}\n", [
     "s.c:3:13: error: the call of 'f' isn't a statement of its own; write `int x; x = f(..);`, the declaration apart",
-    "s.c:4:9: error: the call of 'f' isn't a statement of its own; write `x = f(..);` and use x",
+    "s.c:4:9: error: the call of 'f' isn't a statement of its own; write `x = f(..);` before it, and x here",
     "s.c:5:15: error: a second call stands in one expression; C leaves the order of two open: put the first into a variable",
     "s.c:6:5: error: the call of 'f' isn't a statement of its own; its arguments can hold no call, and it stands as `f(..);` or `x = f(..);` alone",
     "s.c:7:12: error: the call of 'f' isn't a statement of its own; write `x = f(..); return x;`"])
