@@ -1,5 +1,5 @@
 #!/bin/sh
-# Installs the program, its companions, the example of the header, pages, man pages and completion; or takes them away again.
+# Installs the program, its companions, the example of the header, the example tools, pages, man pages and completion; or takes them away again.
 #
 #     [PREFIX=/usr/local] [DESTDIR=] [CAPWEAVE=PROGRAM] ./install.sh [--remove]
 #
@@ -45,6 +45,15 @@ for file in "$here"/examples/capweave*.h; do
     put 644 include "$file"
 done
 put 644 share/capweave "$here/examples/capweave.c"
+for file in "$here"/examples/*.[ch] "$here"/examples/*.toml "$here"/examples/Makefile "$here"/examples/README.md; do
+    case $file in
+    *.woven.c) ;;
+    *) put 644 share/capweave/examples "$file" ;;
+    esac
+done
+for file in "$here"/companion/samples/*; do
+    put 644 share/capweave/samples "$file"
+done
 for file in "$here"/companion/*.schema.json; do
     put 644 share/capweave "$file"
 done
@@ -60,9 +69,9 @@ for name in capweave capweave-tell; do
     put 644 share/bash-completion/completions "$here/completion/capweave.sh" "$name"
 done
 if [ $remove = yes ]; then
-    for folder in share/doc/capweave share/capweave; do
+    for folder in share/doc/capweave share/capweave/examples share/capweave/samples share/capweave; do
         rmdir "$root/$folder" 2>/dev/null || true
     done
 else
-    echo "installed in $root: bin/capweave, bin/capweave-tell, include/capweave.h, share/capweave, share/doc/capweave, man pages, completion"
+    echo "installed in $root: bin/capweave, bin/capweave-tell, bin/capweave-outline, include/capweave.h, share/capweave, share/doc/capweave, man pages, completion"
 fi
