@@ -8,8 +8,8 @@ docs/GUIDE.md. With --write the pages are written anew with what the commands pr
 
 Each page is followed in an empty folder of its own. A block of c, toml or make whose first line is a comment with a file's name is that file. A block of
 console has commands behind `$ ` (a here-document goes on to its end), each with what it prints below. README and PACKAGING are followed in a folder with
-the tree's files and CAPWEAVE as the built program. Where this system lets no stand-in enforce, the sections with woven tools run and aren't compared; that is
-told.
+the tree's files and CAPWEAVE as the built program. Where this system lets no stand-in enforce, the sections with woven tools run and aren't compared, and
+where clang isn't there those with outlines aren't; that is told.
 
 In C-SUBSET the tables with the columns `Source`, `Told`, `Write` have code in the first and the last column, in code marks: of the first `capweave graph`
 (or `weave`, in the table of descriptors, and `procs` in that of detached functions) tells what the second says, the last it takes; and a C compiler takes
@@ -33,6 +33,7 @@ SUBSET = "docs/C-SUBSET.md"
 PART = re.compile(r"^## [^\n]*\n|^```(c|toml|make|console)\n(.*?)^```\n", re.S | re.M)
 BLOCK = re.compile(r"```console\n(.*?)```\n", re.S)           # for companion/outline_tests.py, which follows its own page
 ENFORCED = re.compile(r"-DCW_ENFORCE|^\$ (?:\w+=\S+ )*\./", re.M)     # a woven tool that is compiled over the stand-in, or run
+OUTLINES = shutil.which(os.environ.get("CAPWEAVE_CLANG") or "clang") is not None     # whether real C can be outlined here
 NAMED = re.compile(r"(?:/\* (\S+) \*/|# (\S+))\n")
 COMMANDS_OF = {"descriptor": ("weave", "fd.toml"), "detaches": ("procs", "own.toml")}     # what tells of a row, and by which policy
 HEADERS = "".join("#include <%s>\n" % name for name in (
@@ -92,7 +93,8 @@ def follow(page, program, enforces, like_tree, write):
         kind, block = part[1], part[2]
         if kind is None:
             end = text.find("\n## ", part.end())
-            is_compared = enforces or not ENFORCED.search(text, part.end(), end if end >= 0 else len(text))
+            section = text[part.end():end if end >= 0 else len(text)]
+            is_compared = (enforces or not ENFORCED.search(section)) and (OUTLINES or "capweave-outline" not in section)
             made += part[0]
             continue
         if kind != "console":
@@ -208,6 +210,8 @@ def main():
     enforces = can_enforce(program)
     if not enforces:
         print("no stand-in enforces here: the sections with woven tools run and aren't compared")
+    if not OUTLINES:
+        print("clang isn't here: the sections with outlines run and aren't compared")
     pages = [page for page in GUIDES + TREES if os.path.exists(os.path.join(ROOT, page))]
 
     def is_asked(page):
