@@ -27,7 +27,7 @@ import sys
 import tempfile
 
 ROOT = os.path.dirname(os.path.dirname(os.path.abspath(__file__)))
-GUIDES = ("docs/GUIDE.md", "docs/COOKBOOK.md", "docs/COMPANION.md")   # followed in an empty folder
+GUIDES = ("docs/GUIDE.md", "docs/COOKBOOK.md", "docs/COMPANION.md", "docs/POLICIES.md")   # followed in an empty folder
 TREES = ("README.md", "docs/PACKAGING.md")                            # followed in a folder like the tree
 SUBSET = "docs/C-SUBSET.md"
 PART = re.compile(r"^## [^\n]*\n|^```(c|toml|make|console)\n(.*?)^```\n", re.S | re.M)
