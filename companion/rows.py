@@ -154,6 +154,18 @@ row("explain: a process of its own would do", "explain p.toml s.c", {"p.toml": B
     "p.toml:4:10: note: it can be woven without the test 'a never amb'",
     "p.toml:7:9: note: it can be woven without the test 'b must amb'",
     's.c:1:5: note: it can be woven with `split = ["f"]`: calls of f may then run in a process of their own'], out=True)
+row("explain: a process that nobody waits for would do", "explain p.toml s.c", {"p.toml": BOTH, "s.c": "int n;\nvoid f(int x)\n{\na:\n    n = x;\n}\nint main(void)\n{\n    f(1);\nb:\n    return 0;\n}\n"}, 1, [
+    "p.toml:7:9: error: no placement of calls can meet this policy: 'a never amb' and 'b must amb' can't both be met",
+    "p.toml:4:10: note: the rule 'a never amb'",
+    "s.c:9:5: note: 1. call of f",
+    "s.c:4:1: note: 2. try enter: granted",
+    "s.c:4:1: note: 3. label a: in capability mode",
+    "s.c:6:1: note: 4. f ends",
+    "s.c:10:1: note: 5. label b: in capability mode; that violates 'b must amb'",
+    "s.c:4:1: note: where 'enter' is skipped, 'a never amb' is violated on line 4",
+    "p.toml:4:10: note: it can be woven without the test 'a never amb'",
+    "p.toml:7:9: note: it can be woven without the test 'b must amb'",
+    "s.c:2:6: note: it can be woven by `procs` with `format = 2` and `detached = [\"f\"]`: nobody then waits for calls of f"], out=True)
 row("explain: no limit that would do", "explain p.toml s.c", {"p.toml": policy(descriptor("0"), limit("0", "CAP_READ"), at("a", never="0:CAP_READ")), "s.c": ONE}, 1, [
     "p.toml:9:10: error: no placement of calls can meet this policy: 'a never 0:CAP_READ' can't be met",
     "s.c:1:16: note: 1. label a: ambient, 0 open with all rights; that violates 'a never 0:CAP_READ'",
@@ -383,6 +395,10 @@ def valued(name, answers, status, told, code=VALUED, rules=SPLIT):
 valued("where it stops", "call 3\n", 1, ["s.c: note: put(8) = 3", "s.c:12:9: error: it stops here: this divides by 0; 2 tries are made"])
 valued("no answer is left", "", 1, ["s.c:11:5: error: it stops here: no answer is left for this call; it takes one line `call VALUE` more; 2 tries are made"])
 valued("to the end", "call 3\n", 0, ["s.c:3:5: note: put(2) = 3", "w.c: note: it ends; 0 tries are made"], "int main(void)\n{\n    put(2);\n    return 0;\n}\n", EMPTY)
+valued("a parameter of main", "", 1, ["s.c:4:9: error: it stops here: a value is read that nothing has set; the answers have no line `name argc VALUE`; 0 tries are made"],
+       "int put(int n);\nint main(int argc, char **argv)\n{\n    put(argc);\n    return 0;\n}\n", EMPTY)
+valued("a call beside its prototype", "name argc 3\ncall 0\n", 0, ["s.c:4:5: note: put(3) = 0", "w.c: note: it ends; 0 tries are made"],
+       "int put(int n);\nint main(int argc, char **argv)\n{\n    put(argc);\n    return 0;\n}\n", EMPTY)
 valued("steps", "", 1, ["w.c: error: it hasn't ended after 1,000,000 steps; 0 tries are made"], "int main(void){for(;;);return 0;}", EMPTY)
 valued("refused", "try refuse\n", 1, ["s.c:1:16: error: it ends here, since what is tried was refused; 1 try is made"], ONE, policy(at("a", never="amb"), head='refusable = ["enter"]\non_refusal = "stop"\n'))
 for name, code, told in (("form", "v = sizeof v;", "s.c:3:9: error: it stops here: this has no value: texts, `*`, `&`, `sizeof`, arrays as a whole and the results of functions that return none have none; 0 tries are made"),
