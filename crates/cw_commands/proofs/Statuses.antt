@@ -1,5 +1,5 @@
 -- Where no count rose no file went unread and nothing unwritten.
-use Rattle.std.proofs.Common.{◌≡◌, ◌≢◌, ◌⊎◌, ℕ, List, [], Option, Some, refl, sym, ◌∙◌, inl, inr, subst, arith}
+use Rattle.std.proofs.Common.{◌≡◌, ◌≢◌, ◌⊎◌, ℕ, List, [], Option, Some, refl, sym, ap, ◌∙◌, inl, inr, subst, arith}
 use Rattle.std.specs.Prelude.{Contains, slice_get}
 use Rattle.std.proofs.lemmas.Option.{slice_get_within, slice_get-get_or, same_Some}
 use Rattle.cw_core.specs.declared.quantity.Quantity.{Quantity}
@@ -7,11 +7,12 @@ use Rattle.cw_io.specs.Causes.{Rose}
 use Rattle.cw_io.specs.Files.{FilesByName}
 use Rattle.cw_commands.specs.declared.ending.Ending.{Ending}
 use Rattle.cw_commands.specs.declared.ending.Ending.TheVariants.{Put, Refused as RefusedEnd, TooLong, Unread, Unwritten, Memory}
+use Rattle.cw_commands.specs.declared.outcome.Reply.{Reply}
 use Rattle.cw_commands.specs.declared.outcome.Reply.TheVariants.{Yes, No}
 use Rattle.cw_commands.specs.declared.outcome.Cause.TheVariants.{Source, Policy, Limit, Grammar}
 use Rattle.cw_commands.specs.Endings.{status_of}
 use Rattle.cw_commands.specs.Files.{HaveBytes, IsFileFault, IsUnread, first}
-use Rattle.cw_commands.specs.Outcomes.{Due, Told, Refused}
+use Rattle.cw_commands.specs.Outcomes.{Due, Told, Refused, reply_status}
 use Rattle.cw_commands.specs.Runs.{Delivered, Ends}
 use Rattle.cw_commands.specs.Statuses.{NoneRose, IsText, Accepts, NeverFails, EndsWell, NeverFailsForSure}
 
@@ -52,39 +53,57 @@ module _ {N : Type 0} (IsDue : List (List ℕ) → Due → Type 0) (files : Opti
   never ending (inr (inl u)) = let w = u.0 in unread_fails (first w.before) w.quantity w.name ending (got names w.place w.name w.is_name) w.fault
   never ending (inr (inr d)) = delivered_fails d.1 ending d.4
 
-  abbrev Well : Ending N → Type 0
-  Well ending = (status_of ending ≡ 0) ⊎ ((status_of ending ≡ 1) ⊎ (status_of ending ≡ 8))
+  -- it has the status of a text that is due for what the files hold, or of want of memory
+  abbrev EndsTold : Ending N → Type 0
+  EndsTold ending =
+      (status_of ending ≡ 8)
+      ⊎ ((bytes : List (List ℕ)) × (reply : Reply) × (text : List ℕ) × HaveBytes files [] quantities names bytes × IsDue bytes (Told reply text) × (status_of ending ≡ reply_status reply))
 
   module _ (accepts : Accepts IsDue files quantities names) where
-    unread_well : (policy : List ℕ) (quantity : Quantity) (name : List ℕ) (ending : Ending N) → Contains names name → IsFileFault files counts counts' policy quantity name ending → Well ending
-    unread_well policy quantity name (TooLong told) c f = absurd (accepts.short policy quantity name c f.1)
-    unread_well policy quantity name (Unread told) c f = absurd (none.files name c f.1)
-    unread_well policy quantity name (Put reply) c f = absurd f
-    unread_well policy quantity name (RefusedEnd cause words) c f = absurd f
-    unread_well policy quantity name Unwritten c f = absurd f
-    unread_well policy quantity name Memory c f = absurd f
+    unread_told : (ending : Ending N) → IsUnread files counts counts' quantities names ending → EndsTold ending
+    unread_told (TooLong told) w = absurd (accepts.short (record {
+      place = w.place;
+      quantity = w.quantity;
+      name = w.name;
+      before = w.before;
+      is_quantity = w.is_quantity;
+      is_name = w.is_name;
+      read = w.read;
+      longer = w.fault.1;
+    }))
+    unread_told (Unread told) w = absurd (none.files w.name (got names w.place w.name w.is_name) w.fault.1)
+    unread_told (Put reply) w = absurd w.fault
+    unread_told (RefusedEnd cause words) w = absurd w.fault
+    unread_told Unwritten w = absurd w.fault
+    unread_told Memory w = absurd w.fault
 
-    delivered_well : (due : Due) (ending : Ending N) → IsText due → Delivered old new faults faults' due ending → Well ending
-    delivered_well (Refused cause line) ending t d = absurd t
-    delivered_well (Told reply text) (Put Yes) t d = inl refl
-    delivered_well (Told reply text) (Put No) t d = inr (inl refl)
-    delivered_well (Told reply text) Unwritten t d = absurd (none.output d.1)
-    delivered_well (Told reply text) Memory t d = inr (inr refl)
-    delivered_well (Told reply text) (RefusedEnd cause words) t d = absurd d
-    delivered_well (Told reply text) (TooLong told) t d = absurd d
-    delivered_well (Told reply text) (Unread told) t d = absurd d
+    delivered_told : (bytes : List (List ℕ)) (due : Due) (ending : Ending N) → HaveBytes files [] quantities names bytes → IsDue bytes due → IsText due → Delivered old new faults faults' due ending
+        → EndsTold ending
+    delivered_told bytes (Refused cause line) ending have is t d = absurd t
+    delivered_told bytes (Told reply text) (Put told) have is t d = inr (bytes, reply, text, have, is, ap reply_status d.0)
+    delivered_told bytes (Told reply text) Unwritten have is t d = absurd (none.output d.1)
+    delivered_told bytes (Told reply text) Memory have is t d = inl refl
+    delivered_told bytes (Told reply text) (RefusedEnd cause words) have is t d = absurd d
+    delivered_told bytes (Told reply text) (TooLong told) have is t d = absurd d
+    delivered_told bytes (Told reply text) (Unread told) have is t d = absurd d
 
-    well : (ending : Ending N) → Ends IsDue files counts counts' old new faults faults' quantities names ending → Well ending
-    well ending (inl m) = subst Well (sym m.0) (inr (inr refl))
-    well ending (inr (inl u)) = let w = u.0 in unread_well (first w.before) w.quantity w.name ending (got names w.place w.name w.is_name) w.fault
-    well ending (inr (inr d)) = delivered_well d.1 ending (accepts.told d.0 d.1 d.2 d.3) d.4
+    pub told : (ending : Ending N) → Ends IsDue files counts counts' old new faults faults' quantities names ending → EndsTold ending
+    told ending (inl m) = inl (ap status_of m.0)
+    told ending (inr (inl u)) = unread_told ending u.0
+    told ending (inr (inr d)) = delivered_told d.0 d.1 ending d.2 d.3 (accepts.told d.0 d.1 d.2 d.3) d.4
+
+    well : (ending : Ending N) → EndsTold ending → (status_of ending ≡ 0) ⊎ ((status_of ending ≡ 1) ⊎ (status_of ending ≡ 8))
+    well ending (inl e) = inr (inr e)
+    well ending (inr (bytes, Yes, text, have, is, e)) = inl e
+    well ending (inr (bytes, No, text, have, is, e)) = inr (inl e)
 
 pub never_fails : (N : Type 0) (IsDue : List (List ℕ) → Due → Type 0) → NeverFails N IsDue
 never_fails N IsDue files counts counts' old new faults faults' quantities names ending ends none = never IsDue files counts counts' old new faults faults' quantities names none ending ends
 
 pub ends_well : (N : Type 0) (IsDue : List (List ℕ) → Due → Type 0) → EndsWell N IsDue
 ends_well N IsDue files counts counts' old new faults faults' quantities names ending ends none accepts =
-    well IsDue files counts counts' old new faults faults' quantities names none accepts ending ends
+    well IsDue files counts counts' old new faults faults' quantities names none accepts ending
+    (told IsDue files counts counts' old new faults faults' quantities names none accepts ending ends)
 
 not_risen : Rose 0 0 → ⊥
 not_risen h = omega (arith, h)

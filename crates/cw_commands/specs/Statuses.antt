@@ -1,11 +1,11 @@
 -- Which statuses a command can have where nothing failed.
-use Rattle.std.specs.Prelude.{◌≡◌, ◌≢◌, ◌⊎◌, ℕ, List, [], Option, Contains}
+use Rattle.std.specs.Prelude.{◌≡◌, ◌≢◌, ◌⊎◌, ℕ, List, [], take, slice_get, Option, Some, Contains}
 use Rattle.cw_core.specs.declared.quantity.Quantity.{Quantity}
 use Rattle.cw_io.specs.Causes.{Rose}
 use Rattle.cw_io.specs.Files.{FilesByName}
 use Rattle.cw_commands.specs.declared.ending.Ending.{Ending}
 use Rattle.cw_commands.specs.Endings.{status_of}
-use Rattle.cw_commands.specs.Files.{HaveBytes, IsLonger}
+use Rattle.cw_commands.specs.Files.{HaveBytes, IsLonger, first}
 use Rattle.cw_commands.specs.Outcomes.{Due, Told, Refused}
 use Rattle.cw_commands.specs.Runs.{Ends}
 
@@ -18,9 +18,20 @@ abbrev pub IsText : Due → Type 0
 IsText (Told reply text) = Unit {0}
 IsText (Refused cause line) = ⊥
 
+-- One of the files has more bytes than its own quantity allows, and those before it were read. Of a shelf that doesn't tell its files nothing rules that out.
+pub record OneIsLonger (files : Option FilesByName) (quantities : List Quantity) (names : List (List ℕ)) : Type 0 where
+  pub place : ℕ
+  pub quantity : Quantity
+  pub name : List ℕ
+  pub before : List (List ℕ)
+  pub is_quantity : slice_get quantities place ≡ Some quantity
+  pub is_name : slice_get names place ≡ Some name
+  pub read : HaveBytes files [] (take place quantities) (take place names) before
+  pub longer : IsLonger files (first before) quantity name
+
 -- each stage accepts, and nothing is over its limit: no file is, and for what the files hold a text is due
 pub record Accepts (IsDue : List (List ℕ) → Due → Type 0) (files : Option FilesByName) (quantities : List Quantity) (names : List (List ℕ)) : Type 0 where
-  pub short : (policy : List ℕ) (quantity : Quantity) (name : List ℕ) → Contains names name → IsLonger files policy quantity name → ⊥
+  pub short : OneIsLonger files quantities names → ⊥
   pub told : (bytes : List (List ℕ)) (due : Due) → HaveBytes files [] quantities names bytes → IsDue bytes due → IsText due
 
 -- Where no count rose the status is neither 6 nor 7.
