@@ -225,7 +225,7 @@ pub fn capweave<F: Shelf, O: Sink, N: Sink>(
 ) -> u8
     ensures same { F.files shelf.new ≡ F.files shelf.old }
 
-    // Words that don't fit: nothing is appended to the output, and the note gets a front of the line on usage, or there was no memory to read them.
+    // Words that don't fit: no file is read, nothing is appended to the output, and the note gets a front of the line on usage, or there was no memory to read them.
     // Where neither of the note's counts rose it got the whole line, here and below.
     ensures usage { requested words.now ≡ None → (O.taken out.new ≡ O.taken out.old)
         × (((result ≡ 2) × IsNoted (N.taken note.old) (N.taken note.new) (Some (usage_line (first_command words.now)))
@@ -233,6 +233,7 @@ pub fn capweave<F: Shelf, O: Sink, N: Sink>(
         ⊎ ((result ≡ 8) × IsNoted (N.taken note.old) (N.taken note.new) (line_of {N = N} Ending.Memory)
         × IsNotedWhole N.taken N.faults N.refused note.old note.new (line_of {N = N} Ending.Memory))) }
     ensures misused { result ≡ 2 → requested words.now ≡ None }
+    ensures unread { requested words.now ≡ None → shelf.new ≡ shelf.old }
 
     // The words of a command: its ending, with its status, what it leaves on the output and its line on the note.
     ensures ends { IfSome (requested words.now) (λ wish. (ending : Ending N) × (result ≡ status_of ending)

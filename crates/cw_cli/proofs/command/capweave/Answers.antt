@@ -1,5 +1,6 @@
 use Rattle.std.proofs.Common.{sym, ap, ◌∙◌}
 use Rattle.std.specs.Prelude.{option_map}
+use Rattle.std.proofs.lemmas.Option.{none-some}
 use Rattle.cw_commands.specs.Words.{wish_of}
 use Rattle.cw_commands.proofs.Starting.{ends_line, noted_is}
 use Rattle.cw_cli.proofs.Dues.{wished}
@@ -20,3 +21,8 @@ returns-clause-ends g c =
 
 pub returns-clause-memory : goal.returns-clause-memory
 returns-clause-memory g c wants = c.perform-ending.ensures.memory (is_memory c.perform-ending.result (sym c.end-2.ensures.status ∙ wants))
+
+pub returns-clause-unread : goal.returns-clause-unread
+returns-clause-unread g c none =
+    let wish = sym (ap (option_map wish_of) c.in-Some.is) ∙ c.in-Ok.ensures.wish in
+    absurd (none-some _ (sym none ∙ sym wish))
