@@ -17,3 +17,4 @@ mod Stages
 mod Summed
 mod Texts
 mod Worlded
+mod Accepted

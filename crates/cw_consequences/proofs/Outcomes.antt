@@ -89,7 +89,7 @@ ends source file p g due of (inr (few, inr verdict)) = by due verdict
 -- ---- a game comes to one outcome
 
 module _ (g : Game) where
-  cells_clash : HasManyCells g → HasFewCells g → ⊥
+  pub cells_clash : HasManyCells g → HasFewCells g → ⊥
   cells_clash (some, many) (all, are, few) = let lt : 4194304 < cells_of g all = too_many g some all many are in let le : cells_of g all ≤ 4194304 = few in omega (arith, lt, le)
 
   height_clash : (n : ℕ) → StartHolds g → IsHeight g (g.entry g.main) g.states.start (all_states g) n → ⊥

@@ -66,7 +66,7 @@ module _ (source : List ℕ) (p : PlainPolicy) where
       a ∙ ap (λ (z : DescriptorFault). Refused Source (descriptor_line source p z)) faults ∙ sym b
 
   -- a source that is read isn't unread
-  never_unread : (file : File) (due : Due) → ReadsAs source file → descriptor_fault source file p ≡ None → IsSourceUnread source p due → ⊥
+  pub never_unread : (file : File) (due : Due) → ReadsAs source file → descriptor_fault source file p ≡ None → IsSourceUnread source p due → ⊥
   never_unread file due reads none (inl (f, is, ne, e)) = never_both source file f ne reads is
   never_unread file due reads none (inr (other, reading, (f, some, e))) =
       let files : other ≡ file = one_program source other file reading reads in
@@ -82,7 +82,7 @@ module _ (source : List ℕ) (p : PlainPolicy) where
         one file due answer after (subst (λ (z : File). Next z answer) files behind)
 
 -- a policy that is spelled isn't refused
-never_spelled : (policy : List ℕ) (p : PlainPolicy) (due : Due) → IsPolicyRefusal policy due → Spells policy p → ⊥
+pub never_spelled : (policy : List ℕ) (p : PlainPolicy) (due : Due) → IsPolicyRefusal policy due → Spells policy p → ⊥
 never_spelled policy p due (f, is, ne, e) spells = ne (refused_spells_none policy p f spells is)
 
 one_refusal : (policy : List ℕ) → IsOne (IsPolicyRefusal policy)

@@ -2,3 +2,4 @@ pub mod Stopping
 pub mod Unrefused
 pub mod Alike
 pub mod Laws
+pub mod Accepting

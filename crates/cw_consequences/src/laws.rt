@@ -1,6 +1,9 @@
 //! Laws of the definitions: functions that do nothing, and whose contracts hold of every value.
 
+ghost use Rattle.cw_consequences.specs.Accepting.{GraphEndsWell, WeaveEndsWell};
 ghost use Rattle.cw_consequences.specs.Laws.{EachHasOneAnswer, FormIsChecked, FormIsJudged, FormatsAgree, ProcsIsWeave, StopGivesTheSame, WeaveHasOneAnswer};
+
+use cw_io::Sink;
 
 /// For a policy and a source one answer of `weave` is due.
 pub fn weave_has_one_answer()
@@ -32,4 +35,11 @@ pub fn stop_gives_the_same()
 /// states are over their number in format 1.
 pub fn formats_agree()
     ensures { FormatsAgree }
+{}
+
+/// What the stages of a command accept ends well: where a shelf has both files of `weave`, each stage accepts them, nothing is over its limit and no
+/// count rose, the status is 0 or 1, or 8 for want of memory; that of `graph` for a source that is read and has few points is 0, or 8.
+pub fn what_is_accepted_ends_well<N: Sink>()
+    ensures weave { WeaveEndsWell N }
+    ensures graph { GraphEndsWell N }
 {}
