@@ -41,7 +41,7 @@ use Rattle.cw_product.specs.Made.{IsMade}
 use Rattle.cw_product.specs.Product.{Held, game_of}
 use Rattle.cw_product.specs.Routed.{AreRouted}
 use Rattle.cw_solve.specs.declared.contexts.Context.{Context}
-use Rattle.cw_solve.specs.Contexts.{context, size, cells_of, IsSetOf, IsNeeded, of_main, of_call, AreTheNeeded, promise_at}
+use Rattle.cw_solve.specs.Contexts.{context, size, cells_of, IsSetOf, IsNeeded, of_main, of_call, AreNeeded, AreTheNeeded, promise_at}
 use Rattle.cw_solve.specs.Few.{most_cells}
 use Rattle.cw_solve.proofs.Counts.{sum_within}
 use Rattle.cw_product.proofs.Placing.{rise}
@@ -114,8 +114,8 @@ module _ (g : Game) where
     known : (c : Context) → IsNeeded g c → Contains (every functions) c
     known c need = let t = there c need in in_every functions c.function c.promise t.0 t.1
 
-    cells_below : (all : List Context) → AreTheNeeded g all → cells_of g all ≤ sum_by (λ (c : Context). size g c.function) (every functions)
-    cells_below all a = sum_within (λ (c : Context). size g c.function) all (every functions) a.some.distinct (λ c is. known c (a.some.needed c is))
+    cells_below : (all : List Context) → AreNeeded g all → cells_of g all ≤ sum_by (λ (c : Context). size g c.function) (every functions)
+    cells_below all a = sum_within (λ (c : Context). size g c.function) all (every functions) a.distinct (λ c is. known c (a.needed c is))
 
 -- ---- the positions of functions are apart
 
@@ -192,10 +192,10 @@ module _ (h : Held) (made : IsMade h) where
       ∙ sym (mul-add (2 ^ g.states.count) (before * g.states.count) (one * g.states.count))
       ∙ ap (λ k. 2 ^ g.states.count * k) (sym (add-mul before one g.states.count) ∙ ap (λ k. k * g.states.count) (sym more))
 
-  pub cells_are_few : (all : List Context) → AreTheNeeded (game_of h) all → cells_of (game_of h) all ≤ most_cells (game_of h)
-  cells_are_few all a =
+  pub cells_are_few : (some : List Context) → AreNeeded (game_of h) some → cells_of (game_of h) some ≤ most_cells (game_of h)
+  cells_are_few some a =
       let n = length parts in
-      let below = cells_below g n (routed_of h made) all a in
+      let below = cells_below g n (routed_of h made) some a in
       let sum = every_sum n (omega arith) in
       let whole : take n parts ≡ parts = take_all n parts (omega arith) in
       let spans_all = all_spans in

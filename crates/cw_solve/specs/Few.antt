@@ -9,18 +9,19 @@ use Rattle.cw_points.specs.declared.graph.Node.{Node}
 use Rattle.cw_product.specs.Made.{IsMade}
 use Rattle.cw_product.specs.Product.{Held, game_of}
 use Rattle.cw_solve.specs.declared.contexts.Context.{Context}
-use Rattle.cw_solve.specs.Contexts.{context, cells_of, AreTheNeeded}
+use Rattle.cw_solve.specs.Contexts.{context, cells_of, AreNeeded, AreTheNeeded}
 
 -- positions times states times the number of sets of states
 abbrev pub most_cells : Game → ℕ
 most_cells g = length g.spots * g.states.count * 2 ^ g.states.count
 
+-- Needed contexts, all or some, have no more cells than that.
 abbrev pub CellsAreFew : Type 0
-CellsAreFew = (h : Held) (all : List Context) → IsMade h → AreTheNeeded (game_of h) all → cells_of (game_of h) all ≤ most_cells (game_of h)
+CellsAreFew = (h : Held) (some : List Context) → IsMade h → AreNeeded (game_of h) some → cells_of (game_of h) some ≤ most_cells (game_of h)
 
--- So where these are within the limit the cells are never over it.
+-- So where these are within the limit the cells are never over it: no contexts that are needed have too many.
 abbrev pub CellsAreWithin : Type 0
-CellsAreWithin = (h : Held) (all : List Context) → IsMade h → AreTheNeeded (game_of h) all → most_cells (game_of h) ≤ limit_of Cells → cells_of (game_of h) all ≤ limit_of Cells
+CellsAreWithin = (h : Held) (some : List Context) → IsMade h → AreNeeded (game_of h) some → most_cells (game_of h) ≤ limit_of Cells → cells_of (game_of h) some ≤ limit_of Cells
 
 -- A game without calls has one context: `main` with all states.
 abbrev pub CallsMakeContexts : Type 0

@@ -15,7 +15,7 @@ pub fn cells_are_one_number()
     ensures { CellsAreOneNumber }
 {}
 
-/// The needed contexts of a program's game have no more cells than positions times states times 2 to the power of states; so where that is
+/// The needed contexts of a program's game, all or some, have no more cells than positions times states times 2 to the power of states; so where that is
 /// within the limit of cells they are never over it.
 pub fn cells_are_few()
     ensures few { CellsAreFew }
