@@ -11,7 +11,7 @@ ghost use Rattle.cw_audit.specs.Bounds.{AreMovesTo, IsEarly, IsTold, early_bound
 ghost use Rattle.cw_audit_listing.specs.Lists.{AreAllBelow};
 
 use crate::fault::AuditFault;
-use cw_audit_listing::{below, list};
+use cw_audit_listing::{below, list, ordered};
 use cw_audit_moves::tell;
 use cw_audit_store::{Place, Store};
 use cw_audit_table::AuditTable;
@@ -80,7 +80,7 @@ pub(crate) fn too_many(
     ensures many { IfOk result (λ many. many ≡ true → AreManyRows (game_of game.now)) }
 {
     let bound = early_bound(&search.store, key);
-    if !settle(alloc, game, search, bound)? {
+    if !settle(game, search, bound)? {
         return Ok(false);
     }
     are_many(alloc, game, search, bound)
@@ -113,18 +113,19 @@ fn table_of(
     alloc: Global,
     game: &Game,
     search: &Search,
-    places: &[Place],
+    places: Vec<Place>,
 ) -> Result<AuditTable, NoMemory>
     requires fair { IsFairGame game.now }
     requires kept { IsKept (game_of game.now) (functions_of game.now) search.now }
     requires settled { IsSettled (game_of game.now) (found_of search.now.store) (bound_of search.now.store.hit) }
     requires near { IsTold search.now.store.hit }
-    requires below { AreAllBelow search.now.store (bound_of search.now.store.hit) places.now }
-    requires few { length places.now ≤ 65536 }
+    requires below { AreAllBelow search.now.store (bound_of search.now.store.hit) places.items }
+    requires few { length places.items ≤ 65536 }
     ensures { IfOk result (λ t. IsAuditOf (game_of game.now) (functions_of game.now) (audit_of t)) }
 {
     let moves = moves_of(alloc, game, search)?;
-    let groups = list(alloc, &search.store, places)?;
+    let ordered = ordered(places)?;
+    let groups = list(alloc, &search.store, &ordered)?;
     Ok(AuditTable {
         states: game.states(),
         distance: distance_of(&search.store),
@@ -158,6 +159,6 @@ pub(crate) fn finish(alloc: Global, game: &Game, search: &Search) -> Result<Audi
     if is_far(&search.store) {
         return Err(AuditFault::TooManyMoves);
     }
-    let table = table_of(alloc, game, search, &places)?;
+    let table = table_of(alloc, game, search, places)?;
     Ok(table)
 }

@@ -18,7 +18,7 @@ ghost use Rattle.cw_audit.specs.Bounds.{bound_of};
 
 use crate::fault::AuditFault;
 use crate::finish::{MOST, bound_of, finish, too_many};
-use cw_audit_store::{Place, Store};
+use cw_audit_store::Store;
 use cw_audit_table::AuditTable;
 use cw_audit_visits::{Search, begin, settle, visit};
 use cw_core::NoMemory;
@@ -47,7 +47,7 @@ fn visit_next(
     search: &mut Search,
     pace: &mut Pace,
     key: u32,
-    place: Place,
+    number: usize,
 ) -> Result<bool, NoMemory>
     requires fair { IsFairGame game.now }
     requires kept { IsKept (game_of game.now) (functions_of game.now) search.old }
@@ -55,7 +55,7 @@ fn visit_next(
     ensures kept { OnOk result (IsKept (game_of game.now) (functions_of game.now) search.new) }
     ensures many { IfOk result (λ many. many ≡ true → AreManyRows (game_of game.now)) }
 {
-    visit(game, search, place)?;
+    visit(game, search, number)?;
     pace.visited = pace.visited.saturating_add(1);
     if pace.visited <= pace.limit {
         return Ok(false);
@@ -80,15 +80,15 @@ fn advance(
     ensures fault { IfErr result (λ fault. IsFaultOf (game_of game.now) (functions_of game.now) fault) }
 {
     match search.frontier.take() {
-        Some((key, place)) if is_nearer(&search.store, key) => {
-            if visit_next(alloc, game, search, pace, key, place)? {
+        Some((key, number)) if is_nearer(&search.store, key) => {
+            if visit_next(alloc, game, search, pace, key, number)? {
                 return Err(AuditFault::TooManyRows);
             }
             Ok(false)
         }
         Some(_) | None => {
             let bound = bound_of(&search.store);
-            let settled = settle(alloc, game, search, bound)?;
+            let settled = settle(game, search, bound)?;
             Ok(settled)
         }
     }

@@ -1,37 +1,39 @@
 -- The places that are kept: in order, and all that are below the bound.
 use Rattle.std.proofs.Common.{◌≡◌, ℕ, zero, suc, ◌+◌, ◌<◌, List, [], ◌∷◌, ◌++◌, map, Bool, true, false, cond, Option}
-use Rattle.std.proofs.Common.{Some, None, option_map, eqb, length, take, get_or, append-nil, refl, sym, ap, ◌∙◌, subst, arith, ◌⊎◌, inl, inr}
+use Rattle.std.proofs.Common.{Some, None, option_map, eqb, take, get_or, append-nil, refl, sym, ap, ◌∙◌, subst, arith, ◌⊎◌, inl, inr, true≢false}
 use Rattle.std.specs.Prelude.{slice_get, is_some, nat_lt}
 use Rattle.std.specs.declared.cmp.Ordering.{Ordering}
 use Rattle.std.specs.declared.cmp.Ordering.TheVariants.{Less, Equal, Greater}
-use Rattle.std.specs.Ordering.{ordering_then, nat_cmp, eq_by_cmp}
-use Rattle.std.specs.List.{AllByRecursion, IsDistinct, filter}
-use Rattle.std.specs.List.Sorted.{IsStrictlySortedBy}
-use Rattle.std.specs.Set.{is_member}
-use Rattle.std.specs.BTreeMap.{IsOrdered, get, keys as keys_of}
+use Rattle.std.specs.Ordering.{ordering_then, ordering_reverse, nat_cmp, is_lt}
+use Rattle.std.specs.List.{AllByRecursion, IsDistinct, filter, list_any}
+use Rattle.std.specs.List.Sorted.{IsPermutation, IsSorted, IsStrictlySortedBy}
+use Rattle.indexmap.specs.IndexMap.{IsUnique, keys as keys_of}
 use Rattle.std.specs.Prelude.{IfOk}
 use Rattle.std.proofs.Common.{Result, Ok, Err, Vec, Global}
-use Rattle.std.proofs.lemmas.Option.{none-some, same_Some, slice_get-map}
+use Rattle.std.proofs.lemmas.Option.{none-some, same_Some, slice_get-map, slice_get_within, slice_get-get_or, get_or_from_slice_get}
+use Rattle.std.proofs.lemmas.List.{get_or-map, length-map}
 use Rattle.std.proofs.lemmas.Bool.{ltb-true, lt-ltb, cases_Bool}
 use Rattle.std.proofs.lemmas.Bool.Decides.{nat_tests}
-use Rattle.std.proofs.lemmas.List.Elements.{filter_more}
-use Rattle.std.proofs.lemmas.List.Kept.{IsStrictlySortedBy-filter}
-use Rattle.std.proofs.lemmas.Map.Keys.{sorted_head, sorted_tail, IsDistinct-cons}
+use Rattle.std.proofs.lemmas.List.Elements.{filter_more, All-from_recursion, recursion_from_All}
+use Rattle.std.proofs.lemmas.List.Sorted.{All-permutation, Contains-permutation, IsPermutation-map, IsPermutation-sym, length_permutation}
+use Rattle.std.proofs.lemmas.Map.Keys.{sorted_head, sorted_tail, sorted_from_all_adjacent, apart_from_distinct, IsDistinct-cons, IsDistinct-head, IsDistinct-tail, IsDistinct-IsPermutation}
+use Rattle.std.proofs.lemmas.Map.Made.{is_some-lookup}
 use Rattle.cw_lemmas.proofs.Lists.{any_get}
-use Rattle.cw_lemmas.proofs.Orders.{is_eq_equal, then_equal}
+use Rattle.cw_lemmas.proofs.Orders.{then_equal}
 use Rattle.cw_audit_table.specs.Runs.{cut}
 use Rattle.cw_audit_table.specs.Conditions.{is_before}
 use Rattle.cw_audit_store.specs.declared.place.Place.{Place}
 use Rattle.cw_audit_store.specs.declared.place.Entered.{Entered}
 use Rattle.cw_audit_store.specs.declared.place.Row.{Row}
 use Rattle.cw_audit_store.specs.declared.store.Store.{Store}
-use Rattle.cw_audit_store.specs.Stores.{row_at, group_at, place_cmp, entrance_cmp}
+use Rattle.cw_audit_store.specs.Stores.{row_at, group_at, place_cmp, place_eq, entrance_cmp}
+use Rattle.cw_audit_store.proofs.Orders.{place_total, eq_place, equal_places}
 use Rattle.cw_audit_store.specs.Finding.{found_of, place, entrance}
 use Rattle.cw_audit_search.specs.Settled.{IsRowBelow}
 use Rattle.cw_audit_search.specs.Counted.{Place as PlainPlace, is_place}
 use Rattle.cw_audit_search.specs.Grouped.{IsAfter, IsPlaceAfter, Ascend}
-use Rattle.cw_audit_search.proofs.Counting.{place_same, apart}
-use Rattle.cw_audit_listing.specs.Lists.{plain, IsKnown, is_below_by, is_below, IsLimit, AreAllBelow}
+use Rattle.cw_audit_search.proofs.Counting.{places_laws}
+use Rattle.cw_audit_listing.specs.Lists.{plain, IsKnown, is_below_by, is_below, IsLimit, AreAllBelow, AreOrdered}
 
 -- by the orders of numbers, entrances and places
 nat_less : (m n : ℕ) → nat_cmp m n ≡ Less → m < n
@@ -82,25 +84,24 @@ sorted_ascend : (xs : List Place) → IsStrictlySortedBy place_cmp xs → Ascend
 sorted_ascend [] h = tt
 sorted_ascend (x ∷ xs) h = (mapped_after x xs (sorted_head place_cmp x xs h), sorted_ascend xs (sorted_tail place_cmp x xs h))
 
-not_same : (k j : PlainPlace) → IsPlaceAfter k j → is_place k j ≡ false
-not_same k j h = apart k j (λ e.
-    let same = place_same (λ i. (i.0 ≡ k.0) × (i.1 ≡ k.1) × (i.2 ≡ k.2) × (i.3 ≡ k.3)) k j e (refl, refl, refl, refl) in
-    elim h [
-      | inl a ↦ after_not (k.0, k.1) (j.0, j.1) a same.0 same.1
-      | inr a ↦ after_not (k.2, k.3) (j.2, j.3) a.1 same.2 same.3
-    ])
+-- places that are apart stay so where some are left out
+all_left : (test : Place → Bool) (x : Place) (ys : List Place) → AllByRecursion (λ y. place_eq x y ≡ false) ys → AllByRecursion (λ k. is_place (plain x) k ≡ false) (map plain (filter test ys))
+all_left test x [] h = tt
+all_left test x (y ∷ ys) h = by (test y) (all_left test x ys h.1)
   where
-    after_not : (a b : ℕ × ℕ) → IsAfter a b → b.0 ≡ a.0 → b.1 ≡ a.1 → ⊥
-    after_not a b h e f = elim h [ inl x ↦ omega (arith, x, e) | inr x ↦ let y = x.1 in omega (arith, y, f) ]
+    by : (b : Bool) → AllByRecursion (λ k. is_place (plain x) k ≡ false) (map plain (filter test ys))
+        → AllByRecursion (λ k. is_place (plain x) k ≡ false) (map plain (cond b (y ∷ filter test ys) (filter test ys)))
+    by true rest = (sym (eq_place x y) ∙ h.0, rest)
+    by false rest = rest
 
-all_apart : (k : PlainPlace) (ks : List PlainPlace) → AllByRecursion (IsPlaceAfter k) ks → AllByRecursion (λ j. is_place k j ≡ false) ks
-all_apart k [] h = tt
-all_apart k (j ∷ ks) h = (not_same k j h.0, all_apart k ks h.1)
-
-ascend_distinct : (ks : List PlainPlace) → Ascend ks → IsDistinct is_place ks
+left_distinct : (test : Place → Bool) (xs : List Place) → IsDistinct place_eq xs → IsDistinct is_place (map plain (filter test xs))
 unfolding IsDistinct
-ascend_distinct [] h = tt
-ascend_distinct (k ∷ ks) h = IsDistinct-cons is_place k ks (all_apart k ks h.0) (ascend_distinct ks h.1)
+left_distinct test [] h = tt
+left_distinct test (x ∷ xs) h = by (test x) (left_distinct test xs (IsDistinct-tail place_eq x xs h))
+  where
+    by : (b : Bool) → IsDistinct is_place (map plain (filter test xs)) → IsDistinct is_place (map plain (cond b (x ∷ filter test xs) (filter test xs)))
+    by true rest = IsDistinct-cons is_place (plain x) (map plain (filter test xs)) (all_left test x xs (IsDistinct-head place_eq x xs h)) rest
+    by false rest = rest
 
 -- what is kept passes the test, and what passes it is kept
 module _ (test : Place → Bool) where
@@ -160,18 +161,14 @@ module _ (s : Store) (bound : ℕ) where
       ap (λ o. is_below_by bound o (row_at s at)) eg ∙ ap (is_below_by bound (Some e)) er ∙ lt-ltb (cut (e.reach + r.inside)) bound l
 
   -- The places of the keys that are below the bound.
-  pub all_below : (keys places : List Place) → IsStrictlySortedBy place_cmp keys → ((q : Place) → is_some (row_at s q) ≡ is_member (eq_by_cmp place_cmp) keys q)
+  pub all_below : (keys places : List Place) → IsDistinct place_eq keys → ((q : Place) → is_some (row_at s q) ≡ list_any (place_eq q) keys)
       → places ≡ filter (is_below s bound) keys → AreAllBelow s bound places
-  all_below keys places sorted has e = subst (AreAllBelow s bound) (sym e) (record {
+  all_below keys places unique has e = subst (AreAllBelow s bound) (sym e) (record {
     known = all_kept (is_below s bound) (IsKnown s) is_known keys;
-    ascend = ascend;
-    distinct = ascend_distinct (map plain (filter (is_below s bound) keys)) ascend;
+    distinct = left_distinct (is_below s bound) keys unique;
     below = λ D l. record { found = found D l; whole = whole D l };
   })
     where
-      ascend : Ascend (map plain (filter (is_below s bound) keys))
-      ascend = sorted_ascend (filter (is_below s bound) keys) (IsStrictlySortedBy-filter place_cmp (is_below s bound) keys sorted)
-
       from : (o : Option Place) (k : PlainPlace) → option_map plain o ≡ Some k → (at : Place) × (o ≡ Some at) × (plain at ≡ k)
       from None k e = absurd (none-some k e)
       from (Some at) k e = (at, refl, same_Some (plain at) k e)
@@ -195,28 +192,79 @@ module _ (s : Store) (bound : ℕ) where
           let g = some_mapped (λ (e : Entered). e.reach) (group_at s (entrance f q)) r w.0 in
           let n = some_mapped (λ (r : Row). r.inside) (row_at s at) a w.1 in
           let sum : cut (g.0.reach + n.0.inside) < bound = let k = low D l (r + a) w.2 in omega (arith, k, g.2, n.2) in
-          let z = any_get (eq_by_cmp place_cmp at) keys (sym (has at) ∙ ap is_some n.1) in
-          let same = place_equal at z.1 (is_eq_equal (place_cmp at z.1) z.3) in
+          let z = any_get (place_eq at) keys (sym (has at) ∙ ap is_some n.1) in
+          let same = equal_places at z.1 z.3 in
           let k = pass_kept (is_below s bound) keys z.0 at (z.2 ∙ ap (λ y. Some y) (sym same)) (below_there g.0 n.0 at g.1 n.1 sum) in
           (k.0, slice_get-map plain (filter (is_below s bound) keys) k.0 ∙ ap (option_map plain) k.1)
 
-pub all_below_of : {E : Type 0} (s : Store) (bound : ℕ) (result : Result (Vec Place Global) E) (keys places : List Place) → keys ≡ keys_of s.rows → IsOrdered place_cmp s.rows
-    → ((q : Place) → is_some (get place_cmp s.rows q) ≡ is_member (eq_by_cmp place_cmp) keys q) → places ≡ keys_of s.rows
-    → IfOk result (λ v. v.items ≡ filter (is_below s bound) places) → IfOk result (λ v. AreAllBelow s bound v.items)
-all_below_of s bound (Ok v) keys places e ordered has ep h =
-    all_below s bound (keys_of s.rows) v.items ordered (λ q. has q ∙ ap (λ ks. is_member (eq_by_cmp place_cmp) ks q) e) (h ∙ ap (filter (is_below s bound)) ep)
-all_below_of s bound (Err x) keys places e ordered has ep h = tt
+pub all_below_of : {E : Type 0} (s : Store) (bound : ℕ) (result : Result (Vec Place Global) E) → IsUnique place_eq s.rows
+    → IfOk result (λ v. v.items ≡ filter (is_below s bound) (keys_of s.rows)) → IfOk result (λ v. AreAllBelow s bound v.items)
+all_below_of s bound (Ok v) unique h = all_below s bound (keys_of s.rows) v.items unique (λ q. is_some-lookup (place_eq q) s.rows.entries) h
+all_below_of s bound (Err x) unique h = tt
 
--- one place more
+-- one row more
 abbrev pub nowhere : Place
 nowhere = place 0 0 0 0
 
-pub kept_more : (test : Place → Bool) (xs below after : List Place) (i : ℕ) → i < length xs → below ≡ filter test (take i xs) → true ≡ test (get_or xs i nowhere)
-    → after ≡ below ++ get_or xs i nowhere ∷ [] → after ≡ filter test (take (i + 1) xs)
-kept_more test xs below after i l e t is =
-    is ∙ ap (λ ys. ys ++ get_or xs i nowhere ∷ []) e ∙ ap (λ b. filter test (take i xs) ++ cond b (get_or xs i nowhere ∷ []) []) t ∙ sym (filter_more test xs i nowhere l)
+module _ (s : Store) (bound i : ℕ) (at : Place) (row : Row) (is : Some (at, row) ≡ slice_get s.rows.entries i) (there : row_at s at ≡ Some row) where
+  key_there : slice_get (keys_of s.rows) i ≡ Some at
+  key_there = slice_get-map (λ (e : Place × Row). e.0) s.rows.entries i ∙ ap (option_map (λ (e : Place × Row). e.0)) (sym is)
 
-pub kept_less : (test : Place → Bool) (xs below after : List Place) (i : ℕ) → i < length xs → below ≡ filter test (take i xs) → false ≡ test (get_or xs i nowhere) → after ≡ below
-    → after ≡ filter test (take (i + 1) xs)
-kept_less test xs below after i l e t is =
-    is ∙ e ∙ sym (append-nil (filter test (take i xs))) ∙ ap (λ b. filter test (take i xs) ++ cond b (get_or xs i nowhere ∷ []) []) t ∙ sym (filter_more test xs i nowhere l)
+  key_is : get_or (keys_of s.rows) i nowhere ≡ at
+  key_is = get_or_from_slice_get (keys_of s.rows) i at nowhere key_there
+
+  filtered : (b : Bool) → is_below_by bound (group_at s at.entrance) (Some row) ≡ b
+      → filter (is_below s bound) (take (i + 1) (keys_of s.rows)) ≡ filter (is_below s bound) (take i (keys_of s.rows)) ++ cond b (at ∷ []) []
+  filtered b t =
+      filter_more (is_below s bound) (keys_of s.rows) i nowhere (slice_get_within (keys_of s.rows) i at key_there)
+      ∙ ap (λ k. filter (is_below s bound) (take i (keys_of s.rows)) ++ cond (is_below s bound k) (k ∷ []) []) key_is
+      ∙ ap (λ c. filter (is_below s bound) (take i (keys_of s.rows)) ++ cond c (at ∷ []) []) (ap (is_below_by bound (group_at s at.entrance)) there ∙ t)
+
+  pub kept_more : (below after : List Place) → below ≡ filter (is_below s bound) (take i (keys_of s.rows)) → true ≡ is_below_by bound (group_at s at.entrance) (Some row)
+      → after ≡ below ++ at ∷ [] → after ≡ filter (is_below s bound) (take (i + 1) (keys_of s.rows))
+  kept_more below after e t w = w ∙ ap (λ ys. ys ++ at ∷ []) e ∙ sym (filtered true (sym t))
+
+  pub kept_less : (below after : List Place) → below ≡ filter (is_below s bound) (take i (keys_of s.rows)) → false ≡ is_below_by bound (group_at s at.entrance) (Some row)
+      → after ≡ below → after ≡ filter (is_below s bound) (take (i + 1) (keys_of s.rows))
+  kept_less below after e t w = w ∙ e ∙ sym (append-nil (filter (is_below s bound) (take i (keys_of s.rows)))) ∙ sym (filtered false (sym t))
+
+-- what is put in order
+module _ (xs ys : List Place) (moved : IsPermutation xs ys) where
+  plain_moved : IsPermutation (map plain xs) (map plain ys)
+  plain_moved = IsPermutation-map plain xs ys moved
+
+  goes : (us vs : List PlainPlace) → IsPermutation us vs → (m : ℕ) (k : PlainPlace) → slice_get us m ≡ Some k → (n : ℕ) × (slice_get vs n ≡ Some k)
+  goes us vs p m k e =
+      let c = Contains-permutation us vs k p (m, slice_get_within us m k e, get_or_from_slice_get us m k k e) in
+      (c.0, slice_get-get_or vs c.0 k c.1 ∙ ap (λ x. Some x) c.2)
+
+  pub order_kept : (s : Store) (bound : ℕ) → AreAllBelow s bound xs → AreAllBelow s bound ys
+  order_kept s bound h = record {
+    known = recursion_from_All (IsKnown s) ys (All-permutation (IsKnown s) xs ys moved (All-from_recursion (IsKnown s) xs h.known));
+    distinct = IsDistinct-IsPermutation is_place places_laws.symm (map plain xs) (map plain ys) plain_moved h.distinct;
+    below = λ D l.
+        let b = h.below D l in
+        record {
+          found = λ m k e. let z = goes (map plain ys) (map plain xs) (IsPermutation-sym (map plain xs) (map plain ys) plain_moved) m k e in b.found z.0 k z.1;
+          whole = λ f q r p x a w. let z = b.whole f q r p x a w in goes (map plain xs) (map plain ys) plain_moved z.0 (f, q, p, x) z.1;
+        };
+  }
+
+  less_of : (x y : Place) → is_lt (place_cmp y x) ≡ false → is_place (plain x) (plain y) ≡ false → place_cmp x y ≡ Less
+  less_of x y not_less apart = by (place_cmp x y) refl
+    where
+      by : (o : Ordering) → place_cmp x y ≡ o → place_cmp x y ≡ Less
+      by Less e = e
+      by Equal e = let same = place_equal x y e in absurd (true≢false (sym (places_laws.refl (plain x)) ∙ ap (λ z. is_place (plain x) (plain z)) same ∙ apart))
+      by Greater e = absurd (true≢false (ap is_lt (sym (place_total.antisymm y x ∙ ap ordering_reverse e)) ∙ not_less))
+
+  pub order_ascends : IsSorted place_cmp ys → (s : Store) (bound : ℕ) → AreAllBelow s bound xs → Ascend (map plain ys)
+  order_ascends sorted s bound h =
+      let apart = (order_kept s bound h).distinct in
+      sorted_ascend ys (sorted_from_all_adjacent place_total ys nowhere (λ k low.
+      less_of (get_or ys k nowhere) (get_or ys (k + 1) nowhere) (sorted k nowhere (omega arith) low)
+      (let a = apart_from_distinct is_place (map plain ys) k (k + 1) (plain nowhere) apart (omega arith) (omega (arith, low, length-map ys plain)) in
+      subst (λ z. is_place z (plain (get_or ys (k + 1) nowhere)) ≡ false) (get_or-map plain ys k nowhere (plain nowhere) (omega (arith, low))) (subst (λ z. is_place (get_or (map plain ys) k (plain nowhere)) z ≡ false) (get_or-map plain ys (k + 1) nowhere (plain nowhere) low) a))))
+
+  pub are_ordered : IsSorted place_cmp ys → AreOrdered xs ys
+  are_ordered sorted = record { many = length_permutation xs ys moved; below = order_kept; ascend = order_ascends sorted }

@@ -72,9 +72,14 @@ abbrev pub IsLimit : (bound : ℕ) → Option ℕ → Type 0
 IsLimit bound None = 65538 ≤ bound
 IsLimit bound (Some d) = d ≡ bound
 
--- These places ascend, each with its row and its group, none of them twice, and are those below each distance of the bound.
+-- These places, each with its row and its group, none of them twice, are those below each distance of the bound.
 pub record AreAllBelow (s : Store) (bound : ℕ) (places : List Place) : Type 0 where
   pub known : AreKnown s places
-  pub ascend : Ascend (map plain places)
   pub distinct : IsDistinct is_place (map plain places)
   pub below : (D : Option ℕ) → IsLimit bound D → AreBelow (found_of s) D (map plain places)
+
+-- The second list has the places of the first, and they ascend.
+pub record AreOrdered (places ordered : List Place) : Type 0 where
+  pub many : length ordered ≡ length places
+  pub below : (s : Store) (bound : ℕ) → AreAllBelow s bound places → AreAllBelow s bound ordered
+  pub ascend : (s : Store) (bound : ℕ) → AreAllBelow s bound places → Ascend (map plain ordered)

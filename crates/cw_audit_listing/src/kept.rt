@@ -1,48 +1,61 @@
 //! The places below a bound.
 
-ghost use Rattle.std.specs.Prelude.{◌≡◌, IfOk};
+ghost use Rattle.std.specs.Prelude.{◌≡◌, Some, IfOk};
 ghost use Rattle.std.specs.List.{filter};
-ghost use Rattle.cw_audit_listing.specs.Lists.{is_below, AreAllBelow};
+ghost use Rattle.indexmap.specs.IndexMap.{keys};
+ghost use Rattle.cw_audit_store.specs.Stores.{group_at};
+ghost use Rattle.cw_audit_listing.specs.Lists.{is_below, is_below_by, AreAllBelow, AreOrdered};
 
-use cw_audit_store::{Place, Store};
+use cw_audit_store::{Place, Row, Store};
 use cw_core::NoMemory;
 use std::alloc::Global;
 
 /// The greatest number that is told apart, and 1.
 const CUT: u64 = 65_537;
 
-// Whether a place has a row and its entrance a group, and their sum, cut, is below the bound.
-fn is_below(store: &Store, place: Place, bound: u32) -> bool
-    ensures { result ≡ is_below store.now bound place }
+// Whether a row's entrance has a group, and their sum, cut, is below the bound.
+fn is_below(store: &Store, place: Place, row: Row, bound: u32) -> bool
+    ensures { result ≡ is_below_by bound (group_at store.now place.entrance) (Some row) }
 {
-    match (store.group(place.entrance), store.row(place)) {
-        (Some(group), Some(row)) => {
+    match store.group(place.entrance) {
+        Some(group) => {
             (u64::from(group.reach) + u64::from(row.inside)).min(CUT) < u64::from(bound)
         }
-        (_, _) => false,
+        None => false,
     }
 }
 
-// Those of the places that are below the bound, in the same order.
-fn kept(alloc: Global, store: &Store, places: &[Place], bound: u32) -> Result<Vec<Place>, NoMemory>
-    ensures { IfOk result (λ v. v.items ≡ filter (is_below store.now bound) places.now) }
+// The places of the rows that are below the bound, in the order in which these were found.
+fn kept(alloc: Global, store: &Store, bound: u32) -> Result<Vec<Place>, NoMemory>
+    ensures { IfOk result (λ v. v.items ≡ filter (is_below store.now bound) (keys store.now.rows)) }
 {
     let mut below = Vec::new(alloc);
-    for place in places {
-        if is_below(store, *place, bound) {
-            below.push(*place)?;
+    for number in 0..store.count() {
+        let Some((place, row)) = store.numbered(number) else {
+            return Ok(below);
+        };
+        if is_below(store, place, row, bound) {
+            below.push(place)?;
         }
     }
     Ok(below)
 }
 
-/// The places of a store whose rows are below a bound, with their group's reach and cut, ascending by function, entered state,
-/// position and state. The one error is want of memory.
+/// The places of a store whose rows are below a bound, with their group's reach and cut, in the order in which these were found. The
+/// one error is want of memory.
 pub fn below(alloc: Global, store: &Store, bound: u32) -> Result<Vec<Place>, NoMemory>
     ensures { IfOk result (λ v. AreAllBelow store.now bound v.items) }
 {
-    // The keys ascend, and are those that have a row.
-    let _ = store.rows.keys();
-    let places = store.places(alloc)?;
-    kept(alloc, store, &places, bound)
+    // No two keys are the same.
+    let _ = store.rows.len();
+    kept(alloc, store, bound)
+}
+
+/// The places ascending by function, entered state, position and state. The one error is want of memory.
+pub fn ordered(places: Vec<Place>) -> Result<Vec<Place>, NoMemory>
+    ensures { IfOk result (λ v. AreOrdered places.items v.items) }
+{
+    let mut ordered = places;
+    ordered.sort()?;
+    Ok(ordered)
 }

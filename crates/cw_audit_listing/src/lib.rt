@@ -5,4 +5,4 @@ mod groups;
 mod kept;
 
 pub use groups::list;
-pub use kept::below;
+pub use kept::{below, ordered};

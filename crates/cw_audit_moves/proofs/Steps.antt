@@ -77,9 +77,9 @@ module _ (g : Game) (functions : ℕ) (s : Found) (w : Ways) (ready : IsReady g 
 
   -- what is called is a function
   pub callee_below : (f q p x n : ℕ) (by : Way) → IsWay g s f q p x n (way_of by) → IsCallee functions by
-  callee_below f q p x n (Returned p0 x0 h y) k = ready.fair.below h (inr (p0.0, k.5.0, k.5.1, k.5.2))
+  callee_below f q p x n (Returned x0 p0 h y) k = ready.fair.below h (inr (p0.0, k.5.0, k.5.1, k.5.2))
   callee_below f q p x n Begun k = tt
-  callee_below f q p x n (Moved p0 x0 by) k = tt
+  callee_below f q p x n (Moved x0 p0 by) k = tt
 
   -- at the end all is written
   pub all_written : (n : ℕ) (written : List Move) (left : List Todo) → left ≡ [] → IsWriting g s w n written left → IsRunTo g written n

@@ -24,7 +24,7 @@ stack_of items = reverse (map todo_of items)
 
 -- a function that is called by the way is one of so many
 abbrev pub IsCallee : (functions : ℕ) → Way → Type 0
-IsCallee functions (Returned p x f y) = f < functions
+IsCallee functions (Returned x p f y) = f < functions
 IsCallee functions _ = Unit {0}
 
 -- these moves lead to a bad pair, and are as many

@@ -31,7 +31,7 @@ pub(crate) fn put_way(
 {
     match way {
         Way::Begun => {}
-        Way::Moved(pos, state, by) => {
+        Way::Moved(state, pos, by) => {
             todo.push(Todo::Step(by))?;
             todo.push(Todo::Row(Place {
                 entrance,
@@ -39,7 +39,7 @@ pub(crate) fn put_way(
                 state,
             }))?;
         }
-        Way::Returned(pos, state, callee, ended) => {
+        Way::Returned(state, pos, callee, ended) => {
             todo.push(Todo::Step(Move::On))?;
             todo.push(Todo::Row(Place {
                 entrance: Entrance {

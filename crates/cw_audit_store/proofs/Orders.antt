@@ -1,14 +1,17 @@
 -- Places and entrances are in order, and those that compare as equal are the same.
-use Rattle.std.proofs.Common.{◌≡◌, ℕ, ◌∙◌, Bool, true, false, refl, ap, arith}
+use Rattle.std.proofs.Common.{◌≡◌, ℕ, ◌∙◌, Bool, true, false, refl, sym, ap, arith}
 use Rattle.std.specs.Prelude.{nat_eq, ◌&&◌}
 use Rattle.std.specs.declared.cmp.Ordering.{Ordering}
 use Rattle.std.specs.declared.cmp.Ordering.TheVariants.{Less, Equal, Greater}
 use Rattle.std.specs.Ordering.{is_eq, nat_cmp, ordering_then}
 use Rattle.std.specs.BTreeMap.{is_at}
 use Rattle.std.specs.Cmp.{IsTotalOrder, both_ways, on_total, then_total, nat_cmp_total}
+use Rattle.cw_audit_search.specs.Searches.{is_row}
+use Rattle.cw_audit_search.proofs.Setting.{same_row}
 use Rattle.cw_audit_store.specs.declared.place.Entrance.{Entrance}
 use Rattle.cw_audit_store.specs.declared.place.Place.{Place}
-use Rattle.cw_audit_store.specs.Stores.{entrance_cmp, place_cmp}
+use Rattle.cw_audit_store.specs.Stores.{entrance_cmp, place_cmp, place_eq}
+use Rattle.cw_audit_store.specs.Finding.{place}
 
 pub entrance_total : IsTotalOrder entrance_cmp
 entrance_total = then_total (on_total (λ (a : Entrance). a.function) nat_cmp_total) (on_total (λ (a : Entrance). a.state.0) nat_cmp_total)
@@ -43,3 +46,22 @@ same_place a b =
     (eq_then (nat_cmp a.pos.0 b.pos.0) (nat_cmp a.state.0 b.state.0)
     ∙ ap (λ s. s && is_eq (nat_cmp a.state.0 b.state.0)) (eq_nat a.pos.0 b.pos.0)
     ∙ ap (λ s. nat_eq b.pos.0 a.pos.0 && s) (eq_nat a.state.0 b.state.0))
+
+flip : (m n : ℕ) → nat_eq m n ≡ nat_eq n m
+flip m n = both_ways (nat_eq m n) (nat_eq n m) (λ e. grind (arith, e)) (λ e. grind (arith, e))
+
+pub and_by : (a b c d : Bool) → ((a && b) && (c && d)) ≡ (a && (b && (c && d)))
+and_by true b c d = refl
+and_by false b c d = refl
+
+-- places are equal that have the same numbers
+pub eq_place : (a b : Place)
+    → place_eq a b ≡ is_row a.entrance.function a.entrance.state.0 a.pos.0 a.state.0 b.entrance.function b.entrance.state.0 b.pos.0 b.state.0
+eq_place a b =
+    (λ i. (flip a.entrance.function b.entrance.function i && flip a.entrance.state.0 b.entrance.state.0 i) && (flip a.pos.0 b.pos.0 i && flip a.state.0 b.state.0 i))
+    ∙ and_by (nat_eq b.entrance.function a.entrance.function) (nat_eq b.entrance.state.0 a.entrance.state.0) (nat_eq b.pos.0 a.pos.0) (nat_eq b.state.0 a.state.0)
+
+pub equal_places : (a b : Place) → place_eq a b ≡ true → a ≡ b
+equal_places a b e =
+    same_row (λ f q p x. a ≡ place f q p x) a.entrance.function a.entrance.state.0 a.pos.0 a.state.0 b.entrance.function b.entrance.state.0 b.pos.0 b.state.0
+    (sym (eq_place a b) ∙ e) refl

@@ -29,8 +29,8 @@ found_of s = record {
 -- and how it was come to
 abbrev pub way_of : Way → way.Way
 way_of (store.Begun) = way.Begun
-way_of (store.Moved p x by) = way.Moved p.0 x.0 by
-way_of (store.Returned p x f y) = way.Returned p.0 x.0 f y.0
+way_of (store.Moved x p by) = way.Moved p.0 x.0 by
+way_of (store.Returned x p f y) = way.Returned p.0 x.0 f y.0
 
 abbrev pub caller_of : Place → way.Caller
 caller_of at = record { function = at.entrance.function; entered = at.entrance.state.0; pos = at.pos.0 }

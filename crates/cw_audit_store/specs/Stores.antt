@@ -1,8 +1,8 @@
 -- What a search has found, as functions.
-use Rattle.std.specs.Prelude.{ℕ, ◌+◌, ◌-◌, ◌*◌, ◌^◌, Bool, true, Option, Some, None, nat_lt, option_map, sum_by}
+use Rattle.std.specs.Prelude.{ℕ, ◌+◌, ◌-◌, ◌*◌, ◌^◌, Bool, true, ◌&&◌, Option, Some, None, nat_eq, nat_lt, sum_by}
 use Rattle.std.specs.declared.cmp.Ordering.{Ordering}
 use Rattle.std.specs.Ordering.{ordering_then, nat_cmp}
-use Rattle.std.specs.BTreeMap.{BTreeMap, get, values}
+use Rattle.indexmap.specs.IndexMap.{IndexMap, get, values}
 use Rattle.cw_audit_store.specs.declared.place.Entrance.{Entrance}
 use Rattle.cw_audit_store.specs.declared.place.Place.{Place}
 use Rattle.cw_audit_store.specs.declared.place.Row.{Row}
@@ -16,11 +16,18 @@ entrance_cmp a b = ordering_then (nat_cmp a.function b.function) (nat_cmp a.stat
 abbrev pub place_cmp : Place → Place → Ordering
 place_cmp a b = ordering_then (entrance_cmp a.entrance b.entrance) (ordering_then (nat_cmp a.pos.0 b.pos.0) (nat_cmp a.state.0 b.state.0))
 
+-- whether two are the same
+abbrev pub entrance_eq : Entrance → Entrance → Bool
+entrance_eq a b = nat_eq a.function b.function && nat_eq a.state.0 b.state.0
+
+abbrev pub place_eq : Place → Place → Bool
+place_eq a b = entrance_eq a.entrance b.entrance && (nat_eq a.pos.0 b.pos.0 && nat_eq a.state.0 b.state.0)
+
 abbrev pub row_at : Store → Place → Option Row
-row_at s place = get place_cmp s.rows place
+row_at s place = get place_eq s.rows place
 
 abbrev pub group_at : Store → Entrance → Option Entered
-group_at s entrance = get entrance_cmp s.groups entrance
+group_at s entrance = get entrance_eq s.groups entrance
 
 -- the number is less than that which is there, or there is none yet
 abbrev pub is_lower_by : {X : Type 0} → (X → ℕ) → ℕ → Option X → Bool
@@ -45,10 +52,10 @@ hit_gap None = 0
 hit_gap (Some h) = gap h.distance
 
 -- what was done: how far the numbers that were found are below those that are not
-abbrev pub rows_done : BTreeMap Place Row → ℕ
+abbrev pub rows_done : {S : Type 0} → IndexMap Place Row S → ℕ
 rows_done m = sum_by (λ (r : Row). gap r.inside) (values m)
 
-abbrev pub groups_done : BTreeMap Entrance Entered → ℕ
+abbrev pub groups_done : {S : Type 0} → IndexMap Entrance Entered S → ℕ
 groups_done m = sum_by (λ (e : Entered). gap e.reach) (values m)
 
 -- what is left to do: there are fewer than 2 ^ 63 rows, and groups, and one violation

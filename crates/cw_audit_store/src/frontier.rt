@@ -5,50 +5,54 @@ ghost use Rattle.std.specs.BinaryHeap.{heap_len};
 
 use crate::place::{Entrance, Place};
 use cw_core::NoMemory;
+use indexmap::IndexMap;
 use std::alloc::Global;
 use std::cmp::Reverse;
-use std::collections::{BTreeMap, BinaryHeap};
+use std::collections::BinaryHeap;
 
-/// The places that wait to be visited, the nearest first, and the calls that were found, by the entrances to which they lead.
+/// The rows that wait to be visited, by their numbers, the nearest first, and the calls that were found, by the entrances to which
+/// they lead.
 ///
-/// Nothing but how many places wait is promised: what is visited when is a matter of speed.
+/// Nothing but how many rows wait is promised: what is visited when is a matter of speed.
 #[derive(Drop)]
 pub struct Frontier {
-    pub places: BinaryHeap<Reverse<(u32, Place)>>,
-    calls: BTreeMap<Entrance, Vec<Place>>,
+    pub rows: BinaryHeap<Reverse<(u32, usize)>>,
+    calls: IndexMap<Entrance, Vec<Place>>,
     alloc: Global,
 }
 
 impl Frontier {
     /// Nothing waits.
-    pub fn make(alloc: Global) -> Frontier {
+    pub fn make(alloc: Global) -> Frontier
+        ensures { heap_len result.rows ≡ 0 }
+    {
         Frontier {
-            places: BinaryHeap::new(alloc),
-            calls: BTreeMap::new(alloc),
+            rows: BinaryHeap::new(alloc),
+            calls: IndexMap::new(alloc),
             alloc,
         }
     }
 
-    /// One place more waits. The one error is want of memory.
-    pub fn put(&mut self, key: u32, place: Place) -> Result<(), NoMemory>
-        ensures { OnOk result (heap_len self.new.places ≡ heap_len self.old.places + 1) }
+    /// One row more waits. The one error is want of memory.
+    pub fn put(&mut self, key: u32, row: usize) -> Result<(), NoMemory>
+        ensures { OnOk result (heap_len self.new.rows ≡ heap_len self.old.rows + 1) }
     {
-        self.places.push(Reverse((key, place)))?;
+        self.rows.push(Reverse((key, row)))?;
         Ok(())
     }
 
-    /// A place that waits, with its key. It waits no more.
-    pub fn take(&mut self) -> Option<(u32, Place)>
-        ensures some { IfSome result (λ _. heap_len self.new.places + 1 ≡ heap_len self.old.places) }
-        ensures none { IfNone result (heap_len self.new.places ≡ heap_len self.old.places) }
+    /// The number of a row that waits, with its key. It waits no more.
+    pub fn take(&mut self) -> Option<(u32, usize)>
+        ensures some { IfSome result (λ _. heap_len self.new.rows + 1 ≡ heap_len self.old.rows) }
+        ensures none { IfNone result (heap_len self.new.rows ≡ heap_len self.old.rows) }
     {
-        let Reverse(next) = self.places.pop()?;
+        let Reverse(next) = self.rows.pop()?;
         Some(next)
     }
 
     /// The place calls the entrance. The one error is want of memory.
     pub fn put_call(&mut self, entrance: Entrance, place: Place) -> Result<(), NoMemory>
-        ensures { OnOk result (self.new.places ≡ self.old.places) }
+        ensures { OnOk result (self.new.rows ≡ self.old.rows) }
     {
         match self.calls.get_mut(&entrance) {
             Some(places) => places.push(place)?,
@@ -61,7 +65,7 @@ impl Frontier {
         Ok(())
     }
 
-    /// A call of the entrance, by its number in the order in which they were found.
+    /// A call of the entrance, by its number in the order in which they were found. Whoever goes on at it tests that it is one.
     pub fn call(&self, entrance: Entrance, number: usize) -> Option<Place> {
         self.calls.get(&entrance)?.get(number).copied()
     }

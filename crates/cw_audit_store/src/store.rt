@@ -1,19 +1,20 @@
 //! What a search has found.
 
-ghost use Rattle.std.specs.Prelude.{◌≡◌, ◌<◌, ◌≤◌, true, Some, None, cond, length, IfOk, OnOk};
-ghost use Rattle.std.specs.BTreeMap.{is_at, keys};
+ghost use Rattle.std.specs.Prelude.{◌≡◌, ◌<◌, ◌≤◌, true, Some, None, cond, length, slice_get, IfSome, OnOk};
+ghost use Rattle.std.specs.BTreeMap.{is_at};
 ghost use Rattle.cw_audit_store.specs.Stores.{row_at, group_at, place_cmp, entrance_cmp, is_lower, is_sooner, is_nearer, work};
 
 use crate::place::{Entered, Entrance, Hit, Place, Row};
 use cw_core::NoMemory;
+use indexmap::IndexMap;
 use std::alloc::Global;
-use std::collections::BTreeMap;
 
-/// The rows and the groups that a search has found, and the nearest violation.
+/// The rows and the groups that a search has found, and the nearest violation. A row keeps its number, from 0 in the order in which
+/// they were found.
 #[derive(Drop)]
 pub struct Store {
-    pub rows: BTreeMap<Place, Row>,
-    pub groups: BTreeMap<Entrance, Entered>,
+    pub rows: IndexMap<Place, Row>,
+    pub groups: IndexMap<Entrance, Entered>,
     pub hit: Option<Hit>,
 }
 
@@ -25,8 +26,8 @@ impl Store {
         ensures hit { result.hit ≡ None }
     {
         Store {
-            rows: BTreeMap::new(alloc),
-            groups: BTreeMap::new(alloc),
+            rows: IndexMap::new(alloc),
+            groups: IndexMap::new(alloc),
             hit: None,
         }
     }
@@ -38,19 +39,20 @@ impl Store {
         self.rows.get(&place).copied()
     }
 
+    /// The row with a number, and its place.
+    pub fn numbered(&self, number: usize) -> Option<(Place, Row)>
+        ensures entry { result ≡ slice_get self.now.rows.entries number }
+        ensures row { IfSome result (λ (place, row). row_at self.now place ≡ Some row) }
+    {
+        let (place, row) = self.rows.get_index(number)?;
+        Some((*place, *row))
+    }
+
     /// The group of an entrance.
     pub fn group(&self, entrance: Entrance) -> Option<Entered>
         ensures { result ≡ group_at self.now entrance }
     {
         self.groups.get(&entrance).copied()
-    }
-
-    /// The places that have rows, ascending. The one error is want of memory.
-    pub fn places(&self, alloc: Global) -> Result<Vec<Place>, NoMemory>
-        ensures { IfOk result (λ v. v.items ≡ keys self.now.rows) }
-    {
-        let places = self.rows.keys().copied().collect(alloc)?;
-        Ok(places)
     }
 
     /// How many rows there are.
@@ -60,9 +62,8 @@ impl Store {
         self.rows.len()
     }
 
-    /// Sets the row of a place. The one error is want of memory.
-    #[tactic(auto, using(crate::proofs::Work::row_lowered))]
-    pub fn put_row(&mut self, place: Place, row: Row) -> Result<(), NoMemory>
+    /// Sets the row of a place, and gives its number. The one error is want of memory.
+    pub fn put_row(&mut self, place: Place, row: Row) -> Result<usize, NoMemory>
         requires { row.inside ≤ 65537 }
         ensures rows { OnOk result ((q : Place) → row_at self.new q ≡ cond (is_at (place_cmp place) q) (Some row) (row_at self.old q)) }
         ensures groups { self.new.groups ≡ self.old.groups }
@@ -71,12 +72,11 @@ impl Store {
     {
         let _ = self.rows.len();
         let _ = self.groups.len();
-        self.rows.insert(place, row)?;
-        Ok(())
+        let (number, _) = self.rows.insert_full(place, row)?;
+        Ok(number)
     }
 
     /// Sets the group of an entrance. The one error is want of memory.
-    #[tactic(auto, using(crate::proofs::Work::group_lowered))]
     pub fn put_group(&mut self, entrance: Entrance, entered: Entered) -> Result<(), NoMemory>
         requires { entered.reach ≤ 65537 }
         ensures groups { OnOk result ((q : Entrance) → group_at self.new q ≡ cond (is_at (entrance_cmp entrance) q) (Some entered) (group_at self.old q)) }
@@ -91,7 +91,6 @@ impl Store {
     }
 
     /// Sets the nearest violation.
-    #[tactic(auto, using(crate::proofs::Work::hit_lowered))]
     pub fn put_hit(&mut self, hit: Hit)
         requires { hit.distance ≤ 65537 }
         ensures hit { self.new.hit ≡ Some hit }

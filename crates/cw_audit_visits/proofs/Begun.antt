@@ -1,7 +1,7 @@
 -- A search begins.
 use Rattle.std.proofs.Common.{◌≡◌, ℕ, ◌∙◌, Some, None, sym, ap, subst}
 use Rattle.std.specs.Prelude.{option_map, cond}
-use Rattle.std.specs.BTreeMap.{BTreeMap, get}
+use Rattle.indexmap.specs.IndexMap.{get}
 use Rattle.cw_core.specs.declared.ids.PosId.{PosId}
 use Rattle.cw_core.specs.declared.ids.StateId.{StateId}
 use Rattle.cw_audit_store.specs.declared.place.Way.TheVariants.{Begun}
@@ -11,7 +11,7 @@ use Rattle.cw_audit_store.specs.declared.place.Place.{Place}
 use Rattle.cw_audit_store.specs.declared.place.Row.{Row}
 use Rattle.cw_audit_store.specs.declared.place.Entered.{Entered}
 use Rattle.cw_audit_store.specs.declared.place.Hit.{Hit}
-use Rattle.cw_audit_store.specs.Stores.{row_at, group_at, place_cmp}
+use Rattle.cw_audit_store.specs.Stores.{row_at, group_at, place_eq}
 use Rattle.cw_audit_search.specs.Searches.{is_group}
 use Rattle.cw_audit_search.proofs.Proposing.{main_arrival}
 use Rattle.cw_audit_search.proofs.Setting.{begins_sound, group_itself}
@@ -42,12 +42,12 @@ module _ (h : Held) (fair : IsFairGame h) (s s2 : Search) (f : ℕ) (q : StateId
   begun_kept = record {
     sound = begins_sound (game_of h) (functions_of h) fair (found_of s2.store) only_main
         (λ f2 q2 p2 x2.
-        ap (λ (m : BTreeMap Place Row). option_map (λ (r : Row). r.inside) (get place_cmp m (place f2 q2 p2 x2))) set.rows
+        ap (λ m. option_map (λ (r : Row). r.inside) (get place_eq m (place f2 q2 p2 x2))) set.rows
         ∙ ap (option_map (λ (r : Row). r.inside)) (rows (place f2 q2 p2 x2)))
         (ap (option_map (λ (h : Hit). h.distance)) (set.hit ∙ hit)) (main_arrival (game_of h) (functions_of h) fair);
     ways = begins_ways (game_of h) (found_of s2.store) (ways_of s2.store) only_main
         (λ f2 q2 p2 x2.
-        ap (λ (m : BTreeMap Place Row). option_map (λ (r : Row). r.inside) (get place_cmp m (place f2 q2 p2 x2))) set.rows
+        ap (λ m. option_map (λ (r : Row). r.inside) (get place_eq m (place f2 q2 p2 x2))) set.rows
         ∙ ap (option_map (λ (r : Row). r.inside)) (rows (place f2 q2 p2 x2)))
         (ap (option_map (λ (h : Hit). h.distance)) (set.hit ∙ hit)) no_call;
   }

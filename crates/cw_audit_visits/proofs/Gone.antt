@@ -93,7 +93,7 @@ module _ (h : Held) (s : Search) (at : Place) (f k y : ℕ) (call : IsCallAt h a
   -- behind a return
   pub return_due : (fair : IsFairGame h) (kept : IsKept (game_of h) (functions_of h) s) (row end : Row) (n : ℕ) → row_at s.store at ≡ Some row
       → row_at s.store (place f at.state.0 ((game_of h).exit f) y) ≡ Some end → n ≡ cut (row.inside + end.inside + 2)
-      → IsDue h s (place at.entrance.function at.entrance.state.0 k y) n (Returned at.pos at.state f (record { 0 = y }))
+      → IsDue h s (place at.entrance.function at.entrance.state.0 k y) n (Returned at.state at.pos f (record { 0 = y }))
   return_due fair kept row end n er ee number =
       let ra = ap (option_map (λ (r : Row). r.inside)) er in
       let re = ap (option_map (λ (r : Row). r.inside)) ee in

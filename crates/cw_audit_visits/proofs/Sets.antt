@@ -1,15 +1,14 @@
 -- What is set in the store is set in the numbers that it tells.
 use Rattle.std.proofs.Common.{◌≡◌, ℕ, ◌∙◌, Bool, true, false, Option, Some, refl, ap}
-use Rattle.std.specs.Prelude.{cond, option_map, nat_eq, ◌&&◌}
-use Rattle.std.specs.BTreeMap.{BTreeMap, get, is_at}
-use Rattle.cw_audit_store.specs.declared.place.Entrance.{Entrance}
-use Rattle.cw_audit_store.specs.declared.place.Place.{Place}
+use Rattle.std.specs.Prelude.{cond, option_map, nat_eq}
+use Rattle.std.specs.BTreeMap.{is_at}
+use Rattle.indexmap.specs.IndexMap.{get}
 use Rattle.cw_audit_store.specs.declared.place.Row.{Row}
 use Rattle.cw_audit_store.specs.declared.place.Entered.{Entered}
 use Rattle.cw_audit_store.specs.declared.place.Hit.{Hit}
 use Rattle.cw_audit_store.specs.declared.store.Store.{Store}
-use Rattle.cw_audit_store.specs.Stores.{entrance_cmp, place_cmp, row_at, group_at}
-use Rattle.cw_audit_store.proofs.Orders.{same_entrance, same_place}
+use Rattle.cw_audit_store.specs.Stores.{entrance_cmp, place_cmp, entrance_eq, place_eq, row_at, group_at}
+use Rattle.cw_audit_store.proofs.Orders.{and_by, same_entrance, same_place}
 use Rattle.cw_audit_search.specs.Searches.{IsNumberSet, IsReachSet, IsBestSet}
 use Rattle.cw_audit_search.specs.Ways.{IsWaySet, IsCallSet}
 use Rattle.cw_audit_search.specs.Ways.{IsHitSet as IsBadWaySet}
@@ -19,13 +18,9 @@ map_cond : {A B : Type 0} (f : A → B) (b : Bool) (x : A) (o : Option A) → op
 map_cond f true x o = refl
 map_cond f false x o = refl
 
-pub and_by : (a b c d : Bool) → ((a && b) && (c && d)) ≡ (a && (b && (c && d)))
-and_by true b c d = refl
-and_by false b c d = refl
-
 pub row_number : (s s2 : Store) (f q p x : ℕ) (row : Row) → IsRowSet s s2 (place f q p x) row → IsNumberSet (found_of s) (found_of s2) f q p x row.inside
 row_number s s2 f q p x row set = record {
-  reach = λ f2 q2. ap (λ (m : BTreeMap Entrance Entered). option_map (λ (e : Entered). e.reach) (get entrance_cmp m (entrance f2 q2))) set.groups;
+  reach = λ f2 q2. ap (λ m. option_map (λ (e : Entered). e.reach) (get entrance_eq m (entrance f2 q2))) set.groups;
   number = λ f2 q2 p2 x2.
       ap (option_map (λ (r : Row). r.inside)) (set.rows (place f2 q2 p2 x2))
       ∙ map_cond (λ (r : Row). r.inside) (is_at (place_cmp (place f q p x)) (place f2 q2 p2 x2)) row (row_at s (place f2 q2 p2 x2))
@@ -40,14 +35,14 @@ group_reach s s2 f q entered set = record {
       ap (option_map (λ (e : Entered). e.reach)) (set.groups (entrance f2 q2))
       ∙ map_cond (λ (e : Entered). e.reach) (is_at (entrance_cmp (entrance f q)) (entrance f2 q2)) entered (group_at s (entrance f2 q2))
       ∙ ap (λ b. cond b (Some entered.reach) (option_map (λ (e : Entered). e.reach) (group_at s (entrance f2 q2)))) (same_entrance (entrance f q) (entrance f2 q2));
-  number = λ f2 q2 p2 x2. ap (λ (m : BTreeMap Place Row). option_map (λ (r : Row). r.inside) (get place_cmp m (place f2 q2 p2 x2))) set.rows;
+  number = λ f2 q2 p2 x2. ap (λ m. option_map (λ (r : Row). r.inside) (get place_eq m (place f2 q2 p2 x2))) set.rows;
   best = ap (option_map (λ (h : Hit). h.distance)) set.hit;
 }
 
 pub hit_best : (s s2 : Store) (hit : Hit) → IsHitSet s s2 hit → IsBestSet (found_of s) (found_of s2) hit.distance
 hit_best s s2 hit set = record {
-  reach = λ f2 q2. ap (λ (m : BTreeMap Entrance Entered). option_map (λ (e : Entered). e.reach) (get entrance_cmp m (entrance f2 q2))) set.groups;
-  number = λ f2 q2 p2 x2. ap (λ (m : BTreeMap Place Row). option_map (λ (r : Row). r.inside) (get place_cmp m (place f2 q2 p2 x2))) set.rows;
+  reach = λ f2 q2. ap (λ m. option_map (λ (e : Entered). e.reach) (get entrance_eq m (entrance f2 q2))) set.groups;
+  number = λ f2 q2 p2 x2. ap (λ m. option_map (λ (r : Row). r.inside) (get place_eq m (place f2 q2 p2 x2))) set.rows;
   best = ap (option_map (λ (h : Hit). h.distance)) set.hit;
 }
 
@@ -59,13 +54,13 @@ row_way s s2 f q p x row set = record {
       ∙ map_cond (λ (r : Row). way_of r.way) (is_at (place_cmp (place f q p x)) (place f2 q2 p2 x2)) row (row_at s (place f2 q2 p2 x2))
       ∙ ap (λ b. cond b (Some (way_of row.way)) (option_map (λ (r : Row). way_of r.way) (row_at s (place f2 q2 p2 x2))))
       (same_place (place f q p x) (place f2 q2 p2 x2) ∙ and_by (nat_eq f2 f) (nat_eq q2 q) (nat_eq p2 p) (nat_eq x2 x));
-  call = λ f2 q2. ap (λ (m : BTreeMap Entrance Entered). option_map (λ (e : Entered). option_map caller_of e.call) (get entrance_cmp m (entrance f2 q2))) set.groups;
+  call = λ f2 q2. ap (λ m. option_map (λ (e : Entered). option_map caller_of e.call) (get entrance_eq m (entrance f2 q2))) set.groups;
   hit = ap (option_map bad_way_of) set.hit;
 }
 
 pub group_call : (s s2 : Store) (f q : ℕ) (entered : Entered) → IsGroupSet s s2 (entrance f q) entered → IsCallSet (ways_of s) (ways_of s2) f q (option_map caller_of entered.call)
 group_call s s2 f q entered set = record {
-  row = λ f2 q2 p2 x2. ap (λ (m : BTreeMap Place Row). option_map (λ (r : Row). way_of r.way) (get place_cmp m (place f2 q2 p2 x2))) set.rows;
+  row = λ f2 q2 p2 x2. ap (λ m. option_map (λ (r : Row). way_of r.way) (get place_eq m (place f2 q2 p2 x2))) set.rows;
   call = λ f2 q2.
       ap (option_map (λ (e : Entered). option_map caller_of e.call)) (set.groups (entrance f2 q2))
       ∙ map_cond (λ (e : Entered). option_map caller_of e.call) (is_at (entrance_cmp (entrance f q)) (entrance f2 q2)) entered (group_at s (entrance f2 q2))
@@ -76,7 +71,7 @@ group_call s s2 f q entered set = record {
 
 pub hit_way : (s s2 : Store) (hit : Hit) → IsHitSet s s2 hit → IsBadWaySet (ways_of s) (ways_of s2) (bad_way_of hit)
 hit_way s s2 hit set = record {
-  row = λ f2 q2 p2 x2. ap (λ (m : BTreeMap Place Row). option_map (λ (r : Row). way_of r.way) (get place_cmp m (place f2 q2 p2 x2))) set.rows;
-  call = λ f2 q2. ap (λ (m : BTreeMap Entrance Entered). option_map (λ (e : Entered). option_map caller_of e.call) (get entrance_cmp m (entrance f2 q2))) set.groups;
+  row = λ f2 q2 p2 x2. ap (λ m. option_map (λ (r : Row). way_of r.way) (get place_eq m (place f2 q2 p2 x2))) set.rows;
+  call = λ f2 q2. ap (λ m. option_map (λ (e : Entered). option_map caller_of e.call) (get entrance_eq m (entrance f2 q2))) set.groups;
   hit = ap (option_map bad_way_of) set.hit;
 }

@@ -37,13 +37,13 @@ module _ (h : Held) (s : Search) (at : Place) (a : ℕ) (by : Move) (inner : is_
       (sym (next_leads (game_of h) at.pos.0 at.state.0 (spot_at h at) by inner good) ∙ sym next ∙ ap numbers is)
 
   pub step_proposed : (o : Option (PosId × StateId)) (r : PosId × StateId) (n : ℕ) → numbers o ≡ next_at (game_of h) at.pos.0 at.state.0 by → o ≡ Some r → IsStepDue h s at a by
-      → n ≡ cut (a + 1) → IsDue h s (place at.entrance.function at.entrance.state.0 r.0.0 r.1.0) n (Moved at.pos at.state by)
+      → n ≡ cut (a + 1) → IsDue h s (place at.entrance.function at.entrance.state.0 r.0.0 r.1.0) n (Moved at.state at.pos by)
   step_proposed o r n next is due number =
       let l = leads_on o r next is in
       let d = due l.0 l.1 in
-      subst (λ n. IsDue h s (place at.entrance.function at.entrance.state.0 r.0.0 r.1.0) n (Moved at.pos at.state by)) (sym number)
-      (subst (λ p. IsDue h s (place at.entrance.function at.entrance.state.0 p r.1.0) (cut (a + 1)) (Moved at.pos at.state by)) l.2
-      (subst (λ x. IsDue h s (place at.entrance.function at.entrance.state.0 l.0.pos x) (cut (a + 1)) (Moved at.pos at.state by)) l.3 (record { proposal = d.0; leads = d.1 })))
+      subst (λ n. IsDue h s (place at.entrance.function at.entrance.state.0 r.0.0 r.1.0) n (Moved at.state at.pos by)) (sym number)
+      (subst (λ p. IsDue h s (place at.entrance.function at.entrance.state.0 p r.1.0) (cut (a + 1)) (Moved at.state at.pos by)) l.2
+      (subst (λ x. IsDue h s (place at.entrance.function at.entrance.state.0 l.0.pos x) (cut (a + 1)) (Moved at.state at.pos by)) l.3 (record { proposal = d.0; leads = d.1 })))
 
   pub step_told : (o : Option (PosId × StateId)) (r : PosId × StateId) (n : ℕ) → numbers o ≡ next_at (game_of h) at.pos.0 at.state.0 by → o ≡ Some r
       → n ≡ cut (a + 1) → IsTold h s (place at.entrance.function at.entrance.state.0 r.0.0 r.1.0) n → IsStepTold h s at a by

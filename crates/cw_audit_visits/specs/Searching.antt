@@ -1,5 +1,5 @@
 -- A search under way, by what it has found.
-use Rattle.std.specs.Prelude.{◌≡◌, ℕ, ◌+◌, ◌*◌, ◌<◌, ◌≤◌, List, [], Bool, true, false, cond, Option, Some, length, slice_get}
+use Rattle.std.specs.Prelude.{◌≡◌, ℕ, ◌+◌, ◌*◌, ◌<◌, ◌≤◌, [], Bool, true, false, cond, Option, Some, length, slice_get}
 use Rattle.std.specs.BinaryHeap.{heap_len}
 use Rattle.cw_certs.specs.declared.moves.Move.{Move}
 use Rattle.cw_game.specs.declared.spots.Spot.{Spot}
@@ -25,7 +25,7 @@ use Rattle.cw_audit_visits.specs.declared.under_way.Search.{Search}
 
 -- what is left to do: each number that falls has one place more wait at most
 abbrev pub left : Search → ℕ
-left s = 2 * work s.store + heap_len s.frontier.places
+left s = 2 * work s.store + heap_len s.frontier.rows
 
 -- Whether a step changed anything is told: where not, all is as it was; else less is left.
 pub record Tells (old new : Search) (changed : Bool) : Type 0 where
@@ -146,19 +146,26 @@ IsVisited h s at =
     (r a : ℕ) → reach_of s at ≡ Some r → number_of s at ≡ Some a
     → IsClosedAt (game_of h) (found_of s.store) at.entrance.function at.entrance.state.0 r at.pos.0 at.state.0 a
 
+-- all that the row with the number leads to is told of
+abbrev pub IsNumberVisited : Held → Search → ℕ → Type 0
+IsNumberVisited h s number = (at : Place) (row : Row) → slice_get s.store.rows.entries number ≡ Some (at, row) → IsVisited h s at
+
 -- the start is told of
 abbrev pub IsBegunTold : Held → Search → Type 0
 IsBegunTold h s =
     IsCovered (game_of h) (found_of s.store) (game_of h).main (game_of h).states.start 0 ((game_of h).entry (game_of h).main) (game_of h).states.start 0
 
--- where the place's row is below the bound, all that it leads to is told of; and so of each place
+-- where the place's row is below the bound, all that it leads to is told of; so of the row with a number, of as many rows, and of each place
 abbrev pub IsSettledAt : Held → Search → (bound : ℕ) → Place → Type 0
 IsSettledAt h s bound at =
     (r a : ℕ) → reach_of s at ≡ Some r → number_of s at ≡ Some a → cut (r + a) < bound
     → IsClosedAt (game_of h) (found_of s.store) at.entrance.function at.entrance.state.0 r at.pos.0 at.state.0 a
 
-abbrev pub AreSettledAt : Held → Search → (bound : ℕ) → List Place → (many : ℕ) → Type 0
-AreSettledAt h s bound places many = (i : ℕ) (at : Place) → i < many → slice_get places i ≡ Some at → IsSettledAt h s bound at
+abbrev pub IsNumberSettled : Held → Search → (bound number : ℕ) → Type 0
+IsNumberSettled h s bound number = (at : Place) (row : Row) → slice_get s.store.rows.entries number ≡ Some (at, row) → IsSettledAt h s bound at
+
+abbrev pub AreSettledAt : Held → Search → (bound many : ℕ) → Type 0
+AreSettledAt h s bound many = (number : ℕ) → number < many → IsNumberSettled h s bound number
 
 abbrev pub AreSettledBelow : Held → Search → (bound : ℕ) → Type 0
 AreSettledBelow h s bound = (f q p x : ℕ) → IsSettledAt h s bound (place f q p x)

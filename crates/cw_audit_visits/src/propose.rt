@@ -15,7 +15,7 @@ use cw_product::{Game, Turn};
 // A call is noted where it leads.
 fn note_call(game: &Game, search: &mut Search, place: Place) -> Result<(), NoMemory>
     requires { IsPosition (game_of game.now) place.pos.0 }
-    ensures { OnOk result ((search.new.store ≡ search.old.store) × (search.new.frontier.places ≡ search.old.frontier.places)) }
+    ensures { OnOk result ((search.new.store ≡ search.old.store) × (search.new.frontier.rows ≡ search.old.frontier.rows)) }
 {
     if let Turn::Call { callee, .. } = game.turn(place.pos) {
         let entrance = Entrance {
@@ -51,8 +51,8 @@ fn lower(
         }
         None => note_call(game, search, place)?,
     }
-    search.store.put_row(place, row)?;
-    search.frontier.put(reach + row.inside, place)?;
+    let number = search.store.put_row(place, row)?;
+    search.frontier.put(reach + row.inside, number)?;
     Ok(true)
 }
 

@@ -40,10 +40,10 @@ fn join(
         pos: game.exit(callee),
         state: last,
     };
-    let Some(call) = search.store.row(place) else {
+    let Some(ended) = search.store.row(end) else {
         return Ok(false);
     };
-    let Some(ended) = search.store.row(end) else {
+    let Some(call) = search.store.row(place) else {
         return Ok(false);
     };
     propose(
@@ -55,7 +55,7 @@ fn join(
             ..place
         },
         cut(u64::from(call.inside) + u64::from(ended.inside) + 2),
-        Way::Returned(place.pos, place.state, callee, last),
+        Way::Returned(place.state, place.pos, callee, last),
     )
 }
 

@@ -49,7 +49,7 @@ fn step(
             ..place
         },
         cut(u64::from(inside) + 1),
-        Way::Moved(place.pos, place.state, by),
+        Way::Moved(place.state, place.pos, by),
     )
 }
 

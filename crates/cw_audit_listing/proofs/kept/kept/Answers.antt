@@ -1,15 +1,16 @@
-use Rattle.std.proofs.Common.{ap, ◌∙◌}
-use Rattle.cw_audit_listing.specs.Lists.{is_below}
+use Rattle.std.proofs.Common.{ap, sym, ◌∙◌}
 use Rattle.cw_audit_listing.proofs.Keeping.{kept_more, kept_less}
 use Rattle.cw_audit_listing.proofs.kept.kept.Goals as goal
 use Rattle.cw_audit_listing.proofs.kept.kept.Goals.{then-is_below+in_ok-push, else-is_below}
 
-pub loop-place-preserved : goal.loop-place-preserved
-loop-place-preserved c =
-    let test = is_below c.args.store.now c.args.bound in
+pub loop-number-preserved : goal.loop-number-preserved
+loop-number-preserved c =
+    let s = c.args.store.now in
+    let is = sym c.in-Some.is ∙ c.numbered.ensures.entry in
+    let there = c.in-Some.ensures.row in
     elim c.if-is_below.branch [
-      | then-is_below+in_ok-push w ↦ kept_more test c.args.places.now c.loop-place.below.items c.if-is_below.below.items c.loop-place.place-index c.loop-place-test.true
-          c.loop-place.invariant w.if-is_below.ensures (ap (λ v. v.items) w.below-is ∙ w.in_ok-push.ensures.items)
-      | else-is_below w ↦ kept_less test c.args.places.now c.loop-place.below.items c.if-is_below.below.items c.loop-place.place-index c.loop-place-test.true c.loop-place.invariant
+      | then-is_below+in_ok-push w ↦ kept_more s c.args.bound c.loop-number.number c.in-Some.place c.in-Some.row is there c.loop-number.below.items c.if-is_below.below.items
+          c.loop-number.invariant w.if-is_below.ensures (ap (λ v. v.items) w.below-is ∙ w.in_ok-push.ensures.items)
+      | else-is_below w ↦ kept_less s c.args.bound c.loop-number.number c.in-Some.place c.in-Some.row is there c.loop-number.below.items c.if-is_below.below.items c.loop-number.invariant
           w.if-is_below.ensures (ap (λ v. v.items) w.below-is)
     ]

@@ -2,9 +2,9 @@ use Rattle.std.proofs.Common.{◌≡◌, false}
 use Rattle.cw_audit_visits.specs.Searching.{IsGoneOn, AreSettledAt, Tells}
 use Rattle.cw_audit_visits.proofs.sweep.visit_each.Given as goal
 
-abbrev pub invariant-loop-place : goal.invariant-loop-place
-invariant-loop-place l = record {
+abbrev pub invariant-loop-number : goal.invariant-loop-number
+invariant-loop-number l = record {
   tells : Tells l.fn.search l.search l.changed;
   goes_on : IsGoneOn l.game l.fn.search l.search;
-  settled : l.changed ≡ false → AreSettledAt l.game l.fn.search l.bound l.fn.places l.place-index;
+  settled : l.changed ≡ false → AreSettledAt l.game l.fn.search l.bound l.number;
 }

@@ -1,4 +1,5 @@
-use Rattle.std.proofs.Common.{arith, ◌<◌, ◌^◌, length}
+use Rattle.std.proofs.Common.{◌<◌, ◌^◌, refl, arith, length}
+use Rattle.cw_audit_store.specs.declared.store.Store.{Store}
 use Rattle.cw_audit_store.proofs.Work.{group_lowered}
 use Rattle.cw_audit_store.proofs.store.Store.put_group.Goals as goal
 
@@ -7,4 +8,5 @@ returns-clause-less c =
     let s = c.args.self.now in
     let few_rows : length s.rows.entries < 2 ^ 63 = omega (arith, c.len.ensures.small, c.len.ensures.len) in
     let few_groups : length s.groups.entries < 2 ^ 63 = omega (arith, c.len-2.ensures.small, c.len-2.ensures.len) in
-    group_lowered s.groups c.insert.new.self s.rows s.hit c.args.entrance c.args.entered c.insert.ensures.was_ordered c.in_ok-insert.ensures.entries few_groups few_rows c.requires
+    let t : Store = record { rows = s.rows; groups = c.insert.new.self; hit = s.hit } in
+    group_lowered s t c.args.entrance c.args.entered refl refl c.in_ok-insert.ensures.entries few_groups few_rows c.requires

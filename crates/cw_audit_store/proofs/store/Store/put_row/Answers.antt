@@ -1,4 +1,5 @@
-use Rattle.std.proofs.Common.{arith, ◌<◌, ◌^◌, length}
+use Rattle.std.proofs.Common.{◌<◌, ◌^◌, refl, arith, length}
+use Rattle.cw_audit_store.specs.declared.store.Store.{Store}
 use Rattle.cw_audit_store.proofs.Work.{row_lowered}
 use Rattle.cw_audit_store.proofs.store.Store.put_row.Goals as goal
 
@@ -7,4 +8,5 @@ returns-clause-less c =
     let s = c.args.self.now in
     let few_rows : length s.rows.entries < 2 ^ 63 = omega (arith, c.len.ensures.small, c.len.ensures.len) in
     let few_groups : length s.groups.entries < 2 ^ 63 = omega (arith, c.len-2.ensures.small, c.len-2.ensures.len) in
-    row_lowered s.rows c.insert.new.self s.groups s.hit c.args.place c.args.row c.insert.ensures.was_ordered c.in_ok-insert.ensures.entries few_rows few_groups c.requires
+    let t : Store = record { rows = c.insert_full.new.self; groups = s.groups; hit = s.hit } in
+    row_lowered s t c.args.place c.args.row refl refl c.in_ok-number.ensures.entries few_rows few_groups c.requires
