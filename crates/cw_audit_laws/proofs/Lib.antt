@@ -1,2 +1,3 @@
 -- The proofs.
+mod Alike
 pub mod SameAudits

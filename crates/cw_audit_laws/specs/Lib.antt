@@ -1,2 +1,3 @@
 -- The definitions.
 pub mod Agreeing
+pub mod Refusing
