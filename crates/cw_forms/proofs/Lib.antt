@@ -1,0 +1,14 @@
+-- The proofs.
+mod Kept
+mod Expressions
+mod Declarations
+mod Ahead
+mod Standing
+mod Lexing
+mod Parts
+mod Brought
+mod Observed
+mod Formed
+mod FilesFormed
+mod Markers
+mod Derived

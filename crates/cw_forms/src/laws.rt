@@ -1,0 +1,16 @@
+//! What holds of every source that is read and of its form.
+
+ghost use Rattle.std.specs.Prelude.{◌≡◌, ℕ, List, true};
+ghost use Rattle.cw_syntax.specs.Trees.{File};
+ghost use Rattle.cw_source.specs.Read.{ReadsAs};
+ghost use Rattle.cw_detach.specs.Faults.{is_shallow};
+ghost use Rattle.cw_forms.specs.Derived.{FormDerives};
+
+/// The form of a source that is read, and that nests no deeper than a source may, has tokens: those of the source, each with its own bytes, with
+/// those of the two texts before and behind each call that isn't waited for. They are of the grammar, nothing nests past the limit, and the
+/// file that they derive is the source's but for places and for the statements that stand for these calls.
+pub fn forms_are_derived()
+    ensures derived { (source : List ℕ) (names : List (List ℕ)) (file : File) (reads : ReadsAs source file)
+        → is_shallow source file names ≡ true
+        → FormDerives source names reads.tokens file }
+{}
