@@ -12,3 +12,6 @@ mod Formed
 mod FilesFormed
 mod Markers
 mod Derived
+mod Trees
+mod Lists
+mod Scope
