@@ -1,10 +1,12 @@
 -- The form of a source that is read has tokens, and they derive a file.
-use Rattle.std.proofs.Common.{◌≡◌, ℕ, ◌≤◌, Bool, true, false, nat_le, List, [], ◌∷◌, ◌++◌, drop, Option, None, Some, refl, sym, ap, subst, ◌∙◌, arith}
+use Rattle.std.proofs.Common.{◌≡◌, ℕ, ◌≤◌, Bool, true, false, nat_le, List, [], ◌∷◌, ◌++◌, length, drop, Option, None, Some, refl, sym, ap, subst, ◌∙◌, arith}
 use Rattle.std.specs.List.{filter_map, list_all}
 use Rattle.cw_syntax.specs.Names.{slice}
 use Rattle.cw_syntax.specs.Trees.{Statement, Stated, Form, Block, Declares, Evaluates, Empties, Labels, Chooses, Whiles, Does, Fors, Breaks, Continues, Returns, File}
 use Rattle.cw_lex.specs.declared.tokens.Token.{Token}
 use Rattle.cw_lex.specs.Marks.{HasNoMarker}
+use Rattle.cw_lex.specs.Listed.{AreInOrder}
+use Rattle.cw_lex.proofs.Ordered.{tokens_in_order}
 use Rattle.cw_lex.specs.Tokens.{Stand, tokens_of, AreTokens}
 use Rattle.cw_grammar.specs.declared.words.Lexeme.{Lexeme}
 use Rattle.cw_grammar.specs.Lexemes.{AreAll}
@@ -23,7 +25,7 @@ use Rattle.cw_forms.specs.Statements.{pair_at, pair_of, pairs_in, SameFile}
 use Rattle.cw_forms.specs.Derived.{FormDerives}
 use Rattle.cw_forms.proofs.Markers.{no_marker}
 use Rattle.cw_forms.proofs.Lexing.{lexing}
-use Rattle.cw_forms.proofs.FilesFormed.{parts_formed, shallow_each}
+use Rattle.cw_forms.proofs.FilesFormed.{parts_formed, shallow_each, lie_of}
 
 -- the form, by its spans as pairs
 module _ (source : List ℕ) (names : List (List ℕ)) (ps : List Placed) (looped : Bool) where
@@ -73,10 +75,11 @@ module _ (source : List ℕ) (names : List (List ℕ)) (parts : List FilePart) (
   abbrev form : List ℕ
   form = form_of source names file
 
-  derives : AreTokens source tokens → AreAll (IsPart nesting_limit) (lexemes_of source tokens) parts → is_shallow source file names ≡ true → FormDerives source names tokens file
+  derives : AreTokens source tokens → AreInOrder 0 (length source) tokens → AreAll (IsPart nesting_limit) (lexemes_of source tokens) parts → is_shallow source file names ≡ true → FormDerives source names tokens file
   unfolding AreTokens IsProgram
-  derives lexed all low =
-      let part = parts_formed source form names nesting_limit enough parts (lexemes_of source tokens) all (shallow_each source form names nesting_limit enough file.functions
+  derives lexed order all low =
+      let part = parts_formed source form names nesting_limit enough parts (lexemes_of source tokens) 0 (length source) all
+          (lie_of source 0 (length source) tokens order) (shallow_each source form names nesting_limit enough file.functions
           (subst (λ (z : ℕ). list_all (λ f. nat_le (nesting_all source names f.body) z) file.functions ≡ true) (sym same_limit) low)) in
       let P = part.pieces in
       let whole : form ≡ with_texts source 0 (spans_of P) = form_is source names file ∙ ap (with_texts source 0) (sym part.spans) in
@@ -104,4 +107,4 @@ unfolding IsProgram
 forms_derive source names file h low =
     let derived = h.derived in
     subst (λ (y : File). FormDerives source names h.tokens y) (sym derived.2)
-    (derives source names derived.0 h.tokens h.lexed derived.1 (subst (λ (y : File). is_shallow source y names ≡ true) derived.2 low))
+    (derives source names derived.0 h.tokens h.lexed (tokens_in_order source h.tokens h.lexed) derived.1 (subst (λ (y : File). is_shallow source y names ≡ true) derived.2 low))

@@ -15,3 +15,4 @@ mod Derived
 mod Trees
 mod Lists
 mod Scope
+mod Descriptors

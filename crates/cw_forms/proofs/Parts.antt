@@ -1,5 +1,5 @@
 -- Parts of a source, with their pieces, one behind the other.
-use Rattle.std.proofs.Common.{◌≡◌, ℕ, ◌+◌, List, [], ◌∷◌, ◌++◌, map, refl, sym, ap, ap₂, subst, ◌∙◌, arith, inl}
+use Rattle.std.proofs.Common.{◌≡◌, ℕ, ◌+◌, ◌≤◌, List, [], ◌∷◌, ◌++◌, map, refl, sym, ap, ap₂, subst, ◌∙◌, arith, inl}
 use Rattle.std.specs.List.{filter_map}
 use Rattle.std.proofs.lemmas.List.{append-nil, append_assoc, map-append}
 use Rattle.std.proofs.lemmas.List.Elements.{filter_map-append}
@@ -109,7 +109,7 @@ module _ (source form : List ℕ) where
     }
 
     abbrev pub Then : (R S : ℕ → List Lexeme → Type 0) → ℕ → List Lexeme → Type 0
-    Then R S d us = (x : List Lexeme) × (y : List Lexeme) × (e : ℕ) × (us ≡ x ++ y) × R d x × S e y
+    Then R S d us = (x : List Lexeme) × (y : List Lexeme) × (e : ℕ) × (us ≡ x ++ y) × R d x × S e y × (d ≤ e)
 
     pub part_then : (a b : List Lexeme) (ps qs : List Placed) (R S : ℕ → List Lexeme → Type 0) → Part a ps R → Part b qs S → Part (a ++ b) (ps ++ qs) (Then R S)
     part_then a b ps qs R S p q = record {
@@ -118,7 +118,7 @@ module _ (source form : List ℕ) where
       spans = spans-append p.pieces q.pieces ∙ ap₂ (λ (x y : List (ℕ × ℕ)). x ++ y) p.spans q.spans ∙ sym (filter_map-append (λ r. pair_of source names r.statement) ps qs);
       ended = ended-append p.pieces q.pieces p.ended q.ended;
       right = λ d h. (let both = same_both d p.pieces q.pieces h in
-          (rights d p.pieces, rights (d + added p.pieces) q.pieces, d + added p.pieces, rights-append d p.pieces q.pieces, p.right d both.0, q.right (d + added p.pieces) both.1));
+          (rights d p.pieces, rights (d + added p.pieces) q.pieces, d + added p.pieces, rights-append d p.pieces q.pieces, p.right d both.0, q.right (d + added p.pieces) both.1, omega arith));
     }
 
     pub part_as : (a b : List Lexeme) (ps qs : List Placed) (R S : ℕ → List Lexeme → Type 0) → b ≡ a → pairs_in source names qs ≡ pairs_in source names ps → ((d : ℕ) (us : List Lexeme) → R d us → S d us) → Part a ps R → Part b qs S

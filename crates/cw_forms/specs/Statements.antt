@@ -5,10 +5,11 @@ use Rattle.std.specs.List.{flat_map, filter_map, list_any}
 use Rattle.cw_syntax.specs.declared.program.Name.{Name}
 use Rattle.cw_syntax.specs.declared.program.Op.TheVariants as op
 use Rattle.cw_syntax.specs.Names.{text}
-use Rattle.cw_syntax.specs.Trees.{Tree, Node, none, more, Statement, Stated, Form, Evaluates, Definition, File}
+use Rattle.cw_syntax.specs.Trees.{Tree, Node, none, more, Statement, Stated, Form, Evaluates, Declared, Declaration, Definition, File}
 use Rattle.cw_scope.specs.Walks.{Placed, Whole, wholes_of, inner, body_of}
 use Rattle.cw_scope.specs.Names.{label_of, local_names}
 use Rattle.cw_scope.specs.Rules.{is_jump}
+use Rattle.cw_scope.specs.Descriptors.{is_before}
 use Rattle.cw_detach.specs.Form.{calls_one}
 use Rattle.cw_forms.specs.Moved.{Pairs, SameName, Alike}
 use Rattle.cw_forms.specs.Declared.{MovedName, SameParam, SameDeclaration, SamePrototype}
@@ -78,8 +79,16 @@ module _ (source form : List ℕ) where
   abbrev pub SameFunction : Definition → Definition → Type 0
   SameFunction f g = (d : ℕ) × MovedName source form d f.name g.name × Pairs (SameParam source form) f.params g.params × StandFor (body_of f) (body_of g)
 
+  -- what stands before all functions does so in the form
+  abbrev pub StaysBefore : List Definition → List Definition → Declared → Declared → Type 0
+  StaysBefore fs gs x y = is_before x.name.from fs ≡ true → is_before y.name.from gs ≡ true
+
+  abbrev pub StayBefore : List Definition → List Definition → Declaration → Declaration → Type 0
+  StayBefore fs gs a b = Pairs (StaysBefore fs gs) a.items b.items
+
   -- the file of a form
   pub record SameFile (file made : File) : Type 0 where
     pub protos : Pairs (SamePrototype source form) file.protos made.protos
     pub globals : Pairs (λ x y. (d : ℕ) × SameDeclaration source form d x y) file.globals made.globals
     pub functions : Pairs SameFunction file.functions made.functions
+    pub before : Pairs (StayBefore file.functions made.functions) file.globals made.globals
