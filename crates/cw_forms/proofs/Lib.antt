@@ -16,3 +16,4 @@ mod Trees
 mod Lists
 mod Scope
 mod Descriptors
+mod Free

@@ -5,3 +5,4 @@ pub mod Pieces
 pub mod Spans
 pub mod Statements
 pub mod Derived
+pub mod Laws
