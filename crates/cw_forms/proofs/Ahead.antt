@@ -1,10 +1,10 @@
 -- What stands at the front stays, whatever the bytes behind the next one are: the next may be another one that goes on with nothing.
-use Rattle.std.proofs.Common.{◌≡◌, ◌⊎◌, ℕ, zero, suc, ◌+◌, ◌-◌, ◌<◌, ◌≤◌, Bool, true, false, cond, eqb, leb, ◌&&◌, ◌||◌, List, [], ◌∷◌, ◌++◌, length, drop, take, Option, Some, None, refl, sym, ap, subst, ◌∙◌, arith, inl, inr, length-drop, rules}
+use Rattle.std.proofs.Common.{◌≡◌, ◌⊎◌, ℕ, zero, suc, ◌+◌, ◌-◌, ◌<◌, ◌≤◌, Bool, true, false, cond, eqb, leb, ◌&&◌, ◌||◌, List, [], ◌∷◌, ◌++◌, length, drop, take, Option, Some, None, refl, sym}
+use Rattle.std.proofs.Common.{ap, subst, ◌∙◌, arith, inl, inr, length-drop, rules}
 use Rattle.std.specs.Prelude.{nat_eq, codes, not}
 use Rattle.std.specs.List.{starts_with, prefix_len, take_while}
-use Rattle.std.specs.Str.{bytes_eq}
 use Rattle.std.specs.Str.Parse.{digits_value}
-use Rattle.std.proofs.lemmas.Bool.{eqb-true, both_ways, cases_Bool}
+use Rattle.std.proofs.lemmas.Bool.{eqb-true, both_ways}
 use Rattle.std.proofs.lemmas.List.{drop-append-le, take-append-le}
 use Rattle.std.proofs.lemmas.List.Sums.{prefix_len-le-length}
 use Rattle.std.proofs.Math.Seq.{take-append_seam}
@@ -15,7 +15,7 @@ use Rattle.cw_lex.specs.declared.piece.Front.TheVariants as piece
 use Rattle.cw_lex.specs.Bytes.{is_white, is_blank, is_line_byte, is_letter, is_digit, is_name_byte, is_number_byte, is_octal_digit, is_hexadecimal_digit}
 use Rattle.cw_lex.specs.Keywords.{is_keyword}
 use Rattle.cw_lex.specs.Numbers.{is_number}
-use Rattle.cw_lex.specs.Characters.{Spelled, longer, spelled, simple_escape, escape_at, item_at, closed, character_len, more_by, text_len}
+use Rattle.cw_lex.specs.Characters.{Spelled, longer, spelled, escape_at, item_at, closed, character_len, more_by, text_len}
 use Rattle.cw_lex.specs.Marks.{three_byte_marks, two_byte_marks, one_byte_marks, begins, mark_len}
 use Rattle.cw_lex.specs.Pieces.{word, number, quoted, to_close, comment, is_include, line, directive, mark, piece_at, size}
 use Rattle.cw_lex.proofs.Alone.{both, chosen, more_is, by_item, text_long}
@@ -96,7 +96,8 @@ run_few q zero (c ∷ u) x y lt = refl
 run_few q (suc m) [] x y lt = absurd (omega arith)
 run_few q (suc m) (c ∷ u) x y lt = by (q c) (run_few q m u x y) lt
   where
-    by : (t : Bool) → (prefix_len q (take m (u ++ x)) < length u → prefix_len q (take m (u ++ y)) ≡ prefix_len q (take m (u ++ x))) → cond t (1 + prefix_len q (take m (u ++ x))) 0 < suc (length u) → cond t (1 + prefix_len q (take m (u ++ y))) 0 ≡ cond t (1 + prefix_len q (take m (u ++ x))) 0
+    by : (t : Bool) → (prefix_len q (take m (u ++ x)) < length u → prefix_len q (take m (u ++ y)) ≡ prefix_len q (take m (u ++ x)))
+        → cond t (1 + prefix_len q (take m (u ++ x))) 0 < suc (length u) → cond t (1 + prefix_len q (take m (u ++ y))) 0 ≡ cond t (1 + prefix_len q (take m (u ++ x))) 0
     by true rec h = ap (λ (n : ℕ). 1 + n) (rec (omega arith))
     by false rec h = refl
 
@@ -295,7 +296,8 @@ mark_ahead (c ∷ (d ∷ [])) a b r s (inr (brace, other)) some e =
     let h = two_mark (begins three_byte_marks (c ∷ d ∷ a ∷ r)) (begins two_byte_marks (c ∷ d ∷ a ∷ r)) (begins one_byte_marks (c ∷ d ∷ a ∷ r)) e in
     subst (λ (z : ℕ). mark_len (c ∷ d ∷ z ∷ s) ≡ 2) (sym brace) (rw (third_none (eqb 60 c) (eqb 60 d) (eqb 62 c) (eqb 62 d)) (rw h at e))
 mark_ahead (c ∷ (d ∷ (g ∷ []))) a b r s f some e = e
-mark_ahead (c ∷ (d ∷ (g ∷ (h ∷ w)))) a b r s f some e = absurd (let few = few_marks (begins three_byte_marks (c ∷ d ∷ g ∷ h ∷ w ++ a ∷ r)) (begins two_byte_marks (c ∷ d ∷ g ∷ h ∷ w ++ a ∷ r)) (begins one_byte_marks (c ∷ d ∷ g ∷ h ∷ w ++ a ∷ r)) in omega (arith, few, e))
+mark_ahead (c ∷ (d ∷ (g ∷ (h ∷ w)))) a b r s f some e = absurd (let few = few_marks (begins three_byte_marks (c ∷ d ∷ g ∷ h ∷ w ++ a ∷ r)) (begins two_byte_marks
+    (c ∷ d ∷ g ∷ h ∷ w ++ a ∷ r)) (begins one_byte_marks (c ∷ d ∷ g ∷ h ∷ w ++ a ∷ r)) in omega (arith, few, e))
 
 -- ---- pieces
 
@@ -333,12 +335,13 @@ line_ahead w a b r s p f long e =
     let same : prefix_len is_line_byte (w ++ b ∷ s) ≡ prefix_len is_line_byte (w ++ a ∷ r) = run_stops is_line_byte w b s there ∙ sym (run_stops is_line_byte w a r stop) in
     (both_feeds, gap_as _ _ p same e)
 
-directive_ahead : (f : Bool) (c : ℕ) (v : List ℕ) (a b : ℕ) (r s : List ℕ) (p : Front) → Follows a b → 0 < size p → size p ≡ suc (length v) → directive f (c ∷ v ++ a ∷ r) ≡ p → directive f (c ∷ v ++ b ∷ s) ≡ p
+directive_ahead : (f : Bool) (c : ℕ) (v : List ℕ) (a b : ℕ) (r s : List ℕ) (p : Front) → Follows a b → 0 < size p → size p ≡ suc (length v) → directive f (c ∷ v ++ a ∷ r) ≡ p
+    → directive f (c ∷ v ++ b ∷ s) ≡ p
 directive_ahead f c v a b r s p fo some long e = both f _ _ _ _ p (λ h.
     chosen (is_include (v ++ a ∷ r)) _ _ p _ (λ t g. (
     let l = line_ahead (c ∷ v) a b r s p fo long g in
     let same : is_include (v ++ b ∷ s) ≡ true =
-        ap (λ (z : ℕ). is_include (v ++ z ∷ s)) l.0.1 ∙ include_same v s r ∙ sym (ap (λ (z : ℕ). is_include (v ++ z ∷ r)) l.0.0) ∙ t in
+    ap (λ (z : ℕ). is_include (v ++ z ∷ s)) l.0.1 ∙ include_same v s r ∙ sym (ap (λ (z : ℕ). is_include (v ++ z ∷ r)) l.0.0) ∙ t in
     rw same l.1)) (λ t g. absurd (fault_none _ p some g)) h) (λ h. h) e
 
 slashes : (x c : ℕ) (v : List ℕ) (a b : ℕ) (r s : List ℕ) → Follows a b → eqb x 123 ≡ false → starts_with nat_eq (c ∷ v ++ a ∷ r) (47 ∷ x ∷ []) ≡ false

@@ -1,15 +1,15 @@
 -- The statements that stand for a call are of the grammar.
-use Rattle.std.proofs.Common.{◌≡◌, ◌≢◌, ℕ, zero, suc, ◌+◌, ◌≤◌, List, [], ◌∷◌, ◌++◌, map, None, refl, sym, ap, subst, ◌∙◌, arith, inl, inr}
+use Rattle.std.proofs.Common.{◌≡◌, ◌≢◌, ℕ, zero, suc, ◌+◌, ◌≤◌, List, [], ◌∷◌, ◌++◌, None, refl, sym, ap, subst, ◌∙◌, inl, inr}
 use Rattle.std.proofs.lemmas.List.{append-nil, append_assoc}
 use Rattle.cw_syntax.specs.declared.program.Op.TheVariants as op
-use Rattle.cw_syntax.specs.Trees.{Tree, Node, Trees, none, more, Statement, Stated, Form, Block, Evaluates, Empties, Chooses, Fors, nothing}
+use Rattle.cw_syntax.specs.Trees.{Tree, Statement, Stated, Form, Block, Evaluates, Empties, Chooses, Fors, nothing}
 use Rattle.cw_grammar.specs.declared.words.Word.TheVariants as w
 use Rattle.cw_grammar.specs.declared.words.Lexeme.{Lexeme}
-use Rattle.cw_grammar.specs.declared.rules.Rule.TheVariants.{Expression, Level, Unary, Postfix}
-use Rattle.cw_grammar.specs.Lexemes.{Is, name_of, from_of, to_of, AreAll, statements}
-use Rattle.cw_grammar.specs.Expressions.{loosest, Derives, node, IsOperand, IsLevel, IsDerived, IsExpression}
-use Rattle.cw_grammar.specs.Statements.{Place, InBlock, BeforeElse, Elsewhere, IsForm, IsStatement}
-use Rattle.cw_grammar.proofs.Deeper.{expression_deeper, statement_deeper}
+use Rattle.cw_grammar.specs.declared.rules.Rule.TheVariants.{Expression, Level}
+use Rattle.cw_grammar.specs.Lexemes.{Is, name_of, from_of, to_of, statements}
+use Rattle.cw_grammar.specs.Expressions.{loosest, Derives, node, IsLevel, IsDerived, IsExpression}
+use Rattle.cw_grammar.specs.Statements.{Place, InBlock, BeforeElse, Elsewhere, IsStatement}
+use Rattle.cw_grammar.proofs.Deeper.{expression_deeper}
 use Rattle.cw_forms.specs.Pieces.{opened, closed}
 
 up : (P : Derives) (l : ℕ) (ts : List Lexeme) (e : Tree) → IsLevel P 0 ts e → IsLevel P l ts e
@@ -41,7 +41,7 @@ stated f ts = Stated f (from_of ts) (to_of ts)
 module _ (limit : ℕ) (enough : 2 ≤ limit) where
   exits : (f o z c s : Lexeme) → Is w.Name f → Is w.Open o → Is (w.Number 0) z → Is w.Close c → Is w.Semicolon s → (n : ℕ)
       → IsStatement limit (suc n) InBlock (f ∷ o ∷ z ∷ c ∷ s ∷ [])
-          (stated (Evaluates (node (op.Call (name_of f)) (node (op.Number 0) [] (z ∷ []) ∷ []) (f ∷ o ∷ z ∷ c ∷ []))) (f ∷ o ∷ z ∷ c ∷ s ∷ []))
+      (stated (Evaluates (node (op.Call (name_of f)) (node (op.Number 0) [] (z ∷ []) ∷ []) (f ∷ o ∷ z ∷ c ∷ []))) (f ∷ o ∷ z ∷ c ∷ s ∷ []))
   exits f o z c s p q n r e k = (refl, refl, (f ∷ o ∷ z ∷ c ∷ [], s, refl, e, expression_deeper 2 limit enough _ _ (exit_call f o z c p q n r)))
 
   loops : (f o s t c e : Lexeme) → Is w.For f → Is w.Open o → Is w.Semicolon s → Is w.Semicolon t → Is w.Close c → Is w.Semicolon e → (n : ℕ)
@@ -53,46 +53,67 @@ module _ (limit : ℕ) (enough : 2 ≤ limit) where
   module _ (p q : ℕ) (us : List Lexeme) (first : Statement) (first_is : IsStatement limit 2 InBlock us first) where
     abbrev b1 : Lexeme
     b1 = record { word = w.OpenBrace; from = p; to = p + 1 }
+
     abbrev i : Lexeme
     i = record { word = w.If; from = p + 1; to = p + 1 + 2 }
+
     abbrev o1 : Lexeme
     o1 = record { word = w.Open; from = p + 1 + 2; to = p + 1 + 2 + 1 }
+
     abbrev x : Lexeme
     x = record { word = w.Exclamation; from = p + 1 + 2 + 1; to = p + 1 + 2 + 1 + 1 }
+
     abbrev f : Lexeme
     f = record { word = w.Name; from = p + 1 + 2 + 1 + 1; to = p + 1 + 2 + 1 + 1 + 4 }
+
     abbrev o2 : Lexeme
     o2 = record { word = w.Open; from = p + 1 + 2 + 1 + 1 + 4; to = p + 1 + 2 + 1 + 1 + 4 + 1 }
+
     abbrev c2 : Lexeme
     c2 = record { word = w.Close; from = p + 1 + 2 + 1 + 1 + 4 + 1; to = p + 1 + 2 + 1 + 1 + 4 + 1 + 1 }
+
     abbrev c1 : Lexeme
     c1 = record { word = w.Close; from = p + 1 + 2 + 1 + 1 + 4 + 1 + 1; to = p + 1 + 2 + 1 + 1 + 4 + 1 + 1 + 1 }
+
     abbrev b2 : Lexeme
     b2 = record { word = w.OpenBrace; from = p + 1 + 2 + 1 + 1 + 4 + 1 + 1 + 1; to = p + 1 + 2 + 1 + 1 + 4 + 1 + 1 + 1 + 1 }
+
     abbrev g : Lexeme
     g = record { word = w.Name; from = q; to = q + 5 }
+
     abbrev p1 : Lexeme
     p1 = record { word = w.Open; from = q + 5; to = q + 5 + 1 }
+
     abbrev z : Lexeme
     z = record { word = w.Number 0; from = q + 5 + 1; to = q + 5 + 1 + 1 }
+
     abbrev q1 : Lexeme
     q1 = record { word = w.Close; from = q + 5 + 1 + 1; to = q + 5 + 1 + 1 + 1 }
+
     abbrev s1 : Lexeme
     s1 = record { word = w.Semicolon; from = q + 5 + 1 + 1 + 1; to = q + 5 + 1 + 1 + 1 + 1 }
+
     abbrev l : Lexeme
     l = record { word = w.For; from = q + 5 + 1 + 1 + 1 + 1; to = q + 5 + 1 + 1 + 1 + 1 + 3 }
+
     abbrev p2 : Lexeme
     p2 = record { word = w.Open; from = q + 5 + 1 + 1 + 1 + 1 + 3; to = q + 5 + 1 + 1 + 1 + 1 + 3 + 1 }
+
     abbrev s2 : Lexeme
     s2 = record { word = w.Semicolon; from = q + 5 + 1 + 1 + 1 + 1 + 3 + 1; to = q + 5 + 1 + 1 + 1 + 1 + 3 + 1 + 1 }
+
     abbrev s3 : Lexeme
     s3 = record { word = w.Semicolon; from = q + 5 + 1 + 1 + 1 + 1 + 3 + 1 + 1; to = q + 5 + 1 + 1 + 1 + 1 + 3 + 1 + 1 + 1 }
+
     abbrev q2 : Lexeme
     q2 = record { word = w.Close; from = q + 5 + 1 + 1 + 1 + 1 + 3 + 1 + 1 + 1; to = q + 5 + 1 + 1 + 1 + 1 + 3 + 1 + 1 + 1 + 1 }
+
     abbrev s4 : Lexeme
     s4 = record { word = w.Semicolon; from = q + 5 + 1 + 1 + 1 + 1 + 3 + 1 + 1 + 1 + 1; to = q + 5 + 1 + 1 + 1 + 1 + 3 + 1 + 1 + 1 + 1 + 1 }
+
     abbrev d1 : Lexeme
     d1 = record { word = w.CloseBrace; from = q + 5 + 1 + 1 + 1 + 1 + 3 + 1 + 1 + 1 + 1 + 1; to = q + 5 + 1 + 1 + 1 + 1 + 3 + 1 + 1 + 1 + 1 + 1 + 1 }
+
     abbrev d2 : Lexeme
     d2 = record { word = w.CloseBrace; from = q + 5 + 1 + 1 + 1 + 1 + 3 + 1 + 1 + 1 + 1 + 1 + 1; to = q + 5 + 1 + 1 + 1 + 1 + 3 + 1 + 1 + 1 + 1 + 1 + 1 + 1 }
 
@@ -133,18 +154,48 @@ module _ (limit : ℕ) (enough : 2 ≤ limit) where
     whole = stated (Block (statements (choice ∷ []))) all_tokens
 
     arm_is : IsStatement limit 3 Elsewhere arm_tokens arm
-    arm_is =
-        (refl, refl, (first ∷ stated (Evaluates exit) exit_tokens ∷ loop ∷ [], refl, (b2, within, d1, refl, refl, refl,
-          (us, exit_tokens ++ loop_tokens, refl, first_is,
-            (exit_tokens, loop_tokens, refl, exits g p1 z q1 s1 refl refl refl refl refl 1, (loop_tokens, [], refl, loops l p2 s2 s3 q2 s4 refl refl refl refl refl refl 0, refl))))))
+    arm_is = (
+      refl,
+      refl,
+      (
+        first ∷ stated (Evaluates exit) exit_tokens ∷ loop ∷ [],
+        refl,
+        (
+          b2,
+          within,
+          d1,
+          refl,
+          refl,
+          refl,
+          (
+            us,
+            exit_tokens ++ loop_tokens,
+            refl,
+            first_is,
+            (exit_tokens, loop_tokens, refl, exits g p1 z q1 s1 refl refl refl refl refl 1, (loop_tokens, [], refl, loops l p2 s2 s3 q2 s4 refl refl refl refl refl refl 0, refl)),
+          ),
+        ),
+      ),
+    )
 
     elsewhere : InBlock ≢ BeforeElse
     elsewhere e = cc
 
     choice_is : IsStatement limit 4 InBlock choice_tokens choice
-    choice_is =
-        (refl, refl, (i, o1 ∷ x ∷ f ∷ o2 ∷ c2 ∷ c1 ∷ [], arm_tokens, refl, elsewhere, refl,
-          (o1, x ∷ f ∷ o2 ∷ c2 ∷ [], c1, refl, refl, refl, expression_deeper 2 limit enough _ _ (fork_test x f o2 c2 refl refl refl refl)), arm_is))
+    choice_is = (
+      refl,
+      refl,
+      (
+        i,
+        o1 ∷ x ∷ f ∷ o2 ∷ c2 ∷ c1 ∷ [],
+        arm_tokens,
+        refl,
+        elsewhere,
+        refl,
+        (o1, x ∷ f ∷ o2 ∷ c2 ∷ [], c1, refl, refl, refl, expression_deeper 2 limit enough _ _ (fork_test x f o2 c2 refl refl refl refl)),
+        arm_is,
+      ),
+    )
 
     whole_is : (place : Place) → IsStatement limit 5 place all_tokens whole
     whole_is place =

@@ -1,17 +1,18 @@
 -- What derives a declaration, a parameter or a header derives one that is alike of the tokens that are kept.
-use Rattle.std.proofs.Common.{◌≡◌, ◌≢◌, ℕ, ◌<◌, Bool, true, false, List, [], ◌∷◌, ◌++◌, map, length, Option, Some, None, refl, sym, ap, subst, ◌∙◌, inl, inr, arith}
+use Rattle.std.proofs.Common.{◌≡◌, ℕ, Bool, true, false, List, [], ◌∷◌, ◌++◌, map, length, Some, None, refl, sym, ap, subst, ◌∙◌, inl, inr, arith}
 use Rattle.cw_syntax.specs.declared.program.Name.{Name}
 use Rattle.cw_syntax.specs.declared.program.CType.{CType}
 use Rattle.cw_syntax.specs.declared.program.Param.{Param}
 use Rattle.cw_syntax.specs.Trees.{Tree, Trees, none, more, Declared, Declaration, Prototype}
-use Rattle.cw_grammar.specs.declared.words.Word.{Word}
 use Rattle.cw_grammar.specs.declared.words.Word.TheVariants as w
 use Rattle.cw_grammar.specs.declared.words.Lexeme.{Lexeme}
-use Rattle.cw_grammar.specs.Lexemes.{Is, words, name_of, from_of, to_of, IsFlag, IsOptional, AreSeparated, IsBetween, trees}
-use Rattle.cw_grammar.specs.Declarations.{Expressions, IsName, IsStorage, Specifiers, AreSpecifiers, IsArray, AreElements, IsInitialiser, IsItem, IsDeclaration, IsBrackets, IsParam, AreParams, IsHeader, IsPrototype}
+use Rattle.cw_grammar.specs.Lexemes.{Is, name_of, from_of, to_of, IsOptional, AreSeparated, IsBetween, trees}
+use Rattle.cw_grammar.specs.Declarations.{Expressions, IsName, IsStorage, Specifiers, AreSpecifiers, IsArray, AreElements, IsInitialiser, IsItem, IsDeclaration, IsBrackets, IsParam, AreParams}
+use Rattle.cw_grammar.specs.Declarations.{IsHeader, IsPrototype}
 use Rattle.cw_forms.specs.Moved.{moved, Pairs, AreKept, SameName, Alike, AllAlike}
 use Rattle.cw_forms.specs.Declared.{Both, MovedName, SameParam, SameItem, SameDeclaration, SamePrototype}
-use Rattle.cw_forms.proofs.Kept.{words_moved, empty_moved, parts_moved, three_moved, flag_moved, type_moved, stars_moved, type_name_moved, kept_as, kept_parts, Moves, separated_moves, between_moves, ended_moves, trees_alike}
+use Rattle.cw_forms.proofs.Kept.{words_moved, empty_moved, parts_moved, three_moved, flag_moved, type_moved, stars_moved, type_name_moved, kept_as, kept_parts, Moves, separated_moves}
+use Rattle.cw_forms.proofs.Kept.{between_moves, ended_moves, trees_alike}
 
 pub pairs_length : {X Y : Type 0} (R : X → Y → Type 0) (xs : List X) (ys : List Y) → Pairs R xs ys → length ys ≡ length xs
 pairs_length R [] [] h = refl
@@ -26,9 +27,15 @@ storage_moved d ts false true h = words_moved d ts ∙ h
 storage_moved d ts true true h = absurd h
 
 specifiers_moved : (d : ℕ) (ts : List Lexeme) (specs : Specifiers) → AreSpecifiers ts specs → AreSpecifiers (map (moved d) ts) specs
-specifiers_moved d ts specs (a, b, c, whole, storage, flag, type) =
-    (map (moved d) a, map (moved d) b, map (moved d) c, three_moved d ts a b c whole, storage_moved d a specs.external specs.fixed storage, flag_moved d w.Const b specs.constant flag,
-      type_moved d c specs.base specs.unsigned type)
+specifiers_moved d ts specs (a, b, c, whole, storage, flag, type) = (
+  map (moved d) a,
+  map (moved d) b,
+  map (moved d) c,
+  three_moved d ts a b c whole,
+  storage_moved d a specs.external specs.fixed storage,
+  flag_moved d w.Const b specs.constant flag,
+  type_moved d c specs.base specs.unsigned type,
+)
 
 four_moved : (d : ℕ) (ts a b c e : List Lexeme) → ts ≡ a ++ (b ++ (c ++ e)) → map (moved d) ts ≡ map (moved d) a ++ (map (moved d) b ++ (map (moved d) c ++ map (moved d) e))
 four_moved d ts a b c e whole = parts_moved d ts a (b ++ (c ++ e)) whole ∙ ap (λ (z : List Lexeme). map (moved d) a ++ z) (three_moved d (b ++ (c ++ e)) b c e refl)
@@ -78,9 +85,11 @@ module _ (source form : List ℕ) (d : ℕ) where
         → (us : Trees) × IsInitialiser E (m ts) us true × AllAlike source form es us
     by_braces es ts k (t, b, elements, whole, is, inner, e) =
         let own = kept_as source form d ts (t ∷ b) whole k in
-        let q = between_moves source form d (AreElements E) (Pairs (Alike source form)) elements_moves w.OpenBrace w.CloseBrace b elements own.1 inner in
-        (trees q.0, braced (trees q.0) (m ts) (moved d t, m b, q.0, ap m whole, is, q.1, refl),
-          subst (λ (z : Trees). AllAlike source form z (trees q.0)) (sym e) (trees_alike source form d elements q.0 q.2))
+        let q = between_moves source form d (AreElements E) (Pairs (Alike source form)) elements_moves w.OpenBrace w.CloseBrace b elements own.1 inner in (
+          trees q.0,
+          braced (trees q.0) (m ts) (moved d t, m b, q.0, ap m whole, is, q.1, refl),
+          subst (λ (z : Trees). AllAlike source form z (trees q.0)) (sym e) (trees_alike source form d elements q.0 q.2),
+        )
 
     initialiser_moves : (es : Trees) (braces : Bool) (ts : List Lexeme) → K ts → IsInitialiser E ts es braces → (us : Trees) × IsInitialiser E (m ts) us braces × AllAlike source form es us
     initialiser_moves none false ts k h = (none, empty_moved d ts h, tt)
@@ -106,10 +115,31 @@ module _ (source form : List ℕ) (d : ℕ) where
     pub declaration_moves : Moves source form d (IsDeclaration E) (SameDeclaration source form d)
     declaration_moves ts x k (a, b, specs, whole, are, external, fixed, constant, some, items, from, to) =
         let own = kept_parts source form d ts a b whole k in
-        let q = ended_moves source form d (AreSeparated (IsItem E specs)) (Pairs (SameItem source form d)) (λ us ys l is. separated_moves source form d (IsItem E specs) (SameItem source form d) (item_moves specs) ys us l is) w.Semicolon b x.items own.1 items in
-        let d' : Declaration = record { external = x.external; fixed = x.fixed; constant = x.constant; items = q.0; from = from_of (m ts); to = to_of (m ts) } in
-        (d', (m a, m b, specs, parts_moved d ts a b whole, specifiers_moved d a specs are, external, fixed, constant, omega (arith, some, pairs_length (SameItem source form d) x.items q.0 q.2), q.1, refl, refl),
-          (refl, refl, q.2))
+        let q = ended_moves source form d (AreSeparated (IsItem E specs)) (Pairs (SameItem source form d)) (λ us ys l is. separated_moves source form d (IsItem E specs)
+        (SameItem source form d) (item_moves specs) ys us l is) w.Semicolon b x.items own.1 items in
+        let d' : Declaration = record { external = x.external; fixed = x.fixed; constant = x.constant; items = q.0; from = from_of (m ts); to = to_of (m ts) } in (
+          d',
+          (
+            m a,
+            m b,
+            specs,
+            parts_moved d ts a b whole,
+            specifiers_moved d a specs are,
+            external,
+            fixed,
+            constant,
+            omega (
+              arith,
+              some,
+              pairs_length
+                  (SameItem source form d) x.items q.0 q.2,
+            ),
+            q.1,
+            refl,
+            refl,
+          ),
+          (refl, refl, q.2),
+        )
 
   -- ---- functions
 

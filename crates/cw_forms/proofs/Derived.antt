@@ -1,8 +1,8 @@
 -- The form of a source that is read has tokens, and they derive a file.
-use Rattle.std.proofs.Common.{◌≡◌, ℕ, ◌≤◌, Bool, true, false, nat_le, List, [], ◌∷◌, ◌++◌, length, drop, Option, None, Some, refl, sym, ap, subst, ◌∙◌, arith}
+use Rattle.std.proofs.Common.{◌≡◌, ℕ, ◌≤◌, Bool, true, false, nat_le, List, [], ◌∷◌, ◌++◌, length, refl, sym, ap, subst, ◌∙◌, arith}
 use Rattle.std.specs.List.{filter_map, list_all}
 use Rattle.cw_syntax.specs.Names.{slice}
-use Rattle.cw_syntax.specs.Trees.{Statement, Stated, Form, Block, Declares, Evaluates, Empties, Labels, Chooses, Whiles, Does, Fors, Breaks, Continues, Returns, File}
+use Rattle.cw_syntax.specs.Trees.{Statement, Stated, Block, Declares, Evaluates, Empties, Labels, Chooses, Whiles, Does, Fors, Breaks, Continues, Returns, File}
 use Rattle.cw_lex.specs.declared.tokens.Token.{Token}
 use Rattle.cw_lex.specs.Marks.{HasNoMarker}
 use Rattle.cw_lex.specs.Listed.{AreInOrder}
@@ -13,15 +13,15 @@ use Rattle.cw_grammar.specs.Lexemes.{AreAll}
 use Rattle.cw_grammar.specs.Spelling.{lexemes_of}
 use Rattle.cw_grammar.specs.Expressions.{nesting_limit}
 use Rattle.cw_grammar.specs.Files.{Part as FilePart, IsPart, IsProgram, file_of}
-use Rattle.cw_scope.specs.Walks.{Placed, every_statement, body_of}
+use Rattle.cw_scope.specs.Walks.{Placed, every_statement}
 use Rattle.cw_source.specs.Read.{ReadsAs}
 use Rattle.cw_core.specs.declared.quantity.Quantity.TheVariants.{Nesting}
 use Rattle.cw_core.specs.Quantities.{limit_of}
-use Rattle.cw_detach.specs.Form.{before, behind, calls_one, span_of, spans, form_from, form_of, nesting_all}
+use Rattle.cw_detach.specs.Form.{before, behind, calls_one, span_of, form_from, form_of, nesting_all}
 use Rattle.cw_detach.specs.Faults.{is_shallow}
-use Rattle.cw_forms.specs.Pieces.{Piece, lefts, rights}
+use Rattle.cw_forms.specs.Pieces.{lefts}
 use Rattle.cw_forms.specs.Spans.{spans_of, with_texts}
-use Rattle.cw_forms.specs.Statements.{pair_at, pair_of, pairs_in, SameFile}
+use Rattle.cw_forms.specs.Statements.{pairs_in}
 use Rattle.cw_forms.specs.Derived.{FormDerives}
 use Rattle.cw_forms.proofs.Markers.{no_marker}
 use Rattle.cw_forms.proofs.Lexing.{lexing}
@@ -75,12 +75,13 @@ module _ (source : List ℕ) (names : List (List ℕ)) (parts : List FilePart) (
   abbrev form : List ℕ
   form = form_of source names file
 
-  derives : AreTokens source tokens → AreInOrder 0 (length source) tokens → AreAll (IsPart nesting_limit) (lexemes_of source tokens) parts → is_shallow source file names ≡ true → FormDerives source names tokens file
+  derives : AreTokens source tokens → AreInOrder 0 (length source) tokens → AreAll (IsPart nesting_limit) (lexemes_of source tokens) parts → is_shallow source file names ≡ true
+      → FormDerives source names tokens file
   unfolding AreTokens IsProgram
   derives lexed order all low =
       let part = parts_formed source form names nesting_limit enough parts (lexemes_of source tokens) 0 (length source) all
-          (lie_of source 0 (length source) tokens order) (shallow_each source form names nesting_limit enough file.functions
-          (subst (λ (z : ℕ). list_all (λ f. nat_le (nesting_all source names f.body) z) file.functions ≡ true) (sym same_limit) low)) in
+      (lie_of source 0 (length source) tokens order) (shallow_each source form names nesting_limit enough file.functions
+      (subst (λ (z : ℕ). list_all (λ f. nat_le (nesting_all source names f.body) z) file.functions ≡ true) (sym same_limit) low)) in
       let P = part.pieces in
       let whole : form ≡ with_texts source 0 (spans_of P) = form_is source names file ∙ ap (with_texts source 0) (sym part.spans) in
       let words : lexemes_of source (tokens_of 0 lexed.1.0) ≡ lefts P = ap (lexemes_of source) (sym lexed.1.3) ∙ sym part.left in

@@ -1,31 +1,32 @@
 -- No rule of descriptors is broken in a form, where none is in its source.
-use Rattle.std.proofs.Common.{◌≡◌, ◌⊎◌, ℕ, zero, suc, ◌+◌, Bool, true, false, cond, not, ◌&&◌, ◌||◌, is_some, is_none, nat_eq, nat_lt, List, [], ◌∷◌, ◌++◌, map, length, Option, None, Some, refl, sym, ap, subst, ◌∙◌}
+use Rattle.std.proofs.Common.{◌≡◌, ℕ, zero, suc, ◌+◌, Bool, true, false, cond, not, ◌&&◌, ◌||◌, is_some, is_none, List, [], ◌∷◌, map, Option, None, Some, refl}
+use Rattle.std.proofs.Common.{sym, ap, subst, ◌∙◌}
 use Rattle.std.specs.Prelude.{codes}
-use Rattle.std.specs.List.{filter, flat_map, list_any, list_all, position_from}
+use Rattle.std.specs.List.{filter, flat_map, list_any, position_from}
 use Rattle.std.specs.Option.{option_map, option_or}
 use Rattle.std.specs.Str.{bytes_eq}
-use Rattle.std.specs.Fmt.{decimal}
 use Rattle.std.proofs.lemmas.Bool.{and_parts, and_from}
 use Rattle.cw_syntax.specs.declared.program.Name.{Name}
 use Rattle.cw_syntax.specs.declared.program.Op.{Op}
 use Rattle.cw_syntax.specs.declared.program.Op.TheVariants as op
-use Rattle.cw_syntax.specs.Names.{Names, slice, text, number_in}
+use Rattle.cw_syntax.specs.Names.{Names, text, number_in}
 use Rattle.cw_syntax.specs.Trees.{Tree, Node, Trees, none, more, Declared, Declaration, Definition, File}
-use Rattle.cw_syntax.specs.Plans.{Scene, scene_of, Action, Computes, Opens, Closes, Invokes, action_of, call_action, assigned_action, closed_by, opens_if, closes_if, descriptor_of, function_names}
+use Rattle.cw_syntax.specs.Plans.{Scene, scene_of, Action, Computes, action_of, call_action, assigned_action, closed_by, opens_if, closes_if, descriptor_of}
 use Rattle.cw_rights.specs.Policies.{PlainPolicy, PlainDescriptor}
 use Rattle.cw_resolve.specs.Scenes.{names_of}
-use Rattle.cw_resolve.specs.Soonest.{soonest}
 use Rattle.cw_scope.specs.declared.descriptors.DescriptorFault.{DescriptorFault}
 use Rattle.cw_scope.specs.declared.descriptors.DescriptorFault.TheVariants.{NoVariable, Shadowed, Misuse}
 use Rattle.cw_scope.specs.Walks.{nodes, nodes_in, listed, Whole, inner, every_whole}
 use Rattle.cw_scope.specs.Names.{locals}
 use Rattle.cw_scope.specs.Rules.{at_if, parts_of}
-use Rattle.cw_scope.specs.Descriptors.{scene_under, is_number, is_minus, op_of, is_minus_one, is_start, is_plain_int, is_before, may_be_variable, Entry, entry_in, entries_of, entries, is_empty, is_one, is_declared, is_shadowed, is_variable, first_undeclared, first_shadowed, names_variable, is_change, first_is_variable, names_some, misuse, is_own, used, least_misuse, descriptor_fault}
+use Rattle.cw_scope.specs.Descriptors.{scene_under, is_number, is_minus, is_minus_one, is_start, is_plain_int, is_before, may_be_variable, Entry, entry_in, entries_of, entries}
+use Rattle.cw_scope.specs.Descriptors.{is_one, is_declared, is_shadowed, is_variable, first_undeclared, first_shadowed, names_variable, is_change, first_is_variable, names_some, misuse, is_own}
+use Rattle.cw_scope.specs.Descriptors.{used, least_misuse, descriptor_fault}
 use Rattle.cw_forms.specs.Moved.{Pairs, SameName, SameOp, Alike, AllAlike}
 use Rattle.cw_forms.specs.Declared.{Both, SameItem, SameDeclaration}
 use Rattle.cw_forms.specs.Statements.{standing, SameWhole, IsFork, IsExit, SameFunction, StaysBefore, StayBefore, SameFile}
 use Rattle.cw_forms.proofs.Observed.{pairs_both, listed_pairs}
-use Rattle.cw_forms.proofs.Trees.{NoneAll, none_of, of_none, none_split, none_join, none_pairs, no_place, place_none, call_of, is_name_op, same_call, same_is_name, nodes_alike, nodes_in_alike}
+use Rattle.cw_forms.proofs.Trees.{NoneAll, none_of, of_none, none_split, none_join, none_pairs, no_place, place_none, call_of, is_name_op, same_call, nodes_alike, nodes_in_alike}
 use Rattle.cw_forms.proofs.Lists.{AllOf, wholes_made, locals_pairs}
 
 neither : (a b : Option DescriptorFault) → option_or a b ≡ None → (a ≡ None) × (b ≡ None)
@@ -137,16 +138,19 @@ module _ (source form : List ℕ) where
   one_stays (x ∷ (w ∷ es)) (y ∷ fs) h e = absurd (let p = (and_parts x.fits false e).1 in cc)
 
   module _ (file made : File) (same : SameFile source form file made) where
-    fits_stay : (k : ℕ) (d e : Declaration) (x y : Declared) → (e.external ≡ d.external) → (e.constant ≡ d.constant) → SameItem source form k x y → StaysBefore source form file.functions made.functions x y
+    fits_stay : (k : ℕ) (d e : Declaration) (x y : Declared) → (e.external ≡ d.external) → (e.constant ≡ d.constant) → SameItem source form k x y
+        → StaysBefore source form file.functions made.functions x y
         → may_be_variable file d x ≡ true → may_be_variable made e y ≡ true
     fits_stay k d e x y external constant (kind, name, array, init, braces) before h =
         let five = and_parts (not d.external && not d.constant && is_plain_int x.kind && is_none x.array && is_start x.braces (listed x.init)) (is_before x.name.from file.functions) h in
         let front : (not e.external && not e.constant && is_plain_int y.kind && is_none y.array && is_start y.braces (listed y.init))
-            ≡ (not d.external && not d.constant && is_plain_int x.kind && is_none x.array && is_start x.braces (listed x.init)) =
-            rw (external, constant, kind, none_same (Both L) x.array y.array array, braces, start_same x.braces (listed x.init) (listed y.init) (listed_pairs source form x.init y.init init)) refl in
-        and_from (not e.external && not e.constant && is_plain_int y.kind && is_none y.array && is_start y.braces (listed y.init)) (is_before y.name.from made.functions) (front ∙ five.0) (before five.1)
+        ≡ (not d.external && not d.constant && is_plain_int x.kind && is_none x.array && is_start x.braces (listed x.init)) =
+        rw (external, constant, kind, none_same (Both L) x.array y.array array, braces, start_same x.braces (listed x.init) (listed y.init) (listed_pairs source form x.init y.init init)) refl in
+        and_from (not e.external && not e.constant && is_plain_int y.kind && is_none y.array && is_start y.braces (listed y.init)) (is_before y.name.from made.functions) (front
+        ∙ five.0) (before five.1)
 
-    items_stay : (k : ℕ) (d e : Declaration) → (e.external ≡ d.external) → (e.constant ≡ d.constant) → (xs ys : List Declared) → Pairs (SameItem source form k) xs ys → Pairs (StaysBefore source form file.functions made.functions) xs ys
+    items_stay : (k : ℕ) (d e : Declaration) → (e.external ≡ d.external) → (e.constant ≡ d.constant) → (xs ys : List Declared) → Pairs (SameItem source form k) xs ys
+        → Pairs (StaysBefore source form file.functions made.functions) xs ys
         → Pairs SameEntry (map (entry_in file d) xs) (map (entry_in made e) ys)
     items_stay k d e external constant [] [] h b = tt
     items_stay k d e external constant [] (y ∷ ys) h b = absurd h
@@ -171,6 +175,7 @@ module _ (source form : List ℕ) where
         by false b c f e = refl
         by true true c f e = rw (f refl) refl
         by true false c f e = absurd cc
+
         each : (d : PlainDescriptor) → (is_variable d && not (is_declared source (entries file) d.name)) ≡ false → (is_variable d && not (is_declared form (entries made) d.name)) ≡ false
         each d e = by (is_variable d) (is_declared source (entries file) d.name) (is_declared form (entries made) d.name) (declared_stays d.name) e
 
@@ -178,7 +183,8 @@ module _ (source form : List ℕ) where
     shadowed_same name [] [] h = refl
     shadowed_same name [] (m ∷ ms) h = absurd h
     shadowed_same name (n ∷ ns) [] h = absurd h
-    shadowed_same name (n ∷ ns) (m ∷ ms) h = ap (λ (z : List ℕ). bytes_eq name z || is_shadowed form ms name) h.0 ∙ ap (λ (b : Bool). bytes_eq name (text source n) || b) (shadowed_same name ns ms h.1)
+    shadowed_same name (n ∷ ns) (m ∷ ms) h = ap (λ (z : List ℕ). bytes_eq name z || is_shadowed form ms name) h.0
+        ∙ ap (λ (b : Bool). bytes_eq name (text source n) || b) (shadowed_same name ns ms h.1)
 
     shadowed_none : (ds : List PlainDescriptor) → first_shadowed source (locals file) ds ≡ None → first_shadowed form (locals made) ds ≡ None
     shadowed_none ds e =
@@ -307,7 +313,8 @@ module _ (source form : List ℕ) where
       acts c true None i j = Computes
       acts c false o i j = Computes
 
-      acts_by : (c : Scene) (p q : Op) (xs ts : Trees) (i j k l a b : ℕ) → action_of c (Node (op.Assign 0) (more (Node p xs i j) (more (Node q ts k l) none)) a b) ≡ acts c (is_name_op p) (call_of q) i j
+      acts_by : (c : Scene) (p q : Op) (xs ts : Trees) (i j k l a b : ℕ)
+          → action_of c (Node (op.Assign 0) (more (Node p xs i j) (more (Node q ts k l) none)) a b) ≡ acts c (is_name_op p) (call_of q) i j
       acts_by c op.Name (op.Call f) xs ts i j k l a b = refl
       acts_by c op.Name _ xs ts i j k l a b = refl
       acts_by c _ q xs ts i j k l a b = refl
@@ -330,7 +337,8 @@ module _ (source form : List ℕ) where
           ∙ ap (λ (z : List ℕ). is_own (assigned_action r y z (number_in s.functions (text source f)))) k
           ∙ assigned_same x y (text source f) (number_in s.functions (text source f)) h
 
-      acts_same : (p : Op) (i j : ℕ) (p' : Op) (i' j' : ℕ) (f g : Option Name) → SameOp source form p i j p' i' j' → Both SN f g → is_own (acts r (is_name_op p') g i' j') ≡ is_own (acts s (is_name_op p) f i j)
+      acts_same : (p : Op) (i j : ℕ) (p' : Op) (i' j' : ℕ) (f g : Option Name) → SameOp source form p i j p' i' j' → Both SN f g
+          → is_own (acts r (is_name_op p') g i' j') ≡ is_own (acts s (is_name_op p) f i j)
       acts_same op.Name i j p' i' j' f g h k = ap (λ (z : Op). is_own (acts r (is_name_op z) g i' j')) h.0 ∙ acts_called (record { from = i; to = j }) (record { from = i'; to = j' }) f g h.1 k
       acts_same (op.Call x) i j p' i' j' f g h k = ap (λ (z : Op). is_own (acts r (is_name_op z) g i' j')) h.1
       acts_same (op.Number n) i j p' i' j' f g h k = ap (λ (z : Op). is_own (acts r (is_name_op z) g i' j')) h
@@ -402,13 +410,19 @@ module _ (source form : List ℕ) where
       clean_fork t (f, a, b, c, d, is, e) =
           subst (λ (z : Tree). Clean r (inner z)) (sym is) (refl, (place_none (bytes_eq (text form f) (codes "close") && false) a (ap (λ (z : List ℕ). bytes_eq z (codes "close") && false) e), tt))
 
-      exit_clean : (f : Name) (a b c d : ℕ) → text form f ≡ codes "_exit" → (o : Option ℕ) → number_in r.functions (text form f) ≡ o → Clean r (standing (Node (op.Call f) (more (Node (op.Number 0) none a b) none) c d))
+      exit_clean : (f : Name) (a b c d : ℕ) → text form f ≡ codes "_exit" → (o : Option ℕ) → number_in r.functions (text form f) ≡ o
+          → Clean r (standing (Node (op.Call f) (more (Node (op.Number 0) none a b) none) c d))
       exit_clean f a b c d e o is =
           let name : bytes_eq (text form f) (codes "close") ≡ false = ap (λ (z : List ℕ). bytes_eq z (codes "close")) e in
           let own : is_own (action_of r (Node (op.Call f) (more (Node (op.Number 0) none a b) none) c d)) ≡ false = by o is name in
-          rw own (place_none (bytes_eq (text form f) (codes "close") && names_some r (more (Node (op.Number 0) none a b) none)) c (ap (λ (x : Bool). x && names_some r (more (Node (op.Number 0) none a b) none)) name), (refl, tt))
+          rw own (
+            place_none (bytes_eq (text form f) (codes "close") && names_some r (more (Node (op.Number 0) none a b) none)) c (ap (λ (x : Bool). x && names_some r (more (Node
+                (op.Number 0) none a b) none)) name),
+            (refl, tt),
+          )
         where
-          by : (o : Option ℕ) → number_in r.functions (text form f) ≡ o → bytes_eq (text form f) (codes "close") ≡ false → is_own (call_action r (text form f) (more (Node (op.Number 0) none a b) none) (number_in r.functions (text form f))) ≡ false
+          by : (o : Option ℕ) → number_in r.functions (text form f) ≡ o → bytes_eq (text form f) (codes "close") ≡ false
+              → is_own (call_action r (text form f) (more (Node (op.Number 0) none a b) none) (number_in r.functions (text form f))) ≡ false
           by (Some n) is name = rw is refl
           by None is name = rw is (rw name refl)
 
@@ -427,15 +441,16 @@ module _ (source form : List ℕ) where
       misuses_none e =
           of_none (misuse r) (flat_map (used r) (every_whole made))
           (all_clean r (every_whole made) (wholes_made source form (Clean s) (Clean r) clean_same clean_fork clean_exit file made same
-            (each_clean s (every_whole file) (none_of (misuse s) (flat_map (used s) (every_whole file)) e))))
+          (each_clean s (every_whole file) (none_of (misuse s) (flat_map (used s) (every_whole file)) e))))
 
     pub descriptors_kept : (policy : PlainPolicy) → descriptor_fault source file policy ≡ None → descriptor_fault form made policy ≡ None
     descriptors_kept policy e =
-        let both = neither (option_or (option_map NoVariable (first_undeclared source (entries file) policy.descriptors)) (option_map Shadowed (first_shadowed source (locals file) policy.descriptors)))
-            (option_map Misuse (least_misuse (scene_under policy source file) file)) e in
+        let both = neither (option_or (option_map NoVariable (first_undeclared source (entries file) policy.descriptors)) (option_map Shadowed (first_shadowed source
+        (locals file) policy.descriptors)))
+        (option_map Misuse (least_misuse (scene_under policy source file) file)) e in
         let two = neither (option_map NoVariable (first_undeclared source (entries file) policy.descriptors)) (option_map Shadowed (first_shadowed source (locals file) policy.descriptors)) both.0 in
         of_neither _ _
         (of_neither _ _
-          (ap (option_map NoVariable) (undeclared_none policy.descriptors (unmapped NoVariable (first_undeclared source (entries file) policy.descriptors) two.0)))
-          (ap (option_map Shadowed) (shadowed_none policy.descriptors (unmapped Shadowed (first_shadowed source (locals file) policy.descriptors) two.1))))
+        (ap (option_map NoVariable) (undeclared_none policy.descriptors (unmapped NoVariable (first_undeclared source (entries file) policy.descriptors) two.0)))
+        (ap (option_map Shadowed) (shadowed_none policy.descriptors (unmapped Shadowed (first_shadowed source (locals file) policy.descriptors) two.1))))
         (ap (option_map Misuse) (misuses_none (names_of policy) (unmapped Misuse (least_misuse (scene_under policy source file) file) both.1)))

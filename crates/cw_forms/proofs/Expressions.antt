@@ -1,16 +1,16 @@
 -- What derives an expression derives one that is alike of the tokens that are kept.
-use Rattle.std.proofs.Common.{◌≡◌, ℕ, zero, suc, List, [], ◌∷◌, ◌++◌, map, Some, refl, sym, ap, subst, ◌∙◌, inl, inr}
+use Rattle.std.proofs.Common.{◌≡◌, ℕ, zero, suc, List, [], ◌∷◌, map, refl, sym, ap, subst, ◌∙◌, inl, inr}
 use Rattle.cw_syntax.specs.declared.program.Op.{Op}
 use Rattle.cw_syntax.specs.declared.program.Op.TheVariants as op
-use Rattle.cw_syntax.specs.Trees.{Tree, Node, Trees, none, more}
+use Rattle.cw_syntax.specs.Trees.{Tree}
 use Rattle.cw_grammar.specs.declared.words.Word.TheVariants as w
 use Rattle.cw_grammar.specs.declared.words.Lexeme.{Lexeme}
 use Rattle.cw_grammar.specs.declared.rules.Rule.{Rule}
 use Rattle.cw_grammar.specs.declared.rules.Rule.TheVariants.{Expression, Level, Unary, Postfix}
-use Rattle.cw_grammar.specs.Lexemes.{Is, name_of, AreSeparated, trees}
+use Rattle.cw_grammar.specs.Lexemes.{name_of, AreSeparated}
 use Rattle.cw_grammar.specs.Expressions.{loosest, Derives, node, AreStrings, IsPrimary, IsPostfix, IsUnary, IsOperand, IsLevel, IsRule, IsDerived, IsExpression}
-use Rattle.cw_forms.specs.Moved.{moved, Pairs, AreKept, SameOp, Alike, AllAlike}
-use Rattle.cw_forms.proofs.Kept.{parts_moved, between_moved, type_name_moved, kept_as, kept_parts, kept_between, Moves, separated_moves, between_moves, trees_alike}
+use Rattle.cw_forms.specs.Moved.{moved, Pairs, AreKept, SameOp, Alike}
+use Rattle.cw_forms.proofs.Kept.{parts_moved, between_moved, type_name_moved, kept_as, kept_parts, Moves, separated_moves, between_moves, trees_alike}
 
 strings_moved : (d : ℕ) (ts : List Lexeme) → AreStrings ts → AreStrings (map (moved d) ts)
 strings_moved d [] h = tt
@@ -49,9 +49,11 @@ module _ (source form : List ℕ) (d : ℕ) where
     primary ts e k (inr (inl (n, b, xs, whole, is, inner, e_is))) =
         let own = kept_as source form d ts (n ∷ b) whole k in
         let there : m ts ≡ moved d n ∷ m b = ap m whole in
-        let q = between_moves source form d _ _ (separated_list (P Expression) (rec Expression)) w.Open w.Close b xs own.1 inner in
-        (node (op.Call (name_of (moved d n))) q.0 (m ts), inr (inl (moved d n, m b, q.0, there, is, q.1, refl)),
-          as_node e (node (op.Call (name_of n)) xs ts) _ e_is ((name_of (moved d n), refl, own.0), trees_alike source form d xs q.0 q.2))
+        let q = between_moves source form d _ _ (separated_list (P Expression) (rec Expression)) w.Open w.Close b xs own.1 inner in (
+          node (op.Call (name_of (moved d n))) q.0 (m ts),
+          inr (inl (moved d n, m b, q.0, there, is, q.1, refl)),
+          as_node e (node (op.Call (name_of n)) xs ts) _ e_is ((name_of (moved d n), refl, own.0), trees_alike source form d xs q.0 q.2),
+        )
     primary ts e k (inr (inr (inl (n, value, whole, is, e_is)))) =
         (node (op.Number value) [] (m ts), inr (inr (inl (moved d n, value, ap m whole, is, refl))), as_node e _ _ e_is (refl, tt))
     primary ts e k (inr (inr (inr (inl (n, value, whole, is, e_is))))) =
@@ -71,8 +73,12 @@ module _ (source form : List ℕ) (d : ℕ) where
         (node op.Index (p.0 ∷ q.0 ∷ []) (m ts), inr (inl (m a, m b, p.0, q.0, parts_moved d ts a b whole, p.1, q.1, refl)), two op.Index ts e x y p.0 q.0 (λ a b a' b'. refl) e_is p.2 q.2)
     postfix ts e k (inr (inr (a, t, number, x, whole, suffix, first, e_is))) =
         let own = kept_parts source form d ts a (t ∷ []) whole k in
-        let p = rec Postfix a x own.0 first in
-        (node (op.Suffix number) (p.0 ∷ []) (m ts), inr (inr (m a, moved d t, number, p.0, parts_moved d ts a (t ∷ []) whole, suffix, p.1, refl)), one (op.Suffix number) ts e x p.0 (λ a b a' b'. refl) e_is p.2)
+        let p = rec Postfix a x own.0 first in (
+          node (op.Suffix number) (p.0 ∷ []) (m ts),
+          inr (inr (m a, moved d t, number, p.0, parts_moved d ts a (t ∷ []) whole, suffix, p.1, refl)),
+          one (op.Suffix number) ts e x p.0
+              (λ a b a' b'. refl) e_is p.2,
+        )
 
     unary : Moves source form d (IsUnary P) L
     unary ts e k (inl (t, b, number, x, whole, sign, first, e_is)) =
@@ -87,19 +93,21 @@ module _ (source form : List ℕ) (d : ℕ) where
         let own = kept_as source form d ts (t ∷ b) whole k in
         let p = rec Unary b x own.1 first in
         (node op.SizeOf (p.0 ∷ []) (m ts), inr (inr (inl (moved d t, m b, p.0, ap m whole, is, p.1, refl))), one op.SizeOf ts e x p.0 (λ a b a' b'. refl) e_is p.2)
-    unary ts e k (inr (inr (inr (inl (t, b, kind, whole, is, (o, inner, c, within, opens, closes, name), e_is))))) =
-        (node (op.SizeOfType kind) [] (m ts),
-          inr (inr (inr (inl (moved d t, m b, kind, ap m whole, is, (moved d o, m inner, moved d c, between_moved d b inner o c within, opens, closes, type_name_moved d inner kind name), refl)))),
-          as_node e _ _ e_is (refl, tt))
+    unary ts e k (inr (inr (inr (inl (t, b, kind, whole, is, (o, inner, c, within, opens, closes, name), e_is))))) = (
+      node (op.SizeOfType kind) [] (m ts),
+      inr (inr (inr (inl (moved d t, m b, kind, ap m whole, is, (moved d o, m inner, moved d c, between_moved d b inner o c within, opens, closes, type_name_moved d inner kind name), refl)))),
+      as_node e _ _ e_is (refl, tt),
+    )
     unary ts e k (inr (inr (inr (inr h)))) = let q = postfix ts e k h in (q.0, inr (inr (inr (inr q.1))), q.2)
 
     operand : Moves source form d (IsOperand P) L
     operand ts e k (inl (a, b, kind, x, whole, (o, inner, c, within, opens, closes, name), first, e_is)) =
         let own = kept_parts source form d ts a b whole k in
-        let p = rec (Level 0) b x own.1 first in
-        (node (op.Cast kind) (p.0 ∷ []) (m ts),
+        let p = rec (Level 0) b x own.1 first in (
+          node (op.Cast kind) (p.0 ∷ []) (m ts),
           inl (m a, m b, kind, p.0, parts_moved d ts a b whole, (moved d o, m inner, moved d c, between_moved d a inner o c within, opens, closes, type_name_moved d inner kind name), p.1, refl),
-          one (op.Cast kind) ts e x p.0 (λ a b a' b'. refl) e_is p.2)
+          one (op.Cast kind) ts e x p.0 (λ a b a' b'. refl) e_is p.2,
+        )
     operand ts e k (inr h) = let q = unary ts e k h in (q.0, inr q.1, q.2)
 
     level : (l : ℕ) → Moves source form d (IsLevel P l) L
@@ -108,18 +116,22 @@ module _ (source form : List ℕ) (d : ℕ) where
     level (suc l) ts e k (inr (a, t, b, number, x, y, whole, binary, first, second, e_is)) =
         let own = kept_parts source form d ts a (t ∷ b) whole k in
         let p = rec (Level (suc l)) a x own.0 first in
-        let q = rec (Level l) b y own.1.1 second in
-        (node (op.Binary number) (p.0 ∷ q.0 ∷ []) (m ts), inr (m a, moved d t, m b, number, p.0, q.0, parts_moved d ts a (t ∷ b) whole, binary, p.1, q.1, refl),
-          two (op.Binary number) ts e x y p.0 q.0 (λ a b a' b'. refl) e_is p.2 q.2)
+        let q = rec (Level l) b y own.1.1 second in (
+          node (op.Binary number) (p.0 ∷ q.0 ∷ []) (m ts),
+          inr (m a, moved d t, m b, number, p.0, q.0, parts_moved d ts a (t ∷ b) whole, binary, p.1, q.1, refl),
+          two (op.Binary number) ts e x y p.0 q.0 (λ a b a' b'. refl) e_is p.2 q.2,
+        )
 
     rules : (rule : Rule) → Moves source form d (IsRule P rule) L
     rules Expression ts e k (inl h) = let q = level loosest ts e k h in (q.0, inl q.1, q.2)
     rules Expression ts e k (inr (a, t, b, number, x, y, whole, assign, first, second, e_is)) =
         let own = kept_parts source form d ts a (t ∷ b) whole k in
         let p = rec Unary a x own.0 first in
-        let q = rec Expression b y own.1.1 second in
-        (node (op.Assign number) (p.0 ∷ q.0 ∷ []) (m ts), inr (m a, moved d t, m b, number, p.0, q.0, parts_moved d ts a (t ∷ b) whole, assign, p.1, q.1, refl),
-          two (op.Assign number) ts e x y p.0 q.0 (λ a b a' b'. refl) e_is p.2 q.2)
+        let q = rec Expression b y own.1.1 second in (
+          node (op.Assign number) (p.0 ∷ q.0 ∷ []) (m ts),
+          inr (m a, moved d t, m b, number, p.0, q.0, parts_moved d ts a (t ∷ b) whole, assign, p.1, q.1, refl),
+          two (op.Assign number) ts e x y p.0 q.0 (λ a b a' b'. refl) e_is p.2 q.2,
+        )
     rules (Level l) ts e k h = level l ts e k h
     rules Unary ts e k h = unary ts e k h
     rules Postfix ts e k h = postfix ts e k h

@@ -1,18 +1,17 @@
 -- The form of a whole source: its functions, declarations and prototypes.
-use Rattle.std.proofs.Common.{◌≡◌, ◌≢◌, ℕ, ◌+◌, ◌<◌, ◌≤◌, Bool, true, false, nat_le, nat_lt, ◌&&◌, List, [], ◌∷◌, ◌++◌, map, Option, None, Some, refl, sym, ap, subst, ◌∙◌, arith}
+use Rattle.std.proofs.Common.{◌≡◌, ◌≢◌, ℕ, ◌+◌, ◌<◌, ◌≤◌, true, false, nat_le, nat_lt, List, [], ◌∷◌, ◌++◌, map, Option, None, Some, refl, sym, ap, subst, ◌∙◌, arith}
 use Rattle.std.specs.List.{flat_map, list_all}
 use Rattle.std.proofs.lemmas.Bool.{and_parts, and_from}
 use Rattle.std.proofs.lemmas.Bool.Decides.{nat_tests}
 use Rattle.std.proofs.lemmas.List.{append-nil}
 use Rattle.cw_syntax.specs.declared.program.Name.{Name}
 use Rattle.cw_syntax.specs.declared.program.Param.{Param}
-use Rattle.cw_syntax.specs.Trees.{Statements, Statement, Declared, Prototype, Declaration, Definition, File}
-use Rattle.cw_grammar.specs.declared.words.Word.TheVariants as w
+use Rattle.cw_syntax.specs.Trees.{Statements, Statement, Declared, Declaration, Definition}
 use Rattle.cw_grammar.specs.declared.words.Lexeme.{Lexeme}
 use Rattle.cw_lex.specs.declared.tokens.Token.{Token}
 use Rattle.cw_lex.specs.Listed.{AreInOrder}
 use Rattle.cw_grammar.specs.Spelling.{lexemes_of}
-use Rattle.cw_grammar.specs.Lexemes.{Is, AreAll, AreSeparated, statements}
+use Rattle.cw_grammar.specs.Lexemes.{AreAll, AreSeparated, statements}
 use Rattle.cw_grammar.specs.Declarations.{Expressions, IsName, Specifiers, IsItem}
 use Rattle.cw_grammar.specs.Expressions.{IsExpression}
 use Rattle.cw_grammar.specs.Statements.{InBlock, IsStatement}
@@ -20,8 +19,8 @@ use Rattle.cw_grammar.specs.Files.{AreNamed, IsFunction, Part as FilePart, Decla
 use Rattle.cw_scope.specs.Walks.{Placed, placed_all, body_of}
 use Rattle.cw_scope.specs.Descriptors.{is_before}
 use Rattle.cw_detach.specs.Form.{nesting_all}
-use Rattle.cw_forms.specs.Moved.{moved, Pairs, AreKept, SameName}
-use Rattle.cw_forms.specs.Declared.{Both, SameParam, SameItem, SameDeclaration, SamePrototype}
+use Rattle.cw_forms.specs.Moved.{moved, Pairs, SameName}
+use Rattle.cw_forms.specs.Declared.{Both, SameParam, SameItem}
 use Rattle.cw_forms.specs.Statements.{pairs_in, StandFor, SameFunction, StaysBefore, StayBefore, SameFile}
 use Rattle.cw_forms.proofs.Expressions.{expression_moves}
 use Rattle.cw_forms.proofs.Declarations.{declaration_moves, header_moves, prototype_moves}
@@ -122,9 +121,10 @@ globals_from limit (Declares x ∷ parts) ts lo hi (a, b, whole, first, rest) li
 globals_from limit (Holds x ∷ parts) ts lo hi (a, b, whole, (specs_tokens, items_tokens, specs, whole2, are, external, fixed, constant, some, (inner, c, whole3, is, items), from, to), rest) lie =
     let p = split lo hi a b (lie_at lo hi ts (a ++ b) whole lie) in
     let q = split lo p.0 specs_tokens items_tokens (lie_at lo p.0 a (specs_tokens ++ items_tokens) whole2 p.1) in
-    let r = split q.0 p.0 inner (c ∷ []) (lie_at q.0 p.0 items_tokens (inner ++ c ∷ []) whole3 q.2) in
-    (from_less lo q.0 x.items (lie_le lo q.0 specs_tokens q.1) (items_from (IsExpression limit) specs x.items inner q.0 r.0 items r.1),
-      globals_less lo p.0 _ (lie_le lo p.0 a p.1) (globals_from limit parts b p.0 hi rest p.2))
+    let r = split q.0 p.0 inner (c ∷ []) (lie_at q.0 p.0 items_tokens (inner ++ c ∷ []) whole3 q.2) in (
+      from_less lo q.0 x.items (lie_le lo q.0 specs_tokens q.1) (items_from (IsExpression limit) specs x.items inner q.0 r.0 items r.1),
+      globals_less lo p.0 _ (lie_le lo p.0 a p.1) (globals_from limit parts b p.0 hi rest p.2),
+    )
 globals_from limit (Defines f ∷ parts) ts lo hi (a, b, whole, first, rest) lie =
     let p = split lo hi a b (lie_at lo hi ts (a ++ b) whole lie) in
     globals_less lo p.0 _ (lie_le lo p.0 a p.1) (globals_from limit parts b p.0 hi rest p.2)
@@ -147,21 +147,22 @@ module _ (source form : List ℕ) (names : List (List ℕ)) (limit : ℕ) (enoug
       let ps = placed_all false (statements body) in
       let low : nesting_all source names (statements body) ≤ limit = subst (λ (z : Statements). nesting_all source names z ≤ limit) body_is deep in
       let spans : pairs_in source names (body_of f) ≡ pairs_in source names (ps ++ []) =
-          ap (λ (z : Statements). pairs_in source names (placed_all false z)) body_is ∙ ap (pairs_in source names) (sym (append-nil ps)) in
+      ap (λ (z : Statements). pairs_in source names (placed_all false z)) body_is ∙ ap (pairs_in source names) (sym (append-nil ps)) in
       part_as source form names (header ++ (o ∷ (x ++ c ∷ []))) ts (ps ++ []) (body_of f)
       (Then source form names (K header) (Then source form names (K (o ∷ [])) (Then source form names (MadeAll ps) (K (c ∷ []))))) (MadeFunction f) whole spans
       (λ d us t. (
-        let u = t.5 in
-        let v = u.5 in
-        let r = header_moves source form d header f.name f.result f.params t.4.1 header_is in
-        let us_is : us ≡ map (moved d) header ++ (moved t.2 o ∷ (v.0 ++ moved v.2 c ∷ [])) =
-            t.3 ∙ ap (λ (z : List Lexeme). z ++ t.1) t.4.0
-            ∙ ap (λ (z : List Lexeme). map (moved d) header ++ z)
-                (u.3 ∙ ap (λ (z : List Lexeme). z ++ u.1) u.4.0 ∙ ap (λ (z : List Lexeme). moved t.2 o ∷ z) (v.3 ∙ ap (λ (z : List Lexeme). v.0 ++ z) v.5.0)) in
-        let g : Definition = record { name = r.0; result = f.result; params = r.1; brace = (moved t.2 o).to; body = statements v.4.0 } in
-        let stand : StandFor source form (body_of f) (body_of g) = subst (λ (z : Statements). StandFor source form (placed_all false z) (body_of g)) (sym body_is) v.4.2 in
-        (g, (map (moved d) header, moved t.2 o, v.0, moved v.2 c, v.4.0, us_is, r.2, params_named source form f.params r.1 r.4 named, opens, refl, v.4.1, refl, closes), (d, r.3, r.4, stand), r.3.1)))
-      (part_then source form names header (o ∷ (x ++ c ∷ [])) [] (ps ++ []) (K header) (Then source form names (K (o ∷ [])) (Then source form names (MadeAll ps) (K (c ∷ [])))) (kept_part source form names header)
+      let u = t.5 in
+      let v = u.5 in
+      let r = header_moves source form d header f.name f.result f.params t.4.1 header_is in
+      let us_is : us ≡ map (moved d) header ++ (moved t.2 o ∷ (v.0 ++ moved v.2 c ∷ [])) =
+      t.3 ∙ ap (λ (z : List Lexeme). z ++ t.1) t.4.0
+      ∙ ap (λ (z : List Lexeme). map (moved d) header ++ z)
+      (u.3 ∙ ap (λ (z : List Lexeme). z ++ u.1) u.4.0 ∙ ap (λ (z : List Lexeme). moved t.2 o ∷ z) (v.3 ∙ ap (λ (z : List Lexeme). v.0 ++ z) v.5.0)) in
+      let g : Definition = record { name = r.0; result = f.result; params = r.1; brace = (moved t.2 o).to; body = statements v.4.0 } in
+      let stand : StandFor source form (body_of f) (body_of g) = subst (λ (z : Statements). StandFor source form (placed_all false z) (body_of g)) (sym body_is) v.4.2 in
+      (g, (map (moved d) header, moved t.2 o, v.0, moved v.2 c, v.4.0, us_is, r.2, params_named source form f.params r.1 r.4 named, opens, refl, v.4.1, refl, closes), (d, r.3, r.4, stand), r.3.1)))
+      (part_then source form names header (o ∷ (x ++ c ∷ [])) [] (ps ++ []) (K header) (Then source form names (K (o ∷ [])) (Then source form names (MadeAll ps) (K (c ∷ []))))
+      (kept_part source form names header)
       (part_then source form names (o ∷ []) (x ++ c ∷ []) [] (ps ++ []) (K (o ∷ [])) (Then source form names (MadeAll ps) (K (c ∷ []))) (kept_part source form names (o ∷ []))
       (part_then source form names x (c ∷ []) ps [] (MadeAll ps) (K (c ∷ []))
       (all_formed source form names limit enough limit limit (statement_formed source form names limit enough limit limit) x body false all low) (kept_part source form names (c ∷ [])))))
@@ -195,7 +196,8 @@ module _ (source form : List ℕ) (names : List (List ℕ)) (limit : ℕ) (enoug
       ((λ e. subst (λ (z : ℕ). is_before z gs ≡ true) (sym k.0.1.1) (before_moved d x.name.from fs gs h e)), items_before d fs gs xs ys h k.1)
 
   -- behind a function nothing stands before all functions
-  items_behind : (f g : Definition) (fs gs : List Definition) (lo : ℕ) (xs ys : List Declared) → f.name.from < lo → AllFrom lo xs → Pairs (StaysBefore source form fs gs) xs ys → Pairs (StaysBefore source form (f ∷ fs) (g ∷ gs)) xs ys
+  items_behind : (f g : Definition) (fs gs : List Definition) (lo : ℕ) (xs ys : List Declared) → f.name.from < lo → AllFrom lo xs → Pairs (StaysBefore source form fs gs) xs ys
+      → Pairs (StaysBefore source form (f ∷ fs) (g ∷ gs)) xs ys
   items_behind f g fs gs lo [] [] lt h k = tt
   items_behind f g fs gs lo [] (y ∷ ys) lt h k = absurd k
   items_behind f g fs gs lo (x ∷ xs) [] lt h k = absurd k
@@ -223,39 +225,50 @@ module _ (source form : List ℕ) (names : List (List ℕ)) (limit : ℕ) (enoug
   abbrev bodies : List FilePart → List Placed
   bodies parts = flat_map body_of (file_of parts).functions
 
-  pub parts_formed : (parts : List FilePart) (ts : List Lexeme) (lo hi : ℕ) → AreAll (IsPart limit) ts parts → Lie lo hi ts → AreShallow (file_of parts).functions → P ts (bodies parts) (MadeFile parts)
+  pub parts_formed : (parts : List FilePart) (ts : List Lexeme) (lo hi : ℕ) → AreAll (IsPart limit) ts parts → Lie lo hi ts → AreShallow (file_of parts).functions
+      → P ts (bodies parts) (MadeFile parts)
   parts_formed [] ts lo hi none lie low =
-      part_as source form names [] ts [] [] (K []) (MadeFile []) none refl (λ d us k. ([], k.0, record { protos = tt; globals = tt; functions = tt; before = tt }, tt)) (kept_part source form names [])
+      part_as source form names [] ts [] [] (K []) (MadeFile []) none refl (λ d us k. ([], k.0, record { protos = tt; globals = tt; functions = tt; before = tt }, tt))
+      (kept_part source form names [])
   parts_formed (Declares x ∷ parts) ts lo hi (a, b, whole, first, rest) lie low =
       let p = split lo hi a b (subst (λ (z : List Lexeme). Lie lo hi z) whole lie) in
       part_as source form names (a ++ b) ts (bodies parts) (bodies parts) (Then source form names (K a) (MadeFile parts)) (MadeFile (Declares x ∷ parts)) whole refl
       (λ d us t. (
-        let r = prototype_moves source form d a x t.4.1 first in
-        let h = t.5.2 in
-        (Declares r.0 ∷ t.5.0, (map (moved d) a, t.1, t.3 ∙ ap (λ (z : List Lexeme). z ++ t.1) t.4.0, r.1, t.5.1),
-          record { protos = (r.2, h.protos); globals = h.globals; functions = h.functions; before = h.before }, behind_less d t.2 _ _ t.6 t.5.3)))
+      let r = prototype_moves source form d a x t.4.1 first in
+      let h = t.5.2 in (
+        Declares r.0 ∷ t.5.0,
+        (map (moved d) a, t.1, t.3 ∙ ap (λ (z : List Lexeme). z ++ t.1) t.4.0, r.1, t.5.1),
+        record { protos = (r.2, h.protos); globals = h.globals; functions = h.functions; before = h.before },
+        behind_less d t.2 _ _ t.6 t.5.3,
+      )))
       (part_then source form names a b [] (bodies parts) (K a) (MadeFile parts) (kept_part source form names a) (parts_formed parts b p.0 hi rest p.2 low))
   parts_formed (Holds x ∷ parts) ts lo hi (a, b, whole, first, rest) lie low =
       let p = split lo hi a b (subst (λ (z : List Lexeme). Lie lo hi z) whole lie) in
       part_as source form names (a ++ b) ts (bodies parts) (bodies parts) (Then source form names (K a) (MadeFile parts)) (MadeFile (Holds x ∷ parts)) whole refl
       (λ d us t. (
-        let r = declaration_moves source form d (IsExpression limit) (expression_moves source form d limit) a x t.4.1 first in
-        let h = t.5.2 in
-        let behind = behind_less d t.2 _ _ t.6 t.5.3 in
-        (Holds r.0 ∷ t.5.0, (map (moved d) a, t.1, t.3 ∙ ap (λ (z : List Lexeme). z ++ t.1) t.4.0, r.1, t.5.1),
-          record { protos = h.protos; globals = ((d, r.2), h.globals); functions = h.functions; before = (items_before d _ _ x.items r.0.items behind r.2.2, h.before) }, behind)))
+      let r = declaration_moves source form d (IsExpression limit) (expression_moves source form d limit) a x t.4.1 first in
+      let h = t.5.2 in
+      let behind = behind_less d t.2 _ _ t.6 t.5.3 in (
+        Holds r.0 ∷ t.5.0,
+        (map (moved d) a, t.1, t.3 ∙ ap (λ (z : List Lexeme). z ++ t.1) t.4.0, r.1, t.5.1),
+        record { protos = h.protos; globals = ((d, r.2), h.globals); functions = h.functions; before = (items_before d _ _ x.items r.0.items behind r.2.2, h.before) },
+        behind,
+      )))
       (part_then source form names a b [] (bodies parts) (K a) (MadeFile parts) (kept_part source form names a) (parts_formed parts b p.0 hi rest p.2 low))
   parts_formed (Defines f ∷ parts) ts lo hi (a, b, whole, first, rest) lie low =
       let p = split lo hi a b (subst (λ (z : List Lexeme). Lie lo hi z) whole lie) in
       let own = function_within limit f a lo p.0 first p.1 in
       let others = globals_from limit parts b p.0 hi rest p.2 in
-      part_as source form names (a ++ b) ts (body_of f ++ bodies parts) (body_of f ++ bodies parts) (Then source form names (MadeFunction f) (MadeFile parts)) (MadeFile (Defines f ∷ parts)) whole refl
+      part_as source form names (a ++ b) ts (body_of f ++ bodies parts) (body_of f ++ bodies parts) (Then source form names (MadeFunction f) (MadeFile parts)) (MadeFile
+      (Defines f ∷ parts)) whole refl
       (λ d us t. (
-        let h = t.5.2 in
-        let moved_by = t.4.3 in
-        (Defines t.4.0 ∷ t.5.0, (t.0, t.1, t.3, t.4.1, t.5.1),
-          record { protos = h.protos; globals = h.globals; functions = (t.4.2, h.functions); before = globals_behind f t.4.0 _ _ p.0 _ _ own others h.before },
-          ((omega (arith, moved_by)), behind_less d t.2 _ _ t.6 t.5.3))))
+      let h = t.5.2 in
+      let moved_by = t.4.3 in (
+        Defines t.4.0 ∷ t.5.0,
+        (t.0, t.1, t.3, t.4.1, t.5.1),
+        record { protos = h.protos; globals = h.globals; functions = (t.4.2, h.functions); before = globals_behind f t.4.0 _ _ p.0 _ _ own others h.before },
+        ((omega (arith, moved_by)), behind_less d t.2 _ _ t.6 t.5.3),
+      )))
       (part_then source form names a b (body_of f) (bodies parts) (MadeFunction f) (MadeFile parts) (function_formed a f first low.0) (parts_formed parts b p.0 hi rest p.2 low.1))
 
   pub shallow_each : (fs : List Definition) → list_all (λ f. nat_le (nesting_all source names f.body) limit) fs ≡ true → AreShallow fs

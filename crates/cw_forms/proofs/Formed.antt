@@ -1,25 +1,26 @@
 -- What derives a source derives its form, of the tokens that stand there for those of the source.
-use Rattle.std.proofs.Common.{◌≡◌, ◌≢◌, ℕ, zero, suc, ◌+◌, ◌<◌, ◌≤◌, max, Bool, true, false, cond, List, [], ◌∷◌, ◌++◌, map, length, Option, None, Some, refl, sym, ap, ap₂, subst, ◌∙◌, arith, inl, inr}
+use Rattle.std.proofs.Common.{◌≡◌, ℕ, zero, suc, ◌+◌, ◌<◌, ◌≤◌, Bool, true, false, cond, List, [], ◌∷◌, ◌++◌, map, Option, None, refl, sym, ap, ap₂, subst, ◌∙◌, arith}
+use Rattle.std.proofs.Common.{inl, inr}
 use Rattle.std.proofs.lemmas.List.{append-nil, append_assoc}
 use Rattle.std.proofs.Math.Nat.{le-max_left, le-max_right}
 use Rattle.cw_syntax.specs.declared.program.Name.{Name}
-use Rattle.cw_syntax.specs.Trees.{Tree, Statement, Stated, Form, Block, Declares, Evaluates, Empties, Labels, Chooses, Whiles, Does, Fors, Breaks, Continues, Returns, Perhaps, nothing, just, Statements, nil, cons, Declaration}
+use Rattle.cw_syntax.specs.Trees.{Tree, Statement, Stated, Form, Block, Declares, Evaluates, Empties, Labels, Chooses, Whiles, Does, Fors, Breaks, Continues, Returns, Perhaps, nothing, just}
+use Rattle.cw_syntax.specs.Trees.{Statements}
 use Rattle.cw_grammar.specs.declared.words.Word.TheVariants as w
 use Rattle.cw_grammar.specs.declared.words.Lexeme.{Lexeme}
-use Rattle.cw_grammar.specs.declared.rules.Rule.{Rule}
-use Rattle.cw_grammar.specs.declared.rules.Rule.TheVariants.{Expression, Level, Unary, Postfix}
-use Rattle.cw_grammar.specs.Lexemes.{Is, words, name_of, from_of, to_of, IsOptional, AreAll, IsBetween, IsEnded, statements}
+use Rattle.cw_grammar.specs.declared.rules.Rule.TheVariants.{Expression}
+use Rattle.cw_grammar.specs.Lexemes.{name_of, from_of, to_of, IsOptional, AreAll, IsBetween, IsEnded, statements}
 use Rattle.cw_grammar.specs.Expressions.{loosest, Derives, IsPrimary, IsPostfix, IsUnary, IsOperand, IsLevel, IsRule, IsDerived, IsExpression}
-use Rattle.cw_grammar.specs.Declarations.{Expressions, IsDeclaration}
+use Rattle.cw_grammar.specs.Declarations.{Expressions}
 use Rattle.cw_grammar.specs.Statements.{Place, InBlock, BeforeElse, Elsewhere, last, IsInit, IsForm, IsStatement}
 use Rattle.cw_grammar.proofs.Deeper.{statement_deeper}
-use Rattle.cw_scope.specs.Walks.{Placed, placed, placed_within, placed_arm, placed_all, given, init_trees, inner}
+use Rattle.cw_scope.specs.Walks.{Placed, placed, placed_within, placed_all, init_trees, inner}
 use Rattle.cw_scope.specs.Names.{init_names}
-use Rattle.cw_detach.specs.Form.{calls_one, nesting, nesting_in, nesting_arm, nesting_all}
+use Rattle.cw_detach.specs.Form.{calls_one, nesting, nesting_in, nesting_all}
 use Rattle.cw_forms.specs.Moved.{moved, Pairs, AreKept, SameName, Alike}
-use Rattle.cw_forms.specs.Declared.{Both, SameDeclaration}
-use Rattle.cw_forms.specs.Pieces.{Piece, Keeps, Calls, call_tokens, opened, closed, rights, IsBrought, AreSame}
-use Rattle.cw_forms.specs.Statements.{pair_at, pair_of, pairs_in, SameWhole, SamePlaced, StandFor}
+use Rattle.cw_forms.specs.Declared.{Both}
+use Rattle.cw_forms.specs.Pieces.{Calls, call_tokens, rights, IsBrought}
+use Rattle.cw_forms.specs.Statements.{pair_at, pairs_in, SamePlaced, StandFor}
 use Rattle.cw_forms.proofs.Kept.{words_moved, parts_moved, three_moved, kept_as, kept_parts, between_moves, ended_moves}
 use Rattle.cw_forms.proofs.Expressions.{expression_moves}
 use Rattle.cw_forms.proofs.Declarations.{declaration_moves, optional_moves}
@@ -109,7 +110,8 @@ module _ (source form : List ℕ) (names : List (List ℕ)) (limit : ℕ) (enoug
   tests : (d : ℕ) (ts : List Lexeme) (e : Tree) → AreKept source form d ts → IsBetween w.Open w.Close E ts e → (f : Tree) × IsBetween w.Open w.Close E (m d ts) f × Alike source form e f
   tests d ts e k h = between_moves source form d E (Alike source form) (expression_moves source form d limit) w.Open w.Close ts e k h
 
-  maybe : (d : ℕ) (right : _) (ts : List Lexeme) (e : Option Tree) → AreKept source form d ts → IsEnded right (IsOptional E) ts e → (f : Option Tree) × IsEnded right (IsOptional E) (m d ts) f × Both (Alike source form) e f
+  maybe : (d : ℕ) (right : _) (ts : List Lexeme) (e : Option Tree) → AreKept source form d ts → IsEnded right (IsOptional E) ts e
+      → (f : Option Tree) × IsEnded right (IsOptional E) (m d ts) f × Both (Alike source form) e f
   maybe d right ts e k h =
       ended_moves source form d (IsOptional E) (Both (Alike source form)) (optional_moves source form d E (Alike source form) (expression_moves source form d limit)) right ts e k h
 
@@ -139,7 +141,7 @@ module _ (source form : List ℕ) (names : List (List ℕ)) (limit : ℕ) (enoug
   -- a statement without statements in it
   alone : (n : ℕ) (place : Place) (ts : List Lexeme) (fm : Form) (looped : Bool) → placed_within looped fm ≡ [] → pair_at source names fm (from_of ts) (to_of ts) ≡ None
       → ((d : ℕ) → AreKept source form d ts → (made : Form) × IsForm E (IsStatement limit n) place (m d ts) made × (placed_within looped made ≡ [])
-          × SamePlaced source form (record { statement = stated fm ts; looped = looped }) (record { statement = stated made (m d ts); looped = looped }))
+      × SamePlaced source form (record { statement = stated fm ts; looped = looped }) (record { statement = stated made (m d ts); looped = looped }))
       → P ts (placed looped (stated fm ts)) (Made (suc n) place looped (placed looped (stated fm ts)))
   alone n place ts fm looped leaf other g =
       kept_with ts (placed looped (stated fm ts)) (Made (suc n) place looped (placed looped (stated fm ts))) (rw (other, leaf) refl)
@@ -164,8 +166,10 @@ module _ (source form : List ℕ) (names : List (List ℕ)) (limit : ℕ) (enoug
     where
       IsEnded-as : (t : Lexeme) (ys : List Lexeme) (c : Lexeme) → call_tokens t ys c ≡ ts → t ∷ ys ≡ inner_tokens → IsEnded w.Semicolon E (call_tokens t ys c) e
       IsEnded-as t ys x same split = subst (λ (z : List Lexeme). IsEnded w.Semicolon E z e) (sym same) (inner_tokens, c, whole_ts, closes, is)
+
       span_is : (t : Lexeme) (ys : List Lexeme) (c : Lexeme) → call_tokens t ys c ≡ ts → (t.from, c.to) ∷ [] ≡ pairs_in source names (placed looped (stated (Evaluates e) ts))
       span_is t ys c same = rw calls (ap₂ (λ (a b : ℕ). (a, b) ∷ []) (ap from_of same) (sym (last_to t ys c) ∙ ap to_of same))
+
       made : (t : Lexeme) (ys : List Lexeme) (c : Lexeme) (d : ℕ) → IsEnded w.Semicolon E (call_tokens t ys c) e → AreKept source form (d + 13) (call_tokens t ys c)
           → IsBrought form (t.from + d) (c.to + (d + 13)) → Made n place looped (placed looped (stated (Evaluates e) ts)) d (rights d (Calls t ys c ∷ []))
       made t ys c d ended kept brought =
@@ -175,14 +179,18 @@ module _ (source form : List ℕ) (names : List (List ℕ)) (limit : ℕ) (enoug
           let q = c.to + (d + 13) in
           let first : Statement = stated (Evaluates r.0) us in
           let five = brought_is limit enough p q us first (refl, refl, r.1) place in
-          let stands = called_is source form e r.0 (exit_tree limit enough p q us first (refl, refl, r.1)) (test_tree limit enough p q us first (refl, refl, r.1)) looped _ _ _ _ _ _ _ _ _ _ _ _ _ _ _ _ r.2
-              (_, _, _, _, _, refl, brought.0) (_, _, _, _, _, refl, brought.1) in
-          (whole_statement limit enough p q us first (refl, refl, r.1), statement_deeper limit limit 5 n (omega arith) deep place _ _ five,
-            (placed looped (whole_statement limit enough p q us first (refl, refl, r.1)), [], sym (append-nil _), inr stands, refl))
+          let stands = called_is source form e r.0 (exit_tree limit enough p q us first (refl, refl, r.1)) (test_tree limit enough p q us first
+          (refl, refl, r.1)) looped _ _ _ _ _ _ _ _ _ _ _ _ _ _ _ _ r.2
+          (_, _, _, _, _, refl, brought.0) (_, _, _, _, _, refl, brought.1) in (
+            whole_statement limit enough p q us first (refl, refl, r.1),
+            statement_deeper limit limit 5 n (omega arith) deep place _ _ five,
+            (placed looped (whole_statement limit enough p q us first (refl, refl, r.1)), [], sym (append-nil _), inr stands, refl),
+          )
 
   abbrev Forms : ℕ → ℕ → Type 0
   Forms n k =
-      (place : Place) (ts : List Lexeme) (st : Statement) (looped : Bool) → IsStatement limit n place ts st → nesting source names st ≤ k → P ts (placed looped st) (Made k place looped (placed looped st))
+      (place : Place) (ts : List Lexeme) (st : Statement) (looped : Bool) → IsStatement limit n place ts st → nesting source names st ≤ k
+      → P ts (placed looped st) (Made k place looped (placed looped st))
 
   -- a rule, where the statements in it are formed
   module _ (n k : ℕ) (h : Forms n k) where
@@ -196,14 +204,17 @@ module _ (source form : List ℕ) (names : List (List ℕ)) (limit : ℕ) (enoug
         let qs = placed_all looped (statements ss) in
         part_as source form names (x ++ y) ts (ps ++ qs) (ps ++ qs) (Then source form names (Made k InBlock looped ps) (MadeAll k looped qs)) (MadeAll k looped (ps ++ qs)) whole refl
         (λ d us t. (t.4.0 ∷ t.5.0, (t.0, t.1, t.3, t.4.1, t.5.1), stand_for_both source form ps qs (placed looped t.4.0) (placed_all looped (statements t.5.0)) t.4.2 t.5.2))
-        (part_then source form names x y ps qs (Made k InBlock looped ps) (MadeAll k looped qs) (h InBlock x st looped first (omega (arith, one, deep))) (all_formed y ss looped rest (omega (arith, other, deep))))
+        (part_then source form names x y ps qs (Made k InBlock looped ps) (MadeAll k looped qs) (h InBlock x st looped first (omega (arith, one, deep))) (all_formed y ss looped rest (omega
+        (arith, other, deep))))
 
     -- kept tokens, then a statement
     abbrev Front : List Lexeme → Place → Bool → List Placed → ℕ → List Lexeme → Type 0
     Front a place looped ps d us = Then source form names (K a) (Made k place looped ps) d us
 
-    front : (a ts : List Lexeme) (place : Place) (st : Statement) (looped : Bool) → IsStatement limit n place ts st → nesting source names st ≤ k → P (a ++ ts) (placed looped st) (Front a place looped (placed looped st))
-    front a ts place st looped is deep = part_then source form names a ts [] (placed looped st) (K a) (Made k place looped (placed looped st)) (kept_part source form names a) (h place ts st looped is deep)
+    front : (a ts : List Lexeme) (place : Place) (st : Statement) (looped : Bool) → IsStatement limit n place ts st → nesting source names st ≤ k
+        → P (a ++ ts) (placed looped st) (Front a place looped (placed looped st))
+    front a ts place st looped is deep = part_then source form names a ts [] (placed looped st) (K a) (Made k place looped (placed looped st)) (kept_part source form names a)
+        (h place ts st looped is deep)
 
     front_is : (a : List Lexeme) (place : Place) (looped : Bool) (ps : List Placed) (d : ℕ) (us : List Lexeme) (t : Front a place looped ps d us) → us ≡ m d a ++ t.1
     front_is a place looped ps d us t = t.3 ∙ ap (λ (z : List Lexeme). z ++ t.1) t.4.0
@@ -212,30 +223,37 @@ module _ (source form : List ℕ) (names : List (List ℕ)) (limit : ℕ) (enoug
     with_one : (place : Place) (ts a b : List Lexeme) (fm : Form) (body : Statement) (at : Place) (looped turned : Bool) → ts ≡ a ++ b → IsStatement limit n at b body → nesting source names body ≤ k
         → placed_within looped fm ≡ placed turned body → pair_at source names fm (from_of ts) (to_of ts) ≡ None
         → ((d : ℕ) (us y : List Lexeme) (st : Statement) → us ≡ m d a ++ y → AreKept source form d a → IsStatement limit k at y st → (made : Form) × IsForm E (IsStatement limit k) place us made
-            × (placed_within looped made ≡ placed turned st) × SamePlaced source form (record { statement = stated fm ts; looped = looped }) (record { statement = stated made us; looped = looped }))
+        × (placed_within looped made ≡ placed turned st) × SamePlaced source form (record { statement = stated fm ts; looped = looped }) (record { statement = stated made us; looped = looped }))
         → P ts (placed looped (stated fm ts)) (Made (suc k) place looped (placed looped (stated fm ts)))
     with_one place ts a b fm body at looped turned whole is deep own other g =
-        part_as source form names (a ++ b) ts (placed turned body) (placed looped (stated fm ts)) (Front a at turned (placed turned body)) (Made (suc k) place looped (placed looped (stated fm ts))) whole
+        part_as source form names (a ++ b) ts (placed turned body) (placed looped (stated fm ts)) (Front a at turned (placed turned body)) (Made (suc k) place looped (placed looped
+        (stated fm ts))) whole
         (rw (other, own) refl)
         (λ d us t. (
-          let r = g d us t.1 t.5.0 (front_is a at turned (placed turned body) d us t) t.4.1 t.5.1 in
-          (stated r.0 us, (refl, refl, r.1),
-            one_more source form (record { statement = stated fm ts; looped = looped }) (record { statement = stated r.0 us; looped = looped }) (placed_within looped fm) (placed_within looped r.0) r.3 (rw (own, r.2) t.5.2))))
+        let r = g d us t.1 t.5.0 (front_is a at turned (placed turned body) d us t) t.4.1 t.5.1 in (
+          stated r.0 us,
+          (refl, refl, r.1),
+          one_more source form (record { statement = stated fm ts; looped = looped }) (record { statement = stated r.0 us; looped = looped }) (placed_within looped fm)
+              (placed_within looped r.0) r.3 (rw (own, r.2) t.5.2),
+        )))
         (front a b at body turned is deep)
 
     block : (place : Place) (ts : List Lexeme) (inner : List Statement) (looped : Bool) → IsBetween w.OpenBrace w.CloseBrace (AreAll (IsStatement limit n InBlock)) ts inner
-        → nesting_all source names (statements inner) ≤ k → P ts (placed looped (stated (Block (statements inner)) ts)) (Made (suc k) place looped (placed looped (stated (Block (statements inner)) ts)))
+        → nesting_all source names (statements inner) ≤ k
+        → P ts (placed looped (stated (Block (statements inner)) ts)) (Made (suc k) place looped (placed looped (stated (Block (statements inner)) ts)))
     block place ts inner looped (o, x, c, whole, opens, closes, all) deep =
         let ps = placed_all looped (statements inner) in
         part_as source form names (o ∷ (x ++ c ∷ [])) ts (ps ++ []) (placed looped (stated (Block (statements inner)) ts))
         (Then source form names (K (o ∷ [])) (Then source form names (MadeAll k looped ps) (K (c ∷ [])))) (Made (suc k) place looped (placed looped (stated (Block (statements inner)) ts))) whole
         (ap (pairs_in source names) (sym (append-nil ps)))
         (λ d us t. (
-          let u = t.5 in
-          let us_is : us ≡ moved d o ∷ (u.0 ++ moved u.2 c ∷ []) =
-              t.3 ∙ ap (λ (z : List Lexeme). z ++ t.1) t.4.0 ∙ ap (λ (z : List Lexeme). moved d o ∷ z) (u.3 ∙ ap (λ (z : List Lexeme). u.0 ++ z) u.5.0) in
-          (stated (Block (statements u.4.0)) us, (refl, refl, (u.4.0, refl, (moved d o, u.0, moved u.2 c, us_is, opens, closes, u.4.1))),
-            one_more source form _ _ ps (placed_all looped (statements u.4.0)) (record { looped = refl; wholes = tt; labels = tt; locals = tt; jump = refl }) u.4.2)))
+        let u = t.5 in
+        let us_is : us ≡ moved d o ∷ (u.0 ++ moved u.2 c ∷ []) =
+        t.3 ∙ ap (λ (z : List Lexeme). z ++ t.1) t.4.0 ∙ ap (λ (z : List Lexeme). moved d o ∷ z) (u.3 ∙ ap (λ (z : List Lexeme). u.0 ++ z) u.5.0) in (
+          stated (Block (statements u.4.0)) us,
+          (refl, refl, (u.4.0, refl, (moved d o, u.0, moved u.2 c, us_is, opens, closes, u.4.1))),
+          one_more source form _ _ ps (placed_all looped (statements u.4.0)) (record { looped = refl; wholes = tt; labels = tt; locals = tt; jump = refl }) u.4.2,
+        )))
         (part_then source form names (o ∷ []) (x ++ c ∷ []) [] (ps ++ []) (K (o ∷ [])) (Then source form names (MadeAll k looped ps) (K (c ∷ []))) (kept_part source form names (o ∷ []))
         (part_then source form names x (c ∷ []) ps [] (MadeAll k looped ps) (K (c ∷ [])) (all_formed x inner looped all deep) (kept_part source form names (c ∷ []))))
 
@@ -250,16 +268,19 @@ module _ (source form : List ℕ) (names : List (List ℕ)) (limit : ℕ) (enoug
         (Then source form names (K a) (Then source form names (Made k BeforeElse looped ps) (Front (e ∷ []) (last place) looped qs)))
         (Made (suc k) place looped (placed looped (stated (Chooses test body (just other)) ts))) whole refl
         (λ d us t. (
-          let u = t.5 in
-          let v = u.5 in
-          let us_is : us ≡ moved d i ∷ m d x ++ (u.0 ++ moved u.2 e ∷ v.1) =
-              t.3 ∙ ap (λ (l : List Lexeme). l ++ t.1) t.4.0 ∙ ap (λ (l : List Lexeme). m d a ++ l) (u.3 ∙ ap (λ (l : List Lexeme). u.0 ++ l) (front_is (e ∷ []) (last place) looped qs u.2 u.1 v)) in
-          let r = tests d x test t.4.1.1 test_is in
-          (stated (Chooses r.0 u.4.0 (just v.5.0)) us, (refl, refl, (moved d i, m d x, u.0, moved u.2 e, v.1, us_is, i_is, r.1, u.4.1, e_is, v.5.1)),
-            one_more source form _ _ (ps ++ qs) (placed looped u.4.0 ++ placed looped v.5.0) (record { looped = refl; wholes = ((r.2, refl), tt); labels = tt; locals = tt; jump = refl })
-            (stand_for_both source form ps qs (placed looped u.4.0) (placed looped v.5.0) u.4.2 v.5.2))))
+        let u = t.5 in
+        let v = u.5 in
+        let us_is : us ≡ moved d i ∷ m d x ++ (u.0 ++ moved u.2 e ∷ v.1) =
+        t.3 ∙ ap (λ (l : List Lexeme). l ++ t.1) t.4.0 ∙ ap (λ (l : List Lexeme). m d a ++ l) (u.3 ∙ ap (λ (l : List Lexeme). u.0 ++ l) (front_is (e ∷ []) (last place) looped qs u.2 u.1 v)) in
+        let r = tests d x test t.4.1.1 test_is in (
+          stated (Chooses r.0 u.4.0 (just v.5.0)) us,
+          (refl, refl, (moved d i, m d x, u.0, moved u.2 e, v.1, us_is, i_is, r.1, u.4.1, e_is, v.5.1)),
+          one_more source form _ _ (ps ++ qs) (placed looped u.4.0 ++ placed looped v.5.0) (record { looped = refl; wholes = ((r.2, refl), tt); labels = tt; locals = tt; jump = refl })
+              (stand_for_both source form ps qs (placed looped u.4.0) (placed looped v.5.0) u.4.2 v.5.2),
+        )))
         (part_then source form names a (y ++ e ∷ z) [] (ps ++ qs) (K a) (Then source form names (Made k BeforeElse looped ps) (Front (e ∷ []) (last place) looped qs)) (kept_part source form names a)
-        (part_then source form names y (e ∷ z) ps qs (Made k BeforeElse looped ps) (Front (e ∷ []) (last place) looped qs) (h BeforeElse y body looped is deep) (front (e ∷ []) z (last place) other looped other_is too)))
+        (part_then source form names y (e ∷ z) ps qs (Made k BeforeElse looped ps) (Front (e ∷ []) (last place) looped qs) (h BeforeElse y body looped is deep) (front (e ∷ []) z
+        (last place) other looped other_is too)))
 
     does : (place : Place) (ts : List Lexeme) (body : Statement) (test : Tree) (looped : Bool) → IsForm E (IsStatement limit n) place ts (Does body test) → nesting source names body ≤ k
         → P ts (placed looped (stated (Does body test) ts)) (Made (suc k) place looped (placed looped (stated (Does body test) ts)))
@@ -270,13 +291,15 @@ module _ (source form : List ℕ) (names : List (List ℕ)) (limit : ℕ) (enoug
         (Then source form names (Front (o ∷ []) Elsewhere true ps) (K b)) (Made (suc k) place looped (placed looped (stated (Does body test) ts))) whole
         (ap (pairs_in source names) (sym (append-nil ps)))
         (λ d us t. (
-          let u = t.4 in
-          let there : m t.2 b ≡ moved t.2 i ∷ m t.2 y ++ moved t.2 c ∷ [] = ap (λ (l : List Lexeme). moved t.2 i ∷ l) (parts_moved t.2 (y ++ c ∷ []) y (c ∷ []) refl) in
-          let us_is : us ≡ moved d o ∷ u.1 ++ (moved t.2 i ∷ m t.2 y ++ moved t.2 c ∷ []) =
-              t.3 ∙ ap (λ (l : List Lexeme). l ++ t.1) (front_is (o ∷ []) Elsewhere true ps d t.0 u) ∙ ap (λ (l : List Lexeme). moved d o ∷ (u.1 ++ l)) (t.5.0 ∙ there) in
-          let r = tests t.2 y test (kept_parts source form t.2 (y ++ c ∷ []) y (c ∷ []) refl t.5.1.1).0 test_is in
-          (stated (Does u.5.0 r.0) us, (refl, refl, (moved d o, u.1, moved t.2 i, m t.2 y, moved t.2 c, us_is, o_is, u.5.1, i_is, r.1, c_is)),
-            one_more source form _ _ ps (placed true u.5.0) (record { looped = refl; wholes = ((r.2, refl), tt); labels = tt; locals = tt; jump = refl }) u.5.2)))
+        let u = t.4 in
+        let there : m t.2 b ≡ moved t.2 i ∷ m t.2 y ++ moved t.2 c ∷ [] = ap (λ (l : List Lexeme). moved t.2 i ∷ l) (parts_moved t.2 (y ++ c ∷ []) y (c ∷ []) refl) in
+        let us_is : us ≡ moved d o ∷ u.1 ++ (moved t.2 i ∷ m t.2 y ++ moved t.2 c ∷ []) =
+        t.3 ∙ ap (λ (l : List Lexeme). l ++ t.1) (front_is (o ∷ []) Elsewhere true ps d t.0 u) ∙ ap (λ (l : List Lexeme). moved d o ∷ (u.1 ++ l)) (t.5.0 ∙ there) in
+        let r = tests t.2 y test (kept_parts source form t.2 (y ++ c ∷ []) y (c ∷ []) refl t.5.1.1).0 test_is in (
+          stated (Does u.5.0 r.0) us,
+          (refl, refl, (moved d o, u.1, moved t.2 i, m t.2 y, moved t.2 c, us_is, o_is, u.5.1, i_is, r.1, c_is)),
+          one_more source form _ _ ps (placed true u.5.0) (record { looped = refl; wholes = ((r.2, refl), tt); labels = tt; locals = tt; jump = refl }) u.5.2,
+        )))
         (part_then source form names (o ∷ x) b ps [] (Front (o ∷ []) Elsewhere true ps) (K b) (front (o ∷ []) x Elsewhere body true is deep) (kept_part source form names b))
 
     fors_tokens : (d : ℕ) (f o : Lexeme) (a b c y : List Lexeme) → m d (f ∷ o ∷ (a ++ (b ++ c))) ++ y ≡ moved d f ∷ moved d o ∷ m d a ++ (m d b ++ (m d c ++ y))
@@ -291,14 +314,18 @@ module _ (source form : List ℕ) (names : List (List ℕ)) (limit : ℕ) (enoug
         subst (λ (z : Statements). P ts (placed looped (stated (Block z) ts)) (Made (suc k) place looped (placed looped (stated (Block z) ts)))) (sym kids_are)
         (block place ts inner looped between (omega (arith, same, deep)))
     form_formed place ts (Declares x) looped (block_place, is) deep = alone k place ts (Declares x) looped refl refl (λ d l. (
-        let r = declaration_moves source form d E (expression_moves source form d limit) ts x l is in
-        (Declares r.0, (block_place, r.1), refl, record {
-          looped = refl;
-          wholes = inner_pairs source form _ _ (declaration_pairs source form d x r.0 r.2);
-          labels = tt;
-          locals = declared_pairs source form d x r.0 r.2;
-          jump = refl;
-        })))
+        let r = declaration_moves source form d E (expression_moves source form d limit) ts x l is in (
+          Declares r.0,
+          (block_place, r.1),
+          refl,
+          record {
+            looped = refl;
+            wholes = inner_pairs source form _ _ (declaration_pairs source form d x r.0 r.2);
+            labels = tt;
+            locals = declared_pairs source form d x r.0 r.2;
+            jump = refl;
+          },
+        )))
     form_formed place ts (Evaluates e) looped is deep = by (calls_one source names e) refl deep
       where
         by : (b : Bool) → calls_one source names e ≡ b → cond b 5 1 ≤ suc k → P ts (placed looped (stated (Evaluates e) ts)) (Made (suc k) place looped (placed looped (stated (Evaluates e) ts)))
@@ -310,49 +337,63 @@ module _ (source form : List ℕ) (names : List (List ℕ)) (limit : ℕ) (enoug
         (λ d l. (Empties, words_moved d ts ∙ is, refl, record { looped = refl; wholes = tt; labels = tt; locals = tt; jump = refl }))
     form_formed place ts (Labels name mark body) looped (t, c, x, whole, t_is, c_is, name_is, mark_is, is) deep =
         with_one place ts (t ∷ c ∷ []) x (Labels name mark body) body (last place) looped looped whole is (omega arith) refl refl (λ d us y st us_is l st_is. (
-          Labels (name_of (moved d t)) (moved d c).to st, (moved d t, moved d c, y, us_is, t_is, c_is, refl, refl, st_is), refl,
-          record { looped = refl; wholes = tt; labels = (subst (λ (z : Name). SameName source form z (name_of (moved d t))) (sym name_is) l.0, tt); locals = tt; jump = refl }))
+          Labels (name_of (moved d t)) (moved d c).to st,
+          (moved d t, moved d c, y, us_is, t_is, c_is, refl, refl, st_is),
+          refl,
+          record { looped = refl; wholes = tt; labels = (subst (λ (z : Name). SameName source form z (name_of (moved d t))) (sym name_is) l.0, tt); locals = tt; jump = refl },
+        ))
     form_formed place ts (Chooses test body nothing) looped (i, x, y, whole, ne, i_is, test_is, is) deep =
         let low = le-max_left (nesting source names body) 0 in
         with_one place ts (i ∷ x) y (Chooses test body nothing) body Elsewhere looped looped whole is (omega (arith, low, deep)) (append-nil (placed looped body)) refl (λ d us z st us_is l st_is. (
-          let r = tests d x test l.1 test_is in
-          (Chooses r.0 st nothing, (moved d i, m d x, z, us_is, ne, i_is, r.1, st_is), append-nil (placed looped st),
-            record { looped = refl; wholes = ((r.2, refl), tt); labels = tt; locals = tt; jump = refl })))
+        let r = tests d x test l.1 test_is in (
+          Chooses r.0 st nothing,
+          (moved d i, m d x, z, us_is, ne, i_is, r.1, st_is),
+          append-nil (placed looped st),
+          record { looped = refl; wholes = ((r.2, refl), tt); labels = tt; locals = tt; jump = refl },
+        )))
     form_formed place ts (Chooses test body (just other)) looped is deep =
         let low = le-max_left (nesting source names body) (nesting source names other) in
         let too = le-max_right (nesting source names body) (nesting source names other) in
         arms place ts test body other looped is (omega (arith, low, deep)) (omega (arith, too, deep))
     form_formed place ts (Whiles test body) looped (i, x, y, whole, i_is, test_is, is) deep =
         with_one place ts (i ∷ x) y (Whiles test body) body (last place) looped true whole is (omega arith) refl refl (λ d us z st us_is l st_is. (
-          let r = tests d x test l.1 test_is in
-          (Whiles r.0 st, (moved d i, m d x, z, us_is, i_is, r.1, st_is), refl, record { looped = refl; wholes = ((r.2, refl), tt); labels = tt; locals = tt; jump = refl })))
+        let r = tests d x test l.1 test_is in
+        (Whiles r.0 st, (moved d i, m d x, z, us_is, i_is, r.1, st_is), refl, record { looped = refl; wholes = ((r.2, refl), tt); labels = tt; locals = tt; jump = refl })))
     form_formed place ts (Does body test) looped is deep = does place ts body test looped is (omega arith)
     form_formed place ts (Fors init test step body) looped (f, o, a, b, c, y, whole, f_is, o_is, init_is, test_is, step_is, is) deep =
         let front_tokens = f ∷ o ∷ (a ++ (b ++ c)) in
         let split : ts ≡ front_tokens ++ y =
-            whole ∙ ap (λ (l : List Lexeme). f ∷ o ∷ l) (ap (λ (l : List Lexeme). a ++ l) (sym (append_assoc b c y)) ∙ sym (append_assoc a (b ++ c) y)) in
+        whole ∙ ap (λ (l : List Lexeme). f ∷ o ∷ l) (ap (λ (l : List Lexeme). a ++ l) (sym (append_assoc b c y)) ∙ sym (append_assoc a (b ++ c) y)) in
         with_one place ts front_tokens y (Fors init test step body) body (last place) looped true split is (omega arith) refl refl (λ d us z st us_is l st_is. (
-          let own = kept_parts source form d (a ++ (b ++ c)) a (b ++ c) refl l.1.1 in
-          let rest = kept_parts source form d (b ++ c) b c refl own.1 in
-          let p = inits d a init own.0 init_is in
-          let q = maybe d w.Semicolon b test rest.0 test_is in
-          let r = maybe d w.Close c step rest.1 step_is in
-          (Fors p.0 q.0 r.0 st, (moved d f, moved d o, m d a, m d b, m d c, z, us_is ∙ fors_tokens d f o a b c z, f_is, o_is, p.1, q.1, r.1, st_is), refl, record {
+        let own = kept_parts source form d (a ++ (b ++ c)) a (b ++ c) refl l.1.1 in
+        let rest = kept_parts source form d (b ++ c) b c refl own.1 in
+        let p = inits d a init own.0 init_is in
+        let q = maybe d w.Semicolon b test rest.0 test_is in
+        let r = maybe d w.Close c step rest.1 step_is in (
+          Fors p.0 q.0 r.0 st,
+          (moved d f, moved d o, m d a, m d b, m d c, z, us_is ∙ fors_tokens d f o a b c z, f_is, o_is, p.1, q.1, r.1, st_is),
+          refl,
+          record {
             looped = refl;
-            wholes = inner_pairs source form _ _ (pairs_both (Alike source form) _ _ _ _ (pairs_both (Alike source form) _ _ _ _ p.2.0 (given_pairs source form test q.0 q.2)) (given_pairs source form step r.0 r.2));
+            wholes = inner_pairs source form _ _ (pairs_both (Alike source form) _ _ _ _ (pairs_both (Alike source form) _ _ _ _ p.2.0 (given_pairs source form test q.0 q.2))
+                (given_pairs source form step r.0 r.2));
             labels = tt;
             locals = p.2.1;
             jump = refl;
-          })))
+          },
+        )))
     form_formed place ts Breaks looped is deep = alone k place ts Breaks looped refl refl
         (λ d l. (Breaks, words_moved d ts ∙ is, refl, record { looped = refl; wholes = tt; labels = tt; locals = tt; jump = refl }))
     form_formed place ts Continues looped is deep = alone k place ts Continues looped refl refl
         (λ d l. (Continues, words_moved d ts ∙ is, refl, record { looped = refl; wholes = tt; labels = tt; locals = tt; jump = refl }))
     form_formed place ts (Returns value) looped (t, b, whole, t_is, ended) deep = alone k place ts (Returns value) looped refl refl (λ d l. (
         let own = kept_as source form d ts (t ∷ b) whole l in
-        let r = maybe d w.Semicolon b value own.1 ended in
-        (Returns r.0, (moved d t, m d b, ap (m d) whole, t_is, r.1), refl,
-          record { looped = refl; wholes = inner_pairs source form _ _ (given_pairs source form value r.0 r.2); labels = tt; locals = tt; jump = refl })))
+        let r = maybe d w.Semicolon b value own.1 ended in (
+          Returns r.0,
+          (moved d t, m d b, ap (m d) whole, t_is, r.1),
+          refl,
+          record { looped = refl; wholes = inner_pairs source form _ _ (given_pairs source form value r.0 r.2); labels = tt; locals = tt; jump = refl },
+        )))
 
   nests_some : (fm : Form) → 0 < nesting_in source names fm
   nests_some (Block kids) = omega arith

@@ -1,5 +1,5 @@
 -- No function of a source has a name that the form brings in, where no token has.
-use Rattle.std.proofs.Common.{◌≡◌, ◌≢◌, ℕ, Bool, true, false, cond, ◌||◌, is_some, List, [], ◌∷◌, ◌++◌, map, Option, None, Some, refl, sym, ap, subst, ◌∙◌}
+use Rattle.std.proofs.Common.{◌≡◌, ℕ, Bool, true, false, cond, ◌||◌, is_some, List, [], ◌∷◌, ◌++◌, Option, None, Some, refl, sym, ap, subst, ◌∙◌}
 use Rattle.std.specs.Prelude.{codes}
 use Rattle.std.specs.List.{find}
 use Rattle.std.specs.Option.{option_map, option_or}
@@ -8,9 +8,7 @@ use Rattle.std.proofs.lemmas.Slice.Eq.{bytes_eq-Decides}
 use Rattle.cw_syntax.specs.declared.program.Name.{Name}
 use Rattle.cw_syntax.specs.Names.{slice, text}
 use Rattle.cw_syntax.specs.Trees.{Definition, File}
-use Rattle.cw_rights.specs.Policies.{PlainPolicy}
 use Rattle.cw_lex.specs.declared.tokens.Token.{Token}
-use Rattle.cw_lex.specs.Tokens.{AreTokens}
 use Rattle.cw_lex.proofs.Listing.{one_list}
 use Rattle.cw_grammar.specs.declared.words.Lexeme.{Lexeme}
 use Rattle.cw_grammar.specs.Lexemes.{AreAll}
@@ -18,17 +16,13 @@ use Rattle.cw_grammar.specs.Spelling.{lexemes_of}
 use Rattle.cw_grammar.specs.Expressions.{nesting_limit}
 use Rattle.cw_grammar.specs.Files.{Part as FilePart, Declares, Holds, Defines, IsPart, IsProgram, file_of}
 use Rattle.cw_scope.specs.Rules.{is_defined}
-use Rattle.cw_scope.specs.Descriptors.{descriptor_fault}
-use Rattle.cw_source.specs.Read.{ReadsAs, IsFaultOf}
-use Rattle.cw_source.specs.declared.fault.SourceFault.{SourceFault}
-use Rattle.cw_source.specs.declared.fault.SourceFault.TheVariants.{NoMemory}
 use Rattle.cw_source.proofs.OneAnswer.{never_both}
 use Rattle.cw_detach.specs.declared.faults.ProcFault.{ProcFault}
 use Rattle.cw_detach.specs.declared.faults.ProcFault.TheVariants.{Taken}
 use Rattle.cw_detach.specs.Form.{form_of}
-use Rattle.cw_detach.specs.Faults.{is_taken, taken, result_taken, long, deep, name_fault, text_fault, IsFirstFault, ◌or_else◌}
+use Rattle.cw_detach.specs.Faults.{is_taken, taken, result_taken, long, deep, name_fault, text_fault, ◌or_else◌}
 use Rattle.cw_detach.proofs.Rules.{shallow}
-use Rattle.cw_forms.specs.Laws.{FormReads, FormsAreRead, FormsAreNotRefused}
+use Rattle.cw_forms.specs.Laws.{FormsAreRead, FormsAreNotRefused}
 use Rattle.cw_forms.proofs.Derived.{forms_derive}
 use Rattle.cw_forms.proofs.Scope.{scope_kept}
 use Rattle.cw_forms.proofs.Descriptors.{descriptors_kept}
@@ -50,7 +44,8 @@ module _ (source : List ℕ) where
   none_found [] e = tt
   none_found (t ∷ ts) e = by (is_taken source t) refl e (none_found ts)
     where
-      by : (b : Bool) → is_taken source t ≡ b → cond b (Some t) (find (is_taken source) ts) ≡ None → (find (is_taken source) ts ≡ None → Free (lexemes_of source ts)) → Free (lexemes_of source (t ∷ ts))
+      by : (b : Bool) → is_taken source t ≡ b → cond b (Some t) (find (is_taken source) ts) ≡ None → (find (is_taken source) ts ≡ None → Free (lexemes_of source ts))
+          → Free (lexemes_of source (t ∷ ts))
       by true is f rest = absurd (cc)
       by false is f rest = (is, rest f)
 
@@ -77,7 +72,40 @@ module _ (source : List ℕ) where
   functions_free limit [] ts is h = tt
   functions_free limit (Declares x ∷ parts) ts (a, b, whole, first, rest) h = functions_free limit parts b rest (free_both a b (free_at ts (a ++ b) whole h)).1
   functions_free limit (Holds x ∷ parts) ts (a, b, whole, first, rest) h = functions_free limit parts b rest (free_both a b (free_at ts (a ++ b) whole h)).1
-  functions_free limit (Defines f ∷ parts) ts (x, y, whole, (header, o, inner, c, body, whole2, (a, b, d, e, specs, stars, whole3, are, stars_are, result, (n, whole4, is, name_is), params), named, opens, brace, all, body_is, closes), rest) h =
+  functions_free limit (Defines f ∷ parts) ts (
+    x,
+    y,
+    whole,
+    (
+      header,
+      o,
+      inner,
+      c,
+      body,
+      whole2,
+      (
+        a,
+        b,
+        d,
+        e,
+        specs,
+        stars,
+        whole3,
+        are,
+        stars_are,
+        result,
+        (n, whole4, is, name_is),
+        params,
+      ),
+      named,
+      opens,
+      brace,
+      all,
+      body_is,
+      closes,
+    ),
+    rest,
+  ) h =
       let own = free_both x y (free_at ts (x ++ y) whole h) in
       let head = (free_both header (o ∷ inner ++ c ∷ []) (free_at x (header ++ (o ∷ inner ++ c ∷ [])) whole2 own.0)).0 in
       let p = free_both a (b ++ (d ++ e)) (free_at header (a ++ (b ++ (d ++ e))) whole3 head) in
@@ -97,7 +125,8 @@ module _ (source : List ℕ) where
       by true is = let z : bytes_eq a b ≡ true = (bytes_eq-Decides a b).1 (sym ((bytes_eq-Decides b a).0 is)) in absurd (cc)
       by false is = refl
 
-  none_named : (name : List ℕ) (fs : List Definition) → ((f : Definition) → IsFree f.name.from f.name.to → bytes_eq (text source f.name) name ≡ false) → FreeNames fs → find (λ f. bytes_eq name (text source f.name)) fs ≡ None
+  none_named : (name : List ℕ) (fs : List Definition) → ((f : Definition) → IsFree f.name.from f.name.to → bytes_eq (text source f.name) name ≡ false) → FreeNames fs
+      → find (λ f. bytes_eq name (text source f.name)) fs ≡ None
   none_named name [] each h = refl
   none_named name (f ∷ fs) each h = rw (turned (text source f.name) name (each f h.0)) (none_named name fs each h.1)
 

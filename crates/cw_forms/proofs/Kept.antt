@@ -1,13 +1,13 @@
 -- Tokens that are kept, and the rules of lists of them.
-use Rattle.std.proofs.Common.{◌≡◌, ℕ, ◌<◌, Bool, true, false, List, [], ◌∷◌, ◌++◌, map, length, Option, None, Some, refl, sym, ap, subst, ◌∙◌, arith}
+use Rattle.std.proofs.Common.{◌≡◌, ℕ, Bool, true, false, List, [], ◌∷◌, ◌++◌, map, refl, sym, ap, subst, ◌∙◌}
 use Rattle.std.proofs.lemmas.List.{map-append}
 use Rattle.cw_syntax.specs.declared.program.CType.{CType}
 use Rattle.cw_syntax.specs.declared.program.Base.{Base}
-use Rattle.cw_syntax.specs.Trees.{Tree, Trees, none, more}
+use Rattle.cw_syntax.specs.Trees.{Tree}
 use Rattle.cw_grammar.specs.declared.words.Word.{Word}
 use Rattle.cw_grammar.specs.declared.words.Word.TheVariants as w
 use Rattle.cw_grammar.specs.declared.words.Lexeme.{Lexeme}
-use Rattle.cw_grammar.specs.Lexemes.{Is, words, name_of, IsFlag, IsOptional, AreAll, AreSeparated, IsBetween, IsEnded, trees}
+use Rattle.cw_grammar.specs.Lexemes.{Is, words, IsFlag, AreAll, AreSeparated, IsBetween, IsEnded, trees}
 use Rattle.cw_grammar.specs.Types.{IsType, AreStars, IsTypeName, IsAmong, type_words}
 use Rattle.cw_forms.specs.Moved.{moved, Pairs, AreKept, Alike, AllAlike}
 
@@ -38,8 +38,17 @@ pub three_moved : (d : ℕ) (ts a b c : List Lexeme) → ts ≡ a ++ (b ++ c) �
 three_moved d ts a b c e = parts_moved d ts a (b ++ c) e ∙ ap (λ (z : List Lexeme). map (moved d) a ++ z) (map-append (moved d) b c)
 
 pub type_name_moved : (d : ℕ) (ts : List Lexeme) (kind : CType) → IsTypeName ts kind → IsTypeName (map (moved d) ts) kind
-type_name_moved d ts kind (constant, c, t, s, whole, flag, type, stars) =
-    (constant, map (moved d) c, map (moved d) t, map (moved d) s, three_moved d ts c t s whole, flag_moved d _ c constant flag, type_moved d t kind.base kind.unsigned type, stars_moved d s kind.stars stars)
+type_name_moved d ts kind (constant, c, t, s, whole, flag, type, stars) = (
+  constant,
+  map (moved d) c,
+  map (moved d) t,
+  map
+      (moved d) s,
+  three_moved d ts c t s whole,
+  flag_moved d _ c constant flag,
+  type_moved d t kind.base kind.unsigned type,
+  stars_moved d s kind.stars stars,
+)
 
 module _ (source form : List ℕ) (d : ℕ) where
   abbrev K : List Lexeme → Type 0
@@ -63,7 +72,8 @@ module _ (source form : List ℕ) (d : ℕ) where
   Moves {X} P A = (ts : List Lexeme) (x : X) → K ts → P ts x → (y : X) × P (map (moved d) ts) y × A x y
 
   module _ {X : Type 0} (P : List Lexeme → X → Type 0) (A : X → X → Type 0) (f : Moves P A) where
-    separated_more : (ts a : List Lexeme) (c : Lexeme) (b : List Lexeme) (x y x' : X) (ys ys' : List X) → ts ≡ a ++ c ∷ b → Is w.Comma c → P a x' → A x x' → AreSeparated P b ys' → Pairs A (y ∷ ys) ys'
+    separated_more : (ts a : List Lexeme) (c : Lexeme) (b : List Lexeme) (x y x' : X) (ys ys' : List X) → ts ≡ a ++ c ∷ b → Is w.Comma c → P a x' → A x x' → AreSeparated P b ys'
+        → Pairs A (y ∷ ys) ys'
         → (zs : List X) × AreSeparated P ts zs × Pairs A (x ∷ y ∷ ys) zs
     separated_more ts a c b x y x' ys [] whole comma first alike rest pairs = absurd pairs
     separated_more ts a c b x y x' ys (y' ∷ ys') whole comma first alike rest pairs = (x' ∷ y' ∷ ys', (a, c, b, whole, comma, first, rest), (alike, pairs))

@@ -1,13 +1,14 @@
 -- The tokens of a form are those of the source, with those that are brought in between.
-use Rattle.std.proofs.Common.{◌≡◌, ℕ, zero, suc, ◌+◌, ◌-◌, ◌<◌, ◌≤◌, Bool, true, false, cond, eqb, not, ◌&&◌, ◌||◌, List, [], ◌∷◌, ◌++◌, map, length, drop, take, Option, Some, None, refl, sym, ap, subst, ◌∙◌, arith, inl, inr, length-drop, drop-drop}
+use Rattle.std.proofs.Common.{◌≡◌, ℕ, zero, suc, ◌+◌, ◌-◌, ◌<◌, ◌≤◌, Bool, true, false, cond, eqb, not, ◌||◌, List, [], ◌∷◌, ◌++◌, map, length, drop, take, Option, Some, None, refl, sym}
+use Rattle.std.proofs.Common.{ap, subst, ◌∙◌, arith, inl, inr, length-drop, drop-drop}
 use Rattle.std.specs.Prelude.{codes}
 use Rattle.std.specs.List.{list_all}
 use Rattle.std.specs.Option.{unwrap_or}
 use Rattle.std.specs.Str.{bytes_eq}
-use Rattle.std.proofs.lemmas.Bool.{and_parts, cases_Bool, both_ways}
+use Rattle.std.proofs.lemmas.Bool.{and_parts}
 use Rattle.std.proofs.lemmas.Slice.Eq.{bytes_eq-Decides}
-use Rattle.std.proofs.lemmas.List.{append-nil, append_assoc, take-append-drop, length-take-le, map-append, drop-append-le, take-append-le}
-use Rattle.std.proofs.Math.Seq.{take-append_seam, take-append-add, drop-append_seam}
+use Rattle.std.proofs.lemmas.List.{append-nil, append_assoc, take-append-drop, length-take-le, map-append, take-append-le}
+use Rattle.std.proofs.Math.Seq.{take-append-add, drop-append_seam}
 use Rattle.cw_syntax.specs.Names.{slice}
 use Rattle.cw_lex.specs.declared.tokens.TokenKind.{TokenKind}
 use Rattle.cw_lex.specs.declared.tokens.TokenKind.TheVariants as kind
@@ -17,19 +18,19 @@ use Rattle.cw_lex.specs.declared.piece.Front.TheVariants as piece
 use Rattle.cw_lex.specs.Keywords.{is_keyword}
 use Rattle.cw_lex.specs.Numbers.{is_number, number_of, digits_of, suffix_of}
 use Rattle.cw_lex.specs.Marks.{mark_len}
-use Rattle.cw_lex.specs.Pieces.{piece_at, size}
-use Rattle.cw_lex.specs.Tokens.{fresh_behind, Stand, tokens_of}
+use Rattle.cw_lex.specs.Pieces.{piece_at}
+use Rattle.cw_lex.specs.Tokens.{Stand, tokens_of}
 use Rattle.cw_grammar.specs.declared.words.Word.{Word}
 use Rattle.cw_grammar.specs.declared.words.Word.TheVariants as w
 use Rattle.cw_grammar.specs.declared.words.Lexeme.{Lexeme}
 use Rattle.cw_grammar.specs.Lexemes.{Is}
-use Rattle.cw_grammar.specs.Spelling.{Spellings, keywords, long_punctuators, short_punctuators, spelled, punctuator, word_of, lexeme_of, lexemes_of}
+use Rattle.cw_grammar.specs.Spelling.{Spellings, keywords, long_punctuators, short_punctuators, spelled, word_of, lexeme_of, lexemes_of}
 use Rattle.cw_forms.specs.Moved.{moved, IsKept, AreKept}
-use Rattle.cw_forms.specs.Pieces.{Piece, Keeps, Calls, call_tokens, lefts, opened, closed, rights, AreEnded, IsBrought, AreSame}
+use Rattle.cw_forms.specs.Pieces.{Piece, Keeps, Calls, call_tokens, lefts, opened, closed, rights, AreEnded, AreSame}
 use Rattle.cw_detach.specs.Form.{before, behind}
 use Rattle.cw_forms.specs.Spans.{spans_of, with_texts}
 use Rattle.cw_forms.proofs.Ahead.{any_line, no_feed}
-use Rattle.cw_forms.proofs.Standing.{total, stand_both, tokens_both, stand_ahead, Reach, reach, drop_on, slice_take, read_at, tokens_read, tokens_same, same_lexeme}
+use Rattle.cw_forms.proofs.Standing.{total, stand_both, tokens_both, stand_ahead, reach, drop_on, slice_take, read_at, tokens_read, tokens_same, same_lexeme}
 
 -- ---- a `;`
 
@@ -49,6 +50,7 @@ only_semicolon (s ∷ ss) text h e =
   where
     plain : (t : Bool) (x : Word) → (not (is_semicolon x) || t) ≡ true → x ≡ w.Semicolon → t ≡ true
     plain t x p q = rw q at p
+
     by : is_plain s ≡ true → (spelled ss text ≡ Some w.Semicolon → text ≡ codes ";") → (t : Bool) → bytes_eq text s.0 ≡ t → cond t (Some s.1) (spelled ss text) ≡ Some w.Semicolon → text ≡ codes ";"
     by first rec true is g =
         let word : s.1 ≡ w.Semicolon = cc in
@@ -64,6 +66,7 @@ no_semicolon (s ∷ ss) text h e =
   where
     other : (x : Word) → not (is_semicolon x) ≡ true → x ≡ w.Semicolon → ⊥
     other x p q = let z : false ≡ true = rw q at p in cc
+
     by : not (is_semicolon s.1) ≡ true → (spelled ss text ≡ Some w.Semicolon → ⊥) → (t : Bool) → cond t (Some s.1) (spelled ss text) ≡ Some w.Semicolon → ⊥
     by first rec true g = other s.1 first (cc)
     by first rec false g = rec g
@@ -117,11 +120,75 @@ closed_pieces =
 
 opened_stand : (f : Bool) (bs : List ℕ) → Stand f (before ++ bs) opened_pieces false bs
 unfolding opened_pieces before piece_at mark_len is_keyword
-opened_stand f bs = (refl, omega arith, (refl, omega arith, (refl, omega arith, (refl, omega arith, (refl, omega arith, (refl, omega arith, (refl, omega arith, (refl, omega arith, (refl, omega arith, (refl, refl))))))))))
+opened_stand f bs = (
+  refl,
+  omega arith,
+  (
+    refl,
+    omega arith,
+    (
+      refl,
+      omega arith,
+      (
+        refl,
+        omega arith,
+        (
+          refl,
+          omega arith,
+          (
+            refl,
+            omega arith,
+            (
+              refl,
+              omega arith,
+              (
+                refl,
+                omega arith,
+                (refl, omega arith, (refl, refl)),
+              ),
+            ),
+          ),
+        ),
+      ),
+    ),
+  ),
+)
 
 closed_stand : (f : Bool) (bs : List ℕ) → Stand f (behind ++ bs) closed_pieces false bs
 unfolding closed_pieces behind piece_at mark_len is_keyword is_number number_of digits_of suffix_of
-closed_stand f bs = (refl, omega arith, (refl, omega arith, (refl, omega arith, (refl, omega arith, (refl, omega arith, (refl, omega arith, (refl, omega arith, (refl, omega arith, (refl, omega arith, (refl, omega arith, (refl, omega arith, (refl, omega arith, (refl, omega arith, (refl, refl))))))))))))))
+closed_stand f bs = (
+  refl,
+  omega arith,
+  (
+    refl,
+    omega arith,
+    (
+      refl,
+      omega arith,
+      (
+        refl,
+        omega arith,
+        (
+          refl,
+          omega arith,
+          (
+            refl,
+            omega arith,
+            (
+              refl,
+              omega arith,
+              (
+                refl,
+                omega arith,
+                (refl, omega arith, (refl, omega arith, (refl, omega arith, (refl, omega arith, (refl, omega arith, (refl, refl)))))),
+              ),
+            ),
+          ),
+        ),
+      ),
+    ),
+  ),
+)
 
 opened_read : (p : ℕ) (bs : List ℕ) → read_at p opened_pieces (before ++ bs) ≡ opened p
 unfolding opened_pieces before word_of
@@ -197,7 +264,8 @@ module _ (form : List ℕ) where
   }
 
 -- tokens whose words are some, and others behind them
-words_both : (source : List ℕ) (ts : List Token) (a b : List Lexeme) → lexemes_of source ts ≡ a ++ b → (x : List Token) × (y : List Token) × (ts ≡ x ++ y) × (lexemes_of source x ≡ a) × (lexemes_of source y ≡ b)
+words_both : (source : List ℕ) (ts : List Token) (a b : List Lexeme) → lexemes_of source ts ≡ a ++ b
+    → (x : List Token) × (y : List Token) × (ts ≡ x ++ y) × (lexemes_of source x ≡ a) × (lexemes_of source y ≡ b)
 words_both source ts [] b e = ([], ts, refl, refl, e)
 words_both source [] (t ∷ a) b e = absurd cc
 words_both source (u ∷ ts) (t ∷ a) b e =
@@ -205,7 +273,8 @@ words_both source (u ∷ ts) (t ∷ a) b e =
     let h = words_both source ts a b (cc) in
     (u ∷ h.0, h.1, ap (λ (z : List Token). u ∷ z) h.2, ap (λ (z : Lexeme). z ∷ lexemes_of source h.0) same ∙ ap (λ (z : List Lexeme). t ∷ z) h.3, h.4)
 
-words_first : (source : List ℕ) (ts : List Token) (t : Lexeme) (b : List Lexeme) → lexemes_of source ts ≡ t ∷ b → (u : Token) × (y : List Token) × (ts ≡ u ∷ y) × (lexeme_of source u ≡ t) × (lexemes_of source y ≡ b)
+words_first : (source : List ℕ) (ts : List Token) (t : Lexeme) (b : List Lexeme) → lexemes_of source ts ≡ t ∷ b
+    → (u : Token) × (y : List Token) × (ts ≡ u ∷ y) × (lexeme_of source u ≡ t) × (lexemes_of source y ≡ b)
 words_first source [] t b e = absurd cc
 words_first source (u ∷ ts) t b e = (u, ts, refl, (cc), (cc))
 
@@ -243,15 +312,17 @@ module _ (source form : List ℕ) where
       let m = to - at in
       let long : length (slice source at to) ≡ m = slice_long source at to in_source in
       let here : take m (drop (at + d) form) ≡ slice source at to =
-          ap (take m) there ∙ take-append-le m (slice source at to) z (omega arith)
-          ∙ ap (λ (k : ℕ). take k (slice source at to)) (sym long) ∙ take_whole (slice source at to) in
-      let same = tokens_same source form d ps (at + d) at m refl here (omega arith) in
-      (record {
-        pieces = ps;
-        stand = stand;
-        words = same.0 ∙ ap (map (moved d)) words;
-        place = omega arith;
-      }, subst (λ (l : List Lexeme). AreKept source form d l) words same.1)
+      ap (take m) there ∙ take-append-le m (slice source at to) z (omega arith)
+      ∙ ap (λ (k : ℕ). take k (slice source at to)) (sym long) ∙ take_whole (slice source at to) in
+      let same = tokens_same source form d ps (at + d) at m refl here (omega arith) in (
+        record {
+          pieces = ps;
+          stand = stand;
+          words = same.0 ∙ ap (map (moved d)) words;
+          place = omega arith;
+        },
+        subst (λ (l : List Lexeme). AreKept source form d l) words same.1,
+      )
     where
       take_whole : (l : List ℕ) → take (length l) l ≡ l
       take_whole [] = refl
@@ -285,7 +356,8 @@ module _ (source form : List ℕ) where
   unfolding behind
   closed_on p d z e = let same : p + (d + 13) + 19 ≡ p + (d + 32) = omega arith in ap (λ (k : ℕ). drop k form) (sym same) ∙ drop_on form (p + (d + 13)) 19 _ e
 
-  brace_ahead : (ps : List Front) (f g : Bool) (w : List ℕ) (a : ℕ) (r z : List ℕ) → eqb a 10 ≡ false → total ps ≡ length w → Stand f (w ++ a ∷ r) ps g (a ∷ r) → Stand f (w ++ (before ++ z)) ps g (before ++ z)
+  brace_ahead : (ps : List Front) (f g : Bool) (w : List ℕ) (a : ℕ) (r z : List ℕ) → eqb a 10 ≡ false → total ps ≡ length w → Stand f (w ++ a ∷ r) ps g (a ∷ r)
+      → Stand f (w ++ (before ++ z)) ps g (before ++ z)
   unfolding before
   brace_ahead ps f g w a r z feed long h = stand_ahead ps f g w a 123 r (codes "if(!fork()){" ++ z) (inr (refl, feed)) long h
 
@@ -316,7 +388,8 @@ module _ (source form : List ℕ) where
   -- ---- a call, and what is behind it
 
   abbrev Rest : List Piece → ℕ → ℕ → Bool → Type 0
-  Rest P to d g = (qs : List Front) → Stand false (drop to source) qs g [] → lexemes_of source (tokens_of to qs) ≡ lefts P → drop (to + (d + 32)) form ≡ with_texts source to (spans_of P) → Result P [] to (d + 32) false
+  Rest P to d g = (qs : List Front) → Stand false (drop to source) qs g [] → lexemes_of source (tokens_of to qs) ≡ lefts P → drop (to + (d + 32)) form ≡ with_texts source to (spans_of P)
+      → Result P [] to (d + 32) false
 
   called_at : (P : List Piece) (xs ys : List Lexeme) (first inner last : List Token) (t c : Token) (at d : ℕ) (f g : Bool) (ps : List Front) → Stand f (drop at source) ps g []
       → tokens_of at ps ≡ first ++ t ∷ (inner ++ c ∷ last) → lexemes_of source first ≡ xs → lexemes_of source inner ≡ ys → lexemes_of source last ≡ lefts P
@@ -333,11 +406,11 @@ module _ (source form : List ℕ) where
       let c_in : c.from < length source = in_text source c.from c_bytes.0 c_bytes.1 c_bytes.2 in
       let semi = semicolon_is c.kind (slice source c.from c.to) ends in
       let c_text : take r2.long (drop c.from source) ≡ codes ";" =
-          sym (slice_take source c.from r2.long) ∙ ap (λ (k : ℕ). slice source c.from k) (sym r2.end) ∙ semi.1 in
+      sym (slice_take source c.from r2.long) ∙ ap (λ (k : ℕ). slice source c.from k) (sym r2.end) ∙ semi.1 in
       let c_here = semicolon_stands r2.fresh (drop c.from source) r2.long c_text (subst (λ (k : TokenKind). piece_at r2.fresh (drop c.from source) ≡ piece.Token k r2.long) semi.0 r2.here.0) in
       let c_end : c.to ≡ c.from + 1 = r2.end ∙ ap (λ (k : ℕ). c.from + k) c_here.1 in
       let at_semi : drop c.from source ≡ 59 ∷ drop c.to source =
-          c_here.0 ∙ ap (λ (z : List ℕ). 59 ∷ z) (drop-drop 1 c.from source ∙ ap (λ (k : ℕ). drop k source) (sym c_end)) in
+      c_here.0 ∙ ap (λ (z : List ℕ). 59 ∷ z) (drop-drop 1 c.from source ∙ ap (λ (k : ℕ). drop k source) (sym c_end)) in
       let place1 = r.place in
       let place2 = r2.place in
       let t_end = r.end in
@@ -352,7 +425,7 @@ module _ (source form : List ℕ) where
       let X3 = m0 ++ 59 ∷ X4 in
       let X2 = before ++ X3 in
       let text_is : with_texts source at ((t.from, c.to) ∷ spans_of P) ≡ slice source at t.from ++ X2 =
-          ap (λ (z : List ℕ). slice source at t.from ++ (before ++ z)) (semi_slice t.from c.from c.to X4 t_c c_end c_in at_semi) in
+      ap (λ (z : List ℕ). slice source at t.from ++ (before ++ z)) (semi_slice t.from c.from c.to X4 t_c c_end c_in at_semi) in
       let there : drop (at + d) form ≡ slice source at t.from ++ X2 = text ∙ text_is in
       let there2 : drop (t.from + d) form ≡ X2 = on_by at d t.from (slice source at t.from) X2 at_t long1 there in
       let there3 : drop (t.from + (d + 13)) form ≡ X3 = opened_on t.from d X3 there2 in
@@ -363,17 +436,20 @@ module _ (source form : List ℕ) where
       -- the parts
       let feed : eqb t_bytes.0 10 ≡ false = no_feed r.fresh t_bytes.0 t_bytes.1 t.kind r.long (subst (λ (z : List ℕ). piece_at r.fresh z ≡ piece.Token t.kind r.long) t_bytes.2 r.here.0) in
       let stand1 : Stand f (slice source at t.from ++ X2) r.front r.fresh X2 =
-          brace_ahead r.front f r.fresh (slice source at t.from) t_bytes.0 t_bytes.1 X3 feed (omega (arith, place1, long1))
-          (subst (λ (z : List ℕ). Stand f (slice source at t.from ++ z) r.front r.fresh z) t_bytes.2 (subst (λ (z : List ℕ). Stand f z r.front r.fresh (drop t.from source)) (sym (slice_on source at t.from at_t)) r.stand)) in
+      brace_ahead r.front f r.fresh (slice source at t.from) t_bytes.0 t_bytes.1 X3 feed (omega (arith, place1, long1))
+      (subst (λ (z : List ℕ). Stand f (slice source at t.from ++ z) r.front r.fresh z) t_bytes.2 (subst (λ (z : List ℕ). Stand f z r.front r.fresh (drop t.from source)) (sym
+      (slice_on source at t.from at_t)) r.stand)) in
       let p1 = same_part r.front f r.fresh at d t.from xs [] X2 at_t (omega (arith, t_in)) place1 there stand1 (ap (lexemes_of source) r.tokens ∙ first_is) in
-      let p2 = at_place form (t.from + d) (t.from + d) r.fresh X2 (opened (t.from + d)) (t.from + d + 13) (t.from + (d + 13)) false X3 refl (omega arith) (opens_at form (t.from + d) r.fresh X3 there2) in
+      let p2 = at_place form (t.from + d) (t.from + d) r.fresh X2 (opened (t.from + d)) (t.from + d + 13) (t.from + (d + 13)) false X3 refl (omega arith) (opens_at form
+      (t.from + d) r.fresh X3 there2) in
       let own : List Front = piece.Token t.kind r.long ∷ r2.front in
       let own_stand : Stand false (drop t.from source) own r2.fresh (drop c.from source) =
-          (any_line r.fresh false (drop t.from source) t.kind r.long r.here.0, r.here.1, subst (λ (z : List ℕ). Stand false z r2.front r2.fresh (drop c.from source)) (sym on) r2.stand) in
+      (any_line r.fresh false (drop t.from source) t.kind r.long r.here.0, r.here.1, subst (λ (z : List ℕ). Stand false z r2.front r2.fresh (drop c.from source)) (sym on) r2.stand) in
       let own_long : t.from + total own ≡ c.from = omega (arith, place2, t_end) in
       let stand3 : Stand false X3 own r2.fresh (59 ∷ X4) =
-          stand_ahead own false r2.fresh m0 59 59 (drop c.to source) X4 (inl refl) (omega (arith, own_long, long2))
-          (subst (λ (z : List ℕ). Stand false (m0 ++ z) own r2.fresh z) at_semi (subst (λ (z : List ℕ). Stand false z own r2.fresh (drop c.from source)) (sym (slice_on source t.from c.from t_c)) own_stand)) in
+      stand_ahead own false r2.fresh m0 59 59 (drop c.to source) X4 (inl refl) (omega (arith, own_long, long2))
+      (subst (λ (z : List ℕ). Stand false (m0 ++ z) own r2.fresh z) at_semi (subst (λ (z : List ℕ). Stand false z own r2.fresh (drop c.from source)) (sym
+      (slice_on source t.from c.from t_c)) own_stand)) in
       let own_words : lexemes_of source (tokens_of t.from own) ≡ lexeme_of source t ∷ ys = first_token t r.long r2.front ys r.end (ap (lexemes_of source) r2.tokens ∙ inner_is) in
       let p3 = same_part own false r2.fresh t.from (d + 13) c.from (lexeme_of source t ∷ ys) [] (59 ∷ X4) t_c (omega (arith, c_in)) own_long there3 stand3 own_words in
       let p4 : Lexed form (c.from + (d + 13)) r2.fresh (59 ∷ X4) (moved (d + 13) (lexeme_of source c) ∷ []) (c.to + (d + 13)) false X4 = record {
@@ -382,20 +458,26 @@ module _ (source form : List ℕ) where
         words = semi_words c (d + 13) X4 c_end ends there4;
         place = next;
       } in
-      let p5 = at_place form (c.to + (d + 13)) (c.to + (d + 13)) false X4 (closed (c.to + (d + 13))) (c.to + (d + 13) + 19) (c.to + (d + 32)) false F refl (omega arith) (closes_at form (c.to + (d + 13)) false F there5) in
+      let p5 = at_place form (c.to + (d + 13)) (c.to + (d + 13)) false X4 (closed (c.to + (d + 13))) (c.to + (d + 13) + 19) (c.to + (d + 32)) false F refl (omega arith) (closes_at form
+      (c.to + (d + 13)) false F there5) in
       let back : Stand false (drop c.to source) r2.back g [] =
-          subst (λ (z : List ℕ). Stand false z r2.back g []) (drop-drop r2.long c.from source ∙ ap (λ (k : ℕ). drop k source) (sym r2.end)) r2.here.2 in
+      subst (λ (z : List ℕ). Stand false z r2.back g []) (drop-drop r2.long c.from source ∙ ap (λ (k : ℕ). drop k source) (sym r2.end)) r2.here.2 in
       let p6 = rec r2.back back (ap (lexemes_of source) r2.behind ∙ last_is) there6 in
       let j5 = join form _ _ _ _ _ _ _ _ _ _ _ p5 p6.2 in
       let j4 = join form _ _ _ _ _ _ _ _ _ _ _ p4 j5 in
       let j3 = join form _ _ _ _ _ _ _ _ _ _ _ p3.0 j4 in
-      let k3 = subst (λ (z : List Lexeme). Lexed form (t.from + (d + 13)) false X3 z p6.0 p6.1 []) (words_as (moved (d + 13)) (lexeme_of source t) (lexeme_of source c) ys (closed (c.to + (d + 13)) ++ rights (d + 32) P)) j3 in
+      let k3 = subst (λ (z : List Lexeme). Lexed form (t.from + (d + 13)) false X3 z p6.0 p6.1 []) (words_as (moved (d + 13)) (lexeme_of source t) (lexeme_of source c) ys (closed (c.to +
+      (d + 13)) ++ rights (d + 32) P)) j3 in
       let j2 = join form _ _ _ _ _ _ _ _ _ _ _ p2 k3 in
       let j1 = join form _ _ _ _ _ _ _ _ _ _ _ p1.0 j2 in
       let whole = subst (λ (z : List ℕ). Lexed form (at + d) f z (map (moved d) xs ++ rights d (Calls (lexeme_of source t) ys (lexeme_of source c) ∷ P)) p6.0 p6.1 []) (sym text_is) j1 in
-      let c_kept : IsKept source form (d + 13) (lexeme_of source c) = semi_kept c.from c.to (d + 13) (drop c.to source) X4 c_end there4 at_semi in
-      (p6.0, p6.1, whole, p1.1,
-        (kept_ends (d + 13) (lexeme_of source t ∷ ys) (lexeme_of source c) p3.1 c_kept, (opened_name form (t.from + d) X3 there2, closed_name form (c.to + (d + 13)) F there5), p6.4))
+      let c_kept : IsKept source form (d + 13) (lexeme_of source c) = semi_kept c.from c.to (d + 13) (drop c.to source) X4 c_end there4 at_semi in (
+        p6.0,
+        p6.1,
+        whole,
+        p1.1,
+        (kept_ends (d + 13) (lexeme_of source t ∷ ys) (lexeme_of source c) p3.1 c_kept, (opened_name form (t.from + d) X3 there2, closed_name form (c.to + (d + 13)) F there5), p6.4),
+      )
 
   abbrev Called : List Piece → List Lexeme → List Lexeme → ℕ → ℕ → Bool → Bool → Lexeme → Lexeme → Type 0
   Called P xs ys at d f g t c =
@@ -409,7 +491,7 @@ module _ (source form : List ℕ) where
       let inner = words_both source head.1 ys (c ∷ lefts P) (head.4 ∙ append_assoc ys (c ∷ []) (lefts P)) in
       let last = words_first source inner.1 c (lefts P) inner.4 in
       let tokens : tokens_of at ps ≡ first.0 ++ head.0 ∷ (inner.0 ++ last.0 ∷ last.1) =
-          first.2 ∙ ap (λ (z : List Token). first.0 ++ z) (head.2 ∙ ap (λ (z : List Token). head.0 ∷ z) (inner.2 ∙ ap (λ (z : List Token). inner.0 ++ z) last.2)) in
+      first.2 ∙ ap (λ (z : List Token). first.0 ++ z) (head.2 ∙ ap (λ (z : List Token). head.0 ∷ z) (inner.2 ∙ ap (λ (z : List Token). inner.0 ++ z) last.2)) in
       subst (λ (z : Lexeme). Called P xs ys at d f g z c) head.3
       (subst (λ (z : Lexeme). Called P xs ys at d f g (lexeme_of source head.0) z) last.3
       (λ ends text rec. called_at P xs ys first.0 inner.0 last.1 head.0 last.0 at d f g ps stand tokens first.3 inner.3 last.4 ends text rec))
@@ -430,7 +512,7 @@ module _ (source form : List ℕ) where
   lexing (Keeps t ∷ P) xs at d f g ps stand words ended text =
       let h = lexing P (xs ++ t ∷ []) at d f g ps stand (words ∙ sym (append_assoc xs (t ∷ []) (lefts P))) ended text in
       let same : map (moved d) (xs ++ t ∷ []) ++ rights d P ≡ map (moved d) xs ++ (moved d t ∷ rights d P) =
-          ap (λ (z : List Lexeme). z ++ rights d P) (map-append (moved d) xs (t ∷ [])) ∙ append_assoc (map (moved d) xs) (moved d t ∷ []) (rights d P) in
+      ap (λ (z : List Lexeme). z ++ rights d P) (map-append (moved d) xs (t ∷ [])) ∙ append_assoc (map (moved d) xs) (moved d t ∷ []) (rights d P) in
       let kept = kept_first d xs t h.3 in
       (h.0, h.1, subst (λ (z : List Lexeme). Lexed form (at + d) f (with_texts source at (spans_of P)) z h.0 h.1 []) same h.2, kept.0, (kept.1, h.4))
   lexing (Calls t ys c ∷ P) xs at d f g ps stand words ended text =

@@ -1,22 +1,21 @@
 -- The lists of what stands in a file, of a source and of its form.
-use Rattle.std.proofs.Common.{◌≡◌, ℕ, zero, suc, Bool, true, false, cond, not, ◌&&◌, ◌||◌, is_some, List, [], ◌∷◌, ◌++◌, map, length, Option, None, Some, refl, sym, ap, subst, ◌∙◌, inl, inr}
+use Rattle.std.proofs.Common.{◌≡◌, ℕ, Bool, true, false, not, ◌&&◌, ◌||◌, List, [], ◌∷◌, ◌++◌, map, Option, None, Some, refl, sym, ap, subst, ◌∙◌, inl, inr}
 use Rattle.std.specs.List.{filter_map, flat_map, list_any, find}
 use Rattle.std.specs.Str.{bytes_eq}
 use Rattle.std.proofs.lemmas.Grind.{flat_map-append}
 use Rattle.cw_syntax.specs.declared.program.Name.{Name}
 use Rattle.cw_syntax.specs.declared.program.Param.{Param}
 use Rattle.cw_syntax.specs.Names.{text}
-use Rattle.cw_syntax.specs.Trees.{Tree, Statement, Stated, Prototype, Declaration, Definition, File}
+use Rattle.cw_syntax.specs.Trees.{Tree, Statement, Stated, Definition, File}
 use Rattle.cw_scope.specs.Walks.{nodes, Placed, Whole, inner, wholes_of, declaration_trees, body_of, every_statement, every_whole, every_node}
 use Rattle.cw_scope.specs.Names.{label_of, labels_of, every_label, local_names, declared_names, param_names, globals, locals}
-use Rattle.cw_scope.specs.Rules.{at_if, is_jump, loose_jump}
-use Rattle.cw_resolve.specs.Soonest.{soonest}
+use Rattle.cw_scope.specs.Rules.{is_jump, loose_jump}
 use Rattle.cw_forms.specs.Moved.{Pairs, SameName, Alike}
-use Rattle.cw_forms.specs.Declared.{Both, MovedName, SameParam, SameDeclaration, SamePrototype}
+use Rattle.cw_forms.specs.Declared.{Both, SameParam, SameDeclaration, SamePrototype}
 use Rattle.cw_forms.specs.Statements.{jumps, standing, SameWhole, SamePlaced, IsFork, IsExit, IsCalled, StandFor, SameFunction, SameFile}
 use Rattle.cw_forms.proofs.Observed.{pairs_both, pairs_flat, pairs_map, declaration_pairs, declared_pairs, inner_pairs}
 use Rattle.cw_forms.proofs.Parts.{stand_for_both}
-use Rattle.cw_forms.proofs.Trees.{NoneAll, none_of, of_none, none_split, none_join, no_place, place_none}
+use Rattle.cw_forms.proofs.Trees.{NoneAll, none_split, none_join, no_place, place_none}
 
 abbrev pub AllOf : {X : Type 0} → (X → Type 0) → List X → Type 0
 AllOf G [] = Unit {0}
@@ -83,7 +82,8 @@ module _ (source form : List ℕ) where
 
   pub locals_stand : (ps qs : List Placed) → StandFor source form ps qs → Pairs SN (flat_map (λ p. local_names p.statement) ps) (flat_map (λ p. local_names p.statement) qs)
   locals_stand ps qs h = stand_fold (λ xs ys. Pairs SN (flat_map (λ p. local_names p.statement) xs) (flat_map (λ p. local_names p.statement) ys)) tt
-      (λ p q xs ys same rest. pairs_both SN (local_names p.statement) (local_names q.statement) (flat_map (λ r. local_names r.statement) xs) (flat_map (λ r. local_names r.statement) ys) same.locals rest)
+      (λ p q xs ys same rest. pairs_both SN (local_names p.statement) (local_names q.statement) (flat_map (λ r. local_names r.statement) xs) (flat_map
+      (λ r. local_names r.statement) ys) same.locals rest)
       (λ p own xs ys called rest. (rw (called.no_local, flat_map-append (λ r. local_names r.statement) own ys, called.no_locals) rest)) ps qs h
 
   -- jumps
@@ -110,22 +110,23 @@ module _ (source form : List ℕ) where
       (λ p own xs ys called rest k. none_join loose own ys (none_jumps own called.no_jump) (rest k.1)) ps qs h
 
   -- whole expressions
-  module _ (G H : Whole → Type 0) (same : (w v : Whole) → SameWhole source form w v → G w → H v) (test : (t : Tree) → IsFork source form t → H (inner t)) (exit : (t : Tree) → IsExit source form t → H (standing t)) where
+  module _ (G H : Whole → Type 0) (same : (w v : Whole) → SameWhole source form w v → G w → H v) (test : (t : Tree) → IsFork source form t → H (inner t)) (exit : (t : Tree)
+      → IsExit source form t → H (standing t)) where
     abbrev whole_list : List Placed → List Whole
     whole_list ps = flat_map (λ p. wholes_of p.statement) ps
 
     wholes_stand : (ps qs : List Placed) → StandFor source form ps qs → AllOf G (whole_list ps) → AllOf H (whole_list qs)
     wholes_stand ps qs h = stand_fold (λ xs ys. AllOf G (whole_list xs) → AllOf H (whole_list ys)) (λ k. tt)
         (λ p q xs ys alike rest k. (
-          let both = all_split G (wholes_of p.statement) (whole_list xs) k in
-          all_join H (wholes_of q.statement) (whole_list ys) (all_pairs (SameWhole source form) G H same (wholes_of p.statement) (wholes_of q.statement) alike.wholes both.0) (rest both.1)))
+        let both = all_split G (wholes_of p.statement) (whole_list xs) k in
+        all_join H (wholes_of q.statement) (whole_list ys) (all_pairs (SameWhole source form) G H same (wholes_of p.statement) (wholes_of q.statement) alike.wholes both.0) (rest both.1)))
         (λ p own xs ys called rest k. (
-          let both = all_split G (wholes_of p.statement) (whole_list xs) k in
-          let first : AllOf G (standing called.call ∷ []) = subst (λ (z : List Whole). AllOf G z) called.whole both.0 in
-          let made : AllOf H (inner called.test ∷ standing called.again ∷ standing called.exit ∷ []) =
-              (test called.test called.is_test, (same (standing called.call) (standing called.again) (called.alike, refl) first.0, (exit called.exit called.is_exit, tt))) in
-          subst (λ (z : List Whole). AllOf H z) (sym (flat_map-append (λ r. wholes_of r.statement) own ys))
-          (all_join H (whole_list own) (whole_list ys) (subst (λ (z : List Whole). AllOf H z) (sym called.wholes) made) (rest both.1)))) ps qs h
+        let both = all_split G (wholes_of p.statement) (whole_list xs) k in
+        let first : AllOf G (standing called.call ∷ []) = subst (λ (z : List Whole). AllOf G z) called.whole both.0 in
+        let made : AllOf H (inner called.test ∷ standing called.again ∷ standing called.exit ∷ []) =
+        (test called.test called.is_test, (same (standing called.call) (standing called.again) (called.alike, refl) first.0, (exit called.exit called.is_exit, tt))) in
+        subst (λ (z : List Whole). AllOf H z) (sym (flat_map-append (λ r. wholes_of r.statement) own ys))
+        (all_join H (whole_list own) (whole_list ys) (subst (λ (z : List Whole). AllOf H z) (sym called.wholes) made) (rest both.1)))) ps qs h
 
     bodies_stand : (fs gs : List Definition) → Pairs (SameFunction source form) fs gs → StandFor source form (flat_map body_of fs) (flat_map body_of gs)
     bodies_stand [] [] h = refl
@@ -138,7 +139,8 @@ module _ (source form : List ℕ) where
         let fixed = map inner (flat_map declaration_trees file.globals) in
         let both = all_split G fixed (whole_list (every_statement file)) k in
         let pairs = inner_pairs source form (flat_map declaration_trees file.globals) (flat_map declaration_trees made.globals)
-            (pairs_flat (λ x y. (d : ℕ) × SameDeclaration source form d x y) (Alike source form) declaration_trees declaration_trees (λ x y s. declaration_pairs source form s.0 x y s.1) file.globals made.globals h.globals) in
+        (pairs_flat (λ x y. (d : ℕ) × SameDeclaration source form d x y) (Alike source form) declaration_trees declaration_trees
+        (λ x y s. declaration_pairs source form s.0 x y s.1) file.globals made.globals h.globals) in
         all_join H (map inner (flat_map declaration_trees made.globals)) (whole_list (every_statement made))
         (all_pairs (SameWhole source form) G H same fixed (map inner (flat_map declaration_trees made.globals)) pairs both.0)
         (wholes_stand (every_statement file) (every_statement made) (bodies_stand file.functions made.functions h.functions) both.1)
@@ -150,13 +152,15 @@ module _ (source form : List ℕ) where
   statements_stand (f ∷ fs) (g ∷ gs) h = stand_for_both source form (body_of f) (flat_map body_of fs) (body_of g) (flat_map body_of gs) h.0.3 (statements_stand fs gs h.1)
 
   -- a rule on each expression of a file
-  pub node_rule : (f g : Tree → Option ℕ) → ((t u : Tree) → Pairs (Alike source form) (nodes t) (nodes u) → NoneAll f (nodes t) → NoneAll g (nodes u)) → ((t : Tree) → IsFork source form t → NoneAll g (nodes t))
-      → ((t : Tree) → IsExit source form t → NoneAll g (nodes t)) → ((t u : Tree) → Alike source form t u → Pairs (Alike source form) (nodes t) (nodes u)) → (file made : File) → SameFile source form file made
+  pub node_rule : (f g : Tree → Option ℕ) → ((t u : Tree) → Pairs (Alike source form) (nodes t) (nodes u) → NoneAll f (nodes t) → NoneAll g (nodes u)) → ((t : Tree) → IsFork source form t
+      → NoneAll g (nodes t))
+      → ((t : Tree) → IsExit source form t → NoneAll g (nodes t)) → ((t u : Tree) → Alike source form t u → Pairs (Alike source form) (nodes t) (nodes u)) → (file made : File)
+      → SameFile source form file made
       → NoneAll f (every_node file) → NoneAll g (every_node made)
   node_rule f g each test exit alike file made h k =
       all_none g (λ w. nodes w.tree) (every_whole made)
       (wholes_made (λ w. NoneAll f (nodes w.tree)) (λ w. NoneAll g (nodes w.tree)) (λ w v s. each w.tree v.tree (alike w.tree v.tree s.0)) test exit file made h
-        (each_none f (λ w. nodes w.tree) (every_whole file) k))
+      (each_none f (λ w. nodes w.tree) (every_whole file) k))
 
   -- ---- names
 
@@ -180,14 +184,15 @@ module _ (source form : List ℕ) where
   locals_pairs file made h =
       pairs_both SN _ _ _ _
       (pairs_both SN _ _ _ _
-        (pairs_flat (SamePrototype source form) SN (λ p. param_names p.params) (λ p. param_names p.params) (λ x y s. params_pairs x.params y.params s.1) file.protos made.protos h.protos)
-        (pairs_flat (SameFunction source form) SN (λ f. param_names f.params) (λ f. param_names f.params) (λ x y s. params_pairs x.params y.params s.2) file.functions made.functions h.functions))
+      (pairs_flat (SamePrototype source form) SN (λ p. param_names p.params) (λ p. param_names p.params) (λ x y s. params_pairs x.params y.params s.1) file.protos made.protos h.protos)
+      (pairs_flat (SameFunction source form) SN (λ f. param_names f.params) (λ f. param_names f.params) (λ x y s. params_pairs x.params y.params s.2) file.functions made.functions h.functions))
       (locals_stand (every_statement file) (every_statement made) (statements_stand file.functions made.functions h.functions))
 
   pub every_label_pairs : (file made : File) → SameFile source form file made → Pairs SN (every_label file) (every_label made)
   every_label_pairs file made h = labels_stand (every_statement file) (every_statement made) (statements_stand file.functions made.functions h.functions)
 
-  pub places_pairs : (file made : File) → SameFile source form file made → Pairs SN (map (λ p. p.name) file.protos ++ map (λ f. f.name) file.functions) (map (λ p. p.name) made.protos ++ map (λ f. f.name) made.functions)
+  pub places_pairs : (file made : File) → SameFile source form file made
+      → Pairs SN (map (λ p. p.name) file.protos ++ map (λ f. f.name) file.functions) (map (λ p. p.name) made.protos ++ map (λ f. f.name) made.functions)
   places_pairs file made h =
       pairs_both SN _ _ _ _
       (pairs_map (SamePrototype source form) SN (λ p. p.name) (λ p. p.name) (λ x y s. s.0) file.protos made.protos h.protos)

@@ -1,8 +1,8 @@
 -- No marker arises in a form.
-use Rattle.std.proofs.Common.{◌≡◌, ℕ, zero, suc, Bool, true, false, eqb, ◌&&◌, ◌||◌, List, [], ◌∷◌, ◌++◌, drop, take, refl, sym, ap, subst, ◌∙◌, inl, inr}
+use Rattle.std.proofs.Common.{◌≡◌, ℕ, zero, suc, Bool, true, false, eqb, ◌||◌, List, [], ◌∷◌, ◌++◌, drop, take, refl}
 use Rattle.std.specs.Prelude.{nat_eq, codes}
 use Rattle.std.specs.List.{starts_with}
-use Rattle.std.proofs.lemmas.Bool.{and_parts, and_from, or_cases, both_ways, cases_Bool}
+use Rattle.std.proofs.lemmas.Bool.{and_parts, and_from, both_ways}
 use Rattle.cw_syntax.specs.Names.{slice}
 use Rattle.cw_lex.specs.Marks.{is_marker, HasNoMarker}
 use Rattle.cw_detach.specs.Form.{before, behind}
@@ -49,9 +49,11 @@ clear_take : (l : List ℕ) (n : ℕ) → Clear l → Clear (take n l)
 clear_take [] zero h = tt
 clear_take [] (suc n) h = tt
 clear_take (b ∷ l) zero h = tt
-clear_take (b ∷ l) (suc n) h =
-    (still_false (is_marker (b ∷ l)) (is_marker (b ∷ take n l))
-      (either _ _ _ _ (begins_more (b ∷ l) (codes "cw{*") (suc n)) (begins_more (b ∷ l) (codes "*}cw") (suc n))) h.0, clear_take l n h.1)
+clear_take (b ∷ l) (suc n) h = (
+  still_false (is_marker (b ∷ l)) (is_marker (b ∷ take n l))
+      (either _ _ _ _ (begins_more (b ∷ l) (codes "cw{*") (suc n)) (begins_more (b ∷ l) (codes "*}cw") (suc n))) h.0,
+  clear_take l n h.1,
+)
 
 -- no end of a mark begins the bytes
 abbrev NoFront : List ℕ → List ℕ → Type 0
@@ -92,7 +94,8 @@ texts_clear source h at (s ∷ ss) =
     let call = slice source s.0 s.1 ++ rest in
     let p = behind_front (with_texts source s.1 ss) in
     let q = before_front call in
-    let here : Clear call = clear_both (slice source s.0 s.1) rest p.0 p.1 (clear_take (drop s.0 source) _ (clear_drop source s.0 h)) (behind_clear (with_texts source s.1 ss) (texts_clear source h s.1 ss)) in
+    let here : Clear call = clear_both (slice source s.0 s.1) rest p.0 p.1 (clear_take (drop s.0 source) _ (clear_drop source s.0 h)) (behind_clear (with_texts source s.1 ss)
+    (texts_clear source h s.1 ss)) in
     clear_both (slice source at s.0) (before ++ call) q.0 q.1 (clear_take (drop at source) _ (clear_drop source at h)) (before_clear call here)
 
 pub no_marker : (source : List ℕ) (ss : List (ℕ × ℕ)) → HasNoMarker source → HasNoMarker (with_texts source 0 ss)

@@ -1,15 +1,13 @@
 -- Parts of a source, with their pieces, one behind the other.
-use Rattle.std.proofs.Common.{◌≡◌, ℕ, ◌+◌, ◌≤◌, List, [], ◌∷◌, ◌++◌, map, refl, sym, ap, ap₂, subst, ◌∙◌, arith, inl}
-use Rattle.std.specs.List.{filter_map}
-use Rattle.std.proofs.lemmas.List.{append-nil, append_assoc, map-append}
+use Rattle.std.proofs.Common.{◌≡◌, ℕ, ◌+◌, ◌≤◌, List, [], ◌∷◌, ◌++◌, map, refl, sym, ap, ap₂, subst, ◌∙◌, arith}
+use Rattle.std.proofs.lemmas.List.{append_assoc}
 use Rattle.std.proofs.lemmas.List.Elements.{filter_map-append}
-use Rattle.cw_syntax.specs.Trees.{Statement}
 use Rattle.cw_scope.specs.Walks.{Placed}
 use Rattle.cw_grammar.specs.declared.words.Lexeme.{Lexeme}
 use Rattle.cw_forms.specs.Moved.{moved, AreKept}
 use Rattle.cw_forms.specs.Pieces.{Piece, Keeps, Calls, call_tokens, lefts, opened, closed, rights, AreEnded, AreSame}
 use Rattle.cw_forms.specs.Spans.{spans_of}
-use Rattle.cw_forms.specs.Statements.{pair_of, pairs_in, StandsFor, StandFor}
+use Rattle.cw_forms.specs.Statements.{pair_of, pairs_in, StandFor}
 
 abbrev pub added : List Piece → ℕ
 added [] = 0
@@ -121,7 +119,8 @@ module _ (source form : List ℕ) where
           (rights d p.pieces, rights (d + added p.pieces) q.pieces, d + added p.pieces, rights-append d p.pieces q.pieces, p.right d both.0, q.right (d + added p.pieces) both.1, omega arith));
     }
 
-    pub part_as : (a b : List Lexeme) (ps qs : List Placed) (R S : ℕ → List Lexeme → Type 0) → b ≡ a → pairs_in source names qs ≡ pairs_in source names ps → ((d : ℕ) (us : List Lexeme) → R d us → S d us) → Part a ps R → Part b qs S
+    pub part_as : (a b : List Lexeme) (ps qs : List Placed) (R S : ℕ → List Lexeme → Type 0) → b ≡ a → pairs_in source names qs ≡ pairs_in source names ps → ((d : ℕ) (us : List Lexeme)
+        → R d us → S d us) → Part a ps R → Part b qs S
     part_as a b ps qs R S e spans f p = record {
       pieces = p.pieces;
       left = p.left ∙ sym e;

@@ -1,7 +1,8 @@
 -- No scope rule is broken in a form, where none is in its source.
-use Rattle.std.proofs.Common.{◌≡◌, ℕ, zero, suc, Bool, true, false, cond, not, ◌&&◌, is_some, nat_eq, nat_lt, List, [], ◌∷◌, ◌++◌, map, length, Option, None, Some, slice_get, refl, sym, ap, subst, ◌∙◌}
+use Rattle.std.proofs.Common.{◌≡◌, ℕ, Bool, true, false, cond, not, is_some, nat_eq, nat_lt, List, [], ◌∷◌, ◌++◌, map, length, Option, None, Some, slice_get, refl, sym, ap}
+use Rattle.std.proofs.Common.{subst, ◌∙◌}
 use Rattle.std.specs.Prelude.{codes}
-use Rattle.std.specs.List.{filter_map, list_any, find}
+use Rattle.std.specs.List.{filter_map, list_any}
 use Rattle.std.specs.Option.{option_map, option_or}
 use Rattle.std.specs.Str.{bytes_eq}
 use Rattle.cw_core.specs.declared.quantity.Quantity.TheVariants.{Functions, Labels}
@@ -15,17 +16,20 @@ use Rattle.cw_scope.specs.declared.faults.ScopeFault.{ScopeFault}
 use Rattle.cw_scope.specs.declared.faults.ScopeFault.TheVariants.{NoMain, TwoFunctions, TwoLabels, Arity, CallForm, MainCalled, Reserved, Jump, Limit}
 use Rattle.cw_scope.specs.Walks.{nodes, nodes_in, body_of, every_statement, Whole, inner, every_whole, every_node}
 use Rattle.cw_scope.specs.Names.{labels_of, every_label, globals, locals, plain_name, called_name, uses, function_places, every_name}
-use Rattle.cw_scope.specs.Rules.{at_if, repeated, different, is_main, is_reserved, count, parts_of, is_call, call_if, statement_call, standing_call, second_label, miscounted, defined, is_defined, has_main, second_function, wrong_arity, function_name, defined_call, external_call, misplaced, second_external, wrong_form, main_call, reserved, loose_jump}
+use Rattle.cw_scope.specs.Rules.{repeated, different, is_main, is_reserved, count, parts_of, is_call, call_if, statement_call, standing_call, second_label, miscounted, defined, is_defined}
+use Rattle.cw_scope.specs.Rules.{second_function, wrong_arity, function_name, defined_call, external_call, misplaced, second_external, wrong_form, main_call, reserved}
 use Rattle.cw_scope.specs.Faults.{no_main, two_functions, two_labels, arity, call_form, main_called, reserved_name, jump, limit, ◌or_else◌, scope_fault}
 use Rattle.cw_resolve.specs.Soonest.{sooner, soonest}
 use Rattle.cw_source.proofs.Landing.{neither}
-use Rattle.cw_forms.specs.Moved.{Pairs, SameName, Alike, AllAlike}
+use Rattle.cw_forms.specs.Moved.{Pairs, SameName, Alike}
 use Rattle.cw_forms.specs.Declared.{Both, SameParam}
 use Rattle.cw_forms.specs.Statements.{standing, SameWhole, IsFork, IsExit, SameFunction, SameFile}
 use Rattle.cw_forms.proofs.Declarations.{pairs_length}
-use Rattle.cw_forms.proofs.Observed.{pairs_both, pairs_map}
-use Rattle.cw_forms.proofs.Trees.{NoneAll, none_of, of_none, none_split, none_join, none_pairs, no_place, place_none, call_of, call_if_by, called_by, plain_by, name_at, is_name_op, same_call, same_plain, nodes_alike, nodes_in_alike, counts_alike, both_some, any_calls_alike, call_if_none, calls_long, second_none, statement_call_alike}
-use Rattle.cw_forms.proofs.Lists.{AllOf, if_name, filter_none, none_filter, loose, jumps_stand, wholes_made, statements_stand, labels_stand, node_rule, globals_pairs, locals_pairs, every_label_pairs, places_pairs, found_same}
+use Rattle.cw_forms.proofs.Observed.{pairs_map}
+use Rattle.cw_forms.proofs.Trees.{NoneAll, none_of, of_none, none_split, none_join, none_pairs, no_place, place_none, call_of, called_by, plain_by, name_at, is_name_op, same_call}
+use Rattle.cw_forms.proofs.Trees.{same_plain, nodes_alike, nodes_in_alike, counts_alike, both_some, any_calls_alike, call_if_none, calls_long, second_none, statement_call_alike}
+use Rattle.cw_forms.proofs.Lists.{AllOf, if_name, filter_none, none_filter, loose, jumps_stand, wholes_made, statements_stand, labels_stand, node_rule, globals_pairs, locals_pairs}
+use Rattle.cw_forms.proofs.Lists.{every_label_pairs, places_pairs, found_same}
 
 -- ---- rules one after the other
 
@@ -84,7 +88,7 @@ module _ (source form : List ℕ) where
   different_same before (n ∷ ns) [] h = absurd h
   different_same before (n ∷ ns) (m ∷ ms) h =
       subst (λ (z : List ℕ). cond (list_any (bytes_eq z) before) (different form before ms) (z ∷ different form (before ++ z ∷ []) ms)
-          ≡ cond (list_any (bytes_eq (text source n)) before) (different source before ns) (text source n ∷ different source (before ++ text source n ∷ []) ns)) (sym h.0)
+      ≡ cond (list_any (bytes_eq (text source n)) before) (different source before ns) (text source n ∷ different source (before ++ text source n ∷ []) ns)) (sym h.0)
       (rw (different_same before ns ms h.1, different_same (before ++ text source n ∷ []) ns ms h.1) refl)
 
   labels_none : (fs gs : List Definition) → Pairs (SameFunction source form) fs gs → second_label source fs ≡ None → second_label form gs ≡ None
@@ -147,7 +151,8 @@ module _ (source form : List ℕ) where
     miscounted_none None (Some y) n a a' h e = absurd h
     miscounted_none (Some x) None n a a' h e = absurd h
     miscounted_none (Some x) (Some y) n a a' h e =
-        place_none (not (nat_eq n (length y.params))) a' (ap (λ (k : ℕ). not (nat_eq n k)) (pairs_length (SameParam source form) x.params y.params h.2) ∙ no_place (not (nat_eq n (length x.params))) a e)
+        place_none (not (nat_eq n (length y.params))) a' (ap (λ (k : ℕ). not (nat_eq n k)) (pairs_length (SameParam source form) x.params y.params h.2)
+        ∙ no_place (not (nat_eq n (length x.params))) a e)
 
     arity_calls : (f g : Option Name) (ts us : Trees) (a a' : ℕ) → Both SN f g → count us ≡ count ts → arity_of source file f ts a ≡ None → arity_of form made g us a' ≡ None
     arity_calls None None ts us a a' h c e = refl
@@ -155,7 +160,7 @@ module _ (source form : List ℕ) where
     arity_calls (Some x) None ts us a a' h c e = absurd h
     arity_calls (Some x) (Some y) ts us a a' h c e =
         let there : Both (SameFunction source form) (defined source file (text source x)) (defined form made (text form y)) =
-            subst (λ (z : List ℕ). Both (SameFunction source form) (defined source file (text source x)) (defined form made z)) (sym h) (found (text source x)) in
+        subst (λ (z : List ℕ). Both (SameFunction source form) (defined source file (text source x)) (defined form made z)) (sym h) (found (text source x)) in
         ap (λ (n : ℕ). miscounted (defined form made (text form y)) n a') c ∙ miscounted_none (defined source file (text source x)) (defined form made (text form y)) (count ts) a a' there e
 
     arity_none : (t u : Tree) → L t u → wrong_arity source file t ≡ None → wrong_arity form made u ≡ None
@@ -178,7 +183,8 @@ module _ (source form : List ℕ) where
     each_pair : (f g : Tree → Option ℕ) → ((t u : Tree) → L t u → f t ≡ None → g u ≡ None) → (t u : Tree) → Pairs L (nodes t) (nodes u) → NoneAll f (nodes t) → NoneAll g (nodes u)
     each_pair f g each t u h k = none_pairs L f g each (nodes t) (nodes u) h k
 
-    on_nodes : (f g : Tree → Option ℕ) → ((t u : Tree) → L t u → f t ≡ None → g u ≡ None) → ((t : Tree) → IsFork source form t → NoneAll g (nodes t)) → ((t : Tree) → IsExit source form t → NoneAll g (nodes t))
+    on_nodes : (f g : Tree → Option ℕ) → ((t u : Tree) → L t u → f t ≡ None → g u ≡ None) → ((t : Tree) → IsFork source form t → NoneAll g (nodes t)) → ((t : Tree) → IsExit source form t
+        → NoneAll g (nodes t))
         → NoneAll f (every_node file) → NoneAll g (every_node made)
     on_nodes f g each test exit k = node_rule source form f g (each_pair f g each) test exit (λ t u h. nodes_alike source form t u h) file made same k
 
@@ -188,7 +194,7 @@ module _ (source form : List ℕ) where
         remapped Arity (soonest (map (wrong_arity form made) (every_node made)))
         (of_none (wrong_arity form made) (every_node made)
         (on_nodes (wrong_arity source file) (wrong_arity form made) arity_none arity_fork arity_exit
-          (none_of (wrong_arity source file) (every_node file) (unmapped Arity (soonest (map (wrong_arity source file) (every_node file))) e))))
+        (none_of (wrong_arity source file) (every_node file) (unmapped Arity (soonest (map (wrong_arity source file) (every_node file))) e))))
 
     -- `main` isn't called
     main_none : (t u : Tree) → L t u → main_call source t ≡ None → main_call form u ≡ None
@@ -205,7 +211,8 @@ module _ (source form : List ℕ) where
     main_not_called e =
         remapped MainCalled (soonest (map (main_call form) (every_node made)))
         (of_none (main_call form) (every_node made)
-        (on_nodes (main_call source) (main_call form) main_none main_fork main_exit (none_of (main_call source) (every_node file) (unmapped MainCalled (soonest (map (main_call source) (every_node file))) e))))
+        (on_nodes (main_call source) (main_call form) main_none main_fork main_exit (none_of (main_call source) (every_node file) (unmapped MainCalled (soonest (map (main_call source)
+        (every_node file))) e))))
 
     -- names
     if_name_none : (r r' : Name → Option ℕ) → ((n m : Name) → SN n m → r n ≡ None → r' m ≡ None) → (a b : Option Name) → Both SN a b → if_name a r ≡ None → if_name b r' ≡ None
@@ -217,20 +224,22 @@ module _ (source form : List ℕ) where
     plain_none : (r r' : Name → Option ℕ) → ((n m : Name) → SN n m → r n ≡ None → r' m ≡ None) → (t u : Tree) → L t u → if_name (plain_name t) r ≡ None → if_name (plain_name u) r' ≡ None
     plain_none r r' each (Node p ts a b) (Node q us a' b') h e =
         ap (λ (z : Option Name). if_name z r') (plain_by q us a' b')
-        ∙ if_name_none r r' each (name_at (is_name_op p) a b) (name_at (is_name_op q) a' b') (same_plain source form p a b q a' b' h.0) (ap (λ (z : Option Name). if_name z r) (sym (plain_by p ts a b)) ∙ e)
+        ∙ if_name_none r r' each (name_at (is_name_op p) a b) (name_at (is_name_op q) a' b') (same_plain source form p a b q a' b' h.0) (ap (λ (z : Option Name). if_name z r) (sym
+        (plain_by p ts a b)) ∙ e)
 
     called_none : (r r' : Name → Option ℕ) → ((n m : Name) → SN n m → r n ≡ None → r' m ≡ None) → (t u : Tree) → L t u → if_name (called_name t) r ≡ None → if_name (called_name u) r' ≡ None
     called_none r r' each (Node p ts a b) (Node q us a' b') h e =
         ap (λ (z : Option Name). if_name z r') (called_by q us a' b')
         ∙ if_name_none r r' each (call_of p) (call_of q) (same_call source form p a b q a' b' h.0) (ap (λ (z : Option Name). if_name z r) (sym (called_by p ts a b)) ∙ e)
 
-    plain_names : (r r' : Name → Option ℕ) → ((n m : Name) → SN n m → r n ≡ None → r' m ≡ None) → NoneAll r (filter_map plain_name (every_node file)) → NoneAll r' (filter_map plain_name (every_node made))
+    plain_names : (r r' : Name → Option ℕ) → ((n m : Name) → SN n m → r n ≡ None → r' m ≡ None) → NoneAll r (filter_map plain_name (every_node file))
+        → NoneAll r' (filter_map plain_name (every_node made))
     plain_names r r' each k =
         none_filter r' plain_name (every_node made)
         (on_nodes (λ t. if_name (plain_name t) r) (λ u. if_name (plain_name u) r') (plain_none r r' each)
-          (λ t (f, a, b, c, d, is, e). subst (λ (z : Tree). NoneAll (λ u. if_name (plain_name u) r') (nodes z)) (sym is) (refl, (refl, tt)))
-          (λ t (f, a, b, c, d, is, e). subst (λ (z : Tree). NoneAll (λ u. if_name (plain_name u) r') (nodes z)) (sym is) (refl, (refl, tt)))
-          (filter_none r plain_name (every_node file) k))
+        (λ t (f, a, b, c, d, is, e). subst (λ (z : Tree). NoneAll (λ u. if_name (plain_name u) r') (nodes z)) (sym is) (refl, (refl, tt)))
+        (λ t (f, a, b, c, d, is, e). subst (λ (z : Tree). NoneAll (λ u. if_name (plain_name u) r') (nodes z)) (sym is) (refl, (refl, tt)))
+        (filter_none r plain_name (every_node file) k))
 
     used_names : (r r' : Name → Option ℕ) → ((n m : Name) → SN n m → r n ≡ None → r' m ≡ None) → NoneAll r (uses file) → NoneAll r' (uses made)
     used_names r r' each k =
@@ -239,10 +248,10 @@ module _ (source form : List ℕ) where
         let two = none_split r (globals file) (locals file) three.0 in
         none_join r' (globals made ++ locals made ++ every_label made) (filter_map plain_name (every_node made))
         (none_join r' (globals made ++ locals made) (every_label made)
-          (none_join r' (globals made) (locals made)
-            (none_pairs SN r r' each (globals file) (globals made) (globals_pairs source form file made same) two.0)
-            (none_pairs SN r r' each (locals file) (locals made) (locals_pairs source form file made same) two.1))
-          (none_pairs SN r r' each (every_label file) (every_label made) (every_label_pairs source form file made same) three.1))
+        (none_join r' (globals made) (locals made)
+        (none_pairs SN r r' each (globals file) (globals made) (globals_pairs source form file made same) two.0)
+        (none_pairs SN r r' each (locals file) (locals made) (locals_pairs source form file made same) two.1))
+        (none_pairs SN r r' each (every_label file) (every_label made) (every_label_pairs source form file made same) three.1))
         (plain_names r r' each four.1)
 
     reserved_none : (n m : Name) → SN n m → reserved source n ≡ None → reserved form m ≡ None
@@ -255,17 +264,28 @@ module _ (source form : List ℕ) where
         let three = none_split (reserved source) (uses file ++ function_places file) (filter_map called_name (every_node file)) all in
         let two = none_split (reserved source) (uses file) (function_places file) three.0 in
         let calls : NoneAll (reserved form) (filter_map called_name (every_node made)) =
-            none_filter (reserved form) called_name (every_node made)
-            (on_nodes (λ t. if_name (called_name t) (reserved source)) (λ u. if_name (called_name u) (reserved form)) (called_none (reserved source) (reserved form) reserved_none)
-              (λ t (f, a, b, c, d, is, e). subst (λ (z : Tree). NoneAll (λ u. if_name (called_name u) (reserved form)) (nodes z)) (sym is) (refl, (place_none (is_reserved (text form f)) f.from (ap is_reserved e), tt)))
-              (λ t (f, a, b, c, d, is, e). subst (λ (z : Tree). NoneAll (λ u. if_name (called_name u) (reserved form)) (nodes z)) (sym is) (place_none (is_reserved (text form f)) f.from (ap is_reserved e), (refl, tt)))
-              (filter_none (reserved source) called_name (every_node file) three.1)) in
+        none_filter (reserved form) called_name (every_node made)
+        (on_nodes (λ t. if_name (called_name t) (reserved source)) (λ u. if_name (called_name u) (reserved form)) (called_none (reserved source) (reserved form) reserved_none)
+        (λ t (f, a, b, c, d, is, e). subst (λ (z : Tree). NoneAll (λ u. if_name (called_name u) (reserved form)) (nodes z)) (sym is) (
+          refl,
+          (
+            place_none (is_reserved (text form f)) f.from
+                (ap is_reserved e),
+            tt,
+          ),
+        ))
+        (λ t (f, a, b, c, d, is, e). subst (λ (z : Tree). NoneAll (λ u. if_name (called_name u) (reserved form)) (nodes z)) (sym is) (
+          place_none (is_reserved (text form f)) f.from
+              (ap is_reserved e),
+          (refl, tt),
+        ))
+        (filter_none (reserved source) called_name (every_node file) three.1)) in
         remapped Reserved (soonest (map (reserved form) (every_name made)))
         (of_none (reserved form) (every_name made)
         (none_join (reserved form) (uses made ++ function_places made) (filter_map called_name (every_node made))
-          (none_join (reserved form) (uses made) (function_places made) (used_names (reserved source) (reserved form) reserved_none two.0)
-            (none_pairs SN (reserved source) (reserved form) reserved_none (function_places file) (function_places made) (places_pairs source form file made same) two.1))
-          calls))
+        (none_join (reserved form) (uses made) (function_places made) (used_names (reserved source) (reserved form) reserved_none two.0)
+        (none_pairs SN (reserved source) (reserved form) reserved_none (function_places file) (function_places made) (places_pairs source form file made same) two.1))
+        calls))
 
     -- the forms of calls
     function_name_none : (n m : Name) → SN n m → function_name source file n ≡ None → function_name form made m ≡ None
@@ -283,7 +303,8 @@ module _ (source form : List ℕ) where
 
     misplaced_none : (a b : Option Tree) (t u : Tree) → Both L a b → L t u → soonest (misplaced source file a t) ≡ None → soonest (misplaced form made b u) ≡ None
     misplaced_none None None t u h k e =
-        of_none (defined_call form made) (nodes u) (none_pairs L (defined_call source file) (defined_call form made) defined_none (nodes t) (nodes u) (nodes_alike source form t u k) (none_of (defined_call source file) (nodes t) e))
+        of_none (defined_call form made) (nodes u) (none_pairs L (defined_call source file) (defined_call form made) defined_none (nodes t) (nodes u) (nodes_alike source form t u k) (none_of
+        (defined_call source file) (nodes t) e))
     misplaced_none None (Some y) t u h k e = absurd h
     misplaced_none (Some x) None t u h k e = absurd h
     misplaced_none (Some x) (Some y) t u h k e =
@@ -291,11 +312,12 @@ module _ (source form : List ℕ) where
         let both = neither first (soonest (map (defined_call source file) (nodes_in (parts_of x)))) e in
         let parts = parts_alike x y h in
         let here : cond (list_any is_call (nodes_in (parts_of y))) (defined_call form made y) None ≡ None =
-            cond_none (list_any is_call (nodes_in (parts_of x))) (list_any is_call (nodes_in (parts_of y))) (defined_call source file x) (defined_call form made y)
-            (any_calls_alike source form (nodes_in (parts_of x)) (nodes_in (parts_of y)) parts) (defined_none x y h) both.0 in
+        cond_none (list_any is_call (nodes_in (parts_of x))) (list_any is_call (nodes_in (parts_of y))) (defined_call source file x) (defined_call form made y)
+        (any_calls_alike source form (nodes_in (parts_of x)) (nodes_in (parts_of y)) parts) (defined_none x y h) both.0 in
         ap (λ (z : Option ℕ). sooner z (soonest (map (defined_call form made) (nodes_in (parts_of y))))) here
         ∙ of_none (defined_call form made) (nodes_in (parts_of y))
-          (none_pairs L (defined_call source file) (defined_call form made) defined_none (nodes_in (parts_of x)) (nodes_in (parts_of y)) parts (none_of (defined_call source file) (nodes_in (parts_of x)) both.1))
+        (none_pairs L (defined_call source file) (defined_call form made) defined_none (nodes_in (parts_of x)) (nodes_in (parts_of y)) parts (none_of (defined_call source file) (nodes_in
+        (parts_of x)) both.1))
 
     standing_alike : (w v : Whole) → SameWhole source form w v → Both L (standing_call w) (standing_call v)
     standing_alike w v h = by w.stands v.stands h.1
@@ -310,20 +332,22 @@ module _ (source form : List ℕ) where
     form_none w v h e =
         let both = neither (soonest (misplaced source file (standing_call w) w.tree)) (second_external source file w.tree) e in
         let first = misplaced_none (standing_call w) (standing_call v) w.tree v.tree (standing_alike w v h) h.0 both.0 in
-        let long = calls_long source form (λ f. not (is_defined source file (text source f))) (λ f. not (is_defined form made (text form f))) (λ n m k. ap not (is_found_at n m k)) (nodes w.tree) (nodes v.tree)
-            (nodes_alike source form w.tree v.tree h.0) in
-        let second : second_external form made v.tree ≡ None = second_none source form (filter_map (external_call source file) (nodes w.tree)) (filter_map (external_call form made) (nodes v.tree)) long both.1 in
+        let long = calls_long source form (λ f. not (is_defined source file (text source f))) (λ f. not (is_defined form made (text form f))) (λ n m k. ap not (is_found_at n m k))
+        (nodes w.tree) (nodes v.tree)
+        (nodes_alike source form w.tree v.tree h.0) in
+        let second : second_external form made v.tree ≡ None = second_none source form (filter_map (external_call source file) (nodes w.tree)) (filter_map (external_call form made)
+        (nodes v.tree)) long both.1 in
         ap (λ (z : Option ℕ). sooner z (second_external form made v.tree)) first ∙ second
 
     -- of `!fork()` and `_exit(0)`
     one_call : (test : Name → Bool) (f : Name) (a b c d : ℕ) → test f ≡ false
         → sooner (soonest (map (call_if test) (nodes (Node (op.Prefix 2) (more (Node (op.Call f) none a b) none) c d))))
-            (slice_get (filter_map (call_if (λ g. not (test g))) (nodes (Node (op.Prefix 2) (more (Node (op.Call f) none a b) none) c d))) 1) ≡ None
+        (slice_get (filter_map (call_if (λ g. not (test g))) (nodes (Node (op.Prefix 2) (more (Node (op.Call f) none a b) none) c d))) 1) ≡ None
     one_call test f a b c d e = rw e refl
 
     exit_call : (test : Name → Bool) (f : Name) (a b c d : ℕ) → test f ≡ false
         → sooner (soonest (cond false (call_if test (Node (op.Call f) (more (Node (op.Number 0) none a b) none) c d)) None ∷ map (call_if test) (nodes_in (more (Node (op.Number 0) none a b) none))))
-            (slice_get (filter_map (call_if (λ g. not (test g))) (nodes (Node (op.Call f) (more (Node (op.Number 0) none a b) none) c d))) 1) ≡ None
+        (slice_get (filter_map (call_if (λ g. not (test g))) (nodes (Node (op.Call f) (more (Node (op.Number 0) none a b) none) c d))) 1) ≡ None
     exit_call test f a b c d e = rw e refl
 
     form_fork : (t : Tree) → IsFork source form t → wrong_form form made (inner t) ≡ None
@@ -344,10 +368,11 @@ module _ (source form : List ℕ) where
     unfolding call_form
     call_forms e =
         let both = neither (soonest (map (function_name source file) (uses file))) (soonest (map (wrong_form source file) (every_whole file)))
-            (unmapped CallForm (sooner (soonest (map (function_name source file) (uses file))) (soonest (map (wrong_form source file) (every_whole file)))) e) in
-        let first = of_none (function_name form made) (uses made) (used_names (function_name source file) (function_name form made) function_name_none (none_of (function_name source file) (uses file) both.0)) in
+        (unmapped CallForm (sooner (soonest (map (function_name source file) (uses file))) (soonest (map (wrong_form source file) (every_whole file)))) e) in
+        let first = of_none (function_name form made) (uses made) (used_names (function_name source file) (function_name form made) function_name_none (none_of (function_name source file)
+        (uses file) both.0)) in
         let wholes = wholes_made source form (λ w. wrong_form source file w ≡ None) (λ v. wrong_form form made v ≡ None) form_none form_fork form_exit file made same
-            (all_none_of (wrong_form source file) (every_whole file) (none_of (wrong_form source file) (every_whole file) both.1)) in
+        (all_none_of (wrong_form source file) (every_whole file) (none_of (wrong_form source file) (every_whole file) both.1)) in
         let second = of_none (wrong_form form made) (every_whole made) (none_all_of (wrong_form form made) (every_whole made) wholes) in
         remapped CallForm (sooner (soonest (map (function_name form made) (uses made))) (soonest (map (wrong_form form made) (every_whole made))))
         (ap (λ (z : Option ℕ). sooner z (soonest (map (wrong_form form made) (every_whole made)))) first ∙ second)
@@ -359,19 +384,22 @@ module _ (source form : List ℕ) where
         remapped Jump (soonest (map (loose source form) (every_statement made)))
         (of_none (loose source form) (every_statement made)
         (jumps_stand source form (every_statement file) (every_statement made) (statements_stand source form file.functions made.functions same.functions)
-          (none_of (loose source form) (every_statement file) (unmapped Jump (soonest (map (loose source form) (every_statement file))) e))))
+        (none_of (loose source form) (every_statement file) (unmapped Jump (soonest (map (loose source form) (every_statement file))) e))))
 
     limits_kept : limit source file (every_label file) ≡ None → limit form made (every_label made) ≡ None
     unfolding limit
     limits_kept e =
         let functions = pairs_length (SameFunction source form) file.functions made.functions same.functions in
         let labels = different_same [] (every_label file) (every_label made) (every_label_pairs source form file made same) in
-        ap (λ (n : ℕ). cond (nat_lt (limit_of Functions) n) (Some (Limit Functions)) (cond (nat_lt (limit_of Labels) (length (different form [] (every_label made)))) (Some (Limit Labels)) None)) functions
-        ∙ ap (λ (l : List (List ℕ)). cond (nat_lt (limit_of Functions) (length file.functions)) (Some (Limit Functions)) (cond (nat_lt (limit_of Labels) (length l)) (Some (Limit Labels)) None)) labels ∙ e
+        ap (λ (n : ℕ). cond (nat_lt (limit_of Functions) n) (Some (Limit Functions)) (cond (nat_lt (limit_of Labels) (length (different form [] (every_label made)))) (Some
+        (Limit Labels)) None)) functions
+        ∙ ap (λ (l : List (List ℕ)). cond (nat_lt (limit_of Functions) (length file.functions)) (Some (Limit Functions)) (cond (nat_lt (limit_of Labels) (length l)) (Some
+        (Limit Labels)) None)) labels ∙ e
 
     pub scope_kept : scope_fault source file ≡ None → scope_fault form made ≡ None
     scope_kept e =
         let k = nine_of _ _ _ _ _ _ _ _ _ e in
-        of_nine (no_main form made) (two_functions form made) (two_labels form made) (arity form made (every_node made)) (call_form form made (uses made) (every_whole made)) (main_called form (every_node made))
+        of_nine (no_main form made) (two_functions form made) (two_labels form made) (arity form made (every_node made)) (call_form form made (uses made) (every_whole made))
+        (main_called form (every_node made))
         (reserved_name form (every_name made)) (jump (every_statement made)) (limit form made (every_label made))
         (main_there k.0, functions_once k.1, labels_once k.2, arities k.3, call_forms k.4, main_not_called k.5, reserved_kept k.6, jumps_kept k.7, limits_kept k.8)

@@ -1,11 +1,9 @@
 -- Pieces that stand one after the other, where the bytes behind them are others.
-use Rattle.std.proofs.Common.{◌≡◌, ◌⊎◌, ℕ, zero, suc, ◌+◌, ◌-◌, ◌<◌, ◌≤◌, Bool, true, false, eqb, ◌||◌, List, [], ◌∷◌, ◌++◌, map, length, drop, take, refl, sym, ap, subst, ◌∙◌, arith, inl, inr, length-drop, drop-drop}
-use Rattle.std.specs.Prelude.{codes}
+use Rattle.std.proofs.Common.{◌≡◌, ℕ, ◌+◌, ◌-◌, ◌<◌, ◌≤◌, Bool, false, eqb, ◌||◌, List, [], ◌∷◌, ◌++◌, map, length, drop, take, refl, sym, ap, subst, ◌∙◌, arith, inl}
+use Rattle.std.proofs.Common.{length-drop, drop-drop}
 use Rattle.std.specs.List.{list_any}
-use Rattle.std.proofs.lemmas.List.{append-nil, append_assoc, take-append-drop, drop-append-le, take-append-le, take-take, drop-take, length-take-le, map-append}
+use Rattle.std.proofs.lemmas.List.{append-nil, append_assoc, take-append-drop, drop-append-le, take-append-le, take-take, drop-take, length-take-le}
 use Rattle.cw_syntax.specs.Names.{slice}
-use Rattle.cw_lex.specs.declared.tokens.TokenKind.{TokenKind}
-use Rattle.cw_lex.specs.declared.tokens.TokenKind.TheVariants as kind
 use Rattle.cw_lex.specs.declared.tokens.Token.{Token}
 use Rattle.cw_lex.specs.declared.piece.Front.{Front}
 use Rattle.cw_lex.specs.declared.piece.Front.TheVariants as piece
@@ -63,15 +61,18 @@ stand_ahead (p ∷ ps) f g w a b r s fo long h =
     let le : size p ≤ length w = omega arith in
     let whole : take (size p) w ++ drop (size p) w ≡ w = take-append-drop (size p) w in
     let here : piece_at f (w ++ b ∷ s) ≡ p = subst (λ (z : List ℕ). piece_at f (z ++ b ∷ s) ≡ p) whole
-        (piece_step f (take (size p) w) (drop (size p) w) a b r s p fo h.1 (sym (length-take-le (size p) w le)) (subst (λ (z : List ℕ). piece_at f (z ++ a ∷ r) ≡ p) (sym whole) h.0)) in
+    (piece_step f (take (size p) w) (drop (size p) w) a b r s p fo h.1 (sym (length-take-le (size p) w le)) (subst (λ (z : List ℕ). piece_at f (z ++ a ∷ r) ≡ p) (sym whole) h.0)) in
     let first : drop (size p) (w ++ a ∷ r) ≡ drop (size p) w ++ a ∷ r = drop-append-le (size p) w (a ∷ r) le in
     let second : drop (size p) (w ++ b ∷ s) ≡ drop (size p) w ++ b ∷ s = drop-append-le (size p) w (b ∷ s) le in
     let flag : fresh_behind f p (w ++ a ∷ r) ≡ fresh_behind f p (w ++ b ∷ s) = fresh_same f p w (a ∷ r) (b ∷ s) le in
     let rest : Stand (fresh_behind f p (w ++ b ∷ s)) (drop (size p) w ++ a ∷ r) ps g (a ∷ r) =
-        subst (λ (x : Bool). Stand x (drop (size p) w ++ a ∷ r) ps g (a ∷ r)) flag (subst (λ (z : List ℕ). Stand (fresh_behind f p (w ++ a ∷ r)) z ps g (a ∷ r)) first h.2) in
-    let count : total ps ≡ length (drop (size p) w) = omega (arith, long, length-drop (size p) w) in
-    (here, h.1, subst (λ (z : List ℕ). Stand (fresh_behind f p (w ++ b ∷ s)) z ps g (b ∷ s)) (sym second)
-      (stand_ahead ps (fresh_behind f p (w ++ b ∷ s)) g (drop (size p) w) a b r s fo count rest))
+    subst (λ (x : Bool). Stand x (drop (size p) w ++ a ∷ r) ps g (a ∷ r)) flag (subst (λ (z : List ℕ). Stand (fresh_behind f p (w ++ a ∷ r)) z ps g (a ∷ r)) first h.2) in
+    let count : total ps ≡ length (drop (size p) w) = omega (arith, long, length-drop (size p) w) in (
+      here,
+      h.1,
+      subst (λ (z : List ℕ). Stand (fresh_behind f p (w ++ b ∷ s)) z ps g (b ∷ s)) (sym second)
+          (stand_ahead ps (fresh_behind f p (w ++ b ∷ s)) g (drop (size p) w) a b r s fo count rest),
+    )
 
 -- ---- up to a token
 
@@ -194,19 +195,18 @@ module _ (source form : List ℕ) (d : ℕ) where
   tokens_same (piece.Gap n ∷ ps) p at m place same le =
       let on = take_on m n (drop p form) (drop at source) (omega arith) same in
       let there : take (m - n) (drop (p + n) form) ≡ take (m - n) (drop (at + n) source) =
-          ap (take (m - n)) (sym (drop-drop n p form)) ∙ on ∙ ap (take (m - n)) (drop-drop n at source) in
+      ap (take (m - n)) (sym (drop-drop n p form)) ∙ on ∙ ap (take (m - n)) (drop-drop n at source) in
       tokens_same ps (p + n) (at + n) (m - n) (omega arith) there (omega arith)
   tokens_same (piece.Token k n ∷ ps) p at m place same le =
       let on = take_on m n (drop p form) (drop at source) (omega arith) same in
       let there : take (m - n) (drop (p + n) form) ≡ take (m - n) (drop (at + n) source) =
-          ap (take (m - n)) (sym (drop-drop n p form)) ∙ on ∙ ap (take (m - n)) (drop-drop n at source) in
+      ap (take (m - n)) (sym (drop-drop n p form)) ∙ on ∙ ap (take (m - n)) (drop-drop n at source) in
       let rest = tokens_same ps (p + n) (at + n) (m - n) (omega arith) there (omega arith) in
       let text : slice form p (p + n) ≡ slice source at (at + n) =
-          slice_take form p n ∙ take_less m n (drop p form) (drop at source) (omega arith) same ∙ sym (slice_take source at n) in
-      let end : p + n ≡ at + n + d = omega arith in
-      (
+      slice_take form p n ∙ take_less m n (drop p form) (drop at source) (omega arith) same ∙ sym (slice_take source at n) in
+      let end : p + n ≡ at + n + d = omega arith in (
         ap (λ (z : List Lexeme). lexeme_of form (record { kind = k; from = p; to = p + n }) ∷ z) rest.0
-        ∙ ap (λ (z : Lexeme). z ∷ map (moved d) (lexemes_of source (tokens_of (at + n) ps)))
+            ∙ ap (λ (z : Lexeme). z ∷ map (moved d) (lexemes_of source (tokens_of (at + n) ps)))
             (same_lexeme (word_of k (slice form p (p + n))) (word_of k (slice source at (at + n))) p (at + d) (p + n) (at + n + d) (ap (word_of k) text) place end),
         (rw (sym place, sym end) text, rest.1),
       )

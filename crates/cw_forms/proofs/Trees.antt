@@ -1,15 +1,14 @@
 -- Trees that are alike have alike trees in them, and call functions of one name.
-use Rattle.std.proofs.Common.{◌≡◌, ℕ, zero, suc, ◌+◌, Bool, true, false, cond, not, ◌&&◌, is_some, List, [], ◌∷◌, ◌++◌, map, length, Option, None, Some, slice_get, refl, sym, ap, subst, ◌∙◌, arith}
-use Rattle.std.specs.List.{filter_map, list_any, flat_map}
+use Rattle.std.proofs.Common.{◌≡◌, ℕ, zero, suc, ◌+◌, Bool, true, false, cond, ◌&&◌, is_some, List, [], ◌∷◌, ◌++◌, map, length, Option, None, Some, slice_get, refl, sym, ap, subst, ◌∙◌, arith}
+use Rattle.std.specs.List.{filter_map, list_any}
 use Rattle.cw_syntax.specs.declared.program.Name.{Name}
 use Rattle.cw_syntax.specs.declared.program.Op.{Op}
 use Rattle.cw_syntax.specs.declared.program.Op.TheVariants as op
-use Rattle.cw_syntax.specs.Names.{slice, text}
 use Rattle.cw_syntax.specs.Trees.{Tree, Node, Trees, none, more}
 use Rattle.cw_scope.specs.Walks.{nodes, nodes_in}
 use Rattle.cw_scope.specs.Names.{plain_name, called_name}
-use Rattle.cw_scope.specs.Rules.{at_if, count, parts_of, is_call, call_if, statement_call}
-use Rattle.cw_resolve.specs.Soonest.{sooner, soonest}
+use Rattle.cw_scope.specs.Rules.{at_if, count, is_call, call_if, statement_call}
+use Rattle.cw_resolve.specs.Soonest.{soonest}
 use Rattle.cw_source.proofs.Landing.{neither}
 use Rattle.cw_forms.specs.Moved.{Pairs, SameName, SameOp, Alike, AllAlike}
 use Rattle.cw_forms.specs.Declared.{Both}
@@ -37,7 +36,8 @@ pub none_join : {X : Type 0} (f : X → Option ℕ) (xs ys : List X) → NoneAll
 none_join f [] ys h k = k
 none_join f (x ∷ xs) ys h k = (h.0, none_join f xs ys h.1 k)
 
-pub none_pairs : {X Y : Type 0} (R : X → Y → Type 0) (f : X → Option ℕ) (g : Y → Option ℕ) → ((x : X) (y : Y) → R x y → f x ≡ None → g y ≡ None) → (xs : List X) (ys : List Y) → Pairs R xs ys → NoneAll f xs → NoneAll g ys
+pub none_pairs : {X Y : Type 0} (R : X → Y → Type 0) (f : X → Option ℕ) (g : Y → Option ℕ) → ((x : X) (y : Y) → R x y → f x ≡ None → g y ≡ None) → (xs : List X) (ys : List Y)
+    → Pairs R xs ys → NoneAll f xs → NoneAll g ys
 none_pairs R f g each [] [] h k = tt
 none_pairs R f g each [] (y ∷ ys) h k = absurd h
 none_pairs R f g each (x ∷ xs) [] h k = absurd h
@@ -88,7 +88,8 @@ plain_by _ ts a b = refl
 abbrev pub assigned : Bool → Tree → Option Tree
 assigned named (Node p ts a b) = cond (named && is_some (call_of p)) (Some (Node p ts a b)) None
 
-pub assigned_by : (x q : Op) (xs ts : Trees) (a b c d from to : ℕ) → statement_call (Node (op.Assign 0) (more (Node x xs a b) (more (Node q ts c d) none)) from to) ≡ assigned (is_name_op x) (Node q ts c d)
+pub assigned_by : (x q : Op) (xs ts : Trees) (a b c d from to : ℕ)
+    → statement_call (Node (op.Assign 0) (more (Node x xs a b) (more (Node q ts c d) none)) from to) ≡ assigned (is_name_op x) (Node q ts c d)
 assigned_by op.Name (op.Call f) xs ts a b c d from to = refl
 assigned_by op.Name _ xs ts a b c d from to = refl
 assigned_by _ q xs ts a b c d from to = refl

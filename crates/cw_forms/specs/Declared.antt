@@ -2,7 +2,7 @@
 use Rattle.std.specs.Prelude.{◌≡◌, ℕ, ◌+◌, List, Option, None, Some}
 use Rattle.cw_syntax.specs.declared.program.Name.{Name}
 use Rattle.cw_syntax.specs.declared.program.Param.{Param}
-use Rattle.cw_syntax.specs.Trees.{Tree, Declared, Declaration, Prototype}
+use Rattle.cw_syntax.specs.Trees.{Declared, Declaration, Prototype}
 use Rattle.cw_forms.specs.Moved.{Pairs, SameName, Alike, AllAlike}
 
 -- both or none is there, and they are in a relation

@@ -24,5 +24,6 @@ FormsAreRead = (source : List ℕ) (file : File) (policy : PlainPolicy) → Read
 
 -- And none of the reader's refusals is due for it.
 abbrev pub FormsAreNotRefused : Type 0
-FormsAreNotRefused = (source : List ℕ) (file : File) (policy : PlainPolicy) (fault : SourceFault) → ReadsAs source file → descriptor_fault source file policy ≡ None → IsFirstFault source file policy None
+FormsAreNotRefused = (source : List ℕ) (file : File) (policy : PlainPolicy) (fault : SourceFault) → ReadsAs source file → descriptor_fault source file policy ≡ None
+    → IsFirstFault source file policy None
     → fault ≢ NoMemory → IsFaultOf (form_of source policy.detached file) fault → ⊥

@@ -1,11 +1,10 @@
 -- Tokens that lie further back, and trees that are alike but for places.
-use Rattle.std.specs.Prelude.{◌≡◌, ℕ, ◌+◌, Bool, List, [], ◌∷◌, Option, None, Some}
+use Rattle.std.specs.Prelude.{◌≡◌, ℕ, ◌+◌, List, [], ◌∷◌}
 use Rattle.cw_syntax.specs.declared.program.Name.{Name}
 use Rattle.cw_syntax.specs.declared.program.Op.{Op}
 use Rattle.cw_syntax.specs.declared.program.Op.TheVariants as op
-use Rattle.cw_syntax.specs.declared.program.Param.{Param}
 use Rattle.cw_syntax.specs.Names.{slice, text}
-use Rattle.cw_syntax.specs.Trees.{Tree, Node, Trees, none, more, Declared, Declaration, Prototype}
+use Rattle.cw_syntax.specs.Trees.{Tree, Node, Trees, none, more}
 use Rattle.cw_grammar.specs.declared.words.Lexeme.{Lexeme}
 
 -- the token, so many bytes further back
