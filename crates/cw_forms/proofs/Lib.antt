@@ -16,4 +16,4 @@ mod Trees
 mod Lists
 mod Scope
 mod Descriptors
-mod Free
+pub mod Free
