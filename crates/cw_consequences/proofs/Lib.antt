@@ -8,6 +8,7 @@ mod Causes
 mod Each
 mod Fits
 mod Formed
+mod FormsRead
 mod Likes
 mod Outcomes
 mod Parted
