@@ -136,20 +136,26 @@ module _ (source form : List ℕ) (names : List (List ℕ)) (limit : ℕ) (enoug
   abbrev K : List Lexeme → ℕ → List Lexeme → Type 0
   K ts d us = KeptAs source form names ts d us
 
-  abbrev MadeAll : List Placed → ℕ → List Lexeme → Type 0
-  MadeAll ps d us = (ss : List Statement) × AreAll (IsStatement limit limit InBlock) us ss × StandFor source form ps (placed_all false (statements ss))
+  abbrev MadeAll : List Placed → (v : ℕ) → ℕ → List Lexeme → Type 0
+  MadeAll ps v d us =
+      (ss : List Statement) × AreAll (IsStatement limit limit InBlock) us ss × StandFor source form ps (placed_all false (statements ss)) × (nesting_all form [] (statements ss) ≡ v)
+
+  -- one function nests as deep in the form as the other was reckoned to
+  abbrev pub NestsAs : Definition → Definition → Type 0
+  NestsAs f g = nesting_all form [] g.body ≡ nesting_all source names f.body
 
   abbrev MadeFunction : Definition → ℕ → List Lexeme → Type 0
-  MadeFunction f d us = (g : Definition) × IsFunction limit us g × SameFunction source form f g × (g.name.from ≡ f.name.from + d)
+  MadeFunction f d us = (g : Definition) × IsFunction limit us g × SameFunction source form f g × (g.name.from ≡ f.name.from + d) × NestsAs f g
 
   function_formed : (ts : List Lexeme) (f : Definition) → IsFunction limit ts f → nesting_all source names f.body ≤ limit → P ts (body_of f) (MadeFunction f)
   function_formed ts f (header, o, x, c, body, whole, header_is, named, opens, brace, all, body_is, closes) deep =
       let ps = placed_all false (statements body) in
       let low : nesting_all source names (statements body) ≤ limit = subst (λ (z : Statements). nesting_all source names z ≤ limit) body_is deep in
+      let w = nesting_all source names (statements body) in
       let spans : pairs_in source names (body_of f) ≡ pairs_in source names (ps ++ []) =
       ap (λ (z : Statements). pairs_in source names (placed_all false z)) body_is ∙ ap (pairs_in source names) (sym (append-nil ps)) in
       part_as source form names (header ++ (o ∷ (x ++ c ∷ []))) ts (ps ++ []) (body_of f)
-      (Then source form names (K header) (Then source form names (K (o ∷ [])) (Then source form names (MadeAll ps) (K (c ∷ []))))) (MadeFunction f) whole spans
+      (Then source form names (K header) (Then source form names (K (o ∷ [])) (Then source form names (MadeAll ps w) (K (c ∷ []))))) (MadeFunction f) whole spans
       (λ d us t. (
       let u = t.5 in
       let v = u.5 in
@@ -160,11 +166,11 @@ module _ (source form : List ℕ) (names : List (List ℕ)) (limit : ℕ) (enoug
       (u.3 ∙ ap (λ (z : List Lexeme). z ++ u.1) u.4.0 ∙ ap (λ (z : List Lexeme). moved t.2 o ∷ z) (v.3 ∙ ap (λ (z : List Lexeme). v.0 ++ z) v.5.0)) in
       let g : Definition = record { name = r.0; result = f.result; params = r.1; brace = (moved t.2 o).to; body = statements v.4.0 } in
       let stand : StandFor source form (body_of f) (body_of g) = subst (λ (z : Statements). StandFor source form (placed_all false z) (body_of g)) (sym body_is) v.4.2 in
-      (g, (map (moved d) header, moved t.2 o, v.0, moved v.2 c, v.4.0, us_is, r.2, params_named source form f.params r.1 r.4 named, opens, refl, v.4.1, refl, closes), (d, r.3, r.4, stand), r.3.1)))
-      (part_then source form names header (o ∷ (x ++ c ∷ [])) [] (ps ++ []) (K header) (Then source form names (K (o ∷ [])) (Then source form names (MadeAll ps) (K (c ∷ []))))
+      (g, (map (moved d) header, moved t.2 o, v.0, moved v.2 c, v.4.0, us_is, r.2, params_named source form f.params r.1 r.4 named, opens, refl, v.4.1, refl, closes), (d, r.3, r.4, stand), r.3.1, v.4.3 ∙ sym (ap (nesting_all source names) body_is))))
+      (part_then source form names header (o ∷ (x ++ c ∷ [])) [] (ps ++ []) (K header) (Then source form names (K (o ∷ [])) (Then source form names (MadeAll ps w) (K (c ∷ []))))
       (kept_part source form names header)
-      (part_then source form names (o ∷ []) (x ++ c ∷ []) [] (ps ++ []) (K (o ∷ [])) (Then source form names (MadeAll ps) (K (c ∷ []))) (kept_part source form names (o ∷ []))
-      (part_then source form names x (c ∷ []) ps [] (MadeAll ps) (K (c ∷ []))
+      (part_then source form names (o ∷ []) (x ++ c ∷ []) [] (ps ++ []) (K (o ∷ [])) (Then source form names (MadeAll ps w) (K (c ∷ []))) (kept_part source form names (o ∷ []))
+      (part_then source form names x (c ∷ []) ps [] (MadeAll ps w) (K (c ∷ []))
       (all_formed source form names limit enough limit limit (statement_formed source form names limit enough limit limit) x body false all low) (kept_part source form names (c ∷ [])))))
 
   -- functions lie so many bytes further back, or more
@@ -217,6 +223,7 @@ module _ (source form : List ℕ) (names : List (List ℕ)) (limit : ℕ) (enoug
   abbrev MadeFile : List FilePart → ℕ → List Lexeme → Type 0
   MadeFile parts d us =
       (made : List FilePart) × AreAll (IsPart limit) us made × SameFile source form (file_of parts) (file_of made) × Behind d (file_of parts).functions (file_of made).functions
+      × Pairs NestsAs (file_of parts).functions (file_of made).functions
 
   abbrev AreShallow : List Definition → Type 0
   AreShallow [] = Unit {0}
@@ -228,7 +235,7 @@ module _ (source form : List ℕ) (names : List (List ℕ)) (limit : ℕ) (enoug
   pub parts_formed : (parts : List FilePart) (ts : List Lexeme) (lo hi : ℕ) → AreAll (IsPart limit) ts parts → Lie lo hi ts → AreShallow (file_of parts).functions
       → P ts (bodies parts) (MadeFile parts)
   parts_formed [] ts lo hi none lie low =
-      part_as source form names [] ts [] [] (K []) (MadeFile []) none refl (λ d us k. ([], k.0, record { protos = tt; globals = tt; functions = tt; before = tt }, tt))
+      part_as source form names [] ts [] [] (K []) (MadeFile []) none refl (λ d us k. ([], k.0, record { protos = tt; globals = tt; functions = tt; before = tt }, tt, tt))
       (kept_part source form names [])
   parts_formed (Declares x ∷ parts) ts lo hi (a, b, whole, first, rest) lie low =
       let p = split lo hi a b (subst (λ (z : List Lexeme). Lie lo hi z) whole lie) in
@@ -240,6 +247,7 @@ module _ (source form : List ℕ) (names : List (List ℕ)) (limit : ℕ) (enoug
         (map (moved d) a, t.1, t.3 ∙ ap (λ (z : List Lexeme). z ++ t.1) t.4.0, r.1, t.5.1),
         record { protos = (r.2, h.protos); globals = h.globals; functions = h.functions; before = h.before },
         behind_less d t.2 _ _ t.6 t.5.3,
+        t.5.4,
       )))
       (part_then source form names a b [] (bodies parts) (K a) (MadeFile parts) (kept_part source form names a) (parts_formed parts b p.0 hi rest p.2 low))
   parts_formed (Holds x ∷ parts) ts lo hi (a, b, whole, first, rest) lie low =
@@ -253,6 +261,7 @@ module _ (source form : List ℕ) (names : List (List ℕ)) (limit : ℕ) (enoug
         (map (moved d) a, t.1, t.3 ∙ ap (λ (z : List Lexeme). z ++ t.1) t.4.0, r.1, t.5.1),
         record { protos = h.protos; globals = ((d, r.2), h.globals); functions = h.functions; before = (items_before d _ _ x.items r.0.items behind r.2.2, h.before) },
         behind,
+        t.5.4,
       )))
       (part_then source form names a b [] (bodies parts) (K a) (MadeFile parts) (kept_part source form names a) (parts_formed parts b p.0 hi rest p.2 low))
   parts_formed (Defines f ∷ parts) ts lo hi (a, b, whole, first, rest) lie low =
@@ -268,6 +277,7 @@ module _ (source form : List ℕ) (names : List (List ℕ)) (limit : ℕ) (enoug
         (t.0, t.1, t.3, t.4.1, t.5.1),
         record { protos = h.protos; globals = h.globals; functions = (t.4.2, h.functions); before = globals_behind f t.4.0 _ _ p.0 _ _ own others h.before },
         ((omega (arith, moved_by)), behind_less d t.2 _ _ t.6 t.5.3),
+        (t.4.4, t.5.4),
       )))
       (part_then source form names a b (body_of f) (bodies parts) (MadeFunction f) (MadeFile parts) (function_formed a f first low.0) (parts_formed parts b p.0 hi rest p.2 low.1))
 

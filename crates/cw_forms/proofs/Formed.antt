@@ -1,11 +1,13 @@
 -- What derives a source derives its form, of the tokens that stand there for those of the source.
+use Rattle.std.proofs.Common.{max}
 use Rattle.std.proofs.Common.{◌≡◌, ℕ, zero, suc, ◌+◌, ◌<◌, ◌≤◌, Bool, true, false, cond, List, [], ◌∷◌, ◌++◌, map, Option, None, refl, sym, ap, ap₂, subst, ◌∙◌, arith}
 use Rattle.std.proofs.Common.{inl, inr}
 use Rattle.std.proofs.lemmas.List.{append-nil, append_assoc}
-use Rattle.std.proofs.Math.Nat.{le-max_left, le-max_right}
+use Rattle.std.proofs.Math.Nat.{le-max_left, le-max_right, max-eq_left}
 use Rattle.cw_syntax.specs.declared.program.Name.{Name}
-use Rattle.cw_syntax.specs.Trees.{Tree, Statement, Stated, Form, Block, Declares, Evaluates, Empties, Labels, Chooses, Whiles, Does, Fors, Breaks, Continues, Returns, Perhaps, nothing, just}
-use Rattle.cw_syntax.specs.Trees.{Statements}
+use Rattle.cw_syntax.specs.declared.program.Op.TheVariants as op
+use Rattle.cw_syntax.specs.Trees.{Tree, Node, Statement, Stated, Form, Block, Declares, Evaluates, Empties, Labels, Chooses, Whiles, Does, Fors, Breaks, Continues, Returns, Perhaps, nothing, just}
+use Rattle.cw_syntax.specs.Trees.{Statements, nil, cons}
 use Rattle.cw_grammar.specs.declared.words.Word.TheVariants as w
 use Rattle.cw_grammar.specs.declared.words.Lexeme.{Lexeme}
 use Rattle.cw_grammar.specs.declared.rules.Rule.TheVariants.{Expression}
@@ -82,6 +84,15 @@ last_to : (t : Lexeme) (ys : List Lexeme) (c : Lexeme) → to_of (t ∷ (ys ++ c
 last_to t [] c = refl
 last_to t (y ∷ ys) c = last_to y ys c
 
+-- ---- how deep it nests
+
+calls_none : (source : List ℕ) (t : Tree) → calls_one source [] t ≡ false
+calls_none source (Node (op.Call f) parts from to) = refl
+calls_none source (Node _ parts from to) = refl
+
+no_arm : (n : ℕ) → max n 0 + 1 ≡ n + 1
+no_arm n = let le : 0 ≤ n = omega arith in ap (λ (j : ℕ). j + 1) (max-eq_left le)
+
 -- ---- statements
 
 module _ (source form : List ℕ) (names : List (List ℕ)) (limit : ℕ) (enough : 2 ≤ limit) where
@@ -91,11 +102,12 @@ module _ (source form : List ℕ) (names : List (List ℕ)) (limit : ℕ) (enoug
   abbrev m : ℕ → List Lexeme → List Lexeme
   m d ts = map (moved d) ts
 
-  abbrev Made : ℕ → Place → Bool → List Placed → ℕ → List Lexeme → Type 0
-  Made n place looped ps d us = (st : Statement) × IsStatement limit n place us st × StandFor source form ps (placed looped st)
+  abbrev Made : ℕ → Place → Bool → List Placed → (v : ℕ) → ℕ → List Lexeme → Type 0
+  Made n place looped ps v d us = (st : Statement) × IsStatement limit n place us st × StandFor source form ps (placed looped st) × (nesting form [] st ≡ v)
 
-  abbrev MadeAll : ℕ → Bool → List Placed → ℕ → List Lexeme → Type 0
-  MadeAll n looped ps d us = (ss : List Statement) × AreAll (IsStatement limit n InBlock) us ss × StandFor source form ps (placed_all looped (statements ss))
+  abbrev MadeAll : ℕ → Bool → List Placed → (v : ℕ) → ℕ → List Lexeme → Type 0
+  MadeAll n looped ps v d us =
+      (ss : List Statement) × AreAll (IsStatement limit n InBlock) us ss × StandFor source form ps (placed_all looped (statements ss)) × (nesting_all form [] (statements ss) ≡ v)
 
   abbrev P : List Lexeme → List Placed → (ℕ → List Lexeme → Type 0) → Type 0
   P ts ps R = Part source form names ts ps R
@@ -141,15 +153,20 @@ module _ (source form : List ℕ) (names : List (List ℕ)) (limit : ℕ) (enoug
   -- a statement without statements in it
   alone : (n : ℕ) (place : Place) (ts : List Lexeme) (fm : Form) (looped : Bool) → placed_within looped fm ≡ [] → pair_at source names fm (from_of ts) (to_of ts) ≡ None
       → ((d : ℕ) → AreKept source form d ts → (made : Form) × IsForm E (IsStatement limit n) place (m d ts) made × (placed_within looped made ≡ [])
-      × SamePlaced source form (record { statement = stated fm ts; looped = looped }) (record { statement = stated made (m d ts); looped = looped }))
-      → P ts (placed looped (stated fm ts)) (Made (suc n) place looped (placed looped (stated fm ts)))
+      × SamePlaced source form (record { statement = stated fm ts; looped = looped }) (record { statement = stated made (m d ts); looped = looped })
+      × (nesting_in form [] made ≡ nesting_in source names fm))
+      → P ts (placed looped (stated fm ts)) (Made (suc n) place looped (placed looped (stated fm ts)) (nesting_in source names fm))
   alone n place ts fm looped leaf other g =
-      kept_with ts (placed looped (stated fm ts)) (Made (suc n) place looped (placed looped (stated fm ts))) (rw (other, leaf) refl)
-      (λ d k. (let r = g d k in (stated r.0 (m d ts), (refl, refl, r.1), one_more source form _ _ (placed_within looped fm) (placed_within looped r.0) r.3 (rw leaf r.2))))
+      kept_with ts (placed looped (stated fm ts)) (Made (suc n) place looped (placed looped (stated fm ts)) (nesting_in source names fm)) (rw (other, leaf) refl)
+      (λ d k. (let r = g d k in (stated r.0 (m d ts), (refl, refl, r.1), one_more source form _ _ (placed_within looped fm) (placed_within looped r.0) r.3 (rw leaf r.2), r.4)))
+
+  whole_nests : (p q : ℕ) (us : List Lexeme) (again : Tree) (is : IsStatement limit 2 InBlock us (stated (Evaluates again) us))
+      → nesting form [] (whole_statement limit enough p q us (stated (Evaluates again) us) is) ≡ 5
+  whole_nests p q us again is = rw (calls_none form again) refl
 
   -- the call of a statement that gets the two texts
   called : (n : ℕ) (place : Place) (ts : List Lexeme) (e : Tree) (looped : Bool) → calls_one source names e ≡ true → 5 ≤ n → IsEnded w.Semicolon E ts e
-      → P ts (placed looped (stated (Evaluates e) ts)) (Made n place looped (placed looped (stated (Evaluates e) ts)))
+      → P ts (placed looped (stated (Evaluates e) ts)) (Made n place looped (placed looped (stated (Evaluates e) ts)) (nesting_in source names (Evaluates e)))
   called n place ts e looped calls deep (inner_tokens, c, whole_ts, closes, is) =
       let some = derived_some limit inner_tokens e is in
       let t = some.0 in
@@ -171,7 +188,7 @@ module _ (source form : List ℕ) (names : List (List ℕ)) (limit : ℕ) (enoug
       span_is t ys c same = rw calls (ap₂ (λ (a b : ℕ). (a, b) ∷ []) (ap from_of same) (sym (last_to t ys c) ∙ ap to_of same))
 
       made : (t : Lexeme) (ys : List Lexeme) (c : Lexeme) (d : ℕ) → IsEnded w.Semicolon E (call_tokens t ys c) e → AreKept source form (d + 13) (call_tokens t ys c)
-          → IsBrought form (t.from + d) (c.to + (d + 13)) → Made n place looped (placed looped (stated (Evaluates e) ts)) d (rights d (Calls t ys c ∷ []))
+          → IsBrought form (t.from + d) (c.to + (d + 13)) → Made n place looped (placed looped (stated (Evaluates e) ts)) (nesting_in source names (Evaluates e)) d (rights d (Calls t ys c ∷ []))
       made t ys c d ended kept brought =
           let r = ended_moves source form (d + 13) E (Alike source form) (expression_moves source form (d + 13) limit) w.Semicolon (call_tokens t ys c) e kept ended in
           let us = m (d + 13) (call_tokens t ys c) in
@@ -185,66 +202,71 @@ module _ (source form : List ℕ) (names : List (List ℕ)) (limit : ℕ) (enoug
             whole_statement limit enough p q us first (refl, refl, r.1),
             statement_deeper limit limit 5 n (omega arith) deep place _ _ five,
             (placed looped (whole_statement limit enough p q us first (refl, refl, r.1)), [], sym (append-nil _), inr stands, refl),
+            rw calls (whole_nests p q us r.0 (refl, refl, r.1)),
           )
 
   abbrev Forms : ℕ → ℕ → Type 0
   Forms n k =
       (place : Place) (ts : List Lexeme) (st : Statement) (looped : Bool) → IsStatement limit n place ts st → nesting source names st ≤ k
-      → P ts (placed looped st) (Made k place looped (placed looped st))
+      → P ts (placed looped st) (Made k place looped (placed looped st) (nesting source names st))
 
   -- a rule, where the statements in it are formed
   module _ (n k : ℕ) (h : Forms n k) where
     pub all_formed : (ts : List Lexeme) (ss : List Statement) (looped : Bool) → AreAll (IsStatement limit n InBlock) ts ss → nesting_all source names (statements ss) ≤ k
-        → P ts (placed_all looped (statements ss)) (MadeAll k looped (placed_all looped (statements ss)))
-    all_formed ts [] looped none deep = kept_with ts [] (MadeAll k looped []) refl (λ d l. ([], ap (m d) none, refl))
+        → P ts (placed_all looped (statements ss)) (MadeAll k looped (placed_all looped (statements ss)) (nesting_all source names (statements ss)))
+    all_formed ts [] looped none deep = kept_with ts [] (MadeAll k looped [] 0) refl (λ d l. ([], ap (m d) none, refl, refl))
     all_formed ts (st ∷ ss) looped (x, y, whole, first, rest) deep =
         let one = le-max_left (nesting source names st) (nesting_all source names (statements ss)) in
         let other = le-max_right (nesting source names st) (nesting_all source names (statements ss)) in
         let ps = placed looped st in
         let qs = placed_all looped (statements ss) in
-        part_as source form names (x ++ y) ts (ps ++ qs) (ps ++ qs) (Then source form names (Made k InBlock looped ps) (MadeAll k looped qs)) (MadeAll k looped (ps ++ qs)) whole refl
-        (λ d us t. (t.4.0 ∷ t.5.0, (t.0, t.1, t.3, t.4.1, t.5.1), stand_for_both source form ps qs (placed looped t.4.0) (placed_all looped (statements t.5.0)) t.4.2 t.5.2))
-        (part_then source form names x y ps qs (Made k InBlock looped ps) (MadeAll k looped qs) (h InBlock x st looped first (omega (arith, one, deep))) (all_formed y ss looped rest (omega
+        let vs = nesting source names st in
+        let ws = nesting_all source names (statements ss) in
+        part_as source form names (x ++ y) ts (ps ++ qs) (ps ++ qs) (Then source form names (Made k InBlock looped ps vs) (MadeAll k looped qs ws)) (MadeAll k looped (ps ++ qs) (max vs ws)) whole refl
+        (λ d us t. (t.4.0 ∷ t.5.0, (t.0, t.1, t.3, t.4.1, t.5.1), stand_for_both source form ps qs (placed looped t.4.0) (placed_all looped (statements t.5.0)) t.4.2 t.5.2, ap₂ max t.4.3 t.5.3))
+        (part_then source form names x y ps qs (Made k InBlock looped ps vs) (MadeAll k looped qs ws) (h InBlock x st looped first (omega (arith, one, deep))) (all_formed y ss looped rest (omega
         (arith, other, deep))))
 
     -- kept tokens, then a statement
-    abbrev Front : List Lexeme → Place → Bool → List Placed → ℕ → List Lexeme → Type 0
-    Front a place looped ps d us = Then source form names (K a) (Made k place looped ps) d us
+    abbrev Front : List Lexeme → Place → Bool → List Placed → (v : ℕ) → ℕ → List Lexeme → Type 0
+    Front a place looped ps v d us = Then source form names (K a) (Made k place looped ps v) d us
 
     front : (a ts : List Lexeme) (place : Place) (st : Statement) (looped : Bool) → IsStatement limit n place ts st → nesting source names st ≤ k
-        → P (a ++ ts) (placed looped st) (Front a place looped (placed looped st))
-    front a ts place st looped is deep = part_then source form names a ts [] (placed looped st) (K a) (Made k place looped (placed looped st)) (kept_part source form names a)
+        → P (a ++ ts) (placed looped st) (Front a place looped (placed looped st) (nesting source names st))
+    front a ts place st looped is deep = part_then source form names a ts [] (placed looped st) (K a) (Made k place looped (placed looped st) (nesting source names st)) (kept_part source form names a)
         (h place ts st looped is deep)
 
-    front_is : (a : List Lexeme) (place : Place) (looped : Bool) (ps : List Placed) (d : ℕ) (us : List Lexeme) (t : Front a place looped ps d us) → us ≡ m d a ++ t.1
-    front_is a place looped ps d us t = t.3 ∙ ap (λ (z : List Lexeme). z ++ t.1) t.4.0
+    front_is : (a : List Lexeme) (place : Place) (looped : Bool) (ps : List Placed) (v d : ℕ) (us : List Lexeme) (t : Front a place looped ps v d us) → us ≡ m d a ++ t.1
+    front_is a place looped ps v d us t = t.3 ∙ ap (λ (z : List Lexeme). z ++ t.1) t.4.0
 
     -- a form with one statement at its end
     with_one : (place : Place) (ts a b : List Lexeme) (fm : Form) (body : Statement) (at : Place) (looped turned : Bool) → ts ≡ a ++ b → IsStatement limit n at b body → nesting source names body ≤ k
-        → placed_within looped fm ≡ placed turned body → pair_at source names fm (from_of ts) (to_of ts) ≡ None
+        → placed_within looped fm ≡ placed turned body → pair_at source names fm (from_of ts) (to_of ts) ≡ None → nesting_in source names fm ≡ nesting source names body + 1
         → ((d : ℕ) (us y : List Lexeme) (st : Statement) → us ≡ m d a ++ y → AreKept source form d a → IsStatement limit k at y st → (made : Form) × IsForm E (IsStatement limit k) place us made
-        × (placed_within looped made ≡ placed turned st) × SamePlaced source form (record { statement = stated fm ts; looped = looped }) (record { statement = stated made us; looped = looped }))
-        → P ts (placed looped (stated fm ts)) (Made (suc k) place looped (placed looped (stated fm ts)))
-    with_one place ts a b fm body at looped turned whole is deep own other g =
-        part_as source form names (a ++ b) ts (placed turned body) (placed looped (stated fm ts)) (Front a at turned (placed turned body)) (Made (suc k) place looped (placed looped
-        (stated fm ts))) whole
+        × (placed_within looped made ≡ placed turned st) × SamePlaced source form (record { statement = stated fm ts; looped = looped }) (record { statement = stated made us; looped = looped })
+        × (nesting_in form [] made ≡ nesting form [] st + 1))
+        → P ts (placed looped (stated fm ts)) (Made (suc k) place looped (placed looped (stated fm ts)) (nesting_in source names fm))
+    with_one place ts a b fm body at looped turned whole is deep own other nests g =
+        part_as source form names (a ++ b) ts (placed turned body) (placed looped (stated fm ts)) (Front a at turned (placed turned body) (nesting source names body)) (Made (suc k) place looped (placed looped
+        (stated fm ts)) (nesting_in source names fm)) whole
         (rw (other, own) refl)
         (λ d us t. (
-        let r = g d us t.1 t.5.0 (front_is a at turned (placed turned body) d us t) t.4.1 t.5.1 in (
+        let r = g d us t.1 t.5.0 (front_is a at turned (placed turned body) (nesting source names body) d us t) t.4.1 t.5.1 in (
           stated r.0 us,
           (refl, refl, r.1),
           one_more source form (record { statement = stated fm ts; looped = looped }) (record { statement = stated r.0 us; looped = looped }) (placed_within looped fm)
               (placed_within looped r.0) r.3 (rw (own, r.2) t.5.2),
+          r.4 ∙ ap (λ (j : ℕ). j + 1) t.5.3 ∙ sym nests,
         )))
         (front a b at body turned is deep)
 
     block : (place : Place) (ts : List Lexeme) (inner : List Statement) (looped : Bool) → IsBetween w.OpenBrace w.CloseBrace (AreAll (IsStatement limit n InBlock)) ts inner
         → nesting_all source names (statements inner) ≤ k
-        → P ts (placed looped (stated (Block (statements inner)) ts)) (Made (suc k) place looped (placed looped (stated (Block (statements inner)) ts)))
+        → P ts (placed looped (stated (Block (statements inner)) ts)) (Made (suc k) place looped (placed looped (stated (Block (statements inner)) ts)) (nesting_all source names (statements inner) + 1))
     block place ts inner looped (o, x, c, whole, opens, closes, all) deep =
         let ps = placed_all looped (statements inner) in
         part_as source form names (o ∷ (x ++ c ∷ [])) ts (ps ++ []) (placed looped (stated (Block (statements inner)) ts))
-        (Then source form names (K (o ∷ [])) (Then source form names (MadeAll k looped ps) (K (c ∷ [])))) (Made (suc k) place looped (placed looped (stated (Block (statements inner)) ts))) whole
+        (Then source form names (K (o ∷ [])) (Then source form names (MadeAll k looped ps (nesting_all source names (statements inner))) (K (c ∷ [])))) (Made (suc k) place looped (placed looped (stated (Block (statements inner)) ts)) (nesting_all source names (statements inner) + 1)) whole
         (ap (pairs_in source names) (sym (append-nil ps)))
         (λ d us t. (
         let u = t.5 in
@@ -253,54 +275,57 @@ module _ (source form : List ℕ) (names : List (List ℕ)) (limit : ℕ) (enoug
           stated (Block (statements u.4.0)) us,
           (refl, refl, (u.4.0, refl, (moved d o, u.0, moved u.2 c, us_is, opens, closes, u.4.1))),
           one_more source form _ _ ps (placed_all looped (statements u.4.0)) (record { looped = refl; wholes = tt; labels = tt; locals = tt; jump = refl }) u.4.2,
+          ap (λ (j : ℕ). j + 1) u.4.3,
         )))
-        (part_then source form names (o ∷ []) (x ++ c ∷ []) [] (ps ++ []) (K (o ∷ [])) (Then source form names (MadeAll k looped ps) (K (c ∷ []))) (kept_part source form names (o ∷ []))
-        (part_then source form names x (c ∷ []) ps [] (MadeAll k looped ps) (K (c ∷ [])) (all_formed x inner looped all deep) (kept_part source form names (c ∷ []))))
+        (part_then source form names (o ∷ []) (x ++ c ∷ []) [] (ps ++ []) (K (o ∷ [])) (Then source form names (MadeAll k looped ps (nesting_all source names (statements inner))) (K (c ∷ []))) (kept_part source form names (o ∷ []))
+        (part_then source form names x (c ∷ []) ps [] (MadeAll k looped ps (nesting_all source names (statements inner))) (K (c ∷ [])) (all_formed x inner looped all deep) (kept_part source form names (c ∷ []))))
 
     arms : (place : Place) (ts : List Lexeme) (test : Tree) (body other : Statement) (looped : Bool) → IsForm E (IsStatement limit n) place ts (Chooses test body (just other))
         → nesting source names body ≤ k → nesting source names other ≤ k
-        → P ts (placed looped (stated (Chooses test body (just other)) ts)) (Made (suc k) place looped (placed looped (stated (Chooses test body (just other)) ts)))
+        → P ts (placed looped (stated (Chooses test body (just other)) ts)) (Made (suc k) place looped (placed looped (stated (Chooses test body (just other)) ts)) (max (nesting source names body) (nesting source names other) + 1))
     arms place ts test body other looped (i, x, y, e, z, whole, i_is, test_is, is, e_is, other_is) deep too =
         let ps = placed looped body in
         let qs = placed looped other in
         let a = i ∷ x in
         part_as source form names (a ++ (y ++ e ∷ z)) ts (ps ++ qs) (placed looped (stated (Chooses test body (just other)) ts))
-        (Then source form names (K a) (Then source form names (Made k BeforeElse looped ps) (Front (e ∷ []) (last place) looped qs)))
-        (Made (suc k) place looped (placed looped (stated (Chooses test body (just other)) ts))) whole refl
+        (Then source form names (K a) (Then source form names (Made k BeforeElse looped ps (nesting source names body)) (Front (e ∷ []) (last place) looped qs (nesting source names other))))
+        (Made (suc k) place looped (placed looped (stated (Chooses test body (just other)) ts)) (max (nesting source names body) (nesting source names other) + 1)) whole refl
         (λ d us t. (
         let u = t.5 in
         let v = u.5 in
         let us_is : us ≡ moved d i ∷ m d x ++ (u.0 ++ moved u.2 e ∷ v.1) =
-        t.3 ∙ ap (λ (l : List Lexeme). l ++ t.1) t.4.0 ∙ ap (λ (l : List Lexeme). m d a ++ l) (u.3 ∙ ap (λ (l : List Lexeme). u.0 ++ l) (front_is (e ∷ []) (last place) looped qs u.2 u.1 v)) in
+        t.3 ∙ ap (λ (l : List Lexeme). l ++ t.1) t.4.0 ∙ ap (λ (l : List Lexeme). m d a ++ l) (u.3 ∙ ap (λ (l : List Lexeme). u.0 ++ l) (front_is (e ∷ []) (last place) looped qs (nesting source names other) u.2 u.1 v)) in
         let r = tests d x test t.4.1.1 test_is in (
           stated (Chooses r.0 u.4.0 (just v.5.0)) us,
           (refl, refl, (moved d i, m d x, u.0, moved u.2 e, v.1, us_is, i_is, r.1, u.4.1, e_is, v.5.1)),
           one_more source form _ _ (ps ++ qs) (placed looped u.4.0 ++ placed looped v.5.0) (record { looped = refl; wholes = ((r.2, refl), tt); labels = tt; locals = tt; jump = refl })
               (stand_for_both source form ps qs (placed looped u.4.0) (placed looped v.5.0) u.4.2 v.5.2),
+          ap₂ (λ (i j : ℕ). max i j + 1) u.4.3 v.5.3,
         )))
-        (part_then source form names a (y ++ e ∷ z) [] (ps ++ qs) (K a) (Then source form names (Made k BeforeElse looped ps) (Front (e ∷ []) (last place) looped qs)) (kept_part source form names a)
-        (part_then source form names y (e ∷ z) ps qs (Made k BeforeElse looped ps) (Front (e ∷ []) (last place) looped qs) (h BeforeElse y body looped is deep) (front (e ∷ []) z
+        (part_then source form names a (y ++ e ∷ z) [] (ps ++ qs) (K a) (Then source form names (Made k BeforeElse looped ps (nesting source names body)) (Front (e ∷ []) (last place) looped qs (nesting source names other))) (kept_part source form names a)
+        (part_then source form names y (e ∷ z) ps qs (Made k BeforeElse looped ps (nesting source names body)) (Front (e ∷ []) (last place) looped qs (nesting source names other)) (h BeforeElse y body looped is deep) (front (e ∷ []) z
         (last place) other looped other_is too)))
 
     does : (place : Place) (ts : List Lexeme) (body : Statement) (test : Tree) (looped : Bool) → IsForm E (IsStatement limit n) place ts (Does body test) → nesting source names body ≤ k
-        → P ts (placed looped (stated (Does body test) ts)) (Made (suc k) place looped (placed looped (stated (Does body test) ts)))
+        → P ts (placed looped (stated (Does body test) ts)) (Made (suc k) place looped (placed looped (stated (Does body test) ts)) (nesting source names body + 1))
     does place ts body test looped (o, x, i, y, c, whole, o_is, is, i_is, test_is, c_is) deep =
         let ps = placed true body in
         let b = i ∷ (y ++ c ∷ []) in
         part_as source form names (o ∷ (x ++ b)) ts (ps ++ []) (placed looped (stated (Does body test) ts))
-        (Then source form names (Front (o ∷ []) Elsewhere true ps) (K b)) (Made (suc k) place looped (placed looped (stated (Does body test) ts))) whole
+        (Then source form names (Front (o ∷ []) Elsewhere true ps (nesting source names body)) (K b)) (Made (suc k) place looped (placed looped (stated (Does body test) ts)) (nesting source names body + 1)) whole
         (ap (pairs_in source names) (sym (append-nil ps)))
         (λ d us t. (
         let u = t.4 in
         let there : m t.2 b ≡ moved t.2 i ∷ m t.2 y ++ moved t.2 c ∷ [] = ap (λ (l : List Lexeme). moved t.2 i ∷ l) (parts_moved t.2 (y ++ c ∷ []) y (c ∷ []) refl) in
         let us_is : us ≡ moved d o ∷ u.1 ++ (moved t.2 i ∷ m t.2 y ++ moved t.2 c ∷ []) =
-        t.3 ∙ ap (λ (l : List Lexeme). l ++ t.1) (front_is (o ∷ []) Elsewhere true ps d t.0 u) ∙ ap (λ (l : List Lexeme). moved d o ∷ (u.1 ++ l)) (t.5.0 ∙ there) in
+        t.3 ∙ ap (λ (l : List Lexeme). l ++ t.1) (front_is (o ∷ []) Elsewhere true ps (nesting source names body) d t.0 u) ∙ ap (λ (l : List Lexeme). moved d o ∷ (u.1 ++ l)) (t.5.0 ∙ there) in
         let r = tests t.2 y test (kept_parts source form t.2 (y ++ c ∷ []) y (c ∷ []) refl t.5.1.1).0 test_is in (
           stated (Does u.5.0 r.0) us,
           (refl, refl, (moved d o, u.1, moved t.2 i, m t.2 y, moved t.2 c, us_is, o_is, u.5.1, i_is, r.1, c_is)),
           one_more source form _ _ ps (placed true u.5.0) (record { looped = refl; wholes = ((r.2, refl), tt); labels = tt; locals = tt; jump = refl }) u.5.2,
+          ap (λ (j : ℕ). j + 1) u.5.3,
         )))
-        (part_then source form names (o ∷ x) b ps [] (Front (o ∷ []) Elsewhere true ps) (K b) (front (o ∷ []) x Elsewhere body true is deep) (kept_part source form names b))
+        (part_then source form names (o ∷ x) b ps [] (Front (o ∷ []) Elsewhere true ps (nesting source names body)) (K b) (front (o ∷ []) x Elsewhere body true is deep) (kept_part source form names b))
 
     fors_tokens : (d : ℕ) (f o : Lexeme) (a b c y : List Lexeme) → m d (f ∷ o ∷ (a ++ (b ++ c))) ++ y ≡ moved d f ∷ moved d o ∷ m d a ++ (m d b ++ (m d c ++ y))
     fors_tokens d f o a b c y =
@@ -308,10 +333,10 @@ module _ (source form : List ℕ) (names : List (List ℕ)) (limit : ℕ) (enoug
         (ap (λ (l : List Lexeme). l ++ y) (three_moved d (a ++ (b ++ c)) a b c refl) ∙ append_assoc (m d a) (m d b ++ m d c) y ∙ ap (λ (l : List Lexeme). m d a ++ l) (append_assoc (m d b) (m d c) y))
 
     form_formed : (place : Place) (ts : List Lexeme) (fm : Form) (looped : Bool) → IsForm E (IsStatement limit n) place ts fm → nesting_in source names fm ≤ suc k
-        → P ts (placed looped (stated fm ts)) (Made (suc k) place looped (placed looped (stated fm ts)))
+        → P ts (placed looped (stated fm ts)) (Made (suc k) place looped (placed looped (stated fm ts)) (nesting_in source names fm))
     form_formed place ts (Block kids) looped (inner, kids_are, between) deep =
         let same : nesting_all source names kids ≡ nesting_all source names (statements inner) = ap (nesting_all source names) kids_are in
-        subst (λ (z : Statements). P ts (placed looped (stated (Block z) ts)) (Made (suc k) place looped (placed looped (stated (Block z) ts)))) (sym kids_are)
+        subst (λ (z : Statements). P ts (placed looped (stated (Block z) ts)) (Made (suc k) place looped (placed looped (stated (Block z) ts)) (nesting_all source names z + 1))) (sym kids_are)
         (block place ts inner looped between (omega (arith, same, deep)))
     form_formed place ts (Declares x) looped (block_place, is) deep = alone k place ts (Declares x) looped refl refl (λ d l. (
         let r = declaration_moves source form d E (expression_moves source form d limit) ts x l is in (
@@ -325,46 +350,49 @@ module _ (source form : List ℕ) (names : List (List ℕ)) (limit : ℕ) (enoug
             locals = declared_pairs source form d x r.0 r.2;
             jump = refl;
           },
+          refl,
         )))
     form_formed place ts (Evaluates e) looped is deep = by (calls_one source names e) refl deep
       where
-        by : (b : Bool) → calls_one source names e ≡ b → cond b 5 1 ≤ suc k → P ts (placed looped (stated (Evaluates e) ts)) (Made (suc k) place looped (placed looped (stated (Evaluates e) ts)))
+        by : (b : Bool) → calls_one source names e ≡ b → cond b 5 1 ≤ suc k → P ts (placed looped (stated (Evaluates e) ts)) (Made (suc k) place looped (placed looped (stated (Evaluates e) ts)) (nesting_in source names (Evaluates e)))
         by true calls low = called (suc k) place ts e looped calls low is
         by false calls low = alone k place ts (Evaluates e) looped refl (rw calls refl) (λ d l. (
             let r = ended_moves source form d E (Alike source form) (expression_moves source form d limit) w.Semicolon ts e l is in
-            (Evaluates r.0, r.1, refl, record { looped = refl; wholes = ((r.2, refl), tt); labels = tt; locals = tt; jump = refl })))
+            (Evaluates r.0, r.1, refl, record { looped = refl; wholes = ((r.2, refl), tt); labels = tt; locals = tt; jump = refl }, rw (calls, calls_none form r.0) refl)))
     form_formed place ts Empties looped is deep = alone k place ts Empties looped refl refl
-        (λ d l. (Empties, words_moved d ts ∙ is, refl, record { looped = refl; wholes = tt; labels = tt; locals = tt; jump = refl }))
+        (λ d l. (Empties, words_moved d ts ∙ is, refl, record { looped = refl; wholes = tt; labels = tt; locals = tt; jump = refl }, refl))
     form_formed place ts (Labels name mark body) looped (t, c, x, whole, t_is, c_is, name_is, mark_is, is) deep =
-        with_one place ts (t ∷ c ∷ []) x (Labels name mark body) body (last place) looped looped whole is (omega arith) refl refl (λ d us y st us_is l st_is. (
+        with_one place ts (t ∷ c ∷ []) x (Labels name mark body) body (last place) looped looped whole is (omega arith) refl refl refl (λ d us y st us_is l st_is. (
           Labels (name_of (moved d t)) (moved d c).to st,
           (moved d t, moved d c, y, us_is, t_is, c_is, refl, refl, st_is),
           refl,
           record { looped = refl; wholes = tt; labels = (subst (λ (z : Name). SameName source form z (name_of (moved d t))) (sym name_is) l.0, tt); locals = tt; jump = refl },
+          refl,
         ))
     form_formed place ts (Chooses test body nothing) looped (i, x, y, whole, ne, i_is, test_is, is) deep =
         let low = le-max_left (nesting source names body) 0 in
-        with_one place ts (i ∷ x) y (Chooses test body nothing) body Elsewhere looped looped whole is (omega (arith, low, deep)) (append-nil (placed looped body)) refl (λ d us z st us_is l st_is. (
+        with_one place ts (i ∷ x) y (Chooses test body nothing) body Elsewhere looped looped whole is (omega (arith, low, deep)) (append-nil (placed looped body)) refl (no_arm (nesting source names body)) (λ d us z st us_is l st_is. (
         let r = tests d x test l.1 test_is in (
           Chooses r.0 st nothing,
           (moved d i, m d x, z, us_is, ne, i_is, r.1, st_is),
           append-nil (placed looped st),
           record { looped = refl; wholes = ((r.2, refl), tt); labels = tt; locals = tt; jump = refl },
+          no_arm (nesting form [] st),
         )))
     form_formed place ts (Chooses test body (just other)) looped is deep =
         let low = le-max_left (nesting source names body) (nesting source names other) in
         let too = le-max_right (nesting source names body) (nesting source names other) in
         arms place ts test body other looped is (omega (arith, low, deep)) (omega (arith, too, deep))
     form_formed place ts (Whiles test body) looped (i, x, y, whole, i_is, test_is, is) deep =
-        with_one place ts (i ∷ x) y (Whiles test body) body (last place) looped true whole is (omega arith) refl refl (λ d us z st us_is l st_is. (
+        with_one place ts (i ∷ x) y (Whiles test body) body (last place) looped true whole is (omega arith) refl refl refl (λ d us z st us_is l st_is. (
         let r = tests d x test l.1 test_is in
-        (Whiles r.0 st, (moved d i, m d x, z, us_is, i_is, r.1, st_is), refl, record { looped = refl; wholes = ((r.2, refl), tt); labels = tt; locals = tt; jump = refl })))
+        (Whiles r.0 st, (moved d i, m d x, z, us_is, i_is, r.1, st_is), refl, record { looped = refl; wholes = ((r.2, refl), tt); labels = tt; locals = tt; jump = refl }, refl)))
     form_formed place ts (Does body test) looped is deep = does place ts body test looped is (omega arith)
     form_formed place ts (Fors init test step body) looped (f, o, a, b, c, y, whole, f_is, o_is, init_is, test_is, step_is, is) deep =
         let front_tokens = f ∷ o ∷ (a ++ (b ++ c)) in
         let split : ts ≡ front_tokens ++ y =
         whole ∙ ap (λ (l : List Lexeme). f ∷ o ∷ l) (ap (λ (l : List Lexeme). a ++ l) (sym (append_assoc b c y)) ∙ sym (append_assoc a (b ++ c) y)) in
-        with_one place ts front_tokens y (Fors init test step body) body (last place) looped true split is (omega arith) refl refl (λ d us z st us_is l st_is. (
+        with_one place ts front_tokens y (Fors init test step body) body (last place) looped true split is (omega arith) refl refl refl (λ d us z st us_is l st_is. (
         let own = kept_parts source form d (a ++ (b ++ c)) a (b ++ c) refl l.1.1 in
         let rest = kept_parts source form d (b ++ c) b c refl own.1 in
         let p = inits d a init own.0 init_is in
@@ -381,11 +409,12 @@ module _ (source form : List ℕ) (names : List (List ℕ)) (limit : ℕ) (enoug
             locals = p.2.1;
             jump = refl;
           },
+          refl,
         )))
     form_formed place ts Breaks looped is deep = alone k place ts Breaks looped refl refl
-        (λ d l. (Breaks, words_moved d ts ∙ is, refl, record { looped = refl; wholes = tt; labels = tt; locals = tt; jump = refl }))
+        (λ d l. (Breaks, words_moved d ts ∙ is, refl, record { looped = refl; wholes = tt; labels = tt; locals = tt; jump = refl }, refl))
     form_formed place ts Continues looped is deep = alone k place ts Continues looped refl refl
-        (λ d l. (Continues, words_moved d ts ∙ is, refl, record { looped = refl; wholes = tt; labels = tt; locals = tt; jump = refl }))
+        (λ d l. (Continues, words_moved d ts ∙ is, refl, record { looped = refl; wholes = tt; labels = tt; locals = tt; jump = refl }, refl))
     form_formed place ts (Returns value) looped (t, b, whole, t_is, ended) deep = alone k place ts (Returns value) looped refl refl (λ d l. (
         let own = kept_as source form d ts (t ∷ b) whole l in
         let r = maybe d w.Semicolon b value own.1 ended in (
@@ -393,6 +422,7 @@ module _ (source form : List ℕ) (names : List (List ℕ)) (limit : ℕ) (enoug
           (moved d t, m d b, ap (m d) whole, t_is, r.1),
           refl,
           record { looped = refl; wholes = inner_pairs source form _ _ (given_pairs source form value r.0 r.2); labels = tt; locals = tt; jump = refl },
+          refl,
         )))
 
   nests_some : (fm : Form) → 0 < nesting_in source names fm
@@ -417,6 +447,6 @@ module _ (source form : List ℕ) (names : List (List ℕ)) (limit : ℕ) (enoug
   statement_formed zero k place ts st looped is deep = absurd is
   statement_formed (suc n) zero place ts (Stated fm from to) looped is deep = absurd (let some = nests_some fm in omega (arith, some, deep))
   statement_formed (suc n) (suc k) place ts (Stated fm from to) looped (from_is, to_is, is) deep =
-      subst (λ (z : ℕ). P ts (placed looped (Stated fm z to)) (Made (suc k) place looped (placed looped (Stated fm z to)))) (sym from_is)
-      (subst (λ (z : ℕ). P ts (placed looped (Stated fm (from_of ts) z)) (Made (suc k) place looped (placed looped (Stated fm (from_of ts) z)))) (sym to_is)
+      subst (λ (z : ℕ). P ts (placed looped (Stated fm z to)) (Made (suc k) place looped (placed looped (Stated fm z to)) (nesting_in source names fm))) (sym from_is)
+      (subst (λ (z : ℕ). P ts (placed looped (Stated fm (from_of ts) z)) (Made (suc k) place looped (placed looped (Stated fm (from_of ts) z)) (nesting_in source names fm))) (sym to_is)
       (form_formed n k (statement_formed n k) place ts fm looped is deep))
