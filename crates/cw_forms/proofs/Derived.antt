@@ -56,15 +56,15 @@ unfolding form_from with_texts
 linked source names [] at = refl
 linked source names (p ∷ ps) at = one_linked source names ps p.looped p.statement at (λ b. linked source names ps b)
 
-form_is : (source : List ℕ) (names : List (List ℕ)) (file : File) → form_of source names file ≡ with_texts source 0 (pairs_in source names (every_statement file))
+pub form_is : (source : List ℕ) (names : List (List ℕ)) (file : File) → form_of source names file ≡ with_texts source 0 (pairs_in source names (every_statement file))
 unfolding form_of
 form_is source names file = linked source names (every_statement file) 0
 
-enough : 2 ≤ nesting_limit
+pub enough : 2 ≤ nesting_limit
 unfolding nesting_limit
 enough = omega arith
 
-same_limit : nesting_limit ≡ limit_of Nesting
+pub same_limit : nesting_limit ≡ limit_of Nesting
 unfolding nesting_limit
 same_limit = refl
 

@@ -165,8 +165,13 @@ module _ (source form : List ℕ) (names : List (List ℕ)) (limit : ℕ) (enoug
       ∙ ap (λ (z : List Lexeme). map (moved d) header ++ z)
       (u.3 ∙ ap (λ (z : List Lexeme). z ++ u.1) u.4.0 ∙ ap (λ (z : List Lexeme). moved t.2 o ∷ z) (v.3 ∙ ap (λ (z : List Lexeme). v.0 ++ z) v.5.0)) in
       let g : Definition = record { name = r.0; result = f.result; params = r.1; brace = (moved t.2 o).to; body = statements v.4.0 } in
-      let stand : StandFor source form (body_of f) (body_of g) = subst (λ (z : Statements). StandFor source form (placed_all false z) (body_of g)) (sym body_is) v.4.2 in
-      (g, (map (moved d) header, moved t.2 o, v.0, moved v.2 c, v.4.0, us_is, r.2, params_named source form f.params r.1 r.4 named, opens, refl, v.4.1, refl, closes), (d, r.3, r.4, stand), r.3.1, v.4.3 ∙ sym (ap (nesting_all source names) body_is))))
+      let stand : StandFor source form (body_of f) (body_of g) = subst (λ (z : Statements). StandFor source form (placed_all false z) (body_of g)) (sym body_is) v.4.2 in (
+        g,
+        (map (moved d) header, moved t.2 o, v.0, moved v.2 c, v.4.0, us_is, r.2, params_named source form f.params r.1 r.4 named, opens, refl, v.4.1, refl, closes),
+        (d, r.3, r.4, stand),
+        r.3.1,
+        v.4.3 ∙ sym (ap (nesting_all source names) body_is),
+      )))
       (part_then source form names header (o ∷ (x ++ c ∷ [])) [] (ps ++ []) (K header) (Then source form names (K (o ∷ [])) (Then source form names (MadeAll ps w) (K (c ∷ []))))
       (kept_part source form names header)
       (part_then source form names (o ∷ []) (x ++ c ∷ []) [] (ps ++ []) (K (o ∷ [])) (Then source form names (MadeAll ps w) (K (c ∷ []))) (kept_part source form names (o ∷ []))
@@ -225,7 +230,7 @@ module _ (source form : List ℕ) (names : List (List ℕ)) (limit : ℕ) (enoug
       (made : List FilePart) × AreAll (IsPart limit) us made × SameFile source form (file_of parts) (file_of made) × Behind d (file_of parts).functions (file_of made).functions
       × Pairs NestsAs (file_of parts).functions (file_of made).functions
 
-  abbrev AreShallow : List Definition → Type 0
+  abbrev pub AreShallow : List Definition → Type 0
   AreShallow [] = Unit {0}
   AreShallow (f ∷ fs) = (nesting_all source names f.body ≤ limit) × AreShallow fs
 

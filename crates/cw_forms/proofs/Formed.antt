@@ -86,7 +86,7 @@ last_to t (y ∷ ys) c = last_to y ys c
 
 -- ---- how deep it nests
 
-calls_none : (source : List ℕ) (t : Tree) → calls_one source [] t ≡ false
+pub calls_none : (source : List ℕ) (t : Tree) → calls_one source [] t ≡ false
 calls_none source (Node (op.Call f) parts from to) = refl
 calls_none source (Node _ parts from to) = refl
 
@@ -222,7 +222,8 @@ module _ (source form : List ℕ) (names : List (List ℕ)) (limit : ℕ) (enoug
         let qs = placed_all looped (statements ss) in
         let vs = nesting source names st in
         let ws = nesting_all source names (statements ss) in
-        part_as source form names (x ++ y) ts (ps ++ qs) (ps ++ qs) (Then source form names (Made k InBlock looped ps vs) (MadeAll k looped qs ws)) (MadeAll k looped (ps ++ qs) (max vs ws)) whole refl
+        part_as source form names (x ++ y) ts (ps ++ qs) (ps ++ qs) (Then source form names (Made k InBlock looped ps vs) (MadeAll k looped qs ws)) (MadeAll k looped (ps ++ qs)
+        (max vs ws)) whole refl
         (λ d us t. (t.4.0 ∷ t.5.0, (t.0, t.1, t.3, t.4.1, t.5.1), stand_for_both source form ps qs (placed looped t.4.0) (placed_all looped (statements t.5.0)) t.4.2 t.5.2, ap₂ max t.4.3 t.5.3))
         (part_then source form names x y ps qs (Made k InBlock looped ps vs) (MadeAll k looped qs ws) (h InBlock x st looped first (omega (arith, one, deep))) (all_formed y ss looped rest (omega
         (arith, other, deep))))
@@ -233,7 +234,8 @@ module _ (source form : List ℕ) (names : List (List ℕ)) (limit : ℕ) (enoug
 
     front : (a ts : List Lexeme) (place : Place) (st : Statement) (looped : Bool) → IsStatement limit n place ts st → nesting source names st ≤ k
         → P (a ++ ts) (placed looped st) (Front a place looped (placed looped st) (nesting source names st))
-    front a ts place st looped is deep = part_then source form names a ts [] (placed looped st) (K a) (Made k place looped (placed looped st) (nesting source names st)) (kept_part source form names a)
+    front a ts place st looped is deep = part_then source form names a ts [] (placed looped st) (K a) (Made k place looped (placed looped st) (nesting source names st))
+        (kept_part source form names a)
         (h place ts st looped is deep)
 
     front_is : (a : List Lexeme) (place : Place) (looped : Bool) (ps : List Placed) (v d : ℕ) (us : List Lexeme) (t : Front a place looped ps v d us) → us ≡ m d a ++ t.1
@@ -247,7 +249,8 @@ module _ (source form : List ℕ) (names : List (List ℕ)) (limit : ℕ) (enoug
         × (nesting_in form [] made ≡ nesting form [] st + 1))
         → P ts (placed looped (stated fm ts)) (Made (suc k) place looped (placed looped (stated fm ts)) (nesting_in source names fm))
     with_one place ts a b fm body at looped turned whole is deep own other nests g =
-        part_as source form names (a ++ b) ts (placed turned body) (placed looped (stated fm ts)) (Front a at turned (placed turned body) (nesting source names body)) (Made (suc k) place looped (placed looped
+        part_as source form names (a ++ b) ts (placed turned body) (placed looped (stated fm ts)) (Front a at turned (placed turned body) (nesting source names body)) (Made
+        (suc k) place looped (placed looped
         (stated fm ts)) (nesting_in source names fm)) whole
         (rw (other, own) refl)
         (λ d us t. (
@@ -262,11 +265,13 @@ module _ (source form : List ℕ) (names : List (List ℕ)) (limit : ℕ) (enoug
 
     block : (place : Place) (ts : List Lexeme) (inner : List Statement) (looped : Bool) → IsBetween w.OpenBrace w.CloseBrace (AreAll (IsStatement limit n InBlock)) ts inner
         → nesting_all source names (statements inner) ≤ k
-        → P ts (placed looped (stated (Block (statements inner)) ts)) (Made (suc k) place looped (placed looped (stated (Block (statements inner)) ts)) (nesting_all source names (statements inner) + 1))
+        → P ts (placed looped (stated (Block (statements inner)) ts)) (Made (suc k) place looped (placed looped (stated (Block (statements inner)) ts)) (nesting_all source names
+        (statements inner) + 1))
     block place ts inner looped (o, x, c, whole, opens, closes, all) deep =
         let ps = placed_all looped (statements inner) in
         part_as source form names (o ∷ (x ++ c ∷ [])) ts (ps ++ []) (placed looped (stated (Block (statements inner)) ts))
-        (Then source form names (K (o ∷ [])) (Then source form names (MadeAll k looped ps (nesting_all source names (statements inner))) (K (c ∷ [])))) (Made (suc k) place looped (placed looped (stated (Block (statements inner)) ts)) (nesting_all source names (statements inner) + 1)) whole
+        (Then source form names (K (o ∷ [])) (Then source form names (MadeAll k looped ps (nesting_all source names (statements inner))) (K (c ∷ [])))) (Made (suc k) place looped
+        (placed looped (stated (Block (statements inner)) ts)) (nesting_all source names (statements inner) + 1)) whole
         (ap (pairs_in source names) (sym (append-nil ps)))
         (λ d us t. (
         let u = t.5 in
@@ -277,12 +282,15 @@ module _ (source form : List ℕ) (names : List (List ℕ)) (limit : ℕ) (enoug
           one_more source form _ _ ps (placed_all looped (statements u.4.0)) (record { looped = refl; wholes = tt; labels = tt; locals = tt; jump = refl }) u.4.2,
           ap (λ (j : ℕ). j + 1) u.4.3,
         )))
-        (part_then source form names (o ∷ []) (x ++ c ∷ []) [] (ps ++ []) (K (o ∷ [])) (Then source form names (MadeAll k looped ps (nesting_all source names (statements inner))) (K (c ∷ []))) (kept_part source form names (o ∷ []))
-        (part_then source form names x (c ∷ []) ps [] (MadeAll k looped ps (nesting_all source names (statements inner))) (K (c ∷ [])) (all_formed x inner looped all deep) (kept_part source form names (c ∷ []))))
+        (part_then source form names (o ∷ []) (x ++ c ∷ []) [] (ps ++ []) (K (o ∷ [])) (Then source form names (MadeAll k looped ps (nesting_all source names (statements inner))) (K
+        (c ∷ []))) (kept_part source form names (o ∷ []))
+        (part_then source form names x (c ∷ []) ps [] (MadeAll k looped ps (nesting_all source names (statements inner))) (K (c ∷ [])) (all_formed x inner looped all deep)
+        (kept_part source form names (c ∷ []))))
 
     arms : (place : Place) (ts : List Lexeme) (test : Tree) (body other : Statement) (looped : Bool) → IsForm E (IsStatement limit n) place ts (Chooses test body (just other))
         → nesting source names body ≤ k → nesting source names other ≤ k
-        → P ts (placed looped (stated (Chooses test body (just other)) ts)) (Made (suc k) place looped (placed looped (stated (Chooses test body (just other)) ts)) (max (nesting source names body) (nesting source names other) + 1))
+        → P ts (placed looped (stated (Chooses test body (just other)) ts)) (Made (suc k) place looped (placed looped (stated (Chooses test body (just other)) ts)) (max
+        (nesting source names body) (nesting source names other) + 1))
     arms place ts test body other looped (i, x, y, e, z, whole, i_is, test_is, is, e_is, other_is) deep too =
         let ps = placed looped body in
         let qs = placed looped other in
@@ -294,7 +302,8 @@ module _ (source form : List ℕ) (names : List (List ℕ)) (limit : ℕ) (enoug
         let u = t.5 in
         let v = u.5 in
         let us_is : us ≡ moved d i ∷ m d x ++ (u.0 ++ moved u.2 e ∷ v.1) =
-        t.3 ∙ ap (λ (l : List Lexeme). l ++ t.1) t.4.0 ∙ ap (λ (l : List Lexeme). m d a ++ l) (u.3 ∙ ap (λ (l : List Lexeme). u.0 ++ l) (front_is (e ∷ []) (last place) looped qs (nesting source names other) u.2 u.1 v)) in
+        t.3 ∙ ap (λ (l : List Lexeme). l ++ t.1) t.4.0 ∙ ap (λ (l : List Lexeme). m d a ++ l) (u.3
+        ∙ ap (λ (l : List Lexeme). u.0 ++ l) (front_is (e ∷ []) (last place) looped qs (nesting source names other) u.2 u.1 v)) in
         let r = tests d x test t.4.1.1 test_is in (
           stated (Chooses r.0 u.4.0 (just v.5.0)) us,
           (refl, refl, (moved d i, m d x, u.0, moved u.2 e, v.1, us_is, i_is, r.1, u.4.1, e_is, v.5.1)),
@@ -302,8 +311,10 @@ module _ (source form : List ℕ) (names : List (List ℕ)) (limit : ℕ) (enoug
               (stand_for_both source form ps qs (placed looped u.4.0) (placed looped v.5.0) u.4.2 v.5.2),
           ap₂ (λ (i j : ℕ). max i j + 1) u.4.3 v.5.3,
         )))
-        (part_then source form names a (y ++ e ∷ z) [] (ps ++ qs) (K a) (Then source form names (Made k BeforeElse looped ps (nesting source names body)) (Front (e ∷ []) (last place) looped qs (nesting source names other))) (kept_part source form names a)
-        (part_then source form names y (e ∷ z) ps qs (Made k BeforeElse looped ps (nesting source names body)) (Front (e ∷ []) (last place) looped qs (nesting source names other)) (h BeforeElse y body looped is deep) (front (e ∷ []) z
+        (part_then source form names a (y ++ e ∷ z) [] (ps ++ qs) (K a) (Then source form names (Made k BeforeElse looped ps (nesting source names body)) (Front (e ∷ [])
+        (last place) looped qs (nesting source names other))) (kept_part source form names a)
+        (part_then source form names y (e ∷ z) ps qs (Made k BeforeElse looped ps (nesting source names body)) (Front (e ∷ []) (last place) looped qs (nesting source names other))
+        (h BeforeElse y body looped is deep) (front (e ∷ []) z
         (last place) other looped other_is too)))
 
     does : (place : Place) (ts : List Lexeme) (body : Statement) (test : Tree) (looped : Bool) → IsForm E (IsStatement limit n) place ts (Does body test) → nesting source names body ≤ k
@@ -312,7 +323,8 @@ module _ (source form : List ℕ) (names : List (List ℕ)) (limit : ℕ) (enoug
         let ps = placed true body in
         let b = i ∷ (y ++ c ∷ []) in
         part_as source form names (o ∷ (x ++ b)) ts (ps ++ []) (placed looped (stated (Does body test) ts))
-        (Then source form names (Front (o ∷ []) Elsewhere true ps (nesting source names body)) (K b)) (Made (suc k) place looped (placed looped (stated (Does body test) ts)) (nesting source names body + 1)) whole
+        (Then source form names (Front (o ∷ []) Elsewhere true ps (nesting source names body)) (K b)) (Made (suc k) place looped (placed looped (stated (Does body test) ts))
+        (nesting source names body + 1)) whole
         (ap (pairs_in source names) (sym (append-nil ps)))
         (λ d us t. (
         let u = t.4 in
@@ -325,7 +337,8 @@ module _ (source form : List ℕ) (names : List (List ℕ)) (limit : ℕ) (enoug
           one_more source form _ _ ps (placed true u.5.0) (record { looped = refl; wholes = ((r.2, refl), tt); labels = tt; locals = tt; jump = refl }) u.5.2,
           ap (λ (j : ℕ). j + 1) u.5.3,
         )))
-        (part_then source form names (o ∷ x) b ps [] (Front (o ∷ []) Elsewhere true ps (nesting source names body)) (K b) (front (o ∷ []) x Elsewhere body true is deep) (kept_part source form names b))
+        (part_then source form names (o ∷ x) b ps [] (Front (o ∷ []) Elsewhere true ps (nesting source names body)) (K b) (front (o ∷ []) x Elsewhere body true is deep)
+        (kept_part source form names b))
 
     fors_tokens : (d : ℕ) (f o : Lexeme) (a b c y : List Lexeme) → m d (f ∷ o ∷ (a ++ (b ++ c))) ++ y ≡ moved d f ∷ moved d o ∷ m d a ++ (m d b ++ (m d c ++ y))
     fors_tokens d f o a b c y =
@@ -354,7 +367,8 @@ module _ (source form : List ℕ) (names : List (List ℕ)) (limit : ℕ) (enoug
         )))
     form_formed place ts (Evaluates e) looped is deep = by (calls_one source names e) refl deep
       where
-        by : (b : Bool) → calls_one source names e ≡ b → cond b 5 1 ≤ suc k → P ts (placed looped (stated (Evaluates e) ts)) (Made (suc k) place looped (placed looped (stated (Evaluates e) ts)) (nesting_in source names (Evaluates e)))
+        by : (b : Bool) → calls_one source names e ≡ b → cond b 5 1 ≤ suc k
+            → P ts (placed looped (stated (Evaluates e) ts)) (Made (suc k) place looped (placed looped (stated (Evaluates e) ts)) (nesting_in source names (Evaluates e)))
         by true calls low = called (suc k) place ts e looped calls low is
         by false calls low = alone k place ts (Evaluates e) looped refl (rw calls refl) (λ d l. (
             let r = ended_moves source form d E (Alike source form) (expression_moves source form d limit) w.Semicolon ts e l is in
@@ -371,7 +385,8 @@ module _ (source form : List ℕ) (names : List (List ℕ)) (limit : ℕ) (enoug
         ))
     form_formed place ts (Chooses test body nothing) looped (i, x, y, whole, ne, i_is, test_is, is) deep =
         let low = le-max_left (nesting source names body) 0 in
-        with_one place ts (i ∷ x) y (Chooses test body nothing) body Elsewhere looped looped whole is (omega (arith, low, deep)) (append-nil (placed looped body)) refl (no_arm (nesting source names body)) (λ d us z st us_is l st_is. (
+        with_one place ts (i ∷ x) y (Chooses test body nothing) body Elsewhere looped looped whole is (omega (arith, low, deep)) (append-nil (placed looped body)) refl (no_arm
+        (nesting source names body)) (λ d us z st us_is l st_is. (
         let r = tests d x test l.1 test_is in (
           Chooses r.0 st nothing,
           (moved d i, m d x, z, us_is, ne, i_is, r.1, st_is),

@@ -17,3 +17,4 @@ mod Lists
 mod Scope
 mod Descriptors
 pub mod Free
+mod Nested

@@ -1,13 +1,13 @@
 -- That a form is read.
-use Rattle.std.specs.Prelude.{◌≡◌, ◌≢◌, ℕ, List, None}
+use Rattle.std.specs.Prelude.{◌≡◌, ◌≢◌, ℕ, List, None, false}
 use Rattle.cw_syntax.specs.Trees.{File}
 use Rattle.cw_rights.specs.Policies.{PlainPolicy}
 use Rattle.cw_scope.specs.Descriptors.{descriptor_fault}
 use Rattle.cw_source.specs.declared.fault.SourceFault.{SourceFault}
-use Rattle.cw_source.specs.declared.fault.SourceFault.TheVariants.{NoMemory}
+use Rattle.cw_source.specs.declared.fault.SourceFault.TheVariants.{NoMemory, TooDeep}
 use Rattle.cw_source.specs.Read.{ReadsAs, IsFaultOf}
 use Rattle.cw_detach.specs.Form.{form_of}
-use Rattle.cw_detach.specs.Faults.{IsFirstFault}
+use Rattle.cw_detach.specs.Faults.{is_shallow, IsFirstFault}
 use Rattle.cw_forms.specs.Statements.{SameFile}
 
 -- The form is read as a file that is the source's but for places and for what stands for the calls, and no rule of descriptors is broken in it.
@@ -27,3 +27,8 @@ abbrev pub FormsAreNotRefused : Type 0
 FormsAreNotRefused = (source : List ℕ) (file : File) (policy : PlainPolicy) (fault : SourceFault) → ReadsAs source file → descriptor_fault source file policy ≡ None
     → IsFirstFault source file policy None
     → fault ≢ NoMemory → IsFaultOf (form_of source policy.detached file) fault → ⊥
+
+-- Where the statements of a form, as they are reckoned by those of the source, nest deeper than they may, the form has tokens that are of the grammar, and no program derives from them within
+    the limit.
+abbrev pub DeepFormsAreDeep : Type 0
+DeepFormsAreDeep = (source : List ℕ) (names : List (List ℕ)) (file : File) → ReadsAs source file → is_shallow source file names ≡ false → IsFaultOf (form_of source names file) TooDeep

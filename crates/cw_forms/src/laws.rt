@@ -5,7 +5,7 @@ ghost use Rattle.cw_syntax.specs.Trees.{File};
 ghost use Rattle.cw_source.specs.Read.{ReadsAs};
 ghost use Rattle.cw_detach.specs.Faults.{is_shallow};
 ghost use Rattle.cw_forms.specs.Derived.{FormDerives};
-ghost use Rattle.cw_forms.specs.Laws.{FormsAreRead, FormsAreNotRefused};
+ghost use Rattle.cw_forms.specs.Laws.{DeepFormsAreDeep, FormsAreRead, FormsAreNotRefused};
 
 /// The form of a source that is read, and that nests no deeper than a source may, has tokens: those of the source, each with its own bytes, with
 /// those of the two texts before and behind each call that isn't waited for. They are of the grammar, nothing nests past the limit, and the
@@ -22,4 +22,10 @@ pub fn forms_are_derived()
 pub fn forms_are_read()
     ensures read { FormsAreRead }
     ensures not_refused { FormsAreNotRefused }
+{}
+
+/// A form whose statements, as they are reckoned by those of the source, nest deeper than a source's may is too deep for the reader: so no form is
+/// refused for its nesting that would have been read.
+pub fn deep_forms_are_deep()
+    ensures { DeepFormsAreDeep }
 {}

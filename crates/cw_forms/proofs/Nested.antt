@@ -1,0 +1,163 @@
+-- A form that is refused for its nesting is too deep for the reader.
+use Rattle.std.proofs.Common.{max}
+use Rattle.std.proofs.Common.{◌≡◌, ◌⊎◌, ℕ, zero, suc, ◌+◌, ◌≤◌, Bool, true, false, cond, nat_le, ◌&&◌, List, [], ◌∷◌, ◌++◌, drop, length, Result, Ok, Err, None, refl, sym, ap, subst, ◌∙◌, arith}
+use Rattle.std.proofs.Common.{inl, inr}
+use Rattle.std.specs.List.{list_all}
+use Rattle.std.proofs.lemmas.Bool.{both_ways}
+use Rattle.std.proofs.lemmas.Bool.Decides.{nat_tests}
+use Rattle.std.proofs.Math.Nat.{le-max_left, le-max_right, max-le}
+use Rattle.cw_core.specs.declared.quantity.Quantity.TheVariants.{Nesting}
+use Rattle.cw_core.specs.Quantities.{limit_of}
+use Rattle.cw_syntax.specs.Trees.{Tree, Statement, Stated, Form, Block, Declares, Evaluates, Empties, Labels, Chooses, Whiles, Does, Fors, Breaks, Continues, Returns, nothing, just, Definition, File}
+use Rattle.cw_lex.specs.declared.tokens.Token.{Token}
+use Rattle.cw_lex.specs.Marks.{HasNoMarker}
+use Rattle.cw_lex.specs.Listed.{AreInOrder}
+use Rattle.cw_lex.specs.Tokens.{Stand, tokens_of, AreTokens}
+use Rattle.cw_lex.proofs.Ordered.{tokens_in_order}
+use Rattle.cw_grammar.specs.declared.words.Lexeme.{Lexeme}
+use Rattle.cw_grammar.specs.Lexemes.{AreAll, statements}
+use Rattle.cw_grammar.specs.Spelling.{lexemes_of}
+use Rattle.cw_grammar.specs.Expressions.{IsExpression, nesting_limit}
+use Rattle.cw_grammar.specs.Declarations.{Expressions}
+use Rattle.cw_grammar.specs.Statements.{Place, InBlock, BeforeElse, Elsewhere, last, IsForm, IsStatement}
+use Rattle.cw_grammar.specs.Files.{Part as FilePart, Declares as DeclaresPart, Holds, Defines, IsPart, IsFile, IsOfGrammar, IsProgram, file_of}
+use Rattle.cw_grammar.proofs.Deeper.{all_weaker, part_deeper}
+use Rattle.cw_recogniser.specs.Language.{AreOfGrammar}
+use Rattle.cw_parse.proofs.FilesComplete.{file_again, program_is_read}
+use Rattle.cw_source.specs.Read.{ReadsAs, DerivesNone}
+use Rattle.cw_parse.specs.declared.fault.ParseFault.TheVariants as parse
+use Rattle.cw_detach.specs.Form.{calls_one, form_of, nesting, nesting_in, nesting_all}
+use Rattle.cw_detach.specs.Faults.{is_shallow}
+use Rattle.cw_forms.specs.Moved.{Pairs}
+use Rattle.cw_forms.specs.Pieces.{lefts, rights}
+use Rattle.cw_forms.specs.Spans.{spans_of, with_texts}
+use Rattle.cw_forms.specs.Laws.{DeepFormsAreDeep}
+use Rattle.cw_forms.proofs.Derived.{form_is, same_limit, enough}
+use Rattle.cw_forms.proofs.Formed.{calls_none}
+use Rattle.cw_forms.proofs.Lexing.{lexing}
+use Rattle.cw_forms.proofs.Markers.{no_marker}
+use Rattle.cw_forms.proofs.FilesFormed.{AreShallow, NestsAs, parts_formed, lie_of}
+
+-- ---- what is read nests no deeper than the limit
+
+module _ (form : List ℕ) where
+  module _ (E : Expressions) (P : Place → List Lexeme → Statement → Type 0) (n : ℕ) (h : (place : Place) (ts : List Lexeme) (st : Statement) → P place ts st → nesting form [] st ≤ n) where
+    all_nest : (ts : List Lexeme) (ss : List Statement) → AreAll (P InBlock) ts ss → nesting_all form [] (statements ss) ≤ n
+    all_nest ts [] is = omega arith
+    all_nest ts (st ∷ ss) (x, y, whole, first, rest) = max-le (h InBlock x st first) (all_nest y ss rest)
+
+    form_nests : (place : Place) (ts : List Lexeme) (fm : Form) → IsForm E P place ts fm → nesting_in form [] fm ≤ suc n
+    form_nests place ts (Block kids) (inner, kids_are, (o, x, c, whole, opens, closes, all)) = rw kids_are (let p = all_nest x inner all in omega arith)
+    form_nests place ts (Declares d) is = omega arith
+    form_nests place ts (Evaluates e) is = rw (calls_none form e) (omega arith)
+    form_nests place ts Empties is = omega arith
+    form_nests place ts (Labels name mark body) (k, colon, x, whole, k_is, colon_is, name_is, mark_is, is) = let p = h (last place) x body is in omega arith
+    form_nests place ts (Chooses check arm nothing) (i, x, y, whole, place_is, i_is, test_is, is) =
+        let zero_le : 0 ≤ n = omega arith in
+        let p = max-le (h Elsewhere y arm is) zero_le in omega arith
+    form_nests place ts (Chooses check arm (just other)) (i, x, y, e, z, whole, i_is, test_is, is, e_is, other_is) =
+        let p = max-le (h BeforeElse y arm is) (h (last place) z other other_is) in omega arith
+    form_nests place ts (Whiles check body) (w, x, y, whole, w_is, test_is, is) = let p = h (last place) y body is in omega arith
+    form_nests place ts (Does body check) (d, x, w, y, c, whole, d_is, is, w_is, test_is, c_is) = let p = h Elsewhere x body is in omega arith
+    form_nests place ts (Fors init check step body) (f, o, x, y, z, v, whole, f_is, o_is, init_is, test_is, step_is, is) = let p = h (last place) v body is in omega arith
+    form_nests place ts Breaks is = omega arith
+    form_nests place ts Continues is = omega arith
+    form_nests place ts (Returns value) is = omega arith
+
+  statement_nests : (limit n : ℕ) (place : Place) (ts : List Lexeme) (st : Statement) → IsStatement limit n place ts st → nesting form [] st ≤ n
+  statement_nests limit zero place ts st is = absurd is
+  statement_nests limit (suc n) place ts (Stated fm begin finish) (begin_is, finish_is, is) =
+      form_nests (IsExpression limit) (IsStatement limit n) n (statement_nests limit n) place ts fm is
+
+  abbrev Low : ℕ → List Definition → Type 0
+  Low n [] = Unit {0}
+  Low n (f ∷ fs) = (nesting_all form [] f.body ≤ n) × Low n fs
+
+  parts_low : (limit : ℕ) (parts : List FilePart) (ts : List Lexeme) → AreAll (IsPart limit) ts parts → Low limit (file_of parts).functions
+  parts_low limit [] ts is = tt
+  parts_low limit (DeclaresPart d ∷ parts) ts (x, y, whole, first, rest) = parts_low limit parts y rest
+  parts_low limit (Holds d ∷ parts) ts (x, y, whole, first, rest) = parts_low limit parts y rest
+  parts_low limit (Defines f ∷ parts) ts (x, y, whole, (header, o, inner, c, body, all_of, is_header, named, opens, brace, all, body_is, closes), rest) =
+      (rw body_is (all_nest (IsExpression limit) (IsStatement limit limit) limit (statement_nests limit limit) inner body all), parts_low limit parts y rest)
+
+-- ---- how deep a form is reckoned to be
+
+same_ok : {A B : Type 0} (D : Type 0) (r : Result A B) (x y : A) (e : B) → r ≡ Ok x → (r ≡ Ok y) ⊎ (D × (r ≡ Err e)) → x ≡ y
+same_ok D r x y e is (inl there) = let z : r ≡ r = refl in cc
+same_ok D r x y e is (inr (deep, there)) = absurd cc
+
+module _ (source : List ℕ) (names : List (List ℕ)) where
+  deepest : List Definition → ℕ
+  deepest [] = 0
+  deepest (f ∷ fs) = max (nesting_all source names f.body) (deepest fs)
+
+  below : (form : List ℕ) (limit : ℕ) (some : 2 ≤ limit) (fs : List Definition) → deepest fs ≤ limit → AreShallow source form names limit some fs
+  unfolding deepest
+  below form limit some [] le = tt
+  below form limit some (f ∷ fs) le =
+      let one = le-max_left (nesting_all source names f.body) (deepest fs) in
+      let other = le-max_right (nesting_all source names f.body) (deepest fs) in
+      (omega (arith, one, le), below form limit some fs (omega (arith, other, le)))
+
+  shallow_by : (form : List ℕ) (limit : ℕ) (some : 2 ≤ limit) (n : ℕ) (fs gs : List Definition) → Pairs (NestsAs source form names limit some) fs gs → Low form n gs
+      → list_all (λ f. nat_le (nesting_all source names f.body) n) fs ≡ true
+  shallow_by form limit some n [] [] h low = refl
+  shallow_by form limit some n [] (g ∷ gs) h low = absurd h
+  shallow_by form limit some n (f ∷ fs) [] h low = absurd h
+  shallow_by form limit some n (f ∷ fs) (g ∷ gs) h low =
+      let first = h.0 in
+      let le : nesting_all source names f.body ≤ n = (let a = low.0 in omega (arith, first, a)) in
+      let t : nat_le (nesting_all source names f.body) n ≡ true = grind (arith, nat_tests) in
+      rw t (shallow_by form limit some n fs gs h.1 low.1)
+
+  module _ (parts : List FilePart) (tokens : List Token) where
+    abbrev file : File
+    file = file_of parts
+
+    abbrev form : List ℕ
+    form = form_of source names file
+
+    abbrev N : ℕ
+    N = nesting_limit + deepest file.functions
+
+    wide : 2 ≤ N
+    wide = let p = enough in omega (arith, p)
+
+    too_deep : AreTokens source tokens → AreInOrder 0 (length source) tokens → AreAll (IsPart nesting_limit) (lexemes_of source tokens) parts → is_shallow source file names ≡ false
+        → DerivesNone form parse.TooDeep
+    unfolding AreTokens IsProgram AreOfGrammar IsOfGrammar
+    too_deep lexed order all high =
+        let wider = all_weaker (IsPart nesting_limit) (IsPart N) (part_deeper nesting_limit N (omega arith)) parts (lexemes_of source tokens) all in
+        let part = parts_formed source form names N wide parts (lexemes_of source tokens) 0 (length source) wider (lie_of source 0 (length source) tokens order)
+        (below form N wide file.functions (omega arith)) in
+        let pieces = part.pieces in
+        let whole : form ≡ with_texts source 0 (spans_of pieces) = form_is source names file ∙ ap (with_texts source 0) (sym part.spans) in
+        let words : lexemes_of source (tokens_of 0 lexed.1.0) ≡ lefts pieces = ap (lexemes_of source) (sym lexed.1.3) ∙ sym part.left in
+        let r = lexing source form pieces [] 0 0 true lexed.1.1 lexed.1.0 lexed.1.2 words part.ended whole in
+        let l = r.2 in
+        let made = part.right 0 r.4 in
+        let us = tokens_of 0 l.pieces in
+        let ts = lexemes_of form us in
+        let stand : Stand true form l.pieces r.1 [] = subst (λ (z : List ℕ). Stand true z l.pieces r.1 []) (sym whole) l.stand in
+        let clear = subst (λ (z : List ℕ). HasNoMarker z) (sym whole) (no_marker source (spans_of pieces) lexed.0) in
+        let deep_file : IsFile N ts (file_of made.0) = (made.0, subst (λ (z : List Lexeme). AreAll (IsPart N) z made.0) (sym l.words) made.1, refl) in (
+          us,
+          (clear, (l.pieces, r.1, stand, refl)),
+          (
+            (file_of made.0, (N, deep_file)),
+            (λ other p. (
+                let same : other ≡ file_of made.0 = same_ok _ _ other (file_of made.0) _ (program_is_read ts other p) (file_again N ts (file_of made.0) deep_file) in
+                let low : Low form nesting_limit other.functions = subst (λ (z : File). Low form nesting_limit z.functions) (sym p.2) (parts_low form nesting_limit p.0 ts p.1) in
+                let low_made : Low form nesting_limit (file_of made.0).functions = subst (λ (z : File). Low form nesting_limit z.functions) same low in
+                let shallow = shallow_by form N wide nesting_limit file.functions (file_of made.0).functions made.4 low_made in
+                let there : is_shallow source file names ≡ true = subst (λ (z : ℕ). list_all (λ f. nat_le (nesting_all source names f.body) z) file.functions ≡ true) same_limit shallow in
+                both_ways (is_shallow source file names) high there)),
+          ),
+        )
+
+pub deep_forms_are_deep : DeepFormsAreDeep
+unfolding IsProgram
+deep_forms_are_deep source names file h high =
+    let derived = h.derived in
+    subst (λ (y : File). DerivesNone (form_of source names y) parse.TooDeep) (sym derived.2)
+    (too_deep source names derived.0 h.tokens h.lexed (tokens_in_order source h.tokens h.lexed) derived.1 (subst (λ (y : File). is_shallow source y names ≡ false) derived.2 high))
