@@ -14,7 +14,8 @@ use Rattle.cw_stages.specs.Reading.{AfterReading, IsSourceUnread}
 use Rattle.cw_parting.specs.Parting.{IsProcsDue, OfForm}
 use Rattle.cw_consequences.specs.Laws.{OfReadForm, AfterReadForm, EachFormIsRead}
 
-module _ (source : List ℕ) (whole : PlainPolicy) (file : File) (due : Due) (reads : ReadsAs source file) (declared : descriptor_fault source file whole ≡ None) (clear : IsFirstFault source file whole None) where
+module _ (source : List ℕ) (whole : PlainPolicy) (file : File) (due : Due) (reads : ReadsAs source file) (declared : descriptor_fault source file whole ≡ None)
+    (clear : IsFirstFault source file whole None) where
   abbrev form : List ℕ
   form = form_of source whole.detached file
 

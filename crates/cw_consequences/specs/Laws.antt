@@ -53,7 +53,8 @@ abbrev pub AfterReadForm : List ℕ → PlainPolicy → File → Due → Type 0
 AfterReadForm source whole file due =
     IsFormRefusal source file whole due ⊎ (IsFirstFault source file whole None × OfReadForm whole (form_of source whole.detached file) due)
 
--- No form is refused by the reader, or by the rules of descriptors: what is due for `procs` is a refusal of the policy, of the source or of the rule that forbids a form, or what is due for the program that the form is read as.
+-- No form is refused by the reader, or by the rules of descriptors: what is due for `procs` is a refusal of the policy, of the source, or by the rule that
+-- forbids a form; or what is due for the program that the form is read as.
 abbrev pub EachFormIsRead : Type 0
 EachFormIsRead = (policy source : List ℕ) (due : Due) → IsProcsDue policy source due ↔ AfterReading (AfterReadForm source) policy source due
 

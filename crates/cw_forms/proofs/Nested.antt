@@ -1,14 +1,12 @@
 -- A form that is refused for its nesting is too deep for the reader.
 use Rattle.std.proofs.Common.{max}
-use Rattle.std.proofs.Common.{◌≡◌, ◌⊎◌, ℕ, zero, suc, ◌+◌, ◌≤◌, Bool, true, false, cond, nat_le, ◌&&◌, List, [], ◌∷◌, ◌++◌, drop, length, Result, Ok, Err, None, refl, sym, ap, subst, ◌∙◌, arith}
+use Rattle.std.proofs.Common.{◌≡◌, ◌⊎◌, ℕ, zero, suc, ◌+◌, ◌≤◌, true, false, nat_le, List, [], ◌∷◌, length, Result, Ok, Err, refl, sym, ap, subst, ◌∙◌, arith}
 use Rattle.std.proofs.Common.{inl, inr}
 use Rattle.std.specs.List.{list_all}
 use Rattle.std.proofs.lemmas.Bool.{both_ways}
 use Rattle.std.proofs.lemmas.Bool.Decides.{nat_tests}
 use Rattle.std.proofs.Math.Nat.{le-max_left, le-max_right, max-le}
-use Rattle.cw_core.specs.declared.quantity.Quantity.TheVariants.{Nesting}
-use Rattle.cw_core.specs.Quantities.{limit_of}
-use Rattle.cw_syntax.specs.Trees.{Tree, Statement, Stated, Form, Block, Declares, Evaluates, Empties, Labels, Chooses, Whiles, Does, Fors, Breaks, Continues, Returns, nothing, just, Definition, File}
+use Rattle.cw_syntax.specs.Trees.{Statement, Stated, Form, Block, Declares, Evaluates, Empties, Labels, Chooses, Whiles, Does, Fors, Breaks, Continues, Returns, nothing, just, Definition, File}
 use Rattle.cw_lex.specs.declared.tokens.Token.{Token}
 use Rattle.cw_lex.specs.Marks.{HasNoMarker}
 use Rattle.cw_lex.specs.Listed.{AreInOrder}
@@ -24,12 +22,12 @@ use Rattle.cw_grammar.specs.Files.{Part as FilePart, Declares as DeclaresPart, H
 use Rattle.cw_grammar.proofs.Deeper.{all_weaker, part_deeper}
 use Rattle.cw_recogniser.specs.Language.{AreOfGrammar}
 use Rattle.cw_parse.proofs.FilesComplete.{file_again, program_is_read}
-use Rattle.cw_source.specs.Read.{ReadsAs, DerivesNone}
+use Rattle.cw_source.specs.Read.{DerivesNone}
 use Rattle.cw_parse.specs.declared.fault.ParseFault.TheVariants as parse
-use Rattle.cw_detach.specs.Form.{calls_one, form_of, nesting, nesting_in, nesting_all}
+use Rattle.cw_detach.specs.Form.{form_of, nesting, nesting_in, nesting_all}
 use Rattle.cw_detach.specs.Faults.{is_shallow}
 use Rattle.cw_forms.specs.Moved.{Pairs}
-use Rattle.cw_forms.specs.Pieces.{lefts, rights}
+use Rattle.cw_forms.specs.Pieces.{lefts}
 use Rattle.cw_forms.specs.Spans.{spans_of, with_texts}
 use Rattle.cw_forms.specs.Laws.{DeepFormsAreDeep}
 use Rattle.cw_forms.proofs.Derived.{form_is, same_limit, enough}

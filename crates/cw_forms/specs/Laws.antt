@@ -28,7 +28,7 @@ FormsAreNotRefused = (source : List ℕ) (file : File) (policy : PlainPolicy) (f
     → IsFirstFault source file policy None
     → fault ≢ NoMemory → IsFaultOf (form_of source policy.detached file) fault → ⊥
 
--- Where the statements of a form, as they are reckoned by those of the source, nest deeper than they may, the form has tokens that are of the grammar, and no program derives from them within
-    the limit.
+-- Where the statements of a form, as they are reckoned by those of the source, nest deeper than they may, the form has tokens that are of the
+-- grammar, and no program derives from them within the limit.
 abbrev pub DeepFormsAreDeep : Type 0
 DeepFormsAreDeep = (source : List ℕ) (names : List (List ℕ)) (file : File) → ReadsAs source file → is_shallow source file names ≡ false → IsFaultOf (form_of source names file) TooDeep
