@@ -1,7 +1,6 @@
 -- What a run goes by, as the code holds it.
-use Rattle.std.specs.Prelude.{◌≡◌, ℕ, List, map, Option, Some, None, Vec}
+use Rattle.std.specs.Prelude.{◌≡◌, ℕ, List, map, Option, Some, None}
 use Rattle.std.specs.Borrow.{Bor}
-use Rattle.std.specs.declared.alloc.Global.{Global}
 use Rattle.cw_syntax.specs.declared.program.Stmt.{Stmt}
 use Rattle.cw_syntax.specs.Trees.{Statement, Definition}
 use Rattle.cw_value.specs.Expressions.{Named}
@@ -9,12 +8,13 @@ use Rattle.cw_value.specs.Deeds.{Deed, Rests, said_all}
 use Rattle.cw_value.specs.Machines.{Source, function, no_names, own_if, own_names, shared_names}
 use Rattle.cw_slots.specs.Texts.{statement_at}
 use Rattle.cw_deeds.specs.declared.items.Row.{Row}
+use Rattle.cw_deeds.specs.declared.items.Row.TheVariants as row
 use Rattle.cw_deeds.specs.Forms.{deed_among}
 use Rattle.cw_starts.specs.Sources.{source_in}
 use Rattle.cw_machine.specs.declared.known.Known.{Known}
 
-abbrev pub said_in : Vec (Bor Stmt) Global → List Statement
-said_in said = map statement_at said.items
+abbrev pub said_in : List (Bor Stmt) → List Statement
+said_in said = map statement_at said
 
 -- the names are the file's and its functions', and the statements each function's
 pub record IsKnown (k : Known) : Type 0 where
@@ -30,3 +30,15 @@ names_for s number = own_if s.bytes (function s number)
 abbrev pub deed_for : Option Definition → Row → Deed
 deed_for None row = Rests
 deed_for (Some f) row = deed_among (said_all f.body) row
+
+-- the place of the statement that a row stands for
+abbrev pub place_of : Row → ℕ
+place_of row.Rests = 0
+place_of (row.Plain at) = at
+place_of (row.Returns at) = at
+place_of (row.Opens at) = at
+place_of (row.Closes at) = at
+place_of (row.Calls at callee x) = at
+place_of (row.Decides at) = at
+place_of (row.Steps at) = at
+place_of row.Ends = 0

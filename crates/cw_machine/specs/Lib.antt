@@ -1,2 +1,3 @@
-pub mod Knowing
 pub mod Shown
+pub mod Knowing
+pub mod Apart

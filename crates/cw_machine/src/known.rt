@@ -7,13 +7,13 @@ ghost use Rattle.cw_slots.specs.Shown.{scope_of};
 ghost use Rattle.cw_slots.specs.Texts.{statement_at};
 ghost use Rattle.cw_eval.specs.Passings.{deed_in};
 ghost use Rattle.cw_starts.specs.Sources.{source_in};
-ghost use Rattle.cw_machine.specs.Knowing.{IsKnown, deed_for, names_for, said_in};
+ghost use Rattle.cw_machine.specs.Knowing.{IsKnown, deed_for, names_for, place_of, said_in};
 
+use crate::said::Said;
 use cw_deeds::{Row, call_start, deed_by, statement_start};
 use cw_eval::Deed;
 use cw_slots::{Names, Scope};
 use cw_starts::Source;
-use cw_syntax::program::Stmt;
 
 /// What a run goes by: the source, the names of its file and of its functions, and the statements of each function.
 #[derive(Clone, Copy, Drop)]
@@ -22,7 +22,7 @@ pub struct Known<'a, 's> {
     pub shared: &'a Names<'s>,
     pub none: &'a Names<'s>,
     pub own: &'a [Names<'s>],
-    pub said: &'a [Vec<&'s Stmt>],
+    pub said: &'a [Said<'s>],
 }
 
 impl<'a, 's> Known<'a, 's> {
@@ -59,7 +59,7 @@ impl<'a, 's> Known<'a, 's> {
         if number >= self.said.len() {
             return Deed::Rests;
         }
-        deed_by(&self.said[number], row)
+        deed_by(self.said[number].behind(place_of(row)), row)
     }
 
     /// The start of the call whose statement stands at this place in a function.
@@ -70,7 +70,7 @@ impl<'a, 's> Known<'a, 's> {
         if number >= self.said.len() {
             return at;
         }
-        call_start(&self.said[number], at)
+        call_start(self.said[number].behind(at), at)
     }
 
     /// The start of the expression whose statement stands at this place in a function.
@@ -81,6 +81,18 @@ impl<'a, 's> Known<'a, 's> {
         if number >= self.said.len() {
             return at;
         }
-        statement_start(&self.said[number], at)
+        statement_start(self.said[number].behind(at), at)
+    }
+}
+
+/// The place of the statement that a row stands for.
+fn place_of(row: Row) -> u32
+    ensures { result ≡ place_of row }
+{
+    match row {
+        Row::Rests | Row::Ends => 0,
+        Row::Plain(at) | Row::Returns(at) | Row::Opens(at) | Row::Closes(at) => at,
+        Row::Calls(at, _, _) => at,
+        Row::Decides(at) | Row::Steps(at) => at,
     }
 }

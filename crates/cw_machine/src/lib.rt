@@ -4,11 +4,13 @@
 mod known;
 mod machine;
 mod prepared;
+mod said;
 mod steps;
 mod whole;
 
 pub use known::Known;
 pub use machine::{Machine, Wait, new_store};
 pub use prepared::{all_own_names, all_said, given_cells};
+pub use said::Said;
 pub use steps::{step_back, step_into, step_on};
 pub use whole::{step_call, step_end, step_inner};

@@ -10,8 +10,9 @@ ghost use Rattle.cw_value.specs.Machines.{own_names};
 ghost use Rattle.cw_slots.specs.Shown.{scope_of};
 ghost use Rattle.cw_machine.specs.Knowing.{said_in};
 
+use crate::said::Said;
 use cw_slots::{Names, Scope, own_names, said};
-use cw_syntax::program::{Function, Param, Stmt};
+use cw_syntax::program::{Function, Param};
 use std::alloc::{AllocError, Global};
 
 /// The names of each function.
@@ -30,12 +31,12 @@ pub fn all_own_names<'s>(
 }
 
 /// The statements of each function.
-pub fn all_said(alloc: Global, functions: &[Function]) -> Result<Vec<Vec<&Stmt>>, AllocError>
+pub fn all_said(alloc: Global, functions: &[Function]) -> Result<Vec<Said<'_>>, AllocError>
     ensures said { IfOk result (λ all. map said_in all.items ≡ map (λ f. said_all f.body) (map definition_of functions.now)) }
 {
     let mut all = Vec::new(alloc);
     for function in functions {
-        all.push(said(alloc, &function.body)?)?;
+        all.push(Said::of(alloc, said(alloc, &function.body)?)?)?;
     }
     Ok(all)
 }

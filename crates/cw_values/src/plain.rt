@@ -30,13 +30,13 @@ use crate::running::Run;
 use cw_core::{NoMemory, PointId};
 use cw_deeds::{Row, rows};
 use cw_eval::{Halt, Memory};
-use cw_machine::{Known, Machine, all_own_names, all_said, given_cells, new_store};
+use cw_machine::{Known, Machine, Said, all_own_names, all_said, given_cells, new_store};
 use cw_points::Graph;
 use cw_rights::Policy;
 use cw_slots::{Names, Scope, shared_names};
 use cw_starts::{Source, Turning, begin, globals, no_store, shape, start_store};
 use cw_syntax::checked::Checked;
-use cw_syntax::program::{Function, Item, Stmt};
+use cw_syntax::program::{Function, Item};
 use cw_value::{Answers, ValueFault, Values};
 use std::alloc::Global;
 use std::collections::VecDeque;
@@ -157,7 +157,7 @@ fn run_prepared<'s>(
     shared: &Names<'s>,
     none: &Names<'s>,
     own: &[Names<'s>],
-    said: &[Vec<&'s Stmt>],
+    said: &[Said<'s>],
     graph: &Graph,
     rows: &[Row],
     calls: &[i64],

@@ -1,10 +1,10 @@
-use Rattle.std.proofs.Common.{◌∙◌, sym, ap, map, List, Option, arith, Vec, Global}
+use Rattle.std.proofs.Common.{◌∙◌, sym, ap, List, Option, arith}
+use Rattle.std.specs.Prelude.{option_map}
 use Rattle.std.specs.Borrow.{Bor}
 use Rattle.cw_syntax.specs.declared.program.Stmt.{Stmt}
 use Rattle.cw_syntax.specs.Trees.{Definition, Statement}
-use Rattle.cw_value.specs.Deeds.{said_all}
+use Rattle.cw_value.specs.Deeds.{form_of, said_all}
 use Rattle.cw_value.specs.Machines.{form_in, whole_from}
-use Rattle.cw_slots.specs.Texts.{statement_at}
 use Rattle.cw_deeds.specs.Forms.{form_in as form_among}
 use Rattle.cw_starts.specs.Sources.{source_in}
 use Rattle.cw_machine.specs.Knowing.{said_in}
@@ -24,8 +24,8 @@ returns c =
     record {
       start =
           c.statement_start.ensures.start
-          ∙ ap (λ l. (λ (l : List Statement). whole_from c.args.at (form_among l c.args.at)) (map statement_at l)) c.deref.ensures.value
-          ∙ ap (λ (v : Vec (Bor Stmt) Global). (λ (l : List Statement). whole_from c.args.at (form_among l c.args.at)) (said_in v)) (sym c.index-self-number.is)
+          ∙ ap (λ o. whole_from c.args.at (option_map form_of o)) c.behind.ensures.found
+          ∙ ap (λ (v : List (Bor Stmt)). (λ (l : List Statement). whole_from c.args.at (form_among l c.args.at)) (said_in v)) (sym c.index-self-number.is)
           ∙ ap (λ (l : List Statement). whole_from c.args.at (form_among l c.args.at)) f.2
           ∙ sym (ap (λ (o : Option Definition). whole_from c.args.at (form_in o c.args.at)) f.1);
     }
