@@ -34,7 +34,7 @@ module _ (policy : PlainPolicy) (s : Source) (fits : Fits s.bytes s.file policy)
   inv_start : (m : Memory) → Inv policy s fits (start_stack (plan policy s)) (main_machine s (plan policy s).main m)
   inv_start m = (aligned_start (slice_get (plan policy s).routines (plan policy s).main) _ refl refl, (tt, λ k. absurd (cc), tt))
 
-  start_paired : (t : Table) (tries : List Move) (m : Memory)
+  pub start_paired : (t : Table) (tries : List Move) (m : Memory)
       → Paired s p (Some t) (Inv policy s fits) (invariant policy s fits) (going_start s p None tries m) (going_start s p (Some t) tries m)
   start_paired t tries m =
       let stack = start_stack (plan policy s) in

@@ -168,11 +168,11 @@ module _ (source : Source) (p : Problem) where
   lands b next Over way h e = absurd h
 
   -- The weaver's moves but a stop, and the answers to it, leave the stack, and bring no split that wasn't to come.
-  record Stays (b next : Board) : Type 0 where
-    stack : next.stack ≡ b.stack
-    fits : (frame : Frame) (frames : List Frame) → Fits (frame ∷ frames) next.phase
-    split : may_split next.phase ≡ true → may_split b.phase ≡ true
-    stop : is_refused next.phase ≡ true → p.policy.stop ≡ true
+  pub record Stays (b next : Board) : Type 0 where
+    pub stack : next.stack ≡ b.stack
+    pub fits : (frame : Frame) (frames : List Frame) → Fits (frame ∷ frames) next.phase
+    pub split : may_split next.phase ≡ true → may_split b.phase ≡ true
+    pub stop : is_refused next.phase ≡ true → p.policy.stop ≡ true
 
   stays_by : (b next : Board) (phase new : Phase) → b.phase ≡ phase → next ≡ record b { phase = new } → ((frame : Frame) (frames : List Frame) → Fits (frame ∷ frames) new)
       → (may_split new ≡ true → may_split phase ≡ true) → (is_refused new ≡ true → p.policy.stop ≡ true) → Stays b next
@@ -190,7 +190,7 @@ module _ (source : Source) (p : Problem) where
       (λ h. sym q ∙ later_split a later (sym (onward_split (suc stage) later) ∙ h))
       (λ h. absurd (never_true (is_refused (onward (suc stage) later)) (onward_unrefused (suc stage) later) h))
 
-  weave_stays : (b next : Board) (phase : Phase) (m : Move) → b.phase ≡ phase → IsWeaving phase → m ≢ StopMove → moved p b phase m ≡ Some next → Stays b next
+  pub weave_stays : (b next : Board) (phase : Phase) (m : Move) → b.phase ≡ phase → IsWeaving phase → m ≢ StopMove → moved p b phase m ≡ Some next → Stays b next
   weave_stays b next (Visit i a l) Skip q h ns e = stays_onward b next (Visit i a l) i a l q refl (sym (same_Some (passed_by b i l) next e))
   weave_stays b next (Visit i a l) Try q h ns e =
       stays_by b next (Visit i a l) (Asked i a l) q (sym (same_Some (record b { phase = Asked i a l }) next e)) (λ frame frames. tt) (λ k. k) (λ k. absurd (cc))
@@ -247,7 +247,7 @@ module _ (source : Source) (p : Problem) where
   cond_some true x next e = same_Some x next e
   cond_some false x next e = absurd (cc)
 
-  answer_stays : (b next : Board) (i : ℕ) (a : Primitive) (l : List Primitive) (m : Move) → b.phase ≡ Asked i a l → answered p b i a l m ≡ Some next → Stays b next
+  pub answer_stays : (b next : Board) (i : ℕ) (a : Primitive) (l : List Primitive) (m : Move) → b.phase ≡ Asked i a l → answered p b i a l m ≡ Some next → Stays b next
   answer_stays b next i a l Grant q e = grant_stays b next i a l q (cond_some (may_grant b.caps a) (granted b i a l) next e)
   answer_stays b next i a l Refuse q e = refuse_stays (can_stop p.policy b.caps a) b next i a l refl q (cond_some (may_refuse p.policy b.caps a) (refused p b i a l) next e)
   answer_stays b next i a l Skip q e = absurd (cc)
@@ -383,7 +383,7 @@ module _ (source : Source) (p : Problem) where
       by_stack [] e = absurd (o (empty_over b.stack b.phase h e))
       by_stack (f ∷ fs) e = subst (λ (x : List Frame). Fits x next.phase) (sym (q.stack ∙ e)) (q.fits f fs)
 
-    stays_paired : (s t : Going) (next : State) (tries : List Move) (tried : ℕ) → Paired s t → t.woven.board.phase ≢ Over → Stays t.woven.board next.board
+    pub stays_paired : (s t : Going) (next : State) (tries : List Move) (tried : ℕ) → Paired s t → t.woven.board.phase ≢ Over → Stays t.woven.board next.board
         → Paired s (record t { woven = next; tries = tries; tried = tried })
     stays_paired s t next tries tried h o q = record {
       stack = h.stack ∙ sym q.stack;
@@ -396,13 +396,13 @@ module _ (source : Source) (p : Problem) where
       inv = subst (λ (x : List Frame). Inv x t.machine) (sym q.stack) h.inv;
     }
 
-    weaving_on : (phase : Phase) → IsWeaving phase → phase ≢ Over
+    pub weaving_on : (phase : Phase) → IsWeaving phase → phase ≢ Over
     weaving_on phase h e = subst IsWeaving e h
 
-    free_on : (phase : Phase) → IsFree phase → phase ≢ Over
+    pub free_on : (phase : Phase) → IsFree phase → phase ≢ Over
     free_on phase h e = subst IsFree e h
 
-    split_may : (phase : Phase) → is_split phase ≡ true → may_split phase ≡ true
+    pub split_may : (phase : Phase) → is_split phase ≡ true → may_split phase ≡ true
     split_may FreeSplit e = refl
     split_may Free e = absurd (cc)
     split_may Over e = absurd (cc)
@@ -411,13 +411,13 @@ module _ (source : Source) (p : Problem) where
     split_may (RefusedPhase i a l) e = absurd (cc)
 
     -- the plain run's step from a state that is paired
-    plain_does : (s t : Going) (x : Going) (split : Bool) → Paired s t → x.woven.board.stack ≡ s.woven.board.stack → x.machine ≡ s.machine
+    pub plain_does : (s t : Going) (x : Going) (split : Bool) → Paired s t → x.woven.board.stack ≡ s.woven.board.stack → x.machine ≡ s.machine
         → step source false x.woven.board.stack x.machine ≡ plain_step (step source split t.woven.board.stack t.machine)
     plain_does s t x split h e f =
         ap (λ (z : List Frame). step source false z x.machine) (e ∙ h.stack) ∙ ap (step source false t.woven.board.stack) (f ∙ h.values)
         ∙ step_plain source split t.woven.board.stack t.machine (invariant.saved t.woven.board.stack t.machine h.inv)
 
-    landed_paired : (x t : Going) (way : Way) (m : Machine) (nx nt : State) → x.woven.board.stack ≡ t.woven.board.stack → Lands x.woven.board nx.board way → Lands t.woven.board nt.board way
+    pub landed_paired : (x t : Going) (way : Way) (m : Machine) (nx nt : State) → x.woven.board.stack ≡ t.woven.board.stack → Lands x.woven.board nx.board way → Lands t.woven.board nt.board way
         → ((stack : List Frame) → pass p.plan t.woven.board.stack way ≡ Some stack → Inv stack m)
         → Paired (record x { woven = nx; machine = plain m }) (record t { woven = nt; machine = m })
     landed_paired x t way m nx nt e lx lt inv =

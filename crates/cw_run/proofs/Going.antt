@@ -58,7 +58,7 @@ module _ (names : Names) (g : Game) (t : Table) (plan : Plan) (right : AreStates
   the_main : (r : Routine) × (slice_get plan.routines plan.main ≡ Some r)
   the_main = (has_them.main.0, ap (slice_get plan.routines) laid.main ∙ has_them.main.1)
 
-  start_sits : Sits plan g (start_state problem t) (start_here g t) []
+  pub start_sits : Sits plan g (start_state problem t) (start_here g t) []
   start_sits = record {
     goes = at_start;
     stands = starts_at (Least g) g plan right laid has_them;

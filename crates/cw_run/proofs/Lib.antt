@@ -8,5 +8,5 @@ pub mod Moveless
 pub mod Runs
 pub mod Going
 mod Main
-mod Looping
+pub mod Looping
 pub mod Prefixed

@@ -80,17 +80,17 @@ module _ (h : Held) (source : List ℕ) (file : File) (t : Table) (names : Names
   abbrev held : ℕ → Caps
   held = caps_at (lists_of h.states)
 
-  of : IsGameOf (problem_of policy source file) g
+  pub of : IsGameOf (problem_of policy source file) g
   of = game_is h valid lists source file drawn run assigns
 
-  holds : (q : ℕ) (w : Word) (c : Caps) → Reached g.policy g.spots g.states q w c → held q ≡ c
+  pub holds : (q : ℕ) (w : Word) (c : Caps) → Reached g.policy g.spots g.states q w c → held q ≡ c
   holds q w c r =
       let uses = uses_of policy h.graph.nodes.items in
       let v = lists_of h.states in
       caps_is uses v lists q w c
       (reached_means policy (spots h.graph policy) (states_of v) (Means uses v) (states_are uses v lists (spots h.graph policy) (has policy h.graph valid source file drawn assigns)) q w c r)
 
-  safe : Sound (problem_of policy source file) t
+  pub safe : Sound (problem_of policy source file) t
   safe = sound (Reached g.policy g.spots g.states) (problem_of policy source file) g t refl of.states of.laid (good_closed g t good) valid.few_limits
 
   abbrev Keeps : List Move → PlaceData → List WaitData → List ℕ → List ℕ → Type 0

@@ -221,7 +221,7 @@ module _ (names : Names) (g : Game) (t : Table) (plan : Plan) (right : AreStates
         reaches = arrived names g t plan right laid has held holds to.0 (at_pos n h) waits to.2;
       }
 
-  visited : (s : State) (h : Here) (waits : List Wait) (j i : ℕ) (a : Primitive) (by : Move) (n : ℕ) → Sits plan g s h waits → slice_get g.spots h.pos ≡ Some (VisitSpot j i a)
+  pub visited : (s : State) (h : Here) (waits : List Wait) (j i : ℕ) (a : Primitive) (by : Move) (n : ℕ) → Sits plan g s h waits → slice_get g.spots h.pos ≡ Some (VisitSpot j i a)
       → leads_in g h.pos h.state (map ret_of waits) (Some (VisitSpot j i a)) by ≡ Some (at_pair n h.state (map ret_of waits))
       → ((stage : ℕ) (what : Primitive) (later : List Primitive) (b : Board)
       → memories problem t b (mems_of h waits) (Visit stage what later) by ≡ option_map (λ m. m ∷ map (λ (w : Wait). w.mem) waits)
