@@ -62,26 +62,26 @@ module _ (policy : PlainPolicy) (run : Run) (is_run : IsRunOf policy run) (old :
   row_is r e = row_at _ point.0 front.item r front.point (ap (λ (rs : List Row). slice_get rs point.0) (sym is_run.rows) ∙ e)
 
   pub err_advances : (e : Halt) (new : HeldMachine) → Goes (Err e) (machine_of new) (step_by s false front.item front.frames (machine_of old)) → Advances policy s (Err e) new g
-  err_advances (halt.Stop why) new q = λ n. halts_here policy s here waiting (machine_of old) g h front why (machine_of new) q n
+  err_advances (halt.Stop why) new q = halts_here policy s here waiting (machine_of old) g h front why (machine_of new) q
   err_advances halt.NoMemory new q = tt
 
   pub waits_below : Waits front.frames old.waits.items
   waits_below = waiting_below policy s here waiting (machine_of old) g h front
 
   pub inner_advances : (node : Node) (r : Row) → slice_get run.graph.now.nodes.items point.0 ≡ Some node → slice_get run.rows.now point.0 ≡ Some r → IsInnerRow r → (way : HeldWay) (new : HeldMachine)
-      → Goes (Ok way) (machine_of new) (step_by s false front.item front.frames (machine_of old)) → new.waits.items ≡ old.waits.items → Advances policy s (Ok (next_by node.next (way_in way))) new g
+      → Goes (Ok way) (machine_of new) (step_by s false front.item front.frames (machine_of old)) → new.waits.items ≡ old.waits.items → Advances policy s (Ok (record { way = way; next = next_by node.next (way_in way) })) new g
   inner_advances node r en er inner way new q ws =
       let on = inner_on policy s here waiting (machine_of old) g h front (subst IsInnerRow (sym (row_is r er)) inner) (way_in way) (machine_of new) q in
-      subst (λ (n : Node). Reaches policy s (here_of (next_by n.next (way_in way)) (map back_of new.waits.items)) (map call_of new.waits.items) (machine_of new) g) (node_is node en)
-      (subst (λ (l : List Wait). Reaches policy s (here_of (next_by front.what.next (way_in way)) (map back_of l)) (map call_of l) (machine_of new) g) (sym ws) on)
+      subst (λ (n : Node). Reaches policy s (way_in way) (here_of (next_by n.next (way_in way)) (map back_of new.waits.items)) (map call_of new.waits.items) (machine_of new) g) (node_is node en)
+      (subst (λ (l : List Wait). Reaches policy s (way_in way) (here_of (next_by front.what.next (way_in way)) (map back_of l)) (map call_of l) (machine_of new) g) (sym ws) on)
 
   pub end_advances : slice_get run.rows.now point.0 ≡ Some row.Ends → (way : HeldWay) (new : HeldMachine)
-      → Goes (Ok way) (machine_of new) (step_by s false front.item front.frames (machine_of old)) → new.waits.items ≡ drop 1 old.waits.items → Advances policy s (Ok (first_back old.waits.items)) new g
+      → Goes (Ok way) (machine_of new) (step_by s false front.item front.frames (machine_of old)) → new.waits.items ≡ drop 1 old.waits.items → Advances policy s (Ok (record { way = way; next = first_back old.waits.items })) new g
   end_advances er way new q ws =
       let on = end_on policy s here waiting (machine_of old) g h front (row_is row.Ends er) (way_in way) (machine_of new) q in
-      subst (λ (l : List Wait). Reaches policy s (here_of (first_back old.waits.items) (map back_of l)) (map call_of l) (machine_of new) g) (sym ws)
-      (subst (λ (o : Option Stand). Reaches policy s o (map call_of (drop 1 old.waits.items)) (machine_of new) g) (returned_first old.waits.items)
-      (subst (λ (l : List (Option (ℕ × Option Name))). Reaches policy s (returned (map back_of old.waits.items)) l (machine_of new) g) (later_calls old.waits.items) on))
+      subst (λ (l : List Wait). Reaches policy s (way_in way) (here_of (first_back old.waits.items) (map back_of l)) (map call_of l) (machine_of new) g) (sym ws)
+      (subst (λ (o : Option Stand). Reaches policy s (way_in way) o (map call_of (drop 1 old.waits.items)) (machine_of new) g) (returned_first old.waits.items)
+      (subst (λ (l : List (Option (ℕ × Option Name))). Reaches policy s (way_in way) (returned (map back_of old.waits.items)) l (machine_of new) g) (later_calls old.waits.items) on))
 
   module _ (node : Node) (at number : ℕ) (taker : Option Name) (en : slice_get run.graph.now.nodes.items point.0 ≡ Some node) (er : slice_get run.rows.now point.0 ≡ Some (row.Calls at number taker)) where
     there : (o : Option Stand) × CallLeads (all_parts policy s) here.returns number front.what.next o
@@ -96,11 +96,11 @@ module _ (policy : PlainPolicy) (run : Run) (is_run : IsRunOf policy run) (old :
 
     pub call_advances : (back : PointId) (part : Part) → first node.next ≡ Some back → slice_get run.graph.now.parts.items number ≡ Some part → (way : HeldWay) (new : HeldMachine)
         → Goes (Ok way) (machine_of new) (step_by s false front.item front.frames (machine_of old)) → map back_of new.waits.items ≡ back.0 ∷ map back_of old.waits.items
-        → map call_of new.waits.items ≡ Some (at, taker) ∷ map call_of old.waits.items → Advances policy s (Ok (Some part.entry)) new g
+        → map call_of new.waits.items ≡ Some (at, taker) ∷ map call_of old.waits.items → Advances policy s (Ok (record { way = way; next = Some part.entry })) new g
     call_advances back part eb ep way new q backs calls =
         let on =
         call_on policy s here waiting (machine_of old) g h front at number taker (row_is (row.Calls at number taker) er) back part
         (ap (λ (n : Node). first n.next) (node_is node en) ∙ eb) (ap (λ (ps : List Part). slice_get ps number) (sym is_run.graph.parts) ∙ ep) (way_in way) (machine_of new) q
         in
-        subst (λ (l : List ℕ). Reaches policy s (Some (stand l part.entry.0)) (map call_of new.waits.items) (machine_of new) g) (sym backs)
-        (subst (λ (l : List (Option (ℕ × Option Name))). Reaches policy s (Some (stand (back.0 ∷ map back_of old.waits.items) part.entry.0)) l (machine_of new) g) (sym calls) on)
+        subst (λ (l : List ℕ). Reaches policy s (way_in way) (Some (stand l part.entry.0)) (map call_of new.waits.items) (machine_of new) g) (sym backs)
+        (subst (λ (l : List (Option (ℕ × Option Name))). Reaches policy s (way_in way) (Some (stand (back.0 ∷ map back_of old.waits.items) part.entry.0)) l (machine_of new) g) (sym calls) on)

@@ -23,7 +23,7 @@ use Rattle.cw_value.specs.Machines.{Source, Machine, Step, goes, halts, step, st
 use Rattle.cw_value.specs.Shown.{Values}
 use Rattle.cw_value.specs.Runs.{Going, IsWeaving, Ends, weaves, steps, halted}
 use Rattle.cw_agree.proofs.Progress.{Ready, TopSettled, Progress, halting, going, progress, landed_next}
-use Rattle.cw_values.specs.Stands.{plan, below, Stands, Follows}
+use Rattle.cw_values.specs.Stands.{plan, below, Stands, Follows, Passes, Breaks}
 use Rattle.cw_values.proofs.Fronts.{suited, Suits}
 
 module _ (policy : PlainPolicy) (s : Source) where
@@ -144,10 +144,17 @@ module _ (policy : PlainPolicy) (s : Source) where
     at_stack : (x : Step) → step_by s false f.item f.frames m ≡ x → step_by s false f.item f.frames g.machine ≡ x
     at_stack x e = ap (step_by s false f.item f.frames) h.machine ∙ e
 
-    pub halts_here : (why : Stop) (k : Machine) → step_by s false f.item f.frames m ≡ halts why k → (n : ℕ) → EndsFrom (suc n) g (record { made = k.made; tried = 0; stop = why })
-    halts_here why k e n =
-        subst (λ (t : ℕ). EndsFrom (suc n) g (record { made = k.made; tried = t; stop = why })) h.tried
-        (halts_front g f.item f.rest f.frames f.front h.phase why k (at_stack (halts why k) e) n)
+    -- the step of the front
+    at_front : (x : Step) → step_by s false f.item f.frames m ≡ x → step s false g.woven.board.stack g.machine ≡ x
+    at_front x e = ap (λ (st : List Frame). step s false st g.machine) f.front ∙ at_stack x e
+
+    pub halts_here : (why : Stop) (k : Machine) → step_by s false f.item f.frames m ≡ halts why k → Breaks policy s why k g
+    halts_here why k e = record {
+      does = at_front (halts why k) e;
+      ends = λ n.
+          subst (λ (t : ℕ). EndsFrom (suc n) g (record { made = k.made; tried = t; stop = why })) h.tried
+          (halts_front g f.item f.rest f.frames f.front h.phase why k (at_stack (halts why k) e) n);
+    }
 
     pub goes_here : (way : Way) (k : Machine) → step_by s false f.item f.frames m ≡ goes way k → Moved h.runs (frame ∷ f.frames) st way k
     goes_here way k e =
@@ -159,7 +166,7 @@ module _ (policy : PlainPolicy) (s : Source) where
     -- the state behind the step stands where it leads
     pub stands_on : (way : Way) (k : Machine) (e : step_by s false f.item f.frames m ≡ goes way k) (here : Option Stand) (after : List (Option (ℕ × Option Name)))
         → (goes_here way k e).here ≡ here → map call_in (below (goes_here way k e).next) ≡ after
-        → (now : Going) × Stands policy s here after k now × Follows policy s g now
+        → (now : Going) × Stands policy s here after k now × Follows policy s g now × Passes policy s way g now
     stands_on way k e here after to waiting =
         let moved = goes_here way k e in
         let passes = ap (λ (x : List Frame). pass (plan policy s) x way) f.front ∙ moved.passes in (
@@ -175,6 +182,7 @@ module _ (policy : PlainPolicy) (s : Source) where
             settled = moved.settled;
           },
           goes_front g f.item f.rest f.frames f.front h.phase h.runs way moved.next k passes (at_stack (goes way k) e),
+          record { does = at_front (goes way k) e; passes = passes },
         )
 
     -- the node's own step

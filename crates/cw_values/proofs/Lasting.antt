@@ -17,6 +17,7 @@ use Rattle.cw_value.specs.Runs.{Going, Ends, over, spent, most_steps}
 use Rattle.cw_eval.specs.declared.halt.Halt.TheVariants as halt
 use Rattle.cw_machine.specs.declared.machine.Machine.{Machine as HeldMachine}
 use Rattle.cw_machine.specs.Shown.{machine_of}
+use Rattle.cw_values.specs.declared.running.Onward.{Onward}
 use Rattle.cw_values.specs.Stands.{plan, Advances, EndsSo, Leads, StandsAt}
 
 module _ (policy : PlainPolicy) (s : Source) where
@@ -41,8 +42,8 @@ module _ (policy : PlainPolicy) (s : Source) where
       subst (λ (n : ℕ). Ends s (problem_of policy s.bytes s.file) None left now (record { made = m.made; tried = n; stop = stop })) t
       (subst (λ (x : Machine). Ends s (problem_of policy s.bytes s.file) None left now (record { made = x.made; tried = now.tried; stop = stop })) e h)
 
-  pub leads_on : (old new : HeldMachine) (at : PointId) (next : Option PointId) (g : Going) (i : ℕ) → i < most_steps → Leads policy s (Some at) old g (most_steps - i)
-      → ((now : Going) → StandsAt policy s (Some at) old now → Advances policy s (Ok next) new now) → Leads policy s next new g (most_steps - (i + 1))
+  pub leads_on : (old new : HeldMachine) (at : PointId) (next : Onward) (g : Going) (i : ℕ) → i < most_steps → Leads policy s (Some at) old g (most_steps - i)
+      → ((now : Going) → StandsAt policy s (Some at) old now → Advances policy s (Ok next) new now) → Leads policy s next.next new g (most_steps - (i + 1))
   leads_on old new at next g i below l step =
       let on = step l.0 l.1 in
       let left : most_steps - i ≡ suc (most_steps - (i + 1)) = omega arith in
@@ -53,7 +54,7 @@ module _ (policy : PlainPolicy) (s : Source) where
   leads_stop old new at why g i below l step =
       let left : most_steps - i ≡ suc (most_steps - suc i) = omega arith in
       let v : Values = record { made = (machine_of new).made; tried = 0; stop = why } in
-      l.2 v (subst (λ (n : ℕ). Ends s (problem_of policy s.bytes s.file) None n l.0 v) (sym left) (step l.0 l.1 (most_steps - suc i)))
+      l.2 v (subst (λ (n : ℕ). Ends s (problem_of policy s.bytes s.file) None n l.0 v) (sym left) ((step l.0 l.1).ends (most_steps - suc i)))
 
   pub leads_over : (m : HeldMachine) (g : Going) (left : ℕ) → Leads policy s None m g left → EndsSo policy s m g Ended
   leads_over m g left l =

@@ -22,7 +22,7 @@ use Rattle.cw_deeds.specs.declared.items.Row.TheVariants as row
 use Rattle.cw_deeds.specs.Rows.{row_of}
 use Rattle.cw_machine.specs.Shown.{IsInnerRow}
 use Rattle.cw_machine.proofs.Rowed.{an_end}
-use Rattle.cw_values.specs.Stands.{plan, below, here_of, Stands, Follows}
+use Rattle.cw_values.specs.Stands.{plan, below, here_of, Stands, Follows, Passes}
 use Rattle.cw_values.specs.Running.{first, next_by}
 use Rattle.cw_values.proofs.Fronts.{Suits, IsInnerPoint, inner_leads, exit_leads, call_leads, CallLeads}
 use Rattle.cw_values.proofs.Following.{Fronted, goes_here, stands_on, leads_here, of_stack, all_nodes, all_items, all_parts}
@@ -143,21 +143,21 @@ abbrev pub Calls : Type 0
 Calls = List (Option (ℕ × Option Name))
 
 module _ (policy : PlainPolicy) (s : Source) where
-  abbrev pub Reaches : Option Stand → Calls → Machine → Going → Type 0
-  Reaches here calls k g = (now : Going) × Stands policy s here calls k now × Follows policy s g now
+  abbrev pub Reaches : Way → Option Stand → Calls → Machine → Going → Type 0
+  Reaches way here calls k g = (now : Going) × Stands policy s here calls k now × Follows policy s g now × Passes policy s way g now
 
   module _ (st : Stand) (calls : Calls) (m : Machine) (g : Going) (h : Stands policy s (Some st) calls m g) (f : Fronted policy s st g) where
     pub waiting_below : map call_in f.frames ≡ calls
     waiting_below = sym (ap (λ (x : List Frame). map call_in (below x)) f.front) ∙ h.waiting
 
-    pub inner_on : IsInnerRow (row_of f.item) → (way : Way) (k : Machine) → step_by s false f.item f.frames m ≡ goes way k → Reaches (here_of (next_by f.what.next way) st.returns) calls k g
+    pub inner_on : IsInnerRow (row_of f.item) → (way : Way) (k : Machine) → step_by s false f.item f.frames m ≡ goes way k → Reaches way (here_of (next_by f.what.next way) st.returns) calls k g
     inner_on inner way k e =
         let moved = goes_here policy s st calls m g h f way k e in
         stands_on policy s st calls m g h f way k e (here_of (next_by f.what.next way) st.returns) calls
         (inner_leads (all_parts policy s) st.returns f.what.point f.what.next way moved.here (suits_inner f.item f.what.point inner f.suits) (leads_here policy s st calls m g h f way moved.here moved.leads))
         (ap (map call_in) (inner_below (plan policy s) f.item f.rest f.frames moved.next way inner moved.passes) ∙ waiting_below)
 
-    pub end_on : row_of f.item ≡ row.Ends → (way : Way) (k : Machine) → step_by s false f.item f.frames m ≡ goes way k → Reaches (returned st.returns) (drop 1 calls) k g
+    pub end_on : row_of f.item ≡ row.Ends → (way : Way) (k : Machine) → step_by s false f.item f.frames m ≡ goes way k → Reaches way (returned st.returns) (drop 1 calls) k g
     end_on ends way k e =
         let moved = goes_here policy s st calls m g h f way k e in
         let q = an_end f.item ends in
@@ -196,7 +196,7 @@ module _ (policy : PlainPolicy) (s : Source) where
           (to.0, call_leads (all_parts policy s) st.returns number f.what.point f.what.next On to.0 called_point (leads_here policy s st calls m g h f On to.0 to.1))
 
       pub call_on : (back : PointId) (part : Part) → first f.what.next ≡ Some back → slice_get (all_parts policy s) number ≡ Some part
-          → (way : Way) (k : Machine) → step_by s false f.item f.frames m ≡ goes way k → Reaches (Some (stand (back.0 ∷ st.returns) part.entry.0)) (Some (at, taker) ∷ calls) k g
+          → (way : Way) (k : Machine) → step_by s false f.item f.frames m ≡ goes way k → Reaches way (Some (stand (back.0 ∷ st.returns) part.entry.0)) (Some (at, taker) ∷ calls) k g
       call_on back part behind callee way k e =
           let moved = goes_here policy s st calls m g h f way k e in
           let c = a_call f.item at number taker is_call in

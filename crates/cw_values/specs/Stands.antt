@@ -1,10 +1,10 @@
 -- Where a plain run stands: a state of it, with the point, the calls that wait and the values as the code holds them.
-use Rattle.std.specs.Prelude.{◌≡◌, ℕ, suc, List, [], ◌∷◌, map, Option, None, option_map, Result, Ok, Err}
+use Rattle.std.specs.Prelude.{◌≡◌, ℕ, suc, List, [], ◌∷◌, map, false, Option, Some, None, option_map, Result, Ok, Err}
 use Rattle.cw_core.specs.declared.ids.PointId.{PointId}
 use Rattle.cw_rights.specs.Policies.{PlainPolicy}
 use Rattle.cw_syntax.specs.declared.program.Name.{Name}
 use Rattle.cw_syntax.specs.Plans.{Plan, plan_of}
-use Rattle.cw_syntax.specs.Frames.{Frame}
+use Rattle.cw_syntax.specs.Frames.{Frame, Way, pass}
 use Rattle.cw_syntax.specs.Runnable.{IsRunnable}
 use Rattle.cw_resolve.specs.Scenes.{names_of}
 use Rattle.cw_points.specs.Graphs.{nodes}
@@ -12,15 +12,17 @@ use Rattle.cw_points.specs.Points.{points}
 use Rattle.cw_points.specs.Walks.{Stand, stand}
 use Rattle.cw_points.proofs.Ways.{StackAt}
 use Rattle.cw_model.specs.Boards.{problem_of, begin}
-use Rattle.cw_value.specs.Machines.{Source, Machine, call_in}
+use Rattle.cw_value.specs.Machines.{Source, Machine, goes, halts, step, call_in}
 use Rattle.cw_value.specs.Shown.{Values}
 use Rattle.cw_value.specs.declared.values.Stop.{Stop}
 use Rattle.cw_value.specs.Runs.{Going, Ends, most_steps}
 use Rattle.cw_eval.specs.declared.halt.Halt.{Halt}
 use Rattle.cw_eval.specs.declared.halt.Halt.TheVariants as halt
+use Rattle.cw_eval.specs.Passings.{way_in}
 use Rattle.cw_agree.proofs.Progress.{Ready, TopSettled}
 use Rattle.cw_machine.specs.declared.machine.Machine.{Machine as HeldMachine}
 use Rattle.cw_machine.specs.Shown.{back_of, call_of, machine_of}
+use Rattle.cw_values.specs.declared.running.Onward.{Onward}
 
 abbrev pub plan : PlainPolicy → Source → Plan
 plan policy s = plan_of (names_of policy) s.bytes s.file
@@ -51,11 +53,20 @@ StandsAt policy s point m g = Stands policy s (here_of point (map back_of m.wait
 abbrev pub Follows : PlainPolicy → Source → Going → Going → Type 0
 Follows policy s g next = (n : ℕ) → (v : Values) → Ends s (problem_of policy s.bytes s.file) None n next v → Ends s (problem_of policy s.bytes s.file) None (suc n) g v
 
+-- the program's own step leads from the first state to the second, by this way
+pub record Passes (policy : PlainPolicy) (s : Source) (way : Way) (g next : Going) : Type 0 where
+  pub does : step s false g.woven.board.stack g.machine ≡ goes way next.machine
+  pub passes : pass (plan policy s) g.woven.board.stack way ≡ Some next.woven.board.stack
+
+-- the run ends at the program's own step
+pub record Breaks (policy : PlainPolicy) (s : Source) (why : Stop) (m : Machine) (g : Going) : Type 0 where
+  pub does : step s false g.woven.board.stack g.machine ≡ halts why m
+  pub ends : (n : ℕ) → Ends s (problem_of policy s.bytes s.file) None (suc n) g (record { made = m.made; tried = 0; stop = why })
+
 -- a step leads from a state to one that stands at the next point, or the run ends at it
-abbrev pub Advances : PlainPolicy → Source → Result (Option PointId) Halt → HeldMachine → Going → Type 0
-Advances policy s (Ok next) m g = (now : Going) × StandsAt policy s next m now × Follows policy s g now
-Advances policy s (Err (halt.Stop why)) m g =
-    (n : ℕ) → Ends s (problem_of policy s.bytes s.file) None (suc n) g (record { made = (machine_of m).made; tried = 0; stop = why })
+abbrev pub Advances : PlainPolicy → Source → Result Onward Halt → HeldMachine → Going → Type 0
+Advances policy s (Ok step) m g = (now : Going) × StandsAt policy s step.next m now × Follows policy s g now × Passes policy s (way_in step.way) g now
+Advances policy s (Err (halt.Stop why)) m g = Breaks policy s why (machine_of m) g
 Advances policy s (Err halt.NoMemory) m g = Unit {0}
 
 -- so many steps before its end a run that began at the first state stands here

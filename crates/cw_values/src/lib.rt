@@ -3,6 +3,11 @@
 
 mod looping;
 mod plain;
+mod prepared;
 mod running;
+mod starting;
 
 pub use plain::values_plain;
+pub use prepared::{Prepared, prepare};
+pub use running::{Onward, Run, advance};
+pub use starting::{Begun, entry, start};

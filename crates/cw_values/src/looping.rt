@@ -29,7 +29,7 @@ pub(crate) fn steps(run: &Run, m: &mut Machine, start: Option<PointId>) -> Resul
             return Ok(Stop::Ended);
         };
         match advance(run, m, at) {
-            Ok(next) => point = next,
+            Ok(step) => point = step.next,
             Err(Halt::Stop(stop)) => return Ok(stop),
             Err(Halt::NoMemory) => return Err(NoMemory),
         }

@@ -19,10 +19,17 @@ use cw_syntax::program::Name;
 
 /// What a run goes by: what is known of the program, its graph, and what stands at each point.
 #[derive(Clone, Copy, Drop)]
-pub(crate) struct Run<'a, 's> {
+pub struct Run<'a, 's> {
     pub known: Known<'a, 's>,
     pub graph: &'a Graph,
     pub rows: &'a [Row],
+}
+
+/// Where a step leads: the way that the program goes, and the point behind it, or none where the program has ended.
+#[derive(Clone, Copy, Drop)]
+pub struct Onward {
+    pub way: Way,
+    pub next: Option<PointId>,
 }
 
 /// The point to which a way leads within a function.
@@ -72,7 +79,7 @@ fn advance_within(
     point: PointId,
     node: &Node,
     row: Row,
-) -> Result<Option<PointId>, Halt>
+) -> Result<Onward, Halt>
     requires known { IsKnown run.now.known }
     requires node { slice_get run.now.graph.now.nodes.items point.0 ≡ Some node.now }
     requires row { slice_get run.now.rows.now point.0 ≡ Some row }
@@ -80,7 +87,10 @@ fn advance_within(
     ensures { (policy : PlainPolicy) (g : Going) → IsRunOf policy run.now → StandsAt policy (source_in run.now.known.source) (Some point) m.old g → Advances policy (source_in run.now.known.source) result m.new g }
 {
     match step_inner(&run.known, m, row) {
-        Ok(way) => Ok(within(node, way)),
+        Ok(way) => Ok(Onward {
+            way,
+            next: within(node, way),
+        }),
         Err(halt) => Err(halt),
     }
 }
@@ -94,48 +104,63 @@ fn advance_into(
     at: u32,
     callee: usize,
     taker: Option<Name>,
-) -> Result<Option<PointId>, Halt>
+) -> Result<Onward, Halt>
     requires known { IsKnown run.now.known }
     requires node { slice_get run.now.graph.now.nodes.items point.0 ≡ Some node.now }
     requires row { slice_get run.now.rows.now point.0 ≡ Some (Row.Calls at callee taker) }
     ensures { (policy : PlainPolicy) (g : Going) → IsRunOf policy run.now → StandsAt policy (source_in run.now.known.source) (Some point) m.old g → Advances policy (source_in run.now.known.source) result m.new g }
 {
     let Some(back) = successor(node) else {
-        return Ok(None);
+        return Ok(Onward {
+            way: Way::On,
+            next: None,
+        });
     };
     let Some(part) = part_of(run.graph, callee) else {
-        return Ok(None);
+        return Ok(Onward {
+            way: Way::On,
+            next: None,
+        });
     };
     match step_call(&run.known, m, at, callee, taker, back) {
-        Ok(_) => Ok(Some(part.entry)),
+        Ok(way) => Ok(Onward {
+            way,
+            next: Some(part.entry),
+        }),
         Err(halt) => Err(halt),
     }
 }
 
 /// The end of a frame.
-fn advance_back(run: &Run, m: &mut Machine, point: PointId) -> Result<Option<PointId>, Halt>
+fn advance_back(run: &Run, m: &mut Machine, point: PointId) -> Result<Onward, Halt>
     requires known { IsKnown run.now.known }
     requires row { slice_get run.now.rows.now point.0 ≡ Some Row.Ends }
     ensures { (policy : PlainPolicy) (g : Going) → IsRunOf policy run.now → StandsAt policy (source_in run.now.known.source) (Some point) m.old g → Advances policy (source_in run.now.known.source) result m.new g }
 {
     let back = innermost(m);
     match step_end(&run.known, m) {
-        Ok(_) => Ok(back),
+        Ok(way) => Ok(Onward { way, next: back }),
         Err(halt) => Err(halt),
     }
 }
 
-/// A step from a point: the point that is next, or none where the program has ended.
-pub(crate) fn advance(run: &Run, m: &mut Machine, point: PointId) -> Result<Option<PointId>, Halt>
+/// A step from a point: the way that the program goes, and the point that is next, or none where the program has ended.
+pub fn advance(run: &Run, m: &mut Machine, point: PointId) -> Result<Onward, Halt>
     requires known { IsKnown run.now.known }
     ensures { (policy : PlainPolicy) (g : Going) → IsRunOf policy run.now → StandsAt policy (source_in run.now.known.source) (Some point) m.old g → Advances policy (source_in run.now.known.source) result m.new g }
 {
     let at = point.0 as usize;
     let Some(node) = run.graph.nodes.get(at) else {
-        return Ok(None);
+        return Ok(Onward {
+            way: Way::On,
+            next: None,
+        });
     };
     let Some(row) = run.rows.get(at) else {
-        return Ok(None);
+        return Ok(Onward {
+            way: Way::On,
+            next: None,
+        });
     };
     match *row {
         Row::Ends => advance_back(run, m, point),

@@ -3,6 +3,7 @@ use Rattle.cw_core.specs.declared.ids.PointId.{PointId}
 use Rattle.cw_eval.specs.declared.halt.Halt.{Halt}
 use Rattle.cw_value.specs.Runs.{most_steps}
 use Rattle.cw_starts.specs.Sources.{source_in}
+use Rattle.cw_values.specs.declared.running.Onward.{Onward}
 use Rattle.cw_values.specs.Stands.{Advances, Leads}
 use Rattle.cw_values.proofs.Lasting.{leads_on, leads_stop, leads_over, leads_spent}
 use Rattle.cw_values.proofs.looping.steps.Goals as goal
@@ -20,16 +21,16 @@ returns-in-Err-Stop c = λ policy g is_run h.
     (subst (λ (o : Option PointId). Leads policy s o c.loop-i.m g (most_steps - c.loop-i.i)) c.in-Some.is (c.loop-i.invariant.1 policy g is_run h))
     (λ now st.
     subst (λ (e : Halt). Advances policy s (Err e) c.advance.new.m now) c.in-Err-Stop.field-0-is
-    (subst (λ (r : Result (Option PointId) Halt). Advances policy s r c.advance.new.m now) c.in-Err-Stop.is (c.advance.ensures policy now is_run st)))
+    (subst (λ (r : Result Onward Halt). Advances policy s r c.advance.new.m now) c.in-Err-Stop.is (c.advance.ensures policy now is_run st)))
 
 pub loop-i-preserved : goal.loop-i-preserved
 loop-i-preserved c = (
   (let below : c.loop-i.i < most_steps = c.loop-i-test.true in omega arith),
   λ policy g is_run h.
       let s = source_in c.args.run.now.known.source in
-      leads_on policy s c.loop-i.m c.advance.new.m c.in-Some.at c.in-Ok.next g c.loop-i.i c.loop-i-test.true
+      leads_on policy s c.loop-i.m c.advance.new.m c.in-Some.at c.in-Ok.step g c.loop-i.i c.loop-i-test.true
       (subst (λ (o : Option PointId). Leads policy s o c.loop-i.m g (most_steps - c.loop-i.i)) c.in-Some.is (c.loop-i.invariant.1 policy g is_run h))
-      (λ now st. subst (λ (r : Result (Option PointId) Halt). Advances policy s r c.advance.new.m now) c.in-Ok.is (c.advance.ensures policy now is_run st)),
+      (λ now st. subst (λ (r : Result Onward Halt). Advances policy s r c.advance.new.m now) c.in-Ok.is (c.advance.ensures policy now is_run st)),
 )
 
 pub returns-in-None : goal.returns-in-None

@@ -12,8 +12,8 @@ returns-in-Ok c = λ policy g is_run h.
     let f = front policy run is_run c.args.m.now g c.args.point h in
     let is_end = row_is policy run is_run c.args.m.now g c.args.point h row.Ends c.requires.row in
     let goes = c.in-Ok.ensures.goes f.item f.frames is_end (waits_below policy run is_run c.args.m.now g c.args.point h) in
-    subst (λ (o : Option PointId). Advances policy (source_in run.known.source) (Ok o) c.step_end.new.m g) (sym c.innermost-back.ensures)
-    (end_advances policy run is_run c.args.m.now g c.args.point h c.requires.row c.in-Ok.field-0 c.step_end.new.m goes c.in-Ok.ensures.waits)
+    subst (λ (o : Option PointId). Advances policy (source_in run.known.source) (Ok (record { way = c.in-Ok.way; next = o })) c.step_end.new.m g) (sym c.innermost-back.ensures)
+    (end_advances policy run is_run c.args.m.now g c.args.point h c.requires.row c.in-Ok.way c.step_end.new.m goes c.in-Ok.ensures.waits)
 
 pub returns-in-Err : goal.returns-in-Err
 returns-in-Err c = λ policy g is_run h.

@@ -16,7 +16,7 @@ returns-in-Ok c = λ policy g is_run h.
     let is_call = row_is policy run is_run c.args.m.now g c.args.point h (row.Calls c.args.at c.args.callee c.args.taker) c.requires.row in
     call_advances policy run is_run c.args.m.now g c.args.point h c.args.node.now c.args.at c.args.callee c.args.taker c.requires.node c.requires.row c.in-Some.back c.in-Some-part_of.part
     (sym c.successor.ensures ∙ c.in-Some.is) (sym c.part_of.ensures ∙ c.in-Some-part_of.is)
-    c.in-Ok.field-0 c.step_call.new.m (c.in-Ok.ensures.goes f.item f.frames is_call) c.in-Ok.ensures.backs c.in-Ok.ensures.waiting
+    c.in-Ok.way c.step_call.new.m (c.in-Ok.ensures.goes f.item f.frames is_call) c.in-Ok.ensures.backs c.in-Ok.ensures.waiting
 
 pub returns-in-Err : goal.returns-in-Err
 returns-in-Err c = λ policy g is_run h.

@@ -10,7 +10,7 @@ returns-in-Ok c = λ policy g is_run h.
     let run = c.args.run.now in
     let f = front policy run is_run c.args.m.now g c.args.point h in
     let goes = c.in-Ok.ensures.goes f.item f.frames (row_is policy run is_run c.args.m.now g c.args.point h c.args.row c.requires.row) in
-    subst (λ (o : Option PointId). Advances policy (source_in run.known.source) (Ok o) c.step_inner.new.m g) (sym c.within.ensures)
+    subst (λ (o : Option PointId). Advances policy (source_in run.known.source) (Ok (record { way = c.in-Ok.way; next = o })) c.step_inner.new.m g) (sym c.within.ensures)
     (inner_advances policy run is_run c.args.m.now g c.args.point h c.args.node.now c.args.row c.requires.node c.requires.row c.requires.inner c.in-Ok.way c.step_inner.new.m goes
     (ap (λ w. w.items) c.in-Ok.ensures.waits))
 

@@ -3,7 +3,7 @@ use Rattle.cw_syntax.specs.Trees.{Definition}
 use Rattle.cw_value.specs.Machines.{scope_in}
 use Rattle.cw_starts.specs.Sources.{source_in}
 use Rattle.cw_values.proofs.Beginning.{none_behind}
-use Rattle.cw_values.proofs.plain.file_scope.Goals as goal
+use Rattle.cw_values.proofs.starting.file_scope.Goals as goal
 
 pub returns : goal.returns
 returns c =
