@@ -1,0 +1,9 @@
+mod Found
+mod Seeing
+mod Passing
+mod Visits
+mod Asks
+mod Weaving
+mod Stepped
+mod Lasting
+mod Beginning

@@ -1,0 +1,5 @@
+pub mod Beside
+pub mod Standing
+pub mod Visiting
+pub mod Stepping
+pub mod Ending
