@@ -19,6 +19,7 @@ alone (Some name.Check) = refl
 alone (Some name.Play) = refl
 alone (Some name.Run) = refl
 alone (Some name.World) = refl
+alone (Some name.Values) = refl
 alone (Some name.Sample) = refl
 alone (Some name.Reaudit) = refl
 alone (Some name.Audit) = refl

@@ -5,7 +5,7 @@ use Rattle.cw_core.specs.declared.quantity.Quantity.{Quantity}
 use Rattle.cw_core.specs.declared.quantity.Quantity.TheVariants.{PolicyBytes, SourceBytes, FileBytes}
 use Rattle.cw_sample.specs.Samples.{HasSample}
 use Rattle.cw_commands.specs.declared.command.Command.{Command}
-use Rattle.cw_commands.specs.declared.command.Command.TheVariants.{Weave, Procs, Graph, Refute, Check, Play, Run, Sample, Reaudit, World, Audit}
+use Rattle.cw_commands.specs.declared.command.Command.TheVariants.{Weave, Procs, Graph, Refute, Check, Play, Run, Sample, Reaudit, World, Audit, Values}
 use Rattle.cw_commands.specs.declared.name.Name.{Name}
 use Rattle.cw_commands.specs.declared.name.Name.TheVariants as name
 
@@ -20,6 +20,7 @@ named_by word =
     else if bytes_eq word (codes "play") then Some name.Play
     else if bytes_eq word (codes "run") then Some name.Run
     else if bytes_eq word (codes "world") then Some name.World
+    else if bytes_eq word (codes "values") then Some name.Values
     else if bytes_eq word (codes "sample") then Some name.Sample
     else if bytes_eq word (codes "reaudit") then Some name.Reaudit
     else if bytes_eq word (codes "audit") then Some name.Audit
@@ -35,6 +36,7 @@ places_of name.Check = codes "POLICY" ∷ (codes "WOVEN" ∷ [])
 places_of name.Play = codes "POLICY" ∷ (codes "SOURCE" ∷ (codes "STRATEGY" ∷ (codes "TAPE" ∷ [])))
 places_of name.Run = codes "POLICY" ∷ (codes "WOVEN" ∷ (codes "TAPE" ∷ []))
 places_of name.World = codes "POLICY" ∷ (codes "WOVEN" ∷ (codes "STEPS" ∷ []))
+places_of name.Values = codes "POLICY" ∷ (codes "WOVEN" ∷ (codes "ANSWERS" ∷ []))
 places_of name.Sample = codes "N" ∷ []
 places_of name.Audit = codes "POLICY" ∷ (codes "SOURCE" ∷ [])
 places_of name.Reaudit = codes "POLICY" ∷ (codes "SOURCE" ∷ (codes "AUDIT" ∷ []))
@@ -49,6 +51,7 @@ usage_of name.Check = codes "check POLICY WOVEN"
 usage_of name.Play = codes "play POLICY SOURCE STRATEGY TAPE"
 usage_of name.Run = codes "run POLICY WOVEN TAPE"
 usage_of name.World = codes "world POLICY WOVEN STEPS"
+usage_of name.Values = codes "values POLICY WOVEN ANSWERS"
 usage_of name.Sample = codes "sample N"
 usage_of name.Audit = codes "audit POLICY SOURCE"
 usage_of name.Reaudit = codes "reaudit POLICY SOURCE AUDIT"
@@ -63,6 +66,7 @@ quantities_of Check = PolicyBytes ∷ (FileBytes ∷ [])
 quantities_of Play = PolicyBytes ∷ (SourceBytes ∷ (FileBytes ∷ (FileBytes ∷ [])))
 quantities_of Run = PolicyBytes ∷ (FileBytes ∷ (FileBytes ∷ []))
 quantities_of World = PolicyBytes ∷ (FileBytes ∷ (FileBytes ∷ []))
+quantities_of Values = PolicyBytes ∷ (FileBytes ∷ (FileBytes ∷ []))
 quantities_of (Sample number) = []
 quantities_of Audit = PolicyBytes ∷ (SourceBytes ∷ [])
 quantities_of Reaudit = PolicyBytes ∷ (SourceBytes ∷ (FileBytes ∷ []))

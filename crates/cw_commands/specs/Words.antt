@@ -4,7 +4,7 @@ use Rattle.std.specs.Prelude.{String, string_bytes}
 use Rattle.std.specs.declared.alloc.Global.{Global}
 use Rattle.cw_sample.specs.Samples.{sample_number}
 use Rattle.cw_commands.specs.declared.command.Command.{Command}
-use Rattle.cw_commands.specs.declared.command.Command.TheVariants.{Weave, Procs, Graph, Refute, Check, Play, Run, Sample, Reaudit, World, Audit}
+use Rattle.cw_commands.specs.declared.command.Command.TheVariants.{Weave, Procs, Graph, Refute, Check, Play, Run, Sample, Reaudit, World, Audit, Values}
 use Rattle.cw_commands.specs.declared.name.Name.{Name}
 use Rattle.cw_commands.specs.declared.name.Name.TheVariants as name
 use Rattle.cw_commands.specs.declared.words.Request.{Request}
@@ -35,6 +35,7 @@ asked name.Check words = Some (Check, words)
 asked name.Play words = Some (Play, words)
 asked name.Run words = Some (Run, words)
 asked name.World words = Some (World, words)
+asked name.Values words = Some (Values, words)
 asked name.Sample words = sample_of words
 asked name.Audit words = Some (Audit, words)
 asked name.Reaudit words = Some (Reaudit, words)

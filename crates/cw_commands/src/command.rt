@@ -16,6 +16,7 @@ pub enum Command {
     Play,
     Run,
     World,
+    Values,
     Sample(u32),
     Reaudit,
     Audit,
@@ -48,6 +49,11 @@ impl Command {
                 Quantity::FileBytes,
             ],
             Command::World => &[
+                Quantity::PolicyBytes,
+                Quantity::FileBytes,
+                Quantity::FileBytes,
+            ],
+            Command::Values => &[
                 Quantity::PolicyBytes,
                 Quantity::FileBytes,
                 Quantity::FileBytes,

@@ -60,6 +60,7 @@ fn asked<'w>(alloc: Global, name: Name, words: Vec<&'w str>) -> Option<Request<'
         Name::Play => Command::Play,
         Name::Run => Command::Run,
         Name::World => Command::World,
+        Name::Values => Command::Values,
         Name::Sample => return sample_of(alloc, &words),
         Name::Reaudit => Command::Reaudit,
         Name::Audit => Command::Audit,
