@@ -1,14 +1,17 @@
 -- What is told of a table, and of a woven text.
-use Rattle.std.proofs.Common.{◌≡◌, ℕ, ◌+◌, suc, List, [], ◌∷◌, ◌++◌, length, map, refl, ap, arith, length-append}
-use Rattle.std.specs.Prelude.{codes}
+use Rattle.std.proofs.Common.{◌≡◌, ℕ, ◌+◌, suc, List, [], ◌∷◌, ◌++◌, length, map, Option, Some, None, refl, sym, ap, ◌∙◌, arith, length-append}
+use Rattle.std.specs.Prelude.{codes, option_map}
 use Rattle.std.specs.Fmt.{decimal}
 use Rattle.std.proofs.lemmas.List.{length-map}
+use Rattle.std.proofs.lemmas.Option.{none-some, same_Some}
 use Rattle.cw_rights.specs.Policies.{PlainPolicy}
 use Rattle.cw_certs.specs.Tables.{Table}
-use Rattle.cw_game.specs.Conditions.{Part, InMems, InLive, InTries, InAts, InOpened, InClosed, InInto, InBack, TableFault}
+use Rattle.cw_game.specs.Games.{Game}
+use Rattle.cw_game.specs.Conditions.{Part, InMems, InLive, InTries, InAts, InOpened, InClosed, InInto, InBack, TableFault, table_fault}
 use Rattle.cw_table_text.specs.declared.row.Row.TheVariants.{Live, Try, At, Opened, Closed, Into, Back}
 use Rattle.cw_table_text.specs.Rows.{from_closed, from_tries, memories, rows_of}
 use Rattle.cw_table_text.specs.Grammar.{Spells}
+use Rattle.cw_wcheck.specs.declared.fault.BadRow.{BadRow}
 use Rattle.cw_wcheck.specs.Checking.{table_of, HasFewRows, told as told_of}
 use Rattle.cw_woven.specs.declared.fault.WovenFault.{WovenFault}
 use Rattle.cw_woven.specs.declared.fault.WovenFault.TheVariants as fault
@@ -16,7 +19,8 @@ use Rattle.cw_woven.specs.Held.{IsUnopened}
 use Rattle.cw_woven.specs.Reading.{IsFaultOver}
 use Rattle.cw_commands.specs.declared.outcome.Cause.{Cause}
 use Rattle.cw_commands.specs.declared.outcome.Cause.TheVariants.{Source, Policy, Limit, Grammar}
-use Rattle.cw_commands.specs.Outcomes.{Refused}
+use Rattle.cw_commands.specs.declared.outcome.Reply.TheVariants.{No}
+use Rattle.cw_commands.specs.Outcomes.{Due, Refused, Told}
 use Rattle.cw_answer_texts.proofs.Tabled.{length_memories as memories_many}
 use Rattle.cw_stages.specs.Held.{list_name, told_row, woven_cause, woven_words}
 use Rattle.cw_stages.specs.Tables.{of_woven, part_name, told}
@@ -33,6 +37,12 @@ name_is InBack = refl
 
 pub told_is : (f : TableFault) → told_row (told_of f) ≡ told f
 told_is f = ap (λ (name : List ℕ). name ++ (codes " " ++ decimal f.row) ++ (codes " condition " ++ decimal f.condition) ++ (10 ∷ [])) (name_is f.part)
+
+-- a row that is told is the first that fails
+pub failing : (g : Game) (t : Table) (due : Due) (bad : BadRow) → (due ≡ Told No (told_row bad)) → (o : Option TableFault) → table_fault g t ≡ o → option_map told_of o ≡ Some bad
+    → (f : TableFault) × (table_fault g t ≡ Some f) × (due ≡ Told No (told f))
+failing g t due bad d None e h = absurd (none-some bad h)
+failing g t due bad d (Some f) e h = (f, e, d ∙ ap (Told No) (ap told_row (sym (same_Some (told_of f) bad h)) ∙ told_is f))
 
 closed_many : (t : Table) → length (from_closed t) ≡ length t.closed + (length t.into + length t.back)
 closed_many t =

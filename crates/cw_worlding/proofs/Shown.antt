@@ -1,6 +1,5 @@
 -- A world is told, for a program.
-use Rattle.std.proofs.Common.{◌≡◌, ℕ, ◌≤◌, List, [], ◌∷◌, ◌++◌, length, Option, Some, None, option_map, ap, sym, ◌∙◌, refl, ⊎_elim, inl, inr, arith, length-append}
-use Rattle.std.proofs.lemmas.Option.{none-some, same_Some}
+use Rattle.std.proofs.Common.{◌≡◌, ℕ, ◌≤◌, List, [], ◌∷◌, ◌++◌, length, ap, ◌∙◌, refl, ⊎_elim, inl, inr, arith, length-append}
 use Rattle.cw_rights.specs.Policies.{PlainPolicy}
 use Rattle.cw_syntax.specs.Trees.{File}
 use Rattle.cw_syntax.specs.Plans.{plan_of}
@@ -8,9 +7,7 @@ use Rattle.cw_resolve.specs.Scenes.{names_of}
 use Rattle.cw_certs.specs.Tables.{Table}
 use Rattle.cw_model.specs.Boards.{problem_of}
 use Rattle.cw_game.specs.Games.{Game}
-use Rattle.cw_game.specs.Conditions.{TableFault, table_fault}
-use Rattle.cw_wcheck.specs.declared.fault.BadRow.{BadRow}
-use Rattle.cw_wcheck.specs.Checking.{told as told_of}
+use Rattle.cw_game.specs.Conditions.{table_fault}
 use Rattle.cw_trace.specs.Labels.{names_of as told_names}
 use Rattle.cw_text_lines.specs.Lines.{whole_line, whole_lines}
 use Rattle.cw_steps.specs.declared.step.Step.{Step as StepData}
@@ -20,11 +17,8 @@ use Rattle.cw_worlds.specs.Worlds.{start_world}
 use Rattle.cw_procs.specs.Steps.{Word, End}
 use Rattle.cw_procs.specs.Told.{world_trace}
 use Rattle.cw_procs.specs.Played.{TellsWorld}
-use Rattle.cw_commands.specs.declared.outcome.Reply.TheVariants.{No}
-use Rattle.cw_commands.specs.Outcomes.{Due, Told}
-use Rattle.cw_stages.specs.Held.{told_row}
-use Rattle.cw_stages.specs.Tables.{told}
-use Rattle.cw_stages.proofs.Checks.{told_is}
+use Rattle.cw_commands.specs.Outcomes.{Due}
+use Rattle.cw_stages.proofs.Checks.{failing}
 use Rattle.cw_worlding.specs.Held.{IsWorldShownBy}
 use Rattle.cw_worlding.specs.Worlding.{world_told, IsWorldShown, IsWorldTold}
 
@@ -38,11 +32,6 @@ lines_few (s ∷ steps) = omega (arith, lines_few steps, length-append (whole_li
 
 pub steps_few : (text : List ℕ) (steps : List StepData) → Spells text steps → length steps ≤ length text
 steps_few text steps h = omega (arith, lines_few steps, ap length h.spelled)
-
-failing : (g : Game) (t : Table) (due : Due) (bad : BadRow) → (due ≡ Told No (told_row bad)) → (o : Option TableFault) → table_fault g t ≡ o → option_map told_of o ≡ Some bad
-    → (f : TableFault) × (table_fault g t ≡ Some f) × (due ≡ Told No (told f))
-failing g t due bad d None e h = absurd (none-some bad h)
-failing g t due bad d (Some f) e h = (f, e, d ∙ ap (Told No) (ap told_row (sym (same_Some (told_of f) bad h)) ∙ told_is f))
 
 module _ (source : List ℕ) (whole : PlainPolicy) (file : File) where
   pub world_is_told : (t : Table) (list : List Word) (end : End) (old lines : List ℕ) (due : Due)
