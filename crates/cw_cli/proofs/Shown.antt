@@ -17,10 +17,10 @@ use Rattle.cw_play.specs.declared.end.PlayEnd.{PlayEnd}
 use Rattle.cw_play.specs.Played.{IsPlayed}
 use Rattle.cw_run.specs.Woven.{Tells}
 use Rattle.cw_commands.specs.Outcomes.{Due}
+use Rattle.cw_stages.proofs.Checks.{failing}
 use Rattle.cw_cli.specs.CheckingHeld.{IsRunShownBy}
 use Rattle.cw_cli.specs.Playing.{play_told, IsPlayTold}
 use Rattle.cw_cli.specs.Running.{run_told, IsRunShown, IsRunTold}
-use Rattle.cw_cli.proofs.Checks.{failing}
 
 module _ (source : List ℕ) (whole : PlainPolicy) (file : File) where
   pub play_is_told : (g : Game) (s : Strategy) (tape : List Move) (policy : PlainPolicy) (names : Names) (end : PlayEnd) (old lines : List ℕ) (due : Due)
@@ -51,4 +51,4 @@ module _ (source : List ℕ) (whole : PlainPolicy) (file : File) where
 
   pub run_shown_for : (t : Table) (tape : List Move) (g : Game) (due : Due) → IsRunShownBy source whole file t tape g due → IsRunShown source whole file t tape g due
   run_shown_for t tape g due h =
-      ⊎_elim (λ a. inl a) (λ b. inr (failing (problem_of whole source file) g t due b.0 b.2 (table_fault g t) refl b.1)) h
+      ⊎_elim (λ a. inl a) (λ b. inr (failing g t due b.0 b.2 (table_fault g t) refl b.1)) h

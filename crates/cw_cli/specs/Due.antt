@@ -1,7 +1,7 @@
 -- What is due for each command, by the bytes of its files in the order of its words, and for `sample` by its number.
 use Rattle.std.specs.Prelude.{ℕ, List, [], ◌∷◌}
 use Rattle.cw_commands.specs.declared.command.Command.{Command}
-use Rattle.cw_commands.specs.declared.command.Command.TheVariants.{Weave, Procs, Graph, Refute, Check, Play, Run, Sample, Reaudit, World, Audit}
+use Rattle.cw_commands.specs.declared.command.Command.TheVariants.{Weave, Procs, Graph, Refute, Check, Play, Run, Sample, Reaudit, World, Audit, Values}
 use Rattle.cw_commands.specs.Outcomes.{Due}
 use Rattle.cw_parting.specs.Parting.{IsProcsDue}
 use Rattle.cw_cli.specs.Checking.{IsCheckDue}
@@ -13,6 +13,7 @@ use Rattle.cw_cli.specs.Refuting.{IsRefuteDue}
 use Rattle.cw_cli.specs.Running.{IsRunDue}
 use Rattle.cw_cli.specs.Sampling.{IsSampleDue}
 use Rattle.cw_cli.specs.Weaving.{IsWeaveDue}
+use Rattle.cw_valuing.specs.Valuing.{IsValuesDue}
 use Rattle.cw_worlding.specs.Worlding.{IsWorldDue}
 
 abbrev pub IsDue : Command → List (List ℕ) → Due → Type 0
@@ -24,6 +25,7 @@ IsDue Check (policy ∷ (text ∷ [])) due = IsCheckDue policy text due
 IsDue Play (policy ∷ (source ∷ (strategy ∷ (tape ∷ [])))) due = IsPlayDue policy source strategy tape due
 IsDue Run (policy ∷ (text ∷ (tape ∷ []))) due = IsRunDue policy text tape due
 IsDue World (policy ∷ (text ∷ (steps ∷ []))) due = IsWorldDue policy text steps due
+IsDue Values (policy ∷ (text ∷ (answers ∷ []))) due = IsValuesDue policy text answers due
 IsDue (Sample number) [] due = IsSampleDue number due
 IsDue Audit (policy ∷ (source ∷ [])) due = IsAuditDue policy source due
 IsDue Reaudit (policy ∷ (source ∷ (audit ∷ []))) due = IsReauditDue policy source audit due

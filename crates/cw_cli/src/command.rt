@@ -26,6 +26,7 @@ use cw_commands::{
 use cw_core::NoMemory;
 use cw_io::{Shelf, Sink};
 use cw_parting::procs_due;
+use cw_valuing::values_due;
 use cw_worlding::world_due;
 use std::alloc::Global;
 
@@ -113,6 +114,7 @@ fn of_three<O: Sink, N: Sink>(
         Command::Reaudit => reaudit_due(alloc, policy, text, behind, out, note),
         Command::Run => run_due(alloc, policy, text, behind, out, note),
         Command::World => world_due(alloc, policy, text, behind, out, note),
+        Command::Values => values_due(alloc, policy, text, behind, out, note),
         _ => unreachable!(),
     }
 }
@@ -214,8 +216,9 @@ fn end<N: Sink>(ending: Ending<'_, N>, note: &mut N) -> u8
 /// woven run and `ended` (0), `tape spent` or `bad move I` (1), or each the first row that fails a condition (1); `audit POLICY SOURCE` puts the audit of the source as it is,
 /// which meets the policy (0) or violates it (1); `reaudit POLICY SOURCE AUDIT` puts `yes`
 /// where the audit is exact (0), or the first group and row that fail a condition (1); `sample N` weaves the sample of N, has it checked and puts its
-/// numbers and `woven` (0) or `refuted` (1). Words that fit no command are 2, a refused source 3, a refused policy 4, a quantity over
-/// its limit 5, a file that can't be read 6, an output that can't be written 7, want of memory 8, a strategy, a woven text, a tape or an audit that isn't of its grammar 9.
+/// numbers and `woven` (0) or `refuted` (1); `world POLICY WOVEN STEPS` puts the trace of a woven text's processes and `done N` (0) or `bad step I` (1), and `values POLICY WOVEN ANSWERS` the external
+/// calls of a woven text over numbers and `ended` (0) or where it stopped (1), or each the first row that fails a condition (1). Words that fit no command are 2, a refused source 3, a refused policy 4, a quantity over
+/// its limit 5, a file that can't be read 6, an output that can't be written 7, want of memory 8, a strategy, a woven text, a tape, a list of steps, answers or an audit that isn't of its grammar, or a woven text that isn't run over numbers, 9.
 pub fn capweave<F: Shelf, O: Sink, N: Sink>(
     alloc: Global,
     words: &[String],

@@ -24,4 +24,6 @@ mod splitting;
 #[cfg(test)]
 mod texts;
 #[cfg(test)]
+mod valuing;
+#[cfg(test)]
 mod weaving;
