@@ -17,5 +17,6 @@ mod Singles
 mod Stages
 mod Summed
 mod Texts
+mod Valued
 mod Worlded
 mod Accepted
