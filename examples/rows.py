@@ -10,6 +10,8 @@ import subprocess
 import sys
 import tempfile
 
+from value_rows import ROWS as VALUE_ROWS, Woven
+
 
 def at(label, **tests):
     return '[[at]]\nlabel = "%s"\n' % label + "".join("%s = [%s]\n" % (word, ", ".join('"%s"' % test for test in some.split())) for word, some in tests.items())
@@ -253,12 +255,23 @@ ROWS = [
     ("a step of no process", "world p t steps", {"p": LEFT, "t": WOVEN_LEAVES, "steps": "1 on\n"}, 1, "bad step 0\n", ""),
     ("a fork goes neither way", "world p t steps", {"p": LEFT, "t": WOVEN_LEAVES, "steps": "0 on\n0 left\n"}, 1, "bad step 1\n", ""),
     ("a line of no steps", "world p t steps", {"p": LEFT, "t": WOVEN_LEAVES, "steps": "0 on"}, 9, "", "steps: line 1\n"),
+    ("values with too few words", "values p t", {}, 2, "", "usage: capweave values POLICY WOVEN ANSWERS\n"),
+    ("values of a table that fails a condition", "values p t answers", {"p": NEVER, "t": changed(WOVEN_ONE, "CW_AT(1,1,2)\n", ""), "answers": "capweave answers 1\nend\n"}, 1, "live 4 condition 6\n", ""),
+    ("answers before the policy fits", "values p t answers", {"p": policy(at("z", never="amb")), "t": WOVEN_ONE, "answers": ""}, 9, "", "answers: line 1\n"),
     ("procs with too few words", "procs p", {}, 2, "", "usage: capweave procs POLICY SOURCE\n"),
     ("a sample", "sample 200", {}, 0, "sample 200\npoints 1206\npositions 2418\nstates 4\ncontexts 601\ncells 28896\nrows 2832\nwoven\n", ""),
     ("no sample", "sample 0", {}, 2, "", "usage: capweave sample N\n"),
     ("a sample past the last", "sample 401", {}, 2, "", "usage: capweave sample N\n"),
     ("a number with a leading zero", "sample 01", {}, 2, "", "usage: capweave sample N\n"),
 ]
+
+
+def woven(program, folder, by, source):
+    """What the program weaves of a source by a policy."""
+    for file, text in (("policy", by), ("source", source)):
+        with open(os.path.join(folder, file), "w", encoding="ascii") as opened:
+            opened.write(text)
+    return subprocess.run([program, "weave", "policy", "source"], cwd=folder, capture_output=True, text=True, check=True).stdout
 
 
 def fits(out, wanted):
@@ -275,16 +288,19 @@ def fits(out, wanted):
 def main():
     program = os.path.abspath(sys.argv[1] if len(sys.argv) > 1 else os.environ.get("CAPWEAVE") or os.path.join(os.path.dirname(__file__), "../crates/capweave/out/capweave"))
     wrong = 0
-    for name, words, files, status, out, note in ROWS:
+    rows = ROWS + VALUE_ROWS
+    for name, words, files, status, out, note in rows:
         with tempfile.TemporaryDirectory() as folder:
             for file, text in files.items():
+                if isinstance(text, Woven):
+                    text = woven(program, folder, files["p"], text)
                 with open(os.path.join(folder, file), "w", encoding="ascii") as opened:
                     opened.write(text)
             run = subprocess.run([program] + words.split(" "), cwd=folder, capture_output=True, text=True)
         if run.returncode != status or not fits(run.stdout, out) or run.stderr != note:
             wrong += 1
             print("wrong: %s: %s gives %d %r %r" % (name, words, run.returncode, run.stdout[-200:], run.stderr))
-    print("%d rows, %d wrong" % (len(ROWS), wrong))
+    print("%d rows, %d wrong" % (len(rows), wrong))
     return 1 if wrong else 0
 
 
