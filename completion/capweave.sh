@@ -2,12 +2,12 @@
 _capweave() {
     local word=${COMP_WORDS[COMP_CWORD]}
     if [ "$COMP_CWORD" -eq 1 ]; then
-        COMPREPLY=($(compgen -W "weave procs check refute audit reaudit run world play graph sample" -- "$word"))
+        COMPREPLY=($(compgen -W "weave procs check refute audit reaudit run world values play graph sample" -- "$word"))
         return
     fi
     case ${COMP_WORDS[1]} in
     graph) COMPREPLY=($(compgen -f -X '!*.c' -- "$word")) ;;
-    weave | procs | check | refute | audit | reaudit | run | world | play)
+    weave | procs | check | refute | audit | reaudit | run | world | values | play)
         if [ "$COMP_CWORD" -eq 2 ]; then
             COMPREPLY=($(compgen -f -X '!*.toml' -- "$word"))
         else
