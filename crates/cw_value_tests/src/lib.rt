@@ -8,6 +8,8 @@ mod expressions;
 #[cfg(test)]
 mod ground;
 #[cfg(test)]
+mod outward;
+#[cfg(test)]
 mod programs;
 #[cfg(test)]
 mod shapes;
