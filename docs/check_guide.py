@@ -37,7 +37,7 @@ OUTLINES = shutil.which(os.environ.get("CAPWEAVE_CLANG") or "clang") is not None
 NAMED = re.compile(r"(?:/\* (\S+) \*/|# (\S+))\n")
 COMMANDS_OF = {"descriptor": ("weave", "fd.toml"), "detaches": ("procs", "own.toml")}     # what tells of a row, and by which policy
 HEADERS = "".join("#include <%s>\n" % name for name in (
-    "assert.h", "ctype.h", "err.h", "errno.h", "fcntl.h", "getopt.h", "limits.h", "signal.h", "stdarg.h", "stdbool.h", "stddef.h", "stdint.h", "stdio.h",
+    "assert.h", "ctype.h", "err.h", "errno.h", "fcntl.h", "getopt.h", "inttypes.h", "limits.h", "signal.h", "stdarg.h", "stdbool.h", "stddef.h", "stdint.h", "stdio.h",
     "pwd.h", "stdlib.h", "string.h", "sys/stat.h", "sys/types.h", "unistd.h"))
 SYSTEM = '#include "system.h"\n'                       # for what a BSD's headers have
 
