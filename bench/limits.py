@@ -5,8 +5,8 @@
 
 Each quantity of the table of limits in docs/COMMANDS.md has pairs of files: with the first the quantity is at its number, and the answer is one that
 speaks of no limit; with the second it is past it, and the answer is status 5 with the line `limit: QUANTITY`. Where no count just one past the limit
-exists (states come in products), the next one that does stands. With --against the answers of the other command have to be the same. Want of memory is
-told by no run, since there is enough. What is answered otherwise is marked, and the exit status is then 1. --only takes the quantities whose name has the
+exists (states come in products), the next one that does stands. What has no such line (the steps, arrays, frames and numbers of `values`) has to end as docs/COMMANDS.md says; tapes, steps and answers of the greatest length are gone through to their end. With --against the answers of the other command have to be the same. Want of memory is
+told by no run, since there is enough, but by one that gets 1 GB and asks for more. What is answered otherwise is marked, and the exit status is then 1. --only takes the quantities whose name has the
 word. Needs Linux, Python 3.8 and no package.
 """
 import argparse
@@ -83,10 +83,10 @@ def nested(before, middle, after, count):
 
 
 class Woven:
-    """A run of `check`, or with a tape of `run`, `values` or `world`, on what `weave` writes for a pair, edited."""
+    """A run of `check`, or with a tape of `run`, `values` or `world`, on what `weave` writes for a pair, edited. `ends` is what the output has to end with, at and past the limit, or the note; `memory` how many KiB there are."""
 
-    def __init__(self, text, source, edit=lambda woven: woven, tape=None, command="run"):
-        self.text, self.source, self.edit, self.tape, self.command = text, source, edit, tape, command
+    def __init__(self, text, source, edit=lambda woven: woven, tape=None, command="run", ends=None, memory=0):
+        self.text, self.source, self.edit, self.tape, self.command, self.ends, self.memory = text, source, edit, tape, command, ends, memory
 
 
 def bytes_of_files():
@@ -235,8 +235,36 @@ def audits():
         yield "audit moves", [(command, {"p": policy(at("a", key, "amb")), "s": far}) for key in ("must", "never")]
 
 
+def valued(source, ends, answers="", memory=0):
+    return Woven(policy(), source, tape="capweave answers 1\n" + answers + "end\n", command="values", ends=ends, memory=memory)
+
+
+def values():
+    """What a run over values ends with: so many steps, arrays of so many elements, frames until the steps or the memory are spent; and the greatest numbers there are."""
+    looped = "int main(void){int i=0;while(i<499997)i=i+1;;%sreturn 0;}"
+    yield "steps of values", [valued(looped % more, ends) for more, ends in (("", b"\nended\n"), (";", b"\nstop steps\n"))]
+    yield "steps of values", [valued("int main(void){int i=0;for(;;){i=i+1;put(i);%s}}" % more, b"\nstop steps\n", "call 1\n" * 400_000) for more in ("", ";")]
+    yield "array elements", [valued("int main(void){int a[%d];a[65535]=7;put(a[65535]);return 0;}" % size, ends, "call 0\n") for size, ends in ((65_536, b"\nended\n"), (65_537, b"\nstop form 1:22\n"))]
+    yield "array elements", [valued("int a[%d];int main(void){return 0;}" % size, ends) for size, ends in ((65_536, b"\nended\n"), (65_537, b"\nstop form 1:7\n"))]
+    called = "int f(int x){%sf(x+1);return x;}int main(void){f(1);return 0;}"
+    yield "frames of values", [valued(called % "", b"\nstop steps\n"), valued(called % "int a[65536];", b"memory\n", memory=1_000_000)]
+    greatest = "int main(void){int x=9223372036854775807;put(x%s);return 0;}"
+    yield "numbers of values", [valued(greatest % more, ends, "call -9223372036854775808\n") for more, ends in (("", b"\nended\n"), ("+1", b"\nstop overflow 1:46\n"))]
+
+
+def longest():
+    """Tapes, steps and answers of the greatest length that are gone through to their end."""
+    for version, most in ((1, 16_777_216), (2, 33_554_432)):
+        text = policy(version=version)
+        yield "file bytes", [Woven(text, "int main(void){for(;;);}", tape=padded("on " * (most // 3), size, " "), ends=ends) for size, ends in ((most, b"tape spent\n"), (most + 1, None))]
+        forks = "0 on\n" + "0 on\n0 fork\n" * ((most - 5) // 12)
+        yield "file bytes", [Woven(text, "int main(void){for(;;)if(!fork())for(;;);}", tape=padded(forks, size, "\n"), command="world", ends=ends) for size, ends in ((len(forks), b"\ndone %d\n" % (forks.count("f") + 1)), (most + 1, None))]
+    many = "call 1\n" * ((most - 23) // 7)
+    yield "file bytes", [Woven(text, "int main(void){for(;;)put(1);}", tape="capweave answers 1\n" + many + more + "end\n", command="values", ends=ends) for more, ends in (("", b"\nstop steps\n"), ("call 1\n", None))]
+
+
 def gathered():
-    for make in (bytes_of_files, parts_of_policies, parts_of_sources, states, cells, rows, forms, audits):
+    for make in (bytes_of_files, parts_of_policies, parts_of_sources, states, cells, rows, forms, audits, values, longest):
         yield from make()
 
 
@@ -267,12 +295,16 @@ class Run:
         if command == "graph":
             files = {"s": files["s"]}
         written(self.folder, files)
-        answers = [ran(one + [command] + list(files), self.folder, seconds=self.asked.seconds) for one in self.commands]
+        ends, memory = (case.ends, case.memory) if isinstance(case, Woven) else (None, 0)
+        answers = [ran(one + [command] + list(files), self.folder, seconds=self.asked.seconds, memory=memory) for one in self.commands]
         ours = answers[0]
         told = (ours.status, ours.out, ours.note)
-        good = told == (5, b"", b"limit: %s\n" % quantity.encode()) if past else ours.status not in (None, 5, 8) and ours.status >= 0
+        if ends:
+            good = told == (8, b"", ends) if memory else ours.status in (0, 1) and not ours.note and ours.out.endswith(ends)
+        else:
+            good = told == (5, b"", b"limit: %s\n" % quantity.encode()) if past else ours.status not in (None, 5, 8) and ours.status >= 0
         same = all((other.status, other.out, other.note) == told for other in answers[1:])
-        first = (ours.note or ours.out)[:48].split(b"\n")[0].decode("ascii", "replace")
+        first = (ours.note or (ends and ours.out.rsplit(b"\n", 2)[-2]) or ours.out)[:48].split(b"\n")[0].decode("ascii", "replace")
         times = " ".join("%9.2f s %9d KiB" % (answer.seconds, answer.kilobytes) for answer in answers)
         mark = "" if good and same else "  <-- WRONG" if not good else "  <-- the other says %s" % (answers[1].note or answers[1].out)[:60]
         self.wrong += bool(mark)

@@ -1,4 +1,5 @@
-"""Pairs of a policy and a program made at random, that fit each other, mostly. Used by the scripts beside it; needs Python 3.8 and no package."""
+"""Pairs of a policy and a program made at random, that fit each other, mostly, and other ways to say them. Used by the scripts beside it; needs Python 3.8 and no package."""
+import re
 
 RIGHTS = ["CAP_READ", "CAP_WRITE", "CAP_SEEK", "CAP_FSTAT"]
 LABELS = ["a", "b", "d", "e"]
@@ -105,3 +106,89 @@ class Maker:
         variables = self.chance.sample(["fd", "gd"], self.chance.randint(0, 2))
         source, labels, functions = self.source(variables)
         return self.policy(variables, labels, functions), source
+
+
+# ---- sources that were there before
+
+
+KEYWORDS = {"if", "while", "for", "switch", "return", "sizeof", "else", "do", "main", "default", "case"}
+
+
+def fitting(chance, source):
+    """A policy for any source, of the names that stand in it."""
+    labels = [name for name in re.findall(r"(?:^|[;{}:])\s*([A-Za-z_]\w*)\s*:(?!:)", source, re.M) if name not in KEYWORDS]
+    functions = [name for name in re.findall(r"\b([A-Za-z_]\w*)\s*\([^;{}()]*\)\s*\{", source) if name not in KEYWORDS]
+    variables = re.findall(r"^(?:static )?int ([A-Za-z_]\w*)(?: = [^;]*)?;", source, re.M)
+    maker = Maker(chance, True)
+    return maker.policy(sorted(set(variables))[: chance.randint(0, 3)], sorted(set(labels))[:9] or ["a"], sorted(set(functions))[:5])
+
+
+def labelled(chance, source):
+    """A source with some labels where statements begin, mostly."""
+    lines = source.split("\n")
+    places = [at for at in range(1, len(lines)) if re.match(r"\s+\S", lines[at]) and re.search(r"[;{}]\s*$", lines[at - 1])]
+    for at, name in zip(chance.sample(places, min(len(places), chance.randint(1, 4))), LABELS):
+        lines[at] = name + ":;" + lines[at]
+    return "\n".join(lines)
+
+
+def mixed(chance, source, other):
+    """A source with statements of another one in the place of some of its own."""
+    lines = [line.strip() for line in re.findall(r"^\s+[^{}#\n]*;[ \t]*$", other, re.M)]
+    lines = [line for line in lines if line.count("(") == line.count(")")] or [";"]
+    return re.sub(r"\bc;", lambda found: chance.choice(lines) if chance.random() < 0.6 else found.group(), source)
+
+
+def form_of(source, names):
+    """The form of a source of `Maker` in which calls of these functions aren't waited for."""
+    return re.sub(r"(?<![=\w])(?:%s)\(1\);" % "|".join(names), r"{if(!fork()){\g<0>_exit(0);for(;;);}}", source).encode()
+
+
+def detached(policy, names):
+    """A policy, in format 2, that detaches these functions besides."""
+    text = re.sub(r"^format *=.*$", "", policy, count=1, flags=re.M)
+    return "format = 2\ndetached = [%s]\n%s" % (", ".join('"%s"' % name for name in names), text)
+
+
+# ---- the ways of TOML
+
+
+def quoted(chance, text):
+    """A string that has this text, in one of the ways of TOML."""
+    kind = chance.randrange(6)
+    if kind == 0:
+        return "'%s'" % text
+    if kind == 1:
+        return '"""%s%s"""' % (chance.choice(["", "\n", "\\\n  "]), text)
+    if kind == 2:
+        return "'''%s%s'''" % (chance.choice(["", "\n", "\r\n"]), text)
+    if kind == 3 and text:
+        at = chance.randrange(len(text))
+        escape = chance.choice(["\\u%04x", "\\U%08X", "\\x%02x", "\\u%04X"]) % ord(text[at])
+        return '"%s%s%s"' % (text[:at], escape, text[at + 1 :])
+    return '"%s"' % text
+
+
+def respelled(chance, policy):
+    """The same policy in other ways of TOML, now and then in none."""
+    strings = chance.random() * 0.5
+    text = re.sub(r'"([^"\\\n]*)"', lambda found: quoted(chance, found.group(1)) if chance.random() < strings else found.group(), policy)
+    if chance.random() < 0.3:
+        text = re.sub(r"^format = (\d)", lambda found: "format = " + chance.choice(["0x%s", "+%s", "0b%s", "0o%s", "%s.0", "%s_0", "0%s", "%s # "]) % found.group(1), text, count=1)
+    if chance.random() < 0.3:
+        text = re.sub(r"^(\w+) =", lambda found: chance.choice(['"%s" =', "'%s'=", "%s\t=", " %s  = ", '"""%s"""=', "%s . a ="] if chance.random() < 0.1 else ['"%s" =', "'%s'=", "%s\t=", " %s  = "]) % found.group(1), text, flags=re.M)
+    if chance.random() < 0.3:
+        text = re.sub(r"\[\[(\w+)\]\]", lambda found: chance.choice(["[[ %s ]]", '[["%s"]]', "[[%s]] # c", "[[ '%s']]", "[[%s]]\n\n"]) % found.group(1), text)
+    if chance.random() < 0.3:
+        text = re.sub(r"(?<=[\]\w\"'])\n", lambda found: chance.choice(["\n", " \n", "# a [\" \n", "\t#\n", "\r\n", "\n\n", " # \u00e9\n"]), text)
+    if chance.random() < 0.2:
+        text = re.sub(r"= \[(?=.)", lambda found: chance.choice(["= [", "= [\n", "= [ # x\n ", "=["]), text)
+    if chance.random() < 0.2:
+        text = re.sub(r"\](?=\s*\n)", lambda found: chance.choice(["]", ",]", "\n]", " , #\n]"]), text)
+    if chance.random() < 0.2:
+        tables = re.findall(r"^\[\[at\]\]\n((?:[^\[\n][^\n]*\n)+)", text, flags=re.M)
+        rest = re.sub(r"^\[\[at\]\]\n((?:[^\[\n][^\n]*\n)+)", "", text, flags=re.M)
+        head, _, body = rest.partition("\n")
+        inline = ", ".join("{ %s }" % ", ".join(table.strip().split("\n")) for table in tables)
+        text = "%s\nat = [%s]\n%s" % (head, inline, body)
+    return text

@@ -8,7 +8,7 @@ import time
 
 ADOPTS_ORPHANS = 36  # prctl(2): PR_SET_CHILD_SUBREAPER
 # The shell starts the command and ends at once, so that the memory told is the command's alone; the system hands the command to this process.
-SHELL = '[ "$1" = 0 ] || ulimit -s "$1"; shift; "$@" >out 2>note & exec echo $!'
+SHELL = '[ "$1" = 0 ] || ulimit -s "$1"; [ "$2" = 0 ] || ulimit -v "$2"; shift 2; "$@" >out 2>note & exec echo $!'
 
 Ran = collections.namedtuple("Ran", "status out note seconds kilobytes")
 
@@ -25,11 +25,11 @@ def used(child):
     return (int(fields[11]) + int(fields[12])) / os.sysconf("SC_CLK_TCK")
 
 
-def ran(words, folder, stack=0, seconds=600):
+def ran(words, folder, stack=0, seconds=600, memory=0):
     """The status (minus the number of a signal; None where it took more processor time than `seconds`, or waited for twenty times as long), output, note,
-    processor time and greatest resident size. `stack` is in KiB, 0 for the one there is. The command's output stands in the files `out` and `note` of the folder."""
+    processor time and greatest resident size. `stack`, and `memory` for all that the process may map, are in KiB, 0 for what there is. The command's output stands in the files `out` and `note` of the folder."""
     begun = time.monotonic()
-    shell = subprocess.run(["sh", "-c", SHELL, "sh", str(stack), *words], cwd=folder, stdout=subprocess.PIPE, check=True)
+    shell = subprocess.run(["sh", "-c", SHELL, "sh", str(stack), str(memory), *words], cwd=folder, stdout=subprocess.PIPE, check=True)
     child, ended = int(shell.stdout), 0
     pause = 0.001
     while not ended:
