@@ -34,6 +34,8 @@ from valued import Valued
 
 SECONDS = 60
 TOGETHER = 40
+# How many of what differs each process makes small.
+MADE_SMALL = 20
 COMMANDS = ["weave", "graph", "check", "refute", "run", "play", "values", "procs", "world", "audit", "reaudit", "sample"]
 YES = (0, b"yes\n", b"")
 NONE = (None, b"", b"")
@@ -66,6 +68,7 @@ class Both:
         self.kept = tempfile.TemporaryDirectory(prefix="fuzz-", dir=memory)
         self.folder = self.kept.name
         self.commands = words_of(ours), words_of(other)
+        self.count = 0
         self.ours, self.other = (Served(command, tools, self.folder, SECONDS) for command in self.commands)
 
     def close(self):
@@ -240,7 +243,7 @@ class Pair:
     def rounds(self):
         chance = self.chance
         policy, source, kind = self.made()
-        p = self.put(spoilt(chance, respelled(chance, policy) if chance.random() < 0.3 else policy, 0.04))
+        p = self.put(spoilt(chance, respelled(chance, policy) if chance.random() < 0.2 else policy, 0.04))
         s = self.put(spoilt(chance, source, 0.04))
         runs = {"weave": ["weave", p, s], "audit": ["audit", p, s]}
         if self.wanted("procs", "world"):
@@ -370,8 +373,38 @@ def smaller(both, words, how):
             parts = [part for part in re.split(split, before) if part]
             if len(parts) <= 4000 and holds(parts):
                 both.put(name, b"".join(halves(parts, holds)))
+                unbraced(both, name, holds)
             else:
                 both.put(name, before)
+
+
+def braces(text):
+    """Where pairs of braces stand."""
+    opened, pairs = [], []
+    for at, byte in enumerate(text):
+        if byte == ord("{"):
+            opened.append(at)
+        elif byte == ord("}") and opened:
+            pairs.append((opened.pop(), at))
+    return pairs
+
+
+def unbraced(both, name, holds):
+    """Takes blocks of a file away, or their braces, while `holds`."""
+    text = both.got(name)
+    if text.count(b"{") > 60:
+        return
+    went = True
+    while went:
+        went = False
+        for first, last in sorted(braces(text)):
+            for made in (text[:first] + text[last + 1 :], text[:first] + text[first + 1 : last] + text[last + 1 :]):
+                if holds([made]):
+                    text, went = made, True
+                    break
+            if went:
+                break
+    both.put(name, text)
 
 
 def kept(both, keep, name, words, how):
@@ -381,7 +414,8 @@ def kept(both, keep, name, words, how):
     files = both.files(words)
     first = [both.got(file) for file in files]
     alone, _, _ = both.differs(words, True)
-    if alone:
+    both.count += 1
+    if alone and both.count <= MADE_SMALL:
         smaller(both, words, how)
     _, ours, other = both.differs(words, True)
     names = dict(zip(files, "abcd"))
@@ -468,9 +502,12 @@ def goes_on(asked, commands, files, tools, next_number, results):
     both.close()
 
 
-def known(command, folder):
-    """The commands that it takes."""
-    return [name for name in COMMANDS if not said(command, [name], folder)[2].startswith(b"usage: capweave COMMAND")]
+def known(both):
+    """The commands that both take, and for each of the two those that it lacks."""
+    lacking = []
+    for served in (both.ours, both.other):
+        lacking.append([name for name in COMMANDS if served.said([name])[2].startswith(b"usage: capweave COMMAND")])
+    return [name for name in COMMANDS if name not in lacking[0] + lacking[1]], lacking
 
 
 def read_files(folder):
@@ -496,19 +533,20 @@ def main():
     read.add_argument("--keep", default="fuzz-kept")
     read.add_argument("--files")
     asked = read.parse_args()
-    commands = [name for name in COMMANDS if not asked.only or name in asked.only.split(",")]
-    for command in (asked.ours, asked.other):
-        lacking = [name for name in commands if name not in known(words_of(command), ".")]
-        if lacking:
-            print("left out, since %s doesn't know it: %s" % (command, ", ".join(lacking)), flush=True)
-            commands = [name for name in commands if name not in lacking]
-    if not commands:
-        print("no command is left")
-        return 2
     files = read_files(asked.files) if asked.files else []
     whole, next_number, results = Counted(), multiprocessing.Value("q", asked.first), multiprocessing.Queue()
     with tempfile.TemporaryDirectory(prefix="fuzz-tools-") as tools:
         built(tools)
+        both = Both(asked.ours, asked.other, tools)
+        commands, lacking = known(both)
+        both.close()
+        for command, names in zip((asked.ours, asked.other), lacking):
+            if names:
+                print("left out, since %s doesn't know it: %s" % (command, ", ".join(names)), flush=True)
+        commands = [name for name in commands if not asked.only or name in asked.only.split(",")]
+        if not commands:
+            print("no command is left")
+            return 2
         before = resource.getrusage(resource.RUSAGE_CHILDREN)
         workers = [multiprocessing.Process(target=works, args=(asked, commands, files, tools, next_number, results)) for _ in range(asked.jobs)]
         for worker in workers:

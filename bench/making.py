@@ -124,8 +124,10 @@ def fitting(chance, source):
 
 
 def labelled(chance, source):
-    """A source with some labels where statements begin, mostly."""
+    """A source with some labels where statements begin, mostly, and now and then without what the subset knows no line for."""
     lines = source.split("\n")
+    if chance.random() < 0.7:
+        lines = [line for line in lines if not line.startswith("#") or line.startswith("#include")]
     places = [at for at in range(1, len(lines)) if re.match(r"\s+\S", lines[at]) and re.search(r"[;{}]\s*$", lines[at - 1])]
     for at, name in zip(chance.sample(places, min(len(places), chance.randint(1, 4))), LABELS):
         lines[at] = name + ":;" + lines[at]

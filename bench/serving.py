@@ -2,19 +2,18 @@
 
 Most of a short run is its start. So a small library in C, loaded before the C library, stops a program at its `main`, and calls that for one run after the other: with the words of the run, the program's variables
 as they were before the first one, memory from one piece that is given back all at once, and `exit` as the way back. Where a run is lost (a signal, too long, too much memory) the process as it was at
-`main` is copied (fork), and the copy makes that run alone; so the answer is that of a start by itself. A program that is linked statically can't be stopped: a small program in C starts it for each run. A script of Python is read once, modules and all, and
-copied for each run.
+`main` is copied (fork), and the copy makes that run alone; so the answer is that of a start by itself. A program that is linked statically can't be stopped: a small program in C starts it for each run. A script of Python is run again and again in one
+process too, with its modules as they are after the run before.
 """
+import collections
 import os
 import re
-import runpy
 import shlex
 import shutil
 import signal
 import struct
 import subprocess
 import sys
-import tempfile
 
 SERVER = r"""
 #define _GNU_SOURCE
@@ -363,32 +362,53 @@ class Served:
     """A command that answers runs in a folder, one after the other."""
 
     def __init__(self, command, tools, folder, seconds):
+        program = shutil.which(command[0]) or command[0]
+        self.environment, self.folder = dict(os.environ, SERVE_SECONDS=str(seconds)), folder
+        if len(command) == 1 and is_linked_at_start(program):
+            self.words = [os.path.abspath(program)]
+            self.environment.update(LD_PRELOAD=os.path.join(tools, "serve.so"), LD_BIND_NOW="1")
+        elif len(command) == 2 and command[1].endswith(".py"):
+            self.words = [program, os.path.abspath(__file__), os.path.abspath(command[1])]
+        else:
+            self.words = [os.path.join(tools, "serve"), os.path.abspath(program)] + command[1:]
+        self.open = collections.deque()
+        self.start()
+
+    def start(self):
         asked, self.asked = os.pipe()
         told_from, told = os.pipe()
         self.told = os.fdopen(told_from, "rb")
-        environment = dict(os.environ, SERVE_ASKED=str(asked), SERVE_TOLD=str(told), SERVE_SECONDS=str(seconds))
-        program = shutil.which(command[0]) or command[0]
-        if len(command) == 1 and is_linked_at_start(program):
-            words = [os.path.abspath(program)]
-            environment.update(LD_PRELOAD=os.path.join(tools, "serve.so"), LD_BIND_NOW="1")
-        elif len(command) == 2 and command[1].endswith(".py"):
-            words = [program, os.path.abspath(__file__), os.path.abspath(command[1])]
-        else:
-            words = [os.path.join(tools, "serve"), os.path.abspath(program)] + command[1:]
-        self.process = subprocess.Popen(words, cwd=folder, env=environment, stdin=subprocess.DEVNULL, pass_fds=(asked, told))
+        environment = dict(self.environment, SERVE_ASKED=str(asked), SERVE_TOLD=str(told))
+        self.process = subprocess.Popen(self.words, cwd=self.folder, env=environment, stdin=subprocess.DEVNULL, pass_fds=(asked, told))
         os.close(asked)
         os.close(told)
 
     def ask(self, words):
         """Begins a run with these words; `answer` has to follow."""
+        self.open.append(words)
         text = b"".join(os.fsencode(word) + b"\0" for word in words)
-        os.write(self.asked, struct.pack("I", len(text)) + text)
+        try:
+            os.write(self.asked, struct.pack("I", len(text)) + text)
+        except BrokenPipeError:
+            pass
 
     def answer(self):
-        """Status, output and note; None for the status where it took too long, minus the number of a signal that ended it."""
-        status, out, note = struct.unpack("iii", self.told.read(12))
-        answer = (None if status in TOO_LONG else status), self.told.read(out), self.told.read(note)
-        return answer
+        """Status, output and note of the run that was asked for first; None for the status where it took too long, minus the number of a signal that ended it."""
+        head = self.told.read(12)
+        self.open.popleft()
+        if len(head) < 12:
+            self.again()
+            return None, b"", b""
+        status, out, note = struct.unpack("iii", head)
+        return (None if status in TOO_LONG else status), self.told.read(out), self.told.read(note)
+
+    def again(self):
+        """A start anew, where the process was lost with a run; the others that were asked for are asked for once more."""
+        self.close()
+        waiting, self.open = list(self.open), collections.deque()
+        self.start()
+        for words in waiting:
+            self.ask(words)
 
     def said(self, words):
         self.ask(words)
@@ -400,39 +420,47 @@ class Served:
         self.told.close()
 
 
-def serve_script(script):
-    """What `serve` of the C code is, for a script of Python."""
-    import resource
+class Ended(BaseException):
+    """The end of a script's run, by `os._exit`."""
 
+
+def ended(code):
+    raise Ended(code)
+
+
+def serve_script(script):
+    """What the C code does for a program, for a script of Python: one run after the other in this process. One that takes too long ends it."""
     asked, told, seconds = (int(os.environ[name]) for name in ("SERVE_ASKED", "SERVE_TOLD", "SERVE_SECONDS"))
     sys.path[0] = os.path.dirname(script)
-    runpy.run_path(script, run_name="read")
-    source, answers = os.fdopen(asked, "rb", closefd=False), os.fdopen(told, "wb", closefd=False)
+    with open(script, "rb") as file:
+        code = compile(file.read(), script, "exec")
+    source, answers = os.fdopen(asked, "rb"), os.fdopen(told, "wb")
+    for file in (1, 2):
+        os.dup2(os.memfd_create("told"), file)
+    os._exit = ended
     while True:
         head = source.read(4)
         if not head:
             return
-        words = [os.fsdecode(word) for word in source.read(struct.unpack("I", head)[0]).split(b"\0")[:-1]]
-        with tempfile.TemporaryFile(dir=".") as out, tempfile.TemporaryFile(dir=".") as note:
-            child = os.fork()
-            if child == 0:
-                resource.setrlimit(resource.RLIMIT_CPU, (seconds, seconds + 1))
-                signal.alarm(20 * seconds)
-                os.dup2(out.fileno(), 1)
-                os.dup2(note.fileno(), 2)
-                sys.argv = [script] + words
-                try:
-                    runpy.run_path(script, run_name="__main__")
-                    code = 0
-                except SystemExit as end:
-                    code = end.code if isinstance(end.code, int) else int(end.code is not None)
-                sys.stdout.flush()
-                sys.stderr.flush()
-                os._exit(code)
-            code = os.waitstatus_to_exitcode(os.waitpid(child, 0)[1]) if hasattr(os, "waitstatus_to_exitcode") else os.waitpid(child, 0)[1] >> 8
-            texts = [os.pread(file.fileno(), 1 << 26, 0) for file in (out, note)]
-            answers.write(struct.pack("iii", code, *map(len, texts)) + b"".join(texts))
-            answers.flush()
+        sys.argv = [script] + [os.fsdecode(word) for word in source.read(struct.unpack("I", head)[0]).split(b"\0")[:-1]]
+        for file in (1, 2):
+            os.ftruncate(file, 0)
+            os.lseek(file, 0, os.SEEK_SET)
+        signal.alarm(20 * seconds)
+        try:
+            exec(code, {"__name__": "__main__", "__file__": script})
+            status = 0
+        except (SystemExit, Ended) as end:
+            status = (end.args or (0,))[0]
+            status = status if isinstance(status, int) else int(status is not None)
+        except Exception:
+            status = 1
+        signal.alarm(0)
+        sys.stdout.flush()
+        sys.stderr.flush()
+        texts = [os.pread(file, 1 << 28, 0) for file in (1, 2)]
+        answers.write(struct.pack("iii", status & 255, *map(len, texts)) + b"".join(texts))
+        answers.flush()
 
 
 if __name__ == "__main__":
