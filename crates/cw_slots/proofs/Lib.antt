@@ -1,3 +1,4 @@
+pub mod Numbered
 pub mod Found
 pub mod Shapes
 pub mod Sorts

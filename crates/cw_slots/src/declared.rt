@@ -134,7 +134,7 @@ pub fn own_names<'s>(
     put_statements(source, false, &statements, &mut plain)?;
     let mut arrays = Vec::new(alloc);
     put_statements(source, true, &statements, &mut arrays)?;
-    Ok(Names::of(plain, arrays))
+    Names::of(alloc, plain, arrays)
 }
 
 /// The names that are declared at file scope.
@@ -149,5 +149,5 @@ pub fn shared_names<'s>(
     put_declarations(source, false, &program.globals, &mut plain)?;
     let mut arrays = Vec::new(alloc);
     put_declarations(source, true, &program.globals, &mut arrays)?;
-    Ok(Names::of(plain, arrays))
+    Names::of(alloc, plain, arrays)
 }

@@ -3,10 +3,12 @@
 
 mod declared;
 mod names;
+mod numbers;
 mod scope;
 mod statements;
 
 pub use declared::{own_names, shared_names};
 pub use names::Names;
+pub use numbers::Kept;
 pub use scope::{Place, Scope};
 pub use statements::said;

@@ -1,10 +1,13 @@
 //! Names by their numbers.
-ghost use Rattle.std.specs.Prelude.{◌≡◌, ◌<◌, length, map, slice_index_or};
+ghost use Rattle.std.specs.Prelude.{◌≡◌, ◌<◌, length, slice_index_or, IfOk};
 ghost use Rattle.cw_syntax.specs.Names.{number_in};
 ghost use Rattle.cw_value.specs.Machines.{no_names};
-ghost use Rattle.cw_slots.specs.Texts.{named_of, text_at};
+ghost use Rattle.cw_slots.specs.Numbers.{kept_by};
+ghost use Rattle.cw_slots.specs.Texts.{named_of};
 
-use std::alloc::Global;
+use crate::numbers::{Kept, find, numbers_of};
+use indexmap::IndexMap;
+use std::alloc::{AllocError, Global};
 use std::marker::Model;
 
 /// Names by their numbers: those that are no arrays, and the arrays.
@@ -14,23 +17,37 @@ use std::marker::Model;
 pub struct Names<'s> {
     plain: Vec<&'s [u8]>,
     arrays: Vec<&'s [u8]>,
+    /// Where each of both is kept.
+    numbers: IndexMap<&'s [u8], Kept>,
 }
 
 impl<'s> Model for Names<'s> {
     ghost use Rattle.cw_value.specs.Expressions.{Named};
+    ghost use Rattle.cw_slots.specs.Numbers.{HaveNames};
     ghost use Rattle.cw_slots.specs.Texts.{named_of};
 
     ghost Value = { Named };
 
     ghost view = { λ n. named_of n.plain.items n.arrays.items };
+
+    ghost invariant = { λ n. HaveNames n.numbers.entries n.plain.items n.arrays.items };
 }
 
 impl<'s> Names<'s> {
     /// These names.
-    pub(crate) fn of(plain: Vec<&'s [u8]>, arrays: Vec<&'s [u8]>) -> Names<'s>
-        ensures names { result ≡ named_of plain.entry.items arrays.entry.items }
+    pub(crate) fn of(
+        alloc: Global,
+        plain: Vec<&'s [u8]>,
+        arrays: Vec<&'s [u8]>,
+    ) -> Result<Names<'s>, AllocError>
+        ensures names { IfOk result (λ names. names ≡ named_of plain.entry.items arrays.entry.items) }
     {
-        Names { plain, arrays }
+        let numbers = numbers_of(alloc, &plain, &arrays)?;
+        Ok(Names {
+            plain,
+            arrays,
+            numbers,
+        })
     }
 
     /// No names.
@@ -40,6 +57,7 @@ impl<'s> Names<'s> {
         Names {
             plain: Vec::new(alloc),
             arrays: Vec::new(alloc),
+            numbers: IndexMap::new(alloc),
         }
     }
 
@@ -72,29 +90,11 @@ impl<'s> Names<'s> {
     {
         self.plain[number]
     }
-    /// The number of the name that is no array and has this text.
-    pub fn plain(&self, name: &[u8]) -> Option<usize>
-        ensures number { result ≡ number_in self.now.plain name.now }
-    {
-        number_in(&self.plain, name)
-    }
 
-    /// The number of the array with this text.
-    pub fn array(&self, name: &[u8]) -> Option<usize>
-        ensures number { result ≡ number_in self.now.arrays name.now }
+    /// Where a name is kept. An array hides a name that is none.
+    pub fn find(&self, name: &[u8]) -> Option<Kept>
+        ensures kept { result ≡ kept_by (number_in self.now.arrays name.now) (number_in self.now.plain name.now) }
     {
-        number_in(&self.arrays, name)
+        find(&self.numbers, name)
     }
-}
-
-/// The place of a text in a list.
-fn number_in(texts: &[&[u8]], name: &[u8]) -> Option<usize>
-    ensures { result ≡ number_in (map text_at texts.now) name.now }
-{
-    for (i, text) in texts.iter().enumerate() {
-        if name == *text {
-            return Some(i);
-        }
-    }
-    None
 }

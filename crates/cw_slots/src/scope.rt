@@ -1,10 +1,11 @@
 //! What a name stands for where it is used.
 ghost use Rattle.std.specs.Prelude.{◌≡◌, Some};
-ghost use Rattle.cw_syntax.specs.Names.{number_in, slice};
-ghost use Rattle.cw_value.specs.Expressions.{given_for, place_of, shared_by};
-ghost use Rattle.cw_slots.specs.Shown.{place_in, scope_of};
+ghost use Rattle.cw_syntax.specs.Names.{slice};
+ghost use Rattle.cw_value.specs.Expressions.{given_for, place_of};
+ghost use Rattle.cw_slots.specs.Shown.{own_kept, place_in, scope_of, shared_if_kept};
 
 use crate::names::Names;
+use crate::numbers::Kept;
 use cw_syntax::names::slice;
 use std::alloc::Global;
 
@@ -41,12 +42,9 @@ impl<'a, 's> Scope<'a, 's> {
     pub fn place(&self, name: &[u8]) -> Place
         ensures place { place_in result ≡ place_of (scope_of self.now) name.now }
     {
-        match self.own.array(name) {
-            Some(n) => Place::OwnArray(n),
-            None => match self.own.plain(name) {
-                Some(n) => Place::Own(n),
-                None => shared_place(self.shared, name),
-            },
+        match self.own.find(name) {
+            Some(kept) => own_place(kept),
+            None => shared_place(self.shared.find(name)),
         }
     }
 
@@ -75,15 +73,25 @@ fn value_of(given: &(Vec<u8>, i64)) -> Option<i64>
     Some(given.1)
 }
 
-/// Where the value of a name of the file is kept.
-fn shared_place(shared: &Names, name: &[u8]) -> Place
-    ensures { place_in result ≡ shared_by (number_in shared.now.arrays name.now) (number_in shared.now.plain name.now) }
+/// Where the value of a name of the function is kept.
+fn own_place(kept: Kept) -> Place
+    ensures { place_in result ≡ own_kept kept }
 {
-    match shared.array(name) {
-        Some(n) => Place::SharedArray(n),
-        None => match shared.plain(name) {
-            Some(n) => Place::Shared(n),
-            None => Place::Nowhere,
+    match kept {
+        Kept::Plain(n) => Place::Own(n),
+        Kept::Array(n) => Place::OwnArray(n),
+    }
+}
+
+/// Where the value of a name is kept that is none of the function's.
+fn shared_place(kept: Option<Kept>) -> Place
+    ensures { place_in result ≡ shared_if_kept kept }
+{
+    match kept {
+        None => Place::Nowhere,
+        Some(kept) => match kept {
+            Kept::Plain(n) => Place::Shared(n),
+            Kept::Array(n) => Place::SharedArray(n),
         },
     }
 }
