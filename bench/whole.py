@@ -3,7 +3,7 @@
 
     python3 bench/whole.py crates/capweave/out/capweave --against "COMMAND" [--only WORD] [--runs 15]
 
-Two tables are printed, in one run. The first has a row for each of nine commands, with millions of instructions (all that the process executes, by `valgrind --tool=callgrind`) and
+Two tables are printed, in one run. The first has a row for each of eleven commands, with millions of instructions (all that the process executes, by `valgrind --tool=callgrind`) and
 milliseconds (of the processor, the least of the runs, the two commands in turn), and how many times the other's each is. The second has sizes 1, 2, 4 and 8 of one quantity for each
 command, the instructions of each size, and the exponent with which they grow: the slope of the line that fits their logarithms best, what a run of three lines takes being left out. The
 sources and policies are made here; woven texts and strategies are those that the program writes for them. The status is 1 where the two answer differently, where a row is over 1.5 times
@@ -87,6 +87,14 @@ def looped(points):
     return "int main(void){while(c){a:;}" + ";" * points + "return 0;}"
 
 
+def counting(names, turns):
+    """A loop of so many turns. Of so many names each is changed in a turn, but the first where there are several: with the test that makes so many steps a turn, or two."""
+    made = ["a%d" % number for number in range(names)]
+    changed = made[1:] or made
+    declared = "".join("int %s=0;" % name for name in made)
+    return "int main(void){%sw3:;while(%s<%d){%s}done:;return 0;}" % (declared, made[-1], turns, "".join("%s++;" % name for name in changed))
+
+
 SPLIT = 'format = 1\nsplit = ["f0"]\n[[at]]\nlabel = "done"\nnever = ["amb"]\n[[at]]\nlabel = "w3"\nmust = ["amb"]\n'
 EIGHT = (1, 2, 4, 8)
 
@@ -126,6 +134,10 @@ def play(policy, source, tape):
     return Case("play p s < t", policy, source, tape)
 
 
+def values(policy, source):
+    return Case("values p < t", policy, source, "capweave answers 1\nend\n")
+
+
 BIG = large(262_144)
 LOOP = "int main(void){w3:;while(c){a:;}done:;return 0;}"
 
@@ -139,6 +151,8 @@ ROWS = (
     ("`weave`, 1,000 points, refuted", weave(POLICY, first_form(1_000, "done", "w3"))),
     ("`weave` of a source with 65,536 rows", weave(circling(62), looped(1_032))),
     ("a source of three lines", weave(POLICY, THREE_LINES)),
+    ("`values`, 800,000 steps over one name", values(POLICY, counting(1, 400_000))),
+    ("`values`, 808,000 steps over 101 names", values(POLICY, counting(101, 8_000))),
 )
 
 GROWTHS = (
