@@ -3,7 +3,7 @@
 
     python3 bench/whole.py crates/capweave/out/capweave --against "COMMAND" [--only WORD] [--runs 15]
 
-Two tables are printed, in one run. The first has a row for each of eleven commands, with millions of instructions (all that the process executes, by `valgrind --tool=callgrind`) and
+Two tables are printed, in one run. The first has a row for each of twelve commands, with millions of instructions (all that the process executes, by `valgrind --tool=callgrind`) and
 milliseconds (of the processor, the least of the runs, the two commands in turn), and how many times the other's each is. The second has sizes 1, 2, 4 and 8 of one quantity for each
 command, the instructions of each size, and the exponent with which they grow: the slope of the line that fits their logarithms best, what a run of three lines takes being left out. The
 sources and policies are made here; woven texts and strategies are those that the program writes for them. The status is 1 where the two answer differently, where a row is over 1.5 times
@@ -95,6 +95,13 @@ def counting(names, turns):
     return "int main(void){%sw3:;while(%s<%d){%s}done:;return 0;}" % (declared, made[-1], turns, "".join("%s++;" % name for name in changed))
 
 
+def leaving(calls, size=0):
+    """So many calls that aren't waited for, behind a comment that makes so many bytes of it: the form has 32 bytes and 4 points a call more."""
+    text = "void f(int x){a:;}int main(void){" + "f(1);" * calls + "done:;return 0;}"
+    return "/*" + "x" * max(0, size - len(text) - 4) + "*/" + text
+
+
+DETACHED = 'format = 2\ndetached = ["f"]\n[[at]]\nlabel = "done"\nnever = ["amb"]\n'
 SPLIT = 'format = 1\nsplit = ["f0"]\n[[at]]\nlabel = "done"\nnever = ["amb"]\n[[at]]\nlabel = "w3"\nmust = ["amb"]\n'
 EIGHT = (1, 2, 4, 8)
 
@@ -108,6 +115,10 @@ class Case:
 
 def weave(policy, source):
     return Case("weave p s", policy, source)
+
+
+def procs(policy, source):
+    return Case("procs p s", policy, source)
 
 
 def check(policy, source):
@@ -153,6 +164,7 @@ ROWS = (
     ("a source of three lines", weave(POLICY, THREE_LINES)),
     ("`values`, 800,000 steps over one name", values(POLICY, counting(1, 400_000))),
     ("`values`, 808,000 steps over 101 names", values(POLICY, counting(101, 8_000))),
+    ("`procs` of 210,944 bytes, 1,600 calls", procs(DETACHED, leaving(1_600, 210_944))),
 )
 
 GROWTHS = (
@@ -176,6 +188,7 @@ GROWTHS = (
     ("`check`", "rules", lambda n: check(several(4 * n), looped(400))),
     ("`check`", "states", lambda n: check(circling(7 * n), looped(400))),
     ("`check`", "rows", lambda n: check(circling(62), looped(129 * n))),
+    ("`procs`", "calls", lambda n: procs(DETACHED, leaving(200 * n))),
     ("`refute`", "points", lambda n: refute(POLICY, first_form(1_000 * n, "done", "w3"))),
     ("`run`", "words of a tape", lambda n: run(several(1), LOOP, "left " * (4_000 * n))),
     ("`play`", "words of a tape", lambda n: play(POLICY, first_form(1_000, "done", "w3"), "skip " * (4_000 * n))),
