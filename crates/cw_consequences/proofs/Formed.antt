@@ -93,9 +93,7 @@ record IsFormWon (policy source : List ℕ) (r : Reply) (text : List ℕ) : Type
 won_form : (policy source : List ℕ) (r : Reply) (text : List ℕ) → IsProcsDue policy source (Told r text) → IsFormWon policy source r text
 won_form policy source r text (inl u) = absurd (never_unread policy source r text u)
 won_form policy source r text (inr (whole, file, are, inl (f, ne, is, e))) = absurd (never_form source whole r text f e)
-won_form policy source r text (inr (whole, file, are, inr (clear, inl unread))) =
-    absurd (never_unread policy (form_of source whole.detached file) r text (inr (whole, are.spelled, unread)))
-won_form policy source r text (inr (whole, file, are, inr (clear, inr (read, reads, none, behind)))) = record {
+won_form policy source r text (inr (whole, file, are, inr (clear, (read, reads, none, behind)))) = record {
   whole = whole;
   file = file;
   are = are;
@@ -143,8 +141,7 @@ module _ (policy source : List ℕ) (tokens : List Token) (short : length source
   to_weave due (inr (p, file, are, inr (clear, of_form))) = by (subst (λ (s : List ℕ). OfForm p s due) (source_is p file are) of_form)
     where
       by : OfForm p source due → IsWeaveDue policy source due
-      by (inl unread) = inl (inr (p, are.spelled, unread))
-      by (inr (other, reads, none, behind)) = inr (
+      by (other, reads, none, behind) = inr (
         p,
         other,
         record { spelled = are.spelled; reads = reads; descriptors = none },
@@ -157,7 +154,7 @@ module _ (policy source : List ℕ) (tokens : List Token) (short : length source
 
   from_weave : (due : Due) → IsWeaveDue policy source due → IsProcsDue policy source due
   from_weave due (inl u) = inl u
-  from_weave due (inr (p, file, are, behind)) = inr (p, file, are, inr (clear, subst (λ (s : List ℕ). OfForm p s due) (sym (source_is p file are)) (inr (file, are.reads, are.descriptors, fitted behind))))
+  from_weave due (inr (p, file, are, behind)) = inr (p, file, are, inr (clear, subst (λ (s : List ℕ). OfForm p s due) (sym (source_is p file are)) (file, are.reads, are.descriptors, fitted behind)))
     where
       clear : IsFirstFault source file p None
       clear = (tokens, lexed, sym (taken_alone source tokens file p _ are.reads short (attached p file are) lexed (tokens, lexed, refl) ∙ none_taken))

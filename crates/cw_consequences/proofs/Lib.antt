@@ -8,7 +8,6 @@ mod Causes
 mod Each
 mod Fits
 mod Formed
-mod FormsRead
 mod Likes
 mod Outcomes
 mod Parted

@@ -47,8 +47,8 @@ module _ (source : List ℕ) (p : PlainPolicy) (file : File) where
       a ∙ ap (λ (z : ProcFault). form_refusal source p z) (same_Some f g (one_first (Some f) (Some g) is other)) ∙ sym b
 
 one_of_form : (p : PlainPolicy) (form : List ℕ) → IsOne (OfForm p form)
-one_of_form p form =
-    one_source form p (λ file. WhereFits (AfterGame (IsParted p form file)) form p file) (λ file. one_where_fits form p file (AfterGame (IsParted p form file)) (one_parted form p file))
+one_of_form p form due answer a b =
+    one_source form p (λ file. WhereFits (AfterGame (IsParted p form file)) form p file) (λ file. one_where_fits form p file (AfterGame (IsParted p form file)) (one_parted form p file)) due answer (inr a) (inr b)
 
 one_after_form : (source : List ℕ) (p : PlainPolicy) (file : File) → IsOne (AfterForm source p file)
 one_after_form source p file due answer (inl a) (inl b) = one_form_refusal source p file due answer a b

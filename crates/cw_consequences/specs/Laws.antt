@@ -8,20 +8,15 @@ use Rattle.cw_consequences.specs.Unrefused.{unrefused}
 use Rattle.cw_syntax.specs.Trees.{File}
 use Rattle.cw_lex.specs.declared.tokens.Token.{Token}
 use Rattle.cw_lex.specs.Tokens.{AreTokens}
-use Rattle.cw_scope.specs.Descriptors.{descriptor_fault}
-use Rattle.cw_source.specs.Read.{ReadsAs}
-use Rattle.cw_detach.specs.Faults.{taken, IsFirstFault}
+use Rattle.cw_detach.specs.Faults.{taken}
 use Rattle.cw_detach.specs.Form.{form_of}
 use Rattle.cw_commands.specs.declared.command.Command.{Command}
 use Rattle.cw_commands.specs.declared.command.Command.TheVariants.{Audit}
 use Rattle.cw_commands.specs.declared.outcome.Reply.TheVariants.{Yes, No}
 use Rattle.cw_commands.specs.Outcomes.{Due, Told}
-use Rattle.cw_stages.specs.Games.{WhereFits}
-use Rattle.cw_stages.specs.Reading.{AreRead, AfterReading}
+use Rattle.cw_stages.specs.Reading.{AreRead}
 use Rattle.cw_stages.specs.Refusals.{over, yes}
-use Rattle.cw_stages.specs.Verdicts.{AfterGame}
-use Rattle.cw_parting.specs.Parting.{IsParted, IsProcsDue}
-use Rattle.cw_parting.specs.Refusals.{IsFormRefusal}
+use Rattle.cw_parting.specs.Parting.{IsProcsDue}
 use Rattle.cw_cli.specs.Checking.{IsCheckDue}
 use Rattle.cw_cli.specs.Due.{IsDue}
 use Rattle.cw_cli.specs.Refuting.{IsRefuteDue}
@@ -44,19 +39,6 @@ EachHasOneAnswer = (command : Command) → IsFixed command → (files : List (Li
 -- this is due, and nothing else
 abbrev pub IsOnly : (Due → Type 0) → Due → Type 0
 IsOnly Is due = Is due × ((other : Due) → Is other → other ≡ due)
-
--- What is due for the form of a source that was read, as the program that the form is read as.
-abbrev pub OfReadForm : PlainPolicy → List ℕ → Due → Type 0
-OfReadForm whole form due = (file : File) × ReadsAs form file × (descriptor_fault form file whole ≡ None) × WhereFits (AfterGame (IsParted whole form file)) form whole file due
-
-abbrev pub AfterReadForm : List ℕ → PlainPolicy → File → Due → Type 0
-AfterReadForm source whole file due =
-    IsFormRefusal source file whole due ⊎ (IsFirstFault source file whole None × OfReadForm whole (form_of source whole.detached file) due)
-
--- No form is refused by the reader, or by the rules of descriptors: what is due for `procs` is a refusal of the policy, of the source, or by the rule that
--- forbids a form; or what is due for the program that the form is read as.
-abbrev pub EachFormIsRead : Type 0
-EachFormIsRead = (policy source : List ℕ) (due : Due) → IsProcsDue policy source due ↔ AfterReading (AfterReadForm source) policy source due
 
 -- Where `procs` is due to write a woven text, `yes` alone is due for its check.
 abbrev pub FormIsChecked : Type 0

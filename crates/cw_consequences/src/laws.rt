@@ -1,7 +1,7 @@
 //! Laws of the definitions: functions that do nothing, and whose contracts hold of every value.
 
 ghost use Rattle.cw_consequences.specs.Accepting.{GraphEndsWell, WeaveEndsWell};
-ghost use Rattle.cw_consequences.specs.Laws.{EachFormIsRead, EachHasOneAnswer, FormIsChecked, FormIsJudged, FormatsAgree, ProcsIsWeave, StopGivesTheSame, WeaveHasOneAnswer};
+ghost use Rattle.cw_consequences.specs.Laws.{EachHasOneAnswer, FormIsChecked, FormIsJudged, FormatsAgree, ProcsIsWeave, StopGivesTheSame, WeaveHasOneAnswer};
 
 use cw_io::Sink;
 
@@ -19,11 +19,6 @@ pub fn each_has_one_answer()
 pub fn what_procs_writes_is_accepted()
     ensures checked { FormIsChecked }
     ensures judged { FormIsJudged }
-{}
-
-/// A form is always read: none of the reader's refusals, nor of those by the rules of descriptors, is due for the form of a source.
-pub fn each_form_is_read()
-    ensures { EachFormIsRead }
 {}
 
 /// Without detached functions, and without the names of a form in the source, `procs` is `weave`.

@@ -1,5 +1,6 @@
 -- What comes behind the stages of a form: the verdict with its numbers, and the verdict alone.
-use Rattle.std.proofs.Common.{◌≡◌, ◌≢◌, ◌≤◌, List, ℕ, None, inl, inr, subst, ⊎_elim}
+use Rattle.std.proofs.Common.{◌≡◌, ◌≢◌, ◌≤◌, List, ℕ, None, inl, inr, sym, ap, ◌∙◌, subst, ⊎_elim}
+use Rattle.std.proofs.lemmas.Option.{none-some}
 use Rattle.cw_core.specs.Quantities.{limit_of}
 use Rattle.cw_core.specs.declared.quantity.Quantity.TheVariants.{Points}
 use Rattle.cw_rights.specs.Policies.{PlainPolicy}
@@ -11,10 +12,12 @@ use Rattle.cw_points.specs.Graphs.{IsGraph}
 use Rattle.cw_points.specs.Points.{point_count}
 use Rattle.cw_scope.specs.Descriptors.{descriptor_fault}
 use Rattle.cw_source.specs.Read.{ReadsAs}
+use Rattle.cw_source.proofs.OneAnswer.{never_both, one_program}
 use Rattle.cw_detach.specs.declared.faults.ProcFault.{ProcFault}
 use Rattle.cw_detach.specs.declared.faults.ProcFault.TheVariants.{NoMemory}
 use Rattle.cw_detach.specs.Faults.{IsDetachFault, IsFirstFault}
 use Rattle.cw_detach.specs.Form.{form_of}
+use Rattle.cw_forms.proofs.Free.{forms_are_read}
 use Rattle.cw_model.specs.Boards.{problem_of}
 use Rattle.cw_game.specs.Games.{Game}
 use Rattle.cw_game.specs.Standing.{IsGameOf}
@@ -27,7 +30,7 @@ use Rattle.cw_stages.specs.declared.numbers.Numbers.{Numbers}
 use Rattle.cw_stages.specs.Counting.{IsCounted}
 use Rattle.cw_stages.specs.Games.{IsGame, WhereFits, WithGame, WithGraph}
 use Rattle.cw_stages.specs.Verdicts.{AfterCells, AfterGame, IsVerdict}
-use Rattle.cw_stages.specs.Reading.{WithSource}
+use Rattle.cw_stages.specs.Reading.{IsSourceUnread, WithSource}
 use Rattle.cw_parting.specs.Parting.{AfterForm, IsParted, OfForm}
 use Rattle.cw_worlds.specs.Forks.{fork_places}
 use Rattle.cw_worlds.proofs.Meeting.{worlds_meet}
@@ -88,3 +91,15 @@ module _ (source : List ℕ) (whole : PlainPolicy) (file : File) (due : Due) (re
 
   pub unformed : (f : ProcFault) → IsDetachFault source file whole f → f ≢ NoMemory → due ≡ form_refusal source whole f → WithSource (AfterForm source whole) source whole due
   unformed f is ne e = inr (file, reads, none, inl (f, ne, ⊎_elim (λ n. absurd (ne n)) (λ first. first) is, e))
+
+-- a form is read, and the policy's descriptors keep their rules in it
+pub read_form : (source : List ℕ) (whole : PlainPolicy) (file : File) → ReadsAs source file → descriptor_fault source file whole ≡ None → IsFirstFault source file whole None
+    → (made : File) × ReadsAs (form_of source whole.detached file) made × (descriptor_fault (form_of source whole.detached file) made whole ≡ None)
+read_form source whole file reads none clear = let form = forms_are_read source file whole reads none clear in (form.made, form.reads, form.declared)
+
+-- so no refusal of the reader is due for it, nor one by the rules of descriptors
+pub never_unread : (whole : PlainPolicy) (form : List ℕ) (file : File) (due : Due) → ReadsAs form file → descriptor_fault form file whole ≡ None → IsSourceUnread form whole due → ⊥
+never_unread whole form file due reads none (inl (f, is, ne, e)) = never_both form file f ne reads is
+never_unread whole form file due reads none (inr (other, read, (f, some, e))) =
+    let files : other ≡ file = one_program form other file read reads in
+    none-some f (sym none ∙ sym (ap (λ (z : File). descriptor_fault form z whole) files) ∙ some)

@@ -1,8 +1,10 @@
 -- What is due for `procs`, by the bytes of a policy and of a source.
-use Rattle.std.specs.Prelude.{◌⊎◌, ℕ, List, None}
+use Rattle.std.specs.Prelude.{◌≡◌, ◌⊎◌, ℕ, List, None}
 use Rattle.cw_rights.specs.Policies.{PlainPolicy}
 use Rattle.cw_syntax.specs.Trees.{File}
 use Rattle.cw_model.specs.Boards.{problem_of}
+use Rattle.cw_scope.specs.Descriptors.{descriptor_fault}
+use Rattle.cw_source.specs.Read.{ReadsAs}
 use Rattle.cw_game.specs.Games.{Game}
 use Rattle.cw_worlds.specs.Forks.{fork_places}
 use Rattle.cw_worlds.specs.Worlds.{MeetsInAll}
@@ -10,7 +12,7 @@ use Rattle.cw_detach.specs.Form.{form_of}
 use Rattle.cw_detach.specs.Faults.{IsFirstFault}
 use Rattle.cw_commands.specs.declared.outcome.Reply.TheVariants.{Yes, No}
 use Rattle.cw_commands.specs.Outcomes.{Due, Told, Refused}
-use Rattle.cw_stages.specs.Reading.{AfterReading, WithSource}
+use Rattle.cw_stages.specs.Reading.{AfterReading}
 use Rattle.cw_stages.specs.Games.{WhereFits}
 use Rattle.cw_stages.specs.Verdicts.{AfterGame, IsRefuted, IsWoven}
 use Rattle.cw_parting.specs.Refusals.{IsFormRefusal}
@@ -22,9 +24,10 @@ IsParted whole form file g (Told Yes text) = (w : IsWoven whole form file g text
 IsParted whole form file g (Told No text) = IsRefuted whole form file g text
 IsParted whole form file g (Refused cause line) = ⊥
 
--- The form is read like a source, and goes through the stages of `weave`; that the policy detaches functions is no matter any more.
+-- The form is read as a program that keeps the rules of the policy's descriptors, and goes through the stages of `weave`. That the policy detaches
+-- functions is no matter any more.
 abbrev pub OfForm : PlainPolicy → List ℕ → Due → Type 0
-OfForm whole form due = WithSource (λ file. WhereFits (AfterGame (IsParted whole form file)) form whole file) form whole due
+OfForm whole form due = (file : File) × ReadsAs form file × (descriptor_fault form file whole ≡ None) × WhereFits (AfterGame (IsParted whole form file)) form whole file due
 
 -- That a source which was read has no form, or what is due for its form.
 abbrev pub AfterForm : List ℕ → PlainPolicy → File → Due → Type 0

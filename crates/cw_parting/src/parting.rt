@@ -3,6 +3,9 @@
 ghost use Rattle.std.specs.Prelude.{◌≡◌, ◌≤◌, length, None, IfErr, IfOk};
 ghost use Rattle.cw_rights.specs.Policies.{policy_of};
 ghost use Rattle.cw_rights.specs.Valid.{IsValid};
+ghost use Rattle.cw_syntax.specs.Trees.{File};
+ghost use Rattle.cw_scope.specs.Descriptors.{descriptor_fault};
+ghost use Rattle.cw_source.specs.Read.{ReadsAs};
 ghost use Rattle.cw_detach.specs.Faults.{IsDetachFault, IsFirstFault};
 ghost use Rattle.cw_detach.specs.Form.{form_of};
 ghost use Rattle.cw_commands.specs.Outcomes.{due_of};
@@ -58,7 +61,7 @@ fn told<O: Sink>(alloc: Global, reading: &Reading, out: &mut O) -> Result<Text<O
     }
 }
 
-/// What is due for a form.
+/// What is due for a form, which is read as each form is: only want of memory can keep the reader from it.
 fn parted<O: Sink>(
     alloc: Global,
     policy: &Policy,
@@ -67,6 +70,7 @@ fn parted<O: Sink>(
 ) -> Result<Text<O>, Stop>
     requires short { length form.now ≤ 262144 }
     requires valid { IsValid (policy_of policy.now) }
+    requires read { (file : File) × ReadsAs form.now file × (descriptor_fault form.now file (policy_of policy.now) ≡ None) }
     ensures due { Answers (policy_of policy.now) form.now (OfForm (policy_of policy.now) form.now) result }
     ensures puts { StartsText O.taken O.faults O.refused out.old out.new result }
 {

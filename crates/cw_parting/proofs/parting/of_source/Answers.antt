@@ -6,8 +6,19 @@ use Rattle.cw_stages.specs.Stops.{file_in}
 use Rattle.cw_stages.proofs.Answering.{ended_due}
 use Rattle.cw_stages.proofs.Refusing.{if_ok}
 use Rattle.cw_parting.specs.Parting.{OfForm}
-use Rattle.cw_parting.proofs.Behind.{formed, unformed}
+use Rattle.cw_parting.proofs.Behind.{formed, read_form, unformed}
 use Rattle.cw_parting.proofs.parting.of_source.Goals as goal
+
+pub parted-requires-clause-read : goal.parted-requires-clause-read
+parted-requires-clause-read g c =
+    let whole = policy_of c.args.policy.now in
+    let source = c.args.source.now in
+    let read = c.in-Ok.ensures in
+    let file = file_in c.in-Ok.reading in
+    let reads = subst (λ s. ReadsAs s file) read.source read.is.reads in
+    let is = rw (read.policy, read.source) at c.in-Ok-form_in.ensures.form in
+    let clear = rw (read.policy, read.source) at c.in-Ok-form_in.ensures.clear in
+    rw (c.deref.ensures.value, is) (read_form source whole file reads read.descriptors clear)
 
 pub returns-in-Ok-form_in-clause-due : goal.returns-in-Ok-form_in-clause-due
 returns-in-Ok-form_in-clause-due g c =
