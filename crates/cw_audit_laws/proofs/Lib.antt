@@ -1,3 +1,8 @@
 -- The proofs.
 mod Alike
-pub mod SameAudits
+mod Existing
+mod Listings
+mod Settles
+mod Unsplit
+pub mod Ruled
+pub mod Tries

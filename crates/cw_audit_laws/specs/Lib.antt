@@ -1,3 +1,5 @@
 -- The definitions.
-pub mod Agreeing
 pub mod Refusing
+pub mod Ruling
+pub mod There
+pub mod Trying
