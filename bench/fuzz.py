@@ -256,9 +256,11 @@ class Pair:
         got = yield [runs[name] for name in firsts] + [run for run in rest if self.wanted(run[0])]
         by = dict(zip(firsts, got))
         if by.get("weave", NONE)[0] == 0:
-            yield from self.behind_woven(p, s, by["weave"][1], kind)
+            yield from self.behind_woven(p, s, by["weave"][1])
         elif by.get("weave", NONE)[0] == 1:
             yield from self.behind_strategy(p, s, by["weave"][1])
+        if self.wanted("values") and kind == "valued":
+            yield from self.valued(p, s, by["weave"])
         if by.get("audit", NONE)[0] in (0, 1):
             yield from self.taken([["reaudit", p, s]], by["audit"][1], self.wanted("reaudit"))
         if "procs" in by:
@@ -284,13 +286,11 @@ class Pair:
         for words, answer in zip(runs, got):
             self.sure(answer == YES, "not taken", words)
 
-    def behind_woven(self, p, s, text, kind):
+    def behind_woven(self, p, s, text):
         w = self.put(text)
         yield from self.taken([["check", p]], text, self.wanted("check"))
         if self.wanted("run"):
             yield from self.walked(["run", p, w], Walk(self.chance))
-        if self.wanted("values") and kind == "valued":
-            yield from self.valued(p, s, w)
 
     def behind_strategy(self, p, s, text):
         chance, y = self.chance, self.put(text)
@@ -320,17 +320,20 @@ class Pair:
             if text == whole:
                 walk.learn(tape, answer)
 
-    def valued(self, p, s, w):
-        """Answers for a woven text, and for the text of the same source under a policy that asks for nothing."""
+    def valued(self, p, s, weave):
+        """Answers for the text of a source under a policy that asks for nothing, and for the woven text where there is one."""
         chance, e = self.chance, self.put("format = 1\n")
         ((status, text, _),) = yield [["weave", e, s]]
         if status != 0:
             return
-        v = self.put(text)
         texts = [self.put(spoilt(chance, answers(chance), 0.05)) for _ in range(self.each)]
-        got = yield [words + [text] for text in texts for words in (["values", p, w], ["values", e, v])]
-        for text, woven, plain in zip(texts, got[::2], got[1::2]):
-            self.sure(agree(woven, plain), "a woven run is not the plain one", ["values", p, w, text], ["values", e, v, text])
+        words = ["values", e, self.put(text)]
+        plain = yield [words + [text] for text in texts]
+        if weave[0] == 0:
+            words = ["values", p, self.put(weave[1])]
+            woven = yield [words + [text] for text in texts]
+            for text, alone, one in zip(texts, plain, woven):
+                self.sure(agree(one, alone), "a woven run is not the plain one", words + [text])
 
 
 def agree(woven, plain):

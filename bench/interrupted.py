@@ -50,6 +50,11 @@ __attribute__((destructor)) static void end(void) {
     if (failing > 0) syscall(SYS_write, 9, "all", 3);
 }
 
+void _exit(int status) {
+    end();
+    for (;;) syscall(SYS_exit_group, status);
+}
+
 /* What a call of this kind is to do: 0 all of it, 1 half of it and the next time fail, 2 fail. */
 static int due(int which, size_t size) {
     if (which != kind || failing <= 0) return 0;
