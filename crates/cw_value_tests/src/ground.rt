@@ -29,7 +29,7 @@ pub(crate) fn shown(alloc: Global, source: &[u8], values: &Values) -> Result<Vec
 }
 
 /// Why a source isn't run, as a text.
-fn fault_told(alloc: Global, fault: ValueFault) -> Result<Vec<u8>, AllocError> {
+pub(crate) fn fault_told(alloc: Global, fault: ValueFault) -> Result<Vec<u8>, AllocError> {
     let text = match fault {
         ValueFault::Shape(place) => format!(in alloc; "{fault} at {place}")?,
         ValueFault::NoMemory => format!(in alloc; "{fault}")?,

@@ -15,3 +15,7 @@ mod programs;
 mod shapes;
 #[cfg(test)]
 mod shown;
+#[cfg(test)]
+mod weaves;
+#[cfg(test)]
+mod woven;
