@@ -2,8 +2,6 @@
 use Rattle.std.proofs.Common.{◌≡◌, ℕ, zero, suc, ◌<◌, ◌≤◌, Bool, true, false, List, [], ◌∷◌, ◌++◌, length, refl, sym, ap, subst, arith, length-append}
 use Rattle.std.specs.List.{filter_map, flat_map}
 use Rattle.std.proofs.lemmas.List.Elements.{filter_map-append}
-use Rattle.cw_lex.specs.declared.tokens.Token.{Token}
-use Rattle.cw_lex.specs.Listed.{AreInOrder as TokensAreInOrder}
 use Rattle.cw_lex.proofs.Ordered.{tokens_in_order}
 use Rattle.cw_grammar.specs.declared.words.Lexeme.{Lexeme}
 use Rattle.cw_grammar.specs.Lexemes.{from_of, to_of, AreAll, statements}
@@ -17,6 +15,7 @@ use Rattle.cw_scope.specs.Walks.{Placed, placed, placed_all, body_of, every_stat
 use Rattle.cw_source.specs.Read.{ReadsAs}
 use Rattle.cw_detach.specs.declared.spans.Span.{Span}
 use Rattle.cw_detach.specs.Form.{calls_one, span_of, spans, AreApart}
+use Rattle.cw_detach.proofs.Between.{Lie, lie_of, lie_le, split, ends}
 
 apart_le : (from to : ℕ) (ss : List Span) → AreApart from to ss → from ≤ to
 apart_le from to [] h = h
@@ -29,31 +28,6 @@ apart_wider a b c d (s ∷ ss) p q h = ((let r = h.0 in omega arith), h.1, apart
 apart_both : (a b c : ℕ) (xs ys : List Span) → AreApart a b xs → AreApart b c ys → AreApart a c (xs ++ ys)
 apart_both a b c [] ys h k = apart_wider b c a c ys h (omega arith) k
 apart_both a b c (x ∷ xs) ys h k = (h.0, h.1, apart_both x.to b c xs ys h.2 k)
-
--- The tokens lie between two places, one after the other.
-abbrev Lie : ℕ → ℕ → List Lexeme → Type 0
-Lie from to [] = from ≤ to
-Lie from to (t ∷ ts) = (from ≤ t.from) × (t.from < t.to) × Lie t.to to ts
-
-lie_of : (source : List ℕ) (from to : ℕ) (ts : List Token) → TokensAreInOrder from to ts → Lie from to (lexemes_of source ts)
-lie_of source from to [] h = h
-lie_of source from to (t ∷ ts) h = (h.0, h.1, lie_of source t.to to ts h.2)
-
-lie_le : (from to : ℕ) (ts : List Lexeme) → Lie from to ts → from ≤ to
-lie_le from to [] h = h
-lie_le from to (t ∷ ts) h = let p = h.0 in let q = h.1 in let r = lie_le t.to to ts h.2 in omega arith
-
-split : (from to : ℕ) (xs ys : List Lexeme) → Lie from to (xs ++ ys) → (at : ℕ) × Lie from at xs × Lie at to ys
-split from to [] ys h = (from, (omega arith), h)
-split from to (x ∷ xs) ys h = let p = split x.to to xs ys h.2 in (p.0, (h.0, h.1, p.1), p.2)
-
--- the first and the last of some tokens
-ends : (from to : ℕ) (ts : List Lexeme) → 0 < length ts → Lie from to ts → (from ≤ from_of ts) × (from_of ts ≤ to_of ts) × (to_of ts ≤ to)
-ends from to [] some h = absurd (omega arith)
-ends from to (t ∷ []) some h = (h.0, (let p = h.1 in omega arith), h.2)
-ends from to (t ∷ (u ∷ ts)) some h =
-    let p = ends t.to to (u ∷ ts) (omega arith) h.2 in
-    (h.0, (let a = h.1 in let b = p.0 in let c = p.1 in omega arith), p.2)
 
 module _ (source : List ℕ) (names : List (List ℕ)) where
   abbrev own : List Placed → List Span

@@ -4,5 +4,7 @@ mod Depths
 mod Placing
 pub mod Rules
 mod Kept
+pub mod Between
 mod Apart
+mod Absent
 pub mod Plain

@@ -4,27 +4,25 @@ ghost use Rattle.std.specs.Prelude.{◌≡◌, ◌⊎◌, ◌≤◌, None, Some,
 ghost use Rattle.cw_syntax.specs.Trees.{file_of};
 ghost use Rattle.cw_rights.specs.Policies.{policy_of};
 ghost use Rattle.cw_rights.specs.Valid.{IsValid};
-ghost use Rattle.cw_lex.specs.Tokens.{AreTokens};
 ghost use Rattle.cw_scope.specs.Held.{placed_of};
 ghost use Rattle.cw_scope.specs.Rules.{is_main};
 ghost use Rattle.cw_scope.specs.Walks.{every_statement};
 ghost use Rattle.cw_source.specs.Read.{ReadsAs};
 ghost use Rattle.cw_resolve.specs.Held.{lists};
 ghost use Rattle.cw_detach.specs.Form.{form_of};
-ghost use Rattle.cw_detach.specs.Faults.{is_function, no_function, both, is_taken, taken, result_taken, long, deep, is_shallow, name_fault, IsTextFault, IsFirstFault, IsDetachFault};
+ghost use Rattle.cw_detach.specs.Faults.{is_function, no_function, both, result_taken, long, deep, is_shallow, name_fault, IsTextFault, IsFirstFault, IsDetachFault};
 
 use crate::faults::ProcFault;
 use crate::form::form_of;
 use crate::names::is_among;
 use crate::nesting::are_shallow;
 use crate::spans::{first_result, spans};
+use crate::tokens::taken;
 use cw_core::{NoMemory, Quantity, limits};
-use cw_lex::{LexFault, Token, lex};
 use cw_resolve::function_named;
 use cw_rights::Policy;
 use cw_scope::{Placed, every_statement};
 use cw_syntax::checked::Checked;
-use cw_syntax::names::slice;
 use std::alloc::Global;
 
 /// Whether a name is `main`.
@@ -64,42 +62,6 @@ fn both(split: &[Vec<u8>], detached: &[Vec<u8>]) -> Option<ProcFault>
     for (i, name) in detached.iter().enumerate() {
         if is_among(split, name) {
             return Some(ProcFault::Both(i as u16));
-        }
-    }
-    None
-}
-
-/// The tokens of a source that was read.
-fn tokens_of(alloc: Global, checked: &Checked) -> Result<Vec<Token>, NoMemory>
-    requires short { length checked.now.source.now ≤ 262144 }
-    requires reads { ReadsAs checked.now.source.now (file_of checked.now.program) }
-    ensures { IfOk result (λ tokens. AreTokens checked.now.source.now tokens.items) }
-{
-    match lex(alloc, checked.source) {
-        Ok(tokens) => Ok(tokens),
-        Err(fault) => match fault {
-            LexFault::NoMemory => Err(NoMemory),
-            _ => unreachable!(),
-        },
-    }
-}
-
-/// Whether a token is `fork` or `_exit`.
-fn is_taken(source: &[u8], token: Token) -> bool
-    ensures { result ≡ is_taken source.now token }
-{
-    let bytes = slice(source, token.from, token.to);
-    bytes == b"fork".as_slice() || bytes == b"_exit".as_slice()
-}
-
-/// The first token that is a name which the form brings in.
-#[tactic(auto, unfolding(crate::specs::Faults::taken))]
-fn taken(source: &[u8], tokens: &[Token]) -> Option<ProcFault>
-    ensures { result ≡ taken source.now tokens.now }
-{
-    for token in tokens {
-        if is_taken(source, *token) {
-            return Some(ProcFault::Taken(token.from));
         }
     }
     None
@@ -170,9 +132,9 @@ fn text_fault(
     requires form { form.now ≡ form_of checked.now.source.now (lists detached.now) (file_of checked.now.program) }
     ensures { IfOk result (IsTextFault checked.now.source.now (file_of checked.now.program) (lists detached.now)) }
 {
-    let tokens = tokens_of(alloc, checked)?;
+    let taken = taken(alloc, checked)?;
     Ok(
-        taken(checked.source, &tokens)
+        taken
             .or(result_taken(checked, detached, statements))
             .or(long(form))
             .or(deep(checked, detached)),

@@ -8,6 +8,7 @@ pub mod laws;
 mod names;
 mod nesting;
 mod spans;
+mod tokens;
 
 pub use detaching::detach;
 pub use faults::ProcFault;

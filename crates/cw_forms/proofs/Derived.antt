@@ -19,13 +19,14 @@ use Rattle.cw_core.specs.declared.quantity.Quantity.TheVariants.{Nesting}
 use Rattle.cw_core.specs.Quantities.{limit_of}
 use Rattle.cw_detach.specs.Form.{before, behind, calls_one, span_of, form_from, form_of, nesting_all}
 use Rattle.cw_detach.specs.Faults.{is_shallow}
+use Rattle.cw_detach.proofs.Between.{lie_of}
 use Rattle.cw_forms.specs.Pieces.{lefts}
 use Rattle.cw_forms.specs.Spans.{spans_of, with_texts}
 use Rattle.cw_forms.specs.Statements.{pairs_in}
 use Rattle.cw_forms.specs.Derived.{FormDerives}
 use Rattle.cw_forms.proofs.Markers.{no_marker}
 use Rattle.cw_forms.proofs.Lexing.{lexing}
-use Rattle.cw_forms.proofs.FilesFormed.{parts_formed, shallow_each, lie_of}
+use Rattle.cw_forms.proofs.FilesFormed.{parts_formed, shallow_each}
 
 -- the form, by its spans as pairs
 module _ (source : List ℕ) (names : List (List ℕ)) (ps : List Placed) (looped : Bool) where

@@ -8,9 +8,6 @@ use Rattle.cw_syntax.specs.declared.program.Name.{Name}
 use Rattle.cw_syntax.specs.declared.program.Param.{Param}
 use Rattle.cw_syntax.specs.Trees.{Statements, Statement, Declared, Declaration, Definition}
 use Rattle.cw_grammar.specs.declared.words.Lexeme.{Lexeme}
-use Rattle.cw_lex.specs.declared.tokens.Token.{Token}
-use Rattle.cw_lex.specs.Listed.{AreInOrder}
-use Rattle.cw_grammar.specs.Spelling.{lexemes_of}
 use Rattle.cw_grammar.specs.Lexemes.{AreAll, AreSeparated, statements}
 use Rattle.cw_grammar.specs.Declarations.{Expressions, IsName, Specifiers, IsItem}
 use Rattle.cw_grammar.specs.Expressions.{IsExpression}
@@ -19,6 +16,7 @@ use Rattle.cw_grammar.specs.Files.{AreNamed, IsFunction, Part as FilePart, Decla
 use Rattle.cw_scope.specs.Walks.{Placed, placed_all, body_of}
 use Rattle.cw_scope.specs.Descriptors.{is_before}
 use Rattle.cw_detach.specs.Form.{nesting_all}
+use Rattle.cw_detach.proofs.Between.{Lie, lie_le, split}
 use Rattle.cw_forms.specs.Moved.{moved, Pairs, SameName}
 use Rattle.cw_forms.specs.Declared.{Both, SameParam, SameItem}
 use Rattle.cw_forms.specs.Statements.{pairs_in, StandFor, SameFunction, StaysBefore, StayBefore, SameFile}
@@ -41,23 +39,6 @@ params_named source form (p ∷ ps) [] h named = absurd h
 params_named source form (p ∷ ps) (q ∷ qs) h named = (param_named source form p.name q.name h.0 named.0, params_named source form ps qs h.1 named.1)
 
 -- ---- where names of a file stand
-
--- the tokens lie between two places, one after the other
-abbrev pub Lie : ℕ → ℕ → List Lexeme → Type 0
-Lie from to [] = from ≤ to
-Lie from to (t ∷ ts) = (from ≤ t.from) × (t.from < t.to) × Lie t.to to ts
-
-lie_le : (from to : ℕ) (ts : List Lexeme) → Lie from to ts → from ≤ to
-lie_le from to [] h = h
-lie_le from to (t ∷ ts) h = let p = h.0 in let q = h.1 in let r = lie_le t.to to ts h.2 in omega (arith, p, q, r)
-
-split : (from to : ℕ) (xs ys : List Lexeme) → Lie from to (xs ++ ys) → (at : ℕ) × Lie from at xs × Lie at to ys
-split from to [] ys h = (from, (omega arith), h)
-split from to (x ∷ xs) ys h = let p = split x.to to xs ys h.2 in (p.0, (h.0, h.1, p.1), p.2)
-
-pub lie_of : (source : List ℕ) (from to : ℕ) (ts : List Token) → AreInOrder from to ts → Lie from to (lexemes_of source ts)
-lie_of source from to [] h = h
-lie_of source from to (t ∷ ts) h = (h.0, h.1, lie_of source t.to to ts h.2)
 
 lie_at : (from to : ℕ) (ts xs : List Lexeme) → ts ≡ xs → Lie from to ts → Lie from to xs
 lie_at from to ts xs e h = subst (λ (z : List Lexeme). Lie from to z) e h

@@ -26,6 +26,7 @@ use Rattle.cw_source.specs.Read.{DerivesNone}
 use Rattle.cw_parse.specs.declared.fault.ParseFault.TheVariants as parse
 use Rattle.cw_detach.specs.Form.{form_of, nesting, nesting_in, nesting_all}
 use Rattle.cw_detach.specs.Faults.{is_shallow}
+use Rattle.cw_detach.proofs.Between.{lie_of}
 use Rattle.cw_forms.specs.Moved.{Pairs}
 use Rattle.cw_forms.specs.Pieces.{lefts}
 use Rattle.cw_forms.specs.Spans.{spans_of, with_texts}
@@ -34,7 +35,7 @@ use Rattle.cw_forms.proofs.Derived.{form_is, same_limit, enough}
 use Rattle.cw_forms.proofs.Formed.{calls_none}
 use Rattle.cw_forms.proofs.Lexing.{lexing}
 use Rattle.cw_forms.proofs.Markers.{no_marker}
-use Rattle.cw_forms.proofs.FilesFormed.{AreShallow, NestsAs, parts_formed, lie_of}
+use Rattle.cw_forms.proofs.FilesFormed.{AreShallow, NestsAs, parts_formed}
 
 -- ---- what is read nests no deeper than the limit
 

@@ -1,6 +1,6 @@
 use Rattle.std.proofs.Common.{⊎_elim}
 use Rattle.cw_lex.proofs.Listing.{never_both}
-use Rattle.cw_detach.proofs.detaching.tokens_of.Goals as goal
+use Rattle.cw_detach.proofs.tokens.tokens_of.Goals as goal
 
 pub unreachable-requires : goal.unreachable-requires
 unreachable-requires c =
