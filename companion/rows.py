@@ -369,7 +369,7 @@ world("no steps", "", 0, ["t: note: 1 process", "s.c:7:5: note: process 0 stands
 world("a process that isn't there", "0 on\n1 on\n", 1, ["t:2:1: error: this is no step: there is no process 1"])
 world("another move", "0 on\n0 left\n", 1, ["t:2:1: error: this is no step: process 0 doesn't do `left` here, but `fork`", "s.c:9:5: note: process 0 stands here"])
 world("an answer is due", "0 on\n0 fork\n1 on\n1 on\n1 on\n", 1, ["s.c:9:5: note: process 0: fork: process 1 begins", "s.c:9:11: note: process 0: label b: ambient", "s.c:9:5: note: process 1: call of f",
-      "t:5:1: error: this is no step: process 1 waits for `grant` or `refuse`: something is tried here", "s.c:4:1: note: process 1 stands here"])
+      "t:5:1: error: this is no step: process 1 doesn't do `on` here, but `grant`", "s.c:4:1: note: process 1 stands here"])
 world("no answer is due", "0 on\n0 fork\n1 on\n1 on\n1 refuse\n", 1, ["s.c:9:5: note: process 0: fork: process 1 begins .."], front=True)
 world("it is over", "0 on\n0 fork\n0 on\n0 on\n0 on\n0 on\n0 on\n", 1, ["s.c:9:5: note: process 0: fork: process 1 begins", "s.c:9:11: note: process 0: label b: ambient", "s.c:11:1: note: process 0: it is over",
       "t:7:1: error: this is no step: process 0 is over", "s.c:11:1: note: process 0 stands here"])
