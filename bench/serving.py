@@ -1,6 +1,6 @@
 """Starts a command once and has it answer many runs. Used by `fuzz.py`; needs Linux, cc, Python 3.8 and no package.
 
-Most of a short run is its start. So a small library in C, loaded before the C library, stops a program at its `main`, and calls that for one run after the other: with the words of the run, the program's variables
+Most of a short run is its start. So a small library in C, loaded before the C library, stops a program at its `main`, and calls that for one run after the other: with the words of the run, also for what is done before `main`, the program's variables
 as they were before the first one, memory from one piece that is given back all at once, and `exit` as the way back. Where a run is lost (a signal, too long, too much memory) the process as it was at
 `main` is copied (fork), and the copy makes that run alone; so the answer is that of a start by itself. A program that is linked statically can't be stopped: a small program in C starts it for each run. A script of Python is run again and again in one
 process too, with its modules as they are after the run before.
@@ -246,9 +246,20 @@ int __cxa_atexit(void (*what)(void *), void *of, void *whose) {
 static struct { char *at, *kept; size_t size; } parts[8];
 static int part_count;
 
+/* What the program does before its `main`, as to keep its words. */
+typedef void (*firsts)(int, char **, char **);
+static firsts *before;
+static size_t before_count;
+
 static int noted(struct dl_phdr_info *object, size_t size, void *unused) {
     (void)size, (void)unused;
     uintptr_t fixed = 0, fixed_end = 0;
+    for (int n = 0; n < object->dlpi_phnum; n++)
+        if (object->dlpi_phdr[n].p_type == PT_DYNAMIC)
+            for (const ElfW(Dyn) *at = (const ElfW(Dyn) *)(object->dlpi_addr + object->dlpi_phdr[n].p_vaddr); at->d_tag != DT_NULL; at++) {
+                if (at->d_tag == DT_INIT_ARRAY) before = (firsts *)(object->dlpi_addr + at->d_un.d_ptr);
+                if (at->d_tag == DT_INIT_ARRAYSZ) before_count = at->d_un.d_val / sizeof(firsts);
+            }
     for (int n = 0; n < object->dlpi_phnum; n++)
         if (object->dlpi_phdr[n].p_type == PT_GNU_RELRO) {
             fixed = object->dlpi_addr + object->dlpi_phdr[n].p_vaddr;
@@ -270,6 +281,12 @@ static int noted(struct dl_phdr_info *object, size_t size, void *unused) {
     return 1;
 }
 
+/* The program from the start, but for what the system and the C library do. */
+static int whole(int count, char **environment) {
+    for (size_t n = 0; n < before_count; n++) before[n](count, words, environment);
+    return real(count, words, environment);
+}
+
 /* Makes one run after the other in this process, each over memory as it was before. */
 static void many(char **first, char **environment) {
     if (dup2(OUT, 1) < 0 || dup2(NOTE, 2) < 0) _Exit(1);
@@ -282,7 +299,7 @@ static void many(char **first, char **environment) {
         top = arena;
         is_many = 1;
         int status = setjmp(over);
-        if (status == 0) status = real(count, words, environment) + 1;
+        if (status == 0) status = whole(count, environment) + 1;
         fflush(stdout);
         is_many = 0;
         alarm(0);
@@ -318,11 +335,11 @@ static int stopped(int argc, char **argv, char **environment) {
         while (argv[count]) words[count] = argv[count], count++;
         for (char *at = shared->bytes; at < shared->bytes + shared->size && count < MOST_WORDS; at += strlen(at) + 1) words[count++] = at;
         words[count] = NULL;
-        if (is_copy()) return real(count, words, environment);
+        if (is_copy()) return whole(count, environment);
     }
     for (;;) {
         int count = asked(argv);
-        if (is_copy()) return real(count, words, environment);
+        if (is_copy()) return whole(count, environment);
     }
 }
 
