@@ -114,7 +114,7 @@ class Program:
         os.close(9)
         os.close(writer)
         with os.fdopen(reader, "rb") as told:
-            return run.returncode, run.stdout, run.stderr, told.read() == b"all"
+            return run.returncode, run.stdout, run.stderr, told.read().startswith(b"all")
 
     def tell(self, good, *what):
         if not good:

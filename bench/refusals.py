@@ -143,7 +143,7 @@ def ran(library, words, refused):
     os.close(9)
     os.close(writer)
     with os.fdopen(reader, "rb") as told:
-        all_given = told.read() == b"all"
+        all_given = told.read().startswith(b"all")
     return run.returncode, run.stdout, run.stderr, all_given
 
 
