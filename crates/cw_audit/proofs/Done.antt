@@ -43,15 +43,15 @@ many_rows g functions s bound D D2 places d same below distinct many = λ t stat
 
 -- All is settled, and the nearest violation was cut.
 pub many_moves : (g : Game) (functions : ℕ) (s : Found) (places : List Place) → IsFair g functions → IsSound g functions s → IsSettled g s 65538 → s.best ≡ Some 65537
-    → AreBelow s None places → length places ≤ 65536 → AreManyMoves g functions
+    → AreBelow s None places → length places ≤ 65536 → AreManyMoves g
 many_moves g functions s places fair sound settled e below few =
     let far = cut_far g functions s fair sound settled e in
     record {
       hit = far.0;
       far = far.1;
-      few_rows = λ t good stated.
+      few_rows = λ t order stated.
           let most = stated_found g functions s places fair sound settled
-          (λ f q p x a ea. let r = sound.known f q p x a ea in below.whole f q r.0 p x a (r.1, ea, refl)) t good stated in
+          (λ f q p x a ea. let r = sound.known f q p x a ea in below.whole f q r.0 p x a (r.1, ea, refl)) t order stated in
           omega (arith, most, few);
     }
 
@@ -82,7 +82,7 @@ audit_done g functions s bound t places d low states distance listed below few r
       shown = λ T e. run T (sym distance ∙ e);
       needed = λ e. none (sym distance ∙ e);
       few_rows =
-          let most = rows_at_most g functions (λ (k : Place). k) t places both.0
+          let most = rows_at_most (λ (k : Place). k) t places (record { groups_ascend = listed.groups_ascend; rows_ascend = listed.rows_ascend })
           (λ k h.
           let w = row_listed s s.best t listed k.0 k.1 k.2 k.3 h in
           let m = below.whole k.0 k.1 w.0 k.2 k.3 w.1 w.2 in
@@ -107,11 +107,11 @@ played_of g functions t audit p game T e =
     (w.0, w.1, (linked p g game).is_bad w.0 s.1.0 w.2 s.1.2)
 
 -- what a fault says
-pub rows_fault : {A : Type 0} (g : Game) (functions : ℕ) (r : Result A AuditFault) → IfErr r (IsFaultOf g functions) → r ≡ Err TooManyRows → AreManyRows g
-rows_fault g functions r h e = subst (λ r. IfErr r (IsFaultOf g functions)) e h
+pub rows_fault : {A : Type 0} (g : Game) (r : Result A AuditFault) → IfErr r (IsFaultOf g) → r ≡ Err TooManyRows → AreManyRows g
+rows_fault g r h e = subst (λ r. IfErr r (IsFaultOf g)) e h
 
-pub moves_fault : {A : Type 0} (g : Game) (functions : ℕ) (r : Result A AuditFault) → IfErr r (IsFaultOf g functions) → r ≡ Err TooManyMoves → AreManyMoves g functions
-moves_fault g functions r h e = subst (λ r. IfErr r (IsFaultOf g functions)) e h
+pub moves_fault : {A : Type 0} (g : Game) (r : Result A AuditFault) → IfErr r (IsFaultOf g) → r ≡ Err TooManyMoves → AreManyMoves g
+moves_fault g r h e = subst (λ r. IfErr r (IsFaultOf g)) e h
 
 module _ (g : Game) (functions : ℕ) (fair : IsFair g functions) (s : Found) (sound : IsSound g functions s) (hit : Option Hit) (best : s.best ≡ option_map (λ h. h.distance) hit) where
   -- the nearest violation isn't at the start, and was cut

@@ -72,7 +72,7 @@ module _ (h : Held) (s : Search) (fair : IsFairGame h) (kept : IsKept (game_of h
 
     -- the nearest violation is further than can be told
     pub done_far : (bound many : ℕ) (places : List Place) → bound ≡ bound_of s.store.hit → is_far s.store.hit ≡ true → AreAllBelow s.store bound places → many ≡ length places → many ≤ 65536
-        → AreManyMoves (game_of h) (functions_of h)
+        → AreManyMoves (game_of h)
     done_far bound many places is far below count few =
         let z = far_cut (game_of h) (functions_of h) fair (found_of s.store) kept.sound s.store.hit refl far in
         many_moves (game_of h) (functions_of h) (found_of s.store) (map plain places) fair kept.sound (subst (IsSettled (game_of h) (found_of s.store)) z.1 settled) z.0

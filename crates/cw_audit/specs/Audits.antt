@@ -8,6 +8,7 @@ use Rattle.cw_audit_table.specs.Tables.{Audit}
 use Rattle.cw_audit_table.specs.Conditions.{IsGoodAudit, IsShown}
 use Rattle.cw_audit_table.specs.Stated.{IsStated}
 use Rattle.cw_audit_search.specs.Counted.{row_count}
+use Rattle.cw_audit_search.specs.Ordered.{AreInOrder}
 use Rattle.cw_audit.specs.declared.fault.AuditFault.{AuditFault}
 use Rattle.cw_audit.specs.declared.fault.AuditFault.TheVariants.{TooManyRows, TooManyMoves, NoMemory}
 
@@ -37,13 +38,13 @@ pub record IsAuditOf (g : Game) (functions : ℕ) (t : Audit) : Type 0 where
 abbrev pub AreManyRows : Game → Type 0
 AreManyRows g = (t : Audit) → IsStated g t → 65536 < row_count t
 
--- Some run comes to a bad pair, each by more moves than are written; no table of the game has too many rows.
-pub record AreManyMoves (g : Game) (functions : ℕ) : Type 0 where
+-- Some run comes to a bad pair, each by more moves than are written; no table of the game that is in order has too many rows.
+pub record AreManyMoves (g : Game) : Type 0 where
   pub hit : (n : ℕ) × IsHit g n
   pub far : (n : ℕ) → IsHit g n → 65536 < n
-  pub few_rows : (t : Audit) → IsGoodAudit g functions t → IsStated g t → row_count t ≤ 65536
+  pub few_rows : (t : Audit) → AreInOrder t.groups → IsStated g t → row_count t ≤ 65536
 
-abbrev pub IsFaultOf : Game → (functions : ℕ) → AuditFault → Type 0
-IsFaultOf g functions TooManyRows = AreManyRows g
-IsFaultOf g functions TooManyMoves = AreManyMoves g functions
-IsFaultOf g functions NoMemory = Unit {0}
+abbrev pub IsFaultOf : Game → AuditFault → Type 0
+IsFaultOf g TooManyRows = AreManyRows g
+IsFaultOf g TooManyMoves = AreManyMoves g
+IsFaultOf g NoMemory = Unit {0}

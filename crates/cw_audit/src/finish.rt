@@ -150,7 +150,7 @@ pub(crate) fn finish(alloc: Global, game: &Game, search: &Search) -> Result<Audi
     requires kept { IsKept (game_of game.now) (functions_of game.now) search.now }
     requires settled { IsSettled (game_of game.now) (found_of search.now.store) (bound_of search.now.store.hit) }
     ensures table { IfOk result (λ t. IsAuditOf (game_of game.now) (functions_of game.now) (audit_of t)) }
-    ensures fault { IfErr result (λ fault. IsFaultOf (game_of game.now) (functions_of game.now) fault) }
+    ensures fault { IfErr result (λ fault. IsFaultOf (game_of game.now) fault) }
 {
     let places = below(alloc, &search.store, bound_of(&search.store))?;
     if places.len() > MOST as usize {

@@ -77,7 +77,7 @@ fn advance(
     ensures kept { OnOk result (IsKept (game_of game.now) (functions_of game.now) search.new) }
     ensures less { IfOk result (λ done. done ≡ false → left search.new < left search.old) }
     ensures settled { IfOk result (λ done. done ≡ true → IsSettled (game_of game.now) (found_of search.new.store) (bound_of search.new.store.hit)) }
-    ensures fault { IfErr result (λ fault. IsFaultOf (game_of game.now) (functions_of game.now) fault) }
+    ensures fault { IfErr result (λ fault. IsFaultOf (game_of game.now) fault) }
 {
     match search.frontier.take() {
         Some((key, number)) if is_nearer(&search.store, key) => {
@@ -99,7 +99,7 @@ fn searched(alloc: Global, game: &Game) -> Result<Search, AuditFault>
     requires fair { IsFairGame game.now }
     ensures kept { IfOk result (λ s. IsKept (game_of game.now) (functions_of game.now) s) }
     ensures settled { IfOk result (λ s. IsSettled (game_of game.now) (found_of s.store) (bound_of s.store.hit)) }
-    ensures fault { IfErr result (λ fault. IsFaultOf (game_of game.now) (functions_of game.now) fault) }
+    ensures fault { IfErr result (λ fault. IsFaultOf (game_of game.now) fault) }
 {
     let mut search = begin(alloc, game)?;
     let mut pace = Pace {
@@ -118,7 +118,7 @@ fn audited(alloc: Global, game: &Game) -> Result<AuditTable, AuditFault>
     requires program { (p : Problem) × IsGameOf p (game_of game.now) }
     ensures table { IfOk result (λ t. IsAuditOf (game_of game.now) (functions_of game.now) (audit_of t)) }
     ensures verdict { IfOk result (λ t. (p : Problem) → IsGameOf p (game_of game.now) → IsVerdict p t.distance) }
-    ensures fault { IfErr result (λ fault. IsFaultOf (game_of game.now) (functions_of game.now) fault) }
+    ensures fault { IfErr result (λ fault. IsFaultOf (game_of game.now) fault) }
 {
     game.is_closed();
     let search = searched(alloc, game)?;
@@ -145,7 +145,7 @@ pub fn audit(alloc: Global, game: &Game) -> Result<AuditTable, AuditFault>
     ensures verdict { IfOk result (λ t. (p : Problem) → IsGameOf p (game_of game.now) → IsVerdict p t.distance) }
     ensures plays { IfOk result (λ t. (p : Problem) → IsGameOf p (game_of game.now) → IsPlayed p (audit_of t)) }
     ensures many_rows { result ≡ Err TooManyRows → AreManyRows (game_of game.now) }
-    ensures many_moves { result ≡ Err TooManyMoves → AreManyMoves (game_of game.now) (functions_of game.now) }
+    ensures many_moves { result ≡ Err TooManyMoves → AreManyMoves (game_of game.now) }
 {
     audited(alloc, game)
 }

@@ -7,7 +7,7 @@ use Rattle.std.proofs.lemmas.Bool.{ltb-true, lt-ltb, and_parts, or_cases, or_lef
 use Rattle.std.proofs.lemmas.Bool.{and_from as both}
 use Rattle.cw_audit_table.specs.Tables.{PlainRow, PlainGroup, group_at, inside_at}
 use Rattle.cw_audit_table.specs.Conditions.{is_after, key_of, pair_of}
-use Rattle.cw_audit_search.specs.Listing.{AscendAfter}
+use Rattle.cw_audit_search.specs.Ordered.{AscendAfter}
 
 -- the second comes after the first
 abbrev pub After : ℕ × ℕ → ℕ × ℕ → Type 0

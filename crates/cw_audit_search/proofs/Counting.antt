@@ -19,9 +19,9 @@ use Rattle.cw_game.specs.Conditions.{first_failing}
 use Rattle.cw_game.proofs.Goods.{taken, none_first}
 use Rattle.std.specs.List.{enumerate_from}
 use Rattle.cw_audit_table.specs.Tables.{PlainRow, PlainGroup, Audit}
-use Rattle.cw_audit_table.specs.Conditions.{fault_at, is_after, key_of, pair_of, is_group, is_place as stands_well, places, ranges, IsGoodAudit}
-use Rattle.cw_audit_table.proofs.Closing.{group_found, row_found, parts}
-use Rattle.cw_audit_search.specs.Listing.{AscendAfter}
+use Rattle.cw_audit_table.specs.Conditions.{fault_at, is_after, key_of, pair_of, is_group, is_place as stands_well, places, ranges}
+use Rattle.cw_audit_table.proofs.Closing.{group_found, row_found}
+use Rattle.cw_audit_search.specs.Ordered.{AscendAfter, AreInOrder}
 use Rattle.cw_audit_search.specs.Counted.{row_count, Place, is_place, places_of, HasRow}
 use Rattle.cw_audit_search.proofs.Setting.{same_row, row_itself}
 use Rattle.cw_audit_search.proofs.Ascending.{After, not_after, all_after, group_there, row_there}
@@ -175,6 +175,23 @@ distinct_places last (grp ∷ groups) h k =
         let there = place_same (λ k. (k.0 ≡ grp.function) × (k.1 ≡ grp.entered)) q (row_place x r) eq same in
         not_after (key_of grp) (key_of x) (all_after key_of (key_of grp) groups h.1 i x ex) there.0 there.1))
 
+-- A table in order, all of whose rows stand in a list, has at most as many.
+pub rows_at_most : {X : Type 0} (place : X → Place) (t : Audit) (xs : List X) → AreInOrder t.groups
+    → ((k : Place) → HasRow t k.0 k.1 k.2 k.3 → (i : ℕ) × (x : X) × (slice_get xs i ≡ Some x) × (place x ≡ k)) → row_count t ≤ length xs
+rows_at_most place t xs order there =
+    let few = length-le_from_is_member places_laws (places_of t.groups) (map place xs) (distinct_places None t.groups order.groups_ascend order.rows_ascend) member in
+    omega (arith, few, length-map xs place, count_same t.groups)
+  where
+    looked : AllByRecursion (λ k. HasRow t k.0 k.1 k.2 k.3) (places_of t.groups)
+    looked = all_places (λ k. HasRow t k.0 k.1 k.2 k.3) t.groups (λ i n grp r e er.
+        (grp, group_there t.groups i grp grp.function grp.entered order.groups_ascend e refl refl, (r.inside, row_there grp.rows n r r.pos r.state (order.rows_ascend i grp e) er refl refl)))
+
+    member : (q : Place) → is_member is_place (places_of t.groups) q ≡ true → is_member is_place (map place xs) q ≡ true
+    member q h =
+        let a = any_get (is_place q) (places_of t.groups) h in
+        let w = there a.1 (all_at (λ k. HasRow t k.0 k.1 k.2 k.3) (places_of t.groups) looked a.0 a.1 a.2) in
+        any_passes_from_place (is_place q) (map place xs) w.0 (place w.1) (slice_get-map place xs w.0 ∙ ap (option_map place) w.2) (ap (is_place q) w.3 ∙ a.3)
+
 -- a good table is in order
 module _ (g : Game) (functions : ℕ) where
   places_ascend : (f i m : ℕ) (last : Option (ℕ × ℕ)) (rows : List PlainRow) → first_failing (places g f i last (enumerate_from m rows)) ≡ None → AscendAfter last (map pair_of rows)
@@ -198,23 +215,3 @@ module _ (g : Game) (functions : ℕ) where
           → (i : ℕ) (grp : PlainGroup) → slice_get (x ∷ groups) i ≡ Some grp → AscendAfter None (map pair_of grp.rows)
       by here k zero grp e = subst (λ (y : PlainGroup). AscendAfter None (map pair_of y.rows)) (same_Some x grp e) here
       by here k (suc i) grp e = k i grp e
-
-  -- A good table all of whose rows stand in a list has at most as many.
-  pub rows_at_most : {X : Type 0} (place : X → Place) (t : Audit) (xs : List X) → IsGoodAudit g functions t
-      → ((k : Place) → HasRow t k.0 k.1 k.2 k.3 → (i : ℕ) × (x : X) × (slice_get xs i ≡ Some x) × (place x ≡ k)) → row_count t ≤ length xs
-  rows_at_most place t xs good there =
-      let few = length-le_from_is_member places_laws (places_of t.groups) (map place xs) (distinct_places None t.groups ascend.0 ascend.1) member in
-      omega (arith, few, length-map xs place, count_same t.groups)
-    where
-      ascend : AscendAfter None (map key_of t.groups) × ((i : ℕ) (grp : PlainGroup) → slice_get t.groups i ≡ Some grp → AscendAfter None (map pair_of grp.rows))
-      ascend = ranges_ascend 0 None t.groups (parts g functions t good).ranges
-
-      looked : AllByRecursion (λ k. HasRow t k.0 k.1 k.2 k.3) (places_of t.groups)
-      looked = all_places (λ k. HasRow t k.0 k.1 k.2 k.3) t.groups (λ i n grp r e er.
-          (grp, group_there t.groups i grp grp.function grp.entered ascend.0 e refl refl, (r.inside, row_there grp.rows n r r.pos r.state (ascend.1 i grp e) er refl refl)))
-
-      member : (q : Place) → is_member is_place (places_of t.groups) q ≡ true → is_member is_place (map place xs) q ≡ true
-      member q h =
-          let a = any_get (is_place q) (places_of t.groups) h in
-          let w = there a.1 (all_at (λ k. HasRow t k.0 k.1 k.2 k.3) (places_of t.groups) looked a.0 a.1 a.2) in
-          any_passes_from_place (is_place q) (map place xs) w.0 (place w.1) (slice_get-map place xs w.0 ∙ ap (option_map place) w.2) (ap (is_place q) w.3 ∙ a.3)

@@ -12,7 +12,7 @@ use Rattle.cw_audit_table.specs.Tables.{PlainRow, PlainGroup, Audit, group_at}
 use Rattle.cw_audit_table.specs.Conditions.{fault_at, is_after, key_of, pair_of, is_group, is_place, places, ranges}
 use Rattle.cw_audit_table.specs.Conditions.{begins, is_good, moves_on, calls_on, row_conditions, row_faults, group_faults}
 use Rattle.cw_audit_table.specs.Conditions.{IsGoodAudit}
-use Rattle.cw_audit_search.specs.Listing.{AscendAfter}
+use Rattle.cw_audit_search.specs.Ordered.{AscendAfter}
 
 pub le_says : (m n : ℕ) → m ≤ n → nat_le m n ≡ true
 le_says m n l = elim (leb_tells m n) [ inl h ↦ h.0 | inr h ↦ let k = h.1 in absurd (omega (arith, l, k)) ]

@@ -8,7 +8,8 @@ use Rattle.cw_audit_table.specs.Conditions.{is_before, key_of, pair_of}
 use Rattle.cw_audit_search.specs.Searches.{Found}
 use Rattle.cw_audit_search.specs.Settled.{IsRowBelow}
 use Rattle.cw_audit_search.specs.Counted.{Place, places_of}
-use Rattle.cw_audit_search.specs.Listing.{AscendAfter, IsListed, AreListed}
+use Rattle.cw_audit_search.specs.Ordered.{AscendAfter}
+use Rattle.cw_audit_search.specs.Listing.{IsListed, AreListed}
 use Rattle.cw_audit_search.specs.Grouped.{IsAfter, IsPlaceAfter, Ascend, IsRowRight, IsRight, EndsBefore, AreApart, AreGrouped, AreBelow}
 use Rattle.cw_audit_search.proofs.Ascending.{says_after}
 use Rattle.cw_audit_search.proofs.Counting.{row_place, all_places, all_at}

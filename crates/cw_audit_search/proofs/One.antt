@@ -9,7 +9,7 @@ use Rattle.cw_audit_table.specs.Conditions.{key_of, pair_of, IsGoodAudit, EndAlo
 use Rattle.cw_audit_table.specs.Stated.{IsKeptBy, IsStated}
 use Rattle.cw_audit_table.proofs.Closing.{group_found, row_found, parts, entry_row}
 use Rattle.cw_audit_search.specs.Counted.{HasRow}
-use Rattle.cw_audit_search.specs.Listing.{AscendAfter}
+use Rattle.cw_audit_search.specs.Ordered.{AscendAfter}
 use Rattle.cw_audit_search.proofs.Ascending.{After, all_after, group_there, row_there}
 use Rattle.cw_audit_search.proofs.Counting.{ranges_ascend}
 

@@ -20,6 +20,7 @@ use Rattle.cw_audit_search.specs.Settled.{IsSettled, IsBound}
 use Rattle.cw_audit_search.specs.Counted.{row_count, Place, is_place}
 use Rattle.cw_audit_search.specs.Ways.{BadWay, Ways, AreWays, unfold_hit, Unfolds}
 use Rattle.cw_audit_search.specs.Listing.{IsListing}
+use Rattle.cw_audit_search.specs.Ordered.{AreInOrder}
 
 -- The game of a program, laid out as its code promises, is fair.
 abbrev pub GamesAreFair : Type 0
@@ -47,10 +48,10 @@ abbrev pub CountedRowsAreStated : Type 0
 CountedRowsAreStated = (g : Game) (functions : ℕ) (s : Found) (bound : ℕ) (D : Option ℕ) (places : List Place) → IsDone g functions s bound D → IsDistinct is_place places
     → ((i : ℕ) (k : Place) → slice_get places i ≡ Some k → IsCounted s D k.0 k.1 k.2 k.3) → (t : Audit) → IsStated g t → length places ≤ row_count t
 
--- Where all is settled each good table of the game has at most as many rows as the search.
+-- Where all is settled each table of the game that is in order has at most as many rows as the search.
 abbrev pub StatedRowsAreFound : Type 0
 StatedRowsAreFound = (g : Game) (functions : ℕ) (s : Found) (places : List Place) → IsFair g functions → IsSound g functions s → IsSettled g s 65538
-    → ((f q p x a : ℕ) → s.number f q p x ≡ Some a → (i : ℕ) × (slice_get places i ≡ Some (f, q, p, x))) → (t : Audit) → IsGoodAudit g functions t → IsStated g t
+    → ((f q p x a : ℕ) → s.number f q p x ≡ Some a → (i : ℕ) × (slice_get places i ≡ Some (f, q, p, x))) → (t : Audit) → AreInOrder t.groups → IsStated g t
     → row_count t ≤ length places
 
 -- Where all is settled and the nearest violation was cut some run hits, and each by more than 65,536 moves.

@@ -4,6 +4,7 @@ pub mod Sound
 pub mod Settled
 pub mod Counted
 pub mod Ways
+pub mod Ordered
 pub mod Listing
 pub mod Grouped
 pub mod Laws

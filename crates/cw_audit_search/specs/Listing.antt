@@ -1,15 +1,11 @@
 -- The table that lists what a search found below a distance.
-use Rattle.std.specs.Prelude.{◌≡◌, ℕ, List, [], ◌∷◌, true, Option, Some, None, map, slice_get}
+use Rattle.std.specs.Prelude.{◌≡◌, ℕ, List, Option, Some, None, map, slice_get}
 use Rattle.cw_game.specs.Games.{Game}
 use Rattle.cw_audit_table.specs.Tables.{PlainRow, PlainGroup, Audit}
-use Rattle.cw_audit_table.specs.Conditions.{is_after, key_of, pair_of}
+use Rattle.cw_audit_table.specs.Conditions.{key_of, pair_of}
 use Rattle.cw_audit_search.specs.Searches.{Found}
 use Rattle.cw_audit_search.specs.Settled.{IsRowBelow}
-
--- each comes after the one before, by its first number and then its second
-abbrev pub AscendAfter : Option (ℕ × ℕ) → List (ℕ × ℕ) → Type 0
-AscendAfter last [] = Unit {0}
-AscendAfter last (k ∷ ks) = (is_after last k ≡ true) × AscendAfter (Some k) ks
+use Rattle.cw_audit_search.specs.Ordered.{AscendAfter}
 
 -- a group in the list with a row in it
 pub record IsListed (groups : List PlainGroup) (f q r p x a : ℕ) : Type 0 where

@@ -22,7 +22,7 @@ pub fn counted_rows_are_stated()
     ensures stated { CountedRowsAreStated }
 {}
 
-/// Where all rows of a search are settled, each good table of the game has at most as many rows as the search.
+/// Where all rows of a search are settled, each table of the game that is in order has at most as many rows as the search.
 pub fn stated_rows_are_found()
     ensures found { StatedRowsAreFound }
 {}

@@ -34,14 +34,14 @@ told t = Told (reply_of t.distance) (audit_text t)
 abbrev pub IsAudited : Problem → Game → (functions : ℕ) → Due → Type 0
 IsAudited p g functions due =
     (AreManyRows g × (due ≡ over Rows))
-    ⊎ ((AreManyMoves g functions × (due ≡ over AuditMoves))
+    ⊎ ((AreManyMoves g × (due ≡ over AuditMoves))
     ⊎ ((t : Audit) × IsAuditOf g functions t × IsTrueOf p t × (due ≡ told t)))
 
 -- the same for every program of which that is the game
 abbrev pub IsAuditedBy : Game → (functions : ℕ) → Due → Type 0
 IsAuditedBy g functions due =
     (AreManyRows g × (due ≡ over Rows))
-    ⊎ ((AreManyMoves g functions × (due ≡ over AuditMoves))
+    ⊎ ((AreManyMoves g × (due ≡ over AuditMoves))
     ⊎ ((t : Audit) × IsAuditOf g functions t × ((p : Problem) → IsGameOf p g → IsTrueOf p t) × (due ≡ told t)))
 
 -- That the policy doesn't fit the program, that no game of theirs comes, or the audit.

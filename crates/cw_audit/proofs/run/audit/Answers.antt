@@ -29,7 +29,7 @@ returns-clause-plays c =
     when_ok c.audited.result (λ t e. played_of g (functions_of c.args.game.now) (audit_of t) (at_ok _ c.audited.result t e c.audited.ensures.table))
 
 pub returns-clause-many_rows : goal.returns-clause-many_rows
-returns-clause-many_rows c = rows_fault (game_of c.args.game.now) (functions_of c.args.game.now) c.audited.result c.audited.ensures.fault
+returns-clause-many_rows c = rows_fault (game_of c.args.game.now) c.audited.result c.audited.ensures.fault
 
 pub returns-clause-many_moves : goal.returns-clause-many_moves
-returns-clause-many_moves c = moves_fault (game_of c.args.game.now) (functions_of c.args.game.now) c.audited.result c.audited.ensures.fault
+returns-clause-many_moves c = moves_fault (game_of c.args.game.now) c.audited.result c.audited.ensures.fault
