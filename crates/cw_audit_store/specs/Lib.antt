@@ -1,3 +1,4 @@
 -- The definitions.
 pub mod Stores
 pub mod Finding
+pub mod Frontiers
