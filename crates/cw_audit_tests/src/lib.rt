@@ -4,4 +4,8 @@
 #[cfg(test)]
 mod audits;
 #[cfg(test)]
+mod limits;
+#[cfg(test)]
 mod played;
+#[cfg(test)]
+mod searched;
