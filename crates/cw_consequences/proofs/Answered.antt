@@ -69,7 +69,8 @@ module _ (source : List ℕ) (file : File) where
   one_listing : (text other : List ℕ) → IsListing source file text → IsListing source file other → text ≡ other
   one_listing text other (g, is, a) (k, of, b) =
       a
-      ∙ text_same (function_names source file) (label_names source file) [] (call_lists (plan_of (own_names source file) source file) (length file.functions)) g k (is.nodes ∙ sym of.nodes) (is.parts ∙ sym of.parts)
+      ∙ text_same (function_names source file) (label_names source file) [] (call_lists (plan_of (own_names source file) source file) (length file.functions)) g k
+      (is.nodes ∙ sym of.nodes) (is.parts ∙ sym of.parts)
       ∙ sym b
 
   one_listed : IsOne (IsListed source file)
@@ -109,7 +110,9 @@ module _ (source : List ℕ) (p : PlainPolicy) (file : File) (s : Strategy) wher
       let rows : b.row ≡ a.row = one_row g b.row a.row b.start a.start in
       let other : IsPlayBy (problem_of p source file) s a.row tape b.end b.steps = subst (λ n. IsPlayBy (problem_of p source file) s n tape b.end b.steps) rows b.play in
       let same = one_play (problem_of p source file) s a.row tape a.end b.end a.steps b.steps a.play other in
-      a.due_is ∙ ap₂ (λ (e : PlayEnd) (steps : List Taken). play_told p e (trace (told_names source file (plan_of (names_of p) source file)) (problem_of p source file) steps)) same.0 same.1 ∙ sym b.due_is
+      a.due_is
+      ∙ ap₂ (λ (e : PlayEnd) (steps : List Taken). play_told p e (trace (told_names source file (plan_of (names_of p) source file)) (problem_of p source file) steps)) same.0 same.1
+      ∙ sym b.due_is
 
   one_shown : (tape : List Move) (g : Game) → IsOne (IsShown source p file s tape g)
   one_shown tape g due answer (inl (good, a)) (inl (other, b)) = one_told g tape due answer a b
@@ -120,13 +123,15 @@ module _ (source : List ℕ) (p : PlainPolicy) (file : File) (s : Strategy) wher
 pub one_refute : (policy source text : List ℕ) → IsOne (IsRefuteDue policy source text)
 one_refute policy source text =
     one_reading policy source (AfterRefutePair source text)
-    (λ p file. one_strategy (AfterRefuteStrategy source p file) (λ s. one_where_fits source p file (λ g due. IsJudged (problem_of p source file) g s due) (λ g of. one_judged source p file s g)) p.format text)
+    (λ p file. one_strategy (AfterRefuteStrategy source p file)
+    (λ s. one_where_fits source p file (λ g due. IsJudged (problem_of p source file) g s due) (λ g of. one_judged source p file s g)) p.format text)
 
 pub one_played : (policy source text tape : List ℕ) → IsOne (IsPlayDue policy source text tape)
 one_played policy source text tape =
     one_reading policy source (AfterPlayPair source text tape)
     (λ p file. one_strategy (AfterPlayStrategy source tape p file)
-    (λ s. one_tape (λ moves. WhereFits (IsShown source p file s moves) source p file) (λ moves. one_where_fits source p file (IsShown source p file s moves) (λ g of. one_shown source p file s moves g)) true tape)
+    (λ s. one_tape (λ moves. WhereFits (IsShown source p file s moves) source p file)
+    (λ moves. one_where_fits source p file (IsShown source p file s moves) (λ g of. one_shown source p file s moves g)) true tape)
     p.format text)
 
 -- ---- `check` and `run`

@@ -53,4 +53,5 @@ pub one_reaudit : (policy source text : List ℕ) → IsOne (IsReauditDue policy
 one_reaudit policy source text =
     one_reading policy source (AfterPair source text)
     (λ p file. one_audit (AfterAudit source p file)
-    (λ t. one_where_fits source p file (λ g due. IsReaudited (problem_of p source file) g (length file.functions) t due) (λ g of. one_reaudited g (length file.functions) t (problem_of p source file))) text)
+    (λ t. one_where_fits source p file (λ g due. IsReaudited (problem_of p source file) g (length file.functions) t due)
+    (λ g of. one_reaudited g (length file.functions) t (problem_of p source file))) text)

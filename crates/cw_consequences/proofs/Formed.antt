@@ -154,7 +154,8 @@ module _ (policy source : List ℕ) (tokens : List Token) (short : length source
 
   from_weave : (due : Due) → IsWeaveDue policy source due → IsProcsDue policy source due
   from_weave due (inl u) = inl u
-  from_weave due (inr (p, file, are, behind)) = inr (p, file, are, inr (clear, subst (λ (s : List ℕ). OfForm p s due) (sym (source_is p file are)) (file, are.reads, are.descriptors, fitted behind)))
+  from_weave due (inr (p, file, are, behind)) =
+      inr (p, file, are, inr (clear, subst (λ (s : List ℕ). OfForm p s due) (sym (source_is p file are)) (file, are.reads, are.descriptors, fitted behind)))
     where
       clear : IsFirstFault source file p None
       clear = (tokens, lexed, sym (taken_alone source tokens file p _ are.reads short (attached p file are) lexed (tokens, lexed, refl) ∙ none_taken))

@@ -15,7 +15,8 @@ use Rattle.cw_product.specs.Moves.{pair_of, next_at}
 use Rattle.cw_least_strategy.specs.declared.key.Key.{Key}
 use Rattle.cw_least_strategy.specs.declared.key.Way.{Way}
 use Rattle.cw_least_strategy.specs.Heights.{set_of, others, height_within}
-use Rattle.cw_least_strategy.specs.Strategies.{key_cmp, below, moves, way, sooner, best, after_return, is_lost_after, aim_at, back_at, backs_at, Both, Into, goes, inner, act_in, act, keys_in, named, how_by, row_at, start_key, IsLeastStrategy}
+use Rattle.cw_least_strategy.specs.Strategies.{key_cmp, below, moves, way, sooner, best, after_return, is_lost_after, aim_at, back_at, backs_at, Both, Into, goes, inner, act_in, act}
+use Rattle.cw_least_strategy.specs.Strategies.{keys_in, named, how_by, row_at, start_key, IsLeastStrategy}
 use Rattle.cw_consequences.specs.Unrefused.{unrefused, under}
 use Rattle.cw_consequences.specs.Stopping.{StopKeepsTheStrategy}
 use Rattle.cw_consequences.proofs.Alike.{leads_same, holds_same, height_same, refuse_alike, refuse_back}

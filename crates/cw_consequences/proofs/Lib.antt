@@ -12,10 +12,12 @@ mod Likes
 mod Outcomes
 mod Parted
 mod Readings
+mod Reaudited
 mod Singles
 mod Stages
 mod Summed
 mod Texts
+mod Tried
 mod Valued
 mod Worlded
 mod Accepted

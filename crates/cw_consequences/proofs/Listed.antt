@@ -131,7 +131,8 @@ game_varied h k limit enter split stop format own other nodes parts main policie
     subst (λ (ns : List Node). AreLists (uses_of y ns) (record { policy = y; rights = rs; sets = xs })) nodes under_y in
     let rights : rs ≡ h.states.rights =
     one caps_cmp caps_total (IsRightsState p uses) rs h.states.rights
-    (exactly caps_cmp (IsRightsState y uses) (IsRightsState p uses) rs (rights_back p limit enter split stop format uses) (rights_forth p limit enter split stop format uses) lists.rights) own.rights in
+    (exactly caps_cmp (IsRightsState y uses) (IsRightsState p uses) rs (rights_back p limit enter split stop format uses) (rights_forth p limit enter split stop format uses) lists.rights)
+    own.rights in
     let sets : xs ≡ h.states.sets =
     one nat_cmp nat_cmp_total (Reached p.rules (letters_of p uses h.states.rights)) xs h.states.sets
     (subst (λ (cs : List Caps). Exactly nat_cmp (Reached p.rules (letters_of p uses cs)) xs) rights lists.sets) own.sets in

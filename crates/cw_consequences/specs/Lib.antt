@@ -3,3 +3,4 @@ pub mod Unrefused
 pub mod Alike
 pub mod Laws
 pub mod Accepting
+pub mod Auditing

@@ -1,6 +1,7 @@
 //! Laws of the definitions: functions that do nothing, and whose contracts hold of every value.
 
 ghost use Rattle.cw_consequences.specs.Accepting.{GraphEndsWell, WeaveEndsWell};
+ghost use Rattle.cw_consequences.specs.Auditing.{AuditIsAccepted, AuditTellsWhatIsTried, AuditsDifferInMoves, AuditsSayTheSame, WhatIsRefutedViolates};
 ghost use Rattle.cw_consequences.specs.Laws.{EachHasOneAnswer, FormIsChecked, FormIsJudged, FormatsAgree, ProcsIsWeave, StopGivesTheSame, WeaveHasOneAnswer};
 
 use cw_io::Sink;
@@ -13,6 +14,25 @@ pub fn weave_has_one_answer()
 /// For the files of a command, whichever it is, and for the number of a sample one answer is due.
 pub fn each_has_one_answer()
     ensures { EachHasOneAnswer }
+{}
+
+/// What `audit` writes is accepted: whatever it says, `reaudit` is due to answer `yes` to it and nothing else.
+pub fn what_audit_writes_is_accepted()
+    ensures { AuditIsAccepted }
+{}
+
+/// What `audit` says tells of what `weave` writes: it says that the source meets the policy exactly where no run of the woven text tries anything, and that
+/// the source violates it wherever a strategy is written.
+pub fn audit_tells_what_is_tried()
+    ensures tried { AuditTellsWhatIsTried }
+    ensures refuted { WhatIsRefutedViolates }
+{}
+
+/// Under policies with the same descriptors, labels and rules `audit` has the same status and the same distance, whatever else they say; and of two audits
+/// that are due for one policy and source only the moves may differ.
+pub fn audits_say_the_same()
+    ensures same { AuditsSayTheSame }
+    ensures moves { AuditsDifferInMoves }
 {}
 
 /// What `procs` writes is accepted: a woven text by `check`, and a strategy, for the form, by `refute`.
