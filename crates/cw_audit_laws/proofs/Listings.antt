@@ -9,7 +9,8 @@ use Rattle.cw_audit_table.specs.Conditions.{is_after, is_before, key_of, pair_of
 use Rattle.cw_audit_search.specs.Searches.{Found}
 use Rattle.cw_audit_search.specs.Sound.{IsFair, IsSound}
 use Rattle.cw_audit_search.specs.Settled.{IsRowBelow}
-use Rattle.cw_audit_search.specs.Listing.{AscendAfter, IsListed, IsListing}
+use Rattle.cw_audit_search.specs.Listing.{IsListed, IsListing}
+use Rattle.cw_audit_search.specs.Ordered.{AscendAfter}
 use Rattle.cw_audit_search.proofs.Ascending.{says_after}
 
 -- ---- what is picked by two numbers, in order
