@@ -273,8 +273,9 @@ class Pair:
         if kind == "plain" and chance.random() < 0.8:
             source = re.sub(r"\bn=(?=[fgh]\()", "", source)
         names = chance.sample(names, chance.randint(1, len(names))) if names else ["f"]
-        run = ["procs", self.put(spoilt(chance, detached(policy, names), 0.04)), self.put(spoilt(chance, source, 0.04))]
-        is_sure = kind == "plain" and self.both.got(run[2]) == source.encode()
+        policy = detached(policy, names)
+        run = ["procs", self.put(spoilt(chance, policy, 0.04)), self.put(spoilt(chance, source, 0.04))]
+        is_sure = kind == "plain" and [self.both.got(name) for name in run[1:]] == [policy.encode(), source.encode()]
         return run, form_of(source, names) if is_sure else None
 
     def taken(self, takers, text, is_changed):
