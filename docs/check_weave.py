@@ -54,8 +54,9 @@ def made(folder):
 
 def begun(folder, mode, words=("p", "s")):
     environment = dict(os.environ, PATH=os.path.join(folder, "bin") + ":/usr/bin:/bin", MODE=mode, WAITS=os.path.join(folder, "waits"))
+    # (what runs in a shell's background ignores the stop from the keyboard)
     return subprocess.Popen([sys.executable, os.path.join(folder, "weave")] + list(words), cwd=folder, env=environment, stdin=subprocess.DEVNULL,
-                            stdout=subprocess.PIPE, stderr=subprocess.PIPE, universal_newlines=True)
+                            stdout=subprocess.PIPE, stderr=subprocess.PIPE, universal_newlines=True, preexec_fn=lambda: signal.signal(signal.SIGINT, signal.SIG_DFL))
 
 
 def ended(child):
