@@ -247,7 +247,7 @@ def values():
     yield "array elements", [valued("int main(void){int a[%d];a[65535]=7;put(a[65535]);return 0;}" % size, ends, "call 0\n") for size, ends in ((65_536, b"\nended\n"), (65_537, b"\nstop form 1:22\n"))]
     yield "array elements", [valued("int a[%d];int main(void){return 0;}" % size, ends) for size, ends in ((65_536, b"\nended\n"), (65_537, b"\nstop form 1:7\n"))]
     called = "int f(int x){%sf(x+1);return x;}int main(void){f(1);return 0;}"
-    yield "frames of values", [valued(called % "", b"\nstop steps\n"), valued(called % "int a[65536];", b"memory\n", memory=1_000_000)]
+    yield "frames of values", [valued(called % "", b"\nstop steps\n"), valued(called % "int a[65536];a[65535]=x;", b"memory\n", memory=1_000_000)]
     greatest = "int main(void){int x=9223372036854775807;put(x%s);return 0;}"
     yield "numbers of values", [valued(greatest % more, ends, "call -9223372036854775808\n") for more, ends in (("", b"\nended\n"), ("+1", b"\nstop overflow 1:46\n"))]
 
