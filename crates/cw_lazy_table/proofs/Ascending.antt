@@ -1,16 +1,9 @@
 -- Lists that are filtered item by item.
-use Rattle.std.proofs.Common.{◌≡◌, ⊎_elim, ◌+◌, ◌<◌, ◌≤◌, List, [], ◌∷◌, ◌++◌, true, Option, filter_map, take, length, get_or, append_assoc}
-use Rattle.std.proofs.Common.{sym, ap, ◌∙◌, subst}
-use Rattle.std.specs.FinMap.{IsAntisymmetric}
-use Rattle.std.specs.List.{Contains, cons_option}
-use Rattle.std.specs.BTreeSet.{BTreeSet, Updates}
-use Rattle.std.specs.List.Sorted.{IsStrictlySortedBy}
-use Rattle.cw_fixpoint.specs.Closures.{Exactly}
-use Rattle.std.specs.Cmp.{IsTotalOrder}
-use Rattle.std.specs.declared.cmp.Ordering.{Ordering}
+use Rattle.std.proofs.Common.{◌≡◌, ◌+◌, ◌<◌, ◌≤◌, List, [], ◌∷◌, ◌++◌, Option, filter_map, take, length, get_or, append_assoc}
+use Rattle.std.proofs.Common.{sym, ap, ◌∙◌}
+use Rattle.std.specs.List.{cons_option}
 use Rattle.std.proofs.lemmas.List.{take_more, take_all, get_or_default}
-use Rattle.std.proofs.lemmas.List.Elements.{Contains-push, Contains-push_cases, Contains-append_left, filter_map-append}
-use Rattle.cw_fixpoint.proofs.Keys.{inserted_old, inserted_new, inserted_from}
+use Rattle.std.proofs.lemmas.List.Elements.{filter_map-append}
 
 -- one item more of a filtered list
 pub filtered_more : {A B : Type 0} (f : A → Option B) (xs : List A) (i : _) (x : A) (old cur new : List B) → i < length xs → x ≡ get_or xs i x → cur ≡ old ++ filter_map f (take i xs)

@@ -1,5 +1,5 @@
 -- A game in which the lazy table can begin has one: what is live is within a finite set, and each list is put together of what is live.
-use Rattle.std.proofs.Common.{◌≡◌, ◌⊎◌, ℕ, ◌+◌, ◌^◌, ◌<◌, ◌≤◌, List, [], ◌∷◌, ◌++◌, Bool, true, false, cond, ◌&&◌, Option, Some, None, map, filter_map, length, nat_eq, refl, sym, ap, ap₂, ◌∙◌, subst, inl, inr, arith, eq-eqb, eqb-true}
+use Rattle.std.proofs.Common.{◌≡◌, ℕ, ◌^◌, ◌<◌, List, [], ◌∷◌, ◌++◌, Bool, true, false, cond, ◌&&◌, Option, Some, None, map, filter_map, length, nat_eq, refl, sym, ap, ap₂, ◌∙◌, subst, inl, inr, arith, eq-eqb, eqb-true}
 use Rattle.std.specs.List.{Contains, flat_map, range_with_len}
 use Rattle.std.specs.Cmp.{IsTotalOrder}
 use Rattle.std.specs.FinMap.{IsAntisymmetric, nat_cmp-IsAntisymmetric}
@@ -9,10 +9,8 @@ use Rattle.std.proofs.lemmas.Bool.{and_parts}
 use Rattle.std.proofs.lemmas.Cmp.{nat_cmp_total, on_total, then_total}
 use Rattle.std.proofs.lemmas.List.Elements.{Contains-append_left, Contains-append_right, Contains-append_cases}
 use Rattle.std.proofs.lemmas.List.FromFn.{length-range_with_len, get_or-range_with_len}
-use Rattle.std.proofs.lemmas.Option.{none-some, same_Some}
 use Rattle.cw_lemmas.proofs.Lists.{contains_none, contains_one, contains_map}
 use Rattle.cw_lemmas.proofs.Orders.{then_equal}
-use Rattle.cw_core.specs.declared.ids.StateId.{StateId}
 use Rattle.cw_certs.specs.Ascending.{mem_cmp}
 use Rattle.cw_certs.specs.Tables.{Table, table_with}
 use Rattle.cw_certs.proofs.Orders.{mem_total}
@@ -29,13 +27,13 @@ use Rattle.cw_lazy_table.specs.declared.key.Key.{Key}
 use Rattle.cw_lazy_table.specs.declared.place.Kind.{Kind}
 use Rattle.cw_lazy_table.specs.declared.place.Kind.TheVariants as kind
 use Rattle.cw_lazy_table.specs.declared.place.Placed.{Placed}
-use Rattle.cw_lazy_table.specs.Choices.{choices, start_of}
+use Rattle.cw_lazy_table.specs.Choices.{lost_in, set_in, choices, start_of}
 use Rattle.cw_lazy_table.specs.Closing.{key}
 use Rattle.cw_lazy_table.specs.Laws.{CanBegin}
-use Rattle.cw_lazy_table.specs.Lazy.{IsMemory, IsLazyTable}
+use Rattle.cw_lazy_table.specs.Lazy.{IsLazyTable}
 use Rattle.cw_lazy_table.specs.Live.{IsLive, begins}
-use Rattle.cw_lazy_table.specs.Places.{key_cmp, placed_cmp, placed_of, memory_of, IsPlaced, IsReturn, return_cmp, return_of}
-use Rattle.cw_lazy_table.specs.Rowing.{Memories, mem, live_row, try_row, at_row, open_row, into_row, back_row}
+use Rattle.cw_lazy_table.specs.Places.{key_cmp, placed_cmp, placed_of, memory_of, return_cmp, return_of}
+use Rattle.cw_lazy_table.specs.Rowing.{mem, live_row, try_row, at_row, open_row, into_row, back_row}
 use Rattle.cw_lazy_table.proofs.Choosing.{safe_at}
 use Rattle.cw_lazy_table.proofs.Counting.{key_total, pair_total}
 use Rattle.cw_lazy_table.proofs.Listing.{placed_exact, places_exactly, memories_exactly, tries_exactly, labels_exactly, opened_exactly, closed_exactly, into_exactly, back_exactly, live_exactly}
@@ -192,8 +190,8 @@ module _ (g : Game) (functions : ℕ) (can : CanBegin g functions) (low : Height
       let pairs : Exactly (pair_cmp key_cmp) (IsPair (choices g) (start_of g)) ab.0 = (ab.1.0, λ (x : Key × Key). ((λ c. (pairs_are (choices g) (start_of g) keys.0 keys.1.1 x).0 ((ab.1.1 x).0 c)), (λ p. (ab.1.1 x).1 ((pairs_are (choices g) (start_of g) keys.0 keys.1.1 x).1 p)))) in
       let back = in_order return_cmp return_total (both_exact placed_cmp key_cmp placed_exact key_exact) (filter_map (return_of g) ab.0) in
       let backs = returns_exactly g functions can low ab.0 back.0 pairs back.1 in (
-        table_with g.states.count (mem ms g.states.start (all_states g)) ms (map (live_row ms) keys.0) (map (try_row g ms) (placed kind.Asked).0) (map (at_row g ms) (placed kind.Label).0)
-            (map (open_row g ms) (placed kind.Open).0) (map (at_row g ms) (placed kind.Close).0) (map (into_row g ms) (placed kind.Call).0) (map (back_row g ms) back.0),
+        table_with g.states.count (mem ms g.states.start (all_states g)) ms (map (live_row ms) keys.0) (map (try_row g (lost_in g) ms) (placed kind.Asked).0) (map (at_row g ms) (placed kind.Label).0)
+            (map (open_row g ms) (placed kind.Open).0) (map (at_row g ms) (placed kind.Close).0) (map (into_row (set_in g) ms) (placed kind.Call).0) (map (back_row g ms) back.0),
         record {
           states = refl;
           start = meant g functions can low ms are (g.entry g.main) g.states.start (all_states g) begins;

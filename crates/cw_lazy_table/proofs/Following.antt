@@ -26,8 +26,8 @@ use Rattle.cw_solve.proofs.Tabling.{there}
 use Rattle.cw_solve.proofs.Turning.{turn_call}
 use Rattle.cw_lazy_table.specs.declared.key.Key.{Key}
 use Rattle.cw_solve.specs.Numbering.{IsUnder}
-use Rattle.cw_lazy_table.specs.Choices.{lost_in, promised, promised_in, set_in, choices, returning, CanFollow}
-use Rattle.cw_lazy_table.specs.Closing.{key, moves_on, visited, begun, answered, gone_on, waits, ends, back}
+use Rattle.cw_lazy_table.specs.Choices.{lost_in, promised, promised_in, set_in, returning, CanFollow}
+use Rattle.cw_lazy_table.specs.Closing.{key, moves_on, visited, begun, answered, gone_on, rules, waits, ends, back}
 use Rattle.cw_lazy_table.specs.Following.{moved_by, skip_or_try, put_if}
 use Rattle.cw_lazy_table.specs.Live.{IsLive}
 use Rattle.cw_lazy_table.proofs.Bridging.{member_live}
@@ -122,112 +122,114 @@ module _ (g : Game) where
     pub set_none : call_in spot ≡ None → 0 ≡ set_in g k.pos k.state k.promise
     set_none e = sym (ap (promised_in g k.state k.promise) e)
 
-    pub waits_call : (f set : ℕ) (split : Bool) (b : PosId) → Turns (turn.Call f split b) → set ≡ set_in g k.pos k.state k.promise → Some (g.exit f, set) ≡ (choices g).waits k
-    waits_call f set split b e s = ap (λ (x : ℕ). Some (g.exit f, x)) s ∙ sym (ap (waits g (lost_in g) (set_in g) k) (call_is f split b e).1)
+    module _ (lost : (p q e : ℕ) → Bool) (set : (p q e : ℕ) → ℕ) where
+      pub waits_call : (f n : ℕ) (split : Bool) (b : PosId) → Turns (turn.Call f split b) → n ≡ set k.pos k.state k.promise → Some (g.exit f, n) ≡ (rules g lost set).waits k
+      waits_call f n split b e s = ap (λ (x : ℕ). Some (g.exit f, x)) s ∙ sym (ap (waits g lost set k) (call_is f split b e).1)
 
-    pub waits_none : call_in spot ≡ None → None ≡ (choices g).waits k
-    waits_none e = sym (ap (waits g (lost_in g) (set_in g) k) e)
+      pub waits_none : call_in spot ≡ None → None ≡ (rules g lost set).waits k
+      waits_none e = sym (ap (waits g lost set k) e)
 
-    pub ends_exit : (main : Bool) → Turns (turn.Exit main) → Some (k.pos, k.promise) ≡ (choices g).ends k
-    ends_exit main e = sym (ap (ends g (lost_in g) (set_in g) k) (exit_in spot main e).1)
+      pub ends_exit : (main : Bool) → Turns (turn.Exit main) → Some (k.pos, k.promise) ≡ (rules g lost set).ends k
+      ends_exit main e = sym (ap (ends g lost set k) (exit_in spot main e).1)
 
-    pub ends_none : (t : Turn) → Turns t → ((main : Bool) → t ≡ turn.Exit main → ⊥) → None ≡ (choices g).ends k
-    ends_none t e n = sym (ap (λ b. cond b (Some (k.pos, k.promise)) None) (no_exit_in spot t e n))
+      pub ends_none : (t : Turn) → Turns t → ((main : Bool) → t ≡ turn.Exit main → ⊥) → None ≡ (rules g lost set).ends k
+      ends_none t e n = sym (ap (λ b. cond b (Some (k.pos, k.promise)) None) (no_exit_in spot t e n))
 
-    pub join_call : (b : Key) (f q : ℕ) (split : Bool) (at : PosId) → Turns (turn.Call f split at) → q ≡ returned g.states (kept_at split k.state) b.state → key at.0 q k.promise ≡ (choices g).join k b
-    join_call b f q split at e s = ap (λ (x : ℕ). key at.0 x k.promise) s ∙ sym (ap (λ o. back g (lost_in g) (set_in g) k o b) (call_is f split at e).1)
+      pub join_call : (b : Key) (f q : ℕ) (split : Bool) (at : PosId) → Turns (turn.Call f split at) → q ≡ returned g.states (kept_at split k.state) b.state → key at.0 q k.promise ≡
+          (rules g lost set).join k b
+      join_call b f q split at e s = ap (λ (x : ℕ). key at.0 x k.promise) s ∙ sym (ap (λ o. back g lost set k o b) (call_is f split at e).1)
 
-    pub join_none : (b : Key) → call_in spot ≡ None → k ≡ (choices g).join k b
-    join_none b e = sym (ap (λ o. back g (lost_in g) (set_in g) k o b) e)
+      pub join_none : (b : Key) → call_in spot ≡ None → k ≡ (rules g lost set).join k b
+      join_none b e = sym (ap (λ o. back g lost set k o b) e)
 
-    -- what follows
-    abbrev after_in : Option Spot → List Key
-    after_in o =
-        (visited g (lost_in g) (set_in g) k o ++ begun g (lost_in g) (set_in g) k (call_in o))
-        ++ (answered g (lost_in g) (set_in g) k o ++ gone_on g (lost_in g) (set_in g) k (resumed_in g k.pos k.state o))
+      -- what follows
+      abbrev after_in : Option Spot → List Key
+      after_in o =
+          (visited g lost set k o ++ begun g lost set k (call_in o))
+          ++ (answered g lost set k o ++ gone_on g lost set k (resumed_in g k.pos k.state o))
 
-    pub weaver_after : Turns turn.Weaver → skip_or_try g k ∷ [] ≡ (choices g).after k
-    weaver_after e = sym (ap after_in (visit_in spot e).3)
+      pub weaver_after : Turns turn.Weaver → skip_or_try lost k ∷ [] ≡ (rules g lost set).after k
+      weaver_after e = sym (ap after_in (visit_in spot e).3)
 
-    pub exit_after : (main : Bool) → Turns (turn.Exit main) → [] ≡ (choices g).after k
-    exit_after main e = sym (ap after_in (exit_in spot main e).1)
+      pub exit_after : (main : Bool) → Turns (turn.Exit main) → [] ≡ (rules g lost set).after k
+      exit_after main e = sym (ap after_in (exit_in spot main e).1)
 
-    calls_after : (j f n set : ℕ) (split : Bool) (o : Option Spot) → (is_call_in o ≡ true) × (call_in o ≡ Some (the_call j f n split)) → set ≡ set_in g k.pos k.state k.promise
-        → key (g.entry f) k.state set ∷ [] ≡ after_in o
-    calls_after j f n set split (Some (Call a b c)) e s = ap₂ (λ (x y : ℕ). key (g.entry x) k.state y ∷ []) (ap function_of (sym e.1)) s
-      where
-        function_of : Option Called → ℕ
-        function_of None = 0
-        function_of (Some c) = c.function
-    calls_after j f n set split (Some (SplitCall a b c)) e s = ap₂ (λ (x y : ℕ). key (g.entry x) k.state y ∷ []) (ap function_of (sym e.1)) s
-      where
-        function_of : Option Called → ℕ
-        function_of None = 0
-        function_of (Some c) = c.function
-    calls_after j f n set split None e s = cc
-    calls_after j f n set split (Some (Visit a b c)) e s = cc
-    calls_after j f n set split (Some (Asked a b c)) e s = cc
-    calls_after j f n set split (Some (Step a)) e s = cc
-    calls_after j f n set split (Some (Branch a b)) e s = cc
-    calls_after j f n set split (Some (Label a b c)) e s = cc
-    calls_after j f n set split (Some (Open a b c)) e s = cc
-    calls_after j f n set split (Some (Close a b c)) e s = cc
-    calls_after j f n set split (Some (Exit a)) e s = cc
+      calls_after : (j f n m : ℕ) (split : Bool) (o : Option Spot) → (is_call_in o ≡ true) × (call_in o ≡ Some (the_call j f n split)) → m ≡ set k.pos k.state k.promise
+          → key (g.entry f) k.state m ∷ [] ≡ after_in o
+      calls_after j f n m split (Some (Call a b c)) e s = ap₂ (λ (x y : ℕ). key (g.entry x) k.state y ∷ []) (ap function_of (sym e.1)) s
+        where
+          function_of : Option Called → ℕ
+          function_of None = 0
+          function_of (Some c) = c.function
+      calls_after j f n m split (Some (SplitCall a b c)) e s = ap₂ (λ (x y : ℕ). key (g.entry x) k.state y ∷ []) (ap function_of (sym e.1)) s
+        where
+          function_of : Option Called → ℕ
+          function_of None = 0
+          function_of (Some c) = c.function
+      calls_after j f n m split None e s = cc
+      calls_after j f n m split (Some (Visit a b c)) e s = cc
+      calls_after j f n m split (Some (Asked a b c)) e s = cc
+      calls_after j f n m split (Some (Step a)) e s = cc
+      calls_after j f n m split (Some (Branch a b)) e s = cc
+      calls_after j f n m split (Some (Label a b c)) e s = cc
+      calls_after j f n m split (Some (Open a b c)) e s = cc
+      calls_after j f n m split (Some (Close a b c)) e s = cc
+      calls_after j f n m split (Some (Exit a)) e s = cc
 
-    has_call : (o : Option Spot) (c : Called) → call_in o ≡ Some c → is_call_in o ≡ true
-    has_call (Some (Call a b d)) c e = refl
-    has_call (Some (SplitCall a b d)) c e = refl
-    has_call None c e = cc
-    has_call (Some (Visit a b d)) c e = cc
-    has_call (Some (Asked a b d)) c e = cc
-    has_call (Some (Step a)) c e = cc
-    has_call (Some (Branch a b)) c e = cc
-    has_call (Some (Label a b d)) c e = cc
-    has_call (Some (Open a b d)) c e = cc
-    has_call (Some (Close a b d)) c e = cc
-    has_call (Some (Exit a)) c e = cc
+      has_call : (o : Option Spot) (c : Called) → call_in o ≡ Some c → is_call_in o ≡ true
+      has_call (Some (Call a b d)) c e = refl
+      has_call (Some (SplitCall a b d)) c e = refl
+      has_call None c e = cc
+      has_call (Some (Visit a b d)) c e = cc
+      has_call (Some (Asked a b d)) c e = cc
+      has_call (Some (Step a)) c e = cc
+      has_call (Some (Branch a b)) c e = cc
+      has_call (Some (Label a b d)) c e = cc
+      has_call (Some (Open a b d)) c e = cc
+      has_call (Some (Close a b d)) c e = cc
+      has_call (Some (Exit a)) c e = cc
 
-    pub call_after : (f set : ℕ) (split : Bool) (b : PosId) → Turns (turn.Call f split b) → set ≡ set_in g k.pos k.state k.promise → key (g.entry f) k.state set ∷ [] ≡ (choices g).after k
-    call_after f set split b e s = let c = call_is f split b e in calls_after c.0 f b.0 set split spot (has_call spot (the_call c.0 f b.0 split) c.1, c.1) s
+      pub call_after : (f m : ℕ) (split : Bool) (b : PosId) → Turns (turn.Call f split b) → m ≡ set k.pos k.state k.promise → key (g.entry f) k.state m ∷ [] ≡ (rules g lost set).after k
+      call_after f m split b e s = let c = call_is f split b e in calls_after c.0 f b.0 m split spot (has_call spot (the_call c.0 f b.0 split) c.1, c.1) s
 
-    abbrev moved_in : Option Spot → Move → Option Key
-    moved_in o by = option_map (λ r. key r.0 r.1 k.promise) (next_in g k.pos k.state o by)
+      abbrev moved_in : Option Spot → Move → Option Key
+      moved_in o by = option_map (λ r. key r.0 r.1 k.promise) (next_in g k.pos k.state o by)
 
-    abbrev led_in : Option Spot → Move → Option Key
-    led_in o by = option_map (λ (c : Config). key c.pos c.state k.promise) (leads_in g k.pos k.state [] o by)
+      abbrev led_in : Option Spot → Move → Option Key
+      led_in o by = option_map (λ (c : Config). key c.pos c.state k.promise) (leads_in g k.pos k.state [] o by)
 
-    by_pairs : (x : Option Config) → option_map (λ r. key r.0 r.1 k.promise) (option_map pair_of x) ≡ option_map (λ (c : Config). key c.pos c.state k.promise) x
-    by_pairs None = refl
-    by_pairs (Some c) = refl
+      by_pairs : (x : Option Config) → option_map (λ r. key r.0 r.1 k.promise) (option_map pair_of x) ≡ option_map (λ (c : Config). key c.pos c.state k.promise) x
+      by_pairs None = refl
+      by_pairs (Some c) = refl
 
-    leads_same : (o : Option Spot) → is_left_in g k.state o ≡ false → filter_map (moved_in o) moves_on ≡ filter_map (led_in o) moves_on
-    leads_same o f =
-        maps_same (moved_in o) (led_in o) moves_on
-        (λ by. ap (λ b. option_map (λ r. key r.0 r.1 k.promise) (cond b None (option_map pair_of (leads_in g k.pos k.state [] o by)))) f ∙ by_pairs (leads_in g k.pos k.state [] o by))
+      leads_same : (o : Option Spot) → is_left_in g k.state o ≡ false → filter_map (moved_in o) moves_on ≡ filter_map (led_in o) moves_on
+      leads_same o f =
+          maps_same (moved_in o) (led_in o) moves_on
+          (λ by. ap (λ b. option_map (λ r. key r.0 r.1 k.promise) (cond b None (option_map pair_of (leads_in g k.pos k.state [] o by)))) f ∙ by_pairs (leads_in g k.pos k.state [] o by))
 
-    abbrev gone : Option Spot → List Key
-    gone o = gone_on g (lost_in g) (set_in g) k (resumed_in g k.pos k.state o)
+      abbrev gone : Option Spot → List Key
+      gone o = gone_on g lost set k (resumed_in g k.pos k.state o)
 
-    left_if : (b : Bool) → b ≡ false → (b || (false || false)) ≡ false
-    left_if true e = cc
-    left_if false e = refl
+      left_if : (b : Bool) → b ≡ false → (b || (false || false)) ≡ false
+      left_if true e = cc
+      left_if false e = refl
 
-    answers_in : (o : Option Spot) → Some turn.Environment ≡ option_map (turn_in g) o → bad_in g k.state o ≡ false → filter_map (moved_in o) moves_on ++ gone o ≡ after_in o
-    answers_in (Some (Asked j i a)) e b = ap (λ l. l ++ gone (Some (Asked j i a))) (leads_same (Some (Asked j i a)) (left_if _ b))
-    answers_in (Some (Step m)) e b = ap (λ l. l ++ gone (Some (Step m))) (leads_same (Some (Step m)) (left_if _ b))
-    answers_in (Some (Branch l m)) e b = ap (λ x. x ++ gone (Some (Branch l m))) (leads_same (Some (Branch l m)) (left_if _ b))
-    answers_in (Some (Label j l m)) e b = ap (λ x. x ++ gone (Some (Label j l m))) (leads_same (Some (Label j l m)) (left_if _ b))
-    answers_in (Some (Open j d m)) e b = ap (λ l. l ++ gone (Some (Open j d m))) (leads_same (Some (Open j d m)) (left_if _ b))
-    answers_in (Some (Close j d m)) e b = ap (λ l. l ++ gone (Some (Close j d m))) (leads_same (Some (Close j d m)) (left_if _ b))
-    answers_in None e b = cc
-    answers_in (Some (Exit f)) e b = cc
-    answers_in (Some (Visit j i a)) e b = cc
-    answers_in (Some (Call j f m)) e b = cc
-    answers_in (Some (SplitCall j f m)) e b = cc
+      answers_in : (o : Option Spot) → Some turn.Environment ≡ option_map (turn_in g) o → bad_in g k.state o ≡ false → filter_map (moved_in o) moves_on ++ gone o ≡ after_in o
+      answers_in (Some (Asked j i a)) e b = ap (λ l. l ++ gone (Some (Asked j i a))) (leads_same (Some (Asked j i a)) (left_if _ b))
+      answers_in (Some (Step m)) e b = ap (λ l. l ++ gone (Some (Step m))) (leads_same (Some (Step m)) (left_if _ b))
+      answers_in (Some (Branch l m)) e b = ap (λ x. x ++ gone (Some (Branch l m))) (leads_same (Some (Branch l m)) (left_if _ b))
+      answers_in (Some (Label j l m)) e b = ap (λ x. x ++ gone (Some (Label j l m))) (leads_same (Some (Label j l m)) (left_if _ b))
+      answers_in (Some (Open j d m)) e b = ap (λ l. l ++ gone (Some (Open j d m))) (leads_same (Some (Open j d m)) (left_if _ b))
+      answers_in (Some (Close j d m)) e b = ap (λ l. l ++ gone (Some (Close j d m))) (leads_same (Some (Close j d m)) (left_if _ b))
+      answers_in None e b = cc
+      answers_in (Some (Exit f)) e b = cc
+      answers_in (Some (Visit j i a)) e b = cc
+      answers_in (Some (Call j f m)) e b = cc
+      answers_in (Some (SplitCall j f m)) e b = cc
 
-    pub answers_after : Turns turn.Environment → bad_in g k.state spot ≡ false
-        → filter_map (moved_by g k) moves_on ++ gone_on g (lost_in g) (set_in g) k (resumed g k.pos k.state) ≡ (choices g).after k
-    answers_after e b = answers_in spot e b
+      pub answers_after : Turns turn.Environment → bad_in g k.state spot ≡ false
+          → filter_map (moved_by g k) moves_on ++ gone_on g lost set k (resumed g k.pos k.state) ≡ (rules g lost set).after k
+      answers_after e b = answers_in spot e b
 
 -- what holds at a key that is live
 module _ (h : HeldGame) (s : Held) (k : Key) (can : CanFollow h s k) where

@@ -13,8 +13,13 @@ pub mod Looking
 pub mod Made
 pub mod Meeting
 pub mod Numbers
+pub mod Renaming
+pub mod Numbering
+pub mod Wholes
+pub mod Keeps
 pub mod Only
 pub mod Placing
+pub mod Putting
 pub mod Ranging
 pub mod Reading
 pub mod Returning
@@ -26,3 +31,4 @@ pub mod Starting
 pub mod Stepping
 pub mod Tabled
 pub mod Existing
+pub mod Few

@@ -19,7 +19,7 @@ use Rattle.cw_lazy_table.specs.declared.key.Key.{Key}
 use Rattle.cw_lazy_table.specs.declared.place.Kind.{Kind}
 use Rattle.cw_lazy_table.specs.declared.place.Kind.TheVariants as kind
 use Rattle.cw_lazy_table.specs.declared.place.Placed.{Placed}
-use Rattle.cw_lazy_table.specs.Choices.{set_in}
+use Rattle.cw_lazy_table.specs.Choices.{lost_in, set_in}
 use Rattle.cw_lazy_table.specs.Closing.{key}
 use Rattle.cw_lazy_table.specs.Laws.{CanBegin}
 use Rattle.cw_lazy_table.specs.Lazy.{state_id, IsMemory, IsLiveRow, IsTryRow, IsLabelRow, IsOpenRow, IsCloseRow, IsIntoRow, IsBackRow}
@@ -44,7 +44,7 @@ module _ {A : Type 0} where
   by_all P (y ∷ ys) x h (inr n) = by_all P ys x h.1 n
 
 module _ {A B : Type 0} where
-  in_map : (f : A → B) (xs : List A) (x : A) → In xs x → In (map f xs) (f x)
+  pub in_map : (f : A → B) (xs : List A) (x : A) → In xs x → In (map f xs) (f x)
   in_map f [] x n = absurd n
   in_map f (y ∷ ys) x (inl e) = inl (ap f e)
   in_map f (y ∷ ys) x (inr n) = inr (in_map f ys x n)
@@ -54,7 +54,7 @@ module _ {A B : Type 0} where
   of_map f (z ∷ zs) y (inl e) = (z, inl refl, e)
   of_map f (z ∷ zs) y (inr n) = let k = of_map f zs y n in (k.0, inr k.1, k.2)
 
-  sorted_map : (c : A → A → Ordering) (d : B → B → Ordering) (f : A → B) (xs : List A) → ((x y : A) → In xs x → In xs y → c x y ≡ Less → d (f x) (f y) ≡ Less)
+  pub sorted_map : (c : A → A → Ordering) (d : B → B → Ordering) (f : A → B) (xs : List A) → ((x y : A) → In xs x → In xs y → c x y ≡ Less → d (f x) (f y) ≡ Less)
       → IsStrictlySortedBy c xs → IsStrictlySortedBy d (map f xs)
   unfolding IsStrictlySortedBy
   sorted_map c d f [] h s = tt
@@ -127,7 +127,7 @@ longer Greater p m e h = cc
 without : (s p m : Ordering) → p ≡ Equal → ordering_then s (ordering_then p m) ≡ Less → ordering_then s m ≡ Less
 without s p m e h = ap (λ o. ordering_then s o) (sym (then_equal p m e)) ∙ h
 
-less_nat : (a b : ℕ) → a < b → nat_cmp a b ≡ Less
+pub less_nat : (a b : ℕ) → a < b → nat_cmp a b ≡ Less
 less_nat a b l = grind (arith, nat_tests)
 
 same_placed : (a b c d e k l m n o : ℕ) → a ≡ k → b ≡ l → c ≡ m → d ≡ n → e ≡ o
@@ -260,9 +260,9 @@ module _ (g : Game) (functions : ℕ) (can : CanBegin g functions) where
         (less_then (nat_cmp x.part y.part) (rest x y) s.1))
         (less_then (nat_cmp x.seam y.seam) (ordering_then (nat_cmp x.part y.part) (rest x y)) l)
 
-    pub tries_exactly : (xs : List Placed) → Exactly placed_cmp (IsPlaced g kind.Asked) xs → Exactly try_cmp (IsTryRow g ms) (map (try_row g ms) xs)
+    pub tries_exactly : (xs : List Placed) → Exactly placed_cmp (IsPlaced g kind.Asked) xs → Exactly try_cmp (IsTryRow g ms) (map (try_row g (lost_in g) ms) xs)
     tries_exactly xs e =
-        rows_exactly placed_cmp try_cmp (IsPlaced g kind.Asked) (IsTryRow g ms) (try_row g ms) xs e (λ x y a b l. three_less kind.Asked asked_one x y a b l)
+        rows_exactly placed_cmp try_cmp (IsPlaced g kind.Asked) (IsTryRow g ms) (try_row g (lost_in g) ms) xs e (λ x y a b l. three_less kind.Asked asked_one x y a b l)
         (try_to g functions can low ms are) (try_from g functions can low ms are)
 
     at_less : (k : Kind) → One k → OnePart k → (x y : Placed) → IsPlaced g k x → IsPlaced g k y → placed_cmp x y ≡ Less → ordering_then (nat_cmp x.seam y.seam) (nat_cmp (num x) (num y)) ≡ Less
@@ -290,9 +290,9 @@ module _ (g : Game) (functions : ℕ) (can : CanBegin g functions) where
         let t = call_there (slice_get g.spots y.pos) y.seam y.part b.at in
         ap₂ (λ (i j : ℕ). bool_cmp (nat_eq i 1) (nat_eq j 1)) s.3 t.3 ∙ split_parts s.0.split t.0.split ∙ sym (ap₂ nat_cmp s.3 t.3)
 
-    pub into_exactly : (xs : List Placed) → Exactly placed_cmp (IsPlaced g kind.Call) xs → Exactly into_cmp (IsIntoRow g ms) (map (into_row g ms) xs)
+    pub into_exactly : (xs : List Placed) → Exactly placed_cmp (IsPlaced g kind.Call) xs → Exactly into_cmp (IsIntoRow g ms) (map (into_row (set_in g) ms) xs)
     into_exactly xs e =
-        rows_exactly placed_cmp into_cmp (IsPlaced g kind.Call) (IsIntoRow g ms) (into_row g ms) xs e
+        rows_exactly placed_cmp into_cmp (IsPlaced g kind.Call) (IsIntoRow g ms) (into_row (set_in g) ms) xs e
         (λ x y a b l. ap (λ o. ordering_then (nat_cmp x.seam y.seam) (ordering_then o (nat_cmp (num x) (num y)))) (modes x y a b) ∙ three_less kind.Call call_one x y a b l)
         (into_to g functions can low ms are) (into_from g functions can low ms are)
 

@@ -23,7 +23,7 @@ use Rattle.cw_lazy_table.proofs.Choosing.{right}
 use Rattle.cw_lazy_table.proofs.Listing.{images}
 use Rattle.cw_lazy_table.proofs.Placing.{there_call}
 
-ended_at : (k : Key) (o : Option Spot) (x : ℕ × ℕ) → cond (is_exit_in o) (Some (k.pos, k.promise)) None ≡ Some x → (k.pos, k.promise) ≡ x
+pub ended_at : (k : Key) (o : Option Spot) (x : ℕ × ℕ) → cond (is_exit_in o) (Some (k.pos, k.promise)) None ≡ Some x → (k.pos, k.promise) ≡ x
 ended_at k o x e = by (is_exit_in o) e
   where
     by : (b : Bool) → cond b (Some (k.pos, k.promise)) None ≡ Some x → (k.pos, k.promise) ≡ x

@@ -89,7 +89,7 @@ module _ (g : Game) (functions : ℕ) (can : CanBegin g functions) (low : Height
   after_from e (Some c) (Some m) h = ap (λ (x : MemId). Some x) (mem_is m c.state e h)
 
   -- after a refusal
-  going_to : (p q e : ℕ) (o : Option (ℕ × ℕ)) → IsLive g p q e → resumed g p q ≡ o → GoesOn g ms e o (going_on g ms e o)
+  going_to : (p q e : ℕ) (o : Option (ℕ × ℕ)) → IsLive g p q e → resumed g p q ≡ o → GoesOn g ms e o (going_on (lost_in g) ms e o)
   going_to p q e None live es = refl
   going_to p q e (Some pair) live es = by (lost_in g pair.0 pair.1 e) refl
     where
@@ -97,7 +97,7 @@ module _ (g : Game) (functions : ℕ) (can : CanBegin g functions) (low : Height
       by true t = (right g functions can low).on_lost p q e pair live es t
       by false t = let k = (right g functions can low).on_kept p q e pair live es t in (k, meant pair.0 pair.1 e (goes_on p q e pair live es k))
 
-  going_from : (p q e : ℕ) (o : Option (ℕ × ℕ)) (m : Option MemId) → IsLive g p q e → resumed g p q ≡ o → GoesOn g ms e o m → m ≡ going_on g ms e o
+  going_from : (p q e : ℕ) (o : Option (ℕ × ℕ)) (m : Option MemId) → IsLive g p q e → resumed g p q ≡ o → GoesOn g ms e o m → m ≡ going_on (lost_in g) ms e o
   going_from p q e None m live es h = h
   going_from p q e (Some pair) None live es h = by (lost_in g pair.0 pair.1 e) refl
     where
@@ -111,11 +111,11 @@ module _ (g : Game) (functions : ℕ) (can : CanBegin g functions) (low : Height
       by false t = ap (λ (x : MemId). Some x) (mem_is m pair.1 e h.1)
 
   refused_to : (p q e : ℕ) (o : Option Config) → IsLive g p q e → ((c : Config) → o ≡ Some c → IsLive g c.pos c.state e)
-      → IsRefused g ms p q e o (refused_by g ms e (option_map pair_of o) (resumed g p q))
+      → IsRefused g ms p q e o (refused_by (lost_in g) ms e (option_map pair_of o) (resumed g p q))
   refused_to p q e None live h = going_to p q e (resumed g p q) live refl
   refused_to p q e (Some c) live h = meant c.pos c.state e (h c refl)
 
-  refused_from : (p q e : ℕ) (o : Option Config) (m : Option MemId) → IsLive g p q e → IsRefused g ms p q e o m → m ≡ refused_by g ms e (option_map pair_of o) (resumed g p q)
+  refused_from : (p q e : ℕ) (o : Option Config) (m : Option MemId) → IsLive g p q e → IsRefused g ms p q e o m → m ≡ refused_by (lost_in g) ms e (option_map pair_of o) (resumed g p q)
   refused_from p q e None m live h = going_from p q e (resumed g p q) m live refl h
   refused_from p q e (Some c) m live h = after_from e (Some c) m h
 
@@ -127,7 +127,7 @@ module _ (g : Game) (functions : ℕ) (can : CanBegin g functions) (low : Height
       → next_at g x.pos x.state by ≡ option_map pair_of (leads_in g x.pos x.state [] (asked x a) by)
   asked_next x a by live es = next_is x.pos x.state x.promise by (asked x a) live es refl refl
 
-  pub try_to : (x : Placed) → IsPlaced g kind.Asked x → IsTryRow g ms (try_row g ms x)
+  pub try_to : (x : Placed) → IsPlaced g kind.Asked x → IsTryRow g ms (try_row g (lost_in g) ms x)
   try_to x is =
       let s = asked_there (slice_get g.spots x.pos) x.seam x.part is.at in
       record {
@@ -140,22 +140,22 @@ module _ (g : Game) (functions : ℕ) (can : CanBegin g functions) (low : Height
         meant = meant x.pos x.state x.promise is.live;
         granted = subst (λ n. IsAfter ms x.promise (leads_in g x.pos x.state [] (asked x s.0) Grant) (mem_after ms x.promise n)) (sym (asked_next x s.0 Grant is.live s.1))
             (after_to x.promise (leads_in g x.pos x.state [] (asked x s.0) Grant) (λ c l. moved_live x.pos x.state x.promise Grant (asked x s.0) c is.live s.1 refl refl l));
-        refused = subst (λ n. IsRefused g ms x.pos x.state x.promise (leads_in g x.pos x.state [] (asked x s.0) Refuse) (refused_by g ms x.promise n (resumed g x.pos x.state)))
+        refused = subst (λ n. IsRefused g ms x.pos x.state x.promise (leads_in g x.pos x.state [] (asked x s.0) Refuse) (refused_by (lost_in g) ms x.promise n (resumed g x.pos x.state)))
             (sym (asked_next x s.0 Refuse is.live s.1))
             (refused_to x.pos x.state x.promise (leads_in g x.pos x.state [] (asked x s.0) Refuse) is.live (λ c l. moved_live x.pos x.state x.promise Refuse (asked x s.0) c is.live s.1 refl refl l));
       }
 
-  pub try_from : (r : TryRow) → IsTryRow g ms r → (x : Placed) × IsPlaced g kind.Asked x × (r ≡ try_row g ms x)
+  pub try_from : (r : TryRow) → IsTryRow g ms r → (x : Placed) × IsPlaced g kind.Asked x × (r ≡ try_row g (lost_in g) ms x)
   try_from r h =
       let x : Placed = record { seam = r.seam.0; part = r.stage; state = h.state; promise = h.promise; pos = h.pos } in (
         x,
         record { live = h.live; at = ap (part_there kind.Asked) h.asked },
         same_try r.seam r.stage r.mem (mem ms h.state h.promise) r.granted (mem_after ms h.promise (next_at g h.pos h.state Grant)) r.refused
-            (refused_by g ms h.promise (next_at g h.pos h.state Refuse) (resumed g h.pos h.state))
+            (refused_by (lost_in g) ms h.promise (next_at g h.pos h.state Refuse) (resumed g h.pos h.state))
             (mem_is r.mem h.state h.promise h.meant)
             (after_from h.promise (leads_in g h.pos h.state [] (asked x h.prim) Grant) r.granted h.granted ∙ ap (mem_after ms h.promise) (sym (asked_next x h.prim Grant h.live h.asked)))
             (refused_from h.pos h.state h.promise (leads_in g h.pos h.state [] (asked x h.prim) Refuse) r.refused h.live h.refused
-            ∙ ap (λ n. refused_by g ms h.promise n (resumed g h.pos h.state)) (sym (asked_next x h.prim Refuse h.live h.asked))),
+            ∙ ap (λ n. refused_by (lost_in g) ms h.promise n (resumed g h.pos h.state)) (sym (asked_next x h.prim Refuse h.live h.asked))),
       )
 
   -- after labels, opens and closes
@@ -266,7 +266,7 @@ module _ (g : Game) (functions : ℕ) (can : CanBegin g functions) (low : Height
         full = set_full g functions can low x.pos x.state x.promise s.0 is.live s.1;
       }
 
-  pub into_to : (x : Placed) → IsPlaced g kind.Call x → IsIntoRow g ms (into_row g ms x)
+  pub into_to : (x : Placed) → IsPlaced g kind.Call x → IsIntoRow g ms (into_row (set_in g) ms x)
   unfolding called_to
   into_to x is =
       let c = called_to x is in
@@ -288,7 +288,7 @@ module _ (g : Game) (functions : ℕ) (can : CanBegin g functions) (low : Height
   called_split : (seam m : ℕ) (split : Bool) (c : IsCalled g ms seam split m) → split ≡ nat_eq (cond c.call.split 1 0) 1
   called_split seam m split c = sym (split_is c.call.split ∙ c.modes)
 
-  pub into_from : (r : IntoRow) → IsIntoRow g ms r → (x : Placed) × IsPlaced g kind.Call x × (r ≡ into_row g ms x)
+  pub into_from : (r : IntoRow) → IsIntoRow g ms r → (x : Placed) × IsPlaced g kind.Call x × (r ≡ into_row (set_in g) ms x)
   into_from r h =
       let c = h.called in (
         placed_at r.seam.0 r.mem.0 r.split c,

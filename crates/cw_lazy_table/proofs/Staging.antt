@@ -11,7 +11,6 @@ use Rattle.cw_points.specs.declared.graph.Point.TheVariants as point
 use Rattle.cw_points.specs.declared.graph.Node.{Node}
 use Rattle.cw_points.specs.declared.graph.Part.{Part}
 use Rattle.cw_points.specs.Walks.{first_of, second_of}
-use Rattle.cw_points.proofs.Held.{HasAt}
 use Rattle.cw_positions.specs.Positions.{is_split, primitives_at, width, base, visits, free, number, to, spots_at, spots_in}
 use Rattle.cw_positions.proofs.Lengths.{width_at}
 use Rattle.cw_positions.proofs.Seaming.{is_seam_point, AreSeams, seam_at}

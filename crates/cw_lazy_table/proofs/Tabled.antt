@@ -25,7 +25,7 @@ use Rattle.cw_lazy_table.specs.declared.key.Key.{Key}
 use Rattle.cw_lazy_table.specs.declared.place.Kind.{Kind}
 use Rattle.cw_lazy_table.specs.declared.place.Kind.TheVariants as kind
 use Rattle.cw_lazy_table.specs.declared.place.Placed.{Placed}
-use Rattle.cw_lazy_table.specs.Choices.{IsReady, CanFollow}
+use Rattle.cw_lazy_table.specs.Choices.{lost_in, set_in, IsReady, CanFollow}
 use Rattle.cw_lazy_table.specs.Lazy.{Means, IsLiveRow, IsTryRow, IsLabelRow, IsOpenRow, IsCloseRow, IsIntoRow, IsBackRow, IsLazyTable}
 use Rattle.cw_lazy_table.specs.Live.{IsLive, begins}
 use Rattle.cw_lazy_table.specs.Places.{placed_cmp, placed_of, key_of, memory_of, IsPlaced, IsReturn, return_cmp, return_of}
@@ -97,7 +97,7 @@ module _ (h : HeldGame) (keys : List Key) (live : AreLive h keys) where
     pub live_are : (rows : List (PosId × MemId)) → rows ≡ map (live_row ms) keys → Exactly live_cmp (IsLiveRow g ms) rows
     live_are rows e = subst (Exactly live_cmp (IsLiveRow g ms)) (sym e) (live_exactly g functions live.begins ms all.are live.low keys (live.are.0, lives))
 
-    pub tries_are : (ys : List Placed) → Exactly placed_cmp (Contains (filter_map (placed_of g kind.Asked) keys)) ys → (rows : List TryRow) → rows ≡ map (try_row g ms) ys
+    pub tries_are : (ys : List Placed) → Exactly placed_cmp (Contains (filter_map (placed_of g kind.Asked) keys)) ys → (rows : List TryRow) → rows ≡ map (try_row g (lost_in g) ms) ys
         → Exactly try_cmp (IsTryRow g ms) rows
     tries_are ys are rows e = subst (Exactly try_cmp (IsTryRow g ms)) (sym e) (tries_exactly g functions live.begins ms all.are live.low ys (places_are kind.Asked ys are))
 
@@ -113,7 +113,7 @@ module _ (h : HeldGame) (keys : List Key) (live : AreLive h keys) where
         → Exactly at_cmp (IsCloseRow g ms) rows
     closes_are ys are rows e = subst (Exactly at_cmp (IsCloseRow g ms)) (sym e) (closed_exactly g functions live.begins ms all.are live.low ys (places_are kind.Close ys are))
 
-    pub calls_are : (ys : List Placed) → Exactly placed_cmp (Contains (filter_map (placed_of g kind.Call) keys)) ys → (rows : List IntoRow) → rows ≡ map (into_row g ms) ys
+    pub calls_are : (ys : List Placed) → Exactly placed_cmp (Contains (filter_map (placed_of g kind.Call) keys)) ys → (rows : List IntoRow) → rows ≡ map (into_row (set_in g) ms) ys
         → Exactly into_cmp (IsIntoRow g ms) rows
     calls_are ys are rows e = subst (Exactly into_cmp (IsIntoRow g ms)) (sym e) (into_exactly g functions live.begins ms all.are live.low ys (places_are kind.Call ys are))
 

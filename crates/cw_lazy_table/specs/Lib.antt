@@ -4,6 +4,7 @@ pub mod Following
 pub mod Laws
 pub mod Lazy
 pub mod Live
+pub mod Numbered
 pub mod Places
 pub mod Rowing
 pub mod Sets

@@ -1,5 +1,5 @@
 -- Working definitions: keys by what stands at their positions.
-use Rattle.std.specs.Prelude.{◌≡◌, ℕ, List, ◌∷◌, [], ◌++◌, Option, Some, None, option_map, slice_get}
+use Rattle.std.specs.Prelude.{◌≡◌, ℕ, List, ◌∷◌, [], ◌++◌, Option, Some, None, option_map, slice_get, Contains}
 use Rattle.std.specs.declared.cmp.Ordering.{Ordering}
 use Rattle.std.specs.Ordering.{ordering_then, nat_cmp}
 use Rattle.cw_core.specs.declared.ids.StateId.{StateId}
@@ -53,6 +53,14 @@ key_of x = key x.pos x.state x.promise
 
 abbrev pub memory_of : Key → StateId × ℕ
 memory_of k = (state_id k.state, k.promise)
+
+-- the list has what the other has, and no more
+abbrev pub AreOf : {A : Type 0} → List A → List A → Type 0
+AreOf {A} xs ys = (x : A) → (Contains ys x → Contains xs x) × (Contains xs x → Contains ys x)
+
+-- the new list has what the old one has, and this
+abbrev pub IsPut : {A : Type 0} → List A → A → List A → Type 0
+IsPut {A} old x new = AreOf (old ++ x ∷ []) new
 
 abbrev pub put_placed : List Placed → Option Placed → List Placed
 put_placed xs None = xs

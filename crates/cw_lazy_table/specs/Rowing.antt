@@ -19,7 +19,6 @@ use Rattle.cw_game.specs.Pairs.{kept_at}
 use Rattle.cw_product.specs.Moves.{next_at, pos_id}
 use Rattle.cw_lazy_table.specs.declared.key.Key.{Key}
 use Rattle.cw_lazy_table.specs.declared.place.Placed.{Placed}
-use Rattle.cw_lazy_table.specs.Choices.{lost_in, set_in}
 use Rattle.cw_lazy_table.specs.Lazy.{state_id}
 
 abbrev pub Memories : Type 0
@@ -58,21 +57,21 @@ abbrev pub moved : Game → Memories → Placed → Move → MemId
 moved g ms x by = mem ms (state_or x.state (next_at g x.pos x.state by)) x.promise
 
 -- after a refusal that a stop can answer
-abbrev pub going_on : Game → Memories → (e : ℕ) → Option (ℕ × ℕ) → Option MemId
-going_on g ms e None = None
-going_on g ms e (Some pair) = cond (lost_in g pair.0 pair.1 e) None (Some (mem ms pair.1 e))
+abbrev pub going_on : ((p q e : ℕ) → Bool) → Memories → (e : ℕ) → Option (ℕ × ℕ) → Option MemId
+going_on lost ms e None = None
+going_on lost ms e (Some pair) = cond (lost pair.0 pair.1 e) None (Some (mem ms pair.1 e))
 
-abbrev pub refused_by : Game → Memories → (e : ℕ) → Option (ℕ × ℕ) → Option (ℕ × ℕ) → Option MemId
-refused_by g ms e None on = going_on g ms e on
-refused_by g ms e (Some r) on = Some (mem ms r.1 e)
+abbrev pub refused_by : ((p q e : ℕ) → Bool) → Memories → (e : ℕ) → Option (ℕ × ℕ) → Option (ℕ × ℕ) → Option MemId
+refused_by lost ms e None on = going_on lost ms e on
+refused_by lost ms e (Some r) on = Some (mem ms r.1 e)
 
-abbrev pub try_row : Game → Memories → Placed → TryRow
-try_row g ms x = record {
+abbrev pub try_row : Game → ((p q e : ℕ) → Bool) → Memories → Placed → TryRow
+try_row g lost ms x = record {
   seam = seam_id x.seam;
   stage = x.part;
   mem = mem ms x.state x.promise;
   granted = mem_after ms x.promise (next_at g x.pos x.state Grant);
-  refused = refused_by g ms x.promise (next_at g x.pos x.state Refuse) (resumed g x.pos x.state);
+  refused = refused_by lost ms x.promise (next_at g x.pos x.state Refuse) (resumed g x.pos x.state);
 }
 
 abbrev pub at_row : Game → Memories → Placed → AtRow
@@ -84,8 +83,8 @@ open_row g ms x = record { seam = seam_id x.seam; mem = mem ms x.state x.promise
 abbrev pub is_split : Placed → Bool
 is_split x = nat_eq x.part 1
 
-abbrev pub into_row : Game → Memories → Placed → IntoRow
-into_row g ms x = record { seam = seam_id x.seam; split = is_split x; mem = mem ms x.state x.promise; callee = mem ms x.state (set_in g x.pos x.state x.promise) }
+abbrev pub into_row : ((p q e : ℕ) → ℕ) → Memories → Placed → IntoRow
+into_row set ms x = record { seam = seam_id x.seam; split = is_split x; mem = mem ms x.state x.promise; callee = mem ms x.state (set x.pos x.state x.promise) }
 
 abbrev pub back_row : Game → Memories → Placed × Key → BackRow
 back_row g ms (x, b) = record {

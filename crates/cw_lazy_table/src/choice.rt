@@ -5,7 +5,6 @@ ghost use Rattle.cw_product.specs.Product.{game_of};
 ghost use Rattle.cw_solve.specs.Numbering.{IsUnder, IsNumberOf};
 ghost use Rattle.cw_lazy_table.specs.Choices.{lost_in, promised, returning, IsReady};
 
-use crate::key::Key;
 use cw_core::{PosId, StateId, StateSet};
 use cw_product::Game;
 use cw_solve::Solved;
@@ -53,21 +52,22 @@ pub(crate) fn is_lost(
 pub(crate) fn promised(
     game: &Game,
     solved: &Solved,
-    key: &Key,
+    call: StateId,
+    promise: &StateSet,
     back: PosId,
     split: bool,
 ) -> StateSet
     requires ready { IsReady game.now solved.now }
-    requires there { IsUnder (game_of game.now) back.0 key.now.promise }
-    requires state { key.now.state < (game_of game.now).states.count }
-    ensures { result ≡ promised (game_of game.now) key.now.state key.now.promise (returning back.0 split) }
+    requires there { IsUnder (game_of game.now) back.0 promise.now }
+    requires state { call.0 < (game_of game.now).states.count }
+    ensures { result ≡ promised (game_of game.now) call.0 promise.now (returning back.0 split) }
 {
-    let number = solved.number_of(back, &key.promise);
+    let number = solved.number_of(back, promise);
     let mut set = StateSet::empty();
     for x in 0..game.states() {
         let exit = StateId(x);
-        let state = game.returned(StateId(key.state), exit, split);
-        if !is_lost_in(game, solved, number, back, state, &key.promise) {
+        let state = game.returned(call, exit, split);
+        if !is_lost_in(game, solved, number, back, state, promise) {
             set.insert(exit);
         }
     }

@@ -7,6 +7,7 @@ pub mod key;
 pub mod laws;
 mod lists;
 mod place;
+mod promises;
 pub mod table;
 
 pub use key::Key;

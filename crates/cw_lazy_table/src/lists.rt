@@ -1,10 +1,10 @@
 //! The rows of keys.
 
-ghost use Rattle.std.specs.Prelude.{◌≡◌, map, Contains, IfOk};
+ghost use Rattle.std.specs.Prelude.{◌≡◌, ◌<◌, ℕ, length, map, Contains, IfOk};
 ghost use Rattle.cw_game.specs.Games.{resumed};
 ghost use Rattle.cw_product.specs.Moves.{IsPosition, IsState, next_at};
 ghost use Rattle.cw_product.specs.Product.{game_of};
-ghost use Rattle.cw_lazy_table.specs.Choices.{CanFollow};
+ghost use Rattle.cw_lazy_table.specs.Numbered.{lost_by, set_at, whole_memory, CanAsk};
 ghost use Rattle.cw_lazy_table.specs.Places.{key_of};
 ghost use Rattle.cw_lazy_table.specs.Rowing.{AreMemories, mem, moved, mem_after, going_on, refused_by, live_row, try_row, at_row, open_row, into_row, back_row};
 ghost use Rattle.cw_certs.specs.declared.moves.Move.TheVariants.{Refuse};
@@ -12,7 +12,7 @@ ghost use Rattle.cw_certs.specs.declared.moves.Move.TheVariants.{Refuse};
 use crate::choice::is_lost;
 use crate::follow::set_at;
 use crate::key::Key;
-use crate::place::Placed;
+use crate::place::{Placed, stands};
 use cw_certs::{AtRow, BackRow, IntoRow, Move, OpenRow, TryRow};
 use cw_core::{MemId, PosId, SeamId, StateId, StateSet};
 use cw_fixpoint::number_of;
@@ -22,31 +22,73 @@ use std::alloc::{AllocError, Global};
 
 /// The number of a memory, and how many they are where it is none of them.
 #[tactic(auto, using(crate::proofs::Numbers::mem_exact))]
-pub(crate) fn mem(mems: &[(StateId, StateSet)], state: StateId, promise: StateSet) -> MemId
+pub(crate) fn mem(mems: &[(StateId, usize)], state: StateId, promise: usize) -> MemId
     requires mems { AreMemories mems.now }
     ensures { result ≡ mem mems.now state.0 promise }
 {
     MemId(number_of(mems, &(state, promise)) as u32)
 }
 
-/// The rows of live pairs: each key's position and the number of its memory.
+/// A memory with its promise.
+fn whole_memory(promises: &[StateSet], mem: &(StateId, usize)) -> (StateId, StateSet)
+    requires within { mem.now.1 < length promises.now }
+    ensures { result ≡ whole_memory promises.now mem.now }
+{
+    (mem.0, promises[mem.1])
+}
+
+/// The memories with their promises.
+pub(crate) fn whole_memories(
+    alloc: Global,
+    promises: &[StateSet],
+    mems: &[(StateId, usize)],
+) -> Result<Vec<(StateId, StateSet)>, AllocError>
+    requires within { (m : StateId × ℕ) → Contains mems.now m → m.1 < length promises.now }
+    ensures { IfOk result (λ v. v.items ≡ map (whole_memory promises.now) mems.now) }
+{
+    let mut memories = Vec::new(alloc);
+    for mem in mems {
+        memories.push(whole_memory(promises, mem))?;
+    }
+    Ok(memories)
+}
+
+/// The number of a memory: where it stands at a place, that place.
+fn mem_near(mems: &[(StateId, usize)], near: usize, state: StateId, promise: usize) -> MemId
+    requires mems { AreMemories mems.now }
+    ensures { result ≡ mem mems.now state.0 promise }
+{
+    if stands(mems, near, (state, promise)) {
+        MemId(near as u32)
+    } else {
+        mem(mems, state, promise)
+    }
+}
+
+/// The rows of live pairs: each key's position and the number of its memory, which mostly is the one behind the last, or the first.
 pub(crate) fn live_rows(
     alloc: Global,
-    mems: &[(StateId, StateSet)],
+    mems: &[(StateId, usize)],
     keys: &[Key],
 ) -> Result<Vec<(PosId, MemId)>, AllocError>
     requires mems { AreMemories mems.now }
     ensures { IfOk result (λ v. v.items ≡ map (live_row mems.now) keys.now) }
 {
     let mut rows = Vec::new(alloc);
+    let mut near: usize = 0;
     for key in keys {
-        rows.push((PosId(key.pos), mem(mems, StateId(key.state), key.promise)))?;
+        let mem = mem_near(mems, near, StateId(key.state), key.promise);
+        rows.push((PosId(key.pos), mem))?;
+        near = mem.0 as usize + 1;
+        if near >= mems.len() {
+            near = 0;
+        }
     }
     Ok(rows)
 }
 
 /// The memory after a move, if there is one.
-fn after(game: &Game, mems: &[(StateId, StateSet)], placed: &Placed, by: Move) -> Option<MemId>
+fn after(game: &Game, mems: &[(StateId, usize)], placed: &Placed, by: Move) -> Option<MemId>
     requires mems { AreMemories mems.now }
     requires position { IsPosition (game_of game.now) placed.now.pos }
     requires state { IsState (game_of game.now) placed.now.state }
@@ -59,7 +101,7 @@ fn after(game: &Game, mems: &[(StateId, StateSet)], placed: &Placed, by: Move) -
 }
 
 /// The memory after a move, the same where there is none.
-fn moved(game: &Game, mems: &[(StateId, StateSet)], placed: &Placed, by: Move) -> MemId
+fn moved(game: &Game, mems: &[(StateId, usize)], placed: &Placed, by: Move) -> MemId
     requires mems { AreMemories mems.now }
     requires position { IsPosition (game_of game.now) placed.now.pos }
     requires state { IsState (game_of game.now) placed.now.state }
@@ -75,17 +117,18 @@ fn moved(game: &Game, mems: &[(StateId, StateSet)], placed: &Placed, by: Move) -
 fn going_on(
     game: &Game,
     solved: &Solved,
-    mems: &[(StateId, StateSet)],
+    promises: &[StateSet],
+    mems: &[(StateId, usize)],
     placed: &Placed,
 ) -> Option<MemId>
     requires mems { AreMemories mems.now }
-    requires can { CanFollow game.now solved.now (key_of placed.now) }
-    ensures { result ≡ going_on (game_of game.now) mems.now placed.now.promise (resumed (game_of game.now) placed.now.pos placed.now.state) }
+    requires can { CanAsk game.now solved.now promises.now (key_of placed.now) }
+    ensures { result ≡ going_on (lost_by (game_of game.now) promises.now) mems.now placed.now.promise (resumed (game_of game.now) placed.now.pos placed.now.state) }
 {
     match game.resumed(PosId(placed.pos), StateId(placed.state)) {
         None => None,
         Some((pos, state)) => {
-            if is_lost(game, solved, pos, state, &placed.promise) {
+            if is_lost(game, solved, pos, state, &promises[placed.promise]) {
                 None
             } else {
                 Some(mem(mems, state, placed.promise))
@@ -98,32 +141,39 @@ fn going_on(
 fn refused(
     game: &Game,
     solved: &Solved,
-    mems: &[(StateId, StateSet)],
+    promises: &[StateSet],
+    mems: &[(StateId, usize)],
     placed: &Placed,
 ) -> Option<MemId>
     requires mems { AreMemories mems.now }
-    requires can { CanFollow game.now solved.now (key_of placed.now) }
-    ensures { result ≡ refused_by (game_of game.now) mems.now placed.now.promise (next_at (game_of game.now) placed.now.pos placed.now.state Refuse)
+    requires can { CanAsk game.now solved.now promises.now (key_of placed.now) }
+    ensures { result ≡ refused_by (lost_by (game_of game.now) promises.now) mems.now placed.now.promise (next_at (game_of game.now) placed.now.pos placed.now.state Refuse)
         (resumed (game_of game.now) placed.now.pos placed.now.state) }
 {
     match game.next(PosId(placed.pos), StateId(placed.state), Move::Refuse) {
-        None => going_on(game, solved, mems, placed),
+        None => going_on(game, solved, promises, mems, placed),
         Some((_, state)) => Some(mem(mems, state, placed.promise)),
     }
 }
 
 /// The row of a primitive that is tried: the memories after a grant and after a refusal.
-fn try_row(game: &Game, solved: &Solved, mems: &[(StateId, StateSet)], placed: &Placed) -> TryRow
+fn try_row(
+    game: &Game,
+    solved: &Solved,
+    promises: &[StateSet],
+    mems: &[(StateId, usize)],
+    placed: &Placed,
+) -> TryRow
     requires mems { AreMemories mems.now }
-    requires can { CanFollow game.now solved.now (key_of placed.now) }
-    ensures { result ≡ try_row (game_of game.now) mems.now placed.now }
+    requires can { CanAsk game.now solved.now promises.now (key_of placed.now) }
+    ensures { result ≡ try_row (game_of game.now) (lost_by (game_of game.now) promises.now) mems.now placed.now }
 {
     TryRow {
         seam: SeamId(placed.seam),
         stage: placed.part,
         mem: mem(mems, StateId(placed.state), placed.promise),
         granted: after(game, mems, placed, Move::Grant),
-        refused: refused(game, solved, mems, placed),
+        refused: refused(game, solved, promises, mems, placed),
     }
 }
 
@@ -132,16 +182,17 @@ pub(crate) fn try_rows(
     alloc: Global,
     game: &Game,
     solved: &Solved,
-    mems: &[(StateId, StateSet)],
+    promises: &[StateSet],
+    mems: &[(StateId, usize)],
     places: &[Placed],
 ) -> Result<Vec<TryRow>, AllocError>
     requires mems { AreMemories mems.now }
-    requires can { (x : Placed) → Contains places.now x → CanFollow game.now solved.now (key_of x) }
-    ensures { IfOk result (λ v. v.items ≡ map (try_row (game_of game.now) mems.now) places.now) }
+    requires can { (x : Placed) → Contains places.now x → CanAsk game.now solved.now promises.now (key_of x) }
+    ensures { IfOk result (λ v. v.items ≡ map (try_row (game_of game.now) (lost_by (game_of game.now) promises.now) mems.now) places.now) }
 {
     let mut rows = Vec::new(alloc);
     for placed in places {
-        rows.push(try_row(game, solved, mems, placed))?;
+        rows.push(try_row(game, solved, promises, mems, placed))?;
     }
     Ok(rows)
 }
@@ -150,7 +201,7 @@ pub(crate) fn try_rows(
 pub(crate) fn at_rows(
     alloc: Global,
     game: &Game,
-    mems: &[(StateId, StateSet)],
+    mems: &[(StateId, usize)],
     places: &[Placed],
 ) -> Result<Vec<AtRow>, AllocError>
     requires mems { AreMemories mems.now }
@@ -172,7 +223,7 @@ pub(crate) fn at_rows(
 pub(crate) fn open_rows(
     alloc: Global,
     game: &Game,
-    mems: &[(StateId, StateSet)],
+    mems: &[(StateId, usize)],
     places: &[Placed],
 ) -> Result<Vec<OpenRow>, AllocError>
     requires mems { AreMemories mems.now }
@@ -192,17 +243,23 @@ pub(crate) fn open_rows(
 }
 
 /// The row of a call: the memory with which its function begins.
-fn into_row(game: &Game, solved: &Solved, mems: &[(StateId, StateSet)], placed: &Placed) -> IntoRow
+fn into_row(
+    game: &Game,
+    solved: &Solved,
+    promises: &[StateSet],
+    mems: &[(StateId, usize)],
+    placed: &Placed,
+) -> IntoRow
     requires mems { AreMemories mems.now }
-    requires can { CanFollow game.now solved.now (key_of placed.now) }
-    ensures { result ≡ into_row (game_of game.now) mems.now placed.now }
+    requires can { CanAsk game.now solved.now promises.now (key_of placed.now) }
+    ensures { result ≡ into_row (set_at (game_of game.now) promises.now) mems.now placed.now }
 {
     let key = Key {
         pos: placed.pos,
         state: placed.state,
         promise: placed.promise,
     };
-    let promise = set_at(game, solved, &key);
+    let promise = set_at(game, solved, promises, &key);
     IntoRow {
         seam: SeamId(placed.seam),
         split: placed.part == 1,
@@ -216,22 +273,23 @@ pub(crate) fn into_rows(
     alloc: Global,
     game: &Game,
     solved: &Solved,
-    mems: &[(StateId, StateSet)],
+    promises: &[StateSet],
+    mems: &[(StateId, usize)],
     places: &[Placed],
 ) -> Result<Vec<IntoRow>, AllocError>
     requires mems { AreMemories mems.now }
-    requires can { (x : Placed) → Contains places.now x → CanFollow game.now solved.now (key_of x) }
-    ensures { IfOk result (λ v. v.items ≡ map (into_row (game_of game.now) mems.now) places.now) }
+    requires can { (x : Placed) → Contains places.now x → CanAsk game.now solved.now promises.now (key_of x) }
+    ensures { IfOk result (λ v. v.items ≡ map (into_row (set_at (game_of game.now) promises.now) mems.now) places.now) }
 {
     let mut rows = Vec::new(alloc);
     for placed in places {
-        rows.push(into_row(game, solved, mems, placed))?;
+        rows.push(into_row(game, solved, promises, mems, placed))?;
     }
     Ok(rows)
 }
 
 /// The row of a return: the memory behind the call, by the exit state with which the function ends.
-fn back_row(game: &Game, mems: &[(StateId, StateSet)], placed: &Placed, exit: &Key) -> BackRow
+fn back_row(game: &Game, mems: &[(StateId, usize)], placed: &Placed, exit: &Key) -> BackRow
     requires mems { AreMemories mems.now }
     requires state { IsState (game_of game.now) placed.now.state }
     requires exit { IsState (game_of game.now) exit.now.state }
@@ -253,7 +311,7 @@ fn back_row(game: &Game, mems: &[(StateId, StateSet)], placed: &Placed, exit: &K
 pub(crate) fn back_rows(
     alloc: Global,
     game: &Game,
-    mems: &[(StateId, StateSet)],
+    mems: &[(StateId, usize)],
     returns: &[(Placed, Key)],
 ) -> Result<Vec<BackRow>, AllocError>
     requires mems { AreMemories mems.now }

@@ -1,13 +1,13 @@
 //! Keys by what stands at their positions, in the order of rows.
 
-ghost use Rattle.std.specs.Prelude.{◌≡◌, map, filter_map, slice_get, length, Contains, IfOk, OnOk};
+ghost use Rattle.std.specs.Prelude.{◌≡◌, true, Some, map, filter_map, slice_get, Contains, IfOk, OnOk};
 ghost use Rattle.cw_fixpoint.specs.Closures.{Exactly};
 ghost use Rattle.cw_product.specs.Moves.{IsPosition};
 ghost use Rattle.cw_product.specs.Product.{game_of};
-ghost use Rattle.cw_lazy_table.specs.Places.{placed_cmp, part_in, placed_of, memory_of, put_placed, return_cmp, return_of, put_return};
+ghost use Rattle.cw_lazy_table.specs.Places.{placed_cmp, part_in, placed_of, memory_of, IsPut, AreOf, put_placed, return_cmp, return_of, put_return};
 
 use crate::key::Key;
-use cw_core::{PosId, StateId, StateSet};
+use cw_core::{PosId, StateId};
 use cw_fixpoint::ascending;
 use cw_game::Spot;
 use cw_product::Game;
@@ -24,26 +24,53 @@ pub(crate) enum Kind {
 }
 
 /// A key where something with rows stands: by seam, part (the stage of what is asked, 1 for a split call, else 0),
-/// state, promise and position.
+/// state, promise (by its number) and position.
 #[derive(Clone, Copy, Drop, PartialEq, Eq, PartialOrd, Ord)]
 pub(crate) struct Placed {
     pub(crate) seam: u32,
     pub(crate) part: u8,
     pub(crate) state: u16,
-    pub(crate) promise: StateSet,
+    pub(crate) promise: usize,
     pub(crate) pos: u32,
 }
 
-/// The state and the promise of each key.
-pub(crate) fn memories_of(
-    alloc: Global,
-    keys: &[Key],
-) -> Result<Vec<(StateId, StateSet)>, AllocError>
-    ensures { IfOk result (λ v. v.items ≡ map memory_of keys.now) }
+/// Whether a memory stands at a place.
+pub(crate) fn stands(mems: &[(StateId, usize)], at: usize, memory: (StateId, usize)) -> bool
+    ensures { result ≡ true → slice_get mems.now at ≡ Some memory }
+{
+    match mems.get(at) {
+        None => false,
+        Some(there) => *there == memory,
+    }
+}
+
+/// Puts a memory, but where it stands at a place already, or first. The place behind it.
+fn put_memory(
+    memories: &mut Vec<(StateId, usize)>,
+    near: usize,
+    memory: (StateId, usize),
+) -> Result<usize, AllocError>
+    ensures { OnOk result (IsPut memories.old.items memory memories.new.items) }
+{
+    if stands(memories, near, memory) {
+        return Ok(near.saturating_add(1));
+    }
+    if stands(memories, 0, memory) {
+        return Ok(1);
+    }
+    memories.push(memory)?;
+    Ok(memories.len())
+}
+
+/// The states and the promises of keys. The keys of a position ascend by state, and have mostly the memories of the position before, so few
+/// stand here more than once.
+pub(crate) fn memories_of(alloc: Global, keys: &[Key]) -> Result<Vec<(StateId, usize)>, AllocError>
+    ensures { IfOk result (λ v. AreOf (map memory_of keys.now) v.items) }
 {
     let mut memories = Vec::new(alloc);
+    let mut near: usize = 0;
     for key in keys {
-        memories.push((StateId(key.state), key.promise))?;
+        near = put_memory(&mut memories, near, (StateId(key.state), key.promise))?;
     }
     Ok(memories)
 }

@@ -1,6 +1,6 @@
 //! The lazy table of a solved game.
 
-ghost use Rattle.std.specs.Prelude.{◌≡◌, ◌<◌, ◌≤◌, None, length, nat_lt, IfOk, IfErr, IfSome, IfNone};
+ghost use Rattle.std.specs.Prelude.{◌≡◌, ◌<◌, ◌≤◌, None, length, map, nat_lt, IfOk, IfErr, IfSome, IfNone};
 ghost use Rattle.cw_certs.specs.Ascending.{try_cmp, at_cmp, open_cmp, into_cmp, back_cmp, Ascends};
 ghost use Rattle.cw_certs.specs.Tables.{Table};
 ghost use Rattle.cw_fixpoint.specs.Closures.{Exactly};
@@ -12,12 +12,15 @@ ghost use Rattle.cw_solve.specs.Contexts.{HeightIs};
 ghost use Rattle.cw_product.specs.Made.{IsMade};
 ghost use Rattle.cw_lazy_table.specs.Choices.{start_of, IsReady};
 ghost use Rattle.cw_lazy_table.specs.Lazy.{IsTryRow, IsLabelRow, IsOpenRow, IsCloseRow, IsIntoRow, IsBackRow, IsLazyTable, table_rows};
-ghost use Rattle.cw_lazy_table.specs.Tabled.{AreLive, AreReturns, AreAllMemories};
+ghost use Rattle.cw_lazy_table.specs.Numbered.{small, whole_memory, ArePromises, AreNumbered, ArePaired, AreKept};
 
 use crate::follow::Choices;
 use crate::key::Key;
-use crate::lists::{at_rows, back_rows, into_rows, live_rows, mem, open_rows, try_rows};
+use crate::lists::{
+    at_rows, back_rows, into_rows, live_rows, mem, open_rows, try_rows, whole_memories,
+};
 use crate::place::{Kind, memories_of, places, returns};
+use crate::promises::{promise_number, promises_of};
 use cw_certs::{AtRow, BackRow, IntoRow, OpenRow, TryRow, WeaverCert};
 use cw_core::{StateId, StateSet};
 use cw_fixpoint::{joined_up_to, ordered};
@@ -26,15 +29,16 @@ use cw_solve::{Solved, TableFault};
 use std::alloc::{AllocError, Global};
 
 /// The key at which the program begins.
-fn start_key(game: &Game, solved: &Solved) -> Key
+fn start_key(game: &Game, solved: &Solved, promises: &[StateSet]) -> Key
     requires ready { IsReady game.now solved.now }
-    ensures { result ≡ start_of (game_of game.now) }
+    requires promises { ArePromises (game_of game.now) promises.now }
+    ensures { result ≡ small promises.now (start_of (game_of game.now)) }
 {
     let (pos, state) = game.start();
     Key {
         pos: pos.0,
         state: state.0,
-        promise: solved.context(0).promise,
+        promise: promise_number(promises, &solved.context(0).promise),
     }
 }
 
@@ -43,29 +47,32 @@ fn tries(
     alloc: Global,
     game: &Game,
     solved: &Solved,
-    mems: &[(StateId, StateSet)],
+    promises: &[StateSet],
+    mems: &[(StateId, usize)],
     keys: &[Key],
 ) -> Result<Vec<TryRow>, AllocError>
     requires ready { IsReady game.now solved.now }
-    requires live { AreLive game.now keys.now }
-    requires mems { AreAllMemories (game_of game.now) mems.now }
-    ensures { IfOk result (λ v. Exactly try_cmp (IsTryRow (game_of game.now) mems.now) v.items) }
+    requires live { AreNumbered game.now promises.now keys.now }
+    requires mems { AreKept (game_of game.now) promises.now mems.now }
+    ensures { IfOk result (λ v. Exactly try_cmp (IsTryRow (game_of game.now) (map (whole_memory promises.now) mems.now)) v.items) }
 {
     let asked = places(alloc, game, Kind::Asked, keys)?;
-    try_rows(alloc, game, solved, mems, &asked)
+    try_rows(alloc, game, solved, promises, mems, &asked)
 }
 
 /// The rows of labels.
 fn labels(
     alloc: Global,
     game: &Game,
-    mems: &[(StateId, StateSet)],
+    promises: &[StateSet],
+    mems: &[(StateId, usize)],
     keys: &[Key],
 ) -> Result<Vec<AtRow>, AllocError>
-    requires live { AreLive game.now keys.now }
-    requires mems { AreAllMemories (game_of game.now) mems.now }
-    ensures { IfOk result (λ v. Exactly at_cmp (IsLabelRow (game_of game.now) mems.now) v.items) }
+    requires live { AreNumbered game.now promises.now keys.now }
+    requires mems { AreKept (game_of game.now) promises.now mems.now }
+    ensures { IfOk result (λ v. Exactly at_cmp (IsLabelRow (game_of game.now) (map (whole_memory promises.now) mems.now)) v.items) }
 {
+    let _ = promises;
     let labels = places(alloc, game, Kind::Label, keys)?;
     at_rows(alloc, game, mems, &labels)
 }
@@ -74,13 +81,15 @@ fn labels(
 fn opens(
     alloc: Global,
     game: &Game,
-    mems: &[(StateId, StateSet)],
+    promises: &[StateSet],
+    mems: &[(StateId, usize)],
     keys: &[Key],
 ) -> Result<Vec<OpenRow>, AllocError>
-    requires live { AreLive game.now keys.now }
-    requires mems { AreAllMemories (game_of game.now) mems.now }
-    ensures { IfOk result (λ v. Exactly open_cmp (IsOpenRow (game_of game.now) mems.now) v.items) }
+    requires live { AreNumbered game.now promises.now keys.now }
+    requires mems { AreKept (game_of game.now) promises.now mems.now }
+    ensures { IfOk result (λ v. Exactly open_cmp (IsOpenRow (game_of game.now) (map (whole_memory promises.now) mems.now)) v.items) }
 {
+    let _ = promises;
     let opens = places(alloc, game, Kind::Open, keys)?;
     open_rows(alloc, game, mems, &opens)
 }
@@ -89,13 +98,15 @@ fn opens(
 fn closes(
     alloc: Global,
     game: &Game,
-    mems: &[(StateId, StateSet)],
+    promises: &[StateSet],
+    mems: &[(StateId, usize)],
     keys: &[Key],
 ) -> Result<Vec<AtRow>, AllocError>
-    requires live { AreLive game.now keys.now }
-    requires mems { AreAllMemories (game_of game.now) mems.now }
-    ensures { IfOk result (λ v. Exactly at_cmp (IsCloseRow (game_of game.now) mems.now) v.items) }
+    requires live { AreNumbered game.now promises.now keys.now }
+    requires mems { AreKept (game_of game.now) promises.now mems.now }
+    ensures { IfOk result (λ v. Exactly at_cmp (IsCloseRow (game_of game.now) (map (whole_memory promises.now) mems.now)) v.items) }
 {
+    let _ = promises;
     let closes = places(alloc, game, Kind::Close, keys)?;
     at_rows(alloc, game, mems, &closes)
 }
@@ -105,29 +116,32 @@ fn calls(
     alloc: Global,
     game: &Game,
     solved: &Solved,
-    mems: &[(StateId, StateSet)],
+    promises: &[StateSet],
+    mems: &[(StateId, usize)],
     keys: &[Key],
 ) -> Result<Vec<IntoRow>, AllocError>
     requires ready { IsReady game.now solved.now }
-    requires live { AreLive game.now keys.now }
-    requires mems { AreAllMemories (game_of game.now) mems.now }
-    ensures { IfOk result (λ v. Exactly into_cmp (IsIntoRow (game_of game.now) mems.now) v.items) }
+    requires live { AreNumbered game.now promises.now keys.now }
+    requires mems { AreKept (game_of game.now) promises.now mems.now }
+    ensures { IfOk result (λ v. Exactly into_cmp (IsIntoRow (game_of game.now) (map (whole_memory promises.now) mems.now)) v.items) }
 {
     let calls = places(alloc, game, Kind::Call, keys)?;
-    into_rows(alloc, game, solved, mems, &calls)
+    into_rows(alloc, game, solved, promises, mems, &calls)
 }
 
 /// The rows of returns.
 fn backs(
     alloc: Global,
     game: &Game,
-    mems: &[(StateId, StateSet)],
+    promises: &[StateSet],
+    mems: &[(StateId, usize)],
     pairs: &[(Key, Key)],
 ) -> Result<Vec<BackRow>, AllocError>
-    requires returns { AreReturns game.now pairs.now }
-    requires mems { AreAllMemories (game_of game.now) mems.now }
-    ensures { IfOk result (λ v. Exactly back_cmp (IsBackRow (game_of game.now) mems.now) v.items) }
+    requires returns { ArePaired game.now promises.now pairs.now }
+    requires mems { AreKept (game_of game.now) promises.now mems.now }
+    ensures { IfOk result (λ v. Exactly back_cmp (IsBackRow (game_of game.now) (map (whole_memory promises.now) mems.now)) v.items) }
 {
+    let _ = promises;
     let returns = returns(alloc, game, pairs)?;
     back_rows(alloc, game, mems, &returns)
 }
@@ -137,29 +151,31 @@ fn table_of(
     alloc: Global,
     game: &Game,
     solved: &Solved,
+    promises: &[StateSet],
     keys: &[Key],
     pairs: &[(Key, Key)],
 ) -> Result<WeaverCert, AllocError>
     requires ready { IsReady game.now solved.now }
-    requires live { AreLive game.now keys.now }
-    requires returns { AreReturns game.now pairs.now }
+    requires live { AreNumbered game.now promises.now keys.now }
+    requires returns { ArePaired game.now promises.now pairs.now }
     ensures { IfOk result (λ t. IsLazyTable (game_of game.now) t) }
 {
     let all = memories_of(alloc, keys)?;
     let found = ordered(alloc, &all)?;
     let mems = found.as_slice();
-    let start = start_key(game, solved);
+    let named = whole_memories(alloc, promises, mems)?;
+    let start = start_key(game, solved, promises);
     let start = mem(mems, StateId(start.state), start.promise);
     let live = live_rows(alloc, mems, keys)?;
-    let tries = tries(alloc, game, solved, mems, keys)?;
-    let labels = labels(alloc, game, mems, keys)?;
-    let opens = opens(alloc, game, mems, keys)?;
-    let closes = closes(alloc, game, mems, keys)?;
-    let calls = calls(alloc, game, solved, mems, keys)?;
-    let backs = backs(alloc, game, mems, pairs)?;
+    let tries = tries(alloc, game, solved, promises, mems, keys)?;
+    let labels = labels(alloc, game, promises, mems, keys)?;
+    let opens = opens(alloc, game, promises, mems, keys)?;
+    let closes = closes(alloc, game, promises, mems, keys)?;
+    let calls = calls(alloc, game, solved, promises, mems, keys)?;
+    let backs = backs(alloc, game, promises, mems, pairs)?;
     let states = game.states();
     match WeaverCert::make(
-        states, start, found, live, tries, labels, opens, closes, calls, backs,
+        states, start, named, live, tries, labels, opens, closes, calls, backs,
     ) {
         Some(table) => Ok(table),
         None => unreachable!(),
@@ -192,11 +208,25 @@ fn table_within(
     ensures few { IfOk result (λ o. IfSome o (λ t. table_rows t ≤ 65536)) }
     ensures many { IfOk result (λ o. IfNone o ((t : Table) → IsLazyTable (game_of game.now) t → 65536 < table_rows t)) }
 {
-    let start = start_key(game, solved);
-    match joined_up_to(alloc, &Choices { game, solved }, start, 65536)? {
+    let found = promises_of(alloc, game, solved)?;
+    let promises = found.as_slice();
+    let start = start_key(game, solved, promises);
+    let choices = Choices {
+        game,
+        solved,
+        promises,
+    };
+    match joined_up_to(alloc, &choices, start, 65536)? {
         None => Ok(None),
         Some(joined) => {
-            let table = table_of(alloc, game, solved, &joined.members, &joined.pairs)?;
+            let table = table_of(
+                alloc,
+                game,
+                solved,
+                promises,
+                &joined.members,
+                &joined.pairs,
+            )?;
             if is_long(&table) {
                 Ok(None)
             } else {

@@ -5,4 +5,4 @@ use Rattle.cw_lazy_table.specs.Choices.{returning, is_kept_back}
 use Rattle.cw_lazy_table.proofs.choice.promised.Given as goal
 
 abbrev pub invariant-loop-x : goal.invariant-loop-x
-invariant-loop-x l = (x : ℕ) → has l.set x ≡ (nat_lt x l.x && is_kept_back (game_of l.game) l.key.state l.key.promise (returning l.back.0 l.split) x)
+invariant-loop-x l = (x : ℕ) → has l.set x ≡ (nat_lt x l.x && is_kept_back (game_of l.game) l.call.0 l.promise (returning l.back.0 l.split) x)

@@ -1,7 +1,8 @@
 use Rattle.std.proofs.Common.{◌≡◌, map, take}
 use Rattle.cw_product.specs.Product.{game_of}
+use Rattle.cw_lazy_table.specs.Numbered.{set_at}
 use Rattle.cw_lazy_table.specs.Rowing.{into_row}
 use Rattle.cw_lazy_table.proofs.lists.into_rows.Given as goal
 
 abbrev pub invariant-loop-placed : goal.invariant-loop-placed
-invariant-loop-placed l = l.rows.items ≡ map (into_row (game_of l.game) l.mems) (take l.placed-index l.places)
+invariant-loop-placed l = l.rows.items ≡ map (into_row (set_at (game_of l.game) l.promises) l.mems) (take l.placed-index l.places)

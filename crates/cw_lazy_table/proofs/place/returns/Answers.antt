@@ -1,23 +1,22 @@
-use Rattle.std.proofs.Common.{List, ◌∙◌, refl, sym, subst, []}
+use Rattle.std.proofs.Common.{List, ◌∙◌, refl, subst, []}
 use Rattle.std.specs.Prelude.{IfOk, Contains}
 use Rattle.cw_fixpoint.specs.Closures.{Exactly}
 use Rattle.cw_product.specs.Product.{game_of}
 use Rattle.cw_lazy_table.specs.declared.key.Key.{Key}
-use Rattle.cw_lazy_table.specs.declared.place.Kind.TheVariants as kind
 use Rattle.cw_lazy_table.specs.declared.place.Placed.{Placed}
-use Rattle.cw_lazy_table.specs.Places.{placed_of, return_cmp, return_of}
-use Rattle.cw_lazy_table.proofs.Ascending.{filtered_more, at_end}
+use Rattle.cw_lazy_table.specs.Places.{return_cmp, return_of}
+use Rattle.cw_lazy_table.proofs.Ascending.{filtered_at, at_end}
+use Rattle.cw_lazy_table.proofs.Finding.{contains_at}
 use Rattle.cw_lazy_table.proofs.Placing.{put_return_is}
 use Rattle.cw_lazy_table.proofs.place.returns.Goals as goal
 
 pub place-requires : goal.place-requires
-place-requires c = c.requires c.pair-item.result (c.loop-pair.pair-index, c.loop-pair-test.true, sym c.pair-item.is)
+place-requires c = c.requires _ (contains_at c.args.pairs.now c.loop-pair.pair-index _ c.loop-pair-test.true)
 
 pub loop-pair-preserved : goal.loop-pair-preserved
 loop-pair-preserved c =
-    filtered_more (return_of (game_of c.args.game.now)) c.args.pairs.now c.loop-pair.pair-index c.pair-item.result [] c.loop-pair.found.items c.put_return.new.returns.items
-    c.loop-pair-test.true c.pair-item.is c.loop-pair.invariant
-    (c.in_ok-put_return.ensures ∙ put_return_is c.loop-pair.found.items c.place.result (placed_of (game_of c.args.game.now) kind.Call c.pair-item.result.0) c.pair-item.result.1 c.place.ensures)
+    filtered_at (return_of (game_of c.args.game.now)) c.args.pairs.now c.loop-pair.pair-index _ [] c.loop-pair.found.items c.put_return.new.returns.items c.loop-pair-test.true c.loop-pair.invariant
+    (c.in_ok-put_return.ensures ∙ put_return_is c.loop-pair.found.items c.place.result _ _ c.place.ensures)
 
 pub returns : goal.returns
 returns c =

@@ -1,83 +1,102 @@
-use Rattle.std.proofs.Common.{sym, subst, ap}
+use Rattle.std.proofs.Common.{map, sym, subst, ap}
 use Rattle.cw_core.specs.declared.ids.MemId.{MemId}
 use Rattle.cw_certs.specs.Tables.{Table}
 use Rattle.cw_game.specs.Pairs.{all_states}
 use Rattle.cw_product.specs.Product.{game_of}
 use Rattle.cw_lazy_table.specs.declared.key.Key.{Key}
 use Rattle.cw_lazy_table.specs.Lazy.{Means, IsLazyTable}
-use Rattle.cw_lazy_table.proofs.Tabled.{in_order, mems_of, start_means, live_are, lazy_of, lazy_ascends}
+use Rattle.cw_lazy_table.specs.Numbered.{whole_memory}
+use Rattle.cw_lazy_table.proofs.Keeps.{mems_of, start_means, live_are}
+use Rattle.cw_lazy_table.proofs.Tabled.{lazy_of, lazy_ascends}
 use Rattle.cw_lazy_table.proofs.table.table_of.Goals as goal
 
 pub mem-start-requires : goal.mem-start-requires
 mem-start-requires c = record {
-  mems = in_order (game_of c.args.game.now) c.as_slice-mems.result.now
-      (mems_of c.args.game.now c.args.keys.now c.requires.live c.in_ok-all.all.items c.deref.result.now c.in_ok-found.found.items c.as_slice-mems.result.now c.deref.ensures.value
-      c.in_ok-all.ensures c.in_ok-found.ensures c.as_slice-mems.ensures.value);
+  mems = (mems_of c.args.game.now c.args.promises.now c.args.keys.now c.requires.live c.in_ok-all.all.items c.deref.result.now c.in_ok-found.found.items c.as_slice-mems.result.now
+      c.deref.ensures.value c.in_ok-all.ensures c.in_ok-found.ensures c.as_slice-mems.ensures.value).order;
 }
 
 pub live_rows-requires : goal.live_rows-requires
 live_rows-requires c = record {
-  mems = in_order (game_of c.args.game.now) c.as_slice-mems.result.now
-      (mems_of c.args.game.now c.args.keys.now c.requires.live c.in_ok-all.all.items c.deref.result.now c.in_ok-found.found.items c.as_slice-mems.result.now c.deref.ensures.value
-      c.in_ok-all.ensures c.in_ok-found.ensures c.as_slice-mems.ensures.value);
+  mems = (mems_of c.args.game.now c.args.promises.now c.args.keys.now c.requires.live c.in_ok-all.all.items c.deref.result.now c.in_ok-found.found.items c.as_slice-mems.result.now
+      c.deref.ensures.value c.in_ok-all.ensures c.in_ok-found.ensures c.as_slice-mems.ensures.value).order;
 }
 
 pub tries-requires-clause-mems : goal.tries-requires-clause-mems
-tries-requires-clause-mems c = (mems_of c.args.game.now c.args.keys.now c.requires.live c.in_ok-all.all.items c.deref.result.now c.in_ok-found.found.items c.as_slice-mems.result.now
+tries-requires-clause-mems c =
+    (mems_of c.args.game.now c.args.promises.now c.args.keys.now c.requires.live c.in_ok-all.all.items c.deref.result.now c.in_ok-found.found.items c.as_slice-mems.result.now
     c.deref.ensures.value c.in_ok-all.ensures c.in_ok-found.ensures c.as_slice-mems.ensures.value)
 
 pub labels-requires-clause-mems : goal.labels-requires-clause-mems
-labels-requires-clause-mems c = (mems_of c.args.game.now c.args.keys.now c.requires.live c.in_ok-all.all.items c.deref.result.now c.in_ok-found.found.items c.as_slice-mems.result.now
+labels-requires-clause-mems c =
+    (mems_of c.args.game.now c.args.promises.now c.args.keys.now c.requires.live c.in_ok-all.all.items c.deref.result.now c.in_ok-found.found.items c.as_slice-mems.result.now
     c.deref.ensures.value c.in_ok-all.ensures c.in_ok-found.ensures c.as_slice-mems.ensures.value)
 
 pub opens-requires-clause-mems : goal.opens-requires-clause-mems
-opens-requires-clause-mems c = (mems_of c.args.game.now c.args.keys.now c.requires.live c.in_ok-all.all.items c.deref.result.now c.in_ok-found.found.items c.as_slice-mems.result.now
+opens-requires-clause-mems c =
+    (mems_of c.args.game.now c.args.promises.now c.args.keys.now c.requires.live c.in_ok-all.all.items c.deref.result.now c.in_ok-found.found.items c.as_slice-mems.result.now
     c.deref.ensures.value c.in_ok-all.ensures c.in_ok-found.ensures c.as_slice-mems.ensures.value)
 
 pub closes-requires-clause-mems : goal.closes-requires-clause-mems
-closes-requires-clause-mems c = (mems_of c.args.game.now c.args.keys.now c.requires.live c.in_ok-all.all.items c.deref.result.now c.in_ok-found.found.items c.as_slice-mems.result.now
+closes-requires-clause-mems c =
+    (mems_of c.args.game.now c.args.promises.now c.args.keys.now c.requires.live c.in_ok-all.all.items c.deref.result.now c.in_ok-found.found.items c.as_slice-mems.result.now
     c.deref.ensures.value c.in_ok-all.ensures c.in_ok-found.ensures c.as_slice-mems.ensures.value)
 
 pub calls-requires-clause-mems : goal.calls-requires-clause-mems
-calls-requires-clause-mems c = (mems_of c.args.game.now c.args.keys.now c.requires.live c.in_ok-all.all.items c.deref.result.now c.in_ok-found.found.items c.as_slice-mems.result.now
+calls-requires-clause-mems c =
+    (mems_of c.args.game.now c.args.promises.now c.args.keys.now c.requires.live c.in_ok-all.all.items c.deref.result.now c.in_ok-found.found.items c.as_slice-mems.result.now
     c.deref.ensures.value c.in_ok-all.ensures c.in_ok-found.ensures c.as_slice-mems.ensures.value)
 
 pub backs-requires-clause-mems : goal.backs-requires-clause-mems
-backs-requires-clause-mems c = (mems_of c.args.game.now c.args.keys.now c.requires.live c.in_ok-all.all.items c.deref.result.now c.in_ok-found.found.items c.as_slice-mems.result.now
+backs-requires-clause-mems c =
+    (mems_of c.args.game.now c.args.promises.now c.args.keys.now c.requires.live c.in_ok-all.all.items c.deref.result.now c.in_ok-found.found.items c.as_slice-mems.result.now
     c.deref.ensures.value c.in_ok-all.ensures c.in_ok-found.ensures c.as_slice-mems.ensures.value)
 
 pub unreachable-requires : goal.unreachable-requires
 unreachable-requires c =
-    let lazy = lazy_of (game_of c.args.game.now) c.states-states.result c.mem-start.result c.as_slice-mems.result.now c.in_ok-found.found.items c.in_ok-live.live.items
+    let lazy = lazy_of (game_of c.args.game.now) c.states-states.result c.mem-start.result (map (whole_memory c.args.promises.now) c.as_slice-mems.result.now)
+    c.in_ok-named.named.items c.in_ok-live.live.items
     c.in_ok-tries.tries.items c.in_ok-labels.labels.items c.in_ok-opens.opens.items
-    c.in_ok-closes.closes.items c.in_ok-calls.calls.items c.in_ok-backs.backs.items c.as_slice-mems.ensures.value c.states-states.ensures
-    (subst (λ (m : MemId). Means c.as_slice-mems.result.now m.0 (game_of c.args.game.now).states.start (all_states (game_of c.args.game.now))) (sym c.mem-start.ensures)
-    (start_means c.args.game.now c.args.keys.now c.requires.live c.as_slice-mems.result.now
-    (mems_of c.args.game.now c.args.keys.now c.requires.live c.in_ok-all.all.items c.deref.result.now c.in_ok-found.found.items c.as_slice-mems.result.now c.deref.ensures.value
+    c.in_ok-closes.closes.items c.in_ok-calls.calls.items c.in_ok-backs.backs.items (sym c.in_ok-named.ensures) c.states-states.ensures
+    (subst (λ (m : MemId). Means (map (whole_memory c.args.promises.now) c.as_slice-mems.result.now) m.0 (game_of c.args.game.now).states.start (all_states (game_of c.args.game.now)))
+    (sym c.mem-start.ensures)
+    (start_means c.args.game.now c.args.promises.now c.args.keys.now c.requires.live c.as_slice-mems.result.now
+    (mems_of c.args.game.now c.args.promises.now c.args.keys.now c.requires.live c.in_ok-all.all.items c.deref.result.now c.in_ok-found.found.items c.as_slice-mems.result.now c.deref.ensures.value
     c.in_ok-all.ensures c.in_ok-found.ensures c.as_slice-mems.ensures.value) c.start_key-start.result.state c.start_key-start.result.promise
     (ap (λ (k : Key). k.state) c.start_key-start.ensures) (ap (λ (k : Key). k.promise) c.start_key-start.ensures)))
-    (mems_of c.args.game.now c.args.keys.now c.requires.live c.in_ok-all.all.items c.deref.result.now c.in_ok-found.found.items c.as_slice-mems.result.now c.deref.ensures.value
-    c.in_ok-all.ensures c.in_ok-found.ensures c.as_slice-mems.ensures.value)
-    (live_are c.args.game.now c.args.keys.now c.requires.live c.as_slice-mems.result.now
-    (mems_of c.args.game.now c.args.keys.now c.requires.live c.in_ok-all.all.items c.deref.result.now c.in_ok-found.found.items c.as_slice-mems.result.now c.deref.ensures.value
+    (mems_of c.args.game.now c.args.promises.now c.args.keys.now c.requires.live c.in_ok-all.all.items c.deref.result.now c.in_ok-found.found.items c.as_slice-mems.result.now c.deref.ensures.value
+    c.in_ok-all.ensures c.in_ok-found.ensures c.as_slice-mems.ensures.value).all
+    (live_are c.args.game.now c.args.promises.now c.args.keys.now c.requires.live c.as_slice-mems.result.now
+    (mems_of c.args.game.now c.args.promises.now c.args.keys.now c.requires.live c.in_ok-all.all.items c.deref.result.now c.in_ok-found.found.items c.as_slice-mems.result.now c.deref.ensures.value
     c.in_ok-all.ensures c.in_ok-found.ensures c.as_slice-mems.ensures.value) c.in_ok-live.live.items c.in_ok-live.ensures)
     c.in_ok-tries.ensures c.in_ok-labels.ensures c.in_ok-opens.ensures c.in_ok-closes.ensures c.in_ok-calls.ensures c.in_ok-backs.ensures in
     c.in-None.ensures.refused (lazy_ascends (game_of c.args.game.now) _ lazy)
 
 pub returns : goal.returns
 returns c =
-    let lazy = lazy_of (game_of c.args.game.now) c.states-states.result c.mem-start.result c.as_slice-mems.result.now c.in_ok-found.found.items c.in_ok-live.live.items
+    let lazy = lazy_of (game_of c.args.game.now) c.states-states.result c.mem-start.result (map (whole_memory c.args.promises.now) c.as_slice-mems.result.now)
+    c.in_ok-named.named.items c.in_ok-live.live.items
     c.in_ok-tries.tries.items c.in_ok-labels.labels.items c.in_ok-opens.opens.items
-    c.in_ok-closes.closes.items c.in_ok-calls.calls.items c.in_ok-backs.backs.items c.as_slice-mems.ensures.value c.states-states.ensures
-    (subst (λ (m : MemId). Means c.as_slice-mems.result.now m.0 (game_of c.args.game.now).states.start (all_states (game_of c.args.game.now))) (sym c.mem-start.ensures)
-    (start_means c.args.game.now c.args.keys.now c.requires.live c.as_slice-mems.result.now
-    (mems_of c.args.game.now c.args.keys.now c.requires.live c.in_ok-all.all.items c.deref.result.now c.in_ok-found.found.items c.as_slice-mems.result.now c.deref.ensures.value
+    c.in_ok-closes.closes.items c.in_ok-calls.calls.items c.in_ok-backs.backs.items (sym c.in_ok-named.ensures) c.states-states.ensures
+    (subst (λ (m : MemId). Means (map (whole_memory c.args.promises.now) c.as_slice-mems.result.now) m.0 (game_of c.args.game.now).states.start (all_states (game_of c.args.game.now)))
+    (sym c.mem-start.ensures)
+    (start_means c.args.game.now c.args.promises.now c.args.keys.now c.requires.live c.as_slice-mems.result.now
+    (mems_of c.args.game.now c.args.promises.now c.args.keys.now c.requires.live c.in_ok-all.all.items c.deref.result.now c.in_ok-found.found.items c.as_slice-mems.result.now c.deref.ensures.value
     c.in_ok-all.ensures c.in_ok-found.ensures c.as_slice-mems.ensures.value) c.start_key-start.result.state c.start_key-start.result.promise
     (ap (λ (k : Key). k.state) c.start_key-start.ensures) (ap (λ (k : Key). k.promise) c.start_key-start.ensures)))
-    (mems_of c.args.game.now c.args.keys.now c.requires.live c.in_ok-all.all.items c.deref.result.now c.in_ok-found.found.items c.as_slice-mems.result.now c.deref.ensures.value
-    c.in_ok-all.ensures c.in_ok-found.ensures c.as_slice-mems.ensures.value)
-    (live_are c.args.game.now c.args.keys.now c.requires.live c.as_slice-mems.result.now
-    (mems_of c.args.game.now c.args.keys.now c.requires.live c.in_ok-all.all.items c.deref.result.now c.in_ok-found.found.items c.as_slice-mems.result.now c.deref.ensures.value
+    (mems_of c.args.game.now c.args.promises.now c.args.keys.now c.requires.live c.in_ok-all.all.items c.deref.result.now c.in_ok-found.found.items c.as_slice-mems.result.now c.deref.ensures.value
+    c.in_ok-all.ensures c.in_ok-found.ensures c.as_slice-mems.ensures.value).all
+    (live_are c.args.game.now c.args.promises.now c.args.keys.now c.requires.live c.as_slice-mems.result.now
+    (mems_of c.args.game.now c.args.promises.now c.args.keys.now c.requires.live c.in_ok-all.all.items c.deref.result.now c.in_ok-found.found.items c.as_slice-mems.result.now c.deref.ensures.value
     c.in_ok-all.ensures c.in_ok-found.ensures c.as_slice-mems.ensures.value) c.in_ok-live.live.items c.in_ok-live.ensures)
     c.in_ok-tries.ensures c.in_ok-labels.ensures c.in_ok-opens.ensures c.in_ok-closes.ensures c.in_ok-calls.ensures c.in_ok-backs.ensures in
     subst (λ (t : Table). IsLazyTable (game_of c.args.game.now) t) (sym c.in-Some.ensures.made) lazy
+
+pub whole_memories-requires : goal.whole_memories-requires
+whole_memories-requires c = record {
+  within = (mems_of c.args.game.now c.args.promises.now c.args.keys.now c.requires.live c.in_ok-all.all.items c.deref.result.now c.in_ok-found.found.items c.as_slice-mems.result.now
+      c.deref.ensures.value c.in_ok-all.ensures c.in_ok-found.ensures c.as_slice-mems.ensures.value).within;
+}
+
+pub start_key-start-requires-clause-promises : goal.start_key-start-requires-clause-promises
+start_key-start-requires-clause-promises c = c.requires.live.promises

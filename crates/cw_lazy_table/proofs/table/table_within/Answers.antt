@@ -4,46 +4,52 @@ use Rattle.cw_fixpoint.specs.Members.{HaveMore, IsMember, IsPair, pair_cmp}
 use Rattle.cw_certs.specs.Tables.{Table}
 use Rattle.cw_product.specs.Product.{game_of}
 use Rattle.cw_lazy_table.specs.declared.key.Key.{Key}
-use Rattle.cw_lazy_table.specs.Choices.{choices}
 use Rattle.cw_lazy_table.specs.Lazy.{table_rows}
+use Rattle.cw_lazy_table.specs.Numbered.{numbered, ArePromises}
 use Rattle.cw_lazy_table.specs.Places.{key_cmp}
 use Rattle.cw_lazy_table.proofs.Counting.{many_members}
+use Rattle.cw_lazy_table.proofs.Numbering.{start_take, are_numbered, are_paired, more_whole}
 use Rattle.cw_lazy_table.proofs.Sameness.{lazy_is_one}
-use Rattle.cw_lazy_table.proofs.Starting.{start_can}
 use Rattle.cw_lazy_table.proofs.table.table_within.Goals as goal
 
+pub start_key-start-requires-clause-promises : goal.start_key-start-requires-clause-promises
+start_key-start-requires-clause-promises c = subst (ArePromises (game_of c.args.game.now)) (sym c.as_slice-promises.ensures.value) c.in_ok-found.ensures
+
 pub joined_up_to-requires-clause-can : goal.joined_up_to-requires-clause-can
-joined_up_to-requires-clause-can c = start_can c.args.game.now c.args.solved.now c.requires.ready c.start_key-start.result c.start_key-start.ensures
+joined_up_to-requires-clause-can c =
+    start_take c.args.game.now c.args.solved.now c.requires.ready c.as_slice-promises.result.now
+    (subst (ArePromises (game_of c.args.game.now)) (sym c.as_slice-promises.ensures.value) c.in_ok-found.ensures) c.start_key-start.result c.start_key-start.ensures
 
 pub returns-in-None-clause-many : goal.returns-in-None-clause-many
 returns-in-None-clause-many c =
     let g = game_of c.args.game.now in
-    let more : HaveMore key_cmp (choices (game_of c.args.game.now)) c.start_key-start.result 65536 = search rules in
-    many_members g (length c.args.game.now.graph.parts.items) c.requires.ready.begins c.requires.ready.low 65536
-    (subst (λ (k : Key). HaveMore key_cmp (choices (game_of c.args.game.now)) k 65536) c.start_key-start.ensures more)
+    let es = c.as_slice-promises.result.now in
+    let functions = length c.args.game.now.graph.parts.items in
+    let more : HaveMore key_cmp (numbered (game_of c.args.game.now) c.as_slice-promises.result.now) c.start_key-start.result 65536 = search rules in
+    many_members g functions c.requires.ready.begins c.requires.ready.low 65536
+    (more_whole g functions c.requires.ready.begins c.requires.ready.low es
+    (subst (ArePromises (game_of c.args.game.now)) (sym c.as_slice-promises.ensures.value) c.in_ok-found.ensures) 65536
+    (subst (λ (k : Key). HaveMore key_cmp (numbered (game_of c.args.game.now) c.as_slice-promises.result.now) k 65536) c.start_key-start.ensures more))
 
 pub table_of-requires-clause-live : goal.table_of-requires-clause-live
 table_of-requires-clause-live c =
-    let are : Exactly key_cmp (IsMember (choices (game_of c.args.game.now)) c.start_key-start.result) c.in-Some.joined.members.items = search rules in
+    let are : Exactly key_cmp (IsMember (numbered (game_of c.args.game.now) c.as_slice-promises.result.now) c.start_key-start.result) c.in-Some.joined.members.items = search rules in
     let few : length c.in-Some.joined.members.items + length c.in-Some.joined.pairs.items ≤ 65536 = search rules in
     let long = ap (λ (l : List Key). length l) c.deref.ensures.value in
-    record {
-      begins = c.requires.ready.begins;
-      low = c.requires.ready.low;
-      are = subst (λ (k : Key). Exactly key_cmp (IsMember (choices (game_of c.args.game.now)) k) c.deref.result.now) c.start_key-start.ensures
-          (subst (λ (l : List Key). Exactly key_cmp (IsMember (choices (game_of c.args.game.now)) c.start_key-start.result) l) (sym c.deref.ensures.value) are);
-      few = omega (arith, few, long);
-    }
+    are_numbered c.args.game.now c.args.solved.now c.requires.ready c.as_slice-promises.result.now
+    (subst (ArePromises (game_of c.args.game.now)) (sym c.as_slice-promises.ensures.value) c.in_ok-found.ensures) c.deref.result.now
+    (subst (λ (k : Key). Exactly key_cmp (IsMember (numbered (game_of c.args.game.now) c.as_slice-promises.result.now) k) c.deref.result.now) c.start_key-start.ensures
+    (subst (λ (l : List Key). Exactly key_cmp (IsMember (numbered (game_of c.args.game.now) c.as_slice-promises.result.now) c.start_key-start.result) l) (sym c.deref.ensures.value) are))
+    (omega (arith, few, long))
 
 pub table_of-requires-clause-returns : goal.table_of-requires-clause-returns
 table_of-requires-clause-returns c =
-    let are : Exactly (pair_cmp key_cmp) (IsPair (choices (game_of c.args.game.now)) c.start_key-start.result) c.in-Some.joined.pairs.items = search rules in
-    record {
-      begins = c.requires.ready.begins;
-      low = c.requires.ready.low;
-      are = subst (λ (k : Key). Exactly (pair_cmp key_cmp) (IsPair (choices (game_of c.args.game.now)) k) c.deref-in-Some.result.now) c.start_key-start.ensures
-          (subst (λ (l : List (Key × Key)). Exactly (pair_cmp key_cmp) (IsPair (choices (game_of c.args.game.now)) c.start_key-start.result) l) (sym c.deref-in-Some.ensures.value) are);
-    }
+    let are : Exactly (pair_cmp key_cmp) (IsPair (numbered (game_of c.args.game.now) c.as_slice-promises.result.now) c.start_key-start.result) c.in-Some.joined.pairs.items = search rules in
+    are_paired c.args.game.now c.args.solved.now c.requires.ready c.as_slice-promises.result.now
+    (subst (ArePromises (game_of c.args.game.now)) (sym c.as_slice-promises.ensures.value) c.in_ok-found.ensures) c.deref-in-Some.result.now
+    (subst (λ (k : Key). Exactly (pair_cmp key_cmp) (IsPair (numbered (game_of c.args.game.now) c.as_slice-promises.result.now) k) c.deref-in-Some.result.now) c.start_key-start.ensures
+    (subst (λ (l : List (Key × Key)). Exactly (pair_cmp key_cmp) (IsPair (numbered (game_of c.args.game.now) c.as_slice-promises.result.now) c.start_key-start.result) l)
+    (sym c.deref-in-Some.ensures.value) are))
 
 pub returns-then-is_long-clause-many : goal.returns-then-is_long-clause-many
 returns-then-is_long-clause-many c = λ t lazy.

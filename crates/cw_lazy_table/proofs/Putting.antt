@@ -1,0 +1,46 @@
+-- Lists that have the same elements.
+use Rattle.std.proofs.Common.{◌≡◌, ⊎_elim, ℕ, ◌+◌, ◌<◌, ◌≤◌, List, [], ◌∷◌, ◌++◌, Some, map, take, length, get_or, sym, ap, ◌∙◌, subst}
+use Rattle.std.specs.Prelude.{slice_get}
+use Rattle.std.specs.List.{Contains}
+use Rattle.std.specs.declared.cmp.Ordering.{Ordering}
+use Rattle.std.proofs.lemmas.List.{take_more, take_all, map-append}
+use Rattle.std.proofs.lemmas.List.Elements.{Contains-append_left, Contains-append_right, Contains-append_cases}
+use Rattle.std.proofs.lemmas.Option.{slice_get_within, get_or_from_slice_get}
+use Rattle.cw_lemmas.proofs.Lists.{contains_one}
+use Rattle.cw_fixpoint.specs.Closures.{Exactly}
+use Rattle.cw_lazy_table.specs.Places.{AreOf, IsPut}
+
+module _ {A : Type 0} where
+  pub put_there : (xs : List A) (x : A) (i : ℕ) → slice_get xs i ≡ Some x → IsPut xs x xs
+  put_there xs x i e y = (
+    λ c. Contains-append_left xs (x ∷ []) y c,
+    λ c. ⊎_elim (λ d. d) (λ d. subst (Contains xs) (contains_one x y d) (i, slice_get_within xs i x e, get_or_from_slice_get xs i x x e)) (Contains-append_cases xs (x ∷ []) y c),
+  )
+
+  pub put_new : (old new : List A) (x : A) → new ≡ old ++ x ∷ [] → IsPut old x new
+  put_new old new x e y = (λ c. subst (λ l. Contains l y) e c, λ c. subst (λ l. Contains l y) (sym e) c)
+
+  none_of : AreOf {A = A} [] []
+  none_of y = (λ c. c, λ c. c)
+
+  -- the first i, and one more
+  pub put_next : {K : Type 0} (f : K → A) (xs : List K) (i : ℕ) (d : K) (old new : List A) → i < length xs → AreOf (map f (take i xs)) old → IsPut old (f (get_or xs i d)) new
+      → AreOf (map f (take (i + 1) xs)) new
+  put_next {K} f xs i d old new l are put y =
+      let x = get_or xs i d in
+      let front = map f (take i xs) in
+      let all : map f (take (i + 1) xs) ≡ front ++ f x ∷ [] =
+      ap (map f) (take_more xs i d l) ∙ map-append f (take i xs) (x ∷ []) in (
+        λ c. subst (λ l. Contains l y) (sym all)
+            (⊎_elim (λ d. Contains-append_left front (f x ∷ []) y ((are y).0 d)) (λ d. Contains-append_right front (f x ∷ []) y d) (Contains-append_cases old (f x ∷ []) y ((put y).0 c))),
+        λ c. (put y).1
+            (⊎_elim (λ d. Contains-append_left old (f x ∷ []) y ((are y).1 d)) (λ d. Contains-append_right old (f x ∷ []) y d)
+            (Contains-append_cases front (f x ∷ []) y (subst (λ l. Contains l y) all c))),
+      )
+
+  pub put_all : {K : Type 0} (f : K → A) (xs : List K) (i : ℕ) (ys : List A) → length xs ≤ i → AreOf (map f (take i xs)) ys → AreOf (map f xs) ys
+  put_all {K} f xs i ys l are = subst (λ (zs : List A). AreOf zs ys) (ap (map f) (take_all i xs l)) are
+
+  -- what is listed of the one is listed of the other
+  pub listed_of : (c : A → A → Ordering) (xs ys zs : List A) → AreOf xs ys → Exactly c (Contains ys) zs → Exactly c (Contains xs) zs
+  listed_of c xs ys zs are e = (e.0, λ x. (λ i. (are x).0 ((e.1 x).0 i), λ i. (e.1 x).1 ((are x).1 i)))

@@ -1,0 +1,5 @@
+use Rattle.cw_lazy_table.proofs.Numbering.{can_ask}
+use Rattle.cw_lazy_table.proofs.follow.ChoicesJoinsKeyTuple2U32Usize.put_after.Goals as goal
+
+pub put_after-requires : goal.put_after-requires
+put_after-requires c = record { can = can_ask c.args.self.now.game.now c.args.self.now.solved.now c.args.self.now.promises.now c.args.key c.requires.can }
