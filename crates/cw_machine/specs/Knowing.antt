@@ -1,5 +1,6 @@
 -- What a run goes by, as the code holds it.
-use Rattle.std.specs.Prelude.{◌≡◌, ℕ, List, map, Option, Some, None}
+use Rattle.std.specs.Prelude.{◌≡◌, ℕ, List, map, Option, Some, None, slice_get}
+use Rattle.std.specs.List.{All}
 use Rattle.std.specs.Borrow.{Bor}
 use Rattle.cw_syntax.specs.declared.program.Stmt.{Stmt}
 use Rattle.cw_syntax.specs.Trees.{Statement, Definition}
@@ -11,25 +12,35 @@ use Rattle.cw_deeds.specs.declared.items.Row.{Row}
 use Rattle.cw_deeds.specs.declared.items.Row.TheVariants as row
 use Rattle.cw_deeds.specs.Forms.{deed_among}
 use Rattle.cw_starts.specs.Sources.{source_in}
+use Rattle.cw_eval.specs.Passings.{deed_in}
 use Rattle.cw_machine.specs.declared.known.Known.{Known}
+use Rattle.cw_machine.specs.declared.tasks.Task.{Task}
 
 abbrev pub said_in : List (Bor Stmt) → List Statement
 said_in said = map statement_at said
-
--- the names are the file's and its functions', and the statements each function's
-pub record IsKnown (k : Known) : Type 0 where
-  pub shared : k.shared.now ≡ shared_names (source_in k.source).bytes (source_in k.source).file
-  pub none : k.none.now ≡ no_names
-  pub own : k.own.now ≡ map (own_names (source_in k.source).bytes) (source_in k.source).file.functions
-  pub said : map said_in k.said.now ≡ map (λ f. said_all f.body) (source_in k.source).file.functions
-
-abbrev pub names_for : Source → ℕ → Named
-names_for s number = own_if s.bytes (function s number)
 
 -- what passing a row does
 abbrev pub deed_for : Option Definition → Row → Deed
 deed_for None row = Rests
 deed_for (Some f) row = deed_among (said_all f.body) row
+
+-- a task is right: its deed is that of its row, in the function that it names
+abbrev pub IsTask : List Definition → Task → Type 0
+IsTask functions t = deed_in t.deed ≡ deed_for (slice_get functions t.function) t.row
+
+abbrev pub rows_in : List Task → List Row
+rows_in tasks = map (λ t. t.row) tasks
+
+-- the names are the file's and its functions', the statements each function's, and the tasks right
+pub record IsKnown (k : Known) : Type 0 where
+  pub shared : k.shared.now ≡ shared_names (source_in k.source).bytes (source_in k.source).file
+  pub none : k.none.now ≡ no_names
+  pub own : k.own.now ≡ map (own_names (source_in k.source).bytes) (source_in k.source).file.functions
+  pub said : map said_in k.said.now ≡ map (λ f. said_all f.body) (source_in k.source).file.functions
+  pub tasks : All (IsTask (source_in k.source).file.functions) k.tasks.now
+
+abbrev pub names_for : Source → ℕ → Named
+names_for s number = own_if s.bytes (function s number)
 
 -- the place of the statement that a row stands for
 abbrev pub place_of : Row → ℕ

@@ -7,15 +7,17 @@ ghost use Rattle.cw_slots.specs.Shown.{scope_of};
 ghost use Rattle.cw_slots.specs.Texts.{statement_at};
 ghost use Rattle.cw_eval.specs.Passings.{deed_in};
 ghost use Rattle.cw_starts.specs.Sources.{source_in};
-ghost use Rattle.cw_machine.specs.Knowing.{IsKnown, deed_for, names_for, place_of, said_in};
+ghost use Rattle.cw_machine.specs.Knowing.{IsKnown, deed_for, names_for, said_in};
 
 use crate::said::Said;
-use cw_deeds::{Row, call_start, deed_by, statement_start};
+use crate::tasks::{Task, deed_of};
+use cw_deeds::{Row, call_start, statement_start};
 use cw_eval::Deed;
 use cw_slots::{Names, Scope};
 use cw_starts::Source;
 
-/// What a run goes by: the source, the names of its file and of its functions, and the statements of each function.
+/// What a run goes by: the source, the names of its file and of its functions, the statements of each function, and what is to be done at
+/// each point.
 #[derive(Clone, Copy, Drop)]
 pub struct Known<'a, 's> {
     pub source: Source<'s>,
@@ -23,6 +25,7 @@ pub struct Known<'a, 's> {
     pub none: &'a Names<'s>,
     pub own: &'a [Names<'s>],
     pub said: &'a [Said<'s>],
+    pub tasks: &'a [Task<'s>],
 }
 
 impl<'a, 's> Known<'a, 's> {
@@ -56,10 +59,7 @@ impl<'a, 's> Known<'a, 's> {
         requires known { IsKnown self.now }
         ensures deed { deed_in result ≡ deed_for (function (source_in self.now.source) number) row }
     {
-        if number >= self.said.len() {
-            return Deed::Rests;
-        }
-        deed_by(self.said[number].behind(place_of(row)), row)
+        deed_of(self.said, number, row)
     }
 
     /// The start of the call whose statement stands at this place in a function.
@@ -82,17 +82,5 @@ impl<'a, 's> Known<'a, 's> {
             return at;
         }
         statement_start(self.said[number].behind(at), at)
-    }
-}
-
-/// The place of the statement that a row stands for.
-fn place_of(row: Row) -> u32
-    ensures { result ≡ place_of row }
-{
-    match row {
-        Row::Rests | Row::Ends => 0,
-        Row::Plain(at) | Row::Returns(at) | Row::Opens(at) | Row::Closes(at) => at,
-        Row::Calls(at, _, _) => at,
-        Row::Decides(at) | Row::Steps(at) => at,
     }
 }

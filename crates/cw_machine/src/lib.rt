@@ -3,14 +3,18 @@
 
 mod known;
 mod machine;
+mod passing;
 mod prepared;
 mod said;
 mod steps;
+mod tasks;
 mod whole;
 
 pub use known::Known;
 pub use machine::{Machine, Wait, new_store};
+pub use passing::step_task;
 pub use prepared::{all_own_names, all_said, given_cells};
 pub use said::Said;
 pub use steps::{step_back, step_into, step_on};
-pub use whole::{step_call, step_end, step_inner};
+pub use tasks::{Task, all_tasks};
+pub use whole::{step_call, step_end, step_within};

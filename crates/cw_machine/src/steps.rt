@@ -4,7 +4,7 @@ ghost use Rattle.std.specs.Prelude.{◌≡◌, ◌∷◌, ℕ, List, map, Some, 
 ghost use Rattle.std.specs.Option.{option_or};
 ghost use Rattle.cw_value.specs.Deeds.{does};
 ghost use Rattle.cw_value.specs.Machines.{function, result_by, scope_in, taken_over};
-ghost use Rattle.cw_eval.specs.Passings.{passing_of};
+ghost use Rattle.cw_eval.specs.Passings.{deed_in, passing_of};
 ghost use Rattle.cw_eval.specs.Shown.{Shows, memory_of};
 ghost use Rattle.cw_starts.specs.Sources.{source_in};
 ghost use Rattle.cw_machine.specs.Knowing.{IsKnown, deed_for};
@@ -14,7 +14,7 @@ use crate::known::Known;
 use crate::machine::{Machine, Wait, new_store};
 use cw_core::{NoMemory, PointId};
 use cw_deeds::Row;
-use cw_eval::{Halt, Passing, Target, Way, does, name_target};
+use cw_eval::{Deed, Halt, Passing, Target, Way, does, name_target};
 use cw_syntax::program::Name;
 use cw_value::Stop;
 use std::alloc::Global;
@@ -47,6 +47,20 @@ fn returned(answer: Option<i64>, before: Option<i64>) -> Option<i64>
     }
 }
 
+/// Does this, and keeps what is returned.
+pub(crate) fn perform_deed(known: &Known, m: &mut Machine, deed: Deed) -> Result<Passing, Halt>
+    requires known { IsKnown known.now }
+    ensures outcome { Shows passing_of result (memory_of m.new.memory) (does (scope_in (source_in known.now.source) (function (source_in known.now.source) m.old.function)) (deed_in deed.entry) (memory_of m.old.memory)) }
+    ensures answer { MatchResult result (λ p. m.new.answer ≡ option_or p.answer m.old.answer) (λ _. m.new.answer ≡ m.old.answer) }
+    ensures function { m.new.function ≡ m.old.function }
+    ensures waits { m.new.waits ≡ m.old.waits }
+{
+    let scope = known.scope(m.function);
+    let passing = does(&scope, deed, &mut m.memory)?;
+    m.answer = returned(passing.answer, m.answer);
+    Ok(passing)
+}
+
 /// Does what passing a row does, and keeps what is returned.
 fn perform(known: &Known, m: &mut Machine, row: Row) -> Result<Passing, Halt>
     requires known { IsKnown known.now }
@@ -55,11 +69,8 @@ fn perform(known: &Known, m: &mut Machine, row: Row) -> Result<Passing, Halt>
     ensures function { m.new.function ≡ m.old.function }
     ensures waits { m.new.waits ≡ m.old.waits }
 {
-    let scope = known.scope(m.function);
     let deed = known.deed(m.function, row);
-    let passing = does(&scope, deed, &mut m.memory)?;
-    m.answer = returned(passing.answer, m.answer);
-    Ok(passing)
+    perform_deed(known, m, deed)
 }
 
 /// A step that stays in its frame.

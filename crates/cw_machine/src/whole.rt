@@ -5,25 +5,29 @@ ghost use Rattle.cw_syntax.specs.Frames.{Frame, Item};
 ghost use Rattle.cw_value.specs.Machines.{step_by};
 ghost use Rattle.cw_deeds.specs.Rows.{row_of};
 ghost use Rattle.cw_starts.specs.Sources.{source_in};
-ghost use Rattle.cw_machine.specs.Knowing.{IsKnown};
+ghost use Rattle.cw_machine.specs.Knowing.{IsKnown, IsTask};
 ghost use Rattle.cw_machine.specs.Shown.{Goes, IsInnerRow, Waits, back_of, call_of, machine_of};
 
 use crate::known::Known;
 use crate::machine::Machine;
-use crate::steps::{step_back, step_into, step_on};
+use crate::passing::step_task;
+use crate::steps::{step_back, step_into};
+use crate::tasks::Task;
 use cw_core::PointId;
 use cw_deeds::Row;
 use cw_eval::{Halt, Way};
 use cw_syntax::program::Name;
 
-/// A step within a frame: whatever the item with this row is, it does what that item does.
-pub fn step_inner(known: &Known, m: &mut Machine, row: Row) -> Result<Way, Halt>
+/// A step within a frame: whatever the item with the row of this task is, it does what that item does.
+#[inline(always)]
+pub fn step_within(known: &Known, m: &mut Machine, task: &Task) -> Result<Way, Halt>
     requires known { IsKnown known.now }
-    requires inner { IsInnerRow row }
-    ensures goes { (i : Item) (frames : List Frame) → row_of i ≡ row → Goes result (machine_of m.new) (step_by (source_in known.now.source) false i frames (machine_of m.old)) }
+    requires task { IsTask (source_in known.now.source).file.functions task.now }
+    requires inner { IsInnerRow task.now.row }
+    ensures goes { (i : Item) (frames : List Frame) → row_of i ≡ task.now.row → Goes result (machine_of m.new) (step_by (source_in known.now.source) false i frames (machine_of m.old)) }
     ensures waits { m.new.waits ≡ m.old.waits }
 {
-    step_on(known, m, row)
+    step_task(known, m, task)
 }
 
 /// A call of a defined function: whatever the item with this row is.

@@ -10,3 +10,4 @@ pub mod Going
 mod Main
 pub mod Looping
 pub mod Prefixed
+mod Staying

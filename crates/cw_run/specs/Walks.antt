@@ -3,7 +3,7 @@ use Rattle.std.specs.Prelude.{◌≡◌, ℕ, ◌+◌, List, [], ◌∷◌, ◌+
 use Rattle.cw_core.specs.declared.ids.MemId.{MemId}
 use Rattle.cw_rights.specs.declared.capabilities.Caps.{Caps}
 use Rattle.cw_certs.specs.declared.moves.Move.{Move}
-use Rattle.cw_certs.specs.declared.moves.Move.TheVariants.{Grant, Refuse, On, Opened, Failed}
+use Rattle.cw_certs.specs.declared.moves.Move.TheVariants.{Grant, Refuse, On, Left, Right, Opened, Failed}
 use Rattle.cw_certs.specs.declared.rows.TryRow.{TryRow}
 use Rattle.cw_certs.specs.Tables.{Table, try_at, after_at, open_at, into_at, back_at, state_of}
 use Rattle.cw_model.specs.Runs.{mem_in, refused_with, by_success}
@@ -138,6 +138,19 @@ pub data Rests (g : Game) (t : Table) (m : ℕ) : ℕ → ℕ → Type 0 where
 -- the same place at another position
 abbrev pub at_pos : ℕ → Here → Here
 at_pos p h = record { pos = p; state = h.state; mem = h.mem }
+
+-- the place behind a step, and behind a condition
+abbrev pub stepped_to : ℕ → Here → Move → Option Here
+stepped_to n h On = Some (at_pos n h)
+stepped_to n h _ = None
+
+abbrev pub branched_to : (left right : ℕ) → Here → Move → Option Here
+branched_to l r h Left = Some (at_pos l h)
+branched_to l r h Right = Some (at_pos r h)
+branched_to l r h _ = None
+
+abbrev pub to_if : Option Here → Option Next
+to_if to = option_map To to
 
 -- where the run goes on after a move: the new place, and the calls that wait
 abbrev pub place_of : Next → Option Here

@@ -1,13 +1,13 @@
 //! Where a run stands, and where each move leads: over the positions and states of the game, and the rows of the table.
 
-ghost use Rattle.std.specs.Prelude.{◌≡◌, ◌<◌, ◌∷◌, ℕ, List, Some, length, option_map, option_and_then, option_to_list, slice_get, IfSome};
-ghost use Rattle.cw_certs.specs.Tables.{try_at, state_of};
+ghost use Rattle.std.specs.Prelude.{◌≡◌, ◌<◌, [], ◌∷◌, ℕ, List, Some, length, option_map, option_and_then, option_to_list, slice_get, IfSome};
+ghost use Rattle.cw_certs.specs.Tables.{Table, try_at, state_of};
 ghost use Rattle.cw_model.specs.Runs.{mem_in, by_success};
 ghost use Rattle.cw_product.specs.Moves.{IsPosition, IsState};
 ghost use Rattle.cw_product.specs.Product.{game_of};
-ghost use Rattle.cw_game.specs.Games.{resumed};
+ghost use Rattle.cw_game.specs.Games.{Game as GameOf, resumed};
 ghost use Rattle.cw_game.specs.Pairs.{call_in};
-ghost use Rattle.cw_run.specs.Walks.{here_of, wait_of, next_is, called_of, mem_after, within, called, returning, ended, refusing, next_of, Rests, IsHere, IsWait, IsNextIn, asked_memory, asked};
+ghost use Rattle.cw_run.specs.Walks.{here_of, wait_of, next_is, called_of, mem_after, within, called, returning, ended, refusing, next_of, Rests, IsHere, IsWait, IsNextIn, asked_memory, asked, at_pos, stepped_to, branched_to, to_if};
 
 use cw_certs::{
     Move, OpenRow, WeaverCert, after_close, after_label, back_at, into_at, open_at, try_at,
@@ -273,7 +273,83 @@ fn asked(
     }
 }
 
+/// The same place at another position.
+#[inline(always)]
+fn place_at(here: Here, pos: u32) -> Here
+    ensures { here_of result ≡ at_pos pos (here_of here) }
+{
+    Here {
+        pos: PosId(pos),
+        state: here.state,
+        mem: here.mem,
+    }
+}
+
+/// Where a move leads that stays in its frame.
+#[inline(always)]
+fn to_if(to: Option<Here>) -> Option<Next>
+    ensures is { option_map next_is result ≡ to_if (option_map here_of to) }
+    ensures range { (g : GameOf) → IfSome to (λ h. IsHere g (here_of h)) → IfSome result (λ next. IsNextIn g (next_is next)) }
+{
+    match to {
+        None => None,
+        Some(here) => Some(Next::To(here)),
+    }
+}
+
+/// The place behind a step.
+#[inline(always)]
+fn behind_step(here: Here, next: u32, by: Move) -> Option<Here>
+    ensures is { option_map here_of result ≡ stepped_to next (here_of here) by }
+    ensures range { (g : GameOf) → IsHere g (here_of here) → IsPosition g next → IfSome result (λ to. IsHere g (here_of to)) }
+{
+    match by {
+        Move::On => Some(place_at(here, next)),
+        Move::Skip | Move::Try | Move::Grant | Move::Refuse | Move::Left => None,
+        Move::Right | Move::Opened | Move::Failed | Move::Stop => None,
+    }
+}
+
+/// The place behind a condition.
+#[inline(always)]
+fn behind_branch(here: Here, left: u32, right: u32, by: Move) -> Option<Here>
+    ensures is { option_map here_of result ≡ branched_to left right (here_of here) by }
+    ensures range { (g : GameOf) → IsHere g (here_of here) → IsPosition g left → IsPosition g right → IfSome result (λ to. IsHere g (here_of to)) }
+{
+    match by {
+        Move::Left => Some(place_at(here, left)),
+        Move::Right => Some(place_at(here, right)),
+        Move::Skip | Move::Try | Move::Grant | Move::Refuse => None,
+        Move::On | Move::Opened | Move::Failed | Move::Stop => None,
+    }
+}
+
+/// Where a step leads: neither the state nor the memory changes.
+#[inline(always)]
+fn stepped(game: &Game, here: Here, next: u32, by: Move) -> Option<Next>
+    requires here { IsHere (game_of game.now) (here_of here) }
+    requires spot { Some (Spot.Step next) ≡ slice_get (game_of game.now).spots here.pos.0 }
+    ensures is { (table : Table) → option_map next_is result ≡ next_of (game_of game.now) table (here_of here) [] (Spot.Step next) by }
+    ensures range { IfSome result (λ next. IsNextIn (game_of game.now) (next_is next)) }
+{
+    game.is_closed();
+    to_if(behind_step(here, next, by))
+}
+
+/// Where a condition leads: neither the state nor the memory changes.
+#[inline(always)]
+fn branched(game: &Game, here: Here, left: u32, right: u32, by: Move) -> Option<Next>
+    requires here { IsHere (game_of game.now) (here_of here) }
+    requires spot { Some (Spot.Branch left right) ≡ slice_get (game_of game.now).spots here.pos.0 }
+    ensures is { (table : Table) → option_map next_is result ≡ next_of (game_of game.now) table (here_of here) [] (Spot.Branch left right) by }
+    ensures range { IfSome result (λ next. IsNextIn (game_of game.now) (next_is next)) }
+{
+    game.is_closed();
+    to_if(behind_branch(here, left, right, by))
+}
+
 /// Where a move of the environment leads, over the innermost call that waits; nowhere where the game has no such move, or the table no row for it.
+#[inline(always)]
 pub fn lead(
     game: &Game,
     table: &WeaverCert,
@@ -289,6 +365,8 @@ pub fn lead(
     ensures range { IfSome result (λ next. IsNextIn (game_of game.now) (next_is next)) }
 {
     match spot {
+        Spot::Step(next) => stepped(game, here, next, by),
+        Spot::Branch(left, right) => branched(game, here, left, right, by),
         Spot::Call(_, _, _) | Spot::SplitCall(_, _, _) => {
             let called_here = call_at(game, here.pos, spot)?;
             call_is_within(game, here.pos, spot, called_here);

@@ -23,7 +23,7 @@ use Rattle.cw_machine.specs.declared.machine.Wait.{Wait}
 use Rattle.cw_machine.specs.declared.machine.Machine.{Machine as HeldMachine}
 use Rattle.cw_machine.specs.Shown.{Goes, IsInnerRow, Waits, back_of, call_of, machine_of}
 use Rattle.cw_values.specs.declared.running.Run.{Run}
-use Rattle.cw_values.specs.Running.{IsRunOf, first, first_back, next_by}
+use Rattle.cw_values.specs.Running.{IsRunOf, first, first_back, next_by, rows_of}
 use Rattle.cw_values.specs.Stands.{Advances, StandsAt, here_of}
 use Rattle.cw_values.proofs.Fronts.{CallLeads}
 use Rattle.cw_values.proofs.Following.{Fronted, fronted, halts_here, all_parts}
@@ -58,7 +58,7 @@ module _ (policy : PlainPolicy) (run : Run) (is_run : IsRunOf policy run) (old :
   node_is : (node : Node) → slice_get run.graph.now.nodes.items point.0 ≡ Some node → front.what ≡ node
   node_is node e = same_Some front.what node (sym front.node ∙ (ap (λ (ns : List Node). slice_get ns point.0) (sym is_run.graph.nodes) ∙ e))
 
-  pub row_is : (r : Row) → slice_get run.rows.now point.0 ≡ Some r → row_of front.item ≡ r
+  pub row_is : (r : Row) → slice_get (rows_of run) point.0 ≡ Some r → row_of front.item ≡ r
   row_is r e = row_at _ point.0 front.item r front.point (ap (λ (rs : List Row). slice_get rs point.0) (sym is_run.rows) ∙ e)
 
   pub err_advances : (e : Halt) (new : HeldMachine) → Goes (Err e) (machine_of new) (step_by s false front.item front.frames (machine_of old)) → Advances policy s (Err e) new g
@@ -68,14 +68,14 @@ module _ (policy : PlainPolicy) (run : Run) (is_run : IsRunOf policy run) (old :
   pub waits_below : Waits front.frames old.waits.items
   waits_below = waiting_below policy s here waiting (machine_of old) g h front
 
-  pub inner_advances : (node : Node) (r : Row) → slice_get run.graph.now.nodes.items point.0 ≡ Some node → slice_get run.rows.now point.0 ≡ Some r → IsInnerRow r → (way : HeldWay) (new : HeldMachine)
+  pub inner_advances : (node : Node) (r : Row) → slice_get run.graph.now.nodes.items point.0 ≡ Some node → slice_get (rows_of run) point.0 ≡ Some r → IsInnerRow r → (way : HeldWay) (new : HeldMachine)
       → Goes (Ok way) (machine_of new) (step_by s false front.item front.frames (machine_of old)) → new.waits.items ≡ old.waits.items → Advances policy s (Ok (record { way = way; next = next_by node.next (way_in way) })) new g
   inner_advances node r en er inner way new q ws =
       let on = inner_on policy s here waiting (machine_of old) g h front (subst IsInnerRow (sym (row_is r er)) inner) (way_in way) (machine_of new) q in
       subst (λ (n : Node). Reaches policy s (way_in way) (here_of (next_by n.next (way_in way)) (map back_of new.waits.items)) (map call_of new.waits.items) (machine_of new) g) (node_is node en)
       (subst (λ (l : List Wait). Reaches policy s (way_in way) (here_of (next_by front.what.next (way_in way)) (map back_of l)) (map call_of l) (machine_of new) g) (sym ws) on)
 
-  pub end_advances : slice_get run.rows.now point.0 ≡ Some row.Ends → (way : HeldWay) (new : HeldMachine)
+  pub end_advances : slice_get (rows_of run) point.0 ≡ Some row.Ends → (way : HeldWay) (new : HeldMachine)
       → Goes (Ok way) (machine_of new) (step_by s false front.item front.frames (machine_of old)) → new.waits.items ≡ drop 1 old.waits.items → Advances policy s (Ok (record { way = way; next = first_back old.waits.items })) new g
   end_advances er way new q ws =
       let on = end_on policy s here waiting (machine_of old) g h front (row_is row.Ends er) (way_in way) (machine_of new) q in
@@ -83,7 +83,7 @@ module _ (policy : PlainPolicy) (run : Run) (is_run : IsRunOf policy run) (old :
       (subst (λ (o : Option Stand). Reaches policy s (way_in way) o (map call_of (drop 1 old.waits.items)) (machine_of new) g) (returned_first old.waits.items)
       (subst (λ (l : List (Option (ℕ × Option Name))). Reaches policy s (way_in way) (returned (map back_of old.waits.items)) l (machine_of new) g) (later_calls old.waits.items) on))
 
-  module _ (node : Node) (at number : ℕ) (taker : Option Name) (en : slice_get run.graph.now.nodes.items point.0 ≡ Some node) (er : slice_get run.rows.now point.0 ≡ Some (row.Calls at number taker)) where
+  module _ (node : Node) (at number : ℕ) (taker : Option Name) (en : slice_get run.graph.now.nodes.items point.0 ≡ Some node) (er : slice_get (rows_of run) point.0 ≡ Some (row.Calls at number taker)) where
     there : (o : Option Stand) × CallLeads (all_parts policy s) here.returns number front.what.next o
     there = call_there policy s here waiting (machine_of old) g h front at number taker (row_is (row.Calls at number taker) er)
 

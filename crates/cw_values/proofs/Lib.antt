@@ -1,3 +1,4 @@
+mod Tasks
 mod Fronts
 mod Following
 mod Reached

@@ -11,8 +11,8 @@ ghost use Rattle.cw_values.specs.Running.{IsRunOf, IsPrepared};
 
 use crate::running::Run;
 use cw_core::NoMemory;
-use cw_deeds::{Row, rows};
-use cw_machine::{Known, Said, all_own_names, all_said};
+use cw_deeds::rows;
+use cw_machine::{Known, Said, Task, all_own_names, all_said, all_tasks};
 use cw_points::Graph;
 use cw_rights::Policy;
 use cw_slots::{Names, shared_names};
@@ -20,11 +20,11 @@ use cw_starts::Source;
 use cw_syntax::checked::Checked;
 use std::alloc::Global;
 
-/// What is drawn from a program before it runs: what stands at each point, the names of the file and of its functions, the statements of
-/// each function.
+/// What is drawn from a program before it runs: what is to be done at each point, the names of the file and of its functions, the
+/// statements of each function.
 #[derive(Drop)]
 pub struct Prepared<'s> {
-    pub rows: Vec<Row>,
+    pub tasks: Vec<Task<'s>>,
     pub shared: Names<'s>,
     pub none: Names<'s>,
     pub own: Vec<Names<'s>>,
@@ -43,8 +43,9 @@ pub fn prepare<'s>(
     let shared = shared_names(alloc, checked.source, &checked.program)?;
     let own = all_own_names(alloc, checked.source, &checked.program.functions)?;
     let said = all_said(alloc, &checked.program.functions)?;
+    let tasks = all_tasks(alloc, &said, &rows)?;
     Ok(Prepared {
-        rows,
+        tasks,
         shared,
         none: Names::none(alloc),
         own,
@@ -66,9 +67,9 @@ impl<'s> Prepared<'s> {
                 none: &self.none,
                 own: &self.own,
                 said: &self.said,
+                tasks: &self.tasks,
             },
             graph,
-            rows: &self.rows,
         }
     }
 }

@@ -15,13 +15,13 @@ ghost use Rattle.cw_values.specs.Stands.{StandsAt};
 ghost use Rattle.cw_woven_values.specs.Standing.{IsWoven, Weaves};
 ghost use Rattle.cw_woven_values.specs.Stepping.{IsWent, Steps, both};
 
-use crate::waiting::{follow, innermost};
+use crate::waiting::{follow, lead_over};
 use cw_certs::{Move, WeaverCert};
 use cw_core::{NoMemory, PointId};
 use cw_eval::{Halt, Way};
 use cw_machine::Machine;
 use cw_product::Game;
-use cw_run::{Here, Next, Wait, lead};
+use cw_run::{Here, Next, Wait};
 use cw_values::{Run, advance};
 use std::collections::VecDeque;
 
@@ -33,6 +33,7 @@ pub(crate) struct Place {
 }
 
 /// The move by which the program goes a way.
+#[inline(always)]
 fn move_of(way: Way) -> Move
     ensures { result ≡ move_of (way_in way) }
 {
@@ -46,6 +47,7 @@ fn move_of(way: Way) -> Move
 }
 
 /// The place at which a move leads on; none where the program has ended.
+#[inline(always)]
 fn place_of(next: Next) -> Option<Here>
     ensures is { option_map here_of result ≡ place_of (next_is next) }
 {
@@ -57,6 +59,7 @@ fn place_of(next: Next) -> Option<Here>
 }
 
 /// Both, where the program goes on.
+#[inline(always)]
 fn together(point: Option<PointId>, here: Option<Here>) -> Option<Place>
     ensures { result ≡ both point here }
 {
@@ -70,6 +73,7 @@ fn together(point: Option<PointId>, here: Option<Here>) -> Option<Place>
 }
 
 /// A step of the program: where it has led, or none where the program has ended.
+#[inline(always)]
 pub(crate) fn go(
     run: &Run,
     game: &Game,
@@ -95,7 +99,7 @@ pub(crate) fn go(
         Ok(onward) => {
             let spot = game.spot(place.here.pos);
             let by = move_of(onward.way);
-            match lead(game, table, place.here, innermost(waits), spot, by) {
+            match lead_over(game, table, place.here, waits, spot, by) {
                 None => Ok(None),
                 Some(next) => {
                     follow(waits, next)?;

@@ -63,6 +63,7 @@ fn landed(next: Next) -> Visited
 }
 
 /// The answer to a try, and the weaver's move after a refusal that a stop can answer.
+#[inline(never)]
 fn ask(game: &Game, table: &WeaverCert, here: Here, tries: &mut Tries) -> Visited
     requires here { IsHere (game_of game.now) (here_of here) }
     ensures visits { (s : Source) (w : IsWoven game.now s table.now) (waits : List Wait) (plain run : Going) → Weaves game.now s table.now w plain (here_of here) waits tries.old.left.now tries.old.made run → IsAsked run.woven.board.phase → Visits game.now s table.now w plain waits tries.new.left.now tries.new.made run result }
@@ -79,6 +80,7 @@ fn ask(game: &Game, table: &WeaverCert, here: Here, tries: &mut Tries) -> Visite
 }
 
 /// A visit: its primitive is skipped, or tried and answered.
+#[inline(always)]
 fn visit(game: &Game, table: &WeaverCert, here: Here, tries: &mut Tries) -> Visited
     requires here { IsHere (game_of game.now) (here_of here) }
     requires few { tries.old.made + 1 < 2 ^ 32 }
@@ -99,6 +101,7 @@ fn visit(game: &Game, table: &WeaverCert, here: Here, tries: &mut Tries) -> Visi
 }
 
 /// The weaver's moves at a point and the answers to them, until the program's step is due.
+#[inline(always)]
 pub(crate) fn weave(game: &Game, table: &WeaverCert, start: Here, tries: &mut Tries) -> Front
     requires here { IsHere (game_of game.now) (here_of start) }
     requires few { tries.old.made + 14 < 2 ^ 32 }

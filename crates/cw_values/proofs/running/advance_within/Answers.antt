@@ -9,14 +9,14 @@ pub returns-in-Ok : goal.returns-in-Ok
 returns-in-Ok c = λ policy g is_run h.
     let run = c.args.run.now in
     let f = front policy run is_run c.args.m.now g c.args.point h in
-    let goes = c.in-Ok.ensures.goes f.item f.frames (row_is policy run is_run c.args.m.now g c.args.point h c.args.row c.requires.row) in
-    subst (λ (o : Option PointId). Advances policy (source_in run.known.source) (Ok (record { way = c.in-Ok.way; next = o })) c.step_inner.new.m g) (sym c.within.ensures)
-    (inner_advances policy run is_run c.args.m.now g c.args.point h c.args.node.now c.args.row c.requires.node c.requires.row c.requires.inner c.in-Ok.way c.step_inner.new.m goes
+    let goes = c.in-Ok.ensures.goes f.item f.frames (row_is policy run is_run c.args.m.now g c.args.point h c.args.task.now.row c.requires.row) in
+    subst (λ (o : Option PointId). Advances policy (source_in run.known.source) (Ok (record { way = c.in-Ok.way; next = o })) c.step_within.new.m g) (sym c.within.ensures)
+    (inner_advances policy run is_run c.args.m.now g c.args.point h c.args.node.now c.args.task.now.row c.requires.node c.requires.row c.requires.inner c.in-Ok.way c.step_within.new.m goes
     (ap (λ w. w.items) c.in-Ok.ensures.waits))
 
 pub returns-in-Err : goal.returns-in-Err
 returns-in-Err c = λ policy g is_run h.
     let run = c.args.run.now in
     let f = front policy run is_run c.args.m.now g c.args.point h in
-    err_advances policy run is_run c.args.m.now g c.args.point h c.in-Err.halt c.step_inner.new.m
-    (c.in-Err.ensures.goes f.item f.frames (row_is policy run is_run c.args.m.now g c.args.point h c.args.row c.requires.row))
+    err_advances policy run is_run c.args.m.now g c.args.point h c.in-Err.halt c.step_within.new.m
+    (c.in-Err.ensures.goes f.item f.frames (row_is policy run is_run c.args.m.now g c.args.point h c.args.task.now.row c.requires.row))

@@ -4,7 +4,6 @@ use Rattle.cw_rights.specs.Policies.{policy_of}
 use Rattle.cw_certs.specs.declared.moves.Move.{Move}
 use Rattle.cw_product.specs.Product.{game_of}
 use Rattle.cw_run.specs.Walks.{Here, Wait, here_of, next_is, next_of, wait_of, waits_after}
-use Rattle.cw_run.proofs.Waits.{first_leads}
 use Rattle.cw_value.specs.Runs.{move_of}
 use Rattle.cw_eval.specs.Passings.{way_in}
 use Rattle.cw_starts.specs.Sources.{source_in}
@@ -29,10 +28,8 @@ returns-in-None-clause-steps c = λ w left made plain woven is_run st on free.
     let way = way_in c.in-Ok.onward.way in
     let a = c.in-Ok.ensures (policy_of h.states.policy) plain is_run st in
     let spot = c.spot-spot.result in
-    let led : option_map next_is c.lead.result ≡ next_of g t here waits spot (move_of way) =
-    c.lead.ensures.is
-    ∙ (first_leads g t here waits spot c.move_of-by.result (option_map wait_of c.innermost.result) c.innermost.ensures.is
-    ∙ ap (λ (b : Move). next_of g t here waits spot b) c.move_of-by.ensures)
+    let led : option_map next_is c.lead_over.result ≡ next_of g t here waits spot (move_of way) =
+    c.lead_over.ensures.is ∙ ap (λ (b : Move). next_of g t here waits spot b) c.move_of-by.ensures
     in
     absurd
     (never_stuck h s t w left made plain woven here waits on free way a.0 c.advance.new.m c.in-Ok.onward.next a.1 a.3 spot (sym c.spot-spot.ensures) (sym led ∙ ap (option_map next_is) c.in-None.is))
@@ -51,10 +48,8 @@ returns-in_ok-follow-in-Some-clause-steps c = λ w left made plain woven is_run 
     let n = next_is c.in-Some.next in
     let point = c.in-Ok.onward.next in
     let m = c.advance.new.m in
-    let led : option_map next_is c.lead.result ≡ next_of g t here waits spot (move_of way) =
-    c.lead.ensures.is
-    ∙ (first_leads g t here waits spot c.move_of-by.result (option_map wait_of c.innermost.result) c.innermost.ensures.is
-    ∙ ap (λ (b : Move). next_of g t here waits spot b) c.move_of-by.ensures)
+    let led : option_map next_is c.lead_over.result ≡ next_of g t here waits spot (move_of way) =
+    c.lead_over.ensures.is ∙ ap (λ (b : Move). next_of g t here waits spot b) c.move_of-by.ensures
     in
     let k = goes_on h s t w left made plain woven here waits on free way a.0 m point a.1 a.3 spot n (sym c.spot-spot.ensures) (sym led ∙ ap (option_map next_is) c.in-Some.is) in
     let there = subst (λ (o : Option Here). Led h s t w left made plain woven here waits on free way a.0 m point a.1 a.3 o (waits_after n waits)) (sym c.place_of.ensures.is) k in
