@@ -1,14 +1,16 @@
 //! Names by their numbers.
-ghost use Rattle.std.specs.Prelude.{◌≡◌, ◌<◌, length, slice_index_or, IfOk};
+ghost use Rattle.std.specs.Prelude.{◌≡◌, ◌<◌, length, map, slice_index_or, IfOk};
 ghost use Rattle.cw_syntax.specs.Names.{number_in};
 ghost use Rattle.cw_value.specs.Machines.{no_names};
 ghost use Rattle.cw_slots.specs.Numbers.{kept_by};
-ghost use Rattle.cw_slots.specs.Texts.{named_of};
+ghost use Rattle.cw_slots.specs.Texts.{named_of, text_at};
 
-use crate::numbers::{Kept, find, numbers_of};
-use indexmap::IndexMap;
+use crate::numbers::{Kept, Numbers};
 use std::alloc::{AllocError, Global};
 use std::marker::Model;
+
+/// Up to so many names of a kind are found sooner by a walk.
+const FEW: usize = 6;
 
 /// Names by their numbers: those that are no arrays, and the arrays.
 ///
@@ -18,7 +20,7 @@ pub struct Names<'s> {
     plain: Vec<&'s [u8]>,
     arrays: Vec<&'s [u8]>,
     /// Where each of both is kept.
-    numbers: IndexMap<&'s [u8], Kept>,
+    numbers: Numbers<'s>,
 }
 
 impl<'s> Model for Names<'s> {
@@ -30,7 +32,7 @@ impl<'s> Model for Names<'s> {
 
     ghost view = { λ n. named_of n.plain.items n.arrays.items };
 
-    ghost invariant = { λ n. HaveNames n.numbers.entries n.plain.items n.arrays.items };
+    ghost invariant = { λ n. HaveNames n.numbers n.plain.items n.arrays.items };
 }
 
 impl<'s> Names<'s> {
@@ -42,7 +44,7 @@ impl<'s> Names<'s> {
     ) -> Result<Names<'s>, AllocError>
         ensures names { IfOk result (λ names. names ≡ named_of plain.entry.items arrays.entry.items) }
     {
-        let numbers = numbers_of(alloc, &plain, &arrays)?;
+        let numbers = Numbers::of(alloc, &plain, &arrays)?;
         Ok(Names {
             plain,
             arrays,
@@ -57,7 +59,7 @@ impl<'s> Names<'s> {
         Names {
             plain: Vec::new(alloc),
             arrays: Vec::new(alloc),
-            numbers: IndexMap::new(alloc),
+            numbers: Numbers::none(alloc),
         }
     }
 
@@ -92,9 +94,41 @@ impl<'s> Names<'s> {
     }
 
     /// Where a name is kept. An array hides a name that is none.
+    #[inline(always)]
     pub fn find(&self, name: &[u8]) -> Option<Kept>
         ensures kept { result ≡ kept_by (number_in self.now.arrays name.now) (number_in self.now.plain name.now) }
     {
-        find(&self.numbers, name)
+        if self.plain.len() <= FEW && self.arrays.len() <= FEW {
+            walk(&self.arrays, &self.plain, name)
+        } else {
+            self.numbers.find(name)
+        }
     }
+}
+
+/// Where a name is kept, by a walk over both lists.
+#[inline(always)]
+fn walk(arrays: &[&[u8]], plain: &[&[u8]], name: &[u8]) -> Option<Kept>
+    ensures { result ≡ kept_by (number_in (map text_at arrays.now) name.now) (number_in (map text_at plain.now) name.now) }
+{
+    match number_in(arrays, name) {
+        Some(n) => Some(Kept::Array(n)),
+        None => match number_in(plain, name) {
+            Some(n) => Some(Kept::Plain(n)),
+            None => None,
+        },
+    }
+}
+
+/// The place of a text in a list.
+#[inline(always)]
+fn number_in(texts: &[&[u8]], name: &[u8]) -> Option<usize>
+    ensures { result ≡ number_in (map text_at texts.now) name.now }
+{
+    for (i, text) in texts.iter().enumerate() {
+        if name == *text {
+            return Some(i);
+        }
+    }
+    None
 }

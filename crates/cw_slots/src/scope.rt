@@ -32,6 +32,7 @@ pub struct Scope<'a, 's> {
 
 impl<'a, 's> Scope<'a, 's> {
     /// The bytes of a span.
+    #[inline(always)]
     pub fn text(&self, from: u32, to: u32) -> &'a [u8]
         ensures bytes { result.now ≡ slice (scope_of self.now).source from to }
     {
@@ -39,6 +40,7 @@ impl<'a, 's> Scope<'a, 's> {
     }
 
     /// Where the value of a name is kept. A name of the function hides one of the file.
+    #[inline(never)]
     pub fn place(&self, name: &[u8]) -> Place
         ensures place { place_in result ≡ place_of (scope_of self.now) name.now }
     {
@@ -74,6 +76,7 @@ fn value_of(given: &(Vec<u8>, i64)) -> Option<i64>
 }
 
 /// Where the value of a name of the function is kept.
+#[inline(always)]
 fn own_place(kept: Kept) -> Place
     ensures { place_in result ≡ own_kept kept }
 {
@@ -84,6 +87,7 @@ fn own_place(kept: Kept) -> Place
 }
 
 /// Where the value of a name is kept that is none of the function's.
+#[inline(always)]
 fn shared_place(kept: Option<Kept>) -> Place
     ensures { place_in result ≡ shared_if_kept kept }
 {
