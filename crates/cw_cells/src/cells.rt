@@ -66,6 +66,7 @@ impl Cells {
     }
 
     /// How many cells there are.
+    #[inline(always)]
     pub fn len(&self) -> usize
         ensures { result ≡ length self.now }
     {
@@ -73,6 +74,7 @@ impl Cells {
     }
 
     /// What a cell holds; none past the last.
+    #[inline(always)]
     pub fn get(&self, at: usize) -> Option<i64>
         ensures { result ≡ unwrap_or (slice_get self.now at) None }
     {
@@ -92,6 +94,7 @@ impl Cells {
     }
 
     /// Writes a cell; nothing where the place is past the last. The one error is want of memory, which changes nothing.
+    #[inline(always)]
     pub fn set(&mut self, at: usize, cell: Option<i64>) -> Result<(), NoMemory>
         ensures written { OnOk result (self.new ≡ slice_set self.old at cell) }
         ensures refused { OnErr result (self.new ≡ self.old) }
@@ -162,6 +165,7 @@ impl Cells {
 }
 
 /// Adds entries until there is one at this place.
+#[inline(always)]
 fn reach(entries: &mut Vec<Entry>, at: usize, past: Entry) -> Result<(), NoMemory>
     requires few { at < 18446744073709551615 }
     ensures grown { OnOk result (entries.new.items ≡ entries.old.items ++ replicate (at + 1 - length entries.old.items) past) }

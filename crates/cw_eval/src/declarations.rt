@@ -307,6 +307,7 @@ fn declare_all(scope: &Scope, items: &[Item], m: &mut Memory) -> Result<(), Halt
 }
 
 /// Passes a declaration in a function.
+#[inline(never)]
 pub fn declare(scope: &Scope, declaration: &Decl, m: &mut Memory) -> Result<(), Halt>
     ensures declared { Shows as_done result (memory_of m.new) (declares (scope_of scope.now) (declaration_of declaration.now) (memory_of m.old)) }
 {

@@ -47,6 +47,7 @@ pub struct Passing {
 }
 
 /// The value of an expression, if there is one.
+#[inline(always)]
 fn value_if(scope: &Scope, e: Option<&Expr>, m: &mut Memory) -> Result<Option<i64>, Halt>
     ensures { Shows as_is result (memory_of m.new) (value_if (scope_of scope.now) (option_map tree_at e.entry) (memory_of m.old)) }
 {
@@ -71,6 +72,7 @@ fn values(scope: &Scope, parts: &[Expr], m: &mut Memory) -> Result<Vec<i64>, Hal
 }
 
 /// A condition that isn't 0 goes left; without one there is one way.
+#[inline(always)]
 fn decided_by(z: Option<i64>) -> Way
     ensures { way_in result ≡ decided_by z }
 {
@@ -81,6 +83,7 @@ fn decided_by(z: Option<i64>) -> Way
 }
 
 /// An open has succeeded where its value isn't negative.
+#[inline(always)]
 fn opened_by(z: Option<i64>) -> Way
     ensures { way_in result ≡ opened_by z }
 {
@@ -91,6 +94,7 @@ fn opened_by(z: Option<i64>) -> Way
 }
 
 /// What a deed leads to that has neither arguments nor an answer.
+#[inline(always)]
 fn by_way(scope: &Scope, way: Way) -> Passing
     ensures { passing_of result ≡ by_way (way_in way) }
 {
@@ -102,6 +106,7 @@ fn by_way(scope: &Scope, way: Way) -> Passing
 }
 
 /// Does what a deed says.
+#[inline(always)]
 pub fn does(scope: &Scope, deed: Deed, m: &mut Memory) -> Result<Passing, Halt>
     ensures done { Shows passing_of result (memory_of m.new) (does (scope_of scope.now) (deed_in deed.entry) (memory_of m.old)) }
 {

@@ -1,8 +1,8 @@
 //! What expressions give.
 
-ghost use Rattle.std.specs.Prelude.{◌≡◌, ◌++◌, ◌-◌};
+ghost use Rattle.std.specs.Prelude.{◌≡◌, ◌++◌, ◌-◌, false};
 ghost use Rattle.cw_syntax.specs.Trees.{Node, more, none, tree_of, trees_of};
-ghost use Rattle.cw_value.specs.Expressions.{Nothing, ◌and◌, arguments, argued, assigned, base, before_first, by_one, element, first, first_place, from_of, gives, index, is_span, joined, op_of, parts_of, prefixed, second, stepped, target, target_of, to_of, value};
+ghost use Rattle.cw_value.specs.Expressions.{Nothing, ◌and◌, arguments, argued, assigned, base, before_first, binary, by_one, element, first, first_place, from_of, gives, index, is_span, joined, op_of, parts_of, prefixed, second, stepped, target, target_of, to_of, value};
 ghost use Rattle.cw_slots.specs.Shown.{place_in, scope_of};
 ghost use Rattle.cw_eval.specs.Parts.{argument};
 ghost use Rattle.cw_eval.specs.Shown.{Shows, as_is, items_in, memory_of, target_in};
@@ -20,16 +20,35 @@ use cw_slots::Scope;
 use cw_syntax::program::{Expr, Name, Op};
 use cw_value::{Arg, Stop};
 
-/// What an expression gives.
+/// What an expression gives. A name and a number are read without a further call.
 #[cycle(value)]
+#[inline(always)]
 pub fn value(scope: &Scope, e: &Expr, m: &mut Memory) -> Result<i64, Halt>
     ensures { Shows as_is result (memory_of m.new) (value (scope_of scope.now) (tree_of e.now) (memory_of m.old)) }
 {
-    node(scope, e.op, &e.parts, e.from, e.to, m)
+    match e.op {
+        Op::Name => read_name(scope, e.from, e.to, m),
+        Op::Number(n) => number(n, e.from, m),
+        _ => any_value(scope, e, m),
+    }
+}
+
+/// What an expression gives, of whatever operator. The forms that loops are made of are inlined.
+#[cycle(value)]
+fn any_value(scope: &Scope, e: &Expr, m: &mut Memory) -> Result<i64, Halt>
+    ensures { Shows as_is result (memory_of m.new) (value (scope_of scope.now) (tree_of e.now) (memory_of m.old)) }
+{
+    match e.op {
+        Op::Binary(n) => binary(scope, n, &e.parts, e.from, m),
+        Op::Suffix(n) => suffixed(scope, n, &e.parts, e.from, m),
+        Op::Assign(n) => assignment(scope, n, &e.parts, e.from, m),
+        _ => node(scope, e.op, &e.parts, e.from, e.to, m),
+    }
 }
 
 /// What an expression of this operator, these parts and this span gives.
 #[cycle(value)]
+#[inline(never)]
 fn node(
     scope: &Scope,
     op: Op,
@@ -54,18 +73,9 @@ fn node(
             cell_read(from, m.cell_at(target), m)
         }
         Op::Prefix(n) => prefixed(scope, n, from, parts, m),
-        Op::Suffix(n) => {
-            let target = target(scope, parts, m)?;
-            stepped(scope, false, from, by_one(n), parts, target, m)
-        }
-        Op::Binary(n) => {
-            let a = first(scope, parts, m)?;
-            joined(scope, joint_of(n), a, parts, from, m)
-        }
-        Op::Assign(n) => {
-            let target = target(scope, parts, m)?;
-            assigned(scope, n, from, parts, target, m)
-        }
+        Op::Suffix(n) => suffixed(scope, n, parts, from, m),
+        Op::Binary(n) => binary(scope, n, parts, from, m),
+        Op::Assign(n) => assignment(scope, n, parts, from, m),
         Op::Cast(_) => first(scope, parts, m),
         Op::SizeOf => {
             first(scope, parts, m)?;
@@ -75,8 +85,39 @@ fn node(
     }
 }
 
+/// A binary operator between its operands.
+#[cycle(value)]
+#[inline(always)]
+fn binary(scope: &Scope, n: u8, parts: &[Expr], at: u32, m: &mut Memory) -> Result<i64, Halt>
+    ensures { Shows as_is result (memory_of m.new) (binary n at (first (scope_of scope.now) (trees_of parts.now)) (second (scope_of scope.now) (trees_of parts.now)) (memory_of m.old)) }
+{
+    let a = first(scope, parts, m)?;
+    joined(scope, joint_of(n), a, parts, at, m)
+}
+
+/// `++` or `--` behind its operand.
+#[cycle(value)]
+#[inline(always)]
+fn suffixed(scope: &Scope, n: u8, parts: &[Expr], at: u32, m: &mut Memory) -> Result<i64, Halt>
+    ensures { Shows as_is result (memory_of m.new) (target (scope_of scope.now) (trees_of parts.now) (memory_of m.old) and stepped false at (by_one n) (before_first (scope_of scope.now) (trees_of parts.now))) }
+{
+    let target = target(scope, parts, m)?;
+    stepped(scope, false, at, by_one(n), parts, target, m)
+}
+
+/// An assignment.
+#[cycle(value)]
+#[inline(always)]
+fn assignment(scope: &Scope, n: u8, parts: &[Expr], at: u32, m: &mut Memory) -> Result<i64, Halt>
+    ensures { Shows as_is result (memory_of m.new) (target (scope_of scope.now) (trees_of parts.now) (memory_of m.old) and assigned n at (before_first (scope_of scope.now) (trees_of parts.now)) (second (scope_of scope.now) (trees_of parts.now))) }
+{
+    let target = target(scope, parts, m)?;
+    assigned(scope, n, at, parts, target, m)
+}
+
 /// What the first of these parts gives.
 #[cycle(value)]
+#[inline(always)]
 fn first(scope: &Scope, parts: &[Expr], m: &mut Memory) -> Result<i64, Halt>
     ensures { Shows as_is result (memory_of m.new) (first (scope_of scope.now) (trees_of parts.now) (memory_of m.old)) }
 {
@@ -88,6 +129,7 @@ fn first(scope: &Scope, parts: &[Expr], m: &mut Memory) -> Result<i64, Halt>
 
 /// What the second gives.
 #[cycle(value)]
+#[inline(always)]
 fn second(scope: &Scope, parts: &[Expr], m: &mut Memory) -> Result<i64, Halt>
     ensures { Shows as_is result (memory_of m.new) (second (scope_of scope.now) (trees_of parts.now) (memory_of m.old)) }
 {
@@ -102,6 +144,7 @@ fn second(scope: &Scope, parts: &[Expr], m: &mut Memory) -> Result<i64, Halt>
 
 /// `||` and `&&` stop early; every other operator takes both operands.
 #[cycle(value)]
+#[inline(always)]
 fn joined(
     scope: &Scope,
     joint: Joint,
@@ -137,6 +180,7 @@ fn joined(
 
 /// The element of an index: its base an array, its index in range.
 #[cycle(value)]
+#[inline(always)]
 fn element(scope: &Scope, at: u32, parts: &[Expr], m: &mut Memory) -> Result<Target, Halt>
     ensures { Shows target_in result (memory_of m.new) (element at (first_place (scope_of scope.now) (trees_of parts.now)) (first (scope_of scope.now) (trees_of parts.now)) (second (scope_of scope.now) (trees_of parts.now)) (memory_of m.old)) }
 {
@@ -152,6 +196,7 @@ fn element(scope: &Scope, at: u32, parts: &[Expr], m: &mut Memory) -> Result<Tar
 
 /// Where the first of these parts can be changed.
 #[cycle(value)]
+#[inline(always)]
 fn target(scope: &Scope, parts: &[Expr], m: &mut Memory) -> Result<Target, Halt>
     ensures { Shows target_in result (memory_of m.new) (target (scope_of scope.now) (trees_of parts.now) (memory_of m.old)) }
 {
@@ -163,6 +208,7 @@ fn target(scope: &Scope, parts: &[Expr], m: &mut Memory) -> Result<Target, Halt>
 
 /// Where an expression can be changed.
 #[cycle(value)]
+#[inline(always)]
 fn target_of(scope: &Scope, e: &Expr, m: &mut Memory) -> Result<Target, Halt>
     ensures { Shows target_in result (memory_of m.new) (target (scope_of scope.now) (more (tree_of e.now) none) (memory_of m.old)) }
 {
@@ -171,6 +217,7 @@ fn target_of(scope: &Scope, e: &Expr, m: &mut Memory) -> Result<Target, Halt>
 
 /// A name and an element of an array can be changed. Another operand is evaluated.
 #[cycle(value)]
+#[inline(always)]
 fn target_node(
     scope: &Scope,
     op: Op,
@@ -199,6 +246,7 @@ fn target_node(
 }
 
 #[cycle(value)]
+#[inline(never)]
 fn no_target(
     scope: &Scope,
     op: Op,
@@ -214,6 +262,7 @@ fn no_target(
 }
 
 /// `++` and `--`, by what they change.
+#[inline(always)]
 fn stepped(
     scope: &Scope,
     after: bool,
@@ -231,6 +280,7 @@ fn stepped(
 
 /// An operator before its operand.
 #[cycle(value)]
+#[inline(always)]
 fn prefixed(scope: &Scope, n: u8, at: u32, parts: &[Expr], m: &mut Memory) -> Result<i64, Halt>
     ensures { Shows as_is result (memory_of m.new) (prefixed n at (before_first (scope_of scope.now) (trees_of parts.now)) (target (scope_of scope.now) (trees_of parts.now)) (first (scope_of scope.now) (trees_of parts.now)) (memory_of m.old)) }
 {
@@ -244,6 +294,7 @@ fn prefixed(scope: &Scope, n: u8, at: u32, parts: &[Expr], m: &mut Memory) -> Re
 
 /// An assignment, by its target.
 #[cycle(value)]
+#[inline(always)]
 fn assigned(
     scope: &Scope,
     n: u8,
@@ -292,6 +343,7 @@ fn argument_node(
 
 /// The arguments of an external call, from left to right.
 #[cycle(value)]
+#[inline(never)]
 pub fn arguments(scope: &Scope, parts: &[Expr], m: &mut Memory) -> Result<Vec<Arg>, Halt>
     ensures { Shows items_in result (memory_of m.new) (arguments (scope_of scope.now) (trees_of parts.now) (memory_of m.old)) }
 {

@@ -28,6 +28,7 @@ pub enum Target {
 
 impl<'c> Memory<'c> {
     /// What stands at a target.
+    #[inline(always)]
     pub fn cell_at(&self, target: Target) -> Option<i64>
         ensures cell { result ≡ cell_at (memory_of self.now) (target_in target) }
     {
@@ -39,6 +40,7 @@ impl<'c> Memory<'c> {
     }
 
     /// Writes a value at a target. The one error is want of memory.
+    #[inline(always)]
     pub fn store(&mut self, target: Target, value: i64) -> Result<(), NoMemory>
         ensures stored { OnOk result (memory_of self.new ≡ stored (memory_of self.old) (target_in target) value) }
     {

@@ -12,6 +12,7 @@ use cw_syntax::program::Name;
 use cw_value::{Arg, Made, Stop};
 
 /// A figure, or its stop at this place.
+#[inline(always)]
 pub(crate) fn figured(figure: Result<i64, Want>, at: u32, m: &Memory) -> Result<i64, Halt>
     ensures { Shows as_is result (memory_of m.now) (figured at (memory_of m.now) figure) }
 {
@@ -23,6 +24,7 @@ pub(crate) fn figured(figure: Result<i64, Want>, at: u32, m: &Memory) -> Result<
 }
 
 /// A number as it is written.
+#[inline(always)]
 pub(crate) fn number(n: u64, at: u32, m: &Memory) -> Result<i64, Halt>
     ensures { Shows as_is result (memory_of m.now) (figured at (memory_of m.now) (fitting (pos n))) }
 {
@@ -30,6 +32,7 @@ pub(crate) fn number(n: u64, at: u32, m: &Memory) -> Result<i64, Halt>
 }
 
 /// Two operands and an operator that takes both.
+#[inline(always)]
 pub(crate) fn operated(op: Operator, a: i64, b: i64, at: u32, m: &Memory) -> Result<i64, Halt>
     ensures { Shows as_is result (memory_of m.now) (figured at (memory_of m.now) (operated op a b)) }
 {
@@ -37,6 +40,7 @@ pub(crate) fn operated(op: Operator, a: i64, b: i64, at: u32, m: &Memory) -> Res
 }
 
 /// Two operands and an operator, if there is one.
+#[inline(always)]
 fn combined(at: u32, op: Option<Operator>, a: i64, b: i64, m: &Memory) -> Result<i64, Halt>
     ensures { Shows as_is result (memory_of m.now) (combined at op a b (memory_of m.now)) }
 {
@@ -47,6 +51,7 @@ fn combined(at: u32, op: Option<Operator>, a: i64, b: i64, m: &Memory) -> Result
 }
 
 /// 1 of what isn't 0.
+#[inline(always)]
 pub(crate) fn truth_of(z: i64) -> i64
     ensures { result ≡ truth (not (is_zero z)) }
 {
@@ -54,6 +59,7 @@ pub(crate) fn truth_of(z: i64) -> i64
 }
 
 /// An operator before its operand that changes nothing.
+#[inline(always)]
 pub(crate) fn signed(n: u8, at: u32, z: i64, m: &Memory) -> Result<i64, Halt>
     ensures { Shows as_is result (memory_of m.now) (signed n at z (memory_of m.now)) }
 {
@@ -67,6 +73,7 @@ pub(crate) fn signed(n: u8, at: u32, z: i64, m: &Memory) -> Result<i64, Halt>
 }
 
 /// Stores a value, where something can be changed.
+#[inline(always)]
 pub(crate) fn put(at: u32, target: Target, z: i64, m: &mut Memory) -> Result<i64, Halt>
     ensures { Shows as_is result (memory_of m.new) (put at (target_in target) z (memory_of m.old)) }
 {
@@ -84,6 +91,7 @@ pub(crate) fn put(at: u32, target: Target, z: i64, m: &mut Memory) -> Result<i64
 }
 
 /// A compound assignment, by the old value and the right side.
+#[inline(always)]
 pub(crate) fn updated(
     n: u8,
     at: u32,
@@ -108,6 +116,7 @@ pub(crate) fn updated(
 }
 
 /// What `++` adds, and `--`.
+#[inline(always)]
 pub(crate) fn by_one(n: u8) -> i64
     ensures { result ≡ by_one n }
 {
@@ -115,6 +124,7 @@ pub(crate) fn by_one(n: u8) -> i64
 }
 
 /// Stores the old value with one added, and gives the new one or the old one.
+#[inline(always)]
 fn put_changed(
     after: bool,
     at: u32,
@@ -131,6 +141,7 @@ fn put_changed(
 }
 
 /// `++` and `--`, by the old value.
+#[inline(always)]
 pub(crate) fn changed(
     after: bool,
     at: u32,
@@ -149,6 +160,7 @@ pub(crate) fn changed(
 }
 
 /// An external call takes the next answer, and has it as its value.
+#[inline(never)]
 pub(crate) fn answered(name: Name, at: u32, args: Vec<Arg>, m: &mut Memory) -> Result<i64, Halt>
     ensures { Shows as_is result (memory_of m.new) (answered name at args.items (memory_of m.old) (memory_of m.old).calls) }
 {

@@ -16,6 +16,7 @@ use cw_syntax::program::{Expr, Op};
 use cw_value::Stop;
 
 /// What stands in a cell.
+#[inline(always)]
 pub(crate) fn cell_read(at: u32, cell: Option<i64>, m: &Memory) -> Result<i64, Halt>
     ensures { Shows as_is result (memory_of m.now) (cell_read at (memory_of m.now) cell) }
 {
@@ -36,6 +37,7 @@ fn given_read(at: u32, given: Option<i64>, m: &Memory) -> Result<i64, Halt>
 }
 
 /// The value of a name whose values are kept there.
+#[inline(always)]
 fn name_read(scope: &Scope, name: &[u8], at: u32, m: &Memory, place: Place) -> Result<i64, Halt>
     ensures { Shows as_is result (memory_of m.now) (name_read (scope_of scope.now) name.now at (memory_of m.now) (place_in place)) }
 {
@@ -57,6 +59,7 @@ pub(crate) fn read_name(scope: &Scope, from: u32, to: u32, m: &Memory) -> Result
 }
 
 /// Where a name is changed: nowhere where it isn't declared, or is an array.
+#[inline(always)]
 fn target_at(place: Place) -> Target
     ensures { target_in result ≡ target_at (place_in place) }
 {
@@ -70,6 +73,7 @@ fn target_at(place: Place) -> Target
 }
 
 /// Where the name with this span is changed.
+#[inline(always)]
 pub fn name_target(scope: &Scope, from: u32, to: u32) -> Target
     ensures target { target_in result ≡ name_target (scope_of scope.now) from to }
 {
@@ -77,6 +81,7 @@ pub fn name_target(scope: &Scope, from: u32, to: u32) -> Target
 }
 
 /// The place of an expression that is a bare name.
+#[inline(always)]
 fn bare_at(scope: &Scope, op: Op, from: u32, to: u32) -> Place
     ensures { place_in result ≡ bare_at (scope_of scope.now) op from to }
 {
@@ -88,6 +93,7 @@ fn bare_at(scope: &Scope, op: Op, from: u32, to: u32) -> Place
     }
 }
 
+#[inline(always)]
 fn bare_place(scope: &Scope, e: &Expr) -> Place
     ensures { place_in result ≡ bare_place (scope_of scope.now) (tree_of e.now) }
 {
@@ -95,6 +101,7 @@ fn bare_place(scope: &Scope, e: &Expr) -> Place
 }
 
 /// The place of the first of these parts, where it is a bare name.
+#[inline(always)]
 pub(crate) fn first_place(scope: &Scope, parts: &[Expr]) -> Place
     ensures { place_in result ≡ first_place (scope_of scope.now) (trees_of parts.now) }
 {
@@ -105,6 +112,7 @@ pub(crate) fn first_place(scope: &Scope, parts: &[Expr]) -> Place
 }
 
 /// Whether an array's elements are kept there.
+#[inline(always)]
 pub(crate) fn is_array(place: Place) -> bool
     ensures { result ≡ is_array (place_in place) }
 {
@@ -116,6 +124,7 @@ pub(crate) fn is_array(place: Place) -> bool
 }
 
 /// An element, where the number is one of the array's.
+#[inline(always)]
 fn spot_if(store: &Store, i: i64, array: usize) -> Option<Spot>
     ensures { option_map spot_in result ≡ spot_if (array_of (store_of store.now) array) i array }
 {
@@ -127,6 +136,7 @@ fn spot_if(store: &Store, i: i64, array: usize) -> Option<Spot>
 }
 
 /// The element of the array that is kept there.
+#[inline(always)]
 pub(crate) fn element_in(at: u32, place: Place, i: i64, m: &Memory) -> Result<Target, Halt>
     ensures { Shows target_in result (memory_of m.now) (element_in at (place_in place) i (memory_of m.now)) }
 {
@@ -192,6 +202,7 @@ fn name_if(scope: &Scope, op: Op, from: u32, to: u32, m: &Memory) -> Result<i64,
 }
 
 /// The value before a change.
+#[inline(always)]
 fn old_value(
     scope: &Scope,
     op: Op,
@@ -210,6 +221,7 @@ fn old_value(
 }
 
 /// The value of an expression before it is changed.
+#[inline(always)]
 fn before_change(scope: &Scope, e: &Expr, target: Target, m: &Memory) -> Result<i64, Halt>
     ensures { Shows as_is result (memory_of m.now) (before_first (scope_of scope.now) (more (tree_of e.now) none) (target_in target) (memory_of m.now)) }
 {
@@ -217,6 +229,7 @@ fn before_change(scope: &Scope, e: &Expr, target: Target, m: &Memory) -> Result<
 }
 
 /// The value of the first part before it is changed.
+#[inline(always)]
 pub(crate) fn before_first(
     scope: &Scope,
     parts: &[Expr],

@@ -23,6 +23,7 @@ pub enum Spot {
 
 impl Store {
     /// How many elements an array has.
+    #[inline(always)]
     pub fn count(&self, array: usize) -> usize
         ensures count { result ≡ length (array_of (store_of self.now) array) }
     {
@@ -33,6 +34,7 @@ impl Store {
     }
 
     /// What stands at a place.
+    #[inline(always)]
     pub fn get(&self, spot: Spot) -> Option<i64>
         ensures cell { result ≡ cell_of (store_of self.now) (spot_in spot) }
     {
@@ -46,6 +48,7 @@ impl Store {
     }
 
     /// Writes what stands at a place. The one error is want of memory.
+    #[inline(always)]
     pub fn set(&mut self, spot: Spot, cell: Option<i64>) -> Result<(), NoMemory>
         ensures written { OnOk result (store_of self.new ≡ with_cell (store_of self.old) (spot_in spot) cell) }
     {

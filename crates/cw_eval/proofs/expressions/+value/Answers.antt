@@ -1,4 +1,4 @@
-use Rattle.std.proofs.Common.{sym, ap, ◌∙◌, subst, ℤ, arith}
+use Rattle.std.proofs.Common.{sym, ap, ap₂, ◌∙◌, subst, ℤ, arith}
 use Rattle.cw_syntax.specs.Trees.{Node, Tree, more, none, tree_of, trees_of}
 use Rattle.cw_syntax.specs.declared.program.Expr.{out-Expr}
 use Rattle.cw_syntax.proofs.Shapes.{node_is}
@@ -14,12 +14,47 @@ use Rattle.cw_eval.proofs.Each.{halts_too, none_left, one_stops}
 use Rattle.cw_eval.proofs.Parts.{arguments_each}
 use Rattle.cw_eval.proofs.expressions.+value.Goals as goal
 
-pub value-returns : goal.value-returns
-value-returns t c =
+pub value-returns-in-Name : goal.value-returns-in-Name
+value-returns-in-Name t c =
+    let e = c.args.e.now in
+    let o = out-Expr e in
+    subst (λ (x : Tree). Shows {A = ℤ} {B = ℤ} as_is c.read_name.result (memory_of c.args.m.now) (value (scope_of c.args.scope.now) x (memory_of c.args.m.now)))
+    (ap (λ op. Node op (trees_of o.parts.items) o.from o.to) (sym c.in-Name.is) ∙ sym (node_is e)) c.read_name.ensures
+
+pub value-returns-in-Number : goal.value-returns-in-Number
+value-returns-in-Number t c =
+    let e = c.args.e.now in
+    let o = out-Expr e in
+    subst (λ (x : Tree). Shows {A = ℤ} {B = ℤ} as_is c.number.result (memory_of c.args.m.now) (value (scope_of c.args.scope.now) x (memory_of c.args.m.now)))
+    (ap (λ op. Node op (trees_of o.parts.items) o.from o.to) (sym c.in-Number.is) ∙ sym (node_is e)) c.number.ensures
+
+pub any_value-returns-in-Binary : goal.any_value-returns-in-Binary
+any_value-returns-in-Binary t c =
+    let e = c.args.e.now in
+    let o = out-Expr e in
+    subst (λ (x : Tree). Shows {A = ℤ} {B = ℤ} as_is c.binary.result (memory_of c.binary.new.m) (value (scope_of c.args.scope.now) x (memory_of c.args.m.now)))
+    (ap₂ (λ op l. Node op (trees_of l) o.from o.to) (sym c.in-Binary.is) c.deref.ensures.value ∙ sym (node_is e)) c.binary.ensures
+
+pub any_value-returns-in-Suffix : goal.any_value-returns-in-Suffix
+any_value-returns-in-Suffix t c =
+    let e = c.args.e.now in
+    let o = out-Expr e in
+    subst (λ (x : Tree). Shows {A = ℤ} {B = ℤ} as_is c.suffixed.result (memory_of c.suffixed.new.m) (value (scope_of c.args.scope.now) x (memory_of c.args.m.now)))
+    (ap₂ (λ op l. Node op (trees_of l) o.from o.to) (sym c.in-Suffix.is) c.deref-in-Suffix.ensures.value ∙ sym (node_is e)) c.suffixed.ensures
+
+pub any_value-returns-in-Assign : goal.any_value-returns-in-Assign
+any_value-returns-in-Assign t c =
+    let e = c.args.e.now in
+    let o = out-Expr e in
+    subst (λ (x : Tree). Shows {A = ℤ} {B = ℤ} as_is c.assignment.result (memory_of c.assignment.new.m) (value (scope_of c.args.scope.now) x (memory_of c.args.m.now)))
+    (ap₂ (λ op l. Node op (trees_of l) o.from o.to) (sym c.in-Assign.is) c.deref-in-Assign.ensures.value ∙ sym (node_is e)) c.assignment.ensures
+
+pub any_value-returns-in_default : goal.any_value-returns-in_default
+any_value-returns-in_default t c =
     let e = c.args.e.now in
     let o = out-Expr e in
     subst (λ (x : Tree). Shows {A = ℤ} {B = ℤ} as_is c.node.result (memory_of c.node.new.m) (value (scope_of c.args.scope.now) x (memory_of c.args.m.now)))
-    (ap (λ l. Node o.op (trees_of l) o.from o.to) c.deref.ensures.value ∙ sym (node_is e)) c.node.ensures
+    (ap (λ l. Node o.op (trees_of l) o.from o.to) c.deref-in_default.ensures.value ∙ sym (node_is e)) c.node.ensures
 
 pub target_of-returns : goal.target_of-returns
 target_of-returns t c =
