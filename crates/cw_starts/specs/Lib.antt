@@ -2,3 +2,4 @@ pub mod Held
 pub mod Sources
 pub mod Turning
 pub mod Owning
+pub mod Alike

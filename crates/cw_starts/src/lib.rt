@@ -4,6 +4,7 @@
 mod outer;
 mod owns;
 mod sizes;
+mod texts;
 mod turns;
 
 pub use outer::globals;

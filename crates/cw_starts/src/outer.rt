@@ -5,8 +5,9 @@ ghost use Rattle.std.specs.List.{flat_map, list_any};
 ghost use Rattle.cw_syntax.specs.Trees.{declaration_of, declared_of, file_of, trees_of};
 ghost use Rattle.cw_value.specs.Machines.{globals};
 ghost use Rattle.cw_value.specs.Starts.{has_list};
-ghost use Rattle.cw_starts.specs.Held.{begins_with, item_at, named_at, told_size};
+ghost use Rattle.cw_starts.specs.Held.{AreListed, begins_with, item_at, named_at, told_size};
 
+use crate::texts::Texts;
 use cw_syntax::names::text;
 use cw_syntax::program::{Decl, Expr, Item, Program};
 use std::alloc::{AllocError, Global};
@@ -87,6 +88,31 @@ pub(crate) fn start_cell(source: &[u8], items: &[&Item], name: &[u8]) -> Option<
     } else {
         Some(0)
     }
+}
+
+/// The names of those that have an initialiser.
+pub(crate) fn listed<'s>(
+    alloc: Global,
+    source: &'s [u8],
+    items: &[&Item],
+) -> Result<Texts<'s>, AllocError>
+    ensures { IfOk result (λ texts. AreListed source.now (map item_at items.now) texts) }
+{
+    let mut texts = Texts::new(alloc);
+    for item in items {
+        if has_list(&item.init) {
+            texts.push(text(source, item.name))?;
+        }
+    }
+    Ok(texts)
+}
+
+/// What a name of file scope begins with, where these are the names that have an initialiser.
+pub(crate) fn cell_by(_source: &[u8], _items: &[&Item], listed: &Texts, name: &[u8]) -> Option<i64>
+    requires listed { AreListed _source.now (map item_at _items.now) listed.now }
+    ensures { result ≡ begins_with _source.now (map item_at _items.now) name.now }
+{
+    if listed.contains(name) { None } else { Some(0) }
 }
 
 fn tells(source: &[u8], name: &[u8], item: &Item) -> bool

@@ -1,17 +1,17 @@
 //! What may not be run: a function that declares a name twice, a name of file scope, or a `static` one.
 
 ghost use Rattle.std.specs.Prelude.{◌≡◌, [], ◌++◌, map, IfOk};
-ghost use Rattle.std.specs.List.{flat_map, filter_map, list_any};
-ghost use Rattle.std.specs.Str.{bytes_eq};
+ghost use Rattle.std.specs.List.{flat_map, filter_map};
 ghost use Rattle.cw_syntax.specs.Names.{text};
 ghost use Rattle.cw_syntax.specs.Trees.{declared_of, definition_of, file_of, statement_of};
 ghost use Rattle.cw_value.specs.Machines.{globals};
 ghost use Rattle.cw_value.specs.Starts.{first_shape, owns, owns_by, shape, shape_in};
-ghost use Rattle.cw_slots.specs.Texts.{statement_at, text_at};
+ghost use Rattle.cw_slots.specs.Texts.{statement_at};
 ghost use Rattle.cw_starts.specs.Held.{item_at};
 ghost use Rattle.cw_starts.specs.Owning.{own_in, own_of, param_own};
 
 use crate::outer::globals;
+use crate::texts::Texts;
 use cw_slots::said;
 use cw_syntax::names::text;
 use cw_syntax::program::{Function, Item, Name, Param, Program, Stmt, What};
@@ -82,31 +82,19 @@ fn owns(alloc: Global, function: &Function) -> Result<Vec<Own>, AllocError>
     Ok(out)
 }
 
-/// Whether a text is among these.
-fn is_among(texts: &[&[u8]], name: &[u8]) -> bool
-    ensures { result ≡ list_any (bytes_eq name.now) (map text_at texts.now) }
-{
-    for text in texts {
-        if name == *text {
-            return true;
-        }
-    }
-    false
-}
-
 /// The first of these names that is `static`, is one of file scope, or stands before.
-fn first_shape<'s>(
+fn first_shape(
     alloc: Global,
-    source: &'s [u8],
-    outer: &[&'s [u8]],
+    source: &[u8],
+    outer: &Texts,
     owns: &[Own],
 ) -> Result<Option<u32>, AllocError>
-    ensures { IfOk result (λ at. at ≡ first_shape source.now (map text_at outer.now) [] (map own_in owns.now)) }
+    ensures { IfOk result (λ at. at ≡ first_shape source.now outer.now [] (map own_in owns.now)) }
 {
-    let mut before = Vec::new(alloc);
+    let mut before = Texts::new(alloc);
     for own in owns {
         let name = text(source, own.name);
-        if own.fixed || (is_among(outer, name) || is_among(&before, name)) {
+        if own.fixed || (outer.contains(name) || before.contains(name)) {
             return Ok(Some(own.name.from));
         }
         before.push(name)?;
@@ -114,25 +102,25 @@ fn first_shape<'s>(
     Ok(None)
 }
 
-fn shape_of<'s>(
+fn shape_of(
     alloc: Global,
-    source: &'s [u8],
-    outer: &[&'s [u8]],
+    source: &[u8],
+    outer: &Texts,
     function: &Function,
 ) -> Result<Option<u32>, AllocError>
-    ensures { IfOk result (λ at. at ≡ first_shape source.now (map text_at outer.now) [] (owns (definition_of function.now))) }
+    ensures { IfOk result (λ at. at ≡ first_shape source.now outer.now [] (owns (definition_of function.now))) }
 {
     let owns = owns(alloc, function)?;
     first_shape(alloc, source, outer, &owns)
 }
 
-fn shape_in<'s>(
+fn shape_in(
     alloc: Global,
-    source: &'s [u8],
-    outer: &[&'s [u8]],
+    source: &[u8],
+    outer: &Texts,
     functions: &[Function],
 ) -> Result<Option<u32>, AllocError>
-    ensures { IfOk result (λ at. at ≡ shape_in source.now (map text_at outer.now) (map definition_of functions.now)) }
+    ensures { IfOk result (λ at. at ≡ shape_in source.now outer.now (map definition_of functions.now)) }
 {
     for function in functions {
         if let Some(at) = shape_of(alloc, source, outer, function)? {
@@ -147,10 +135,10 @@ fn outer_texts<'s>(
     alloc: Global,
     source: &'s [u8],
     items: &[&Item],
-) -> Result<Vec<&'s [u8]>, AllocError>
-    ensures { IfOk result (λ texts. map text_at texts.items ≡ map (λ i. text source.now i.name) (map item_at items.now)) }
+) -> Result<Texts<'s>, AllocError>
+    ensures { IfOk result (λ texts. texts ≡ map (λ i. text source.now i.name) (map item_at items.now)) }
 {
-    let mut texts = Vec::new(alloc);
+    let mut texts = Texts::new(alloc);
     for item in items {
         texts.push(text(source, item.name))?;
     }

@@ -9,7 +9,7 @@ ghost use Rattle.cw_eval.specs.Shown.{store_of};
 ghost use Rattle.cw_starts.specs.Held.{begins_with, item_at};
 ghost use Rattle.cw_starts.specs.Sources.{array_with, source_in};
 
-use crate::outer::{is_named, start_cell};
+use crate::outer::{cell_by, is_named, listed, start_cell};
 use cw_cells::Cells;
 use cw_core::NoMemory;
 use cw_eval::{Halt, Memory, Store, sized};
@@ -115,9 +115,10 @@ fn start_array(source: &Source, name: &[u8], items: &[&Item]) -> Result<Cells, N
 fn start_cells(source: &Source, names: &Names, items: &[&Item]) -> Result<Cells, NoMemory>
     ensures { IfOk result (λ cells. cells ≡ map (begins_with source.now.bytes.now (map item_at items.now)) names.now.plain) }
 {
+    let listed = listed(source.alloc, source.bytes, items)?;
     let mut cells = Vec::new(source.alloc);
     for n in 0..names.plain_count() {
-        cells.push(start_cell(source.bytes, items, names.plain_text(n)))?;
+        cells.push(cell_by(source.bytes, items, &listed, names.plain_text(n)))?;
     }
     Cells::of(source.alloc, &cells, 0, None)
 }
