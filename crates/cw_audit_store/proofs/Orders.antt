@@ -7,11 +7,11 @@ use Rattle.std.specs.Ordering.{is_eq, nat_cmp, ordering_then}
 use Rattle.std.specs.BTreeMap.{is_at}
 use Rattle.std.specs.Cmp.{IsTotalOrder, both_ways, on_total, then_total, nat_cmp_total}
 use Rattle.cw_audit_search.specs.Searches.{is_row}
-use Rattle.cw_audit_search.proofs.Setting.{same_row}
+use Rattle.cw_audit_search.proofs.Setting.{same_row, same_group, row_itself}
 use Rattle.cw_audit_store.specs.declared.place.Entrance.{Entrance}
 use Rattle.cw_audit_store.specs.declared.place.Place.{Place}
-use Rattle.cw_audit_store.specs.Stores.{entrance_cmp, place_cmp, place_eq}
-use Rattle.cw_audit_store.specs.Finding.{place}
+use Rattle.cw_audit_store.specs.Stores.{entrance_cmp, entrance_eq, place_cmp, place_eq}
+use Rattle.cw_audit_store.specs.Finding.{entrance, place}
 
 pub entrance_total : IsTotalOrder entrance_cmp
 entrance_total = then_total (on_total (λ (a : Entrance). a.function) nat_cmp_total) (on_total (λ (a : Entrance). a.state.0) nat_cmp_total)
@@ -65,3 +65,11 @@ pub equal_places : (a b : Place) → place_eq a b ≡ true → a ≡ b
 equal_places a b e =
     same_row (λ f q p x. a ≡ place f q p x) a.entrance.function a.entrance.state.0 a.pos.0 a.state.0 b.entrance.function b.entrance.state.0 b.pos.0 b.state.0
     (sym (eq_place a b) ∙ e) refl
+
+pub equal_entrances : (a b : Entrance) → entrance_eq a b ≡ true → a ≡ b
+equal_entrances a b e =
+    same_group (λ f q. a ≡ entrance f q) a.function a.state.0 b.function b.state.0
+    (ap (λ s. s && nat_eq b.state.0 a.state.0) (flip b.function a.function) ∙ ap (λ s. nat_eq a.function b.function && s) (flip b.state.0 a.state.0) ∙ e) refl
+
+pub place_itself : (a : Place) → place_eq a a ≡ true
+place_itself a = eq_place a a ∙ row_itself a.entrance.function a.entrance.state.0 a.pos.0 a.state.0

@@ -1,4 +1,4 @@
 -- The definitions.
 pub mod Stores
 pub mod Finding
-pub mod Frontiers
+pub mod Listed

@@ -2,9 +2,11 @@
 #![tactic(auto)]
 
 mod frontier;
+mod lists;
 mod place;
 mod store;
 
 pub use frontier::Frontier;
+pub use lists::Lists;
 pub use place::{Entered, Entrance, Hit, Place, Row, Way};
 pub use store::Store;

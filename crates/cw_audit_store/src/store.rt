@@ -55,6 +55,22 @@ impl Store {
         self.groups.get(&entrance).copied()
     }
 
+    /// The group with a number, and its entrance.
+    pub fn numbered_group(&self, number: usize) -> Option<(Entrance, Entered)>
+        ensures entry { result ≡ slice_get self.now.groups.entries number }
+        ensures group { IfSome result (λ (entrance, entered). group_at self.now entrance ≡ Some entered) }
+    {
+        let (entrance, entered) = self.groups.get_index(number)?;
+        Some((*entrance, *entered))
+    }
+
+    /// How many groups there are.
+    pub fn group_count(&self) -> usize
+        ensures { result ≡ length self.now.groups.entries }
+    {
+        self.groups.len()
+    }
+
     /// How many rows there are.
     pub fn count(&self) -> usize
         ensures { result ≡ length self.now.rows.entries }
