@@ -80,7 +80,7 @@ pub(crate) fn too_many(
     ensures many { IfOk result (λ many. many ≡ true → AreManyRows (game_of game.now)) }
 {
     let bound = early_bound(&search.store, key);
-    if !settle(game, search, bound)? {
+    if !settle(alloc, game, search, bound)? {
         return Ok(false);
     }
     are_many(alloc, game, search, bound)

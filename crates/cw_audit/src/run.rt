@@ -88,7 +88,7 @@ fn advance(
         }
         Some(_) | None => {
             let bound = bound_of(&search.store);
-            let settled = settle(game, search, bound)?;
+            let settled = settle(alloc, game, search, bound)?;
             Ok(settled)
         }
     }

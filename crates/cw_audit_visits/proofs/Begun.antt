@@ -52,7 +52,9 @@ module _ (h : Held) (fair : IsFairGame h) (s s2 : Search) (f : ℕ) (q : StateId
         (ap (option_map (λ (h : Hit). h.distance)) (set.hit ∙ hit)) no_call;
   }
 
+  pub begun_reach : (found_of s2.store).reach f q.0 ≡ Some 0
+  begun_reach =
+      subst (λ f. (found_of s2.store).reach f q.0 ≡ Some 0) (sym main) (subst (λ q. (found_of s2.store).reach (game_of h).main q ≡ Some 0) (sym start) begun_kept.sound.main)
+
   pub begun_due : (p : PosId) → p.0 ≡ (game_of h).entry (game_of h).main → IsDue h s2 (place f q.0 p.0 q.0) 0 Begun
-  begun_due p is =
-      entry_due h s2 f q.0 p fair begun_kept (is ∙ ap (λ f. (game_of h).entry f) (sym main))
-      (0, subst (λ f. (found_of s2.store).reach f q.0 ≡ Some 0) (sym main) (subst (λ q. (found_of s2.store).reach (game_of h).main q ≡ Some 0) (sym start) begun_kept.sound.main))
+  begun_due p is = entry_due h s2 f q.0 p fair begun_kept (is ∙ ap (λ f. (game_of h).entry f) (sym main)) (0, begun_reach)

@@ -19,8 +19,9 @@ use Rattle.cw_audit_search.proofs.Ways.{reach_ways}
 use Rattle.cw_audit_search.specs.Settled.{IsCovered}
 use Rattle.cw_audit_search.proofs.Proposing.{entry_proposal, return_proposal, fallen_trans}
 use Rattle.cw_audit_search.proofs.Setting.{reach_sound, reach_falls, group_itself}
+use Rattle.cw_audit_visits.specs.declared.met.Met.{Met}
 use Rattle.cw_audit_visits.specs.declared.under_way.Search.{Search}
-use Rattle.cw_audit_visits.specs.Searching.{place, found_of, functions_of, IsFairGame, IsKept, IsGoneOn, IsTold, Tells, IsGroupNear, IsGroupFalling, IsGroupSet, IsEntranceTold, IsCallAt, IsReturnTold, IsDue, left, ways_of, caller_of}
+use Rattle.cw_audit_visits.specs.Searching.{place, found_of, functions_of, IsFairGame, IsKept, IsGoneOn, IsTold, Tells, IsGroupFalling, IsGroupSet, IsCallAt, IsPlaced, IsReturnTold, IsDue, IsThere, left, ways_of, caller_of}
 use Rattle.cw_audit_visits.proofs.Sets.{group_reach, group_call}
 use Rattle.cw_audit_visits.proofs.Oks.{by_truth}
 use Rattle.cw_audit_visits.proofs.Proposed.{behind, stays}
@@ -49,33 +50,11 @@ module _ (h : Held) (s s2 : Search) (at : Entrance) (entered : Entered) where
         fallen = fallen;
       }
 
-  pub group_step : IsFairGame h → IsKept (game_of h) (functions_of h) s → IsArrival (game_of h) at.function at.state.0 entered.reach → IsCaller (game_of h) (found_of s.store) at.function at.state.0 entered.reach (option_map caller_of entered.call) → (changed : Bool) → Tells s s2 changed
-      → (changed ≡ true → IsGroupFalling s at entered.reach) → (changed ≡ true → IsGroupSet s.store s2.store at entered) → IsGoneOn h s s2
-  group_step fair kept arrival caller changed tells falls set = by_truth {X = IsGoneOn h s s2} changed
-      (λ b. stays h s s2 (tells.same b).0 kept)
-      (λ b. group_gone_on fair kept arrival caller (falls b) (set b))
-
   -- then it is there
   pub group_there : IsGroupSet s.store s2.store at entered → (found_of s2.store).reach at.function at.state.0 ≡ Some entered.reach
   group_there set =
       (group_reach s.store s2.store at.function at.state.0 entered set).reach at.function at.state.0
       ∙ ap (λ b. cond b (Some entered.reach) ((found_of s.store).reach at.function at.state.0)) (group_itself at.function at.state.0)
-
-  pub reached : (changed : Bool) → (changed ≡ false → (s2.store ≡ s.store) × IsGroupNear s at entered.reach) → (changed ≡ true → IsGroupSet s.store s2.store at entered)
-      → (r : ℕ) × ((found_of s2.store).reach at.function at.state.0 ≡ Some r)
-  reached changed near set = by_truth {X = (r : ℕ) × ((found_of s2.store).reach at.function at.state.0 ≡ Some r)} changed
-      (λ b. let z = near b in
-      (z.1.0.reach, subst (λ t. (found_of t).reach at.function at.state.0 ≡ Some z.1.0.reach) (sym z.0) (ap (option_map (λ (e : Entered). e.reach)) z.1.1)))
-      (λ b. (entered.reach, group_there (set b)))
-
-  -- where nothing was set, and the entry is told of
-  pub entrance_told : (entry : Place) → entry ≡ place at.function at.state.0 ((game_of h).entry at.function) at.state.0 → s2.store ≡ s.store → IsGroupNear s at entered.reach → IsTold h s2 entry 0
-      → IsEntranceTold h s at entered.reach
-  entrance_told entry is same near told =
-      let er : (found_of s.store).reach at.function at.state.0 ≡ Some near.0.reach = ap (option_map (λ (e : Entered). e.reach)) near.1 in
-      let told2 = subst (λ t. (r : ℕ) → (found_of t).reach at.function at.state.0 ≡ Some r → IsCovered (game_of h) (found_of t) at.function at.state.0 r ((game_of h).entry at.function) at.state.0 0)
-      same (subst (λ e. IsTold h s2 e 0) is told) in
-      (near.0.reach, er, near.2, told2 near.0.reach er)
 
 -- the entry of a group may be proposed
 pub entry_due : (h : Held) (s : Search) (f q : ℕ) (p : PosId) → IsFairGame h → IsKept (game_of h) (functions_of h) s → p.0 ≡ (game_of h).entry f → (r : ℕ) × ((found_of s.store).reach f q ≡ Some r)
@@ -84,10 +63,6 @@ entry_due h s f q p fair kept is known = record {
   proposal = subst (λ p. IsProposal (game_of h) (found_of s.store) f q p q 0) (sym is) (entry_proposal (game_of h) (functions_of h) fair (found_of s.store) kept.sound f q known.0 known.1);
   leads = (ap (skipped (game_of h)) is, refl);
 }
-
--- where a row isn't there, nothing is asked of it
-pub no_number : (s : Search) (at : Place) (a : ℕ) → row_at s.store at ≡ None → (found_of s.store).number at.entrance.function at.entrance.state.0 at.pos.0 at.state.0 ≡ Some a → ⊥
-no_number s at a e n = none-some a (sym (ap (option_map (λ (r : Row). r.inside)) e) ∙ n)
 
 module _ (h : Held) (s : Search) (at : Place) (f k y : ℕ) (call : IsCallAt h at f k) where
   -- behind a return
@@ -111,27 +86,15 @@ module _ (h : Held) (s : Search) (at : Place) (f k y : ℕ) (call : IsCallAt h a
       let same_e = same_Some end.inside e (sym (ap (option_map (λ (r : Row). r.inside)) ee) ∙ re) in
       subst (λ n. IsCovered (game_of h) (found_of s.store) at.entrance.function at.entrance.state.0 r k y n) (omega (arith, number, same_a, same_e)) (told r rr)
 
--- the row at the callee's end
-pub end_there : (h : Held) (s : Search) (f x p y : ℕ) (o : Option Row) (end : Row) → p ≡ (game_of h).exit f → o ≡ row_at s.store (place f x p y) → o ≡ Some end
-    → row_at s.store (place f x ((game_of h).exit f) y) ≡ Some end
-end_there h s f x p y o end is at there = ap (λ (p : ℕ). row_at s.store (place f x p y)) (sym is) ∙ sym at ∙ there
+-- where a row may stand, its position is the game's
+pub placed_position : (h : Held) (at : Place) → IsFairGame h → IsPlaced h at → at.pos.0 < length (game_of h).spots
+placed_position h at fair placed = omega (arith, placed.position.1, fair.short at.entrance.function placed.function)
 
-pub no_end : (h : Held) (s : Search) (f x p y e : ℕ) (o : Option Row) → p ≡ (game_of h).exit f → o ≡ row_at s.store (place f x p y) → ((r : Row) → o ≡ Some r → ⊥)
-    → (found_of s.store).number f x ((game_of h).exit f) y ≡ Some e → ⊥
-no_end h s f x p y e o is at none there =
-    let r = behind (λ (r : Row). r.inside) (row_at s.store (place f x ((game_of h).exit f) y)) e there in
-    none r.0 (at ∙ ap (λ (p : ℕ). row_at s.store (place f x p y)) is ∙ r.1)
-
--- where a row is, its position and state are the game's
-pub row_placed : (h : Held) (s : Search) (at : Place) (row : Row) → IsFairGame h → IsKept (game_of h) (functions_of h) s → row_at s.store at ≡ Some row
-    → IsPlace (game_of h) (functions_of h) at.entrance.function at.entrance.state.0 at.pos.0 at.state.0
-row_placed h s at row fair kept e = kept.sound.placed at.entrance.function at.entrance.state.0 at.pos.0 at.state.0 row.inside (ap (option_map (λ (r : Row). r.inside)) e)
-
-pub row_position : (h : Held) (s : Search) (at : Place) (row : Row) → IsFairGame h → IsKept (game_of h) (functions_of h) s → row_at s.store at ≡ Some row
-    → at.pos.0 < length (game_of h).spots
-row_position h s at row fair kept e =
-    let z = row_placed h s at row fair kept e in
-    omega (arith, z.position.1, fair.short at.entrance.function z.function)
+-- what a row within a function may go on from
+pub there_placed : (h : Held) (s : Search) (met : Met) → IsKept (game_of h) (functions_of h) s → IsThere s met → IsPlaced h met.place
+there_placed h s met kept there =
+    let at = met.place in
+    kept.sound.placed at.entrance.function at.entrance.state.0 at.pos.0 at.state.0 met.row.inside (ap (option_map (λ (r : Row). r.inside)) there.row)
 
 -- whether either changed anything
 pub tells_both : (a b c : Search) (x y : Bool) → Tells a b x → Tells b c y → Tells a c (x || y)
@@ -149,12 +112,3 @@ tells_both a b c false y h k = record {
 pub neither : (x y : Bool) → (x || y) ≡ false → (x ≡ false) × (y ≡ false)
 neither true y e = cc
 neither false y e = (refl, e)
-
--- the returns so far are told of, and one more is
-pub returns_more : (h : Held) (s s1 : Search) (at : Place) (f k n : ℕ) → s1.store ≡ s.store → ((y : ℕ) → y < n → IsReturnTold h s at f k y) → IsReturnTold h s1 at f k n
-    → (y : ℕ) → y < n + 1 → IsReturnTold h s at f k y
-returns_more h s s1 at f k n same before here y l = elim (leb_tells n y) [
-  | inl q ↦ let z : n ≡ y = omega (arith, q.1, l) in
-      subst (IsReturnTold h s at f k) z (subst (λ t. IsReturnTold h (record { store = t; frontier = s.frontier }) at f k n) same here)
-  | inr q ↦ before y q.1
-]

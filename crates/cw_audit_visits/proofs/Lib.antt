@@ -1,9 +1,11 @@
 -- The proofs.
 pub mod Oks
 pub mod Turns
+pub mod Spots
 pub mod Gone
 pub mod Begun
 pub mod Stepping
+pub mod Ended
 pub mod Swept
 pub mod Sets
 pub mod Proposed

@@ -6,13 +6,13 @@ use Rattle.std.proofs.Math.Nat.{min-le_right}
 use Rattle.cw_lemmas.proofs.Truths.{not_both}
 use Rattle.cw_game.specs.Games.{Game, bad_in}
 use Rattle.cw_product.specs.Product.{Held, game_of}
-use Rattle.cw_audit_store.specs.declared.place.Entrance.{Entrance}
 use Rattle.cw_audit_store.specs.declared.place.Place.{Place}
 use Rattle.cw_audit_store.specs.declared.place.Row.{Row}
 use Rattle.cw_audit_store.specs.declared.place.Entered.{Entered}
 use Rattle.cw_audit_store.specs.declared.place.Hit.{Hit}
 use Rattle.cw_audit_store.specs.declared.place.Way.{Way}
-use Rattle.cw_audit_store.specs.Stores.{row_at, group_at}
+use Rattle.indexmap.specs.IndexMap.{get}
+use Rattle.cw_audit_store.specs.Stores.{row_at, entrance_eq}
 use Rattle.cw_audit_table.specs.Runs.{cut, skipped}
 use Rattle.cw_audit_search.specs.Sound.{IsSound, IsHitCut, HasFallen}
 use Rattle.cw_audit_search.proofs.Proposing.{proposal_hits, fallen_refl}
@@ -20,7 +20,7 @@ use Rattle.cw_audit_search.specs.Ways.{AreWays}
 use Rattle.cw_audit_search.proofs.Ways.{number_ways, best_ways}
 use Rattle.cw_audit_search.proofs.Setting.{number_sound, number_falls, best_sound, best_falls}
 use Rattle.cw_audit_visits.specs.declared.under_way.Search.{Search}
-use Rattle.cw_audit_visits.specs.Searching.{place, found_of, functions_of, IsFairGame, IsKept, IsDue, IsTold, IsNear, IsHitNear, IsRowSet, IsHitSet, IsRowFalling, IsHitFalling, IsGoneOn, ways_of, way_of, bad_way_of}
+use Rattle.cw_audit_visits.specs.Searching.{entrance, place, found_of, functions_of, IsFairGame, IsKept, IsDue, IsTold, IsNear, IsHitNear, IsRowSet, IsHitSet, IsRowFalling, IsHitFalling, IsGoneOn, ways_of, way_of, bad_way_of, reach_of}
 use Rattle.cw_audit_visits.proofs.Sets.{row_number, hit_best, row_way, hit_way}
 
 abbrev pub at_rest : Place → ℕ → Place
@@ -40,10 +40,6 @@ module _ (h : Held) (s : Search) (at : Place) (n p : ℕ) (is : p ≡ skipped (g
   abbrev bad_at : ℕ → Bool
   bad_at p = bad_in (game_of h) at.state.0 (slice_get (game_of h).spots p)
 
-  -- no group is there
-  pub told_nothing : group_at s.store at.entrance ≡ None → IsTold h s at n
-  told_nothing e = λ r er. absurd (none-some r (sym (ap (option_map (λ (e : Entered). e.reach)) e) ∙ er))
-
   -- a row that isn't greater is there
   pub told_row : bad_at p ≡ false → IsNear s (at_rest at p) n → IsTold h s at n
   told_row good near = λ r er. record {
@@ -52,10 +48,10 @@ module _ (h : Held) (s : Search) (at : Place) (n p : ℕ) (is : p ≡ skipped (g
   }
 
   -- a violation that isn't later is
-  pub told_hit : (entered : Entered) → group_at s.store at.entrance ≡ Some entered → bad_at p ≡ true → IsHitNear s (cut (entered.reach + n)) → IsTold h s at n
-  told_hit entered e bad near = λ r er. record {
+  pub told_hit : (reach : ℕ) → reach_of s at ≡ Some reach → bad_at p ≡ true → IsHitNear s (cut (reach + n)) → IsTold h s at n
+  told_hit reach e bad near = λ r er. record {
     bad = λ b.
-        let same = same_Some entered.reach r (sym (ap (option_map (λ (e : Entered). e.reach)) e) ∙ er) in
+        let same = same_Some reach r (sym e ∙ er) in
         (near.0.distance, ap (option_map (λ (h : Hit). h.distance)) near.1, subst (λ m. near.0.distance ≤ cut (m + n)) same near.2);
     good = λ b. absurd (not_both (bad_at p) bad (ap bad_at is ∙ b));
   }
@@ -90,12 +86,11 @@ module _ (h : Held) (s : Search) (at : Place) (n p : ℕ) (is : p ≡ skipped (g
         }
 
     -- a violation is set
-    pub hit_gone_on : (entered : Entered) (d : ℕ) → d ≡ cut (entered.reach + n) → group_at s.store at.entrance ≡ Some entered → bad_at p ≡ true → IsHitFalling s d
+    pub hit_gone_on : (reach d : ℕ) → d ≡ cut (reach + n) → reach_of s at ≡ Some reach → bad_at p ≡ true → IsHitFalling s d
         → IsHitSet s.store s2.store (record { distance = d; entrance = at.entrance; way = by }) → IsGoneOn h s s2
-    hit_gone_on entered d number e bad falls set =
+    hit_gone_on reach d number er bad falls set =
         let set2 = hit_best s.store s2.store (record { distance = d; entrance = at.entrance; way = by }) set in
-        let er : (found_of s.store).reach f q ≡ Some entered.reach = ap (option_map (λ (e : Entered). e.reach)) e in
-        let hit = proposal_hits g (functions_of h) fair (found_of s.store) kept.sound f q at.pos.0 at.state.0 n entered.reach due.proposal er (sym (ap bad_at is) ∙ bad) in
+        let hit = proposal_hits g (functions_of h) fair (found_of s.store) kept.sound f q at.pos.0 at.state.0 n reach due.proposal er (sym (ap bad_at is) ∙ bad) in
         let fallen = best_falls g (functions_of h) fair (found_of s.store) (found_of s2.store) kept.sound d set2
         (λ a e. let r = behind (λ (h : Hit). h.distance) s.store.hit a e in subst (λ m. d ≤ m) r.2 (falls r.0 r.1)) in
         let to : Hit = record { distance = d; entrance = at.entrance; way = by } in
@@ -104,7 +99,7 @@ module _ (h : Held) (s : Search) (at : Place) (n p : ℕ) (is : p ≡ skipped (g
             sound = best_sound g (functions_of h) fair (found_of s.store) (found_of s2.store) kept.sound d set2 (subst (IsHitCut g) (sym number) hit);
             ways = best_ways g (found_of s.store) (found_of s2.store) fallen (ways_of s.store) (ways_of s2.store) kept.ways d (bad_way_of to) set2 (hit_way s.store s2.store to set)
                 (record {
-                  reach = entered.reach;
+                  reach = reach;
                   inside = n;
                   pos = skipped g at.pos.0;
                   state = at.state.0;
@@ -128,7 +123,12 @@ stays h s s2 e kept = record {
 }
 
 -- the reach of a group that is known
-pub reach_low : (h : Held) (s : Search) (at : Entrance) (entered : Entered) → IsKept (game_of h) (functions_of h) s → group_at s.store at ≡ Some entered → entered.reach ≤ 65537
-reach_low h s at entered kept e =
-    let a = kept.sound.entered at.function at.state.0 entered.reach (ap (option_map (λ (e : Entered). e.reach)) e) in
+pub reach_low : (h : Held) (s : Search) (at : Place) (r : ℕ) → IsKept (game_of h) (functions_of h) s → reach_of s at ≡ Some r → r ≤ 65537
+reach_low h s at r kept e =
+    let a = kept.sound.entered at.entrance.function at.entrance.state.0 r e in
     omega (arith, a.number, min-le_right a.moves 65537)
+
+-- it is the same where the groups are
+pub reach_same : (s s2 : Search) (at : Place) (r : ℕ) → s2.store.groups ≡ s.store.groups → reach_of s at ≡ Some r → reach_of s2 at ≡ Some r
+reach_same s s2 at r groups e =
+    ap (λ m. option_map (λ (e : Entered). e.reach) (get entrance_eq m (entrance at.entrance.function at.entrance.state.0))) groups ∙ e

@@ -1,13 +1,13 @@
 -- What a row leads to within its function.
-use Rattle.std.proofs.Common.{◌≡◌, ℕ, ◌+◌, ◌∙◌, ◌≤◌, ◌<◌, [], true, false, Option, Some, None, refl, sym, ap, subst, arith}
+use Rattle.std.proofs.Common.{◌≡◌, ℕ, ◌+◌, ◌∙◌, ◌≤◌, [], true, false, Option, Some, refl, sym, ap, subst, arith}
 use Rattle.std.specs.Prelude.{option_map}
-use Rattle.std.proofs.lemmas.Option.{none-some, same_Some}
+use Rattle.std.proofs.lemmas.Option.{same_Some}
 use Rattle.std.proofs.Math.Nat.{min-le_right}
 use Rattle.cw_core.specs.declared.ids.PosId.{PosId}
 use Rattle.cw_core.specs.declared.ids.StateId.{StateId}
 use Rattle.cw_certs.specs.declared.moves.Move.{Move}
 use Rattle.cw_game.specs.declared.spots.Spot.{Spot}
-use Rattle.cw_game.specs.declared.spots.Spot.TheVariants.{Call, Exit}
+use Rattle.cw_game.specs.declared.spots.Spot.TheVariants.{Call}
 use Rattle.cw_game.specs.Games.{Config, leads_in, bad_in}
 use Rattle.cw_product.specs.Product.{Held, game_of}
 use Rattle.cw_product.specs.Moves.{numbers, next_at}
@@ -24,9 +24,11 @@ use Rattle.cw_audit_store.specs.declared.place.Place.{Place}
 use Rattle.cw_audit_store.specs.declared.place.Row.{Row}
 use Rattle.cw_audit_store.specs.declared.place.Entered.{Entered}
 use Rattle.cw_audit_store.specs.declared.place.Way.TheVariants.{Moved}
-use Rattle.cw_audit_store.specs.Stores.{row_at, group_at}
+use Rattle.cw_audit_store.specs.Stores.{row_at}
+use Rattle.cw_audit_visits.specs.declared.met.Met.{Met}
+use Rattle.cw_audit_visits.specs.declared.met.Calling.{Calling}
 use Rattle.cw_audit_visits.specs.declared.under_way.Search.{Search}
-use Rattle.cw_audit_visits.specs.Searching.{place, found_of, functions_of, caller_of, spot_at, IsFairGame, IsKept, IsTold, IsDue, IsStepDue, IsStepTold, IsEnteredAt, IsCallTold, IsReturnTold, IsEntranceTold, IsVisited}
+use Rattle.cw_audit_visits.specs.Searching.{place, found_of, functions_of, caller_of, spot_at, AreBegun, IsFairGame, IsKept, IsTold, IsDue, IsStepDue, IsStepTold, IsCallNear, IsCallOf, IsNoCall, IsReturnTold, IsThere, IsVisited}
 use Rattle.cw_audit_visits.proofs.Turns.{next_leads, leads_of, two_moves}
 
 module _ (h : Held) (s : Search) (at : Place) (a : ℕ) (by : Move) (inner : is_inner (spot_at h at) ≡ true) (good : bad_in (game_of h) at.state.0 (spot_at h at) ≡ false) where
@@ -94,27 +96,16 @@ row_low h s at row kept e =
     omega (arith, w.2, min-le_right w.0 65537)
 
 -- a call's row enters the callee
-module _ (h : Held) (s : Search) (at : Place) (f n : ℕ) (group : Entered) (row : Row) (eg : group_at s.store at.entrance ≡ Some group) (er : row_at s.store at ≡ Some row)
-    (number : n ≡ cut (group.reach + row.inside + 1)) (call : IsEnteredAt h at f) where
-  pub callee_arrival : IsFairGame h → IsKept (game_of h) (functions_of h) s → IsArrival (game_of h) f at.state.0 n
+module _ (h : Held) (s : Search) (met : Met) (f n : ℕ) (there : IsThere s met) (number : n ≡ cut (met.reach + met.row.inside + 1)) (j k : ℕ) (call : spot_at h met.place ≡ Some (Call j f k)) where
+  pub callee_arrival : IsFairGame h → IsKept (game_of h) (functions_of h) s → IsArrival (game_of h) f met.place.state.0 n
   callee_arrival fair kept =
+      let at = met.place in
       subst (IsArrival (game_of h) f at.state.0) (sym number)
-      (call_arrival (game_of h) (functions_of h) fair (found_of s.store) kept.sound at.entrance.function at.entrance.state.0 group.reach at.pos.0 at.state.0 row.inside call.1.0 f call.0
-      (ap (option_map (λ (e : Entered). e.reach)) eg) (ap (option_map (λ (r : Row). r.inside)) er) call.1.1)
+      (call_arrival (game_of h) (functions_of h) fair (found_of s.store) kept.sound at.entrance.function at.entrance.state.0 met.reach at.pos.0 at.state.0 met.row.inside j f k
+      there.reach (ap (option_map (λ (r : Row). r.inside)) there.row) call)
 
-  pub callee_caller : IsCaller (game_of h) (found_of s.store) f at.state.0 n (Some (caller_of at))
-  callee_caller =
-      (group.reach, row.inside, ap (option_map (λ (e : Entered). e.reach)) eg, ap (option_map (λ (r : Row). r.inside)) er, omega (arith, number), (call.1.0, call.0, call.1.1))
-
-  pub callee_told : IsEntranceTold h s (record { function = f; state = at.state }) n → IsCallTold h s at f
-  callee_told told = λ r a rr ra.
-      let same_r = same_Some group.reach r (sym (ap (option_map (λ (e : Entered). e.reach)) eg) ∙ rr) in
-      let same_a = same_Some row.inside a (sym (ap (option_map (λ (r : Row). r.inside)) er) ∙ ra) in
-      subst (IsEntranceTold h s (record { function = f; state = at.state })) (omega (arith, number, same_r, same_a)) told
-
--- where no row is, nothing is asked
-pub visited_none : (h : Held) (s : Search) (at : Place) → row_at s.store at ≡ None → IsVisited h s at
-visited_none h s at e = λ r a er ea. absurd (none-some a (sym (ap (option_map (λ (r : Row). r.inside)) e) ∙ ea))
+  pub callee_caller : IsCaller (game_of h) (found_of s.store) f met.place.state.0 n (Some (caller_of met.place))
+  callee_caller = (met.reach, met.row.inside, there.reach, ap (option_map (λ (r : Row). r.inside)) there.row, omega (arith, number), (j, k, call))
 
 not_call : (spot : Option Spot) → is_inner spot ≡ true → (j h k : ℕ) → spot ≡ Some (Call j h k) → ⊥
 not_call spot i j h k e = let z : true ≡ false = sym i ∙ ap is_inner e in cc
@@ -132,38 +123,49 @@ module _ (h : Held) (s : Search) (at : Place) where
     returns = λ j f k y e2 l n. absurd (not_call (spot_at h at) inner j f k l);
   }
 
-  pub visited_exit : (f : ℕ) → spot_at h at ≡ Some (Exit f) → IsVisited h s at
-  visited_exit f e = λ r a er ea. record {
-    steps = λ by c i step l. let z : true ≡ false = sym i ∙ ap is_inner e in cc;
-    calls = λ j g k l. let z = same_Some _ _ (sym e ∙ l) in cc;
-    returns = λ j g k y e2 l n. let z = same_Some _ _ (sym e ∙ l) in cc;
+  pub visited_neither : is_inner (spot_at h at) ≡ false → IsNoCall h at → IsVisited h s at
+  visited_neither outer none = λ r a er ea. record {
+    steps = λ by c i step l. let z : true ≡ false = sym i ∙ outer in cc;
+    calls = λ j f k l. absurd (none j f k l);
+    returns = λ j f k y e2 l n. absurd (none j f k l);
   }
 
-  pub visited_call : (j f k : ℕ) → spot_at h at ≡ Some (Call j f k) → IsFairGame h → IsKept (game_of h) (functions_of h) s → IsCallTold h s at f
-      → ((y : ℕ) → y < (game_of h).states.count → IsReturnTold h s at f k y) → IsVisited h s at
-  visited_call j f k e fair kept called returned = λ r a er ea. record {
-    steps = λ by c i step l. absurd (not_inner (spot_at h at) j f k e i);
-    calls = λ j2 f2 k2 l.
-        let same = same_call (same_Some (Call j f k) (Call j2 f2 k2) (sym e ∙ l)) in
-        subst (λ f. (r2 : ℕ) × ((found_of s.store).reach f at.state.0 ≡ Some r2) × (r2 ≤ cut (r + a + 1)) × IsCovered (game_of h) (found_of s.store) f at.state.0 r2 ((game_of h).entry f) at.state.0 0)
-        same.0 (called r a er ea);
-    returns = λ j2 f2 k2 y n l there.
-        let same = same_call (same_Some (Call j f k) (Call j2 f2 k2) (sym e ∙ l)) in
-        let there2 = subst (λ f. (found_of s.store).number f at.state.0 ((game_of h).exit f) y ≡ Some n) (sym same.0) there in
-        let low = (kept.sound.placed f at.state.0 ((game_of h).exit f) y n there2).state in
-        subst (λ k. IsCovered (game_of h) (found_of s.store) at.entrance.function at.entrance.state.0 r k y (cut (a + n + 2))) same.1 (returned y low r a n er ea there2);
-  }
-    where
-      function_in : Spot → ℕ
-      function_in (Call j f k) = f
-      function_in _ = 0
+abbrev function_in : Spot → ℕ
+function_in (Call j f k) = f
+function_in _ = 0
 
-      back_in : Spot → ℕ
-      back_in (Call j f k) = k
-      back_in _ = 0
+abbrev back_in : Spot → ℕ
+back_in (Call j f k) = k
+back_in _ = 0
 
-      same_call : {j f k j2 f2 k2 : ℕ} → Call j f k ≡ Call j2 f2 k2 → (f ≡ f2) × (k ≡ k2)
-      same_call e = (ap function_in e, ap back_in e)
+same_call : {j f k j2 f2 k2 : ℕ} → Call j f k ≡ Call j2 f2 k2 → (f ≡ f2) × (k ≡ k2)
+same_call e = (ap function_in e, ap back_in e)
+
+-- a call's row, where the callee is entered no later and each return is told of
+pub visited_call : (h : Held) (s : Search) (call : Calling) → IsThere s call.met → IsCallOf h call.met.place call.callee call.back.0 → AreBegun h s → IsCallNear s call
+    → ((y : ℕ) → IsReturnTold h s call.met.place call.callee call.back.0 y) → IsVisited h s call.met.place
+visited_call h s call there stands begun near returned = λ r a er ea.
+    let at = call.met.place in
+    let f = call.callee in
+    let e = stands.call.1 in
+    let same_r = same_Some call.met.reach r (sym there.reach ∙ er) in
+    let same_a = same_Some call.met.row.inside a (sym (ap (option_map (λ (r : Row). r.inside)) there.row) ∙ ea) in
+    let reached : (found_of s.store).reach f at.state.0 ≡ Some near.0.reach = ap (option_map (λ (e : Entered). e.reach)) near.1 in
+    record {
+      steps = λ by c i step l. absurd (not_inner (spot_at h at) stands.call.0 f call.back.0 e i);
+      calls = λ j2 f2 k2 l.
+          let same = same_call (same_Some (Call stands.call.0 f call.back.0) (Call j2 f2 k2) (sym e ∙ l)) in
+          subst (λ f. (r2 : ℕ) × ((found_of s.store).reach f at.state.0 ≡ Some r2) × (r2 ≤ cut (r + a + 1)) × IsCovered (game_of h) (found_of s.store) f at.state.0 r2 ((game_of h).entry f) at.state.0 0)
+          same.0 (near.0.reach, reached, omega (arith, near.2, same_r, same_a), begun f at.state.0 near.0.reach reached);
+      returns = λ j2 f2 k2 y n l there2.
+          let same = same_call (same_Some (Call stands.call.0 f call.back.0) (Call j2 f2 k2) (sym e ∙ l)) in
+          let there3 = subst (λ f. (found_of s.store).number f at.state.0 ((game_of h).exit f) y ≡ Some n) (sym same.0) there2 in
+          subst (λ k. IsCovered (game_of h) (found_of s.store) at.entrance.function at.entrance.state.0 r k y (cut (a + n + 2))) same.1 (returned y r a n er ea there3);
+    }
+
+-- what is there is so in a search with the same store
+pub there_same : (s s1 : Search) (met : Met) → s1.store ≡ s.store → IsThere s met → IsThere s1 met
+there_same s s1 met same there = subst (λ t. IsThere (record { store = t; frontier = s1.frontier }) met) (sym same) (record { row = there.row; reach = there.reach })
 
 pub returns_same : (h : Held) (s s1 : Search) (at : Place) (f k y : ℕ) → s1.store ≡ s.store → IsReturnTold h s1 at f k y → IsReturnTold h s at f k y
 returns_same h s s1 at f k y same told = subst (λ t. IsReturnTold h (record { store = t; frontier = s.frontier }) at f k y) same told

@@ -1,36 +1,73 @@
 -- All rows below a bound are visited.
-use Rattle.std.proofs.Common.{◌≡◌, ℕ, ◌+◌, ◌<◌, ◌≤◌, ◌∙◌, length, Bool, true, false, not, Some, refl, sym, ap, subst, arith, inl, inr}
-use Rattle.std.specs.Prelude.{Option, option_map, slice_get, ◌||◌}
+use Rattle.std.proofs.Common.{◌≡◌, ℕ, ◌+◌, ◌<◌, ◌≤◌, ◌∙◌, length, true, Some, refl, sym, ap, subst, arith, inl, inr}
+use Rattle.std.specs.Prelude.{Option, option_map, slice_get}
 use Rattle.std.proofs.lemmas.Option.{same_Some, slice_get_within}
 use Rattle.std.proofs.lemmas.Bool.Decides.{leb_tells}
 use Rattle.std.proofs.lemmas.Map.Entries.{place_from_lookup}
-use Rattle.cw_core.specs.declared.ids.StateId.{StateId}
+use Rattle.cw_core.specs.declared.ids.PosId.{PosId}
 use Rattle.cw_product.specs.Product.{Held, game_of}
 use Rattle.cw_audit_search.specs.Searches.{is_row}
 use Rattle.cw_audit_search.specs.Sound.{IsArrival}
 use Rattle.cw_audit_search.specs.Settled.{IsCovered, IsSettled}
-use Rattle.cw_audit_search.proofs.Proposing.{main_arrival}
 use Rattle.cw_audit_search.proofs.Setting.{same_row}
+use Rattle.cw_audit_store.specs.declared.lists.Lists.{Lists}
+use Rattle.cw_audit_store.specs.declared.place.Entrance.{Entrance}
 use Rattle.cw_audit_store.specs.declared.place.Place.{Place}
 use Rattle.cw_audit_store.specs.declared.place.Entered.{Entered}
 use Rattle.cw_audit_store.specs.declared.place.Row.{Row}
 use Rattle.cw_audit_table.specs.Runs.{cut}
-use Rattle.cw_audit_store.specs.Stores.{row_at, group_at, place_eq}
-use Rattle.cw_audit_store.proofs.Orders.{eq_place}
+use Rattle.cw_audit_store.specs.Stores.{row_at, group_at, entrance_eq, place_eq}
+use Rattle.cw_audit_store.proofs.Orders.{eq_place, equal_entrances}
+use Rattle.cw_audit_visits.specs.declared.met.Met.{Met}
 use Rattle.cw_audit_visits.specs.declared.under_way.Search.{Search}
-use Rattle.cw_audit_visits.specs.Searching.{place, found_of, functions_of, IsFairGame, IsEntranceTold, IsBegunTold, IsVisited, IsNumberVisited, IsSettledAt, IsNumberSettled, AreSettledAt, AreSettledBelow}
+use Rattle.cw_audit_visits.specs.Searching.{entrance, place, found_of, functions_of, AreBegun, AreBegunUpTo, AreEnds, IsBegunAt, IsEntryTold, IsKept, IsThere, IsTold, IsUnknown, IsVisited, IsSettledAt, IsNumberSettled, AreSettledAt, AreSettledBelow}
 use Rattle.cw_audit_visits.proofs.Proposed.{behind}
 
-pub start_arrival : (h : Held) → IsFairGame h → (f q : ℕ) → f ≡ (game_of h).main → q ≡ (game_of h).states.start → IsArrival (game_of h) f q 0
-start_arrival h fair f q main start =
-    subst (λ f. IsArrival (game_of h) f q 0) (sym main) (subst (λ q. IsArrival (game_of h) (game_of h).main q 0) (sym start) (main_arrival (game_of h) (functions_of h) fair))
+-- each group has a number
+pub begun_more : (h : Held) (s s1 : Search) (n : ℕ) → s1.store ≡ s.store → AreBegunUpTo h s n → IsBegunAt h s1 n → AreBegunUpTo h s (n + 1)
+begun_more h s s1 n same before now = λ i l. elim (leb_tells n i) [
+  | inl q ↦ let z : n ≡ i = omega (arith, q.1, l) in
+      subst (IsBegunAt h s) z (subst (λ t. IsBegunAt h (record { store = t; frontier = s.frontier }) n) same now)
+  | inr q ↦ before i q.1
+]
 
-pub start_told : (h : Held) (s : Search) (f : ℕ) (q : StateId) → f ≡ (game_of h).main → q.0 ≡ (game_of h).states.start → IsEntranceTold h s (record { function = f; state = q }) 0 → IsBegunTold h s
-start_told h s f q main start told =
-    let z : told.0 ≡ 0 = omega (arith, told.2) in
-    let t = subst (λ r. IsCovered (game_of h) (found_of s.store) f q.0 r ((game_of h).entry f) q.0 0) z told.3 in
-    subst (λ q. IsCovered (game_of h) (found_of s.store) (game_of h).main q 0 ((game_of h).entry (game_of h).main) q 0) start
-    (subst (λ f. IsCovered (game_of h) (found_of s.store) f q.0 0 ((game_of h).entry f) q.0 0) main t)
+pub all_begun : (h : Held) (s : Search) (count : ℕ) → count ≡ length s.store.groups.entries → AreBegunUpTo h s count → AreBegun h s
+all_begun h s count is each = λ f q r er.
+    let e = behind (λ (e : Entered). e.reach) (group_at s.store (entrance f q)) r er in
+    let there = place_from_lookup (entrance_eq (entrance f q)) s.store.groups.entries e.0 e.1 in
+    let at = there.1 in
+    let few : there.0 < count = omega (arith, is, slice_get_within s.store.groups.entries there.0 (at, e.0) there.2) in
+    let same : entrance f q ≡ at = equal_entrances (entrance f q) at there.3 in
+    subst (λ r. IsEntryTold h s f q r) e.2
+    (subst (λ (at : Entrance). IsEntryTold h s at.function at.state.0 e.0.reach) (sym same) (each there.0 few at e.0 there.2))
+
+-- a group that is there
+pub group_reached : (s : Search) (at : Entrance) (e : Entered) → group_at s.store at ≡ Some e → (found_of s.store).reach at.function at.state.0 ≡ Some e.reach
+group_reached s at e there = ap (option_map (λ (e : Entered). e.reach)) there
+
+pub group_arrival : (h : Held) (s : Search) (at : Entrance) (e : Entered) → IsKept (game_of h) (functions_of h) s → group_at s.store at ≡ Some e → IsArrival (game_of h) at.function at.state.0 e.reach
+group_arrival h s at e kept there = kept.sound.entered at.function at.state.0 e.reach (group_reached s at e there)
+
+pub entry_told : (h : Held) (s : Search) (at : Entrance) (e : Entered) (p : PosId) → p.0 ≡ (game_of h).entry at.function → group_at s.store at ≡ Some e
+    → IsTold h s (place at.function at.state.0 p.0 at.state.0) 0 → IsEntryTold h s at.function at.state.0 e.reach
+entry_told h s at e p is there told =
+    subst (λ p. IsCovered (game_of h) (found_of s.store) at.function at.state.0 e.reach p at.state.0 0) is (told e.reach (group_reached s at e there))
+
+pub begun_same : (h : Held) (s s1 : Search) → s1.store ≡ s.store → AreBegun h s → AreBegun h s1
+begun_same h s s1 same begun = subst (λ t. AreBegun h (record { store = t; frontier = s1.frontier })) (sym same) begun
+
+pub ends_same : (h : Held) (s s1 : Search) (ends : Lists) → s1.store ≡ s.store → AreEnds h s ends → AreEnds h s1 ends
+ends_same h s s1 ends same are = subst (λ t. AreEnds h (record { store = t; frontier = s1.frontier }) ends) (sym same) are
+
+-- of the one group with the number
+pub number_begun : (h : Held) (s : Search) (number : ℕ) (at : Entrance) (e : Entered) → Some (at, e) ≡ slice_get s.store.groups.entries number → IsEntryTold h s at.function at.state.0 e.reach
+    → IsBegunAt h s number
+number_begun h s number at e there told = λ at2 e2 is.
+    subst (λ (p : Entrance × Entered). IsEntryTold h s p.0.function p.0.state.0 p.1.reach) (same_Some (at, e) (at2, e2) (there ∙ is)) told
+
+pub no_begun : (h : Held) (s : Search) (number : ℕ) (o : Option (Entrance × Entered)) → o ≡ slice_get s.store.groups.entries number → ((p : Entrance × Entered) → o ≡ Some p → ⊥)
+    → IsBegunAt h s number
+no_begun h s number o is none = λ at e there. absurd (none (at, e) (is ∙ there))
 
 -- each row has a number
 pub all_settled : (h : Held) (s : Search) (bound count : ℕ) → count ≡ length s.store.rows.entries → AreSettledAt h s bound count → AreSettledBelow h s bound
@@ -43,8 +80,8 @@ all_settled h s bound count is each f q p x = λ r a er ea low.
     same_row (λ f2 q2 p2 x2. IsSettledAt h s bound (place f2 q2 p2 x2) → IsSettledAt h s bound (place f q p x)) f q p x at.entrance.function at.entrance.state.0 at.pos.0 at.state.0 same
     (λ z. z) (each there.0 few at row.0 there.2) r a er ea low
 
-pub settled_of : (h : Held) (s : Search) (bound : ℕ) → IsBegunTold h s → AreSettledBelow h s bound → IsSettled (game_of h) (found_of s.store) bound
-settled_of h s bound begun below = record { begins = begun; closed = λ f q r p x a er ea low. below f q p x r a er ea low }
+pub settled_of : (h : Held) (s : Search) (bound : ℕ) → IsKept (game_of h) (functions_of h) s → AreBegun h s → AreSettledBelow h s bound → IsSettled (game_of h) (found_of s.store) bound
+settled_of h s bound kept begun below = record { begins = begun (game_of h).main (game_of h).states.start 0 kept.sound.main; closed = λ f q r p x a er ea low. below f q p x r a er ea low }
 
 -- one row more
 pub settled_more : (h : Held) (s s1 : Search) (bound n : ℕ) → s1.store ≡ s.store → AreSettledAt h s bound n → IsNumberSettled h s1 bound n → AreSettledAt h s bound (n + 1)
@@ -53,11 +90,6 @@ settled_more h s s1 bound n same before now = λ i l at row e. elim (leb_tells n
       subst (λ t. IsNumberSettled h (record { store = t; frontier = s.frontier }) bound n) same now at row (ap (slice_get s.store.rows.entries) (sym z) ∙ e)
   | inr q ↦ before i q.1 at row e
 ]
-
-pub not_either : (x y : Bool) → not (x || y) ≡ true → (x ≡ false) × (y ≡ false)
-not_either true y e = cc
-not_either false true e = cc
-not_either false false e = (refl, refl)
 
 pub below_same : (h : Held) (s s1 : Search) (bound : ℕ) → s1.store ≡ s.store → AreSettledBelow h s1 bound → AreSettledBelow h s bound
 below_same h s s1 bound same below = subst (λ t. AreSettledBelow h (record { store = t; frontier = s.frontier }) bound) same below
@@ -68,21 +100,15 @@ pub number_settled : (h : Held) (s : Search) (bound number : ℕ) (at : Place) (
 number_settled h s bound number at row there settled = λ at2 row2 e.
     subst (IsSettledAt h s bound) (ap (λ (p : Place × Row). p.0) (same_Some (at, row) (at2, row2) (there ∙ e))) settled
 
-pub number_missing : (h : Held) (s : Search) (bound number : ℕ) (o : Option (Place × Row)) → o ≡ slice_get s.store.rows.entries number → ((p : Place × Row) → o ≡ Some p → ⊥)
-    → IsNumberSettled h s bound number
-number_missing h s bound number o is none = λ at row e. absurd (none (at, row) (is ∙ e))
-
-pub number_visited : (h : Held) (s : Search) (number : ℕ) (at : Place) (row : Row) → Some (at, row) ≡ slice_get s.store.rows.entries number → IsVisited h s at → IsNumberVisited h s number
-number_visited h s number at row there visited = λ at2 row2 e.
-    subst (IsVisited h s) (ap (λ (p : Place × Row). p.0) (same_Some (at, row) (at2, row2) (there ∙ e))) visited
-
 -- no row of an entrance without a group is asked for, nor one past the bound
-pub no_group : (h : Held) (s : Search) (bound : ℕ) (at : Place) (o : Option Entered) → o ≡ group_at s.store at.entrance → ((e : Entered) → o ≡ Some e → ⊥) → IsSettledAt h s bound at
-no_group h s bound at o is none = λ r a er ea low. let e = behind (λ (e : Entered). e.reach) (group_at s.store at.entrance) r er in absurd (none e.0 (is ∙ e.1))
+pub unknown_settled : (h : Held) (s : Search) (bound number : ℕ) → IsUnknown s number → IsNumberSettled h s bound number
+unknown_settled h s bound number unknown = λ at row e r a er ea low. absurd (unknown at row r e er)
 
-pub past_bound : (h : Held) (s : Search) (bound n : ℕ) (at : Place) (group : Entered) (row : Row) → group_at s.store at.entrance ≡ Some group → row_at s.store at ≡ Some row
-    → n ≡ cut (group.reach + row.inside) → bound ≤ n → IsSettledAt h s bound at
-past_bound h s bound n at group row eg ew is past = λ r a er ea low.
-    let same_r : group.reach ≡ r = same_Some group.reach r (sym (ap (option_map (λ (e : Entered). e.reach)) eg) ∙ er) in
-    let same_a : row.inside ≡ a = same_Some row.inside a (sym (ap (option_map (λ (x : Row). x.inside)) ew) ∙ ea) in
+pub past_bound : (h : Held) (s : Search) (bound n : ℕ) (met : Met) → IsThere s met → n ≡ cut (met.reach + met.row.inside) → bound ≤ n → IsSettledAt h s bound met.place
+past_bound h s bound n met there is past = λ r a er ea low.
+    let same_r : met.reach ≡ r = same_Some met.reach r (sym there.reach ∙ er) in
+    let same_a : met.row.inside ≡ a = same_Some met.row.inside a (sym (ap (option_map (λ (x : Row). x.inside)) there.row) ∙ ea) in
     absurd (omega (arith, same_r, same_a, is, past, low))
+
+pub visited_settled : (h : Held) (s : Search) (bound : ℕ) (at : Place) → IsVisited h s at → IsSettledAt h s bound at
+visited_settled h s bound at visited = λ r a er ea low. visited r a er ea

@@ -1,5 +1,5 @@
 -- A search under way, by what it has found.
-use Rattle.std.specs.Prelude.{◌≡◌, ℕ, ◌+◌, ◌*◌, ◌<◌, ◌≤◌, [], Bool, true, false, cond, Option, Some, length, slice_get}
+use Rattle.std.specs.Prelude.{◌≡◌, ℕ, ◌+◌, ◌*◌, ◌<◌, ◌≤◌, List, [], Bool, true, false, cond, Option, Some, length, slice_get}
 use Rattle.std.specs.BinaryHeap.{heap_len}
 use Rattle.cw_certs.specs.declared.moves.Move.{Move}
 use Rattle.cw_game.specs.declared.spots.Spot.{Spot}
@@ -14,13 +14,18 @@ use Rattle.cw_audit_store.specs.declared.place.Way.{Way}
 use Rattle.cw_audit_store.specs.declared.place.Entered.{Entered}
 use Rattle.cw_audit_store.specs.declared.place.Hit.{Hit}
 use Rattle.cw_audit_store.specs.declared.store.Store.{Store}
+use Rattle.cw_audit_store.specs.declared.lists.Lists.{Lists}
 use Rattle.std.specs.BTreeMap.{is_at}
 use Rattle.cw_audit_store.specs.Stores.{row_at, group_at, place_cmp, entrance_cmp, work}
+use Rattle.cw_audit_store.specs.Listed.{list_of}
+use Rattle.cw_product.specs.Moves.{IsPosition}
 pub use Rattle.cw_audit_store.specs.Finding.{entrance, place, found_of, way_of, caller_of, bad_way_of, ways_of}
-use Rattle.cw_audit_search.specs.Sound.{IsFair, IsSound, IsProposal, HasFallen}
+use Rattle.cw_audit_search.specs.Sound.{IsFair, IsPlace, IsSound, IsProposal, HasFallen}
 use Rattle.cw_audit_search.specs.Ways as way
 use Rattle.cw_audit_search.specs.Ways.{IsWay, AreWays}
 use Rattle.cw_audit_search.specs.Settled.{IsCovered, IsClosedAt}
+use Rattle.cw_audit_visits.specs.declared.met.Met.{Met}
+use Rattle.cw_audit_visits.specs.declared.met.Calling.{Calling}
 use Rattle.cw_audit_visits.specs.declared.under_way.Search.{Search}
 
 -- what is left to do: each number that falls has one place more wait at most
@@ -95,12 +100,6 @@ IsHitFalling s n = (h : Hit) → s.store.hit ≡ Some h → n ≤ h.distance
 abbrev pub IsGroupNear : Search → Entrance → ℕ → Type 0
 IsGroupNear s at n = (e : Entered) × (group_at s.store at ≡ Some e) × (e.reach ≤ n)
 
--- the entrance is told of by so many moves from the start, and so is its entry
-abbrev pub IsEntranceTold : Held → Search → Entrance → ℕ → Type 0
-IsEntranceTold h s at n =
-    (r : ℕ) × ((found_of s.store).reach at.function at.state.0 ≡ Some r) × (r ≤ n)
-    × IsCovered (game_of h) (found_of s.store) at.function at.state.0 r ((game_of h).entry at.function) at.state.0 0
-
 -- where the move leads from the place may be proposed; and is told of
 abbrev pub reach_of : Search → Place → Option ℕ
 reach_of s at = (found_of s.store).reach at.entrance.function at.entrance.state.0
@@ -122,17 +121,68 @@ IsStepTold h s at a by =
     (r : ℕ) (c : Config) → reach_of s at ≡ Some r → leads_in (game_of h) at.pos.0 at.state.0 [] (spot_at h at) by ≡ Some c
     → IsCovered (game_of h) (found_of s.store) at.entrance.function at.entrance.state.0 r c.pos c.state (cut (a + 1))
 
--- the place is at a call of h that returns to k
+-- the place is at a call of f that returns to k, or at no call
 abbrev pub IsCallAt : Held → Place → (f k : ℕ) → Type 0
 IsCallAt h at f k = (j : ℕ) × (spot_at h at ≡ Some (Call j f k))
 
-abbrev pub IsEnteredAt : Held → Place → (f : ℕ) → Type 0
-IsEnteredAt h at f = (k : ℕ) × IsCallAt h at f k
+abbrev pub IsNoCall : Held → Place → Type 0
+IsNoCall h at = (j f k : ℕ) → spot_at h at ≡ Some (Call j f k) → ⊥
 
--- the entrance to which the call leads is told of, by one move more than the call's row
-abbrev pub IsCallTold : Held → Search → Place → (f : ℕ) → Type 0
-IsCallTold h s at f =
-    (r a : ℕ) → reach_of s at ≡ Some r → number_of s at ≡ Some a → IsEntranceTold h s (record { function = f; state = at.state }) (cut (r + a + 1))
+-- a row may stand at the place
+abbrev pub IsPlaced : Held → Place → Type 0
+IsPlaced h at = IsPlace (game_of h) (functions_of h) at.entrance.function at.entrance.state.0 at.pos.0 at.state.0
+
+-- its row and the reach of its group are there
+pub record IsThere (s : Search) (met : Met) : Type 0 where
+  pub row : row_at s.store met.place ≡ Some met.row
+  pub reach : reach_of s met.place ≡ Some met.reach
+
+-- no row has the number, or its entrance has no group
+abbrev pub IsUnknown : Search → ℕ → Type 0
+IsUnknown s number = (at : Place) (row : Row) (r : ℕ) → slice_get s.store.rows.entries number ≡ Some (at, row) → reach_of s at ≡ Some r → ⊥
+
+-- the place is at a call of f that returns to k, both the game's
+pub record IsCallOf (h : Held) (at : Place) (f k : ℕ) : Type 0 where
+  pub callee : f < functions_of h
+  pub back : IsPosition (game_of h) k
+  pub call : IsCallAt h at f k
+
+-- the callee is entered no later than by one move more than the call's row
+abbrev pub IsCallNear : Search → Calling → Type 0
+IsCallNear s call = IsGroupNear s (record { function = call.callee; state = call.met.place.state }) (cut (call.met.reach + call.met.row.inside + 1))
+
+-- the entry of each group is told of
+abbrev pub IsEntryTold : Held → Search → (f q r : ℕ) → Type 0
+IsEntryTold h s f q r = IsCovered (game_of h) (found_of s.store) f q r ((game_of h).entry f) q 0
+
+abbrev pub IsBegunAt : Held → Search → ℕ → Type 0
+IsBegunAt h s number = (at : Entrance) (e : Entered) → slice_get s.store.groups.entries number ≡ Some (at, e) → IsEntryTold h s at.function at.state.0 e.reach
+
+abbrev pub AreBegunUpTo : Held → Search → (many : ℕ) → Type 0
+AreBegunUpTo h s many = (number : ℕ) → number < many → IsBegunAt h s number
+
+abbrev pub AreBegun : Held → Search → Type 0
+AreBegun h s = (f q r : ℕ) → (found_of s.store).reach f q ≡ Some r → IsEntryTold h s f q r
+
+-- the number stands in the list
+abbrev pub IsIn : List ℕ → ℕ → Type 0
+IsIn ns number = (i : ℕ) × (slice_get ns i ≡ Some number)
+
+-- the row with the number, where it is at the end of its function, is among those of its entrance; so all are up to a number, and all
+abbrev pub IsEndIn : Held → Search → Lists → ℕ → Type 0
+IsEndIn h s ends number =
+    (at : Place) (row : Row) → slice_get s.store.rows.entries number ≡ Some (at, row) → at.pos.0 ≡ (game_of h).exit at.entrance.function → IsIn (list_of ends at.entrance) number
+
+abbrev pub AreEndsUpTo : Held → Search → Lists → (many : ℕ) → Type 0
+AreEndsUpTo h s ends many = (number : ℕ) → number < many → IsEndIn h s ends number
+
+abbrev pub AreEnds : Held → Search → Lists → Type 0
+AreEnds h s ends = (number : ℕ) → IsEndIn h s ends number
+
+-- one more is, and those that were among others still are
+pub record IsEndPut (h : Held) (s : Search) (number : ℕ) (ends ends2 : Lists) : Type 0 where
+  pub one : IsEndIn h s ends2 number
+  pub others : (at : Entrance) (n : ℕ) → IsIn (list_of ends at) n → IsIn (list_of ends2 at) n
 
 -- where the callee ends in y, what is behind the return is told of
 abbrev pub IsReturnTold : Held → Search → Place → (f k y : ℕ) → Type 0
@@ -146,14 +196,16 @@ IsVisited h s at =
     (r a : ℕ) → reach_of s at ≡ Some r → number_of s at ≡ Some a
     → IsClosedAt (game_of h) (found_of s.store) at.entrance.function at.entrance.state.0 r at.pos.0 at.state.0 a
 
--- all that the row with the number leads to is told of
-abbrev pub IsNumberVisited : Held → Search → ℕ → Type 0
-IsNumberVisited h s number = (at : Place) (row : Row) → slice_get s.store.rows.entries number ≡ Some (at, row) → IsVisited h s at
+-- the place at which the callee ends in y; and what is behind the return from the row with the number, where that is such an end, is told of
+abbrev pub end_of : Held → Calling → (y : ℕ) → Place
+end_of h call y = place call.callee call.met.place.state.0 ((game_of h).exit call.callee) y
 
--- the start is told of
-abbrev pub IsBegunTold : Held → Search → Type 0
-IsBegunTold h s =
-    IsCovered (game_of h) (found_of s.store) (game_of h).main (game_of h).states.start 0 ((game_of h).entry (game_of h).main) (game_of h).states.start 0
+abbrev pub IsEndTold : Held → Search → Calling → ℕ → Type 0
+IsEndTold h s call number =
+    (y : ℕ) (row : Row) → slice_get s.store.rows.entries number ≡ Some (end_of h call y, row) → IsReturnTold h s call.met.place call.callee call.back.0 y
+
+abbrev pub AreEndsTold : Held → Search → Calling → List ℕ → (many : ℕ) → Type 0
+AreEndsTold h s call ns many = (i number : ℕ) → i < many → slice_get ns i ≡ Some number → IsEndTold h s call number
 
 -- where the place's row is below the bound, all that it leads to is told of; so of the row with a number, of as many rows, and of each place
 abbrev pub IsSettledAt : Held → Search → (bound : ℕ) → Place → Type 0

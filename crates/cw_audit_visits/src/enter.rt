@@ -5,8 +5,10 @@ ghost use Rattle.cw_product.specs.Moves.{IsPosition, IsState};
 ghost use Rattle.cw_product.specs.Product.{game_of};
 ghost use Rattle.cw_audit_search.specs.Sound.{IsArrival};
 ghost use Rattle.cw_audit_search.specs.Ways.{IsCaller};
-ghost use Rattle.cw_audit_visits.specs.Searching.{IsEntranceTold, IsFairGame, IsGoneOn, IsGroupFalling, IsGroupNear, IsGroupSet, IsKept, Tells, functions_of, found_of, caller_of};
+ghost use Rattle.cw_audit_visits.specs.Searching.{IsCallOf, IsCallNear, IsFairGame, IsGoneOn, IsGroupFalling, IsGroupNear, IsGroupSet, IsKept, IsThere, Tells, functions_of, found_of, caller_of};
 
+use crate::look::cut;
+use crate::met::Calling;
 use crate::propose::propose;
 use crate::under_way::Search;
 use cw_audit_store::{Entered, Entrance, Frontier, Place, Store, Way};
@@ -31,8 +33,8 @@ fn reach(search: &mut Search, entrance: Entrance, entered: Entered) -> Result<bo
     Ok(true)
 }
 
-/// A function is entered in a state by so many moves from the start.
-pub(crate) fn enter(
+// A function is entered in a state by so many moves from the start, and so is its entry, where that is nearer.
+fn enter(
     game: &Game,
     search: &mut Search,
     entrance: Entrance,
@@ -44,17 +46,41 @@ pub(crate) fn enter(
     requires arrival { IsArrival (game_of game.now) entrance.function entrance.state.0 entered.reach }
     requires caller { IsCaller (game_of game.now) (found_of search.old.store) entrance.function entrance.state.0 entered.reach (option_map caller_of entered.call) }
     ensures tells { IfOk result (λ changed. Tells search.old search.new changed) }
-    ensures told { IfOk result (λ changed. changed ≡ false → IsEntranceTold game.now search.old entrance entered.reach) }
+    ensures near { IfOk result (λ changed. changed ≡ false → IsGroupNear search.old entrance entered.reach) }
     ensures goes_on { OnOk result (IsGoneOn game.now search.old search.new) }
 {
-    let sooner = reach(search, entrance, entered)?;
+    if !reach(search, entrance, entered)? {
+        return Ok(false);
+    }
     let entry = Place {
         entrance,
         pos: game.entry(entrance.function),
         state: entrance.state,
     };
-    let begun = propose(game, search, entry, 0, Way::Begun)?;
-    Ok(begun || sooner)
+    propose(game, search, entered.reach, entry, 0, Way::Begun)?;
+    Ok(true)
+}
+
+/// A call's row enters the callee.
+pub(crate) fn call(game: &Game, search: &mut Search, call: Calling) -> Result<bool, NoMemory>
+    requires there { IsThere search.old call.met }
+    requires call { IsCallOf game.now call.met.place call.callee call.back.0 }
+    requires fair { IsFairGame game.now }
+    requires kept { IsKept (game_of game.now) (functions_of game.now) search.old }
+    ensures tells { IfOk result (λ changed. Tells search.old search.new changed) }
+    ensures near { IfOk result (λ changed. changed ≡ false → IsCallNear search.old call) }
+    ensures goes_on { OnOk result (IsGoneOn game.now search.old search.new) }
+{
+    let met = call.met;
+    let entrance = Entrance {
+        function: call.callee,
+        state: met.place.state,
+    };
+    let entered = Entered {
+        reach: cut(u64::from(met.reach) + u64::from(met.row.inside) + 1),
+        call: Some(met.place),
+    };
+    enter(game, search, entrance, entered)
 }
 
 /// A search begins: `main` is entered at the start.
@@ -82,6 +108,6 @@ pub fn begin(alloc: Global, game: &Game) -> Result<Search, NoMemory>
         pos,
         state,
     };
-    propose(game, &mut search, entry, 0, Way::Begun)?;
+    propose(game, &mut search, 0, entry, 0, Way::Begun)?;
     Ok(search)
 }

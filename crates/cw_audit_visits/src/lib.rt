@@ -1,8 +1,10 @@
 //! The steps of a search for an audit: what a row leads to is proposed, and whether anything changed.
 #![tactic(auto)]
 
+mod ends;
 mod enter;
 mod look;
+mod met;
 mod propose;
 mod returns;
 mod rows;

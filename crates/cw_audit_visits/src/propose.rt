@@ -1,28 +1,32 @@
 //! Rows and violations that are proposed.
 
-ghost use Rattle.std.specs.Prelude.{◌≡◌, ◌<◌, ◌≤◌, true, false, Some, None, IfOk, OnOk};
+ghost use Rattle.std.specs.Prelude.{◌≡◌, ◌<◌, ◌≤◌, true, false, Some, IfOk, OnOk};
 ghost use Rattle.cw_game.specs.Games.{bad_in};
 ghost use Rattle.cw_product.specs.Moves.{IsPosition, IsState};
 ghost use Rattle.cw_product.specs.Product.{game_of};
-ghost use Rattle.cw_audit_visits.specs.Searching.{IsDue, IsHitNear, IsHitSet, IsNear, IsRowSet, IsFairGame, IsGoneOn, IsHitFalling, IsRowFalling, IsKept, IsTold, Tells, found_of, functions_of};
+ghost use Rattle.cw_audit_visits.specs.Searching.{IsDue, IsHitNear, IsHitSet, IsNear, IsRowSet, IsFairGame, IsGoneOn, IsHitFalling, IsRowFalling, IsKept, IsTold, Tells, functions_of, reach_of};
 
 use crate::look::{cut, skipped};
 use crate::under_way::Search;
-use cw_audit_store::{Entrance, Hit, Place, Row, Way};
+use cw_audit_store::{Entrance, Frontier, Hit, Place, Row, Way};
 use cw_core::NoMemory;
 use cw_product::{Game, Turn};
 
-// A call is noted where it leads.
-fn note_call(game: &Game, search: &mut Search, place: Place) -> Result<(), NoMemory>
+// A row that is found is noted: at a call by where that leads, at an end by its entrance.
+fn note(game: &Game, frontier: &mut Frontier, place: Place, number: usize) -> Result<(), NoMemory>
     requires { IsPosition (game_of game.now) place.pos.0 }
-    ensures { OnOk result ((search.new.store ≡ search.old.store) × (search.new.frontier.rows ≡ search.old.frontier.rows)) }
+    ensures { frontier.new.rows ≡ frontier.old.rows }
 {
-    if let Turn::Call { callee, .. } = game.turn(place.pos) {
-        let entrance = Entrance {
-            function: callee,
-            state: place.state,
-        };
-        search.frontier.put_call(entrance, place)?;
+    match game.turn(place.pos) {
+        Turn::Call { callee, .. } => {
+            let entrance = Entrance {
+                function: callee,
+                state: place.state,
+            };
+            frontier.calls.put(entrance, number)?;
+        }
+        Turn::Exit { .. } => frontier.ends.put(place.entrance, number)?,
+        Turn::Weaver | Turn::Environment => {}
     }
     Ok(())
 }
@@ -31,8 +35,8 @@ fn note_call(game: &Game, search: &mut Search, place: Place) -> Result<(), NoMem
 fn lower(
     game: &Game,
     search: &mut Search,
-    place: Place,
     reach: u32,
+    place: Place,
     row: Row,
 ) -> Result<bool, NoMemory>
     requires position { IsPosition (game_of game.now) place.pos.0 }
@@ -42,16 +46,18 @@ fn lower(
     ensures near { IfOk result (λ changed. changed ≡ false → IsNear search.old place row.inside) }
     ensures falls { IfOk result (λ changed. changed ≡ true → IsRowFalling search.old place row.inside) }
     ensures set { IfOk result (λ changed. changed ≡ true → IsRowSet search.old.store search.new.store place row) }
+    ensures groups { search.new.store.groups ≡ search.old.store.groups }
 {
-    match search.store.row(place) {
-        Some(old) => {
-            if old.inside <= row.inside {
-                return Ok(false);
-            }
-        }
-        None => note_call(game, search, place)?,
+    let found = search.store.row(place);
+    if let Some(old) = found
+        && old.inside <= row.inside
+    {
+        return Ok(false);
     }
     let number = search.store.put_row(place, row)?;
+    if found.is_none() {
+        note(game, &mut search.frontier, place, number)?;
+    }
     search.frontier.put(reach + row.inside, number)?;
     Ok(true)
 }
@@ -63,6 +69,7 @@ fn violate(search: &mut Search, hit: Hit) -> bool
     ensures near { result ≡ false → IsHitNear search.old hit.distance }
     ensures falls { result ≡ true → IsHitFalling search.old hit.distance }
     ensures set { result ≡ true → IsHitSet search.old.store search.new.store hit }
+    ensures groups { search.new.store.groups ≡ search.old.store.groups }
 {
     if let Some(nearest) = search.store.hit
         && nearest.distance <= hit.distance
@@ -73,14 +80,16 @@ fn violate(search: &mut Search, hit: Hit) -> bool
     true
 }
 
-/// So many moves lead to a pair, with skips behind it: what is behind them is a violation where it is bad, and else a row.
+/// So many moves lead to a pair of a group, with skips behind it: what is behind them is a violation where it is bad, and else a row.
 pub(crate) fn propose(
     game: &Game,
     search: &mut Search,
+    reach: u32,
     at: Place,
     inside: u32,
     way: Way,
 ) -> Result<bool, NoMemory>
+    requires reach { reach_of search.old at ≡ Some reach }
     requires position { IsPosition (game_of game.now) at.pos.0 }
     requires state { IsState (game_of game.now) at.state.0 }
     requires fair { IsFairGame game.now }
@@ -89,24 +98,22 @@ pub(crate) fn propose(
     requires due { IsDue game.now search.old at inside way }
     ensures tells { IfOk result (λ changed. Tells search.old search.new changed) }
     ensures told { IfOk result (λ changed. changed ≡ false → IsTold game.now search.old at inside) }
+    ensures groups { search.new.store.groups ≡ search.old.store.groups }
     ensures goes_on { OnOk result (IsGoneOn game.now search.old search.new) }
 {
     let place = Place {
         pos: skipped(game, at.pos),
         ..at
     };
-    let Some(group) = search.store.group(place.entrance) else {
-        return Ok(false);
-    };
     if game.bad(place.pos, place.state) {
         return Ok(violate(
             search,
             Hit {
-                distance: cut(u64::from(group.reach) + u64::from(inside)),
+                distance: cut(u64::from(reach) + u64::from(inside)),
                 entrance: place.entrance,
                 way,
             },
         ));
     }
-    lower(game, search, place, group.reach, Row { inside, way })
+    lower(game, search, reach, place, Row { inside, way })
 }

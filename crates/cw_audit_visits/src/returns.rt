@@ -1,122 +1,134 @@
 //! What goes on behind the return of a function.
 
-ghost use Rattle.std.specs.Prelude.{◌≡◌, ◌<◌, ℕ, true, false, Some, length, slice_get, IfOk, OnOk};
-ghost use Rattle.cw_game.specs.declared.spots.Spot.TheVariants.{Call};
-ghost use Rattle.cw_product.specs.Moves.{IsPosition, IsState};
+ghost use Rattle.std.specs.Prelude.{◌≡◌, ◌<◌, false, length, IfOk, OnOk};
 ghost use Rattle.cw_product.specs.Product.{game_of};
-ghost use Rattle.cw_audit_visits.specs.Searching.{IsCallAt, IsFairGame, IsGoneOn, IsKept, IsReturnTold, Tells, functions_of};
+ghost use Rattle.cw_audit_store.specs.Stores.{place_eq};
+ghost use Rattle.cw_audit_visits.specs.Searching.{IsCallOf, IsEndTold, IsFairGame, IsGoneOn, IsKept, IsThere, Tells, functions_of, end_of};
 
 use crate::look::cut;
+use crate::met::{Calling, call_at, meet};
 use crate::propose::propose;
 use crate::under_way::Search;
 use cw_audit_store::{Entrance, Place, Way};
-use cw_core::{NoMemory, PosId, StateId};
-use cw_product::{Game, Turn};
+use cw_core::NoMemory;
+use cw_product::Game;
 
-// A call's row goes on behind the return from the callee, where that has ended in the state.
-fn join(
+// Whether the place is an end of the function that the call enters.
+fn is_end(game: &Game, call: Calling, end: Place) -> bool
+    requires { call.callee < length game.now.graph.parts.items }
+    ensures { result ≡ place_eq end (end_of game.now call end.state.0) }
+{
+    let entrance = Entrance {
+        function: call.callee,
+        state: call.met.place.state,
+    };
+    let due = Place {
+        entrance,
+        pos: game.exit(call.callee),
+        state: end.state,
+    };
+    end == due
+}
+
+/// A call's row goes on behind the return from the row with the number, where that is an end of what it calls.
+pub(crate) fn return_from(
     game: &Game,
     search: &mut Search,
-    place: Place,
-    callee: u16,
-    back: PosId,
-    last: StateId,
+    call: Calling,
+    number: usize,
 ) -> Result<bool, NoMemory>
-    requires callee { callee < length game.now.graph.parts.items }
-    requires back { IsPosition (game_of game.now) back.0 }
-    requires last { IsState (game_of game.now) last.0 }
-    requires call { IsCallAt game.now place callee back.0 }
+    requires there { IsThere search.old call.met }
+    requires call { IsCallOf game.now call.met.place call.callee call.back.0 }
     requires fair { IsFairGame game.now }
     requires kept { IsKept (game_of game.now) (functions_of game.now) search.old }
     ensures tells { IfOk result (λ changed. Tells search.old search.new changed) }
-    ensures told { IfOk result (λ changed. changed ≡ false → IsReturnTold game.now search.old place callee back.0 last.0) }
+    ensures told { IfOk result (λ changed. changed ≡ false → IsEndTold game.now search.old call number) }
     ensures goes_on { OnOk result (IsGoneOn game.now search.old search.new) }
 {
-    let end = Place {
-        entrance: Entrance {
-            function: callee,
-            state: place.state,
-        },
-        pos: game.exit(callee),
-        state: last,
-    };
-    let Some(ended) = search.store.row(end) else {
+    let met = call.met;
+    let Some((end, ended)) = search.store.numbered(number) else {
         return Ok(false);
     };
-    let Some(call) = search.store.row(place) else {
+    if !is_end(game, call, end) {
         return Ok(false);
-    };
+    }
     propose(
         game,
         search,
+        met.reach,
         Place {
-            pos: back,
-            state: last,
-            ..place
+            pos: call.back,
+            state: end.state,
+            ..met.place
         },
-        cut(u64::from(call.inside) + u64::from(ended.inside) + 2),
-        Way::Returned(place.state, place.pos, callee, last),
+        cut(u64::from(met.row.inside) + u64::from(ended.inside) + 2),
+        Way::Returned(met.place.state, met.place.pos, call.callee, end.state),
     )
 }
 
-/// A call's row goes on behind each return.
-pub(crate) fn return_all(
+// Where one row is a call and the other an end of what it calls, the call goes on.
+fn join(
     game: &Game,
     search: &mut Search,
-    place: Place,
-    callee: u16,
-    back: PosId,
+    caller: usize,
+    end: usize,
 ) -> Result<bool, NoMemory>
-    requires callee { callee < length game.now.graph.parts.items }
-    requires back { IsPosition (game_of game.now) back.0 }
-    requires call { IsCallAt game.now place callee back.0 }
     requires fair { IsFairGame game.now }
     requires kept { IsKept (game_of game.now) (functions_of game.now) search.old }
     ensures tells { IfOk result (λ changed. Tells search.old search.new changed) }
-    ensures told { IfOk result (λ changed. changed ≡ false → (y : ℕ) → IsState (game_of game.now) y → IsReturnTold game.now search.old place callee back.0 y) }
+    ensures goes_on { OnOk result (IsGoneOn game.now search.old search.new) }
+{
+    let Some(met) = meet(search, caller) else {
+        return Ok(false);
+    };
+    let Some((callee, back)) = call_at(game, met.place) else {
+        return Ok(false);
+    };
+    return_from(game, search, Calling { met, callee, back }, end)
+}
+
+/// The row of a call goes on behind each return that was found.
+pub(crate) fn return_all(
+    game: &Game,
+    search: &mut Search,
+    caller: usize,
+    callee: Entrance,
+) -> Result<bool, NoMemory>
+    requires fair { IsFairGame game.now }
+    requires kept { IsKept (game_of game.now) (functions_of game.now) search.old }
+    ensures tells { IfOk result (λ changed. Tells search.old search.new changed) }
     ensures goes_on { OnOk result (IsGoneOn game.now search.old search.new) }
 {
     let mut changed = false;
-    for last in 0..game.states() {
-        let joined = join(game, search, place, callee, back, StateId(last))?;
+    for place in 0..usize::MAX {
+        let Some(end) = search.frontier.ends.get(callee, place) else {
+            break;
+        };
+        let joined = join(game, search, caller, end)?;
         changed |= joined;
     }
     Ok(changed)
 }
 
-// A call goes on behind the return of a function that has ended in the state.
-fn resume(game: &Game, search: &mut Search, place: Place, last: StateId) -> Result<bool, NoMemory>
-    requires last { IsState (game_of game.now) last.0 }
-    requires fair { IsFairGame game.now }
-    requires kept { IsKept (game_of game.now) (functions_of game.now) search.old }
-    ensures tells { IfOk result (λ changed. Tells search.old search.new changed) }
-    ensures goes_on { OnOk result (IsGoneOn game.now search.old search.new) }
-{
-    game.is_closed();
-    let Some(_row) = search.store.row(place) else {
-        return Ok(false);
-    };
-    match game.turn(place.pos) {
-        Turn::Call { callee, back, .. } => join(game, search, place, callee, back, last),
-        Turn::Weaver | Turn::Environment | Turn::Exit { .. } => Ok(false),
-    }
-}
-
-/// Each call that was found of the function in which the place lies goes on behind its return.
-pub(crate) fn resume_all(game: &Game, search: &mut Search, place: Place) -> Result<bool, NoMemory>
-    requires last { IsState (game_of game.now) place.state.0 }
+/// Each call that was found of the entrance goes on behind the return from its end.
+pub(crate) fn resume_all(
+    game: &Game,
+    search: &mut Search,
+    end: usize,
+    ended: Entrance,
+) -> Result<bool, NoMemory>
     requires fair { IsFairGame game.now }
     requires kept { IsKept (game_of game.now) (functions_of game.now) search.old }
     ensures tells { IfOk result (λ changed. Tells search.old search.new changed) }
     ensures goes_on { OnOk result (IsGoneOn game.now search.old search.new) }
 {
     let mut changed = false;
-    for number in 0..usize::MAX {
-        let Some(call) = search.frontier.call(place.entrance, number) else {
+    for place in 0..usize::MAX {
+        let Some(caller) = search.frontier.calls.get(ended, place) else {
             break;
         };
-        let resumed = resume(game, search, call, place.state)?;
-        changed |= resumed;
+        let joined = join(game, search, caller, end)?;
+        changed |= joined;
     }
     Ok(changed)
 }

@@ -7,9 +7,10 @@ ghost use Rattle.cw_product.specs.Moves.{IsPosition, IsState};
 ghost use Rattle.cw_product.specs.Product.{game_of};
 ghost use Rattle.cw_audit_table.specs.Runs.{cut, is_step};
 ghost use Rattle.cw_audit_table.specs.Conditions.{is_inner};
-ghost use Rattle.cw_audit_visits.specs.Searching.{IsFairGame, IsGoneOn, IsKept, IsStepDue, IsStepTold, Tells, functions_of};
+ghost use Rattle.cw_audit_visits.specs.Searching.{IsFairGame, IsGoneOn, IsKept, IsStepDue, IsStepTold, IsThere, Tells, functions_of, reach_of};
 
 use crate::look::cut;
+use crate::met::Met;
 use crate::propose::propose;
 use crate::under_way::Search;
 use cw_audit_store::{Place, Way};
@@ -21,10 +22,12 @@ use cw_product::Game;
 fn step(
     game: &Game,
     search: &mut Search,
+    reach: u32,
     place: Place,
     inside: u32,
     by: Move,
 ) -> Result<bool, NoMemory>
+    requires reach { reach_of search.old place ≡ Some reach }
     requires position { IsPosition (game_of game.now) place.pos.0 }
     requires state { IsState (game_of game.now) place.state.0 }
     requires inside { inside ≤ 65537 }
@@ -35,6 +38,7 @@ fn step(
     requires due { IsStepDue game.now search.old place inside by }
     ensures tells { IfOk result (λ changed. Tells search.old search.new changed) }
     ensures told { IfOk result (λ changed. changed ≡ false → IsStepTold game.now search.old place inside by) }
+    ensures groups { search.new.store.groups ≡ search.old.store.groups }
     ensures goes_on { OnOk result (IsGoneOn game.now search.old search.new) }
 {
     let Some((pos, state)) = game.next(place.pos, place.state, by) else {
@@ -43,6 +47,7 @@ fn step(
     propose(
         game,
         search,
+        reach,
         Place {
             pos,
             state,
@@ -54,30 +59,21 @@ fn step(
 }
 
 /// A row within a function goes on by each move.
-pub(crate) fn steps(
-    game: &Game,
-    search: &mut Search,
-    place: Place,
-    inside: u32,
-) -> Result<bool, NoMemory>
-    requires position { IsPosition (game_of game.now) place.pos.0 }
-    requires state { IsState (game_of game.now) place.state.0 }
-    requires inside { inside ≤ 65537 }
-    requires inner { is_inner (slice_get (game_of game.now).spots place.pos.0) ≡ true }
-    requires good { bad_in (game_of game.now) place.state.0 (slice_get (game_of game.now).spots place.pos.0) ≡ false }
+pub(crate) fn steps(game: &Game, search: &mut Search, met: Met) -> Result<bool, NoMemory>
+    requires there { IsThere search.old met }
+    requires inner { is_inner (slice_get (game_of game.now).spots met.place.pos.0) ≡ true }
     requires fair { IsFairGame game.now }
     requires kept { IsKept (game_of game.now) (functions_of game.now) search.old }
-    requires due { (by : Move) → is_step by ≡ true → IsStepDue game.now search.old place inside by }
     ensures tells { IfOk result (λ changed. Tells search.old search.new changed) }
-    ensures told { IfOk result (λ changed. changed ≡ false → (by : Move) → is_step by ≡ true → IsStepTold game.now search.old place inside by) }
+    ensures told { IfOk result (λ changed. changed ≡ false → (by : Move) → is_step by ≡ true → IsStepTold game.now search.old met.place met.row.inside by) }
     ensures goes_on { OnOk result (IsGoneOn game.now search.old search.new) }
 {
-    let (first, second) = game.moves(place.pos);
-    let one = step(game, search, place, inside, first)?;
+    let (first, second) = game.moves(met.place.pos);
+    let one = step(game, search, met.reach, met.place, met.row.inside, first)?;
     match second {
         None => Ok(one),
         Some(by) => {
-            let other = step(game, search, place, inside, by)?;
+            let other = step(game, search, met.reach, met.place, met.row.inside, by)?;
             Ok(one | other)
         }
     }

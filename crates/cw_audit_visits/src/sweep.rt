@@ -1,82 +1,194 @@
 //! Whether a search is settled.
 
-ghost use Rattle.std.specs.Prelude.{◌≡◌, true, false, not, IfOk, OnOk};
+ghost use Rattle.std.specs.Prelude.{◌≡◌, ℕ, true, false, not, IfOk, OnOk};
 ghost use Rattle.cw_product.specs.Product.{game_of};
 ghost use Rattle.cw_audit_search.specs.Settled.{IsSettled};
-ghost use Rattle.cw_audit_visits.specs.Searching.{AreSettledAt, AreSettledBelow, IsBegunTold, IsFairGame, IsGoneOn, IsKept, IsNumberSettled, Tells, found_of, functions_of};
+ghost use Rattle.cw_audit_visits.specs.Searching.{AreBegun, AreEnds, AreSettledAt, AreSettledBelow, IsBegunAt, IsCallOf, IsFairGame, IsGoneOn, IsKept, IsNumberSettled, IsReturnTold, IsThere, IsVisited, Tells, found_of, functions_of};
 
-use crate::enter::enter;
+use crate::ends::ends_of;
+use crate::enter::call;
 use crate::look::cut;
-use crate::rows::visit_row;
+use crate::met::{Calling, Met, call_at, is_within, meet};
+use crate::propose::propose;
+use crate::returns::return_from;
+use crate::steps::steps;
 use crate::under_way::Search;
-use cw_audit_store::{Entered, Entrance};
+use cw_audit_store::{Entrance, Lists, Place, Way};
 use cw_core::NoMemory;
 use cw_product::Game;
+use std::alloc::Global;
 
-// `main` is entered at the start.
-fn start(game: &Game, search: &mut Search) -> Result<bool, NoMemory>
+// The entry of the group with the number is proposed.
+fn begin_again(game: &Game, search: &mut Search, number: usize) -> Result<bool, NoMemory>
     requires fair { IsFairGame game.now }
     requires kept { IsKept (game_of game.now) (functions_of game.now) search.old }
     ensures tells { IfOk result (λ changed. Tells search.old search.new changed) }
-    ensures told { IfOk result (λ changed. changed ≡ false → IsBegunTold game.now search.old) }
+    ensures begun { IfOk result (λ changed. changed ≡ false → IsBegunAt game.now search.old number) }
     ensures goes_on { OnOk result (IsGoneOn game.now search.old search.new) }
 {
-    game.is_closed();
-    let (_, state) = game.start();
+    let Some((entrance, entered)) = search.store.numbered_group(number) else {
+        return Ok(false);
+    };
+    let entry = Place {
+        entrance,
+        pos: game.entry(entrance.function),
+        state: entrance.state,
+    };
+    propose(game, search, entered.reach, entry, 0, Way::Begun)
+}
+
+// The entry of each group is proposed, until one changes something.
+fn begin_all(game: &Game, search: &mut Search) -> Result<bool, NoMemory>
+    requires fair { IsFairGame game.now }
+    requires kept { IsKept (game_of game.now) (functions_of game.now) search.old }
+    ensures tells { IfOk result (λ changed. Tells search.old search.new changed) }
+    ensures begun { IfOk result (λ changed. changed ≡ false → AreBegun game.now search.old) }
+    ensures goes_on { OnOk result (IsGoneOn game.now search.old search.new) }
+{
+    let count = search.store.group_count();
+    for number in 0..count {
+        if begin_again(game, search, number)? {
+            return Ok(true);
+        }
+    }
+    Ok(false)
+}
+
+// A call's row goes on behind each return, until one changes something.
+fn return_each(
+    game: &Game,
+    search: &mut Search,
+    ends: &Lists,
+    call: Calling,
+) -> Result<bool, NoMemory>
+    requires ends { AreEnds game.now search.old ends.now }
+    requires there { IsThere search.old call.met }
+    requires call { IsCallOf game.now call.met.place call.callee call.back.0 }
+    requires fair { IsFairGame game.now }
+    requires kept { IsKept (game_of game.now) (functions_of game.now) search.old }
+    ensures tells { IfOk result (λ changed. Tells search.old search.new changed) }
+    ensures told { IfOk result (λ changed. changed ≡ false → (y : ℕ) → IsReturnTold game.now search.old call.met.place call.callee call.back.0 y) }
+    ensures goes_on { OnOk result (IsGoneOn game.now search.old search.new) }
+{
     let entrance = Entrance {
-        function: game.main(),
-        state,
+        function: call.callee,
+        state: call.met.place.state,
     };
-    let entered = Entered {
-        reach: 0,
-        call: None,
+    let numbers = ends.list(entrance);
+    for place in 0..numbers.len() {
+        if return_from(game, search, call, numbers[place])? {
+            return Ok(true);
+        }
+    }
+    Ok(false)
+}
+
+// All that a call's row leads to is proposed, until something changes.
+fn visit_call(
+    game: &Game,
+    search: &mut Search,
+    ends: &Lists,
+    calling: Calling,
+) -> Result<bool, NoMemory>
+    requires begun { AreBegun game.now search.old }
+    requires ends { AreEnds game.now search.old ends.now }
+    requires there { IsThere search.old calling.met }
+    requires call { IsCallOf game.now calling.met.place calling.callee calling.back.0 }
+    requires fair { IsFairGame game.now }
+    requires kept { IsKept (game_of game.now) (functions_of game.now) search.old }
+    ensures tells { IfOk result (λ changed. Tells search.old search.new changed) }
+    ensures visited { IfOk result (λ changed. changed ≡ false → IsVisited game.now search.old calling.met.place) }
+    ensures goes_on { OnOk result (IsGoneOn game.now search.old search.new) }
+{
+    if call(game, search, calling)? {
+        return Ok(true);
+    }
+    return_each(game, search, ends, calling)
+}
+
+// All that a row leads to is proposed, until something changes. An end leads to nothing but by the calls.
+fn visit_row(
+    game: &Game,
+    search: &mut Search,
+    ends: &Lists,
+    met: Met,
+) -> Result<bool, NoMemory>
+    requires begun { AreBegun game.now search.old }
+    requires ends { AreEnds game.now search.old ends.now }
+    requires there { IsThere search.old met }
+    requires fair { IsFairGame game.now }
+    requires kept { IsKept (game_of game.now) (functions_of game.now) search.old }
+    ensures tells { IfOk result (λ changed. Tells search.old search.new changed) }
+    ensures visited { IfOk result (λ changed. changed ≡ false → IsVisited game.now search.old met.place) }
+    ensures goes_on { OnOk result (IsGoneOn game.now search.old search.new) }
+{
+    if is_within(game, met.place) {
+        return steps(game, search, met);
+    }
+    let Some((callee, back)) = call_at(game, met.place) else {
+        return Ok(false);
     };
-    enter(game, search, entrance, entered)
+    visit_call(game, search, ends, Calling { met, callee, back })
 }
 
 // The row with the number is visited where it is below the bound, its number of moves and the reach of its group together.
 fn visit_below(
     game: &Game,
     search: &mut Search,
+    ends: &Lists,
     number: usize,
     bound: u32,
 ) -> Result<bool, NoMemory>
+    requires begun { AreBegun game.now search.old }
+    requires ends { AreEnds game.now search.old ends.now }
     requires fair { IsFairGame game.now }
     requires kept { IsKept (game_of game.now) (functions_of game.now) search.old }
     ensures tells { IfOk result (λ changed. Tells search.old search.new changed) }
     ensures settled { IfOk result (λ changed. changed ≡ false → IsNumberSettled game.now search.old bound number) }
     ensures goes_on { OnOk result (IsGoneOn game.now search.old search.new) }
 {
-    let Some((place, row)) = search.store.numbered(number) else {
+    let Some(met) = meet(search, number) else {
         return Ok(false);
     };
-    let Some(group) = search.store.group(place.entrance) else {
-        return Ok(false);
-    };
-    if cut(u64::from(group.reach) + u64::from(row.inside)) >= bound {
+    if cut(u64::from(met.reach) + u64::from(met.row.inside)) >= bound {
         return Ok(false);
     }
-    visit_row(game, search, place, row)
+    visit_row(game, search, ends, met)
 }
 
-// As many rows, from the first, are visited that are below the bound.
-fn visit_each(game: &Game, search: &mut Search, count: usize, bound: u32) -> Result<bool, NoMemory>
+// As many rows, from the first, are visited that are below the bound, until something changes.
+fn visit_each(
+    game: &Game,
+    search: &mut Search,
+    ends: &Lists,
+    count: usize,
+    bound: u32,
+) -> Result<bool, NoMemory>
+    requires begun { AreBegun game.now search.old }
+    requires ends { AreEnds game.now search.old ends.now }
     requires fair { IsFairGame game.now }
     requires kept { IsKept (game_of game.now) (functions_of game.now) search.old }
     ensures tells { IfOk result (λ changed. Tells search.old search.new changed) }
     ensures settled { IfOk result (λ changed. changed ≡ false → AreSettledAt game.now search.old bound count) }
     ensures goes_on { OnOk result (IsGoneOn game.now search.old search.new) }
 {
-    let mut changed = false;
     for number in 0..count {
-        let visited = visit_below(game, search, number, bound)?;
-        changed |= visited;
+        if visit_below(game, search, ends, number, bound)? {
+            return Ok(true);
+        }
     }
-    Ok(changed)
+    Ok(false)
 }
 
-// All rows below the bound are visited.
-fn visit_all(game: &Game, search: &mut Search, bound: u32) -> Result<bool, NoMemory>
+// All rows below the bound are visited, until something changes.
+fn visit_all(
+    game: &Game,
+    search: &mut Search,
+    ends: &Lists,
+    bound: u32,
+) -> Result<bool, NoMemory>
+    requires begun { AreBegun game.now search.old }
+    requires ends { AreEnds game.now search.old ends.now }
     requires fair { IsFairGame game.now }
     requires kept { IsKept (game_of game.now) (functions_of game.now) search.old }
     ensures tells { IfOk result (λ changed. Tells search.old search.new changed) }
@@ -84,19 +196,27 @@ fn visit_all(game: &Game, search: &mut Search, bound: u32) -> Result<bool, NoMem
     ensures goes_on { OnOk result (IsGoneOn game.now search.old search.new) }
 {
     let count = search.store.count();
-    visit_each(game, search, count, bound)
+    visit_each(game, search, ends, count, bound)
 }
 
-/// All rows below the bound are visited once more. The answer is whether that changed nothing: then the search is settled
-/// there.
-pub fn settle(game: &Game, search: &mut Search, bound: u32) -> Result<bool, NoMemory>
+/// All rows below the bound are visited once more, until something changes. The answer is whether nothing did: then the search is
+/// settled there. The one error is want of memory.
+pub fn settle(
+    alloc: Global,
+    game: &Game,
+    search: &mut Search,
+    bound: u32,
+) -> Result<bool, NoMemory>
     requires fair { IsFairGame game.now }
     requires kept { IsKept (game_of game.now) (functions_of game.now) search.old }
     ensures tells { IfOk result (λ settled. Tells search.old search.new (not settled)) }
     ensures settled { IfOk result (λ settled. settled ≡ true → IsSettled (game_of game.now) (found_of search.old.store) bound) }
     ensures goes_on { OnOk result (IsGoneOn game.now search.old search.new) }
 {
-    let begun = start(game, search)?;
-    let visited = visit_all(game, search, bound)?;
-    Ok(!(begun | visited))
+    if begin_all(game, search)? {
+        return Ok(false);
+    }
+    let ends = ends_of(alloc, game, search)?;
+    let changed = visit_all(game, search, &ends, bound)?;
+    Ok(!changed)
 }

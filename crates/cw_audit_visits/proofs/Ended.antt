@@ -1,0 +1,116 @@
+-- Calls go on behind the ends that are listed.
+use Rattle.std.proofs.Common.{◌≡◌, ℕ, ◌+◌, ◌∙◌, ◌<◌, ◌≤◌, List, [], ◌∷◌, ◌++◌, length, Bool, true, false, refl, suc, zero, sym, ap, subst, arith, inl, inr}
+use Rattle.std.specs.Prelude.{Option, Some, option_map, slice_get}
+use Rattle.std.proofs.lemmas.Option.{none-some, same_Some, slice_get_within}
+use Rattle.std.proofs.lemmas.Bool.Decides.{leb_tells}
+use Rattle.std.proofs.lemmas.Map.Entries.{place_from_lookup}
+use Rattle.cw_lemmas.proofs.Truths.{not_both}
+use Rattle.cw_product.specs.Product.{Held, game_of}
+use Rattle.cw_audit_store.specs.declared.lists.Lists.{Lists}
+use Rattle.cw_audit_store.specs.declared.place.Entrance.{Entrance}
+use Rattle.cw_audit_store.specs.declared.place.Place.{Place}
+use Rattle.cw_audit_store.specs.declared.place.Row.{Row}
+use Rattle.cw_audit_store.specs.Listed.{list_of}
+use Rattle.cw_audit_store.specs.Stores.{entrance_eq, place_eq, row_at}
+use Rattle.cw_audit_store.proofs.Orders.{equal_entrances, equal_places, place_itself}
+use Rattle.cw_audit_visits.specs.declared.met.Calling.{Calling}
+use Rattle.cw_audit_visits.specs.declared.under_way.Search.{Search}
+use Rattle.cw_audit_visits.specs.Searching.{AreEnds, AreEndsTold, AreEndsUpTo, IsEndIn, IsEndPut, IsEndTold, IsIn, IsReturnTold, end_of, entrance}
+use Rattle.cw_audit_visits.proofs.Oks.{by_truth}
+use Rattle.cw_audit_visits.proofs.Proposed.{behind}
+
+ahead : (ns : List ℕ) (n i m : ℕ) → slice_get ns i ≡ Some m → slice_get (ns ++ n ∷ []) i ≡ Some m
+ahead [] n i m e = absurd (none-some m e)
+ahead (k ∷ ns) n zero m e = e
+ahead (k ∷ ns) n (suc i) m e = ahead ns n i m e
+
+last_of : (ns : List ℕ) (n : ℕ) → slice_get (ns ++ n ∷ []) (length ns) ≡ Some n
+last_of [] n = refl
+last_of (k ∷ ns) n = last_of ns n
+
+module _ (h : Held) (s : Search) (number : ℕ) (ends ends2 : Lists) (at : Place) (row : Row) (there : slice_get s.store.rows.entries number ≡ Some (at, row)) where
+  same_place : (at2 : Place) (row2 : Row) → slice_get s.store.rows.entries number ≡ Some (at2, row2) → at ≡ at2
+  same_place at2 row2 e = ap (λ (p : Place × Row). p.0) (same_Some (at, row) (at2, row2) (sym there ∙ e))
+
+  -- the row is at the end of its function, and its number is put
+  pub end_put : list_of ends2 at.entrance ≡ list_of ends at.entrance ++ number ∷ [] → ((q : Entrance) → entrance_eq at.entrance q ≡ false → list_of ends2 q ≡ list_of ends q)
+      → IsEndPut h s number ends ends2
+  end_put here others = record {
+    one = λ at2 row2 e is.
+        subst (λ (p : Place). IsIn (list_of ends2 p.entrance) number) (same_place at2 row2 e)
+        (length (list_of ends at.entrance), ap (λ ns. slice_get ns (length (list_of ends at.entrance))) here ∙ last_of (list_of ends at.entrance) number);
+    others = λ q n i. by_truth {X = IsIn (list_of ends2 q) n} (entrance_eq at.entrance q)
+        (λ e. subst (λ ns. IsIn ns n) (sym (others q e)) i)
+        (λ e. let same = equal_entrances at.entrance q e in
+        subst (λ q. IsIn (list_of ends q) n → IsIn (list_of ends2 q) n) same
+        (λ i. (i.0, ap (λ ns. slice_get ns i.0) here ∙ ahead (list_of ends at.entrance) number i.0 n i.1)) i);
+  }
+
+  -- it isn't
+  pub end_elsewhere : (at.pos.0 ≡ (game_of h).exit at.entrance.function → ⊥) → IsEndPut h s number ends ends
+  end_elsewhere other = record {
+    one = λ at2 row2 e is.
+        absurd (other (subst (λ (p : Place). p.pos.0 ≡ (game_of h).exit p.entrance.function) (sym (same_place at2 row2 e)) is));
+    others = λ q n i. i;
+  }
+
+-- no row has the number
+pub end_nowhere : (h : Held) (s : Search) (number : ℕ) (ends : Lists) (o : Option (Place × Row)) → o ≡ slice_get s.store.rows.entries number → ((p : Place × Row) → o ≡ Some p → ⊥)
+    → IsEndPut h s number ends ends
+end_nowhere h s number ends o is none = record { one = λ at row e end. absurd (none (at, row) (is ∙ e)); others = λ q n i. i }
+
+-- one row more
+pub ends_more : (h : Held) (s : Search) (n : ℕ) (ends ends2 : Lists) → AreEndsUpTo h s ends n → IsEndPut h s n ends ends2 → AreEndsUpTo h s ends2 (n + 1)
+ends_more h s n ends ends2 before put = λ i l. elim (leb_tells n i) [
+  | inl q ↦ let z : n ≡ i = omega (arith, q.1, l) in subst (IsEndIn h s ends2) z put.one
+  | inr q ↦ λ at row e is. put.others at.entrance i (before i q.1 at row e is)
+]
+
+pub all_ends : (h : Held) (s : Search) (ends : Lists) (count : ℕ) → count ≡ length s.store.rows.entries → AreEndsUpTo h s ends count → AreEnds h s ends
+all_ends h s ends count is each = λ n at row e end. each n (omega (arith, is, slice_get_within s.store.rows.entries n (at, row) e)) at row e end
+
+-- what was told of so many listed ends, and one more
+pub told_more : (h : Held) (s s1 : Search) (call : Calling) (ns : List ℕ) (n number : ℕ) → s1.store ≡ s.store → AreEndsTold h s call ns n → slice_get ns n ≡ Some number → IsEndTold h s1 call number
+    → AreEndsTold h s call ns (n + 1)
+told_more h s s1 call ns n number same before there here = λ i m l e. elim (leb_tells n i) [
+  | inl q ↦ let z : i ≡ n = omega (arith, q.1, l) in
+      let k : number ≡ m = same_Some number m (sym there ∙ sym (ap (slice_get ns) z) ∙ e) in
+      subst (IsEndTold h s call) k (subst (λ t. IsEndTold h (record { store = t; frontier = s.frontier }) call number) same here)
+  | inr q ↦ before i m q.1 e
+]
+
+-- each return is told of, where each listed end is
+pub returns_told : (h : Held) (s : Search) (ends : Lists) (call : Calling) (many : ℕ) → AreEnds h s ends → many ≡ length (list_of ends (entrance call.callee call.met.place.state.0))
+    → AreEndsTold h s call (list_of ends (entrance call.callee call.met.place.state.0)) many → (y : ℕ) → IsReturnTold h s call.met.place call.callee call.back.0 y
+returns_told h s ends call many are is told y = λ r a e er ea ee.
+    let end = end_of h call y in
+    let row = behind (λ (x : Row). x.inside) (row_at s.store end) e ee in
+    let found = place_from_lookup (place_eq end) s.store.rows.entries row.0 row.1 in
+    let same : end ≡ found.1 = equal_places end found.1 found.3 in
+    let there : slice_get s.store.rows.entries found.0 ≡ Some (end, row.0) = found.2 ∙ ap (λ (p : Place). Some (p, row.0)) (sym same) in
+    let i = are found.0 end row.0 there refl in
+    let ns = list_of ends (entrance call.callee call.met.place.state.0) in
+    told i.0 found.0 (omega (arith, is, slice_get_within ns i.0 found.0 i.1)) i.1 y row.0 there r a e er ea ee
+
+module _ (h : Held) (s : Search) (call : Calling) (number : ℕ) where
+  -- no row has the number
+  pub no_end : (o : Option (Place × Row)) → o ≡ slice_get s.store.rows.entries number → ((p : Place × Row) → o ≡ Some p → ⊥) → IsEndTold h s call number
+  no_end o is none = λ y row e. absurd (none (end_of h call y, row) (is ∙ e))
+
+  module _ (end : Place) (ended : Row) (there : slice_get s.store.rows.entries number ≡ Some (end, ended)) where
+    same_end : (y : ℕ) (row : Row) → slice_get s.store.rows.entries number ≡ Some (end_of h call y, row) → end ≡ end_of h call y
+    same_end y row e = ap (λ (p : Place × Row). p.0) (same_Some (end, ended) (end_of h call y, row) (sym there ∙ e))
+
+    -- the row is at no end of the callee
+    pub other_end : place_eq end (end_of h call end.state.0) ≡ false → IsEndTold h s call number
+    other_end other = λ y row e.
+        let same = same_end y row e in
+        let itself : place_eq (end_of h call y) (end_of h call y) ≡ true = place_itself (end_of h call y) in
+        absurd (not_both (place_eq end (end_of h call end.state.0)) (subst (λ (p : Place). place_eq p (end_of h call p.state.0) ≡ true) (sym same) itself) other)
+
+    -- it is, and the return is told of
+    pub end_told : IsReturnTold h s call.met.place call.callee call.back.0 end.state.0 → IsEndTold h s call number
+    end_told told = λ y row e. subst (λ (p : Place). IsReturnTold h s call.met.place call.callee call.back.0 p.state.0) (same_end y row e) told
+
+    pub end_at : row_at s.store end ≡ Some ended → place_eq end (end_of h call end.state.0) ≡ true → row_at s.store (end_of h call end.state.0) ≡ Some ended
+    end_at e is = subst (λ p. row_at s.store p ≡ Some ended) (equal_places end (end_of h call end.state.0) is) e

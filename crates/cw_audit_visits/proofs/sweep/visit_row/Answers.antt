@@ -1,0 +1,20 @@
+use Rattle.std.proofs.Common.{◌∙◌, sym}
+use Rattle.cw_audit_visits.proofs.Gone.{there_placed}
+use Rattle.cw_audit_visits.proofs.Stepping.{visited_inner, visited_neither}
+use Rattle.cw_audit_visits.proofs.Oks.{when_ok, at_ok}
+use Rattle.cw_audit_visits.proofs.sweep.visit_row.Goals as goal
+
+pub is_within-requires-clause-placed : goal.is_within-requires-clause-placed
+is_within-requires-clause-placed c = there_placed c.args.game.now c.args.search.now c.args.met c.requires.kept c.requires.there
+
+pub call_at-requires-clause-placed : goal.call_at-requires-clause-placed
+call_at-requires-clause-placed c = there_placed c.args.game.now c.args.search.now c.args.met c.requires.kept c.requires.there
+
+pub returns-then-is_within-clause-visited : goal.returns-then-is_within-clause-visited
+returns-then-is_within-clause-visited c =
+    when_ok c.steps.result (λ changed e b. visited_inner c.args.game.now c.args.search.now c.args.met.place c.args.met.row c.requires.there.row (sym c.is_within.ensures ∙ c.if-is_within.true)
+    (at_ok _ c.steps.result changed e c.steps.ensures.told b))
+
+pub returns-in_default-clause-visited : goal.returns-in_default-clause-visited
+returns-in_default-clause-visited c = λ b.
+    visited_neither c.args.game.now c.args.search.now c.args.met.place (sym c.is_within.ensures ∙ c.if-is_within.false) c.in_default.ensures.none
