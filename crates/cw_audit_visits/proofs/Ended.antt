@@ -1,18 +1,17 @@
 -- Calls go on behind the ends that are listed.
-use Rattle.std.proofs.Common.{◌≡◌, ℕ, ◌+◌, ◌∙◌, ◌<◌, ◌≤◌, List, [], ◌∷◌, ◌++◌, length, Bool, true, false, refl, suc, zero, sym, ap, subst, arith, inl, inr}
-use Rattle.std.specs.Prelude.{Option, Some, option_map, slice_get}
+use Rattle.std.proofs.Common.{◌≡◌, ℕ, ◌+◌, ◌∙◌, List, [], ◌∷◌, ◌++◌, length, true, false, refl, suc, zero, sym, ap, subst, arith, inl, inr}
+use Rattle.std.specs.Prelude.{Option, Some, slice_get}
 use Rattle.std.proofs.lemmas.Option.{none-some, same_Some, slice_get_within}
 use Rattle.std.proofs.lemmas.Bool.Decides.{leb_tells}
 use Rattle.std.proofs.lemmas.Map.Entries.{place_from_lookup}
-use Rattle.cw_lemmas.proofs.Truths.{not_both}
-use Rattle.cw_product.specs.Product.{Held, game_of}
+use Rattle.cw_product.specs.Product.{Held}
 use Rattle.cw_audit_store.specs.declared.lists.Lists.{Lists}
 use Rattle.cw_audit_store.specs.declared.place.Entrance.{Entrance}
 use Rattle.cw_audit_store.specs.declared.place.Place.{Place}
 use Rattle.cw_audit_store.specs.declared.place.Row.{Row}
 use Rattle.cw_audit_store.specs.Listed.{list_of}
 use Rattle.cw_audit_store.specs.Stores.{entrance_eq, place_eq, row_at}
-use Rattle.cw_audit_store.proofs.Orders.{equal_entrances, equal_places, place_itself}
+use Rattle.cw_audit_store.proofs.Orders.{equal_entrances, equal_places}
 use Rattle.cw_audit_visits.specs.declared.met.Calling.{Calling}
 use Rattle.cw_audit_visits.specs.declared.under_way.Search.{Search}
 use Rattle.cw_audit_visits.specs.Searching.{AreEnds, AreEndsTold, AreEndsUpTo, IsEndIn, IsEndPut, IsEndTold, IsIn, IsReturnTold, end_of, entrance}
@@ -44,14 +43,6 @@ module _ (h : Held) (s : Search) (number : ℕ) (ends ends2 : Lists) (at : Place
         (λ e. let same = equal_entrances at.entrance q e in
         subst (λ q. IsIn (list_of ends q) n → IsIn (list_of ends2 q) n) same
         (λ i. (i.0, ap (λ ns. slice_get ns i.0) here ∙ ahead (list_of ends at.entrance) number i.0 n i.1)) i);
-  }
-
-  -- it isn't
-  pub end_elsewhere : (at.pos.0 ≡ (game_of h).exit at.entrance.function → ⊥) → IsEndPut h s number ends ends
-  end_elsewhere other = record {
-    one = λ at2 row2 e is.
-        absurd (other (subst (λ (p : Place). p.pos.0 ≡ (game_of h).exit p.entrance.function) (sym (same_place at2 row2 e)) is));
-    others = λ q n i. i;
   }
 
 -- no row has the number
@@ -101,14 +92,7 @@ module _ (h : Held) (s : Search) (call : Calling) (number : ℕ) where
     same_end : (y : ℕ) (row : Row) → slice_get s.store.rows.entries number ≡ Some (end_of h call y, row) → end ≡ end_of h call y
     same_end y row e = ap (λ (p : Place × Row). p.0) (same_Some (end, ended) (end_of h call y, row) (sym there ∙ e))
 
-    -- the row is at no end of the callee
-    pub other_end : place_eq end (end_of h call end.state.0) ≡ false → IsEndTold h s call number
-    other_end other = λ y row e.
-        let same = same_end y row e in
-        let itself : place_eq (end_of h call y) (end_of h call y) ≡ true = place_itself (end_of h call y) in
-        absurd (not_both (place_eq end (end_of h call end.state.0)) (subst (λ (p : Place). place_eq p (end_of h call p.state.0) ≡ true) (sym same) itself) other)
-
-    -- it is, and the return is told of
+    -- the row is at an end of the callee, and the return is told of
     pub end_told : IsReturnTold h s call.met.place call.callee call.back.0 end.state.0 → IsEndTold h s call number
     end_told told = λ y row e. subst (λ (p : Place). IsReturnTold h s call.met.place call.callee call.back.0 p.state.0) (same_end y row e) told
 

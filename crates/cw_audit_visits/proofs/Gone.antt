@@ -1,8 +1,7 @@
 -- Steps of a search, one after another.
-use Rattle.std.proofs.Common.{◌≡◌, ℕ, ◌+◌, ◌∙◌, ◌≤◌, ◌<◌, length, Bool, true, false, Option, Some, None, refl, sym, ap, subst, arith, inl, inr}
+use Rattle.std.proofs.Common.{◌≡◌, ℕ, ◌+◌, ◌∙◌, ◌≤◌, ◌<◌, length, Bool, true, false, Some, refl, sym, ap, subst, arith}
 use Rattle.std.specs.Prelude.{option_map, cond, ◌||◌}
-use Rattle.std.proofs.lemmas.Bool.Decides.{leb_tells}
-use Rattle.std.proofs.lemmas.Option.{none-some, same_Some}
+use Rattle.std.proofs.lemmas.Option.{same_Some}
 use Rattle.cw_game.specs.Games.{Game}
 use Rattle.cw_product.specs.Product.{Held, game_of}
 use Rattle.cw_audit_store.specs.declared.place.Entrance.{Entrance}
@@ -13,7 +12,7 @@ use Rattle.cw_audit_store.specs.declared.place.Way.TheVariants.{Begun, Returned}
 use Rattle.cw_audit_store.specs.declared.place.Entered.{Entered}
 use Rattle.cw_audit_store.specs.Stores.{row_at, group_at}
 use Rattle.cw_audit_table.specs.Runs.{cut, skipped}
-use Rattle.cw_audit_search.specs.Sound.{IsArrival, IsPlace, IsProposal}
+use Rattle.cw_audit_search.specs.Sound.{IsArrival, IsProposal}
 use Rattle.cw_audit_search.specs.Ways.{IsCaller}
 use Rattle.cw_audit_search.proofs.Ways.{reach_ways}
 use Rattle.cw_audit_search.specs.Settled.{IsCovered}
@@ -24,7 +23,7 @@ use Rattle.cw_audit_visits.specs.declared.under_way.Search.{Search}
 use Rattle.cw_audit_visits.specs.Searching.{place, found_of, functions_of, IsFairGame, IsKept, IsGoneOn, IsTold, Tells, IsGroupFalling, IsGroupSet, IsCallAt, IsPlaced, IsReturnTold, IsDue, IsThere, left, ways_of, caller_of}
 use Rattle.cw_audit_visits.proofs.Sets.{group_reach, group_call}
 use Rattle.cw_audit_visits.proofs.Oks.{by_truth}
-use Rattle.cw_audit_visits.proofs.Proposed.{behind, stays}
+use Rattle.cw_audit_visits.proofs.Proposed.{behind}
 
 pub gone_trans : (h : Held) (a b c : Search) → IsGoneOn h a b → IsGoneOn h b c → IsGoneOn h a c
 gone_trans h a b c x y = record { kept = y.kept; fallen = fallen_trans (found_of a.store) (found_of b.store) (found_of c.store) x.fallen y.fallen }

@@ -1,7 +1,6 @@
 -- The proofs.
 pub mod Oks
 pub mod Turns
-pub mod Spots
 pub mod Gone
 pub mod Begun
 pub mod Stepping

@@ -2,7 +2,7 @@
 
 ghost use Rattle.std.specs.Prelude.{IfOk, OnOk};
 ghost use Rattle.cw_product.specs.Product.{game_of};
-ghost use Rattle.cw_audit_visits.specs.Searching.{AreEnds, AreEndsUpTo, IsEndPut, IsFairGame, IsKept, functions_of};
+ghost use Rattle.cw_audit_visits.specs.Searching.{AreEnds, IsEndPut, IsFairGame, IsKept, functions_of};
 
 use crate::under_way::Search;
 use cw_audit_store::Lists;
@@ -11,12 +11,7 @@ use cw_product::Game;
 use std::alloc::Global;
 
 // The row with the number is put among those of its entrance, where its function ends there.
-fn put_end(
-    game: &Game,
-    search: &Search,
-    ends: &mut Lists,
-    number: usize,
-) -> Result<(), NoMemory>
+fn put_end(game: &Game, search: &Search, ends: &mut Lists, number: usize) -> Result<(), NoMemory>
     requires fair { IsFairGame game.now }
     requires kept { IsKept (game_of game.now) (functions_of game.now) search.now }
     ensures { OnOk result (IsEndPut game.now search.now number ends.old ends.new) }

@@ -1,7 +1,6 @@
 //! Functions that are entered.
 
 ghost use Rattle.std.specs.Prelude.{◌≡◌, ◌<◌, ◌≤◌, true, false, length, option_map, IfOk, OnOk};
-ghost use Rattle.cw_product.specs.Moves.{IsPosition, IsState};
 ghost use Rattle.cw_product.specs.Product.{game_of};
 ghost use Rattle.cw_audit_search.specs.Sound.{IsArrival};
 ghost use Rattle.cw_audit_search.specs.Ways.{IsCaller};

@@ -1,7 +1,6 @@
 //! Rows and violations that are proposed.
 
 ghost use Rattle.std.specs.Prelude.{◌≡◌, ◌<◌, ◌≤◌, true, false, Some, IfOk, OnOk};
-ghost use Rattle.cw_game.specs.Games.{bad_in};
 ghost use Rattle.cw_product.specs.Moves.{IsPosition, IsState};
 ghost use Rattle.cw_product.specs.Product.{game_of};
 ghost use Rattle.cw_audit_visits.specs.Searching.{IsDue, IsHitNear, IsHitSet, IsNear, IsRowSet, IsFairGame, IsGoneOn, IsHitFalling, IsRowFalling, IsKept, IsTold, Tells, functions_of, reach_of};

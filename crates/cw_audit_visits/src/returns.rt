@@ -67,12 +67,7 @@ pub(crate) fn return_from(
 }
 
 // Where one row is a call and the other an end of what it calls, the call goes on.
-fn join(
-    game: &Game,
-    search: &mut Search,
-    caller: usize,
-    end: usize,
-) -> Result<bool, NoMemory>
+fn join(game: &Game, search: &mut Search, caller: usize, end: usize) -> Result<bool, NoMemory>
     requires fair { IsFairGame game.now }
     requires kept { IsKept (game_of game.now) (functions_of game.now) search.old }
     ensures tells { IfOk result (λ changed. Tells search.old search.new changed) }

@@ -1,6 +1,6 @@
 //! Moves within a function.
 
-ghost use Rattle.std.specs.Prelude.{◌≡◌, ◌<◌, ◌+◌, ◌≤◌, [], true, false, Some, slice_get, IfOk, OnOk};
+ghost use Rattle.std.specs.Prelude.{◌≡◌, ◌<◌, ◌+◌, ◌≤◌, true, false, Some, slice_get, IfOk, OnOk};
 ghost use Rattle.cw_certs.specs.declared.moves.Move.{Move};
 ghost use Rattle.cw_game.specs.Games.{bad_in};
 ghost use Rattle.cw_product.specs.Moves.{IsPosition, IsState};

@@ -107,12 +107,7 @@ fn visit_call(
 }
 
 // All that a row leads to is proposed, until something changes. An end leads to nothing but by the calls.
-fn visit_row(
-    game: &Game,
-    search: &mut Search,
-    ends: &Lists,
-    met: Met,
-) -> Result<bool, NoMemory>
+fn visit_row(game: &Game, search: &mut Search, ends: &Lists, met: Met) -> Result<bool, NoMemory>
     requires begun { AreBegun game.now search.old }
     requires ends { AreEnds game.now search.old ends.now }
     requires there { IsThere search.old met }
@@ -181,12 +176,7 @@ fn visit_each(
 }
 
 // All rows below the bound are visited, until something changes.
-fn visit_all(
-    game: &Game,
-    search: &mut Search,
-    ends: &Lists,
-    bound: u32,
-) -> Result<bool, NoMemory>
+fn visit_all(game: &Game, search: &mut Search, ends: &Lists, bound: u32) -> Result<bool, NoMemory>
     requires begun { AreBegun game.now search.old }
     requires ends { AreEnds game.now search.old ends.now }
     requires fair { IsFairGame game.now }
@@ -201,12 +191,7 @@ fn visit_all(
 
 /// All rows below the bound are visited once more, until something changes. The answer is whether nothing did: then the search is
 /// settled there. The one error is want of memory.
-pub fn settle(
-    alloc: Global,
-    game: &Game,
-    search: &mut Search,
-    bound: u32,
-) -> Result<bool, NoMemory>
+pub fn settle(alloc: Global, game: &Game, search: &mut Search, bound: u32) -> Result<bool, NoMemory>
     requires fair { IsFairGame game.now }
     requires kept { IsKept (game_of game.now) (functions_of game.now) search.old }
     ensures tells { IfOk result (λ settled. Tells search.old search.new (not settled)) }

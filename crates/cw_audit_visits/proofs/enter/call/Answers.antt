@@ -1,6 +1,5 @@
 use Rattle.std.proofs.Common.{arith}
 use Rattle.cw_audit_visits.proofs.Stepping.{callee_arrival, callee_caller}
-use Rattle.cw_audit_visits.proofs.Oks.{when_ok, at_ok}
 use Rattle.cw_audit_visits.proofs.enter.call.Goals as goal
 
 pub enter-requires-clause-function : goal.enter-requires-clause-function

@@ -3,7 +3,7 @@ use Rattle.std.specs.Prelude.{option_map}
 use Rattle.cw_audit_store.specs.declared.place.Row.{Row}
 use Rattle.cw_audit_visits.proofs.Oks.{when_ok, at_ok}
 use Rattle.cw_audit_visits.proofs.Gone.{return_due, return_told}
-use Rattle.cw_audit_visits.proofs.Ended.{no_end, other_end, end_told, end_at}
+use Rattle.cw_audit_visits.proofs.Ended.{no_end, end_told, end_at}
 use Rattle.cw_audit_visits.proofs.returns.return_from.Goals as goal
 
 pub returns-in_default-clause-told : goal.returns-in_default-clause-told

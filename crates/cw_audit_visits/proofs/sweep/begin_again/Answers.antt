@@ -1,6 +1,4 @@
-use Rattle.std.proofs.Common.{◌∙◌, sym, ap}
-use Rattle.cw_audit_visits.specs.Searching.{found_of, place}
-use Rattle.cw_product.specs.Product.{game_of}
+use Rattle.std.proofs.Common.{◌∙◌, sym}
 use Rattle.cw_audit_visits.proofs.Oks.{when_ok, at_ok}
 use Rattle.cw_audit_visits.proofs.Gone.{entry_due}
 use Rattle.cw_audit_visits.proofs.Swept.{group_arrival, group_reached, no_begun, number_begun, entry_told}

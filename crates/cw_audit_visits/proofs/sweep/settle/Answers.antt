@@ -1,6 +1,5 @@
-use Rattle.std.proofs.Common.{false, not, refl, ap}
-use Rattle.cw_audit_visits.proofs.Gone.{gone_trans, tells_both}
-use Rattle.cw_audit_visits.proofs.Swept.{begun_same, below_same, settled_of}
+use Rattle.cw_audit_visits.proofs.Gone.{gone_trans}
+use Rattle.cw_audit_visits.proofs.Swept.{begun_same}
 use Rattle.cw_audit_visits.proofs.sweep.settle.Goals as goal
 
 pub visit_all-requires-clause-begun : goal.visit_all-requires-clause-begun

@@ -1,4 +1,4 @@
-use Rattle.std.proofs.Common.{◌∙◌, sym, arith}
+use Rattle.std.proofs.Common.{sym, arith}
 use Rattle.cw_audit_visits.proofs.Oks.{when_ok, at_ok}
 use Rattle.cw_audit_visits.proofs.Swept.{number_settled, past_bound, unknown_settled, visited_settled}
 use Rattle.cw_audit_visits.proofs.sweep.visit_below.Goals as goal

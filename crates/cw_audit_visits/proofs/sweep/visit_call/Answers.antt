@@ -1,7 +1,6 @@
-use Rattle.cw_audit_visits.proofs.Gone.{gone_trans, tells_both}
 use Rattle.cw_audit_visits.proofs.Stepping.{there_same, visited_call, returns_same}
 use Rattle.cw_audit_visits.proofs.Swept.{ends_same}
-use Rattle.cw_audit_visits.proofs.Oks.{when_ok, whenever_ok, at_ok}
+use Rattle.cw_audit_visits.proofs.Oks.{when_ok, at_ok}
 use Rattle.cw_audit_visits.proofs.sweep.visit_call.Goals as goal
 
 pub return_each-requires-clause-ends : goal.return_each-requires-clause-ends
