@@ -5,7 +5,7 @@
 
 Two tables are printed, in one run. The first has a row for each of twelve commands, with millions of instructions (all that the process executes, by `valgrind --tool=callgrind`) and
 milliseconds (of the processor, the least of the runs, the two commands in turn), and how many times the other's each is. The second has sizes 1, 2, 4 and 8 of one quantity for each
-command, the instructions of each size, and the exponent with which they grow: the slope of the line that fits their logarithms best, what a run of three lines takes being left out. The
+command, the instructions of each size, and the exponent with which they grow: the slope of the line that fits their logarithms best, what the same command takes for a small text being left out. The
 sources and policies are made here; woven texts and strategies are those that the program writes for them. The status is 1 where the two answer differently, where a row is over 1.5 times
 in instructions or 2 in time, or where an exponent is above the other's by more than 0.1. --only takes the rows whose name has the word. Needs Linux, Python 3.8 and valgrind.
 """
@@ -195,11 +195,24 @@ GROWTHS = (
 )
 
 
+# What each command begins with: what it takes for a small text is no part of its growth.
+SMALLEST = {
+    "`sample`": sample(1),
+    "`weave`": weave(POLICY, THREE_LINES),
+    "`graph`": graph(THREE_LINES),
+    "`check`": check(POLICY, THREE_LINES),
+    "`procs`": procs(DETACHED, leaving(1)),
+    "`refute`": refute(POLICY, first_form(1, "done", "w3")),
+    "`run`": run(several(1), LOOP, ""),
+    "`play`": play(POLICY, first_form(1, "done", "w3"), ""),
+}
+
+
 class Bench:
     """The commands, and a folder for the texts."""
 
     def __init__(self, commands, folder, runs):
-        self.commands, self.folder, self.runs, self.wrong, self.began = commands, folder, runs, [], None
+        self.commands, self.folder, self.runs, self.wrong, self.began = commands, folder, runs, [], {}
 
     def made(self, case):
         """The words of a case, its texts being in files."""
@@ -257,12 +270,13 @@ class Bench:
         print(line, flush=True)
 
     def growth(self, name, quantity, make):
-        self.began = self.began or self.instructions(self.made(weave(POLICY, THREE_LINES)))
+        if name not in self.began:
+            self.began[name] = self.instructions(self.made(SMALLEST[name]))
         counts = []
         for size in EIGHT:
             words = self.made(make(size))
             self.same("%s by %s, size %d" % (name, quantity, size), words)
-            counts.append([max(1, count - start) for count, start in zip(self.instructions(words), self.began)])
+            counts.append([max(1, count - start) for count, start in zip(self.instructions(words), self.began[name])])
         exponents = [slope([math.log(size) for size in EIGHT], [math.log(count[number]) for count in counts]) for number in range(len(self.commands))]
         line = "| %s | %s | %s |" % (name, quantity, " ".join("%.2f" % (count[0] / 1e6) for count in counts))
         line += " %.2f |" % exponents[0]
