@@ -207,7 +207,7 @@ def odd_files(program):
 
 
 def main():
-    if len(sys.argv) != 2:
+    if len(sys.argv) != 2 or sys.argv[1].startswith("-"):
         sys.exit(__doc__)
     prepared()
     with tempfile.TemporaryDirectory() as folder:

@@ -148,7 +148,7 @@ def ran(library, words, refused):
 
 
 def main():
-    if len(sys.argv) not in (2, 3):
+    if len(sys.argv) not in (2, 3) or sys.argv[1].startswith("-"):
         sys.exit(__doc__)
     program, wrong = os.path.abspath(sys.argv[1]), 0
     with tempfile.TemporaryDirectory() as folder:
