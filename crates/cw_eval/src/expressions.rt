@@ -206,18 +206,21 @@ fn target(scope: &Scope, parts: &[Expr], m: &mut Memory) -> Result<Target, Halt>
     }
 }
 
-/// Where an expression can be changed.
+/// Where an expression can be changed. A name is looked up without a further call.
 #[cycle(value)]
 #[inline(always)]
 fn target_of(scope: &Scope, e: &Expr, m: &mut Memory) -> Result<Target, Halt>
     ensures { Shows target_in result (memory_of m.new) (target (scope_of scope.now) (more (tree_of e.now) none) (memory_of m.old)) }
 {
-    target_node(scope, e.op, &e.parts, e.from, e.to, m)
+    match e.op {
+        Op::Name => Ok(name_target(scope, e.from, e.to)),
+        _ => target_node(scope, e.op, &e.parts, e.from, e.to, m),
+    }
 }
 
 /// A name and an element of an array can be changed. Another operand is evaluated.
 #[cycle(value)]
-#[inline(always)]
+#[inline(never)]
 fn target_node(
     scope: &Scope,
     op: Op,

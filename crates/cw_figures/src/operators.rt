@@ -149,6 +149,7 @@ fn shifted_right(a: i64, by: Option<u32>) -> Result<i64, Want>
 /// What an operator gives over two numbers.
 ///
 /// Public source: ISO/IEC 9899:2011, 6.5.5 to 6.5.12; a shift to the right rounds down, also of negative numbers.
+#[inline(always)]
 pub fn operate(op: Operator, a: i64, b: i64) -> Result<i64, Want>
     ensures operated { result ≡ operated op a b }
 {

@@ -1,9 +1,9 @@
-use Rattle.std.proofs.Common.{sym, ap, ap₂, ◌∙◌, subst, ℤ, arith}
+use Rattle.std.proofs.Common.{Ok, sym, ap, ap₂, ◌∙◌, subst, ℤ, arith}
 use Rattle.cw_syntax.specs.Trees.{Node, Tree, more, none, tree_of, trees_of}
 use Rattle.cw_syntax.specs.declared.program.Expr.{out-Expr}
 use Rattle.cw_syntax.proofs.Shapes.{node_is}
 use Rattle.cw_value.specs.declared.values.Arg.{Arg}
-use Rattle.cw_value.specs.Expressions.{Target, arguments, target, value}
+use Rattle.cw_value.specs.Expressions.{Target, arguments, gives, target, value}
 use Rattle.cw_slots.specs.Shown.{scope_of}
 use Rattle.cw_eval.specs.declared.memory.Target.{Target as HeldTarget}
 use Rattle.cw_eval.specs.Parts.{argument}
@@ -56,8 +56,16 @@ any_value-returns-in_default t c =
     subst (λ (x : Tree). Shows {A = ℤ} {B = ℤ} as_is c.node.result (memory_of c.node.new.m) (value (scope_of c.args.scope.now) x (memory_of c.args.m.now)))
     (ap (λ l. Node o.op (trees_of l) o.from o.to) c.deref-in_default.ensures.value ∙ sym (node_is e)) c.node.ensures
 
-pub target_of-returns : goal.target_of-returns
-target_of-returns t c =
+pub target_of-returns-in-Name : goal.target_of-returns-in-Name
+target_of-returns-in-Name t c =
+    let e = c.args.e.now in
+    let o = out-Expr e in
+    let m = memory_of c.args.m.now in
+    subst (λ (x : Tree). Shows {A = HeldTarget} {B = Target} target_in (Ok c.name_target.result) m (target (scope_of c.args.scope.now) (more x none) m))
+    (ap (λ op. Node op (trees_of o.parts.items) o.from o.to) (sym c.in-Name.is) ∙ sym (node_is e)) (ap (λ target. gives target m) (sym c.name_target.ensures.target))
+
+pub target_of-returns-in_default : goal.target_of-returns-in_default
+target_of-returns-in_default t c =
     let e = c.args.e.now in
     let o = out-Expr e in
     subst (λ (x : Tree). Shows {A = HeldTarget} {B = Target} target_in c.target_node.result (memory_of c.target_node.new.m) (target (scope_of c.args.scope.now) (more x none) (memory_of c.args.m.now)))
