@@ -10,7 +10,6 @@ use Rattle.cw_syntax.specs.Trees.{File}
 use Rattle.cw_resolve.specs.Scenes.{names_of}
 use Rattle.cw_lex.specs.declared.tokens.Token.{Token}
 use Rattle.cw_lex.specs.Tokens.{AreTokens}
-use Rattle.cw_source.specs.Read.{ReadsAs}
 use Rattle.cw_source.proofs.OneAnswer.{one_program}
 use Rattle.cw_callgraph.specs.Fitting.{Fits}
 use Rattle.cw_points.specs.declared.graph.Graph.{Graph}

@@ -47,7 +47,8 @@ same_deed a b r e = cc
 
 -- ---- statements that are looked at one after the other
 
-pub ascend_more : (xs : List (Bor Stmt)) (i from to : ℕ) (x : Bor Stmt) → i < length xs → x ≡ get_or xs i x → from ≤ x.now.from → Ascend (x.now.from + 1) to (said_in (drop (i + 1) xs)) → Ascend from to (said_in (drop i xs))
+pub ascend_more : (xs : List (Bor Stmt)) (i from to : ℕ) (x : Bor Stmt) → i < length xs → x ≡ get_or xs i x → from ≤ x.now.from → Ascend (x.now.from + 1) to (said_in (drop (i + 1) xs))
+    → Ascend from to (said_in (drop i xs))
 ascend_more xs i from to x within is le h =
     let e : said_in (drop i xs) ≡ statement_at x ∷ said_in (drop (i + 1) xs) = at_drop_more said_in xs i x within ∙ ap (λ y. statement_at y ∷ said_in (drop (i + 1) xs)) (sym is) in
     subst (Ascend from to) (sym e) (le, h)

@@ -88,7 +88,7 @@ fn act(known: &Known, m: &mut Machine, deed: Deed) -> Result<Way, Halt>
 ///
 /// Whether the task is of the function that runs is tested; where it isn't, what its row does is looked up.
 #[inline(always)]
-pub fn step_task(known: &Known, m: &mut Machine, task: &Task) -> Result<Way, Halt>
+pub(crate) fn step_task(known: &Known, m: &mut Machine, task: &Task) -> Result<Way, Halt>
     requires known { IsKnown known.now }
     requires task { IsTask (source_in known.now.source).file.functions task.now }
     ensures goes { Goes result (machine_of m.new) (stays (source_in known.now.source) task.now.row (machine_of m.old)) }

@@ -69,21 +69,24 @@ module _ (policy : PlainPolicy) (run : Run) (is_run : IsRunOf policy run) (old :
   waits_below = waiting_below policy s here waiting (machine_of old) g h front
 
   pub inner_advances : (node : Node) (r : Row) → slice_get run.graph.now.nodes.items point.0 ≡ Some node → slice_get (rows_of run) point.0 ≡ Some r → IsInnerRow r → (way : HeldWay) (new : HeldMachine)
-      → Goes (Ok way) (machine_of new) (step_by s false front.item front.frames (machine_of old)) → new.waits.items ≡ old.waits.items → Advances policy s (Ok (record { way = way; next = next_by node.next (way_in way) })) new g
+      → Goes (Ok way) (machine_of new) (step_by s false front.item front.frames (machine_of old)) → new.waits.items ≡ old.waits.items
+      → Advances policy s (Ok (record { way = way; next = next_by node.next (way_in way) })) new g
   inner_advances node r en er inner way new q ws =
       let on = inner_on policy s here waiting (machine_of old) g h front (subst IsInnerRow (sym (row_is r er)) inner) (way_in way) (machine_of new) q in
       subst (λ (n : Node). Reaches policy s (way_in way) (here_of (next_by n.next (way_in way)) (map back_of new.waits.items)) (map call_of new.waits.items) (machine_of new) g) (node_is node en)
       (subst (λ (l : List Wait). Reaches policy s (way_in way) (here_of (next_by front.what.next (way_in way)) (map back_of l)) (map call_of l) (machine_of new) g) (sym ws) on)
 
   pub end_advances : slice_get (rows_of run) point.0 ≡ Some row.Ends → (way : HeldWay) (new : HeldMachine)
-      → Goes (Ok way) (machine_of new) (step_by s false front.item front.frames (machine_of old)) → new.waits.items ≡ drop 1 old.waits.items → Advances policy s (Ok (record { way = way; next = first_back old.waits.items })) new g
+      → Goes (Ok way) (machine_of new) (step_by s false front.item front.frames (machine_of old)) → new.waits.items ≡ drop 1 old.waits.items
+      → Advances policy s (Ok (record { way = way; next = first_back old.waits.items })) new g
   end_advances er way new q ws =
       let on = end_on policy s here waiting (machine_of old) g h front (row_is row.Ends er) (way_in way) (machine_of new) q in
       subst (λ (l : List Wait). Reaches policy s (way_in way) (here_of (first_back old.waits.items) (map back_of l)) (map call_of l) (machine_of new) g) (sym ws)
       (subst (λ (o : Option Stand). Reaches policy s (way_in way) o (map call_of (drop 1 old.waits.items)) (machine_of new) g) (returned_first old.waits.items)
       (subst (λ (l : List (Option (ℕ × Option Name))). Reaches policy s (way_in way) (returned (map back_of old.waits.items)) l (machine_of new) g) (later_calls old.waits.items) on))
 
-  module _ (node : Node) (at number : ℕ) (taker : Option Name) (en : slice_get run.graph.now.nodes.items point.0 ≡ Some node) (er : slice_get (rows_of run) point.0 ≡ Some (row.Calls at number taker)) where
+  module _ (node : Node) (at number : ℕ) (taker : Option Name) (en : slice_get run.graph.now.nodes.items point.0 ≡ Some node)
+      (er : slice_get (rows_of run) point.0 ≡ Some (row.Calls at number taker)) where
     there : (o : Option Stand) × CallLeads (all_parts policy s) here.returns number front.what.next o
     there = call_there policy s here waiting (machine_of old) g h front at number taker (row_is (row.Calls at number taker) er)
 

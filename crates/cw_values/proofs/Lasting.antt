@@ -36,7 +36,8 @@ module _ (policy : PlainPolicy) (s : Source) where
   begins_over [] h = refl
   begins_over (frame ∷ frames) h = absurd h
 
-  told_so : (left : ℕ) (now : Going) (m : Machine) (stop : Stop) → now.machine ≡ m → now.tried ≡ 0 → Ends s (problem_of policy s.bytes s.file) None left now (record { made = now.machine.made; tried = now.tried; stop = stop })
+  told_so : (left : ℕ) (now : Going) (m : Machine) (stop : Stop) → now.machine ≡ m → now.tried ≡ 0
+      → Ends s (problem_of policy s.bytes s.file) None left now (record { made = now.machine.made; tried = now.tried; stop = stop })
       → Ends s (problem_of policy s.bytes s.file) None left now (record { made = m.made; tried = 0; stop = stop })
   told_so left now m stop e t h =
       subst (λ (n : ℕ). Ends s (problem_of policy s.bytes s.file) None left now (record { made = m.made; tried = n; stop = stop })) t

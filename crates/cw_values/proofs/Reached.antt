@@ -154,7 +154,8 @@ module _ (policy : PlainPolicy) (s : Source) where
     inner_on inner way k e =
         let moved = goes_here policy s st calls m g h f way k e in
         stands_on policy s st calls m g h f way k e (here_of (next_by f.what.next way) st.returns) calls
-        (inner_leads (all_parts policy s) st.returns f.what.point f.what.next way moved.here (suits_inner f.item f.what.point inner f.suits) (leads_here policy s st calls m g h f way moved.here moved.leads))
+        (inner_leads (all_parts policy s) st.returns f.what.point f.what.next way moved.here (suits_inner f.item f.what.point inner f.suits)
+        (leads_here policy s st calls m g h f way moved.here moved.leads))
         (ap (map call_in) (inner_below (plan policy s) f.item f.rest f.frames moved.next way inner moved.passes) ∙ waiting_below)
 
     pub end_on : row_of f.item ≡ row.Ends → (way : Way) (k : Machine) → step_by s false f.item f.frames m ≡ goes way k → Reaches way (returned st.returns) (drop 1 calls) k g
@@ -190,7 +191,8 @@ module _ (policy : PlainPolicy) (s : Source) where
           let front : g.woven.board.stack ≡ stack = f.front ∙ ap (λ (i : Item). (i ∷ f.rest) ∷ f.frames) c.item in
           let stands = subst (λ (x : List Frame). StackAt (all_nodes policy s) (all_items policy s) x (Some st)) front h.stack in
           let there = callee_there c g.machine.frames (subst (λ (x : List Frame). Ready policy s h.runs x g.machine.frames) front h.ready) in
-          let both = tied (all_nodes policy s) (all_items policy s) (plan policy s) (all_parts policy s) (placed_program (names_of policy) s.bytes s.file) (Todo (Call at c.seam c.callee) ∷ f.rest) f.frames st On stands in
+          let both = tied (all_nodes policy s) (all_items policy s) (plan policy s) (all_parts policy s) (placed_program (names_of policy) s.bytes s.file)
+          (Todo (Call at c.seam c.callee) ∷ f.rest) f.frames st On stands in
           let to = of_stack policy s there.0 (goes_to (all_nodes policy s) (all_parts policy s) st On)
           (subst (λ o. Tied (all_nodes policy s) (all_items policy s) o (goes_to (all_nodes policy s) (all_parts policy s) st On)) there.1 both) in
           (to.0, call_leads (all_parts policy s) st.returns number f.what.point f.what.next On to.0 called_point (leads_here policy s st calls m g h f On to.0 to.1))

@@ -65,7 +65,8 @@ module _ (h : Held) (s : Source) (t : Table) (w : IsWoven h s t) where
         (subst (λ x. Ends s (problem h s t) (Some t) 0 now (record { made = x; tried = made; stop = StepsStop })) (made_is place m waits left made now stands)
         (subst (λ (x : ℕ). Ends s (problem h s t) (Some t) 0 now (record { made = now.machine.made; tried = x; stop = StepsStop })) stands.weaves.tried end)))
 
-    module _ (below : i < most_steps) (here : HereData) (left2 : List Move) (made2 : ℕ) (then : Going) (a : Arrives h s t w stands.plain waits left2 made2 now (here_of here) then) (waits2 : List Wait) (m2 : HeldMachine) where
+    module _ (below : i < most_steps) (here : HereData) (left2 : List Move) (made2 : ℕ) (then : Going) (a : Arrives h s t w stands.plain waits left2 made2 now (here_of here) then)
+        (waits2 : List Wait) (m2 : HeldMachine) where
       pub leads_on : (next : Place) → Steps h s t w waits2 left2 made2 then m2 (Ok (Some next)) → Leads h s t w next m2 waits2 left2 made2 run (most_steps - (i + 1))
       leads_on next k = (k.0, k.1, λ v e. back below v (a.ends (most_steps - (i + 1)) v (k.2 (most_steps - (i + 1)) v e)))
 

@@ -64,7 +64,8 @@ module _ (h : Held) (s : Source) (t : Table) (w : IsWoven h s t) (plain : Going)
     weaver_step : (j i : ℕ) (a : Primitive) (by : Move) (to : Here) (move : Moved h s t w run.woven by to waits) (later : List Primitive) → run.woven.board.phase ≡ Visit i a later → by ≢ StopMove
         → (n : ℕ) → n ≡ counted by made → Weaves h s t w plain to waits left n (after run move.next run.tries (counted by run.tried))
     weaver_step j i a by to move later e ns n en = record {
-      paired = beside_after run move.next run.tries (counted by run.tried) on.paired (weaving_on s (problem h s t) (Some t) (Inv (policy h s t) s w.fits) (invariant (policy h s t) s w.fits) run.woven.board.phase (is_weaving i a later e))
+      paired = beside_after run move.next run.tries (counted by run.tried) on.paired
+          (weaving_on s (problem h s t) (Some t) (Inv (policy h s t) s w.fits) (invariant (policy h s t) s w.fits) run.woven.board.phase (is_weaving i a later e))
           (weave_stays s (problem h s t) run.woven.board move.next.board run.woven.board.phase by refl (is_weaving i a later e) ns (woven_moves run.woven move.next by move.step));
       sits = move.sits;
       comes = comes_on h s t w run.woven move.next by on.comes move.step;
@@ -120,7 +121,8 @@ module _ (h : Held) (s : Source) (t : Table) (w : IsWoven h s t) (plain : Going)
     tries_it j i a es there =
         let move = try_move j i a es there in
         let v = visit_phase j i a es in
-        let phase = tried (problem h s t) run.woven.board move.next.board i a v.0 (ap (λ ph. moved (problem h s t) run.woven.board ph Try) (sym v.1) ∙ woven_moves run.woven move.next Try move.step) in (
+        let phase = tried (problem h s t) run.woven.board move.next.board i a v.0
+        (ap (λ ph. moved (problem h s t) run.woven.board ph Try) (sym v.1) ∙ woven_moves run.woven move.next Try move.step) in (
           after run move.next run.tries (run.tried + 1),
           record {
             weaves = weaver_step j i a Try (at_pos (here.pos + 1) here) move v.0 v.1 (λ e. absurd (cc)) (made + 1) refl;
@@ -132,13 +134,15 @@ module _ (h : Held) (s : Source) (t : Table) (w : IsWoven h s t) (plain : Going)
         )
 
     -- where no visit stands the program's step is due
-    pub free_here : (spot : Spot) → slice_get (g h s t w).spots here.pos ≡ Some spot → ((j i : ℕ) (a : Primitive) → spot ≡ VisitSpot j i a → ⊥) → IsCalm run.woven.board.phase → IsFree run.woven.board.phase
+    pub free_here : (spot : Spot) → slice_get (g h s t w).spots here.pos ≡ Some spot → ((j i : ℕ) (a : Primitive) → spot ≡ VisitSpot j i a → ⊥) → IsCalm run.woven.board.phase
+        → IsFree run.woven.board.phase
     free_here spot es other calm =
         let k = seen h s t w run.woven here waits on.sits in
         calm_seen k.frame run.woven.board.phase spot (not_visit spot other) (sees_at h s t w run.woven here k spot es) calm
 
     -- what an answer leaves is what the visit leaves
-    pub then_asked : (to : Here) (now : Going) → Asking to now → (left2 : List Move) (made2 : ℕ) (v : Visited) → Visits h s t w plain waits left2 made2 now v → Visits h s t w plain waits left2 made2 run v
+    pub then_asked : (to : Here) (now : Going) → Asking to now → (left2 : List Move) (made2 : ℕ) (v : Visited) → Visits h s t w plain waits left2 made2 now v
+        → Visits h s t w plain waits left2 made2 run v
     then_asked to now a left2 made2 (visit.On next) k = (
       k.0,
       record {

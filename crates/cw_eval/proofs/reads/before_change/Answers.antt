@@ -8,5 +8,6 @@ use Rattle.cw_eval.proofs.reads.before_change.Goals as goal
 
 pub returns : goal.returns
 returns c =
-    subst (λ (t : Tree). Shows {A = ℤ} {B = ℤ} as_is c.old_value.result (memory_of c.args.m.now) (before_first (scope_of c.args.scope.now) (more t none) (target_in c.args.target) (memory_of c.args.m.now)))
+    subst (λ (t : Tree). Shows {A = ℤ} {B = ℤ} as_is c.old_value.result (memory_of c.args.m.now)
+    (before_first (scope_of c.args.scope.now) (more t none) (target_in c.args.target) (memory_of c.args.m.now)))
     (sym (node_is c.args.e.now)) c.old_value.ensures

@@ -18,5 +18,6 @@ returns c = λ functions known.
     let here = c.index-said-number.result in
     let f = at_known said_in (λ (f : Definition). said_all f.body) c.args.said.now functions c.args.number here known (omega arith) c.index-said-number.is in
     c.deed_by.ensures.deed
-    ∙ (same_deed (said_in c.behind.result.now) (said_in here) c.args.row (ap (λ p. find (begins_at p) (said_in c.behind.result.now)) (sym c.place_of.ensures) ∙ (c.behind.ensures.found ∙ ap (λ p. find (begins_at p) (said_in here)) c.place_of.ensures))
+    ∙ (same_deed (said_in c.behind.result.now) (said_in here) c.args.row
+    (ap (λ p. find (begins_at p) (said_in c.behind.result.now)) (sym c.place_of.ensures) ∙ (c.behind.ensures.found ∙ ap (λ p. find (begins_at p) (said_in here)) c.place_of.ensures))
     ∙ (ap (λ (l : List Statement). deed_among l c.args.row) f.2 ∙ sym (ap (λ (o : Option Definition). deed_for o c.args.row) f.1)))

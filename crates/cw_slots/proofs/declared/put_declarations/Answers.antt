@@ -12,7 +12,8 @@ loop-declaration-preserved c =
     let s = c.args.source.now in
     let kind = of_kind c.args.arrays in
     let x = c.declaration-item.result in
-    further (λ l. names_of s kind (flat_map (λ d. d.items) (map declaration_of l))) c.args.declarations.now c.loop-declaration.declaration-index x _ _ (names_of s kind (declaration_of x).items) _ c.loop-declaration-test.true c.declaration-item.is
+    further (λ l. names_of s kind (flat_map (λ d. d.items) (map declaration_of l))) c.args.declarations.now c.loop-declaration.declaration-index x _ _
+    (names_of s kind (declaration_of x).items) _ c.loop-declaration-test.true c.declaration-item.is
     (λ ys. names_both s kind (declaration_of x).items (flat_map (λ d. d.items) (map declaration_of ys)))
     (c.in_ok-put_items.ensures ∙ ap (λ l. map text_at c.loop-declaration.out.items ++ names_of s kind (map declared_of l)) c.deref.ensures.value) c.loop-declaration.invariant
 
@@ -20,4 +21,5 @@ pub returns : goal.returns
 returns c =
     let s = c.args.source.now in
     let kind = of_kind c.args.arrays in
-    all_gone (λ l. names_of s kind (flat_map (λ d. d.items) (map declaration_of l))) c.args.declarations.now c.loop-declaration.declaration-index _ _ refl c.loop-declaration-test.false c.loop-declaration.invariant
+    all_gone (λ l. names_of s kind (flat_map (λ d. d.items) (map declaration_of l))) c.args.declarations.now c.loop-declaration.declaration-index _ _ refl c.loop-declaration-test.false
+    c.loop-declaration.invariant

@@ -5,4 +5,5 @@ use Rattle.cw_slots.specs.Texts.{of_kind, text_at}
 use Rattle.cw_slots.proofs.declared.put_items.Given as goal
 
 abbrev pub invariant-loop-item : goal.invariant-loop-item
-invariant-loop-item l = map text_at l.out.items ++ names_of l.source (of_kind l.arrays) (map declared_of (drop l.item-index l.items)) ≡ map text_at l.initial.out.items ++ names_of l.source (of_kind l.arrays) (map declared_of (l.items))
+invariant-loop-item l = map text_at l.out.items ++ names_of l.source (of_kind l.arrays) (map declared_of (drop l.item-index l.items)) ≡ map text_at l.initial.out.items
+    ++ names_of l.source (of_kind l.arrays) (map declared_of (l.items))

@@ -11,7 +11,8 @@ loop-statement-preserved c =
     let s = c.args.source.now in
     let kind = of_kind c.args.arrays in
     let x = c.statement-item.result in
-    further (λ l. names_of s kind (flat_map declared_by (map statement_at l))) c.args.statements.now c.loop-statement.statement-index x _ _ (names_of s kind (declared_by (statement_at x))) _ c.loop-statement-test.true c.statement-item.is
+    further (λ l. names_of s kind (flat_map declared_by (map statement_at l))) c.args.statements.now c.loop-statement.statement-index x _ _
+    (names_of s kind (declared_by (statement_at x))) _ c.loop-statement-test.true c.statement-item.is
     (λ ys. names_both s kind (declared_by (statement_at x)) (flat_map declared_by (map statement_at ys))) c.in_ok-put_statement.ensures c.loop-statement.invariant
 
 pub returns : goal.returns

@@ -5,4 +5,5 @@ use Rattle.cw_slots.specs.Texts.{of_kind, statement_at, text_at}
 use Rattle.cw_slots.proofs.declared.put_statements.Given as goal
 
 abbrev pub invariant-loop-statement : goal.invariant-loop-statement
-invariant-loop-statement l = map text_at l.out.items ++ names_of l.source (of_kind l.arrays) (flat_map declared_by (map statement_at (drop l.statement-index l.statements))) ≡ map text_at l.initial.out.items ++ names_of l.source (of_kind l.arrays) (flat_map declared_by (map statement_at (l.statements)))
+invariant-loop-statement l = map text_at l.out.items ++ names_of l.source (of_kind l.arrays) (flat_map declared_by (map statement_at (drop l.statement-index l.statements)))
+    ≡ map text_at l.initial.out.items ++ names_of l.source (of_kind l.arrays) (flat_map declared_by (map statement_at (l.statements)))

@@ -6,4 +6,5 @@ use Rattle.cw_starts.proofs.outer.put_declarations.Given as goal
 
 abbrev pub invariant-loop-declaration : goal.invariant-loop-declaration
 invariant-loop-declaration l =
-    map item_at l.out.items ++ flat_map (λ d. d.items) (map declaration_of (drop l.declaration-index l.declarations)) ≡ map item_at l.initial.out.items ++ flat_map (λ d. d.items) (map declaration_of l.declarations)
+    map item_at l.out.items ++ flat_map (λ d. d.items) (map declaration_of (drop l.declaration-index l.declarations)) ≡ map item_at l.initial.out.items
+    ++ flat_map (λ d. d.items) (map declaration_of l.declarations)

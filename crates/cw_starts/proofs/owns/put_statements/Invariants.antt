@@ -6,4 +6,5 @@ use Rattle.cw_starts.specs.Owning.{own_in}
 use Rattle.cw_starts.proofs.owns.put_statements.Given as goal
 
 abbrev pub invariant-loop-statement : goal.invariant-loop-statement
-invariant-loop-statement l = map own_in l.out.items ++ flat_map owns_by (map statement_at (drop l.statement-index l.statements)) ≡ map own_in l.initial.out.items ++ flat_map owns_by (map statement_at l.statements)
+invariant-loop-statement l = map own_in l.out.items ++ flat_map owns_by (map statement_at (drop l.statement-index l.statements)) ≡ map own_in l.initial.out.items
+    ++ flat_map owns_by (map statement_at l.statements)

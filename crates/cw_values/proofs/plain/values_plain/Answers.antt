@@ -26,7 +26,10 @@ returns-clause-run c =
     let runs = subst (λ (z : HeldSource). IsRunnable (plan policy (source_in z))) (sym same) c.requires.runnable in
     let held = c.in_ok-values.ensures policy tries (c.run-run.ensures.is_run policy c.in_ok-prepared.ensures c.requires.drawn) runs in
     let e =
-    subst (λ (z : HeldSource). RunsFrom (source_in z) (problem_of policy (source_in z).bytes (source_in z).file) None tries (begun (source_in z) c.deref-2.result.now) (values_of c.in_ok-values.values)) same held
+    subst (λ (z : HeldSource). RunsFrom (source_in z) (problem_of policy (source_in z).bytes (source_in z).file) None tries (begun (source_in z) c.deref-2.result.now)
+    (values_of c.in_ok-values.values)) same held
     in
-    subst (λ (names : List (Vec ℕ Global × ℤ)). RunsFrom (s names) (problem_of policy bytes file) None tries (begun (s names) c.args.answers.now.calls.items) (values_of c.in_ok-values.values)) c.deref.ensures.value
-    (subst (λ (calls : List ℤ). RunsFrom (s c.deref.result.now) (problem_of policy bytes file) None tries (begun (s c.deref.result.now) calls) (values_of c.in_ok-values.values)) c.deref-2.ensures.value e)
+    subst (λ (names : List (Vec ℕ Global × ℤ)). RunsFrom (s names) (problem_of policy bytes file) None tries (begun (s names) c.args.answers.now.calls.items)
+    (values_of c.in_ok-values.values)) c.deref.ensures.value
+    (subst (λ (calls : List ℤ). RunsFrom (s c.deref.result.now) (problem_of policy bytes file) None tries (begun (s c.deref.result.now) calls)
+    (values_of c.in_ok-values.values)) c.deref-2.ensures.value e)

@@ -14,5 +14,6 @@ returns-in-None-clause-due g c =
     let file = file_in c.args.reading.now in
     let graph = c.args.graph.now in
     let answers = answers_of c.args.answers.now in
-    let d = ended_due whole source (WithGame (IsValuesShown source whole file c.args.table.now answers) source whole file graph) c.with_game.result c.ended.result c.ended.ensures.ended c.with_game.ensures.due in
+    let d = ended_due whole source (WithGame (IsValuesShown source whole file c.args.table.now answers) source whole file graph) c.with_game.result c.ended.result c.ended.ensures.ended
+    c.with_game.ensures.due in
     if_ok c.ended.result d (λ o h. inr (sym c.in_ok-shape.ensures.shape ∙ c.in-None.is, graph, c.requires.graph, h))

@@ -36,7 +36,8 @@ returns-in-Ok-None c = λ w woven is_run st.
     let l = c.loop-i.invariant.leads w woven is_run st in
     let k = l.1 in
     let a = subst (λ (f : Front). Weaving h s t w k.plain waits left made l.0 f) c.in-Free.is (c.weave.ensures.weaves s w waits k.plain l.0 k.weaves k.fresh) in
-    let e = subst (λ (r : Result (Option Place) Halt). Steps h s t w waits2 left made a.0 c.go.new.m r) c.in-Ok-None.is (c.go.ensures.steps w left made k.plain a.0 is_run k.stands a.1.weaves a.1.free) in
+    let e = subst (λ (r : Result (Option Place) Halt). Steps h s t w waits2 left made a.0 c.go.new.m r) c.in-Ok-None.is
+    (c.go.ensures.steps w left made k.plain a.0 is_run k.stands a.1.weaves a.1.free) in
     leads_over h s t w c.loop-i.place c.loop-i.m waits c.loop-i.tries.left.now c.loop-i.tries.made woven c.loop-i.i l c.loop-i-test.true c.in-Free.here left made a.0 a.1 waits2 c.go.new.m
     (subst (λ (o : Option Place). Steps h s t w waits2 left made a.0 c.go.new.m (Ok o)) c.in-Ok-None.field-0-is e)
 
@@ -52,8 +53,10 @@ returns-in-Err-Stop c = λ w woven is_run st.
     let l = c.loop-i.invariant.leads w woven is_run st in
     let k = l.1 in
     let a = subst (λ (f : Front). Weaving h s t w k.plain waits left made l.0 f) c.in-Free.is (c.weave.ensures.weaves s w waits k.plain l.0 k.weaves k.fresh) in
-    let e = subst (λ (r : Result (Option Place) Halt). Steps h s t w waits2 left made a.0 c.go.new.m r) c.in-Err-Stop.is (c.go.ensures.steps w left made k.plain a.0 is_run k.stands a.1.weaves a.1.free) in
-    leads_stop h s t w c.loop-i.place c.loop-i.m waits c.loop-i.tries.left.now c.loop-i.tries.made woven c.loop-i.i l c.loop-i-test.true c.in-Free.here left made a.0 a.1 waits2 c.go.new.m c.in-Err-Stop.stop
+    let e = subst (λ (r : Result (Option Place) Halt). Steps h s t w waits2 left made a.0 c.go.new.m r) c.in-Err-Stop.is
+    (c.go.ensures.steps w left made k.plain a.0 is_run k.stands a.1.weaves a.1.free) in
+    leads_stop h s t w c.loop-i.place c.loop-i.m waits c.loop-i.tries.left.now c.loop-i.tries.made woven c.loop-i.i l c.loop-i-test.true c.in-Free.here left made a.0 a.1 waits2 c.go.new.m
+    c.in-Err-Stop.stop
     (subst (λ (x : Halt). Steps h s t w waits2 left made a.0 c.go.new.m (Err x)) c.in-Err-Stop.field-0-is e)
 
 pub loop-i-preserved : goal.loop-i-preserved
@@ -73,8 +76,10 @@ loop-i-preserved c = record {
       let l = c.loop-i.invariant.leads w woven is_run st in
       let k = l.1 in
       let a = subst (λ (f : Front). Weaving h s t w k.plain waits left made l.0 f) c.in-Free.is (c.weave.ensures.weaves s w waits k.plain l.0 k.weaves k.fresh) in
-      let e = subst (λ (r : Result (Option Place) Halt). Steps h s t w waits2 left made a.0 c.go.new.m r) c.in-Ok-Some.is (c.go.ensures.steps w left made k.plain a.0 is_run k.stands a.1.weaves a.1.free) in
-      leads_on h s t w c.loop-i.place c.loop-i.m waits c.loop-i.tries.left.now c.loop-i.tries.made woven c.loop-i.i l c.loop-i-test.true c.in-Free.here left made a.0 a.1 waits2 c.go.new.m c.in-Ok-Some.next
+      let e = subst (λ (r : Result (Option Place) Halt). Steps h s t w waits2 left made a.0 c.go.new.m r) c.in-Ok-Some.is
+      (c.go.ensures.steps w left made k.plain a.0 is_run k.stands a.1.weaves a.1.free) in
+      leads_on h s t w c.loop-i.place c.loop-i.m waits c.loop-i.tries.left.now c.loop-i.tries.made woven c.loop-i.i l c.loop-i-test.true c.in-Free.here left made a.0 a.1 waits2 c.go.new.m
+      c.in-Ok-Some.next
       (subst (λ (o : Option Place). Steps h s t w waits2 left made a.0 c.go.new.m (Ok o)) c.in-Ok-Some.field-0-is e);
 }
 

@@ -14,7 +14,8 @@ use Rattle.cw_woven_values.proofs.stepping.go.Goals as goal
 
 pub returns-in-Err-clause-steps : goal.returns-in-Err-clause-steps
 returns-in-Err-clause-steps c = λ w left made plain woven is_run st on free.
-    stops c.args.game.now (source_in c.args.run.now.known.source) c.args.table.now w left made plain woven (here_of c.args.place.here) (map wait_of c.args.waits.now.items) on free c.in-Err.halt c.advance.new.m
+    stops c.args.game.now (source_in c.args.run.now.known.source) c.args.table.now w left made plain woven (here_of c.args.place.here)
+    (map wait_of c.args.waits.now.items) on free c.in-Err.halt c.advance.new.m
     (map wait_of c.args.waits.now.items) (c.in-Err.ensures (policy_of c.args.game.now.states.policy) plain is_run st)
 
 pub returns-in-None-clause-steps : goal.returns-in-None-clause-steps
@@ -53,7 +54,8 @@ returns-in_ok-follow-in-Some-clause-steps c = λ w left made plain woven is_run 
     in
     let k = goes_on h s t w left made plain woven here waits on free way a.0 m point a.1 a.3 spot n (sym c.spot-spot.ensures) (sym led ∙ ap (option_map next_is) c.in-Some.is) in
     let there = subst (λ (o : Option Here). Led h s t w left made plain woven here waits on free way a.0 m point a.1 a.3 o (waits_after n waits)) (sym c.place_of.ensures.is) k in
-    let all = subst (λ (ws : List Wait). Led h s t w left made plain woven here waits on free way a.0 m point a.1 a.3 (option_map here_of c.place_of.result) ws) (sym c.in_ok-follow-in-Some.ensures.waiting) there in
+    let all = subst (λ (ws : List Wait). Led h s t w left made plain woven here waits on free way a.0 m point a.1 a.3 (option_map here_of c.place_of.result) ws)
+    (sym c.in_ok-follow-in-Some.ensures.waiting) there in
     subst (λ (o : Option Place). Steps h s t w (map wait_of c.follow.new.waits.items) left made woven m (Ok o)) (sym c.together.ensures)
     (together h s t w left made plain woven here waits on free way a.0 m point a.1 a.3 c.place_of.result (map wait_of c.follow.new.waits.items) all)
 

@@ -49,7 +49,8 @@ loop-i-preserved c = record {
       subst (λ (v : Visited). Visits h s t w plain waits c.visit.new.tries.left.now c.visit.new.tries.made a.0 v) c.in-On.is (c.visit.ensures.visits s w waits plain a.0 a.1.weaves a.1.calm)
       in (
         b.0,
-        gone_on h s t w plain waits c.loop-i.i (here_of c.loop-i.here) (here_of c.in-On.next) c.loop-i.tries.left.now c.visit.new.tries.left.now c.loop-i.tries.made c.visit.new.tries.made run a.0 b.0 a.1 b.1,
+        gone_on h s t w plain waits c.loop-i.i (here_of c.loop-i.here)
+            (here_of c.in-On.next) c.loop-i.tries.left.now c.visit.new.tries.left.now c.loop-i.tries.made c.visit.new.tries.made run a.0 b.0 a.1 b.1,
       );
 }
 

@@ -13,6 +13,7 @@ invariant-loop-i l =
       below : l.i ≤ 14;
       few : l.tries.made ≤ l.initial.tries.made + l.i;
       range : IsHere (game_of l.game) (here_of l.here);
-      gone : (s : Source) (w : IsWoven l.game s l.table) (waits : List Wait) (plain run : Going) → Weaves l.game s l.table w plain (here_of l.fn.start) waits l.initial.tries.left.now l.initial.tries.made run → IsFresh l.game s l.table run
+      gone : (s : Source) (w : IsWoven l.game s l.table) (waits : List Wait) (plain run : Going)
+          → Weaves l.game s l.table w plain (here_of l.fn.start) waits l.initial.tries.left.now l.initial.tries.made run → IsFresh l.game s l.table run
           → (now : Going) × Gone l.game s l.table w plain waits l.i (here_of l.here) l.tries.left.now l.tries.made run now;
     }

@@ -24,7 +24,10 @@ pub run_all-requires : goal.run_all-requires
 run_all-requires c =
     let bytes = c.args.checked.now.source.now in
     let file = file_of c.args.checked.now.program in
-    record { known = c.run-run.ensures.known (policy_of c.args.game.now.states.policy) (subst (λ (p : Policy). IsPrepared (policy_of p) bytes file c.in_ok-prepared.prepared) c.policy.ensures c.in_ok-prepared.ensures) }
+    record {
+      known = c.run-run.ensures.known (policy_of c.args.game.now.states.policy)
+          (subst (λ (p : Policy). IsPrepared (policy_of p) bytes file c.in_ok-prepared.prepared) c.policy.ensures c.in_ok-prepared.ensures);
+    }
 
 pub returns-clause-run : goal.returns-clause-run
 returns-clause-run c =
@@ -63,4 +66,5 @@ returns-clause-agrees c =
     let policy = policy_of c.args.game.now.states.policy in
     let bytes = c.args.checked.now.source.now in
     let file = file_of c.args.checked.now.program in
-    some_run_agrees policy c.args.table.now bytes file (answers_of c.args.answers.now) (values_of c.in_ok-values.values) (runnable (names_of policy) bytes file c.requires.reads) c.requires.fits (returns-clause-run c)
+    some_run_agrees policy c.args.table.now bytes file (answers_of c.args.answers.now) (values_of c.in_ok-values.values)
+    (runnable (names_of policy) bytes file c.requires.reads) c.requires.fits (returns-clause-run c)

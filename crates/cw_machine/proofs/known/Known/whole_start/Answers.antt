@@ -20,7 +20,8 @@ returns-then-number-self c =
 pub returns : goal.returns
 returns c =
     let k = c.args.self.now in
-    let f = at_known said_in (λ (f : Definition). said_all f.body) k.said.now (source_in k.source).file.functions c.args.number c.index-self-number.result c.requires.known.said (omega arith) c.index-self-number.is in
+    let f = at_known said_in (λ (f : Definition). said_all f.body) k.said.now (source_in k.source).file.functions c.args.number c.index-self-number.result c.requires.known.said
+    (omega arith) c.index-self-number.is in
     record {
       start =
           c.statement_start.ensures.start
