@@ -264,7 +264,8 @@ module _ (xs ys : List Place) (moved : IsPermutation xs ys) where
       sorted_ascend ys (sorted_from_all_adjacent place_total ys nowhere (λ k low.
       less_of (get_or ys k nowhere) (get_or ys (k + 1) nowhere) (sorted k nowhere (omega arith) low)
       (let a = apart_from_distinct is_place (map plain ys) k (k + 1) (plain nowhere) apart (omega arith) (omega (arith, low, length-map ys plain)) in
-      subst (λ z. is_place z (plain (get_or ys (k + 1) nowhere)) ≡ false) (get_or-map plain ys k nowhere (plain nowhere) (omega (arith, low))) (subst (λ z. is_place (get_or (map plain ys) k (plain nowhere)) z ≡ false) (get_or-map plain ys (k + 1) nowhere (plain nowhere) low) a))))
+      subst (λ z. is_place z (plain (get_or ys (k + 1) nowhere)) ≡ false) (get_or-map plain ys k nowhere (plain nowhere) (omega (arith, low)))
+      (subst (λ z. is_place (get_or (map plain ys) k (plain nowhere)) z ≡ false) (get_or-map plain ys (k + 1) nowhere (plain nowhere) low) a))))
 
   pub are_ordered : IsSorted place_cmp ys → AreOrdered xs ys
   are_ordered sorted = record { many = length_permutation xs ys moved; below = order_kept; ascend = order_ascends sorted }

@@ -20,7 +20,8 @@ use Rattle.cw_audit_search.proofs.Proposing.{entry_proposal, return_proposal, fa
 use Rattle.cw_audit_search.proofs.Setting.{reach_sound, reach_falls, group_itself}
 use Rattle.cw_audit_visits.specs.declared.met.Met.{Met}
 use Rattle.cw_audit_visits.specs.declared.under_way.Search.{Search}
-use Rattle.cw_audit_visits.specs.Searching.{place, found_of, functions_of, IsFairGame, IsKept, IsGoneOn, IsTold, Tells, IsGroupFalling, IsGroupSet, IsCallAt, IsPlaced, IsReturnTold, IsDue, IsThere, left, ways_of, caller_of}
+use Rattle.cw_audit_visits.specs.Searching.{place, found_of, functions_of, left, ways_of, caller_of, IsFairGame, IsKept, IsGoneOn, IsTold, Tells}
+use Rattle.cw_audit_visits.specs.Searching.{IsGroupFalling, IsGroupSet, IsCallAt, IsPlaced, IsReturnTold, IsDue, IsThere}
 use Rattle.cw_audit_visits.proofs.Sets.{group_reach, group_call}
 use Rattle.cw_audit_visits.proofs.Oks.{by_truth}
 use Rattle.cw_audit_visits.proofs.Proposed.{behind}
@@ -33,7 +34,8 @@ module _ (h : Held) (s s2 : Search) (at : Entrance) (entered : Entered) where
   g = game_of h
 
   -- a group is set
-  pub group_gone_on : IsFairGame h → IsKept (game_of h) (functions_of h) s → IsArrival (game_of h) at.function at.state.0 entered.reach → IsCaller (game_of h) (found_of s.store) at.function at.state.0 entered.reach (option_map caller_of entered.call) → IsGroupFalling s at entered.reach
+  pub group_gone_on : IsFairGame h → IsKept (game_of h) (functions_of h) s → IsArrival (game_of h) at.function at.state.0 entered.reach
+      → IsCaller (game_of h) (found_of s.store) at.function at.state.0 entered.reach (option_map caller_of entered.call) → IsGroupFalling s at entered.reach
       → IsGroupSet s.store s2.store at entered → IsGoneOn h s s2
   group_gone_on fair kept arrival caller falls set =
       let set2 = group_reach s.store s2.store at.function at.state.0 entered set in

@@ -20,7 +20,8 @@ use Rattle.cw_audit_search.specs.Ways.{AreWays}
 use Rattle.cw_audit_search.proofs.Ways.{number_ways, best_ways}
 use Rattle.cw_audit_search.proofs.Setting.{number_sound, number_falls, best_sound, best_falls}
 use Rattle.cw_audit_visits.specs.declared.under_way.Search.{Search}
-use Rattle.cw_audit_visits.specs.Searching.{entrance, place, found_of, functions_of, IsFairGame, IsKept, IsDue, IsTold, IsNear, IsHitNear, IsRowSet, IsHitSet, IsRowFalling, IsHitFalling, IsGoneOn, ways_of, way_of, bad_way_of, reach_of}
+use Rattle.cw_audit_visits.specs.Searching.{entrance, place, found_of, functions_of, ways_of, way_of, bad_way_of, reach_of, IsFairGame, IsKept, IsDue, IsTold}
+use Rattle.cw_audit_visits.specs.Searching.{IsNear, IsRowSet, IsHitSet, IsRowFalling, IsHitFalling, IsGoneOn}
 use Rattle.cw_audit_visits.proofs.Sets.{row_number, hit_best, row_way, hit_way}
 
 abbrev pub at_rest : Place → ℕ → Place
@@ -44,16 +45,11 @@ module _ (h : Held) (s : Search) (at : Place) (n p : ℕ) (is : p ≡ skipped (g
   pub told_row : bad_at p ≡ false → IsNear s (at_rest at p) n → IsTold h s at n
   told_row good near = λ r er. record {
     bad = λ b. absurd (not_both (bad_at p) (ap bad_at is ∙ b) good);
-    good = λ b. (near.0.inside, subst (λ p. (found_of s.store).number at.entrance.function at.entrance.state.0 p at.state.0 ≡ Some near.0.inside) is (number_at s (at_rest at p) near.0 near.1), near.2);
-  }
-
-  -- a violation that isn't later is
-  pub told_hit : (reach : ℕ) → reach_of s at ≡ Some reach → bad_at p ≡ true → IsHitNear s (cut (reach + n)) → IsTold h s at n
-  told_hit reach e bad near = λ r er. record {
-    bad = λ b.
-        let same = same_Some reach r (sym e ∙ er) in
-        (near.0.distance, ap (option_map (λ (h : Hit). h.distance)) near.1, subst (λ m. near.0.distance ≤ cut (m + n)) same near.2);
-    good = λ b. absurd (not_both (bad_at p) bad (ap bad_at is ∙ b));
+    good = λ b. (
+      near.0.inside,
+      subst (λ p. (found_of s.store).number at.entrance.function at.entrance.state.0 p at.state.0 ≡ Some near.0.inside) is (number_at s (at_rest at p) near.0 near.1),
+      near.2,
+    );
   }
 
   module _ (fair : IsFairGame h) (kept : IsKept (game_of h) (functions_of h) s) (by : Way) (due : IsDue h s at n by) (s2 : Search) where

@@ -28,7 +28,8 @@ use Rattle.cw_audit_store.specs.Stores.{row_at}
 use Rattle.cw_audit_visits.specs.declared.met.Met.{Met}
 use Rattle.cw_audit_visits.specs.declared.met.Calling.{Calling}
 use Rattle.cw_audit_visits.specs.declared.under_way.Search.{Search}
-use Rattle.cw_audit_visits.specs.Searching.{place, found_of, functions_of, caller_of, spot_at, AreBegun, IsFairGame, IsKept, IsTold, IsDue, IsStepDue, IsStepTold, IsCallNear, IsCallOf, IsNoCall, IsReturnTold, IsThere, IsVisited}
+use Rattle.cw_audit_visits.specs.Searching.{place, found_of, functions_of, caller_of, spot_at, AreBegun, IsFairGame, IsKept, IsTold, IsDue, IsStepDue, IsStepTold}
+use Rattle.cw_audit_visits.specs.Searching.{IsCallNear, IsCallOf, IsNoCall, IsReturnTold, IsThere, IsVisited}
 use Rattle.cw_audit_visits.proofs.Turns.{next_leads, leads_of, two_moves}
 
 module _ (h : Held) (s : Search) (at : Place) (a : ℕ) (by : Move) (inner : is_inner (spot_at h at) ≡ true) (good : bad_in (game_of h) at.state.0 (spot_at h at) ≡ false) where
@@ -155,7 +156,8 @@ visited_call h s call there stands begun near returned = λ r a er ea.
       steps = λ by c i step l. absurd (not_inner (spot_at h at) stands.call.0 f call.back.0 e i);
       calls = λ j2 f2 k2 l.
           let same = same_call (same_Some (Call stands.call.0 f call.back.0) (Call j2 f2 k2) (sym e ∙ l)) in
-          subst (λ f. (r2 : ℕ) × ((found_of s.store).reach f at.state.0 ≡ Some r2) × (r2 ≤ cut (r + a + 1)) × IsCovered (game_of h) (found_of s.store) f at.state.0 r2 ((game_of h).entry f) at.state.0 0)
+          subst (λ f. (r2 : ℕ) × ((found_of s.store).reach f at.state.0 ≡ Some r2) × (r2 ≤ cut (r + a + 1))
+          × IsCovered (game_of h) (found_of s.store) f at.state.0 r2 ((game_of h).entry f) at.state.0 0)
           same.0 (near.0.reach, reached, omega (arith, near.2, same_r, same_a), begun f at.state.0 near.0.reach reached);
       returns = λ j2 f2 k2 y n l there2.
           let same = same_call (same_Some (Call stands.call.0 f call.back.0) (Call j2 f2 k2) (sym e ∙ l)) in

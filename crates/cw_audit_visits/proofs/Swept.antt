@@ -8,7 +8,7 @@ use Rattle.cw_core.specs.declared.ids.PosId.{PosId}
 use Rattle.cw_product.specs.Product.{Held, game_of}
 use Rattle.cw_audit_search.specs.Searches.{is_row}
 use Rattle.cw_audit_search.specs.Sound.{IsArrival}
-use Rattle.cw_audit_search.specs.Settled.{IsCovered, IsSettled}
+use Rattle.cw_audit_search.specs.Settled.{IsCovered}
 use Rattle.cw_audit_search.proofs.Setting.{same_row}
 use Rattle.cw_audit_store.specs.declared.lists.Lists.{Lists}
 use Rattle.cw_audit_store.specs.declared.place.Entrance.{Entrance}
@@ -20,7 +20,8 @@ use Rattle.cw_audit_store.specs.Stores.{row_at, group_at, entrance_eq, place_eq}
 use Rattle.cw_audit_store.proofs.Orders.{eq_place, equal_entrances}
 use Rattle.cw_audit_visits.specs.declared.met.Met.{Met}
 use Rattle.cw_audit_visits.specs.declared.under_way.Search.{Search}
-use Rattle.cw_audit_visits.specs.Searching.{entrance, place, found_of, functions_of, AreBegun, AreBegunUpTo, AreEnds, IsBegunAt, IsEntryTold, IsKept, IsThere, IsTold, IsUnknown, IsVisited, IsSettledAt, IsNumberSettled, AreSettledAt, AreSettledBelow}
+use Rattle.cw_audit_visits.specs.Searching.{entrance, place, found_of, functions_of, AreBegun, AreBegunUpTo, AreEnds, IsBegunAt, IsEntryTold, IsKept, IsThere}
+use Rattle.cw_audit_visits.specs.Searching.{IsTold, IsUnknown, IsVisited, IsSettledAt, IsNumberSettled, AreSettledAt, AreSettledBelow}
 use Rattle.cw_audit_visits.proofs.Proposed.{behind}
 
 -- each group has a number
@@ -80,9 +81,6 @@ all_settled h s bound count is each f q p x = λ r a er ea low.
     same_row (λ f2 q2 p2 x2. IsSettledAt h s bound (place f2 q2 p2 x2) → IsSettledAt h s bound (place f q p x)) f q p x at.entrance.function at.entrance.state.0 at.pos.0 at.state.0 same
     (λ z. z) (each there.0 few at row.0 there.2) r a er ea low
 
-pub settled_of : (h : Held) (s : Search) (bound : ℕ) → IsKept (game_of h) (functions_of h) s → AreBegun h s → AreSettledBelow h s bound → IsSettled (game_of h) (found_of s.store) bound
-settled_of h s bound kept begun below = record { begins = begun (game_of h).main (game_of h).states.start 0 kept.sound.main; closed = λ f q r p x a er ea low. below f q p x r a er ea low }
-
 -- one row more
 pub settled_more : (h : Held) (s s1 : Search) (bound n : ℕ) → s1.store ≡ s.store → AreSettledAt h s bound n → IsNumberSettled h s1 bound n → AreSettledAt h s bound (n + 1)
 settled_more h s s1 bound n same before now = λ i l at row e. elim (leb_tells n i) [
@@ -90,9 +88,6 @@ settled_more h s s1 bound n same before now = λ i l at row e. elim (leb_tells n
       subst (λ t. IsNumberSettled h (record { store = t; frontier = s.frontier }) bound n) same now at row (ap (slice_get s.store.rows.entries) (sym z) ∙ e)
   | inr q ↦ before i q.1 at row e
 ]
-
-pub below_same : (h : Held) (s s1 : Search) (bound : ℕ) → s1.store ≡ s.store → AreSettledBelow h s1 bound → AreSettledBelow h s bound
-below_same h s s1 bound same below = subst (λ t. AreSettledBelow h (record { store = t; frontier = s.frontier }) bound) same below
 
 -- of the one row with the number
 pub number_settled : (h : Held) (s : Search) (bound number : ℕ) (at : Place) (row : Row) → Some (at, row) ≡ slice_get s.store.rows.entries number → IsSettledAt h s bound at

@@ -26,16 +26,6 @@ back_in (turn.Call f split back) = back.0
 back_in _ = 0
 
 module _ (g : Game) where
-  pub inner_turn : (spot : Option Spot) → Some turn.Environment ≡ option_map (turn_in g) spot → is_free spot ≡ true → is_inner spot ≡ true
-  inner_turn (Some (Step n)) e f = refl
-  inner_turn (Some (Branch m n)) e f = refl
-  inner_turn (Some (Label j l n)) e f = refl
-  inner_turn (Some (Open j d n)) e f = refl
-  inner_turn (Some (Close j d n)) e f = refl
-  inner_turn (Some (Call j h k)) e f = let z = same_Some _ _ e in cc
-  inner_turn (Some (Exit h)) e f = let z = same_Some _ _ e in cc
-  inner_turn _ e f = cc
-
   pub call_turn : (spot : Option Spot) (h : ℕ) (split : Bool) (back : PosId) → Some (turn.Call h split back) ≡ option_map (turn_in g) spot → is_free spot ≡ true
       → (j : ℕ) × (spot ≡ Some (Call j h back.0))
   call_turn (Some (Call j f n)) h split back e free =
@@ -53,33 +43,6 @@ module _ (g : Game) where
   pub call_leads : (size functions p : ℕ) (spot : Option Spot) (h : ℕ) (split : Bool) (back : PosId) → Some (turn.Call h split back) ≡ option_map (turn_in g) spot → is_free spot ≡ true
       → ((s : Spot) → spot ≡ Some s → LeadsWithin size functions p s) → (h < functions) × (back.0 < size)
   call_leads size functions p spot h split back e free leads = let c = call_turn spot h split back e free in leads (Call c.0 h back.0) c.1
-
-  -- where the turn is the weaver's nothing is free, and none of the others is a call or within a function
-  pub weaver_turn : (spot : Option Spot) → Some turn.Weaver ≡ option_map (turn_in g) spot → is_free spot ≡ true → ⊥
-  weaver_turn (Some (Visit j i a)) e f = cc
-  weaver_turn (Some (Asked j i a)) e f = cc
-  weaver_turn (Some (Step n)) e f = let z = same_Some _ _ e in cc
-  weaver_turn (Some (Branch m n)) e f = let z = same_Some _ _ e in cc
-  weaver_turn (Some (Label j l n)) e f = let z = same_Some _ _ e in cc
-  weaver_turn (Some (Open j d n)) e f = let z = same_Some _ _ e in cc
-  weaver_turn (Some (Close j d n)) e f = let z = same_Some _ _ e in cc
-  weaver_turn (Some (Call j h k)) e f = let z = same_Some _ _ e in cc
-  weaver_turn (Some (SplitCall j h k)) e f = cc
-  weaver_turn (Some (Exit h)) e f = let z = same_Some _ _ e in cc
-  weaver_turn None e f = cc
-
-  pub exit_turn : (spot : Option Spot) (main : Bool) → Some (turn.Exit main) ≡ option_map (turn_in g) spot → (h : ℕ) × (spot ≡ Some (Exit h))
-  exit_turn (Some (Exit h)) main e = (h, refl)
-  exit_turn (Some (Visit j i a)) main e = let z = same_Some _ _ e in cc
-  exit_turn (Some (Asked j i a)) main e = let z = same_Some _ _ e in cc
-  exit_turn (Some (Step n)) main e = let z = same_Some _ _ e in cc
-  exit_turn (Some (Branch m n)) main e = let z = same_Some _ _ e in cc
-  exit_turn (Some (Label j l n)) main e = let z = same_Some _ _ e in cc
-  exit_turn (Some (Open j d n)) main e = let z = same_Some _ _ e in cc
-  exit_turn (Some (Close j d n)) main e = let z = same_Some _ _ e in cc
-  exit_turn (Some (Call j h k)) main e = let z = same_Some _ _ e in cc
-  exit_turn (Some (SplitCall j h k)) main e = let z = same_Some _ _ e in cc
-  exit_turn None main e = cc
 
   -- within a function, at a pair that isn't bad, the answer is where the move leads
   pub next_leads : (p x : ℕ) (spot : Option Spot) (by : Move) → is_inner spot ≡ true → bad_in g x spot ≡ false

@@ -11,8 +11,8 @@ returns-then-bad-clause-goes_on c =
     let s2 = c.violate.new.search in
     by_truth {X = IsGoneOn h s s2} c.violate.result
     (λ b. stays h s s2 (c.violate.ensures.tells.same b).0 c.requires.kept)
-    (λ b. hit_gone_on h s c.args.at c.args.inside c.skipped.result.0 c.skipped.ensures.is c.requires.fair c.requires.kept c.args.way c.requires.due s2 c.args.reach c.cut.result (omega (arith, c.cut.ensures, c.from.ensures, c.from-then-bad.ensures))
-    c.requires.reach (sym c.bad.ensures ∙ c.if-bad.true) (c.violate.ensures.falls b) (c.violate.ensures.set b))
+    (λ b. hit_gone_on h s c.args.at c.args.inside c.skipped.result.0 c.skipped.ensures.is c.requires.fair c.requires.kept c.args.way c.requires.due s2 c.args.reach c.cut.result
+    (omega (arith, c.cut.ensures, c.from.ensures, c.from-then-bad.ensures)) c.requires.reach (sym c.bad.ensures ∙ c.if-bad.true) (c.violate.ensures.falls b) (c.violate.ensures.set b))
 
 pub lower-requires-clause-reach : goal.lower-requires-clause-reach
 lower-requires-clause-reach c = reach_low c.args.game.now c.args.search.now c.args.at c.args.reach c.requires.kept c.requires.reach

@@ -27,7 +27,8 @@ step-requires-clause-good c = row_good c.args.game.now c.args.search.now c.args.
 
 pub step-requires-clause-due : goal.step-requires-clause-due
 step-requires-clause-due c =
-    steps_due c.args.game.now c.args.search.now c.args.met.place c.args.met.row c.requires.fair c.requires.kept c.requires.there.row c.requires.inner c.moves-first.result.0 (ap is_step c.moves-first.ensures.first ∙ first_step (game_of c.args.game.now) (spot_at c.args.game.now c.args.met.place) c.requires.inner)
+    steps_due c.args.game.now c.args.search.now c.args.met.place c.args.met.row c.requires.fair c.requires.kept c.requires.there.row c.requires.inner c.moves-first.result.0
+    (ap is_step c.moves-first.ensures.first ∙ first_step (game_of c.args.game.now) (spot_at c.args.game.now c.args.met.place) c.requires.inner)
 
 pub step-requires-in-Some-clause-reach : goal.step-requires-in-Some-clause-reach
 step-requires-in-Some-clause-reach c =
@@ -50,7 +51,8 @@ pub step-requires-in-Some-clause-due : goal.step-requires-in-Some-clause-due
 step-requires-in-Some-clause-due c =
     let h = c.args.game.now in
     step_later h c.args.search.now c.step.new.search c.args.met.place c.args.met.row.inside c.in-Some.by c.requires.fair c.in_ok-one.ensures.goes_on.fallen
-    (steps_due h c.args.search.now c.args.met.place c.args.met.row c.requires.fair c.requires.kept c.requires.there.row c.requires.inner c.in-Some.by (second_step (game_of h) (spot_at h c.args.met.place) c.in-Some.by c.requires.inner (sym c.moves-first.ensures.second ∙ c.in-Some.is)))
+    (steps_due h c.args.search.now c.args.met.place c.args.met.row c.requires.fair c.requires.kept c.requires.there.row c.requires.inner c.in-Some.by
+    (second_step (game_of h) (spot_at h c.args.met.place) c.in-Some.by c.requires.inner (sym c.moves-first.ensures.second ∙ c.in-Some.is)))
 
 pub returns-in-None-clause-told : goal.returns-in-None-clause-told
 returns-in-None-clause-told c = λ b.

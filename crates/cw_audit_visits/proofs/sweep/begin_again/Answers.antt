@@ -5,7 +5,9 @@ use Rattle.cw_audit_visits.proofs.Swept.{group_arrival, group_reached, no_begun,
 use Rattle.cw_audit_visits.proofs.sweep.begin_again.Goals as goal
 
 pub entry-requires : goal.entry-requires
-entry-requires c = c.requires.fair.below c.in-Some.entrance.function (group_arrival c.args.game.now c.args.search.now c.in-Some.entrance c.in-Some.entered c.requires.kept c.in-Some.ensures.group).function
+entry-requires c =
+    c.requires.fair.below c.in-Some.entrance.function
+    (group_arrival c.args.game.now c.args.search.now c.in-Some.entrance c.in-Some.entered c.requires.kept c.in-Some.ensures.group).function
 
 pub propose-requires-clause-reach : goal.propose-requires-clause-reach
 propose-requires-clause-reach c = group_reached c.args.search.now c.in-Some.entrance c.in-Some.entered c.in-Some.ensures.group
@@ -25,4 +27,5 @@ returns-in_default-clause-begun c = λ b. no_begun c.args.game.now c.args.search
 pub returns-clause-begun : goal.returns-clause-begun
 returns-clause-begun c = when_ok c.propose.result (λ changed e b.
     number_begun c.args.game.now c.args.search.now c.args.number c.in-Some.entrance c.in-Some.entered (sym c.in-Some.is ∙ c.numbered_group.ensures.entry)
-    (entry_told c.args.game.now c.args.search.now c.in-Some.entrance c.in-Some.entered c.entry.result c.entry.ensures.is c.in-Some.ensures.group (at_ok _ c.propose.result changed e c.propose.ensures.told b)))
+    (entry_told c.args.game.now c.args.search.now c.in-Some.entrance c.in-Some.entered c.entry.result c.entry.ensures.is c.in-Some.ensures.group
+    (at_ok _ c.propose.result changed e c.propose.ensures.told b)))

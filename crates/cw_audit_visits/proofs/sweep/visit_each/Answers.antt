@@ -13,7 +13,8 @@ loop-number-preserved c =
     record {
       tells = tells_both s s1 s2 false false c.loop-number.invariant.tells (subst (Tells s1 s2) unchanged c.in_ok-visit_below.ensures.tells);
       goes_on = gone_trans c.args.game.now s s1 s2 c.loop-number.invariant.goes_on c.in_ok-visit_below.ensures.goes_on;
-      settled = settled_more c.args.game.now s s1 c.args.bound c.loop-number.number (c.loop-number.invariant.tells.same refl).0 c.loop-number.invariant.settled (c.in_ok-visit_below.ensures.settled unchanged);
+      settled = settled_more c.args.game.now s s1 c.args.bound c.loop-number.number (c.loop-number.invariant.tells.same refl).0 c.loop-number.invariant.settled
+          (c.in_ok-visit_below.ensures.settled unchanged);
     }
 
 pub returns-then-branch-clause-tells : goal.returns-then-branch-clause-tells
