@@ -1,21 +1,50 @@
 //! Groups and rows, and how each was come to.
 
+ghost use Rattle.std.specs.Prelude.{◌+◌, ◌*◌, ◌^◌, ◌++◌};
+ghost use Rattle.std.proofs.Common.{rules};
+ghost use Rattle.std.specs.Hash as fed;
+ghost use Rattle.std.specs.Cmp.Rules.{hashing};
+
 use cw_certs::Move;
 use cw_core::{PosId, StateId};
+use std::hash::{Hash, Hasher};
 
 /// A function with the state in which it is entered.
-#[derive(Clone, Copy, Drop, Debug, PartialEq, Eq, PartialOrd, Ord, Hash)]
+#[derive(Clone, Copy, Drop, Debug, PartialEq, Eq, PartialOrd, Ord)]
 pub struct Entrance {
     pub function: u16,
     pub state: StateId,
 }
 
+// As one number: a look-up takes less time than where each field is written by itself.
+impl Hash for Entrance {
+    ghost hash_input = { λ e. fed.u32 (e.state.0 + e.function * 2 ^ 16) };
+
+    ghost respects_eq = { Prim.search (hashing, rules) };
+
+    fn hash<H: Hasher>(&self, state: &mut H) {
+        state.write_u32(u32::from(self.state.0) + u32::from(self.function) * 65_536);
+    }
+}
+
 /// A pair within the activations that begin at an entrance.
-#[derive(Clone, Copy, Drop, Debug, PartialEq, Eq, PartialOrd, Ord, Hash)]
+#[derive(Clone, Copy, Drop, Debug, PartialEq, Eq, PartialOrd, Ord)]
 pub struct Place {
     pub entrance: Entrance,
     pub pos: PosId,
     pub state: StateId,
+}
+
+// As two numbers.
+impl Hash for Place {
+    ghost hash_input = { λ p. fed.u64 (p.pos.0 + p.state.0 * 2 ^ 32) ++ fed.u32 (p.entrance.state.0 + p.entrance.function * 2 ^ 16) };
+
+    ghost respects_eq = { Prim.search (hashing, rules) };
+
+    fn hash<H: Hasher>(&self, state: &mut H) {
+        state.write_u64(u64::from(self.pos.0) + u64::from(self.state.0) * 4_294_967_296);
+        self.entrance.hash(state);
+    }
 }
 
 /// The last thing on the way from an entrance to a place: nothing; a move from a pair, which is its state and its position; or the
