@@ -55,7 +55,7 @@ fn visit_next(
     ensures kept { OnOk result (IsKept (game_of game.now) (functions_of game.now) search.new) }
     ensures many { IfOk result (λ many. many ≡ true → AreManyRows (game_of game.now)) }
 {
-    visit(game, search, number)?;
+    visit(game, search, key, number)?;
     pace.visited = pace.visited.saturating_add(1);
     if pace.visited <= pace.limit {
         return Ok(false);

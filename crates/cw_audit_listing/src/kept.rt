@@ -17,7 +17,7 @@ const CUT: u64 = 65_537;
 fn is_below(store: &Store, place: Place, row: Row, bound: u32) -> bool
     ensures { result ≡ is_below_by bound (group_at store.now place.entrance) (Some row) }
 {
-    match store.group(place.entrance) {
+    match store.group_by(row.group, place.entrance) {
         Some(group) => {
             (u64::from(group.reach) + u64::from(row.inside)).min(CUT) < u64::from(bound)
         }

@@ -3,21 +3,21 @@
 ghost use Rattle.std.specs.Prelude.{◌≡◌, ◌+◌, OnOk, IfSome, IfNone};
 ghost use Rattle.std.specs.BinaryHeap.{heap_len};
 
-use crate::lists::Lists;
+use crate::group_lists::GroupLists;
 use cw_core::NoMemory;
 use std::alloc::Global;
 use std::cmp::Reverse;
 use std::collections::BinaryHeap;
 
-/// The rows that wait to be visited, by their numbers, the nearest first; and the rows that were found at calls, by the entrances to
-/// which they lead, and at ends, by the entrances of their groups.
+/// The rows that wait to be visited, by their numbers, the nearest first; and the rows that were visited at calls, by the groups to
+/// which they lead, and at ends, by their own groups.
 ///
 /// Nothing but how many rows wait is promised: what is visited when is a matter of speed.
 #[derive(Drop)]
 pub struct Frontier {
     pub rows: BinaryHeap<Reverse<(u32, usize)>>,
-    pub calls: Lists,
-    pub ends: Lists,
+    pub calls: GroupLists,
+    pub ends: GroupLists,
 }
 
 impl Frontier {
@@ -27,8 +27,8 @@ impl Frontier {
     {
         Frontier {
             rows: BinaryHeap::new(alloc),
-            calls: Lists::make(alloc),
-            ends: Lists::make(alloc),
+            calls: GroupLists::make(alloc),
+            ends: GroupLists::make(alloc),
         }
     }
 

@@ -2,11 +2,13 @@
 #![tactic(auto)]
 
 mod frontier;
+mod group_lists;
 mod lists;
 mod place;
 mod store;
 
 pub use frontier::Frontier;
+pub use group_lists::GroupLists;
 pub use lists::Lists;
 pub use place::{Entered, Entrance, Hit, Place, Row, Way};
 pub use store::Store;

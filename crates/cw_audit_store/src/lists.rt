@@ -1,6 +1,6 @@
 //! Numbers of rows, in lists by entrances.
 
-ghost use Rattle.std.specs.Prelude.{◌≡◌, ◌++◌, [], ◌∷◌, false, slice_get, OnOk};
+ghost use Rattle.std.specs.Prelude.{◌≡◌, ◌++◌, [], ◌∷◌, false, OnOk};
 ghost use Rattle.cw_audit_store.specs.Stores.{entrance_eq};
 ghost use Rattle.cw_audit_store.specs.Listed.{list_of};
 
@@ -51,12 +51,5 @@ impl Lists {
             Some(numbers) => numbers,
             None => &[],
         }
-    }
-
-    /// A number of the entrance's list, by its place there.
-    pub fn get(&self, entrance: Entrance, place: usize) -> Option<usize>
-        ensures { result ≡ slice_get (list_of self.now entrance) place }
-    {
-        self.list(entrance).get(place).copied()
     }
 }

@@ -58,11 +58,13 @@ pub enum Way {
     Returned(StateId, PosId, u16, StateId),
 }
 
-/// A row: how many moves it is from its entrance, and the way.
+/// A row: how many moves it is from its entrance, and the way; and the number that its group should have, by which that is read
+/// without a look-up.
 #[derive(Clone, Copy, Drop, Debug, PartialEq, Eq)]
 pub struct Row {
     pub inside: u32,
     pub way: Way,
+    pub group: u32,
 }
 
 /// An entrance that is come to: how many moves it is from the start, and the place of the call; `main` at the start has none.

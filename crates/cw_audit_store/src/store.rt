@@ -2,7 +2,8 @@
 
 ghost use Rattle.std.specs.Prelude.{◌≡◌, ◌<◌, ◌≤◌, true, Some, None, cond, length, slice_get, IfSome, OnOk};
 ghost use Rattle.std.specs.BTreeMap.{is_at};
-ghost use Rattle.cw_audit_store.specs.Stores.{row_at, group_at, place_cmp, entrance_cmp, is_lower, is_sooner, is_nearer, work};
+ghost use Rattle.indexmap.specs.IndexMap.{index_of};
+ghost use Rattle.cw_audit_store.specs.Stores.{row_at, group_at, entrance_eq, place_cmp, entrance_cmp, is_lower, is_sooner, is_nearer, work};
 
 use crate::place::{Entered, Entrance, Hit, Place, Row};
 use cw_core::NoMemory;
@@ -55,6 +56,16 @@ impl Store {
         self.groups.get(&entrance).copied()
     }
 
+    /// The group of an entrance. It is looked up only where the group with this number is another's.
+    pub fn group_by(&self, number: u32, entrance: Entrance) -> Option<Entered>
+        ensures { result ≡ group_at self.now entrance }
+    {
+        match self.numbered_group(number as usize) {
+            Some((found, entered)) if found == entrance => Some(entered),
+            Some(_) | None => self.group(entrance),
+        }
+    }
+
     /// The group with a number, and its entrance.
     pub fn numbered_group(&self, number: usize) -> Option<(Entrance, Entered)>
         ensures entry { result ≡ slice_get self.now.groups.entries number }
@@ -62,6 +73,13 @@ impl Store {
     {
         let (entrance, entered) = self.groups.get_index(number)?;
         Some((*entrance, *entered))
+    }
+
+    /// The number of an entrance's group.
+    pub fn group_number(&self, entrance: Entrance) -> Option<usize>
+        ensures { result ≡ index_of entrance_eq self.now.groups entrance }
+    {
+        self.groups.get_index_of(&entrance)
     }
 
     /// How many groups there are.

@@ -9,12 +9,13 @@ use Rattle.cw_audit_store.specs.declared.lists.Lists.{Lists}
 use Rattle.cw_audit_store.specs.declared.place.Entrance.{Entrance}
 use Rattle.cw_audit_store.specs.declared.place.Place.{Place}
 use Rattle.cw_audit_store.specs.declared.place.Row.{Row}
+use Rattle.cw_audit_store.specs.declared.store.Store.{Store}
 use Rattle.cw_audit_store.specs.Listed.{list_of}
 use Rattle.cw_audit_store.specs.Stores.{entrance_eq, place_eq, row_at}
 use Rattle.cw_audit_store.proofs.Orders.{equal_entrances, equal_places}
 use Rattle.cw_audit_visits.specs.declared.met.Calling.{Calling}
 use Rattle.cw_audit_visits.specs.declared.under_way.Search.{Search}
-use Rattle.cw_audit_visits.specs.Searching.{AreEnds, AreEndsTold, AreEndsUpTo, IsEndIn, IsEndPut, IsEndTold, IsIn, IsReturnTold, end_of, entrance}
+use Rattle.cw_audit_visits.specs.Searching.{AreEnds, AreEndsOf, AreEndsTold, AreEndsUpTo, IsEndIn, IsEndPut, IsEndTold, IsIn, IsReturnTold, end_of, entrance}
 use Rattle.cw_audit_visits.proofs.Oks.{by_truth}
 use Rattle.cw_audit_visits.proofs.Proposed.{behind}
 
@@ -70,17 +71,22 @@ told_more h s s1 call ns n number same before there here = λ i m l e. elim (leb
   | inr q ↦ before i m q.1 e
 ]
 
+-- the list of the entrance to which the call leads has its ends
+pub call_ends : (h : Held) (s s1 : Search) (ends : Lists) (call : Calling) (ns : List ℕ) → s1.store ≡ s.store → ns ≡ list_of ends (entrance call.callee call.met.place.state.0) → AreEnds h s ends
+    → AreEndsOf h s1 call ns
+call_ends h s s1 ends call ns same is are = λ y number row there.
+    subst (λ ns. IsIn ns number) (sym is) (are number (end_of h call y) row (sym (ap (λ (t : Store). slice_get t.rows.entries number) same) ∙ there) refl)
+
 -- each return is told of, where each listed end is
-pub returns_told : (h : Held) (s : Search) (ends : Lists) (call : Calling) (many : ℕ) → AreEnds h s ends → many ≡ length (list_of ends (entrance call.callee call.met.place.state.0))
-    → AreEndsTold h s call (list_of ends (entrance call.callee call.met.place.state.0)) many → (y : ℕ) → IsReturnTold h s call.met.place call.callee call.back.0 y
-returns_told h s ends call many are is told y = λ r a e er ea ee.
+pub returns_told : (h : Held) (s : Search) (call : Calling) (ns : List ℕ) (many : ℕ) → AreEndsOf h s call ns → many ≡ length ns → AreEndsTold h s call ns many
+    → (y : ℕ) → IsReturnTold h s call.met.place call.callee call.back.0 y
+returns_told h s call ns many are is told y = λ r a e er ea ee.
     let end = end_of h call y in
     let row = behind (λ (x : Row). x.inside) (row_at s.store end) e ee in
     let found = place_from_lookup (place_eq end) s.store.rows.entries row.0 row.1 in
     let same : end ≡ found.1 = equal_places end found.1 found.3 in
     let there : slice_get s.store.rows.entries found.0 ≡ Some (end, row.0) = found.2 ∙ ap (λ (p : Place). Some (p, row.0)) (sym same) in
-    let i = are found.0 end row.0 there refl in
-    let ns = list_of ends (entrance call.callee call.met.place.state.0) in
+    let i = are y found.0 row.0 there in
     told i.0 found.0 (omega (arith, is, slice_get_within ns i.0 found.0 i.1)) i.1 y row.0 there r a e er ea ee
 
 module _ (h : Held) (s : Search) (call : Calling) (number : ℕ) where

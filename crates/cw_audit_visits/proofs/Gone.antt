@@ -97,6 +97,10 @@ there_placed h s met kept there =
     let at = met.place in
     kept.sound.placed at.entrance.function at.entrance.state.0 at.pos.0 at.state.0 met.row.inside (ap (option_map (λ (r : Row). r.inside)) there.row)
 
+-- nothing changed that is found or waits
+pub tells_nothing : (a b : Search) → b.store ≡ a.store → left b ≡ left a → Tells a b false
+tells_nothing a b store same = record { same = λ e. (store, same); less = λ e. cc }
+
 -- whether either changed anything
 pub tells_both : (a b c : Search) (x y : Bool) → Tells a b x → Tells b c y → Tells a c (x || y)
 tells_both a b c true y h k = record {

@@ -63,11 +63,13 @@ module _ (h : Held) (s : Search) (at : Place) (n p : ℕ) (is : p ≡ skipped (g
     q = at.entrance.state.0
 
     -- a row is set
-    pub row_gone_on : bad_at p ≡ false → IsRowFalling s (at_rest at p) n → IsRowSet s.store s2.store (at_rest at p) (record { inside = n; way = by }) → IsGoneOn h s s2
-    row_gone_on good falls set =
-        let there = subst (λ p. IsRowSet s.store s2.store (at_rest at p) (record { inside = n; way = by })) is set in
-        let wset = row_way s.store s2.store f q (skipped g at.pos.0) at.state.0 (record { inside = n; way = by }) there in
-        let set2 = row_number s.store s2.store f q (skipped g at.pos.0) at.state.0 (record { inside = n; way = by }) there in
+    pub row_gone_on : (group : ℕ) → bad_at p ≡ false → IsRowFalling s (at_rest at p) n → IsRowSet s.store s2.store (at_rest at p) (record { inside = n; way = by; group = group })
+        → IsGoneOn h s s2
+    row_gone_on group good falls set =
+        let row : Row = record { inside = n; way = by; group = group } in
+        let there = subst (λ p. IsRowSet s.store s2.store (at_rest at p) row) is set in
+        let wset = row_way s.store s2.store f q (skipped g at.pos.0) at.state.0 row there in
+        let set2 = row_number s.store s2.store f q (skipped g at.pos.0) at.state.0 row there in
         let falls2 : (a : ℕ) → (found_of s.store).number f q (skipped g at.pos.0) at.state.0 ≡ Some a → n ≤ a =
         λ a e. subst (λ p. (found_of s.store).number f q p at.state.0 ≡ Some a → n ≤ a) is
         (λ e. let r = behind (λ (r : Row). r.inside) (row_at s.store (at_rest at p)) a e in subst (λ m. n ≤ m) r.2 (falls r.0 r.1)) e in

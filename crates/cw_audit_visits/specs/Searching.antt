@@ -204,6 +204,10 @@ abbrev pub IsEndTold : Held → Search → Calling → ℕ → Type 0
 IsEndTold h s call number =
     (y : ℕ) (row : Row) → slice_get s.store.rows.entries number ≡ Some (end_of h call y, row) → IsReturnTold h s call.met.place call.callee call.back.0 y
 
+-- each end of what the call enters stands in the list
+abbrev pub AreEndsOf : Held → Search → Calling → List ℕ → Type 0
+AreEndsOf h s call ns = (y number : ℕ) (row : Row) → slice_get s.store.rows.entries number ≡ Some (end_of h call y, row) → IsIn ns number
+
 abbrev pub AreEndsTold : Held → Search → Calling → List ℕ → (many : ℕ) → Type 0
 AreEndsTold h s call ns many = (i number : ℕ) → i < many → slice_get ns i ≡ Some number → IsEndTold h s call number
 

@@ -6,24 +6,29 @@ ghost use Rattle.cw_audit_search.specs.Sound.{IsArrival};
 ghost use Rattle.cw_audit_search.specs.Ways.{IsCaller};
 ghost use Rattle.cw_audit_visits.specs.Searching.{IsCallOf, IsCallNear, IsFairGame, IsGoneOn, IsGroupFalling, IsGroupNear, IsGroupSet, IsKept, IsThere, Tells, functions_of, found_of, caller_of};
 
-use crate::look::cut;
+use crate::look::{cut, short};
 use crate::met::Calling;
 use crate::propose::propose;
 use crate::under_way::Search;
-use cw_audit_store::{Entered, Entrance, Frontier, Place, Store, Way};
+use cw_audit_store::{Entered, Entrance, Frontier, Place, Row, Store, Way};
 use cw_core::NoMemory;
 use cw_product::Game;
 use std::alloc::Global;
 
 // The group of an entrance is made, or is nearer.
-fn reach(search: &mut Search, entrance: Entrance, entered: Entered) -> Result<bool, NoMemory>
+fn reach(
+    search: &mut Search,
+    number: u32,
+    entrance: Entrance,
+    entered: Entered,
+) -> Result<bool, NoMemory>
     requires { entered.reach ≤ 65537 }
     ensures tells { IfOk result (λ changed. Tells search.old search.new changed) }
     ensures near { IfOk result (λ changed. changed ≡ false → IsGroupNear search.old entrance entered.reach) }
     ensures falls { IfOk result (λ changed. changed ≡ true → IsGroupFalling search.old entrance entered.reach) }
     ensures set { IfOk result (λ changed. changed ≡ true → IsGroupSet search.old.store search.new.store entrance entered) }
 {
-    if let Some(old) = search.store.group(entrance)
+    if let Some(old) = search.store.group_by(number, entrance)
         && old.reach <= entered.reach
     {
         return Ok(false);
@@ -36,6 +41,7 @@ fn reach(search: &mut Search, entrance: Entrance, entered: Entered) -> Result<bo
 fn enter(
     game: &Game,
     search: &mut Search,
+    number: u32,
     entrance: Entrance,
     entered: Entered,
 ) -> Result<bool, NoMemory>
@@ -48,7 +54,8 @@ fn enter(
     ensures near { IfOk result (λ changed. changed ≡ false → IsGroupNear search.old entrance entered.reach) }
     ensures goes_on { OnOk result (IsGoneOn game.now search.old search.new) }
 {
-    if !reach(search, entrance, entered)? {
+    let group = short(search.store.group_count());
+    if !reach(search, number, entrance, entered)? {
         return Ok(false);
     }
     let entry = Place {
@@ -56,12 +63,27 @@ fn enter(
         pos: game.entry(entrance.function),
         state: entrance.state,
     };
-    propose(game, search, entered.reach, entry, 0, Way::Begun)?;
+    propose(
+        game,
+        search,
+        entered.reach,
+        entry,
+        Row {
+            inside: 0,
+            way: Way::Begun,
+            group,
+        },
+    )?;
     Ok(true)
 }
 
-/// A call's row enters the callee.
-pub(crate) fn call(game: &Game, search: &mut Search, call: Calling) -> Result<bool, NoMemory>
+/// A call's row enters the callee, whose group should have the number.
+pub(crate) fn call(
+    game: &Game,
+    search: &mut Search,
+    call: Calling,
+    number: u32,
+) -> Result<bool, NoMemory>
     requires there { IsThere search.old call.met }
     requires call { IsCallOf game.now call.met.place call.callee call.back.0 }
     requires fair { IsFairGame game.now }
@@ -79,7 +101,7 @@ pub(crate) fn call(game: &Game, search: &mut Search, call: Calling) -> Result<bo
         reach: cut(u64::from(met.reach) + u64::from(met.row.inside) + 1),
         call: Some(met.place),
     };
-    enter(game, search, entrance, entered)
+    enter(game, search, number, entrance, entered)
 }
 
 /// A search begins: `main` is entered at the start.
@@ -107,6 +129,16 @@ pub fn begin(alloc: Global, game: &Game) -> Result<Search, NoMemory>
         pos,
         state,
     };
-    propose(game, &mut search, 0, entry, 0, Way::Begun)?;
+    propose(
+        game,
+        &mut search,
+        0,
+        entry,
+        Row {
+            inside: 0,
+            way: Way::Begun,
+            group: 0,
+        },
+    )?;
     Ok(search)
 }

@@ -13,11 +13,19 @@ use cw_product::Game;
 /// The greatest number that is told apart, and 1.
 const CUT: u64 = 65_537;
 
+/// The greatest number of 32 bits.
+const LONGEST: usize = 4_294_967_295;
+
 /// The number, cut.
 pub(crate) fn cut(n: u64) -> u32
     ensures { result ≡ cut n }
 {
     n.min(CUT) as u32
+}
+
+/// The number of a group, as its rows have it. Past 32 bits it is another, which is no group's own.
+pub(crate) fn short(number: usize) -> u32 {
+    number.min(LONGEST) as u32
 }
 
 /// The position behind what is skipped.

@@ -33,7 +33,7 @@ pub(crate) fn meet(search: &Search, number: usize) -> Option<Met>
     ensures none { IfNone result (IsUnknown search.now number) }
 {
     let (place, row) = search.store.numbered(number)?;
-    let group = search.store.group(place.entrance)?;
+    let group = search.store.group_by(row.group, place.entrance)?;
     Some(Met {
         place,
         row,

@@ -7,38 +7,12 @@ ghost use Rattle.cw_audit_visits.specs.Searching.{IsDue, IsHitNear, IsHitSet, Is
 
 use crate::look::{cut, skipped};
 use crate::under_way::Search;
-use cw_audit_store::{Entrance, Frontier, Hit, Place, Row, Way};
+use cw_audit_store::{Hit, Place, Row};
 use cw_core::NoMemory;
-use cw_product::{Game, Turn};
-
-// A row that is found is noted: at a call by where that leads, at an end by its entrance.
-fn note(game: &Game, frontier: &mut Frontier, place: Place, number: usize) -> Result<(), NoMemory>
-    requires { IsPosition (game_of game.now) place.pos.0 }
-    ensures { frontier.new.rows ≡ frontier.old.rows }
-{
-    match game.turn(place.pos) {
-        Turn::Call { callee, .. } => {
-            let entrance = Entrance {
-                function: callee,
-                state: place.state,
-            };
-            frontier.calls.put(entrance, number)?;
-        }
-        Turn::Exit { .. } => frontier.ends.put(place.entrance, number)?,
-        Turn::Weaver | Turn::Environment => {}
-    }
-    Ok(())
-}
+use cw_product::Game;
 
 // The row of a place is made, or lowered, and waits; nothing changes where it is as near.
-fn lower(
-    game: &Game,
-    search: &mut Search,
-    reach: u32,
-    place: Place,
-    row: Row,
-) -> Result<bool, NoMemory>
-    requires position { IsPosition (game_of game.now) place.pos.0 }
+fn lower(search: &mut Search, reach: u32, place: Place, row: Row) -> Result<bool, NoMemory>
     requires reach { reach ≤ 65537 }
     requires row { row.inside ≤ 65537 }
     ensures tells { IfOk result (λ changed. Tells search.old search.new changed) }
@@ -47,16 +21,12 @@ fn lower(
     ensures set { IfOk result (λ changed. changed ≡ true → IsRowSet search.old.store search.new.store place row) }
     ensures groups { search.new.store.groups ≡ search.old.store.groups }
 {
-    let found = search.store.row(place);
-    if let Some(old) = found
+    if let Some(old) = search.store.row(place)
         && old.inside <= row.inside
     {
         return Ok(false);
     }
     let number = search.store.put_row(place, row)?;
-    if found.is_none() {
-        note(game, &mut search.frontier, place, number)?;
-    }
     search.frontier.put(reach + row.inside, number)?;
     Ok(true)
 }
@@ -79,24 +49,23 @@ fn violate(search: &mut Search, hit: Hit) -> bool
     true
 }
 
-/// So many moves lead to a pair of a group, with skips behind it: what is behind them is a violation where it is bad, and else a row.
+/// So many moves lead to a pair of a group, with skips behind it: what is behind them is a violation where it is bad, and else the row.
 pub(crate) fn propose(
     game: &Game,
     search: &mut Search,
     reach: u32,
     at: Place,
-    inside: u32,
-    way: Way,
+    row: Row,
 ) -> Result<bool, NoMemory>
     requires reach { reach_of search.old at ≡ Some reach }
     requires position { IsPosition (game_of game.now) at.pos.0 }
     requires state { IsState (game_of game.now) at.state.0 }
     requires fair { IsFairGame game.now }
     requires kept { IsKept (game_of game.now) (functions_of game.now) search.old }
-    requires inside { inside ≤ 65537 }
-    requires due { IsDue game.now search.old at inside way }
+    requires inside { row.inside ≤ 65537 }
+    requires due { IsDue game.now search.old at row.inside row.way }
     ensures tells { IfOk result (λ changed. Tells search.old search.new changed) }
-    ensures told { IfOk result (λ changed. changed ≡ false → IsTold game.now search.old at inside) }
+    ensures told { IfOk result (λ changed. changed ≡ false → IsTold game.now search.old at row.inside) }
     ensures groups { search.new.store.groups ≡ search.old.store.groups }
     ensures goes_on { OnOk result (IsGoneOn game.now search.old search.new) }
 {
@@ -108,11 +77,11 @@ pub(crate) fn propose(
         return Ok(violate(
             search,
             Hit {
-                distance: cut(u64::from(reach) + u64::from(inside)),
+                distance: cut(u64::from(reach) + u64::from(row.inside)),
                 entrance: place.entrance,
-                way,
+                way: row.way,
             },
         ));
     }
-    lower(game, search, reach, place, Row { inside, way })
+    lower(search, reach, place, row)
 }

@@ -9,7 +9,7 @@ use crate::look::cut;
 use crate::met::{Calling, call_at, meet};
 use crate::propose::propose;
 use crate::under_way::Search;
-use cw_audit_store::{Entrance, Place, Way};
+use cw_audit_store::{Entrance, Place, Row, Way};
 use cw_core::NoMemory;
 use cw_product::Game;
 
@@ -61,8 +61,11 @@ pub(crate) fn return_from(
             state: end.state,
             ..met.place
         },
-        cut(u64::from(met.row.inside) + u64::from(ended.inside) + 2),
-        Way::Returned(met.place.state, met.place.pos, call.callee, end.state),
+        Row {
+            inside: cut(u64::from(met.row.inside) + u64::from(ended.inside) + 2),
+            way: Way::Returned(met.place.state, met.place.pos, call.callee, end.state),
+            group: met.row.group,
+        },
     )
 }
 
@@ -82,21 +85,23 @@ fn join(game: &Game, search: &mut Search, caller: usize, end: usize) -> Result<b
     return_from(game, search, Calling { met, callee, back }, end)
 }
 
-/// The row of a call goes on behind each return that was found.
+/// The row of a call, which enters the group with that number, goes on behind each return that was visited. Behind one that will be it
+/// goes on by `resume_all`.
 pub(crate) fn return_all(
     game: &Game,
     search: &mut Search,
     caller: usize,
-    callee: Entrance,
+    group: u32,
 ) -> Result<bool, NoMemory>
     requires fair { IsFairGame game.now }
     requires kept { IsKept (game_of game.now) (functions_of game.now) search.old }
     ensures tells { IfOk result (λ changed. Tells search.old search.new changed) }
     ensures goes_on { OnOk result (IsGoneOn game.now search.old search.new) }
 {
+    search.frontier.calls.put(group, caller)?;
     let mut changed = false;
     for place in 0..usize::MAX {
-        let Some(end) = search.frontier.ends.get(callee, place) else {
+        let Some(end) = search.frontier.ends.get(group, place) else {
             break;
         };
         let joined = join(game, search, caller, end)?;
@@ -105,21 +110,23 @@ pub(crate) fn return_all(
     Ok(changed)
 }
 
-/// Each call that was found of the entrance goes on behind the return from its end.
+/// Each call that was visited and enters the group with that number goes on behind the return from its end. One that will be goes on
+/// by `return_all`.
 pub(crate) fn resume_all(
     game: &Game,
     search: &mut Search,
     end: usize,
-    ended: Entrance,
+    group: u32,
 ) -> Result<bool, NoMemory>
     requires fair { IsFairGame game.now }
     requires kept { IsKept (game_of game.now) (functions_of game.now) search.old }
     ensures tells { IfOk result (λ changed. Tells search.old search.new changed) }
     ensures goes_on { OnOk result (IsGoneOn game.now search.old search.new) }
 {
+    search.frontier.ends.put(group, end)?;
     let mut changed = false;
     for place in 0..usize::MAX {
-        let Some(caller) = search.frontier.calls.get(ended, place) else {
+        let Some(caller) = search.frontier.calls.get(group, place) else {
             break;
         };
         let joined = join(game, search, caller, end)?;

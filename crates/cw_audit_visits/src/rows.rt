@@ -5,6 +5,7 @@ ghost use Rattle.cw_product.specs.Product.{game_of};
 ghost use Rattle.cw_audit_visits.specs.Searching.{IsFairGame, IsGoneOn, IsKept, Tells, functions_of};
 
 use crate::enter::call;
+use crate::look::short;
 use crate::met::{Calling, call_at, is_within, meet};
 use crate::returns::{resume_all, return_all};
 use crate::steps::steps;
@@ -13,10 +14,24 @@ use cw_audit_store::Entrance;
 use cw_core::NoMemory;
 use cw_product::Game;
 
-/// All that the row with the number leads to is proposed; the answer is whether anything changed.
+// The number that the entrance's group has, or will have.
+fn number_of(search: &Search, entrance: Entrance) -> u32 {
+    match search.store.group_number(entrance) {
+        Some(number) => short(number),
+        None => short(search.store.group_count()),
+    }
+}
+
+/// All that the row with the number leads to is proposed, where it isn't nearer than by the key with which it waited: then it waits,
+/// or was visited, by that. The answer is whether anything changed.
 ///
 /// That it is all is not promised: `settle` shows what is settled.
-pub fn visit(game: &Game, search: &mut Search, number: usize) -> Result<bool, NoMemory>
+pub fn visit(
+    game: &Game,
+    search: &mut Search,
+    key: u32,
+    number: usize,
+) -> Result<bool, NoMemory>
     requires fair { IsFairGame game.now }
     requires kept { IsKept (game_of game.now) (functions_of game.now) search.old }
     ensures tells { IfOk result (λ changed. Tells search.old search.new changed) }
@@ -25,17 +40,21 @@ pub fn visit(game: &Game, search: &mut Search, number: usize) -> Result<bool, No
     let Some(met) = meet(search, number) else {
         return Ok(false);
     };
+    if u64::from(met.reach) + u64::from(met.row.inside) < u64::from(key) {
+        return Ok(false);
+    }
     if is_within(game, met.place) {
         return steps(game, search, met);
     }
     let Some((callee, back)) = call_at(game, met.place) else {
-        return resume_all(game, search, number, met.place.entrance);
+        return resume_all(game, search, number, met.row.group);
     };
     let entrance = Entrance {
         function: callee,
         state: met.place.state,
     };
-    let entered = call(game, search, Calling { met, callee, back })?;
-    let returned = return_all(game, search, number, entrance)?;
+    let group = number_of(search, entrance);
+    let entered = call(game, search, Calling { met, callee, back }, group)?;
+    let returned = return_all(game, search, number, group)?;
     Ok(entered | returned)
 }

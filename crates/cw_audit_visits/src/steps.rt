@@ -13,7 +13,7 @@ use crate::look::cut;
 use crate::met::Met;
 use crate::propose::propose;
 use crate::under_way::Search;
-use cw_audit_store::{Place, Way};
+use cw_audit_store::{Place, Row, Way};
 use cw_certs::Move;
 use cw_core::NoMemory;
 use cw_product::Game;
@@ -22,39 +22,41 @@ use cw_product::Game;
 fn step(
     game: &Game,
     search: &mut Search,
-    reach: u32,
-    place: Place,
-    inside: u32,
+    met: Met,
     by: Move,
 ) -> Result<bool, NoMemory>
-    requires reach { reach_of search.old place ≡ Some reach }
-    requires position { IsPosition (game_of game.now) place.pos.0 }
-    requires state { IsState (game_of game.now) place.state.0 }
-    requires inside { inside ≤ 65537 }
-    requires inner { is_inner (slice_get (game_of game.now).spots place.pos.0) ≡ true }
-    requires good { bad_in (game_of game.now) place.state.0 (slice_get (game_of game.now).spots place.pos.0) ≡ false }
+    requires reach { reach_of search.old met.place ≡ Some met.reach }
+    requires position { IsPosition (game_of game.now) met.place.pos.0 }
+    requires state { IsState (game_of game.now) met.place.state.0 }
+    requires inside { met.row.inside ≤ 65537 }
+    requires inner { is_inner (slice_get (game_of game.now).spots met.place.pos.0) ≡ true }
+    requires good { bad_in (game_of game.now) met.place.state.0 (slice_get (game_of game.now).spots met.place.pos.0) ≡ false }
     requires fair { IsFairGame game.now }
     requires kept { IsKept (game_of game.now) (functions_of game.now) search.old }
-    requires due { IsStepDue game.now search.old place inside by }
+    requires due { IsStepDue game.now search.old met.place met.row.inside by }
     ensures tells { IfOk result (λ changed. Tells search.old search.new changed) }
-    ensures told { IfOk result (λ changed. changed ≡ false → IsStepTold game.now search.old place inside by) }
+    ensures told { IfOk result (λ changed. changed ≡ false → IsStepTold game.now search.old met.place met.row.inside by) }
     ensures groups { search.new.store.groups ≡ search.old.store.groups }
     ensures goes_on { OnOk result (IsGoneOn game.now search.old search.new) }
 {
+    let place = met.place;
     let Some((pos, state)) = game.next(place.pos, place.state, by) else {
         return Ok(false);
     };
     propose(
         game,
         search,
-        reach,
+        met.reach,
         Place {
             pos,
             state,
             ..place
         },
-        cut(u64::from(inside) + 1),
-        Way::Moved(place.state, place.pos, by),
+        Row {
+            inside: cut(u64::from(met.row.inside) + 1),
+            way: Way::Moved(place.state, place.pos, by),
+            group: met.row.group,
+        },
     )
 }
 
@@ -69,11 +71,11 @@ pub(crate) fn steps(game: &Game, search: &mut Search, met: Met) -> Result<bool, 
     ensures goes_on { OnOk result (IsGoneOn game.now search.old search.new) }
 {
     let (first, second) = game.moves(met.place.pos);
-    let one = step(game, search, met.reach, met.place, met.row.inside, first)?;
+    let one = step(game, search, met, first)?;
     match second {
         None => Ok(one),
         Some(by) => {
-            let other = step(game, search, met.reach, met.place, met.row.inside, by)?;
+            let other = step(game, search, met, by)?;
             Ok(one | other)
         }
     }

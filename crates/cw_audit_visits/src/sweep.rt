@@ -3,17 +3,17 @@
 ghost use Rattle.std.specs.Prelude.{◌≡◌, ℕ, true, false, not, IfOk, OnOk};
 ghost use Rattle.cw_product.specs.Product.{game_of};
 ghost use Rattle.cw_audit_search.specs.Settled.{IsSettled};
-ghost use Rattle.cw_audit_visits.specs.Searching.{AreBegun, AreEnds, AreSettledAt, AreSettledBelow, IsBegunAt, IsCallOf, IsFairGame, IsGoneOn, IsKept, IsNumberSettled, IsReturnTold, IsThere, IsVisited, Tells, found_of, functions_of};
+ghost use Rattle.cw_audit_visits.specs.Searching.{AreBegun, AreEnds, AreEndsOf, AreSettledAt, AreSettledBelow, IsBegunAt, IsCallOf, IsFairGame, IsGoneOn, IsKept, IsNumberSettled, IsReturnTold, IsThere, IsVisited, Tells, found_of, functions_of};
 
 use crate::ends::ends_of;
 use crate::enter::call;
-use crate::look::cut;
+use crate::look::{cut, short};
 use crate::met::{Calling, Met, call_at, is_within, meet};
 use crate::propose::propose;
 use crate::returns::return_from;
 use crate::steps::steps;
 use crate::under_way::Search;
-use cw_audit_store::{Entrance, Lists, Place, Way};
+use cw_audit_store::{Entrance, Lists, Place, Row, Way};
 use cw_core::NoMemory;
 use cw_product::Game;
 use std::alloc::Global;
@@ -34,7 +34,17 @@ fn begin_again(game: &Game, search: &mut Search, number: usize) -> Result<bool, 
         pos: game.entry(entrance.function),
         state: entrance.state,
     };
-    propose(game, search, entered.reach, entry, 0, Way::Begun)
+    propose(
+        game,
+        search,
+        entered.reach,
+        entry,
+        Row {
+            inside: 0,
+            way: Way::Begun,
+            group: short(number),
+        },
+    )
 }
 
 // The entry of each group is proposed, until one changes something.
@@ -54,14 +64,25 @@ fn begin_all(game: &Game, search: &mut Search) -> Result<bool, NoMemory>
     Ok(false)
 }
 
-// A call's row goes on behind each return, until one changes something.
+// The number of the group of the first row with one of these numbers, or 0.
+fn group_of(search: &Search, numbers: &[usize]) -> u32 {
+    let Some(first) = numbers.first() else {
+        return 0;
+    };
+    match search.store.numbered(*first) {
+        Some((_place, row)) => row.group,
+        None => 0,
+    }
+}
+
+// A call's row goes on behind each return from a row with one of the numbers, until one changes something.
 fn return_each(
     game: &Game,
     search: &mut Search,
-    ends: &Lists,
+    numbers: &[usize],
     call: Calling,
 ) -> Result<bool, NoMemory>
-    requires ends { AreEnds game.now search.old ends.now }
+    requires ends { AreEndsOf game.now search.old call numbers.now }
     requires there { IsThere search.old call.met }
     requires call { IsCallOf game.now call.met.place call.callee call.back.0 }
     requires fair { IsFairGame game.now }
@@ -70,11 +91,6 @@ fn return_each(
     ensures told { IfOk result (λ changed. changed ≡ false → (y : ℕ) → IsReturnTold game.now search.old call.met.place call.callee call.back.0 y) }
     ensures goes_on { OnOk result (IsGoneOn game.now search.old search.new) }
 {
-    let entrance = Entrance {
-        function: call.callee,
-        state: call.met.place.state,
-    };
-    let numbers = ends.list(entrance);
     for place in 0..numbers.len() {
         if return_from(game, search, call, numbers[place])? {
             return Ok(true);
@@ -100,10 +116,16 @@ fn visit_call(
     ensures visited { IfOk result (λ changed. changed ≡ false → IsVisited game.now search.old calling.met.place) }
     ensures goes_on { OnOk result (IsGoneOn game.now search.old search.new) }
 {
-    if call(game, search, calling)? {
+    let entrance = Entrance {
+        function: calling.callee,
+        state: calling.met.place.state,
+    };
+    let numbers = ends.list(entrance);
+    let group = group_of(search, numbers);
+    if call(game, search, calling, group)? {
         return Ok(true);
     }
-    return_each(game, search, ends, calling)
+    return_each(game, search, numbers, calling)
 }
 
 // All that a row leads to is proposed, until something changes. An end leads to nothing but by the calls.

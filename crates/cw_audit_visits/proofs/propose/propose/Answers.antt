@@ -11,7 +11,7 @@ returns-then-bad-clause-goes_on c =
     let s2 = c.violate.new.search in
     by_truth {X = IsGoneOn h s s2} c.violate.result
     (λ b. stays h s s2 (c.violate.ensures.tells.same b).0 c.requires.kept)
-    (λ b. hit_gone_on h s c.args.at c.args.inside c.skipped.result.0 c.skipped.ensures.is c.requires.fair c.requires.kept c.args.way c.requires.due s2 c.args.reach c.cut.result
+    (λ b. hit_gone_on h s c.args.at c.args.row.inside c.skipped.result.0 c.skipped.ensures.is c.requires.fair c.requires.kept c.args.row.way c.requires.due s2 c.args.reach c.cut.result
     (omega (arith, c.cut.ensures, c.from.ensures, c.from-then-bad.ensures)) c.requires.reach (sym c.bad.ensures ∙ c.if-bad.true) (c.violate.ensures.falls b) (c.violate.ensures.set b))
 
 pub lower-requires-clause-reach : goal.lower-requires-clause-reach
@@ -19,7 +19,7 @@ lower-requires-clause-reach c = reach_low c.args.game.now c.args.search.now c.ar
 
 pub returns-clause-told : goal.returns-clause-told
 returns-clause-told c =
-    when_ok c.lower.result (λ changed e b. told_row c.args.game.now c.args.search.now c.args.at c.args.inside c.skipped.result.0 c.skipped.ensures.is (sym c.bad.ensures ∙ c.if-bad.false)
+    when_ok c.lower.result (λ changed e b. told_row c.args.game.now c.args.search.now c.args.at c.args.row.inside c.skipped.result.0 c.skipped.ensures.is (sym c.bad.ensures ∙ c.if-bad.false)
     (at_ok _ c.lower.result changed e c.lower.ensures.near b))
 
 pub returns-clause-goes_on : goal.returns-clause-goes_on
@@ -29,5 +29,5 @@ returns-clause-goes_on c =
     let s2 = c.lower.new.search in
     whenever_ok c.lower.result (λ changed e. by_truth {X = IsGoneOn h s s2} changed
     (λ b. stays h s s2 ((at_ok _ c.lower.result changed e c.lower.ensures.tells).same b).0 c.requires.kept)
-    (λ b. row_gone_on h s c.args.at c.args.inside c.skipped.result.0 c.skipped.ensures.is c.requires.fair c.requires.kept c.args.way c.requires.due s2
+    (λ b. row_gone_on h s c.args.at c.args.row.inside c.skipped.result.0 c.skipped.ensures.is c.requires.fair c.requires.kept c.args.row.way c.requires.due s2 c.args.row.group
     (sym c.bad.ensures ∙ c.if-bad.false) (at_ok _ c.lower.result changed e c.lower.ensures.falls b) (at_ok _ c.lower.result changed e c.lower.ensures.set b)))

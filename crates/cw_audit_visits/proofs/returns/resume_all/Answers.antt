@@ -1,5 +1,14 @@
-use Rattle.cw_audit_visits.proofs.Gone.{gone_trans, tells_both}
+use Rattle.std.proofs.Common.{refl}
+use Rattle.cw_audit_visits.specs.declared.under_way.Search.{Search}
+use Rattle.cw_audit_visits.proofs.Gone.{gone_trans, tells_both, tells_nothing}
+use Rattle.cw_audit_visits.proofs.Proposed.{stays}
 use Rattle.cw_audit_visits.proofs.returns.resume_all.Goals as goal
+
+pub loop-place-init : goal.loop-place-init
+loop-place-init c =
+    let s = c.args.search.now in
+    let s1 : Search = record { store = s.store; frontier = record { rows = s.frontier.rows; calls = s.frontier.calls; ends = c.put.new.self } } in
+    record { tells = tells_nothing s s1 refl refl; goes_on = stays c.args.game.now s s1 refl c.requires.kept }
 
 pub loop-place-preserved : goal.loop-place-preserved
 loop-place-preserved c =

@@ -1,6 +1,6 @@
-use Rattle.std.proofs.Common.{◌≡◌, ℕ, List, length, true, false, refl, ap, subst, arith, get_or}
+use Rattle.std.proofs.Common.{◌≡◌, length, true, false, refl, subst, arith, get_or}
 use Rattle.std.proofs.lemmas.Option.{slice_get-get_or}
-use Rattle.cw_audit_visits.specs.Searching.{AreEndsTold, Tells}
+use Rattle.cw_audit_visits.specs.Searching.{Tells}
 use Rattle.cw_audit_visits.proofs.Gone.{gone_trans, tells_both}
 use Rattle.cw_audit_visits.proofs.Stepping.{there_same}
 use Rattle.cw_audit_visits.proofs.Ended.{told_more, returns_told}
@@ -18,7 +18,7 @@ loop-place-preserved c =
     let s1 = c.loop-place.search in
     let s2 = c.return_from.new.search in
     let n = c.loop-place.place in
-    let ns = c.list-numbers.result.now in
+    let ns = c.args.numbers.now in
     let unchanged : c.in_ok-return_from.field-0 ≡ false = cc in
     record {
       tells = tells_both s s1 s2 false false c.loop-place.invariant.tells (subst (Tells s1 s2) unchanged c.in_ok-return_from.ensures.tells);
@@ -40,7 +40,5 @@ returns-then-branch-clause-goes_on c =
 
 pub returns-clause-told : goal.returns-clause-told
 returns-clause-told c = λ e y.
-    let same = c.list-numbers.ensures in
-    returns_told c.args.game.now c.args.search.now c.args.ends.now c.args.call (length c.list-numbers.result.now) c.requires.ends
-    (ap (λ (ns : List ℕ). length ns) same) (subst (λ ns. AreEndsTold c.args.game.now c.args.search.now c.args.call ns (length c.list-numbers.result.now)) same
-    (λ i number low there. c.loop-place.invariant.told i number (omega (arith, low, c.loop-place-test.false)) there)) y
+    returns_told c.args.game.now c.args.search.now c.args.call c.args.numbers.now (length c.args.numbers.now) c.requires.ends refl
+    (λ i number low there. c.loop-place.invariant.told i number (omega (arith, low, c.loop-place-test.false)) there) y

@@ -1,10 +1,12 @@
 use Rattle.cw_audit_visits.proofs.Stepping.{there_same, visited_call, returns_same}
-use Rattle.cw_audit_visits.proofs.Swept.{ends_same}
+use Rattle.cw_audit_visits.proofs.Ended.{call_ends}
 use Rattle.cw_audit_visits.proofs.Oks.{when_ok, at_ok}
 use Rattle.cw_audit_visits.proofs.sweep.visit_call.Goals as goal
 
 pub return_each-requires-clause-ends : goal.return_each-requires-clause-ends
-return_each-requires-clause-ends c = ends_same c.args.game.now c.args.search.now c.call.new.search c.args.ends.now (c.in_ok-call.ensures.tells.same cc).0 c.requires.ends
+return_each-requires-clause-ends c =
+    call_ends c.args.game.now c.args.search.now c.call.new.search c.args.ends.now c.args.calling c.list-numbers.result.now (c.in_ok-call.ensures.tells.same cc).0 c.list-numbers.ensures
+    c.requires.ends
 
 pub return_each-requires-clause-there : goal.return_each-requires-clause-there
 return_each-requires-clause-there c = there_same c.args.search.now c.call.new.search c.args.calling.met (c.in_ok-call.ensures.tells.same cc).0 c.requires.there
