@@ -26,12 +26,7 @@ fn number_of(search: &Search, entrance: Entrance) -> u32 {
 /// or was visited, by that. The answer is whether anything changed.
 ///
 /// That it is all is not promised: `settle` shows what is settled.
-pub fn visit(
-    game: &Game,
-    search: &mut Search,
-    key: u32,
-    number: usize,
-) -> Result<bool, NoMemory>
+pub fn visit(game: &Game, search: &mut Search, key: u32, number: usize) -> Result<bool, NoMemory>
     requires fair { IsFairGame game.now }
     requires kept { IsKept (game_of game.now) (functions_of game.now) search.old }
     ensures tells { IfOk result (λ changed. Tells search.old search.new changed) }

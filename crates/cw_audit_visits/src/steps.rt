@@ -19,12 +19,7 @@ use cw_core::NoMemory;
 use cw_product::Game;
 
 // A row within a function goes on by a move.
-fn step(
-    game: &Game,
-    search: &mut Search,
-    met: Met,
-    by: Move,
-) -> Result<bool, NoMemory>
+fn step(game: &Game, search: &mut Search, met: Met, by: Move) -> Result<bool, NoMemory>
     requires reach { reach_of search.old met.place ≡ Some met.reach }
     requires position { IsPosition (game_of game.now) met.place.pos.0 }
     requires state { IsState (game_of game.now) met.place.state.0 }
