@@ -1,0 +1,5 @@
+-- The proofs.
+pub mod Places
+pub mod Hints
+mod Holding
+mod Ending
