@@ -23,8 +23,8 @@ use Rattle.cw_product.specs.Product.{Held as HeldGame, game_of}
 use Rattle.cw_solve.specs.Contexts.{of_main}
 use Rattle.cw_solve.specs.Solved.{Held}
 use Rattle.cw_lazy_table.specs.declared.key.Key.{Key}
-use Rattle.cw_lazy_table.specs.declared.place.Kind.{Kind}
-use Rattle.cw_lazy_table.specs.declared.place.Kind.TheVariants as kind
+use Rattle.cw_lazy_table.specs.Kinds.{Kind}
+use Rattle.cw_lazy_table.specs.Kinds as kind
 use Rattle.cw_lazy_table.specs.declared.place.Placed.{Placed}
 use Rattle.cw_lazy_table.specs.Choices.{set_in, IsReady}
 use Rattle.cw_lazy_table.specs.Lazy.{Means, IsLiveRow, IsTryRow, IsLabelRow, IsOpenRow, IsCloseRow, IsIntoRow, IsBackRow}

@@ -1,6 +1,7 @@
 pub mod Ascending
 pub mod Bridging
 pub mod Choosing
+pub mod Coming
 pub mod Counting
 pub mod Finding
 pub mod Following

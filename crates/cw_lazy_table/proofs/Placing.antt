@@ -11,7 +11,7 @@ use Rattle.cw_rights.specs.declared.capabilities.Primitive.{Primitive}
 use Rattle.cw_game.specs.declared.spots.Spot.{Spot}
 use Rattle.cw_game.specs.declared.spots.Spot.TheVariants.{Visit, Asked, Step, Branch, Label, Open, Close, Call, SplitCall, Exit}
 use Rattle.cw_game.specs.Pairs.{Called, call_in}
-use Rattle.cw_lazy_table.specs.declared.place.Kind.TheVariants as kind
+use Rattle.cw_lazy_table.specs.Kinds as kind
 use Rattle.cw_lazy_table.specs.declared.key.Key.{Key}
 use Rattle.cw_lazy_table.specs.declared.place.Placed.{Placed}
 use Rattle.cw_lazy_table.specs.Places.{part_there, put_placed, put_return}

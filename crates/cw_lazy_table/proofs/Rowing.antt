@@ -22,7 +22,7 @@ use Rattle.cw_game.specs.Pairs.{Called, call_in, is_call_in, is_exit_in, kept_at
 use Rattle.cw_product.specs.Moves.{pair_of, next_in, next_at}
 use Rattle.cw_solve.specs.Low.{HeightsAreLow}
 use Rattle.cw_lazy_table.specs.declared.key.Key.{Key}
-use Rattle.cw_lazy_table.specs.declared.place.Kind.TheVariants as kind
+use Rattle.cw_lazy_table.specs.Kinds as kind
 use Rattle.cw_lazy_table.specs.declared.place.Placed.{Placed}
 use Rattle.cw_lazy_table.specs.Choices.{lost_in, set_in}
 use Rattle.cw_lazy_table.specs.Closing.{key}

@@ -22,8 +22,8 @@ use Rattle.cw_lemmas.proofs.Lists.{contains_map, map_contains}
 use Rattle.cw_lemmas.proofs.Options.{option_map_some as mapped}
 use Rattle.cw_product.specs.Moves.{next_at, pos_id}
 use Rattle.cw_lazy_table.specs.declared.key.Key.{Key}
-use Rattle.cw_lazy_table.specs.declared.place.Kind.{Kind}
-use Rattle.cw_lazy_table.specs.declared.place.Kind.TheVariants as kind
+use Rattle.cw_lazy_table.specs.Kinds.{Kind}
+use Rattle.cw_lazy_table.specs.Kinds as kind
 use Rattle.cw_lazy_table.specs.declared.place.Placed.{Placed}
 use Rattle.cw_lazy_table.specs.Choices.{lost_in, set_in}
 use Rattle.cw_lazy_table.specs.Lazy.{state_id}

@@ -1,6 +1,8 @@
 pub mod Choices
 pub mod Closing
 pub mod Following
+pub mod Indexed
+pub mod Kinds
 pub mod Laws
 pub mod Lazy
 pub mod Live

@@ -1,15 +1,17 @@
 -- Working definitions: keys by what stands at their positions.
-use Rattle.std.specs.Prelude.{◌≡◌, ℕ, List, ◌∷◌, [], ◌++◌, Option, Some, None, option_map, slice_get, Contains}
+use Rattle.std.specs.Prelude.{◌≡◌, ℕ, List, ◌∷◌, [], ◌++◌, Option, Some, None, option_map, filter_map, slice_get, Contains}
 use Rattle.std.specs.declared.cmp.Ordering.{Ordering}
 use Rattle.std.specs.Ordering.{ordering_then, nat_cmp}
 use Rattle.cw_core.specs.declared.ids.StateId.{StateId}
+use Rattle.cw_fixpoint.specs.Closures.{Exactly}
 use Rattle.cw_game.specs.declared.spots.Spot.{Spot}
 use Rattle.cw_game.specs.declared.spots.Spot.TheVariants as spot
 use Rattle.cw_game.specs.Games.{Game}
 use Rattle.cw_game.specs.Pairs.{Called, call_in}
 use Rattle.cw_lazy_table.specs.declared.key.Key.{Key}
-use Rattle.cw_lazy_table.specs.declared.place.Kind.{Kind}
-use Rattle.cw_lazy_table.specs.declared.place.Kind.TheVariants.{Asked, Label, Open, Close, Call}
+use Rattle.cw_lazy_table.specs.Kinds.{Kind}
+use Rattle.cw_lazy_table.specs.Kinds.{Asked, Label, Open, Close, Call}
+use Rattle.cw_lazy_table.specs.declared.place.ByKind.{ByKind}
 use Rattle.cw_lazy_table.specs.declared.place.Placed.{Placed}
 use Rattle.cw_lazy_table.specs.Choices.{set_in}
 use Rattle.cw_lazy_table.specs.Closing.{key}
@@ -65,6 +67,26 @@ IsPut {A} old x new = AreOf (old ++ x ∷ []) new
 abbrev pub put_placed : List Placed → Option Placed → List Placed
 put_placed xs None = xs
 put_placed xs (Some x) = xs ++ x ∷ []
+
+-- the keys of a kind, in the order of rows
+abbrev pub AreOfKind : Game → Kind → List Key → List Placed → Type 0
+AreOfKind g kind keys ys = Exactly placed_cmp (Contains (filter_map (placed_of g kind) keys)) ys
+
+-- keys by kind, as they come
+pub record ComeByKind (g : Game) (keys : List Key) (lists : ByKind) : Type 0 where
+  pub asked : lists.asked.items ≡ filter_map (placed_of g Asked) keys
+  pub labels : lists.labels.items ≡ filter_map (placed_of g Label) keys
+  pub opens : lists.opens.items ≡ filter_map (placed_of g Open) keys
+  pub closes : lists.closes.items ≡ filter_map (placed_of g Close) keys
+  pub calls : lists.calls.items ≡ filter_map (placed_of g Call) keys
+
+-- keys by kind, each kind in the order of rows
+pub record AreByKind (g : Game) (keys : List Key) (lists : ByKind) : Type 0 where
+  pub asked : AreOfKind g Asked keys lists.asked.items
+  pub labels : AreOfKind g Label keys lists.labels.items
+  pub opens : AreOfKind g Open keys lists.opens.items
+  pub closes : AreOfKind g Close keys lists.closes.items
+  pub calls : AreOfKind g Call keys lists.calls.items
 
 -- something with rows stands at a key that is live
 pub record IsPlaced (g : Game) (kind : Kind) (x : Placed) : Type 0 where

@@ -3,6 +3,7 @@
 
 mod choice;
 mod follow;
+mod indices;
 pub mod key;
 pub mod laws;
 mod lists;

@@ -1,10 +1,11 @@
 //! Keys by what stands at their positions, in the order of rows.
 
-ghost use Rattle.std.specs.Prelude.{◌≡◌, true, Some, map, filter_map, slice_get, Contains, IfOk, OnOk};
+ghost use Rattle.std.specs.Prelude.{◌≡◌, true, Some, map, option_map, filter_map, slice_get, Contains, IfOk, OnOk};
 ghost use Rattle.cw_fixpoint.specs.Closures.{Exactly};
 ghost use Rattle.cw_product.specs.Moves.{IsPosition};
 ghost use Rattle.cw_product.specs.Product.{game_of};
-ghost use Rattle.cw_lazy_table.specs.Places.{placed_cmp, part_in, placed_of, memory_of, IsPut, AreOf, put_placed, return_cmp, return_of, put_return};
+ghost use Rattle.cw_lazy_table.specs.Kinds.{Asked, Label, Open, Close, Call};
+ghost use Rattle.cw_lazy_table.specs.Places.{part_in, placed, placed_of, memory_of, IsPut, AreOf, ComeByKind, AreByKind, put_placed, return_cmp, return_of, put_return};
 
 use crate::key::Key;
 use cw_core::{PosId, StateId};
@@ -12,16 +13,6 @@ use cw_fixpoint::ascending;
 use cw_game::Spot;
 use cw_product::Game;
 use std::alloc::{AllocError, Global};
-
-/// What stands at a position that has rows.
-#[derive(Clone, Copy, Drop, PartialEq, Eq)]
-pub(crate) enum Kind {
-    Asked,
-    Label,
-    Open,
-    Close,
-    Call,
-}
 
 /// A key where something with rows stands: by seam, part (the stage of what is asked, 1 for a split call, else 0),
 /// state, promise (by its number) and position.
@@ -32,6 +23,16 @@ pub(crate) struct Placed {
     pub(crate) state: u16,
     pub(crate) promise: usize,
     pub(crate) pos: u32,
+}
+
+/// Keys by the kind of what stands at their positions.
+#[derive(Drop)]
+pub(crate) struct ByKind {
+    pub(crate) asked: Vec<Placed>,
+    pub(crate) labels: Vec<Placed>,
+    pub(crate) opens: Vec<Placed>,
+    pub(crate) closes: Vec<Placed>,
+    pub(crate) calls: Vec<Placed>,
 }
 
 /// Whether a memory stands at a place.
@@ -75,63 +76,104 @@ pub(crate) fn memories_of(alloc: Global, keys: &[Key]) -> Result<Vec<(StateId, u
     Ok(memories)
 }
 
-/// The seam and the part of what stands there, if it is of this kind.
-fn part_of(kind: Kind, spot: Spot) -> Option<(u32, u8)>
-    ensures { result ≡ part_in kind spot }
+/// A key where this stands.
+fn there(key: &Key, seam: u32, part: u8) -> Placed
+    ensures { result ≡ placed key.now (seam, part) }
 {
-    match (kind, spot) {
-        (Kind::Asked, Spot::Asked(seam, stage, _)) => Some((seam, stage)),
-        (Kind::Label, Spot::Label(seam, _, _)) => Some((seam, 0)),
-        (Kind::Open, Spot::Open(seam, _, _)) => Some((seam, 0)),
-        (Kind::Close, Spot::Close(seam, _, _)) => Some((seam, 0)),
-        (Kind::Call, Spot::Call(seam, _, _)) => Some((seam, 0)),
-        (Kind::Call, Spot::SplitCall(seam, _, _)) => Some((seam, 1)),
+    Placed {
+        seam,
+        part,
+        state: key.state,
+        promise: key.promise,
+        pos: key.pos,
+    }
+}
+
+/// A key by the call that stands at its position, where one does.
+fn call_at(game: &Game, key: &Key) -> Option<Placed>
+    requires { IsPosition (game_of game.now) key.now.pos }
+    ensures { result ≡ placed_of (game_of game.now) Call key.now }
+{
+    match game.spot(PosId(key.pos)) {
+        Spot::Call(seam, _, _) => Some(there(key, seam, 0)),
+        Spot::SplitCall(seam, _, _) => Some(there(key, seam, 1)),
         _ => None,
     }
 }
 
-/// A key by what stands at its position, where that is of this kind.
-pub(crate) fn place(game: &Game, kind: Kind, key: &Key) -> Option<Placed>
-    requires { IsPosition (game_of game.now) key.now.pos }
-    ensures { result ≡ placed_of (game_of game.now) kind key.now }
+/// Appends a key to those of the kind of what stands at its position, where that has rows.
+fn put_by_kind(spot: Spot, key: &Key, lists: &mut ByKind) -> Result<(), AllocError>
+    ensures asked { OnOk result (lists.new.asked.items ≡ put_placed lists.old.asked.items (option_map (placed key.now) (part_in Asked spot))) }
+    ensures labels { OnOk result (lists.new.labels.items ≡ put_placed lists.old.labels.items (option_map (placed key.now) (part_in Label spot))) }
+    ensures opens { OnOk result (lists.new.opens.items ≡ put_placed lists.old.opens.items (option_map (placed key.now) (part_in Open spot))) }
+    ensures closes { OnOk result (lists.new.closes.items ≡ put_placed lists.old.closes.items (option_map (placed key.now) (part_in Close spot))) }
+    ensures calls { OnOk result (lists.new.calls.items ≡ put_placed lists.old.calls.items (option_map (placed key.now) (part_in Call spot))) }
 {
-    match part_of(kind, game.spot(PosId(key.pos))) {
-        None => None,
-        Some((seam, part)) => Some(Placed {
-            seam,
-            part,
-            state: key.state,
-            promise: key.promise,
-            pos: key.pos,
-        }),
+    match spot {
+        Spot::Asked(seam, stage, _) => {
+            lists.asked.push(there(key, seam, stage))?;
+            Ok(())
+        }
+        Spot::Label(seam, _, _) => {
+            lists.labels.push(there(key, seam, 0))?;
+            Ok(())
+        }
+        Spot::Open(seam, _, _) => {
+            lists.opens.push(there(key, seam, 0))?;
+            Ok(())
+        }
+        Spot::Close(seam, _, _) => {
+            lists.closes.push(there(key, seam, 0))?;
+            Ok(())
+        }
+        Spot::Call(seam, _, _) => {
+            lists.calls.push(there(key, seam, 0))?;
+            Ok(())
+        }
+        Spot::SplitCall(seam, _, _) => {
+            lists.calls.push(there(key, seam, 1))?;
+            Ok(())
+        }
+        Spot::Visit(_, _, _) | Spot::Step(_) | Spot::Branch(_, _) | Spot::Exit(_) => Ok(()),
     }
 }
 
-/// Appends a key by what stands at it, if there is one.
-fn put_place(placed: Option<Placed>, places: &mut Vec<Placed>) -> Result<(), AllocError>
-    ensures { OnOk result (places.new.items ≡ put_placed places.old.items placed) }
-{
-    if let Some(placed) = placed {
-        places.push(placed)?;
-    }
-    Ok(())
-}
-
-/// The keys at positions of a kind, in the order of rows.
-pub(crate) fn places(
-    alloc: Global,
-    game: &Game,
-    kind: Kind,
-    keys: &[Key],
-) -> Result<Vec<Placed>, AllocError>
+/// Keys by kind, as they come.
+fn by_kind(alloc: Global, game: &Game, keys: &[Key]) -> Result<ByKind, AllocError>
     requires { (k : Key) → Contains keys.now k → IsPosition (game_of game.now) k.pos }
-    ensures { IfOk result (λ v. Exactly placed_cmp (Contains (filter_map (placed_of (game_of game.now) kind) keys.now)) v.items) }
+    ensures { IfOk result (ComeByKind (game_of game.now) keys.now) }
 {
-    let mut found = Vec::new(alloc);
+    let mut lists = ByKind {
+        asked: Vec::new(alloc),
+        labels: Vec::new(alloc),
+        opens: Vec::new(alloc),
+        closes: Vec::new(alloc),
+        calls: Vec::new(alloc),
+    };
     for key in keys {
-        put_place(place(game, kind, key), &mut found)?;
+        put_by_kind(game.spot(PosId(key.pos)), key, &mut lists)?;
     }
-    ascending(alloc, found)
+    Ok(lists)
+}
+
+/// Keys by kind, each kind in the order of rows.
+pub(crate) fn places(alloc: Global, game: &Game, keys: &[Key]) -> Result<ByKind, AllocError>
+    requires { (k : Key) → Contains keys.now k → IsPosition (game_of game.now) k.pos }
+    ensures { IfOk result (AreByKind (game_of game.now) keys.now) }
+{
+    let lists = by_kind(alloc, game, keys)?;
+    let asked = ascending(alloc, lists.asked)?;
+    let labels = ascending(alloc, lists.labels)?;
+    let opens = ascending(alloc, lists.opens)?;
+    let closes = ascending(alloc, lists.closes)?;
+    let calls = ascending(alloc, lists.calls)?;
+    Ok(ByKind {
+        asked,
+        labels,
+        opens,
+        closes,
+        calls,
+    })
 }
 
 /// Appends the exit for a call, if there is one.
@@ -159,7 +201,7 @@ pub(crate) fn returns(
 {
     let mut found = Vec::new(alloc);
     for pair in pairs {
-        put_return(place(game, Kind::Call, &pair.0), &pair.1, &mut found)?;
+        put_return(call_at(game, &pair.0), &pair.1, &mut found)?;
     }
     ascending(alloc, found)
 }

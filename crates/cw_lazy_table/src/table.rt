@@ -11,19 +11,23 @@ ghost use Rattle.cw_product.specs.Product.{game_of};
 ghost use Rattle.cw_solve.specs.Contexts.{HeightIs};
 ghost use Rattle.cw_product.specs.Made.{IsMade};
 ghost use Rattle.cw_lazy_table.specs.Choices.{start_of, IsReady};
+ghost use Rattle.cw_lazy_table.specs.Kinds.{Asked, Label, Open, Close, Call};
 ghost use Rattle.cw_lazy_table.specs.Lazy.{IsTryRow, IsLabelRow, IsOpenRow, IsCloseRow, IsIntoRow, IsBackRow, IsLazyTable, table_rows};
 ghost use Rattle.cw_lazy_table.specs.Numbered.{small, whole_memory, ArePromises, AreNumbered, ArePaired, AreKept};
+ghost use Rattle.cw_lazy_table.specs.Places.{AreOfKind};
 
 use crate::follow::Choices;
+use crate::indices::key_indices;
 use crate::key::Key;
 use crate::lists::{
     at_rows, back_rows, into_rows, live_rows, mem, open_rows, try_rows, whole_memories,
 };
-use crate::place::{Kind, memories_of, places, returns};
+use crate::place::{Placed, memories_of, places, returns};
 use crate::promises::{promise_number, promises_of};
 use cw_certs::{AtRow, BackRow, IntoRow, OpenRow, TryRow, WeaverCert};
 use cw_core::{StateId, StateSet};
-use cw_fixpoint::{joined_up_to, ordered};
+use cw_fixpoint::ordered;
+use cw_indexed_fixpoint::joined_up_to;
 use cw_product::Game;
 use cw_solve::{Solved, TableFault};
 use std::alloc::{AllocError, Global};
@@ -50,14 +54,16 @@ fn tries(
     promises: &[StateSet],
     mems: &[(StateId, usize)],
     keys: &[Key],
+    asked: &[Placed],
 ) -> Result<Vec<TryRow>, AllocError>
     requires ready { IsReady game.now solved.now }
     requires live { AreNumbered game.now promises.now keys.now }
+    requires asked { AreOfKind (game_of game.now) Asked keys.now asked.now }
     requires mems { AreKept (game_of game.now) promises.now mems.now }
     ensures { IfOk result (λ v. Exactly try_cmp (IsTryRow (game_of game.now) (map (whole_memory promises.now) mems.now)) v.items) }
 {
-    let asked = places(alloc, game, Kind::Asked, keys)?;
-    try_rows(alloc, game, solved, promises, mems, &asked)
+    let _ = keys;
+    try_rows(alloc, game, solved, promises, mems, asked)
 }
 
 /// The rows of labels.
@@ -67,14 +73,16 @@ fn labels(
     promises: &[StateSet],
     mems: &[(StateId, usize)],
     keys: &[Key],
+    labels: &[Placed],
 ) -> Result<Vec<AtRow>, AllocError>
     requires live { AreNumbered game.now promises.now keys.now }
+    requires labels { AreOfKind (game_of game.now) Label keys.now labels.now }
     requires mems { AreKept (game_of game.now) promises.now mems.now }
     ensures { IfOk result (λ v. Exactly at_cmp (IsLabelRow (game_of game.now) (map (whole_memory promises.now) mems.now)) v.items) }
 {
     let _ = promises;
-    let labels = places(alloc, game, Kind::Label, keys)?;
-    at_rows(alloc, game, mems, &labels)
+    let _ = keys;
+    at_rows(alloc, game, mems, labels)
 }
 
 /// The rows of opens.
@@ -84,14 +92,16 @@ fn opens(
     promises: &[StateSet],
     mems: &[(StateId, usize)],
     keys: &[Key],
+    opens: &[Placed],
 ) -> Result<Vec<OpenRow>, AllocError>
     requires live { AreNumbered game.now promises.now keys.now }
+    requires opens { AreOfKind (game_of game.now) Open keys.now opens.now }
     requires mems { AreKept (game_of game.now) promises.now mems.now }
     ensures { IfOk result (λ v. Exactly open_cmp (IsOpenRow (game_of game.now) (map (whole_memory promises.now) mems.now)) v.items) }
 {
     let _ = promises;
-    let opens = places(alloc, game, Kind::Open, keys)?;
-    open_rows(alloc, game, mems, &opens)
+    let _ = keys;
+    open_rows(alloc, game, mems, opens)
 }
 
 /// The rows of closes.
@@ -101,14 +111,16 @@ fn closes(
     promises: &[StateSet],
     mems: &[(StateId, usize)],
     keys: &[Key],
+    closes: &[Placed],
 ) -> Result<Vec<AtRow>, AllocError>
     requires live { AreNumbered game.now promises.now keys.now }
+    requires closes { AreOfKind (game_of game.now) Close keys.now closes.now }
     requires mems { AreKept (game_of game.now) promises.now mems.now }
     ensures { IfOk result (λ v. Exactly at_cmp (IsCloseRow (game_of game.now) (map (whole_memory promises.now) mems.now)) v.items) }
 {
     let _ = promises;
-    let closes = places(alloc, game, Kind::Close, keys)?;
-    at_rows(alloc, game, mems, &closes)
+    let _ = keys;
+    at_rows(alloc, game, mems, closes)
 }
 
 /// The rows of calls.
@@ -119,14 +131,16 @@ fn calls(
     promises: &[StateSet],
     mems: &[(StateId, usize)],
     keys: &[Key],
+    calls: &[Placed],
 ) -> Result<Vec<IntoRow>, AllocError>
     requires ready { IsReady game.now solved.now }
     requires live { AreNumbered game.now promises.now keys.now }
+    requires calls { AreOfKind (game_of game.now) Call keys.now calls.now }
     requires mems { AreKept (game_of game.now) promises.now mems.now }
     ensures { IfOk result (λ v. Exactly into_cmp (IsIntoRow (game_of game.now) (map (whole_memory promises.now) mems.now)) v.items) }
 {
-    let calls = places(alloc, game, Kind::Call, keys)?;
-    into_rows(alloc, game, solved, promises, mems, &calls)
+    let _ = keys;
+    into_rows(alloc, game, solved, promises, mems, calls)
 }
 
 /// The rows of returns.
@@ -167,11 +181,12 @@ fn table_of(
     let start = start_key(game, solved, promises);
     let start = mem(mems, StateId(start.state), start.promise);
     let live = live_rows(alloc, mems, keys)?;
-    let tries = tries(alloc, game, solved, promises, mems, keys)?;
-    let labels = labels(alloc, game, promises, mems, keys)?;
-    let opens = opens(alloc, game, promises, mems, keys)?;
-    let closes = closes(alloc, game, promises, mems, keys)?;
-    let calls = calls(alloc, game, solved, promises, mems, keys)?;
+    let places = places(alloc, game, keys)?;
+    let tries = tries(alloc, game, solved, promises, mems, keys, &places.asked)?;
+    let labels = labels(alloc, game, promises, mems, keys, &places.labels)?;
+    let opens = opens(alloc, game, promises, mems, keys, &places.opens)?;
+    let closes = closes(alloc, game, promises, mems, keys, &places.closes)?;
+    let calls = calls(alloc, game, solved, promises, mems, keys, &places.calls)?;
     let backs = backs(alloc, game, promises, mems, pairs)?;
     let states = game.states();
     match WeaverCert::make(
@@ -216,7 +231,8 @@ fn table_within(
         solved,
         promises,
     };
-    match joined_up_to(alloc, &choices, start, 65536)? {
+    let indices = key_indices(game, promises);
+    match joined_up_to(alloc, &choices, &indices, start, 65536)? {
         None => Ok(None),
         Some(joined) => {
             let table = table_of(

@@ -10,13 +10,13 @@ use Rattle.cw_lazy_table.proofs.Finding.{contains_at}
 use Rattle.cw_lazy_table.proofs.Placing.{put_return_is}
 use Rattle.cw_lazy_table.proofs.place.returns.Goals as goal
 
-pub place-requires : goal.place-requires
-place-requires c = c.requires _ (contains_at c.args.pairs.now c.loop-pair.pair-index _ c.loop-pair-test.true)
+pub call_at-requires : goal.call_at-requires
+call_at-requires c = c.requires _ (contains_at c.args.pairs.now c.loop-pair.pair-index _ c.loop-pair-test.true)
 
 pub loop-pair-preserved : goal.loop-pair-preserved
 loop-pair-preserved c =
     filtered_at (return_of (game_of c.args.game.now)) c.args.pairs.now c.loop-pair.pair-index _ [] c.loop-pair.found.items c.put_return.new.returns.items c.loop-pair-test.true c.loop-pair.invariant
-    (c.in_ok-put_return.ensures ∙ put_return_is c.loop-pair.found.items c.place.result _ _ c.place.ensures)
+    (c.in_ok-put_return.ensures ∙ put_return_is c.loop-pair.found.items c.call_at.result _ _ c.call_at.ensures)
 
 pub returns : goal.returns
 returns c =

@@ -1,34 +1,28 @@
-use Rattle.std.proofs.Common.{◌≡◌, List, map, filter_map, sym, subst, Vec}
-use Rattle.std.specs.Prelude.{Contains}
+use Rattle.std.proofs.Common.{◌≡◌, map, Vec}
 use Rattle.std.specs.Global.{Global}
 use Rattle.cw_certs.specs.declared.rows.AtRow.{AtRow}
 use Rattle.cw_certs.specs.Ascending.{at_cmp}
 use Rattle.cw_fixpoint.specs.Closures.{Exactly}
 use Rattle.cw_product.specs.Product.{game_of}
-use Rattle.cw_lazy_table.specs.declared.place.Kind.TheVariants as kind
-use Rattle.cw_lazy_table.specs.declared.place.Placed.{Placed}
+use Rattle.cw_lazy_table.specs.Kinds as kind
 use Rattle.cw_lazy_table.specs.Lazy.{IsCloseRow}
 use Rattle.cw_lazy_table.specs.Numbered.{whole_memory}
-use Rattle.cw_lazy_table.specs.Places.{placed_cmp, placed_of}
 use Rattle.cw_lazy_table.specs.Rowing.{at_row}
-use Rattle.cw_lazy_table.proofs.Keeps.{position, place_range, closes_are}
+use Rattle.cw_lazy_table.proofs.Keeps.{place_range, closes_are}
 use Rattle.cw_lazy_table.proofs.Tabled.{if_ok}
 use Rattle.cw_lazy_table.proofs.table.closes.Goals as goal
 
-pub places-requires : goal.places-requires
-places-requires c = position c.args.game.now c.args.promises.now c.args.keys.now c.requires.live
-
 pub at_rows-requires-clause-there : goal.at_rows-requires-clause-there
 at_rows-requires-clause-there c =
-    place_range c.args.game.now c.args.promises.now c.args.keys.now c.requires.live kind.Close c.deref.result.now
-    (subst (λ (l : List Placed). Exactly placed_cmp (Contains (filter_map (placed_of (game_of c.args.game.now) kind.Close) c.args.keys.now)) l) (sym c.deref.ensures.value) c.in_ok-closes.ensures)
+    place_range c.args.game.now c.args.promises.now c.args.keys.now c.requires.live kind.Close c.args.closes.now
+    c.requires.closes
 
 pub returns : goal.returns
 returns c =
     let g = game_of c.args.game.now in
-    if_ok (λ (v : Vec AtRow Global). v.items ≡ map (at_row g c.args.mems.now) c.deref.result.now)
+    if_ok (λ (v : Vec AtRow Global). v.items ≡ map (at_row g c.args.mems.now) c.args.closes.now)
     (λ (v : Vec AtRow Global). Exactly at_cmp (IsCloseRow g (map (whole_memory c.args.promises.now) c.args.mems.now)) v.items)
     c.at_rows.result c.at_rows.ensures
     (λ v e.
-    closes_are c.args.game.now c.args.promises.now c.args.keys.now c.requires.live c.args.mems.now c.requires.mems c.deref.result.now
-    (subst (λ (l : List Placed). Exactly placed_cmp (Contains (filter_map (placed_of g kind.Close) c.args.keys.now)) l) (sym c.deref.ensures.value) c.in_ok-closes.ensures) v.items e)
+    closes_are c.args.game.now c.args.promises.now c.args.keys.now c.requires.live c.args.mems.now c.requires.mems c.args.closes.now
+    c.requires.closes v.items e)
