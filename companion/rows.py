@@ -313,8 +313,8 @@ row("procs: warn: what a form needs", "warn p.toml s.c", {"p.toml": LEFT, "s.c":
     "s.c:5:5: warning: 'f' runs in a process that ends by `_exit`: what 'printf' leaves in a buffer is lost, unless `fflush` follows",
     "s.c:7:5: warning: the form calls `fork` and `_exit`, and nothing declares them: write `#include <unistd.h>`"], out=True)
 row("procs: warn: it flushes", "warn p.toml s.c", {"p.toml": LEFT, "s.c": LEAVES.replace("work(x)", 'printf("%d", x);fflush(stdout)')}, 0, [], out=True)
-row("procs: warn: variables of the file", "warn p.toml s.c", {"p.toml": LEFT, "s.c": LEAVES.replace("void f(int x)\n{", "int n, some[4], k = 1;\nvoid g(int n)\n{\n    n = 1; some[n]++;\n}\nvoid f(int x)\n{\n    int k;").replace(
-    "work(x)", "k = x; ++n; n += k; g(some[1] == n)")}, 0, [
+row("procs: warn: variables of the file", "warn p.toml s.c", {"p.toml": LEFT, "s.c": LEAVES.replace("void f(int x)\n{", "int n, some[4], k = 1, alone;\nvoid g(int n)\n{\n    n = 1; some[n]++;\n}\nvoid f(int x)\n{\n    int k;").replace(
+    "work(x)", "k = x; ++n; n += k; alone = n; g(some[1] == n)").replace("return 0", "return n + some[0]")}, 0, [
     "s.c:5:12: warning: 'f' runs in a process of its own: that 'some' changes stays there",
     "s.c:11:14: warning: 'f' runs in a process of its own: that 'n' changes stays there"], out=True)
 row("procs: an open behind the call", "warn p.toml s.c", {"p.toml": policy(descriptor("fd"), at("b", never="amb"), head='detached = ["f"]\n', version="2"),
