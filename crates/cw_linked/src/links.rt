@@ -1,9 +1,11 @@
 //! A link that waits no more is taken.
 
-ghost use Rattle.std.specs.Prelude.{◌<◌, length, slice_index, IfOk};
+ghost use Rattle.std.specs.Prelude.{◌<◌, ◌++◌, ◌∷◌, [], length, slice_index, IfOk, OnOk};
 ghost use Rattle.cw_product.specs.Product.{game_of};
 ghost use Rattle.cw_solve.specs.Contexts.{IsNeeded};
 ghost use Rattle.cw_product.specs.Routed.{AreRouted};
+ghost use Rattle.cw_solve.specs.Tables.{AreTabled};
+ghost use Rattle.cw_linked.specs.Added.{IsOpen, AddsContext};
 ghost use Rattle.cw_linked.specs.Links.{NumbersContext, TakesLink};
 ghost use Rattle.cw_linked.specs.Tied.{IsFirm, IsFreed};
 
@@ -13,8 +15,8 @@ use crate::work::{Cell, Work};
 use cw_core::NoMemory;
 use cw_core::limits::CELLS;
 use cw_product::{Game, Turn};
-use cw_solve::Context;
-use cw_solve::table::{numbered, place_of, size};
+use cw_solve::table::{numbered, size};
+use cw_solve::{Context, Places};
 use std::alloc::Global;
 
 /// What comes of a step.
@@ -27,11 +29,31 @@ pub(crate) enum Stepped {
     TooMany(Context),
 }
 
+/// Adds a context, to the places too.
+fn add_placed(
+    alloc: Global,
+    game: &Game,
+    work: &mut Work,
+    places: &mut Places,
+    context: Context,
+) -> Result<(), NoMemory>
+    requires routed { AreRouted (game_of game.now) (length game.now.graph.parts.items) }
+    requires kept { IsOpen (game_of game.now) work.old }
+    requires contexts { AreTabled (game_of game.now) (work.old.table.contexts.items ++ context ∷ []) }
+    ensures { OnOk result (AddsContext (game_of game.now) work.old work.new context) }
+{
+    let function = context.function;
+    add(alloc, game, work, context)?;
+    places.push(function)?;
+    Ok(())
+}
+
 /// The number of a context, which is added if it isn't there; none where its cells are too many.
 fn number_of(
     alloc: Global,
     game: &Game,
     work: &mut Work,
+    places: &mut Places,
     context: &Context,
 ) -> Result<Option<usize>, NoMemory>
     requires routed { AreRouted (game_of game.now) (length game.now.graph.parts.items) }
@@ -39,14 +61,14 @@ fn number_of(
     requires needed { IsNeeded (game_of game.now) context.now }
     ensures { IfOk result (λ number. NumbersContext (game_of game.now) work.old work.new context.now number) }
 {
-    match place_of(&work.table.contexts, context.function, &context.promise) {
+    match places.place_of(&work.table.contexts, context.function, &context.promise) {
         Some(number) => Ok(Some(number)),
         None => {
             let number = work.table.contexts.len();
             if work.table.heights.len() as u32 + size(game, context.function) > CELLS as u32 {
                 return Ok(None);
             }
-            add(alloc, game, work, *context)?;
+            add_placed(alloc, game, work, places, *context)?;
             Ok(Some(number))
         }
     }
@@ -57,6 +79,7 @@ pub(crate) fn take_link(
     alloc: Global,
     game: &Game,
     work: &mut Work,
+    places: &mut Places,
     place: usize,
     link: &Cell,
     moves: u32,
@@ -78,7 +101,7 @@ pub(crate) fn take_link(
         function: callee,
         promise: promise_of(game, &work.table, link, back, split, moves),
     };
-    let Some(number) = number_of(alloc, game, work, &context)? else {
+    let Some(number) = number_of(alloc, game, work, places, &context)? else {
         return Ok(Stepped::TooMany(context));
     };
     let to = numbered(game, &work.table, number);

@@ -23,15 +23,17 @@ use cw_core::NoMemory;
 use cw_links::Store;
 use cw_product::Game;
 use cw_solve::table::{Table, main_context};
-use cw_solve::{Context, SolveFault, Solved};
+use cw_solve::{Context, Places, SolveFault, Solved};
 use std::alloc::{AllocError, Global};
 
-/// Takes what waits under the least key, maybe of the context that is near, which is that of what is taken then.
+/// Takes what waits under the least key, maybe of the context that is near, which is that of what is taken then. The places
+/// have each context that is added.
 fn step(
     alloc: Global,
     game: &Game,
     edges: &Edges,
     work: &mut Work,
+    places: &mut Places,
     near: &mut usize,
 ) -> Result<Stepped, NoMemory>
     requires routed { AreRouted (game_of game.now) (length game.now.graph.parts.items) }
@@ -52,7 +54,7 @@ fn step(
         Popped::Link(place, moves) => {
             let link = cell_by(game, &edges.runs, work, *near, place);
             *near = link.at.number();
-            let stepped = take_link(alloc, game, work, place, &link, moves)?;
+            let stepped = take_link(alloc, game, work, places, place, &link, moves)?;
             Ok(stepped)
         }
     }
@@ -64,6 +66,7 @@ fn steps(
     game: &Game,
     edges: &Edges,
     work: &mut Work,
+    places: &mut Places,
 ) -> Result<Option<Context>, NoMemory>
     requires routed { AreRouted (game_of game.now) (length game.now.graph.parts.items) }
     requires waits { AreWaits (game_of game.now) edges.now.waits }
@@ -74,7 +77,7 @@ fn steps(
 {
     let mut near = 0;
     'steps: loop {
-        match step(alloc, game, edges, work, &mut near)? {
+        match step(alloc, game, edges, work, places, &mut near)? {
             Stepped::Done => return Ok(None),
             Stepped::More => {}
             Stepped::TooMany(context) => return Ok(Some(context)),
@@ -108,13 +111,18 @@ fn begun(alloc: Global, game: &Game) -> Result<Work, NoMemory>
 }
 
 /// What is found in the end; or a context that is needed, where there is no room for it.
-fn solve_work(alloc: Global, game: &Game) -> Result<(Work, Option<Context>), NoMemory>
+fn solve_work(
+    alloc: Global,
+    game: &Game,
+    places: &mut Places,
+) -> Result<(Work, Option<Context>), NoMemory>
     requires routed { AreRouted (game_of game.now) (length game.now.graph.parts.items) }
     ensures { IfOk result (λ end. Ends (game_of game.now) end.0.table end.1) }
 {
     let edges = Edges::make(alloc, game)?;
     let mut work = begun(alloc, game)?;
-    let more = steps(alloc, game, &edges, &mut work)?;
+    places.push(game.main())?;
+    let more = steps(alloc, game, &edges, &mut work, places)?;
     Ok((work, more))
 }
 
@@ -128,13 +136,13 @@ fn longer(table: Table, context: Context) -> Result<Vec<Context>, AllocError>
 }
 
 /// The table of a game.
-fn solve_table(alloc: Global, game: &Game) -> Result<Table, SolveFault>
+fn solve_table(alloc: Global, game: &Game, places: &mut Places) -> Result<Table, SolveFault>
     requires routed { AreRouted (game_of game.now) (length game.now.graph.parts.items) }
     ensures table { IfOk result (λ t. IsTable (game_of game.now) t) }
     ensures done { IfOk result (λ t. IsDone (game_of game.now) t) }
     ensures cause { IfErr result (λ fault. IsCause (game_of game.now) fault) }
 {
-    let Ok((work, more)) = solve_work(alloc, game) else {
+    let Ok((work, more)) = solve_work(alloc, game, places) else {
         return Err(SolveFault::NoMemory);
     };
     match more {
@@ -159,6 +167,7 @@ pub fn solve<'g>(alloc: Global, game: &'g Game<'g>) -> Result<Solved<'g>, SolveF
     ensures few { IfOk result (λ s. cells_of (game_of game.now) s.contexts ≤ 4194304) }
     ensures cause { IfErr result (λ fault. IsCause (game_of game.now) fault) }
 {
-    let table = solve_table(alloc, game)?;
-    Ok(Solved::of(game, table))
+    let mut places = Places::make(alloc);
+    let table = solve_table(alloc, game, &mut places)?;
+    Ok(Solved::of(game, table, places))
 }

@@ -1,6 +1,6 @@
 -- Where moves and calls of a cell lead.
 use Rattle.std.proofs.Common.{◌≡◌, ℕ, suc, ◌+◌, ◌<◌, List, [], Bool, true, false, cond, not, ◌&&◌, ◌||◌, Option, Some, None, length, get_or, refl, sym, ap, ap₂, ◌∙◌, subst, arith}
-use Rattle.std.specs.Prelude.{slice_get, nat_eq, Contains, option_map, position}
+use Rattle.std.specs.Prelude.{slice_get, nat_eq, Contains, option_map, position, IfSome, IfNone}
 use Rattle.std.proofs.lemmas.Bool.{eq-eqb, eqb-true}
 use Rattle.std.proofs.lemmas.Option.{slice_get_within, slice_get-get_or, get_or_from_slice_get, same_Some, none-some}
 use Rattle.std.proofs.lemmas.List.Quantifiers.{position-Some}
@@ -76,17 +76,14 @@ called o true j f n e = ap call_in e
 called o false j f n e = ap call_in e
 
 -- the context with a number, and where none is
-is_context : ℕ → ℕ → Context → Bool
-is_context f e c = nat_eq c.function f && nat_eq c.promise e
+pub the_context : (c : Context) (f e : ℕ) → (nat_eq c.function f && nat_eq c.promise e) ≡ true → c ≡ context f e
+the_context c f e h = let b = both (nat_eq c.function f) (nat_eq c.promise e) h in ap₂ context (eqb-true c.function f b.0) (eqb-true c.promise e b.1)
 
 pub place_is : (contexts : List Context) (f e i : ℕ) → position (λ (c : Context). nat_eq c.function f && nat_eq c.promise e) contexts ≡ Some i → slice_get contexts i ≡ Some (context f e)
 place_is contexts f e i h =
     let d : Context = context f e in
     let s = position-Some (λ (c : Context). nat_eq c.function f && nat_eq c.promise e) contexts i d h in
-    let c : Context = get_or contexts i d in
-    let b = both (nat_eq c.function f) (nat_eq c.promise e) s.1 in
-    let same : c ≡ d = ap₂ context (eqb-true c.function f b.0) (eqb-true c.promise e b.1) in
-    slice_get-get_or contexts i d s.0 ∙ ap (λ (y : Context). Some y) same
+    slice_get-get_or contexts i d s.0 ∙ ap (λ (y : Context). Some y) (the_context (get_or contexts i d) f e s.1)
 
 seeks_all : (p : Context → Bool) (xs : List Context) → position p xs ≡ None → (k : ℕ) (d : Context) → k < length xs → p (get_or xs k d) ≡ false
 seeks_all p xs h k d lt =
@@ -105,6 +102,16 @@ place_none contexts f e h is =
     let some : p (context f e) ≡ true = ap₂ (λ a b. a && b) (eq-eqb f f refl) (eq-eqb e e refl) in
     let z : true ≡ false = sym some ∙ ap p (sym is.2) ∙ none in
     cc
+
+-- the same of what a search answers
+pub place_some : (contexts : List Context) (f e : ℕ) (o : Option ℕ) → o ≡ position (λ (c : Context). nat_eq c.function f && nat_eq c.promise e) contexts → IfSome o (λ i. slice_get contexts i ≡ Some (context f e))
+place_some contexts f e (Some i) h = place_is contexts f e i (sym h)
+place_some contexts f e None h = tt
+
+pub place_lacks : (contexts : List Context) (f e : ℕ) (o : Option ℕ) → o ≡ position (λ (c : Context). nat_eq c.function f && nat_eq c.promise e) contexts
+    → IfNone o (Contains contexts (context f e) → ⊥)
+place_lacks contexts f e (Some i) h = tt
+place_lacks contexts f e None h = place_none contexts f e (sym h)
 
 module _ (g : Game) (functions : ℕ) (routed : AreRouted g functions) (t : Table) (table : IsTable g t) where
   pub cell_within : (at : Tabled) (p q : ℕ) → HasCell g t at p q → p < length g.spots

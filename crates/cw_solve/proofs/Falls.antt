@@ -12,7 +12,7 @@ use Rattle.cw_game.specs.Pairs.{has, Called, call_in, call_spot, kept_at}
 use Rattle.cw_game.proofs.Holding.{holds_rises, lost_rises}
 use Rattle.cw_product.specs.Routed.{IsState, targets, AreRouted, IsOf}
 use Rattle.cw_solve.specs.Contexts.{IsSetOf}
-use Rattle.cw_lemmas.proofs.Truths.{not_both, truths_same as same_bools}
+use Rattle.cw_lemmas.proofs.Truths.{truths_same as same_bools}
 
 -- what stands where there is a call
 pub call_is : (o : Option Spot) (call : Called) → call_in o ≡ Some call → o ≡ Some (call_spot call.split call.seam call.function call.back)

@@ -1,5 +1,5 @@
 -- A game has at most as many cells as positions times states times sets of states: the positions of functions are apart, and a function's contexts differ in their sets.
-use Rattle.std.proofs.Common.{◌≡◌, ℕ, zero, suc, ◌+◌, ◌-◌, ◌*◌, ◌^◌, ◌/◌, ◌%◌, ◌<◌, ◌≤◌, List, [], ◌∷◌, ◌++◌, Bool, true, false, ◌&&◌, nat_eq, Option, Some, None, length, take, map, nat_lt, refl, sym, ap, ◌∙◌, subst, arith, inl, inr}
+use Rattle.std.proofs.Common.{◌≡◌, ℕ, zero, suc, ◌+◌, ◌-◌, ◌*◌, ◌^◌, ◌/◌, ◌%◌, ◌<◌, ◌≤◌, List, [], ◌∷◌, ◌++◌, Bool, false, ◌&&◌, nat_eq, Option, Some, None, length, take, map, refl, sym, ap, ◌∙◌, subst, arith, inl, inr}
 use Rattle.std.specs.Prelude.{slice_get, option_map, sum_by, Contains}
 use Rattle.std.specs.Int.{bit_at}
 use Rattle.std.specs.List.{range_with_len}
@@ -11,22 +11,20 @@ use Rattle.std.proofs.lemmas.List.Elements.{Contains-append_left, Contains-appen
 use Rattle.std.proofs.lemmas.List.FromFn.{length-range_with_len, get_or-range_with_len}
 use Rattle.std.proofs.lemmas.List.Sums.{sum_by-append, sum_by-cons}
 use Rattle.std.proofs.lemmas.Nat.Bits.{bit_at-zero, bit_at-lt, bit_at_cat_high, same_from_bits}
-use Rattle.std.proofs.lemmas.Option.{none-some, same_Some, slice_get_within}
+use Rattle.std.proofs.lemmas.Option.{none-some}
 use Rattle.cw_lemmas.proofs.Lists.{contains_map, get_below}
 use Rattle.cw_lemmas.proofs.Numbers.{zero_mul}
 use Rattle.std.proofs.lemmas.Nat.{mod_below}
 use Rattle.cw_rights.specs.Policies.{PlainPolicy, policy_of}
-use Rattle.cw_syntax.specs.Names.{Names}
-use Rattle.cw_syntax.specs.Trees.{File}
 use Rattle.cw_syntax.specs.Plans.{Routine, plan_of}
 use Rattle.cw_resolve.specs.Scenes.{names_of}
 use Rattle.cw_points.specs.declared.graph.Point.TheVariants as point
 use Rattle.cw_points.specs.declared.graph.Node.{Node}
 use Rattle.cw_points.specs.declared.graph.Part.{Part}
-use Rattle.cw_points.specs.Points.{count_all, count_from}
+use Rattle.cw_points.specs.Points.{count_from}
 use Rattle.cw_points.specs.Graphs.{exit_of, part, nodes, parts_from, splits_of}
 use Rattle.cw_points.specs.Walks.{parts_of}
-use Rattle.cw_positions.specs.Positions.{width, base, to, spots, base_of}
+use Rattle.cw_positions.specs.Positions.{width, base, to, base_of}
 use Rattle.cw_positions.proofs.Begins.{begin_more}
 use Rattle.cw_positions.proofs.Leading.{length_nodes}
 use Rattle.cw_positions.proofs.Lengths.{length_all}
@@ -36,7 +34,7 @@ use Rattle.cw_positions.specs.Origins.{IsOf}
 use Rattle.cw_game.specs.declared.spots.Spot.{Spot}
 use Rattle.cw_game.specs.declared.spots.Spot.TheVariants.{Call, SplitCall}
 use Rattle.cw_game.specs.Games.{Game}
-use Rattle.cw_game.specs.Pairs.{has, all_states, Called, call_in, is_call_in}
+use Rattle.cw_game.specs.Pairs.{all_states, Called, call_in, is_call_in}
 use Rattle.cw_product.specs.Made.{IsMade}
 use Rattle.cw_product.specs.Product.{Held, game_of}
 use Rattle.cw_product.specs.Routed.{AreRouted}

@@ -24,6 +24,10 @@ module _ (h : Held) where
   function_there functions routed are number c e =
       there g functions routed c (are.some.needed c (number, slice_get_within h.contexts number c (sym e), get_or_from_slice_get h.contexts number c c (sym e)))
 
+  -- what stands under a needed promise is a position
+  pub under_position : (functions : ℕ) → AreRouted g functions → (e p : ℕ) → IsUnder g p e → p < length g.spots
+  under_position functions routed e p is = let th = there g functions routed (context is.0 e) is.2 in omega (arith, th.ends, is.1.1)
+
   -- the context that has a position
   pub found_in : (number e p : ℕ) → has_position g p e (slice_get h.contexts number) ≡ true → IsNumberOf g h.contexts number e p
   found_in number e p t = by (slice_get h.contexts number) refl t

@@ -6,6 +6,7 @@ pub mod fault;
 pub mod laws;
 mod look;
 mod number;
+pub mod places;
 mod rounds;
 pub mod solved;
 pub mod table;
@@ -13,4 +14,5 @@ mod tries;
 
 pub use contexts::Context;
 pub use fault::{SolveFault, TableFault};
+pub use places::Places;
 pub use solved::{Solved, solve};

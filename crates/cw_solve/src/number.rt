@@ -15,6 +15,7 @@ fn is_between(first: PosId, pos: PosId, last: PosId) -> bool
 impl<'g> Solved<'g> {
     ghost use Rattle.std.specs.Prelude.{◌≡◌, ◌<◌, slice_get};
     ghost use Rattle.cw_product.specs.Product.{game_of};
+    ghost use Rattle.cw_product.specs.Moves.{IsPosition};
     ghost use Rattle.cw_solve.specs.Numbering.{has_position, IsUnder, IsNumberOf};
 
     /// Whether there is a context of this number, with a position and this promise.
@@ -36,8 +37,20 @@ impl<'g> Solved<'g> {
         }
     }
 
-    /// The number of a context that has a position and this promise, where some needed context has both.
-    pub fn number_of(&self, pos: PosId, promise: &StateSet) -> u32
+    // The function that may have a position.
+    fn function_near(&self, pos: PosId) -> u16
+        requires { IsPosition (game_of self.now.game) pos.0 }
+    {
+        let game = self.game();
+        let point = game.place(pos).point;
+        match game.graph().nodes.get(point.0 as usize) {
+            None => 0,
+            Some(node) => node.function,
+        }
+    }
+
+    // The same as `number_of`, by going over all contexts.
+    fn number_among(&self, pos: PosId, promise: &StateSet) -> u32
         requires under { IsUnder (game_of self.now.game) pos.0 promise.now }
         ensures { IsNumberOf (game_of self.now.game) self.now.contexts result promise.now pos.0 }
     {
@@ -48,5 +61,19 @@ impl<'g> Solved<'g> {
             }
         }
         unreachable!()
+    }
+
+    /// The number of a context that has a position and this promise, where some needed context has both.
+    pub fn number_of(&self, pos: PosId, promise: &StateSet) -> u32
+        requires under { IsUnder (game_of self.now.game) pos.0 promise.now }
+        ensures { IsNumberOf (game_of self.now.game) self.now.contexts result promise.now pos.0 }
+    {
+        self.is_kept();
+        let near = self.number_near(self.function_near(pos), promise);
+        if self.has_position(near, pos, promise) {
+            near
+        } else {
+            self.number_among(pos, promise)
+        }
     }
 }

@@ -8,7 +8,8 @@ ghost use Rattle.cw_solve.specs.Solved.{IsCause};
 
 use crate::contexts::Context;
 use crate::fault::SolveFault;
-use crate::table::{Table, fit, height_in, numbered, place_of, slot};
+use crate::places::Places;
+use crate::table::{Table, fit, height_in, numbered, slot};
 use crate::tries::solve_table;
 use cw_core::{PosId, StateId, StateSet};
 use cw_product::Game;
@@ -20,6 +21,7 @@ use std::marker::Model;
 pub struct Solved<'g> {
     game: &'g Game<'g>,
     table: Table,
+    places: Places,
 }
 
 impl<'g> Model for Solved<'g> {
@@ -53,7 +55,7 @@ pub fn solve<'g>(alloc: Global, game: &'g Game<'g>) -> Result<Solved<'g>, SolveF
     ensures cause { IfErr result (λ fault. IsCause (game_of game.now) fault) }
 {
     let table = solve_table(alloc, game)?;
-    Ok(Solved::of(game, table))
+    Ok(Solved::of(game, table, Places::make(alloc)))
 }
 
 impl<'g> Solved<'g> {
@@ -64,13 +66,17 @@ impl<'g> Solved<'g> {
     ghost use Rattle.cw_solve.specs.Rounds.{slot};
     ghost use Rattle.cw_solve.specs.Solved.{IsKept, IsNumbered, IsHeightIn};
 
-    /// The solved game of a table that is done, for solvers.
-    pub fn of(game: &'g Game<'g>, table: Table) -> Solved<'g>
+    /// The solved game of a table that is done, for solvers. Its contexts are looked for among the places first.
+    pub fn of(game: &'g Game<'g>, table: Table, places: Places) -> Solved<'g>
         requires kept { IsKept game.now table }
         ensures game { result.game ≡ game.now }
         ensures contexts { result.contexts ≡ table.contexts.items }
     {
-        Solved { game, table }
+        Solved {
+            game,
+            table,
+            places,
+        }
     }
 
     // What the value keeps.
@@ -128,9 +134,20 @@ impl<'g> Solved<'g> {
         ensures found { IfSome result (λ i. slice_get self.now.contexts i ≡ Some (context function promise.now)) }
         ensures none { IfNone result (Contains self.now.contexts (context function promise.now) → ⊥) }
     {
-        match place_of(&self.table.contexts, function, promise) {
+        match self
+            .places
+            .place_of(&self.table.contexts, function, promise)
+        {
             Some(number) => Some(number as u32),
             None => None,
+        }
+    }
+
+    // The number of the one context that may be of a function and have this promise.
+    pub(crate) fn number_near(&self, function: u16, promise: &StateSet) -> u32 {
+        match self.places.find(&self.table.contexts, function, promise) {
+            None => 0,
+            Some(number) => number,
         }
     }
 

@@ -1,8 +1,7 @@
-use Rattle.std.proofs.Common.{◌≡◌, ◌++◌, ◌∷◌, [], ◌∙◌, List, length, refl, sym, ap, arith, nat_eq, inl, inr}
-use Rattle.std.specs.Prelude.{slice_get, position, ◌&&◌}
+use Rattle.std.proofs.Common.{◌≡◌, ◌++◌, ◌∷◌, [], ◌∙◌, List, Some, length, refl, ap, subst, arith, inl, inr}
+use Rattle.std.specs.Prelude.{slice_get, Contains}
 use Rattle.cw_product.specs.Product.{game_of}
 use Rattle.cw_solve.specs.declared.contexts.Context.{Context}
-use Rattle.cw_solve.proofs.Calling.{place_is, place_none}
 use Rattle.cw_solve.proofs.Fresh.{longer_tabled}
 use Rattle.cw_solve.proofs.Tabling.{there}
 use Rattle.cw_linked.proofs.Adding.{after_push}
@@ -13,8 +12,7 @@ pub returns-in-Some : goal.returns-in-Some
 returns-in-Some c =
     let d = c.args.context.now in
     record {
-      there = place_is c.args.work.now.table.contexts.items d.function d.promise c.in-Some.number
-          (sym (c.in-Some.ensures.place ∙ ap (position (λ (x : Context). nat_eq x.function d.function && nat_eq x.promise d.promise)) c.deref.ensures.value));
+      there = subst (λ (cs : List Context). slice_get cs c.in-Some.number ≡ Some d) c.deref.ensures.value c.in-Some.ensures.some;
       grows = inl refl;
     }
 
@@ -29,35 +27,33 @@ returns-then-len-size c =
       record {
         missing = record {
           needed = c.requires.needed;
-          new = place_none w.table.contexts.items d.function d.promise (sym (c.in-None.ensures.place
-              ∙ ap (position (λ (x : Context). nat_eq x.function d.function && nat_eq x.promise d.promise)) c.deref.ensures.value));
+          new = subst (λ (cs : List Context). Contains cs d → ⊥) c.deref.ensures.value c.in-None.ensures.none;
         };
         many = omega (arith, c.len.ensures, w.table.heights.ok.0, c.size.ensures.is, c.if-len-size.true);
       },
     )
 
-pub add-requires-clause-kept : goal.add-requires-clause-kept
-add-requires-clause-kept c = firm_open (game_of c.args.game.now) c.args.work.now c.requires.firm
+pub add_placed-requires-clause-kept : goal.add_placed-requires-clause-kept
+add_placed-requires-clause-kept c = firm_open (game_of c.args.game.now) c.args.work.now c.requires.firm
 
-pub add-requires-clause-contexts : goal.add-requires-clause-contexts
-add-requires-clause-contexts c =
+pub add_placed-requires-clause-contexts : goal.add_placed-requires-clause-contexts
+add_placed-requires-clause-contexts c =
     let g = game_of c.args.game.now in
     let w = c.args.work.now in
     let d = c.args.context.now in
-    let new = place_none w.table.contexts.items d.function d.promise (sym (c.in-None.ensures.place
-    ∙ ap (position (λ (x : Context). nat_eq x.function d.function && nat_eq x.promise d.promise)) c.deref.ensures.value)) in
+    let new = subst (λ (cs : List Context). Contains cs d → ⊥) c.deref.ensures.value c.in-None.ensures.none in
     (longer_tabled g (length c.args.game.now.graph.parts.items) c.requires.routed w.table c.requires.firm.table d (record { needed = c.requires.needed; new = new })
     (w.table.contexts.items ++ d ∷ []) refl
     (omega (arith, c.len.ensures, w.table.heights.ok.0, c.size.ensures.is, c.if-len-size.false)) (omega (arith, c.size.ensures.is, c.size.ensures.some))).0
 
-pub returns-in_ok-add-in-None : goal.returns-in_ok-add-in-None
-returns-in_ok-add-in-None c =
+pub returns-in_ok-add_placed-in-None : goal.returns-in_ok-add_placed-in-None
+returns-in_ok-add_placed-in-None c =
     let w = c.args.work.now in
-    let new = c.add.new.work in
+    let new = c.add_placed.new.work in
     let d = c.args.context.now in
     let here : c.len-number.result ≡ length w.table.contexts.items = omega (arith, c.len-number.ensures, w.table.contexts.ok.0) in
     record {
-      there = ap (slice_get new.table.contexts.items) here ∙ ap (λ (cs : List Context). slice_get cs (length w.table.contexts.items)) c.in_ok-add-in-None.ensures.contexts
+      there = ap (slice_get new.table.contexts.items) here ∙ ap (λ (cs : List Context). slice_get cs (length w.table.contexts.items)) c.in_ok-add_placed-in-None.ensures.contexts
           ∙ after_push w.table.contexts.items d;
-      grows = inr c.in_ok-add-in-None.ensures;
+      grows = inr c.in_ok-add_placed-in-None.ensures;
     }

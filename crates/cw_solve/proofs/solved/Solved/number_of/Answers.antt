@@ -1,11 +1,11 @@
-use Rattle.std.proofs.Common.{sym, ◌∙◌, arith}
-use Rattle.cw_solve.proofs.Numbering.{found_in, some_has}
+use Rattle.std.proofs.Common.{length, sym, ◌∙◌}
+use Rattle.cw_solve.proofs.Numbering.{under_position, found_in}
 use Rattle.cw_solve.proofs.solved.Solved.number_of.Goals as goal
 
-pub returns-then-has_position : goal.returns-then-has_position
-returns-then-has_position c = found_in c.args.self.now c.loop-number.number c.args.promise.now c.args.pos.0 (sym c.has_position.ensures ∙ c.if-has_position.true)
+pub function_near-requires : goal.function_near-requires
+function_near-requires c =
+    under_position c.args.self.now (length c.args.self.now.game.graph.parts.items) c.is_kept.ensures.routed c.args.promise.now c.args.pos.0 c.requires.under
 
-pub unreachable-requires : goal.unreachable-requires
-unreachable-requires c =
-    some_has c.args.self.now c.args.promise.now c.args.pos.0 c.is_kept.ensures.needed c.requires.under c.loop-number.number
-    (omega (arith, c.loop-number-test.false, c.contexts-number-end.ensures)) c.loop-number.invariant
+pub returns-then-has_position : goal.returns-then-has_position
+returns-then-has_position c =
+    found_in c.args.self.now c.number_near-near.result c.args.promise.now c.args.pos.0 (sym c.has_position.ensures ∙ c.if-has_position.true)
