@@ -14,7 +14,7 @@ use Rattle.cw_solve.proofs.Still.{holds_call, call_or_not, entry_cell}
 use Rattle.cw_solve.proofs.Written.{reads}
 use Rattle.cw_linked.specs.Founds.{Found, class_of, AreAlike, IsLink, IsTied, height_back, GoesTo, AreRight, tells, IsClosed, IsCalled, AreFound, AreAbove}
 use Rattle.cw_linked.proofs.Leading.{in_same, next_cell}
-use Rattle.std.proofs.lemmas.Bool.{false_from_ne_true as false_of, true_from_ne_false as true_of}
+use Rattle.std.proofs.lemmas.Bool.{true_from_ne_false as true_of}
 
 -- what stands where nothing is left to do
 pub all_of : (A : Type 0) → A ⊎ ⊥ → A

@@ -42,3 +42,4 @@ pub mod Joining
 pub mod Targets
 pub mod Solving
 pub mod Dividing
+pub mod Blocking

@@ -161,6 +161,15 @@ told_none g functions routed alike old table long high right at p q bound = reco
   due = refl;
 }
 
+-- a cell that is taken needn't be asked for
+pub told_taken : (g : Game) (old : Work) → AreLong old → AreHigh old → AreRight g old.table.contexts.items (found_of g old) → (at : Tabled) (p q height : ℕ)
+    → height ≡ heights_of g old.table at.number p q → 0 < height → AsksTold g old old at p q
+told_taken g old long high right at p q height is some = record {
+  step = nothing g old long high right;
+  closed = λ none plain n lost. let z : heights_of g old.table at.number p q ≡ 0 = none in absurd (omega (arith, is, some, z));
+  due = refl;
+}
+
 -- two steps
 pub two_steps : (g : Game) (old mid new : Work) → LowersKeys g old mid → LowersKeys g mid new → LowersKeys g old new
 two_steps g old mid new a b = record {

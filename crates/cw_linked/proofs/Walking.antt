@@ -1,9 +1,8 @@
 -- A walk along a list of links: what is left of it, and its next step.
 use Rattle.std.proofs.Common.{◌≡◌, ◌≢◌, ◌<◌, ℕ, zero, suc, inl, inr, Bool, true, false, List, [], ◌∷◌, ◌++◌, eqb, Option, Some, length, refl, sym, ap, ◌∙◌, subst, arith}
 use Rattle.std.specs.Prelude.{slice_get, if◌then◌else◌}
-use Rattle.std.specs.List.{concat, IsDistinct, AllByRecursion}
+use Rattle.std.specs.List.{concat, IsDistinct}
 use Rattle.std.proofs.lemmas.Bool.{cases_eq, eq-eqb, ne_eqb, eqb-true}
-use Rattle.std.proofs.lemmas.Bool.Decides.{nat_tests}
 use Rattle.std.proofs.lemmas.Option.{none-some}
 use Rattle.cw_links.specs.Lists.{list_at, AreApart}
 use Rattle.cw_links.specs.Rows.{has, Once}

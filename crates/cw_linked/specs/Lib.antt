@@ -15,3 +15,4 @@ pub mod Measures
 pub mod Solving
 pub mod Links
 pub mod Runs
+pub mod Blocks

@@ -6,9 +6,11 @@ ghost use Rattle.cw_product.specs.Moves.{IsPosition};
 ghost use Rattle.cw_product.specs.Routed.{AreRouted, IsOf};
 ghost use Rattle.cw_solve.specs.Tables.{IsTable, IsTabled};
 ghost use Rattle.cw_linked.specs.Added.{AllOf, Each, loss_begins_in, HasNoHeights, AsksCells};
+ghost use Rattle.cw_linked.specs.Blocks.{IsBlock};
 ghost use Rattle.cw_linked.specs.Founds.{AreRight};
 ghost use Rattle.cw_linked.specs.Queues.{found_of, AreLong, AreHigh};
 
+use crate::block::{Block, block_of};
 use crate::told::ask_told;
 use crate::work::Work;
 use cw_core::{NoMemory, PosId, StateId};
@@ -28,10 +30,17 @@ fn loss_begins(game: &Game, pos: PosId) -> bool
 }
 
 /// Asks for the cells at a position of a context of which none has a height.
-fn ask_position(game: &Game, work: &mut Work, at: &Tabled, pos: PosId) -> Result<(), NoMemory>
+fn ask_position(
+    game: &Game,
+    work: &mut Work,
+    at: &Tabled,
+    block: &Block,
+    pos: PosId,
+) -> Result<(), NoMemory>
     requires routed { AreRouted (game_of game.now) (length game.now.graph.parts.items) }
     requires table { IsTable (game_of game.now) work.old.table }
     requires tabled { IsTabled work.old.table at.now }
+    requires block { IsBlock (game_of game.now) work.old.table at.now block.now }
     requires of { IsOf (game_of game.now) at.now.context.function pos.0 }
     requires long { AreLong work.old }
     requires high { AreHigh work.old }
@@ -43,7 +52,7 @@ fn ask_position(game: &Game, work: &mut Work, at: &Tabled, pos: PosId) -> Result
         return Ok(());
     }
     for x in 0..game.states() {
-        ask_told(game, work, at, pos, StateId(x))?;
+        ask_told(game, work, at, block, pos, StateId(x))?;
     }
     Ok(())
 }
@@ -59,9 +68,10 @@ pub(crate) fn ask_all(game: &Game, work: &mut Work, at: &Tabled) -> Result<(), N
     requires fresh { HasNoHeights (game_of game.now) work.old.table at.now }
     ensures { OnOk result (AsksCells (game_of game.now) work.old work.new at.now.number at.now.context Each) }
 {
+    let block = block_of(game, &work.table, at);
     let function = at.function();
     for p in game.entry(function).0..game.exit(function).0 + 1 {
-        ask_position(game, work, at, PosId(p))?;
+        ask_position(game, work, at, &block, PosId(p))?;
     }
     Ok(())
 }

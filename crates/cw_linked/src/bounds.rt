@@ -1,6 +1,7 @@
 //! What the heights that are taken tell of a cell.
 
 ghost use Rattle.std.specs.Prelude.{◌≡◌, ◌⊎◌, ℕ, suc, false, true, ◌+◌, ◌≤◌, ◌&&◌, ◌||◌, nat_eq, Some, length, slice_get};
+ghost use Rattle.cw_game.specs.Games.{weavers_in};
 ghost use Rattle.cw_game.specs.Pairs.{has, is_call_in};
 ghost use Rattle.cw_product.specs.Product.{game_of};
 ghost use Rattle.cw_product.specs.Moves.{IsState, next_at};
@@ -8,21 +9,72 @@ ghost use Rattle.cw_solve.specs.Asking.{holds_after, holds_by_moves};
 ghost use Rattle.cw_product.specs.Routed.{AreRouted};
 ghost use Rattle.cw_solve.specs.Rounds.{holds_by};
 ghost use Rattle.cw_solve.specs.Tables.{IsTable, IsTabled, HasCell};
+ghost use Rattle.cw_linked.specs.Blocks.{IsBlock};
 ghost use Rattle.cw_linked.specs.Founds.{told};
 ghost use Rattle.cw_linked.specs.Steps.{IsBound};
 ghost use Rattle.cw_linked.specs.Works.{heights_of, AreUpTo};
 
+use crate::block::{Block, place_in};
 use cw_certs::Move;
 use cw_core::{PosId, StateId};
 use cw_game::Spot;
 use cw_product::Game;
-use cw_solve::table::{Table, Tabled, slot};
+use cw_solve::table::{Table, Tabled};
+
+/// The height that is taken of a cell, 0 where none is.
+#[inline(always)]
+pub(crate) fn height_in(
+    game: &Game,
+    table: &Table,
+    at: &Tabled,
+    block: &Block,
+    pos: PosId,
+    state: StateId,
+) -> u32
+    requires routed { AreRouted (game_of game.now) (length game.now.graph.parts.items) }
+    requires table { IsTable (game_of game.now) table.now }
+    requires cell { HasCell (game_of game.now) table.now at.now pos.0 state.0 }
+    requires block { IsBlock (game_of game.now) table.now at.now block.now }
+    ensures is { result ≡ heights_of (game_of game.now) table.now at.now.number pos.0 state.0 }
+    ensures most { (most : ℕ) → AreUpTo table.now.heights.items most → result ≤ most }
+{
+    table.heights[place_in(game, table, at, block, pos, state)]
+}
+
+/// The height of the pair to which a move leads that keeps the state, where it is known to which position.
+#[inline(always)]
+fn height_to(
+    game: &Game,
+    table: &Table,
+    at: &Tabled,
+    block: &Block,
+    pos: PosId,
+    state: StateId,
+    by: Move,
+    to: u32,
+) -> u32
+    requires routed { AreRouted (game_of game.now) (length game.now.graph.parts.items) }
+    requires table { IsTable (game_of game.now) table.now }
+    requires cell { HasCell (game_of game.now) table.now at.now pos.0 state.0 }
+    requires block { IsBlock (game_of game.now) table.now at.now block.now }
+    requires leads { next_at (game_of game.now) pos.0 state.0 by ≡ Some (to, state.0) }
+    requires high { AreUpTo table.now.heights.items 4194304 }
+    ensures tells { (n : ℕ) → holds_by n result ≡ holds_after (told (heights_of (game_of game.now) table.now) at.now.number n) (has at.now.context.promise)
+        (next_at (game_of game.now) pos.0 state.0 by) }
+    ensures high { result ≤ 4194304 }
+    ensures most { (most : ℕ) → AreUpTo table.now.heights.items most → result ≤ most }
+{
+    let _ = pos;
+    let _ = by;
+    height_in(game, table, at, block, PosId(to), state)
+}
 
 /// The height of the pair to which a move leads, 0 where none is taken or the move isn't there.
 fn height_after(
     game: &Game,
     table: &Table,
     at: &Tabled,
+    block: &Block,
     pos: PosId,
     state: StateId,
     by: Move,
@@ -30,6 +82,7 @@ fn height_after(
     requires routed { AreRouted (game_of game.now) (length game.now.graph.parts.items) }
     requires table { IsTable (game_of game.now) table.now }
     requires cell { HasCell (game_of game.now) table.now at.now pos.0 state.0 }
+    requires block { IsBlock (game_of game.now) table.now at.now block.now }
     requires high { AreUpTo table.now.heights.items 4194304 }
     ensures tells { (n : ℕ) → holds_by n result ≡ holds_after (told (heights_of (game_of game.now) table.now) at.now.number n) (has at.now.context.promise)
         (next_at (game_of game.now) pos.0 state.0 by) }
@@ -38,7 +91,7 @@ fn height_after(
 {
     match game.next(pos, state, by) {
         None => 0,
-        Some((pos, state)) => table.heights[slot(game, table, at, pos, state)],
+        Some((pos, state)) => height_in(game, table, at, block, pos, state),
     }
 }
 
@@ -75,12 +128,87 @@ fn either(a: u32, b: u32) -> u32
     }
 }
 
+/// One more than the height of the pair to which a step leads.
+#[inline(always)]
+fn step_bound(
+    game: &Game,
+    table: &Table,
+    at: &Tabled,
+    block: &Block,
+    pos: PosId,
+    state: StateId,
+    next: u32,
+) -> u32
+    requires routed { AreRouted (game_of game.now) (length game.now.graph.parts.items) }
+    requires table { IsTable (game_of game.now) table.now }
+    requires cell { HasCell (game_of game.now) table.now at.now pos.0 state.0 }
+    requires block { IsBlock (game_of game.now) table.now at.now block.now }
+    requires step { slice_get (game_of game.now).spots pos.0 ≡ Some (Spot.Step next) }
+    requires high { AreUpTo table.now.heights.items 4194304 }
+    ensures tells { (n : ℕ) → holds_by (suc n) result ≡ holds_by_moves (game_of game.now) (told (heights_of (game_of game.now) table.now) at.now.number n) pos.0 state.0
+        (has at.now.context.promise) (slice_get (game_of game.now).spots pos.0) }
+    ensures high { (most : ℕ) → AreUpTo table.now.heights.items most → result ≤ most + 1 }
+{
+    one_more(height_to(game, table, at, block, pos, state, Move::On, next))
+}
+
+/// One more than the greater of the heights of the pairs to which a visit leads.
+fn visit_bound(
+    game: &Game,
+    table: &Table,
+    at: &Tabled,
+    block: &Block,
+    pos: PosId,
+    state: StateId,
+) -> u32
+    requires routed { AreRouted (game_of game.now) (length game.now.graph.parts.items) }
+    requires table { IsTable (game_of game.now) table.now }
+    requires cell { HasCell (game_of game.now) table.now at.now pos.0 state.0 }
+    requires block { IsBlock (game_of game.now) table.now at.now block.now }
+    requires visit { weavers_in (slice_get (game_of game.now).spots pos.0) ≡ true }
+    requires high { AreUpTo table.now.heights.items 4194304 }
+    ensures tells { (n : ℕ) → holds_by (suc n) result ≡ holds_by_moves (game_of game.now) (told (heights_of (game_of game.now) table.now) at.now.number n) pos.0 state.0
+        (has at.now.context.promise) (slice_get (game_of game.now).spots pos.0) }
+    ensures high { (most : ℕ) → AreUpTo table.now.heights.items most → result ≤ most + 1 }
+{
+    let skip = height_to(game, table, at, block, pos, state, Move::Skip, pos.0 + 2);
+    let tried = height_to(game, table, at, block, pos, state, Move::Try, pos.0 + 1);
+    both(skip, tried)
+}
+
+/// One more than the lesser of the heights of the pairs to which a condition leads.
+fn branch_bound(
+    game: &Game,
+    table: &Table,
+    at: &Tabled,
+    block: &Block,
+    pos: PosId,
+    state: StateId,
+    left: u32,
+    right: u32,
+) -> u32
+    requires routed { AreRouted (game_of game.now) (length game.now.graph.parts.items) }
+    requires table { IsTable (game_of game.now) table.now }
+    requires cell { HasCell (game_of game.now) table.now at.now pos.0 state.0 }
+    requires block { IsBlock (game_of game.now) table.now at.now block.now }
+    requires branch { slice_get (game_of game.now).spots pos.0 ≡ Some (Spot.Branch left right) }
+    requires high { AreUpTo table.now.heights.items 4194304 }
+    ensures tells { (n : ℕ) → holds_by (suc n) result ≡ holds_by_moves (game_of game.now) (told (heights_of (game_of game.now) table.now) at.now.number n) pos.0 state.0
+        (has at.now.context.promise) (slice_get (game_of game.now).spots pos.0) }
+    ensures high { (most : ℕ) → AreUpTo table.now.heights.items most → result ≤ most + 1 }
+{
+    let first = height_to(game, table, at, block, pos, state, Move::Left, left);
+    let second = height_to(game, table, at, block, pos, state, Move::Right, right);
+    either(first, second)
+}
+
 /// The number of moves within which the taken heights tell that a pair that is no call and no exit, and isn't bad, is lost;
 /// 0 where they don't.
 fn moves_bound(
     game: &Game,
     table: &Table,
     at: &Tabled,
+    block: &Block,
     pos: PosId,
     state: StateId,
     spot: Spot,
@@ -88,17 +216,21 @@ fn moves_bound(
     requires routed { AreRouted (game_of game.now) (length game.now.graph.parts.items) }
     requires table { IsTable (game_of game.now) table.now }
     requires cell { HasCell (game_of game.now) table.now at.now pos.0 state.0 }
+    requires block { IsBlock (game_of game.now) table.now at.now block.now }
     requires spot { Some spot ≡ slice_get (game_of game.now).spots pos.0 }
     requires high { AreUpTo table.now.heights.items 4194304 }
     ensures tells { (n : ℕ) → holds_by (suc n) result ≡ holds_by_moves (game_of game.now) (told (heights_of (game_of game.now) table.now) at.now.number n) pos.0 state.0
         (has at.now.context.promise) (slice_get (game_of game.now).spots pos.0) }
     ensures high { (most : ℕ) → AreUpTo table.now.heights.items most → result ≤ most + 1 }
 {
-    let after = |by: Move| height_after(game, table, at, pos, state, by);
+    let after = |by: Move| height_after(game, table, at, block, pos, state, by);
     match spot {
-        Spot::Visit(_, _, _) => both(after(Move::Skip), after(Move::Try)),
+        Spot::Visit(_, _, _) => visit_bound(game, table, at, block, pos, state),
+        Spot::Step(next) => step_bound(game, table, at, block, pos, state, next),
+        Spot::Branch(left, right) => {
+            branch_bound(game, table, at, block, pos, state, left, right)
+        }
         Spot::Asked(_, _, _) => either(after(Move::Grant), after(Move::Refuse)),
-        Spot::Branch(_, _) => either(after(Move::Left), after(Move::Right)),
         Spot::Open(_, _, _) => either(after(Move::Opened), after(Move::Failed)),
         _ => one_more(after(Move::On)),
     }
@@ -122,10 +254,18 @@ fn exit_bound(game: &Game, table: &Table, at: &Tabled, function: u32, state: Sta
 
 /// The number of moves within which the taken heights tell that a pair that is no call is lost; 0 where they don't, and at
 /// a call.
-pub(crate) fn bound(game: &Game, table: &Table, at: &Tabled, pos: PosId, state: StateId) -> u32
+pub(crate) fn bound(
+    game: &Game,
+    table: &Table,
+    at: &Tabled,
+    block: &Block,
+    pos: PosId,
+    state: StateId,
+) -> u32
     requires routed { AreRouted (game_of game.now) (length game.now.graph.parts.items) }
     requires table { IsTable (game_of game.now) table.now }
     requires cell { HasCell (game_of game.now) table.now at.now pos.0 state.0 }
+    requires block { IsBlock (game_of game.now) table.now at.now block.now }
     requires high { AreUpTo table.now.heights.items 4194304 }
     ensures told { is_call_in (slice_get (game_of game.now).spots pos.0) ≡ false
         → IsBound (game_of game.now) (heights_of (game_of game.now) table.now) at.now.number pos.0 state.0 at.now.context.promise result }
@@ -140,9 +280,9 @@ pub(crate) fn bound(game: &Game, table: &Table, at: &Tabled, pos: PosId, state: 
             if game.bad(pos, state) {
                 1
             } else {
-                moves_bound(game, table, at, pos, state, spot)
+                moves_bound(game, table, at, block, pos, state, spot)
             }
         }
-        _ => moves_bound(game, table, at, pos, state, spot),
+        _ => moves_bound(game, table, at, block, pos, state, spot),
     }
 }

@@ -4,6 +4,7 @@ ghost use Rattle.std.specs.Prelude.{◌≡◌, ◌<◌, length, OnOk};
 ghost use Rattle.cw_product.specs.Product.{game_of};
 ghost use Rattle.cw_product.specs.Routed.{AreRouted};
 ghost use Rattle.cw_solve.specs.Tables.{IsTable, HasCell};
+ghost use Rattle.cw_linked.specs.Blocks.{IsBlock};
 ghost use Rattle.cw_linked.specs.Calls.{AreCallers, AsksCallers};
 ghost use Rattle.cw_linked.specs.Founds.{AreRight, AllCalled};
 ghost use Rattle.cw_linked.specs.Popped.{IsTaken, Finishes};
@@ -13,6 +14,7 @@ ghost use Rattle.cw_linked.specs.Steps.{CallsThere};
 ghost use Rattle.cw_linked.specs.Waiting.{AreWaits};
 ghost use Rattle.cw_linked.specs.Works.{heights_of};
 
+use crate::block::Block;
 use crate::calls::ask_callers;
 use crate::edges::Edges;
 use crate::returns::ask_returns;
@@ -22,10 +24,17 @@ use cw_core::NoMemory;
 use cw_product::Game;
 
 /// Asks for the calls whose link goes to the context of the cell, if it is one of the context's entry.
-fn ask_entry(game: &Game, work: &mut Work, cell: &Cell, height: u32) -> Result<(), NoMemory>
+fn ask_entry(
+    game: &Game,
+    work: &mut Work,
+    cell: &Cell,
+    block: &Block,
+    height: u32,
+) -> Result<(), NoMemory>
     requires routed { AreRouted (game_of game.now) (length game.now.graph.parts.items) }
     requires table { IsTable (game_of game.now) work.old.table }
     requires cell { HasCell (game_of game.now) work.old.table cell.now.at cell.now.pos.0 cell.now.state.0 }
+    requires block { IsBlock (game_of game.now) work.old.table cell.now.at block.now }
     requires taken { heights_of (game_of game.now) work.old.table cell.now.at.number cell.now.pos.0 cell.now.state.0 ≡ height }
     requires some { 0 < height }
     requires callers { AreCallers work.old }
@@ -37,7 +46,7 @@ fn ask_entry(game: &Game, work: &mut Work, cell: &Cell, height: u32) -> Result<(
         (CallsThere (game_of game.now) (found_of (game_of game.now) work.old) cell.now.at.number cell.now.pos.0 cell.now.state.0) }
     ensures { OnOk result (AsksCallers (game_of game.now) work.old work.new) }
 {
-    if cell.pos.0 == game.entry(cell.at.function()).0 {
+    if cell.pos.0 == block.first {
         ask_callers(game, work, cell, height)
     } else {
         Ok(())
@@ -50,16 +59,18 @@ pub(crate) fn finish(
     edges: &Edges,
     work: &mut Work,
     cell: &Cell,
+    block: &Block,
     height: u32,
 ) -> Result<(), NoMemory>
     requires routed { AreRouted (game_of game.now) (length game.now.graph.parts.items) }
     requires waits { AreWaits (game_of game.now) edges.now.waits }
     requires returns { AreReturns (game_of game.now) edges.now.returns }
     requires taken { IsTaken (game_of game.now) work.old cell.now height }
+    requires block { IsBlock (game_of game.now) work.old.table cell.now.at block.now }
     ensures { OnOk result (Finishes (game_of game.now) work.old work.new work.old.store.to) }
 {
-    ask_waiting(game, &edges.waits, work, cell)?;
-    ask_entry(game, work, cell, height)?;
+    ask_waiting(game, &edges.waits, work, cell, block)?;
+    ask_entry(game, work, cell, block, height)?;
     ask_returns(game, &edges.returns, work, cell, height)?;
     Ok(())
 }

@@ -3,6 +3,7 @@
 
 mod added;
 mod asked;
+mod block;
 mod bounds;
 mod calls;
 mod cells;

@@ -1,21 +1,22 @@
 //! One more context: its cells and its links.
 
-ghost use Rattle.std.specs.Prelude.{◌≡◌, ◌≤◌, ◌<◌, ◌+◌, true, Some, length, slice_get, OnOk, IfOk};
-ghost use Rattle.cw_game.specs.Pairs.{Called, call_in};
+ghost use Rattle.std.specs.Prelude.{◌≡◌, ℕ, ◌≤◌, ◌<◌, ◌+◌, true, false, Some, length, slice_get, OnOk, IfOk};
+ghost use Rattle.cw_game.specs.Pairs.{Called, call_in, is_call_in};
 ghost use Rattle.cw_product.specs.Product.{game_of};
 ghost use Rattle.cw_product.specs.Moves.{IsPosition, IsState};
 ghost use Rattle.cw_solve.specs.Contexts.{size};
 ghost use Rattle.cw_solve.specs.Rounds.{positions};
-ghost use Rattle.cw_product.specs.Routed.{IsThere, AreRouted};
+ghost use Rattle.cw_product.specs.Routed.{IsThere, AreRouted, IsOf};
 ghost use Rattle.cw_linked.specs.Added.{PushesPlaces, PushesNext, PushesContext, MarksState, MarksLinks};
 ghost use Rattle.cw_linked.specs.Founds.{class_of};
 
-use crate::calls::class_at;
+use crate::calls::{class_at, is_call};
 use crate::work::Work;
 use cw_core::{NoMemory, PosId, StateId};
 use cw_links::Store;
 use cw_product::Game;
 use cw_solve::Context;
+use cw_solve::table::size;
 
 /// Whether a link stands at a position and a state: a call, and the state that stands for those that are alike there.
 fn is_link(game: &Game, pos: PosId, state: StateId) -> bool
@@ -70,8 +71,36 @@ fn push_state(game: &Game, store: &mut Store, function: u16, state: StateId) -> 
     Ok(())
 }
 
-/// Adds the places of a function, of which nothing waits.
-pub(crate) fn push_places(game: &Game, store: &mut Store, function: u16) -> Result<(), NoMemory>
+/// Whether a call stands at a position of a function.
+fn has_calls(game: &Game, function: u16) -> bool
+    requires routed { AreRouted (game_of game.now) (length game.now.graph.parts.items) }
+    requires there { IsThere (game_of game.now) (length game.now.graph.parts.items) function }
+    ensures { result ≡ false → (p : ℕ) → IsOf (game_of game.now) function p → is_call_in (slice_get (game_of game.now).spots p) ≡ false }
+{
+    for p in game.entry(function).0..game.exit(function).0 + 1 {
+        if is_call(game, PosId(p)) {
+            return true;
+        }
+    }
+    false
+}
+
+/// Adds the places of a function without calls, of which nothing waits and none is a link.
+fn push_plain(game: &Game, store: &mut Store, function: u16) -> Result<(), NoMemory>
+    requires routed { AreRouted (game_of game.now) (length game.now.graph.parts.items) }
+    requires there { IsThere (game_of game.now) (length game.now.graph.parts.items) function }
+    requires few { length store.old.marks + size (game_of game.now) function ≤ 4194304 }
+    requires plain { (p : ℕ) → IsOf (game_of game.now) function p → is_call_in (slice_get (game_of game.now).spots p) ≡ false }
+    ensures places { OnOk result (PushesPlaces store.old store.new (size (game_of game.now) function)) }
+    ensures marked { OnOk result (MarksLinks (game_of game.now) store.old.marks store.new.marks function (size (game_of game.now) function)) }
+{
+    let many = size(game, function);
+    store.push_plain(many)?;
+    Ok(())
+}
+
+/// Adds the places of a function state by state, of which nothing waits.
+fn push_states(game: &Game, store: &mut Store, function: u16) -> Result<(), NoMemory>
     requires routed { AreRouted (game_of game.now) (length game.now.graph.parts.items) }
     requires there { IsThere (game_of game.now) (length game.now.graph.parts.items) function }
     requires few { length store.old.marks + size (game_of game.now) function ≤ 4194304 }
@@ -82,6 +111,20 @@ pub(crate) fn push_places(game: &Game, store: &mut Store, function: u16) -> Resu
         push_state(game, store, function, StateId(x))?;
     }
     Ok(())
+}
+
+/// Adds the places of a function, of which nothing waits.
+pub(crate) fn push_places(game: &Game, store: &mut Store, function: u16) -> Result<(), NoMemory>
+    requires routed { AreRouted (game_of game.now) (length game.now.graph.parts.items) }
+    requires there { IsThere (game_of game.now) (length game.now.graph.parts.items) function }
+    requires few { length store.old.marks + size (game_of game.now) function ≤ 4194304 }
+    ensures places { OnOk result (PushesPlaces store.old store.new (size (game_of game.now) function)) }
+    ensures marked { OnOk result (MarksLinks (game_of game.now) store.old.marks store.new.marks function (size (game_of game.now) function)) }
+{
+    if has_calls(game, function) {
+        return push_states(game, store, function);
+    }
+    push_plain(game, store, function)
 }
 
 /// Adds a context with so many cells, of which none has a height, beside the store.

@@ -14,6 +14,7 @@ ghost use Rattle.cw_linked.specs.Solving.{IsBlankWork, Steps, Ends};
 ghost use Rattle.cw_linked.specs.Waiting.{AreWaits};
 
 use crate::added::add;
+use crate::block::block_by;
 use crate::cells::finish;
 use crate::edges::Edges;
 use crate::links::{Stepped, take_link};
@@ -47,8 +48,9 @@ fn step(
         Popped::Nothing => Ok(Stepped::Done),
         Popped::Cell(place, height) => {
             let cell = cell_by(game, &edges.runs, work, *near, place);
+            let block = block_by(game, &edges.runs, &work.table, &cell.at);
             *near = cell.at.number();
-            finish(game, edges, work, &cell, height)?;
+            finish(game, edges, work, &cell, &block, height)?;
             Ok(Stepped::More)
         }
         Popped::Link(place, moves) => {

@@ -4,36 +4,65 @@ ghost use Rattle.std.specs.Prelude.{length, OnOk};
 ghost use Rattle.cw_product.specs.Product.{game_of};
 ghost use Rattle.cw_product.specs.Routed.{AreRouted};
 ghost use Rattle.cw_solve.specs.Tables.{IsTable, HasCell};
+ghost use Rattle.cw_linked.specs.Blocks.{IsBlock};
 ghost use Rattle.cw_linked.specs.Founds.{AreRight};
 ghost use Rattle.cw_linked.specs.Queues.{found_of, AreLong, AreHigh, AsksTold};
 
-use crate::bounds::bound;
+use crate::block::{Block, place_in};
+use crate::bounds::{bound, height_in};
 use crate::work::{Work, ask_cell};
 use cw_core::{NoMemory, PosId, StateId};
 use cw_product::Game;
-use cw_solve::table::{Tabled, slot};
+use cw_solve::table::Tabled;
 
-/// Asks for a cell that is no call, where the taken heights tell that it is lost.
-pub(crate) fn ask_told(
+/// Asks for a cell that is no call, which may have no height yet, where the taken heights tell that it is lost.
+fn ask_bound(
     game: &Game,
     work: &mut Work,
     at: &Tabled,
+    block: &Block,
     pos: PosId,
     state: StateId,
 ) -> Result<(), NoMemory>
     requires routed { AreRouted (game_of game.now) (length game.now.graph.parts.items) }
     requires table { IsTable (game_of game.now) work.old.table }
     requires cell { HasCell (game_of game.now) work.old.table at.now pos.0 state.0 }
+    requires block { IsBlock (game_of game.now) work.old.table at.now block.now }
     requires long { AreLong work.old }
     requires high { AreHigh work.old }
     requires right { AreRight (game_of game.now) work.old.table.contexts.items (found_of (game_of game.now) work.old) }
     ensures { OnOk result (AsksTold (game_of game.now) work.old work.new at.now pos.0 state.0) }
 {
-    let within = bound(game, &work.table, at, pos, state);
+    let within = bound(game, &work.table, at, block, pos, state);
     if within == 0 {
         return Ok(());
     }
-    let place = slot(game, &work.table, at, pos, state);
+    let place = place_in(game, &work.table, at, block, pos, state);
     ask_cell(work, place, 2 * within)?;
+    Ok(())
+}
+
+/// Asks for a cell that is no call, where the taken heights tell that it is lost. One that has its height needn't be looked at.
+pub(crate) fn ask_told(
+    game: &Game,
+    work: &mut Work,
+    at: &Tabled,
+    block: &Block,
+    pos: PosId,
+    state: StateId,
+) -> Result<(), NoMemory>
+    requires routed { AreRouted (game_of game.now) (length game.now.graph.parts.items) }
+    requires table { IsTable (game_of game.now) work.old.table }
+    requires cell { HasCell (game_of game.now) work.old.table at.now pos.0 state.0 }
+    requires block { IsBlock (game_of game.now) work.old.table at.now block.now }
+    requires long { AreLong work.old }
+    requires high { AreHigh work.old }
+    requires right { AreRight (game_of game.now) work.old.table.contexts.items (found_of (game_of game.now) work.old) }
+    ensures { OnOk result (AsksTold (game_of game.now) work.old work.new at.now pos.0 state.0) }
+{
+    let height = height_in(game, &work.table, at, block, pos, state);
+    if height == 0 {
+        return ask_bound(game, work, at, block, pos, state);
+    }
     Ok(())
 }

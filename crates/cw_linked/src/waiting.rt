@@ -5,11 +5,13 @@ ghost use Rattle.cw_product.specs.Product.{game_of};
 ghost use Rattle.cw_product.specs.Moves.{IsPosition, IsState};
 ghost use Rattle.cw_product.specs.Routed.{AreRouted, IsOf};
 ghost use Rattle.cw_solve.specs.Tables.{IsTable, HasCell};
+ghost use Rattle.cw_linked.specs.Blocks.{IsBlock};
 ghost use Rattle.cw_linked.specs.Founds.{AreRight, AllClosed};
 ghost use Rattle.cw_linked.specs.Queues.{found_of, AreLong, AreHigh, AsksPair, AsksWaiting};
 ghost use Rattle.cw_linked.specs.Steps.{WaitsFor};
 ghost use Rattle.cw_linked.specs.Waiting.{pair_number, AreSources, AreChanges, AreWaits, ChangesFor, AsksSources};
 
+use crate::block::{Block, is_in};
 use crate::edges::{Changes, Pair, Waits};
 use crate::told::ask_told;
 use crate::work::{Cell, Work};
@@ -39,18 +41,25 @@ pub(crate) fn is_of(game: &Game, at: &Tabled, pos: PosId) -> bool
 }
 
 /// Asks for a pair, where it is one of the cell's function.
-fn ask_pair(game: &Game, work: &mut Work, cell: &Cell, pair: Pair) -> Result<(), NoMemory>
+fn ask_pair(
+    game: &Game,
+    work: &mut Work,
+    cell: &Cell,
+    block: &Block,
+    pair: Pair,
+) -> Result<(), NoMemory>
     requires routed { AreRouted (game_of game.now) (length game.now.graph.parts.items) }
     requires table { IsTable (game_of game.now) work.old.table }
     requires cell { HasCell (game_of game.now) work.old.table cell.now.at cell.now.pos.0 cell.now.state.0 }
+    requires block { IsBlock (game_of game.now) work.old.table cell.now.at block.now }
     requires state { IsState (game_of game.now) pair.state.0 }
     requires long { AreLong work.old }
     requires high { AreHigh work.old }
     requires right { AreRight (game_of game.now) work.old.table.contexts.items (found_of (game_of game.now) work.old) }
     ensures { OnOk result (AsksPair (game_of game.now) work.old work.new cell.now pair) }
 {
-    if is_of(game, &cell.at, pair.pos) {
-        ask_told(game, work, &cell.at, pair.pos, pair.state)?;
+    if is_in(game, &work.table, &cell.at, block, pair.pos) {
+        ask_told(game, work, &cell.at, block, pair.pos, pair.state)?;
         Ok(())
     } else {
         Ok(())
@@ -63,11 +72,13 @@ fn ask_sources(
     sources: &Chains<PosId>,
     work: &mut Work,
     cell: &Cell,
+    block: &Block,
 ) -> Result<(), NoMemory>
     requires routed { AreRouted (game_of game.now) (length game.now.graph.parts.items) }
     requires sources { AreSources (game_of game.now) sources.now }
     requires table { IsTable (game_of game.now) work.old.table }
     requires cell { HasCell (game_of game.now) work.old.table cell.now.at cell.now.pos.0 cell.now.state.0 }
+    requires block { IsBlock (game_of game.now) work.old.table cell.now.at block.now }
     requires long { AreLong work.old }
     requires high { AreHigh work.old }
     requires right { AreRight (game_of game.now) work.old.table.contexts.items (found_of (game_of game.now) work.old) }
@@ -81,7 +92,7 @@ fn ask_sources(
             pos: *sources.get(edge),
             state: cell.state,
         };
-        ask_pair(game, work, cell, waiting)?;
+        ask_pair(game, work, cell, block, waiting)?;
         next = sources.next(edge);
     }
     Ok(())
@@ -96,11 +107,18 @@ fn is_marked(changes: &Changes, pos: PosId) -> bool
 }
 
 /// Asks for the pairs of the same context that lead to a cell and may change the state.
-fn ask_changes(game: &Game, changes: &Changes, work: &mut Work, cell: &Cell) -> Result<(), NoMemory>
+fn ask_changes(
+    game: &Game,
+    changes: &Changes,
+    work: &mut Work,
+    cell: &Cell,
+    block: &Block,
+) -> Result<(), NoMemory>
     requires routed { AreRouted (game_of game.now) (length game.now.graph.parts.items) }
     requires changes { AreChanges (game_of game.now) changes.now }
     requires table { IsTable (game_of game.now) work.old.table }
     requires cell { HasCell (game_of game.now) work.old.table cell.now.at cell.now.pos.0 cell.now.state.0 }
+    requires block { IsBlock (game_of game.now) work.old.table cell.now.at block.now }
     requires long { AreLong work.old }
     requires high { AreHigh work.old }
     requires right { AreRight (game_of game.now) work.old.table.contexts.items (found_of (game_of game.now) work.old) }
@@ -113,7 +131,7 @@ fn ask_changes(game: &Game, changes: &Changes, work: &mut Work, cell: &Cell) -> 
     }
     let mut next = changes.pairs.first(pair_number(game, cell.pos, cell.state));
     'walk: while let Some(edge) = next {
-        ask_pair(game, work, cell, *changes.pairs.get(edge))?;
+        ask_pair(game, work, cell, block, *changes.pairs.get(edge))?;
         next = changes.pairs.next(edge);
     }
     Ok(())
@@ -125,11 +143,13 @@ pub(crate) fn ask_waiting(
     waits: &Waits,
     work: &mut Work,
     cell: &Cell,
+    block: &Block,
 ) -> Result<(), NoMemory>
     requires routed { AreRouted (game_of game.now) (length game.now.graph.parts.items) }
     requires waits { AreWaits (game_of game.now) waits.now }
     requires table { IsTable (game_of game.now) work.old.table }
     requires cell { HasCell (game_of game.now) work.old.table cell.now.at cell.now.pos.0 cell.now.state.0 }
+    requires block { IsBlock (game_of game.now) work.old.table cell.now.at block.now }
     requires long { AreLong work.old }
     requires high { AreHigh work.old }
     requires right { AreRight (game_of game.now) work.old.table.contexts.items (found_of (game_of game.now) work.old) }
@@ -137,7 +157,7 @@ pub(crate) fn ask_waiting(
         (WaitsFor (game_of game.now) cell.now.at.number cell.now.pos.0 cell.now.state.0) }
     ensures { OnOk result (AsksWaiting (game_of game.now) work.old work.new) }
 {
-    ask_sources(game, &waits.sources, work, cell)?;
-    ask_changes(game, &waits.changes, work, cell)?;
+    ask_sources(game, &waits.sources, work, cell, block)?;
+    ask_changes(game, &waits.changes, work, cell, block)?;
     Ok(())
 }

@@ -4,6 +4,7 @@ use Rattle.cw_product.specs.Product.{game_of}
 use Rattle.cw_solve.specs.declared.table.Table.{Table}
 use Rattle.cw_solve.proofs.Tabling.{there_at}
 use Rattle.cw_linked.specs.Added.{AllOf, Before, Each, HasNoHeights}
+use Rattle.cw_linked.specs.Blocks.{IsBlock}
 use Rattle.cw_linked.proofs.Alike.{alike}
 use Rattle.cw_linked.proofs.Askings.{asks_nothing, asks_more, asks_these, one_more_position}
 use Rattle.cw_linked.proofs.Finishing.{next_table, next_right}
@@ -40,6 +41,7 @@ ask_position-requires c =
       routed = c.requires.routed;
       table = next_table g functions c.requires.routed (alike c.args.game.now) c.args.work.now c.loop-p.work c.requires.table inv.step;
       tabled = subst (λ (t : Table). slice_get t.contexts.items at.number ≡ Some at.context) (sym inv.step.others.table) c.requires.tabled;
+      block = subst (λ (t : Table). IsBlock g t at c.block_of-block.result) (sym inv.step.others.table) c.block_of-block.ensures;
       of = (
         omega (arith, c.loop-p.auto.p, c.entry-p.ensures.is ∙ ap (game_of c.args.game.now).entry c.function-function.ensures),
         omega (

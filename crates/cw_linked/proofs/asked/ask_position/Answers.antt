@@ -4,6 +4,7 @@ use Rattle.cw_product.specs.Product.{game_of}
 use Rattle.cw_solve.specs.declared.table.Table.{Table}
 use Rattle.cw_solve.proofs.Tabling.{there_at}
 use Rattle.cw_linked.specs.Added.{ThePair, FirstOf, AllOf}
+use Rattle.cw_linked.specs.Blocks.{IsBlock}
 use Rattle.cw_linked.specs.Founds.{IsClosed}
 use Rattle.cw_linked.specs.Queues.{found_of}
 use Rattle.cw_linked.proofs.Alike.{alike}
@@ -53,6 +54,7 @@ ask_told-requires c =
         of = c.requires.of;
         state = omega (arith, c.loop-x-test.true, c.states-x-end.ensures);
       };
+      block = subst (λ (t : Table). IsBlock g t at c.args.block.now) (sym inv.step.others.table) c.requires.block;
       long = inv.step.long;
       high = inv.step.high;
       right = next_right g functions c.requires.routed (alike c.args.game.now) c.args.work.now c.loop-x.work c.requires.table inv.step;

@@ -1,5 +1,7 @@
-use Rattle.std.proofs.Common.{length}
+use Rattle.std.proofs.Common.{length, subst, sym}
 use Rattle.cw_product.specs.Product.{game_of}
+use Rattle.cw_solve.specs.declared.table.Table.{Table}
+use Rattle.cw_linked.specs.Blocks.{IsBlock}
 use Rattle.cw_linked.proofs.Alike.{alike}
 use Rattle.cw_linked.proofs.Finishing.{next_callers, next_marked, next_right, next_cell, next_height, one_table, one_called, two_table, two_few, two_standing, finished}
 use Rattle.cw_linked.proofs.Telling.{two_steps}
@@ -13,6 +15,7 @@ ask_waiting-requires c =
       waits = c.requires.waits;
       table = t.table;
       cell = t.there;
+      block = c.requires.block;
       long = t.long;
       high = t.high;
       right = t.right;
@@ -32,6 +35,7 @@ ask_entry-requires c =
       routed = c.requires.routed;
       table = one_table g functions c.requires.routed (alike c.args.game.now) w one one one cell c.args.height t waiting;
       cell = next_cell g functions c.requires.routed (alike c.args.game.now) w one t.table waiting.step cell t.there;
+      block = subst (λ (t : Table). IsBlock g t cell.at c.args.block.now) (sym waiting.step.others.table) c.requires.block;
       taken = next_height g functions c.requires.routed (alike c.args.game.now) w one t.table waiting.step cell c.args.height t.taken;
       some = t.some;
       callers = next_callers g functions c.requires.routed (alike c.args.game.now) w one t.table waiting.step t.callers;

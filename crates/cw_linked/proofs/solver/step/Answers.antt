@@ -11,6 +11,14 @@ cell_by-cell-requires-clause-table c =
     is_table (game_of c.args.game.now) (length c.args.game.now.graph.parts.items) c.requires.routed
     (alike c.args.game.now) c.args.work.now c.pop.new.work c.requires.work c.in-Cell.place c.in-Cell.height c.in-Cell.ensures
 
+pub block_by-block-requires-clause-table : goal.block_by-block-requires-clause-table
+block_by-block-requires-clause-table c =
+    is_table (game_of c.args.game.now) (length c.args.game.now.graph.parts.items) c.requires.routed
+    (alike c.args.game.now) c.args.work.now c.pop.new.work c.requires.work c.in-Cell.place c.in-Cell.height c.in-Cell.ensures
+
+pub block_by-block-requires-clause-tabled : goal.block_by-block-requires-clause-tabled
+block_by-block-requires-clause-tabled c = c.cell_by-cell.ensures.is.at
+
 pub finish-requires-clause-taken : goal.finish-requires-clause-taken
 finish-requires-clause-taken c =
     is_taken (game_of c.args.game.now) (length c.args.game.now.graph.parts.items) c.requires.routed

@@ -1,33 +1,9 @@
-use Rattle.std.proofs.Common.{◌≡◌, ◌<◌, ℕ, false, length, subst, arith}
-use Rattle.std.specs.Prelude.{slice_get}
-use Rattle.cw_game.specs.Pairs.{is_call_in}
+use Rattle.std.proofs.Common.{arith}
 use Rattle.cw_product.specs.Product.{game_of}
-use Rattle.cw_linked.specs.Steps.{IsBound}
-use Rattle.cw_linked.specs.Works.{heights_of}
-use Rattle.cw_linked.proofs.Alike.{alike}
-use Rattle.std.proofs.lemmas.Bool.{false_from_ne_true as false_of}
-use Rattle.cw_linked.proofs.Telling.{told_none, told_asked}
+use Rattle.cw_linked.proofs.Telling.{told_taken}
 use Rattle.cw_linked.proofs.told.ask_told.Goals as goal
-
-pub returns-then-within-eq0 : goal.returns-then-within-eq0
-returns-then-within-eq0 c =
-    let g = game_of c.args.game.now in
-    let w = c.args.work.now in
-    let at = c.args.at.now in
-    let p = c.args.pos.0 in
-    let q = c.args.state.0 in
-    told_none g (length c.args.game.now.graph.parts.items) c.requires.routed (alike c.args.game.now) w c.requires.table c.requires.long c.requires.high c.requires.right at p q
-    (λ plain. subst (λ (y : ℕ). IsBound g (heights_of g w.table) at.number p q at.context.promise y) c.if-within-eq0.true (c.bound-within.ensures.told plain))
 
 pub returns : goal.returns
 returns c =
-    let g = game_of c.args.game.now in
-    let w = c.args.work.now in
-    let at = c.args.at.now in
-    let p = c.args.pos.0 in
-    let q = c.args.state.0 in
-    let plain : is_call_in (slice_get g.spots p) ≡ false = false_of (is_call_in (slice_get g.spots p)) (λ y. c.if-within-eq0.false (c.bound-within.ensures.call y)) in
-    let some : 0 < c.bound-within.result = omega (arith, c.if-within-eq0.false) in
-    told_asked g (length c.args.game.now.graph.parts.items) c.requires.routed (alike c.args.game.now) w c.ask_cell.new.work c.requires.table c.requires.long c.requires.high c.requires.right
-    at p q c.requires.cell c.bound-within.result c.slot-place.result (c.bound-within.ensures.told plain) plain some (c.bound-within.ensures.high w.table.written c.requires.high.heights)
-    c.slot-place.ensures.is c.in_ok-ask_cell.ensures
+    told_taken (game_of c.args.game.now) c.args.work.now c.requires.long c.requires.high c.requires.right c.args.at.now c.args.pos.0 c.args.state.0
+    c.height_in-height.result c.height_in-height.ensures.is (omega (arith, c.if-height-eq0.false))

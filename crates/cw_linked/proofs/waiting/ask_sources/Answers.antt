@@ -2,6 +2,8 @@ use Rattle.std.proofs.Common.{◌<◌, ℕ, List, Option, length, subst, sym, ap
 use Rattle.std.specs.Prelude.{option_map, IfSome}
 use Rattle.cw_links.specs.Lists.{list_at}
 use Rattle.cw_product.specs.Product.{game_of}
+use Rattle.cw_solve.specs.declared.table.Table.{Table}
+use Rattle.cw_linked.specs.Blocks.{IsBlock}
 use Rattle.cw_solve.proofs.Calling.{cell_within}
 use Rattle.cw_linked.specs.Founds.{AllClosed}
 use Rattle.cw_linked.specs.Queues.{found_of}
@@ -39,6 +41,10 @@ walk-init c =
 
 pub get-requires : goal.get-requires
 get-requires c = subst (λ o. IfSome o (λ edge. edge < length c.args.sources.now.values)) c.in-Some.is c.walk.invariant.known
+
+pub ask_pair-requires-clause-block : goal.ask_pair-requires-clause-block
+ask_pair-requires-clause-block c =
+    subst (λ (t : Table). IsBlock (game_of c.args.game.now) t c.args.cell.now.at c.args.block.now) (sym c.walk.invariant.step.others.table) c.requires.block
 
 pub next-next-requires : goal.next-next-requires
 next-next-requires c = subst (λ o. IfSome o (λ edge. edge < length c.args.sources.now.values)) c.in-Some.is c.walk.invariant.known

@@ -2,7 +2,7 @@ use Rattle.std.proofs.Common.{◌*◌}
 use Rattle.cw_product.specs.Product.{game_of}
 use Rattle.cw_solve.specs.Rounds.{positions}
 use Rattle.cw_linked.specs.Added.{PushesPlaces, MarksLinks}
-use Rattle.cw_linked.proofs.room.push_places.Given as goal
+use Rattle.cw_linked.proofs.room.push_states.Given as goal
 
 abbrev pub invariant-loop-x : goal.invariant-loop-x
 invariant-loop-x l =

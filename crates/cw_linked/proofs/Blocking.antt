@@ -1,0 +1,50 @@
+-- Where the moves at a position keep the state, they lead to positions that are read off what stands there.
+use Rattle.std.proofs.Common.{◌≡◌, ℕ, ◌+◌, Bool, true, false, ◌&&◌, ◌||◌, Option, Some, refl, sym, ap, subst}
+use Rattle.std.specs.Prelude.{slice_get}
+use Rattle.std.proofs.lemmas.Bool.{false≢true}
+use Rattle.std.proofs.lemmas.Option.{none-some}
+use Rattle.cw_certs.specs.declared.moves.Move.TheVariants.{Skip, Try, On, Left, Right}
+use Rattle.cw_game.specs.declared.spots.Spot.{Spot}
+use Rattle.cw_game.specs.declared.spots.Spot.TheVariants.{Visit, Step, Branch, Call, SplitCall}
+use Rattle.cw_game.specs.Games.{Game, Promise, weavers_in}
+use Rattle.cw_game.specs.Pairs.{Called, call_in, is_call_in}
+use Rattle.cw_product.specs.Moves.{next_in, next_at}
+use Rattle.cw_solve.specs.Asking.{holds_after, holds_by_moves}
+
+module _ (g : Game) (p q : ℕ) where
+  pub steps_on : (n : ℕ) → slice_get g.spots p ≡ Some (Step n) → next_at g p q On ≡ Some (n, q)
+  steps_on n is = ap (λ (o : Option Spot). next_in g p q o On) is
+
+  pub goes_left : (m n : ℕ) → slice_get g.spots p ≡ Some (Branch m n) → next_at g p q Left ≡ Some (m, q)
+  goes_left m n is = ap (λ (o : Option Spot). next_in g p q o Left) is
+
+  pub goes_right : (m n : ℕ) → slice_get g.spots p ≡ Some (Branch m n) → next_at g p q Right ≡ Some (n, q)
+  goes_right m n is = ap (λ (o : Option Spot). next_in g p q o Right) is
+
+  pub skips : (o : Option Spot) → weavers_in o ≡ true → next_in g p q o Skip ≡ Some (p + 2, q)
+  skips (Some (Visit j i a)) w = refl
+  skips o w = absurd (false≢true w)
+
+  pub tries : (o : Option Spot) → weavers_in o ≡ true → next_in g p q o Try ≡ Some (p + 1, q)
+  tries (Some (Visit j i a)) w = refl
+  tries o w = absurd (false≢true w)
+
+  -- So they tell what holds there.
+  module _ (h : ℕ → ℕ → Promise → Bool) (e : Promise) where
+    pub by_step : (n : ℕ) → slice_get g.spots p ≡ Some (Step n) → holds_after h e (next_at g p q On) ≡ holds_by_moves g h p q e (slice_get g.spots p)
+    by_step n is = subst (λ (o : Option Spot). holds_after h e (next_in g p q o On) ≡ holds_by_moves g h p q e o) (sym is) refl
+
+    pub by_branch : (m n : ℕ) → slice_get g.spots p ≡ Some (Branch m n)
+        → (holds_after h e (next_at g p q Left) && holds_after h e (next_at g p q Right)) ≡ holds_by_moves g h p q e (slice_get g.spots p)
+    by_branch m n is =
+        subst (λ (o : Option Spot). (holds_after h e (next_in g p q o Left) && holds_after h e (next_in g p q o Right)) ≡ holds_by_moves g h p q e o) (sym is) refl
+
+    pub by_visit : (o : Option Spot) → weavers_in o ≡ true → (holds_after h e (next_in g p q o Skip) || holds_after h e (next_in g p q o Try)) ≡ holds_by_moves g h p q e o
+    by_visit (Some (Visit j i a)) w = refl
+    by_visit o w = absurd (false≢true w)
+
+-- what isn't a call calls nothing
+pub uncalled : (o : Option Spot) (call : Called) → is_call_in o ≡ false → call_in o ≡ Some call → ⊥
+uncalled (Some (Call j f n)) call not is = cc
+uncalled (Some (SplitCall j f n)) call not is = cc
+uncalled _ call not is = none-some call is
