@@ -1,5 +1,6 @@
 -- What a search that is done tells.
-use Rattle.std.proofs.Common.{◌≡◌, ℕ, ◌+◌, ◌<◌, ◌≤◌, List, [], Bool, true, false, cond, Option, Some, None, option_map, length, refl, sym, ap, ◌∙◌, subst, arith, ◌⊎◌, inl, inr}
+use Rattle.std.proofs.Common.{◌≡◌, ℕ, ◌+◌, ◌<◌, ◌≤◌, List, [], Bool, true, false, cond, Option, Some, None, option_map, length, refl, sym, ap, ◌∙◌, subst, arith}
+use Rattle.std.proofs.Common.{◌⊎◌, inl, inr}
 use Rattle.std.specs.Prelude.{nat_le, Result, Err, IfErr}
 use Rattle.cw_audit.specs.declared.fault.AuditFault.{AuditFault}
 use Rattle.cw_audit.specs.declared.fault.AuditFault.TheVariants.{TooManyRows, TooManyMoves}

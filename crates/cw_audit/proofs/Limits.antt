@@ -60,10 +60,12 @@ module _ (h : Held) (s : Search) (fair : IsFairGame h) (kept : IsKept (game_of h
     is_done = done_of (game_of h) (functions_of h) fair (found_of s.store) kept.sound s.store.hit refl settled
 
     -- too many rows are below the nearest violation, or at all
-    pub done_many : (bound many : ℕ) (places : List Place) → bound ≡ bound_of s.store.hit → AreAllBelow s.store bound places → many ≡ length places → 65536 < many → AreManyRows (game_of h)
+    pub done_many : (bound many : ℕ) (places : List Place) → bound ≡ bound_of s.store.hit → AreAllBelow s.store bound places → many ≡ length places → 65536 < many
+        → AreManyRows (game_of h)
     done_many bound many places is below count more =
         let l = limit_of s.store.hit in
-        let cut_at : ((v : Hit) × (s.store.hit ≡ Some v) × (65536 < v.distance)) → (found_of s.store).best ≡ Some 65537 = λ (k : (v : Hit) × (s.store.hit ≡ Some v) × (65536 < v.distance)).
+        let cut_at : ((v : Hit) × (s.store.hit ≡ Some v) × (65536 < v.distance)) → (found_of s.store).best ≡ Some 65537
+        = λ (k : (v : Hit) × (s.store.hit ≡ Some v) × (65536 < v.distance)).
         let low = hit_low (game_of h) (functions_of h) fair (found_of s.store) kept.sound s.store.hit refl k.0 k.1 in
         ap distance_of k.1 ∙ ap (λ n. Some n) (omega (arith, low, k.2)) in
         many_rows (game_of h) (functions_of h) (found_of s.store) (bound_of s.store.hit) (found_of s.store).best l.0 (map plain places) is_done
@@ -71,7 +73,8 @@ module _ (h : Held) (s : Search) (fair : IsFairGame h) (kept : IsKept (game_of h
         (below.below l.0 (subst (λ n. IsLimit n l.0) (sym is) l.1)) below.distinct (omega (arith, length-map places plain, count, more))
 
     -- the nearest violation is further than can be told
-    pub done_far : (bound many : ℕ) (places : List Place) → bound ≡ bound_of s.store.hit → is_far s.store.hit ≡ true → AreAllBelow s.store bound places → many ≡ length places → many ≤ 65536
+    pub done_far : (bound many : ℕ) (places : List Place) → bound ≡ bound_of s.store.hit → is_far s.store.hit ≡ true → AreAllBelow s.store bound places → many ≡ length places
+        → many ≤ 65536
         → AreManyMoves (game_of h)
     done_far bound many places is far below count few =
         let z = far_cut (game_of h) (functions_of h) fair (found_of s.store) kept.sound s.store.hit refl far in
@@ -86,7 +89,8 @@ module _ (h : Held) (s : Search) (fair : IsFairGame h) (kept : IsKept (game_of h
         omega (arith, same, z.2)
 
     -- the table
-    pub done_audit : (places : List Place) (t : Audit) → IsTold s.store.hit → AreAllBelow s.store (bound_of s.store.hit) places → length places ≤ 65536 → t.states ≡ (game_of h).states.count
+    pub done_audit : (places : List Place) (t : Audit) → IsTold s.store.hit → AreAllBelow s.store (bound_of s.store.hit) places → length places ≤ 65536
+        → t.states ≡ (game_of h).states.count
         → t.distance ≡ distance_of s.store.hit → ((D : Option ℕ) → AreBelow (found_of s.store) D (map plain places) → AreListed (found_of s.store) D t.groups)
         → AreMovesTo (game_of h) t.moves s.store.hit → IsAuditOf (game_of h) (functions_of h) t
     done_audit places t near below few states distance listed moves =

@@ -1,5 +1,6 @@
 -- The conditions of rows and groups, from one of them on.
-use Rattle.std.proofs.Common.{◌≡◌, ℕ, suc, ◌+◌, ◌<◌, ◌≤◌, List, ◌∷◌, ◌++◌, Bool, true, false, ◌&&◌, Option, Some, None, option_map, map, length, get_or, take, drop, sym, ap, ap₂, ◌∙◌, subst, arith}
+use Rattle.std.proofs.Common.{◌≡◌, ℕ, suc, ◌+◌, ◌<◌, ◌≤◌, List, ◌∷◌, ◌++◌, Bool, true, false, ◌&&◌, Option, Some, None, option_map, map, length, get_or, take}
+use Rattle.std.proofs.Common.{drop, sym, ap, ap₂, ◌∙◌, subst, arith}
 use Rattle.std.specs.Prelude.{slice_get}
 use Rattle.std.specs.List.{list_all, enumerate_from}
 use Rattle.std.proofs.Math.Seq.{drop-cons}
@@ -69,7 +70,8 @@ module _ (g : Game) (t : Audit) where
         ap (λ (gs : List Group). first_failing (group_faults g t (enumerate_from n (map group_of gs))))
         (subst (λ k. drop n groups ≡ get_or groups n x ∷ drop k groups) next (drop-cons groups n x lt) ∙ ap (λ y. y ∷ drop (n + 1) groups) (sym is))
 
-    pub group_here : (n : ℕ) (x : Group) (fault : GroupFault) → n < length groups → x ≡ get_or groups n x → first_failing (group_conditions g t n (group_of x)) ≡ Some fault → GroupsFrom n ≡ Some fault
+    pub group_here : (n : ℕ) (x : Group) (fault : GroupFault) → n < length groups → x ≡ get_or groups n x → first_failing (group_conditions g t n (group_of x)) ≡ Some fault
+        → GroupsFrom n ≡ Some fault
     group_here n x fault lt is e = step_group n x lt is ∙ append_some (group_conditions g t n (group_of x)) (the_rest n) fault e
 
     pub group_next : (n : ℕ) (x : Group) → n < length groups → x ≡ get_or groups n x → first_failing (group_conditions g t n (group_of x)) ≡ None → GroupsFrom n ≡ GroupsFrom (n + 1)

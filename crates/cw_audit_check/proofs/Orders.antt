@@ -1,5 +1,6 @@
 -- The first condition over the rows and groups of a table, from one of them on.
-use Rattle.std.proofs.Common.{◌≡◌, ℕ, zero, suc, ◌+◌, ◌<◌, ◌≤◌, List, [], ◌∷◌, ◌++◌, Bool, true, false, cond, ◌&&◌, ◌||◌, nat_eq, nat_lt, Option, Some, None, option_map, map, length, get_or, drop, sym, ap, ◌∙◌, subst, arith}
+use Rattle.std.proofs.Common.{◌≡◌, ℕ, zero, suc, ◌+◌, ◌<◌, ◌≤◌, List, [], ◌∷◌, ◌++◌, Bool, true, false, cond, ◌&&◌, ◌||◌, nat_eq, nat_lt, Option, Some}
+use Rattle.std.proofs.Common.{None, option_map, map, length, get_or, drop, sym, ap, ◌∙◌, subst, arith}
 use Rattle.std.specs.List.{enumerate_from}
 use Rattle.std.specs.List.Sorted.{IsStrictlySortedBy}
 use Rattle.std.specs.Cmp.{IsTotalOrder}
@@ -126,7 +127,8 @@ module _ (g : Game) where
       after_less x.function x.entered.0 y.function y.entered.0 (and_parts (is_group g functions (group_of y)) _ t.0).1
   group_rises functions m x (y ∷ groups) h (suc k) d lt =
       let t = taken (is_group g functions (group_of y) && is_after (Some (key_of (group_of x))) (key_of (group_of y))) _ (fault_at m 0 1) h in
-      let s = none_first (places g y.function m None (enumerate_from 0 (map row_of y.rows.items))) (ranges g functions (Some (key_of (group_of y))) (enumerate_from (m + 1) (map group_of groups))) t.1 in
+      let s = none_first (places g y.function m None (enumerate_from 0 (map row_of y.rows.items))) (ranges g functions (Some (key_of (group_of y))) (enumerate_from (m + 1) (map group_of groups)))
+      t.1 in
       let next : suc (k + 1) ≡ suc k + 1 = omega arith in
       subst (λ n. group_cmp (get_or (x ∷ y ∷ groups) (suc k) d) (get_or (x ∷ y ∷ groups) n d) ≡ Less) next (group_rises functions (m + 1) y groups s.1 k d (omega (arith, lt)))
 
@@ -143,7 +145,8 @@ module _ (g : Game) where
   groups_at functions m last [] h i x e = absurd (none-some x e)
   groups_at functions m last (y ∷ groups) h zero x e =
       let t = taken (is_group g functions (group_of y) && is_after last (key_of (group_of y))) _ (fault_at m 0 1) h in
-      let s = none_first (places g y.function m None (enumerate_from 0 (map row_of y.rows.items))) (ranges g functions (Some (key_of (group_of y))) (enumerate_from (m + 1) (map group_of groups))) t.1 in
+      let s = none_first (places g y.function m None (enumerate_from 0 (map row_of y.rows.items))) (ranges g functions (Some (key_of (group_of y))) (enumerate_from (m + 1) (map group_of groups)))
+      t.1 in
       let own = and_parts (nat_lt y.function functions) (nat_lt y.entered.0 g.states.count) (and_parts (is_group g functions (group_of y)) _ t.0).0 in
       subst (IsInRange g functions) (same_Some y x e)
       (record {
@@ -153,7 +156,8 @@ module _ (g : Game) where
       })
   groups_at functions m last (y ∷ groups) h (suc i) x e =
       let t = taken (is_group g functions (group_of y) && is_after last (key_of (group_of y))) _ (fault_at m 0 1) h in
-      let s = none_first (places g y.function m None (enumerate_from 0 (map row_of y.rows.items))) (ranges g functions (Some (key_of (group_of y))) (enumerate_from (m + 1) (map group_of groups))) t.1 in
+      let s = none_first (places g y.function m None (enumerate_from 0 (map row_of y.rows.items))) (ranges g functions (Some (key_of (group_of y))) (enumerate_from (m + 1) (map group_of groups)))
+      t.1 in
       groups_at functions (m + 1) (Some (key_of (group_of y))) groups s.1 i x e
 
   pub in_range : (functions : ℕ) (groups : List Group) → first_failing (ranges g functions None (enumerate_from 0 (map group_of groups))) ≡ None → AreInRange g functions groups

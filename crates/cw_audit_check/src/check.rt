@@ -8,10 +8,10 @@ ghost use Rattle.cw_audit_table.specs.Tables.{AreFew, row_of, group_of, audit_of
 ghost use Rattle.cw_audit_table.specs.Conditions.{fault_at, begins, row_faults, group_faults, audit_fault, IsGoodAudit};
 ghost use Rattle.cw_audit_check.specs.Checks.{Bounds, IsInRange, AreInRange, fault_of, group_conditions};
 
-use crate::looked_up::{group_at, has_zero, skipped};
+use crate::looked_up::{group_at, has_zero};
 use crate::ranges::first_bad_range;
 use crate::rows::row_fault;
-use cw_audit_table::{AuditTable, Group};
+use cw_audit_table::{AuditTable, Group, skipped};
 use cw_product::Game;
 
 /// A group, and a row of it, that fails a condition, by their numbers. A wrong number of states is told of group 0, row 0, what a

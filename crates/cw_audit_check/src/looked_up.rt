@@ -2,28 +2,15 @@
 
 ghost use Rattle.std.specs.Prelude.{◌≡◌, ◌<◌, ◌^◌, ◌&&◌, map, option_map, length, find, nat_eq};
 ghost use Rattle.std.specs.List.Sorted.{IsStrictlySortedBy};
-ghost use Rattle.cw_game.specs.declared.spots.Spot.TheVariants.{Visit};
 ghost use Rattle.cw_product.specs.Moves.{IsPosition};
 ghost use Rattle.cw_product.specs.Product.{game_of};
-ghost use Rattle.cw_audit_table.specs.Runs.{cut, skipped};
 ghost use Rattle.cw_audit_table.specs.Tables.{row_of, group_of, group_at, inside_at};
 ghost use Rattle.cw_audit_table.specs.Conditions.{is_before, has_within, is_zero};
 ghost use Rattle.cw_audit_check.specs.Checks.{row_cmp, group_cmp};
 
-use cw_audit_table::Group;
+use cw_audit_table::{Group, cut, skipped};
 use cw_core::{PosId, StateId};
-use cw_game::Spot;
 use cw_product::Game;
-
-/// The greatest number that is told apart, and 1.
-const CUT: u64 = 65_537;
-
-/// The number, cut.
-pub(crate) fn cut(n: u64) -> u32
-    ensures { result ≡ cut n }
-{
-    n.min(CUT) as u32
-}
 
 /// Whether a sum is below the distance, where there is one.
 pub(crate) fn is_before(distance: Option<u32>, n: u64) -> bool
@@ -33,20 +20,6 @@ pub(crate) fn is_before(distance: Option<u32>, n: u64) -> bool
         None => true,
         Some(distance) => cut(n) < distance,
     }
-}
-
-/// The position behind what is skipped.
-pub(crate) fn skipped(game: &Game, pos: PosId) -> PosId
-    requires { IsPosition (game_of game.now) pos.0 }
-    ensures is { result.0 ≡ skipped (game_of game.now) pos.0 }
-    ensures within { IsPosition (game_of game.now) result.0 }
-{
-    game.is_closed();
-    let mut at = pos;
-    while let Spot::Visit(_, _, _) = game.spot(at) {
-        at = PosId(at.0 + 2);
-    }
-    at
 }
 
 /// The number of a group's row at a pair.

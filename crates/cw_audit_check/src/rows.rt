@@ -12,8 +12,8 @@ ghost use Rattle.cw_audit_table.specs.Tables.{row_of, group_of, audit_of, group_
 ghost use Rattle.cw_audit_table.specs.Conditions.{is_place, is_inner, moves_on, comes_back, enters, row_conditions};
 ghost use Rattle.cw_audit_check.specs.Checks.{IsInRange, AreInRange, row_cmp, takes_pair, takes_if, unless, calls_by};
 
-use crate::looked_up::{cut, group_at, has_within, is_before};
-use cw_audit_table::{AuditTable, Group};
+use crate::looked_up::{group_at, has_within, is_before};
+use cw_audit_table::{AuditTable, Group, cut};
 use cw_certs::Move;
 use cw_core::{PosId, StateId};
 use cw_product::{Game, Turn};

@@ -12,8 +12,7 @@ ghost use Rattle.cw_audit_table.specs.Tables.{audit_of};
 ghost use Rattle.cw_audit_table.specs.Conditions.{IsShown};
 ghost use Rattle.cw_audit_check.specs.Walks.{ret_of, rets_of, config_of, IsWait, IsWalk, Went};
 
-use crate::looked_up::skipped;
-use cw_audit_table::AuditTable;
+use cw_audit_table::{AuditTable, skipped};
 use cw_certs::Move;
 use cw_core::{NoMemory, PosId, StateId};
 use cw_product::{Game, Turn};

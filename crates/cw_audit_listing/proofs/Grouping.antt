@@ -25,7 +25,8 @@ pub nothing_left : (places : List Place) → None ≡ slice_get places 0 → pla
 nothing_left [] e = refl
 nothing_left (x ∷ places) e = absurd (none-some x e)
 
-pub all_listed : (s : Store) (places rest : List Place) (groups : List Group) (D : Option ℕ) → Ascend (map plain places) → AreSoFar s places rest (map group_of groups) → None ≡ slice_get rest 0
+pub all_listed : (s : Store) (places rest : List Place) (groups : List Group) (D : Option ℕ) → Ascend (map plain places) → AreSoFar s places rest (map group_of groups)
+    → None ≡ slice_get rest 0
     → AreBelow (found_of s) D (map plain places) → AreListed (found_of s) D (map group_of groups)
 all_listed s places rest groups D ascend h e below =
     grouped_listed (found_of s) D (map plain places) (map group_of groups) ascend below
@@ -61,7 +62,8 @@ ends_same x y (p ∷ ps) e f h = λ a b. h (a ∙ sym e) (b ∙ sym f)
 
 -- one group more
 pub one_more : (s : Store) (places rest more : List Place) (groups after : List Group) (first : Place) (entered : Entered) (rows : List ARow) (grp : Group)
-    → AreSoFar s places rest (map group_of groups) → Some first ≡ slice_get rest 0 → Some entered ≡ group_at s first.entrance → AreRead s first.entrance rest more rows → Ends first.entrance more
+    → AreSoFar s places rest (map group_of groups) → Some first ≡ slice_get rest 0 → Some entered ≡ group_at s first.entrance → AreRead s first.entrance rest more rows
+    → Ends first.entrance more
     → group_of grp ≡ group first.entrance entered.reach rows → after ≡ groups ++ grp ∷ [] → AreSoFar s places more (map group_of after)
 one_more s places rest more groups after first entered rows grp h e eg read ends same is =
     let e1 = first.entrance in

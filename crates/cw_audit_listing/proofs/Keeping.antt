@@ -85,7 +85,8 @@ sorted_ascend [] h = tt
 sorted_ascend (x ∷ xs) h = (mapped_after x xs (sorted_head place_cmp x xs h), sorted_ascend xs (sorted_tail place_cmp x xs h))
 
 -- places that are apart stay so where some are left out
-all_left : (test : Place → Bool) (x : Place) (ys : List Place) → AllByRecursion (λ y. place_eq x y ≡ false) ys → AllByRecursion (λ k. is_place (plain x) k ≡ false) (map plain (filter test ys))
+all_left : (test : Place → Bool) (x : Place) (ys : List Place) → AllByRecursion (λ y. place_eq x y ≡ false) ys
+    → AllByRecursion (λ k. is_place (plain x) k ≡ false) (map plain (filter test ys))
 all_left test x [] h = tt
 all_left test x (y ∷ ys) h = by (test y) (all_left test x ys h.1)
   where
@@ -109,7 +110,8 @@ module _ (test : Place → Bool) where
   kept_pass [] i x e = absurd (none-some x e)
   kept_pass (y ∷ xs) i x e = by (test y) refl i e (λ j. kept_pass xs j x)
     where
-      by : (b : Bool) → test y ≡ b → (i : ℕ) → slice_get (cond b (y ∷ filter test xs) (filter test xs)) i ≡ Some x → ((j : ℕ) → slice_get (filter test xs) j ≡ Some x → test x ≡ true)
+      by : (b : Bool) → test y ≡ b → (i : ℕ) → slice_get (cond b (y ∷ filter test xs) (filter test xs)) i ≡ Some x
+          → ((j : ℕ) → slice_get (filter test xs) j ≡ Some x → test x ≡ true)
           → test x ≡ true
       by true t zero e k = sym (ap test (same_Some y x e)) ∙ t
       by true t (suc i) e k = k i e
@@ -133,7 +135,8 @@ module _ (test : Place → Bool) where
       by false e k = k
 
 -- what is below the bound has its group and its row
-both_there : (bound : ℕ) (og : Option Entered) (ow : Option Row) → is_below_by bound og ow ≡ true → (e : Entered) × (r : Row) × (og ≡ Some e) × (ow ≡ Some r) × (cut (e.reach + r.inside) < bound)
+both_there : (bound : ℕ) (og : Option Entered) (ow : Option Row) → is_below_by bound og ow ≡ true
+    → (e : Entered) × (r : Row) × (og ≡ Some e) × (ow ≡ Some r) × (cut (e.reach + r.inside) < bound)
 both_there bound None ow h = cc
 both_there bound (Some e) None h = cc
 both_there bound (Some e) (Some r) h = (e, r, refl, refl, ltb-true (cut (e.reach + r.inside)) bound h)

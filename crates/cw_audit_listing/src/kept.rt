@@ -7,20 +7,16 @@ ghost use Rattle.cw_audit_store.specs.Stores.{group_at};
 ghost use Rattle.cw_audit_listing.specs.Lists.{is_below, is_below_by, AreAllBelow, AreOrdered};
 
 use cw_audit_store::{Place, Row, Store};
+use cw_audit_table::cut;
 use cw_core::NoMemory;
 use std::alloc::Global;
-
-/// The greatest number that is told apart, and 1.
-const CUT: u64 = 65_537;
 
 // Whether a row's entrance has a group, and their sum, cut, is below the bound.
 fn is_below(store: &Store, place: Place, row: Row, bound: u32) -> bool
     ensures { result ≡ is_below_by bound (group_at store.now place.entrance) (Some row) }
 {
     match store.group_by(row.group, place.entrance) {
-        Some(group) => {
-            (u64::from(group.reach) + u64::from(row.inside)).min(CUT) < u64::from(bound)
-        }
+        Some(group) => cut(u64::from(group.reach) + u64::from(row.inside)) < bound,
         None => false,
     }
 }

@@ -88,7 +88,8 @@ module _ (g : Game) (functions : ℕ) (s : Found) (w : Ways) (ready : IsReady g 
       subst (λ ms. IsRunTo g ms n) (ap (λ ms. written ++ ms) none ∙ append-nil written) h.run
 
   -- at first nothing is
-  pub none_written : (n : ℕ) (written : List Move) (left : List Todo) (h : BadWay) → s.best ≡ Some n → n ≤ 65536 → ((m : ℕ) → IsHit g m → n ≤ m) → w.hit ≡ Some h → written ≡ []
+  pub none_written : (n : ℕ) (written : List Move) (left : List Todo) (h : BadWay) → s.best ≡ Some n → n ≤ 65536 → ((m : ℕ) → IsHit g m → n ≤ m) → w.hit ≡ Some h
+      → written ≡ []
       → left ≡ unfold_hit g h → IsWriting g s w n written left
   none_written n written left h e few least eh ew el =
       let t = told g functions ready.fair s ready.sound w ready.ways n e few least in
@@ -110,7 +111,8 @@ row_way s at r e = ap (option_map (λ (r : StoredRow). way_of r.way)) (sym e)
 pub row_number : (s : Store) (at : Place) (r : StoredRow) → Some r ≡ row_at s at → (found_of s).number at.entrance.function at.entrance.state.0 at.pos.0 at.state.0 ≡ Some r.inside
 row_number s at r e = ap (option_map (λ (r : StoredRow). r.inside)) (sym e)
 
-pub group_call : (s : Store) (at : Entrance) (r : Entered) (c : Option Place) → Some r ≡ group_at s at → r.call ≡ c → (ways_of s).call at.function at.state.0 ≡ Some (option_map caller_of c)
+pub group_call : (s : Store) (at : Entrance) (r : Entered) (c : Option Place) → Some r ≡ group_at s at → r.call ≡ c
+    → (ways_of s).call at.function at.state.0 ≡ Some (option_map caller_of c)
 group_call s at r c e ec = ap (option_map (λ (e : Entered). option_map caller_of e.call)) (sym e) ∙ ap (λ o. Some (option_map caller_of o)) ec
 
 pub row_callee : (g : Game) (functions : ℕ) (s : Store) → IsReady g functions (found_of s) (ways_of s) → (at : Place) (r : StoredRow) → Some r ≡ row_at s at → IsCallee functions r.way

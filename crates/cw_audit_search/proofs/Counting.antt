@@ -1,5 +1,6 @@
 -- How many rows a table has, against lists of places.
-use Rattle.std.proofs.Common.{◌≡◌, ℕ, zero, suc, ◌+◌, ◌≤◌, List, [], ◌∷◌, ◌++◌, map, length, Bool, true, false, ◌&&◌, Option, Some, None, refl, sym, ap, ◌∙◌, subst}
+use Rattle.std.proofs.Common.{◌≡◌, ℕ, zero, suc, ◌+◌, ◌≤◌, List, [], ◌∷◌, ◌++◌, map, length, Bool, true, false, ◌&&◌, Option, Some, None, refl, sym, ap, ◌∙◌}
+use Rattle.std.proofs.Common.{subst}
 use Rattle.std.proofs.Common.{arith, inl, inr}
 use Rattle.std.specs.Prelude.{slice_get, option_map}
 use Rattle.std.specs.List.{sum_by, list_any, IsDistinct, AllByRecursion}
@@ -106,14 +107,16 @@ module _ {X : Type 0} (place : X → Place) where
               looked_place (is_place q) t (place x) (there i x eo) (ap (is_place q) s ∙ e)
 
 -- No place of a table in order is there twice.
-distinct_append : (xs ys : List Place) → IsDistinct is_place xs → IsDistinct is_place ys → ((k : Place) → list_any (is_place k) xs ≡ true → AllByRecursion (λ j. is_place k j ≡ false) ys)
+distinct_append : (xs ys : List Place) → IsDistinct is_place xs → IsDistinct is_place ys
+    → ((k : Place) → list_any (is_place k) xs ≡ true → AllByRecursion (λ j. is_place k j ≡ false) ys)
     → IsDistinct is_place (xs ++ ys)
 distinct_append [] ys h k f = k
 distinct_append (x ∷ xs) ys h k f =
     IsDistinct-cons is_place x (xs ++ ys) (both_parts xs (IsDistinct-head is_place x xs h) (f x (or_left (is_place x x) (list_any (is_place x) xs) (place_itself x))))
     (distinct_append xs ys (IsDistinct-tail is_place x xs h) k (λ j e. f j (or_right (is_place j x) (list_any (is_place j) xs) e)))
   where
-    both_parts : (zs : List Place) → AllByRecursion (λ j. is_place x j ≡ false) zs → AllByRecursion (λ j. is_place x j ≡ false) ys → AllByRecursion (λ j. is_place x j ≡ false) (zs ++ ys)
+    both_parts : (zs : List Place) → AllByRecursion (λ j. is_place x j ≡ false) zs → AllByRecursion (λ j. is_place x j ≡ false) ys
+        → AllByRecursion (λ j. is_place x j ≡ false) (zs ++ ys)
     both_parts [] a b = b
     both_parts (z ∷ zs) a b = (a.0, both_parts zs a.1 b)
 
@@ -127,7 +130,8 @@ all_rows P grp [] h = tt
 all_rows P grp (r ∷ rows) h = (h 0 r refl, all_rows P grp rows (λ n x e. h (suc n) x e))
 
 -- each place in the list has a property that each row's place has
-pub all_places : (P : Place → Type 0) (groups : List PlainGroup) → ((i n : ℕ) (grp : PlainGroup) (r : PlainRow) → slice_get groups i ≡ Some grp → slice_get grp.rows n ≡ Some r → P (row_place grp r))
+pub all_places : (P : Place → Type 0) (groups : List PlainGroup)
+    → ((i n : ℕ) (grp : PlainGroup) (r : PlainRow) → slice_get groups i ≡ Some grp → slice_get grp.rows n ≡ Some r → P (row_place grp r))
     → AllByRecursion P (places_of groups)
 all_places P [] h = tt
 all_places P (grp ∷ groups) h =

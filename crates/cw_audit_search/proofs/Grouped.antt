@@ -66,7 +66,8 @@ rows_ascend : (grp : PlainGroup) (rows : List PlainRow) → Ascend (map (row_pla
 rows_ascend grp [] h = tt
 rows_ascend grp (a ∷ rows) h = (refl, rows_from grp a rows h)
 
-key_after : (x y : PlainGroup) (a b : PlainRow) → IsPlaceAfter (row_place x a) (row_place y b) → ((y.function ≡ x.function) → (y.entered ≡ x.entered) → ⊥) → IsAfter (key_of x) (key_of y)
+key_after : (x y : PlainGroup) (a b : PlainRow) → IsPlaceAfter (row_place x a) (row_place y b) → ((y.function ≡ x.function) → (y.entered ≡ x.entered) → ⊥)
+    → IsAfter (key_of x) (key_of y)
 key_after x y a b h other = elim h [ inl k ↦ k | inr k ↦ absurd (other (sym k.0.0) (sym k.0.1)) ]
 
 module _ (s : Found) where

@@ -47,7 +47,8 @@ module _ {X : Type 0} (key : X → ℕ × ℕ) where
     | inr l ↦ l
   ]
 
-  same_lists : (xs ys : List X) (a b : Option (ℕ × ℕ)) → AscendAfter a (map key xs) → AscendAfter b (map key ys) → ((z : X) → IsIn xs z → IsIn ys z) → ((z : X) → IsIn ys z → IsIn xs z) → xs ≡ ys
+  same_lists : (xs ys : List X) (a b : Option (ℕ × ℕ)) → AscendAfter a (map key xs) → AscendAfter b (map key ys) → ((z : X) → IsIn xs z → IsIn ys z)
+      → ((z : X) → IsIn ys z → IsIn xs z) → xs ≡ ys
   same_lists [] [] a b hx hy f h = refl
   same_lists [] (y ∷ ys) a b hx hy f h = let k = h y (0, refl) in absurd (none-some y k.1)
   same_lists (x ∷ xs) [] a b hx hy f h = let k = f x (0, refl) in absurd (none-some x k.1)
@@ -95,7 +96,8 @@ module _ (g : Game) (functions : ℕ) (alone : EndAlone g functions) where
         hu.stated.whole f q p x e.0 w.0 e.1 w.1 (subst (λ D. IsKeptBy D (e.0 + w.0)) same k)
 
     -- the rows of the same group
-    rows_in : t.distance ≡ u.distance → (f q : ℕ) (x y : PlainGroup) → group_at t.groups f q ≡ Some x → group_at u.groups f q ≡ Some y → (r : PlainRow) → IsIn x.rows r → IsIn y.rows r
+    rows_in : t.distance ≡ u.distance → (f q : ℕ) (x y : PlainGroup) → group_at t.groups f q ≡ Some x → group_at u.groups f q ≡ Some y → (r : PlainRow) → IsIn x.rows r
+        → IsIn y.rows r
     rows_in same f q x y ex ey r i =
         let zx = group_found t.groups f q x ex in
         let at = row_there x.rows i.0 r r.pos r.state ((ascend t ht).1 zx.2.0 x zx.2.1) i.1 refl refl in

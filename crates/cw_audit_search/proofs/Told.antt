@@ -78,7 +78,8 @@ module _ (g : Game) (functions : ℕ) (fair : IsFair g functions) (s : Found) (s
         run = come g k y [] start (((r.moves ++ On ∷ []) ++ v.moves) ++ On ∷ []) back;
         before = λ more ns u.
             let last = v.before (Step On ∷ more) (On ∷ ns) (step On more ns u) in
-            let first = r.before (Step On ∷ Row h x0 (g.exit h) y ∷ Step On ∷ more) (On ∷ (v.moves ++ (On ∷ ns))) (step On (Row h x0 (g.exit h) y ∷ Step On ∷ more) (v.moves ++ (On ∷ ns)) last) in
+            let first = r.before (Step On ∷ Row h x0 (g.exit h) y ∷ Step On ∷ more) (On ∷ (v.moves ++ (On ∷ ns)))
+            (step On (Row h x0 (g.exit h) y ∷ Step On ∷ more) (v.moves ++ (On ∷ ns)) last) in
             subst (Unfolds g w (Row f q p0 x0 ∷ Step On ∷ Row h x0 (g.exit h) y ∷ Step On ∷ more)) (sym (parts r.moves v.moves ns)) first;
       }
     where

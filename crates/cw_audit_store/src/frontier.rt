@@ -1,7 +1,8 @@
 //! What a search visits next.
 
-ghost use Rattle.std.specs.Prelude.{◌≡◌, ◌+◌, OnOk, IfSome, IfNone};
+ghost use Rattle.std.specs.Prelude.{◌≡◌, ℕ, ◌+◌, [], OnOk, IfSome, IfNone};
 ghost use Rattle.std.specs.BinaryHeap.{heap_len};
+ghost use Rattle.cw_audit_store.specs.Listed.{numbers_of};
 
 use crate::group_lists::GroupLists;
 use cw_core::NoMemory;
@@ -12,7 +13,7 @@ use std::collections::BinaryHeap;
 /// The rows that wait to be visited, by their numbers, the nearest first; and the rows that were visited at calls, by the groups to
 /// which they lead, and at ends, by their own groups.
 ///
-/// Nothing but how many rows wait is promised: what is visited when is a matter of speed.
+/// Of the rows that wait nothing but how many there are is promised: what is visited when is a matter of speed.
 #[derive(Drop)]
 pub struct Frontier {
     pub rows: BinaryHeap<Reverse<(u32, usize)>>,
@@ -21,9 +22,11 @@ pub struct Frontier {
 }
 
 impl Frontier {
-    /// Nothing waits.
+    /// Nothing waits, and nothing was visited.
     pub fn make(alloc: Global) -> Frontier
-        ensures { heap_len result.rows ≡ 0 }
+        ensures rows { heap_len result.rows ≡ 0 }
+        ensures calls { (q : ℕ) → numbers_of result.calls q ≡ [] }
+        ensures ends { (q : ℕ) → numbers_of result.ends q ≡ [] }
     {
         Frontier {
             rows: BinaryHeap::new(alloc),

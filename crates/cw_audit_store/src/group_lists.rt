@@ -1,9 +1,12 @@
 //! Numbers of rows, in lists by the numbers of groups.
 
+ghost use Rattle.std.specs.Prelude.{◌≡◌, ℕ, ◌++◌, [], ◌∷◌, false, nat_eq, slice_get, OnOk};
+ghost use Rattle.cw_audit_store.specs.Listed.{numbers_of};
+
 use cw_core::NoMemory;
 use std::alloc::Global;
 
-/// Numbers of rows, a list for each group, by the group's number. Of what stands in them nothing is promised.
+/// Numbers of rows, a list for each group, by the group's number.
 #[derive(Drop)]
 pub struct GroupLists {
     lists: Vec<Vec<usize>>,
@@ -12,27 +15,32 @@ pub struct GroupLists {
 
 impl GroupLists {
     /// Each list is empty.
-    pub fn make(alloc: Global) -> GroupLists {
+    pub fn make(alloc: Global) -> GroupLists
+        ensures { (q : ℕ) → numbers_of result q ≡ [] }
+    {
         GroupLists {
             lists: Vec::new(alloc),
             alloc,
         }
     }
 
-    /// The number is put at the end of the group's list. The one error is want of memory.
-    pub fn put(&mut self, group: u32, number: usize) -> Result<(), NoMemory> {
+    /// The number stands at the end of the group's list. The one error is want of memory.
+    pub fn put(&mut self, group: u32, number: usize) -> Result<(), NoMemory>
+        ensures here { OnOk result (numbers_of self.new group ≡ numbers_of self.old group ++ number ∷ []) }
+        ensures others { OnOk result ((q : ℕ) → nat_eq group q ≡ false → numbers_of self.new q ≡ numbers_of self.old q) }
+    {
         let group = group as usize;
-        for _ in self.lists.len()..=group {
+        while self.lists.len() <= group {
             self.lists.push(Vec::new(self.alloc))?;
         }
-        if let Some(numbers) = self.lists.get_mut(group) {
-            numbers.push(number)?;
-        }
+        self.lists[group].push(number)?;
         Ok(())
     }
 
     /// A number of the group's list, by its place there.
-    pub fn get(&self, group: u32, place: usize) -> Option<usize> {
+    pub fn get(&self, group: u32, place: usize) -> Option<usize>
+        ensures { result ≡ slice_get (numbers_of self.now group) place }
+    {
         self.lists.get(group as usize)?.get(place).copied()
     }
 }

@@ -94,7 +94,8 @@ inner_leads g p q rets (Some (Close j d n)) _ e i h = absurd (none-some e h)
 inner_leads g p q rets _ by e i h = cc
 
 -- a step leads on within a function, at a call or at an exit
-pub visit_stays : (g : Game) (p q : ℕ) (rets : List Ret) (spot : Option Spot) (by : Move) (e : Config) → is_step by ≡ true → leads_in g p q rets spot by ≡ Some e → weavers_in spot ≡ false
+pub visit_stays : (g : Game) (p q : ℕ) (rets : List Ret) (spot : Option Spot) (by : Move) (e : Config) → is_step by ≡ true → leads_in g p q rets spot by ≡ Some e
+    → weavers_in spot ≡ false
 visit_stays g p q rets (Some (Visit j i a)) Skip e s h = cc
 visit_stays g p q rets (Some (Visit j i a)) On e s h = absurd (none-some e h)
 visit_stays g p q rets (Some (Visit j i a)) Left e s h = absurd (none-some e h)

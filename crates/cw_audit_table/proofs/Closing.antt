@@ -1,5 +1,6 @@
 -- The rows of a table that meets the conditions are closed.
-use Rattle.std.proofs.Common.{◌≡◌, ℕ, zero, suc, ◌+◌, ◌<◌, ◌≤◌, List, [], ◌∷◌, ◌++◌, map, length, Bool, true, false, cond, not, ◌&&◌, ◌||◌, Option, Some, None, is_some, option_map}
+use Rattle.std.proofs.Common.{◌≡◌, ℕ, zero, suc, ◌+◌, ◌<◌, ◌≤◌, List, [], ◌∷◌, ◌++◌, map, length, Bool, true, false, cond, not, ◌&&◌, ◌||◌, Option, Some}
+use Rattle.std.proofs.Common.{None, is_some, option_map}
 use Rattle.std.proofs.Common.{find, nat_eq, nat_lt, refl, sym, ap, ◌∙◌, subst, arith, eqb-true, eq-eqb}
 use Rattle.std.specs.Prelude.{slice_get, nat_le}
 use Rattle.std.specs.List.{list_all, enumerate_from}
@@ -308,7 +309,8 @@ module _ (g : Game) where
         let s = seen f q r p x a w in
         subst (λ p. Placed f p) s.pos (subst (λ f. Placed f s.row.pos) s.function (placed s.group.function s.row s.row_holds.place))
 
-    closed_steps : (f q r p x a : ℕ) (by : Move) (c : Config) → RowAt t f q r p x a → is_inner (slice_get g.spots p) ≡ true → is_before t.distance (r + a + 1) ≡ true → is_step by ≡ true
+    closed_steps : (f q r p x a : ℕ) (by : Move) (c : Config) → RowAt t f q r p x a → is_inner (slice_get g.spots p) ≡ true → is_before t.distance (r + a + 1) ≡ true
+        → is_step by ≡ true
         → leads_in g p x [] (slice_get g.spots p) by ≡ Some c → (b : ℕ) × RowAt t f q r (skipped g c.pos) c.state b × (b ≤ a + 1)
     closed_steps f q r p x a by c w inner before step l =
         let s = seen f q r p x a w in

@@ -2,6 +2,8 @@
 #![tactic(auto)]
 
 pub mod laws;
+mod skipping;
 mod table;
 
+pub use skipping::{cut, skipped};
 pub use table::{AuditTable, Group};

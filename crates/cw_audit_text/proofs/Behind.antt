@@ -1,5 +1,6 @@
 -- A text read line by line.
-use Rattle.std.proofs.Common.{◌≡◌, ℕ, zero, suc, ◌+◌, ◌^◌, ◌<◌, ◌≤◌, List, [], ◌∷◌, ◌++◌, map, length, take, get_or, Bool, true, false, eqb, eqb-true, Option, Some, None, refl, sym, ap, ap₂, ◌∙◌, subst, arith, append-nil, append_assoc, length-append}
+use Rattle.std.proofs.Common.{◌≡◌, ℕ, zero, suc, ◌+◌, ◌^◌, ◌<◌, ◌≤◌, List, [], ◌∷◌, ◌++◌, map, length, take, get_or, Bool, true, false, eqb, eqb-true, Option}
+use Rattle.std.proofs.Common.{Some, None, refl, sym, ap, ap₂, ◌∙◌, subst, arith, append-nil, append_assoc, length-append}
 use Rattle.std.specs.Prelude.{slice_get, codes}
 use Rattle.std.specs.List.{flat_map, All}
 use Rattle.std.proofs.lemmas.Bool.{false≢true}
@@ -66,7 +67,8 @@ rows_lines rows = map row_line (map row_of rows)
 rows_push : (old new : List RowData) (r : RowData) → new ≡ old ++ r ∷ [] → rows_lines new ≡ rows_lines old ++ row_line (row_of r) ∷ []
 rows_push old new r e = ap rows_lines e ∙ ap (map row_line) (map-append row_of old (r ∷ [])) ∙ map-append row_line (map row_of old) (row_of r ∷ [])
 
-pub rows_more : (text rest more : List ℕ) (old new : List RowData) (r : RowData) → new ≡ old ++ r ∷ [] → text ≡ whole_lines (rows_lines old) ++ rest → StartsWith rest (row_line (row_of r)) more
+pub rows_more : (text rest more : List ℕ) (old new : List RowData) (r : RowData) → new ≡ old ++ r ∷ [] → text ≡ whole_lines (rows_lines old) ++ rest
+    → StartsWith rest (row_line (row_of r)) more
     → text ≡ whole_lines (rows_lines new) ++ more
 rows_more text rest more old new r e h s = line_more text rest more (rows_lines old) (row_line (row_of r)) h s ∙ ap (λ ls. whole_lines ls ++ more) (sym (rows_push old new r e))
 
@@ -92,7 +94,8 @@ groups_more text rest after more old new g e h s k =
     lines_behind text after more (groups_lines old ++ In g.function g.entered.0 g.reach ∷ []) (rows_lines g.rows.items) first k
     ∙ ap (λ ls. whole_lines ls ++ more) (append_assoc (groups_lines old) (In g.function g.entered.0 g.reach ∷ []) (rows_lines g.rows.items) ∙ sym (groups_push old new g e))
 
-pub groups_fit : (old new : List Group) (g : Group) → new ≡ old ++ g ∷ [] → All FitsLine (groups_lines old) → FitsLine (In g.function g.entered.0 g.reach) → All FitsLine (rows_lines g.rows.items)
+pub groups_fit : (old new : List Group) (g : Group) → new ≡ old ++ g ∷ [] → All FitsLine (groups_lines old) → FitsLine (In g.function g.entered.0 g.reach)
+    → All FitsLine (rows_lines g.rows.items)
     → All FitsLine (groups_lines new)
 groups_fit old new g e h k rows =
     subst (All FitsLine) (sym (groups_push old new g e))
@@ -123,7 +126,8 @@ lines_push old g =
     let d = length-map g.rows.items row_of in
     omega (arith, a, b, d)
 
-pub count_more : (groups : List Group) (i lines : ℕ) (g : Group) → i < length groups → g ≡ get_or groups i g → lines ≡ Lines (take i groups) → lines + (1 + length g.rows.items) ≡ Lines (take (i + 1) groups)
+pub count_more : (groups : List Group) (i lines : ℕ) (g : Group) → i < length groups → g ≡ get_or groups i g → lines ≡ Lines (take i groups)
+    → lines + (1 + length g.rows.items) ≡ Lines (take (i + 1) groups)
 count_more groups i lines g lt is e =
     let a = ap Lines (take_more groups i g lt ∙ ap (λ x. take i groups ++ x ∷ []) (sym is)) in
     let b = lines_push (take i groups) g in
@@ -252,7 +256,8 @@ module _ (text first second third fourth last : List ℕ) (states : ℕ) (D : Op
       cases D (g ∷ gs) (At p x a) ms st may s = st p x a more s
       cases _ _ _ ms st may s = absurd may
 
-  pub fault_line : StopsMoves D fourth → NoGroup last → StopsAt groups fourth last → ((more : List ℕ) → StartsWith last End more → ⊥) → IsCause text (Line (length moves + Lines groups + 4))
+  pub fault_line : StopsMoves D fourth → NoGroup last → StopsAt groups fourth last → ((more : List ℕ) → StartsWith last End more → ⊥)
+      → IsCause text (Line (length moves + Lines groups + 4))
   fault_line moves_stop no_group stops over = subst (λ n. IsFault text (Line (n + 4))) many_lines (no_line the_audit last begun over (follows_none moves_stop no_group stops))
 
 pub some_bytes : (bytes : List ℕ) (is_empty : Bool) → is_empty ≡ eqb (length bytes) 0 → is_empty ≡ false → bytes ≡ [] → ⊥

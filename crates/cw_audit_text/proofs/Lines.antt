@@ -166,7 +166,8 @@ words_free mark s End fits = one_free mark (codes "end") (name_free mark s (code
 pub words_of_text : (text : List ℕ) (l : TextLine) → FitsLine l → line_text l ≡ text → words_of 32 text ≡ line_words l
 unfolding line_text
 words_of_text text l fits e =
-    ap (words_of 32) (sym e ∙ ap (joined 32) (words-kind l)) ∙ words-joined 32 (kind_word (kind_in l)) (rest_words l) (subst (All (IsFree 32)) (words-kind l) (words_free 32 space l fits)) ∙ sym (words-kind l)
+    ap (words_of 32) (sym e ∙ ap (joined 32) (words-kind l)) ∙ words-joined 32 (kind_word (kind_in l)) (rest_words l) (subst (All (IsFree 32)) (words-kind l) (words_free 32 space l fits))
+    ∙ sym (words-kind l)
 
 pub text_free : (l : TextLine) → FitsLine l → IsFree 10 (line_text l)
 unfolding line_text
@@ -223,7 +224,8 @@ one_rest _ _ fits also k e = absurd (cc)
 
 pub one_start : (text rest more : List ℕ) (a b : TextLine) → StartsWith text a rest → StartsWith text b more → (a ≡ b) × (rest ≡ more)
 one_start text rest more a b s t =
-    let l = one_line 10 (line_text a) (line_text b) rest more (text_free a s.fits) (text_free b t.fits) (sym (line_end (line_text a) rest) ∙ sym s.spelled ∙ t.spelled ∙ line_end (line_text b) more) in
+    let l = one_line 10 (line_text a) (line_text b) rest more (text_free a s.fits) (text_free b t.fits)
+    (sym (line_end (line_text a) rest) ∙ sym s.spelled ∙ t.spelled ∙ line_end (line_text b) more) in
     let words = sym (words_of_text (line_text b) a s.fits l.0) ∙ words_of_text (line_text b) b t.fits refl in
     let p = first_word a (kind_word (kind_in b)) (rest_words b) (words ∙ words-kind b) in
     (one_rest a b s.fits t.fits (one_kind (kind_in a) (kind_in b) p.0) p.1, l.1)

@@ -1,5 +1,6 @@
 -- A text is that of one audit, or has one fault, and not both.
-use Rattle.std.proofs.Common.{◌≡◌, ◌≢◌, ℕ, ◌+◌, ◌⊎◌, Bool, true, false, List, [], ◌∷◌, ◌++◌, length, map, Option, Some, None, refl, sym, ap, ap₂, ◌∙◌, subst, arith, append-nil, append_assoc, length-append, inl, inr}
+use Rattle.std.proofs.Common.{◌≡◌, ◌≢◌, ℕ, ◌+◌, ◌⊎◌, Bool, true, false, List, [], ◌∷◌, ◌++◌, length, map, Option, Some, None, refl, sym, ap, ap₂, ◌∙◌}
+use Rattle.std.proofs.Common.{subst, arith, append-nil, append_assoc, length-append, inl, inr}
 use Rattle.std.specs.Prelude.{Result, Ok, Err, IfOk, IfErr, option_and_then}
 use Rattle.std.specs.List.{flat_map, All}
 use Rattle.std.proofs.lemmas.Bool.{false≢true}
@@ -215,7 +216,8 @@ lines_spelled t rest =
         first_spelled l ls = ap (λ a. a ++ rest) (lines_more l ls) ∙ append_assoc (whole_line l) (whole_lines ls) rest
 
 ended_spelled : (t : Audit) (more : List ℕ) → whole_lines (lines_of t ++ End ∷ []) ++ more ≡ whole_lines (lines_of t) ++ (whole_line End ++ more)
-ended_spelled t more = ap (λ a. a ++ more) (lines_two (lines_of t) (End ∷ []) ∙ ap (λ a. whole_lines (lines_of t) ++ a) (lines_one End)) ∙ append_assoc (whole_lines (lines_of t)) (whole_line End) more
+ended_spelled t more = ap (λ a. a ++ more) (lines_two (lines_of t) (End ∷ []) ∙ ap (λ a. whole_lines (lines_of t) ++ a) (lines_one End))
+    ∙ append_assoc (whole_lines (lines_of t)) (whole_line End) more
 
 front_stands : (t : Audit) → Fits t → after (Some at_head) (lines_of t) ≡ Some (place_of t.distance t.groups)
 front_stands t fits = after_verdict t.distance t.moves t.groups fits.moves
@@ -273,7 +275,8 @@ one_line_text l text rest s = s.spelled ∙ ap (λ t. t ++ rest) (sym (lines_one
 
 two_lines_text : (l m : TextLine) (text between rest : List ℕ) → StartsWith text l between → StartsWith between m rest → text ≡ whole_lines (l ∷ m ∷ []) ++ rest
 two_lines_text l m text between rest s t =
-    s.spelled ∙ ap (λ a. whole_line l ++ a) (one_line_text m between rest t) ∙ sym (append_assoc (whole_line l) (whole_lines (m ∷ [])) rest) ∙ ap (λ a. a ++ rest) (sym (lines_more l (m ∷ [])))
+    s.spelled ∙ ap (λ a. whole_line l ++ a) (one_line_text m between rest t) ∙ sym (append_assoc (whole_line l) (whole_lines (m ∷ [])) rest)
+    ∙ ap (λ a. a ++ rest) (sym (lines_more l (m ∷ [])))
 
 stop_of_fault : (text : List ℕ) (f : AuditTextFault) → IsFault text f → StopOf text (Err f)
 stop_of_fault text f (no_head none) = record {
@@ -483,7 +486,8 @@ audit_back t =
 
 -- ---- the law
 
-one_told : (xs ys : List TextLine) (rest more : List ℕ) (p q : Place) (a b : Result Audit AuditTextFault) → xs ≡ ys → rest ≡ more → p ≡ q → IsTold xs rest p a → IsTold ys more q b → a ≡ b
+one_told : (xs ys : List TextLine) (rest more : List ℕ) (p q : Place) (a b : Result Audit AuditTextFault) → xs ≡ ys → rest ≡ more → p ≡ q → IsTold xs rest p a
+    → IsTold ys more q b → a ≡ b
 one_told xs ys rest more p q (Ok t) (Ok u) lines texts places h k = ap Ok (sym (audit_back t) ∙ ap audit_in (sym h.2 ∙ lines ∙ k.2) ∙ audit_back u)
 one_told xs ys rest more p q (Ok t) (Err f) lines texts places h k = absurd (k.0 (ap is_over (sym places) ∙ h.0) (sym texts ∙ h.1))
 one_told xs ys rest more p q (Err f) (Ok u) lines texts places h k = absurd (h.0 (ap is_over places ∙ k.0) (texts ∙ k.1))

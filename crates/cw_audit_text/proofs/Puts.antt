@@ -15,7 +15,8 @@ use Rattle.cw_audit_text.specs.declared.text_line.TextLine.TheVariants.{Go, In, 
 use Rattle.cw_audit_text.specs.TextLines.{line_text, whole_line}
 use Rattle.cw_audit_text.specs.AuditText.{head_line, states_line, verdict_line, end_line, row_line, group_lines, whole_lines, audit_text}
 
-regrouped : (t0 word a b n : List ℕ) → ((((((t0 ++ (word ++ 32 ∷ [])) ++ a) ++ 32 ∷ []) ++ b) ++ 32 ∷ []) ++ n) ++ 10 ∷ [] ≡ t0 ++ ((word ++ (32 ∷ (a ++ (32 ∷ (b ++ (32 ∷ n)))))) ++ 10 ∷ [])
+regrouped : (t0 word a b n : List ℕ) → ((((((t0 ++ (word ++ 32 ∷ [])) ++ a) ++ 32 ∷ []) ++ b) ++ 32 ∷ []) ++ n) ++ 10 ∷ []
+    ≡ t0 ++ ((word ++ (32 ∷ (a ++ (32 ∷ (b ++ (32 ∷ n)))))) ++ 10 ∷ [])
 regrouped t0 word a b n = simp append_assoc
 
 pub in_put : (f q r : ℕ) (t0 t1 t2 t3 t4 t5 t6 t7 : List ℕ) → t1 ≡ t0 ++ codes "in " → t2 ≡ t1 ++ decimal f → t3 ≡ t2 ++ codes " " → t4 ≡ t3 ++ decimal q → t5 ≡ t4 ++ codes " "
@@ -78,7 +79,8 @@ pub lines_step : {A : Type 0} (items : A → List TextLine) (old now new : List 
 lines_step {A = A} items old now new xs i d lt so_far put =
     put ∙ ap (λ t. t ++ whole_lines (items (get_or xs i d))) so_far ∙ append_assoc old (Lines items (take i xs)) (whole_lines (items (get_or xs i d)))
     ∙ ap (λ t. old ++ t) (sym (lines_two (flat_map items (take i xs)) (items (get_or xs i d)))
-    ∙ ap whole_lines (ap (λ t. flat_map items (take i xs) ++ t) (sym (flat_one (items (get_or xs i d)))) ∙ sym (flat_items (take i xs) (get_or xs i d ∷ [])) ∙ ap (flat_map items) (sym (take_more xs i d lt))))
+    ∙ ap whole_lines (ap (λ t. flat_map items (take i xs) ++ t) (sym (flat_one (items (get_or xs i d)))) ∙ sym (flat_items (take i xs) (get_or xs i d ∷ []))
+    ∙ ap (flat_map items) (sym (take_more xs i d lt))))
   where
     flat_one : (is : List TextLine) → is ++ [] ≡ is
     flat_one is = append-nil is
@@ -116,7 +118,8 @@ whole : (t0 head states n verdict moves groups end : List ℕ) → ((((((t0 ++ (
     ≡ t0 ++ ((head ++ 10 ∷ []) ++ (((states ++ (32 ∷ n)) ++ 10 ∷ []) ++ (verdict ++ ((moves ++ groups) ++ end))))
 whole t0 head states n verdict moves groups end = simp append_assoc
 
-pub audit_put : (t : Audit) (t0 t1 t2 t3 t4 t5 t6 t7 : List ℕ) → t1 ≡ t0 ++ codes "capweave audit 1\nstates " → t2 ≡ t1 ++ decimal t.states → t3 ≡ t2 ++ codes "\n" → t4 ≡ t3 ++ verdict_line t.distance
+pub audit_put : (t : Audit) (t0 t1 t2 t3 t4 t5 t6 t7 : List ℕ) → t1 ≡ t0 ++ codes "capweave audit 1\nstates " → t2 ≡ t1 ++ decimal t.states → t3 ≡ t2 ++ codes "\n"
+    → t4 ≡ t3 ++ verdict_line t.distance
     → t5 ≡ t4 ++ whole_lines (map Go t.moves) → t6 ≡ t5 ++ whole_lines (flat_map group_lines t.groups) → t7 ≡ t6 ++ codes "end\n" → t7 ≡ t0 ++ audit_text t
 unfolding audit_text head_line states_line end_line
 audit_put t t0 t1 t2 t3 t4 t5 t6 t7 h1 h2 h3 h4 h5 h6 h7 =

@@ -1,5 +1,6 @@
 -- Each text is that of an audit or has a fault: what decides it, line by line.
-use Rattle.std.proofs.Common.{◌≡◌, ◌≢◌, ℕ, zero, suc, ◌+◌, ◌^◌, ◌<◌, ◌⊎◌, Bool, true, false, eqb, List, [], ◌∷◌, ◌++◌, length, map, Option, Some, None, refl, sym, ap, ◌∙◌, subst, arith, append-nil, append_assoc, inl, inr}
+use Rattle.std.proofs.Common.{◌≡◌, ◌≢◌, ℕ, zero, suc, ◌+◌, ◌^◌, ◌<◌, ◌⊎◌, Bool, true, false, eqb, List, [], ◌∷◌, ◌++◌, length, map, Option, Some, None}
+use Rattle.std.proofs.Common.{refl, sym, ap, ◌∙◌, subst, arith, append-nil, append_assoc, inl, inr}
 use Rattle.std.specs.Prelude.{Result, Ok, Err, codes, bytes_eq}
 use Rattle.std.specs.List.{flat_map, All}
 use Rattle.std.proofs.lemmas.Bool.{cases_eq, false≢true, ne_eqb}
@@ -212,7 +213,8 @@ move_more moves by = append-nil (map Go (moves ++ by ∷ [])) ∙ map-append Go 
 group_more : (groups : List PlainGroup) (f q r : ℕ) → flat_map group_lines (groups ++ empty f q r ∷ []) ≡ flat_map group_lines groups ++ In f q r ∷ []
 group_more groups f q r = flat_two groups (empty f q r ∷ [])
 
-begins_with : (text rest more : List ℕ) (states : ℕ) (D : Option ℕ) (moves moves2 : List Move) (groups groups2 : List PlainGroup) (l : TextLine) → Begins text (audit states D moves groups) rest
+begins_with : (text rest more : List ℕ) (states : ℕ) (D : Option ℕ) (moves moves2 : List Move) (groups groups2 : List PlainGroup) (l : TextLine)
+    → Begins text (audit states D moves groups) rest
     → HasNoMoves D moves2 → map Go moves2 ++ flat_map group_lines groups2 ≡ (map Go moves ++ flat_map group_lines groups) ++ l ∷ [] → StartsWith rest l more
     → Begins text (audit states D moves2 groups2) more
 begins_with text rest more states D moves moves2 groups groups2 l b none e s =
@@ -305,7 +307,8 @@ no_moves : (D : Option ℕ) → HasNoMoves D []
 no_moves None = refl
 no_moves (Some T) = tt
 
-with_verdict : (text after rest more : List ℕ) (states : ℕ) (D : Option ℕ) → StartsWith text Head after → StartsWith after (States states) rest → StartsWith rest (verdict_of D) more → Answered text
+with_verdict : (text after rest more : List ℕ) (states : ℕ) (D : Option ℕ) → StartsWith text Head after → StartsWith after (States states) rest → StartsWith rest (verdict_of D) more
+    → Answered text
 with_verdict text after rest more states D h s v =
     lines_answered (suc (length more)) text (audit states D [] []) more (omega arith)
     (begun text after rest more more more states D [] [] h s v (no_lines more) (All-nil FitsLine) (no_moves D) (no_lines more) (All-nil FitsLine))

@@ -62,7 +62,8 @@ pub all_ends : (h : Held) (s : Search) (ends : Lists) (count : ℕ) → count �
 all_ends h s ends count is each = λ n at row e end. each n (omega (arith, is, slice_get_within s.store.rows.entries n (at, row) e)) at row e end
 
 -- what was told of so many listed ends, and one more
-pub told_more : (h : Held) (s s1 : Search) (call : Calling) (ns : List ℕ) (n number : ℕ) → s1.store ≡ s.store → AreEndsTold h s call ns n → slice_get ns n ≡ Some number → IsEndTold h s1 call number
+pub told_more : (h : Held) (s s1 : Search) (call : Calling) (ns : List ℕ) (n number : ℕ) → s1.store ≡ s.store → AreEndsTold h s call ns n → slice_get ns n ≡ Some number
+    → IsEndTold h s1 call number
     → AreEndsTold h s call ns (n + 1)
 told_more h s s1 call ns n number same before there here = λ i m l e. elim (leb_tells n i) [
   | inl q ↦ let z : i ≡ n = omega (arith, q.1, l) in
@@ -72,7 +73,8 @@ told_more h s s1 call ns n number same before there here = λ i m l e. elim (leb
 ]
 
 -- the list of the entrance to which the call leads has its ends
-pub call_ends : (h : Held) (s s1 : Search) (ends : Lists) (call : Calling) (ns : List ℕ) → s1.store ≡ s.store → ns ≡ list_of ends (entrance call.callee call.met.place.state.0) → AreEnds h s ends
+pub call_ends : (h : Held) (s s1 : Search) (ends : Lists) (call : Calling) (ns : List ℕ) → s1.store ≡ s.store → ns ≡ list_of ends (entrance call.callee call.met.place.state.0)
+    → AreEnds h s ends
     → AreEndsOf h s1 call ns
 call_ends h s s1 ends call ns same is are = λ y number row there.
     subst (λ ns. IsIn ns number) (sym is) (are number (end_of h call y) row (sym (ap (λ (t : Store). slice_get t.rows.entries number) same) ∙ there) refl)

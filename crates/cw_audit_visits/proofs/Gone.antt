@@ -58,7 +58,8 @@ module _ (h : Held) (s s2 : Search) (at : Entrance) (entered : Entered) where
       ∙ ap (λ b. cond b (Some entered.reach) ((found_of s.store).reach at.function at.state.0)) (group_itself at.function at.state.0)
 
 -- the entry of a group may be proposed
-pub entry_due : (h : Held) (s : Search) (f q : ℕ) (p : PosId) → IsFairGame h → IsKept (game_of h) (functions_of h) s → p.0 ≡ (game_of h).entry f → (r : ℕ) × ((found_of s.store).reach f q ≡ Some r)
+pub entry_due : (h : Held) (s : Search) (f q : ℕ) (p : PosId) → IsFairGame h → IsKept (game_of h) (functions_of h) s → p.0 ≡ (game_of h).entry f
+    → (r : ℕ) × ((found_of s.store).reach f q ≡ Some r)
     → IsDue h s (place f q p.0 q) 0 Begun
 entry_due h s f q p fair kept is known = record {
   proposal = subst (λ p. IsProposal (game_of h) (found_of s.store) f q p q 0) (sym is) (entry_proposal (game_of h) (functions_of h) fair (found_of s.store) kept.sound f q known.0 known.1);

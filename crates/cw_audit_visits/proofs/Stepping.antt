@@ -58,7 +58,8 @@ module _ (h : Held) (s : Search) (at : Place) (a : ℕ) (by : Move) (inner : is_
       (subst (λ x. IsCovered (game_of h) (found_of s.store) at.entrance.function at.entrance.state.0 m l.0.pos x (cut (a + 1))) (sym l.3)
       (subst (λ p. IsCovered (game_of h) (found_of s.store) at.entrance.function at.entrance.state.0 m p r.1.0 (cut (a + 1))) (sym l.2) z))
 
-pub step_later : (h : Held) (s s2 : Search) (at : Place) (a : ℕ) (by : Move) → IsFairGame h → HasFallen (found_of s.store) (found_of s2.store) → IsStepDue h s at a by → IsStepDue h s2 at a by
+pub step_later : (h : Held) (s s2 : Search) (at : Place) (a : ℕ) (by : Move) → IsFairGame h → HasFallen (found_of s.store) (found_of s2.store) → IsStepDue h s at a by
+    → IsStepDue h s2 at a by
 step_later h s s2 at a by fair fallen due = λ c l.
     let d = due c l in
     let f = at.entrance.function in
@@ -97,7 +98,8 @@ row_low h s at row kept e =
     omega (arith, w.2, min-le_right w.0 65537)
 
 -- a call's row enters the callee
-module _ (h : Held) (s : Search) (met : Met) (f n : ℕ) (there : IsThere s met) (number : n ≡ cut (met.reach + met.row.inside + 1)) (j k : ℕ) (call : spot_at h met.place ≡ Some (Call j f k)) where
+module _ (h : Held) (s : Search) (met : Met) (f n : ℕ) (there : IsThere s met) (number : n ≡ cut (met.reach + met.row.inside + 1)) (j k : ℕ)
+    (call : spot_at h met.place ≡ Some (Call j f k)) where
   pub callee_arrival : IsFairGame h → IsKept (game_of h) (functions_of h) s → IsArrival (game_of h) f met.place.state.0 n
   callee_arrival fair kept =
       let at = met.place in
@@ -115,7 +117,8 @@ not_inner : (spot : Option Spot) → (j h k : ℕ) → spot ≡ Some (Call j h k
 not_inner spot j h k e i = not_call spot i j h k e
 
 module _ (h : Held) (s : Search) (at : Place) where
-  pub visited_inner : (row : Row) → row_at s.store at ≡ Some row → is_inner (spot_at h at) ≡ true → ((by : Move) → is_step by ≡ true → IsStepTold h s at row.inside by) → IsVisited h s at
+  pub visited_inner : (row : Row) → row_at s.store at ≡ Some row → is_inner (spot_at h at) ≡ true → ((by : Move) → is_step by ≡ true → IsStepTold h s at row.inside by)
+      → IsVisited h s at
   visited_inner row e inner told = λ r a er ea. record {
     steps = λ by c i step l.
         let same = same_Some row.inside a (sym (ap (option_map (λ (r : Row). r.inside)) e) ∙ ea) in

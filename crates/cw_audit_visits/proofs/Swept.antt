@@ -46,7 +46,8 @@ all_begun h s count is each = λ f q r er.
 pub group_reached : (s : Search) (at : Entrance) (e : Entered) → group_at s.store at ≡ Some e → (found_of s.store).reach at.function at.state.0 ≡ Some e.reach
 group_reached s at e there = ap (option_map (λ (e : Entered). e.reach)) there
 
-pub group_arrival : (h : Held) (s : Search) (at : Entrance) (e : Entered) → IsKept (game_of h) (functions_of h) s → group_at s.store at ≡ Some e → IsArrival (game_of h) at.function at.state.0 e.reach
+pub group_arrival : (h : Held) (s : Search) (at : Entrance) (e : Entered) → IsKept (game_of h) (functions_of h) s → group_at s.store at ≡ Some e
+    → IsArrival (game_of h) at.function at.state.0 e.reach
 group_arrival h s at e kept there = kept.sound.entered at.function at.state.0 e.reach (group_reached s at e there)
 
 pub entry_told : (h : Held) (s : Search) (at : Entrance) (e : Entered) (p : PosId) → p.0 ≡ (game_of h).entry at.function → group_at s.store at ≡ Some e

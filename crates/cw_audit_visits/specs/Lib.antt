@@ -1,2 +1,3 @@
 -- The definitions.
+pub mod GroupNumbers
 pub mod Searching

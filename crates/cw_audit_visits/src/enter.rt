@@ -6,11 +6,12 @@ ghost use Rattle.cw_audit_search.specs.Sound.{IsArrival};
 ghost use Rattle.cw_audit_search.specs.Ways.{IsCaller};
 ghost use Rattle.cw_audit_visits.specs.Searching.{IsCallOf, IsCallNear, IsFairGame, IsGoneOn, IsGroupFalling, IsGroupNear, IsGroupSet, IsKept, IsThere, Tells, functions_of, found_of, caller_of};
 
-use crate::look::{cut, short};
+use crate::group_numbers::short;
 use crate::met::Calling;
 use crate::propose::propose;
 use crate::under_way::Search;
 use cw_audit_store::{Entered, Entrance, Frontier, Place, Row, Store, Way};
+use cw_audit_table::cut;
 use cw_core::NoMemory;
 use cw_product::Game;
 use std::alloc::Global;

@@ -3,7 +3,7 @@
 
 mod ends;
 mod enter;
-mod look;
+mod group_numbers;
 mod met;
 mod propose;
 mod returns;

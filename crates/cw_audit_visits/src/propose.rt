@@ -5,9 +5,9 @@ ghost use Rattle.cw_product.specs.Moves.{IsPosition, IsState};
 ghost use Rattle.cw_product.specs.Product.{game_of};
 ghost use Rattle.cw_audit_visits.specs.Searching.{IsDue, IsHitNear, IsHitSet, IsNear, IsRowSet, IsFairGame, IsGoneOn, IsHitFalling, IsRowFalling, IsKept, IsTold, Tells, functions_of, reach_of};
 
-use crate::look::{cut, skipped};
 use crate::under_way::Search;
 use cw_audit_store::{Hit, Place, Row};
+use cw_audit_table::{cut, skipped};
 use cw_core::NoMemory;
 use cw_product::Game;
 

@@ -5,11 +5,11 @@ ghost use Rattle.cw_product.specs.Product.{game_of};
 ghost use Rattle.cw_audit_store.specs.Stores.{place_eq};
 ghost use Rattle.cw_audit_visits.specs.Searching.{IsCallOf, IsEndTold, IsFairGame, IsGoneOn, IsKept, IsThere, Tells, functions_of, end_of};
 
-use crate::look::cut;
 use crate::met::{Calling, call_at, meet};
 use crate::propose::propose;
 use crate::under_way::Search;
 use cw_audit_store::{Entrance, Place, Row, Way};
+use cw_audit_table::cut;
 use cw_core::NoMemory;
 use cw_product::Game;
 

@@ -5,7 +5,7 @@ ghost use Rattle.cw_product.specs.Product.{game_of};
 ghost use Rattle.cw_audit_visits.specs.Searching.{IsFairGame, IsGoneOn, IsKept, Tells, functions_of};
 
 use crate::enter::call;
-use crate::look::short;
+use crate::group_numbers::number_of;
 use crate::met::{Calling, call_at, is_within, meet};
 use crate::returns::{resume_all, return_all};
 use crate::steps::steps;
@@ -13,14 +13,6 @@ use crate::under_way::Search;
 use cw_audit_store::Entrance;
 use cw_core::NoMemory;
 use cw_product::Game;
-
-// The number that the entrance's group has, or will have.
-fn number_of(search: &Search, entrance: Entrance) -> u32 {
-    match search.store.group_number(entrance) {
-        Some(number) => short(number),
-        None => short(search.store.group_count()),
-    }
-}
 
 /// All that the row with the number leads to is proposed, where it isn't nearer than by the key with which it waited: then it waits,
 /// or was visited, by that. The answer is whether anything changed.

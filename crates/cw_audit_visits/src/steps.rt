@@ -9,11 +9,11 @@ ghost use Rattle.cw_audit_table.specs.Runs.{cut, is_step};
 ghost use Rattle.cw_audit_table.specs.Conditions.{is_inner};
 ghost use Rattle.cw_audit_visits.specs.Searching.{IsFairGame, IsGoneOn, IsKept, IsStepDue, IsStepTold, IsThere, Tells, functions_of, reach_of};
 
-use crate::look::cut;
 use crate::met::Met;
 use crate::propose::propose;
 use crate::under_way::Search;
 use cw_audit_store::{Place, Row, Way};
+use cw_audit_table::cut;
 use cw_certs::Move;
 use cw_core::NoMemory;
 use cw_product::Game;

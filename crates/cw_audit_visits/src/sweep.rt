@@ -7,13 +7,14 @@ ghost use Rattle.cw_audit_visits.specs.Searching.{AreBegun, AreEnds, AreEndsOf, 
 
 use crate::ends::ends_of;
 use crate::enter::call;
-use crate::look::{cut, short};
+use crate::group_numbers::{group_of, short};
 use crate::met::{Calling, Met, call_at, is_within, meet};
 use crate::propose::propose;
 use crate::returns::return_from;
 use crate::steps::steps;
 use crate::under_way::Search;
 use cw_audit_store::{Entrance, Lists, Place, Row, Way};
+use cw_audit_table::cut;
 use cw_core::NoMemory;
 use cw_product::Game;
 use std::alloc::Global;
@@ -62,17 +63,6 @@ fn begin_all(game: &Game, search: &mut Search) -> Result<bool, NoMemory>
         }
     }
     Ok(false)
-}
-
-// The number of the group of the first row with one of these numbers, or 0.
-fn group_of(search: &Search, numbers: &[usize]) -> u32 {
-    let Some(first) = numbers.first() else {
-        return 0;
-    };
-    match search.store.numbered(*first) {
-        Some((_place, row)) => row.group,
-        None => 0,
-    }
 }
 
 // A call's row goes on behind each return from a row with one of the numbers, until one changes something.

@@ -22,5 +22,6 @@ loop-row-preserved g c =
 
 pub returns-clause-text : goal.returns-clause-text
 returns-clause-text g c =
-    lines_end (λ (r : PosId × StateId × ℕ). row_line (row_of r) ∷ []) c.args.writer.now.text c.loop-row.writer.text c.args.rows.now c.loop-row.row-index c.loop-row-test.false c.loop-row.invariant.text
+    lines_end (λ (r : PosId × StateId × ℕ). row_line (row_of r) ∷ []) c.args.writer.now.text c.loop-row.writer.text c.args.rows.now c.loop-row.row-index c.loop-row-test.false
+    c.loop-row.invariant.text
     ∙ ap (λ is. c.args.writer.now.text ++ whole_lines is) (rows_mapped c.args.rows.now)

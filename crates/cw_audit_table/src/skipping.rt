@@ -13,23 +13,15 @@ use cw_product::Game;
 /// The greatest number that is told apart, and 1.
 const CUT: u64 = 65_537;
 
-/// The greatest number of 32 bits.
-const LONGEST: usize = 4_294_967_295;
-
 /// The number, cut.
-pub(crate) fn cut(n: u64) -> u32
+pub fn cut(n: u64) -> u32
     ensures { result ≡ cut n }
 {
     n.min(CUT) as u32
 }
 
-/// The number of a group, as its rows have it. Past 32 bits it is another, which is no group's own.
-pub(crate) fn short(number: usize) -> u32 {
-    number.min(LONGEST) as u32
-}
-
 /// The position behind what is skipped.
-pub(crate) fn skipped(game: &Game, pos: PosId) -> PosId
+pub fn skipped(game: &Game, pos: PosId) -> PosId
     requires { IsPosition (game_of game.now) pos.0 }
     ensures is { result.0 ≡ skipped (game_of game.now) pos.0 }
     ensures within { IsPosition (game_of game.now) result.0 }

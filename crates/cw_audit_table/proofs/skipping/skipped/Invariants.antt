@@ -1,7 +1,7 @@
 use Rattle.std.proofs.Common.{◌≡◌, ◌-◌, ◌<◌, length}
 use Rattle.cw_product.specs.Product.{game_of}
 use Rattle.cw_audit_table.specs.Runs.{skipped}
-use Rattle.cw_audit_visits.proofs.look.skipped.Given as goal
+use Rattle.cw_audit_table.proofs.skipping.skipped.Given as goal
 
 abbrev pub invariant-loop-at : goal.invariant-loop-at
 invariant-loop-at l = record {

@@ -8,7 +8,7 @@ use Rattle.cw_game.specs.declared.spots.Spot.TheVariants.{Visit}
 use Rattle.cw_game.specs.Games.{weavers_in}
 use Rattle.cw_product.specs.Product.{game_of}
 use Rattle.cw_audit_table.proofs.Skips.{skip_on, stays}
-use Rattle.cw_audit_visits.proofs.look.skipped.Goals as goal
+use Rattle.cw_audit_table.proofs.skipping.skipped.Goals as goal
 
 pub loop-at-preserved : goal.loop-at-preserved
 loop-at-preserved c =

@@ -1,0 +1,26 @@
+-- The numbers of groups, as rows have them.
+use Rattle.std.specs.Prelude.{ℕ, List, [], ◌∷◌, Option, Some, None, length, min, slice_get}
+use Rattle.std.specs.Option.{unwrap_or}
+use Rattle.indexmap.specs.IndexMap.{index_of}
+use Rattle.cw_audit_store.specs.declared.place.Entrance.{Entrance}
+use Rattle.cw_audit_store.specs.declared.place.Place.{Place}
+use Rattle.cw_audit_store.specs.declared.place.Row.{Row}
+use Rattle.cw_audit_store.specs.declared.store.Store.{Store}
+use Rattle.cw_audit_store.specs.Stores.{entrance_eq}
+
+-- in 32 bits
+abbrev pub short : ℕ → ℕ
+short number = min number 4294967295
+
+-- that of the entrance's group or, where there is none, of the next one
+abbrev pub number_of : Store → Entrance → ℕ
+number_of s entrance = short (unwrap_or (index_of entrance_eq s.groups entrance) (length s.groups.entries))
+
+abbrev pub group_in : Option (Place × Row) → ℕ
+group_in None = 0
+group_in (Some (place, row)) = row.group
+
+-- that which the row with the first of the numbers has
+abbrev pub group_of : Store → List ℕ → ℕ
+group_of s [] = 0
+group_of s (number ∷ more) = group_in (slice_get s.rows.entries number)
