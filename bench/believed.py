@@ -56,7 +56,7 @@ class Definitions:
         self.lines = 0
         groups = [(0, set())]
         current, opened = None, False
-        for line in re.sub(r"^use [^{\n]*(?:\{[^}]*\})?.*$", "", text, flags=re.M).splitlines():
+        for line in re.sub(r"^(?:pub )?use [^{\n]*(?:\{[^}]*\})?.*$", "", text, flags=re.M).splitlines():
             code = line.split("--")[0].rstrip()
             stripped = code.strip()
             if not stripped:

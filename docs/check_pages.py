@@ -5,6 +5,7 @@
 
 - Each crate of crates.txt stands once in the table of docs/ARCHITECTURE.md, below those that stand on it, with what it stands on: but for what is below another crate that
   it names, and then the kit's crates in italics. With --write that column is written. Each crate has a README.md.
+- The picture of the layers, and the map of subjects, name each crate but those of tests, the picture once.
 - Each wrong body (crates/CRATE/must-fail, bench/edits/CRATE) is named in docs/PROMISES.md, and each that is named in its third column is there.
 - Each link of a page to a file of the repository leads to one.
 
@@ -18,6 +19,16 @@ import sys
 PAGE = os.path.join("docs", "ARCHITECTURE.md")
 SECTION = "## The crates, bottom to top"
 ROW = re.compile(r"^\| `(\w+)` \| ([^|]*) \|[^|]*\|$")
+
+
+def wrong_pictures(text, names):
+    """Crates that the picture of the layers doesn't have once, or the map of subjects not at all; names of none."""
+    parts = {part.split("\n", 1)[0]: part for part in text.split("\n## ")}
+    drawn = re.findall(r"\b(?:cw_\w+|capweave)\b", parts["The layers"].split("```")[1])
+    mapped = re.findall(r"`(cw_\w+|capweave)`", parts["Where a subject stands"])
+    wanted = {name for name in names if not name.endswith("_tests")}
+    wrong = [f"{name} stands in the picture {drawn.count(name)} times" for name in sorted(wanted | set(drawn)) if drawn.count(name) != (name in wanted)]
+    return wrong + [f"{name} isn't in the map of subjects" for name in sorted(wanted - set(mapped))]
 
 
 def wrong_edits():
@@ -85,6 +96,7 @@ def main():
         if lines[number] != line and "--write" not in sys.argv[1:]:
             wrong.append(f"{name} stands on {stands_on(name)}")
     wrong += [f"{name} isn't there" for name in sorted(uses) if name not in seen]
+    wrong += wrong_pictures("\n".join(lines), uses)
     wrong += [f"{name} has no README.md" for name in sorted(uses) if not os.path.exists(os.path.join("crates", name, "README.md"))]
     if "--write" in sys.argv[1:]:
         with open(PAGE, "w", encoding="utf-8") as page:

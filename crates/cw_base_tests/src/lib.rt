@@ -2,8 +2,6 @@
 #![tactic(auto)]
 
 #[cfg(test)]
-mod expressions;
-#[cfg(test)]
 mod files;
 #[cfg(test)]
 mod links;
@@ -13,7 +11,3 @@ mod marks;
 mod numerals;
 #[cfg(test)]
 mod pieces;
-#[cfg(test)]
-mod rights;
-#[cfg(test)]
-mod words;

@@ -8,36 +8,34 @@ use cw_core::{
 use std::alloc::{AllocError, Global};
 use std::cmp::Ordering;
 use std::process::Abort;
-use std::test::Fail;
 
-/// `0x`, a first digit and so many times a further one.
-fn spelling(alloc: Global, first: u8, further: u8, count: usize) -> Result<Vec<u8>, AllocError> {
-    let mut text = b"0x".to_vec(alloc)?;
-    text.push(first)?;
-    for _ in 0..count {
-        text.push(further)?;
-    }
-    Ok(text)
+fn decimal_of(rt: &impl Abort, alloc: Global, number: u64) -> Vec<u8> {
+    let mut text = Vec::new(alloc);
+    put_dec(number, &mut text).expect(rt, "memory");
+    text
+}
+
+/// The number that is read of a text behind so many bytes, and where it ends.
+fn number_in(rt: &impl Abort, text: &[u8], at: usize) -> Option<(u64, usize)> {
+    assert!(rt; at <= text.len());
+    read_dec(text, at)
 }
 
 /// Asserts that each of these numbers is written so, and read back.
-fn all_decimal(rt: &impl Abort, alloc: Global, numbers: &[(u64, &str)]) -> Result<(), Fail> {
+fn all_decimal(rt: &impl Abort, alloc: Global, numbers: &[(u64, &str)]) {
     for (number, want) in numbers {
-        let mut text = Vec::new(alloc);
-        put_dec(*number, &mut text)?;
-        assert_eq!(rt; text.as_slice(), want.as_bytes(), "at {want}");
-        assert_eq!(rt;
-            read_dec(&text, 0),
-            Some((*number, text.len())),
+        let text = decimal_of(rt, alloc, *number);
+        assert!(rt; text.as_slice() == want.as_bytes(), "at {want}");
+        assert!(rt;
+            number_in(rt, &text, 0) == Some((*number, text.len())),
             "at {want}"
         );
         decimal_is_read_back(*number, b"a", b",");
     }
-    Ok(())
 }
 
 #[test]
-fn numbers_are_written_and_read_back(rt: HostRuntime) -> Result<(), Fail> {
+fn numbers_are_written_and_read_back(rt: HostRuntime) {
     all_decimal(
         &rt,
         rt.alloc(),
@@ -47,14 +45,13 @@ fn numbers_are_written_and_read_back(rt: HostRuntime) -> Result<(), Fail> {
             (10, "10"),
             (u64::MAX, "18446744073709551615"),
         ],
-    )
+    );
 }
 
 /// Asserts what number is read of each of these texts behind so many bytes, and where it ends.
 fn all_numbers(rt: &impl Abort, texts: &[(&str, usize, Option<(u64, usize)>)]) {
     for (text, at, want) in texts {
-        assert!(rt; *at <= text.len());
-        assert_eq!(rt; read_dec(text.as_bytes(), *at), *want, "at {text}");
+        assert!(rt; number_in(rt, text.as_bytes(), *at) == *want, "at {text}");
     }
 }
 
@@ -79,60 +76,128 @@ fn numbers_are_read_exactly(rt: HostRuntime) {
     );
 }
 
-#[test]
-fn sets_are_written_and_read_back(rt: HostRuntime) -> Result<(), Fail> {
-    let none = StateSet::empty();
-    let mut last = StateSet::empty();
-    last.insert(StateId(1023));
-    for (set, want) in [
-        (none, spelling(rt.alloc(), b'0', b'0', 0)?),
-        (none.complement_in(4), spelling(rt.alloc(), b'f', b'0', 0)?),
-        (
-            none.complement_in(4).complement_in(5),
-            spelling(rt.alloc(), b'1', b'0', 1)?,
-        ),
-        (
-            none.complement_in(64).complement_in(65),
-            spelling(rt.alloc(), b'1', b'0', 16)?,
-        ),
-        (
-            none.complement_in(1022).complement_in(1023),
-            spelling(rt.alloc(), b'4', b'0', 255)?,
-        ),
-        (last, spelling(rt.alloc(), b'8', b'0', 255)?),
-        (
-            none.complement_in(1024),
-            spelling(rt.alloc(), b'f', b'f', 255)?,
-        ),
-    ] {
-        let mut text = Vec::new(rt.alloc());
-        put_hex(&set, &mut text)?;
-        assert_eq!(rt; text.as_slice(), want.as_slice());
-        assert!(rt; read_hex(&text, 0) == Some((set, text.len())));
-        set_is_read_back(&set, b"a", b",");
+/// The numbers from the least to the greatest, none where the least is above it, and further ones.
+fn set_of(least: u16, greatest: u16, further: &[u16]) -> StateSet {
+    let mut set = StateSet::empty()
+        .complement_in(least.min(1024))
+        .complement_in(greatest.saturating_add(1).min(1024));
+    for number in further {
+        if *number < 1024 {
+            set.insert(StateId(*number));
+        }
     }
-    Ok(())
+    set
 }
 
-/// Asserts what set is read of each of these texts behind so many bytes, and where it ends.
-fn all_sets(rt: &impl Abort, texts: &[(&str, usize, Option<(StateSet, usize)>)]) {
-    for (text, at, want) in texts {
-        assert!(rt; *at <= text.len());
-        assert!(rt; read_hex(text.as_bytes(), *at) == *want, "at {text}");
+/// A set as it is written, as a mask or in ranges.
+fn text_of(rt: &impl Abort, alloc: Global, in_ranges: bool, set: &StateSet) -> Vec<u8> {
+    let mut text = Vec::new(alloc);
+    let written = if in_ranges {
+        put_ranges(set, &mut text)
+    } else {
+        put_hex(set, &mut text)
+    };
+    written.expect(rt, "memory");
+    text
+}
+
+/// The set that is read of a text behind so many bytes, as a mask or in ranges, and where it ends.
+fn set_in(rt: &impl Abort, in_ranges: bool, text: &[u8], at: usize) -> Option<(StateSet, usize)> {
+    assert!(rt; at <= text.len());
+    if in_ranges {
+        read_ranges(text, at)
+    } else {
+        read_hex(text, at)
     }
 }
 
+fn call_laws(set: &StateSet) {
+    set_is_read_back(set, b"a", b",");
+    spelling_is_read_back(set, b"a", b",");
+    runs_are_maximal(set);
+}
+
+/// Asserts that a set is written so, as a mask or in ranges, and read back.
+fn expect_written(rt: &impl Abort, alloc: Global, in_ranges: bool, set: &StateSet, want: &str) {
+    let text = text_of(rt, alloc, in_ranges, set);
+    assert!(rt; text.as_slice() == want.as_bytes(), "at {want}");
+    assert!(rt;
+        set_in(rt, in_ranges, &text, 0) == Some((*set, text.len())),
+        "at {want}"
+    );
+    call_laws(set);
+}
+
+/// Asserts that each of these sets, told as [`set_of`] takes them, is written so, and read back.
+fn all_written(rt: &impl Abort, alloc: Global, in_ranges: bool, sets: &[(u16, u16, &[u16], &str)]) {
+    for (least, greatest, further, want) in sets {
+        expect_written(
+            rt,
+            alloc,
+            in_ranges,
+            &set_of(*least, *greatest, further),
+            want,
+        );
+    }
+}
+
 #[test]
-fn sets_are_read_exactly(rt: HostRuntime) -> Result<(), Fail> {
-    let none = StateSet::empty();
-    all_sets(
+fn sets_are_written_and_read_back(rt: HostRuntime) {
+    all_written(
         &rt,
+        rt.alloc(),
+        false,
+        &[
+            (1, 0, &[], "0x0"),
+            (0, 3, &[], "0xf"),
+            (4, 4, &[], "0x10"),
+            (64, 64, &[], "0x10000000000000000"),
+            (
+                1022,
+                1022,
+                &[],
+                "0x4000000000000000000000000000000000000000000000000000000000000000000000000000000000000000000000000000000000000000000000000000000000000000000000000000000000000000000000000000000000000000000000000000000000000000000000000000000000000000000000000000000000000000",
+            ),
+            (
+                1,
+                0,
+                &[1023],
+                "0x8000000000000000000000000000000000000000000000000000000000000000000000000000000000000000000000000000000000000000000000000000000000000000000000000000000000000000000000000000000000000000000000000000000000000000000000000000000000000000000000000000000000000000",
+            ),
+            (
+                0,
+                1023,
+                &[],
+                "0xffffffffffffffffffffffffffffffffffffffffffffffffffffffffffffffffffffffffffffffffffffffffffffffffffffffffffffffffffffffffffffffffffffffffffffffffffffffffffffffffffffffffffffffffffffffffffffffffffffffffffffffffffffffffffffffffffffffffffffffffffffffffffffffff",
+            ),
+        ],
+    );
+}
+
+/// Asserts what set is read of each of these texts behind so many bytes, as a mask or in ranges: its least and its greatest number, which is
+/// below the least where the set is empty, and where it ends.
+fn all_read(rt: &impl Abort, in_ranges: bool, texts: &[(&str, usize, Option<(u16, u16, usize)>)]) {
+    for (text, at, want) in texts {
+        let read = set_in(rt, in_ranges, text.as_bytes(), *at);
+        let wanted = match want {
+            None => None,
+            Some((least, greatest, end)) => Some((set_of(*least, *greatest, &[]), *end)),
+        };
+        assert!(rt; read == wanted, "at {text}");
+    }
+}
+
+#[test]
+fn sets_are_read_exactly(rt: HostRuntime) {
+    all_read(
+        &rt,
+        false,
         &[
             ("0x0f", 0, None),
             ("0x00", 0, None),
-            ("0x0)", 0, Some((none, 3))),
-            ("0xf", 0, Some((none.complement_in(4), 3))),
-            ("a0x1F", 1, Some((none.complement_in(1), 4))),
+            ("0x0)", 0, Some((1, 0, 3))),
+            ("0xf", 0, Some((0, 3, 3))),
+            ("a0x1F", 1, Some((0, 0, 4))),
             ("a0x1F", 0, None),
             ("0xF", 0, None),
             ("0X1", 0, None),
@@ -140,94 +205,63 @@ fn sets_are_read_exactly(rt: HostRuntime) -> Result<(), Fail> {
             ("0xg", 0, None),
             ("0", 0, None),
             ("", 0, None),
+            (
+                "0x10000000000000000000000000000000000000000000000000000000000000000000000000000000000000000000000000000000000000000000000000000000000000000000000000000000000000000000000000000000000000000000000000000000000000000000000000000000000000000000000000000000000000000",
+                0,
+                None,
+            ),
+            (
+                "0x0fffffffffffffffffffffffffffffffffffffffffffffffffffffffffffffffffffffffffffffffffffffffffffffffffffffffffffffffffffffffffffffffffffffffffffffffffffffffffffffffffffffffffffffffffffffffffffffffffffffffffffffffffffffffffffffffffffffffffffffffffffffffffffffff",
+                0,
+                None,
+            ),
         ],
     );
-    for text in [
-        spelling(rt.alloc(), b'1', b'0', 256)?,
-        spelling(rt.alloc(), b'0', b'f', 255)?,
-    ] {
-        assert!(rt; read_hex(&text, 0) == None);
-    }
-    Ok(())
-}
-
-/// The numbers from the least to the greatest.
-fn run(least: u16, greatest: u16) -> StateSet {
-    StateSet::empty()
-        .complement_in(least.min(1024))
-        .complement_in(greatest.saturating_add(1).min(1024))
-}
-
-/// Asserts that each of these sets is written so, and read back.
-fn all_spelled(rt: &impl Abort, alloc: Global, sets: &[(StateSet, &str)]) -> Result<(), Fail> {
-    for (set, want) in sets {
-        let mut text = Vec::new(alloc);
-        put_ranges(set, &mut text)?;
-        assert_eq!(rt; text.as_slice(), want.as_bytes(), "at {want}");
-        assert!(rt;
-            read_ranges(&text, 0) == Some((*set, text.len())),
-            "at {want}"
-        );
-        spelling_is_read_back(set, b"a", b",");
-        runs_are_maximal(set);
-    }
-    Ok(())
 }
 
 #[test]
-fn ranges_are_written_and_read_back(rt: HostRuntime) -> Result<(), Fail> {
-    let mut several = run(7, 12);
-    several.insert(StateId(0));
-    several.insert(StateId(14));
-    several.insert(StateId(1023));
-    all_spelled(
+fn ranges_are_written_and_read_back(rt: HostRuntime) {
+    all_written(
         &rt,
         rt.alloc(),
+        true,
         &[
-            (StateSet::empty(), "0x0"),
-            (run(5, 5), "5"),
-            (run(0, 3), "0xf"),
-            (run(0, 11), "0-11"),
-            (run(0, 639), "0-639"),
-            (run(0, 1023), "0-1023"),
-            (several, "0+7-12+14+1023"),
+            (1, 0, &[], "0x0"),
+            (5, 5, &[], "5"),
+            (0, 3, &[], "0xf"),
+            (0, 11, &[], "0-11"),
+            (0, 639, &[], "0-639"),
+            (0, 1023, &[], "0-1023"),
+            (7, 12, &[0, 14, 1023], "0+7-12+14+1023"),
         ],
-    )?;
+    );
     let mut even = StateSet::empty();
     for half in 0..512 {
         even.insert(StateId(2 * half));
     }
-    let mut text = Vec::new(rt.alloc());
-    put_ranges(&even, &mut text)?;
-    assert_eq!(rt;
-        text.as_slice(),
-        spelling(rt.alloc(), b'5', b'5', 255)?.as_slice()
+    expect_written(
+        &rt,
+        rt.alloc(),
+        true,
+        &even,
+        "0x5555555555555555555555555555555555555555555555555555555555555555555555555555555555555555555555555555555555555555555555555555555555555555555555555555555555555555555555555555555555555555555555555555555555555555555555555555555555555555555555555555555555555555",
     );
-    assert!(rt; read_ranges(&text, 0) == Some((even, 258)));
-    Ok(())
-}
-
-/// Asserts what set of ranges is read of each of these texts behind so many bytes, and where it ends.
-fn all_ranges(rt: &impl Abort, texts: &[(&str, usize, Option<(StateSet, usize)>)]) {
-    for (text, at, want) in texts {
-        assert!(rt; *at <= text.len());
-        assert!(rt; read_ranges(text.as_bytes(), *at) == *want, "at {text}");
-    }
 }
 
 #[test]
 fn ranges_are_read_exactly(rt: HostRuntime) {
-    all_ranges(
+    all_read(
         &rt,
+        true,
         &[
             ("0-3", 0, None),
-            ("0xf", 0, Some((run(0, 3), 3))),
+            ("0xf", 0, Some((0, 3, 3))),
             ("0x10", 0, None),
             ("0x20", 0, None),
-            ("5", 0, Some((run(5, 5), 1))),
+            ("5", 0, Some((5, 5, 1))),
             ("5-5", 0, None),
-            ("0-11", 0, Some((run(0, 11), 4))),
-            ("(0-11,1)", 1, Some((run(0, 11), 5))),
+            ("0-11", 0, Some((0, 11, 4))),
+            ("(0-11,1)", 1, Some((0, 11, 5))),
             ("0-11+", 0, None),
             ("0-11a", 0, None),
             ("0-5+6-11", 0, None),
@@ -235,65 +269,115 @@ fn ranges_are_read_exactly(rt: HostRuntime) {
             ("00-11", 0, None),
             ("1024", 0, None),
             ("+5", 0, None),
-            ("0", 0, Some((run(0, 0), 1))),
+            ("0", 0, Some((0, 0, 1))),
             ("0x1", 0, None),
             ("", 0, None),
         ],
     );
 }
 
+fn is_line(line: &Line, text: &str) -> bool {
+    line.bytes() == text.as_bytes()
+}
+
+fn set_number(line: &mut Line, number: u64) {
+    line.clear();
+    line.put_number(number);
+}
+
+fn set_mask(line: &mut Line, set: &StateSet) {
+    line.clear();
+    line.put_mask(set);
+}
+
+fn set_ranges(line: &mut Line, set: &StateSet) {
+    line.clear();
+    line.put_ranges(set);
+}
+
 #[test]
 fn lines_are_put_together(rt: HostRuntime) {
     let mut line = Line::new();
     line.put_text(b"CW_MEM(");
-    assert!(rt; line.bytes() == b"CW_MEM(".as_slice());
-    line.clear();
-    line.put_number(u64::MAX);
-    assert!(rt; line.bytes() == b"18446744073709551615".as_slice());
-    line.clear();
-    line.put_mask(&run(0, 3));
-    assert!(rt; line.bytes() == b"0xf".as_slice());
+    assert!(rt; is_line(&line, "CW_MEM("));
+    set_number(&mut line, u64::MAX);
+    assert!(rt; is_line(&line, "18446744073709551615"));
+    set_mask(&mut line, &set_of(0, 3, &[]));
+    assert!(rt; is_line(&line, "0xf"));
     assert!(rt; line.room() == 4093);
-    line.clear();
-    line.put_ranges(&run(0, 11));
-    assert!(rt; line.bytes() == b"0-11".as_slice());
+    set_ranges(&mut line, &set_of(0, 11, &[]));
+    assert!(rt; is_line(&line, "0-11"));
+}
+
+/// Whether a set has each of these numbers.
+fn has_all(rt: &impl Abort, set: &StateSet, numbers: &[u16]) -> bool {
+    for number in numbers {
+        assert!(rt; *number < 1024);
+        if !set.contains(StateId(*number)) {
+            return false;
+        }
+    }
+    true
+}
+
+/// Puts each of these numbers into a set that lacks it, and asserts that it is there.
+fn insert_all(rt: &impl Abort, set: &mut StateSet, numbers: &[u16]) {
+    for number in numbers {
+        assert!(rt; *number < 1024 && !set.contains(StateId(*number)));
+        set.insert(StateId(*number));
+        assert!(rt; set.contains(StateId(*number)));
+    }
+}
+
+/// Whether the one set is a part of the other and not the whole.
+fn is_less(set: &StateSet, whole: &StateSet) -> bool {
+    set.is_subset(whole)
+        && !whole.is_subset(set)
+        && set != whole
+        && set.cmp(whole) == Ordering::Less
 }
 
 #[test]
-fn sets_are_sets(rt: HostRuntime) -> Result<(), Fail> {
+fn sets_are_sets(rt: HostRuntime) {
     let mut set = StateSet::empty();
-    for number in [0, 63, 64, 1023] {
-        assert!(rt; !set.contains(StateId(number)));
-        set.insert(StateId(number));
-        assert!(rt; set.contains(StateId(number)));
-    }
+    insert_all(&rt, &mut set, &[0, 63, 64, 1023]);
     let before = set;
     set.remove(StateId(63));
-    assert!(rt;
-        !set.contains(StateId(63)) && set.contains(StateId(64)) && set.contains(StateId(1023))
-    );
-    assert!(rt; set.is_subset(&before) && !before.is_subset(&set));
-    assert!(rt; set != before && set.cmp(&before) == Ordering::Less);
+    assert!(rt; !set.contains(StateId(63)) && has_all(&rt, &set, &[64, 1023]));
+    assert!(rt; is_less(&set, &before));
     let rest = set.complement_in(1024);
     assert!(rt; rest.contains(StateId(63)) && !rest.contains(StateId(64)));
-    assert!(rt; rest.complement_in(1024) == set);
+    let again = rest.complement_in(1024);
+    assert!(rt; again == set);
     set.members_are_below_1024();
     set.number_is_sum();
-    set.same_members(&rest.complement_in(1024));
-    Ok(())
+    set.same_members(&again);
+}
+
+/// Asserts the name of each of these quantities.
+fn all_named(rt: &impl Abort, names: &[(Quantity, &str)]) {
+    for (quantity, name) in names {
+        assert!(rt; quantity.name() == *name, "{name}");
+    }
 }
 
 #[test]
-fn quantities_have_names_and_limits(rt: HostRuntime) -> Result<(), Fail> {
-    assert_eq!(rt; Quantity::PolicyBytes.name(), "policy bytes");
-    assert_eq!(rt; Quantity::RulePositions.name(), "rule positions");
-    assert_eq!(rt;
-        Quantity::PositionsTimesStates.name(),
-        "positions times states"
+fn quantities_have_names_and_limits(rt: HostRuntime) {
+    all_named(
+        &rt,
+        &[
+            (Quantity::PolicyBytes, "policy bytes"),
+            (Quantity::RulePositions, "rule positions"),
+            (Quantity::PositionsTimesStates, "positions times states"),
+        ],
     );
-    assert_eq!(rt; Quantity::ProductStates.limit(), 512);
-    assert_eq!(rt; Quantity::ProductStates.limit_in(2), 1024);
+    assert!(rt; Quantity::ProductStates.limit() == 512);
+    assert!(rt; Quantity::ProductStates.limit_in(2) == 1024);
+}
+
+#[test]
+fn want_of_memory_is_told(rt: HostRuntime) {
     let refused = NoMemory::from(AllocError);
-    assert_eq!(rt; refused.to_string(rt.alloc())?.as_str(), "out of memory");
-    Ok(())
+    let text = refused.to_string(rt.alloc()).expect(&rt, "memory");
+    assert!(rt; text.as_str() == "out of memory");
 }

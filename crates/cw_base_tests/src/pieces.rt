@@ -1,24 +1,25 @@
 //! Texts that are put piece by piece: in which pieces a sink gets them, and what it has of them after a fault.
-ghost use Rattle.std.specs.Prelude.{◌≡◌, ◌<◌, ◌++◌};
-ghost use Rattle.std.specs.Fmt.{decimal};
-ghost use Rattle.cw_core.specs.Numerals.{hexadecimal};
-ghost use Rattle.cw_core.specs.Ranges.{set_spelling};
+ghost use Rattle.std.specs.Prelude.{◌<◌};
 ghost use Rattle.cw_io.specs.Written.{Follows};
 
-use cw_core::{StateId, StateSet};
+use crate::files::numbers_of;
+use cw_core::StateSet;
 use cw_io::{FileShelf, MemSink, Shelf, Sink, SinkFault, StreamSink, Writer};
-use std::alloc::{AllocError, Global};
+use std::alloc::Global;
 use std::fs;
 use std::process::Abort;
-use std::test::Fail;
+use std::rt::Files;
+
+/// The number of a put that isn't made.
+const NEVER: u32 = 1_000_000;
 
 /// A text of so many bytes in which no stretch of 4,096 looks like another.
-fn some_text(alloc: Global, len: u32) -> Result<Vec<u8>, AllocError> {
+fn some_text(rt: &impl Abort, alloc: Global, len: u32) -> Vec<u8> {
     let mut text = Vec::new(alloc);
     for at in 0..len {
-        text.push((at % 251) as u8)?;
+        text.push((at % 251) as u8).expect(rt, "memory");
     }
-    Ok(text)
+    text
 }
 
 /// Puts a text in parts of a size.
@@ -35,127 +36,150 @@ fn put_parts<S: Sink>(text: &[u8], size: usize, writer: &mut Writer<S>, out: &mu
     }
 }
 
-/// Puts a number and a set in both spellings.
-fn put_values<S: Sink>(n: u64, set: &StateSet, writer: &mut Writer<S>, out: &mut S)
-    requires follows { Follows S.taken S.faults S.refused writer.old out.old }
-    ensures text { writer.new.text
-        ≡ ((writer.old.text ++ decimal n) ++ hexadecimal set.now) ++ set_spelling set.now }
-    ensures begun { writer.new.begun ≡ writer.old.begun }
-    ensures follows { Follows S.taken S.faults S.refused writer.new out.new }
+/// Puts a whole text in parts of a size.
+fn put_text<S: Sink>(text: &[u8], size: usize, out: &mut S) -> Result<(), SinkFault>
+    requires size { 0 < size }
 {
-    writer.put_number(n, out);
-    writer.put_mask(set, out);
-    writer.put_ranges(set, out);
+    let mut writer = Writer::begin(out);
+    put_parts(text, size, &mut writer, out);
+    writer.finish(out)
 }
 
-/// What a text put in parts of a size is answered, and how much of it the sink has then, where its put of the
-/// number `failing` fails.
-fn expect_taken(
+/// Whether a sink has so many bytes of a text, and its longest piece has at least so many bytes, and 4,096 at most.
+fn has_front(sink: &MemSink, text: &[u8], taken: usize, longest: usize) -> bool {
+    taken <= text.len()
+        && sink.bytes() == &text[..taken]
+        && longest <= sink.longest()
+        && sink.longest() <= 4096
+}
+
+/// Asserts what a text put in parts of a size is answered where its put of a number fails, and how much of it the sink has then: the size,
+/// the number, how much, and the answer. The longest piece has at least so many bytes.
+fn all_put(
     rt: &impl Abort,
     alloc: Global,
     text: &[u8],
-    size: usize,
-    failing: u32,
-    want: Result<usize, usize>,
-) -> Result<(), AllocError>
-    requires size { 0 < size }
-{
-    let mut sink = MemSink::make(alloc, vec![in alloc; failing]?);
-    let mut writer = Writer::begin(&sink);
-    put_parts(text, size, &mut writer, &mut sink);
-    let answer = writer.finish(&mut sink);
-    let (taken, fault) = match want {
-        Ok(taken) => (taken, Ok(())),
-        Err(taken) => (taken, Err(SinkFault::Failed)),
-    };
-    assert_eq!(rt; answer, fault, "{size} {failing}");
-    assert!(rt; taken <= text.len());
-    assert_eq!(rt; sink.bytes(), &text[..taken], "{size} {failing}");
-    assert!(rt; sink.longest() <= 4096);
-    Ok(())
+    longest: usize,
+    rows: &[(usize, u32, usize, Result<(), SinkFault>)],
+) {
+    for (size, failing, taken, want) in rows {
+        assert!(rt; 0 < *size);
+        let mut sink = MemSink::make(alloc, numbers_of(rt, alloc, &[*failing]));
+        assert!(rt;
+            put_text(text, *size, &mut sink) == *want,
+            "{size} {failing}"
+        );
+        assert!(rt; has_front(&sink, text, *taken, longest), "{size} {failing}");
+    }
 }
 
 #[test]
-fn pieces_of_4096_bytes_in_order(rt: HostRuntime) -> Result<(), Fail> {
+fn pieces_of_4096_bytes_in_order(rt: HostRuntime) {
     let alloc = rt.alloc();
-    let text = some_text(alloc, 20_000)?;
-    for size in [1, 7, 4095, 4096, 4097, 9000, 20_000] {
+    all_put(
+        &rt,
+        alloc,
+        &some_text(&rt, alloc, 20_000),
+        4096,
+        &[
+            (1, NEVER, 20_000, Ok(())),
+            (7, NEVER, 20_000, Ok(())),
+            (4095, NEVER, 20_000, Ok(())),
+            (4096, NEVER, 20_000, Ok(())),
+            (4097, NEVER, 20_000, Ok(())),
+            (9000, NEVER, 20_000, Ok(())),
+            (20_000, NEVER, 20_000, Ok(())),
+        ],
+    );
+}
+
+#[test]
+fn faults_at_each_put(rt: HostRuntime) {
+    let alloc = rt.alloc();
+    all_put(
+        &rt,
+        alloc,
+        &some_text(&rt, alloc, 10_000),
+        0,
+        &[
+            (100, 0, 2048, Err(SinkFault::Failed)),
+            (100, 1, 6144, Err(SinkFault::Failed)),
+            (100, 2, 9096, Err(SinkFault::Failed)),
+            (100, 3, 10_000, Ok(())),
+            (10_000, 0, 2048, Err(SinkFault::Failed)),
+            (10_000, 1, 6144, Err(SinkFault::Failed)),
+            (10_000, 2, 9096, Err(SinkFault::Failed)),
+            (10_000, 3, 10_000, Ok(())),
+        ],
+    );
+}
+
+#[test]
+fn last_piece_may_be_empty(rt: HostRuntime) {
+    let alloc = rt.alloc();
+    all_put(
+        &rt,
+        alloc,
+        &some_text(&rt, alloc, 4096),
+        0,
+        &[
+            (4096, 1, 4096, Err(SinkFault::Failed)),
+            (1000, 2, 4096, Ok(())),
+        ],
+    );
+    all_put(
+        &rt,
+        alloc,
+        b"",
+        0,
+        &[(1, 0, 0, Err(SinkFault::Failed)), (1, 1, 0, Ok(()))],
+    );
+}
+
+/// Puts a number, a set in both spellings, and a line's end.
+fn put_values<S: Sink>(number: u64, set: &StateSet, out: &mut S) -> Result<(), SinkFault> {
+    let mut writer = Writer::begin(out);
+    writer.put_number(number, out);
+    writer.put_mask(set, out);
+    writer.put_ranges(set, out);
+    writer.put(b"\n", out);
+    writer.finish(out)
+}
+
+/// Asserts how the greatest number and the set of the numbers below each of these are put.
+fn all_values(rt: &impl Abort, alloc: Global, rows: &[(u16, &str)]) {
+    for (below, text) in rows {
+        let set = StateSet::empty().complement_in((*below).min(1024));
         let mut sink = MemSink::make(alloc, Vec::new(alloc));
-        let mut writer = Writer::begin(&sink);
-        put_parts(&text, size, &mut writer, &mut sink);
-        assert_eq!(rt; writer.finish(&mut sink), Ok(()), "{size}");
-        assert_eq!(rt; sink.bytes(), text.as_slice(), "{size}");
-        assert_eq!(rt; sink.longest(), 4096, "{size}");
+        assert!(rt; put_values(u64::MAX, &set, &mut sink) == Ok(()), "{text}");
+        assert!(rt; sink.bytes() == text.as_bytes(), "{text}");
     }
-    Ok(())
 }
 
 #[test]
-fn faults_at_each_put(rt: HostRuntime) -> Result<(), Fail> {
-    let alloc = rt.alloc();
-    let text = some_text(alloc, 10_000)?;
-    for size in [100, 10_000] {
-        for (failing, want) in [
-            (0, Err(2048)),
-            (1, Err(6144)),
-            (2, Err(9096)),
-            (3, Ok(10_000)),
-        ] {
-            expect_taken(&rt, alloc, &text, size, failing, want)?;
-        }
-    }
-    Ok(())
+fn numbers_and_sets(rt: HostRuntime) {
+    all_values(
+        &rt,
+        rt.alloc(),
+        &[
+            (1, "184467440737095516150x10\n"),
+            (4, "184467440737095516150xf0xf\n"),
+            (12, "184467440737095516150xfff0-11\n"),
+        ],
+    );
+}
+
+/// Puts a text in parts of 999 bytes into a new file.
+fn write_text<R: Abort + Files>(rt: &R, name: &str, text: &[u8]) {
+    let file = fs::create(rt, name).expect(rt, "a file");
+    let mut sink = StreamSink::make(file);
+    assert!(rt; put_text(text, 999, &mut sink) == Ok(()));
 }
 
 #[test]
-fn last_piece_may_be_empty(rt: HostRuntime) -> Result<(), Fail> {
-    let alloc = rt.alloc();
-    let text = some_text(alloc, 4096)?;
-    expect_taken(&rt, alloc, &text, 4096, 1, Err(4096))?;
-    expect_taken(&rt, alloc, &text, 1000, 2, Ok(4096))?;
-    expect_taken(&rt, alloc, b"", 1, 0, Err(0))?;
-    expect_taken(&rt, alloc, b"", 1, 1, Ok(0))?;
-    Ok(())
-}
-
-#[test]
-fn numbers_and_sets(rt: HostRuntime) -> Result<(), Fail> {
-    let alloc = rt.alloc();
-    let mut set = StateSet::empty();
-    for (most, mask, ranges) in [
-        (0_u16, "0x1", "0"),
-        (3, "0xf", "0xf"),
-        (11, "0xfff", "0-11"),
-    ] {
-        for state in 0..=most {
-            if state < 1024 {
-                set.insert(StateId(state));
-            }
-        }
-        let mut sink = MemSink::make(alloc, Vec::new(alloc));
-        let mut writer = Writer::begin(&sink);
-        put_values(u64::MAX, &set, &mut writer, &mut sink);
-        writer.put(b"\n", &mut sink);
-        assert_eq!(rt; writer.finish(&mut sink), Ok(()));
-        let text = format!(in alloc; "18446744073709551615{mask}{ranges}\n")?;
-        assert_eq!(rt; sink.bytes(), text.as_bytes());
-    }
-    Ok(())
-}
-
-#[test]
-fn real_file(rt: HostRuntime) -> Result<(), Fail> {
-    let alloc = rt.alloc();
-    let text = some_text(alloc, 10_000)?;
-    let mut sink = StreamSink::make(fs::create(&rt, "long_text")?);
-    let mut writer = Writer::begin(&sink);
-    put_parts(&text, 999, &mut writer, &mut sink);
-    assert_eq!(rt; writer.finish(&mut sink), Ok(()));
-    drop(sink);
-    let read = FileShelf::make(&rt).read(alloc, "long_text", 10_000);
-    match read {
-        Ok(bytes) => assert_eq!(rt; bytes.as_slice(), text.as_slice()),
-        Err(fault) => assert!(rt; false, "{fault:?}"),
-    }
-    Ok(())
+fn real_file(rt: HostRuntime) {
+    let text = some_text(&rt, rt.alloc(), 10_000);
+    write_text(&rt, "long_text", &text);
+    let read = FileShelf::make(&rt).read(rt.alloc(), "long_text", 10_000);
+    assert!(rt; matches!(&read, Ok(bytes) if bytes.as_slice() == text.as_slice()));
 }

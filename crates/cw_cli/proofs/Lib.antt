@@ -2,7 +2,6 @@ mod Dues
 mod Checks
 mod Counted
 mod Judging
-mod Labelled
 mod Listed
 mod Audited
 mod Reaudited

@@ -14,7 +14,8 @@ use Rattle.cw_stages.specs.Verdicts.{IsVerdict}
 use Rattle.cw_stages.proofs.Answering.{read_behind}
 use Rattle.cw_cli.specs.Checking.{IsCheckDue}
 use Rattle.cw_cli.specs.Refuting.{IsRefuteDue}
-use Rattle.cw_cli.specs.Sampling.{summary, AfterPolicy, IsSampleDue, IsSummed}
+use Rattle.cw_cli.specs.Sampling.{AfterPolicy, IsSampleDue, IsSummed}
+use Rattle.cw_cli.specs.Telling.{summary}
 use Rattle.cw_cli.specs.Weaving.{AfterPair, IsWeaveDue}
 use Rattle.cw_cli.proofs.Agreeing.{refuted_is_judged, woven_is_checked}
 use Rattle.cw_cli.proofs.Counted.{tell_source, verdict_due}

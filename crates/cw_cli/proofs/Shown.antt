@@ -1,5 +1,5 @@
 -- A play and a run by a tape are told, for a program.
-use Rattle.std.proofs.Common.{◌≡◌, ℕ, List, [], ◌++◌, ap, ◌∙◌, refl, ⊎_elim, inl, inr}
+use Rattle.std.proofs.Common.{◌≡◌, ℕ, List, [], ◌++◌, ap, ◌∙◌}
 use Rattle.cw_rights.specs.Policies.{PlainPolicy}
 use Rattle.cw_syntax.specs.Trees.{File}
 use Rattle.cw_syntax.specs.Plans.{plan_of}
@@ -9,7 +9,6 @@ use Rattle.cw_certs.specs.Strategies.{Strategy}
 use Rattle.cw_certs.specs.Tables.{Table}
 use Rattle.cw_model.specs.Boards.{problem_of}
 use Rattle.cw_game.specs.Games.{Game}
-use Rattle.cw_game.specs.Conditions.{table_fault}
 use Rattle.cw_trace.specs.Labels.{names_of as told_names}
 use Rattle.cw_trace.specs.Steps.{End, run_trace}
 use Rattle.cw_trace.specs.Traces.{Names, trace}
@@ -17,10 +16,9 @@ use Rattle.cw_play.specs.declared.end.PlayEnd.{PlayEnd}
 use Rattle.cw_play.specs.Played.{IsPlayed}
 use Rattle.cw_run.specs.Woven.{Tells}
 use Rattle.cw_commands.specs.Outcomes.{Due}
-use Rattle.cw_stages.proofs.Checks.{failing}
-use Rattle.cw_cli.specs.CheckingHeld.{IsRunShownBy}
-use Rattle.cw_cli.specs.Playing.{play_told, IsPlayTold}
-use Rattle.cw_cli.specs.Running.{run_told, IsRunShown, IsRunTold}
+use Rattle.cw_cli.specs.Playing.{IsPlayTold}
+use Rattle.cw_cli.specs.Running.{IsRunTold}
+use Rattle.cw_cli.specs.Telling.{play_told, run_told}
 
 module _ (source : List ℕ) (whole : PlainPolicy) (file : File) where
   pub play_is_told : (g : Game) (s : Strategy) (tape : List Move) (policy : PlainPolicy) (names : Names) (end : PlayEnd) (old lines : List ℕ) (due : Due)
@@ -48,7 +46,3 @@ module _ (source : List ℕ) (whole : PlainPolicy) (file : File) where
     run = tells.run;
     due_is = e ∙ ap (run_told end) (tells.told ∙ ap (λ (o : List ℕ). o ++ run_trace (told_names source file (plan_of (names_of whole) source file)) (problem_of whole source file) tells.steps) empty);
   }
-
-  pub run_shown_for : (t : Table) (tape : List Move) (g : Game) (due : Due) → IsRunShownBy source whole file t tape g due → IsRunShown source whole file t tape g due
-  run_shown_for t tape g due h =
-      ⊎_elim (λ a. inl a) (λ b. inr (failing g t due b.0 b.2 (table_fault g t) refl b.1)) h

@@ -1,29 +1,19 @@
 -- What is due for the bytes of a source whose graph is asked for.
-use Rattle.std.specs.Prelude.{◌≡◌, ◌⊎◌, ℕ, ◌<◌, ◌≤◌, List, [], length, map}
-use Rattle.std.specs.List.{range_with_len}
+use Rattle.std.specs.Prelude.{◌≡◌, ◌⊎◌, ℕ, ◌<◌, ◌≤◌, List, [], length}
 use Rattle.cw_core.specs.Quantities.{limit_of}
 use Rattle.cw_core.specs.declared.quantity.Quantity.TheVariants.{Points}
-use Rattle.cw_syntax.specs.Names.{Names}
 use Rattle.cw_syntax.specs.Trees.{File}
-use Rattle.cw_syntax.specs.Plans.{Plan, plan_of, function_names}
+use Rattle.cw_syntax.specs.Plans.{plan_of, function_names}
 use Rattle.cw_points.specs.declared.graph.Graph.{Graph}
 use Rattle.cw_points.specs.Points.{point_count}
 use Rattle.cw_points.specs.Graphs.{IsGraph}
-use Rattle.cw_callgraph.specs.Effects.{calls}
 use Rattle.cw_resolve.specs.Labels.{label_names}
 use Rattle.cw_listing.specs.Listing.{graph_text}
 use Rattle.cw_source.specs.Read.{ReadsAs}
+pub use Rattle.cw_source_graph.specs.Own.{call_lists, own_names}
 use Rattle.cw_commands.specs.declared.outcome.Reply.TheVariants.{Yes}
 use Rattle.cw_commands.specs.Outcomes.{Due, Told}
 use Rattle.cw_stages.specs.Refusals.{IsSourceRefusal, over}
-
--- no descriptors and no functions in processes of their own; a label's number is that of its name among the source's
-abbrev pub own_names : List ℕ → File → Names
-own_names source file = record { descriptors = []; labels = label_names source file; splits = [] }
-
--- the functions that each function of a plan calls, of so many
-abbrev pub call_lists : Plan → ℕ → List (List ℕ)
-call_lists plan count = map (calls plan) (range_with_len 0 count)
 
 -- The lines of the graph of the program's points.
 abbrev pub IsListing : List ℕ → File → List ℕ → Type 0

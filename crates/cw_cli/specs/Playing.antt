@@ -1,5 +1,5 @@
 -- What is due for `play`, by the bytes of a policy, of a source, of a strategy and of a tape.
-use Rattle.std.specs.Prelude.{◌≡◌, ◌⊎◌, ℕ, List, [], ◌∷◌, ◌++◌, true, Some, codes, slice_get, unwrap_or, option_map}
+use Rattle.std.specs.Prelude.{◌≡◌, ◌⊎◌, ℕ, List, true, Some}
 use Rattle.cw_rights.specs.Policies.{PlainPolicy}
 use Rattle.cw_syntax.specs.Trees.{File}
 use Rattle.cw_syntax.specs.Plans.{plan_of}
@@ -13,23 +13,14 @@ use Rattle.cw_echeck.specs.Beating.{IsStartRow}
 use Rattle.cw_trace.specs.Labels.{names_of as told_names}
 use Rattle.cw_trace.specs.Traces.{Taken, trace}
 use Rattle.cw_play.specs.declared.end.PlayEnd.{PlayEnd}
-use Rattle.cw_play.specs.declared.end.PlayEnd.TheVariants.{Violation, TapeSpent}
 use Rattle.cw_play.specs.Plays.{IsPlayBy}
-use Rattle.cw_commands.specs.declared.outcome.Reply.TheVariants.{Yes, No}
+use Rattle.cw_commands.specs.declared.outcome.Reply.TheVariants.{No}
 use Rattle.cw_commands.specs.Outcomes.{Due, Told}
 use Rattle.cw_stages.specs.Reading.{AfterReading}
 use Rattle.cw_stages.specs.Games.{WhereFits}
 use Rattle.cw_stages.specs.Strategies.{told, WithStrategy}
 use Rattle.cw_stages.specs.Tapes.{WithTape}
-
--- the name of the rule with this number; a number without a rule has the empty one
-abbrev pub rule_name : PlainPolicy → ℕ → List ℕ
-rule_name whole number = unwrap_or (option_map (λ rule. rule.name) (slice_get whole.rules number)) []
-
--- the trace of a play, and behind it how the play ends
-abbrev pub play_told : PlainPolicy → PlayEnd → (lines : List ℕ) → Due
-play_told whole (Violation rule) lines = Told Yes (lines ++ (codes "violation " ++ (rule_name whole rule ++ (10 ∷ []))))
-play_told whole TapeSpent lines = Told No (lines ++ (codes "tape spent" ++ (10 ∷ [])))
+pub use Rattle.cw_cli.specs.Telling.{play_told}
 
 -- There is a play of the strategy by the tape from its start row, and its trace and its end are told.
 pub record IsPlayTold (source : List ℕ) (whole : PlainPolicy) (file : File) (g : Game) (s : Strategy) (tape : List Move) (due : Due) : Type 0 where

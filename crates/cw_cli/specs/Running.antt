@@ -1,6 +1,5 @@
 -- What is due for `run`, by the bytes of a policy, of a woven text and of a tape.
-use Rattle.std.specs.Prelude.{◌≡◌, ◌⊎◌, ℕ, List, [], ◌∷◌, ◌++◌, false, Some, codes}
-use Rattle.std.specs.Fmt.{decimal}
+use Rattle.std.specs.Prelude.{◌≡◌, ◌⊎◌, ℕ, List, false, Some}
 use Rattle.cw_rights.specs.Policies.{PlainPolicy}
 use Rattle.cw_syntax.specs.Trees.{File}
 use Rattle.cw_syntax.specs.Plans.{plan_of}
@@ -12,19 +11,14 @@ use Rattle.cw_game.specs.Games.{Game}
 use Rattle.cw_game.specs.Conditions.{TableFault, table_fault, IsGoodTable}
 use Rattle.cw_policy.specs.Answer.{Spells}
 use Rattle.cw_trace.specs.Labels.{names_of as told_names}
-use Rattle.cw_trace.specs.Steps.{Step, End, Ended, TapeSpent, BadMove, IsRunBy, run_trace}
-use Rattle.cw_commands.specs.declared.outcome.Reply.TheVariants.{Yes, No}
+use Rattle.cw_trace.specs.Steps.{Step, End, IsRunBy, run_trace}
+use Rattle.cw_commands.specs.declared.outcome.Reply.TheVariants.{No}
 use Rattle.cw_commands.specs.Outcomes.{Due, Told}
 use Rattle.cw_stages.specs.Games.{WhereWovenFits}
 use Rattle.cw_stages.specs.Tables.{told, WithWoven}
 use Rattle.cw_stages.specs.Refusals.{IsPolicyRefusal}
 use Rattle.cw_stages.specs.Tapes.{WithTape}
-
--- the trace of a run, and behind it how the run ends
-abbrev pub run_told : End → (lines : List ℕ) → Due
-run_told Ended lines = Told Yes (lines ++ (codes "ended" ++ (10 ∷ [])))
-run_told TapeSpent lines = Told No (lines ++ (codes "tape spent" ++ (10 ∷ [])))
-run_told (BadMove i) lines = Told No (lines ++ (codes "bad move " ++ (decimal i ++ (10 ∷ []))))
+pub use Rattle.cw_cli.specs.Telling.{run_told}
 
 -- There is a woven run by the tape, and its trace and its end are told.
 pub record IsRunTold (source : List ℕ) (whole : PlainPolicy) (file : File) (t : Table) (tape : List Move) (due : Due) : Type 0 where

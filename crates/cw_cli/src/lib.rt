@@ -4,13 +4,16 @@
 mod auditing;
 mod checking;
 mod command;
+mod due;
 pub mod laws;
 mod listing;
 mod playing;
 mod reauditing;
+mod rechecking;
 mod refuting;
 mod running;
 mod sampling;
+mod telling;
 mod weaving;
 
 pub use auditing::audit_due;

@@ -1,7 +1,6 @@
 //! Whole runs of `audit` and `reaudit` over files and sinks in memory.
 use crate::given::{all_end, all_end_edited};
 use crate::texts::{NEVER, ONE_LABEL};
-use std::test::Fail;
 
 const AUDIT: [&str; 3] = ["audit", "p.toml", "s.c"];
 
@@ -54,7 +53,7 @@ end
 ";
 
 #[test]
-fn sources_are_audited_or_refused(rt: HostRuntime) -> Result<(), Fail> {
+fn sources_are_audited_or_refused(rt: HostRuntime) {
     all_end(
         &rt,
         rt.alloc(),
@@ -84,11 +83,11 @@ fn sources_are_audited_or_refused(rt: HostRuntime) -> Result<(), Fail> {
                 "usage: capweave audit POLICY SOURCE\n",
             ),
         ],
-    )
+    );
 }
 
 #[test]
-fn audits_are_judged_or_refused(rt: HostRuntime) -> Result<(), Fail> {
+fn audits_are_judged_or_refused(rt: HostRuntime) {
     all_end(
         &rt,
         rt.alloc(),
@@ -140,11 +139,11 @@ fn audits_are_judged_or_refused(rt: HostRuntime) -> Result<(), Fail> {
                 "usage: capweave reaudit POLICY SOURCE AUDIT\n",
             ),
         ],
-    )
+    );
 }
 
 #[test]
-fn the_first_condition_or_line_is_told(rt: HostRuntime) -> Result<(), Fail> {
+fn the_first_condition_or_line_is_told(rt: HostRuntime) {
     let alloc = rt.alloc();
     all_end_edited(
         &rt,
@@ -171,7 +170,7 @@ fn the_first_condition_or_line_is_told(rt: HostRuntime) -> Result<(), Fail> {
             ("states 4", "states 04", 1, 9, "", "audit: line 2\n"),
             ("1\non\n", "1\n\n", 1, 9, "", "audit: line 4\n"),
         ],
-    )?;
+    );
     all_end_edited(
         &rt,
         alloc,
@@ -198,5 +197,5 @@ fn the_first_condition_or_line_is_told(rt: HostRuntime) -> Result<(), Fail> {
             ("end\n", "", 0, 9, "", "audit: line 10\n"),
             ("end\n", "end\n\n", 1, 9, "", "audit: line 11\n"),
         ],
-    )
+    );
 }

@@ -1,7 +1,6 @@
 //! Whole runs of `check` over files and sinks in memory.
 use crate::given::{all_end, all_end_edited};
 use crate::texts::{DESCRIPTOR, NEVER, NEVER_AMBIENT, STOPPABLE, TWO_CALLS_WOVEN, TWO_PROMISES};
-use std::test::Fail;
 
 const CHECK: [&str; 3] = ["check", "p.toml", "s.c"];
 
@@ -42,7 +41,7 @@ CW_DONE
 /*}cw*/int main(void){/*cw{*/CW_ENTRY(0);/*}cw*/a:/*cw{*/CW_LABEL(1)/*}cw*/;@return 0;}";
 
 #[test]
-fn checks_tables_or_tells_why_not(rt: HostRuntime) -> Result<(), Fail> {
+fn checks_tables_or_tells_why_not(rt: HostRuntime) {
     all_end(
         &rt,
         rt.alloc(),
@@ -80,11 +79,11 @@ fn checks_tables_or_tells_why_not(rt: HostRuntime) -> Result<(), Fail> {
             ),
             (&CHECK, &[NEVER, CUT_OFF], 9, "", "woven: mark 0\n"),
         ],
-    )
+    );
 }
 
 #[test]
-fn tables_that_are_wrong_are_told_by_row_and_condition(rt: HostRuntime) -> Result<(), Fail> {
+fn tables_that_are_wrong_are_told_by_row_and_condition(rt: HostRuntime) {
     all_end_edited(
         &rt,
         rt.alloc(),
@@ -133,7 +132,7 @@ fn tables_that_are_wrong_are_told_by_row_and_condition(rt: HostRuntime) -> Resul
             ),
             ("CW_LIVE(8,2)\n", "", 1, 1, "live 6 condition 6\n", ""),
         ],
-    )?;
+    );
     all_end_edited(
         &rt,
         rt.alloc(),
@@ -157,18 +156,18 @@ fn tables_that_are_wrong_are_told_by_row_and_condition(rt: HostRuntime) -> Resul
                 "woven: mark 689\n",
             ),
         ],
-    )?;
+    );
     all_end_edited(
         &rt,
         rt.alloc(),
         &CHECK,
         &[STOPPABLE, NEVER_AMBIENT],
         &[("1,CW_NONE)", "1,0)", 1, 1, "live 3 condition 5\n", "")],
-    )
+    );
 }
 
 #[test]
-fn tells_what_is_wrong_with_woven_texts(rt: HostRuntime) -> Result<(), Fail> {
+fn tells_what_is_wrong_with_woven_texts(rt: HostRuntime) {
     all_end_edited(
         &rt,
         rt.alloc(),
@@ -245,12 +244,12 @@ fn tells_what_is_wrong_with_woven_texts(rt: HostRuntime) -> Result<(), Fail> {
             ),
             ("0;}", " ", 262_144, 5, "", "limit: source bytes\n"),
         ],
-    )?;
+    );
     all_end_edited(
         &rt,
         rt.alloc(),
         &CHECK,
         &[NEVER, MARKED],
         &[("@", ";", 8_192, 5, "", "limit: points\n")],
-    )
+    );
 }

@@ -1,9 +1,8 @@
-//! What a run is made of, and how a test asks what it ends with.
+//! What a run is made of, and how a test asks what it ends with. A test that lacks memory ends at once.
 use cw_cli::capweave;
-use cw_io::{MemShelf, MemSink, PIECE, Shelf, Sink, SureShelf, SureSink};
-use std::alloc::{AllocError, Global};
+use cw_io::{MemShelf, MemSink, PIECE, Shelf, Sink, SureShelf};
+use std::alloc::Global;
 use std::process::Abort;
-use std::test::Fail;
 
 /// A shelf's files, each with its name.
 type Files = Vec<(Vec<u8>, Vec<u8>)>;
@@ -25,51 +24,125 @@ pub(crate) type EditedRun<'t> = (&'t str, &'t str, usize, u8, &'t str, &'t str);
 /// begins where nothing fails and a file that is missing is empty.
 pub(crate) type Fault<'t> = (&'t [&'t str], [u32; 3], u8, &'t str, usize, &'t str);
 
-fn words(alloc: Global, line: &[&str]) -> Result<Vec<String>, AllocError> {
+/// What a run left: its status and its sinks.
+#[derive(Drop)]
+struct Ended {
+    status: u8,
+    out: MemSink,
+    note: MemSink,
+}
+
+/// The number of a put that no run comes to.
+const NO_PUT: u32 = u32::MAX;
+
+fn words(rt: &impl Abort, alloc: Global, line: &[&str]) -> Vec<String> {
     let mut words = Vec::new(alloc);
     for word in line {
-        words.push(String::from_str(alloc, word)?)?;
+        let word = String::from_str(alloc, word).expect(rt, "memory");
+        words.push(word).expect(rt, "memory");
     }
-    Ok(words)
+    words
+}
+
+/// What stands before the words of an edit, how often the bytes of the edit stand there, and what stands behind.
+fn parts<'t>(text: &'t str, edit: &Edit) -> (&'t str, usize, &'t str) {
+    match text.split_once(edit.0) {
+        Some((front, back)) => (front, edit.2, back),
+        None => (text, 0, ""),
+    }
+}
+
+fn append(rt: &impl Abort, whole: &mut Vec<u8>, bytes: &[u8]) {
+    whole.extend_from_slice(bytes).expect(rt, "memory");
 }
 
 /// A text with this edit.
-fn edited(alloc: Global, text: &str, edit: &Edit) -> Result<Vec<u8>, AllocError> {
-    let (front, times, back) = match text.split_once(edit.0) {
-        Some((front, back)) => (front, edit.2, back),
-        None => (text, 0, ""),
-    };
-    let mut whole = Vec::from_slice(alloc, front.as_bytes())?;
+fn edited(rt: &impl Abort, alloc: Global, text: &str, edit: &Edit) -> Vec<u8> {
+    let (front, times, back) = parts(text, edit);
+    let mut whole = Vec::new(alloc);
+    append(rt, &mut whole, front.as_bytes());
     for _ in 0..times {
-        whole.extend_from_slice(edit.1)?;
+        append(rt, &mut whole, edit.1);
     }
-    whole.extend_from_slice(back.as_bytes())?;
-    Ok(whole)
+    append(rt, &mut whole, back.as_bytes());
+    whole
 }
 
 /// Files with these texts, of which the first is `p.toml` and the others are `s.c`, `t` and `tape`.
-fn files(alloc: Global, texts: &[&str], edit: &Edit) -> Result<Files, AllocError> {
+fn files(rt: &impl Abort, alloc: Global, texts: &[&str], edit: &Edit) -> Files {
     let mut files = Vec::new(alloc);
     for (name, text) in ["p.toml", "s.c", "t", "tape"].iter().zip(texts) {
-        let name = Vec::from_slice(alloc, name.as_bytes())?;
-        files.push((name, edited(alloc, text, edit)?))?;
+        let name = edited(rt, alloc, name, &NO_EDIT);
+        let bytes = edited(rt, alloc, text, edit);
+        files.push((name, bytes)).expect(rt, "memory");
     }
-    Ok(files)
+    files
+}
+
+/// A sink of which the put of this number fails.
+fn sink(rt: &impl Abort, alloc: Global, failing: u32) -> MemSink {
+    MemSink::make(alloc, vec![in alloc; failing; 1].expect(rt, "memory"))
 }
 
 /// The status of a run of these words. It promises nothing, so that no proof of a test reads what the command promises.
 fn status_of<F: Shelf, O: Sink, N: Sink>(
+    rt: &impl Abort,
     alloc: Global,
     line: &[&str],
     shelf: &mut F,
     out: &mut O,
     note: &mut N,
-) -> Result<u8, AllocError> {
-    let words = words(alloc, line)?;
-    Ok(capweave(alloc, &words, shelf, out, note))
+) -> u8 {
+    let words = words(rt, alloc, line);
+    capweave(alloc, &words, shelf, out, note)
 }
 
-/// Asserts what a run over sinks that never fail ends with. A name that no file has is an empty file.
+/// A run of these words over sinks of which the puts of these numbers fail, one to the output and one to the note.
+fn ran<F: Shelf>(
+    rt: &impl Abort,
+    alloc: Global,
+    line: &[&str],
+    shelf: &mut F,
+    failing: (u32, u32),
+) -> Ended {
+    let mut out = sink(rt, alloc, failing.0);
+    let mut note = sink(rt, alloc, failing.1);
+    let status = status_of(rt, alloc, line, shelf, &mut out, &mut note);
+    Ended { status, out, note }
+}
+
+/// A run in which nothing fails. A name that no file has is an empty file.
+fn ran_well(rt: &impl Abort, alloc: Global, line: &[&str], texts: &[&str], edit: &Edit) -> Ended {
+    let mut shelf = SureShelf::make(files(rt, alloc, texts, edit));
+    ran(rt, alloc, line, &mut shelf, (NO_PUT, NO_PUT))
+}
+
+/// A run in which the read and the puts of these numbers fail.
+fn ran_into(
+    rt: &impl Abort,
+    alloc: Global,
+    line: &[&str],
+    texts: &[&str],
+    edit: &Edit,
+    failing: [u32; 3],
+) -> Ended {
+    let reads = vec![in alloc; failing[0]; 1].expect(rt, "memory");
+    let mut shelf = MemShelf::make(files(rt, alloc, texts, edit), reads);
+    ran(rt, alloc, line, &mut shelf, (failing[1], failing[2]))
+}
+
+/// Asserts what holds of a run, which is told by its line on the note.
+fn holds(rt: &impl Abort, is_so: bool, noted: &str) {
+    assert!(rt; is_so, "{noted}");
+}
+
+/// Asserts the status and the note of a run.
+fn ends_with(rt: &impl Abort, ended: &Ended, status: u8, noted: &str) {
+    holds(rt, ended.note.bytes() == noted.as_bytes(), noted);
+    holds(rt, ended.status == status, noted);
+}
+
+/// Asserts what a run in which nothing fails ends with.
 pub(crate) fn ends(
     rt: &impl Abort,
     alloc: Global,
@@ -79,24 +152,18 @@ pub(crate) fn ends(
     status: u8,
     told: &str,
     noted: &str,
-) -> Result<(), Fail> {
-    let told = edited(alloc, told, edit)?;
-    let mut shelf = SureShelf::make(files(alloc, texts, edit)?);
-    let mut out = SureSink::make(alloc);
-    let mut note = SureSink::make(alloc);
-    let ended = status_of(alloc, line, &mut shelf, &mut out, &mut note)?;
-    assert_eq!(rt; note.bytes(), noted.as_bytes(), "{noted}");
-    assert_eq!(rt; ended, status, "{noted}");
-    assert_eq!(rt; out.bytes(), told.as_slice(), "{noted}");
-    Ok(())
+) {
+    let told = edited(rt, alloc, told, edit);
+    let ended = ran_well(rt, alloc, line, texts, edit);
+    ends_with(rt, &ended, status, noted);
+    holds(rt, ended.out.bytes() == told.as_slice(), noted);
 }
 
 /// Asserts what each of these runs ends with.
-pub(crate) fn all_end(rt: &impl Abort, alloc: Global, runs: &[Run]) -> Result<(), Fail> {
+pub(crate) fn all_end(rt: &impl Abort, alloc: Global, runs: &[Run]) {
     for (line, texts, status, told, noted) in runs {
-        ends(rt, alloc, line, texts, &NO_EDIT, *status, told, noted)?;
+        ends(rt, alloc, line, texts, &NO_EDIT, *status, told, noted);
     }
-    Ok(())
 }
 
 /// Asserts what the runs of these words over these texts end with, each with an edit.
@@ -106,59 +173,33 @@ pub(crate) fn all_end_edited(
     line: &[&str],
     texts: &[&str],
     runs: &[EditedRun],
-) -> Result<(), Fail> {
+) {
     for (old, new, times, status, told, noted) in runs {
         let edit = (*old, new.as_bytes(), *times);
-        ends(rt, alloc, line, texts, &edit, *status, told, noted)?;
+        ends(rt, alloc, line, texts, &edit, *status, told, noted);
     }
-    Ok(())
 }
 
-/// The output of a run in which nothing fails.
-fn whole_of(
-    alloc: Global,
-    line: &[&str],
-    texts: &[&str],
-    edit: &Edit,
-) -> Result<SureSink, AllocError> {
-    let mut shelf = SureShelf::make(files(alloc, texts, edit)?);
-    let mut out = SureSink::make(alloc);
-    let mut note = SureSink::make(alloc);
-    status_of(alloc, line, &mut shelf, &mut out, &mut note)?;
-    Ok(out)
-}
-
-/// A sink of which the put of this number fails.
-fn sink(alloc: Global, failing: u32) -> Result<MemSink, AllocError> {
-    Ok(MemSink::make(alloc, vec![in alloc; failing; 1]?))
-}
-
-/// Asserts what a run ends with, and that what it puts is a front of what it puts where nothing fails, in pieces as long as they may be.
-fn fails(
-    rt: &impl Abort,
-    alloc: Global,
-    texts: &[&str],
-    edit: &Edit,
-    fault: &Fault,
-) -> Result<(), Fail> {
-    let (line, failing, status, told, count, noted) = *fault;
-    let whole = whole_of(alloc, line, texts, edit)?;
-    assert!(rt; whole.bytes().starts_with(told.as_bytes()), "{told}");
-    let mut shelf = MemShelf::make(files(alloc, texts, edit)?, vec![in alloc; failing[0]; 1]?);
-    let mut out = sink(alloc, failing[1])?;
-    let mut note = sink(alloc, failing[2])?;
-    let ended = status_of(alloc, line, &mut shelf, &mut out, &mut note)?;
-    assert_eq!(rt; note.bytes(), noted.as_bytes(), "{noted}");
-    assert_eq!(rt; ended, status, "{noted}");
-    assert_eq!(rt; out.bytes().len(), count, "{noted}");
-    assert!(rt; whole.bytes().starts_with(out.bytes()), "{noted}");
+/// Asserts that so many bytes were put, a front of these, in pieces as long as they may be.
+fn put_a_front(rt: &impl Abort, out: &MemSink, whole: &[u8], count: usize, noted: &str) {
     let longest = if count == 0 {
         0
     } else {
-        whole.bytes().len().min(PIECE)
+        whole.len().min(PIECE)
     };
-    assert_eq!(rt; out.longest(), longest, "{noted}");
-    Ok(())
+    holds(rt, out.bytes().len() == count, noted);
+    holds(rt, whole.starts_with(out.bytes()), noted);
+    holds(rt, out.longest() == longest, noted);
+}
+
+/// Asserts what a run ends with, and that what it puts is a front of what it puts where nothing fails, in pieces as long as they may be.
+fn fails(rt: &impl Abort, alloc: Global, texts: &[&str], edit: &Edit, fault: &Fault) {
+    let (line, failing, status, told, count, noted) = *fault;
+    let well = ran_well(rt, alloc, line, texts, edit);
+    holds(rt, well.out.bytes().starts_with(told.as_bytes()), told);
+    let ended = ran_into(rt, alloc, line, texts, edit, failing);
+    ends_with(rt, &ended, status, noted);
+    put_a_front(rt, &ended.out, well.out.bytes(), count, noted);
 }
 
 /// Asserts what each of these runs over these texts with this edit ends with, which reads that fail and puts that fail stop.
@@ -168,9 +209,8 @@ pub(crate) fn all_fail(
     texts: &[&str],
     edit: &Edit,
     faults: &[Fault],
-) -> Result<(), Fail> {
+) {
     for fault in faults {
-        fails(rt, alloc, texts, edit, fault)?;
+        fails(rt, alloc, texts, edit, fault);
     }
-    Ok(())
 }

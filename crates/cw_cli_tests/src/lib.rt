@@ -26,4 +26,8 @@ mod texts;
 #[cfg(test)]
 mod valuing;
 #[cfg(test)]
+mod weaves;
+#[cfg(test)]
 mod weaving;
+#[cfg(test)]
+mod woven;

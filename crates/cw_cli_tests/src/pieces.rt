@@ -1,6 +1,5 @@
 //! A long text goes out in pieces, of which each fails in turn.
 use crate::given::{NO_EDIT, all_fail};
-use std::test::Fail;
 
 /// A tool that sums numbers, with a log.
 const SUMS: &str = r#"#include <stdio.h>
@@ -116,7 +115,7 @@ const FRONT: &str = "/*cw{*/\n#include \"capweave.h\"\n";
 
 /// The text has 19,793 bytes, which are four pieces of 4,096 and one of 3,409: of a piece that fails the first half is put.
 #[test]
-fn a_long_text_goes_out_in_pieces_each_of_which_may_fail(rt: HostRuntime) -> Result<(), Fail> {
+fn a_long_text_goes_out_in_pieces_each_of_which_may_fail(rt: HostRuntime) {
     all_fail(
         &rt,
         rt.alloc(),
@@ -130,5 +129,5 @@ fn a_long_text_goes_out_in_pieces_each_of_which_may_fail(rt: HostRuntime) -> Res
             (&WEAVE, [9, 4, 9], 7, FRONT, 18_088, "write\n"),
             (&WEAVE, [9, 5, 9], 0, FRONT, 19_793, ""),
         ],
-    )
+    );
 }

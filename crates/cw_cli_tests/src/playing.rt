@@ -1,14 +1,13 @@
 //! Whole runs of `play` and `run` over files and sinks in memory. The traces are those of a second program in another language.
 use crate::given::all_end;
 use crate::texts::{NEVER, NEVER_AMBIENT, ONE_LABEL, REFUSABLE, REFUSED_ENTER};
-use std::test::Fail;
 
 const PLAY: [&str; 5] = ["play", "p.toml", "s.c", "t", "tape"];
 
 const RUN: [&str; 4] = ["run", "p.toml", "s.c", "tape"];
 
 #[test]
-fn plays_strategies_or_tells_why_not(rt: HostRuntime) -> Result<(), Fail> {
+fn plays_strategies_or_tells_why_not(rt: HostRuntime) {
     all_end(
         &rt,
         rt.alloc(),
@@ -49,11 +48,11 @@ fn plays_strategies_or_tells_why_not(rt: HostRuntime) -> Result<(), Fail> {
                 "strategy: line 1\n",
             ),
         ],
-    )
+    );
 }
 
 #[test]
-fn runs_woven_texts_or_tells_why_not(rt: HostRuntime) -> Result<(), Fail> {
+fn runs_woven_texts_or_tells_why_not(rt: HostRuntime) {
     all_end(
         &rt,
         rt.alloc(),
@@ -108,5 +107,5 @@ fn runs_woven_texts_or_tells_why_not(rt: HostRuntime) -> Result<(), Fail> {
                 "woven: mark 0\n",
             ),
         ],
-    )
+    );
 }

@@ -1,7 +1,6 @@
 //! Whole runs of `refute` over files and sinks in memory.
 use crate::given::{all_end, all_end_edited};
 use crate::texts::{BOTH, NO_LABEL, ONE_LABEL, REFUSABLE, REFUSED_ENTER, STOPPABLE, TWO_LABELS};
-use std::test::Fail;
 
 const REFUTE: [&str; 4] = ["refute", "p.toml", "s.c", "t"];
 
@@ -40,7 +39,7 @@ bad = "a@"
 const DIGITS: &str = "0000000000000000000000000000000000000000000000000000000000000000";
 
 #[test]
-fn judges_strategies_or_tells_why_not(rt: HostRuntime) -> Result<(), Fail> {
+fn judges_strategies_or_tells_why_not(rt: HostRuntime) {
     all_end(
         &rt,
         rt.alloc(),
@@ -114,11 +113,11 @@ fn judges_strategies_or_tells_why_not(rt: HostRuntime) -> Result<(), Fail> {
                 "policy: kind format\n",
             ),
         ],
-    )
+    );
 }
 
 #[test]
-fn judges_edits_of_a_strategy_of_two_promises(rt: HostRuntime) -> Result<(), Fail> {
+fn judges_edits_of_a_strategy_of_two_promises(rt: HostRuntime) {
     all_end_edited(
         &rt,
         rt.alloc(),
@@ -128,25 +127,25 @@ fn judges_edits_of_a_strategy_of_two_promises(rt: HostRuntime) -> Result<(), Fai
             ("12\nend\n", "13\nend\n", 1, 1, "row 13 condition 1\n", ""),
             ("end\n", "", 1, 9, "", "strategy: line 17\n"),
         ],
-    )?;
+    );
     all_end_edited(
         &rt,
         rt.alloc(),
         &REFUTE,
         &[BOTH_IN_2, TWO, TWO_LABELS],
         &[("strategy 1", "strategy 2", 1, 0, "yes\n", "")],
-    )?;
+    );
     all_end_edited(
         &rt,
         rt.alloc(),
         &REFUTE,
         &[FOUR_LIMITS, TWO, REFUSED_ENTER],
         &[("@", " a", 62, 5, "", "limit: product states\n")],
-    )
+    );
 }
 
 #[test]
-fn strategies_are_refused_or_told_by_row_and_condition(rt: HostRuntime) -> Result<(), Fail> {
+fn strategies_are_refused_or_told_by_row_and_condition(rt: HostRuntime) {
     all_end_edited(
         &rt,
         rt.alloc(),
@@ -181,26 +180,26 @@ fn strategies_are_refused_or_told_by_row_and_condition(rt: HostRuntime) -> Resul
             ("refuse 0", "grant 0", 1, 1, "row 1 condition 5\n", ""),
             ("both 0 1", "both 1 0", 1, 1, "row 2 condition 4\n", ""),
         ],
-    )
+    );
 }
 
 /// Files of 16,777,216 bytes, one more, and one more than 33,554,432.
 #[test]
-fn files_of_a_strategy_have_the_limit_of_the_policys_format(rt: HostRuntime) -> Result<(), Fail> {
+fn files_of_a_strategy_have_the_limit_of_the_policys_format(rt: HostRuntime) {
     all_end_edited(
         &rt,
         rt.alloc(),
         &REFUTE,
         &["format = 1\n", NO_LABEL, "@"],
         &[("@", DIGITS, 262_144, 9, "", "strategy: line 1\n")],
-    )?;
+    );
     all_end_edited(
         &rt,
         rt.alloc(),
         &REFUTE,
         &["format = 1\n", NO_LABEL, "@0"],
         &[("@", DIGITS, 262_144, 5, "", "limit: file bytes\n")],
-    )?;
+    );
     all_end_edited(
         &rt,
         rt.alloc(),
@@ -210,12 +209,12 @@ fn files_of_a_strategy_have_the_limit_of_the_policys_format(rt: HostRuntime) -> 
             ("@", DIGITS, 262_144, 9, "", "strategy: line 1\n"),
             ("@", DIGITS, 524_288, 5, "", "limit: file bytes\n"),
         ],
-    )?;
+    );
     all_end_edited(
         &rt,
         rt.alloc(),
         &REFUTE,
         &["format = 3\n", NO_LABEL, "@0"],
         &[("@", DIGITS, 262_144, 5, "", "limit: file bytes\n")],
-    )
+    );
 }

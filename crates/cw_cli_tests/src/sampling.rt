@@ -1,11 +1,10 @@
 //! Whole runs of `sample`, and words that are no number of a sample.
 use crate::given::all_end;
-use std::test::Fail;
 
 const USAGE: &str = "usage: capweave sample N\n";
 
 #[test]
-fn weaves_a_sample_and_tells_its_numbers(rt: HostRuntime) -> Result<(), Fail> {
+fn weaves_a_sample_and_tells_its_numbers(rt: HostRuntime) {
     all_end(
         &rt,
         rt.alloc(),
@@ -25,11 +24,11 @@ fn weaves_a_sample_and_tells_its_numbers(rt: HostRuntime) -> Result<(), Fail> {
                 "",
             ),
         ],
-    )
+    );
 }
 
 #[test]
-fn words_that_are_no_number_of_a_sample(rt: HostRuntime) -> Result<(), Fail> {
+fn words_that_are_no_number_of_a_sample(rt: HostRuntime) {
     all_end(
         &rt,
         rt.alloc(),
@@ -45,5 +44,5 @@ fn words_that_are_no_number_of_a_sample(rt: HostRuntime) -> Result<(), Fail> {
             (&["sample"], &[], 2, "", USAGE),
             (&["sample", "1", "2"], &[], 2, "", USAGE),
         ],
-    )
+    );
 }

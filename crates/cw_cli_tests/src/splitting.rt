@@ -1,6 +1,5 @@
 //! Runs of the command line under policies that split functions off. The texts are another implementation's.
 use crate::given::all_end;
-use std::test::Fail;
 
 const WEAVE: [&str; 3] = ["weave", "p.toml", "s.c"];
 
@@ -110,7 +109,7 @@ const TWO: &str = "format = 1\nsplit = [\"f\", \"h\"]\n";
 const WRITES: &str = "int g;void f(int x){g=x;}int main(void){f(1);return 0;}";
 
 #[test]
-fn functions_are_split_or_told_why_not(rt: HostRuntime) -> Result<(), Fail> {
+fn functions_are_split_or_told_why_not(rt: HostRuntime) {
     all_end(
         &rt,
         rt.alloc(),
@@ -135,5 +134,5 @@ fn functions_are_split_or_told_why_not(rt: HostRuntime) -> Result<(), Fail> {
             (&CHECK, &[SPLITS, WOVEN], 0, "yes\n", ""),
             (&CHECK, &[TWO, WOVEN], 4, "", "policy: no function h\n"),
         ],
-    )
+    );
 }

@@ -1,7 +1,6 @@
 //! Whole runs of `values` over files and sinks in memory.
 use crate::given::{all_end, all_end_edited};
 use crate::texts::{NEVER, ONE_LABEL};
-use std::test::Fail;
 
 const VALUES: [&str; 4] = ["values", "p.toml", "s.c", "t"];
 
@@ -79,7 +78,7 @@ const NO_ANSWERS: &str = "capweave answers 1\nend\n";
 const SEVEN: &str = "capweave answers 1\ncall 7\nend\n";
 
 #[test]
-fn woven_texts_are_run_over_values(rt: HostRuntime) -> Result<(), Fail> {
+fn woven_texts_are_run_over_values(rt: HostRuntime) {
     all_end(
         &rt,
         rt.alloc(),
@@ -134,11 +133,11 @@ fn woven_texts_are_run_over_values(rt: HostRuntime) -> Result<(), Fail> {
                 "usage: capweave values POLICY WOVEN ANSWERS\n",
             ),
         ],
-    )
+    );
 }
 
 #[test]
-fn changed_woven_texts_are_run_or_refused(rt: HostRuntime) -> Result<(), Fail> {
+fn changed_woven_texts_are_run_or_refused(rt: HostRuntime) {
     all_end_edited(
         &rt,
         rt.alloc(),
@@ -173,5 +172,5 @@ fn changed_woven_texts_are_run_or_refused(rt: HostRuntime) -> Result<(), Fail> {
             ("CW_LIVE(5,0)\n", "", 0, 1, "live 3 condition 6\n", ""),
             ("call 7", "call 07", 1, 9, "", "answers: line 2\n"),
         ],
-    )
+    );
 }

@@ -5,7 +5,6 @@ use crate::texts::{
     OPENED_AND_TAKEN, OVER_A_CALL, REFUSABLE, REFUSED_ENTER, SECOND_OF_TWO, STOPPABLE, STOPS,
     TWO_LABELS, TWO_LABELS_IN_A_LOOP,
 };
-use std::test::Fail;
 
 const WEAVE: [&str; 3] = ["weave", "p.toml", "s.c"];
 
@@ -39,7 +38,7 @@ CW_DONE
 ";
 
 #[test]
-fn weaves_refutes_or_tells_why_not(rt: HostRuntime) -> Result<(), Fail> {
+fn weaves_refutes_or_tells_why_not(rt: HostRuntime) {
     all_end(
         &rt,
         rt.alloc(),
@@ -90,11 +89,11 @@ fn weaves_refutes_or_tells_why_not(rt: HostRuntime) -> Result<(), Fail> {
                 "policy: kind format\n",
             ),
         ],
-    )
+    );
 }
 
 #[test]
-fn weaves_refusals_calls_and_opens(rt: HostRuntime) -> Result<(), Fail> {
+fn weaves_refusals_calls_and_opens(rt: HostRuntime) {
     all_end(
         &rt,
         rt.alloc(),
@@ -151,11 +150,11 @@ fn weaves_refusals_calls_and_opens(rt: HostRuntime) -> Result<(), Fail> {
                 "",
             ),
         ],
-    )
+    );
 }
 
 #[test]
-fn tells_why_nothing_is_woven(rt: HostRuntime) -> Result<(), Fail> {
+fn tells_why_nothing_is_woven(rt: HostRuntime) {
     all_end(
         &rt,
         rt.alloc(),
@@ -222,18 +221,18 @@ fn tells_why_nothing_is_woven(rt: HostRuntime) -> Result<(), Fail> {
                 "policy: no label z\n",
             ),
         ],
-    )
+    );
 }
 
 #[test]
-fn tells_that_points_or_limits_are_too_many(rt: HostRuntime) -> Result<(), Fail> {
+fn tells_that_points_or_limits_are_too_many(rt: HostRuntime) {
     all_end_edited(
         &rt,
         rt.alloc(),
         &WEAVE,
         &["format = 1\n", "int main(void){@return 0;}"],
         &[("@", ";", 8_190, 5, "", "limit: points\n")],
-    )?;
+    );
     all_end_edited(
         &rt,
         rt.alloc(),
@@ -247,23 +246,23 @@ fn tells_that_points_or_limits_are_too_many(rt: HostRuntime) -> Result<(), Fail>
             "",
             "limit: limits\n",
         )],
-    )
+    );
 }
 
 /// The source has over 200,000 bytes.
 #[test]
-fn a_source_of_two_hundred_thousand_bytes_is_woven(rt: HostRuntime) -> Result<(), Fail> {
+fn a_source_of_two_hundred_thousand_bytes_is_woven(rt: HostRuntime) {
     all_end_edited(
         &rt,
         rt.alloc(),
         &WEAVE,
         &["format = 1\n", "int main(void){return 0;}@\n"],
         &[("@", LINE, 2_000, 0, NO_RULES_AND_LINES, "")],
-    )
+    );
 }
 
 #[test]
-fn policies_are_refused_with_their_first_fault(rt: HostRuntime) -> Result<(), Fail> {
+fn policies_are_refused_with_their_first_fault(rt: HostRuntime) {
     all_end_edited(
         &rt,
         rt.alloc(),
@@ -296,7 +295,7 @@ fn policies_are_refused_with_their_first_fault(rt: HostRuntime) -> Result<(), Fa
             ),
             ("@", " ", 65_537, 5, "", "limit: policy bytes\n"),
         ],
-    )?;
+    );
     ends(
         &rt,
         rt.alloc(),
@@ -306,5 +305,5 @@ fn policies_are_refused_with_their_first_fault(rt: HostRuntime) -> Result<(), Fa
         4,
         "",
         "policy: toml\n",
-    )
+    );
 }

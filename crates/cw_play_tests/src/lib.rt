@@ -6,8 +6,6 @@ mod lines;
 #[cfg(test)]
 mod lists;
 #[cfg(test)]
-mod made;
-#[cfg(test)]
 mod plays;
 #[cfg(test)]
 mod runs;
@@ -15,3 +13,5 @@ mod runs;
 mod tapes;
 #[cfg(test)]
 mod texts;
+#[cfg(test)]
+mod told;

@@ -9,7 +9,7 @@ use cw_product::{Game, Turn};
 use std::alloc::{AllocError, Global};
 
 /// What stands at a pair. The number of a pair is its position times the number of states, and its state; a move that isn't there leads to none.
-#[derive(Clone, Copy, Drop)]
+#[derive(Clone, Copy)]
 pub enum Pair {
     /// The program has ended.
     Ended,
@@ -51,16 +51,12 @@ fn standing(game: &Game, pos: PosId, state: StateId) -> Pair
     if game.bad(pos, state) {
         return Pair::Bad;
     }
+    let (first, second) = game.moves(pos);
+    let one = led(game, pos, state, first);
+    let other = led(game, pos, state, second.unwrap_or(first));
     match game.turn(pos) {
-        Turn::Weaver => Pair::Either(
-            led(game, pos, state, Move::Skip),
-            led(game, pos, state, Move::Try),
-        ),
-        Turn::Environment => {
-            let (first, second) = game.moves(pos);
-            let other = second.unwrap_or(first);
-            Pair::Both(led(game, pos, state, first), led(game, pos, state, other))
-        }
+        Turn::Weaver => Pair::Either(one, other),
+        Turn::Environment => Pair::Both(one, other),
         Turn::Call {
             callee,
             split,

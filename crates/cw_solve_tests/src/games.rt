@@ -2,59 +2,6 @@
 
 use crate::told::{Answer, Question, told};
 use std::alloc::{AllocError, Global};
-use std::test::Fail;
-
-const PIECES: [&str; 16] = [
-    "f();",
-    "g();",
-    "h();",
-    "if(c){f();}",
-    "if(c){g();}",
-    "while(c){h();}",
-    "while(c){f();g();}",
-    "if(c){return;}",
-    ";",
-    "while(c){;}",
-    "if(c){f();g();}",
-    "f();f();",
-    "g();f();",
-    "while(c){while(c){f();}if(c){g();}}",
-    "if(c){h();return;}",
-    "",
-];
-
-const BADS: [&str; 16] = [
-    "a",
-    ".* a",
-    "b* b b",
-    ".* b .* b",
-    "d* d d",
-    ".* b",
-    "a b",
-    ".* a[!amb] .* b",
-    "a b[amb]",
-    ".* c .* d",
-    "d c* a",
-    ".* d .* a .* b",
-    "e* e e",
-    ".* e .* c[amb]",
-    "d",
-    ".* d .* d",
-];
-
-const SPLITS: [&str; 4] = [
-    "",
-    "split = [\"f\"]\n",
-    "split = [\"g\"]\n",
-    "split = [\"f\", \"h\"]\n",
-];
-
-const STARTS: [&str; 4] = ["f();", "g();d:;", "e:;h();", "d:;"];
-
-const ENDS: [&str; 4] = ["f();", "g();", "if(c){h();}", "while(c){f();g();}"];
-
-/// Whether a piece is put.
-const IS_PUT: [&str; 2] = ["yes", ""];
 
 /// Each function's beginning, and its label.
 const FUNCTIONS: [(&str, &str); 3] = [
@@ -80,62 +27,128 @@ fn drawn<'t>(seed: &mut u32, of: &[&'t str]) -> &'t str {
     }
 }
 
-/// A source of a number, with up to three pieces before each label and behind it.
+/// A piece, or none.
+fn piece(seed: &mut u32) -> &'static str {
+    let is_put = drawn(seed, &["yes", ""]);
+    if is_put.is_empty() {
+        return "";
+    }
+    drawn(
+        seed,
+        &[
+            "f();",
+            "g();",
+            "h();",
+            "if(c){f();}",
+            "if(c){g();}",
+            "while(c){h();}",
+            "while(c){f();g();}",
+            "if(c){return;}",
+            ";",
+            "while(c){;}",
+            "if(c){f();g();}",
+            "f();f();",
+            "g();f();",
+            "while(c){while(c){f();}if(c){g();}}",
+            "if(c){h();return;}",
+            "",
+        ],
+    )
+}
+
+/// Appends texts.
+fn put(text: &mut String, parts: &[&str]) -> Result<(), AllocError> {
+    for part in parts {
+        text.push_str(part)?;
+    }
+    Ok(())
+}
+
+/// A source of a number, with up to two pieces before each label and two behind it.
 fn put_source(seed: &mut u32, text: &mut String) -> Result<(), AllocError> {
     for (beginning, label) in &FUNCTIONS {
-        text.push_str(beginning)?;
-        for i in 0..4 {
-            if !drawn(seed, &IS_PUT).is_empty() {
-                text.push_str(drawn(seed, &PIECES))?;
-            }
-            if i == 1 {
-                text.push_str(label)?;
-            }
-        }
+        let first = piece(seed);
+        let second = piece(seed);
+        let third = piece(seed);
+        let fourth = piece(seed);
+        put(text, &[*beginning, first, second, *label, third, fourth])?;
     }
-    text.push_str("}int main(void){")?;
-    text.push_str(drawn(seed, &STARTS))?;
-    text.push_str(drawn(seed, &ENDS))?;
-    text.push_str("return 0;}")
+    let start = drawn(seed, &["f();", "g();d:;", "e:;h();", "d:;"]);
+    let end = drawn(seed, &["f();", "g();", "if(c){h();}", "while(c){f();g();}"]);
+    put(text, &["}int main(void){", start, end, "return 0;}"])
 }
 
 /// A policy of a number.
 fn put_policy(seed: &mut u32, text: &mut String) -> Result<(), AllocError> {
-    text.push_str("format = 1\n")?;
-    text.push_str(drawn(seed, &SPLITS))?;
-    text.push_str("[[rule]]\nname = \"r\"\nbad = \"")?;
-    text.push_str(drawn(seed, &BADS))?;
-    text.push_str("\"\n")
+    let split = drawn(
+        seed,
+        &[
+            "",
+            "split = [\"f\"]\n",
+            "split = [\"g\"]\n",
+            "split = [\"f\", \"h\"]\n",
+        ],
+    );
+    let bad = drawn(
+        seed,
+        &[
+            "a",
+            ".* a",
+            "b* b b",
+            ".* b .* b",
+            "d* d d",
+            ".* b",
+            "a b",
+            ".* a[!amb] .* b",
+            "a b[amb]",
+            ".* c .* d",
+            "d c* a",
+            ".* d .* a .* b",
+            "e* e e",
+            ".* e .* c[amb]",
+            "d",
+            ".* d .* d",
+        ],
+    );
+    put(
+        text,
+        &[
+            "format = 1\n",
+            split,
+            "[[rule]]\nname = \"r\"\nbad = \"",
+            bad,
+            "\"\n",
+        ],
+    )
 }
 
 /// What both solvers tell of the game of a number.
-fn told_of(alloc: Global, number: u32) -> Result<Answer, Fail> {
+fn told_of(alloc: Global, number: u32) -> Result<Answer, AllocError> {
     let mut seed = next(next(number.wrapping_mul(7919)));
     let mut source = String::new(alloc);
     put_source(&mut seed, &mut source)?;
     let mut policy = String::new(alloc);
     put_policy(&mut seed, &mut policy)?;
-    told(alloc, &policy, &source, Question::Both)
+    Ok(told(alloc, &policy, &source, Question::Both))
 }
 
 /// How many contexts and cells the games of the numbers below have together; no more are counted where one isn't solved alike.
-fn sum_of(alloc: Global, numbers: u32) -> Result<(u32, u32, u32), Fail> {
-    let mut contexts: u32 = 0;
-    let mut cells: u32 = 0;
+fn sum_of(alloc: Global, numbers: u32) -> Result<(u32, u64, u64), AllocError> {
+    let mut contexts: u64 = 0;
+    let mut cells: u64 = 0;
     for number in 0..numbers {
-        match told_of(alloc, number)? {
-            Answer::Solved(some, more) => {
-                contexts = contexts.saturating_add(some);
-                cells = cells.saturating_add(more);
-            }
-            _ => return Ok((number, contexts, cells)),
+        let (what, some, more) = told_of(alloc, number)?;
+        if what != "solved" {
+            return Ok((number, contexts, cells));
         }
+        contexts = contexts.saturating_add(some);
+        cells = cells.saturating_add(more);
     }
     Ok((numbers, contexts, cells))
 }
 
 #[test]
-fn made_games(rt: HostRuntime) -> Result<(), Fail> {
-    assert_eq!(rt; sum_of(rt.alloc(), 100)?, (100, 532, 73478));
-    Ok(())
+fn made_games(rt: HostRuntime) {
+    let sum = sum_of(rt.alloc(), 100).expect(&rt, "games");
+    assert_eq!(rt; sum, (100, 532, 73478));
 }

@@ -1,9 +1,6 @@
 //! Games of many cells: the limit of 4,194,304 cells, from both sides, and one context of many cells with heights one after the other.
 
-use crate::texts::joined;
-use crate::told::{Answer, Question, told};
-use std::alloc::Global;
-use std::test::Fail;
+use crate::told::{Question, all_joined_told};
 
 /// Six descriptors, each open or closed, and a wish for four of them: 256 states.
 const POLICY: &str = "format = 1
@@ -40,54 +37,72 @@ name = \"r\"
 bad = \"a a a a a a a a a a a a a a a a a a a a a a a a a a a a a a a a a a a a a a a a a a a a a a a a a a a a a a a a a a a a a a a\"
 ";
 
-/// What is told of a program whose `f` has 3,264 positions, and whose `main` has 40 and so many more. `main` promises `f` all states, and after each call
-/// those in which a descriptor isn't open.
-fn told_of(alloc: Global, more: u32) -> Result<Answer, Fail> {
-    let source = joined(
-        alloc,
-        &[
-            ("int d1;int d2;int d3;int d4;int d5;int d6;void f(void){", 1),
-            ("return;", 3260),
-            (
-                "}int main(void){if(c){f();b1:;return 0;}if(c){f();b2:;return 0;}",
-                1,
-            ),
-            ("if(c){f();b3:;return 0;}if(c){f();b4:;return 0;}", 1),
-            ("return 0;", more),
-            ("}", 1),
-        ],
-    )?;
-    told(alloc, POLICY, &source, Question::Size)
-}
+/// `f` has 3,264 positions. `main` has 40 and one for each return behind this, promises `f` all states, and after each call those in which a descriptor
+/// isn't open.
+const FRONT: &str = "int d1;int d2;int d3;int d4;int d5;int d6;void f(void){";
+
+const MAIN: &str =
+    "}int main(void){if(c){f();b1:;return 0;}if(c){f();b2:;return 0;}if(c){f();b3:;return 0;}if(c){f();b4:;return 0;}";
 
 /// 256 * (40 + 24 + 5 * (4 + 3,260)) cells are 4,194,304.
 #[test]
-fn so_many_cells_are_solved(rt: HostRuntime) -> Result<(), Fail> {
-    let answer = told_of(rt.alloc(), 24)?;
-    assert_eq!(rt; answer, Answer::Solved(6, 4194304));
-    Ok(())
+fn so_many_cells_are_solved(rt: HostRuntime) {
+    all_joined_told(
+        &rt,
+        rt.alloc(),
+        &[(
+            "4,194,304 cells",
+            &[(POLICY, 1)],
+            &[
+                (FRONT, 1),
+                ("return;", 3260),
+                (MAIN, 1),
+                ("return 0;", 24),
+                ("}", 1),
+            ],
+            Question::Size,
+            ("solved", 6, 4194304),
+        )],
+    );
 }
 
 /// One position of `main` more is 256 cells more.
 #[test]
-fn a_position_more_is_too_many(rt: HostRuntime) -> Result<(), Fail> {
-    let answer = told_of(rt.alloc(), 25)?;
-    assert_eq!(rt; answer, Answer::TooMany(6));
-    Ok(())
+fn a_position_more_is_too_many(rt: HostRuntime) {
+    all_joined_told(
+        &rt,
+        rt.alloc(),
+        &[(
+            "256 cells more",
+            &[(POLICY, 1)],
+            &[
+                (FRONT, 1),
+                ("return;", 3260),
+                (MAIN, 1),
+                ("return 0;", 25),
+                ("}", 1),
+            ],
+            Question::Size,
+            ("too many cells", 6, 0),
+        )],
+    );
 }
 
 #[test]
-fn a_loop_of_many_points(rt: HostRuntime) -> Result<(), Fail> {
-    let alloc = rt.alloc();
-    let source = joined(
-        alloc,
-        &[
-            ("int main(void){while(c){", 1),
-            (";", 8000),
-            ("a:;}return 0;}", 1),
-        ],
-    )?;
-    let answer = told(alloc, LONG, &source, Question::Linked)?;
-    assert_eq!(rt; answer, Answer::Linked(1009260, Some(504317)));
-    Ok(())
+fn a_loop_of_many_points(rt: HostRuntime) {
+    all_joined_told(
+        &rt,
+        rt.alloc(),
+        &[(
+            "8,000 points",
+            &[(LONG, 1)],
+            &[
+                ("int main(void){while(c){", 1),
+                (";", 8000),
+                ("a:;}return 0;}", 1),
+            ],
+            Question::Linked,
+            ("linked", 1009260, 504317),
+        )],
+    );
 }

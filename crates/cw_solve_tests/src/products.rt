@@ -1,16 +1,31 @@
 //! Games: how many states and positions they have, why there is none, and where the moves of a split call lead.
 
-use crate::texts::{CALL, CALL_POLICY, ONE, TOOL, TOOL_POLICY, TWO, joined};
-use crate::told::{Answer, Question, told};
+use crate::texts::{CALL, CALL_POLICY, ONE, TOOL, TOOL_POLICY, TWO};
+use crate::told::{Answer, Question, all_joined_told, all_told};
 use cw_certs::Move;
 use cw_core::{PosId, SeamId, StateId};
-use cw_product::{Game, GameFault, Turn};
-use std::alloc::Global;
-use std::process::Abort;
-use std::test::Fail;
+use cw_product::{Game, Turn};
 
-/// The parts of a policy and of a source, and how many states and positions there are, or why there is no game.
-type Row<'t> = (&'t [(&'t str, u32)], &'t [(&'t str, u32)], Answer);
+/// What is so of a game.
+#[derive(Clone, Copy)]
+pub enum Fact {
+    /// How many seams there are.
+    Seams(usize),
+    /// Whether there is this seam.
+    Seam(SeamId, bool),
+    /// Whether this seam has this stage.
+    Stage(SeamId, u8, bool),
+    /// Where the program begins, and in which state.
+    Start(PosId, StateId),
+    /// Who moves at a position.
+    Turn(PosId, Turn),
+    /// The moves at a position.
+    Moves(PosId, Move, Option<Move>),
+    /// Where a move at a position in a state leads.
+    Next(PosId, StateId, Move, Option<(PosId, StateId)>),
+    /// The state of a call, that of its end, whether the call was split, and the state after the return.
+    Returned(StateId, StateId, bool, StateId),
+}
 
 const NUMBER: &str = "[[descriptor]]
 name = \"0\"
@@ -164,67 +179,70 @@ const LABELS: &str = "int main(void){a:;b:;";
 
 const END: &str = "return 0;}";
 
-/// Asserts how many states and positions there are, or why there is no game.
-fn are_made(rt: &impl Abort, alloc: Global, rows: &[Row]) -> Result<(), Fail> {
-    for (policy, source, wanted) in rows {
-        let policy = joined(alloc, policy)?;
-        let source = joined(alloc, source)?;
-        assert_eq!(rt; told(alloc, &policy, &source, Question::Made)?, *wanted);
-    }
-    Ok(())
-}
-
 #[test]
-fn rows_on_descriptors_have_their_numbers(rt: HostRuntime) -> Result<(), Fail> {
-    are_made(
+fn rows_on_descriptors_have_their_numbers(rt: HostRuntime) {
+    all_joined_told(
         &rt,
         rt.alloc(),
         &[
             (
+                "two limits of a number",
                 &[("format = 1\n", 1), (NUMBER, 1), (NEVER, 1)],
                 &[(ONE, 1)],
-                Answer::Made(6, 17),
+                Question::Made,
+                ("made", 6, 17),
             ),
             (
+                "a limit to nothing too",
                 &[("format = 1\n", 1), (NUMBER, 1), (NOTHING, 1), (NEVER, 1)],
                 &[(ONE, 1)],
-                Answer::Made(16, 21),
+                Question::Made,
+                ("made", 16, 21),
             ),
             (
+                "a variable that is opened",
                 &[(OPENED, 1)],
                 &[("int fd; int main(void){fd=open_it();a:;return 0;}", 1)],
-                Answer::Made(12, 14),
+                Question::Made,
+                ("made", 12, 14),
             ),
             (
+                "a rule on what stays open",
                 &[(WHILE_OPEN, 1)],
                 &[(
                     "int in; int main(void){in=open_it();if(c){a:;}b:;return 0;}",
                     1,
                 )],
-                Answer::Made(30, 21),
+                Question::Made,
+                ("made", 30, 21),
             ),
         ],
-    )
+    );
 }
 
 #[test]
-fn the_first_limit_is_told(rt: HostRuntime) -> Result<(), Fail> {
-    are_made(
+fn the_first_limit_is_told(rt: HostRuntime) {
+    all_joined_told(
         &rt,
         rt.alloc(),
         &[
             // rights states: 128, more, and more with too many policy states
             (
+                "as many rights states as there may be",
                 &[("format = 1\n", 1), (SIX, 1)],
                 &[(TWO, 1)],
-                Answer::Made(256, 13),
+                Question::Made,
+                ("made", 256, 13),
             ),
             (
+                "more of them, and more policy states",
                 &[("format = 1\n", 1), (SEVENTH, 1), (SIX, 1), (LATE, 1)],
                 &[(TWO, 1)],
-                Answer::Unmade(GameFault::TooManyCaps),
+                Question::Made,
+                ("too many rights states", 0, 0),
             ),
             (
+                "more of them by limits",
                 &[
                     ("format = 1\n", 1),
                     (EIGHTH, 1),
@@ -233,157 +251,200 @@ fn the_first_limit_is_told(rt: HostRuntime) -> Result<(), Fail> {
                     (LIMITS, 1),
                 ],
                 &[(TWO, 1)],
-                Answer::Unmade(GameFault::TooManyCaps),
+                Question::Made,
+                ("too many rights states", 0, 0),
             ),
             // policy states: more, also where the pairs would be too many
             (
+                "more policy states",
                 &[("format = 1\n", 1), (SIX, 1), (LATE, 1)],
                 &[(TWO, 1)],
-                Answer::Unmade(GameFault::TooManyWords),
+                Question::Made,
+                ("too many policy states", 0, 0),
             ),
         ],
-    )
+    );
 }
 
 #[test]
-fn pairs_and_positions_are_limited(rt: HostRuntime) -> Result<(), Fail> {
-    are_made(
+fn pairs_and_positions_are_limited(rt: HostRuntime) {
+    all_joined_told(
         &rt,
         rt.alloc(),
         &[
             (
+                "as many pairs as format 1 has",
                 &[("format = 1\n", 1), (LONG, 1)],
                 &[(TWO, 1)],
-                Answer::Made(512, 31),
+                Question::Made,
+                ("made", 512, 31),
             ),
             (
+                "more pairs than format 1 has, and more positions",
                 &[("format = 1\n", 1), (LONG, 1), (FOURTH, 1)],
                 &[(LABELS, 1), (";", 2018), (END, 1)],
-                Answer::Unmade(GameFault::TooManyStates),
+                Question::Made,
+                ("too many pairs", 0, 0),
             ),
             (
+                "as many in format 2",
                 &[("format = 2\n", 1), (LONG, 1), (FOURTH, 1)],
                 &[(TWO, 1)],
-                Answer::Made(640, 37),
+                Question::Made,
+                ("made", 640, 37),
             ),
             (
+                "as many pairs as format 2 has",
                 &[("format = 2\n", 1), (SIX, 1), (SEVEN, 1)],
                 &[(TWO, 1)],
-                Answer::Made(1024, 13),
+                Question::Made,
+                ("made", 1024, 13),
             ),
             (
+                "more pairs than format 2 has",
                 &[("format = 2\n", 1), (SIX, 1), (EIGHT, 1)],
                 &[(TWO, 1)],
-                Answer::Unmade(GameFault::TooManyStates),
+                Question::Made,
+                ("too many pairs", 0, 0),
             ),
             // positions times states: 1,048,576, and 512 more
             (
+                "as many positions as there may be",
                 &[("format = 1\n", 1), (LONG, 1)],
                 &[(LABELS, 1), (";", 2017), (END, 1)],
-                Answer::Made(512, 2048),
+                Question::Made,
+                ("made", 512, 2048),
             ),
             (
+                "more positions",
                 &[("format = 1\n", 1), (LONG, 1)],
                 &[(LABELS, 1), (";", 2018), (END, 1)],
-                Answer::Unmade(GameFault::TooManyPositions),
+                Question::Made,
+                ("too many positions", 0, 0),
             ),
         ],
-    )
+    );
 }
 
-/// Whether a game has the numbers of the tool: three limits and an enter at each seam but no split.
-pub fn has_tools_numbers(game: &Game) -> bool {
-    let (pos, state) = game.start();
-    game.graph().seams.len() == 26
-        && game.has_seam(SeamId(25))
-        && !game.has_seam(SeamId(26))
-        && game.has_stage(SeamId(20), 3)
-        && !game.has_stage(SeamId(20), 4)
-        && pos.0 == 153
-        && state.0 == 1
+/// Whether this is so of a game.
+fn is_so(game: &Game, fact: Fact) -> bool {
+    match fact {
+        Fact::Seams(count) => game.graph().seams.len() == count,
+        Fact::Seam(seam, is) => game.has_seam(seam) == is,
+        Fact::Stage(seam, stage, is) => game.has_stage(seam, stage) == is,
+        Fact::Start(pos, state) => game.start() == (pos, state),
+        Fact::Turn(pos, turn) => pos.0 < game.positions() && game.turn(pos) == turn,
+        Fact::Moves(pos, first, second) => {
+            pos.0 < game.positions() && game.moves(pos) == (first, second)
+        }
+        Fact::Next(pos, state, by, to) => {
+            pos.0 < game.positions() && state.0 < game.states() && game.next(pos, state, by) == to
+        }
+        Fact::Returned(call, exit, split, to) => {
+            call.0 < game.states()
+                && exit.0 < game.states()
+                && game.returned(call, exit, split) == to
+        }
+    }
 }
+
+/// What is told where these are asked of a game: how many are so, or the number of the first that isn't.
+pub fn are_so(game: &Game, facts: &[Fact]) -> Answer {
+    for (i, fact) in facts.iter().enumerate() {
+        if !is_so(game, *fact) {
+            return ("not so", i as u64, 0);
+        }
+    }
+    ("so", facts.len() as u64, 0)
+}
+
+/// Three limits and an enter at each seam but no split.
+#[test]
+fn the_tool_has_its_numbers(rt: HostRuntime) {
+    all_told(
+        &rt,
+        rt.alloc(),
+        &[
+            (
+                "states and positions",
+                TOOL_POLICY,
+                TOOL,
+                Question::Made,
+                ("made", 72, 247),
+            ),
+            (
+                "seams, stages and the start",
+                TOOL_POLICY,
+                TOOL,
+                Question::Facts(&[
+                    Fact::Seams(26),
+                    Fact::Seam(SeamId(25), true),
+                    Fact::Seam(SeamId(26), false),
+                    Fact::Stage(SeamId(20), 3, true),
+                    Fact::Stage(SeamId(20), 4, false),
+                    Fact::Start(PosId(153), StateId(1)),
+                ]),
+                ("so", 6, 0),
+            ),
+        ],
+    );
+}
+
+const CALLED: Turn = Turn::Call {
+    callee: 0,
+    split: false,
+    back: PosId(19),
+};
+
+const CALLED_SPLIT: Turn = Turn::Call {
+    callee: 0,
+    split: true,
+    back: PosId(19),
+};
 
 #[test]
-fn the_tool_has_its_numbers(rt: HostRuntime) -> Result<(), Fail> {
-    let alloc = rt.alloc();
-    assert_eq!(rt;
-        told(alloc, TOOL_POLICY, TOOL, Question::Made)?,
-        Answer::Made(72, 247)
+fn a_split_call_has_two_free_positions(rt: HostRuntime) {
+    all_told(
+        &rt,
+        rt.alloc(),
+        &[
+            (
+                "states and positions",
+                CALL_POLICY,
+                CALL,
+                Question::Made,
+                ("made", 4, 25),
+            ),
+            (
+                "turns, moves and returns",
+                CALL_POLICY,
+                CALL,
+                Question::Facts(&[
+                    Fact::Turn(PosId(17), CALLED),
+                    Fact::Turn(PosId(18), CALLED_SPLIT),
+                    Fact::Moves(PosId(16), Move::Grant, Some(Move::Refuse)),
+                    Fact::Moves(PosId(18), Move::On, None),
+                    // granted, the split goes to the second; refused, to the first
+                    Fact::Next(
+                        PosId(16),
+                        StateId(1),
+                        Move::Grant,
+                        Some((PosId(18), StateId(1))),
+                    ),
+                    Fact::Next(
+                        PosId(16),
+                        StateId(1),
+                        Move::Refuse,
+                        Some((PosId(17), StateId(1))),
+                    ),
+                    Fact::Next(PosId(17), StateId(1), Move::On, None),
+                    Fact::Next(PosId(18), StateId(1), Move::On, None),
+                    // the word of the end, with the rights of the call where it was split
+                    Fact::Returned(StateId(0), StateId(3), false, StateId(3)),
+                    Fact::Returned(StateId(0), StateId(3), true, StateId(2)),
+                ]),
+                ("so", 10, 0),
+            ),
+        ],
     );
-    assert_eq!(rt;
-        told(alloc, TOOL_POLICY, TOOL, Question::Tool)?,
-        Answer::Is(true)
-    );
-    Ok(())
-}
-
-fn turn(game: &Game, pos: u32) -> Option<Turn> {
-    if pos < game.positions() {
-        Some(game.turn(PosId(pos)))
-    } else {
-        None
-    }
-}
-
-fn moves(game: &Game, pos: u32) -> Option<(Move, Option<Move>)> {
-    if pos < game.positions() {
-        Some(game.moves(PosId(pos)))
-    } else {
-        None
-    }
-}
-
-fn next(game: &Game, pos: u32, state: u16, by: Move) -> Option<(u32, u16)> {
-    if pos >= game.positions() || state >= game.states() {
-        return None;
-    }
-    match game.next(PosId(pos), StateId(state), by) {
-        None => None,
-        Some((pos, state)) => Some((pos.0, state.0)),
-    }
-}
-
-fn returned(game: &Game, call: u16, exit: u16, split: bool) -> Option<u16> {
-    if call >= game.states() || exit >= game.states() {
-        return None;
-    }
-    Some(game.returned(StateId(call), StateId(exit), split).0)
-}
-
-fn called(split: bool) -> Option<Turn> {
-    Some(Turn::Call {
-        callee: 0,
-        split,
-        back: PosId(19),
-    })
-}
-
-/// Whether a split call has two free positions.
-pub fn is_split(game: &Game) -> bool {
-    turn(game, 17) == called(false)
-        && turn(game, 18) == called(true)
-        && moves(game, 16) == Some((Move::Grant, Some(Move::Refuse)))
-        && moves(game, 18) == Some((Move::On, None))
-        // granted, the split goes to the second; refused, to the first
-        && next(game, 16, 1, Move::Grant) == Some((18, 1))
-        && next(game, 16, 1, Move::Refuse) == Some((17, 1))
-        && next(game, 17, 1, Move::On).is_none()
-        && next(game, 18, 1, Move::On).is_none()
-        // the word of the end, with the rights of the call where it was split
-        && returned(game, 0, 3, false) == Some(3)
-        && returned(game, 0, 3, true) == Some(2)
-}
-
-#[test]
-fn a_split_call_has_two_free_positions(rt: HostRuntime) -> Result<(), Fail> {
-    let alloc = rt.alloc();
-    assert_eq!(rt;
-        told(alloc, CALL_POLICY, CALL, Question::Made)?,
-        Answer::Made(4, 25)
-    );
-    assert_eq!(rt;
-        told(alloc, CALL_POLICY, CALL, Question::Split)?,
-        Answer::Is(true)
-    );
-    Ok(())
 }

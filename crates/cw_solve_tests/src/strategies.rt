@@ -2,86 +2,101 @@
 
 use crate::texts::{
     CALL, CALL_POLICY, CALL_STRATEGY, ONE, ONE_POLICY, ONE_STRATEGY, TWO, TWO_POLICY, TWO_STRATEGY,
-    edited,
+    joined,
 };
-use crate::told::{Answer, Question, told};
+use crate::told::{Answer, Question, all_told, told};
 use cw_echeck::check_env;
 use cw_product::Game;
 use cw_strategy_text::read_env;
 use std::alloc::Global;
 use std::process::Abort;
-use std::test::Fail;
 
 /// What the check says of a strategy by its text.
-pub fn judged(alloc: Global, game: &Game, text: &str) -> Result<Answer, Fail> {
-    let cert = read_env(alloc, text.as_bytes(), 1)?;
+pub fn judged(alloc: Global, game: &Game, text: &str) -> Answer {
+    let Ok(cert) = read_env(alloc, text.as_bytes(), 1) else {
+        return ("no strategy", 0, 0);
+    };
     if cert.rows.len() > 65536 {
-        return Ok(Answer::OtherContexts);
+        return ("too many rows", 0, 0);
     }
     match check_env(game, &cert) {
-        Ok(()) => Ok(Answer::Good),
-        Err(bad) => Ok(Answer::Bad(bad.row, bad.condition)),
+        Ok(()) => ("good", 0, 0),
+        Err(bad) => ("bad", u64::from(bad.row), u64::from(bad.condition)),
     }
 }
 
-/// Asserts what the check says of strategies: a policy, a source, a strategy's text, and the answer.
-fn are_judged(
-    rt: &impl Abort,
-    alloc: Global,
-    rows: &[(&str, &str, &str, Answer)],
-) -> Result<(), Fail> {
-    for (policy, source, text, wanted) in rows {
-        assert_eq!(rt;
-            told(alloc, policy, source, Question::Strategy(text))?,
-            *wanted
-        );
-    }
-    Ok(())
-}
+/// A policy, a source and a strategy.
+type Texts<'t> = (&'t str, &'t str, &'t str);
 
-/// Asserts which row and condition fail where a line of `CALL_STRATEGY` is another.
-fn fail(rt: &impl Abort, alloc: Global, rows: &[(&str, &str, u32, u8)]) -> Result<(), Fail> {
+/// Asserts which row and condition fail where other words stand in the strategy in the place of the first that are these.
+fn fail(rt: &impl Abort, alloc: Global, texts: Texts, rows: &[(&str, &str, u64, u64)]) {
+    let (policy, source, strategy) = texts;
     for (old, new, row, condition) in rows {
-        let text = edited(alloc, CALL_STRATEGY, old, new)?;
-        let answer = told(alloc, CALL_POLICY, CALL, Question::Strategy(&text))?;
-        assert_eq!(rt; answer, Answer::Bad(*row, *condition), "{new}");
+        let (front, back) = strategy.split_once(*old).unwrap_or(("", ""));
+        let text = joined(alloc, &[(front, 1), (*new, 1), (back, 1)]).expect(rt, "a strategy");
+        let answer = told(alloc, policy, source, Question::Strategy(&text));
+        assert_eq!(rt; answer, ("bad", *row, *condition), "{new}");
     }
-    Ok(())
 }
 
 #[test]
-fn strategies_are_checked(rt: HostRuntime) -> Result<(), Fail> {
-    are_judged(
+fn strategies_are_checked(rt: HostRuntime) {
+    all_told(
         &rt,
         rt.alloc(),
         &[
-            (TWO_POLICY, TWO, TWO_STRATEGY, Answer::Good),
-            (ONE_POLICY, ONE, ONE_STRATEGY, Answer::Good),
-            (CALL_POLICY, CALL, CALL_STRATEGY, Answer::Good),
-            // a strategy of another program
-            (ONE_POLICY, ONE, TWO_STRATEGY, Answer::Bad(1, 1)),
-            // no row at the start
             (
+                "two labels",
                 TWO_POLICY,
                 TWO,
-                "capweave strategy 1\nstates 4\nend\n",
-                Answer::Bad(0, 8),
+                Question::Strategy(TWO_STRATEGY),
+                ("good", 0, 0),
             ),
             (
+                "an enter that is refused",
+                ONE_POLICY,
+                ONE,
+                Question::Strategy(ONE_STRATEGY),
+                ("good", 0, 0),
+            ),
+            (
+                "a call in both modes",
+                CALL_POLICY,
+                CALL,
+                Question::Strategy(CALL_STRATEGY),
+                ("good", 0, 0),
+            ),
+            (
+                "a strategy of another program",
+                ONE_POLICY,
+                ONE,
+                Question::Strategy(TWO_STRATEGY),
+                ("bad", 1, 1),
+            ),
+            (
+                "no row at the start, and none elsewhere",
                 TWO_POLICY,
                 TWO,
-                "capweave strategy 1\nstates 4\n0 5 0 0x0 bad\nend\n",
-                Answer::Bad(1, 8),
+                Question::Strategy("capweave strategy 1\nstates 4\nend\n"),
+                ("bad", 0, 8),
+            ),
+            (
+                "no row at the start, and one elsewhere",
+                TWO_POLICY,
+                TWO,
+                Question::Strategy("capweave strategy 1\nstates 4\n0 5 0 0x0 bad\nend\n"),
+                ("bad", 1, 8),
             ),
         ],
-    )
+    );
 }
 
 #[test]
-fn each_condition_is_asked(rt: HostRuntime) -> Result<(), Fail> {
+fn each_condition_is_asked(rt: HostRuntime) {
     fail(
         &rt,
         rt.alloc(),
+        (CALL_POLICY, CALL, CALL_STRATEGY),
         &[
             ("states 4", "states 5", 0, 1),
             ("45 10 0 0x0 grant 44", "45 10 0 0x0 grant 45", 45, 1),
@@ -99,5 +114,5 @@ fn each_condition_is_asked(rt: HostRuntime) -> Result<(), Fail> {
             ("into 29 0=11", "into 28 0=11", 32, 7),
             ("2=12 3=12", "2=11 3=12", 32, 7),
         ],
-    )
+    );
 }

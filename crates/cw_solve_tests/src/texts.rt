@@ -2,23 +2,21 @@
 
 use std::alloc::{AllocError, Global};
 
+/// Appends a text so many times.
+fn put(text: &mut String, part: &str, times: u32) -> Result<(), AllocError> {
+    for _ in 0..times {
+        text.push_str(part)?;
+    }
+    Ok(())
+}
+
 /// The text of these parts, each so many times.
 pub fn joined(alloc: Global, parts: &[(&str, u32)]) -> Result<String, AllocError> {
     let mut text = String::new(alloc);
     for (part, times) in parts {
-        for _ in 0..*times {
-            text.push_str(part)?;
-        }
+        put(&mut text, part, *times)?;
     }
     Ok(text)
-}
-
-/// A text with other words in the place of the first that are `old`, or nothing where it has none.
-pub fn edited(alloc: Global, text: &str, old: &str, new: &str) -> Result<String, AllocError> {
-    match text.split_once(old) {
-        None => Ok(String::new(alloc)),
-        Some((front, back)) => joined(alloc, &[(front, 1), (new, 1), (back, 1)]),
-    }
 }
 
 /// A tool that reads a file and writes a log.

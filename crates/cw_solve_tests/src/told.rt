@@ -3,25 +3,24 @@
 ghost use Rattle.cw_product.specs.Made.{IsMade};
 
 use crate::made::graph_of;
-use crate::products::{has_tools_numbers, is_split};
+use crate::products::{Fact, are_so};
 use crate::solved::{both, linked, small, unsolved};
 use crate::strategies::judged;
+use crate::texts::joined;
 use cw_linked::solve as solve_linked;
 use cw_policy::read_policy;
 use cw_product::{Game, GameFault};
-use cw_solve::solve;
-use std::alloc::{AllocError, Global};
-use std::test::Fail;
+use cw_solve::{Solved, solve};
+use std::alloc::Global;
+use std::process::Abort;
 
 /// What is asked of a game.
-#[derive(Clone, Copy, Drop)]
+#[derive(Clone, Copy)]
 pub enum Question<'t> {
     /// How many states and positions it has.
     Made,
-    /// Whether it has the numbers of the tool.
-    Tool,
-    /// Whether its call has two free positions.
-    Split,
+    /// Whether each of these is so.
+    Facts(&'t [Fact]),
     /// Whether a strategy by its text is good.
     Strategy(&'t str),
     /// How many contexts and cells it has.
@@ -34,73 +33,107 @@ pub enum Question<'t> {
     Linked,
 }
 
-/// What is told of a game.
-#[derive(Clone, Copy, Drop, Debug, PartialEq, Eq)]
-pub enum Answer {
-    /// Why there is none.
-    Unmade(GameFault),
-    /// How many states and positions there are.
-    Made(u16, u32),
-    Is(bool),
-    /// The strategy is good.
-    Good,
-    /// The row and the condition that fails.
-    Bad(u32, u8),
-    NoMemory,
-    /// How many contexts are too many.
-    TooMany(usize),
-    /// How many contexts and cells there are.
-    Solved(u32, u32),
-    /// The cells, and the height of the start.
-    Linked(u32, Option<u32>),
-    /// The contexts aren't those that are wanted, or not those of the other solver.
-    OtherContexts,
-    /// The heights of a context's pairs aren't those that are wanted, or not those of the other solver.
-    OtherHeights(usize),
+/// What is told of a game: words, and the two numbers that they speak of, 0 where they speak of none.
+///
+/// - `made`: how many states and positions there are;
+/// - `so`: how many of what was asked is so; `not so`: the number of the first that isn't;
+/// - `good`; `bad`: the row of a strategy and the condition that fails;
+/// - `solved`: how many contexts and cells there are; `linked`: how many cells, and the height of the start;
+/// - `too many cells`: how many contexts have too many;
+/// - `other contexts`, `other heights`: they aren't those that are wanted, or not those of the other solver;
+/// - else why there is no game.
+pub type Answer = (&'static str, u64, u64);
+
+/// What is asked of a game by its texts: what is shown, the policy, the source, the question, and what is to be told.
+pub type Row<'t> = (&'t str, &'t str, &'t str, Question<'t>, Answer);
+
+/// The same, where the policy and the source are made of parts, each so many times.
+pub type JoinedRow<'t> = (
+    &'t str,
+    &'t [(&'t str, u32)],
+    &'t [(&'t str, u32)],
+    Question<'t>,
+    Answer,
+);
+
+/// Why there is no game.
+fn unmade(fault: GameFault) -> &'static str {
+    match fault {
+        GameFault::TooManyCaps => "too many rights states",
+        GameFault::TooManyWords => "too many policy states",
+        GameFault::TooManyStates => "too many pairs",
+        GameFault::TooManyPositions => "too many positions",
+        GameFault::NoMemory => "no memory",
+    }
 }
 
-/// What a solver tells of a game that is made.
-fn told_solved(alloc: Global, game: &Game, question: Question) -> Result<Answer, AllocError>
+/// What is told of a game that the plain solver solves.
+fn compared(alloc: Global, game: &Game, solved: &Solved, question: Question) -> Answer
     requires made { IsMade game.now }
 {
-    let solved = match question {
-        Question::Linked => solve_linked(alloc, game),
-        _ => solve(alloc, game),
-    };
-    let solved = match solved {
-        Err(fault) => return Ok(unsolved(fault)),
-        Ok(solved) => solved,
-    };
     match question {
-        Question::Small(wanted) => small(alloc, &solved, wanted),
-        Question::Linked => linked(alloc, &solved),
+        Question::Small(wanted) => { small(alloc, solved, wanted).unwrap_or(("no memory", 0, 0)) }
         Question::Both => match solve_linked(alloc, game) {
-            Err(fault) => Ok(unsolved(fault)),
-            Ok(linked) => both(alloc, &solved, &linked),
+            Err(fault) => unsolved(&fault),
+            Ok(other) => both(solved, &other),
         },
-        _ => Ok(Answer::Solved(solved.contexts(), solved.cells())),
+        _ => (
+            "solved",
+            u64::from(solved.contexts()),
+            u64::from(solved.cells()),
+        ),
     }
 }
 
 /// What is told of a game that is made.
-fn answered(alloc: Global, game: &Game, question: Question) -> Result<Answer, Fail>
+fn answered(alloc: Global, game: &Game, question: Question) -> Answer
     requires made { IsMade game.now }
 {
     match question {
-        Question::Made => Ok(Answer::Made(game.states(), game.positions())),
-        Question::Tool => Ok(Answer::Is(has_tools_numbers(game))),
-        Question::Split => Ok(Answer::Is(is_split(game))),
+        Question::Made => (
+            "made",
+            u64::from(game.states()),
+            u64::from(game.positions()),
+        ),
+        Question::Facts(facts) => are_so(game, facts),
         Question::Strategy(text) => judged(alloc, game, text),
-        _ => Ok(told_solved(alloc, game, question)?),
+        Question::Linked => match solve_linked(alloc, game) {
+            Err(fault) => unsolved(&fault),
+            Ok(solved) => linked(&solved),
+        },
+        _ => match solve(alloc, game) {
+            Err(fault) => unsolved(&fault),
+            Ok(solved) => compared(alloc, game, &solved, question),
+        },
     }
 }
 
-/// What is told of a game by its texts; an error where they aren't read.
-pub fn told(alloc: Global, policy: &str, source: &str, question: Question) -> Result<Answer, Fail> {
-    let policy = read_policy(alloc, policy.as_bytes())?;
-    let graph = graph_of(alloc, &policy, source.as_bytes()).ok_or("no graph")?;
+/// What is told of a game by its texts.
+pub fn told(alloc: Global, policy: &str, source: &str, question: Question) -> Answer {
+    let Ok(policy) = read_policy(alloc, policy.as_bytes()) else {
+        return ("no policy", 0, 0);
+    };
+    let Some(graph) = graph_of(alloc, &policy, source.as_bytes()) else {
+        return ("no graph", 0, 0);
+    };
     match Game::make(alloc, &graph, &policy) {
-        Err(fault) => Ok(Answer::Unmade(fault)),
+        Err(fault) => (unmade(fault), 0, 0),
         Ok(game) => answered(alloc, &game, question),
+    }
+}
+
+/// Asserts what is told of games.
+pub fn all_told(rt: &impl Abort, alloc: Global, rows: &[Row]) {
+    for (name, policy, source, question, wanted) in rows {
+        assert_eq!(rt; told(alloc, policy, source, *question), *wanted, "{name}");
+    }
+}
+
+/// Asserts what is told of games whose texts are made of parts.
+pub fn all_joined_told(rt: &impl Abort, alloc: Global, rows: &[JoinedRow]) {
+    for (name, policy, source, question, wanted) in rows {
+        let policy = joined(alloc, policy).expect(rt, "a policy");
+        let source = joined(alloc, source).expect(rt, "a source");
+        assert_eq!(rt; told(alloc, &policy, &source, *question), *wanted, "{name}");
     }
 }

@@ -1,18 +1,19 @@
 //! What each call answers for a text, as a text: the rows of the tests are a text and what is told of it.
 
+ghost use Rattle.std.specs.Prelude.{◌≤◌, length};
+
 use crate::trees::{Part, written};
-use cw_core::NoMemory;
-use cw_expressions::expressions::read_expression;
+use cw_expressions::expressions::{one_expression, read_expression};
 use cw_grammar::spelling::lexemes;
 use cw_grammar::words::Lexeme;
-use cw_lex::{Token, TokenKind, lex};
-use cw_parse::{ParseFault, parse};
+use cw_lex::{Token, TokenKind, laws_of_sources, laws_of_texts, laws_of_tokens, lex};
+use cw_parse::laws::laws_of_programs;
+use cw_parse::parse;
 use cw_policy::read_policy;
 use cw_recogniser::recognise;
 use cw_scope::descriptors::check_descriptors;
-use cw_source::{SourceFault, read_source};
+use cw_source::read_source;
 use cw_syntax::checked::Checked;
-use cw_syntax::program::Program;
 use std::alloc::{AllocError, Global};
 use std::process::Abort;
 
@@ -39,6 +40,9 @@ pub enum Call {
     Descriptors,
 }
 
+/// Texts, each so many times; behind each time stands its number with the third text, if that is not empty.
+pub type Parts<'t> = &'t [(&'t str, usize, &'t str)];
+
 fn letter_of(kind: TokenKind) -> &'static str {
     match kind {
         TokenKind::Name => "n",
@@ -61,10 +65,9 @@ fn listed(alloc: Global, tokens: &[Token]) -> Result<String, AllocError> {
     Ok(text)
 }
 
-fn tokens_told(alloc: Global, source: &[u8]) -> Result<String, AllocError> {
-    if source.len() > 262144 {
-        return Ok(String::new(alloc));
-    }
+fn tokens_told(alloc: Global, source: &[u8]) -> Result<String, AllocError>
+    requires short { length source.now ≤ 262144 }
+{
     match lex(alloc, source) {
         Ok(tokens) => listed(alloc, &tokens),
         Err(fault) => format!(in alloc; "{fault}"),
@@ -76,63 +79,52 @@ pub fn words_of(alloc: Global, source: &[u8]) -> Vec<Lexeme> {
     if source.len() > 262144 {
         return Vec::new(alloc);
     }
-    match lex(alloc, source) {
-        Ok(tokens) => match lexemes(alloc, source, &tokens) {
-            Ok(words) => words,
-            Err(_) => Vec::new(alloc),
-        },
+    let Ok(tokens) = lex(alloc, source) else {
+        return Vec::new(alloc);
+    };
+    match lexemes(alloc, source, &tokens) {
+        Ok(words) => words,
         Err(_) => Vec::new(alloc),
     }
 }
 
-fn first_word_told(alloc: Global, source: &[u8]) -> Result<String, AllocError> {
-    let words = words_of(alloc, source);
-    match words.as_slice() {
-        [] => format!(in alloc; "none"),
-        [first, ..] => format!(in alloc; "{:?}", first.word),
-    }
-}
-
-fn expression_told(alloc: Global, source: &[u8], whole: bool) -> Result<String, AllocError> {
-    let words = words_of(alloc, source);
-    match read_expression(alloc, &words) {
+fn expression_told(alloc: Global, words: &[Lexeme], whole: bool) -> Result<String, AllocError> {
+    match read_expression(alloc, words) {
         Ok((tree, rest)) => {
             if whole {
                 written(alloc, &[Part::Expression(&tree), Part::Left(rest.len())])
             } else {
-                format!(in alloc; "read")
+                String::from_str(alloc, "read")
             }
         }
         Err(refusal) => format!(in alloc; "{refusal}"),
     }
 }
 
-/// Where the fault of words stands.
-pub fn fault_of(alloc: Global, words: &[Lexeme]) -> Result<String, AllocError> {
-    match recognise(alloc, words) {
-        Ok(None) => format!(in alloc; "none"),
-        Ok(Some(place)) => format!(in alloc; "at {place}"),
-        Err(NoMemory) => Err(AllocError),
+/// What is told of words.
+pub fn words_told(alloc: Global, call: Call, words: &[Lexeme]) -> Result<String, AllocError> {
+    match call {
+        Call::Expression => expression_told(alloc, words, true),
+        Call::HasExpression => expression_told(alloc, words, false),
+        Call::Fault => match recognise(alloc, words) {
+            Ok(None) => String::from_str(alloc, "none"),
+            Ok(Some(place)) => format!(in alloc; "at {place}"),
+            Err(_) => Err(AllocError),
+        },
+        _ => match words {
+            [] => String::from_str(alloc, "none"),
+            [first, ..] => format!(in alloc; "{:?}", first.word),
+        },
     }
 }
 
-fn fault_told(alloc: Global, source: &[u8]) -> Result<String, AllocError> {
-    let words = words_of(alloc, source);
-    fault_of(alloc, &words)
-}
-
-fn parsed(alloc: Global, source: &[u8]) -> Result<Program, ParseFault> {
-    if source.len() > 262144 {
-        return Err(ParseFault::TooDeep);
-    }
-    match lex(alloc, source) {
-        Ok(tokens) => parse(alloc, source, &tokens),
-        Err(_) => Err(ParseFault::Syntax(0)),
-    }
-}
-
-fn program_told(alloc: Global, source: &[u8], whole: bool) -> Result<String, AllocError> {
-    match parsed(alloc, source) {
+fn program_told(alloc: Global, source: &[u8], whole: bool) -> Result<String, AllocError>
+    requires short { length source.now ≤ 262144 }
+{
+    let Ok(tokens) = lex(alloc, source) else {
+        return String::from_str(alloc, "no tokens");
+    };
+    match parse(alloc, source, &tokens) {
         Ok(program) => {
             if whole {
                 written(
@@ -144,99 +136,87 @@ fn program_told(alloc: Global, source: &[u8], whole: bool) -> Result<String, All
                     ],
                 )
             } else {
-                format!(in alloc; "read")
+                String::from_str(alloc, "read")
             }
         }
         Err(fault) => format!(in alloc; "{fault}"),
     }
 }
 
-/// A source with its program.
-pub fn checked(alloc: Global, source: &[u8]) -> Result<Checked<'_>, SourceFault> {
-    if source.len() > 262144 {
-        return Err(SourceFault::TooDeep);
-    }
-    read_source(alloc, source)
-}
-
-fn source_told(alloc: Global, source: &[u8]) -> Result<String, AllocError> {
-    match checked(alloc, source) {
-        Ok(_) => format!(in alloc; "read"),
+fn uses_told(alloc: Global, checked: &Checked) -> Result<String, AllocError> {
+    let Ok(policy) = read_policy(alloc, b"format = 1\n[[descriptor]]\nname = \"fd\"\n") else {
+        return String::from_str(alloc, "no policy");
+    };
+    match check_descriptors(alloc, checked, &policy) {
+        Ok(()) => String::from_str(alloc, "kept"),
         Err(fault) => format!(in alloc; "{fault:?}"),
     }
 }
 
-fn uses_told(alloc: Global, checked: &Checked) -> Result<String, AllocError> {
-    match read_policy(alloc, b"format = 1\n[[descriptor]]\nname = \"fd\"\n") {
-        Ok(policy) => match check_descriptors(alloc, checked, &policy) {
-            Ok(()) => format!(in alloc; "kept"),
-            Err(fault) => format!(in alloc; "{fault:?}"),
-        },
-        Err(fault) => format!(in alloc; "{fault}"),
-    }
-}
-
-fn descriptors_told(alloc: Global, source: &[u8]) -> Result<String, AllocError> {
-    match checked(alloc, source) {
-        Ok(checked) => uses_told(alloc, &checked),
+fn source_told(alloc: Global, source: &[u8], uses: bool) -> Result<String, AllocError>
+    requires short { length source.now ≤ 262144 }
+{
+    match read_source(alloc, source) {
+        Ok(checked) => {
+            if uses {
+                uses_told(alloc, &checked)
+            } else {
+                String::from_str(alloc, "read")
+            }
+        }
         Err(fault) => format!(in alloc; "{fault:?}"),
     }
 }
 
 /// What is told of a text.
 fn told(alloc: Global, call: Call, source: &[u8]) -> Result<String, AllocError> {
+    if source.len() > 262144 {
+        return String::from_str(alloc, "too long");
+    }
     match call {
         Call::Tokens => tokens_told(alloc, source),
-        Call::FirstWord => first_word_told(alloc, source),
-        Call::Expression => expression_told(alloc, source, true),
-        Call::HasExpression => expression_told(alloc, source, false),
-        Call::Fault => fault_told(alloc, source),
         Call::Program => program_told(alloc, source, true),
         Call::HasProgram => program_told(alloc, source, false),
-        Call::Source => source_told(alloc, source),
-        Call::Descriptors => descriptors_told(alloc, source),
+        Call::Source => source_told(alloc, source, false),
+        Call::Descriptors => source_told(alloc, source, true),
+        _ => words_told(alloc, call, &words_of(alloc, source)),
     }
 }
 
 /// Asserts what is told of a text with this name.
-pub fn tells(
-    rt: &impl Abort,
-    alloc: Global,
-    call: Call,
-    name: &str,
-    source: &[u8],
-    want: &str,
-) -> Result<(), AllocError> {
-    let told = told(alloc, call, source)?;
+pub fn tells(rt: &impl Abort, alloc: Global, call: Call, name: &str, source: &[u8], want: &str) {
+    let told = told(alloc, call, source).expect(rt, name);
     assert_eq!(rt; told.as_str(), want, "at {name}");
-    Ok(())
 }
 
 /// Asserts what is told of each of these texts.
-pub fn all_tell(
-    rt: &impl Abort,
-    alloc: Global,
-    call: Call,
-    rows: &[(&str, &str)],
-) -> Result<(), AllocError> {
+pub fn all_tell(rt: &impl Abort, alloc: Global, call: Call, rows: &[(&str, &str)]) {
     for (source, want) in rows {
-        tells(rt, alloc, call, source, source.as_bytes(), want)?;
+        tells(rt, alloc, call, source, source.as_bytes(), want);
     }
-    Ok(())
 }
 
-/// Texts, each so many times; behind each time stands its number with the third text, if that is not empty.
-pub fn joined(alloc: Global, parts: &[(&str, usize, &str)]) -> Result<String, AllocError> {
-    let mut text = String::new(alloc);
-    for (front, count, behind) in parts {
-        for number in 0..*count {
-            text.push_str(front)?;
-            if !behind.is_empty() {
-                write!(text, "{number}{behind}")?;
-            }
+/// Asserts what is told of the so many texts of a list: a line has a text, a tab and what is told of it.
+pub fn all_lines_tell(rt: &impl Abort, alloc: Global, call: Call, list: &str, count: usize) {
+    let mut lines: usize = 0;
+    for line in list.lines() {
+        if let Some((source, want)) = line.split_once("\t") {
+            tells(rt, alloc, call, source, source.as_bytes(), want);
+            lines = lines.saturating_add(1);
         }
     }
-    Ok(text)
+    assert_eq!(rt; lines, count);
+}
+
+/// Appends a text so many times; behind each time stands its number with the other text, if that is not empty.
+pub fn put(text: &mut String, front: &str, count: usize, behind: &str) -> Result<(), AllocError> {
+    for number in 0..count {
+        text.push_str(front)?;
+        if !behind.is_empty() {
+            write!(text, "{number}{behind}")?;
+        }
+    }
+    Ok(())
 }
 
 /// Asserts what is told of the text that these make.
@@ -246,7 +226,27 @@ pub fn joined_tell(
     call: Call,
     parts: &[(&str, usize, &str)],
     want: &str,
-) -> Result<(), AllocError> {
-    let source = joined(alloc, parts)?;
-    tells(rt, alloc, call, want, source.as_bytes(), want)
+) {
+    let mut source = String::new(alloc);
+    for (front, count, behind) in parts {
+        put(&mut source, front, *count, behind).expect(rt, want);
+    }
+    tells(rt, alloc, call, want, source.as_bytes(), want);
+}
+
+/// Asserts what is told of the text that each of these makes.
+pub fn all_joined_tell(rt: &impl Abort, alloc: Global, call: Call, rows: &[(Parts, &str)]) {
+    for (parts, want) in rows {
+        joined_tell(rt, alloc, call, parts, want);
+    }
+}
+
+/// Laws of what is read: each can be called.
+#[test]
+fn laws_are_told() {
+    laws_of_sources();
+    laws_of_tokens();
+    laws_of_texts();
+    one_expression();
+    laws_of_programs();
 }

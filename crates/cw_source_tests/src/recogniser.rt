@@ -1,11 +1,11 @@
 //! What no clause says: that a call succeeds, and that 100,000 open constructs are no trouble.
 
-use crate::calls::{Call, all_tell, fault_of, joined_tell, words_of};
-use std::alloc::{AllocError, Global};
+use crate::calls::{Call, all_joined_tell, all_tell, words_of, words_told};
+use std::alloc::Global;
 use std::process::Abort;
 
 #[test]
-fn texts_have_these_faults(rt: HostRuntime) -> Result<(), AllocError> {
+fn texts_have_these_faults(rt: HostRuntime) {
     all_tell(
         &rt,
         rt.alloc(),
@@ -37,7 +37,7 @@ fn texts_have_these_faults(rt: HostRuntime) -> Result<(), AllocError> {
             ("void a ( ) { a : }", "at 7"),
             ("struct", "at 0"),
         ],
-    )
+    );
 }
 
 /// Asserts that no fault is in the words of the middle text so many times, behind those of the front and before those of the back.
@@ -48,30 +48,38 @@ fn none_within(
     middle: &[u8],
     count: usize,
     back: &[u8],
-) -> Result<(), AllocError> {
+) {
     let mut words = words_of(alloc, front);
     let repeated = words_of(alloc, middle);
     for _ in 0..count {
-        words.extend_from_slice(&repeated)?;
+        words.extend_from_slice(&repeated).expect(rt, "words");
     }
-    words.extend_from_slice(&words_of(alloc, back))?;
-    let told = fault_of(alloc, &words)?;
+    let behind = words_of(alloc, back);
+    words.extend_from_slice(&behind).expect(rt, "words");
+    let told = words_told(alloc, Call::Fault, &words).expect(rt, "a fault");
     assert_eq!(rt; told.as_str(), "none");
-    Ok(())
 }
 
 #[test]
-fn deep_nesting_is_no_trouble(rt: HostRuntime) -> Result<(), AllocError> {
+fn deep_nesting_is_no_trouble(rt: HostRuntime) {
     let alloc = rt.alloc();
-    let opened = [("int a=", 1, ""), ("(", 100000, "")];
-    joined_tell(&rt, alloc, Call::Fault, &opened, "at 100003")?;
-    let closed = [
-        ("int a=", 1, ""),
-        ("(", 100000, ""),
-        ("a", 1, ""),
-        (")", 100000, ""),
-        (";", 1, ""),
-    ];
-    joined_tell(&rt, alloc, Call::Fault, &closed, "none")?;
-    none_within(&rt, alloc, b"void f(){", b"if(a)", 100000, b";}")
+    all_joined_tell(
+        &rt,
+        alloc,
+        Call::Fault,
+        &[
+            (&[("int a=", 1, ""), ("(", 100000, "")], "at 100003"),
+            (
+                &[
+                    ("int a=", 1, ""),
+                    ("(", 100000, ""),
+                    ("a", 1, ""),
+                    (")", 100000, ""),
+                    (";", 1, ""),
+                ],
+                "none",
+            ),
+        ],
+    );
+    none_within(&rt, alloc, b"void f(){", b"if(a)", 100000, b";}");
 }

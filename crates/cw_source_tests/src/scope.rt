@@ -1,11 +1,11 @@
 //! Programs that break the rules, one at a time and two at a time, each read from its source.
 
-use crate::calls::{Call, all_tell, joined, joined_tell, tells};
+use crate::calls::{Call, all_joined_tell, all_tell, put, tells};
 use std::alloc::{AllocError, Global};
 use std::process::Abort;
 
 #[test]
-fn forms_of_calls(rt: HostRuntime) -> Result<(), AllocError> {
+fn forms_of_calls(rt: HostRuntime) {
     all_tell(
         &rt,
         rt.alloc(),
@@ -32,100 +32,102 @@ fn forms_of_calls(rt: HostRuntime) -> Result<(), AllocError> {
                 "Scope(CallForm(34))",
             ),
         ],
-    )
+    );
 }
 
-/// How often a text stands that breaks a rule, or is blank where another breaks it.
-fn times(rule: usize, one: usize, other: usize, count: usize) -> usize {
-    if rule == one || rule == other {
-        count
-    } else {
-        0
-    }
-}
+/// A part of a source: its rule, the text where that is kept, the text where it is broken, and how often this stands there, more than once with its number.
+type Part<'t> = (usize, &'t str, &'t str, usize, &'t str);
 
-/// How often a text stands where a rule is kept.
-fn times_kept(rule: usize, one: usize, other: usize) -> usize {
-    if rule == one || rule == other { 0 } else { 1 }
-}
-
-/// A source that breaks these two rules, and blanks in the place of what breaks the others. The rules in their order: no `main`; `f`
-/// twice; `a` twice; `f` with an argument; the name `f`; a call of `main`; the name `cw_x`; a `break` alone; 257 labels beside `a`.
-fn broken(alloc: Global, one: usize, other: usize) -> Result<String, AllocError> {
-    joined(
-        alloc,
-        &[
-            ("int main(void){}", times_kept(0, one, other), ""),
-            ("                ", times(0, one, other, 1), ""),
-            ("int f(void){}", 1, ""),
-            ("int f(void){}", times(1, one, other, 1), ""),
-            ("             ", times_kept(1, one, other), ""),
-            ("int g(void){a:;", 1, ""),
-            ("a:;", times(2, one, other, 1), ""),
-            ("   ", times_kept(2, one, other), ""),
-            ("f(1);", times(3, one, other, 1), ""),
-            ("     ", times_kept(3, one, other), ""),
-            ("f;", times(4, one, other, 1), ""),
-            ("  ", times_kept(4, one, other), ""),
-            ("main();", times(5, one, other, 1), ""),
-            ("       ", times_kept(5, one, other), ""),
-            ("cw_x;", times(6, one, other, 1), ""),
-            ("     ", times_kept(6, one, other), ""),
-            ("break;", times(7, one, other, 1), ""),
-            ("      ", times_kept(7, one, other), ""),
-            ("b", times(8, one, other, 257), ":;"),
-            ("}", 1, ""),
-        ],
-    )
-}
-
-/// Asserts what is told where this rule is broken, alone and with each later one.
-fn told_first(rt: &impl Abort, alloc: Global, rule: usize, want: &str) -> Result<(), AllocError> {
-    for other in rule..9 {
-        let source = broken(alloc, rule, other)?;
-        tells(
-            rt,
-            alloc,
-            Call::Source,
-            source.as_str(),
-            source.as_bytes(),
-            want,
-        )?;
+/// Appends a source that breaks these two rules.
+fn put_broken(
+    source: &mut String,
+    parts: &[Part],
+    one: usize,
+    other: usize,
+) -> Result<(), AllocError> {
+    for (rule, kept, breaking, count, behind) in parts {
+        if *rule == one || *rule == other {
+            put(source, breaking, *count, behind)?;
+        } else {
+            put(source, kept, 1, "")?;
+        }
     }
     Ok(())
 }
 
+/// Asserts what is told where each rule is broken, alone and with each later one.
+fn first_is_told(rt: &impl Abort, alloc: Global, parts: &[Part], wants: &[&str]) {
+    for (rule, want) in wants.iter().enumerate() {
+        for other in rule..9 {
+            let mut source = String::new(alloc);
+            put_broken(&mut source, parts, rule, other).expect(rt, want);
+            tells(rt, alloc, Call::Source, &source, source.as_bytes(), want);
+        }
+    }
+}
+
+/// The rules in their order: no `main`; `f` twice; `a` twice; `f` with an argument; the name `f`; a call of `main`; the name `cw_x`; a `break` alone; 257 labels
+/// beside `a`. Blanks stand in the place of what breaks the others. A part of no rule has the number 9.
 #[test]
-fn of_two_broken_rules_the_first_is_told(rt: HostRuntime) -> Result<(), AllocError> {
-    let alloc = rt.alloc();
-    told_first(&rt, alloc, 0, "Scope(NoMain)")?;
-    told_first(
+fn of_two_broken_rules_the_first_is_told(rt: HostRuntime) {
+    first_is_told(
         &rt,
-        alloc,
-        1,
-        "Scope(TwoFunctions(Name { from: 33, to: 34 }))",
-    )?;
-    told_first(&rt, alloc, 2, "Scope(TwoLabels(Name { from: 57, to: 58 }))")?;
-    told_first(&rt, alloc, 3, "Scope(Arity(60))")?;
-    told_first(&rt, alloc, 4, "Scope(CallForm(65))")?;
-    told_first(&rt, alloc, 5, "Scope(MainCalled(67))")?;
-    told_first(&rt, alloc, 6, "Scope(Reserved(74))")?;
-    told_first(&rt, alloc, 7, "Scope(Jump(79))")?;
-    told_first(&rt, alloc, 8, "Scope(Limit(Labels))")
+        rt.alloc(),
+        &[
+            (0, "int main(void){}", "                ", 1, ""),
+            (9, "int f(void){}", "", 1, ""),
+            (1, "             ", "int f(void){}", 1, ""),
+            (9, "int g(void){a:;", "", 1, ""),
+            (2, "   ", "a:;", 1, ""),
+            (3, "     ", "f(1);", 1, ""),
+            (4, "  ", "f;", 1, ""),
+            (5, "       ", "main();", 1, ""),
+            (6, "     ", "cw_x;", 1, ""),
+            (7, "      ", "break;", 1, ""),
+            (8, "", "b", 257, ":;"),
+            (9, "}", "", 1, ""),
+        ],
+        &[
+            "Scope(NoMain)",
+            "Scope(TwoFunctions(Name { from: 33, to: 34 }))",
+            "Scope(TwoLabels(Name { from: 57, to: 58 }))",
+            "Scope(Arity(60))",
+            "Scope(CallForm(65))",
+            "Scope(MainCalled(67))",
+            "Scope(Reserved(74))",
+            "Scope(Jump(79))",
+            "Scope(Limit(Labels))",
+        ],
+    );
 }
 
 #[test]
-fn more_functions_than_there_may_be(rt: HostRuntime) -> Result<(), AllocError> {
-    let alloc = rt.alloc();
-    let front = "int main(void){}int f(void){}";
-    let most = [(front, 1, ""), ("int g", 510, "(void){}")];
-    joined_tell(&rt, alloc, Call::Source, &most, "read")?;
-    let more = [(front, 1, ""), ("int g", 511, "(void){}")];
-    joined_tell(&rt, alloc, Call::Source, &more, "Scope(Limit(Functions))")
+fn more_functions_than_there_may_be(rt: HostRuntime) {
+    all_joined_tell(
+        &rt,
+        rt.alloc(),
+        Call::Source,
+        &[
+            (
+                &[
+                    ("int main(void){}int f(void){}", 1, ""),
+                    ("int g", 510, "(void){}"),
+                ],
+                "read",
+            ),
+            (
+                &[
+                    ("int main(void){}int f(void){}", 1, ""),
+                    ("int g", 511, "(void){}"),
+                ],
+                "Scope(Limit(Functions))",
+            ),
+        ],
+    );
 }
 
 #[test]
-fn uses_of_a_descriptor(rt: HostRuntime) -> Result<(), AllocError> {
+fn uses_of_a_descriptor(rt: HostRuntime) {
     all_tell(
         &rt,
         rt.alloc(),
@@ -137,5 +139,5 @@ fn uses_of_a_descriptor(rt: HostRuntime) -> Result<(), AllocError> {
             ("int fd;int main(void){++fd;}", "Misuse(22)"),
             ("int fd;int main(void){x=close(fd);}", "Misuse(24)"),
         ],
-    )
+    );
 }

@@ -1,75 +1,91 @@
-//! Texts of answers.
+//! Texts of answers. A test that lacks memory ends at once.
 
-use cw_answers::{AnswersFault, read_answers};
+use cw_answers::read_answers;
 use cw_certs::Move;
 use cw_value::Answers;
-use std::alloc::{AllocError, Global};
+use std::alloc::Global;
+use std::fmt::Display;
+use std::mem::forget;
 use std::process::Abort;
-use std::test::Fail;
+
+/// The first line.
+const HEAD: &str = "capweave answers 1\n";
+
+/// Appends to a text what is told.
+fn add<D: Display + Drop>(rt: &impl Abort, text: &mut String, told: D) {
+    write!(text, "{told}").expect(rt, "memory");
+}
+
+fn add_names(rt: &impl Abort, text: &mut String, names: &[(Vec<u8>, i64)]) {
+    for (name, value) in names {
+        let Ok(name) = str::from_utf8(name) else {
+            panic!(rt; "a name of other bytes");
+        };
+        add(rt, text, format_args!("name {name} {value}\n"));
+    }
+}
+
+fn add_tries(rt: &impl Abort, text: &mut String, tries: &[Move]) {
+    for answer in tries {
+        let word = if *answer == Move::Grant {
+            "grant"
+        } else {
+            "refuse"
+        };
+        add(rt, text, format_args!("try {word}\n"));
+    }
+}
+
+fn add_calls(rt: &impl Abort, text: &mut String, calls: &[i64]) {
+    for value in calls {
+        add(rt, text, format_args!("call {value}\n"));
+    }
+}
 
 /// Answers, written again.
-fn written(alloc: Global, answers: &Answers) -> Result<String, Fail> {
-    let mut text = format!(in alloc; "capweave answers 1\n")?;
-    for (name, value) in &answers.names {
-        let Ok(name) = str::from_utf8(name) else {
-            return Err(Fail::new("a name of other bytes"));
-        };
-        text.push_str(&format!(in alloc; "name {name} {value}\n")?)?;
-    }
-    for answer in &answers.tries {
-        text.push_str(if *answer == Move::Grant {
-            "try grant\n"
-        } else {
-            "try refuse\n"
-        })?;
-    }
-    for value in &answers.calls {
-        text.push_str(&format!(in alloc; "call {value}\n")?)?;
-    }
-    text.push_str("end\n")?;
-    Ok(text)
+fn written(rt: &impl Abort, alloc: Global, answers: &Answers) -> String {
+    let mut text = String::new(alloc);
+    add(rt, &mut text, HEAD);
+    add_names(rt, &mut text, &answers.names);
+    add_tries(rt, &mut text, &answers.tries);
+    add_calls(rt, &mut text, &answers.calls);
+    add(rt, &mut text, "end\n");
+    text
 }
 
-/// The answers that a text has, written again, or the line at which it is no answers'.
-fn told(alloc: Global, text: &str) -> Result<String, Fail> {
-    if text.len() > 33554432 {
-        return Err(Fail::new("a text that is too long"));
-    }
-    match read_answers(alloc, text.as_bytes()) {
-        Ok(answers) => written(alloc, &answers),
-        Err(fault) => Ok(format!(in alloc; "{fault}")?),
-    }
+/// Asserts what a text's answers are, written again, or the line at which it is no answers'.
+fn tells(rt: &impl Abort, alloc: Global, text: &str, wanted: &str) {
+    assert!(rt; text.len() <= 33554432, "a text that is too long");
+    let told = match read_answers(alloc, text.as_bytes()) {
+        Ok(answers) => {
+            let text = written(rt, alloc, &answers);
+            forget(answers);
+            text
+        }
+        Err(fault) => format!(in alloc; "{fault}").expect(rt, "memory"),
+    };
+    assert!(rt; told.as_str() == wanted, "{text}");
 }
 
-/// Asserts that each text is read, and is that of what is read.
-fn all_read(rt: &impl Abort, alloc: Global, texts: &[&str]) -> Result<(), Fail> {
+/// Asserts that each text of these lines between the first and the last is read, and is that of what is read.
+fn all_read(rt: &impl Abort, alloc: Global, texts: &[&str]) {
     for lines in texts {
-        let text = format!(in alloc; "capweave answers 1\n{lines}end\n")?;
-        assert!(rt; told(alloc, &text)? == text, "{lines}");
+        let text = format!(in alloc; "{HEAD}{lines}end\n").expect(rt, "memory");
+        tells(rt, alloc, &text, &text);
     }
-    Ok(())
 }
 
-/// Asserts the first line of each text that doesn't fit.
-fn all_stop(rt: &impl Abort, alloc: Global, rows: &[(&str, u32)]) -> Result<(), Fail> {
-    for (text, line) in rows {
-        let wanted = format!(in alloc; "line {line}")?;
-        assert!(rt; told(alloc, text)? == wanted, "{text}");
-    }
-    Ok(())
-}
-
-/// `all_stop` of texts that go on from a good first line.
-fn all_stop_behind(rt: &impl Abort, alloc: Global, rows: &[(&str, u32)]) -> Result<(), Fail> {
+/// Asserts the first line of each text with this front that doesn't fit.
+fn all_stop(rt: &impl Abort, alloc: Global, front: &str, rows: &[(&str, u32)]) {
     for (lines, line) in rows {
-        let text = format!(in alloc; "capweave answers 1\n{lines}")?;
-        all_stop(rt, alloc, &[(&text, *line)])?;
+        let text = format!(in alloc; "{front}{lines}").expect(rt, "memory");
+        let wanted = format!(in alloc; "line {line}").expect(rt, "memory");
+        tells(rt, alloc, &text, &wanted);
     }
-    Ok(())
 }
 
 #[test]
-fn answers_are_read(rt: HostRuntime) -> Result<(), Fail> {
+fn answers_are_read(rt: HostRuntime) {
     all_read(
         &rt,
         rt.alloc(),
@@ -83,14 +99,15 @@ fn answers_are_read(rt: HostRuntime) -> Result<(), Fail> {
             "name end 1\ncall 3\n",
             "try refuse\ncall 3\n",
         ],
-    )
+    );
 }
 
 #[test]
-fn the_head_and_the_end(rt: HostRuntime) -> Result<(), Fail> {
+fn the_head_and_the_end(rt: HostRuntime) {
     all_stop(
         &rt,
         rt.alloc(),
+        "",
         &[
             ("", 1),
             ("\n", 1),
@@ -104,10 +121,11 @@ fn the_head_and_the_end(rt: HostRuntime) -> Result<(), Fail> {
             ("capweave answers 1\r\nend\n", 1),
             ("end\n", 1),
         ],
-    )?;
-    all_stop_behind(
+    );
+    all_stop(
         &rt,
         rt.alloc(),
+        HEAD,
         &[
             ("", 2),
             ("end", 2),
@@ -124,14 +142,15 @@ fn the_head_and_the_end(rt: HostRuntime) -> Result<(), Fail> {
             ("call 1\n\nend\n", 3),
             ("name a 1\ntry grant\ncall 2\nend", 5),
         ],
-    )
+    );
 }
 
 #[test]
-fn names_ascend_and_are_names(rt: HostRuntime) -> Result<(), Fail> {
-    all_stop_behind(
+fn names_ascend_and_are_names(rt: HostRuntime) {
+    all_stop(
         &rt,
         rt.alloc(),
+        HEAD,
         &[
             ("name a 1\nname a 2\nend\n", 3),
             ("name b 1\nname a 2\nend\n", 3),
@@ -160,14 +179,15 @@ fn names_ascend_and_are_names(rt: HostRuntime) -> Result<(), Fail> {
             ("name a -0\nend\n", 2),
             ("name a 00\nend\n", 2),
         ],
-    )
+    );
 }
 
 #[test]
-fn values_are_of_64_bits(rt: HostRuntime) -> Result<(), Fail> {
-    all_stop_behind(
+fn values_are_of_64_bits(rt: HostRuntime) {
+    all_stop(
         &rt,
         rt.alloc(),
+        HEAD,
         &[
             ("call 01\nend\n", 2),
             ("call 00\nend\n", 2),
@@ -198,14 +218,15 @@ fn values_are_of_64_bits(rt: HostRuntime) -> Result<(), Fail> {
             ("call 99999999999999999999999999999999999999999\nend\n", 2),
             ("call 1\ncall 2\ncall 9223372036854775808\nend\n", 4),
         ],
-    )
+    );
 }
 
 #[test]
-fn kinds_stand_in_order(rt: HostRuntime) -> Result<(), Fail> {
-    all_stop_behind(
+fn kinds_stand_in_order(rt: HostRuntime) {
+    all_stop(
         &rt,
         rt.alloc(),
+        HEAD,
         &[
             ("try grant\nname a 1\nend\n", 3),
             ("call 1\ntry grant\nend\n", 3),
@@ -221,5 +242,5 @@ fn kinds_stand_in_order(rt: HostRuntime) -> Result<(), Fail> {
             ("try grant\ntry stop\nend\n", 3),
             ("grant\nend\n", 2),
         ],
-    )
+    );
 }

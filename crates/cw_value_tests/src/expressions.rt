@@ -4,42 +4,39 @@
 use crate::ground::all_told;
 use std::alloc::Global;
 use std::process::Abort;
-use std::test::Fail;
 
 /// What stands before an expression, which is alone on the second line.
 const BEFORE: &str = "int main(int p){int s=4,x,y;int a[2]={10,20};int u[2];put(";
 
 /// Asserts what the run of a source shows in which an expression is an argument, where 41 is handed in for `h`.
-fn shows(rt: &impl Abort, alloc: Global, expression: &str, wanted: &str) -> Result<(), Fail> {
-    let source = format!(in alloc; "{BEFORE}\n{expression},0);}}")?;
+fn shows(rt: &impl Abort, alloc: Global, expression: &str, wanted: &str) {
+    let source = format!(in alloc; "{BEFORE}\n{expression},0);}}").expect(rt, "memory");
     all_told(
         rt,
         alloc,
         "format = 1\n",
         &[(&source, "name h 41\ncall 0\n", wanted)],
-    )
+    );
 }
 
 /// Asserts the value of each expression.
-fn all_give(rt: &impl Abort, alloc: Global, rows: &[(&str, i64)]) -> Result<(), Fail> {
+fn all_give(rt: &impl Abort, alloc: Global, rows: &[(&str, i64)]) {
     for (expression, value) in rows {
-        let wanted = format!(in alloc; "call put({value},0) = 0\ntries 0\nended\n")?;
-        shows(rt, alloc, expression, &wanted)?;
+        let wanted = format!(in alloc; "call put({value},0) = 0\ntries 0\nended\n");
+        shows(rt, alloc, expression, &wanted.expect(rt, "memory"));
     }
-    Ok(())
 }
 
 /// Asserts how each expression stops, and at which column.
-fn all_stop(rt: &impl Abort, alloc: Global, rows: &[(&str, &str, u32)]) -> Result<(), Fail> {
+fn all_stop(rt: &impl Abort, alloc: Global, rows: &[(&str, &str, u32)]) {
     for (expression, word, column) in rows {
-        let wanted = format!(in alloc; "tries 0\nstop {word} 2:{column}\n")?;
-        shows(rt, alloc, expression, &wanted)?;
+        let wanted = format!(in alloc; "tries 0\nstop {word} 2:{column}\n");
+        shows(rt, alloc, expression, &wanted.expect(rt, "memory"));
     }
-    Ok(())
 }
 
 #[test]
-fn quotients(rt: HostRuntime) -> Result<(), Fail> {
+fn quotients(rt: HostRuntime) {
     all_give(
         &rt,
         rt.alloc(),
@@ -71,11 +68,11 @@ fn quotients(rt: HostRuntime) -> Result<(), Fail> {
             ("2*3%4", 2),
             ("-2%3*2", -4),
         ],
-    )
+    );
 }
 
 #[test]
-fn shifts(rt: HostRuntime) -> Result<(), Fail> {
+fn shifts(rt: HostRuntime) {
     all_give(
         &rt,
         rt.alloc(),
@@ -103,11 +100,11 @@ fn shifts(rt: HostRuntime) -> Result<(), Fail> {
             ("7>>0", 7),
             ("1>>63", 0),
         ],
-    )
+    );
 }
 
 #[test]
-fn bits(rt: HostRuntime) -> Result<(), Fail> {
+fn bits(rt: HostRuntime) {
     all_give(
         &rt,
         rt.alloc(),
@@ -136,11 +133,11 @@ fn bits(rt: HostRuntime) -> Result<(), Fail> {
             ("6&2==2", 0),
             ("~1&3", 2),
         ],
-    )
+    );
 }
 
 #[test]
-fn comparisons(rt: HostRuntime) -> Result<(), Fail> {
+fn comparisons(rt: HostRuntime) {
     all_give(
         &rt,
         rt.alloc(),
@@ -166,11 +163,11 @@ fn comparisons(rt: HostRuntime) -> Result<(), Fail> {
             ("1<2==1", 1),
             ("5-3-1<2", 1),
         ],
-    )
+    );
 }
 
 #[test]
-fn truths(rt: HostRuntime) -> Result<(), Fail> {
+fn truths(rt: HostRuntime) {
     all_give(
         &rt,
         rt.alloc(),
@@ -197,11 +194,11 @@ fn truths(rt: HostRuntime) -> Result<(), Fail> {
             ("((x=0)||(x=2))*10+x", 12),
             ("((x=3)&&(x=0))*10+x", 0),
         ],
-    )
+    );
 }
 
 #[test]
-fn constants(rt: HostRuntime) -> Result<(), Fail> {
+fn constants(rt: HostRuntime) {
     all_give(
         &rt,
         rt.alloc(),
@@ -236,11 +233,11 @@ fn constants(rt: HostRuntime) -> Result<(), Fail> {
             ("1UL", 1),
             ("1ll", 1),
         ],
-    )
+    );
 }
 
 #[test]
-fn sums_and_products(rt: HostRuntime) -> Result<(), Fail> {
+fn sums_and_products(rt: HostRuntime) {
     all_give(
         &rt,
         rt.alloc(),
@@ -264,11 +261,11 @@ fn sums_and_products(rt: HostRuntime) -> Result<(), Fail> {
             ("3037000499*3037000499", 9223372030926249001),
             ("-3037000500*3037000499", -9223372033963249500),
         ],
-    )
+    );
 }
 
 #[test]
-fn casts(rt: HostRuntime) -> Result<(), Fail> {
+fn casts(rt: HostRuntime) {
     all_give(
         &rt,
         rt.alloc(),
@@ -280,11 +277,11 @@ fn casts(rt: HostRuntime) -> Result<(), Fail> {
             ("(int)4294967296", 4294967296),
             ("(long)s", 4),
         ],
-    )
+    );
 }
 
 #[test]
-fn changes(rt: HostRuntime) -> Result<(), Fail> {
+fn changes(rt: HostRuntime) {
     all_give(
         &rt,
         rt.alloc(),
@@ -311,11 +308,11 @@ fn changes(rt: HostRuntime) -> Result<(), Fail> {
             ("(a)[1]", 20),
             ("s=-9223372036854775807-1", i64::MIN),
         ],
-    )
+    );
 }
 
 #[test]
-fn elements(rt: HostRuntime) -> Result<(), Fail> {
+fn elements(rt: HostRuntime) {
     all_give(
         &rt,
         rt.alloc(),
@@ -332,11 +329,11 @@ fn elements(rt: HostRuntime) -> Result<(), Fail> {
             ("--a[0]", 9),
             ("a[1]*=a[0]", 200),
         ],
-    )
+    );
 }
 
 #[test]
-fn operands_go_from_left_to_right(rt: HostRuntime) -> Result<(), Fail> {
+fn operands_go_from_left_to_right(rt: HostRuntime) {
     all_give(
         &rt,
         rt.alloc(),
@@ -359,11 +356,11 @@ fn operands_go_from_left_to_right(rt: HostRuntime) -> Result<(), Fail> {
             ("a[(s=0)]=s", 0),
             ("(a[1]=s++)*10+s", 45),
         ],
-    )
+    );
 }
 
 #[test]
-fn values_that_are_handed_in(rt: HostRuntime) -> Result<(), Fail> {
+fn values_that_are_handed_in(rt: HostRuntime) {
     all_give(
         &rt,
         rt.alloc(),
@@ -374,11 +371,11 @@ fn values_that_are_handed_in(rt: HostRuntime) -> Result<(), Fail> {
             ("h*h", 1681),
             ("a[h-40]", 20),
         ],
-    )
+    );
 }
 
 #[test]
-fn what_overflows(rt: HostRuntime) -> Result<(), Fail> {
+fn what_overflows(rt: HostRuntime) {
     all_stop(
         &rt,
         rt.alloc(),
@@ -420,11 +417,11 @@ fn what_overflows(rt: HostRuntime) -> Result<(), Fail> {
             ("(x=9223372036854775807)+x++", "overflow", 25),
             ("x=(y=9223372036854775807)+1", "overflow", 3),
         ],
-    )
+    );
 }
 
 #[test]
-fn what_divides_by_zero(rt: HostRuntime) -> Result<(), Fail> {
+fn what_divides_by_zero(rt: HostRuntime) {
     all_stop(
         &rt,
         rt.alloc(),
@@ -452,11 +449,11 @@ fn what_divides_by_zero(rt: HostRuntime) -> Result<(), Fail> {
             ("1/0+x", "division", 1),
             ("sizeof(1/0)", "division", 8),
         ],
-    )
+    );
 }
 
 #[test]
-fn what_is_outside_an_array(rt: HostRuntime) -> Result<(), Fail> {
+fn what_is_outside_an_array(rt: HostRuntime) {
     all_stop(
         &rt,
         rt.alloc(),
@@ -474,11 +471,11 @@ fn what_is_outside_an_array(rt: HostRuntime) -> Result<(), Fail> {
             ("++u[2]", "index", 3),
             ("a[a[0]]", "index", 1),
         ],
-    )
+    );
 }
 
 #[test]
-fn what_is_unset(rt: HostRuntime) -> Result<(), Fail> {
+fn what_is_unset(rt: HostRuntime) {
     all_stop(
         &rt,
         rt.alloc(),
@@ -509,11 +506,11 @@ fn what_is_unset(rt: HostRuntime) -> Result<(), Fail> {
             ("x=x", "unset", 3),
             ("x=x+1", "unset", 3),
         ],
-    )
+    );
 }
 
 #[test]
-fn what_is_unknown(rt: HostRuntime) -> Result<(), Fail> {
+fn what_is_unknown(rt: HostRuntime) {
     all_stop(
         &rt,
         rt.alloc(),
@@ -530,11 +527,11 @@ fn what_is_unknown(rt: HostRuntime) -> Result<(), Fail> {
             ("sizeof q", "unknown", 8),
             ("a[q]", "unknown", 3),
         ],
-    )
+    );
 }
 
 #[test]
-fn what_has_no_value(rt: HostRuntime) -> Result<(), Fail> {
+fn what_has_no_value(rt: HostRuntime) {
     all_stop(
         &rt,
         rt.alloc(),
@@ -581,5 +578,5 @@ fn what_has_no_value(rt: HostRuntime) -> Result<(), Fail> {
             ("(s=1)++", "form", 1),
             ("1+=2", "form", 1),
         ],
-    )
+    );
 }

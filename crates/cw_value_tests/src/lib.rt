@@ -15,7 +15,3 @@ mod programs;
 mod shapes;
 #[cfg(test)]
 mod shown;
-#[cfg(test)]
-mod weaves;
-#[cfg(test)]
-mod woven;

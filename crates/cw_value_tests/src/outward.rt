@@ -1,12 +1,11 @@
 //! Programs that call what they don't define, that open and close, and that make as many steps as a run may.
 
 use crate::ground::all_told;
-use std::test::Fail;
 
 const PLAIN: &str = "format = 1\n";
 
 #[test]
-fn calls_and_their_answers(rt: HostRuntime) -> Result<(), Fail> {
+fn calls_and_their_answers(rt: HostRuntime) {
     all_told(
         &rt,
         rt.alloc(),
@@ -78,11 +77,11 @@ fn calls_and_their_answers(rt: HostRuntime) -> Result<(), Fail> {
                 "call put(2) = 0\ntries 0\nended\n",
             ),
         ],
-    )
+    );
 }
 
 #[test]
-fn opens_and_closes(rt: HostRuntime) -> Result<(), Fail> {
+fn opens_and_closes(rt: HostRuntime) {
     all_told(
         &rt,
         rt.alloc(),
@@ -119,11 +118,11 @@ fn opens_and_closes(rt: HostRuntime) -> Result<(), Fail> {
                 "call open_it(\"f\") = 2\ncall open_it(2) = -1\ncall put(2) = 8\ncall open_it(1) = 6\ncall close(6) = 9\ntries 0\nended\n",
             ),
         ],
-    )
+    );
 }
 
 #[test]
-fn as_many_steps_as_there_may_be(rt: HostRuntime) -> Result<(), Fail> {
+fn as_many_steps_as_there_may_be(rt: HostRuntime) {
     all_told(
         &rt,
         rt.alloc(),
@@ -145,11 +144,11 @@ fn as_many_steps_as_there_may_be(rt: HostRuntime) -> Result<(), Fail> {
                 "tries 0\nstop steps\n",
             ),
         ],
-    )
+    );
 }
 
 #[test]
-fn what_the_last_step_does(rt: HostRuntime) -> Result<(), Fail> {
+fn what_the_last_step_does(rt: HostRuntime) {
     all_told(
         &rt,
         rt.alloc(),
@@ -176,11 +175,11 @@ fn what_the_last_step_does(rt: HostRuntime) -> Result<(), Fail> {
                 "tries 0\nstop steps\n",
             ),
         ],
-    )
+    );
 }
 
 #[test]
-fn runs_without_an_end(rt: HostRuntime) -> Result<(), Fail> {
+fn runs_without_an_end(rt: HostRuntime) {
     all_told(
         &rt,
         rt.alloc(),
@@ -203,5 +202,5 @@ fn runs_without_an_end(rt: HostRuntime) -> Result<(), Fail> {
                 "call get(0) = 1\ncall get(1) = 1\ntries 0\nstop answers 1:30\n",
             ),
         ],
-    )
+    );
 }

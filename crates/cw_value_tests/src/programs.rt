@@ -1,12 +1,11 @@
 //! Small programs with what their runs show, reckoned by hand.
 
 use crate::ground::all_told;
-use std::test::Fail;
 
 const PLAIN: &str = "format = 1\n";
 
 #[test]
-fn calls_and_returns(rt: HostRuntime) -> Result<(), Fail> {
+fn calls_and_returns(rt: HostRuntime) {
     all_told(
         &rt,
         rt.alloc(),
@@ -93,11 +92,11 @@ fn calls_and_returns(rt: HostRuntime) -> Result<(), Fail> {
                 "call put(3) = 0\ntries 0\nended\n",
             ),
         ],
-    )
+    );
 }
 
 #[test]
-fn results(rt: HostRuntime) -> Result<(), Fail> {
+fn results(rt: HostRuntime) {
     all_told(
         &rt,
         rt.alloc(),
@@ -179,11 +178,11 @@ fn results(rt: HostRuntime) -> Result<(), Fail> {
                 "call put(1) = 3\ntries 0\nstop division 1:56\n",
             ),
         ],
-    )
+    );
 }
 
 #[test]
-fn statements(rt: HostRuntime) -> Result<(), Fail> {
+fn statements(rt: HostRuntime) {
     all_told(
         &rt,
         rt.alloc(),
@@ -270,11 +269,11 @@ fn statements(rt: HostRuntime) -> Result<(), Fail> {
                 "call put(1) = 0\ntries 0\nended\n",
             ),
         ],
-    )
+    );
 }
 
 #[test]
-fn changes_in_order(rt: HostRuntime) -> Result<(), Fail> {
+fn changes_in_order(rt: HostRuntime) {
     all_told(
         &rt,
         rt.alloc(),
@@ -336,11 +335,11 @@ fn changes_in_order(rt: HostRuntime) -> Result<(), Fail> {
                 "call put(4) = 5\ncall put(8) = 0\ntries 0\nended\n",
             ),
         ],
-    )
+    );
 }
 
 #[test]
-fn declarations(rt: HostRuntime) -> Result<(), Fail> {
+fn declarations(rt: HostRuntime) {
     all_told(
         &rt,
         rt.alloc(),
@@ -518,11 +517,11 @@ fn declarations(rt: HostRuntime) -> Result<(), Fail> {
                 "tries 0\nstop unset 1:20\n",
             ),
         ],
-    )
+    );
 }
 
 #[test]
-fn at_file_scope(rt: HostRuntime) -> Result<(), Fail> {
+fn at_file_scope(rt: HostRuntime) {
     all_told(
         &rt,
         rt.alloc(),
@@ -670,11 +669,11 @@ fn at_file_scope(rt: HostRuntime) -> Result<(), Fail> {
                 "call put(3,7) = 0\ncall put(7) = 0\ntries 0\nended\n",
             ),
         ],
-    )
+    );
 }
 
 #[test]
-fn what_is_handed_in(rt: HostRuntime) -> Result<(), Fail> {
+fn what_is_handed_in(rt: HostRuntime) {
     all_told(
         &rt,
         rt.alloc(),
@@ -741,5 +740,5 @@ fn what_is_handed_in(rt: HostRuntime) -> Result<(), Fail> {
                 "call get(1) = 3\ntries 0\nstop form 1:16\n",
             ),
         ],
-    )
+    );
 }

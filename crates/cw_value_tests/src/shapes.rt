@@ -1,10 +1,9 @@
 //! Names that have two meanings.
 
 use crate::ground::all_told;
-use std::test::Fail;
 
 #[test]
-fn the_first_name_of_two_meanings_is_told(rt: HostRuntime) -> Result<(), Fail> {
+fn the_first_name_of_two_meanings_is_told(rt: HostRuntime) {
     all_told(
         &rt,
         rt.alloc(),
@@ -82,11 +81,11 @@ fn the_first_name_of_two_meanings_is_told(rt: HostRuntime) -> Result<(), Fail> {
                 "value form at 36",
             ),
         ],
-    )
+    );
 }
 
 #[test]
-fn other_names_are_told_apart(rt: HostRuntime) -> Result<(), Fail> {
+fn other_names_are_told_apart(rt: HostRuntime) {
     all_told(
         &rt,
         rt.alloc(),
@@ -109,5 +108,5 @@ fn other_names_are_told_apart(rt: HostRuntime) -> Result<(), Fail> {
             ),
             ("int main(void){x:;int x;}", "", "tries 0\nended\n"),
         ],
-    )
+    );
 }

@@ -1,19 +1,18 @@
-use Rattle.std.proofs.Common.{length, ap, sym, ◌∙◌, arith}
-use Rattle.std.proofs.lemmas.List.{length-map}
+use Rattle.std.proofs.Common.{inl}
 use Rattle.cw_syntax.specs.Trees.{file_of}
+use Rattle.cw_source_graph.specs.Own.{own_names}
 use Rattle.cw_commands.proofs.Starting.{unput_one}
-use Rattle.cw_cli.specs.Listings.{own_names}
-use Rattle.cw_cli.proofs.Labelled.{many_labels}
-use Rattle.cw_cli.proofs.Listed.{over}
+use Rattle.cw_stages.proofs.Withins.{few_functions}
 use Rattle.cw_cli.proofs.listing.of_program.Goals as goal
 
-pub returns-then-len-gt-LABELS-clause-due : goal.returns-then-len-gt-LABELS-clause-due
-returns-then-len-gt-LABELS-clause-due g c =
+pub draw_own-requires : goal.draw_own-requires
+draw_own-requires g c =
     let source = c.args.checked.now.source.now in
-    let file = file_of c.args.checked.now.program in
-    let labels = c.in_ok-labels.labels.items in
-    let many = sym (length-map labels (λ l. l.items)) ∙ ap length c.in_ok-labels.ensures.names in
-    over source file (many_labels (own_names source file) source file (length labels) many (omega (arith, c.len.ensures, c.if-len-gt-LABELS.true))) c.over.result c.over.ensures.due
+    let program = c.args.checked.now.program in
+    record { few = few_functions (own_names source (file_of program)) source program c.requires.reads }
 
-pub returns-then-len-gt-LABELS-clause-puts : goal.returns-then-len-gt-LABELS-clause-puts
-returns-then-len-gt-LABELS-clause-puts g c = unput_one g.O.Sink.taken g.O.Sink.faults g.O.Sink.refused c.args.out.now c.over.result c.over.ensures.refused
+pub returns-in-Err-TooManyPoints-clause-due : goal.returns-in-Err-TooManyPoints-clause-due
+returns-in-Err-TooManyPoints-clause-due g c = inl (c.in-Err-TooManyPoints.ensures.many c.in-Err-TooManyPoints.field-0-is, c.over.ensures.due)
+
+pub returns-in-Err-TooManyPoints-clause-puts : goal.returns-in-Err-TooManyPoints-clause-puts
+returns-in-Err-TooManyPoints-clause-puts g c = unput_one g.O.Sink.taken g.O.Sink.faults g.O.Sink.refused c.args.out.now c.over.result c.over.ensures.refused

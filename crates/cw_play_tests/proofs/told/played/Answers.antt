@@ -1,0 +1,9 @@
+use Rattle.std.proofs.Common.{sym, subst}
+use Rattle.cw_syntax.specs.Trees.{file_of}
+use Rattle.cw_source.specs.Read.{ReadsAs}
+use Rattle.cw_play_tests.proofs.told.played.Goals as goal
+
+pub by_graph-requires-clause-reads : goal.by_graph-requires-clause-reads
+by_graph-requires-clause-reads c =
+    let read = c.in-Ok-read_source in
+    subst (λ s. ReadsAs s (file_of read.checked.program)) (sym read.ensures.source) read.ensures.program
