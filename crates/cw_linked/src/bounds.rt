@@ -70,6 +70,7 @@ fn height_to(
 }
 
 /// The height of the pair to which a move leads, 0 where none is taken or the move isn't there.
+#[inline(never)]
 fn height_after(
     game: &Game,
     table: &Table,
@@ -153,6 +154,7 @@ fn step_bound(
 }
 
 /// One more than the greater of the heights of the pairs to which a visit leads.
+#[inline(always)]
 fn visit_bound(
     game: &Game,
     table: &Table,
@@ -177,6 +179,7 @@ fn visit_bound(
 }
 
 /// One more than the lesser of the heights of the pairs to which a condition leads.
+#[inline(always)]
 fn branch_bound(
     game: &Game,
     table: &Table,
@@ -204,6 +207,7 @@ fn branch_bound(
 
 /// The number of moves within which the taken heights tell that a pair that is no call and no exit, and isn't bad, is lost;
 /// 0 where they don't.
+#[inline(always)]
 fn moves_bound(
     game: &Game,
     table: &Table,
@@ -238,6 +242,7 @@ fn moves_bound(
 
 /// The number of moves within which the end of a function is lost: 1 where it isn't the end of `main` and the context doesn't
 /// promise the state, else 0.
+#[inline(never)]
 fn exit_bound(game: &Game, table: &Table, at: &Tabled, function: u32, state: StateId) -> u32
     requires tabled { IsTabled table.now at.now }
     requires state { IsState (game_of game.now) state.0 }
@@ -254,6 +259,7 @@ fn exit_bound(game: &Game, table: &Table, at: &Tabled, function: u32, state: Sta
 
 /// The number of moves within which the taken heights tell that a pair that is no call is lost; 0 where they don't, and at
 /// a call.
+#[inline(always)]
 pub(crate) fn bound(
     game: &Game,
     table: &Table,

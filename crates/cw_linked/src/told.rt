@@ -16,6 +16,7 @@ use cw_product::Game;
 use cw_solve::table::Tabled;
 
 /// Asks for a cell that is no call, which may have no height yet, where the taken heights tell that it is lost.
+#[inline(always)]
 fn ask_bound(
     game: &Game,
     work: &mut Work,
@@ -43,6 +44,7 @@ fn ask_bound(
 }
 
 /// Asks for a cell that is no call, where the taken heights tell that it is lost. One that has its height needn't be looked at.
+#[inline(always)]
 pub(crate) fn ask_told(
     game: &Game,
     work: &mut Work,
