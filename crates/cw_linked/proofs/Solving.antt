@@ -1,5 +1,5 @@
 -- What the solver keeps at the beginning, from step to step, and in the end.
-use Rattle.std.proofs.Common.{◌≡◌, ℕ, ◌+◌, ◌*◌, ◌<◌, Bool, List, [], length, sym, ap, ◌∙◌, subst, arith}
+use Rattle.std.proofs.Common.{◌≡◌, ℕ, ◌+◌, ◌*◌, ◌<◌, Bool, List, [], Some, length, sym, ap, ◌∙◌, subst, arith}
 use Rattle.std.specs.Prelude.{slice_get, slice_index, count_by}
 use Rattle.std.proofs.lemmas.List.{get_or_past}
 use Rattle.std.proofs.lemmas.Option.{none-some}
@@ -13,13 +13,12 @@ use Rattle.cw_solve.specs.Tables.{is_none, IsTable, IsDone}
 use Rattle.cw_linked.specs.declared.work.Work.{Work}
 use Rattle.cw_linked.specs.Added.{IsOpen, AddsContext}
 use Rattle.cw_linked.specs.Founds.{AreAlike, AreRight}
-use Rattle.cw_linked.specs.declared.links.Stepped.{Stepped}
-use Rattle.cw_linked.specs.declared.links.Stepped.TheVariants.{Done, More, TooMany}
+use Rattle.cw_linked.specs.declared.links.Stepped.TheVariants.{TooMany}
 use Rattle.cw_linked.specs.Links.{TakesLink}
 use Rattle.cw_linked.specs.Measures.{work_left}
 use Rattle.cw_linked.specs.Popped.{IsWork, Finishes, TakesCell, FreesLink}
 use Rattle.cw_linked.specs.Queues.{found_of}
-use Rattle.cw_linked.specs.Solving.{IsBlankWork, Steps}
+use Rattle.cw_linked.specs.Solving.{IsBlankWork, Ends}
 use Rattle.cw_linked.specs.Works.{AreUpTo}
 use Rattle.cw_linked.proofs.Bounding.{place_is}
 use Rattle.cw_linked.proofs.Ending.{heights_are, all_tabled}
@@ -120,10 +119,11 @@ module _ (g : Game) (functions : ℕ) (routed : AreRouted g functions) (alike : 
       let same = kept_left g mid new ends.table ends.to in
       omega (arith, less, same)
 
-  pub linked_steps : (old mid new : Work) → IsWork g old → (place moves : ℕ) → FreesLink old mid place moves → (stepped : Stepped) → TakesLink g mid new stepped → Steps g old new stepped
-  linked_steps old mid new work place moves frees Done takes = absurd takes
-  linked_steps old mid new work place moves frees More takes = (takes.0, (let less = takes.1 in let same = kept_left g old mid frees.others.table frees.others.to in omega (arith, less, same)))
-  linked_steps old mid new work place moves frees (TooMany c) takes =
+  pub linked_less : (old mid new : Work) → (place moves : ℕ) → FreesLink old mid place moves → work_left g new < work_left g mid → work_left g new < work_left g old
+  linked_less old mid new place moves frees less = let same = kept_left g old mid frees.others.table frees.others.to in omega (arith, less, same)
+
+  pub linked_beyond : (old mid new : Work) → IsWork g old → (place moves : ℕ) → FreesLink old mid place moves → (c : Context) → TakesLink g mid new (TooMany c) → Ends g new.table (Some c)
+  linked_beyond old mid new work place moves frees c takes =
       (subst (λ (w : Work). IsTable g w.table) (sym takes.0) (freed_table g functions routed alike old mid work place moves frees), takes.1)
 
   -- The end.

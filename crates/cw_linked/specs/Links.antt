@@ -3,7 +3,7 @@ use Rattle.std.specs.Prelude.{◌≡◌, ◌⊎◌, ℕ, ◌<◌, Option, Some, 
 use Rattle.cw_game.specs.Games.{Game}
 use Rattle.cw_solve.specs.declared.contexts.Context.{Context}
 use Rattle.cw_linked.specs.declared.links.Stepped.{Stepped}
-use Rattle.cw_linked.specs.declared.links.Stepped.TheVariants.{Done, More, TooMany}
+use Rattle.cw_linked.specs.declared.links.Stepped.TheVariants.{More, TooMany}
 use Rattle.cw_linked.specs.declared.work.Work.{Work}
 use Rattle.cw_linked.specs.Added.{AddsContext}
 use Rattle.cw_linked.specs.Measures.{work_left}
@@ -22,6 +22,5 @@ NumbersContext g old new c None = (new ≡ old) × IsBeyond g new.table c
 
 -- less is left to do, or a context is needed whose cells are too many
 abbrev pub TakesLink : Game → (old new : Work) → Stepped → Type 0
-TakesLink g old new Done = ⊥
 TakesLink g old new More = IsWork g new × (work_left g new < work_left g old)
 TakesLink g old new (TooMany c) = (new ≡ old) × IsBeyond g new.table c

@@ -9,7 +9,7 @@ use Rattle.cw_linked.specs.declared.work.Cell.{Cell}
 use Rattle.cw_linked.specs.declared.work.Work.{Work}
 use Rattle.cw_linked.specs.Calls.{AreCallers}
 use Rattle.cw_linked.specs.Founds.{AreRight, AllClosed, AllCalled, AllStanding, AreFound}
-use Rattle.cw_linked.specs.Queues.{found_of, AreMarked, AreLong, AreSameBut, AreHigh, AreDue}
+use Rattle.cw_linked.specs.Queues.{found_of, AreMarked, AreLong, AreSameBut, AreHigh, AreDue, IsCellAt}
 use Rattle.cw_linked.specs.Steps.{WaitsFor, CallsThere, ReturnsThere}
 use Rattle.cw_linked.specs.Works.{heights_of}
 
@@ -71,6 +71,10 @@ pub record IsTaken (g : Game) (w : Work) (cell : Cell) (height : ℕ) : Type 0 w
   pub closed : AllClosed g w.table.contexts.items (found_of g w) (WaitsFor g cell.at.number cell.pos.0 cell.state.0)
   pub called : AllCalled g w.table.contexts.items (found_of g w) (CallsThere g (found_of g w) cell.at.number cell.pos.0 cell.state.0)
   pub standing : AllStanding g w.table.contexts.items (found_of g w) (ReturnsThere g w.table.contexts.items (found_of g w) cell.at.number cell.pos.0 cell.state.0)
+
+-- .. where the cell's place is known
+abbrev pub IsTakenAt : Game → Work → (place height : ℕ) → Type 0
+IsTakenAt g w place height = (cell : Cell) → IsCellAt g w place cell → IsTaken g w cell height
 
 -- after what waited is asked for, where links go to the contexts of these numbers
 pub record Finishes (g : Game) (old new : Work) (numbers : List ℕ) : Type 0 where

@@ -39,6 +39,10 @@ pub record IsFreed (g : Game) (w : Work) (link : Cell) (place moves : ℕ) : Typ
   pub shrinks : (call : Called) → IsLink g w.table.contexts.items link.at.number link.at.context link.pos.0 link.state.0 call → 0 < slice_index w.store.to place
       → IsShrinking g w.table.contexts.items (found_of g w) link.at.number link.pos.0 link.state.0 call moves
 
+-- .. where the link's place is known
+abbrev pub IsFreedAt : Game → Work → (place moves : ℕ) → Type 0
+IsFreedAt g w place moves = (link : Cell) → IsCellAt g w place link → IsFreed g w link place moves
+
 -- before it is tied: the context with the number `callee` has what its call promises for so many moves
 pub record IsTieable (g : Game) (w : Work) (link : Cell) (place moves callee back : ℕ) (to : Context) : Type 0 where
   pub firm : IsFirm g w

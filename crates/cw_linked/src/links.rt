@@ -19,11 +19,9 @@ use cw_solve::table::{numbered, size};
 use cw_solve::{Context, Places};
 use std::alloc::Global;
 
-/// What comes of a step.
+/// What comes of a link that is taken.
 #[derive(Drop)]
 pub(crate) enum Stepped {
-    /// Nothing waits.
-    Done,
     More,
     /// This context is needed, and its cells are too many.
     TooMany(Context),

@@ -1,16 +1,18 @@
 //! The solver.
 
-ghost use Rattle.std.specs.Prelude.{◌≡◌, ◌<◌, ◌≤◌, ◌++◌, ◌∷◌, [], length, IfOk, IfErr};
+ghost use Rattle.std.specs.Prelude.{◌≡◌, ◌<◌, ◌≤◌, ◌++◌, ◌∷◌, [], length, slice_index, OnOk, IfOk, IfErr};
 ghost use Rattle.cw_product.specs.Product.{game_of};
 ghost use Rattle.cw_solve.specs.Contexts.{cells_of, AreTheNeeded};
 ghost use Rattle.cw_product.specs.Made.{IsMade};
 ghost use Rattle.cw_product.specs.Routed.{AreRouted};
 ghost use Rattle.cw_solve.specs.Solved.{IsCause};
 ghost use Rattle.cw_solve.specs.Tables.{IsTable, IsDone};
-ghost use Rattle.cw_linked.specs.Popped.{IsWork};
+ghost use Rattle.cw_linked.specs.Links.{TakesLink};
+ghost use Rattle.cw_linked.specs.Popped.{IsWork, IsTakenAt, Finishes};
 ghost use Rattle.cw_linked.specs.Returns.{AreReturns};
 ghost use Rattle.cw_linked.specs.Runs.{AreRuns};
-ghost use Rattle.cw_linked.specs.Solving.{IsBlankWork, Steps, Ends};
+ghost use Rattle.cw_linked.specs.Solving.{IsBlankWork, Ends};
+ghost use Rattle.cw_linked.specs.Tied.{IsFreedAt};
 ghost use Rattle.cw_linked.specs.Waiting.{AreWaits};
 
 use crate::added::add;
@@ -27,42 +29,60 @@ use cw_solve::table::{Table, main_context};
 use cw_solve::{Context, Places, SolveFault, Solved};
 use std::alloc::{AllocError, Global};
 
-/// Takes what waits under the least key, maybe of the context that is near, which is that of what is taken then. The places
-/// have each context that is added.
-fn step(
+/// Asks for what waits for the cell at a place, which has this height now. Its context is near from then on, and maybe it was
+/// before.
+#[inline(always)]
+fn finish_at(
+    game: &Game,
+    edges: &Edges,
+    work: &mut Work,
+    near: &mut usize,
+    place: usize,
+    height: u32,
+) -> Result<(), NoMemory>
+    requires routed { AreRouted (game_of game.now) (length game.now.graph.parts.items) }
+    requires waits { AreWaits (game_of game.now) edges.now.waits }
+    requires returns { AreReturns (game_of game.now) edges.now.returns }
+    requires runs { AreRuns (game_of game.now) (length game.now.graph.parts.items) edges.now.runs.items }
+    requires table { IsTable (game_of game.now) work.old.table }
+    requires within { place < length work.old.table.heights.items }
+    requires taken { IsTakenAt (game_of game.now) work.old place height }
+    ensures { OnOk result (Finishes (game_of game.now) work.old work.new work.old.store.to) }
+{
+    let cell = cell_by(game, &edges.runs, work, *near, place);
+    let block = block_by(game, &edges.runs, &work.table, &cell.at);
+    *near = cell.at.number();
+    finish(game, edges, work, &cell, &block, height)?;
+    Ok(())
+}
+
+/// Takes the link at a place, for so many moves. Its context is near from then on. The places have each context that is added.
+#[inline(never)]
+fn tie_at(
     alloc: Global,
     game: &Game,
     edges: &Edges,
     work: &mut Work,
     places: &mut Places,
     near: &mut usize,
+    place: usize,
+    moves: u32,
 ) -> Result<Stepped, NoMemory>
     requires routed { AreRouted (game_of game.now) (length game.now.graph.parts.items) }
-    requires waits { AreWaits (game_of game.now) edges.now.waits }
-    requires returns { AreReturns (game_of game.now) edges.now.returns }
     requires runs { AreRuns (game_of game.now) (length game.now.graph.parts.items) edges.now.runs.items }
-    requires work { IsWork (game_of game.now) work.old }
-    ensures { IfOk result (λ stepped. Steps (game_of game.now) work.old work.new stepped) }
+    requires table { IsTable (game_of game.now) work.old.table }
+    requires within { place < length work.old.table.heights.items }
+    requires freed { IsFreedAt (game_of game.now) work.old place moves }
+    requires some { 0 < slice_index work.old.store.to place → 0 < moves }
+    ensures { IfOk result (λ stepped. TakesLink (game_of game.now) work.old work.new stepped) }
 {
-    match pop(work) {
-        Popped::Nothing => Ok(Stepped::Done),
-        Popped::Cell(place, height) => {
-            let cell = cell_by(game, &edges.runs, work, *near, place);
-            let block = block_by(game, &edges.runs, &work.table, &cell.at);
-            *near = cell.at.number();
-            finish(game, edges, work, &cell, &block, height)?;
-            Ok(Stepped::More)
-        }
-        Popped::Link(place, moves) => {
-            let link = cell_by(game, &edges.runs, work, *near, place);
-            *near = link.at.number();
-            let stepped = take_link(alloc, game, work, places, place, &link, moves)?;
-            Ok(stepped)
-        }
-    }
+    let link = cell_by(game, &edges.runs, work, *near, place);
+    *near = link.at.number();
+    let stepped = take_link(alloc, game, work, places, place, &link, moves)?;
+    Ok(stepped)
 }
 
-/// Steps until nothing waits; a context that is needed, where there is no room for it.
+/// Takes what waits, the least key first, until nothing waits; a context that is needed, where there is no room for it.
 fn steps(
     alloc: Global,
     game: &Game,
@@ -79,10 +99,17 @@ fn steps(
 {
     let mut near = 0;
     'steps: loop {
-        match step(alloc, game, edges, work, places, &mut near)? {
-            Stepped::Done => return Ok(None),
-            Stepped::More => {}
-            Stepped::TooMany(context) => return Ok(Some(context)),
+        match pop(work) {
+            Popped::Nothing => return Ok(None),
+            Popped::Cell(place, height) => {
+                finish_at(game, edges, work, &mut near, place, height)?;
+            }
+            Popped::Link(place, moves) => {
+                match tie_at(alloc, game, edges, work, places, &mut near, place, moves)? {
+                    Stepped::More => {}
+                    Stepped::TooMany(context) => return Ok(Some(context)),
+                }
+            }
         }
     }
 }

@@ -1,14 +1,66 @@
-use Rattle.std.proofs.Common.{length, subst}
+use Rattle.std.proofs.Common.{length, subst, sym}
+use Rattle.std.specs.Prelude.{None}
 use Rattle.cw_product.specs.Product.{game_of}
 use Rattle.cw_linked.specs.declared.links.Stepped.{Stepped}
-use Rattle.cw_linked.specs.Solving.{Steps}
+use Rattle.cw_linked.specs.declared.work.Work.{Work}
+use Rattle.cw_linked.specs.Links.{TakesLink}
+use Rattle.cw_linked.specs.Solving.{Ends}
 use Rattle.cw_linked.proofs.Alike.{alike}
-use Rattle.cw_linked.proofs.Solving.{ended}
+use Rattle.cw_linked.proofs.Linking.{is_freed, freed_table}
+use Rattle.cw_linked.proofs.Solving.{ended, finished_less, linked_less, linked_beyond}
+use Rattle.cw_linked.proofs.Takings.{is_table, is_taken}
 use Rattle.cw_linked.proofs.solver.steps.Goals as goal
 
-pub returns-in-Done : goal.returns-in-Done
-returns-in-Done c =
+pub returns-in-Nothing : goal.returns-in-Nothing
+returns-in-Nothing c =
     let g = game_of c.args.game.now in
-    let w = c.step.new.work in
-    let last = subst (λ (s : Stepped). Steps g c.steps.work w s) c.in-Done.is c.in_ok-step.ensures in
-    (last.0.table, ended g (length c.args.game.now.graph.parts.items) c.requires.routed (alike c.args.game.now) w last.0 last.1)
+    let w = c.steps.work in
+    let last = ended g (length c.args.game.now.graph.parts.items) c.requires.routed (alike c.args.game.now) w c.steps.invariant c.in-Nothing.ensures.0 in
+    subst (λ (v : Work). Ends g v.table None) (sym c.in-Nothing.ensures.1) (c.steps.invariant.table, last)
+
+pub finish_at-requires-clause-table : goal.finish_at-requires-clause-table
+finish_at-requires-clause-table c =
+    is_table (game_of c.args.game.now) (length c.args.game.now.graph.parts.items) c.requires.routed
+    (alike c.args.game.now) c.steps.work c.pop.new.work c.steps.invariant c.in-Cell.place c.in-Cell.height c.in-Cell.ensures
+
+pub finish_at-requires-clause-taken : goal.finish_at-requires-clause-taken
+finish_at-requires-clause-taken c cell at =
+    is_taken (game_of c.args.game.now) (length c.args.game.now.graph.parts.items) c.requires.routed
+    (alike c.args.game.now) c.steps.work c.pop.new.work c.steps.invariant c.in-Cell.place c.in-Cell.height c.in-Cell.ensures cell at
+
+pub steps-preserved-in-Cell : goal.steps-preserved-in-Cell
+steps-preserved-in-Cell c = c.in_ok-finish_at-in-Cell.ensures.kept
+
+pub steps-smaller-in-Cell : goal.steps-smaller-in-Cell
+steps-smaller-in-Cell c =
+    finished_less (game_of c.args.game.now) (length c.args.game.now.graph.parts.items) c.requires.routed
+    (alike c.args.game.now) c.steps.work c.pop.new.work c.finish_at.new.work c.steps.invariant c.in-Cell.place c.in-Cell.height c.in-Cell.ensures c.in_ok-finish_at-in-Cell.ensures
+
+pub tie_at-requires-clause-table : goal.tie_at-requires-clause-table
+tie_at-requires-clause-table c =
+    freed_table (game_of c.args.game.now) (length c.args.game.now.graph.parts.items) c.requires.routed
+    (alike c.args.game.now) c.steps.work c.pop.new.work c.steps.invariant c.in-Link.place c.in-Link.moves c.in-Link.ensures
+
+pub tie_at-requires-clause-freed : goal.tie_at-requires-clause-freed
+tie_at-requires-clause-freed c link at =
+    is_freed (game_of c.args.game.now) (length c.args.game.now.graph.parts.items) c.requires.routed
+    (alike c.args.game.now) c.steps.work c.pop.new.work c.steps.invariant c.in-Link.place c.in-Link.moves c.in-Link.ensures link at
+
+pub steps-preserved : goal.steps-preserved
+steps-preserved c =
+    let g = game_of c.args.game.now in
+    (subst (λ (s : Stepped). TakesLink g c.pop.new.work c.tie_at.new.work s) c.in-More.is c.in_ok-tie_at-in-Link.ensures).0
+
+pub steps-smaller : goal.steps-smaller
+steps-smaller c =
+    let g = game_of c.args.game.now in
+    let takes = subst (λ (s : Stepped). TakesLink g c.pop.new.work c.tie_at.new.work s) c.in-More.is c.in_ok-tie_at-in-Link.ensures in
+    linked_less g (length c.args.game.now.graph.parts.items) c.requires.routed (alike c.args.game.now)
+    c.steps.work c.pop.new.work c.tie_at.new.work c.in-Link.place c.in-Link.moves c.in-Link.ensures takes.1
+
+pub returns-in-TooMany : goal.returns-in-TooMany
+returns-in-TooMany c =
+    let g = game_of c.args.game.now in
+    let takes = subst (λ (s : Stepped). TakesLink g c.pop.new.work c.tie_at.new.work s) c.in-TooMany.is c.in_ok-tie_at-in-Link.ensures in
+    linked_beyond g (length c.args.game.now.graph.parts.items) c.requires.routed (alike c.args.game.now)
+    c.steps.work c.pop.new.work c.tie_at.new.work c.steps.invariant c.in-Link.place c.in-Link.moves c.in-Link.ensures c.in-TooMany.context takes
