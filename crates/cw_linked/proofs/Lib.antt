@@ -43,3 +43,4 @@ pub mod Targets
 pub mod Solving
 pub mod Dividing
 pub mod Blocking
+pub mod Homing

@@ -43,7 +43,7 @@ module _ (g : Game) (t : Table) (table : IsTable g t) where
   pub owned : (k : ℕ) → k < length t.heights.items → (i : ℕ) × IsOwner g Contexts i k
   owned k lt = owner_upto g Contexts k (length Contexts) (omega arith) (omega (arith, lt, all_base))
 
-  base_is : (i d : ℕ) → i < length Contexts → get_or t.bases.items i d ≡ base g Contexts i
+  pub base_is : (i d : ℕ) → i < length Contexts → get_or t.bases.items i d ≡ base g Contexts i
   base_is i d lt = get_or_default t.bases.items i d 0 (omega (arith, lt, table.bases)) ∙ table.begins i lt
 
   -- where contexts begin rises

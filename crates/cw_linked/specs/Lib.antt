@@ -16,3 +16,4 @@ pub mod Solving
 pub mod Links
 pub mod Runs
 pub mod Blocks
+pub mod Homes

@@ -39,6 +39,16 @@ impl Divisor {
         }
     }
 
+    /// The same divisor once more.
+    pub fn again(&self) -> Divisor
+        ensures { result ≡ self.now }
+    {
+        Divisor {
+            by: self.by,
+            inverse: self.inverse,
+        }
+    }
+
     /// The number.
     pub fn by(&self) -> u32
         ensures { result ≡ self.now }

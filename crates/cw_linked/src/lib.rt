@@ -9,6 +9,7 @@ mod calls;
 mod cells;
 mod divisor;
 mod edges;
+mod home;
 mod links;
 mod popped;
 mod returns;

@@ -7,6 +7,7 @@ ghost use Rattle.cw_product.specs.Made.{IsMade};
 ghost use Rattle.cw_product.specs.Routed.{AreRouted};
 ghost use Rattle.cw_solve.specs.Solved.{IsCause};
 ghost use Rattle.cw_solve.specs.Tables.{IsTable, IsDone};
+ghost use Rattle.cw_linked.specs.Homes.{IsHome};
 ghost use Rattle.cw_linked.specs.Links.{TakesLink};
 ghost use Rattle.cw_linked.specs.Popped.{IsWork, IsTakenAt, Finishes};
 ghost use Rattle.cw_linked.specs.Returns.{AreReturns};
@@ -16,9 +17,9 @@ ghost use Rattle.cw_linked.specs.Tied.{IsFreedAt};
 ghost use Rattle.cw_linked.specs.Waiting.{AreWaits};
 
 use crate::added::add;
-use crate::block::block_by;
 use crate::cells::finish;
 use crate::edges::Edges;
+use crate::home::{Home, approach, cell_near, no_home};
 use crate::links::{Stepped, take_link};
 use crate::popped::{Popped, pop};
 use crate::work::{Work, cell_by};
@@ -36,7 +37,7 @@ fn finish_at(
     game: &Game,
     edges: &Edges,
     work: &mut Work,
-    near: &mut usize,
+    home: &mut Home,
     place: usize,
     height: u32,
 ) -> Result<(), NoMemory>
@@ -47,16 +48,18 @@ fn finish_at(
     requires table { IsTable (game_of game.now) work.old.table }
     requires within { place < length work.old.table.heights.items }
     requires taken { IsTakenAt (game_of game.now) work.old place height }
-    ensures { OnOk result (Finishes (game_of game.now) work.old work.new work.old.store.to) }
+    requires home { IsHome (game_of game.now) work.old.table.contexts.items home.old }
+    ensures finishes { OnOk result (Finishes (game_of game.now) work.old work.new work.old.store.to) }
+    ensures home { IsHome (game_of game.now) work.old.table.contexts.items home.new }
 {
-    let cell = cell_by(game, &edges.runs, work, *near, place);
-    let block = block_by(game, &edges.runs, &work.table, &cell.at);
-    *near = cell.at.number();
-    finish(game, edges, work, &cell, &block, height)?;
+    approach(game, &edges.runs, &work.table, home, place);
+    let cell = cell_near(game, work, home, place);
+    finish(game, edges, work, &cell, &home.block, height)?;
     Ok(())
 }
 
-/// Takes the link at a place, for so many moves. Its context is near from then on. The places have each context that is added.
+/// Takes the link at a place, for so many moves. Its context is the first to be looked at then, but where its cells stand is asked
+/// anew. The places have each context that is added.
 #[inline(never)]
 fn tie_at(
     alloc: Global,
@@ -64,7 +67,7 @@ fn tie_at(
     edges: &Edges,
     work: &mut Work,
     places: &mut Places,
-    near: &mut usize,
+    home: &mut Home,
     place: usize,
     moves: u32,
 ) -> Result<Stepped, NoMemory>
@@ -74,10 +77,12 @@ fn tie_at(
     requires within { place < length work.old.table.heights.items }
     requires freed { IsFreedAt (game_of game.now) work.old place moves }
     requires some { 0 < slice_index work.old.store.to place → 0 < moves }
-    ensures { IfOk result (λ stepped. TakesLink (game_of game.now) work.old work.new stepped) }
+    ensures takes { IfOk result (λ stepped. TakesLink (game_of game.now) work.old work.new stepped) }
+    ensures home { home.new.past ≡ 0 }
 {
-    let link = cell_by(game, &edges.runs, work, *near, place);
-    *near = link.at.number();
+    let link = cell_by(game, &edges.runs, work, home.number, place);
+    home.number = link.at.number();
+    home.past = 0;
     let stepped = take_link(alloc, game, work, places, place, &link, moves)?;
     Ok(stepped)
 }
@@ -97,15 +102,15 @@ fn steps(
     requires work { IsWork (game_of game.now) work.old }
     ensures { IfOk result (λ more. Ends (game_of game.now) work.new.table more) }
 {
-    let mut near = 0;
+    let mut home = no_home();
     'steps: loop {
         match pop(work) {
             Popped::Nothing => return Ok(None),
             Popped::Cell(place, height) => {
-                finish_at(game, edges, work, &mut near, place, height)?;
+                finish_at(game, edges, work, &mut home, place, height)?;
             }
             Popped::Link(place, moves) => {
-                match tie_at(alloc, game, edges, work, places, &mut near, place, moves)? {
+                match tie_at(alloc, game, edges, work, places, &mut home, place, moves)? {
                     Stepped::More => {}
                     Stepped::TooMany(context) => return Ok(Some(context)),
                 }

@@ -64,7 +64,7 @@ fn has_place(game: &Game, table: &Table, number: usize, place: usize) -> bool
 }
 
 /// The same as `owner`. A context is looked at first: mostly the one whose cell was taken before has this one too.
-fn owner_near(game: &Game, table: &Table, near: usize, place: usize) -> usize
+pub(crate) fn owner_near(game: &Game, table: &Table, near: usize, place: usize) -> usize
     requires table { IsTable (game_of game.now) table.now }
     requires within { place < length table.now.heights.items }
     ensures { IsOwner (game_of game.now) table.now.contexts.items result place }

@@ -1,8 +1,11 @@
-use Rattle.std.proofs.Common.{length, subst, sym}
+use Rattle.std.proofs.Common.{◌<◌, List, length, subst, sym, arith}
 use Rattle.std.specs.Prelude.{None}
 use Rattle.cw_product.specs.Product.{game_of}
+use Rattle.cw_solve.specs.declared.contexts.Context.{Context}
+use Rattle.cw_solve.specs.declared.table.Table.{Table}
 use Rattle.cw_linked.specs.declared.links.Stepped.{Stepped}
 use Rattle.cw_linked.specs.declared.work.Work.{Work}
+use Rattle.cw_linked.specs.Homes.{IsHome}
 use Rattle.cw_linked.specs.Links.{TakesLink}
 use Rattle.cw_linked.specs.Solving.{Ends}
 use Rattle.cw_linked.proofs.Alike.{alike}
@@ -15,52 +18,64 @@ pub returns-in-Nothing : goal.returns-in-Nothing
 returns-in-Nothing c =
     let g = game_of c.args.game.now in
     let w = c.steps.work in
-    let last = ended g (length c.args.game.now.graph.parts.items) c.requires.routed (alike c.args.game.now) w c.steps.invariant c.in-Nothing.ensures.0 in
-    subst (λ (v : Work). Ends g v.table None) (sym c.in-Nothing.ensures.1) (c.steps.invariant.table, last)
+    let last = ended g (length c.args.game.now.graph.parts.items) c.requires.routed (alike c.args.game.now) w c.steps.invariant.work c.in-Nothing.ensures.0 in
+    subst (λ (v : Work). Ends g v.table None) (sym c.in-Nothing.ensures.1) (c.steps.invariant.work.table, last)
 
 pub finish_at-requires-clause-table : goal.finish_at-requires-clause-table
 finish_at-requires-clause-table c =
     is_table (game_of c.args.game.now) (length c.args.game.now.graph.parts.items) c.requires.routed
-    (alike c.args.game.now) c.steps.work c.pop.new.work c.steps.invariant c.in-Cell.place c.in-Cell.height c.in-Cell.ensures
+    (alike c.args.game.now) c.steps.work c.pop.new.work c.steps.invariant.work c.in-Cell.place c.in-Cell.height c.in-Cell.ensures
 
 pub finish_at-requires-clause-taken : goal.finish_at-requires-clause-taken
 finish_at-requires-clause-taken c cell at =
     is_taken (game_of c.args.game.now) (length c.args.game.now.graph.parts.items) c.requires.routed
-    (alike c.args.game.now) c.steps.work c.pop.new.work c.steps.invariant c.in-Cell.place c.in-Cell.height c.in-Cell.ensures cell at
+    (alike c.args.game.now) c.steps.work c.pop.new.work c.steps.invariant.work c.in-Cell.place c.in-Cell.height c.in-Cell.ensures cell at
+
+pub finish_at-requires-clause-home : goal.finish_at-requires-clause-home
+finish_at-requires-clause-home c = subst (λ (cs : List Context). IsHome (game_of c.args.game.now) cs c.steps.home) (sym c.in-Cell.ensures.contexts) c.steps.invariant.home
+
+pub steps-init : goal.steps-init
+steps-init c = record { work = c.requires.work; home = λ lt. absurd (omega (arith, lt, c.no_home-home.ensures)) }
 
 pub steps-preserved-in-Cell : goal.steps-preserved-in-Cell
-steps-preserved-in-Cell c = c.in_ok-finish_at-in-Cell.ensures.kept
+steps-preserved-in-Cell c =
+    let ends = c.in_ok-finish_at-in-Cell.ensures.finishes in
+    record {
+      work = ends.kept;
+      home = subst (λ (t : Table). IsHome (game_of c.args.game.now) t.contexts.items c.finish_at.new.home) (sym ends.table) c.finish_at.ensures.home;
+    }
 
 pub steps-smaller-in-Cell : goal.steps-smaller-in-Cell
 steps-smaller-in-Cell c =
     finished_less (game_of c.args.game.now) (length c.args.game.now.graph.parts.items) c.requires.routed
-    (alike c.args.game.now) c.steps.work c.pop.new.work c.finish_at.new.work c.steps.invariant c.in-Cell.place c.in-Cell.height c.in-Cell.ensures c.in_ok-finish_at-in-Cell.ensures
+    (alike c.args.game.now) c.steps.work c.pop.new.work c.finish_at.new.work c.steps.invariant.work c.in-Cell.place c.in-Cell.height c.in-Cell.ensures c.in_ok-finish_at-in-Cell.ensures.finishes
 
 pub tie_at-requires-clause-table : goal.tie_at-requires-clause-table
 tie_at-requires-clause-table c =
     freed_table (game_of c.args.game.now) (length c.args.game.now.graph.parts.items) c.requires.routed
-    (alike c.args.game.now) c.steps.work c.pop.new.work c.steps.invariant c.in-Link.place c.in-Link.moves c.in-Link.ensures
+    (alike c.args.game.now) c.steps.work c.pop.new.work c.steps.invariant.work c.in-Link.place c.in-Link.moves c.in-Link.ensures
 
 pub tie_at-requires-clause-freed : goal.tie_at-requires-clause-freed
 tie_at-requires-clause-freed c link at =
     is_freed (game_of c.args.game.now) (length c.args.game.now.graph.parts.items) c.requires.routed
-    (alike c.args.game.now) c.steps.work c.pop.new.work c.steps.invariant c.in-Link.place c.in-Link.moves c.in-Link.ensures link at
+    (alike c.args.game.now) c.steps.work c.pop.new.work c.steps.invariant.work c.in-Link.place c.in-Link.moves c.in-Link.ensures link at
 
 pub steps-preserved : goal.steps-preserved
 steps-preserved c =
     let g = game_of c.args.game.now in
-    (subst (λ (s : Stepped). TakesLink g c.pop.new.work c.tie_at.new.work s) c.in-More.is c.in_ok-tie_at-in-Link.ensures).0
+    let takes = subst (λ (s : Stepped). TakesLink g c.pop.new.work c.tie_at.new.work s) c.in-More.is c.in_ok-tie_at-in-Link.ensures.takes in
+    record { work = takes.0; home = λ lt. absurd (omega (arith, lt, c.tie_at.ensures.home)) }
 
 pub steps-smaller : goal.steps-smaller
 steps-smaller c =
     let g = game_of c.args.game.now in
-    let takes = subst (λ (s : Stepped). TakesLink g c.pop.new.work c.tie_at.new.work s) c.in-More.is c.in_ok-tie_at-in-Link.ensures in
+    let takes = subst (λ (s : Stepped). TakesLink g c.pop.new.work c.tie_at.new.work s) c.in-More.is c.in_ok-tie_at-in-Link.ensures.takes in
     linked_less g (length c.args.game.now.graph.parts.items) c.requires.routed (alike c.args.game.now)
     c.steps.work c.pop.new.work c.tie_at.new.work c.in-Link.place c.in-Link.moves c.in-Link.ensures takes.1
 
 pub returns-in-TooMany : goal.returns-in-TooMany
 returns-in-TooMany c =
     let g = game_of c.args.game.now in
-    let takes = subst (λ (s : Stepped). TakesLink g c.pop.new.work c.tie_at.new.work s) c.in-TooMany.is c.in_ok-tie_at-in-Link.ensures in
+    let takes = subst (λ (s : Stepped). TakesLink g c.pop.new.work c.tie_at.new.work s) c.in-TooMany.is c.in_ok-tie_at-in-Link.ensures.takes in
     linked_beyond g (length c.args.game.now.graph.parts.items) c.requires.routed (alike c.args.game.now)
-    c.steps.work c.pop.new.work c.tie_at.new.work c.steps.invariant c.in-Link.place c.in-Link.moves c.in-Link.ensures c.in-TooMany.context takes
+    c.steps.work c.pop.new.work c.tie_at.new.work c.steps.invariant.work c.in-Link.place c.in-Link.moves c.in-Link.ensures c.in-TooMany.context takes
