@@ -1,15 +1,18 @@
 -- Where the moves at a position keep the state, they lead to positions that are read off what stands there.
-use Rattle.std.proofs.Common.{◌≡◌, ℕ, ◌+◌, Bool, true, false, ◌&&◌, ◌||◌, Option, Some, refl, sym, ap, subst}
-use Rattle.std.specs.Prelude.{slice_get}
-use Rattle.std.proofs.lemmas.Bool.{false≢true}
+use Rattle.std.proofs.Common.{◌≡◌, ℕ, suc, ◌+◌, ◌<◌, Bool, true, false, ◌&&◌, ◌||◌, Option, Some, refl, sym, ap, ◌∙◌, subst, arith, inl, inr}
+use Rattle.std.specs.Prelude.{slice_get, nat_eq, nat_lt}
+use Rattle.std.proofs.lemmas.Bool.{false≢true, cases_lt, or_right, or_from, lt-ltb, le-ltb, ne_eqb}
 use Rattle.std.proofs.lemmas.Option.{none-some}
 use Rattle.cw_certs.specs.declared.moves.Move.TheVariants.{Skip, Try, On, Left, Right}
 use Rattle.cw_game.specs.declared.spots.Spot.{Spot}
 use Rattle.cw_game.specs.declared.spots.Spot.TheVariants.{Visit, Step, Branch, Call, SplitCall}
-use Rattle.cw_game.specs.Games.{Game, Promise, weavers_in}
-use Rattle.cw_game.specs.Pairs.{Called, call_in, is_call_in}
+use Rattle.cw_game.specs.Games.{Game, Promise, weavers_in, holds_in}
+use Rattle.cw_game.specs.Pairs.{Called, has, call_in, is_call_in}
 use Rattle.cw_product.specs.Moves.{next_in, next_at}
 use Rattle.cw_solve.specs.Asking.{holds_after, holds_by_moves}
+use Rattle.cw_solve.specs.Rounds.{holds_by}
+use Rattle.cw_linked.specs.Founds.{told}
+use Rattle.cw_linked.specs.Steps.{IsBound}
 
 module _ (g : Game) (p q : ℕ) where
   pub steps_on : (n : ℕ) → slice_get g.spots p ≡ Some (Step n) → next_at g p q On ≡ Some (n, q)
@@ -42,6 +45,24 @@ module _ (g : Game) (p q : ℕ) where
     pub by_visit : (o : Option Spot) → weavers_in o ≡ true → (holds_after h e (next_in g p q o Skip) || holds_after h e (next_in g p q o Try)) ≡ holds_by_moves g h p q e o
     by_visit (Some (Visit j i a)) w = refl
     by_visit o w = absurd (false≢true w)
+
+-- A step leads to a pair that is taken: that height tells the bound.
+
+-- of n + 1 moves one more tells what a height tells of n
+more_tells : (n h : ℕ) → 0 < h → holds_by (suc n) (h + 1) ≡ holds_by n h
+more_tells n h some =
+    elim (cases_lt n h) [
+      | inl lt ↦
+          or_right (nat_eq (h + 1) 0) (nat_lt (suc n) (h + 1)) (lt-ltb (suc n) (h + 1) (omega (arith, lt))) ∙ sym (or_right (nat_eq h 0) (nat_lt n h) (lt-ltb n h lt))
+      | inr ge ↦
+          or_from (nat_eq (h + 1) 0) (nat_lt (suc n) (h + 1)) (ne_eqb (h + 1) 0 (λ e. omega (arith, e))) (le-ltb (suc n) (h + 1) (omega (arith, ge)))
+          ∙ sym (or_from (nat_eq h 0) (nat_lt n h) (ne_eqb h 0 (λ e. omega (arith, e, some))) (le-ltb n h ge))
+    ]
+
+pub step_told : (g : Game) (heights : ℕ → ℕ → ℕ → ℕ) (i p q promise next height : ℕ) → slice_get g.spots p ≡ Some (Step next) → heights i next q ≡ height → 0 < height
+    → IsBound g heights i p q promise (height + 1)
+step_told g heights i p q promise next height step taken some n =
+    more_tells n height some ∙ ap (λ (k : ℕ). holds_by n k) (sym taken) ∙ ap (λ (o : Option Spot). holds_in g (told heights i n) p q (has promise) o) (sym step)
 
 -- what isn't a call calls nothing
 pub uncalled : (o : Option Spot) (call : Called) → is_call_in o ≡ false → call_in o ≡ Some call → ⊥

@@ -69,7 +69,7 @@ pub(crate) fn finish(
     requires block { IsBlock (game_of game.now) work.old.table cell.now.at block.now }
     ensures { OnOk result (Finishes (game_of game.now) work.old work.new work.old.store.to) }
 {
-    ask_waiting(game, &edges.waits, work, cell, block)?;
+    ask_waiting(game, &edges.waits, work, cell, block, height)?;
     ask_entry(game, work, cell, block, height)?;
     ask_returns(game, &edges.returns, work, cell, height)?;
     Ok(())

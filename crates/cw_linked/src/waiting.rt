@@ -9,11 +9,12 @@ ghost use Rattle.cw_linked.specs.Blocks.{IsBlock};
 ghost use Rattle.cw_linked.specs.Founds.{AreRight, AllClosed};
 ghost use Rattle.cw_linked.specs.Queues.{found_of, AreLong, AreHigh, AsksPair, AsksWaiting};
 ghost use Rattle.cw_linked.specs.Steps.{WaitsFor};
+ghost use Rattle.cw_linked.specs.Works.{heights_of};
 ghost use Rattle.cw_linked.specs.Waiting.{pair_number, AreSources, AreChanges, AreWaits, ChangesFor, AsksSources};
 
 use crate::block::{Block, is_in};
 use crate::edges::{Changes, Pair, Waits};
-use crate::told::ask_told;
+use crate::told::{ask_before, ask_told};
 use crate::work::{Cell, Work};
 use cw_core::{NoMemory, PosId, StateId};
 use cw_links::Chains;
@@ -66,13 +67,46 @@ fn ask_pair(
     }
 }
 
-/// Asks for the pairs of the same context that lead to a cell and keep its state.
+/// The same as `ask_pair`, of a pair in the state of the cell, which has this height now.
+#[inline(always)]
+fn ask_source(
+    game: &Game,
+    work: &mut Work,
+    cell: &Cell,
+    block: &Block,
+    pair: Pair,
+    height: u32,
+) -> Result<(), NoMemory>
+    requires routed { AreRouted (game_of game.now) (length game.now.graph.parts.items) }
+    requires table { IsTable (game_of game.now) work.old.table }
+    requires cell { HasCell (game_of game.now) work.old.table cell.now.at cell.now.pos.0 cell.now.state.0 }
+    requires block { IsBlock (game_of game.now) work.old.table cell.now.at block.now }
+    requires state { IsState (game_of game.now) pair.state.0 }
+    requires long { AreLong work.old }
+    requires high { AreHigh work.old }
+    requires right { AreRight (game_of game.now) work.old.table.contexts.items (found_of (game_of game.now) work.old) }
+    requires taken { heights_of (game_of game.now) work.old.table cell.now.at.number cell.now.pos.0 pair.state.0 ≡ height }
+    requires some { 0 < height }
+    ensures { OnOk result (AsksPair (game_of game.now) work.old work.new cell.now pair) }
+{
+    if is_in(game, &work.table, &cell.at, block, pair.pos) {
+        ask_before(
+            game, work, &cell.at, block, pair.pos, pair.state, cell.pos, height,
+        )?;
+        Ok(())
+    } else {
+        Ok(())
+    }
+}
+
+/// Asks for the pairs of the same context that lead to a cell, which has this height now, and keep its state.
 fn ask_sources(
     game: &Game,
     sources: &Chains<PosId>,
     work: &mut Work,
     cell: &Cell,
     block: &Block,
+    height: u32,
 ) -> Result<(), NoMemory>
     requires routed { AreRouted (game_of game.now) (length game.now.graph.parts.items) }
     requires sources { AreSources (game_of game.now) sources.now }
@@ -82,6 +116,8 @@ fn ask_sources(
     requires long { AreLong work.old }
     requires high { AreHigh work.old }
     requires right { AreRight (game_of game.now) work.old.table.contexts.items (found_of (game_of game.now) work.old) }
+    requires taken { heights_of (game_of game.now) work.old.table cell.now.at.number cell.now.pos.0 cell.now.state.0 ≡ height }
+    requires some { 0 < height }
     requires closed { AllClosed (game_of game.now) work.old.table.contexts.items (found_of (game_of game.now) work.old)
         (WaitsFor (game_of game.now) cell.now.at.number cell.now.pos.0 cell.now.state.0) }
     ensures { OnOk result (AsksSources (game_of game.now) work.old work.new cell.now) }
@@ -92,7 +128,7 @@ fn ask_sources(
             pos: *sources.get(edge),
             state: cell.state,
         };
-        ask_pair(game, work, cell, block, waiting)?;
+        ask_source(game, work, cell, block, waiting, height)?;
         next = sources.next(edge);
     }
     Ok(())
@@ -137,13 +173,14 @@ fn ask_changes(
     Ok(())
 }
 
-/// Asks for the pairs of the same context that wait for a cell.
+/// Asks for the pairs of the same context that wait for a cell, which has this height now.
 pub(crate) fn ask_waiting(
     game: &Game,
     waits: &Waits,
     work: &mut Work,
     cell: &Cell,
     block: &Block,
+    height: u32,
 ) -> Result<(), NoMemory>
     requires routed { AreRouted (game_of game.now) (length game.now.graph.parts.items) }
     requires waits { AreWaits (game_of game.now) waits.now }
@@ -153,11 +190,13 @@ pub(crate) fn ask_waiting(
     requires long { AreLong work.old }
     requires high { AreHigh work.old }
     requires right { AreRight (game_of game.now) work.old.table.contexts.items (found_of (game_of game.now) work.old) }
+    requires taken { heights_of (game_of game.now) work.old.table cell.now.at.number cell.now.pos.0 cell.now.state.0 ≡ height }
+    requires some { 0 < height }
     requires closed { AllClosed (game_of game.now) work.old.table.contexts.items (found_of (game_of game.now) work.old)
         (WaitsFor (game_of game.now) cell.now.at.number cell.now.pos.0 cell.now.state.0) }
     ensures { OnOk result (AsksWaiting (game_of game.now) work.old work.new) }
 {
-    ask_sources(game, &waits.sources, work, cell, block)?;
+    ask_sources(game, &waits.sources, work, cell, block, height)?;
     ask_changes(game, &waits.changes, work, cell, block)?;
     Ok(())
 }

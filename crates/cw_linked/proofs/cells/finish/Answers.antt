@@ -19,6 +19,8 @@ ask_waiting-requires c =
       long = t.long;
       high = t.high;
       right = t.right;
+      taken = t.taken;
+      some = t.some;
       closed = t.closed;
     }
 

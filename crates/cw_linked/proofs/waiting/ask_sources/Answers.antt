@@ -1,4 +1,4 @@
-use Rattle.std.proofs.Common.{◌<◌, ℕ, List, Option, length, subst, sym, ap, arith}
+use Rattle.std.proofs.Common.{◌≡◌, ◌<◌, ℕ, List, Option, length, subst, sym, ap, arith}
 use Rattle.std.specs.Prelude.{option_map, IfSome}
 use Rattle.cw_links.specs.Lists.{list_at}
 use Rattle.cw_product.specs.Product.{game_of}
@@ -9,6 +9,7 @@ use Rattle.cw_linked.specs.Founds.{AllClosed}
 use Rattle.cw_linked.specs.Queues.{found_of}
 use Rattle.cw_linked.specs.Waiting.{ChangesFor}
 use Rattle.cw_linked.specs.Walks.{rest_of}
+use Rattle.cw_linked.specs.Works.{heights_of}
 use Rattle.cw_linked.proofs.Alike.{alike}
 use Rattle.cw_linked.proofs.Telling.{nothing, two_steps}
 use Rattle.cw_linked.proofs.Waits.{AreLeft, source_pairs, with_state, sources_left, asked_left, none_left}
@@ -42,8 +43,13 @@ walk-init c =
 pub get-requires : goal.get-requires
 get-requires c = subst (λ o. IfSome o (λ edge. edge < length c.args.sources.now.values)) c.in-Some.is c.walk.invariant.known
 
-pub ask_pair-requires-clause-block : goal.ask_pair-requires-clause-block
-ask_pair-requires-clause-block c =
+pub ask_source-requires-clause-taken : goal.ask_source-requires-clause-taken
+ask_source-requires-clause-taken c =
+    subst (λ (t : Table). heights_of (game_of c.args.game.now) t c.args.cell.now.at.number c.args.cell.now.pos.0 c.args.cell.now.state.0 ≡ c.args.height) (sym c.walk.invariant.step.others.table)
+    c.requires.taken
+
+pub ask_source-requires-clause-block : goal.ask_source-requires-clause-block
+ask_source-requires-clause-block c =
     subst (λ (t : Table). IsBlock (game_of c.args.game.now) t c.args.cell.now.at c.args.block.now) (sym c.walk.invariant.step.others.table) c.requires.block
 
 pub next-next-requires : goal.next-next-requires
@@ -69,12 +75,12 @@ walk-preserved c =
     c.in-Some.is c.walk.invariant.at c.next-next.ensures.apart c.next-next.ensures.within in
     record {
       known = c.next-next.ensures.known;
-      step = two_steps g w c.walk.work c.ask_pair.new.work c.walk.invariant.step c.in_ok-ask_pair.ensures.step;
+      step = two_steps g w c.walk.work c.ask_source.new.work c.walk.invariant.step c.in_ok-ask_source.ensures.step;
       at = s.at;
-      left = subst (λ (ys : List ℕ). AllClosed g w.table.contexts.items (found_of g c.ask_pair.new.work) (AreLeft pairs Later cell.at.number ys)) (sym s.left)
-          (asked_left g functions c.requires.routed (alike c.args.game.now) w c.walk.work c.ask_pair.new.work c.requires.table c.walk.invariant.step pairs Later cell
+      left = subst (λ (ys : List ℕ). AllClosed g w.table.contexts.items (found_of g c.ask_source.new.work) (AreLeft pairs Later cell.at.number ys)) (sym s.left)
+          (asked_left g functions c.requires.routed (alike c.args.game.now) w c.walk.work c.ask_source.new.work c.requires.table c.walk.invariant.step pairs Later cell
           c.requires.cell.at c.in-Some.edge s.back
-          (with_state cell.state.0 c.get.result.now) (ap (option_map (with_state cell.state.0)) c.get.ensures) c.in_ok-ask_pair.ensures
+          (with_state cell.state.0 c.get.result.now) (ap (option_map (with_state cell.state.0)) c.get.ensures) c.in_ok-ask_source.ensures
           (subst (λ (ys : List ℕ). AllClosed g w.table.contexts.items (found_of g c.walk.work) (AreLeft pairs Later cell.at.number ys)) s.rest c.walk.invariant.left));
     }
 
