@@ -1,5 +1,5 @@
 -- What is done at a key, by whose turn it is.
-use Rattle.std.proofs.Common.{◌≡◌, ℕ, ◌+◌, ◌<◌, ◌≤◌, List, [], ◌∷◌, ◌++◌, Bool, true, false, cond, Option, Some, None, map, filter_map, append_assoc, length, nat_lt, refl, sym, ap, ap₂, ◌∙◌, arith}
+use Rattle.std.proofs.Common.{◌≡◌, ℕ, ◌+◌, ◌<◌, ◌≤◌, List, [], ◌∷◌, ◌++◌, Bool, true, false, cond, Option, Some, None, map, filter_map, length, nat_lt, refl, sym, ap, ap₂, ◌∙◌, arith}
 use Rattle.std.specs.Prelude.{slice_get, option_map}
 use Rattle.std.specs.List.{range_with_len, cons_option}
 use Rattle.std.proofs.lemmas.Bool.{lt-ltb, le-ltb}
@@ -14,7 +14,7 @@ use Rattle.cw_solve.specs.Contexts.{context}
 use Rattle.cw_product.specs.Routed.{AreRouted}
 use Rattle.cw_solve.proofs.Tabling.{there}
 use Rattle.cw_least_strategy.specs.declared.key.Key.{Key}
-use Rattle.cw_least_strategy.specs.Acts.{IsThere, key_of_back}
+use Rattle.cw_least_strategy.specs.Acts.{IsThere}
 use Rattle.cw_least_strategy.specs.Heights.{others}
 use Rattle.cw_least_strategy.specs.Kept.{IsKey}
 use Rattle.cw_least_strategy.specs.Strategies.{below, moves, best, after_return, is_lost_after, aim_at, back_at, backs_at, Out, Both, Into, goes, act_in, act}
@@ -115,12 +115,3 @@ backs_same f x old h s = h ∙ sym (kept_more f x ∙ ap (λ o. filter_map f (ra
     nothing : (l : List (ℕ × Key)) → l ++ [] ≡ l
     nothing [] = refl
     nothing (y ∷ ys) = ap (λ (l : List (ℕ × Key)). y ∷ l) (nothing ys)
-
-keys_plain : (backs : List (StateId × Key)) → map key_of_back backs ≡ map (λ (b : ℕ × Key). b.1) (map plain backs)
-keys_plain [] = refl
-keys_plain (b ∷ backs) = ap (λ (l : List Key). b.1 ∷ l) (keys_plain backs)
-
--- what is named at a call, put behind other keys
-pub into_keys : (old : List Key) (callee : Key) (backs : List (StateId × Key)) {new : List Key} → new ≡ (old ++ callee ∷ []) ++ map key_of_back backs
-    → new ≡ old ++ callee ∷ map (λ (b : ℕ × Key). b.1) (map plain backs)
-into_keys old callee backs e = e ∙ append_assoc old (callee ∷ []) (map key_of_back backs) ∙ ap (λ (l : List Key). old ++ callee ∷ l) (keys_plain backs)

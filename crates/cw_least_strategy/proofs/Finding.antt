@@ -23,7 +23,7 @@ numbered_plain keys [] = refl
 numbered_plain keys (b ∷ backs) = ap (λ (l : List (ℕ × ℕ)). (b.0.0, number keys b.1) ∷ l) (numbered_plain keys backs)
 
 -- a sum over the elements before one, and that one, is at most the sum over all
-pub sum_past : (w : Key → ℕ) (xs : List Key) (i : ℕ) (x : Key) → slice_get xs i ≡ Some x → sum_by w (take i xs) + w x ≤ sum_by w xs
+pub sum_past : {A : Type 0} (w : A → ℕ) (xs : List A) (i : ℕ) (x : A) → slice_get xs i ≡ Some x → sum_by w (take i xs) + w x ≤ sum_by w xs
 sum_past w [] i x e = absurd (none-some x e)
 sum_past w (y ∷ ys) zero x e =
     let a = sum_by-cons w y ys in

@@ -2,6 +2,7 @@
 pub mod Sets
 pub mod Lowest
 pub mod Keys
+pub mod AllAims
 pub mod Moving
 pub mod FewMoves
 pub mod Naming
@@ -12,5 +13,6 @@ pub mod Looking
 pub mod Acting
 pub mod Made
 pub mod Tabled
+pub mod Small
 pub mod Backs
 pub mod Existing

@@ -91,7 +91,7 @@ module _ (h : Held) (made : IsMade h.game) where
   start_key_is k s = subst (IsKey g functions) (sym s.2) (start_is g functions routed s.0 (start_state h.game made) s.1)
 
   -- it may be asked for, and all that it names
-  start_followed : (k : Key) → IsStartKey g k → IsFollowed h k
+  pub start_followed : (k : Key) → IsStartKey g k → IsFollowed h k
   start_followed k s = record { routed = routed; keys = λ b l. all_keys g functions routed k b (start_key_is k s) l }
 
   pub starts_followed : (k : Key) → IsStartKey g k → (b : Key) → Contains (k ∷ []) b → IsFollowed h b

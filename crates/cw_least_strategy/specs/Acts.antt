@@ -14,7 +14,6 @@ use Rattle.cw_least_strategy.specs.declared.acts.Act.TheVariants as given
 use Rattle.cw_least_strategy.specs.declared.acts.Lead.{Lead}
 use Rattle.cw_least_strategy.specs.declared.heights.Lower.{Lower}
 use Rattle.cw_least_strategy.specs.Heights.{others}
-use Rattle.cw_core.specs.declared.ids.StateId.{StateId}
 use Rattle.cw_least_strategy.specs.declared.key.Key.{Key}
 use Rattle.cw_least_strategy.specs.declared.key.Way.{Way}
 use Rattle.cw_least_strategy.specs.Strategies.{backs_in, row_at, start_key, Act, Bad, Out, Both, Go, Into}
@@ -57,10 +56,6 @@ way_at aim lead = record { by = lead.by; to = key_at aim lead.to }
 -- how many backs a key's row has
 abbrev pub backs_of : Game → List Key → Key → ℕ
 backs_of g keys k = backs_in (row_at g keys k).how
-
--- the key of a back
-abbrev pub key_of_back : StateId × Key → Key
-key_of_back b = b.1
 
 -- the start's height under the promise of all states
 abbrev pub IsStartHeight : Game → ℕ → Type 0

@@ -4,5 +4,6 @@ pub mod Backs
 pub mod Heights
 pub mod Kept
 pub mod Laws
+pub mod Small
 pub mod Strategies
 pub mod There

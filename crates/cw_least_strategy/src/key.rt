@@ -14,6 +14,16 @@ pub struct Key {
     pub aim: StateSet,
 }
 
+/// A key with its aim by number: the place of the aim among those of all contexts, ascending. So small keys are in the order of
+/// the keys that they stand for.
+#[derive(Clone, Copy, Drop, PartialEq, Eq, PartialOrd, Ord)]
+pub(crate) struct SmallKey {
+    pub height: u32,
+    pub pos: u32,
+    pub state: u16,
+    pub aim: u32,
+}
+
 /// A move of the environment, and where it leads.
 #[derive(Clone, Copy, Drop)]
 pub struct Way {

@@ -2,6 +2,7 @@
 #![tactic(auto)]
 
 mod acts;
+mod aims;
 mod contexts;
 mod heights;
 pub mod key;

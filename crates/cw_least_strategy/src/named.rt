@@ -1,42 +1,49 @@
 //! The keys that a key names.
 
 ghost use Rattle.std.specs.Prelude.{◌≡◌, ◌++◌, map, OnOk};
-ghost use Rattle.cw_product.specs.Product.{game_of};
-ghost use Rattle.cw_least_strategy.specs.Acts.{act_of, key_of_back};
-ghost use Rattle.cw_least_strategy.specs.Strategies.{keys_in, named};
+ghost use Rattle.cw_least_strategy.specs.Acts.{act_of};
+ghost use Rattle.cw_least_strategy.specs.Small.{small, small_of_back, Ascend};
+ghost use Rattle.cw_least_strategy.specs.Strategies.{keys_in};
 
 use crate::acts::{Act, act_at};
+use crate::aims::{small, whole};
 use crate::contexts::Entries;
-use crate::key::Key;
-use cw_core::StateId;
+use crate::key::{Key, SmallKey};
+use cw_core::{StateId, StateSet};
 use cw_fixpoint::Steps;
 use cw_solve::Solved;
 use std::alloc::{AllocError, Global};
 
 /// Appends the keys that are named for returns.
-fn put_backs(backs: &[(StateId, Key)], keys: &mut Vec<Key>) -> Result<(), AllocError>
-    ensures { OnOk result (keys.new.items ≡ keys.old.items ++ map key_of_back backs.now) }
+fn put_backs(
+    aims: &[StateSet],
+    backs: &[(StateId, Key)],
+    keys: &mut Vec<SmallKey>,
+) -> Result<(), AllocError>
+    requires ascend { Ascend aims.now }
+    ensures { OnOk result (keys.new.items ≡ keys.old.items ++ map (small_of_back aims.now) backs.now) }
 {
     for back in backs {
-        keys.push(back.1)?;
+        keys.push(small(aims, &back.1))?;
     }
     Ok(())
 }
 
 /// Appends the keys that an act names.
-fn put_keys(act: &Act, keys: &mut Vec<Key>) -> Result<(), AllocError>
-    ensures { OnOk result (keys.new.items ≡ keys.old.items ++ keys_in (act_of act.now)) }
+fn put_keys(aims: &[StateSet], act: &Act, keys: &mut Vec<SmallKey>) -> Result<(), AllocError>
+    requires ascend { Ascend aims.now }
+    ensures { OnOk result (keys.new.items ≡ keys.old.items ++ map (small aims.now) (keys_in (act_of act.now))) }
 {
     match act {
         Act::Bad | Act::Out => {}
         Act::Both { skip, tried } => {
-            keys.push(*skip)?;
-            keys.push(*tried)?;
+            keys.push(small(aims, skip))?;
+            keys.push(small(aims, tried))?;
         }
-        Act::Go(way) => keys.push(way.to)?,
+        Act::Go(way) => keys.push(small(aims, &way.to))?,
         Act::Into { callee, backs } => {
-            keys.push(*callee)?;
-            put_backs(backs, keys)?;
+            keys.push(small(aims, callee))?;
+            put_backs(aims, backs, keys)?;
         }
     }
     Ok(())
@@ -48,22 +55,23 @@ pub(crate) struct Named<'g> {
     pub alloc: Global,
     pub solved: &'g Solved<'g>,
     pub entries: Entries,
+    pub aims: &'g [StateSet],
 }
 
-impl<'g> Steps<Key> for Named<'g> {
+impl<'g> Steps<SmallKey> for Named<'g> {
     ghost use Rattle.cw_product.specs.Product.{game_of};
-    ghost use Rattle.cw_least_strategy.specs.Kept.{IsFollowed, follows};
-    ghost use Rattle.cw_least_strategy.specs.Strategies.{named};
+    ghost use Rattle.cw_least_strategy.specs.Small.{small_named, CanTake, takes};
 
-    ghost after = { λ s k. named (game_of s.solved.now.game) k };
+    ghost after = { λ s k. small_named (game_of s.solved.now.game) s.aims.now k };
 
-    ghost can_follow = { λ s k. IsFollowed s.solved.now k };
+    ghost can_follow = { λ s k. CanTake s.solved.now s.aims.now k };
 
-    fn put_after(&self, key: Key, keys: &mut Vec<Key>) -> Result<(), AllocError> {
+    fn put_after(&self, key: SmallKey, keys: &mut Vec<SmallKey>) -> Result<(), AllocError> {
+        let key = whole(self.aims, &key);
         let act = act_at(self.alloc, self.solved, &self.entries, &key)?;
-        put_keys(&act, keys)?;
+        put_keys(self.aims, &act, keys)?;
         Ok(())
     }
 
-    ghost keeps = { λ s k q can i. follows s.solved.now k q can i };
+    ghost keeps = { λ s k q can i. takes s.solved.now s.aims.now k q can i };
 }

@@ -11,6 +11,7 @@ ghost use Rattle.cw_least_strategy.specs.Acts.{IsLost, IsStartHeight, IsStartKey
 ghost use Rattle.cw_least_strategy.specs.Backs.{BacksAscend};
 ghost use Rattle.cw_least_strategy.specs.Strategies.{IsLeastStrategy, rows_of};
 
+use crate::aims::{aims_of, small};
 use crate::contexts::Entries;
 use crate::key::Key;
 use crate::named::Named;
@@ -60,14 +61,19 @@ fn strategy_within(alloc: Global, solved: &Solved) -> Result<Option<EnvCert>, Al
     ensures many { IfOk result (λ o. IfNone o ((s : Strategy) → IsLeastStrategy (game_of solved.now.game) s → 65536 < rows_of s)) }
 {
     let start = start_key(solved);
+    let entries = Entries::make(alloc, solved)?;
+    let found = aims_of(alloc, solved)?;
+    let aims = found.as_slice();
+    let first = small(aims, &start);
     let named = Named {
         alloc,
         solved,
-        entries: Entries::make(alloc, solved)?,
+        entries,
+        aims,
     };
-    match descended_up_to(alloc, &named, &[start], 65536)? {
+    match descended_up_to(alloc, &named, &[first], 65536)? {
         None => Ok(None),
-        Some(keys) => match rows_within(alloc, solved, &named.entries, &keys)? {
+        Some(keys) => match rows_within(alloc, solved, &named.entries, aims, &keys)? {
             None => Ok(None),
             Some(rows) => Ok(Some(EnvCert {
                 states: solved.game().states(),
