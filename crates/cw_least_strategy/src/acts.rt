@@ -172,6 +172,7 @@ fn into(
     entries: &Entries,
     number: u32,
     key: &Key,
+    near: u32,
     function: u16,
     back: PosId,
     split: bool,
@@ -187,7 +188,7 @@ fn into(
     let pos = solved.game().entry(function);
     let callee = below(
         solved,
-        entries.context_of(solved, pos, state, &aim),
+        entries.context_of(solved, pos, state, &aim, near),
         key,
         pos,
         state,
@@ -197,12 +198,13 @@ fn into(
     Ok(Act::Into { callee, backs })
 }
 
-/// What is done at a key.
+/// What is done at a key, whose aim may have this number.
 pub(crate) fn act_at(
     alloc: Global,
     solved: &Solved,
     entries: &Entries,
     key: &Key,
+    near: u32,
 ) -> Result<Act, AllocError>
     requires routed { AreRouted (game_of solved.now.game) (length solved.now.game.graph.parts.items) }
     requires key { IsKey (game_of solved.now.game) (length solved.now.game.graph.parts.items) key.now }
@@ -210,7 +212,7 @@ pub(crate) fn act_at(
 {
     let pos = PosId(key.pos);
     let state = StateId(key.state);
-    let number = entries.context_of(solved, pos, state, &key.aim);
+    let number = entries.context_of(solved, pos, state, &key.aim, near);
     match solved.game().turn(pos) {
         Turn::Exit { .. } => Ok(Act::Out),
         Turn::Weaver => Ok(Act::Both {
@@ -221,7 +223,17 @@ pub(crate) fn act_at(
             callee,
             split,
             back,
-        } => into(alloc, solved, entries, number, key, callee, back, split),
+        } => into(
+            alloc,
+            solved,
+            entries,
+            number,
+            key,
+            near,
+            callee,
+            back,
+            split,
+        ),
         Turn::Environment => match best(solved, number, key) {
             None => Ok(Act::Bad),
             Some(lead) => Ok(Act::Go(Way {

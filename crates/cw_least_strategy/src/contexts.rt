@@ -19,10 +19,12 @@ struct Entry {
     number: u32,
 }
 
-/// The contexts of a solved game in the order of their entries. What is found there is tested, so no proof rests on the order.
+/// The contexts of a solved game in the order of their entries, and where those of each aim begin. What is found there is tested,
+/// so no proof rests on the order.
 #[derive(Drop)]
 pub(crate) struct Entries {
     entries: Vec<Entry>,
+    firsts: Vec<usize>,
 }
 
 /// The entry of a context.
@@ -39,6 +41,17 @@ fn entry_of(solved: &Solved, number: u32) -> Entry
     }
 }
 
+/// The places at which another aim begins, where entries of one aim stand side by side.
+fn firsts_of(alloc: Global, entries: &[Entry]) -> Result<Vec<usize>, AllocError> {
+    let mut firsts = Vec::new(alloc);
+    for place in 0..entries.len() {
+        if place == 0 || entries[place - 1].aim != entries[place].aim {
+            firsts.push(place)?;
+        }
+    }
+    Ok(firsts)
+}
+
 impl Entries {
     /// The entries of all contexts.
     pub(crate) fn make(alloc: Global, solved: &Solved) -> Result<Entries, AllocError>
@@ -49,7 +62,26 @@ impl Entries {
             entries.push(entry_of(solved, number))?;
         }
         entries.sort()?;
-        Ok(Entries { entries })
+        let firsts = firsts_of(alloc, &entries)?;
+        Ok(Entries { entries, firsts })
+    }
+
+    /// The number of the one context that may have a position and the aim of this number, as aims stand in order.
+    fn number_near(&self, pos: PosId, aim: u32) -> u32 {
+        let Some(first) = self.firsts.get(aim as usize) else {
+            return 0;
+        };
+        let end = match self.firsts.get(aim as usize + 1) {
+            None => self.entries.len(),
+            Some(end) => *end,
+        };
+        let Some(entries) = self.entries.get(*first..end) else {
+            return 0;
+        };
+        match entries.get(entries.partition_point(|entry| entry.last < pos.0)) {
+            None => 0,
+            Some(entry) => entry.number,
+        }
     }
 
     /// The number of the one context that may have this aim and this position.
@@ -68,13 +100,15 @@ impl Entries {
         }
     }
 
-    /// The number of a context that has a position and promises all states but those of an aim.
+    /// The number of a context that has a position and promises all states but those of an aim. A number is looked at first that
+    /// the aim may have among all aims: a key knows that of its own.
     pub(crate) fn context_of(
         &self,
         solved: &Solved,
         pos: PosId,
         state: StateId,
         aim: &StateSet,
+        near: u32,
     ) -> u32
         requires routed { AreRouted (game_of solved.now.game) (length solved.now.game.graph.parts.items) }
         requires there { IsThere (game_of solved.now.game) pos.0 aim.now }
@@ -84,6 +118,10 @@ impl Entries {
         let _ = state;
         solved.contexts_are_needed();
         let promise = others(solved.game(), aim);
+        let number = self.number_near(pos, near);
+        if solved.has_position(number, pos, &promise) {
+            return number;
+        }
         let number = self.number_at(pos, aim);
         if solved.has_position(number, pos, &promise) {
             number

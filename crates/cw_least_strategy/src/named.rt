@@ -67,8 +67,9 @@ impl<'g> Steps<SmallKey> for Named<'g> {
     ghost can_follow = { λ s k. CanTake s.solved.now s.aims.now k };
 
     fn put_after(&self, key: SmallKey, keys: &mut Vec<SmallKey>) -> Result<(), AllocError> {
+        let near = key.aim;
         let key = whole(self.aims, &key);
-        let act = act_at(self.alloc, self.solved, &self.entries, &key)?;
+        let act = act_at(self.alloc, self.solved, &self.entries, &key, near)?;
         put_keys(self.aims, &act, keys)?;
         Ok(())
     }

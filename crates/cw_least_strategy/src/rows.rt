@@ -71,7 +71,7 @@ fn how_by(alloc: Global, aims: &[StateSet], keys: &[SmallKey], act: Act) -> Resu
     }
 }
 
-/// The row of a key: its pair, what it aims at, and how it gets there.
+/// The row of a key, whose aim may have this number: its pair, what it aims at, and how it gets there.
 fn row_at(
     alloc: Global,
     solved: &Solved,
@@ -79,13 +79,15 @@ fn row_at(
     aims: &[StateSet],
     keys: &[SmallKey],
     key: &Key,
+    near: u32,
 ) -> Result<EnvRow, AllocError>
     requires routed { AreRouted (game_of solved.now.game) (length solved.now.game.graph.parts.items) }
     requires key { IsKey (game_of solved.now.game) (length solved.now.game.graph.parts.items) key.now }
     requires ranked { AreRanked aims.now keys.now }
     ensures { IfOk result (λ r. row_of r ≡ row_at (game_of solved.now.game) (wholes aims.now keys.now) key.now) }
 {
-    let how = how_by(alloc, aims, keys, act_at(alloc, solved, entries, key)?)?;
+    let act = act_at(alloc, solved, entries, key, near)?;
+    let how = how_by(alloc, aims, keys, act)?;
     Ok(EnvRow {
         pos: PosId(key.pos),
         state: StateId(key.state),
@@ -122,8 +124,9 @@ pub(crate) fn rows_within(
     let mut rows = Vec::new(alloc);
     let mut left = 65536 - keys.len();
     for key in keys {
+        let near = key.aim;
         let key = whole(aims, key);
-        let row = row_at(alloc, solved, entries, aims, keys, &key)?;
+        let row = row_at(alloc, solved, entries, aims, keys, &key, near)?;
         let backs = backs_in(&row.how);
         if left < backs {
             return Ok(None);
