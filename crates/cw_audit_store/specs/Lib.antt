@@ -2,3 +2,4 @@
 pub mod Stores
 pub mod Finding
 pub mod Listed
+pub mod Nearest

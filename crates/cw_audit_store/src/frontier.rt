@@ -1,22 +1,19 @@
 //! What a search visits next.
 
-ghost use Rattle.std.specs.Prelude.{◌≡◌, ℕ, ◌+◌, [], OnOk, IfSome, IfNone};
-ghost use Rattle.std.specs.BinaryHeap.{heap_len};
+ghost use Rattle.std.specs.Prelude.{◌≡◌, ℕ, ◌+◌, [], ◌∷◌, length, OnOk, IfSome, IfNone, IsPermutation};
 ghost use Rattle.cw_audit_store.specs.Listed.{numbers_of};
+ghost use Rattle.cw_audit_store.specs.Nearest.{IsFirst};
 
 use crate::group_lists::GroupLists;
+use crate::waiting::Waiting;
 use cw_core::NoMemory;
 use std::alloc::Global;
-use std::cmp::Reverse;
-use std::collections::BinaryHeap;
 
 /// The rows that wait to be visited, by their numbers, the nearest first; and the rows that were visited at calls, by the groups to
 /// which they lead, and at ends, by their own groups.
-///
-/// Of the rows that wait nothing but how many there are is promised: what is visited when is a matter of speed.
 #[derive(Drop)]
 pub struct Frontier {
-    pub rows: BinaryHeap<Reverse<(u32, usize)>>,
+    pub rows: Waiting,
     pub calls: GroupLists,
     pub ends: GroupLists,
 }
@@ -24,35 +21,38 @@ pub struct Frontier {
 impl Frontier {
     /// Nothing waits, and nothing was visited.
     pub fn make(alloc: Global) -> Frontier
-        ensures rows { heap_len result.rows ≡ 0 }
+        ensures rows { result.rows ≡ [] }
         ensures calls { (q : ℕ) → numbers_of result.calls q ≡ [] }
         ensures ends { (q : ℕ) → numbers_of result.ends q ≡ [] }
     {
         Frontier {
-            rows: BinaryHeap::new(alloc),
+            rows: Waiting::make(alloc),
             calls: GroupLists::make(alloc),
             ends: GroupLists::make(alloc),
         }
     }
 
-    /// One row more waits. The one error is want of memory.
+    /// The row waits under the key, beside all that waited. The one error is want of memory.
     pub fn put(&mut self, key: u32, row: usize) -> Result<(), NoMemory>
-        ensures rows { OnOk result (heap_len self.new.rows ≡ heap_len self.old.rows + 1) }
+        ensures put { OnOk result (IsPermutation ((key, row) ∷ self.old.rows) self.new.rows) }
+        ensures more { OnOk result (length self.new.rows ≡ length self.old.rows + 1) }
         ensures calls { self.new.calls ≡ self.old.calls }
         ensures ends { self.new.ends ≡ self.old.ends }
     {
-        self.rows.push(Reverse((key, row)))?;
+        self.rows.put(key, row)?;
         Ok(())
     }
 
-    /// The number of a row that waits, with its key. It waits no more.
+    /// The first row by key, with its key. It waits no more, and all else does. None exactly where nothing waits.
     pub fn take(&mut self) -> Option<(u32, usize)>
-        ensures some { IfSome result (λ _. heap_len self.new.rows + 1 ≡ heap_len self.old.rows) }
-        ensures none { IfNone result (heap_len self.new.rows ≡ heap_len self.old.rows) }
+        ensures taken { IfSome result (λ next. IsPermutation self.old.rows (next ∷ self.new.rows)) }
+        ensures first { IfSome result (λ next. IsFirst next self.new.rows) }
+        ensures fewer { IfSome result (λ _. length self.new.rows + 1 ≡ length self.old.rows) }
+        ensures none { IfNone result (self.old.rows ≡ []) }
+        ensures left { IfNone result (length self.new.rows ≡ length self.old.rows) }
         ensures calls { self.new.calls ≡ self.old.calls }
         ensures ends { self.new.ends ≡ self.old.ends }
     {
-        let Reverse(next) = self.rows.pop()?;
-        Some(next)
+        self.rows.take()
     }
 }

@@ -6,9 +6,11 @@ mod group_lists;
 mod lists;
 mod place;
 mod store;
+mod waiting;
 
 pub use frontier::Frontier;
 pub use group_lists::GroupLists;
 pub use lists::Lists;
 pub use place::{Entered, Entrance, Hit, Place, Row, Way};
 pub use store::Store;
+pub use waiting::Waiting;

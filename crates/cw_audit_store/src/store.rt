@@ -1,6 +1,6 @@
 //! What a search has found.
 
-ghost use Rattle.std.specs.Prelude.{◌≡◌, ◌<◌, ◌≤◌, true, Some, None, cond, length, slice_get, IfSome, IfOk, OnOk};
+ghost use Rattle.std.specs.Prelude.{◌≡◌, ℕ, ◌<◌, ◌≤◌, true, Some, None, cond, length, nat_eq, slice_get, IfSome, IfOk, OnOk};
 ghost use Rattle.std.specs.BTreeMap.{is_at};
 ghost use Rattle.indexmap.specs.IndexMap.{index_of, insert_index};
 ghost use Rattle.cw_audit_store.specs.Stores.{row_at, group_at, entrance_eq, place_eq, place_cmp, entrance_cmp, is_lower, is_sooner, is_nearer, work};
@@ -96,10 +96,11 @@ impl Store {
         self.rows.len()
     }
 
-    /// Sets the row of a place, and gives its number. The one error is want of memory.
+    /// Sets the row of a place, and gives its number. Each other row keeps its number. The one error is want of memory.
     pub fn put_row(&mut self, place: Place, row: Row) -> Result<usize, NoMemory>
         requires { row.inside ≤ 65537 }
         ensures number { IfOk result (λ number. number ≡ insert_index place_eq self.old.rows place) }
+        ensures numbers { IfOk result (λ number. (n : ℕ) → slice_get self.new.rows.entries n ≡ cond (nat_eq n number) (Some (place, row)) (slice_get self.old.rows.entries n)) }
         ensures rows { OnOk result ((q : Place) → row_at self.new q ≡ cond (is_at (place_cmp place) q) (Some row) (row_at self.old q)) }
         ensures groups { self.new.groups ≡ self.old.groups }
         ensures hit { self.new.hit ≡ self.old.hit }

@@ -25,9 +25,14 @@ use Rattle.cw_audit_visits.specs.Searching.{IsGroupFalling, IsGroupSet, IsCallAt
 use Rattle.cw_audit_visits.proofs.Sets.{group_reach, group_call}
 use Rattle.cw_audit_visits.proofs.Oks.{by_truth}
 use Rattle.cw_audit_visits.proofs.Proposed.{behind}
+use Rattle.cw_audit_visits.proofs.Waits.{waits_same, wait_trans}
 
 pub gone_trans : (h : Held) (a b c : Search) → IsGoneOn h a b → IsGoneOn h b c → IsGoneOn h a c
-gone_trans h a b c x y = record { kept = y.kept; fallen = fallen_trans (found_of a.store) (found_of b.store) (found_of c.store) x.fallen y.fallen }
+gone_trans h a b c x y = record {
+  kept = y.kept;
+  fallen = fallen_trans (found_of a.store) (found_of b.store) (found_of c.store) x.fallen y.fallen;
+  waits = wait_trans a b c y.fallen x.waits y.waits;
+}
 
 module _ (h : Held) (s s2 : Search) (at : Entrance) (entered : Entered) where
   abbrev g : Game
@@ -36,8 +41,8 @@ module _ (h : Held) (s s2 : Search) (at : Entrance) (entered : Entered) where
   -- a group is set
   pub group_gone_on : IsFairGame h → IsKept (game_of h) (functions_of h) s → IsArrival (game_of h) at.function at.state.0 entered.reach
       → IsCaller (game_of h) (found_of s.store) at.function at.state.0 entered.reach (option_map caller_of entered.call) → IsGroupFalling s at entered.reach
-      → IsGroupSet s.store s2.store at entered → IsGoneOn h s s2
-  group_gone_on fair kept arrival caller falls set =
+      → IsGroupSet s.store s2.store at entered → s2.frontier.rows ≡ s.frontier.rows → IsGoneOn h s s2
+  group_gone_on fair kept arrival caller falls set rests =
       let set2 = group_reach s.store s2.store at.function at.state.0 entered set in
       let falls2 : (a : ℕ) → (found_of s.store).reach at.function at.state.0 ≡ Some a → entered.reach ≤ a =
       λ a e. let r = behind (λ (e : Entered). e.reach) (group_at s.store at) a e in subst (λ m. entered.reach ≤ m) r.2 (falls r.0 r.1) in
@@ -49,6 +54,7 @@ module _ (h : Held) (s s2 : Search) (at : Entrance) (entered : Entered) where
               set2 (group_call s.store s2.store at.function at.state.0 entered set) caller;
         };
         fallen = fallen;
+        waits = waits_same s s2 set.rows rests;
       }
 
   -- then it is there

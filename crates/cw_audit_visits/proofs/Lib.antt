@@ -1,10 +1,12 @@
 -- The proofs.
 pub mod Oks
+pub mod Waits
 pub mod Turns
 pub mod Gone
 pub mod Begun
 pub mod Stepping
 pub mod Ended
 pub mod Swept
+pub mod Visited
 pub mod Sets
 pub mod Proposed

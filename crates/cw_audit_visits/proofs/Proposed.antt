@@ -11,6 +11,7 @@ use Rattle.cw_audit_store.specs.declared.place.Row.{Row}
 use Rattle.cw_audit_store.specs.declared.place.Entered.{Entered}
 use Rattle.cw_audit_store.specs.declared.place.Hit.{Hit}
 use Rattle.cw_audit_store.specs.declared.place.Way.{Way}
+use Rattle.cw_audit_store.specs.declared.store.Store.{Store}
 use Rattle.indexmap.specs.IndexMap.{get}
 use Rattle.cw_audit_store.specs.Stores.{row_at, entrance_eq}
 use Rattle.cw_audit_table.specs.Runs.{cut, skipped}
@@ -21,7 +22,8 @@ use Rattle.cw_audit_search.proofs.Ways.{number_ways, best_ways}
 use Rattle.cw_audit_search.proofs.Setting.{number_sound, number_falls, best_sound, best_falls}
 use Rattle.cw_audit_visits.specs.declared.under_way.Search.{Search}
 use Rattle.cw_audit_visits.specs.Searching.{entrance, place, found_of, functions_of, ways_of, way_of, bad_way_of, reach_of, IsFairGame, IsKept, IsDue, IsTold}
-use Rattle.cw_audit_visits.specs.Searching.{IsNear, IsRowSet, IsHitSet, IsRowFalling, IsHitFalling, IsGoneOn}
+use Rattle.cw_audit_visits.specs.Searching.{IsNear, IsPut, IsRowSet, IsHitSet, IsRowFalling, IsHitFalling, IsGoneOn}
+use Rattle.cw_audit_visits.proofs.Waits.{waits_same, put_waits}
 use Rattle.cw_audit_visits.proofs.Sets.{row_number, hit_best, row_way, hit_way}
 
 abbrev pub at_rest : Place → ℕ → Place
@@ -36,6 +38,11 @@ number_at s at r e = ap (option_map (λ (r : Row). r.inside)) e
 pub behind : {A : Type 0} (f : A → ℕ) (o : Option A) (a : ℕ) → option_map f o ≡ Some a → (r : A) × (o ≡ Some r) × (f r ≡ a)
 behind f None a e = absurd (none-some a e)
 behind f (Some r) a e = (r, refl, same_Some (f r) a e)
+
+-- the reach of a group is the same where the groups are
+pub reach_same : (s s2 : Search) (at : Place) (r : ℕ) → s2.store.groups ≡ s.store.groups → reach_of s at ≡ Some r → reach_of s2 at ≡ Some r
+reach_same s s2 at r groups e =
+    ap (λ m. option_map (λ (e : Entered). e.reach) (get entrance_eq m (entrance at.entrance.function at.entrance.state.0))) groups ∙ e
 
 module _ (h : Held) (s : Search) (at : Place) (n p : ℕ) (is : p ≡ skipped (game_of h) at.pos.0) where
   abbrev bad_at : ℕ → Bool
@@ -64,8 +71,8 @@ module _ (h : Held) (s : Search) (at : Place) (n p : ℕ) (is : p ≡ skipped (g
 
     -- a row is set
     pub row_gone_on : (group : ℕ) → bad_at p ≡ false → IsRowFalling s (at_rest at p) n → IsRowSet s.store s2.store (at_rest at p) (record { inside = n; way = by; group = group })
-        → IsGoneOn h s s2
-    row_gone_on group good falls set =
+        → (reach : ℕ) → reach_of s at ≡ Some reach → IsPut s s2 (at_rest at p) reach → IsGoneOn h s s2
+    row_gone_on group good falls set reach known put =
         let row : Row = record { inside = n; way = by; group = group } in
         let there = subst (λ p. IsRowSet s.store s2.store (at_rest at p) row) is set in
         let wset = row_way s.store s2.store f q (skipped g at.pos.0) at.state.0 row there in
@@ -81,12 +88,13 @@ module _ (h : Held) (s : Search) (at : Place) (n p : ℕ) (is : p ≡ skipped (g
             ways = number_ways g (found_of s.store) (found_of s2.store) fallen (ways_of s.store) (ways_of s2.store) kept.ways f q (skipped g at.pos.0) x n (way_of by) set2 wset due.leads;
           };
           fallen = fallen;
+          waits = put_waits s s2 (at_rest at p) reach (reach_same s s2 at reach set.groups known) put;
         }
 
     -- a violation is set
     pub hit_gone_on : (reach d : ℕ) → d ≡ cut (reach + n) → reach_of s at ≡ Some reach → bad_at p ≡ true → IsHitFalling s d
-        → IsHitSet s.store s2.store (record { distance = d; entrance = at.entrance; way = by }) → IsGoneOn h s s2
-    hit_gone_on reach d number er bad falls set =
+        → IsHitSet s.store s2.store (record { distance = d; entrance = at.entrance; way = by }) → s2.frontier.rows ≡ s.frontier.rows → IsGoneOn h s s2
+    hit_gone_on reach d number er bad falls set rests =
         let set2 = hit_best s.store s2.store (record { distance = d; entrance = at.entrance; way = by }) set in
         let hit = proposal_hits g (functions_of h) fair (found_of s.store) kept.sound f q at.pos.0 at.state.0 n reach due.proposal er (sym (ap bad_at is) ∙ bad) in
         let fallen = best_falls g (functions_of h) fair (found_of s.store) (found_of s2.store) kept.sound d set2
@@ -108,16 +116,18 @@ module _ (h : Held) (s : Search) (at : Place) (n p : ℕ) (is : p ≡ skipped (g
                 });
           };
           fallen = fallen;
+          waits = waits_same s s2 set.rows rests;
         }
 
 -- nothing is set
-pub stays : (h : Held) (s s2 : Search) → s2.store ≡ s.store → IsKept (game_of h) (functions_of h) s → IsGoneOn h s s2
-stays h s s2 e kept = record {
+pub stays : (h : Held) (s s2 : Search) → s2.store ≡ s.store → s2.frontier.rows ≡ s.frontier.rows → IsKept (game_of h) (functions_of h) s → IsGoneOn h s s2
+stays h s s2 e rests kept = record {
   kept = record {
     sound = subst (λ t. IsSound (game_of h) (functions_of h) (found_of t)) (sym e) kept.sound;
     ways = subst (λ t. AreWays (game_of h) (found_of t) (ways_of t)) (sym e) kept.ways;
   };
   fallen = subst (λ t. HasFallen (found_of s.store) (found_of t)) (sym e) (fallen_refl (found_of s.store));
+  waits = waits_same s s2 (ap (λ (t : Store). t.rows) e) rests;
 }
 
 -- the reach of a group that is known
@@ -125,8 +135,3 @@ pub reach_low : (h : Held) (s : Search) (at : Place) (r : ℕ) → IsKept (game_
 reach_low h s at r kept e =
     let a = kept.sound.entered at.entrance.function at.entrance.state.0 r e in
     omega (arith, a.number, min-le_right a.moves 65537)
-
--- it is the same where the groups are
-pub reach_same : (s s2 : Search) (at : Place) (r : ℕ) → s2.store.groups ≡ s.store.groups → reach_of s at ≡ Some r → reach_of s2 at ≡ Some r
-reach_same s s2 at r groups e =
-    ap (λ m. option_map (λ (e : Entered). e.reach) (get entrance_eq m (entrance at.entrance.function at.entrance.state.0))) groups ∙ e

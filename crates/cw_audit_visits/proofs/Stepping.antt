@@ -110,7 +110,7 @@ module _ (h : Held) (s : Search) (met : Met) (f n : ℕ) (there : IsThere s met)
   pub callee_caller : IsCaller (game_of h) (found_of s.store) f met.place.state.0 n (Some (caller_of met.place))
   callee_caller = (met.reach, met.row.inside, there.reach, ap (option_map (λ (r : Row). r.inside)) there.row, omega (arith, number), (j, k, call))
 
-not_call : (spot : Option Spot) → is_inner spot ≡ true → (j h k : ℕ) → spot ≡ Some (Call j h k) → ⊥
+pub not_call : (spot : Option Spot) → is_inner spot ≡ true → (j h k : ℕ) → spot ≡ Some (Call j h k) → ⊥
 not_call spot i j h k e = let z : true ≡ false = sym i ∙ ap is_inner e in cc
 
 not_inner : (spot : Option Spot) → (j h k : ℕ) → spot ≡ Some (Call j h k) → is_inner spot ≡ true → ⊥

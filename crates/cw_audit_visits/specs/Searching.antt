@@ -1,11 +1,11 @@
 -- A search under way, by what it has found.
-use Rattle.std.specs.Prelude.{◌≡◌, ℕ, ◌+◌, ◌*◌, ◌<◌, ◌≤◌, List, [], Bool, true, false, cond, Option, Some, length, slice_get}
-use Rattle.std.specs.BinaryHeap.{heap_len}
+use Rattle.std.specs.Prelude.{◌≡◌, ℕ, ◌+◌, ◌*◌, ◌<◌, ◌≤◌, ◌⊎◌, List, [], Bool, true, false, cond, Option, Some, length, slice_get, Contains}
 use Rattle.cw_certs.specs.declared.moves.Move.{Move}
 use Rattle.cw_game.specs.declared.spots.Spot.{Spot}
 use Rattle.cw_game.specs.declared.spots.Spot.TheVariants.{Call}
 use Rattle.cw_game.specs.Games.{Game, Config, leads_in}
-use Rattle.cw_audit_table.specs.Runs.{cut, skipped}
+use Rattle.cw_audit_table.specs.Runs.{cut, is_step, skipped}
+use Rattle.cw_audit_table.specs.Conditions.{is_inner}
 use Rattle.cw_product.specs.Product.{Held, game_of}
 use Rattle.cw_audit_store.specs.declared.place.Entrance.{Entrance}
 use Rattle.cw_audit_store.specs.declared.place.Place.{Place}
@@ -30,7 +30,7 @@ use Rattle.cw_audit_visits.specs.declared.under_way.Search.{Search}
 
 -- what is left to do: each number that falls has one place more wait at most
 abbrev pub left : Search → ℕ
-left s = 2 * work s.store + heap_len s.frontier.rows
+left s = 2 * work s.store + length s.frontier.rows
 
 -- Whether a step changed anything is told: where not, all is as it was; else less is left.
 pub record Tells (old new : Search) (changed : Bool) : Type 0 where
@@ -48,10 +48,35 @@ functions_of h = length h.graph.parts.items
 abbrev pub IsFairGame : Held → Type 0
 IsFairGame h = IsFair (game_of h) (functions_of h)
 
--- it goes on: numbers only fall
+-- the reach of a place's group
+abbrev pub reach_of : Search → Place → Option ℕ
+reach_of s at = (found_of s.store).reach at.entrance.function at.entrance.state.0
+
+-- the row with the number waits under the key
+abbrev pub Waits : Search → (key number : ℕ) → Type 0
+Waits s key number = Contains s.frontier.rows (key, number)
+
+-- the row with the number waits under a key that isn't less than how far it is from the start
+abbrev pub WaitsFor : Search → (number : ℕ) → Place → Row → Type 0
+WaitsFor s number at row = (key : ℕ) × (r : ℕ) × Waits s key number × (reach_of s at ≡ Some r) × (r + row.inside ≤ key)
+
+-- what waited still waits, and so does each row that was made or lowered
+pub record WaitOn (old new : Search) : Type 0 where
+  pub kept : (key number : ℕ) → Waits old key number → Waits new key number
+  pub made : (number : ℕ) (at : Place) (row : Row) → slice_get new.store.rows.entries number ≡ Some (at, row)
+      → (slice_get old.store.rows.entries number ≡ Some (at, row)) ⊎ WaitsFor new number at row
+
+-- what waited still waits, and so does the row of the place, where it was made or lowered, in a group of that reach
+pub record IsPut (old new : Search) (place : Place) (reach : ℕ) : Type 0 where
+  pub kept : (key number : ℕ) → Waits old key number → Waits new key number
+  pub made : (number : ℕ) (at : Place) (row : Row) → slice_get new.store.rows.entries number ≡ Some (at, row)
+      → (slice_get old.store.rows.entries number ≡ Some (at, row)) ⊎ ((at ≡ place) × Waits new (reach + row.inside) number)
+
+-- it goes on: numbers only fall, and where one does the row waits
 pub record IsGoneOn (h : Held) (old new : Search) : Type 0 where
   pub kept : IsKept (game_of h) (functions_of h) new
   pub fallen : HasFallen (found_of old.store) (found_of new.store)
+  pub waits : WaitOn old new
 
 -- the place may be proposed, with so many moves and this way
 pub record IsDue (h : Held) (s : Search) (at : Place) (n : ℕ) (by : Way) : Type 0 where
@@ -101,9 +126,6 @@ abbrev pub IsGroupNear : Search → Entrance → ℕ → Type 0
 IsGroupNear s at n = (e : Entered) × (group_at s.store at ≡ Some e) × (e.reach ≤ n)
 
 -- where the move leads from the place may be proposed; and is told of
-abbrev pub reach_of : Search → Place → Option ℕ
-reach_of s at = (found_of s.store).reach at.entrance.function at.entrance.state.0
-
 abbrev pub number_of : Search → Place → Option ℕ
 number_of s at = (found_of s.store).number at.entrance.function at.entrance.state.0 at.pos.0 at.state.0
 
@@ -150,6 +172,16 @@ pub record IsCallOf (h : Held) (at : Place) (f k : ℕ) : Type 0 where
 -- the callee is entered no later than by one move more than the call's row
 abbrev pub IsCallNear : Search → Calling → Type 0
 IsCallNear s call = IsGroupNear s (record { function = call.callee; state = call.met.place.state }) (cut (call.met.reach + call.met.row.inside + 1))
+
+-- the moves from the place are told of, where it is within its function, and its callee is entered no later, where it is a call
+pub record AreLeadsTold (h : Held) (s : Search) (at : Place) (row : Row) (r : ℕ) : Type 0 where
+  pub moves : is_inner (spot_at h at) ≡ true → (by : Move) → is_step by ≡ true → IsStepTold h s at row.inside by
+  pub callee : (f k : ℕ) → IsCallAt h at f k → IsGroupNear s (entrance f at.state.0) (cut (r + row.inside + 1))
+
+-- so they are of the row with the number, where it isn't nearer than by the key
+abbrev pub AreLeadsToldBy : Held → Search → (key number : ℕ) → Type 0
+AreLeadsToldBy h s key number =
+    (at : Place) (row : Row) (r : ℕ) → slice_get s.store.rows.entries number ≡ Some (at, row) → reach_of s at ≡ Some r → key ≤ r + row.inside → AreLeadsTold h s at row r
 
 -- the entry of each group is told of
 abbrev pub IsEntryTold : Held → Search → (f q r : ℕ) → Type 0

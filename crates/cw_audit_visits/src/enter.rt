@@ -28,6 +28,7 @@ fn reach(
     ensures near { IfOk result (λ changed. changed ≡ false → IsGroupNear search.old entrance entered.reach) }
     ensures falls { IfOk result (λ changed. changed ≡ true → IsGroupFalling search.old entrance entered.reach) }
     ensures set { IfOk result (λ changed. changed ≡ true → IsGroupSet search.old.store search.new.store entrance entered) }
+    ensures rests { search.new.frontier.rows ≡ search.old.frontier.rows }
 {
     if let Some(old) = search.store.group_by(number, entrance)
         && old.reach <= entered.reach

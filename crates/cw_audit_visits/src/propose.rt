@@ -3,7 +3,7 @@
 ghost use Rattle.std.specs.Prelude.{◌≡◌, ◌<◌, ◌≤◌, true, false, Some, IfOk, OnOk};
 ghost use Rattle.cw_product.specs.Moves.{IsPosition, IsState};
 ghost use Rattle.cw_product.specs.Product.{game_of};
-ghost use Rattle.cw_audit_visits.specs.Searching.{IsDue, IsHitNear, IsHitSet, IsNear, IsRowSet, IsFairGame, IsGoneOn, IsHitFalling, IsRowFalling, IsKept, IsTold, Tells, functions_of, reach_of};
+ghost use Rattle.cw_audit_visits.specs.Searching.{IsDue, IsHitNear, IsHitSet, IsNear, IsPut, IsRowSet, IsFairGame, IsGoneOn, IsHitFalling, IsRowFalling, IsKept, IsTold, Tells, functions_of, reach_of};
 
 use crate::under_way::Search;
 use cw_audit_store::{Hit, Place, Row};
@@ -19,6 +19,8 @@ fn lower(search: &mut Search, reach: u32, place: Place, row: Row) -> Result<bool
     ensures near { IfOk result (λ changed. changed ≡ false → IsNear search.old place row.inside) }
     ensures falls { IfOk result (λ changed. changed ≡ true → IsRowFalling search.old place row.inside) }
     ensures set { IfOk result (λ changed. changed ≡ true → IsRowSet search.old.store search.new.store place row) }
+    ensures put { IfOk result (λ changed. changed ≡ true → IsPut search.old search.new place reach) }
+    ensures rests { IfOk result (λ changed. changed ≡ false → search.new.frontier.rows ≡ search.old.frontier.rows) }
     ensures groups { search.new.store.groups ≡ search.old.store.groups }
 {
     if let Some(old) = search.store.row(place)
@@ -38,6 +40,7 @@ fn violate(search: &mut Search, hit: Hit) -> bool
     ensures near { result ≡ false → IsHitNear search.old hit.distance }
     ensures falls { result ≡ true → IsHitFalling search.old hit.distance }
     ensures set { result ≡ true → IsHitSet search.old.store search.new.store hit }
+    ensures rests { search.new.frontier.rows ≡ search.old.frontier.rows }
     ensures groups { search.new.store.groups ≡ search.old.store.groups }
 {
     if let Some(nearest) = search.store.hit

@@ -1,8 +1,8 @@
 //! What a row leads to.
 
-ghost use Rattle.std.specs.Prelude.{IfOk, OnOk};
+ghost use Rattle.std.specs.Prelude.{◌≡◌, false, IfOk, OnOk};
 ghost use Rattle.cw_product.specs.Product.{game_of};
-ghost use Rattle.cw_audit_visits.specs.Searching.{IsFairGame, IsGoneOn, IsKept, Tells, functions_of};
+ghost use Rattle.cw_audit_visits.specs.Searching.{AreLeadsToldBy, IsFairGame, IsGoneOn, IsKept, Tells, functions_of};
 
 use crate::enter::call;
 use crate::group_numbers::number_of;
@@ -15,13 +15,15 @@ use cw_core::NoMemory;
 use cw_product::Game;
 
 /// All that the row with the number leads to is proposed, where it isn't nearer than by the key with which it waited: then it waits,
-/// or was visited, by that. The answer is whether anything changed.
+/// or was visited, by that. The answer is whether anything changed: where nothing did, its moves and its callee are told of. What
+/// waited still waits, and so does each row that was made or lowered.
 ///
-/// That it is all is not promised: `settle` shows what is settled.
+/// What is behind returns isn't promised: `settle` shows what is settled.
 pub fn visit(game: &Game, search: &mut Search, key: u32, number: usize) -> Result<bool, NoMemory>
     requires fair { IsFairGame game.now }
     requires kept { IsKept (game_of game.now) (functions_of game.now) search.old }
     ensures tells { IfOk result (λ changed. Tells search.old search.new changed) }
+    ensures told { IfOk result (λ changed. changed ≡ false → AreLeadsToldBy game.now search.old key number) }
     ensures goes_on { OnOk result (IsGoneOn game.now search.old search.new) }
 {
     let Some(met) = meet(search, number) else {

@@ -5,7 +5,7 @@ use Rattle.cw_audit_visits.proofs.Proposed.{stays}
 use Rattle.cw_audit_visits.proofs.enter.enter.Goals as goal
 
 pub returns-then-not-branch-clause-goes_on : goal.returns-then-not-branch-clause-goes_on
-returns-then-not-branch-clause-goes_on c = stays c.args.game.now c.args.search.now c.reach.new.search (c.in_ok-reach.ensures.tells.same cc).0 c.requires.kept
+returns-then-not-branch-clause-goes_on c = stays c.args.game.now c.args.search.now c.reach.new.search (c.in_ok-reach.ensures.tells.same cc).0 c.reach.ensures.rests c.requires.kept
 
 pub propose-requires-clause-reach : goal.propose-requires-clause-reach
 propose-requires-clause-reach c = group_there c.args.game.now c.args.search.now c.reach.new.search c.args.entrance c.args.entered (c.in_ok-reach.ensures.set cc)
@@ -13,14 +13,14 @@ propose-requires-clause-reach c = group_there c.args.game.now c.args.search.now 
 pub propose-requires-clause-kept : goal.propose-requires-clause-kept
 propose-requires-clause-kept c =
     (group_gone_on c.args.game.now c.args.search.now c.reach.new.search c.args.entrance c.args.entered c.requires.fair c.requires.kept c.requires.arrival c.requires.caller
-    (c.in_ok-reach.ensures.falls cc) (c.in_ok-reach.ensures.set cc)).kept
+    (c.in_ok-reach.ensures.falls cc) (c.in_ok-reach.ensures.set cc) c.reach.ensures.rests).kept
 
 pub propose-requires-clause-due : goal.propose-requires-clause-due
 propose-requires-clause-due c =
     let h = c.args.game.now in
     let s1 = c.reach.new.search in
     let gone = group_gone_on h c.args.search.now s1 c.args.entrance c.args.entered c.requires.fair c.requires.kept c.requires.arrival c.requires.caller
-    (c.in_ok-reach.ensures.falls cc) (c.in_ok-reach.ensures.set cc) in
+    (c.in_ok-reach.ensures.falls cc) (c.in_ok-reach.ensures.set cc) c.reach.ensures.rests in
     entry_due h s1 c.args.entrance.function c.args.entrance.state.0 c.entry.result c.requires.fair gone.kept c.entry.ensures.is
     (c.args.entered.reach, group_there h c.args.search.now s1 c.args.entrance c.args.entered (c.in_ok-reach.ensures.set cc))
 
@@ -35,5 +35,5 @@ pub returns-clause-goes_on : goal.returns-clause-goes_on
 returns-clause-goes_on c =
     gone_trans c.args.game.now c.args.search.now c.reach.new.search c.propose.new.search
     (group_gone_on c.args.game.now c.args.search.now c.reach.new.search c.args.entrance c.args.entered c.requires.fair c.requires.kept c.requires.arrival c.requires.caller
-    (c.in_ok-reach.ensures.falls cc) (c.in_ok-reach.ensures.set cc))
+    (c.in_ok-reach.ensures.falls cc) (c.in_ok-reach.ensures.set cc) c.reach.ensures.rests)
     c.in_ok-propose.ensures.goes_on

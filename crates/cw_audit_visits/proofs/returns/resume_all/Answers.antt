@@ -8,7 +8,7 @@ pub loop-place-init : goal.loop-place-init
 loop-place-init c =
     let s = c.args.search.now in
     let s1 : Search = record { store = s.store; frontier = record { rows = s.frontier.rows; calls = s.frontier.calls; ends = c.put.new.self } } in
-    record { tells = tells_nothing s s1 refl refl; goes_on = stays c.args.game.now s s1 refl c.requires.kept }
+    record { tells = tells_nothing s s1 refl refl; goes_on = stays c.args.game.now s s1 refl refl c.requires.kept }
 
 pub loop-place-preserved : goal.loop-place-preserved
 loop-place-preserved c =

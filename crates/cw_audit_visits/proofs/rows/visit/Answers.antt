@@ -1,4 +1,7 @@
-use Rattle.cw_audit_visits.proofs.Gone.{gone_trans, there_placed}
+use Rattle.std.proofs.Common.{◌∙◌, refl, sym}
+use Rattle.cw_audit_visits.proofs.Oks.{when_ok, at_ok}
+use Rattle.cw_audit_visits.proofs.Gone.{gone_trans, neither, there_placed}
+use Rattle.cw_audit_visits.proofs.Visited.{leads_unknown, leads_within, leads_end, leads_call}
 use Rattle.cw_audit_visits.proofs.rows.visit.Goals as goal
 
 pub is_within-requires-clause-placed : goal.is_within-requires-clause-placed
@@ -6,6 +9,25 @@ is_within-requires-clause-placed c = there_placed c.args.game.now c.args.search.
 
 pub call_at-requires-clause-placed : goal.call_at-requires-clause-placed
 call_at-requires-clause-placed c = there_placed c.args.game.now c.args.search.now c.in-Some.met c.requires.kept c.in-Some.ensures.there
+
+pub returns-in_default-clause-told : goal.returns-in_default-clause-told
+returns-in_default-clause-told c = λ b. leads_unknown c.args.game.now c.args.search.now c.args.key c.args.number c.in_default.ensures.none
+
+pub returns-then-is_within-clause-told : goal.returns-then-is_within-clause-told
+returns-then-is_within-clause-told c = when_ok c.steps.result (λ changed e b.
+    leads_within c.args.game.now c.args.search.now c.args.key c.args.number c.in-Some.met c.in-Some.ensures.entry c.in-Some.ensures.there (sym c.is_within.ensures ∙ c.if-is_within.true)
+    (at_ok _ c.steps.result changed e c.steps.ensures.told b))
+
+pub returns-in_default-call_at-clause-told : goal.returns-in_default-call_at-clause-told
+returns-in_default-call_at-clause-told c = when_ok c.resume_all.result (λ changed e b.
+    leads_end c.args.game.now c.args.search.now c.args.key c.args.number c.in-Some.met c.in-Some.ensures.entry c.in-Some.ensures.there (sym c.is_within.ensures ∙ c.if-is_within.false)
+    c.in_default-call_at.ensures.none)
+
+pub returns-clause-told : goal.returns-clause-told
+returns-clause-told c = λ b.
+    let n = neither c.in_ok-entered.entered c.in_ok-returned.returned b in
+    leads_call c.args.game.now c.args.search.now c.args.key c.args.number c.in-Some.met c.in-Some.ensures.entry c.in-Some.ensures.there (sym c.is_within.ensures ∙ c.if-is_within.false)
+    (record { met = c.in-Some.met; callee = c.in-Some-call_at.callee; back = c.in-Some-call_at.back }) refl c.in-Some-call_at.ensures.some (c.in_ok-entered.ensures.near n.0)
 
 pub returns-clause-goes_on : goal.returns-clause-goes_on
 returns-clause-goes_on c =

@@ -1,3 +1,5 @@
+use Rattle.std.proofs.lemmas.Result.{on_ok_weaker}
+use Rattle.cw_audit_visits.proofs.Gone.{gone_trans}
 use Rattle.cw_audit_visits.proofs.Stepping.{there_same, visited_call, returns_same}
 use Rattle.cw_audit_visits.proofs.Ended.{call_ends}
 use Rattle.cw_audit_visits.proofs.Oks.{when_ok, at_ok}
@@ -16,3 +18,7 @@ returns-clause-visited c = when_ok c.return_each.result (λ changed e b.
     visited_call c.args.game.now c.args.search.now c.args.calling c.requires.there c.requires.call c.requires.begun (c.in_ok-call.ensures.near cc)
     (λ y. returns_same c.args.game.now c.args.search.now c.call.new.search c.args.calling.met.place c.args.calling.callee c.args.calling.back.0 y (c.in_ok-call.ensures.tells.same cc).0
     (at_ok _ c.return_each.result changed e c.return_each.ensures.told b y)))
+
+pub returns-clause-goes_on : goal.returns-clause-goes_on
+returns-clause-goes_on c =
+    on_ok_weaker c.return_each.result (gone_trans c.args.game.now c.args.search.now c.call.new.search c.return_each.new.search c.in_ok-call.ensures.goes_on) c.return_each.ensures.goes_on

@@ -1,7 +1,18 @@
-use Rattle.std.proofs.Common.{◌<◌, ◌^◌, refl, arith, length}
+use Rattle.std.proofs.Common.{ℕ, ◌<◌, ◌^◌, ◌∙◌, Some, cond, refl, sym, ap, arith, length}
+use Rattle.std.specs.Prelude.{nat_eq, slice_get}
 use Rattle.cw_audit_store.specs.declared.store.Store.{Store}
+use Rattle.cw_audit_store.specs.Stores.{place_eq}
+use Rattle.cw_audit_store.proofs.Orders.{equal_places}
+use Rattle.cw_audit_store.proofs.Placed.{set_at}
 use Rattle.cw_audit_store.proofs.Work.{row_lowered}
 use Rattle.cw_audit_store.proofs.store.Store.put_row.Goals as goal
+
+pub returns-clause-numbers : goal.returns-clause-numbers
+returns-clause-numbers c = λ n.
+    let old = c.args.self.now.rows.entries in
+    ap (λ es. slice_get es n) c.in_ok-number.ensures.entries
+    ∙ set_at place_eq c.args.place c.args.row (λ q e. sym (equal_places c.args.place q e)) old n
+    ∙ ap (λ (i : ℕ). cond (nat_eq n i) (Some (c.args.place, c.args.row)) (slice_get old n)) (sym c.in_ok-number.ensures.index)
 
 pub returns-clause-less : goal.returns-clause-less
 returns-clause-less c =
