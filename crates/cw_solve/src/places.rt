@@ -1,28 +1,21 @@
 //! Where a context may stand among others.
 
-ghost use Rattle.std.specs.Prelude.{◌≡◌, ◌&&◌, nat_eq, IsTrue, Some, slice_get};
+ghost use Rattle.std.specs.Prelude.{◌≡◌, ℕ, ◌+◌, ◌++◌, [], ◌∷◌, ◌&&◌, nat_eq, true, false, Some, slice_get, Contains, IfSome, IfNone, OnOk};
 ghost use Rattle.cw_solve.specs.Contexts.{context};
+ghost use Rattle.cw_solve.specs.Placed.{AreListed, AreOthers, numbers_of};
 
 use crate::contexts::Context;
 use crate::table::place_of;
 use cw_core::StateSet;
 use std::alloc::{AllocError, Global};
 
-/// The contexts of each function, the last one first: of each function its last one, and of each context the one of the same
-/// function before it. A number is one more than a context's, and 0 is none. What is found here is tested, so nothing is
-/// asked of it, and no proof rests on it.
+/// The numbers of contexts, from 0 in the order in which they are added, in lists by their functions. What is found here is tested,
+/// so nothing is asked of it.
 #[derive(Drop)]
 pub struct Places {
-    latest: Vec<u32>,
-    before: Vec<u32>,
-}
-
-/// The number that stands somewhere, 0 where none does.
-fn number_at(numbers: &[u32], place: usize) -> u32 {
-    match numbers.get(place) {
-        None => 0,
-        Some(number) => *number,
-    }
+    lists: Vec<Vec<u32>>,
+    count: u32,
+    alloc: Global,
 }
 
 /// Whether a context is that of this function and this promise.
@@ -34,7 +27,8 @@ fn is_context(context: &Context, function: u16, promise: &StateSet) -> bool
 
 /// Whether the context of a number has this function and this promise.
 fn is_at(contexts: &[Context], number: u32, function: u16, promise: &StateSet) -> bool
-    ensures { IsTrue result → slice_get contexts.now number ≡ Some (context function promise.now) }
+    ensures there { result ≡ true → slice_get contexts.now number ≡ Some (context function promise.now) }
+    ensures other { result ≡ false → slice_get contexts.now number ≡ Some (context function promise.now) → ⊥ }
 {
     match contexts.get(number as usize) {
         None => false,
@@ -42,55 +36,79 @@ fn is_at(contexts: &[Context], number: u32, function: u16, promise: &StateSet) -
     }
 }
 
-impl Places {
-    ghost use Rattle.std.specs.Prelude.{◌≡◌, Some, slice_get, Contains, IfSome, IfNone};
-    ghost use Rattle.cw_solve.specs.Contexts.{context};
+/// The last of the numbers whose context has this function and this promise.
+fn find_among(
+    contexts: &[Context],
+    numbers: &[u32],
+    function: u16,
+    promise: &StateSet,
+) -> Option<u32>
+    ensures some { IfSome result (λ n. slice_get contexts.now n ≡ Some (context function promise.now)) }
+    ensures none { IfNone result (AreOthers contexts.now (context function promise.now) numbers.now 0) }
+{
+    let mut at = numbers.len();
+    while at > 0 {
+        at -= 1;
+        if is_at(contexts, numbers[at], function, promise) {
+            return Some(numbers[at]);
+        }
+    }
+    None
+}
 
-    /// No contexts.
-    pub fn make(alloc: Global) -> Places {
+impl Places {
+    /// No contexts: each list is empty.
+    pub fn make(alloc: Global) -> Places
+        ensures lists { (f : ℕ) → numbers_of result f ≡ [] }
+        ensures count { result.count ≡ 0 }
+    {
         Places {
-            latest: Vec::new(alloc),
-            before: Vec::new(alloc),
+            lists: Vec::new(alloc),
+            count: 0,
+            alloc,
         }
     }
 
-    /// Adds the next context, which is one of this function. The one error is want of memory.
-    pub fn push(&mut self, function: u16) -> Result<(), AllocError> {
+    /// Adds the next context, which is one of this function: its number stands at the end of that function's list. The one error
+    /// is want of memory, or of a number in 32 bits.
+    pub fn push(&mut self, function: u16) -> Result<(), AllocError>
+        ensures here { OnOk result (numbers_of self.new function ≡ numbers_of self.old function ++ self.old.count ∷ []) }
+        ensures others { OnOk result ((f : ℕ) → nat_eq function f ≡ false → numbers_of self.new f ≡ numbers_of self.old f) }
+        ensures count { OnOk result (self.new.count ≡ self.old.count + 1) }
+    {
+        let number = self.count;
+        let Some(count) = number.checked_add(1) else {
+            return Err(AllocError);
+        };
         let function = function as usize;
-        if self.latest.len() <= function {
-            self.latest.resize(function + 1, 0)?;
+        while self.lists.len() <= function {
+            self.lists.push(Vec::new(self.alloc))?;
         }
-        self.before.push(number_at(&self.latest, function))?;
-        let number = self.before.len().min(u32::MAX as usize) as u32;
-        if let Some(latest) = self.latest.get_mut(function) {
-            *latest = number;
-        }
+        self.lists[function].push(number)?;
+        self.count = count;
         Ok(())
     }
 
-    /// The number of the context of a function with this promise, where it is found among those of the function.
-    pub(crate) fn find(
-        &self,
-        contexts: &[Context],
-        function: u16,
-        promise: &StateSet,
-    ) -> Option<u32>
-        ensures { IfSome result (λ i. slice_get contexts.now i ≡ Some (context function promise.now)) }
+    // The list of a function.
+    fn list(&self, function: u16) -> &[u32]
+        ensures { result.now ≡ numbers_of self.now function }
     {
-        let mut next = number_at(&self.latest, function as usize);
-        for _ in 0..self.before.len() {
-            if next == 0 {
-                return None;
-            }
-            if is_at(contexts, next - 1, function, promise) {
-                return Some(next - 1);
-            }
-            next = number_at(&self.before, next as usize - 1);
+        match self.lists.get(function as usize) {
+            Some(numbers) => numbers,
+            None => &[],
         }
-        None
     }
 
-    /// The number of a context; none where it isn't there.
+    /// The number of the context of a function with this promise, where it is found in the list of the function. Where the lists
+    /// have all contexts it is found, or isn't there.
+    pub fn find(&self, contexts: &[Context], function: u16, promise: &StateSet) -> Option<u32>
+        ensures some { IfSome result (λ n. slice_get contexts.now n ≡ Some (context function promise.now)) }
+        ensures none { IfNone result (AreListed self.now contexts.now → Contains contexts.now (context function promise.now) → ⊥) }
+    {
+        find_among(contexts, self.list(function), function, promise)
+    }
+
+    /// The number of a context; none where it isn't there, whatever the lists have.
     pub fn place_of(&self, contexts: &[Context], function: u16, promise: &StateSet) -> Option<usize>
         ensures some { IfSome result (λ i. slice_get contexts.now i ≡ Some (context function promise.now)) }
         ensures none { IfNone result (Contains contexts.now (context function promise.now) → ⊥) }
