@@ -11,3 +11,4 @@ pub mod Without
 pub mod Calling
 pub mod Beginnings
 pub mod Mentioned
+pub mod Placing

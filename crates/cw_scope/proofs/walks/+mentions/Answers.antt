@@ -5,7 +5,7 @@ use Rattle.cw_syntax.specs.declared.program.Expr.{out-Expr}
 use Rattle.cw_syntax.specs.Trees.{tree_of, trees_of}
 use Rattle.cw_scope.specs.Held.{tree_at}
 use Rattle.cw_scope.specs.Mentions.{own_name, own_call, names_at, calls_at, names_all, calls_all}
-use Rattle.cw_scope.proofs.Pushed.{further}
+use Rattle.cw_scope.proofs.Pushed.{further, all_gone}
 use Rattle.cw_scope.proofs.Mentioned.{names_of, calls_of}
 use Rattle.cw_scope.proofs.walks.+mentions.Goals as goal
 
@@ -38,4 +38,11 @@ put_all_mentions-loop-e-preserved t c =
           c.loop-e.invariant.names;
       calls = further (λ l. calls_all (trees_of l)) c.args.parts.now c.loop-e.e-index x _ _ (calls_at (tree_of x)) _ c.loop-e-test.true c.e-item.is (λ ys. refl) c.in_ok-put_mentions.ensures.calls
           c.loop-e.invariant.calls;
+    }
+
+pub put_all_mentions-returns : goal.put_all_mentions-returns
+put_all_mentions-returns t c =
+    record {
+      names = all_gone (λ l. names_all (trees_of l)) c.args.parts.now c.loop-e.e-index _ _ refl c.loop-e-test.false c.loop-e.invariant.names;
+      calls = all_gone (λ l. calls_all (trees_of l)) c.args.parts.now c.loop-e.e-index _ _ refl c.loop-e-test.false c.loop-e.invariant.calls;
     }
