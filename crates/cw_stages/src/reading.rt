@@ -9,8 +9,7 @@ ghost use Rattle.cw_stages.specs.Stops.{file_in, source_of, IsReading, IsStop};
 
 use crate::stop::Stop;
 use cw_rights::Policy;
-use cw_scope::check_descriptors;
-use cw_source::read_source;
+use cw_source_graph::{ProgramFault, program_under};
 use cw_syntax::checked::Checked;
 use std::alloc::Global;
 
@@ -35,11 +34,9 @@ pub fn read_under<'r>(
     ensures descriptors { IfOk result (λ reading. descriptor_fault source.now (file_in reading) (policy_of policy.now) ≡ None) }
     ensures stop { IfErr result (IsStop (policy_of policy.now) source.now (IsSourceUnread source.now (policy_of policy.now))) }
 {
-    match read_source(alloc, source) {
-        Ok(checked) => match check_descriptors(alloc, &checked, policy) {
-            Ok(()) => Ok(Reading { policy, checked }),
-            Err(fault) => Err(Stop::Descriptors(fault)),
-        },
-        Err(fault) => Err(Stop::Source(fault)),
+    match program_under(alloc, policy, source) {
+        Ok(checked) => Ok(Reading { policy, checked }),
+        Err(ProgramFault::Source(fault)) => Err(Stop::Source(fault)),
+        Err(ProgramFault::Descriptors(fault)) => Err(Stop::Descriptors(fault)),
     }
 }

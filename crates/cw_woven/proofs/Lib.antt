@@ -12,3 +12,4 @@ pub mod Apart
 pub mod Cutting
 pub mod OneFault
 mod Due
+mod Unread

@@ -10,67 +10,69 @@ ghost use Rattle.cw_points.specs.Graphs.{IsGraph};
 ghost use Rattle.cw_syntax.specs.Trees.{file_of};
 ghost use Rattle.cw_scope.specs.Descriptors.{descriptor_fault};
 ghost use Rattle.cw_source.specs.Read.{ReadsAs};
-ghost use Rattle.cw_woven.specs.Accepting.{IsRefused};
+ghost use Rattle.cw_woven.specs.Accepting.{broken, unread, IsRefused};
 ghost use Rattle.cw_woven.specs.Reading.{IsAccepted};
 
 use crate::fault::{CutFault, WovenFault};
 use cw_points::build::build;
 use cw_points::{Graph, PointsFault};
 use cw_rights::Policy;
-use cw_scope::{DescriptorFault, check_descriptors};
-use cw_source::{SourceFault, read_source};
+use cw_scope::DescriptorFault;
+use cw_source::SourceFault;
+use cw_source_graph::{ProgramFault, program_under};
 use cw_syntax::checked::Checked;
 use std::alloc::Global;
 
 /// The most bytes of a source.
 const MOST_BYTES: usize = 262_144;
 
-/// A source that isn't too long, as a program.
+/// The fault of a text by that of its source.
+fn unread(fault: SourceFault) -> WovenFault
+    ensures { result ≡ unread fault }
+{
+    match fault {
+        SourceFault::Lex(fault) => WovenFault::Source(CutFault::Read(SourceFault::Lex(fault))),
+        SourceFault::Syntax(at) => WovenFault::Source(CutFault::Read(SourceFault::Syntax(at))),
+        SourceFault::TooDeep => WovenFault::Source(CutFault::Read(SourceFault::TooDeep)),
+        SourceFault::Scope(fault) => WovenFault::Source(CutFault::Read(SourceFault::Scope(fault))),
+        SourceFault::NoMemory => WovenFault::NoMemory,
+    }
+}
+
+/// The fault of a text by the rule that the policy's descriptors break in its source.
+fn broken(fault: DescriptorFault) -> WovenFault
+    ensures { result ≡ broken fault }
+{
+    match fault {
+        DescriptorFault::NoVariable(descriptor) => WovenFault::Source(CutFault::Descriptors(
+            DescriptorFault::NoVariable(descriptor),
+        )),
+        DescriptorFault::Shadowed(descriptor) => WovenFault::Source(CutFault::Descriptors(
+            DescriptorFault::Shadowed(descriptor),
+        )),
+        DescriptorFault::Misuse(at) => {
+            WovenFault::Source(CutFault::Descriptors(DescriptorFault::Misuse(at)))
+        }
+        DescriptorFault::NoMemory => WovenFault::NoMemory,
+    }
+}
+
+/// A source that isn't too long, as a program in which a policy's descriptors keep their rules.
 fn read<'s>(alloc: Global, policy: &Policy, source: &'s [u8]) -> Result<Checked<'s>, WovenFault>
+    requires valid { IsValid (policy_of policy.now) }
     ensures short { IfOk result (λ checked. length source.now ≤ limit_of SourceBytes) }
     ensures source { IfOk result (λ checked. checked.source.now ≡ source.now) }
     ensures program { IfOk result (λ checked. ReadsAs source.now (file_of checked.program)) }
+    ensures kept { IfOk result (λ checked. descriptor_fault source.now (file_of checked.program) (policy_of policy.now) ≡ None) }
     ensures fault { IfErr result (IsRefused (policy_of policy.now) source.now) }
 {
     if source.len() > MOST_BYTES {
         return Err(WovenFault::Source(CutFault::TooLong));
     }
-    match read_source(alloc, source) {
+    match program_under(alloc, policy, source) {
         Ok(checked) => Ok(checked),
-        Err(SourceFault::NoMemory) => Err(WovenFault::NoMemory),
-        Err(SourceFault::Lex(fault)) => {
-            Err(WovenFault::Source(CutFault::Read(SourceFault::Lex(fault))))
-        }
-        Err(SourceFault::Syntax(at)) => {
-            Err(WovenFault::Source(CutFault::Read(SourceFault::Syntax(at))))
-        }
-        Err(SourceFault::TooDeep) => Err(WovenFault::Source(CutFault::Read(SourceFault::TooDeep))),
-        Err(SourceFault::Scope(fault)) => {
-            Err(WovenFault::Source(CutFault::Read(SourceFault::Scope(fault))))
-        }
-    }
-}
-
-/// The rules for descriptors, of a program that was read.
-fn keep_rules(alloc: Global, policy: &Policy, checked: &Checked) -> Result<(), WovenFault>
-    requires valid { IsValid (policy_of policy.now) }
-    requires short { length checked.now.source.now ≤ limit_of SourceBytes }
-    requires reads { ReadsAs checked.now.source.now (file_of checked.now.program) }
-    ensures kept { IfOk result (λ _. descriptor_fault checked.now.source.now (file_of checked.now.program) (policy_of policy.now) ≡ None) }
-    ensures fault { IfErr result (IsRefused (policy_of policy.now) checked.now.source.now) }
-{
-    match check_descriptors(alloc, checked, policy) {
-        Ok(()) => Ok(()),
-        Err(DescriptorFault::NoMemory) => Err(WovenFault::NoMemory),
-        Err(DescriptorFault::NoVariable(descriptor)) => Err(WovenFault::Source(
-            CutFault::Descriptors(DescriptorFault::NoVariable(descriptor)),
-        )),
-        Err(DescriptorFault::Shadowed(descriptor)) => Err(WovenFault::Source(CutFault::Descriptors(
-            DescriptorFault::Shadowed(descriptor),
-        ))),
-        Err(DescriptorFault::Misuse(at)) => Err(WovenFault::Source(CutFault::Descriptors(
-            DescriptorFault::Misuse(at),
-        ))),
+        Err(ProgramFault::Source(fault)) => Err(unread(fault)),
+        Err(ProgramFault::Descriptors(fault)) => Err(broken(fault)),
     }
 }
 
@@ -94,7 +96,6 @@ pub(crate) fn accept<'s>(
     ensures fault { IfErr result (IsRefused (policy_of policy.now) source.now) }
 {
     let checked = read(alloc, policy, source)?;
-    keep_rules(alloc, policy, &checked)?;
     let graph = match build(alloc, &checked, policy) {
         Ok(graph) => graph,
         Err(PointsFault::NoMemory) => return Err(WovenFault::NoMemory),
