@@ -1,7 +1,7 @@
 //! What the calls do on small lists, and that a million of each ends in time.
 ghost use Rattle.std.specs.Prelude.{◌≡◌, ◌<◌, length};
 
-use cw_links::{Buckets, Chains, Queue};
+use cw_links::{Buckets, Chains, NearQueue, Queue};
 use std::alloc::Global;
 use std::process::Abort;
 
@@ -114,6 +114,46 @@ fn takes_the_last_under_the_least_key(rt: HostRuntime) {
         &mut queue,
         &[(8, 1), (9, 1_000)],
         &[Some((8, 1)), Some((4, 7)), Some((9, 1_000)), None],
+    );
+}
+
+/// The same of a queue that keeps what is near apart.
+fn expect_near(
+    rt: &impl Abort,
+    queue: &mut NearQueue,
+    puts: &[(u32, u32)],
+    takes: &[Option<(u32, u32)>],
+) {
+    for (element, key) in puts {
+        assert!(rt; 0 < *key);
+        queue.put(*element, *key).expect(rt, "memory");
+    }
+    for taken in takes {
+        assert!(rt; queue.take() == *taken);
+    }
+}
+
+#[test]
+fn takes_the_last_under_the_least_key_whichever_is_near(rt: HostRuntime) {
+    let mut queue = NearQueue::make(rt.alloc()).expect(&rt, "memory");
+    expect_near(&rt, &mut queue, &[], &[None]);
+    expect_near(
+        &rt,
+        &mut queue,
+        &[(4, 7), (5, 3), (6, 7), (4, 3)],
+        &[Some((4, 3)), Some((5, 3)), Some((6, 7))],
+    );
+    expect_near(
+        &rt,
+        &mut queue,
+        &[(7, 7), (6, 8), (5, 8), (8, 1), (9, 1_000), (3, 9), (2, 9)],
+        &[Some((8, 1)), Some((7, 7)), Some((4, 7)), Some((5, 8))],
+    );
+    expect_near(
+        &rt,
+        &mut queue,
+        &[],
+        &[Some((6, 8)), Some((2, 9)), Some((3, 9)), Some((9, 1_000)), None],
     );
 }
 

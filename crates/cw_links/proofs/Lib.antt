@@ -6,6 +6,7 @@ pub mod Moves
 pub mod CallerLemmas
 pub mod Piles
 pub mod Stacks
+pub mod Nearing
 pub mod Moved
 pub mod Entries
 pub mod Ranks

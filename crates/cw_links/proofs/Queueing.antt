@@ -4,7 +4,7 @@ use Rattle.std.specs.Prelude.{slice_index, Contains}
 use Rattle.std.proofs.lemmas.Bool.{cases_lt, cases_eq, eq-eqb, ne_eqb}
 use Rattle.std.proofs.lemmas.List.{get_or-set_same, get_or-set_other, get_or_past, get_or-replicate, length-replicate, length-append, length-set, length_push}
 use Rattle.cw_links.specs.Lists.{list_at}
-use Rattle.cw_links.specs.Queues.{AreNone, Puts, Takes}
+use Rattle.cw_links.specs.Queues.{AreAlike, AreNone, Puts, Takes}
 use Rattle.cw_links.specs.Keys.{key_of, IsElement, AreWaiting, AreQueued, IsNext, AreEmpty}
 use Rattle.cw_lemmas.proofs.Lists.{contains_none as in_none}
 
@@ -153,6 +153,17 @@ more_waiting asked due asked' due' stacks w same_cells same_links cells links = 
           | inl even ↦ key_cell asked' due' e even ∙ same_cells (e / 2) ∙ sym (key_cell asked due e even)
           | inr odd ↦ key_link asked' due' e odd ∙ same_links (e / 2) ∙ sym (key_link asked due e odd)
         ]
+
+-- another queue, in which the same waits under each key
+pub alike_queued : (asked due : List ℕ) (old new : List (List ℕ)) → AreQueued asked due old → AreAlike old new → AreQueued asked due new
+alike_queued asked due old new q same = record {
+  few_cells = q.few_cells;
+  few_links = q.few_links;
+  waiting = record {
+    waits = λ e lt. subst (λ (ys : List ℕ). Contains ys e) (sym (same (key_of asked due e))) (q.waiting.waits e lt);
+    known = λ key e there. q.waiting.known key e (subst (λ (ys : List ℕ). Contains ys e) (same key) there);
+  };
+}
 
 pub pushed_cells : (asked due : List ℕ) (stacks : List (List ℕ)) (many : ℕ) → AreQueued asked due stacks → length asked + many ≤ 4194304 → AreQueued (asked ++ replicate many 0) due stacks
 pushed_cells asked due stacks many q room =

@@ -1,12 +1,12 @@
 -- Stacks of elements under keys: what a put and a take leave of them, and how many wait.
-use Rattle.std.proofs.Common.{◌≡◌, ◌≢◌, ℕ, suc, zero, ◌+◌, ◌<◌, ◌≤◌, min, true, false, List, [], ◌∷◌, ◌++◌, length, map, set, replicate, Some, refl, sym, ap, ◌∙◌, subst, arith, inl, inr}
+use Rattle.std.proofs.Common.{◌≡◌, ◌≢◌, ℕ, suc, zero, ◌+◌, ◌<◌, ◌≤◌, min, max, true, false, List, [], ◌∷◌, ◌++◌, length, map, set, replicate, Some, refl, sym, ap, ◌∙◌, subst, arith, inl, inr}
 use Rattle.std.specs.Prelude.{slice_get, slice_index}
 use Rattle.std.specs.List.{concat}
 use Rattle.std.proofs.lemmas.Bool.{cases_Bool, cases_eq, cases_lt, false≢true, eq-eqb}
 use Rattle.std.proofs.lemmas.Option.{none-some, same_Some}
 use Rattle.std.proofs.lemmas.List.{get_or-set_same, get_or-set_other, length-append, length-set}
 use Rattle.cw_links.specs.Lists.{list_at, without, with_front, AreApart}
-use Rattle.cw_links.specs.Queues.{waiting, stacks_of, AreNone, Puts, Takes, IsQueue}
+use Rattle.cw_links.specs.Queues.{waiting, stacks_of, AreNone, HasLower, Puts, Takes, IsQueue}
 use Rattle.cw_links.specs.Rows.{has, Once}
 use Rattle.cw_links.proofs.CallerLemmas.{length-without, length-with_front, list_at-without, list_at-with_front_other, same_list, Once-from_IsDistinct}
 use Rattle.cw_links.proofs.Entries.{others_of_first, entries_of_moved, entries_of_spared}
@@ -158,6 +158,31 @@ module _ (els : List ℕ) (ls : List (List ℕ)) (n c key v : ℕ) (within : c <
     above = omega (arith, above, some);
     lowest = λ k lt. puts_stack.others k (λ e. omega (arith, e, lt)) ∙ lowest k (omega (arith, lt));
   }
+
+-- where the lists from the floor on have no entries below a key, nothing waits below it; and where one has some, something does
+module _ (els : List ℕ) (ls : List (List ℕ)) (cells floor key : ℕ) (q : IsQueue ls cells els floor) where
+  pub clear_below : ((h : ℕ) → floor ≤ h → h < key → list_at ls h ≡ []) → (k : ℕ) → k < key → list_at (stacks_of els ls) k ≡ []
+  clear_below none k lt =
+      elim (cases_lt k floor) [
+        | inl under ↦ q.lowest k under
+        | inr over ↦ stack_at els ls k (omega (arith, over, q.above)) ∙ ap (λ (ys : List ℕ). map (slice_index els) ys) (none k over lt)
+      ]
+
+  pub clear_queue : ((h : ℕ) → floor ≤ h → h < key → list_at ls h ≡ []) → IsQueue ls cells els (max floor key)
+  clear_queue none = record {
+    known = q.known;
+    filled = q.filled;
+    some = q.some;
+    above = omega (arith, q.above);
+    lowest = λ k lt. elim (cases_lt k floor) [ inl under ↦ q.lowest k under | inr over ↦ clear_below none k (omega (arith, lt, over)) ];
+  }
+
+  pub has_lower : (list : ℕ) → floor ≤ list → list < key → (list_at ls list ≡ [] → ⊥) → HasLower (stacks_of els ls) key
+  has_lower list over lt some = (list, lt, λ none. some (no_elements (list_at ls list) (sym (stack_at els ls list (omega (arith, over, q.above))) ∙ none)))
+    where
+      no_elements : (xs : List ℕ) → map (slice_index els) xs ≡ [] → xs ≡ []
+      no_elements [] e = refl
+      no_elements (x ∷ xs) e = absurd (let h : suc (length (map (slice_index els) xs)) ≡ 0 = ap (λ (ys : List ℕ). length ys) e in omega (arith, h))
 
 -- the first entry under the least key is spare from now on
 module _ (els : List ℕ) (ls : List (List ℕ)) (cells floor c key : ℕ) (q : IsQueue ls cells els floor) (first : slice_get (list_at ls key) 0 ≡ Some c) (from : floor ≤ key)

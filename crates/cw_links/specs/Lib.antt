@@ -2,6 +2,7 @@ pub mod Lists
 pub mod Heights
 pub mod Rows
 pub mod Queues
+pub mod Nearest
 pub mod Marks
 pub mod Words
 pub mod Blocks

@@ -11,6 +11,14 @@ waiting stacks = length (concat stacks)
 abbrev pub AreNone : List (List ℕ) → Type 0
 AreNone stacks = (key : ℕ) → list_at stacks key ≡ []
 
+-- the same waits under each key
+abbrev pub AreAlike : (old new : List (List ℕ)) → Type 0
+AreAlike old new = (key : ℕ) → list_at new key ≡ list_at old key
+
+-- something waits under a lower key than this one
+abbrev pub HasLower : List (List ℕ) → ℕ → Type 0
+HasLower stacks key = (k : ℕ) × (k < key) × (list_at stacks k ≡ [] → ⊥)
+
 -- an element more is first under a key
 pub record Puts (old new : List (List ℕ)) (element key : ℕ) : Type 0 where
   pub here : list_at new key ≡ element ∷ list_at old key

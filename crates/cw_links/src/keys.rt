@@ -3,7 +3,7 @@
 ghost use Rattle.std.specs.Prelude.{◌≡◌, ◌+◌, ◌<◌, ◌≤◌, [], ◌∷◌, ◌++◌, length, replicate, slice_index, OnOk, OnErr, IfOk, IfSome, IfNone};
 ghost use Rattle.cw_links.specs.Keys.{AreEmpty, AreWaiting, IsElement, IsNext, Pops, key_of, lowered};
 
-use crate::Queue;
+use crate::NearQueue;
 use crate::popped::Popped;
 use cw_core::NoMemory;
 use std::alloc::Global;
@@ -18,7 +18,7 @@ use std::marker::Model;
 pub(crate) struct Keys {
     asked: Vec<u32>,
     due: Vec<u32>,
-    queue: Queue,
+    queue: NearQueue,
 }
 
 impl Model for Keys {
@@ -46,7 +46,7 @@ impl Keys {
         Ok(Keys {
             asked: Vec::new(alloc),
             due: Vec::new(alloc),
-            queue: Queue::make(alloc)?,
+            queue: NearQueue::make(alloc)?,
         })
     }
 
@@ -158,7 +158,7 @@ impl Keys {
 }
 
 /// Takes elements until one is taken under the key that it has.
-fn next(queue: &mut Queue, asked: &[u32], due: &[u32]) -> Option<(u32, u32)>
+fn next(queue: &mut NearQueue, asked: &[u32], due: &[u32]) -> Option<(u32, u32)>
     requires { AreWaiting asked.now due.now queue.old }
     ensures next { IfSome result (λ taken. IsNext asked.now due.now queue.new taken.0 taken.1) }
     ensures none { IfNone result (AreEmpty asked.now due.now) }

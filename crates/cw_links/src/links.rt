@@ -1,5 +1,5 @@
 //! The links of cells in lists: indices kept in flat vectors.
-ghost use Rattle.std.specs.Prelude.{◌≡◌, ◌≢◌, ℕ, List, ◌+◌, ◌-◌, ◌<◌, ◌≤◌, ◌==◌, if◌then◌else◌, [], ◌∷◌, ◌++◌, length, replicate, slice_get, slice_index, IsOk, IfOk, OnOk, OnErr, IfSome, IfNone};
+ghost use Rattle.std.specs.Prelude.{◌≡◌, ◌≢◌, ℕ, List, ◌+◌, ◌-◌, ◌<◌, ◌≤◌, ◌==◌, true, false, if◌then◌else◌, [], ◌∷◌, ◌++◌, length, replicate, slice_get, slice_index, IsOk, IfOk, OnOk, OnErr, IfSome, IfNone};
 ghost use Rattle.cw_links.specs.Lists.{list_at, without, with_front, IsUnlinked, AreApart};
 ghost use Rattle.cw_links.specs.Rows.{next_at};
 
@@ -189,6 +189,19 @@ pub(crate) fn lowest(links: &Links, floor: usize) -> Option<(u32, u32)>
         }
     }
     None
+}
+
+/// Whether the lists from the floor on that are below another one have no cell.
+pub(crate) fn are_clear(links: &Links, floor: usize, below: usize) -> bool
+    ensures clear { result ≡ true → (list : ℕ) → floor ≤ list → list < below → list_at links.now.lists list ≡ [] }
+    ensures some { result ≡ false → (list : ℕ) × (floor ≤ list) × (list < below) × (list_at links.now.lists list ≡ [] → ⊥) }
+{
+    for list in floor..links.lists().min(below) {
+        if let Some(_) = links.first(list as u32) {
+            return false;
+        }
+    }
+    true
 }
 
 /// The cell of this number, if it is one.

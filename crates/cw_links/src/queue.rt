@@ -1,11 +1,11 @@
 //! Elements that wait under keys, the least key first.
-ghost use Rattle.std.specs.Prelude.{◌≡◌, ℕ, ◌+◌, ◌<◌, ◌↔◌, length, IsNone, IfOk, OnOk, OnErr, IfSome, IfNone, false};
+ghost use Rattle.std.specs.Prelude.{◌≡◌, ℕ, ◌+◌, ◌<◌, ◌↔◌, [], length, IsNone, IfOk, OnOk, OnErr, IfSome, IfNone, true, false};
 ghost use Rattle.std.specs.List.{concat};
 ghost use Rattle.cw_links.specs.Lists.{list_at, without};
-ghost use Rattle.cw_links.specs.Queues.{AreNone, Puts, Takes, stacks_of};
+ghost use Rattle.cw_links.specs.Queues.{AreNone, HasLower, Puts, Takes, stacks_of};
 ghost use Rattle.cw_links.specs.Rows.{has};
 
-use crate::links::{Links, lowest};
+use crate::links::{Links, are_clear, lowest};
 use cw_core::NoMemory;
 use std::alloc::Global;
 use std::marker::Model;
@@ -64,6 +64,19 @@ impl Queue {
         self.links.move_to(entry, key);
         self.floor = self.floor.min(key as usize);
         Ok(())
+    }
+
+    /// Whether nothing waits under a lower key than this one.
+    pub fn is_clear_below(&mut self, key: u32) -> bool
+        ensures clear { result ≡ true → (k : ℕ) → k < key → list_at self.old k ≡ [] }
+        ensures some { result ≡ false → HasLower self.old key }
+        ensures same { self.new ≡ self.old }
+    {
+        if !are_clear(&self.links, self.floor, key as usize) {
+            return false;
+        }
+        self.floor = self.floor.max(key as usize);
+        true
     }
 
     /// Takes the first element under the least key, and answers it and that key; None exactly where nothing waits.
