@@ -88,6 +88,7 @@ pub(crate) fn next_call(text: &[u8]) -> Option<(i64, &[u8])>
     }
 }
 
+/// `name NAME VALUE`: the name and its value.
 fn take_name<'t>(words: &mut Words<'t>) -> Option<(&'t [u8], i64)>
     ensures some { IfSome result (λ (name, value). FitsLine (Name name.now value) × (line_words (Name name.now value) ≡ words.old)) }
     ensures none { IfNone result ((name : List ℕ) (value : ℤ) → FitsLine (Name name value) → line_words (Name name value) ≢ words.old) }
@@ -102,6 +103,7 @@ fn take_name<'t>(words: &mut Words<'t>) -> Option<(&'t [u8], i64)>
     }
 }
 
+/// `try grant` or `try refuse`: the answer to a try.
 fn take_try(words: &mut Words) -> Option<Move>
     ensures { Reads (λ (by : MoveOf). FitsLine (Try by)) (λ (by : MoveOf). line_words (Try by)) words.old result }
 {
@@ -127,6 +129,7 @@ fn answer_of(word: &[u8]) -> Option<Move>
     None
 }
 
+/// `call VALUE`: what an external call gives.
 fn take_call(words: &mut Words) -> Option<i64>
     ensures { Reads (λ (value : ℤ). FitsLine (Call value)) (λ (value : ℤ). line_words (Call value)) words.old result }
 {

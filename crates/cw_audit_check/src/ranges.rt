@@ -12,6 +12,7 @@ use cw_core::{PosId, StateId};
 use cw_game::Spot;
 use cw_product::Game;
 
+/// Whether a position is one at which a row may stand: nothing is visited or asked there, and no split call stands there.
 fn is_free(spot: Spot) -> bool
     ensures { result ≡ is_free (Some spot) }
 {

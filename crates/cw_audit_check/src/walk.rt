@@ -34,6 +34,7 @@ struct Walk {
     waits: Vec<Wait>,
 }
 
+/// Whether a move is one of the program's own.
 fn is_step(by: Move) -> bool
     ensures { result ≡ is_step by }
 {

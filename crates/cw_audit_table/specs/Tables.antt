@@ -19,6 +19,7 @@ pub record PlainGroup : Type 0 where
   pub reach : ℕ
   pub rows : List PlainRow
 
+-- An audit: how many states the game has, the distance if there is one, the moves that show it, and the groups.
 pub record Audit : Type 0 where
   pub states : ℕ
   pub distance : Option ℕ

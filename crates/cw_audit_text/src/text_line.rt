@@ -45,6 +45,7 @@ pub(crate) fn read_line(line: &[u8]) -> Option<TextLine>
     take_line(&mut words)
 }
 
+/// What a line says, by its words.
 fn take_line(words: &mut Words) -> Option<TextLine>
     ensures { Reads FitsLine line_words words.old result }
 {
@@ -85,6 +86,7 @@ fn kind_of(word: &[u8]) -> Option<Kind>
     Some(Kind::Go(environments_move(word)?))
 }
 
+/// What a line of this kind says, by the words behind its first one.
 fn read_as(kind: Kind, words: &mut Words) -> Option<TextLine>
     requires named { FitsKind kind }
     ensures { Reads (IsOf kind) rest_words words.old result }
@@ -101,6 +103,7 @@ fn read_as(kind: Kind, words: &mut Words) -> Option<TextLine>
     }
 }
 
+/// `audit 1`, behind `capweave`.
 fn read_head(words: &mut Words) -> Option<TextLine>
     ensures { Reads (IsOf kind.Head) rest_words words.old result }
 {
@@ -113,6 +116,7 @@ fn read_head(words: &mut Words) -> Option<TextLine>
     }
 }
 
+/// How many states the game has.
 fn read_states(words: &mut Words) -> Option<TextLine>
     ensures { Reads (IsOf kind.States) rest_words words.old result }
 {
@@ -124,6 +128,7 @@ fn read_states(words: &mut Words) -> Option<TextLine>
     }
 }
 
+/// Nothing stands behind `meets`.
 fn read_meets(words: &Words) -> Option<TextLine>
     ensures { Reads (IsOf kind.Meets) rest_words words.now result }
 {
@@ -134,6 +139,7 @@ fn read_meets(words: &Words) -> Option<TextLine>
     }
 }
 
+/// The distance, in moves.
 fn read_violates(words: &mut Words) -> Option<TextLine>
     ensures { Reads (IsOf kind.Violates) rest_words words.old result }
 {
@@ -145,6 +151,7 @@ fn read_violates(words: &mut Words) -> Option<TextLine>
     }
 }
 
+/// Nothing stands behind the name of a move.
 fn read_go(by: Move, words: &Words) -> Option<TextLine>
     requires named { FitsKind (kind.Go by) }
     ensures { Reads (IsOf (kind.Go by)) rest_words words.now result }
@@ -156,6 +163,7 @@ fn read_go(by: Move, words: &Words) -> Option<TextLine>
     }
 }
 
+/// The head of a group: its function, the state in which that is entered, and the moves from the start up to there.
 fn read_in(words: &mut Words) -> Option<TextLine>
     ensures { Reads (IsOf kind.In) rest_words words.old result }
 {
@@ -169,6 +177,7 @@ fn read_in(words: &mut Words) -> Option<TextLine>
     }
 }
 
+/// A row: its position, its state, and the moves from its group's entry.
 fn read_at(words: &mut Words) -> Option<TextLine>
     ensures { Reads (IsOf kind.At) rest_words words.old result }
 {
@@ -182,6 +191,7 @@ fn read_at(words: &mut Words) -> Option<TextLine>
     }
 }
 
+/// Nothing stands behind `end`.
 fn read_end(words: &Words) -> Option<TextLine>
     ensures { Reads (IsOf kind.End) rest_words words.now result }
 {

@@ -405,6 +405,7 @@ pub(crate) fn start_stack<'s>(
     Ok(stack)
 }
 
+/// The name of `main`.
 fn main_text() -> &'static [u8]
     ensures { result.now ≡ codes "main" }
 {

@@ -26,6 +26,7 @@ fn may_be_result(kind: CType) -> bool
     kind.stars == 0 && is_result(kind.base, kind.unsigned)
 }
 
+/// Whether a type's word is `void`.
 fn is_void(base: Base) -> bool
     ensures { result ≡ is_void base }
 {

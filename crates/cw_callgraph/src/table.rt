@@ -58,6 +58,7 @@ pub(crate) fn parts_of(alloc: Global, checked: &Checked, policy: &Policy) -> Res
     })
 }
 
+/// A copy of a list of numbers.
 fn copied(alloc: Global, numbers: &[u16]) -> Result<Vec<u16>, NoMemory>
     ensures { IfOk result (λ copy. copy.items ≡ numbers.now) }
 {

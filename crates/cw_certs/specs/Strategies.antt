@@ -22,6 +22,7 @@ pub record Row : Type 0 where
   pub aim : ℕ
   pub how : How
 
+-- How many states the game has, and the rows, which name one another by their numbers.
 pub record Strategy : Type 0 where
   pub states : ℕ
   pub rows : List Row

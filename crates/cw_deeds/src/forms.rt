@@ -113,6 +113,7 @@ fn arguments_of(e: &Expr) -> &[Expr]
     arguments_in(e.op, &e.parts)
 }
 
+/// The parts of the second of these expressions; none where there is no second.
 fn second_parts(parts: &[Expr]) -> &[Expr]
     ensures { trees_of result.now ≡ second_parts (trees_of parts.now) }
 {
@@ -125,12 +126,14 @@ fn second_parts(parts: &[Expr]) -> &[Expr]
     }
 }
 
+/// The parts of an expression.
 fn parts_of(e: &Expr) -> &[Expr]
     ensures { trees_of result.now ≡ parts_of (tree_of e.now) }
 {
     &e.parts
 }
 
+/// The arguments of `f(..)` or of `x = f(..)`, by the operator and the parts of the whole.
 fn arguments_in(op: Op, parts: &[Expr]) -> &[Expr]
     ensures { (from to : ℕ) → trees_of result.now ≡ arguments_of (Node op (trees_of parts.now) from to) }
 {
@@ -151,6 +154,7 @@ fn arguments_in(op: Op, parts: &[Expr]) -> &[Expr]
     }
 }
 
+/// What passing the plain statement at a place does; nothing where none begins there.
 fn plain_at<'s>(said: &[&'s Stmt], at: u32) -> Deed<'s>
     ensures { deed_in result ≡ plain_if (form_in (map statement_at said.now) at) }
 {
@@ -160,6 +164,7 @@ fn plain_at<'s>(said: &[&'s Stmt], at: u32) -> Deed<'s>
     }
 }
 
+/// The expression that the statement at a place is, if it is one.
 fn evaluated_at<'s>(said: &[&'s Stmt], at: u32) -> Option<&'s Expr>
     ensures { option_map tree_at result ≡ option_and_then evaluated (form_in (map statement_at said.now) at) }
 {
@@ -169,6 +174,7 @@ fn evaluated_at<'s>(said: &[&'s Stmt], at: u32) -> Option<&'s Expr>
     }
 }
 
+/// What the `return` at a place gives back, if anything.
 fn returned_at<'s>(said: &[&'s Stmt], at: u32) -> Option<&'s Expr>
     ensures { option_map tree_at result ≡ option_and_then returned (form_in (map statement_at said.now) at) }
 {
@@ -178,6 +184,7 @@ fn returned_at<'s>(said: &[&'s Stmt], at: u32) -> Option<&'s Expr>
     }
 }
 
+/// The condition of the `if` or the loop at a place, if it has one.
 fn condition_at<'s>(said: &[&'s Stmt], at: u32) -> Option<&'s Expr>
     ensures { option_map tree_at result ≡ option_and_then condition (form_in (map statement_at said.now) at) }
 {
@@ -187,6 +194,7 @@ fn condition_at<'s>(said: &[&'s Stmt], at: u32) -> Option<&'s Expr>
     }
 }
 
+/// The step of the `for` at a place, if it has one.
 fn next_turn_at<'s>(said: &[&'s Stmt], at: u32) -> Option<&'s Expr>
     ensures { option_map tree_at result ≡ option_and_then next_turn (form_in (map statement_at said.now) at) }
 {
@@ -196,6 +204,7 @@ fn next_turn_at<'s>(said: &[&'s Stmt], at: u32) -> Option<&'s Expr>
     }
 }
 
+/// The arguments of the call that the statement at a place makes.
 fn arguments_at<'s>(said: &[&'s Stmt], at: u32) -> &'s [Expr]
     ensures { trees_of result.now ≡ arguments_if (option_and_then evaluated (form_in (map statement_at said.now) at)) }
 {
@@ -235,6 +244,7 @@ fn second_start(at: u32, parts: &[Expr]) -> u32
     }
 }
 
+/// Where an expression begins.
 fn start_of(e: &Expr) -> u32
     ensures { result ≡ from_of (tree_of e.now) }
 {
@@ -258,6 +268,7 @@ pub fn call_start(said: &[&Stmt], at: u32) -> u32
     }
 }
 
+/// Where the call in a statement `x = f(..);` begins; `at` where the statement isn't an expression.
 fn call_in(statement: &Stmt, at: u32) -> u32
     ensures { result ≡ call_from at (Some (form_of (statement_of statement.now))) }
 {
@@ -281,6 +292,7 @@ pub fn statement_start(said: &[&Stmt], at: u32) -> u32
     }
 }
 
+/// Where the expression that a statement is begins; `at` where it isn't one.
 fn whole_in(statement: &Stmt, at: u32) -> u32
     ensures { result ≡ whole_from at (Some (form_of (statement_of statement.now))) }
 {

@@ -11,6 +11,7 @@ use Rattle.cw_dfa.specs.Sets.{has}
 use Rattle.cw_dfa.specs.Tables.{goes, matching}
 use Rattle.cw_dfa.specs.Verdicts.{verdict, next_of}
 
+-- the least set that has the start and is closed under the steps
 pub data Least {A : Type 0} (step : A → List A) (start : A) : A → Type 0 where
   first : Least step start start
   then : (a b : A) → Least step start a → Contains (step a) b → Least step start b

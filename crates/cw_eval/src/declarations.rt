@@ -290,6 +290,7 @@ fn declare_at(scope: &Scope, place: Place, item: &Item, m: &mut Memory) -> Resul
     }
 }
 
+/// Declares one name of a declaration.
 fn declare_one(scope: &Scope, item: &Item, m: &mut Memory) -> Result<(), Halt>
     ensures { Shows as_done result (memory_of m.new) (declared_one (scope_of scope.now) (declared_of item.now) (memory_of m.old)) }
 {
@@ -297,6 +298,7 @@ fn declare_one(scope: &Scope, item: &Item, m: &mut Memory) -> Result<(), Halt>
     declare_at(scope, scope.place(name), item, m)
 }
 
+/// Declares the names of a declaration, from left to right.
 fn declare_all(scope: &Scope, items: &[Item], m: &mut Memory) -> Result<(), Halt>
     ensures { Shows as_done result (memory_of m.new) (declares_all (scope_of scope.now) (map declared_of items.now) (memory_of m.old)) }
 {

@@ -248,6 +248,7 @@ fn target_node(
     }
 }
 
+/// The target of an assignment whose left side is nothing that can be changed: it is evaluated all the same.
 #[cycle(value)]
 #[inline(never)]
 fn no_target(

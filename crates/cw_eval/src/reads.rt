@@ -93,6 +93,7 @@ fn bare_at(scope: &Scope, op: Op, from: u32, to: u32) -> Place
     }
 }
 
+/// The place of an expression that is a name alone; nowhere for any other.
 #[inline(always)]
 fn bare_place(scope: &Scope, e: &Expr) -> Place
     ensures { place_in result ≡ bare_place (scope_of scope.now) (tree_of e.now) }
@@ -168,6 +169,7 @@ fn is_undeclared(scope: &Scope, name: &[u8], place: Place) -> bool
     }
 }
 
+/// Whether a name alone is passed as its span: an array, or a name that nothing declares and for which no value is handed in.
 fn is_bare(scope: &Scope, name: &[u8]) -> bool
     ensures { result ≡ (is_array (place_of (scope_of scope.now) name.now) || is_undeclared (scope_of scope.now) name.now (place_of (scope_of scope.now) name.now)) }
 {

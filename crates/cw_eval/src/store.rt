@@ -59,6 +59,7 @@ impl Store {
     }
 }
 
+/// Sets an element of an array. The one error is want of memory.
 fn set_element(
     arrays: &mut Vec<Cells>,
     array: usize,

@@ -61,24 +61,28 @@ pub fn negated(a: i64) -> Result<i64, Want>
     a.checked_neg().ok_or(Want::Overflow)
 }
 
+/// The sum, where 64 bits hold it.
 fn plus(a: i64, b: i64) -> Result<i64, Want>
     ensures { result ≡ operated Operator.Plus a b }
 {
     a.checked_add(b).ok_or(Want::Overflow)
 }
 
+/// The difference, where 64 bits hold it.
 fn minus(a: i64, b: i64) -> Result<i64, Want>
     ensures { result ≡ operated Operator.Minus a b }
 {
     a.checked_sub(b).ok_or(Want::Overflow)
 }
 
+/// The product, where 64 bits hold it.
 fn times(a: i64, b: i64) -> Result<i64, Want>
     ensures { result ≡ operated Operator.Times a b }
 {
     a.checked_mul(b).ok_or(Want::Overflow)
 }
 
+/// The quotient, cut towards zero, where there is one and 64 bits hold it.
 fn divided(a: i64, b: i64) -> Result<i64, Want>
     ensures { result ≡ divided a b }
 {
@@ -88,6 +92,7 @@ fn divided(a: i64, b: i64) -> Result<i64, Want>
     a.checked_div(b).ok_or(Want::Overflow)
 }
 
+/// What a division cut towards zero leaves, where the divisor is not 0; 0 for -2^63 by -1.
 fn left_over(a: i64, b: i64) -> Result<i64, Want>
     ensures { result ≡ left_over a b }
 {
@@ -97,6 +102,7 @@ fn left_over(a: i64, b: i64) -> Result<i64, Want>
     Ok(a.wrapping_rem(b))
 }
 
+/// How many bits to shift by, where that is from 0 to 63.
 fn count_of(b: i64) -> Option<u32>
     ensures count { result ≡ count_of b }
     ensures few { IfSome result (λ k. k < 64) }
@@ -126,6 +132,7 @@ fn product(a: i64, n: u64) -> i128
     i128::from(a) * i128::from(n)
 }
 
+/// The number times a power of two, where the count is one and 64 bits hold it.
 fn shifted_left(a: i64, by: Option<u32>) -> Result<i64, Want>
     requires { IfSome by (λ k. k < 64) }
     ensures { result ≡ shifted_left a by }
@@ -136,6 +143,7 @@ fn shifted_left(a: i64, by: Option<u32>) -> Result<i64, Want>
     }
 }
 
+/// The number divided by a power of two, rounded down, where the count is one.
 fn shifted_right(a: i64, by: Option<u32>) -> Result<i64, Want>
     requires { IfSome by (λ k. k < 64) }
     ensures { result ≡ shifted_right a by }

@@ -217,6 +217,7 @@ pub data Part : Type 0 where
   InInto : Part
   InBack : Part
 
+-- Which list of a table, which of its rows, and the number of the condition.
 pub record TableFault : Type 0 where
   pub part : Part
   pub row : ℕ

@@ -10,6 +10,8 @@ use Rattle.cw_model.specs.Boards.{may_grant, with_opened}
 use Rattle.cw_game.specs.declared.spots.Spot.{Spot}
 use Rattle.cw_game.specs.Games.{States, letter_of, IsOpenedIn, IsClosedIn, IsLabelIn}
 
+-- The least meaning of states: the start state is that of the empty word with the capabilities at the start, and the state to which a grant, an open,
+-- a close, a letter or a return leads is that of what these leave of the word and the capabilities.
 pub data Reached (policy : PlainPolicy) (spots : List Spot) (states : States) : ℕ → Word → Caps → Type 0 where
   at_start : Reached policy spots states states.start [] (start_caps policy)
   by_grant : (q : ℕ) (w : Word) (c : Caps) (a : Primitive) → Contains (primitives policy true) a → may_grant c a ≡ true → Reached policy spots states q w c

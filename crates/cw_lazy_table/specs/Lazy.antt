@@ -53,6 +53,7 @@ pub record IsLiveRow (g : Game) (ms : List (StateId × ℕ)) (r : PosId × MemId
   pub live : IsLive g r.0.0 state promise
   pub meant : Means ms r.1.0 state promise
 
+-- a try, at a live position where a primitive is asked: the memories after a grant and after a refusal
 pub record IsTryRow (g : Game) (ms : List (StateId × ℕ)) (r : TryRow) : Type 0 where
   pub pos : ℕ
   pub state : ℕ
@@ -64,6 +65,7 @@ pub record IsTryRow (g : Game) (ms : List (StateId × ℕ)) (r : TryRow) : Type 
   pub granted : IsAfter ms promise (leads_in g pos state [] (Some (Asked r.seam.0 r.stage prim)) Grant) r.granted
   pub refused : IsRefused g ms pos state promise (leads_in g pos state [] (Some (Asked r.seam.0 r.stage prim)) Refuse) r.refused
 
+-- a label at a live position: the memory behind it
 pub record IsLabelRow (g : Game) (ms : List (StateId × ℕ)) (r : AtRow) : Type 0 where
   pub pos : ℕ
   pub state : ℕ
@@ -75,6 +77,7 @@ pub record IsLabelRow (g : Game) (ms : List (StateId × ℕ)) (r : AtRow) : Type
   pub meant : Means ms r.mem.0 state promise
   pub after : Means ms r.after.0 (g.states.lettered state label) promise
 
+-- an open at a live position: the memories where it succeeds and where it fails
 pub record IsOpenRow (g : Game) (ms : List (StateId × ℕ)) (r : OpenRow) : Type 0 where
   pub pos : ℕ
   pub state : ℕ
@@ -87,6 +90,7 @@ pub record IsOpenRow (g : Game) (ms : List (StateId × ℕ)) (r : OpenRow) : Typ
   pub opened : Means ms r.opened.0 (g.states.opened state descriptor) promise
   pub failed : Means ms r.failed.0 (g.states.closed state descriptor) promise
 
+-- a close at a live position: the memory behind it
 pub record IsCloseRow (g : Game) (ms : List (StateId × ℕ)) (r : AtRow) : Type 0 where
   pub pos : ℕ
   pub state : ℕ
@@ -112,6 +116,7 @@ pub record IsCalled (g : Game) (ms : List (StateId × ℕ)) (seam : ℕ) (split 
   pub meant : Means ms m state promise
   pub full : IsFull g call state promise set
 
+-- a live call: the memory with which the callee begins, in the state of the call under what is promised to it
 pub record IsIntoRow (g : Game) (ms : List (StateId × ℕ)) (r : IntoRow) : Type 0 where
   pub called : IsCalled g ms r.seam.0 r.split r.mem.0
   pub callee : Means ms r.callee.0 called.state called.set

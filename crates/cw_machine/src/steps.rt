@@ -20,6 +20,7 @@ use cw_value::Stop;
 use std::alloc::Global;
 use std::mem;
 
+/// A cell that holds a number.
 fn cell_of(z: &i64) -> Option<i64>
     ensures { result ≡ Some z.now }
 {

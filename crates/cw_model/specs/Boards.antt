@@ -194,10 +194,12 @@ is_refused _ = false
 abbrev pub Moves : Problem → Board → Move → Board → Type 0
 Moves p b m next = (Violates p b → ⊥) × (moved p b b.phase m ≡ Some next)
 
+-- The two parties of the game.
 pub data Party : Type 0 where
   Weaver : Party
   Environment : Party
 
+-- whose turn it is in a phase; nobody's once all is over
 abbrev pub turn_of : Phase → Option Party
 turn_of (Visit stage a later) = Some Weaver
 turn_of (Asked stage a later) = Some Environment

@@ -45,6 +45,7 @@ EndsBy p b tape Bad (Violation rule) = Violates p b × IsVerdict p.policy.rules 
 EndsBy p b tape (Both skip tried) TapeSpent = tape ≡ []
 EndsBy p b tape how end = ⊥
 
+-- The play ends at this place: its row is there, and says so.
 pub record Ends (p : Problem) (s : Strategy) (at : Place) (tape : List Move) (end : PlayEnd) : Type 0 where
   pub row : Row
   pub has : slice_get s.rows at.row ≡ Some row

@@ -34,6 +34,7 @@ pub record ExpressionText : Type 0 where
   pub text : List ℕ
   pub index : ℕ
 
+-- The text of a rule: a test of an `at` table, or the expression of a `rule` table.
 pub data RuleText : Type 0 where
   tested : TestText → RuleText
   written : ExpressionText → RuleText

@@ -38,6 +38,7 @@ pub enum Key {
     Bad,
 }
 
+/// The keys of the root, by their numbers from 1.
 const ROOT: [Key; 9] = [
     Key::Format,
     Key::Refusable,
@@ -50,12 +51,16 @@ const ROOT: [Key; 9] = [
     Key::Rules,
 ];
 
+/// The keys of a `descriptor` table, by their numbers from 1.
 const DESCRIPTOR: [Key; 2] = [Key::Name, Key::Rights];
 
+/// The keys of a `limit` table, by their numbers from 1.
 const LIMIT: [Key; 2] = [Key::Of, Key::Keep];
 
+/// The keys of an `at` table, by their numbers from 1.
 const AT: [Key; 3] = [Key::Label, Key::Must, Key::Never];
 
+/// The keys of a `rule` table, by their numbers from 1.
 const RULE: [Key; 2] = [Key::RuleName, Key::Bad];
 
 /// The number of a kind of table, as a path holds it.

@@ -14,6 +14,7 @@ use Rattle.cw_product.specs.Uses.{uses_of}
 pub record LeavesMain (policy : PlainPolicy) (graph : Graph) : Type 0 where
   pub uncalled : (p : ℕ) (call : Called) → call_in (slice_get (spots graph policy) p) ≡ Some call → call.function ≡ graph.main → ⊥
 
+-- A game that was made: of a valid policy and the graph of a program that doesn't call `main`, over no limit.
 pub record IsMade (h : Held) : Type 0 where
   pub valid : IsValid (policy_of h.states.policy)
   pub graph : IsProgramsGraph (policy_of h.states.policy) h.graph

@@ -35,6 +35,7 @@ pub record IsThere (g : Game) (functions f : ℕ) : Type 0 where
   pub begins : g.entry f ≤ g.exit f
   pub ends : g.exit f < length g.spots
 
+-- A game is within the limits, and its moves stay within functions that are there.
 pub record AreRouted (g : Game) (functions : ℕ) : Type 0 where
   pub some : 0 < g.states.count
   pub few : g.states.count ≤ 1024

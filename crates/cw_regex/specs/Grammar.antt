@@ -12,45 +12,55 @@ use Rattle.cw_rights.specs.Valid.{is_name}
 use Rattle.cw_regex.specs.declared.text.Mark.TheVariants.{Dot, ParenOpen, ParenClose, Bar, Star, Plus, Question, BracketOpen, BracketClose, Bang, Colon, Comma}
 use Rattle.cw_regex.specs.Parts.{Part, word, mark, parts, starts_blank, ends_blank}
 
+-- the name of a descriptor that is open at the start
 abbrev pub is_digit : List ℕ → Bool
 is_digit [] = false
 is_digit (b ∷ []) = nat_eq b 48 || nat_eq b 49 || nat_eq b 50
 is_digit (b ∷ (c ∷ rest)) = false
 
+-- the form of the name of a descriptor
 abbrev pub is_descriptor : List ℕ → Bool
 is_descriptor w = is_name w || is_digit w
 
+-- A name of a label or of a right, by its bytes.
 pub record Name : Type 0 where
   pub bytes : List ℕ
   pub ok : IsTrue (is_name bytes)
 
+-- A name of a descriptor, by its bytes.
 pub record DescriptorName : Type 0 where
   pub bytes : List ℕ
   pub ok : IsTrue (is_descriptor bytes)
 
+-- What a test asks for: `amb`, or a descriptor that is open with a right.
 pub data Subject : Type 0 where
   ambient : Subject
   holds : DescriptorName → Name → Subject
 
+-- A test, and whether `!` stands before it.
 pub record TestForm : Type 0 where
   pub negated : Bool
   pub what : Subject
 
 mutual
+  -- One term, or a term, `|`, and an expression.
   pub data Expression : Type 0 where
     only : Term → Expression
     either : Term → Expression → Expression
 
+  -- One factor, or a factor and a term behind it.
   pub data Term : Type 0 where
     single : Factor → Term
     then : Factor → Term → Term
 
+  -- An atom, with nothing behind it, or with `*`, `+` or `?`.
   pub data Factor : Type 0 where
     plain : Atom → Factor
     star : Atom → Factor
     plus : Atom → Factor
     maybe : Atom → Factor
 
+  -- A literal, or an expression in parentheses.
   pub data Atom : Type 0 where
     literal : Option Name → List TestForm → Atom  -- none is `.`; no tests are no brackets
     group : Expression → Atom

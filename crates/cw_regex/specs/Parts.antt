@@ -4,6 +4,7 @@ use Rattle.cw_rights.specs.Valid.{is_name_byte}
 use Rattle.cw_regex.specs.declared.text.Mark.{Mark}
 use Rattle.cw_regex.specs.declared.text.Mark.TheVariants.{Dot, ParenOpen, ParenClose, Bar, Star, Plus, Question, BracketOpen, BracketClose, Bang, Colon, Comma, Other}
 
+-- A part of a text: a longest run of letters, digits and `_`, or one other byte that is no blank.
 pub data Part : Type 0 where
   word : List ℕ → Part
   mark : Mark → Part

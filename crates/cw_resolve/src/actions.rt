@@ -60,6 +60,7 @@ fn opens_if(descriptor: Option<usize>) -> Act
     }
 }
 
+/// Whether a name is `close`.
 fn is_close(name: &[u8]) -> bool
     ensures { result ≡ bytes_eq name.now (codes "close") }
 {

@@ -13,15 +13,19 @@ use Rattle.cw_rights.specs.declared.policy.Policy.{Policy}
 use Rattle.cw_rights.specs.Trees.{Tree, tree_of}
 use Rattle.cw_rights.specs.Words.{Word, Matches}
 
+-- A descriptor: its name, its number where it is open at the start, and the rights with which it is open.
 pub record PlainDescriptor : Type 0 where
   pub name : List ℕ
   pub number : Option ℕ
   pub rights : Rights
 
+-- A rule: its name, and the expression of the words that are bad.
 pub record PlainRule : Type 0 where
   pub name : List ℕ
   pub bad : Tree
 
+-- A policy: its descriptors and its limits, by number; which kinds of primitive may be refused; the functions that are split; the labels that it
+-- names, by number; the rules; whether a refusal may be answered by a stop; the format, 1 or 2; the functions that are detached.
 pub record PlainPolicy : Type 0 where
   pub descriptors : List PlainDescriptor
   pub limits : List ALimit

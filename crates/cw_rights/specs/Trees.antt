@@ -10,6 +10,7 @@ pub record Literal : Type 0 where
   pub label : Option ℕ
   pub tests : List (Bool × Test)
 
+-- An expression, by its operator: `star` any number of its body, `plus` one or more, `maybe` one or none.
 pub data Tree : Type 0 where
   nothing : Tree  -- the sequence of no parts
   never : Tree  -- the alternative of no parts

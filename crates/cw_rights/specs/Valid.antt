@@ -40,20 +40,25 @@ abbrev pub IsTestWithin : ℕ → Test → Type 0
 IsTestWithin descriptors Amb = Unit {0}
 IsTestWithin descriptors (Holds descriptor need) = (descriptor < descriptors) × (need.0 ≤ all_rights)
 
+-- a label, where one is named, is among the first so many
 abbrev pub IsLabelWithin : ℕ → Option ℕ → Type 0
 IsLabelWithin labels None = Unit {0}
 IsLabelWithin labels (Some label) = label < labels
 
+-- a literal of a policy with so many descriptors and labels
 pub record IsLiteralWithin (descriptors labels : ℕ) (literal : Literal) : Type 0 where
   pub label : IsLabelWithin labels literal.label
   pub tests : All (λ t. IsTestWithin descriptors t.1) literal.tests
 
+-- each literal of an expression, likewise
 abbrev pub IsTreeWithin : ℕ → ℕ → Tree → Type 0
 IsTreeWithin descriptors labels r = AllLiterals (IsLiteralWithin descriptors labels) r
 
+-- a limit of a policy with so many descriptors
 abbrev pub IsLimitWithin : ℕ → ALimit → Type 0
 IsLimitWithin descriptors limit = (limit.descriptor < descriptors) × (limit.keep.0 ≤ all_rights)
 
+-- a descriptor whose name has its form, with its number, and with none but the twelve rights
 pub record IsValidDescriptor (d : PlainDescriptor) : Type 0 where
   pub name : IsDescriptorName d.name
   pub number : IsNumberOf d.name d.number

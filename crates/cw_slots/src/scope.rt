@@ -63,12 +63,14 @@ impl<'a, 's> Scope<'a, 's> {
     }
 }
 
+/// The name of a value that is handed in.
 fn name_of(given: &(Vec<u8>, i64)) -> &[u8]
     ensures { result.now ≡ given.now.0.items }
 {
     &given.0
 }
 
+/// The value itself.
 fn value_of(given: &(Vec<u8>, i64)) -> Option<i64>
     ensures { result ≡ Some given.now.1 }
 {

@@ -79,7 +79,7 @@ impl<'g> Solved<'g> {
         }
     }
 
-    // What the value keeps.
+    /// What the value keeps.
     pub(crate) fn is_kept(&self)
         ensures routed { AreRouted (game_of self.now.game) (length self.now.game.graph.parts.items) }
         ensures needed { AreTheNeeded (game_of self.now.game) self.now.contexts }
@@ -143,7 +143,7 @@ impl<'g> Solved<'g> {
         }
     }
 
-    // The number of the one context that may be of a function and have this promise.
+    /// The number of the one context that may be of a function and have this promise.
     pub(crate) fn number_near(&self, function: u16, promise: &StateSet) -> u32 {
         match self.places.find(&self.table.contexts, function, promise) {
             None => 0,

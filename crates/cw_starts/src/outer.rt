@@ -61,6 +61,7 @@ pub(crate) fn has_list(init: &[Expr]) -> bool
     }
 }
 
+/// Whether a declaration is one of this name and has an initialiser, so that the name is unset up to its turn.
 fn begins_unset(source: &[u8], name: &[u8], item: &Item) -> bool
     ensures { result ≡ (named_at source.now name.now (declared_of item.now) && has_list (declared_of item.now).init) }
 {
@@ -115,6 +116,7 @@ pub(crate) fn cell_by(_source: &[u8], _items: &[&Item], listed: &Texts, name: &[
     if listed.contains(name) { None } else { Some(0) }
 }
 
+/// Whether a declaration is one of this name and tells how many elements its array has.
 fn tells(source: &[u8], name: &[u8], item: &Item) -> bool
     ensures { result ≡ (named_at source.now name.now (declared_of item.now) && told_size (declared_of item.now)) }
 {

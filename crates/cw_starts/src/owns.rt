@@ -102,6 +102,7 @@ fn first_shape(
     Ok(None)
 }
 
+/// The place of the first name of a function that isn't told apart.
 fn shape_of(
     alloc: Global,
     source: &[u8],
@@ -114,6 +115,7 @@ fn shape_of(
     first_shape(alloc, source, outer, &owns)
 }
 
+/// The place of the first name of these functions that isn't told apart, function by function.
 fn shape_in(
     alloc: Global,
     source: &[u8],

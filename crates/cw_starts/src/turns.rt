@@ -102,6 +102,7 @@ fn turn_at(
     }
 }
 
+/// The turn of one declared name at file scope, behind the earlier ones.
 fn turn(turning: &Turning, earlier: &[&Item], item: &Item, m: &mut Memory) -> Result<(), Halt>
     requires turns { Turns turning.now }
     ensures { Shows as_done result (memory_of m.new) (one_turn (source_in turning.now.source) (map item_at earlier.now) (declared_of item.now) (memory_of m.old)) }

@@ -136,7 +136,7 @@ impl<'p> Pairs<'p> {
         (self.sets.len() * self.rights.len()) as u16
     }
 
-    // The place of a state's rights state.
+    /// The place of a state's rights state.
     pub(crate) fn column(&self, state: StateId) -> usize
         requires state { state.0 < count (lists_of self.now) }
         ensures is { result ≡ state.0 % length self.now.rights }
@@ -221,7 +221,7 @@ impl<'p> Pairs<'p> {
         }
     }
 
-    // The numbers of the policy are those of holds.
+    /// The numbers of the policy are those of holds.
     #[tactic(auto, using(crate::proofs::Narrow::narrow))]
     pub(crate) fn is_narrow(&self)
         ensures { IsNarrow (policy_of self.now.policy) }

@@ -22,6 +22,7 @@ FitsAct false by = IsEnvironments by
 abbrev pub step_words : Step → List (List ℕ)
 step_words s = decimal s.process ∷ act_word s.fork s.by ∷ []
 
+-- a step that can be spelled: its process has 32 bits, and its move is On at a fork, else one of the environment's
 pub record FitsStep (s : Step) : Type 0 where
   pub process : s.process < 2 ^ 32
   pub act : FitsAct s.fork s.by

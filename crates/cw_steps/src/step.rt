@@ -42,6 +42,7 @@ fn read_step(line: &[u8]) -> Option<Step>
     take_step(&mut words)
 }
 
+/// The step that a line says, by its words.
 fn take_step(words: &mut Words) -> Option<Step>
     ensures { Reads FitsStep step_words words.old result }
 {

@@ -54,6 +54,7 @@ FitsHow (Both skip tried) = (skip < 2 ^ 32) × (tried < 2 ^ 32)
 FitsHow (Go by row) = IsEnvironments by × (row < 2 ^ 32)
 FitsHow (Into callee backs) = (callee < 2 ^ 32) × AreBacks 0 backs
 
+-- a row whose numbers fit the types of their fields, and whose aim has the states of the format
 pub record FitsRow (format : ℕ) (r : Row) : Type 0 where
   pub pos : r.pos < 2 ^ 32
   pub state : r.state < 2 ^ 16

@@ -86,16 +86,19 @@ mutual
     -- the place of its init, whether it has a condition, whether it has a step
     For : (at : ℕ) → (init : Option ℕ) → (decided stepped : Bool) → Stm → Stm
 
+  -- Statements one after the other.
   pub data Stms : Type 0 where
     end : Stms
     then : Stm → Stms → Stms
 
+-- the statement of an expression that does this, its seam not yet numbered
 abbrev pub acting : Action → ℕ → Stm
 acting Computes at = Plain at
 acting (Opens d) at = Open at 0 d
 acting (Closes d) at = Close at 0 d
 acting (Invokes callee) at = Call at 0 callee
 
+-- where a statement begins, if there is one
 abbrev pub place_if : Perhaps → Option ℕ
 place_if nothing = None
 place_if (just (Stated form from to)) = Some from

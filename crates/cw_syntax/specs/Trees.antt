@@ -20,6 +20,7 @@ mutual
   pub data Tree : Type 0 where
     Node : Op → Trees → (from to : ℕ) → Tree
 
+  -- Expressions one after the other.
   pub data Trees : Type 0 where
     none : Trees
     more : Tree → Trees → Trees
@@ -32,6 +33,7 @@ pub record Declared : Type 0 where
   pub init : Trees
   pub braces : Bool
 
+-- A declaration with its span: whether `extern`, `static` (`fixed`) and `const` stand before it, and its names.
 pub record Declaration : Type 0 where
   pub external : Bool
   pub fixed : Bool
@@ -45,6 +47,7 @@ mutual
   pub data Statement : Type 0 where
     Stated : Form → (from to : ℕ) → Statement
 
+  -- What a statement is.
   pub data Form : Type 0 where
     Block : Statements → Form
     Declares : Declaration → Form
@@ -61,14 +64,17 @@ mutual
     Continues : Form
     Returns : Option Tree → Form
 
+  -- A statement that may be missing: an `else`, a `for`'s init.
   pub data Perhaps : Type 0 where
     nothing : Perhaps
     just : Statement → Perhaps
 
+  -- Statements one after the other.
   pub data Statements : Type 0 where
     nil : Statements
     cons : Statement → Statements → Statements
 
+-- A prototype: the name, what is given back, the parameters.
 pub record Prototype : Type 0 where
   pub name : Name
   pub result : CType
@@ -82,6 +88,7 @@ pub record Definition : Type 0 where
   pub brace : ℕ
   pub body : Statements
 
+-- A file: its prototypes, its declarations outside functions and its functions, each in the source's order.
 pub record File : Type 0 where
   pub protos : List Prototype
   pub globals : List Declaration

@@ -69,6 +69,7 @@ to_of (Node op parts from to) = to
 
 -- ---- names
 
+-- Where the value of a name is kept, by its number: of the function or of the file, apart by whether it is an array; or nowhere.
 pub data Place : Type 0 where
   Own : ℕ → Place
   OwnArray : ℕ → Place
@@ -94,6 +95,7 @@ place_of s name =
 
 -- ---- where an assignment writes, if there is something that can be changed
 
+-- A cell of the function or of the file, or nothing.
 pub data Target : Type 0 where
   OwnSpot : Spot → Target
   SharedSpot : Spot → Target

@@ -96,6 +96,7 @@ new_locals s f cells saved = record { function = f; own = with_first cells (unse
 
 -- ---- steps
 
+-- A step goes on by a way, with the values behind it, or the run halts, with the values at that.
 pub data Step : Type 0 where
   goes : Way → Machine → Step
   halts : Stop → Machine → Step

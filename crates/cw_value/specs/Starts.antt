@@ -100,6 +100,7 @@ module _ (s : Source) where
 
 -- ---- what may not be run
 
+-- A name of a function, a parameter or a declared one, and whether it is `static`.
 pub record Own : Type 0 where
   pub name : Name
   pub fixed : Bool

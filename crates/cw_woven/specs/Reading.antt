@@ -57,6 +57,7 @@ Begins text = (rest : List ℕ) × (text ≡ opening ++ (codes "\n" ++ rest))
 abbrev pub the_prologue : List ℕ → Piece
 the_prologue lines = record { gap = []; inner = codes "\n" ++ lines }
 
+-- the parts of a text up to what is left: the prologue with these lines, and marks that are spelled as marks are
 pub record BeginsParted (text lines : List ℕ) (marks : List Piece) (left : List ℕ) : Type 0 where
   pub parts : AreParts text (the_prologue lines ∷ marks) left
   pub spelled : AllByRecursion (λ p. IsSpelling p.inner) marks
