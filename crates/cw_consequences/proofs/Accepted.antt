@@ -34,7 +34,8 @@ use Rattle.cw_cli.specs.Weaving.{AfterPair, IsWeaveDue}
 use Rattle.cw_cli.proofs.Agreeing.{alike, fits_once}
 use Rattle.cw_consequences.specs.Accepting.{AreAccepted, IsAccepted, WeaveEndsWell, GraphEndsWell}
 use Rattle.cw_consequences.proofs.Outcomes.{cells_clash}
-use Rattle.cw_consequences.proofs.Singles.{apart, never_spelled, never_unread}
+use Rattle.cw_consequences.proofs.Singles.{never_spelled, never_unread}
+use Rattle.cw_lemmas.proofs.Numbers.{lt_not_le as apart}
 
 -- ---- `weave`
 

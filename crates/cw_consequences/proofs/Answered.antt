@@ -1,15 +1,12 @@
 -- For the files of a command one answer is due.
-use Rattle.std.proofs.Common.{◌≡◌, ◌≢◌, inl, inr, ◌⊎◌, ℕ, ◌<◌, ◌≤◌, suc, ◌+◌, List, [], ◌∷◌, Bool, true, false, length, Some, refl, sym, ap, ap₂, ◌∙◌, subst, arith}
-use Rattle.std.specs.Prelude.{sum_by}
+use Rattle.std.proofs.Common.{◌≡◌, inl, inr, ℕ, List, [], ◌∷◌, true, false, length, refl, sym, ap, ap₂, ◌∙◌, subst, arith}
 use Rattle.std.proofs.lemmas.Bool.{cases_lt}
-use Rattle.std.proofs.lemmas.List.Sums.{sum_by-cons}
 use Rattle.std.proofs.lemmas.Option.{none-some, same_Some}
 use Rattle.cw_core.specs.Quantities.{limit_of}
 use Rattle.cw_core.specs.declared.quantity.Quantity.TheVariants.{Points}
 use Rattle.cw_rights.specs.Policies.{PlainPolicy}
 use Rattle.cw_rights.specs.Valid.{IsValid}
 use Rattle.cw_policy.proofs.Kept.{is_valid}
-use Rattle.cw_syntax.specs.Names.{Names}
 use Rattle.cw_syntax.specs.Plans.{plan_of, function_names}
 use Rattle.cw_syntax.specs.Trees.{File}
 use Rattle.cw_resolve.specs.Labels.{label_names}
@@ -18,9 +15,6 @@ use Rattle.cw_certs.specs.declared.moves.Move.{Move}
 use Rattle.cw_certs.specs.Strategies.{Strategy}
 use Rattle.cw_certs.specs.Tables.{Table}
 use Rattle.cw_points.specs.declared.graph.Graph.{Graph}
-use Rattle.cw_points.specs.declared.graph.Node.{Node}
-use Rattle.cw_points.specs.declared.graph.Part.{Part}
-use Rattle.cw_points.specs.Graphs.{IsGraph}
 use Rattle.cw_points.specs.Points.{point_count}
 use Rattle.cw_model.specs.Boards.{problem_of}
 use Rattle.cw_emit.specs.Cut.{cut}
@@ -31,16 +25,14 @@ use Rattle.cw_listing.specs.Listing.{graph_text}
 use Rattle.cw_play.specs.declared.end.PlayEnd.{PlayEnd}
 use Rattle.cw_play.specs.Plays.{IsPlayBy}
 use Rattle.cw_play.proofs.OnePlay.{one_play}
-use Rattle.cw_source.specs.Read.{ReadsAs}
 use Rattle.cw_source.proofs.OneAnswer.{never_both, one_fault, one_program}
 use Rattle.cw_trace.specs.Labels.{names_of as told_names}
-use Rattle.cw_trace.specs.Steps.{End, Step, IsRunBy, run_trace}
+use Rattle.cw_trace.specs.Steps.{End, Step, run_trace}
 use Rattle.cw_trace.specs.Traces.{Taken, trace}
 use Rattle.cw_trace.proofs.OneRun.{one_run}
 use Rattle.cw_woven.specs.declared.fault.WovenFault.{WovenFault}
 use Rattle.cw_woven.specs.declared.fault.WovenFault.TheVariants as woven
-use Rattle.cw_woven.specs.Parts.{without}
-use Rattle.cw_woven.specs.Reading.{the_prologue, IsFaultOver, ReadsWoven}
+use Rattle.cw_woven.specs.Reading.{the_prologue, IsFaultOver}
 use Rattle.cw_woven.proofs.Apart.{no_fault, one_reading as one_woven_reading}
 use Rattle.cw_woven.proofs.Cutting.{closed}
 use Rattle.cw_woven.proofs.OneFault.{one_fault as one_woven_fault}
@@ -56,7 +48,8 @@ use Rattle.cw_cli.specs.Listings.{call_lists, own_names, IsListed, IsListing, Is
 use Rattle.cw_cli.specs.Playing.{play_told, AfterPair as AfterPlayPair, AfterStrategy as AfterPlayStrategy, IsPlayDue, IsPlayTold, IsShown}
 use Rattle.cw_cli.specs.Refuting.{AfterPair as AfterRefutePair, AfterStrategy as AfterRefuteStrategy, IsJudged, IsRefuteDue}
 use Rattle.cw_cli.specs.Running.{run_told, AfterPolicy as AfterRunPolicy, AfterWoven as AfterRunWoven, IsRunDue, IsRunShown, IsRunTold}
-use Rattle.cw_consequences.proofs.Singles.{apart, IsOne, one_behind, one_reading, one_strategy, one_tape, one_where_fits, one_where_woven_fits}
+use Rattle.cw_lemmas.proofs.Numbers.{lt_not_le as apart}
+use Rattle.cw_consequences.proofs.Singles.{IsOne, one_behind, one_reading, one_strategy, one_tape, one_where_fits, one_where_woven_fits}
 
 -- ---- `graph`
 

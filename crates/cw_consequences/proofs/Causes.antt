@@ -1,6 +1,6 @@
 -- A program's graph and a policy have one answer to whether their game is over one of its numbers; and under a policy that allows more product states
 -- it is the same, but where these are over their number under the other.
-use Rattle.std.proofs.Common.{◌≡◌, ◌≢◌, ◌⊎◌, inl, inr, ℕ, ◌*◌, ◌<◌, ◌≤◌, List, length, refl, sym, ap₂, ◌∙◌, subst, arith}
+use Rattle.std.proofs.Common.{◌≡◌, ◌≢◌, ◌⊎◌, inl, inr, ℕ, ◌*◌, ◌<◌, ◌≤◌, List, length, refl, sym, ap₂, ◌∙◌, subst, arith, lt_of_lt_of_le}
 use Rattle.std.specs.Prelude.{Bool}
 use Rattle.std.specs.Ordering.{nat_cmp}
 use Rattle.std.proofs.lemmas.Cmp.{nat_cmp_total}
@@ -24,6 +24,7 @@ use Rattle.cw_product.specs.Product.{Held, IsCause}
 use Rattle.cw_product.specs.Uses.{uses_of}
 use Rattle.cw_product.specs.Made.{IsMade}
 use Rattle.cw_lazy_table.proofs.Sameness.{one}
+use Rattle.cw_lemmas.proofs.Numbers.{lt_not_le}
 use Rattle.cw_consequences.specs.Unrefused.{varied}
 use Rattle.cw_consequences.proofs.Listed.{rights_forth, rights_back, spots_same}
 use Rattle.cw_consequences.proofs.Rowed.{exactly}
@@ -83,10 +84,7 @@ module _ (p : PlainPolicy) (uses : Uses) (positions : ℕ) where
       → allowed < length xs * length rs → length ys * length us ≤ more → allowed < more
   between rs us xs ys allowed more a b lt le =
       let gt : allowed < length ys * length us = subst (λ n. allowed < n) (one_count rs us xs ys a b) lt in
-      lower allowed (length ys * length us) more gt le
-    where
-      lower : (a b c : ℕ) → a < b → b ≤ c → a < c
-      lower a b c lt le = omega (arith, lt, le)
+      lt_of_lt_of_le gt le
 
   unbetween : (rs us : List Caps) (xs ys : List ℕ) (allowed more : ℕ) → AreListed p uses rs xs → AreListed p uses us ys
       → length xs * length rs ≤ allowed → more < length ys * length us → allowed ≤ more → ⊥
@@ -96,10 +94,7 @@ module _ (p : PlainPolicy) (uses : Uses) (positions : ℕ) where
 
   never_positions : (rs us : List Caps) (xs ys : List ℕ) → AreListed p uses rs xs → AreListed p uses us ys
       → 1048576 < positions * (length xs * length rs) → positions * (length ys * length us) ≤ 1048576 → ⊥
-  never_positions rs us xs ys a b lt le = apart (positions * (length ys * length us)) (subst (λ n. 1048576 < positions * n) (one_count rs us xs ys a b) lt) le
-    where
-      apart : (n : ℕ) → 1048576 < n → n ≤ 1048576 → ⊥
-      apart n lt le = omega (arith, lt, le)
+  never_positions rs us xs ys a b lt le = lt_not_le 1048576 (positions * (length ys * length us)) (subst (λ n. 1048576 < positions * n) (one_count rs us xs ys a b) lt) le
 
   module _ (allowed more : ℕ) (wide : allowed ≤ more) where
     -- where both are refused

@@ -1,6 +1,6 @@
 -- What is due for the texts of a policy and of the policy varied says the same.
-use Rattle.std.proofs.Common.{◌≡◌, ◌⊎◌, inl, inr, ⊎_elim, ℕ, ◌<◌, ◌≤◌, List, Bool, false, None, refl, sym, ap, ◌∙◌, subst, arith}
-use Rattle.std.proofs.lemmas.Option.{none-some, same_Some}
+use Rattle.std.proofs.Common.{◌≡◌, ◌⊎◌, inl, inr, ⊎_elim, ℕ, ◌<◌, ◌≤◌, List, Bool, false, None, refl, sym, ap, ◌∙◌, subst, arith, le_refl, lt_irrefl}
+use Rattle.std.proofs.lemmas.Option.{same_Some}
 use Rattle.cw_core.specs.Quantities.{limit_in}
 use Rattle.cw_core.specs.declared.quantity.Quantity.TheVariants.{ProductStates}
 use Rattle.cw_rights.specs.Policies.{PlainPolicy}
@@ -24,6 +24,7 @@ use Rattle.cw_consequences.specs.Alike.{in_format, AreAlike}
 use Rattle.cw_consequences.specs.Laws.{FormatsAgree, StopGivesTheSame, WeaveHasOneAnswer}
 use Rattle.cw_consequences.proofs.Likes.{format_like, same_like, unrefused_like}
 use Rattle.cw_consequences.proofs.Outcomes.{IsLike}
+use Rattle.cw_consequences.proofs.Singles.{never_spelled, never_unread}
 use Rattle.cw_consequences.proofs.Stages.{after_pair, refused_alike}
 use Rattle.cw_consequences.proofs.Texts.{one_text}
 
@@ -55,13 +56,6 @@ module _ (source : List ℕ) (p : PlainPolicy) (limit enter split stop : Bool) (
   line_same (descriptor.Misuse at) = refl
   line_same descriptor.NoMemory = refl
 
-  -- a source that is read isn't unread
-  never_unread : (file : File) (due : Due) → ReadsAs source file → descriptor_fault source file p ≡ None → IsSourceUnread source p due → ⊥
-  never_unread file due reads none (inl (f, is, ne, e)) = never_both source file f ne reads is
-  never_unread file due reads none (inr (other, reading, (f, some, e))) =
-      let files : other ≡ file = one_program source other file reading reads in
-      none-some f (sym none ∙ sym (ap (λ (z : File). descriptor_fault source z p) files) ∙ some)
-
   unread_same : (due : Due) → IsSourceUnread source (varied p limit enter split stop format) due → IsSourceUnread source p due
   unread_same due (inl u) = inl u
   unread_same due (inr (file, reads, (f, some, e))) = inr (file, reads, (f, some, e ∙ ap (λ (l : List ℕ). Refused Source l) (line_same f)))
@@ -82,8 +76,8 @@ module _ (source : List ℕ) (p : PlainPolicy) (limit enter split stop : Bool) (
         → ((due ≡ over ProductStates) × (limit_in p.format ProductStates < limit_in format ProductStates))
         ⊎ AreAlike source p (varied p limit enter split stop format) due answer
     either_alike due answer (inl u) (inl w) = inr (unread_alike due answer u (unread_same answer w))
-    either_alike due answer (inl u) (inr (file, reads, none, after)) = absurd (never_unread file due reads none u)
-    either_alike due answer (inr (file, reads, none, after)) (inl w) = absurd (never_unread file answer reads none (unread_same answer w))
+    either_alike due answer (inl u) (inr (file, reads, none, after)) = absurd (never_unread source p file due reads none u)
+    either_alike due answer (inr (file, reads, none, after)) (inl w) = absurd (never_unread source p file answer reads none (unread_same answer w))
     either_alike due answer (inr (file, reads, none, after)) (inr (other, reading, nor, behind)) =
         let files : other ≡ file = one_program source other file reading reads in
         after_pair source file reads p limit enter split stop format like wide due answer after (subst (λ (z : File). AfterPair (IsVerdict y source z) source y z answer) files behind)
@@ -100,23 +94,14 @@ module _ (source : List ℕ) (p : PlainPolicy) (limit enter split stop : Bool) (
   one_due : (policy other : List ℕ) (due answer : Due) → Spells policy p → Spells other (varied p limit enter split stop p.format)
       → IsWeaveDue policy source due → IsWeaveDue other source answer → due ≡ answer
   one_due policy other due answer spells spelled a b =
-      ⊎_elim (λ k. absurd (never (limit_in p.format ProductStates) k.1)) (one_text p limit enter split stop source due answer)
-      (due_alike source p limit enter split stop p.format like (all (limit_in p.format ProductStates)) policy other due answer spells spelled a b)
-    where
-      never : (n : ℕ) → n < n → ⊥
-      never n lt = omega (arith, lt)
-
-      all : (n : ℕ) → n ≤ n
-      all n = omega arith
+      ⊎_elim (λ k. absurd (lt_irrefl (limit_in p.format ProductStates) k.1)) (one_text p limit enter split stop source due answer)
+      (due_alike source p limit enter split stop p.format like (le_refl (limit_in p.format ProductStates)) policy other due answer spells spelled a b)
 
 -- where the policy is refused, or spelled
 told_apart : (policy source : List ℕ) (due : Due) → IsWeaveDue policy source due → IsPolicyRefusal policy due ⊎ ((p : PlainPolicy) × Spells policy p)
 told_apart policy source due (inl (inl refusal)) = inl refusal
 told_apart policy source due (inl (inr (p, spells, unread))) = inr (p, spells)
 told_apart policy source due (inr (p, file, are, after)) = inr (p, are.spelled)
-
-never_spelled : (policy : List ℕ) (p : PlainPolicy) (due : Due) → IsPolicyRefusal policy due → Spells policy p → ⊥
-never_spelled policy p due (f, is, ne, e) spells = ne (refused_spells_none policy p f spells is)
 
 pub one_answer : WeaveHasOneAnswer
 one_answer policy source due answer a b = by (told_apart policy source due a) (told_apart policy source answer b)

@@ -1,25 +1,22 @@
 -- Stages of which one answer is due, where one is behind them.
-use Rattle.std.proofs.Common.{◌≡◌, ◌≢◌, inl, inr, ◌⊎◌, ℕ, ◌<◌, ◌≤◌, List, ◌∷◌, None, Some, Ok, Err, refl, sym, ap, ◌∙◌, subst, arith}
+use Rattle.std.proofs.Common.{◌≡◌, inl, inr, ◌⊎◌, ℕ, ◌<◌, List, None, Ok, Err, sym, ap, ◌∙◌, subst, le_refl, lt_irrefl}
 use Rattle.std.specs.Prelude.{Bool}
 use Rattle.std.proofs.lemmas.Option.{none-some, same_Some}
 use Rattle.cw_core.specs.Quantities.{limit_in, limit_of}
 use Rattle.cw_core.specs.declared.quantity.Quantity.TheVariants.{Points, ProductStates}
 use Rattle.cw_rights.specs.Policies.{PlainPolicy}
-use Rattle.cw_rights.specs.Valid.{IsValid}
 use Rattle.cw_syntax.specs.Plans.{plan_of}
 use Rattle.cw_syntax.specs.Trees.{File}
 use Rattle.cw_resolve.specs.Scenes.{names_of}
 use Rattle.cw_callgraph.specs.declared.fit.FitFault.{FitFault}
 use Rattle.cw_certs.specs.declared.moves.Move.{Move}
 use Rattle.cw_certs.specs.Strategies.{Strategy}
-use Rattle.cw_certs.specs.Tables.{Table}
 use Rattle.cw_points.specs.declared.graph.Graph.{Graph}
 use Rattle.cw_points.specs.Graphs.{IsGraph}
 use Rattle.cw_points.specs.Points.{point_count}
 use Rattle.cw_model.specs.Boards.{problem_of}
 use Rattle.cw_game.specs.Games.{Game}
 use Rattle.cw_game.specs.Standing.{IsGameOf}
-use Rattle.cw_product.specs.declared.fault.GameFault.{GameFault}
 use Rattle.cw_product.specs.declared.fault.GameFault.TheVariants.{TooManyStates}
 use Rattle.cw_product.specs.Product.{game_of}
 use Rattle.cw_policy.specs.Answer.{Spells}
@@ -28,9 +25,7 @@ use Rattle.cw_scope.specs.declared.descriptors.DescriptorFault.{DescriptorFault}
 use Rattle.cw_scope.specs.Descriptors.{descriptor_fault}
 use Rattle.cw_source.specs.Read.{ReadsAs}
 use Rattle.cw_source.proofs.OneAnswer.{never_both, one_fault, one_program}
-use Rattle.cw_text.specs.declared.fault.TextFault.{TextFault}
 use Rattle.cw_text.specs.declared.fault.TextFault.TheVariants as fault
-use Rattle.cw_text.specs.Tapes.{IsAnswer}
 use Rattle.cw_text.proofs.OneAnswer.{one_answer as one_tape_answer}
 use Rattle.cw_strategy_text.proofs.OneAnswer.{one_answer as one_strategy_answer}
 use Rattle.cw_commands.specs.declared.outcome.Cause.TheVariants.{Policy, Source}
@@ -43,11 +38,9 @@ use Rattle.cw_stages.specs.Strategies.{strategy_refusal, WithStrategy}
 use Rattle.cw_stages.specs.Tapes.{tape_refusal, WithTape}
 use Rattle.cw_stages.proofs.OneGame.{no_cause, one_game}
 use Rattle.cw_cli.proofs.Agreeing.{alike, fits_once}
+use Rattle.cw_lemmas.proofs.Numbers.{lt_not_le as apart}
 use Rattle.cw_consequences.proofs.Causes.{both_refused}
 use Rattle.cw_consequences.proofs.Fits.{one_fit}
-
-pub apart : (a b : ℕ) → a < b → b ≤ a → ⊥
-apart a b lt le = omega (arith, lt, le)
 
 -- two answers of which this holds are one
 abbrev pub IsOne : (Due → Type 0) → Type 0
@@ -147,16 +140,10 @@ module _ (source : List ℕ) (p : PlainPolicy) (file : File) (Next : Game → Du
   one_with_game : (g k : Graph) (due answer : Due) → IsGraph (names_of p) source file g → IsGraph (names_of p) source file k
       → WithGame Next source p file g due → WithGame Next source p file k answer → due ≡ answer
   one_with_game g k due answer drawn draws (inl (f, ne, cause, a)) (inl (e, nor, because, b)) =
-      by (both_refused p p.refuse_limit p.refuse_enter p.refuse_split p.stop p.format g k (alike p source file g k drawn draws) (all (limit_in p.format ProductStates)) f e ne nor cause because)
+      by (both_refused p p.refuse_limit p.refuse_enter p.refuse_split p.stop p.format g k (alike p source file g k drawn draws) (le_refl (limit_in p.format ProductStates)) f e ne nor cause because)
     where
-      all : (n : ℕ) → n ≤ n
-      all n = omega arith
-
-      never : (n : ℕ) → n < n → ⊥
-      never n lt = omega (arith, lt)
-
       by : ((f ≡ TooManyStates) × (limit_in p.format ProductStates < limit_in p.format ProductStates)) ⊎ (f ≡ e) → due ≡ answer
-      by (inl (same, lt)) = absurd (never (limit_in p.format ProductStates) lt)
+      by (inl (same, lt)) = absurd (lt_irrefl (limit_in p.format ProductStates) lt)
       by (inr same) = a ∙ ap game_refusal same ∙ sym b
   one_with_game g k due answer drawn draws (inl (f, ne, cause, a)) (inr (l, is, made, of, behind)) =
       absurd (no_cause p k g (alike p source file k g draws drawn) l f is made ne cause)
