@@ -42,7 +42,8 @@ use Rattle.cw_cli.specs.Refuting.{IsRefuteDue}
 use Rattle.cw_cli.specs.Weaving.{AfterPair, IsWeaveDue}
 use Rattle.cw_cli.proofs.Agreeing.{checked_won, judged_won, only_checked, only_judged}
 use Rattle.cw_cli.proofs.Winning.{IsWon, never_game, never_unread}
-use Rattle.cw_consequences.specs.Laws.{FormIsChecked, FormIsJudged, IsOnly, ProcsIsWeave}
+use Rattle.cw_cli.specs.Agreeing.{IsOnly}
+use Rattle.cw_consequences.specs.Laws.{FormIsChecked, FormIsJudged, ProcsIsWeave}
 
 -- ---- a text that is due is won for the form
 

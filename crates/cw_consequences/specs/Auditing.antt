@@ -19,7 +19,7 @@ use Rattle.cw_stages.specs.Refusals.{yes}
 use Rattle.cw_cli.specs.Auditing.{IsAuditDue}
 use Rattle.cw_cli.specs.Reauditing.{IsReauditDue}
 use Rattle.cw_cli.specs.Weaving.{IsWeaveDue}
-use Rattle.cw_consequences.specs.Laws.{IsOnly}
+use Rattle.cw_cli.specs.Agreeing.{IsOnly}
 
 -- Where an audit is due for a policy and a source, `yes` alone is due for them and that audit.
 abbrev pub AuditIsAccepted : Type 0

@@ -21,6 +21,7 @@ use Rattle.cw_cli.specs.Checking.{IsCheckDue}
 use Rattle.cw_cli.specs.Due.{IsDue}
 use Rattle.cw_cli.specs.Refuting.{IsRefuteDue}
 use Rattle.cw_cli.specs.Weaving.{IsWeaveDue}
+use Rattle.cw_cli.specs.Agreeing.{IsOnly}
 use Rattle.cw_consequences.specs.Alike.{in_format, AreAlike}
 
 -- For a policy and a source one answer is due.
@@ -35,10 +36,6 @@ IsFixed command = Unit {0}
 -- For the files of a command, whichever it is but that one, and for the number of a sample one answer is due.
 abbrev pub EachHasOneAnswer : Type 0
 EachHasOneAnswer = (command : Command) → IsFixed command → (files : List (List ℕ)) (due answer : Due) → IsDue command files due → IsDue command files answer → due ≡ answer
-
--- this is due, and nothing else
-abbrev pub IsOnly : (Due → Type 0) → Due → Type 0
-IsOnly Is due = Is due × ((other : Due) → Is other → other ≡ due)
 
 -- Where `procs` is due to write a woven text, `yes` alone is due for its check.
 abbrev pub FormIsChecked : Type 0
