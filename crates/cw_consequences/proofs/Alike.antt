@@ -12,7 +12,8 @@ use Rattle.cw_game.specs.Games.{Game, Ret, at_pair, refuses_in, returned, leads_
 use Rattle.cw_game.specs.Pairs.{has, kept_at}
 use Rattle.cw_solve.specs.declared.contexts.Context.{Context}
 use Rattle.cw_solve.specs.Contexts.{IsHeight, IsNeeded, of_main, of_call}
-use Rattle.cw_consequences.specs.Unrefused.{unrefused, under}
+use Rattle.cw_audit_laws.specs.Refusing.{ruled_by}
+use Rattle.cw_consequences.specs.Unrefused.{unrefused}
 use Rattle.cw_consequences.specs.Stopping.{StopKeepsTheGame}
 
 refusable_none : (policy : PlainPolicy) (a : Primitive) → is_refusable (unrefused policy) a ≡ false
@@ -31,14 +32,14 @@ never_matters true false may e = refl
 never_matters false refusable may e = cc
 
 -- games of the same positions and states that refuse alike
-module _ (g : Game) (x y : PlainPolicy) (refuses : (q : ℕ) (a : Primitive) → refuses_in (under g x) q a ≡ refuses_in (under g y) q a) where
+module _ (g : Game) (x y : PlainPolicy) (refuses : (q : ℕ) (a : Primitive) → refuses_in (ruled_by g x) q a ≡ refuses_in (ruled_by g y) q a) where
   abbrev u : Game
-  u = under g x
+  u = ruled_by g x
 
   abbrev v : Game
-  v = under g y
+  v = ruled_by g y
 
-  pub leads_same : (p q : ℕ) (rets : List Ret) (s : Option Spot) (by : Move) → leads_in (under g x) p q rets s by ≡ leads_in (under g y) p q rets s by
+  pub leads_same : (p q : ℕ) (rets : List Ret) (s : Option Spot) (by : Move) → leads_in (ruled_by g x) p q rets s by ≡ leads_in (ruled_by g y) p q rets s by
   leads_same p q rets None by = refl
   leads_same p q rets (Some (Visit j i a)) Skip = refl
   leads_same p q rets (Some (Visit j i a)) Try = refl
@@ -72,7 +73,7 @@ module _ (g : Game) (x y : PlainPolicy) (refuses : (q : ℕ) (a : Primitive) →
   Alike h k = (p q : ℕ) (e f : Promise) → ((z : ℕ) → e z ≡ f z) → h p q e ≡ k p q f
 
   holds_in_same : (h k : ℕ → ℕ → Promise → Bool) → Alike h k → (p q : ℕ) (e f : Promise) → ((z : ℕ) → e z ≡ f z) → (s : Option Spot)
-      → holds_in (under g x) h p q e s ≡ holds_in (under g y) k p q f s
+      → holds_in (ruled_by g x) h p q e s ≡ holds_in (ruled_by g y) k p q f s
   holds_in_same h k a p q e f w (Some (Visit j i b)) = ap₂ (λ m n. m || n) (a (p + 2) q e f w) (a (p + 1) q e f w)
   holds_in_same h k a p q e f w (Some (Asked j i Split)) =
       ap₂ (λ m n. m && n) (ap (λ n. not (g.states.may_grant q Split) || n) (a (p + 2) q e f w)) (ap₂ (λ m n. not m || n) (refuses q Split) (a (p + 1) q e f w))
@@ -90,32 +91,32 @@ module _ (g : Game) (x y : PlainPolicy) (refuses : (q : ℕ) (a : Primitive) →
   holds_in_same h k a p q e f w (Some (Exit c)) = ap (λ b. nat_eq c g.main || b) (w q)
   holds_in_same h k a p q e f w None = refl
 
-  holds_alike : (n : ℕ) → Alike (Holds (under g x) n) (Holds (under g y) n)
+  holds_alike : (n : ℕ) → Alike (Holds (ruled_by g x) n) (Holds (ruled_by g y) n)
   holds_alike zero p q e f w = refl
   holds_alike (suc n) p q e f w = holds_in_same (Holds u n) (Holds v n) (holds_alike n) p q e f w (slice_get g.spots p)
 
-  pub holds_same : (n p q : ℕ) (e : Promise) → Holds (under g x) n p q e ≡ Holds (under g y) n p q e
+  pub holds_same : (n p q : ℕ) (e : Promise) → Holds (ruled_by g x) n p q e ≡ Holds (ruled_by g y) n p q e
   holds_same n p q e = holds_alike n p q e e (λ z. refl)
 
-  pub lost_same : (p q : ℕ) (e : Promise) → IsLost (under g x) p q e → IsLost (under g y) p q e
+  pub lost_same : (p q : ℕ) (e : Promise) → IsLost (ruled_by g x) p q e → IsLost (ruled_by g y) p q e
   lost_same p q e l = (l.0, sym (holds_same l.0 p q e) ∙ l.1)
 
-  pub height_same : (p q e n : ℕ) → IsHeight (under g x) p q e n → IsHeight (under g y) p q e n
+  pub height_same : (p q e n : ℕ) → IsHeight (ruled_by g x) p q e n → IsHeight (ruled_by g y) p q e n
   height_same p q e n h = record { lost = sym (holds_same n p q (has e)) ∙ h.lost; least = λ m l. sym (holds_same m p q (has e)) ∙ h.least m l }
 
-  pub needed_same : (c : Context) → IsNeeded (under g x) c → IsNeeded (under g y) c
+  pub needed_same : (c : Context) → IsNeeded (ruled_by g x) c → IsNeeded (ruled_by g y) c
   needed_same _ of_main = of_main
   needed_same _ (of_call c n p q set call need of s es is) =
       of_call c n p q set call (needed_same c need) of s es
       (λ z. is z ∙ ap (λ b. nat_lt z g.states.count && b) (holds_same n call.back (returned g.states (kept_at call.split q) z) (has c.promise)))
 
 -- stop makes both refuse alike
-pub refuse_alike : (g : Game) → g.policy.stop ≡ true → (q : ℕ) (a : Primitive) → refuses_in (under g g.policy) q a ≡ refuses_in (under g (unrefused g.policy)) q a
+pub refuse_alike : (g : Game) → g.policy.stop ≡ true → (q : ℕ) (a : Primitive) → refuses_in (ruled_by g g.policy) q a ≡ refuses_in (ruled_by g (unrefused g.policy)) q a
 refuse_alike g stop q a =
     never_matters g.policy.stop (is_refusable g.policy a) (g.states.may_grant q a) stop
     ∙ sym (ap (λ r. refuses_by g.policy.stop r (g.states.may_grant q a)) (refusable_none g.policy a))
 
-pub refuse_back : (g : Game) → g.policy.stop ≡ true → (q : ℕ) (a : Primitive) → refuses_in (under g (unrefused g.policy)) q a ≡ refuses_in (under g g.policy) q a
+pub refuse_back : (g : Game) → g.policy.stop ≡ true → (q : ℕ) (a : Primitive) → refuses_in (ruled_by g (unrefused g.policy)) q a ≡ refuses_in (ruled_by g g.policy) q a
 refuse_back g stop q a = sym (refuse_alike g stop q a)
 
 pub played_alike : StopKeepsTheGame

@@ -24,7 +24,8 @@ use Rattle.cw_states.proofs.Ordered.{caps_total}
 use Rattle.cw_product.specs.Product.{Held, game_of}
 use Rattle.cw_product.specs.Uses.{uses_of}
 use Rattle.cw_lazy_table.proofs.Sameness.{one}
-use Rattle.cw_consequences.specs.Unrefused.{varied, under}
+use Rattle.cw_audit_laws.specs.Refusing.{ruled_by}
+use Rattle.cw_consequences.specs.Unrefused.{varied}
 use Rattle.cw_consequences.specs.Stopping.{GameIsUnrefused}
 use Rattle.cw_consequences.proofs.Least.{same_functions}
 use Rattle.cw_consequences.proofs.Rowed.{exactly}
@@ -102,7 +103,7 @@ built parts ns main p rights sets = record {
 }
 
 built_varied : (parts : List Part) (ns : List Node) (main : ℕ) (p : PlainPolicy) (limit enter split stop : Bool) (format : ℕ) (rights : List Caps) (sets : List ℕ)
-    → built parts ns main (varied p limit enter split stop format) rights sets ≡ under (built parts ns main p rights sets) (varied p limit enter split stop format)
+    → built parts ns main (varied p limit enter split stop format) rights sets ≡ ruled_by (built parts ns main p rights sets) (varied p limit enter split stop format)
 built_varied parts ns main p limit enter split stop format rights sets = λ i. record {
   spots = spots_same p limit enter split stop format parts ns i;
   entry = entry_same p limit enter split stop format parts ns i;
@@ -118,7 +119,7 @@ pub game_varied : (h k : Held) (limit enter split stop : Bool) (format : ℕ)
     → AreLists (uses_of (policy_of k.states.policy) k.graph.nodes.items) (lists_of k.states)
     → k.graph.nodes.items ≡ h.graph.nodes.items → k.graph.parts.items ≡ h.graph.parts.items → k.graph.main ≡ h.graph.main
     → policy_of k.states.policy ≡ varied (policy_of h.states.policy) limit enter split stop format
-    → game_of k ≡ under (game_of h) (varied (policy_of h.states.policy) limit enter split stop format)
+    → game_of k ≡ ruled_by (game_of h) (varied (policy_of h.states.policy) limit enter split stop format)
 game_varied h k limit enter split stop format own other nodes parts main policies =
     let p = policy_of h.states.policy in
     let y = varied p limit enter split stop format in

@@ -27,7 +27,7 @@ use Rattle.cw_lazy_table.proofs.Sameness.{lazy_is_one, one}
 use Rattle.cw_least_strategy.specs.declared.key.Key.{Key}
 use Rattle.cw_least_strategy.specs.Strategies.{IsLeastStrategy, key_cmp, named, row_at, rows_of, start_key}
 use Rattle.cw_least_strategy.proofs.Keys.{key_total}
-use Rattle.cw_consequences.specs.Unrefused.{under}
+use Rattle.cw_audit_laws.specs.Refusing.{ruled_by}
 use Rattle.cw_consequences.proofs.Alike.{height_same, holds_same, needed_same}
 use Rattle.cw_consequences.proofs.Least.{strategy_same}
 use Rattle.cw_strategy_text.specs.StrategyText.{strategy_text}
@@ -146,13 +146,13 @@ module _ (g : Game) where
 
 -- A game is played alike under another policy: a refusal is a move of both or of neither, and where the lazy table can begin it is the same.
 pub record IsLike (g : Game) (y : PlainPolicy) : Type 0 where
-  pub forth : (q : ℕ) (a : Primitive) → refuses_in (under g g.policy) q a ≡ refuses_in (under g y) q a
-  pub back : (q : ℕ) (a : Primitive) → refuses_in (under g y) q a ≡ refuses_in (under g g.policy) q a
+  pub forth : (q : ℕ) (a : Primitive) → refuses_in (ruled_by g g.policy) q a ≡ refuses_in (ruled_by g y) q a
+  pub back : (q : ℕ) (a : Primitive) → refuses_in (ruled_by g y) q a ≡ refuses_in (ruled_by g g.policy) q a
   pub tables : (functions : ℕ) → CanBegin g functions → (t : Table)
-      → (IsLazyTable g t → IsLazyTable (under g y) t) × (IsLazyTable (under g y) t → IsLazyTable g t)
+      → (IsLazyTable g t → IsLazyTable (ruled_by g y) t) × (IsLazyTable (ruled_by g y) t → IsLazyTable g t)
 
 module _ (g : Game) (y : PlainPolicy) (like : IsLike g y) (functions : ℕ) (begins : StartHolds g → CanBegin g functions) where
-  many_moved : HasManyCells g → HasManyCells (under g y)
+  many_moved : HasManyCells g → HasManyCells (ruled_by g y)
   many_moved (contexts, are) = (
     contexts,
     record {
@@ -161,7 +161,7 @@ module _ (g : Game) (y : PlainPolicy) (like : IsLike g y) (functions : ℕ) (beg
     },
   )
 
-  few_moved : HasFewCells g → HasFewCells (under g y)
+  few_moved : HasFewCells g → HasFewCells (ruled_by g y)
   few_moved (contexts, are, le) = (
     contexts,
     record {
@@ -172,17 +172,17 @@ module _ (g : Game) (y : PlainPolicy) (like : IsLike g y) (functions : ℕ) (beg
     le,
   )
 
-  holds_moved : StartHolds g → StartHolds (under g y)
+  holds_moved : StartHolds g → StartHolds (ruled_by g y)
   holds_moved holds n = sym (holds_same g g.policy y like.forth n (g.entry g.main) g.states.start (has (all_states g))) ∙ holds n
 
-  rows_moved : HasManyRows g → HasManyRows (under g y)
+  rows_moved : HasManyRows g → HasManyRows (ruled_by g y)
   rows_moved (inl (holds, (t, lazy, many))) = inl (holds_moved holds, (t, (like.tables functions (begins holds) t).0 lazy, many))
   rows_moved (inr ((n, is), (s, least, many))) = inr (
     (n, height_same g g.policy y like.forth (g.entry g.main) g.states.start (all_states g) n is),
     (s, strategy_same g g.policy y like.forth like.back s least, many),
   )
 
-  pub moved : (o : Outcome) → Ends g o → Ends (under g y) o
+  pub moved : (o : Outcome) → Ends g o → Ends (ruled_by g y) o
   moved ManyCells a = many_moved a
   moved ManyRows (few, many) = (few_moved few, rows_moved many)
   moved (Woven t) (few, holds, lazy, short) = (few_moved few, holds_moved holds, (like.tables functions (begins holds) t).0 lazy, short)

@@ -26,7 +26,8 @@ use Rattle.cw_lazy_table.specs.Lazy.{IsAfter, GoesOn, IsRefused, IsMemory, IsLiv
 use Rattle.cw_lazy_table.specs.Laws.{CanBegin}
 use Rattle.cw_lazy_table.specs.Live.{IsFull, IsLive, begins, skips, tries, moves, goes_on, calls, returns}
 use Rattle.cw_lazy_table.proofs.Keeping.{came}
-use Rattle.cw_consequences.specs.Unrefused.{unrefused, under}
+use Rattle.cw_audit_laws.specs.Refusing.{ruled_by}
+use Rattle.cw_consequences.specs.Unrefused.{unrefused}
 use Rattle.cw_consequences.specs.Stopping.{StopKeepsTheTable}
 use Rattle.cw_consequences.proofs.Alike.{leads_same, lost_same, refuse_alike, refuse_back}
 
@@ -35,15 +36,15 @@ exactly cmp P Q xs f h e = (e.0, λ k. ((λ c. f k ((e.1 k).0 c)), (λ q. (e.1 k
 
 -- from a game to one of the same positions and states that refuses alike and has the same live pairs
 module _ (g : Game) (x y : PlainPolicy)
-    (forth : (q : ℕ) (a : Primitive) → refuses_in (under g x) q a ≡ refuses_in (under g y) q a)
-    (back : (q : ℕ) (a : Primitive) → refuses_in (under g y) q a ≡ refuses_in (under g x) q a) where
+    (forth : (q : ℕ) (a : Primitive) → refuses_in (ruled_by g x) q a ≡ refuses_in (ruled_by g y) q a)
+    (back : (q : ℕ) (a : Primitive) → refuses_in (ruled_by g y) q a ≡ refuses_in (ruled_by g x) q a) where
   abbrev u : Game
-  u = under g x
+  u = ruled_by g x
 
   abbrev v : Game
-  v = under g y
+  v = ruled_by g y
 
-  pub full_same : (call : Called) (q e set : ℕ) → IsFull (under g x) call q e set → IsFull (under g y) call q e set
+  pub full_same : (call : Called) (q e set : ℕ) → IsFull (ruled_by g x) call q e set → IsFull (ruled_by g y) call q e set
   full_same call q e set f = record {
     states = f.states;
     kept = λ z t l. f.kept z t (lost_same g y x back call.back (returned g.states (kept_at call.split q) z) (has e) l);
@@ -51,9 +52,9 @@ module _ (g : Game) (x y : PlainPolicy)
   }
 
   -- what is live stays so, if it goes on alike
-  module _ (on : (p q e : ℕ) (pair : ℕ × ℕ) → IsLive (under g x) p q e → IsLive (under g y) p q e → resumed (under g x) p q ≡ Some pair
-      → (IsLost (under g x) pair.0 pair.1 (has e) → ⊥) → IsLive (under g y) pair.0 pair.1 e) where
-    pub live_same : (p q e : ℕ) → IsLive (under g x) p q e → IsLive (under g y) p q e
+  module _ (on : (p q e : ℕ) (pair : ℕ × ℕ) → IsLive (ruled_by g x) p q e → IsLive (ruled_by g y) p q e → resumed (ruled_by g x) p q ≡ Some pair
+      → (IsLost (ruled_by g x) pair.0 pair.1 (has e) → ⊥) → IsLive (ruled_by g y) pair.0 pair.1 e) where
+    pub live_same : (p q e : ℕ) → IsLive (ruled_by g x) p q e → IsLive (ruled_by g y) p q e
     live_same p q e begins = begins
     live_same r s t (skips p q e j i a live es n) = skips p q e j i a (live_same p q e live) es (λ l. n (lost_same g y x back (p + 2) q (has e) l))
     live_same r s t (tries p q e j i a live es l) = tries p q e j i a (live_same p q e live) es (lost_same g x y forth (p + 2) q (has e) l)
@@ -64,22 +65,22 @@ module _ (g : Game) (x y : PlainPolicy)
         returns p q e set z call (live_same p q e live) es (full_same call q e set f) (live_same (g.exit call.function) z set ended)
 
   -- and so do the rows of the table, where going on is the same at what is asked
-  module _ (live : (p q e : ℕ) → IsLive (under g x) p q e → IsLive (under g y) p q e)
-      (goes : (ms : List (StateId × ℕ)) (p q e j i : ℕ) (a : Primitive) (m : Option MemId) → IsLive (under g x) p q e → slice_get g.spots p ≡ Some (Asked j i a)
-      → GoesOn (under g x) ms e (resumed (under g x) p q) m → GoesOn (under g y) ms e (resumed (under g y) p q) m) where
-    pub memory_same : (r : StateId × ℕ) → IsMemory (under g x) r → IsMemory (under g y) r
+  module _ (live : (p q e : ℕ) → IsLive (ruled_by g x) p q e → IsLive (ruled_by g y) p q e)
+      (goes : (ms : List (StateId × ℕ)) (p q e j i : ℕ) (a : Primitive) (m : Option MemId) → IsLive (ruled_by g x) p q e → slice_get g.spots p ≡ Some (Asked j i a)
+      → GoesOn (ruled_by g x) ms e (resumed (ruled_by g x) p q) m → GoesOn (ruled_by g y) ms e (resumed (ruled_by g y) p q) m) where
+    pub memory_same : (r : StateId × ℕ) → IsMemory (ruled_by g x) r → IsMemory (ruled_by g y) r
     memory_same r h = record { pos = h.pos; live = live h.pos r.0.0 r.1 h.live }
 
     module _ (ms : List (StateId × ℕ)) where
-      pub row_same : (r : PosId × MemId) → IsLiveRow (under g x) ms r → IsLiveRow (under g y) ms r
+      pub row_same : (r : PosId × MemId) → IsLiveRow (ruled_by g x) ms r → IsLiveRow (ruled_by g y) ms r
       row_same r h = record { state = h.state; promise = h.promise; live = live r.0.0 h.state h.promise h.live; meant = h.meant }
 
-      refused_same : (p q e j i : ℕ) (a : Primitive) (o : Option Config) (m : Option MemId) → IsLive (under g x) p q e → slice_get g.spots p ≡ Some (Asked j i a)
-          → IsRefused (under g x) ms p q e o m → IsRefused (under g y) ms p q e o m
+      refused_same : (p q e j i : ℕ) (a : Primitive) (o : Option Config) (m : Option MemId) → IsLive (ruled_by g x) p q e → slice_get g.spots p ≡ Some (Asked j i a)
+          → IsRefused (ruled_by g x) ms p q e o m → IsRefused (ruled_by g y) ms p q e o m
       refused_same p q e j i a None m l es h = goes ms p q e j i a m l es h
       refused_same p q e j i a (Some c) m l es h = h
 
-      pub try_same : (r : TryRow) → IsTryRow (under g x) ms r → IsTryRow (under g y) ms r
+      pub try_same : (r : TryRow) → IsTryRow (ruled_by g x) ms r → IsTryRow (ruled_by g y) ms r
       try_same r h =
           let s = Some (Asked r.seam.0 r.stage h.prim) in
           record {
@@ -95,7 +96,7 @@ module _ (g : Game) (x y : PlainPolicy)
                 (refused_same h.pos h.state h.promise r.seam.0 r.stage h.prim (leads_in u h.pos h.state [] s Refuse) r.refused h.live h.asked h.refused);
           }
 
-      pub label_same : (r : AtRow) → IsLabelRow (under g x) ms r → IsLabelRow (under g y) ms r
+      pub label_same : (r : AtRow) → IsLabelRow (ruled_by g x) ms r → IsLabelRow (ruled_by g y) ms r
       label_same r h = record {
         pos = h.pos;
         state = h.state;
@@ -108,7 +109,7 @@ module _ (g : Game) (x y : PlainPolicy)
         after = h.after;
       }
 
-      pub open_same : (r : OpenRow) → IsOpenRow (under g x) ms r → IsOpenRow (under g y) ms r
+      pub open_same : (r : OpenRow) → IsOpenRow (ruled_by g x) ms r → IsOpenRow (ruled_by g y) ms r
       open_same r h = record {
         pos = h.pos;
         state = h.state;
@@ -122,7 +123,7 @@ module _ (g : Game) (x y : PlainPolicy)
         failed = h.failed;
       }
 
-      pub close_same : (r : AtRow) → IsCloseRow (under g x) ms r → IsCloseRow (under g y) ms r
+      pub close_same : (r : AtRow) → IsCloseRow (ruled_by g x) ms r → IsCloseRow (ruled_by g y) ms r
       close_same r h = record {
         pos = h.pos;
         state = h.state;
@@ -135,7 +136,7 @@ module _ (g : Game) (x y : PlainPolicy)
         after = h.after;
       }
 
-      called_same : (seam : ℕ) (split : Bool) (m : ℕ) → IsCalled (under g x) ms seam split m → IsCalled (under g y) ms seam split m
+      called_same : (seam : ℕ) (split : Bool) (m : ℕ) → IsCalled (ruled_by g x) ms seam split m → IsCalled (ruled_by g y) ms seam split m
       called_same seam split m h = record {
         pos = h.pos;
         state = h.state;
@@ -150,11 +151,11 @@ module _ (g : Game) (x y : PlainPolicy)
         full = full_same h.call h.state h.promise h.set h.full;
       }
 
-      pub into_same : (r : IntoRow) → IsIntoRow (under g x) ms r → IsIntoRow (under g y) ms r
+      pub into_same : (r : IntoRow) → IsIntoRow (ruled_by g x) ms r → IsIntoRow (ruled_by g y) ms r
       unfolding called_same
       into_same r h = record { called = called_same r.seam.0 r.split r.mem.0 h.called; callee = h.callee }
 
-      pub back_same : (r : BackRow) → IsBackRow (under g x) ms r → IsBackRow (under g y) ms r
+      pub back_same : (r : BackRow) → IsBackRow (ruled_by g x) ms r → IsBackRow (ruled_by g y) ms r
       unfolding called_same
       back_same r h = record {
         called = called_same r.seam.0 r.split r.mem.0 h.called;
@@ -164,21 +165,21 @@ module _ (g : Game) (x y : PlainPolicy)
 
 -- so the table is the same, where the live pairs are the same and going on is
 module _ (g : Game) (x y : PlainPolicy)
-    (forth : (q : ℕ) (a : Primitive) → refuses_in (under g x) q a ≡ refuses_in (under g y) q a)
-    (back : (q : ℕ) (a : Primitive) → refuses_in (under g y) q a ≡ refuses_in (under g x) q a)
-    (live : (p q e : ℕ) → IsLive (under g x) p q e → IsLive (under g y) p q e)
-    (lives : (p q e : ℕ) → IsLive (under g y) p q e → IsLive (under g x) p q e)
-    (goes : (ms : List (StateId × ℕ)) (p q e j i : ℕ) (a : Primitive) (m : Option MemId) → IsLive (under g x) p q e → slice_get g.spots p ≡ Some (Asked j i a)
-    → GoesOn (under g x) ms e (resumed (under g x) p q) m → GoesOn (under g y) ms e (resumed (under g y) p q) m)
-    (comes : (ms : List (StateId × ℕ)) (p q e j i : ℕ) (a : Primitive) (m : Option MemId) → IsLive (under g y) p q e → slice_get g.spots p ≡ Some (Asked j i a)
-    → GoesOn (under g y) ms e (resumed (under g y) p q) m → GoesOn (under g x) ms e (resumed (under g x) p q) m) where
+    (forth : (q : ℕ) (a : Primitive) → refuses_in (ruled_by g x) q a ≡ refuses_in (ruled_by g y) q a)
+    (back : (q : ℕ) (a : Primitive) → refuses_in (ruled_by g y) q a ≡ refuses_in (ruled_by g x) q a)
+    (live : (p q e : ℕ) → IsLive (ruled_by g x) p q e → IsLive (ruled_by g y) p q e)
+    (lives : (p q e : ℕ) → IsLive (ruled_by g y) p q e → IsLive (ruled_by g x) p q e)
+    (goes : (ms : List (StateId × ℕ)) (p q e j i : ℕ) (a : Primitive) (m : Option MemId) → IsLive (ruled_by g x) p q e → slice_get g.spots p ≡ Some (Asked j i a)
+    → GoesOn (ruled_by g x) ms e (resumed (ruled_by g x) p q) m → GoesOn (ruled_by g y) ms e (resumed (ruled_by g y) p q) m)
+    (comes : (ms : List (StateId × ℕ)) (p q e j i : ℕ) (a : Primitive) (m : Option MemId) → IsLive (ruled_by g y) p q e → slice_get g.spots p ≡ Some (Asked j i a)
+    → GoesOn (ruled_by g y) ms e (resumed (ruled_by g y) p q) m → GoesOn (ruled_by g x) ms e (resumed (ruled_by g x) p q) m) where
   abbrev a : Game
-  a = under g x
+  a = ruled_by g x
 
   abbrev b : Game
-  b = under g y
+  b = ruled_by g y
 
-  pub table_same : (t : Table) → IsLazyTable (under g x) t → IsLazyTable (under g y) t
+  pub table_same : (t : Table) → IsLazyTable (ruled_by g x) t → IsLazyTable (ruled_by g y) t
   table_same t h = record {
     states = h.states;
     start = h.start;
@@ -203,7 +204,7 @@ resumed_asked g p q None pair e = absurd (none-some pair e)
 resumed_asked g p q (Some _) pair e = absurd (none-some pair e)
 
 -- where nothing can be refused nothing resumes
-never_stops : (g : Game) (q : ℕ) (a : Primitive) → can_stop_in (under g (unrefused g.policy)) q a ≡ false
+never_stops : (g : Game) (q : ℕ) (a : Primitive) → can_stop_in (ruled_by g (unrefused g.policy)) q a ≡ false
 never_stops g q (Limit limit) = by g.policy.stop
   where
     by : (b : Bool) → (b && (false && g.states.may_grant q (Limit limit))) ≡ false
@@ -220,7 +221,7 @@ never_stops g q Split = by g.policy.stop
     by true = refl
     by false = refl
 
-resumes_none : (g : Game) (p q j i : ℕ) (a : Primitive) → resumed_in (under g (unrefused g.policy)) p q (Some (Asked j i a)) ≡ None
+resumes_none : (g : Game) (p q j i : ℕ) (a : Primitive) → resumed_in (ruled_by g (unrefused g.policy)) p q (Some (Asked j i a)) ≡ None
 resumes_none g p q j i a = ap (λ b. cond b (Some (p + 1, q)) None) (never_stops g q a)
 
 module _ (g : Game) (functions : ℕ) (stop : g.policy.stop ≡ true) (can : CanBegin g functions) where
@@ -242,31 +243,31 @@ module _ (g : Game) (functions : ℕ) (stop : g.policy.stop ≡ true) (can : Can
       let r = resumed_asked g p q (slice_get g.spots p) pair is in
       n (subst (λ (k : ℕ × ℕ). IsLost g k.0 k.1 (has e)) r.4 (skip_lost p q e r.0 r.1 r.2 live r.3))
 
-  never : (p q e : ℕ) (pair : ℕ × ℕ) → IsLive (under g (unrefused g.policy)) p q e → resumed (under g (unrefused g.policy)) p q ≡ Some pair
-      → (IsLost (under g (unrefused g.policy)) pair.0 pair.1 (has e) → ⊥) → ⊥
+  never : (p q e : ℕ) (pair : ℕ × ℕ) → IsLive (ruled_by g (unrefused g.policy)) p q e → resumed (ruled_by g (unrefused g.policy)) p q ≡ Some pair
+      → (IsLost (ruled_by g (unrefused g.policy)) pair.0 pair.1 (has e) → ⊥) → ⊥
   never p q e pair live is n =
-      let r = resumed_asked (under g y) p q (slice_get g.spots p) pair is in
-      none-some pair (sym (ap (resumed_in (under g y) p q) r.3 ∙ resumes_none g p q r.0 r.1 r.2) ∙ is)
+      let r = resumed_asked (ruled_by g y) p q (slice_get g.spots p) pair is in
+      none-some pair (sym (ap (resumed_in (ruled_by g y) p q) r.3 ∙ resumes_none g p q r.0 r.1 r.2) ∙ is)
 
-  pub live_forth : (p q e : ℕ) → IsLive g p q e → IsLive (under g (unrefused g.policy)) p q e
+  pub live_forth : (p q e : ℕ) → IsLive g p q e → IsLive (ruled_by g (unrefused g.policy)) p q e
   live_forth = live_same g x y (refuse_alike g stop) (refuse_back g stop) (λ p q e pair live same is n. absurd (stays p q e pair live is n))
 
-  pub live_back : (p q e : ℕ) → IsLive (under g (unrefused g.policy)) p q e → IsLive g p q e
+  pub live_back : (p q e : ℕ) → IsLive (ruled_by g (unrefused g.policy)) p q e → IsLive g p q e
   live_back = live_same g y x (refuse_back g stop) (refuse_alike g stop) (λ p q e pair live same is n. absurd (never p q e pair live is n))
 
   goes : (ms : List (StateId × ℕ)) (p q e j i : ℕ) (a : Primitive) (m : Option MemId) → IsLive g p q e → slice_get g.spots p ≡ Some (Asked j i a)
-      → GoesOn g ms e (resumed g p q) m → GoesOn (under g (unrefused g.policy)) ms e (resumed (under g (unrefused g.policy)) p q) m
-  goes ms p q e j i a m live es h = subst (λ o. GoesOn (under g y) ms e o m) (sym (ap (resumed_in (under g y) p q) es ∙ resumes_none g p q j i a)) (by (resumed g p q) refl m h)
+      → GoesOn g ms e (resumed g p q) m → GoesOn (ruled_by g (unrefused g.policy)) ms e (resumed (ruled_by g (unrefused g.policy)) p q) m
+  goes ms p q e j i a m live es h = subst (λ o. GoesOn (ruled_by g y) ms e o m) (sym (ap (resumed_in (ruled_by g y) p q) es ∙ resumes_none g p q j i a)) (by (resumed g p q) refl m h)
     where
       by : (o : Option (ℕ × ℕ)) → resumed g p q ≡ o → (m : Option MemId) → GoesOn g ms e o m → m ≡ None
       by None is m h = h
       by (Some pair) is None h = refl
       by (Some pair) is (Some k) h = absurd (stays p q e pair live is h.0)
 
-  comes : (ms : List (StateId × ℕ)) (p q e j i : ℕ) (a : Primitive) (m : Option MemId) → IsLive (under g (unrefused g.policy)) p q e → slice_get g.spots p ≡ Some (Asked j i a)
-      → GoesOn (under g (unrefused g.policy)) ms e (resumed (under g (unrefused g.policy)) p q) m → GoesOn g ms e (resumed g p q) m
+  comes : (ms : List (StateId × ℕ)) (p q e j i : ℕ) (a : Primitive) (m : Option MemId) → IsLive (ruled_by g (unrefused g.policy)) p q e → slice_get g.spots p ≡ Some (Asked j i a)
+      → GoesOn (ruled_by g (unrefused g.policy)) ms e (resumed (ruled_by g (unrefused g.policy)) p q) m → GoesOn g ms e (resumed g p q) m
   comes ms p q e j i a m live es h =
-      let n : m ≡ None = subst (λ o. GoesOn (under g y) ms e o m) (ap (resumed_in (under g y) p q) es ∙ resumes_none g p q j i a) h in
+      let n : m ≡ None = subst (λ o. GoesOn (ruled_by g y) ms e o m) (ap (resumed_in (ruled_by g y) p q) es ∙ resumes_none g p q j i a) h in
       subst (GoesOn g ms e (resumed g p q)) (sym n) (by (resumed g p q) refl)
     where
       by : (o : Option (ℕ × ℕ)) → resumed g p q ≡ o → GoesOn g ms e o None

@@ -1,5 +1,5 @@
 -- What is due behind the reading for a policy and for the policy varied says the same, stage by stage.
-use Rattle.std.proofs.Common.{◌≡◌, ◌⊎◌, inl, inr, ⊎_elim, ℕ, ◌<◌, ◌≤◌, List, Bool, length, sym, ap, ◌∙◌, subst, arith}
+use Rattle.std.proofs.Common.{◌≡◌, ◌⊎◌, inl, inr, ⊎_elim, ℕ, ◌<◌, ◌≤◌, List, Bool, length, sym, ap, ◌∙◌, subst}
 use Rattle.cw_core.specs.Quantities.{limit_in, limit_of}
 use Rattle.cw_core.specs.declared.quantity.Quantity.TheVariants.{Points, ProductStates}
 use Rattle.cw_rights.specs.Policies.{PlainPolicy, policy_of}
@@ -19,7 +19,8 @@ use Rattle.cw_product.specs.Product.{Held, game_of}
 use Rattle.cw_product.specs.Made.{IsMade}
 use Rattle.cw_source.specs.Read.{ReadsAs}
 use Rattle.cw_lazy_table.proofs.Made.{can_begin}
-use Rattle.cw_consequences.specs.Unrefused.{under, varied}
+use Rattle.cw_audit_laws.specs.Refusing.{ruled_by}
+use Rattle.cw_consequences.specs.Unrefused.{varied}
 use Rattle.cw_consequences.proofs.Listed.{game_varied}
 use Rattle.cw_commands.specs.declared.outcome.Cause.{Cause}
 use Rattle.cw_commands.specs.declared.outcome.Cause.TheVariants.{Policy}
@@ -87,14 +88,14 @@ module _ (source : List ℕ) (file : File) (reads : ReadsAs source file) (p : Pl
       ap (λ (m : Graph). m.parts.items) other.graph_is ∙ sym like_graphs.parts ∙ sym (ap (λ (m : Graph). m.parts.items) is.graph_is) in
       let main : l.graph.main ≡ h.graph.main =
       ap (λ (m : Graph). m.main) other.graph_is ∙ sym like_graphs.main ∙ sym (ap (λ (m : Graph). m.main) is.graph_is) in
-      let games : game_of l ≡ under (game_of h) (varied p limit enter split stop format) =
+      let games : game_of l ≡ ruled_by (game_of h) (varied p limit enter split stop format) =
       game_varied h l limit enter split stop format made.lists makes.lists nodes parts main policies
-      ∙ ap (λ (q : PlainPolicy). under (game_of h) (varied q limit enter split stop format)) is.policy_is in
+      ∙ ap (λ (q : PlainPolicy). ruled_by (game_of h) (varied q limit enter split stop format)) is.policy_is in
       let first = ends source file p (game_of h) due of after in
       let second = ends source file y (game_of l) answer ofs behind in
-      let here : Ends (under (game_of h) y) first.0 = moved (game_of h) y (like (game_of h) is.policy_is) (length h.graph.parts.items) (λ holds. can_begin h made holds) first.0 first.1 in
-      let there : Ends (under (game_of h) y) second.0 = subst (λ (m : Game). Ends m second.0) games second.1 in
-      let same : first.0 ≡ second.0 = one_outcome (under (game_of h) y) first.0 second.0 here there in
+      let here : Ends (ruled_by (game_of h) y) first.0 = moved (game_of h) y (like (game_of h) is.policy_is) (length h.graph.parts.items) (λ holds. can_begin h made holds) first.0 first.1 in
+      let there : Ends (ruled_by (game_of h) y) second.0 = subst (λ (m : Game). Ends m second.0) games second.1 in
+      let same : first.0 ≡ second.0 = one_outcome (ruled_by (game_of h) y) first.0 second.0 here there in
       says_alike source p y file second.0 due answer reads (subst (λ (o : Outcome). Says source file p o due) same first.2) second.2
 
   after_graphs : (g k : Graph) (due answer : Due) → IsGraph (names_of p) source file g → IsGraph (names_of p) source file k

@@ -2,6 +2,7 @@
 use Rattle.std.specs.Prelude.{ℕ, Bool, false}
 use Rattle.cw_rights.specs.Policies.{PlainPolicy}
 use Rattle.cw_game.specs.Games.{Game}
+use Rattle.cw_audit_laws.specs.Refusing.{ruled_by}
 
 -- the same descriptors, limits, labels, rules and functions in processes of their own, but that these primitives can be refused, and this is done after
 -- a refusal, in this format
@@ -24,17 +25,6 @@ varied policy limit enter split stop format = record {
 abbrev pub unrefused : PlainPolicy → PlainPolicy
 unrefused policy = varied policy false false false policy.stop policy.format
 
--- the same positions and states under another policy
-abbrev pub under : Game → PlainPolicy → Game
-under g policy = record {
-  spots = g.spots;
-  entry = g.entry;
-  exit = g.exit;
-  main = g.main;
-  policy = policy;
-  states = g.states;
-}
-
 -- the same game, but that no primitive can be refused that may be granted
 abbrev pub unrefused_game : Game → Game
-unrefused_game g = under g (unrefused g.policy)
+unrefused_game g = ruled_by g (unrefused g.policy)
