@@ -2,6 +2,7 @@
 use Rattle.std.proofs.Common.{◌≡◌, ℕ, suc, List, [], ◌∷◌, ◌++◌, option_map, Option, Some, None, refl, sym, ap, ap₂, ◌∙◌, subst, ◌⊎◌, inl, inr}
 use Rattle.std.specs.Prelude.{map, false}
 use Rattle.std.proofs.lemmas.Option.{none-some, same_Some}
+use Rattle.cw_lemmas.proofs.Options.{option_map_some}
 use Rattle.cw_rights.specs.declared.capabilities.Caps.{Caps}
 use Rattle.cw_rights.specs.declared.capabilities.Primitive.{Primitive}
 use Rattle.cw_rights.specs.Policies.{PlainPolicy, PlainDescriptor, IsBad, start_caps}
@@ -120,10 +121,6 @@ letters_seen ((Test at decided stepped s ∷ is) ∷ frames) caps = refl
 letters_seen ((After at ∷ is) ∷ frames) caps = refl
 letters_seen ((Mark ∷ is) ∷ frames) caps = refl
 
-mapped : {A B : Type 0} (f : A → B) (o : Option A) (b : B) → option_map f o ≡ Some b → (a : A) × (o ≡ Some a) × (f a ≡ b)
-mapped f None b e = absurd (none-some b e)
-mapped f (Some a) b e = (a, refl, same_Some (f a) b e)
-
 no_front : (stack : List Frame) (caps : Caps) → stack ≡ [] → letters stack caps ≡ []
 no_front [] caps e = refl
 no_front (frame ∷ frames) caps e = cc
@@ -197,7 +194,7 @@ module _ (p q : Problem) (like : AreLike p q) where
       let here : pass (whole_plan p.plan) (whole_stack s) way ≡ Some (whole_stack next) = sym (pass_whole p.plan s way) ∙ ap (option_map whole_stack) l in
       let there : pass (whole_plan q.plan) (whole_stack t) way ≡ Some (whole_stack next) =
       sym (ap₂ (λ (plan : Plan) (stack : List Frame). pass plan stack way) like.plans e) ∙ here in
-      mapped whole_stack (pass q.plan t way) (whole_stack next) (pass_whole q.plan t way ∙ there)
+      option_map_some whole_stack (pass q.plan t way) (whole_stack next) (pass_whole q.plan t way ∙ there)
 
   landed_twin : (b c : Board) (way : Way) (next other : List Frame) → IsTwin b c → whole_stack other ≡ whole_stack next → IsTwin (landed p None b way next) (landed q None c way other)
   landed_twin b c way next other t e = record {
@@ -230,7 +227,7 @@ module _ (p q : Problem) (like : AreLike p q) where
   step_by ms b next by None eo w free calm e = absurd (none-some next e)
   step_by ms b next by (Some way) eo w free calm e =
       let c = w.0 in
-      let n = mapped (landed p None b way) (pass p.plan b.stack way) next e in
+      let n = option_map_some (landed p None b way) (pass p.plan b.stack way) next e in
       let m = passes_like b.stack c.stack n.0 way w.2.stack n.1 in
       let at_rest : c.phase ≡ Free = elim w.3 [ inl f ↦ f | inr s ↦ absurd (none-some m.0 (sym (ap (λ stack. pass q.plan stack way) s) ∙ m.1)) ] in
       let other = landed q None c way m.0 in

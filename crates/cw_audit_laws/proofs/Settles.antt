@@ -1,5 +1,5 @@
 -- Each fair game has a search that is sound and settled everywhere: what lowers a number is set until nothing does.
-use Rattle.std.proofs.Common.{◌≡◌, ℕ, zero, suc, ◌+◌, ◌<◌, ◌≤◌, [], Bool, true, false, cond, Option, Some, None, length, refl, sym, ap, ◌∙◌, subst, arith, ◌⊎◌, inl, inr}
+use Rattle.std.proofs.Common.{◌≡◌, ℕ, zero, suc, ◌+◌, ◌<◌, ◌≤◌, [], Bool, true, false, cond, Option, Some, None, length, refl, sym, ap, ◌∙◌, subst, arith, ◌⊎◌, inl, inr, le_refl}
 use Rattle.std.specs.Prelude.{slice_get}
 use Rattle.std.proofs.lemmas.Option.{none-some, same_Some}
 use Rattle.std.proofs.lemmas.Bool.{cases_eq}
@@ -301,11 +301,8 @@ settle g functions fair (suc n) s sound le = elim (settled_or g functions fair s
   | inr d ↦ (s, record { sound = sound; settled = d })
 ]
 
-itself : (n : ℕ) → n ≤ n
-itself n = omega arith
-
 pub search_ends : (g : Game) (functions : ℕ) → IsFair g functions → (s : Found) × IsOver g functions s
 search_ends g functions fair =
     let s : Found = record { reach = λ f q. cond (is_group g.main g.states.start f q) (Some 0) None; number = λ f q p x. None; best = None } in
     let sound = begins_sound g functions fair s (λ f q. refl) (λ f q p x. refl) refl (main_arrival g functions fair) in
-    settle g functions fair (left g functions s) s sound (itself (left g functions s))
+    settle g functions fair (left g functions s) s sound (le_refl (left g functions s))
