@@ -8,6 +8,7 @@ use Rattle.std.proofs.lemmas.Bool.{eqb-true, both_ways}
 use Rattle.std.proofs.lemmas.List.{drop-append-le, take-append-le}
 use Rattle.std.proofs.lemmas.List.Sums.{prefix_len-le-length}
 use Rattle.std.proofs.Math.Seq.{take-append_seam}
+use Rattle.cw_lemmas.proofs.Truths.{and_false}
 use Rattle.cw_lex.specs.declared.tokens.TokenKind.{TokenKind}
 use Rattle.cw_lex.specs.declared.tokens.TokenKind.TheVariants as kind
 use Rattle.cw_lex.specs.declared.piece.Front.{Front}
@@ -19,6 +20,7 @@ use Rattle.cw_lex.specs.Characters.{Spelled, longer, spelled, escape_at, item_at
 use Rattle.cw_lex.specs.Marks.{three_byte_marks, two_byte_marks, one_byte_marks, begins, mark_len}
 use Rattle.cw_lex.specs.Pieces.{word, number, quoted, to_close, comment, is_include, line, directive, mark, piece_at, size}
 use Rattle.cw_lex.proofs.Alone.{both, chosen, more_is, by_item, text_long}
+use Rattle.cw_lex.proofs.Tokened.{no_directive}
 
 -- A byte stands where another one stood: the same, or `{` where it was no line feed.
 abbrev pub Follows : ℕ → ℕ → Type 0
@@ -210,10 +212,6 @@ include_same v r s =
 
 -- ---- marks
 
-and_none : (t : Bool) → (t && false) ≡ false
-and_none true = refl
-and_none false = refl
-
 -- no mark goes on with a brace
 abbrev Plain : List (List ℕ) → Type 0
 Plain [] = Unit {0}
@@ -347,7 +345,7 @@ directive_ahead f c v a b r s p fo some long e = both f _ _ _ _ p (λ h.
 slashes : (x c : ℕ) (v : List ℕ) (a b : ℕ) (r s : List ℕ) → Follows a b → eqb x 123 ≡ false → starts_with nat_eq (c ∷ v ++ a ∷ r) (47 ∷ x ∷ []) ≡ false
     → starts_with nat_eq (c ∷ v ++ b ∷ s) (47 ∷ x ∷ []) ≡ false
 slashes x c [] a b r s (inl same) other e = rw same e
-slashes x c [] a b r s (inr (brace, is)) other e = rw (brace, other) (and_none (eqb 47 c))
+slashes x c [] a b r s (inr (brace, is)) other e = rw (brace, other) (and_false (eqb 47 c))
 slashes x c (d ∷ v) a b r s f other e = e
 
 close_size : (o : Option ℕ) (p : Front) (n : ℕ) → 0 < size p → size p ≡ suc (suc n) → comment o ≡ p → o ≡ Some n
@@ -374,7 +372,7 @@ lines_ahead : (c : ℕ) (v : List ℕ) (a b : ℕ) (r s : List ℕ) (p x y : Fro
     → cond (starts_with nat_eq (c ∷ v ++ b ∷ s) (codes "//")) (line (c ∷ v ++ b ∷ s)) y ≡ p
 lines_ahead c [] a b r s p x y f long rest e = chosen (starts_with nat_eq (c ∷ a ∷ r) (codes "//")) _ _ p _ (λ t h. (
     let l = line_ahead (c ∷ []) a b r s p f long h in
-    absurd (both_ways (starts_with nat_eq (c ∷ a ∷ r) (codes "//")) (rw l.0.0 (and_none (eqb 47 c))) t)))
+    absurd (both_ways (starts_with nat_eq (c ∷ a ∷ r) (codes "//")) (rw l.0.0 (and_false (eqb 47 c))) t)))
     (λ t h. rw (slashes 47 c [] a b r s f refl t) (rest h)) e
 lines_ahead c (d ∷ v) a b r s p x y f long rest e = both (starts_with nat_eq (c ∷ d ∷ v ++ a ∷ r) (codes "//")) _ _ _ _ p
     (λ h. (line_ahead (c ∷ d ∷ v) a b r s p f long h).1) rest e
@@ -392,10 +390,6 @@ ahead f (c ∷ v) a b r s p fo some long e =
     comment_ahead c v a b r s p _ _ fo some long (λ h7.
     lines_ahead c v a b r s p _ _ fo long (λ h8.
     (let is : mark_len (c ∷ v ++ a ∷ r) ≡ suc (length v) = mark_size _ p some h8 ∙ long in ap mark (mark_ahead (c ∷ v) a b r s fo (omega arith) is ∙ sym is) ∙ h8)) h7) h6) h5) h4) h3) h2) h1) e
-
-no_directive : (f : Bool) (bs : List ℕ) (k : TokenKind) (n : ℕ) → directive f bs ≡ piece.Token k n → ⊥
-no_directive true bs k n e = chosen (is_include (drop 1 bs)) _ _ (piece.Token k n) _ (λ t h. cc) (λ t h. cc) e
-no_directive false bs k n e = cc
 
 -- a token is one whatever stands before it on its line
 pub any_line : (f g : Bool) (bs : List ℕ) (k : TokenKind) (n : ℕ) → piece_at f bs ≡ piece.Token k n → piece_at g bs ≡ piece.Token k n

@@ -5,6 +5,7 @@ use Rattle.std.specs.List.{find}
 use Rattle.std.specs.Option.{option_map, option_or}
 use Rattle.std.specs.Str.{bytes_eq}
 use Rattle.std.proofs.lemmas.Slice.Eq.{bytes_eq-Decides}
+use Rattle.std.proofs.lemmas.Bool.{or_parts}
 use Rattle.cw_syntax.specs.declared.program.Name.{Name}
 use Rattle.cw_syntax.specs.Names.{slice, text}
 use Rattle.cw_syntax.specs.Trees.{Definition, File}
@@ -114,10 +115,6 @@ module _ (source : List ℕ) where
       let name = free_at d (n ∷ []) whole4 r.0 in
       (subst (λ (z : Name). IsFree z.from z.to) (sym name_is) name.0, functions_free limit parts y rest own.1)
 
-  or_false : (a b : Bool) → (a || b) ≡ false → (a ≡ false) × (b ≡ false)
-  or_false true b e = absurd cc
-  or_false false b e = (refl, e)
-
   turned : (a b : List ℕ) → bytes_eq a b ≡ false → bytes_eq b a ≡ false
   turned a b e = by (bytes_eq b a) refl
     where
@@ -134,7 +131,7 @@ module _ (source : List ℕ) where
       → (is_defined source file (codes "fork") ≡ false) × (is_defined source file (codes "_exit") ≡ false)
   undefined file tokens parts all is e =
       let free = subst (λ (z : File). FreeNames z.functions) (sym is) (functions_free nesting_limit parts (lexemes_of source tokens) all (tokens_free tokens e)) in
-      (ap is_some (none_named (codes "fork") file.functions (λ f k. (or_false _ _ k).0) free), ap is_some (none_named (codes "_exit") file.functions (λ f k. (or_false _ _ k).1) free))
+      (ap is_some (none_named (codes "fork") file.functions (λ f k. (or_parts _ _ k).0) free), ap is_some (none_named (codes "_exit") file.functions (λ f k. (or_parts _ _ k).1) free))
 
 pub forms_are_read : FormsAreRead
 unfolding IsProgram
