@@ -61,10 +61,6 @@ module _ (names : Names) (g : Game) (t : Table) (held : ℕ → Caps) (Flag : He
 pub flag_not : (fork : Bool) → not fork ≡ true → true ≡ not fork
 flag_not fork e = sym e
 
-pub of_not : (fork : Bool) → not fork ≡ false → fork ≡ true
-of_not true e = refl
-of_not false e = cc
-
 pub not_of : (fork : Bool) → fork ≡ true → false ≡ not fork
 not_of fork e = sym (ap not e)
 

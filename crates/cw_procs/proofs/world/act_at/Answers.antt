@@ -1,12 +1,13 @@
 use Rattle.std.proofs.Common.{List, length, map, refl, sym, ap, ◌∙◌}
 use Rattle.std.proofs.lemmas.List.{length-map}
+use Rattle.std.proofs.lemmas.Bool.{not-false}
 use Rattle.cw_product.specs.Product.{game_of}
 use Rattle.cw_states.specs.States.{lists_of, caps_at}
 use Rattle.cw_trace.specs.Labels.{told}
 use Rattle.cw_run.specs.Walks.{here_of, place_in, IsPlace}
 use Rattle.cw_procs.specs.declared.world.Process.{Process as ProcessData}
 use Rattle.cw_procs.specs.Walks.{process_of, links_of, IsFlag, stuck, unforked}
-use Rattle.cw_procs.proofs.Acting.{map_set, mapped_get, is_other, has_moved, has_forked, flag_not, of_not, not_of, parted, all_parted}
+use Rattle.cw_procs.proofs.Acting.{map_set, mapped_get, is_other, has_moved, has_forked, flag_not, not_of, parted, all_parted}
 use Rattle.cw_procs.proofs.world.act_at.Goals as goal
 
 pub returns-then-not-step-clause-acted : goal.returns-then-not-step-clause-acted
@@ -31,7 +32,7 @@ pub returns-in-None-clause-acted : goal.returns-in-None-clause-acted
 returns-in-None-clause-acted g c =
     let there = mapped_get process_of c.args.processes.now.items c.args.step.process c.args.process c.requires.process in
     let h = c.in-None.ensures.forks in
-    (unforked (process_of c.args.process) (here_of c.args.here) there c.requires.place (of_not c.args.step.fork c.if-not-step.false) h.0, h.1)
+    (unforked (process_of c.args.process) (here_of c.args.here) there c.requires.place (not-false c.args.step.fork c.if-not-step.false) h.0, h.1)
 
 pub returns-in-None-move_one-clause-acted : goal.returns-in-None-move_one-clause-acted
 returns-in-None-move_one-clause-acted g c =
@@ -45,7 +46,7 @@ returns-in-Some-clause-acted g c =
     let there = mapped_get process_of items c.args.step.process c.args.process c.requires.process in
     has_forked (told c.args.names.now) (game_of c.args.game.now) c.args.table.now (caps_at (lists_of c.args.game.now.states)) (IsFlag c.args.game.now c.args.flags.now) c.args.step.process
     c.args.step.fork c.args.step.by (map process_of items) (links_of c.args.links.now.items) (process_of c.args.process) (here_of c.args.here) there c.requires.place
-    (map process_of c.push_reserved.new.self.items) _ _ _ (process_of c.in-Some.parent) (process_of c.in-Some.forked) _ c.if-forks_at.ensures.flag (of_not c.args.step.fork c.if-not-step.false)
+    (map process_of c.push_reserved.new.self.items) _ _ _ (process_of c.in-Some.parent) (process_of c.in-Some.forked) _ c.if-forks_at.ensures.flag (not-false c.args.step.fork c.if-not-step.false)
     (ap (λ (l : List ProcessData). length l) c.as_slice.ensures.value ∙ sym (length-map items process_of)) c.in-Some.ensures.forks
     (parted process_of items c.push_reserved.new.self.items c.args.step.process c.in-Some.parent c.in-Some.forked c.push_reserved.ensures.items)
 
