@@ -18,11 +18,12 @@ use cw_audit_table::AuditTable;
 use cw_audit_visits::{Search, settle};
 use cw_certs::Move;
 use cw_core::NoMemory;
+use cw_core::limits::ROWS;
 use cw_product::Game;
 use std::alloc::Global;
 
 /// The greatest number of rows, and of moves, that a table has.
-pub(crate) const MOST: u32 = 65_536;
+pub(crate) const MOST: u32 = ROWS as u32;
 
 /// The least number that stands for more moves than can be told.
 const CUT: u32 = 65_537;
