@@ -1,6 +1,5 @@
 -- Working definitions: what a row of a strategy does, as the code goes from row to row.
-use Rattle.std.specs.Prelude.{◌≡◌, ℕ, zero, suc, ◌+◌, List, [], ◌∷◌, Bool, true, false, Option, Some, None, option_map, map, slice_get}
-use Rattle.cw_core.specs.declared.ids.StateId.{StateId}
+use Rattle.std.specs.Prelude.{◌≡◌, ℕ, zero, suc, ◌+◌, List, [], ◌∷◌, Bool, true, false, Option, Some, None, option_map, slice_get}
 use Rattle.cw_certs.specs.declared.moves.Move.{Move}
 use Rattle.cw_certs.specs.declared.moves.Move.TheVariants.{Try, On}
 use Rattle.cw_certs.specs.Strategies.{How, Bad, Out, Both, Go, Into, Row, Strategy, back_of}
@@ -62,10 +61,6 @@ calls_left (caller ∷ calls) = moves_below caller + calls_left calls
 
 abbrev pub moves_left : (at : ℕ) → (calls : List ℕ) → ℕ
 moves_left at calls = moves_below (suc at) + calls_left calls
-
--- the backs of the program's data
-abbrev pub backs_of : List (StateId × ℕ) → List (ℕ × ℕ)
-backs_of backs = map (λ b. (b.0.0, b.1)) backs
 
 -- how a play ends at a row: it is bad, or the weaver's next word is wanting
 abbrev pub EndsAt : Game → Lists → Row → Option Move → PlayEnd → Type 0

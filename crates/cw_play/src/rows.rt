@@ -3,7 +3,8 @@
 ghost use Rattle.std.specs.Prelude.{◌≡◌, ◌<◌, reverse, map, Some, IsSome, vec_len, vec_capacity};
 ghost use Rattle.cw_certs.specs.Strategies.{How, Out, back_of, how_of, row_of, strategy_of};
 ghost use Rattle.cw_certs.specs.declared.moves.Move.TheVariants.{On};
-ghost use Rattle.cw_play.specs.Rows.{backs_in, backs_at, backs_of, move_in, after_in, words_in};
+ghost use Rattle.cw_echeck.specs.Checks.{backs_of};
+ghost use Rattle.cw_play.specs.Rows.{backs_in, backs_at, move_in, after_in, words_in};
 
 use cw_certs::{EnvCert, EnvRow, How, Move};
 use cw_core::StateId;

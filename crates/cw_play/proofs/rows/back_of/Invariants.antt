@@ -1,6 +1,6 @@
 use Rattle.std.proofs.Common.{◌≡◌, drop}
 use Rattle.cw_certs.specs.Strategies.{back_of}
-use Rattle.cw_play.specs.Rows.{backs_of}
+use Rattle.cw_echeck.specs.Checks.{backs_of}
 use Rattle.cw_play.proofs.rows.back_of.Given as goal
 
 abbrev pub invariant-loop-back : goal.invariant-loop-back
