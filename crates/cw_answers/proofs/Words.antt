@@ -1,11 +1,11 @@
 -- The words of a line tell it.
-use Rattle.std.proofs.Common.{◌≡◌, ◌≢◌, ◌⊎◌, ℕ, cond, eqb, ℤ, pos, negsuc, w64, FitsSigned, to_z, of_z, subst, ◌++◌, List, [], ◌∷◌, length, get_or, Bool, true, false, ◌&&◌, refl, sym, ap, ◌∙◌, inl, inr, arith}
+use Rattle.std.proofs.Common.{◌≡◌, ◌≢◌, ◌⊎◌, ℕ, cond, eqb, ℤ, pos, negsuc, w64, FitsSigned, to_z, of_z, subst, ◌++◌, List, [], ◌∷◌, length, get_or, Bool, true, false, refl, sym, ap, ◌∙◌, inl, inr, arith}
 use Rattle.std.specs.Prelude.{codes, bytes_eq, IsTrue}
 use Rattle.std.specs.List.{All, list_all}
 use Rattle.std.specs.Char.{is_ascii_digit}
 use Rattle.std.specs.Fmt.{signed_decimal}
 use Rattle.std.proofs.Math.Facts.{to_z-of_z}
-use Rattle.std.proofs.lemmas.Bool.{false≢true, and_parts}
+use Rattle.std.proofs.lemmas.Bool.{false≢true, and_parts, and_from}
 use Rattle.std.proofs.lemmas.List.Elements.{All-nil, All-cons}
 use Rattle.cw_core.specs.Ranges.{is_spelling_byte}
 use Rattle.cw_certs.specs.declared.moves.Move.{Move}
@@ -33,13 +33,8 @@ name_bytes : (name : List ℕ) → IsTrue (is_name name) → list_all is_name_by
 name_bytes [] named = absurd (false≢true named)
 name_bytes (b ∷ rest) named =
     let parts = and_parts (is_name_start b) (list_all is_name_byte rest) named in
-    both (is_name_byte b) (list_all is_name_byte rest) (start b parts.0) parts.1
+    and_from (is_name_byte b) (list_all is_name_byte rest) (start b parts.0) parts.1
   where
-    both : (s t : Bool) → s ≡ true → t ≡ true → (s && t) ≡ true
-    both true true e f = refl
-    both false t e f = e
-    both true false e f = f
-
     start : (b : ℕ) → is_name_start b ≡ true → is_name_byte b ≡ true
     start b is = rw is refl
 
