@@ -20,6 +20,7 @@ use Rattle.std.proofs.lemmas.Map.Keys.{sorted_head, sorted_tail, sorted_from_all
 use Rattle.std.proofs.lemmas.Map.Made.{is_some-lookup}
 use Rattle.cw_lemmas.proofs.Lists.{any_get}
 use Rattle.cw_lemmas.proofs.Orders.{then_equal}
+use Rattle.cw_lemmas.proofs.Options.{option_map_some}
 use Rattle.cw_audit_table.specs.Runs.{cut}
 use Rattle.cw_audit_table.specs.Conditions.{is_before}
 use Rattle.cw_audit_store.specs.declared.place.Place.{Place}
@@ -184,16 +185,12 @@ module _ (s : Store) (bound : ℕ) where
           subst (λ (k : PlainPlace). (r : ℕ) × (a : ℕ) × IsRowBelow (found_of s) D k.0 k.1 r k.2 k.3 a) z.2
           (t.0.reach, t.1.inside, (ap (option_map (λ (e : Entered). e.reach)) t.2, ap (option_map (λ (r : Row). r.inside)) t.3, before D l (t.0.reach + t.1.inside) t.4))
 
-      some_mapped : {A : Type 0} (f : A → ℕ) (o : Option A) (a : ℕ) → option_map f o ≡ Some a → (x : A) × (o ≡ Some x) × (f x ≡ a)
-      some_mapped f None a e = absurd (none-some a e)
-      some_mapped f (Some x) a e = (x, refl, same_Some (f x) a e)
-
       whole : (D : Option ℕ) → IsLimit bound D → (f q r p x a : ℕ) → IsRowBelow (found_of s) D f q r p x a
           → (m : ℕ) × (slice_get (map plain (filter (is_below s bound) keys)) m ≡ Some (f, q, p, x))
       whole D l f q r p x a w =
           let at = place f q p x in
-          let g = some_mapped (λ (e : Entered). e.reach) (group_at s (entrance f q)) r w.0 in
-          let n = some_mapped (λ (r : Row). r.inside) (row_at s at) a w.1 in
+          let g = option_map_some (λ (e : Entered). e.reach) (group_at s (entrance f q)) r w.0 in
+          let n = option_map_some (λ (r : Row). r.inside) (row_at s at) a w.1 in
           let sum : cut (g.0.reach + n.0.inside) < bound = let k = low D l (r + a) w.2 in omega (arith, k, g.2, n.2) in
           let z = any_get (place_eq at) keys (sym (has at) ∙ ap is_some n.1) in
           let same = equal_places at z.1 z.3 in
