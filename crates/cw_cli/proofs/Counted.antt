@@ -20,34 +20,19 @@ use Rattle.cw_commands.specs.declared.outcome.Reply.TheVariants.{Yes, No}
 use Rattle.cw_commands.specs.Outcomes.{Due, Told, Refused}
 use Rattle.cw_stages.specs.declared.numbers.Numbers.{Numbers}
 use Rattle.cw_stages.specs.Counting.{IsCounted}
-use Rattle.cw_stages.specs.Games.{IsGame, WithGame, WithGraph}
+use Rattle.cw_stages.specs.Games.{IsGame}
 use Rattle.cw_stages.specs.Reading.{IsSourceUnread, WithSource}
 use Rattle.cw_stages.specs.Stops.{Nothing}
-use Rattle.cw_stages.specs.Verdicts.{AfterCells, AfterGame, IsVerdict}
+use Rattle.cw_stages.specs.Verdicts.{AfterGame, IsVerdict}
+use Rattle.cw_stages.proofs.Onward.{by_points}
 use Rattle.cw_cli.specs.Weaving.{AfterFit, AfterPair}
 use Rattle.cw_cli.proofs.Winning.{never_game}
 
 -- what stands behind the stages gives way to what follows from it
 module _ (Next Other : Game → Due → Type 0) (due : Due) (to : (g : Game) → Next g due → Other g due) where
-  by_cells : (g : Game) → AfterCells Next g due → AfterCells Other g due
-  by_cells g (inl many) = inl many
-  by_cells g (inr next) = inr (to g next)
-
-  by_game : (g : Game) → AfterGame Next g due → AfterGame Other g due
-  by_game g (inl many) = inl many
-  by_game g (inr (few, next)) = inr (few, by_cells g next)
-
-  by_graph : (source : List ℕ) (whole : PlainPolicy) (file : File) (graph : Graph) → WithGame (AfterGame Next) source whole file graph due → WithGame (AfterGame Other) source whole file graph due
-  by_graph source whole file graph (inl over) = inl over
-  by_graph source whole file graph (inr (held, is, made, of, next)) = inr (held, is, made, of, by_game (game_of held) next)
-
-  by_fitting : (source : List ℕ) (whole : PlainPolicy) (file : File) → WithGraph (AfterGame Next) source whole file due → WithGraph (AfterGame Other) source whole file due
-  by_fitting source whole file (inl many) = inl many
-  by_fitting source whole file (inr (few, graph, drawn, next)) = inr (few, graph, drawn, by_graph source whole file graph next)
-
   by_fit : (source : List ℕ) (whole : PlainPolicy) (file : File) → AfterFit Next source whole file due → AfterFit Other source whole file due
   by_fit source whole file (inl detached) = inl detached
-  by_fit source whole file (inr (none, next)) = inr (none, by_fitting source whole file next)
+  by_fit source whole file (inr (none, next)) = inr (none, by_points Next Other due to source whole file next)
 
   pub by_pair : (source : List ℕ) (whole : PlainPolicy) (file : File) → AfterPair Next source whole file due → AfterPair Other source whole file due
   by_pair source whole file (inl other) = inl other

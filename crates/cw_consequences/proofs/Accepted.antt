@@ -28,13 +28,13 @@ use Rattle.cw_stages.specs.Games.{WithGraph}
 use Rattle.cw_stages.specs.Reading.{IsSourceUnread}
 use Rattle.cw_stages.specs.Verdicts.{AfterGame, IsVerdict}
 use Rattle.cw_stages.proofs.OneGame.{no_cause, one_game}
+use Rattle.cw_stages.proofs.Unread.{never_spelled, never_unread}
 use Rattle.cw_cli.specs.Due.{IsDue}
 use Rattle.cw_cli.specs.Listings.{own_names, IsListed, IsListingDue}
 use Rattle.cw_cli.specs.Weaving.{AfterPair, IsWeaveDue}
 use Rattle.cw_cli.proofs.Agreeing.{alike, fits_once}
 use Rattle.cw_consequences.specs.Accepting.{AreAccepted, IsAccepted, WeaveEndsWell, GraphEndsWell}
 use Rattle.cw_consequences.proofs.Outcomes.{cells_clash}
-use Rattle.cw_consequences.proofs.Singles.{never_spelled, never_unread}
 use Rattle.cw_lemmas.proofs.Numbers.{lt_not_le as apart}
 
 -- ---- `weave`

@@ -1,5 +1,5 @@
 -- What is known where a text is due for `procs`, and that without detached functions `procs` is `weave`.
-use Rattle.std.proofs.Common.{◌≡◌, ◌≢◌, ◌↔◌, ◌≤◌, inl, inr, List, [], ℕ, None, length, sym, ap, ◌∙◌, subst, refl}
+use Rattle.std.proofs.Common.{◌≡◌, ◌≤◌, inl, inr, List, [], ℕ, None, length, sym, ap, ◌∙◌, subst, refl}
 use Rattle.std.proofs.lemmas.Option.{none-some}
 use Rattle.cw_core.specs.Quantities.{limit_of}
 use Rattle.cw_core.specs.declared.quantity.Quantity.TheVariants.{Points, SourceBytes}
@@ -24,7 +24,7 @@ use Rattle.cw_worlds.specs.Forks.{fork_places}
 use Rattle.cw_worlds.proofs.Meeting.{worlds_meet}
 use Rattle.cw_detach.specs.declared.faults.ProcFault.{ProcFault}
 use Rattle.cw_detach.specs.declared.faults.ProcFault.TheVariants.{NoFunction, Both, Taken, Result, Limit, NoMemory}
-use Rattle.cw_detach.specs.Faults.{name_fault, taken, text_fault, IsFirstFault, ◌or_else◌}
+use Rattle.cw_detach.specs.Faults.{taken, IsFirstFault}
 use Rattle.cw_detach.specs.Form.{form_of}
 use Rattle.cw_detach.proofs.Plain.{form_same, taken_alone}
 use Rattle.cw_detach.proofs.Rules.{form_few}
@@ -35,9 +35,10 @@ use Rattle.cw_stages.specs.Games.{IsGame, WhereFits}
 use Rattle.cw_stages.specs.Reading.{AreRead}
 use Rattle.cw_stages.specs.Refusals.{yes}
 use Rattle.cw_stages.specs.Verdicts.{AfterGame, IsVerdict}
+use Rattle.cw_stages.proofs.Onward.{by_fit}
 use Rattle.cw_parting.specs.Parting.{IsParted, IsProcsDue, OfForm}
 use Rattle.cw_parting.specs.Refusals.{form_refusal}
-use Rattle.cw_parting.proofs.Behind.{by_fit, is_verdict}
+use Rattle.cw_parting.proofs.Behind.{is_verdict}
 use Rattle.cw_cli.specs.Refuting.{IsRefuteDue}
 use Rattle.cw_cli.specs.Weaving.{AfterPair, IsWeaveDue}
 use Rattle.cw_cli.proofs.Agreeing.{checked_won, judged_won, only_checked, only_judged}

@@ -19,12 +19,12 @@ use Rattle.cw_commands.specs.Outcomes.{Due, Refused}
 use Rattle.cw_stages.specs.Reading.{IsSourceUnread}
 use Rattle.cw_stages.specs.Refusals.{descriptor_line, over, policy_refusal, source_refusal, IsPolicyRefusal}
 use Rattle.cw_stages.specs.Verdicts.{IsVerdict}
+use Rattle.cw_stages.proofs.Unread.{never_spelled, never_unread}
 use Rattle.cw_cli.specs.Weaving.{AfterPair, IsWeaveDue}
 use Rattle.cw_consequences.specs.Alike.{in_format, AreAlike}
 use Rattle.cw_consequences.specs.Laws.{FormatsAgree, StopGivesTheSame, WeaveHasOneAnswer}
 use Rattle.cw_consequences.proofs.Likes.{format_like, same_like, unrefused_like}
 use Rattle.cw_consequences.proofs.Outcomes.{IsLike}
-use Rattle.cw_consequences.proofs.Singles.{never_spelled, never_unread}
 use Rattle.cw_consequences.proofs.Stages.{after_pair, refused_alike}
 use Rattle.cw_consequences.proofs.Texts.{one_text}
 

@@ -1,7 +1,7 @@
 -- Stages of which one answer is due, where one is behind them.
-use Rattle.std.proofs.Common.{◌≡◌, inl, inr, ◌⊎◌, ℕ, ◌<◌, List, None, Ok, Err, sym, ap, ◌∙◌, subst, le_refl, lt_irrefl}
+use Rattle.std.proofs.Common.{◌≡◌, inl, inr, ◌⊎◌, ℕ, ◌<◌, List, Ok, Err, sym, ap, ◌∙◌, subst, le_refl, lt_irrefl}
 use Rattle.std.specs.Prelude.{Bool}
-use Rattle.std.proofs.lemmas.Option.{none-some, same_Some}
+use Rattle.std.proofs.lemmas.Option.{same_Some}
 use Rattle.cw_core.specs.Quantities.{limit_in, limit_of}
 use Rattle.cw_core.specs.declared.quantity.Quantity.TheVariants.{Points, ProductStates}
 use Rattle.cw_rights.specs.Policies.{PlainPolicy}
@@ -20,10 +20,9 @@ use Rattle.cw_game.specs.Standing.{IsGameOf}
 use Rattle.cw_product.specs.declared.fault.GameFault.TheVariants.{TooManyStates}
 use Rattle.cw_product.specs.Product.{game_of}
 use Rattle.cw_policy.specs.Answer.{Spells}
-use Rattle.cw_policy.proofs.Same.{one_fault as one_policy_fault, one_policy, refused_spells_none}
+use Rattle.cw_policy.proofs.Same.{one_fault as one_policy_fault, one_policy}
 use Rattle.cw_scope.specs.declared.descriptors.DescriptorFault.{DescriptorFault}
 use Rattle.cw_scope.specs.Descriptors.{descriptor_fault}
-use Rattle.cw_source.specs.Read.{ReadsAs}
 use Rattle.cw_source.proofs.OneAnswer.{never_both, one_fault, one_program}
 use Rattle.cw_text.specs.declared.fault.TextFault.TheVariants as fault
 use Rattle.cw_text.proofs.OneAnswer.{one_answer as one_tape_answer}
@@ -37,6 +36,7 @@ use Rattle.cw_stages.specs.Refusals.{descriptor_line, policy_refusal, source_ref
 use Rattle.cw_stages.specs.Strategies.{strategy_refusal, WithStrategy}
 use Rattle.cw_stages.specs.Tapes.{tape_refusal, WithTape}
 use Rattle.cw_stages.proofs.OneGame.{no_cause, one_game}
+use Rattle.cw_stages.proofs.Unread.{never_spelled, never_unread}
 use Rattle.cw_cli.proofs.Agreeing.{alike, fits_once}
 use Rattle.cw_lemmas.proofs.Numbers.{lt_not_le as apart}
 use Rattle.cw_consequences.proofs.Causes.{both_refused}
@@ -58,25 +58,14 @@ module _ (source : List ℕ) (p : PlainPolicy) where
       let faults : f ≡ g = same_Some f g (sym some ∙ sym (ap (λ (z : File). descriptor_fault source z p) files) ∙ any) in
       a ∙ ap (λ (z : DescriptorFault). Refused Source (descriptor_line source p z)) faults ∙ sym b
 
-  -- a source that is read isn't unread
-  pub never_unread : (file : File) (due : Due) → ReadsAs source file → descriptor_fault source file p ≡ None → IsSourceUnread source p due → ⊥
-  never_unread file due reads none (inl (f, is, ne, e)) = never_both source file f ne reads is
-  never_unread file due reads none (inr (other, reading, (f, some, e))) =
-      let files : other ≡ file = one_program source other file reading reads in
-      none-some f (sym none ∙ sym (ap (λ (z : File). descriptor_fault source z p) files) ∙ some)
-
   module _ (Next : File → Due → Type 0) (one : (file : File) → IsOne (Next file)) where
     pub one_source : IsOne (WithSource Next source p)
     one_source due answer (inl u) (inl w) = one_unread due answer u w
-    one_source due answer (inl u) (inr (file, reads, none, after)) = absurd (never_unread file due reads none u)
-    one_source due answer (inr (file, reads, none, after)) (inl w) = absurd (never_unread file answer reads none w)
+    one_source due answer (inl u) (inr (file, reads, none, after)) = absurd (never_unread source p file due reads none u)
+    one_source due answer (inr (file, reads, none, after)) (inl w) = absurd (never_unread source p file answer reads none w)
     one_source due answer (inr (file, reads, none, after)) (inr (other, reading, nor, behind)) =
         let files : other ≡ file = one_program source other file reading reads in
         one file due answer after (subst (λ (z : File). Next z answer) files behind)
-
--- a policy that is spelled isn't refused
-pub never_spelled : (policy : List ℕ) (p : PlainPolicy) (due : Due) → IsPolicyRefusal policy due → Spells policy p → ⊥
-never_spelled policy p due (f, is, ne, e) spells = ne (refused_spells_none policy p f spells is)
 
 one_refusal : (policy : List ℕ) → IsOne (IsPolicyRefusal policy)
 one_refusal policy due answer (f, is, ne, a) (g, other, nor, b) = a ∙ ap policy_refusal (one_policy_fault policy f g ne nor is other) ∙ sym b

@@ -1,6 +1,5 @@
 -- What comes behind the stages of a form: the verdict with its numbers, and the verdict alone.
-use Rattle.std.proofs.Common.{◌≡◌, ◌≢◌, ◌≤◌, List, ℕ, None, inl, inr, sym, ap, ◌∙◌, subst, ⊎_elim}
-use Rattle.std.proofs.lemmas.Option.{none-some}
+use Rattle.std.proofs.Common.{◌≡◌, ◌≢◌, ◌≤◌, List, ℕ, None, inl, inr, subst, ⊎_elim}
 use Rattle.cw_core.specs.Quantities.{limit_of}
 use Rattle.cw_core.specs.declared.quantity.Quantity.TheVariants.{Points}
 use Rattle.cw_rights.specs.Policies.{PlainPolicy}
@@ -12,7 +11,6 @@ use Rattle.cw_points.specs.Graphs.{IsGraph}
 use Rattle.cw_points.specs.Points.{point_count}
 use Rattle.cw_scope.specs.Descriptors.{descriptor_fault}
 use Rattle.cw_source.specs.Read.{ReadsAs}
-use Rattle.cw_source.proofs.OneAnswer.{never_both, one_program}
 use Rattle.cw_detach.specs.declared.faults.ProcFault.{ProcFault}
 use Rattle.cw_detach.specs.declared.faults.ProcFault.TheVariants.{NoMemory}
 use Rattle.cw_detach.specs.Faults.{IsDetachFault, IsFirstFault}
@@ -28,35 +26,14 @@ use Rattle.cw_commands.specs.declared.outcome.Reply.TheVariants.{Yes, No}
 use Rattle.cw_commands.specs.Outcomes.{Due, Told, Refused}
 use Rattle.cw_stages.specs.declared.numbers.Numbers.{Numbers}
 use Rattle.cw_stages.specs.Counting.{IsCounted}
-use Rattle.cw_stages.specs.Games.{IsGame, WhereFits, WithGame, WithGraph}
-use Rattle.cw_stages.specs.Verdicts.{AfterCells, AfterGame, IsVerdict}
-use Rattle.cw_stages.specs.Reading.{IsSourceUnread, WithSource}
+use Rattle.cw_stages.specs.Games.{IsGame, WhereFits}
+use Rattle.cw_stages.specs.Verdicts.{AfterGame, IsVerdict}
+use Rattle.cw_stages.specs.Reading.{WithSource}
+use Rattle.cw_stages.proofs.Onward.{by_game, by_fit}
 use Rattle.cw_parting.specs.Parting.{AfterForm, IsParted, OfForm}
 use Rattle.cw_worlds.specs.Forks.{fork_places}
 use Rattle.cw_worlds.proofs.Meeting.{worlds_meet}
 use Rattle.cw_parting.specs.Refusals.{form_refusal}
-
--- what stands behind the stages gives way to what follows from it
-module _ (Next Other : Game → Due → Type 0) (due : Due) (to : (g : Game) → Next g due → Other g due) where
-  by_cells : (g : Game) → AfterCells Next g due → AfterCells Other g due
-  by_cells g (inl many) = inl many
-  by_cells g (inr next) = inr (to g next)
-
-  pub by_game : (g : Game) → AfterGame Next g due → AfterGame Other g due
-  by_game g (inl many) = inl many
-  by_game g (inr (few, next)) = inr (few, by_cells g next)
-
-  by_graph : (source : List ℕ) (whole : PlainPolicy) (file : File) (graph : Graph) → WithGame (AfterGame Next) source whole file graph due → WithGame (AfterGame Other) source whole file graph due
-  by_graph source whole file graph (inl over) = inl over
-  by_graph source whole file graph (inr (held, is, made, of, next)) = inr (held, is, made, of, by_game (game_of held) next)
-
-  by_fitting : (source : List ℕ) (whole : PlainPolicy) (file : File) → WithGraph (AfterGame Next) source whole file due → WithGraph (AfterGame Other) source whole file due
-  by_fitting source whole file (inl many) = inl many
-  by_fitting source whole file (inr (few, graph, drawn, next)) = inr (few, graph, drawn, by_graph source whole file graph next)
-
-  pub by_fit : (source : List ℕ) (whole : PlainPolicy) (file : File) → WhereFits (AfterGame Next) source whole file due → WhereFits (AfterGame Other) source whole file due
-  by_fit source whole file (inl other) = inl other
-  by_fit source whole file (inr (fits, next)) = inr (fits, by_fitting source whole file next)
 
 module _ (whole : PlainPolicy) (source : List ℕ) (file : File) where
   parted_of : (numbers : Numbers) (due : Due) (g : Game) → IsCounted numbers whole source file g due → IsParted whole source file g due
@@ -92,14 +69,7 @@ module _ (source : List ℕ) (whole : PlainPolicy) (file : File) (due : Due) (re
   pub unformed : (f : ProcFault) → IsDetachFault source file whole f → f ≢ NoMemory → due ≡ form_refusal source whole f → WithSource (AfterForm source whole) source whole due
   unformed f is ne e = inr (file, reads, none, inl (f, ne, ⊎_elim (λ n. absurd (ne n)) (λ first. first) is, e))
 
--- a form is read, and the policy's descriptors keep their rules in it
+-- a form is read, and the policy's descriptors keep their rules in it: so no refusal of the reader is due for it, nor one by the rules of descriptors
 pub read_form : (source : List ℕ) (whole : PlainPolicy) (file : File) → ReadsAs source file → descriptor_fault source file whole ≡ None → IsFirstFault source file whole None
     → (made : File) × ReadsAs (form_of source whole.detached file) made × (descriptor_fault (form_of source whole.detached file) made whole ≡ None)
 read_form source whole file reads none clear = let form = forms_are_read source file whole reads none clear in (form.made, form.reads, form.declared)
-
--- so no refusal of the reader is due for it, nor one by the rules of descriptors
-pub never_unread : (whole : PlainPolicy) (form : List ℕ) (file : File) (due : Due) → ReadsAs form file → descriptor_fault form file whole ≡ None → IsSourceUnread form whole due → ⊥
-never_unread whole form file due reads none (inl (f, is, ne, e)) = never_both form file f ne reads is
-never_unread whole form file due reads none (inr (other, read, (f, some, e))) =
-    let files : other ≡ file = one_program form other file read reads in
-    none-some f (sym none ∙ sym (ap (λ (z : File). descriptor_fault form z whole) files) ∙ some)

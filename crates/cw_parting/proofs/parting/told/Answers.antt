@@ -1,6 +1,7 @@
 use Rattle.cw_stages.specs.Stops.{file_in, source_of, told_of, whole_of, Nothing}
 use Rattle.cw_parting.specs.Parting.{IsParted}
-use Rattle.cw_parting.proofs.Behind.{by_fit, parted_due}
+use Rattle.cw_stages.proofs.Onward.{by_fit}
+use Rattle.cw_parting.proofs.Behind.{parted_due}
 use Rattle.cw_parting.proofs.parting.told.Goals as goal
 
 pub returns-in-Ok-clause-due : goal.returns-in-Ok-clause-due
