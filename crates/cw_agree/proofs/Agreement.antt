@@ -1,6 +1,7 @@
 -- The plain run and the woven run from the start.
 use Rattle.std.proofs.Common.{◌≡◌, List, [], ◌∷◌, Option, Some, None, refl, sym, ap, subst, ◌∙◌, inl}
 use Rattle.std.specs.Prelude.{slice_get, option_map}
+use Rattle.std.proofs.lemmas.Bool.{both_ways}
 use Rattle.cw_rights.specs.Policies.{PlainPolicy}
 use Rattle.cw_certs.specs.declared.moves.Move.{Move}
 use Rattle.cw_certs.specs.Tables.{Table}
@@ -17,7 +18,7 @@ use Rattle.cw_value.specs.Runs.{going_start, most_steps, source_of, RunsFrom}
 use Rattle.cw_agree.specs.Agreements.{Agrees}
 use Rattle.cw_agree.specs.Laws.{RunsAgree, SomeRunAgrees}
 use Rattle.cw_agree.proofs.Progress.{some_run}
-use Rattle.cw_agree.proofs.Paired.{Paired, agree, begin_fits, begin_plain, begin_split, begin_unrefused, never_true}
+use Rattle.cw_agree.proofs.Paired.{Paired, agree, begin_fits, begin_plain, begin_split, begin_unrefused}
 use Rattle.cw_agree.proofs.Fenced.{plan, new_called}
 use Rattle.cw_agree.proofs.Invariants.{Aligned, Inv, invariant}
 
@@ -45,7 +46,7 @@ module _ (policy : PlainPolicy) (s : Source) (fits : Fits s.bytes s.file policy)
         plain_fits = begin_fits policy stack;
         woven_fits = begin_fits policy stack;
         split = λ k. sym (begin_split policy stack) ∙ k;
-        stop = λ k. absurd (never_true (is_refused (begin policy stack)) (begin_unrefused policy stack) k);
+        stop = λ k. absurd (both_ways (is_refused (begin policy stack)) (begin_unrefused policy stack) k);
         inv = inv_start m;
       }
 

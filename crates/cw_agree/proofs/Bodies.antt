@@ -6,6 +6,7 @@ use Rattle.std.specs.Str.{bytes_eq}
 use Rattle.std.proofs.lemmas.List.Folds.{list_any-append}
 use Rattle.std.proofs.lemmas.List.{append_assoc}
 use Rattle.std.proofs.lemmas.Slice.Eq.{bytes_eq-Decides}
+use Rattle.std.proofs.lemmas.Bool.{or_right}
 use Rattle.cw_syntax.specs.declared.program.Name.{Name}
 use Rattle.cw_syntax.specs.declared.program.Op.{Op}
 use Rattle.cw_syntax.specs.declared.program.Op.TheVariants.{Name as NameOp, Number, Char, Text as TextOp, Call as CallOp, Index as IndexOp, Prefix, Suffix, Binary, Assign, Cast, SizeOf, SizeOfType}
@@ -20,7 +21,7 @@ use Rattle.cw_callgraph.specs.Forbidding.{body_places}
 use Rattle.cw_value.specs.Deeds.{said_all, begins_at, form_of, form_at, plain_if, returned, evaluated, condition, next_turn, arguments_of, arguments_if, statement_deed, deed_of}
 use Rattle.cw_value.specs.Machines.{Source, scope_in, own_names, items_in, declared_by, parameters as parameter_names, names_of, is_plain}
 use Rattle.cw_agree.proofs.Keeps.{QuietAll, QuietIf, QuietDeed}
-use Rattle.cw_agree.proofs.Meanings.{named, IsOwn, AreOwn, item_own, listed_own, or_right, or_both, Known, some_item}
+use Rattle.cw_agree.proofs.Meanings.{named, IsOwn, AreOwn, item_own, listed_own, or_both, Known, some_item}
 use Rattle.cw_agree.proofs.Forbidden.{IsSpared, AreKnown, AllOwn, AllQuiet, QuietForm, every_both, all_quiet}
 
 or_here : (a b c d e f : Bool) → (b || e) ≡ true → ((a || (b || c)) || (d || (e || f))) ≡ true

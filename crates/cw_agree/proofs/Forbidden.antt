@@ -4,6 +4,8 @@ use Rattle.std.specs.Prelude.{nat_eq}
 use Rattle.std.specs.List.{AllByRecursion}
 use Rattle.std.specs.Str.{bytes_eq}
 use Rattle.std.proofs.lemmas.Slice.Eq.{bytes_eq-Decides}
+use Rattle.std.proofs.lemmas.Bool.{or_parts, false_from_ne_true}
+use Rattle.cw_lemmas.proofs.Truths.{not_both}
 use Rattle.cw_syntax.specs.declared.program.Op.{Op}
 use Rattle.cw_syntax.specs.declared.program.Op.TheVariants.{Name as NameOp, Number, Char, Text as TextOp, Call as CallOp, Index as IndexOp, Prefix, Suffix, Binary, Assign, Cast, SizeOf, SizeOfType}
 use Rattle.cw_syntax.specs.Names.{slice, text, Names}
@@ -48,20 +50,9 @@ if_empty : (b : Bool) (at : ℕ) → place_if b at ≡ [] → b ≡ false
 if_empty true at e = absurd (cc)
 if_empty false at e = refl
 
-or_false : (a b : Bool) → (a || b) ≡ false → (a ≡ false) × (b ≡ false)
-or_false true b e = absurd (cc)
-or_false false b e = (refl, e)
-
 and_clash : (a b : Bool) → (a && b) ≡ false → a ≡ true → b ≡ false
 and_clash true b e h = e
 and_clash false b e h = absurd (cc)
-
-not_true : (b : Bool) → (b ≡ true → ⊥) → b ≡ false
-not_true true h = absurd (h refl)
-not_true false h = refl
-
-apart : (b : Bool) → b ≡ true → b ≡ false → ⊥
-apart b e f = absurd (let clash : true ≡ false = sym e ∙ f in cc)
 
 pub every_both : {A : Type 0} (P : A → Type 0) (xs ys : List A) → AllByRecursion P (xs ++ ys) → AllByRecursion P xs × AllByRecursion P ys
 every_both P [] ys h = (tt, h)
@@ -93,13 +84,13 @@ module _ (s : Source) (f : Definition) where
   passes [] name before own h = refl
   passes (k ∷ ks) name before own h = by_name (bytes_eq name (text s.bytes k.name)) refl (passes ks name before own.1 h) where
     by_name : (b : Bool) → bytes_eq name (text s.bytes k.name) ≡ b → latest s.bytes before ks name ≡ before → latest s.bytes (cond b (Some k.means) before) ks name ≡ before
-    by_name true e r = absurd (apart (is_file (here s f (text s.bytes k.name))) (ap (λ x. is_file (here s f x)) (sym ((bytes_eq-Decides name (text s.bytes k.name)).0 e)) ∙ h) own.0)
+    by_name true e r = absurd (not_both (is_file (here s f (text s.bytes k.name))) (ap (λ x. is_file (here s f x)) (sym ((bytes_eq-Decides name (text s.bytes k.name)).0 e)) ∙ h) own.0)
     by_name false e r = r
 
   module _ (inner : List Known) (known : AreKnown inner) where
     file_named : (name : List ℕ) → is_shared (name_means s.bytes file inner name) ≡ false → is_file (here s f name) ≡ false
-    file_named name h = not_true (is_file (here s f name)) (λ e.
-        apart (is_shared (name_means s.bytes file inner name)) (ap is_shared (passes inner name (latest s.bytes None file name) known e) ∙ file_means s f name e) h)
+    file_named name h = false_from_ne_true (is_file (here s f name)) (λ e.
+        not_both (is_shared (name_means s.bytes file inner name)) (ap is_shared (passes inner name (latest s.bytes None file name) known e) ∙ file_means s f name e) h)
 
     array_file : (p : Place) → is_file_array p ≡ true → is_file p ≡ true
     array_file (SharedArray n) h = refl
@@ -109,8 +100,8 @@ module _ (s : Source) (f : Definition) where
     array_file Nowhere h = absurd (cc)
 
     array_named : (name : List ℕ) → is_array (name_means s.bytes file inner name) ≡ false → is_file_array (here s f name) ≡ false
-    array_named name h = not_true (is_file_array (here s f name)) (λ e.
-        apart (is_array (name_means s.bytes file inner name))
+    array_named name h = false_from_ne_true (is_file_array (here s f name)) (λ e.
+        not_both (is_array (name_means s.bytes file inner name))
         (ap is_array (passes inner name (latest s.bytes None file name) known (array_file (here s f name) e)) ∙ file_array_means s f name e) h)
 
     elements_of : (ts : Trees) → is_array (first_means s.bytes file inner ts) ≡ false → ElementsSpared IsSpared scope (first_place scope ts)
@@ -149,7 +140,7 @@ module _ (s : Source) (f : Definition) where
     spares : (ts : Trees) → writes s.bytes file inner ts ≡ false → SparesFirst IsSpared scope ts
     spares none h = tt
     spares (more (Node op parts from to) ts) h =
-        let r = or_false (is_shared (meaning_at s.bytes file inner op from to)) (element_at s.bytes file inner op parts) h in
+        let r = or_parts (is_shared (meaning_at s.bytes file inner op from to)) (element_at s.bytes file inner op parts) h in
         spares_one op parts from to r.0 r.1
 
     spares_by : (role : Role) (op : Op) (parts : Trees) (from to : ℕ) → forbids_itself s.bytes file inner role op parts from to ≡ false → changes op ≡ true
@@ -160,7 +151,7 @@ module _ (s : Source) (f : Definition) where
         let means = first_means s.bytes file inner parts in
         let address = nat_eq n 5 && (is_shared means || is_parameter means) in
         let change = (nat_eq n 6 || nat_eq n 7) && writes s.bytes file inner parts in
-        let r = or_false (nat_eq n 4 && is_parameter means || address) change h in
+        let r = or_parts (nat_eq n 4 && is_parameter means || address) change h in
         spares parts (and_clash (nat_eq n 6 || nat_eq n 7) (writes s.bytes file inner parts) r.1 c)
     spares_by role NameOp parts from to h c = absurd (cc)
     spares_by role IndexOp parts from to h c = absurd (cc)

@@ -1,11 +1,11 @@
 -- What a name is in a run, and what it means to the rules of splitting: a name of the file in the one is a name of the file in the other.
-use Rattle.std.proofs.Common.{◌≡◌, ℕ, suc, ◌+◌, List, [], ◌∷◌, ◌++◌, length, map, Bool, true, false, cond, not, ◌||◌, ◌&&◌, Option, Some, None, refl, sym, ap, ◌∙◌, arith}
+use Rattle.std.proofs.Common.{◌≡◌, ℕ, suc, ◌+◌, List, [], ◌∷◌, ◌++◌, length, map, Bool, true, false, cond, not, ◌||◌, ◌&&◌, Option, Some, None, refl, sym, ap, ◌∙◌, arith, one-add}
 use Rattle.std.specs.Prelude.{nat_lt, is_some, is_none}
 use Rattle.std.specs.List.{filter, flat_map, list_any, position_or_len, AllByRecursion}
 use Rattle.std.specs.Str.{bytes_eq}
 use Rattle.std.proofs.lemmas.List.Folds.{list_any-append}
 use Rattle.std.proofs.lemmas.Slice.Eq.{bytes_eq-Decides}
-use Rattle.std.proofs.lemmas.Bool.{lt-ltb}
+use Rattle.std.proofs.lemmas.Bool.{lt-ltb, or_right, or_left}
 use Rattle.cw_lemmas.proofs.Numbers.{nat_lt_suc}
 use Rattle.cw_syntax.specs.declared.program.Name.{Name}
 use Rattle.cw_syntax.specs.declared.program.Base.TheVariants.{Void}
@@ -34,16 +34,13 @@ kind b = (global b some_item).means
 
 -- ---- a name is in a list where it has a number there
 
-one_more : (n : ℕ) → 1 + n ≡ suc n
-one_more n = omega arith
-
 below_any : {X : Type 0} (p : X → Bool) (xs : List X) → nat_lt (position_or_len p xs) (length xs) ≡ list_any p xs
 below_any p [] = refl
 below_any p (x ∷ xs) = by_head (p x) (below_any p xs) where
   by_head : (b : Bool) → nat_lt (position_or_len p xs) (length xs) ≡ list_any p xs
       → nat_lt (cond (not b) (1 + position_or_len p xs) 0) (suc (length xs)) ≡ (b || list_any p xs)
   by_head true e = lt-ltb 0 (suc (length xs)) (omega arith)
-  by_head false e = ap (λ n. nat_lt n (suc (length xs))) (one_more (position_or_len p xs)) ∙ nat_lt_suc (position_or_len p xs) (length xs) ∙ e
+  by_head false e = ap (λ n. nat_lt n (suc (length xs))) (one-add (position_or_len p xs)) ∙ nat_lt_suc (position_or_len p xs) (length xs) ∙ e
 
 some_where : (b : Bool) (n : ℕ) → is_some (cond b (Some n) None) ≡ b
 some_where true n = refl
@@ -166,10 +163,6 @@ module _ (bytes : List ℕ) (name : List ℕ) where
 
 -- ---- of a function
 
-pub or_right : (a b : Bool) → b ≡ true → (a || b) ≡ true
-or_right true b h = refl
-or_right false b h = h
-
 pub or_both : (a b c d : Bool) → a ≡ c → b ≡ d → (a || b) ≡ (c || d)
 or_both a b c d e f = ap (λ x. x || b) e ∙ ap (λ x. c || x) f
 
@@ -204,10 +197,6 @@ module _ (s : Source) (f : Definition) where
 
   same_word : (word : List ℕ) → bytes_eq word word ≡ true
   same_word word = (bytes_eq-Decides word word).1 refl
-
-  or_left : (a b : Bool) → a ≡ true → (a || b) ≡ true
-  or_left true b h = refl
-  or_left false b h = absurd (cc)
 
   -- the items of a list whose names are all among those of the function
   abbrev pub AreOwn : List Declared → Type 0

@@ -1,7 +1,9 @@
 -- The woven run is followed move by move, and the plain run only at the program's own steps: what both say of a run agrees.
 use Rattle.std.proofs.Common.{◌≡◌, ◌≢◌, ℕ, zero, suc, List, [], ◌∷◌, ◌++◌, Bool, true, false, cond, ◌&&◌, Option, Some, None, refl, sym, ap, subst, ◌∙◌, inl, inr}
 use Rattle.std.specs.Prelude.{option_map}
-use Rattle.std.proofs.lemmas.Option.{same_Some}
+use Rattle.std.proofs.lemmas.Option.{same_Some, cond_some}
+use Rattle.std.proofs.lemmas.Bool.{both_ways}
+use Rattle.cw_lemmas.proofs.Truths.{and_first}
 use Rattle.cw_rights.specs.declared.capabilities.Caps.{Caps}
 use Rattle.cw_rights.specs.declared.capabilities.Primitive.{Primitive}
 use Rattle.cw_rights.specs.declared.capabilities.Primitive.TheVariants.{Limit, Enter, Split}
@@ -71,9 +73,6 @@ onward_unrefused stage (a ∷ later) = refl
 pub begin_unrefused : (policy : PlainPolicy) (stack : List Frame) → is_refused (begin policy stack) ≡ false
 begin_unrefused policy [] = refl
 begin_unrefused policy (frame ∷ frames) = onward_unrefused 0 (primitives_in policy frame)
-
-pub never_true : (b : Bool) → b ≡ false → b ≡ true → ⊥
-never_true b e f = absurd (let clash : false ≡ true = sym e ∙ f in cc)
 
 pub begin_split : (policy : PlainPolicy) (stack : List Frame) → may_split (begin policy stack) ≡ has_split (front_primitives policy stack)
 begin_split policy [] = refl
@@ -188,7 +187,7 @@ module _ (source : Source) (p : Problem) where
   stays_onward b next phase stage a later e q f =
       stays_by b next phase (onward (suc stage) later) e f (λ frame frames. onward_fits frame frames (suc stage) later)
       (λ h. sym q ∙ later_split a later (sym (onward_split (suc stage) later) ∙ h))
-      (λ h. absurd (never_true (is_refused (onward (suc stage) later)) (onward_unrefused (suc stage) later) h))
+      (λ h. absurd (both_ways (is_refused (onward (suc stage) later)) (onward_unrefused (suc stage) later) h))
 
   pub weave_stays : (b next : Board) (phase : Phase) (m : Move) → b.phase ≡ phase → IsWeaving phase → m ≢ StopMove → moved p b phase m ≡ Some next → Stays b next
   weave_stays b next (Visit i a l) Skip q h ns e = stays_onward b next (Visit i a l) i a l q refl (sym (same_Some (passed_by b i l) next e))
@@ -223,33 +222,26 @@ module _ (source : Source) (p : Problem) where
     stack = ap (λ (x : Board). x.stack) (sym e);
     fits = λ frame frames. subst (λ (x : Phase). Fits (frame ∷ frames) x) (ap (λ (x : Board). x.phase) e) (onward_fits frame frames (suc i) l);
     split = λ h. ap may_split q ∙ (sym (onward_split (suc i) l) ∙ ap (λ (x : Board). may_split x.phase) e ∙ h);
-    stop = λ h. absurd (never_true (is_refused (onward (suc i) l)) (onward_unrefused (suc i) l) (ap (λ (x : Board). is_refused x.phase) e ∙ h));
+    stop = λ h. absurd (both_ways (is_refused (onward (suc i) l)) (onward_unrefused (suc i) l) (ap (λ (x : Board). is_refused x.phase) e ∙ h));
   }
   grant_stays b next i (Limit m) l q e = record {
     stack = ap (λ (x : Board). x.stack) (sym e);
     fits = λ frame frames. subst (λ (x : Phase). Fits (frame ∷ frames) x) (ap (λ (x : Board). x.phase) e) (onward_fits frame frames (suc i) l);
     split = λ h. ap may_split q ∙ (sym (onward_split (suc i) l) ∙ ap (λ (x : Board). may_split x.phase) e ∙ h);
-    stop = λ h. absurd (never_true (is_refused (onward (suc i) l)) (onward_unrefused (suc i) l) (ap (λ (x : Board). is_refused x.phase) e ∙ h));
+    stop = λ h. absurd (both_ways (is_refused (onward (suc i) l)) (onward_unrefused (suc i) l) (ap (λ (x : Board). is_refused x.phase) e ∙ h));
   }
 
   may_stop : (b : Board) (a : Primitive) → can_stop p.policy b.caps a ≡ true → p.policy.stop ≡ true
-  may_stop b a h = by_stop p.policy.stop (is_refusable p.policy a && may_grant b.caps a) h where
-    by_stop : (x y : Bool) → (x && y) ≡ true → x ≡ true
-    by_stop true y e = refl
-    by_stop false y e = absurd (cc)
+  may_stop b a h = and_first p.policy.stop (is_refusable p.policy a && may_grant b.caps a) h
 
   refuse_stays : (c : Bool) (b next : Board) (i : ℕ) (a : Primitive) (l : List Primitive) → can_stop p.policy b.caps a ≡ c → b.phase ≡ Asked i a l
       → record b { phase = cond c (RefusedPhase i a l) (onward (suc i) l) } ≡ next → Stays b next
   refuse_stays true b next i a l c q e = stays_by b next (Asked i a l) (RefusedPhase i a l) q (sym e) (λ frame frames. tt) (λ h. h) (λ h. may_stop b a c)
   refuse_stays false b next i a l c q e = stays_onward b next (Asked i a l) i a l q refl (sym e)
 
-  cond_some : (c : Bool) (x next : Board) → cond c (Some x) None ≡ Some next → x ≡ next
-  cond_some true x next e = same_Some x next e
-  cond_some false x next e = absurd (cc)
-
   pub answer_stays : (b next : Board) (i : ℕ) (a : Primitive) (l : List Primitive) (m : Move) → b.phase ≡ Asked i a l → answered p b i a l m ≡ Some next → Stays b next
-  answer_stays b next i a l Grant q e = grant_stays b next i a l q (cond_some (may_grant b.caps a) (granted b i a l) next e)
-  answer_stays b next i a l Refuse q e = refuse_stays (can_stop p.policy b.caps a) b next i a l refl q (cond_some (may_refuse p.policy b.caps a) (refused p b i a l) next e)
+  answer_stays b next i a l Grant q e = grant_stays b next i a l q ((cond_some (may_grant b.caps a) (granted b i a l) next e).1)
+  answer_stays b next i a l Refuse q e = refuse_stays (can_stop p.policy b.caps a) b next i a l refl q ((cond_some (may_refuse p.policy b.caps a) (refused p b i a l) next e).1)
   answer_stays b next i a l Skip q e = absurd (cc)
   answer_stays b next i a l Try q e = absurd (cc)
   answer_stays b next i a l OnMove q e = absurd (cc)
@@ -429,7 +421,7 @@ module _ (source : Source) (p : Problem) where
           plain_fits = subst (λ (z : List Frame). Fits z nx.board.phase) (sym lx.is_stack) (subst (Fits lx.stack) (sym lx.is_phase) (begin_fits p.policy lx.stack));
           woven_fits = subst (λ (z : List Frame). Fits z nt.board.phase) (sym lt.is_stack) (subst (Fits lt.stack) (sym lt.is_phase) (begin_fits p.policy lt.stack));
           split = λ k. ap (λ (z : List Frame). has_split (front_primitives p.policy z)) lt.is_stack ∙ (sym (begin_split p.policy lt.stack) ∙ (sym (ap may_split lt.is_phase) ∙ k));
-          stop = λ k. absurd (never_true (is_refused (begin p.policy lt.stack)) (begin_unrefused p.policy lt.stack) (sym (ap is_refused lt.is_phase) ∙ k));
+          stop = λ k. absurd (both_ways (is_refused (begin p.policy lt.stack)) (begin_unrefused p.policy lt.stack) (sym (ap is_refused lt.is_phase) ∙ k));
           inv = subst (λ (z : List Frame). Inv z m) (sym lt.is_stack) (inv lt.stack lt.passes);
         }
 

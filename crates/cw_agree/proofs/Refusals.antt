@@ -1,8 +1,9 @@
 -- The weaver ends a run only right after a refusal that took an entry of the answers.
-use Rattle.std.proofs.Common.{◌≡◌, ◌≢◌, ℕ, suc, ◌+◌, ℤ, List, [], ◌∷◌, ◌++◌, Bool, true, false, cond, not, ◌||◌, ◌&&◌, Option, Some, None, refl, sym, ap, subst, ◌∙◌}
+use Rattle.std.proofs.Common.{◌≡◌, ◌≢◌, ℕ, suc, ◌+◌, ℤ, List, [], ◌∷◌, ◌++◌, Bool, true, false, cond, not, ◌&&◌, Option, Some, None, refl, sym, ap, subst, ◌∙◌}
 use Rattle.std.specs.Prelude.{unwrap_or, nat_le, nat_lt, replicate, pos, negsuc}
 use Rattle.std.specs.List.{list_any}
-use Rattle.std.proofs.lemmas.Option.{same_Some, none-some}
+use Rattle.std.proofs.lemmas.Option.{same_Some, none-some, cond_some}
+use Rattle.std.proofs.lemmas.Bool.{both_ways, or_right, and_parts}
 use Rattle.cw_core.specs.declared.ids.SeamId.{SeamId}
 use Rattle.cw_rights.specs.declared.capabilities.Primitive.{Primitive}
 use Rattle.cw_rights.specs.declared.capabilities.Primitive.TheVariants.{Limit, Enter, Split}
@@ -30,7 +31,7 @@ use Rattle.cw_agree.specs.Agreements.{weaves as comes_weaving, asks as comes_ask
 use Rattle.cw_agree.specs.Laws.{RefusalsAreTaken}
 use Rattle.cw_agree.proofs.Keeps.{Ends as EndsBy, Any, value_quiet, does_keeps}
 use Rattle.cw_agree.proofs.Grows.{Grows, AnyTarget, growing, any_quiet, any_deed}
-use Rattle.cw_agree.proofs.Paired.{leads_moved, lands, stop_refused, never_true, onward_unrefused, begin_unrefused}
+use Rattle.cw_agree.proofs.Paired.{leads_moved, lands, stop_refused, onward_unrefused, begin_unrefused}
 
 -- ---- a step of the program halts at an expression
 
@@ -107,42 +108,30 @@ answer_taken : (tries : List Move) → (taken tries).0 ≡ Refuse → (rest : Li
 answer_taken [] e = absurd (cc)
 answer_taken (a ∷ rest) e = (rest, ap (λ x. x ∷ rest) e, refl)
 
-and_both : (a b : Bool) → (a && b) ≡ true → (a ≡ true) × (b ≡ true)
-and_both true b e = (refl, e)
-and_both false b e = absurd (cc)
-
 both_taken : (grant refuse : Bool) (tries : List Move) → grant ≡ true → refuse ≡ true → answer_by grant refuse tries ≡ taken tries
 both_taken true true tries g r = refl
 both_taken true false tries g r = absurd (cc)
 both_taken false refuse tries g r = absurd (cc)
 
-or_second : (a b : Bool) → b ≡ true → (a || b) ≡ true
-or_second true b h = refl
-or_second false b h = h
-
 module _ (source : Source) (p : Problem) where
   refused_by : (c : Bool) (b next : Board) (i : ℕ) (a : Primitive) (l : List Primitive) → record b { phase = cond c (RefusedPhase i a l) (onward (suc i) l) } ≡ next
       → is_refused next.phase ≡ true → c ≡ true
   refused_by true b next i a l e h = refl
-  refused_by false b next i a l e h = absurd (never_true (is_refused (onward (suc i) l)) (onward_unrefused (suc i) l) (ap (λ (x : Board). is_refused x.phase) e ∙ h))
+  refused_by false b next i a l e h = absurd (both_ways (is_refused (onward (suc i) l)) (onward_unrefused (suc i) l) (ap (λ (x : Board). is_refused x.phase) e ∙ h))
 
   onward_next : (b next : Board) (stage : ℕ) (later : List Primitive) → next.phase ≡ onward stage later → is_refused next.phase ≡ false
   onward_next b next stage later e = ap is_refused e ∙ onward_unrefused stage later
 
-  some_of : (c : Bool) (x next : Board) → cond c (Some x) None ≡ Some next → x ≡ next
-  some_of true x next e = same_Some x next e
-  some_of false x next e = absurd (none-some next e)
-
   grant_unrefused : (b next : Board) (i : ℕ) (a : Primitive) (l : List Primitive) → granted b i a l ≡ next → is_refused next.phase ≡ true → ⊥
-  grant_unrefused b next i Split l e h = never_true (is_refused next.phase) (ap (λ (x : Board). is_refused x.phase) (sym e)) h
-  grant_unrefused b next i Enter l e h = never_true (is_refused next.phase) (ap (λ (x : Board). is_refused x.phase) (sym e) ∙ onward_unrefused (suc i) l) h
-  grant_unrefused b next i (Limit m) l e h = never_true (is_refused next.phase) (ap (λ (x : Board). is_refused x.phase) (sym e) ∙ onward_unrefused (suc i) l) h
+  grant_unrefused b next i Split l e h = both_ways (is_refused next.phase) (ap (λ (x : Board). is_refused x.phase) (sym e)) h
+  grant_unrefused b next i Enter l e h = both_ways (is_refused next.phase) (ap (λ (x : Board). is_refused x.phase) (sym e) ∙ onward_unrefused (suc i) l) h
+  grant_unrefused b next i (Limit m) l e h = both_ways (is_refused next.phase) (ap (λ (x : Board). is_refused x.phase) (sym e) ∙ onward_unrefused (suc i) l) h
 
   -- an answer after which the weaver can stop
   answer_refused : (b next : Board) (i : ℕ) (a : Primitive) (l : List Primitive) (m : Move) → answered p b i a l m ≡ Some next → is_refused next.phase ≡ true
       → (m ≡ Refuse) × (can_stop p.policy b.caps a ≡ true)
-  answer_refused b next i a l Refuse e h = (refl, refused_by (can_stop p.policy b.caps a) b next i a l (some_of (may_refuse p.policy b.caps a) (refused p b i a l) next e) h)
-  answer_refused b next i a l Grant e h = absurd (grant_unrefused b next i a l (some_of (may_grant b.caps a) (granted b i a l) next e) h)
+  answer_refused b next i a l Refuse e h = (refl, refused_by (can_stop p.policy b.caps a) b next i a l ((cond_some (may_refuse p.policy b.caps a) (refused p b i a l) next e).1) h)
+  answer_refused b next i a l Grant e h = absurd (grant_unrefused b next i a l ((cond_some (may_grant b.caps a) (granted b i a l) next e).1) h)
   answer_refused b next i a l Skip e h = absurd (none-some next e)
   answer_refused b next i a l Try e h = absurd (none-some next e)
   answer_refused b next i a l OnMove e h = absurd (none-some next e)
@@ -205,8 +194,8 @@ module _ (source : Source) (p : Problem) where
         let b = t.woven.board in
         let by = (answer p b a t.tries).0 in
         let e = answer_refused b next.board stage a later by (subst (λ (x : Phase). moved p b x by ≡ Some next.board) q (leads_moved source p weaver t.woven by next h)) r in
-        let can = and_both (is_refusable p.policy a) (may_grant b.caps a) (and_both p.policy.stop (is_refusable p.policy a && may_grant b.caps a) e.1).1 in
-        let took = both_taken (may_grant b.caps a) (may_refuse p.policy b.caps a) t.tries can.1 (or_second (not (may_grant b.caps a)) (is_refusable p.policy a) can.0) in
+        let can = and_parts (is_refusable p.policy a) (may_grant b.caps a) (and_parts p.policy.stop (is_refusable p.policy a && may_grant b.caps a) e.1).1 in
+        let took = both_taken (may_grant b.caps a) (may_refuse p.policy b.caps a) t.tries can.1 (or_right (not (may_grant b.caps a)) (is_refusable p.policy a) can.0) in
         let k = answer_taken t.tries (sym (ap (λ x. x.0) took) ∙ e.0) in
         record {
           before = t;
@@ -229,7 +218,7 @@ module _ (source : Source) (p : Problem) where
     run_refused n t v seam h e (weaves k _ m next _ w c ns mv rest) =
         run_refused n (record t { woven = next; tried = counted m t.tried }) v seam (
           comes_weaving t m next h.0 w c ns mv,
-          λ r. absurd (never_true (is_refused next.board.phase) (weave_unrefused t.woven.board next.board t.woven.board.phase m w ns (leads_moved source p weaver t.woven m next mv)) r),
+          λ r. absurd (both_ways (is_refused next.board.phase) (weave_unrefused t.woven.board next.board t.woven.board.phase m w ns (leads_moved source p weaver t.woven m next mv)) r),
         ) e rest
     run_refused n t v seam h e (quits k _ next seam2 w c mv f) =
         let x = h.1 (stop_refused source p t.woven.board next.board t.woven.board.phase refl w (leads_moved source p weaver t.woven StopMove next mv)) in
@@ -255,7 +244,7 @@ module _ (source : Source) (p : Problem) where
         let l = lands source p t.woven.board next.board t.woven.board.phase way fr (leads_moved source p weaver t.woven (move_of way) next mv) in
         run_refused k (record t { woven = next; machine = m }) v seam (
           comes_stepping t way m next h.0 fr st mv,
-          λ r. absurd (never_true (is_refused (begin p.policy l.stack)) (begin_unrefused p.policy l.stack) (sym (ap is_refused l.is_phase) ∙ r)),
+          λ r. absurd (both_ways (is_refused (begin p.policy l.stack)) (begin_unrefused p.policy l.stack) (sym (ap is_refused l.is_phase) ∙ r)),
         ) e rest
     run_refused n t v seam h e (halted k _ why m fr st) =
         absurd (subst IsPlaced e (subst Placed st (step_placed source (is_split t.woven.board.phase) t.woven.board.stack t.machine)))
@@ -340,8 +329,8 @@ module _ (s : Source) (p : Problem) (weaver : Option Table) (tries : List Move) 
   start_unrefused : (m : Memory) → is_refused (going_start s p weaver tries m).woven.board.phase ≡ true → ⊥
   start_unrefused m = by_weaver weaver where
     by_weaver : (w : Option Table) → is_refused (going_start s p w tries m).woven.board.phase ≡ true → ⊥
-    by_weaver None r = never_true (is_refused (begin p.policy (start_stack p.plan))) (begin_unrefused p.policy (start_stack p.plan)) r
-    by_weaver (Some t) r = never_true (is_refused (begin p.policy (start_stack p.plan))) (begin_unrefused p.policy (start_stack p.plan)) r
+    by_weaver None r = both_ways (is_refused (begin p.policy (start_stack p.plan))) (begin_unrefused p.policy (start_stack p.plan)) r
+    by_weaver (Some t) r = both_ways (is_refused (begin p.policy (start_stack p.plan))) (begin_unrefused p.policy (start_stack p.plan)) r
 
   from_refused : (o : Outcome Done) (v : Values) (seam : SeamId) → StopsPlaced o → v.stop ≡ Refused seam → RunsFrom s p weaver tries o v
       → (m : Memory) × (o ≡ gives done m) × IsRefused s p weaver (going_start s p weaver tries m) v

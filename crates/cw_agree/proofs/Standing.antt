@@ -1,5 +1,7 @@
 -- Frames of a program whose jumps stand in loops: what is at the front can be passed, and what is left is such a frame.
 use Rattle.std.proofs.Common.{◌≡◌, ℕ, [], ◌∷◌, Bool, true, false, ◌&&◌, Option, Some, None, refl, sym, ap, subst, ◌∙◌, inl, inr}
+use Rattle.std.proofs.lemmas.Bool.{and_from}
+use Rattle.cw_lemmas.proofs.Truths.{and_first, and_second}
 use Rattle.cw_syntax.specs.Plans.{Stm, Plain, Break, Continue, Return, Open, Close, Call, Group, Label, If, While, Do, For, Stms, end, then}
 use Rattle.cw_syntax.specs.Frames.{Item, Entry, Todo, Test, After, Mark, End, Frame, items_of, init_if, after_if, opened, opened_all, settle, broken, continued, ended, Way, after}
 use Rattle.cw_syntax.specs.Runnable.{Lands, LandsAll}
@@ -118,14 +120,6 @@ abbrev pub Goes : Option Frame → Type 0
 Goes None = ⊥
 Goes (Some is) = Whole is
 
-and_left : (a b : Bool) → (a && b) ≡ true → a ≡ true
-and_left true b e = refl
-and_left false b e = absurd (cc)
-
-and_right : (a b : Bool) → (a && b) ≡ true → b ≡ true
-and_right true b e = e
-and_right false b e = absurd (cc)
-
 broken_goes : (is : Frame) → Whole is → has_mark is ≡ true → Goes (broken is)
 broken_goes [] w e = absurd w
 broken_goes (Mark ∷ rest) w e = w
@@ -153,14 +147,10 @@ ended_whole (Test at d u s ∷ rest) w = ended_whole rest w.2
 ended_whole (After at ∷ rest) w = ended_whole rest w
 ended_whole (Mark ∷ rest) w = ended_whole rest w
 
-and_true : (a b : Bool) → a ≡ true → b ≡ true → (a && b) ≡ true
-and_true true b e f = f
-and_true false b e f = absurd (cc)
-
 -- the body of a loop before its next turn
 body_whole : (at : ℕ) (d u : Bool) (s : Stm) (rest : Frame) → Lands true s → has_mark rest ≡ true → Whole rest → Whole (Todo s ∷ after_if u at (Test at d u s ∷ rest))
-body_whole at d true s rest h m w = (subst (λ b. Lands b s) (sym (and_true (has_mark rest) true m refl)) h, (h, m, w))
-body_whole at d false s rest h m w = (subst (λ b. Lands b s) (sym (and_true (has_mark rest) true m refl)) h, (h, m, w))
+body_whole at d true s rest h m w = (subst (λ b. Lands b s) (sym (and_from (has_mark rest) true m refl)) h, (h, m, w))
+body_whole at d false s rest h m w = (subst (λ b. Lands b s) (sym (and_from (has_mark rest) true m refl)) h, (h, m, w))
 
 -- what passes by the step's own item: neither a call nor an end
 abbrev pub IsInner : Item → Type 0
@@ -171,8 +161,8 @@ IsInner _ = Unit {0}
 pub inner_goes : (i : Item) (way : Way) (rest : Frame) → IsInner i → SettledItem i → Whole (i ∷ rest) → IsWay (kind_of i) way → Goes (after i way rest)
 inner_goes (Entry f j) way rest n t w e = subst (λ x. Goes (after (Entry f j) x rest)) (sym e) w
 inner_goes (Todo (Plain at)) way rest n t w e = subst (λ x. Goes (after (Todo (Plain at)) x rest)) (sym e) w.1
-inner_goes (Todo (Break at)) way rest n t w e = subst (λ x. Goes (after (Todo (Break at)) x rest)) (sym e) (broken_goes rest w.1 (and_left (has_mark rest) (has_turn rest) w.0))
-inner_goes (Todo (Continue at)) way rest n t w e = subst (λ x. Goes (after (Todo (Continue at)) x rest)) (sym e) (continued_goes rest w.1 (and_right (has_mark rest) (has_turn rest) w.0))
+inner_goes (Todo (Break at)) way rest n t w e = subst (λ x. Goes (after (Todo (Break at)) x rest)) (sym e) (broken_goes rest w.1 (and_first (has_mark rest) (has_turn rest) w.0))
+inner_goes (Todo (Continue at)) way rest n t w e = subst (λ x. Goes (after (Todo (Continue at)) x rest)) (sym e) (continued_goes rest w.1 (and_second (has_mark rest) (has_turn rest) w.0))
 inner_goes (Todo (Return at)) way rest n t w e = subst (λ x. Goes (after (Todo (Return at)) x rest)) (sym e) (ended_whole rest w.1)
 inner_goes (Todo (Open at j d)) way rest n t w (inl e) = subst (λ x. Goes (after (Todo (Open at j d)) x rest)) (sym e) w.1
 inner_goes (Todo (Open at j d)) way rest n t w (inr e) = subst (λ x. Goes (after (Todo (Open at j d)) x rest)) (sym e) w.1
