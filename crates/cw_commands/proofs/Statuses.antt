@@ -1,10 +1,10 @@
 -- Where no count rose no file went unread and nothing unwritten.
-use Rattle.std.proofs.Common.{◌≡◌, ◌≢◌, ◌⊎◌, ℕ, List, [], Option, Some, refl, sym, ap, ◌∙◌, inl, inr, subst, arith}
+use Rattle.std.proofs.Common.{◌≡◌, ◌≢◌, ◌⊎◌, ℕ, List, [], Option, Some, refl, sym, ap, ◌∙◌, inl, inr, subst}
 use Rattle.std.specs.Prelude.{Contains, slice_get}
 use Rattle.std.proofs.lemmas.Option.{slice_get_within, slice_get-get_or, same_Some}
 use Rattle.cw_core.specs.declared.quantity.Quantity.{Quantity}
-use Rattle.cw_io.specs.Causes.{Rose}
 use Rattle.cw_io.specs.Files.{FilesByName}
+use Rattle.cw_io.proofs.Counts.{never_rose}
 use Rattle.cw_commands.specs.declared.ending.Ending.{Ending}
 use Rattle.cw_commands.specs.declared.ending.Ending.TheVariants.{Put, Refused as RefusedEnd, TooLong, Unread, Unwritten, Memory}
 use Rattle.cw_commands.specs.declared.outcome.Reply.{Reply}
@@ -105,9 +105,6 @@ ends_well N IsDue files counts counts' old new faults faults' quantities names e
     well IsDue files counts counts' old new faults faults' quantities names none accepts ending
     (told IsDue files counts counts' old new faults faults' quantities names none accepts ending ends)
 
-not_risen : Rose 0 0 → ⊥
-not_risen h = omega (arith, h)
-
 pub never_for_sure : (N : Type 0) (IsDue : List (List ℕ) → Due → Type 0) → NeverFailsForSure N IsDue
 never_for_sure N IsDue files old new quantities names ending ends =
-    never IsDue files (λ name. 0) (λ name. 0) old new 0 0 quantities names (record { files = λ name c h. not_risen h; output = not_risen }) ending ends
+    never IsDue files (λ name. 0) (λ name. 0) old new 0 0 quantities names (record { files = λ name c h. never_rose h; output = never_rose }) ending ends
