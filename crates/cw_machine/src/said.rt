@@ -5,12 +5,13 @@ ghost use Rattle.cw_value.specs.Deeds.{begins_at};
 ghost use Rattle.cw_slots.specs.Texts.{statement_at};
 ghost use Rattle.cw_machine.specs.Apart.{AreApart};
 
+use cw_core::limits::SOURCE_BYTES;
 use cw_syntax::program::Stmt;
 use std::alloc::{AllocError, Global};
 use std::marker::Model;
 
 /// Statements further than this behind the first are found by a walk.
-const MOST_BYTES: u32 = 262_144;
+const MOST_BYTES: u32 = SOURCE_BYTES as u32;
 
 /// The statements of a function, in the order of the text.
 ///
