@@ -1,9 +1,11 @@
 -- A run that is walked move by move is the one run there is with these moves.
 use Rattle.std.specs.Prelude.{IsTrue}
-use Rattle.std.proofs.Common.{◌≡◌, ℕ, zero, suc, ◌+◌, ◌<◌, take, drop, get_or, arith, List, [], ◌∷◌, ◌++◌, Bool, true, false, cond, not, ◌||◌, Option, Some, None}
+use Rattle.std.proofs.Common.{◌≡◌, ℕ, zero, suc, ◌+◌, ◌<◌, take, drop, get_or, arith, List, [], ◌∷◌, ◌++◌, Bool, true, false, cond, not, ◌||◌, Some, None}
 use Rattle.std.proofs.Common.{option_map, length, refl, sym, ap, ◌∙◌, subst, ◌⊎◌, inl, inr, ⊎_elim}
 use Rattle.std.specs.Prelude.{slice_get}
 use Rattle.std.proofs.lemmas.Option.{none-some, same_Some}
+use Rattle.std.proofs.lemmas.List.{same_from_push}
+use Rattle.cw_lemmas.proofs.Options.{option_map_some}
 use Rattle.cw_certs.specs.declared.moves.Move.{Move}
 use Rattle.cw_certs.specs.declared.moves.Move.TheVariants.{Skip}
 use Rattle.cw_game.specs.Games.{Game, Ret, Config, at_pair, leads_to}
@@ -58,18 +60,6 @@ module _ (g : Game) where
   snoc_not_nil [] by e = cc
   snoc_not_nil (m ∷ ms) by e = cc
 
-  same_snoc : (ms ns : List Move) (a b : Move) → ms ++ a ∷ [] ≡ ns ++ b ∷ [] → (ms ≡ ns) × (a ≡ b)
-  same_snoc [] [] a b e = (refl, cc)
-  same_snoc [] (n ∷ []) a b e = cc
-  same_snoc [] (n ∷ (n2 ∷ ns)) a b e = cc
-  same_snoc (m ∷ []) [] a b e = cc
-  same_snoc (m ∷ (m2 ∷ ms)) [] a b e = cc
-  same_snoc (m ∷ ms) (n ∷ ns) a b e =
-      let tails : ms ++ a ∷ [] ≡ ns ++ b ∷ [] = cc in
-      let heads : m ≡ n = cc in
-      let k = same_snoc ms ns a b tails in
-      (ap (λ l. m ∷ l) k.0 ∙ ap (λ x. x ∷ ns) heads, k.1)
-
   -- a list is empty or has a last move
   abbrev LastOf : List Move → Type 0
   LastOf ns = (ns ≡ []) ⊎ ((ms : List Move) × (by : Move) × (ns ≡ ms ++ by ∷ []))
@@ -89,7 +79,7 @@ module _ (g : Game) where
   front c ns x (skips _ d _ h l) a b e = front c ns d h a b e
   front c ns x (goes ms d _ by h good step l) a b e =
       ⊎_elim (λ z. (x, subst (λ k. Goes g c k x) (e ∙ ap (λ k. a ++ k) z ∙ append_nil a) (goes ms d x by h good step l)))
-      (λ z. let s = same_snoc ms (a ++ z.0) by z.1 (e ∙ ap (λ k. a ++ k) z.2 ∙ sym (joined a z.0 (z.1 ∷ []))) in front c ms d h a z.0 s.0) (last_of b)
+      (λ z. let s = same_from_push ms (a ++ z.0) by z.1 (e ∙ ap (λ k. a ++ k) z.2 ∙ sym (joined a z.0 (z.1 ∷ []))) in front c ms d h a z.0 s.0) (last_of b)
     where
       append_nil : (l : List Move) → l ++ [] ≡ l
       append_nil [] = refl
@@ -114,13 +104,9 @@ module _ (g : Game) where
       let same : d ≡ c = sym (step_rests d e by p.1 p.2) ∙ w.only d h in
       subst (λ x. stepped g x by ≡ Some e) same s
 
-  mapped_some : (o : Option Config) (d : Config) → option_map (rested g) o ≡ Some d → (e : Config) × (o ≡ Some e) × (rested g e ≡ d)
-  mapped_some None d h = absurd (none-some d h)
-  mapped_some (Some e) d h = (e, refl, same_Some (rested g e) d h)
-
   pub walk_on : (ms : List Move) (c d : Config) (by : Move) → Walked ms c → option_map (rested g) (stepped g c by) ≡ Some d → Walked (ms ++ by ∷ []) d
   walk_on ms c d by w h =
-      let m = mapped_some (stepped g c by) d h in
+      let m = option_map_some (rested g) (stepped g c by) d h in
       let p = step_parts g c m.0 by m.1 in
       record {
         reached = subst (λ x. Goes g (start_at g) (ms ++ by ∷ []) x) m.2
@@ -128,7 +114,7 @@ module _ (g : Game) where
         only = λ x hx.
             ⊎_elim (λ y. absurd (snoc_not_nil ms by y.0))
             (λ y.
-            let s = same_snoc ms y.0 by y.1 y.4 in
+            let s = same_from_push ms y.0 by y.1 y.4 in
             let h2 = subst (λ k. Goes g (start_at g) k y.2) (sym s.0) y.5 in
             let s2 = subst (λ b. stepped g y.2 b ≡ Some y.3) (sym s.1) y.6 in
             let e2 = only_step ms c y.2 y.3 by w h2 s2 in
@@ -141,7 +127,7 @@ module _ (g : Game) where
       let f = front (start_at g) ((ms ++ by ∷ []) ++ more) x h (ms ++ by ∷ []) more refl in
       ⊎_elim (λ y. snoc_not_nil ms by y.0)
       (λ y.
-      let s = same_snoc ms y.0 by y.1 y.4 in
+      let s = same_from_push ms y.0 by y.1 y.4 in
       let h2 = subst (λ k. Goes g (start_at g) k y.2) (sym s.0) y.5 in
       let s2 = subst (λ b. stepped g y.2 b ≡ Some y.3) (sym s.1) y.6 in
       none-some y.3 (sym none ∙ only_step ms c y.2 y.3 by w h2 s2)) (ended (start_at g) (ms ++ by ∷ []) f.0 f.1)
