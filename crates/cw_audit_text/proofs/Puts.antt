@@ -4,6 +4,7 @@ use Rattle.std.specs.List.{flat_map}
 use Rattle.std.specs.Prelude.{codes}
 use Rattle.std.specs.Fmt.{decimal}
 use Rattle.std.proofs.lemmas.List.{take_more, take_all}
+use Rattle.std.proofs.lemmas.List.Concat.{flat_map-append}
 use Rattle.cw_core.specs.declared.ids.PosId.{PosId}
 use Rattle.cw_core.specs.declared.ids.StateId.{StateId}
 use Rattle.cw_certs.specs.declared.moves.Move.{Move}
@@ -46,13 +47,9 @@ violates_put T t0 t1 t2 t3 h1 h2 h3 = rw (h3, h2, h1) (verdict_grouped t0 (codes
 
 -- ---- one after the other
 
-flat_two : {A : Type 0} (emit : A → List ℕ) (xs ys : List A) → flat_map emit (xs ++ ys) ≡ flat_map emit xs ++ flat_map emit ys
-flat_two emit [] ys = refl
-flat_two emit (x ∷ xs) ys = ap (λ t. emit x ++ t) (flat_two emit xs ys) ∙ sym (append_assoc (emit x) (flat_map emit xs) (flat_map emit ys))
-
 pub lines_two : (xs ys : List TextLine) → whole_lines (xs ++ ys) ≡ whole_lines xs ++ whole_lines ys
 unfolding whole_lines
-lines_two xs ys = flat_two whole_line xs ys
+lines_two xs ys = flat_map-append whole_line xs ys
 
 pub lines_one : (i : TextLine) → whole_lines (i ∷ []) ≡ whole_line i
 unfolding whole_lines
@@ -91,11 +88,6 @@ lines_step {A = A} items old now new xs i d lt so_far put =
 
 pub lines_end : {A : Type 0} (items : A → List TextLine) (old now : List ℕ) (xs : List A) (i : ℕ) → length xs ≤ i → now ≡ old ++ Lines items (take i xs) → now ≡ old ++ Lines items xs
 lines_end items old now xs i le h = h ∙ ap (λ ys. old ++ Lines items ys) (take_all i xs le)
-
--- each value that has one line
-pub lines_mapped : {A : Type 0} (item : A → TextLine) (xs : List A) → flat_map (λ x. item x ∷ []) xs ≡ map item xs
-lines_mapped item [] = refl
-lines_mapped item (x ∷ xs) = ap (λ t. item x ∷ t) (lines_mapped item xs)
 
 pub rows_mapped : (rows : List (PosId × StateId × ℕ)) → flat_map (λ (r : PosId × StateId × ℕ). row_line (row_of r) ∷ []) rows ≡ map row_line (map row_of rows)
 rows_mapped [] = refl
