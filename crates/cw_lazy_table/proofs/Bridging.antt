@@ -4,6 +4,7 @@ use Rattle.std.specs.Prelude.{slice_get}
 use Rattle.std.specs.List.{Contains, cons_option}
 use Rattle.std.proofs.lemmas.Option.{none-some, same_Some}
 use Rattle.std.proofs.lemmas.List.Elements.{Contains-append_left, Contains-append_right, Contains-append_cases}
+use Rattle.std.proofs.lemmas.Bool.{false_from_ne_true, true_from_ne_false}
 use Rattle.cw_core.specs.StateSet.{has as has_member}
 use Rattle.cw_core.proofs.Sets.{same_from_members}
 use Rattle.cw_rights.specs.declared.capabilities.Primitive.{Primitive}
@@ -173,14 +174,6 @@ module _ (g : Game) (staged : AreStaged g) (lost : (p q e : ℕ) → Bool) (set 
       Contains-append_right (visited g lost set k o ++ begun g lost set k (call_in o)) (answered g lost set k o ++ gone_on g lost set k r) b
       (Contains-append_right (answered g lost set k o) (gone_on g lost set k r) b c)
 
-  is_false : (b : Bool) → (b ≡ true → ⊥) → b ≡ false
-  is_false true h = absurd (h refl)
-  is_false false h = refl
-
-  is_true : (b : Bool) → (b ≡ false → ⊥) → b ≡ true
-  is_true true h = refl
-  is_true false h = absurd (h refl)
-
   visit_to : (p q e j i : ℕ) (a : Primitive) (l : Bool) → slice_get g.spots p ≡ Some (Visit j i a) → lost (p + 2) q e ≡ l
       → Contains (visited g lost set (key p q e) (slice_get g.spots p)) (key (cond l (p + 1) (p + 2)) q e)
   visit_to p q e j i a l es el =
@@ -197,15 +190,15 @@ module _ (g : Game) (staged : AreStaged g) (lost : (p q e : ℕ) → Bool) (set 
   pub live_member : (p q e : ℕ) → IsLive g p q e → IsMember (rules g lost set) start (key p q e)
   live_member p q e begins = first
   live_member r x y (skips p q e j i a live es n) =
-      let l = is_false (lost (p + 2) q e) (λ t. n (right.skip_lost p q e j i a live es t)) in
+      let l = false_from_ne_true (lost (p + 2) q e) (λ t. n (right.skip_lost p q e j i a live es t)) in
       then (key p q e) (key (p + 2) q e) (live_member p q e live) (to_visited (key p q e) (key (p + 2) q e) (visit_to p q e j i a false es l))
   live_member r x y (tries p q e j i a live es k) =
-      let l = is_true (lost (p + 2) q e) (λ t. right.skip_kept p q e j i a live es t k) in
+      let l = true_from_ne_false (lost (p + 2) q e) (λ t. right.skip_kept p q e j i a live es t k) in
       then (key p q e) (key (p + 1) q e) (live_member p q e live) (to_visited (key p q e) (key (p + 1) q e) (visit_to p q e j i a true es l))
   live_member r x y (moves p q e by next live w k l) =
       then (key p q e) (key next.pos next.state e) (live_member p q e live) (to_answered (key p q e) (key next.pos next.state e) (move_to p q e (slice_get g.spots p) by next w k l))
   live_member r x y (goes_on p q e pair live is n) =
-      let l = is_false (lost pair.0 pair.1 e) (λ t. n (right.on_lost p q e pair live is t)) in
+      let l = false_from_ne_true (lost pair.0 pair.1 e) (λ t. n (right.on_lost p q e pair live is t)) in
       then (key p q e) (key pair.0 pair.1 e) (live_member p q e live) (to_gone (key p q e) (key pair.0 pair.1 e)
       (subst (λ o. Contains (gone_on g lost set (key p q e) o) (key pair.0 pair.1 e)) (sym is)
       (subst (λ b. Contains (cond b [] (key pair.0 pair.1 e ∷ [])) (key pair.0 pair.1 e)) (sym l) (the_one (key pair.0 pair.1 e)))))

@@ -2,7 +2,6 @@
 use Rattle.std.proofs.Common.{◌≡◌, ◌⊎◌, inl, inr, ℕ, zero, suc, ◌<◌, List, [], ◌∷◌, Bool, true, false, cond, Option, Some, None, is_some, find, length, get_or, refl, sym, ap, ◌∙◌, subst, arith}
 use Rattle.std.specs.Prelude.{slice_get}
 use Rattle.std.specs.List.{Contains}
-use Rattle.std.proofs.lemmas.List.{get_or_default}
 use Rattle.std.proofs.lemmas.Option.{none-some, same_Some}
 
 module _ {A : Type 0} where
@@ -22,9 +21,6 @@ module _ {A : Type 0} where
   of_in [] x n = absurd n
   of_in (y ∷ ys) x (inl e) = (0, omega arith, e)
   of_in (y ∷ ys) x (inr n) = let c = of_in ys x n in (suc c.0, omega (arith, c.1), c.2)
-
-  pub contains_at : (xs : List A) (i : ℕ) (d : A) → i < length xs → Contains xs (get_or xs i d)
-  contains_at xs i d l = (i, l, get_or_default xs i (get_or xs i d) d l)
 
   pub find_in : (test : A → Bool) (xs : List A) (x : A) → find test xs ≡ Some x → In xs x × (test x ≡ true)
   find_in test [] x e = absurd (none-some x e)

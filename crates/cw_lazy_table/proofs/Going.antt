@@ -1,7 +1,7 @@
 -- Where the environment's moves lead from a pair that isn't bad.
 use Rattle.std.proofs.Common.{◌≡◌, ℕ, ◌+◌, [], Bool, true, false, cond, Option, Some, None, refl, subst}
 use Rattle.std.specs.Prelude.{slice_get, Contains}
-use Rattle.std.proofs.lemmas.Option.{none-some, same_Some}
+use Rattle.std.proofs.lemmas.Option.{none-some, same_Some, cond_some}
 use Rattle.cw_rights.specs.declared.capabilities.Primitive.TheVariants.{Limit, Enter, Split}
 use Rattle.cw_certs.specs.declared.moves.Move.{Move}
 use Rattle.cw_certs.specs.declared.moves.Move.TheVariants.{Grant, Refuse, On, Left, Right, Opened, Failed}
@@ -15,10 +15,6 @@ use Rattle.cw_solve.proofs.Still.{first_of_two, second_of_two, only}
 use Rattle.cw_lemmas.proofs.Truths.{not_or as given}
 use Rattle.std.proofs.lemmas.Bool.{and_left, and_right}
 
-chosen : (b : Bool) (x c : Config) → cond b (Some x) None ≡ Some c → (b ≡ true) × (x ≡ c)
-chosen true x c e = (refl, same_Some x c e)
-chosen false x c e = absurd (none-some c e)
-
 -- one of the position's targets, a state, and where what it leads to is lost so is the pair
 pub record GoesTo (g : Game) (p q : ℕ) (o : Option Spot) (c : Config) : Type 0 where
   pub target : Contains (targets p o) c.pos
@@ -31,11 +27,11 @@ module _ (g : Game) (closed : AreClosed g (IsState g)) (p q : ℕ) where
   goes_to None by c es b w k l = absurd (none-some c l)
   goes_to (Some (Visit j i a)) by c es b w k l = cc
   goes_to (Some (Asked j i Split)) Grant c es b w k l =
-      let z = chosen (g.states.may_grant q Split) (past_asked g p q Split []) c l in
+      let z = cond_some (g.states.may_grant q Split) (past_asked g p q Split []) c l in
       subst (GoesTo g p q (Some (Asked j i Split))) z.1
       (record { target = first_of_two (p + 2) (p + 1); state = λ s. s; lost = λ h e f. and_left _ _ (given (g.states.may_grant q Split) (h (p + 2) q e) z.0 f) })
   goes_to (Some (Asked j i Enter)) Grant c es b w k l =
-      let z = chosen (g.states.may_grant q Enter) (past_asked g p q Enter []) c l in
+      let z = cond_some (g.states.may_grant q Enter) (past_asked g p q Enter []) c l in
       subst (GoesTo g p q (Some (Asked j i Enter))) z.1 (record {
         target = only (p + 1);
         state = λ s. closed.granted p j i q Enter es z.0 s;
@@ -43,7 +39,7 @@ module _ (g : Game) (closed : AreClosed g (IsState g)) (p q : ℕ) where
             λ h e f. and_left _ _ (given (g.states.may_grant q Enter) (h (p + 1) (g.states.granted q Enter) e) z.0 f);
       })
   goes_to (Some (Asked j i (Limit n))) Grant c es b w k l =
-      let z = chosen (g.states.may_grant q (Limit n)) (past_asked g p q (Limit n) []) c l in
+      let z = cond_some (g.states.may_grant q (Limit n)) (past_asked g p q (Limit n) []) c l in
       subst (GoesTo g p q (Some (Asked j i (Limit n)))) z.1 (record {
         target = only (p + 1);
         state = λ s. closed.granted p j i q (Limit n) es z.0 s;
@@ -51,14 +47,14 @@ module _ (g : Game) (closed : AreClosed g (IsState g)) (p q : ℕ) where
             λ h e f. and_left _ _ (given (g.states.may_grant q (Limit n)) (h (p + 1) (g.states.granted q (Limit n)) e) z.0 f);
       })
   goes_to (Some (Asked j i Split)) Refuse c es b w k l =
-      let z = chosen (refuses_in g q Split) (at_pair (p + 1) q []) c l in
+      let z = cond_some (refuses_in g q Split) (at_pair (p + 1) q []) c l in
       subst (GoesTo g p q (Some (Asked j i Split))) z.1
       (record { target = second_of_two (p + 2) (p + 1); state = λ s. s; lost = λ h e f. and_right _ _ (given (refuses_in g q Split) (h (p + 1) q e) z.0 f) })
   goes_to (Some (Asked j i Enter)) Refuse c es b w k l =
-      let z = chosen (refuses_in g q Enter) (at_pair (p + 1) q []) c l in
+      let z = cond_some (refuses_in g q Enter) (at_pair (p + 1) q []) c l in
       subst (GoesTo g p q (Some (Asked j i Enter))) z.1 (record { target = only (p + 1); state = λ s. s; lost = λ h e f. and_right _ _ (given (refuses_in g q Enter) (h (p + 1) q e) z.0 f) })
   goes_to (Some (Asked j i (Limit n))) Refuse c es b w k l =
-      let z = chosen (refuses_in g q (Limit n)) (at_pair (p + 1) q []) c l in
+      let z = cond_some (refuses_in g q (Limit n)) (at_pair (p + 1) q []) c l in
       subst (GoesTo g p q (Some (Asked j i (Limit n)))) z.1 (record { target = only (p + 1); state = λ s. s; lost = λ h e f. and_right _ _ (given (refuses_in g q (Limit n)) (h (p + 1) q e) z.0 f) })
   goes_to (Some (Asked j i a)) _ c es b w k l = absurd (none-some c l)
   goes_to (Some (Step n)) On c es b w k l = subst (GoesTo g p q (Some (Step n))) (same_Some _ c l) (record { target = only n; state = λ s. s; lost = λ h e f. f })

@@ -1,7 +1,7 @@
 -- What is live isn't lost, where the start isn't: and it stands in a function under a promise that the game needs.
 use Rattle.std.proofs.Common.{◌≡◌, ℕ, zero, suc, ◌+◌, ◌<◌, ◌≤◌, Bool, true, false, ◌&&◌, ◌||◌, Option, Some, nat_eq, refl, sym, ap, ◌∙◌, subst, arith, eqb-true, inl, inr}
 use Rattle.std.specs.Prelude.{slice_get, nat_lt, Contains}
-use Rattle.std.proofs.lemmas.Bool.{lt-ltb, ltb-true, cases_lt}
+use Rattle.std.proofs.lemmas.Bool.{lt-ltb, ltb-true, cases_lt, or_from}
 use Rattle.std.proofs.lemmas.Option.{none-some}
 use Rattle.cw_rights.specs.declared.capabilities.Primitive.{Primitive}
 use Rattle.cw_game.specs.declared.spots.Spot.{Spot}
@@ -123,14 +123,9 @@ module _ (g : Game) (functions : ℕ) (routed : AreRouted g functions) (staged :
       kept (
         suc n,
         ap (holds_in g (Holds g n) p q (has e)) es
-            ∙ both (Holds g n (p + 2) q (has e)) (Holds g n (p + 1) q (has e)) (later g functions routed l.0 n (p + 2) q (has e) (omega arith) s l.1)
+            ∙ or_from (Holds g n (p + 2) q (has e)) (Holds g n (p + 1) q (has e)) (later g functions routed l.0 n (p + 2) q (has e) (omega arith) s l.1)
             (later g functions routed k.0 n (p + 1) q (has e) (omega arith) s k.1),
       )
-    where
-      both : (a b : Bool) → a ≡ false → b ≡ false → (a || b) ≡ false
-      both true b x y = cc
-      both false b x y = y
-
   module _ (first : IsState g g.states.start) (start : IsLost g (g.entry g.main) g.states.start (has (all_states g)) → ⊥) where
     -- the same function and promise at a target
     at_target : (p q e r x : ℕ) → IsSafe g functions p q e → Contains (targets p (slice_get g.spots p)) r → IsState g x → (IsLost g r x (has e) → ⊥) → IsSafe g functions r x e

@@ -9,7 +9,7 @@ use Rattle.cw_game.specs.Games.{Game, returned}
 use Rattle.cw_game.specs.Pairs.{has, Called, call_in, kept_at}
 use Rattle.cw_product.specs.Routed.{AreRouted}
 use Rattle.cw_solve.proofs.Falls.{return_state, back_stays}
-use Rattle.cw_lemmas.proofs.Truths.{truths_same as same_bools}
+use Rattle.cw_lemmas.proofs.Truths.{truths_same as same_bools, and_first, and_second}
 use Rattle.cw_lazy_table.specs.Live.{IsLostBack, IsFull}
 use Rattle.cw_lazy_table.specs.Sets.{set_by}
 use Rattle.cw_lazy_table.specs.Staged.{IsKnown}
@@ -43,24 +43,16 @@ module _ (g : Game) (functions : ℕ) (routed : AreRouted g functions) (known : 
   full_there p q e call h es = (
     set_by g.states.count test,
     record {
-      states = λ x t. ltb-true x g.states.count (first (nat_lt x g.states.count) (test x) (sym (set_by_is g.states.count test x) ∙ t));
+      states = λ x t. ltb-true x g.states.count (and_first (nat_lt x g.states.count) (test x) (sym (set_by_is g.states.count test x) ∙ t));
       kept = λ x t l.
-          let s = ltb-true x g.states.count (first (nat_lt x g.states.count) (test x) (sym (set_by_is g.states.count test x) ∙ t)) in
-          good x s (second (nat_lt x g.states.count) (test x) (sym (set_by_is g.states.count test x) ∙ t)) l;
+          let s = ltb-true x g.states.count (and_first (nat_lt x g.states.count) (test x) (sym (set_by_is g.states.count test x) ∙ t)) in
+          good x s (and_second (nat_lt x g.states.count) (test x) (sym (set_by_is g.states.count test x) ∙ t)) l;
       left_out = λ x s t. bad x s (out (nat_lt x g.states.count) (test x) (lt-ltb x g.states.count s) (sym (set_by_is g.states.count test x) ∙ t));
     },
   )
     where
       Answer : ℕ → Type 0
       Answer x = IsLostBack g call q e x ⊎ (IsLostBack g call q e x → ⊥)
-
-      first : (a b : Bool) → (a && b) ≡ true → a ≡ true
-      first true b h = refl
-      first false b h = cc
-
-      second : (a b : Bool) → (a && b) ≡ true → b ≡ true
-      second true b h = h
-      second false b h = cc
 
       out : (a b : Bool) → a ≡ true → (a && b) ≡ false → b ≡ false
       out true b h k = k

@@ -1,14 +1,14 @@
 use Rattle.std.proofs.Common.{List, subst}
 use Rattle.std.proofs.lemmas.List.{take_all}
+use Rattle.std.proofs.lemmas.List.Elements.{Contains-get_or}
 use Rattle.cw_product.specs.Product.{game_of}
 use Rattle.cw_lazy_table.specs.declared.key.Key.{Key}
 use Rattle.cw_lazy_table.specs.Places.{ComeByKind}
 use Rattle.cw_lazy_table.proofs.Coming.{come_more}
-use Rattle.cw_lazy_table.proofs.Finding.{contains_at}
 use Rattle.cw_lazy_table.proofs.place.by_kind.Goals as goal
 
 pub spot-requires : goal.spot-requires
-spot-requires c = c.requires _ (contains_at c.args.keys.now c.loop-key.key-index _ c.loop-key-test.true)
+spot-requires c = c.requires _ (Contains-get_or c.args.keys.now c.loop-key.key-index _ c.loop-key-test.true)
 
 pub loop-key-preserved : goal.loop-key-preserved
 loop-key-preserved c =

@@ -1,17 +1,17 @@
 use Rattle.std.proofs.Common.{List, ◌∙◌, refl, subst, []}
 use Rattle.std.specs.Prelude.{IfOk, Contains}
+use Rattle.std.proofs.lemmas.List.Elements.{Contains-get_or}
 use Rattle.cw_fixpoint.specs.Closures.{Exactly}
 use Rattle.cw_product.specs.Product.{game_of}
 use Rattle.cw_lazy_table.specs.declared.key.Key.{Key}
 use Rattle.cw_lazy_table.specs.declared.place.Placed.{Placed}
 use Rattle.cw_lazy_table.specs.Places.{return_cmp, return_of}
 use Rattle.cw_lazy_table.proofs.Ascending.{filtered_at, at_end}
-use Rattle.cw_lazy_table.proofs.Finding.{contains_at}
 use Rattle.cw_lazy_table.proofs.Placing.{put_return_is}
 use Rattle.cw_lazy_table.proofs.place.returns.Goals as goal
 
 pub call_at-requires : goal.call_at-requires
-call_at-requires c = c.requires _ (contains_at c.args.pairs.now c.loop-pair.pair-index _ c.loop-pair-test.true)
+call_at-requires c = c.requires _ (Contains-get_or c.args.pairs.now c.loop-pair.pair-index _ c.loop-pair-test.true)
 
 pub loop-pair-preserved : goal.loop-pair-preserved
 loop-pair-preserved c =
