@@ -8,9 +8,6 @@ use Rattle.cw_linked.specs.Founds.{AreAlike}
 use Rattle.cw_lemmas.proofs.Numbers.{mul_positive as some_rights}
 
 -- a state and its rights
-halves : (n x : ℕ) → x / n * n + x % n ≡ x
-halves n x = div-add-mod' x n
-
 rights_of : (n x q : ℕ) → 0 < n → (x / n * n + q % n) % n ≡ q % n
 rights_of n x q some = mod-mul-add (x / n) n (q % n) (mod_below q n some)
 
@@ -19,5 +16,5 @@ alike h = record {
   same = λ x y q lx ly lq.
       let n = length (lists_of h.states).rights in
       ap (λ (r : ℕ). x / n * n + r) (rights_of n y q (some_rights (length (lists_of h.states).sets) n q lq));
-  own = λ q lq. halves (length (lists_of h.states).rights) q;
+  own = λ q lq. div-add-mod' q (length (lists_of h.states).rights);
 }

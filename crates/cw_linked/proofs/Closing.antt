@@ -1,7 +1,7 @@
 -- What is left to do is done: a cell or a link that was asked for at what is known of it waits as it should.
-use Rattle.std.proofs.Common.{◌≡◌, ℕ, zero, suc, ◌+◌, ◌*◌, ◌<◌, ◌≤◌, List, Bool, true, false, ◌||◌, Some, refl, sym, ap, ◌∙◌, subst, arith, inl, inr}
+use Rattle.std.proofs.Common.{◌≡◌, ℕ, zero, suc, ◌+◌, ◌*◌, ◌<◌, ◌≤◌, List, Bool, true, false, Some, refl, sym, ap, ◌∙◌, subst, arith, inl, inr}
 use Rattle.std.specs.Prelude.{◌⊎◌, slice_get, nat_eq, nat_lt}
-use Rattle.std.proofs.lemmas.Bool.{cases_lt, le-ltb, ne_eqb}
+use Rattle.std.proofs.lemmas.Bool.{cases_lt, le-ltb, ne_eqb, or_from}
 use Rattle.std.proofs.lemmas.Option.{same_Some}
 use Rattle.cw_game.specs.Games.{Game, returned, Holds}
 use Rattle.cw_game.specs.Pairs.{has, Called, call_in, is_call_in, kept_at}
@@ -29,11 +29,7 @@ bound_within n b lost =
 
 pub bound_lost : (n b : ℕ) → 0 < b → b ≤ n → holds_by n b ≡ false
 bound_lost n zero some le = absurd (omega (arith, some))
-bound_lost n (suc b) some le = by (nat_eq (suc b) 0) (nat_lt n (suc b)) (ne_eqb (suc b) 0 (λ e. omega (arith, e))) (le-ltb n (suc b) le)
-  where
-    by : (x y : Bool) → x ≡ false → y ≡ false → (x || y) ≡ false
-    by true y h k = h
-    by false y h k = k
+bound_lost n (suc b) some le = or_from (nat_eq (suc b) 0) (nat_lt n (suc b)) (ne_eqb (suc b) 0 (λ e. omega (arith, e))) (le-ltb n (suc b) le)
 
 module _ (g : Game) (functions : ℕ) (routed : AreRouted g functions) (alike : AreAlike g) (contexts : List Context)
     (below : (i : ℕ) (c : Context) → slice_get contexts i ≡ Some c → c.function < functions) (s : Found) where

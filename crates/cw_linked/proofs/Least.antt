@@ -1,7 +1,7 @@
 -- The one lemma: where nothing waits under a key below some number, the taken heights tell what holds for half as many moves.
-use Rattle.std.proofs.Common.{◌≡◌, ℕ, zero, suc, ◌+◌, ◌*◌, ◌<◌, List, Bool, true, false, ◌||◌, Some, refl, sym, ap, ◌∙◌, arith, inl, inr}
+use Rattle.std.proofs.Common.{◌≡◌, ℕ, zero, suc, ◌+◌, ◌*◌, ◌<◌, List, Bool, true, false, Some, refl, sym, ap, ◌∙◌, arith, inl, inr}
 use Rattle.std.specs.Prelude.{◌⊎◌, slice_get, nat_lt, nat_eq}
-use Rattle.std.proofs.lemmas.Bool.{cases_lt, lt-ltb}
+use Rattle.std.proofs.lemmas.Bool.{cases_lt, lt-ltb, or_right}
 use Rattle.cw_game.specs.Games.{Game, returned, holds_in, Holds}
 use Rattle.cw_game.specs.Pairs.{has, Called, call_in, is_call_in, kept_at}
 use Rattle.cw_game.proofs.Holding.{holds_rises}
@@ -26,11 +26,7 @@ pub tells_none : (n k : ℕ) → k ≡ 0 → holds_by n k ≡ true
 tells_none n k e = rw e refl
 
 pub tells_above : (n k : ℕ) → n < k → holds_by n k ≡ true
-tells_above n k lt = by (nat_eq k 0) (nat_lt n k) (lt-ltb n k lt)
-  where
-    by : (a b : Bool) → b ≡ true → (a || b) ≡ true
-    by true b h = refl
-    by false b h = h
+tells_above n k lt = or_right (nat_eq k 0) (nat_lt n k) (lt-ltb n k lt)
 
 module _ (g : Game) (functions : ℕ) (routed : AreRouted g functions) (alike : AreAlike g) where
   -- the class of a state is a state, its own class, and returns as the state does

@@ -1,5 +1,5 @@
 -- What is left to do becomes less where a cell is taken or a link is tied, and no more where a context is added.
-use Rattle.std.proofs.Common.{◌≡◌, ℕ, zero, suc, ◌+◌, ◌-◌, ◌*◌, ◌<◌, ◌≤◌, List, [], ◌∷◌, ◌++◌, Bool, true, false, cond, ◌&&◌, ◌||◌, Some, length, set, replicate, refl, sym, ap}
+use Rattle.std.proofs.Common.{◌≡◌, ℕ, zero, suc, ◌+◌, ◌-◌, ◌*◌, ◌<◌, ◌≤◌, List, [], ◌∷◌, ◌++◌, Bool, true, false, cond, ◌&&◌, ◌||◌, Some, length, set, replicate, refl, sym, ap, add-one}
 use Rattle.std.proofs.Common.{◌∙◌, subst, arith, inl, inr}
 use Rattle.std.specs.Prelude.{slice_get, slice_index, nat_lt, count_by, sum_by}
 use Rattle.std.specs.List.{range_with_len}
@@ -115,12 +115,9 @@ tied_less g old new place number table to within less =
     (set old.store.to place (suc number))
     = ap (λ (t : Table). (4194304 - length t.heights.items) * (g.states.count + 2) + count_by is_none t.heights.items + sum_by (ties_left g t.contexts.items) new.store.to) table
     ∙ ap (λ (ys : List ℕ). (4194304 - length old.table.heights.items) * (g.states.count + 2) + count_by is_none old.table.heights.items + sum_by (ties_left g old.table.contexts.items) ys)
-    (to ∙ ap (λ (n : ℕ). set old.store.to place n) (next number)) in
+    (to ∙ ap (λ (n : ℕ). set old.store.to place n) (add-one number)) in
     let sums = sum_by-set (ties_left g old.table.contexts.items) old.store.to place (suc number) 0 within in
     omega (arith, now, sums, less)
-  where
-    next : (n : ℕ) → n + 1 ≡ suc n
-    next n = omega arith
 
 -- A context is added.
 

@@ -1,8 +1,7 @@
 -- The cell at a place.
 use Rattle.std.proofs.Common.{◌≡◌, ℕ, zero, suc, ◌+◌, ◌-◌, ◌*◌, ◌/◌, ◌<◌, ◌≤◌, List, true, false, length, get_or, nat_le, sym, ap, ◌∙◌, subst, arith, inl, inr}
 use Rattle.std.specs.List.Sorted.{IsNonDecreasing, IsPartitionPoint}
-use Rattle.std.proofs.lemmas.Bool.{cases_lt}
-use Rattle.std.proofs.lemmas.Bool.Decides.{nat_tests}
+use Rattle.std.proofs.lemmas.Bool.{cases_lt, leb-true, leb-false}
 use Rattle.std.proofs.lemmas.Nat.{div-add-mod', div_below, mod_below}
 use Rattle.std.proofs.lemmas.List.{get_or_default, take_all}
 use Rattle.std.specs.Prelude.{Some, slice_get}
@@ -78,20 +77,14 @@ module _ (g : Game) (t : Table) (table : IsTable g t) where
     begins : (i : ℕ) → i < length Contexts → get_or bases i 0 ≡ base g Contexts i
     begins i lt = ap (λ (bs : List ℕ). get_or bs i 0) are ∙ base_is i 0 lt
 
-    at_most : (b : ℕ) → nat_le b k ≡ true → b ≤ k
-    at_most b e = grind (arith, nat_tests)
-
-    above : (b : ℕ) → nat_le b k ≡ false → k < b
-    above b e = grind (arith, nat_tests)
-
     begun : (i : ℕ) → i < n → base g Contexts i ≤ k
     begun i lt =
-        let le = at_most (get_or bases i 0) (point.0 i 0 (omega arith) lt) in
+        let le = leb-true (get_or bases i 0) k (point.0 i 0 (omega arith) lt) in
         omega (arith, le, begins i (omega (arith, lt, bound, many)))
 
     ahead : (i : ℕ) → n ≤ i → i < length Contexts → k < base g Contexts i
     ahead i le lt =
-        let past = above (get_or bases i 0) (point.1 i 0 le (omega (arith, lt, many))) in
+        let past = leb-false (get_or bases i 0) k (point.1 i 0 le (omega (arith, lt, many))) in
         omega (arith, past, begins i lt)
 
     nothing_below : k < base g Contexts 0 → ⊥

@@ -80,7 +80,8 @@ counted_set : (heights : List ℕ) (place height written : ℕ) → place < leng
     → written + 1 + count_by is_none (set heights place height) ≡ length (set heights place height)
 counted_set heights place height written lt none some counted =
     let one : cond (is_none (get_or heights place 0)) 1 0 ≡ 1 = ap {B = ℕ} (λ (x : ℕ). cond (is_none x) 1 0) none ∙ ap {B = ℕ} (λ (b : Bool). cond b 1 0) (eq-eqb 0 0 refl) in
-    let gone : cond (is_none height) 1 0 ≡ 0 = ap {B = ℕ} (λ (b : Bool). cond b 1 0) (ne_eqb height 0 (λ e. omega (arith, e, some))) in
+    let never : height ≡ 0 → ⊥ = λ e. omega (arith, e, some) in
+    let gone : cond (is_none height) 1 0 ≡ 0 = ap {B = ℕ} (λ (b : Bool). cond b 1 0) (ne_eqb height 0 never) in
     let sums = sum_by-set (λ (x : ℕ). cond (is_none x) 1 0) heights place height 0 lt in
     let same = length-set heights place height in
     omega (arith, one, gone, sums, same, counted)

@@ -1,5 +1,5 @@
 -- A link that is ready goes to its context, and what is left to do then is done: the solver keeps all.
-use Rattle.std.proofs.Common.{◌≡◌, ℕ, suc, ◌+◌, ◌-◌, ◌*◌, ◌<◌, List, Bool, true, not, Some, length, set, refl, sym, ap, ◌∙◌, subst, arith, inl, inr}
+use Rattle.std.proofs.Common.{◌≡◌, ℕ, suc, ◌+◌, ◌-◌, ◌*◌, ◌<◌, List, Bool, true, not, Some, length, set, refl, sym, ap, ◌∙◌, subst, arith, inl, inr, add-one}
 use Rattle.std.specs.Prelude.{slice_get, slice_index, nat_eq}
 use Rattle.std.proofs.lemmas.Bool.{cases_eq}
 use Rattle.std.proofs.lemmas.List.{length-set, get_or-set_same, get_or-set_other}
@@ -59,10 +59,7 @@ module _ (g : Game) (functions : ℕ) (routed : AreRouted g functions) (alike : 
     tables = sym ties.table
 
     ties_to : mid.store.to ≡ set old.store.to place (suc callee)
-    ties_to = ties.to ∙ ap (λ (v : ℕ). set old.store.to place v) (next callee)
-      where
-        next : (n : ℕ) → n + 1 ≡ suc n
-        next n = omega arith
+    ties_to = ties.to ∙ ap (λ (v : ℕ). set old.store.to place v) (add-one callee)
 
     lengths : length mid.table.heights.items ≡ length old.table.heights.items
     lengths = ap (λ (t : Table). length t.heights.items) ties.table
