@@ -25,6 +25,7 @@ use crate::lists::{
 use crate::place::{Placed, memories_of, places, returns};
 use crate::promises::{promise_number, promises_of};
 use cw_certs::{AtRow, BackRow, IntoRow, OpenRow, TryRow, WeaverCert};
+use cw_core::limits::ROWS;
 use cw_core::{StateId, StateSet};
 use cw_fixpoint::ordered;
 use cw_indexed_fixpoint::joined_up_to;
@@ -209,7 +210,7 @@ fn is_long(table: &WeaverCert) -> bool
     let rows = rows.saturating_add(table.closed().len());
     let rows = rows.saturating_add(table.into_rows().len());
     let rows = rows.saturating_add(table.back_rows().len());
-    65536 < rows
+    ROWS < rows
 }
 
 /// The lazy table; none where it has more than 65,536 rows.
@@ -232,7 +233,7 @@ fn table_within(
         promises,
     };
     let indices = key_indices(game, promises);
-    match joined_up_to(alloc, &choices, &indices, start, 65536)? {
+    match joined_up_to(alloc, &choices, &indices, start, ROWS)? {
         None => Ok(None),
         Some(joined) => {
             let table = table_of(
