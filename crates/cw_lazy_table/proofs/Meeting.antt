@@ -4,7 +4,6 @@ use Rattle.std.specs.Prelude.{slice_get}
 use Rattle.std.specs.List.{list_all, Contains}
 use Rattle.std.proofs.lemmas.Option.{none-some, same_Some}
 use Rattle.cw_core.specs.declared.ids.MemId.{MemId}
-use Rattle.cw_core.specs.declared.ids.SeamId.{SeamId}
 use Rattle.cw_rights.specs.declared.capabilities.Primitive.{Primitive}
 use Rattle.cw_certs.specs.declared.moves.Move.{Move}
 use Rattle.cw_certs.specs.declared.moves.Move.TheVariants.{Grant, Refuse, On, Left, Right, Opened, Failed}
@@ -19,6 +18,7 @@ use Rattle.cw_game.specs.Pairs.{has, all_states, is_live, means_it, leads, is_ca
 use Rattle.cw_game.specs.Conditions.{is_good_pair, takes, takes_on, takes_answers, answers_on, moves_on, keeps_promise}
 use Rattle.std.proofs.lemmas.Bool.{and_from as both}
 use Rattle.cw_product.specs.Routed.{IsState, targets, AreRouted}
+use Rattle.cw_points.specs.Graphs.{seam_id}
 use Rattle.cw_lazy_table.specs.Live.{IsLive, moves, goes_on}
 use Rattle.cw_lazy_table.specs.Lazy.{Means, IsAfter, GoesOn, IsRefused, IsLazyTable}
 use Rattle.cw_lazy_table.specs.Staged.{AreStaged, IsKnown}
@@ -28,13 +28,8 @@ use Rattle.cw_lazy_table.proofs.Keeping.{IsSafe, good, safe}
 use Rattle.std.proofs.lemmas.Bool.{true_from_ne_false as is_true}
 use Rattle.cw_lazy_table.proofs.Only.{tried_at}
 use Rattle.cw_lazy_table.proofs.Reading.{means_to, same_means, live_to, memory, try_to, label_of, label_to, close_of, close_to, open_of, open_to}
+use Rattle.cw_lazy_table.specs.Rowing.{mem_id}
 use Rattle.cw_lemmas.proofs.Truths.{and_false}
-
-abbrev pub seam_id : ℕ → SeamId
-seam_id j = record { 0 = j }
-
-abbrev pub mem_id : ℕ → MemId
-mem_id m = record { 0 = m }
 
 -- all of a list pass, where each element does
 pub all_pass : {A : Type 0} (test : A → Bool) (xs : List A) → ((x : A) → In xs x → test x ≡ true) → list_all test xs ≡ true

@@ -3,8 +3,6 @@ use Rattle.std.proofs.Common.{◌≡◌, ℕ, ◌<◌, List, Bool, true, false, 
 use Rattle.std.specs.List.{Contains}
 use Rattle.std.proofs.lemmas.Option.{same_Some}
 use Rattle.cw_core.specs.declared.ids.StateId.{StateId}
-use Rattle.cw_core.specs.declared.ids.MemId.{MemId}
-use Rattle.cw_core.specs.declared.ids.PosId.{PosId}
 use Rattle.cw_certs.specs.declared.rows.TryRow.{TryRow}
 use Rattle.cw_certs.specs.declared.rows.AtRow.{AtRow}
 use Rattle.cw_certs.specs.declared.rows.OpenRow.{OpenRow}
@@ -14,9 +12,11 @@ use Rattle.cw_certs.specs.Tables.{Table, same, try_at, after_at, open_at, into_a
 use Rattle.cw_game.specs.Games.{Game}
 use Rattle.cw_game.specs.Pairs.{is_live, means_it}
 use Rattle.std.proofs.lemmas.Bool.{and_parts, and_from as both}
+use Rattle.cw_product.specs.Moves.{pos_id}
 use Rattle.cw_lazy_table.specs.Live.{IsLive}
 use Rattle.cw_lazy_table.specs.Lazy.{state_id, Means, IsTryRow, IsLabelRow, IsOpenRow, IsCloseRow, IsIntoRow, IsBackRow, IsLazyTable}
 use Rattle.cw_lazy_table.proofs.Finding.{found, is_found, somewhere, numbered}
+use Rattle.cw_lazy_table.specs.Rowing.{mem_id}
 
 pub same_is : (a b : Bool) → same a b ≡ true → a ≡ b
 same_is true b e = sym e
@@ -41,12 +41,6 @@ means_to o q e h = subst (λ o. means_it o q e ≡ true) (sym h) (both (nat_eq q
 
 pub same_means : (t : Table) (m q e x y : ℕ) → Means t.mems m q e → Means t.mems m x y → (q ≡ x) × (e ≡ y)
 same_means t m q e x y h k = let z = same_Some (state_id q, e) (state_id x, y) (sym h ∙ k) in (ap (λ r. r.0.0) z, ap (λ r. r.1) z)
-
-abbrev pos_id : ℕ → PosId
-pos_id p = record { 0 = p }
-
-abbrev mem_id : ℕ → MemId
-mem_id m = record { 0 = m }
 
 module _ (g : Game) (t : Table) (lazy : IsLazyTable g t) where
   pub live_of : (p m q e : ℕ) → is_live t p m ≡ true → Means t.mems m q e → IsLive g p q e

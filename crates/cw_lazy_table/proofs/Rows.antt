@@ -17,6 +17,7 @@ use Rattle.cw_game.proofs.Failing.{none_more, none_append, none_mapped}
 use Rattle.std.proofs.lemmas.Bool.{and_from as both}
 use Rattle.cw_product.specs.Routed.{IsState, targets, AreRouted}
 use Rattle.cw_solve.proofs.Still.{first_of_two}
+use Rattle.cw_points.specs.Graphs.{seam_id}
 use Rattle.cw_lazy_table.specs.Live.{IsFull, IsLive, skips, tries, calls, returns}
 use Rattle.cw_lazy_table.specs.Lazy.{state_id, Means, IsLiveRow, IsCalled, IsLazyTable}
 use Rattle.cw_lazy_table.specs.Staged.{AreStaged, IsKnown}
@@ -24,8 +25,9 @@ use Rattle.cw_lazy_table.proofs.Finding.{In, of_in}
 use Rattle.cw_lazy_table.proofs.Keeping.{IsSafe, safe}
 use Rattle.cw_lazy_table.proofs.Knowing.{full_there}
 use Rattle.cw_lazy_table.proofs.Only.{tries_lost, called_is, into_is}
-use Rattle.cw_lazy_table.proofs.Meeting.{seam_id, mem_id, all_pass, leads_to, asked_there, is_good, answers_good, moves_good, promise_good}
+use Rattle.cw_lazy_table.proofs.Meeting.{all_pass, leads_to, asked_there, is_good, answers_good, moves_good, promise_good}
 use Rattle.cw_lazy_table.proofs.Reading.{means_to, live_to, memory, into_to, back_of, back_to}
+use Rattle.cw_lazy_table.specs.Rowing.{mem_id}
 
 implied : (a b : Bool) → (a ≡ true → b ≡ true) → (not a || b) ≡ true
 implied true b h = h refl

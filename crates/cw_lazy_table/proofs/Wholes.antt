@@ -21,6 +21,7 @@ use Rattle.cw_game.specs.Pairs.{kept_at}
 use Rattle.cw_lemmas.proofs.Lists.{contains_map, map_contains}
 use Rattle.cw_lemmas.proofs.Options.{option_map_some as mapped}
 use Rattle.cw_product.specs.Moves.{next_at, pos_id}
+use Rattle.cw_points.specs.Graphs.{seam_id}
 use Rattle.cw_lazy_table.specs.declared.key.Key.{Key}
 use Rattle.cw_lazy_table.specs.Kinds.{Kind}
 use Rattle.cw_lazy_table.specs.Kinds as kind
@@ -29,7 +30,7 @@ use Rattle.cw_lazy_table.specs.Choices.{lost_in, set_in}
 use Rattle.cw_lazy_table.specs.Lazy.{state_id}
 use Rattle.cw_lazy_table.specs.Numbered.{whole, whole_placed, whole_memory, whole_pair, whole_return, lost_by, set_at}
 use Rattle.cw_lazy_table.specs.Places.{placed_cmp, part_at, placed, placed_of, memory_of, return_cmp, return_of}
-use Rattle.cw_lazy_table.specs.Rowing.{Memories, number, mem, mem_id, seam_id, mem_after, state_or, moved, going_on, refused_by, live_row, try_row, at_row, open_row, is_split, into_row, back_row}
+use Rattle.cw_lazy_table.specs.Rowing.{Memories, number, mem, mem_id, mem_after, state_or, moved, going_on, refused_by, live_row, try_row, at_row, open_row, is_split, into_row, back_row}
 use Rattle.cw_lazy_table.proofs.Finding.{In, in_of, of_in}
 use Rattle.cw_lazy_table.proofs.Listing.{rows_exactly, in_map, of_map, filter_to, filter_of}
 use Rattle.cw_lazy_table.proofs.Numbering.{same_order, key_order, stands, below}

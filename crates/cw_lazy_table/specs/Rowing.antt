@@ -1,7 +1,6 @@
 -- Working definitions: the rows of keys, as functions of the game and the memories.
 use Rattle.std.specs.Prelude.{ℕ, ◌≤◌, List, Bool, cond, Option, Some, None, option_map, nat_eq, length}
 use Rattle.std.specs.List.Sorted.{IsStrictlySortedBy}
-use Rattle.cw_core.specs.declared.ids.SeamId.{SeamId}
 use Rattle.cw_core.specs.declared.ids.StateId.{StateId}
 use Rattle.cw_core.specs.declared.ids.MemId.{MemId}
 use Rattle.cw_core.specs.declared.ids.PosId.{PosId}
@@ -17,6 +16,7 @@ use Rattle.cw_fixpoint.specs.Numbers.{number_in}
 use Rattle.cw_game.specs.Games.{Game, resumed, returned}
 use Rattle.cw_game.specs.Pairs.{kept_at}
 use Rattle.cw_product.specs.Moves.{next_at, pos_id}
+use Rattle.cw_points.specs.Graphs.{seam_id}
 use Rattle.cw_lazy_table.specs.declared.key.Key.{Key}
 use Rattle.cw_lazy_table.specs.declared.place.Placed.{Placed}
 use Rattle.cw_lazy_table.specs.Lazy.{state_id}
@@ -32,9 +32,6 @@ pub record AreMemories (ms : Memories) : Type 0 where
 -- the place of a state and a promise among the memories, and how many they are where it is none of them
 abbrev pub number : Memories → (q e : ℕ) → ℕ
 number ms q e = number_in mem_cmp ms (state_id q, e)
-
-abbrev pub seam_id : ℕ → SeamId
-seam_id n = record { 0 = n }
 
 abbrev pub mem_id : ℕ → MemId
 mem_id n = record { 0 = n }
