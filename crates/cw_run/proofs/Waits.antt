@@ -1,7 +1,7 @@
 -- The calls that wait: the program has the innermost last.
-use Rattle.std.proofs.Common.{◌≡◌, ◌≢◌, false, ℕ, zero, suc, ◌-◌, ◌<◌, List, [], ◌∷◌, ◌++◌, map, reverse, length, get_or, Option, Some, None, option_map, refl, sym, ap, ◌∙◌, subst, arith}
+use Rattle.std.proofs.Common.{◌≡◌, ◌≢◌, false, ℕ, suc, ◌-◌, ◌<◌, List, [], ◌∷◌, ◌++◌, map, reverse, length, Option, Some, None, option_map, refl, sym, ap, ◌∙◌, subst, arith}
 use Rattle.std.specs.Prelude.{slice_get, option_to_list, IfSome}
-use Rattle.std.proofs.lemmas.Option.{none-some, same_Some}
+use Rattle.std.proofs.lemmas.Option.{none-some, same_Some, get_or_from_slice_get}
 use Rattle.std.proofs.lemmas.List.{reverse-append}
 use Rattle.std.proofs.lemmas.List.Elements.{All-get_or}
 use Rattle.std.specs.List.{All}
@@ -52,13 +52,7 @@ last_in g (x ∷ xs) all w e =
     in_it : (x : WaitData) (xs : List WaitData) (w : WaitData) → All (λ w. IsWait g (wait_of w)) (x ∷ xs) → slice_get (x ∷ xs) (length (x ∷ xs) - 1) ≡ Some w → IsWait g (wait_of w)
     in_it x xs w all e =
         let lt : length (x ∷ xs) - 1 < length (x ∷ xs) = omega arith in
-        subst (λ (z : WaitData). IsWait g (wait_of z)) (got (x ∷ xs) (length (x ∷ xs) - 1) w x e) (All-get_or (λ (w : WaitData). IsWait g (wait_of w)) (x ∷ xs) (length (x ∷ xs) - 1) x lt all)
-      where
-        got : (ys : List WaitData) (k : ℕ) (w d : WaitData) → slice_get ys k ≡ Some w → get_or ys k d ≡ w
-        got [] k w d e = absurd (none-some w e)
-        got (y ∷ ys) zero w d e = same_Some y w e
-        got (y ∷ ys) (suc k) w d e = got ys k w d e
-
+        subst (λ (z : WaitData). IsWait g (wait_of z)) (get_or_from_slice_get (x ∷ xs) (length (x ∷ xs) - 1) w x e) (All-get_or (λ (w : WaitData). IsWait g (wait_of w)) (x ∷ xs) (length (x ∷ xs) - 1) x lt all)
 pub call_within : (g : Game) (functions p : ℕ) (spot : Spot) (call : Called) → Some spot ≡ slice_get g.spots p → Some call ≡ call_in (Some spot)
     → ((p : ℕ) (s : Spot) → slice_get g.spots p ≡ Some s → LeadsWithin (length g.spots) functions p s) → (call.function < functions) × (call.back < length g.spots)
 call_within g functions p (Call j f n) call e c leads =
