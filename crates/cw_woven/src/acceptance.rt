@@ -14,6 +14,7 @@ ghost use Rattle.cw_woven.specs.Accepting.{broken, unread, IsRefused};
 ghost use Rattle.cw_woven.specs.Reading.{IsAccepted};
 
 use crate::fault::{CutFault, WovenFault};
+use cw_core::limits::SOURCE_BYTES;
 use cw_points::build::build;
 use cw_points::{Graph, PointsFault};
 use cw_rights::Policy;
@@ -24,7 +25,7 @@ use cw_syntax::checked::Checked;
 use std::alloc::Global;
 
 /// The most bytes of a source.
-const MOST_BYTES: usize = 262_144;
+const MOST_BYTES: usize = SOURCE_BYTES;
 
 /// The fault of a text by that of its source.
 fn unread(fault: SourceFault) -> WovenFault
