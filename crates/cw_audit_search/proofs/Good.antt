@@ -1,11 +1,9 @@
 -- The table that lists a settled search meets the conditions.
-use Rattle.std.proofs.Common.{◌≡◌, ℕ, suc, ◌+◌, ◌≤◌, List, [], ◌∷◌, ◌++◌, map, length, Bool, true, false, not, ◌&&◌, ◌||◌, Option, Some, None, is_some, nat_eq}
+use Rattle.std.proofs.Common.{◌≡◌, ℕ, suc, ◌+◌, List, [], ◌∷◌, ◌++◌, map, length, Bool, true, false, not, ◌&&◌, ◌||◌, Option, Some, None, is_some, nat_eq}
 use Rattle.std.proofs.Common.{eq-eqb, refl}
-use Rattle.std.proofs.Common.{arith, inl, inr}
-use Rattle.std.specs.Prelude.{slice_get, nat_le}
+use Rattle.std.specs.Prelude.{slice_get}
 use Rattle.std.specs.List.{list_all, enumerate_from}
 use Rattle.std.proofs.lemmas.Bool.{and_from as both}
-use Rattle.std.proofs.lemmas.Bool.Decides.{leb_tells}
 use Rattle.cw_game.specs.Games.{Game}
 use Rattle.cw_game.specs.Conditions.{first_failing}
 use Rattle.cw_game.proofs.Failing.{none_append, none_mapped, none_more}
@@ -14,9 +12,6 @@ use Rattle.cw_audit_table.specs.Conditions.{fault_at, is_after, key_of, pair_of,
 use Rattle.cw_audit_table.specs.Conditions.{begins, is_good, moves_on, calls_on, row_conditions, row_faults, group_faults}
 use Rattle.cw_audit_table.specs.Conditions.{IsGoodAudit}
 use Rattle.cw_audit_search.specs.Ordered.{AscendAfter}
-
-pub le_says : (m n : ℕ) → m ≤ n → nat_le m n ≡ true
-le_says m n l = elim (leb_tells m n) [ inl h ↦ h.0 | inr h ↦ let k = h.1 in absurd (omega (arith, l, k)) ]
 
 -- where a test holds of each item it holds of all
 pub all_true : {A : Type 0} (test : A → Bool) (xs : List A) → ((i : ℕ) (x : A) → slice_get xs i ≡ Some x → test x ≡ true) → list_all test xs ≡ true

@@ -3,7 +3,7 @@ use Rattle.std.proofs.Common.{◌≡◌, ℕ, ◌+◌, ◌≤◌, [], true, not,
 use Rattle.std.proofs.Common.{ap, ◌∙◌, subst, arith}
 use Rattle.std.specs.Prelude.{slice_get, nat_le}
 use Rattle.std.proofs.lemmas.Option.{same_Some}
-use Rattle.std.proofs.lemmas.Bool.{ltb-true, lt-ltb, and_parts}
+use Rattle.std.proofs.lemmas.Bool.{ltb-true, lt-ltb, and_parts, le-leb}
 use Rattle.std.proofs.lemmas.Bool.{and_from as both}
 use Rattle.cw_certs.specs.declared.moves.Move.{Move}
 use Rattle.cw_certs.specs.declared.moves.Move.TheVariants.{On, Left, Right, Opened, Failed}
@@ -25,7 +25,7 @@ use Rattle.cw_audit_search.specs.Settled.{IsSettled, IsBound, IsRowBelow}
 use Rattle.cw_audit_search.specs.Listing.{IsListed, IsListing}
 use Rattle.cw_audit_search.proofs.Front.{front}
 use Rattle.cw_audit_search.proofs.Ascending.{group_there, row_there}
-use Rattle.cw_audit_search.proofs.Good.{le_says, all_true, if_so, IsInRange, all_none}
+use Rattle.cw_audit_search.proofs.Good.{all_true, if_so, IsInRange, all_none}
 
 module _ (g : Game) (functions : ℕ) (fair : IsFair g functions) (s : Found) (sound : IsSound g functions s) (D : Option ℕ) (t : Audit) (l : IsListing g s D t) where
   before : (n : ℕ) → is_before t.distance n ≡ true → is_before D n ≡ true
@@ -64,7 +64,7 @@ module _ (g : Game) (functions : ℕ) (fair : IsFair g functions) (s : Found) (s
       → has_within g grp.rows n p x ≡ true
   within i grp r p x b n e w le =
       let z = (sound.inside grp.function grp.entered (skipped g p) x b w.1).2 in
-      ap (is_within n) (in_group i grp r (skipped g p) x b e w) ∙ le_says b (cut n) (omega (arith, z, le))
+      ap (is_within n) (in_group i grp r (skipped g p) x b e w) ∙ le-leb b (cut n) (omega (arith, z, le))
 
   place_of : (f q r p x a : ℕ) → IsRowBelow s D f q r p x a → IsPlace g functions f q p x
   place_of f q r p x a w = sound.placed f q p x a w.1
@@ -81,8 +81,8 @@ module _ (g : Game) (functions : ℕ) (fair : IsFair g functions) (s : Found) (s
             let short = fair.short grp.function k.function in
             both (is_position g r.pos) _ (lt-ltb r.pos _ (omega (arith, k.position.1, short)))
             (both (is_state g r.state) _ (lt-ltb r.state g.states.count k.state)
-            (both (nat_le (g.entry grp.function) r.pos) _ (le_says (g.entry grp.function) r.pos k.position.0)
-            (both (nat_le r.pos (g.exit grp.function)) (is_free (slice_get g.spots r.pos)) (le_says r.pos (g.exit grp.function) k.position.1) k.free)));
+            (both (nat_le (g.entry grp.function) r.pos) _ (le-leb (g.entry grp.function) r.pos k.position.0)
+            (both (nat_le r.pos (g.exit grp.function)) (is_free (slice_get g.spots r.pos)) (le-leb r.pos (g.exit grp.function) k.position.1) k.free)));
       }
 
   module _ (closed : IsClosedBy g D (IsRowBelow s D)) where
@@ -131,7 +131,7 @@ module _ (g : Game) (functions : ℕ) (fair : IsFair g functions) (s : Found) (s
         let callee = z.listed.group in
         ap (enters g t.distance grp r h k) z.group
         ∙ both (nat_le callee.reach (cut (grp.reach + r.inside + 1))) _
-        (le_says callee.reach (cut (grp.reach + r.inside + 1))
+        (le-leb callee.reach (cut (grp.reach + r.inside + 1))
         (subst (λ n. n ≤ cut (grp.reach + r.inside + 1)) (sym z.listed.reach) (reach_low h r.state c.0 (skipped g (g.entry h)) r.state 0 (grp.reach + r.inside + 1) c.1 c.2)))
         (all_true (comes_back g t.distance grp r h k) callee.rows
         (λ n end en. back_ok i z.listed.index grp callee r end n j h k e w call z.listed.there z.listed.function z.listed.entered en))
