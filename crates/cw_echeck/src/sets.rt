@@ -6,10 +6,11 @@ ghost use Rattle.cw_certs.specs.Strategies.{back_of};
 ghost use Rattle.cw_game.specs.Pairs.{has};
 ghost use Rattle.cw_echeck.specs.Checks.{backs_of};
 
+use cw_core::limits::PRODUCT_STATES_IN_FORMAT_2;
 use cw_core::{StateId, StateSet};
 
 /// The numbers that a set can have.
-const MEMBERS: u16 = 1024;
+const MEMBERS: u16 = PRODUCT_STATES_IN_FORMAT_2 as u16;
 
 /// Whether a set has a state.
 pub(crate) fn has_state(set: &StateSet, state: StateId) -> bool
