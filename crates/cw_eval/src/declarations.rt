@@ -117,7 +117,7 @@ fn start(e: &Expr) -> u32
 fn size_if(at: u32, n: i64, m: &Memory) -> Result<usize, Halt>
     ensures { Shows as_is result (memory_of m.now) (size_if at n (memory_of m.now)) }
 {
-    if 0 <= n && n <= 65_536 {
+    if 0 <= n && n <= MOST_ELEMENTS as i64 {
         Ok(n as usize)
     } else {
         Err(Halt::Stop(Stop::Form(at)))
