@@ -12,9 +12,10 @@ use Rattle.cw_game.specs.Standing.{IsGameOf}
 use Rattle.cw_positions.specs.Closed.{LeadsWithin}
 use Rattle.cw_states.specs.Below.{StayBelow}
 use Rattle.cw_product.specs.Routes.{IsBetween, IsRoute}
+use Rattle.cw_product.specs.Routed.{IsOf}
 use Rattle.cw_audit_table.specs.Runs.{skip_by, skipped}
 use Rattle.cw_audit_table.specs.Conditions.{is_inner}
-use Rattle.cw_audit_search.specs.Sound.{IsOf, IsFunction, IsFair}
+use Rattle.cw_audit_search.specs.Sound.{IsFunction, IsFair}
 use Rattle.cw_audit_search.proofs.Laid.{start_below, entry_good, exit_ends, rests_free}
 
 module _ (g : Game) (functions : ℕ) (leads : (p : ℕ) (s : Spot) → slice_get g.spots p ≡ Some s → LeadsWithin (length g.spots) functions p s) (main : g.main < functions)

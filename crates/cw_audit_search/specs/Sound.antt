@@ -5,11 +5,8 @@ use Rattle.cw_game.specs.declared.spots.Spot.TheVariants.{Call, Exit}
 use Rattle.cw_game.specs.Games.{Game, Config, at_pair, leads_in, bad_in, weavers_in}
 use Rattle.cw_audit_table.specs.Runs.{skipped, cut, is_step, Goes, start_at, IsEntered, IsWithin, IsHit}
 use Rattle.cw_audit_table.specs.Conditions.{is_free, is_inner}
+use Rattle.cw_product.specs.Routed.{IsOf}
 use Rattle.cw_audit_search.specs.Searches.{Found}
-
--- a position of the function: its positions are those from where it begins to where it ends
-abbrev pub IsOf : Game → ℕ → ℕ → Type 0
-IsOf g f p = (g.entry f ≤ p) × (p ≤ g.exit f)
 
 -- `main`, or a function that some call names
 abbrev pub IsFunction : Game → ℕ → Type 0
