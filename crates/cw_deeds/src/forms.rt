@@ -6,7 +6,8 @@ ghost use Rattle.cw_value.specs.Deeds.{arguments_if, arguments_of, begins_at, co
 ghost use Rattle.cw_value.specs.Expressions.{from_of, parts_of};
 ghost use Rattle.cw_value.specs.Machines.{call_from, second_from, whole_from};
 ghost use Rattle.cw_slots.specs.Texts.{statement_at};
-ghost use Rattle.cw_eval.specs.Passings.{deed_in, tree_at};
+ghost use Rattle.cw_eval.specs.Passings.{deed_in};
+ghost use Rattle.cw_scope.specs.Held.{tree_at};
 ghost use Rattle.cw_deeds.specs.Forms.{deed_among, form_in, second_parts};
 
 use crate::items::Row;

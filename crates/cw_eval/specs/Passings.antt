@@ -1,18 +1,14 @@
 -- What the code's deeds and ways stand for.
 use Rattle.std.specs.Prelude.{option_map}
-use Rattle.std.specs.Borrow.{Bor}
-use Rattle.cw_syntax.specs.declared.program.Expr.{Expr}
-use Rattle.cw_syntax.specs.Trees.{Tree, declaration_of, tree_of, trees_of}
+use Rattle.cw_syntax.specs.Trees.{declaration_of, trees_of}
 use Rattle.cw_syntax.specs.Frames.{Way, On, Left, Right, Opened, Failed}
 use Rattle.cw_value.specs.Deeds.{Deed, Rests, Computes, Makes, Decides, Opens, Calls, Answers, Passing}
+use Rattle.cw_scope.specs.Held.{tree_at}
 use Rattle.cw_eval.specs.declared.deeds.Deed.{Deed as HeldDeed}
 use Rattle.cw_eval.specs.declared.deeds.Deed.TheVariants as deed
 use Rattle.cw_eval.specs.declared.deeds.Way.{Way as HeldWay}
 use Rattle.cw_eval.specs.declared.deeds.Way.TheVariants as way
 use Rattle.cw_eval.specs.declared.deeds.Passing.{Passing as HeldPassing}
-
-abbrev pub tree_at : Bor Expr → Tree
-tree_at e = tree_of e.now
 
 abbrev pub deed_in : HeldDeed → Deed
 deed_in deed.Rests = Rests

@@ -4,7 +4,8 @@ ghost use Rattle.std.specs.Prelude.{◌≡◌, option_map};
 ghost use Rattle.cw_syntax.specs.Trees.{tree_of, trees_of};
 ghost use Rattle.cw_value.specs.Deeds.{by_way, decided_by, does, opened_by, value_if, values};
 ghost use Rattle.cw_slots.specs.Shown.{scope_of};
-ghost use Rattle.cw_eval.specs.Passings.{deed_in, passing_of, tree_at, way_in};
+ghost use Rattle.cw_scope.specs.Held.{tree_at};
+ghost use Rattle.cw_eval.specs.Passings.{deed_in, passing_of, way_in};
 ghost use Rattle.cw_eval.specs.Shown.{Shows, as_is, items_in, memory_of};
 
 use crate::declarations::declare;
