@@ -1,5 +1,5 @@
 -- The least of some places.
-use Rattle.std.specs.Prelude.{ℕ, List, [], ◌∷◌, map, min, Option, Some, None, slice_index_or}
+use Rattle.std.specs.Prelude.{ℕ, List, map, Option, Some, None, slice_index_or}
 use Rattle.cw_resolve.specs.Soonest.{sooner, soonest}
 
 abbrev pub lowest : List ℕ → Option ℕ
