@@ -5,6 +5,7 @@ use Rattle.std.specs.Int.{bit_at}
 use Rattle.std.proofs.lemmas.Nat.Bits.{bit_at_ones, bit_at_ones_above}
 use Rattle.std.proofs.lemmas.Bool.{false≢true}
 use Rattle.std.proofs.lemmas.Bool.Decides.{nat_tests}
+use Rattle.cw_lemmas.proofs.Truths.{and_true}
 use Rattle.cw_core.specs.StateSet.{has, IsBelow}
 use Rattle.cw_core.proofs.Sets.{same_from_members, IsBelow-lt, has-zero}
 use Rattle.cw_game.specs.Pairs.{has as has_state}
@@ -16,10 +17,6 @@ ones_has n s = by (nat_lt s n) refl
     by : (t : Bool) → nat_lt s n ≡ t → (bit_at (2 ^ n - 1) s == 1) ≡ t
     by true t = let l : s < n = grind (arith, nat_tests) in ap (λ b. b == 1) (bit_at_ones n s l)
     by false t = let l : n ≤ s = grind (arith, nat_tests) in ap (λ b. b == 1) (bit_at_ones_above n s l)
-
-pub and_true : (b : Bool) → (b && true) ≡ b
-and_true true = refl
-and_true false = refl
 
 -- what has the numbers below n that the empty set lacks is all of them
 full_is : (set none n : ℕ) → ((i : ℕ) → has none i ≡ false) → ((i : ℕ) → has set i ≡ (nat_lt i n && not (has none i))) → set ≡ 2 ^ n - 1

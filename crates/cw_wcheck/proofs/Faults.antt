@@ -1,9 +1,10 @@
 -- The first condition that fails of a list's rows, and of several lists.
-use Rattle.std.proofs.Common.{◌≡◌, ℕ, zero, suc, ◌+◌, ◌<◌, List, [], ◌∷◌, ◌++◌, map, length, Bool, true, false, cond, not, ◌&&◌, Option, Some, None, option_map, nat_lt, refl, sym, ap, ap₂, ◌∙◌, subst, arith}
+use Rattle.std.proofs.Common.{◌≡◌, ℕ, zero, suc, ◌+◌, ◌<◌, List, [], ◌∷◌, ◌++◌, map, length, Bool, true, false, cond, not, Option, Some, None, option_map, nat_lt, refl, sym, ap, ap₂, ◌∙◌, subst, arith}
 use Rattle.std.specs.Option.{option_or}
 use Rattle.std.specs.List.{enumerate_from, list_all, position_or_len}
 use Rattle.std.specs.Prelude.{position, slice_get}
 use Rattle.std.proofs.lemmas.Bool.Decides.{nat_tests}
+use Rattle.std.proofs.lemmas.Bool.{ltb-true}
 use Rattle.cw_core.specs.declared.ids.StateId.{StateId}
 use Rattle.cw_certs.specs.Tables.{Table}
 use Rattle.cw_game.specs.Games.{Game}
@@ -116,12 +117,9 @@ in_range_all g t h =
 pub mean_states : (g : Game) (t : Table) → list_all (is_mem_row g) t.mems ≡ true → MeanStates g t
 mean_states g t h = record { each = among t.mems h }
   where
-    less : (a b : ℕ) → nat_lt a b ≡ true → a < b
-    less a b e = grind (arith, nat_tests)
-
     among : (rows : List (StateId × ℕ)) → list_all (is_mem_row g) rows ≡ true → (m : ℕ) (meant : StateId × ℕ) → slice_get rows m ≡ Some meant → meant.0.0 < g.states.count
     among [] k m meant e = cc
     among (r ∷ rows) k zero meant e =
         let same : r ≡ meant = cc in
-        subst (λ x. x.0.0 < g.states.count) same (less _ _ (first_part _ _ (first_part _ _ k)))
+        subst (λ x. x.0.0 < g.states.count) same (ltb-true _ _ (first_part _ _ (first_part _ _ k)))
     among (r ∷ rows) k (suc m) meant e = among rows (second_part _ _ k) m meant e

@@ -1,11 +1,11 @@
 -- The conditions of the live rows, from a row on.
-use Rattle.std.proofs.Common.{◌≡◌, ℕ, zero, suc, ◌+◌, ◌<◌, ◌≤◌, List, [], ◌∷◌, map, length, drop, get_or, true, false, cond, Option, Some, None, option_map, nat_lt, refl, sym, ap, ap₂, ◌∙◌, subst, arith, add-one}
+use Rattle.std.proofs.Common.{◌≡◌, ℕ, zero, suc, ◌+◌, ◌<◌, ◌≤◌, List, [], ◌∷◌, map, length, drop, get_or, true, false, cond, Option, Some, None, option_map, refl, sym, ap, ap₂, ◌∙◌, subst, arith, add-one}
 use Rattle.std.specs.Option.{option_or}
 use Rattle.std.specs.Prelude.{slice_get}
 use Rattle.std.specs.List.{All, enumerate_from, list_all}
 use Rattle.std.proofs.Math.Seq.{drop-cons}
 use Rattle.std.proofs.lemmas.List.{drop_all}
-use Rattle.std.proofs.lemmas.Bool.Decides.{nat_tests}
+use Rattle.std.proofs.lemmas.Bool.{ltb-true}
 use Rattle.cw_core.specs.declared.ids.PosId.{PosId}
 use Rattle.cw_core.specs.declared.ids.MemId.{MemId}
 use Rattle.cw_certs.specs.Tables.{Table}
@@ -50,12 +50,9 @@ module _ (g : Game) (t : Table) where
   pub all_positions : list_all (is_live_row g t) t.live ≡ true → All (λ r. r.0.0 < length g.spots) t.live
   all_positions h = among t.live h
     where
-      less : (a b : ℕ) → nat_lt a b ≡ true → a < b
-      less a b e = grind (arith, nat_tests)
-
       among : (rows : List (PosId × MemId)) → list_all (is_live_row g t) rows ≡ true → All (λ r. r.0.0 < length g.spots) rows
       among [] e k d l = absurd (omega arith)
-      among (r ∷ rows) e zero d l = less _ _ (first_part _ _ (first_part _ _ e))
+      among (r ∷ rows) e zero d l = ltb-true _ _ (first_part _ _ (first_part _ _ e))
       among (r ∷ rows) e (suc k) d l = among rows (second_part _ _ e) k d (omega arith)
 
   -- The first condition of the table that fails, part by part.
