@@ -7,8 +7,12 @@ ghost use Rattle.cw_product.specs.Moves.{numbers};
 ghost use Rattle.cw_wcheck.specs.Working.{stands_there, takes_pair};
 
 use cw_certs::{Move, WeaverCert, after_close, after_label, is_live, open_at};
+use cw_core::limits::PRODUCT_STATES_IN_FORMAT_2;
 use cw_core::{MemId, PosId, SeamId, StateId, StateSet};
 use cw_game::Spot;
+
+/// The numbers that a set can have.
+const MEMBERS: u16 = PRODUCT_STATES_IN_FORMAT_2 as u16;
 
 /// The state and the promise that a memory means; None where the memory isn't there.
 pub fn meaning(cert: &WeaverCert, mem: MemId) -> Option<&(StateId, StateSet)>
@@ -129,7 +133,7 @@ pub fn is_promised(promise: &StateSet, state: StateId) -> bool
     ensures { result ≡ has promise.now state.0 }
 {
     promise.members_are_below_1024();
-    state.0 < 1024 && promise.contains(state)
+    state.0 < MEMBERS && promise.contains(state)
 }
 
 /// Whether a set has states alone, of which there are so many. A set has numbers below 1,024.
@@ -137,7 +141,7 @@ pub fn has_states_alone(set: &StateSet, states: u16) -> bool
     ensures { result ≡ nat_lt set.now (2 ^ states) }
 {
     set.members_are_below_1024();
-    states >= 1024 || *set <= StateSet::empty().complement_in(states)
+    states >= MEMBERS || *set <= StateSet::empty().complement_in(states)
 }
 
 /// Whether a set has all states, of which there are so many.
@@ -145,5 +149,5 @@ pub fn has_all_states(set: &StateSet, states: u16) -> bool
     ensures { result ≡ nat_eq set.now (2 ^ states - 1) }
 {
     set.members_are_below_1024();
-    states <= 1024 && *set == StateSet::empty().complement_in(states)
+    states <= MEMBERS && *set == StateSet::empty().complement_in(states)
 }
