@@ -6,7 +6,7 @@ use Rattle.std.specs.Char.{is_ascii_digit}
 use Rattle.std.specs.Fmt.{decimal}
 use Rattle.std.specs.List.{All, AllByRecursion}
 use Rattle.std.proofs.lemmas.Fmt.{decimal_injective}
-use Rattle.std.proofs.lemmas.List.{append_cancel_right}
+use Rattle.std.proofs.lemmas.List.{append_cancel_right, nil_from_length}
 use Rattle.std.proofs.lemmas.List.Elements.{All-from_recursion}
 use Rattle.std.proofs.lemmas.Bool.{le-ltb}
 use Rattle.cw_core.specs.declared.ids.MemId.{MemId}
@@ -174,12 +174,7 @@ arity_is format (Back r) = refl
 pub none_left : (format : ℕ) (a b : Row) (rest : List (List ℕ)) → name_of a ≡ name_of b → fields_of format a ++ rest ≡ fields_of format b → rest ≡ []
 none_left format a b rest name e =
     let same : length (fields_of format a) ≡ length (fields_of format b) = arity_is format a ∙ ap (λ (n : List ℕ). arity (get_or n 3 0)) name ∙ sym (arity_is format b) in
-    empty rest (omega (arith, same, ap length e, length-append (fields_of format a) rest))
-  where
-    empty : (xs : List (List ℕ)) → length xs ≡ 0 → xs ≡ []
-    empty [] l = refl
-    empty (x ∷ xs) l = absurd (omega (arith, l))
-
+    nil_from_length rest (omega (arith, same, ap length e, length-append (fields_of format a) rest))
 -- what the reader of a line answers
 pub no_call : (format : ℕ) (line : List ℕ) → ((name inner : List ℕ) → IsFree 40 name → line ≢ name ++ (40 ∷ (inner ++ 41 ∷ []))) → Reads (Fits format) (row_words format) line None
 no_call format line h = record { some = tt; none = λ row fits e. h (name_of row) (joined 44 (fields_of format row)) (name_free 40 (omega arith) row) (sym e ∙ row_line format row) }
