@@ -8,10 +8,11 @@ use crate::draft::Draft;
 use crate::line::{is_same, read_row};
 use crate::live::next_live;
 use crate::row::Row;
+use cw_core::limits::ROWS;
 use cw_text::{TextFault, next_line};
 
 /// The most rows that a text has.
-pub(crate) const MOST_ROWS: u32 = 65_536;
+pub(crate) const MOST_ROWS: u32 = ROWS as u32;
 
 /// What comes next in the text of a table, and what is left behind it.
 pub(crate) enum Next<'t> {
