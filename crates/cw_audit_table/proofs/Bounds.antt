@@ -1,11 +1,10 @@
 -- Rows that are closed under the moves bound each run from below, over stacks of any depth.
 use Rattle.std.proofs.Common.{◌≡◌, ℕ, ◌+◌, ◌<◌, ◌≤◌, List, [], ◌∷◌, ◌++◌, true, false, Option, Some, None, length, refl, sym, ap, ◌∙◌, subst, arith}
-use Rattle.std.proofs.Common.{length-append, inl, inr}
+use Rattle.std.proofs.Common.{length-append}
 use Rattle.std.specs.Prelude.{slice_get}
 use Rattle.std.proofs.Math.Nat.{min-le_left}
 use Rattle.std.proofs.lemmas.Option.{none-some, same_Some}
 use Rattle.std.proofs.lemmas.Bool.{lt-ltb}
-use Rattle.std.proofs.lemmas.Bool.Decides.{leb_tells}
 use Rattle.cw_certs.specs.declared.moves.Move.{Move}
 use Rattle.cw_certs.specs.declared.moves.Move.TheVariants.{Skip, On, Left, Right, Opened, Failed}
 use Rattle.cw_game.specs.declared.spots.Spot.{Spot}
@@ -13,6 +12,7 @@ use Rattle.cw_game.specs.declared.spots.Spot.TheVariants.{Visit, Asked, Step, Br
 use Rattle.cw_game.specs.Games.{Game, Ret, Config, at_pair, returned, leads_in, leads_to, bad_in, weavers_in}
 use Rattle.cw_game.specs.Linked.{is_bad_at}
 use Rattle.cw_lemmas.proofs.Truths.{not_both}
+use Rattle.cw_lemmas.proofs.Numbers.{le_from_not_lt}
 use Rattle.cw_audit_table.specs.Runs.{is_step, skipped, Goes, here, skips, goes, start_at, IsHit, cut}
 use Rattle.cw_audit_table.specs.Conditions.{is_before, is_free, is_inner}
 use Rattle.cw_audit_table.proofs.Skips.{stays, skip_on, skip_leads}
@@ -108,9 +108,6 @@ visit_stays g p q rets _ by e s h = refl
 pub bad_stays : (g : Game) (q : ℕ) (spot : Option Spot) → bad_in g q spot ≡ true → weavers_in spot ≡ false
 bad_stays g q (Some (Label j l n)) e = refl
 bad_stays g q _ e = cc
-
-pub not_below : (m n : ℕ) → (n < m → ⊥) → m ≤ n
-not_below m n f = elim (leb_tells m n) [ inl h ↦ h.1 | inr h ↦ absurd (f h.1) ]
 
 module _ (g : Game) (D : Option ℕ) (R : Rows) (closed : IsClosedBy g D R) (f0 q0 : ℕ) where
   -- later, and where more was spent in the meantime
@@ -280,4 +277,4 @@ module _ (g : Game) (D : Option ℕ) (R : Rows) (closed : IsClosedBy g D R) wher
     where
       by : (o : Option ℕ) → D ≡ o → (T : ℕ) × (D ≡ Some T) × (T ≤ n)
       by None e = absurd (hit_late h.0 h.2.0 h.2.1 h.2.2 (subst (λ o. Before o (length h.0)) (sym e) tt))
-      by (Some T) e = (T, e, not_below T n (λ l. hit_late h.0 h.2.0 h.2.1 h.2.2 (subst (λ o. Before o (length h.0)) (sym e) (omega (arith, l, h.1)))))
+      by (Some T) e = (T, e, le_from_not_lt T n (λ l. hit_late h.0 h.2.0 h.2.1 h.2.2 (subst (λ o. Before o (length h.0)) (sym e) (omega (arith, l, h.1)))))

@@ -6,9 +6,7 @@ use Rattle.std.specs.Prelude.{slice_get, nat_le}
 use Rattle.std.specs.List.{list_all, enumerate_from}
 use Rattle.std.proofs.Math.Nat.{min-le_left}
 use Rattle.std.proofs.lemmas.Option.{none-some, same_Some}
-use Rattle.std.proofs.lemmas.Bool.{ltb-true, lt-ltb}
-use Rattle.std.proofs.lemmas.Bool.Decides.{leb_tells}
-use Rattle.std.proofs.Common.{inl, inr}
+use Rattle.std.proofs.lemmas.Bool.{ltb-true, lt-ltb, leb-true}
 use Rattle.cw_certs.specs.declared.moves.Move.{Move}
 use Rattle.cw_certs.specs.declared.moves.Move.TheVariants.{On, Left, Right, Opened, Failed}
 use Rattle.cw_game.specs.declared.spots.Spot.TheVariants.{Call}
@@ -20,6 +18,7 @@ use Rattle.cw_game.proofs.Truths.{or_parts}
 use Rattle.std.proofs.lemmas.Bool.{and_parts}
 use Rattle.std.proofs.lemmas.Bool.{and_from as both}
 use Rattle.std.proofs.lemmas.Bool.{not-true as is_false}
+use Rattle.cw_lemmas.proofs.Options.{option_map_some}
 use Rattle.cw_audit_table.specs.Runs.{is_step, skipped, cut}
 use Rattle.cw_audit_table.specs.Tables.{PlainRow, PlainGroup, Audit, group_at, inside_at}
 use Rattle.cw_audit_table.specs.Conditions.{GroupFault, fault_at, is_before, is_within, has_within, is_after, key_of, pair_of, is_free, is_group, is_place, places, ranges}
@@ -44,9 +43,6 @@ unmapped f cs h = by (first_failing cs) refl
     by : (o : Option _) → first_failing cs ≡ o → first_failing cs ≡ None
     by None e = e
     by (Some a) e = absurd (none-some (f a) (sym h ∙ first_mapped f cs ∙ ap (option_map f) e))
-
-le_true : (m n : ℕ) → nat_le m n ≡ true → m ≤ n
-le_true m n e = elim (leb_tells m n) [ inl h ↦ h.1 | inr h ↦ let z : true ≡ false = sym e ∙ h.0 in absurd (cc) ]
 
 -- what holds of a row, and of a group with its rows, by the conditions
 pub record RowHolds (g : Game) (t : Audit) (grp : PlainGroup) (r : PlainRow) : Type 0 where
@@ -168,15 +164,11 @@ group_found groups f q grp e =
     let s = both_are grp.function grp.entered f q z.0 in
     (s.0, s.1, z.1)
 
-some_mapped : {A : Type 0} (f : A → ℕ) (o : Option A) (a : ℕ) → option_map f o ≡ Some a → (x : A) × (o ≡ Some x) × (f x ≡ a)
-some_mapped f None a e = absurd (none-some a e)
-some_mapped f (Some x) a e = (x, refl, same_Some (f x) a e)
-
 -- the row itself
 pub row_found : (rows : List PlainRow) (p x a : ℕ) → inside_at rows p x ≡ Some a
     → (r : PlainRow) × (r.pos ≡ p) × (r.state ≡ x) × (r.inside ≡ a) × ((n : ℕ) × (slice_get rows n ≡ Some r))
 row_found rows p x a e =
-    let s = some_mapped (λ r. r.inside) (find (λ r. nat_eq r.pos p && nat_eq r.state x) rows) a e in
+    let s = option_map_some (λ r. r.inside) (find (λ r. nat_eq r.pos p && nat_eq r.state x) rows) a e in
     let z = found_at (λ r. nat_eq r.pos p && nat_eq r.state x) rows s.0 s.1 in
     let b = both_are s.0.pos s.0.state p x z.0 in
     (s.0, b.0, b.1, s.2, z.1)
@@ -184,7 +176,7 @@ row_found rows p x a e =
 module _ (g : Game) where
   within_some : (n : ℕ) (o : Option ℕ) → is_within n o ≡ true → (b : ℕ) × (o ≡ Some b) × (b ≤ n)
   within_some n None h = absurd (cc)
-  within_some n (Some b) h = (b, refl, omega (arith, le_true b (cut n) h, min-le_left n 65537))
+  within_some n (Some b) h = (b, refl, omega (arith, leb-true b (cut n) h, min-le_left n 65537))
 
   pub within_found : (rows : List PlainRow) (n p x : ℕ) → has_within g rows n p x ≡ true → (b : ℕ) × (inside_at rows (skipped g p) x ≡ Some b) × (b ≤ n)
   within_found rows n p x h = within_some n (inside_at rows (skipped g p) x) h
@@ -302,7 +294,7 @@ module _ (g : Game) where
         let b = and_parts (is_state g r.state) _ a.1 in
         let c = and_parts (nat_le (g.entry f) r.pos) _ b.1 in
         let d = and_parts (nat_le r.pos (g.exit f)) _ c.1 in
-        record { free = d.1; low = le_true (g.entry f) r.pos c.0; high = le_true r.pos (g.exit f) d.0 }
+        record { free = d.1; low = leb-true (g.entry f) r.pos c.0; high = leb-true r.pos (g.exit f) d.0 }
 
     place_of : (f q r p x a : ℕ) → RowAt t f q r p x a → Placed f p
     place_of f q r p x a w =
@@ -343,7 +335,7 @@ module _ (g : Game) where
         by None eo h = absurd (cc)
         by (Some callee) eo h =
             let b = and_parts (nat_le callee.reach (cut (s.group.reach + s.row.inside + 1))) _ h in
-            let low = le_true callee.reach (cut (s.group.reach + s.row.inside + 1)) b.0 in
+            let low = leb-true callee.reach (cut (s.group.reach + s.row.inside + 1)) b.0 in
             let least = min-le_left (s.group.reach + s.row.inside + 1) 65537 in
             (callee, sym eo, omega (arith, low, least, s.reach, s.inside), b.1)
 
