@@ -1,7 +1,7 @@
 -- Where moves and calls of a cell lead.
 use Rattle.std.proofs.Common.{◌≡◌, ℕ, suc, ◌+◌, ◌<◌, List, [], Bool, true, false, cond, not, ◌&&◌, ◌||◌, Option, Some, None, length, get_or, refl, sym, ap, ap₂, ◌∙◌, subst, arith}
 use Rattle.std.specs.Prelude.{slice_get, nat_eq, Contains, option_map, position, IfSome, IfNone}
-use Rattle.std.proofs.lemmas.Bool.{eq-eqb, eqb-true}
+use Rattle.std.proofs.lemmas.Bool.{eq-eqb, eqb-true, not-true}
 use Rattle.std.proofs.lemmas.Option.{slice_get_within, slice_get-get_or, get_or_from_slice_get, same_Some, none-some}
 use Rattle.std.proofs.lemmas.List.Quantifiers.{position-Some}
 use Rattle.std.proofs.lemmas.List.Sums.{prefix_len_passes}
@@ -89,12 +89,7 @@ seeks_all : (p : Context → Bool) (xs : List Context) → position p xs ≡ Non
 seeks_all p xs h k d lt =
     let n = no_place p xs (sym h) in
     let passes = prefix_len_passes (λ x. not (p x)) xs k d (omega (arith, lt, n)) in
-    fails (p (get_or xs k d)) passes
-  where
-    fails : (b : Bool) → not b ≡ true → b ≡ false
-    fails true h = cc
-    fails false h = refl
-
+    not-true (p (get_or xs k d)) passes
 pub place_none : (contexts : List Context) (f e : ℕ) → position (λ (c : Context). nat_eq c.function f && nat_eq c.promise e) contexts ≡ None → Contains contexts (context f e) → ⊥
 place_none contexts f e h is =
     let p : Context → Bool = λ c. nat_eq c.function f && nat_eq c.promise e in

@@ -1,7 +1,7 @@
 -- The number of a context is found.
 use Rattle.std.proofs.Common.{◌≡◌, ℕ, ◌<◌, ◌≤◌, Bool, true, false, ◌&&◌, Option, Some, None, length, refl, sym, ap, ap₂, ◌∙◌, arith}
 use Rattle.std.specs.Prelude.{slice_get, nat_eq, nat_le}
-use Rattle.std.proofs.lemmas.Bool.{eqb-true, eq-eqb, ne_eqb}
+use Rattle.std.proofs.lemmas.Bool.{eqb-true, eq-eqb, ne_eqb, le-leb}
 use Rattle.std.proofs.lemmas.Bool.Decides.{nat_tests}
 use Rattle.std.proofs.lemmas.Option.{slice_get_within, get_or_from_slice_get}
 use Rattle.cw_game.specs.Games.{Game}
@@ -46,15 +46,11 @@ module _ (h : Held) where
       let i = at.0 in
       let ways : has_position g p e (Some c) ≡ true =
       both (nat_eq e e) (nat_le (g.entry is.0) p && nat_le p (g.exit is.0)) (eq-eqb e e refl)
-      (both (nat_le (g.entry is.0) p) (nat_le p (g.exit is.0)) (le_true (g.entry is.0) p is.1.0) (le_true p (g.exit is.0) is.1.1)) in
+      (both (nat_le (g.entry is.0) p) (nat_le p (g.exit is.0)) (le-leb (g.entry is.0) p is.1.0) (le-leb p (g.exit is.0) is.1.1)) in
       let long = slice_get_within h.contexts i c at.1 in
       let lt : i < n = omega (arith, long, le) in
       let w : true ≡ false = sym ways ∙ ap (has_position g p e) (sym at.1) ∙ none i lt in
       cc
-    where
-      le_true : (a b : ℕ) → a ≤ b → nat_le a b ≡ true
-      le_true a b l = grind (arith, nat_tests, l)
-
   pub has_is : (p e number first last : ℕ) (c : Context) (near : Bool) → Some c ≡ slice_get h.contexts number → first ≡ g.entry c.function → last ≡ g.exit c.function
       → near ≡ (nat_le first p && nat_le p last) → c.promise ≡ e → near ≡ has_position g p e (slice_get h.contexts number)
   has_is p e number first last c near at f l n same =

@@ -1,5 +1,5 @@
 -- Each cell of a table has a place of its own.
-use Rattle.std.proofs.Common.{◌≡◌, ℕ, ◌+◌, ◌-◌, ◌*◌, ◌/◌, ◌%◌, ◌<◌, ◌≤◌, List, Some, take, refl, sym, ap, ap₂, ◌∙◌, subst, arith, inl, inr}
+use Rattle.std.proofs.Common.{◌≡◌, ℕ, ◌+◌, ◌-◌, ◌*◌, ◌/◌, ◌%◌, ◌<◌, ◌≤◌, List, Some, take, refl, sym, ap, ap₂, ◌∙◌, subst, arith, inl, inr, mul_comm}
 use Rattle.std.specs.Prelude.{slice_get, sum_by}
 use Rattle.std.proofs.lemmas.Bool.{cases_lt}
 use Rattle.std.proofs.lemmas.Nat.{div-mul-add, mod-mul-add, mul-add-lt}
@@ -37,14 +37,11 @@ module _ (g : Game) (contexts : List Context) where
   row_within : (i : ℕ) (c : Context) (p q : ℕ) → IsCell g contexts i c p q → p - g.entry c.function < positions g c.function
   row_within i c p q is = omega (arith, is.of.0, is.of.1)
 
-  swap_times : (m n : ℕ) → m * n ≡ n * m
-  swap_times m n = omega arith
-
   -- the place of a cell among those of its context
   pub within : (i : ℕ) (c : Context) (p q : ℕ) → IsCell g contexts i c p q → q * positions g c.function + (p - g.entry c.function) < size g c.function
   within i c p q is =
       let lt = mul-add-lt q (positions g c.function) (p - g.entry c.function) g.states.count is.state (row_within i c p q is) in
-      let e = swap_times g.states.count (positions g c.function) in
+      let e = mul_comm g.states.count (positions g c.function) in
       omega (arith, lt, e)
 
   pub slot_within : (i : ℕ) (c : Context) (p q : ℕ) → IsCell g contexts i c p q → slot g contexts i c.function p q < cells_of g contexts
@@ -108,5 +105,5 @@ module _ (g : Game) (contexts : List Context) where
   pub slot_ends : (i : ℕ) (c : Context) → slice_get contexts i ≡ Some c → slot g contexts i c.function (g.entry c.function) g.states.count ≡ base g contexts (i + 1)
   slot_ends i c at =
       let more = base_more i c at in
-      let e = swap_times g.states.count (positions g c.function) in
+      let e = mul_comm g.states.count (positions g c.function) in
       omega (arith, more, e)

@@ -1,7 +1,7 @@
 -- What is written of one cell, from round to round.
-use Rattle.std.proofs.Common.{◌≡◌, ℕ, zero, suc, ◌<◌, ◌≤◌, Bool, true, false, ◌||◌, refl, sym, ◌∙◌, arith, inl, inr}
+use Rattle.std.proofs.Common.{◌≡◌, ℕ, zero, suc, ◌<◌, ◌≤◌, true, false, refl, sym, ◌∙◌, arith, inl, inr}
 use Rattle.std.specs.Prelude.{nat_eq, nat_lt}
-use Rattle.std.proofs.lemmas.Bool.{cases_lt, lt-ltb, le-ltb, ne_eqb}
+use Rattle.std.proofs.lemmas.Bool.{cases_lt, lt-ltb, le-ltb, ne_eqb, or_right, or_from}
 use Rattle.cw_game.specs.Games.{Game, Holds}
 use Rattle.cw_game.specs.Pairs.{has}
 use Rattle.cw_solve.specs.Contexts.{IsHeight, HeightIs}
@@ -21,20 +21,12 @@ module _ (g : Game) (functions : ℕ) (routed : AreRouted g functions) where
   reads n m p q e k s (inl w) = rw w.0 (sym w.1)
   reads n m p q e k s (inr w) =
       elim (cases_lt n k) [
-        | inl lt ↦ tells (nat_eq k 0) (nat_lt n k) (lt-ltb n k lt) ∙ sym (w.1.least n lt)
+        | inl lt ↦ or_right (nat_eq k 0) (nat_lt n k) (lt-ltb n k lt) ∙ sym (w.1.least n lt)
         | inr le ↦
             let some : nat_eq k 0 ≡ false = by k (height_positive g p q e k w.1) in
-            both_false (nat_eq k 0) (nat_lt n k) some (le-ltb n k le) ∙ sym (later g functions routed k n p q (has e) le s w.1.lost)
+            or_from (nat_eq k 0) (nat_lt n k) some (le-ltb n k le) ∙ sym (later g functions routed k n p q (has e) le s w.1.lost)
       ]
     where
-      tells : (a b : Bool) → b ≡ true → (a || b) ≡ true
-      tells true b h = refl
-      tells false b h = h
-
-      both_false : (a b : Bool) → a ≡ false → b ≡ false → (a || b) ≡ false
-      both_false true b h t = h
-      both_false false b h t = t
-
       by : (k : ℕ) → 0 < k → nat_eq k 0 ≡ false
       by zero lt = absurd (omega (arith, lt))
       by (suc k) lt = ne_eqb (suc k) 0 (λ e. omega (arith, e))
