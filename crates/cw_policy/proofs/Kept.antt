@@ -3,9 +3,9 @@ use Rattle.std.proofs.Common.{◌≡◌, ◌⊎◌, inl, inr, ◌<◌, ◌≤◌
 use Rattle.std.specs.Prelude.{codes, nat_lt, nat_eq, pos, negsuc}
 use Rattle.std.specs.List.{list_any}
 use Rattle.std.specs.Str.{bytes_eq}
-use Rattle.std.proofs.lemmas.Bool.Decides.{nat_tests}
 use Rattle.std.proofs.lemmas.List.Elements.{All-nil, All-cons}
 use Rattle.std.proofs.lemmas.Option.{none-some}
+use Rattle.std.proofs.lemmas.Bool.{ltb-false}
 use Rattle.toml.specs.Data.{Data, string, integer, float, boolean, datetime, array, table, Items, no_items, item, Members, get, get_member}
 use Rattle.cw_rights.specs.declared.words.Test.{Test}
 use Rattle.cw_rights.specs.Trees.{Tree, nothing, never, one, seq, alt, star, plus, maybe, nesting}
@@ -206,15 +206,12 @@ record Few (n : ℕ) (rules : List PlainRule) : Type 0 where
   few_rules : length rules ≤ 32
   few_positions : positions rules ≤ 64
 
-at_most : (n m : ℕ) → nat_lt n m ≡ false → m ≤ n
-at_most n m e = grind (arith, nat_tests)
-
 few : (n : ℕ) (rules : List PlainRule) → quantity_fault n rules ≡ None → Few n rules
 few n rules e =
     let (a, b) = not_over (nat_lt 12 n) _ _ e in
     let (c, d) = not_over (nat_lt 32 (length rules)) _ _ b in
     let (f, g) = not_over (nat_lt 64 (positions rules)) _ None d in
-    record { few_limits = at_most 12 n a; few_rules = at_most 32 (length rules) c; few_positions = at_most 64 (positions rules) f }
+    record { few_limits = ltb-false 12 n a; few_rules = ltb-false 32 (length rules) c; few_positions = ltb-false 64 (positions rules) f }
 
 no_table : (s : Section) (o : Option ℕ) → twice_table s o ≡ None → o ≡ None
 no_table s None e = refl

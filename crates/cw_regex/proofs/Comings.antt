@@ -1,5 +1,6 @@
 -- The next part from a place of a text on.
-use Rattle.std.proofs.Common.{◌≡◌, ℕ, zero, suc, ◌+◌, ◌-◌, ◌<◌, ◌≤◌, List, [], ◌∷◌, length, take, drop, refl, sym, ap, ap₂, ◌∙◌, arith}
+use Rattle.std.proofs.Common.{◌≡◌, ℕ, ◌+◌, ◌-◌, ◌<◌, ◌≤◌, List, ◌∷◌, length, take, drop, refl, sym, ap, ap₂, ◌∙◌, arith}
+use Rattle.std.proofs.lemmas.List.{drop_all}
 use Rattle.cw_regex.specs.declared.text.Mark.{Mark}
 use Rattle.cw_regex.specs.Parts.{word, mark, parts, placed}
 use Rattle.cw_regex.specs.Pieces.{IsBlankAt, IsMarkAt, IsWordAt}
@@ -40,14 +41,8 @@ mark_comes text at from m l k s p = record {
   within = omega arith;
 }
 
-drop_all : (l : List ℕ) (n : ℕ) → length l ≤ n → drop n l ≡ []
-drop_all [] zero h = refl
-drop_all [] (suc n) h = refl
-drop_all (x ∷ l) zero h = absurd (omega arith)
-drop_all (x ∷ l) (suc n) h = drop_all l n (omega arith)
-
 pub end_is : (text : List ℕ) (at from : ℕ) → length text ≤ from → Skips text at from → IsEnd text at
 end_is text at from l s = record {
-  none = sym s.same ∙ ap parts (drop_all text from l);
-  none_placed = sym s.same_placed ∙ ap (placed from) (drop_all text from l);
+  none = sym s.same ∙ ap parts (drop_all from text l);
+  none_placed = sym s.same_placed ∙ ap (placed from) (drop_all from text l);
 }

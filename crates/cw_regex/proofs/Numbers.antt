@@ -1,20 +1,13 @@
 -- The place of a name.
-use Rattle.std.proofs.Common.{◌≡◌, ℕ, zero, suc, ◌+◌, ◌<◌, ◌≤◌, List, [], ◌∷◌, true, Option, Some, unwrap_or, length, drop, get_or, refl, sym, ap, ap₂, ◌∙◌, arith, drop-cons, add-one}
+use Rattle.std.proofs.Common.{◌≡◌, ℕ, List, [], ◌∷◌, true, Option, Some, unwrap_or, refl, sym, ap, ◌∙◌}
 use Rattle.std.specs.List.{position_from}
 use Rattle.std.specs.Str.{bytes_eq}
 use Rattle.std.proofs.lemmas.Iterator.Adapters.{position_from-zero}
 use Rattle.cw_rights.specs.declared.policy.Descriptor.{Descriptor}
 use Rattle.cw_regex.specs.Meaning.{names_of, number_in}
-use Rattle.cw_rights.proofs.Along.{drop_item}
 
 pub number_is : (names : List (List ℕ)) (w : List ℕ) → number_in names w ≡ unwrap_or (position_from (bytes_eq w) 0 names) 0
 number_is names w = ap (λ o. unwrap_or o 0) (position_from-zero (bytes_eq w) names)
-
-pub drop_end : {A : Type 0} (l : List A) (n : ℕ) → length l ≤ n → drop n l ≡ []
-drop_end [] zero h = refl
-drop_end [] (suc n) h = refl
-drop_end (x ∷ l) zero h = absurd (omega arith)
-drop_end (x ∷ l) (suc n) h = drop_end l n (omega arith)
 
 -- the search ends at a name, or at the end of the list
 pub found_here : (ds : List Descriptor) (d : Descriptor) (rest : List Descriptor) (w : List ℕ) (i : ℕ) → ds ≡ d ∷ rest → bytes_eq w d.name.items ≡ true → (o : Option ℕ) →

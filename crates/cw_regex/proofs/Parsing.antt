@@ -14,6 +14,7 @@ use Rattle.cw_regex.specs.Grammar.{spelled_atom}
 use Rattle.cw_regex.specs.Machine.{is_test_start, in_test, step_word, takes_atom, is_end, run}
 use Rattle.cw_regex.specs.Tokens.{begins_bracket, Settled}
 use Rattle.std.proofs.lemmas.Bool.{cases_Bool as which}
+use Rattle.cw_lemmas.proofs.Truths.{and_false}
 use Rattle.cw_regex.proofs.Running.{after_subject, after_atom, after_factor, is_atom_end, factor_end, takes_of_end, run_word, run_open, run_label, run_again, atom_end}
 
 -- from here the rest runs through
@@ -372,26 +373,22 @@ again_good q d m rest e same h = good_by q Repeated d d (mark m ∷ rest) rest s
 read_factor : (d : ℕ) (ps : List Part) → AtomRead d ps → FactorRead d ps
 read_factor d ps x = by x.1 x.2 x.3 x.4
   where
-    no : (b : Bool) → (b && false) ≡ false
-    no true = refl
-    no false = refl
-
     by : (rest : List Part) → ps ≡ spelled_atom x.0 rest → Good (after_atom x.0) d rest → (is_label (after_atom x.0) && begins_bracket rest) ≡ false → FactorRead d ps
-    by [] e h b = (plain x.0, [], e, h, no (is_atom_end (after_atom x.0)), b)
-    by (word w ∷ rest) e h b = (plain x.0, word w ∷ rest, e, h, no (is_atom_end (after_atom x.0)), b)
+    by [] e h b = (plain x.0, [], e, h, and_false (is_atom_end (after_atom x.0)), b)
+    by (word w ∷ rest) e h b = (plain x.0, word w ∷ rest, e, h, and_false (is_atom_end (after_atom x.0)), b)
     by (mark Star ∷ rest) e h b = (star x.0, rest, e, again_good (after_atom x.0) d Star rest (atom_end x.0) (run_again (after_atom x.0) d rest (atom_end x.0)).0 h, refl, refl)
     by (mark Plus ∷ rest) e h b = (plus x.0, rest, e, again_good (after_atom x.0) d Plus rest (atom_end x.0) (run_again (after_atom x.0) d rest (atom_end x.0)).1 h, refl, refl)
     by (mark Question ∷ rest) e h b = (maybe x.0, rest, e, again_good (after_atom x.0) d Question rest (atom_end x.0) (run_again (after_atom x.0) d rest (atom_end x.0)).2 h, refl, refl)
-    by (mark Dot ∷ rest) e h b = (plain x.0, mark Dot ∷ rest, e, h, no (is_atom_end (after_atom x.0)), b)
-    by (mark ParenOpen ∷ rest) e h b = (plain x.0, mark ParenOpen ∷ rest, e, h, no (is_atom_end (after_atom x.0)), b)
-    by (mark ParenClose ∷ rest) e h b = (plain x.0, mark ParenClose ∷ rest, e, h, no (is_atom_end (after_atom x.0)), b)
-    by (mark Bar ∷ rest) e h b = (plain x.0, mark Bar ∷ rest, e, h, no (is_atom_end (after_atom x.0)), b)
-    by (mark BracketOpen ∷ rest) e h b = (plain x.0, mark BracketOpen ∷ rest, e, h, no (is_atom_end (after_atom x.0)), b)
-    by (mark BracketClose ∷ rest) e h b = (plain x.0, mark BracketClose ∷ rest, e, h, no (is_atom_end (after_atom x.0)), b)
-    by (mark Bang ∷ rest) e h b = (plain x.0, mark Bang ∷ rest, e, h, no (is_atom_end (after_atom x.0)), b)
-    by (mark ColonMark ∷ rest) e h b = (plain x.0, mark ColonMark ∷ rest, e, h, no (is_atom_end (after_atom x.0)), b)
-    by (mark Comma ∷ rest) e h b = (plain x.0, mark Comma ∷ rest, e, h, no (is_atom_end (after_atom x.0)), b)
-    by (mark Other ∷ rest) e h b = (plain x.0, mark Other ∷ rest, e, h, no (is_atom_end (after_atom x.0)), b)
+    by (mark Dot ∷ rest) e h b = (plain x.0, mark Dot ∷ rest, e, h, and_false (is_atom_end (after_atom x.0)), b)
+    by (mark ParenOpen ∷ rest) e h b = (plain x.0, mark ParenOpen ∷ rest, e, h, and_false (is_atom_end (after_atom x.0)), b)
+    by (mark ParenClose ∷ rest) e h b = (plain x.0, mark ParenClose ∷ rest, e, h, and_false (is_atom_end (after_atom x.0)), b)
+    by (mark Bar ∷ rest) e h b = (plain x.0, mark Bar ∷ rest, e, h, and_false (is_atom_end (after_atom x.0)), b)
+    by (mark BracketOpen ∷ rest) e h b = (plain x.0, mark BracketOpen ∷ rest, e, h, and_false (is_atom_end (after_atom x.0)), b)
+    by (mark BracketClose ∷ rest) e h b = (plain x.0, mark BracketClose ∷ rest, e, h, and_false (is_atom_end (after_atom x.0)), b)
+    by (mark Bang ∷ rest) e h b = (plain x.0, mark Bang ∷ rest, e, h, and_false (is_atom_end (after_atom x.0)), b)
+    by (mark ColonMark ∷ rest) e h b = (plain x.0, mark ColonMark ∷ rest, e, h, and_false (is_atom_end (after_atom x.0)), b)
+    by (mark Comma ∷ rest) e h b = (plain x.0, mark Comma ∷ rest, e, h, and_false (is_atom_end (after_atom x.0)), b)
+    by (mark Other ∷ rest) e h b = (plain x.0, mark Other ∷ rest, e, h, and_false (is_atom_end (after_atom x.0)), b)
 
 -- each is longer than what follows it
 longer_more : (ts : List TestForm) (rest : List Part) → length rest < length (spelled_more ts rest)

@@ -1,6 +1,7 @@
 -- A scan at a place of a text.
-use Rattle.std.proofs.Common.{◌≡◌, ℕ, zero, suc, ◌+◌, ◌-◌, ◌<◌, ◌≤◌, max, List, [], ◌∷◌, ◌++◌, Bool, true, false, cond, ◌&&◌, Some, None, length, take, drop, refl, sym, ap, ap₂, ◌∙◌, subst}
+use Rattle.std.proofs.Common.{◌≡◌, ℕ, ◌+◌, ◌-◌, ◌<◌, ◌≤◌, max, List, [], ◌∷◌, ◌++◌, Bool, true, false, cond, ◌&&◌, Some, None, length, take, drop, refl, sym, ap, ap₂, ◌∙◌, subst}
 use Rattle.std.proofs.Common.{arith, append-nil, append_assoc, length-append, length-take, length-drop}
+use Rattle.std.proofs.lemmas.List.{take_all, drop_all}
 use Rattle.cw_regex.specs.declared.text.Mark.{Mark}
 use Rattle.cw_regex.specs.declared.phase.Phase.{Phase}
 use Rattle.cw_regex.specs.declared.phase.Phase.TheVariants.{Begin, Label, Whole, Repeated, Test, Negated, Ambient, Descriptor, Colon, Right}
@@ -120,20 +121,8 @@ module _ (alone : Bool) (text : List ℕ) (x : Scanned) (h : ScanAt alone text x
       let far : length (s ++ p.first ∷ []) ≡ x.at + 1 = omega arith in
       subst (λ t. IsFaultAt (In alone) t (x.at + 1)) whole (subst (λ m. IsFaultAt (In alone) ((s ++ p.first ∷ []) ++ u) m) far (fault_by alone (s ++ p.first ∷ []) u later.front later.stuck))
 
-  take_all : {A : Type 0} (l : List A) (n : ℕ) → length l ≤ n → take n l ≡ l
-  take_all [] zero h = refl
-  take_all [] (suc n) h = refl
-  take_all (y ∷ l) zero h = absurd (omega arith)
-  take_all (y ∷ l) (suc n) h = ap (λ z. y ∷ z) (take_all l n (omega arith))
-
-  drop_all : {A : Type 0} (l : List A) (n : ℕ) → length l ≤ n → drop n l ≡ []
-  drop_all [] zero h = refl
-  drop_all [] (suc n) h = refl
-  drop_all (y ∷ l) zero h = absurd (omega arith)
-  drop_all (y ∷ l) (suc n) h = drop_all l n (omega arith)
-
   at_end : length text ≤ x.at → Scan alone text [] x.phase x.depth x.most
-  at_end l = subst (λ s. Scan alone s [] x.phase x.depth x.most) (take_all text x.at l) (subst (λ t. Scan alone (take x.at text) t x.phase x.depth x.most) (drop_all text x.at l) h.is)
+  at_end l = subst (λ s. Scan alone s [] x.phase x.depth x.most) (take_all x.at text l) (subst (λ t. Scan alone (take x.at text) t x.phase x.depth x.most) (drop_all x.at text l) h.is)
 
   pub end_ok : length text ≤ x.at → ends_here alone x.phase x.depth ≡ true → ends_blank text ≡ false → In alone text × (deepest 0 (parts text) ≡ x.most)
   end_ok l e f = scan_ends alone text x.phase x.depth x.most (at_end l) e f

@@ -1,7 +1,8 @@
 use Rattle.std.proofs.Common.{rules, ◌≡◌, ◌<◌, ◌≤◌, ◌+◌, true, length, drop, get_or, sym, ◌∙◌}
 use Rattle.std.specs.Str.{bytes_eq}
+use Rattle.std.proofs.lemmas.List.{drop_all}
 use Rattle.cw_regex.specs.Meaning.{names_of}
-use Rattle.cw_regex.proofs.Numbers.{number_is, drop_end, found_here, found_none}
+use Rattle.cw_regex.proofs.Numbers.{number_is, found_here, found_none}
 use Rattle.cw_rights.proofs.Along.{drop_item}
 use Rattle.cw_policy.proofs.parts.descriptor_number.Goals as goal
 
@@ -18,4 +19,4 @@ pub returns : goal.returns
 returns c =
     let ds = c.args.descriptors.now in
     let far : length ds ≤ c.loop-i.i = search rules in
-    found_none (drop c.loop-i.i ds) c.args.name.now c.loop-i.i (drop_end ds c.loop-i.i far) _ c.loop-i.invariant ∙ sym (number_is (names_of ds) c.args.name.now)
+    found_none (drop c.loop-i.i ds) c.args.name.now c.loop-i.i (drop_all c.loop-i.i ds far) _ c.loop-i.invariant ∙ sym (number_is (names_of ds) c.args.name.now)
