@@ -4,36 +4,25 @@ use Rattle.std.specs.Prelude.{find}
 use Rattle.std.proofs.lemmas.Option.{none-some, same_Some}
 use Rattle.cw_lex.proofs.Ordered.{tokens_in_order}
 use Rattle.cw_grammar.specs.declared.words.Lexeme.{Lexeme}
-use Rattle.cw_grammar.specs.declared.words.Word.{Word}
-use Rattle.cw_grammar.specs.Lexemes.{words, from_of, AreAll, statements}
+use Rattle.cw_grammar.specs.Lexemes.{from_of, AreAll, statements}
 use Rattle.cw_grammar.specs.Expressions.{IsExpression, nesting_limit}
-use Rattle.cw_grammar.specs.Declarations.{Expressions, IsDeclaration}
+use Rattle.cw_grammar.specs.Declarations.{Expressions}
 use Rattle.cw_grammar.specs.Spelling.{lexemes_of}
 use Rattle.cw_grammar.specs.Statements.{Place, InBlock, BeforeElse, Elsewhere, last, IsInit, IsForm, IsStatement}
 use Rattle.cw_grammar.specs.Files.{Part, Declares as DeclaresPart, Holds, Defines, IsPart, IsFunction, IsProgram, file_of}
-use Rattle.cw_syntax.specs.Trees.{Statement, Stated, Form, Block, Declares, Evaluates, Empties, Labels, Chooses, Whiles, Does, Fors, Breaks, Continues, Returns, Perhaps, nothing, just, Declaration, Definition, File}
+use Rattle.cw_syntax.specs.Trees.{Statement, Stated, Form, Block, Declares, Evaluates, Empties, Labels, Chooses, Whiles, Does, Fors, Breaks, Continues, Returns, Perhaps, nothing, just, Definition, File}
 use Rattle.cw_source.specs.Read.{ReadsAs}
-use Rattle.cw_value.specs.Deeds.{said, said_in, said_if, said_init, said_all, begins_at, form_of, form_at}
+use Rattle.cw_source.proofs.Lying.{Lie, lie_of, lie_le, split, first_within, lie_at, some_words, some_declaration}
+use Rattle.cw_value.specs.Deeds.{said, said_in, said_init, said_all, begins_at, form_of, form_at}
 use Rattle.cw_apart.specs.Starts.{start_of, Ascend}
-use Rattle.cw_apart.proofs.Between.{Lie, lie_of, lie_le, split, first_within, wider, both, found}
-
-some_words : (ts : List Lexeme) (w : Word) (ws : List Word) → words ts ≡ w ∷ ws → 0 < length ts
-some_words [] w ws e = absurd (cc)
-some_words (t ∷ ts) w ws e = omega arith
-
-some_declaration : (E : Expressions) (ts : List Lexeme) (d : Declaration) → IsDeclaration E ts d → 0 < length ts
-some_declaration E ts d (a, b, specs, whole, hs, e1, e2, e3, some, (inner, s, closed, semi, hitems), from, to) =
-    omega (arith, ap length whole, ap length closed, length-append a b, length-append inner (s ∷ []))
+use Rattle.cw_apart.proofs.Between.{wider, both, found}
 
 -- a rule, where the claim holds of the statements in it
 module _ (E : Expressions) (P : Place → List Lexeme → Statement → Type 0) (h : (place : Place) (ts : List Lexeme) (st : Statement) (from to : ℕ) → P place ts st → Lie from to ts → Ascend from to (said st)) where
-  part : (from to : ℕ) (ts xs : List Lexeme) → ts ≡ xs → Lie from to ts → Lie from to xs
-  part from to ts xs e lie = subst (λ (z : List Lexeme). Lie from to z) e lie
-
   pub all_ascend : (ts : List Lexeme) (ss : List Statement) (from to : ℕ) → AreAll (P InBlock) ts ss → Lie from to ts → Ascend from to (said_all (statements ss))
   all_ascend ts [] from to none lie = lie_le from to ts lie
   all_ascend ts (st ∷ ss) from to (x, y, whole, one, rest) lie =
-      let p = split from to x y (part from to ts (x ++ y) whole lie) in
+      let p = split from to x y (lie_at from to ts (x ++ y) whole lie) in
       both from p.0 to (said st) (said_all (statements ss)) (h InBlock x st from p.0 one p.1) (all_ascend y ss p.0 to rest p.2)
 
   -- a statement without others in it
@@ -57,7 +46,7 @@ module _ (E : Expressions) (P : Place → List Lexeme → Statement → Type 0) 
 
   form_ascends : (place : Place) (ts : List Lexeme) (form : Form) (from to : ℕ) → IsForm E P place ts form → Lie from to ts → (from ≤ from_of ts) × Ascend (from_of ts + 1) to (said_in form)
   form_ascends place ts (Block kids) from to (inner, kids_are, (o, x, c, whole, opens, closes, all)) lie =
-      let p = part from to ts (o ∷ x ++ c ∷ []) whole lie in
+      let p = lie_at from to ts (o ∷ x ++ c ∷ []) whole lie in
       let q = split o.to to x (c ∷ []) p.2 in
       let at : from_of ts ≡ o.from = ap from_of whole in (
         (let a = p.0 in omega (arith, at, a)),
@@ -68,21 +57,21 @@ module _ (E : Expressions) (P : Place → List Lexeme → Statement → Type 0) 
   form_ascends place ts (Evaluates e) from to (inner, c, whole, closes, is) lie = leaf ts from to (omega (arith, ap length whole, length-append inner (c ∷ []))) lie
   form_ascends place ts Empties from to is lie = leaf ts from to (some_words ts _ _ is) lie
   form_ascends place ts (Labels name mark body) from to (n, k, x, whole, n_is, k_is, name_is, mark_is, is) lie =
-      let p = part from to ts (n ∷ k ∷ x) whole lie in
+      let p = lie_at from to ts (n ∷ k ∷ x) whole lie in
       let at : from_of ts ≡ n.from = ap from_of whole in (
         (let a = p.0 in omega (arith, at, a)),
         wider k.to to (from_of ts + 1) to (said body) (let a = p.1 in let b = p.2.0 in let c = p.2.1 in omega (arith, at, a, b, c)) (omega arith)
             (h (last place) x body k.to to is p.2.2),
       )
   form_ascends place ts (Chooses test arm nothing) from to (i, x, y, whole, place_is, i_is, test_is, is) lie =
-      let p = part from to ts (i ∷ x ++ y) whole lie in
+      let p = lie_at from to ts (i ∷ x ++ y) whole lie in
       let q = split i.to to x y p.2 in
       let at : from_of ts ≡ i.from = ap from_of whole in
       let further : q.0 ≤ to = lie_le q.0 to y q.2 in
       let inner = both q.0 to to (said arm) [] (h Elsewhere y arm q.0 to is q.2) (omega arith) in
       ((let a = p.0 in omega (arith, at, a)), wider q.0 to (from_of ts + 1) to (said arm ++ []) (let a = p.1 in let b = lie_le i.to q.0 x q.1 in omega (arith, at, a, b)) (omega arith) inner)
   form_ascends place ts (Chooses test arm (just other)) from to (i, x, y, e, z, whole, i_is, test_is, is, e_is, other_is) lie =
-      let p = part from to ts (i ∷ x ++ (y ++ e ∷ z)) whole lie in
+      let p = lie_at from to ts (i ∷ x ++ (y ++ e ∷ z)) whole lie in
       let q = split i.to to x (y ++ e ∷ z) p.2 in
       let r = split q.0 to y (e ∷ z) q.2 in
       let at : from_of ts ≡ i.from = ap from_of whole in
@@ -91,7 +80,7 @@ module _ (E : Expressions) (P : Place → List Lexeme → Statement → Type 0) 
       let arms = both q.0 r.0 to (said arm) (said other) (h BeforeElse y arm q.0 r.0 is r.1) second_arm in
       ((let a = p.0 in omega (arith, at, a)), wider q.0 to (from_of ts + 1) to (said arm ++ said other) (let a = p.1 in let b = lie_le i.to q.0 x q.1 in omega (arith, at, a, b)) (omega arith) arms)
   form_ascends place ts (Whiles test body) from to (w, x, y, whole, w_is, test_is, is) lie =
-      let p = part from to ts (w ∷ x ++ y) whole lie in
+      let p = lie_at from to ts (w ∷ x ++ y) whole lie in
       let q = split w.to to x y p.2 in
       let at : from_of ts ≡ w.from = ap from_of whole in (
         (let a = p.0 in omega (arith, at, a)),
@@ -99,12 +88,12 @@ module _ (E : Expressions) (P : Place → List Lexeme → Statement → Type 0) 
             (h (last place) y body q.0 to is q.2),
       )
   form_ascends place ts (Does body test) from to (d, x, w, y, c, whole, d_is, is, w_is, test_is, c_is) lie =
-      let p = part from to ts (d ∷ x ++ (w ∷ y ++ c ∷ [])) whole lie in
+      let p = lie_at from to ts (d ∷ x ++ (w ∷ y ++ c ∷ [])) whole lie in
       let q = split d.to to x (w ∷ y ++ c ∷ []) p.2 in
       let at : from_of ts ≡ d.from = ap from_of whole in
       ((let a = p.0 in omega (arith, at, a)), wider d.to q.0 (from_of ts + 1) to (said body) (let a = p.1 in omega (arith, at, a)) (lie_le q.0 to (w ∷ y ++ c ∷ []) q.2) (h Elsewhere x body d.to q.0 is q.1))
   form_ascends place ts (Fors init test step body) from to (f, o, x, y, z, v, whole, f_is, o_is, init_is, test_is, step_is, is) lie =
-      let p = part from to ts (f ∷ o ∷ x ++ (y ++ (z ++ v))) whole lie in
+      let p = lie_at from to ts (f ∷ o ∷ x ++ (y ++ (z ++ v))) whole lie in
       let q = split o.to to x (y ++ (z ++ v)) p.2.2 in
       let r = split q.0 to y (z ++ v) q.2 in
       let u = split r.0 to z v r.2 in

@@ -1,41 +1,11 @@
--- Tokens and statements between two places.
-use Rattle.std.proofs.Common.{◌≡◌, ℕ, zero, suc, ◌+◌, ◌<◌, ◌≤◌, cond, List, [], ◌∷◌, ◌++◌, length, Some, slice_get, refl, ap, ◌∙◌, arith}
+-- Statements between two places.
+use Rattle.std.proofs.Common.{◌≡◌, ℕ, zero, suc, ◌+◌, ◌≤◌, cond, List, [], ◌∷◌, ◌++◌, Some, slice_get, refl, ap, ◌∙◌, arith}
 use Rattle.std.specs.Prelude.{find, nat_eq}
 use Rattle.std.proofs.lemmas.Bool.{ne_eqb, eq-eqb}
 use Rattle.std.proofs.lemmas.Option.{none-some, same_Some}
-use Rattle.cw_lex.specs.declared.tokens.Token.{Token}
-use Rattle.cw_lex.specs.Listed.{AreInOrder}
-use Rattle.cw_grammar.specs.declared.words.Lexeme.{Lexeme}
-use Rattle.cw_grammar.specs.Lexemes.{from_of}
-use Rattle.cw_grammar.specs.Spelling.{lexemes_of}
 use Rattle.cw_syntax.specs.Trees.{Statement, Stated}
 use Rattle.cw_value.specs.Deeds.{begins_at}
 use Rattle.cw_apart.specs.Starts.{start_of, Ascend}
-
--- ---- tokens
-
-abbrev pub Lie : ℕ → ℕ → List Lexeme → Type 0
-Lie from to [] = from ≤ to
-Lie from to (t ∷ ts) = (from ≤ t.from) × (t.from < t.to) × Lie t.to to ts
-
-pub lie_of : (source : List ℕ) (from to : ℕ) (ts : List Token) → AreInOrder from to ts → Lie from to (lexemes_of source ts)
-lie_of source from to [] h = h
-lie_of source from to (t ∷ ts) h = (h.0, h.1, lie_of source t.to to ts h.2)
-
-pub lie_le : (from to : ℕ) (ts : List Lexeme) → Lie from to ts → from ≤ to
-lie_le from to [] h = h
-lie_le from to (t ∷ ts) h = let p = h.0 in let q = h.1 in let r = lie_le t.to to ts h.2 in omega arith
-
--- the tokens of two parts, and a place between both
-pub split : (from to : ℕ) (xs ys : List Lexeme) → Lie from to (xs ++ ys) → (at : ℕ) × Lie from at xs × Lie at to ys
-split from to [] ys h = (from, (omega arith), h)
-split from to (x ∷ xs) ys h = let p = split x.to to xs ys h.2 in (p.0, (h.0, h.1, p.1), p.2)
-
-pub first_within : (from to : ℕ) (ts : List Lexeme) → 0 < length ts → Lie from to ts → (from ≤ from_of ts) × (from_of ts < to)
-first_within from to [] some h = absurd (omega arith)
-first_within from to (t ∷ ts) some h = (h.0, (let q = h.1 in let r = lie_le t.to to ts h.2 in omega arith))
-
--- ---- statements
 
 pub ascend_le : (from to : ℕ) (ss : List Statement) → Ascend from to ss → from ≤ to
 ascend_le from to [] h = h

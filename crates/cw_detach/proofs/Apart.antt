@@ -13,9 +13,9 @@ use Rattle.cw_grammar.specs.Files.{Part, Declares as DeclaresPart, Holds, Define
 use Rattle.cw_syntax.specs.Trees.{Tree, Statement, Stated, Form, Block, Declares, Evaluates, Empties, Labels, Chooses, Whiles, Does, Fors, Breaks, Continues, Returns, nothing, just, Definition, File}
 use Rattle.cw_scope.specs.Walks.{Placed, placed, placed_all, body_of, every_statement}
 use Rattle.cw_source.specs.Read.{ReadsAs}
+use Rattle.cw_source.proofs.Lying.{Lie, lie_of, lie_le, split, ends, lie_at}
 use Rattle.cw_detach.specs.declared.spans.Span.{Span}
 use Rattle.cw_detach.specs.Form.{calls_one, span_of, spans, AreApart}
-use Rattle.cw_detach.proofs.Between.{Lie, lie_of, lie_le, split, ends}
 
 apart_le : (from to : ℕ) (ss : List Span) → AreApart from to ss → from ≤ to
 apart_le from to [] h = h
@@ -47,20 +47,17 @@ module _ (source : List ℕ) (names : List (List ℕ)) where
   -- a rule, where the claim holds of the statements in it
   module _ (E : Expressions) (P : Place → List Lexeme → Statement → Type 0)
       (h : (place : Place) (ts : List Lexeme) (st : Statement) (looped : Bool) (from to : ℕ) → P place ts st → Lie from to ts → AreApart from to (own (placed looped st))) where
-    part : (from to : ℕ) (ts xs : List Lexeme) → ts ≡ xs → Lie from to ts → Lie from to xs
-    part from to ts xs e lie = subst (λ (z : List Lexeme). Lie from to z) e lie
-
     all_apart : (ts : List Lexeme) (ss : List Statement) (looped : Bool) (from to : ℕ) → AreAll (P InBlock) ts ss → Lie from to ts → AreApart from to (own (placed_all looped (statements ss)))
     all_apart ts [] looped from to none lie = lie_le from to ts lie
     all_apart ts (st ∷ ss) looped from to (x, y, whole, first, rest) lie =
-        let p = split from to x y (part from to ts (x ++ y) whole lie) in
+        let p = split from to x y (lie_at from to ts (x ++ y) whole lie) in
         rw (own_both (placed looped st) (placed_all looped (statements ss)))
         (apart_both from p.0 to _ _ (h InBlock x st looped from p.0 first p.1) (all_apart y ss looped p.0 to rest p.2))
 
     form_apart : (place : Place) (ts : List Lexeme) (form : Form) (looped : Bool) (from to : ℕ) → IsForm E P place ts form → Lie from to ts
         → AreApart from to (own (placed looped (Stated form (from_of ts) (to_of ts))))
     form_apart place ts (Block kids) looped from to (inner, kids_are, (o, x, c, whole, opens, closes, all)) lie =
-        let p = part from to ts (o ∷ x ++ c ∷ []) whole lie in
+        let p = lie_at from to ts (o ∷ x ++ c ∷ []) whole lie in
         let q = split o.to to x (c ∷ []) p.2 in
         let up : from ≤ o.to = (let a = p.0 in let b = p.1 in omega arith) in
         rw kids_are (apart_wider o.to q.0 from to _ up (lie_le q.0 to (c ∷ []) q.2) (all_apart x inner looped o.to q.0 all q.1))
@@ -71,17 +68,17 @@ module _ (source : List ℕ) (names : List (List ℕ)) where
         one e looped from to (from_of ts) (to_of ts) p.0 p.1 p.2
     form_apart place ts Empties looped from to is lie = lie_le from to ts lie
     form_apart place ts (Labels name mark body) looped from to (n, k, x, whole, n_is, k_is, name_is, mark_is, is) lie =
-        let p = part from to ts (n ∷ k ∷ x) whole lie in
+        let p = lie_at from to ts (n ∷ k ∷ x) whole lie in
         let up : from ≤ k.to = (let a = p.0 in let b = p.1 in let c = p.2.0 in let d = p.2.1 in omega arith) in
         apart_wider k.to to from to _ up (omega arith) (h (last place) x body looped k.to to is p.2.2)
     form_apart place ts (Chooses test arm nothing) looped from to (i, x, y, whole, place_is, i_is, test_is, is) lie =
-        let p = part from to ts (i ∷ x ++ y) whole lie in
+        let p = lie_at from to ts (i ∷ x ++ y) whole lie in
         let q = split i.to to x y p.2 in
         let up : from ≤ q.0 = (let a = p.0 in let b = p.1 in let c = lie_le i.to q.0 x q.1 in omega arith) in
         let first = apart_wider q.0 to from to _ up (omega arith) (h Elsewhere y arm looped q.0 to is q.2) in
         rw (own_both (placed looped arm) []) (apart_both from to to _ _ first (omega arith))
     form_apart place ts (Chooses test arm (just other)) looped from to (i, x, y, e, z, whole, i_is, test_is, is, e_is, other_is) lie =
-        let p = part from to ts (i ∷ x ++ (y ++ e ∷ z)) whole lie in
+        let p = lie_at from to ts (i ∷ x ++ (y ++ e ∷ z)) whole lie in
         let q = split i.to to x (y ++ e ∷ z) p.2 in
         let r = split q.0 to y (e ∷ z) q.2 in
         let up : from ≤ q.0 = (let a = p.0 in let b = p.1 in let c = lie_le i.to q.0 x q.1 in omega arith) in
@@ -90,17 +87,17 @@ module _ (source : List ℕ) (names : List (List ℕ)) where
         let second = apart_wider e.to to r.0 to _ between (omega arith) (h (last place) z other looped e.to to other_is r.2.2) in
         rw (own_both (placed looped arm) (placed looped other)) (apart_both from r.0 to _ _ first second)
     form_apart place ts (Whiles test body) looped from to (w, x, y, whole, w_is, test_is, is) lie =
-        let p = part from to ts (w ∷ x ++ y) whole lie in
+        let p = lie_at from to ts (w ∷ x ++ y) whole lie in
         let q = split w.to to x y p.2 in
         let up : from ≤ q.0 = (let a = p.0 in let b = p.1 in let c = lie_le w.to q.0 x q.1 in omega arith) in
         apart_wider q.0 to from to _ up (omega arith) (h (last place) y body true q.0 to is q.2)
     form_apart place ts (Does body test) looped from to (d, x, w, y, c, whole, d_is, is, w_is, test_is, c_is) lie =
-        let p = part from to ts (d ∷ x ++ (w ∷ y ++ c ∷ [])) whole lie in
+        let p = lie_at from to ts (d ∷ x ++ (w ∷ y ++ c ∷ [])) whole lie in
         let q = split d.to to x (w ∷ y ++ c ∷ []) p.2 in
         let up : from ≤ d.to = (let a = p.0 in let b = p.1 in omega arith) in
         apart_wider d.to q.0 from to _ up (lie_le q.0 to (w ∷ y ++ c ∷ []) q.2) (h Elsewhere x body true d.to q.0 is q.1)
     form_apart place ts (Fors init test step body) looped from to (f, o, x, y, z, v, whole, f_is, o_is, init_is, test_is, step_is, is) lie =
-        let p = part from to ts (f ∷ o ∷ x ++ (y ++ (z ++ v))) whole lie in
+        let p = lie_at from to ts (f ∷ o ∷ x ++ (y ++ (z ++ v))) whole lie in
         let q = split o.to to x (y ++ (z ++ v)) p.2.2 in
         let r = split q.0 to y (z ++ v) q.2 in
         let u = split r.0 to z v r.2 in

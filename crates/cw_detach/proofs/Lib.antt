@@ -4,7 +4,6 @@ mod Depths
 mod Placing
 pub mod Rules
 mod Kept
-pub mod Between
 mod Apart
 mod Absent
 pub mod Plain

@@ -15,11 +15,11 @@ use Rattle.cw_grammar.specs.Expressions.{nesting_limit}
 use Rattle.cw_grammar.specs.Files.{Part as FilePart, IsPart, IsProgram, file_of}
 use Rattle.cw_scope.specs.Walks.{Placed, every_statement}
 use Rattle.cw_source.specs.Read.{ReadsAs}
+use Rattle.cw_source.proofs.Lying.{lie_of}
 use Rattle.cw_core.specs.declared.quantity.Quantity.TheVariants.{Nesting}
 use Rattle.cw_core.specs.Quantities.{limit_of}
 use Rattle.cw_detach.specs.Form.{before, behind, calls_one, span_of, form_from, form_of, nesting_all}
 use Rattle.cw_detach.specs.Faults.{is_shallow}
-use Rattle.cw_detach.proofs.Between.{lie_of}
 use Rattle.cw_forms.specs.Pieces.{lefts}
 use Rattle.cw_forms.specs.Spans.{spans_of, with_texts}
 use Rattle.cw_forms.specs.Statements.{pairs_in}

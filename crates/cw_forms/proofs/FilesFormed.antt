@@ -16,7 +16,7 @@ use Rattle.cw_grammar.specs.Files.{AreNamed, IsFunction, Part as FilePart, Decla
 use Rattle.cw_scope.specs.Walks.{Placed, placed_all, body_of}
 use Rattle.cw_scope.specs.Descriptors.{is_before}
 use Rattle.cw_detach.specs.Form.{nesting_all}
-use Rattle.cw_detach.proofs.Between.{Lie, lie_le, split}
+use Rattle.cw_source.proofs.Lying.{Lie, lie_le, split, lie_at}
 use Rattle.cw_forms.specs.Moved.{moved, Pairs, SameName}
 use Rattle.cw_forms.specs.Declared.{Both, SameParam, SameItem}
 use Rattle.cw_forms.specs.Statements.{pairs_in, StandFor, SameFunction, StaysBefore, StayBefore, SameFile}
@@ -39,9 +39,6 @@ params_named source form (p ∷ ps) [] h named = absurd h
 params_named source form (p ∷ ps) (q ∷ qs) h named = (param_named source form p.name q.name h.0 named.0, params_named source form ps qs h.1 named.1)
 
 -- ---- where names of a file stand
-
-lie_at : (from to : ℕ) (ts xs : List Lexeme) → ts ≡ xs → Lie from to ts → Lie from to xs
-lie_at from to ts xs e h = subst (λ (z : List Lexeme). Lie from to z) e h
 
 abbrev AllFrom : ℕ → List Declared → Type 0
 AllFrom lo [] = Unit {0}

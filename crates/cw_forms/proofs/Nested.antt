@@ -23,10 +23,10 @@ use Rattle.cw_grammar.proofs.Deeper.{all_weaker, part_deeper}
 use Rattle.cw_recogniser.specs.Language.{AreOfGrammar}
 use Rattle.cw_parse.proofs.FilesComplete.{file_again, program_is_read}
 use Rattle.cw_source.specs.Read.{DerivesNone}
+use Rattle.cw_source.proofs.Lying.{lie_of}
 use Rattle.cw_parse.specs.declared.fault.ParseFault.TheVariants as parse
 use Rattle.cw_detach.specs.Form.{form_of, nesting, nesting_in, nesting_all}
 use Rattle.cw_detach.specs.Faults.{is_shallow}
-use Rattle.cw_detach.proofs.Between.{lie_of}
 use Rattle.cw_forms.specs.Moved.{Pairs}
 use Rattle.cw_forms.specs.Pieces.{lefts}
 use Rattle.cw_forms.specs.Spans.{spans_of, with_texts}

@@ -1,5 +1,6 @@
 pub mod OneAnswer
 mod Kept
+pub mod Lying
 mod Ordered
 pub mod Marking
 pub mod Unmarked

@@ -1,5 +1,5 @@
 -- The marks of a program that is read stand in the order of the text: what derives a statement has its marks between its tokens.
-use Rattle.std.proofs.Common.{◌≡◌, ℕ, zero, suc, ◌+◌, ◌<◌, ◌≤◌, List, [], ◌∷◌, ◌++◌, length, sym, ap, subst, arith, length-append}
+use Rattle.std.proofs.Common.{ℕ, zero, suc, ◌+◌, ◌<◌, ◌≤◌, List, [], ◌∷◌, ◌++◌, length, sym, ap, subst, arith, length-append}
 use Rattle.cw_lex.proofs.Ordered.{tokens_in_order}
 use Rattle.cw_grammar.specs.declared.words.Lexeme.{Lexeme}
 use Rattle.cw_grammar.specs.Lexemes.{from_of, AreAll, statements}
@@ -14,7 +14,8 @@ use Rattle.cw_syntax.specs.Plans.{Scene, Action, Computes, Opens, Closes, Invoke
 use Rattle.cw_syntax.specs.Plans.{numbered_all, routines_from, scene_of, plan_of}
 use Rattle.cw_syntax.specs.Marks.{marks_in, marks_in_all, marks_from, marks_of, AreInOrder}
 use Rattle.cw_source.specs.Read.{ReadsAs}
-use Rattle.cw_source.proofs.Ordered.{Lie, lie_of, lie_le, split, first_within, wider, joined}
+use Rattle.cw_source.proofs.Ordered.{wider, joined}
+use Rattle.cw_source.proofs.Lying.{Lie, lie_of, lie_le, split, first_within, lie_at}
 
 acting_marks : (action : Action) (at j from to : ℕ) → (from ≤ at) × (at < to) → AreInOrder from to (marks_in (numbered (acting action at) j))
 acting_marks Computes at j from to (p, q) = omega arith
@@ -25,20 +26,17 @@ acting_marks (Invokes callee) at j from to (p, q) = (p, (omega arith), (omega ar
 -- a rule, where the claim holds of the statements in it
 module _ (s : Scene) (E : Expressions) (P : Place → List Lexeme → Statement → Type 0)
     (h : (place : Place) (ts : List Lexeme) (st : Statement) (j from to : ℕ) → P place ts st → Lie from to ts → AreInOrder from to (marks_in (numbered (steps_of s st) j))) where
-  part : (from to : ℕ) (ts xs : List Lexeme) → ts ≡ xs → Lie from to ts → Lie from to xs
-  part from to ts xs e lie = subst (λ (z : List Lexeme). Lie from to z) e lie
-
   all_marks : (ts : List Lexeme) (ss : List Statement) (j from to : ℕ) → AreAll (P InBlock) ts ss → Lie from to ts
       → AreInOrder from to (marks_in_all (numbered_all (steps_of_all s (statements ss)) j))
   all_marks ts [] j from to none lie = lie_le from to ts lie
   all_marks ts (st ∷ ss) j from to (x, y, whole, one, rest) lie =
-      let p = split from to x y (part from to ts (x ++ y) whole lie) in
+      let p = split from to x y (lie_at from to ts (x ++ y) whole lie) in
       joined from p.0 to _ _ (h InBlock x st j from p.0 one p.1) (all_marks y ss (j + seams (steps_of s st)) p.0 to rest p.2)
 
   form_marks : (place : Place) (ts : List Lexeme) (form : Form) (j from to : ℕ) → IsForm E P place ts form → Lie from to ts
       → AreInOrder from to (marks_in (numbered (steps_of_form s (from_of ts) form) j))
   form_marks place ts (Block kids) j from to (inner, kids_are, (o, x, c, whole, opens, closes, all)) lie =
-      let p = part from to ts (o ∷ x ++ c ∷ []) whole lie in
+      let p = lie_at from to ts (o ∷ x ++ c ∷ []) whole lie in
       let q = split o.to to x (c ∷ []) p.2 in
       let before : from ≤ o.to = (let a = p.0 in let b = p.1 in omega arith) in
       rw kids_are (wider o.to q.0 from to _ before (lie_le q.0 to (c ∷ []) q.2) (all_marks x inner j o.to q.0 all q.1))
@@ -48,16 +46,16 @@ module _ (s : Scene) (E : Expressions) (P : Place → List Lexeme → Statement 
       acting_marks (action_of s e) (from_of ts) j from to (first_within from to ts some lie)
   form_marks place ts Empties j from to is lie = lie_le from to ts lie
   form_marks place ts (Labels name mark body) j from to (n, k, x, whole, n_is, k_is, name_is, mark_is, is) lie =
-      let p = part from to ts (n ∷ k ∷ x) whole lie in
+      let p = lie_at from to ts (n ∷ k ∷ x) whole lie in
       let after : from ≤ k.to = (let a = p.0 in let b = p.1 in let c = p.2.0 in let d = p.2.1 in omega arith) in
       rw mark_is (after, lie_le k.to to x p.2.2, h (last place) x body (j + 1) k.to to is p.2.2)
   form_marks place ts (Chooses test arm nothing) j from to (i, x, y, whole, place_is, i_is, test_is, is) lie =
-      let p = part from to ts (i ∷ x ++ y) whole lie in
+      let p = lie_at from to ts (i ∷ x ++ y) whole lie in
       let q = split i.to to x y p.2 in
       let before : from ≤ q.0 = (let a = p.0 in let b = p.1 in let c = lie_le i.to q.0 x q.1 in omega arith) in
       joined from to to _ [] (wider q.0 to from to _ before (omega arith) (h Elsewhere y arm j q.0 to is q.2)) (omega arith)
   form_marks place ts (Chooses test arm (just other)) j from to (i, x, y, e, z, whole, i_is, test_is, is, e_is, other_is) lie =
-      let p = part from to ts (i ∷ x ++ (y ++ e ∷ z)) whole lie in
+      let p = lie_at from to ts (i ∷ x ++ (y ++ e ∷ z)) whole lie in
       let q = split i.to to x (y ++ e ∷ z) p.2 in
       let r = split q.0 to y (e ∷ z) q.2 in
       let before : from ≤ q.0 = (let a = p.0 in let b = p.1 in let c = lie_le i.to q.0 x q.1 in omega arith) in
@@ -66,17 +64,17 @@ module _ (s : Scene) (E : Expressions) (P : Place → List Lexeme → Statement 
       (wider q.0 r.0 from r.0 _ before (omega arith) (h BeforeElse y arm j q.0 r.0 is r.1))
       (wider e.to to r.0 to _ between (omega arith) (h (last place) z other (j + seams (steps_of s arm)) e.to to other_is r.2.2))
   form_marks place ts (Whiles test body) j from to (w, x, y, whole, w_is, test_is, is) lie =
-      let p = part from to ts (w ∷ x ++ y) whole lie in
+      let p = lie_at from to ts (w ∷ x ++ y) whole lie in
       let q = split w.to to x y p.2 in
       let before : from ≤ q.0 = (let a = p.0 in let b = p.1 in let c = lie_le w.to q.0 x q.1 in omega arith) in
       wider q.0 to from to _ before (omega arith) (h (last place) y body j q.0 to is q.2)
   form_marks place ts (Does body test) j from to (d, x, w, y, c, whole, d_is, is, w_is, test_is, c_is) lie =
-      let p = part from to ts (d ∷ x ++ (w ∷ y ++ c ∷ [])) whole lie in
+      let p = lie_at from to ts (d ∷ x ++ (w ∷ y ++ c ∷ [])) whole lie in
       let q = split d.to to x (w ∷ y ++ c ∷ []) p.2 in
       let before : from ≤ d.to = (let a = p.0 in let b = p.1 in omega arith) in
       wider d.to q.0 from to _ before (lie_le q.0 to (w ∷ y ++ c ∷ []) q.2) (h Elsewhere x body j d.to q.0 is q.1)
   form_marks place ts (Fors init test step body) j from to (f, o, x, y, z, v, whole, f_is, o_is, init_is, test_is, step_is, is) lie =
-      let p = part from to ts (f ∷ o ∷ x ++ (y ++ (z ++ v))) whole lie in
+      let p = lie_at from to ts (f ∷ o ∷ x ++ (y ++ (z ++ v))) whole lie in
       let q = split o.to to x (y ++ (z ++ v)) p.2.2 in
       let r = split q.0 to y (z ++ v) q.2 in
       let u = split r.0 to z v r.2 in

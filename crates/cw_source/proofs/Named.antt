@@ -3,23 +3,22 @@ use Rattle.std.proofs.Common.{◌≡◌, ◌≢◌, ◌⊎◌, ℕ, zero, suc, �
 use Rattle.std.proofs.lemmas.Option.{same_Some}
 use Rattle.cw_lex.proofs.Ordered.{tokens_in_order}
 use Rattle.cw_grammar.specs.declared.words.Lexeme.{Lexeme}
-use Rattle.cw_grammar.specs.declared.words.Word.{Word}
-use Rattle.cw_grammar.specs.Lexemes.{words, from_of, AreAll, statements}
+use Rattle.cw_grammar.specs.Lexemes.{from_of, AreAll, statements}
 use Rattle.cw_grammar.specs.Expressions.{IsExpression, nesting_limit}
-use Rattle.cw_grammar.specs.Declarations.{Expressions, IsDeclaration}
+use Rattle.cw_grammar.specs.Declarations.{Expressions}
 use Rattle.cw_grammar.specs.Spelling.{lexemes_of}
 use Rattle.cw_grammar.specs.Statements.{Place, InBlock, BeforeElse, Elsewhere, last, IsInit, IsForm, IsStatement}
 use Rattle.cw_grammar.specs.Files.{Part, Declares as DeclaresPart, Holds, Defines, IsPart, IsFunction, IsProgram, file_of}
 use Rattle.cw_syntax.specs.Names.{Names}
 use Rattle.cw_syntax.specs.Trees.{Statement, Stated, Form, Block, Declares, Evaluates, Empties, Labels, Chooses, Whiles, Does, Fors, Breaks, Continues, Returns, Perhaps, nothing}
-use Rattle.cw_syntax.specs.Trees.{just, Declaration, Definition, File}
+use Rattle.cw_syntax.specs.Trees.{just, Definition, File}
 use Rattle.cw_syntax.specs.Plans.{Scene, Plain, Break, Continue, Return, Open, Close, Call, Action, Computes, Opens, Closes, Invokes, action_of, acting, place_if}
 use Rattle.cw_syntax.specs.Plans.{steps_of, steps_of_form, steps_of_all, seams, seams_all, numbered, numbered_all, Routine, routines_from, scene_of, Plan, plan_of}
 use Rattle.cw_syntax.specs.Frames.{Item, Entry, Todo, Test, After, Mark, End}
 use Rattle.cw_source.specs.Items.{AtEntry, AtTest, AtStep, AtEnd, item_kind, item_place, IsPassed}
 use Rattle.cw_source.specs.Read.{ReadsAs}
 use Rattle.cw_source.proofs.Held.{HasInit, Has, HasAll, HasIn, passed_in}
-use Rattle.cw_source.proofs.Ordered.{Lie, lie_of, lie_le, split, first_within}
+use Rattle.cw_source.proofs.Lying.{Lie, lie_of, lie_le, split, first_within, lie_at, some_words, some_declaration}
 
 -- neither an entry nor an end
 abbrev IsInner : Item → Type 0
@@ -78,14 +77,6 @@ lies_led from at b to i H inner is up lt further h =
     lies_both from b to (λ x. x ≡ i) H (omega (arith, up, lt)) further
     (lies_one from b i (inner, (omega (arith, is, up)), (omega (arith, is, lt)))) h
 
-some_words : (ts : List Lexeme) (w : Word) (ws : List Word) → words ts ≡ w ∷ ws → 0 < length ts
-some_words [] w ws e = absurd (cc)
-some_words (t ∷ ts) w ws e = omega arith
-
-some_declaration : (E : Expressions) (ts : List Lexeme) (d : Declaration) → IsDeclaration E ts d → 0 < length ts
-some_declaration E ts d (a, b, specs, whole, hs, e1, e2, e3, some, (inner, s, closed, semi, hitems), from, to) =
-    omega (arith, ap length whole, ap length closed, length-append a b, length-append inner (s ∷ []))
-
 acting_named : (action : Action) (at j from to : ℕ) → (from ≤ at) × (at < to) → Lies from to (Has (numbered (acting action at) j))
 acting_named Computes at j from to (p, q) = lies_one from to (Todo (Plain at)) (tt, p, q)
 acting_named (Opens d) at j from to (p, q) = lies_one from to (Todo (Open at j d)) (tt, p, q)
@@ -98,13 +89,10 @@ test_or_step e = absurd (cc)
 -- a rule, where the claim holds of the statements in it
 module _ (s : Scene) (E : Expressions) (P : Place → List Lexeme → Statement → Type 0)
     (h : (place : Place) (ts : List Lexeme) (st : Statement) (j from to : ℕ) → P place ts st → Lie from to ts → Lies from to (Has (numbered (steps_of s st) j))) where
-  part : (from to : ℕ) (ts xs : List Lexeme) → ts ≡ xs → Lie from to ts → Lie from to xs
-  part from to ts xs e lie = subst (λ (z : List Lexeme). Lie from to z) e lie
-
   all_named : (ts : List Lexeme) (ss : List Statement) (j from to : ℕ) → AreAll (P InBlock) ts ss → Lie from to ts → Lies from to (HasAll (numbered_all (steps_of_all s (statements ss)) j))
   all_named ts [] j from to none lie = lies_none from to
   all_named ts (st ∷ ss) j from to (x, y, whole, one, rest) lie =
-      let p = split from to x y (part from to ts (x ++ y) whole lie) in
+      let p = split from to x y (lie_at from to ts (x ++ y) whole lie) in
       lies_both from p.0 to _ _ (lie_le from p.0 x p.1) (lie_le p.0 to y p.2) (h InBlock x st j from p.0 one p.1) (all_named y ss (j + seams (steps_of s st)) p.0 to rest p.2)
 
   init_named : (ts : List Lexeme) (init : Perhaps) (from to : ℕ) → IsInit E ts init → Lie from to ts → Lies from to (HasInit (place_if init))
@@ -125,7 +113,7 @@ module _ (s : Scene) (E : Expressions) (P : Place → List Lexeme → Statement 
 
   form_named : (place : Place) (ts : List Lexeme) (form : Form) (j from to : ℕ) → IsForm E P place ts form → Lie from to ts → Lies from to (Has (numbered (steps_of_form s (from_of ts) form) j))
   form_named place ts (Block kids) j from to (inner, kids_are, (o, x, c, whole, opens, closes, all)) lie =
-      let p = part from to ts (o ∷ x ++ c ∷ []) whole lie in
+      let p = lie_at from to ts (o ∷ x ++ c ∷ []) whole lie in
       let q = split o.to to x (c ∷ []) p.2 in
       let before : from ≤ o.to = (let a = p.0 in let b = p.1 in omega arith) in
       rw kids_are (lies_wider o.to q.0 from to _ before (lie_le q.0 to (c ∷ []) q.2) (all_named x inner j o.to q.0 all q.1))
@@ -135,13 +123,13 @@ module _ (s : Scene) (E : Expressions) (P : Place → List Lexeme → Statement 
       acting_named (action_of s e) (from_of ts) j from to (first_within from to ts some lie)
   form_named place ts Empties j from to is lie = plain_named ts (Todo (Plain (from_of ts))) from to tt refl (some_words ts _ _ is) lie
   form_named place ts (Labels name mark body) j from to (n, k, x, whole, n_is, k_is, name_is, mark_is, is) lie =
-      let p = part from to ts (n ∷ k ∷ x) whole lie in
+      let p = lie_at from to ts (n ∷ k ∷ x) whole lie in
       let at : from_of ts ≡ n.from = ap from_of whole in
       let up : from ≤ from_of ts = (let a = p.0 in omega (arith, at, a)) in
       let lt : from_of ts < k.to = (let a = p.1 in let b = p.2.0 in let c = p.2.1 in omega (arith, at, a, b, c)) in
       lies_led from (from_of ts) k.to to _ _ tt refl up lt (lie_le k.to to x p.2.2) (h (last place) x body (j + 1) k.to to is p.2.2)
   form_named place ts (Chooses test arm nothing) j from to (i, x, y, whole, place_is, i_is, test_is, is) lie =
-      let p = part from to ts (i ∷ x ++ y) whole lie in
+      let p = lie_at from to ts (i ∷ x ++ y) whole lie in
       let q = split i.to to x y p.2 in
       let at : from_of ts ≡ i.from = ap from_of whole in
       let up : from ≤ from_of ts = (let a = p.0 in omega (arith, at, a)) in
@@ -149,7 +137,7 @@ module _ (s : Scene) (E : Expressions) (P : Place → List Lexeme → Statement 
       let further : q.0 ≤ to = lie_le q.0 to y q.2 in
       lies_led from (from_of ts) q.0 to _ _ tt refl up lt further (lies_both q.0 to to _ _ further (omega arith) (h Elsewhere y arm j q.0 to is q.2) (lies_none to to))
   form_named place ts (Chooses test arm (just other)) j from to (i, x, y, e, z, whole, i_is, test_is, is, e_is, other_is) lie =
-      let p = part from to ts (i ∷ x ++ (y ++ e ∷ z)) whole lie in
+      let p = lie_at from to ts (i ∷ x ++ (y ++ e ∷ z)) whole lie in
       let q = split i.to to x (y ++ e ∷ z) p.2 in
       let r = split q.0 to y (e ∷ z) q.2 in
       let at : from_of ts ≡ i.from = ap from_of whole in
@@ -162,14 +150,14 @@ module _ (s : Scene) (E : Expressions) (P : Place → List Lexeme → Statement 
       let arms = lies_both q.0 r.0 to _ _ (lie_le q.0 r.0 y r.1) (omega (arith, between, after)) first_arm (lies_wider e.to to r.0 to _ between (omega arith) second_arm) in
       lies_led from (from_of ts) q.0 to _ _ tt refl up lt (lie_le q.0 to (y ++ e ∷ z) q.2) arms
   form_named place ts (Whiles test body) j from to (w, x, y, whole, w_is, test_is, is) lie =
-      let p = part from to ts (w ∷ x ++ y) whole lie in
+      let p = lie_at from to ts (w ∷ x ++ y) whole lie in
       let q = split w.to to x y p.2 in
       let at : from_of ts ≡ w.from = ap from_of whole in
       let up : from ≤ from_of ts = (let a = p.0 in omega (arith, at, a)) in
       let lt : from_of ts < q.0 = (let a = p.1 in let b = lie_le w.to q.0 x q.1 in omega (arith, at, a, b)) in
       lies_led from (from_of ts) q.0 to _ _ tt refl up lt (lie_le q.0 to y q.2) (h (last place) y body j q.0 to is q.2)
   form_named place ts (Does body test) j from to (d, x, w, y, c, whole, d_is, is, w_is, test_is, c_is) lie =
-      let p = part from to ts (d ∷ x ++ (w ∷ y ++ c ∷ [])) whole lie in
+      let p = lie_at from to ts (d ∷ x ++ (w ∷ y ++ c ∷ [])) whole lie in
       let q = split d.to to x (w ∷ y ++ c ∷ []) p.2 in
       let at : from_of ts ≡ d.from = ap from_of whole in
       let up : from ≤ from_of ts = (let a = p.0 in omega (arith, at, a)) in
@@ -177,7 +165,7 @@ module _ (s : Scene) (E : Expressions) (P : Place → List Lexeme → Statement 
       let inner = lies_wider d.to q.0 d.to to _ (omega arith) (lie_le q.0 to (w ∷ y ++ c ∷ []) q.2) (h Elsewhere x body j d.to q.0 is q.1) in
       lies_led from (from_of ts) d.to to _ _ tt refl up lt (lie_le d.to to (x ++ (w ∷ y ++ c ∷ [])) p.2) inner
   form_named place ts (Fors init test step body) j from to (f, o, x, y, z, v, whole, f_is, o_is, init_is, test_is, step_is, is) lie =
-      let p = part from to ts (f ∷ o ∷ x ++ (y ++ (z ++ v))) whole lie in
+      let p = lie_at from to ts (f ∷ o ∷ x ++ (y ++ (z ++ v))) whole lie in
       let q = split o.to to x (y ++ (z ++ v)) p.2.2 in
       let r = split q.0 to y (z ++ v) q.2 in
       let u = split r.0 to z v r.2 in
