@@ -1,8 +1,9 @@
 -- What is read as a declaration or a header is one.
-use Rattle.std.proofs.Common.{◌≡◌, ℕ, ◌<◌, Bool, true, false, ◌&&◌, not, cond, List, [], ◌∷◌, ◌++◌, length, Option, Some, None, Ok, Err, refl, sym, ap, ◌∙◌, append_assoc, arith}
+use Rattle.std.proofs.Common.{◌≡◌, ℕ, ◌<◌, Bool, true, false, not, cond, List, [], ◌∷◌, ◌++◌, length, Option, Some, None, Ok, Err, refl, sym, ap, ◌∙◌, append_assoc, arith}
 use Rattle.std.proofs.Common.{length-append, inl, inr}
 use Rattle.std.specs.Prelude.{IfOk, ◌≢◌}
 use Rattle.std.proofs.lemmas.Bool.{false≢true}
+use Rattle.cw_lemmas.proofs.Truths.{and_first}
 use Rattle.cw_syntax.specs.declared.program.Name.{Name}
 use Rattle.cw_syntax.specs.declared.program.Param.{Param}
 use Rattle.cw_syntax.specs.Trees.{Tree, Trees, Prototype}
@@ -97,10 +98,7 @@ array_sound ts =
     (λ e. ([], refl, refl))
 
 pub more_comma : (ts : List Lexeme) → more_elements ts ≡ true → begins w.Comma ts ≡ true
-more_comma ts e = by_first (begins w.Comma ts) (begins w.CloseBrace (after ts)) e where
-  by_first : (a b : Bool) → (a && not b) ≡ true → a ≡ true
-  by_first true b f = refl
-  by_first false b f = absurd (false≢true f)
+more_comma ts e = and_first (begins w.Comma ts) (not (begins w.CloseBrace (after ts))) e
 
 elements_sound : (ts : List Lexeme) → IfOk (elements ts) (Took (AreElements Allowed) ts)
 unfolding elements
@@ -225,10 +223,7 @@ abbrev TakesParams : List Lexeme → List Param × List Lexeme → Type 0
 TakesParams ts x = (a : List Lexeme) × (ts ≡ a ++ x.1) × (begins w.Close x.1 ≡ true → AreParams a x.0)
 
 void_takes : (ts : List Lexeme) → is_void ts ≡ true → TakesParams ts ([], after ts)
-void_takes ts e = let t = begins_takes w.Void refl ts (by_first (begins w.Void ts) (begins w.Close (after ts)) e) in (t.0 ∷ [], t.1, λ close. inl (one w.Void t.0 t.2, refl)) where
-  by_first : (a b : Bool) → (a && b) ≡ true → a ≡ true
-  by_first true b f = refl
-  by_first false b f = absurd (false≢true f)
+void_takes ts e = let t = begins_takes w.Void refl ts (and_first (begins w.Void ts) (begins w.Close (after ts)) e) in (t.0 ∷ [], t.1, λ close. inl (one w.Void t.0 t.2, refl))
 
 not_void : (a rest : List Lexeme) → is_void (a ++ rest) ≡ false → begins w.Close rest ≡ true → words a ≢ w.Void ∷ []
 not_void [] rest e close same_words = absurd (cc)

@@ -1,5 +1,5 @@
 -- Headers are read as what they are.
-use Rattle.std.proofs.Common.{◌≡◌, ℕ, zero, suc, Bool, true, false, ◌&&◌, cond, List, [], ◌∷◌, ◌++◌, replicate, Option, Some, None, Ok, Err, refl, sym, ap, ◌∙◌, append_assoc, arith, inl, inr}
+use Rattle.std.proofs.Common.{◌≡◌, ℕ, zero, suc, Bool, true, false, cond, List, [], ◌∷◌, ◌++◌, replicate, Option, Some, None, Ok, Err, refl, sym, ap, ◌∙◌, append_assoc, arith, inl, inr}
 use Rattle.std.specs.Prelude.{◌≢◌}
 use Rattle.std.proofs.lemmas.Bool.{false≢true}
 use Rattle.cw_syntax.specs.declared.program.Name.{Name}
@@ -30,7 +30,7 @@ use Rattle.cw_parse.proofs.DeclarationsSound.{param_sound, HasHeader}
 use Rattle.cw_parse.proofs.Wording.{starts_declarator, ends_item, ends_param, follows_name, param_follows, stars_again, stars_start}
 use Rattle.cw_grammar.proofs.Wording.{one_word as one_token, two_words as two_tokens}
 use Rattle.cw_parse.proofs.DeclarationsComplete.{specifiers_again, name_again, name_starts, three, four, between_again, Any, initialiser_next, array_next}
-use Rattle.cw_lemmas.proofs.Truths.{and_first as both_true}
+use Rattle.cw_lemmas.proofs.Truths.{and_first as both_true, and_false}
 
 abbrev ok_prototype : Prototype → List Lexeme → Read Prototype
 ok_prototype p rest = Ok (p, rest)
@@ -200,10 +200,7 @@ never_void (t ∷ []) c rest h other e is =
 never_void (t ∷ u ∷ a) c rest h other e is =
     let p = open_by t.word (u.word ∷ words a) h in
     let q = open_by u.word (words a) p.1 in
-    rw q.0 (and_false (same t.word w.Void)) where
-      and_false : (b : Bool) → (b && false) ≡ false
-      and_false true = refl
-      and_false false = refl
+    rw q.0 (and_false (same t.word w.Void))
 
 module _ (D : Type 0) where
   reads_param : (ts : List Lexeme) (p : Param) (rest : List Lexeme) → IsParam ts p → Starts ends_param rest → Reads D (param (ts ++ rest)) (p, rest)
