@@ -11,9 +11,6 @@ use Rattle.cw_grammar.specs.Files.{Part, Declares, Holds, Defines}
 use Rattle.cw_parse.specs.declared.files.FilePart.{FilePart}
 use Rattle.cw_parse.specs.declared.files.FilePart.TheVariants.{Prototype as ProtoPiece, Global as GlobalPiece, Function as FunctionPiece}
 
-abbrev pub tested : Expr × Bor (List Lexeme) → Tree × List Lexeme
-tested x = (tree_of x.0, x.1.now)
-
 abbrev pub optional : (Option Expr × ℕ) × Bor (List Lexeme) → (Option Tree × ℕ) × List Lexeme
 optional x = ((option_map tree_of x.0.0, x.0.1), x.1.now)
 

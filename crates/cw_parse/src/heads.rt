@@ -3,8 +3,9 @@
 ghost use Rattle.std.specs.Prelude.{◌≡◌};
 ghost use Rattle.cw_syntax.specs.Trees.{Form, form_of};
 ghost use Rattle.cw_expressions.specs.Cursor.{Gives};
+ghost use Rattle.cw_expressions.specs.View.{seen};
 ghost use Rattle.cw_parse.specs.StatementReading.{condition, ended, declares, declared, evaluated, start, short, returned};
-ghost use Rattle.cw_parse.specs.StatementView.{tested, optional, one, perhaps};
+ghost use Rattle.cw_parse.specs.StatementView.{optional, one, perhaps};
 
 use crate::declarations::declaration_at;
 use crate::initialisers::optional_expression_at;
@@ -23,7 +24,7 @@ pub(crate) fn test_at<'t>(
     alloc: Global,
     tokens: &'t [Lexeme],
 ) -> Result<(Expr, &'t [Lexeme]), Refusal>
-    ensures { Gives tested result (condition tokens.now) }
+    ensures { Gives seen result (condition tokens.now) }
 {
     let (_, rest) = take(tokens, Word::Open)?;
     let (test, rest) = read_expression(alloc, rest)?;
