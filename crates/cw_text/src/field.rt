@@ -7,6 +7,7 @@ ghost use Rattle.cw_core.specs.Numerals.{hexadecimal};
 ghost use Rattle.cw_core.specs.Ranges.{set_spelling};
 ghost use Rattle.cw_text.specs.Lines.{set_text, IsSetIn, Reads};
 
+use cw_core::limits::PRODUCT_STATES;
 use cw_core::{StateSet, read_dec, read_hex, read_ranges};
 
 /// The number whose decimal, without leading zeros, a word is; none where it is that of none up to `most`.
@@ -74,5 +75,5 @@ fn mask_of(word: &[u8]) -> Option<StateSet>
 fn is_below_512(set: &StateSet) -> bool
     ensures { IsTrue result ↔ IsBelow 512 set.now }
 {
-    set.is_subset(&StateSet::empty().complement_in(512))
+    set.is_subset(&StateSet::empty().complement_in(PRODUCT_STATES as u16))
 }
