@@ -9,11 +9,11 @@ ghost use Rattle.cw_table_text.specs.Working.{head_fields, table_of, FitsHead, H
 
 use crate::draft::Draft;
 use crate::fields::take_mem;
-use crate::line::{behind, is_same, name_and_inner};
+use crate::line::name_and_inner;
 use cw_core::{MemId, NoMemory};
 use cw_io::{SureSink, Writer};
 use cw_rights::Policy;
-use cw_text::{TextFault, Words, next_line, put_limits};
+use cw_text::{TextFault, Words, behind, is_same, next_line, put_limits};
 use std::alloc::Global;
 
 /// The line of a policy's limits, with its LF, put into a sink in memory.

@@ -1,6 +1,6 @@
 //! The line of a row.
 
-ghost use Rattle.std.specs.Prelude.{◌≡◌, ◌≢◌, ◌↔◌, ◌++◌, IfSome, IfNone, IsTrue, ℕ, List, codes, option_map};
+ghost use Rattle.std.specs.Prelude.{codes, option_map};
 ghost use Rattle.cw_text.specs.Lines.{Reads};
 ghost use Rattle.cw_table_text.specs.Grammar.{Fits};
 ghost use Rattle.cw_table_text.specs.Rows.{row_words};
@@ -22,28 +22,6 @@ pub(crate) fn name_and_inner(line: &[u8]) -> Option<(&[u8], &[u8])>
         return None;
     }
     Some((name, inner))
-}
-
-/// Whether two texts have the same bytes.
-pub(crate) fn is_same(text: &[u8], other: &[u8]) -> bool
-    ensures { IsTrue result ↔ (text.now ≡ other.now) }
-{
-    text == other
-}
-
-/// What follows a front of a text; none where the text has another front.
-pub(crate) fn behind<'t>(text: &'t [u8], front: &[u8]) -> Option<&'t [u8]>
-    ensures some { IfSome result (λ rest. text.now ≡ front.now ++ rest.now) }
-    ensures none { IfNone result ((rest : List ℕ) → text.now ≢ front.now ++ rest) }
-{
-    if text.len() < front.len() {
-        return None;
-    }
-    let (head, rest) = text.split_at(front.len());
-    if !is_same(head, front) {
-        return None;
-    }
-    Some(rest)
 }
 
 /// The row whose fields stand first among the words.

@@ -10,9 +10,9 @@ ghost use Rattle.cw_table_text.specs.Rows.{called, rows_of};
 ghost use Rattle.cw_table_text.specs.Working.{table_of, IsRowLine};
 
 use crate::draft::Draft;
-use crate::line::behind;
 use crate::rows::MOST_ROWS;
 use cw_core::{MemId, PosId, read_dec};
+use cw_text::behind;
 
 /// The number of 32 bits with which a text begins, before a mark, and what stands behind the mark.
 fn number_before(text: &[u8], mark: u8) -> Option<(u32, &[u8])>

@@ -5,11 +5,11 @@ ghost use Rattle.cw_table_text.specs.Rows.{rows_of};
 ghost use Rattle.cw_table_text.specs.Working.{table_of, IsGood, IsEmpty, RowsRead, IsNextLine, seen};
 
 use crate::draft::Draft;
-use crate::line::{is_same, read_row};
+use crate::line::read_row;
 use crate::live::next_live;
 use crate::row::Row;
 use cw_core::limits::ROWS;
-use cw_text::{TextFault, next_line};
+use cw_text::{TextFault, is_same, next_line};
 
 /// The most rows that a text has.
 pub(crate) const MOST_ROWS: u32 = ROWS as u32;

@@ -1,9 +1,31 @@
-//! Texts that are cut at a byte.
+//! Texts that are cut at a byte, and behind a front.
 
-ghost use Rattle.std.specs.Prelude.{◌≡◌, ◌++◌, ◌∷◌, IfSome, IfNone};
+ghost use Rattle.std.specs.Prelude.{◌≡◌, ◌≢◌, ◌↔◌, ◌++◌, ◌∷◌, ℕ, List, IfSome, IfNone, IsTrue};
 ghost use Rattle.cw_text.specs.Lines.{IsFree};
 
 use memchr::memchr;
+
+/// Whether two texts have the same bytes.
+pub fn is_same(text: &[u8], other: &[u8]) -> bool
+    ensures { IsTrue result ↔ (text.now ≡ other.now) }
+{
+    text == other
+}
+
+/// What follows a front of a text; none where the text has another front.
+pub fn behind<'t>(text: &'t [u8], front: &[u8]) -> Option<&'t [u8]>
+    ensures some { IfSome result (λ rest. text.now ≡ front.now ++ rest.now) }
+    ensures none { IfNone result ((rest : List ℕ) → text.now ≢ front.now ++ rest) }
+{
+    if text.len() < front.len() {
+        return None;
+    }
+    let (head, rest) = text.split_at(front.len());
+    if !is_same(head, front) {
+        return None;
+    }
+    Some(rest)
+}
 
 /// What stands before the first mark of a text, and what stands after it; none where the text has no mark.
 pub fn cut(text: &[u8], mark: u8) -> Option<(&[u8], &[u8])>

@@ -13,7 +13,7 @@ mod tape_moves;
 mod tapes;
 mod words;
 
-pub use cutting::{cut, next_line};
+pub use cutting::{behind, cut, is_same, next_line};
 pub use fault::TextFault;
 pub use field::{number_of, set_of};
 pub use limits::{descriptor_name, put_limits};

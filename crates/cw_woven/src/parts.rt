@@ -1,6 +1,6 @@
 //! The parts of a text.
 
-ghost use Rattle.std.specs.Prelude.{◌≡◌, ◌≢◌, ◌↔◌, ◌++◌, ℕ, List, IfSome, IfNone, IfOk, IsTrue, map};
+ghost use Rattle.std.specs.Prelude.{◌≡◌, IfSome, IfNone, IfOk, map};
 ghost use Rattle.cw_syntax.specs.PlainMarks.{HasNone};
 ghost use Rattle.cw_woven.specs.Parts.{IsCutAt, without};
 ghost use Rattle.cw_woven.specs.Held.{piece_of};
@@ -20,28 +20,6 @@ pub(crate) const CLOSING: &[u8] = b"/*}cw*/";
 pub(crate) struct Piece<'t> {
     pub gap: &'t [u8],
     pub inner: &'t [u8],
-}
-
-/// Whether two texts have the same bytes.
-pub(crate) fn is_same(text: &[u8], other: &[u8]) -> bool
-    ensures { IsTrue result ↔ (text.now ≡ other.now) }
-{
-    text == other
-}
-
-/// What follows a front of a text; none where the text has another front.
-pub(crate) fn behind<'t>(text: &'t [u8], front: &[u8]) -> Option<&'t [u8]>
-    ensures some { IfSome result (λ rest. text.now ≡ front.now ++ rest.now) }
-    ensures none { IfNone result ((rest : List ℕ) → text.now ≢ front.now ++ rest) }
-{
-    if text.len() < front.len() {
-        return None;
-    }
-    let (head, rest) = text.split_at(front.len());
-    if !is_same(head, front) {
-        return None;
-    }
-    Some(rest)
 }
 
 /// What stands before the first place of a word in a text, and what stands behind it; none where the word stands nowhere.

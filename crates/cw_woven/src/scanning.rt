@@ -6,8 +6,9 @@ ghost use Rattle.cw_woven.specs.Held.{piece_of, IsNext, IsScanned, IsScanFault, 
 ghost use Rattle.cw_woven.specs.Reading.{IsMark};
 
 use crate::fault::WovenFault;
-use crate::parts::{CLOSING, OPENING, Piece, behind, cut_at};
+use crate::parts::{CLOSING, OPENING, Piece, cut_at};
 use crate::spelling::is_spelling;
+use cw_text::behind;
 use std::alloc::Global;
 
 /// A text in parts: the lines in its prologue, its marks, and what stands behind the last of them.

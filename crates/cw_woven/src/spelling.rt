@@ -7,11 +7,10 @@ ghost use Rattle.cw_syntax.specs.Marks.{mark_of};
 ghost use Rattle.cw_emit.specs.Woven.{spelled};
 ghost use Rattle.cw_woven.specs.Woven.{IsNumber, IsNumbered, IsNamed, IsNumberedMark, IsNamedMark, IsSpelling};
 
-use crate::parts::{behind, is_same};
 use cw_rights::{Policy, is_name};
 use cw_syntax::marks::{MarkKind, SeamMark};
 use cw_syntax::names::text;
-use cw_text::{cut, descriptor_name, number_of};
+use cw_text::{behind, cut, descriptor_name, is_same, number_of};
 
 /// What stands between a front and a back; none where the bytes aren't these with something between them.
 fn between<'t>(bytes: &'t [u8], front: &[u8], back: &[u8]) -> Option<&'t [u8]>
