@@ -1,9 +1,9 @@
 -- The point of a position: the last one that begins at or before it.
 use Rattle.std.proofs.Common.{◌≡◌, ℕ, zero, suc, ◌+◌, ◌-◌, ◌<◌, ◌≤◌, List, [], ◌∷◌, true, false, length, take, get_or, nat_le, sym, subst}
-use Rattle.std.proofs.Common.{inl, inr, arith}
+use Rattle.std.proofs.Common.{arith}
 use Rattle.std.specs.List.{sum_by}
 use Rattle.std.specs.List.Sorted.{IsNonDecreasing, IsPartitionPoint}
-use Rattle.std.proofs.lemmas.Bool.Decides.{nat_tests, leb_tells}
+use Rattle.std.proofs.lemmas.Bool.{leb-true, leb-false}
 use Rattle.cw_rights.specs.Policies.{PlainPolicy, policy_of}
 use Rattle.cw_points.specs.declared.graph.Node.{Node}
 use Rattle.cw_points.specs.declared.graph.Graph.{Graph}
@@ -43,12 +43,6 @@ module _ (g : Graph) (policy : PlainPolicy) where
 
   module _ (found : List ℕ) (are : found ≡ bases g policy) (p i : ℕ) (there : p < length (spots g policy)) (bound : i ≤ length found)
       (point : IsPartitionPoint (λ b. nat_le b p ≡ true) (λ b. nat_le b p ≡ false) found i) where
-    below : (n : ℕ) → nat_le n p ≡ true → n ≤ p
-    below n e = grind (arith, nat_tests)
-
-    above : (n : ℕ) → nat_le n p ≡ false → p < n
-    above n e = grind (arith, nat_tests)
-
     size : length found ≡ length g.nodes.items + 1
     size = subst (λ l. length l ≡ length g.nodes.items + 1) (sym are) (bases_length g policy)
 
@@ -56,10 +50,10 @@ module _ (g : Graph) (policy : PlainPolicy) where
     here k l = subst (λ bs. get_or bs k 0 ≡ base_of g policy k) (sym are) (at k 0 l)
 
     passed : (k : ℕ) → k < i → k < length g.nodes.items + 1 → base_of g policy k ≤ p
-    passed k l m = omega (arith, here k m, below (get_or found k 0) (point.0 k 0 (omega arith) l))
+    passed k l m = omega (arith, here k m, leb-true (get_or found k 0) p (point.0 k 0 (omega arith) l))
 
     ahead : (k : ℕ) → i ≤ k → k < length g.nodes.items + 1 → p < base_of g policy k
-    ahead k l m = omega (arith, here k m, above (get_or found k 0) (point.1 k 0 l (omega (arith, m, size))))
+    ahead k l m = omega (arith, here k m, leb-false (get_or found k 0) p (point.1 k 0 l (omega (arith, m, size))))
 
     pub some : 0 < i
     some = not_more 1 i (λ l. nothing_below p (ahead 0 (omega (arith, l)) (omega arith)))
