@@ -1,10 +1,9 @@
 -- The seams of a program's graph are those of its positions, each with its stages.
-use Rattle.std.proofs.Common.{◌≡◌, ℕ, zero, suc, ◌+◌, ◌<◌, List, [], ◌∷◌, ◌++◌, length, map, Bool, true, false, nat_eq, nat_lt, Option, Some}
+use Rattle.std.proofs.Common.{◌≡◌, ℕ, zero, suc, ◌+◌, List, [], ◌∷◌, ◌++◌, length, map, Bool, true, false, nat_eq, nat_lt, Option, Some}
 use Rattle.std.proofs.Common.{None, refl, sym, ap, ◌∙◌, subst, arith, ⊎_elim, zero-add, eq-eqb}
 use Rattle.std.specs.Prelude.{slice_get}
 use Rattle.std.specs.List.{list_any}
-use Rattle.std.proofs.lemmas.Bool.{eqb-true}
-use Rattle.std.proofs.lemmas.Bool.Decides.{nat_tests}
+use Rattle.std.proofs.lemmas.Bool.{eqb-true, lt-ltb, ltb-true}
 use Rattle.std.proofs.lemmas.Option.{none-some, same_Some, slice_get_within}
 use Rattle.cw_rights.specs.declared.capabilities.Limit.{Limit as ALimit}
 use Rattle.cw_rights.specs.declared.capabilities.Primitive.{Primitive}
@@ -37,12 +36,7 @@ use Rattle.cw_positions.proofs.Seaming.{is_seam_point, AreSeams, seams_of_plan, 
 use Rattle.cw_lemmas.proofs.Truths.{truths_same as bool_same}
 use Rattle.std.proofs.lemmas.Map.Keys.{any_passes_from_place as at_any}
 use Rattle.cw_lemmas.proofs.Lists.{any_get as any_at}
-
-lt_true : (m n : ℕ) → m < n → nat_lt m n ≡ true
-lt_true m n h = grind (arith, nat_tests)
-
-true_lt : (m n : ℕ) → nat_lt m n ≡ true → m < n
-true_lt m n h = grind (arith, nat_tests)
+use Rattle.cw_lemmas.proofs.Numbers.{nat_eq_self}
 
 pub get_front : {A : Type 0} (a b : List A) (i : ℕ) (x : A) → slice_get a i ≡ Some x → slice_get (a ++ b) i ≡ Some x
 get_front [] b i x e = absurd (none-some x e)
@@ -101,9 +95,6 @@ module _ (policy : PlainPolicy) (parts : List Part) where
   seam_spot n j (spot.Exit f) h e = cc
   seam_spot n j (spot.Step next) h e = cc
 
-  same_seam : (j : ℕ) → nat_eq j j ≡ true
-  same_seam j = eq-eqb j j refl
-
   visit_seen : (w : Point) (f j l r : ℕ) (split : Bool) → primitives_at policy parts w ≡ primitives policy split
       → (m : ℕ) × (s : Spot) × (slice_get (visits j 0 (primitives_at policy parts w) ++ free parts w f j l r) m ≡ Some s) × (has_seam j s ≡ true)
   visit_seen w f j l r split e =
@@ -113,7 +104,7 @@ module _ (policy : PlainPolicy) (parts : List Part) where
         spot.Visit j (0 + 0) a.0,
         get_front (visits j 0 (primitives_at policy parts w)) (free parts w f j l r) v.0 (spot.Visit j (0 + 0) a.0)
             v.1,
-        same_seam j,
+        nat_eq_self j,
       )
 
   -- a point with a seam has a position with it
@@ -123,8 +114,8 @@ module _ (policy : PlainPolicy) (parts : List Part) where
   seam_seen point.Step f j l r h = cc
   seam_seen point.Branch f j l r h = cc
   seam_seen (point.Label m) f j l r h = visit_seen (point.Label m) f j l r false refl
-  seam_seen (point.Open d) f j l r h = (0, spot.Open j d l, refl, same_seam j)
-  seam_seen (point.Close d) f j l r h = (0, spot.Close j d l, refl, same_seam j)
+  seam_seen (point.Open d) f j l r h = (0, spot.Open j d l, refl, nat_eq_self j)
+  seam_seen (point.Close d) f j l r h = (0, spot.Close j d l, refl, nat_eq_self j)
   seam_seen (point.Call m) f j l r h = visit_seen (point.Call m) f j l r (is_split parts m) refl
   seam_seen point.Exit f j l r h = cc
 
@@ -197,11 +188,11 @@ module _ (g : Graph) (policy : PlainPolicy) (are : AreSeams 0 0 g.nodes.items g.
           let r = positions_are_of_points g policy q.0 q.1 q.2 in
           let k = seam_spot policy parts r.1 j q.1 r.3 q.3 in
           let s = seam_of r.0 r.1 j r.2 k.0 k.1 in
-          lt_true j (length ss) (slice_get_within ss j s.0 s.1)
+          lt-ltb j (length ss) (slice_get_within ss j s.0 s.1)
 
       back : nat_lt j (length g.seams.items) ≡ true → list_any (has_seam j) (spots g policy) ≡ true
       back t =
-          let s = get_below ss j (true_lt j (length ss) t) in
+          let s = get_below ss j (ltb-true j (length ss) t) in
           let n = point_of j s.0 s.1 in
           let at = base policy parts ns in
           let v = seam_seen policy parts n.0.point n.0.function j (to at (first_of n.0.next)) (to at (second_of n.0.next)) n.3 in
@@ -222,18 +213,18 @@ module _ (g : Graph) (policy : PlainPolicy) (are : AreSeams 0 0 g.nodes.items g.
           let s = seam_of r.0 r.1 j r.2 k.0 k.1 in
           let within = slice_get_within (primitives_at policy parts r.1.point) i k.2.0 k.2.1 in
           let en = subst (λ p. slice_get ns p ≡ Some r.1) (sym s.2) r.2 in
-          ap (nat_lt i) (stages_are j s.0 r.1 s.1 en) ∙ lt_true i (length (primitives_at policy parts r.1.point)) within
+          ap (nat_lt i) (stages_are j s.0 r.1 s.1 en) ∙ lt-ltb i (length (primitives_at policy parts r.1.point)) within
 
       back : (o : Option Seam) → slice_get g.seams.items j ≡ o → nat_lt i (stages_of g policy j) ≡ true
           → list_any (has_stage j i) (spots g policy) ≡ true
       back None es t =
           let z : nat_lt i 0 ≡ true = sym (ap (λ o. nat_lt i (stages_at policy parts (node_of ns o))) es) ∙ t in
-          let lt = true_lt i 0 z in
+          let lt = ltb-true i 0 z in
           absurd (omega arith)
       back (Some s) es t =
           let n = point_of j s es in
           let ps = primitives_at policy parts n.0.point in
-          let a = get_below ps i (true_lt i (length ps) (sym (ap (nat_lt i) (stages_are j s n.0 es n.1)) ∙ t)) in
+          let a = get_below ps i (ltb-true i (length ps) (sym (ap (nat_lt i) (stages_are j s n.0 es n.1)) ∙ t)) in
           let at = base policy parts ns in
           let v = visit_get j 0 ps i a.0 a.1 in
           let rest = free parts n.0.point n.0.function j (to at (first_of n.0.next)) (to at (second_of n.0.next)) in
