@@ -1,5 +1,5 @@
 -- Tables, row by row.
-use Rattle.std.proofs.Common.{◌≡◌, ℕ, zero, suc, ◌+◌, ◌*◌, ◌<◌, List, [], ◌∷◌, ◌++◌, length, get_or, map, refl, sym, ap, ap₂, ◌∙◌, arith, append_assoc, append-nil}
+use Rattle.std.proofs.Common.{◌≡◌, ℕ, zero, suc, ◌+◌, ◌*◌, ◌<◌, List, [], ◌∷◌, ◌++◌, length, get_or, map, refl, sym, ap, ap₂, ◌∙◌, arith, append_assoc, append-nil, one-add}
 use Rattle.std.specs.Int.RustNames.{bit_and}
 use Rattle.std.proofs.lemmas.List.{get_or-map, length-map}
 use Rattle.std.proofs.lemmas.Nat.{and_assoc, div-mul-add, mod-mul-add}
@@ -32,11 +32,7 @@ module _ {A : Type 0} where
   tabled_first : (f : ℕ → A) (n : ℕ) → tabled f (suc n) ≡ f 0 ∷ tabled (λ j. f (suc j)) n
   tabled_first f n =
       let e : suc n ≡ 1 + n = omega arith in
-      ap (tabled f) e ∙ tabled_append f 1 n ∙ ap (λ l. f 0 ∷ l) (tabled_same (λ j. f (1 + j)) (λ j. f (suc j)) n (λ j l. ap f (one_more j)))
-    where
-      one_more : (j : ℕ) → 1 + j ≡ suc j
-      one_more j = omega arith
-
+      ap (tabled f) e ∙ tabled_append f 1 n ∙ ap (λ l. f 0 ∷ l) (tabled_same (λ j. f (1 + j)) (λ j. f (suc j)) n (λ j l. ap f (one-add j)))
 map_tabled : {A B : Type 0} (xs : List A) (h : A → B) (f : ℕ → B) (d : A) → ((j : ℕ) → j < length xs → h (get_or xs j d) ≡ f j) → map h xs ≡ tabled f (length xs)
 map_tabled [] h f d e = refl
 map_tabled (x ∷ xs) h f d e = ap₂ (λ y l. y ∷ l) (e 0 (omega arith)) (map_tabled xs h (λ j. f (suc j)) d (λ j l. e (suc j) (omega (arith, l))))
