@@ -5,6 +5,7 @@ use Rattle.std.specs.Prelude.{slice_get, option_and_then, option_map}
 use Rattle.std.proofs.lemmas.List.{drop_all}
 use Rattle.cw_syntax.specs.declared.marks.SeamMark.{SeamMark as MarkData}
 use Rattle.std.specs.List.{filter_map, cons_option}
+use Rattle.std.proofs.lemmas.List.Elements.{filter_map-append}
 use Rattle.cw_syntax.specs.Names.{Names}
 use Rattle.cw_syntax.specs.Trees.{File}
 use Rattle.cw_syntax.specs.Plans.{Stm, Plain, Break, Continue, Return, Open, Close, Call, Group, Label, If, While, Do, For, Stms, end, then, Routine, plan_of}
@@ -19,14 +20,6 @@ use Rattle.cw_points.specs.Graphs.{seams_in_all, seams_from, IsGraph}
 use Rattle.cw_points.specs.Marking.{mark, mark_at, mark_in, marks_by}
 use Rattle.cw_points.proofs.Held.{HasAt, has_front, has_behind, has_all}
 use Rattle.cw_points.proofs.Lengths.{nodes_length, nodes_length_all, init_length, step_length}
-
-joined : {A B : Type 0} (h : A → Option B) (xs ys : List A) → filter_map h (xs ++ ys) ≡ filter_map h xs ++ filter_map h ys
-joined h [] ys = refl
-joined h (x ∷ xs) ys = ap (cons_option (h x)) (joined h xs ys) ∙ put (h x) (filter_map h xs) (filter_map h ys)
-  where
-    put : {B : Type 0} (o : Option B) (a b : List B) → cons_option o (a ++ b) ≡ cons_option o a ++ b
-    put None a b = refl
-    put (Some x) a b = refl
 
 module _ (g : List Node) where
   -- the mark of a seam whose point stands at its number
@@ -49,7 +42,7 @@ module _ (g : List Node) where
     marks_are f (If at s t) n k x b c h =
         let l = nodes_in f s (n + 1) k x b c in
         let r = nodes_in f t (n + 1 + count s) k x b c in
-        joined (mark_in g) (seams_in s (n + 1)) (seams_in t (n + 1 + count s))
+        filter_map-append (mark_in g) (seams_in s (n + 1)) (seams_in t (n + 1 + count s))
         ∙ ap₂ (λ a b. a ++ b) (marks_are f s (n + 1) k x b c (has_front g (n + 1) l r h.1))
         (marks_are f t (n + 1 + count s) k x b c (has_behind g (n + 1) (count s) l r (nodes_length f s (n + 1) k x b c) h.1))
     marks_are f (While at s) n k x b c h = marks_are f s (n + 1) n x (Some k) (Some n) h.1
@@ -72,7 +65,7 @@ module _ (g : List Node) where
         let m = first (count_all ss) (n + count s) k in
         let l = nodes_in f s n m x b c in
         let r = nodes_in_all f ss (n + count s) k x b c in
-        joined (mark_in g) (seams_in s n) (seams_in_all ss (n + count s))
+        filter_map-append (mark_in g) (seams_in s n) (seams_in_all ss (n + count s))
         ∙ ap₂ (λ a b. a ++ b) (marks_are f s n m x b c (has_front g n l r h))
         (marks_are_all f ss (n + count s) k x b c (has_behind g n (count s) l r (nodes_length f s n m x b c) h))
 
@@ -91,7 +84,7 @@ module _ (g : List Node) where
       marked (seam n r.mark None) (node point.Entry f (Some (first (count_all r.body) (n + 1) x)) (Some r.seam)) (mark r.mark r.seam EntryMark)
       (seams_in_all r.body (n + 1) ++ seams_from rs (x + 1)) mine.0 refl
       ∙ ap (λ ms. mark r.mark r.seam EntryMark ∷ ms)
-      (joined (mark_in g) (seams_in_all r.body (n + 1)) (seams_from rs (x + 1))
+      (filter_map-append (mark_in g) (seams_in_all r.body (n + 1)) (seams_from rs (x + 1))
       ∙ ap₂ (λ a b. a ++ b) (marks_are_all f r.body (n + 1) x x None None (has_front g (n + 1) body exit mine.1)) (marks_from_are (f + 1) rs (x + 1) others))
 
 pub marks_of_graph : (names : Names) (source : List ℕ) (file : File) (g : Graph) → IsGraph names source file g → marks_by g.nodes.items g.seams.items ≡ marks_of (plan_of names source file)
