@@ -5,6 +5,7 @@ use Rattle.std.specs.Int.{bit_at}
 use Rattle.std.specs.Int.RustNames.{bit_or, bit_and}
 use Rattle.std.proofs.lemmas.Nat.Bits.{bit_at_or, bit_at-lt, bit_at-pow_same, bit_at-pow_other, bit_at_above, same_from_bits, bit_at-zero}
 use Rattle.std.proofs.lemmas.Bool.Decides.{nat_tests}
+use Rattle.std.proofs.lemmas.Nat.{or_comm}
 use Rattle.cw_rights.specs.declared.words.Letter.{Letter}
 use Rattle.cw_rights.specs.Trees.{Tree, nothing, never, one, seq, alt, star, plus, maybe, count}
 use Rattle.cw_rights.specs.Words.{fits}
@@ -102,10 +103,6 @@ goes_tabled r k e set table l h =
     let u : unite table 64 set ≡ unite (λ p. goes r k false (2 ^ p)) 64 set = unite_same table (λ p. goes r k false (2 ^ p)) 64 set (λ p m. h p m ∙ sym (goes_pow r k p)) in
     let b : goes r k false set ≡ unite (λ p. goes r k false (2 ^ p)) 64 set = ap (goes r k false) (sym (below_all set l)) ∙ goes_united r k 64 set in
     ap₂ bit_or (sym (goes_start r k e)) (u ∙ sym b) ∙ or_comm (goes r k e 0) (goes r k false set) ∙ sym (goes_apart r k e set)
-  where
-    or_comm : (a b : ℕ) → bit_or a b ≡ bit_or b a
-    or_comm a b = same_from_bits _ _ (λ i. let x = bit_at_or a b i in let y = bit_at_or b a i in omega arith)
-
 -- the literals that match a letter
 matching_within : (r : Tree) (k : ℕ) (c : Letter) (p : ℕ) → has (matching r k c) p ≡ true → (k ≤ p) × (p < k + count r)
 matching_within r k c p e = picked_within (λ l. fits l c) r k p e

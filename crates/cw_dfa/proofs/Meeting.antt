@@ -4,6 +4,8 @@ use Rattle.std.specs.Int.{bit_at}
 use Rattle.std.specs.Int.RustNames.{bit_or, bit_and}
 use Rattle.std.proofs.lemmas.Nat.Bits.{bit_at_or, bit_at_and, and_pow, bit_at-lt, same_from_bits, bit_at-zero}
 use Rattle.std.proofs.lemmas.Nat.{and_comm, pow_pos}
+use Rattle.cw_lemmas.proofs.Numbers.{zero_mul}
+use Rattle.cw_lemmas.proofs.Truths.{and_true, and_false}
 use Rattle.cw_rights.specs.Trees.{Tree, nothing, never, one, seq, alt, star, plus, maybe, count}
 use Rattle.cw_rights.specs.Policies.{PlainRule}
 use Rattle.cw_dfa.specs.Sets.{has, skips, ends}
@@ -73,12 +75,8 @@ meets_pow set k = ap some (and_pow set k) ∙ by (nat_eq (bit_at set k) 1) refl
         let n : bit_at set k ≢ 1 = λ q. let z = eq-eqb (bit_at set k) 1 q in cc in
         let l = bit_at-lt set k in
         let x : bit_at set k ≡ 0 = omega arith in
-        let y : bit_at set k * 2 ^ k ≡ 0 = rw x (none_of (2 ^ k)) in
+        let y : bit_at set k * 2 ^ k ≡ 0 = rw x (zero_mul (2 ^ k)) in
         ap some y
-      where
-        none_of : (n : ℕ) → 0 * n ≡ 0
-        none_of n = omega arith
-
 pub pow_meets : (set p : ℕ) → meets (2 ^ p) set ≡ has set p
 pow_meets set p = ap some (and_comm (2 ^ p) set) ∙ meets_pow set p
 
@@ -90,14 +88,6 @@ ends_lasts (one l) k set = sym (meets_pow set k)
 ends_lasts (seq r s) k set = ap₂ (λ a b. (a && skips s) || b) (ends_lasts r k set) (ends_lasts s (k + count r) set) ∙ ap (λ a. a || meets set (lasts s (k + count r))) (by (skips s))
     ∙ sym (meets_or set (cond (skips s) (lasts r k) 0) (lasts s (k + count r)))
   where
-    and_true : (a : Bool) → (a && true) ≡ a
-    and_true true = refl
-    and_true false = refl
-
-    and_false : (a : Bool) → (a && false) ≡ false
-    and_false true = refl
-    and_false false = refl
-
     by : (t : Bool) → (meets set (lasts r k) && t) ≡ meets set (cond t (lasts r k) 0)
     by true = and_true (meets set (lasts r k))
     by false = and_false (meets set (lasts r k)) ∙ sym (meets_none set)

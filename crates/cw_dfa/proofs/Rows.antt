@@ -4,14 +4,8 @@ use Rattle.std.specs.Int.RustNames.{bit_or}
 use Rattle.cw_rights.specs.declared.words.Regex.{Regex}
 use Rattle.cw_rights.specs.declared.words.Regex.TheVariants.{Cat, Or}
 use Rattle.cw_rights.specs.Trees.{Literal, count, tree_of, seq_of, alt_of}
-use Rattle.cw_rights.proofs.Rows.{cat_tree, or_tree}
+use Rattle.cw_rights.proofs.Rows.{or_tree, cat_count}
 use Rattle.cw_dfa.specs.Tables.{picked}
-
-pub cat_is : (r : Regex) (v : Vec Regex Global) (items : List Regex) → r ≡ Cat v → items ≡ v.items → tree_of r ≡ seq_of items
-cat_is r v items e f = cat_tree r v e ∙ sym (ap seq_of f)
-
-pub or_is : (r : Regex) (v : Vec Regex Global) (items : List Regex) → r ≡ Or v → items ≡ v.items → tree_of r ≡ alt_of items
-or_is r v items e f = or_tree r v e ∙ sym (ap alt_of f)
 
 -- the literals are counted and matched alike in both
 alt_count : (parts : List Regex) → count (alt_of parts) ≡ count (seq_of parts)
@@ -21,9 +15,6 @@ alt_count (r ∷ rest) = ap (λ n. count (tree_of r) + n) (alt_count rest)
 alt_picked : (f : Literal → Bool) (parts : List Regex) (k : ℕ) → picked f (alt_of parts) k ≡ picked f (seq_of parts) k
 alt_picked f [] k = refl
 alt_picked f (r ∷ rest) k = ap (λ n. bit_or (picked f (tree_of r) k) n) (alt_picked f rest (k + count (tree_of r)))
-
-pub cat_count : (r : Regex) (v : Vec Regex Global) → r ≡ Cat v → count (tree_of r) ≡ count (seq_of v.items)
-cat_count r v e = ap count (cat_tree r v e)
 
 pub or_count : (r : Regex) (v : Vec Regex Global) → r ≡ Or v → count (tree_of r) ≡ count (seq_of v.items)
 or_count r v e = ap count (or_tree r v e) ∙ alt_count v.items
