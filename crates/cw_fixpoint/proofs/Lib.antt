@@ -1,11 +1,14 @@
+-- The proofs.
 pub mod Keys
 pub mod Members
 pub mod Reach
--- The proofs.
 pub mod Descending
 pub mod Numbers
 mod Holding
+pub mod Places
+pub mod Hints
 mod Orders
+mod Ending
 pub mod Reaching
 pub mod Existing
 mod Different

@@ -6,7 +6,7 @@ use Rattle.std.specs.List.{Contains}
 use Rattle.std.specs.List.Sorted.{IsStrictlySortedBy, IsNonDecreasingBy, IsPartitionPoint, IsSortedBy}
 use Rattle.std.specs.declared.cmp.Ordering.{Ordering}
 use Rattle.std.specs.declared.cmp.Ordering.TheVariants.{Less, Equal, Greater}
-use Rattle.std.specs.Ordering.{ordering_index, ordering_reverse, ordering_then, is_eq, is_lt, eq_by_cmp}
+use Rattle.std.specs.Ordering.{ordering_index, ordering_reverse, is_eq, is_lt, eq_by_cmp}
 use Rattle.std.specs.Cmp.{IsTotalOrder, tied_itself}
 use Rattle.std.proofs.lemmas.Bool.{cases_lt}
 use Rattle.std.proofs.lemmas.Bool.Decides.{nat_tests}
@@ -14,7 +14,7 @@ use Rattle.std.proofs.lemmas.Map.Keys.{Less-from_sorted}
 use Rattle.std.proofs.lemmas.List.Sorted.{searchable_from_sorted}
 use Rattle.std.proofs.lemmas.Option.{slice_get-get_or, slice_get_within, get_or_from_slice_get}
 use Rattle.cw_fixpoint.specs.Numbers.{number_in}
-use Rattle.cw_lemmas.proofs.Orders.{is_eq_equal as at_equal, then_equal as both_equal}
+use Rattle.cw_lemmas.proofs.Orders.{is_eq_equal as at_equal}
 
 not_less : (r s : Ordering) → s ≡ ordering_reverse r → r ≡ Less → is_lt s ≡ false
 not_less Less s e f = ap is_lt e

@@ -3,11 +3,9 @@ use Rattle.std.proofs.Common.{◌≡◌, ◌⊎◌, inl, inr, ℕ, ◌+◌, ◌<
 use Rattle.std.proofs.Common.{length-append, eqb-true, nat_eq}
 use Rattle.std.proofs.lemmas.List.{get_or_append_left, get_or_default}
 use Rattle.std.specs.List.{Contains}
-use Rattle.std.specs.List.Sorted.{IsStrictlySortedBy}
 use Rattle.std.specs.declared.cmp.Ordering.{Ordering}
 use Rattle.std.proofs.lemmas.Bool.Decides.{nat_tests}
 use Rattle.std.proofs.lemmas.List.Elements.{Contains-append_left, Contains-append_right, Contains-append_cases}
-use Rattle.cw_fixpoint.specs.Closures.{Exactly}
 use Rattle.cw_fixpoint.specs.Seen.{SeenIs, Adds}
 use Rattle.cw_fixpoint.specs.Members.{Rules, IsMember, first, then, joins, AreMet, IsPair, pair_cmp, HaveMore}
 use Rattle.cw_fixpoint.specs.Working.{PutsIn, held_if, met_by, join_of, Below, Reached}
@@ -187,22 +185,8 @@ module _ {K G : Type 0} (r : Rules K G) (start : K) where
     pub all_paired : (ab : K × K) → IsPair r start ab → Contains pairs ab
     all_paired ab m = let w = m.met in h.paired ab.0 ab.1 w.0 (below ab.0 (all_seen ab.0 m.waiting)) (below ab.1 (all_seen ab.1 m.ending)) w.1 w.2
 
-    pub exactly_members : (cmp : K → K → Ordering) (set v : List K) → SeenIs cmp seen set → v ≡ set → IsStrictlySortedBy cmp v → Exactly cmp (IsMember r start) v
-    exactly_members cmp set v s e o = (o, λ k. (λ c. h.needed k ((s.same k).1 (subst (λ y. Contains y k) e c)), λ n. subst (λ y. Contains y k) (sym e) ((s.same k).0 (all_seen k n))))
-
   pub are_pairs : (seen : List K) (pairs : List (K × K)) (W E : G → List K) (i : ℕ) → Reached r start seen pairs W E i → (ab : K × K) → Contains pairs ab → IsPair r start ab
   are_pairs seen pairs W E i h ab c = let m = h.are_met ab c in record { waiting = h.needed ab.0 m.0; ending = h.needed ab.1 m.1; met = m.2 }
-
-  pub exactly_pairs : (seen : List K) (pairs : List (K × K)) (W E : G → List K) (i : ℕ) → Reached r start seen pairs W E i → length seen ≤ i → (cmp : K → K → Ordering) (set v : List (K × K))
-      → SeenIs (pair_cmp cmp) pairs set → v ≡ set → IsStrictlySortedBy (pair_cmp cmp) v → Exactly (pair_cmp cmp) (IsPair r start) v
-  exactly_pairs seen pairs W E i h l cmp set v s e o = (
-    o,
-    λ k. (
-      λ c. are_pairs seen pairs W E i h k ((s.same k).1 (subst (λ y. Contains y k) e c)),
-      λ n. subst (λ y. Contains y k) (sym e)
-          ((s.same k).0 (all_paired seen pairs W E i h l k n)),
-    ),
-  )
 
   pub have_more : (seen : List K) (pairs : List (K × K)) (W E : G → List K) (i : ℕ) → Reached r start seen pairs W E i → (cmp : K → K → Ordering) (set : List K) (pair_set : List (K × K))
       → SeenIs cmp seen set → SeenIs (pair_cmp cmp) pairs pair_set → (n : ℕ) → n < length seen + length pairs → HaveMore cmp r start n

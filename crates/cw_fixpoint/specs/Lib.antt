@@ -4,3 +4,5 @@ pub mod Descents
 pub mod Numbers
 pub mod Members
 pub mod Working
+pub mod Seeing
+pub mod Searching

@@ -4,9 +4,7 @@ use Rattle.std.specs.declared.cmp.Ordering.{Ordering}
 use Rattle.std.specs.BTreeMap.{BTreeMap, get}
 use Rattle.std.specs.Global.{Vec}
 use Rattle.std.specs.List.{Contains}
-use Rattle.cw_fixpoint.specs.Seen.{SeenIs}
-use Rattle.cw_fixpoint.specs.Members.{Rules, IsMember, AreMet, pair_cmp}
-use Rattle.cw_fixpoint.specs.declared.joined.Search.{Search}
+use Rattle.cw_fixpoint.specs.Members.{Rules, IsMember, AreMet}
 
 -- what is held for a group
 abbrev pub items_in : {K : Type 0} → Option (Vec K) → List K
@@ -50,15 +48,3 @@ pub record Reached {K G : Type 0} (r : Rules K G) (start : K) (seen : List K) (p
   pub is_waiting : (a : K) (g : G) → Contains (waiting g) a → Contains seen a × (r.waits a ≡ Some g)
   pub is_ended : (b : K) (g : G) → Contains (ended g) b → Contains seen b × (r.ends b ≡ Some g)
   pub far : i ≤ length seen
-
--- what a search keeps
-pub record Keeps {K G : Type 0} (cmp : K → K → Ordering) (groups : G → G → Ordering) (r : Rules K G) (start : K) (s : Search K G) (i : ℕ) : Type 0 where
-  pub keys : SeenIs cmp s.seen.items s.set.keys
-  pub pairs : SeenIs (pair_cmp cmp) s.pairs.items s.pair_set.keys
-  pub reached : Reached r start s.seen.items s.pairs.items (held groups s.waiting) (held groups s.ended) i
-
--- all of it was worked off, or it is more than so many
-pub record Searched {K G : Type 0} (cmp : K → K → Ordering) (groups : G → G → Ordering) (r : Rules K G) (start : K) (s : Search K G) (most : ℕ) : Type 0 where
-  pub passed : ℕ
-  pub so_far : Keeps cmp groups r start s passed
-  pub done : (length s.seen.items ≤ passed) ⊎ (most < length s.seen.items + length s.pairs.items)

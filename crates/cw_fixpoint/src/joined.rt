@@ -1,17 +1,19 @@
 //! The least set that has a key, is closed under steps, and has the join of each two members of one group.
 
-ghost use Rattle.std.specs.Prelude.{◌≡◌, ◌+◌, ◌<◌, ◌≤◌, ◌++◌, [], ◌∷◌, List, length, map, nat_lt, IfOk, OnOk, IfSome, IfNone};
+ghost use Rattle.std.specs.Prelude.{◌≡◌, ◌+◌, ◌<◌, ◌≤◌, ◌++◌, List, length, map, nat_lt, IfOk, OnOk, IfSome, IfNone};
 ghost use Rattle.std.specs.FinMap.{IsAntisymmetric};
 ghost use Rattle.std.specs.List.{Contains};
 ghost use Rattle.cw_fixpoint.specs.Closures.{Exactly};
 ghost use Rattle.cw_fixpoint.specs.Members.{IsMember, IsPair, HaveMore, pair_cmp};
-ghost use Rattle.cw_fixpoint.specs.Working.{join_of, Keeps, Searched};
+ghost use Rattle.cw_fixpoint.specs.Working.{join_of};
+ghost use Rattle.cw_fixpoint.specs.Searching.{Keeps, Searched};
 
 use crate::holds::{hold_in, met_by};
+use crate::indices::{Indices, NoIndices};
+use crate::indexed::{Seen, in_order, none_seen, see, see_all};
 use crate::joins::Joins;
-use crate::sees::{in_order, see, see_all};
 use std::alloc::{AllocError, Global};
-use std::collections::{BTreeMap, BTreeSet};
+use std::collections::BTreeMap;
 
 /// The members, ascending, and the pairs of a member that waits for a group and one that ends it, ascending by the first,
 /// then by the second.
@@ -21,23 +23,21 @@ pub struct Joined<K> {
     pub pairs: Vec<(K, K)>,
 }
 
-/// What a search saw: keys and pairs, each once, in the order in which they came, and what waits for a group and ended it
-/// among the keys that were worked off.
+/// What a search saw: keys and pairs, and what waits for a group and ended it among the keys that were worked off.
 #[derive(Drop)]
 pub(crate) struct Search<K: Ord + Copy + Drop, G: Ord + Copy + Drop> {
-    pub(crate) seen: Vec<K>,
-    pub(crate) set: BTreeSet<K>,
-    pub(crate) pairs: Vec<(K, K)>,
-    pub(crate) pair_set: BTreeSet<(K, K)>,
+    pub(crate) seen: Seen<K>,
+    pub(crate) pairs: Seen<(K, K)>,
     pub(crate) waiting: BTreeMap<G, Vec<K>>,
     pub(crate) ended: BTreeMap<G, Vec<K>>,
 }
 
 /// The members and the pairs, each once and in order; none where they are together more than so many. The one error is
 /// want of memory.
-pub fn joined_up_to<K: Ord + Copy + Drop, G: Ord + Copy + Drop, J: Joins<K, G>>(
+pub fn joined_up_to<K: Ord + Copy + Drop, G: Ord + Copy + Drop, J: Joins<K, G>, I: Indices<K>>(
     alloc: Global,
     joins: &J,
+    indices: &I,
     start: K,
     most: usize,
 ) -> Result<Option<Joined<K>>, AllocError>
@@ -51,12 +51,12 @@ pub fn joined_up_to<K: Ord + Copy + Drop, G: Ord + Copy + Drop, J: Joins<K, G>>(
     ensures few { IfOk result (λ joined. IfSome joined (λ j. length j.members.items + length j.pairs.items ≤ most)) }
     ensures many { IfOk result (λ joined. IfNone joined (HaveMore K.cmp (J.rules joins.now) start most)) }
 {
-    let search = search_all(alloc, joins, start, most)?;
-    if are_more(&search.seen, &search.pairs, most) {
+    let search = search_all(alloc, joins, indices, start, most)?;
+    if are_more(&search.seen.keys, &search.pairs.keys, most) {
         return Ok(None);
     }
-    let members = in_order(alloc, search.set)?;
-    let pairs = in_order(alloc, search.pair_set)?;
+    let members = in_order(alloc, search.seen)?;
+    let pairs = in_order(alloc, search.pairs)?;
     Ok(Some(Joined { members, pairs }))
 }
 
@@ -68,53 +68,57 @@ fn are_more<K>(keys: &Vec<K>, pairs: &Vec<(K, K)>, most: usize) -> bool
 }
 
 /// Works off what is seen, until that and its pairs are more than so many.
-fn search_all<K: Ord + Copy + Drop, G: Ord + Copy + Drop, J: Joins<K, G>>(
+fn search_all<K: Ord + Copy + Drop, G: Ord + Copy + Drop, J: Joins<K, G>, I: Indices<K>>(
     alloc: Global,
     joins: &J,
+    indices: &I,
     start: K,
     most: usize,
 ) -> Result<Search<K, G>, AllocError>
     requires exact { IsAntisymmetric K.cmp }
     requires groups { IsAntisymmetric G.cmp }
     requires can { J.can_follow joins.now start }
-    ensures searched { IfOk result (λ search. Searched K.cmp G.cmp (J.rules joins.now) start search most) }
+    ensures searched { IfOk result (λ search. Searched K.cmp G.cmp (J.rules joins.now) (I.index indices.now) start search most) }
 {
-    let mut search = begun(alloc, joins, start)?;
+    let mut search = begun(alloc, joins, indices, start)?;
     let mut next = Vec::new(alloc);
     let mut at: usize = 0;
-    'keys: while at < search.seen.len() && !are_more(&search.seen, &search.pairs, most) {
-        work(alloc, joins, start, &mut search, at, &mut next)?;
+    'keys: while at < search.seen.keys.len()
+        && !are_more(&search.seen.keys, &search.pairs.keys, most)
+    {
+        work(alloc, joins, indices, start, &mut search, at, &mut next)?;
         at += 1;
     }
     Ok(search)
 }
 
 /// The start alone is seen.
-fn begun<K: Ord + Copy + Drop, G: Ord + Copy + Drop, J: Joins<K, G>>(
+fn begun<K: Ord + Copy + Drop, G: Ord + Copy + Drop, J: Joins<K, G>, I: Indices<K>>(
     alloc: Global,
     joins: &J,
+    indices: &I,
     start: K,
 ) -> Result<Search<K, G>, AllocError>
     requires exact { IsAntisymmetric K.cmp }
-    ensures keeps { IfOk result (λ search. Keeps K.cmp G.cmp (J.rules joins.now) start search 0) }
+    ensures keeps { IfOk result (λ search. Keeps K.cmp G.cmp (J.rules joins.now) (I.index indices.now) start search 0) }
 {
-    let mut seen = Vec::new(alloc);
-    let mut set = BTreeSet::new(alloc);
-    see(&mut seen, &mut set, start)?;
+    let mut seen = none_seen(alloc, indices)?;
+    see(indices, &mut seen, start)?;
+    let pairs = none_seen(alloc, &NoIndices)?;
     Ok(Search {
         seen,
-        set,
-        pairs: Vec::new(alloc),
-        pair_set: BTreeSet::new(alloc),
+        pairs,
         waiting: BTreeMap::new(alloc),
         ended: BTreeMap::new(alloc),
     })
 }
 
-/// Works off the next key: holds it for its groups, and sees what follows it, its pairs and their joins. Before that `next` may have any keys.
-fn work<K: Ord + Copy + Drop, G: Ord + Copy + Drop, J: Joins<K, G>>(
+/// Works off the next key: holds it for its groups, and sees what follows it, its pairs and their joins. Before that
+/// `next` may have any keys.
+fn work<K: Ord + Copy + Drop, G: Ord + Copy + Drop, J: Joins<K, G>, I: Indices<K>>(
     alloc: Global,
     joins: &J,
+    indices: &I,
     start: K,
     search: &mut Search<K, G>,
     at: usize,
@@ -123,11 +127,11 @@ fn work<K: Ord + Copy + Drop, G: Ord + Copy + Drop, J: Joins<K, G>>(
     requires exact { IsAntisymmetric K.cmp }
     requires groups { IsAntisymmetric G.cmp }
     requires can { J.can_follow joins.now start }
-    requires keeps { Keeps K.cmp G.cmp (J.rules joins.now) start search.old at }
-    requires within { at < length search.old.seen.items }
-    ensures keeps { OnOk result (Keeps K.cmp G.cmp (J.rules joins.now) start search.new (at + 1)) }
+    requires keeps { Keeps K.cmp G.cmp (J.rules joins.now) (I.index indices.now) start search.old at }
+    requires within { at < length search.old.seen.keys.items }
+    ensures keeps { OnOk result (Keeps K.cmp G.cmp (J.rules joins.now) (I.index indices.now) start search.new (at + 1)) }
 {
-    let key = search.seen[at];
+    let key = search.seen.keys[at];
     let waits = joins.waits(key);
     let ends = joins.ends(key);
     hold_in(alloc, &mut search.waiting, waits, key)?;
@@ -136,8 +140,8 @@ fn work<K: Ord + Copy + Drop, G: Ord + Copy + Drop, J: Joins<K, G>>(
     next.clear();
     joins.put_after(key, next)?;
     put_joins(joins, &met, next)?;
-    see_all(&mut search.seen, &mut search.set, next)?;
-    see_all(&mut search.pairs, &mut search.pair_set, &met)?;
+    see_all(indices, &mut search.seen, next)?;
+    see_all(&NoIndices, &mut search.pairs, &met)?;
     Ok(())
 }
 

@@ -2,7 +2,7 @@
 
 use crate::key::Key;
 use cw_core::StateSet;
-use cw_indexed_fixpoint::Indices;
+use cw_fixpoint::Indices;
 use cw_product::Game;
 
 /// The indices of all keys of a game, by position, then by state, then by promise, as keys ascend.

@@ -1,10 +1,10 @@
 use Rattle.std.proofs.Common.{◌-◌, ◌≤◌}
-use Rattle.cw_fixpoint.specs.Working.{Keeps}
+use Rattle.cw_fixpoint.specs.Searching.{Keeps}
 use Rattle.cw_fixpoint.proofs.joined.search_all.Given as goal
 
 abbrev pub invariant-keys : goal.invariant-keys
 invariant-keys g l = record {
-  keeps : Keeps g.K.Ord.cmp g.G.Ord.cmp (g.J.Joins.rules l.joins) l.start l.search l.at;
+  keeps : Keeps g.K.Ord.cmp g.G.Ord.cmp (g.J.Joins.rules l.joins) (g.I.Indices.index l.indices) l.start l.search l.at;
   few : l.at ≤ l.most;
 }
 

@@ -35,7 +35,7 @@ put_joins-requires g c =
     let of = member_has r c.args.start (g.J.Joins.can_follow s) c.requires.can (λ k q. g.met.J.Joins.keeps s k q) (λ a b x. g.met.J.Joins.joins_keep s a b x) in
     record {
       can = λ ab d.
-          let z = met_seen r c.args.start c.args.search.now.seen.items c.args.search.now.pairs.items (held g.G.Ord.cmp c.args.search.now.waiting) (held g.G.Ord.cmp c.args.search.now.ended)
+          let z = met_seen r c.args.start c.args.search.now.seen.keys.items c.args.search.now.pairs.keys.items (held g.G.Ord.cmp c.args.search.now.waiting) (held g.G.Ord.cmp c.args.search.now.ended)
           (held g.G.Ord.cmp c.hold_in.new.map) (held g.G.Ord.cmp c.hold_in-2.new.map) c.args.at c.index-key.result.now h c.requires.within c.index-key.ensures
           c.waits-waits.result c.ends-ends.result c.waits-waits.ensures.waits c.ends-ends.ensures.ends c.in_ok-hold_in.ensures.puts c.in_ok-hold_in-2.ensures.puts c.in_ok-met.met.items
           c.deref.result.now c.in_ok-met.ensures.met c.deref.ensures.value ab d in
@@ -49,7 +49,7 @@ returns g c =
       keeps = record {
         keys = c.in_ok-see_all.ensures.same;
         pairs = c.in_ok-see_all-2.ensures.same;
-        reached = worked r c.args.start c.args.search.now.seen.items c.see_all.new.seen.items c.args.search.now.pairs.items c.see_all-2.new.seen.items
+        reached = worked r c.args.start c.args.search.now.seen.keys.items c.see_all.new.seen.keys.items c.args.search.now.pairs.keys.items c.see_all-2.new.seen.keys.items
             (held g.G.Ord.cmp c.args.search.now.waiting) (held g.G.Ord.cmp c.args.search.now.ended) (held g.G.Ord.cmp c.hold_in.new.map) (held g.G.Ord.cmp c.hold_in-2.new.map) c.args.at
             c.index-key.result.now c.requires.keeps.reached c.requires.within c.index-key.ensures
             c.waits-waits.result c.ends-ends.result c.waits-waits.ensures.waits c.ends-ends.ensures.ends c.in_ok-hold_in.ensures.puts c.in_ok-hold_in-2.ensures.puts c.in_ok-met.met.items

@@ -1,5 +1,0 @@
--- The proofs.
-pub mod Places
-pub mod Hints
-mod Holding
-mod Ending
