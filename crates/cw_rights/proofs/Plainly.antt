@@ -212,9 +212,3 @@ star_finds p w i l e f = sym (chain_step p w (omega arith) ∙ below_has (length
 
 pub cat_finds : (r s : Tree) (w : Word) (i : ℕ) → i < length w + 1 → plain r (take i w) ≡ true → plain s (drop i w) ≡ true → plain (seq r s) w ≡ true
 cat_finds r s w i l e f = below_has (length w + 1) (λ i. plain r (take i w) && plain s (drop i w)) i l (and_both _ _ e f)
-
-pub take_all : {A : Type 0} (l : List A) (n : ℕ) → length l ≤ n → take n l ≡ l
-take_all [] zero h = refl
-take_all [] (suc n) h = refl
-take_all (x ∷ l) zero h = absurd (omega arith)
-take_all (x ∷ l) (suc n) h = ap (λ y. x ∷ y) (take_all l n (omega arith))

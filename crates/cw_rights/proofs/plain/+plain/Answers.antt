@@ -1,9 +1,10 @@
 use Rattle.std.proofs.Common.{rules, ◌≡◌, ◌+◌, ◌-◌, ◌<◌, ◌≤◌, ◌&&◌, true, false, ◌∷◌, take, drop, length, length-take, length-drop, ap, ap₂, sym, ◌∙◌, subst, arith}
+use Rattle.std.proofs.lemmas.List.{take_all}
 use Rattle.cw_rights.specs.Trees.{tree_of, seq_of, alt_of}
 use Rattle.cw_rights.specs.Plain.{plain, some_below, chain, cost}
 use Rattle.cw_rights.proofs.Rows.{cat_of, or_of}
 use Rattle.cw_rights.proofs.Along.{drop_item}
-use Rattle.cw_rights.proofs.Plainly.{cost_rises, star_piece, star_rest, star_ends, star_finds, cat_finds, if_some, take_all}
+use Rattle.cw_rights.proofs.Plainly.{cost_rises, star_piece, star_rest, star_ends, star_finds, cat_finds, if_some}
 use Rattle.cw_rights.proofs.plain.+plain.Goals as goal
 
 pub plain-plain_cat-requires : goal.plain-plain_cat-requires
