@@ -6,9 +6,10 @@ use Rattle.cw_rights.specs.Words.{Word, Matches, fits}
 use Rattle.cw_dfa.specs.Positions.{Reads}
 use Rattle.cw_dfa.specs.Sets.{has, skips, ends, reads}
 use Rattle.std.proofs.lemmas.Bool.{or_cases, or_left, or_right, and_from as and_both}
+use Rattle.std.proofs.lemmas.List.{same_from_push}
 use Rattle.cw_lemmas.proofs.Truths.{and_first as and_left, and_second as and_right}
 use Rattle.cw_dfa.proofs.Bools.{has_or_cases, has_or_left, has_or_right, has_none, has_pow, has_pow_only}
-use Rattle.cw_rights.proofs.Pieces.{NotNil, nil_or_not, not_nil_right, not_nil, cut_again, cut_before, last_cut, plus_of, star_of, last_of}
+use Rattle.cw_rights.proofs.Pieces.{NotNil, nil_or_not, not_nil_right, not_nil, cut_again, cut_before, plus_of, star_of, last_of}
 
 -- a way into the expression at E, and on through it
 abbrev pub Within : (Word → Type 0) → Tree → ℕ → Word → ℕ → Type 0
@@ -235,7 +236,7 @@ reads_exact (one l) E k w set c enter h d p = (to (enter && fits l c) refl, back
     back : Within E (one l) k (w ++ c ∷ []) p → has (cond (enter && fits l c) (2 ^ k) 0) p ≡ true
     back i =
         let m = i.4.1 in
-        let z = last_cut i.0 w m.0 c (i.2 ∙ ap (λ y. i.0 ++ y) m.1) in
+        let z = same_from_push w i.0 c m.0 (i.2 ∙ ap (λ y. i.0 ++ y) m.1) in
         let t : (enter && fits l c) ≡ true = and_both _ _ (d.1 (subst E (sym z.0) i.3)) (subst (λ y. fits l y ≡ true) (sym z.1) m.2) in
         rw t (subst (λ y. has (2 ^ k) y ≡ true) (sym i.4.0) (has_pow k))
 reads_exact (seq r s) E k w set c enter h d p =

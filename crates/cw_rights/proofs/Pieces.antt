@@ -1,6 +1,5 @@
 -- Words cut in two, and words in pieces.
 use Rattle.std.proofs.Common.{◌≡◌, ◌⊎◌, inl, inr, List, [], ◌∷◌, ◌++◌, refl, sym, ap, ◌∙◌, subst, append_assoc, append-nil}
-use Rattle.cw_rights.specs.declared.words.Letter.{Letter}
 use Rattle.cw_rights.specs.Trees.{Tree, star, plus}
 use Rattle.cw_rights.specs.Words.{Word, Pieces, Matches}
 
@@ -31,13 +30,6 @@ cut_again w x y u v e f = e ∙ ap (λ z. z ++ y) f ∙ append_assoc u v y
 -- w = x ++ y, y = u ++ v: w = (x ++ u) ++ v
 pub cut_before : (w x y u v : Word) → w ≡ x ++ y → y ≡ u ++ v → w ≡ (x ++ u) ++ v
 cut_before w x y u v e f = e ∙ ap (λ z. x ++ z) f ∙ sym (append_assoc x u v)
-
--- where a word and a letter are cut before one letter
-pub last_cut : (x w : Word) (d c : Letter) → w ++ c ∷ [] ≡ x ++ d ∷ [] → (w ≡ x) × (c ≡ d)
-last_cut [] [] d c e = (refl, cc)
-last_cut [] (a ∷ w) d c e = absurd (not_nil (w ++ c ∷ []) (not_nil_right w (c ∷ []) tt) (cc))
-last_cut (b ∷ x) [] d c e = absurd (not_nil (x ++ d ∷ []) (not_nil_right x (d ∷ []) tt) (cc))
-last_cut (b ∷ x) (a ∷ w) d c e = let t : w ++ c ∷ [] ≡ x ++ d ∷ [] = cc in let z = last_cut x w d c t in let f : a ≡ b = cc in let g = z.0 in let h = z.1 in (cc, h)
 
 -- pieces, and one more behind them
 pub pieces_snoc : (P : Word → Type 0) (us : List Word) (v y : Word) → Pieces P us v → P y → Pieces P (us ++ y ∷ []) (v ++ y)
