@@ -20,6 +20,7 @@ use crate::operators::{
 };
 use crate::refusal::Refusal;
 use crate::types::{begins_type, type_between_at};
+use cw_core::limits::NESTING;
 use cw_grammar::rules::Rule;
 use cw_grammar::words::{Lexeme, Word, is_same};
 use cw_syntax::program::{Expr, Name, Op};
@@ -609,13 +610,13 @@ fn argument_at<'t>(
     })
 }
 
-/// An expression, nested within the limit of 64.
+/// An expression, nested within the limit.
 #[inline(always)]
 #[tactic(auto, unfolding(crate::specs::Next::next_expression, cw_grammar::specs::Expressions::nesting_limit))]
 fn expression_next<'t>(alloc: Global, tokens: &'t [Lexeme]) -> Result<(Expr, &'t [Lexeme]), Refusal>
     ensures { Gives seen result (next_expression tokens.now) }
 {
-    let found = read(alloc, 64, Rule::Expression, tokens)?;
+    let found = read(alloc, NESTING as u32, Rule::Expression, tokens)?;
     Ok((found.tree, found.rest))
 }
 

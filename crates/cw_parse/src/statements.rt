@@ -11,6 +11,7 @@ ghost use Rattle.cw_parse.specs.StatementView.{one, several};
 use crate::heads::{
     declared_at, declares_next, ended_at, evaluated_at, returned_at, short_at, start_at, test_at,
 };
+use cw_core::limits::NESTING;
 use cw_expressions::cursor::{begins_with, past, take};
 use cw_expressions::refusal::Refusal;
 use cw_grammar::words::{Lexeme, Word};
@@ -280,5 +281,5 @@ pub(crate) fn statements_at<'t>(
 ) -> Result<(Vec<Stmt>, &'t [Lexeme]), Refusal>
     ensures { Gives several result (many (read_statement nesting_limit true) goes_on ([], tokens.now)) }
 {
-    listed_at(alloc, 64, tokens)
+    listed_at(alloc, NESTING as u32, tokens)
 }
