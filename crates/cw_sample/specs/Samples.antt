@@ -2,12 +2,9 @@
 use Rattle.std.specs.Prelude.{◌≡◌, ◌<◌, ◌≤◌, ◌⊎◌, ℕ, zero, suc, ◌+◌, List, [], ◌++◌, Option, Some, None, cond, if◌then◌else◌, nat_lt, codes}
 use Rattle.std.specs.Fmt.{decimal}
 use Rattle.std.specs.Str.{bytes_eq}
+use Rattle.cw_text.specs.Lines.{line}
 use Rattle.cw_sample.specs.declared.sample.SampleFault.{SampleFault}
 use Rattle.cw_sample.specs.declared.sample.SampleFault.TheVariants.{OutOfRange, NoMemory}
-
--- a line ends with LF
-abbrev pub line : List ℕ → List ℕ
-line words = words ++ codes "\n"
 
 -- The first function is split; no label `w` may be reached with ambient authority, the label `done` may not without it.
 abbrev pub sample_policy : List ℕ
