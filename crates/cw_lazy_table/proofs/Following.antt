@@ -16,7 +16,7 @@ use Rattle.cw_product.specs.declared.turn.Turn.{Turn}
 use Rattle.cw_product.specs.declared.turn.Turn.TheVariants as turn
 use Rattle.cw_product.specs.Moves.{IsPosition, IsState, pair_of, numbers, is_left_in, next_in, turn_in}
 use Rattle.cw_product.specs.Product.{Held as HeldGame, game_of}
-use Rattle.cw_solve.specs.Contexts.{context}
+use Rattle.cw_solve.specs.Contexts.{context, returning}
 use Rattle.cw_product.specs.Routed.{targets}
 use Rattle.cw_solve.specs.Solved.{Held}
 use Rattle.cw_solve.proofs.Calling.{the_call, called}
@@ -26,7 +26,7 @@ use Rattle.cw_solve.proofs.Tabling.{there}
 use Rattle.cw_solve.proofs.Turning.{turn_call}
 use Rattle.cw_lazy_table.specs.declared.key.Key.{Key}
 use Rattle.cw_solve.specs.Numbering.{IsUnder}
-use Rattle.cw_lazy_table.specs.Choices.{lost_in, promised, promised_in, set_in, returning, CanFollow}
+use Rattle.cw_lazy_table.specs.Choices.{lost_in, promised, promised_in, set_in, CanFollow}
 use Rattle.cw_lazy_table.specs.Closing.{key, moves_on, visited, begun, answered, gone_on, rules, waits, ends, back}
 use Rattle.cw_lazy_table.specs.Following.{moved_by, skip_or_try, put_if}
 use Rattle.cw_lazy_table.specs.Live.{IsLive}

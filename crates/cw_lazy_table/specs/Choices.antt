@@ -39,10 +39,6 @@ choices g = rules g (lost_in g) (set_in g)
 abbrev pub start_of : Game → Key
 start_of g = key (g.entry g.main) g.states.start (all_states g)
 
--- a call that returns to this position, as far as its return goes
-abbrev pub returning : ℕ → Bool → Called
-returning back split = record { seam = 0; function = 0; back = back; split = split }
-
 -- a game, and the same game solved, in which the lazy table can begin
 pub record IsReady (h : HeldGame) (s : Held) : Type 0 where
   pub same : s.game ≡ h

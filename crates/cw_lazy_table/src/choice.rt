@@ -3,7 +3,8 @@
 ghost use Rattle.std.specs.Prelude.{◌≡◌, ◌<◌};
 ghost use Rattle.cw_product.specs.Product.{game_of};
 ghost use Rattle.cw_solve.specs.Numbering.{IsUnder, IsNumberOf};
-ghost use Rattle.cw_lazy_table.specs.Choices.{lost_in, promised, returning, IsReady};
+ghost use Rattle.cw_solve.specs.Contexts.{returning};
+ghost use Rattle.cw_lazy_table.specs.Choices.{lost_in, promised, IsReady};
 
 use cw_core::{PosId, StateId, StateSet};
 use cw_product::Game;

@@ -1,7 +1,7 @@
 -- Working definitions, for proofs and contracts inside: what the code's values stand for, and where it looks a height up.
 use Rattle.std.specs.Prelude.{◌≡◌, ℕ, ◌<◌, List, map, Bool, Some, length, slice_get}
 use Rattle.cw_game.specs.Games.{Game}
-use Rattle.cw_game.specs.Pairs.{Called, all_states}
+use Rattle.cw_game.specs.Pairs.{all_states}
 use Rattle.cw_product.specs.Product.{game_of}
 use Rattle.cw_solve.specs.declared.contexts.Context.{Context}
 use Rattle.cw_product.specs.Routed.{IsOf}
@@ -41,10 +41,6 @@ IsThere g p aim = IsUnder g p (others g aim)
 -- a call stands at p, which returns to this position, plain or split
 abbrev pub IsCall : Game → (p back : ℕ) → Bool → Type 0
 IsCall g p back split = (function : ℕ) × HasCall g p function back split
-
--- a call that returns to this position, as far as its return goes
-abbrev pub returning : ℕ → Bool → Called
-returning back split = record { seam = 0; function = 0; back = back; split = split }
 
 -- the key of a pair below a key, for an aim, and the way of a move that leads there
 abbrev pub key_at : ℕ → Lower → Key

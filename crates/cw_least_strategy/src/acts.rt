@@ -4,8 +4,9 @@ ghost use Rattle.std.specs.Prelude.{◌≡◌, ℕ, ◌<◌, [], map, length, If
 ghost use Rattle.std.specs.List.{cons_option};
 ghost use Rattle.cw_product.specs.Product.{game_of};
 ghost use Rattle.cw_product.specs.Routed.{AreRouted};
-ghost use Rattle.cw_least_strategy.specs.Acts.{act_of, key_at, way_at, IsIn, IsCall, returning};
+ghost use Rattle.cw_least_strategy.specs.Acts.{act_of, key_at, way_at, IsIn, IsCall};
 ghost use Rattle.cw_solve.specs.Tables.{HasCall};
+ghost use Rattle.cw_solve.specs.Contexts.{returning};
 ghost use Rattle.cw_least_strategy.specs.Kept.{IsKey};
 ghost use Rattle.cw_least_strategy.specs.Strategies.{way, sooner, best, moves, after_return, aim_at, backs_at, act};
 

@@ -1,6 +1,6 @@
 -- The heights of pairs, and the contexts that a game needs: what each function is promised where it is called. Public source: the summaries of
 -- visibly pushdown games of Löding, Madhusudan and Serre (2004).
-use Rattle.std.specs.Prelude.{◌≡◌, ℕ, ◌+◌, ◌-◌, ◌*◌, ◌<◌, List, true, false, ◌&&◌, Option, Some, None, nat_lt, slice_get, sum_by, Contains, AllPairs, ◌≢◌}
+use Rattle.std.specs.Prelude.{◌≡◌, ℕ, ◌+◌, ◌-◌, ◌*◌, ◌<◌, List, true, false, ◌&&◌, Option, Some, None, nat_lt, slice_get, sum_by, Contains, AllPairs, ◌≢◌, Bool}
 use Rattle.cw_solve.specs.declared.contexts.Context.{Context}
 use Rattle.cw_game.specs.Games.{Game, returned, Promise, Holds}
 use Rattle.cw_product.specs.Routed.{IsOf}
@@ -24,6 +24,10 @@ pub record IsHeight (g : Game) (p q promise n : ℕ) : Type 0 where
 abbrev pub HeightIs : Game → ℕ → ℕ → ℕ → Option ℕ → Type 0
 HeightIs g p q promise (Some n) = IsHeight g p q promise n
 HeightIs g p q promise None = (n : ℕ) → Holds g n p q (has promise) ≡ true
+
+-- a call that returns to this position, as far as its return goes
+abbrev pub returning : ℕ → Bool → Called
+returning back split = record { seam = 0; function = 0; back = back; split = split }
 
 -- What a call promises for n moves: the exit states from which the return holds for so many under the caller's promise. `kept` is the state at a
 -- split call.

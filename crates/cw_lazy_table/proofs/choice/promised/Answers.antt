@@ -1,6 +1,6 @@
 use Rattle.std.proofs.Common.{◌≡◌, ◌∙◌, arith}
 use Rattle.cw_product.specs.Product.{game_of}
-use Rattle.cw_lazy_table.specs.Choices.{returning}
+use Rattle.cw_solve.specs.Contexts.{returning}
 use Rattle.cw_lazy_table.proofs.Looking.{promised_is, under}
 use Rattle.cw_lazy_table.proofs.choice.promised.Goals as goal
 

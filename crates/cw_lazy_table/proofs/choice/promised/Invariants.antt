@@ -1,7 +1,8 @@
 use Rattle.std.proofs.Common.{◌≡◌, ℕ, nat_lt, ◌&&◌}
 use Rattle.cw_core.specs.StateSet.{has}
 use Rattle.cw_product.specs.Product.{game_of}
-use Rattle.cw_lazy_table.specs.Choices.{returning, is_kept_back}
+use Rattle.cw_solve.specs.Contexts.{returning}
+use Rattle.cw_lazy_table.specs.Choices.{is_kept_back}
 use Rattle.cw_lazy_table.proofs.choice.promised.Given as goal
 
 abbrev pub invariant-loop-x : goal.invariant-loop-x

@@ -1,6 +1,6 @@
 use Rattle.std.proofs.Common.{◌≡◌, ap, ◌∙◌, arith}
 use Rattle.cw_product.specs.Product.{Held, game_of}
-use Rattle.cw_least_strategy.specs.Acts.{returning}
+use Rattle.cw_solve.specs.Contexts.{returning}
 use Rattle.cw_least_strategy.proofs.Looking.{aim_is}
 use Rattle.cw_least_strategy.proofs.acts.aim_at.Goals as goal
 

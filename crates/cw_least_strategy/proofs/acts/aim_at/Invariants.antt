@@ -1,7 +1,7 @@
 use Rattle.std.proofs.Common.{◌≡◌, ℕ, nat_lt, ◌&&◌}
 use Rattle.cw_core.specs.StateSet.{has}
 use Rattle.cw_product.specs.Product.{game_of}
-use Rattle.cw_least_strategy.specs.Acts.{returning}
+use Rattle.cw_solve.specs.Contexts.{returning}
 use Rattle.cw_least_strategy.specs.Strategies.{is_lost_after}
 use Rattle.cw_least_strategy.proofs.acts.aim_at.Given as goal
 

@@ -2,8 +2,9 @@ use Rattle.std.proofs.Common.{ap, ◌∙◌, Vec}
 use Rattle.std.specs.Global.{Global}
 use Rattle.cw_core.specs.declared.ids.StateId.{StateId}
 use Rattle.cw_product.specs.Product.{game_of}
+use Rattle.cw_solve.specs.Contexts.{returning}
 use Rattle.cw_least_strategy.specs.declared.key.Key.{Key}
-use Rattle.cw_least_strategy.specs.Acts.{key_at, returning}
+use Rattle.cw_least_strategy.specs.Acts.{key_at}
 use Rattle.cw_least_strategy.specs.Strategies.{back_at}
 use Rattle.cw_least_strategy.proofs.Acting.{backs_more, backs_same, back_some, back_none}
 use Rattle.std.proofs.Common.{map}

@@ -1,7 +1,7 @@
 use Rattle.std.proofs.Common.{◌≡◌, map, filter_map}
 use Rattle.std.specs.List.{range_with_len}
 use Rattle.cw_product.specs.Product.{game_of}
-use Rattle.cw_least_strategy.specs.Acts.{returning}
+use Rattle.cw_solve.specs.Contexts.{returning}
 use Rattle.cw_least_strategy.specs.Strategies.{back_at}
 use Rattle.cw_least_strategy.proofs.acts.backs_at.Given as goal
 
