@@ -3,7 +3,8 @@ use Rattle.std.specs.Prelude.{ℕ, List, [], ◌∷◌, ◌++◌, Option, map, l
 use Rattle.std.specs.Fmt.{decimal}
 use Rattle.std.specs.List.{flat_map, filter_map}
 use Rattle.cw_core.specs.declared.ids.PointId.{PointId}
-use Rattle.cw_text.specs.RowLines.{line, numbered}
+use Rattle.cw_text.specs.RowLines.{numbered}
+use Rattle.cw_text.specs.Lines.{line}
 use Rattle.cw_points.specs.declared.graph.Point.{Point}
 use Rattle.cw_points.specs.declared.graph.Point.TheVariants.{Entry, Step, Branch, Label, Open, Close, Call, Exit}
 use Rattle.cw_points.specs.declared.graph.Node.{Node}

@@ -4,7 +4,8 @@ use Rattle.std.specs.Fmt.{decimal}
 use Rattle.cw_core.specs.Numerals.{hexadecimal}
 use Rattle.cw_rights.specs.declared.capabilities.Limit.{Limit}
 use Rattle.cw_rights.specs.Policies.{PlainDescriptor, PlainPolicy}
-use Rattle.cw_text.specs.RowLines.{line, with_fields, numbered}
+use Rattle.cw_text.specs.RowLines.{with_fields, numbered}
+use Rattle.cw_text.specs.Lines.{line}
 
 abbrev pub name_if : Option PlainDescriptor → List ℕ
 name_if None = []

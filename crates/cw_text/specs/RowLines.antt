@@ -10,10 +10,6 @@ joined mark words = join_by (λ word. word) mark words
 abbrev pub with_fields : List ℕ → List (List ℕ) → List ℕ
 with_fields name fields = name ++ codes "(" ++ joined (codes ",") fields ++ codes ")"
 
--- a line ends with LF
-abbrev pub line : List ℕ → List ℕ
-line words = words ++ codes "\n"
-
 -- one line for each row, by the number of the row, from 0
 abbrev pub numbered : {A : Type 0} → (ℕ → A → List ℕ) → List A → List ℕ
 numbered line_of rows = flat_map (λ row. line_of row.0 row.1) (enumerate_from 0 rows)

@@ -9,7 +9,8 @@ use Rattle.cw_rights.specs.declared.capabilities.Primitive.{Primitive}
 use Rattle.cw_rights.specs.declared.capabilities.Primitive.TheVariants.{Limit, Enter, Split}
 use Rattle.cw_rights.specs.Capabilities.{hold_of}
 use Rattle.cw_rights.specs.Policies.{PlainDescriptor}
-use Rattle.cw_text.specs.RowLines.{line, numbered}
+use Rattle.cw_text.specs.RowLines.{numbered}
+use Rattle.cw_text.specs.Lines.{line}
 
 -- a primitive by its stage: the limits are tried first, in the order of the policy
 abbrev pub primitive_text : ℕ → Primitive → List ℕ
