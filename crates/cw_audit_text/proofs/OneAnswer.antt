@@ -10,15 +10,16 @@ use Rattle.cw_certs.specs.declared.moves.Move.{Move}
 use Rattle.cw_io.specs.Sinks.{SureSinkState}
 use Rattle.cw_audit_table.specs.declared.table.AuditTable.{AuditTable}
 use Rattle.cw_audit_table.specs.Tables.{PlainRow, PlainGroup, Audit, audit_of}
+use Rattle.cw_text.specs.Lines.{states_line, end_line}
 use Rattle.cw_audit_text.specs.declared.text_line.TextLine.{TextLine}
 use Rattle.cw_audit_text.specs.declared.text_line.TextLine.TheVariants.{Head, States, Meets, Violates, Go, In, At, End}
 use Rattle.cw_audit_text.specs.declared.fault.AuditTextFault.{AuditTextFault}
 use Rattle.cw_audit_text.specs.declared.fault.AuditTextFault.TheVariants.{Line, NoMemory}
 use Rattle.cw_audit_text.specs.TextLines.{whole_line, FitsLine}
-use Rattle.cw_audit_text.specs.AuditText.{head_line, states_line, verdict_line, end_line, row_line, group_lines, body_of, whole_lines, audit_text, FitsDistance, HasNoMoves, Fits, Spells}
-use Rattle.cw_audit_text.specs.Faults.{StartsWith, Begins, MayFollow, IsAnswer, IsCause, IsFault, no_head, no_states, no_verdict, no_line, no_end, verdict_of}
+use Rattle.cw_audit_text.specs.AuditText.{head_line, verdict_line, row_line, group_lines, body_of, whole_lines, audit_text, FitsDistance, HasNoMoves, Fits, Spells}
+use Rattle.cw_audit_text.specs.Faults.{StartsWith, MayFollow, IsAnswer, IsCause, IsFault, no_head, no_states, no_verdict, no_line, no_end, verdict_of}
 use Rattle.cw_audit_text.proofs.Lines.{one_start}
-use Rattle.cw_audit_text.proofs.Puts.{lines_more, lines_none, lines_one, lines_two}
+use Rattle.cw_audit_text.proofs.Puts.{lines_more, lines_one, lines_two}
 use Rattle.cw_audit_text.proofs.Behind.{is_end, is_head, is_states, is_verdict, no_lines}
 
 -- ---- where a line may stand

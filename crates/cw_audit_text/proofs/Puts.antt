@@ -9,12 +9,13 @@ use Rattle.cw_core.specs.declared.ids.PosId.{PosId}
 use Rattle.cw_core.specs.declared.ids.StateId.{StateId}
 use Rattle.cw_certs.specs.declared.moves.Move.{Move}
 use Rattle.cw_text.specs.Moves.{move_name}
+use Rattle.cw_text.specs.Lines.{states_line, end_line}
 use Rattle.cw_audit_table.specs.declared.table.Group.{Group}
 use Rattle.cw_audit_table.specs.Tables.{Audit, row_of, group_of}
 use Rattle.cw_audit_text.specs.declared.text_line.TextLine.{TextLine}
 use Rattle.cw_audit_text.specs.declared.text_line.TextLine.TheVariants.{Go, In, At}
 use Rattle.cw_audit_text.specs.TextLines.{line_text, whole_line}
-use Rattle.cw_audit_text.specs.AuditText.{head_line, states_line, verdict_line, end_line, row_line, group_lines, whole_lines, audit_text}
+use Rattle.cw_audit_text.specs.AuditText.{head_line, verdict_line, row_line, group_lines, whole_lines, audit_text}
 
 regrouped : (t0 word a b n : List ℕ) → ((((((t0 ++ (word ++ 32 ∷ [])) ++ a) ++ 32 ∷ []) ++ b) ++ 32 ∷ []) ++ n) ++ 10 ∷ []
     ≡ t0 ++ ((word ++ (32 ∷ (a ++ (32 ∷ (b ++ (32 ∷ n)))))) ++ 10 ∷ [])

@@ -1,7 +1,7 @@
 -- Each text is that of an audit or has a fault: what decides it, line by line.
 use Rattle.std.proofs.Common.{◌≡◌, ◌≢◌, ℕ, zero, suc, ◌+◌, ◌^◌, ◌<◌, ◌⊎◌, Bool, true, false, eqb, List, [], ◌∷◌, ◌++◌, length, map, Option, Some, None}
 use Rattle.std.proofs.Common.{refl, sym, ap, ◌∙◌, subst, arith, append-nil, append_assoc, inl, inr}
-use Rattle.std.specs.Prelude.{Result, Ok, Err, codes, bytes_eq}
+use Rattle.std.specs.Prelude.{Result, Ok, Err, bytes_eq}
 use Rattle.std.specs.List.{flat_map, All}
 use Rattle.std.proofs.lemmas.Bool.{cases_eq, false≢true, ne_eqb}
 use Rattle.std.proofs.lemmas.Slice.Eq.{bytes_eq-Decides}
@@ -9,7 +9,7 @@ use Rattle.std.proofs.lemmas.List.{map-append}
 use Rattle.std.proofs.lemmas.List.Elements.{All-nil, All-cons, All-push}
 use Rattle.cw_certs.specs.declared.moves.Move.{Move}
 use Rattle.cw_certs.specs.declared.moves.Move.TheVariants.{Skip, Try, Grant, Refuse, On, Left, Right, Opened, Failed, Stop}
-use Rattle.cw_text.specs.Lines.{IsFree}
+use Rattle.cw_text.specs.Lines.{IsFree, states_line}
 use Rattle.cw_text.specs.Moves.{IsEnvironments}
 use Rattle.cw_text.proofs.Names.{move_of, told}
 use Rattle.cw_audit_table.specs.Tables.{PlainRow, PlainGroup, Audit}
@@ -18,7 +18,7 @@ use Rattle.cw_audit_text.specs.declared.text_line.TextLine.TheVariants.{Head, St
 use Rattle.cw_audit_text.specs.declared.fault.AuditTextFault.{AuditTextFault}
 use Rattle.cw_audit_text.specs.declared.fault.AuditTextFault.TheVariants.{Line}
 use Rattle.cw_audit_text.specs.TextLines.{line_text, whole_line, FitsLine}
-use Rattle.cw_audit_text.specs.AuditText.{head_line, states_line, verdict_line, end_line, row_line, group_lines, body_of, whole_lines, audit_text, HasNoMoves}
+use Rattle.cw_audit_text.specs.AuditText.{head_line, verdict_line, row_line, group_lines, body_of, whole_lines, audit_text, HasNoMoves}
 use Rattle.cw_audit_text.specs.Faults.{StartsWith, Begins, MayFollow, IsAnswer, no_head, no_states, no_verdict, no_line, no_end, verdict_of}
 use Rattle.cw_audit_text.proofs.Lines.{line_end, one_start, starts_nowhere, starts_otherwise}
 use Rattle.cw_audit_text.proofs.Behind.{begun, is_end, line_more, no_lines, shorter}

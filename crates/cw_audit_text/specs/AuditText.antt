@@ -3,7 +3,7 @@ use Rattle.std.specs.Prelude.{◌≡◌, ℕ, ◌^◌, ◌<◌, List, [], ◌∷
 use Rattle.std.specs.Fmt.{decimal}
 use Rattle.std.specs.List.{flat_map, All}
 use Rattle.cw_certs.specs.declared.moves.Move.{Move}
-use Rattle.cw_text.specs.Lines.{line, joined}
+use Rattle.cw_text.specs.Lines.{line, joined, states_line, end_line}
 use Rattle.cw_audit_table.specs.Tables.{PlainRow, PlainGroup, Audit}
 use Rattle.cw_audit_text.specs.declared.text_line.TextLine.{TextLine}
 use Rattle.cw_audit_text.specs.declared.text_line.TextLine.TheVariants.{Go, In, At}
@@ -13,15 +13,9 @@ use Rattle.cw_audit_text.specs.TextLines.{whole_line, FitsLine}
 unfoldable pub head_line : List ℕ
 head_line = line (codes "capweave audit 1")
 
-unfoldable pub states_line : (states : ℕ) → List ℕ
-states_line states = line (joined 32 (codes "states" ∷ decimal states ∷ []))
-
 unfoldable pub verdict_line : Option ℕ → List ℕ
 verdict_line None = line (codes "meets")
 verdict_line (Some T) = line (joined 32 (codes "violates" ∷ decimal T ∷ []))
-
-unfoldable pub end_line : List ℕ
-end_line = line (codes "end")
 
 -- the moves, and each group with its rows behind it
 abbrev pub row_line : PlainRow → TextLine

@@ -1,12 +1,13 @@
 -- The first line at fault of a text that is no audit's.
 use Rattle.std.specs.Prelude.{◌≡◌, ◌≢◌, ℕ, ◌+◌, List, [], ◌∷◌, ◌++◌, length, Option, Some, None, Result, Ok, Err}
 use Rattle.cw_audit_table.specs.Tables.{Audit, PlainGroup}
+use Rattle.cw_text.specs.Lines.{states_line}
 use Rattle.cw_audit_text.specs.declared.text_line.TextLine.{TextLine}
 use Rattle.cw_audit_text.specs.declared.text_line.TextLine.TheVariants.{Head, States, Meets, Violates, Go, In, At, End}
 use Rattle.cw_audit_text.specs.declared.fault.AuditTextFault.{AuditTextFault}
 use Rattle.cw_audit_text.specs.declared.fault.AuditTextFault.TheVariants.{Line, NoMemory}
 use Rattle.cw_audit_text.specs.TextLines.{whole_line, FitsLine}
-use Rattle.cw_audit_text.specs.AuditText.{head_line, states_line, verdict_line, body_of, whole_lines, Fits, Spells}
+use Rattle.cw_audit_text.specs.AuditText.{head_line, verdict_line, body_of, whole_lines, Fits, Spells}
 
 -- the text begins with this line, and this is behind it
 pub record StartsWith (text : List ℕ) (l : TextLine) (rest : List ℕ) : Type 0 where

@@ -10,11 +10,11 @@ use Rattle.cw_core.specs.Ranges.{is_spelling_byte}
 use Rattle.cw_certs.specs.declared.moves.Move.{Move}
 use Rattle.cw_certs.specs.declared.moves.Move.TheVariants.{Skip, Try, Grant, Refuse, On, Left, Right, Opened, Failed, Stop}
 use Rattle.cw_certs.specs.Strategies.{How, Bad, Out, Both, Go, Into, Row}
-use Rattle.cw_text.specs.Lines.{IsFree, line, joined, words_of, set_text}
+use Rattle.cw_text.specs.Lines.{IsFree, line, joined, words_of, set_text, states_line}
 use Rattle.cw_text.specs.Moves.{move_name, IsEnvironments}
 use Rattle.cw_text.proofs.Cuts.{words-joined, joined-words}
 use Rattle.cw_text.proofs.Free.{free_from_test, one_line, no_line, decimal_free, set_text_free, joined_free}
-use Rattle.cw_strategy_text.specs.StrategyText.{back_word, how_words, row_words, head_line, states_line, AreBacks, FitsHow, FitsRow}
+use Rattle.cw_strategy_text.specs.StrategyText.{back_word, how_words, row_words, head_line, AreBacks, FitsHow, FitsRow}
 
 -- a byte that isn't in any word of a line
 pub record Separates (mark : ℕ) : Type 0 where

@@ -9,7 +9,8 @@ use Rattle.cw_certs.specs.Strategies.{Row, Strategy, strategy_of}
 use Rattle.cw_certs.specs.declared.strategy.EnvCert.{EnvCert}
 use Rattle.cw_text.specs.declared.fault.TextFault.{TextFault}
 use Rattle.cw_text.specs.declared.fault.TextFault.TheVariants.{Line, Order, Limit, NoMemory}
-use Rattle.cw_strategy_text.specs.StrategyText.{head_line, states_line, row_line, row_lines, end_line, strategy_text, rows_in, row_count, FitsRow, Fits, Spells}
+use Rattle.cw_text.specs.Lines.{states_line, end_line}
+use Rattle.cw_strategy_text.specs.StrategyText.{head_line, row_line, row_lines, strategy_text, rows_in, row_count, FitsRow, Fits, Spells}
 use Rattle.cw_strategy_text.specs.Faults.{Begins, HasRow, IsFault, IsCause, IsAnswer, no_head, no_states, no_row, no_end, no_order, no_room}
 use Rattle.cw_strategy_text.specs.Steps.{HasNone, HasMore, HasAnother, HasTooMany}
 use Rattle.cw_strategy_text.proofs.Fronts.{rows_within}

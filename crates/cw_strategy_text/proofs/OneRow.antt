@@ -5,11 +5,11 @@ use Rattle.std.specs.Fmt.{decimal}
 use Rattle.std.proofs.lemmas.Fmt.{decimal_injective}
 use Rattle.std.proofs.lemmas.List.{append_cancel_left}
 use Rattle.cw_certs.specs.Strategies.{How, Bad, Out, Both, Go, Into, Row}
-use Rattle.cw_text.specs.Lines.{joined, words_of}
+use Rattle.cw_text.specs.Lines.{joined, words_of, states_line, end_line}
 use Rattle.cw_text.proofs.Free.{one_line, joined_free}
 use Rattle.cw_text.proofs.Cuts.{words-joined}
 use Rattle.cw_text.proofs.OneSet.{one_set_text}
-use Rattle.cw_strategy_text.specs.StrategyText.{back_word, how_words, row_words, states_line, end_line, AreBacks, FitsHow, FitsRow}
+use Rattle.cw_strategy_text.specs.StrategyText.{back_word, how_words, row_words, AreBacks, FitsHow, FitsRow}
 use Rattle.cw_strategy_text.specs.Words.{kind_of_how, kind_word, rest_words, row_text, FitsNamed}
 use Rattle.cw_strategy_text.specs.Faults.{HasRow}
 use Rattle.cw_strategy_text.proofs.Backs.{one_back}

@@ -6,8 +6,8 @@ use Rattle.cw_io.specs.Sinks.{SureSinkState}
 use Rattle.std.specs.Fmt.{decimal}
 use Rattle.cw_certs.specs.Strategies.{Row, Strategy, row_of}
 use Rattle.cw_certs.specs.declared.strategy.EnvRow.{EnvRow}
-use Rattle.cw_text.specs.Lines.{line, joined, set_text}
-use Rattle.cw_strategy_text.specs.StrategyText.{end_line, head_line, how_words, row_line, row_lines, states_line, strategy_text}
+use Rattle.cw_text.specs.Lines.{line, joined, set_text, states_line, end_line}
+use Rattle.cw_strategy_text.specs.StrategyText.{head_line, how_words, row_line, row_lines, strategy_text}
 use Rattle.cw_strategy_text.specs.Words.{put_line}
 
 -- joined words are the first, and each of the others after the mark

@@ -4,10 +4,10 @@ use Rattle.std.specs.Prelude.{None, Some, codes}
 use Rattle.std.specs.Fmt.{decimal}
 use Rattle.std.proofs.lemmas.Bool.{false≢true, eqb-true}
 use Rattle.cw_certs.specs.Strategies.{How, Row}
-use Rattle.cw_text.specs.Lines.{IsFree, line, joined, words_of, set_text, IsSetIn, Reads}
+use Rattle.cw_text.specs.Lines.{IsFree, line, joined, words_of, set_text, IsSetIn, Reads, end_line}
 use Rattle.cw_text.proofs.Cuts.{words-joined, joined-words}
 use Rattle.cw_text.proofs.Free.{one_line, joined_free}
-use Rattle.cw_strategy_text.specs.StrategyText.{how_words, row_words, row_line, end_line, FitsHow}
+use Rattle.cw_strategy_text.specs.StrategyText.{how_words, row_words, row_line, FitsHow}
 use Rattle.cw_strategy_text.specs.Words.{row_text, FitsNamed}
 use Rattle.cw_strategy_text.specs.Faults.{HasRow}
 use Rattle.cw_strategy_text.specs.Steps.{HasNone}

@@ -12,12 +12,12 @@ use Rattle.cw_certs.specs.declared.moves.Move.TheVariants.{Skip, Try, Grant, Ref
 use Rattle.cw_certs.specs.Strategies.{How, Bad, Out, Both, Go, Into, Row, Strategy}
 use Rattle.cw_text.specs.declared.fault.TextFault.{TextFault}
 use Rattle.cw_text.specs.declared.fault.TextFault.TheVariants.{Line, Order, Limit}
-use Rattle.cw_text.specs.Lines.{IsFree, words_of, set_text, IsSetIn, Reads}
+use Rattle.cw_text.specs.Lines.{IsFree, words_of, set_text, IsSetIn, Reads, states_line, end_line}
 use Rattle.cw_text.specs.Moves.{move_name, IsEnvironments}
 use Rattle.cw_text.proofs.Names.{move_of, told}
 use Rattle.cw_strategy_text.specs.declared.kind.RowKind.{RowKind}
 use Rattle.cw_strategy_text.specs.declared.kind.RowKind.TheVariants as kind
-use Rattle.cw_strategy_text.specs.StrategyText.{head_line, states_line, end_line, back_word, how_words, rows_in, row_count, AreBacks, FitsHow, Fits}
+use Rattle.cw_strategy_text.specs.StrategyText.{head_line, back_word, how_words, rows_in, row_count, AreBacks, FitsHow, Fits}
 use Rattle.cw_strategy_text.specs.Words.{kind_of_how, kind_word, rest_words, FitsKind, FitsBack, IsOf, FitsNamed, row_text}
 use Rattle.cw_strategy_text.specs.Faults.{Begins, HasRow, IsAnswer, no_head, no_states, no_row, no_end, no_order, no_room}
 use Rattle.cw_strategy_text.specs.Steps.{HasNone, HasMore, HasAnother, HasTooMany}

@@ -3,7 +3,8 @@ use Rattle.std.specs.Prelude.{◌≡◌, ◌≢◌, ℕ, ◌+◌, ◌^◌, ◌<�
 use Rattle.cw_certs.specs.Strategies.{Row, Strategy}
 use Rattle.cw_text.specs.declared.fault.TextFault.{TextFault}
 use Rattle.cw_text.specs.declared.fault.TextFault.TheVariants.{Line, Order, Limit, NoMemory}
-use Rattle.cw_strategy_text.specs.StrategyText.{head_line, states_line, row_line, row_lines, end_line, rows_in, row_count, FitsRow, Fits, Spells}
+use Rattle.cw_text.specs.Lines.{states_line, end_line}
+use Rattle.cw_strategy_text.specs.StrategyText.{head_line, row_line, row_lines, rows_in, row_count, FitsRow, Fits, Spells}
 
 -- the first lines of the text are those of a strategy up to so many of its rows, and this is the rest of the text
 pub record Begins (format : ℕ) (text : List ℕ) (states : ℕ) (rows : List Row) (rest : List ℕ) : Type 0 where

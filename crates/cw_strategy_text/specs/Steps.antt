@@ -3,7 +3,8 @@ use Rattle.std.specs.Prelude.{◌≡◌, ◌≢◌, ℕ, ◌+◌, ◌<◌, List,
 use Rattle.cw_certs.specs.Strategies.{Row}
 use Rattle.cw_text.specs.declared.fault.TextFault.{TextFault}
 use Rattle.cw_text.specs.declared.fault.TextFault.TheVariants.{Line, Order, Limit, NoMemory}
-use Rattle.cw_strategy_text.specs.StrategyText.{end_line, rows_in}
+use Rattle.cw_text.specs.Lines.{end_line}
+use Rattle.cw_strategy_text.specs.StrategyText.{rows_in}
 use Rattle.cw_strategy_text.specs.Faults.{HasRow}
 
 -- neither the end nor the line of a row

@@ -3,7 +3,7 @@ use Rattle.std.specs.Prelude.{◌≡◌, ℕ, ◌+◌, ◌^◌, ◌<◌, ◌≤�
 use Rattle.std.specs.Fmt.{decimal}
 use Rattle.std.specs.List.{All}
 use Rattle.cw_certs.specs.Strategies.{How, Bad, Out, Both, Go, Into, Row, Strategy}
-use Rattle.cw_text.specs.Lines.{line, joined, set_text, IsSetIn}
+use Rattle.cw_text.specs.Lines.{line, joined, set_text, IsSetIn, states_line, end_line}
 use Rattle.cw_text.specs.Moves.{move_name, IsEnvironments}
 
 -- `EXIT=ROW`
@@ -25,14 +25,8 @@ row_words format number r = decimal number ∷ decimal r.pos ∷ decimal r.state
 unfoldable pub head_line : (format : ℕ) → List ℕ
 head_line format = line (codes "capweave strategy " ++ decimal format)
 
-unfoldable pub states_line : (states : ℕ) → List ℕ
-states_line states = line (joined 32 (codes "states" ∷ decimal states ∷ []))
-
 unfoldable pub row_line : (format number : ℕ) → Row → List ℕ
 row_line format number r = line (joined 32 (row_words format number r))
-
-unfoldable pub end_line : List ℕ
-end_line = line (codes "end")
 
 -- a line for each row, numbered from a number on
 unfoldable pub row_lines : (format number : ℕ) → List Row → List ℕ

@@ -2,7 +2,8 @@
 
 ghost use Rattle.std.specs.Prelude.{◌≡◌, ◌+◌, ◌≤◌, ◌↔◌, codes, IsTrue, IfOk, IfErr, IfSome, IfNone};
 ghost use Rattle.cw_certs.specs.Strategies.{how_of, row_of};
-ghost use Rattle.cw_strategy_text.specs.StrategyText.{end_line, rows_in};
+ghost use Rattle.cw_text.specs.Lines.{end_line};
+ghost use Rattle.cw_strategy_text.specs.StrategyText.{rows_in};
 ghost use Rattle.cw_strategy_text.specs.Faults.{HasRow};
 ghost use Rattle.cw_strategy_text.specs.Steps.{IsStepFault};
 

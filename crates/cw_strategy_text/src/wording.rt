@@ -2,7 +2,8 @@
 
 ghost use Rattle.std.specs.Prelude.{◌≡◌, ◌≢◌, ℕ, ◌^◌, ◌<◌, ◌++◌, ◌∷◌, [], List, codes, IfSome, IfNone};
 ghost use Rattle.std.specs.Fmt.{decimal};
-ghost use Rattle.cw_strategy_text.specs.StrategyText.{head_line, states_line};
+ghost use Rattle.cw_text.specs.Lines.{states_line};
+ghost use Rattle.cw_strategy_text.specs.StrategyText.{head_line};
 
 use cw_text::{Words, next_line};
 

@@ -1,6 +1,7 @@
 -- What lines are made of: words with a mark between each two, numbers and sets as words.
-use Rattle.std.specs.Prelude.{◌≡◌, ◌≢◌, ℕ, ◌==◌, false, if◌then◌else◌, List, ◌∷◌, ◌++◌, drop, codes, Option, IfSome, IfNone}
+use Rattle.std.specs.Prelude.{◌≡◌, ◌≢◌, ℕ, ◌==◌, false, if◌then◌else◌, List, ◌∷◌, ◌++◌, drop, codes, Option, IfSome, IfNone, []}
 use Rattle.std.specs.List.{All, join_with_byte, slice_split}
+use Rattle.std.specs.Fmt.{decimal}
 use Rattle.cw_core.specs.Numerals.{hexadecimal}
 use Rattle.cw_core.specs.Ranges.{set_spelling}
 use Rattle.cw_core.specs.StateSet.{IsBelow}
@@ -20,6 +21,13 @@ words_of mark text = slice_split (λ byte. byte == mark) text
 -- a line ends with LF
 abbrev pub line : List ℕ → List ℕ
 line text = text ++ codes "\n"
+
+-- `states S`, which texts of strategies and of audits have
+unfoldable pub states_line : (states : ℕ) → List ℕ
+states_line states = line (joined 32 (codes "states" ∷ decimal states ∷ []))
+
+unfoldable pub end_line : List ℕ
+end_line = line (codes "end")
 
 -- How a text of a format spells a set: in format 1 as hexadecimal; in format 2 as ranges where that is shorter.
 unfoldable pub set_text : (format set : ℕ) → List ℕ
