@@ -11,10 +11,7 @@ use Rattle.cw_points.specs.declared.graph.Node.{Node}
 use Rattle.cw_points.specs.declared.graph.Part.{Part}
 use Rattle.cw_points.specs.declared.graph.Graph.{Graph}
 use Rattle.cw_points.specs.Walks.{number_of}
-
--- the name with this number; a number without a name has the empty one
-abbrev pub name_in : List (List ℕ) → ℕ → List ℕ
-name_in names number = unwrap_or (slice_get names number) []
+use Rattle.cw_resolve.specs.Held.{name_in}
 
 -- words, each after one space
 abbrev pub spaced : List (List ℕ) → List ℕ

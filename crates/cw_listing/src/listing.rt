@@ -5,12 +5,13 @@ ghost use Rattle.std.specs.Fmt.{decimal};
 ghost use Rattle.std.specs.List.{list_any};
 ghost use Rattle.cw_io.specs.Written.{Follows};
 ghost use Rattle.cw_text.specs.RowLines.{numbered};
-ghost use Rattle.cw_resolve.specs.Held.{lists};
-ghost use Rattle.cw_listing.specs.Listing.{name_in, spaced, marked, successors, kind, ends, point_line, function_line, graph_text};
+ghost use Rattle.cw_resolve.specs.Held.{lists, name_in};
+ghost use Rattle.cw_listing.specs.Listing.{spaced, marked, successors, kind, ends, point_line, function_line, graph_text};
 
 use cw_core::PointId;
 use cw_io::{Sink, Writer};
 use cw_points::{Graph, Node, Part, Point};
+use cw_resolve::name_in;
 
 /// The names of functions, labels and descriptors, each by its number.
 #[derive(Clone, Copy, Drop)]
@@ -18,16 +19,6 @@ pub struct Names<'a> {
     pub functions: &'a [Vec<u8>],
     pub labels: &'a [Vec<u8>],
     pub descriptors: &'a [Vec<u8>],
-}
-
-/// The name with this number; a number without a name has the empty one.
-fn name_in(names: &[Vec<u8>], number: usize) -> &[u8]
-    ensures { result.now ≡ name_in (lists names.now) number }
-{
-    match names.get(number) {
-        Some(name) => name.as_slice(),
-        None => &[],
-    }
 }
 
 /// Appends names after one space each.

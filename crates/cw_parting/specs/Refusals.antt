@@ -8,12 +8,12 @@ use Rattle.cw_detach.specs.declared.faults.ProcFault.TheVariants.{NoFunction, Bo
 use Rattle.cw_detach.specs.Faults.{IsFirstFault}
 use Rattle.cw_commands.specs.declared.outcome.Cause.TheVariants.{Policy, Source}
 use Rattle.cw_commands.specs.Outcomes.{Due, Refused}
-use Rattle.cw_stages.specs.Fitting.{name_at}
 use Rattle.cw_stages.specs.Refusals.{over}
+use Rattle.cw_resolve.specs.Held.{name_in}
 
 abbrev pub form_refusal : List ℕ → PlainPolicy → ProcFault → Due
-form_refusal source whole (NoFunction i) = Refused Policy (codes "policy: no function " ++ name_at whole.detached i)
-form_refusal source whole (Both i) = Refused Policy (codes "policy: detached " ++ name_at whole.detached i)
+form_refusal source whole (NoFunction i) = Refused Policy (codes "policy: no function " ++ name_in whole.detached i)
+form_refusal source whole (Both i) = Refused Policy (codes "policy: detached " ++ name_in whole.detached i)
 form_refusal source whole (Taken at) = Refused Source (at_place source at (codes "fork name"))
 form_refusal source whole (Result at) = Refused Source (at_place source at (codes "detached result"))
 form_refusal source whole (Limit quantity) = over quantity

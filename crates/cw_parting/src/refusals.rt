@@ -1,40 +1,31 @@
 //! Why a source has no form, with the line that tells it.
 
-ghost use Rattle.std.specs.Prelude.{◌≡◌, ◌≢◌, ◌++◌, map, IfOk};
+ghost use Rattle.std.specs.Prelude.{◌≡◌, ◌≢◌, ◌++◌, IfOk};
 ghost use Rattle.cw_rights.specs.Policies.{policy_of};
 ghost use Rattle.cw_source.specs.Lines.{at_place};
 ghost use Rattle.cw_commands.specs.Outcomes.{due_of, Refused};
 ghost use Rattle.cw_commands.specs.Starts.{BeginsLine, IsRefused, StartsLine};
-ghost use Rattle.cw_stages.specs.Fitting.{name_at};
+ghost use Rattle.cw_resolve.specs.Held.{name_in};
 ghost use Rattle.cw_parting.specs.Refusals.{form_refusal};
 
 use cw_commands::{Cause, Outcome};
 use cw_core::NoMemory;
 use cw_detach::ProcFault;
 use cw_io::{Sink, Writer};
+use cw_resolve::name_in;
 use cw_rights::Policy;
 use cw_source::put_place_line;
 use cw_stages::over;
 
-/// The name with this number in a list, or none.
-fn name_at(names: &[Vec<u8>], index: u16) -> &[u8]
-    ensures { result.now ≡ name_at (map (λ name. name.items) names.now) index }
-{
-    match names.get(usize::from(index)) {
-        Some(name) => name.as_slice(),
-        None => &[],
-    }
-}
-
 /// The refusal of the policy whose line is some words and the detached name with this number.
 fn named<O: Sink, N: Sink>(words: &[u8], policy: &Policy, index: u16, note: &mut N) -> Outcome<O, N>
-    ensures due { due_of result ≡ Refused Cause.Policy (words.now ++ name_at (policy_of policy.now).detached index) }
+    ensures due { due_of result ≡ Refused Cause.Policy (words.now ++ name_in (policy_of policy.now).detached index) }
     ensures refused { IsRefused result }
     ensures notes { BeginsLine N.taken N.faults N.refused note.old note.new result }
 {
     let mut line = Writer::begin(note);
     line.put(words, note);
-    line.put(name_at(&policy.detached, index), note);
+    line.put(name_in(&policy.detached, usize::from(index)), note);
     Outcome::Refused(Cause::Policy, line)
 }
 

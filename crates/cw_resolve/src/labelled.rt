@@ -5,7 +5,7 @@ ghost use Rattle.std.specs.List.{flat_map};
 ghost use Rattle.cw_syntax.specs.Names.{text};
 ghost use Rattle.cw_syntax.specs.Plans.{function_names};
 ghost use Rattle.cw_syntax.specs.Trees.{statement_of, statements_of, definition_of, file_of};
-ghost use Rattle.cw_resolve.specs.Held.{lists};
+ghost use Rattle.cw_resolve.specs.Held.{lists, name_in};
 ghost use Rattle.cw_resolve.specs.Labels.{labels_of, labels_of_all, labels_in_file, label_names};
 
 use cw_core::NoMemory;
@@ -18,6 +18,16 @@ use std::alloc::Global;
 pub struct Labelled {
     pub name: Name,
     pub mark: u32,
+}
+
+/// The name with this number; a number without a name has the empty one.
+pub fn name_in(names: &[Vec<u8>], number: usize) -> &[u8]
+    ensures { result.now ≡ name_in (lists names.now) number }
+{
+    match names.get(number) {
+        Some(name) => name.as_slice(),
+        None => &[],
+    }
 }
 
 /// The bytes of each label's name.

@@ -9,7 +9,7 @@ mod names;
 mod soonest;
 
 pub use actions::{Act, action_of, descriptor_of};
-pub use labelled::{Labelled, function_names, label_names, labels_in};
+pub use labelled::{Labelled, function_names, label_names, labels_in, name_in};
 pub use labels::is_label;
 pub use names::{
     descriptor_named, descriptor_numbered, function_named, is_split, label_number, text,

@@ -9,8 +9,9 @@ use Rattle.cw_text.specs.LimitsText.{descriptor_name}
 use Rattle.cw_game.specs.declared.spots.Spot.{Spot}
 use Rattle.cw_game.specs.declared.spots.Spot.TheVariants.{Visit, Asked, Step, Branch, Label, Open, Close, Call, SplitCall, Exit}
 use Rattle.cw_trace.specs.Lines.{try_line, stop_line, open_line, close_line, call_line, return_line, label_line}
-use Rattle.cw_trace.specs.Traces.{Names, name_in}
+use Rattle.cw_trace.specs.Traces.{Names}
 use Rattle.cw_trace.specs.Told.{spot_lines, label_lines}
+use Rattle.cw_resolve.specs.Held.{name_in}
 use Rattle.cw_run.specs.Lines.{is_told, lead_of, own_of}
 use Rattle.cw_run.specs.Walks.{has_line, is_label}
 

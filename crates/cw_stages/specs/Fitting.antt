@@ -1,5 +1,5 @@
 -- Why a policy that doesn't fit a program is refused, with the line that tells it.
-use Rattle.std.specs.Prelude.{◌≡◌, ℕ, List, [], ◌++◌, codes, slice_get, unwrap_or}
+use Rattle.std.specs.Prelude.{◌≡◌, ℕ, List, ◌++◌, codes}
 use Rattle.std.specs.Fmt.{decimal}
 use Rattle.cw_rights.specs.Policies.{PlainPolicy}
 use Rattle.cw_syntax.specs.Trees.{File}
@@ -9,10 +9,7 @@ use Rattle.cw_callgraph.specs.Fitting.{IsFitFault}
 use Rattle.cw_source.specs.Places.{column_of, line_of}
 use Rattle.cw_commands.specs.declared.outcome.Cause.TheVariants.{Policy}
 use Rattle.cw_commands.specs.Outcomes.{Due, Refused}
-
--- the name with this number in a list, or none
-abbrev pub name_at : List (List ℕ) → ℕ → List ℕ
-name_at names i = unwrap_or (slice_get names i) []
+use Rattle.cw_resolve.specs.Held.{name_in}
 
 -- `policy: not splittable NAME LINE:COLUMN`
 unfoldable pub splitting_line : List ℕ → (name : List ℕ) → (place : ℕ) → List ℕ
@@ -20,9 +17,9 @@ splitting_line source name place =
     codes "policy: not splittable " ++ name ++ codes " " ++ decimal (line_of source place) ++ codes ":" ++ decimal (column_of source place)
 
 abbrev pub fit_line : List ℕ → PlainPolicy → FitFault → List ℕ
-fit_line source whole (NoLabel i) = codes "policy: no label " ++ name_at whole.labels i
-fit_line source whole (NoFunction i) = codes "policy: no function " ++ name_at whole.split i
-fit_line source whole (NotSplittable i place) = splitting_line source (name_at whole.split i) place
+fit_line source whole (NoLabel i) = codes "policy: no label " ++ name_in whole.labels i
+fit_line source whole (NoFunction i) = codes "policy: no function " ++ name_in whole.split i
+fit_line source whole (NotSplittable i place) = splitting_line source (name_in whole.split i) place
 
 -- The policy is refused, by the first of its labels and of the functions that it splits that doesn't fit.
 abbrev pub IsFitRefusal : List ℕ → File → PlainPolicy → Due → Type 0

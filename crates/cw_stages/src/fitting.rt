@@ -1,27 +1,19 @@
 //! Why a policy that doesn't fit a program is refused, with the line that tells it.
 
-ghost use Rattle.std.specs.Prelude.{◌≡◌, map};
+ghost use Rattle.std.specs.Prelude.{◌≡◌};
 ghost use Rattle.cw_rights.specs.Policies.{policy_of};
 ghost use Rattle.cw_commands.specs.Outcomes.{due_of, Refused};
 ghost use Rattle.cw_commands.specs.Starts.{BeginsLine, IsRefused};
-ghost use Rattle.cw_stages.specs.Fitting.{fit_line, name_at, splitting_line};
+ghost use Rattle.cw_resolve.specs.Held.{name_in};
+ghost use Rattle.cw_stages.specs.Fitting.{fit_line, splitting_line};
 
 use crate::refusals::worded;
 use cw_callgraph::FitFault;
 use cw_commands::{Cause, Outcome};
 use cw_io::{Sink, Writer};
+use cw_resolve::name_in;
 use cw_rights::Policy;
 use cw_source::place::{column_of, line_of};
-
-/// The name with this number in a list, or none.
-fn name_at(names: &[Vec<u8>], index: u16) -> &[u8]
-    ensures { result.now ≡ name_at (map (λ name. name.items) names.now) index }
-{
-    match names.get(usize::from(index)) {
-        Some(name) => name.as_slice(),
-        None => &[],
-    }
-}
 
 /// That a function may not be split, and the place that forbids it.
 fn splitting_refusal<O: Sink, N: Sink>(
@@ -59,17 +51,18 @@ pub(crate) fn unfitting<O: Sink, N: Sink>(
         FitFault::NoLabel(index) => worded(
             Cause::Policy,
             b"policy: no label ",
-            name_at(&policy.labels, index),
+            name_in(&policy.labels, usize::from(index)),
             note,
         ),
         FitFault::NoFunction(index) => worded(
             Cause::Policy,
             b"policy: no function ",
-            name_at(&policy.split, index),
+            name_in(&policy.split, usize::from(index)),
             note,
         ),
         FitFault::NotSplittable(index, place) => {
-            splitting_refusal(source, name_at(&policy.split, index), place, note)
+            let name = name_in(&policy.split, usize::from(index));
+            splitting_refusal(source, name, place, note)
         }
     }
 }

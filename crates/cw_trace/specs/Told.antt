@@ -6,8 +6,9 @@ use Rattle.cw_certs.specs.declared.moves.Move.{Move}
 use Rattle.cw_text.specs.LimitsText.{descriptor_name}
 use Rattle.cw_game.specs.declared.spots.Spot.{Spot}
 use Rattle.cw_game.specs.declared.spots.Spot.TheVariants.{Asked, Label, Open, Close, Call, SplitCall, Exit}
+use Rattle.cw_resolve.specs.Held.{name_in}
 use Rattle.cw_trace.specs.Lines.{close_line, call_line, label_line}
-use Rattle.cw_trace.specs.Traces.{Names, name_in, answered_lines, opened_lines, returned_lines}
+use Rattle.cw_trace.specs.Traces.{Names, answered_lines, opened_lines, returned_lines}
 
 -- what a move tells that is made where this stands, in a program whose `main` has this number
 abbrev pub spot_lines : Names → PlainPolicy → (main : ℕ) → Spot → Move → List ℕ

@@ -1,5 +1,5 @@
 -- The trace of a play or a run: the lines of its moves, over boards.
-use Rattle.std.specs.Prelude.{ℕ, List, [], ◌∷◌, ◌++◌, Bool, true, false, cond, Option, Some, None, nat_eq, slice_get, unwrap_or}
+use Rattle.std.specs.Prelude.{ℕ, List, [], ◌∷◌, ◌++◌, Bool, true, false, cond, Option, Some, None, nat_eq}
 use Rattle.cw_rights.specs.declared.capabilities.Caps.{Caps}
 use Rattle.cw_rights.specs.declared.capabilities.Primitive.{Primitive}
 use Rattle.cw_rights.specs.Policies.{PlainPolicy}
@@ -10,16 +10,13 @@ use Rattle.cw_syntax.specs.Frames.{Todo, End, Frame}
 use Rattle.cw_text.specs.LimitsText.{descriptor_name}
 use Rattle.cw_model.specs.Boards.{Problem, Phase, Asked, Refused, Free, FreeSplit, Board, start_board}
 use Rattle.cw_model.specs.Runs.{front_seam}
+use Rattle.cw_resolve.specs.Held.{name_in}
 use Rattle.cw_trace.specs.Lines.{try_line, stop_line, open_line, close_line, call_line, return_line, label_line}
 
 -- The names that a trace tells beside those of the policy: of the functions by their numbers, of the labels by the numbers of their seams.
 pub record Names : Type 0 where
   pub functions : List (List ℕ)
   pub labels : List (List ℕ)
-
--- the name with this number; a number without a name has the empty one
-abbrev pub name_in : List (List ℕ) → ℕ → List ℕ
-name_in names number = unwrap_or (slice_get names number) []
 
 -- what is asked of the seam at the front, and the answer
 abbrev pub tried : Option ℕ → ℕ → Primitive → Bool → List ℕ

@@ -5,13 +5,12 @@ ghost use Rattle.cw_syntax.specs.Names.{Names as PolicyNames};
 ghost use Rattle.cw_syntax.specs.Trees.{file_of};
 ghost use Rattle.cw_syntax.specs.Plans.{plan_of};
 ghost use Rattle.cw_points.specs.Graphs.{IsGraph};
-ghost use Rattle.cw_resolve.specs.Held.{lists};
-ghost use Rattle.cw_trace.specs.Traces.{name_in};
+ghost use Rattle.cw_resolve.specs.Held.{lists, name_in};
 ghost use Rattle.cw_trace.specs.Labels.{label_at, names_of, told};
 
 use cw_core::{NoMemory, SeamId};
 use cw_points::{Graph, Seam};
-use cw_resolve::{Labelled, function_names, labels_in};
+use cw_resolve::{Labelled, function_names, labels_in, name_in};
 use cw_syntax::checked::Checked;
 use cw_syntax::names::text;
 use std::alloc::Global;
@@ -22,16 +21,6 @@ use std::alloc::Global;
 pub struct Names {
     pub functions: Vec<Vec<u8>>,
     pub labels: Vec<Vec<u8>>,
-}
-
-/// The name with this number; a number without a name has the empty one.
-fn name_in(names: &[Vec<u8>], number: usize) -> &[u8]
-    ensures { result.now ≡ name_in (lists names.now) number }
-{
-    match names.get(number) {
-        Some(name) => name.as_slice(),
-        None => &[],
-    }
 }
 
 impl Names {

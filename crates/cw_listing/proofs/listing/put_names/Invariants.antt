@@ -1,7 +1,7 @@
 use Rattle.std.proofs.Common.{◌≡◌, ◌++◌, take, map}
-use Rattle.cw_resolve.specs.Held.{lists}
+use Rattle.cw_resolve.specs.Held.{lists, name_in}
 use Rattle.cw_io.specs.Written.{Follows}
-use Rattle.cw_listing.specs.Listing.{name_in, spaced}
+use Rattle.cw_listing.specs.Listing.{spaced}
 use Rattle.cw_listing.proofs.listing.put_names.Given as goal
 
 abbrev pub invariant-loop-number : goal.invariant-loop-number
