@@ -10,50 +10,16 @@ use Rattle.cw_rights.specs.declared.capabilities.Primitive.TheVariants.{Limit, E
 use Rattle.cw_rights.specs.Policies.{PlainPolicy, primitives}
 use Rattle.cw_certs.specs.declared.moves.Move.{Move}
 use Rattle.cw_certs.specs.Tables.{Table}
-use Rattle.cw_syntax.specs.Plans.{Callee, Stm, Plain, Break, Continue, Return, Open, Close, Call, Group, Label, If, While, Do, For, Stms, end, then, Plan}
-use Rattle.cw_syntax.specs.Frames.{Item, Entry, Todo, Test, After, Mark, End, Frame, items_of, after_if, init_if, opened, opened_all, settle, ended, Way, On, Left, Right, Opened, Failed, after, pass}
+use Rattle.cw_syntax.specs.Plans.{Callee, Stm, Plain, Break, Continue, Return, Open, Close, Call, Group, Label, If, While, Do, For, Plan}
+use Rattle.cw_syntax.specs.Frames.{Item, Entry, Todo, Test, After, Mark, End, Frame, after_if, settle, ended, Way, On, Left, Right, Opened, Failed, after, pass, settled}
 use Rattle.cw_model.specs.Boards.{seam_in, primitives_in, letters_in, kept_after, caps_after}
 use Rattle.cw_model.specs.Runs.{step_memories}
 use Rattle.cw_game.specs.declared.spots.Spot.{Spot}
 use Rattle.cw_game.specs.declared.spots.Spot.TheVariants.{Step, Branch, Exit, Label as LabelSpot, Open as OpenSpot, Close as CloseSpot}
 use Rattle.cw_game.specs.Places.{Visits, CallsAt, AtIn, At}
-use Rattle.cw_game.specs.Standing.{settled, FreeAt, IsSplitCall, Within, Stage}
+use Rattle.cw_game.specs.Standing.{FreeAt, IsSplitCall, Within, Stage}
 use Rattle.cw_game.proofs.Places.{at_broken, at_continued, at_ended, at_body}
 use Rattle.cw_lemmas.proofs.Lists.{contains_none as none_in}
-
--- Nothing is left to rewrite at the front.
-settled_init : (init : Option ℕ) (at : ℕ) (decided stepped : Bool) (s : Stm) (rest : Frame) → settled (init_if init (Test at decided stepped s ∷ rest)) ≡ true
-settled_init None at decided stepped s rest = refl
-settled_init (Some place) at decided stepped s rest = refl
-
-mutual
-  opened_settled : (s : Stm) (rest next : Frame) → settled next ≡ true → settled (opened s rest next) ≡ true
-  opened_settled (Plain at) rest next e = refl
-  opened_settled (Break at) rest next e = refl
-  opened_settled (Continue at) rest next e = refl
-  opened_settled (Return at) rest next e = refl
-  opened_settled (Open at j d) rest next e = refl
-  opened_settled (Close at j d) rest next e = refl
-  opened_settled (Call at j callee) rest next e = refl
-  opened_settled (Group ss) rest next e = opened_all_settled ss rest next e
-  opened_settled (Label at mark j l s) rest next e = refl
-  opened_settled (If at s u) rest next e = refl
-  opened_settled (While at s) rest next e = refl
-  opened_settled (Do at s) rest next e = opened_settled s (Test at true false s ∷ (Mark ∷ rest)) (Test at true false s ∷ (Mark ∷ rest)) refl
-  opened_settled (For at init decided stepped s) rest next e = settled_init init at decided stepped s (Mark ∷ rest)
-
-  opened_all_settled : (ss : Stms) (rest next : Frame) → settled next ≡ true → settled (opened_all ss rest next) ≡ true
-  opened_all_settled end rest next e = e
-  opened_all_settled (then s ss) rest next e = opened_settled s (items_of ss rest) (opened_all ss rest next) (opened_all_settled ss rest next e)
-
-pub settle_settled : (frame : Frame) → settled (settle frame) ≡ true
-settle_settled [] = refl
-settle_settled (Entry f j ∷ is) = refl
-settle_settled (Todo s ∷ is) = opened_settled s is (settle is) (settle_settled is)
-settle_settled (Test at decided stepped s ∷ is) = refl
-settle_settled (After at ∷ is) = refl
-settle_settled (Mark ∷ is) = settle_settled is
-settle_settled (End f ∷ is) = refl
 
 -- a front with a seam is settled
 pub seam_settled : (frame : Frame) (j : ℕ) → seam_in frame ≡ Some j → settled frame ≡ true

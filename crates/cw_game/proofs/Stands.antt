@@ -6,14 +6,15 @@ use Rattle.cw_rights.specs.declared.capabilities.Primitive.TheVariants.{Split}
 use Rattle.cw_rights.specs.Words.{Word}
 use Rattle.cw_rights.specs.Policies.{PlainPolicy, primitives}
 use Rattle.cw_syntax.specs.Plans.{Plain, Break, Continue, Return, Open, Close, Call, Group, Label, If, While, Do, For, Routine, Plan}
-use Rattle.cw_syntax.specs.Frames.{Entry, Todo, Test, After, Mark, End, Frame, new_frame, settle}
+use Rattle.cw_syntax.specs.Frames.{Entry, Todo, Test, After, Mark, End, Frame, new_frame, settle, settled}
+use Rattle.cw_syntax.proofs.Settling.{settle_settled}
 use Rattle.cw_model.specs.Boards.{Board, primitives_in, onward, may_grant, may_refuse, can_stop, given_back, granted}
 use Rattle.cw_game.specs.Games.{AreStates, Game, Ret, past_asked, returned, may_refuse_in, can_stop_in}
 use Rattle.cw_game.specs.Places.{At}
 use Rattle.cw_game.specs.Pairs.{kept_at}
-use Rattle.cw_game.specs.Standing.{Meaning, settled, FreeAt, Stage, KeptIs, StandsIn}
+use Rattle.cw_game.specs.Standing.{Meaning, FreeAt, Stage, KeptIs, StandsIn}
 use Rattle.cw_game.proofs.Places.{at_settle}
-use Rattle.cw_game.proofs.Fronts.{settle_settled, seam_settled, next_stage, after_split, in_policy, split_is_call, within_first}
+use Rattle.cw_game.proofs.Fronts.{seam_settled, next_stage, after_split, in_policy, split_is_call, within_first}
 use Rattle.cw_game.specs.declared.spots.Spot.{Spot}
 
 pub same_kept : (Means : Meaning) (k : Option Caps) (o : Option ℕ) → KeptIs Means k o → is_some k ≡ is_some o

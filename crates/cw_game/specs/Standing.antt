@@ -1,12 +1,12 @@
 -- Where a board stands in the game: its top frame at a pair of a position and a state, each frame below at a return that waits.
-use Rattle.std.specs.Prelude.{◌≡◌, ℕ, ◌+◌, List, [], ◌∷◌, Bool, true, false, Option, Some, None, slice_get, Contains}
+use Rattle.std.specs.Prelude.{◌≡◌, ℕ, ◌+◌, List, [], ◌∷◌, true, false, Option, Some, None, slice_get, Contains}
 use Rattle.cw_rights.specs.declared.capabilities.Caps.{Caps}
 use Rattle.cw_rights.specs.declared.capabilities.Primitive.{Primitive}
 use Rattle.cw_rights.specs.Words.{Word}
 use Rattle.cw_rights.specs.Policies.{PlainPolicy}
 use Rattle.cw_certs.specs.declared.moves.Move.{Move}
-use Rattle.cw_syntax.specs.Plans.{Callee, Call, Group, Label, While, Do, For}
-use Rattle.cw_syntax.specs.Frames.{Entry, Todo, Mark, Frame}
+use Rattle.cw_syntax.specs.Plans.{Callee, Call, Label}
+use Rattle.cw_syntax.specs.Frames.{Entry, Todo, Frame, settled}
 use Rattle.cw_model.specs.Boards.{Problem, Phase, Visit, Asked, Refused, Free, FreeSplit, Board, seam_in, primitives_in, is_refused, Moves}
 use Rattle.cw_game.specs.declared.spots.Spot.{Spot}
 use Rattle.cw_game.specs.declared.spots.Spot.TheVariants.{Step, Label as LabelSpot}
@@ -17,15 +17,6 @@ use Rattle.cw_game.specs.Places.{Visits, CallsAt, Placed, AtIn, At, IsLaidOut, H
 -- what a state stands for: `Means q word caps` says that state q stands for this word and these capabilities
 abbrev pub Meaning : Type 1
 Meaning = ℕ → Word → Caps → Type 0
-
--- nothing is left to rewrite at the front
-abbrev pub settled : Frame → Bool
-settled (Todo (Group ss) ∷ is) = false
-settled (Todo (While at s) ∷ is) = false
-settled (Todo (Do at s) ∷ is) = false
-settled (Todo (For at init decided stepped s) ∷ is) = false
-settled (Mark ∷ is) = false
-settled _ = true
 
 -- where z is the free position of a front, the one after its visit
 abbrev pub FreeIn : List Spot → PlainPolicy → ℕ → Option ℕ → Option ℕ → Frame → ℕ → Type 0

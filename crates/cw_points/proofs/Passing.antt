@@ -2,7 +2,7 @@
 use Rattle.std.proofs.Common.{◌≡◌, ℕ, List, [], ◌∷◌, Bool, true, false, Option, Some, None, refl, sym, subst}
 use Rattle.std.specs.Prelude.{slice_get}
 use Rattle.cw_syntax.specs.Plans.{Callee, Stm, Plain, Break, Continue, Return, Open, Close, Call, Group, Label, If, While, Do, For, Plan}
-use Rattle.cw_syntax.specs.Frames.{Item, Entry, Todo, Test, After, Mark, End, Frame, after_if, broken, continued, ended, Way, On, Left, Right, Opened, Failed, pass, front}
+use Rattle.cw_syntax.specs.Frames.{Item, Entry, Todo, Test, After, Mark, End, Frame, after_if, broken, continued, ended, Way, On, Left, Right, Opened, Failed, pass, front, settled}
 use Rattle.cw_points.specs.declared.graph.Point.TheVariants as point
 use Rattle.cw_points.specs.declared.graph.Node.{Node}
 use Rattle.cw_points.specs.declared.graph.Part.{Part}
@@ -10,7 +10,7 @@ use Rattle.cw_points.specs.Graphs.{node, step, branch, test_node}
 use Rattle.cw_points.specs.Walks.{leads}
 use Rattle.cw_points.proofs.Placed.{Here, AtIn, At, IsPart}
 use Rattle.cw_points.proofs.Standing.{Jumps, at_broken, at_continued, at_ended, at_body}
-use Rattle.cw_points.proofs.Ways.{settled, Below, Tied, lands, jumped, begun, ended_call}
+use Rattle.cw_points.proofs.Ways.{Below, Tied, lands, jumped, begun, ended_call}
 
 module _ (ns : List Node) (its : List Item) (plan : Plan) (parts : List Part) (has : (f : ℕ) → IsPart ns its f (slice_get plan.routines f) (slice_get parts f)) where
   -- the top frame stands at p, above these

@@ -1,55 +1,14 @@
 -- Stacks of frames among the points of a graph: a step of the stack is one of the graph by the same way, and there is the one where there is the other.
-use Rattle.std.proofs.Common.{◌≡◌, ℕ, List, [], ◌∷◌, Bool, true, false, Option, Some, None, option_map, refl}
-use Rattle.cw_syntax.specs.Plans.{Stm, Plain, Break, Continue, Return, Open, Close, Call, Group, Label, If, While, Do, For, Stms, end, then, Routine}
-use Rattle.cw_syntax.specs.Frames.{Item, Entry, Todo, Test, After, Mark, End, Frame, items_of, new_frame, init_if, opened, opened_all, settle, popped}
+use Rattle.std.proofs.Common.{◌≡◌, ℕ, List, [], ◌∷◌, true, Option, Some, None, option_map, refl}
+use Rattle.cw_syntax.specs.Plans.{Routine}
+use Rattle.cw_syntax.specs.Frames.{Item, Frame, new_frame, settle, popped, settled}
+use Rattle.cw_syntax.proofs.Settling.{settle_settled}
 use Rattle.cw_points.specs.declared.graph.Node.{Node}
 use Rattle.cw_points.specs.declared.graph.Part.{Part}
 use Rattle.cw_points.specs.Graphs.{successors}
 use Rattle.cw_points.specs.Walks.{Stand, stand, first_of, returned}
 use Rattle.cw_points.proofs.Placed.{At, IsPart}
 use Rattle.cw_points.proofs.Standing.{Jumps, at_settle, at_new_frame}
-
--- nothing is left to rewrite at the front
-abbrev pub settled : Frame → Bool
-settled (Todo (Group ss) ∷ is) = false
-settled (Todo (While at s) ∷ is) = false
-settled (Todo (Do at s) ∷ is) = false
-settled (Todo (For at init decided stepped s) ∷ is) = false
-settled (Mark ∷ is) = false
-settled _ = true
-
-settled_init : (init : Option ℕ) (at : ℕ) (decided stepped : Bool) (s : Stm) (rest : Frame) → settled (init_if init (Test at decided stepped s ∷ rest)) ≡ true
-settled_init None at decided stepped s rest = refl
-settled_init (Some place) at decided stepped s rest = refl
-
-mutual
-  opened_settled : (s : Stm) (rest next : Frame) → settled next ≡ true → settled (opened s rest next) ≡ true
-  opened_settled (Group ss) rest next e = opened_all_settled ss rest next e
-  opened_settled (Do at s) rest next e = opened_settled s (Test at true false s ∷ (Mark ∷ rest)) (Test at true false s ∷ (Mark ∷ rest)) refl
-  opened_settled (For at init decided stepped s) rest next e = settled_init init at decided stepped s (Mark ∷ rest)
-  opened_settled (Plain at) rest next e = refl
-  opened_settled (Break at) rest next e = refl
-  opened_settled (Continue at) rest next e = refl
-  opened_settled (Return at) rest next e = refl
-  opened_settled (Open at j d) rest next e = refl
-  opened_settled (Close at j d) rest next e = refl
-  opened_settled (Call at j callee) rest next e = refl
-  opened_settled (Label at mark j l s) rest next e = refl
-  opened_settled (If at s u) rest next e = refl
-  opened_settled (While at s) rest next e = refl
-
-  opened_all_settled : (ss : Stms) (rest next : Frame) → settled next ≡ true → settled (opened_all ss rest next) ≡ true
-  opened_all_settled end rest next e = e
-  opened_all_settled (then s ss) rest next e = opened_settled s (items_of ss rest) (opened_all ss rest next) (opened_all_settled ss rest next e)
-
-pub settle_settled : (frame : Frame) → settled (settle frame) ≡ true
-settle_settled [] = refl
-settle_settled (Entry f j ∷ is) = refl
-settle_settled (Todo s ∷ is) = opened_settled s is (settle is) (settle_settled is)
-settle_settled (Test at decided stepped s ∷ is) = refl
-settle_settled (After at ∷ is) = refl
-settle_settled (Mark ∷ is) = settle_settled is
-settle_settled (End f ∷ is) = refl
 
 -- a frame that waits: what stands behind its call is at the point to which the callee returns
 abbrev pub Waits : List Node → List Item → Frame → ℕ → Type 0

@@ -1,7 +1,7 @@
 -- Rewritings lead to the rewritten frame, and to no other.
-use Rattle.std.proofs.Common.{◌≡◌, ◌≢◌, ℕ, List, [], ◌∷◌, ◌++◌, Bool, true, false, Option, Some, None, refl, sym, ap, ap₂, ◌∙◌, subst}
-use Rattle.cw_syntax.specs.Plans.{Callee, Stm, Plain, Break, Continue, Return, Open, Close, Call, Group, Label, If, While, Do, For, Stms, end, then}
-use Rattle.cw_syntax.specs.Frames.{Item, Entry, Todo, Test, After, Mark, End, Frame, items_of, init_if, after_if, opened, opened_all, settle}
+use Rattle.std.proofs.Common.{◌≡◌, ℕ, [], ◌∷◌, Bool, true, false, Option, Some, None, refl, ap, ◌∙◌}
+use Rattle.cw_syntax.specs.Plans.{Stm, Plain, Break, Continue, Return, Open, Close, Call, Group, Label, If, While, Do, For, Stms, end, then}
+use Rattle.cw_syntax.specs.Frames.{Entry, Todo, Test, After, Mark, End, Frame, items_of, init_if, opened, opened_all, settle, settled}
 use Rattle.cw_syntax.specs.Steps.{Rewrites, a_block, a_while, a_do, a_for, a_mark, Settles, at_rest, rewritten}
 
 -- a frame whose front is rewritten
@@ -97,3 +97,37 @@ settled_is (End f ∷ rest) h = refl
 pub settles_to : (frame last : Frame) → Settles frame last → settle frame ≡ last
 settles_to _ _ (at_rest frame h) = settled_is frame h
 settles_to _ _ (rewritten frame next last r h) = same_settled frame next r ∙ settles_to next last h
+
+-- Nothing is left to rewrite at the front of a rewritten frame.
+settled_init : (init : Option ℕ) (at : ℕ) (decided stepped : Bool) (s : Stm) (rest : Frame) → settled (init_if init (Test at decided stepped s ∷ rest)) ≡ true
+settled_init None at decided stepped s rest = refl
+settled_init (Some place) at decided stepped s rest = refl
+
+mutual
+  opened_settled : (s : Stm) (rest next : Frame) → settled next ≡ true → settled (opened s rest next) ≡ true
+  opened_settled (Group ss) rest next e = opened_all_settled ss rest next e
+  opened_settled (Do at s) rest next e = opened_settled s (Test at true false s ∷ (Mark ∷ rest)) (Test at true false s ∷ (Mark ∷ rest)) refl
+  opened_settled (For at init decided stepped s) rest next e = settled_init init at decided stepped s (Mark ∷ rest)
+  opened_settled (Plain at) rest next e = refl
+  opened_settled (Break at) rest next e = refl
+  opened_settled (Continue at) rest next e = refl
+  opened_settled (Return at) rest next e = refl
+  opened_settled (Open at j d) rest next e = refl
+  opened_settled (Close at j d) rest next e = refl
+  opened_settled (Call at j callee) rest next e = refl
+  opened_settled (Label at mark j l s) rest next e = refl
+  opened_settled (If at s u) rest next e = refl
+  opened_settled (While at s) rest next e = refl
+
+  opened_all_settled : (ss : Stms) (rest next : Frame) → settled next ≡ true → settled (opened_all ss rest next) ≡ true
+  opened_all_settled end rest next e = e
+  opened_all_settled (then s ss) rest next e = opened_settled s (items_of ss rest) (opened_all ss rest next) (opened_all_settled ss rest next e)
+
+pub settle_settled : (frame : Frame) → settled (settle frame) ≡ true
+settle_settled [] = refl
+settle_settled (Entry f j ∷ is) = refl
+settle_settled (Todo s ∷ is) = opened_settled s is (settle is) (settle_settled is)
+settle_settled (Test at decided stepped s ∷ is) = refl
+settle_settled (After at ∷ is) = refl
+settle_settled (Mark ∷ is) = settle_settled is
+settle_settled (End f ∷ is) = refl

@@ -68,6 +68,15 @@ settle (After at ∷ rest) = After at ∷ rest
 settle (Mark ∷ rest) = settle rest
 settle (End f ∷ rest) = End f ∷ rest
 
+-- nothing is left to rewrite at the front
+abbrev pub settled : Frame → Bool
+settled (Todo (Group ss) ∷ is) = false
+settled (Todo (While at s) ∷ is) = false
+settled (Todo (Do at s) ∷ is) = false
+settled (Todo (For at init decided stepped s) ∷ is) = false
+settled (Mark ∷ is) = false
+settled _ = true
+
 -- `break`: all up to and with the first mark is dropped
 abbrev pub broken : Frame → Option Frame
 broken [] = None

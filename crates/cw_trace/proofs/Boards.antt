@@ -5,14 +5,14 @@ use Rattle.cw_rights.specs.declared.capabilities.Caps.{Caps}
 use Rattle.cw_rights.specs.Words.{Word}
 use Rattle.cw_certs.specs.declared.moves.Move.{Move}
 use Rattle.cw_syntax.specs.Plans.{Plain, Break, Continue, Return, Open, Close, Call, Group, Label, If, While, Do, For, Stm, Plan}
-use Rattle.cw_syntax.specs.Frames.{Entry, Todo, Test, After, Mark, End, Frame}
+use Rattle.cw_syntax.specs.Frames.{Entry, Todo, Test, After, Mark, End, Frame, settled}
 use Rattle.cw_model.specs.Boards.{Problem, Phase, Visit, Asked, Refused, Free, FreeSplit, Over, Board}
 use Rattle.cw_game.specs.declared.spots.Spot.{Spot}
 use Rattle.cw_game.specs.declared.spots.Spot.TheVariants.{Visit as VisitSpot, Asked as AskedSpot, Step, Branch, Label as LabelSpot, Open as OpenSpot, Close as CloseSpot}
 use Rattle.cw_game.specs.declared.spots.Spot.TheVariants.{Call as CallSpot, SplitCall, Exit}
 use Rattle.cw_game.specs.Games.{Game, Ret, Config}
 use Rattle.cw_game.specs.Places.{TestAt}
-use Rattle.cw_game.specs.Standing.{Meaning, settled, FreeAt, StandsOn}
+use Rattle.cw_game.specs.Standing.{Meaning, FreeAt, StandsOn}
 use Rattle.cw_game.proofs.Link.{Stands}
 use Rattle.cw_trace.specs.Traces.{Names, answered_lines, passed_lines, move_lines, returned_lines, reached_lines, step_lines}
 use Rattle.cw_trace.specs.Traces.{label_lines as board_label_lines}

@@ -4,7 +4,7 @@ use Rattle.std.specs.Prelude.{slice_get, option_and_then}
 use Rattle.std.proofs.lemmas.Option.{none-some, same_Some}
 use Rattle.cw_core.specs.declared.ids.PointId.{PointId}
 use Rattle.cw_syntax.specs.Plans.{Stm, Plain, Break, Continue, Return, Open, Close, Call, Group, Label, If, While, Do, For}
-use Rattle.cw_syntax.specs.Frames.{Item, Entry, Todo, Test, After, Mark, End, Frame, Way, On, Left, Right, Opened, Failed}
+use Rattle.cw_syntax.specs.Frames.{Item, Entry, Todo, Test, After, Mark, End, Frame, Way, On, Left, Right, Opened, Failed, settled}
 use Rattle.cw_points.specs.declared.graph.Point.{Point}
 use Rattle.cw_points.specs.declared.graph.Point.TheVariants as point
 use Rattle.cw_points.specs.declared.graph.Node.{Node}
@@ -12,7 +12,6 @@ use Rattle.cw_points.specs.declared.graph.Part.{Part}
 use Rattle.cw_points.specs.Graphs.{node, test_node}
 use Rattle.cw_points.specs.Walks.{Stand, stand, number_of, first_of, second_of, called, returned, leads}
 use Rattle.cw_points.proofs.Placed.{Here, AtIn}
-use Rattle.cw_points.proofs.Ways.{settled}
 use Rattle.cw_values.specs.Running.{first, second, next_by}
 
 abbrev pub IsInnerPoint : Point → Type 0
