@@ -7,7 +7,7 @@ use Rattle.cw_syntax.specs.declared.program.Stmt.{Stmt}
 use Rattle.cw_syntax.specs.declared.program.What.{What}
 use Rattle.cw_syntax.specs.declared.program.Head.{Head, Head', out-Head, Head-init-None', Head-init-Some'}
 use Rattle.cw_syntax.specs.declared.program.What.TheVariants.{Block, For}
-use Rattle.cw_syntax.specs.Trees.{Statement, just, form_of, for_of, tree_of, trees_of, statement_of, statements_of}
+use Rattle.cw_syntax.specs.Trees.{Statement, just, form_of, for_of, tree_of, trees_of, statement_of, statements_of, perhaps_of}
 use Rattle.cw_syntax.specs.Plans.{Scene}
 use Rattle.cw_syntax.proofs.Shapes.{node_is, block_form}
 use Rattle.cw_callgraph.specs.declared.scopes.Known.{Known}
@@ -15,7 +15,7 @@ use Rattle.cw_callgraph.specs.declared.expressions.Role.{Role}
 use Rattle.cw_callgraph.specs.Scoping.{meaning_of, meaning_at}
 use Rattle.cw_callgraph.specs.Forbidding.{is_element, element_at, places, places_in, place_if, forbids_itself, first_role, formed, stated, stated_all, known_in, known_by_init, init, init_in, known_by_init_in, given}
 use Rattle.cw_callgraph.specs.declared.statements.Setting.{Setting}
-use Rattle.cw_callgraph.specs.Walking.{scene_at, file_at, perhaps_of, head_list}
+use Rattle.cw_callgraph.specs.Walking.{scene_at, file_at, head_list}
 
 module _ (source : List ℕ) (file inner : List Known) where
   pub meaning_is : (e : Expr) → meaning_of source file inner (tree_of e) ≡ meaning_at source file inner (out-Expr e).op (out-Expr e).from (out-Expr e).to

@@ -1,9 +1,8 @@
 -- Working definitions: what the walk over statements holds, and what its steps give.
-use Rattle.std.specs.Prelude.{ℕ, List, [], ◌∷◌, ◌++◌, Bool, Option, Some, None, option_map}
-use Rattle.cw_syntax.specs.declared.program.Stmt.{Stmt}
+use Rattle.std.specs.Prelude.{ℕ, List, [], ◌∷◌, ◌++◌, Bool, Option, option_map}
 use Rattle.cw_syntax.specs.declared.program.Head.{Head, out-Head}
 use Rattle.cw_syntax.specs.declared.program.Function.{Function}
-use Rattle.cw_syntax.specs.Trees.{definition_of, Tree, Declared, Perhaps, nothing, just, statement_of, tree_of, Definition}
+use Rattle.cw_syntax.specs.Trees.{definition_of, Tree, Declared, tree_of, Definition, perhaps_of}
 use Rattle.cw_syntax.specs.Plans.{Scene, action_of}
 use Rattle.cw_rights.specs.Policies.{policy_of}
 use Rattle.cw_resolve.specs.Scenes.{scene_in}
@@ -22,10 +21,6 @@ source_at t = t.checked.now.source.now
 
 abbrev pub file_at : Setting → List Known
 file_at t = t.file.now
-
-abbrev pub perhaps_of : Option Stmt → Perhaps
-perhaps_of None = nothing
-perhaps_of (Some s) = just (statement_of s)
 
 abbrev pub item_places : Setting → List Known → Bool → Declared → List ℕ
 item_places t inner external i =

@@ -3,11 +3,11 @@
 ghost use Rattle.std.specs.Prelude.{◌≡◌, ◌∷◌, [], ◌++◌, map, option_map, IfOk};
 ghost use Rattle.cw_syntax.specs.declared.program.Head.{out-Head};
 ghost use Rattle.cw_syntax.specs.Plans.{action_of};
-ghost use Rattle.cw_syntax.specs.Trees.{tree_of, trees_of, array_of, declared_of, declaration_of, definition_of, statement_of, statements_of};
+ghost use Rattle.cw_syntax.specs.Trees.{tree_of, trees_of, array_of, declared_of, declaration_of, definition_of, statement_of, statements_of, perhaps_of};
 ghost use Rattle.cw_callgraph.specs.Scoping.{local};
 ghost use Rattle.cw_callgraph.specs.declared.expressions.Role.TheVariants.{Value};
 ghost use Rattle.cw_callgraph.specs.Forbidding.{places, places_in, given, size, in_items, declared, locals, is_seam, known_after, known_after_all, known_by_init, init, stated, stated_all};
-ghost use Rattle.cw_callgraph.specs.Walking.{scene_at, source_at, file_at, perhaps_of, item_places, head_list, evaluated, body_under};
+ghost use Rattle.cw_callgraph.specs.Walking.{scene_at, source_at, file_at, item_places, head_list, evaluated, body_under};
 
 use crate::expressions::{Role, put_if, put_places, put_places_in};
 use crate::scopes::{Known, Scope, local_meaning, parameters};

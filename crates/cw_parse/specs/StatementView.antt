@@ -1,11 +1,11 @@
 -- Working definitions: what a function of the parser returned, without where it lies in memory.
-use Rattle.std.specs.Prelude.{ℕ, Option, None, Some, option_map, List, map}
+use Rattle.std.specs.Prelude.{ℕ, Option, option_map, List, map}
 use Rattle.std.specs.Borrow.{Bor}
 use Rattle.std.specs.Global.{Vec}
 use Rattle.cw_syntax.specs.declared.program.Expr.{Expr}
 use Rattle.cw_syntax.specs.declared.program.Stmt.{Stmt}
 use Rattle.cw_syntax.specs.declared.program.Program.{Program}
-use Rattle.cw_syntax.specs.Trees.{Tree, tree_of, Statement, statement_of, Perhaps, nothing, just, File, file_of, declaration_of, prototype_of, definition_of}
+use Rattle.cw_syntax.specs.Trees.{Tree, tree_of, Statement, statement_of, Perhaps, File, file_of, declaration_of, prototype_of, definition_of, perhaps_of}
 use Rattle.cw_grammar.specs.declared.words.Lexeme.{Lexeme}
 use Rattle.cw_grammar.specs.Files.{Part, Declares, Holds, Defines}
 use Rattle.cw_parse.specs.declared.files.FilePart.{FilePart}
@@ -19,10 +19,6 @@ one x = (statement_of x.0, x.1.now)
 
 abbrev pub several : Vec Stmt × Bor (List Lexeme) → List Statement × List Lexeme
 several x = (map statement_of x.0.items, x.1.now)
-
-abbrev pub perhaps_of : Option Stmt → Perhaps
-perhaps_of None = nothing
-perhaps_of (Some s) = just (statement_of s)
 
 abbrev pub perhaps : Option Stmt × Bor (List Lexeme) → Perhaps × List Lexeme
 perhaps x = (perhaps_of x.0, x.1.now)

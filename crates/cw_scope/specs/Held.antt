@@ -1,13 +1,12 @@
 -- Working definitions: what the program holds of a file's lists, and what it stands for.
-use Rattle.std.specs.Prelude.{List, ◌++◌, Option, Some, None}
+use Rattle.std.specs.Prelude.{List, ◌++◌}
 use Rattle.std.specs.Option.{option_map}
 use Rattle.std.specs.Borrow.{Bor}
 use Rattle.cw_syntax.specs.declared.program.Expr.{Expr}
-use Rattle.cw_syntax.specs.Trees.{Tree, tree_of, Perhaps, nothing, just, statement_of}
+use Rattle.cw_syntax.specs.Trees.{Tree, tree_of, statement_of, perhaps_of}
 use Rattle.cw_scope.specs.declared.walks.Placed.{Placed as HeldPlaced}
 use Rattle.cw_scope.specs.declared.walks.Whole.{Whole as HeldWhole}
 use Rattle.cw_syntax.specs.declared.program.Head.{Head, out-Head}
-use Rattle.cw_syntax.specs.declared.program.Stmt.{Stmt}
 use Rattle.cw_scope.specs.declared.entries.Entry.{Entry as HeldEntry}
 use Rattle.cw_scope.specs.Walks.{Placed, Whole, given, init_trees}
 use Rattle.cw_scope.specs.Descriptors.{Entry}
@@ -24,10 +23,6 @@ entry_of e = record { name = e.name; fits = e.fits }
 
 abbrev pub tree_at : Bor Expr → Tree
 tree_at e = tree_of e.now
-
-abbrev pub perhaps_of : Option Stmt → Perhaps
-perhaps_of None = nothing
-perhaps_of (Some s) = just (statement_of s)
 
 -- the expressions of a `for` between its parentheses
 abbrev pub head_trees : Head → List Tree

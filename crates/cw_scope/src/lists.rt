@@ -3,9 +3,9 @@
 ghost use Rattle.std.specs.Prelude.{◌≡◌, [], ◌∷◌, ◌++◌, map, IfOk, Some, None};
 ghost use Rattle.std.specs.List.{flat_map};
 ghost use Rattle.std.specs.Option.{option_map};
-ghost use Rattle.cw_syntax.specs.Trees.{tree_of, trees_of, array_of, statement_of, statements_of, declared_of, declaration_of, definition_of, file_of};
+ghost use Rattle.cw_syntax.specs.Trees.{tree_of, trees_of, array_of, statement_of, statements_of, declared_of, declaration_of, definition_of, file_of, perhaps_of};
 ghost use Rattle.cw_scope.specs.Walks.{placed_all, body_of, every_statement, given, listed, size_of, item_trees, declaration_trees, init_trees, inner, wholes_of, every_whole};
-ghost use Rattle.cw_scope.specs.Held.{placed_of, whole_of, tree_at, perhaps_of, head_trees};
+ghost use Rattle.cw_scope.specs.Held.{placed_of, whole_of, tree_at, head_trees};
 
 use crate::walks::{Placed, Whole, put_statements};
 use cw_syntax::program::{Decl, Expr, Function, Head, Item, Program, Stmt, What};

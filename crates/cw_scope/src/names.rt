@@ -3,10 +3,10 @@
 ghost use Rattle.std.specs.Prelude.{◌≡◌, [], ◌∷◌, ◌++◌, map, IfOk};
 ghost use Rattle.std.specs.List.{flat_map, filter_map};
 ghost use Rattle.std.specs.Option.{option_to_list};
-ghost use Rattle.cw_syntax.specs.Trees.{tree_of, statement_of, declared_of, declaration_of, definition_of, prototype_of, file_of};
+ghost use Rattle.cw_syntax.specs.Trees.{tree_of, statement_of, declared_of, declaration_of, definition_of, prototype_of, file_of, perhaps_of};
 ghost use Rattle.cw_scope.specs.Walks.{every_statement, every_node};
 ghost use Rattle.cw_scope.specs.Names.{declared_names, param_names, local_names, init_names, globals, locals, label_of, labels_of, plain_name, called_name, uses, function_places, every_name};
-ghost use Rattle.cw_scope.specs.Held.{placed_of, tree_at, perhaps_of};
+ghost use Rattle.cw_scope.specs.Held.{placed_of, tree_at};
 ghost use Rattle.cw_scope.specs.Mentions.{every_plain, every_call};
 ghost use Rattle.cw_syntax.specs.declared.program.Head.{out-Head};
 

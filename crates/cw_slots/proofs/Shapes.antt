@@ -4,10 +4,9 @@ use Rattle.cw_syntax.specs.declared.program.Stmt.{Stmt}
 use Rattle.cw_syntax.specs.declared.program.Head.{Head, Head', Head-init-None', Head-init-Some', out-Head}
 use Rattle.cw_syntax.specs.declared.program.What.{What}
 use Rattle.cw_syntax.specs.declared.program.What.TheVariants.{Block, For}
-use Rattle.cw_syntax.specs.Trees.{Statement, form_of, for_of, statement_of, statements_of}
+use Rattle.cw_syntax.specs.Trees.{Statement, form_of, for_of, statement_of, statements_of, perhaps_of}
 use Rattle.cw_syntax.proofs.Shapes.{block_form}
 use Rattle.cw_value.specs.Deeds.{init_in, said, said_all, said_in, said_init}
-use Rattle.cw_slots.specs.Texts.{perhaps_of}
 
 pub block_said : (w : What) (v : Vec Stmt Global) → w ≡ Block v → said_in (form_of w) ≡ said_all (statements_of v.items)
 block_said w v e = ap said_in (block_form w v e)

@@ -1,8 +1,8 @@
 -- Texts as the code holds them.
-use Rattle.std.specs.Prelude.{ℕ, List, map, Bool, true, false, Option, Some, None}
+use Rattle.std.specs.Prelude.{ℕ, List, map, Bool, true, false}
 use Rattle.std.specs.Borrow.{Bor}
 use Rattle.cw_syntax.specs.declared.program.Stmt.{Stmt}
-use Rattle.cw_syntax.specs.Trees.{Declared, Perhaps, Statement, just, nothing, statement_of}
+use Rattle.cw_syntax.specs.Trees.{Declared, Statement, statement_of}
 use Rattle.cw_value.specs.Machines.{is_array, is_plain}
 use Rattle.cw_value.specs.Expressions.{Named}
 
@@ -14,10 +14,6 @@ named_of plain arrays = record { plain = map text_at plain; arrays = map text_at
 
 abbrev pub statement_at : Bor Stmt → Statement
 statement_at s = statement_of s.now
-
-abbrev pub perhaps_of : Option Stmt → Perhaps
-perhaps_of None = nothing
-perhaps_of (Some s) = just (statement_of s)
 
 -- whether a declared name is an array, or whether it is none
 abbrev pub of_kind : Bool → Declared → Bool

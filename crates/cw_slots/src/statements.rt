@@ -1,9 +1,9 @@
 //! The statements of a function.
 
 ghost use Rattle.std.specs.Prelude.{◌≡◌, ◌++◌, map, IfOk};
-ghost use Rattle.cw_syntax.specs.Trees.{statement_of, statements_of};
+ghost use Rattle.cw_syntax.specs.Trees.{statement_of, statements_of, perhaps_of};
 ghost use Rattle.cw_value.specs.Deeds.{said, said_all, said_init};
-ghost use Rattle.cw_slots.specs.Texts.{perhaps_of, statement_at};
+ghost use Rattle.cw_slots.specs.Texts.{statement_at};
 
 use cw_syntax::program::{Stmt, What};
 use std::alloc::{AllocError, Global};

@@ -149,6 +149,10 @@ abbrev mutual
 abbrev pub statement_of : Stmt → Statement
 statement_of s = Stated (form_of s.what) s.from s.to
 
+abbrev pub perhaps_of : Option Stmt → Perhaps
+perhaps_of None = nothing
+perhaps_of (Some s) = just (statement_of s)
+
 abbrev pub statements_of : List Stmt → Statements
 statements_of [] = nil
 statements_of (s ∷ ss) = cons (statement_of s) (statements_of ss)

@@ -1,9 +1,9 @@
 use Rattle.std.proofs.Common.{◌≡◌, ◌++◌, length, rules, sym, ap, ◌∙◌}
 use Rattle.std.proofs.lemmas.List.{append-nil}
 use Rattle.cw_syntax.specs.declared.program.Head.{out-Head}
-use Rattle.cw_syntax.specs.Trees.{statement_of, statements_of}
+use Rattle.cw_syntax.specs.Trees.{statement_of, statements_of, perhaps_of}
 use Rattle.cw_callgraph.specs.Forbidding.{stated, stated_all, known_by_init}
-use Rattle.cw_callgraph.specs.Walking.{scene_at, file_at, perhaps_of, head_list}
+use Rattle.cw_callgraph.specs.Walking.{scene_at, file_at, head_list}
 use Rattle.cw_callgraph.proofs.Nodes.{block_places, for_is, for_known, for_done, cut}
 use Rattle.cw_callgraph.proofs.statements.+stated.Goals as goal
 

@@ -1,7 +1,8 @@
 use Rattle.std.proofs.Common.{◌++◌, sym, ap, ◌∙◌}
 use Rattle.std.proofs.lemmas.List.{append-nil}
+use Rattle.cw_syntax.specs.Trees.{perhaps_of}
 use Rattle.cw_callgraph.specs.Forbidding.{init, known_by_init}
-use Rattle.cw_callgraph.specs.Walking.{scene_at, file_at, perhaps_of}
+use Rattle.cw_callgraph.specs.Walking.{scene_at, file_at}
 use Rattle.cw_callgraph.proofs.Nodes.{no_start, no_start_known}
 use Rattle.cw_callgraph.proofs.statements.put_init.Goals as goal
 

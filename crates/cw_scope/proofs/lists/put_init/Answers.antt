@@ -1,7 +1,8 @@
 use Rattle.std.proofs.Common.{◌++◌, map, sym, ap, ◌∙◌}
 use Rattle.std.proofs.lemmas.List.{append-nil}
+use Rattle.cw_syntax.specs.Trees.{perhaps_of}
 use Rattle.cw_scope.specs.Walks.{inner, init_trees}
-use Rattle.cw_scope.specs.Held.{whole_of, perhaps_of}
+use Rattle.cw_scope.specs.Held.{whole_of}
 use Rattle.cw_scope.proofs.Shapes.{no_init_trees}
 use Rattle.cw_scope.proofs.lists.put_init.Goals as goal
 

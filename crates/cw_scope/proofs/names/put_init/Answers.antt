@@ -1,7 +1,7 @@
 use Rattle.std.proofs.Common.{◌++◌, sym, ap, ◌∙◌}
 use Rattle.std.proofs.lemmas.List.{append-nil}
+use Rattle.cw_syntax.specs.Trees.{perhaps_of}
 use Rattle.cw_scope.specs.Names.{init_names}
-use Rattle.cw_scope.specs.Held.{perhaps_of}
 use Rattle.cw_scope.proofs.Shapes.{no_init_names}
 use Rattle.cw_scope.proofs.names.put_init.Goals as goal
 

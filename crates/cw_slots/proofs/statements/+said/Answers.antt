@@ -2,9 +2,9 @@ use Rattle.std.proofs.Common.{◌≡◌, ◌∷◌, ◌++◌, map, refl, ap, sym
 use Rattle.std.specs.Result.{IfOk}
 use Rattle.std.proofs.lemmas.List.{append_assoc}
 use Rattle.cw_syntax.specs.declared.program.Head.{out-Head}
-use Rattle.cw_syntax.specs.Trees.{statement_of, statements_of}
+use Rattle.cw_syntax.specs.Trees.{statement_of, statements_of, perhaps_of}
 use Rattle.cw_value.specs.Deeds.{said, said_all, said_init}
-use Rattle.cw_slots.specs.Texts.{perhaps_of, statement_at}
+use Rattle.cw_slots.specs.Texts.{statement_at}
 use Rattle.cw_scope.proofs.Pushed.{pushed, further}
 use Rattle.cw_slots.proofs.Shapes.{block_said, for_said}
 use Rattle.cw_slots.proofs.statements.+said.Goals as goal

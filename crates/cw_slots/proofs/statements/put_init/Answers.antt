@@ -1,7 +1,8 @@
 use Rattle.std.proofs.Common.{◌++◌, map, sym, ap, ◌∙◌}
 use Rattle.std.proofs.lemmas.List.{append-nil}
 use Rattle.cw_value.specs.Deeds.{said_init}
-use Rattle.cw_slots.specs.Texts.{perhaps_of, statement_at}
+use Rattle.cw_syntax.specs.Trees.{perhaps_of}
+use Rattle.cw_slots.specs.Texts.{statement_at}
 use Rattle.cw_slots.proofs.Shapes.{no_init}
 use Rattle.cw_slots.proofs.statements.put_init.Goals as goal
 
