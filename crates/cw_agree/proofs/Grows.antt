@@ -7,12 +7,12 @@ use Rattle.cw_syntax.specs.declared.program.Name.{Name}
 use Rattle.cw_syntax.specs.declared.program.Op.{Op}
 use Rattle.cw_syntax.specs.declared.program.Op.TheVariants.{Name as NameOp, Number, Char, Text as TextOp, Call as CallOp, Index as IndexOp, Prefix, Suffix, Binary, Assign, Cast, SizeOf, SizeOfType}
 use Rattle.cw_syntax.specs.Names.{text}
-use Rattle.cw_syntax.specs.Trees.{Tree, Node, Trees, none, more, Declared, Definition}
+use Rattle.cw_syntax.specs.Trees.{Tree, Node, Trees, none, more, Declared, Definition, op_of, parts_of}
 use Rattle.cw_syntax.specs.Plans.{Plain, Break, Continue, Return, Open, Close, Call, Group, Label, If, While, Do, For}
 use Rattle.cw_syntax.specs.Frames.{Item, Entry, Todo, Test, After, Mark, End, Frame}
 use Rattle.cw_model.specs.Boards.{Problem}
 use Rattle.cw_value.specs.Stores.{Cell}
-use Rattle.cw_value.specs.Expressions.{Made, Scope, Memory, Outcome, gives, stops, place_of, Target, OwnSpot, SharedSpot, Nothing, stored, target_at, op_of, parts_of, from_of, to_of}
+use Rattle.cw_value.specs.Expressions.{Made, Scope, Memory, Outcome, gives, stops, place_of, Target, OwnSpot, SharedSpot, Nothing, stored, target_at, from_of, to_of}
 use Rattle.cw_value.specs.Declarations.{size_in}
 use Rattle.cw_value.specs.Deeds.{Deed, Rests, Computes, Makes, Decides, Opens, Calls, Answers, Passing, deed_of, does}
 use Rattle.cw_value.specs.Machines.{Source, Locals, Machine, Step, goes, halts, step, step_by, within, by_outcome, entered, settled_in, answering, deed_in, scope_in, function, memory, ends_in, call_in, back_by, back_to, result_by, taken_over, taken_by, form_in, whole_from}

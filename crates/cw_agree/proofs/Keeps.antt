@@ -7,7 +7,7 @@ use Rattle.cw_syntax.specs.declared.program.Name.{Name}
 use Rattle.cw_syntax.specs.declared.program.Op.{Op}
 use Rattle.cw_syntax.specs.declared.program.Op.TheVariants.{Name as NameOp, Number, Char, Text as TextOp, Call as CallOp, Index as IndexOp, Prefix, Suffix, Binary, Assign, Cast, SizeOf, SizeOfType}
 use Rattle.cw_syntax.specs.Names.{slice, text}
-use Rattle.cw_syntax.specs.Trees.{Tree, Node, Trees, none, more, Declared}
+use Rattle.cw_syntax.specs.Trees.{Tree, Node, Trees, none, more, Declared, op_of, parts_of, count}
 use Rattle.cw_figures.specs.declared.operators.Want.TheVariants.{Overflow as TooLarge, Division as ByZero}
 use Rattle.cw_figures.specs.declared.operators.Operator.{Operator}
 use Rattle.cw_figures.specs.declared.joints.Joint.{Joint}
@@ -16,9 +16,9 @@ use Rattle.cw_figures.specs.Figures.{Figure, fitting, truth, is_zero, operated, 
 use Rattle.cw_value.specs.declared.values.Stop.TheVariants.{Form}
 use Rattle.cw_value.specs.declared.values.Arg.{Arg}
 use Rattle.cw_value.specs.Stores.{Cell, Spot, Element, array_of}
-use Rattle.cw_value.specs.Expressions.{Made, Scope, Memory, Outcome, gives, stops, ◌and◌, op_of, parts_of, from_of, to_of, Place, Own, OwnArray, Shared, SharedArray, Nowhere, place_of, Target, OwnSpot, SharedSpot, Nothing, stored, cell_at, figured, cell_read, given_read, given_for, name_read, read_name, target_at}
+use Rattle.cw_value.specs.Expressions.{Made, Scope, Memory, Outcome, gives, stops, ◌and◌, from_of, to_of, Place, Own, OwnArray, Shared, SharedArray, Nowhere, place_of, Target, OwnSpot, SharedSpot, Nothing, stored, cell_at, figured, cell_read, given_read, given_for, name_read, read_name, target_at}
 use Rattle.cw_value.specs.Expressions.{first_place, is_array, spot_if, indexed, element_in, is_span, answered, Part, signed, truth_of, either, both, joined, combined, binary, put, old_value, after_change, changed, by_one, element, target_of, name_if, before_first, updated, stepped, assigned, prefixed, argued, value, first, second, target, base, index, arguments}
-use Rattle.cw_value.specs.Declarations.{count, array_at, made_array, made_plain, element_target, most_elements, size_if, size_in, sized, listed_one, filled, with_list, new_array, rest_stops, new_plain, by_place, declares_all, declares}
+use Rattle.cw_value.specs.Declarations.{array_at, made_array, made_plain, element_target, most_elements, size_if, size_in, sized, listed_one, filled, with_list, new_array, rest_stops, new_plain, by_place, declares_all, declares}
 use Rattle.cw_agree.specs.Agreements.{IsPlaced}
 use Rattle.cw_value.specs.Deeds.{Deed, Rests, Computes, Makes, Decides, Opens, Calls, Answers, values, value_if, does}
 

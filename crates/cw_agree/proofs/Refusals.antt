@@ -13,14 +13,14 @@ use Rattle.cw_certs.specs.declared.moves.Move.TheVariants.{Skip, Try, Grant, Ref
 use Rattle.cw_certs.specs.Tables.{Table}
 use Rattle.cw_syntax.specs.declared.program.Name.{Name}
 use Rattle.cw_syntax.specs.Names.{text}
-use Rattle.cw_syntax.specs.Trees.{Tree, Trees, none, more, Declared, Definition}
+use Rattle.cw_syntax.specs.Trees.{Tree, Trees, none, more, Declared, Definition, count}
 use Rattle.cw_syntax.specs.Frames.{Item, Entry, Todo, Test, After, Mark, End, Frame, start_stack}
 use Rattle.cw_model.specs.Boards.{Problem, problem_of, Phase, Visit, Asked, Refused as RefusedPhase, Free, FreeSplit, Over, Board, may_grant, may_refuse, can_stop, begin, onward, moved, granted, passed_by, refused, answered, is_refused}
 use Rattle.cw_model.specs.Runs.{State}
 use Rattle.cw_value.specs.declared.values.Stop.TheVariants.{Refused, Form}
 use Rattle.cw_value.specs.Stores.{Cell}
 use Rattle.cw_value.specs.Expressions.{Scope, Memory, Outcome, gives, stops, ◌and◌, Place, Own, OwnArray, Shared, SharedArray, Nowhere, Target, OwnSpot, SharedSpot, Nothing, stored, target_at, place_of, from_of, value}
-use Rattle.cw_value.specs.Declarations.{Done, done, count, most_elements, size_if, size_in, sized, listed_one, filled, with_zeros, with_list, rest_stops, made_array, made_plain, element_target}
+use Rattle.cw_value.specs.Declarations.{Done, done, most_elements, size_if, size_in, sized, listed_one, filled, with_zeros, with_list, rest_stops, made_array, made_plain, element_target}
 use Rattle.cw_value.specs.Deeds.{Passing, deed_of, does}
 use Rattle.cw_value.specs.Machines.{Source, Locals, Machine, Step, goes, halts, step, step_by, within, by_outcome, deed_in, scope_in, function, memory, globals, ends_in, call_in, back_by, back_to, result_by, taken_over, taken_by, form_in, whole_from}
 use Rattle.cw_value.specs.Starts.{no_store, start_store, start_cell, is_named, has_size, made_once, array_turn, plain_turn, turn_at, turns, begun}

@@ -1,7 +1,6 @@
 -- A statement of a function by its place, as the code finds it, and what passing it does.
 use Rattle.std.specs.Prelude.{ℕ, List, Option, option_and_then, option_map, find}
-use Rattle.cw_syntax.specs.Trees.{Trees, none, more, Statement, Form}
-use Rattle.cw_value.specs.Expressions.{parts_of}
+use Rattle.cw_syntax.specs.Trees.{Trees, none, more, Statement, Form, parts_of}
 use Rattle.cw_value.specs.Deeds.{Deed, Rests, Computes, Decides, Opens, Calls, Answers, arguments_if, begins_at, condition, evaluated, form_of, next_turn, plain_if, returned}
 use Rattle.cw_deeds.specs.declared.items.Row.{Row}
 use Rattle.cw_deeds.specs.declared.items.Row.TheVariants as row

@@ -1,9 +1,9 @@
 //! Statements by their places, and what passing them does.
 
 ghost use Rattle.std.specs.Prelude.{◌≡◌, ℕ, find, map, option_and_then, option_map, Some};
-ghost use Rattle.cw_syntax.specs.Trees.{Evaluates, Node, tree_of, trees_of, statement_of};
+ghost use Rattle.cw_syntax.specs.Trees.{Evaluates, Node, tree_of, trees_of, statement_of, parts_of};
 ghost use Rattle.cw_value.specs.Deeds.{arguments_if, arguments_of, begins_at, condition, evaluated, form_of, next_turn, plain_deed, plain_if, returned};
-ghost use Rattle.cw_value.specs.Expressions.{from_of, parts_of};
+ghost use Rattle.cw_value.specs.Expressions.{from_of};
 ghost use Rattle.cw_value.specs.Machines.{call_from, second_from, whole_from};
 ghost use Rattle.cw_slots.specs.Texts.{statement_at};
 ghost use Rattle.cw_eval.specs.Passings.{deed_in};

@@ -1,10 +1,10 @@
 -- Arguments, one after the other.
 use Rattle.std.proofs.Common.{◌≡◌, ℕ, ◌+◌, List, [], ◌∷◌, map, length, refl, ap, arith}
 use Rattle.cw_syntax.specs.declared.program.Expr.{Expr}
-use Rattle.cw_syntax.specs.Trees.{declared_of, tree_of, trees_of}
+use Rattle.cw_syntax.specs.Trees.{declared_of, tree_of, trees_of, count}
 use Rattle.cw_value.specs.Expressions.{Scope, Memory, Outcome, gives, stops, ◌and◌, Place, arguments, value}
 use Rattle.cw_syntax.specs.declared.program.Item.{Item}
-use Rattle.cw_value.specs.Declarations.{count, declares_all, filled}
+use Rattle.cw_value.specs.Declarations.{declares_all, filled}
 use Rattle.cw_value.specs.Deeds.{values}
 use Rattle.cw_eval.specs.Parts.{argument, declared_one, listed_at}
 use Rattle.cw_eval.proofs.Along.{along}

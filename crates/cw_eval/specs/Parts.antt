@@ -1,9 +1,9 @@
 -- One of the arguments of an external call, of the expressions of a braced list, of the names of a declaration.
 use Rattle.std.specs.Prelude.{ℕ, nat_lt}
 use Rattle.cw_syntax.specs.Names.{text}
-use Rattle.cw_syntax.specs.Trees.{Tree, Declared}
+use Rattle.cw_syntax.specs.Trees.{Tree, Declared, op_of}
 use Rattle.cw_value.specs.declared.values.Arg.{Arg}
-use Rattle.cw_value.specs.Expressions.{Scope, Memory, Outcome, Place, argued, is_span, op_of, from_of, to_of, place_of, value}
+use Rattle.cw_value.specs.Expressions.{Scope, Memory, Outcome, Place, argued, is_span, from_of, to_of, place_of, value}
 use Rattle.cw_value.specs.Declarations.{Done, by_place, listed_one}
 
 abbrev pub argument : Scope → Tree → Memory → Outcome Arg

@@ -2,9 +2,9 @@
 
 ghost use Rattle.std.specs.Prelude.{◌≡◌, [], ◌++◌, ◌-◌, None, Some, false, OnOk, map, nat_lt, pos, replicate, slice_get, slice_set, take, unwrap_or};
 ghost use Rattle.cw_syntax.specs.Names.{text};
-ghost use Rattle.cw_syntax.specs.Trees.{array_of, declaration_of, declared_of, more, none, tree_of, trees_of};
+ghost use Rattle.cw_syntax.specs.Trees.{array_of, declaration_of, declared_of, more, none, tree_of, trees_of, count};
 ghost use Rattle.cw_value.specs.Expressions.{◌and◌, from_of, place_of, value};
-ghost use Rattle.cw_value.specs.Declarations.{by_place, count, element_target, declares, declares_all, filled, listed, listed_array, listed_one, made_array, made_plain, new_array, new_plain, rest_stops, size_if, size_in, sized, with_list, with_zeros};
+ghost use Rattle.cw_value.specs.Declarations.{by_place, element_target, declares, declares_all, filled, listed, listed_array, listed_one, made_array, made_plain, new_array, new_plain, rest_stops, size_if, size_in, sized, with_list, with_zeros};
 ghost use Rattle.cw_slots.specs.Shown.{place_in, scope_of};
 ghost use Rattle.cw_eval.specs.Parts.{declared_one, listed_at};
 ghost use Rattle.cw_eval.specs.Shown.{Shows, as_done, as_is, memory_of, target_in};

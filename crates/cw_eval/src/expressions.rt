@@ -1,8 +1,8 @@
 //! What expressions give.
 
 ghost use Rattle.std.specs.Prelude.{◌≡◌, ◌++◌, ◌-◌, false};
-ghost use Rattle.cw_syntax.specs.Trees.{Node, more, none, tree_of, trees_of};
-ghost use Rattle.cw_value.specs.Expressions.{Nothing, ◌and◌, arguments, argued, assigned, base, before_first, binary, by_one, element, first, first_place, from_of, gives, index, is_span, joined, op_of, parts_of, prefixed, second, stepped, target, target_of, to_of, value};
+ghost use Rattle.cw_syntax.specs.Trees.{Node, more, none, tree_of, trees_of, op_of, parts_of};
+ghost use Rattle.cw_value.specs.Expressions.{Nothing, ◌and◌, arguments, argued, assigned, base, before_first, binary, by_one, element, first, first_place, from_of, gives, index, is_span, joined, prefixed, second, stepped, target, target_of, to_of, value};
 ghost use Rattle.cw_slots.specs.Shown.{place_in, scope_of};
 ghost use Rattle.cw_eval.specs.Parts.{argument};
 ghost use Rattle.cw_eval.specs.Shown.{Shows, as_is, items_in, memory_of, target_in};

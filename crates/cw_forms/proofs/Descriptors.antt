@@ -10,7 +10,7 @@ use Rattle.cw_syntax.specs.declared.program.Name.{Name}
 use Rattle.cw_syntax.specs.declared.program.Op.{Op}
 use Rattle.cw_syntax.specs.declared.program.Op.TheVariants as op
 use Rattle.cw_syntax.specs.Names.{Names, text, number_in}
-use Rattle.cw_syntax.specs.Trees.{Tree, Node, Trees, none, more, Declared, Declaration, Definition, File}
+use Rattle.cw_syntax.specs.Trees.{Tree, Node, Trees, none, more, Declared, Declaration, Definition, File, parts_of}
 use Rattle.cw_syntax.specs.Plans.{Scene, scene_of, Action, Computes, action_of, call_action, assigned_action, closed_by, opens_if, closes_if, descriptor_of}
 use Rattle.cw_rights.specs.Policies.{PlainPolicy, PlainDescriptor}
 use Rattle.cw_resolve.specs.Scenes.{names_of}
@@ -18,7 +18,7 @@ use Rattle.cw_scope.specs.declared.descriptors.DescriptorFault.{DescriptorFault}
 use Rattle.cw_scope.specs.declared.descriptors.DescriptorFault.TheVariants.{NoVariable, Shadowed, Misuse}
 use Rattle.cw_scope.specs.Walks.{nodes, nodes_in, listed, Whole, inner, every_whole}
 use Rattle.cw_scope.specs.Names.{locals}
-use Rattle.cw_scope.specs.Rules.{at_if, parts_of}
+use Rattle.cw_scope.specs.Rules.{at_if}
 use Rattle.cw_scope.specs.Descriptors.{scene_under, is_number, is_minus, is_minus_one, is_start, is_plain_int, is_before, may_be_variable, Entry, entry_in, entries_of, entries}
 use Rattle.cw_scope.specs.Descriptors.{is_one, is_declared, is_shadowed, is_variable, first_undeclared, first_shadowed, names_variable, is_change, first_is_variable, names_some, misuse, is_own}
 use Rattle.cw_scope.specs.Descriptors.{used, least_misuse, descriptor_fault}

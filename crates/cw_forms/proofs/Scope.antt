@@ -11,12 +11,12 @@ use Rattle.cw_syntax.specs.declared.program.Name.{Name}
 use Rattle.cw_syntax.specs.declared.program.Op.{Op}
 use Rattle.cw_syntax.specs.declared.program.Op.TheVariants as op
 use Rattle.cw_syntax.specs.Names.{text}
-use Rattle.cw_syntax.specs.Trees.{Tree, Node, Trees, none, more, Definition, File}
+use Rattle.cw_syntax.specs.Trees.{Tree, Node, Trees, none, more, Definition, File, parts_of, count}
 use Rattle.cw_scope.specs.declared.faults.ScopeFault.{ScopeFault}
 use Rattle.cw_scope.specs.declared.faults.ScopeFault.TheVariants.{NoMain, TwoFunctions, TwoLabels, Arity, CallForm, MainCalled, Reserved, Jump, Limit}
 use Rattle.cw_scope.specs.Walks.{nodes, nodes_in, body_of, every_statement, Whole, inner, every_whole, every_node}
 use Rattle.cw_scope.specs.Names.{labels_of, every_label, globals, locals, plain_name, called_name, uses, function_places, every_name}
-use Rattle.cw_scope.specs.Rules.{repeated, different, is_main, is_reserved, count, parts_of, is_call, call_if, statement_call, standing_call, second_label, miscounted, defined, is_defined}
+use Rattle.cw_scope.specs.Rules.{repeated, different, is_main, is_reserved, is_call, call_if, statement_call, standing_call, second_label, miscounted, defined, is_defined}
 use Rattle.cw_scope.specs.Rules.{second_function, wrong_arity, function_name, defined_call, external_call, misplaced, second_external, wrong_form, main_call, reserved}
 use Rattle.cw_scope.specs.Faults.{no_main, two_functions, two_labels, arity, call_form, main_called, reserved_name, jump, limit, ◌or_else◌, scope_fault}
 use Rattle.cw_resolve.specs.Soonest.{sooner, soonest}

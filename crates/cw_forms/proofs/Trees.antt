@@ -4,10 +4,10 @@ use Rattle.std.specs.List.{filter_map, list_any}
 use Rattle.cw_syntax.specs.declared.program.Name.{Name}
 use Rattle.cw_syntax.specs.declared.program.Op.{Op}
 use Rattle.cw_syntax.specs.declared.program.Op.TheVariants as op
-use Rattle.cw_syntax.specs.Trees.{Tree, Node, Trees, none, more}
+use Rattle.cw_syntax.specs.Trees.{Tree, Node, Trees, none, more, count}
 use Rattle.cw_scope.specs.Walks.{nodes, nodes_in}
 use Rattle.cw_scope.specs.Names.{plain_name, called_name}
-use Rattle.cw_scope.specs.Rules.{at_if, count, is_call, call_if, statement_call}
+use Rattle.cw_scope.specs.Rules.{at_if, is_call, call_if, statement_call}
 use Rattle.cw_resolve.specs.Soonest.{soonest}
 use Rattle.cw_source.proofs.Landing.{neither}
 use Rattle.cw_forms.specs.Moved.{Pairs, SameName, SameOp, Alike, AllAlike}

@@ -4,10 +4,10 @@ use Rattle.cw_syntax.specs.declared.program.Name.{Name}
 use Rattle.cw_syntax.specs.declared.program.Op.{Op}
 use Rattle.cw_syntax.specs.declared.program.Op.TheVariants.{Name as NameOp, Call as CallOp, Prefix, Suffix, Assign}
 use Rattle.cw_syntax.specs.declared.program.Expr.{Expr, out-Expr}
-use Rattle.cw_syntax.specs.Trees.{Tree, Node, Trees, tree_of, trees_of}
+use Rattle.cw_syntax.specs.Trees.{Tree, Node, Trees, tree_of, trees_of, parts_of, count}
 use Rattle.cw_scope.specs.Names.{plain_name, called_name}
 use Rattle.cw_syntax.specs.Trees.{File}
-use Rattle.cw_scope.specs.Rules.{call_if, is_call, wrong_arity, count, parts_of}
+use Rattle.cw_scope.specs.Rules.{call_if, is_call, wrong_arity}
 use Rattle.cw_syntax.specs.Plans.{Scene}
 use Rattle.cw_scope.specs.Descriptors.{names_variable, misuse}
 use Rattle.cw_syntax.proofs.Shapes.{node_is}

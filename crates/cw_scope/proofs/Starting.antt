@@ -2,9 +2,9 @@
 use Rattle.std.proofs.Common.{◌≡◌, ◌≢◌, ◌≤◌, ℕ, Bool, false, ◌&&◌, List, [], ◌∷◌, length, get_or, refl, sym, ap, ◌∙◌, arith}
 use Rattle.cw_syntax.specs.declared.program.Op.{Op}
 use Rattle.cw_syntax.specs.declared.program.Expr.{Expr, out-Expr}
-use Rattle.cw_syntax.specs.Trees.{Node, none, more, tree_of, trees_of}
+use Rattle.cw_syntax.specs.Trees.{Node, none, more, tree_of, trees_of, op_of}
 use Rattle.cw_scope.specs.Walks.{listed}
-use Rattle.cw_scope.specs.Descriptors.{is_minus, is_number, is_minus_one, is_start, op_of}
+use Rattle.cw_scope.specs.Descriptors.{is_minus, is_number, is_minus_one, is_start}
 use Rattle.cw_syntax.proofs.Shapes.{node_is}
 
 pub minus_one_of : (op : Op) (es : List Expr) (x : Expr) (a b : ℕ) → length es ≡ 1 → x ≡ get_or es 0 x → is_minus_one (Node op (trees_of es) a b) ≡ (is_minus op && is_number 1 (out-Expr x).op)

@@ -11,7 +11,7 @@ use Rattle.cw_syntax.specs.declared.program.Name.{Name}
 use Rattle.cw_syntax.specs.declared.program.Op.{Op}
 use Rattle.cw_syntax.specs.declared.program.Op.TheVariants.{Name as NameOp, Number, Call as CallOp, Prefix, Suffix, Assign}
 use Rattle.cw_syntax.specs.Names.{slice, text, number_in}
-use Rattle.cw_syntax.specs.Trees.{Tree, Node, Trees, none, more, Declared, Declaration, Definition, File}
+use Rattle.cw_syntax.specs.Trees.{Tree, Node, Trees, none, more, Declared, Declaration, Definition, File, op_of, parts_of}
 use Rattle.cw_syntax.specs.Plans.{Scene, scene_of, Action, Opens, Closes, action_of, descriptor_of}
 use Rattle.cw_rights.specs.Policies.{PlainPolicy, PlainDescriptor}
 use Rattle.cw_resolve.specs.Scenes.{names_of}
@@ -19,7 +19,7 @@ use Rattle.cw_scope.specs.declared.descriptors.DescriptorFault.{DescriptorFault}
 use Rattle.cw_scope.specs.declared.descriptors.DescriptorFault.TheVariants.{NoVariable, Shadowed, Misuse, NoMemory}
 use Rattle.cw_scope.specs.Walks.{nodes, nodes_in, listed, Whole, every_whole}
 use Rattle.cw_scope.specs.Names.{locals}
-use Rattle.cw_scope.specs.Rules.{at_if, parts_of}
+use Rattle.cw_scope.specs.Rules.{at_if}
 use Rattle.cw_resolve.specs.Soonest.{soonest}
 
 -- a source under the names that a policy has
@@ -34,9 +34,6 @@ is_number n _ = false
 abbrev pub is_minus : Op → Bool
 is_minus (Prefix n) = nat_eq n 1
 is_minus _ = false
-
-abbrev pub op_of : Tree → Op
-op_of (Node op parts from to) = op
 
 abbrev pub is_minus_one : Tree → Bool
 is_minus_one (Node op (more operand none) from to) = is_minus op && is_number 1 (op_of operand)

@@ -1,13 +1,13 @@
 -- The scope rules, each with the first place at which it fails. Public source: ISO/IEC 9899:2011, sections 6.2.1, 6.5.2.2, 6.8.1,
 -- 6.8.6 and 6.9, and this project's subset of C.
-use Rattle.std.specs.Prelude.{ℕ, zero, List, [], ◌∷◌, ◌++◌, map, min, length, Bool, true, false, cond, not, ◌||◌, ◌&&◌, nat_eq, Option, Some, None, is_some, slice_get, take, codes, ◌+◌}
+use Rattle.std.specs.Prelude.{ℕ, zero, List, [], ◌∷◌, ◌++◌, map, length, Bool, true, false, cond, not, ◌||◌, ◌&&◌, nat_eq, Option, Some, None, is_some, slice_get, take, codes, ◌+◌}
 use Rattle.std.specs.List.{filter_map, find, list_any}
 use Rattle.std.specs.Option.{option_or}
 use Rattle.std.specs.Str.{bytes_eq}
 use Rattle.cw_syntax.specs.declared.program.Name.{Name}
 use Rattle.cw_syntax.specs.declared.program.Op.TheVariants.{Name as NameOp, Call as CallOp, Assign}
 use Rattle.cw_syntax.specs.Names.{text}
-use Rattle.cw_syntax.specs.Trees.{Tree, Node, Trees, none, more, Statement, Stated, Form, Breaks, Continues, Definition, File}
+use Rattle.cw_syntax.specs.Trees.{Tree, Node, none, more, Statement, Stated, Form, Breaks, Continues, Definition, File, parts_of, count}
 use Rattle.cw_scope.specs.Walks.{nodes, nodes_in, body_of, Whole}
 use Rattle.cw_scope.specs.Names.{labels_of}
 use Rattle.cw_resolve.specs.Soonest.{sooner, soonest}
@@ -33,13 +33,6 @@ is_main name = bytes_eq name (codes "main")
 
 abbrev pub is_reserved : List ℕ → Bool
 is_reserved name = bytes_eq (take 3 name) (codes "cw_") || bytes_eq (take 3 name) (codes "CW_")
-
-abbrev pub count : Trees → ℕ
-count none = 0
-count (more t ts) = count ts + 1
-
-abbrev pub parts_of : Tree → Trees
-parts_of (Node op parts from to) = parts
 
 abbrev pub is_call : Tree → Bool
 is_call (Node (CallOp f) arguments from to) = true

@@ -1,6 +1,6 @@
 -- The program data as plain trees: what was read, without where it lies in memory. The grammar, the scope rules
 -- and the steps of a program speak of these. Public source: ISO/IEC 9899:2011, sections 6.5, 6.7, 6.8 and 6.9.
-use Rattle.std.specs.Prelude.{ℕ, List, [], ◌∷◌, Bool, Option, None, Some, option_map, map}
+use Rattle.std.specs.Prelude.{ℕ, List, [], ◌∷◌, Bool, Option, None, Some, option_map, map, ◌+◌}
 use Rattle.cw_syntax.specs.declared.program.Name.{Name}
 use Rattle.cw_syntax.specs.declared.program.CType.{CType}
 use Rattle.cw_syntax.specs.declared.program.Op.{Op}
@@ -24,6 +24,16 @@ mutual
   pub data Trees : Type 0 where
     none : Trees
     more : Tree → Trees → Trees
+
+abbrev pub op_of : Tree → Op
+op_of (Node op parts from to) = op
+
+abbrev pub parts_of : Tree → Trees
+parts_of (Node op parts from to) = parts
+
+abbrev pub count : Trees → ℕ
+count none = 0
+count (more t ts) = count ts + 1
 
 -- A declared name: its type, its array's brackets and size, its initialisers.
 pub record Declared : Type 0 where

@@ -2,17 +2,13 @@
 -- Public source: ISO/IEC 9899:2011, sections 6.7.6.2 and 6.7.9.
 use Rattle.std.specs.Prelude.{ℕ, ◌+◌, ◌-◌, ℤ, pos, negsuc, List, [], ◌∷◌, ◌++◌, take, replicate, min, Bool, true, false, cond, nat_lt, nat_le, Option, Some, None}
 use Rattle.cw_syntax.specs.Names.{text}
-use Rattle.cw_syntax.specs.Trees.{Tree, Trees, none, more, Declared, Declaration}
+use Rattle.cw_syntax.specs.Trees.{Tree, Trees, none, more, Declared, Declaration, count}
 use Rattle.cw_value.specs.declared.values.Stop.TheVariants.{Form}
 use Rattle.cw_value.specs.Stores.{Cell, Plain, Element, array_of, with_array, with_cell}
 use Rattle.cw_value.specs.Expressions.{Scope, Memory, Outcome, gives, stops, ◌and◌, Place, Own, OwnArray, Shared, SharedArray, place_of, Target, OwnSpot, SharedSpot, Nothing, stored, from_of, value}
 
 abbrev pub most_elements : ℕ
 most_elements = 65536
-
-abbrev pub count : Trees → ℕ
-count none = 0
-count (more t ts) = count ts + 1
 
 -- nothing but a changed memory
 pub data Done : Type 0 where

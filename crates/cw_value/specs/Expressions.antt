@@ -7,7 +7,7 @@ use Rattle.cw_syntax.specs.declared.program.Name.{Name}
 use Rattle.cw_syntax.specs.declared.program.Op.{Op}
 use Rattle.cw_syntax.specs.declared.program.Op.TheVariants.{Name as NameOp, Number, Char, Text as TextOp, Call as CallOp, Index as IndexOp, Prefix, Suffix, Binary, Assign, Cast, SizeOf, SizeOfType}
 use Rattle.cw_syntax.specs.Names.{slice, number_in}
-use Rattle.cw_syntax.specs.Trees.{Tree, Node, Trees, none, more}
+use Rattle.cw_syntax.specs.Trees.{Tree, Node, Trees, none, more, op_of, parts_of}
 use Rattle.cw_figures.specs.declared.operators.Want.TheVariants.{Overflow as TooLarge, Division as ByZero}
 use Rattle.cw_figures.specs.declared.operators.Operator.{Operator}
 use Rattle.cw_figures.specs.declared.joints.Joint.{Joint}
@@ -54,12 +54,6 @@ infixl 10 ◌and◌
 abbrev pub ◌and◌ : {A B : Type 0} → Outcome A → (A → Memory → Outcome B) → Outcome B
 (gives a m) and f = f a m
 (stops s m) and f = stops s m
-
-abbrev pub op_of : Tree → Op
-op_of (Node op parts from to) = op
-
-abbrev pub parts_of : Tree → Trees
-parts_of (Node op parts from to) = parts
 
 abbrev pub from_of : Tree → ℕ
 from_of (Node op parts from to) = from

@@ -1,8 +1,8 @@
 use Rattle.std.proofs.Common.{◌≡◌, ◌++◌, Bool, cond, false, true, None, List, map, ap, ap₂, sym, ◌∙◌}
 use Rattle.std.specs.List.{list_any}
-use Rattle.cw_syntax.specs.Trees.{Tree, Trees, trees_of, tree_of, file_of}
+use Rattle.cw_syntax.specs.Trees.{Tree, Trees, trees_of, tree_of, file_of, parts_of}
 use Rattle.cw_scope.specs.Walks.{nodes_in}
-use Rattle.cw_scope.specs.Rules.{is_call, parts_of, defined_call}
+use Rattle.cw_scope.specs.Rules.{is_call, defined_call}
 use Rattle.cw_resolve.specs.Soonest.{sooner, soonest}
 use Rattle.cw_scope.specs.Held.{tree_at}
 use Rattle.cw_scope.proofs.Operators.{parts_are}

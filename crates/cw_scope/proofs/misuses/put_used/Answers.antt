@@ -1,7 +1,6 @@
 use Rattle.std.proofs.Common.{◌++◌, ◌&&◌, cond, map, ap, ap₂, sym, ◌∙◌}
-use Rattle.cw_syntax.specs.Trees.{tree_of, trees_of}
+use Rattle.cw_syntax.specs.Trees.{tree_of, trees_of, parts_of}
 use Rattle.cw_scope.specs.Walks.{nodes, nodes_in}
-use Rattle.cw_scope.specs.Rules.{parts_of}
 use Rattle.cw_scope.specs.Held.{tree_at}
 use Rattle.cw_scope.proofs.Operators.{parts_are}
 use Rattle.cw_scope.proofs.misuses.put_used.Goals as goal

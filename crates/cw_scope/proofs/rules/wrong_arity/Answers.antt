@@ -1,8 +1,8 @@
 use Rattle.std.proofs.Common.{◌≡◌, not, nat_eq, length, arith, sym, ap, ap₂, ◌∙◌}
 use Rattle.cw_syntax.specs.declared.program.Expr.{out-Expr}
 use Rattle.cw_syntax.specs.declared.program.Op.TheVariants.{Call as CallOp}
-use Rattle.cw_syntax.specs.Trees.{file_of, trees_of}
-use Rattle.cw_scope.specs.Rules.{at_if, defined, miscounted, wrong_arity, count}
+use Rattle.cw_syntax.specs.Trees.{file_of, trees_of, count}
+use Rattle.cw_scope.specs.Rules.{at_if, defined, miscounted, wrong_arity}
 use Rattle.cw_scope.proofs.Operators.{at_operator, isnt_wrong, counted}
 use Rattle.cw_scope.proofs.rules.wrong_arity.Goals as goal
 
