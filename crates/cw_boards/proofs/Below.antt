@@ -12,10 +12,10 @@ use Rattle.cw_rights.specs.declared.capabilities.Caps.{Caps}
 use Rattle.cw_syntax.specs.Trees.{definition_of}
 use Rattle.cw_certs.specs.declared.moves.Move.{Move}
 use Rattle.cw_resolve.specs.Scenes.{stms_in}
-use Rattle.cw_model.specs.Boards.{Problem, Board, landed, stepped, way_of}
+use Rattle.cw_model.specs.Boards.{Problem, Board, landed, stepped, way_of, mode_of}
 use Rattle.cw_boards.specs.declared.choices.Choice.{Choice}
 use Rattle.cw_boards.specs.declared.choices.Choice.TheVariants.{Forbidden, To, Grants, Steps}
-use Rattle.cw_boards.specs.Choices.{mode_of, chosen}
+use Rattle.cw_boards.specs.Choices.{chosen}
 use Rattle.cw_boards.specs.declared.turns.Turn.{Turn}
 use Rattle.cw_boards.specs.declared.turns.Turn.TheVariants.{Passes, Breaks, Continues, Ends, Enters, Calls, Returns, Stops}
 use Rattle.cw_boards.specs.Numbered.{most_seams, capped, SeamsBelow, AllSeamsBelow, ItemBelow, FrameBelow, StackBelow}

@@ -7,7 +7,7 @@ use Rattle.cw_rights.specs.Capabilities.{applied}
 use Rattle.cw_rights.specs.Policies.{PlainPolicy, primitives}
 use Rattle.cw_certs.specs.declared.moves.Move.{Move}
 use Rattle.cw_certs.specs.declared.moves.Move.TheVariants.{Skip, Try, Grant, Refuse, Stop}
-use Rattle.cw_model.specs.Boards.{Problem, Board, may_grant, may_refuse, can_stop, way_of, stepped}
+use Rattle.cw_model.specs.Boards.{Problem, Board, may_grant, may_refuse, can_stop, way_of, stepped, mode_of}
 use Rattle.cw_boards.specs.declared.kinds.FrontKind.{FrontKind}
 use Rattle.cw_boards.specs.declared.kinds.FrontKind.TheVariants.{Entry, Label, Call}
 use Rattle.cw_boards.specs.declared.choices.Phase.{Phase as HeldPhase}
@@ -65,11 +65,6 @@ choice_of policy all caps (HeldAsked stage) by = asked_choice policy caps stage 
 choice_of policy all caps (HeldRefused stage) by = refused_choice stage (slice_get all stage) by
 choice_of policy all caps HeldSplit by = Steps true
 choice_of policy all caps HeldOver by = Forbidden
-
--- what is kept for the return of a call
-abbrev pub mode_of : Bool → Caps → Option Caps
-mode_of true caps = Some caps
-mode_of false caps = None
 
 -- the board after a choice
 abbrev pub chosen : Problem → Board → Choice → Move → Option Board

@@ -14,7 +14,7 @@ use Rattle.cw_certs.specs.declared.moves.Move.TheVariants.{Skip, Try, Grant, Ref
 use Rattle.cw_syntax.specs.Plans.{Callee, Open, Close, Call, Label, Routine, Plan}
 use Rattle.cw_syntax.specs.Frames.{Item, Todo, End, Frame, new_frame, settle, Way, after, pass, popped, stack_of, frame_of}
 use Rattle.cw_syntax.specs.Frames.{On as OnWay, Left as LeftWay, Right as RightWay, Opened as OpenedWay, Failed as FailedWay}
-use Rattle.cw_model.specs.Boards.{Problem, Phase, Visit, Asked, Refused, Free, FreeSplit, Over, Board, primitives_in, onward, begin, letters_in, start_board, Violates, may_grant}
+use Rattle.cw_model.specs.Boards.{Problem, Phase, Visit, Asked, Refused, Free, FreeSplit, Over, Board, primitives_in, onward, begin, letters_in, start_board, Violates, may_grant, mode_of}
 use Rattle.cw_model.specs.Boards.{may_refuse, can_stop, with_opened, given_back, caps_after, landed, granted, passed_by, stop_answers, is_refused, moved, Moves, Weaver}
 use Rattle.cw_model.specs.Boards.{Environment, Party, turn_of, Forced}
 use Rattle.cw_game.specs.declared.spots.Spot.{Spot}
@@ -25,7 +25,7 @@ use Rattle.cw_game.specs.Places.{At, IsLaidOut, HasRoutines}
 use Rattle.cw_game.specs.Pairs.{call_spot, kept_at}
 use Rattle.cw_game.specs.Standing.{Meaning, Stage, Resumes, Under, StandsIn, StandsOn}
 use Rattle.cw_game.proofs.Fronts.{next_stage, IsQuiet, Front, is_step, is_branch, is_label, is_open, is_close, is_call, is_end, front_of}
-use Rattle.cw_game.proofs.Stands.{mode_of, mode_kept, no_letter, stage_at, lands_at, refused_at, grants_is, refuses_is, stops_is, granted_at, given_is, enters_at}
+use Rattle.cw_game.proofs.Stands.{mode_kept, no_letter, stage_at, lands_at, refused_at, grants_is, refuses_is, stops_is, granted_at, given_is, enters_at}
 use Rattle.cw_lemmas.proofs.Truths.{not_both}
 
 -- the board stands at the configuration, and isn't in Refused

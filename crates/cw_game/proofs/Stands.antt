@@ -8,7 +8,7 @@ use Rattle.cw_rights.specs.Policies.{PlainPolicy, primitives}
 use Rattle.cw_syntax.specs.Plans.{Plain, Break, Continue, Return, Open, Close, Call, Group, Label, If, While, Do, For, Routine, Plan}
 use Rattle.cw_syntax.specs.Frames.{Entry, Todo, Test, After, Mark, End, Frame, new_frame, settle, settled}
 use Rattle.cw_syntax.proofs.Settling.{settle_settled}
-use Rattle.cw_model.specs.Boards.{Board, primitives_in, onward, may_grant, may_refuse, can_stop, given_back, granted}
+use Rattle.cw_model.specs.Boards.{Board, primitives_in, onward, may_grant, may_refuse, can_stop, given_back, granted, mode_of}
 use Rattle.cw_game.specs.Games.{AreStates, Game, Ret, past_asked, returned, may_refuse_in, can_stop_in}
 use Rattle.cw_game.specs.Places.{At}
 use Rattle.cw_game.specs.Pairs.{kept_at}
@@ -22,11 +22,6 @@ same_kept Means None None h = refl
 same_kept Means (Some caps) (Some q) h = refl
 same_kept Means None (Some q) h = absurd h
 same_kept Means (Some caps) None h = absurd h
-
--- what is kept for the return of a call in a mode
-abbrev pub mode_of : Bool → Caps → Option Caps
-mode_of true caps = Some caps
-mode_of false caps = None
 
 pub mode_kept : (Means : Meaning) (split : Bool) (q : ℕ) (word : Word) (caps : Caps) → Means q word caps → KeptIs Means (mode_of split caps) (kept_at split q)
 mode_kept Means true q word caps h = (word, h)

@@ -114,6 +114,11 @@ way_of Opened = Some OpenedWay
 way_of Failed = Some FailedWay
 way_of _ = None
 
+-- what is kept for the return of a call in a mode
+abbrev pub mode_of : Bool → Caps → Option Caps
+mode_of true caps = Some caps
+mode_of false caps = None
+
 -- what is kept after a step: a call keeps by its mode, an end forgets
 abbrev pub kept_after : Option Caps → List Frame → List (Option Caps) → List (Option Caps)
 kept_after mode ((Todo (Call at j callee) ∷ is) ∷ frames) kept = mode ∷ kept

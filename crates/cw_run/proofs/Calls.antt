@@ -10,7 +10,7 @@ use Rattle.cw_certs.specs.Tables.{Table, into_at, back_at, state_of}
 use Rattle.cw_syntax.specs.Plans.{Callee, Call, Plan}
 use Rattle.cw_syntax.specs.Frames.{Todo, End, Frame, Way, settle, pass, frame_of}
 use Rattle.cw_syntax.specs.Frames.{On as OnWay}
-use Rattle.cw_model.specs.Boards.{Problem, Phase, Free, FreeSplit, Over, Board, landed, moved}
+use Rattle.cw_model.specs.Boards.{Problem, Phase, Free, FreeSplit, Over, Board, landed, moved, mode_of}
 use Rattle.cw_model.specs.Runs.{mem_in, called_with, returned_with, memories, State, WovenStep}
 use Rattle.cw_game.specs.declared.spots.Spot.{Spot}
 use Rattle.cw_game.specs.declared.spots.Spot.TheVariants.{Exit, Call as CallSpot, SplitCall}
@@ -39,11 +39,6 @@ module _ (names : Names) (g : Game) (t : Table) (plan : Plan) (right : AreStates
 
   abbrev state_of_board : Board → List ℕ → State
   state_of_board b ms = record { board = b; mems = ms }
-
-  -- what is kept for the return of a call in a mode
-  abbrev mode_of : Bool → Caps → Option Caps
-  mode_of true caps = Some caps
-  mode_of false caps = None
 
   abbrev phase_of : Bool → Phase
   phase_of true = FreeSplit

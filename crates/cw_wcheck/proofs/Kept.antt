@@ -23,7 +23,7 @@ use Rattle.cw_certs.specs.Tables.{Table, try_at, after_at, open_at, into_at, bac
 use Rattle.cw_syntax.specs.Plans.{Callee, Stm, Open, Close, Call, Label, Routine, Plan}
 use Rattle.cw_syntax.specs.Frames.{Item, Todo, End, Frame, new_frame, settle, Way, after, pass, popped}
 use Rattle.cw_syntax.specs.Frames.{On as OnWay, Left as LeftWay, Right as RightWay, Opened as OpenedWay, Failed as FailedWay}
-use Rattle.cw_model.specs.Boards.{Problem, Phase, Visit, Asked, Refused, Free, FreeSplit, Over, Board, seam_in, onward, begin, letters_in, may_grant, may_refuse, can_stop, way_of}
+use Rattle.cw_model.specs.Boards.{Problem, Phase, Visit, Asked, Refused, Free, FreeSplit, Over, Board, seam_in, onward, begin, letters_in, may_grant, may_refuse, can_stop, way_of, mode_of}
 use Rattle.cw_model.specs.Boards.{kept_after, with_opened, given_back, caps_after, landed, granted, passed_by, refused, answered, moved, Environment, turn_of}
 use Rattle.cw_model.specs.Runs.{try_in, try_of, mem_in, refused_with, stops, top_by, stays_where, stays_unless, called_with, returned_with, return_memories, was_split, step_memories}
 use Rattle.cw_model.specs.Runs.{memories, State, WovenStep}
@@ -38,7 +38,7 @@ use Rattle.cw_game.proofs.Moves.{move_of, step_of}
 use Rattle.cw_game.proofs.Fronts.{next_stage, IsQuiet, on_only, either, Front, is_step, is_branch, is_label, is_open, is_close, is_call, is_end, front_of}
 use Rattle.cw_game.proofs.Truths.{or_parts, not_true}
 use Rattle.std.proofs.lemmas.Bool.{and_parts, and_from as both}
-use Rattle.cw_game.proofs.Stands.{mode_of, mode_kept, same_kept, no_letter, stage_at, lands_at, refused_at, grants_is, refuses_is, stops_is, granted_at, given_is, enters_at}
+use Rattle.cw_game.proofs.Stands.{mode_kept, same_kept, no_letter, stage_at, lands_at, refused_at, grants_is, refuses_is, stops_is, granted_at, given_is, enters_at}
 
 found : {A : Type 0} (b : Bool) (x : A) (o : Option A) → is_some (cond b (Some x) o) ≡ true → (b ≡ true) ⊎ (is_some o ≡ true)
 found true x o h = inl refl

@@ -1,9 +1,8 @@
 use Rattle.std.proofs.Common.{Some, ap, sym, ◌∙◌}
 use Rattle.std.specs.Prelude.{option_map}
 use Rattle.cw_rights.specs.Policies.{policy_of}
-use Rattle.cw_model.specs.Boards.{landed}
+use Rattle.cw_model.specs.Boards.{landed, mode_of}
 use Rattle.cw_boards.specs.Held.{scene, stack_in, board_in, problem}
-use Rattle.cw_boards.specs.Choices.{mode_of}
 use Rattle.cw_boards.specs.Changes.{kept_by}
 use Rattle.cw_boards.specs.Turns.{way_in}
 use Rattle.cw_boards.proofs.Chosen.{landed_is, changed_by}

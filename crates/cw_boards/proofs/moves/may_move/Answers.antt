@@ -2,9 +2,8 @@ use Rattle.std.proofs.Common.{ap, sym, ◌∙◌}
 use Rattle.std.specs.Prelude.{is_some}
 use Rattle.cw_rights.specs.Policies.{policy_of}
 use Rattle.cw_boards.specs.declared.choices.Choice.TheVariants.{Forbidden, To, Grants, Steps}
-use Rattle.cw_model.specs.Boards.{way_of}
+use Rattle.cw_model.specs.Boards.{way_of, mode_of}
 use Rattle.cw_boards.specs.Held.{scene, board_in, problem}
-use Rattle.cw_boards.specs.Choices.{mode_of}
 use Rattle.cw_boards.proofs.Chosen.{moved_by_kind}
 use Rattle.cw_boards.proofs.Having.{stepped_may}
 use Rattle.cw_boards.proofs.moves.may_move.Goals as goal
