@@ -1,8 +1,8 @@
 -- Each policy that is spelled is valid: its descriptors, names and limits.
 use Rattle.std.proofs.Common.{◌≡◌, ◌≢◌, ◌<◌, ◌≤◌, ◌⊎◌, inl, inr, ℕ, suc, ◌+◌, List, [], ◌∷◌, ◌++◌}
-use Rattle.std.proofs.Common.{Bool, true, false, ◌||◌, cond, Option, Some, None, unwrap_or, length, All, IsTrue, refl, sym, ap, ◌∙◌, subst, arith, eqb-true, append-nil, append_assoc}
-use Rattle.std.specs.Prelude.{codes, nat_eq, nat_lt, IfSome}
-use Rattle.std.specs.List.{list_any, position_or_len}
+use Rattle.std.proofs.Common.{Bool, true, false, ◌||◌, cond, Option, Some, None, length, All, IsTrue, refl, sym, ap, ◌∙◌, subst, arith, eqb-true, append-nil, append_assoc}
+use Rattle.std.specs.Prelude.{codes, nat_eq, IfSome}
+use Rattle.std.specs.List.{list_any}
 use Rattle.std.specs.Str.{bytes_eq}
 use Rattle.std.proofs.lemmas.Bool.{true≢false}
 use Rattle.std.proofs.lemmas.Bool.Decides.{nat_tests}
@@ -11,12 +11,12 @@ use Rattle.std.proofs.lemmas.List.Quantifiers.{all_pairs_push}
 use Rattle.std.proofs.lemmas.Option.{none-some}
 use Rattle.std.proofs.lemmas.Slice.Eq.{bytes_eq-Decides}
 use Rattle.toml.specs.Data.{Data, Items, no_items, item, get}
-use Rattle.cw_rights.specs.Names.{right_mask}
+use Rattle.cw_rights.specs.Names.{right_mask, all_rights}
 use Rattle.cw_rights.proofs.Named.{mask_within}
 use Rattle.cw_rights.specs.Valid.{is_name, IsDigit, IsNumberOf, IsDescriptorName, IsDistinct, IsLimitWithin, IsValidDescriptor}
 use Rattle.cw_regex.specs.Grammar.{is_digit, is_descriptor}
 use Rattle.cw_regex.specs.Labels.{AreNames}
-use Rattle.cw_regex.specs.Meaning.{number_in, with_name}
+use Rattle.cw_regex.specs.Meaning.{with_name}
 use Rattle.cw_policy.specs.declared.fault.PolicyFault.{PolicyFault}
 use Rattle.cw_policy.specs.Form.{first_in, items_at, text_at}
 use Rattle.cw_policy.specs.Names.{name_of, is_among, limit_unknown, repeated}
@@ -24,7 +24,6 @@ use Rattle.cw_policy.specs.Parts.{with_rights, rights_of, rights_at, digit_of, d
 use Rattle.cw_policy.proofs.Formed.{EachItem, IsNamed, IsLabelled, label_in}
 use Rattle.cw_policy.proofs.Rights.{within_both}
 use Rattle.cw_policy.proofs.Whole.{both_none}
-use Rattle.cw_lemmas.proofs.Numbers.{below_or_zero as some_below}
 use Rattle.std.proofs.lemmas.Bool.{or_parts as either_false}
 use Rattle.cw_regex.proofs.Parsing.{same_bytes as same_text}
 use Rattle.cw_regex.proofs.Kept.{apart_kept}
@@ -32,17 +31,17 @@ use Rattle.cw_regex.proofs.Within.{number_below}
 
 -- ---- sets of rights
 
-with_small : (r : ℕ) (o : Option ℕ) → r ≤ 4095 → IfSome o (λ n. n ≤ 4095) → with_rights r o ≤ 4095
+with_small : (r : ℕ) (o : Option ℕ) → r ≤ all_rights → IfSome o (λ n. n ≤ all_rights) → with_rights r o ≤ all_rights
 with_small r None h s = h
 with_small r (Some more) h s = within_both r more h s
 
-rights_small : (format r : ℕ) (ds : Items) → r ≤ 4095 → rights_of format r ds ≤ 4095
+rights_small : (format r : ℕ) (ds : Items) → r ≤ all_rights → rights_of format r ds ≤ all_rights
 rights_small format r no_items h = h
 rights_small format r (item d ds) h =
     let more = right_mask format (name_of d) in
     rights_small format (with_rights r more) ds (with_small r more h (mask_within format (name_of d)))
 
-rights_at_small : (format : ℕ) (o : Option Data) → (rights_at format o).0 ≤ 4095
+rights_at_small : (format : ℕ) (o : Option Data) → (rights_at format o).0 ≤ all_rights
 rights_at_small format None = omega arith
 rights_at_small format (Some d) = rights_small format 0 (items_at (Some d)) (omega arith)
 

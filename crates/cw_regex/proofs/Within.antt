@@ -1,16 +1,15 @@
 -- The numbers of a tree are those of names that there are.
-use Rattle.std.proofs.Common.{◌≡◌, ℕ, ◌+◌, ◌<◌, ◌≤◌, IfSome, List, [], ◌∷◌, ◌++◌, Bool, true, false, not, ◌&&◌, ◌||◌, cond, Vec, Global, Option, Some, None, map, length, unwrap_or, nat_lt}
+use Rattle.std.proofs.Common.{◌≡◌, ℕ, ◌+◌, ◌<◌, ◌≤◌, IfSome, List, [], ◌∷◌, ◌++◌, Bool, true, false, not, ◌&&◌, cond, Vec, Global, Option, Some, None, map, length, unwrap_or, nat_lt}
 use Rattle.std.proofs.Common.{refl, sym, subst, ap, ◌∙◌, arith}
 use Rattle.std.specs.Option.{option_map}
 use Rattle.std.specs.List.{All, list_any, position_or_len}
 use Rattle.std.specs.Str.{bytes_eq}
 use Rattle.std.proofs.lemmas.List.Elements.{All-nil, All-cons}
-use Rattle.std.proofs.lemmas.Bool.Decides.{nat_tests}
 use Rattle.std.proofs.lemmas.List.{length-map}
 use Rattle.std.proofs.lemmas.List.Folds.{list_any-append}
 use Rattle.std.proofs.lemmas.Slice.Eq.{bytes_eq-Decides}
 use Rattle.cw_rights.specs.declared.words.Test.{Test}
-use Rattle.cw_rights.specs.Names.{right_mask}
+use Rattle.cw_rights.specs.Names.{right_mask, all_rights}
 use Rattle.cw_rights.proofs.Named.{mask_within}
 use Rattle.cw_rights.specs.Trees.{Literal, Tree, AllLiterals}
 use Rattle.cw_rights.specs.Valid.{IsTestWithin, IsLabelWithin, IsLiteralWithin, IsTreeWithin}
@@ -32,10 +31,10 @@ use Rattle.std.proofs.lemmas.Bool.{or_left as any_left, or_right as any_right}
 use Rattle.cw_lemmas.proofs.Numbers.{below_or_zero as some_below}
 
 -- a name's rights are some of the twelve
-need_within : (format : ℕ) (w : List ℕ) → (need_of format w).0 ≤ 0xfff
+need_within : (format : ℕ) (w : List ℕ) → (need_of format w).0 ≤ all_rights
 need_within format w = by (right_mask format w) (mask_within format w)
   where
-    by : (o : Option ℕ) → IfSome o (λ n. n ≤ 0xfff) → unwrap_or o 0 ≤ 0xfff
+    by : (o : Option ℕ) → IfSome o (λ n. n ≤ all_rights) → unwrap_or o 0 ≤ all_rights
     by None h = omega arith
     by (Some n) h = h
 

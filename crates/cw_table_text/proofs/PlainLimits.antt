@@ -1,5 +1,5 @@
 -- The line of a valid policy's limits has no LF.
-use Rattle.std.proofs.Common.{◌≡◌, ℕ, zero, suc, ◌+◌, ◌^◌, ◌<◌, ◌≤◌, ◌⊎◌, inl, inr, Bool, true, false, ◌&&◌, ltb, eqb, List, [], ◌∷◌, ◌++◌, length, refl, sym, subst, arith}
+use Rattle.std.proofs.Common.{◌≡◌, ℕ, zero, suc, ◌+◌, ◌^◌, ◌<◌, ◌≤◌, ◌⊎◌, inl, inr, true, false, ltb, eqb, List, [], ◌∷◌, ◌++◌, length, refl, sym, subst, arith}
 use Rattle.std.specs.Prelude.{slice_get, codes}
 use Rattle.std.specs.Fmt.{decimal}
 use Rattle.std.specs.List.{All, list_all, flat_map, enumerate_from}
@@ -9,6 +9,7 @@ use Rattle.cw_core.proofs.Sets.{IsBelow_from_lt}
 use Rattle.cw_rights.specs.declared.capabilities.Limit.{Limit}
 use Rattle.cw_rights.specs.Policies.{PlainDescriptor, PlainPolicy}
 use Rattle.cw_rights.specs.Valid.{is_name, is_name_byte, is_name_start, IsDescriptorName, IsValidDescriptor, IsLimitWithin, IsValid}
+use Rattle.cw_rights.specs.Names.{all_rights}
 use Rattle.cw_text.specs.Lines.{IsFree, set_text}
 use Rattle.cw_text.proofs.Free.{free_from_test, decimal_free, set_text_free}
 use Rattle.cw_text.specs.LimitsText.{name_if, descriptor_name, limit_word}
@@ -42,11 +43,11 @@ named_free [] k all = All-nil (λ (x : ℕ). eqb x 10 ≡ false)
 named_free (d ∷ ds) zero all = name_free d.name (All-head IsValidDescriptor d ds all).name
 named_free (d ∷ ds) (suc k) all = named_free ds k (All-tail IsValidDescriptor d ds all)
 
-mask_free : (set : ℕ) → set ≤ 0xfff → IsFree 10 (hexadecimal set)
+mask_free : (set : ℕ) → set ≤ all_rights → IsFree 10 (hexadecimal set)
 unfolding set_text
 mask_free set small = set_text_free 10 1 set refl (λ s member. let low = IsBelow_from_lt 12 set (omega (arith, small)) s member in omega (arith, low))
 
-word_free : (policy : PlainPolicy) (index : ℕ) (limit : Limit) → IsValid policy → index < 2 ^ 64 → limit.keep.0 ≤ 0xfff → IsFree 10 (limit_word policy index limit)
+word_free : (policy : PlainPolicy) (index : ℕ) (limit : Limit) → IsValid policy → index < 2 ^ 64 → limit.keep.0 ≤ all_rights → IsFree 10 (limit_word policy index limit)
 word_free policy index limit valid small keep =
     let name : List ℕ = descriptor_name policy limit.descriptor in
     let mask : List ℕ = hexadecimal limit.keep.0 in
