@@ -5,7 +5,7 @@ use Rattle.std.proofs.Common.{arith, inl, inr}
 use Rattle.std.specs.Prelude.{slice_get, option_map}
 use Rattle.std.specs.List.{sum_by, list_any, IsDistinct, AllByRecursion}
 use Rattle.std.specs.Set.{is_member}
-use Rattle.std.specs.Cmp.{IsEquivalence}
+use Rattle.std.specs.Cmp.{IsEquivalence, both_ways}
 use Rattle.std.proofs.lemmas.Option.{none-some, same_Some, slice_get-map}
 use Rattle.std.proofs.lemmas.Bool.{and_parts, or_left, or_right, cases_Bool}
 use Rattle.std.proofs.lemmas.List.{length-map}
@@ -14,7 +14,6 @@ use Rattle.std.proofs.lemmas.List.Folds.{list_any-append}
 use Rattle.std.proofs.lemmas.Map.Keys.{IsDistinct-head, IsDistinct-tail, IsDistinct-cons, any_passes_from_place}
 use Rattle.std.proofs.lemmas.Map.Made.{length-le_from_is_member}
 use Rattle.cw_lemmas.proofs.Lists.{any_get}
-use Rattle.cw_lemmas.proofs.Truths.{truths_same}
 use Rattle.cw_game.specs.Games.{Game}
 use Rattle.cw_game.specs.Conditions.{first_failing}
 use Rattle.cw_game.proofs.Goods.{taken, none_first}
@@ -39,7 +38,7 @@ place_back k j e = place_same (λ i. is_place i k ≡ true) k j e (place_itself 
 pub places_laws : IsEquivalence is_place
 places_laws = record {
   refl = place_itself;
-  symm = λ k j. truths_same (is_place k j) (is_place j k) (place_back k j) (place_back j k);
+  symm = λ k j. both_ways (is_place k j) (is_place j k) (place_back k j) (place_back j k);
   congr = λ k j i e. place_same (λ y. is_place k i ≡ is_place y i) k j e refl;
 }
 

@@ -1,5 +1,5 @@
 -- A union of sets is followed by the union of what follows each.
-use Rattle.std.proofs.Common.{◌≡◌, ℕ, zero, suc, ◌+◌, ◌*◌, ◌^◌, Bool, true, false, cond, ◌&&◌, ◌||◌, refl, sym, ap, ap₂, ◌∙◌, arith, ⊎_elim, ◌≢◌, eqb-true, eq-eqb, add-one}
+use Rattle.std.proofs.Common.{◌≡◌, ℕ, zero, suc, ◌+◌, ◌*◌, ◌^◌, Bool, true, false, cond, ◌&&◌, ◌||◌, refl, sym, ap, ap₂, ◌∙◌, arith, ⊎_elim, ◌≢◌, eqb-true, eq-eqb, add-one, zero-mul as zero_times}
 use Rattle.std.specs.Int.{bit_at}
 use Rattle.std.specs.Int.RustNames.{bit_or, bit_and}
 use Rattle.std.proofs.lemmas.Nat.Bits.{bit_at_or, bit_at_and, and_pow, bit_at-lt, same_from_bits, bit_at-zero}
@@ -11,9 +11,8 @@ use Rattle.cw_dfa.specs.Sets.{has, skips, ends, reads}
 use Rattle.cw_dfa.proofs.Sums.{or_zero}
 use Rattle.cw_dfa.specs.Tables.{goes, unite}
 use Rattle.std.proofs.lemmas.Bool.{or_cases, or_left, or_right}
+use Rattle.std.specs.Cmp.{both_ways as same_bool}
 use Rattle.cw_dfa.proofs.Bools.{has_or_cases, has_or_left, has_or_right, has_none}
-use Rattle.cw_lemmas.proofs.Numbers.{zero_mul as zero_times}
-use Rattle.cw_lemmas.proofs.Truths.{truths_same as same_bool}
 
 pub has_or : (a b i : ℕ) → has (bit_or a b) i ≡ (has a i || has b i)
 has_or a b i = same_bool _ _ (λ e. ⊎_elim (λ x. or_left _ _ x) (λ x. or_right _ _ x) (has_or_cases a b i e))

@@ -1,10 +1,9 @@
 -- Sets that meet, and the first rule whose last literals a set meets.
-use Rattle.std.proofs.Common.{◌≡◌, ◌≢◌, ℕ, ◌+◌, ◌*◌, ◌<◌, ◌^◌, List, [], ◌∷◌, Bool, true, false, cond, ◌&&◌, ◌||◌, nat_eq, Some, refl, sym, ap, ap₂, ◌∙◌, arith, eqb-true, eq-eqb}
+use Rattle.std.proofs.Common.{◌≡◌, ◌≢◌, ℕ, ◌+◌, ◌*◌, ◌<◌, ◌^◌, List, [], ◌∷◌, Bool, true, false, cond, ◌&&◌, ◌||◌, nat_eq, Some, refl, sym, ap, ap₂, ◌∙◌, arith, eqb-true, eq-eqb, zero-mul}
 use Rattle.std.specs.Int.{bit_at}
 use Rattle.std.specs.Int.RustNames.{bit_or, bit_and}
 use Rattle.std.proofs.lemmas.Nat.Bits.{bit_at_or, bit_at_and, and_pow, bit_at-lt, same_from_bits, bit_at-zero}
 use Rattle.std.proofs.lemmas.Nat.{and_comm, pow_pos}
-use Rattle.cw_lemmas.proofs.Numbers.{zero_mul}
 use Rattle.cw_lemmas.proofs.Truths.{and_true, and_false}
 use Rattle.cw_rights.specs.Trees.{Tree, nothing, never, one, seq, alt, star, plus, maybe, count}
 use Rattle.cw_rights.specs.Policies.{PlainRule}
@@ -75,7 +74,7 @@ meets_pow set k = ap some (and_pow set k) ∙ by (nat_eq (bit_at set k) 1) refl
         let n : bit_at set k ≢ 1 = λ q. let z = eq-eqb (bit_at set k) 1 q in cc in
         let l = bit_at-lt set k in
         let x : bit_at set k ≡ 0 = omega arith in
-        let y : bit_at set k * 2 ^ k ≡ 0 = rw x (zero_mul (2 ^ k)) in
+        let y : bit_at set k * 2 ^ k ≡ 0 = rw x (zero-mul (2 ^ k)) in
         ap some y
 pub pow_meets : (set p : ℕ) → meets (2 ^ p) set ≡ has set p
 pow_meets set p = ap some (and_comm (2 ^ p) set) ∙ meets_pow set p

@@ -1,5 +1,5 @@
 -- What is read derives its tree.
-use Rattle.std.proofs.Common.{◌≡◌, ℕ, zero, suc, ◌+◌, ◌<◌, ◌≤◌, max, Bool, true, false, cond, ltb, eqb, List, [], ◌∷◌, ◌++◌, length, Ok, Err, Option, Some, None, refl, sym, ap}
+use Rattle.std.proofs.Common.{◌≡◌, ℕ, zero, suc, ◌+◌, ◌<◌, ◌≤◌, max, Bool, true, false, cond, ltb, eqb, List, [], ◌∷◌, ◌++◌, length, Ok, Err, Option, Some, None, refl, sym, ap, add-one as one_deeper}
 use Rattle.std.proofs.Common.{◌∙◌, append_assoc, arith, length-append, inl, inr}
 use Rattle.std.specs.Prelude.{IfOk}
 use Rattle.std.proofs.lemmas.Bool.{ltb-false, false≢true, eqb-true}
@@ -28,7 +28,6 @@ use Rattle.cw_expressions.proofs.Repeat.{repeat_keeps}
 use Rattle.cw_expressions.proofs.TypesSound.{type_between_takes}
 use Rattle.cw_grammar.proofs.Deeper.{separated_weaker, derived_deeper}
 use Rattle.cw_expressions.proofs.Levels.{postfix_unary, unary_operand, level_above, loosest_expression}
-use Rattle.cw_lemmas.proofs.Numbers.{add_one as one_deeper}
 
 -- A front of the tokens derives what was read by this rule, with at most this nesting.
 pub record IsRead (n : ℕ) (rule : Rule) (ts : List Lexeme) (x : Got) : Type 0 where

@@ -2,7 +2,7 @@
 use Rattle.std.proofs.Common.{◌≡◌, ◌⊎◌, inl, inr, ℕ, ◌+◌, List, [], ◌∷◌, ◌++◌, Bool, true, false, Some, filter_map, set, length, refl, sym, ap, ◌∙◌, subst, arith, append-nil}
 use Rattle.std.specs.Prelude.{slice_get}
 use Rattle.std.specs.BTreeSet.{BTreeSet, contains, Updates}
-use Rattle.std.specs.Cmp.{IsTotalOrder}
+use Rattle.std.specs.Cmp.{IsTotalOrder, both_ways}
 use Rattle.std.specs.FinMap.{IsAntisymmetric}
 use Rattle.std.specs.List.{Contains, IsDistinct, list_any}
 use Rattle.std.specs.Ordering.{eq_by_cmp}
@@ -17,7 +17,7 @@ use Rattle.std.proofs.lemmas.Map.Views.{Contains-from_any, list_any-from_Contain
 use Rattle.std.proofs.lemmas.Option.{same_Some}
 use Rattle.cw_lemmas.proofs.Lists.{contains_none, contains_one}
 use Rattle.cw_lemmas.proofs.Orders.{is_eq_equal}
-use Rattle.cw_lemmas.proofs.Truths.{not_both, truths_same}
+use Rattle.cw_lemmas.proofs.Truths.{not_both}
 use Rattle.cw_fixpoint.specs.Closures.{Exactly}
 use Rattle.cw_fixpoint.specs.Seen.{SeenIs, Adds}
 use Rattle.cw_fixpoint.proofs.Existing.{in_order}
@@ -54,7 +54,7 @@ module _ {K : Type 0} (cmp : K → K → Ordering) (total : IsTotalOrder cmp) (e
 
   same_length : (xs ys : List K) → IsDistinct (eq_by_cmp cmp) xs → IsDistinct (eq_by_cmp cmp) ys → ((x : K) → (Contains xs x → Contains ys x) × (Contains ys x → Contains xs x)) → length xs ≡ length ys
   same_length xs ys d e same = length-from_same_keys (eq_by_cmp_equiv total) xs ys d e
-      (λ q. truths_same (is_member (eq_by_cmp cmp) xs q) (is_member (eq_by_cmp cmp) ys q)
+      (λ q. both_ways (is_member (eq_by_cmp cmp) xs q) (is_member (eq_by_cmp cmp) ys q)
       (λ t. list_any-from_Contains (eq_by_cmp_equiv total) q ys ((same q).0 (Contains-from_any equal_is q xs t)))
       (λ t. list_any-from_Contains (eq_by_cmp_equiv total) q xs ((same q).1 (Contains-from_any equal_is q ys t))))
 

@@ -5,6 +5,7 @@ use Rattle.std.specs.List.{Contains, cons_option}
 use Rattle.std.proofs.lemmas.Option.{none-some, same_Some}
 use Rattle.std.proofs.lemmas.List.Elements.{Contains-append_left, Contains-append_right, Contains-append_cases}
 use Rattle.std.proofs.lemmas.Bool.{false_from_ne_true, true_from_ne_false}
+use Rattle.std.specs.Cmp.{both_ways as same_bools}
 use Rattle.cw_core.specs.StateSet.{has as has_member}
 use Rattle.cw_core.proofs.Sets.{same_from_members}
 use Rattle.cw_rights.specs.declared.capabilities.Primitive.{Primitive}
@@ -15,7 +16,6 @@ use Rattle.cw_game.specs.declared.spots.Spot.TheVariants.{Visit}
 use Rattle.cw_game.specs.Games.{Game, Config, resumed, leads_in, weavers_in}
 use Rattle.cw_game.specs.Pairs.{has, all_states, Called, call_in, is_call_in, is_exit_in}
 use Rattle.cw_fixpoint.specs.Members.{IsMember, first, then, joins}
-use Rattle.cw_lemmas.proofs.Truths.{truths_same as same_bools}
 use Rattle.cw_lazy_table.specs.Live.{IsFull, IsLive, begins, skips, tries, moves, goes_on, calls, returns}
 use Rattle.cw_lazy_table.specs.declared.key.Key.{Key}
 use Rattle.cw_lazy_table.specs.Closing.{key, moves_on, visited, begun, answered, gone_on, after, waits, ends, back, rules, AreRight}

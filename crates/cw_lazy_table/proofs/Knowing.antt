@@ -3,13 +3,14 @@ use Rattle.std.proofs.Common.{◌≡◌, ◌⊎◌, inl, inr, ℕ, zero, suc, �
 use Rattle.std.specs.Prelude.{slice_get, nat_lt}
 use Rattle.std.proofs.lemmas.Bool.{lt-ltb, ltb-true}
 use Rattle.std.proofs.lemmas.Nat.Bits.{bit_at_lowest}
+use Rattle.std.specs.Cmp.{both_ways as same_bools}
 use Rattle.cw_core.specs.StateSet.{has as has_member}
 use Rattle.cw_core.proofs.Sets.{has-zero, has-suc}
 use Rattle.cw_game.specs.Games.{Game, returned}
 use Rattle.cw_game.specs.Pairs.{has, Called, call_in, kept_at}
 use Rattle.cw_product.specs.Routed.{AreRouted}
 use Rattle.cw_solve.proofs.Falls.{return_state, back_stays}
-use Rattle.cw_lemmas.proofs.Truths.{truths_same as same_bools, and_first, and_second}
+use Rattle.cw_lemmas.proofs.Truths.{and_first, and_second}
 use Rattle.cw_lazy_table.specs.Live.{IsLostBack, IsFull}
 use Rattle.cw_lazy_table.specs.Sets.{set_by}
 use Rattle.cw_lazy_table.specs.Staged.{IsKnown}

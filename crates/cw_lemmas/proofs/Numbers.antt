@@ -1,16 +1,16 @@
 -- Numbers and their tests, besides what std has of them.
-use Rattle.std.proofs.Common.{◌≡◌, ℕ, zero, suc, ◌+◌, ◌*◌, ◌<◌, ◌≤◌, Bool, true, false, cond, Option, Some, None, unwrap_or, inl, inr, arith}
+use Rattle.std.proofs.Common.{◌≡◌, ℕ, zero, suc, ◌*◌, ◌<◌, ◌≤◌, Bool, true, false, cond, Some, None, unwrap_or, inl, inr, arith}
 use Rattle.std.specs.Prelude.{nat_eq, nat_lt}
 use Rattle.std.proofs.Math.Nat.{mul-zero}
 use Rattle.std.proofs.lemmas.Bool.{lt-ltb, ltb-true}
 use Rattle.std.proofs.lemmas.Bool.Decides.{nat_tests, leb_tells}
-use Rattle.cw_lemmas.proofs.Truths.{truths_same}
+use Rattle.std.specs.Cmp.{both_ways}
 
 pub nat_eq_self : (n : ℕ) → nat_eq n n ≡ true
 nat_eq_self n = grind (arith, nat_tests)
 
 pub nat_lt_suc : (m n : ℕ) → nat_lt (suc m) (suc n) ≡ nat_lt m n
-nat_lt_suc m n = truths_same (nat_lt (suc m) (suc n)) (nat_lt m n) (λ h. let l : suc m < suc n = ltb-true (suc m) (suc n) h in lt-ltb m n (omega (arith, l)))
+nat_lt_suc m n = both_ways (nat_lt (suc m) (suc n)) (nat_lt m n) (λ h. let l : suc m < suc n = ltb-true (suc m) (suc n) h in lt-ltb m n (omega (arith, l)))
     (λ h. let l : m < n = ltb-true m n h in lt-ltb (suc m) (suc n) (omega (arith, l)))
 
 pub le_from_not_lt : (m n : ℕ) → (n < m → ⊥) → m ≤ n
@@ -18,12 +18,6 @@ le_from_not_lt m n f = elim (leb_tells m n) [ inl h ↦ h.1 | inr h ↦ absurd (
 
 pub lt_not_le : (m n : ℕ) → m < n → n ≤ m → ⊥
 lt_not_le m n lt le = omega (arith, lt, le)
-
-pub add_one : (n : ℕ) → n + 1 ≡ suc n
-add_one n = omega arith
-
-pub zero_mul : (n : ℕ) → 0 * n ≡ 0
-zero_mul n = omega arith
 
 -- below a product, so the second factor isn't 0
 pub mul_positive : (m n k : ℕ) → k < m * n → 0 < n

@@ -1,5 +1,5 @@
 -- Truths: `and`, `or` and `not`, besides what std has of them.
-use Rattle.std.proofs.Common.{◌≡◌, Bool, true, false, not, ◌&&◌, ◌||◌, cond, refl, sym}
+use Rattle.std.proofs.Common.{◌≡◌, Bool, true, false, not, ◌&&◌, ◌||◌, cond, refl}
 
 pub and_true : (b : Bool) → (b && true) ≡ b
 and_true true = refl
@@ -36,9 +36,3 @@ cond_true false b e = e
 pub not_both : (b : Bool) → b ≡ true → b ≡ false → ⊥
 not_both true h k = cc
 not_both false h k = cc
-
--- each follows from the other
-pub truths_same : (a b : Bool) → (a ≡ true → b ≡ true) → (b ≡ true → a ≡ true) → a ≡ b
-truths_same true b f g = sym (f refl)
-truths_same false true f g = g refl
-truths_same false false f g = refl

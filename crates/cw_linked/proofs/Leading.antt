@@ -16,12 +16,12 @@ use Rattle.cw_solve.specs.Asking.{holds_after, holds_by_moves}
 use Rattle.cw_product.specs.Routed.{IsState, AreRouted}
 use Rattle.cw_solve.specs.Rounds.{IsCell}
 use Rattle.cw_solve.proofs.Calling.{next_target}
-use Rattle.cw_lemmas.proofs.Truths.{truths_same as same_bools}
 use Rattle.cw_solve.proofs.Moves.{by_moves, bad_fails}
 use Rattle.cw_linked.specs.Steps.{IsMoveIn}
 use Rattle.cw_lemmas.proofs.Truths.{or_first as neither}
 use Rattle.cw_lemmas.proofs.Options.{cond_none_some as not_left, option_map_some as mapped}
 use Rattle.std.proofs.lemmas.Option.{cond_some as made}
+use Rattle.std.specs.Cmp.{both_ways as same_bools}
 
 gives_or : (a b c d : Bool) → Gives a c → Gives b d → Gives (a || b) (c || d)
 gives_or true b c d f g h = ap (λ z. z || d) (f refl)

@@ -10,12 +10,13 @@ use Rattle.cw_solve.specs.Contexts.{context, promise_at, IsSetOf}
 use Rattle.cw_product.specs.Routed.{AreRouted}
 use Rattle.cw_solve.specs.Rounds.{IsCell, IsAsked, holds_by}
 use Rattle.cw_solve.proofs.Falls.{sooner, member_is, set_as}
-use Rattle.cw_lemmas.proofs.Truths.{truths_same as same_bools, not_both}
+use Rattle.cw_lemmas.proofs.Truths.{not_both}
 use Rattle.cw_solve.proofs.Still.{call_or_not}
 use Rattle.cw_linked.specs.Founds.{Found, class_of, AreAlike, IsLink, IsTied, height_back, GoesTo, IsShrinking, AreRight, Waits, IsCalled, Nothing, AllCalled, AllStanding, AreFound, AreAbove}
 use Rattle.cw_linked.specs.Steps.{IsSame, IsOther, with_keys, Frees, IsReady, with_links, Ties, CallsBy, IsIt}
 use Rattle.cw_linked.proofs.Least.{all_of, least, promised, tells_none, link_of, back_of}
 use Rattle.std.proofs.lemmas.Bool.{true_from_ne_false as true_of}
+use Rattle.std.specs.Cmp.{both_ways as same_bools}
 use Rattle.cw_linked.proofs.Lowering.{link_is}
 use Rattle.cw_linked.proofs.Taking.{same_or_other, is_a_call, one_call}
 

@@ -1,5 +1,5 @@
 -- Lists that stand within others at a place, and how many items a statement has.
-use Rattle.std.proofs.Common.{◌≡◌, ℕ, zero, suc, ◌+◌, ◌<◌, List, [], ◌∷◌, ◌++◌, length, Bool, true, false, Option, Some, None, refl, sym, ap, ap₂, ◌∙◌, subst, append_assoc, length-append}
+use Rattle.std.proofs.Common.{◌≡◌, ℕ, zero, suc, ◌+◌, ◌<◌, List, [], ◌∷◌, ◌++◌, length, Bool, true, false, Option, Some, None, refl, sym, ap, ap₂, ◌∙◌, subst, append_assoc, length-append, add-one as one_up}
 use Rattle.std.proofs.Common.{arith, zero-add, add-zero}
 use Rattle.std.specs.Prelude.{slice_get}
 use Rattle.std.proofs.Math.Seq.{get_or-append_seam}
@@ -8,7 +8,6 @@ use Rattle.cw_syntax.specs.Plans.{Stm, Plain, Break, Continue, Return, Open, Clo
 use Rattle.cw_syntax.specs.Frames.{Item, Test, init_if, after_if}
 use Rattle.cw_points.specs.Points.{points_in, points_in_all, one_if, one_if_some, count, count_all}
 use Rattle.cw_points.specs.Graphs.{first}
-use Rattle.cw_lemmas.proofs.Numbers.{add_one as one_up}
 
 -- these stand at this place
 abbrev pub HasAt : {A : Type 0} → List A → ℕ → List A → Type 0

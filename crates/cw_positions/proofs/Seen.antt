@@ -33,8 +33,8 @@ use Rattle.cw_positions.proofs.Standing.{stands}
 use Rattle.cw_lemmas.proofs.Lists.{get_below}
 use Rattle.cw_positions.proofs.Origins.{positions_are_of_points}
 use Rattle.cw_positions.proofs.Seaming.{is_seam_point, AreSeams, seams_of_plan, seam_at, point_at}
-use Rattle.cw_lemmas.proofs.Truths.{truths_same as bool_same}
 use Rattle.std.proofs.lemmas.Map.Keys.{any_passes_from_place as at_any}
+use Rattle.std.specs.Cmp.{both_ways as bool_same}
 use Rattle.cw_lemmas.proofs.Lists.{any_get as any_at}
 use Rattle.cw_lemmas.proofs.Numbers.{nat_eq_self}
 

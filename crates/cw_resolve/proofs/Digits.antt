@@ -10,8 +10,8 @@ use Rattle.std.proofs.lemmas.List.Sums.{take_while-cons}
 use Rattle.std.proofs.lemmas.List.Folds.{length-prefix_len}
 use Rattle.std.proofs.lemmas.Slice.Eq.{bytes_eq-Decides}
 use Rattle.std.proofs.lemmas.Bool.Decides.{nat_tests}
+use Rattle.std.specs.Cmp.{both_ways as bool_same}
 use Rattle.cw_core.specs.Numerals.{IsDecimalAt}
-use Rattle.cw_lemmas.proofs.Truths.{truths_same as bool_same}
 use Rattle.cw_core.proofs.Spellings.{decimal_has_digits as all_digits}
 
 digit_test : (n : ℕ) → n < 10 → is_ascii_digit (48 + n) ≡ true

@@ -3,6 +3,7 @@ use Rattle.std.proofs.Common.{◌≡◌, ℕ, ◌<◌, ◌≤◌, Bool, true, fa
 use Rattle.std.specs.Prelude.{slice_get, nat_lt, Contains}
 use Rattle.std.proofs.lemmas.Bool.{lt-ltb}
 use Rattle.std.proofs.lemmas.Option.{same_Some}
+use Rattle.std.specs.Cmp.{both_ways as same_bools}
 use Rattle.cw_game.specs.declared.spots.Spot.{Spot}
 use Rattle.cw_core.proofs.Sets.{same_from_members}
 use Rattle.cw_core.specs.StateSet.{has as has_member}
@@ -12,7 +13,6 @@ use Rattle.cw_game.specs.Pairs.{has, Called, call_in, call_spot, kept_at}
 use Rattle.cw_game.proofs.Holding.{holds_rises, lost_rises}
 use Rattle.cw_product.specs.Routed.{IsState, targets, AreRouted, IsOf}
 use Rattle.cw_solve.specs.Contexts.{IsSetOf}
-use Rattle.cw_lemmas.proofs.Truths.{truths_same as same_bools}
 
 -- what stands where there is a call
 pub call_is : (o : Option Spot) (call : Called) → call_in o ≡ Some call → o ≡ Some (call_spot call.split call.seam call.function call.back)

@@ -1,5 +1,5 @@
 -- A game has at most as many cells as positions times states times sets of states: the positions of functions are apart, and a function's contexts differ in their sets.
-use Rattle.std.proofs.Common.{◌≡◌, ℕ, zero, suc, ◌+◌, ◌-◌, ◌*◌, ◌^◌, ◌/◌, ◌%◌, ◌<◌, ◌≤◌, List, [], ◌∷◌, ◌++◌, Bool, false, ◌&&◌, nat_eq, Option, Some, None, length, take, map, refl, sym, ap, ◌∙◌, subst, arith, inl, inr}
+use Rattle.std.proofs.Common.{◌≡◌, ℕ, zero, suc, ◌+◌, ◌-◌, ◌*◌, ◌^◌, ◌/◌, ◌%◌, ◌<◌, ◌≤◌, List, [], ◌∷◌, ◌++◌, Bool, false, ◌&&◌, nat_eq, Option, Some, None, length, take, map, refl, sym, ap, ◌∙◌, subst, arith, inl, inr, zero-mul}
 use Rattle.std.specs.Prelude.{slice_get, option_map, sum_by, Contains}
 use Rattle.std.specs.Int.{bit_at}
 use Rattle.std.specs.List.{range_with_len}
@@ -13,7 +13,6 @@ use Rattle.std.proofs.lemmas.List.Sums.{sum_by-append, sum_by-cons}
 use Rattle.std.proofs.lemmas.Nat.Bits.{bit_at-zero, bit_at-lt, bit_at_cat_high, same_from_bits}
 use Rattle.std.proofs.lemmas.Option.{none-some}
 use Rattle.cw_lemmas.proofs.Lists.{contains_map, get_below}
-use Rattle.cw_lemmas.proofs.Numbers.{zero_mul}
 use Rattle.std.proofs.lemmas.Nat.{mod_below}
 use Rattle.cw_rights.specs.Policies.{PlainPolicy, policy_of}
 use Rattle.cw_syntax.specs.Plans.{Routine, plan_of}
@@ -57,7 +56,7 @@ bits_below k n none =
     let gone : whole ≡ 0 = same_from_bits whole 0 (λ i.
     let back : i + k - k ≡ i = omega arith in
     sym (ap (bit_at whole) back) ∙ sym (bit_at_cat_high whole k rest (i + k) low (omega arith)) ∙ ap (λ m. bit_at m (i + k)) e ∙ none (i + k) (omega arith) ∙ sym (bit_at-zero i)) in
-    let nothing : whole * 2 ^ k ≡ 0 = ap (λ m. m * 2 ^ k) gone ∙ zero_mul (2 ^ k) in
+    let nothing : whole * 2 ^ k ≡ 0 = ap (λ m. m * 2 ^ k) gone ∙ zero-mul (2 ^ k) in
     let same : rest ≡ n = omega (arith, e, nothing) in
     subst (λ m. m < 2 ^ k) same low
 
@@ -101,7 +100,7 @@ module _ (g : Game) where
   one_more k m = omega (arith, suc-mul k m)
 
   each_same : (n : ℕ) (xs : List ℕ) → sum_by (λ (c : Context). size g c.function) (map (context n) xs) ≡ length xs * size g n
-  each_same n [] = sym (zero_mul (size g n))
+  each_same n [] = sym (zero-mul (size g n))
   each_same n (x ∷ xs) = sum_by-cons (λ (c : Context). size g c.function) (context n x) (map (context n) xs) ∙ ap (λ k. size g n + k) (each_same n xs) ∙ one_more (length xs) (size g n)
 
   module _ (functions : ℕ) (routed : AreRouted g functions) where
@@ -176,7 +175,7 @@ module _ (h : Held) (made : IsMade h) where
       → sum_by (λ (c : Context). size (game_of h) c.function) (every (game_of h) n)
       ≡ 2 ^ (game_of h).states.count * (sum_by (span (policy_of h.states.policy) h.graph.parts.items h.graph.nodes.items) (take n h.graph.parts.items) * (game_of h).states.count)
   unfolding every sets
-  every_sum zero le = sym (ap (λ k. 2 ^ g.states.count * k) (zero_mul g.states.count) ∙ mul-zero (2 ^ g.states.count))
+  every_sum zero le = sym (ap (λ k. 2 ^ g.states.count * k) (zero-mul g.states.count) ∙ mul-zero (2 ^ g.states.count))
   every_sum (suc n) le =
       let q = get_below parts n (omega (arith, le)) in
       let one = span policy parts ns q.0 in

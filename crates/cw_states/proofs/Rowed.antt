@@ -1,5 +1,5 @@
 -- Tables, row by row.
-use Rattle.std.proofs.Common.{◌≡◌, ℕ, zero, suc, ◌+◌, ◌*◌, ◌<◌, List, [], ◌∷◌, ◌++◌, length, get_or, map, refl, sym, ap, ap₂, ◌∙◌, arith, append_assoc, append-nil, one-add}
+use Rattle.std.proofs.Common.{◌≡◌, ℕ, zero, suc, ◌+◌, ◌*◌, ◌<◌, List, [], ◌∷◌, ◌++◌, length, get_or, map, refl, sym, ap, ap₂, ◌∙◌, arith, append_assoc, append-nil, one-add, zero-mul as no_times}
 use Rattle.std.specs.Int.RustNames.{bit_and}
 use Rattle.std.proofs.lemmas.List.{get_or-map, length-map}
 use Rattle.std.proofs.lemmas.Nat.{and_assoc, div-mul-add, mod-mul-add}
@@ -14,7 +14,6 @@ use Rattle.cw_states.specs.declared.masks.Masks.{Masks}
 use Rattle.cw_states.specs.Masks.{IsMasks, ahead_of, row, rows}
 use Rattle.cw_states.specs.States.{Lists, caps_at, set_at}
 use Rattle.cw_states.specs.Tables.{tabled, place_of, entry, entries}
-use Rattle.cw_lemmas.proofs.Numbers.{zero_mul as no_times}
 
 module _ {A : Type 0} where
   tabled_same : (f g : ℕ → A) (n : ℕ) → ((i : ℕ) → i < n → f i ≡ g i) → tabled f n ≡ tabled g n

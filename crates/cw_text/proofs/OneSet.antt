@@ -7,6 +7,7 @@ use Rattle.std.proofs.lemmas.Bool.{cases_eq, eq-eqb, ne_eqb, false≢true}
 use Rattle.std.proofs.lemmas.Slice.Eq.{bytes_eq-Decides}
 use Rattle.std.proofs.lemmas.Fmt.{decimal_injective, decimal_nonempty}
 use Rattle.std.proofs.lemmas.List.Elements.{All-nil, All-cons, All-append}
+use Rattle.std.specs.Cmp.{both_ways as same_bool}
 use Rattle.cw_core.specs.Numerals.{hexadecimal}
 use Rattle.cw_core.specs.Ranges.{Run, in_front, runs_of, members, run_text, runs_text, ranges, set_spelling}
 use Rattle.cw_core.specs.StateSet.{has, IsBelow}
@@ -17,7 +18,6 @@ use Rattle.cw_text.specs.Lines.{IsFree, words_of, set_text, IsSetIn}
 use Rattle.cw_text.proofs.Cuts.{words_first, words_last, words-joined}
 use Rattle.cw_text.proofs.Fields.{mask_stands}
 use Rattle.cw_text.proofs.Free.{decimal_free}
-use Rattle.cw_lemmas.proofs.Truths.{truths_same as same_bool}
 
 -- ---- numbers in a list
 
