@@ -5,14 +5,17 @@ use Rattle.std.specs.List.{AllByRecursion}
 use Rattle.std.specs.Str.{bytes_eq}
 use Rattle.std.proofs.lemmas.Slice.Eq.{bytes_eq-Decides}
 use Rattle.std.proofs.lemmas.Bool.{or_parts, false_from_ne_true}
-use Rattle.cw_lemmas.proofs.Truths.{not_both}
+use Rattle.cw_lemmas.proofs.Truths.{not_both, and_second_false}
+use Rattle.cw_lemmas.proofs.Lists.{all_append}
 use Rattle.cw_syntax.specs.declared.program.Op.{Op}
 use Rattle.cw_syntax.specs.declared.program.Op.TheVariants.{Name as NameOp, Number, Char, Text as TextOp, Call as CallOp, Index as IndexOp, Prefix, Suffix, Binary, Assign, Cast, SizeOf, SizeOfType}
 use Rattle.cw_syntax.specs.Names.{slice, text, Names}
-use Rattle.cw_syntax.specs.Trees.{Tree, Node, Trees, none, more, Declared, Declaration, Statement, Stated, Form, Block, Declares, Evaluates, Empties, Labels, Chooses, Whiles, Does, Fors, Breaks, Continues, Returns, Perhaps, nothing, just, Statements, nil, cons, Definition}
+use Rattle.cw_syntax.specs.Trees.{Tree, Node, Trees, none, more, Declared, Declaration, Statement, Stated, Form, Block, Declares, Evaluates, Empties, Labels, Chooses, Whiles, Does, Fors, Breaks}
+use Rattle.cw_syntax.specs.Trees.{Continues, Returns, Perhaps, nothing, just, Statements, nil, cons, Definition}
 use Rattle.cw_syntax.specs.Plans.{Scene, scene_of, action_of}
 use Rattle.cw_callgraph.specs.Scoping.{latest, is_shared, is_array, is_parameter, name_means, meaning_at, first_means, local, file_scope}
-use Rattle.cw_callgraph.specs.Forbidding.{place_if, first_role, writes, element_at, forbids_itself, places, places_in, given, size, in_items, declared, is_seam, known_after, known_in, init_in, init, known_by_init_in, known_by_init, stated, formed, stated_arm, stated_all}
+use Rattle.cw_callgraph.specs.Forbidding.{place_if, first_role, writes, element_at, forbids_itself, places, places_in, given, size, in_items, declared, is_seam, known_after, known_in, init_in, init}
+use Rattle.cw_callgraph.specs.Forbidding.{known_by_init_in, known_by_init, stated, formed, stated_arm, stated_all}
 use Rattle.cw_value.specs.Expressions.{Scope, Place, Own, OwnArray, Shared, SharedArray, Nowhere, Target, SharedSpot, target_at, first_place}
 use Rattle.cw_value.specs.Declarations.{element_target, size_in}
 use Rattle.cw_value.specs.Deeds.{said, said_if, said_init, said_all}
@@ -50,17 +53,9 @@ if_empty : (b : Bool) (at : ℕ) → place_if b at ≡ [] → b ≡ false
 if_empty true at e = absurd (cc)
 if_empty false at e = refl
 
-and_clash : (a b : Bool) → (a && b) ≡ false → a ≡ true → b ≡ false
-and_clash true b e h = e
-and_clash false b e h = absurd (cc)
-
 pub every_both : {A : Type 0} (P : A → Type 0) (xs ys : List A) → AllByRecursion P (xs ++ ys) → AllByRecursion P xs × AllByRecursion P ys
 every_both P [] ys h = (tt, h)
 every_both P (x ∷ xs) ys h = let r = every_both P xs ys h.1 in ((h.0, r.0), r.1)
-
-pub every_append : {A : Type 0} (P : A → Type 0) (xs ys : List A) → AllByRecursion P xs → AllByRecursion P ys → AllByRecursion P (xs ++ ys)
-every_append P [] ys h k = k
-every_append P (x ∷ xs) ys h k = (h.0, every_append P xs ys h.1 k)
 
 abbrev argument_of : {A B : Type 0} → (A → B) → Type 0
 argument_of {A} f = A
@@ -152,7 +147,7 @@ module _ (s : Source) (f : Definition) where
         let address = nat_eq n 5 && (is_shared means || is_parameter means) in
         let change = (nat_eq n 6 || nat_eq n 7) && writes s.bytes file inner parts in
         let r = or_parts (nat_eq n 4 && is_parameter means || address) change h in
-        spares parts (and_clash (nat_eq n 6 || nat_eq n 7) (writes s.bytes file inner parts) r.1 c)
+        spares parts (and_second_false (nat_eq n 6 || nat_eq n 7) (writes s.bytes file inner parts) r.1 c)
     spares_by role NameOp parts from to h c = absurd (cc)
     spares_by role IndexOp parts from to h c = absurd (cc)
     spares_by role (Number n) parts from to h c = absurd (cc)
@@ -186,7 +181,7 @@ module _ (s : Source) (f : Definition) where
   -- ---- declarations
 
   with_local : (inner : List Known) (external : Bool) (i : Declared) → AreKnown inner → IsOwn s f i.name → AreKnown (inner ++ local s.bytes file external i ∷ [])
-  with_local inner external i known own = every_append (λ k. IsOwn s f k.name) inner (local s.bytes file external i ∷ []) known (own, tt)
+  with_local inner external i known own = all_append (λ k. IsOwn s f k.name) inner (local s.bytes file external i ∷ []) known (own, tt)
 
   quiet_items : (inner : List Known) → AreKnown inner → (external : Bool) (is : List Declared) → AreOwn s f is → in_items s.bytes file inner external is ≡ [] → QuietItems IsSpared scope is
   quiet_items inner known external [] own e = tt
@@ -303,7 +298,7 @@ module _ (s : Source) (f : Definition) where
           let r = append_empty (places s.bytes file inner _ t ++ stated sc file inner a) (stated_arm sc file inner b) e in
           let q = append_empty (places s.bytes file inner _ t) (stated sc file inner a) r.0 in
           let own = every_both OwnStatement (said a) (said_if b) h.1 in
-          (quiet_without inner known _ t q.0, every_append QuietStatement (said a) (said_if b) (stated_quiet inner known a own.0 q.1) (arm_quiet inner known b own.1 r.1))
+          (quiet_without inner known _ t q.0, all_append QuietStatement (said a) (said_if b) (stated_quiet inner known a own.0 q.1) (arm_quiet inner known b own.1 r.1))
       formed_quiet inner known (Whiles t a) from to h e =
           let q = append_empty (places s.bytes file inner _ t) (stated sc file inner a) e in
           (quiet_without inner known _ t q.0, stated_quiet inner known a h.1 q.1)
@@ -313,12 +308,12 @@ module _ (s : Source) (f : Definition) where
       formed_quiet inner known (Fors i t u a) from to h e =
           let own = every_both OwnStatement (said_init i) (said a) h.1 in
           let next = inner ++ known_by_init sc file i in
-          let known_next = every_append (λ k. IsOwn s f k.name) inner (known_by_init sc file i) known (inits_own i own.0) in
+          let known_next = all_append (λ k. IsOwn s f k.name) inner (known_by_init sc file i) known (inits_own i own.0) in
           let r = append_empty (init sc file inner i ++ given s.bytes file next t ++ given s.bytes file next u) (stated sc file next a) e in
           let q = append_empty (init sc file inner i ++ given s.bytes file next t) (given s.bytes file next u) r.0 in
           let o = append_empty (init sc file inner i) (given s.bytes file next t) q.0 in (
             (quiet_given next known_next t o.1, quiet_given next known_next u q.1),
-            every_append QuietStatement (said_init i) (said a) (inits_quiet inner known i own.0 o.0) (stated_quiet next known_next a own.1 r.1),
+            all_append QuietStatement (said_init i) (said a) (inits_quiet inner known i own.0 o.0) (stated_quiet next known_next a own.1 r.1),
           )
       formed_quiet inner known Breaks from to h e = (tt, tt)
       formed_quiet inner known Continues from to h e = (tt, tt)
@@ -333,6 +328,6 @@ module _ (s : Source) (f : Definition) where
       all_quiet inner known (cons one rest) h e =
           let own = every_both OwnStatement (said one) (said_all rest) h in
           let q = append_empty (stated sc file inner one) (stated_all sc file (inner ++ known_after sc file one) rest) e in
-          every_append QuietStatement (said one) (said_all rest) (stated_quiet inner known one own.0 q.0)
+          all_append QuietStatement (said one) (said_all rest) (stated_quiet inner known one own.0 q.0)
           (all_quiet (inner ++ known_after sc file one)
-          (every_append (λ k. IsOwn s f k.name) inner (known_after sc file one) known (known_own one own.0)) rest own.1 q.1)
+          (all_append (λ k. IsOwn s f k.name) inner (known_after sc file one) known (known_own one own.0)) rest own.1 q.1)

@@ -1,10 +1,9 @@
 -- A strategy that meets the conditions has a text.
-use Rattle.std.proofs.Common.{◌≡◌, ℕ, ◌+◌, ◌<◌, ◌≤◌, List, [], ◌∷◌, length, map, Bool, true, false, cond, Option, Some, None, nat_eq, nat_lt, get_or, refl, subst, arith}
-use Rattle.std.specs.Prelude.{slice_get, sum_by, ◌==◌}
+use Rattle.std.proofs.Common.{◌≡◌, ℕ, ◌+◌, ◌<◌, ◌≤◌, List, [], ◌∷◌, length, map, true, false, Option, Some, None, nat_eq, nat_lt, get_or, refl, subst, arith}
+use Rattle.std.specs.Prelude.{slice_get, sum_by}
 use Rattle.std.specs.List.{AllByRecursion, list_all}
 use Rattle.std.specs.List.Sorted.{IsStrictlySortedBy}
-use Rattle.std.specs.Ordering.{nat_cmp}
-use Rattle.std.specs.declared.cmp.Ordering.TheVariants.{Less, Equal, Greater}
+use Rattle.std.specs.declared.cmp.Ordering.TheVariants.{Less}
 use Rattle.std.proofs.lemmas.Bool.{ltb-true, eqb-true}
 use Rattle.std.proofs.lemmas.List.{get_or_default}
 use Rattle.std.proofs.lemmas.List.Sums.{sum_by-cons}
@@ -19,6 +18,7 @@ use Rattle.cw_game.specs.Games.{Game, Config, leads_in, weavers_in}
 use Rattle.cw_game.specs.Closed.{HowOk}
 use Rattle.cw_game.specs.Conditions.{exits_by, fault_in, is_position, is_row, is_set, is_state, named_by, IsGoodStrategy}
 use Rattle.std.proofs.lemmas.Bool.{and_parts}
+use Rattle.cw_lemmas.proofs.Orders.{nat_less}
 use Rattle.cw_game.proofs.Goods.{taken, rows_hold, parts, good_strategy_closed}
 use Rattle.cw_least_strategy.specs.Backs.{back_cmp, Ascends}
 use Rattle.cw_least_strategy.specs.Strategies.{backs_in}
@@ -44,14 +44,6 @@ rows_are_all (r ∷ rows) = let k = rows_are_all rows in let e = rows_in_is r.ho
 
 -- ---- backs and moves
 
-less : (a b : ℕ) → nat_cmp a b ≡ Less → a < b
-less a b e = ltb-true a b (by (nat_lt a b) (a == b) refl e)
-  where
-    by : (x y : Bool) → nat_lt a b ≡ x → cond x Less (cond y Equal Greater) ≡ Less → nat_lt a b ≡ true
-    by true y h k = h
-    by false true h k = cc
-    by false false h k = cc
-
 -- backs that ascend, from a number on
 are_backs : (i low : ℕ) (backs : List (ℕ × ℕ)) → i ≤ 65536 → AllByRecursion (λ (b : ℕ × ℕ). low ≤ b.0) backs → IsStrictlySortedBy back_cmp backs → AllByRecursion (λ (b : ℕ × ℕ). b.0 < 1024) backs
     → list_all (λ n. nat_lt n i) (map (λ (b : ℕ × ℕ). b.1) backs) ≡ true → AreBacks low backs
@@ -65,7 +57,7 @@ are_backs i low (b ∷ backs) le above sorted small named =
   where
     later : (xs : List (ℕ × ℕ)) → AllByRecursion (λ (y : ℕ × ℕ). back_cmp b y ≡ Less) xs → AllByRecursion (λ (y : ℕ × ℕ). b.0 + 1 ≤ y.0) xs
     later [] h = tt
-    later (x ∷ xs) h = let lt = less b.0 x.0 h.0 in (omega (arith, lt), later xs h.1)
+    later (x ∷ xs) h = let lt = nat_less b.0 x.0 h.0 in (omega (arith, lt), later xs h.1)
 
 all_above : (backs : List (ℕ × ℕ)) → AllByRecursion (λ (b : ℕ × ℕ). 0 ≤ b.0) backs
 all_above [] = tt

@@ -17,6 +17,7 @@ use Rattle.cw_game.specs.Games.{Game}
 use Rattle.cw_game.specs.Conditions.{fault_at, in_range, ranges, is_header, is_state, is_set, is_position, is_memory, is_memory_if, is_seam, is_stage, IsGoodTable}
 use Rattle.cw_game.specs.Conditions.{is_mem_row, is_live_row, is_try_row, is_at_row, is_open_row, is_into_row, is_back_row, InMems, InLive, InTries, InAts, InOpened, InClosed, InInto, InBack}
 use Rattle.std.proofs.lemmas.Bool.{and_parts}
+use Rattle.cw_lemmas.proofs.Lists.{all_append}
 use Rattle.cw_game.proofs.Goods.{taken, none_first, all_in}
 use Rattle.cw_lazy_table.specs.Lazy.{table_rows}
 use Rattle.cw_product.specs.Product.{Held, game_of}
@@ -27,10 +28,6 @@ use Rattle.cw_answer_texts.specs.Spelled.{IsGameMade, TablesHaveTexts}
 use Rattle.cw_answer_texts.proofs.Bounds.{seam_small, stage_small, few_states, state_small, position_small, set_within}
 
 -- ---- lists of rows
-
-all_both : {A : Type 0} (P : A → Type 0) (xs ys : List A) → AllByRecursion P xs → AllByRecursion P ys → AllByRecursion P (xs ++ ys)
-all_both P [] ys a b = b
-all_both P (x ∷ xs) ys a b = (a.0, all_both P xs ys a.1 b)
 
 all_mapped : {A B : Type 0} (P : B → Type 0) (f : A → B) (test : A → Bool) → ((x : A) → test x ≡ true → P (f x)) → (xs : List A) → list_all test xs ≡ true → AllByRecursion P (map f xs)
 all_mapped P f test each [] h = tt
@@ -193,13 +190,13 @@ module _ (h : Held) (t : Table) (is : IsGameMade h) (few : length t.mems ≤ 655
   rows_fit : 0 < g.states.count → InRange g t → AllByRecursion (Fits format) (rows_of t)
   unfolding rows_of
   rows_fit some r =
-      all_both (Fits format) (memories 0 t.mems) (map row.Live t.live ++ from_tries t) (mems_fit 0 t.mems (omega (arith, few)) r.mems)
-      (all_both (Fits format) (map row.Live t.live) (from_tries t) (all_mapped (Fits format) row.Live (is_live_row g t) (live_fits some) t.live r.live)
-      (all_both (Fits format) (map row.Try t.tries) (map row.At t.ats ++ (map row.Opened t.opened ++ from_closed t)) (all_mapped (Fits format) row.Try (is_try_row g t) try_fits t.tries r.tries)
-      (all_both (Fits format) (map row.At t.ats) (map row.Opened t.opened ++ from_closed t) (all_mapped (Fits format) row.At (is_at_row g t) at_fits t.ats r.ats)
-      (all_both (Fits format) (map row.Opened t.opened) (from_closed t) (all_mapped (Fits format) row.Opened (is_open_row g t) open_fits t.opened r.opened)
-      (all_both (Fits format) (map row.Closed t.closed) (map row.Into t.into ++ map row.Back t.back) (all_mapped (Fits format) row.Closed (is_at_row g t) at_fits t.closed r.closed)
-      (all_both (Fits format) (map row.Into t.into) (map row.Back t.back) (all_mapped (Fits format) row.Into (is_into_row g t) into_fits t.into r.into)
+      all_append (Fits format) (memories 0 t.mems) (map row.Live t.live ++ from_tries t) (mems_fit 0 t.mems (omega (arith, few)) r.mems)
+      (all_append (Fits format) (map row.Live t.live) (from_tries t) (all_mapped (Fits format) row.Live (is_live_row g t) (live_fits some) t.live r.live)
+      (all_append (Fits format) (map row.Try t.tries) (map row.At t.ats ++ (map row.Opened t.opened ++ from_closed t)) (all_mapped (Fits format) row.Try (is_try_row g t) try_fits t.tries r.tries)
+      (all_append (Fits format) (map row.At t.ats) (map row.Opened t.opened ++ from_closed t) (all_mapped (Fits format) row.At (is_at_row g t) at_fits t.ats r.ats)
+      (all_append (Fits format) (map row.Opened t.opened) (from_closed t) (all_mapped (Fits format) row.Opened (is_open_row g t) open_fits t.opened r.opened)
+      (all_append (Fits format) (map row.Closed t.closed) (map row.Into t.into ++ map row.Back t.back) (all_mapped (Fits format) row.Closed (is_at_row g t) at_fits t.closed r.closed)
+      (all_append (Fits format) (map row.Into t.into) (map row.Back t.back) (all_mapped (Fits format) row.Into (is_into_row g t) into_fits t.into r.into)
       (all_mapped (Fits format) row.Back (is_back_row g t) back_fits t.back r.back)))))))
 
 pub tables_have_texts : TablesHaveTexts

@@ -1,5 +1,6 @@
 -- A text read line by line.
-use Rattle.std.proofs.Common.{◌≡◌, ◌≢◌, ℕ, suc, ◌+◌, ◌-◌, ◌^◌, ◌<◌, ◌≤◌, eqb, eqb-true, ℤ, List, [], ◌∷◌, ◌++◌, length, map, Bool, true, false, Option, Some, None, refl, sym, ap, ◌∙◌, subst, arith, append-nil, length-append}
+use Rattle.std.proofs.Common.{◌≡◌, ◌≢◌, ℕ, suc, ◌+◌, ◌-◌, ◌^◌, ◌<◌, ◌≤◌, ℤ, List, [], ◌∷◌, ◌++◌, length, map, Bool, true, false, Option, Some, None, refl, sym, ap, ◌∙◌, subst, arith, append-nil}
+use Rattle.std.proofs.Common.{length-append}
 use Rattle.std.specs.Prelude.{slice_get}
 use Rattle.std.specs.Global.{Vec}
 use Rattle.std.specs.List.{All}
@@ -18,7 +19,8 @@ use Rattle.cw_answers.specs.AnswersText.{name_line, lines_of, Fits, Spells}
 use Rattle.cw_answers.specs.Faults.{AreAnswers, IsFault}
 use Rattle.cw_answers.specs.Reading.{name_of, by_name, is_behind, last_of, NoName, NoTry, NoCall}
 use Rattle.cw_answers.proofs.Words.{tell}
-use Rattle.cw_answers.proofs.Stages.{Names, body, lines-body, lines_fit, may_follow, nothing_follows, begins_so, not_whole, not_empty, body_front, whole_front, empty_front, sorted_push, stage_of, after, lost, stage_in}
+use Rattle.cw_answers.proofs.Stages.{Names, body, lines-body, lines_fit, may_follow, nothing_follows, begins_so, not_whole, not_empty, body_front, whole_front, empty_front, sorted_push, stage_of}
+use Rattle.cw_answers.proofs.Stages.{after, lost, stage_in}
 
 abbrev NameData : Type 0
 NameData = Vec ℕ × ℤ
@@ -182,11 +184,3 @@ module _ (text first second third last : List ℕ) (names : Names) (tries : List
         (record { fits = next_fits FitsLine line_words tell AreAnswers lines_fit (body the_answers) next front; spelled = e });
     goes_on = λ w. absurd (not_whole the_answers in_order w);
   }
-
-pub some_bytes : (bytes : List ℕ) (is_empty : Bool) → is_empty ≡ eqb (length bytes) 0 → is_empty ≡ false → bytes ≢ []
-some_bytes [] is_empty e is none = absurd (false≢true (sym is ∙ e))
-some_bytes (b ∷ bytes) is_empty e is none = omega (arith, ap length none)
-
-pub no_bytes : (bytes : List ℕ) (is_empty : Bool) → is_empty ≡ eqb (length bytes) 0 → is_empty ≡ true → bytes ≡ []
-no_bytes [] is_empty e is = refl
-no_bytes (b ∷ bytes) is_empty e is = absurd (let p = eqb-true (length (b ∷ bytes)) 0 (sym e ∙ is) in omega (arith, p))

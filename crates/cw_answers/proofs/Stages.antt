@@ -2,13 +2,14 @@
 use Rattle.std.proofs.Common.{◌≡◌, ◌≢◌, ◌⊎◌, ℕ, cond, ℤ, List, [], ◌∷◌, ◌++◌, map, length, Bool, true, false, Option, Some, None, refl, sym, ap, ◌∙◌, subst, inl, inr, arith, append_assoc, append-nil}
 use Rattle.std.specs.Cmp.{IsTotalOrder}
 use Rattle.std.specs.Cmp.Lexicographic.{on_texts}
-use Rattle.std.specs.List.{All, AllByRecursion}
+use Rattle.std.specs.List.{All}
 use Rattle.std.specs.List.Sorted.{IsStrictlySortedBy}
 use Rattle.std.specs.Ordering.{is_lt}
-use Rattle.std.specs.declared.cmp.Ordering.{Ordering}
-use Rattle.std.specs.declared.cmp.Ordering.TheVariants.{Less, Equal, Greater}
+use Rattle.std.specs.declared.cmp.Ordering.TheVariants.{Less}
 use Rattle.std.proofs.lemmas.List.{map-append}
 use Rattle.std.proofs.lemmas.List.Elements.{All-nil, All-cons, All-head, All-tail, All-push}
+use Rattle.cw_lemmas.proofs.Lists.{all_push}
+use Rattle.cw_lemmas.proofs.Orders.{lt_less}
 use Rattle.cw_certs.specs.declared.moves.Move.{Move}
 use Rattle.cw_text_lines.specs.Lines.{IsFront}
 use Rattle.cw_text_lines.proofs.Fronts.{front_fits}
@@ -24,28 +25,19 @@ use Rattle.cw_answers.proofs.Words.{tell}
 abbrev pub Names : Type 0
 Names = List (List ℕ × ℤ)
 
-less : (o : Ordering) → is_lt o ≡ true → o ≡ Less
-less Less e = refl
-less Equal e = absurd (cc)
-less Greater e = absurd (cc)
-
-all_more : {A : Type 0} (P : A → Type 0) (xs : List A) (r : A) → AllByRecursion P xs → P r → AllByRecursion P (xs ++ r ∷ [])
-all_more P [] r all one = (one, tt)
-all_more P (x ∷ xs) r all one = (all.0, all_more P xs r all.1 one)
-
 order : IsTotalOrder by_name
 order = on_texts (λ p. p.0)
 
 below_new : (x : List ℕ × ℤ) (ns : Names) (r : List ℕ × ℤ) → IsStrictlySortedBy by_name (x ∷ ns) → is_behind (last_of (Some x.0) ns) r.0 ≡ true → by_name x r ≡ Less
 unfolding IsStrictlySortedBy
-below_new x [] r s b = less (by_name x r) b
+below_new x [] r s b = lt_less (by_name x r) b
 below_new x (y ∷ ns) r s b = order.trans x y r s.0.0 (below_new y ns r s.1 b)
 
 pub sorted_push : (ns : Names) (r : List ℕ × ℤ) → IsStrictlySortedBy by_name ns → is_behind (last_of None ns) r.0 ≡ true → IsStrictlySortedBy by_name (ns ++ r ∷ [])
 unfolding IsStrictlySortedBy
 sorted_push [] r s b = (tt, tt)
-sorted_push (x ∷ []) r s b = ((less (by_name x r) b, tt), (tt, tt))
-sorted_push (x ∷ y ∷ ns) r s b = (all_more (λ z. by_name x z ≡ Less) (y ∷ ns) r s.0 (below_new x (y ∷ ns) r s b), sorted_push (y ∷ ns) r s.1 b)
+sorted_push (x ∷ []) r s b = ((lt_less (by_name x r) b, tt), (tt, tt))
+sorted_push (x ∷ y ∷ ns) r s b = (all_push (λ z. by_name x z ≡ Less) (y ∷ ns) r s.0 (below_new x (y ∷ ns) r s b), sorted_push (y ∷ ns) r s.1 b)
 
 -- ---- stages of a text
 

@@ -1,11 +1,10 @@
 -- The conditions of rows and groups, from one of them on.
-use Rattle.std.proofs.Common.{◌≡◌, ℕ, suc, ◌+◌, ◌<◌, ◌≤◌, List, ◌∷◌, ◌++◌, Bool, true, false, ◌&&◌, Option, Some, None, option_map, map, length, get_or, take}
-use Rattle.std.proofs.Common.{drop, sym, ap, ap₂, ◌∙◌, subst, arith}
+use Rattle.std.proofs.Common.{◌≡◌, ℕ, suc, ◌+◌, ◌<◌, ◌≤◌, List, ◌∷◌, ◌++◌, Bool, Option, Some, None, option_map, map, length, get_or}
+use Rattle.std.proofs.Common.{drop, sym, ap, ◌∙◌, subst, arith}
 use Rattle.std.specs.Prelude.{slice_get}
-use Rattle.std.specs.List.{list_all, enumerate_from}
+use Rattle.std.specs.List.{enumerate_from}
 use Rattle.std.proofs.Math.Seq.{drop-cons}
-use Rattle.std.proofs.lemmas.List.{take_all, drop_all}
-use Rattle.std.proofs.lemmas.List.Folds.{list_all-map, list_all_more, list_all_at}
+use Rattle.std.proofs.lemmas.List.{drop_all}
 use Rattle.cw_game.specs.Games.{Game}
 use Rattle.cw_game.specs.Conditions.{first_failing}
 use Rattle.cw_game.proofs.Failing.{first_mapped, append_none, append_some}
@@ -14,16 +13,6 @@ use Rattle.cw_audit_table.specs.Tables.{PlainGroup, Audit, row_of, group_of}
 use Rattle.cw_audit_table.specs.Conditions.{GroupFault, fault_at, row_conditions, row_faults, group_faults}
 use Rattle.cw_audit_check.specs.Checks.{group_conditions}
 use Rattle.cw_audit_check.proofs.Orders.{ARow}
-
-pub all_done : {A B : Type 0} (test : B → Bool) (f : A → B) (xs : List A) (i : ℕ) → length xs ≤ i → list_all (λ x. test (f x)) (take i xs) ≡ true → list_all test (map f xs) ≡ true
-all_done test f xs i le h = list_all-map test f xs ∙ ap (list_all (λ x. test (f x))) (sym (take_all i xs le)) ∙ h
-
-pub all_not : {A B : Type 0} (test : B → Bool) (f : A → B) (xs : List A) (i : ℕ) (d : A) → i < length xs → test (f (get_or xs i d)) ≡ false → list_all test (map f xs) ≡ false
-all_not test f xs i d lt h = list_all-map test f xs ∙ list_all_at (λ x. test (f x)) xs i d lt h
-
-pub all_more : {A B : Type 0} (test : B → Bool) (f : A → B) (xs : List A) (i : ℕ) (d : A) → i < length xs → list_all (λ x. test (f x)) (take i xs) ≡ true
-    → test (f (get_or xs i d)) ≡ true → list_all (λ x. test (f x)) (take (i + 1) xs) ≡ true
-all_more test f xs i d lt h e = list_all_more (λ x. test (f x)) xs i d lt ∙ ap₂ (λ a b. a && b) h e
 
 module _ (g : Game) (t : Audit) where
   module _ (i : ℕ) (grp : PlainGroup) (rows : List ARow) where

@@ -1,7 +1,7 @@
 -- The places that are kept: in order, and all that are below the bound.
 use Rattle.std.proofs.Common.{◌≡◌, ℕ, zero, suc, ◌+◌, ◌<◌, List, [], ◌∷◌, ◌++◌, map, Bool, true, false, cond, Option}
-use Rattle.std.proofs.Common.{Some, None, option_map, eqb, take, get_or, append-nil, refl, sym, ap, ◌∙◌, subst, arith, ◌⊎◌, inl, inr, true≢false}
-use Rattle.std.specs.Prelude.{slice_get, is_some, nat_lt}
+use Rattle.std.proofs.Common.{Some, None, option_map, take, get_or, append-nil, refl, sym, ap, ◌∙◌, subst, arith, inl, inr, true≢false}
+use Rattle.std.specs.Prelude.{slice_get, is_some}
 use Rattle.std.specs.declared.cmp.Ordering.{Ordering}
 use Rattle.std.specs.declared.cmp.Ordering.TheVariants.{Less, Equal, Greater}
 use Rattle.std.specs.Ordering.{ordering_then, ordering_reverse, nat_cmp, is_lt}
@@ -12,14 +12,14 @@ use Rattle.std.specs.Prelude.{IfOk}
 use Rattle.std.proofs.Common.{Result, Ok, Err, Vec, Global}
 use Rattle.std.proofs.lemmas.Option.{none-some, same_Some, slice_get-map, slice_get_within, slice_get-get_or, get_or_from_slice_get}
 use Rattle.std.proofs.lemmas.List.{get_or-map, length-map}
-use Rattle.std.proofs.lemmas.Bool.{ltb-true, lt-ltb, cases_Bool}
-use Rattle.std.proofs.lemmas.Bool.Decides.{nat_tests}
+use Rattle.std.proofs.lemmas.Bool.{ltb-true, lt-ltb}
 use Rattle.std.proofs.lemmas.List.Elements.{filter_more, All-from_recursion, recursion_from_All}
 use Rattle.std.proofs.lemmas.List.Sorted.{All-permutation, Contains-permutation, IsPermutation-map, IsPermutation-sym, length_permutation}
 use Rattle.std.proofs.lemmas.Map.Keys.{sorted_head, sorted_tail, sorted_from_all_adjacent, apart_from_distinct, IsDistinct-cons, IsDistinct-head, IsDistinct-tail, IsDistinct-IsPermutation}
 use Rattle.std.proofs.lemmas.Map.Made.{is_some-lookup}
+use Rattle.std.specs.FinMap.{nat_cmp-IsAntisymmetric}
 use Rattle.cw_lemmas.proofs.Lists.{any_get}
-use Rattle.cw_lemmas.proofs.Orders.{then_equal}
+use Rattle.cw_lemmas.proofs.Orders.{then_equal, nat_less, then_less}
 use Rattle.cw_lemmas.proofs.Options.{option_map_some}
 use Rattle.cw_audit_table.specs.Runs.{cut}
 use Rattle.cw_audit_table.specs.Conditions.{is_before}
@@ -37,32 +37,14 @@ use Rattle.cw_audit_search.proofs.Counting.{places_laws}
 use Rattle.cw_audit_listing.specs.Lists.{plain, IsKnown, is_below_by, is_below, IsLimit, AreAllBelow, AreOrdered}
 
 -- by the orders of numbers, entrances and places
-nat_less : (m n : ℕ) → nat_cmp m n ≡ Less → m < n
-nat_less m n e = elim (cases_Bool (nat_lt m n)) [
-  | inl h ↦ ltb-true m n h
-  | inr h ↦ absurd (by (eqb m n) (sym (ap (λ b. cond b Less (cond (eqb m n) Equal Greater)) h) ∙ e))
-]
-  where
-    by : (b : Bool) → cond b Equal Greater ≡ Less → ⊥
-    by true e = cc
-    by false e = cc
-
-nat_equal : (m n : ℕ) → nat_cmp m n ≡ Equal → m ≡ n
-nat_equal m n e = grind (arith, nat_tests, e)
-
-then_less : (a b : Ordering) → ordering_then a b ≡ Less → (a ≡ Less) ⊎ ((a ≡ Equal) × (b ≡ Less))
-then_less Less b e = inl refl
-then_less Equal b e = inr (refl, e)
-then_less Greater b e = cc
-
 pair_less : (a b c d : ℕ) → ordering_then (nat_cmp a b) (nat_cmp c d) ≡ Less → IsAfter (a, c) (b, d)
-pair_less a b c d e = elim (then_less (nat_cmp a b) (nat_cmp c d) e) [ inl h ↦ inl (nat_less a b h) | inr h ↦ inr (nat_equal a b h.0, nat_less c d h.1) ]
+pair_less a b c d e = elim (then_less (nat_cmp a b) (nat_cmp c d) e) [ inl h ↦ inl (nat_less a b h) | inr h ↦ inr (nat_cmp-IsAntisymmetric a b h.0, nat_less c d h.1) ]
 
 place_less : (x y : Place) → place_cmp x y ≡ Less → IsPlaceAfter (plain x) (plain y)
 place_less x y e = elim (then_less (entrance_cmp x.entrance y.entrance) _ e) [
   | inl h ↦ inl (pair_less x.entrance.function y.entrance.function x.entrance.state.0 y.entrance.state.0 h)
   | inr h ↦ let z = then_equal (nat_cmp x.entrance.function y.entrance.function) (nat_cmp x.entrance.state.0 y.entrance.state.0) h.0 in
-      inr ((nat_equal x.entrance.function y.entrance.function z.0, nat_equal x.entrance.state.0 y.entrance.state.0 z.1), pair_less x.pos.0 y.pos.0 x.state.0 y.state.0 h.1)
+      inr ((nat_cmp-IsAntisymmetric x.entrance.function y.entrance.function z.0, nat_cmp-IsAntisymmetric x.entrance.state.0 y.entrance.state.0 z.1), pair_less x.pos.0 y.pos.0 x.state.0 y.state.0 h.1)
 ]
 
 place_equal : (x y : Place) → place_cmp x y ≡ Equal → x ≡ y
@@ -70,10 +52,10 @@ place_equal x y e =
     let k = then_equal (entrance_cmp x.entrance y.entrance) _ e in
     let z = then_equal (nat_cmp x.entrance.function y.entrance.function) (nat_cmp x.entrance.state.0 y.entrance.state.0) k.0 in
     let w = then_equal (nat_cmp x.pos.0 y.pos.0) (nat_cmp x.state.0 y.state.0) k.1 in
-    let f = nat_equal x.entrance.function y.entrance.function z.0 in
-    let q = nat_equal x.entrance.state.0 y.entrance.state.0 z.1 in
-    let p = nat_equal x.pos.0 y.pos.0 w.0 in
-    let s = nat_equal x.state.0 y.state.0 w.1 in
+    let f = nat_cmp-IsAntisymmetric x.entrance.function y.entrance.function z.0 in
+    let q = nat_cmp-IsAntisymmetric x.entrance.state.0 y.entrance.state.0 z.1 in
+    let p = nat_cmp-IsAntisymmetric x.pos.0 y.pos.0 w.0 in
+    let s = nat_cmp-IsAntisymmetric x.state.0 y.state.0 w.1 in
     λ i. place (f i) (q i) (p i) (s i)
 
 -- in order

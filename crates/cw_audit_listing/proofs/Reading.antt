@@ -2,13 +2,13 @@
 use Rattle.std.proofs.Common.{◌≡◌, List, [], ◌∷◌, ◌++◌, map, refl, sym, ap, ◌∙◌, subst, append_assoc}
 use Rattle.std.specs.List.{AllByRecursion}
 use Rattle.std.proofs.lemmas.List.{map-append}
+use Rattle.cw_lemmas.proofs.Lists.{all_push}
 use Rattle.cw_audit_table.specs.Tables.{row_of}
 use Rattle.cw_audit_store.specs.declared.place.Entrance.{Entrance}
 use Rattle.cw_audit_store.specs.declared.place.Place.{Place}
 use Rattle.cw_audit_store.specs.declared.store.Store.{Store}
 use Rattle.cw_audit_store.specs.Finding.{found_of}
 use Rattle.cw_audit_search.specs.Grouped.{IsRowRight}
-use Rattle.cw_audit_search.proofs.Grouped.{all_push}
 use Rattle.cw_audit_listing.specs.Lists.{plain, AreKnown, ARow, group, place_in, IsNext, AreRead}
 
 pub read_none : (s : Store) (e : Entrance) (places : List Place) (rows : List ARow) → rows ≡ [] → AreKnown s places → AreRead s e places places rows

@@ -1,5 +1,5 @@
 -- The table that lists a settled search meets the conditions.
-use Rattle.std.proofs.Common.{◌≡◌, ℕ, suc, ◌+◌, List, [], ◌∷◌, ◌++◌, map, length, Bool, true, false, not, ◌&&◌, ◌||◌, Option, Some, None, is_some, nat_eq}
+use Rattle.std.proofs.Common.{◌≡◌, ℕ, suc, ◌+◌, List, [], ◌∷◌, ◌++◌, map, length, Bool, true, ◌&&◌, Option, Some, None, is_some, nat_eq}
 use Rattle.std.proofs.Common.{eq-eqb, refl}
 use Rattle.std.specs.Prelude.{slice_get}
 use Rattle.std.specs.List.{list_all, enumerate_from}
@@ -17,11 +17,6 @@ use Rattle.cw_audit_search.specs.Ordered.{AscendAfter}
 pub all_true : {A : Type 0} (test : A → Bool) (xs : List A) → ((i : ℕ) (x : A) → slice_get xs i ≡ Some x → test x ≡ true) → list_all test xs ≡ true
 all_true test [] h = refl
 all_true test (x ∷ xs) h = both (test x) (list_all test xs) (h 0 x refl) (all_true test xs (λ i y e. h (suc i) y e))
-
--- where it holds if the first does, by cases on it
-pub if_so : (a b : Bool) → (a ≡ true → b ≡ true) → (not a || b) ≡ true
-if_so true b h = h refl
-if_so false b h = refl
 
 module _ (g : Game) (functions : ℕ) where
   -- condition 1, of rows in order

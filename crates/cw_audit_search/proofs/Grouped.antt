@@ -3,6 +3,7 @@ use Rattle.std.proofs.Common.{◌≡◌, ℕ, zero, suc, ◌+◌, List, [], ◌�
 use Rattle.std.specs.Prelude.{slice_get, option_map}
 use Rattle.std.specs.List.{AllByRecursion}
 use Rattle.std.proofs.lemmas.Option.{none-some, same_Some, slice_get-map}
+use Rattle.cw_lemmas.proofs.Lists.{all_push}
 use Rattle.cw_audit_table.specs.Tables.{PlainRow, PlainGroup}
 use Rattle.cw_audit_table.specs.Conditions.{is_before, key_of, pair_of}
 use Rattle.cw_audit_search.specs.Searches.{Found}
@@ -18,10 +19,6 @@ all_item : {X : Type 0} (P : X → Type 0) (xs : List X) → AllByRecursion P xs
 all_item P [] h i x e = absurd (none-some x e)
 all_item P (y ∷ xs) h zero x e = subst P (same_Some y x e) h.0
 all_item P (y ∷ xs) h (suc i) x e = all_item P xs h.1 i x e
-
-pub all_push : {X : Type 0} (P : X → Type 0) (xs : List X) (y : X) → AllByRecursion P xs → P y → AllByRecursion P (xs ++ y ∷ [])
-all_push P [] y h k = (k, tt)
-all_push P (x ∷ xs) y h k = (h.0, all_push P xs y h.1 k)
 
 all_left : (P : Place → Type 0) (xs ys : List Place) → AllByRecursion P (xs ++ ys) → AllByRecursion P xs
 all_left P [] ys h = tt

@@ -5,6 +5,7 @@ use Rattle.std.specs.Prelude.{slice_get, nat_le}
 use Rattle.std.proofs.lemmas.Option.{same_Some}
 use Rattle.std.proofs.lemmas.Bool.{ltb-true, lt-ltb, and_parts, le-leb}
 use Rattle.std.proofs.lemmas.Bool.{and_from as both}
+use Rattle.cw_lemmas.proofs.Truths.{implied}
 use Rattle.cw_certs.specs.declared.moves.Move.{Move}
 use Rattle.cw_certs.specs.declared.moves.Move.TheVariants.{On, Left, Right, Opened, Failed}
 use Rattle.cw_game.specs.declared.spots.Spot.{Spot}
@@ -25,7 +26,7 @@ use Rattle.cw_audit_search.specs.Settled.{IsSettled, IsBound, IsRowBelow}
 use Rattle.cw_audit_search.specs.Listing.{IsListed, IsListing}
 use Rattle.cw_audit_search.proofs.Front.{front}
 use Rattle.cw_audit_search.proofs.Ascending.{group_there, row_there}
-use Rattle.cw_audit_search.proofs.Good.{all_true, if_so, IsInRange, all_none}
+use Rattle.cw_audit_search.proofs.Good.{all_true, IsInRange, all_none}
 
 module _ (g : Game) (functions : ℕ) (fair : IsFair g functions) (s : Found) (sound : IsSound g functions s) (D : Option ℕ) (t : Audit) (l : IsListing g s D t) where
   before : (n : ℕ) → is_before t.distance n ≡ true → is_before D n ≡ true
@@ -102,7 +103,7 @@ module _ (g : Game) (functions : ℕ) (fair : IsFair g functions) (s : Found) (s
         → moves_on g t.distance grp r (slice_get g.spots r.pos) ≡ true
     moves_ok i grp r e w =
         let test = λ (by : Move). takes g grp.rows (r.inside + 1) (leads_in g r.pos r.state [] (slice_get g.spots r.pos) by) in
-        if_so (is_inner (slice_get g.spots r.pos)) _ (λ inner. if_so (is_before t.distance (grp.reach + r.inside + 1)) _ (λ low.
+        implied (is_inner (slice_get g.spots r.pos)) _ (λ inner. implied (is_before t.distance (grp.reach + r.inside + 1)) _ (λ low.
         let one = takes_each i grp r e w inner (before (grp.reach + r.inside + 1) low) in
         both (test On) _ (one On refl) (both (test Left) _ (one Left refl) (both (test Right) _ (one Right refl) (both (test Opened) _ (one Opened refl)
         (both (test Failed) true (one Failed refl) refl))))))
@@ -113,7 +114,7 @@ module _ (g : Game) (functions : ℕ) (fair : IsFair g functions) (s : Found) (s
         → slice_get t.groups m ≡ Some callee → callee.function ≡ h → callee.entered ≡ r.state → slice_get callee.rows n ≡ Some end
         → comes_back g t.distance grp r h k end ≡ true
     back_ok i m grp callee r end n j h k e w call em eh ex en =
-        if_so (nat_eq end.pos (g.exit h)) _ (λ last. if_so (is_before t.distance (grp.reach + r.inside + end.inside + 2)) _ (λ low.
+        implied (nat_eq end.pos (g.exit h)) _ (λ last. implied (is_before t.distance (grp.reach + r.inside + end.inside + 2)) _ (λ low.
         let v1 = row_of m n callee end em en in
         let v2 = subst (λ f. IsRowBelow s D f callee.entered callee.reach end.pos end.state end.inside) eh v1 in
         let v3 = subst (λ q. IsRowBelow s D h q callee.reach end.pos end.state end.inside) ex v2 in
@@ -142,7 +143,7 @@ module _ (g : Game) (functions : ℕ) (fair : IsFair g functions) (s : Found) (s
       where
         by_spot : (o : Option Spot) → slice_get g.spots r.pos ≡ o → calls_on g t grp r o ≡ true
         by_spot (Some (Call j h k)) eo =
-            if_so (is_before t.distance (grp.reach + r.inside + 1)) _ (λ low. call_ok i grp r j h k e w eo (before (grp.reach + r.inside + 1) low))
+            implied (is_before t.distance (grp.reach + r.inside + 1)) _ (λ low. call_ok i grp r j h k e w eo (before (grp.reach + r.inside + 1) low))
         by_spot _ eo = refl
 
     -- condition 2
@@ -153,7 +154,7 @@ module _ (g : Game) (functions : ℕ) (fair : IsFair g functions) (s : Found) (s
         let entry : IsRowBelow s D grp.function grp.entered grp.reach (skipped g (g.entry grp.function)) grp.entered 0
         = (w.0, sound.begun grp.function grp.entered first.0.pos first.0.state first.0.inside w.1, lower D (grp.reach + 0) (grp.reach + first.0.inside) (omega arith) w.2) in
         both (not (is_mains g grp) || nat_eq grp.reach 0) _
-        (if_so (is_mains g grp) (nat_eq grp.reach 0) (λ mains.
+        (implied (is_mains g grp) (nat_eq grp.reach 0) (λ mains.
         let k = and_parts (nat_eq grp.function g.main) (nat_eq grp.entered g.states.start) mains in
         let w1 = subst (λ f. s.reach f grp.entered ≡ Some grp.reach) (eqb-true grp.function g.main k.0) w.0 in
         let w2 = subst (λ q. s.reach g.main q ≡ Some grp.reach) (eqb-true grp.entered g.states.start k.1) w1 in

@@ -1,9 +1,8 @@
 -- A text read line by line.
-use Rattle.std.proofs.Common.{◌≡◌, ℕ, zero, suc, ◌+◌, ◌^◌, ◌<◌, ◌≤◌, List, [], ◌∷◌, ◌++◌, map, length, take, get_or, Bool, true, false, eqb, eqb-true, Option}
+use Rattle.std.proofs.Common.{◌≡◌, ℕ, zero, suc, ◌+◌, ◌^◌, ◌<◌, ◌≤◌, List, [], ◌∷◌, ◌++◌, map, length, take, get_or, Option}
 use Rattle.std.proofs.Common.{Some, None, refl, sym, ap, ap₂, ◌∙◌, subst, arith, append-nil, append_assoc, length-append}
 use Rattle.std.specs.Prelude.{slice_get, codes}
 use Rattle.std.specs.List.{flat_map, All}
-use Rattle.std.proofs.lemmas.Bool.{false≢true}
 use Rattle.std.proofs.lemmas.Option.{none-some, same_Some}
 use Rattle.std.proofs.lemmas.List.{map-append, length-map, take_more}
 use Rattle.std.proofs.lemmas.List.Elements.{All-nil, All-cons, All-push}
@@ -260,11 +259,3 @@ module _ (text first second third fourth last : List ℕ) (states : ℕ) (D : Op
   pub fault_line : StopsMoves D fourth → NoGroup last → StopsAt groups fourth last → ((more : List ℕ) → StartsWith last End more → ⊥)
       → IsCause text (Line (length moves + Lines groups + 4))
   fault_line moves_stop no_group stops over = subst (λ n. IsFault text (Line (n + 4))) many_lines (no_line the_audit last begun over (follows_none moves_stop no_group stops))
-
-pub some_bytes : (bytes : List ℕ) (is_empty : Bool) → is_empty ≡ eqb (length bytes) 0 → is_empty ≡ false → bytes ≡ [] → ⊥
-some_bytes [] is_empty e is none = absurd (false≢true (sym is ∙ e))
-some_bytes (b ∷ bytes) is_empty e is none = omega (arith, ap length none)
-
-pub no_bytes : (bytes : List ℕ) (is_empty : Bool) → is_empty ≡ eqb (length bytes) 0 → is_empty ≡ true → bytes ≡ []
-no_bytes [] is_empty e is = refl
-no_bytes (b ∷ bytes) is_empty e is = absurd (let p = eqb-true (length (b ∷ bytes)) 0 (sym e ∙ is) in omega (arith, p))

@@ -8,6 +8,7 @@ use Rattle.std.specs.Cmp.{IsTotalOrder}
 use Rattle.std.proofs.lemmas.Map.Keys.{Less-from_sorted}
 use Rattle.std.proofs.lemmas.List.Sorted.{searchable_from_sorted}
 use Rattle.std.proofs.lemmas.Bool.Decides.{nat_tests}
+use Rattle.cw_lemmas.proofs.Orders.{not_less}
 
 module _ {A : Type 0} (test : A → Bool) where
   pub find_first : (xs : List A) (i : ℕ) (e : A) → i < length xs → test (get_or xs i e) ≡ true → ((j : ℕ) (d : A) → j < i → test (get_or xs j d) ≡ false) → find test xs ≡ Some (get_or xs i e)
@@ -26,11 +27,6 @@ find_by p q h [] = refl
 find_by p q h (x ∷ xs) = ap (λ b. cond b (Some x) (find p xs)) (h x) ∙ ap (λ o. cond (q x) (Some x) o) (find_by p q h xs)
 
 module _ {A K : Type 0} {R : K → K → Ordering} (o : IsTotalOrder R) (key : A → K) (k : K) where
-  not_less : (r s : Ordering) → s ≡ ordering_reverse r → r ≡ Less → is_lt s ≡ false
-  not_less Less s e f = ap is_lt e
-  not_less Equal s e f = cc
-  not_less Greater s e f = cc
-
   sorted_weakly : (xs : List A) → IsStrictlySortedBy (on key R) xs → IsSortedBy (λ a b. is_lt (R (key a) (key b))) xs
   sorted_weakly xs s j d l b = not_less _ _ (o.antisymm _ _) (Less-from_sorted (on key R) xs j (j + 1) d s (omega arith) b)
 

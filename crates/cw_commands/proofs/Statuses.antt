@@ -1,7 +1,7 @@
 -- Where no count rose no file went unread and nothing unwritten.
-use Rattle.std.proofs.Common.{◌≡◌, ◌≢◌, ◌⊎◌, ℕ, List, [], Option, Some, refl, sym, ap, ◌∙◌, inl, inr, subst}
-use Rattle.std.specs.Prelude.{Contains, slice_get}
-use Rattle.std.proofs.lemmas.Option.{slice_get_within, slice_get-get_or, same_Some}
+use Rattle.std.proofs.Common.{◌≡◌, ◌≢◌, ◌⊎◌, ℕ, List, [], Option, refl, sym, ap, inl, inr, subst}
+use Rattle.std.specs.Prelude.{Contains}
+use Rattle.cw_lemmas.proofs.Lists.{get_contains}
 use Rattle.cw_core.specs.declared.quantity.Quantity.{Quantity}
 use Rattle.cw_io.specs.Files.{FilesByName}
 use Rattle.cw_io.proofs.Counts.{never_rose}
@@ -15,9 +15,6 @@ use Rattle.cw_commands.specs.Files.{HaveBytes, IsFileFault, IsUnread, first}
 use Rattle.cw_commands.specs.Outcomes.{Due, Told, Refused, reply_status}
 use Rattle.cw_commands.specs.Runs.{Delivered, Ends}
 use Rattle.cw_commands.specs.Statuses.{NoneRose, IsText, Accepts, NeverFails, EndsWell, NeverFailsForSure}
-
-got : {A : Type 0} (xs : List A) (i : ℕ) (x : A) → slice_get xs i ≡ Some x → Contains xs x
-got xs i x e = let lt = slice_get_within xs i x e in (i, lt, same_Some _ x (sym (slice_get-get_or xs i x lt) ∙ e))
 
 module _ {N : Type 0} (IsDue : List (List ℕ) → Due → Type 0) (files : Option FilesByName) (counts counts' : List ℕ → ℕ) (old new : Option (List ℕ)) (faults faults' : ℕ)
     (quantities : List Quantity) (names : List (List ℕ)) (none : NoneRose counts counts' names faults faults') where
@@ -50,7 +47,7 @@ module _ {N : Type 0} (IsDue : List (List ℕ) → Due → Type 0) (files : Opti
 
   never : (ending : Ending N) → Ends IsDue files counts counts' old new faults faults' quantities names ending → (status_of ending ≢ 6) × (status_of ending ≢ 7)
   never ending (inl m) = subst (λ (x : Ending N). (status_of x ≢ 6) × (status_of x ≢ 7)) (sym m.0) ((λ e. cc), (λ e. cc))
-  never ending (inr (inl u)) = let w = u.0 in unread_fails (first w.before) w.quantity w.name ending (got names w.place w.name w.is_name) w.fault
+  never ending (inr (inl u)) = let w = u.0 in unread_fails (first w.before) w.quantity w.name ending (get_contains names w.place w.name w.is_name) w.fault
   never ending (inr (inr d)) = delivered_fails d.1 ending d.4
 
   -- it has the status of a text that is due for what the files hold, or of want of memory
@@ -71,7 +68,7 @@ module _ {N : Type 0} (IsDue : List (List ℕ) → Due → Type 0) (files : Opti
       read = w.read;
       longer = w.fault.1;
     }))
-    unread_told (Unread told) w = absurd (none.files w.name (got names w.place w.name w.is_name) w.fault.1)
+    unread_told (Unread told) w = absurd (none.files w.name (get_contains names w.place w.name w.is_name) w.fault.1)
     unread_told (Put reply) w = absurd w.fault
     unread_told (RefusedEnd cause words) w = absurd w.fault
     unread_told Unwritten w = absurd w.fault

@@ -1,12 +1,13 @@
 -- What the check in code finds is what the conditions ask.
-use Rattle.std.proofs.Common.{◌≡◌, ℕ, zero, suc, ◌+◌, ◌<◌, ◌≤◌, List, [], ◌∷◌, ◌++◌, Bool, true, false, not, ◌&&◌, ◌||◌, cond, Option, Some, None, option_map, is_some, map, length, get_or, take, drop, Vec, Global, nat_eq, nat_lt, eq-eqb, refl, sym, ap, ap₂, ◌∙◌, subst, arith}
+use Rattle.std.proofs.Common.{◌≡◌, ℕ, zero, suc, ◌+◌, ◌<◌, ◌≤◌, List, [], ◌∷◌, ◌++◌, Bool, true, false, not, ◌&&◌, ◌||◌, cond, Option, Some, None, option_map, is_some, map, length, get_or, take, drop}
+use Rattle.std.proofs.Common.{Vec, Global, nat_eq, nat_lt, eq-eqb, refl, sym, ap, ap₂, ◌∙◌, subst, arith}
 use Rattle.std.specs.Prelude.{slice_get}
 use Rattle.std.specs.List.{list_all, list_any, enumerate_from, range_with_len}
 use Rattle.std.proofs.Math.Seq.{drop-cons}
 use Rattle.std.proofs.lemmas.Bool.{ltb-true, ne_eqb}
 use Rattle.std.proofs.lemmas.Option.{none-some, same_Some, slice_get-get_or, slice_get-map}
 use Rattle.std.proofs.lemmas.List.{take_all, drop_all}
-use Rattle.std.proofs.lemmas.List.Folds.{list_all-map, list_all_more, list_all_at, list_any_more, list_any_at}
+use Rattle.std.proofs.lemmas.List.Folds.{list_any_more, list_any_at}
 use Rattle.cw_core.specs.declared.ids.PosId.{PosId}
 use Rattle.cw_core.specs.declared.ids.StateId.{StateId}
 use Rattle.cw_certs.specs.declared.moves.Move.{Move}
@@ -74,19 +75,6 @@ pub any_more : {A B : Type 0} (test : B → Bool) (f : A → B) (xs : List A) (i
     → list_any (λ x. test (f x)) (take i xs) ≡ false → test (f (get_or xs i d)) ≡ false
     → list_any (λ x. test (f x)) (take (i + 1) xs) ≡ false
 any_more test f xs i d lt h e = list_any_more (λ x. test (f x)) xs i d lt ∙ ap₂ (λ a b. a || b) h e
-
-pub all_done : {A B : Type 0} (test : B → Bool) (f : A → B) (xs : List A) (i : ℕ) → length xs ≤ i → list_all (λ x. test (f x)) (take i xs) ≡ true
-    → list_all test (map f xs) ≡ true
-all_done test f xs i le h = list_all-map test f xs ∙ ap (list_all (λ x. test (f x))) (sym (take_all i xs le)) ∙ h
-
-pub all_not : {A B : Type 0} (test : B → Bool) (f : A → B) (xs : List A) (i : ℕ) (d : A) → i < length xs → test (f (get_or xs i d)) ≡ false
-    → list_all test (map f xs) ≡ false
-all_not test f xs i d lt h = list_all-map test f xs ∙ list_all_at (λ x. test (f x)) xs i d lt h
-
-pub all_more : {A B : Type 0} (test : B → Bool) (f : A → B) (xs : List A) (i : ℕ) (d : A) → i < length xs
-    → list_all (λ x. test (f x)) (take i xs) ≡ true → test (f (get_or xs i d)) ≡ true
-    → list_all (λ x. test (f x)) (take (i + 1) xs) ≡ true
-all_more test f xs i d lt h e = list_all_more (λ x. test (f x)) xs i d lt ∙ ap₂ (λ a b. a && b) h e
 
 -- ---- the first condition that fails
 

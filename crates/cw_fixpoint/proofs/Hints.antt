@@ -15,7 +15,7 @@ use Rattle.std.proofs.lemmas.Map.Keys.{IsDistinct-from_sorted, IsDistinct-push}
 use Rattle.std.proofs.lemmas.Map.Made.{length-from_same_keys}
 use Rattle.std.proofs.lemmas.Map.Views.{Contains-from_any, list_any-from_Contains, btree_set_contains_iff}
 use Rattle.std.proofs.lemmas.Option.{same_Some}
-use Rattle.cw_lemmas.proofs.Lists.{contains_none, contains_one}
+use Rattle.cw_lemmas.proofs.Lists.{contains_none, contains_one, get_set, get_other}
 use Rattle.cw_lemmas.proofs.Orders.{is_eq_equal}
 use Rattle.cw_lemmas.proofs.Truths.{not_both}
 use Rattle.cw_fixpoint.specs.Closures.{Exactly}
@@ -23,7 +23,7 @@ use Rattle.cw_fixpoint.specs.Seen.{SeenIs, Adds}
 use Rattle.cw_fixpoint.proofs.Existing.{in_order}
 use Rattle.cw_fixpoint.proofs.Keys.{inserted_old, inserted_new, inserted_from}
 use Rattle.cw_fixpoint.specs.Seeing.{named, IsFree, IsHinted, IsSeen}
-use Rattle.cw_fixpoint.proofs.Places.{get_set, get_other, named_in, named_more, named_last, filtered_from, filtered_to}
+use Rattle.cw_fixpoint.proofs.Places.{named_in, named_more, named_last, filtered_from, filtered_to}
 
 pub adds_new : {K : Type 0} (keys : List K) (k : K) → Adds keys (keys ++ k ∷ []) (k ∷ [])
 adds_new keys k = record { more = k ∷ []; is = refl; from = λ q c. c; has = λ q c. Contains-append_right keys (k ∷ []) q c }

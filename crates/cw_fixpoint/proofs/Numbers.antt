@@ -14,12 +14,7 @@ use Rattle.std.proofs.lemmas.Map.Keys.{Less-from_sorted}
 use Rattle.std.proofs.lemmas.List.Sorted.{searchable_from_sorted}
 use Rattle.std.proofs.lemmas.Option.{slice_get-get_or, slice_get_within, get_or_from_slice_get}
 use Rattle.cw_fixpoint.specs.Numbers.{number_in}
-use Rattle.cw_lemmas.proofs.Orders.{is_eq_equal as at_equal}
-
-not_less : (r s : Ordering) → s ≡ ordering_reverse r → r ≡ Less → is_lt s ≡ false
-not_less Less s e f = ap is_lt e
-not_less Equal s e f = cc
-not_less Greater s e f = cc
+use Rattle.cw_lemmas.proofs.Orders.{is_eq_equal as at_equal, not_less}
 
 module _ {A : Type 0} (cmp : A → A → Ordering) (total : IsTotalOrder cmp) where
   -- of two items one can't be both before and after the other

@@ -1,46 +1,22 @@
 -- What stands at a place of a list, and what a filter finds.
-use Rattle.std.proofs.Common.{◌≡◌, inl, inr, ℕ, zero, suc, ◌+◌, ◌<◌, List, [], ◌∷◌, ◌++◌, Option, Some, None, filter_map, set, take, get_or, length, refl, sym, ap, ◌∙◌, subst, arith}
+use Rattle.std.proofs.Common.{◌≡◌, inl, inr, ℕ, zero, suc, ◌+◌, ◌<◌, List, [], ◌∷◌, ◌++◌, Option, Some, None, filter_map, take, get_or, length, refl, sym, ap, ◌∙◌, subst, arith}
 use Rattle.std.specs.Prelude.{slice_get}
 use Rattle.std.specs.List.{Contains, cons_option}
 use Rattle.std.proofs.lemmas.List.{take_more}
 use Rattle.std.proofs.lemmas.List.Elements.{filter_map-append}
-use Rattle.std.proofs.lemmas.Option.{none-some, same_Some, slice_get_within, get_or_from_slice_get}
-use Rattle.cw_lemmas.proofs.Lists.{contains_none}
+use Rattle.std.proofs.lemmas.Option.{none-some, same_Some}
+use Rattle.cw_lemmas.proofs.Lists.{contains_none, get_contains, get_front, get_last}
 use Rattle.cw_fixpoint.proofs.Existing.{head_in, tail_in, in_either}
 use Rattle.cw_fixpoint.specs.Seeing.{named}
-
-pub contains_at : {A : Type 0} (xs : List A) (i : ℕ) (x : A) → slice_get xs i ≡ Some x → Contains xs x
-contains_at xs i x e = (i, slice_get_within xs i x e, get_or_from_slice_get xs i x x e)
-
-pub get_set : {A : Type 0} (xs : List A) (i : ℕ) (old x : A) → slice_get xs i ≡ Some old → slice_get (set xs i x) i ≡ Some x
-get_set [] i old x e = absurd (none-some old e)
-get_set (y ∷ xs) zero old x e = refl
-get_set (y ∷ xs) (suc i) old x e = get_set xs i old x e
-
-pub get_other : {A : Type 0} (xs : List A) (i j : ℕ) (x : A) → (j ≡ i → ⊥) → slice_get (set xs i x) j ≡ slice_get xs j
-get_other [] i j x n = refl
-get_other (y ∷ xs) zero zero x n = absurd (n refl)
-get_other (y ∷ xs) zero (suc j) x n = refl
-get_other (y ∷ xs) (suc i) zero x n = refl
-get_other (y ∷ xs) (suc i) (suc j) x n = get_other xs i j x (λ e. n (ap suc e))
-
-get_more : {A : Type 0} (xs more : List A) (i : ℕ) (x : A) → slice_get xs i ≡ Some x → slice_get (xs ++ more) i ≡ Some x
-get_more [] more i x e = absurd (none-some x e)
-get_more (y ∷ xs) more zero x e = e
-get_more (y ∷ xs) more (suc i) x e = get_more xs more i x e
-
-get_last : {A : Type 0} (xs : List A) (x : A) → slice_get (xs ++ x ∷ []) (length xs) ≡ Some x
-get_last [] x = refl
-get_last (y ∷ xs) x = get_last xs x
 
 -- the key that a hint names
 pub named_in : {K : Type 0} (keys : List K) (hint : ℕ) (k : K) → named keys hint ≡ Some k → Contains keys k
 named_in keys zero k e = absurd (none-some k e)
-named_in keys (suc place) k e = contains_at keys place k e
+named_in keys (suc place) k e = get_contains keys place k e
 
 pub named_more : {K : Type 0} (keys more : List K) (hint : ℕ) (k : K) → named keys hint ≡ Some k → named (keys ++ more) hint ≡ Some k
 named_more keys more zero k e = absurd (none-some k e)
-named_more keys more (suc place) k e = get_more keys more place k e
+named_more keys more (suc place) k e = get_front keys more place k e
 
 pub named_last : {K : Type 0} (keys : List K) (k : K) → named (keys ++ k ∷ []) (length keys + 1) ≡ Some k
 named_last keys k = let n : length keys + 1 ≡ suc (length keys) = omega arith in ap (named (keys ++ k ∷ [])) n ∙ get_last keys k

@@ -1,5 +1,5 @@
 -- The tokens of a form are those of the source, with those that are brought in between.
-use Rattle.std.proofs.Common.{◌≡◌, ℕ, zero, suc, ◌+◌, ◌-◌, ◌<◌, ◌≤◌, Bool, true, false, cond, eqb, not, ◌||◌, List, [], ◌∷◌, ◌++◌, map, length, drop, take, Option, Some, None, refl, sym}
+use Rattle.std.proofs.Common.{◌≡◌, ℕ, zero, suc, ◌+◌, ◌-◌, ◌<◌, ◌≤◌, Bool, true, false, cond, eqb, not, ◌||◌, List, [], ◌∷◌, ◌++◌, map, length, drop, take, Option, Some, None, refl, sym, le_refl}
 use Rattle.std.proofs.Common.{ap, subst, ◌∙◌, arith, inl, inr, length-drop, drop-drop}
 use Rattle.std.specs.Prelude.{codes}
 use Rattle.std.specs.List.{list_all}
@@ -7,7 +7,7 @@ use Rattle.std.specs.Option.{unwrap_or}
 use Rattle.std.specs.Str.{bytes_eq}
 use Rattle.std.proofs.lemmas.Bool.{and_parts}
 use Rattle.std.proofs.lemmas.Slice.Eq.{bytes_eq-Decides}
-use Rattle.std.proofs.lemmas.List.{append-nil, append_assoc, take-append-drop, length-take-le, map-append, take-append-le}
+use Rattle.std.proofs.lemmas.List.{append-nil, append_assoc, take-append-drop, length-take-le, map-append, take-append-le, take_all}
 use Rattle.std.proofs.Math.Seq.{take-append-add, drop-append_seam}
 use Rattle.cw_syntax.specs.Names.{slice}
 use Rattle.cw_lex.specs.declared.tokens.TokenKind.{TokenKind}
@@ -313,7 +313,7 @@ module _ (source form : List ℕ) where
       let long : length (slice source at to) ≡ m = slice_long source at to in_source in
       let here : take m (drop (at + d) form) ≡ slice source at to =
       ap (take m) there ∙ take-append-le m (slice source at to) z (omega arith)
-      ∙ ap (λ (k : ℕ). take k (slice source at to)) (sym long) ∙ take_whole (slice source at to) in
+      ∙ ap (λ (k : ℕ). take k (slice source at to)) (sym long) ∙ take_all (length (slice source at to)) (slice source at to) (le_refl (length (slice source at to))) in
       let same = tokens_same source form d ps (at + d) at m refl here (omega arith) in (
         record {
           pieces = ps;
@@ -323,11 +323,6 @@ module _ (source form : List ℕ) where
         },
         subst (λ (l : List Lexeme). AreKept source form d l) words same.1,
       )
-    where
-      take_whole : (l : List ℕ) → take (length l) l ≡ l
-      take_whole [] = refl
-      take_whole (x ∷ l) = ap (λ (k : List ℕ). x ∷ k) (take_whole l)
-
   abbrev Result : List Piece → List Lexeme → ℕ → ℕ → Bool → Type 0
   Result P xs at d f =
       (end : ℕ) × (h : Bool) × Lexed form (at + d) f (with_texts source at (spans_of P)) (map (moved d) xs ++ rights d P) end h [] × AreKept source form d xs × AreSame source form d P

@@ -3,6 +3,8 @@ use Rattle.std.proofs.Common.{◌≡◌, ℕ, zero, suc, Bool, true, false, eqb,
 use Rattle.std.specs.Prelude.{nat_eq, codes}
 use Rattle.std.specs.List.{starts_with}
 use Rattle.std.proofs.lemmas.Bool.{and_parts, and_from, both_ways}
+use Rattle.cw_lemmas.proofs.Truths.{still_false}
+use Rattle.cw_lemmas.proofs.Texts.{starts_whole}
 use Rattle.cw_syntax.specs.Names.{slice}
 use Rattle.cw_lex.specs.Marks.{is_marker, HasNoMarker}
 use Rattle.cw_detach.specs.Form.{before, behind}
@@ -29,17 +31,6 @@ clear_drop [] (suc n) h = tt
 clear_drop (b ∷ l) zero h = h
 clear_drop (b ∷ l) (suc n) h = clear_drop l n h.1
 
-still_false : (t u : Bool) → (u ≡ true → t ≡ true) → t ≡ false → u ≡ false
-still_false t true h e = absurd (both_ways t e (h refl))
-still_false t false h e = refl
-
-begins_more : (l m : List ℕ) (n : ℕ) → starts_with nat_eq (take n l) m ≡ true → starts_with nat_eq l m ≡ true
-begins_more l [] n e = refl
-begins_more [] (x ∷ m) zero e = absurd cc
-begins_more [] (x ∷ m) (suc n) e = absurd cc
-begins_more (b ∷ l) (x ∷ m) zero e = absurd cc
-begins_more (b ∷ l) (x ∷ m) (suc n) e = let p = and_parts (eqb x b) (starts_with nat_eq (take n l) m) e in and_from (eqb x b) (starts_with nat_eq l m) p.0 (begins_more l m n p.1)
-
 either : (a b c d : Bool) → (a ≡ true → c ≡ true) → (b ≡ true → d ≡ true) → (a || b) ≡ true → (c || d) ≡ true
 either true b c d f g e = rw (f refl) refl
 either false b true d f g e = refl
@@ -51,7 +42,7 @@ clear_take [] (suc n) h = tt
 clear_take (b ∷ l) zero h = tt
 clear_take (b ∷ l) (suc n) h = (
   still_false (is_marker (b ∷ l)) (is_marker (b ∷ take n l))
-      (either _ _ _ _ (begins_more (b ∷ l) (codes "cw{*") (suc n)) (begins_more (b ∷ l) (codes "*}cw") (suc n))) h.0,
+      (either _ _ _ _ (starts_whole (b ∷ l) (codes "cw{*") (suc n)) (starts_whole (b ∷ l) (codes "*}cw") (suc n))) h.0,
   clear_take l n h.1,
 )
 

@@ -1,5 +1,5 @@
 -- The choices are right wherever something is live.
-use Rattle.std.proofs.Common.{◌≡◌, ◌⊎◌, inl, inr, ℕ, ◌+◌, ◌<◌, ◌≤◌, Bool, true, false, not, ◌&&◌, Option, Some, None, nat_lt, sym, ap, ◌∙◌, subst, arith}
+use Rattle.std.proofs.Common.{◌≡◌, ◌⊎◌, inl, inr, ℕ, ◌+◌, ◌<◌, ◌≤◌, Bool, true, false, not, Option, Some, None, nat_lt, sym, ap, ◌∙◌, subst, arith}
 use Rattle.std.specs.Prelude.{slice_get, Contains}
 use Rattle.std.proofs.lemmas.Bool.{lt-ltb, ltb-true}
 use Rattle.cw_rights.specs.declared.capabilities.Primitive.{Primitive}
@@ -18,16 +18,12 @@ use Rattle.cw_lazy_table.specs.Live.{IsFull, IsLive}
 use Rattle.cw_lazy_table.proofs.Going.{resumes}
 use Rattle.cw_lazy_table.proofs.Keeping.{IsSafe, safe}
 use Rattle.cw_lazy_table.proofs.Knowing.{set_by_is}
-use Rattle.cw_lemmas.proofs.Truths.{and_first as first_and, and_second as second_and}
+use Rattle.cw_lemmas.proofs.Truths.{and_first as first_and, and_second as second_and, and_second_false}
 use Rattle.std.proofs.lemmas.Bool.{not-false as not_false, not-true as not_true}
 
 low_most : (n : ℕ) → n < 4294967296 → n ≤ most
 unfolding most
 low_most n l = omega (arith, l)
-
-out_and : (a b : Bool) → a ≡ true → (a && b) ≡ false → b ≡ false
-out_and true b h k = k
-out_and false b h k = cc
 
 module _ (g : Game) (functions : ℕ) (can : CanBegin g functions) where
   pub safe_at : (p q e : ℕ) → IsLive g p q e → IsSafe g functions p q e
@@ -80,7 +76,7 @@ module _ (g : Game) (functions : ℕ) (can : CanBegin g functions) where
           (second_and (nat_lt x g.states.count) (Kept q e call x) (sym (set_by_is g.states.count (Kept q e call) x) ∙ t)));
       left_out = λ x s t.
           lost_is h.function call.back (returned g.states (kept_at call.split q) x) e h.needed of (state x s) (not_false (lost_in g call.back (returned g.states (kept_at call.split q) x) e)
-          (out_and (nat_lt x g.states.count) (Kept q e call x) (lt-ltb x g.states.count s) (sym (set_by_is g.states.count (Kept q e call) x) ∙ t)));
+          (and_second_false (nat_lt x g.states.count) (Kept q e call x) (sym (set_by_is g.states.count (Kept q e call) x) ∙ t) (lt-ltb x g.states.count s)));
     }
       where
         inside : (x : ℕ) → has (promised g q e call) x ≡ true → nat_lt x g.states.count ≡ true

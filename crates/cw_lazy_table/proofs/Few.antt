@@ -2,6 +2,7 @@
 use Rattle.std.proofs.Common.{◌≡◌, ℕ, List, [], ◌∷◌, Bool, true, false, cond, Option, Some, None, ◌++◌, filter_map, append_assoc, refl, sym, ap, ◌∙◌}
 use Rattle.std.specs.Prelude.{slice_get, option_map}
 use Rattle.std.specs.List.{cons_option}
+use Rattle.cw_lemmas.proofs.Options.{cond_none}
 use Rattle.cw_certs.specs.declared.moves.Move.{Move}
 use Rattle.cw_certs.specs.declared.moves.Move.TheVariants.{Grant, Refuse, On, Left, Right, Opened, Failed}
 use Rattle.cw_game.specs.declared.spots.Spot.{Spot}
@@ -43,10 +44,6 @@ pub answers_not_weavers : (g : Game) (s : Option Spot) → Some turn.Environment
 answers_not_weavers g (Some (Visit j i a)) e = cc
 answers_not_weavers g s e = refl
 
-nowhere : (b : Bool) (o : Option (ℕ × ℕ)) → o ≡ None → cond b None o ≡ None
-nowhere true o none = refl
-nowhere false o none = none
-
 module _ (g : Game) (k : Key) where
   no_move : (s : Option Spot) (by : Move) → weavers_in s ≡ false → is_move s by ≡ false → next_in g k.pos k.state s by ≡ None
   no_move (Some (Visit j i a)) by w out = cc
@@ -63,7 +60,7 @@ module _ (g : Game) (k : Key) where
   no_move (Some (SplitCall j f n)) On w out = cc
   no_move (Some (Exit f)) On w out = cc
   no_move None On w out = cc
-  no_move s by w out = nowhere (is_left_in g k.state s) None refl
+  no_move s by w out = cond_none (is_left_in g k.state s) None refl
 
   not_led : (s : Option Spot) → slice_get g.spots k.pos ≡ s → weavers_in s ≡ false → (by : Move) → is_move s by ≡ false → moved_by g k by ≡ None
   not_led s es w by out = ap (option_map (λ (r : ℕ × ℕ). key r.0 r.1 k.promise)) (ap (λ (o : Option Spot). next_in g k.pos k.state o by) es ∙ no_move s by w out)

@@ -10,7 +10,7 @@ use Rattle.cw_game.specs.Games.{Game, returned}
 use Rattle.cw_game.specs.Pairs.{has, Called, call_in, kept_at}
 use Rattle.cw_product.specs.Routed.{AreRouted}
 use Rattle.cw_solve.proofs.Falls.{return_state, back_stays}
-use Rattle.cw_lemmas.proofs.Truths.{and_first, and_second}
+use Rattle.cw_lemmas.proofs.Truths.{and_first, and_second, and_second_false}
 use Rattle.cw_lazy_table.specs.Live.{IsLostBack, IsFull}
 use Rattle.cw_lazy_table.specs.Sets.{set_by}
 use Rattle.cw_lazy_table.specs.Staged.{IsKnown}
@@ -48,16 +48,12 @@ module _ (g : Game) (functions : ℕ) (routed : AreRouted g functions) (known : 
       kept = λ x t l.
           let s = ltb-true x g.states.count (and_first (nat_lt x g.states.count) (test x) (sym (set_by_is g.states.count test x) ∙ t)) in
           good x s (and_second (nat_lt x g.states.count) (test x) (sym (set_by_is g.states.count test x) ∙ t)) l;
-      left_out = λ x s t. bad x s (out (nat_lt x g.states.count) (test x) (lt-ltb x g.states.count s) (sym (set_by_is g.states.count test x) ∙ t));
+      left_out = λ x s t. bad x s (and_second_false (nat_lt x g.states.count) (test x) (sym (set_by_is g.states.count test x) ∙ t) (lt-ltb x g.states.count s));
     },
   )
     where
       Answer : ℕ → Type 0
       Answer x = IsLostBack g call q e x ⊎ (IsLostBack g call q e x → ⊥)
-
-      out : (a b : Bool) → a ≡ true → (a && b) ≡ false → b ≡ false
-      out true b h k = k
-      out false b h k = cc
 
       answer : (x : ℕ) → x < g.states.count → Answer x
       answer x s = known h.function call.back (returned g.states (kept_at call.split q) x) e h.needed (back_stays g functions routed h.function p call h.below h.of es)

@@ -9,6 +9,7 @@ use Rattle.std.specs.declared.cmp.Ordering.TheVariants.{Less, Equal, Greater}
 use Rattle.std.specs.Ordering.{ordering_then, nat_cmp, bool_cmp}
 use Rattle.std.proofs.lemmas.Bool.Decides.{nat_tests}
 use Rattle.std.proofs.lemmas.Option.{same_Some}
+use Rattle.std.specs.FinMap.{nat_cmp-IsAntisymmetric}
 use Rattle.cw_certs.specs.Ascending.{mem_cmp, live_cmp, try_cmp, at_cmp, open_cmp, into_cmp, back_cmp}
 use Rattle.cw_fixpoint.specs.Closures.{Exactly}
 use Rattle.cw_game.specs.declared.spots.Spot.TheVariants.{Asked, Label, Open, Close}
@@ -29,9 +30,9 @@ use Rattle.cw_lazy_table.specs.Rowing.{Memories, number, live_row, try_row, at_r
 use Rattle.cw_lemmas.proofs.Options.{option_map_some as mapped}
 use Rattle.cw_lazy_table.proofs.Finding.{In, in_of, of_in}
 use Rattle.cw_lazy_table.proofs.Numbers.{mem_less}
-use Rattle.cw_lazy_table.proofs.Placing.{asked_there, label_there, open_there, close_there, call_there, less_then, less_first, then_equal, same_nat, tied_nat, not_less_same, split_parts}
+use Rattle.cw_lazy_table.proofs.Placing.{asked_there, label_there, open_there, close_there, call_there, less_first, then_equal, tied_nat, not_less_same, split_parts}
 use Rattle.cw_lazy_table.proofs.Rowing.{meant, try_to, try_from, label_to, label_from, close_to, close_from, open_to, open_from, into_to, into_from, back_to, back_from, live_to, live_from}
-use Rattle.cw_lemmas.proofs.Orders.{then_equal as both_equal}
+use Rattle.cw_lemmas.proofs.Orders.{then_equal as both_equal, then_less}
 
 module _ {A : Type 0} where
   all_by : (P : A → Type 0) (xs : List A) → ((x : A) → In xs x → P x) → AllByRecursion P xs
@@ -140,7 +141,7 @@ placed_exact x y e =
     let b = both_equal _ _ a.1 in
     let c = both_equal _ _ b.1 in
     let d = both_equal _ _ c.1 in
-    same_placed x.seam x.part x.state x.promise x.pos y.seam y.part y.state y.promise y.pos (same_nat _ _ a.0) (same_nat _ _ b.0) (same_nat _ _ c.0) (same_nat _ _ d.0) (same_nat _ _ d.1)
+    same_placed x.seam x.part x.state x.promise x.pos y.seam y.part y.state y.promise y.pos (nat_cmp-IsAntisymmetric _ _ a.0) (nat_cmp-IsAntisymmetric _ _ b.0) (nat_cmp-IsAntisymmetric _ _ c.0) (nat_cmp-IsAntisymmetric _ _ d.0) (nat_cmp-IsAntisymmetric _ _ d.1)
 
 module _ (g : Game) (functions : ℕ) (can : CanBegin g functions) where
   -- a seam's parts stand at one position each
@@ -236,8 +237,8 @@ module _ (g : Game) (functions : ℕ) (can : CanBegin g functions) where
         ⊎_elim
         (λ t. memories_less x.state x.promise y.state y.promise x.pos y.pos a b (then_equal (nat_cmp x.state y.state) (nat_cmp x.promise y.promise) s.0 ∙ t))
         (λ t. absurd (not_less_same x.pos y.pos p t.1))
-        (less_then (nat_cmp x.promise y.promise) (nat_cmp x.pos y.pos) s.1))
-        (less_then (nat_cmp x.state y.state) (ordering_then (nat_cmp x.promise y.promise) (nat_cmp x.pos y.pos)) l)
+        (then_less (nat_cmp x.promise y.promise) (nat_cmp x.pos y.pos) s.1))
+        (then_less (nat_cmp x.state y.state) (ordering_then (nat_cmp x.promise y.promise) (nat_cmp x.pos y.pos)) l)
 
     abbrev three : Placed → Placed → Ordering
     three x y = ordering_then (nat_cmp x.seam y.seam) (ordering_then (nat_cmp x.part y.part) (nat_cmp (num x) (num y)))
@@ -256,9 +257,9 @@ module _ (g : Game) (functions : ℕ) (can : CanBegin g functions) where
         (λ t. less_first (nat_cmp x.part y.part) (nat_cmp (num x) (num y)) t)
         (λ t.
         then_equal (nat_cmp x.part y.part) (nat_cmp (num x) (num y)) t.0
-        ∙ last x y a.live b.live (one x y a b (same_nat x.seam y.seam s.0) (same_nat x.part y.part t.0)) t.1)
-        (less_then (nat_cmp x.part y.part) (rest x y) s.1))
-        (less_then (nat_cmp x.seam y.seam) (ordering_then (nat_cmp x.part y.part) (rest x y)) l)
+        ∙ last x y a.live b.live (one x y a b (nat_cmp-IsAntisymmetric x.seam y.seam s.0) (nat_cmp-IsAntisymmetric x.part y.part t.0)) t.1)
+        (then_less (nat_cmp x.part y.part) (rest x y) s.1))
+        (then_less (nat_cmp x.seam y.seam) (ordering_then (nat_cmp x.part y.part) (rest x y)) l)
 
     pub tries_exactly : (xs : List Placed) → Exactly placed_cmp (IsPlaced g kind.Asked) xs → Exactly try_cmp (IsTryRow g ms) (map (try_row g (lost_in g) ms) xs)
     tries_exactly xs e =
@@ -301,7 +302,7 @@ module _ (g : Game) (functions : ℕ) (can : CanBegin g functions) where
     exits b c p e l =
         let r : ordering_then (nat_cmp b.state c.state) (nat_cmp b.promise c.promise) ≡ Less =
         sym (then_equal (nat_cmp b.pos c.pos) (ordering_then (nat_cmp b.state c.state) (nat_cmp b.promise c.promise)) (tied_nat b.pos c.pos p)) ∙ l in
-        ⊎_elim (λ s. s) (λ s. absurd (not_less_same b.promise c.promise e s.1)) (less_then (nat_cmp b.state c.state) (nat_cmp b.promise c.promise) r)
+        ⊎_elim (λ s. s) (λ s. absurd (not_less_same b.promise c.promise e s.1)) (then_less (nat_cmp b.state c.state) (nat_cmp b.promise c.promise) r)
 
     same_call : (x : Placed) (c d : Called) → call_in (slice_get g.spots x.pos) ≡ Some c → call_in (slice_get g.spots x.pos) ≡ Some d → c ≡ d
     same_call x c d e f = same_Some c d (sym e ∙ f)
@@ -315,7 +316,7 @@ module _ (g : Game) (functions : ℕ) (can : CanBegin g functions) where
         ⊎_elim
         (λ s. longer (nat_cmp x.0.seam y.0.seam) (nat_cmp x.0.part y.0.part) (nat_cmp (num x.0) (num y.0)) (nat_cmp x.1.state y.1.state) (three_less kind.Call call_one x.0 y.0 a.placed b.placed s))
         (λ s. same_place x y a b (placed_exact x.0 y.0 s.0) s.1)
-        (less_then (placed_cmp x.0 y.0) (key_cmp x.1 y.1) l)
+        (then_less (placed_cmp x.0 y.0) (key_cmp x.1 y.1) l)
       where
         same_place : (x y : Placed × Key) → IsReturn g x → IsReturn g y → x.0 ≡ y.0 → key_cmp x.1 y.1 ≡ Less → four x y ≡ Less
         same_place x y a b e l =
@@ -345,5 +346,5 @@ module _ (g : Game) (functions : ℕ) (can : CanBegin g functions) where
         (λ s.
         then_equal (nat_cmp x.pos y.pos) (nat_cmp (number ms x.state x.promise) (number ms y.state y.promise)) s.0
         ∙ memories_less x.state x.promise y.state y.promise x.pos y.pos a b s.1)
-        (less_then (nat_cmp x.pos y.pos) (ordering_then (nat_cmp x.state y.state) (nat_cmp x.promise y.promise)) l))
+        (then_less (nat_cmp x.pos y.pos) (ordering_then (nat_cmp x.state y.state) (nat_cmp x.promise y.promise)) l))
         (live_to g functions can low ms are) (live_from g functions can low ms are)

@@ -1,9 +1,8 @@
 -- What stands where a row's key is, and the order of rows.
-use Rattle.std.proofs.Common.{◌≡◌, ◌⊎◌, inl, inr, ℕ, List, [], ◌++◌, Bool, true, false, cond, Option, Some, None, option_map, nat_eq, append-nil, refl, sym, ap, ap₂, ◌∙◌}
+use Rattle.std.proofs.Common.{◌≡◌, ℕ, List, [], ◌++◌, Bool, true, false, cond, Option, Some, None, option_map, nat_eq, append-nil, refl, sym, ap, ap₂, ◌∙◌}
 use Rattle.std.specs.List.{cons_option}
-use Rattle.std.specs.FinMap.{nat_cmp-IsAntisymmetric}
 use Rattle.std.specs.declared.cmp.Ordering.{Ordering}
-use Rattle.std.specs.declared.cmp.Ordering.TheVariants.{Less, Equal, Greater}
+use Rattle.std.specs.declared.cmp.Ordering.TheVariants.{Less, Equal}
 use Rattle.std.specs.Ordering.{ordering_then, nat_cmp, bool_cmp}
 use Rattle.std.specs.Cmp.{nat_cmp_total, tied_itself}
 use Rattle.std.proofs.lemmas.Option.{same_Some}
@@ -100,20 +99,11 @@ there_call (Some (Call x f n)) c e = ap (λ (c : Called). Some (c.seam, cond c.s
 there_call (Some (SplitCall x f n)) c e = ap (λ (c : Called). Some (c.seam, cond c.split 1 0)) (same_Some _ c e)
 there_call (Some (Exit x)) c e = cc
 
--- orders by several keys
-pub less_then : (a b : Ordering) → ordering_then a b ≡ Less → (a ≡ Less) ⊎ ((a ≡ Equal) × (b ≡ Less))
-less_then Less b e = inl refl
-less_then Equal b e = inr (refl, e)
-less_then Greater b e = cc
-
 pub less_first : (a b : Ordering) → a ≡ Less → ordering_then a b ≡ Less
 less_first a b e = ap (λ o. ordering_then o b) e
 
 pub then_equal : (a b : Ordering) → a ≡ Equal → ordering_then a b ≡ b
 then_equal a b e = ap (λ o. ordering_then o b) e
-
-pub same_nat : (a b : ℕ) → nat_cmp a b ≡ Equal → a ≡ b
-same_nat a b e = nat_cmp-IsAntisymmetric a b e
 
 pub tied_nat : (a b : ℕ) → a ≡ b → nat_cmp a b ≡ Equal
 tied_nat a b e = ap (λ (x : ℕ). nat_cmp x b) e ∙ tied_itself nat_cmp_total b

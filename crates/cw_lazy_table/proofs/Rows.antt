@@ -15,6 +15,7 @@ use Rattle.cw_game.specs.Conditions.{first_failing, visits_on, begins_by, calls_
 use Rattle.cw_game.specs.Conditions.{live_rows, fault_at, InLive, Part}
 use Rattle.cw_game.proofs.Failing.{none_more, none_append, none_mapped}
 use Rattle.std.proofs.lemmas.Bool.{and_from as both}
+use Rattle.cw_lemmas.proofs.Truths.{implied}
 use Rattle.cw_product.specs.Routed.{IsState, targets, AreRouted}
 use Rattle.cw_solve.proofs.Still.{first_of_two}
 use Rattle.cw_points.specs.Graphs.{seam_id}
@@ -28,10 +29,6 @@ use Rattle.cw_lazy_table.proofs.Only.{tries_lost, called_is, into_is}
 use Rattle.cw_lazy_table.proofs.Meeting.{all_pass, leads_to, asked_there, is_good, answers_good, moves_good, promise_good}
 use Rattle.cw_lazy_table.proofs.Reading.{means_to, live_to, memory, into_to, back_of, back_to}
 use Rattle.cw_lazy_table.specs.Rowing.{mem_id}
-
-implied : (a b : Bool) → (a ≡ true → b ≡ true) → (not a || b) ≡ true
-implied true b h = h refl
-implied false b h = refl
 
 -- no condition fails
 pub none_in_range : {A : Type 0} (part : Part) (test : A → Bool) (n : ℕ) (rows : List A) → ((r : A) → In rows r → test r ≡ true)

@@ -2,6 +2,7 @@
 use Rattle.std.proofs.Common.{◌≡◌, ℕ, List, [], ◌∷◌, Bool, true, false, cond, Option, Some, None, refl, ap, ◌∙◌}
 use Rattle.std.specs.Prelude.{slice_get, option_map}
 use Rattle.std.specs.List.{cons_option}
+use Rattle.cw_lemmas.proofs.Options.{cond_none}
 use Rattle.cw_certs.specs.declared.moves.Move.{Move}
 use Rattle.cw_certs.specs.declared.moves.Move.TheVariants.{Skip, Try, Grant, Refuse, On, Left, Right, Opened, Failed}
 use Rattle.cw_game.specs.declared.spots.Spot.{Spot}
@@ -40,10 +41,6 @@ those_are (Some (Branch m n)) = refl
 those_are (Some (Open j d n)) = refl
 those_are s = refl
 
-nowhere : (b : Bool) (o : Option (ℕ × ℕ)) → o ≡ None → cond b None o ≡ None
-nowhere true o none = refl
-nowhere false o none = none
-
 module _ (g : Game) (k : Key) where
   no_move : (s : Option Spot) (by : Move) → is_move s by ≡ false → next_in g k.pos k.state s by ≡ None
   no_move (Some (Visit j i a)) Skip out = cc
@@ -61,7 +58,7 @@ module _ (g : Game) (k : Key) where
   no_move (Some (SplitCall j f n)) On out = cc
   no_move (Some (Exit f)) On out = cc
   no_move None On out = cc
-  no_move s by out = nowhere (is_left_in g k.state s) None refl
+  no_move s by out = cond_none (is_left_in g k.state s) None refl
 
   no_way : (s : Option Spot) → slice_get g.spots k.pos ≡ s → (by : Move) → is_move s by ≡ false → way g k by ≡ None
   no_way s es by out =

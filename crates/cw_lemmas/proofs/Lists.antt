@@ -1,12 +1,14 @@
 -- Lists: what they contain, what stands at a place, what all or some of their items are.
-use Rattle.std.proofs.Common.{◌≡◌, ℕ, zero, suc, ◌+◌, ◌<◌, ◌≤◌, Bool, true, false, ◌&&◌, ◌||◌, cond, List, [], ◌∷◌, ◌++◌, map, length, Option, Some, refl, sym, ap, ◌∙◌, subst, arith, ⊎_elim, nat_eq, eqb-true, eq-eqb}
+use Rattle.std.proofs.Common.{◌≡◌, ℕ, zero, suc, ◌+◌, ◌<◌, ◌≤◌, Bool, true, false, ◌&&◌, ◌||◌, cond, List, [], ◌∷◌, ◌++◌, map, length, Some, refl, sym, ap, ◌∙◌, arith, ⊎_elim, nat_eq, eqb-true}
+use Rattle.std.proofs.Common.{eq-eqb, set, take, get_or, ap₂}
 use Rattle.std.specs.Prelude.{slice_get}
-use Rattle.std.specs.List.{Contains, list_any, list_all, range_with_len, take_while}
+use Rattle.std.specs.List.{Contains, list_any, list_all, range_with_len, take_while, AllByRecursion}
 use Rattle.std.proofs.lemmas.Bool.{and_parts}
-use Rattle.std.proofs.lemmas.Bool.Decides.{nat_tests}
-use Rattle.std.proofs.lemmas.List.{get_or-map, length-map}
+use Rattle.std.proofs.lemmas.List.{get_or-map, length-map, take_all}
 use Rattle.std.proofs.lemmas.List.Elements.{Contains-append_right, Contains-append_cases, Contains-append_left, Contains-push, Contains-push_cases}
 use Rattle.std.proofs.lemmas.List.Sums.{take_while-cons}
+use Rattle.std.proofs.lemmas.Option.{none-some, slice_get_within, get_or_from_slice_get}
+use Rattle.std.proofs.lemmas.List.Folds.{list_all-map, list_all_more, list_all_at}
 
 pub contains_none : {A : Type 0} (x : A) → Contains [] x → ⊥
 contains_none x (k, l, e) = absurd (omega arith)
@@ -58,3 +60,48 @@ all_range test a (suc n) h x le lt = by (nat_eq a x) refl (all_range test (a + 1
         let ne : a ≡ x → ⊥ = λ y. let w : true ≡ false = sym (eq-eqb a x y) ∙ e in cc in
         let past : a + 1 ≤ x = omega (arith, le, ne) in
         rec past (omega (arith, lt))
+
+-- what stands at a place: after a place is written, before what comes behind, and at the end
+pub get_contains : {A : Type 0} (xs : List A) (i : ℕ) (x : A) → slice_get xs i ≡ Some x → Contains xs x
+get_contains xs i x e = (i, slice_get_within xs i x e, get_or_from_slice_get xs i x x e)
+
+pub get_set : {A : Type 0} (xs : List A) (i : ℕ) (old x : A) → slice_get xs i ≡ Some old → slice_get (set xs i x) i ≡ Some x
+get_set [] i old x e = absurd (none-some old e)
+get_set (y ∷ xs) zero old x e = refl
+get_set (y ∷ xs) (suc i) old x e = get_set xs i old x e
+
+pub get_other : {A : Type 0} (xs : List A) (i j : ℕ) (x : A) → (j ≡ i → ⊥) → slice_get (set xs i x) j ≡ slice_get xs j
+get_other [] i j x n = refl
+get_other (y ∷ xs) zero zero x n = absurd (n refl)
+get_other (y ∷ xs) zero (suc j) x n = refl
+get_other (y ∷ xs) (suc i) zero x n = refl
+get_other (y ∷ xs) (suc i) (suc j) x n = get_other xs i j x (λ e. n (ap suc e))
+
+pub get_front : {A : Type 0} (xs more : List A) (i : ℕ) (x : A) → slice_get xs i ≡ Some x → slice_get (xs ++ more) i ≡ Some x
+get_front [] more i x e = absurd (none-some x e)
+get_front (y ∷ xs) more zero x e = e
+get_front (y ∷ xs) more (suc i) x e = get_front xs more i x e
+
+pub get_last : {A : Type 0} (xs : List A) (x : A) → slice_get (xs ++ x ∷ []) (length xs) ≡ Some x
+get_last [] x = refl
+get_last (y ∷ xs) x = get_last xs x
+
+-- what all items have, of two lists and of one item more
+pub all_append : {A : Type 0} (P : A → Type 0) (xs ys : List A) → AllByRecursion P xs → AllByRecursion P ys → AllByRecursion P (xs ++ ys)
+all_append P [] ys h k = k
+all_append P (x ∷ xs) ys h k = (h.0, all_append P xs ys h.1 k)
+
+pub all_push : {A : Type 0} (P : A → Type 0) (xs : List A) (x : A) → AllByRecursion P xs → P x → AllByRecursion P (xs ++ x ∷ [])
+all_push P [] x h k = (k, tt)
+all_push P (y ∷ xs) x h k = (h.0, all_push P xs x h.1 k)
+
+-- a test of what a function gives, as a loop makes it: at its end, where it fails, and one item further
+pub all_done : {A B : Type 0} (test : B → Bool) (f : A → B) (xs : List A) (i : ℕ) → length xs ≤ i → list_all (λ x. test (f x)) (take i xs) ≡ true → list_all test (map f xs) ≡ true
+all_done test f xs i le h = list_all-map test f xs ∙ ap (list_all (λ x. test (f x))) (sym (take_all i xs le)) ∙ h
+
+pub all_not : {A B : Type 0} (test : B → Bool) (f : A → B) (xs : List A) (i : ℕ) (d : A) → i < length xs → test (f (get_or xs i d)) ≡ false → list_all test (map f xs) ≡ false
+all_not test f xs i d lt h = list_all-map test f xs ∙ list_all_at (λ x. test (f x)) xs i d lt h
+
+pub all_more : {A B : Type 0} (test : B → Bool) (f : A → B) (xs : List A) (i : ℕ) (d : A) → i < length xs → list_all (λ x. test (f x)) (take i xs) ≡ true
+    → test (f (get_or xs i d)) ≡ true → list_all (λ x. test (f x)) (take (i + 1) xs) ≡ true
+all_more test f xs i d lt h e = list_all_more (λ x. test (f x)) xs i d lt ∙ ap₂ (λ a b. a && b) h e

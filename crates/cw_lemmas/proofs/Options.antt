@@ -20,3 +20,7 @@ position_none t i (x ∷ xs) e = by (t x) refl e (position_none t (i + 1) xs)
     by : (b : Bool) → t x ≡ b → cond b (Some i) (position_from t (i + 1) xs) ≡ None → (position_from t (i + 1) xs ≡ None → find t xs ≡ None) → find t (x ∷ xs) ≡ None
     by true is e r = let z : Some i ≡ None = e in absurd (cc)
     by false is e r = ap (λ b. cond b (Some x) (find t xs)) is ∙ r e
+
+pub cond_none : {X : Type 0} (b : Bool) (o : Option X) → o ≡ None → cond b None o ≡ None
+cond_none true o e = refl
+cond_none false o e = e

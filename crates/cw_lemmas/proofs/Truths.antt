@@ -1,5 +1,6 @@
 -- Truths: `and`, `or` and `not`, besides what std has of them.
 use Rattle.std.proofs.Common.{◌≡◌, Bool, true, false, not, ◌&&◌, ◌||◌, cond, refl}
+use Rattle.std.proofs.lemmas.Bool.{both_ways}
 
 pub and_true : (b : Bool) → (b && true) ≡ b
 and_true true = refl
@@ -36,3 +37,21 @@ cond_true false b e = e
 pub not_both : (b : Bool) → b ≡ true → b ≡ false → ⊥
 not_both true h k = cc
 not_both false h k = cc
+
+pub and_second_false : (a b : Bool) → (a && b) ≡ false → a ≡ true → b ≡ false
+and_second_false true b h k = h
+and_second_false false b h k = cc
+
+pub or_middle : (a b c : Bool) → (a || (b || c)) ≡ false → b ≡ false
+or_middle true b c h = cc
+or_middle false true c h = cc
+or_middle false false c h = refl
+
+-- one that follows from another
+pub implied : (a b : Bool) → (a ≡ true → b ≡ true) → (not a || b) ≡ true
+implied true b h = h refl
+implied false b h = refl
+
+pub still_false : (a b : Bool) → (b ≡ true → a ≡ true) → a ≡ false → b ≡ false
+still_false a true h e = absurd (both_ways a e (h refl))
+still_false a false h e = refl

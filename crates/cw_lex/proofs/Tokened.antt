@@ -2,7 +2,9 @@
 use Rattle.std.proofs.Common.{◌≡◌, ℕ, zero, suc, ◌+◌, ◌<◌, ◌≤◌, Bool, true, false, cond, eqb, List, [], ◌∷◌, length, drop, take, Option, Some, None, refl, subst, ◌∙◌, arith, inl, inr, rules}
 use Rattle.std.specs.Prelude.{nat_eq, codes}
 use Rattle.std.specs.List.{starts_with, take_while}
-use Rattle.std.proofs.lemmas.Bool.{and_parts, and_from, or_cases, both_ways, cases_Bool}
+use Rattle.std.proofs.lemmas.Bool.{or_cases, both_ways, cases_Bool}
+use Rattle.cw_lemmas.proofs.Truths.{still_false}
+use Rattle.cw_lemmas.proofs.Texts.{starts_whole}
 use Rattle.cw_lex.specs.declared.tokens.TokenKind.{TokenKind}
 use Rattle.cw_lex.specs.declared.tokens.TokenKind.TheVariants as kind
 use Rattle.cw_lex.specs.declared.piece.Front.TheVariants as piece
@@ -17,13 +19,6 @@ use Rattle.cw_lex.proofs.Alone.{both, chosen, while_cut, starts_cut, character_c
 
 -- ---- punctuation
 
-starts_whole : (bs w : List ℕ) (k : ℕ) → starts_with nat_eq (take k bs) w ≡ true → starts_with nat_eq bs w ≡ true
-starts_whole bs [] k e = refl
-starts_whole [] (x ∷ w) zero e = absurd cc
-starts_whole [] (x ∷ w) (suc k) e = absurd cc
-starts_whole (b ∷ bs) (x ∷ w) zero e = absurd cc
-starts_whole (b ∷ bs) (x ∷ w) (suc k) e = let p = and_parts (eqb x b) (starts_with nat_eq (take k bs) w) e in and_from (eqb x b) (starts_with nat_eq bs w) p.0 (starts_whole bs w k p.1)
-
 begins_whole : (ws : List (List ℕ)) (bs : List ℕ) (k : ℕ) → begins ws (take k bs) ≡ true → begins ws bs ≡ true
 begins_whole [] bs k e = e
 begins_whole (w ∷ ws) bs k e = elim (or_cases (starts_with nat_eq (take k bs) w) (begins ws (take k bs)) e) [
@@ -33,10 +28,6 @@ begins_whole (w ∷ ws) bs k e = elim (or_cases (starts_with nat_eq (take k bs) 
     | inr q ↦ rw q (begins_whole ws bs k p)
   ]
 ]
-
-stays_false : (t u : Bool) → (u ≡ true → t ≡ true) → t ≡ false → u ≡ false
-stays_false t true h e = absurd (both_ways t e (h refl))
-stays_false t false h e = refl
 
 abbrev pub AllShort : ℕ → List (List ℕ) → Type 0
 AllShort n [] = Unit {0}
@@ -62,12 +53,12 @@ mark_cut bs n e some = chosen (begins three_byte_marks bs) _ _ n _ (λ t h. (
     rw three h)) (λ t h.
     chosen (begins two_byte_marks bs) _ _ n _ (λ u g. (
     let two : begins two_byte_marks (take n bs) ≡ true = subst (λ (j : ℕ). begins two_byte_marks (take j bs) ≡ true) g (begins_cut two_byte_marks bs 2 two_short ∙ u) in
-    rw (stays_false (begins three_byte_marks bs) (begins three_byte_marks (take n bs)) (begins_whole three_byte_marks bs n) t, two) g)) (λ u g.
+    rw (still_false (begins three_byte_marks bs) (begins three_byte_marks (take n bs)) (begins_whole three_byte_marks bs n) t, two) g)) (λ u g.
     chosen (begins one_byte_marks bs) 1 0 n _ (λ v f. (
     let one : begins one_byte_marks (take n bs) ≡ true = subst (λ (j : ℕ). begins one_byte_marks (take j bs) ≡ true) f (begins_cut one_byte_marks bs 1 one_short ∙ v) in
     rw (
-      stays_false (begins three_byte_marks bs) (begins three_byte_marks (take n bs)) (begins_whole three_byte_marks bs n) t,
-      stays_false (begins two_byte_marks bs)
+      still_false (begins three_byte_marks bs) (begins three_byte_marks (take n bs)) (begins_whole three_byte_marks bs n) t,
+      still_false (begins two_byte_marks bs)
           (begins two_byte_marks (take n bs)) (begins_whole two_byte_marks bs n) u,
       one,
     ) f)) (λ v f. absurd (omega arith)) g) h) e

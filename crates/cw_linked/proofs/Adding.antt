@@ -22,10 +22,6 @@ before_push [] y i x e = absurd (none-some x e)
 before_push (z ∷ xs) y zero x e = e
 before_push (z ∷ xs) y (suc i) x e = before_push xs y i x e
 
-pub after_push : {X : Type 0} (xs : List X) (y : X) → slice_get (xs ++ y ∷ []) (length xs) ≡ Some y
-after_push [] y = refl
-after_push (z ∷ xs) y = after_push xs y
-
 pub push_cases : {X : Type 0} (xs : List X) (y : X) (i : ℕ) (x : X) → slice_get (xs ++ y ∷ []) i ≡ Some x → (slice_get xs i ≡ Some x) ⊎ ((i ≡ length xs) × (y ≡ x))
 push_cases [] y zero x e = inr (refl, same_Some y x e)
 push_cases [] y (suc i) x e = absurd (none-some x e)

@@ -14,6 +14,7 @@ use Rattle.cw_linked.specs.Steps.{IsOther, AsksCell, AsksLink}
 use Rattle.cw_linked.specs.Works.{place_at, value_at}
 use Rattle.cw_linked.proofs.Bounding.{place_is}
 use Rattle.std.proofs.lemmas.Bool.{and_parts as both_are, cases_Bool as decide, or_cases as either_is, or_parts as neither_is}
+use Rattle.cw_lemmas.proofs.Truths.{and_second_false}
 
 module _ (g : Game) (contexts : List Context) where
   -- two cells with one place are the same
@@ -30,10 +31,6 @@ module _ (g : Game) (contexts : List Context) where
   pub value_other : (values : List ℕ) (v i : ℕ) (c : Context) (p q j : ℕ) (d : Context) (r x : ℕ) → IsCell g contexts i c p q → IsCell g contexts j d r x → IsOther i p q j r x
       → value_at g contexts (set values (place_at g contexts j r x) v) i p q ≡ value_at g contexts values i p q
   value_other values v i c p q j d r x is are other = get_or-set_other values (place_at g contexts j r x) (place_at g contexts i p q) v 0 (other_place i c p q j d r x is are other)
-
-one_isnt : (a b : Bool) → (a && b) ≡ false → a ≡ true → b ≡ false
-one_isnt true b h k = h
-one_isnt false b h k = cc
 
 -- a key that isn't written waits under no more already
 pub kept_low : (old key : ℕ) → (nat_eq old 0 || nat_lt key old) ≡ false → Waits old key
@@ -100,7 +97,7 @@ module _ (g : Game) (contexts : List Context) (s : Found) (heights asked due : L
         kept : Test ≡ false → AsksCell g contexts s (value_at g contexts asked) j r x key
         kept h = record {
           here = λ none. kept_low (slice_index asked (place_at g contexts j r x)) key
-              (one_isnt _ _ h (eq-eqb (slice_index heights (place_at g contexts j r x)) 0 (sym is_height ∙ none)));
+              (and_second_false _ _ h (eq-eqb (slice_index heights (place_at g contexts j r x)) 0 (sym is_height ∙ none)));
           is = inr (sym (is_asked j r x));
           lower = λ lt. (omega (arith, lt, is_asked j r x), omega (arith, is_asked j r x));
           others = λ i c p q is other. sym (is_asked i p q);

@@ -4,6 +4,7 @@ use Rattle.std.specs.Prelude.{◌⊎◌, slice_get, Contains}
 use Rattle.std.proofs.lemmas.Bool.{cases_eq, cases_lt, false≢true}
 use Rattle.std.proofs.lemmas.List.{length_push, length-set, get_or-set_same, get_or-set_other}
 use Rattle.std.proofs.lemmas.Option.{same_Some, none-some}
+use Rattle.cw_lemmas.proofs.Lists.{get_last}
 use Rattle.cw_core.specs.declared.ids.PosId.{PosId}
 use Rattle.cw_certs.specs.declared.moves.Move.{Move}
 use Rattle.cw_game.specs.declared.spots.Spot.{Spot}
@@ -19,7 +20,7 @@ use Rattle.cw_linked.specs.Edges.{AddsMove, AddsMoves, AreChangesTo, AreReturnsT
 use Rattle.cw_linked.specs.Returns.{HasReturn}
 use Rattle.cw_linked.specs.Steps.{IsMoveIn, Leads}
 use Rattle.cw_linked.specs.Waiting.{pair_of, pair_number, HasIn, keeps_state, IsChange, AreChanges}
-use Rattle.cw_linked.proofs.Adding.{before_push, after_push, push_cases}
+use Rattle.cw_linked.proofs.Adding.{before_push, push_cases}
 
 -- a new link in front of a list
 module _ {T : Type 0} (old new : Chained T) (list : ℕ) (v : T) (lists : new.lists ≡ with_front old.lists list (length old.values)) (values : new.values ≡ old.values ++ v ∷ [])
@@ -48,7 +49,7 @@ module _ {T : Type 0} (old new : Chained T) (list : ℕ) (v : T) (lists : new.li
       (subst (λ (ys : List ℕ). Contains ys (length old.values)) (sym (list_at-with_front_same old.lists list (length old.values) within)) (0, omega arith, refl))
 
   pub new_in : HasIn new list v
-  new_in = (length old.values, front_in, ap (λ (vs : List T). slice_get vs (length old.values)) values ∙ after_push old.values v)
+  new_in = (length old.values, front_in, ap (λ (vs : List T). slice_get vs (length old.values)) values ∙ get_last old.values v)
 
   -- each value is an old one or the new one
   pub value_cases : (edge : ℕ) (w : T) → slice_get new.values edge ≡ Some w → (slice_get old.values edge ≡ Some w) ⊎ (v ≡ w)

@@ -3,6 +3,7 @@ use Rattle.std.proofs.Common.{◌≡◌, ℕ, ◌+◌, ◌-◌, ◌*◌, ◌<◌
 use Rattle.std.specs.Prelude.{◌⊎◌, slice_get, slice_index, nat_eq}
 use Rattle.std.proofs.lemmas.Bool.{eq-eqb}
 use Rattle.std.proofs.lemmas.Option.{same_Some, slice_get_within}
+use Rattle.cw_lemmas.proofs.Lists.{get_last}
 use Rattle.cw_game.specs.Games.{Game}
 use Rattle.cw_game.specs.Pairs.{Called}
 use Rattle.cw_solve.specs.declared.contexts.Context.{Context}
@@ -19,7 +20,7 @@ use Rattle.cw_linked.specs.Founds.{AreAlike, IsLink, AreRight, IsClosed, Nothing
 use Rattle.cw_linked.specs.Queues.{found_of, AreLong, AreHigh, IsLinkAt, AreMarked, AreDue}
 use Rattle.cw_linked.specs.Steps.{Adds, IsIt}
 use Rattle.cw_linked.specs.Works.{AreUpTo, place_at, value_at}
-use Rattle.cw_linked.proofs.Adding.{after_push, added_right, added_closed, added_called, added_standing}
+use Rattle.cw_linked.proofs.Adding.{added_right, added_closed, added_called, added_standing}
 use Rattle.cw_linked.proofs.Askings.{stays_closed}
 use Rattle.cw_linked.proofs.Bounding.{place_is}
 use Rattle.cw_linked.proofs.Finishing.{next_table, next_callers, next_marked, next_right, next_called}
@@ -54,7 +55,7 @@ module _ (g : Game) (functions : ℕ) (routed : AreRouted g functions) (alike : 
   is_pushed_marked = pushed_marked g old pushed c kept.blocks pushes kept.long kept.marked
 
   pub pushed_there : slice_get pushed.table.contexts.items number ≡ Some c
-  pushed_there = ap (λ (cs : List Context). slice_get cs number) pushes.contexts ∙ after_push Contexts c
+  pushed_there = ap (λ (cs : List Context). slice_get cs number) pushes.contexts ∙ get_last Contexts c
 
   functions_below : (i : ℕ) (d : Context) → slice_get More i ≡ Some d → d.function < functions
   functions_below i d at = (there_at g functions routed pushed.table is_pushed_table i d (ap (λ (cs : List Context). slice_get cs i) pushes.contexts ∙ at)).below
@@ -91,7 +92,7 @@ module _ (g : Game) (functions : ℕ) (routed : AreRouted g functions) (alike : 
     is_freed_long = frees_long g number c pushed freed Each frees is_pushed_long
 
     pub freed_there : slice_get freed.table.contexts.items number ≡ Some c
-    freed_there = ap (λ (cs : List Context). slice_get cs number) freed_contexts ∙ after_push Contexts c
+    freed_there = ap (λ (cs : List Context). slice_get cs number) freed_contexts ∙ get_last Contexts c
 
     links : (p x : ℕ) (call : Called) → IsLink g More number c p x call → slice_index freed.store.due (place_at g More number p x) ≡ 1
     links p x call = subst (λ (cs : List Context). IsLink g cs number c p x call → slice_index freed.store.due (place_at g cs number p x) ≡ 1) pushes.contexts (λ is. frees.links p x call is tt)
@@ -199,9 +200,9 @@ module _ (g : Game) (functions : ℕ) (routed : AreRouted g functions) (alike : 
         where
           here : (i : ℕ) (d : Context) (p q : ℕ) → IsCell g More i d p q → i ≡ number → IsClosed g (found_of g new) i d p q
           here i d p q is e =
-              let same : c ≡ d = same_Some c d (sym (after_push Contexts c) ∙ subst (λ (y : ℕ). slice_get More y ≡ Some d) e is.at) in
+              let same : c ≡ d = same_Some c d (sym (get_last Contexts c) ∙ subst (λ (y : ℕ). slice_get More y ≡ Some d) e is.at) in
               let cell : IsCell g More number c p q
-              = record { at = after_push Contexts c; of = subst (λ (y : Context). IsOf g y.function p) (sym same) is.of; state = is.state } in
+              = record { at = get_last Contexts c; of = subst (λ (y : Context). IsOf g y.function p) (sym same) is.of; state = is.state } in
               subst (λ (y : ℕ). IsClosed g (found_of g new) y d p q) (sym e) (subst (λ (y : Context). IsClosed g (found_of g new) number y p q) same (asked p q cell))
 
       called : AllCalled g Contexts (found_of g old) Nothing → AllCalled g new.table.contexts.items (found_of g new) Nothing

@@ -18,7 +18,7 @@ use Rattle.cw_solve.specs.Rounds.{IsCell}
 use Rattle.cw_solve.proofs.Calling.{next_target}
 use Rattle.cw_solve.proofs.Moves.{by_moves, bad_fails}
 use Rattle.cw_linked.specs.Steps.{IsMoveIn}
-use Rattle.cw_lemmas.proofs.Truths.{or_first as neither}
+use Rattle.cw_lemmas.proofs.Truths.{or_first as neither, or_middle}
 use Rattle.cw_lemmas.proofs.Options.{cond_none_some as not_left, option_map_some as mapped}
 use Rattle.std.proofs.lemmas.Option.{cond_some as made}
 use Rattle.std.specs.Cmp.{both_ways as same_bools}
@@ -112,11 +112,6 @@ module _ (g : Game) (functions : ℕ) (routed : AreRouted g functions) where
   next_cell contexts i c p q by r below is e =
       let l = not_left (is_left_in g q (slice_get g.spots p)) (option_map pair_of (leads_in g p q [] (slice_get g.spots p) by)) r e in
       let m = mapped pair_of (leads_in g p q [] (slice_get g.spots p) by) r l.1 in
-      let other = not_calls (bad_in g q (slice_get g.spots p)) (is_call_in (slice_get g.spots p)) (is_exit_in (slice_get g.spots p)) l.0 in
+      let other = or_middle (bad_in g q (slice_get g.spots p)) (is_call_in (slice_get g.spots p)) (is_exit_in (slice_get g.spots p)) l.0 in
       let state : IsState g r.1 = subst (λ (y : ℕ × ℕ). IsState g y.1) m.2 (leads_state p q (slice_get g.spots p) by m.0 refl (neither (bad_in g q (slice_get g.spots p)) _ l.0) other is.state m.1) in
       record { at = is.at; of = routed.stays c.function p r.0 below is.of (next_target g p q (slice_get g.spots p) by r e); state = state }
-    where
-      not_calls : (a b c : Bool) → (a || (b || c)) ≡ false → b ≡ false
-      not_calls true b c h = cc
-      not_calls false true c h = cc
-      not_calls false false c h = refl

@@ -5,6 +5,7 @@ use Rattle.std.proofs.lemmas.Bool.{cases_lt}
 use Rattle.std.proofs.lemmas.List.{length-replicate, length-append, length_push, get_or-replicate, get_or_past, get_or_append_left, get_or-append_right, take-append-le, take_all}
 use Rattle.std.proofs.lemmas.List.Sums.{sum_by-append, sum_by_push}
 use Rattle.std.proofs.lemmas.Option.{slice_get_within}
+use Rattle.cw_lemmas.proofs.Lists.{get_last}
 use Rattle.cw_game.specs.Games.{Game}
 use Rattle.cw_game.specs.Pairs.{Called}
 use Rattle.cw_links.specs.Marks.{is_marked}
@@ -20,7 +21,7 @@ use Rattle.cw_linked.specs.Calls.{AreCallers}
 use Rattle.cw_linked.specs.Founds.{IsLink}
 use Rattle.cw_linked.specs.Queues.{AreLong, AreHigh, IsLinkAt, AreMarked, AreDue}
 use Rattle.cw_linked.specs.Works.{AreUpTo, place_at, value_at}
-use Rattle.cw_linked.proofs.Adding.{before_push, after_push, push_cases}
+use Rattle.cw_linked.proofs.Adding.{before_push, push_cases}
 use Rattle.cw_linked.proofs.Bounding.{place_is}
 
 -- no number of a longer vector is above
@@ -73,7 +74,7 @@ module _ (g : Game) (contexts : List Context) (new : Context) where
   pub value_new : (values : List ℕ) (v : ℕ) → length values ≡ cells_of g contexts → (p q : ℕ) → IsCell g Longer (length contexts) new p q
       → value_at g Longer (values ++ replicate (size g new.function) v) (length contexts) p q ≡ v
   value_new values v long p q is =
-      let at = after_push contexts new in
+      let at = get_last contexts new in
       let row = within g Longer (length contexts) new p q is in
       let place : place_at g Longer (length contexts) p q ≡ length values + (q * positions g new.function + (p - g.entry new.function))
       = place_is g Longer (length contexts) new p q at ∙ ap (λ (b : ℕ). b + (q * positions g new.function + (p - g.entry new.function))) (base_end ∙ sym long) in

@@ -1,5 +1,6 @@
 -- The item at a position is the front of each board that goes together with a pair there: a stack of frames stands at a point, and its pair at a position of it.
-use Rattle.std.proofs.Common.{◌≡◌, ◌⊎◌, ℕ, zero, suc, ◌+◌, ◌<◌, ◌≤◌, List, [], ◌∷◌, ◌++◌, Bool, true, false, cond, Option, Some, None, option_map, option_and_then, map, length, refl, sym, ap, ap₂, ◌∙◌, subst, inl, inr, ⊎_elim, arith, length-append}
+use Rattle.std.proofs.Common.{◌≡◌, ◌⊎◌, ℕ, zero, suc, ◌+◌, ◌<◌, ◌≤◌, List, [], ◌∷◌, ◌++◌, Bool, true, false, cond, Option, Some, None, option_map, option_and_then, map, length, refl, sym, ap, ap₂}
+use Rattle.std.proofs.Common.{◌∙◌, subst, inl, inr, ⊎_elim, arith, length-append}
 use Rattle.std.specs.Prelude.{slice_get}
 use Rattle.std.proofs.lemmas.Option.{none-some, same_Some, slice_get_within, cond_some}
 use Rattle.cw_rights.specs.declared.capabilities.Caps.{Caps}
@@ -39,13 +40,12 @@ use Rattle.cw_positions.specs.Closed.{LeadsWithin}
 use Rattle.cw_positions.specs.Laid.{IsGameOn}
 use Rattle.cw_positions.specs.Items.{IsOfPoint, LeadsAs, StaysIn, IsAtPoint, HasItem, ItemsStand}
 use Rattle.cw_positions.proofs.Begins.{begin_next, begin_more}
-use Rattle.cw_lemmas.proofs.Lists.{get_below}
+use Rattle.cw_lemmas.proofs.Lists.{get_below, get_front}
 use Rattle.cw_positions.proofs.Closing.{CallsWithin, closed_at, point_closed}
 use Rattle.cw_positions.proofs.Leading.{length_nodes}
 use Rattle.cw_positions.proofs.Lengths.{width_at}
 use Rattle.cw_positions.proofs.Origins.{spot_of}
 use Rattle.cw_positions.proofs.Programs.{of_graph}
-use Rattle.cw_positions.proofs.Seen.{get_front}
 use Rattle.cw_positions.proofs.Standing.{found, found_two}
 
 -- ---- a point's positions

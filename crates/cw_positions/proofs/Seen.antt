@@ -30,18 +30,13 @@ use Rattle.cw_positions.specs.Origins.{IsOf}
 use Rattle.cw_positions.specs.Seams.{stages_at, node_of, stages_of}
 use Rattle.cw_positions.proofs.Lengths.{width_at}
 use Rattle.cw_positions.proofs.Standing.{stands}
-use Rattle.cw_lemmas.proofs.Lists.{get_below}
+use Rattle.cw_lemmas.proofs.Lists.{get_below, get_front}
 use Rattle.cw_positions.proofs.Origins.{positions_are_of_points}
 use Rattle.cw_positions.proofs.Seaming.{is_seam_point, AreSeams, seams_of_plan, seam_at, point_at}
 use Rattle.std.proofs.lemmas.Map.Keys.{any_passes_from_place as at_any}
 use Rattle.std.specs.Cmp.{both_ways as bool_same}
 use Rattle.cw_lemmas.proofs.Lists.{any_get as any_at}
 use Rattle.cw_lemmas.proofs.Numbers.{nat_eq_self}
-
-pub get_front : {A : Type 0} (a b : List A) (i : ℕ) (x : A) → slice_get a i ≡ Some x → slice_get (a ++ b) i ≡ Some x
-get_front [] b i x e = absurd (none-some x e)
-get_front (y ∷ a) b zero x e = e
-get_front (y ∷ a) b (suc i) x e = get_front a b i x e
 
 pub has_get : {A : Type 0} (g : List A) (p : ℕ) (is : List A) (i : ℕ) (x : A) → HasAt g p is → slice_get is i ≡ Some x → slice_get g (p + i) ≡ Some x
 has_get g p [] i x h e = absurd (none-some x e)

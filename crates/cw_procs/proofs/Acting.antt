@@ -5,6 +5,7 @@ use Rattle.std.proofs.lemmas.Option.{slice_get-map}
 use Rattle.std.specs.List.{All}
 use Rattle.std.proofs.lemmas.List.{map-append, length-map}
 use Rattle.std.proofs.lemmas.List.Elements.{All-same, All-set, All-push}
+use Rattle.cw_lemmas.proofs.Lists.{get_front, get_last}
 use Rattle.cw_rights.specs.declared.capabilities.Caps.{Caps}
 use Rattle.cw_certs.specs.declared.moves.Move.{Move}
 use Rattle.cw_certs.specs.Tables.{Table}
@@ -12,7 +13,6 @@ use Rattle.cw_game.specs.Games.{Game}
 use Rattle.cw_trace.specs.Traces.{Names}
 use Rattle.cw_run.specs.Walks.{Here, Wait, wait_of}
 use Rattle.cw_run.specs.declared.walk.Wait.{Wait as WaitData}
-use Rattle.cw_worlds.proofs.Sets.{get_more, get_last}
 use Rattle.cw_procs.specs.declared.stacks.Link.{Link as LinkData}
 use Rattle.cw_procs.specs.Walks.{Link, link_of, links_of, Stack, empty, on, AreKept, Process, MovesBy, ForksBy, IsNone, other, IsStep, moves, forks}
 
@@ -27,7 +27,7 @@ mapped_get f xs i x e = slice_get-map f xs i ∙ ap (option_map f) e
 -- An append keeps every stack.
 pub kept_more : (links more : List Link) → AreKept links (links ++ more)
 kept_more links more _ _ empty = empty
-kept_more links more _ _ (on i l ws e st) = on i l ws (get_more links more i l e) (kept_more links more l.below ws st)
+kept_more links more _ _ (on i l ws e st) = on i l ws (get_front links more i l e) (kept_more links more l.below ws st)
 
 pub kept_items : (old new : List LinkData) (l : LinkData) → new ≡ old ++ l ∷ [] → AreKept (links_of old) (links_of new)
 kept_items old new l e = subst (λ z. AreKept (links_of old) z) (sym (ap links_of e ∙ map-append link_of old (l ∷ []))) (kept_more (links_of old) (link_of l ∷ []))

@@ -2,6 +2,7 @@
 use Rattle.std.proofs.Common.{◌≡◌, ◌<◌, ℕ, zero, suc, List, [], ◌∷◌, ◌++◌, set, true, false, Option, Some, None, option_map, refl, sym, ap, ap₂, ◌∙◌, subst, arith}
 use Rattle.std.specs.Prelude.{slice_get}
 use Rattle.std.proofs.lemmas.Option.{none-some, same_Some}
+use Rattle.cw_lemmas.proofs.Lists.{get_set}
 use Rattle.cw_certs.specs.declared.moves.Move.{Move}
 use Rattle.cw_certs.specs.Tables.{Table}
 use Rattle.cw_syntax.specs.Plans.{Plan}
@@ -17,7 +18,6 @@ use Rattle.cw_run.specs.Lines.{own_of}
 use Rattle.cw_run.proofs.Runs.{own_lines, own_trace}
 use Rattle.cw_worlds.specs.Forks.{forks_in, at_fork}
 use Rattle.cw_worlds.specs.Worlds.{World, Makes, WorldStep}
-use Rattle.cw_worlds.proofs.Sets.{get_set}
 use Rattle.cw_procs.specs.Steps.{Word, is_weavers_in}
 use Rattle.cw_procs.specs.Told.{process_lines, told}
 use Rattle.cw_procs.proofs.First.{turn_weavers, NoneBefore, AllRest, first_at, none_first}

@@ -3,6 +3,7 @@ use Rattle.std.proofs.Common.{◌≡◌, ◌<◌, ℕ, zero, suc, List, [], ◌�
 use Rattle.std.proofs.Math.ListN.{length-set}
 use Rattle.std.specs.Prelude.{slice_get}
 use Rattle.std.proofs.lemmas.Option.{none-some, slice_get_within}
+use Rattle.cw_lemmas.proofs.Lists.{get_set, get_front, get_last}
 use Rattle.cw_rights.specs.declared.capabilities.Limit.{Limit}
 use Rattle.cw_rights.specs.declared.capabilities.Caps.{Caps}
 use Rattle.cw_rights.specs.declared.capabilities.Primitive.{Primitive}
@@ -25,7 +26,7 @@ use Rattle.cw_run.proofs.Runs.{own_lines, own_trace}
 use Rattle.cw_worlds.specs.Forks.{at_fork, forks_in}
 use Rattle.cw_worlds.specs.Worlds.{World, Forks}
 use Rattle.cw_worlds.proofs.Meeting.{ForkItem, fork_if, fork_test, fork_item, board_on}
-use Rattle.cw_worlds.proofs.Sets.{get_set, get_more, get_last, among_set}
+use Rattle.cw_worlds.proofs.Sets.{among_set}
 use Rattle.cw_procs.specs.Steps.{Word, is_weavers_in}
 use Rattle.cw_procs.specs.Told.{fork_line}
 use Rattle.cw_procs.proofs.First.{NoneBefore, AllRest, none_first}
@@ -41,10 +42,10 @@ pub set_last : {A : Type 0} (w : List A) (c x : A) → set (w ++ c ∷ []) (leng
 set_last [] c x = refl
 set_last (y ∷ w) c x = ap (λ l. y ∷ l) (set_last w c x)
 
-pub get_front : {A : Type 0} (w more : List A) (k : ℕ) (z : A) → k < length w → slice_get (w ++ more) k ≡ Some z → slice_get w k ≡ Some z
-get_front [] more k z lt e = absurd (omega (arith, lt))
-get_front (y ∷ w) more zero z lt e = e
-get_front (y ∷ w) more (suc k) z lt e = get_front w more k z (omega (arith, lt)) e
+pub get_within : {A : Type 0} (w more : List A) (k : ℕ) (z : A) → k < length w → slice_get (w ++ more) k ≡ Some z → slice_get w k ≡ Some z
+get_within [] more k z lt e = absurd (omega (arith, lt))
+get_within (y ∷ w) more zero z lt e = e
+get_within (y ∷ w) more (suc k) z lt e = get_within w more k z (omega (arith, lt)) e
 
 -- Where a front begins no label is reached: a primitive is before it.
 label_before : (names : Names) (policy : PlainPolicy) (limits : List Limit) (b : Board) (later : List Primitive)
@@ -124,8 +125,8 @@ module _ (names : Names) (g : Game) (t : Table) (plan : Plan) (forks : List ℕ)
       let front1 : slice_get (set w i a.next) i ≡ Some a.next = get_set w i s a.next gets in
       let first = one names problem t forks w w1 i Forks None (none_first w rest) (s, a.next, b.next, gets, here, a.step, b.step, refl) tt in
       let before1 : NoneBefore w1 i = λ k z lt e.
-      rest k z (get_other w i k a.next z lt (get_front (set w i a.next) (b.next ∷ []) k z (omega (arith, lt, within, length-set w i a.next)) e)) in
-      let parent = weaves names g t plan forks i from w1 a.next a.later (get_more (set w i a.next) (b.next ∷ []) i a.next front1) a.follows a.quiet before1 in
+      rest k z (get_other w i k a.next z lt (get_within (set w i a.next) (b.next ∷ []) k z (omega (arith, lt, within, length-set w i a.next)) e)) in
+      let parent = weaves names g t plan forks i from w1 a.next a.later (get_front (set w i a.next) (b.next ∷ []) i a.next front1) a.follows a.quiet before1 in
       let to2 : set w1 i (state_after a.next a.later) ≡ w2 =
       set_front (set w i a.next) b.next i a.next (state_after a.next a.later) front1
       ∙ ap (λ l. l ++ b.next ∷ []) (twice w i a.next (state_after a.next a.later) ∙ ap (λ (z : State). set w i z) ea) in
@@ -134,7 +135,7 @@ module _ (names : Names) (g : Game) (t : Table) (plan : Plan) (forks : List ℕ)
       let len : length (set w i sp) ≡ n = length-set w i sp in
       let before2 : NoneBefore w2 n = λ k z lt e.
       ⊎_elim (λ (same : z ≡ sp). subst (λ (y : State). is_weavers_in y.board.phase ≡ false) (sym same) quiet) (λ h. rest k z h)
-      (among_set w i k sp z (get_front (set w i sp) (b.next ∷ []) k z (omega (arith, lt, len)) e)) in
+      (among_set w i k sp z (get_within (set w i sp) (b.next ∷ []) k z (omega (arith, lt, len)) e)) in
       let child = weaves names g t plan forks n from w2 b.next b.later (ap (slice_get w2) (sym len) ∙ get_last (set w i sp) b.next) b.follows b.quiet before2 in
       let to3 : set w2 n (state_after b.next b.later) ≡ w3 =
       ap (λ k. set w2 k (state_after b.next b.later)) (sym len) ∙ set_last (set w i sp) b.next (state_after b.next b.later) ∙ ap (λ (z : State). set w i sp ++ z ∷ []) eb in

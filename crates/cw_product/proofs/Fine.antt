@@ -1,8 +1,8 @@
 -- What stands at the positions of a program's graph is in range, and so are its functions and points.
-use Rattle.std.proofs.Common.{◌≡◌, ℕ, zero, suc, ◌≤◌, List, [], ◌∷◌, length, Some, subst, arith}
+use Rattle.std.proofs.Common.{◌≡◌, ℕ, ◌≤◌, List, [], length, Some, subst, arith}
 use Rattle.std.specs.Prelude.{slice_get, Contains, true, false}
-use Rattle.std.proofs.lemmas.Option.{none-some, same_Some}
 use Rattle.std.proofs.lemmas.List.{length-map}
+use Rattle.cw_lemmas.proofs.Lists.{get_contains}
 use Rattle.cw_rights.specs.declared.capabilities.Primitive.{Primitive}
 use Rattle.cw_rights.specs.declared.capabilities.Primitive.TheVariants.{Limit, Enter, Split}
 use Rattle.cw_rights.specs.Policies.{PlainPolicy, policy_of, primitives, descriptor_of}
@@ -22,11 +22,6 @@ use Rattle.cw_positions.proofs.Origins.{positions_are_of_points}
 use Rattle.cw_positions.proofs.Bounding.{points_are_within}
 use Rattle.cw_product.specs.Product.{Held, IsProgramsGraph}
 use Rattle.cw_product.specs.Kept.{IsFine, AreFine}
-
-contains_at : {A : Type 0} (xs : List A) (i : ℕ) (a : A) → slice_get xs i ≡ Some a → Contains xs a
-contains_at [] i a e = absurd (none-some a e)
-contains_at (x ∷ xs) zero a e = (0, omega arith, same_Some x a e)
-contains_at (x ∷ xs) (suc i) a e = let r = contains_at xs i a e in (suc r.0, omega (arith, r.1), r.2)
 
 none_in : {A : Type 0} {P : Type 0} (a : A) → Contains [] a → P
 none_in a h = absurd (omega (arith, h.1))
@@ -52,7 +47,7 @@ module _ (h : Held) where
 
   primitive_at : (n : Node) (i : ℕ) (a : Primitive) → slice_get (primitives_at (policy_of h.states.policy) h.graph.parts.items n.point) i ≡ Some a
       → Contains (primitives (policy_of h.states.policy) true) a
-  primitive_at n i a e = primitive_in policy h.graph.parts.items n.point a (contains_at (primitives_at policy h.graph.parts.items n.point) i a e)
+  primitive_at n i a e = primitive_in policy h.graph.parts.items n.point a (get_contains (primitives_at policy h.graph.parts.items n.point) i a e)
 
   seen_at : (n : Node) (w : Point) → n.point ≡ w → IsPointWithin (policy_of h.states.policy) (length h.graph.parts.items) n.point
       → IsPointWithin (policy_of h.states.policy) (length h.graph.parts.items) w

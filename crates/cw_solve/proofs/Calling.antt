@@ -1,5 +1,5 @@
 -- Where moves and calls of a cell lead.
-use Rattle.std.proofs.Common.{◌≡◌, ℕ, suc, ◌+◌, ◌<◌, List, [], Bool, true, false, cond, not, ◌&&◌, ◌||◌, Option, Some, None, length, get_or, refl, sym, ap, ap₂, ◌∙◌, subst, arith}
+use Rattle.std.proofs.Common.{◌≡◌, ℕ, suc, ◌+◌, ◌<◌, List, [], Bool, true, false, cond, not, ◌&&◌, Option, Some, None, length, get_or, refl, sym, ap, ap₂, ◌∙◌, subst, arith}
 use Rattle.std.specs.Prelude.{slice_get, nat_eq, Contains, option_map, position, IfSome, IfNone}
 use Rattle.std.proofs.lemmas.Bool.{eq-eqb, eqb-true, not-true}
 use Rattle.std.proofs.lemmas.Option.{slice_get_within, slice_get-get_or, get_or_from_slice_get, same_Some, none-some}
@@ -26,16 +26,12 @@ use Rattle.cw_solve.proofs.Still.{first_of_two, second_of_two, only, holds_call}
 use Rattle.cw_solve.proofs.Tabling.{there_at}
 use Rattle.std.proofs.lemmas.Bool.{and_parts as both}
 use Rattle.cw_lemmas.proofs.Options.{cond_none_some as left, option_map_some as mapped}
+use Rattle.cw_lemmas.proofs.Truths.{or_middle}
 
 -- a choice that is made
 chosen : {X : Type 0} (b : Bool) (a x : X) → cond b (Some a) None ≡ Some x → a ≡ x
 chosen true a x e = same_Some a x e
 chosen false a x e = absurd (none-some x e)
-
-neither : (a b c : Bool) → (a || (b || c)) ≡ false → b ≡ false
-neither true b c e = cc
-neither false true c e = cc
-neither false false c e = refl
 
 module _ (g : Game) where
   -- a move leads to a position of the same function
@@ -64,7 +60,7 @@ module _ (g : Game) where
   next_target p q s by r e =
       let l = left (is_left_in g q s) (option_map pair_of (leads_in g p q [] s by)) r e in
       let m = mapped pair_of (leads_in g p q [] s by) r l.1 in
-      let at = target p q s by m.0 (neither (bad_in g q s) (is_call_in s) (is_exit_in s) l.0) m.1 in
+      let at = target p q s by m.0 (or_middle (bad_in g q s) (is_call_in s) (is_exit_in s) l.0) m.1 in
       subst (λ (y : ℕ × ℕ). Contains (targets p s) y.0) m.2 at
 
 -- a call by its parts

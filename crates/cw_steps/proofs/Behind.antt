@@ -1,8 +1,8 @@
 -- A text read step by step.
-use Rattle.std.proofs.Common.{◌≡◌, ◌≢◌, ℕ, ◌+◌, ◌^◌, ◌<◌, ◌≤◌, List, [], ◌∷◌, ◌++◌, length, Bool, false, eqb, sym, ap, ◌∙◌, subst, arith, length-append}
+use Rattle.std.proofs.Common.{◌≡◌, ℕ, ◌+◌, ◌^◌, ◌<◌, ◌≤◌, List, [], ◌∷◌, ◌++◌, length, Bool, false, eqb, sym, ap, ◌∙◌, subst, arith, length-append}
 use Rattle.std.specs.List.{All}
-use Rattle.std.proofs.lemmas.Bool.{false≢true}
 use Rattle.std.proofs.lemmas.List.Elements.{All-push}
+use Rattle.cw_lemmas.proofs.Texts.{some_bytes}
 use Rattle.cw_text_lines.specs.Lines.{StartsWith, StartsWithNone}
 use Rattle.cw_text_lines.proofs.Fronts.{line_more, lines_short, first_other}
 use Rattle.cw_steps.specs.declared.step.Step.{Step}
@@ -10,10 +10,6 @@ use Rattle.cw_steps.specs.Steps.{step_words, FitsStep, steps_text}
 use Rattle.cw_steps.specs.Faults.{IsFault}
 use Rattle.cw_steps.proofs.Acts.{tell}
 use Rattle.cw_steps.proofs.Answered.{Are, fit, are_front}
-
-some_bytes : (bytes : List ℕ) (is_empty : Bool) → is_empty ≡ eqb (length bytes) 0 → is_empty ≡ false → bytes ≢ []
-some_bytes [] is_empty e is none = absurd (false≢true (sym is ∙ e))
-some_bytes (b ∷ bytes) is_empty e is none = omega (arith, ap length none)
 
 pub no_step : (text rest : List ℕ) (steps : List Step) (number : ℕ) (is_empty : Bool) → text ≡ steps_text steps ++ rest → All FitsStep steps → number ≡ length steps + 1
     → is_empty ≡ eqb (length rest) 0 → is_empty ≡ false → StartsWithNone FitsStep step_words rest → IsFault text number

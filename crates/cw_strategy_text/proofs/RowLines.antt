@@ -1,8 +1,8 @@
 -- The words of a row's line.
-use Rattle.std.proofs.Common.{◌≡◌, ◌≢◌, ℕ, ◌+◌, ◌^◌, ◌<◌, Bool, true, false, eqb, List, [], ◌∷◌, ◌++◌, length, length-append, refl, sym, ap, ◌∙◌, arith, append-nil, append_assoc}
+use Rattle.std.proofs.Common.{◌≡◌, ◌≢◌, ℕ, ◌+◌, ◌^◌, ◌<◌, Bool, true, eqb, List, [], ◌∷◌, ◌++◌, length, length-append, refl, sym, ap, ◌∙◌, arith, append-nil, append_assoc}
 use Rattle.std.specs.Prelude.{None, Some, codes}
 use Rattle.std.specs.Fmt.{decimal}
-use Rattle.std.proofs.lemmas.Bool.{false≢true, eqb-true}
+use Rattle.std.proofs.lemmas.Bool.{eqb-true}
 use Rattle.cw_certs.specs.Strategies.{How, Row}
 use Rattle.cw_text.specs.Lines.{IsFree, line, joined, words_of, set_text, IsSetIn, Reads, end_line}
 use Rattle.cw_text.proofs.Cuts.{words-joined, joined-words}
@@ -103,10 +103,6 @@ row_here format text l rest number r e reads = record {
 }
 
 -- ---- what is left of a text, by the test whether that is nothing
-
-pub some_bytes : (bytes : List ℕ) (is_empty : Bool) → is_empty ≡ eqb (length bytes) 0 → is_empty ≡ false → bytes ≢ []
-some_bytes [] is_empty e is none = absurd (false≢true (sym is ∙ e))
-some_bytes (b ∷ bytes) is_empty e is none = omega (arith, ap length none)
 
 pub no_bytes : (text bytes : List ℕ) (is_empty : Bool) → is_empty ≡ eqb (length bytes) 0 → is_empty ≡ true → text ≡ end_line ++ bytes → text ≡ end_line
 no_bytes text [] is_empty e is stands = stands ∙ append-nil end_line

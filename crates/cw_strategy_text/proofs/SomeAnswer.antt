@@ -5,6 +5,7 @@ use Rattle.std.specs.Fmt.{decimal}
 use Rattle.std.proofs.lemmas.Bool.{cases_eq, false≢true, ne_eqb}
 use Rattle.std.proofs.lemmas.Slice.Eq.{bytes_eq-Decides}
 use Rattle.std.proofs.lemmas.List.Elements.{All-nil, All-cons}
+use Rattle.cw_lemmas.proofs.Texts.{begins_or_not}
 use Rattle.cw_core.specs.StateSet.{IsBelow}
 use Rattle.cw_core.proofs.Sets.{IsBelow-lt, IsBelow_from_lt}
 use Rattle.cw_certs.specs.declared.moves.Move.{Move}
@@ -57,19 +58,6 @@ first_byte (x ∷ xs) = x
 other_bytes : List ℕ → List ℕ
 other_bytes [] = []
 other_bytes (x ∷ xs) = xs
-
-prefixed : (front text : List ℕ) → ((rest : List ℕ) × (text ≡ front ++ rest)) ⊎ ((rest : List ℕ) → text ≢ front ++ rest)
-unfolding first_byte other_bytes
-prefixed [] text = inl (text, refl)
-prefixed (x ∷ front) [] = inr (λ rest e. omega (arith, ap length e))
-prefixed (x ∷ front) (y ∷ text) =
-    elim (cases_eq y x) [
-      | inl e ↦ elim (prefixed front text) [
-        | inl p ↦ inl (p.0, rw (e, p.1) refl)
-        | inr none ↦ inr (λ rest f. none rest (ap other_bytes f))
-      ]
-      | inr differs ↦ inr (λ rest f. differs (ap first_byte f))
-    ]
 
 first_line : (text : List ℕ) → ((l : List ℕ) × (rest : List ℕ) × (text ≡ l ++ (10 ∷ rest)) × IsFree 10 l) ⊎ IsFree 10 text
 first_line [] = inr (All-nil (λ (b : ℕ). eqb b 10 ≡ false))
@@ -455,7 +443,7 @@ rows_answered (suc fuel) format text states rows rest short front =
 
 pub some_answer : (format : ℕ) (text : List ℕ) → Answered format text
 some_answer format text =
-    elim (prefixed (head_line format) text) [
+    elim (begins_or_not (head_line format) text) [
       | inr none ↦ (Err (Line 1), no_head none)
       | inl p ↦ elim (search_below (λ n. (more : List ℕ) × (p.0 ≡ states_line n ++ more)) (λ n. decided n p.0) (2 ^ 16)) [
         | inr none ↦ (Err (Line 2), no_states p.0 p.1 (λ states more small e. none states small (more, e)))
@@ -464,4 +452,4 @@ some_answer format text =
     ]
   where
     decided : (n : ℕ) (rest : List ℕ) → ((more : List ℕ) × (rest ≡ states_line n ++ more)) ⊎ (((more : List ℕ) × (rest ≡ states_line n ++ more)) → ⊥)
-    decided n rest = elim (prefixed (states_line n) rest) [ inl p ↦ inl p | inr none ↦ inr (λ q. none q.0 q.1) ]
+    decided n rest = elim (begins_or_not (states_line n) rest) [ inl p ↦ inl p | inr none ↦ inr (λ q. none q.0 q.1) ]

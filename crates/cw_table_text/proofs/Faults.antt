@@ -20,9 +20,9 @@ use Rattle.cw_table_text.specs.Rows.{rows_of, row_words}
 use Rattle.cw_table_text.specs.TablesText.{header, limits_words, table_words, head_lines, tables_lines, tables_text, text_of, done}
 use Rattle.cw_table_text.specs.Grammar.{IsMem, Fits, IsOrdered, IsTable, Spells, BeginsAny, Begins, HasRows, IsHead, IsRow, IsDone, IsDue, GoesOn, IsWhole, IsWrong, IsFault, Answers}
 use Rattle.cw_table_text.specs.Working.{FitsHead, IsEmpty, IsGood, IsRowLine, IsWrongRow, AreRead, AreWrong, RowsRead, is_next, with_row, row_lines}
-use Rattle.cw_table_text.proofs.Orders.{all_more}
 use Rattle.cw_table_text.proofs.Adding.{rows_next, ascends_next, next_true}
 use Rattle.std.proofs.lemmas.Bool.{false≢true}
+use Rattle.cw_lemmas.proofs.Lists.{all_push}
 use Rattle.cw_table_text.proofs.Pieces.{limits_is}
 use Rattle.cw_table_text.proofs.Same.{rows_split, rows_have_no_end}
 
@@ -193,7 +193,7 @@ longer t row e = ap length (rows_next t row e) ∙ length-append (rows_of t) (ro
 
 pub next_good : (format : ℕ) (rest after : List ℕ) (t : Table) (row : Row) → IsGood format t → IsRowLine format t rest row after → IsGood format (with_row t row)
 next_good format rest after t row g r = record {
-  fits = subst (AllByRecursion (Fits format)) (sym (rows_next t row r.next)) (all_more (Fits format) (rows_of t) row g.fits r.fits);
+  fits = subst (AllByRecursion (Fits format)) (sym (rows_next t row r.next)) (all_push (Fits format) (rows_of t) row g.fits r.fits);
   ascend = ascends_next t row r.next g.ascend;
   few = let l = longer t row r.next in omega (arith, l, g.few, r.few);
 }
@@ -280,7 +280,7 @@ begins_next policy t row g head fits next = (with_row t row, done ∷ [], ordere
     ordered = record {
       states = rw (same_states t row) head.0;
       start = rw (same_start t row) head.1;
-      rows = subst (AllByRecursion (Fits policy.format)) (sym (rows_next t row next)) (all_more (Fits policy.format) (rows_of t) row g.fits fits);
+      rows = subst (AllByRecursion (Fits policy.format)) (sym (rows_next t row next)) (all_push (Fits policy.format) (rows_of t) row g.fits fits);
       ascend = ascends_next t row next g.ascend;
     }
 

@@ -1,9 +1,9 @@
 -- Each text is that of a table or has a fault: what decides it, field by field and line by line.
 use Rattle.std.proofs.Common.{◌≡◌, ◌≢◌, ℕ, zero, suc, ◌+◌, ◌^◌, ◌<◌, ◌⊎◌, inl, inr, Bool, true, false, eqb, List, [], ◌∷◌, ◌++◌, length, refl, sym, ap, ◌∙◌, arith, length-append}
-use Rattle.std.specs.Prelude.{Option, None, Some, codes, bytes_eq}
-use Rattle.std.proofs.lemmas.Bool.{cases_eq, false≢true, ne_eqb}
-use Rattle.std.proofs.lemmas.Slice.Eq.{bytes_eq-Decides}
+use Rattle.std.specs.Prelude.{Option, None, Some, codes}
+use Rattle.std.proofs.lemmas.Bool.{cases_eq, ne_eqb}
 use Rattle.std.proofs.lemmas.List.Elements.{All-nil, All-cons}
+use Rattle.cw_lemmas.proofs.Texts.{bytes_or_not, begins_or_not}
 use Rattle.cw_core.specs.StateSet.{IsBelow}
 use Rattle.cw_core.specs.declared.ids.StateId.{StateId}
 use Rattle.cw_core.specs.declared.ids.MemId.{MemId}
@@ -26,13 +26,6 @@ use Rattle.cw_table_text.proofs.Same.{mem_of, pos_of, state_of, at_row, open_row
 
 -- ---- what can be decided
 
-same_text : (a b : List ℕ) → (a ≡ b) ⊎ (a ≢ b)
-same_text a b = by_test (bytes_eq a b) refl
-  where
-    by_test : (t : Bool) → bytes_eq a b ≡ t → (a ≡ b) ⊎ (a ≢ b)
-    by_test true is = inl ((bytes_eq-Decides a b).0 is)
-    by_test false is = inr (λ e. false≢true (sym is ∙ (bytes_eq-Decides a b).1 e))
-
 -- a value that fits and has this text, or none
 abbrev Sought : {A : Type 0} → (A → Type 0) → (A → List ℕ) → List ℕ → Type 0
 Sought {A} Fit f text = ((a : A) × Fit a × (f a ≡ text)) ⊎ ((a : A) → Fit a → f a ≢ text)
@@ -47,7 +40,7 @@ abbrev FitsLast : Last → Type 0
 FitsLast u = Unit {0}
 
 seek_last : Seek FitsLast
-seek_last f text = by_text (same_text (f tt) text)
+seek_last f text = by_text (bytes_or_not (f tt) text)
   where
     by_text : (f tt ≡ text) ⊎ (f tt ≢ text) → Sought FitsLast f text
     by_text (inl e) = inl (tt, tt, e)
@@ -240,19 +233,6 @@ first_byte : List ℕ → ℕ
 first_byte [] = 0
 first_byte (x ∷ xs) = x
 
-prefixed : (front text : List ℕ) → ((rest : List ℕ) × (text ≡ front ++ rest)) ⊎ ((rest : List ℕ) → text ≢ front ++ rest)
-unfolding first_byte other_bytes
-prefixed [] text = inl (text, refl)
-prefixed (x ∷ front) [] = inr (λ rest e. omega (arith, ap length e))
-prefixed (x ∷ front) (y ∷ text) =
-    elim (cases_eq y x) [
-      | inl e ↦ elim (prefixed front text) [
-        | inl p ↦ inl (p.0, rw (e, p.1) refl)
-        | inr none ↦ inr (λ rest f. none rest (ap other_bytes f))
-      ]
-      | inr differs ↦ inr (λ rest f. differs (ap first_byte f))
-    ]
-
 -- ---- rows
 
 record Found (format : ℕ) (text : List ℕ) (old : Table) : Type 0 where
@@ -329,7 +309,7 @@ rows_end format (suc fuel) text old t rest short s = by_line (λ u left low so. 
     by_end again l after cut free (inr differs) = by_row again l after cut free differs (row_sought format l)
 
     by_line : Again fuel format text old → ((l : List ℕ) × (after : List ℕ) × (rest ≡ l ++ (10 ∷ after)) × IsFree 10 l) ⊎ IsFree 10 rest → Outcome format text old
-    by_line again (inl p) = by_end again p.0 p.1 p.2 p.3 (same_text p.0 done)
+    by_line again (inl p) = by_end again p.0 p.1 p.2 p.3 (bytes_or_not p.0 done)
     by_line again (inr free) = fails format text old t rest (Line (length (rows_of t) + 4)) s (λ e. absurd (cc)) (refl, λ l g. absurd (no_more rest l free g))
 
 -- ---- the whole text
@@ -358,7 +338,7 @@ behind_head policy text rest states start head is =
     by_rows (inr f) = inr (f.fault, a_fault policy text rest (empty states start) f.new f.fault f.rest head is f.wrong f.real)
 
 pub some_answer : (policy : PlainPolicy) (text : List ℕ) → SomeAnswer policy text
-some_answer policy text = by_header (prefixed (codes "#include \"capweave.h\"\n") text)
+some_answer policy text = by_header (begins_or_not (codes "#include \"capweave.h\"\n") text)
   where
     by_words : (first rest l after : List ℕ) → text ≡ codes "#include \"capweave.h\"\n" ++ first → first ≡ limits_line policy ++ rest → rest ≡ l ++ (10 ∷ after) → IsFree 10 l
         → Sought (Below (2 ^ 16) (Below (2 ^ 32) FitsLast)) (λ p. table_words policy.format p.0 (mem_of p.1.0)) l → SomeAnswer policy text
@@ -379,5 +359,5 @@ some_answer policy text = by_header (prefixed (codes "#include \"capweave.h\"\n"
     by_limits first is (inr none) = inr (Line 2, fault_2 policy text first is none)
 
     by_header : ((rest : List ℕ) × (text ≡ codes "#include \"capweave.h\"\n" ++ rest)) ⊎ ((rest : List ℕ) → text ≢ codes "#include \"capweave.h\"\n" ++ rest) → SomeAnswer policy text
-    by_header (inl p) = by_limits p.0 p.1 (prefixed (limits_line policy) p.0)
+    by_header (inl p) = by_limits p.0 p.1 (begins_or_not (limits_line policy) p.0)
     by_header (inr none) = inr (Line 1, fault_1 policy text none)

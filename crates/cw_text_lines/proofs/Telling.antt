@@ -1,16 +1,8 @@
 -- Words from which what they say can be computed: two values that fit differ in their words, and of any words it can be told whether they are those of one.
-use Rattle.std.proofs.Common.{◌≡◌, ◌≢◌, ◌⊎◌, ℕ, ◌<◌, ◌≤◌, List, [], ◌∷◌, length, Bool, true, false, Option, Some, None, refl, sym, ap, ap₂, ◌∙◌, subst, inl, inr, arith}
-use Rattle.std.specs.Str.{bytes_eq}
-use Rattle.std.proofs.lemmas.Bool.{cases_lt, false≢true}
-use Rattle.std.proofs.lemmas.Slice.Eq.{bytes_eq-Decides}
+use Rattle.std.proofs.Common.{◌≡◌, ◌≢◌, ◌⊎◌, ℕ, ◌<◌, ◌≤◌, List, [], ◌∷◌, length, Option, Some, None, refl, sym, ap, ap₂, ◌∙◌, subst, inl, inr, arith}
+use Rattle.std.proofs.lemmas.Bool.{cases_lt}
+use Rattle.cw_lemmas.proofs.Texts.{bytes_or_not}
 use Rattle.cw_text.specs.Lines.{Reads}
-
-pub bytes_or_not : (a b : List ℕ) → (a ≡ b) ⊎ (a ≢ b)
-bytes_or_not a b = go (bytes_eq a b) refl
-  where
-    go : (t : Bool) → bytes_eq a b ≡ t → (a ≡ b) ⊎ (a ≢ b)
-    go true is = inl ((bytes_eq-Decides a b).0 is)
-    go false is = inr (λ e. false≢true (sym is ∙ (bytes_eq-Decides a b).1 e))
 
 pub words_or_not : (a b : List (List ℕ)) → (a ≡ b) ⊎ (a ≢ b)
 words_or_not [] [] = inl refl

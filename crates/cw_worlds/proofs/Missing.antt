@@ -2,6 +2,7 @@
 use Rattle.std.proofs.Common.{◌≡◌, ℕ, List, [], ◌∷◌, ◌++◌, set, length, Bool, true, false, Some, refl, sym, ap, ap₂, ◌∙◌, subst, ⊎_elim}
 use Rattle.std.specs.Prelude.{slice_get}
 use Rattle.std.proofs.lemmas.Option.{same_Some}
+use Rattle.cw_lemmas.proofs.Lists.{get_set, get_front, get_last}
 use Rattle.cw_certs.specs.declared.moves.Move.{Move}
 use Rattle.cw_certs.specs.declared.moves.Move.TheVariants.{Left, Right}
 use Rattle.cw_certs.specs.Tables.{Table}
@@ -10,7 +11,6 @@ use Rattle.cw_model.specs.Runs.{State, start_state, WovenStep, Goes as RunGoes, 
 use Rattle.cw_worlds.specs.Forks.{at_fork}
 use Rattle.cw_worlds.specs.Worlds.{World, Act, Makes, Forks, WorldStep, Step, Goes, world_after, start_world, IsWorld}
 use Rattle.cw_worlds.specs.Laws.{RunsAreProcesses}
-use Rattle.cw_worlds.proofs.Sets.{get_set, get_more, get_last}
 use Rattle.cw_worlds.proofs.Meeting.{forked, meets_in_all}
 
 -- a move leads to one state
@@ -55,7 +55,7 @@ module _ (p : Problem) (t : Table) (forks : List ℕ) (sound : Sound p t) where
       ⊎_elim
       (λ (r : by ≡ Right).
       let k = same_step p t s parent next Right right (subst (λ m. WovenStep p t s m next) r step) in
-      (w2, i, is2, ap (λ l. slice_get l i) e ∙ get_more (set w i parent) (child ∷ []) i parent (get_set w i s parent gets) ∙ ap Some k))
+      (w2, i, is2, ap (λ l. slice_get l i) e ∙ get_front (set w i parent) (child ∷ []) i parent (get_set w i s parent gets) ∙ ap Some k))
       (λ (r : by ≡ Left).
       let k = same_step p t s child next Left left (subst (λ m. WovenStep p t s m next) r step) in
       (w2, length (set w i parent), is2, ap (λ l. slice_get l (length (set w i parent))) e ∙ get_last (set w i parent) child ∙ ap Some k))

@@ -1,9 +1,10 @@
 -- Where a word first stands in a text.
-use Rattle.std.proofs.Common.{◌≡◌, ℕ, zero, suc, ◌+◌, ◌-◌, ◌<◌, ◌≤◌, true, false, List, [], ◌∷◌, ◌++◌, Some, length, take, drop, refl, sym, ap, subst, ◌∙◌, arith, length-take, length-drop, length-append, eqb, nat_eq, ◌⊎◌, inl, inr}
+use Rattle.std.proofs.Common.{◌≡◌, ℕ, zero, suc, ◌+◌, ◌-◌, ◌<◌, ◌≤◌, true, false, List, ◌∷◌, ◌++◌, Some, length, take, drop, refl, sym, ap, subst, ◌∙◌, arith, length-take, length-drop, length-append}
+use Rattle.std.proofs.Common.{nat_eq, ◌⊎◌, inl, inr, le_refl}
 use Rattle.std.specs.List.{starts_with}
 use Rattle.std.proofs.Math.Seq.{take-append_seam}
-use Rattle.std.proofs.lemmas.Bool.{and_parts, eqb-true, false_from_ne_true, cases_order}
-use Rattle.std.proofs.lemmas.List.{take-append-drop}
+use Rattle.std.proofs.lemmas.Bool.{false_from_ne_true, cases_order}
+use Rattle.std.proofs.lemmas.List.{take-append-drop, take_all}
 use Rattle.memchr.specs.Find.{OccursAt, FindsNeedle, Nowhere}
 use Rattle.memchr.proofs.lemmas.MatchLemmas.{OccursAt-split, OccursAt-from_part}
 use Rattle.cw_emit.specs.Cut.{closing}
@@ -37,12 +38,8 @@ none_at text word nowhere at = false_from_ne_true _ (λ h. refuted h)
         by_place (inr (inl lt)) = nowhere at (omega arith) (omega (arith, lt)) (occurs text word at (omega (arith, lt)) h)
         by_place (inr (inr gt)) = nowhere 0 (omega arith) (omega arith) (empty_occurs text word at gt h)
 
-take_whole : (l : List ℕ) → take (length l) l ≡ l
-take_whole [] = refl
-take_whole (x ∷ xs) = ap (λ (z : List ℕ). x ∷ z) (take_whole xs)
-
 rest_is : (k : ℕ) (l : List ℕ) → take (length l - k) (drop k l) ≡ drop k l
-rest_is k l = let e : length l - k ≡ length (drop k l) = omega (arith, length-drop k l) in ap (λ (n : ℕ). take n (drop k l)) e ∙ take_whole (drop k l)
+rest_is k l = let e : length l - k ≡ length (drop k l) = omega (arith, length-drop k l) in ap (λ (n : ℕ). take n (drop k l)) e ∙ take_all (length (drop k l)) (drop k l) (le_refl (length (drop k l)))
 
 finds_at : (text word : List ℕ) (k : ℕ) → FindsNeedle text word 0 (Some k) → IsCutAt word text (take k text) (drop (k + length word) text)
 finds_at text word k g =

@@ -1,9 +1,10 @@
 -- The lists of lines that were read are those of answers; how many there are fits, since each has a byte.
 use Rattle.std.proofs.Common.{◌≡◌, ◌+◌, ◌^◌, ◌<◌, length, map, arith, subst}
 use Rattle.std.proofs.lemmas.List.{length-map}
+use Rattle.cw_lemmas.proofs.Texts.{some_bytes, no_bytes}
 use Rattle.cw_answers.specs.Faults.{IsFault}
 use Rattle.cw_answers.specs.Reading.{name_of}
-use Rattle.cw_answers.proofs.Behind.{no_head, in_order, few, spelled_end, fault_end, fault_line, some_bytes, no_bytes}
+use Rattle.cw_answers.proofs.Behind.{no_head, in_order, few, spelled_end, fault_end, fault_line}
 use Rattle.cw_answers.proofs.reading.read_answers.Goals as goal
 use Rattle.cw_answers.proofs.reading.read_answers.Goals.{In_ok-calls, After-len-3}
 

@@ -1,9 +1,9 @@
 use Rattle.std.proofs.Common.{◌∙◌, sym}
+use Rattle.cw_lemmas.proofs.Lists.{all_done, all_not, all_more}
 use Rattle.cw_product.specs.Product.{game_of}
 use Rattle.cw_audit_table.specs.Tables.{row_of, group_of}
 use Rattle.cw_audit_table.specs.Conditions.{comes_back}
 use Rattle.cw_audit_check.proofs.Orders.{no_row}
-use Rattle.cw_audit_check.proofs.Checked.{all_done, all_not, all_more}
 use Rattle.cw_audit_check.proofs.rows.all_come_back.Goals as goal
 
 pub returns-then-not-comes_back : goal.returns-then-not-comes_back

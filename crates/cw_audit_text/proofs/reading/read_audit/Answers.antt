@@ -1,8 +1,9 @@
 -- What stands behind the first lines is read by lists of lines; how many there are fits, since each has a byte.
 use Rattle.std.proofs.Common.{◌≡◌, ◌+◌, ◌≤◌, length, arith, subst}
+use Rattle.cw_lemmas.proofs.Texts.{some_bytes, no_bytes}
 use Rattle.cw_audit_text.specs.declared.fault.AuditTextFault.TheVariants.{Line}
 use Rattle.cw_audit_text.specs.Faults.{IsCause, no_head, no_states, no_verdict}
-use Rattle.cw_audit_text.proofs.Behind.{few_lines, spelled_end, fault_end, fault_line, some_bytes, no_bytes, groups_lines, are_few}
+use Rattle.cw_audit_text.proofs.Behind.{few_lines, spelled_end, fault_end, fault_line, groups_lines, are_few}
 use Rattle.cw_audit_text.proofs.reading.read_audit.Goals as goal
 use Rattle.cw_audit_text.proofs.reading.read_audit.Goals.{In_ok-groups, After-lines_in}
 

@@ -1,9 +1,9 @@
 use Rattle.std.proofs.Common.{◌∙◌, ℕ, sym}
+use Rattle.cw_lemmas.proofs.Lists.{all_done, all_not}
 use Rattle.cw_core.specs.declared.ids.StateId.{StateId}
 use Rattle.cw_certs.specs.Strategies.{row_of, strategy_of}
 use Rattle.cw_product.specs.Product.{game_of}
 use Rattle.cw_echeck.specs.Checks.{returns_by}
-use Rattle.cw_echeck.proofs.Checks.{all_done, all_not}
 use Rattle.cw_echeck.proofs.check.are_backs.Goals as goal
 
 pub returns-then-not-is_back : goal.returns-then-not-is_back

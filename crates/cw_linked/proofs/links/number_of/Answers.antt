@@ -1,10 +1,10 @@
 use Rattle.std.proofs.Common.{◌≡◌, ◌++◌, ◌∷◌, [], ◌∙◌, List, Some, length, refl, ap, subst, arith, inl, inr}
 use Rattle.std.specs.Prelude.{slice_get, Contains}
+use Rattle.cw_lemmas.proofs.Lists.{get_last}
 use Rattle.cw_product.specs.Product.{game_of}
 use Rattle.cw_solve.specs.declared.contexts.Context.{Context}
 use Rattle.cw_solve.proofs.Fresh.{longer_tabled}
 use Rattle.cw_solve.proofs.Tabling.{there}
-use Rattle.cw_linked.proofs.Adding.{after_push}
 use Rattle.cw_linked.proofs.Targets.{firm_open}
 use Rattle.cw_linked.proofs.links.number_of.Goals as goal
 
@@ -54,6 +54,6 @@ returns-in_ok-add_placed-in-None c =
     let here : c.len-number.result ≡ length w.table.contexts.items = omega (arith, c.len-number.ensures, w.table.contexts.ok.0) in
     record {
       there = ap (slice_get new.table.contexts.items) here ∙ ap (λ (cs : List Context). slice_get cs (length w.table.contexts.items)) c.in_ok-add_placed-in-None.ensures.contexts
-          ∙ after_push w.table.contexts.items d;
+          ∙ get_last w.table.contexts.items d;
       grows = inr c.in_ok-add_placed-in-None.ensures;
     }

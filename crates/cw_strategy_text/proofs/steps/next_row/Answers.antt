@@ -1,7 +1,8 @@
 use Rattle.std.proofs.Common.{◌∙◌, sym, refl, arith, inl, inr}
 use Rattle.std.proofs.lemmas.Bool.{false≢true}
+use Rattle.cw_lemmas.proofs.Texts.{some_bytes}
 use Rattle.cw_certs.specs.Strategies.{row_of}
-use Rattle.cw_strategy_text.proofs.RowLines.{none_at_all, none_here, end_stands, row_here, some_bytes, no_bytes}
+use Rattle.cw_strategy_text.proofs.RowLines.{none_at_all, none_here, end_stands, row_here, no_bytes}
 use Rattle.cw_strategy_text.proofs.steps.next_row.Goals as goal
 
 pub returns-in_default-clause-fault : goal.returns-in_default-clause-fault
