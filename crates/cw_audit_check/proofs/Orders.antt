@@ -8,7 +8,7 @@ use Rattle.std.specs.Ordering.{ordering_then, nat_cmp}
 use Rattle.std.specs.declared.cmp.Ordering.TheVariants.{Less}
 use Rattle.std.proofs.lemmas.Cmp.{nat_cmp_total, on_total, then_total}
 use Rattle.std.proofs.lemmas.Bool.Decides.{nat_tests}
-use Rattle.cw_certs.proofs.Rising.{Rises, ascends_from}
+use Rattle.cw_lemmas.proofs.Rising.{Rises, ascends_from}
 use Rattle.cw_game.proofs.Goods.{taken, none_first}
 use Rattle.std.proofs.lemmas.Bool.{and_parts}
 use Rattle.cw_audit_check.specs.Checks.{row_cmp, group_cmp, IsInRange, AreInRange}

@@ -1,13 +1,11 @@
 -- The different items of a list, ascending.
-use Rattle.std.proofs.Common.{◌≡◌, ⊎_elim, ℕ, ◌+◌, ◌<◌, ◌≤◌, List, [], ◌∷◌, ◌++◌, true, take, length, get_or, sym, subst}
+use Rattle.std.proofs.Common.{◌≡◌, ⊎_elim, ◌+◌, ◌≤◌, List, [], ◌∷◌, ◌++◌, true, take, length, sym, subst}
 use Rattle.std.specs.FinMap.{IsAntisymmetric}
 use Rattle.std.specs.List.{Contains}
 use Rattle.std.specs.BTreeSet.{BTreeSet, Updates}
 use Rattle.std.specs.List.Sorted.{IsStrictlySortedBy}
 use Rattle.std.specs.Cmp.{IsTotalOrder}
 use Rattle.std.specs.declared.cmp.Ordering.{Ordering}
-use Rattle.std.specs.declared.cmp.Ordering.TheVariants.{Less}
-use Rattle.std.proofs.lemmas.Map.Keys.{sorted_from_all_adjacent}
 use Rattle.std.proofs.lemmas.List.{take_all}
 use Rattle.std.proofs.lemmas.List.Elements.{Contains-push, Contains-push_cases, Contains-append_left}
 use Rattle.cw_fixpoint.specs.Closures.{Exactly}
@@ -36,10 +34,3 @@ exactly_same cmp items ys keys i le e s h = (
     λ c. subst (λ l. Contains l x) (sym e) ((h x).1 (subst (λ l. Contains l x) (sym (take_all i items le)) c)),
   ),
 )
-
--- items each of which is below the next ascend
-pub rising : {K : Type 0} (cmp : K → K → Ordering) → IsTotalOrder cmp → (items : List K) → ((k : ℕ) (d : K) → k + 1 < length items → cmp (get_or items k d) (get_or items (k + 1) d) ≡ Less)
-    → IsStrictlySortedBy cmp items
-unfolding IsStrictlySortedBy
-rising cmp total [] h = tt
-rising cmp total (x ∷ xs) h = sorted_from_all_adjacent total (x ∷ xs) x (λ k l. h k x l)

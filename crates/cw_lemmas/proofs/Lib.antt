@@ -3,4 +3,5 @@ pub mod Options
 pub mod Orders
 pub mod Numbers
 pub mod Lists
+pub mod Rising
 pub mod Texts

@@ -1,7 +1,7 @@
 use Rattle.std.proofs.Common.{arith, not, sym, ◌∙◌, ap}
 use Rattle.std.specs.Bool.{◌==◌}
 use Rattle.std.specs.Ordering.{ordering_index}
-use Rattle.cw_certs.proofs.Rising.{ascends_from, beside}
+use Rattle.cw_lemmas.proofs.Rising.{ascends_from, beside}
 use Rattle.cw_certs.proofs.order.ascends.Goals as goal
 
 pub returns-then-ne : goal.returns-then-ne

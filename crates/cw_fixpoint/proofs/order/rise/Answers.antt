@@ -1,8 +1,8 @@
 use Rattle.std.proofs.Common.{arith}
-use Rattle.cw_fixpoint.proofs.Different.{rising}
+use Rattle.cw_lemmas.proofs.Rising.{ascends_from}
 use Rattle.cw_fixpoint.proofs.order.rise.Goals as goal
 
 pub returns : goal.returns
 returns g c = λ _.
     let all = c.loop-i-test.false in
-    rising g.T.Ord.cmp g.met.T.Ord.total c.args.items.now (λ k d l. c.loop-i.invariant k d (omega (arith, l, all)))
+    ascends_from g.met.T.Ord.total c.args.items.now (λ k d l. c.loop-i.invariant k d (omega (arith, l, all)))
